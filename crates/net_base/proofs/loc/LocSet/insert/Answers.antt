@@ -1,0 +1,11 @@
+use Rattle.std.proofs.Common.{◌≡◌, ℕ, sym, rules}
+use Rattle.std.specs.Prelude.{slice_set, slice_index_or, bit_or, ◌*◌, ◌/◌, ◌%◌, ◌^◌, ◌||◌, ◌==◌}
+use Rattle.net_base.specs.Sets.{holds}
+use Rattle.net_base.specs.declared.loc.LocSet.{LocSet}
+use Rattle.net_base.proofs.SetLemmas.{has-set_words}
+use Rattle.net_base.proofs.loc.LocSet.insert.Goals as goal
+
+pub returns : goal.returns
+returns c = λ l.
+    let is : c.at.inside.0 ≡ c.args.at = c.at.view_is in
+    rw (← is) (has-set_words c.args.self.now.words c.at.inside.0 l (rw (sym is) at c.requires) (search rules))

@@ -1,0 +1,11 @@
+pub mod Addresses
+pub mod NameRule
+pub mod NameView
+pub mod Network
+pub mod Numbers
+pub mod OptionSteps
+pub mod Prefixes
+pub mod PrefixText
+pub mod Quads
+pub mod Sets
+pub mod Steps

@@ -1,0 +1,68 @@
+//! Locations and sets of locations.
+ghost use Rattle.std.specs.Prelude.{◌≡◌, ◌<◌, ◌||◌, ◌==◌, ℕ, false};
+
+use std::marker::Model;
+
+/// A location of a network by its number: the routers count from 0, and the peers follow them.
+#[derive(Clone, Copy, Debug, PartialEq, Eq, PartialOrd, Ord, Hash)]
+pub struct Loc(u16);
+
+impl Model for Loc {
+    ghost use Rattle.std.specs.Prelude.{ℕ};
+
+    ghost Value = { ℕ };
+
+    ghost view = { λ l. l.0 };
+
+    ghost inverse = { λ n. record { 0 = n } };
+}
+
+impl Loc {
+    /// The location of this number.
+    pub fn new(number: u16) -> Loc
+        ensures { result ≡ number }
+    {
+        Loc(number)
+    }
+
+    /// The number of the location.
+    pub fn number(self) -> u16
+        ensures { result ≡ self }
+    {
+        self.0
+    }
+}
+
+/// A set of locations below 768, one bit each.
+#[derive(Clone, Copy, Debug, PartialEq, Eq, PartialOrd, Ord, Hash)]
+pub struct LocSet {
+    pub words: [u64; 12],
+}
+
+impl LocSet {
+    ghost use Rattle.net_base.specs.Sets.{holds};
+
+    /// The set with no location.
+    pub fn new() -> LocSet
+        ensures { (l : ℕ) → holds result l ≡ false }
+    {
+        LocSet { words: [0; 12] }
+    }
+
+    /// Whether the location is in the set. A location from 768 on is in no set.
+    pub fn holds(&self, at: Loc) -> bool
+        ensures { result ≡ holds self.now at }
+    {
+        let place = at.0 as usize;
+        place < 768 && (self.words[place / 64] >> (place % 64)) & 1 == 1
+    }
+
+    /// Puts a location into the set.
+    pub fn insert(&mut self, at: Loc)
+        requires { at < 768 }
+        ensures { (l : ℕ) → holds self.new l ≡ (holds self.old l || l == at) }
+    {
+        let place = at.0 as usize;
+        self.words[place / 64] |= 1u64 << (place % 64);
+    }
+}
