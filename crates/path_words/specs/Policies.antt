@@ -1,0 +1,67 @@
+-- Policies without where they lie in memory.
+use Rattle.std.specs.Prelude.{◌≡◌, ℕ, ◌≤◌, List, length, map, Bool, count_ones, sum, sum_by}
+use Rattle.std.specs.List.{AllByRecursion, IsDistinct}
+use Rattle.net_base.specs.declared.loc.LocSet.{LocSet}
+use Rattle.net_base.specs.Prefixes.{PlainPattern, same_prefix}
+use Rattle.path_words.specs.declared.clause.Clause.{Clause}
+use Rattle.path_words.specs.declared.ranked.Ranked.{Ranked}
+use Rattle.path_words.specs.declared.ranked.Ranked.TheOpen.{Ranked-F}
+use Rattle.path_words.specs.declared.ranked.Ranked.TheFolds.{fold-Ranked}
+use Rattle.path_words.specs.declared.policy.FromSet.{FromSet}
+use Rattle.path_words.specs.declared.policy.Statement.{Statement}
+use Rattle.path_words.specs.declared.policy.Origin.{Origin}
+
+-- A ranked expression: a call, a call with ranked sets, `a >> b`, `a or b`, `a and b`, `not a`.
+pub data Ranking : Type 0 where
+  call : Clause → Ranking
+  calls : List Clause → Ranking
+  prefer : Ranking → Ranking → Ranking
+  either : Ranking → Ranking → Ranking
+  both : Ranking → Ranking → Ranking
+  negated : Ranking → Ranking
+
+-- one level of a value, with the expression of each side in its place
+abbrev pub ranking_step : Ranked-F Ranking → Ranking
+ranking_step (Ranked-F.Call c) = call c
+ranking_step (Ranked-F.Calls cs) = calls cs
+ranking_step (Ranked-F.Prefer a b) = prefer a.value b.value
+ranking_step (Ranked-F.Or a b) = either a.value b.value
+ranking_step (Ranked-F.And a b) = both a.value b.value
+ranking_step (Ranked-F.Not a) = negated a.value
+
+-- the expression that a value of the program stands for
+abbrev pub ranking_of : Ranked → Ranking
+ranking_of = fold-Ranked Ranking ranking_step
+
+pub record PlainStatement : Type 0 where
+  pub patterns : List PlainPattern
+  pub ranked : Ranking
+  pub from : FromSet
+
+abbrev pub plain_statement : Statement → PlainStatement
+plain_statement s = record { patterns = s.patterns; ranked = ranking_of s.ranked; from = s.from }
+
+pub record PlainPolicy : Type 0 where
+  pub origins : List Origin
+  pub statements : List PlainStatement
+
+-- a policy of the program, as its lists
+pub record PolicyLists : Type 0 where
+  pub origins : List Origin
+  pub statements : List Statement
+
+-- the policy that a policy of the program stands for
+abbrev pub policy_of : PolicyLists → PlainPolicy
+policy_of lists = record { origins = lists.origins; statements = map plain_statement lists.statements }
+
+-- how many locations a set has
+abbrev pub size_of : LocSet → ℕ
+size_of s = sum_by count_ones s.words
+
+-- What every policy keeps: the limits, and that no prefix is originated twice.
+pub record IsPolicy (policy : PlainPolicy) : Type 0 where
+  pub statements : length policy.statements ≤ 256
+  pub patterns : sum_by (λ (s : PlainStatement). length s.patterns) policy.statements ≤ 16384
+  pub prefixes : length policy.origins ≤ 4096
+  pub pairs : sum_by (λ (o : Origin). size_of o.at) policy.origins ≤ 16384
+  pub once : IsDistinct same_prefix (map (λ (o : Origin). o.prefix) policy.origins)

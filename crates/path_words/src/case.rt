@@ -1,0 +1,19 @@
+//! The cases of a policy: prefixes that have the same statement and the same origins.
+use net_base::{List, LocSet, Prefix};
+
+/// One case. An external case has all peers as its origins and names no prefix.
+#[derive(Drop)]
+pub struct Case {
+    /// The number of the statement, from 1.
+    pub statement: u32,
+    pub origins: LocSet,
+    pub external: bool,
+    pub prefixes: List<Prefix>,
+}
+
+/// The cases of a network and a policy in their order. The number of a case, from 1, is the number of its
+/// class in the configuration.
+#[derive(Drop)]
+pub struct CaseList {
+    pub cases: List<Case>,
+}
