@@ -1,0 +1,11 @@
+//! Routes.
+use net_base::{List, Loc, Tag};
+
+/// A route that a router holds: a path that begins with its holder, a tag or none, and a preference
+/// (RFC 4271, 9.1.1). The path's AS numbers are its AS_PATH (RFC 4271, 5.1.2).
+#[derive(Drop)]
+pub struct Route {
+    pub path: List<Loc>,
+    pub tag: Tag,
+    pub pref: u32,
+}
