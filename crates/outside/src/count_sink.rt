@@ -39,7 +39,10 @@ impl Sink for CountSink {
 
     ghost faults = { λ _. 0 };
 
-    fn write(&mut self, bytes: &[u8]) -> Result<usize, Failed> {
+    fn write(&mut self, bytes: &[u8]) -> Result<usize, Failed>
+        ensures whole { result ≡ Ok (length bytes.now) }
+        ensures counted { self.new ≡ min (self.old + length bytes.now) 18446744073709551615 }
+    {
         self.count = self.count.saturating_add(bytes.len() as u64);
         Ok(bytes.len())
     }

@@ -1,5 +1,7 @@
 //! The real outside: files, standard output and standard error. It tells no content.
-ghost use Rattle.std.specs.Prelude.{None, ◌≡◌, ◌≤◌, length, IfOk};
+ghost use Rattle.std.specs.Prelude.{None, ◌≡◌, ◌≤◌, ◌<◌, ◌+◌, ℕ, List, Option, length, take, vec_len, IfOk, IfSome, OnOk, OnErr, IsErrOf};
+ghost use Rattle.std.specs.Io.KnownBytes.{Appends, Keeps, Consumes, IsAtEnd};
+ghost use Rattle.outside.specs.Outside.{Rose, next};
 
 use crate::counter::raised;
 use crate::inputs::{InputFail, Inputs};
@@ -27,27 +29,36 @@ impl<R: Files + Drop> FileInputs<R> {
 }
 
 // How many bytes are asked for at a time.
-const PIECE: usize = 65536;
+const PIECE: usize = 8192;
+
+// Reads some bytes more onto those that came before, and says how many: none only at the end.
+fn read_more<F: Read>(file: &mut F, bytes: &mut Vec<u8>) -> Result<usize, InputFail>
+    ensures bytes { (all : Option (List ℕ)) → OnOk result (Consumes all (F.remaining file.old) bytes.old.items → Consumes all (F.remaining file.new) bytes.new.items) }
+    ensures len { IfOk result (λ n. vec_len bytes.new ≡ vec_len bytes.old + n) }
+    ensures end { IfOk result (λ n. n ≡ 0 → IsAtEnd (F.remaining file.new)) }
+    ensures any_length { ¬ IsErrOf result InputFail.TooLong }
+{
+    let mut piece = [0u8; PIECE];
+    let Ok(n) = file.read(&mut piece) else {
+        return Err(InputFail::Failed);
+    };
+    bytes.extend_from_slice(&piece[..n])?;
+    Ok(n)
+}
 
 // All the bytes that a file gives up to its end, where there are at most `most`.
 fn read_all<F: Read>(alloc: Global, file: &mut F, most: u64) -> Result<Vec<u8>, InputFail>
+    ensures bytes { IfOk result (λ v. IfSome (F.remaining file.old) (λ all. v.items ≡ all)) }
     ensures within { IfOk result (λ v. length v.items ≤ most) }
+    ensures too_long { IsErrOf result InputFail.TooLong → IfSome (F.remaining file.old) (λ all. most < length all) }
 {
     let mut bytes = Vec::new(alloc);
-    let mut piece = vec![in alloc; 0u8; PIECE]?;
-    loop {
-        let n = match file.read(&mut piece) {
-            Ok(n) => n,
-            Err(_) => return Err(InputFail::Failed),
-        };
-        if n == 0 {
-            return Ok(bytes);
-        }
-        if most - (bytes.len() as u64) < n as u64 {
+    while read_more(file, &mut bytes)? > 0 {
+        if bytes.len() as u64 > most {
             return Err(InputFail::TooLong);
         }
-        bytes.extend_from_slice(&piece[..n])?;
     }
+    Ok(bytes)
 }
 
 impl<R: Files + Drop> Inputs for FileInputs<R> {
@@ -55,7 +66,16 @@ impl<R: Files + Drop> Inputs for FileInputs<R> {
 
     ghost faults = { λ s _. s.faults };
 
-    fn read(&mut self, alloc: Global, name: &str, most: u64) -> Result<Vec<u8>, InputFail> {
+    fn read(&mut self, alloc: Global, name: &str, most: u64) -> Result<Vec<u8>, InputFail>
+        ensures within { IfOk result (λ v. length v.items ≤ most) }
+        ensures failed { IsErrOf result InputFail.Failed → Rose self.old.faults self.new.faults }
+        ensures counts { self.old.faults ≤ self.new.faults }
+
+        // Besides: the one counter is raised at each error.
+        ensures ok { OnOk result (self.new.faults ≡ self.old.faults) }
+        ensures err { OnErr result (self.new.faults ≡ next self.old.faults) }
+        ensures files { self.new.rt ≡ self.old.rt }
+    {
         let result = match fs::open(&self.rt, name) {
             Ok(mut file) => read_all(alloc, &mut file, most),
             Err(_) => Err(InputFail::Failed),
@@ -89,7 +109,18 @@ impl<W: Write + Drop> Sink for OutSink<W> {
 
     ghost faults = { λ s. s.faults };
 
-    fn write(&mut self, bytes: &[u8]) -> Result<usize, Failed> {
+    fn write(&mut self, bytes: &[u8]) -> Result<usize, Failed>
+        ensures within { IfOk result (λ n. n ≤ length bytes.now) }
+        ensures some { IfOk result (λ n. 0 < length bytes.now → 0 < n) }
+        ensures failed { OnErr result (Rose self.old.faults self.new.faults) }
+        ensures counts { self.old.faults ≤ self.new.faults }
+
+        // Besides: what goes to the writer, and that the counter is raised at each error.
+        ensures writer { IfOk result (λ n. Appends (W.contents self.old.to) (W.contents self.new.to) (take n bytes.now)) }
+        ensures nothing { OnErr result (Keeps (W.contents self.old.to) (W.contents self.new.to)) }
+        ensures ok { OnOk result (self.new.faults ≡ self.old.faults) }
+        ensures err { OnErr result (self.new.faults ≡ next self.old.faults) }
+    {
         match self.to.write(bytes) {
             Ok(n) if n > 0 || bytes.is_empty() => Ok(n),
             _ => {

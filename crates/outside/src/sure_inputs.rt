@@ -46,7 +46,13 @@ impl Inputs for SureInputs {
 
     ghost faults = { λ _ _. 0 };
 
-    fn read(&mut self, alloc: Global, name: &str, most: u64) -> Result<Vec<u8>, InputFail> {
+    fn read(&mut self, alloc: Global, name: &str, most: u64) -> Result<Vec<u8>, InputFail>
+        ensures bytes { IfOk result (λ v. v.items ≡ bytes_of self.old name.now) }
+        ensures within { IfOk result (λ v. length v.items ≤ most) }
+        ensures too_long { IsErrOf result InputFail.TooLong ↔ most < length (bytes_of self.old name.now) }
+        ensures failed { ¬ IsErrOf result InputFail.Failed }
+        ensures same { self.new ≡ self.old }
+    {
         match self.held.get(name) {
             Some(bytes) => copied(alloc, bytes, most),
             None => Ok(Vec::new(alloc)),
