@@ -1,0 +1,75 @@
+//! How numbers, addresses, prefixes and tags are written. Each `push_` function adds a text to the end of another.
+#![tactic(auto)]
+
+ghost use Rattle.std.specs.Prelude.{◌≡◌, ◌++◌, ◌^◌, ◌<◌, OnOk};
+ghost use Rattle.std.specs.Fmt.{decimal};
+ghost use Rattle.text_words.specs.Texts.{address_text, prefix_text, pattern_text, tag_text};
+
+use net_base::{Name, Pattern, Prefix, Tag};
+use outside::NoMemory;
+
+/// Adds bytes.
+pub fn push_bytes(text: &mut Vec<u8>, bytes: &[u8]) -> Result<(), NoMemory>
+    ensures { OnOk result (text.new.items ≡ text.old.items ++ bytes.now) }
+{
+    text.extend_from_slice(bytes)?;
+    Ok(())
+}
+
+/// Adds a name.
+pub fn push_name(text: &mut Vec<u8>, name: &Name) -> Result<(), NoMemory>
+    ensures { OnOk result (text.new.items ≡ text.old.items ++ name.now) }
+{
+    push_bytes(text, name.as_bytes())
+}
+
+/// Adds a number in decimal, without leading zeros.
+pub fn push_number(text: &mut Vec<u8>, number: u64) -> Result<(), NoMemory>
+    ensures { OnOk result (text.new.items ≡ text.old.items ++ decimal number) }
+{
+    let mut buffer = itoa::Buffer::new();
+    push_bytes(text, buffer.format(number).as_bytes())
+}
+
+/// Adds an address of 32 bits as four decimal numbers joined by dots.
+pub fn push_address(text: &mut Vec<u8>, bits: u32) -> Result<(), NoMemory>
+    ensures { OnOk result (text.new.items ≡ text.old.items ++ address_text bits) }
+{
+    push_number(text, u64::from(bits / 16_777_216))?;
+    push_bytes(text, b".")?;
+    push_number(text, u64::from(bits / 65_536 % 256))?;
+    push_bytes(text, b".")?;
+    push_number(text, u64::from(bits / 256 % 256))?;
+    push_bytes(text, b".")?;
+    push_number(text, u64::from(bits % 256))
+}
+
+/// Adds a prefix: its address, `/` and its length.
+pub fn push_prefix(text: &mut Vec<u8>, prefix: Prefix) -> Result<(), NoMemory>
+    ensures { OnOk result (text.new.items ≡ text.old.items ++ prefix_text prefix) }
+{
+    push_address(text, prefix.bits())?;
+    push_bytes(text, b"/")?;
+    push_number(text, u64::from(prefix.len()))
+}
+
+/// Adds a pattern: its base, and where it contains more than that prefix ` le ` and the greatest length.
+pub fn push_pattern(text: &mut Vec<u8>, pattern: Pattern) -> Result<(), NoMemory>
+    ensures { OnOk result (text.new.items ≡ text.old.items ++ pattern_text pattern) }
+{
+    push_prefix(text, pattern.base())?;
+    if pattern.upto() == pattern.base().len() {
+        return Ok(());
+    }
+    push_bytes(text, b" le ")?;
+    push_number(text, u64::from(pattern.upto()))
+}
+
+/// Adds a tag: its AS number, `:` and its value, as communities are written (RFC 1997).
+pub fn push_tag(text: &mut Vec<u8>, tag: Tag) -> Result<(), NoMemory>
+    ensures { OnOk result (text.new.items ≡ text.old.items ++ tag_text tag) }
+{
+    push_number(text, u64::from(tag.asn))?;
+    push_bytes(text, b":")?;
+    push_number(text, u64::from(tag.value))
+}
