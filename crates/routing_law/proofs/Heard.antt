@@ -44,3 +44,13 @@ own_parts w v x h =
 
 pub own_from : (w : World) (v s : ℕ) → w.alive.live v ≡ true → w.graph.start v ≡ Some s → own_route w v ≡ Some (record { path = v ∷ []; node = s })
 own_from w v s a b = rw (a, b)
+
+pub no_router : (w : World) (v : ℕ) → w.net.router v ≡ false → chooses w.net w.alive v ≡ false
+no_router w v h = rw h
+
+pub not_live : (w : World) (v : ℕ) → w.alive.live v ≡ false → chooses w.net w.alive v ≡ false
+not_live w v h = by (w.net.router v) refl
+  where
+    by : (b : Bool) → w.net.router v ≡ b → chooses w.net w.alive v ≡ false
+    by true e = rw (e, h)
+    by false e = rw e

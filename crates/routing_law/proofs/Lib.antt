@@ -10,3 +10,7 @@ pub mod Reach
 pub mod Wheel
 pub mod Rounds
 pub mod Unique
+pub mod Tied
+pub mod Bridge
+pub mod Back
+pub mod Used

@@ -1,8 +1,8 @@
 -- Runs of a graph along paths, and ways from node to node.
-use Rattle.std.proofs.Common.{◌≡◌, ℕ, ◌<◌, Bool, true, false, ◌||◌, List, [], ◌∷◌, ◌++◌, Some, eqb, refl, sym, ap, ◌∙◌, subst}
-use Rattle.std.proofs.lemmas.Bool.{eqb-true, false≢true}
+use Rattle.std.proofs.Common.{◌≡◌, ℕ, ◌<◌, Bool, true, false, ◌&&◌, ◌||◌, List, [], ◌∷◌, ◌++◌, Some, eqb, refl, sym, ap, ◌∙◌, subst}
+use Rattle.std.proofs.lemmas.Bool.{and_parts, eqb-true, false≢true}
 use Rattle.routing_law.specs.Graph.{Graph, Reaches, WellFormed, follow, run}
-use Rattle.routing_law.specs.Network.{Network, stands_on}
+use Rattle.routing_law.specs.Network.{Alive, Network, stands_on, survives}
 use Rattle.routing_law.proofs.Options.{bind_some}
 
 pub no_end : (fs back : List ℕ) (u : ℕ) → [] ≡ fs ++ u ∷ back → ⊥
@@ -16,6 +16,11 @@ stands_split v (u ∷ p) h = split (eqb v u) refl (stands_split v p)
     split : (b : Bool) → eqb v u ≡ b → (stands_on v p ≡ true → (front : List ℕ) × (back : List ℕ) × (p ≡ front ++ v ∷ back)) → (front : List ℕ) × (back : List ℕ) × (u ∷ p ≡ front ++ v ∷ back)
     split true e again = let vu = eqb-true v u e in ([], p, ap (λ a. a ∷ p) (sym vu))
     split false e again = let a = again (subst (λ b. (b || stands_on v p) ≡ true) e h) in (u ∷ a.0, a.1, ap (λ q. u ∷ q) a.2)
+
+-- a walk that survives begins with a live location
+pub first_lives : (alive : Alive) (v : ℕ) (rest : List ℕ) → survives alive (v ∷ rest) ≡ true → alive.live v ≡ true
+first_lives alive v [] h = h
+first_lives alive v (u ∷ q) h = (and_parts (alive.live v) (alive.carries u v && survives alive (u ∷ q)) h).0
 
 -- a run of more than one place: that of the rest, and a step
 pub run_more : (g : Graph) (v u : ℕ) (q : List ℕ) (n : ℕ) → run g (v ∷ u ∷ q) ≡ Some n → (m : ℕ) × (run g (u ∷ q) ≡ Some m) × (g.next m v ≡ Some n)

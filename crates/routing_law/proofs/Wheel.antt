@@ -9,7 +9,7 @@ use Rattle.routing_law.proofs.Heard.{chooses_from, chooses_parts, heard_from, ow
 use Rattle.routing_law.proofs.Highest.{known_of, place_of}
 use Rattle.routing_law.proofs.Options.{bind_some}
 use Rattle.routing_law.proofs.Rules.{Everywhere}
-use Rattle.routing_law.proofs.Runs.{follow_append, follow_more, node_below, place_below, run_more, run_place, stands_split}
+use Rattle.routing_law.proofs.Runs.{first_lives, follow_append, follow_more, node_below, place_below, run_more, run_place, stands_split}
 use Rattle.routing_law.proofs.Saturate.{comes_again}
 use Rattle.routing_law.proofs.Sound.{Backed, Origin, Taken, how, sound_of}
 
@@ -41,10 +41,6 @@ record Arc (w : World) (r : Routes) (t : Tops w) (v n : ℕ) : Type 0 where
   routers : AllRouters w front
   runs : follow w.graph entry front ≡ Some last
   step : w.graph.next last v ≡ Some n
-
-live_of : (w : World) (u : ℕ) (q : List ℕ) → survives w.alive (u ∷ q) ≡ true → w.alive.live u ≡ true
-live_of w u [] h = h
-live_of w u (z ∷ q) h = (and_parts (w.alive.live u) (w.alive.carries z u && survives w.alive (z ∷ q)) h).0
 
 along : (w : World) → WellFormed w.net w.graph → Everywhere w.net w.graph → (zs : List ℕ) (m e n : ℕ) → AllRouters w zs → AtLeast w.graph m e → follow w.graph e zs ≡ Some n → (k : ℕ) × (follow w.graph m zs ≡ Some k) × AtLeast w.graph k n
 along w wf ev [] m e n a al h = let en : e ≡ n = cc in (m, refl, subst (AtLeast w.graph m) en al)
@@ -91,7 +87,7 @@ module _ (w : World) (wf : WellFormed w.net w.graph) (ev : Everywhere w.net w.gr
   has_or_left u m q h l from = by (r u) refl
     where
       at_origin : w.net.origin u ≡ true → (p : List ℕ) → run w.graph (u ∷ p) ≡ Some m → r u ≡ None → Left w r t u
-      at_origin o [] g e = let f = sym e ∙ bk.own u o ∙ own_from w u m (live_of w u q l) g in absurd (cc)
+      at_origin o [] g e = let f = sym e ∙ bk.own u o ∙ own_from w u m (first_lives w.alive u q l) g in absurd (cc)
       at_origin o (z ∷ p) g e = let a = run_more w.graph u z p m g in absurd (false≢true (sym (wf.next_origin a.0 u m a.2) ∙ o))
 
       left : (b : Bool) → w.net.origin u ≡ b → r u ≡ None → Left w r t u
@@ -99,7 +95,7 @@ module _ (w : World) (wf : WellFormed w.net w.graph) (ev : Everywhere w.net w.gr
       left false o e =
           let ro : w.net.router u ≡ true = subst (λ x. (x || w.net.router u) ≡ true) o from in
           let b = t.over u m (record { rest = q; runs = h; lives = l }) in
-          record { chooses = chooses_from w u ro (live_of w u q l) o; none = e; top = b.0; is_top = b.1 }
+          record { chooses = chooses_from w u ro (first_lives w.alive u q l) o; none = e; top = b.0; is_top = b.1 }
 
       by : (o : Option Route) → r u ≡ o → ((y : Route) × (r u ≡ Some y)) ⊎ Left w r t u
       by (Some y) e = inl (y, e)
