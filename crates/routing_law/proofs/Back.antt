@@ -6,8 +6,8 @@ use Rattle.std.proofs.lemmas.Option.{same_Some}
 use Rattle.routing_law.specs.Graph.{Graph, MeetsRules, run}
 use Rattle.routing_law.specs.Laws.{GraphIsLines, OutcomeExists, OutcomeIsUnique}
 use Rattle.routing_law.specs.Lines.{LineRoute, LineRoutes, Lines, LinesFullyStable, LinesNoLater, LinesStable, Tag, own_line}
-use Rattle.routing_law.specs.Network.{chooses}
-use Rattle.routing_law.specs.Outcome.{FullyStable, NoLater, Route, Routes, Same, World, with_nodes, with_tag, with_tags}
+use Rattle.routing_law.specs.Network.{NamesDiffer, chooses}
+use Rattle.routing_law.specs.Outcome.{FullyStable, NoLater, Route, Routes, Same, Setup, with_nodes, with_tag, with_tags}
 use Rattle.routing_law.specs.Spells.{Written}
 use Rattle.routing_law.proofs.Bridge.{graph_stable, same_routes, tied_nodes}
 use Rattle.routing_law.proofs.Heard.{chooses_from, chooses_parts, not_live, own_parts}
@@ -21,16 +21,16 @@ pub is_with_tag : (g : Graph) (tag : ℕ → Tag) (x : LineRoute) (y : Route) �
 is_with_tag g tag x y s = λ i. record { path = s.path_is i; tag = s.tag_is i; pref = s.pref_is i }
 
 -- the full order is the same
-pub lines_no_later : (w : World) (tag : ℕ → Tag) (a b : Route) (x y : LineRoute) → Same w.graph tag x a → Same w.graph tag y b → NoLater w a b → LinesNoLater w.net x y
+pub lines_no_later : (w : Setup) (tag : ℕ → Tag) (a b : Route) (x y : LineRoute) → Same w.graph tag x a → Same w.graph tag y b → NoLater w a b → LinesNoLater w.net x y
 lines_no_later w tag a b x y e f n = subst (λ z. LinesNoLater w.net z y) (sym (is_with_tag w.graph tag x a e)) (subst (LinesNoLater w.net (with_tag w.graph tag a)) (sym (is_with_tag w.graph tag y b f)) (record { higher = n.number; fewer = n.fewer; lower = n.lower }))
 
-pub no_later : (w : World) (tag : ℕ → Tag) (a b : Route) (x y : LineRoute) → Same w.graph tag x a → Same w.graph tag y b → LinesNoLater w.net x y → NoLater w a b
+pub no_later : (w : Setup) (tag : ℕ → Tag) (a b : Route) (x y : LineRoute) → Same w.graph tag x a → Same w.graph tag y b → LinesNoLater w.net x y → NoLater w a b
 no_later w tag a b x y e f n = back (subst (λ z. LinesNoLater w.net z (with_tag w.graph tag b)) (is_with_tag w.graph tag x a e) (subst (LinesNoLater w.net x) (is_with_tag w.graph tag y b f) n))
   where
     back : LinesNoLater w.net (with_tag w.graph tag a) (with_tag w.graph tag b) → NoLater w a b
     back m = record { number = m.higher; fewer = m.fewer; lower = m.lower }
 
-module _ (w : World) (tag : ℕ → Tag) (c : Lines) (s : Routes) where
+module _ (w : Setup) (tag : ℕ → Tag) (c : Lines) (s : Routes) where
   tags_at_origin : (v : ℕ) → w.net.origin v ≡ true → with_tags w tag c s v ≡ cond (w.alive.live v) (Some (own_line c v)) None
   tags_at_origin v o = rw o
 
@@ -46,7 +46,7 @@ module _ (w : World) (tag : ℕ → Tag) (c : Lines) (s : Routes) where
       let a = map_some (with_tag w.graph tag) (s v) x (sym (tags_elsewhere v o) ∙ h) in
       (a.0, a.1, record { path_is = ap (λ (y : LineRoute). y.path) (sym a.2); tag_is = ap (λ (y : LineRoute). y.tag) (sym a.2); pref_is = ap (λ (y : LineRoute). y.pref) (sym a.2) })
 
-module _ (w : World) (tag : ℕ → Tag) (c : Lines) (s : Routes) (written : Written w.net w.graph tag c) (full : FullyStable w s) where
+module _ (w : Setup) (tag : ℕ → Tag) (c : Lines) (s : Routes) (written : Written w.net w.graph tag c) (full : FullyStable w s) where
   own_at : (v : ℕ) → w.net.origin v ≡ true → w.alive.live v ≡ true → with_tags w tag c s v ≡ Some (own_line c v)
   own_at v o l = tags_at_origin w tag c s v o ∙ ap (λ b. cond b (Some (own_line c v)) None) l
 
@@ -110,7 +110,7 @@ graph_is_lines w tag c s written full = record {
       lines_no_later w tag a.0 b.0 x y a.2 b.2 (full.first v u a.0 b.0 k a.1 b.1);
 }
 
-module _ (w : World) (tag : ℕ → Tag) (c : Lines) (written : Written w.net w.graph tag c) (rules : MeetsRules w.net w.graph) where
+module _ (w : Setup) (tag : ℕ → Tag) (c : Lines) (differ : NamesDiffer w.net) (written : Written w.net w.graph tag c) (rules : MeetsRules w.net w.graph) where
   graph_full : (r : LineRoutes) → LinesFullyStable w.net w.alive c r → FullyStable w (with_nodes w r)
   graph_full r full = record {
     stable = graph_stable w tag c r written full.stable;
@@ -124,17 +124,17 @@ module _ (w : World) (tag : ℕ → Tag) (c : Lines) (written : Written w.net w.
   has_too : (r s : LineRoutes) → LinesFullyStable w.net w.alive c r → LinesFullyStable w.net w.alive c s → (v : ℕ) (x : LineRoute) → chooses w.net w.alive v ≡ true → r v ≡ Some x → s v ≡ Some x
   has_too r s fr fs v x k h =
       let a = (same_routes w tag c r written fr.stable).down v x k h in
-      let e = unique w (with_nodes w r) (with_nodes w s) written.formed rules (graph_full r fr) (graph_full s fs) v in
+      let e = unique w (with_nodes w r) (with_nodes w s) differ written.formed rules (graph_full r fr) (graph_full s fs) v in
       let b = (same_routes w tag c s written fs.stable).up v a.0 k (sym e ∙ a.1) in
       b.1 ∙ ap Some (is_with_tag w.graph tag b.0 a.0 b.2 ∙ sym (is_with_tag w.graph tag x a.0 a.2))
 
 pub lines_unique : OutcomeIsUnique
-lines_unique w tag c r s written rules fr fs v ro = by (w.alive.live v) refl (w.net.origin v) refl
+lines_unique w tag c r s differ written rules fr fs v ro = by (w.alive.live v) refl (w.net.origin v) refl
   where
     chosen : chooses w.net w.alive v ≡ true → (a b : Option LineRoute) → r v ≡ a → s v ≡ b → a ≡ b
     chosen k None None e f = refl
-    chosen k (Some x) b e f = sym (has_too w tag c written rules r s fr fs v x k e) ∙ f
-    chosen k None (Some y) e f = sym e ∙ has_too w tag c written rules s r fs fr v y k f
+    chosen k (Some x) b e f = sym (has_too w tag c differ written rules r s fr fs v x k e) ∙ f
+    chosen k None (Some y) e f = sym e ∙ has_too w tag c differ written rules s r fs fr v y k f
 
     by : (a : Bool) → w.alive.live v ≡ a → (b : Bool) → w.net.origin v ≡ b → r v ≡ s v
     by false l b o = fr.stable.dead v ro l ∙ sym (fs.stable.dead v ro l)

@@ -7,7 +7,7 @@ use Rattle.routing_law.specs.Graph.{run}
 use Rattle.routing_law.specs.Laws.{LinesAreGraph}
 use Rattle.routing_law.specs.Lines.{LineRoute, LineRoutes, Lines, LinesStable, Tag, line_heard, own_line}
 use Rattle.routing_law.specs.Network.{chooses}
-use Rattle.routing_law.specs.Outcome.{Route, Same, SameRoutes, Stable, World, heard, own_route, with_node, with_nodes}
+use Rattle.routing_law.specs.Outcome.{Route, Same, SameRoutes, Setup, Stable, heard, own_route, with_node, with_nodes}
 use Rattle.routing_law.specs.Spells.{Written}
 use Rattle.routing_law.proofs.Heard.{chooses_from, chooses_parts, own_parts}
 use Rattle.routing_law.proofs.Options.{bind_some}
@@ -15,7 +15,7 @@ use Rattle.routing_law.proofs.Sound.{Backed, backed}
 use Rattle.routing_law.proofs.Tied.{Behind, Given, Tied, given_up, heard_down, own_down}
 
 -- what with_nodes gives, by who holds the route
-module _ (w : World) (r : LineRoutes) where
+module _ (w : Setup) (r : LineRoutes) where
   nodes_at_origin : (u : ℕ) → w.net.origin u ≡ true → with_nodes w r u ≡ own_route w u
   nodes_at_origin u o = rw o
 
@@ -30,7 +30,7 @@ module _ (w : World) (r : LineRoutes) where
   node_is u x p n o ro h e i =
       nodes_at_router u o ro ∙ ap (option_and_then (with_node w.graph)) h ∙ ap (λ q. option_map (λ m. record { path = q; node = m }) (run w.graph q)) e ∙ ap (option_map (λ m. record { path = p; node = m })) i
 
-module _ (w : World) (tag : ℕ → Tag) (c : Lines) (r : LineRoutes) (written : Written w.net w.graph tag c) (stable : LinesStable w.net w.alive c r) where
+module _ (w : Setup) (tag : ℕ → Tag) (c : Lines) (r : LineRoutes) (written : Written w.net w.graph tag c) (stable : LinesStable w.net w.alive c r) where
   -- a router that has a route is alive
   pub live_of : (u : ℕ) (z : LineRoute) → w.net.router u ≡ true → r u ≡ Some z → w.alive.live u ≡ true
   live_of u z ro h = by (w.alive.live u) refl

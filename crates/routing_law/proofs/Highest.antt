@@ -4,29 +4,29 @@ use Rattle.std.proofs.lemmas.Bool.{and_parts, or_right}
 use Rattle.routing_law.specs.Graph.{AtLeast, WellFormed, run}
 use Rattle.routing_law.specs.Laws.{GraphNodeIsReached, GraphNumberIsGreatest}
 use Rattle.routing_law.specs.Network.{chooses, stands_on, survives}
-use Rattle.routing_law.specs.Outcome.{Route, Routes, Stable, World}
+use Rattle.routing_law.specs.Outcome.{Route, Routes, Setup, Stable}
 use Rattle.routing_law.proofs.Heard.{chooses_from, heard_from, own_from}
 use Rattle.routing_law.proofs.Rules.{Everywhere, everywhere}
 use Rattle.routing_law.proofs.Runs.{node_below, run_more, run_passes, run_place, stands_split}
 use Rattle.routing_law.proofs.Sound.{Backed, backed, sound, sound_of}
 
 -- a route's node is one
-pub known_of : (w : World) → WellFormed w.net w.graph → (r : Routes) → Backed w r → (v : ℕ) (x : Route) → r v ≡ Some x → x.node < w.graph.nodes
+pub known_of : (w : Setup) → WellFormed w.net w.graph → (r : Routes) → Backed w r → (v : ℕ) (x : Route) → r v ≡ Some x → x.node < w.graph.nodes
 known_of w wf r b v x h =
     let a = sound_of w r b v x h in
     node_below wf a.rest v x.node (subst (λ p. run w.graph p ≡ Some x.node) a.begins a.runs)
 
 -- where a route's node is
-pub place_of : (w : World) → WellFormed w.net w.graph → (r : Routes) → Backed w r → (v : ℕ) (x : Route) → r v ≡ Some x → w.graph.place x.node ≡ v
+pub place_of : (w : Setup) → WellFormed w.net w.graph → (r : Routes) → Backed w r → (v : ℕ) (x : Route) → r v ≡ Some x → w.graph.place x.node ≡ v
 place_of w wf r b v x h =
     let a = sound_of w r b v x h in
     run_place wf v a.rest x.node (subst (λ p. run w.graph p ≡ Some x.node) a.begins a.runs)
 
 -- v has a route whose node stands at least as high as n
-abbrev pub Over : World → Routes → ℕ → ℕ → Type 0
+abbrev pub Over : Setup → Routes → ℕ → ℕ → Type 0
 Over w r v n = (x : Route) × (r v ≡ Some x) × AtLeast w.graph x.node n
 
-module _ (w : World) (r : Routes) (wf : WellFormed w.net w.graph) (s : Stable w r) where
+module _ (w : Setup) (r : Routes) (wf : WellFormed w.net w.graph) (s : Stable w r) where
   over_start : (v n : ℕ) → w.alive.live v ≡ true → w.graph.start v ≡ Some n → Over w r v n
   over_start v n l h =
       (record { path = v ∷ []; node = n }, s.own v (wf.start_origin v n h) ∙ own_from w v n l h, record { known = (wf.start_below v n h).1; other = (wf.start_below v n h).1; place = refl; number = omega arith })

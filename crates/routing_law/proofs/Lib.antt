@@ -10,6 +10,7 @@ pub mod Reach
 pub mod Wheel
 pub mod Rounds
 pub mod Unique
+pub mod Steps
 pub mod Tied
 pub mod Bridge
 pub mod Back

@@ -4,7 +4,7 @@ use Rattle.std.specs.Option.{option_and_then}
 use Rattle.std.proofs.lemmas.Bool.{and_parts, and_from, or_cases, or_left, or_right, cases_lt, eqb-true, eq-eqb, false≢true}
 use Rattle.routing_law.specs.Graph.{WellFormed, run}
 use Rattle.routing_law.specs.Network.{survives}
-use Rattle.routing_law.specs.Outcome.{ReachedAt, World}
+use Rattle.routing_law.specs.Outcome.{ReachedAt, Setup}
 use Rattle.routing_law.specs.Settling.{Marks, ReachEnds, Tops, Within, any_below, is_node, reached, reached_at, steps_on, top_at}
 use Rattle.routing_law.proofs.Highest.{over}
 use Rattle.routing_law.proofs.Runs.{node_below, run_more, run_place}
@@ -33,7 +33,7 @@ any_from f (suc n) i l h = last (cases_lt i n) (any_from f n i)
     last (inl m) again = or_right (f n) (any_below f n) (again m h)
     last (inr m) again = let e : i ≡ n = omega arith in or_left (f n) (any_below f n) (subst (λ k. f k ≡ true) e h)
 
-reached_walk : (w : World) → WellFormed w.net w.graph → (k n : ℕ) → reached w k n ≡ true → ReachedAt w (w.graph.place n) n
+reached_walk : (w : Setup) → WellFormed w.net w.graph → (k n : ℕ) → reached w k n ≡ true → ReachedAt w (w.graph.place n) n
 reached_walk w wf zero n h =
     let a = and_parts (w.alive.live (w.graph.place n)) (is_node (w.graph.start (w.graph.place n)) n) h in
     record { rest = []; runs = is_node_true (w.graph.start (w.graph.place n)) n a.1; lives = a.0 }
@@ -54,7 +54,7 @@ reached_walk w wf (suc k) n h = by (or_cases (reached w k n) (any_below (λ m. r
         }
 
 -- a time when nothing new is reached has all
-module _ (w : World) (wf : WellFormed w.net w.graph) where
+module _ (w : Setup) (wf : WellFormed w.net w.graph) where
   all_reached : (k : ℕ) → Within w.graph.nodes (reached w (suc k)) (reached w k) → (rest : List ℕ) (v n : ℕ) → run w.graph (v ∷ rest) ≡ Some n → survives w.alive (v ∷ rest) ≡ true → reached w k n ≡ true
   all_reached k closed [] v n h l =
       let p = wf.start_place v n h in
@@ -85,7 +85,7 @@ module _ (f : Marks) (measure : ℕ → ℕ) (n : ℕ) where
   top_over None h j l e = absurd (false≢true (sym (h j l) ∙ e))
   top_over (Some k) h j l e = (k, refl, h.2 j l e)
 
-abbrev tops_at : (w : World) → WellFormed w.net w.graph → (time : ℕ) → Within w.graph.nodes (reached w (suc time)) (reached w time) → Tops w
+abbrev tops_at : (w : Setup) → WellFormed w.net w.graph → (time : ℕ) → Within w.graph.nodes (reached w (suc time)) (reached w time) → Tops w
 tops_at w wf time rests = record {
   top = top_at w time;
   is_reached = λ v n e.
@@ -99,7 +99,7 @@ tops_at w wf time rests = record {
 pub reach_ends : ReachEnds
 reach_ends w wf time rests = (tops_at w wf time rests, λ v. refl)
 
-pub tops : (w : World) → WellFormed w.net w.graph → Tops w
+pub tops : (w : Setup) → WellFormed w.net w.graph → Tops w
 tops w wf =
     let a = comes_to_rest w.graph.nodes (reached w) (λ k n e. or_left (reached w k n) (any_below (λ m. reached w k m && steps_on w m n) w.graph.nodes) e) in
     tops_at w wf a.0 a.1

@@ -5,7 +5,7 @@ use Rattle.std.proofs.lemmas.Bool.{or_right, false≢true}
 use Rattle.routing_law.specs.Graph.{WellFormed, run}
 use Rattle.routing_law.specs.Laws.{OfferIsBest, RankIsBest}
 use Rattle.routing_law.specs.Network.{stands_on}
-use Rattle.routing_law.specs.Outcome.{Route, Routes, Stable, World}
+use Rattle.routing_law.specs.Outcome.{Route, Routes, Setup, Stable}
 use Rattle.routing_law.proofs.Highest.{over}
 use Rattle.routing_law.proofs.Rules.{everywhere}
 use Rattle.routing_law.proofs.Runs.{run_more, run_place, stands_split}
@@ -23,7 +23,7 @@ best_rank w k r wf rules ranked s v rest i ro so h l =
     (o.0, b.0, o.1, ap k.of_path d.begins ∙ sym (ranked.same_rank v d.rest o.0.node so runs') ∙ b.1, b.2)
 
 -- a peer that is no origin has no route
-no_route : (w : World) (r : Routes) → WellFormed w.net w.graph → Stable w r → (p : ℕ) (x : Route) → w.net.router p ≡ false → w.net.origin p ≡ false → r p ≡ Some x → ⊥
+no_route : (w : Setup) (r : Routes) → WellFormed w.net w.graph → Stable w r → (p : ℕ) (x : Route) → w.net.router p ≡ false → w.net.origin p ≡ false → r p ≡ Some x → ⊥
 no_route w r wf s p x ro o h = by (how w r (backed w r s) p x h)
   where
     by : Origin w p x ⊎ Taken w r p x → ⊥

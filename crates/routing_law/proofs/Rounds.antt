@@ -5,7 +5,7 @@ use Rattle.std.proofs.lemmas.Bool.{false≢true, cases_lt, eqb-true, eq-eqb}
 use Rattle.routing_law.specs.Graph.{WellFormed, run}
 use Rattle.routing_law.specs.Laws.{GraphOutcomeExists}
 use Rattle.routing_law.specs.Network.{chooses}
-use Rattle.routing_law.specs.Outcome.{FullyStable, NoLater, Route, World, heard, own_route}
+use Rattle.routing_law.specs.Outcome.{FullyStable, NoLater, Route, Setup, heard, own_route}
 use Rattle.routing_law.specs.Settling.{SettlingEnds, Tops, Within, givers, has_number, kept, lowest, rounds, settled_by}
 use Rattle.routing_law.proofs.Heard.{Heard, chooses_parts, heard_parts, own_parts}
 use Rattle.routing_law.proofs.Options.{when_some}
@@ -16,10 +16,10 @@ use Rattle.routing_law.proofs.Saturate.{IsLowest, comes_to_rest, lowest_is}
 use Rattle.routing_law.proofs.Sound.{Backed, giver_is, heard_again, heard_reached, length_is, sound_of}
 use Rattle.routing_law.proofs.Wheel.{Left, Stuck, Topped, wheel}
 
-has_number_from : (w : World) (goal : ℕ) (o : Option Route) (x : Route) → o ≡ Some x → w.graph.number x.node ≡ goal → has_number w goal o ≡ true
+has_number_from : (w : Setup) (goal : ℕ) (o : Option Route) (x : Route) → o ≡ Some x → w.graph.number x.node ≡ goal → has_number w goal o ≡ true
 has_number_from w goal o x h e = rw h (eq-eqb (w.graph.number x.node) goal e)
 
-has_number_at : (w : World) (goal : ℕ) (o : Option Route) → has_number w goal o ≡ true → (x : Route) × (o ≡ Some x) × (w.graph.number x.node ≡ goal)
+has_number_at : (w : Setup) (goal : ℕ) (o : Option Route) → has_number w goal o ≡ true → (x : Route) × (o ≡ Some x) × (w.graph.number x.node ≡ goal)
 has_number_at w goal None h = absurd (false≢true h)
 has_number_at w goal (Some x) h = (x, refl, eqb-true (w.graph.number x.node) goal h)
 
@@ -29,7 +29,7 @@ no_third true false = refl
 no_third false b = refl
 
 -- v was settled after round k
-record Fresh (w : World) (t : Tops w) (k v : ℕ) (x : Route) : Type 0 where
+record Fresh (w : Setup) (t : Tops w) (k v : ℕ) (x : Route) : Type 0 where
   before : rounds w t.top k v ≡ None
   after : rounds w t.top (suc k) v ≡ Some x
   chooses : chooses w.net w.alive v ≡ true
@@ -41,10 +41,10 @@ record Fresh (w : World) (t : Tops w) (k v : ℕ) (x : Route) : Type 0 where
   least : (u : ℕ) (y : Route) → u < w.net.size → heard w (rounds w t.top k) v u ≡ Some y → w.graph.number y.node ≡ w.graph.number top → w.net.name from ≤ w.net.name u
 
 -- a route of round j is an origin's, or was settled in an earlier round
-abbrev Settled : (w : World) → Tops w → ℕ → ℕ → Route → Type 0
+abbrev Settled : (w : Setup) → Tops w → ℕ → ℕ → Route → Type 0
 Settled w t j v x = (rounds w t.top zero v ≡ Some x) ⊎ ((k : ℕ) × (k < j) × Fresh w t k v x)
 
-module _ (w : World) (t : Tops w) where
+module _ (w : Setup) (t : Tops w) where
   kept_on : (k v : ℕ) (x : Route) → rounds w t.top k v ≡ Some x → rounds w t.top (suc k) v ≡ Some x
   kept_on k v x h = rw h
 
@@ -224,7 +224,7 @@ module _ (w : World) (t : Tops w) where
           at (inr q) m o = (omega (arith, q), λ r. absurd (omega (arith, q)))
 
 -- a round after which nobody is settled: it's an outcome
-module _ (w : World) (wf : WellFormed w.net w.graph) (ev : Everywhere w.net w.graph) (t : Tops w) (j : ℕ) (closed : Within w.net.size (λ v. is_some (rounds w t.top (suc j) v)) (λ v. is_some (rounds w t.top j v))) where
+module _ (w : Setup) (wf : WellFormed w.net w.graph) (ev : Everywhere w.net w.graph) (t : Tops w) (j : ℕ) (closed : Within w.net.size (λ v. is_some (rounds w t.top (suc j) v)) (λ v. is_some (rounds w t.top j v))) where
   none_after : (v : ℕ) → v < w.net.size → rounds w t.top j v ≡ None → rounds w t.top (suc j) v ≡ None
   none_after v l e = by (rounds w t.top (suc j) v) refl
     where

@@ -5,32 +5,32 @@ use Rattle.std.proofs.lemmas.Bool.{and_from}
 use Rattle.routing_law.specs.Graph.{run}
 use Rattle.routing_law.specs.Laws.{Sound}
 use Rattle.routing_law.specs.Network.{chooses, giver, loop_free, survives}
-use Rattle.routing_law.specs.Outcome.{ReachedAt, Route, Routes, Stable, World, heard, own_route}
+use Rattle.routing_law.specs.Outcome.{ReachedAt, Route, Routes, Setup, Stable, heard, own_route}
 use Rattle.routing_law.proofs.Heard.{Heard, chooses_parts, heard_from, heard_parts, own_parts}
 use Rattle.routing_law.proofs.Runs.{no_end}
 
 -- how v came by its route
-pub record Origin (w : World) (v : ℕ) (x : Route) : Type 0 where
+pub record Origin (w : Setup) (v : ℕ) (x : Route) : Type 0 where
   pub live : w.alive.live v ≡ true
   pub start : w.graph.start v ≡ Some x.node
   pub path : x.path ≡ v ∷ []
 
-pub record Taken (w : World) (r : Routes) (v : ℕ) (x : Route) : Type 0 where
+pub record Taken (w : Setup) (r : Routes) (v : ℕ) (x : Route) : Type 0 where
   pub live : w.alive.live v ≡ true
   pub router : w.net.router v ≡ true
   pub from : ℕ
   pub heard : Heard w r v from x
 
 -- an assignment that may not be finished: what is there was given
-pub record Backed (w : World) (r : Routes) : Type 0 where
+pub record Backed (w : Setup) (r : Routes) : Type 0 where
   pub own : (v : ℕ) → w.net.origin v ≡ true → r v ≡ own_route w v
   pub none : (v : ℕ) → w.net.origin v ≡ false → chooses w.net w.alive v ≡ false → r v ≡ None
   pub given : (v : ℕ) (x : Route) → chooses w.net w.alive v ≡ true → r v ≡ Some x → (u : ℕ) × (heard w r v u ≡ Some x)
 
-pub backed : (w : World) (r : Routes) → Stable w r → Backed w r
+pub backed : (w : Setup) (r : Routes) → Stable w r → Backed w r
 backed w r s = record { own = s.own; none = s.none; given = s.given }
 
-pub how : (w : World) (r : Routes) → Backed w r → (v : ℕ) (x : Route) → r v ≡ Some x → Origin w v x ⊎ Taken w r v x
+pub how : (w : Setup) (r : Routes) → Backed w r → (v : ℕ) (x : Route) → r v ≡ Some x → Origin w v x ⊎ Taken w r v x
 how w r s v x h = by_origin (w.net.origin v) refl
   where
     by_choice : w.net.origin v ≡ false → (b : Bool) → chooses w.net w.alive v ≡ b → Origin w v x ⊎ Taken w r v x
@@ -50,12 +50,12 @@ pub route_is : (x : Route) (p : List ℕ) → x.path ≡ p → x ≡ record { pa
 route_is x p e = λ i. record { path = e i; node = x.node }
 
 -- the route itself, read as a suffix of its path
-itself : (w : World) (r : Routes) (v : ℕ) (x : Route) (q back : List ℕ) (u : ℕ) → r v ≡ Some x → x.path ≡ v ∷ q → v ∷ q ≡ u ∷ back → (m : ℕ) × (r u ≡ Some (record { path = u ∷ back; node = m }))
+itself : (w : Setup) (r : Routes) (v : ℕ) (x : Route) (q back : List ℕ) (u : ℕ) → r v ≡ Some x → x.path ≡ v ∷ q → v ∷ q ≡ u ∷ back → (m : ℕ) × (r u ≡ Some (record { path = u ∷ back; node = m }))
 itself w r v x q back u h e f =
     let vu : v ≡ u = cc in
     (x.node, ap r (sym vu) ∙ h ∙ ap Some (route_is x (u ∷ back) (e ∙ f)))
 
-sound_origin : (w : World) (r : Routes) (v : ℕ) (x : Route) → r v ≡ Some x → Origin w v x → Sound w r v x
+sound_origin : (w : Setup) (r : Routes) (v : ℕ) (x : Route) → r v ≡ Some x → Origin w v x → Sound w r v x
 sound_origin w r v x h o = record {
   rest = [];
   begins = o.path;
@@ -69,7 +69,7 @@ sound_origin w r v x h o = record {
     suffixes [] back u e = itself w r v x [] back u h o.path e
     suffixes (f ∷ fs) back u e = let t : [] ≡ fs ++ u ∷ back = cc in absurd (no_end fs back u t)
 
-sound_taken : (w : World) (r : Routes) (v : ℕ) (x : Route) → r v ≡ Some x → (t : Taken w r v x) → Sound w r t.from t.heard.from → Sound w r v x
+sound_taken : (w : Setup) (r : Routes) (v : ℕ) (x : Route) → r v ≡ Some x → (t : Taken w r v x) → Sound w r t.from t.heard.from → Sound w r v x
 sound_taken w r v x h t s =
     let y = t.heard.from in
     let path : x.path ≡ v ∷ t.from ∷ s.rest = t.heard.path ∙ ap (λ p. v ∷ p) s.begins in
@@ -90,7 +90,7 @@ sound_taken w r v x h t s =
     suffixes (f ∷ fs) back u e = s.suffixes fs back u (cc)
 
 -- each chosen path is sound
-sound_at : (w : World) (r : Routes) → Backed w r → (path : List ℕ) (v : ℕ) (x : Route) → x.path ≡ path → r v ≡ Some x → Sound w r v x
+sound_at : (w : Setup) (r : Routes) → Backed w r → (path : List ℕ) (v : ℕ) (x : Route) → x.path ≡ path → r v ≡ Some x → Sound w r v x
 sound_at w r s [] v x e h =
     elim (how w r s v x h) [
       | inl o ↦ sound_origin w r v x h o
@@ -102,28 +102,28 @@ sound_at w r s (z ∷ q) v x e h =
       | inr t ↦ let f = sym e ∙ t.heard.path in sound_taken w r v x h t (sound_at w r s q t.from t.heard.from (cc) t.heard.has)
     ]
 
-pub sound_of : (w : World) (r : Routes) → Backed w r → (v : ℕ) (x : Route) → r v ≡ Some x → Sound w r v x
+pub sound_of : (w : Setup) (r : Routes) → Backed w r → (v : ℕ) (x : Route) → r v ≡ Some x → Sound w r v x
 sound_of w r s v x h = sound_at w r s x.path v x refl h
 
-pub sound : (w : World) (r : Routes) → Stable w r → (v : ℕ) (x : Route) → r v ≡ Some x → Sound w r v x
+pub sound : (w : Setup) (r : Routes) → Stable w r → (v : ℕ) (x : Route) → r v ≡ Some x → Sound w r v x
 sound w r s v x h = sound_of w r (backed w r s) v x h
 
 -- what is said of a route that is heard
-pub giver_is : (w : World) (r : Routes) → Backed w r → (v u : ℕ) (x : Route) → Heard w r v u x → giver x.path ≡ u
+pub giver_is : (w : Setup) (r : Routes) → Backed w r → (v u : ℕ) (x : Route) → Heard w r v u x → giver x.path ≡ u
 giver_is w r b v u x h =
     let a = sound_of w r b u h.from h.has in
     ap giver (h.path ∙ ap (λ p. v ∷ p) a.begins)
 
-pub length_is : (w : World) (r : Routes) (v u : ℕ) (x : Route) → (h : Heard w r v u x) → length x.path ≡ suc (length h.from.path)
+pub length_is : (w : Setup) (r : Routes) (v u : ℕ) (x : Route) → (h : Heard w r v u x) → length x.path ≡ suc (length h.from.path)
 length_is w r v u x h = ap length h.path
 
 -- heard again where the neighbour has the same route
-pub heard_again : (w : World) (r s : Routes) (v u : ℕ) (x : Route) → (h : Heard w r v u x) → s u ≡ Some h.from → heard w s v u ≡ Some x
+pub heard_again : (w : Setup) (r s : Routes) (v u : ℕ) (x : Route) → (h : Heard w r v u x) → s u ≡ Some h.from → heard w s v u ≡ Some x
 heard_again w r s v u x h e =
     let n : Some (record { path = v ∷ h.from.path; node = x.node }) ≡ Some x = ap Some (sym (route_is x (v ∷ h.from.path) h.path)) in
     heard_from w s v u h.from x.node e h.carries h.off h.step ∙ n
 
-pub heard_reached : (w : World) (r : Routes) → Backed w r → (v u : ℕ) (x : Route) → w.alive.live v ≡ true → Heard w r v u x → ReachedAt w v x.node
+pub heard_reached : (w : Setup) (r : Routes) → Backed w r → (v u : ℕ) (x : Route) → w.alive.live v ≡ true → Heard w r v u x → ReachedAt w v x.node
 heard_reached w r b v u x l h =
     let a = sound_of w r b u h.from h.has in
     let lives' : survives w.alive (u ∷ a.rest) ≡ true = subst (λ p. survives w.alive p ≡ true) a.begins a.lives in

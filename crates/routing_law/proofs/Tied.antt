@@ -2,19 +2,19 @@
 use Rattle.std.proofs.Common.{◌≡◌, ℕ, ◌<◌, Bool, true, false, cond, ◌&&◌, List, [], ◌∷◌, Option, Some, None, eqb, refl, sym, ap, ◌∙◌, subst}
 use Rattle.std.specs.Option.{option_map, option_and_then}
 use Rattle.std.proofs.lemmas.Bool.{and_parts, false≢true, eqb-true}
-use Rattle.routing_law.specs.Graph.{Graph, WellFormed, run}
+use Rattle.routing_law.specs.Graph.{run}
 use Rattle.routing_law.specs.Lines.{LineRoute, LineRoutes, Lines, Tag, line_announced, line_extended, line_heard, own_line, taken_by}
-use Rattle.routing_law.specs.Network.{Network, stands_on}
-use Rattle.routing_law.specs.Outcome.{Route, Routes, Same, World, heard, own_route}
+use Rattle.routing_law.specs.Network.{stands_on}
+use Rattle.routing_law.specs.Outcome.{Route, Routes, Same, Setup, heard, own_route}
 use Rattle.routing_law.specs.Spells.{StepOver, Written}
 use Rattle.routing_law.proofs.Heard.{Heard, heard_from, heard_parts, no_router, own_from, own_parts}
 use Rattle.routing_law.proofs.Highest.{known_of, over, place_of}
 use Rattle.routing_law.proofs.Options.{bind_some, map_some, unless_some, when_some}
-use Rattle.routing_law.proofs.Runs.{node_below, run_place}
 use Rattle.routing_law.proofs.Sound.{Backed, backed}
+use Rattle.routing_law.proofs.Steps.{announcements_are_steps, imports_are_steps, own_routes_are_starts}
 
 -- what the route z of u is in the graph: the same path, and the node of its tag at the end of the run
-pub record Behind (w : World) (tag : ℕ → Tag) (s : Routes) (u : ℕ) (z : LineRoute) : Type 0 where
+pub record Behind (w : Setup) (tag : ℕ → Tag) (s : Routes) (u : ℕ) (z : LineRoute) : Type 0 where
   pub rest : List ℕ
   pub node : ℕ
   pub has : s u ≡ Some (record { path = u ∷ rest; node = node })
@@ -23,7 +23,7 @@ pub record Behind (w : World) (tag : ℕ → Tag) (s : Routes) (u : ℕ) (z : Li
   pub tag_is : z.tag ≡ tag node
 
 -- what the route x is in the graph, which v is given by u
-pub record Given (w : World) (tag : ℕ → Tag) (s : Routes) (v u : ℕ) (x : LineRoute) : Type 0 where
+pub record Given (w : Setup) (tag : ℕ → Tag) (s : Routes) (v u : ℕ) (x : LineRoute) : Type 0 where
   pub rest : List ℕ
   pub node : ℕ
   pub gives : heard w s v u ≡ Some (record { path = v ∷ u ∷ rest; node = node })
@@ -32,22 +32,17 @@ pub record Given (w : World) (tag : ℕ → Tag) (s : Routes) (v u : ℕ) (x : L
   pub tag_is : x.tag ≡ tag node
   pub pref_is : x.pref ≡ w.graph.number node
 
-pub record Tied (w : World) (tag : ℕ → Tag) (c : Lines) (r : LineRoutes) (s : Routes) : Type 0 where
+pub record Tied (w : Setup) (tag : ℕ → Tag) (c : Lines) (r : LineRoutes) (s : Routes) : Type 0 where
   pub backed : Backed w s
   pub down : (u v : ℕ) (z : LineRoute) → w.net.router u ≡ true → r u ≡ Some z → c.exported u v z.tag ≡ true → Behind w tag s u z
   pub up : (u : ℕ) (y : Route) → w.net.router u ≡ true → s u ≡ Some y → (z : LineRoute) × (r u ≡ Some z) × (z.path ≡ y.path) × (z.tag ≡ tag y.node)
 
--- a node at an origin is its start
-pub start_is : {net : Network} {g : Graph} → WellFormed net g → (u n : ℕ) → n < g.nodes → g.place n ≡ u → net.origin u ≡ true → g.start u ≡ Some n
-start_is {net} {g} wf u n b at o = ap g.start (sym at) ∙ wf.origin_start n b (ap net.origin at ∙ o)
-
-module _ (w : World) (tag : ℕ → Tag) (c : Lines) (written : Written w.net w.graph tag c) (r : LineRoutes) (s : Routes) where
+module _ (w : Setup) (tag : ℕ → Tag) (c : Lines) (written : Written w.net w.graph tag c) (r : LineRoutes) (s : Routes) where
   -- of an origin's own route, where it is exported
   pub own_down : (u v : ℕ) (z : LineRoute) → w.net.router u ≡ true → w.net.origin u ≡ true → w.alive.live u ≡ true → s u ≡ own_route w u → own_line c u ≡ z → c.exported u v z.tag ≡ true → Behind w tag s u z
   own_down u v z ro o l own e ex =
-      let a = written.lines.exports_only u v z.tag ro ex in
-      let start = start_is written.formed u a.0 a.2.node a.2.place o in
-      record { rest = []; node = a.0; has = own ∙ own_from w u a.0 l start; begins = ap (λ (y : LineRoute). y.path) (sym e); runs = start; tag_is = sym a.3 }
+      let a = own_routes_are_starts w.net w.graph tag c written u v ro o (ap (λ (y : LineRoute). c.exported u v y.tag) e ∙ ex) in
+      record { rest = []; node = a.0; has = own ∙ own_from w u a.0 l a.1; begins = ap (λ (y : LineRoute). y.path) (sym e); runs = a.1; tag_is = ap (λ (y : LineRoute). y.tag) (sym e) ∙ a.2 }
 
   -- where the neighbour's route is one of the graph, so is what it gives
   pub heard_down : (v u : ℕ) (x : LineRoute) → w.net.router v ≡ true → line_heard w.net w.alive c r v u ≡ Some x → ((o : ℕ) → w.net.origin o ≡ true → s o ≡ own_route w o)
@@ -58,18 +53,15 @@ module _ (w : World) (tag : ℕ → Tag) (c : Lines) (written : Written w.net w.
     where
       from_router : (z : LineRoute) (q : Tag × ℕ) → w.net.router u ≡ true → w.alive.carries u v ≡ true → stands_on v z.path ≡ false → c.imported v u z.tag ≡ Some q → taken_by v z.path q ≡ x → Behind w tag s u z → Given w tag s v u x
       from_router z q ro k off im e b =
-          let l = written.lines.imports_only u v z.tag q ro rv im in
-          let at = run_place written.formed u b.rest b.node b.runs in
-          let same : l.0 ≡ b.node = written.tags l.0 b.node l.2.node (node_below written.formed b.rest u b.node b.runs) (ap w.net.router l.2.place ∙ ro) (l.2.place ∙ sym at) (l.3 ∙ b.tag_is) in
-          let step : w.graph.next b.node v ≡ Some l.1 = ap (λ n. w.graph.next n v) (sym same) ∙ l.2.step in
+          let a = imports_are_steps w.net w.graph tag c written u v b.node b.rest q ro rv b.runs (ap (c.imported v u) (sym b.tag_is) ∙ im) in
           record {
             rest = b.rest;
-            node = l.1;
-            gives = heard_from w s v u (record { path = u ∷ b.rest; node = b.node }) l.1 b.has k (ap (stands_on v) (sym b.begins) ∙ off) step;
+            node = a.0;
+            gives = heard_from w s v u (record { path = u ∷ b.rest; node = b.node }) a.0 b.has k (ap (stands_on v) (sym b.begins) ∙ off) a.1;
             begins = ap (λ (y : LineRoute). y.path) (sym e) ∙ ap (λ p. v ∷ p) b.begins;
-            runs = ap (option_and_then (λ n. w.graph.next n v)) b.runs ∙ step;
-            tag_is = ap (λ (y : LineRoute). y.tag) (sym e) ∙ ap (λ (p : Tag × ℕ). p.0) l.4;
-            pref_is = ap (λ (y : LineRoute). y.pref) (sym e) ∙ ap (λ (p : Tag × ℕ). p.1) l.4;
+            runs = ap (option_and_then (λ n. w.graph.next n v)) b.runs ∙ a.1;
+            tag_is = ap (λ (y : LineRoute). y.tag) (sym e) ∙ ap (λ (p : Tag × ℕ). p.0) a.2;
+            pref_is = ap (λ (y : LineRoute). y.pref) (sym e) ∙ ap (λ (p : Tag × ℕ). p.1) a.2;
           }
 
       other : w.net.router u ≡ false → (t : Bool) → eqb v u ≡ t → stands_on v (u ∷ []) ≡ false
@@ -78,16 +70,15 @@ module _ (w : World) (tag : ℕ → Tag) (c : Lines) (written : Written w.net w.
 
       from_peer : (q : Tag × ℕ) → w.net.router u ≡ false → w.alive.carries u v ≡ true → w.net.origin u ≡ true → w.alive.live u ≡ true → c.from_peer v u ≡ Some q → taken_by v (u ∷ []) q ≡ x → Given w tag s v u x
       from_peer q ru k o l im e =
-          let d = written.lines.peers_only u v q ru rv im in
-          let start = start_is written.formed u d.0 d.2.node d.2.place o in
+          let a = announcements_are_steps w.net w.graph tag c written u v q ru rv o im in
           record {
             rest = [];
-            node = d.1;
-            gives = heard_from w s v u (record { path = u ∷ []; node = d.0 }) d.1 (own u o ∙ own_from w u d.0 l start) k (other ru (eqb v u) refl) d.2.step;
+            node = a.1;
+            gives = heard_from w s v u (record { path = u ∷ []; node = a.0 }) a.1 (own u o ∙ own_from w u a.0 l a.2) k (other ru (eqb v u) refl) a.3;
             begins = ap (λ (y : LineRoute). y.path) (sym e);
-            runs = ap (option_and_then (λ n. w.graph.next n v)) start ∙ d.2.step;
-            tag_is = ap (λ (y : LineRoute). y.tag) (sym e) ∙ ap (λ (p : Tag × ℕ). p.0) d.3;
-            pref_is = ap (λ (y : LineRoute). y.pref) (sym e) ∙ ap (λ (p : Tag × ℕ). p.1) d.3;
+            runs = ap (option_and_then (λ n. w.graph.next n v)) a.2 ∙ a.3;
+            tag_is = ap (λ (y : LineRoute). y.tag) (sym e) ∙ ap (λ (p : Tag × ℕ). p.0) a.4;
+            pref_is = ap (λ (y : LineRoute). y.pref) (sym e) ∙ ap (λ (p : Tag × ℕ). p.1) a.4;
           }
 
       by : (b : Bool) → w.net.router u ≡ b → w.alive.carries u v ≡ true → cond b (option_and_then (line_extended c v u) (r u)) (line_announced w.net w.alive c v u) ≡ Some x → Given w tag s v u x

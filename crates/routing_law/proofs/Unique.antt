@@ -3,8 +3,8 @@ use Rattle.std.proofs.Common.{◌≡◌, ℕ, zero, suc, ◌<◌, ◌≤◌, tru
 use Rattle.std.proofs.lemmas.Bool.{or_right}
 use Rattle.routing_law.specs.Graph.{WellFormed, run}
 use Rattle.routing_law.specs.Laws.{GraphOutcomeIsUnique}
-use Rattle.routing_law.specs.Network.{chooses, giver, survives}
-use Rattle.routing_law.specs.Outcome.{FullyStable, NoLater, Route, Routes, Stable, World, heard}
+use Rattle.routing_law.specs.Network.{NamesDiffer, chooses, giver, survives}
+use Rattle.routing_law.specs.Outcome.{FullyStable, NoLater, Route, Routes, Setup, Stable, heard}
 use Rattle.routing_law.proofs.Heard.{chooses_from, chooses_parts, heard_parts}
 use Rattle.routing_law.proofs.Highest.{over}
 use Rattle.routing_law.proofs.Rules.{Everywhere, everywhere}
@@ -15,12 +15,12 @@ use Rattle.routing_law.proofs.Sound.{Taken, backed, giver_is, heard_again, how, 
 abbrev AtMost : Routes → Routes → ℕ → Type 0
 AtMost r s k = (v : ℕ) (x : Route) → length x.path ≤ k → r v ≡ Some x → s v ≡ Some x
 
-size_of : (w : World) → WellFormed w.net w.graph → (r : Routes) → Stable w r → (v : ℕ) (x : Route) → r v ≡ Some x → v < w.net.size
+size_of : (w : Setup) → WellFormed w.net w.graph → (r : Routes) → Stable w r → (v : ℕ) (x : Route) → r v ≡ Some x → v < w.net.size
 size_of w wf r s v x h =
     let a = sound w r s v x h in
     place_below wf a.rest v x.node (subst (λ p. run w.graph p ≡ Some x.node) a.begins a.runs)
 
-module _ (w : World) (wf : WellFormed w.net w.graph) (ev : Everywhere w.net w.graph) where
+module _ (w : Setup) (differ : NamesDiffer w.net) (wf : WellFormed w.net w.graph) (ev : Everywhere w.net w.graph) where
   -- where one outcome has a route, the other has one with a number at least as high
   as_high : (r s : Routes) → Stable w r → Stable w s → (v : ℕ) (x : Route) → chooses w.net w.alive v ≡ true → r v ≡ Some x → (y : Route) × (s v ≡ Some y) × (w.graph.number x.node ≤ w.graph.number y.node)
   as_high r s sr ss v x c h =
@@ -44,7 +44,7 @@ module _ (w : World) (wf : WellFormed w.net w.graph) (ev : Everywhere w.net w.gr
       let here = heard_again w s r v g.0 a.0 ys (sr g.0 ys.from (omega (arith, length_is w s v g.0 a.0 ys, nl.fewer same)) ys.has) in
       let on = fr.first v g.0 x a.0 c h here in
       let names : w.net.name t.from ≡ w.net.name g.0 = names_same t.from g.0 a.0 (giver_is w r (backed w r fr.stable) v t.from x xr) (giver_is w s (backed w s fs.stable) v g.0 a.0 ys) same nl on in
-      a.1 ∙ sym g.1 ∙ ap (heard w s v) (sym (wf.names t.from g.0 (size_of w wf r fr.stable t.from xr.from xr.has) (size_of w wf s fs.stable g.0 ys.from ys.has) names)) ∙ there
+      a.1 ∙ sym g.1 ∙ ap (heard w s v) (sym (differ t.from g.0 (size_of w wf r fr.stable t.from xr.from xr.has) (size_of w wf s fs.stable g.0 ys.from ys.has) names)) ∙ there
     where
       names_same : (u u' : ℕ) (y : Route) → giver x.path ≡ u → giver y.path ≡ u' → w.graph.number x.node ≡ w.graph.number y.node → NoLater w y x → NoLater w x y → w.net.name u ≡ w.net.name u'
       names_same u u' y e f same nl on =
@@ -73,4 +73,4 @@ module _ (w : World) (wf : WellFormed w.net w.graph) (ev : Everywhere w.net w.gr
       both None (Some y) e f = sym e ∙ agree s r fs fr (length y.path) v y (omega arith) f
 
 pub unique : GraphOutcomeIsUnique
-unique w r s wf rules fr fs v = the_same w wf (everywhere w.net w.graph wf rules) r s fr fs v
+unique w r s differ wf rules fr fs v = the_same w differ wf (everywhere w.net w.graph wf rules) r s fr fs v

@@ -7,7 +7,7 @@ use Rattle.routing_law.specs.Graph.{run}
 use Rattle.routing_law.specs.Laws.{GoodOffer, GoodRoute, LinesAreRight, NumberIsGreatest, PlainNumbersPass, Sound, UsedPathsAreSound}
 use Rattle.routing_law.specs.Lines.{LineRoute, LineRoutes, Lines, LinesStable, Tag, offered, offered_of}
 use Rattle.routing_law.specs.Network.{loop_free, stands_on, survives}
-use Rattle.routing_law.specs.Outcome.{Route, Routes, Same, Stable, World, with_nodes}
+use Rattle.routing_law.specs.Outcome.{Route, Routes, Same, Setup, Stable, with_nodes}
 use Rattle.routing_law.specs.Settling.{reached}
 use Rattle.routing_law.specs.Spells.{Written}
 use Rattle.routing_law.proofs.Bridge.{graph_stable, live_of, same_routes, tied_nodes}
@@ -15,8 +15,9 @@ use Rattle.routing_law.proofs.Heard.{chooses_from}
 use Rattle.routing_law.proofs.Highest.{chosen_is_reached, greatest, over}
 use Rattle.routing_law.proofs.Options.{bind_some, unless_some, when_some}
 use Rattle.routing_law.proofs.Right.{best_offer, best_rank}
-use Rattle.routing_law.proofs.Runs.{first_lives, node_below, run_place}
+use Rattle.routing_law.proofs.Runs.{first_lives}
 use Rattle.routing_law.proofs.Sound.{sound}
+use Rattle.routing_law.proofs.Steps.{exports_are_steps}
 use Rattle.routing_law.proofs.Tied.{Tied, step_of}
 
 pub plain_numbers_pass : PlainNumbersPass
@@ -28,7 +29,7 @@ plain_numbers_pass w one same = record {
 }
 
 -- a route that is good in the graph is good
-module _ (w : World) (tag : ℕ → Tag) where
+module _ (w : Setup) (tag : ℕ → Tag) where
   good_route : (s : Routes) (v : ℕ) (x : LineRoute) (y : Route) → Sound w s v y → Same w.graph tag x y → GoodRoute w tag v x
   good_route s v x y a e = record {
     rest = a.rest;
@@ -41,7 +42,7 @@ module _ (w : World) (tag : ℕ → Tag) where
     pref_is = e.pref_is;
   }
 
-module _ (w : World) (tag : ℕ → Tag) (c : Lines) (r : LineRoutes) (written : Written w.net w.graph tag c) (stable : LinesStable w.net w.alive c r) where
+module _ (w : Setup) (tag : ℕ → Tag) (c : Lines) (r : LineRoutes) (written : Written w.net w.graph tag c) (stable : LinesStable w.net w.alive c r) where
   graph : Stable w (with_nodes w r)
   graph = graph_stable w tag c r written stable
 
@@ -64,13 +65,10 @@ module _ (w : World) (tag : ℕ → Tag) (c : Lines) (r : LineRoutes) (written :
       let e = when_some (c.exported u p b.0.tag) (cond (stands_on p b.0.path) None (Some (p ∷ b.0.path))) q b.2 in
       let f = unless_some (stands_on p b.0.path) (Some (p ∷ b.0.path)) q e.1 in
       let y = tied.down u p b.0 ro b.1 e.0 in
-      let x = written.lines.exports_only u p b.0.tag ro e.0 in
-      let at = run_place written.formed u y.rest y.node y.runs in
-      let same : x.0 ≡ y.node = written.tags x.0 y.node x.2.node (node_below written.formed y.rest u y.node y.runs) (ap w.net.router x.2.place ∙ ro) (x.2.place ∙ sym at) (x.3 ∙ y.tag_is) in
-      let step : w.graph.next y.node p ≡ Some x.1 = ap (λ n. w.graph.next n p) (sym same) ∙ x.2.step in
+      let x = exports_are_steps w.net w.graph tag c written u p y.node y.rest ro y.runs (ap (c.exported u p) (sym y.tag_is) ∙ e.0) in
       let s = sound w (with_nodes w r) graph u (record { path = u ∷ y.rest; node = y.node }) y.has in
-      offer y.rest x.1 (sym (same_Some (p ∷ b.0.path) q f.1) ∙ ap (λ z. p ∷ z) y.begins) (and_from (not (stands_on p (u ∷ y.rest))) (loop_free (u ∷ y.rest)) (ap not (ap (stands_on p) (sym y.begins) ∙ f.0)) s.free)
-      (and_from (w.alive.live p) (w.alive.carries u p && survives w.alive (u ∷ y.rest)) l (and_from (w.alive.carries u p) (survives w.alive (u ∷ y.rest)) a.0 s.lives)) (ap (option_and_then (λ n. w.graph.next n p)) y.runs ∙ step)
+      offer y.rest x.0 (sym (same_Some (p ∷ b.0.path) q f.1) ∙ ap (λ z. p ∷ z) y.begins) (and_from (not (stands_on p (u ∷ y.rest))) (loop_free (u ∷ y.rest)) (ap not (ap (stands_on p) (sym y.begins) ∙ f.0)) s.free)
+      (and_from (w.alive.live p) (w.alive.carries u p && survives w.alive (u ∷ y.rest)) l (and_from (w.alive.carries u p) (survives w.alive (u ∷ y.rest)) a.0 s.lives)) (ap (option_and_then (λ n. w.graph.next n p)) y.runs ∙ x.1)
     where
       offer : (rest : List ℕ) (node : ℕ) → q ≡ p ∷ u ∷ rest → loop_free (p ∷ u ∷ rest) ≡ true → survives w.alive (p ∷ u ∷ rest) ≡ true → run w.graph (p ∷ u ∷ rest) ≡ Some node → GoodOffer w u p q
       offer rest node e free lives runs = record { rest = rest; begins = e; free = ap loop_free e ∙ free; lives = ap (survives w.alive) e ∙ lives; node = node; runs = ap (run w.graph) e ∙ runs }

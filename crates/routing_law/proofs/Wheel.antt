@@ -3,7 +3,7 @@ use Rattle.std.proofs.Common.{◌≡◌, ℕ, zero, suc, ◌+◌, ◌-◌, ◌<�
 use Rattle.std.proofs.lemmas.Bool.{and_parts, false≢true}
 use Rattle.routing_law.specs.Graph.{AtLeast, Reaches, WellFormed, follow, run}
 use Rattle.routing_law.specs.Network.{chooses, stands_on, survives}
-use Rattle.routing_law.specs.Outcome.{Route, Routes, World, heard}
+use Rattle.routing_law.specs.Outcome.{Route, Routes, Setup, heard}
 use Rattle.routing_law.specs.Settling.{Tops}
 use Rattle.routing_law.proofs.Heard.{chooses_from, chooses_parts, heard_from, own_from}
 use Rattle.routing_law.proofs.Highest.{known_of, place_of}
@@ -14,22 +14,22 @@ use Rattle.routing_law.proofs.Saturate.{comes_again}
 use Rattle.routing_law.proofs.Sound.{Backed, Origin, Taken, how, sound_of}
 
 -- v isn't settled, though a node is reached at it
-pub record Left (w : World) (r : Routes) (t : Tops w) (v : ℕ) : Type 0 where
+pub record Left (w : Setup) (r : Routes) (t : Tops w) (v : ℕ) : Type 0 where
   pub chooses : chooses w.net w.alive v ≡ true
   pub none : r v ≡ None
   pub top : ℕ
   pub is_top : t.top v ≡ Some top
 
-abbrev AllRouters : World → List ℕ → Type 0
+abbrev AllRouters : Setup → List ℕ → Type 0
 AllRouters w [] = Unit {0}
 AllRouters w (z ∷ zs) = (w.net.router z ≡ true) × AllRouters w zs
 
-all_more : (w : World) (zs : List ℕ) (u : ℕ) → AllRouters w zs → w.net.router u ≡ true → AllRouters w (zs ++ u ∷ [])
+all_more : (w : Setup) (zs : List ℕ) (u : ℕ) → AllRouters w zs → w.net.router u ≡ true → AllRouters w (zs ++ u ∷ [])
 all_more w [] u a h = (h, tt)
 all_more w (z ∷ zs) u a h = (a.0, all_more w zs u a.1 h)
 
 -- the way from the last entry into what is left, at hub by the node entry, to n at v
-record Arc (w : World) (r : Routes) (t : Tops w) (v n : ℕ) : Type 0 where
+record Arc (w : Setup) (r : Routes) (t : Tops w) (v n : ℕ) : Type 0 where
   hub : ℕ
   entry : ℕ
   last : ℕ
@@ -42,7 +42,7 @@ record Arc (w : World) (r : Routes) (t : Tops w) (v n : ℕ) : Type 0 where
   runs : follow w.graph entry front ≡ Some last
   step : w.graph.next last v ≡ Some n
 
-along : (w : World) → WellFormed w.net w.graph → Everywhere w.net w.graph → (zs : List ℕ) (m e n : ℕ) → AllRouters w zs → AtLeast w.graph m e → follow w.graph e zs ≡ Some n → (k : ℕ) × (follow w.graph m zs ≡ Some k) × AtLeast w.graph k n
+along : (w : Setup) → WellFormed w.net w.graph → Everywhere w.net w.graph → (zs : List ℕ) (m e n : ℕ) → AllRouters w zs → AtLeast w.graph m e → follow w.graph e zs ≡ Some n → (k : ℕ) × (follow w.graph m zs ≡ Some k) × AtLeast w.graph k n
 along w wf ev [] m e n a al h = let en : e ≡ n = cc in (m, refl, subst (AtLeast w.graph m) en al)
 along w wf ev (z ∷ zs) m e n a al h =
     let b = bind_some (λ j. follow w.graph j zs) (w.graph.next e z) n h in
@@ -52,19 +52,19 @@ along w wf ev (z ∷ zs) m e n a al h =
     (d.0, rw c.1 d.1, d.2)
 
 -- each settled router has its best number
-abbrev pub Topped : (w : World) (r : Routes) → Tops w → Type 0
+abbrev pub Topped : (w : Setup) (r : Routes) → Tops w → Type 0
 Topped w r t = (v : ℕ) (x : Route) → chooses w.net w.alive v ≡ true → r v ≡ Some x → (n : ℕ) × (t.top v ≡ Some n) × (w.graph.number n ≤ w.graph.number x.node)
 
 -- no router that is left is given its best number
-abbrev pub Stuck : (w : World) (r : Routes) → Tops w → Type 0
+abbrev pub Stuck : (w : Setup) (r : Routes) → Tops w → Type 0
 Stuck w r t = (v u n : ℕ) (x : Route) → chooses w.net w.alive v ≡ true → r v ≡ None → t.top v ≡ Some n → heard w r v u ≡ Some x → w.graph.number x.node < w.graph.number n
 
 -- a router that is left
-record Spoke (w : World) (r : Routes) (t : Tops w) : Type 0 where
+record Spoke (w : Setup) (r : Routes) (t : Tops w) : Type 0 where
   at : ℕ
   left : Left w r t at
 
-module _ (w : World) (wf : WellFormed w.net w.graph) (ev : Everywhere w.net w.graph) (r : Routes) (bk : Backed w r) (t : Tops w) (topped : Topped w r t) (stuck : Stuck w r t) where
+module _ (w : Setup) (wf : WellFormed w.net w.graph) (ev : Everywhere w.net w.graph) (r : Routes) (bk : Backed w r) (t : Tops w) (topped : Topped w r t) (stuck : Stuck w r t) where
   -- a walk's node at a settled location is no higher than the route's
   high_enough : (u m : ℕ) (q : List ℕ) (y : Route) → run w.graph (u ∷ q) ≡ Some m → survives w.alive (u ∷ q) ≡ true → r u ≡ Some y → AtLeast w.graph y.node m
   high_enough u m q y h l e = record { known = known_of w wf r bk u y e; other = node_below wf q u m h; place = place_of w wf r bk u y e ∙ sym (run_place wf u q m h); number = number (how w r bk u y e) }

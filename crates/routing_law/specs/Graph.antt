@@ -39,8 +39,6 @@ pub record WellFormed (net : Network) (g : Graph) : Type 0 where
   pub next_below : (n z m : ℕ) → g.next n z ≡ Some m → (n < g.nodes) × (z < net.size) × (m < g.nodes)
   pub next_origin : (n z m : ℕ) → g.next n z ≡ Some m → net.origin z ≡ false
   pub next_from : (n z m : ℕ) → g.next n z ≡ Some m → (net.origin (g.place n) || net.router (g.place n)) ≡ true
-  -- identifiers differ
-  pub names : (u v : ℕ) → u < net.size → v < net.size → net.name u ≡ net.name v → u ≡ v
 
 -- m and n are nodes at one location, and the number of m is at least that of n
 pub record AtLeast (g : Graph) (m n : ℕ) : Type 0 where

@@ -1,5 +1,5 @@
 -- A network, what of it is alive, and paths through it.
-use Rattle.std.specs.Prelude.{ℕ, ◌==◌, Bool, true, false, not, ◌&&◌, ◌||◌, List, [], ◌∷◌, if◌then◌else◌}
+use Rattle.std.specs.Prelude.{ℕ, ◌≡◌, ◌<◌, ◌==◌, Bool, true, false, not, ◌&&◌, ◌||◌, List, [], ◌∷◌, if◌then◌else◌}
 
 -- locations are numbers; one that is no router is a peer
 pub record Network : Type 0 where
@@ -10,6 +10,10 @@ pub record Network : Type 0 where
   pub origin : ℕ → Bool
   -- the identifier of a location, by which ties are broken
   pub name : ℕ → ℕ
+
+-- identifiers differ
+abbrev pub NamesDiffer : Network → Type 0
+NamesDiffer net = (u v : ℕ) → u < net.size → v < net.size → net.name u ≡ net.name v → u ≡ v
 
 -- what failures leave
 pub record Alive : Type 0 where

@@ -2,8 +2,8 @@
 #![tactic(auto)]
 
 ghost use Rattle.routing_law.specs.Laws.{
-    GraphIsLines, GraphNodeIsReached, GraphNumberIsGreatest, GraphOutcomeExists, GraphOutcomeIsUnique, GraphPathsAreSound, LinesAreGraph, LinesAreRight, NumberIsGreatest, OfferIsBest, OutcomeExists,
-    OutcomeIsUnique, PlainNumbersPass, RankIsBest, UsedPathsAreSound,
+    AnnouncementsAreSteps, ExportsAreSteps, GraphIsLines, GraphNodeIsReached, GraphNumberIsGreatest, GraphOutcomeExists, GraphOutcomeIsUnique, GraphPathsAreSound, ImportsAreSteps, LinesAreGraph, LinesAreRight, NumberIsGreatest, OfferIsBest, OutcomeExists,
+    OutcomeIsUnique, OwnRoutesAreStarts, PlainNumbersPass, RankIsBest, UsedPathsAreSound,
 };
 ghost use Rattle.routing_law.specs.Settling.{ReachEnds, SettlingEnds};
 
@@ -30,6 +30,15 @@ pub fn outcome_exists()
 /// Any two outcomes with ties broken give each router the same.
 pub fn outcome_is_unique()
     ensures { OutcomeIsUnique }
+{}
+
+/// One line is one step: a route goes on only where its node does, under the tag and the number of the next node. Of use where
+/// routes are followed one message at a time.
+pub fn lines_are_steps()
+    ensures exports { ExportsAreSteps }
+    ensures imports { ImportsAreSteps }
+    ensures own { OwnRoutesAreStarts }
+    ensures peers { AnnouncementsAreSteps }
 {}
 
 /// A stable outcome of the lines is one of the graph, and one of the graph with ties broken is one of the lines.
