@@ -1,7 +1,6 @@
 -- An outcome of the graph is one of the lines.
 use Rattle.std.proofs.Common.{◌≡◌, ℕ, ◌≤◌, Bool, true, false, cond, ◌∷◌, Option, Some, None, refl, sym, ap, ◌∙◌, subst}
 use Rattle.std.specs.Option.{option_map}
-use Rattle.std.proofs.lemmas.Bool.{false≢true}
 use Rattle.std.proofs.lemmas.Option.{same_Some}
 use Rattle.routing_law.specs.Graph.{Graph, MeetsRules, run}
 use Rattle.routing_law.specs.Laws.{GraphIsLines, OutcomeExists, OutcomeIsUnique}

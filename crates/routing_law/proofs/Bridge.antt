@@ -1,5 +1,5 @@
 -- A stable outcome of the lines is one of the graph.
-use Rattle.std.proofs.Common.{◌≡◌, ℕ, ◌≤◌, Bool, true, false, cond, List, [], ◌∷◌, Option, Some, None, refl, sym, ap, ◌∙◌, subst}
+use Rattle.std.proofs.Common.{◌≡◌, ℕ, ◌≤◌, Bool, true, false, List, [], ◌∷◌, Some, None, refl, sym, ap, ◌∙◌, subst}
 use Rattle.std.specs.Option.{option_map, option_and_then}
 use Rattle.std.proofs.lemmas.Bool.{false≢true}
 use Rattle.std.proofs.lemmas.Option.{same_Some}
@@ -11,7 +11,7 @@ use Rattle.routing_law.specs.Outcome.{Route, Same, SameRoutes, Setup, Stable, he
 use Rattle.routing_law.specs.Spells.{Written}
 use Rattle.routing_law.proofs.Heard.{chooses_from, chooses_parts, own_parts}
 use Rattle.routing_law.proofs.Options.{bind_some}
-use Rattle.routing_law.proofs.Sound.{Backed, backed}
+use Rattle.routing_law.proofs.Sound.{Backed}
 use Rattle.routing_law.proofs.Tied.{Behind, Given, Tied, given_up, heard_down, own_down}
 
 -- what with_nodes gives, by who holds the route

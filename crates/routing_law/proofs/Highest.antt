@@ -1,5 +1,5 @@
 -- A live router's number is at least that of each node that is reached at it.
-use Rattle.std.proofs.Common.{◌≡◌, ℕ, ◌<◌, ◌≤◌, Bool, true, false, ◌&&◌, ◌||◌, List, [], ◌∷◌, ◌++◌, Some, eqb, refl, sym, ap, ◌∙◌, subst, arith}
+use Rattle.std.proofs.Common.{◌≡◌, ℕ, ◌<◌, ◌≤◌, Bool, true, false, ◌&&◌, ◌||◌, List, [], ◌∷◌, Some, refl, sym, ap, ◌∙◌, subst, arith}
 use Rattle.std.proofs.lemmas.Bool.{and_parts, or_right}
 use Rattle.routing_law.specs.Graph.{AtLeast, WellFormed, run}
 use Rattle.routing_law.specs.Laws.{GraphNodeIsReached, GraphNumberIsGreatest}

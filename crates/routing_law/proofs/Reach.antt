@@ -6,7 +6,6 @@ use Rattle.routing_law.specs.Graph.{WellFormed, run}
 use Rattle.routing_law.specs.Network.{survives}
 use Rattle.routing_law.specs.Outcome.{ReachedAt, Setup}
 use Rattle.routing_law.specs.Settling.{Marks, ReachEnds, Tops, Within, any_below, is_node, reached, reached_at, steps_on, top_at}
-use Rattle.routing_law.proofs.Highest.{over}
 use Rattle.routing_law.proofs.Runs.{node_below, run_more, run_place}
 use Rattle.routing_law.proofs.Saturate.{IsHighest, comes_to_rest, highest_is}
 

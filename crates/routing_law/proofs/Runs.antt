@@ -1,5 +1,5 @@
 -- Runs of a graph along paths, and ways from node to node.
-use Rattle.std.proofs.Common.{◌≡◌, ℕ, ◌<◌, Bool, true, false, ◌&&◌, ◌||◌, List, [], ◌∷◌, ◌++◌, Some, eqb, refl, sym, ap, ◌∙◌, subst}
+use Rattle.std.proofs.Common.{◌≡◌, ℕ, ◌<◌, Bool, true, false, ◌&&◌, ◌||◌, ◌⊎◌, inl, inr, List, [], ◌∷◌, ◌++◌, Some, eqb, refl, sym, ap, ◌∙◌, subst}
 use Rattle.std.proofs.lemmas.Bool.{and_parts, eqb-true, false≢true}
 use Rattle.routing_law.specs.Graph.{Graph, Reaches, WellFormed, follow, run}
 use Rattle.routing_law.specs.Network.{Alive, Network, stands_on, survives}
@@ -63,11 +63,27 @@ run_passes g (f ∷ fs) back v m h = onto (fs ++ v ∷ back) refl (λ n. run_pas
         let b = again a.0 (ap (run g) e ∙ a.1) in
         (b.0, b.1, (b.2.0 ++ f ∷ [], follow_more g b.2.0 b.0 a.0 f m b.2.1 a.2))
 
+-- a node at an origin is its start
+pub start_is : {net : Network} {g : Graph} → WellFormed net g → (u n : ℕ) → n < g.nodes → g.place n ≡ u → net.origin u ≡ true → g.start u ≡ Some n
+start_is {net} {g} wf u n b at o = ap g.start (sym at) ∙ wf.origin_start n b (ap net.origin at ∙ o)
+
+-- the last step of a way
+pub follow_last : {net : Network} {g : Graph} → WellFormed net g → (zs : List ℕ) (k m : ℕ) → follow g k zs ≡ Some m → (k ≡ m) ⊎ ((l : ℕ) × Reaches g k l × (g.next l (g.place m) ≡ Some m))
+follow_last wf [] k m h = inl (cc)
+follow_last {net} {g} wf (z ∷ zs) k m h =
+    let a = bind_some (λ j. follow g j zs) (g.next k z) m h in
+    by a.0 a.1 (follow_last wf zs a.0 m a.2)
+  where
+    by : (j : ℕ) → g.next k z ≡ Some j → (j ≡ m) ⊎ ((l : ℕ) × Reaches g j l × (g.next l (g.place m) ≡ Some m)) → (k ≡ m) ⊎ ((l : ℕ) × Reaches g k l × (g.next l (g.place m) ≡ Some m))
+    by j e (inl jm) =
+        let at : g.place m ≡ z = ap g.place (sym jm) ∙ wf.next_place k z j e in
+        inr (k, ([], refl), ap (g.next k) at ∙ e ∙ ap Some jm)
+    by j e (inr x) = inr (x.0, (z ∷ x.1.0, rw e x.1.1), x.2)
+
 -- no way ends in a start but the one that begins there
 pub follow_origin : {net : Network} {g : Graph} → WellFormed net g → (zs : List ℕ) (k m : ℕ) → follow g k zs ≡ Some m → net.origin (g.place m) ≡ true → k ≡ m
-follow_origin wf [] k m h o = cc
-follow_origin {net} {g} wf (z ∷ zs) k m h o =
-    let a = bind_some (λ j. follow g j zs) (g.next k z) m h in
-    let jm = follow_origin wf zs a.0 m a.2 o in
-    let at : g.place m ≡ z = ap g.place (sym jm) ∙ wf.next_place k z a.0 a.1 in
-    absurd (false≢true (sym (wf.next_origin k z a.0 a.1) ∙ ap net.origin (sym at) ∙ o))
+follow_origin {net} {g} wf zs k m h o =
+    elim (follow_last wf zs k m h) [
+      | inl e ↦ e
+      | inr l ↦ absurd (false≢true (sym (wf.next_origin l.0 (g.place m) m l.2) ∙ o))
+    ]

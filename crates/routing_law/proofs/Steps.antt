@@ -1,16 +1,12 @@
 -- One line is one step: since tags differ, the step that a line stands for is the step of the node of the tag.
-use Rattle.std.proofs.Common.{◌≡◌, ℕ, ◌<◌, true, false, List, ◌∷◌, Some, sym, ap, ◌∙◌}
-use Rattle.routing_law.specs.Graph.{Graph, WellFormed, run}
+use Rattle.std.proofs.Common.{◌≡◌, ℕ, true, List, ◌∷◌, Some, sym, ap, ◌∙◌}
+use Rattle.routing_law.specs.Graph.{Graph, run}
 use Rattle.routing_law.specs.Laws.{AnnouncementsAreSteps, ExportsAreSteps, ImportsAreSteps, OwnRoutesAreStarts}
 use Rattle.routing_law.specs.Lines.{Lines, Tag}
 use Rattle.routing_law.specs.Network.{Network}
 use Rattle.routing_law.specs.Spells.{StepOver, Written}
 use Rattle.routing_law.proofs.Highest.{over}
-use Rattle.routing_law.proofs.Runs.{node_below, run_place}
-
--- a node at an origin is its start
-start_is : {net : Network} {g : Graph} → WellFormed net g → (u n : ℕ) → n < g.nodes → g.place n ≡ u → net.origin u ≡ true → g.start u ≡ Some n
-start_is {net} {g} wf u n b at o = ap g.start (sym at) ∙ wf.origin_start n b (ap net.origin at ∙ o)
+use Rattle.routing_law.proofs.Runs.{node_below, run_place, start_is}
 
 -- a step over a line with the tag of a run's node is a step of that node
 same_step : (net : Network) (g : Graph) (tag : ℕ → Tag) (c : Lines) → Written net g tag c → (u v n k m : ℕ) (rest : List ℕ) → net.router u ≡ true → run g (u ∷ rest) ≡ Some n → StepOver g u v k m → tag k ≡ tag n → g.next n v ≡ Some m

@@ -1,5 +1,5 @@
 -- An outcome of the lines and one of the graph that go together: what the one gives, the other does.
-use Rattle.std.proofs.Common.{◌≡◌, ℕ, ◌<◌, Bool, true, false, cond, ◌&&◌, List, [], ◌∷◌, Option, Some, None, eqb, refl, sym, ap, ◌∙◌, subst}
+use Rattle.std.proofs.Common.{◌≡◌, ℕ, Bool, true, false, cond, ◌&&◌, List, [], ◌∷◌, Some, None, eqb, refl, sym, ap, ◌∙◌}
 use Rattle.std.specs.Option.{option_map, option_and_then}
 use Rattle.std.proofs.lemmas.Bool.{and_parts, false≢true, eqb-true}
 use Rattle.routing_law.specs.Graph.{run}
@@ -8,9 +8,9 @@ use Rattle.routing_law.specs.Network.{stands_on}
 use Rattle.routing_law.specs.Outcome.{Route, Routes, Same, Setup, heard, own_route}
 use Rattle.routing_law.specs.Spells.{StepOver, Written}
 use Rattle.routing_law.proofs.Heard.{Heard, heard_from, heard_parts, no_router, own_from, own_parts}
-use Rattle.routing_law.proofs.Highest.{known_of, over, place_of}
+use Rattle.routing_law.proofs.Highest.{known_of, place_of}
 use Rattle.routing_law.proofs.Options.{bind_some, map_some, unless_some, when_some}
-use Rattle.routing_law.proofs.Sound.{Backed, backed}
+use Rattle.routing_law.proofs.Sound.{Backed}
 use Rattle.routing_law.proofs.Steps.{announcements_are_steps, imports_are_steps, own_routes_are_starts}
 
 -- what the route z of u is in the graph: the same path, and the node of its tag at the end of the run

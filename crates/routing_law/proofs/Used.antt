@@ -1,18 +1,17 @@
 -- What a stable outcome of the lines uses and offers.
-use Rattle.std.proofs.Common.{◌≡◌, ℕ, ◌≤◌, Bool, true, false, cond, not, ◌&&◌, List, ◌∷◌, Option, Some, None, refl, sym, ap, ◌∙◌, subst, arith}
+use Rattle.std.proofs.Common.{◌≡◌, ℕ, ◌≤◌, true, false, cond, ◌&&◌, List, ◌∷◌, Some, None, sym, ap, ◌∙◌, subst, arith}
 use Rattle.std.specs.Option.{option_and_then}
-use Rattle.std.proofs.lemmas.Bool.{and_parts, and_from}
+use Rattle.std.proofs.lemmas.Bool.{and_parts}
 use Rattle.std.proofs.lemmas.Option.{same_Some}
 use Rattle.routing_law.specs.Graph.{run}
 use Rattle.routing_law.specs.Laws.{GoodOffer, GoodRoute, LinesAreRight, NumberIsGreatest, PlainNumbersPass, Sound, UsedPathsAreSound}
 use Rattle.routing_law.specs.Lines.{LineRoute, LineRoutes, Lines, LinesStable, Tag, offered, offered_of}
-use Rattle.routing_law.specs.Network.{loop_free, stands_on, survives}
+use Rattle.routing_law.specs.Network.{Alive, loop_free, stands_on, survives}
 use Rattle.routing_law.specs.Outcome.{Route, Routes, Same, Setup, Stable, with_nodes}
-use Rattle.routing_law.specs.Settling.{reached}
 use Rattle.routing_law.specs.Spells.{Written}
 use Rattle.routing_law.proofs.Bridge.{graph_stable, live_of, same_routes, tied_nodes}
 use Rattle.routing_law.proofs.Heard.{chooses_from}
-use Rattle.routing_law.proofs.Highest.{chosen_is_reached, greatest, over}
+use Rattle.routing_law.proofs.Highest.{chosen_is_reached, greatest}
 use Rattle.routing_law.proofs.Options.{bind_some, unless_some, when_some}
 use Rattle.routing_law.proofs.Right.{best_offer, best_rank}
 use Rattle.routing_law.proofs.Runs.{first_lives}
@@ -21,12 +20,21 @@ use Rattle.routing_law.proofs.Steps.{exports_are_steps}
 use Rattle.routing_law.proofs.Tied.{Tied, step_of}
 
 pub plain_numbers_pass : PlainNumbersPass
-plain_numbers_pass w one same = record {
+plain_numbers_pass net g one same = record {
   step = λ m n z n' at al ro h.
       let e = one m n al.known al.other al.place in
-      (n', ap (λ k. w.graph.next k z) e ∙ h, omega arith);
+      (n', ap (λ k. g.next k z) e ∙ h, omega arith);
   loop = λ m n z n' k at al ro h kb p c. omega (arith, same n' k);
 }
+
+-- an offer, taken apart
+pub offered_parts : (alive : Alive) (c : Lines) (r : LineRoutes) (u p : ℕ) (q : List ℕ) → offered alive c r u p ≡ Some q → (z : LineRoute) × (alive.carries u p ≡ true) × (r u ≡ Some z) × (c.exported u p z.tag ≡ true) × (stands_on p z.path ≡ false) × (q ≡ p ∷ z.path)
+offered_parts alive c r u p q h =
+    let a = when_some (alive.carries u p) (option_and_then (offered_of c u p) (r u)) q h in
+    let b = bind_some (offered_of c u p) (r u) q a.1 in
+    let e = when_some (c.exported u p b.0.tag) (cond (stands_on p b.0.path) None (Some (p ∷ b.0.path))) q b.2 in
+    let f = unless_some (stands_on p b.0.path) (Some (p ∷ b.0.path)) q e.1 in
+    (b.0, a.0, b.1, e.0, f.0, sym (same_Some (p ∷ b.0.path) q f.1))
 
 -- a route that is good in the graph is good
 module _ (w : Setup) (tag : ℕ → Tag) where
@@ -60,15 +68,16 @@ module _ (w : Setup) (tag : ℕ → Tag) (c : Lines) (r : LineRoutes) (written :
 
   offers : (u p : ℕ) (q : List ℕ) → w.net.router u ≡ true → w.alive.live p ≡ true → offered w.alive c r u p ≡ Some q → GoodOffer w u p q
   offers u p q ro l h =
-      let a = when_some (w.alive.carries u p) (option_and_then (offered_of c u p) (r u)) q h in
-      let b = bind_some (offered_of c u p) (r u) q a.1 in
-      let e = when_some (c.exported u p b.0.tag) (cond (stands_on p b.0.path) None (Some (p ∷ b.0.path))) q b.2 in
-      let f = unless_some (stands_on p b.0.path) (Some (p ∷ b.0.path)) q e.1 in
-      let y = tied.down u p b.0 ro b.1 e.0 in
-      let x = exports_are_steps w.net w.graph tag c written u p y.node y.rest ro y.runs (ap (c.exported u p) (sym y.tag_is) ∙ e.0) in
+      let a = offered_parts w.alive c r u p q h in
+      let y = tied.down u p a.0 ro a.2 a.3 in
+      let x = exports_are_steps w.net w.graph tag c written u p y.node y.rest ro y.runs (ap (c.exported u p) (sym y.tag_is) ∙ a.3) in
       let s = sound w (with_nodes w r) graph u (record { path = u ∷ y.rest; node = y.node }) y.has in
-      offer y.rest x.0 (sym (same_Some (p ∷ b.0.path) q f.1) ∙ ap (λ z. p ∷ z) y.begins) (and_from (not (stands_on p (u ∷ y.rest))) (loop_free (u ∷ y.rest)) (ap not (ap (stands_on p) (sym y.begins) ∙ f.0)) s.free)
-      (and_from (w.alive.live p) (w.alive.carries u p && survives w.alive (u ∷ y.rest)) l (and_from (w.alive.carries u p) (survives w.alive (u ∷ y.rest)) a.0 s.lives)) (ap (option_and_then (λ n. w.graph.next n p)) y.runs ∙ x.1)
+      let begins : q ≡ p ∷ u ∷ y.rest = a.5 ∙ ap (λ z. p ∷ z) y.begins in
+      let off : stands_on p (u ∷ y.rest) ≡ false = ap (stands_on p) (sym y.begins) ∙ a.4 in
+      let free : loop_free (p ∷ u ∷ y.rest) ≡ true = rw off s.free in
+      let lives : survives w.alive (p ∷ u ∷ y.rest) ≡ true = rw (l, a.1) s.lives in
+      let runs : run w.graph (p ∷ u ∷ y.rest) ≡ Some x.0 = ap (option_and_then (λ n. w.graph.next n p)) y.runs ∙ x.1 in
+      offer y.rest x.0 begins free lives runs
     where
       offer : (rest : List ℕ) (node : ℕ) → q ≡ p ∷ u ∷ rest → loop_free (p ∷ u ∷ rest) ≡ true → survives w.alive (p ∷ u ∷ rest) ≡ true → run w.graph (p ∷ u ∷ rest) ≡ Some node → GoodOffer w u p q
       offer rest node e free lives runs = record { rest = rest; begins = e; free = ap loop_free e ∙ free; lives = ap (survives w.alive) e ∙ lives; node = node; runs = ap (run w.graph) e ∙ runs }

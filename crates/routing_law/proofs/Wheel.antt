@@ -1,5 +1,6 @@
 -- Where routers are left, one of them can be settled: else the arcs between those left would form a wheel.
 use Rattle.std.proofs.Common.{◌≡◌, ℕ, zero, suc, ◌+◌, ◌-◌, ◌<◌, ◌≤◌, Bool, true, false, ◌&&◌, ◌||◌, ◌⊎◌, inl, inr, ⊎_elim, List, [], ◌∷◌, ◌++◌, Option, Some, None, refl, sym, ap, ◌∙◌, subst, arith}
+use Rattle.std.specs.Option.{option_and_then}
 use Rattle.std.proofs.lemmas.Bool.{and_parts, false≢true}
 use Rattle.routing_law.specs.Graph.{AtLeast, Reaches, WellFormed, follow, run}
 use Rattle.routing_law.specs.Network.{chooses, stands_on, survives}
@@ -7,9 +8,8 @@ use Rattle.routing_law.specs.Outcome.{Route, Routes, Setup, heard}
 use Rattle.routing_law.specs.Settling.{Tops}
 use Rattle.routing_law.proofs.Heard.{chooses_from, chooses_parts, heard_from, own_from}
 use Rattle.routing_law.proofs.Highest.{known_of, place_of}
-use Rattle.routing_law.proofs.Options.{bind_some}
-use Rattle.routing_law.proofs.Rules.{Everywhere}
-use Rattle.routing_law.proofs.Runs.{first_lives, follow_append, follow_more, node_below, place_below, run_more, run_place, stands_split}
+use Rattle.routing_law.proofs.Rules.{AllRouters, Everywhere, all_more, along, no_growth}
+use Rattle.routing_law.proofs.Runs.{first_lives, follow_append, follow_more, node_below, place_below, run_more, run_place, stands_split, start_is}
 use Rattle.routing_law.proofs.Saturate.{comes_again}
 use Rattle.routing_law.proofs.Sound.{Backed, Origin, Taken, how, sound_of}
 
@@ -20,36 +20,17 @@ pub record Left (w : Setup) (r : Routes) (t : Tops w) (v : ℕ) : Type 0 where
   pub top : ℕ
   pub is_top : t.top v ≡ Some top
 
-abbrev AllRouters : Setup → List ℕ → Type 0
-AllRouters w [] = Unit {0}
-AllRouters w (z ∷ zs) = (w.net.router z ≡ true) × AllRouters w zs
-
-all_more : (w : Setup) (zs : List ℕ) (u : ℕ) → AllRouters w zs → w.net.router u ≡ true → AllRouters w (zs ++ u ∷ [])
-all_more w [] u a h = (h, tt)
-all_more w (z ∷ zs) u a h = (a.0, all_more w zs u a.1 h)
-
--- the way from the last entry into what is left, at hub by the node entry, to n at v
-record Arc (w : Setup) (r : Routes) (t : Tops w) (v n : ℕ) : Type 0 where
+-- the way from the last entry into what is left, by a low node at hub, to n
+record Arc (w : Setup) (r : Routes) (t : Tops w) (n : ℕ) : Type 0 where
   hub : ℕ
   entry : ℕ
-  last : ℕ
   left : Left w r t hub
   known : entry < w.graph.nodes
   place : w.graph.place entry ≡ hub
   low : w.graph.number entry < w.graph.number left.top
-  front : List ℕ
-  routers : AllRouters w front
-  runs : follow w.graph entry front ≡ Some last
-  step : w.graph.next last v ≡ Some n
-
-along : (w : Setup) → WellFormed w.net w.graph → Everywhere w.net w.graph → (zs : List ℕ) (m e n : ℕ) → AllRouters w zs → AtLeast w.graph m e → follow w.graph e zs ≡ Some n → (k : ℕ) × (follow w.graph m zs ≡ Some k) × AtLeast w.graph k n
-along w wf ev [] m e n a al h = let en : e ≡ n = cc in (m, refl, subst (AtLeast w.graph m) en al)
-along w wf ev (z ∷ zs) m e n a al h =
-    let b = bind_some (λ j. follow w.graph j zs) (w.graph.next e z) n h in
-    let c = ev.step m e z b.0 al a.0 b.1 in
-    let here : AtLeast w.graph c.0 b.0 = record { known = (wf.next_below m z c.0 c.1).2; other = (wf.next_below e z b.0 b.1).2; place = wf.next_place m z c.0 c.1 ∙ sym (wf.next_place e z b.0 b.1); number = c.2 } in
-    let d = along w wf ev zs c.0 b.0 n a.1 here b.2 in
-    (d.0, rw c.1 d.1, d.2)
+  way : List ℕ
+  routers : AllRouters w.net way
+  runs : follow w.graph entry way ≡ Some n
 
 -- each settled router has its best number
 abbrev pub Topped : (w : Setup) (r : Routes) → Tops w → Type 0
@@ -69,12 +50,10 @@ module _ (w : Setup) (wf : WellFormed w.net w.graph) (ev : Everywhere w.net w.gr
   high_enough : (u m : ℕ) (q : List ℕ) (y : Route) → run w.graph (u ∷ q) ≡ Some m → survives w.alive (u ∷ q) ≡ true → r u ≡ Some y → AtLeast w.graph y.node m
   high_enough u m q y h l e = record { known = known_of w wf r bk u y e; other = node_below wf q u m h; place = place_of w wf r bk u y e ∙ sym (run_place wf u q m h); number = number (how w r bk u y e) }
     where
-      number_start : Origin w u y → (p : List ℕ) → run w.graph (u ∷ p) ≡ Some m → w.graph.number m ≤ w.graph.number y.node
-      number_start o [] g = let my : m ≡ y.node = cc (o.start, g) in subst (λ k. w.graph.number m ≤ w.graph.number k) my (omega arith)
-      number_start o (z ∷ p) g = let a = run_more w.graph u z p m g in absurd (false≢true (sym (wf.next_origin a.0 u m a.2) ∙ wf.start_origin u y.node o.start))
-
       number : Origin w u y ⊎ Taken w r u y → w.graph.number m ≤ w.graph.number y.node
-      number (inl o) = number_start o q h
+      number (inl o) =
+          let my : m ≡ y.node = cc (o.start, start_is wf u m (node_below wf q u m h) (run_place wf u q m h) (wf.start_origin u y.node o.start)) in
+          subst (λ k. w.graph.number m ≤ w.graph.number k) my (omega arith)
       number (inr k) =
           let a = topped u y (chooses_from w u k.router k.live (wf.next_origin k.heard.from.node u y.node k.heard.step)) e in
           let b = t.over u m (record { rest = q; runs = h; lives = l }) in
@@ -86,12 +65,14 @@ module _ (w : Setup) (wf : WellFormed w.net w.graph) (ev : Everywhere w.net w.gr
   has_or_left : (u m : ℕ) (q : List ℕ) → run w.graph (u ∷ q) ≡ Some m → survives w.alive (u ∷ q) ≡ true → (w.net.origin u || w.net.router u) ≡ true → ((y : Route) × (r u ≡ Some y)) ⊎ Left w r t u
   has_or_left u m q h l from = by (r u) refl
     where
-      at_origin : w.net.origin u ≡ true → (p : List ℕ) → run w.graph (u ∷ p) ≡ Some m → r u ≡ None → Left w r t u
-      at_origin o [] g e = let f = sym e ∙ bk.own u o ∙ own_from w u m (first_lives w.alive u q l) g in absurd (cc)
-      at_origin o (z ∷ p) g e = let a = run_more w.graph u z p m g in absurd (false≢true (sym (wf.next_origin a.0 u m a.2) ∙ o))
+      at_origin : w.net.origin u ≡ true → r u ≡ None → Left w r t u
+      at_origin o e =
+          let start = start_is wf u m (node_below wf q u m h) (run_place wf u q m h) o in
+          let f = sym e ∙ bk.own u o ∙ own_from w u m (first_lives w.alive u q l) start in
+          absurd (cc)
 
       left : (b : Bool) → w.net.origin u ≡ b → r u ≡ None → Left w r t u
-      left true o e = at_origin o q h e
+      left true o e = at_origin o e
       left false o e =
           let ro : w.net.router u ≡ true = subst (λ x. (x || w.net.router u) ≡ true) o from in
           let b = t.over u m (record { rest = q; runs = h; lives = l }) in
@@ -116,38 +97,37 @@ module _ (w : Setup) (wf : WellFormed w.net w.graph) (ev : Everywhere w.net w.gr
           let b = stuck v u l.top (record { path = v ∷ y.path; node = a.0 }) l.chooses l.none l.is_top (heard_from w r v u y a.0 e k off a.1) in
           omega (arith, a.2, b)
 
-  low_or_arc : (q : List ℕ) (v n : ℕ) (l : Left w r t v) → run w.graph (v ∷ q) ≡ Some n → survives w.alive (v ∷ q) ≡ true → (w.graph.number n < w.graph.number l.top) ⊎ Arc w r t v n
+  low_or_arc : (q : List ℕ) (v n : ℕ) (l : Left w r t v) → run w.graph (v ∷ q) ≡ Some n → survives w.alive (v ∷ q) ≡ true → (w.graph.number n < w.graph.number l.top) ⊎ Arc w r t n
   low_or_arc [] v n l h s = absurd (false≢true (sym (chooses_parts w v l.chooses).2 ∙ wf.start_origin v n h))
   low_or_arc (u ∷ q) v n l h s =
+      let ro = (chooses_parts w v l.chooses).0 in
       let a = run_more w.graph v u q n h in
       let b = and_parts (w.alive.live v) (w.alive.carries u v && survives w.alive (u ∷ q)) s in
       let c = and_parts (w.alive.carries u v) (survives w.alive (u ∷ q)) b.1 in
       let at = run_place wf u q a.0 a.1 in
       let from : (w.net.origin u || w.net.router u) ≡ true = subst (λ x. (w.net.origin x || w.net.router x) ≡ true) at (wf.next_from a.0 v n a.2) in
-      by a.0 a.1 a.2 c.0 c.1 at (has_or_left u a.0 q a.1 c.1 from) (λ k. low_or_arc q u a.0 k a.1 c.1)
+      by a.0 ro a.1 a.2 c.0 c.1 at (has_or_left u a.0 q a.1 c.1 from) (λ k. low_or_arc q u a.0 k a.1 c.1)
     where
-      by : (m : ℕ) → run w.graph (u ∷ q) ≡ Some m → w.graph.next m v ≡ Some n → w.alive.carries u v ≡ true → survives w.alive (u ∷ q) ≡ true → w.graph.place m ≡ u → ((y : Route) × (r u ≡ Some y)) ⊎ Left w r t u → ((k : Left w r t u) → (w.graph.number m < w.graph.number k.top) ⊎ Arc w r t u m) → (w.graph.number n < w.graph.number l.top) ⊎ Arc w r t v n
-      by m g st k sv at (inl y) again = inl (comes_low v u m n y.0 l (high_enough u m q y.0 g sv y.1) st k y.1)
-      by m g st k sv at (inr k') again = inr (arc (again k'))
+      by : (m : ℕ) → w.net.router v ≡ true → run w.graph (u ∷ q) ≡ Some m → w.graph.next m v ≡ Some n → w.alive.carries u v ≡ true → survives w.alive (u ∷ q) ≡ true → w.graph.place m ≡ u → ((y : Route) × (r u ≡ Some y)) ⊎ Left w r t u → ((k : Left w r t u) → (w.graph.number m < w.graph.number k.top) ⊎ Arc w r t m) → (w.graph.number n < w.graph.number l.top) ⊎ Arc w r t n
+      by m ro g st k sv at (inl y) again = inl (comes_low v u m n y.0 l (high_enough u m q y.0 g sv y.1) st k y.1)
+      by m ro g st k sv at (inr k') again = inr (arc (again k'))
         where
-          arc : (w.graph.number m < w.graph.number k'.top) ⊎ Arc w r t u m → Arc w r t v n
-          arc (inl low) = record { hub = u; entry = m; last = m; left = k'; known = node_below wf q u m g; place = at; low = low; front = []; routers = tt; runs = refl; step = st }
+          arc : (w.graph.number m < w.graph.number k'.top) ⊎ Arc w r t m → Arc w r t n
+          arc (inl low) = record { hub = u; entry = m; left = k'; known = node_below wf q u m g; place = at; low = low; way = v ∷ []; routers = (ro, tt); runs = ap (option_and_then (λ j. Some j)) st }
           arc (inr x) = record {
             hub = x.hub;
             entry = x.entry;
-            last = m;
             left = x.left;
             known = x.known;
             place = x.place;
             low = x.low;
-            front = x.front ++ u ∷ [];
-            routers = all_more w x.front u x.routers (chooses_parts w u k'.chooses).0;
-            runs = follow_more w.graph x.front x.entry x.last u m x.runs x.step;
-            step = st;
+            way = x.way ++ v ∷ [];
+            routers = all_more w.net x.way v x.routers ro;
+            runs = follow_more w.graph x.way x.entry m v n x.runs st;
           }
 
   -- each router that is left has an arc to its best node
-  arc_of : (v : ℕ) (l : Left w r t v) → Arc w r t v l.top
+  arc_of : (v : ℕ) (l : Left w r t v) → Arc w r t l.top
   arc_of v l =
       let a = t.is_reached v l.top l.is_top in
       ⊎_elim (λ low. absurd (omega (arith, low))) (λ x. x) (low_or_arc a.rest v l.top l a.runs a.lives)
@@ -159,34 +139,39 @@ module _ (w : Setup) (wf : WellFormed w.net w.graph) (ev : Everywhere w.net w.gr
   spin s zero = s
   spin s (suc j) = next_spoke (spin s j)
 
-  abbrev arc : (s : Spoke w r t) (i : ℕ) → Arc w r t (spin s i).at (spin s i).left.top
+  abbrev arc : (s : Spoke w r t) (i : ℕ) → Arc w r t (spin s i).left.top
   arc s i = arc_of (spin s i).at (spin s i).left
 
-  -- from the entry of the k-th arc, along the arcs back to the i-th, to where that one ends
-  comes : (s : Spoke w r t) (d i k : ℕ) → k ≡ i + d → (m : ℕ) × Reaches w.graph (arc s k).entry m × AtLeast w.graph m (arc s i).last
+  -- a best node is one, and at its router
+  top_is : (s : Spoke w r t) → (s.left.top < w.graph.nodes) × (w.graph.place s.left.top ≡ s.at)
+  top_is s =
+      let a = t.is_reached s.at s.left.top s.left.is_top in
+      (node_below wf a.rest s.at s.left.top a.runs, run_place wf s.at a.rest s.left.top a.runs)
+
+  -- the entry of the k-th arc reaches, along the arcs back to the i-th, a node no worse than the one in which that ends
+  comes : (s : Spoke w r t) (d i k : ℕ) → k ≡ i + d → (m : ℕ) × Reaches w.graph (arc s k).entry m × AtLeast w.graph m (spin s i).left.top
   comes s zero i k e =
       let same : i ≡ k = omega arith in
-      subst (λ j. (m : ℕ) × Reaches w.graph (arc s j).entry m × AtLeast w.graph m (arc s i).last) same ((arc s i).last, ((arc s i).front, (arc s i).runs), record { known = (wf.next_below (arc s i).last (spin s i).at (spin s i).left.top (arc s i).step).0; other = (wf.next_below (arc s i).last (spin s i).at (spin s i).left.top (arc s i).step).0; place = refl; number = omega arith })
+      let b = top_is (spin s i) in
+      subst (λ j. (m : ℕ) × Reaches w.graph (arc s j).entry m × AtLeast w.graph m (spin s i).left.top) same ((spin s i).left.top, ((arc s i).way, (arc s i).runs), record { known = b.0; other = b.0; place = refl; number = omega arith })
   comes s (suc d) i k e =
       let a = arc s i in
-      let b = arc s (suc i) in
       let c = comes s d (suc i) k (omega arith) in
-      let g = ev.step c.0 b.last a.hub a.left.top c.2 (chooses_parts w a.hub a.left.chooses).0 b.step in
-      let al : AtLeast w.graph g.0 a.entry = record { known = (wf.next_below c.0 a.hub g.0 g.1).2; other = a.known; place = wf.next_place c.0 a.hub g.0 g.1 ∙ sym a.place; number = omega (arith, g.2, a.low) } in
-      let h = along w wf ev a.front g.0 a.entry a.last a.routers al a.runs in
-      let on : follow w.graph c.0 (a.hub ∷ a.front) ≡ Some h.0 = rw g.1 h.1 in
-      (h.0, (c.1.0 ++ a.hub ∷ a.front, follow_append w.graph c.1.0 (a.hub ∷ a.front) (arc s k).entry c.0 h.0 c.1.1 on), h.2)
+      let high : AtLeast w.graph c.0 a.entry = record { known = c.2.known; other = a.known; place = c.2.place ∙ (top_is (spin s (suc i))).1 ∙ sym a.place; number = omega (arith, c.2.number, a.low) } in
+      let h = along wf ev a.way c.0 a.entry (spin s i).left.top a.routers high a.runs in
+      (h.0, (c.1.0 ++ a.way, follow_append w.graph c.1.0 a.way (arc s k).entry c.0 h.0 c.1.1 h.1), h.2)
 
   wheel_at : (s : Spoke w r t) (i j : ℕ) → i < j → (spin s i).at ≡ (spin s j).at → ⊥
   wheel_at s i zero l same = omega arith
   wheel_at s i (suc k) l same =
-      let a = arc s i in
       let b = arc s k in
       let c = comes s (k - i) i k (omega arith) in
-      let le = ev.loop c.0 a.last (spin s i).at (spin s i).left.top b.entry c.2 (chooses_parts w (spin s i).at (spin s i).left.chooses).0 a.step b.known (b.place ∙ sym same) c.1 in
+      let at : w.graph.place c.0 ≡ (spin s i).at = c.2.place ∙ (top_is (spin s i)).1 in
+      let ro : w.net.router (w.graph.place c.0) ≡ true = ap w.net.router at ∙ (chooses_parts w (spin s i).at (spin s i).left.chooses).0 in
+      let le = no_growth wf ev b.entry c.0 b.known (b.place ∙ sym same ∙ sym at) ro c.1 in
       let tops_same : (spin s i).left.top ≡ b.left.top = cc ((spin s i).left.is_top, b.left.is_top, ap t.top same) in
       let low : w.graph.number b.entry < w.graph.number (spin s i).left.top = subst (λ n. w.graph.number b.entry < w.graph.number n) (sym tops_same) b.low in
-      omega (arith, le, low)
+      omega (arith, le, low, c.2.number)
 
   pub wheel : (v : ℕ) → Left w r t v → ⊥
   wheel v l =

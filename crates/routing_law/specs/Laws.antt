@@ -132,4 +132,4 @@ GraphOutcomeIsUnique = (w : Setup) (r s : Routes) → NamesDiffer w.net → Well
 
 -- Where each location has at most one node, and all numbers are the same, the rules hold: they can be met.
 abbrev pub PlainNumbersPass : Type 0
-PlainNumbersPass = (w : Setup) → ((m n : ℕ) → m < w.graph.nodes → n < w.graph.nodes → w.graph.place m ≡ w.graph.place n → m ≡ n) → ((m n : ℕ) → w.graph.number m ≡ w.graph.number n) → MeetsRules w.net w.graph
+PlainNumbersPass = (net : Network) (g : Graph) → ((m n : ℕ) → m < g.nodes → n < g.nodes → g.place m ≡ g.place n → m ≡ n) → ((m n : ℕ) → g.number m ≡ g.number n) → MeetsRules net g

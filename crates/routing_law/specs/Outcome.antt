@@ -1,5 +1,5 @@
 -- Outcomes in terms of the graph: each route is a path and the node in which its run ends.
-use Rattle.std.specs.Prelude.{ℕ, ◌≡◌, ◌≤◌, Bool, true, false, ◌∷◌, [], List, length, Option, Some, None, if◌then◌else◌}
+use Rattle.std.specs.Prelude.{ℕ, ◌≡◌, ◌≤◌, true, false, ◌∷◌, [], List, length, Option, Some, None, if◌then◌else◌}
 use Rattle.std.specs.Option.{option_map, option_and_then}
 use Rattle.routing_law.specs.Graph.{Graph, run}
 use Rattle.routing_law.specs.Lines.{LineRoute, LineRoutes, Lines, Tag, own_line}

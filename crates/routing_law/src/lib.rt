@@ -1,9 +1,54 @@
-//! Laws.
+//! The laws of routing, over abstract networks: what a configuration that was made of a graph does under all failures.
+//!
+//! There is no code here. Each law is a statement of `specs/Laws` (or `specs/Settling`), and the function that names it in its
+//! contract is its proof. Networks, graphs and lines are records of plain functions on numbers, so that a layer above brings its
+//! own lists and blocks to them, once.
+//!
+//! What is spoken of, and where it is defined:
+//!
+//! - `Network`: size, routers, origins, identifiers. `Alive`: which locations live and who hears whom. `LinesStable` and `offered`
+//!   of `specs/Lines` are said of these two and of what the lines say, and of no graph.
+//! - `Graph`: nodes with places, starts, steps and numbers. `WellFormed`, `MeetsRules` (step rule, loop rule) and `MeetsRanks`
+//!   (rank rule, listener rule) of `specs/Graph` are said of a network and a graph, and of no failure.
+//! - `Spells` of `specs/Spells`: each step has its line and each line its step. `Written` joins it with `WellFormed` and
+//!   `TagsDiffer`.
+//! - `Setup` of `specs/Outcome`: a network, what of it is alive, and a graph; and what an outcome is in the graph.
+//!
+//! | Law | It says | It needs |
+//! |---|---|---|
+//! | `used_paths_are_sound` | each route that is used and each path that is offered has no loop, survives, and has a run to a node, with the node's tag and number | `Written`, `LinesStable` |
+//! | `number_is_greatest` | a router's preference is the greatest number of the nodes that are reached at it | and `MeetsRules` |
+//! | `lines_are_right` | every source gets the best rank that survives, and none only where none survives | and `MeetsRanks` |
+//! | `outcome_exists` | whatever fails, there is an outcome with ties broken | `Written`, `MeetsRules` |
+//! | `outcome_is_unique` | and any two are the same | and `NamesDiffer` |
+//! | `lines_are_steps` | one line is one step, for one message at a time | `Written` |
+//! | `lines_are_graph` | outcomes of the lines are those of the graph | `Written` |
+//! | `settling_ends` | search and rounds find the outcome of the graph, which `lines_are_graph` makes one of the lines | `WellFormed`, `MeetsRules` |
+//!
+//! The laws named `graph_..` and `ranks_are_best` are the steps in between, in terms of the graph alone. `plain_numbers_pass` shows
+//! that the rules can be met.
 #![tactic(auto)]
 
 ghost use Rattle.routing_law.specs.Laws.{
-    AnnouncementsAreSteps, ExportsAreSteps, GraphIsLines, GraphNodeIsReached, GraphNumberIsGreatest, GraphOutcomeExists, GraphOutcomeIsUnique, GraphPathsAreSound, ImportsAreSteps, LinesAreGraph, LinesAreRight, NumberIsGreatest, OfferIsBest, OutcomeExists,
-    OutcomeIsUnique, OwnRoutesAreStarts, PlainNumbersPass, RankIsBest, UsedPathsAreSound,
+  AnnouncementsAreSteps,
+  ExportsAreSteps,
+  GraphIsLines,
+  GraphNodeIsReached,
+  GraphNumberIsGreatest,
+  GraphOutcomeExists,
+  GraphOutcomeIsUnique,
+  GraphPathsAreSound,
+  ImportsAreSteps,
+  LinesAreGraph,
+  LinesAreRight,
+  NumberIsGreatest,
+  OfferIsBest,
+  OutcomeExists,
+  OutcomeIsUnique,
+  OwnRoutesAreStarts,
+  PlainNumbersPass,
+  RankIsBest,
+  UsedPathsAreSound,
 };
 ghost use Rattle.routing_law.specs.Settling.{ReachEnds, SettlingEnds};
 
