@@ -11,10 +11,10 @@ no_end (f ∷ fs) back u e = cc
 
 pub stands_split : (v : ℕ) (p : List ℕ) → stands_on v p ≡ true → (front : List ℕ) × (back : List ℕ) × (p ≡ front ++ v ∷ back)
 stands_split v [] h = absurd (false≢true h)
-stands_split v (u ∷ p) h = split (eqb v u) refl (stands_split v p)
+stands_split v (u ∷ p) h = split (eqb u v) refl (stands_split v p)
   where
-    split : (b : Bool) → eqb v u ≡ b → (stands_on v p ≡ true → (front : List ℕ) × (back : List ℕ) × (p ≡ front ++ v ∷ back)) → (front : List ℕ) × (back : List ℕ) × (u ∷ p ≡ front ++ v ∷ back)
-    split true e again = let vu = eqb-true v u e in ([], p, ap (λ a. a ∷ p) (sym vu))
+    split : (b : Bool) → eqb u v ≡ b → (stands_on v p ≡ true → (front : List ℕ) × (back : List ℕ) × (p ≡ front ++ v ∷ back)) → (front : List ℕ) × (back : List ℕ) × (u ∷ p ≡ front ++ v ∷ back)
+    split true e again = ([], p, ap (λ a. a ∷ p) (eqb-true u v e))
     split false e again = let a = again (subst (λ b. (b || stands_on v p) ≡ true) e h) in (u ∷ a.0, a.1, ap (λ q. u ∷ q) a.2)
 
 -- a walk that survives begins with a live location

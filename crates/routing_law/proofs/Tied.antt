@@ -64,8 +64,8 @@ module _ (w : Setup) (tag : ℕ → Tag) (c : Lines) (written : Written w.net w.
             pref_is = ap (λ (y : LineRoute). y.pref) (sym e) ∙ ap (λ (p : Tag × ℕ). p.1) a.2;
           }
 
-      other : w.net.router u ≡ false → (t : Bool) → eqb v u ≡ t → stands_on v (u ∷ []) ≡ false
-      other ru true i = absurd (false≢true (sym ru ∙ ap w.net.router (sym (eqb-true v u i)) ∙ rv))
+      other : w.net.router u ≡ false → (t : Bool) → eqb u v ≡ t → stands_on v (u ∷ []) ≡ false
+      other ru true i = absurd (false≢true (sym ru ∙ ap w.net.router (eqb-true u v i) ∙ rv))
       other ru false i = rw i
 
       from_peer : (q : Tag × ℕ) → w.net.router u ≡ false → w.alive.carries u v ≡ true → w.net.origin u ≡ true → w.alive.live u ≡ true → c.from_peer v u ≡ Some q → taken_by v (u ∷ []) q ≡ x → Given w tag s v u x
@@ -74,7 +74,7 @@ module _ (w : Setup) (tag : ℕ → Tag) (c : Lines) (written : Written w.net w.
           record {
             rest = [];
             node = a.1;
-            gives = heard_from w s v u (record { path = u ∷ []; node = a.0 }) a.1 (own u o ∙ own_from w u a.0 l a.2) k (other ru (eqb v u) refl) a.3;
+            gives = heard_from w s v u (record { path = u ∷ []; node = a.0 }) a.1 (own u o ∙ own_from w u a.0 l a.2) k (other ru (eqb u v) refl) a.3;
             begins = ap (λ (y : LineRoute). y.path) (sym e);
             runs = ap (option_and_then (λ n. w.graph.next n v)) a.2 ∙ a.3;
             tag_is = ap (λ (y : LineRoute). y.tag) (sym e) ∙ ap (λ (p : Tag × ℕ). p.0) a.4;

@@ -1,5 +1,6 @@
 -- A network, what of it is alive, and paths through it.
-use Rattle.std.specs.Prelude.{ℕ, ◌≡◌, ◌<◌, ◌==◌, Bool, true, false, not, ◌&&◌, ◌||◌, List, [], ◌∷◌}
+use Rattle.std.specs.Prelude.{ℕ, ◌≡◌, ◌<◌, ◌==◌, Bool, true, false, not, ◌&&◌, List, [], ◌∷◌}
+use Rattle.std.specs.List.{list_any}
 
 -- locations are numbers; one that is no router is a peer
 pub record Network : Type 0 where
@@ -26,8 +27,7 @@ abbrev pub chooses : Network → Alive → ℕ → Bool
 chooses net alive v = net.router v && (alive.live v && not (net.origin v))
 
 abbrev pub stands_on : ℕ → List ℕ → Bool
-stands_on v [] = false
-stands_on v (u ∷ p) = (v == u) || stands_on v p
+stands_on v p = list_any (λ u. u == v) p
 
 abbrev pub loop_free : List ℕ → Bool
 loop_free [] = true
