@@ -1,0 +1,17 @@
+pub mod Options
+pub mod Runs
+pub mod Rules
+pub mod Heard
+pub mod Sound
+pub mod Highest
+pub mod Right
+pub mod Saturate
+pub mod Reach
+pub mod Wheel
+pub mod Rounds
+pub mod Unique
+pub mod Steps
+pub mod Tied
+pub mod Bridge
+pub mod Back
+pub mod Used
