@@ -1,5 +1,5 @@
 -- The text of a configuration, line by line.
-use Rattle.std.specs.Prelude.{ℕ, ◌+◌, Bool, true, false, List, [], ◌∷◌, ◌++◌, codes, if◌then◌else◌}
+use Rattle.std.specs.Prelude.{ℕ, ◌+◌, Bool, List, [], ◌∷◌, ◌++◌, codes, if◌then◌else◌}
 use Rattle.std.specs.List.{flat_map}
 use Rattle.std.specs.Fmt.{decimal}
 use Rattle.net_base.specs.Prefixes.{PlainPattern}
@@ -32,11 +32,15 @@ abbrev pub own_line : Own → List ℕ
 own_line o = codes "originate " ++ decimal o.class ++ codes " " ++ prefix_text o.prefix ++ codes " tag " ++ tag_text o.tag ++ codes "\n"
 
 -- in the block of a peer an import names no tag
-abbrev pub read_tag : Bool → Tag → List ℕ
+unfoldable pub read_tag : Bool → Tag → List ℕ
 read_tag peer tag = if peer then [] else codes " tag " ++ tag_text tag
 
-abbrev pub import_line : Bool → Rule → List ℕ
-import_line peer r = codes "import " ++ decimal r.class ++ read_tag peer r.tag ++ codes " set " ++ tag_text r.set ++ codes " pref " ++ decimal r.pref ++ codes "\n"
+-- what an import gives a route
+abbrev pub set_text : Rule → List ℕ
+set_text r = codes " set " ++ tag_text r.set ++ codes " pref " ++ decimal r.pref
+
+unfoldable pub import_line : Bool → Rule → List ℕ
+import_line peer r = codes "import " ++ decimal r.class ++ read_tag peer r.tag ++ set_text r ++ codes "\n"
 
 abbrev pub export_line : Export → List ℕ
 export_line e = codes "export " ++ decimal e.class ++ codes " tag " ++ tag_text e.tag ++ codes "\n"

@@ -3,13 +3,15 @@
 
 ghost use Rattle.std.specs.Prelude.{◌≡◌, ◌++◌, ◌+◌, OnOk, IfOk};
 ghost use Rattle.std.specs.List.{flat_map};
-ghost use Rattle.config_text.specs.ConfigText.{class_line, class_lines, router_line, own_line, session_line, import_line, read_tag, next_pattern, export_line, session_text, router_text, config_text, joined_patterns};
+ghost use Rattle.config_text.specs.ConfigText.{class_line, class_lines, router_line, own_line, session_line, import_line, read_tag, set_text, next_pattern, export_line, session_text, router_text, config_text, joined_patterns};
 
 use config_base::{Config, Export, Own, RouterConfig, Rule, Session};
 use net_base::{List, Pattern, Tag};
 use outside::NoMemory;
 use std::alloc::Global;
-use text_words::{push_address, push_bytes, push_name, push_number, push_pattern, push_prefix, push_tag};
+use text_words::{
+    push_address, push_bytes, push_name, push_number, push_pattern, push_prefix, push_tag,
+};
 
 // Adds patterns, each after a comma and a space.
 fn push_more_patterns(text: &mut Vec<u8>, patterns: &[Pattern]) -> Result<(), NoMemory>
@@ -72,6 +74,7 @@ fn push_own(text: &mut Vec<u8>, own: &Own) -> Result<(), NoMemory>
 }
 
 // Adds the tag that an import reads: none in the block of a peer.
+#[tactic(auto, unfolding(crate::specs::ConfigText::read_tag))]
 fn push_read_tag(text: &mut Vec<u8>, peer: bool, tag: Tag) -> Result<(), NoMemory>
     ensures { OnOk result (text.new.items ≡ text.old.items ++ read_tag peer tag) }
 {
@@ -82,17 +85,25 @@ fn push_read_tag(text: &mut Vec<u8>, peer: bool, tag: Tag) -> Result<(), NoMemor
     push_tag(text, tag)
 }
 
+// Adds what an import gives a route.
+fn push_set(text: &mut Vec<u8>, rule: &Rule) -> Result<(), NoMemory>
+    ensures { OnOk result (text.new.items ≡ text.old.items ++ set_text rule.now) }
+{
+    push_bytes(text, b" set ")?;
+    push_tag(text, rule.set)?;
+    push_bytes(text, b" pref ")?;
+    push_number(text, u64::from(rule.pref))
+}
+
 // Adds an import line.
+#[tactic(auto, unfolding(crate::specs::ConfigText::import_line))]
 fn push_import(text: &mut Vec<u8>, peer: bool, rule: &Rule) -> Result<(), NoMemory>
     ensures { OnOk result (text.new.items ≡ text.old.items ++ import_line peer rule.now) }
 {
     push_bytes(text, b"import ")?;
     push_number(text, u64::from(rule.class))?;
     push_read_tag(text, peer, rule.tag)?;
-    push_bytes(text, b" set ")?;
-    push_tag(text, rule.set)?;
-    push_bytes(text, b" pref ")?;
-    push_number(text, u64::from(rule.pref))?;
+    push_set(text, rule)?;
     push_bytes(text, b"\n")
 }
 
