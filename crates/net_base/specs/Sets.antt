@@ -13,11 +13,11 @@ abbrev pub same_set : LocSet → LocSet → Bool
 same_set s t = bytes_eq s.words t.words
 
 -- the word whose bit b, below n, says whether k + b passes the test
-abbrev pub word_of : (ℕ → Bool) → ℕ → ℕ → ℕ
+unfoldable pub word_of : (ℕ → Bool) → ℕ → ℕ → ℕ
 word_of p k zero = 0
 word_of p k (suc n) = word_of p k n + (if p (k + n) then 2 ^ n else 0)
 
-abbrev pub words_of : (ℕ → Bool) → ℕ → ℕ → List ℕ
+unfoldable pub words_of : (ℕ → Bool) → ℕ → ℕ → List ℕ
 words_of p k zero = []
 words_of p k (suc n) = word_of p k 64 ∷ words_of p (k + 64) n
 

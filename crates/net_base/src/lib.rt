@@ -18,4 +18,4 @@ pub use net::{Net, Site};
 pub use numbers::{Tag, peer_as, router_as, tag_fits};
 pub use place::{Field, Kind, Place};
 pub use prefix::{Pattern, Prefix};
-pub use prefix_text::{PrefixFault, read_address, read_prefix};
+pub use prefix_text::{PrefixFault, read_address, read_length, read_prefix};

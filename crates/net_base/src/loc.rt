@@ -1,5 +1,6 @@
 //! Locations and sets of locations.
-ghost use Rattle.std.specs.Prelude.{◌≡◌, ◌<◌, ◌||◌, ◌==◌, ℕ, false};
+ghost use Rattle.std.specs.Prelude.{◌≡◌, ◌<◌, ◌≤◌, ◌||◌, ◌&&◌, ◌==◌, nat_le, nat_lt, ℕ, false};
+ghost use Rattle.net_base.specs.Sets.{word_of};
 
 use std::marker::Model;
 
@@ -40,13 +41,24 @@ pub struct LocSet {
 }
 
 impl LocSet {
-    ghost use Rattle.net_base.specs.Sets.{holds};
+    ghost use Rattle.net_base.specs.Sets.{holds, set_of};
 
     /// The set with no location.
     pub fn new() -> LocSet
         ensures { (l : ℕ) → holds result l ≡ false }
     {
         LocSet { words: [0; 12] }
+    }
+
+    /// The set of the locations from `from` on that are below `to` and below 768.
+    pub fn of_range(from: u16, to: u16) -> LocSet
+        ensures { result ≡ set_of (λ l. nat_le from l && nat_lt l to) }
+    {
+        let mut words = [0; 12];
+        for place in 0..12 {
+            words[place] = word_of_range(from, to, 64 * place as u16);
+        }
+        LocSet { words }
     }
 
     /// Whether the location is in the set. A location from 768 on is in no set.
@@ -65,4 +77,24 @@ impl LocSet {
         let place = at.0 as usize;
         self.words[place / 64] |= 1u64 << (place % 64);
     }
+}
+
+fn is_between(from: u16, to: u16, at: u16) -> bool
+    ensures { result ≡ (nat_le from at && nat_lt at to) }
+{
+    from <= at && at < to
+}
+
+// The word of the 64 locations from `first` on, a bit for each that is in the range.
+fn word_of_range(from: u16, to: u16, first: u16) -> u64
+    requires { first ≤ 704 }
+    ensures { result ≡ word_of (λ l. nat_le from l && nat_lt l to) first 64 }
+{
+    let mut word = 0;
+    for place in 0..64 {
+        if is_between(from, to, first + place) {
+            word += 1u64 << place;
+        }
+    }
+    word
 }

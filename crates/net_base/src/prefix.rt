@@ -108,9 +108,9 @@ impl Pattern {
         ensures { result ≡ contains self prefix }
     {
         let base = self.base;
-        let cut = 1u64 << (32 - base.len);
+        let cut = 32 - base.len;
         base.len <= prefix.len
-            && u64::from(prefix.bits) / cut == u64::from(base.bits) / cut
+            && u64::from(prefix.bits) >> cut == u64::from(base.bits) >> cut
             && prefix.len <= self.upto
     }
 }

@@ -21,7 +21,7 @@ pub enum PrefixFault {
     HostBits,
 }
 
-// How many bytes stand before the first of this byte.
+// How many bytes stand before the first of this byte: all of them where none is.
 fn length_before(sign: u8, bytes: &[u8]) -> usize
     ensures place { result ≡ position_or_len (λ b. b == sign) bytes.now }
     ensures within { result ≤ length bytes.now }
@@ -141,8 +141,8 @@ pub fn read_address(bytes: &[u8]) -> Option<u32>
     Some(address.bits())
 }
 
-// A number of at most two digits.
-fn length_of(bytes: &[u8]) -> Option<u16>
+/// A prefix length as it is written: a number of at most two digits without a leading zero.
+pub fn read_length(bytes: &[u8]) -> Option<u16>
     ensures { result ≡ length_number bytes.now }
 {
     if bytes.len() > 2 {
@@ -162,7 +162,7 @@ pub fn read_prefix(bytes: &[u8]) -> Result<Prefix, PrefixFault>
     let Some(address) = four_numbers(address) else {
         return Err(PrefixFault::Shape);
     };
-    let Some(len) = length_of(length) else {
+    let Some(len) = read_length(length) else {
         return Err(PrefixFault::Shape);
     };
     if !address.are_octets() {
