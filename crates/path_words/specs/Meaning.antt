@@ -1,5 +1,5 @@
 -- What calls and ranked expressions say of a path.
-use Rattle.std.specs.Prelude.{ℕ, ◌+◌, Bool, true, false, not, ◌&&◌, ◌||◌, List, [], ◌∷◌, ◌++◌, map, Option, Some, None, drop, if◌then◌else◌}
+use Rattle.std.specs.Prelude.{ℕ, ◌+◌, ◌*◌, length, Bool, true, false, not, ◌&&◌, ◌||◌, List, [], ◌∷◌, ◌++◌, map, Option, Some, None, drop, if◌then◌else◌}
 use Rattle.std.specs.List.{list_any, flat_map}
 use Rattle.net_base.specs.declared.loc.LocSet.{LocSet}
 use Rattle.net_base.specs.Network.{PlainNet, is_peer}
@@ -70,6 +70,16 @@ alternatives net (both a b) = flat_map (λ p. map (both_tests p) (alternatives n
 alternatives net (either a b) = some_test (alternatives net a ++ alternatives net b) ∷ []
 alternatives net (negated a) = (λ path. not (some_test (alternatives net a) path)) ∷ []
 
+-- how many alternatives a ranked expression has
+abbrev pub alternative_count : Ranking → ℕ
+alternative_count (call c) = 1
+alternative_count (calls cs) = length cs
+alternative_count (prefer a b) = alternative_count a + alternative_count b
+alternative_count (both a b) = alternative_count a * alternative_count b
+alternative_count (either a b) = 1
+alternative_count (negated a) = 1
+
+-- the place, from k, of the first test that the path passes
 abbrev pub place_of : List PathTest → List ℕ → ℕ → Option ℕ
 place_of [] path k = None
 place_of (p ∷ ps) path k = if p path then Some k else place_of ps path (k + 1)

@@ -2,11 +2,23 @@
 #![tactic(auto)]
 
 mod case;
+mod case_list;
 mod clause;
+mod governed;
+mod meaning;
+mod permitted;
 mod policy;
+mod rank;
 mod ranked;
+mod walk;
 
 pub use case::{Case, CaseList};
+pub use case_list::cases;
 pub use clause::Clause;
+pub use governed::{governing, is_origin, origins_of, statement_of};
+pub use meaning::meets;
+pub use permitted::{is_allowed, is_case_walk, is_permitted};
 pub use policy::{FromSet, Origin, Policy, Statement};
+pub use rank::{alternatives, rank_of};
 pub use ranked::Ranked;
+pub use walk::{is_loop_free, is_walk};

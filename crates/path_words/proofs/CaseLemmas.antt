@@ -1,0 +1,65 @@
+-- A prefix that joins a case.
+use Rattle.std.proofs.Common.{◌≡◌, ℕ, zero, suc, ◌+◌, ◌<◌, ◌≤◌, ◌⊎◌, Bool, true, false, List, [], ◌∷◌, ◌++◌, length, get_or, set, refl, sym, ap, ◌∙◌, arith, inl, inr}
+use Rattle.std.specs.Prelude.{◌&&◌, ◌==◌, not, cond, if◌then◌else◌}
+use Rattle.std.specs.List.{position_or_len}
+use Rattle.net_base.specs.declared.loc.LocSet.{LocSet}
+use Rattle.net_base.specs.Sets.{same_set}
+use Rattle.net_base.specs.Prefixes.{PlainPrefix}
+use Rattle.path_words.specs.declared.policy.Origin.{Origin}
+use Rattle.path_words.specs.declared.case.Case.{Case}
+use Rattle.path_words.specs.Cases.{with_prefix}
+use Rattle.path_words.proofs.RankPlaces.{tells}
+
+-- a case that has the statement and the origins
+fits : ℕ → LocSet → Case → Bool
+fits k at c = c.statement == k && same_set c.origins at
+
+here : (k : ℕ) (o : Origin) (c : Case) (cs : List Case) → fits k o.at c ≡ true → with_prefix k o (c ∷ cs) ≡ (record c { prefixes = c.prefixes ++ o.prefix ∷ [] }) ∷ cs
+unfolding fits
+here k o c cs is = ap (λ b. if b then (record c { prefixes = c.prefixes ++ o.prefix ∷ [] }) ∷ cs else c ∷ with_prefix k o cs) is
+
+later : (k : ℕ) (o : Origin) (c : Case) (cs : List Case) → fits k o.at c ≡ false → with_prefix k o (c ∷ cs) ≡ c ∷ with_prefix k o cs
+unfolding fits
+later k o c cs is = ap (λ b. if b then (record c { prefixes = c.prefixes ++ o.prefix ∷ [] }) ∷ cs else c ∷ with_prefix k o cs) is
+
+first_place : {X : Type 0} (p : X → Bool) (x : X) (xs : List X) → p x ≡ true → position_or_len p (x ∷ xs) ≡ 0
+first_place p x xs is = ap (λ b. cond (not b) (1 + position_or_len p xs) 0) is
+
+next_place : {X : Type 0} (p : X → Bool) (x : X) (xs : List X) → p x ≡ false → position_or_len p (x ∷ xs) ≡ 1 + position_or_len p xs
+next_place p x xs is = ap (λ b. cond (not b) (1 + position_or_len p xs) 0) is
+
+-- it joins the first one that has its statement and its origins
+pub with_prefix_found : (k : ℕ) (o : Origin) (cs : List Case) (d : Case) (i : ℕ) → i ≡ position_or_len (λ c. c.statement == k && same_set c.origins o.at) cs → i < length cs
+    → with_prefix k o cs ≡ set cs i (record (get_or cs i d) { prefixes = (get_or cs i d).prefixes ++ o.prefix ∷ [] })
+unfolding fits
+with_prefix_found k o [] d i is within = absurd (omega arith)
+with_prefix_found k o (c ∷ cs) d zero is within = elim (tells (fits k o.at c)) [
+  | inl met ↦ here k o c cs met
+  | inr missed ↦ absurd (omega (arith, is, next_place (fits k o.at) c cs missed))
+]
+with_prefix_found k o (c ∷ cs) d (suc i) is within = elim (tells (fits k o.at c)) [
+  | inl met ↦ absurd (omega (arith, is, first_place (fits k o.at) c cs met))
+  | inr missed ↦
+      let next : suc i ≡ 1 + position_or_len (fits k o.at) cs = is ∙ next_place (fits k o.at) c cs missed in
+      later k o c cs missed ∙ ap (λ ds. c ∷ ds) (with_prefix_found k o cs d i (omega (arith, next)) (omega arith))
+]
+
+-- the same as the program writes it: v is the case as it was, and ps are its prefixes then
+pub joined : (k : ℕ) (o : Origin) (cs : List Case) (i : ℕ) (v : Case) (ps : List PlainPrefix) → i ≡ position_or_len (λ c. c.statement == k && same_set c.origins o.at) cs → i < length cs
+    → v ≡ get_or cs i v → ps ≡ v.prefixes ++ o.prefix ∷ [] → set cs i (record v { prefixes = ps }) ≡ with_prefix k o cs
+joined k o cs i v ps is within read grown =
+    ap (λ qs. set cs i (record v { prefixes = qs })) grown ∙ ap (λ w. set cs i (record w { prefixes = w.prefixes ++ o.prefix ∷ [] })) read
+    ∙ sym (with_prefix_found k o cs v i is within)
+
+-- or begins a case at the end
+pub with_prefix_new : (k : ℕ) (o : Origin) (cs : List Case) (i : ℕ) → i ≡ position_or_len (λ c. c.statement == k && same_set c.origins o.at) cs → length cs ≤ i
+    → with_prefix k o cs ≡ cs ++ record { statement = k; origins = o.at; external = false; prefixes = o.prefix ∷ [] } ∷ []
+unfolding fits
+with_prefix_new k o [] i is past = refl
+with_prefix_new k o (c ∷ cs) zero is past = absurd (omega arith)
+with_prefix_new k o (c ∷ cs) (suc i) is past = elim (tells (fits k o.at c)) [
+  | inl met ↦ absurd (omega (arith, is, first_place (fits k o.at) c cs met))
+  | inr missed ↦
+      let next : suc i ≡ 1 + position_or_len (fits k o.at) cs = is ∙ next_place (fits k o.at) c cs missed in
+      later k o c cs missed ∙ ap (λ ds. c ∷ ds) (with_prefix_new k o cs i (omega (arith, next)) (omega arith))
+]

@@ -1,0 +1,5 @@
+pub mod CaseLemmas
+pub mod PlaceLemmas
+pub mod RankLemmas
+pub mod RankPlaces
+pub mod RankingViews
