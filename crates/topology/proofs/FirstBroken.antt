@@ -1,0 +1,206 @@
+-- The fault that is told has the least number of a rule that is broken.
+use Rattle.std.proofs.Common.{◌≡◌, ℕ, ◌+◌, List, [], ◌∷◌, ◌++◌, length, map, Some, Result, Ok, Err, Bool, true, false, ◌||◌, ◌&&◌, not, refl, sym, ap, ◌∙◌, arith, zero, suc, true≢false, eq-eqb, map-id}
+use Rattle.std.specs.Prelude.{IsTrue, ◌==◌, nat_le, position}
+use Rattle.std.specs.List.{list_any, AllByRecursion, IsDistinct}
+use Rattle.std.specs.Str.{bytes_eq}
+use Rattle.std.proofs.lemmas.Bool.{eqb-true, eqb-false}
+use Rattle.std.proofs.lemmas.List.Quantifiers.{position-Some}
+use Rattle.std.proofs.lemmas.List.Folds.{list_any_at}
+use Rattle.net_base.specs.NameRule.{is_name}
+use Rattle.net_base.specs.Network.{PlainNet, IsNet}
+use Rattle.net_base.specs.Steps.{◌>>=◌, each_from}
+use Rattle.net_base.specs.declared.place.Kind.TheVariants as kind
+use Rattle.topology.specs.declared.fault.TopoFault.{TopoFault}
+use Rattle.topology.specs.declared.fault.TopoFault.TheVariants.{LinkTwice, SelfLink, PeerLink}
+use Rattle.topology.specs.declared.sites.Number.TheVariants as which
+use Rattle.topology.specs.Faults.{number_of}
+use Rattle.topology.specs.Laws.{entries, is_among, same_link, Keeps, KeepsBelow}
+use Rattle.topology.specs.Rules.{named, site_of, counted, names_differ, numbers_differ, names_of, joined, links_differ, ends_differ, routers_linked, links_of, ascending, judged, is_lawful_as, same_ends}
+use Rattle.topology.specs.Shape.{each, Entry, Ends, Topology, IsIdentifier}
+use Rattle.topology.proofs.Distinct.{all_unlike-distinct}
+use Rattle.topology.proofs.EntryFaults.{Breaks, counted_breaks, named_breaks, all_named, site_breaks, all_lawful, names_break, names_keep, asns_break, asns_keep, ids_break, ids_keep}
+use Rattle.topology.proofs.LinkNames.{AllJoin, all_join, and_both, distinct_ends, distinct_links, any_join, to_itself, ends_known, joined-breaks, routers_first}
+use Rattle.topology.proofs.LinkRules.{all_false}
+use Rattle.topology.proofs.Networks.{each_named, counted_holds, kept_IsNet, all_append}
+use Rattle.topology.proofs.Outcomes.{bind_case, no_fault-err, each_from-breaks, all_unlike-breaks, all_nothing, any-breaks}
+use Rattle.topology.proofs.Places.{list_any-no_position}
+use Rattle.topology.proofs.Results.{no_fault-ok, bind_ok}
+use Rattle.topology.proofs.Unlike.{true_of-not}
+
+-- ---- rules 10 to 12
+
+same_ends-swap : (x y : ℕ × ℕ) → same_ends x y ≡ false → same_ends y x ≡ false
+same_ends-swap x y apart = by (same_ends y x) refl
+  where
+    by : (b : Bool) → same_ends y x ≡ b → b ≡ false
+    by false e = refl
+    by true e =
+        let f = and_both (y.0 == x.0) (y.1 == x.1) e in
+        absurd (true≢false (sym (rw (eq-eqb x.0 y.0 (sym (eqb-true y.0 x.0 f.0)), eq-eqb x.1 y.1 (sym (eqb-true y.1 x.1 f.1))) refl) ∙ apart))
+
+found_at : (p : ℕ × ℕ → Bool) (xs : List (ℕ × ℕ)) (i : ℕ) → position p xs ≡ Some i → list_any p xs ≡ true
+found_at p xs i h = let q = position-Some p xs i (0, 0) h in list_any_at p xs i (0, 0) q.0 q.1
+
+all_not : {A : Type 0} (g : A → Bool) (xs : List A) → AllByRecursion (λ x. IsTrue (g x)) xs → AllByRecursion (λ x. not (g x) ≡ false) xs
+all_not g [] a = tt
+all_not g (x ∷ xs) a = (rw a.0 refl, all_not g xs a.1)
+
+not_all : {A : Type 0} (g : A → Bool) (xs : List A) → AllByRecursion (λ x. not (g x) ≡ false) xs → AllByRecursion (λ x. IsTrue (g x)) xs
+not_all g [] a = tt
+not_all g (x ∷ xs) a = (true_of-not (g x) a.0, not_all g xs a.1)
+
+module _ (names : List (List ℕ)) (es : List Ends) (ps : List (ℕ × ℕ)) (j : AllJoin names es ps) where
+  links_break : (e : TopoFault) → links_differ ps ≡ Err e → (IsDistinct same_link es → ⊥) × (number_of e ≡ 10)
+  unfolding links_differ
+  links_break e h =
+      let q = all_unlike-breaks (λ (p : ℕ × ℕ). p) same_ends same_ends-swap (λ place _ _. LinkTwice place) (λ f. number_of f ≡ 10) (λ k a b. refl) [] ps e h in
+      ((λ d. q.0 (rw (map-id ps) (distinct_ends names es ps j d)) (all_nothing same_ends (map (λ (p : ℕ × ℕ). p) ps))), q.1)
+
+  links_keep : links_differ ps ≡ Ok tt → IsDistinct same_link es
+  unfolding links_differ
+  links_keep h = distinct_links names es ps j (rw (map-id ps) at (all_unlike-distinct (λ (p : ℕ × ℕ). p) same_ends same_ends-swap (λ place _ _. LinkTwice place) [] ps tt h).0)
+
+  ends_same : list_any (λ l. l.0 == l.1) ps ≡ list_any (λ l. bytes_eq l.from l.to) es
+  ends_same = any_join names (λ l. l.0 == l.1) (λ l. bytes_eq l.from l.to) (to_itself names) es ps j
+
+  ends_break : (e : TopoFault) → ends_differ ps ≡ Err e → (AllByRecursion (λ l. bytes_eq l.from l.to ≡ false) es → ⊥) × (number_of e ≡ 11)
+  unfolding ends_differ
+  ends_break e h =
+      let q = no_fault-err (λ i. SelfLink (i + 1)) (position (λ (l : ℕ × ℕ). l.0 == l.1) ps) e h in
+      ((λ a. any-breaks (λ l. bytes_eq l.from l.to) es (sym ends_same ∙ found_at (λ l. l.0 == l.1) ps q.0 q.1) a), ap number_of (sym q.2))
+
+  ends_keep : ends_differ ps ≡ Ok tt → AllByRecursion (λ l. bytes_eq l.from l.to ≡ false) es
+  unfolding ends_differ
+  ends_keep h = all_false (λ l. bytes_eq l.from l.to) es (sym ends_same ∙ list_any-no_position (λ (l : ℕ × ℕ). l.0 == l.1) ps (no_fault-ok _ _ _ h))
+
+module _ (rs qs : List Entry) (es : List Ends) (ps : List (ℕ × ℕ)) (j : AllJoin (names_of (rs ++ qs)) es ps) where
+  router_ends : list_any (λ l. nat_le (length rs) l.0) ps ≡ list_any (λ l. not (is_among rs l.from || is_among rs l.to)) es
+  router_ends = any_join (names_of (rs ++ qs)) (λ l. nat_le (length rs) l.0) (λ l. not (is_among rs l.from || is_among rs l.to)) (routers_first rs qs) es ps j
+
+  routers_break : (e : TopoFault) → routers_linked (length rs) ps ≡ Err e → (AllByRecursion (λ l. IsTrue (is_among rs l.from || is_among rs l.to)) es → ⊥) × (number_of e ≡ 12)
+  unfolding routers_linked
+  routers_break e h =
+      let q = no_fault-err (λ i. PeerLink (i + 1)) (position (λ (l : ℕ × ℕ). nat_le (length rs) l.0) ps) e h in
+      ((λ a. any-breaks (λ l. not (is_among rs l.from || is_among rs l.to)) es (sym router_ends ∙ found_at (λ l. nat_le (length rs) l.0) ps q.0 q.1) (all_not (λ l. is_among rs l.from || is_among rs l.to) es a)), ap number_of (sym q.2))
+
+  routers_keep : routers_linked (length rs) ps ≡ Ok tt → AllByRecursion (λ l. IsTrue (is_among rs l.from || is_among rs l.to)) es
+  unfolding routers_linked
+  routers_keep h =
+      not_all (λ l. is_among rs l.from || is_among rs l.to) es
+      (all_false (λ l. not (is_among rs l.from || is_among rs l.to)) es (sym router_ends ∙ list_any-no_position (λ (l : ℕ × ℕ). nat_le (length rs) l.0) ps (no_fault-ok _ _ _ h)))
+
+-- ---- one rule after the other
+
+-- what an answer says of the rules
+abbrev pub Outcome : {A : Type 0} → Topology → Result A TopoFault → Type 0
+Outcome t (Ok x) = KeepsBelow 13 t
+Outcome t (Err e) = KeepsBelow (number_of e) t × (Keeps (number_of e) t → ⊥)
+
+below_3 : (t : Topology) → KeepsBelow 3 t
+below_3 t zero l = tt
+below_3 t (suc zero) l = tt
+below_3 t (suc (suc zero)) l = tt
+below_3 t (suc (suc (suc k))) l = absurd (omega (arith, l))
+
+next : (n : ℕ) (t : Topology) → KeepsBelow n t → Keeps n t → KeepsBelow (n + 1) t
+next n t below keeps k l = by (k == n) refl
+  where
+    by : (b : Bool) → (k == n) ≡ b → Keeps k t
+    by true e = rw (eqb-true k n e) keeps
+    by false e = below k (omega (arith, l, eqb-false k n e))
+
+broken : {A : Type 0} (k : ℕ) (t : Topology) (y : Result A TopoFault) (e : TopoFault) → KeepsBelow k t → Breaks k t e → y ≡ Err e → Outcome t y
+broken k t y e below b same = rw same (rw b.1 (below, b.0))
+
+links_outcome : (t : Topology) → KeepsBelow 9 t → (y : Result (List (ℕ × ℕ)) TopoFault) → links_of (names_of (entries t)) (length t.routers) t.links ≡ y → Outcome t y
+unfolding links_of
+links_outcome t below y h =
+    let names = names_of (entries t) in
+    bind_case (Outcome t y) (each_from (joined names) 1 t.links) (λ links. links_differ links >>= (λ _. ends_differ links >>= (λ _. routers_linked (length t.routers) links >>= (λ _. Ok (ascending links))))) y h
+    (λ e p same. broken 9 t y e below (each_from-breaks (λ (l : Ends). IsTrue (list_any (bytes_eq l.from) names && list_any (bytes_eq l.to) names)) (λ f. number_of f ≡ 9) (joined names) (joined-breaks names) 1 t.links e p) same)
+    (λ ps p g.
+    let j = all_join names 1 t.links ps p in
+    let below_10 = next 9 t below (ends_known names t.links ps j) in
+    bind_case (Outcome t y) (links_differ ps) (λ _. ends_differ ps >>= (λ _. routers_linked (length t.routers) ps >>= (λ _. Ok (ascending ps)))) y g
+    (λ e p same. broken 10 t y e below_10 (links_break names t.links ps j e p) same)
+    (λ _ p g.
+    let below_11 = next 10 t below_10 (links_keep names t.links ps j p) in
+    bind_case (Outcome t y) (ends_differ ps) (λ _. routers_linked (length t.routers) ps >>= (λ _. Ok (ascending ps))) y g
+    (λ e p same. broken 11 t y e below_11 (ends_break names t.links ps j e p) same)
+    (λ _ p g.
+    let below_12 = next 11 t below_11 (ends_keep names t.links ps j p) in
+    bind_case (Outcome t y) (routers_linked (length t.routers) ps) (λ _. Ok (ascending ps)) y g
+    (λ e p same. broken 12 t y e below_12 (routers_break t.routers t.peers t.links ps j e p) same)
+    (λ _ p g. rw (← g) (next 12 t below_12 (routers_keep t.routers t.peers t.links ps j p))))))
+
+split_all : {A : Type 0} (P : A → Type 0) (xs ys : List A) → AllByRecursion P (xs ++ ys) → AllByRecursion P xs × AllByRecursion P ys
+split_all P [] ys a = (tt, a)
+split_all P (x ∷ xs) ys a = let q = split_all P xs ys a.1 in ((a.0, q.0), q.1)
+
+-- the rules from the names on, of entries that have names
+named_outcome : (t : Topology) → KeepsBelow 5 t → (y : Result PlainNet TopoFault)
+    → (names_differ (entries t) >>= (λ _. each (site_of kind.Routers) t.routers >>= (λ router_sites. each (site_of kind.Peers) t.peers >>= (λ peer_sites.
+    numbers_differ which.As (entries t) >>= (λ _. numbers_differ which.Id (entries t) >>= (λ _. links_of (names_of (entries t)) (length t.routers) t.links >>= (λ links.
+    Ok (record { routers = router_sites; peers = peer_sites; links = links })))))))) ≡ y → Outcome t y
+unfolding each
+named_outcome t below y h =
+    bind_case (Outcome t y) (names_differ (entries t)) _ y h
+    (λ e p same. broken 5 t y e below (names_break (entries t) e p) same)
+    (λ _ p g.
+    let below_6 = next 5 t below (names_keep (entries t) p) in
+    bind_case (Outcome t y) (each_from (λ _. site_of kind.Routers) 1 t.routers) _ y g
+    (λ e p same. let q = each_from-breaks (λ (x : Entry). IsTrue (is_lawful_as kind.Routers x.asn)) (λ f. number_of f ≡ 6) (λ _. site_of kind.Routers) (λ _. site_breaks kind.Routers) 1 t.routers e p in
+    broken 6 t y e below_6 ((λ k. q.0 k.0), q.1) same)
+    (λ ss rp g.
+    bind_case (Outcome t y) (each_from (λ _. site_of kind.Peers) 1 t.peers) _ y g
+    (λ e p same. let q = each_from-breaks (λ (x : Entry). IsTrue (is_lawful_as kind.Peers x.asn)) (λ f. number_of f ≡ 6) (λ _. site_of kind.Peers) (λ _. site_breaks kind.Peers) 1 t.peers e p in
+    broken 6 t y e below_6 ((λ k. q.0 k.1), q.1) same)
+    (λ qs pp g.
+    let below_7 = next 6 t below_6 (all_lawful kind.Routers 1 t.routers ss rp, all_lawful kind.Peers 1 t.peers qs pp) in
+    bind_case (Outcome t y) (numbers_differ which.As (entries t)) _ y g
+    (λ e p same. broken 7 t y e below_7 (asns_break (entries t) e p) same)
+    (λ _ p g.
+    let below_8 = next 7 t below_7 (asns_keep (entries t) p) in
+    bind_case (Outcome t y) (numbers_differ which.Id (entries t)) _ y g
+    (λ e p same. broken 8 t y e below_8 (ids_break (entries t) e p) same)
+    (λ _ p g.
+    let below_9 = next 8 t below_8 (ids_keep (entries t) p) in
+    bind_case (Outcome t y) (links_of (names_of (entries t)) (length t.routers) t.links) _ y g
+    (λ e p same. rw same (links_outcome t below_9 (Err e) p))
+    (λ links p g. rw (← g) (links_outcome t below_9 (Ok links) p)))))))
+
+pub judged_outcome : (t : Topology) (y : Result PlainNet TopoFault) → judged t ≡ y → Outcome t y
+unfolding judged
+judged_outcome t y h =
+    let lawful = λ (x : Entry). IsTrue (is_name x.name) in
+    bind_case (Outcome t y) (counted t) _ y h
+    (λ e p same. broken 3 t y e (below_3 t) (counted_breaks t e p) same)
+    (λ _ p g.
+    let below_4 = next 3 t (below_3 t) (counted_holds t p) in
+    bind_case (Outcome t y) (each_from (named kind.Routers) 1 t.routers) _ y g
+    (λ e p same. let q = each_from-breaks lawful (λ f. number_of f ≡ 4) (named kind.Routers) (named_breaks kind.Routers) 1 t.routers e p in
+    broken 4 t y e below_4 ((λ k. q.0 (split_all lawful t.routers t.peers k).0), q.1) same)
+    (λ rs rp g.
+    bind_case (Outcome t y) (each_from (named kind.Peers) 1 t.peers) _ y g
+    (λ e p same. let q = each_from-breaks lawful (λ f. number_of f ≡ 4) (named kind.Peers) (named_breaks kind.Peers) 1 t.peers e p in
+    broken 4 t y e below_4 ((λ k. q.0 (split_all lawful t.routers t.peers k).1), q.1) same)
+    (λ ps pp g. named_outcome t (next 4 t below_4 (all_append lawful t.routers t.peers (all_named kind.Routers 1 t.routers rs rp) (all_named kind.Peers 1 t.peers ps pp))) y
+    (rw (each_named kind.Routers t.routers rs rp, each_named kind.Peers t.peers ps pp) at g))))
+
+-- a topology that breaks no rule is a network
+pub judged_net : (t : Topology) (net : PlainNet) → AllByRecursion (λ e. IsIdentifier e.id) t.routers → AllByRecursion (λ e. IsIdentifier e.id) t.peers → judged t ≡ Ok net → IsNet net
+unfolding judged
+judged_net t net router_ids peer_ids h =
+    let a = bind_ok (counted t) _ net h in
+    let b = bind_ok (each_from (named kind.Routers) 1 t.routers) _ net a.2 in
+    let c = bind_ok (each_from (named kind.Peers) 1 t.peers) _ net b.2 in
+    let d = bind_ok (names_differ (b.0 ++ c.0)) _ net c.2 in
+    let e = bind_ok (each (site_of kind.Routers) b.0) _ net d.2 in
+    let f = bind_ok (each (site_of kind.Peers) c.0) _ net e.2 in
+    let g = bind_ok (numbers_differ which.As (b.0 ++ c.0)) _ net f.2 in
+    let i = bind_ok (numbers_differ which.Id (b.0 ++ c.0)) _ net g.2 in
+    let k = bind_ok (links_of (names_of (b.0 ++ c.0)) (length b.0) t.links) _ net i.2 in
+    rw (← ok_is net (record { routers = e.0; peers = f.0; links = k.0 }) k.2) (kept_IsNet t b.0 c.0 e.0 f.0 a.1 b.1 c.1 d.1 e.1 f.1 g.1 i.1 k.0 k.1 router_ids peer_ids)
+  where
+    ok_is : (x y : PlainNet) → (let r : Result PlainNet TopoFault = Ok y in r ≡ Ok x) → y ≡ x
+    ok_is x y h = cc

@@ -1,0 +1,17 @@
+pub mod Each
+pub mod JsonLists
+pub mod JsonTexts
+pub mod Unlike
+pub mod Places
+pub mod Ascending
+pub mod Networks
+pub mod Results
+pub mod Distinct
+pub mod LinkRules
+pub mod Identifiers
+pub mod Outcomes
+pub mod EntryFaults
+pub mod LinkNames
+pub mod FirstBroken
+pub mod ShapeFaults
+pub mod TextLaws

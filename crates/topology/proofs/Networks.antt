@@ -1,0 +1,121 @@
+-- A topology that breaks no rule is a network.
+use Rattle.std.proofs.Common.{◌≡◌, ℕ, ◌+◌, ◌≤◌, List, [], ◌∷◌, ◌++◌, length, map, Ok, refl, sym, ap, ◌∙◌}
+use Rattle.std.specs.Prelude.{IsTrue, nat_eq, nat_le}
+use Rattle.std.specs.List.{AllByRecursion}
+use Rattle.std.specs.Str.{bytes_eq}
+use Rattle.std.proofs.Common.{map-id, length-append, true≢false, false}
+use Rattle.std.proofs.lemmas.List.{map-append, length-map}
+use Rattle.std.proofs.lemmas.Bool.{eqb-false, eqb-true, leb-true, false_from_ne_true}
+use Rattle.std.proofs.lemmas.Slice.Eq.{bytes_eq-Decides}
+use Rattle.net_base.specs.NameRule.{is_name}
+use Rattle.net_base.specs.Network.{IsNet}
+use Rattle.net_base.specs.declared.place.Kind.{Kind}
+use Rattle.topology.specs.declared.fault.TopoFault.TheVariants.{AsRange, Twice, BadName, TooMany}
+use Rattle.net_base.specs.Steps.{◌>>=◌, each_from, unless}
+use Rattle.net_base.specs.declared.net.Site.{Site}
+use Rattle.net_base.specs.declared.place.Kind.TheVariants as kind
+use Rattle.topology.specs.declared.sites.Number.TheVariants as which
+use Rattle.topology.specs.Shape.{each, Entry, Topology, IsIdentifier}
+use Rattle.topology.proofs.Distinct.{all_unlike-distinct}
+use Rattle.topology.proofs.Results.{bind_ok, unless_ok, ok_same, each_from-view, each_from-all}
+use Rattle.topology.proofs.LinkRules.{links_hold}
+use Rattle.topology.specs.Rules.{named, site_of, counted, names_differ, numbers_differ, names_of, links_of, judged, is_lawful_as, shared}
+
+-- ---- what is kept of an entry
+
+abbrev site_entry : Site → Entry
+site_entry s = record { name = s.name; asn = s.asn; id = s.id }
+
+site_of_entry : (k : Kind) (e : Entry) (s : Site) → site_of k e ≡ Ok s → (site_entry s ≡ e) × IsTrue (is_lawful_as k s.asn)
+unfolding site_of
+site_of_entry k e s h =
+    let t : Site = record { name = e.name; asn = e.asn; id = e.id } in
+    let p = bind_ok (unless (AsRange e.name) (is_lawful_as k e.asn)) (λ _. Ok t) s h in
+    rw (← ok_same t s p.2) (refl, unless_ok _ _ _ p.1)
+
+pub each_site : (k : Kind) (es : List Entry) (ss : List Site) → each (site_of k) es ≡ Ok ss → (map site_entry ss ≡ es) × AllByRecursion (λ s. IsTrue (is_lawful_as k s.asn)) ss
+unfolding each
+each_site k es ss h = (
+  each_from-view (λ e. e) site_entry (λ _. site_of k) (λ _ e s g. (site_of_entry k e s g).0) 1 es ss h ∙ map-id es,
+  each_from-all (λ s. IsTrue (is_lawful_as k s.asn)) (λ _. site_of k) (λ _ e s g. (site_of_entry k e s g).1) 1 es ss h,
+)
+
+map_entry : {B : Type 0} (key : Entry → B) (ss : List Site) → map (λ s. key (site_entry s)) ss ≡ map key (map site_entry ss)
+map_entry key [] = refl
+map_entry key (s ∷ ss) = ap (λ ks. key (site_entry s) ∷ ks) (map_entry key ss)
+
+all_entry : (P : Entry → Type 0) (ss : List Site) → AllByRecursion P (map site_entry ss) → AllByRecursion (λ s. P (site_entry s)) ss
+all_entry P [] a = tt
+all_entry P (s ∷ ss) a = (a.0, all_entry P ss a.1)
+
+pub all_append : {A : Type 0} (P : A → Type 0) (xs ys : List A) → AllByRecursion P xs → AllByRecursion P ys → AllByRecursion P (xs ++ ys)
+all_append P [] ys a b = b
+all_append P (x ∷ xs) ys a b = (a.0, all_append P xs ys a.1 b)
+
+pub bytes_eq-swap : (x y : List ℕ) → bytes_eq x y ≡ false → bytes_eq y x ≡ false
+bytes_eq-swap x y apart =
+    false_from_ne_true (bytes_eq y x) (λ same. true≢false (sym ((bytes_eq-Decides x y).1 (sym ((bytes_eq-Decides y x).0 same))) ∙ apart))
+
+pub nat_eq-swap : (x y : ℕ) → nat_eq x y ≡ false → nat_eq y x ≡ false
+nat_eq-swap x y apart = false_from_ne_true (nat_eq y x) (λ same. eqb-false x y apart (sym (eqb-true y x same)))
+
+named_same : (k : Kind) (place : ℕ) (e y : Entry) → named k place e ≡ Ok y → y ≡ e
+unfolding named
+named_same k place e y h = let p = bind_ok (unless (BadName k place) (is_name e.name)) (λ _. Ok e) y h in sym (ok_same e y p.2)
+
+pub each_named : (k : Kind) (es ys : List Entry) → each_from (named k) 1 es ≡ Ok ys → ys ≡ es
+each_named k es ys h = sym (map-id ys) ∙ each_from-view (λ e. e) (λ e. e) (named k) (named_same k) 1 es ys h ∙ map-id es
+
+pub counted_holds : (t : Topology) → counted t ≡ Ok tt → (length t.routers ≤ 512) × (length t.peers ≤ 256) × (length t.links ≤ 8192)
+unfolding counted
+counted_holds t h =
+    let p = bind_ok (unless (TooMany kind.Routers (length t.routers)) (nat_le (length t.routers) 512)) (λ _. unless (TooMany kind.Peers (length t.peers)) (nat_le (length t.peers) 256) >>= (λ _. unless (TooMany kind.Links (length t.links)) (nat_le (length t.links) 8192))) tt h in
+    let q = bind_ok (unless (TooMany kind.Peers (length t.peers)) (nat_le (length t.peers) 256)) (λ _. unless (TooMany kind.Links (length t.links)) (nat_le (length t.links) 8192)) tt p.2 in
+    (leb-true _ _ (unless_ok _ _ _ p.1), leb-true _ _ (unless_ok _ _ _ q.1), leb-true _ _ (unless_ok _ _ _ q.2))
+
+-- ---- the rules that come before those of links are kept
+
+module _ (t : Topology) (routers peers : List Entry) (router_sites peer_sites : List Site)
+    (few : counted t ≡ Ok tt)
+    (named_routers : each_from (named kind.Routers) 1 t.routers ≡ Ok routers)
+    (named_peers : each_from (named kind.Peers) 1 t.peers ≡ Ok peers)
+    (names : names_differ (routers ++ peers) ≡ Ok tt)
+    (lawful_routers : each (site_of kind.Routers) routers ≡ Ok router_sites)
+    (lawful_peers : each (site_of kind.Peers) peers ≡ Ok peer_sites)
+    (asns : numbers_differ which.As (routers ++ peers) ≡ Ok tt)
+    (ids : numbers_differ which.Id (routers ++ peers) ≡ Ok tt) where
+  -- those of links decide
+  pub judged-links : judged t ≡ (links_of (names_of (routers ++ peers)) (length routers) t.links >>= (λ links. Ok (record { routers = router_sites; peers = peer_sites; links = links })))
+  unfolding judged
+  judged-links = rw (few, named_routers, named_peers, names, lawful_routers, lawful_peers, asns, ids) refl
+
+  -- and where they are kept too, the topology is a network
+  pub kept_IsNet : (links : List (ℕ × ℕ)) → links_of (names_of (routers ++ peers)) (length routers) t.links ≡ Ok links
+      → AllByRecursion (λ e. IsIdentifier e.id) t.routers → AllByRecursion (λ e. IsIdentifier e.id) t.peers
+      → IsNet (record { routers = router_sites; peers = peer_sites; links = links })
+  unfolding names_differ numbers_differ
+  kept_IsNet links linked id_routers id_peers =
+      let c = counted_holds t few in
+      let r = each_site kind.Routers routers router_sites lawful_routers in
+      let p = each_site kind.Peers peers peer_sites lawful_peers in
+      let l = links_hold (names_of (routers ++ peers)) (length routers) t.links links linked in
+      let all : map site_entry (router_sites ++ peer_sites) ≡ routers ++ peers = map-append site_entry router_sites peer_sites ∙ rw (r.0, p.0) refl in
+      let count_routers : length router_sites ≡ length routers = sym (length-map router_sites site_entry) ∙ ap length r.0 in
+      let count_peers : length peer_sites ≡ length peers = sym (length-map peer_sites site_entry) ∙ ap length p.0 in
+      let locations : length (names_of (routers ++ peers)) ≡ length router_sites + length peer_sites =
+      length-map (routers ++ peers) (λ (e : Entry). e.name) ∙ length-append routers peers ∙ rw (count_routers, count_peers) refl in
+      let ranges : AllByRecursion (λ e. IsIdentifier e.id) (routers ++ peers) =
+      all_append (λ (e : Entry). IsIdentifier e.id) routers peers (rw (each_named kind.Routers t.routers routers named_routers) id_routers) (rw (each_named kind.Peers t.peers peers named_peers) id_peers) in
+      record {
+        routers = rw (count_routers, each_named kind.Routers t.routers routers named_routers) c.0;
+        peers = rw (count_peers, each_named kind.Peers t.peers peers named_peers) c.1;
+        count = rw l.2 c.2;
+        names = rw (map_entry (λ e. e.name) (router_sites ++ peer_sites), all) (all_unlike-distinct (λ (e : Entry). e.name) bytes_eq bytes_eq-swap (λ _ _ later. Twice later.name) [] (routers ++ peers) tt names).0;
+        router_asns = r.1;
+        peer_asns = p.1;
+        asns = rw (map_entry (λ e. e.asn) (router_sites ++ peer_sites), all) (all_unlike-distinct (λ (e : Entry). e.asn) nat_eq nat_eq-swap (λ _. shared which.As) [] (routers ++ peers) tt asns).0;
+        ids = rw (map_entry (λ e. e.id) (router_sites ++ peer_sites), all) (all_unlike-distinct (λ (e : Entry). e.id) nat_eq nat_eq-swap (λ _. shared which.Id) [] (routers ++ peers) tt ids).0;
+        id_ranges = all_entry (λ e. IsIdentifier e.id) (router_sites ++ peer_sites) (rw all ranges);
+        links = rw (locations, ← count_routers) at l.0;
+        order = l.1;
+      }

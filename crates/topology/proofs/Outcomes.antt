@@ -1,0 +1,83 @@
+-- Which step decided, and what a step that failed tells.
+use Rattle.std.proofs.Common.{◌≡◌, ℕ, ◌+◌, List, [], ◌∷◌, ◌++◌, length, map, Option, Some, None, Result, Ok, Err, Bool, true, false, refl, sym, ◌∙◌, true≢false}
+use Rattle.std.specs.Prelude.{option_map}
+use Rattle.std.specs.List.{list_any, find, AllByRecursion, IsDistinct}
+use Rattle.std.proofs.lemmas.List.{map-append}
+use Rattle.std.proofs.lemmas.List.Folds.{list_any-append}
+use Rattle.net_base.specs.Steps.{◌>>=◌, or_fault, unless, each_from}
+use Rattle.topology.specs.declared.fault.TopoFault.{TopoFault}
+use Rattle.topology.specs.Rules.{all_unlike, no_fault}
+use Rattle.topology.proofs.Distinct.{NotIn}
+use Rattle.topology.proofs.Results.{err_same, ok_not_err}
+use Rattle.topology.proofs.Unlike.{find-none, list_any-map}
+
+-- either the first step decided, or it went well and the rest did
+pub bind_case : {A B : Type 0} (C : Type 0) (r : Result A TopoFault) (f : A → Result B TopoFault) (y : Result B TopoFault) → (r >>= f) ≡ y
+    → ((e : TopoFault) → r ≡ Err e → y ≡ Err e → C) → ((x : A) → r ≡ Ok x → f x ≡ y → C) → C
+bind_case C (Ok x) f y h here later = later x refl h
+bind_case C (Err e) f y h here later = here e refl (sym h)
+
+pub unless_err : (e f : TopoFault) (b : Bool) → unless e b ≡ Err f → (e ≡ f) × (b ≡ false)
+unless_err e f true h = absurd cc
+unless_err e f false h = (cc, refl)
+
+pub or_fault_err : {A : Type 0} (e f : TopoFault) (o : Option A) → or_fault e o ≡ Err f → (e ≡ f) × (o ≡ None)
+or_fault_err e f (Some x) h = absurd cc
+or_fault_err e f None h = (cc, refl)
+
+pub no_fault-err : {A : Type 0} (told : A → TopoFault) (o : Option A) (f : TopoFault) → no_fault (option_map told o) ≡ Err f → (x : A) × (o ≡ Some x) × (told x ≡ f)
+no_fault-err told None f h = absurd cc
+no_fault-err told (Some x) f h = (x, refl, cc)
+
+-- where a step fails only at items without a property, not all items have it
+pub each_from-breaks : {A B : Type 0} (P : A → Type 0) (Q : TopoFault → Type 0) (f : ℕ → A → Result B TopoFault) → ((k : ℕ) (x : A) (e : TopoFault) → f k x ≡ Err e → (P x → ⊥) × Q e)
+    → (k : ℕ) (xs : List A) (e : TopoFault) → each_from f k xs ≡ Err e → (AllByRecursion P xs → ⊥) × Q e
+each_from-breaks P Q f each k [] e h = absurd cc
+each_from-breaks P Q f each k (x ∷ xs) e h =
+    bind_case ((AllByRecursion P (x ∷ xs) → ⊥) × Q e) (f k x) (λ y. each_from f (k + 1) xs >>= (λ ys. Ok (y ∷ ys))) (Err e) h
+    (λ d p same. let q = each k x d p in ((λ a. q.0 a.0), rw (err_same e d same) q.1))
+    (λ y _ g. bind_case ((AllByRecursion P (x ∷ xs) → ⊥) × Q e) (each_from f (k + 1) xs) (λ ys. Ok (y ∷ ys)) (Err e) g
+    (λ d p same. let q = each_from-breaks P Q f each (k + 1) xs d p in ((λ a. q.0 a.1), rw (err_same e d same) q.1))
+    (λ ys _ k. absurd (ok_not_err (y ∷ ys) e k)))
+
+find_any : {A : Type 0} (p : A → Bool) (xs : List A) (y : A) → find p xs ≡ Some y → list_any p xs ≡ true
+find_any p xs y h = by (list_any p xs) refl
+  where
+    by : (b : Bool) → list_any p xs ≡ b → b ≡ true
+    by true e = refl
+    by false e = absurd (let n = sym (find-none p xs e) ∙ h in cc)
+
+module _ {A B : Type 0} (key : A → B) (eq : B → B → Bool) (swap : (x y : B) → eq x y ≡ false → eq y x ≡ false) (told : ℕ → A → A → TopoFault) where
+  join_it : (seen : List B) (x : B) (ys : List B) → AllByRecursion (NotIn eq seen) ys → AllByRecursion (λ y. eq x y ≡ false) ys → AllByRecursion (NotIn eq (seen ++ x ∷ [])) ys
+  join_it seen x [] a b = tt
+  join_it seen x (y ∷ ys) a b = (list_any-append (eq y) seen (x ∷ []) ∙ rw (a.0, swap x y b.0) refl, join_it seen x ys a.1 b.1)
+
+  -- where items are told to be alike, they aren't distinct
+  pub all_unlike-breaks : (Q : TopoFault → Type 0) → ((k : ℕ) (a b : A) → Q (told k a b)) → (before xs : List A) (e : TopoFault) → all_unlike (λ a b. eq (key a) (key b)) told before xs ≡ Err e
+      → (IsDistinct eq (map key xs) → AllByRecursion (NotIn eq (map key before)) (map key xs) → ⊥) × Q e
+  unfolding IsDistinct
+  all_unlike-breaks Q all before [] e h = absurd cc
+  all_unlike-breaks Q all before (x ∷ xs) e h =
+      bind_case ((IsDistinct eq (map key (x ∷ xs)) → AllByRecursion (NotIn eq (map key before)) (map key (x ∷ xs)) → ⊥) × Q e)
+      (no_fault (option_map (λ earlier. told (length before + 1) earlier x) (find (λ b. eq (key x) (key b)) before))) (λ _. all_unlike (λ a b. eq (key a) (key b)) told (before ++ x ∷ []) xs) (Err e) h
+      (λ d p same.
+      let q = no_fault-err (λ earlier. told (length before + 1) earlier x) (find (λ b. eq (key x) (key b)) before) d p in
+      let found = list_any-map (eq (key x)) key before ∙ find_any (λ b. eq (key x) (key b)) before q.0 q.1 in
+      ((λ _ a. true≢false (sym found ∙ a.0)), rw (err_same e d same, ← q.2) (all (length before + 1) q.0 x)))
+      (λ _ _ g. let q = all_unlike-breaks Q all (before ++ x ∷ []) xs e g in
+      ((λ d a. q.0 d.1 (rw (map-append key before (x ∷ [])) (join_it (map key before) (key x) (map key xs) a.1 d.0))), q.1))
+
+pub all_nothing : {B : Type 0} (eq : B → B → Bool) (ys : List B) → AllByRecursion (NotIn eq []) ys
+all_nothing eq [] = tt
+all_nothing eq (y ∷ ys) = (refl, all_nothing eq ys)
+
+-- ---- tests of lists
+
+pub any-breaks : {A : Type 0} (r : A → Bool) (xs : List A) → list_any r xs ≡ true → AllByRecursion (λ x. r x ≡ false) xs → ⊥
+any-breaks r [] h a = absurd cc
+any-breaks r (x ∷ xs) h a = any-breaks r xs (rw a.0 at h) a.1
+
+pub bool_same : (b c : Bool) → (b ≡ true → c ≡ true) → (c ≡ true → b ≡ true) → b ≡ c
+bool_same true c f g = sym (f refl)
+bool_same false true f g = g refl
+bool_same false false f g = refl

@@ -1,0 +1,145 @@
+-- What a text's answer says of it.
+use Rattle.std.proofs.Common.{◌≡◌, ℕ, ◌<◌, List, Option, Some, None, Result, Ok, Err, Bool, true, false, refl, sym, ap, ◌∙◌, arith, ltb-true, ltb-false, ◌∷◌}
+use Rattle.std.specs.Prelude.{⊤, ◌==◌, nat_lt, if◌then◌else◌}
+use Rattle.std.specs.Str.{is_utf8, IsUtf8}
+use Rattle.std.proofs.Math.ListN.{get_or-eq_default}
+use Rattle.std.proofs.lemmas.Bool.{eqb-true, eqb-false}
+use Rattle.std.proofs.lemmas.Str.{IsUtf8-from_is_utf8}
+use Rattle.serde_json.specs.Data.{Data}
+use Rattle.serde_json.specs.Read.{read}
+use Rattle.net_base.specs.Network.{PlainNet, IsNet}
+use Rattle.net_base.specs.Steps.{◌>>=◌}
+use Rattle.net_base.specs.declared.place.Field.{Field}
+use Rattle.topology.specs.declared.fault.TopoFault.{TopoFault}
+use Rattle.topology.specs.declared.fault.TopoFault.TheVariants.{NotJson, Shape}
+use Rattle.topology.specs.Faults.{number_of}
+use Rattle.topology.specs.Json.{json_of}
+use Rattle.topology.specs.Laws.{rules, Says, Keeps, KeepsBelow}
+use Rattle.topology.specs.Rules.{judged}
+use Rattle.topology.specs.Shape.{Topology, shape_of}
+use Rattle.topology.specs.Topology.{spelled}
+use Rattle.topology.proofs.FirstBroken.{judged_outcome, judged_net, Outcome}
+use Rattle.topology.proofs.Identifiers.{shape_ids}
+use Rattle.topology.proofs.JsonTexts.{json_of-read, json_of-refused}
+use Rattle.topology.proofs.Outcomes.{bind_case, or_fault_err}
+use Rattle.topology.proofs.Results.{bind_ok, or_fault_ok}
+use Rattle.topology.proofs.ShapeFaults.{Only, IsShape, shape_only}
+
+value_read : (b : Bool) (r : Option Data) (d : Data) → (if b then r else None) ≡ Some d → (b ≡ true) × (r ≡ Some d)
+value_read true r d h = (refl, h)
+value_read false r d h = absurd cc
+
+json_of-value : (bytes : List ℕ) (d : Data) → json_of bytes ≡ Ok d → IsUtf8 bytes × (read bytes ≡ Some d)
+unfolding json_of
+json_of-value bytes d h =
+    let p = value_read (is_utf8 bytes) (read bytes) d (or_fault_ok NotJson (if is_utf8 bytes then read bytes else None) d h) in
+    (IsUtf8-from_is_utf8 bytes p.0, p.1)
+
+json_of-fault : (bytes : List ℕ) (e : TopoFault) → json_of bytes ≡ Err e → NotJson ≡ e
+unfolding json_of
+json_of-fault bytes e h = (or_fault_err NotJson e (if is_utf8 bytes then read bytes else None) h).0
+
+shape_fault : (r : Result Topology TopoFault) (e : TopoFault) → Only IsShape r → r ≡ Err e → IsShape e
+shape_fault (Ok t) e only h = absurd cc
+shape_fault (Err f) e only h = rw (same f e h) at only
+  where
+    same : (f e : TopoFault) → (let r : Result Topology TopoFault = Err f in r ≡ Err e) → f ≡ e
+    same f e h = cc
+
+-- a text with the shape of a topology is judged as that
+spelled-says : (bytes : List ℕ) (t : Topology) → Says bytes t → spelled bytes ≡ judged t
+unfolding spelled
+spelled-says bytes t s = rw (json_of-read bytes s.0 s.1 s.2, s.3) refl
+
+pub says_read : (bytes : List ℕ) (net : PlainNet) → spelled bytes ≡ Ok net → (t : Topology) × Says bytes t × KeepsBelow 13 t
+unfolding spelled
+says_read bytes net h =
+    let p = bind_ok (json_of bytes) (λ d. shape_of d >>= (λ t. judged t)) net h in
+    let q = bind_ok (shape_of p.0) (λ t. judged t) net p.2 in
+    let v = json_of-value bytes p.0 p.1 in
+    (q.0, (p.0, v.0, v.1, q.1), judged_outcome q.0 (Ok net) q.2)
+
+pub net_read : (bytes : List ℕ) (net : PlainNet) → spelled bytes ≡ Ok net → IsNet net
+unfolding spelled
+net_read bytes net h =
+    let p = bind_ok (json_of bytes) (λ d. shape_of d >>= (λ t. judged t)) net h in
+    let q = bind_ok (shape_of p.0) (λ t. judged t) net p.2 in
+    let ids = shape_ids p.0 q.0 q.1 in
+    judged_net q.0 net ids.0 ids.1 q.2
+
+-- the rules of the fault's number are the first that are broken
+pub first_broken : (bytes : List ℕ) (t : Topology) (e : TopoFault) → Says bytes t → spelled bytes ≡ Err e → KeepsBelow (number_of e) t × (Keeps (number_of e) t → ⊥)
+first_broken bytes t e s h = judged_outcome t (Err e) (sym (spelled-says bytes t s) ∙ h)
+
+-- there are no rules from 13 on
+no_more_rules : (k : ℕ) (t : Topology) → (Keeps k t → ⊥) → k < 13
+no_more_rules k t breaks = by (nat_lt k 13) refl
+  where
+    by : (b : Bool) → nat_lt k 13 ≡ b → k < 13
+    by true e = ltb-true k 13 e
+    by false e = absurd (breaks (rw (get_or-eq_default (⊤ ∷ ⊤ ∷ ⊤ ∷ rules t) ⊤ {n = k} (omega (arith, ltb-false k 13 e))) tt))
+
+lesser : (n k : ℕ) (t : Topology) → KeepsBelow n t → (Keeps n t → ⊥) → KeepsBelow k t → (Keeps k t → ⊥) → (n ≡ k → ⊥) → ⊥
+lesser n k t below_n breaks_n below_k breaks_k apart = by (nat_lt n k) refl
+  where
+    by : (b : Bool) → nat_lt n k ≡ b → ⊥
+    by true e = breaks_n (below_k n (ltb-true n k e))
+    by false e = breaks_k (below_n k (omega (arith, ltb-false n k e, apart)))
+
+pub read_where_kept : (bytes : List ℕ) (t : Topology) → Says bytes t → KeepsBelow 13 t → (net : PlainNet) × (spelled bytes ≡ Ok net)
+read_where_kept bytes t s keeps = by (judged t) refl
+  where
+    by : (r : Result PlainNet TopoFault) → judged t ≡ r → (net : PlainNet) × (spelled bytes ≡ Ok net)
+    by (Ok net) e = (net, spelled-says bytes t s ∙ e)
+    by (Err f) e = let o = judged_outcome t (Err f) e in absurd (o.1 (keeps (number_of f) (no_more_rules (number_of f) t o.1)))
+
+pub told_where_broken : (bytes : List ℕ) (t : Topology) (k : ℕ) → Says bytes t → KeepsBelow k t → (Keeps k t → ⊥) → (e : TopoFault) × (spelled bytes ≡ Err e) × (number_of e ≡ k)
+told_where_broken bytes t k s keeps breaks = by (judged t) refl
+  where
+    by : (r : Result PlainNet TopoFault) → judged t ≡ r → (e : TopoFault) × (spelled bytes ≡ Err e) × (number_of e ≡ k)
+    by (Ok net) e = absurd (breaks (judged_outcome t (Ok net) e k (no_more_rules k t breaks)))
+    by (Err f) e = (f, spelled-says bytes t s ∙ e, same (judged_outcome t (Err f) e) (number_of f == k) refl)
+      where
+        same : Outcome t (let r : Result PlainNet TopoFault = Err f in r) → (b : Bool) → (number_of f == k) ≡ b → number_of f ≡ k
+        same o true h = eqb-true (number_of f) k h
+        same o false h = absurd (lesser (number_of f) k t o.0 o.1 keeps breaks (eqb-false (number_of f) k h))
+
+-- ---- no JSON, and another shape
+
+none_read : (r : Option Data) → ((d : Data) → r ≡ Some d → ⊥) → r ≡ None
+none_read None never = refl
+none_read (Some d) never = absurd (never d refl)
+
+pub not_json-only : (bytes : List ℕ) → spelled bytes ≡ Err NotJson → (d : Data) → IsUtf8 bytes → read bytes ≡ Some d → ⊥
+unfolding spelled
+not_json-only bytes h d text is =
+    bind_case ⊥ (shape_of d) (λ t. judged t) (Err NotJson) (sym (ap (λ (r : Result Data TopoFault). r >>= (λ v. shape_of v >>= (λ t. judged t))) (json_of-read bytes d text is)) ∙ h)
+    (λ e p same. let q = shape_fault (shape_of d) e (shape_only d) p in apart e q.0 q.1 same)
+    (λ t p g. (judged_outcome t (Err NotJson) g).1 tt)
+  where
+    apart : (e : TopoFault) (f : Field) → e ≡ Shape f → (let r : Result PlainNet TopoFault = Err NotJson in r ≡ Err e) → ⊥
+    apart e f a b = cc
+
+pub not_json-all : (bytes : List ℕ) → ((d : Data) → IsUtf8 bytes → read bytes ≡ Some d → ⊥) → spelled bytes ≡ Err NotJson
+unfolding spelled
+not_json-all bytes never = rw (json_of-refused bytes (λ text. none_read (read bytes) (λ d is. never d text is))) refl
+
+pub shape-only : (bytes : List ℕ) (f : Field) → spelled bytes ≡ Err (Shape f) → (d : Data) × IsUtf8 bytes × (read bytes ≡ Some d) × (shape_of d ≡ Err (Shape f))
+unfolding spelled
+shape-only bytes f h =
+    bind_case ((d : Data) × IsUtf8 bytes × (read bytes ≡ Some d) × (shape_of d ≡ Err (Shape f))) (json_of bytes) (λ d. shape_of d >>= (λ t. judged t)) (Err (Shape f)) h
+    (λ e p same. absurd (apart e (json_of-fault bytes e p) same))
+    (λ d p g. let v = json_of-value bytes d p in
+    bind_case ((d : Data) × IsUtf8 bytes × (read bytes ≡ Some d) × (shape_of d ≡ Err (Shape f))) (shape_of d) (λ t. judged t) (Err (Shape f)) g
+    (λ e p same. (d, v.0, v.1, p ∙ ap Err (sym (alike e same))))
+    (λ t p g. absurd ((judged_outcome t (Err (Shape f)) g).1 tt)))
+  where
+    apart : (e : TopoFault) → NotJson ≡ e → (let r : Result PlainNet TopoFault = Err (Shape f) in r ≡ Err e) → ⊥
+    apart e a b = cc
+
+    alike : (e : TopoFault) → (let r : Result PlainNet TopoFault = Err (Shape f) in r ≡ Err e) → Shape f ≡ e
+    alike e h = cc
+
+pub shape-all : (bytes : List ℕ) (f : Field) (d : Data) → IsUtf8 bytes → read bytes ≡ Some d → shape_of d ≡ Err (Shape f) → spelled bytes ≡ Err (Shape f)
+unfolding spelled
+shape-all bytes f d text is shaped = rw (json_of-read bytes d text is, shaped) refl

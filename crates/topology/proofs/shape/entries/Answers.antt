@@ -1,0 +1,10 @@
+use Rattle.serde_json.specs.View.{view}
+use Rattle.topology.specs.Shape.{entry_of}
+use Rattle.topology.specs.Views.{raw_entry}
+use Rattle.topology.proofs.Each.{each_from-ok}
+use Rattle.topology.proofs.shape.entries.Goals as goal
+
+pub loop-value-preserved : goal.loop-value-preserved
+loop-value-preserved c =
+    rw c.in_ok-push.ensures.items
+    (each_from-ok view (λ _. entry_of) c.args.values.now c.loop-value.value-index _ c.loop-value-test.true c.value-item.is raw_entry _ _ _ c.in_ok-read.ensures c.loop-value.invariant)

@@ -1,0 +1,10 @@
+use Rattle.std.proofs.Common.{◌≡◌, ◌+◌, map, drop}
+use Rattle.serde_json.specs.View.{view}
+use Rattle.net_base.specs.Steps.{each_from}
+use Rattle.topology.specs.Shape.{entry_of}
+use Rattle.topology.specs.Views.{raw_entry}
+use Rattle.topology.proofs.Each.{with_front}
+use Rattle.topology.proofs.shape.entries.Given as goal
+
+abbrev pub invariant-loop-value : goal.invariant-loop-value
+invariant-loop-value l = with_front (map raw_entry l.all.items) (each_from (λ _. entry_of) (l.value-index + 1) (map view (drop l.value-index l.values))) ≡ each_from (λ _. entry_of) 1 (map view l.values)

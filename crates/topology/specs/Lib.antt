@@ -1,0 +1,8 @@
+pub mod Faults
+pub mod Gives
+pub mod Json
+pub mod Rules
+pub mod Shape
+pub mod Topology
+pub mod Views
+pub mod Laws

@@ -1,0 +1,24 @@
+-- What borrowed parts of a text say.
+use Rattle.std.specs.Prelude.{ℕ, List, map}
+use Rattle.std.proofs.Common.{Bor}
+use Rattle.topology.specs.declared.shape.RawEntry.{RawEntry}
+use Rattle.topology.specs.declared.shape.RawEnds.{RawEnds}
+use Rattle.topology.specs.declared.shape.RawTopology.{RawTopology}
+use Rattle.topology.specs.declared.sites.Named.{Named}
+use Rattle.topology.specs.Shape.{Entry, Ends, Topology}
+
+abbrev pub raw_entry : RawEntry → Entry
+raw_entry r = record { name = r.name.now; asn = r.asn; id = r.id }
+
+abbrev pub raw_ends : RawEnds → Ends
+raw_ends r = record { from = r.from.now; to = r.to.now }
+
+abbrev pub raw_topology : RawTopology → Topology
+raw_topology r = record { routers = map raw_entry r.routers.items; peers = map raw_entry r.peers.items; links = map raw_ends r.links.items }
+
+abbrev pub named_entry : Named → Entry
+named_entry n = record { name = n.name; asn = n.asn; id = n.id }
+
+-- what borrowed texts say
+abbrev pub texts : List (Bor (List ℕ)) → List (List ℕ)
+texts ks = map (λ k. k.now) ks

@@ -1,0 +1,84 @@
+//! What is wrong with a topology text.
+use net_base::{Field, Kind, Name};
+use std::alloc::{AllocError, AllocFailed};
+
+/// The rule that a topology text breaks: of several the one that stands first here. Places count from 1 in
+/// their array.
+#[derive(Clone, Copy, Drop, PartialEq, Eq)]
+pub enum TopoFault {
+    /// The text is no JSON, or opens more than 127 arrays and objects at once.
+    NotJson,
+    /// The value hasn't the shape of a topology; this is the first part that differs.
+    Shape(Field),
+    /// There are more than 512 routers, 256 peers or 8,192 links; this is how many there are.
+    TooMany(Kind, u64),
+    /// The entry at this place of `routers` or `peers` has no lawful name.
+    BadName(Kind, u32),
+    /// The name stands twice over routers and peers.
+    Twice(Name),
+    /// The AS number is out of range: from 64512 to 65534 for a router (RFC 6996), from 1 to 65534 for a peer.
+    AsRange(Name),
+    /// Both have the same AS number. The earlier one stands first.
+    AsTwice(Name, Name),
+    /// Both have the same identifier. The earlier one stands first.
+    IdTwice(Name, Name),
+    /// An end of the link at this place isn't a name of the text.
+    UnknownEnd(u32),
+    /// The link at this place has the ends of an earlier one, in either order.
+    LinkTwice(u32),
+    /// The link at this place joins a location to itself.
+    SelfLink(u32),
+    /// The link at this place joins two peers.
+    PeerLink(u32),
+    /// There was not enough memory.
+    NoMemory,
+}
+
+impl TopoFault {
+    ghost use Rattle.std.specs.Prelude.{◌≡◌};
+    ghost use Rattle.topology.specs.Faults.{number_of};
+
+    /// The number of the fault, from 1 to 12: of several broken rules the one with the least number is told.
+    /// Want of memory has the number 0.
+    pub fn number(&self) -> u8
+        ensures { result ≡ number_of self.now }
+    {
+        match self {
+            TopoFault::NotJson => 1,
+            TopoFault::Shape(_) => 2,
+            TopoFault::TooMany(_, _) => 3,
+            TopoFault::BadName(_, _) => 4,
+            TopoFault::Twice(_) => 5,
+            TopoFault::AsRange(_) => 6,
+            TopoFault::AsTwice(_, _) => 7,
+            TopoFault::IdTwice(_, _) => 8,
+            TopoFault::UnknownEnd(_) => 9,
+            TopoFault::LinkTwice(_) => 10,
+            TopoFault::SelfLink(_) => 11,
+            TopoFault::PeerLink(_) => 12,
+            TopoFault::NoMemory => 0,
+        }
+    }
+}
+
+impl From<AllocError> for TopoFault {
+    ghost use Rattle.std.specs.Prelude.{◌≡◌};
+    ghost use Rattle.topology.specs.declared.fault.TopoFault.TheVariants.{NoMemory};
+
+    ghost from_gives = { λ _ e. e ≡ NoMemory };
+
+    fn from(_e: AllocError) -> TopoFault {
+        TopoFault::NoMemory
+    }
+}
+
+impl<T: Drop> From<AllocFailed<T>> for TopoFault {
+    ghost use Rattle.std.specs.Prelude.{◌≡◌};
+    ghost use Rattle.topology.specs.declared.fault.TopoFault.TheVariants.{NoMemory};
+
+    ghost from_gives = { λ _ e. e ≡ NoMemory };
+
+    fn from(_e: AllocFailed<T>) -> TopoFault {
+        TopoFault::NoMemory
+    }
+}
