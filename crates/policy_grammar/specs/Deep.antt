@@ -1,0 +1,22 @@
+-- How many brackets are open at once.
+use Rattle.std.specs.Prelude.{ℕ, ◌+◌, ◌-◌, nat_le, Bool, false, List, [], ◌∷◌, Option, Some, None, if◌then◌else◌}
+use Rattle.net_base.specs.declared.place.Place.{Place}
+use Rattle.policy_grammar.specs.declared.lexeme.Lexeme.{Lexeme}
+use Rattle.policy_grammar.specs.declared.symbol.Symbol.{Symbol}
+use Rattle.policy_grammar.specs.declared.symbol.Symbol.TheVariants.{RoundOpen, RoundClose}
+
+-- how many brackets are open behind a lexeme before which n are
+abbrev pub open_behind : ℕ → Symbol → ℕ
+open_behind n RoundOpen = n + 1
+open_behind n RoundClose = n - 1
+open_behind n _ = n
+
+-- the lexeme opens one more bracket, and 64 are open
+abbrev pub is_too_deep : ℕ → Symbol → Bool
+is_too_deep n RoundOpen = nat_le 64 n
+is_too_deep n _ = false
+
+-- the place of the first bracket that is too deep, where n are open before these lexemes
+abbrev pub first_deep : ℕ → List Lexeme → Option Place
+first_deep n [] = None
+first_deep n (l ∷ ls) = if is_too_deep n l.symbol then Some l.place else first_deep (open_behind n l.symbol) ls

@@ -1,0 +1,32 @@
+-- What the steps of a reading tell.
+use Rattle.std.proofs.Common.{◌≡◌, ℕ, ◌≤◌, ◌<◌, Bool, true, false, Result, Ok, Err, refl, arith, leb-true, ap₂}
+use Rattle.std.specs.Prelude.{◌&&◌, ⊤, nat_le, not}
+use Rattle.std.specs.Cmp.{IsEquivalence}
+use Rattle.std.proofs.lemmas.Cmp.{nat_eq_equiv}
+use Rattle.net_base.specs.Prefixes.{PlainPrefix, same_prefix}
+use Rattle.net_base.specs.Steps.{◌>>=◌, unless}
+
+-- a reading that goes on has read its first part
+pub bind_ok : {A B F : Type 0} (r : Result A F) (f : A → Result B F) (y : B) → (r >>= f) ≡ Ok y → (x : A) × (r ≡ Ok x) × (f x ≡ Ok y)
+bind_ok (Ok x) f y e = (x, refl, e)
+bind_ok (Err d) f y e = absurd cc
+
+pub unless_ok : {F : Type 0} (d : F) (b : Bool) (x : ⊤) → unless d b ≡ Ok x → b ≡ true
+unless_ok d true x e = refl
+unless_ok d false x e = absurd cc
+
+pub both_true : (a b : Bool) → (a && b) ≡ true → (a ≡ true) × (b ≡ true)
+both_true true b e = (refl, e)
+both_true false b e = absurd cc
+
+pub false_of_not : (b : Bool) → not b ≡ true → b ≡ false
+false_of_not true e = absurd cc
+false_of_not false e = refl
+
+-- prefixes are the same where their bits and their lengths are
+pub same_prefix_equiv : IsEquivalence same_prefix
+same_prefix_equiv = record {
+  refl = λ x. ap₂ (λ (a b : Bool). a && b) (nat_eq_equiv.refl x.bits) (nat_eq_equiv.refl x.len);
+  symm = λ x y. ap₂ (λ (a b : Bool). a && b) (nat_eq_equiv.symm x.bits y.bits) (nat_eq_equiv.symm x.len y.len);
+  congr = λ x y z same. let h = both_true _ _ same in ap₂ (λ (a b : Bool). a && b) (nat_eq_equiv.congr x.bits y.bits z.bits h.0) (nat_eq_equiv.congr x.len y.len z.len h.1);
+}

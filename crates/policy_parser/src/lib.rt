@@ -1,0 +1,13 @@
+//! Reading the policy language.
+#![tactic(auto)]
+
+mod origins;
+mod ranked;
+mod read;
+mod statements;
+
+pub use policy_tokens::{PolicyFault, Token, TokenKind, tokens};
+pub use read::read_policy;
+
+#[cfg(test)]
+mod tests;

@@ -1,0 +1,39 @@
+//! Tokens.
+use net_base::Place;
+
+/// What a token is.
+#[derive(Clone, Copy, Debug, PartialEq, Eq)]
+pub enum TokenKind {
+    /// A letter, then letters, digits, `_`, `-` and `.`: at most 32 bytes.
+    Word,
+    /// A digit, then digits, `.` and `/`.
+    Figure,
+    /// `=>`
+    Arrow,
+    /// `>>`
+    Above,
+    /// `=`
+    Equals,
+    /// `{`
+    BraceOpen,
+    /// `}`
+    BraceClose,
+    /// `(`
+    RoundOpen,
+    /// `)`
+    RoundClose,
+    /// `,`
+    Comma,
+    /// `;`
+    Semicolon,
+}
+
+/// A token of a text: the bytes from `from` on, before `to`.
+#[derive(Clone, Copy, Debug, PartialEq, Eq)]
+pub struct Token {
+    pub kind: TokenKind,
+    pub from: u32,
+    pub to: u32,
+    /// Where its first byte stands.
+    pub place: Place,
+}
