@@ -1,0 +1,5 @@
+pub mod CallLaws
+pub mod Counts
+pub mod RankedLaws
+pub mod SetLaws
+pub mod SetSteps

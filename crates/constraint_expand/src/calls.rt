@@ -1,0 +1,130 @@
+//! The expressions of calls.
+ghost use Rattle.std.specs.Prelude.{◌≡◌, IfOk, map};
+ghost use Rattle.path_exprs.specs.Expression.{Expression};
+ghost use Rattle.path_exprs.specs.Normal.{all};
+ghost use Rattle.path_exprs.specs.View.{view, views};
+ghost use Rattle.path_words.specs.declared.clause.Clause.TheVariants.{Avoid, Exit, Enter};
+ghost use Rattle.constraint_expand.specs.Forward.{forward as forward_of, in_turn as in_turn_of, either_of_two as either_of, both_of_two as both_of};
+
+use crate::sets::{common, outside};
+use net_base::{LocSet, Net};
+use path_exprs::{Expr, locations, peers};
+use path_words::Clause;
+use std::alloc::{AllocError, Global};
+
+/// The expression that holds every list.
+fn everything(alloc: Global) -> Result<Expr, AllocError>
+    ensures { IfOk result (λ r. view r ≡ all) }
+{
+    Ok(Expr::Not(Box::new(alloc, Expr::Never)?))
+}
+
+/// One after the other.
+fn seq(alloc: Global, a: Expr, b: Expr) -> Result<Expr, AllocError>
+    ensures { IfOk result (λ r. view r ≡ Expression.seq (view a) (view b)) }
+{
+    Ok(Expr::Seq(Box::new(alloc, a)?, Box::new(alloc, b)?))
+}
+
+/// One of two.
+fn either(alloc: Global, a: Expr, b: Expr) -> Result<Expr, AllocError>
+    ensures { IfOk result (λ r. view r ≡ either_of (view a) (view b)) }
+{
+    Ok(Expr::Either(vec![in alloc; a, b]?))
+}
+
+/// Both of two.
+pub fn both(alloc: Global, a: Expr, b: Expr) -> Result<Expr, AllocError>
+    ensures { IfOk result (λ r. view r ≡ both_of (view a) (view b)) }
+{
+    Ok(Expr::Both(vec![in alloc; a, b]?))
+}
+
+/// Any number of locations of the net outside the set.
+fn outside_only(alloc: Global, net: &Net, set: &LocSet) -> Result<Expr, AllocError>
+    ensures { IfOk result (λ r. view r ≡ forward_of net.now (Avoid set.now)) }
+{
+    let others = outside(&locations(net), set);
+    Ok(Expr::Star(Box::new(alloc, Expr::Set(others))?))
+}
+
+/// The expression of a call.
+pub fn forward(alloc: Global, net: &Net, call: &Clause) -> Result<Expr, AllocError>
+    ensures { IfOk result (λ r. view r ≡ forward_of net.now call.now) }
+{
+    match call {
+        Clause::Any => Ok(everything(alloc)?),
+        Clause::Drop => Ok(Expr::Never),
+        Clause::Internal => Ok(outside_only(alloc, net, &peers(net))?),
+        Clause::Avoid(s) => Ok(outside_only(alloc, net, s)?),
+        Clause::Through(s) => {
+            let back = seq(alloc, Expr::Set(*s), everything(alloc)?)?;
+            Ok(seq(alloc, everything(alloc)?, back)?)
+        }
+        Clause::NoTransit(s) => {
+            let back = seq(
+                alloc,
+                outside_only(alloc, net, s)?,
+                Expr::Set(locations(net)),
+            )?;
+            Ok(seq(alloc, Expr::Set(locations(net)), back)?)
+        }
+        Clause::Start(s) => Ok(seq(alloc, Expr::Set(*s), everything(alloc)?)?),
+        Clause::End(s) => Ok(seq(alloc, everything(alloc)?, Expr::Set(*s))?),
+        Clause::Link(s, t) => {
+            let last = seq(alloc, Expr::Set(*t), everything(alloc)?)?;
+            let back = seq(alloc, Expr::Set(*s), last)?;
+            Ok(seq(alloc, everything(alloc)?, back)?)
+        }
+        Clause::Path(sets) => Ok(in_turn(alloc, sets.as_slice())?),
+        Clause::Exit(s) => Ok(exit(alloc, net, s)?),
+        Clause::Enter(s) => Ok(enter(alloc, net, s)?),
+    }
+}
+
+/// The last location is a peer, and it or the one before it is in the set.
+fn exit(alloc: Global, net: &Net, set: &LocSet) -> Result<Expr, AllocError>
+    ensures { IfOk result (λ r. view r ≡ forward_of net.now (Exit set.now)) }
+{
+    let ends = peers(net);
+    let first = seq(alloc, everything(alloc)?, Expr::Set(common(set, &ends)))?;
+    let back = seq(alloc, Expr::Set(*set), Expr::Set(ends))?;
+    let second = seq(alloc, everything(alloc)?, back)?;
+    Ok(either(alloc, first, second)?)
+}
+
+/// The first location is a peer, and it or the one after it is in the set.
+fn enter(alloc: Global, net: &Net, set: &LocSet) -> Result<Expr, AllocError>
+    ensures { IfOk result (λ r. view r ≡ forward_of net.now (Enter set.now)) }
+{
+    let ends = peers(net);
+    let first = seq(alloc, Expr::Set(common(set, &ends)), everything(alloc)?)?;
+    let back = seq(alloc, Expr::Set(*set), everything(alloc)?)?;
+    let second = seq(alloc, Expr::Set(ends), back)?;
+    Ok(either(alloc, first, second)?)
+}
+
+/// One location of each set in turn.
+fn in_turn(alloc: Global, sets: &[LocSet]) -> Result<Expr, AllocError>
+    ensures { IfOk result (λ r. view r ≡ in_turn_of sets.now) }
+{
+    match sets {
+        [] => Ok(Expr::Empty),
+        [only] => Ok(Expr::Set(*only)),
+        [first, others @ ..] => {
+            let back = in_turn(alloc, others)?;
+            Ok(seq(alloc, Expr::Set(*first), back)?)
+        }
+    }
+}
+
+/// The expressions of calls.
+pub fn forward_each(alloc: Global, net: &Net, calls: &[Clause]) -> Result<Vec<Expr>, AllocError>
+    ensures { IfOk result (λ r. views r.items ≡ map (forward_of net.now) calls.now) }
+{
+    let mut all = Vec::new(alloc);
+    for call in calls {
+        all.push(forward(alloc, net, call)?)?;
+    }
+    Ok(all)
+}

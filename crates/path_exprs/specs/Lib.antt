@@ -1,0 +1,13 @@
+pub mod Expression
+pub mod Order
+pub mod View
+pub mod Language
+pub mod Membership
+pub mod Normal
+pub mod Derivative
+pub mod Writes
+pub mod Runs
+pub mod Ordered
+pub mod Total
+pub mod Alike
+pub mod NetSets

@@ -1,0 +1,16 @@
+//! Expressions over locations: which lists they hold, their normal forms, their derivatives and their order.
+#![tactic(auto)]
+
+mod copy;
+mod equality;
+mod expr;
+mod net_sets;
+mod order;
+mod ranked_expr;
+#[cfg(test)]
+mod tests;
+
+pub use copy::copy_of;
+pub use expr::Expr;
+pub use net_sets::{locations, peers};
+pub use ranked_expr::RankedExpr;

@@ -1,0 +1,45 @@
+//! Expressions in the order of their ranks.
+ghost use Rattle.std.specs.Prelude.{◌≡◌, ◌≤◌, length};
+
+use crate::expr::Expr;
+use net_base::List;
+use std::marker::Model;
+
+/// The expressions of the alternatives of a ranked expression, the best one first. At most 64.
+#[derive(Drop)]
+pub struct RankedExpr {
+    alternatives: List<Expr>,
+}
+
+impl Model for RankedExpr {
+    ghost use Rattle.std.specs.Prelude.{List as Items, ◌≤◌, length};
+    ghost use Rattle.std.specs.Coded.{codes};
+    ghost use Rattle.path_exprs.specs.contracts.expr.Expr as expr;
+    ghost use Rattle.path_exprs.specs.declared.expr.Expr.{Expr};
+
+    ghost Value = { Items Expr };
+
+    ghost coded = { Prim.hlevel (codes, expr.the_row.coded) };
+
+    ghost view = { λ r. r.alternatives };
+
+    ghost invariant = { λ r. length r.alternatives ≤ 64 };
+}
+
+impl RankedExpr {
+    /// The expressions of these alternatives.
+    pub fn new(alternatives: List<Expr>) -> RankedExpr
+        requires { length alternatives ≤ 64 }
+        ensures { result ≡ alternatives }
+    {
+        RankedExpr { alternatives }
+    }
+
+    /// The expressions, in order of rank.
+    pub fn alternatives(&self) -> &[Expr]
+        ensures alternatives { result.now ≡ self.now }
+        ensures few { length self.now ≤ 64 }
+    {
+        self.alternatives.as_slice()
+    }
+}

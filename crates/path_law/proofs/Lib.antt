@@ -1,0 +1,11 @@
+pub mod Languages
+pub mod NormalForms
+pub mod Derivatives
+pub mod Repeats
+pub mod Normals
+pub mod Reversal
+pub mod Members
+pub mod Sorting
+pub mod RunLaws
+pub mod NetLaws
+pub mod EmptyNet

@@ -1,0 +1,232 @@
+-- Each normal form holds the lists that the plain form holds.
+use Rattle.std.proofs.Common.{◌≡◌, ℕ, List, [], ◌∷◌, ◌++◌, Bool, true, false, not, cond, ◌&&◌, ◌||◌, refl, sym, ap, ◌∙◌, ⊎_elim}
+use Rattle.std.specs.declared.cmp.Ordering.{Ordering}
+use Rattle.std.specs.declared.cmp.Ordering.TheVariants.{Less, Equal, Greater}
+use Rattle.std.specs.Ordering.{match_ordering}
+use Rattle.std.specs.List.{list_any, flat_map}
+use Rattle.std.proofs.lemmas.Bool.{or_cases}
+use Rattle.path_exprs.specs.Expression.{Expression, never, empty, set, seq, either, both, complement, Expressions, none, more, expressions_of, list_of}
+use Rattle.path_exprs.specs.Order.{compare}
+use Rattle.path_exprs.specs.Language.{Language, divides}
+use Rattle.path_exprs.specs.Membership.{member, some_member, each_member}
+use Rattle.path_exprs.specs.Normal.{all, is_all, is_never, after, before, seq_of, insert, insert_each, sorted, either_parts, either_from, either_of, both_parts, both_from, both_of, complement_of}
+use Rattle.path_law.proofs.Languages.{Same, divides_same, divides_assoc, divides-none_left, divides-nothing_left, divides-none_right, divides-nothing_right}
+use Rattle.path_exprs.specs.Ordered.{compare-equal}
+
+-- sequences
+
+pub member-after : (a c : Expression) → Same (member (after a c)) (divides (member a) (member c))
+member-after (seq a b) c xs =
+    divides_same (member a) (member a) (member (after b c)) (divides (member b) (member c)) (λ ys. refl) (member-after b c) xs
+    ∙ sym (divides_assoc (member a) (member b) (member c) xs)
+member-after a c xs = refl
+
+member-before : (a b : Expression) → Same (member (before a b)) (divides (member a) (member b))
+member-before a never xs = sym (divides-none_right (member a) xs)
+member-before a empty xs = sym (divides-nothing_right (member a) xs)
+member-before a (set ws) xs = member-after a (set ws) xs
+member-before a b xs = member-after a b xs
+
+pub member-seq_of : (a b : Expression) → Same (member (seq_of a b)) (divides (member a) (member b))
+member-seq_of never b xs = sym (divides-none_left (member b) xs)
+member-seq_of empty b xs = sym (divides-nothing_left (member b) xs)
+member-seq_of a b xs = member-before a b xs
+
+pub member-complement_of : (a : Expression) → Same (member (complement_of a)) (λ xs. not (member a xs))
+member-complement_of (complement a) xs = twice (member a xs)
+  where
+    twice : (b : Bool) → b ≡ not (not b)
+    twice true = refl
+    twice false = refl
+member-complement_of a xs = refl
+
+-- alternations
+
+or_left_comm : (a b c : Bool) → (a || (b || c)) ≡ (b || (a || c))
+or_left_comm true true c = refl
+or_left_comm true false c = refl
+or_left_comm false b c = refl
+
+or_twice : (a b : Bool) → (a || b) ≡ (a || (a || b))
+or_twice true b = refl
+or_twice false b = refl
+
+or_assoc : (a b c : Bool) → ((a || b) || c) ≡ (a || (b || c))
+or_assoc true b c = refl
+or_assoc false b c = refl
+
+-- a member of the list holds it
+abbrev pub in_some : List Expression → Language
+in_some es xs = some_member (expressions_of es) xs
+
+abbrev pub in_each : List Expression → Language
+in_each es xs = each_member (expressions_of es) xs
+
+pub in_some-list_of : (es : Expressions) (xs : List ℕ) → in_some (list_of es) xs ≡ some_member es xs
+in_some-list_of none xs = refl
+in_some-list_of (more e es) xs = ap (λ b. member e xs || b) (in_some-list_of es xs)
+
+pub in_each-list_of : (es : Expressions) (xs : List ℕ) → in_each (list_of es) xs ≡ each_member es xs
+in_each-list_of none xs = refl
+in_each-list_of (more e es) xs = ap (λ b. member e xs && b) (in_each-list_of es xs)
+
+in_some-insert-at : (e f : Expression) (fs : List Expression) (xs : List ℕ) → in_some (insert e fs) xs ≡ (member e xs || in_some fs xs) →
+    (o : Ordering) → compare e f ≡ o → in_some (match_ordering o (e ∷ f ∷ fs) (f ∷ fs) (f ∷ insert e fs)) xs ≡ (member e xs || (member f xs || in_some fs xs))
+in_some-insert-at e f fs xs ih Less h = refl
+in_some-insert-at e f fs xs ih Equal h =
+    ap (λ g. member g xs || in_some fs xs) (sym (compare-equal e f h))
+    ∙ or_twice (member e xs) (in_some fs xs)
+    ∙ ap (λ g. member e xs || (member g xs || in_some fs xs)) (compare-equal e f h)
+in_some-insert-at e f fs xs ih Greater h =
+    ap (λ b. member f xs || b) ih ∙ or_left_comm (member f xs) (member e xs) (in_some fs xs)
+
+in_some-insert : (e : Expression) (fs : List Expression) (xs : List ℕ) → in_some (insert e fs) xs ≡ (member e xs || in_some fs xs)
+in_some-insert e [] xs = refl
+in_some-insert e (f ∷ fs) xs = in_some-insert-at e f fs xs (in_some-insert e fs xs) (compare e f) refl
+
+in_some-insert_each : (es fs : List Expression) (xs : List ℕ) → in_some (insert_each es fs) xs ≡ (in_some es xs || in_some fs xs)
+in_some-insert_each [] fs xs = refl
+in_some-insert_each (e ∷ es) fs xs =
+    in_some-insert_each es (insert e fs) xs
+    ∙ ap (λ b. in_some es xs || b) (in_some-insert e fs xs)
+    ∙ or_left_comm (in_some es xs) (member e xs) (in_some fs xs)
+    ∙ sym (or_assoc (member e xs) (in_some es xs) (in_some fs xs))
+
+or_false : (a : Bool) → (a || false) ≡ a
+or_false true = refl
+or_false false = refl
+
+or_true : (a : Bool) → (a || true) ≡ true
+or_true true = refl
+or_true false = refl
+
+in_some-append : (es fs : List Expression) (xs : List ℕ) → in_some (es ++ fs) xs ≡ (in_some es xs || in_some fs xs)
+in_some-append [] fs xs = refl
+in_some-append (e ∷ es) fs xs =
+    ap (λ b. member e xs || b) (in_some-append es fs xs) ∙ sym (or_assoc (member e xs) (in_some es xs) (in_some fs xs))
+
+in_some-parts : (e : Expression) (xs : List ℕ) → in_some (either_parts e) xs ≡ member e xs
+in_some-parts never xs = refl
+in_some-parts (either es) xs = in_some-list_of es xs
+in_some-parts e xs = or_false (member e xs)
+
+in_some-flat : (es : List Expression) (xs : List ℕ) → in_some (flat_map either_parts es) xs ≡ in_some es xs
+in_some-flat [] xs = refl
+in_some-flat (e ∷ es) xs =
+    in_some-append (either_parts e) (flat_map either_parts es) xs
+    ∙ ap (λ b. b || in_some (flat_map either_parts es) xs) (in_some-parts e xs)
+    ∙ ap (λ b. member e xs || b) (in_some-flat es xs)
+
+in_some-sorted : (es : List Expression) (xs : List ℕ) → in_some (sorted (flat_map either_parts es)) xs ≡ in_some es xs
+in_some-sorted es xs = in_some-insert_each (flat_map either_parts es) [] xs ∙ or_false (in_some (flat_map either_parts es) xs) ∙ in_some-flat es xs
+
+member-either_from : (es : List Expression) (xs : List ℕ) → member (either_from es) xs ≡ in_some es xs
+member-either_from [] xs = refl
+member-either_from (e ∷ []) xs = sym (or_false (member e xs))
+member-either_from (e ∷ f ∷ fs) xs = refl
+
+member-is_all : (e : Expression) (xs : List ℕ) → is_all e ≡ true → member e xs ≡ true
+member-is_all (complement never) xs h = refl
+member-is_all e xs h = cc
+
+in_some-some_all : (es : List Expression) (xs : List ℕ) → list_any is_all es ≡ true → in_some es xs ≡ true
+in_some-some_all [] xs h = cc
+in_some-some_all (e ∷ es) xs h =
+    ⊎_elim (λ k. ap (λ b. b || in_some es xs) (member-is_all e xs k)) (λ k. ap (λ b. member e xs || b) (in_some-some_all es xs k) ∙ or_true (member e xs))
+    (or_cases (is_all e) (list_any is_all es) h)
+
+all-or : (b : Bool) (fs : List Expression) (xs : List ℕ) → list_any is_all fs ≡ b → member (cond b all (either_from fs)) xs ≡ in_some fs xs
+all-or true fs xs h = sym (in_some-some_all fs xs h)
+all-or false fs xs h = member-either_from fs xs
+
+pub member-either_of : (es : List Expression) (xs : List ℕ) → member (either_of es) xs ≡ in_some es xs
+member-either_of es xs =
+    all-or (list_any is_all (sorted (flat_map either_parts es))) (sorted (flat_map either_parts es)) xs refl ∙ in_some-sorted es xs
+
+-- intersections
+
+and_left_comm : (a b c : Bool) → (a && (b && c)) ≡ (b && (a && c))
+and_left_comm true b c = refl
+and_left_comm false true c = refl
+and_left_comm false false c = refl
+
+and_twice : (a b : Bool) → (a && b) ≡ (a && (a && b))
+and_twice true b = refl
+and_twice false b = refl
+
+and_assoc : (a b c : Bool) → ((a && b) && c) ≡ (a && (b && c))
+and_assoc true b c = refl
+and_assoc false b c = refl
+
+and_true : (a : Bool) → (a && true) ≡ a
+and_true true = refl
+and_true false = refl
+
+and_false : (a : Bool) → (a && false) ≡ false
+and_false true = refl
+and_false false = refl
+
+in_each-insert-at : (e f : Expression) (fs : List Expression) (xs : List ℕ) → in_each (insert e fs) xs ≡ (member e xs && in_each fs xs) →
+    (o : Ordering) → compare e f ≡ o → in_each (match_ordering o (e ∷ f ∷ fs) (f ∷ fs) (f ∷ insert e fs)) xs ≡ (member e xs && (member f xs && in_each fs xs))
+in_each-insert-at e f fs xs ih Less h = refl
+in_each-insert-at e f fs xs ih Equal h =
+    ap (λ g. member g xs && in_each fs xs) (sym (compare-equal e f h))
+    ∙ and_twice (member e xs) (in_each fs xs)
+    ∙ ap (λ g. member e xs && (member g xs && in_each fs xs)) (compare-equal e f h)
+in_each-insert-at e f fs xs ih Greater h =
+    ap (λ b. member f xs && b) ih ∙ and_left_comm (member f xs) (member e xs) (in_each fs xs)
+
+in_each-insert : (e : Expression) (fs : List Expression) (xs : List ℕ) → in_each (insert e fs) xs ≡ (member e xs && in_each fs xs)
+in_each-insert e [] xs = refl
+in_each-insert e (f ∷ fs) xs = in_each-insert-at e f fs xs (in_each-insert e fs xs) (compare e f) refl
+
+in_each-insert_each : (es fs : List Expression) (xs : List ℕ) → in_each (insert_each es fs) xs ≡ (in_each es xs && in_each fs xs)
+in_each-insert_each [] fs xs = refl
+in_each-insert_each (e ∷ es) fs xs =
+    in_each-insert_each es (insert e fs) xs
+    ∙ ap (λ b. in_each es xs && b) (in_each-insert e fs xs)
+    ∙ and_left_comm (in_each es xs) (member e xs) (in_each fs xs)
+    ∙ sym (and_assoc (member e xs) (in_each es xs) (in_each fs xs))
+
+in_each-append : (es fs : List Expression) (xs : List ℕ) → in_each (es ++ fs) xs ≡ (in_each es xs && in_each fs xs)
+in_each-append [] fs xs = refl
+in_each-append (e ∷ es) fs xs =
+    ap (λ b. member e xs && b) (in_each-append es fs xs) ∙ sym (and_assoc (member e xs) (in_each es xs) (in_each fs xs))
+
+in_each-parts : (e : Expression) (xs : List ℕ) → in_each (both_parts e) xs ≡ member e xs
+in_each-parts (complement never) xs = refl
+in_each-parts (both es) xs = in_each-list_of es xs
+in_each-parts e xs = and_true (member e xs)
+
+in_each-flat : (es : List Expression) (xs : List ℕ) → in_each (flat_map both_parts es) xs ≡ in_each es xs
+in_each-flat [] xs = refl
+in_each-flat (e ∷ es) xs =
+    in_each-append (both_parts e) (flat_map both_parts es) xs
+    ∙ ap (λ b. b && in_each (flat_map both_parts es) xs) (in_each-parts e xs)
+    ∙ ap (λ b. member e xs && b) (in_each-flat es xs)
+
+in_each-sorted : (es : List Expression) (xs : List ℕ) → in_each (sorted (flat_map both_parts es)) xs ≡ in_each es xs
+in_each-sorted es xs = in_each-insert_each (flat_map both_parts es) [] xs ∙ and_true (in_each (flat_map both_parts es) xs) ∙ in_each-flat es xs
+
+member-both_from : (es : List Expression) (xs : List ℕ) → member (both_from es) xs ≡ in_each es xs
+member-both_from [] xs = refl
+member-both_from (e ∷ []) xs = sym (and_true (member e xs))
+member-both_from (e ∷ f ∷ fs) xs = refl
+
+member-is_never : (e : Expression) (xs : List ℕ) → is_never e ≡ true → member e xs ≡ false
+member-is_never never xs h = refl
+member-is_never e xs h = cc
+
+in_each-some_never : (es : List Expression) (xs : List ℕ) → list_any is_never es ≡ true → in_each es xs ≡ false
+in_each-some_never [] xs h = cc
+in_each-some_never (e ∷ es) xs h =
+    ⊎_elim (λ k. ap (λ b. b && in_each es xs) (member-is_never e xs k)) (λ k. ap (λ b. member e xs && b) (in_each-some_never es xs k) ∙ and_false (member e xs))
+    (or_cases (is_never e) (list_any is_never es) h)
+
+never-or : (b : Bool) (fs : List Expression) (xs : List ℕ) → list_any is_never fs ≡ b → member (cond b never (both_from fs)) xs ≡ in_each fs xs
+never-or true fs xs h = sym (in_each-some_never fs xs h)
+never-or false fs xs h = member-both_from fs xs
+
+pub member-both_of : (es : List Expression) (xs : List ℕ) → member (both_of es) xs ≡ in_each es xs
+member-both_of es xs =
+    never-or (list_any is_never (sorted (flat_map both_parts es))) (sorted (flat_map both_parts es)) xs refl ∙ in_each-sorted es xs

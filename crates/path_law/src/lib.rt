@@ -1,0 +1,46 @@
+//! Laws of expressions, each the contract of a function without a body.
+#![tactic(auto)]
+
+ghost use Rattle.std.specs.Prelude.{◌≡◌, ◌↔◌, ◌∷◌, [], ℕ, List, reverse, true};
+ghost use Rattle.std.specs.List.{list_all};
+ghost use Rattle.net_base.specs.Network.{IsNet, PlainNet, is_location};
+ghost use Rattle.path_exprs.specs.Derivative.{derivative};
+ghost use Rattle.path_exprs.specs.Expression.{Expression};
+ghost use Rattle.path_exprs.specs.Membership.{Member, member};
+ghost use Rattle.path_exprs.specs.NetSets.{locations};
+ghost use Rattle.path_exprs.specs.Normal.{normal, reversed, sorted};
+ghost use Rattle.path_exprs.specs.Order.{Ascends};
+ghost use Rattle.path_exprs.specs.Runs.{along, first_with, start_of};
+
+/// The test of membership holds exactly of the lists that are in an expression.
+pub fn membership_is_decided()
+    ensures { (e : Expression) (xs : List ℕ) → (member e xs ≡ true) ↔ Member e xs }
+{}
+
+/// The normal form for a network holds the lists of its locations that the expression holds.
+pub fn normal_form_keeps_membership()
+    ensures { (net : PlainNet) (e : Expression) (xs : List ℕ) → IsNet net → list_all (is_location net) xs ≡ true
+        → member (normal (locations net) e) xs ≡ member e xs }
+{}
+
+/// The derivative by a location holds the lists that, with the location in front, are in the expression.
+pub fn derivative_takes_off_a_location()
+    ensures { (e : Expression) (x : ℕ) (xs : List ℕ) → member (derivative x e) xs ≡ member e (x ∷ xs) }
+{}
+
+/// The reversed expression holds the reversed lists.
+pub fn reversal_reverses_lists()
+    ensures { (e : Expression) (xs : List ℕ) → member (reversed e) xs ≡ member e (reverse xs) }
+{}
+
+/// The members of a normal alternation or intersection ascend, each strictly.
+pub fn members_ascend()
+    ensures { (es : List Expression) → Ascends (sorted es) }
+{}
+
+/// After a list of locations of the network, the first of the reversed normal forms' derivatives that holds
+/// the empty list is the first expression that holds the reversed list.
+pub fn derivatives_decide()
+    ensures { (net : PlainNet) (es : List Expression) (xs : List ℕ) → IsNet net → list_all (is_location net) xs ≡ true
+        → first_with [] (along xs (start_of (locations net) es)) ≡ first_with (reverse xs) es }
+{}
