@@ -1,5 +1,6 @@
 pub mod Outside
 pub mod Calls
+pub mod Held
 pub mod MemInputs
 pub mod MemSink
 pub mod SureInputs
