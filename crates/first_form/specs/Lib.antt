@@ -1,0 +1,3 @@
+pub mod First
+pub mod Law
+pub mod Views
