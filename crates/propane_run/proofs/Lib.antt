@@ -1,0 +1,5 @@
+pub mod Causes
+pub mod Compiles
+pub mod Jobs
+pub mod Laws
+pub mod Sending

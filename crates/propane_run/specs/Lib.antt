@@ -1,0 +1,9 @@
+pub mod Clauses
+pub mod Compiled
+pub mod FaultLines
+pub mod Headline
+pub mod NetRead
+pub mod Reading
+pub mod Run
+pub mod Said
+pub mod Words

@@ -1,0 +1,54 @@
+-- What comes of reading names.
+use Rattle.std.specs.Prelude.{◌≡◌, ◌⊎◌, ℕ, ◌≤◌, ◌<◌, List, [], ◌∷◌, ◌++◌, length, nat_lt, Option, Some, option_and_then, IfSome, codes, if◌then◌else◌}
+use Rattle.propane_run.specs.Said.{Said, line, no_memory}
+use Rattle.propane_run.specs.declared.outcome.Status.TheVariants.{ReadFault, BadInput}
+
+-- the most bytes of a named input
+abbrev pub most : ℕ
+most = 33554432
+
+-- what each name holds, where that is told
+abbrev pub Holds : Type 0
+Holds = List ℕ → Option (List ℕ)
+
+-- what is said of a name that can't be read, and of one that holds too much
+abbrev pub unread : List ℕ → Said
+unread name = line ReadFault (codes "propane: " ++ codes "cannot read " ++ name ++ codes "\n")
+
+abbrev pub too_long : List ℕ → Said
+too_long name = line BadInput (codes "propane: " ++ codes "too long " ++ name ++ codes "\n")
+
+-- These are the bytes of the name, where that is told, and not too many.
+pub record IsHeld (holds : Holds) (name bytes : List ℕ) : Type 0 where
+  pub told : IfSome (holds name) (λ held. bytes ≡ held)
+  pub within : length bytes ≤ most
+
+-- The name was not read, and this is said of it.
+abbrev pub IsStop : Holds → (List ℕ → Type 0) → List ℕ → Said → Type 0
+IsStop holds rose name what =
+    (what ≡ no_memory)
+    ⊎ (what ≡ unread name) × rose name
+    ⊎ (what ≡ too_long name) × IfSome (holds name) (λ held. most < length held)
+
+-- The name was read, and what comes of its bytes is said; or it was not.
+abbrev pub Reads : Holds → (List ℕ → Type 0) → List ℕ → (List ℕ → Said → Type 0) → Said → Type 0
+Reads holds rose name next what =
+    IsStop holds rose name what
+    ⊎ (bytes : List ℕ) × IsHeld holds name bytes × next bytes what
+
+-- The names are read one after another.
+abbrev pub ReadsAll : Holds → (List ℕ → Type 0) → List (List ℕ) → (List (List ℕ) → Said → Type 0) → Said → Type 0
+ReadsAll holds rose [] next what = next [] what
+ReadsAll holds rose (n ∷ ns) next what = Reads holds rose n (λ b. ReadsAll holds rose ns (λ bs. next (b ∷ bs))) what
+
+-- These are the bytes of the names, where told, and none has too many.
+abbrev pub AllHeld : Holds → List (List ℕ) → List (List ℕ) → Type 0
+AllHeld holds [] [] = Unit {0}
+AllHeld holds (n ∷ ns) (b ∷ bs) = IsHeld holds n b × AllHeld holds ns bs
+AllHeld holds _ _ = ⊥
+
+-- What is to be said where all is told: of the first name that holds too much, or else of the bytes.
+abbrev pub said_of_bytes : Holds → List (List ℕ) → (List (List ℕ) → Said) → Option Said
+said_of_bytes holds [] next = Some (next [])
+said_of_bytes holds (n ∷ ns) next =
+    option_and_then (λ b. if nat_lt most (length b) then Some (too_long n) else said_of_bytes holds ns (λ bs. next (b ∷ bs))) (holds n)

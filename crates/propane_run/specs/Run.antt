@@ -1,0 +1,45 @@
+-- What the words and the inputs come to.
+use Rattle.std.specs.Prelude.{◌≡◌, ◌⊎◌, ℕ, List, [], ◌∷◌, Option, Some, None}
+use Rattle.propane_run.specs.declared.command.Command.{Command}
+use Rattle.propane_run.specs.declared.command.Command.TheVariants.{Compile}
+use Rattle.propane_run.specs.Words.{words_are, names_read}
+use Rattle.propane_run.specs.Reading.{Holds, ReadsAll, AllHeld, said_of_bytes}
+use Rattle.propane_run.specs.Compiled.{compiled}
+use Rattle.propane_run.specs.Said.{Said, no_memory, usage}
+
+-- what a command says of the bytes that it read
+abbrev pub job : Command → List (List ℕ) → Said
+job (Compile t p) (topology ∷ policy ∷ []) = compiled topology policy
+job _ _ = no_memory
+
+-- this is said, unless memory ran out
+abbrev pub IsGiven : Said → Said → Type 0
+IsGiven wanted what = (what ≡ no_memory) ⊎ (what ≡ wanted)
+
+abbrev pub IsAnswerOf : Holds → (List ℕ → Type 0) → List (List ℕ) → Option Command → Said → Type 0
+IsAnswerOf holds rose words None what = what ≡ usage
+IsAnswerOf holds rose words (Some c) what = ReadsAll holds rose (names_read words c) (λ bs. IsGiven (job c bs)) what
+
+-- The words are judged; the names of a command are read in order; its job says what their bytes come to.
+abbrev pub IsAnswer : Holds → (List ℕ → Type 0) → List (List ℕ) → Said → Type 0
+IsAnswer holds rose words what = IsAnswerOf holds rose words (words_are words) what
+
+-- the name is one of these
+abbrev pub IsAmong : List (List ℕ) → List ℕ → Type 0
+IsAmong [] name = ⊥
+IsAmong (n ∷ ns) name = (name ≡ n) ⊎ IsAmong ns name
+
+-- The words are this command, and it reads this name.
+abbrev pub AsksFor : List (List ℕ) → Command → List ℕ → Type 0
+AsksFor words c name = (words_are words ≡ Some c) × IsAmong (names_read words c) name
+
+-- The words are this command, and the bytes that it read come to this.
+pub record Comes (holds : Holds) (words : List (List ℕ)) (c : Command) (what : Said) : Type 0 where
+  pub is : words_are words ≡ Some c
+  pub bytes : List (List ℕ)
+  pub held : AllHeld holds (names_read words c) bytes
+  pub says : job c bytes ≡ what
+
+-- what a run is to say where all that its command reads is told
+abbrev pub said_where_told : Holds → List (List ℕ) → Command → Option Said
+said_where_told holds words c = said_of_bytes holds (names_read words c) (job c)

@@ -1,0 +1,21 @@
+-- Which words are a command.
+use Rattle.std.specs.Prelude.{ℕ, ◌<◌, List, [], ◌∷◌, Option, Some, None, if◌then◌else◌, codes, slice_get, unwrap_or}
+use Rattle.std.specs.Str.{bytes_eq}
+use Rattle.propane_run.specs.declared.command.Command.{Command}
+use Rattle.propane_run.specs.declared.command.Command.TheVariants.{Compile}
+
+abbrev pub words_are : List (List ℕ) → Option Command
+words_are (name ∷ topology ∷ policy ∷ []) = if bytes_eq name (codes "compile") then Some (Compile 1 2) else None
+words_are _ = None
+
+-- the places of a command's names are places of the words
+abbrev pub IsWithin : ℕ → Command → Type 0
+IsWithin count (Compile t p) = (t < count) × (p < count)
+
+-- the word at a place
+abbrev pub word_at : List (List ℕ) → ℕ → List ℕ
+word_at words k = unwrap_or (slice_get words k) []
+
+-- the names that a command reads, in order
+abbrev pub names_read : List (List ℕ) → Command → List (List ℕ)
+names_read words (Compile t p) = word_at words t ∷ word_at words p ∷ []

@@ -1,0 +1,41 @@
+//! The tail of every command: what it came to is written.
+ghost use Rattle.propane_run.specs.Said.{said, stop_said, Sent, Delivered};
+
+use crate::outcome::{Status, Stop};
+use outside::{Sink, write_whole};
+
+/// What is said of words that are no command.
+pub const USAGE: &[u8] = b"propane: usage: compile TOPO POLICY\n";
+
+// Writes the bytes, and gives the status, or `WriteFault`.
+fn send<S: Sink>(sink: &mut S, bytes: &[u8], status: Status) -> Status
+    ensures { Sent S.taken S.faults bytes.now status sink.old sink.new result }
+{
+    match write_whole(sink, bytes) {
+        Ok(()) => status,
+        Err(_) => Status::WriteFault,
+    }
+}
+
+// Says why a command gives no text.
+fn tell<O: Sink, E: Sink>(stop: &Stop, out: &mut O, err: &mut E) -> Status
+    ensures { Delivered O.taken O.faults E.taken E.faults (stop_said stop.now)
+        out.old out.new err.old err.new result }
+{
+    match stop {
+        Stop::Line(status, line) => send(err, line, *status),
+        Stop::Usage => send(err, USAGE, Status::Usage),
+        Stop::NoMemory => Status::NoMemory,
+    }
+}
+
+/// Writes what a command came to, and says how the run ended.
+pub fn deliver<O: Sink, E: Sink>(came: &Result<Vec<u8>, Stop>, out: &mut O, err: &mut E) -> Status
+    ensures { Delivered O.taken O.faults E.taken E.faults (said came.now)
+        out.old out.new err.old err.new result }
+{
+    match came {
+        Ok(text) => send(out, text, Status::Done),
+        Err(stop) => tell(stop, out, err),
+    }
+}

@@ -1,0 +1,45 @@
+//! What a run comes to.
+use outside::NoMemory;
+
+/// How a run ended. The program's exit status is the number.
+#[derive(Clone, Copy, Debug, PartialEq, Eq)]
+pub enum Status {
+    /// 0: the command's text was written whole.
+    Done,
+    /// 1: the compiler refused.
+    Refused,
+    /// 2: the words are no command.
+    Usage,
+    /// 3: a named input is too long, or not a text of its kind.
+    BadInput,
+    /// 4: a named input couldn't be read.
+    ReadFault,
+    /// 5: what was to be written couldn't be written whole.
+    WriteFault,
+    /// 6: memory was refused.
+    NoMemory,
+    /// 7: the check of evidence fails.
+    CheckFails,
+}
+
+/// Why a command gives no text.
+#[derive(Drop)]
+pub enum Stop {
+    /// A line for standard error, and the status that goes with it.
+    Line(Status, Vec<u8>),
+    /// The words are no command.
+    Usage,
+    /// Memory was refused.
+    NoMemory,
+}
+
+impl From<NoMemory> for Stop {
+    ghost use Rattle.std.specs.Prelude.{◌≡◌};
+    ghost use Rattle.propane_run.specs.declared.outcome.Stop.TheVariants as stop;
+
+    ghost from_gives = { λ _ e. e ≡ stop.NoMemory };
+
+    fn from(_: NoMemory) -> Stop {
+        Stop::NoMemory
+    }
+}
