@@ -1,6 +1,5 @@
 pub mod Outside
 pub mod Calls
-pub mod Held
 pub mod MemInputs
 pub mod MemSink
 pub mod SureInputs

@@ -1,14 +1,17 @@
 -- What inputs in memory hold, their counts, and their calls.
-use Rattle.std.specs.Prelude.{◌≡◌, ◌⊎◌, ℕ, List, Option, None}
+use Rattle.std.specs.Prelude.{◌≡◌, ◌⊎◌, ℕ, List, Option, None, option_map}
+use Rattle.std.specs.Option.{option_map_or}
+use Rattle.std.specs.BTreeMap.{get_by_text}
 use Rattle.outside.specs.Calls.{Plan}
-use Rattle.outside.specs.Held.{held_bytes, held_faults}
 use Rattle.outside.specs.declared.mem_inputs.MemInputs.{MemInputs}
 
+-- What a name holds.
 abbrev pub told : MemInputs → List ℕ → Option (List ℕ)
-told m name = held_bytes m.held name
+told m name = option_map (λ h. h.bytes.items) (get_by_text m.held name)
 
+-- How often the reading of a name has failed. The names that aren't held share one counter.
 abbrev pub count : MemInputs → List ℕ → ℕ
-count m name = held_faults m.held m.shared name
+count m name = option_map_or (λ h. h.faults) (get_by_text m.held name) m.shared
 
 -- How many calls of `read` were made, and which are to fail.
 abbrev pub reads : MemInputs → Plan

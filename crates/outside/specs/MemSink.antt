@@ -1,7 +1,7 @@
 -- What a sink in memory is, as its callers see it.
 use Rattle.std.specs.Prelude.{◌⊎◌, ℕ, ◌-◌, ◌≤◌, List, ◌++◌, length, min}
 use Rattle.outside.specs.Outside.{next}
-use Rattle.outside.specs.Calls.{Plan, after_call, NextFails}
+use Rattle.outside.specs.Calls.{Plan, after_call, with_failing, NextFails}
 
 -- The bytes taken so far, the room for all, the most bytes per call, the calls of `write`, and the faults.
 pub record Taking : Type 0 where
@@ -17,6 +17,10 @@ left s = s.room - length s.bytes
 -- How many bytes of a piece of this length a write takes that doesn't fail.
 abbrev pub share : Taking → ℕ → ℕ
 share s size = min size (min s.most (left s))
+
+-- The write of this number is to fail too.
+abbrev pub with_failing_write : Taking → ℕ → Taking
+with_failing_write s call = record { bytes = s.bytes; room = s.room; most = s.most; writes = with_failing s.writes call; faults = s.faults }
 
 -- A call took these bytes.
 abbrev pub after_taking : Taking → List ℕ → Taking

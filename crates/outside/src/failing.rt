@@ -7,7 +7,7 @@ use crate::no_memory::NoMemory;
 use std::alloc::Global;
 use std::marker::Model;
 
-// The calls of an object: how many were made, and the numbers of those that are to fail.
+/// The calls of an object: how many were made, and the numbers of those that are to fail.
 #[derive(Drop)]
 pub struct Calls {
     made: u64,

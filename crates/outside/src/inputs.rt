@@ -57,6 +57,7 @@ pub(crate) fn copied(alloc: Global, bytes: &[u8], most: u64) -> Result<Vec<u8>, 
     ensures bytes { IfOk result (λ v. v.items ≡ bytes.now) }
     ensures within { IfOk result (λ v. length v.items ≤ most) }
     ensures too_long { IsErrOf result InputFail.TooLong ↔ most < length bytes.now }
+    ensures room { IsErrOf result InputFail.NoMemory → length bytes.now ≤ most }
     ensures sure { ¬ IsErrOf result InputFail.Failed }
 {
     if bytes.len() as u64 > most {

@@ -8,7 +8,7 @@ use crate::no_memory::NoMemory;
 use std::alloc::Global;
 use std::collections::BTreeMap;
 
-// What a name holds, and how often its reading has failed.
+/// What a name holds, and how often its reading has failed.
 #[derive(Drop)]
 pub struct Held {
     bytes: Vec<u8>,
@@ -56,16 +56,10 @@ impl MemInputs {
         ensures counts { (n : List ℕ) → count self.new n ≡ count self.old n }
         ensures calls { reads self.new ≡ reads self.old }
     {
-        let copy = bytes.to_vec(self.alloc)?;
+        let bytes = bytes.to_vec(self.alloc)?;
         let key = String::from_str(self.alloc, name)?;
         let faults = self.faults_of(name);
-        self.held.insert(
-            key,
-            Held {
-                bytes: copy,
-                faults,
-            },
-        )?;
+        self.held.insert(key, Held { bytes, faults })?;
         Ok(())
     }
 
@@ -108,12 +102,11 @@ impl MemInputs {
 impl Inputs for MemInputs {
     ghost use Rattle.outside.specs.Outside.{Rose, next};
     ghost use Rattle.outside.specs.Calls.{after_call, NextFails};
-    ghost use Rattle.outside.specs.Held.{held_bytes, held_faults};
     ghost use Rattle.outside.specs.MemInputs.{told, count, reads, HaveOneCounter};
 
-    ghost holds = { λ m name. held_bytes m.held name };
+    ghost holds = { λ m name. told m name };
 
-    ghost faults = { λ m name. held_faults m.held m.shared name };
+    ghost faults = { λ m name. count m name };
 
     fn read(&mut self, alloc: Global, name: &str, most: u64) -> Result<Vec<u8>, InputFail>
         ensures bytes { IfOk result (λ v. IfSome (told self.old name.now) (λ told. v.items ≡ told)) }
@@ -123,9 +116,10 @@ impl Inputs for MemInputs {
         ensures holds { (n : List ℕ) → told self.new n ≡ told self.old n }
         ensures counts { (n : List ℕ) → count self.old n ≤ count self.new n }
 
-        // Besides: which calls fail, and which counters are raised.
+        // Besides: which calls fail, that a name that holds too much is told to, and which counters are raised.
         ensures calls { reads self.new ≡ after_call (reads self.old) }
         ensures fails { IsErrOf result InputFail.Failed ↔ (NextFails (reads self.old) ⊎ (told self.old name.now ≡ None)) }
+        ensures room { IsErrOf result InputFail.NoMemory → IfSome (told self.old name.now) (λ told. length told ≤ most) }
         ensures raised { IsErrOf result InputFail.Failed → (n : List ℕ) → HaveOneCounter self.old n name.now → count self.new n ≡ next (count self.old n) }
         ensures others { (n : List ℕ) → ¬ HaveOneCounter self.old n name.now → count self.new n ≡ count self.old n }
         ensures kept { ¬ IsErrOf result InputFail.Failed → (n : List ℕ) → count self.new n ≡ count self.old n }

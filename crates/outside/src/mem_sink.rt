@@ -1,8 +1,8 @@
 //! A sink in memory, some of whose calls fail.
 ghost use Rattle.std.specs.Prelude.{◌≡◌, Some, OnOk, OnErr, IfOk, IsErr, ◌≤◌, ◌<◌, [], length, take, ◌↔◌};
 ghost use Rattle.outside.specs.Outside.{Rose, Grew};
-ghost use Rattle.outside.specs.Calls.{fresh, with_failing};
-ghost use Rattle.outside.specs.MemSink.{share, after_taking, after_fault, WriteFails};
+ghost use Rattle.outside.specs.Calls.{fresh};
+ghost use Rattle.outside.specs.MemSink.{share, with_failing_write, after_taking, after_fault, WriteFails};
 
 use crate::counter::raised;
 use crate::failing::Calls;
@@ -52,7 +52,7 @@ impl MemSink {
     /// The call of `write` of this number is listed to fail too. Calls are numbered from 1 since this sink was made,
     /// and the number stays at `u64::MAX` once it is there.
     pub fn fail(&mut self, call: u64) -> Result<(), NoMemory>
-        ensures listed { OnOk result (self.new ≡ record { bytes = self.old.bytes; room = self.old.room; most = self.old.most; writes = with_failing self.old.writes call; faults = self.old.faults }) }
+        ensures listed { OnOk result (self.new ≡ with_failing_write self.old call) }
         ensures err { OnErr result (self.new ≡ self.old) }
     {
         self.calls.fail(call)
@@ -91,6 +91,7 @@ impl Sink for MemSink {
             return Err(Failed);
         }
         let n = bytes.len().min(self.most).min(left);
+        // The room is reserved, so nothing is allocated here.
         match self.bytes.extend_from_slice(&bytes[..n]) {
             Ok(()) => Ok(n),
             Err(_) => Err(Failed),

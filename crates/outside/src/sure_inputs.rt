@@ -32,9 +32,9 @@ impl SureInputs {
         ensures others { (n : List ℕ) → n ≢ name.now → bytes_of self.new n ≡ bytes_of self.old n }
         ensures err { OnErr result ((n : List ℕ) → bytes_of self.new n ≡ bytes_of self.old n) }
     {
-        let copy = bytes.to_vec(self.alloc)?;
+        let bytes = bytes.to_vec(self.alloc)?;
         let key = String::from_str(self.alloc, name)?;
-        self.held.insert(key, copy)?;
+        self.held.insert(key, bytes)?;
         Ok(())
     }
 }
