@@ -1,3 +1,4 @@
+mod policies;
 mod topologies;
 
 use outside::{CountSink, MemInputs, MemSink, NoMemory, SureInputs};
@@ -69,46 +70,6 @@ fn refuses(alloc: Global, topology: &[u8], policy: &[u8], line: &[u8]) -> Result
 fn two_routers_compile(rt: HostRuntime) -> Result<(), Fail> {
     let alloc = rt.alloc();
     assert!(rt; compiles(alloc, TWO_ROUTERS, ANY_PATH, Status::Done, CONFIG, b"")?);
-    Ok(())
-}
-
-#[test]
-fn faults_of_policies(rt: HostRuntime) -> Result<(), Fail> {
-    let alloc = rt.alloc();
-    let rows: [(&[u8], &[u8]); 11] = [
-        (b"true => exit(P1 >", b"propane: policy 2 token at 1:17\n"),
-        (b"true => exit(P1 >>", b"propane: policy 4 syntax at 1:19\n"),
-        (
-            b"true => avoid(Z9);",
-            b"propane: policy 5 unknown at 1:15\n",
-        ),
-        (
-            b"true => not (any >> drop);",
-            b"propane: policy 8 rank-under at 1:18\n",
-        ),
-        (
-            b"define X = { R1 }; define X = { R2 };",
-            b"propane: policy 6 twice at 1:27\n",
-        ),
-        (
-            b"10.0.1.0/33 => any;",
-            b"propane: policy 7 prefix-bad at 1:1\n",
-        ),
-        (
-            b"originate 10.0.1.0/24 at P1;",
-            b"propane: policy 9 origin-peer at 1:26\n",
-        ),
-        (
-            b"originate 10.0.1.0/24 at R1; originate 10.0.1.0/24 at R2;",
-            b"propane: policy 10 origin-twice at 1:40\n",
-        ),
-        (b"\xff", b"propane: policy 1 not-text\n"),
-        (b"true => exit(P1 >> P2);", b"propane: topology not-yet\n"),
-        (b"", b"propane: topology not-yet\n"),
-    ];
-    for (policy, line) in rows {
-        assert!(rt; refuses(alloc, TWO_EXITS, policy, line)?);
-    }
     Ok(())
 }
 

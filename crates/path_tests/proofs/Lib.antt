@@ -1,0 +1,2 @@
+pub mod SmallNet
+pub mod SmallPolicy
