@@ -2,7 +2,7 @@
 use Rattle.std.proofs.Common.{◌≡◌, ℕ, List, [], ◌∷◌, arith, rules}
 use Rattle.std.specs.List.{IsDistinct}
 use Rattle.net_base.specs.declared.net.Site.{Site}
-use Rattle.net_base.specs.Network.{PlainNet, IsNet}
+use Rattle.net_base.specs.Network.{IsNet}
 
 abbrev pub site : ℕ → ℕ → ℕ → Site
 site letter asn id = record { name = letter ∷ []; asn = asn; id = id }

@@ -1,11 +1,10 @@
 -- The policy of the tests keeps the rules of policies.
-use Rattle.std.proofs.Common.{◌≡◌, ℕ, List, [], ◌∷◌, length, map, arith, rules}
+use Rattle.std.proofs.Common.{◌≡◌, ℕ, List, [], ◌∷◌, length, arith, rules}
 use Rattle.std.specs.List.{IsDistinct}
 use Rattle.net_base.specs.declared.loc.LocSet.{LocSet}
-use Rattle.net_base.specs.Prefixes.{PlainPrefix}
 use Rattle.path_words.specs.declared.policy.Statement.{Statement}
 use Rattle.path_words.specs.declared.policy.Origin.{Origin}
-use Rattle.path_words.specs.Policies.{PolicyLists, IsPolicy, policy_of}
+use Rattle.path_words.specs.Policies.{IsPolicy, policy_of}
 
 abbrev pub set : ℕ → LocSet
 set bits = record { words = bits ∷ 0 ∷ 0 ∷ 0 ∷ 0 ∷ 0 ∷ 0 ∷ 0 ∷ 0 ∷ 0 ∷ 0 ∷ 0 ∷ [] }
