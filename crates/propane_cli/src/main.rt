@@ -3,6 +3,7 @@
 
 use outside::{FileInputs, OutSink};
 use propane_run::{Status, run};
+use std::io::ErrorKind;
 use std::process::ExitCode;
 use std::{env, io};
 
@@ -20,15 +21,30 @@ fn number_of(status: Status) -> u8 {
     }
 }
 
-fn main(rt: HostRuntime) -> io::Result<ExitCode> {
-    let alloc = rt.alloc();
-    let mut words = Vec::new(alloc);
-    for word in env::args(&rt)?.skip(1) {
+/// The words after the program's name.
+fn words_given(rt: &HostRuntime) -> io::Result<Vec<String>> {
+    let mut words = Vec::new(rt.alloc());
+    for word in env::args(rt)?.skip(1) {
         words.push(word)?;
     }
+    Ok(words)
+}
+
+fn main(rt: HostRuntime) -> ExitCode {
+    let alloc = rt.alloc();
+    let words = match words_given(&rt) {
+        Ok(words) => words,
+        Err(error) => {
+            if error.kind() == ErrorKind::OutOfMemory {
+                return ExitCode::from(number_of(Status::NoMemory));
+            }
+            // Words that can't be read are no command.
+            Vec::new(alloc)
+        }
+    };
     let mut out = OutSink::new(rt.stdout());
     let mut err = OutSink::new(rt.stderr());
     let mut inputs = FileInputs::new(rt);
     let status = run(alloc, &words, &mut inputs, &mut out, &mut err);
-    Ok(ExitCode::from(number_of(status)))
+    ExitCode::from(number_of(status))
 }
