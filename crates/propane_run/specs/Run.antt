@@ -29,10 +29,6 @@ abbrev pub IsAmong : List (List ℕ) → List ℕ → Type 0
 IsAmong [] name = ⊥
 IsAmong (n ∷ ns) name = (name ≡ n) ⊎ IsAmong ns name
 
--- The words are this command, and it reads this name.
-abbrev pub AsksFor : List (List ℕ) → Command → List ℕ → Type 0
-AsksFor words c name = (words_are words ≡ Some c) × IsAmong (names_read words c) name
-
 -- The words are this command, and the bytes that it read come to this.
 pub record Comes (holds : Holds) (words : List (List ℕ)) (c : Command) (what : Said) : Type 0 where
   pub is : words_are words ≡ Some c
