@@ -17,3 +17,9 @@ or_fault_ok e None x h = absurd (cc)
 
 pub ok_same : {A F : Type 0} (x y : A) → (let r : Result A F = Ok x in r ≡ Ok y) → x ≡ y
 ok_same x y h = cc
+
+pub err_same : {A F : Type 0} (e d : F) → (let r : Result A F = Err e in r ≡ Err d) → e ≡ d
+err_same e d h = cc
+
+pub ok_not_err : {A F : Type 0} (x : A) (e : F) → Ok x ≡ Err e → ⊥
+ok_not_err x e h = cc

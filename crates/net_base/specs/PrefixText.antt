@@ -1,8 +1,8 @@
 -- Which prefix a text spells.
-use Rattle.std.specs.Prelude.{ℕ, ◌-◌, ◌%◌, ◌^◌, Bool, ◌&&◌, ◌==◌, nat_le, List, length, Option, Some, None, Result, Ok, if◌then◌else◌}
+use Rattle.std.specs.Prelude.{ℕ, ◌-◌, ◌%◌, ◌^◌, ◌==◌, nat_le, List, length, Option, None, Result, Ok, if◌then◌else◌}
 use Rattle.net_base.specs.Steps.{◌>>=◌, or_fault, unless}
 use Rattle.net_base.specs.Prefixes.{PlainPrefix}
-use Rattle.net_base.specs.Addresses.{Quad, cut_at, quad_of, small_number, are_octets, bits_of}
+use Rattle.net_base.specs.Addresses.{cut_at, quad_of, small_number, are_octets, bits_of}
 use Rattle.net_base.specs.declared.prefix_text.PrefixFault.{PrefixFault}
 use Rattle.net_base.specs.declared.prefix_text.PrefixFault.TheVariants.{Shape, Octet, Length, HostBits}
 

@@ -27,7 +27,8 @@ use Rattle.path_words.specs.declared.policy.Origin.{Origin}
 use Rattle.path_words.specs.Policies.{PlainStatement, PlainPolicy, IsPolicy, size_of}
 use Rattle.policy_parser.specs.Built.{patterns_of, ranking_of_steps, from_of, statement_of, statements_of, origin_of, origins_of}
 use Rattle.policy_parser.specs.Spelled.{rules_kept, origins_spelled, pairs}
-use Rattle.policy_parser.proofs.Steps.{bind_ok, unless_ok, false_of_not, same_prefix_equiv}
+use Rattle.net_base.proofs.StepLemmas.{bind_ok, unless_ok}
+use Rattle.policy_parser.proofs.Steps.{false_of_not, same_prefix_equiv}
 
 abbrev prefixes : List Origin → List PlainPrefix
 prefixes os = map (λ (o : Origin). o.prefix) os

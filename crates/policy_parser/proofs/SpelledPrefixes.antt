@@ -18,7 +18,7 @@ use Rattle.path_words.specs.declared.policy.Origin.{Origin}
 use Rattle.path_words.specs.Policies.{PlainPolicy}
 use Rattle.policy_parser.specs.Built.{origin_of, origins_of, statements_of}
 use Rattle.policy_parser.specs.Spelled.{items_spelled, names_spelled, rules_kept, origins_spelled, policy_built, pairs, spelled}
-use Rattle.policy_parser.proofs.Steps.{bind_ok}
+use Rattle.net_base.proofs.StepLemmas.{bind_ok}
 use Rattle.policy_parser.proofs.BuiltPolicies.{origin_prefix}
 
 abbrev pub HavePrefixes : List Origin → Type 0

@@ -6,15 +6,6 @@ use Rattle.std.proofs.lemmas.Cmp.{nat_eq_equiv}
 use Rattle.net_base.specs.Prefixes.{PlainPrefix, same_prefix}
 use Rattle.net_base.specs.Steps.{◌>>=◌, unless}
 
--- a reading that goes on has read its first part
-pub bind_ok : {A B F : Type 0} (r : Result A F) (f : A → Result B F) (y : B) → (r >>= f) ≡ Ok y → (x : A) × (r ≡ Ok x) × (f x ≡ Ok y)
-bind_ok (Ok x) f y e = (x, refl, e)
-bind_ok (Err d) f y e = absurd cc
-
-pub unless_ok : {F : Type 0} (d : F) (b : Bool) (x : ⊤) → unless d b ≡ Ok x → b ≡ true
-unless_ok d true x e = refl
-unless_ok d false x e = absurd cc
-
 pub both_true : (a b : Bool) → (a && b) ≡ true → (a ≡ true) × (b ≡ true)
 both_true true b e = (refl, e)
 both_true false b e = absurd cc

@@ -6,7 +6,8 @@ use Rattle.std.proofs.lemmas.List.{map-append}
 use Rattle.std.proofs.lemmas.List.Folds.{list_any-append}
 use Rattle.topology.specs.declared.fault.TopoFault.{TopoFault}
 use Rattle.topology.specs.Rules.{all_unlike, no_fault}
-use Rattle.topology.proofs.Results.{bind_ok, no_fault-ok}
+use Rattle.net_base.proofs.StepLemmas.{bind_ok}
+use Rattle.topology.proofs.Results.{no_fault-ok}
 use Rattle.topology.proofs.Unlike.{list_any-map, none_found, or_false}
 
 -- what is among none of these

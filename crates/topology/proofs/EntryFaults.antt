@@ -19,7 +19,7 @@ use Rattle.topology.specs.Shape.{Entry, Topology}
 use Rattle.topology.proofs.Distinct.{all_unlike-distinct}
 use Rattle.topology.proofs.Networks.{bytes_eq-swap, nat_eq-swap}
 use Rattle.topology.proofs.Outcomes.{bind_case, unless_err, all_unlike-breaks, all_nothing}
-use Rattle.topology.proofs.Results.{bind_ok, err_same, ok_not_err, unless_ok}
+use Rattle.net_base.proofs.StepLemmas.{bind_ok, err_same, ok_not_err, unless_ok}
 
 -- the rule of this number is broken, and the fault has the number
 abbrev pub Breaks : ℕ → Topology → TopoFault → Type 0

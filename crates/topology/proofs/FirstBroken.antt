@@ -24,7 +24,8 @@ use Rattle.topology.proofs.LinkRules.{all_false}
 use Rattle.topology.proofs.Networks.{each_named, counted_holds, kept_IsNet, all_append}
 use Rattle.topology.proofs.Outcomes.{bind_case, no_fault-err, each_from-breaks, all_unlike-breaks, all_nothing, any-breaks}
 use Rattle.topology.proofs.Places.{list_any-no_position}
-use Rattle.topology.proofs.Results.{no_fault-ok, bind_ok}
+use Rattle.net_base.proofs.StepLemmas.{bind_ok}
+use Rattle.topology.proofs.Results.{no_fault-ok}
 use Rattle.topology.proofs.Unlike.{true_of-not}
 
 -- ---- rules 10 to 12

@@ -12,7 +12,8 @@ use Rattle.net_base.specs.declared.place.Field.TheVariants as field
 use Rattle.topology.specs.declared.fault.TopoFault.TheVariants.{Shape}
 use Rattle.topology.specs.Json.{list_at, text_at, number_at}
 use Rattle.topology.specs.Shape.{Entry, Topology, each, entry_of, ends_of, shape_of, identifier_of, IsIdentifier}
-use Rattle.topology.proofs.Results.{bind_ok, or_fault_ok, ok_same, each_from-all}
+use Rattle.net_base.proofs.StepLemmas.{bind_ok, or_fault_ok, ok_same}
+use Rattle.topology.proofs.Results.{each_from-all}
 
 octets_fit : (a b c d : ℕ) → (nat_le a 255 && (nat_le b 255 && (nat_le c 255 && nat_le d 255))) ≡ true → a * 2 ^ 24 + b * 2 ^ 16 + c * 2 ^ 8 + d < 2 ^ 32
 octets_fit a b c d h = by (nat_le a 255) (nat_le b 255) (nat_le c 255) (nat_le d 255) refl refl refl refl h

@@ -17,7 +17,7 @@ use Rattle.topology.specs.Rules.{names_of, ordered, joined, same_ends}
 use Rattle.topology.specs.Shape.{Entry, Ends}
 use Rattle.topology.proofs.Outcomes.{bool_same, bind_case, or_fault_err}
 use Rattle.topology.proofs.Places.{list_any-no_position}
-use Rattle.topology.proofs.Results.{bind_ok, err_same, ok_not_err, ok_same, or_fault_ok}
+use Rattle.net_base.proofs.StepLemmas.{bind_ok, err_same, ok_not_err, ok_same, or_fault_ok}
 
 pub and_both : (b c : Bool) → (b && c) ≡ true → (b ≡ true) × (c ≡ true)
 and_both true c h = (refl, h)

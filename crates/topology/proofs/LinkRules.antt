@@ -15,7 +15,8 @@ use Rattle.topology.specs.Rules.{all_unlike, no_fault, is_before, put, ascending
 use Rattle.topology.proofs.Ascending.{list_any-ascending}
 use Rattle.topology.proofs.Unlike.{none_found, or_false}
 use Rattle.topology.proofs.Places.{list_any-no_position}
-use Rattle.topology.proofs.Results.{bind_ok, no_fault-ok, or_fault_ok, ok_same, each_from-all, each_from-view}
+use Rattle.net_base.proofs.StepLemmas.{bind_ok, or_fault_ok, ok_same}
+use Rattle.topology.proofs.Results.{no_fault-ok, each_from-all, each_from-view}
 
 all_put : (P : ℕ × ℕ → Type 0) (xs : List (ℕ × ℕ)) (link : ℕ × ℕ) → AllByRecursion P xs → P link → AllByRecursion P (put xs link)
 all_put P [] link a p = (p, tt)

@@ -17,7 +17,8 @@ use Rattle.net_base.specs.declared.place.Kind.TheVariants as kind
 use Rattle.topology.specs.declared.sites.Number.TheVariants as which
 use Rattle.topology.specs.Shape.{each, Entry, Topology, IsIdentifier}
 use Rattle.topology.proofs.Distinct.{all_unlike-distinct}
-use Rattle.topology.proofs.Results.{bind_ok, unless_ok, ok_same, each_from-view, each_from-all}
+use Rattle.net_base.proofs.StepLemmas.{bind_ok, unless_ok, ok_same}
+use Rattle.topology.proofs.Results.{each_from-view, each_from-all}
 use Rattle.topology.proofs.LinkRules.{links_hold}
 use Rattle.topology.specs.Rules.{named, site_of, counted, names_differ, numbers_differ, names_of, links_of, judged, is_lawful_as, shared}
 

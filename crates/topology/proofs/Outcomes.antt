@@ -8,7 +8,7 @@ use Rattle.net_base.specs.Steps.{◌>>=◌, or_fault, unless, each_from}
 use Rattle.topology.specs.declared.fault.TopoFault.{TopoFault}
 use Rattle.topology.specs.Rules.{all_unlike, no_fault}
 use Rattle.topology.proofs.Distinct.{NotIn}
-use Rattle.topology.proofs.Results.{err_same, ok_not_err}
+use Rattle.net_base.proofs.StepLemmas.{err_same, ok_not_err}
 use Rattle.topology.proofs.Unlike.{find-none, list_any-map}
 
 -- either the first step decided, or it went well and the rest did

@@ -22,7 +22,7 @@ use Rattle.topology.proofs.FirstBroken.{judged_outcome, judged_net, Outcome}
 use Rattle.topology.proofs.Identifiers.{shape_ids}
 use Rattle.topology.proofs.JsonTexts.{json_of-read, json_of-refused}
 use Rattle.topology.proofs.Outcomes.{bind_case, or_fault_err}
-use Rattle.topology.proofs.Results.{bind_ok, or_fault_ok}
+use Rattle.net_base.proofs.StepLemmas.{bind_ok, or_fault_ok}
 use Rattle.topology.proofs.ShapeFaults.{Only, IsShape, shape_only}
 
 value_read : (b : Bool) (r : Option Data) (d : Data) → (if b then r else None) ≡ Some d → (b ≡ true) × (r ≡ Some d)

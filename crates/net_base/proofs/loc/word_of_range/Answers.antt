@@ -1,4 +1,4 @@
-use Rattle.std.proofs.Common.{◌≡◌, ℕ, ◌&&◌, ◌∙◌, sym, arith}
+use Rattle.std.proofs.Common.{ℕ, ◌&&◌, ◌∙◌, sym, arith}
 use Rattle.std.specs.Prelude.{nat_le, nat_lt}
 use Rattle.net_base.proofs.SetOf.{word_met, word_missed, word_room, no_word}
 use Rattle.net_base.proofs.loc.word_of_range.Goals as goal

@@ -1,5 +1,5 @@
-use Rattle.std.proofs.Common.{◌≡◌, ℕ, ◌<◌, sym, arith, rules}
-use Rattle.std.specs.Prelude.{◌==◌, true}
+use Rattle.std.proofs.Common.{sym, arith, rules}
+use Rattle.std.specs.Prelude.{◌==◌}
 use Rattle.std.proofs.lemmas.List.Sums.{position_or_len_is}
 use Rattle.net_base.proofs.prefix_text.length_before.Goals as goal
 

@@ -1,7 +1,4 @@
-use Rattle.std.proofs.Common.{◌≡◌, ℕ, sym, rules}
-use Rattle.std.specs.Prelude.{slice_set, slice_index_or, bit_or, ◌*◌, ◌/◌, ◌%◌, ◌^◌, ◌||◌, ◌==◌}
-use Rattle.net_base.specs.Sets.{holds}
-use Rattle.net_base.specs.declared.loc.LocSet.{LocSet}
+use Rattle.std.proofs.Common.{◌≡◌, sym, rules}
 use Rattle.net_base.proofs.SetLemmas.{has-set_words}
 use Rattle.net_base.proofs.loc.LocSet.insert.Goals as goal
 

@@ -1,4 +1,4 @@
-use Rattle.std.proofs.Common.{◌≡◌, ℕ, ◌&&◌, ◌*◌, arith, ◌∙◌, ap, refl, length-set}
+use Rattle.std.proofs.Common.{◌&&◌, arith, refl, length-set}
 use Rattle.std.specs.Prelude.{nat_le, nat_lt}
 use Rattle.net_base.proofs.SetOf.{words_next, words_done, no_words}
 use Rattle.net_base.proofs.loc.LocSet.of_range.Goals as goal

@@ -1,4 +1,4 @@
-use Rattle.std.proofs.Common.{◌≡◌, ℕ, ◌&&◌, length, take}
+use Rattle.std.proofs.Common.{◌≡◌, ◌&&◌, length, take}
 use Rattle.std.specs.Prelude.{nat_le, nat_lt}
 use Rattle.net_base.specs.Sets.{words_of}
 use Rattle.net_base.proofs.loc.LocSet.of_range.Given as goal
