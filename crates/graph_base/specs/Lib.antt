@@ -1,1 +1,4 @@
 pub mod Graphs
+pub mod Locations
+pub mod Rules
+pub mod Runs
