@@ -1,6 +1,10 @@
 //! Graphs of cases, with their ranks, preference numbers and tags.
 #![tactic(auto)]
 
+mod follow;
 mod graph;
+mod walk_laws;
 
+pub use follow::{step_of, walk_of};
 pub use graph::{Graph, Node, Prefs, Tags};
+pub use walk_laws::{shown_walk_is_unique, shown_walk_leads_to_its_node};

@@ -1,5 +1,5 @@
 -- Failures, and the outcomes in which no router would choose again.
-use Rattle.std.specs.Prelude.{◌≡◌, ℕ, ◌≤◌, Bool, true, false, not, ◌&&◌, ◌==◌, IsTrue, List, [], ◌∷◌, Option, Some, None, option_and_then, slice_get, if◌then◌else◌}
+use Rattle.std.specs.Prelude.{◌≡◌, ℕ, ◌≤◌, Bool, true, not, ◌&&◌, ◌==◌, IsTrue, List, [], ◌∷◌, Option, Some, None, option_and_then, slice_get, if◌then◌else◌}
 use Rattle.std.specs.List.{list_any}
 use Rattle.net_base.specs.declared.numbers.Tag.{Tag}
 use Rattle.net_base.specs.Network.{PlainNet, is_peer, is_router, linked, joins}

@@ -1,2 +1,23 @@
-//! Outcomes of a configured network under failures, and when they are right.
+//! Outcomes of a configured network under failures, when they are right, and the laws that make them so.
+//!
+//! There is no code here. `specs/Outcomes` says what is alive, what neighbours give each other and when an outcome is stable;
+//! `specs/Right` when a configuration is right for a policy; `specs/Faithful` and `specs/Passes` what is asked of the evidence for a
+//! configuration: a graph for each case of the policy, with a number and a tag for each node. The laws of `specs/Laws` say what
+//! follows. They stand on those of `routing_law`, which know no policy.
 #![tactic(auto)]
+
+ghost use Rattle.regret_law.specs.Laws.{PassingEvidenceIsRight, UsedPathsAreAllowed};
+
+/// Whatever its preference numbers are, a configuration that is made of the graphs of a policy's cases lets only allowed paths be
+/// used: for every prefix, all failures and every stable outcome, the paths of claimed routers and the paths that peers are offered
+/// are allowed and survive, the path of every other router is a suffix of a permitted walk, and where no statement governs the
+/// prefix only live origins have routes.
+pub fn used_paths_are_allowed()
+    ensures { UsedPathsAreAllowed }
+{}
+
+/// Where the evidence passes the configuration is right: besides, every claimed source has the best rank among the allowed paths
+/// that survive, and none only where none survives.
+pub fn passing_evidence_is_right()
+    ensures { PassingEvidenceIsRight }
+{}

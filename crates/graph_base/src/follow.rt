@@ -1,0 +1,69 @@
+//! Steps that are followed one by one.
+ghost use Rattle.std.specs.Prelude.{◌≡◌, ℕ, ◌<◌, IfOk, IsTrue, length};
+ghost use Rattle.graph_base.specs.Runs.{has_step, is_start as is_start_of, place_of as place_of_node, step_at};
+ghost use Rattle.graph_base.specs.Walks.{IsEnteredFromBefore, IsFirstBefore, IsShownWalk};
+
+use crate::graph::Graph;
+use net_base::{List, Loc};
+use outside::NoMemory;
+use std::alloc::Global;
+
+/// The node to which a node steps at a location.
+pub fn step_of(graph: &Graph, node: u32, at: Loc) -> Option<u32>
+    requires { node < length graph.now.nodes }
+    ensures { result ≡ step_at graph.now node at }
+{
+    for (from, to) in graph.steps() {
+        if *from == node && place_of(graph, *to) == at {
+            return Some(*to);
+        }
+    }
+    None
+}
+
+/// The walk by which a node is shown: the places from the node back to a start, over the least-numbered
+/// node that steps to each.
+pub fn walk_of(alloc: Global, graph: &Graph, node: u32) -> Result<List<Loc>, NoMemory>
+    requires node { node < length graph.now.nodes }
+    requires entered { IsEnteredFromBefore graph.now }
+    ensures { IfOk result (λ walk. IsShownWalk graph.now node walk) }
+{
+    let mut walk = List::new(alloc);
+    let mut last = node;
+    'back: while !is_start(graph, last) {
+        walk.push(place_of(graph, last))?;
+        last = first_before(graph, last);
+    }
+    walk.push(place_of(graph, last))?;
+    Ok(walk)
+}
+
+/// The location of a node.
+fn place_of(graph: &Graph, node: u32) -> Loc
+    requires { node < length graph.now.nodes }
+    ensures { result ≡ place_of_node graph.now node }
+{
+    graph.nodes()[node as usize].loc
+}
+
+fn is_start(graph: &Graph, node: u32) -> bool
+    ensures { result ≡ is_start_of graph.now node }
+{
+    graph.starts().contains(&node)
+}
+
+/// The least-numbered node that steps to a node, which is less than the node.
+fn first_before(graph: &Graph, node: u32) -> u32
+    requires node { node < length graph.now.nodes }
+    requires lesser { (m : ℕ) × (m < node) × IsTrue (has_step graph.now m node) }
+    ensures lesser { result < node }
+    ensures first { IsFirstBefore graph.now result node }
+{
+    let mut first = node;
+    for (from, to) in graph.steps() {
+        if *to == node {
+            first = first.min(*from);
+        }
+    }
+    first
+}

@@ -1,0 +1,144 @@
+-- Paths that can have a run, place by place.
+use Rattle.std.proofs.Common.{◌≡◌, ℕ, ◌+◌, ◌≤◌, Bool, true, false, not, ◌&&◌, ◌||◌, ◌==◌, nat_le, List, [], ◌∷◌, length, refl, sym, ◌∙◌, subst, inl, inr, ⊎_elim, arith, eqb-true, ltb-true, lt-ltb, le-leb, leb-true}
+use Rattle.std.specs.List.{list_any, AllByRecursion}
+use Rattle.std.proofs.lemmas.Bool.{and_parts, and_from, or_cases, or_parts, or_from, or_left, or_right, not-true, not_from_false, false≢true, false_from_ne_true, cases_lt}
+use Rattle.net_base.specs.Network.{PlainNet, IsNet, IsLink, is_location, is_peer, is_router, joins, linked}
+use Rattle.path_words.specs.Meaning.{at_last, front}
+use Rattle.path_words.specs.Walks.{is_walk, steps_linked}
+use Rattle.path_words.specs.Permitted.{ends_at_origin}
+use Rattle.regret_law.specs.Faithful.{is_walk_to, is_run_path}
+use Rattle.graph_law.specs.Origins.{AreOrigins}
+use Rattle.graph_law.proofs.Lists.{In, list_any_parts, list_any-In}
+
+-- a walk to an origin that no other place is, or an origin alone
+abbrev pub GoesTo : PlainNet → (ℕ → Bool) → List ℕ → Type 0
+GoesTo net origin [] = ⊥
+GoesTo net origin (l ∷ []) = origin l ≡ true
+GoesTo net origin (l ∷ k ∷ []) = (linked net l k ≡ true) × (origin l ≡ false) × (origin k ≡ true)
+GoesTo net origin (l ∷ k ∷ j ∷ ls) = (linked net l k ≡ true) × (origin l ≡ false) × (is_peer net k ≡ false) × GoesTo net origin (k ∷ j ∷ ls)
+
+walk-places : (net : PlainNet) (origin : ℕ → Bool) (l k : ℕ) (ls : List ℕ) → steps_linked net (l ∷ k ∷ ls) ≡ true → list_any (is_peer net) (front (k ∷ ls)) ≡ false →
+    at_last origin (l ∷ k ∷ ls) ≡ true → list_any origin (front (l ∷ k ∷ ls)) ≡ false → GoesTo net origin (l ∷ k ∷ ls)
+walk-places net origin l k [] a b c d = ((and_parts (linked net l k) true a).0, (or_parts (origin l) false d).0, c)
+walk-places net origin l k (j ∷ ls) a b c d =
+    let links = and_parts (linked net l k) (steps_linked net (k ∷ j ∷ ls)) a in
+    let peers = or_parts (is_peer net k) (list_any (is_peer net) (front (j ∷ ls))) b in
+    let origins = or_parts (origin l) (list_any origin (front (k ∷ j ∷ ls))) d in
+    (links.0, origins.0, peers.0, walk-places net origin k j ls links.1 peers.1 c origins.1)
+
+-- a path of two places or more is a walk
+pub walk-from_run_path : (net : PlainNet) (origin : ℕ → Bool) (l k : ℕ) (ls : List ℕ) → is_run_path net origin (l ∷ k ∷ ls) ≡ true → is_walk_to net origin (l ∷ k ∷ ls) ≡ true
+walk-from_run_path net origin l k ls h =
+    ⊎_elim (λ e. e) (λ e. absurd (false≢true e)) (or_cases (is_walk_to net origin (l ∷ k ∷ ls)) false h)
+
+pub goes_from_run_path : (net : PlainNet) (origin : ℕ → Bool) (path : List ℕ) → is_run_path net origin path ≡ true → GoesTo net origin path
+goes_from_run_path net origin [] h = absurd (false≢true h)
+goes_from_run_path net origin (l ∷ []) h = h
+goes_from_run_path net origin (l ∷ k ∷ ls) h =
+    let whole = walk-from_run_path net origin l k ls h in
+    let halves = and_parts (is_walk net (l ∷ k ∷ ls)) (ends_at_origin origin (l ∷ k ∷ ls)) whole in
+    let walk = and_parts (nat_le 2 (length (l ∷ k ∷ ls)) && steps_linked net (l ∷ k ∷ ls)) (not (list_any (is_peer net) (front (k ∷ ls)))) halves.0 in
+    let ends = and_parts (at_last origin (l ∷ k ∷ ls)) (not (list_any origin (front (l ∷ k ∷ ls)))) halves.1 in
+    walk-places net origin l k ls (and_parts (nat_le 2 (length (l ∷ k ∷ ls))) (steps_linked net (l ∷ k ∷ ls)) walk.0).1 (not-true (list_any (is_peer net) (front (k ∷ ls))) walk.1)
+    ends.0 (not-true (list_any origin (front (l ∷ k ∷ ls))) ends.1)
+
+places-links : (net : PlainNet) (origin : ℕ → Bool) (l k : ℕ) (ls : List ℕ) → GoesTo net origin (l ∷ k ∷ ls) → steps_linked net (l ∷ k ∷ ls) ≡ true
+places-links net origin l k [] h = and_from (linked net l k) true h.0 refl
+places-links net origin l k (j ∷ ls) h = and_from (linked net l k) (steps_linked net (k ∷ j ∷ ls)) h.0 (places-links net origin k j ls h.3)
+
+places-peers : (net : PlainNet) (origin : ℕ → Bool) (l k : ℕ) (ls : List ℕ) → GoesTo net origin (l ∷ k ∷ ls) → list_any (is_peer net) (front (k ∷ ls)) ≡ false
+places-peers net origin l k [] h = refl
+places-peers net origin l k (j ∷ ls) h = or_from (is_peer net k) (list_any (is_peer net) (front (j ∷ ls))) h.2 (places-peers net origin k j ls h.3)
+
+places-last : (net : PlainNet) (origin : ℕ → Bool) (l k : ℕ) (ls : List ℕ) → GoesTo net origin (l ∷ k ∷ ls) → at_last origin (l ∷ k ∷ ls) ≡ true
+places-last net origin l k [] h = h.2
+places-last net origin l k (j ∷ ls) h = places-last net origin k j ls h.3
+
+places-origins : (net : PlainNet) (origin : ℕ → Bool) (l k : ℕ) (ls : List ℕ) → GoesTo net origin (l ∷ k ∷ ls) → list_any origin (front (l ∷ k ∷ ls)) ≡ false
+places-origins net origin l k [] h = or_from (origin l) false h.1 refl
+places-origins net origin l k (j ∷ ls) h = or_from (origin l) (list_any origin (front (k ∷ j ∷ ls))) h.1 (places-origins net origin k j ls h.3)
+
+pub walk_from_places : (net : PlainNet) (origin : ℕ → Bool) (l k : ℕ) (ls : List ℕ) → GoesTo net origin (l ∷ k ∷ ls) → is_walk_to net origin (l ∷ k ∷ ls) ≡ true
+walk_from_places net origin l k ls h =
+    let long : 2 ≤ length (l ∷ k ∷ ls) = omega arith in
+    and_from (is_walk net (l ∷ k ∷ ls)) (ends_at_origin origin (l ∷ k ∷ ls))
+    (and_from (nat_le 2 (length (l ∷ k ∷ ls)) && steps_linked net (l ∷ k ∷ ls)) (not (list_any (is_peer net) (front (k ∷ ls))))
+    (and_from (nat_le 2 (length (l ∷ k ∷ ls))) (steps_linked net (l ∷ k ∷ ls)) (le-leb 2 (length (l ∷ k ∷ ls)) long) (places-links net origin l k ls h))
+    (not_from_false (list_any (is_peer net) (front (k ∷ ls))) (places-peers net origin l k ls h)))
+    (and_from (at_last origin (l ∷ k ∷ ls)) (not (list_any origin (front (l ∷ k ∷ ls))))
+    (places-last net origin l k ls h)
+    (not_from_false (list_any origin (front (l ∷ k ∷ ls))) (places-origins net origin l k ls h)))
+
+pub run_path_from_places : (net : PlainNet) (origin : ℕ → Bool) (path : List ℕ) → GoesTo net origin path → is_run_path net origin path ≡ true
+run_path_from_places net origin [] h = absurd h
+run_path_from_places net origin (l ∷ []) h = h
+run_path_from_places net origin (l ∷ k ∷ ls) h = or_left (is_walk_to net origin (l ∷ k ∷ ls)) false (walk_from_places net origin l k ls h)
+
+-- the rest of such a path is one too
+pub goes_from_rest : (net : PlainNet) (origin : ℕ → Bool) (l k : ℕ) (ls : List ℕ) → GoesTo net origin (l ∷ k ∷ ls) → GoesTo net origin (k ∷ ls)
+goes_from_rest net origin l k [] h = h.2
+goes_from_rest net origin l k (j ∷ ls) h = h.3
+
+pub goes_link : (net : PlainNet) (origin : ℕ → Bool) (l k : ℕ) (ls : List ℕ) → GoesTo net origin (l ∷ k ∷ ls) → linked net l k ≡ true
+goes_link net origin l k [] h = h.0
+goes_link net origin l k (j ∷ ls) h = h.0
+
+pub goes_no_origin : (net : PlainNet) (origin : ℕ → Bool) (l k : ℕ) (ls : List ℕ) → GoesTo net origin (l ∷ k ∷ ls) → origin l ≡ false
+goes_no_origin net origin l k [] h = h.1
+goes_no_origin net origin l k (j ∷ ls) h = h.1
+
+-- links
+
+joins_turned : (a b : ℕ) (link : ℕ × ℕ) → joins a b link ≡ true → joins b a link ≡ true
+joins_turned a b link h =
+    ⊎_elim (λ e. or_right (link.0 == b && link.1 == a) (link.0 == a && link.1 == b) e) (λ e. or_left (link.0 == b && link.1 == a) (link.0 == a && link.1 == b) e)
+    (or_cases (link.0 == a && link.1 == b) (link.0 == b && link.1 == a) h)
+
+pub linked_turned : (net : PlainNet) (a b : ℕ) → linked net a b ≡ true → linked net b a ≡ true
+linked_turned net a b h =
+    let r = list_any_parts (joins a b) net.links h in
+    list_any-In (joins b a) r.0 net.links r.1 (joins_turned a b r.0 r.2)
+
+All-In : {X : Type 0} (P : X → Type 0) (xs : List X) → AllByRecursion P xs → (x : X) → In x xs → P x
+All-In P [] all x h = absurd h
+All-In P (y ∷ ys) all x (inl e) = subst P (sym e) all.0
+All-In P (y ∷ ys) all x (inr h) = All-In P ys all.1 x h
+
+pub linked_located : (net : PlainNet) → IsNet net → (a b : ℕ) → linked net a b ≡ true → is_location net a ≡ true
+linked_located net rules a b h =
+    let r = list_any_parts (joins a b) net.links h in
+    let is-link = All-In (IsLink net) net.links rules.links r.0 r.1 in
+    let less = is-link.0 in
+    let inside = is-link.1 in
+    ⊎_elim
+    (λ e. let at = eqb-true r.0.0 a (and_parts (r.0.0 == a) (r.0.1 == b) e).0 in lt-ltb a (length net.routers + length net.peers) (omega (arith, at, less, inside)))
+    (λ e. let at = eqb-true r.0.1 a (and_parts (r.0.0 == b) (r.0.1 == a) e).1 in lt-ltb a (length net.routers + length net.peers) (omega (arith, at, less, inside)))
+    (or_cases (r.0.0 == a && r.0.1 == b) (r.0.0 == b && r.0.1 == a) r.2)
+
+-- kinds of locations
+
+pub router_from_location : (net : PlainNet) (l : ℕ) → is_location net l ≡ true → is_peer net l ≡ false → is_router net l ≡ true
+router_from_location net l at no_peer =
+    ⊎_elim (λ below. lt-ltb l (length net.routers) below)
+    (λ past. absurd (false≢true (sym no_peer ∙ and_from (nat_le (length net.routers) l) (is_location net l) (le-leb (length net.routers) l past) at)))
+    (cases_lt l (length net.routers))
+
+pub peer_is_no_router : (net : PlainNet) (l : ℕ) → is_peer net l ≡ true → is_router net l ≡ false
+peer_is_no_router net l h =
+    let past = leb-true (length net.routers) l (and_parts _ _ h).0 in
+    false_from_ne_true (is_router net l) (λ r. let below = ltb-true l (length net.routers) r in absurd (omega arith))
+
+pub router_is_no_peer : (net : PlainNet) (l : ℕ) → is_router net l ≡ true → is_peer net l ≡ false
+router_is_no_peer net l r = false_from_ne_true (is_peer net l) (λ p. false≢true (sym (peer_is_no_router net l p) ∙ r))
+
+router_located : (net : PlainNet) (l : ℕ) → is_router net l ≡ true → is_location net l ≡ true
+router_located net l r = let below = ltb-true l (length net.routers) r in lt-ltb l (length net.routers + length net.peers) (omega arith)
+
+pub origin_located : (net : PlainNet) (origin : ℕ → Bool) (external : Bool) → AreOrigins net origin external → (l : ℕ) → origin l ≡ true → is_location net l ≡ true
+origin_located net origin true are l o = (and_parts (nat_le (length net.routers) l) (is_location net l) (sym (are l) ∙ o)).1
+origin_located net origin false are l o = router_located net l (are l o)
+
+pub inside_unless_origin : (net : PlainNet) (origin : ℕ → Bool) (external : Bool) → AreOrigins net origin external → (l : ℕ) → is_location net l ≡ true →
+    origin l ≡ false → (is_router net l || not external) ≡ true
+inside_unless_origin net origin true are l at o = or_left (is_router net l) false (router_from_location net l at (sym (are l) ∙ o))
+inside_unless_origin net origin false are l at o = or_right (is_router net l) true refl

@@ -1,0 +1,54 @@
+//! What the graph of a case says of walks.
+#![tactic(auto)]
+
+ghost use Rattle.std.specs.Prelude.{◌≡◌, ◌<◌, ◌≤◌, ◌∷◌, ℕ, IsTrue, List, Some, is_some, length, slice_get};
+ghost use Rattle.net_base.specs.Network.{IsNet, PlainNet};
+ghost use Rattle.path_words.specs.Policies.{PlainStatement};
+ghost use Rattle.constraint_expand.specs.Forward.{expressions};
+ghost use Rattle.graph_base.specs.Graphs.{IsGraph, PlainGraph};
+ghost use Rattle.graph_base.specs.Rules.{IsWellFormed};
+ghost use Rattle.graph_base.specs.Runs.{run};
+ghost use Rattle.regret_law.specs.Faithful.{IsFaithful, is_run_path};
+ghost use Rattle.product_graph.specs.Built.{AreStandings, IsBuilt, Plan, Standing, graph_over};
+ghost use Rattle.reach_prune.specs.Trimmed.{IsTrimmed};
+ghost use Rattle.graph_law.specs.Origins.{AreOrigins};
+ghost use Rattle.graph_law.specs.Ways.{IsEnteredFromBefore, standing_after, stays_alive};
+
+/// The graph that is built is well formed, a node that isn't a start is entered from one with a lesser number, and
+/// starts and steps name nodes.
+pub fn built_graphs_are_well_formed()
+    ensures formed { (net : PlainNet) (plan : Plan) (g : PlainGraph) → IsBuilt net plan g → IsWellFormed net plan.origin plan.external g }
+    ensures entered { (net : PlainNet) (plan : Plan) (g : PlainGraph) → IsBuilt net plan g → IsEnteredFromBefore g }
+    ensures lists { (net : PlainNet) (plan : Plan) (g : PlainGraph) → IsBuilt net plan g → length g.nodes ≤ 4294967000 → IsGraph g }
+{}
+
+/// In the graph that is built a walk to an origin, or an origin alone, has a run exactly where some alternative can
+/// still be met all along; the run ends in the node of the path's first place and of what is left of the
+/// alternatives. No other path has a run, and each node ends one.
+pub fn runs_are_walks_that_are_not_dead()
+    ensures alive { (net : PlainNet) (plan : Plan) (xs : List Standing) (path : List ℕ) → IsNet net → AreOrigins net plan.origin plan.external
+        → AreStandings net plan xs → IsTrue (is_run_path net plan.origin path)
+        → is_some (run (graph_over net plan xs) path) ≡ stays_alive net plan path }
+    ensures lead { (net : PlainNet) (plan : Plan) (xs : List Standing) (l : ℕ) (ls : List ℕ) (n : ℕ) → AreStandings net plan xs
+        → run (graph_over net plan xs) (l ∷ ls) ≡ Some n → slice_get xs n ≡ Some (standing_after net plan l ls) }
+    ensures paths { (net : PlainNet) (plan : Plan) (xs : List Standing) (path : List ℕ) (n : ℕ) → AreStandings net plan xs
+        → run (graph_over net plan xs) path ≡ Some n → IsTrue (is_run_path net plan.origin path) }
+    ensures ended { (net : PlainNet) (plan : Plan) (xs : List Standing) (n : ℕ) → AreStandings net plan xs → n < length xs
+        → (path : List ℕ) × (run (graph_over net plan xs) path ≡ Some n) }
+{}
+
+/// What is left of the graph that is built, where only nodes from which a rank can be reached are kept, has a run for
+/// exactly the walks that can still be permitted, and its ranks are theirs; and each of its nodes that isn't a start
+/// is entered from one with a lesser number.
+pub fn trimmed_graphs_are_faithful()
+    ensures faithful { (net : PlainNet) (s : PlainStatement) (plan : Plan) (g t : PlainGraph) → IsNet net
+        → AreOrigins net plan.origin plan.external → plan.expressions ≡ expressions net s.ranked → plan.from ≡ s.from
+        → IsBuilt net plan g → IsTrimmed g t → IsFaithful net s plan.origin plan.external t }
+    ensures entered { (net : PlainNet) (plan : Plan) (g t : PlainGraph) → IsBuilt net plan g → IsTrimmed g t → IsEnteredFromBefore t }
+{}
+
+/// A plan has one graph, and that graph is trimmed to one.
+pub fn made_graphs_are_one()
+    ensures built { (net : PlainNet) (plan : Plan) (g h : PlainGraph) → IsBuilt net plan g → IsBuilt net plan h → g ≡ h }
+    ensures trimmed { (net : PlainNet) (plan : Plan) (g t u : PlainGraph) → IsBuilt net plan g → IsTrimmed g t → IsTrimmed g u → t ≡ u }
+{}

@@ -1,0 +1,6 @@
+pub mod Keeping
+pub mod Listing
+pub mod Renumbering
+pub mod Rows
+pub mod Trails
+pub mod Visiting

@@ -1,0 +1,5 @@
+pub mod Numbers
+pub mod Reachable
+pub mod Searches
+pub mod Trimmed
+pub mod Ways

@@ -1,0 +1,195 @@
+-- An outcome for a prefix of a case, of a configuration that is made of graphs: whatever the numbers are, paths are allowed.
+use Rattle.std.proofs.Common.{◌≡◌, ℕ, suc, ◌<◌, Bool, true, false, List, [], ◌∷◌, ◌++◌, length, Option, Some, None, refl, sym, ap, ◌∙◌, inl, inr, subst}
+use Rattle.std.specs.Prelude.{◌&&◌, not, is_some, option_map, slice_get, drop, nat_le, ◌==◌}
+use Rattle.std.specs.List.{list_any}
+use Rattle.std.proofs.lemmas.Bool.{and_parts, and_from, or_left, or_right, cases_Bool, not-true, not_from_false, true≢false}
+use Rattle.net_base.specs.Network.{PlainNet, IsNet, is_location, is_peer, is_router}
+use Rattle.net_base.specs.Sets.{holds}
+use Rattle.net_base.specs.Prefixes.{PlainPrefix}
+use Rattle.path_words.specs.Policies.{PlainPolicy, PlainStatement}
+use Rattle.path_words.specs.Meaning.{rank_of, at_first, front}
+use Rattle.path_words.specs.Walks.{is_walk, is_loop_free, steps_linked}
+use Rattle.path_words.specs.Governing.{is_origin}
+use Rattle.path_words.specs.Permitted.{from_holds, ends_at_origin, is_permitted, is_allowed, IsClaimedRouter}
+use Rattle.graph_base.specs.Runs.{run, step_at}
+use Rattle.config_base.specs.declared.route.Route.{Route}
+use Rattle.config_base.specs.Configs.{PlainConfig}
+use Rattle.config_base.specs.Lines.{class_of}
+use Rattle.config_base.specs.Made.{PlainCaseEvidence, IsIn, IsConfigOf, AreTags, number_at}
+use Rattle.regret_law.specs.Outcomes.{Failures, Outcome, is_dead, is_live, survives, route_at, offered, IsStable}
+use Rattle.regret_law.specs.Right.{IsGood}
+use Rattle.regret_law.specs.Faithful.{is_walk_to, may_start, permits}
+use Rattle.regret_law.specs.Laws.{IsSoundBy}
+use Rattle.regret_law.specs.Passes.{IsClaimed, IsCaseGraph}
+use Rattle.regret_law.proofs.Setting.{network_of, alive_of, graph_of, lines_of, lines_at, line_of, setup_of, pairs_of}
+use Rattle.regret_law.proofs.Stability.{stable_lines, offered_lines}
+use Rattle.regret_law.proofs.Surviving.{survives-alive}
+use Rattle.regret_law.proofs.GraphSteps.{start_node, step_nodes, start_at-is, step_at-is}
+use Rattle.regret_law.proofs.GraphForms.{through, same_run}
+use Rattle.regret_law.proofs.GraphRanks.{rank_of_run}
+use Rattle.regret_law.proofs.RunWalks.{run_begins, run_path}
+use Rattle.regret_law.proofs.ClassLines.{written}
+use Rattle.routing_law.specs.Network as law
+use Rattle.routing_law.specs.Lines as line
+use Rattle.routing_law.specs.Spells as spelled
+use Rattle.routing_law.specs.Laws as laws
+use Rattle.routing_law.proofs.Used.{used_paths_are_sound}
+
+same_free : (path : List ℕ) → law.loop_free path ≡ is_loop_free path
+same_free [] = refl
+same_free (l ∷ ls) = ap (λ b. not (list_any (λ k. k == l) ls) && b) (same_free ls)
+
+-- a peer in front of a walk's later places is its first place
+peer_inside : (net : PlainNet) (above : List ℕ) (p u : ℕ) (rest : List ℕ) → is_peer net p ≡ true → list_any (is_peer net) (front (above ++ p ∷ u ∷ rest)) ≡ true
+peer_inside net [] p u rest peer = or_left (is_peer net p) (list_any (is_peer net) (front (u ∷ rest))) peer
+peer_inside net (a ∷ []) p u rest peer = or_right (is_peer net a) (list_any (is_peer net) (front (p ∷ u ∷ rest))) (peer_inside net [] p u rest peer)
+peer_inside net (a ∷ b ∷ above) p u rest peer = or_right (is_peer net a) (list_any (is_peer net) (front (b ∷ above ++ p ∷ u ∷ rest))) (peer_inside net (b ∷ above) p u rest peer)
+
+-- the parts of a walk
+pub walk_parts : (net : PlainNet) (path : List ℕ) → is_walk net path ≡ true → (steps_linked net path ≡ true) × (list_any (is_peer net) (front (drop 1 path)) ≡ false)
+walk_parts net path h =
+    let last = and_parts (nat_le 2 (length path) && steps_linked net path) (not (list_any (is_peer net) (front (drop 1 path)))) h in
+    let first = and_parts (nat_le 2 (length path)) (steps_linked net path) last.0 in
+    (first.1, not-true _ last.1)
+
+-- the parts of a walk that is permitted
+pub permits_parts : (net : PlainNet) (origin : ℕ → Bool) (s : PlainStatement) (path : List ℕ) → permits net origin s path ≡ true
+    → (is_walk net path ≡ true) × (ends_at_origin origin path ≡ true) × (at_first (from_holds s.from) path ≡ true) × (is_some (rank_of net s.ranked path) ≡ true)
+permits_parts net origin s path h =
+    let first = and_parts (is_walk_to net origin path && at_first (from_holds s.from) path) (is_some (rank_of net s.ranked path)) h in
+    let second = and_parts (is_walk_to net origin path) (at_first (from_holds s.from) path) first.0 in
+    let third = and_parts (is_walk net path) (ends_at_origin origin path) second.0 in
+    (third.0, third.1, second.1, first.1)
+
+pub rank_value : (o : Option ℕ) → is_some o ≡ true → (i : ℕ) × (o ≡ Some i)
+rank_value None h = absurd (true≢false (sym h))
+rank_value (Some i) h = (i, refl)
+
+-- a prefix of a case, with a stable outcome for it
+pub record IsCaseAt (net : PlainNet) (policy : PlainPolicy) (config : PlainConfig) (f : Failures) (p : PlainPrefix) (outcome : Outcome) (s : PlainStatement) (cs : List PlainCaseEvidence) (k : ℕ) (c : PlainCaseEvidence) : Type 0 where
+  pub rules : IsNet net
+  pub made : IsConfigOf net policy cs config
+  pub tags : AreTags net cs
+  pub of_case : slice_get cs k ≡ Some c
+  pub of_class : class_of config p ≡ Some (suc k)
+  pub on : IsCaseGraph net s c
+  pub same : holds c.case.origins ≡ is_origin net policy p
+  pub known : (l : ℕ) → holds c.case.origins l ≡ true → is_location net l ≡ true
+  pub announced : (v : ℕ) → is_router net v ≡ true → holds c.case.origins v ≡ true → IsIn c.case.prefixes p
+  pub stable : IsStable net policy config f p outcome
+
+module _ {net : PlainNet} {policy : PlainPolicy} {config : PlainConfig} {f : Failures} {p : PlainPrefix} {outcome : Outcome} {s : PlainStatement} {cs : List PlainCaseEvidence} {k : ℕ} {c : PlainCaseEvidence} (inst : IsCaseAt net policy config f p outcome s cs k c) where
+  abbrev Origin : ℕ → Bool
+  Origin = holds c.case.origins
+
+  pub as_lines : line.LinesStable (network_of net Origin) (alive_of net f) (lines_of net config p (suc k)) (lines_at outcome)
+  as_lines = subst (λ (o : ℕ → Bool). line.LinesStable (network_of net o) (alive_of net f) (lines_of net config p (suc k)) (lines_at outcome)) (sym inst.same) (stable_lines net policy config f p outcome (suc k) inst.rules inst.of_class inst.stable)
+
+  pub as_written : spelled.Written (network_of net Origin) (graph_of c.graph (number_at c)) (pairs_of c) (lines_of net config p (suc k))
+  as_written = written net policy cs config p inst.rules inst.made inst.tags k c inst.of_case inst.of_class inst.on.graph Origin c.case.external inst.on.faithful.formed inst.announced inst.known
+
+  pub used : laws.UsedPaths (setup_of net f c) (pairs_of c) (lines_of net config p (suc k)) (lines_at outcome)
+  used = used_paths_are_sound (setup_of net f c) (pairs_of c) (lines_of net config p (suc k)) (lines_at outcome) as_written as_lines
+
+  -- ---- between the case's origins and those of the prefix
+
+  pub here : (path : List ℕ) → permits net (is_origin net policy p) s path ≡ true → permits net Origin s path ≡ true
+  here path h = subst (λ (o : ℕ → Bool). permits net o s path ≡ true) (sym inst.same) h
+
+  pub there : (path : List ℕ) → permits net Origin s path ≡ true → is_permitted net policy p s path ≡ true
+  there path h = subst (λ (o : ℕ → Bool). permits net o s path ≡ true) inst.same h
+
+  pub not_origin : (l : ℕ) → not (is_origin net policy p l) ≡ true → Origin l ≡ false
+  not_origin l h = ap (λ (o : ℕ → Bool). o l) inst.same ∙ not-true _ h
+
+  pub good : (path : List ℕ) → permits net Origin s path ≡ true → law.loop_free path ≡ true → law.survives (alive_of net f) path ≡ true → IsGood net policy f p s path
+  good path permitted free lives =
+      and_from (is_allowed net policy p s path) (survives net f path) (and_from (is_permitted net policy p s path) (is_loop_free path) (there path permitted) (sym (same_free path) ∙ free)) (survives-alive net f path lives)
+
+  -- ---- the run of a route or an offer
+
+  run_node : (path : List ℕ) (n : ℕ) → run c.graph path ≡ Some n → n < length c.graph.nodes
+  run_node [] n h = absurd (cc)
+  run_node (l ∷ []) n h = start_node c.graph n inst.on.graph (start_at-is c.graph l n h).0
+  run_node (l ∷ j ∷ ls) n h =
+      let last = through (λ m. step_at c.graph m l) (run c.graph (j ∷ ls)) n h in
+      (step_nodes c.graph last.0 n inst.on.graph (step_at-is c.graph last.0 l n last.2).0).1
+
+  pub claimed_here : (r : ℕ) → IsClaimedRouter net policy p s r → (may_start Origin s r ≡ true) × IsClaimed net s c.case r
+  claimed_here r claimed =
+      let may = and_from (from_holds s.from r) (not (Origin r)) claimed.from (not_from_false _ (not_origin r claimed.no_origin)) in
+      (may, record { at_router = claimed.at_router; may = may; starts = (claimed.starts.0, here (r ∷ claimed.starts.0) claimed.starts.1) })
+
+  -- the run of a claimed router's path says that it's permitted
+  claimed_permits : (r n : ℕ) (rest : List ℕ) → IsClaimedRouter net policy p s r → run c.graph (r ∷ rest) ≡ Some n → permits net Origin s (r ∷ rest) ≡ true
+  claimed_permits r n rest claimed h =
+      let mine = claimed_here r claimed in
+      let at = run_begins net Origin c.case.external c.graph inst.on.graph inst.on.faithful.formed r n rest h in
+      let ranked = inst.on.ranked n (run_node (r ∷ rest) n h) (subst (IsClaimed net s c.case) (sym at) mine.1) in
+      let rank = rank_of_run net s c.case c.graph (number_at c) inst.rules inst.on.graph inst.on.faithful r n rest mine.0 h in
+      and_from (is_walk_to net Origin (r ∷ rest) && from_holds s.from r) (is_some (rank_of net s.ranked (r ∷ rest))) rank.1 (ap is_some (sym rank.0) ∙ ranked)
+
+  -- ---- routers
+
+  pub route_line : (r : ℕ) (h : Route) → route_at outcome r ≡ Some h → lines_at outcome r ≡ Some (line_of h)
+  route_line r h at = ap (option_map line_of) at
+
+  pub route_good : (r : ℕ) (h : Route) → IsClaimedRouter net policy p s r → route_at outcome r ≡ Some h
+      → (permits net Origin s h.path ≡ true) × (law.loop_free h.path ≡ true) × (law.survives (alive_of net f) h.path ≡ true)
+  route_good r h claimed at =
+      let x = used.routes r (line_of h) claimed.at_router (not_origin r claimed.no_origin) (route_line r h at) in
+      let runs : run c.graph (r ∷ x.rest) ≡ Some x.node = ap (run c.graph) (sym x.begins) ∙ sym (same_run c.graph (number_at c) h.path) ∙ x.runs in
+      let permitted = claimed_permits r x.node x.rest claimed runs in
+      (subst (λ path. permits net Origin s path ≡ true) (sym x.begins) permitted, x.free, x.lives)
+
+  pub transit_router : (r : ℕ) (h : Route) → (is_router net r && not (is_origin net policy p r)) ≡ true → route_at outcome r ≡ Some h → (above : List ℕ) × (is_permitted net policy p s (above ++ h.path) ≡ true)
+  transit_router r h who at =
+      let parts = and_parts (is_router net r) (not (is_origin net policy p r)) who in
+      let x = used.routes r (line_of h) parts.0 (not_origin r parts.1) (route_line r h at) in
+      let runs : run c.graph h.path ≡ Some x.node = sym (same_run c.graph (number_at c) h.path) ∙ x.runs in
+      let path = run_path net Origin c.case.external c.graph inst.on.graph inst.on.faithful.formed h.path x.node runs in
+      let above = inst.on.faithful.has_no_other h.path path (ap is_some runs) in
+      (above.0, there (above.0 ++ h.path) above.1)
+
+  -- ---- offers
+
+  -- what stands behind an offer
+  offer_parts : (r peer : ℕ) (path : List ℕ) → offered net policy config f p outcome r peer ≡ Some path → (is_router net r ≡ true) × (is_peer net peer ≡ true) × (not (is_dead f peer) ≡ true)
+  offer_parts r peer path h = elim (cases_Bool (is_live net f r peer && is_router net r && is_peer net peer)) [
+    | inl t ↦
+        let last = and_parts (is_live net f r peer && is_router net r) (is_peer net peer) t in
+        let first = and_parts (is_live net f r peer) (is_router net r) last.0 in
+        (first.1, last.1, (and_parts _ _ first.0).1)
+    | inr t ↦ let clash : None ≡ Some path = sym (rw t refl) ∙ h in absurd (cc)
+  ]
+
+  pub offer_line : (r peer : ℕ) → is_router net r ≡ true → is_peer net peer ≡ true → offered net policy config f p outcome r peer ≡ line.offered (alive_of net f) (lines_of net config p (suc k)) (lines_at outcome) r peer
+  offer_line r peer router at_peer = offered_lines net policy config f p outcome (suc k) inst.rules inst.of_class r peer router at_peer
+
+  -- a walk with a peer in front of others has nothing before the peer
+  nothing_above : (above : List ℕ) (peer u : ℕ) (rest : List ℕ) → is_peer net peer ≡ true → is_walk net (above ++ peer ∷ u ∷ rest) ≡ true → above ≡ []
+  nothing_above [] peer u rest at walk = refl
+  nothing_above (a ∷ more) peer u rest at walk =
+      absurd (true≢false (sym (peer_inside net more peer u rest at) ∙ (walk_parts net (a ∷ more ++ peer ∷ u ∷ rest) walk).1))
+
+  offer_permits : (peer u n : ℕ) (rest : List ℕ) → is_peer net peer ≡ true → run c.graph (peer ∷ u ∷ rest) ≡ Some n → permits net Origin s (peer ∷ u ∷ rest) ≡ true
+  offer_permits peer u n rest at runs =
+      let path = run_path net Origin c.case.external c.graph inst.on.graph inst.on.faithful.formed (peer ∷ u ∷ rest) n runs in
+      let above = inst.on.faithful.has_no_other (peer ∷ u ∷ rest) path (ap is_some runs) in
+      let none = nothing_above above.0 peer u rest at (permits_parts net Origin s (above.0 ++ peer ∷ u ∷ rest) above.1).0 in
+      subst (λ (a : List ℕ). permits net Origin s (a ++ peer ∷ u ∷ rest) ≡ true) none above.1
+
+  pub offer_good : (r peer : ℕ) (path : List ℕ) → offered net policy config f p outcome r peer ≡ Some path
+      → (permits net Origin s path ≡ true) × (law.loop_free path ≡ true) × (law.survives (alive_of net f) path ≡ true)
+  offer_good r peer path h =
+      let parts = offer_parts r peer path h in
+      let x = used.offers r peer path parts.0 parts.2 (sym (offer_line r peer parts.0 parts.1) ∙ h) in
+      let runs : run c.graph (peer ∷ r ∷ x.rest) ≡ Some x.node = ap (run c.graph) (sym x.begins) ∙ sym (same_run c.graph (number_at c) path) ∙ x.runs in
+      (subst (λ q. permits net Origin s q ≡ true) (sym x.begins) (offer_permits peer r x.node x.rest parts.1 runs), x.free, x.lives)
+
+  pub sound_case : IsSoundBy net policy config f p s outcome
+  sound_case = record {
+    used = λ r h claimed at. let ok = route_good r h claimed at in good h.path ok.0 ok.1 ok.2;
+    offers = λ r peer path at. let ok = offer_good r peer path at in good path ok.0 ok.1 ok.2;
+    transit = λ r h who at. transit_router r h who at;
+  }

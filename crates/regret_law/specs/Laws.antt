@@ -1,0 +1,41 @@
+-- The laws of configurations that are made of evidence.
+use Rattle.std.specs.Prelude.{◌≡◌, ℕ, not, ◌&&◌, IsTrue, List, ◌++◌, length, Option, Some, None}
+use Rattle.net_base.specs.Network.{PlainNet, IsNet, is_router}
+use Rattle.net_base.specs.Prefixes.{PlainPrefix, IsPrefix}
+use Rattle.path_words.specs.Policies.{PlainPolicy, PlainStatement}
+use Rattle.path_words.specs.Governing.{is_origin, statement_of}
+use Rattle.path_words.specs.Permitted.{is_permitted, IsClaimedRouter}
+use Rattle.config_base.specs.declared.route.Route.{Route}
+use Rattle.config_base.specs.Configs.{PlainConfig}
+use Rattle.config_base.specs.Made.{PlainCaseEvidence}
+use Rattle.regret_law.specs.Outcomes.{Failures, Outcome, route_at, IsStable, offered}
+use Rattle.regret_law.specs.Right.{IsGood, IsBare, IsRight}
+use Rattle.regret_law.specs.Passes.{IsPolicyOf, IsMadeOf, Passes}
+
+-- Paths of claimed routers and offers are allowed and survive; the path of every other router is a suffix of a permitted walk.
+pub record IsSoundBy (net : PlainNet) (policy : PlainPolicy) (config : PlainConfig) (f : Failures) (p : PlainPrefix) (s : PlainStatement) (outcome : Outcome) : Type 0 where
+  pub used : (r : ℕ) (h : Route) → IsClaimedRouter net policy p s r → route_at outcome r ≡ Some h → IsGood net policy f p s h.path
+  pub offers : (r peer : ℕ) (path : List ℕ) → offered net policy config f p outcome r peer ≡ Some path → IsGood net policy f p s path
+  pub transit : (r : ℕ) (h : Route) → IsTrue (is_router net r && not (is_origin net policy p r)) → route_at outcome r ≡ Some h
+      → (above : List ℕ) × IsTrue (is_permitted net policy p s (above ++ h.path))
+
+abbrev pub IsSoundOutcome : PlainNet → PlainPolicy → PlainConfig → Failures → PlainPrefix → Outcome → Type 0
+IsSoundOutcome net policy config f p outcome = by_statement (statement_of policy p)
+  where
+    by_statement : Option PlainStatement → Type 0
+    by_statement None = IsBare net policy config f p outcome
+    by_statement (Some s) = IsSoundBy net policy config f p s outcome
+
+-- The configuration lets only allowed paths be used: for every prefix, all failures and every stable outcome.
+abbrev pub IsSound : PlainNet → PlainPolicy → PlainConfig → Type 0
+IsSound net policy config =
+    (p : PlainPrefix) (f : Failures) (outcome : Outcome) → IsPrefix p → length outcome ≡ length net.routers
+    → IsStable net policy config f p outcome → IsSoundOutcome net policy config f p outcome
+
+-- Whatever the numbers are, a configuration that is made of the graphs of its cases lets only allowed paths be used.
+abbrev pub UsedPathsAreAllowed : Type 0
+UsedPathsAreAllowed = (net : PlainNet) (policy : PlainPolicy) (config : PlainConfig) (cs : List PlainCaseEvidence) → IsNet net → IsPolicyOf net policy → IsMadeOf net policy config cs → IsSound net policy config
+
+-- Where the evidence passes, the configuration is right.
+abbrev pub PassingEvidenceIsRight : Type 0
+PassingEvidenceIsRight = (net : PlainNet) (policy : PlainPolicy) (config : PlainConfig) (cs : List PlainCaseEvidence) → IsNet net → IsPolicyOf net policy → Passes net policy config cs → IsRight net policy config
