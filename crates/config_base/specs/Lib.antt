@@ -1,3 +1,4 @@
 pub mod Configs
+pub mod Evidence
 pub mod Lines
 pub mod Made

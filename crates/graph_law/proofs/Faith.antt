@@ -13,7 +13,8 @@ use Rattle.regret_law.specs.Faithful.{is_walk_to, is_run_path, permits, may_star
 use Rattle.product_graph.specs.Built.{Plan, Standing, AreStandings, IsBuilt, graph_over}
 use Rattle.reach_prune.specs.Trimmed.{CanBeRanked, IsTrimmed, kept_below, graph_kept}
 use Rattle.graph_law.specs.Origins.{AreOrigins}
-use Rattle.graph_law.specs.Ways.{left_after, IsEnteredFromBefore}
+use Rattle.graph_base.specs.Walks.{IsEnteredFromBefore}
+use Rattle.graph_law.specs.Ways.{left_after}
 use Rattle.graph_law.proofs.Left.{ranked-alive}
 use Rattle.graph_law.proofs.RunPaths.{GoesTo, goes_from_run_path, walk_from_places, run_path_from_places}
 use Rattle.graph_law.proofs.Nodes.{place_at, standing_at}

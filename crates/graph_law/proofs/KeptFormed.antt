@@ -7,7 +7,7 @@ use Rattle.graph_base.specs.Graphs.{PlainGraph}
 use Rattle.graph_base.specs.Runs.{place_of, is_listener, is_start, has_step}
 use Rattle.graph_base.specs.Rules.{IsWellFormed, same_pair}
 use Rattle.reach_prune.specs.Trimmed.{kept_below, both_kept, renumbered, graph_kept}
-use Rattle.graph_law.specs.Ways.{IsEnteredFromBefore}
+use Rattle.graph_base.specs.Walks.{IsEnteredFromBefore}
 use Rattle.graph_law.proofs.Lists.{In, In-filter_parts}
 use Rattle.graph_law.proofs.Apart.{Apart-from_distinct, Apart-filter, Apart-map, IsDistinct-from_apart}
 use Rattle.graph_law.proofs.WellBuilt.{same_tests}

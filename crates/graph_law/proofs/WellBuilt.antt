@@ -10,7 +10,7 @@ use Rattle.graph_base.specs.Graphs.{IsGraph}
 use Rattle.graph_base.specs.Runs.{place_of, is_start, has_step}
 use Rattle.graph_base.specs.Rules.{IsWellFormed, same_pair}
 use Rattle.product_graph.specs.Built.{Plan, Standing, AreStandings, starts, moved, targets, is_dead, place_in, steps_from, node_of, graph_over, numbers_below, same_standing}
-use Rattle.graph_law.specs.Ways.{IsEnteredFromBefore}
+use Rattle.graph_base.specs.Walks.{IsEnteredFromBefore}
 use Rattle.graph_law.proofs.Lists.{In, All-from_In, In-flat_map_parts, In-map_parts, below_from_In, list_any_parts}
 use Rattle.graph_law.proofs.Apart.{Apart, Apart-append, Apart-map, Apart-weaken, Apart-numbers_below, IsDistinct-from_apart, place_is_one}
 use Rattle.graph_law.proofs.Standings.{same-equal, slice_get-place_in}

@@ -1,11 +1,9 @@
 -- What is left of the alternatives on the way along a path.
-use Rattle.std.specs.Prelude.{◌⊎◌, ℕ, ◌<◌, Bool, true, not, ◌&&◌, IsTrue, List, [], ◌∷◌, reverse, length}
+use Rattle.std.specs.Prelude.{ℕ, Bool, true, not, ◌&&◌, List, [], ◌∷◌, reverse}
 use Rattle.net_base.specs.Network.{PlainNet}
 use Rattle.path_exprs.specs.Expression.{Expression}
 use Rattle.path_exprs.specs.NetSets.{locations}
 use Rattle.path_exprs.specs.Runs.{along, start_of}
-use Rattle.graph_base.specs.Graphs.{PlainGraph}
-use Rattle.graph_base.specs.Runs.{has_step, is_start}
 use Rattle.product_graph.specs.Built.{Plan, Standing, is_dead}
 
 -- what is left of each alternative after a path, which is read from its last place, the origin, to its first
@@ -21,7 +19,3 @@ abbrev pub stays_alive : PlainNet → Plan → List ℕ → Bool
 stays_alive net plan [] = true
 stays_alive net plan (l ∷ []) = true
 stays_alive net plan (l ∷ k ∷ ls) = not (is_dead (left_after net plan (l ∷ k ∷ ls))) && stays_alive net plan (k ∷ ls)
-
--- Each node is a start, or a node with a lesser number steps to it.
-abbrev pub IsEnteredFromBefore : PlainGraph → Type 0
-IsEnteredFromBefore g = (n : ℕ) → n < length g.nodes → IsTrue (is_start g n) ⊎ ((m : ℕ) × (m < n) × IsTrue (has_step g m n))

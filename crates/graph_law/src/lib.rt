@@ -12,7 +12,8 @@ ghost use Rattle.regret_law.specs.Faithful.{IsFaithful, is_run_path};
 ghost use Rattle.product_graph.specs.Built.{AreStandings, IsBuilt, Plan, Standing, graph_over};
 ghost use Rattle.reach_prune.specs.Trimmed.{IsTrimmed};
 ghost use Rattle.graph_law.specs.Origins.{AreOrigins};
-ghost use Rattle.graph_law.specs.Ways.{IsEnteredFromBefore, standing_after, stays_alive};
+ghost use Rattle.graph_base.specs.Walks.{IsEnteredFromBefore};
+ghost use Rattle.graph_law.specs.Ways.{standing_after, stays_alive};
 
 /// The graph that is built is well formed, a node that isn't a start is entered from one with a lesser number, and
 /// starts and steps name nodes.

@@ -1,7 +1,7 @@
 use Rattle.std.proofs.Common.{length, ◌≤◌, sym, subst}
 use Rattle.graph_base.specs.Rules.{IsWellFormed}
 use Rattle.graph_base.specs.Graphs.{IsGraph}
-use Rattle.graph_law.specs.Ways.{IsEnteredFromBefore}
+use Rattle.graph_base.specs.Walks.{IsEnteredFromBefore}
 use Rattle.graph_law.proofs.WellBuilt.{well_formed, entered, named}
 use Rattle.graph_law.proofs.built_graphs_are_well_formed.Goals as goal
 
