@@ -19,3 +19,5 @@ pub mod ClassFound
 pub mod ExternalFound
 pub mod CaseOfClass
 pub mod RightLaw
+pub mod Existence
+pub mod ExistenceLaw

@@ -33,7 +33,7 @@ map_twice : {A B C : Type 0} (f : A → B) (g : B → C) (xs : List A) → map (
 map_twice f g [] = refl
 map_twice f g (x ∷ xs) = ap (λ ys. g (f x) ∷ ys) (map_twice f g xs)
 
-no_value : {A : Type 0} (o : Option A) (x : A) → o ≡ None → o ≡ Some x → ⊥
+pub no_value : {A : Type 0} (o : Option A) (x : A) → o ≡ None → o ≡ Some x → ⊥
 no_value o x none some = let clash : None ≡ Some x = sym none ∙ some in absurd cc
 
 nobody_last : (origin : ℕ → Bool) (path : List ℕ) → ((l : ℕ) → origin l ≡ false) → at_last origin path ≡ false
@@ -43,7 +43,7 @@ nobody_last origin (l ∷ k ∷ ls) none = nobody_last origin (k ∷ ls) none
 
 module _ (net : PlainNet) (policy : PlainPolicy) (config : PlainConfig) (f : Failures) (p : PlainPrefix) (outcome : Outcome) (free : class_of config p ≡ None) where
   -- without a class nobody gives anything
-  no_gift : (z r : ℕ) → given net policy config f p outcome z r ≡ None
+  pub no_gift : (z r : ℕ) → given net policy config f p outcome z r ≡ None
   no_gift z r = elim (cases_Bool (is_live net f z r)) [
     | inl t ↦ rw (t, free) refl
     | inr t ↦ rw t refl
@@ -110,7 +110,7 @@ module _ (net : PlainNet) (policy : PlainPolicy) (config : PlainConfig) (f : Fai
 
 module _ (net : PlainNet) (policy : PlainPolicy) (config : PlainConfig) (cs : List PlainCaseEvidence) (rules : IsNet net) (kept : IsPolicyOf net policy) (made : IsMadeOf net policy config cs) where
   -- the class of a prefix, by the cases of the policy
-  class_is : (p : PlainPrefix) → class_of config p ≡ class_in policy p (case_list net policy) 1
+  pub class_is : (p : PlainPrefix) → class_of config p ≡ class_in policy p (case_list net policy) 1
   unfolding class_in
   class_is p =
       ap (λ ps. class_from ps p 1) (made.lines.classes ∙ map_twice (λ (c : PlainCaseEvidence). c.case) (patterns_of policy) cs ∙ ap (map (patterns_of policy)) made.cases)

@@ -39,3 +39,8 @@ UsedPathsAreAllowed = (net : PlainNet) (policy : PlainPolicy) (config : PlainCon
 -- Where the evidence passes, the configuration is right.
 abbrev pub PassingEvidenceIsRight : Type 0
 PassingEvidenceIsRight = (net : PlainNet) (policy : PlainPolicy) (config : PlainConfig) (cs : List PlainCaseEvidence) → IsNet net → IsPolicyOf net policy → Passes net policy config cs → IsRight net policy config
+
+-- And whatever fails, there is a stable outcome for every prefix.
+abbrev pub StableOutcomesExist : Type 0
+StableOutcomesExist = (net : PlainNet) (policy : PlainPolicy) (config : PlainConfig) (cs : List PlainCaseEvidence) → IsNet net → IsPolicyOf net policy → Passes net policy config cs
+    → (p : PlainPrefix) (f : Failures) → IsPrefix p → (outcome : Outcome) × (length outcome ≡ length net.routers) × IsStable net policy config f p outcome

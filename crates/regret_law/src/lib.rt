@@ -6,7 +6,7 @@
 //! follows. They stand on those of `routing_law`, which know no policy.
 #![tactic(auto)]
 
-ghost use Rattle.regret_law.specs.Laws.{PassingEvidenceIsRight, UsedPathsAreAllowed};
+ghost use Rattle.regret_law.specs.Laws.{PassingEvidenceIsRight, StableOutcomesExist, UsedPathsAreAllowed};
 
 /// Whatever its preference numbers are, a configuration that is made of the graphs of a policy's cases lets only allowed paths be
 /// used: for every prefix, all failures and every stable outcome, the paths of claimed routers and the paths that peers are offered
@@ -20,4 +20,9 @@ pub fn used_paths_are_allowed()
 /// that survive, and none only where none survives.
 pub fn passing_evidence_is_right()
     ensures { PassingEvidenceIsRight }
+{}
+
+/// And there is something to be right about: whatever fails, there is a stable outcome for every prefix.
+pub fn stable_outcomes_exist()
+    ensures { StableOutcomesExist }
 {}
