@@ -1,0 +1,38 @@
+-- What the lines of a block say.
+use Rattle.std.proofs.Common.{◌≡◌, ℕ, Bool, true, false, List, [], ◌∷◌, Some, map, refl, ap, IsTrue}
+use Rattle.std.specs.Prelude.{◌||◌, ◌&&◌, ◌==◌, MatchBool, if◌then◌else◌}
+use Rattle.std.specs.List.{list_any, find, AllByRecursion}
+use Rattle.net_base.specs.declared.numbers.Tag.{Tag}
+use Rattle.net_base.specs.Numbers.{no_tag, is_tag}
+use Rattle.net_base.specs.Network.{PlainNet}
+use Rattle.net_base.specs.Prefixes.{PlainPrefix, same_prefix}
+use Rattle.config_base.specs.declared.config.RouterConfig.{RouterConfig}
+use Rattle.config_base.specs.declared.config.Rule.{Rule}
+use Rattle.config_base.specs.declared.config.Own.{Own}
+use Rattle.config_base.specs.Configs.{PlainConfig}
+use Rattle.config_base.specs.Lines.{same_tag, router_at, class_of, own_tag}
+
+pub list_any-map : {X Y : Type 0} (p : Y → Bool) (f : X → Y) (xs : List X) → list_any p (map f xs) ≡ list_any (λ x. p (f x)) xs
+list_any-map p f [] = refl
+list_any-map p f (x ∷ xs) = ap (λ b. p (f x) || b) (list_any-map p f xs)
+
+pub if-true : {X : Type 0} (b : Bool) (x y : X) → b ≡ true → (if b then x else y) ≡ x
+if-true b x y h = rw h refl
+
+pub if-false : {X : Type 0} (b : Bool) (x y : X) → b ≡ false → (if b then x else y) ≡ y
+if-false b x y h = rw h refl
+
+-- in the block of a peer no import names a tag, so the one without a tag is the one of the class
+pub line_wanted : (class : ℕ) (tag wanted : Tag) (peer : Bool) (rules : List Rule)
+    → AllByRecursion (λ (r : Rule). MatchBool peer (r.tag ≡ no_tag) (IsTrue (is_tag r.tag))) rules → wanted ≡ (if peer then no_tag else tag)
+    → find (λ (r : Rule). r.class == class && same_tag r.tag wanted) rules ≡ find (λ (r : Rule). r.class == class && (peer || same_tag r.tag tag)) rules
+line_wanted class tag wanted true [] tags is = refl
+line_wanted class tag wanted true (r ∷ rules) tags is =
+    let same : same_tag r.tag wanted ≡ true = rw (tags.0, is) refl in
+    rw same (ap (λ o. if r.class == class && true then Some r else o) (line_wanted class tag wanted true rules tags.1 is))
+line_wanted class tag wanted false rules tags is = rw is refl
+
+pub own_tag_is : (net : PlainNet) (config : PlainConfig) (p : PlainPrefix) (r : ℕ) (c : RouterConfig) (class : ℕ) (o : Own)
+    → router_at net config r ≡ Some c → class_of config p ≡ Some class → find (λ (o : Own). o.class == class && same_prefix o.prefix p) c.own ≡ Some o
+    → own_tag net config p r ≡ o.tag
+own_tag_is net config p r c class o block number line = rw (block, number, line) refl

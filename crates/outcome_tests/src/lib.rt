@@ -1,0 +1,17 @@
+//! What lines say and which outcomes are stable, against cases that were worked by hand.
+#![tactic(auto)]
+
+#[cfg(test)]
+mod exit_rows;
+#[cfg(test)]
+mod lawful;
+#[cfg(test)]
+mod line_tests;
+#[cfg(test)]
+mod lines;
+#[cfg(test)]
+mod rows;
+#[cfg(test)]
+mod setting;
+#[cfg(test)]
+mod tests;

@@ -1,0 +1,317 @@
+//! What single lines say, and what is given, offered and left alive.
+use crate::exit_rows::{entered_row, exits_row, exported_row};
+use crate::lines::{Held, Line, config, outcome, path, route, scenario, tag};
+use crate::setting::{Setting, pattern, prefix, set_up};
+use config_base::{Config, class_of, export_of, import_of, own_tag};
+use net_base::{List, Loc, Pattern, Prefix, read_prefix};
+use outside::NoMemory;
+use stable_paths::{Outcome, Scenario, is_given, is_live, is_offered, survives};
+use std::alloc::Global;
+
+// Prefixes, and their classes where the first class has 10.0.0.0/8 up to 16 and the second up to 24.
+const CLASSES: [(&[u8], Option<u32>); 5] = [
+    (b"10.0.0.0/8", Some(1)),
+    (b"10.1.0.0/16", Some(1)),
+    (b"10.1.1.0/24", Some(2)),
+    (b"10.1.1.4/30", None),
+    (b"11.0.0.0/8", None),
+];
+
+fn two_classes(
+    alloc: Global,
+    short: Pattern,
+    long: Pattern,
+) -> Result<Vec<List<Pattern>>, NoMemory> {
+    let first = vec![in alloc; short]?;
+    let second = vec![in alloc; short, long]?;
+    Ok(vec![in alloc; List::from_vec(first), List::from_vec(second)]?)
+}
+
+fn wrong_class(config: &Config) -> Option<usize> {
+    CLASSES.iter().position(|row| match read_prefix(row.0) {
+        Ok(prefix) => class_of(config, prefix) != row.1,
+        Err(_) => true,
+    })
+}
+
+#[test]
+fn classes_go_by_first_match(rt: HostRuntime) {
+    let alloc = rt.alloc();
+    let setting = set_up(&rt, alloc, exits_row());
+    let short = pattern(&rt, b"10.0.0.0/8", 16);
+    let long = pattern(&rt, b"10.0.0.0/8", 24);
+    let classes = two_classes(alloc, short, long).expect(&rt, "memory");
+    let none: [Line; 0] = [];
+    let config = config(alloc, &setting.net, classes, short.base(), &none).expect(&rt, "memory");
+    let config = config.expect(&rt, "a configuration");
+    assert!(rt; wrong_class(&config).is_none());
+}
+
+// A class, a router, a neighbour and the value of the router's tag, and the value that goes out.
+const EXPORTS: [(u32, u16, u16, u32, Option<u32>); 6] = [
+    (1, 1, 0, 1, Some(1)),
+    (1, 0, 2, 1, Some(0)),
+    (1, 0, 2, 2, None),
+    (2, 0, 2, 1, None),
+    (1, 1, 3, 1, None),
+    (1, 0, 1, 1, None),
+];
+
+fn wrong_export(setting: &Setting) -> Option<usize> {
+    EXPORTS.iter().position(|row| {
+        let (from, to) = (Loc::new(row.1), Loc::new(row.2));
+        let sent = export_of(
+            &setting.net,
+            &setting.config,
+            row.0,
+            from,
+            to,
+            tag(row.1, row.3),
+        );
+        let wanted = match row.4 {
+            None => None,
+            Some(value) => Some(tag(row.1, value)),
+        };
+        sent != wanted
+    })
+}
+
+// A class, a router, a neighbour, the path that begins with it, whose tag comes with it and its value, and what
+// becomes of them.
+const IMPORTS: [(u32, u16, u16, &[u16], (u16, u32), Option<(u32, u32)>); 12] = [
+    (1, 0, 1, &[1, 3], (1, 1), Some((2, 100))),
+    (1, 0, 1, &[1, 3], (1, 2), Some((1, 101))),
+    (1, 0, 1, &[1, 3], (1, 3), None),
+    (1, 0, 1, &[1, 3], (0, 1), None),
+    (2, 0, 1, &[1, 3], (1, 1), None),
+    (1, 0, 1, &[1, 0, 2], (1, 2), None),
+    (1, 0, 2, &[2], (2, 0), Some((1, 101))),
+    (1, 0, 2, &[2], (0, 1), Some((1, 101))),
+    (1, 0, 2, &[2, 3], (2, 0), Some((1, 101))),
+    (1, 0, 2, &[2, 1], (2, 0), None),
+    (1, 0, 3, &[3], (3, 0), None),
+    (1, 1, 3, &[3], (3, 0), Some((1, 100))),
+];
+
+fn wrong_import(alloc: Global, setting: &Setting) -> Result<Option<usize>, NoMemory> {
+    for i in 0..12 {
+        let (class, at, from, numbers, sent, wanted) = IMPORTS[i];
+        let path = path(alloc, numbers)?;
+        let (router, neighbour) = (Loc::new(at), Loc::new(from));
+        let tag_sent = tag(sent.0, sent.1);
+        let (net, config) = (&setting.net, &setting.config);
+        let held = import_of(net, config, class, router, neighbour, &path, tag_sent);
+        let made = match wanted {
+            None => None,
+            Some((value, pref)) => Some((tag(at, value), pref)),
+        };
+        if held != made {
+            return Ok(Some(i));
+        }
+    }
+    Ok(None)
+}
+
+// The tag of R2's own route, that of R1, which has none, and that of a prefix that no line names.
+fn are_own_tags_right(setting: &Setting, named: Prefix, other: Prefix) -> bool {
+    let (net, config) = (&setting.net, &setting.config);
+    own_tag(net, config, named, Loc::new(1)) == tag(1, 1)
+        && own_tag(net, config, named, Loc::new(0)) == tag(0, 0)
+        && own_tag(net, config, other, Loc::new(1)) == tag(1, 0)
+}
+
+#[test]
+fn own_tags_and_exports_by_hand(rt: HostRuntime) {
+    let alloc = rt.alloc();
+    let setting = set_up(&rt, alloc, entered_row());
+    assert!(rt; wrong_export(&setting).is_none());
+    let named = prefix(&rt, setting.row.prefix);
+    let other = prefix(&rt, b"10.0.2.0/24");
+    assert!(rt; are_own_tags_right(&setting, named, other));
+}
+
+#[test]
+fn imports_by_hand(rt: HostRuntime) {
+    let alloc = rt.alloc();
+    let setting = set_up(&rt, alloc, exits_row());
+    let wrong = wrong_import(alloc, &setting).expect(&rt, "memory");
+    assert!(rt; wrong.is_none());
+}
+
+// A router, a peer and a path, and whether it is offered.
+type Offer = (u16, u16, &'static [u16], bool);
+
+fn wrong_offer(
+    alloc: Global,
+    setting: &Setting,
+    scenario: &Scenario,
+    outcome: &Outcome,
+    offers: &[Offer],
+) -> Result<Option<usize>, NoMemory> {
+    for i in 0..offers.len() {
+        let (router, peer, numbers, wanted) = offers[i];
+        let path = path(alloc, numbers)?;
+        let (net, policy, config) = (&setting.net, &setting.policy, &setting.config);
+        let (router, peer) = (Loc::new(router), Loc::new(peer));
+        if is_offered(net, policy, config, scenario, outcome, router, peer, &path) != wanted {
+            return Ok(Some(i));
+        }
+    }
+    Ok(None)
+}
+
+const ENTRIES: [Offer; 5] = [
+    (0, 2, &[2, 0, 1], true),
+    (0, 2, &[0, 1], false),
+    (0, 2, &[2, 1], false),
+    (1, 3, &[3, 1], false),
+    (0, 3, &[3, 0, 1], false),
+];
+
+const LOOPS: [Offer; 3] = [
+    (0, 2, &[2, 0, 2], false),
+    (0, 2, &[0, 2], false),
+    (1, 3, &[3, 1, 0, 2], true),
+];
+
+// The first of these offers that is wrong where these sessions are silent and these locations dead.
+fn wrong_offer_after(
+    alloc: Global,
+    setting: &Setting,
+    dead: u64,
+    silent: &[(u16, u16)],
+    offers: &[Offer],
+) -> Result<Option<usize>, NoMemory> {
+    let scenario = scenario(alloc, setting.scenario.prefix, dead, &[], silent)?;
+    let outcome = outcome(alloc, setting.row.settled, None)?;
+    wrong_offer(alloc, setting, &scenario, &outcome, offers)
+}
+
+// Whether an entered listener is offered its path, also where its session is silent, and not where it is dead.
+fn are_offers_right(alloc: Global, setting: &Setting) -> Result<bool, NoMemory> {
+    let alive = wrong_offer_after(alloc, setting, 0, &[], &ENTRIES)?;
+    let silent = wrong_offer_after(alloc, setting, 0, &[(0, 2)], &ENTRIES)?;
+    let dead = wrong_offer_after(alloc, setting, 0b100, &[], &ENTRIES)?;
+    Ok(alive.is_none() && silent.is_none() && dead == Some(0))
+}
+
+#[test]
+fn offers_by_hand(rt: HostRuntime) {
+    let alloc = rt.alloc();
+    let setting = set_up(&rt, alloc, entered_row());
+    let right = are_offers_right(alloc, &setting).expect(&rt, "memory");
+    assert!(rt; right);
+}
+
+#[test]
+fn a_peer_on_the_path_is_offered_nothing(rt: HostRuntime) {
+    let alloc = rt.alloc();
+    let setting = set_up(&rt, alloc, exported_row());
+    let wrong = wrong_offer_after(alloc, &setting, 0, &[], &LOOPS).expect(&rt, "memory");
+    assert!(rt; wrong.is_none());
+}
+
+// A neighbour, a router and a route, and whether the one gives it to the other.
+const GIVEN: [(u16, u16, Held, bool); 7] = [
+    (0, 1, Some((&[1, 0, 2], 2, 101)), true),
+    (0, 1, Some((&[1, 0, 2], 1, 101)), false),
+    (0, 1, Some((&[1, 0, 2], 2, 100)), false),
+    (0, 1, Some((&[1, 2], 2, 101)), false),
+    (1, 0, Some((&[0, 1, 0, 2], 1, 101)), false),
+    (2, 0, Some((&[0, 2], 1, 101)), true),
+    (3, 1, Some((&[1, 3], 1, 100)), true),
+];
+
+fn wrong_given(
+    alloc: Global,
+    setting: &Setting,
+    outcome: &Outcome,
+) -> Result<Option<usize>, NoMemory> {
+    for i in 0..7 {
+        let (from, to, held, wanted) = GIVEN[i];
+        let Some(route) = route(alloc, to, held)? else {
+            return Ok(Some(i));
+        };
+        let (net, policy, config) = (&setting.net, &setting.policy, &setting.config);
+        let (from, to) = (Loc::new(from), Loc::new(to));
+        let scenario = &setting.scenario;
+        if is_given(net, policy, config, scenario, outcome, from, to, &route) != wanted {
+            return Ok(Some(i));
+        }
+    }
+    Ok(None)
+}
+
+// Paths, and whether they survive where the link R1-R2 is dead and the session R1-P1 silent, and where P2 is dead.
+const SURVIVORS: [(&[u16], bool, bool); 7] = [
+    (&[], true, true),
+    (&[3], true, false),
+    (&[0, 2], false, true),
+    (&[2, 0], true, true),
+    (&[1, 3], true, false),
+    (&[0, 1], false, true),
+    (&[1, 0, 2], false, true),
+];
+
+fn wrong_survivor(
+    alloc: Global,
+    setting: &Setting,
+    cut: &Scenario,
+    dead: &Scenario,
+) -> Result<Option<usize>, NoMemory> {
+    for i in 0..7 {
+        let (numbers, after_cut, after_death) = SURVIVORS[i];
+        let path = path(alloc, numbers)?;
+        if survives(&setting.net, cut, &path) != after_cut
+            || survives(&setting.net, dead, &path) != after_death
+        {
+            return Ok(Some(i));
+        }
+    }
+    Ok(None)
+}
+
+// Pairs of locations, and whether both and their link live in the same two scenarios.
+const LIVE: [(u16, u16, bool, bool); 4] = [
+    (0, 1, false, true),
+    (2, 0, true, true),
+    (0, 3, false, false),
+    (1, 3, true, false),
+];
+
+fn wrong_live(setting: &Setting, cut: &Scenario, dead: &Scenario) -> Option<usize> {
+    LIVE.iter().position(|row| {
+        let (a, b) = (Loc::new(row.0), Loc::new(row.1));
+        is_live(&setting.net, cut, a, b) != row.2 || is_live(&setting.net, dead, a, b) != row.3
+    })
+}
+
+#[test]
+fn routes_that_are_given_by_hand(rt: HostRuntime) {
+    let alloc = rt.alloc();
+    let setting = set_up(&rt, alloc, exits_row());
+    let routes = outcome(alloc, setting.row.settled, None).expect(&rt, "memory");
+    let wrong = wrong_given(alloc, &setting, &routes).expect(&rt, "memory");
+    assert!(rt; wrong.is_none());
+}
+
+// The first path and the first pair of locations that are told wrongly.
+fn wrong_failures(
+    alloc: Global,
+    setting: &Setting,
+) -> Result<(Option<usize>, Option<usize>), NoMemory> {
+    let prefix = setting.scenario.prefix;
+    let cut = scenario(alloc, prefix, 0, &[(1, 0)], &[(0, 2)])?;
+    let dead = scenario(alloc, prefix, 0b1000, &[], &[])?;
+    let path = wrong_survivor(alloc, setting, &cut, &dead)?;
+    Ok((path, wrong_live(setting, &cut, &dead)))
+}
+
+#[test]
+fn survivors_by_hand(rt: HostRuntime) {
+    let alloc = rt.alloc();
+    let setting = set_up(&rt, alloc, exits_row());
+    let (path, link) = wrong_failures(alloc, &setting).expect(&rt, "memory");
+    assert!(rt; path.is_none(), "paths");
+    assert!(rt; link.is_none(), "links");
+}

@@ -1,0 +1,367 @@
+//! Networks under failures, with the routes that their routers settle on. A row is a constant, and a function
+//! gives it, so that proofs of what uses it don't read it.
+use crate::exit_rows::{entered_row, exits_row, exported_row, silent_exit_row};
+use crate::lines::{Held, Line};
+
+/// A network with a policy, its configuration and failures; the routes that the routers settle on; and single
+/// routes in whose place the outcome isn't stable. Locations go by their numbers.
+#[derive(Clone, Copy)]
+pub(crate) struct Row {
+    pub(crate) topology: &'static [u8],
+    pub(crate) policy: &'static [u8],
+    /// The one class: a prefix, and the greatest length in it.
+    pub(crate) class: (&'static [u8], u8),
+    pub(crate) lines: &'static [Line],
+    pub(crate) prefix: &'static [u8],
+    /// Dead locations, as bits.
+    pub(crate) dead: u64,
+    pub(crate) dead_links: &'static [(u16, u16)],
+    pub(crate) silent: &'static [(u16, u16)],
+    pub(crate) settled: &'static [Held],
+    pub(crate) unstable: &'static [(u16, Held)],
+}
+
+const TWO_ROUTERS: &[u8] = br#"{"routers":[{"name":"A","asn":64512,"id":"10.255.0.1"},
+{"name":"B","asn":64513,"id":"10.255.0.2"}],"peers":[],"links":[["A","B"]]}"#;
+
+const TRIANGLE: &[u8] = br#"{"routers":[{"name":"A","asn":64512,"id":"10.255.0.1"},
+{"name":"B","asn":64513,"id":"10.255.0.2"},{"name":"C","asn":64514,"id":"10.255.0.3"}],
+"peers":[],"links":[["A","B"],["A","C"],["B","C"]]}"#;
+
+const DETOUR: &[u8] = br#"{"routers":[{"name":"D","asn":64512,"id":"10.255.0.1"},
+{"name":"B","asn":64513,"id":"10.255.0.2"},{"name":"X","asn":64514,"id":"10.255.0.3"},
+{"name":"C","asn":64515,"id":"10.255.0.4"}],
+"peers":[],"links":[["D","B"],["B","X"],["X","C"],["C","D"]]}"#;
+
+const FALLBACK: &[u8] = br#"{"routers":[{"name":"A","asn":64512,"id":"10.255.0.1"},
+{"name":"B","asn":64513,"id":"10.255.0.2"},{"name":"C","asn":64514,"id":"10.255.0.3"},
+{"name":"D","asn":64515,"id":"10.255.0.4"},{"name":"E","asn":64516,"id":"10.255.0.5"}],
+"peers":[],"links":[["A","B"],["B","C"],["C","D"],["A","E"],["E","D"]]}"#;
+
+const VALLEY_FREE: &[u8] = br#"{"routers":[{"name":"T1","asn":64512,"id":"10.255.0.1"},
+{"name":"A1","asn":64513,"id":"10.255.0.2"},{"name":"S1","asn":64514,"id":"10.255.0.3"},
+{"name":"S2","asn":64515,"id":"10.255.0.4"},{"name":"A2","asn":64516,"id":"10.255.0.5"},
+{"name":"T3","asn":64517,"id":"10.255.0.6"},{"name":"T4","asn":64518,"id":"10.255.0.7"}],"peers":[],
+"links":[["T1","A1"],["A1","S1"],["A1","S2"],["S1","A2"],["S2","A2"],["A2","T3"],["A2","T4"]]}"#;
+
+const TWO_ORIGINS: &[u8] = br#"{"routers":[{"name":"A","asn":64512,"id":"10.255.0.1"},
+{"name":"D","asn":64513,"id":"10.255.0.2"},{"name":"C","asn":64514,"id":"10.255.0.3"}],
+"peers":[],"links":[["A","D"],["D","C"]]}"#;
+
+const ANY_FROM_A: &[u8] = b"originate 10.0.1.0/24 at A; 10.0.1.0/24 => any;";
+
+const TRIANGLE_LINES: [Line; 9] = [
+    Line::Originate(0, 1),
+    Line::Export(0, 1, 1),
+    Line::Export(0, 2, 1),
+    Line::Import(1, 0, 1, 1, 100),
+    Line::Import(1, 2, 1, 1, 100),
+    Line::Export(1, 2, 1),
+    Line::Import(2, 0, 1, 1, 100),
+    Line::Import(2, 1, 1, 1, 100),
+    Line::Export(2, 1, 1),
+];
+
+/// A triangle with a dead link.
+const DEAD_LINK: Row = Row {
+    topology: TRIANGLE,
+    policy: ANY_FROM_A,
+    class: (b"10.0.1.0/24", 24),
+    lines: &TRIANGLE_LINES,
+    prefix: b"10.0.1.0/24",
+    dead: 0,
+    dead_links: &[(2, 0)],
+    silent: &[],
+    settled: &[
+        Some((&[0], 1, 0)),
+        Some((&[1, 0], 1, 100)),
+        Some((&[2, 1, 0], 1, 100)),
+    ],
+    unstable: &[
+        (0, None),
+        (0, Some((&[0], 1, 1))),
+        (0, Some((&[0], 0, 0))),
+        (1, None),
+        (1, Some((&[1, 0], 1, 101))),
+        (1, Some((&[1, 0], 2, 100))),
+        (1, Some((&[1, 2, 1, 0], 1, 100))),
+        (2, None),
+        (2, Some((&[2, 0], 1, 100))),
+    ],
+};
+
+fn dead_link_row() -> Row {
+    DEAD_LINK
+}
+
+/// A triangle without failures, in which C takes the longer of two routes with one preference.
+const TIE: Row = Row {
+    topology: TRIANGLE,
+    policy: ANY_FROM_A,
+    class: (b"10.0.1.0/24", 24),
+    lines: &TRIANGLE_LINES,
+    prefix: b"10.0.1.0/24",
+    dead: 0,
+    dead_links: &[],
+    silent: &[],
+    settled: &[
+        Some((&[0], 1, 0)),
+        Some((&[1, 0], 1, 100)),
+        Some((&[2, 1, 0], 1, 100)),
+    ],
+    unstable: &[(2, None), (1, Some((&[1, 2, 0], 1, 100)))],
+};
+
+fn tie_row() -> Row {
+    TIE
+}
+
+/// A triangle with its origin dead.
+const DEAD_ORIGIN: Row = Row {
+    topology: TRIANGLE,
+    policy: ANY_FROM_A,
+    class: (b"10.0.1.0/24", 24),
+    lines: &TRIANGLE_LINES,
+    prefix: b"10.0.1.0/24",
+    dead: 0b1,
+    dead_links: &[],
+    silent: &[],
+    settled: &[None, None, None],
+    unstable: &[(0, Some((&[0], 1, 0))), (1, Some((&[1, 0], 1, 100)))],
+};
+
+fn dead_origin_row() -> Row {
+    DEAD_ORIGIN
+}
+
+/// A detour that is ranked second.
+const RANKED_DETOUR: Row = Row {
+    topology: DETOUR,
+    policy: b"originate 10.0.1.0/24 at D; 10.0.1.0/24 => avoid(X) >> any;",
+    class: (b"10.0.1.0/24", 24),
+    lines: &[
+        Line::Originate(0, 1),
+        Line::Export(0, 1, 1),
+        Line::Export(0, 3, 1),
+        Line::Import(1, 0, 1, 1, 101),
+        Line::Import(1, 2, 1, 2, 100),
+        Line::Export(1, 2, 1),
+        Line::Export(1, 2, 2),
+        Line::Import(2, 1, 1, 1, 100),
+        Line::Import(2, 1, 2, 1, 100),
+        Line::Import(2, 3, 1, 1, 100),
+        Line::Import(2, 3, 2, 1, 100),
+        Line::Export(2, 1, 1),
+        Line::Export(2, 3, 1),
+        Line::Import(3, 0, 1, 1, 101),
+        Line::Import(3, 2, 1, 2, 100),
+        Line::Export(3, 2, 1),
+        Line::Export(3, 2, 2),
+    ],
+    prefix: b"10.0.1.0/24",
+    dead: 0,
+    dead_links: &[(0, 1)],
+    silent: &[],
+    settled: &[
+        Some((&[0], 1, 0)),
+        Some((&[1, 2, 3, 0], 2, 100)),
+        Some((&[2, 3, 0], 1, 100)),
+        Some((&[3, 0], 1, 101)),
+    ],
+    unstable: &[
+        (0, None),
+        (1, None),
+        (1, Some((&[1, 0], 1, 101))),
+        (2, None),
+        (2, Some((&[2, 1, 0], 1, 100))),
+        (3, None),
+        (3, Some((&[3, 2, 1, 0], 2, 100))),
+    ],
+};
+
+fn ranked_detour_row() -> Row {
+    RANKED_DETOUR
+}
+
+/// A fallback path that is ranked second.
+const RANKED_FALLBACK: Row = Row {
+    topology: FALLBACK,
+    policy: b"originate 10.0.1.0/24 at D; 10.0.1.0/24 => path(A, B, C, D) >> path(A, E, D) from A;",
+    class: (b"10.0.1.0/24", 24),
+    lines: &[
+        Line::Originate(3, 1),
+        Line::Export(3, 2, 1),
+        Line::Export(3, 4, 1),
+        Line::Import(2, 3, 1, 1, 100),
+        Line::Export(2, 1, 1),
+        Line::Import(1, 2, 1, 1, 100),
+        Line::Export(1, 0, 1),
+        Line::Import(4, 3, 1, 1, 100),
+        Line::Export(4, 0, 1),
+        Line::Import(0, 1, 1, 2, 101),
+        Line::Import(0, 4, 1, 1, 100),
+    ],
+    prefix: b"10.0.1.0/24",
+    dead: 0,
+    dead_links: &[(1, 2)],
+    silent: &[],
+    settled: &[
+        Some((&[0, 4, 3], 1, 100)),
+        None,
+        Some((&[2, 3], 1, 100)),
+        Some((&[3], 1, 0)),
+        Some((&[4, 3], 1, 100)),
+    ],
+    unstable: &[
+        (0, None),
+        (0, Some((&[0, 1, 2, 3], 2, 101))),
+        (1, Some((&[1, 2, 3], 1, 100))),
+        (2, None),
+        (3, None),
+        (4, None),
+    ],
+};
+
+fn ranked_fallback_row() -> Row {
+    RANKED_FALLBACK
+}
+
+/// A prefix that nothing governs.
+const UNGOVERNED: Row = Row {
+    topology: TWO_ROUTERS,
+    policy: b"originate 10.0.1.0/24 at A; originate 10.0.9.0/24 at A; 10.0.1.0/24 => any;",
+    class: (b"10.0.1.0/24", 24),
+    lines: &[
+        Line::Originate(0, 1),
+        Line::Export(0, 1, 1),
+        Line::Import(1, 0, 1, 1, 100),
+    ],
+    prefix: b"10.0.9.0/24",
+    dead: 0,
+    dead_links: &[],
+    silent: &[],
+    settled: &[Some((&[0], 0, 0)), None],
+    unstable: &[
+        (0, None),
+        (0, Some((&[0], 1, 0))),
+        (1, Some((&[1, 0], 1, 100))),
+    ],
+};
+
+fn ungoverned_row() -> Row {
+    UNGOVERNED
+}
+
+/// The valley-free policy with a dead router.
+const DEAD_SPINE: Row = Row {
+    topology: VALLEY_FREE,
+    policy: b"originate 10.0.1.0/24 at T1;
+10.0.1.0/24 => through(S1, S2) and notransit(T1, T3, T4) from T3, T4;",
+    class: (b"10.0.1.0/24", 24),
+    lines: &[
+        Line::Originate(0, 1),
+        Line::Export(0, 1, 1),
+        Line::Import(1, 0, 1, 1, 100),
+        Line::Import(1, 2, 1, 1, 100),
+        Line::Import(1, 3, 1, 1, 100),
+        Line::Export(1, 2, 1),
+        Line::Export(1, 3, 1),
+        Line::Import(2, 1, 1, 1, 100),
+        Line::Import(2, 4, 1, 1, 100),
+        Line::Export(2, 1, 1),
+        Line::Export(2, 4, 1),
+        Line::Import(3, 1, 1, 1, 100),
+        Line::Import(3, 4, 1, 1, 100),
+        Line::Export(3, 1, 1),
+        Line::Export(3, 4, 1),
+        Line::Import(4, 2, 1, 1, 100),
+        Line::Import(4, 3, 1, 1, 100),
+        Line::Export(4, 2, 1),
+        Line::Export(4, 3, 1),
+        Line::Export(4, 5, 1),
+        Line::Export(4, 6, 1),
+        Line::Import(5, 4, 1, 1, 100),
+        Line::Import(6, 4, 1, 1, 100),
+    ],
+    prefix: b"10.0.1.0/24",
+    dead: 0b100,
+    dead_links: &[],
+    silent: &[],
+    settled: &[
+        Some((&[0], 1, 0)),
+        Some((&[1, 0], 1, 100)),
+        None,
+        Some((&[3, 1, 0], 1, 100)),
+        Some((&[4, 3, 1, 0], 1, 100)),
+        Some((&[5, 4, 3, 1, 0], 1, 100)),
+        Some((&[6, 4, 3, 1, 0], 1, 100)),
+    ],
+    unstable: &[
+        (0, None),
+        (1, None),
+        (2, Some((&[2, 1, 0], 1, 100))),
+        (3, None),
+        (4, None),
+        (4, Some((&[4, 2, 1, 0], 1, 100))),
+        (5, None),
+        (6, Some((&[6, 4, 2, 1, 0], 1, 100))),
+    ],
+};
+
+fn dead_spine_row() -> Row {
+    DEAD_SPINE
+}
+
+/// Two origins, of which one announces.
+const SEVERAL_ORIGINS: Row = Row {
+    topology: TWO_ORIGINS,
+    policy: b"originate 10.0.5.0/24 at A, D; 10.0.5.0/24 => end(A >> D);",
+    class: (b"10.0.5.0/24", 24),
+    lines: &[
+        Line::Originate(1, 1),
+        Line::Export(1, 2, 1),
+        Line::Import(2, 1, 1, 1, 100),
+    ],
+    prefix: b"10.0.5.0/24",
+    dead: 0,
+    dead_links: &[],
+    silent: &[],
+    settled: &[
+        Some((&[0], 0, 0)),
+        Some((&[1], 1, 0)),
+        Some((&[2, 1], 1, 100)),
+    ],
+    unstable: &[
+        (0, None),
+        (0, Some((&[0], 1, 0))),
+        (1, None),
+        (1, Some((&[1, 0], 1, 100))),
+        (2, None),
+        (2, Some((&[2, 1, 0], 1, 100))),
+    ],
+};
+
+fn several_origins_row() -> Row {
+    SEVERAL_ORIGINS
+}
+
+/// How many rows there are.
+pub(crate) const COUNT: usize = 12;
+
+/// The row of this number, from 0.
+pub(crate) fn nth_row(number: usize) -> Row {
+    match number {
+        0 => dead_link_row(),
+        1 => tie_row(),
+        2 => dead_origin_row(),
+        3 => exits_row(),
+        4 => silent_exit_row(),
+        5 => ranked_detour_row(),
+        6 => ranked_fallback_row(),
+        7 => ungoverned_row(),
+        8 => dead_spine_row(),
+        9 => several_origins_row(),
+        10 => entered_row(),
+        _ => exported_row(),
+    }
+}

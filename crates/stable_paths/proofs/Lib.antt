@@ -1,0 +1,5 @@
+pub mod Choices
+pub mod Members
+pub mod Paths
+pub mod RouteTests
+pub mod Settled
