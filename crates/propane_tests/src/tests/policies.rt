@@ -1,9 +1,6 @@
 //! Policy texts, and the line that each comes to.
 use super::{TWO_EXITS, refuses};
-use outside::NoMemory;
-use std::alloc::Global;
 use std::test::Fail;
-use text_words::push_bytes;
 
 // Each text with its line: the first rule that it breaks, at its first token.
 const ROWS: [(&[u8], &[u8]); 36] = [
@@ -140,55 +137,5 @@ fn policies_that_are_read(rt: HostRuntime) -> Result<(), Fail> {
     for text in READ {
         assert!(rt; refuses(alloc, TWO_EXITS, text, b"propane: topology not-yet\n")?);
     }
-    Ok(())
-}
-
-// A text with a part that stands many times.
-fn repeated(
-    alloc: Global,
-    front: &[u8],
-    part: &[u8],
-    count: u32,
-    back: &[u8],
-) -> Result<Vec<u8>, NoMemory> {
-    let mut text = Vec::new(alloc);
-    push_bytes(&mut text, front)?;
-    for _ in 0..count {
-        push_bytes(&mut text, part)?;
-    }
-    push_bytes(&mut text, back)?;
-    Ok(text)
-}
-
-#[test]
-fn policies_past_a_limit(rt: HostRuntime) -> Result<(), Fail> {
-    let alloc = rt.alloc();
-    let calls = repeated(alloc, b"true => any", b" or any", 999, b";")?;
-    assert!(rt;
-        refuses(
-            alloc,
-            TWO_EXITS,
-            &calls,
-            b"propane: policy 11 too-many calls 1000\n"
-        )?
-    );
-    let places = repeated(alloc, b"true => path(any", b",any", 256, b");")?;
-    assert!(rt;
-        refuses(
-            alloc,
-            TWO_EXITS,
-            &places,
-            b"propane: policy 11 too-many places 257\n"
-        )?
-    );
-    let brackets = repeated(alloc, b"true => ", b"(", 65, b"any")?;
-    assert!(rt;
-        refuses(
-            alloc,
-            TWO_EXITS,
-            &brackets,
-            b"propane: policy 3 deep at 1:73\n"
-        )?
-    );
     Ok(())
 }
