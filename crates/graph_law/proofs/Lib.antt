@@ -14,5 +14,4 @@ pub mod KeptFormed
 pub mod KeptRuns
 pub mod Ranks
 pub mod Faith
-pub mod OneBuilt
 pub mod OneTrimmed

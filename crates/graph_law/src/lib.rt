@@ -48,8 +48,7 @@ pub fn trimmed_graphs_are_faithful()
     ensures entered { (net : PlainNet) (plan : Plan) (g t : PlainGraph) → IsBuilt net plan g → IsTrimmed g t → IsEnteredFromBefore t }
 {}
 
-/// A plan has one graph, and that graph is trimmed to one.
-pub fn made_graphs_are_one()
-    ensures built { (net : PlainNet) (plan : Plan) (g h : PlainGraph) → IsBuilt net plan g → IsBuilt net plan h → g ≡ h }
-    ensures trimmed { (net : PlainNet) (plan : Plan) (g t u : PlainGraph) → IsBuilt net plan g → IsTrimmed g t → IsTrimmed g u → t ≡ u }
+/// The graph that is built of a plan is trimmed to one. That a plan has one graph is a law of `product_graph`.
+pub fn trimmed_graphs_are_one()
+    ensures { (net : PlainNet) (plan : Plan) (g t u : PlainGraph) → IsBuilt net plan g → IsTrimmed g t → IsTrimmed g u → t ≡ u }
 {}

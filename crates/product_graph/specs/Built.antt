@@ -1,9 +1,8 @@
 -- The graph of a case as it is built: every walk, read from its origin, as long as it can still be permitted.
-use Rattle.std.specs.Prelude.{◌≡◌, ℕ, ◌+◌, ◌<◌, ◌≤◌, Bool, true, false, not, ◌&&◌, ◌||◌, ◌==◌, IsTrue, zero, suc, List, [], ◌∷◌, ◌++◌, length, map, Option, Some, None, filter, slice_get, if◌then◌else◌}
+use Rattle.std.specs.Prelude.{◌≡◌, ℕ, ◌+◌, ◌<◌, ◌≤◌, Bool, not, ◌&&◌, ◌||◌, ◌==◌, IsTrue, zero, suc, List, [], ◌∷◌, ◌++◌, length, map, Option, Some, None, filter, slice_get, if◌then◌else◌}
 use Rattle.std.specs.List.{list_any, list_all, flat_map}
 use Rattle.std.specs.Ordering.{is_eq}
-use Rattle.net_base.specs.declared.loc.LocSet.{LocSet}
-use Rattle.net_base.specs.Network.{PlainNet, is_location, is_peer, is_router, linked}
+use Rattle.net_base.specs.Network.{PlainNet, is_peer, is_router, linked}
 use Rattle.path_words.specs.declared.policy.FromSet.{FromSet}
 use Rattle.path_words.specs.Permitted.{from_holds}
 use Rattle.path_exprs.specs.Expression.{Expression, expressions_of}
@@ -14,6 +13,7 @@ use Rattle.path_exprs.specs.Normal.{is_never}
 use Rattle.path_exprs.specs.Runs.{start_of, first_with}
 use Rattle.graph_base.specs.declared.graph.Node.{Node}
 use Rattle.graph_base.specs.Graphs.{PlainGraph}
+pub use Rattle.graph_base.specs.Locations.{numbers_below, in_order}
 
 -- What is built: the expressions of the alternatives, who may start a walk, where walks end, and whether the origins are
 -- all peers, or else routers.
@@ -34,14 +34,6 @@ same_standing x y = x.at == y.at && is_eq (compare_lists (expressions_of x.left)
 -- no alternative can be met any more
 abbrev pub is_dead : List Expression → Bool
 is_dead es = list_all is_never es
-
-abbrev pub numbers_below : ℕ → List ℕ
-numbers_below zero = []
-numbers_below (suc n) = numbers_below n ++ n ∷ []
-
--- the locations of the network, in order
-abbrev pub in_order : PlainNet → List ℕ
-in_order net = numbers_below (length net.routers + length net.peers)
 
 abbrev pub moved : List Expression → ℕ → Standing
 moved es l = record { at = l; left = map (derivative l) es }

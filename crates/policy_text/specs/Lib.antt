@@ -1,0 +1,3 @@
+pub mod PolicyText
+pub mod Printable
+pub mod Values

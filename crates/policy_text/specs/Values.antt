@@ -1,0 +1,58 @@
+-- What the program's types keep of networks and policies: names are names, prefixes are prefixes, and a set of
+-- locations has twelve words of 64 bits.
+use Rattle.std.specs.Prelude.{◌≡◌, ◌<◌, ◌^◌, IsTrue, List, [], ◌∷◌, length}
+use Rattle.std.specs.List.{AllByRecursion}
+use Rattle.net_base.specs.declared.loc.LocSet.{LocSet}
+use Rattle.net_base.specs.declared.net.Site.{Site}
+use Rattle.net_base.specs.NameRule.{is_name}
+use Rattle.net_base.specs.Network.{PlainNet, sites}
+use Rattle.net_base.specs.Prefixes.{IsPrefix, IsPattern}
+use Rattle.path_words.specs.declared.clause.Clause.{Clause}
+use Rattle.path_words.specs.declared.clause.Clause.TheVariants.{Any, Drop, Internal, Avoid, Through, NoTransit, Start, End, Link, Path, Exit, Enter}
+use Rattle.path_words.specs.declared.policy.FromSet.{FromSet}
+use Rattle.path_words.specs.declared.policy.FromSet.TheVariants as from_set
+use Rattle.path_words.specs.declared.policy.Origin.{Origin}
+use Rattle.path_words.specs.Policies.{Ranking, call, calls, prefer, either, both, negated, PlainStatement, PlainPolicy}
+
+abbrev pub HasNames : PlainNet → Type 0
+HasNames net = AllByRecursion (λ (x : Site). IsTrue (is_name x.name)) (sites net)
+
+abbrev pub IsLocSet : LocSet → Type 0
+IsLocSet s = (length s.words ≡ 12) × AllByRecursion (λ w. w < 2 ^ 64) s.words
+
+-- the sets of a call
+abbrev pub clause_sets : Clause → List LocSet
+clause_sets Any = []
+clause_sets Drop = []
+clause_sets Internal = []
+clause_sets (Avoid s) = s ∷ []
+clause_sets (Through s) = s ∷ []
+clause_sets (NoTransit s) = s ∷ []
+clause_sets (Start s) = s ∷ []
+clause_sets (End s) = s ∷ []
+clause_sets (Link a b) = a ∷ b ∷ []
+clause_sets (Path ps) = ps
+clause_sets (Exit s) = s ∷ []
+clause_sets (Enter s) = s ∷ []
+
+abbrev pub HasLocSets : Ranking → Type 0
+HasLocSets (call c) = AllByRecursion IsLocSet (clause_sets c)
+HasLocSets (calls cs) = AllByRecursion (λ c. AllByRecursion IsLocSet (clause_sets c)) cs
+HasLocSets (prefer a b) = HasLocSets a × HasLocSets b
+HasLocSets (either a b) = HasLocSets a × HasLocSets b
+HasLocSets (both a b) = HasLocSets a × HasLocSets b
+HasLocSets (negated a) = HasLocSets a
+
+abbrev pub HasSources : FromSet → Type 0
+HasSources from_set.Any = Unit {0}
+HasSources (from_set.Named s) = IsLocSet s
+
+pub record IsStatementValue (s : PlainStatement) : Type 0 where
+  pub patterns : AllByRecursion IsPattern s.patterns
+  pub ranked : HasLocSets s.ranked
+  pub from : HasSources s.from
+
+pub record IsPolicyValue (policy : PlainPolicy) : Type 0 where
+  pub prefixes : AllByRecursion (λ (o : Origin). IsPrefix o.prefix) policy.origins
+  pub origins : AllByRecursion (λ (o : Origin). IsLocSet o.at) policy.origins
+  pub statements : AllByRecursion IsStatementValue policy.statements

@@ -1,0 +1,5 @@
+//! Policies that are printed and read again.
+#![tactic(auto)]
+
+#[cfg(test)]
+mod tests;
