@@ -1,0 +1,32 @@
+//! Whether the items of a policy name routers.
+ghost use Rattle.std.specs.Prelude.{◌≡◌, ℕ, true};
+ghost use Rattle.net_base.specs.Network.{is_router};
+ghost use Rattle.net_base.specs.Sets.{holds};
+ghost use Rattle.compile_core.specs.Refusals.{OriginsAreRouters};
+
+use net_base::{LocSet, Net};
+use path_words::Origin;
+
+/// Whether the set has one location, which is a router.
+fn is_one_router(net: &Net, set: &LocSet) -> bool
+    ensures { result ≡ true → (l : ℕ) → holds set.now l ≡ true → is_router net.now l ≡ true }
+{
+    for at in 0..net.routers().len() as u16 {
+        if *set == LocSet::of_range(at, at + 1) {
+            return true;
+        }
+    }
+    false
+}
+
+/// Whether each item names one router.
+pub fn are_routers(net: &Net, origins: &[Origin]) -> bool
+    ensures { result ≡ true → OriginsAreRouters net.now origins.now }
+{
+    for i in 0..origins.len() {
+        if !is_one_router(net, &origins[i].at) {
+            return false;
+        }
+    }
+    true
+}

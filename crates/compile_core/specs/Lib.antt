@@ -1,0 +1,4 @@
+pub mod Firsts
+pub mod Mixed
+pub mod Refusals
+pub mod Sources

@@ -1,0 +1,5 @@
+pub mod Evidence
+pub mod Numbers
+pub mod Relations
+pub mod Rounds
+pub mod Views

@@ -1,0 +1,47 @@
+//! The rules for the nodes of a graph, the greatest relation under them, and the numbers that meet them: laws
+//! over the definitions, each the contract of a function without a body.
+#![tactic(auto)]
+
+ghost use Rattle.std.specs.Prelude.{◌≡◌, ℕ, Bool, IsTrue};
+ghost use Rattle.graph_base.specs.Graphs.{PlainGraph, IsGraph};
+ghost use Rattle.graph_base.specs.Rules.{IsWellFormed, MeetsRules};
+ghost use Rattle.net_base.specs.declared.loc.LocSet.{LocSet};
+ghost use Rattle.net_base.specs.Network.{PlainNet};
+ghost use Rattle.net_base.specs.Sets.{holds};
+ghost use Rattle.relation_law.specs.Evidence.{AreRanked, AreRouters, at_routers};
+ghost use Rattle.relation_law.specs.Numbers.{AreNumbers, number_of};
+ghost use Rattle.relation_law.specs.Relations.{IsGreatest, IsTotal};
+ghost use Rattle.relation_law.specs.Rounds.{IsReach, IsSettled, left_after};
+ghost use Rattle.relation_law.specs.Views.{view_of};
+
+/// Where a round takes nothing more away, what is left is the greatest relation.
+pub fn rounds_end_at_the_greatest()
+    ensures { (g : PlainGraph) (claimed : LocSet) (reach : ℕ → ℕ → Bool) (rounds : ℕ) → IsReach (view_of g claimed) reach → IsSettled (view_of g claimed) reach rounds
+        → IsGreatest (view_of g claimed) (left_after (view_of g claimed) reach rounds) }
+{}
+
+/// Numbers that meet the rules of the relation exist exactly where the greatest relation is total, and then
+/// the class counts are such numbers.
+pub fn numbers_exist_where_total()
+    ensures only { (g : PlainGraph) (claimed : LocSet) (r : ℕ → ℕ → Bool) (number : ℕ → ℕ) → IsGreatest (view_of g claimed) r → AreNumbers (view_of g claimed) number → IsTotal (view_of g claimed) r }
+    ensures counts { (g : PlainGraph) (claimed : LocSet) (r : ℕ → ℕ → Bool) → IsGreatest (view_of g claimed) r → IsTotal (view_of g claimed) r
+        → AreNumbers (view_of g claimed) (number_of (view_of g claimed).size r) }
+{}
+
+/// Numbers of the relation meet the rules of evidence. On a graph that is well formed, and whose listeners
+/// have ranks, no other numbers do.
+pub fn rules_of_evidence_are_those_of_the_relation()
+    ensures numbers { (net : PlainNet) (claimed : LocSet) (external : Bool) (g : PlainGraph) (number : ℕ → ℕ) → IsGraph g → AreNumbers (view_of g claimed) number
+        → MeetsRules net (λ l. IsTrue (holds claimed l)) external g number }
+    ensures only { (net : PlainNet) (origin : ℕ → Bool) (external : Bool) (g : PlainGraph) (claimed : LocSet) (number : ℕ → ℕ) → IsWellFormed net origin external g → IsGraph g
+        → AreRouters net claimed → AreRanked g → MeetsRules net (λ l. IsTrue (holds claimed l)) external g number → AreNumbers (view_of g claimed) number }
+{}
+
+/// Numbers that meet the rules of evidence exist exactly where the greatest relation is total: then the class
+/// counts meet them, with 0 for each node that isn't at a router.
+pub fn evidence_exists_where_total()
+    ensures counts { (net : PlainNet) (claimed : LocSet) (external : Bool) (g : PlainGraph) (r : ℕ → ℕ → Bool) → IsGraph g → IsGreatest (view_of g claimed) r → IsTotal (view_of g claimed) r
+        → MeetsRules net (λ l. IsTrue (holds claimed l)) external g (at_routers net g (number_of (view_of g claimed).size r)) }
+    ensures only { (net : PlainNet) (origin : ℕ → Bool) (external : Bool) (g : PlainGraph) (claimed : LocSet) (r : ℕ → ℕ → Bool) (number : ℕ → ℕ) → IsWellFormed net origin external g
+        → IsGraph g → AreRouters net claimed → AreRanked g → IsGreatest (view_of g claimed) r → MeetsRules net (λ l. IsTrue (holds claimed l)) external g number → IsTotal (view_of g claimed) r }
+{}

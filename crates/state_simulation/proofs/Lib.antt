@@ -1,0 +1,7 @@
+pub mod Advancing
+pub mod Answering
+pub mod Columns
+pub mod Holding
+pub mod Locating
+pub mod Marking
+pub mod Resting

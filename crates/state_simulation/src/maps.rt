@@ -1,0 +1,113 @@
+//! A graph's nodes as they are looked up.
+ghost use Rattle.std.specs.Prelude.{◌≡◌, ◌<◌, ◌≤◌, ◌&&◌, ◌==◌, All, ℕ, IfOk, length, nat_lt};
+ghost use Rattle.graph_base.specs.Runs.{has_step, place_of};
+ghost use Rattle.relation_law.specs.Rounds.{is_in};
+ghost use Rattle.state_simulation.specs.Looked.{AreMaps};
+
+use crate::grouping::grouped;
+use crate::reading::location;
+use graph_base::Graph;
+use net_base::List;
+use std::alloc::{AllocError, Global};
+
+/// A graph, with the nodes to which each node steps, those that step to it, and those of each location.
+#[derive(Drop)]
+pub struct Maps<'a> {
+    graph: &'a Graph,
+    successors: Vec<List<u32>>,
+    before: Vec<List<u32>>,
+    peers: Vec<List<u32>>,
+    ghost are: { AreMaps graph.now successors.items before.items peers.items },
+}
+
+impl<'a> Maps<'a> {
+    ghost use Rattle.std.specs.Prelude.{Bool, List as Items};
+    ghost use Rattle.reach_prune.specs.Searches.{is_among};
+
+    /// The maps of a graph.
+    pub fn new(alloc: Global, graph: &'a Graph) -> Result<Maps<'a>, AllocError>
+        ensures { IfOk result (λ maps. maps.graph.now ≡ graph.now) }
+    {
+        let size = graph.nodes().len();
+        let turned = turned_steps(alloc, graph)?;
+        let placed = placed_nodes(alloc, graph)?;
+        Ok(Maps {
+            graph,
+            successors: grouped(alloc, size, graph.steps())?,
+            before: grouped(alloc, size, &turned)?,
+            peers: grouped(alloc, location_count(graph), &placed)?,
+        })
+    }
+
+    /// The graph.
+    pub fn graph(&self) -> &Graph
+        ensures { result.now ≡ self.now.graph.now }
+    {
+        self.graph
+    }
+
+    /// The nodes to which a node steps.
+    pub fn successors(&self, node: u32) -> &[u32]
+        requires { node < length self.now.graph.now.nodes }
+        ensures within { All (λ n. n < length self.now.graph.now.nodes) result.now }
+        ensures members { (n : ℕ) → is_among result.now n ≡ has_step self.now.graph.now node n }
+    {
+        self.successors[node as usize].as_slice()
+    }
+
+    /// The nodes that step to a node.
+    pub fn before(&self, node: u32) -> &[u32]
+        requires { node < length self.now.graph.now.nodes }
+        ensures within { All (λ n. n < length self.now.graph.now.nodes) result.now }
+        ensures members { (n : ℕ) → is_among result.now n ≡ has_step self.now.graph.now n node }
+    {
+        self.before[node as usize].as_slice()
+    }
+
+    /// The nodes that stand where a node stands, the node among them.
+    pub fn peers(&self, node: u32) -> &[u32]
+        requires { node < length self.now.graph.now.nodes }
+        ensures within { All (λ n. n < length self.now.graph.now.nodes) result.now }
+        ensures members { (n : ℕ) → n < length self.now.graph.now.nodes → is_among result.now n ≡ (place_of self.now.graph.now n == place_of self.now.graph.now node) }
+    {
+        let at = location(self.graph, node).number() as usize;
+        self.peers[at].as_slice()
+    }
+}
+
+/// The steps, each from where it leads to where it comes from.
+fn turned_steps(alloc: Global, graph: &Graph) -> Result<Vec<(u32, u32)>, AllocError>
+    ensures within { IfOk result (λ turned. All (λ p. p.0 < length graph.now.nodes) turned.items) }
+    ensures turned { IfOk result (λ turned. (a b : ℕ) → is_in turned.items a b ≡ has_step graph.now b a) }
+{
+    let mut turned = Vec::new(alloc);
+    for (from, to) in graph.steps() {
+        turned.push((*to, *from))?;
+    }
+    Ok(turned)
+}
+
+/// One more than the greatest location of a node.
+fn location_count(graph: &Graph) -> usize
+    ensures { (n : ℕ) → n < length graph.now.nodes → place_of graph.now n < result }
+{
+    let mut count = 0;
+    for node in 0..graph.nodes().len() as u32 {
+        let at = location(graph, node).number() as usize;
+        if count <= at {
+            count = at + 1;
+        }
+    }
+    count
+}
+
+/// Each node's location and the node.
+fn placed_nodes(alloc: Global, graph: &Graph) -> Result<Vec<(u32, u32)>, AllocError>
+    ensures { IfOk result (λ placed. (p n : ℕ) → is_in placed.items p n ≡ (nat_lt n (length graph.now.nodes) && place_of graph.now n == p)) }
+{
+    let mut placed = Vec::new(alloc);
+    for node in 0..graph.nodes().len() as u32 {
+        placed.push((location(graph, node).number() as u32, node))?;
+    }
+    Ok(placed)
+}
