@@ -21,7 +21,9 @@ pub record Pair (v : View) (m n : ℕ) : Type 0 where
   pub right : n < v.size
   pub place : v.place m ≡ v.place n
 
--- The rules for m above n, where above a b says that a may stand at least as high as b:
+-- The rules for m above n, where above a b says that a may stand at least as high as b. A graph alone doesn't
+-- tell a peer from a router: a step to a node that hears counts as one to a peer and every other as one to a
+-- router, and the rules are asked at each location.
 pub record Meets (v : View) (above : ℕ → ℕ → Bool) (m n : ℕ) : Type 0 where
   -- at a claimed location m has no worse a rank
   pub rank : IsTrue (v.claimed (v.place n)) → IsTrue (no_worse (v.rank m) (v.rank n))

@@ -5,12 +5,13 @@ use Rattle.net_base.specs.Sets.{holds}
 use Rattle.graph_base.specs.Graphs.{PlainGraph}
 use Rattle.graph_base.specs.Runs.{place_of, is_listener, rank_at, has_step, Reaches}
 
+-- how many nodes there are; where a node stands, whether it is a listener, and its rank; which locations are
+-- claimed; which node steps to which, and from which another can be reached
 pub record View : Type 1 where
   pub size : ℕ
   pub place : ℕ → ℕ
   pub hears : ℕ → Bool
   pub rank : ℕ → Option ℕ
-  -- of a location
   pub claimed : ℕ → Bool
   pub step : ℕ → ℕ → Bool
   pub Leads : ℕ → ℕ → Type 0

@@ -62,9 +62,9 @@ module _ (v : View) (reach : ℕ → ℕ → Bool) (blank new : Marks) (b : IsBl
   size = b.rows
 
   blank_mark : (x y : ℕ) → mark blank x y ≡ 0
-  blank_mark x y = ap (λ l. get_or l (x * blank.size + y) 0) b.cells ∙ elim (cases_lt (x * blank.size + y) (v.size * v.size)) [
-    | inl lt ↦ get_or-replicate (v.size * v.size) (x * blank.size + y) 0 0 lt
-    | inr past ↦ get_or_past (replicate (v.size * v.size) 0) (x * blank.size + y) 0 (omega (arith, length-replicate {A = ℕ} (v.size * v.size) 0, past))
+  blank_mark x y = ap (λ l. get_or l (y * blank.size + x) 0) b.cells ∙ elim (cases_lt (y * blank.size + x) (v.size * v.size)) [
+    | inl lt ↦ get_or-replicate (v.size * v.size) (y * blank.size + x) 0 0 lt
+    | inr past ↦ get_or_past (replicate (v.size * v.size) 0) (y * blank.size + x) 0 (omega (arith, length-replicate {A = ℕ} (v.size * v.size) 0, past))
   ]
 
   free : (x y : ℕ) → eqb (mark blank x y) 0 ≡ true
@@ -138,7 +138,7 @@ module _ (v : View) (reach : ℕ → ℕ → Bool) (b : ℕ) (old : Marks) (s : 
 
   module _ (mid : Marks) (frontier : List (ℕ × ℕ)) (begins : Begins old mid frontier) where
     mid_mark : (x y : ℕ) → mark mid x y ≡ mark old x y
-    mid_mark x y = ap (λ z. get_or mid.cells.items (x * z + y) 0) begins.size ∙ ap (λ l. get_or l (x * old.size + y) 0) begins.cells
+    mid_mark x y = ap (λ z. get_or mid.cells.items (y * z + x) 0) begins.size ∙ ap (λ l. get_or l (y * old.size + x) 0) begins.cells
 
     gone_is : (x y : ℕ) → Pair v x y → gone_before mid x y ≡ gone_after v reach (suc b) x y
     gone_is x y p =

@@ -103,21 +103,21 @@ flip a b = elim (cases_eq a b) [
 ]
 
 -- the mark that is read at a place is that of the pair
-pub mark_read : (old : Marks) (m n value : ℕ) → m < old.size → n < old.size → value ≡ get_or old.cells.items (m * old.size + n) value → mark old m n ≡ value
-mark_read old m n value lm ln e = sym (get_or_read old.cells.items (m * old.size + n) value (omega (arith, old.square, mul-add-lt m old.size n old.size lm ln)) e 0)
+pub mark_read : (old : Marks) (m n value : ℕ) → m < old.size → n < old.size → value ≡ get_or old.cells.items (n * old.size + m) value → mark old m n ≡ value
+mark_read old m n value lm ln e = sym (get_or_read old.cells.items (n * old.size + m) value (omega (arith, old.square, mul-add-lt n old.size m old.size ln lm)) e 0)
 
 module _ (old new : Marks) (m n : ℕ) (lm : m < old.size) (ln : n < old.size) (pos : 0 < old.round) (left : mark old m n ≡ 0) (size : new.size ≡ old.size) (round : new.round ≡ old.round)
-    (cells : new.cells.items ≡ set old.cells.items (m * old.size + n) old.round) (last : new.last.items ≡ old.last.items ++ (m, n) ∷ []) where
-  fits : m * old.size + n < length old.cells.items
-  fits = omega (arith, old.square, mul-add-lt m old.size n old.size lm ln)
+    (cells : new.cells.items ≡ set old.cells.items (n * old.size + m) old.round) (last : new.last.items ≡ old.last.items ++ (m, n) ∷ []) where
+  fits : n * old.size + m < length old.cells.items
+  fits = omega (arith, old.square, mul-add-lt n old.size m old.size ln lm)
 
-  at_place : (x y : ℕ) → mark new x y ≡ get_or (set old.cells.items (m * old.size + n) old.round) (x * old.size + y) 0
-  at_place x y = ap (λ s. get_or new.cells.items (x * s + y) 0) size ∙ ap (λ l. get_or l (x * old.size + y) 0) cells
+  at_place : (x y : ℕ) → mark new x y ≡ get_or (set old.cells.items (n * old.size + m) old.round) (y * old.size + x) 0
+  at_place x y = ap (λ s. get_or new.cells.items (y * s + x) 0) size ∙ ap (λ l. get_or l (y * old.size + x) 0) cells
 
-  here : (x y : ℕ) → (eqb x m && eqb y n) ≡ true → x * old.size + y ≡ m * old.size + n
+  here : (x y : ℕ) → (eqb x m && eqb y n) ≡ true → y * old.size + x ≡ n * old.size + m
   here x y e =
       let u : (eqb x m ≡ true) × (eqb y n ≡ true) = and_parts _ _ e in
-      ap (λ z. z * old.size + y) (eqb-true x m u.0) ∙ ap (λ z. m * old.size + z) (eqb-true y n u.1)
+      ap (λ z. z * old.size + x) (eqb-true y n u.1) ∙ ap (λ z. n * old.size + z) (eqb-true x m u.0)
 
   left_here : (x y : ℕ) → (eqb x m && eqb y n) ≡ true → (eqb (mark old x y) 0 && (eqb x m && eqb y n)) ≡ true
   left_here x y e = and_from _ _ (eq-eqb _ _ (ap (λ i. get_or old.cells.items i 0) (here x y e) ∙ left)) e
@@ -127,11 +127,11 @@ module _ (old new : Marks) (m n : ℕ) (lm : m < old.size) (ln : n < old.size) (
     size = size;
     round = round;
     cells = λ x y lx ly. at_place x y ∙ elim (cases_Bool (eqb x m && eqb y n)) [
-      | inl e ↦ ap (λ i. get_or (set old.cells.items (m * old.size + n) old.round) i 0) (here x y e) ∙ get_or-set_same old.cells.items (m * old.size + n) old.round 0 fits
+      | inl e ↦ ap (λ i. get_or (set old.cells.items (n * old.size + m) old.round) i 0) (here x y e) ∙ get_or-set_same old.cells.items (n * old.size + m) old.round 0 fits
           ∙ sym (cond-true (eqb (mark old x y) 0 && (eqb x m && eqb y n)) old.round (mark old x y) (left_here x y e))
       | inr e ↦ (
-          let ne : x * old.size + y ≢ m * old.size + n = λ q. (let s = same_from_place x y m n old.size ly ln q in both_ways (eqb x m && eqb y n) e (and_from _ _ (eq-eqb _ _ s.0) (eq-eqb _ _ s.1))) in
-          get_or-set_other old.cells.items (m * old.size + n) (x * old.size + y) old.round 0 ne ∙ sym (cond-false (eqb (mark old x y) 0 && (eqb x m && eqb y n)) old.round (mark old x y) (and_right _ _ e)))
+          let ne : y * old.size + x ≢ n * old.size + m = λ q. (let s = same_from_place y x n m old.size lx lm q in both_ways (eqb x m && eqb y n) e (and_from _ _ (eq-eqb _ _ s.1) (eq-eqb _ _ s.0))) in
+          get_or-set_other old.cells.items (n * old.size + m) (y * old.size + x) old.round 0 ne ∙ sym (cond-false (eqb (mark old x y) 0 && (eqb x m && eqb y n)) old.round (mark old x y) (and_right _ _ e)))
     ];
     listed = λ x y lx ly. ap (λ l. is_in l x y) last ∙ list_any-append (λ (s : ℕ × ℕ). eqb s.0 x && eqb s.1 y) old.last.items ((m, n) ∷ []) ∙ ap (λ b. is_in old.last.items x y || b) (
         or_none (eqb m x && eqb n y) ∙ elim (cases_Bool (eqb x m && eqb y n)) [
@@ -141,7 +141,7 @@ module _ (old new : Marks) (m n : ℕ) (lm : m < old.size) (ln : n < old.size) (
           | inr e ↦ ap (λ b. b && eqb n y) (flip m x) ∙ ap (λ b. eqb x m && b) (flip n y) ∙ e ∙ sym (and_right _ _ e)
         ]);
     count =
-        let s = sum_by-set (λ x. cond (eqb x 0) 1 0) old.cells.items (m * old.size + n) old.round 0 fits in
+        let s = sum_by-set (λ x. cond (eqb x 0) 1 0) old.cells.items (n * old.size + m) old.round 0 fits in
         let a : ◌≡◌ {A = ℕ} (cond (eqb (mark old m n) 0) 1 0) 1 = cond-true (eqb (mark old m n) 0) 1 0 (eq-eqb _ _ left) in
         let b : ◌≡◌ {A = ℕ} (cond (eqb old.round 0) 1 0) 0 = cond-false (eqb old.round 0) 1 0 (ne_eqb old.round 0 (λ e. omega arith)) in
         rw (cells, last) (omega (arith, s, a, b, length-append old.last.items ((m, n) ∷ [])));

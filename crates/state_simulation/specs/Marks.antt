@@ -6,9 +6,9 @@ use Rattle.relation_law.specs.Rounds.{AreOf, has_answer, is_in, rests_on, round_
 use Rattle.relation_law.specs.Views.{View}
 use Rattle.state_simulation.specs.declared.marks.Marks.{Marks}
 
--- the mark of the pair m above n, in a table of so many rows; 0 where it has none
+-- the mark of the pair m above n, in a table with a row of so many for each node that stands below; 0 where it has none
 abbrev pub cell : List ℕ → ℕ → ℕ → ℕ → ℕ
-cell cells size m n = slice_index_or cells (m * size + n) 0
+cell cells size m n = slice_index_or cells (n * size + m) 0
 
 abbrev pub mark : Marks → ℕ → ℕ → ℕ
 mark marks m n = cell marks.cells.items marks.size m n

@@ -3,7 +3,8 @@ ghost use Rattle.std.specs.Prelude.{◌≡◌, ◌*◌, ◌<◌, ◌≤◌, leng
 
 use std::alloc::{AllocError, Global};
 
-/// The round in which each pair went, 0 where it is left, and the pairs that went in the present round.
+/// The round in which each pair went, 0 where it is left, and the pairs that went in the present round. The
+/// pairs above one node stand side by side.
 #[derive(Drop)]
 pub struct Marks {
     size: usize,
@@ -36,7 +37,7 @@ impl Marks {
         requires n { n < self.now.size }
         ensures { result ≡ (mark self.now m n == 0) }
     {
-        self.cells[m as usize * self.size + n as usize] == 0
+        self.cells[n as usize * self.size + m as usize] == 0
     }
 
     /// Whether the pair went before the present round.
@@ -45,7 +46,7 @@ impl Marks {
         requires n { n < self.now.size }
         ensures { result ≡ gone_before self.now m n }
     {
-        let mark = self.cells[m as usize * self.size + n as usize];
+        let mark = self.cells[n as usize * self.size + m as usize];
         mark != 0 && mark != self.round
     }
 
@@ -56,7 +57,7 @@ impl Marks {
         requires round { 0 < self.old.round }
         ensures { OnOk result (Marked self.old self.new (λ x y. goes && (x == m && y == n))) }
     {
-        let at = m as usize * self.size + n as usize;
+        let at = n as usize * self.size + m as usize;
         if goes && self.cells[at] == 0 {
             self.last.push((m, n))?;
             self.cells[at] = self.round;

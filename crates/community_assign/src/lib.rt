@@ -1,0 +1,12 @@
+//! Tags of the nodes of graphs.
+#![tactic(auto)]
+
+mod assign;
+mod fault;
+mod law;
+#[cfg(test)]
+mod tests;
+
+pub use assign::tags;
+pub use fault::TagFault;
+pub use law::tags_keep_their_rule;

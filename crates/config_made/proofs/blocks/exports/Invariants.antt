@@ -1,0 +1,6 @@
+use Rattle.std.proofs.Common.{◌≡◌, map, take}
+use Rattle.config_made.specs.Writing.{export_line}
+use Rattle.config_made.proofs.blocks.exports.Given as goal
+
+abbrev pub invariant-loop-hop : goal.invariant-loop-hop
+invariant-loop-hop l = l.lines ≡ map export_line (take l.hop-index l.hop-items)

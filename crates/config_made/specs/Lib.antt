@@ -1,0 +1,5 @@
+pub mod Conditions
+pub mod Evidence
+pub mod Hops
+pub mod Law
+pub mod Writing

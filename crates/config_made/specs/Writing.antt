@@ -1,0 +1,48 @@
+-- The blocks that are written of steps and starts.
+use Rattle.std.specs.Prelude.{ℕ, List, [], length, map, filter}
+use Rattle.std.specs.Option.{option_map_or}
+use Rattle.net_base.specs.declared.net.Site.{Site}
+use Rattle.net_base.specs.Network.{PlainNet, is_peer, asn_of, id_of, site_of}
+use Rattle.graph_base.specs.Locations.{numbers_below, neighbours}
+use Rattle.config_base.specs.declared.config.RouterConfig.{RouterConfig}
+use Rattle.config_base.specs.declared.config.Session.{Session}
+use Rattle.config_base.specs.declared.config.Rule.{Rule}
+use Rattle.config_base.specs.declared.config.Export.{Export}
+use Rattle.config_base.specs.declared.config.Own.{Own}
+use Rattle.config_made.specs.declared.hop.Hop.{Hop}
+use Rattle.config_made.specs.declared.hop.Announced.{Announced}
+use Rattle.config_made.specs.Hops.{goes, stands}
+
+abbrev pub export_line : Hop → Export
+export_line hop = record { class = hop.class; tag = hop.tag }
+
+abbrev pub import_line : Hop → Rule
+import_line hop = record { class = hop.class; tag = hop.tag; set = hop.set; pref = hop.pref }
+
+abbrev pub own_line : Announced → Own
+own_line a = record { class = a.class; prefix = a.prefix; tag = a.tag }
+
+abbrev pub name_of : PlainNet → ℕ → List ℕ
+name_of net l = option_map_or (λ (s : Site). s.name) (site_of net l) []
+
+-- the block of z in the block of x
+abbrev pub session_of : PlainNet → List Hop → ℕ → ℕ → Session
+session_of net hops x z = record {
+  name = name_of net z;
+  asn = asn_of net z;
+  peer = is_peer net z;
+  imports = map import_line (filter (goes z x) hops);
+  exports = map export_line (filter (goes x z) hops);
+}
+
+abbrev pub router_of : PlainNet → List Hop → List Announced → ℕ → RouterConfig
+router_of net hops announced x = record {
+  name = name_of net x;
+  asn = asn_of net x;
+  id = id_of net x;
+  own = map own_line (filter (stands x) announced);
+  sessions = map (session_of net hops x) (neighbours net x);
+}
+
+abbrev pub routers_of : PlainNet → List Hop → List Announced → List RouterConfig
+routers_of net hops announced = map (router_of net hops announced) (numbers_below (length net.routers))

@@ -1,0 +1,65 @@
+//! The patterns of the classes.
+ghost use Rattle.std.specs.Prelude.{◌≡◌, IfOk, map, option_map};
+ghost use Rattle.net_base.specs.Prefixes.{only};
+ghost use Rattle.path_words.specs.Policies.{policy_of, plain_statement};
+ghost use Rattle.config_base.specs.Made.{statement_at as plain_statement_at, patterns_of as plain_patterns_of};
+
+use net_base::{List, Pattern, Prefix};
+use path_words::{Case, Policy, Statement};
+use std::alloc::{AllocError, Global};
+
+// The statement with a number, from 1.
+fn statement_at(policy: &Policy, number: u32) -> Option<&Statement>
+    ensures { option_map (λ s. plain_statement s.now) result ≡ plain_statement_at (policy_of policy.now) number }
+{
+    let statements = policy.statements();
+    let number = number as usize;
+    if number == 0 || number > statements.len() {
+        return None;
+    }
+    Some(&statements[number - 1])
+}
+
+fn only_each(alloc: Global, prefixes: &[Prefix]) -> Result<List<Pattern>, AllocError>
+    ensures { IfOk result (λ patterns. patterns ≡ map only prefixes.now) }
+{
+    let mut patterns = List::new(alloc);
+    for prefix in prefixes {
+        patterns.push(Pattern::only(*prefix))?;
+    }
+    Ok(patterns)
+}
+
+fn copy_of(alloc: Global, patterns: &[Pattern]) -> Result<List<Pattern>, AllocError>
+    ensures { IfOk result (λ copy. copy ≡ patterns.now) }
+{
+    Ok(List::from_vec(Vec::from_slice(alloc, patterns)?))
+}
+
+// The patterns of a case: its prefixes, or those of its statement where it's external.
+fn patterns_of(alloc: Global, policy: &Policy, case: &Case) -> Result<List<Pattern>, AllocError>
+    ensures { IfOk result (λ patterns. patterns ≡ plain_patterns_of (policy_of policy.now) case.now) }
+{
+    if !case.external {
+        return only_each(alloc, case.prefixes.as_slice());
+    }
+    match statement_at(policy, case.statement) {
+        Some(statement) => copy_of(alloc, statement.patterns.as_slice()),
+        None => Ok(List::new(alloc)),
+    }
+}
+
+/// The patterns of each case.
+pub fn classes_of(
+    alloc: Global,
+    policy: &Policy,
+    cases: &[Case],
+) -> Result<List<List<Pattern>>, AllocError>
+    ensures { IfOk result (λ classes. classes ≡ map (plain_patterns_of (policy_of policy.now)) cases.now) }
+{
+    let mut classes = List::new(alloc);
+    for case in cases {
+        classes.push(patterns_of(alloc, policy, case)?)?;
+    }
+    Ok(classes)
+}

@@ -1,0 +1,13 @@
+//! The configuration of a policy's cases, with a graph for each and a number and a tag for each node.
+#![tactic(auto)]
+
+mod blocks;
+mod classes;
+mod find;
+mod gather;
+mod hop;
+mod law;
+mod make;
+
+pub use law::case_lists_are_classes;
+pub use make::config_of;
