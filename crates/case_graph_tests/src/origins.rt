@@ -2,7 +2,7 @@
 ghost use Rattle.std.specs.Prelude.{◌≡◌, ℕ, true};
 ghost use Rattle.net_base.specs.Network.{is_router};
 ghost use Rattle.net_base.specs.Sets.{holds};
-ghost use Rattle.compile_core.specs.Refusals.{OriginsAreRouters};
+ghost use Rattle.compile_core.specs.Cases.{OriginsAreRouters};
 
 use net_base::{LocSet, Net};
 use path_words::Origin;

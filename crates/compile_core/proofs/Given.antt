@@ -8,7 +8,8 @@ use Rattle.graph_base.specs.Graphs.{PlainGraph, IsGraph}
 use Rattle.graph_base.specs.Walks.{IsEnteredFromBefore}
 use Rattle.regret_law.specs.Faithful.{IsFaithful}
 use Rattle.graph_law.proofs.Faith.{built_is_faithful, trimmed_is_entered}
-use Rattle.compile_core.specs.Refusals.{FitsCase, FitsOrigins, IsMade, plan_for}
+use Rattle.compile_core.specs.Cases.{FitsOrigins}
+use Rattle.compile_core.specs.Refusals.{FitsCase, IsMade, plan_for}
 use Rattle.compile_core.specs.Sources.{IsMixed}
 use Rattle.compile_core.proofs.Walks.{claimed_ranked}
 

@@ -15,7 +15,7 @@ use Rattle.path_words.specs.Cases.{case_list, external_cases, is_originated, ori
 use Rattle.config_base.specs.Made.{IsIn, statement_at}
 use Rattle.regret_law.proofs.Lists.{all_at}
 use Rattle.graph_law.specs.Origins.{AreOrigins}
-use Rattle.compile_core.specs.Refusals.{OriginsAreRouters}
+use Rattle.compile_core.specs.Cases.{OriginsAreRouters}
 
 -- a case of a network and a policy: it has a statement, and its origins are those of an `originate` item, or all peers
 pub record IsKnown (net : PlainNet) (policy : PlainPolicy) (c : Case) : Type 0 where

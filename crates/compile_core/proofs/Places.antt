@@ -1,14 +1,17 @@
 -- The case and the statement that are read are where the lists have them.
 use Rattle.std.proofs.Common.{◌≡◌, ℕ, zero, suc, ◌-◌, ◌≤◌, List, [], ◌∷◌, length, get_or, map, Some, refl, arith, sym, ap, subst, ◌∙◌}
 use Rattle.std.specs.Prelude.{slice_get}
-use Rattle.std.proofs.lemmas.Option.{slice_get-get_or, slice_get_within}
+use Rattle.std.proofs.lemmas.Option.{slice_get-get_or, slice_get-map, slice_get_within}
+use Rattle.std.proofs.lemmas.List.{length-map}
+use Rattle.std.specs.Option.{option_map}
 use Rattle.net_base.specs.Network.{PlainNet}
 use Rattle.path_words.specs.declared.case.Case.{Case}
 use Rattle.path_words.specs.declared.policy.Statement.{Statement}
 use Rattle.path_words.specs.Cases.{case_list}
 use Rattle.path_words.specs.Policies.{PlainPolicy, PlainStatement, PolicyLists, plain_statement, policy_of}
 use Rattle.config_base.specs.Made.{statement_at}
-use Rattle.compile_core.specs.Refusals.{OfCase, case_at}
+use Rattle.compile_core.specs.Cases.{OfCase, case_at}
+use Rattle.regret_law.proofs.CaseOfClass.{same_value}
 use Rattle.compile_core.proofs.Origins.{IsKnown, case_known}
 
 case_at-read : (items all cs : List Case) (number : ℕ) (c : Case) → items ≡ all → all ≡ cs → 1 ≤ number → number ≤ length all → c ≡ get_or items (number - 1) c → case_at cs number ≡ Some c
@@ -23,21 +26,12 @@ case_at-place : (cs : List Case) (number : ℕ) (c : Case) → case_at cs number
 case_at-place cs zero c at = absurd cc
 case_at-place cs (suc k) c at = let before : suc k - 1 ≡ k = omega arith in ap (slice_get cs) before ∙ at
 
-length-map : {A B : Type 0} (f : A → B) (xs : List A) → length (map f xs) ≡ length xs
-length-map f [] = refl
-length-map f (x ∷ xs) = ap suc (length-map f xs)
-
-slice_get-map : {A B : Type 0} (f : A → B) (xs : List A) (i : ℕ) (x : A) → slice_get xs i ≡ Some x → slice_get (map f xs) i ≡ Some (f x)
-slice_get-map f [] i x at = absurd cc
-slice_get-map f (y ∷ ys) zero x at = let same : y ≡ x = cc in ap (λ z. Some (f z)) same
-slice_get-map f (y ∷ ys) (suc i) x at = slice_get-map f ys i x at
-
 -- the number of a statement is a place of the list, from 1
 statement_place : (lists : PolicyLists) (number : ℕ) (s : PlainStatement) → statement_at (policy_of lists) number ≡ Some s → (1 ≤ number) × (number ≤ length lists.statements)
 statement_place lists zero s at = absurd cc
 statement_place lists (suc k) s at =
     let within = slice_get_within (map plain_statement lists.statements) k s at in
-    (omega arith, omega (arith, within, length-map plain_statement lists.statements))
+    (omega arith, omega (arith, within, length-map lists.statements plain_statement))
 
 pub statement_at-read : (items : List Statement) (lists : PolicyLists) (number : ℕ) (statement : Statement) → items ≡ lists.statements → 1 ≤ number → number ≤ length lists.statements → statement ≡ get_or items (number - 1) statement
     → statement_at (policy_of lists) number ≡ Some (plain_statement statement)
@@ -45,7 +39,7 @@ statement_at-read items lists zero statement same from within read = absurd (ome
 statement_at-read items lists (suc k) statement same from within read =
     let before : suc k - 1 ≡ k = omega arith in
     let there : slice_get items k ≡ Some statement = slice_get-get_or items k statement (omega (arith, within, ap length same)) ∙ ap Some (sym (read ∙ ap (λ n. get_or items n statement) before)) in
-    slice_get-map plain_statement lists.statements k statement (ap (λ (list : List Statement). slice_get list k) (sym same) ∙ there)
+    slice_get-map plain_statement lists.statements k ∙ ap (option_map plain_statement) (ap (λ (list : List Statement). slice_get list k) (sym same) ∙ there)
 
 -- what is known of a case that was read at a place of the case list
 pub record IsReadAt (net : PlainNet) (lists : PolicyLists) (number : ℕ) (c : Case) : Type 0 where
@@ -67,6 +61,3 @@ of_case net policy number s c Says at of says other d is =
     let one : c ≡ d = same_value c d (sym at ∙ is.case) in
     let statement : s ≡ other = same_value s other (sym of ∙ ap (λ (x : Case). statement_at policy x.statement) one ∙ is.statement) in
     subst (Says other) one (subst (λ x. Says x c) statement says)
-  where
-    same_value : {A : Type 0} (x y : A) → Some x ≡ Some y → x ≡ y
-    same_value x y h = cc

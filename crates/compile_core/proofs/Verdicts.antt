@@ -12,6 +12,7 @@ use Rattle.graph_base.specs.Runs.{place_of, rank_at}
 use Rattle.graph_base.specs.Walks.{IsShownWalk}
 use Rattle.graph_base.proofs.ShownWalks.{shown_walk_run}
 use Rattle.regret_law.specs.Faithful.{IsFaithful, may_start}
+use Rattle.regret_law.proofs.Heard.{some_or_none}
 use Rattle.compile_core.specs.declared.firsts.Firsts.{Firsts}
 use Rattle.compile_core.specs.declared.sources.Mixed.{Mixed}
 use Rattle.compile_core.specs.Firsts.{AreFirsts, has_both, is_ranked_at, is_unranked_at, lacks_path, least_below, row}
@@ -19,7 +20,7 @@ use Rattle.compile_core.specs.Mixed.{IsFirstMixed}
 use Rattle.compile_core.specs.Refusals.{IsRankedAt, IsUnrankedAt, ShowsMixed}
 use Rattle.compile_core.specs.Sources.{HasPath, HavePaths, IsLeast, IsMixed, IsNamedSource, IsUnranked, IsWithoutPath, names}
 use Rattle.compile_core.proofs.Least.{found_below, none_below}
-use Rattle.compile_core.proofs.Walks.{named_from, permitted_node, ranked_claims, ranked_permits, run_from, some_or_none, unranked_node, unranked_walk}
+use Rattle.compile_core.proofs.Walks.{named_from, permitted_node, ranked_claims, ranked_permits, run_from, unranked_node, unranked_walk}
 
 none_of : {A : Type 0} (o : Option A) → is_none o ≡ true → o ≡ None
 none_of None h = refl
@@ -84,8 +85,8 @@ module _ (net : PlainNet) (s : PlainStatement) (c : Case) (g : PlainGraph) (grap
       let source = without.0 in
       let lt = router_row r source.at_router in
       let no_node : is_none (row table r).ranked ≡ true = elim (some_or_none (row table r).ranked) [
-        | inl n ↦ absurd (without.1 (has_path r n.0 source.at_router lt n.1))
-        | inr none ↦ is_none-of _ none
+        | inr n ↦ absurd (without.1 (has_path r n.0 source.at_router lt n.1))
+        | inl none ↦ is_none-of _ none
       ] in
       and_from (names s.from r && not (holds c.origins r)) (is_none (row table r).ranked) (and_from (names s.from r) (not (holds c.origins r)) source.named source.no_origin) no_node
 
@@ -98,8 +99,8 @@ module _ (net : PlainNet) (s : PlainStatement) (c : Case) (g : PlainGraph) (grap
   all_have_paths h = λ r source.
       let lt = router_row r source.at_router in
       elim (some_or_none (row table r).ranked) [
-        | inl n ↦ has_path r n.0 source.at_router lt n.1
-        | inr none ↦
+        | inr n ↦ has_path r n.0 source.at_router lt n.1
+        | inl none ↦
             let yes = and_from (names s.from r && not (holds c.origins r)) (is_none (row table r).ranked) (and_from (names s.from r) (not (holds c.origins r)) source.named source.no_origin) (is_none-of _ none) in
             absurd (true≢false (sym yes ∙ none_below (lacks_path s.from c.origins table) (length table) h r lt))
       ]
@@ -113,12 +114,12 @@ module _ (net : PlainNet) (s : PlainStatement) (c : Case) (g : PlainGraph) (grap
       let ranked = permitted_node net s c g graph_rules faithful r claimed.starts.0 claimed.may claimed.starts.1 in
       let unranked = unranked_node net s c g graph_rules faithful r mixed.1.0 claimed.may mixed.1.1 in
       let some : is_some (row table r).ranked ≡ true = elim (some_or_none (row table r).ranked) [
-        | inl n ↦ ap is_some n.1
-        | inr none ↦ absurd (no_ranked_row r ranked.0 lt ranked.1 none)
+        | inr n ↦ ap is_some n.1
+        | inl none ↦ absurd (no_ranked_row r ranked.0 lt ranked.1 none)
       ] in
       let other : is_some (row table r).unranked ≡ true = elim (some_or_none (row table r).unranked) [
-        | inl n ↦ ap is_some n.1
-        | inr none ↦ absurd (no_unranked_row r unranked.0 lt unranked.1 none)
+        | inr n ↦ ap is_some n.1
+        | inl none ↦ absurd (no_unranked_row r unranked.0 lt unranked.1 none)
       ] in
       (lt, and_from (is_some (row table r).ranked) (is_some (row table r).unranked) some other)
 

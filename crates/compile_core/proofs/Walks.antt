@@ -15,6 +15,7 @@ use Rattle.graph_base.specs.Runs.{place_of, rank_at, run, step_at}
 use Rattle.regret_law.specs.Faithful.{IsFaithful, is_walk_to, may_start, permits}
 use Rattle.regret_law.specs.Passes.{IsClaimed}
 use Rattle.regret_law.proofs.RunWalks.{run_begins, run_path, run_walk}
+use Rattle.regret_law.proofs.Heard.{some_or_none}
 use Rattle.regret_law.proofs.GraphSteps.{start_at-is, start_node, step_at-is, step_nodes}
 use Rattle.regret_law.proofs.GraphForms.{through}
 use Rattle.compile_core.specs.Refusals.{IsRankedAt, IsUnrankedAt}
@@ -23,10 +24,6 @@ use Rattle.compile_core.specs.Sources.{IsMixed, IsUnranked, names}
 pub named_from : (from : FromSet) (r : ℕ) → names from r ≡ true → from_holds from r ≡ true
 named_from Any r h = absurd (true≢false (sym h))
 named_from (Named set) r h = h
-
-pub some_or_none : (o : Option ℕ) → ((n : ℕ) × (o ≡ Some n)) ⊎ (o ≡ None)
-some_or_none None = inr refl
-some_or_none (Some n) = inl (n, refl)
 
 value_of : (o : Option ℕ) → is_some o ≡ true → (i : ℕ) × (o ≡ Some i)
 value_of None h = absurd (true≢false (sym h))
@@ -117,8 +114,8 @@ module _ (net : PlainNet) (s : PlainStatement) (c : Case) (g : PlainGraph) (grap
   -- where no claimed router is mixed, each node at one has a rank
   pub claimed_ranked : ((r : ℕ) → IsMixed net s c r → ⊥) → (n : ℕ) → n < length g.nodes → IsClaimed net s c (place_of g n) → is_some (rank_at g n) ≡ true
   claimed_ranked unmixed n node claimed = elim (some_or_none (rank_at g n)) [
-    | inl i ↦ ap is_some i.1
-    | inr none ↦
+    | inr i ↦ ap is_some i.1
+    | inl none ↦
         let ended = faithful.is_ended n node in
         let starts = run_from (place_of g n) n ended.0 refl claimed.may ended.2 in
         let suffix = unranked_walk (place_of g n) n ended.0 refl claimed.may ended.2 none in

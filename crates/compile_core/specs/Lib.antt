@@ -1,3 +1,4 @@
+pub mod Cases
 pub mod Firsts
 pub mod Mixed
 pub mod Refusals

@@ -25,30 +25,6 @@ use Rattle.compile_core.specs.declared.refusal.CompileRefusal.TheVariants.{TooMa
 use Rattle.compile_core.specs.declared.sources.Mixed.{Mixed}
 use Rattle.compile_core.specs.Sources.{IsLeast, HavePaths, IsMixed, IsUnranked, IsWithoutPath}
 
--- each `originate` item names routers alone
-abbrev pub OriginsAreRouters : PlainNet → List Origin → Type 0
-OriginsAreRouters net items = (o : Origin) (l : ℕ) → IsIn items o → IsTrue (holds o.at l) → IsTrue (is_router net l)
-
--- a case by its number, from 1
-abbrev pub case_at : List Case → ℕ → Option Case
-case_at cs zero = None
-case_at cs (suc k) = slice_get cs k
-
--- the case with this number, and its statement
-pub record IsCase (net : PlainNet) (policy : PlainPolicy) (number : ℕ) (s : PlainStatement) (c : Case) : Type 0 where
-  pub case : case_at (case_list net policy) number ≡ Some c
-  pub statement : statement_at policy c.statement ≡ Some s
-
--- what is said of the case with this number and of its statement
-abbrev pub OfCase : PlainNet → PlainPolicy → ℕ → (PlainStatement → Case → Type 0) → Type 0
-OfCase net policy number Says = (s : PlainStatement) (c : Case) → IsCase net policy number s c → Says s c
-
--- the origins of a case are all peers of the network, or routers of it
-abbrev pub FitsOrigins : PlainNet → Case → Type 0
-FitsOrigins net c = IsNet net → AreOrigins net (holds c.origins) c.external
-
--- ---- graphs
-
 -- what is built of a case
 abbrev pub plan_for : PlainNet → PlainStatement → Case → Plan
 plan_for net s c = plan_of (expressions net s.ranked) s.from c

@@ -8,7 +8,8 @@ ghost use Rattle.path_exprs.specs.View.{views};
 ghost use Rattle.constraint_expand.specs.Forward.{expressions};
 ghost use Rattle.graph_base.specs.Graphs.{IsGraph, PlainGraph};
 ghost use Rattle.graph_base.specs.Walks.{IsEnteredFromBefore};
-ghost use Rattle.compile_core.specs.Refusals.{FitsCase, FitsOrigins, IsBuiltWithin, IsCause, IsGraphOf, IsMade, OfCase, OriginsAreRouters, ShowsWalks};
+ghost use Rattle.compile_core.specs.Cases.{FitsOrigins, OfCase, OriginsAreRouters};
+ghost use Rattle.compile_core.specs.Refusals.{FitsCase, IsBuiltWithin, IsCause, IsGraphOf, IsMade, ShowsWalks};
 ghost use Rattle.compile_core.specs.Sources.{HavePaths, NoneMixed};
 
 use crate::firsts::first_nodes;
@@ -140,7 +141,8 @@ fn graph_of(
 }
 
 /// The graph of the case with this number, from 1, with at most `room` steps before it is trimmed, or why
-/// the case is refused.
+/// the case is refused. The refusals are tried in the order of `CompileRefusal`, and if memory is not refused
+/// a graph is given exactly where none applies.
 pub fn case_graph(
     alloc: Global,
     net: &Net,

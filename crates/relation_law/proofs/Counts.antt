@@ -30,6 +30,13 @@ numbers_give_total v r of g h m n p =
       | inr le ↦ inl (g.greatest (by_number v of) (by_number-closed v of h) m n (and_from _ _ (pair_to v m n p) (le-leb _ _ le)))
     ]
 
+-- there is one greatest closed relation
+pub one_greatest : (v : View) (r s : ℕ → ℕ → Bool) → IsGreatest v r → IsGreatest v s → (m n : ℕ) → r m n ≡ s m n
+one_greatest v r s a b m n = elim (cases_Bool (r m n)) [
+  | inl e ↦ e ∙ sym (b.greatest r a.closed m n e)
+  | inr e ↦ e ∙ sym (false_from_ne_true _ (λ h. both_ways _ e (a.greatest s b.closed m n h)))
+]
+
 -- ---- the greatest closed relation is transitive
 
 composed : View → (ℕ → ℕ → Bool) → ℕ → ℕ → Bool

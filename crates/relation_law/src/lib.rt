@@ -20,6 +20,11 @@ pub fn rounds_end_at_the_greatest()
         → IsGreatest (view_of g claimed) (left_after (view_of g claimed) reach rounds) }
 {}
 
+/// There is one greatest relation.
+pub fn greatest_relation_is_one()
+    ensures { (g : PlainGraph) (claimed : LocSet) (r s : ℕ → ℕ → Bool) → IsGreatest (view_of g claimed) r → IsGreatest (view_of g claimed) s → (m n : ℕ) → r m n ≡ s m n }
+{}
+
 /// Numbers that meet the rules of the relation exist exactly where the greatest relation is total, and then
 /// the class counts are such numbers.
 pub fn numbers_exist_where_total()

@@ -28,7 +28,7 @@ impl Relation {
     ghost use Rattle.state_simulation.specs.Held.{HasEach, HasEachOf, are_together, has};
 
     /// The relation of the pairs without a mark.
-    pub fn new(places: List<Loc>, claimed: LocSet, marks: Marks) -> Relation
+    pub(crate) fn new(places: List<Loc>, claimed: LocSet, marks: Marks) -> Relation
         requires { marks.size ≡ length places }
         ensures { result ≡ record { places = places; claimed = claimed; rounds = marks.round; marks = marks.cells.items } }
     {

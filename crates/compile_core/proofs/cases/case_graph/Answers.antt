@@ -1,7 +1,8 @@
 use Rattle.std.proofs.Common.{length, ap, arith}
 use Rattle.std.proofs.lemmas.Result.{IfErr-weaker, IfOk-weaker}
 use Rattle.path_words.specs.Policies.{plain_statement, policy_of}
-use Rattle.compile_core.specs.Refusals.{FitsCase, IsCause, IsGraphOf, OfCase}
+use Rattle.compile_core.specs.Cases.{OfCase}
+use Rattle.compile_core.specs.Refusals.{FitsCase, IsCause, IsGraphOf}
 use Rattle.compile_core.specs.Sources.{HavePaths, NoneMixed}
 use Rattle.compile_core.proofs.Origins.{known_origins}
 use Rattle.compile_core.proofs.Places.{case_read, of_case, statement_at-read}
