@@ -6,4 +6,6 @@ mod meshes;
 #[cfg(test)]
 mod origins;
 #[cfg(test)]
+mod rows;
+#[cfg(test)]
 mod tests;

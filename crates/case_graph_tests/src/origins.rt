@@ -19,12 +19,29 @@ fn is_one_router(net: &Net, set: &LocSet) -> bool
     false
 }
 
-/// Whether each item names one router.
+/// Whether the set has the first two routers and no other location.
+fn is_first_two(net: &Net, set: &LocSet) -> bool
+    ensures { result ≡ true → (l : ℕ) → holds set.now l ≡ true → is_router net.now l ≡ true }
+{
+    if net.routers().len() < 2 {
+        return false;
+    }
+    *set == LocSet::of_range(0, 2)
+}
+
+/// Whether the set has routers alone: one, or the first two.
+fn has_routers(net: &Net, set: &LocSet) -> bool
+    ensures { result ≡ true → (l : ℕ) → holds set.now l ≡ true → is_router net.now l ≡ true }
+{
+    is_one_router(net, set) || is_first_two(net, set)
+}
+
+/// Whether each item names one router, or the first two.
 pub fn are_routers(net: &Net, origins: &[Origin]) -> bool
     ensures { result ≡ true → OriginsAreRouters net.now origins.now }
 {
     for i in 0..origins.len() {
-        if !is_one_router(net, &origins[i].at) {
+        if !has_routers(net, &origins[i].at) {
             return false;
         }
     }

@@ -14,15 +14,15 @@ use topology::read_topology;
 const TWO_ROUTERS: &str =
     "{\"routers\":[{\"name\":\"A\",\"asn\":64512,\"id\":\"10.255.0.1\"},{\"name\":\"B\",\"asn\":64513,\"id\":\"10.255.0.2\"}],\"peers\":[],\"links\":[[\"A\",\"B\"]]}";
 
-const TWO_EXITS: &str =
+pub const TWO_EXITS: &str =
     "{\"routers\":[{\"name\":\"R1\",\"asn\":64512,\"id\":\"10.255.0.1\"},{\"name\":\"R2\",\"asn\":64513,\"id\":\"10.255.0.2\"}],\"peers\":[{\"name\":\"P1\",\"asn\":1001,\"id\":\"192.0.2.1\"},{\"name\":\"P2\",\"asn\":1002,\"id\":\"192.0.2.2\"}],\"links\":[[\"R1\",\"R2\"],[\"R1\",\"P1\"],[\"R2\",\"P2\"]]}";
 
 // T1, A1, S1, S2, A2, T3 and T4: two ways over the middle.
-const TWO_SPINES: &str =
+pub const TWO_SPINES: &str =
     "{\"routers\":[{\"name\":\"T1\",\"asn\":64512,\"id\":\"10.255.0.1\"},{\"name\":\"A1\",\"asn\":64513,\"id\":\"10.255.0.2\"},{\"name\":\"S1\",\"asn\":64514,\"id\":\"10.255.0.3\"},{\"name\":\"S2\",\"asn\":64515,\"id\":\"10.255.0.4\"},{\"name\":\"A2\",\"asn\":64516,\"id\":\"10.255.0.5\"},{\"name\":\"T3\",\"asn\":64517,\"id\":\"10.255.0.6\"},{\"name\":\"T4\",\"asn\":64518,\"id\":\"10.255.0.7\"}],\"peers\":[],\"links\":[[\"T1\",\"A1\"],[\"A1\",\"S1\"],[\"A1\",\"S2\"],[\"S1\",\"A2\"],[\"S2\",\"A2\"],[\"A2\",\"T3\"],[\"A2\",\"T4\"]]}";
 
 // What is answered for a case of the texts.
-fn answer(
+pub fn answer(
     rt: &impl Abort,
     alloc: Global,
     topology: &str,
@@ -49,7 +49,7 @@ fn is_node(node: &Node, row: &(u16, bool, Option<u32>)) -> bool {
 }
 
 // Whether a graph is given with these nodes and these steps, of so many that were built.
-fn is_given(
+pub fn is_given(
     answer: &Result<CaseGraph, CompileRefusal>,
     nodes: &[(u16, bool, Option<u32>)],
     steps: &[(u32, u32)],

@@ -121,9 +121,10 @@ fn faults_of_policies(rt: HostRuntime) -> Result<(), Fail> {
 }
 
 // Texts that are read.
-const READ: [&[u8]; 7] = [
+const READ: [&[u8]; 8] = [
     b"",
     b"# only a comment",
+    b"# \xc3\xa9 \x01 {(;=> \"\r\ntrue => any; # last",
     b"true => exit(P1 >> P2);",
     b"define G = { R2, R1 }; true => link(G, P1);",
     b"originate 10.0.1.0/24 at R1; true => exit(P1 >> any) and notransit(R1, R2) >> any from P1, R1;",
