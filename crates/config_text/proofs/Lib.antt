@@ -1,0 +1,7 @@
+pub mod Words
+pub mod Pieces
+pub mod Repeats
+pub mod Classes
+pub mod Lines
+pub mod Blocks
+pub mod Lawful

@@ -2,8 +2,9 @@
 #![tactic(auto)]
 
 ghost use Rattle.std.specs.Prelude.{◌≡◌, ◌++◌, ◌+◌, OnOk, IfOk};
-ghost use Rattle.std.specs.List.{flat_map};
+ghost use Rattle.std.specs.List.{flat_map, AllByRecursion};
 ghost use Rattle.config_text.specs.ConfigText.{class_line, class_lines, router_line, own_line, session_line, import_line, read_tag, set_text, next_pattern, export_line, session_text, router_text, config_text, joined_patterns};
+ghost use Rattle.config_text.specs.Spelled.{ArePatterns, HasPrefix, IsNamed, HasLawfulParts, Spells};
 
 use config_base::{Config, Export, Own, RouterConfig, Rule, Session};
 use net_base::{List, Pattern, Tag};
@@ -13,9 +14,14 @@ use text_words::{
     push_address, push_bytes, push_name, push_number, push_pattern, push_prefix, push_tag,
 };
 
+mod law;
+
+pub use law::texts_spell_one_configuration;
+
 // Adds patterns, each after a comma and a space.
 fn push_more_patterns(text: &mut Vec<u8>, patterns: &[Pattern]) -> Result<(), NoMemory>
-    ensures { OnOk result (text.new.items ≡ text.old.items ++ flat_map next_pattern patterns.now) }
+    ensures text { OnOk result (text.new.items ≡ text.old.items ++ flat_map next_pattern patterns.now) }
+    ensures rules { OnOk result (ArePatterns patterns.now) }
 {
     for pattern in patterns {
         push_bytes(text, b", ")?;
@@ -26,7 +32,8 @@ fn push_more_patterns(text: &mut Vec<u8>, patterns: &[Pattern]) -> Result<(), No
 
 // Adds the patterns, joined by a comma and a space.
 fn push_patterns(text: &mut Vec<u8>, patterns: &[Pattern]) -> Result<(), NoMemory>
-    ensures { OnOk result (text.new.items ≡ text.old.items ++ joined_patterns patterns.now) }
+    ensures text { OnOk result (text.new.items ≡ text.old.items ++ joined_patterns patterns.now) }
+    ensures rules { OnOk result (ArePatterns patterns.now) }
 {
     match patterns {
         [] => Ok(()),
@@ -39,7 +46,8 @@ fn push_patterns(text: &mut Vec<u8>, patterns: &[Pattern]) -> Result<(), NoMemor
 
 // Adds the line of a class.
 fn push_class(text: &mut Vec<u8>, number: u64, patterns: &[Pattern]) -> Result<(), NoMemory>
-    ensures { OnOk result (text.new.items ≡ text.old.items ++ class_line number patterns.now) }
+    ensures text { OnOk result (text.new.items ≡ text.old.items ++ class_line number patterns.now) }
+    ensures rules { OnOk result (ArePatterns patterns.now) }
 {
     push_bytes(text, b"class ")?;
     push_number(text, number)?;
@@ -50,7 +58,8 @@ fn push_class(text: &mut Vec<u8>, number: u64, patterns: &[Pattern]) -> Result<(
 
 // Adds the lines of the classes, numbered from 1.
 fn push_classes(text: &mut Vec<u8>, classes: &[List<Pattern>]) -> Result<(), NoMemory>
-    ensures { OnOk result (text.new.items ≡ text.old.items ++ class_lines 1 classes.now) }
+    ensures text { OnOk result (text.new.items ≡ text.old.items ++ class_lines 1 classes.now) }
+    ensures rules { OnOk result (AllByRecursion ArePatterns classes.now) }
 {
     let mut number = 1;
     for patterns in classes {
@@ -62,7 +71,8 @@ fn push_classes(text: &mut Vec<u8>, classes: &[List<Pattern>]) -> Result<(), NoM
 
 // Adds an originate line.
 fn push_own(text: &mut Vec<u8>, own: &Own) -> Result<(), NoMemory>
-    ensures { OnOk result (text.new.items ≡ text.old.items ++ own_line own.now) }
+    ensures text { OnOk result (text.new.items ≡ text.old.items ++ own_line own.now) }
+    ensures rules { OnOk result (HasPrefix own.now) }
 {
     push_bytes(text, b"originate ")?;
     push_number(text, u64::from(own.class))?;
@@ -120,7 +130,8 @@ fn push_export(text: &mut Vec<u8>, export: &Export) -> Result<(), NoMemory>
 
 // Adds the head line of a neighbour's block.
 fn push_head(text: &mut Vec<u8>, session: &Session) -> Result<(), NoMemory>
-    ensures { OnOk result (text.new.items ≡ text.old.items ++ session_line session.now) }
+    ensures text { OnOk result (text.new.items ≡ text.old.items ++ session_line session.now) }
+    ensures rules { OnOk result (IsNamed session.now) }
 {
     if session.peer {
         push_bytes(text, b"peer ")?;
@@ -155,7 +166,8 @@ fn push_exports(text: &mut Vec<u8>, exports: &[Export]) -> Result<(), NoMemory>
 
 // Adds the originate lines.
 fn push_owns(text: &mut Vec<u8>, owns: &[Own]) -> Result<(), NoMemory>
-    ensures { OnOk result (text.new.items ≡ text.old.items ++ flat_map own_line owns.now) }
+    ensures text { OnOk result (text.new.items ≡ text.old.items ++ flat_map own_line owns.now) }
+    ensures rules { OnOk result (AllByRecursion HasPrefix owns.now) }
 {
     for own in owns {
         push_own(text, own)?;
@@ -165,7 +177,8 @@ fn push_owns(text: &mut Vec<u8>, owns: &[Own]) -> Result<(), NoMemory>
 
 // Adds the block of a neighbour.
 fn push_session(text: &mut Vec<u8>, session: &Session) -> Result<(), NoMemory>
-    ensures { OnOk result (text.new.items ≡ text.old.items ++ session_text session.now) }
+    ensures text { OnOk result (text.new.items ≡ text.old.items ++ session_text session.now) }
+    ensures rules { OnOk result (IsNamed session.now) }
 {
     push_head(text, session)?;
     push_imports(text, session.peer, session.imports.as_slice())?;
@@ -174,7 +187,8 @@ fn push_session(text: &mut Vec<u8>, session: &Session) -> Result<(), NoMemory>
 
 // Adds the blocks of the neighbours.
 fn push_sessions(text: &mut Vec<u8>, sessions: &[Session]) -> Result<(), NoMemory>
-    ensures { OnOk result (text.new.items ≡ text.old.items ++ flat_map session_text sessions.now) }
+    ensures text { OnOk result (text.new.items ≡ text.old.items ++ flat_map session_text sessions.now) }
+    ensures rules { OnOk result (AllByRecursion IsNamed sessions.now) }
 {
     for session in sessions {
         push_session(text, session)?;
@@ -184,7 +198,8 @@ fn push_sessions(text: &mut Vec<u8>, sessions: &[Session]) -> Result<(), NoMemor
 
 // Adds the block of a router.
 fn push_router(text: &mut Vec<u8>, router: &RouterConfig) -> Result<(), NoMemory>
-    ensures { OnOk result (text.new.items ≡ text.old.items ++ router_text router.now) }
+    ensures text { OnOk result (text.new.items ≡ text.old.items ++ router_text router.now) }
+    ensures rules { OnOk result (HasLawfulParts router.now) }
 {
     push_bytes(text, b"router ")?;
     push_name(text, &router.name)?;
@@ -200,7 +215,8 @@ fn push_router(text: &mut Vec<u8>, router: &RouterConfig) -> Result<(), NoMemory
 
 // Adds the blocks of the routers.
 fn push_routers(text: &mut Vec<u8>, routers: &[RouterConfig]) -> Result<(), NoMemory>
-    ensures { OnOk result (text.new.items ≡ text.old.items ++ flat_map router_text routers.now) }
+    ensures text { OnOk result (text.new.items ≡ text.old.items ++ flat_map router_text routers.now) }
+    ensures rules { OnOk result (AllByRecursion HasLawfulParts routers.now) }
 {
     for router in routers {
         push_router(text, router)?;
@@ -208,9 +224,10 @@ fn push_routers(text: &mut Vec<u8>, routers: &[RouterConfig]) -> Result<(), NoMe
     Ok(())
 }
 
-/// The text of a configuration.
+/// The text of a configuration. It spells this configuration, and no text spells two.
 pub fn print_config(alloc: Global, config: &Config) -> Result<Vec<u8>, NoMemory>
-    ensures { IfOk result (λ v. v.items ≡ config_text config.now) }
+    ensures text { IfOk result (λ v. v.items ≡ config_text config.now) }
+    ensures spells { IfOk result (λ v. Spells v.items config.now) }
 {
     let mut text = Vec::new(alloc);
     push_bytes(&mut text, b"propane-config 1\n")?;

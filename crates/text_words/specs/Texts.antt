@@ -1,5 +1,5 @@
 -- How addresses, prefixes, patterns and tags are written.
-use Rattle.std.specs.Prelude.{ℕ, ◌/◌, ◌%◌, ◌==◌, List, [], ◌++◌, codes, if◌then◌else◌}
+use Rattle.std.specs.Prelude.{ℕ, ◌/◌, ◌%◌, ◌==◌, List, ◌++◌, codes, if◌then◌else◌}
 use Rattle.std.specs.Fmt.{decimal}
 use Rattle.net_base.specs.Prefixes.{PlainPrefix, PlainPattern}
 use Rattle.net_base.specs.declared.numbers.Tag.{Tag}

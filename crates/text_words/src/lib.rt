@@ -1,8 +1,10 @@
 //! How numbers, addresses, prefixes and tags are written. Each `push_` function adds a text to the end of another.
 #![tactic(auto)]
 
-ghost use Rattle.std.specs.Prelude.{◌≡◌, ◌++◌, ◌^◌, ◌<◌, OnOk};
+ghost use Rattle.std.specs.Prelude.{◌≡◌, ◌++◌, ◌^◌, ◌<◌, IsTrue, OnOk};
 ghost use Rattle.std.specs.Fmt.{decimal};
+ghost use Rattle.net_base.specs.NameRule.{is_name};
+ghost use Rattle.net_base.specs.Prefixes.{IsPrefix, IsPattern};
 ghost use Rattle.text_words.specs.Texts.{address_text, prefix_text, pattern_text, tag_text};
 
 use net_base::{Name, Pattern, Prefix, Tag};
@@ -16,9 +18,10 @@ pub fn push_bytes(text: &mut Vec<u8>, bytes: &[u8]) -> Result<(), NoMemory>
     Ok(())
 }
 
-/// Adds a name.
+/// Adds a name, which keeps the rule of names.
 pub fn push_name(text: &mut Vec<u8>, name: &Name) -> Result<(), NoMemory>
-    ensures { OnOk result (text.new.items ≡ text.old.items ++ name.now) }
+    ensures text { OnOk result (text.new.items ≡ text.old.items ++ name.now) }
+    ensures rules { IsTrue (is_name name.now) }
 {
     push_bytes(text, name.as_bytes())
 }
@@ -44,18 +47,21 @@ pub fn push_address(text: &mut Vec<u8>, bits: u32) -> Result<(), NoMemory>
     push_number(text, u64::from(bits % 256))
 }
 
-/// Adds a prefix: its address, `/` and its length.
+/// Adds a prefix: its address, `/` and its length. It keeps the rules of prefixes.
 pub fn push_prefix(text: &mut Vec<u8>, prefix: Prefix) -> Result<(), NoMemory>
-    ensures { OnOk result (text.new.items ≡ text.old.items ++ prefix_text prefix) }
+    ensures text { OnOk result (text.new.items ≡ text.old.items ++ prefix_text prefix) }
+    ensures rules { IsPrefix prefix }
 {
     push_address(text, prefix.bits())?;
     push_bytes(text, b"/")?;
     push_number(text, u64::from(prefix.len()))
 }
 
-/// Adds a pattern: its base, and where it contains more than that prefix ` le ` and the greatest length.
+/// Adds a pattern: its base, and where it contains more than that prefix ` le ` and the greatest length. It keeps
+/// the rules of patterns.
 pub fn push_pattern(text: &mut Vec<u8>, pattern: Pattern) -> Result<(), NoMemory>
-    ensures { OnOk result (text.new.items ≡ text.old.items ++ pattern_text pattern) }
+    ensures text { OnOk result (text.new.items ≡ text.old.items ++ pattern_text pattern) }
+    ensures rules { OnOk result (IsPattern pattern) }
 {
     push_prefix(text, pattern.base())?;
     if pattern.upto() == pattern.base().len() {

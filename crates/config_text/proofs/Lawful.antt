@@ -1,0 +1,87 @@
+-- A lawful configuration's numbers are short, so its text is read in one way only.
+use Rattle.std.proofs.Common.{◌≡◌, ℕ, ◌^◌, ◌<◌, List, [], ◌∷◌, length, Bool, true, false, sym, ◌∙◌, arith}
+use Rattle.std.specs.Prelude.{◌&&◌, ◌≢◌, nat_le, IsTrue, MatchBool}
+use Rattle.std.specs.List.{AllByRecursion}
+use Rattle.std.proofs.lemmas.Bool.{and_parts, leb-true}
+use Rattle.net_base.specs.declared.numbers.Tag.{Tag}
+use Rattle.net_base.specs.Numbers.{is_router_as, is_peer_as, is_tag, no_tag}
+use Rattle.net_base.specs.Prefixes.{PlainPattern}
+use Rattle.config_base.specs.declared.config.RouterConfig.{RouterConfig}
+use Rattle.config_base.specs.declared.config.Session.{Session}
+use Rattle.config_base.specs.declared.config.Rule.{Rule}
+use Rattle.config_base.specs.declared.config.Export.{Export}
+use Rattle.config_base.specs.declared.config.Own.{Own}
+use Rattle.config_base.specs.Configs.{PlainConfig, IsImport, IsExport, IsOwn, IsSession, IsRouter}
+use Rattle.config_text.specs.Spelled.{ArePatterns, HasPrefix, IsNamed, HasLawfulParts, IsLawful, Spells}
+use Rattle.config_text.proofs.Pieces.{IsShort}
+use Rattle.config_text.proofs.Classes.{IsFullClass}
+use Rattle.config_text.proofs.Lines.{IsShortOwn, IsShortRule, IsShortExport}
+use Rattle.config_text.proofs.Blocks.{IsReadableSession, IsReadableRouter, IsReadable, config_cut}
+
+each : {X : Type 0} (P Q : X → Type 0) → ((x : X) → P x → Q x) → (xs : List X) → AllByRecursion P xs → AllByRecursion Q xs
+each P Q one [] ps = tt
+each P Q one (x ∷ xs) ps = (one x ps.0, each P Q one xs ps.1)
+
+both : {X : Type 0} (P Q R : X → Type 0) → ((x : X) → P x → Q x → R x) → (xs : List X) → AllByRecursion P xs → AllByRecursion Q xs → AllByRecursion R xs
+both P Q R one [] ps qs = tt
+both P Q R one (x ∷ xs) ps qs = (one x ps.0 qs.0, both P Q R one xs ps.1 qs.1)
+
+router_number : (n : ℕ) → IsTrue (is_router_as n) → n < 2 ^ 32
+router_number n is = let p = and_parts (nat_le 64512 n) (nat_le n 65534) is in omega (arith, leb-true n 65534 p.1)
+
+peer_number : (n : ℕ) → IsTrue (is_peer_as n) → n < 2 ^ 32
+peer_number n is = let p = and_parts (nat_le 1 n) (nat_le n 65534) is in omega (arith, leb-true n 65534 p.1)
+
+short_tag : (t : Tag) → IsTrue (is_tag t) → IsShort t
+short_tag t is =
+    let p = and_parts (is_router_as t.asn) (nat_le 1 t.value && nat_le t.value 65535) is in
+    let q = and_parts (nat_le 1 t.value) (nat_le t.value 65535) p.1 in
+    record { asn = router_number t.asn p.0; value = omega (arith, leb-true t.value 65535 q.1) }
+
+module _ (count : ℕ) (low : count < 2 ^ 32) where
+  short_own : (o : Own) → IsOwn count o → HasPrefix o → IsShortOwn o
+  short_own o is prefix = record { class = omega (arith, low, is.0.1); prefix = prefix; tag = short_tag o.tag is.1 }
+
+  read_tag_short : (peer : Bool) (t : Tag) → MatchBool peer (t ≡ no_tag) (IsTrue (is_tag t)) → MatchBool peer (t ≡ no_tag) (IsShort t)
+  read_tag_short true t h = h
+  read_tag_short false t h = short_tag t h
+
+  short_rule : (s : Session) (r : Rule) → IsImport count s r → IsShortRule s.peer r
+  short_rule s r is = record { class = omega (arith, low, is.0.1); tag = read_tag_short s.peer r.tag is.1; set = short_tag r.set is.2; pref = is.3 }
+
+  short_export : (e : Export) → IsExport count e → IsShortExport e
+  short_export e is = record { class = omega (arith, low, is.0.1); tag = short_tag e.tag is.1 }
+
+  session_number : (peer : Bool) (n : ℕ) → MatchBool peer (IsTrue (is_peer_as n)) (IsTrue (is_router_as n)) → n < 2 ^ 32
+  session_number true n h = peer_number n h
+  session_number false n h = router_number n h
+
+  readable_session : (s : Session) → IsSession count s → IsNamed s → IsReadableSession s
+  readable_session s is named = record {
+    name = named;
+    asn = session_number s.peer s.asn is.number;
+    imports = each (IsImport count s) (IsShortRule s.peer) (short_rule s) s.imports is.imports;
+    exports = each (IsExport count) IsShortExport short_export s.exports is.exports;
+  }
+
+  readable_router : (r : RouterConfig) → IsRouter count r → HasLawfulParts r → IsReadableRouter r
+  readable_router r is parts = record {
+    name = parts.name;
+    asn = router_number r.asn is.number;
+    id = is.identifier.1;
+    own = both (IsOwn count) HasPrefix IsShortOwn short_own r.own is.own parts.prefixes;
+    sessions = both (IsSession count) IsNamed IsReadableSession readable_session r.sessions is.sessions parts.names;
+  }
+
+full_class : (ts : List PlainPattern) → ts ≢ [] → ArePatterns ts → IsFullClass ts
+full_class ts some all = record { some = some; all = all }
+
+readable : (c : PlainConfig) → IsLawful c → IsReadable c
+readable c is = record {
+  classes = both (λ (ts : List PlainPattern). ts ≢ []) ArePatterns IsFullClass full_class c.classes is.rules.patterns is.patterns;
+  routers = both (IsRouter (length c.classes)) HasLawfulParts IsReadableRouter (readable_router (length c.classes) is.rules.count) c.routers is.rules.routers is.routers;
+}
+
+-- a text is that of one configuration only
+pub one_configuration : (bytes : List ℕ) (c d : PlainConfig) → Spells bytes c → Spells bytes d → c ≡ d
+one_configuration bytes c d hc hd = config_cut c d (readable c hc.lawful) (readable d hd.lawful) (sym hc.written ∙ hd.written)

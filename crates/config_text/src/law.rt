@@ -1,0 +1,10 @@
+//! A text is the text of one configuration only.
+ghost use Rattle.std.specs.Prelude.{◌≡◌, ℕ, List};
+ghost use Rattle.config_base.specs.Configs.{PlainConfig};
+ghost use Rattle.config_text.specs.Spelled.{Spells};
+
+/// Two configurations that one text spells are the same. So a text says all that there is to say of its
+/// configuration, whoever reads it.
+pub fn texts_spell_one_configuration()
+    ensures { (bytes : List ℕ) (c d : PlainConfig) → Spells bytes c → Spells bytes d → c ≡ d }
+{}
