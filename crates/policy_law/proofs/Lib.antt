@@ -1,0 +1,6 @@
+pub mod Each
+pub mod Held
+pub mod Known
+pub mod Routers
+pub mod Patterns
+pub mod ReadPolicies

@@ -1,0 +1,126 @@
+-- Policies that are read fit their network.
+use Rattle.std.proofs.Common.{◌≡◌, ℕ, List, [], length, Ok, ap, ◌∙◌}
+use Rattle.std.specs.Prelude.{IsTrue}
+use Rattle.std.specs.List.{AllByRecursion}
+use Rattle.std.proofs.lemmas.Bool.{lt-ltb}
+use Rattle.net_base.specs.declared.place.Kind.TheVariants as kind
+use Rattle.net_base.specs.Network.{PlainNet, is_router}
+use Rattle.net_base.specs.Prefixes.{PlainPattern, IsPrefix, IsPattern}
+use Rattle.net_base.specs.Sets.{holds}
+use Rattle.net_base.specs.Steps.{◌>>=◌}
+use Rattle.net_base.proofs.StepLemmas.{bind_ok}
+use Rattle.policy_grammar.specs.declared.item.Item.{Item}
+use Rattle.policy_rules.specs.Checks.{each}
+use Rattle.policy_rules.specs.Counts.{within, items_within, calls_within, paths_within}
+use Rattle.policy_rules.specs.Figures.{figures_fine}
+use Rattle.policy_rules.specs.KnownNames.{Names}
+use Rattle.policy_rules.specs.Origins.{origins_fine, once_from}
+use Rattle.policy_rules.specs.Ranks.{ranks_fine}
+use Rattle.path_words.specs.declared.policy.Origin.{Origin}
+use Rattle.path_words.specs.Policies.{PlainPolicy, PlainStatement, IsPolicy}
+use Rattle.policy_parser.specs.Built.{origins_of, statements_of}
+use Rattle.policy_parser.specs.Spelled.{items_spelled, names_spelled, rules_kept, origins_spelled, policy_built, pairs, spelled}
+use Rattle.policy_parser.proofs.BuiltPolicies.{is_policy}
+use Rattle.policy_parser.proofs.SpelledPrefixes.{spelled-HavePrefixes}
+use Rattle.config_base.specs.Made.{IsIn}
+use Rattle.regret_law.specs.Passes.{IsPolicyOf}
+use Rattle.regret_law.proofs.Lists.{all_at}
+use Rattle.policy_law.proofs.Held.{AreBelow}
+use Rattle.policy_law.proofs.Known.{names_below}
+use Rattle.policy_law.proofs.Routers.{AreAtRouters, origins_at_routers}
+use Rattle.policy_law.proofs.Patterns.{HavePatterns, statements_have_patterns}
+
+-- what a policy is built of
+record IsBuilt (net : PlainNet) (bytes : List ℕ) (policy : PlainPolicy) : Type 0 where
+  items : List Item
+  known : Names
+  names : names_spelled bytes net items ≡ Ok known
+  rules : rules_kept bytes net known items ≡ Ok tt
+  origins : origins_spelled bytes known items ≡ Ok policy.origins
+  statements : statements_of bytes net known [] items ≡ Ok policy.statements
+
+built : (net : PlainNet) (bytes : List ℕ) (policy : PlainPolicy) (items : List Item) (known : Names) → names_spelled bytes net items ≡ Ok known → rules_kept bytes net known items ≡ Ok tt
+    → policy_built bytes net known items ≡ Ok policy → IsBuilt net bytes policy
+unfolding policy_built
+built net bytes policy items known named kept h =
+    let a = bind_ok (origins_spelled bytes known items) _ policy h in
+    let b = bind_ok (each calls_within items) _ policy a.2 in
+    let c = bind_ok (each paths_within items) _ policy b.2 in
+    let d = bind_ok (statements_of bytes net known [] items) _ policy c.2 in
+    let made : PlainPolicy = record { origins = a.0; statements = d.0 } in
+    let same : made ≡ policy = cc in
+    record {
+      items = items;
+      known = known;
+      names = named;
+      rules = kept;
+      origins = a.1 ∙ ap (λ (x : PlainPolicy). Ok x.origins) same;
+      statements = d.1 ∙ ap (λ (x : PlainPolicy). Ok x.statements) same;
+    }
+
+is_built : (net : PlainNet) (bytes : List ℕ) (policy : PlainPolicy) → spelled net bytes ≡ Ok policy → IsBuilt net bytes policy
+unfolding spelled
+is_built net bytes policy h =
+    let items = bind_ok (items_spelled bytes) _ policy h in
+    let known = bind_ok (names_spelled bytes net items.0) _ policy items.2 in
+    let rules = bind_ok (rules_kept bytes net known.0 items.0) _ policy known.2 in
+    built net bytes policy items.0 known.0 known.1 rules.1 rules.2
+
+-- the rule on origins was kept
+origins_kept : (bytes : List ℕ) (net : PlainNet) (known : Names) (items : List Item) → rules_kept bytes net known items ≡ Ok tt → each (origins_fine bytes net known) items ≡ Ok tt
+unfolding rules_kept
+origins_kept bytes net known items kept =
+    let a = bind_ok (each (figures_fine bytes) items) (λ _. each ranks_fine items >>= λ _. each (origins_fine bytes net known) items >>= λ _. once_from bytes [] items) tt kept in
+    let b = bind_ok (each ranks_fine items) (λ _. each (origins_fine bytes net known) items >>= λ _. once_from bytes [] items) tt a.2 in
+    let c = bind_ok (each (origins_fine bytes net known) items) (λ _. once_from bytes [] items) tt b.2 in
+    c.1
+
+-- the origins are those of the items
+origins_made : (bytes : List ℕ) (known : Names) (items : List Item) (os : List Origin) → origins_spelled bytes known items ≡ Ok os → origins_of bytes known [] items ≡ Ok os
+unfolding origins_spelled
+origins_made bytes known items os h =
+    let a = bind_ok (items_within items) _ os h in
+    let b = bind_ok (origins_of bytes known [] items) _ os a.2 in
+    let c = bind_ok (within kind.Origins 16384 (pairs b.0)) _ os b.2 in
+    let same : b.0 ≡ os = cc in
+    b.1 ∙ ap Ok same
+
+at_routers : (net : PlainNet) (bytes : List ℕ) (policy : PlainPolicy) → IsBuilt net bytes policy → AreAtRouters net policy.origins
+at_routers net bytes policy b =
+    origins_at_routers bytes net b.known [] b.items policy.origins tt (names_below bytes net b.known b.items b.names) (origins_kept bytes net b.known b.items b.rules)
+    (origins_made bytes b.known b.items policy.origins b.origins) tt
+
+-- each `originate` item of a policy that is read names routers alone
+pub read_routers : (net : PlainNet) (bytes : List ℕ) (policy : PlainPolicy) → spelled net bytes ≡ Ok policy
+    → (o : Origin) (l : ℕ) → IsIn policy.origins o → IsTrue (holds o.at l) → IsTrue (is_router net l)
+read_routers net bytes policy h o l in_origins on =
+    let here : AreBelow (length net.routers) o.at = all_at (λ (x : Origin). AreBelow (length net.routers) x.at) policy.origins in_origins.0 o (at_routers net bytes policy (is_built net bytes policy h)) in_origins.1 in
+    lt-ltb l (length net.routers) (here l on)
+
+-- each of its patterns is one
+pub read_patterns : (net : PlainNet) (bytes : List ℕ) (policy : PlainPolicy) → spelled net bytes ≡ Ok policy
+    → (s : PlainStatement) (t : PlainPattern) → IsIn policy.statements s → IsIn s.patterns t → IsPattern t
+read_patterns net bytes policy h s t in_statements in_patterns =
+    let b = is_built net bytes policy h in
+    let have : HavePatterns policy.statements = statements_have_patterns bytes net b.known [] b.items policy.statements b.statements tt in
+    let here = all_at (λ (x : PlainStatement). AllByRecursion IsPattern x.patterns) policy.statements in_statements.0 s have in_statements.1 in
+    all_at IsPattern s.patterns in_patterns.0 t here in_patterns.1
+
+-- each of its prefixes is one
+pub read_prefixes : (net : PlainNet) (bytes : List ℕ) (policy : PlainPolicy) → spelled net bytes ≡ Ok policy → (o : Origin) → IsIn policy.origins o → IsPrefix o.prefix
+read_prefixes net bytes policy h o in_origins = all_at (λ (x : Origin). IsPrefix x.prefix) policy.origins in_origins.0 o (spelled-HavePrefixes net bytes policy h) in_origins.1
+
+-- and it is within the limits
+pub read_rules : (net : PlainNet) (bytes : List ℕ) (policy : PlainPolicy) → spelled net bytes ≡ Ok policy → IsPolicy policy
+read_rules net bytes policy h =
+    let b = is_built net bytes policy h in
+    is_policy bytes net b.known b.items policy.origins policy.statements b.rules b.origins b.statements
+
+-- A policy that is read fits its network.
+pub read_policies_fit : (net : PlainNet) (bytes : List ℕ) (policy : PlainPolicy) → spelled net bytes ≡ Ok policy → IsPolicyOf net policy
+read_policies_fit net bytes policy h = record {
+  rules = read_rules net bytes policy h;
+  prefixes = read_prefixes net bytes policy h;
+  routers = read_routers net bytes policy h;
+  patterns = read_patterns net bytes policy h;
+}
