@@ -1,0 +1,158 @@
+-- What the table of first nodes says of the sources.
+use Rattle.std.proofs.Common.{◌≡◌, ℕ, ◌<◌, true, List, length, Option, Some, None, refl, arith, sym, ap, subst, ◌∙◌, inl, inr}
+use Rattle.std.specs.Prelude.{◌&&◌, ◌==◌, not, is_some, is_none}
+use Rattle.std.proofs.lemmas.Bool.{and_parts, and_from, eqb-true, eq-eqb, lt-ltb, ltb-true, true≢false}
+use Rattle.net_base.specs.Network.{PlainNet, is_router}
+use Rattle.net_base.specs.Sets.{holds}
+use Rattle.path_words.specs.declared.case.Case.{Case}
+use Rattle.path_words.specs.Policies.{PlainStatement}
+use Rattle.path_words.specs.Permitted.{from_holds}
+use Rattle.graph_base.specs.Graphs.{PlainGraph, IsGraph}
+use Rattle.graph_base.specs.Runs.{place_of, rank_at}
+use Rattle.graph_base.specs.Walks.{IsShownWalk}
+use Rattle.graph_base.proofs.ShownWalks.{shown_walk_run}
+use Rattle.regret_law.specs.Faithful.{IsFaithful, may_start}
+use Rattle.regret_law.proofs.Heard.{some_or_none}
+use Rattle.case_core.specs.declared.firsts.Firsts.{Firsts}
+use Rattle.case_core.specs.declared.sources.Mixed.{Mixed}
+use Rattle.case_core.specs.Firsts.{AreFirsts, has_both, is_ranked_at, is_unranked_at, lacks_path, least_below, row}
+use Rattle.case_core.specs.Mixed.{IsFirstMixed}
+use Rattle.case_core.specs.Refusals.{IsRankedAt, IsUnrankedAt, ShowsMixed}
+use Rattle.case_core.specs.Sources.{HasPath, HavePaths, IsLeast, IsMixed, IsNamedSource, IsUnranked, IsWithoutPath, names}
+use Rattle.case_core.proofs.Least.{found_below, none_below}
+use Rattle.case_core.proofs.Walks.{named_from, permitted_node, ranked_claims, ranked_permits, run_from, unranked_node, unranked_walk}
+
+none_of : {A : Type 0} (o : Option A) → is_none o ≡ true → o ≡ None
+none_of None h = refl
+none_of (Some x) h = absurd (true≢false (sym h))
+
+is_none-of : {A : Type 0} (o : Option A) → o ≡ None → is_none o ≡ true
+is_none-of o h = ap is_none h
+
+module _ (net : PlainNet) (s : PlainStatement) (c : Case) (g : PlainGraph) (graph_rules : IsGraph g) (faithful : IsFaithful net s (holds c.origins) c.external g)
+    (table : List Firsts) (are : AreFirsts (length net.routers) g (length g.nodes) table) where
+  router_row : (r : ℕ) → is_router net r ≡ true → r < length table
+  router_row r h = omega (arith, ltb-true r (length net.routers) h, are.size)
+
+  row_router : (r : ℕ) → r < length table → r < length net.routers
+  row_router r h = omega (arith, h, are.size)
+
+  -- the nodes of a row are the first ones
+  ranked_row : (r n : ℕ) → r < length table → (row table r).ranked ≡ Some n → IsLeast (IsRankedAt g r) n
+  ranked_row r n lt h =
+      let found = found_below (is_ranked_at g r) (length g.nodes) n (ap (λ (f : Firsts). f.ranked) (sym (are.rows r (row_router r lt))) ∙ h) in
+      let parts = and_parts (place_of g n == r) (is_some (rank_at g n)) found.passes in
+      ((found.below, eqb-true _ _ parts.0, parts.1), λ k at. found.least k (and_from (place_of g k == r) (is_some (rank_at g k)) (eq-eqb _ _ at.1) at.2))
+
+  unranked_row : (r n : ℕ) → r < length table → (row table r).unranked ≡ Some n → IsLeast (IsUnrankedAt g r) n
+  unranked_row r n lt h =
+      let found = found_below (is_unranked_at g r) (length g.nodes) n (ap (λ (f : Firsts). f.unranked) (sym (are.rows r (row_router r lt))) ∙ h) in
+      let parts = and_parts (place_of g n == r) (is_none (rank_at g n)) found.passes in
+      ((found.below, eqb-true _ _ parts.0, none_of _ parts.1), λ k at. found.least k (and_from (place_of g k == r) (is_none (rank_at g k)) (eq-eqb _ _ at.1) (is_none-of _ at.2)))
+
+  -- where there is a node, the row has one
+  no_ranked_row : (r n : ℕ) → r < length table → IsRankedAt g r n → (row table r).ranked ≡ None → ⊥
+  no_ranked_row r n lt at none =
+      let no = none_below (is_ranked_at g r) (length g.nodes) (ap (λ (f : Firsts). f.ranked) (sym (are.rows r (row_router r lt))) ∙ none) n at.0 in
+      true≢false (sym (and_from (place_of g n == r) (is_some (rank_at g n)) (eq-eqb _ _ at.1) at.2) ∙ no)
+
+  no_unranked_row : (r n : ℕ) → r < length table → IsUnrankedAt g r n → (row table r).unranked ≡ None → ⊥
+  no_unranked_row r n lt at none =
+      let no = none_below (is_unranked_at g r) (length g.nodes) (ap (λ (f : Firsts). f.unranked) (sym (are.rows r (row_router r lt))) ∙ none) n at.0 in
+      true≢false (sym (and_from (place_of g n == r) (is_none (rank_at g n)) (eq-eqb _ _ at.1) (is_none-of _ at.2)) ∙ no)
+
+  -- ---- sources without a path
+
+  source_may : (r : ℕ) → IsNamedSource net s c r → may_start (holds c.origins) s r ≡ true
+  source_may r source = and_from (from_holds s.from r) (not (holds c.origins r)) (named_from s.from r source.named) source.no_origin
+
+  has_path : (r n : ℕ) → is_router net r ≡ true → r < length table → (row table r).ranked ≡ Some n → HasPath net s c r
+  has_path r n router lt h = (ranked_claims net s c g graph_rules faithful r n router (ranked_row r n lt h).0).starts
+
+  lacking : (r : ℕ) → r < length table → lacks_path s.from c.origins table r ≡ true → IsWithoutPath net s c r
+  lacking r lt h =
+      let parts = and_parts (names s.from r && not (holds c.origins r)) (is_none (row table r).ranked) h in
+      let source = and_parts (names s.from r) (not (holds c.origins r)) parts.0 in
+      let named : IsNamedSource net s c r = record { at_router = lt-ltb r (length net.routers) (row_router r lt); named = source.0; no_origin = source.1 } in (
+        named,
+        λ path.
+            let node = permitted_node net s c g graph_rules faithful r path.0 (source_may r named) path.1 in
+            no_ranked_row r node.0 lt node.1 (none_of _ parts.1),
+      )
+
+  lacks : (r : ℕ) → IsWithoutPath net s c r → lacks_path s.from c.origins table r ≡ true
+  lacks r without =
+      let source = without.0 in
+      let lt = router_row r source.at_router in
+      let no_node : is_none (row table r).ranked ≡ true = elim (some_or_none (row table r).ranked) [
+        | inr n ↦ absurd (without.1 (has_path r n.0 source.at_router lt n.1))
+        | inl none ↦ is_none-of _ none
+      ] in
+      and_from (names s.from r && not (holds c.origins r)) (is_none (row table r).ranked) (and_from (names s.from r) (not (holds c.origins r)) source.named source.no_origin) no_node
+
+  pub least_without_path : (r : ℕ) → least_below (lacks_path s.from c.origins table) (length table) ≡ Some r → IsLeast (IsWithoutPath net s c) r
+  least_without_path r h =
+      let found = found_below (lacks_path s.from c.origins table) (length table) r h in
+      (lacking r found.below found.passes, λ k without. found.least k (lacks k without))
+
+  pub all_have_paths : least_below (lacks_path s.from c.origins table) (length table) ≡ None → HavePaths net s c
+  all_have_paths h = λ r source.
+      let lt = router_row r source.at_router in
+      elim (some_or_none (row table r).ranked) [
+        | inr n ↦ has_path r n.0 source.at_router lt n.1
+        | inl none ↦
+            let yes = and_from (names s.from r && not (holds c.origins r)) (is_none (row table r).ranked) (and_from (names s.from r) (not (holds c.origins r)) source.named source.no_origin) (is_none-of _ none) in
+            absurd (true≢false (sym yes ∙ none_below (lacks_path s.from c.origins table) (length table) h r lt))
+      ]
+
+  -- ---- sources with a rank and without one
+
+  mixed_row : (r : ℕ) → IsMixed net s c r → (r < length table) × (has_both table r ≡ true)
+  mixed_row r mixed =
+      let claimed = mixed.0 in
+      let lt = router_row r claimed.at_router in
+      let ranked = permitted_node net s c g graph_rules faithful r claimed.starts.0 claimed.may claimed.starts.1 in
+      let unranked = unranked_node net s c g graph_rules faithful r mixed.1.0 claimed.may mixed.1.1 in
+      let some : is_some (row table r).ranked ≡ true = elim (some_or_none (row table r).ranked) [
+        | inr n ↦ ap is_some n.1
+        | inl none ↦ absurd (no_ranked_row r ranked.0 lt ranked.1 none)
+      ] in
+      let other : is_some (row table r).unranked ≡ true = elim (some_or_none (row table r).unranked) [
+        | inr n ↦ ap is_some n.1
+        | inl none ↦ absurd (no_unranked_row r unranked.0 lt unranked.1 none)
+      ] in
+      (lt, and_from (is_some (row table r).ranked) (is_some (row table r).unranked) some other)
+
+  pub none_mixed : least_below (has_both table) (length table) ≡ None → (r : ℕ) → IsMixed net s c r → ⊥
+  none_mixed h r mixed =
+      let both = mixed_row r mixed in
+      true≢false (sym both.1 ∙ none_below (has_both table) (length table) h r both.0)
+
+  pub first_shows : (m : Mixed) (with without : List ℕ) → IsFirstMixed table m → IsShownWalk g m.ranked with → IsShownWalk g m.unranked without → ShowsMixed net s c g m.router with without
+  first_shows m with without first shown other =
+      let r = m.router in
+      let found = found_below (has_both table) (length table) r first.0 in
+      let router = lt-ltb r (length net.routers) (row_router r found.below) in
+      let ranked = ranked_row r m.ranked found.below first.1.1 in
+      let unranked = unranked_row r m.unranked found.below first.1.2 in
+      let claimed = ranked_claims net s c g graph_rules faithful r m.ranked router ranked.0 in
+      let run = shown_walk_run net (holds c.origins) c.external g m.ranked with faithful.formed shown in
+      let other_run = shown_walk_run net (holds c.origins) c.external g m.unranked without faithful.formed other in
+      let starts = run_from net s c g graph_rules faithful r m.ranked with ranked.0.1 claimed.may run in
+      let other_starts = run_from net s c g graph_rules faithful r m.unranked without unranked.0.1 claimed.may other_run in
+      let suffix = unranked_walk net s c g graph_rules faithful r m.unranked without unranked.0.1 claimed.may other_run unranked.0.2 in
+      record {
+        first = ((claimed, (other_starts.0, subst (IsUnranked net s c) other_starts.1 suffix)), λ k mixed. found.least k (mixed_row k mixed).1);
+        with_starts = (starts.0, starts.1);
+        with_permitted = ranked_permits net s c g graph_rules faithful r m.ranked with ranked.0.1 claimed.may run ranked.0.2;
+        with_least = (m.ranked, ranked, shown);
+        without_starts = (other_starts.0, other_starts.1);
+        without_unranked = suffix;
+        without_least = (m.unranked, unranked, other);
+      }
+
+  -- the nodes of such a row are nodes
+  pub mixed_nodes : (m : Mixed) → IsFirstMixed table m → (m.ranked < length g.nodes) × (m.unranked < length g.nodes)
+  mixed_nodes m first =
+      let lt = (found_below (has_both table) (length table) m.router first.0).below in
+      ((ranked_row m.router m.ranked lt first.1.1).0.0, (unranked_row m.router m.unranked lt first.1.2).0.0)

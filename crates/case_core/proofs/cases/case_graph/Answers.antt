@@ -1,0 +1,86 @@
+use Rattle.std.proofs.Common.{length, ap, arith}
+use Rattle.std.proofs.lemmas.Result.{IfErr-weaker, IfOk-weaker}
+use Rattle.path_words.specs.Policies.{plain_statement, policy_of}
+use Rattle.case_core.specs.Cases.{OfCase}
+use Rattle.case_core.specs.Refusals.{FitsCase, IsCause, IsGraphOf}
+use Rattle.case_core.specs.Sources.{HavePaths, NoneMixed}
+use Rattle.case_core.proofs.Origins.{known_origins}
+use Rattle.case_core.proofs.Places.{case_read, of_case, statement_at-read}
+use Rattle.case_core.proofs.cases.case_graph.Goals as goal
+
+pub overflow_sub-statement : goal.overflow_sub-statement
+overflow_sub-statement c =
+    let net = c.args.net.now in
+    let case = c.index-as_slice-number.result in
+    let case_is = case_read net c.args.policy.now c.as_slice.result.now c.args.cases.now.cases c.args.number case c.as_slice.ensures c.requires.cases c.requires.from_one c.requires.within c.index-as_slice-number.is in
+    case_is.from_one
+
+pub bounds-statements-case : goal.bounds-statements-case
+bounds-statements-case c =
+    let net = c.args.net.now in
+    let case = c.index-as_slice-number.result in
+    let case_is = case_read net c.args.policy.now c.as_slice.result.now c.args.cases.now.cases c.args.number case c.as_slice.ensures c.requires.cases c.requires.from_one c.requires.within c.index-as_slice-number.is in
+    omega (arith, case_is.from_one, case_is.within, ap length c.statements.ensures.statements)
+
+pub graph_of-requires : goal.graph_of-requires
+graph_of-requires c = λ rules.
+    let net = c.args.net.now in
+    let policy = policy_of c.args.policy.now in
+    let case = c.index-as_slice-number.result in
+    let case_is = case_read net c.args.policy.now c.as_slice.result.now c.args.cases.now.cases c.args.number case c.as_slice.ensures c.requires.cases c.requires.from_one c.requires.within c.index-as_slice-number.is in
+    known_origins net policy case rules c.requires.routers case_is.known
+
+pub returns-clause-graph : goal.returns-clause-graph
+returns-clause-graph c =
+    let net = c.args.net.now in
+    let policy = policy_of c.args.policy.now in
+    let case = c.index-as_slice-number.result in
+    let s = plain_statement c.index-statements-case.result in
+    let case_is = case_read net c.args.policy.now c.as_slice.result.now c.args.cases.now.cases c.args.number case c.as_slice.ensures c.requires.cases c.requires.from_one c.requires.within c.index-as_slice-number.is in
+    let of = statement_at-read c.statements.result.now c.args.policy.now case.statement c.index-statements-case.result c.statements.ensures.statements case_is.from_one case_is.within c.index-statements-case.is in
+    IfOk-weaker c.graph_of.result (λ given. IsGraphOf net c.args.room s case given) (λ given. OfCase net policy c.args.number (λ t d. IsGraphOf net c.args.room t d given))
+    (λ given h. of_case net policy c.args.number s case (λ t d. IsGraphOf net c.args.room t d given) case_is.at of h) c.graph_of.ensures.graph
+
+pub returns-clause-fits : goal.returns-clause-fits
+returns-clause-fits c =
+    let net = c.args.net.now in
+    let policy = policy_of c.args.policy.now in
+    let case = c.index-as_slice-number.result in
+    let s = plain_statement c.index-statements-case.result in
+    let case_is = case_read net c.args.policy.now c.as_slice.result.now c.args.cases.now.cases c.args.number case c.as_slice.ensures c.requires.cases c.requires.from_one c.requires.within c.index-as_slice-number.is in
+    let of = statement_at-read c.statements.result.now c.args.policy.now case.statement c.index-statements-case.result c.statements.ensures.statements case_is.from_one case_is.within c.index-statements-case.is in
+    IfOk-weaker c.graph_of.result (λ given. FitsCase net s case given.graph) (λ given. OfCase net policy c.args.number (λ t d. FitsCase net t d given.graph))
+    (λ given h. of_case net policy c.args.number s case (λ t d. FitsCase net t d given.graph) case_is.at of h) c.graph_of.ensures.fits
+
+pub returns-clause-paths : goal.returns-clause-paths
+returns-clause-paths c =
+    let net = c.args.net.now in
+    let policy = policy_of c.args.policy.now in
+    let case = c.index-as_slice-number.result in
+    let s = plain_statement c.index-statements-case.result in
+    let case_is = case_read net c.args.policy.now c.as_slice.result.now c.args.cases.now.cases c.args.number case c.as_slice.ensures c.requires.cases c.requires.from_one c.requires.within c.index-as_slice-number.is in
+    let of = statement_at-read c.statements.result.now c.args.policy.now case.statement c.index-statements-case.result c.statements.ensures.statements case_is.from_one case_is.within c.index-statements-case.is in
+    IfOk-weaker c.graph_of.result (λ given. HavePaths net s case) (λ given. OfCase net policy c.args.number (HavePaths net))
+    (λ given h. of_case net policy c.args.number s case (HavePaths net) case_is.at of h) c.graph_of.ensures.paths
+
+pub returns-clause-unmixed : goal.returns-clause-unmixed
+returns-clause-unmixed c =
+    let net = c.args.net.now in
+    let policy = policy_of c.args.policy.now in
+    let case = c.index-as_slice-number.result in
+    let s = plain_statement c.index-statements-case.result in
+    let case_is = case_read net c.args.policy.now c.as_slice.result.now c.args.cases.now.cases c.args.number case c.as_slice.ensures c.requires.cases c.requires.from_one c.requires.within c.index-as_slice-number.is in
+    let of = statement_at-read c.statements.result.now c.args.policy.now case.statement c.index-statements-case.result c.statements.ensures.statements case_is.from_one case_is.within c.index-statements-case.is in
+    IfOk-weaker c.graph_of.result (λ given. NoneMixed net s case) (λ given. OfCase net policy c.args.number (NoneMixed net))
+    (λ given h. of_case net policy c.args.number s case (NoneMixed net) case_is.at of h) c.graph_of.ensures.unmixed
+
+pub returns-clause-refused : goal.returns-clause-refused
+returns-clause-refused c =
+    let net = c.args.net.now in
+    let policy = policy_of c.args.policy.now in
+    let case = c.index-as_slice-number.result in
+    let s = plain_statement c.index-statements-case.result in
+    let case_is = case_read net c.args.policy.now c.as_slice.result.now c.args.cases.now.cases c.args.number case c.as_slice.ensures c.requires.cases c.requires.from_one c.requires.within c.index-as_slice-number.is in
+    let of = statement_at-read c.statements.result.now c.args.policy.now case.statement c.index-statements-case.result c.statements.ensures.statements case_is.from_one case_is.within c.index-statements-case.is in
+    IfErr-weaker c.graph_of.result (λ e. IsCause net c.args.number c.args.room s case e) (λ e. OfCase net policy c.args.number (λ t d. IsCause net c.args.number c.args.room t d e))
+    (λ e h. of_case net policy c.args.number s case (λ t d. IsCause net c.args.number c.args.room t d e) case_is.at of h) c.graph_of.ensures.refused

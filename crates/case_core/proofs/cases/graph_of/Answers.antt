@@ -1,0 +1,14 @@
+use Rattle.std.proofs.Common.{length, ap}
+use Rattle.std.proofs.lemmas.Result.{err_from_is_err_and}
+use Rattle.case_core.proofs.cases.graph_of.Goals as goal
+
+pub judged-requires-clause-made : goal.judged-requires-clause-made
+judged-requires-clause-made c = (c.args.room, c.in_ok-all.all, record { within = c.in_ok-all.ensures.built; trimmed = c.in_ok-graph.ensures })
+
+pub returns-in_err-judged-clause-refused : goal.returns-in_err-judged-clause-refused
+returns-in_err-judged-clause-refused c =
+    let p = err_from_is_err_and c.from_residual-in_err-judged.result c.from_residual-in_err-judged.ensures.1 in
+    rw (p.1, p.2) (c.in_err-judged.ensures.refused c.args.room c.in_ok-all.all (record { within = c.in_ok-all.ensures.built; trimmed = c.in_ok-graph.ensures }))
+
+pub returns-clause-graph : goal.returns-clause-graph
+returns-clause-graph c = (c.in_ok-all.all, record { within = c.in_ok-all.ensures.built; trimmed = c.in_ok-graph.ensures }, ap length c.steps.ensures.steps)

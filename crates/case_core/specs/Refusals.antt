@@ -1,0 +1,95 @@
+-- What is made of a case, and why a case is refused.
+use Rattle.std.specs.Prelude.{◌≡◌, ℕ, ◌-◌, ◌^◌, ◌<◌, ◌≤◌, min, IsTrue, IsSome, zero, suc, List, ◌∷◌, length, Option, Some, None, slice_get}
+use Rattle.net_base.specs.declared.numbers.Tag.{Tag}
+use Rattle.net_base.specs.Network.{PlainNet, IsNet, is_router}
+use Rattle.net_base.specs.Sets.{holds}
+use Rattle.path_words.specs.declared.case.Case.{Case}
+use Rattle.path_words.specs.declared.policy.Origin.{Origin}
+use Rattle.path_words.specs.Cases.{case_list}
+use Rattle.path_words.specs.Meaning.{alternative_count}
+use Rattle.path_words.specs.Policies.{PlainPolicy, PlainStatement}
+use Rattle.constraint_expand.specs.Forward.{expressions}
+use Rattle.graph_base.specs.Graphs.{PlainGraph}
+use Rattle.graph_base.specs.Runs.{place_of, rank_at}
+use Rattle.graph_base.specs.Walks.{IsShownWalk}
+use Rattle.config_base.specs.Made.{IsIn, statement_at}
+use Rattle.regret_law.specs.Faithful.{permits}
+use Rattle.regret_law.specs.Passes.{IsCaseGraph}
+use Rattle.product_graph.specs.Built.{Plan, IsBuilt}
+use Rattle.product_graph.specs.Outcomes.{plan_of, PassesStates, PassesSteps}
+use Rattle.graph_law.specs.Origins.{AreOrigins}
+use Rattle.reach_prune.specs.Trimmed.{IsTrimmed}
+use Rattle.case_core.specs.declared.cases.CaseGraph.{CaseGraph}
+use Rattle.case_core.specs.declared.refusal.CompileRefusal.{CompileRefusal}
+use Rattle.case_core.specs.declared.refusal.CompileRefusal.TheVariants.{TooManyRanks, TooManyStates, TooManySteps, SourceWithoutPath, MixedSource, NoEvidence, TooManyTags, NoMemory}
+use Rattle.case_core.specs.declared.sources.Mixed.{Mixed}
+use Rattle.case_core.specs.Sources.{IsLeast, HavePaths, IsMixed, IsUnranked, IsWithoutPath}
+
+-- what is built of a case
+abbrev pub plan_for : PlainNet → PlainStatement → Case → Plan
+plan_for net s c = plan_of (expressions net s.ranked) s.from c
+
+-- no more than 64 alternatives, and a graph with no more than 4,096 nodes, and with steps that there is room for
+pub record IsBuiltWithin (net : PlainNet) (room : ℕ) (s : PlainStatement) (c : Case) (g : PlainGraph) : Type 0 where
+  pub ranks : alternative_count s.ranked ≤ 64
+  pub built : IsBuilt net (plan_for net s c) g
+  pub states : length g.nodes ≤ 4096
+  pub steps : length g.steps ≤ room
+
+-- the graph of a case, of which `built` is what was built
+pub record IsMade (net : PlainNet) (room : ℕ) (s : PlainStatement) (c : Case) (built made : PlainGraph) : Type 0 where
+  pub within : IsBuiltWithin net room s c built
+  pub trimmed : IsTrimmed built made
+
+-- The graph that is given for a case is what is left of the one that is built, and says how many steps that one has.
+abbrev pub IsGraphOf : PlainNet → ℕ → PlainStatement → Case → CaseGraph → Type 0
+IsGraphOf net room s c given = (built : PlainGraph) × IsMade net room s c built given.graph × (given.used ≡ length built.steps)
+
+-- It says of walks what the statement says of them, and each node at a claimed router has a rank, whatever numbers and
+-- tags the nodes get.
+abbrev pub FitsCase : PlainNet → PlainStatement → Case → PlainGraph → Type 0
+FitsCase net s c g = (numbers : List ℕ) (tags : List Tag) → IsCaseGraph net s (record { case = c; graph = g; numbers = numbers; tags = tags })
+
+-- ---- refusals
+
+-- a node at a router that has a rank, and one that has none
+abbrev pub IsRankedAt : PlainGraph → ℕ → ℕ → Type 0
+IsRankedAt g r n = (n < length g.nodes) × (place_of g n ≡ r) × IsSome (rank_at g n)
+
+abbrev pub IsUnrankedAt : PlainGraph → ℕ → ℕ → Type 0
+IsUnrankedAt g r n = (n < length g.nodes) × (place_of g n ≡ r) × (rank_at g n ≡ None)
+
+-- the walk by which the least of some nodes is shown
+abbrev pub IsWalkOfLeast : PlainGraph → (ℕ → Type 0) → List ℕ → Type 0
+IsWalkOfLeast g Of walk = (n : ℕ) × IsLeast Of n × IsShownWalk g n walk
+
+-- a router with two walks that are shown, a permitted one and one without a rank
+pub record ShowsMixed (net : PlainNet) (s : PlainStatement) (c : Case) (g : PlainGraph) (r : ℕ) (with without : List ℕ) : Type 0 where
+  pub first : IsLeast (IsMixed net s c) r
+  pub with_starts : (rest : List ℕ) × (with ≡ r ∷ rest)
+  pub with_permitted : IsTrue (permits net (holds c.origins) s with)
+  pub with_least : IsWalkOfLeast g (IsRankedAt g r) with
+  pub without_starts : (rest : List ℕ) × (without ≡ r ∷ rest)
+  pub without_unranked : IsUnranked net s c without
+  pub without_least : IsWalkOfLeast g (IsUnrankedAt g r) without
+
+-- the refusal names such a router, and the walks by which its first nodes are shown
+abbrev pub ShowsWalks : PlainGraph → ℕ → Mixed → CompileRefusal → Type 0
+ShowsWalks g number mixed e =
+    (with without : List ℕ) × IsShownWalk g mixed.ranked with × IsShownWalk g mixed.unranked without × (e ≡ MixedSource number mixed.router with without)
+
+-- What a refusal of a case's graph says of the case with this number. Each one says too that none before it applies.
+abbrev pub IsCause : PlainNet → ℕ → ℕ → PlainStatement → Case → CompileRefusal → Type 0
+IsCause net number room s c (TooManyRanks k count) =
+    (k ≡ number) × (64 < alternative_count s.ranked) × (count ≡ min (alternative_count s.ranked) (2 ^ 64 - 1))
+IsCause net number room s c (TooManyStates k) =
+    (k ≡ number) × (alternative_count s.ranked ≤ 64) × PassesStates net (plan_for net s c) 4096
+IsCause net number room s c (TooManySteps k) =
+    (k ≡ number) × (alternative_count s.ranked ≤ 64) × PassesSteps net (plan_for net s c) 4096 room
+IsCause net number room s c (SourceWithoutPath k r) =
+    (k ≡ number) × ((built : PlainGraph) × IsBuiltWithin net room s c built) × IsLeast (IsWithoutPath net s c) r
+IsCause net number room s c (MixedSource k r with without) =
+    (k ≡ number) × HavePaths net s c × ((built made : PlainGraph) × IsMade net room s c built made × ShowsMixed net s c made r with without)
+IsCause net number room s c (NoEvidence k g) = ⊥
+IsCause net number room s c (TooManyTags r) = ⊥
+IsCause net number room s c NoMemory = Unit {0}

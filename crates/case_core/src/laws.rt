@@ -1,0 +1,30 @@
+//! Laws of the compiler, each the contract of a function without a body.
+ghost use Rattle.std.specs.Prelude.{◌≡◌, ◌⊎◌, ℕ, Some, slice_get};
+ghost use Rattle.net_base.specs.Network.{PlainNet};
+ghost use Rattle.path_words.specs.declared.case.Case.{Case};
+ghost use Rattle.path_words.specs.Cases.{case_list};
+ghost use Rattle.path_words.specs.Policies.{PlainPolicy, PlainStatement};
+ghost use Rattle.config_base.specs.Made.{statement_at};
+ghost use Rattle.case_core.specs.declared.cases.CaseGraph.{CaseGraph};
+ghost use Rattle.case_core.specs.declared.refusal.CompileRefusal.{CompileRefusal};
+ghost use Rattle.case_core.specs.declared.refusal.CompileRefusal.TheVariants.{NoMemory};
+ghost use Rattle.case_core.specs.Refusals.{IsCause, IsGraphOf};
+ghost use Rattle.case_core.specs.Sources.{HavePaths, NoneMixed};
+
+/// Each case of a policy is of a statement of it.
+pub fn cases_have_statements()
+    ensures { (net : PlainNet) (policy : PlainPolicy) (k : ℕ) (c : Case) → slice_get (case_list net policy) k ≡ Some c
+        → (s : PlainStatement) × (statement_at policy c.statement ≡ Some s) }
+{}
+
+/// Where a graph is given for a case, nothing refuses it: so each refusal comes exactly where its cause applies.
+pub fn given_cases_are_not_refused()
+    ensures { (net : PlainNet) (number room : ℕ) (s : PlainStatement) (c : Case) (given : CaseGraph) (e : CompileRefusal) → IsGraphOf net room s c given
+        → HavePaths net s c → NoneMixed net s c → IsCause net number room s c e → e ≡ NoMemory }
+{}
+
+/// A case is refused for one cause, if memory is not refused.
+pub fn refusals_exclude_one_another()
+    ensures { (net : PlainNet) (number room : ℕ) (s : PlainStatement) (c : Case) (e f : CompileRefusal) → IsCause net number room s c e
+        → IsCause net number room s c f → (e ≡ NoMemory) ⊎ (f ≡ NoMemory) ⊎ (e ≡ f) }
+{}

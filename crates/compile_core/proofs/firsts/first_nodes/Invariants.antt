@@ -1,5 +1,0 @@
-use Rattle.compile_core.specs.Firsts.{AreFirsts}
-use Rattle.compile_core.proofs.firsts.first_nodes.Given as goal
-
-abbrev pub invariant-loop-i : goal.invariant-loop-i
-invariant-loop-i l = AreFirsts l.routers l.graph l.i l.table.items

@@ -1,5 +1,0 @@
-use Rattle.compile_core.proofs.OneCause.{one_cause}
-use Rattle.compile_core.proofs.laws.refusals_exclude_one_another.Goals as goal
-
-pub returns : goal.returns
-returns c = one_cause

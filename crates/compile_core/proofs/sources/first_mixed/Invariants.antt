@@ -1,6 +1,0 @@
-use Rattle.std.proofs.Common.{◌≡◌, None}
-use Rattle.compile_core.specs.Firsts.{has_both, least_below}
-use Rattle.compile_core.proofs.sources.first_mixed.Given as goal
-
-abbrev pub invariant-loop-i : goal.invariant-loop-i
-invariant-loop-i l = least_below (has_both l.table) l.i ≡ None

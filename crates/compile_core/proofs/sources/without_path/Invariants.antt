@@ -1,6 +1,0 @@
-use Rattle.std.proofs.Common.{◌≡◌, None}
-use Rattle.compile_core.specs.Firsts.{lacks_path, least_below}
-use Rattle.compile_core.proofs.sources.without_path.Given as goal
-
-abbrev pub invariant-loop-i : goal.invariant-loop-i
-invariant-loop-i l = least_below (lacks_path l.from l.origins l.table) l.i ≡ None
