@@ -1,0 +1,4 @@
+pub mod RankedRouters
+pub mod Judged
+pub mod OfCases
+pub mod OneVerdict

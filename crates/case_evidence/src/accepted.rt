@@ -1,0 +1,73 @@
+//! Cases that are accepted.
+ghost use Rattle.std.specs.Prelude.{◌≡◌, ◌≤◌, ℕ, IfErr, IfOk, length};
+ghost use Rattle.path_words.specs.declared.case.Case.{Case};
+ghost use Rattle.path_words.specs.Cases.{case_list};
+ghost use Rattle.path_words.specs.Policies.{PlainStatement, policy_of};
+ghost use Rattle.case_core.specs.Cases.{OfCase, OriginsAreRouters};
+ghost use Rattle.case_evidence.specs.Accepted.{IsAccepted, IsCaseCause, IsGivenGraph};
+
+use crate::claimed::claimed_relation;
+use case_core::{CaseGraph, CompileRefusal, case_graph};
+use graph_base::{Graph, Prefs};
+use net_base::Net;
+use path_words::{CaseList, Policy};
+use pref_inference::infer;
+use std::alloc::Global;
+
+/// A case that is accepted: its graph, how many steps that had before it was trimmed, and a preference number for
+/// each of its nodes.
+#[derive(Drop)]
+pub struct AcceptedCase {
+    pub graph: Graph,
+    pub used: u32,
+    pub prefs: Prefs,
+}
+
+/// The graph of the case with this number, and numbers for its nodes that meet the rules of evidence, or the
+/// refusal that there are none.
+fn numbered(
+    alloc: Global,
+    net: &Net,
+    number: u32,
+    given: CaseGraph,
+) -> Result<AcceptedCase, CompileRefusal>
+    ensures accepted { (room : ℕ) (s : PlainStatement) (c : Case) → IsGivenGraph net.now room s c given.graph given.used → IfOk result (λ made. IsAccepted net.now room s c made) }
+    ensures refused { (room : ℕ) (s : PlainStatement) (c : Case) → IsGivenGraph net.now room s c given.graph given.used → IfErr result (λ e. IsCaseCause net.now number room s c e) }
+    ensures used { IfOk result (λ made. made.used ≡ given.used) }
+    ensures sized { IfOk result (λ made. length made.prefs.of ≡ length made.graph.nodes) }
+{
+    let relation = claimed_relation(alloc, net, &given.graph)?;
+    if !relation.is_total() {
+        return Err(CompileRefusal::NoEvidence(number, given.graph));
+    }
+    let prefs = infer(alloc, net, &given.graph, &relation)?;
+    Ok(AcceptedCase {
+        graph: given.graph,
+        used: given.used,
+        prefs,
+    })
+}
+
+/// The case with this number, from 1, with numbers for the nodes of its graph, or why the case is refused.
+/// The graph has at most `room` steps before it is trimmed. The refusals are tried in the order of
+/// `CompileRefusal`, and if memory is not refused the case is accepted exactly where none applies.
+pub fn accepted_case(
+    alloc: Global,
+    net: &Net,
+    policy: &Policy,
+    cases: &CaseList,
+    number: u32,
+    room: u32,
+) -> Result<AcceptedCase, CompileRefusal>
+    requires cases { cases.now.cases ≡ case_list net.now (policy_of policy.now) }
+    requires from_one { 1 ≤ number }
+    requires within { number ≤ length cases.now.cases }
+    requires routers { OriginsAreRouters net.now policy.now.origins }
+    ensures accepted { IfOk result (λ given. OfCase net.now (policy_of policy.now) number (λ s c. IsAccepted net.now room s c given)) }
+    ensures refused { IfErr result (λ e. OfCase net.now (policy_of policy.now) number (λ s c. IsCaseCause net.now number room s c e)) }
+    ensures room { IfOk result (λ given. given.used ≤ room) }
+    ensures sized { IfOk result (λ given. length given.prefs.of ≡ length given.graph.nodes) }
+{
+    let given = case_graph(alloc, net, policy, cases, number, room)?;
+    numbered(alloc, net, number, given)
+}
