@@ -1,0 +1,9 @@
+pub mod Gathered
+pub mod OneByOne
+pub mod Places
+pub mod Parts
+pub mod Known
+pub mod Whole
+pub mod Agreement
+pub mod OneConfiguration
+pub mod OneRefusal

@@ -1,0 +1,89 @@
+-- What is made of the cases that are given.
+use Rattle.std.proofs.Common.{◌≡◌, ℕ, ◌<◌, ◌^◌, List, length, Some, sym, ap, subst, ◌∙◌}
+use Rattle.std.specs.Prelude.{slice_get}
+use Rattle.net_base.specs.declared.numbers.Tag.{Tag}
+use Rattle.net_base.specs.Network.{PlainNet, IsNet}
+use Rattle.path_words.specs.declared.case.Case.{Case}
+use Rattle.path_words.specs.Cases.{case_list}
+use Rattle.path_words.specs.Policies.{IsPolicy, PlainPolicy}
+use Rattle.graph_base.specs.declared.graph.Prefs.{Prefs}
+use Rattle.graph_base.specs.Graphs.{PlainGraph}
+use Rattle.config_base.specs.Configs.{PlainConfig}
+use Rattle.config_base.specs.Evidence.{IsCaseEvidence}
+use Rattle.config_base.specs.Made.{PlainCaseEvidence, AreTags, IsConfigOf}
+use Rattle.config_made.specs.Conditions.{AreClasses, IsSingle, IsWhole}
+use Rattle.config_made.specs.Evidence.{evidence_of}
+use Rattle.config_made.proofs.CaseClasses.{case_lists}
+use Rattle.community_assign.specs.Tagging.{tags_of, all_nodes, IsRoomy}
+use Rattle.regret_law.specs.Passes.{Passes}
+use Rattle.case_core.specs.Cases.{OriginsAreRouters}
+use Rattle.case_evidence.specs.declared.accepted.AcceptedCase.{AcceptedCase}
+use Rattle.compile_core.specs.Accepting.{AreAllGiven}
+use Rattle.compile_core.specs.Compiling.{IsMade, graphs_of}
+use Rattle.compile_core.proofs.Known.{are_tags, as_many_graphs, as_many_prefs, case_evidence, evidence_for, known_at, passing, single, whole}
+use Rattle.compile_core.proofs.Parts.{as_many_tags}
+
+-- there are few cases
+pub few_cases : (net : PlainNet) (policy : PlainPolicy) (cs : List Case) → IsPolicy policy → cs ≡ case_list net policy → length cs < 2 ^ 32
+few_cases net policy cs kept are = subst (λ (xs : List Case). length xs < 2 ^ 32) (sym are) (case_lists net policy kept).count
+
+module _ (net : PlainNet) (rules : IsNet net) (policy : PlainPolicy) (kept : IsPolicy policy) (routers : OriginsAreRouters net policy.origins) (cs : List Case) (gs graphs : List PlainGraph) (ps prefs : List Prefs)
+    (ts : List (List Tag)) (cases : cs ≡ case_list net policy) (same_g : gs ≡ graphs) (same_p : ps ≡ prefs) (tags : ts ≡ tags_of net graphs) (given : AreAllGiven net policy graphs prefs) where
+  abbrev accepted : List AcceptedCase
+  accepted = given.1.accepted
+
+  graphs_are : gs ≡ graphs_of accepted
+  graphs_are = same_g ∙ given.1.graphs
+
+  same : evidence_of cs gs ps ts ≡ evidence_for net policy accepted
+  same =
+      ap (λ xs. evidence_of xs gs ps ts) cases
+      ∙ ap (λ xs. evidence_of (case_list net policy) xs ps ts) graphs_are
+      ∙ ap (λ xs. evidence_of (case_list net policy) (graphs_of accepted) xs ts) (same_p ∙ given.1.prefs)
+      ∙ ap (evidence_of (case_list net policy) (graphs_of accepted) _) (tags ∙ ap (tags_of net) given.1.graphs)
+
+  there : (k : ℕ) (e : PlainCaseEvidence) → slice_get (evidence_of cs gs ps ts) k ≡ Some e → slice_get (evidence_for net policy accepted) k ≡ Some e
+  there k e at = ap (λ (es : List PlainCaseEvidence). slice_get es k) (sym same) ∙ at
+
+  pub classes : AreClasses policy cs
+  classes = subst (AreClasses policy) (sym cases) (case_lists net policy kept)
+
+  pub graph_each : length gs ≡ length cs
+  graph_each = ap length graphs_are ∙ as_many_graphs net rules policy routers accepted given.1.count given.1.each ∙ ap length (sym cases)
+
+  pub prefs_each : length ps ≡ length cs
+  prefs_each = ap length (same_p ∙ given.1.prefs) ∙ as_many_prefs net rules policy routers accepted given.1.count given.1.each ∙ ap length (sym cases)
+
+  pub tags_each : length ts ≡ length cs
+  tags_each = ap length tags ∙ as_many_tags net graphs ∙ ap length (sym same_g) ∙ graph_each
+
+  pub each_whole : (k : ℕ) (e : PlainCaseEvidence) → slice_get (evidence_of cs gs ps ts) k ≡ Some e → IsWhole e
+  each_whole k e at = whole net policy e (known_at net rules policy routers accepted given.1.count given.1.each k e (there k e at))
+
+  pub each_single : (k : ℕ) (e : PlainCaseEvidence) → slice_get (evidence_of cs gs ps ts) k ≡ Some e → IsSingle net e.graph
+  each_single k e at = single net policy e (known_at net rules policy routers accepted given.1.count given.1.each k e (there k e at))
+
+  pub each_kept : (k : ℕ) (e : PlainCaseEvidence) → slice_get (evidence_of cs gs ps ts) k ≡ Some e → IsCaseEvidence e
+  each_kept k e at = case_evidence net policy e (known_at net rules policy routers accepted given.1.count given.1.each k e (there k e at)) rules
+
+  module _ (roomy : IsRoomy net (all_nodes graphs)) where
+    has_room : IsRoomy net (all_nodes (graphs_of accepted))
+    has_room = subst (λ (xs : List PlainGraph). IsRoomy net (all_nodes xs)) given.1.graphs roomy
+
+    pub differ : AreTags net (evidence_of cs gs ps ts)
+    differ = subst (AreTags net) (sym same) (are_tags net rules policy routers accepted given.1.count given.1.each has_room)
+
+    pub made : (config : PlainConfig) → IsConfigOf net policy (evidence_of cs gs ps ts) config → IsMade net policy config (evidence_of cs gs ps ts)
+    made config lines = record {
+      accepted = accepted;
+      all = given.1.count;
+      each = given.1.each;
+      room = has_room;
+      evidence = same;
+      lines = lines;
+    }
+
+    pub passes : (config : PlainConfig) → IsConfigOf net policy (evidence_of cs gs ps ts) config → Passes net policy config (evidence_of cs gs ps ts)
+    passes config lines =
+        subst (Passes net policy config) (sym same)
+        (passing net rules policy routers accepted given.1.count given.1.each config has_room (subst (λ es. IsConfigOf net policy es config) same lines))

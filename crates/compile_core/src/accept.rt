@@ -1,0 +1,59 @@
+//! The cases one after the other.
+ghost use Rattle.std.specs.Prelude.{◌≡◌, ◌<◌, ◌^◌, [], ◌∷◌, ◌++◌, IfErr, IfOk, OnOk, length};
+ghost use Rattle.path_words.specs.Cases.{case_list};
+ghost use Rattle.path_words.specs.Policies.{policy_of};
+ghost use Rattle.case_core.specs.Cases.{OriginsAreRouters};
+ghost use Rattle.compile_core.specs.Accepting.{AreAllGiven};
+ghost use Rattle.compile_core.specs.Compiling.{IsRefusal};
+
+use case_core::CompileRefusal;
+use case_evidence::accepted_case;
+use graph_base::{Graph, Prefs};
+use net_base::Net;
+use net_base::limits::STEPS;
+use path_words::{CaseList, Policy};
+use std::alloc::{AllocError, Global};
+
+/// The graphs of cases that are accepted, and the preference numbers of their nodes.
+#[derive(Drop)]
+pub struct Accepted {
+    pub graphs: Vec<Graph>,
+    pub prefs: Vec<Prefs>,
+}
+
+/// Puts the graph and the numbers of a case behind the others.
+fn keep(all: &mut Accepted, graph: Graph, prefs: Prefs) -> Result<(), AllocError>
+    ensures graphs { OnOk result (all.new.graphs.items ≡ all.old.graphs.items ++ graph ∷ []) }
+    ensures prefs { OnOk result (all.new.prefs.items ≡ all.old.prefs.items ++ prefs ∷ []) }
+{
+    all.graphs.push(graph)?;
+    all.prefs.push(prefs)?;
+    Ok(())
+}
+
+/// The graphs and numbers of all cases, or why the first case that isn't accepted is refused. What the steps
+/// of a case take of the room is gone for the later ones.
+pub fn accepted_cases(
+    alloc: Global,
+    net: &Net,
+    policy: &Policy,
+    cases: &CaseList,
+) -> Result<Accepted, CompileRefusal>
+    requires cases { cases.now.cases ≡ case_list net.now (policy_of policy.now) }
+    requires few { length cases.now.cases < 2 ^ 32 }
+    requires routers { OriginsAreRouters net.now policy.now.origins }
+    ensures given { IfOk result (λ given. AreAllGiven net.now (policy_of policy.now) given.graphs.items given.prefs.items) }
+    ensures refused { IfErr result (λ e. IsRefusal net.now (policy_of policy.now) e) }
+{
+    let mut all = Accepted {
+        graphs: Vec::new(alloc),
+        prefs: Vec::new(alloc),
+    };
+    let mut room = STEPS as u32;
+    for place in 0..cases.cases.as_slice().len() {
+        let given = accepted_case(alloc, net, policy, cases, place as u32 + 1, room)?;
+        room -= given.used;
+        keep(&mut all, given.graph, given.prefs)?;
+    }
+    Ok(all)
+}

@@ -1,0 +1,10 @@
+//! What the compiler gives.
+
+use config_base::{Config, Evidence};
+
+/// The configuration of a policy, and the evidence that it is right.
+#[derive(Drop)]
+pub struct Compiled {
+    pub config: Config,
+    pub evidence: Evidence,
+}

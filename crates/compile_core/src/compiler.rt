@@ -1,0 +1,96 @@
+//! The compiler.
+ghost use Rattle.std.specs.Prelude.{◌≡◌, ℕ, IfErr, IfOk, List, OnOk};
+ghost use Rattle.net_base.specs.Network.{IsNet};
+ghost use Rattle.graph_base.specs.declared.graph.Prefs.{Prefs as PlainPrefs};
+ghost use Rattle.path_words.specs.Cases.{case_list};
+ghost use Rattle.path_words.specs.Policies.{IsPolicy, PlainPolicy, policy_of};
+ghost use Rattle.community_assign.specs.Tagging.{tags_of, all_nodes, IsRoomy};
+ghost use Rattle.regret_law.specs.Passes.{Passes};
+ghost use Rattle.case_core.specs.Cases.{OriginsAreRouters};
+ghost use Rattle.compile_core.specs.Accepting.{AreAllGiven, refusal_of as plain_refusal_of};
+ghost use Rattle.compile_core.specs.Compiling.{IsMade, IsRefusal};
+
+use crate::accept::{Accepted, accepted_cases};
+use crate::compiled::Compiled;
+use crate::evidence::evidence_of;
+use case_core::CompileRefusal;
+use community_assign::{TagFault, tags};
+use config_made::config_of;
+use graph_base::{Graph, Tags};
+use net_base::Net;
+use path_words::{Case, Policy, cases};
+use std::alloc::Global;
+
+/// What every network and every policy keeps.
+fn known_rules(net: &Net, policy: &Policy)
+    ensures net { IsNet net.now }
+    ensures policy { IsPolicy (policy_of policy.now) }
+{
+    let _routers = net.routers();
+    let _origins = policy.origins();
+}
+
+/// The refusal for want of tags.
+fn refusal_of(fault: &TagFault) -> CompileRefusal
+    ensures { result ≡ plain_refusal_of fault.now }
+{
+    match fault {
+        TagFault::TooManyTags(router) => CompileRefusal::TooManyTags(*router),
+        TagFault::NoMemory => CompileRefusal::NoMemory,
+    }
+}
+
+/// The tags of all cases' nodes, or the refusal that a router has too many.
+fn tags_for(alloc: Global, net: &Net, graphs: &[Graph]) -> Result<Tags, CompileRefusal>
+    ensures tags { IfOk result (λ tags. tags.of ≡ tags_of net.now graphs.now) }
+    ensures room { OnOk result (IsRoomy net.now (all_nodes graphs.now)) }
+    ensures refused { (policy : PlainPolicy) (prefs : List PlainPrefs) → AreAllGiven net.now policy graphs.now prefs → IfErr result (λ e. IsRefusal net.now policy e) }
+{
+    match tags(alloc, net, graphs) {
+        Ok(tags) => Ok(tags),
+        Err(fault) => Err(refusal_of(&fault)),
+    }
+}
+
+/// The configuration and the evidence of all cases.
+fn compiled(
+    alloc: Global,
+    net: &Net,
+    policy: &Policy,
+    cases: &[Case],
+    all: Accepted,
+    tags: &Tags,
+) -> Result<Compiled, CompileRefusal>
+    requires net { IsNet net.now }
+    requires policy { IsPolicy (policy_of policy.now) }
+    requires cases { cases.now ≡ case_list net.now (policy_of policy.now) }
+    requires routers { OriginsAreRouters net.now policy.now.origins }
+    requires given { AreAllGiven net.now (policy_of policy.now) all.graphs.items all.prefs.items }
+    requires tags { tags.now.of ≡ tags_of net.now all.graphs.items }
+    requires room { IsRoomy net.now (all_nodes all.graphs.items) }
+    ensures made { IfOk result (λ given. IsMade net.now (policy_of policy.now) given.config given.evidence.cases) }
+    ensures passes { IfOk result (λ given. Passes net.now (policy_of policy.now) given.config given.evidence.cases) }
+    ensures refused { IfErr result (λ e. IsRefusal net.now (policy_of policy.now) e) }
+{
+    let config = config_of(alloc, net, policy, cases, &all.graphs, &all.prefs, tags)?;
+    let evidence = evidence_of(alloc, cases, all.graphs, all.prefs, tags.of.as_slice())?;
+    Ok(Compiled { config, evidence })
+}
+
+/// Compiles a policy, whose origins are routers, for a network: the configuration of its cases, each with its own
+/// graph, numbers and tags, and the evidence that this configuration is right, or why the policy is refused. The
+/// cases are judged in order, with room for 131,072 steps over all of them, and the first one that isn't accepted
+/// is refused; tags are counted after that. If memory is not refused, a policy is compiled exactly where nothing
+/// of this refuses it.
+pub fn compile(alloc: Global, net: &Net, policy: &Policy) -> Result<Compiled, CompileRefusal>
+    requires { OriginsAreRouters net.now policy.now.origins }
+    ensures made { IfOk result (λ given. IsMade net.now (policy_of policy.now) given.config given.evidence.cases) }
+    ensures passes { IfOk result (λ given. Passes net.now (policy_of policy.now) given.config given.evidence.cases) }
+    ensures refused { IfErr result (λ e. IsRefusal net.now (policy_of policy.now) e) }
+{
+    known_rules(net, policy);
+    let list = cases(alloc, net, policy)?;
+    let all = accepted_cases(alloc, net, policy, &list)?;
+    let tags = tags_for(alloc, net, &all.graphs)?;
+    compiled(alloc, net, policy, list.cases.as_slice(), all, &tags)
+}

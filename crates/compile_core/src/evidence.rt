@@ -1,0 +1,55 @@
+//! The evidence of a configuration.
+ghost use Rattle.std.specs.Prelude.{◌≡◌, ℕ, IfOk, Some, length, slice_get};
+ghost use Rattle.config_base.specs.Evidence.{IsCaseEvidence};
+ghost use Rattle.config_base.specs.Made.{PlainCaseEvidence};
+ghost use Rattle.config_made.specs.Evidence.{evidence_of as plain_evidence_of};
+
+use config_base::{CaseEvidence, Evidence};
+use graph_base::{Graph, Prefs};
+use net_base::{List, Tag};
+use path_words::Case;
+use std::alloc::{AllocError, Global};
+
+/// A copy of a case.
+fn case_copy(alloc: Global, case: &Case) -> Result<Case, AllocError>
+    ensures { IfOk result (λ copy. copy ≡ case.now) }
+{
+    let prefixes = Vec::from_slice(alloc, case.prefixes.as_slice())?;
+    Ok(Case {
+        statement: case.statement,
+        origins: case.origins,
+        external: case.external,
+        prefixes: List::from_vec(prefixes),
+    })
+}
+
+/// A copy of tags.
+fn tags_copy(alloc: Global, tags: &[Tag]) -> Result<List<Tag>, AllocError>
+    ensures { IfOk result (λ copy. copy ≡ tags.now) }
+{
+    Ok(List::from_vec(Vec::from_slice(alloc, tags)?))
+}
+
+/// The evidence of cases: each with its graph, numbers and tags. Graphs and numbers are moved.
+pub fn evidence_of(
+    alloc: Global,
+    cases: &[Case],
+    graphs: Vec<Graph>,
+    prefs: Vec<Prefs>,
+    tags: &[List<Tag>],
+) -> Result<Evidence, AllocError>
+    requires graphs { length graphs.items ≡ length cases.now }
+    requires prefs { length prefs.items ≡ length cases.now }
+    requires tags { length tags.now ≡ length cases.now }
+    requires kept { (k : ℕ) (c : PlainCaseEvidence) → slice_get (plain_evidence_of cases.now graphs.items prefs.items tags.now) k ≡ Some c → IsCaseEvidence c }
+    ensures { IfOk result (λ evidence. evidence.cases ≡ plain_evidence_of cases.now graphs.items prefs.items tags.now) }
+{
+    let mut all = List::new(alloc);
+    for (graph, prefs) in graphs.into_iter().zip(prefs) {
+        let place = all.as_slice().len();
+        let case = case_copy(alloc, &cases[place])?;
+        let tags = tags_copy(alloc, tags[place].as_slice())?;
+        all.push(CaseEvidence::new(case, graph, prefs, tags))?;
+    }
+    Ok(Evidence { cases: all })
+}

@@ -1,0 +1,34 @@
+//! Laws of the compiler, each the contract of a function without a body.
+ghost use Rattle.std.specs.Prelude.{◌≡◌, ◌⊎◌, List};
+ghost use Rattle.net_base.specs.Network.{IsNet, PlainNet};
+ghost use Rattle.path_words.specs.Policies.{PlainPolicy};
+ghost use Rattle.config_base.specs.Configs.{IsConfig, PlainConfig};
+ghost use Rattle.config_base.specs.Made.{PlainCaseEvidence};
+ghost use Rattle.regret_law.specs.Passes.{Passes};
+ghost use Rattle.case_core.specs.Cases.{OriginsAreRouters};
+ghost use Rattle.case_core.specs.declared.refusal.CompileRefusal.{CompileRefusal};
+ghost use Rattle.case_core.specs.declared.refusal.CompileRefusal.TheVariants.{NoMemory};
+ghost use Rattle.compile_core.specs.Compiling.{IsMade, IsRefusal};
+
+/// What is made of a policy passes: so the configuration is right.
+pub fn made_evidence_passes()
+    ensures { (net : PlainNet) (policy : PlainPolicy) (config : PlainConfig) (cs : List PlainCaseEvidence) → IsNet net → OriginsAreRouters net policy.origins
+        → IsMade net policy config cs → Passes net policy config cs }
+{}
+
+/// Where something is made of a policy, nothing refuses it: so each refusal comes exactly where its cause applies.
+pub fn made_policies_are_not_refused()
+    ensures { (net : PlainNet) (policy : PlainPolicy) (config : PlainConfig) (cs : List PlainCaseEvidence) (e : CompileRefusal) → IsMade net policy config cs
+        → IsRefusal net policy e → e ≡ NoMemory }
+{}
+
+/// A policy is refused for one cause, if memory is not refused.
+pub fn refusals_of_policies_exclude_one_another()
+    ensures { (net : PlainNet) (policy : PlainPolicy) (e f : CompileRefusal) → IsRefusal net policy e → IsRefusal net policy f → (e ≡ NoMemory) ⊎ (f ≡ NoMemory) ⊎ (e ≡ f) }
+{}
+
+/// There is one evidence for a policy, and one configuration.
+pub fn made_pairs_are_one()
+    ensures { (net : PlainNet) (policy : PlainPolicy) (config other : PlainConfig) (cs ds : List PlainCaseEvidence) → IsMade net policy config cs
+        → IsMade net policy other ds → (cs ≡ ds) × (IsConfig config → IsConfig other → config ≡ other) }
+{}
