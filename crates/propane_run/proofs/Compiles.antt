@@ -1,99 +1,48 @@
--- A configuration that was written is right.
-use Rattle.std.proofs.Common.{◌≡◌, ℕ, List, [], ◌∷◌, Option, Some, None, Result, Ok, Err, Bool, true, false, refl, sym, ap}
-use Rattle.std.specs.Prelude.{if◌then◌else◌}
+-- What a run has written is right: a configuration, or the line of a refusal.
+use Rattle.std.proofs.Common.{◌≡◌, ◌≢◌, ℕ, List, [], ◌∷◌, Option, Some, Ok, inl, inr, ap}
 use Rattle.net_base.specs.Network.{PlainNet}
-use Rattle.net_base.specs.Prefixes.{PlainPrefix, IsPrefix}
-use Rattle.net_base.specs.Steps.{or_fault}
 use Rattle.path_words.specs.Policies.{PlainPolicy}
-use Rattle.config_text.specs.ConfigText.{config_text}
-use Rattle.first_form.specs.First.{First, is_first_net, first_config, first_of, form_of, IsFirstPolicy}
-use Rattle.first_form.specs.declared.not_yet.NotYet.{NotYet}
-use Rattle.first_form.specs.declared.not_yet.NotYet.TheVariants.{Topology, Policy}
-use Rattle.first_form.proofs.FirstPolicies.{first_of-IsFirstPolicy}
-use Rattle.first_form.proofs.TwoRight.{first_right}
-use Rattle.policy_tokens.specs.declared.fault.PolicyFault.{PolicyFault}
-use Rattle.policy_parser.specs.Spelled.{spelled as policy_spelled}
-use Rattle.policy_parser.proofs.SpelledPrefixes.{HavePrefixes, spelled-HavePrefixes}
-use Rattle.topology.specs.declared.fault.TopoFault.{TopoFault}
+use Rattle.regret_law.proofs.ExistenceLaw.{stable_outcomes_exist}
+use Rattle.regret_law.proofs.RightLaw.{passing_evidence_is_right}
 use Rattle.topology.specs.Topology.{spelled}
 use Rattle.topology.proofs.TextLaws.{net_read}
 use Rattle.propane_run.specs.declared.command.Command.{Command}
 use Rattle.propane_run.specs.declared.command.Command.TheVariants.{Compile}
-use Rattle.propane_run.specs.Said.{Said, text, Whole}
+use Rattle.propane_run.specs.declared.outcome.Status.TheVariants.{BadInput, Refused}
+use Rattle.propane_run.specs.Said.{Said, text, line, Whole}
 use Rattle.propane_run.specs.Words.{words_are, word_at, names_read}
 use Rattle.propane_run.specs.Reading.{Holds, IsHeld, AllHeld}
-use Rattle.propane_run.specs.Run.{job, Comes}
-use Rattle.propane_run.specs.Compiled.{compiled, compiled_net, compiled_policy, compiled_form}
-use Rattle.propane_run.specs.Headline.{CompilesRight}
-
--- ---- what a text of `compile` comes from
-
-pub record Made (topology policy_text b : List ℕ) : Type 0 where
-  pub net : PlainNet
-  pub policy : PlainPolicy
-  pub first : First
-  pub net_spelled : spelled topology ≡ Ok net
-  pub policy_is : policy_spelled net policy_text ≡ Ok policy
-  pub form : form_of net policy ≡ Ok first
-  pub is_text : b ≡ config_text (first_config net first.prefix first.router)
+use Rattle.propane_run.specs.Run.{Job, Comes}
+use Rattle.propane_run.specs.Compiled.{Says, SaysForNet, SaysOfPolicy}
+use Rattle.propane_run.specs.Headline.{AsksFor, CompilesRight, RefusesRight}
+use Rattle.policy_law.proofs.ReadPolicies.{read_policies_fit}
 
 status_of : (a b : Said) → a ≡ b → a.status ≡ b.status
 status_of a b e = ap (λ (w : Said). w.status) e
 
-made_form : (topology policy_text b : List ℕ) (net : PlainNet) (policy : PlainPolicy) (r : Result First NotYet) → spelled topology ≡ Ok net → policy_spelled net policy_text ≡ Ok policy
-    → form_of net policy ≡ r → compiled_form net r ≡ text b → Made topology policy_text b
-made_form topology policy_text b net policy (Err what) net_is policy_is form h = absurd (let s = status_of _ _ h in cc)
-made_form topology policy_text b net policy (Ok first) net_is policy_is form h = record {
-  net = net;
-  policy = policy;
-  first = first;
-  net_spelled = net_is;
-  policy_is = policy_is;
-  form = form;
-  is_text = sym (ap (λ (w : Said). w.to_out) h);
-}
+out_of : (a b : Said) → a ≡ b → a.to_out ≡ b.to_out
+out_of a b e = ap (λ (w : Said). w.to_out) e
 
-made_policy : (topology policy_text b : List ℕ) (net : PlainNet) (r : Result PlainPolicy PolicyFault) → spelled topology ≡ Ok net → policy_spelled net policy_text ≡ r
-    → compiled_policy net r ≡ text b → Made topology policy_text b
-made_policy topology policy_text b net (Err fault) net_is policy_is h = absurd (let s = status_of _ _ h in cc)
-made_policy topology policy_text b net (Ok policy) net_is policy_is h = made_form topology policy_text b net policy (form_of net policy) net_is policy_is refl h
+err_of : (a b : Said) → a ≡ b → a.to_err ≡ b.to_err
+err_of a b e = ap (λ (w : Said). w.to_err) e
 
-made_net : (topology policy_text b : List ℕ) (r : Result PlainNet TopoFault) → spelled topology ≡ r → compiled_net r policy_text ≡ text b → Made topology policy_text b
-made_net topology policy_text b (Err fault) is h = absurd (let s = status_of _ _ h in cc)
-made_net topology policy_text b (Ok net) is h = made_policy topology policy_text b net (policy_spelled net policy_text) is refl h
+-- ---- for which network and policy a thing is said that isn't about the texts
 
-made : (topology policy_text b : List ℕ) → compiled topology policy_text ≡ text b → Made topology policy_text b
-unfolding compiled
-made topology policy_text b h = made_net topology policy_text b (spelled topology) refl h
+pub record SaidFor (holds : Holds) (words : List (List ℕ)) (what : Said) : Type 0 where
+  pub net : PlainNet
+  pub policy : PlainPolicy
+  pub asked : AsksFor holds words net policy
+  pub says : SaysOfPolicy net policy what
 
--- ---- what the first form gives
-
-found : (o : Option First) (first : First) → or_fault Policy o ≡ Ok first → o ≡ Some first
-found (Some f) first h = cc
-found None first h = absurd (cc)
-
-form_if : (net : PlainNet) (policy : PlainPolicy) (t : Bool) (first : First) → is_first_net net ≡ t → (if t then or_fault Policy (first_of policy) else Err Topology) ≡ Ok first
-    → (is_first_net net ≡ true) × (first_of policy ≡ Some first)
-form_if net policy true first is h = (is, found (first_of policy) first h)
-form_if net policy false first is h = absurd (cc)
-
-form_parts : (net : PlainNet) (policy : PlainPolicy) (first : First) → form_of net policy ≡ Ok first → (is_first_net net ≡ true) × (first_of policy ≡ Some first)
-unfolding form_of
-form_parts net policy first h = form_if net policy (is_first_net net) first refl h
-
-first_prefix : (policy : PlainPolicy) (prefix : PlainPrefix) (x : ℕ) → HavePrefixes policy.origins → IsFirstPolicy policy prefix x → IsPrefix prefix
-first_prefix policy prefix x have first = (rw first.origin.1 at have).0
-
--- ---- the headline
-
-module _ {O : Type 0} (holds : Holds) (taken : O → Option (List ℕ)) (words : List (List ℕ)) (out out' : O) where
-  from_made : (t p : ℕ) (topology policy_text b : List ℕ) → words_are words ≡ Some (Compile t p) → IsHeld holds (word_at words t) topology → IsHeld holds (word_at words p) policy_text
-      → Made topology policy_text b → Whole taken b out out' → CompilesRight holds taken words out out'
-  from_made t p topology policy_text b asks topology_held policy_held m written =
-      let parts = form_parts m.net m.policy m.first m.form in
-      let first = first_of-IsFirstPolicy m.policy m.first parts.1 in
-      let prefix = first_prefix m.policy m.first.prefix m.first.router (spelled-HavePrefixes m.net policy_text m.policy m.policy_is) first in
-      record {
+module _ (holds : Holds) (words : List (List ℕ)) (what : Said) (lawful : what.status ≢ BadInput) where
+  module _ (t p : ℕ) (asks : words_are words ≡ Some (Compile t p)) (topology policy_text : List ℕ)
+      (topology_held : IsHeld holds (word_at words t) topology) (policy_held : IsHeld holds (word_at words p) policy_text) where
+    for_net : (net : PlainNet) → spelled topology ≡ Ok net → SaysForNet net policy_text what → SaidFor holds words what
+    for_net net net_is (inl h) = absurd (lawful (status_of _ _ h.2))
+    for_net net net_is (inr h) = record {
+      net = net;
+      policy = h.0;
+      asked = record {
         topology_place = t;
         policy_place = p;
         asked = asks;
@@ -101,21 +50,55 @@ module _ {O : Type 0} (holds : Holds) (taken : O → Option (List ℕ)) (words :
         policy_text = policy_text;
         topology_held = topology_held;
         policy_held = policy_held;
-        net = m.net;
-        policy = m.policy;
-        config = first_config m.net m.first.prefix m.first.router;
-        net_spelled = m.net_spelled;
-        policy_spelled = m.policy_is;
-        written = rw m.is_text at written;
-        right = first_right m.net m.policy m.first.prefix m.first.router (net_read topology m.net m.net_spelled) parts.0 prefix first;
-      }
+        net_spelled = net_is;
+        policy_spelled = h.1;
+      };
+      says = h.2;
+    }
 
-  from_job : (c : Command) (bs : List (List ℕ)) (b : List ℕ) → words_are words ≡ Some c → AllHeld holds (names_read words c) bs → job c bs ≡ text b
-      → Whole taken b out out' → CompilesRight holds taken words out out'
-  from_job (Compile t p) [] b asks held says written = absurd (let s = status_of _ _ says in cc)
-  from_job (Compile t p) (x ∷ []) b asks held says written = absurd (let s = status_of _ _ says in cc)
-  from_job (Compile t p) (x ∷ y ∷ []) b asks held says written = from_made t p x y b asks held.0 held.1.0 (made x y b says) written
-  from_job (Compile t p) (x ∷ y ∷ z ∷ more) b asks held says written = absurd (let s = status_of _ _ says in cc)
+    for_texts : Says topology policy_text what → SaidFor holds words what
+    unfolding Says
+    for_texts (inl h) = absurd (lawful (status_of _ _ h.2))
+    for_texts (inr h) = for_net h.0 h.1 h.2
 
-  pub compiles_right : (c : Command) (b : List ℕ) → Comes holds words c (text b) → Whole taken b out out' → CompilesRight holds taken words out out'
-  compiles_right c b comes written = from_job c comes.bytes b comes.is comes.held comes.says written
+  for_job : (c : Command) (bs : List (List ℕ)) → words_are words ≡ Some c → AllHeld holds (names_read words c) bs → Job c bs what → SaidFor holds words what
+  for_job (Compile t p) [] asks held says = absurd says
+  for_job (Compile t p) (x ∷ []) asks held says = absurd says
+  for_job (Compile t p) (x ∷ y ∷ []) asks held says = for_texts t p asks x y held.0 held.1.0 says
+  for_job (Compile t p) (x ∷ y ∷ z ∷ more) asks held says = absurd says
+
+-- ---- the headlines
+
+module _ {S : Type 0} (holds : Holds) (words : List (List ℕ)) (taken : S → Option (List ℕ)) (before now : S) (b : List ℕ) (written : Whole taken b before now) where
+  right_of : (net : PlainNet) (policy : PlainPolicy) → AsksFor holds words net policy → SaysOfPolicy net policy (text b) → CompilesRight holds taken words before now
+  right_of net policy asks (inr h) = absurd (let s = status_of _ _ h.2 in cc)
+  right_of net policy asks (inl h) = let rules = net_read asks.topology net asks.net_spelled in let fits = read_policies_fit net asks.policy_text policy asks.policy_spelled in record {
+    net = net;
+    policy = policy;
+    asked = asks;
+    config = h.0;
+    evidence = h.1;
+    compiled = h.3;
+    right = passing_evidence_is_right net policy h.0 h.1 rules fits h.3.1;
+    outcomes = stable_outcomes_exist net policy h.0 h.1 rules fits h.3.1;
+    bytes = h.2;
+    spelled = h.4;
+    written = rw (out_of _ _ h.5) at written;
+  }
+
+  pub compiles_right : (c : Command) → Comes holds words c (text b) → CompilesRight holds taken words before now
+  compiles_right c comes = let f = for_job holds words (text b) (λ x. cc) c comes.bytes comes.is comes.held comes.says in right_of f.net f.policy f.asked f.says
+
+  refuses_of : (net : PlainNet) (policy : PlainPolicy) → AsksFor holds words net policy → SaysOfPolicy net policy (line Refused b) → RefusesRight holds taken words before now
+  refuses_of net policy asks (inl h) = absurd (let s = status_of _ _ h.5 in cc)
+  refuses_of net policy asks (inr h) = record {
+    net = net;
+    policy = policy;
+    asked = asks;
+    refusal = h.0;
+    refused = h.1;
+    written = rw (err_of _ _ h.2) at written;
+  }
+
+  pub refuses_right : (c : Command) → Comes holds words c (line Refused b) → RefusesRight holds taken words before now
+  refuses_right c comes = let f = for_job holds words (line Refused b) (λ x. cc) c comes.bytes comes.is comes.held comes.says in refuses_of f.net f.policy f.asked f.says

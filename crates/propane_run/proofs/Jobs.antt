@@ -1,44 +1,35 @@
 -- What a job may say. One lemma for each command.
-use Rattle.std.proofs.Common.{◌≡◌, ℕ, List, [], ◌∷◌, Result, Ok, Err, refl}
+use Rattle.std.proofs.Common.{◌≡◌, ℕ, List, [], ◌∷◌, inl, inr}
 use Rattle.net_base.specs.Network.{PlainNet}
 use Rattle.path_words.specs.Policies.{PlainPolicy}
-use Rattle.first_form.specs.First.{First, form_of}
-use Rattle.first_form.specs.declared.not_yet.NotYet.{NotYet}
-use Rattle.policy_tokens.specs.declared.fault.PolicyFault.{PolicyFault}
-use Rattle.policy_parser.specs.Spelled.{spelled as spelled_policy}
-use Rattle.topology.specs.declared.fault.TopoFault.{TopoFault}
-use Rattle.topology.specs.Topology.{spelled}
 use Rattle.propane_run.specs.declared.command.Command.{Command}
 use Rattle.propane_run.specs.declared.command.Command.TheVariants.{Compile}
-use Rattle.propane_run.specs.declared.outcome.Status.TheVariants.{BadInput}
-use Rattle.propane_run.specs.Said.{Said, text, line, no_memory}
-use Rattle.propane_run.specs.Compiled.{compiled, compiled_net, compiled_policy, compiled_form}
-use Rattle.propane_run.specs.Run.{job}
+use Rattle.propane_run.specs.declared.outcome.Status.TheVariants.{BadInput, Refused}
+use Rattle.propane_run.specs.Said.{Said, text, line}
+use Rattle.propane_run.specs.Compiled.{Says, SaysForNet, SaysOfPolicy}
+use Rattle.propane_run.specs.Run.{Job}
 
--- a text, a line about a text that isn't lawful, or that memory ran out
+-- a text, a line about a text that isn't lawful, or the line of a refusal
 pub data IsJobSaid (what : Said) : Type 0 where
   in_text : (b : List ℕ) → what ≡ text b → IsJobSaid what
   in_line : (l : List ℕ) → what ≡ line BadInput l → IsJobSaid what
-  in_none : what ≡ no_memory → IsJobSaid what
+  in_refusal : (l : List ℕ) → what ≡ line Refused l → IsJobSaid what
 
-compiled_form-is : (net : PlainNet) (r : Result First NotYet) → IsJobSaid (compiled_form net r)
-compiled_form-is net (Err what) = in_line _ refl
-compiled_form-is net (Ok first) = in_text _ refl
+of_policy : (net : PlainNet) (policy : PlainPolicy) (what : Said) → SaysOfPolicy net policy what → IsJobSaid what
+of_policy net policy what (inl h) = in_text _ h.5
+of_policy net policy what (inr h) = in_refusal _ h.2
 
-compiled_policy-is : (net : PlainNet) (r : Result PlainPolicy PolicyFault) → IsJobSaid (compiled_policy net r)
-compiled_policy-is net (Err fault) = in_line _ refl
-compiled_policy-is net (Ok policy) = compiled_form-is net (form_of net policy)
+for_net : (net : PlainNet) (policy_text : List ℕ) (what : Said) → SaysForNet net policy_text what → IsJobSaid what
+for_net net policy_text what (inl h) = in_line _ h.2
+for_net net policy_text what (inr h) = of_policy net h.0 what h.2
 
-compiled_net-is : (r : Result PlainNet TopoFault) (policy : List ℕ) → IsJobSaid (compiled_net r policy)
-compiled_net-is (Err fault) policy = in_line _ refl
-compiled_net-is (Ok net) policy = compiled_policy-is net (spelled_policy net policy)
+of_texts : (topology policy_text : List ℕ) (what : Said) → Says topology policy_text what → IsJobSaid what
+unfolding Says
+of_texts topology policy_text what (inl h) = in_line _ h.2
+of_texts topology policy_text what (inr h) = for_net h.0 policy_text what h.2
 
-compiled-is : (topology policy : List ℕ) → IsJobSaid (compiled topology policy)
-unfolding compiled
-compiled-is topology policy = compiled_net-is (spelled topology) policy
-
-pub job-is : (c : Command) (bs : List (List ℕ)) → IsJobSaid (job c bs)
-job-is (Compile t p) [] = in_none refl
-job-is (Compile t p) (a ∷ []) = in_none refl
-job-is (Compile t p) (a ∷ b ∷ []) = compiled-is a b
-job-is (Compile t p) (a ∷ b ∷ c ∷ bs) = in_none refl
+pub job-is : (c : Command) (bs : List (List ℕ)) (what : Said) → Job c bs what → IsJobSaid what
+job-is (Compile t p) [] what h = absurd h
+job-is (Compile t p) (a ∷ []) what h = absurd h
+job-is (Compile t p) (a ∷ b ∷ []) what h = of_texts a b what h
+job-is (Compile t p) (a ∷ b ∷ c ∷ bs) what h = absurd h

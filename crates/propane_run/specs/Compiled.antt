@@ -1,39 +1,45 @@
 -- What `compile` says of the bytes of its inputs.
-use Rattle.std.specs.Prelude.{ℕ, List, ◌++◌, Result, Ok, Err, codes}
+use Rattle.std.specs.Prelude.{◌≡◌, ◌≢◌, ◌⊎◌, ℕ, List, Ok, Err}
 use Rattle.net_base.specs.Network.{PlainNet}
 use Rattle.path_words.specs.Policies.{PlainPolicy}
+use Rattle.config_base.specs.Configs.{PlainConfig}
+use Rattle.config_base.specs.Made.{PlainCaseEvidence}
+use Rattle.config_text.specs.Spelled.{Spells}
+use Rattle.regret_law.specs.Passes.{Passes}
 use Rattle.topology.specs.declared.fault.TopoFault.{TopoFault}
 use Rattle.topology.specs.Topology.{spelled}
 use Rattle.policy_tokens.specs.declared.fault.PolicyFault.{PolicyFault}
 use Rattle.policy_parser.specs.Spelled.{spelled as policy_spelled}
-use Rattle.config_text.specs.ConfigText.{config_text}
-use Rattle.first_form.specs.First.{First, first_config, form_of}
-use Rattle.first_form.specs.declared.not_yet.NotYet.{NotYet}
-use Rattle.first_form.specs.declared.not_yet.NotYet.TheVariants.{Topology, Policy}
+use Rattle.case_core.specs.declared.refusal.CompileRefusal.{CompileRefusal}
+use Rattle.case_core.specs.declared.refusal.CompileRefusal.TheVariants as refusal
+use Rattle.compile_core.specs.Compiling.{IsMade, IsRefusal}
 use Rattle.propane_run.specs.Said.{Said, text, line}
 use Rattle.propane_run.specs.FaultLines.{topology_line, policy_line}
-use Rattle.propane_run.specs.declared.outcome.Status.TheVariants.{BadInput}
+use Rattle.propane_run.specs.RefusalLines.{refusal_line}
+use Rattle.propane_run.specs.declared.outcome.Status.TheVariants.{BadInput, Refused}
 
-abbrev pub kind_of : NotYet → List ℕ
-kind_of Topology = codes "topology"
-kind_of Policy = codes "policy"
+-- The configuration is what is made of the policy, and its evidence passes.
+abbrev pub IsCompiled : PlainNet → PlainPolicy → PlainConfig → List PlainCaseEvidence → Type 0
+IsCompiled net policy config evidence = IsMade net policy config evidence × Passes net policy config evidence
 
--- what is said of a lawful text that isn't compiled yet
-abbrev pub not_yet : NotYet → Said
-not_yet what = line BadInput (codes "propane: " ++ kind_of what ++ codes " not-yet\n")
+-- The policy is to be refused for this, which isn't want of memory.
+abbrev pub IsRefusedFor : PlainNet → PlainPolicy → CompileRefusal → Type 0
+IsRefusedFor net policy e = IsRefusal net policy e × (e ≢ refusal.NoMemory)
 
-abbrev pub compiled_form : PlainNet → Result First NotYet → Said
-compiled_form net (Err what) = not_yet what
-compiled_form net (Ok first) = text (config_text (first_config net first.prefix first.router))
+-- a text that spells a configuration which is compiled from the policy, or the line of a refusal that applies to it
+abbrev pub SaysOfPolicy : PlainNet → PlainPolicy → Said → Type 0
+SaysOfPolicy net policy what =
+    ((config : PlainConfig) × (evidence : List PlainCaseEvidence) × (bytes : List ℕ) × IsCompiled net policy config evidence × Spells bytes config × (what ≡ text bytes))
+    ⊎ (e : CompileRefusal) × IsRefusedFor net policy e × (what ≡ line Refused (refusal_line net e))
 
-abbrev pub compiled_policy : PlainNet → Result PlainPolicy PolicyFault → Said
-compiled_policy net (Err fault) = line BadInput (policy_line fault)
-compiled_policy net (Ok policy) = compiled_form net (form_of net policy)
+-- the line of the fault of the policy's text, or what is said of the policy
+abbrev pub SaysForNet : PlainNet → List ℕ → Said → Type 0
+SaysForNet net policy_text what =
+    ((fault : PolicyFault) × (policy_spelled net policy_text ≡ Err fault) × (what ≡ line BadInput (policy_line fault)))
+    ⊎ (policy : PlainPolicy) × (policy_spelled net policy_text ≡ Ok policy) × SaysOfPolicy net policy what
 
-abbrev pub compiled_net : Result PlainNet TopoFault → List ℕ → Said
-compiled_net (Err fault) policy = line BadInput (topology_line fault)
-compiled_net (Ok net) policy = compiled_policy net (policy_spelled net policy)
-
--- The topology is read, and then the policy for its network; then the configuration's text, or what is wrong first.
-unfoldable pub compiled : List ℕ → List ℕ → Said
-compiled topology policy = compiled_net (spelled topology) policy
+-- The topology is read, and then the policy for its network; then the policy is compiled or refused. What is wrong first is said.
+unfoldable pub Says : List ℕ → List ℕ → Said → Type 0
+Says topology policy_text what =
+    ((fault : TopoFault) × (spelled topology ≡ Err fault) × (what ≡ line BadInput (topology_line fault)))
+    ⊎ (net : PlainNet) × (spelled topology ≡ Ok net) × SaysForNet net policy_text what

@@ -4,6 +4,7 @@ pub mod FaultLines
 pub mod Headline
 pub mod NetRead
 pub mod Reading
+pub mod RefusalLines
 pub mod Run
 pub mod Said
 pub mod Words

@@ -1,5 +1,5 @@
 -- What comes of reading names.
-use Rattle.std.specs.Prelude.{◌≡◌, ◌⊎◌, ℕ, ◌≤◌, ◌<◌, List, [], ◌∷◌, ◌++◌, length, nat_lt, Option, Some, option_and_then, IfSome, codes, if◌then◌else◌}
+use Rattle.std.specs.Prelude.{◌≡◌, ◌⊎◌, ℕ, ◌≤◌, ◌<◌, List, [], ◌∷◌, ◌++◌, length, Option, Some, IsSome, IfSome, codes}
 use Rattle.propane_run.specs.Said.{Said, line, no_memory}
 use Rattle.propane_run.specs.declared.outcome.Status.TheVariants.{ReadFault, BadInput}
 
@@ -47,8 +47,14 @@ AllHeld holds [] [] = Unit {0}
 AllHeld holds (n ∷ ns) (b ∷ bs) = IsHeld holds n b × AllHeld holds ns bs
 AllHeld holds _ _ = ⊥
 
--- What is to be said where all is told: of the first name that holds too much, or else of the bytes.
-abbrev pub said_of_bytes : Holds → List (List ℕ) → (List (List ℕ) → Said) → Option Said
-said_of_bytes holds [] next = Some (next [])
-said_of_bytes holds (n ∷ ns) next =
-    option_and_then (λ b. if nat_lt most (length b) then Some (too_long n) else said_of_bytes holds ns (λ bs. next (b ∷ bs))) (holds n)
+-- the bytes of each name are told
+abbrev pub AreTold : Holds → List (List ℕ) → Type 0
+AreTold holds [] = Unit {0}
+AreTold holds (n ∷ ns) = IsSome (holds n) × AreTold holds ns
+
+-- What is to be said where all is told: of the first name that holds too much, or else what comes of the bytes.
+abbrev pub SaidOfTold : Holds → List (List ℕ) → (List (List ℕ) → Said → Type 0) → Said → Type 0
+SaidOfTold holds [] next what = next [] what
+SaidOfTold holds (n ∷ ns) next what =
+    (bytes : List ℕ) × (holds n ≡ Some bytes)
+    × ((most < length bytes) × (what ≡ too_long n) ⊎ (length bytes ≤ most) × SaidOfTold holds ns (λ bs. next (bytes ∷ bs)) what)

@@ -3,22 +3,22 @@ use Rattle.std.specs.Prelude.{◌≡◌, ◌⊎◌, ℕ, List, [], ◌∷◌, Op
 use Rattle.propane_run.specs.declared.command.Command.{Command}
 use Rattle.propane_run.specs.declared.command.Command.TheVariants.{Compile}
 use Rattle.propane_run.specs.Words.{words_are, names_read}
-use Rattle.propane_run.specs.Reading.{Holds, ReadsAll, AllHeld, said_of_bytes}
-use Rattle.propane_run.specs.Compiled.{compiled}
+use Rattle.propane_run.specs.Reading.{Holds, ReadsAll, AllHeld}
+use Rattle.propane_run.specs.Compiled.{Says}
 use Rattle.propane_run.specs.Said.{Said, no_memory, usage}
 
--- what a command says of the bytes that it read
-abbrev pub job : Command → List (List ℕ) → Said
-job (Compile t p) (topology ∷ policy ∷ []) = compiled topology policy
-job _ _ = no_memory
+-- what a command says of the bytes that it read, one for each of its names
+abbrev pub Job : Command → List (List ℕ) → Said → Type 0
+Job (Compile t p) (topology ∷ policy ∷ []) what = Says topology policy what
+Job (Compile t p) _ what = ⊥
 
--- this is said, unless memory ran out
-abbrev pub IsGiven : Said → Said → Type 0
-IsGiven wanted what = (what ≡ no_memory) ⊎ (what ≡ wanted)
+-- such a thing is said, unless memory ran out
+abbrev pub IsGiven : (Said → Type 0) → Said → Type 0
+IsGiven Wanted what = (what ≡ no_memory) ⊎ Wanted what
 
 abbrev pub IsAnswerOf : Holds → (List ℕ → Type 0) → List (List ℕ) → Option Command → Said → Type 0
 IsAnswerOf holds rose words None what = what ≡ usage
-IsAnswerOf holds rose words (Some c) what = ReadsAll holds rose (names_read words c) (λ bs. IsGiven (job c bs)) what
+IsAnswerOf holds rose words (Some c) what = ReadsAll holds rose (names_read words c) (λ bs. IsGiven (Job c bs)) what
 
 -- The words are judged; the names of a command are read in order; its job says what their bytes come to.
 abbrev pub IsAnswer : Holds → (List ℕ → Type 0) → List (List ℕ) → Said → Type 0
@@ -34,8 +34,4 @@ pub record Comes (holds : Holds) (words : List (List ℕ)) (c : Command) (what :
   pub is : words_are words ≡ Some c
   pub bytes : List (List ℕ)
   pub held : AllHeld holds (names_read words c) bytes
-  pub says : job c bytes ≡ what
-
--- what a run is to say where all that its command reads is told
-abbrev pub said_where_told : Holds → List (List ℕ) → Command → Option Said
-said_where_told holds words c = said_of_bytes holds (names_read words c) (job c)
+  pub says : Job c bytes what

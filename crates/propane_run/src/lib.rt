@@ -2,11 +2,16 @@
 #![tactic(auto)]
 
 ghost use Rattle.std.specs.Prelude.{◌≡◌, ◌≢◌, ◌⊎◌, ◌<◌, ℕ, List, Some, None, IfSome, length, map, string_bytes};
+ghost use Rattle.net_base.specs.Network.{PlainNet};
 ghost use Rattle.outside.specs.Outside.{Rose};
-ghost use Rattle.propane_run.specs.Clauses.{FaultFound};
-ghost use Rattle.propane_run.specs.Headline.{CompilesRight};
-ghost use Rattle.propane_run.specs.Reading.{unread};
-ghost use Rattle.propane_run.specs.Run.{IsAnswer, IsAmong, Comes, said_where_told};
+ghost use Rattle.path_words.specs.Policies.{PlainPolicy};
+ghost use Rattle.case_core.specs.declared.refusal.CompileRefusal.{CompileRefusal};
+ghost use Rattle.propane_run.specs.Clauses.{FaultFound, IsSmooth};
+ghost use Rattle.propane_run.specs.Compiled.{IsRefusedFor};
+ghost use Rattle.propane_run.specs.Headline.{AsksFor, CompilesRight, RefusesRight};
+ghost use Rattle.propane_run.specs.Reading.{unread, SaidOfTold};
+ghost use Rattle.propane_run.specs.RefusalLines.{refusal_line as line_of_refusal};
+ghost use Rattle.propane_run.specs.Run.{IsAnswer, IsAmong, Comes, Job};
 ghost use Rattle.propane_run.specs.Said.{Said, said, text, usage, Delivered, Whole, Part};
 ghost use Rattle.propane_run.specs.Words.{words_are, names_read, word_at};
 
@@ -16,6 +21,7 @@ mod deliver;
 mod fault_lines;
 mod outcome;
 mod reading;
+mod refusal_lines;
 
 pub use command::{Command, words_of};
 pub use outcome::Status;
@@ -77,9 +83,14 @@ pub fn run<I: Inputs, O: Sink, E: Sink>(
         × IsAnswer (I.holds inputs.old) (λ n. Rose (I.faults inputs.old n) (I.faults inputs.new n)) (map string_bytes words.now) what
         × Delivered O.taken O.faults E.taken E.faults what out.old out.new err.old err.new result }
 
-    // On Done the configuration that was written is right for the network and the policy that the inputs spell.
+    // On Done the configuration that was written is compiled from the network and the policy that the inputs spell, and
+    // is right for them.
     ensures right { result ≡ Status.Done
         → CompilesRight (I.holds inputs.old) O.taken (map string_bytes words.now) out.old out.new }
+
+    // Refused only where the inputs spell a network and a policy to which the refusal applies that the line tells.
+    ensures refused { result ≡ Status.Refused
+        → RefusesRight (I.holds inputs.old) E.taken (map string_bytes words.now) err.old err.new × (out.new ≡ out.old) }
 
     // On Done `out` grew by exactly the text that the bytes of the inputs come to, and `err` is untouched.
     ensures done { result ≡ Status.Done → (c : Command) × (bytes : List ℕ)
@@ -113,17 +124,28 @@ pub fn run<I: Inputs, O: Sink, E: Sink>(
     // Want of memory writes nothing.
     ensures no_memory { result ≡ Status.NoMemory → (out.new ≡ out.old) × (err.new ≡ err.old) }
 
-    // No command refuses a policy or checks evidence yet.
-    ensures not_refused { result ≢ Status.Refused }
+    // No command checks evidence yet.
     ensures not_failing { result ≢ Status.CheckFails }
 
-    // Where all that a command reads is told and no count rises, the run says what the bytes come to, or memory ran out.
-    ensures complete { (c : Command) (wanted : Said) → words_are (map string_bytes words.now) ≡ Some c
-        → said_where_told (I.holds inputs.old) (map string_bytes words.now) c ≡ Some wanted
-        → ((name : List ℕ) → IsAmong (names_read (map string_bytes words.now) c) name → ¬ Rose (I.faults inputs.old name) (I.faults inputs.new name))
-        → ¬ Rose (O.faults out.old) (O.faults out.new) → ¬ Rose (E.faults err.old) (E.faults err.new)
-        → (result ≡ Status.NoMemory) ⊎ (result ≡ wanted.status)
-        × Whole O.taken wanted.to_out out.old out.new × Whole E.taken wanted.to_err err.old err.new }
+    // Where all that a command reads is told and nothing fails, the run says what the bytes come to, or memory ran out.
+    ensures complete { (c : Command)
+        → IsSmooth (I.holds inputs.old) (λ n. Rose (I.faults inputs.old n) (I.faults inputs.new n)) (Rose (O.faults out.old) (O.faults out.new)) (Rose (E.faults err.old) (E.faults err.new)) (map string_bytes words.now) c
+        → (result ≡ Status.NoMemory)
+        ⊎ (wanted : Said) × SaidOfTold (I.holds inputs.old) (names_read (map string_bytes words.now) c) (Job c) wanted
+        × (result ≡ wanted.status) × Whole O.taken wanted.to_out out.old out.new × Whole E.taken wanted.to_err err.old err.new }
+
+    // There a policy to which a refusal applies is refused, and the line tells that refusal, or memory ran out.
+    ensures refused_where { (c : Command) (net : PlainNet) (policy : PlainPolicy) (e : CompileRefusal)
+        → IsSmooth (I.holds inputs.old) (λ n. Rose (I.faults inputs.old n) (I.faults inputs.new n)) (Rose (O.faults out.old) (O.faults out.new)) (Rose (E.faults err.old) (E.faults err.new)) (map string_bytes words.now) c
+        → AsksFor (I.holds inputs.old) (map string_bytes words.now) net policy → IsRefusedFor net policy e
+        → (result ≡ Status.NoMemory)
+        ⊎ (result ≡ Status.Refused) × Whole E.taken (line_of_refusal net e) err.old err.new × (out.new ≡ out.old) }
+
+    // And a policy to which none applies is compiled, or memory ran out.
+    ensures compiled_where { (c : Command) (net : PlainNet) (policy : PlainPolicy)
+        → IsSmooth (I.holds inputs.old) (λ n. Rose (I.faults inputs.old n) (I.faults inputs.new n)) (Rose (O.faults out.old) (O.faults out.new)) (Rose (E.faults err.old) (E.faults err.new)) (map string_bytes words.now) c
+        → AsksFor (I.holds inputs.old) (map string_bytes words.now) net policy → ((e : CompileRefusal) → ¬ IsRefusedFor net policy e)
+        → (result ≡ Status.NoMemory) ⊎ (result ≡ Status.Done) }
 {
     run_whole(alloc, words, inputs, out, err)
 }

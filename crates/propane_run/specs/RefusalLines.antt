@@ -1,0 +1,62 @@
+-- What is said of a policy that is refused.
+use Rattle.std.specs.Prelude.{ℕ, List, [], ◌++◌, codes}
+use Rattle.std.specs.Fmt.{decimal}
+use Rattle.std.specs.List.{flat_map}
+use Rattle.net_base.specs.Network.{PlainNet}
+use Rattle.config_made.specs.Writing.{name_of}
+use Rattle.case_core.specs.declared.refusal.CompileRefusal.{CompileRefusal}
+use Rattle.case_core.specs.declared.refusal.CompileRefusal.TheVariants.{TooManyRanks, TooManyStates, TooManySteps, SourceWithoutPath, MixedSource, NoEvidence, TooManyTags, NoMemory}
+
+-- the number of a refusal: a case is judged in this order
+abbrev pub refusal_number : CompileRefusal → ℕ
+refusal_number (TooManyRanks k count) = 1
+refusal_number (TooManyStates k) = 2
+refusal_number (TooManySteps k) = 3
+refusal_number (SourceWithoutPath k r) = 4
+refusal_number (MixedSource k r with without) = 5
+refusal_number (NoEvidence k g) = 6
+refusal_number (TooManyTags r) = 7
+refusal_number NoMemory = 0
+
+-- its word
+abbrev pub refusal_word : CompileRefusal → List ℕ
+refusal_word (TooManyRanks k count) = codes "too-many-ranks"
+refusal_word (TooManyStates k) = codes "too-many-states"
+refusal_word (TooManySteps k) = codes "too-many-steps"
+refusal_word (SourceWithoutPath k r) = codes "source-without-path"
+refusal_word (MixedSource k r with without) = codes "mixed-source"
+refusal_word (NoEvidence k g) = codes "no-evidence"
+refusal_word (TooManyTags r) = codes "too-many-tags"
+refusal_word NoMemory = codes "no-memory"
+
+abbrev pub case_text : ℕ → List ℕ
+case_text k = codes " case " ++ decimal k
+
+abbrev pub router_text : PlainNet → ℕ → List ℕ
+router_text net r = codes " router " ++ name_of net r
+
+-- a location's name after a space
+abbrev pub next_name : PlainNet → ℕ → List ℕ
+next_name net l = codes " " ++ name_of net l
+
+-- the names along a walk, each after a space
+abbrev pub walk_text : PlainNet → List ℕ → List ℕ
+walk_text net walk = flat_map (next_name net) walk
+
+abbrev pub walks_text : PlainNet → List ℕ → List ℕ → List ℕ
+walks_text net with without = codes " with" ++ walk_text net with ++ codes " without" ++ walk_text net without
+
+-- its values, each after its name
+abbrev pub refusal_values : PlainNet → CompileRefusal → List ℕ
+refusal_values net (TooManyRanks k count) = case_text k ++ codes " number " ++ decimal count
+refusal_values net (TooManyStates k) = case_text k
+refusal_values net (TooManySteps k) = case_text k
+refusal_values net (SourceWithoutPath k r) = case_text k ++ router_text net r
+refusal_values net (MixedSource k r with without) = case_text k ++ router_text net r ++ walks_text net with without
+refusal_values net (NoEvidence k g) = case_text k
+refusal_values net (TooManyTags r) = router_text net r
+refusal_values net NoMemory = []
+
+-- The line that tells a refusal: its number, its word and its values. Locations are told by their names in the network.
+unfoldable pub refusal_line : PlainNet → CompileRefusal → List ℕ
+refusal_line net e = codes "propane: refused " ++ decimal (refusal_number e) ++ codes " " ++ refusal_word e ++ refusal_values net e ++ codes "\n"
