@@ -1,5 +1,7 @@
+mod compiled;
 mod limits;
 mod policies;
+mod refused;
 mod topologies;
 
 use outside::{CountSink, MemInputs, MemSink, NoMemory, SureInputs};
@@ -60,6 +62,16 @@ fn compiles(
     let mut err = MemSink::new(alloc, 4096, 7)?;
     let status = run(alloc, &words, &mut inputs, &mut out, &mut err);
     Ok(status == wanted && out.taken() == out_wanted && err.taken() == err_wanted)
+}
+
+// Whether both texts are lawful: the policy is compiled or refused.
+fn is_lawful(alloc: Global, topology: &[u8], policy: &[u8]) -> Result<bool, NoMemory> {
+    let words = words_of(alloc, &["compile", "t.json", "p.propane"])?;
+    let mut inputs = inputs_of(alloc, topology, policy)?;
+    let mut out = CountSink::new();
+    let mut err = CountSink::new();
+    let status = run(alloc, &words, &mut inputs, &mut out, &mut err);
+    Ok(matches!(status, Status::Done | Status::Refused))
 }
 
 // One run of `compile` that ends with BadInput: whether it told this line and wrote nothing.

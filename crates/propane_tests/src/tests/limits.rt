@@ -1,5 +1,5 @@
 //! Policies at each limit, which are read, and one past it, which are refused.
-use super::refuses;
+use super::{is_lawful, refuses};
 use outside::NoMemory;
 use std::alloc::Global;
 use std::test::Fail;
@@ -11,7 +11,7 @@ const EIGHT: &[u8] =
 
 // Whether the text is read.
 fn is_read(alloc: Global, text: &[u8]) -> Result<bool, NoMemory> {
-    refuses(alloc, EIGHT, text, b"propane: topology not-yet\n")
+    is_lawful(alloc, EIGHT, text)
 }
 
 // A text with a part that stands many times.
