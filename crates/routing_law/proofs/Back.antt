@@ -2,6 +2,7 @@
 use Rattle.std.proofs.Common.{◌≡◌, ℕ, ◌≤◌, Bool, true, false, cond, ◌∷◌, Option, Some, None, refl, sym, ap, ◌∙◌, subst}
 use Rattle.std.specs.Option.{option_map}
 use Rattle.std.proofs.lemmas.Option.{same_Some}
+use Rattle.list_laws.proofs.Options.{option_map_parts, when_parts}
 use Rattle.routing_law.specs.Graph.{Graph, MeetsRules, run}
 use Rattle.routing_law.specs.Laws.{GraphIsLines, OutcomeExists, OutcomeIsUnique}
 use Rattle.routing_law.specs.Lines.{LineRoute, LineRoutes, Lines, LinesFullyStable, LinesNoLater, LinesStable, Tag, own_line}
@@ -10,7 +11,6 @@ use Rattle.routing_law.specs.Outcome.{FullyStable, NoLater, Route, Routes, Same,
 use Rattle.routing_law.specs.Spells.{Written}
 use Rattle.routing_law.proofs.Bridge.{graph_stable, same_routes, tied_nodes}
 use Rattle.routing_law.proofs.Heard.{chooses_from, chooses_parts, not_live, own_parts}
-use Rattle.routing_law.proofs.Options.{map_some, when_some}
 use Rattle.routing_law.proofs.Rounds.{exists}
 use Rattle.routing_law.proofs.Sound.{backed, route_is, sound}
 use Rattle.routing_law.proofs.Tied.{Behind, Tied, given_down, given_up, own_down}
@@ -42,7 +42,7 @@ module _ (w : Setup) (tag : ℕ → Tag) (c : Lines) (s : Routes) where
   -- the graph's route behind one of the lines
   route_of : (v : ℕ) (x : LineRoute) → w.net.origin v ≡ false → with_tags w tag c s v ≡ Some x → (y : Route) × (s v ≡ Some y) × Same w.graph tag x y
   route_of v x o h =
-      let a = map_some (with_tag w.graph tag) (s v) x (sym (tags_elsewhere v o) ∙ h) in
+      let a = option_map_parts (with_tag w.graph tag) (s v) x (sym (tags_elsewhere v o) ∙ h) in
       (a.0, a.1, record { path_is = ap (λ (y : LineRoute). y.path) (sym a.2); tag_is = ap (λ (y : LineRoute). y.tag) (sym a.2); pref_is = ap (λ (y : LineRoute). y.pref) (sym a.2) })
 
 module _ (w : Setup) (tag : ℕ → Tag) (c : Lines) (s : Routes) (written : Written w.net w.graph tag c) (full : FullyStable w s) where
@@ -58,7 +58,7 @@ module _ (w : Setup) (tag : ℕ → Tag) (c : Lines) (s : Routes) (written : Wri
     where
       down : (u v : ℕ) (z : LineRoute) → w.net.router u ≡ true → with_tags w tag c s u ≡ Some z → c.exported u v z.tag ≡ true → (b : Bool) → w.net.origin u ≡ b → Behind w tag s u z
       down u v z ro h ex true o =
-          let a = when_some (w.alive.live u) (Some (own_line c u)) z (sym (tags_at_origin w tag c s u o) ∙ h) in
+          let a = when_parts (w.alive.live u) (Some (own_line c u)) z (sym (tags_at_origin w tag c s u o) ∙ h) in
           own_down w tag c written (with_tags w tag c s) s u v z ro o a.0 (full.stable.own u o) (same_Some (own_line c u) z a.1) ex
       down u v z ro h ex false o =
           let a = route_of w tag c s u z o h in

@@ -3,6 +3,7 @@ use Rattle.std.proofs.Common.{◌≡◌, ℕ, ◌≤◌, Bool, true, false, List
 use Rattle.std.specs.Option.{option_map, option_and_then}
 use Rattle.std.proofs.lemmas.Bool.{false≢true}
 use Rattle.std.proofs.lemmas.Option.{same_Some}
+use Rattle.list_laws.proofs.Options.{option_and_then_parts}
 use Rattle.routing_law.specs.Graph.{run}
 use Rattle.routing_law.specs.Laws.{LinesAreGraph}
 use Rattle.routing_law.specs.Lines.{LineRoute, LineRoutes, Lines, LinesStable, Tag, line_heard, own_line}
@@ -10,7 +11,6 @@ use Rattle.routing_law.specs.Network.{chooses}
 use Rattle.routing_law.specs.Outcome.{Route, Same, SameRoutes, Setup, Stable, heard, own_route, with_node, with_nodes}
 use Rattle.routing_law.specs.Spells.{Written}
 use Rattle.routing_law.proofs.Heard.{chooses_from, chooses_parts, own_parts}
-use Rattle.routing_law.proofs.Options.{bind_some}
 use Rattle.routing_law.proofs.Sound.{Backed}
 use Rattle.routing_law.proofs.Tied.{Behind, Given, Tied, given_up, heard_down, own_down}
 
@@ -98,7 +98,7 @@ module _ (w : Setup) (tag : ℕ → Tag) (c : Lines) (r : LineRoutes) (written :
   chosen_up : (v : ℕ) (y : Route) → chooses w.net w.alive v ≡ true → with_nodes w r v ≡ Some y → (x : LineRoute) × (u : ℕ) × (r v ≡ Some x) × (heard w (with_nodes w r) v u ≡ Some y) × Same w.graph tag x y
   chosen_up v y k h =
       let a = chooses_parts w v k in
-      let b = bind_some (with_node w.graph) (r v) y (sym (nodes_at_router w r v a.2 a.0) ∙ h) in
+      let b = option_and_then_parts (with_node w.graph) (r v) y (sym (nodes_at_router w r v a.2 a.0) ∙ h) in
       let d = chosen v b.0 k b.1 in
       let same : d.route ≡ y = same_Some d.route y (sym d.has ∙ h) in
       (b.0, d.from, b.1, d.gives ∙ ap Some same, subst (Same w.graph tag b.0) same d.same)

@@ -2,9 +2,9 @@
 use Rattle.std.proofs.Common.{◌≡◌, ℕ, Bool, true, false, not, ◌&&◌, [], ◌∷◌, Some, refl, sym, ap, ◌∙◌}
 use Rattle.std.specs.Option.{option_map, option_and_then}
 use Rattle.std.proofs.lemmas.Bool.{and_parts, not-true}
+use Rattle.list_laws.proofs.Options.{option_and_then_parts, option_map_parts, unless_parts, when_parts}
 use Rattle.routing_law.specs.Network.{chooses, stands_on}
 use Rattle.routing_law.specs.Outcome.{Route, Routes, Setup, extended, heard, own_route}
-use Rattle.routing_law.proofs.Options.{bind_some, map_some, unless_some, when_some}
 
 -- v is given x by u
 pub record Heard (w : Setup) (r : Routes) (v u : ℕ) (x : Route) : Type 0 where
@@ -17,10 +17,10 @@ pub record Heard (w : Setup) (r : Routes) (v u : ℕ) (x : Route) : Type 0 where
 
 pub heard_parts : (w : Setup) (r : Routes) (v u : ℕ) (x : Route) → heard w r v u ≡ Some x → Heard w r v u x
 heard_parts w r v u x h =
-    let a = when_some (w.alive.carries u v) (option_and_then (extended w v) (r u)) x h in
-    let b = bind_some (extended w v) (r u) x a.1 in
-    let c = unless_some (stands_on v b.0.path) (option_map (λ n. record { path = v ∷ b.0.path; node = n }) (w.graph.next b.0.node v)) x b.2 in
-    let d = map_some {B = Route} (λ n. record { path = v ∷ b.0.path; node = n }) (w.graph.next b.0.node v) x c.1 in
+    let a = when_parts (w.alive.carries u v) (option_and_then (extended w v) (r u)) x h in
+    let b = option_and_then_parts (extended w v) (r u) x a.1 in
+    let c = unless_parts (stands_on v b.0.path) (option_map (λ n. record { path = v ∷ b.0.path; node = n }) (w.graph.next b.0.node v)) x b.2 in
+    let d = option_map_parts {B = Route} (λ n. record { path = v ∷ b.0.path; node = n }) (w.graph.next b.0.node v) x c.1 in
     record { from = b.0; has = b.1; carries = a.0; off = c.0; step = d.1 ∙ ap (λ (y : Route). Some y.node) d.2; path = ap (λ (y : Route). y.path) (sym d.2) }
 
 pub heard_from : (w : Setup) (r : Routes) (v u : ℕ) (y : Route) (n : ℕ) → r u ≡ Some y → w.alive.carries u v ≡ true → stands_on v y.path ≡ false → w.graph.next y.node v ≡ Some n → heard w r v u ≡ Some (record { path = v ∷ y.path; node = n })
@@ -38,8 +38,8 @@ chooses_from w v a b c = rw (a, b, c)
 
 pub own_parts : (w : Setup) (v : ℕ) (x : Route) → own_route w v ≡ Some x → (w.alive.live v ≡ true) × (w.graph.start v ≡ Some x.node) × (x.path ≡ v ∷ [])
 own_parts w v x h =
-    let a = when_some (w.alive.live v) (option_map (λ s. record { path = v ∷ []; node = s }) (w.graph.start v)) x h in
-    let d = map_some {B = Route} (λ s. record { path = v ∷ []; node = s }) (w.graph.start v) x a.1 in
+    let a = when_parts (w.alive.live v) (option_map (λ s. record { path = v ∷ []; node = s }) (w.graph.start v)) x h in
+    let d = option_map_parts {B = Route} (λ s. record { path = v ∷ []; node = s }) (w.graph.start v) x a.1 in
     (a.0, d.1 ∙ ap (λ (y : Route). Some y.node) d.2, ap (λ (y : Route). y.path) (sym d.2))
 
 pub own_from : (w : Setup) (v s : ℕ) → w.alive.live v ≡ true → w.graph.start v ≡ Some s → own_route w v ≡ Some (record { path = v ∷ []; node = s })

@@ -1,4 +1,3 @@
-pub mod Options
 pub mod Runs
 pub mod Rules
 pub mod Heard

@@ -2,13 +2,13 @@
 use Rattle.std.proofs.Common.{◌≡◌, ℕ, zero, suc, ◌<◌, ◌≤◌, Bool, true, false, cond, ◌&&◌, ◌⊎◌, inl, inr, length, Option, Some, None, refl, sym, ap, ◌∙◌, subst, arith}
 use Rattle.std.specs.Option.{is_some, option_and_then}
 use Rattle.std.proofs.lemmas.Bool.{false≢true, cases_lt, eqb-true, eq-eqb}
+use Rattle.list_laws.proofs.Options.{when_parts}
 use Rattle.routing_law.specs.Graph.{WellFormed, run}
 use Rattle.routing_law.specs.Laws.{GraphOutcomeExists}
 use Rattle.routing_law.specs.Network.{chooses}
 use Rattle.routing_law.specs.Outcome.{FullyStable, NoLater, Route, Setup, heard, own_route}
 use Rattle.routing_law.specs.Settling.{SettlingEnds, Tops, Within, givers, has_number, kept, lowest, rounds, settled_by}
 use Rattle.routing_law.proofs.Heard.{Heard, chooses_parts, heard_parts, own_parts}
-use Rattle.routing_law.proofs.Options.{when_some}
 use Rattle.routing_law.proofs.Reach.{tops}
 use Rattle.routing_law.proofs.Rules.{Everywhere, everywhere}
 use Rattle.routing_law.proofs.Runs.{place_below}
@@ -29,23 +29,23 @@ no_third true false = refl
 no_third false b = refl
 
 -- v was settled after round k
-record Fresh (w : Setup) (t : Tops w) (k v : ℕ) (x : Route) : Type 0 where
-  before : rounds w t.top k v ≡ None
-  after : rounds w t.top (suc k) v ≡ Some x
-  chooses : chooses w.net w.alive v ≡ true
-  top : ℕ
-  is_top : t.top v ≡ Some top
-  from : ℕ
-  gives : heard w (rounds w t.top k) v from ≡ Some x
-  number : w.graph.number x.node ≡ w.graph.number top
-  least : (u : ℕ) (y : Route) → u < w.net.size → heard w (rounds w t.top k) v u ≡ Some y → w.graph.number y.node ≡ w.graph.number top → w.net.name from ≤ w.net.name u
+pub record Fresh (w : Setup) (t : Tops w) (k v : ℕ) (x : Route) : Type 0 where
+  pub before : rounds w t.top k v ≡ None
+  pub after : rounds w t.top (suc k) v ≡ Some x
+  pub chooses : chooses w.net w.alive v ≡ true
+  pub top : ℕ
+  pub is_top : t.top v ≡ Some top
+  pub from : ℕ
+  pub gives : heard w (rounds w t.top k) v from ≡ Some x
+  pub number : w.graph.number x.node ≡ w.graph.number top
+  pub least : (u : ℕ) (y : Route) → u < w.net.size → heard w (rounds w t.top k) v u ≡ Some y → w.graph.number y.node ≡ w.graph.number top → w.net.name from ≤ w.net.name u
 
 -- a route of round j is an origin's, or was settled in an earlier round
 abbrev Settled : (w : Setup) → Tops w → ℕ → ℕ → Route → Type 0
 Settled w t j v x = (rounds w t.top zero v ≡ Some x) ⊎ ((k : ℕ) × (k < j) × Fresh w t k v x)
 
 module _ (w : Setup) (t : Tops w) where
-  kept_on : (k v : ℕ) (x : Route) → rounds w t.top k v ≡ Some x → rounds w t.top (suc k) v ≡ Some x
+  pub kept_on : (k v : ℕ) (x : Route) → rounds w t.top k v ≡ Some x → rounds w t.top (suc k) v ≡ Some x
   kept_on k v x h = rw h
 
   later : (j k v : ℕ) (x : Route) → k ≤ j → rounds w t.top k v ≡ Some x → rounds w t.top j v ≡ Some x
@@ -56,10 +56,10 @@ module _ (w : Setup) (t : Tops w) where
       by (inl m) again = let e : k ≡ suc j = omega arith in subst (λ i. rounds w t.top i v ≡ Some x) e h
       by (inr m) again = kept_on j v x (again m h)
 
-  fresh : (k v : ℕ) (x : Route) → rounds w t.top k v ≡ None → rounds w t.top (suc k) v ≡ Some x → Fresh w t k v x
+  pub fresh : (k v : ℕ) (x : Route) → rounds w t.top k v ≡ None → rounds w t.top (suc k) v ≡ Some x → Fresh w t k v x
   fresh k v x e h =
       let a : cond (chooses w.net w.alive v) (settled_by w (rounds w t.top k) v (t.top v)) None ≡ Some x = subst (λ o. kept o (cond (chooses w.net w.alive v) (settled_by w (rounds w t.top k) v (t.top v)) None) ≡ Some x) e h in
-      let b = when_some (chooses w.net w.alive v) (settled_by w (rounds w t.top k) v (t.top v)) x a in
+      let b = when_parts (chooses w.net w.alive v) (settled_by w (rounds w t.top k) v (t.top v)) x a in
       by (t.top v) refl b.0 b.1
     where
       by_lowest : (n : ℕ) → t.top v ≡ Some n → chooses w.net w.alive v ≡ true → (o : Option ℕ) → IsLowest (givers w (rounds w t.top k) v (w.graph.number n)) w.net.name w.net.size o → option_and_then (heard w (rounds w t.top k) v) o ≡ Some x → Fresh w t k v x
@@ -84,7 +84,7 @@ module _ (w : Setup) (t : Tops w) where
       by (Some n) f c g = by_lowest n f c (lowest (givers w (rounds w t.top k) v (w.graph.number n)) w.net.name w.net.size) (lowest_is (givers w (rounds w t.top k) v (w.graph.number n)) w.net.name w.net.size) g
 
   -- what gives v its number at a time settles it
-  picks : (k v u n : ℕ) (x : Route) → chooses w.net w.alive v ≡ true → t.top v ≡ Some n → u < w.net.size → heard w (rounds w t.top k) v u ≡ Some x → w.graph.number x.node ≡ w.graph.number n → rounds w t.top (suc k) v ≡ None → ⊥
+  pub picks : (k v u n : ℕ) (x : Route) → chooses w.net w.alive v ≡ true → t.top v ≡ Some n → u < w.net.size → heard w (rounds w t.top k) v u ≡ Some x → w.graph.number x.node ≡ w.graph.number n → rounds w t.top (suc k) v ≡ None → ⊥
   picks k v u n x c f l h e g = by (rounds w t.top k v) refl
     where
       by_lowest : (o : Option ℕ) → IsLowest (givers w (rounds w t.top k) v (w.graph.number n)) w.net.name w.net.size o → option_and_then (heard w (rounds w t.top k) v) o ≡ None → ⊥
@@ -128,12 +128,12 @@ module _ (w : Setup) (t : Tops w) where
   not_chosen zero v o c = rw o
   not_chosen (suc j) v o c = rw (not_chosen j v o c, c)
 
-  heard_later : (j k v u : ℕ) (x : Route) → k ≤ j → heard w (rounds w t.top k) v u ≡ Some x → heard w (rounds w t.top j) v u ≡ Some x
+  pub heard_later : (j k v u : ℕ) (x : Route) → k ≤ j → heard w (rounds w t.top k) v u ≡ Some x → heard w (rounds w t.top j) v u ≡ Some x
   heard_later j k v u x l h =
       let a = heard_parts w (rounds w t.top k) v u x h in
       heard_again w (rounds w t.top k) (rounds w t.top j) v u x a (later j k u a.from l a.has)
 
-  backed_at : (j : ℕ) → Backed w (rounds w t.top j)
+  pub backed_at : (j : ℕ) → Backed w (rounds w t.top j)
   backed_at j = record {
     own = at_origin j;
     none = not_chosen j;
@@ -154,7 +154,7 @@ module _ (w : Setup) (t : Tops w) where
   -- after round k paths have at most k + 1 locations
   short : (k v : ℕ) (x : Route) → rounds w t.top k v ≡ Some x → length x.path ≤ suc k
   short zero v x h =
-      let a = when_some (w.net.origin v) (own_route w v) x h in
+      let a = when_parts (w.net.origin v) (own_route w v) x h in
       let b : length x.path ≡ 1 = ap length (own_parts w v x a.1).2 in
       omega arith
   short (suc k) v x h = by (rounds w t.top k v) refl (short k)

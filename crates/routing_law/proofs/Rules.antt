@@ -1,9 +1,9 @@
 -- The step rule and the loop rule at every location: at an origin there is one node.
 use Rattle.std.proofs.Common.{◌≡◌, ℕ, ◌<◌, ◌≤◌, Bool, true, false, ◌||◌, List, [], ◌∷◌, ◌++◌, inl, inr, Some, refl, sym, ap, ◌∙◌, subst, arith}
 use Rattle.std.proofs.lemmas.Bool.{false≢true}
+use Rattle.list_laws.proofs.Options.{option_and_then_parts}
 use Rattle.routing_law.specs.Graph.{AtLeast, Graph, MeetsRules, Reaches, WellFormed, follow}
 use Rattle.routing_law.specs.Network.{Network}
-use Rattle.routing_law.proofs.Options.{bind_some}
 use Rattle.routing_law.proofs.Runs.{follow_last, follow_origin}
 
 pub record Everywhere (net : Network) (g : Graph) : Type 0 where
@@ -57,7 +57,7 @@ all_more net (z ∷ zs) u a h = (a.0, all_more net zs u a.1 h)
 pub along : {net : Network} {g : Graph} → WellFormed net g → Everywhere net g → (zs : List ℕ) (m e n : ℕ) → AllRouters net zs → AtLeast g m e → follow g e zs ≡ Some n → (k : ℕ) × (follow g m zs ≡ Some k) × AtLeast g k n
 along {net} {g} wf ev [] m e n a al h = let en : e ≡ n = cc in (m, refl, subst (AtLeast g m) en al)
 along {net} {g} wf ev (z ∷ zs) m e n a al h =
-    let b = bind_some (λ j. follow g j zs) (g.next e z) n h in
+    let b = option_and_then_parts (λ j. follow g j zs) (g.next e z) n h in
     let c = ev.step m e z b.0 al a.0 b.1 in
     let here : AtLeast g c.0 b.0 = record { known = (wf.next_below m z c.0 c.1).2; other = (wf.next_below e z b.0 b.1).2; place = wf.next_place m z c.0 c.1 ∙ sym (wf.next_place e z b.0 b.1); number = c.2 } in
     let d = along wf ev zs c.0 b.0 n a.1 here b.2 in

@@ -1,9 +1,9 @@
 -- Runs of a graph along paths, and ways from node to node.
 use Rattle.std.proofs.Common.{◌≡◌, ℕ, ◌<◌, Bool, true, false, ◌&&◌, ◌||◌, ◌⊎◌, inl, inr, List, [], ◌∷◌, ◌++◌, Some, eqb, refl, sym, ap, ◌∙◌, subst}
 use Rattle.std.proofs.lemmas.Bool.{and_parts, eqb-true, false≢true}
+use Rattle.list_laws.proofs.Options.{option_and_then_parts}
 use Rattle.routing_law.specs.Graph.{Graph, Reaches, WellFormed, follow, run}
 use Rattle.routing_law.specs.Network.{Alive, Network, stands_on, survives}
-use Rattle.routing_law.proofs.Options.{bind_some}
 
 pub no_end : (fs back : List ℕ) (u : ℕ) → [] ≡ fs ++ u ∷ back → ⊥
 no_end [] back u e = cc
@@ -24,7 +24,7 @@ first_lives alive v (u ∷ q) h = (and_parts (alive.live v) (alive.carries u v &
 
 -- a run of more than one place: that of the rest, and a step
 pub run_more : (g : Graph) (v u : ℕ) (q : List ℕ) (n : ℕ) → run g (v ∷ u ∷ q) ≡ Some n → (m : ℕ) × (run g (u ∷ q) ≡ Some m) × (g.next m v ≡ Some n)
-run_more g v u q n h = bind_some (λ m. g.next m v) (run g (u ∷ q)) n h
+run_more g v u q n h = option_and_then_parts (λ m. g.next m v) (run g (u ∷ q)) n h
 
 -- the node of a run is at the first place
 pub run_place : {net : Network} {g : Graph} → WellFormed net g → (v : ℕ) (rest : List ℕ) (n : ℕ) → run g (v ∷ rest) ≡ Some n → g.place n ≡ v
@@ -42,13 +42,13 @@ place_below {g = g} wf (t ∷ q) u m h = let a = run_more g u t q m h in (wf.nex
 pub follow_more : (g : Graph) (zs : List ℕ) (k m f n : ℕ) → follow g k zs ≡ Some m → g.next m f ≡ Some n → follow g k (zs ++ f ∷ []) ≡ Some n
 follow_more g [] k m f n h e = let km : k ≡ m = cc in rw (km, e)
 follow_more g (z ∷ zs) k m f n h e =
-    let a = bind_some (λ j. follow g j zs) (g.next k z) m h in
+    let a = option_and_then_parts (λ j. follow g j zs) (g.next k z) m h in
     rw a.1 (follow_more g zs a.0 m f n a.2 e)
 
 pub follow_append : (g : Graph) (zs ys : List ℕ) (k m n : ℕ) → follow g k zs ≡ Some m → follow g m ys ≡ Some n → follow g k (zs ++ ys) ≡ Some n
 follow_append g [] ys k m n h e = let km : k ≡ m = cc in subst (λ j. follow g j ys ≡ Some n) (sym km) e
 follow_append g (z ∷ zs) ys k m n h e =
-    let a = bind_some (λ j. follow g j zs) (g.next k z) m h in
+    let a = option_and_then_parts (λ j. follow g j zs) (g.next k z) m h in
     rw a.1 (follow_append g zs ys a.0 m n a.2 e)
 
 -- a run that passes v comes from v's node there
@@ -71,7 +71,7 @@ start_is {net} {g} wf u n b at o = ap g.start (sym at) ∙ wf.origin_start n b (
 pub follow_last : {net : Network} {g : Graph} → WellFormed net g → (zs : List ℕ) (k m : ℕ) → follow g k zs ≡ Some m → (k ≡ m) ⊎ ((l : ℕ) × Reaches g k l × (g.next l (g.place m) ≡ Some m))
 follow_last wf [] k m h = inl (cc)
 follow_last {net} {g} wf (z ∷ zs) k m h =
-    let a = bind_some (λ j. follow g j zs) (g.next k z) m h in
+    let a = option_and_then_parts (λ j. follow g j zs) (g.next k z) m h in
     by a.0 a.1 (follow_last wf zs a.0 m a.2)
   where
     by : (j : ℕ) → g.next k z ≡ Some j → (j ≡ m) ⊎ ((l : ℕ) × Reaches g j l × (g.next l (g.place m) ≡ Some m)) → (k ≡ m) ⊎ ((l : ℕ) × Reaches g k l × (g.next l (g.place m) ≡ Some m))

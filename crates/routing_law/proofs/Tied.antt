@@ -2,6 +2,7 @@
 use Rattle.std.proofs.Common.{◌≡◌, ℕ, Bool, true, false, cond, ◌&&◌, List, [], ◌∷◌, Some, None, eqb, refl, sym, ap, ◌∙◌}
 use Rattle.std.specs.Option.{option_map, option_and_then}
 use Rattle.std.proofs.lemmas.Bool.{and_parts, false≢true, eqb-true}
+use Rattle.list_laws.proofs.Options.{option_and_then_parts, option_map_parts, unless_parts, when_parts}
 use Rattle.routing_law.specs.Graph.{run}
 use Rattle.routing_law.specs.Lines.{LineRoute, LineRoutes, Lines, Tag, line_announced, line_extended, line_heard, own_line, taken_by}
 use Rattle.routing_law.specs.Network.{stands_on}
@@ -9,7 +10,6 @@ use Rattle.routing_law.specs.Outcome.{Route, Routes, Same, Setup, heard, own_rou
 use Rattle.routing_law.specs.Spells.{StepOver, Written}
 use Rattle.routing_law.proofs.Heard.{Heard, heard_from, heard_parts, no_router, own_from, own_parts}
 use Rattle.routing_law.proofs.Highest.{known_of, place_of}
-use Rattle.routing_law.proofs.Options.{bind_some, map_some, unless_some, when_some}
 use Rattle.routing_law.proofs.Sound.{Backed}
 use Rattle.routing_law.proofs.Steps.{announcements_are_steps, imports_are_steps, own_routes_are_starts}
 
@@ -48,7 +48,7 @@ module _ (w : Setup) (tag : ℕ → Tag) (c : Lines) (written : Written w.net w.
   pub heard_down : (v u : ℕ) (x : LineRoute) → w.net.router v ≡ true → line_heard w.net w.alive c r v u ≡ Some x → ((o : ℕ) → w.net.origin o ≡ true → s o ≡ own_route w o)
       → ((z : LineRoute) → w.net.router u ≡ true → r u ≡ Some z → x.path ≡ v ∷ z.path → c.exported u v z.tag ≡ true → Behind w tag s u z) → Given w tag s v u x
   heard_down v u x rv h own behind =
-      let a = when_some (w.alive.carries u v) (cond (w.net.router u) (option_and_then (line_extended c v u) (r u)) (line_announced w.net w.alive c v u)) x h in
+      let a = when_parts (w.alive.carries u v) (cond (w.net.router u) (option_and_then (line_extended c v u) (r u)) (line_announced w.net w.alive c v u)) x h in
       by (w.net.router u) refl a.0 a.1
     where
       from_router : (z : LineRoute) (q : Tag × ℕ) → w.net.router u ≡ true → w.alive.carries u v ≡ true → stands_on v z.path ≡ false → c.imported v u z.tag ≡ Some q → taken_by v z.path q ≡ x → Behind w tag s u z → Given w tag s v u x
@@ -83,15 +83,15 @@ module _ (w : Setup) (tag : ℕ → Tag) (c : Lines) (written : Written w.net w.
 
       by : (b : Bool) → w.net.router u ≡ b → w.alive.carries u v ≡ true → cond b (option_and_then (line_extended c v u) (r u)) (line_announced w.net w.alive c v u) ≡ Some x → Given w tag s v u x
       by true ro k e =
-          let a = bind_some (line_extended c v u) (r u) x e in
-          let b = unless_some (stands_on v a.0.path) (cond (c.exported u v a.0.tag) (option_map (taken_by v a.0.path) (c.imported v u a.0.tag)) None) x a.2 in
-          let d = when_some (c.exported u v a.0.tag) (option_map (taken_by v a.0.path) (c.imported v u a.0.tag)) x b.1 in
-          let g = map_some (taken_by v a.0.path) (c.imported v u a.0.tag) x d.1 in
+          let a = option_and_then_parts (line_extended c v u) (r u) x e in
+          let b = unless_parts (stands_on v a.0.path) (cond (c.exported u v a.0.tag) (option_map (taken_by v a.0.path) (c.imported v u a.0.tag)) None) x a.2 in
+          let d = when_parts (c.exported u v a.0.tag) (option_map (taken_by v a.0.path) (c.imported v u a.0.tag)) x b.1 in
+          let g = option_map_parts (taken_by v a.0.path) (c.imported v u a.0.tag) x d.1 in
           from_router a.0 g.0 ro k b.0 g.1 g.2 (behind a.0 ro a.1 (ap (λ (y : LineRoute). y.path) (sym g.2)) d.0)
       by false ru k e =
-          let a = when_some (w.net.origin u && w.alive.live u) (option_map (taken_by v (u ∷ [])) (c.from_peer v u)) x e in
+          let a = when_parts (w.net.origin u && w.alive.live u) (option_map (taken_by v (u ∷ [])) (c.from_peer v u)) x e in
           let b = and_parts (w.net.origin u) (w.alive.live u) a.0 in
-          let g = map_some (taken_by v (u ∷ [])) (c.from_peer v u) x a.1 in
+          let g = option_map_parts (taken_by v (u ∷ [])) (c.from_peer v u) x a.1 in
           from_peer g.0 ru k b.0 b.1 g.1 g.2
 
   module _ (tied : Tied w tag c r s) where

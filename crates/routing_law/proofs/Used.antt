@@ -3,6 +3,7 @@ use Rattle.std.proofs.Common.{◌≡◌, ℕ, ◌≤◌, true, false, cond, ◌&
 use Rattle.std.specs.Option.{option_and_then}
 use Rattle.std.proofs.lemmas.Bool.{and_parts}
 use Rattle.std.proofs.lemmas.Option.{same_Some}
+use Rattle.list_laws.proofs.Options.{option_and_then_parts, unless_parts, when_parts}
 use Rattle.routing_law.specs.Graph.{run}
 use Rattle.routing_law.specs.Laws.{GoodOffer, GoodRoute, LinesAreRight, NumberIsGreatest, PlainNumbersPass, Sound, UsedPathsAreSound}
 use Rattle.routing_law.specs.Lines.{LineRoute, LineRoutes, Lines, LinesStable, Tag, offered, offered_of}
@@ -12,7 +13,6 @@ use Rattle.routing_law.specs.Spells.{Written}
 use Rattle.routing_law.proofs.Bridge.{graph_stable, live_of, same_routes, tied_nodes}
 use Rattle.routing_law.proofs.Heard.{chooses_from}
 use Rattle.routing_law.proofs.Highest.{chosen_is_reached, greatest}
-use Rattle.routing_law.proofs.Options.{bind_some, unless_some, when_some}
 use Rattle.routing_law.proofs.Right.{best_offer, best_rank}
 use Rattle.routing_law.proofs.Runs.{first_lives}
 use Rattle.routing_law.proofs.Sound.{sound}
@@ -30,10 +30,10 @@ plain_numbers_pass net g one same = record {
 -- an offer, taken apart
 pub offered_parts : (alive : Alive) (c : Lines) (r : LineRoutes) (u p : ℕ) (q : List ℕ) → offered alive c r u p ≡ Some q → (z : LineRoute) × (alive.carries u p ≡ true) × (r u ≡ Some z) × (c.exported u p z.tag ≡ true) × (stands_on p z.path ≡ false) × (q ≡ p ∷ z.path)
 offered_parts alive c r u p q h =
-    let a = when_some (alive.carries u p) (option_and_then (offered_of c u p) (r u)) q h in
-    let b = bind_some (offered_of c u p) (r u) q a.1 in
-    let e = when_some (c.exported u p b.0.tag) (cond (stands_on p b.0.path) None (Some (p ∷ b.0.path))) q b.2 in
-    let f = unless_some (stands_on p b.0.path) (Some (p ∷ b.0.path)) q e.1 in
+    let a = when_parts (alive.carries u p) (option_and_then (offered_of c u p) (r u)) q h in
+    let b = option_and_then_parts (offered_of c u p) (r u) q a.1 in
+    let e = when_parts (c.exported u p b.0.tag) (cond (stands_on p b.0.path) None (Some (p ∷ b.0.path))) q b.2 in
+    let f = unless_parts (stands_on p b.0.path) (Some (p ∷ b.0.path)) q e.1 in
     (b.0, a.0, b.1, e.0, f.0, sym (same_Some (p ∷ b.0.path) q f.1))
 
 -- a route that is good in the graph is good

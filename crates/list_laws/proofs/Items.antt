@@ -1,0 +1,53 @@
+-- The items of a list by their places.
+use Rattle.std.proofs.Common.{◌++◌, ◌+◌, ◌<◌, ◌∙◌, ◌∷◌, ◌≡◌, ◌≤◌, List, Some, [], ap, arith, drop, inl, inr, length, refl, suc, sym, zero, ℕ}
+use Rattle.std.specs.Prelude.{slice_get}
+use Rattle.std.proofs.lemmas.List.{drop_more}
+use Rattle.std.proofs.lemmas.Option.{get_or_from_slice_get, slice_get_cases, slice_get_within}
+
+pub slice_get_inside : {A : Type 0} (xs : List A) (i : ℕ) → i < length xs → (x : A) × (slice_get xs i ≡ Some x)
+slice_get_inside xs i within = elim (slice_get_cases xs i).1 [ inl t ↦ (t.0, t.2) | inr t ↦ absurd (omega arith) ]
+
+-- two items at one place are one
+pub same_item : {A : Type 0} (xs : List A) (i j : ℕ) (x y : A) → slice_get xs i ≡ Some x → slice_get xs j ≡ Some y → i ≡ j → x ≡ y
+same_item xs i j x y at_i at_j same = let both : Some x ≡ Some y = sym at_i ∙ ap (slice_get xs) same ∙ at_j in cc
+
+-- lists with the same items at the same places are one
+pub same_by_places : {A : Type 0} (xs ys : List A) → length xs ≡ length ys → ((i : ℕ) (x y : A) → slice_get xs i ≡ Some x → slice_get ys i ≡ Some y → x ≡ y) → xs ≡ ys
+same_by_places [] [] long each = refl
+same_by_places [] (y ∷ ys) long each = absurd (omega (arith, long))
+same_by_places (x ∷ xs) [] long each = absurd (omega (arith, long))
+same_by_places (x ∷ xs) (y ∷ ys) long each =
+    let first = each 0 x y refl refl in
+    let later = same_by_places xs ys (omega (arith, long)) (λ i v w at there. each (suc i) v w at there) in
+    λ i. first i ∷ later i
+
+pub slice_get-append_left : {A : Type 0} → (xs more : List A) (k : ℕ) → k < length xs → slice_get (xs ++ more) k ≡ slice_get xs k
+slice_get-append_left [] more k h = absurd (omega arith)
+slice_get-append_left (x ∷ xs) more zero h = refl
+slice_get-append_left (x ∷ xs) more (suc k) h = slice_get-append_left xs more k (omega arith)
+
+pub slice_get_in_front : {A : Type 0} (xs ys : List A) (i : ℕ) (x : A) → slice_get xs i ≡ Some x → slice_get (xs ++ ys) i ≡ Some x
+slice_get_in_front [] ys i x at = absurd cc
+slice_get_in_front (y ∷ xs) ys zero x at = at
+slice_get_in_front (y ∷ xs) ys (suc i) x at = slice_get_in_front xs ys i x at
+
+pub slice_get_behind : {A : Type 0} (xs ys : List A) (i : ℕ) (x : A) → slice_get ys i ≡ Some x → slice_get (xs ++ ys) (length xs + i) ≡ Some x
+slice_get_behind [] ys i x h = let same : 0 + i ≡ i = omega arith in ap (slice_get ys) same ∙ h
+slice_get_behind (y ∷ xs) ys i x h = let same : length (y ∷ xs) + i ≡ suc (length xs + i) = omega arith in ap (slice_get (y ∷ xs ++ ys)) same ∙ slice_get_behind xs ys i x h
+
+pub from_front : {A : Type 0} (xs ys : List A) (i : ℕ) (x : A) → slice_get (xs ++ ys) i ≡ Some x → i < length xs → slice_get xs i ≡ Some x
+from_front [] ys i x at within = absurd (omega (arith, within))
+from_front (y ∷ xs) ys zero x at within = at
+from_front (y ∷ xs) ys (suc i) x at within = from_front xs ys i x at (omega (arith, within))
+
+pub from_behind : {A : Type 0} (xs ys : List A) (i : ℕ) (x : A) → slice_get (xs ++ ys) i ≡ Some x → length xs ≤ i → (j : ℕ) × (slice_get ys j ≡ Some x)
+from_behind [] ys i x at past = (i, at)
+from_behind (y ∷ xs) ys zero x at past = absurd (omega (arith, past))
+from_behind (y ∷ xs) ys (suc i) x at past = from_behind xs ys i x at (omega (arith, past))
+
+pub slice_get-there : {A : Type 0} (pre : List A) (x : A) (post : List A) → slice_get (pre ++ x ∷ post) (length pre) ≡ Some x
+slice_get-there [] x post = refl
+slice_get-there (y ∷ pre) x post = slice_get-there pre x post
+
+pub drop_from : {A : Type 0} (xs : List A) (i : ℕ) (x : A) → slice_get xs i ≡ Some x → drop i xs ≡ x ∷ drop (i + 1) xs
+drop_from xs i x at = drop_more xs i x (slice_get_within xs i x at) ∙ ap (λ y. y ∷ drop (i + 1) xs) (get_or_from_slice_get xs i x x at)

@@ -1,0 +1,16 @@
+pub mod Apart
+pub mod Changed
+pub mod Each
+pub mod Items
+pub mod Kept
+pub mod Keys
+pub mod Members
+pub mod Numbers
+pub mod Options
+pub mod Orders
+pub mod Positions
+pub mod SortedRuns
+pub mod Sorting
+pub mod Tests
+pub mod Texts
+pub mod Truth

@@ -1,0 +1,2 @@
+//! What is said of lists, options, numbers and truth values alone. There is no code here.
+#![tactic(auto)]
