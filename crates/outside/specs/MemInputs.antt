@@ -1,5 +1,5 @@
 -- What inputs in memory hold, their counts, and their calls.
-use Rattle.std.specs.Prelude.{◌≡◌, ◌⊎◌, ℕ, List, Option, None, option_map}
+use Rattle.std.specs.Prelude.{◌≡◌, ◌⊎◌, ℕ, List, [], Option, None, IsSome, option_map}
 use Rattle.std.specs.Option.{option_map_or}
 use Rattle.std.specs.BTreeMap.{get_by_text}
 use Rattle.outside.specs.Calls.{Plan}
@@ -20,3 +20,8 @@ reads m = m.calls
 -- The two names have one counter: they are the same, or neither is held.
 abbrev pub HaveOneCounter : MemInputs → List ℕ → List ℕ → Type 0
 HaveOneCounter m a b = (a ≡ b) ⊎ (told m a ≡ None) × (told m b ≡ None)
+
+-- No call is listed to fail, and the name is held: so its reading doesn't fail.
+pub record IsSure (m : MemInputs) (name : List ℕ) : Type 0 where
+  pub unlisted : (reads m).failing ≡ []
+  pub held : IsSome (told m name)

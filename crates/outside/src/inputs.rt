@@ -37,6 +37,10 @@ pub trait Inputs {
     /// How often the reading of a name has failed. A count stays at `u64::MAX`.
     ghost faults: { Self → List ℕ → ℕ };
 
+    /// Where it is known that the reading of a name doesn't fail, in this call or a later one. Of what isn't known to
+    /// be sure, nothing is said.
+    ghost sure: { Self → List ℕ → Type 0 } = { λ _ _. ⊥ };
+
     /// All the bytes of a name, where there are at most `most`.
     ///
     /// `Failed` comes only where the count of this name rose in this call, and `TooLong` only where the name
@@ -49,7 +53,10 @@ pub trait Inputs {
 
         // No read changes what a name holds, and no count falls.
         ensures holds { (n : List ℕ) → holds self.new n ≡ holds self.old n }
-        ensures counts { (n : List ℕ) → faults self.old n ≤ faults self.new n };
+        ensures counts { (n : List ℕ) → faults self.old n ≤ faults self.new n }
+
+        // A name that is sure stays so, and its count stays where it is.
+        ensures sure { (n : List ℕ) → sure self.old n → (faults self.new n ≡ faults self.old n) × sure self.new n };
 }
 
 // A copy of the bytes of a name, where there are at most `most`.

@@ -102,11 +102,13 @@ impl MemInputs {
 impl Inputs for MemInputs {
     ghost use Rattle.outside.specs.Outside.{Rose, next};
     ghost use Rattle.outside.specs.Calls.{after_call, NextFails};
-    ghost use Rattle.outside.specs.MemInputs.{told, count, reads, HaveOneCounter};
+    ghost use Rattle.outside.specs.MemInputs.{told, count, reads, HaveOneCounter, IsSure};
 
     ghost holds = { λ m name. told m name };
 
     ghost faults = { λ m name. count m name };
+
+    ghost sure = { λ m name. IsSure m name };
 
     fn read(&mut self, alloc: Global, name: &str, most: u64) -> Result<Vec<u8>, InputFail>
         ensures bytes { IfOk result (λ v. IfSome (told self.old name.now) (λ told. v.items ≡ told)) }
@@ -115,6 +117,7 @@ impl Inputs for MemInputs {
         ensures failed { IsErrOf result InputFail.Failed → Rose (count self.old name.now) (count self.new name.now) }
         ensures holds { (n : List ℕ) → told self.new n ≡ told self.old n }
         ensures counts { (n : List ℕ) → count self.old n ≤ count self.new n }
+        ensures sure { (n : List ℕ) → IsSure self.old n → (count self.new n ≡ count self.old n) × IsSure self.new n }
 
         // Besides: which calls fail, that a name that holds too much is told to, and which counters are raised.
         ensures calls { reads self.new ≡ after_call (reads self.old) }

@@ -46,6 +46,8 @@ impl Inputs for SureInputs {
 
     ghost faults = { λ _ _. 0 };
 
+    ghost sure = { λ _ _. Unit {0} };
+
     fn read(&mut self, alloc: Global, name: &str, most: u64) -> Result<Vec<u8>, InputFail>
         ensures bytes { IfOk result (λ v. v.items ≡ bytes_of self.old name.now) }
         ensures within { IfOk result (λ v. length v.items ≤ most) }
