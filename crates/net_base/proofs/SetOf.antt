@@ -27,7 +27,7 @@ at_most : (b : Bool) (m : ℕ) → (if b then m else 0) ≤ m
 at_most true m = omega arith
 at_most false m = omega arith
 
-word_fits : (p : ℕ → Bool) (k n : ℕ) → word_of p k n < 2 ^ n
+pub word_fits : (p : ℕ → Bool) (k n : ℕ) → word_of p k n < 2 ^ n
 unfolding word_of
 word_fits p k zero = omega arith
 word_fits p k (suc n) = omega (arith, word_fits p k n, at_most (p (k + n)) (2 ^ n), pow-suc 2 n)
@@ -48,13 +48,13 @@ bit_at-word p k (suc n) j within = elim (cases_lt j n) [
       ∙ ap (bit_at (bit (p (k + n)))) lowest ∙ bit_even (p (k + n)) ∙ ap (λ m. bit (p (k + m))) (sym last)
 ]
 
-get_or-words : (p : ℕ → Bool) (k n i : ℕ) → i < n → get_or (words_of p k n) i 0 ≡ word_of p (k + 64 * i) 64
+pub get_or-words : (p : ℕ → Bool) (k n i : ℕ) → i < n → get_or (words_of p k n) i 0 ≡ word_of p (k + 64 * i) 64
 unfolding words_of
 get_or-words p k zero i within = absurd (omega arith)
 get_or-words p k (suc n) zero within = ap (λ m. word_of p m 64) (omega arith)
 get_or-words p k (suc n) (suc i) within = get_or-words p (k + 64) n i (omega arith) ∙ ap (λ m. word_of p m 64) (omega arith)
 
-length-words : (p : ℕ → Bool) (k n : ℕ) → length (words_of p k n) ≡ n
+pub length-words : (p : ℕ → Bool) (k n : ℕ) → length (words_of p k n) ≡ n
 unfolding words_of
 length-words p k zero = refl
 length-words p k (suc n) = ap suc (length-words p (k + 64) n)

@@ -1,11 +1,16 @@
 pub mod Addresses
+pub mod Gives
+pub mod Locations
 pub mod NameRule
 pub mod NameView
+pub mod NetSets
 pub mod Network
 pub mod Numbers
 pub mod OptionSteps
+pub mod PlaceWords
 pub mod Prefixes
 pub mod PrefixText
 pub mod Quads
+pub mod SetOperations
 pub mod Sets
 pub mod Steps

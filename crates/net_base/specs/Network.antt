@@ -1,8 +1,9 @@
 -- A network: its locations, names, numbers and links.
-use Rattle.std.specs.Prelude.{◌≡◌, ◌≢◌, ℕ, ◌+◌, ◌<◌, ◌≤◌, ◌^◌, Bool, false, ◌&&◌, ◌||◌, ◌==◌, IsTrue, nat_lt, nat_le, nat_eq, List, [], ◌∷◌, ◌++◌, length, map, Option, slice_get}
+use Rattle.std.specs.Prelude.{◌≡◌, ◌≢◌, ℕ, ◌+◌, ◌<◌, ◌≤◌, ◌^◌, Bool, false, ◌&&◌, ◌||◌, ◌==◌, IsTrue, nat_lt, nat_le, nat_eq, List, [], ◌∷◌, ◌++◌, length, map, Option, slice_get, if◌then◌else◌}
 use Rattle.std.specs.List.{list_any, AllByRecursion, IsDistinct}
 use Rattle.std.specs.Option.{option_map_or}
 use Rattle.std.specs.Str.{bytes_eq}
+use Rattle.net_base.specs.declared.limits.TheConstants.{ROUTERS, PEERS, LINKS}
 use Rattle.net_base.specs.declared.net.Site.{Site}
 use Rattle.net_base.specs.Numbers.{is_router_as, is_peer_as}
 
@@ -27,6 +28,17 @@ is_peer net l = nat_le (length net.routers) l && is_location net l
 -- a link joins two locations, in either order
 abbrev pub joins : ℕ → ℕ → ℕ × ℕ → Bool
 joins a b link = (link.0 == a && link.1 == b) || (link.0 == b && link.1 == a)
+
+-- the lesser of two locations first
+abbrev pub ordered : ℕ → ℕ → ℕ × ℕ
+ordered a b = if nat_lt a b then (a, b) else (b, a)
+
+abbrev pub same_ends : ℕ × ℕ → ℕ × ℕ → Bool
+same_ends a b = a.0 == b.0 && a.1 == b.1
+
+-- a link stands before another where its first end is lesser, or the first ends are the same and its second is lesser
+abbrev pub is_before : ℕ × ℕ → ℕ × ℕ → Bool
+is_before a b = nat_lt a.0 b.0 || (a.0 == b.0 && nat_lt a.1 b.1)
 
 abbrev pub linked : PlainNet → ℕ → ℕ → Bool
 linked net a b = list_any (joins a b) net.links
@@ -63,9 +75,9 @@ Ascend (a ∷ links) = AllByRecursion (IsBefore a) links × Ascend links
 -- together; AS numbers in their ranges; identifiers that aren't 0; links of different locations, one of them a
 -- router, in ascending order, none twice.
 pub record IsNet (net : PlainNet) : Type 0 where
-  pub routers : length net.routers ≤ 512
-  pub peers : length net.peers ≤ 256
-  pub count : length net.links ≤ 8192
+  pub routers : length net.routers ≤ ROUTERS
+  pub peers : length net.peers ≤ PEERS
+  pub count : length net.links ≤ LINKS
   pub names : IsDistinct bytes_eq (map (λ (s : Site). s.name) (sites net))
   pub router_asns : AllByRecursion (λ (s : Site). IsTrue (is_router_as s.asn)) net.routers
   pub peer_asns : AllByRecursion (λ (s : Site). IsTrue (is_peer_as s.asn)) net.peers

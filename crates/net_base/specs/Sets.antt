@@ -1,5 +1,5 @@
 -- Which locations a set has.
-use Rattle.std.specs.Prelude.{ℕ, ◌+◌, ◌/◌, ◌%◌, ◌^◌, ◌==◌, Bool, zero, suc, List, [], ◌∷◌, slice_index, if◌then◌else◌}
+use Rattle.std.specs.Prelude.{◌≡◌, ℕ, ◌+◌, ◌<◌, length, ◌/◌, ◌%◌, ◌^◌, ◌==◌, Bool, zero, suc, List, [], ◌∷◌, slice_index, if◌then◌else◌}
 use Rattle.std.specs.Int.{bit_at}
 use Rattle.std.specs.Str.{bytes_eq}
 use Rattle.net_base.specs.declared.loc.LocSet.{LocSet}
@@ -24,3 +24,8 @@ words_of p k (suc n) = word_of p k 64 ∷ words_of p (k + 64) n
 -- the set of the locations below 768 that pass a test
 unfoldable pub set_of : (ℕ → Bool) → LocSet
 set_of p = record { words = words_of p 0 12 }
+
+-- what every set of the program is: twelve words of 64 bits
+pub record IsWords (s : LocSet) : Type 0 where
+  pub size : length s.words ≡ 12
+  pub fit : (i : ℕ) → slice_index s.words i < 2 ^ 64

@@ -1,6 +1,7 @@
 //! The words of a network: locations, names, prefixes, tags and numbers, and the limits.
 #![tactic(auto)]
 
+pub mod laws;
 pub mod limits;
 mod list;
 mod loc;
@@ -10,6 +11,7 @@ mod numbers;
 mod place;
 mod prefix;
 mod prefix_text;
+mod words;
 
 pub use list::List;
 pub use loc::{Loc, LocSet};

@@ -6,6 +6,8 @@ pub const INPUT_BYTES: u64 = 33_554_432;
 pub const ROUTERS: u64 = 512;
 /// Peers of a network.
 pub const PEERS: u64 = 256;
+/// Routers and peers of a network.
+pub const LOCATIONS: u64 = 768;
 /// Links of a network.
 pub const LINKS: u64 = 8_192;
 /// Bytes of a name.

@@ -1,5 +1,5 @@
 //! A vector that contracts see as the list of its items.
-ghost use Rattle.std.specs.Prelude.{◌≡◌, [], ◌∷◌, ◌++◌, OnOk, OnErr};
+ghost use Rattle.std.specs.Prelude.{◌≡◌, [], ◌∷◌, ◌++◌, IfOk, OnOk, OnErr};
 
 use std::alloc::{AllocError, Global};
 use std::marker::Model;
@@ -35,6 +35,14 @@ impl<T> List<T> {
         List { items }
     }
 
+    /// The vector of the list's items, which are not copied.
+    pub fn into_vec(self) -> Vec<T>
+        ensures { result.items ≡ self }
+    {
+        let List { items } = self;
+        items
+    }
+
     /// Puts an item behind the others. After an error the list is as before.
     pub fn push(&mut self, item: T) -> Result<(), AllocError>
     where
@@ -51,5 +59,16 @@ impl<T> List<T> {
         ensures { result.now ≡ self.now }
     {
         self.items.as_slice()
+    }
+}
+
+impl<T: Copy + Drop> List<T> {
+    /// A copy of the list.
+    pub fn copy(&self, alloc: Global) -> Result<List<T>, AllocError>
+        ensures { IfOk result (λ copy. copy ≡ self.now) }
+    {
+        Ok(List {
+            items: Vec::from_slice(alloc, self.items.as_slice())?,
+        })
     }
 }

@@ -1,7 +1,9 @@
 //! Locations and sets of locations.
 ghost use Rattle.std.specs.Prelude.{◌≡◌, ◌<◌, ◌≤◌, ◌||◌, ◌&&◌, ◌==◌, nat_le, nat_lt, ℕ, false};
 ghost use Rattle.net_base.specs.Sets.{word_of};
+ghost use Rattle.net_base.specs.declared.limits.TheConstants.{LOCATIONS};
 
+use crate::words::{both, either, first_alone, is_zero, with_bit};
 use std::marker::Model;
 
 /// A location of a network by its number: the routers count from 0, and the peers follow them.
@@ -41,11 +43,14 @@ pub struct LocSet {
 }
 
 impl LocSet {
+    ghost use Rattle.std.specs.Prelude.{not, true};
+    ghost use Rattle.net_base.specs.SetOperations.{no_location, with_location, union_of, common as common_of, outside as outside_of, is_empty as has_no_bit, size_of};
     ghost use Rattle.net_base.specs.Sets.{holds, set_of};
 
     /// The set with no location.
     pub fn new() -> LocSet
-        ensures { (l : ℕ) → holds result l ≡ false }
+        ensures set { result ≡ no_location }
+        ensures holds { (l : ℕ) → holds result l ≡ false }
     {
         LocSet { words: [0; 12] }
     }
@@ -71,11 +76,63 @@ impl LocSet {
 
     /// Puts a location into the set.
     pub fn insert(&mut self, at: Loc)
-        requires { at < 768 }
+        requires { at < LOCATIONS }
         ensures { (l : ℕ) → holds self.new l ≡ (holds self.old l || l == at) }
     {
         let place = at.0 as usize;
         self.words[place / 64] |= 1u64 << (place % 64);
+    }
+
+    /// The set with one location more.
+    pub fn with(self, at: Loc) -> LocSet
+        requires { at < LOCATIONS }
+        ensures set { result ≡ with_location self at }
+        ensures holds { (l : ℕ) → holds result l ≡ (holds self l || l == at) }
+    {
+        with_bit(self, at)
+    }
+
+    /// The locations of both sets.
+    pub fn union(&self, other: &LocSet) -> LocSet
+        ensures set { result ≡ union_of self.now other.now }
+        ensures holds { (l : ℕ) → holds result l ≡ (holds self.now l || holds other.now l) }
+    {
+        either(*self, *other)
+    }
+
+    /// The locations that both sets have.
+    pub fn common(&self, other: &LocSet) -> LocSet
+        ensures set { result ≡ common_of self.now other.now }
+        ensures holds { (l : ℕ) → holds result l ≡ (holds self.now l && holds other.now l) }
+    {
+        both(self, other)
+    }
+
+    /// The locations of this set that the other hasn't.
+    pub fn without(&self, other: &LocSet) -> LocSet
+        ensures set { result ≡ outside_of self.now other.now }
+        ensures holds { (l : ℕ) → holds result l ≡ (holds self.now l && not (holds other.now l)) }
+    {
+        first_alone(self, other)
+    }
+
+    /// Whether the set has no location.
+    pub fn is_empty(&self) -> bool
+        ensures words { result ≡ has_no_bit self.now }
+        ensures holds { result ≡ true → (l : ℕ) → holds self.now l ≡ false }
+    {
+        is_zero(&self.words)
+    }
+
+    /// How many locations the set has.
+    pub fn len(&self) -> u64
+        ensures { result ≡ size_of self.now }
+    {
+        let mut size = 0;
+        for word in self.words {
+            size += u64::from(word.count_ones());
+        }
+        size
     }
 }
 

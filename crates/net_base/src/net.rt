@@ -1,9 +1,11 @@
 //! Networks.
-ghost use Rattle.std.specs.Prelude.{◌≡◌, ◌<◌, ◌+◌, IsTrue, length, slice_get, Some, option_map};
-ghost use Rattle.net_base.specs.Network.{PlainNet, IsNet, linked, is_peer, is_router, is_location, site_of};
+ghost use Rattle.std.specs.Prelude.{◌≡◌, ◌<◌, ◌+◌, IsTrue, length, slice_get, Some, None, option_map, if◌then◌else◌};
+ghost use Rattle.std.specs.List.{position};
+ghost use Rattle.net_base.specs.Network.{PlainNet, IsNet, Ascend, joins, linked, ordered as in_order, is_before, same_ends, is_peer, is_router, is_location, site_of};
+ghost use Rattle.net_base.specs.NetSets.{locations as all_locations, peers as all_peers};
 
 use crate::list::List;
-use crate::loc::Loc;
+use crate::loc::{Loc, LocSet};
 use crate::name::Name;
 use std::marker::Model;
 
@@ -34,6 +36,37 @@ impl Model for Net {
     ghost view = { λ n. record { routers = n.routers; peers = n.peers; links = n.links } };
 
     ghost invariant = { λ n. IsNet (record { routers = n.routers; peers = n.peers; links = n.links }) };
+}
+
+// The lesser of two locations first.
+fn ordered(a: Loc, b: Loc) -> (Loc, Loc)
+    ensures { result ≡ in_order a b }
+{
+    if a < b { (a, b) } else { (b, a) }
+}
+
+// Whether a link stands before these ends.
+fn stands_before(link: (Loc, Loc), ends: (Loc, Loc)) -> bool
+    ensures { result ≡ is_before link ends }
+{
+    link < ends
+}
+
+// The place of a link, where it has these ends.
+fn place_if(place: usize, link: (Loc, Loc), ends: (Loc, Loc)) -> Option<usize>
+    ensures { result ≡ (if same_ends ends link then Some place else None) }
+{
+    if ends == link { Some(place) } else { None }
+}
+
+// The place of the link of these ends, among links that ascend.
+fn place_of(links: &[(Loc, Loc)], ends: (Loc, Loc)) -> Option<usize>
+    requires { Ascend links.now }
+    ensures { result ≡ position (same_ends ends) links.now }
+{
+    let place = links.partition_point(|link| stands_before(*link, ends));
+    let link = *links.get(place)?;
+    place_if(place, link, ends)
 }
 
 impl Net {
@@ -73,12 +106,18 @@ impl Net {
         self.links.as_slice()
     }
 
+    /// The place of the link that joins the two locations, or None where there is none.
+    pub fn link_place(&self, a: Loc, b: Loc) -> Option<usize>
+        ensures { result ≡ position (joins a b) self.now.links }
+    {
+        place_of(self.links(), ordered(a, b))
+    }
+
     /// Whether a link joins the two locations.
     pub fn linked(&self, a: Loc, b: Loc) -> bool
         ensures { result ≡ linked self.now a b }
     {
-        self.links.as_slice().iter().any(|link| (link.0 == a && link.1 == b)
-            || (link.0 == b && link.1 == a))
+        self.link_place(a, b).is_some()
     }
 
     /// Whether the location is a router of the net.
@@ -95,6 +134,21 @@ impl Net {
         let place = at.number() as usize;
         let routers = self.routers.as_slice().len();
         routers <= place && place - routers < self.peers.as_slice().len()
+    }
+
+    /// The set of all locations.
+    pub fn locations(&self) -> LocSet
+        ensures { result ≡ all_locations self.now }
+    {
+        LocSet::of_range(0, (self.routers().len() + self.peers().len()) as u16)
+    }
+
+    /// The set of the peers.
+    pub fn peer_set(&self) -> LocSet
+        ensures { result ≡ all_peers self.now }
+    {
+        let routers = self.routers().len();
+        LocSet::of_range(routers as u16, (routers + self.peers().len()) as u16)
     }
 
     /// The router or peer at a location.

@@ -3,6 +3,7 @@ use Rattle.std.specs.Prelude.{ℕ, ◌/◌, ◌%◌, ◌==◌, List, ◌++◌, c
 use Rattle.std.specs.Fmt.{decimal}
 use Rattle.net_base.specs.Prefixes.{PlainPrefix, PlainPattern}
 use Rattle.net_base.specs.declared.numbers.Tag.{Tag}
+use Rattle.net_base.specs.declared.place.Place.{Place}
 
 -- four decimal numbers joined by dots, the highest byte first
 abbrev pub address_text : ℕ → List ℕ
@@ -18,3 +19,15 @@ pattern_text t = if t.upto == t.base.len then prefix_text t.base else prefix_tex
 
 abbrev pub tag_text : Tag → List ℕ
 tag_text t = decimal t.asn ++ codes ":" ++ decimal t.value
+
+-- a word after a space
+abbrev pub word_text : List ℕ → List ℕ
+word_text word = codes " " ++ word
+
+-- a place in an array
+abbrev pub place_text : ℕ → List ℕ
+place_text n = codes " place " ++ decimal n
+
+-- a line and a column
+abbrev pub at_place : Place → List ℕ
+at_place p = codes " at " ++ decimal p.line ++ codes ":" ++ decimal p.column

@@ -5,9 +5,11 @@ ghost use Rattle.std.specs.Prelude.{◌≡◌, ◌++◌, ◌^◌, ◌<◌, IsTru
 ghost use Rattle.std.specs.Fmt.{decimal};
 ghost use Rattle.net_base.specs.NameRule.{is_name};
 ghost use Rattle.net_base.specs.Prefixes.{IsPrefix, IsPattern};
-ghost use Rattle.text_words.specs.Texts.{address_text, prefix_text, pattern_text, tag_text};
+ghost use Rattle.text_words.specs.Texts.{address_text, prefix_text, pattern_text, tag_text, word_text, place_text, at_place};
 
-use net_base::{Name, Pattern, Prefix, Tag};
+pub mod laws;
+
+use net_base::{Name, Pattern, Place, Prefix, Tag};
 use outside::NoMemory;
 
 /// Adds bytes.
@@ -78,4 +80,30 @@ pub fn push_tag(text: &mut Vec<u8>, tag: Tag) -> Result<(), NoMemory>
     push_number(text, u64::from(tag.asn))?;
     push_bytes(text, b":")?;
     push_number(text, u64::from(tag.value))
+}
+
+/// Adds a word after a space.
+pub fn push_word(text: &mut Vec<u8>, word: &[u8]) -> Result<(), NoMemory>
+    ensures { OnOk result (text.new.items ≡ text.old.items ++ word_text word.now) }
+{
+    push_bytes(text, b" ")?;
+    push_bytes(text, word)
+}
+
+/// Adds a place in an array: ` place ` and its number.
+pub fn push_place(text: &mut Vec<u8>, place: u32) -> Result<(), NoMemory>
+    ensures { OnOk result (text.new.items ≡ text.old.items ++ place_text place) }
+{
+    push_bytes(text, b" place ")?;
+    push_number(text, u64::from(place))
+}
+
+/// Adds a place in a text: ` at `, its line, `:` and its column.
+pub fn push_at(text: &mut Vec<u8>, place: Place) -> Result<(), NoMemory>
+    ensures { OnOk result (text.new.items ≡ text.old.items ++ at_place place) }
+{
+    push_bytes(text, b" at ")?;
+    push_number(text, u64::from(place.line))?;
+    push_bytes(text, b":")?;
+    push_number(text, u64::from(place.column))
 }
