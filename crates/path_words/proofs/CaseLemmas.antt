@@ -1,14 +1,15 @@
 -- A prefix that joins a case.
 use Rattle.std.proofs.Common.{◌≡◌, ℕ, zero, suc, ◌+◌, ◌<◌, ◌≤◌, ◌⊎◌, Bool, true, false, List, [], ◌∷◌, ◌++◌, length, get_or, set, refl, sym, ap, ◌∙◌, arith, inl, inr}
-use Rattle.std.specs.Prelude.{◌&&◌, ◌==◌, not, cond, if◌then◌else◌}
+use Rattle.std.specs.Prelude.{◌&&◌, ◌==◌, if◌then◌else◌}
 use Rattle.std.specs.List.{position_or_len}
+use Rattle.std.proofs.lemmas.Bool.{cases_Bool}
+use Rattle.list_laws.proofs.Positions.{position_or_len-first, position_or_len-next}
 use Rattle.net_base.specs.declared.loc.LocSet.{LocSet}
 use Rattle.net_base.specs.Sets.{same_set}
 use Rattle.net_base.specs.Prefixes.{PlainPrefix}
 use Rattle.path_words.specs.declared.policy.Origin.{Origin}
 use Rattle.path_words.specs.declared.case.Case.{Case}
 use Rattle.path_words.specs.Cases.{with_prefix}
-use Rattle.path_words.proofs.RankPlaces.{tells}
 
 -- a case that has the statement and the origins
 fits : ℕ → LocSet → Case → Bool
@@ -22,25 +23,19 @@ later : (k : ℕ) (o : Origin) (c : Case) (cs : List Case) → fits k o.at c ≡
 unfolding fits
 later k o c cs is = ap (λ b. if b then (record c { prefixes = c.prefixes ++ o.prefix ∷ [] }) ∷ cs else c ∷ with_prefix k o cs) is
 
-first_place : {X : Type 0} (p : X → Bool) (x : X) (xs : List X) → p x ≡ true → position_or_len p (x ∷ xs) ≡ 0
-first_place p x xs is = ap (λ b. cond (not b) (1 + position_or_len p xs) 0) is
-
-next_place : {X : Type 0} (p : X → Bool) (x : X) (xs : List X) → p x ≡ false → position_or_len p (x ∷ xs) ≡ 1 + position_or_len p xs
-next_place p x xs is = ap (λ b. cond (not b) (1 + position_or_len p xs) 0) is
-
 -- it joins the first one that has its statement and its origins
 pub with_prefix_found : (k : ℕ) (o : Origin) (cs : List Case) (d : Case) (i : ℕ) → i ≡ position_or_len (λ c. c.statement == k && same_set c.origins o.at) cs → i < length cs
     → with_prefix k o cs ≡ set cs i (record (get_or cs i d) { prefixes = (get_or cs i d).prefixes ++ o.prefix ∷ [] })
 unfolding fits
 with_prefix_found k o [] d i is within = absurd (omega arith)
-with_prefix_found k o (c ∷ cs) d zero is within = elim (tells (fits k o.at c)) [
+with_prefix_found k o (c ∷ cs) d zero is within = elim (cases_Bool (fits k o.at c)) [
   | inl met ↦ here k o c cs met
-  | inr missed ↦ absurd (omega (arith, is, next_place (fits k o.at) c cs missed))
+  | inr missed ↦ absurd (omega (arith, is, position_or_len-next (fits k o.at) c cs missed))
 ]
-with_prefix_found k o (c ∷ cs) d (suc i) is within = elim (tells (fits k o.at c)) [
-  | inl met ↦ absurd (omega (arith, is, first_place (fits k o.at) c cs met))
+with_prefix_found k o (c ∷ cs) d (suc i) is within = elim (cases_Bool (fits k o.at c)) [
+  | inl met ↦ absurd (omega (arith, is, position_or_len-first (fits k o.at) c cs met))
   | inr missed ↦
-      let next : suc i ≡ 1 + position_or_len (fits k o.at) cs = is ∙ next_place (fits k o.at) c cs missed in
+      let next : suc i ≡ 1 + position_or_len (fits k o.at) cs = is ∙ position_or_len-next (fits k o.at) c cs missed in
       later k o c cs missed ∙ ap (λ ds. c ∷ ds) (with_prefix_found k o cs d i (omega (arith, next)) (omega arith))
 ]
 
@@ -57,9 +52,9 @@ pub with_prefix_new : (k : ℕ) (o : Origin) (cs : List Case) (i : ℕ) → i �
 unfolding fits
 with_prefix_new k o [] i is past = refl
 with_prefix_new k o (c ∷ cs) zero is past = absurd (omega arith)
-with_prefix_new k o (c ∷ cs) (suc i) is past = elim (tells (fits k o.at c)) [
-  | inl met ↦ absurd (omega (arith, is, first_place (fits k o.at) c cs met))
+with_prefix_new k o (c ∷ cs) (suc i) is past = elim (cases_Bool (fits k o.at c)) [
+  | inl met ↦ absurd (omega (arith, is, position_or_len-first (fits k o.at) c cs met))
   | inr missed ↦
-      let next : suc i ≡ 1 + position_or_len (fits k o.at) cs = is ∙ next_place (fits k o.at) c cs missed in
+      let next : suc i ≡ 1 + position_or_len (fits k o.at) cs = is ∙ position_or_len-next (fits k o.at) c cs missed in
       later k o c cs missed ∙ ap (λ ds. c ∷ ds) (with_prefix_new k o cs i (omega (arith, next)) (omega arith))
 ]

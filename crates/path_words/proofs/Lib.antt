@@ -1,4 +1,5 @@
 pub mod CaseLemmas
+pub mod Peers
 pub mod PlaceLemmas
 pub mod RankLemmas
 pub mod RankPlaces

@@ -1,15 +1,12 @@
 -- The places of a list, as code reads them.
 use Rattle.std.proofs.Common.{◌≡◌, ◌≢◌, ℕ, zero, suc, ◌+◌, ◌-◌, ◌<◌, ◌≤◌, Bool, true, false, ◌&&◌, ◌||◌, List, [], ◌∷◌, length, take, drop, get_or, drop-cons, refl, sym, ap, ◌∙◌, arith}
 use Rattle.std.specs.Prelude.{Option, Some, None, slice_get}
+use Rattle.std.proofs.Math.Bool.{and-false}
 use Rattle.net_base.specs.declared.loc.LocSet.{LocSet}
 use Rattle.net_base.specs.Network.{PlainNet, linked}
 use Rattle.net_base.specs.Sets.{holds}
 use Rattle.path_words.specs.Meaning.{at_first, at_last, front, some_step, each_in}
 use Rattle.path_words.specs.Walks.{steps_linked}
-
-pub false_right : (b : Bool) → (b && false) ≡ false
-false_right true = refl
-false_right false = refl
 
 take-front_by : (x : ℕ) (xs : List ℕ) → take (length xs) (x ∷ xs) ≡ front (x ∷ xs)
 take-front_by x [] = refl
@@ -68,4 +65,4 @@ pub each_in-lengths : (sets : List LocSet) (xs : List ℕ) → length sets ≢ l
 each_in-lengths [] [] apart = absurd (apart refl)
 each_in-lengths [] (x ∷ xs) apart = refl
 each_in-lengths (s ∷ ss) [] apart = refl
-each_in-lengths (s ∷ ss) (x ∷ xs) apart = ap (λ b. holds s x && b) (each_in-lengths ss xs (λ e. apart (ap suc e))) ∙ false_right (holds s x)
+each_in-lengths (s ∷ ss) (x ∷ xs) apart = ap (λ b. holds s x && b) (each_in-lengths ss xs (λ e. apart (ap suc e))) ∙ and-false (holds s x)

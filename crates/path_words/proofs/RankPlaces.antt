@@ -1,18 +1,15 @@
 -- The first alternative that a path meets, in lists that are made of others.
-use Rattle.std.proofs.Common.{◌≡◌, ℕ, suc, zero, ◌+◌, ◌*◌, ◌<◌, ◌≤◌, ◌⊎◌, Bool, true, false, ◌&&◌, List, [], ◌∷◌, ◌++◌, length, map, refl, sym, ap, ◌∙◌, arith, inl, inr, length-append, add_assoc}
+use Rattle.std.proofs.Common.{◌≡◌, ℕ, suc, zero, ◌+◌, ◌*◌, ◌<◌, ◌≤◌, ◌⊎◌, true, false, ◌&&◌, List, [], ◌∷◌, ◌++◌, length, map, refl, sym, ap, ◌∙◌, arith, inl, inr, length-append, add_assoc}
 use Rattle.std.proofs.lemmas.List.{length-map, nil_from_length}
 use Rattle.std.proofs.Math.Nat.{suc-mul, zero-mul}
 use Rattle.std.specs.Prelude.{Option, Some, None, option_map, option_and_then, if◌then◌else◌}
 use Rattle.std.specs.Option.{ForSome, option_or}
 use Rattle.std.specs.List.{list_any, flat_map}
+use Rattle.std.proofs.lemmas.Bool.{cases_Bool}
 use Rattle.net_base.specs.Network.{PlainNet}
 use Rattle.path_words.specs.Policies.{Ranking, call, calls, prefer, either, both, negated}
 use Rattle.path_words.specs.Meaning.{PathTest, some_test, both_tests, place_of, alternatives, alternative_count, rank_of}
 use Rattle.path_words.proofs.RankLemmas.{pairs}
-
-pub tells : (b : Bool) → (b ≡ true) ⊎ (b ≡ false)
-tells true = inl refl
-tells false = inr refl
 
 here : (p : PathTest) (ps : List PathTest) (path : List ℕ) (k : ℕ) → p path ≡ true → place_of (p ∷ ps) path k ≡ Some k
 here p ps path k met = ap (λ b. if b then Some k else place_of ps path (k + 1)) met
@@ -23,7 +20,7 @@ later p ps path k missed = ap (λ b. if b then Some k else place_of ps path (k +
 -- counted from another number
 pub place_of-from : (ps : List PathTest) (path : List ℕ) (k m : ℕ) → place_of ps path (k + m) ≡ option_map (λ n. k + n) (place_of ps path m)
 place_of-from [] path k m = refl
-place_of-from (p ∷ ps) path k m = elim (tells (p path)) [
+place_of-from (p ∷ ps) path k m = elim (cases_Bool (p path)) [
   | inl met ↦ here p ps path (k + m) met ∙ sym (ap (option_map (λ n. k + n)) (here p ps path m met))
   | inr missed ↦
       later p ps path (k + m) missed ∙ ap (place_of ps path) (add_assoc k m 1) ∙ place_of-from ps path k (m + 1)
@@ -33,7 +30,7 @@ place_of-from (p ∷ ps) path k m = elim (tells (p path)) [
 -- within the list
 pub place_of-within : (ps : List PathTest) (path : List ℕ) (k i : ℕ) → place_of ps path k ≡ Some i → (k ≤ i) × (i < k + length ps)
 place_of-within [] path k i found = cc
-place_of-within (p ∷ ps) path k i found = elim (tells (p path)) [
+place_of-within (p ∷ ps) path k i found = elim (cases_Bool (p path)) [
   | inl met ↦ let e : k ≡ i = cc (here p ps path k met, found) in omega (arith, e)
   | inr missed ↦
       let rest = place_of-within ps path (k + 1) i (sym (later p ps path k missed) ∙ found) in
@@ -42,14 +39,14 @@ place_of-within (p ∷ ps) path k i found = elim (tells (p path)) [
 
 pub append_some : (ps qs : List PathTest) (path : List ℕ) (k i : ℕ) → place_of ps path k ≡ Some i → place_of (ps ++ qs) path k ≡ Some i
 append_some [] qs path k i found = cc
-append_some (p ∷ ps) qs path k i found = elim (tells (p path)) [
+append_some (p ∷ ps) qs path k i found = elim (cases_Bool (p path)) [
   | inl met ↦ here p (ps ++ qs) path k met ∙ sym (here p ps path k met) ∙ found
   | inr missed ↦ later p (ps ++ qs) path k missed ∙ append_some ps qs path (k + 1) i (sym (later p ps path k missed) ∙ found)
 ]
 
 pub append_none : (ps qs : List PathTest) (path : List ℕ) (k : ℕ) → place_of ps path k ≡ None → place_of (ps ++ qs) path k ≡ place_of qs path (k + length ps)
 append_none [] qs path k none = ap (place_of qs path) (omega arith)
-append_none (p ∷ ps) qs path k none = elim (tells (p path)) [
+append_none (p ∷ ps) qs path k none = elim (cases_Bool (p path)) [
   | inl met ↦ cc (here p ps path k met, none)
   | inr missed ↦
       later p (ps ++ qs) path k missed ∙ append_none ps qs path (k + 1) (sym (later p ps path k missed) ∙ none)
@@ -71,7 +68,7 @@ row_missed p (q ∷ qs) path k missed =
 pub pairs_no_second : (ps qs : List PathTest) (path : List ℕ) (k : ℕ) → ((m : ℕ) → place_of qs path m ≡ None) → place_of (pairs ps qs) path k ≡ None
 pairs_no_second [] qs path k none = refl
 pairs_no_second (p ∷ ps) qs path k none =
-    append_none (map (both_tests p) qs) (pairs ps qs) path k (row_none (tells (p path))) ∙ pairs_no_second ps qs path _ none where
+    append_none (map (both_tests p) qs) (pairs ps qs) path k (row_none (cases_Bool (p path))) ∙ pairs_no_second ps qs path _ none where
       row_none : (p path ≡ true) ⊎ (p path ≡ false) → place_of (map (both_tests p) qs) path k ≡ None
       row_none (inl met) = row_met p qs path k met ∙ none k
       row_none (inr missed) = row_missed p qs path k missed
@@ -79,7 +76,7 @@ pairs_no_second (p ∷ ps) qs path k none =
 -- nor where none of the first list is
 pub pairs_no_first : (ps qs : List PathTest) (path : List ℕ) (k m : ℕ) → place_of ps path m ≡ None → place_of (pairs ps qs) path k ≡ None
 pairs_no_first [] qs path k m none = refl
-pairs_no_first (p ∷ ps) qs path k m none = elim (tells (p path)) [
+pairs_no_first (p ∷ ps) qs path k m none = elim (cases_Bool (p path)) [
   | inl met ↦ cc (here p ps path m met, none)
   | inr missed ↦
       append_none (map (both_tests p) qs) (pairs ps qs) path k (row_missed p qs path k missed)
@@ -90,13 +87,13 @@ pairs_no_first (p ∷ ps) qs path k m none = elim (tells (p path)) [
 pub pairs_some : (ps qs : List PathTest) (path : List ℕ) (k m i j : ℕ) → place_of ps path m ≡ Some (m + i) → ((n : ℕ) → place_of qs path n ≡ Some (n + j))
     → place_of (pairs ps qs) path k ≡ Some (k + (i * length qs + j))
 pairs_some [] qs path k m i j first second = cc
-pairs_some (p ∷ ps) qs path k m zero j first second = elim (tells (p path)) [
+pairs_some (p ∷ ps) qs path k m zero j first second = elim (cases_Bool (p path)) [
   | inl met ↦
       append_some (map (both_tests p) qs) (pairs ps qs) path k _ (row_met p qs path k met ∙ second k)
       ∙ ap Some (omega (arith, zero-mul (length qs)))
   | inr missed ↦ absurd (omega (arith, place_of-within ps path (m + 1) (m + 0) (sym (later p ps path m missed) ∙ first)))
 ]
-pairs_some (p ∷ ps) qs path k m (suc i) j first second = elim (tells (p path)) [
+pairs_some (p ∷ ps) qs path k m (suc i) j first second = elim (cases_Bool (p path)) [
   | inl met ↦ let e : Some m ≡ Some (m + suc i) = sym (here p ps path m met) ∙ first in let n : m ≡ m + suc i = cc in absurd (omega (arith, n))
   | inr missed ↦
       append_none (map (both_tests p) qs) (pairs ps qs) path k (row_missed p qs path k missed)

@@ -7,9 +7,10 @@ use Rattle.path_words.specs.declared.clause.Clause.{Clause}
 use Rattle.path_words.specs.declared.ranked.Ranked.{Ranked, Call, Calls, Prefer, Or, And, Not, the_lemmas}
 use Rattle.path_words.specs.Policies.{Ranking, call, calls, prefer, either, both, negated, ranking_of}
 use Rattle.path_words.specs.Meaning.{alternatives, alternative_count, some_test, place_of}
-use Rattle.path_words.proofs.RankLemmas.{some_test-pairs, grows_left, grows_right}
+use Rattle.path_words.proofs.RankLemmas.{some_test-pairs}
 use Rattle.path_words.proofs.RankPlaces.{place_of-append, place_of-pairs, length-alternatives, place_of_none}
 use Rattle.std.proofs.Math.Nat.{zero-mul, mul-zero}
+use Rattle.list_laws.proofs.Numbers.{le-mul_left, le-mul_right}
 
 pub ranking_of-Call : (c : Clause) → ranking_of (Call c) ≡ call c
 ranking_of-Call c = search (rules, the_lemmas)
@@ -52,7 +53,7 @@ And_fits r a b is few m n kept_a kept_b some_a some_b =
     let whole = alternative_count-And r a b is in
     let left = alternative_count (ranking_of a.value) in
     let right = alternative_count (ranking_of b.value) in
-    (omega (arith, whole, grows_right left right (omega arith)), omega (arith, whole, grows_left right left (omega arith)))
+    (omega (arith, whole, le-mul_right left right (omega arith)), omega (arith, whole, le-mul_left right left (omega arith)))
 
 pub first-Prefer : (net : PlainNet) (r : Ranked) (a b : Box Ranked Global) (path : List ℕ) → r ≡ Prefer a b
     → place_of (alternatives net (ranking_of r)) path 0

@@ -1,8 +1,12 @@
 -- Policies without where they lie in memory.
-use Rattle.std.specs.Prelude.{◌≡◌, ℕ, ◌≤◌, List, length, map, Bool, count_ones, sum, sum_by}
+use Rattle.std.specs.Prelude.{◌≡◌, ℕ, ◌≤◌, IsTrue, List, length, map, sum_by}
 use Rattle.std.specs.List.{AllByRecursion, IsDistinct}
-use Rattle.net_base.specs.declared.loc.LocSet.{LocSet}
-use Rattle.net_base.specs.Prefixes.{PlainPattern, same_prefix}
+use Rattle.list_laws.specs.Members.{IsIn}
+use Rattle.net_base.specs.declared.limits.TheConstants.{STATEMENTS, PATTERNS, PREFIXES, ORIGINS}
+use Rattle.net_base.specs.Network.{PlainNet, is_router}
+use Rattle.net_base.specs.Prefixes.{PlainPattern, IsPattern, IsPrefix, same_prefix}
+use Rattle.net_base.specs.SetOperations.{size_of}
+use Rattle.net_base.specs.Sets.{holds}
 use Rattle.path_words.specs.declared.clause.Clause.{Clause}
 use Rattle.path_words.specs.declared.ranked.Ranked.{Ranked}
 use Rattle.path_words.specs.declared.ranked.Ranked.TheOpen.{Ranked-F}
@@ -54,14 +58,17 @@ pub record PolicyLists : Type 0 where
 abbrev pub policy_of : PolicyLists → PlainPolicy
 policy_of lists = record { origins = lists.origins; statements = map plain_statement lists.statements }
 
--- how many locations a set has
-abbrev pub size_of : LocSet → ℕ
-size_of s = sum_by count_ones s.words
-
 -- What every policy keeps: the limits, and that no prefix is originated twice.
 pub record IsPolicy (policy : PlainPolicy) : Type 0 where
-  pub statements : length policy.statements ≤ 256
-  pub patterns : sum_by (λ (s : PlainStatement). length s.patterns) policy.statements ≤ 16384
-  pub prefixes : length policy.origins ≤ 4096
-  pub pairs : sum_by (λ (o : Origin). size_of o.at) policy.origins ≤ 16384
+  pub statements : length policy.statements ≤ STATEMENTS
+  pub patterns : sum_by (λ (s : PlainStatement). length s.patterns) policy.statements ≤ PATTERNS
+  pub prefixes : length policy.origins ≤ PREFIXES
+  pub pairs : sum_by (λ (o : Origin). size_of o.at) policy.origins ≤ ORIGINS
   pub once : IsDistinct same_prefix (map (λ (o : Origin). o.prefix) policy.origins)
+
+-- What a policy is for a network: within the limits, over prefixes and patterns, with routers alone as origins.
+pub record IsPolicyOf (net : PlainNet) (policy : PlainPolicy) : Type 0 where
+  pub rules : IsPolicy policy
+  pub prefixes : (o : Origin) → IsIn policy.origins o → IsPrefix o.prefix
+  pub routers : (o : Origin) (l : ℕ) → IsIn policy.origins o → IsTrue (holds o.at l) → IsTrue (is_router net l)
+  pub patterns : (s : PlainStatement) (t : PlainPattern) → IsIn policy.statements s → IsIn s.patterns t → IsPattern t

@@ -1,8 +1,7 @@
 //! The case list.
 ghost use Rattle.std.specs.Prelude.{◌≡◌, ◌∷◌, [], ◌++◌, ◌&&◌, ◌==◌, map, not, OnOk, IfOk, false};
 ghost use Rattle.std.specs.List.{list_any, position_or_len};
-ghost use Rattle.net_base.specs.Sets.{same_set, set_of};
-ghost use Rattle.net_base.specs.Network.{is_peer};
+ghost use Rattle.net_base.specs.Sets.{same_set};
 ghost use Rattle.path_words.specs.Policies.{policy_of, plain_statement};
 ghost use Rattle.path_words.specs.Cases.{with_prefix, with_governed, originated_cases, is_originated as originated, external_case, external_cases, case_list};
 
@@ -95,14 +94,6 @@ fn are_originated(policy: &Policy, patterns: &[Pattern]) -> bool
     true
 }
 
-// The set of all peers.
-fn peers_of(net: &Net) -> LocSet
-    ensures { result ≡ set_of (is_peer net.now) }
-{
-    let routers = net.routers().len() as u16;
-    LocSet::of_range(routers, routers + net.peers().len() as u16)
-}
-
 // The external case of a statement, where it has one.
 fn add_external_case(
     alloc: Global,
@@ -119,7 +110,7 @@ fn add_external_case(
     }
     cases.push(Case {
         statement: number,
-        origins: peers_of(net),
+        origins: net.peer_set(),
         external: true,
         prefixes: List::new(alloc),
     })?;

@@ -1,6 +1,7 @@
 //! Which paths a policy permits and allows.
 ghost use Rattle.std.specs.Prelude.{◌≡◌, ◌≤◌};
 ghost use Rattle.std.specs.List.{list_any};
+ghost use Rattle.net_base.specs.declared.limits.TheConstants.{ALTERNATIVES};
 ghost use Rattle.path_words.specs.Policies.{policy_of, plain_statement, ranking_of};
 ghost use Rattle.path_words.specs.Meaning.{at_first, at_last, front as front_of, alternative_count};
 ghost use Rattle.path_words.specs.Governing.{is_origin as origin};
@@ -68,7 +69,7 @@ pub fn is_permitted(
     statement: &Statement,
     path: &[Loc],
 ) -> bool
-    requires { alternative_count (ranking_of statement.now.ranked) ≤ 64 }
+    requires { alternative_count (ranking_of statement.now.ranked) ≤ ALTERNATIVES }
     ensures { result ≡ permitted net.now (policy_of policy.now) prefix (plain_statement statement.now) path.now }
 {
     is_case_walk(net, policy, prefix, path)
@@ -84,7 +85,7 @@ pub fn is_allowed(
     statement: &Statement,
     path: &[Loc],
 ) -> bool
-    requires { alternative_count (ranking_of statement.now.ranked) ≤ 64 }
+    requires { alternative_count (ranking_of statement.now.ranked) ≤ ALTERNATIVES }
     ensures { result ≡ allowed net.now (policy_of policy.now) prefix (plain_statement statement.now) path.now }
 {
     is_permitted(net, policy, prefix, statement, path) && is_loop_free(path)

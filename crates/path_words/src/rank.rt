@@ -1,6 +1,7 @@
 //! Ranks of paths.
 ghost use Rattle.std.specs.Prelude.{◌≡◌, ◌+◌, ◌*◌, ◌<◌, ◌≤◌, ◌^◌, ◌-◌, min, length, option_map, option_and_then, if◌then◌else◌};
 ghost use Rattle.std.specs.Option.{ForSome, option_or};
+ghost use Rattle.net_base.specs.declared.limits.TheConstants.{ALTERNATIVES};
 ghost use Rattle.path_words.specs.Policies.{ranking_of, Ranking};
 ghost use Rattle.path_words.specs.Meaning.{alternative_count, alternatives as tests, some_test, place_of, rank_of as rank};
 
@@ -49,7 +50,7 @@ fn meets_some(ranked: &Ranked, path: &[Loc], net: &Net) -> bool
 
 // The place, from 0, of the first call that is met.
 fn first_call(calls: &[Clause], path: &[Loc], net: &Net) -> Option<u32>
-    requires { length calls.now ≤ 64 }
+    requires { length calls.now ≤ ALTERNATIVES }
     ensures { result ≡ place_of (tests net.now (Ranking.calls calls.now)) path.now 0 }
 {
     for i in 0..calls.len() {
@@ -69,8 +70,8 @@ fn place_if(is_met: bool) -> Option<u32>
 
 // The first place in two lists one after the other, the first one of this length.
 fn place_in_row(first: Option<u32>, before: u32, second: Option<u32>) -> Option<u32>
-    requires before { before ≤ 64 }
-    requires second { ForSome second (λ j. j < 64) }
+    requires before { before ≤ ALTERNATIVES }
+    requires second { ForSome second (λ j. j < ALTERNATIVES) }
     ensures { result ≡ option_or first (option_map (λ j. before + j) second) }
 {
     match first {
@@ -81,9 +82,9 @@ fn place_in_row(first: Option<u32>, before: u32, second: Option<u32>) -> Option<
 
 // The first place in the pairs of two lists, the second one of this length.
 fn place_in_pairs(first: Option<u32>, second: Option<u32>, width: u32) -> Option<u32>
-    requires width { width ≤ 64 }
-    requires first { ForSome first (λ i. i < 64) }
-    requires second { ForSome second (λ j. j < 64) }
+    requires width { width ≤ ALTERNATIVES }
+    requires first { ForSome first (λ i. i < ALTERNATIVES) }
+    requires second { ForSome second (λ j. j < ALTERNATIVES) }
     ensures { result ≡ option_and_then (λ i. option_map (λ j. i * width + j) second) first }
 {
     let place = first?;
@@ -92,7 +93,7 @@ fn place_in_pairs(first: Option<u32>, second: Option<u32>, width: u32) -> Option
 
 // The place, from 0, of the first alternative that is met.
 fn first_met(ranked: &Ranked, path: &[Loc], net: &Net) -> Option<u32>
-    requires { alternative_count (ranking_of ranked.now) ≤ 64 }
+    requires { alternative_count (ranking_of ranked.now) ≤ ALTERNATIVES }
     ensures { result ≡ place_of (tests net.now (ranking_of ranked.now)) path.now 0 }
 {
     match ranked {
@@ -118,7 +119,7 @@ fn first_met(ranked: &Ranked, path: &[Loc], net: &Net) -> Option<u32>
 /// The rank of a path: the place, from 1, of the first alternative that it meets. None exactly where it
 /// meets none.
 pub fn rank_of(ranked: &Ranked, path: &[Loc], net: &Net) -> Option<u32>
-    requires { alternative_count (ranking_of ranked.now) ≤ 64 }
+    requires { alternative_count (ranking_of ranked.now) ≤ ALTERNATIVES }
     ensures { result ≡ rank net.now (ranking_of ranked.now) path.now }
 {
     let place = first_met(ranked, path, net)?;

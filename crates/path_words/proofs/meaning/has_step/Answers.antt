@@ -1,8 +1,9 @@
 use Rattle.std.proofs.Common.{◌≡◌, ℕ, ◌+◌, ◌-◌, ◌&&◌, drop, get_or, arith, ap, sym, ◌∙◌, false, length, length-drop}
 use Rattle.std.proofs.lemmas.List.{get_or_default}
+use Rattle.std.proofs.Math.Bool.{and-false}
 use Rattle.net_base.specs.Sets.{holds}
 use Rattle.path_words.specs.Meaning.{some_step}
-use Rattle.path_words.proofs.PlaceLemmas.{pairs_next, some_step-next, some_step_short, false_right}
+use Rattle.path_words.proofs.PlaceLemmas.{pairs_next, some_step-next, some_step_short}
 use Rattle.path_words.proofs.meaning.has_step.Goals as goal
 use Rattle.path_words.proofs.meaning.has_step.Goals.{else-holds-via-then-holds+else-holds-2, else-holds-via-else-holds}
 
@@ -13,7 +14,7 @@ loop-i-preserved c =
     elim c.else-holds.branch [
       | else-holds-via-then-holds+else-holds-2 w ↦
           next c.index-path-i.result w.index-path-i-then-holds.result (omega arith) (omega arith) c.index-path-i.is w.index-path-i-then-holds.is
-          (ap (λ b. holds c.args.from.now c.index-path-i.result && b) (sym w.holds-then-holds.ensures ∙ w.if-holds-2.false) ∙ false_right _) c.loop-i.invariant
+          (ap (λ b. holds c.args.from.now c.index-path-i.result && b) (sym w.holds-then-holds.ensures ∙ w.if-holds-2.false) ∙ and-false _) c.loop-i.invariant
       | else-holds-via-else-holds w ↦
           next c.index-path-i.result (get_or c.args.path.now c.loop-i.i 0) (omega arith) (omega arith) c.index-path-i.is
           (get_or_default c.args.path.now c.loop-i.i 0 _ (omega arith))

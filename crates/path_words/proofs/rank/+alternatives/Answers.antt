@@ -1,6 +1,6 @@
 use Rattle.std.proofs.Common.{◌≡◌, ap, sym, ◌∙◌, min}
+use Rattle.list_laws.proofs.Numbers.{min-mul}
 use Rattle.path_words.proofs.RankingViews.{alternative_count-And}
-use Rattle.path_words.proofs.RankLemmas.{min-mul}
 use Rattle.path_words.proofs.rank.+alternatives.Goals as goal
 
 pub returns-in-And : goal.returns-in-And
