@@ -7,8 +7,11 @@ use Rattle.std.specs.BTreeSet.{insert_key}
 use Rattle.std.specs.List.{list_any}
 use Rattle.std.proofs.Math.Seq.{take-suc}
 use Rattle.std.proofs.lemmas.List.Sums.{fold-append}
-use Rattle.topology.proofs.Unlike.{or_false}
-use Rattle.topology.specs.Rules.{put, ascending, is_before}
+use Rattle.std.proofs.Math.Bool.{or-false}
+use Rattle.std.proofs.lemmas.Bool.{or_parts}
+use Rattle.list_laws.proofs.Truth.{or_left_comm}
+use Rattle.net_base.specs.Network.{is_before}
+use Rattle.topology.specs.Rules.{put, ascending}
 
 -- how the tree compares two links
 abbrev pub link_cmp : ℕ × ℕ → ℕ × ℕ → Ordering
@@ -27,22 +30,13 @@ by_order false false less2 same2 before equal after apart = refl
 pub insert_key-put : (ks : List (ℕ × ℕ)) (link : ℕ × ℕ) → list_any (λ k. is_eq (link_cmp link k)) ks ≡ false → insert_key link_cmp ks link ≡ put ks link
 insert_key-put [] link h = refl
 insert_key-put (x ∷ xs) link h =
-    let p = or_false (is_eq (link_cmp link x)) (list_any (λ k. is_eq (link_cmp link k)) xs) h in
+    let p = or_parts (is_eq (link_cmp link x)) (list_any (λ k. is_eq (link_cmp link k)) xs) h in
     rw (insert_key-put xs link p.1) (by_order (nat_lt link.0 x.0) (link.0 == x.0) (nat_lt link.1 x.1) (link.1 == x.1) _ _ _ p.0)
-
-or_swap : (a b c : Bool) → (a || (b || c)) ≡ (b || (a || c))
-or_swap true true c = refl
-or_swap true false c = refl
-or_swap false b c = refl
 
 or_assoc_swap : (a b c : Bool) → ((a || b) || c) ≡ (b || (a || c))
 or_assoc_swap true true c = refl
 or_assoc_swap true false c = refl
 or_assoc_swap false b c = refl
-
-or_nothing : (a : Bool) → (a || false) ≡ a
-or_nothing true = refl
-or_nothing false = refl
 
 pub list_any-put : (p : ℕ × ℕ → Bool) (xs : List (ℕ × ℕ)) (link : ℕ × ℕ) → list_any p (put xs link) ≡ (p link || list_any p xs)
 list_any-put p [] link = refl
@@ -50,10 +44,10 @@ list_any-put p (x ∷ xs) link = by (is_before link x) (list_any-put p xs link)
   where
     by : (b : Bool) → list_any p (put xs link) ≡ (p link || list_any p xs) → list_any p (if b then link ∷ x ∷ xs else x ∷ put xs link) ≡ (p link || list_any p (x ∷ xs))
     by true later = refl
-    by false later = rw later (or_swap (p x) (p link) (list_any p xs))
+    by false later = rw later (or_left_comm (p x) (p link) (list_any p xs))
 
 list_any-fold : (p : ℕ × ℕ → Bool) (xs links : List (ℕ × ℕ)) → list_any p (fold put xs links) ≡ (list_any p xs || list_any p links)
-list_any-fold p xs [] = sym (or_nothing (list_any p xs))
+list_any-fold p xs [] = sym (or-false (list_any p xs))
 list_any-fold p xs (l ∷ ls) = list_any-fold p (put xs l) ls ∙ rw (list_any-put p xs l) (or_assoc_swap (p l) (list_any p xs) (list_any p ls))
 
 -- the same links pass a test

@@ -4,6 +4,8 @@ use Rattle.std.specs.Prelude.{⊤, IsTrue, nat_eq, nat_le}
 use Rattle.std.specs.List.{AllByRecursion, IsDistinct}
 use Rattle.std.specs.Str.{bytes_eq}
 use Rattle.std.proofs.lemmas.Bool.{leb-false}
+use Rattle.list_laws.proofs.Texts.{bytes_eq_apart}
+use Rattle.list_laws.proofs.Numbers.{nat_eq_apart}
 use Rattle.net_base.specs.NameRule.{is_name}
 use Rattle.net_base.specs.Steps.{◌>>=◌, unless, each_from}
 use Rattle.net_base.specs.declared.net.Site.{Site}
@@ -17,7 +19,6 @@ use Rattle.topology.specs.Laws.{Keeps}
 use Rattle.topology.specs.Rules.{named, site_of, counted, names_differ, numbers_differ, names_of, is_lawful_as, shared}
 use Rattle.topology.specs.Shape.{Entry, Topology}
 use Rattle.topology.proofs.Distinct.{all_unlike-distinct}
-use Rattle.topology.proofs.Networks.{bytes_eq-swap, nat_eq-swap}
 use Rattle.topology.proofs.Outcomes.{bind_case, unless_err, all_unlike-breaks, all_nothing}
 use Rattle.net_base.proofs.StepLemmas.{bind_ok, err_same, ok_not_err, unless_ok}
 
@@ -74,29 +75,29 @@ all_lawful k place (x ∷ xs) ys h =
 pub names_break : (es : List Entry) (e : TopoFault) → names_differ es ≡ Err e → (IsDistinct bytes_eq (names_of es) → ⊥) × (number_of e ≡ 5)
 unfolding names_differ
 names_break es e h =
-    let q = all_unlike-breaks (λ (e : Entry). e.name) bytes_eq bytes_eq-swap (λ _ _ later. Twice later.name) (λ f. number_of f ≡ 5) (λ k a b. refl) [] es e h in
+    let q = all_unlike-breaks (λ (e : Entry). e.name) bytes_eq bytes_eq_apart (λ _ _ later. Twice later.name) (λ f. number_of f ≡ 5) (λ k a b. refl) [] es e h in
     ((λ d. q.0 d (all_nothing bytes_eq (names_of es))), q.1)
 
 pub names_keep : (es : List Entry) → names_differ es ≡ Ok tt → IsDistinct bytes_eq (names_of es)
 unfolding names_differ
-names_keep es h = (all_unlike-distinct (λ (e : Entry). e.name) bytes_eq bytes_eq-swap (λ _ _ later. Twice later.name) [] es tt h).0
+names_keep es h = (all_unlike-distinct (λ (e : Entry). e.name) bytes_eq bytes_eq_apart (λ _ _ later. Twice later.name) [] es tt h).0
 
 pub asns_break : (es : List Entry) (e : TopoFault) → numbers_differ which.As es ≡ Err e → (IsDistinct nat_eq (map (λ (e : Entry). e.asn) es) → ⊥) × (number_of e ≡ 7)
 unfolding numbers_differ
 asns_break es e h =
-    let q = all_unlike-breaks (λ (e : Entry). e.asn) nat_eq nat_eq-swap (λ _. shared which.As) (λ f. number_of f ≡ 7) (λ k a b. refl) [] es e h in
+    let q = all_unlike-breaks (λ (e : Entry). e.asn) nat_eq nat_eq_apart (λ _. shared which.As) (λ f. number_of f ≡ 7) (λ k a b. refl) [] es e h in
     ((λ d. q.0 d (all_nothing nat_eq (map (λ (e : Entry). e.asn) es))), q.1)
 
 pub asns_keep : (es : List Entry) → numbers_differ which.As es ≡ Ok tt → IsDistinct nat_eq (map (λ (e : Entry). e.asn) es)
 unfolding numbers_differ
-asns_keep es h = (all_unlike-distinct (λ (e : Entry). e.asn) nat_eq nat_eq-swap (λ _. shared which.As) [] es tt h).0
+asns_keep es h = (all_unlike-distinct (λ (e : Entry). e.asn) nat_eq nat_eq_apart (λ _. shared which.As) [] es tt h).0
 
 pub ids_break : (es : List Entry) (e : TopoFault) → numbers_differ which.Id es ≡ Err e → (IsDistinct nat_eq (map (λ (e : Entry). e.id) es) → ⊥) × (number_of e ≡ 8)
 unfolding numbers_differ
 ids_break es e h =
-    let q = all_unlike-breaks (λ (e : Entry). e.id) nat_eq nat_eq-swap (λ _. shared which.Id) (λ f. number_of f ≡ 8) (λ k a b. refl) [] es e h in
+    let q = all_unlike-breaks (λ (e : Entry). e.id) nat_eq nat_eq_apart (λ _. shared which.Id) (λ f. number_of f ≡ 8) (λ k a b. refl) [] es e h in
     ((λ d. q.0 d (all_nothing nat_eq (map (λ (e : Entry). e.id) es))), q.1)
 
 pub ids_keep : (es : List Entry) → numbers_differ which.Id es ≡ Ok tt → IsDistinct nat_eq (map (λ (e : Entry). e.id) es)
 unfolding numbers_differ
-ids_keep es h = (all_unlike-distinct (λ (e : Entry). e.id) nat_eq nat_eq-swap (λ _. shared which.Id) [] es tt h).0
+ids_keep es h = (all_unlike-distinct (λ (e : Entry). e.id) nat_eq nat_eq_apart (λ _. shared which.Id) [] es tt h).0

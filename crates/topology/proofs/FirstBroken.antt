@@ -1,13 +1,13 @@
 -- The fault that is told has the least number of a rule that is broken.
-use Rattle.std.proofs.Common.{◌≡◌, ℕ, ◌+◌, List, [], ◌∷◌, ◌++◌, length, map, Some, Result, Ok, Err, Bool, true, false, ◌||◌, ◌&&◌, not, refl, sym, ap, ◌∙◌, arith, zero, suc, true≢false, eq-eqb, map-id}
+use Rattle.std.proofs.Common.{◌≡◌, ℕ, ◌+◌, List, [], ◌∷◌, ◌++◌, length, map, Result, Ok, Err, Bool, true, false, ◌||◌, ◌&&◌, not, refl, sym, ap, ◌∙◌, arith, zero, suc, true≢false, eq-eqb, map-id}
 use Rattle.std.specs.Prelude.{IsTrue, ◌==◌, nat_le, position}
 use Rattle.std.specs.List.{list_any, AllByRecursion, IsDistinct}
 use Rattle.std.specs.Str.{bytes_eq}
-use Rattle.std.proofs.lemmas.Bool.{eqb-true, eqb-false}
-use Rattle.std.proofs.lemmas.List.Quantifiers.{position-Some}
-use Rattle.std.proofs.lemmas.List.Folds.{list_any_at}
+use Rattle.std.proofs.lemmas.Bool.{eqb-true, eqb-false, and_parts, not-false}
+use Rattle.list_laws.proofs.Positions.{list_any-at_position, list_any-no_position}
+use Rattle.list_laws.proofs.Each.{AllByRecursion-append, AllByRecursion-append_parts, AllByRecursion-from_list_any, list_any_breaks}
 use Rattle.net_base.specs.NameRule.{is_name}
-use Rattle.net_base.specs.Network.{PlainNet, IsNet}
+use Rattle.net_base.specs.Network.{PlainNet, IsNet, same_ends}
 use Rattle.net_base.specs.Steps.{◌>>=◌, each_from}
 use Rattle.net_base.specs.declared.place.Kind.TheVariants as kind
 use Rattle.topology.specs.declared.fault.TopoFault.{TopoFault}
@@ -15,18 +15,15 @@ use Rattle.topology.specs.declared.fault.TopoFault.TheVariants.{LinkTwice, SelfL
 use Rattle.topology.specs.declared.sites.Number.TheVariants as which
 use Rattle.topology.specs.Faults.{number_of}
 use Rattle.topology.specs.Laws.{entries, is_among, same_link, Keeps, KeepsBelow}
-use Rattle.topology.specs.Rules.{named, site_of, counted, names_differ, numbers_differ, names_of, joined, links_differ, ends_differ, routers_linked, links_of, ascending, judged, is_lawful_as, same_ends}
+use Rattle.topology.specs.Rules.{named, site_of, counted, names_differ, numbers_differ, names_of, joined, links_differ, ends_differ, routers_linked, links_of, ascending, judged, is_lawful_as}
 use Rattle.topology.specs.Shape.{each, Entry, Ends, Topology, IsIdentifier}
 use Rattle.topology.proofs.Distinct.{all_unlike-distinct}
 use Rattle.topology.proofs.EntryFaults.{Breaks, counted_breaks, named_breaks, all_named, site_breaks, all_lawful, names_break, names_keep, asns_break, asns_keep, ids_break, ids_keep}
-use Rattle.topology.proofs.LinkNames.{AllJoin, all_join, and_both, distinct_ends, distinct_links, any_join, to_itself, ends_known, joined-breaks, routers_first}
-use Rattle.topology.proofs.LinkRules.{all_false}
-use Rattle.topology.proofs.Networks.{each_named, counted_holds, kept_IsNet, all_append}
-use Rattle.topology.proofs.Outcomes.{bind_case, no_fault-err, each_from-breaks, all_unlike-breaks, all_nothing, any-breaks}
-use Rattle.topology.proofs.Places.{list_any-no_position}
+use Rattle.topology.proofs.LinkNames.{AllJoin, all_join, distinct_ends, distinct_links, any_join, to_itself, ends_known, joined-breaks, routers_first}
+use Rattle.topology.proofs.Networks.{each_named, counted_holds, kept_IsNet}
+use Rattle.topology.proofs.Outcomes.{bind_case, no_fault-err, each_from-breaks, all_unlike-breaks, all_nothing}
 use Rattle.net_base.proofs.StepLemmas.{bind_ok}
 use Rattle.topology.proofs.Results.{no_fault-ok}
-use Rattle.topology.proofs.Unlike.{true_of-not}
 
 -- ---- rules 10 to 12
 
@@ -36,11 +33,8 @@ same_ends-swap x y apart = by (same_ends y x) refl
     by : (b : Bool) → same_ends y x ≡ b → b ≡ false
     by false e = refl
     by true e =
-        let f = and_both (y.0 == x.0) (y.1 == x.1) e in
+        let f = and_parts (y.0 == x.0) (y.1 == x.1) e in
         absurd (true≢false (sym (rw (eq-eqb x.0 y.0 (sym (eqb-true y.0 x.0 f.0)), eq-eqb x.1 y.1 (sym (eqb-true y.1 x.1 f.1))) refl) ∙ apart))
-
-found_at : (p : ℕ × ℕ → Bool) (xs : List (ℕ × ℕ)) (i : ℕ) → position p xs ≡ Some i → list_any p xs ≡ true
-found_at p xs i h = let q = position-Some p xs i (0, 0) h in list_any_at p xs i (0, 0) q.0 q.1
 
 all_not : {A : Type 0} (g : A → Bool) (xs : List A) → AllByRecursion (λ x. IsTrue (g x)) xs → AllByRecursion (λ x. not (g x) ≡ false) xs
 all_not g [] a = tt
@@ -48,7 +42,7 @@ all_not g (x ∷ xs) a = (rw a.0 refl, all_not g xs a.1)
 
 not_all : {A : Type 0} (g : A → Bool) (xs : List A) → AllByRecursion (λ x. not (g x) ≡ false) xs → AllByRecursion (λ x. IsTrue (g x)) xs
 not_all g [] a = tt
-not_all g (x ∷ xs) a = (true_of-not (g x) a.0, not_all g xs a.1)
+not_all g (x ∷ xs) a = (not-false (g x) a.0, not_all g xs a.1)
 
 module _ (names : List (List ℕ)) (es : List Ends) (ps : List (ℕ × ℕ)) (j : AllJoin names es ps) where
   links_break : (e : TopoFault) → links_differ ps ≡ Err e → (IsDistinct same_link es → ⊥) × (number_of e ≡ 10)
@@ -68,11 +62,11 @@ module _ (names : List (List ℕ)) (es : List Ends) (ps : List (ℕ × ℕ)) (j 
   unfolding ends_differ
   ends_break e h =
       let q = no_fault-err (λ i. SelfLink (i + 1)) (position (λ (l : ℕ × ℕ). l.0 == l.1) ps) e h in
-      ((λ a. any-breaks (λ l. bytes_eq l.from l.to) es (sym ends_same ∙ found_at (λ l. l.0 == l.1) ps q.0 q.1) a), ap number_of (sym q.2))
+      ((λ a. list_any_breaks (λ l. bytes_eq l.from l.to) es (sym ends_same ∙ list_any-at_position (λ l. l.0 == l.1) ps q.0 q.1) a), ap number_of (sym q.2))
 
   ends_keep : ends_differ ps ≡ Ok tt → AllByRecursion (λ l. bytes_eq l.from l.to ≡ false) es
   unfolding ends_differ
-  ends_keep h = all_false (λ l. bytes_eq l.from l.to) es (sym ends_same ∙ list_any-no_position (λ (l : ℕ × ℕ). l.0 == l.1) ps (no_fault-ok _ _ _ h))
+  ends_keep h = AllByRecursion-from_list_any (λ l. bytes_eq l.from l.to) es (sym ends_same ∙ list_any-no_position (λ (l : ℕ × ℕ). l.0 == l.1) ps (no_fault-ok _ _ _ h))
 
 module _ (rs qs : List Entry) (es : List Ends) (ps : List (ℕ × ℕ)) (j : AllJoin (names_of (rs ++ qs)) es ps) where
   router_ends : list_any (λ l. nat_le (length rs) l.0) ps ≡ list_any (λ l. not (is_among rs l.from || is_among rs l.to)) es
@@ -82,13 +76,13 @@ module _ (rs qs : List Entry) (es : List Ends) (ps : List (ℕ × ℕ)) (j : All
   unfolding routers_linked
   routers_break e h =
       let q = no_fault-err (λ i. PeerLink (i + 1)) (position (λ (l : ℕ × ℕ). nat_le (length rs) l.0) ps) e h in
-      ((λ a. any-breaks (λ l. not (is_among rs l.from || is_among rs l.to)) es (sym router_ends ∙ found_at (λ l. nat_le (length rs) l.0) ps q.0 q.1) (all_not (λ l. is_among rs l.from || is_among rs l.to) es a)), ap number_of (sym q.2))
+      ((λ a. list_any_breaks (λ l. not (is_among rs l.from || is_among rs l.to)) es (sym router_ends ∙ list_any-at_position (λ l. nat_le (length rs) l.0) ps q.0 q.1) (all_not (λ l. is_among rs l.from || is_among rs l.to) es a)), ap number_of (sym q.2))
 
   routers_keep : routers_linked (length rs) ps ≡ Ok tt → AllByRecursion (λ l. IsTrue (is_among rs l.from || is_among rs l.to)) es
   unfolding routers_linked
   routers_keep h =
       not_all (λ l. is_among rs l.from || is_among rs l.to) es
-      (all_false (λ l. not (is_among rs l.from || is_among rs l.to)) es (sym router_ends ∙ list_any-no_position (λ (l : ℕ × ℕ). nat_le (length rs) l.0) ps (no_fault-ok _ _ _ h)))
+      (AllByRecursion-from_list_any (λ l. not (is_among rs l.from || is_among rs l.to)) es (sym router_ends ∙ list_any-no_position (λ (l : ℕ × ℕ). nat_le (length rs) l.0) ps (no_fault-ok _ _ _ h)))
 
 -- ---- one rule after the other
 
@@ -134,10 +128,6 @@ links_outcome t below y h =
     (λ e p same. broken 12 t y e below_12 (routers_break t.routers t.peers t.links ps j e p) same)
     (λ _ p g. rw (← g) (next 12 t below_12 (routers_keep t.routers t.peers t.links ps j p))))))
 
-split_all : {A : Type 0} (P : A → Type 0) (xs ys : List A) → AllByRecursion P (xs ++ ys) → AllByRecursion P xs × AllByRecursion P ys
-split_all P [] ys a = (tt, a)
-split_all P (x ∷ xs) ys a = let q = split_all P xs ys a.1 in ((a.0, q.0), q.1)
-
 -- the rules from the names on, of entries that have names
 named_outcome : (t : Topology) → KeepsBelow 5 t → (y : Result PlainNet TopoFault)
     → (names_differ (entries t) >>= (λ _. each (site_of kind.Routers) t.routers >>= (λ router_sites. each (site_of kind.Peers) t.peers >>= (λ peer_sites.
@@ -180,12 +170,12 @@ judged_outcome t y h =
     let below_4 = next 3 t (below_3 t) (counted_holds t p) in
     bind_case (Outcome t y) (each_from (named kind.Routers) 1 t.routers) _ y g
     (λ e p same. let q = each_from-breaks lawful (λ f. number_of f ≡ 4) (named kind.Routers) (named_breaks kind.Routers) 1 t.routers e p in
-    broken 4 t y e below_4 ((λ k. q.0 (split_all lawful t.routers t.peers k).0), q.1) same)
+    broken 4 t y e below_4 ((λ k. q.0 (AllByRecursion-append_parts lawful t.routers t.peers k).0), q.1) same)
     (λ rs rp g.
     bind_case (Outcome t y) (each_from (named kind.Peers) 1 t.peers) _ y g
     (λ e p same. let q = each_from-breaks lawful (λ f. number_of f ≡ 4) (named kind.Peers) (named_breaks kind.Peers) 1 t.peers e p in
-    broken 4 t y e below_4 ((λ k. q.0 (split_all lawful t.routers t.peers k).1), q.1) same)
-    (λ ps pp g. named_outcome t (next 4 t below_4 (all_append lawful t.routers t.peers (all_named kind.Routers 1 t.routers rs rp) (all_named kind.Peers 1 t.peers ps pp))) y
+    broken 4 t y e below_4 ((λ k. q.0 (AllByRecursion-append_parts lawful t.routers t.peers k).1), q.1) same)
+    (λ ps pp g. named_outcome t (next 4 t below_4 (AllByRecursion-append lawful t.routers t.peers (all_named kind.Routers 1 t.routers rs rp) (all_named kind.Peers 1 t.peers ps pp))) y
     (rw (each_named kind.Routers t.routers rs rp, each_named kind.Peers t.peers ps pp) at g))))
 
 -- a topology that breaks no rule is a network

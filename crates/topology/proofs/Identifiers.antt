@@ -3,6 +3,7 @@ use Rattle.std.proofs.Common.{◌≡◌, ℕ, ◌+◌, ◌*◌, ◌^◌, ◌<◌
 use Rattle.std.specs.Prelude.{◌==◌, nat_le, if◌then◌else◌, option_and_then, codes}
 use Rattle.std.specs.List.{AllByRecursion}
 use Rattle.std.proofs.lemmas.Bool.{leb-true, eqb-false}
+use Rattle.std.proofs.lemmas.Option.{same_Some}
 use Rattle.serde_json.specs.Data.{Data}
 use Rattle.serde_json.specs.Find.{get, as_object}
 use Rattle.serde_json.specs.Events.{members_len}
@@ -10,7 +11,7 @@ use Rattle.net_base.specs.Addresses.{Quad, quad_of, are_octets, bits_of, address
 use Rattle.net_base.specs.Steps.{or_fault, unless}
 use Rattle.net_base.specs.declared.place.Field.TheVariants as field
 use Rattle.topology.specs.declared.fault.TopoFault.TheVariants.{Shape}
-use Rattle.topology.specs.Json.{list_at, text_at, number_at}
+use Rattle.json_words.specs.Json.{list_at, text_at, number_at}
 use Rattle.topology.specs.Shape.{Entry, Topology, each, entry_of, ends_of, shape_of, identifier_of, IsIdentifier}
 use Rattle.net_base.proofs.StepLemmas.{bind_ok, or_fault_ok, ok_same}
 use Rattle.topology.proofs.Results.{each_from-all}
@@ -25,15 +26,12 @@ octets_fit a b c d h = by (nat_le a 255) (nat_le b 255) (nat_le c 255) (nat_le d
     by true false r s e f g k t = absurd cc
     by false q r s e f g k t = absurd cc
 
-some_same : (x y : ℕ) → (let r : Option ℕ = Some x in r ≡ Some y) → x ≡ y
-some_same x y h = cc
-
 address_fits : (text : List ℕ) (n : ℕ) → address_of text ≡ Some n → n < 2 ^ 32
 unfolding address_of
 address_fits text n h = by (quad_of text) refl
   where
     within : (q : Quad) (b : Bool) → are_octets q ≡ b → (if b then Some (bits_of q) else (let r : Option ℕ = None in r)) ≡ Some n → n < 2 ^ 32
-    within q true e h = rw (← some_same (bits_of q) n h) (octets_fit q.first q.second q.third q.fourth e)
+    within q true e h = rw (← same_Some (bits_of q) n h) (octets_fit q.first q.second q.third q.fourth e)
     within q false e h = absurd cc
 
     by : (r : Option Quad) → quad_of text ≡ r → n < 2 ^ 32
@@ -45,7 +43,7 @@ identifier_holds text n h = by (address_of text) refl h
   where
     apart : (m : ℕ) (b : Bool) → (m == 0) ≡ b → address_of text ≡ Some m → (if b then (let r : Option ℕ = None in r) else Some m) ≡ Some n → IsIdentifier n
     apart m true e a h = absurd cc
-    apart m false e a h = rw (← some_same m n h) (eqb-false m 0 e, address_fits text m a)
+    apart m false e a h = rw (← same_Some m n h) (eqb-false m 0 e, address_fits text m a)
 
     by : (r : Option ℕ) → address_of text ≡ r → option_and_then (λ m. if m == 0 then None else Some m) r ≡ Some n → IsIdentifier n
     by (Some m) a h = apart m (m == 0) refl a h

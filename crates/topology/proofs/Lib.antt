@@ -1,8 +1,5 @@
 pub mod Each
-pub mod JsonLists
-pub mod JsonTexts
 pub mod Unlike
-pub mod Places
 pub mod Ascending
 pub mod Networks
 pub mod Results
@@ -15,3 +12,4 @@ pub mod LinkNames
 pub mod FirstBroken
 pub mod ShapeFaults
 pub mod TextLaws
+pub mod LawfulNames

@@ -1,27 +1,26 @@
 -- What links between names say of links between locations.
-use Rattle.std.proofs.Common.{◌≡◌, ℕ, ◌+◌, ◌<◌, ◌≤◌, ◌⊎◌, inl, inr, List, [], ◌∷◌, ◌++◌, length, get_or, Option, Some, None, Ok, Err, Bool, true, false, ◌||◌, ◌&&◌, not, cond, refl, sym, ap, ◌∙◌, arith, ltb-true, ltb-false, lt-ltb, eq-eqb, true≢false}
+use Rattle.std.proofs.Common.{◌≡◌, ℕ, ◌+◌, ◌≤◌, ◌⊎◌, inl, inr, List, [], ◌∷◌, ◌++◌, length, get_or, Option, Some, Ok, Err, Bool, true, false, ◌||◌, ◌&&◌, not, refl, sym, ap, ◌∙◌, arith, ltb-true, ltb-false, eq-eqb, true≢false}
 use Rattle.std.specs.Prelude.{⊤, IsTrue, ◌==◌, nat_lt, nat_le, if◌then◌else◌, position}
 use Rattle.std.specs.List.{list_any, position_or_len, AllByRecursion, IsDistinct}
 use Rattle.std.specs.Str.{bytes_eq}
-use Rattle.std.proofs.lemmas.Bool.{eqb-false, eqb-true, leb-false, leb-true}
+use Rattle.std.proofs.lemmas.Bool.{eqb-false, eqb-true, leb-false, leb-true, and_parts}
 use Rattle.std.proofs.lemmas.List.{map-append, length-map}
 use Rattle.std.proofs.lemmas.List.Folds.{list_any_at}
 use Rattle.std.proofs.lemmas.List.Quantifiers.{position-Some}
 use Rattle.std.proofs.lemmas.Slice.Eq.{bytes_eq-Decides}
+use Rattle.std.proofs.lemmas.Option.{cond_some}
+use Rattle.list_laws.proofs.Positions.{list_any-no_position, list_any-position}
+use Rattle.list_laws.proofs.Truth.{same_tests}
 use Rattle.net_base.specs.Steps.{◌>>=◌, or_fault, each_from}
 use Rattle.topology.specs.declared.fault.TopoFault.{TopoFault}
 use Rattle.topology.specs.declared.fault.TopoFault.TheVariants.{UnknownEnd}
 use Rattle.topology.specs.Faults.{number_of}
 use Rattle.topology.specs.Laws.{is_among, same_link}
-use Rattle.topology.specs.Rules.{names_of, ordered, joined, same_ends}
+use Rattle.net_base.specs.Network.{ordered, same_ends}
+use Rattle.topology.specs.Rules.{names_of, joined}
 use Rattle.topology.specs.Shape.{Entry, Ends}
-use Rattle.topology.proofs.Outcomes.{bool_same, bind_case, or_fault_err}
-use Rattle.topology.proofs.Places.{list_any-no_position}
+use Rattle.topology.proofs.Outcomes.{bind_case, or_fault_err}
 use Rattle.net_base.proofs.StepLemmas.{bind_ok, err_same, ok_not_err, ok_same, or_fault_ok}
-
-pub and_both : (b c : Bool) → (b && c) ≡ true → (b ≡ true) × (c ≡ true)
-and_both true c h = (refl, h)
-and_both false c h = absurd cc
 
 -- ---- the ends of a link in order
 
@@ -40,11 +39,11 @@ ordered_is : (i j : ℕ) (p : ℕ × ℕ) → ordered i j ≡ p → Orders i j p
 ordered_is i j p is = rw (← is) (ordered_orders i j)
 
 same_pairs : (i j k l : ℕ) (p q : ℕ × ℕ) → Orders i j p → Orders k l q → same_ends p q ≡ ((i == k && j == l) || (i == l && j == k))
-same_pairs i j k l p q a b = bool_same _ _ there back
+same_pairs i j k l p q a b = same_tests _ _ there back
   where
     there : same_ends p q ≡ true → ((i == k && j == l) || (i == l && j == k)) ≡ true
     there h =
-        let e = and_both (p.0 == q.0) (p.1 == q.1) h in
+        let e = and_parts (p.0 == q.0) (p.1 == q.1) h in
         let x = eqb-true p.0 q.0 e.0 in
         let y = eqb-true p.1 q.1 e.1 in
         by (i == k) refl x y
@@ -60,18 +59,18 @@ same_pairs i j k l p q a b = bool_same _ _ there back
       where
         by : (t : Bool) → (i == k && j == l) ≡ t → (t || (i == l && j == k)) ≡ true → same_ends p q ≡ true
         by true e h =
-            let f = and_both (i == k) (j == l) e in
+            let f = and_parts (i == k) (j == l) e in
             let x = eqb-true i k f.0 in
             let y = eqb-true j l f.1 in
             rw (eq-eqb p.0 q.0 (omega (arith, x, y, a.0, a.1, a.2, b.0, b.1, b.2)), eq-eqb p.1 q.1 (omega (arith, x, y, a.0, a.1, a.2, b.0, b.1, b.2))) refl
         by false e h =
-            let f = and_both (i == l) (j == k) h in
+            let f = and_parts (i == l) (j == k) h in
             let x = eqb-true i l f.0 in
             let y = eqb-true j k f.1 in
             rw (eq-eqb p.0 q.0 (omega (arith, x, y, a.0, a.1, a.2, b.0, b.1, b.2)), eq-eqb p.1 q.1 (omega (arith, x, y, a.0, a.1, a.2, b.0, b.1, b.2))) refl
 
 same_ends_of : (i j : ℕ) (p : ℕ × ℕ) → Orders i j p → (p.0 == p.1) ≡ (i == j)
-same_ends_of i j p a = bool_same _ _ (λ h. let x = eqb-true p.0 p.1 h in eq-eqb i j (omega (arith, x, a.1, a.2))) (λ h. let x = eqb-true i j h in eq-eqb p.0 p.1 (omega (arith, x, a.1, a.2)))
+same_ends_of i j p a = same_tests _ _ (λ h. let x = eqb-true p.0 p.1 h in eq-eqb i j (omega (arith, x, a.1, a.2))) (λ h. let x = eqb-true i j h in eq-eqb p.0 p.1 (omega (arith, x, a.1, a.2)))
 
 both_from : (n i j : ℕ) (p : ℕ × ℕ) → Orders i j p → nat_le n p.0 ≡ not (nat_lt i n || nat_lt j n)
 both_from n i j p a = by (nat_lt i n) (nat_lt j n) (nat_le n p.0) refl refl refl
@@ -87,7 +86,7 @@ both_from n i j p a = by (nat_lt i n) (nat_lt j n) (nat_le n p.0) refl refl refl
 -- ---- names and their places
 
 same_place : (x y : List ℕ) (names : List (List ℕ)) (i j : ℕ) → position (bytes_eq x) names ≡ Some i → position (bytes_eq y) names ≡ Some j → bytes_eq x y ≡ (i == j)
-same_place x y names i j a b = bool_same _ _ there back
+same_place x y names i j a b = same_tests _ _ there back
   where
     there : bytes_eq x y ≡ true → (i == j) ≡ true
     there h = eq-eqb i j (some_same i j (sym a ∙ ap (λ z. position (bytes_eq z) names) ((bytes_eq-Decides x y).0 h) ∙ b))
@@ -104,38 +103,12 @@ same_place x y names i j a b = bool_same _ _ there back
         let f = (bytes_eq-Decides y (get_or names j [])).0 q in
         (bytes_eq-Decides x y).1 (e ∙ ap (λ n. get_or names n []) s ∙ sym f)
 
--- a name is among the first ones exactly where its place is before theirs end
-among_first : (p : List ℕ → Bool) (ns ms : List (List ℕ)) → position_or_len p (ns ++ ms) < length (ns ++ ms) → list_any p ns ≡ nat_lt (position_or_len p (ns ++ ms)) (length ns)
-among_first p [] ms within = sym (not_less (position_or_len p ms))
-  where
-    not_less : (n : ℕ) → nat_lt n 0 ≡ false
-    not_less n = by (nat_lt n 0) refl
-      where
-        by : (b : Bool) → nat_lt n 0 ≡ b → b ≡ false
-        by false e = refl
-        by true e = absurd (omega (arith, ltb-true n 0 e))
-among_first p (n ∷ ns) ms within = by (p n) refl (among_first p ns ms)
-  where
-    place : ℕ
-    place = position_or_len p (ns ++ ms)
-
-    by : (b : Bool) → p n ≡ b → (place < length (ns ++ ms) → list_any p ns ≡ nat_lt place (length ns)) → list_any p (n ∷ ns) ≡ nat_lt (position_or_len p (n ∷ ns ++ ms)) (length (n ∷ ns))
-    by true e later = rw e (sym (lt-ltb 0 (length (n ∷ ns)) (omega arith)))
-    by false e later = rw e (later (let w : 1 + place < length (n ∷ ns ++ ms) = rw e at within in omega (arith, w)) ∙ one_more place (length ns) ∙ ap (nat_lt (1 + place)) (omega arith))
-      where
-        one_more : (a b : ℕ) → nat_lt a b ≡ nat_lt (1 + a) (1 + b)
-        one_more a b = bool_same _ _ (λ h. lt-ltb (1 + a) (1 + b) (omega (arith, ltb-true a b h))) (λ h. lt-ltb a b (omega (arith, ltb-true (1 + a) (1 + b) h)))
-
-some_place : (b : Bool) (n i : ℕ) → cond b (Some n) None ≡ Some i → (b ≡ true) × (n ≡ i)
-some_place true n i h = (refl, cc)
-some_place false n i h = absurd cc
-
 among_place : (rs ps : List Entry) (name : List ℕ) (i : ℕ) → position (bytes_eq name) (names_of (rs ++ ps)) ≡ Some i → is_among rs name ≡ nat_lt i (length rs)
 among_place rs ps name i h =
     let joined : names_of (rs ++ ps) ≡ names_of rs ++ names_of ps = map-append (λ (e : Entry). e.name) rs ps in
     let all = names_of rs ++ names_of ps in
-    let s = some_place (nat_lt (position_or_len (bytes_eq name) all) (length all)) (position_or_len (bytes_eq name) all) i (rw joined at h) in
-    among_first (bytes_eq name) (names_of rs) (names_of ps) (ltb-true _ _ s.0) ∙ rw (s.1, length-map rs (λ (e : Entry). e.name)) refl
+    let s = cond_some (nat_lt (position_or_len (bytes_eq name) all) (length all)) (position_or_len (bytes_eq name) all) i (rw joined at h) in
+    list_any-position (bytes_eq name) (names_of rs) (names_of ps) (ltb-true _ _ s.0) ∙ rw (s.1, length-map rs (λ (e : Entry). e.name)) refl
 
 -- ---- a link of names and a link of locations
 
@@ -233,11 +206,11 @@ module _ (names : List (List ℕ)) where
       bind_case ((IsTrue (list_any (bytes_eq e.from) names && list_any (bytes_eq e.to) names) → ⊥) × (number_of f ≡ 9)) (or_fault (UnknownEnd k) (position (bytes_eq e.from) names)) (λ a. or_fault (UnknownEnd k) (position (bytes_eq e.to) names) >>= (λ b. Ok (ordered a b))) (Err f) h
       (λ d p same. let q = or_fault_err (UnknownEnd k) d (position (bytes_eq e.from) names) p in
       let none = list_any-no_position (bytes_eq e.from) names q.1 in
-      ((λ is. true≢false (sym (and_both _ _ is).0 ∙ none)), ap number_of (err_same f d same ∙ sym q.0)))
+      ((λ is. true≢false (sym (and_parts _ _ is).0 ∙ none)), ap number_of (err_same f d same ∙ sym q.0)))
       (λ a _ g. bind_case ((IsTrue (list_any (bytes_eq e.from) names && list_any (bytes_eq e.to) names) → ⊥) × (number_of f ≡ 9)) (or_fault (UnknownEnd k) (position (bytes_eq e.to) names)) (λ b. Ok (ordered a b)) (Err f) g
       (λ d p same. let q = or_fault_err (UnknownEnd k) d (position (bytes_eq e.to) names) p in
       let none = list_any-no_position (bytes_eq e.to) names q.1 in
-      ((λ is. true≢false (sym (and_both _ _ is).1 ∙ none)), ap number_of (err_same f d same ∙ sym q.0)))
+      ((λ is. true≢false (sym (and_parts _ _ is).1 ∙ none)), ap number_of (err_same f d same ∙ sym q.0)))
       (λ b _ k. absurd (ok_not_err (ordered a b) f k)))
 
 -- so many of the entries are routers, and they stand first

@@ -3,18 +3,19 @@ use Rattle.std.proofs.Common.{◌≡◌, ℕ, ◌+◌, ◌<◌, ◌≤◌, List,
 use Rattle.std.specs.Prelude.{⊤, ◌==◌, nat_lt, nat_le, fold, if◌then◌else◌, position, option_map}
 use Rattle.std.specs.List.{list_any, find, AllByRecursion}
 use Rattle.std.specs.Str.{bytes_eq}
-use Rattle.std.proofs.lemmas.Bool.{eqb-false, eqb-true, leb-false}
+use Rattle.std.proofs.lemmas.Bool.{eqb-false, eqb-true, leb-false, or_parts}
 use Rattle.std.proofs.lemmas.List.{append-nil, length-map}
 use Rattle.std.proofs.lemmas.List.Sums.{fold-append}
 use Rattle.std.proofs.lemmas.List.Quantifiers.{position-Some}
-use Rattle.net_base.specs.Network.{Ascend, IsBefore}
+use Rattle.list_laws.proofs.Each.{AllByRecursion-from_list_any}
+use Rattle.list_laws.proofs.Tests.{list_any-not_found}
+use Rattle.list_laws.proofs.Positions.{list_any-no_position}
+use Rattle.net_base.specs.Network.{Ascend, IsBefore, is_before, same_ends, ordered}
 use Rattle.net_base.specs.Steps.{◌>>=◌, or_fault, each_from}
 use Rattle.topology.specs.declared.fault.TopoFault.TheVariants.{UnknownEnd, LinkTwice}
 use Rattle.topology.specs.Shape.{Ends}
-use Rattle.topology.specs.Rules.{all_unlike, no_fault, is_before, put, ascending, same_ends, ordered, joined, links_differ, ends_differ, routers_linked, links_of}
+use Rattle.topology.specs.Rules.{all_unlike, no_fault, put, ascending, joined, links_differ, ends_differ, routers_linked, links_of}
 use Rattle.topology.proofs.Ascending.{list_any-ascending}
-use Rattle.topology.proofs.Unlike.{none_found, or_false}
-use Rattle.topology.proofs.Places.{list_any-no_position}
 use Rattle.net_base.proofs.StepLemmas.{bind_ok, or_fault_ok, ok_same}
 use Rattle.topology.proofs.Results.{no_fault-ok, each_from-all, each_from-view}
 
@@ -72,20 +73,16 @@ ascend_put (x ∷ xs) link a none = by (is_before link x) refl (ascend_put xs li
     by : (b : Bool) → is_before link x ≡ b → (list_any (same_ends link) xs ≡ false → Ascend (put xs link)) → Ascend (if b then link ∷ x ∷ xs else x ∷ put xs link)
     by true e later = let b = before_true link.0 link.1 x.0 x.1 e in ((b, all_after link x xs b a.0), a)
     by false e later =
-        let p = or_false (same_ends link x) (list_any (same_ends link) xs) none in
+        let p = or_parts (same_ends link x) (list_any (same_ends link) xs) none in
         (all_put (IsBefore x) xs link a.0 (before_false link.0 link.1 x.0 x.1 e p.0), later p.1)
 
 ascending_ascends : (before xs : List (ℕ × ℕ)) (u : ⊤) → all_unlike same_ends (λ place _ _. LinkTwice place) before xs ≡ Ok u → Ascend (ascending before) → Ascend (ascending (before ++ xs))
 ascending_ascends before [] u h a = rw (append-nil before) a
 ascending_ascends before (x ∷ xs) u h a =
     let p = bind_ok (no_fault (option_map (λ (earlier : ℕ × ℕ). LinkTwice (length before + 1)) (find (same_ends x) before))) (λ _. all_unlike same_ends (λ place _ _. LinkTwice place) (before ++ x ∷ []) xs) u h in
-    let none = none_found (same_ends x) before (no_fault-ok _ _ _ p.1) in
+    let none = list_any-not_found (same_ends x) before (no_fault-ok _ _ _ p.1) in
     let next : Ascend (ascending (before ++ x ∷ [])) = rw (fold-append put [] before (x ∷ [])) (ascend_put (ascending before) x a (list_any-ascending (same_ends x) before ∙ none)) in
     rw (append_assoc before (x ∷ []) xs) at (ascending_ascends (before ++ x ∷ []) xs u p.2 next)
-
-pub all_false : {A : Type 0} (p : A → Bool) (xs : List A) → list_any p xs ≡ false → AllByRecursion (λ x. p x ≡ false) xs
-all_false p [] h = tt
-all_false p (x ∷ xs) h = let q = or_false (p x) (list_any p xs) h in (q.0, all_false p xs q.1)
 
 -- a link between so many locations, of which so many are routers, the lesser end first
 abbrev pub IsLinkOf : ℕ → ℕ → ℕ × ℕ → Type 0
@@ -124,8 +121,8 @@ links_hold names routers ends links h =
     let r = bind_ok (ends_differ pairs) (λ _. routers_linked routers pairs >>= (λ _. Ok (ascending pairs))) links q.2 in
     let s = bind_ok (routers_linked routers pairs) (λ _. Ok (ascending pairs)) links r.2 in
     let within = each_from-all (λ (l : ℕ × ℕ). (l.0 ≤ l.1) × (l.1 < length names)) (joined names) (joined_holds names) 1 ends pairs p.1 in
-    let apart = all_false (λ l. l.0 == l.1) pairs (list_any-no_position (λ (l : ℕ × ℕ). l.0 == l.1) pairs (no_fault-ok _ _ _ r.1)) in
-    let routed = all_false (λ l. nat_le routers l.0) pairs (list_any-no_position (λ (l : ℕ × ℕ). nat_le routers l.0) pairs (no_fault-ok _ _ _ s.1)) in
+    let apart = AllByRecursion-from_list_any (λ l. l.0 == l.1) pairs (list_any-no_position (λ (l : ℕ × ℕ). l.0 == l.1) pairs (no_fault-ok _ _ _ r.1)) in
+    let routed = AllByRecursion-from_list_any (λ l. nat_le routers l.0) pairs (list_any-no_position (λ (l : ℕ × ℕ). nat_le routers l.0) pairs (no_fault-ok _ _ _ s.1)) in
     let same = each_from-view {C = ℕ} (λ (e : Ends). 0) (λ (l : ℕ × ℕ). 0) (joined names) (λ k e l i. refl) 1 ends pairs p.1 in
     let count : length pairs ≡ length ends = sym (length-map pairs (λ l. 0)) ∙ ap length same ∙ length-map ends (λ e. 0) in
     rw (← ok_same (ascending pairs) links s.2) (

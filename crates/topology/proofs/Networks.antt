@@ -3,10 +3,12 @@ use Rattle.std.proofs.Common.{◌≡◌, ℕ, ◌+◌, ◌≤◌, List, [], ◌�
 use Rattle.std.specs.Prelude.{IsTrue, nat_eq, nat_le}
 use Rattle.std.specs.List.{AllByRecursion}
 use Rattle.std.specs.Str.{bytes_eq}
-use Rattle.std.proofs.Common.{map-id, length-append, true≢false, false}
+use Rattle.std.proofs.Common.{map-id, length-append}
 use Rattle.std.proofs.lemmas.List.{map-append, length-map}
-use Rattle.std.proofs.lemmas.Bool.{eqb-false, eqb-true, leb-true, false_from_ne_true}
-use Rattle.std.proofs.lemmas.Slice.Eq.{bytes_eq-Decides}
+use Rattle.std.proofs.lemmas.Bool.{leb-true}
+use Rattle.list_laws.proofs.Each.{AllByRecursion-append}
+use Rattle.list_laws.proofs.Texts.{bytes_eq_apart}
+use Rattle.list_laws.proofs.Numbers.{nat_eq_apart}
 use Rattle.net_base.specs.NameRule.{is_name}
 use Rattle.net_base.specs.Network.{IsNet}
 use Rattle.net_base.specs.declared.place.Kind.{Kind}
@@ -48,17 +50,6 @@ map_entry key (s ∷ ss) = ap (λ ks. key (site_entry s) ∷ ks) (map_entry key 
 all_entry : (P : Entry → Type 0) (ss : List Site) → AllByRecursion P (map site_entry ss) → AllByRecursion (λ s. P (site_entry s)) ss
 all_entry P [] a = tt
 all_entry P (s ∷ ss) a = (a.0, all_entry P ss a.1)
-
-pub all_append : {A : Type 0} (P : A → Type 0) (xs ys : List A) → AllByRecursion P xs → AllByRecursion P ys → AllByRecursion P (xs ++ ys)
-all_append P [] ys a b = b
-all_append P (x ∷ xs) ys a b = (a.0, all_append P xs ys a.1 b)
-
-pub bytes_eq-swap : (x y : List ℕ) → bytes_eq x y ≡ false → bytes_eq y x ≡ false
-bytes_eq-swap x y apart =
-    false_from_ne_true (bytes_eq y x) (λ same. true≢false (sym ((bytes_eq-Decides x y).1 (sym ((bytes_eq-Decides y x).0 same))) ∙ apart))
-
-pub nat_eq-swap : (x y : ℕ) → nat_eq x y ≡ false → nat_eq y x ≡ false
-nat_eq-swap x y apart = false_from_ne_true (nat_eq y x) (λ same. eqb-false x y apart (sym (eqb-true y x same)))
 
 named_same : (k : Kind) (place : ℕ) (e y : Entry) → named k place e ≡ Ok y → y ≡ e
 unfolding named
@@ -106,16 +97,16 @@ module _ (t : Topology) (routers peers : List Entry) (router_sites peer_sites : 
       let locations : length (names_of (routers ++ peers)) ≡ length router_sites + length peer_sites =
       length-map (routers ++ peers) (λ (e : Entry). e.name) ∙ length-append routers peers ∙ rw (count_routers, count_peers) refl in
       let ranges : AllByRecursion (λ e. IsIdentifier e.id) (routers ++ peers) =
-      all_append (λ (e : Entry). IsIdentifier e.id) routers peers (rw (each_named kind.Routers t.routers routers named_routers) id_routers) (rw (each_named kind.Peers t.peers peers named_peers) id_peers) in
+      AllByRecursion-append (λ (e : Entry). IsIdentifier e.id) routers peers (rw (each_named kind.Routers t.routers routers named_routers) id_routers) (rw (each_named kind.Peers t.peers peers named_peers) id_peers) in
       record {
         routers = rw (count_routers, each_named kind.Routers t.routers routers named_routers) c.0;
         peers = rw (count_peers, each_named kind.Peers t.peers peers named_peers) c.1;
         count = rw l.2 c.2;
-        names = rw (map_entry (λ e. e.name) (router_sites ++ peer_sites), all) (all_unlike-distinct (λ (e : Entry). e.name) bytes_eq bytes_eq-swap (λ _ _ later. Twice later.name) [] (routers ++ peers) tt names).0;
+        names = rw (map_entry (λ e. e.name) (router_sites ++ peer_sites), all) (all_unlike-distinct (λ (e : Entry). e.name) bytes_eq bytes_eq_apart (λ _ _ later. Twice later.name) [] (routers ++ peers) tt names).0;
         router_asns = r.1;
         peer_asns = p.1;
-        asns = rw (map_entry (λ e. e.asn) (router_sites ++ peer_sites), all) (all_unlike-distinct (λ (e : Entry). e.asn) nat_eq nat_eq-swap (λ _. shared which.As) [] (routers ++ peers) tt asns).0;
-        ids = rw (map_entry (λ e. e.id) (router_sites ++ peer_sites), all) (all_unlike-distinct (λ (e : Entry). e.id) nat_eq nat_eq-swap (λ _. shared which.Id) [] (routers ++ peers) tt ids).0;
+        asns = rw (map_entry (λ e. e.asn) (router_sites ++ peer_sites), all) (all_unlike-distinct (λ (e : Entry). e.asn) nat_eq nat_eq_apart (λ _. shared which.As) [] (routers ++ peers) tt asns).0;
+        ids = rw (map_entry (λ e. e.id) (router_sites ++ peer_sites), all) (all_unlike-distinct (λ (e : Entry). e.id) nat_eq nat_eq_apart (λ _. shared which.Id) [] (routers ++ peers) tt ids).0;
         id_ranges = all_entry (λ e. IsIdentifier e.id) (router_sites ++ peer_sites) (rw all ranges);
         links = rw (locations, ← count_routers) at l.0;
         order = l.1;

@@ -1,15 +1,15 @@
 -- Which step decided, and what a step that failed tells.
 use Rattle.std.proofs.Common.{◌≡◌, ℕ, ◌+◌, List, [], ◌∷◌, ◌++◌, length, map, Option, Some, None, Result, Ok, Err, Bool, true, false, refl, sym, ◌∙◌, true≢false}
 use Rattle.std.specs.Prelude.{option_map}
-use Rattle.std.specs.List.{list_any, find, AllByRecursion, IsDistinct}
+use Rattle.std.specs.List.{find, AllByRecursion, IsDistinct}
 use Rattle.std.proofs.lemmas.List.{map-append}
 use Rattle.std.proofs.lemmas.List.Folds.{list_any-append}
+use Rattle.list_laws.proofs.Tests.{list_any-found, list_any-map}
 use Rattle.net_base.specs.Steps.{◌>>=◌, or_fault, unless, each_from}
 use Rattle.topology.specs.declared.fault.TopoFault.{TopoFault}
 use Rattle.topology.specs.Rules.{all_unlike, no_fault}
 use Rattle.topology.proofs.Distinct.{NotIn}
 use Rattle.net_base.proofs.StepLemmas.{err_same, ok_not_err}
-use Rattle.topology.proofs.Unlike.{find-none, list_any-map}
 
 -- either the first step decided, or it went well and the rest did
 pub bind_case : {A B : Type 0} (C : Type 0) (r : Result A TopoFault) (f : A → Result B TopoFault) (y : Result B TopoFault) → (r >>= f) ≡ y
@@ -40,13 +40,6 @@ each_from-breaks P Q f each k (x ∷ xs) e h =
     (λ d p same. let q = each_from-breaks P Q f each (k + 1) xs d p in ((λ a. q.0 a.1), rw (err_same e d same) q.1))
     (λ ys _ k. absurd (ok_not_err (y ∷ ys) e k)))
 
-find_any : {A : Type 0} (p : A → Bool) (xs : List A) (y : A) → find p xs ≡ Some y → list_any p xs ≡ true
-find_any p xs y h = by (list_any p xs) refl
-  where
-    by : (b : Bool) → list_any p xs ≡ b → b ≡ true
-    by true e = refl
-    by false e = absurd (let n = sym (find-none p xs e) ∙ h in cc)
-
 module _ {A B : Type 0} (key : A → B) (eq : B → B → Bool) (swap : (x y : B) → eq x y ≡ false → eq y x ≡ false) (told : ℕ → A → A → TopoFault) where
   join_it : (seen : List B) (x : B) (ys : List B) → AllByRecursion (NotIn eq seen) ys → AllByRecursion (λ y. eq x y ≡ false) ys → AllByRecursion (NotIn eq (seen ++ x ∷ [])) ys
   join_it seen x [] a b = tt
@@ -62,7 +55,7 @@ module _ {A B : Type 0} (key : A → B) (eq : B → B → Bool) (swap : (x y : B
       (no_fault (option_map (λ earlier. told (length before + 1) earlier x) (find (λ b. eq (key x) (key b)) before))) (λ _. all_unlike (λ a b. eq (key a) (key b)) told (before ++ x ∷ []) xs) (Err e) h
       (λ d p same.
       let q = no_fault-err (λ earlier. told (length before + 1) earlier x) (find (λ b. eq (key x) (key b)) before) d p in
-      let found = list_any-map (eq (key x)) key before ∙ find_any (λ b. eq (key x) (key b)) before q.0 q.1 in
+      let found = list_any-map (eq (key x)) key before ∙ list_any-found (λ b. eq (key x) (key b)) before q.0 q.1 in
       ((λ _ a. true≢false (sym found ∙ a.0)), rw (err_same e d same, ← q.2) (all (length before + 1) q.0 x)))
       (λ _ _ g. let q = all_unlike-breaks Q all (before ++ x ∷ []) xs e g in
       ((λ d a. q.0 d.1 (rw (map-append key before (x ∷ [])) (join_it (map key before) (key x) (map key xs) a.1 d.0))), q.1))
@@ -70,14 +63,3 @@ module _ {A B : Type 0} (key : A → B) (eq : B → B → Bool) (swap : (x y : B
 pub all_nothing : {B : Type 0} (eq : B → B → Bool) (ys : List B) → AllByRecursion (NotIn eq []) ys
 all_nothing eq [] = tt
 all_nothing eq (y ∷ ys) = (refl, all_nothing eq ys)
-
--- ---- tests of lists
-
-pub any-breaks : {A : Type 0} (r : A → Bool) (xs : List A) → list_any r xs ≡ true → AllByRecursion (λ x. r x ≡ false) xs → ⊥
-any-breaks r [] h a = absurd cc
-any-breaks r (x ∷ xs) h a = any-breaks r xs (rw a.0 at h) a.1
-
-pub bool_same : (b c : Bool) → (b ≡ true → c ≡ true) → (c ≡ true → b ≡ true) → b ≡ c
-bool_same true c f g = sym (f refl)
-bool_same false true f g = g refl
-bool_same false false f g = refl

@@ -9,7 +9,7 @@ use Rattle.net_base.specs.declared.place.Field.{Field}
 use Rattle.net_base.specs.declared.place.Field.TheVariants as field
 use Rattle.topology.specs.declared.fault.TopoFault.{TopoFault}
 use Rattle.topology.specs.declared.fault.TopoFault.TheVariants.{Shape}
-use Rattle.topology.specs.Json.{list_at, text_at, number_at}
+use Rattle.json_words.specs.Json.{list_at, text_at, number_at}
 use Rattle.topology.specs.Shape.{each, entry_of, ends_of, shape_of, identifier_of}
 
 -- the result is no fault but one of these

@@ -1,43 +1,45 @@
 -- What a text's answer says of it.
-use Rattle.std.proofs.Common.{◌≡◌, ℕ, ◌<◌, List, Option, Some, None, Result, Ok, Err, Bool, true, false, refl, sym, ap, ◌∙◌, arith, ltb-true, ltb-false, ◌∷◌}
-use Rattle.std.specs.Prelude.{⊤, ◌==◌, nat_lt, if◌then◌else◌}
-use Rattle.std.specs.Str.{is_utf8, IsUtf8}
+use Rattle.std.proofs.Common.{◌≡◌, ℕ, ◌<◌, List, Some, None, Result, Ok, Err, Bool, true, false, refl, sym, ap, ◌∙◌, arith, ltb-true, ltb-false, ◌∷◌}
+use Rattle.std.specs.Prelude.{⊤, ◌==◌, nat_lt}
+use Rattle.std.specs.Str.{IsUtf8}
 use Rattle.std.proofs.Math.ListN.{get_or-eq_default}
 use Rattle.std.proofs.lemmas.Bool.{eqb-true, eqb-false}
-use Rattle.std.proofs.lemmas.Str.{IsUtf8-from_is_utf8}
+use Rattle.list_laws.proofs.Options.{none_from}
 use Rattle.serde_json.specs.Data.{Data}
 use Rattle.serde_json.specs.Read.{read}
 use Rattle.net_base.specs.Network.{PlainNet, IsNet}
-use Rattle.net_base.specs.Steps.{◌>>=◌}
+use Rattle.net_base.specs.Steps.{◌>>=◌, or_fault}
 use Rattle.net_base.specs.declared.place.Field.{Field}
 use Rattle.topology.specs.declared.fault.TopoFault.{TopoFault}
 use Rattle.topology.specs.declared.fault.TopoFault.TheVariants.{NotJson, Shape}
 use Rattle.topology.specs.Faults.{number_of}
-use Rattle.topology.specs.Json.{json_of}
+use Rattle.json_words.specs.Json.{json_of}
 use Rattle.topology.specs.Laws.{rules, Says, Keeps, KeepsBelow}
 use Rattle.topology.specs.Rules.{judged}
 use Rattle.topology.specs.Shape.{Topology, shape_of}
 use Rattle.topology.specs.Topology.{spelled}
 use Rattle.topology.proofs.FirstBroken.{judged_outcome, judged_net, Outcome}
 use Rattle.topology.proofs.Identifiers.{shape_ids}
-use Rattle.topology.proofs.JsonTexts.{json_of-read, json_of-refused}
+use Rattle.json_words.proofs.JsonTexts.{json_of-read, json_of-refused, json_of-value}
 use Rattle.topology.proofs.Outcomes.{bind_case, or_fault_err}
 use Rattle.net_base.proofs.StepLemmas.{bind_ok, or_fault_ok}
 use Rattle.topology.proofs.ShapeFaults.{Only, IsShape, shape_only}
 
-value_read : (b : Bool) (r : Option Data) (d : Data) → (if b then r else None) ≡ Some d → (b ≡ true) × (r ≡ Some d)
-value_read true r d h = (refl, h)
-value_read false r d h = absurd cc
+-- the JSON value of a text, as a step
+abbrev value_in : List ℕ → Result Data TopoFault
+value_in bytes = or_fault NotJson (json_of bytes)
 
-json_of-value : (bytes : List ℕ) (d : Data) → json_of bytes ≡ Ok d → IsUtf8 bytes × (read bytes ≡ Some d)
-unfolding json_of
-json_of-value bytes d h =
-    let p = value_read (is_utf8 bytes) (read bytes) d (or_fault_ok NotJson (if is_utf8 bytes then read bytes else None) d h) in
-    (IsUtf8-from_is_utf8 bytes p.0, p.1)
+value_in-read : (bytes : List ℕ) (d : Data) → IsUtf8 bytes → read bytes ≡ Some d → value_in bytes ≡ Ok d
+value_in-read bytes d text is = ap (or_fault NotJson) (json_of-read bytes d text is)
 
-json_of-fault : (bytes : List ℕ) (e : TopoFault) → json_of bytes ≡ Err e → NotJson ≡ e
-unfolding json_of
-json_of-fault bytes e h = (or_fault_err NotJson e (if is_utf8 bytes then read bytes else None) h).0
+value_in-refused : (bytes : List ℕ) → (IsUtf8 bytes → read bytes ≡ None) → value_in bytes ≡ Err NotJson
+value_in-refused bytes none = ap (or_fault NotJson) (json_of-refused bytes none)
+
+value_in-value : (bytes : List ℕ) (d : Data) → value_in bytes ≡ Ok d → IsUtf8 bytes × (read bytes ≡ Some d)
+value_in-value bytes d h = json_of-value bytes d (or_fault_ok NotJson (json_of bytes) d h)
+
+value_in-fault : (bytes : List ℕ) (e : TopoFault) → value_in bytes ≡ Err e → NotJson ≡ e
+value_in-fault bytes e h = (or_fault_err NotJson e (json_of bytes) h).0
 
 shape_fault : (r : Result Topology TopoFault) (e : TopoFault) → Only IsShape r → r ≡ Err e → IsShape e
 shape_fault (Ok t) e only h = absurd cc
@@ -49,20 +51,20 @@ shape_fault (Err f) e only h = rw (same f e h) at only
 -- a text with the shape of a topology is judged as that
 spelled-says : (bytes : List ℕ) (t : Topology) → Says bytes t → spelled bytes ≡ judged t
 unfolding spelled
-spelled-says bytes t s = rw (json_of-read bytes s.0 s.1 s.2, s.3) refl
+spelled-says bytes t s = rw (value_in-read bytes s.0 s.1 s.2, s.3) refl
 
 pub says_read : (bytes : List ℕ) (net : PlainNet) → spelled bytes ≡ Ok net → (t : Topology) × Says bytes t × KeepsBelow 13 t
 unfolding spelled
 says_read bytes net h =
-    let p = bind_ok (json_of bytes) (λ d. shape_of d >>= (λ t. judged t)) net h in
+    let p = bind_ok (value_in bytes) (λ d. shape_of d >>= (λ t. judged t)) net h in
     let q = bind_ok (shape_of p.0) (λ t. judged t) net p.2 in
-    let v = json_of-value bytes p.0 p.1 in
+    let v = value_in-value bytes p.0 p.1 in
     (q.0, (p.0, v.0, v.1, q.1), judged_outcome q.0 (Ok net) q.2)
 
 pub net_read : (bytes : List ℕ) (net : PlainNet) → spelled bytes ≡ Ok net → IsNet net
 unfolding spelled
 net_read bytes net h =
-    let p = bind_ok (json_of bytes) (λ d. shape_of d >>= (λ t. judged t)) net h in
+    let p = bind_ok (value_in bytes) (λ d. shape_of d >>= (λ t. judged t)) net h in
     let q = bind_ok (shape_of p.0) (λ t. judged t) net p.2 in
     let ids = shape_ids p.0 q.0 q.1 in
     judged_net q.0 net ids.0 ids.1 q.2
@@ -106,14 +108,10 @@ told_where_broken bytes t k s keeps breaks = by (judged t) refl
 
 -- ---- no JSON, and another shape
 
-none_read : (r : Option Data) → ((d : Data) → r ≡ Some d → ⊥) → r ≡ None
-none_read None never = refl
-none_read (Some d) never = absurd (never d refl)
-
 pub not_json-only : (bytes : List ℕ) → spelled bytes ≡ Err NotJson → (d : Data) → IsUtf8 bytes → read bytes ≡ Some d → ⊥
 unfolding spelled
 not_json-only bytes h d text is =
-    bind_case ⊥ (shape_of d) (λ t. judged t) (Err NotJson) (sym (ap (λ (r : Result Data TopoFault). r >>= (λ v. shape_of v >>= (λ t. judged t))) (json_of-read bytes d text is)) ∙ h)
+    bind_case ⊥ (shape_of d) (λ t. judged t) (Err NotJson) (sym (ap (λ (r : Result Data TopoFault). r >>= (λ v. shape_of v >>= (λ t. judged t))) (value_in-read bytes d text is)) ∙ h)
     (λ e p same. let q = shape_fault (shape_of d) e (shape_only d) p in apart e q.0 q.1 same)
     (λ t p g. (judged_outcome t (Err NotJson) g).1 tt)
   where
@@ -122,14 +120,14 @@ not_json-only bytes h d text is =
 
 pub not_json-all : (bytes : List ℕ) → ((d : Data) → IsUtf8 bytes → read bytes ≡ Some d → ⊥) → spelled bytes ≡ Err NotJson
 unfolding spelled
-not_json-all bytes never = rw (json_of-refused bytes (λ text. none_read (read bytes) (λ d is. never d text is))) refl
+not_json-all bytes never = rw (value_in-refused bytes (λ text. none_from (read bytes) (λ d is. never d text is))) refl
 
 pub shape-only : (bytes : List ℕ) (f : Field) → spelled bytes ≡ Err (Shape f) → (d : Data) × IsUtf8 bytes × (read bytes ≡ Some d) × (shape_of d ≡ Err (Shape f))
 unfolding spelled
 shape-only bytes f h =
-    bind_case ((d : Data) × IsUtf8 bytes × (read bytes ≡ Some d) × (shape_of d ≡ Err (Shape f))) (json_of bytes) (λ d. shape_of d >>= (λ t. judged t)) (Err (Shape f)) h
-    (λ e p same. absurd (apart e (json_of-fault bytes e p) same))
-    (λ d p g. let v = json_of-value bytes d p in
+    bind_case ((d : Data) × IsUtf8 bytes × (read bytes ≡ Some d) × (shape_of d ≡ Err (Shape f))) (value_in bytes) (λ d. shape_of d >>= (λ t. judged t)) (Err (Shape f)) h
+    (λ e p same. absurd (apart e (value_in-fault bytes e p) same))
+    (λ d p g. let v = value_in-value bytes d p in
     bind_case ((d : Data) × IsUtf8 bytes × (read bytes ≡ Some d) × (shape_of d ≡ Err (Shape f))) (shape_of d) (λ t. judged t) (Err (Shape f)) g
     (λ e p same. (d, v.0, v.1, p ∙ ap Err (sym (alike e same))))
     (λ t p g. absurd ((judged_outcome t (Err (Shape f)) g).1 tt)))
@@ -142,4 +140,4 @@ shape-only bytes f h =
 
 pub shape-all : (bytes : List ℕ) (f : Field) (d : Data) → IsUtf8 bytes → read bytes ≡ Some d → shape_of d ≡ Err (Shape f) → spelled bytes ≡ Err (Shape f)
 unfolding spelled
-shape-all bytes f d text is shaped = rw (json_of-read bytes d text is, shaped) refl
+shape-all bytes f d text is shaped = rw (value_in-read bytes d text is, shaped) refl

@@ -1,5 +1,8 @@
--- The numbers of the faults.
-use Rattle.std.specs.Prelude.{ℕ}
+-- The numbers of the faults, their words and their values.
+use Rattle.std.specs.Prelude.{ℕ, List, [], ◌++◌, codes}
+use Rattle.std.specs.Fmt.{decimal}
+use Rattle.net_base.specs.PlaceWords.{kind_word, field_word}
+use Rattle.text_words.specs.Texts.{word_text, place_text}
 use Rattle.topology.specs.declared.fault.TopoFault.{TopoFault}
 use Rattle.topology.specs.declared.fault.TopoFault.TheVariants.{NotJson, Shape, TooMany, BadName, Twice, AsRange, AsTwice, IdTwice, UnknownEnd, LinkTwice, SelfLink, PeerLink, NoMemory}
 
@@ -18,3 +21,35 @@ number_of (LinkTwice p) = 10
 number_of (SelfLink p) = 11
 number_of (PeerLink p) = 12
 number_of NoMemory = 0
+
+-- the word of a fault
+abbrev pub word_of : TopoFault → List ℕ
+word_of NotJson = codes "not-json"
+word_of (Shape f) = codes "shape"
+word_of (TooMany k n) = codes "too-many"
+word_of (BadName k n) = codes "name"
+word_of (Twice a) = codes "twice"
+word_of (AsRange a) = codes "as-range"
+word_of (AsTwice a b) = codes "as-twice"
+word_of (IdTwice a b) = codes "id-twice"
+word_of (UnknownEnd n) = codes "unknown-end"
+word_of (LinkTwice n) = codes "link-twice"
+word_of (SelfLink n) = codes "self-link"
+word_of (PeerLink n) = codes "peer-link"
+word_of NoMemory = codes "no-memory"
+
+-- its values, each after a space
+abbrev pub values_of : TopoFault → List ℕ
+values_of NotJson = []
+values_of (Shape f) = word_text (field_word f)
+values_of (TooMany k n) = word_text (kind_word k) ++ word_text (decimal n)
+values_of (BadName k n) = word_text (kind_word k) ++ place_text n
+values_of (Twice a) = word_text a
+values_of (AsRange a) = word_text a
+values_of (AsTwice a b) = word_text a ++ word_text b
+values_of (IdTwice a b) = word_text a ++ word_text b
+values_of (UnknownEnd n) = place_text n
+values_of (LinkTwice n) = place_text n
+values_of (SelfLink n) = place_text n
+values_of (PeerLink n) = place_text n
+values_of NoMemory = []

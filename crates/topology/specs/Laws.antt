@@ -5,6 +5,7 @@ use Rattle.std.specs.List.{list_any, AllByRecursion, IsDistinct}
 use Rattle.std.specs.Str.{bytes_eq}
 use Rattle.serde_json.specs.Data.{Data}
 use Rattle.serde_json.specs.Read.{read}
+use Rattle.net_base.specs.declared.limits.TheConstants.{ROUTERS, PEERS, LINKS}
 use Rattle.net_base.specs.NameRule.{is_name}
 use Rattle.net_base.specs.Numbers.{is_router_as, is_peer_as}
 use Rattle.topology.specs.Rules.{names_of}
@@ -28,7 +29,7 @@ same_link a b = (bytes_eq a.from b.from && bytes_eq a.to b.to) || (bytes_eq a.fr
 -- ---- what each rule says
 
 abbrev pub FewEnough : Topology → Type 0
-FewEnough t = (length t.routers ≤ 512) × (length t.peers ≤ 256) × (length t.links ≤ 8192)
+FewEnough t = (length t.routers ≤ ROUTERS) × (length t.peers ≤ PEERS) × (length t.links ≤ LINKS)
 
 abbrev pub HaveNames : Topology → Type 0
 HaveNames t = AllByRecursion (λ e. IsTrue (is_name e.name)) (entries t)

@@ -1,6 +1,5 @@
 pub mod Faults
 pub mod Gives
-pub mod Json
 pub mod Rules
 pub mod Shape
 pub mod Topology

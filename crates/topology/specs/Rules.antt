@@ -1,9 +1,10 @@
 -- The rules of a topology.
-use Rattle.std.specs.Prelude.{ℕ, ◌+◌, ◌==◌, ◌&&◌, ◌||◌, fold, nat_lt, nat_le, length, map, option_map, List, [], ◌∷◌, ◌++◌, Option, Some, None, Result, Ok, Err, ⊤, Bool, if◌then◌else◌}
+use Rattle.std.specs.Prelude.{ℕ, ◌+◌, ◌==◌, fold, nat_le, length, map, option_map, List, [], ◌∷◌, ◌++◌, Option, Some, None, Result, Ok, Err, ⊤, Bool, if◌then◌else◌}
 use Rattle.std.specs.List.{find, position}
 use Rattle.std.specs.Str.{bytes_eq}
+use Rattle.net_base.specs.declared.limits.TheConstants.{ROUTERS, PEERS, LINKS}
 use Rattle.net_base.specs.NameRule.{is_name}
-use Rattle.net_base.specs.Network.{PlainNet}
+use Rattle.net_base.specs.Network.{PlainNet, ordered, is_before, same_ends}
 use Rattle.net_base.specs.Numbers.{is_router_as, is_peer_as}
 use Rattle.net_base.specs.Steps.{◌>>=◌, or_fault, unless, each_from}
 use Rattle.net_base.specs.declared.net.Site.{Site}
@@ -44,20 +45,12 @@ site_of k entry = do
   _ ← unless (AsRange entry.name) (is_lawful_as k entry.asn)
   Ok (record { name = entry.name; asn = entry.asn; id = entry.id })
 
--- the lesser of two locations first
-abbrev pub ordered : ℕ → ℕ → ℕ × ℕ
-ordered a b = if nat_lt a b then (a, b) else (b, a)
-
 -- the link of two ends, both of which are names
 unfoldable pub joined : List (List ℕ) → ℕ → Ends → Result (ℕ × ℕ) TopoFault
 joined names place ends = do
   a ← or_fault (UnknownEnd place) (position (bytes_eq ends.from) names)
   b ← or_fault (UnknownEnd place) (position (bytes_eq ends.to) names)
   Ok (ordered a b)
-
--- a link stands before another where its first end is lesser, or the first ends are the same and its second is lesser
-abbrev pub is_before : ℕ × ℕ → ℕ × ℕ → Bool
-is_before a b = nat_lt a.0 b.0 || (a.0 == b.0 && nat_lt a.1 b.1)
 
 -- ascending links, with one more in its place
 abbrev pub put : List (ℕ × ℕ) → ℕ × ℕ → List (ℕ × ℕ)
@@ -67,9 +60,6 @@ put (x ∷ xs) link = if is_before link x then link ∷ x ∷ xs else x ∷ put 
 -- the links in ascending order
 abbrev pub ascending : List (ℕ × ℕ) → List (ℕ × ℕ)
 ascending links = fold put [] links
-
-abbrev pub same_ends : ℕ × ℕ → ℕ × ℕ → Bool
-same_ends a b = a.0 == b.0 && a.1 == b.1
 
 -- no two links have the same ends
 unfoldable pub links_differ : List (ℕ × ℕ) → Result ⊤ TopoFault
@@ -95,9 +85,9 @@ links_of names routers ends = do
 -- at most so many routers, peers and links
 unfoldable pub counted : Topology → Result ⊤ TopoFault
 counted t = do
-  _ ← unless (TooMany kind.Routers (length t.routers)) (nat_le (length t.routers) 512)
-  _ ← unless (TooMany kind.Peers (length t.peers)) (nat_le (length t.peers) 256)
-  unless (TooMany kind.Links (length t.links)) (nat_le (length t.links) 8192)
+  _ ← unless (TooMany kind.Routers (length t.routers)) (nat_le (length t.routers) ROUTERS)
+  _ ← unless (TooMany kind.Peers (length t.peers)) (nat_le (length t.peers) PEERS)
+  unless (TooMany kind.Links (length t.links)) (nat_le (length t.links) LINKS)
 
 abbrev pub same_name : Entry → Entry → Bool
 same_name a b = bytes_eq a.name b.name

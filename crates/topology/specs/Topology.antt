@@ -1,9 +1,10 @@
 -- The network that bytes spell.
 use Rattle.std.specs.Prelude.{ℕ, List, Result}
+use Rattle.json_words.specs.Json.{json_of}
 use Rattle.net_base.specs.Network.{PlainNet}
-use Rattle.net_base.specs.Steps.{◌>>=◌}
+use Rattle.net_base.specs.Steps.{◌>>=◌, or_fault}
 use Rattle.topology.specs.declared.fault.TopoFault.{TopoFault}
-use Rattle.topology.specs.Json.{json_of}
+use Rattle.topology.specs.declared.fault.TopoFault.TheVariants.{NotJson}
 use Rattle.topology.specs.Rules.{judged}
 use Rattle.topology.specs.Shape.{shape_of}
 
@@ -11,6 +12,6 @@ use Rattle.topology.specs.Shape.{shape_of}
 -- least rule that is broken.
 unfoldable pub spelled : List ℕ → Result PlainNet TopoFault
 spelled bytes = do
-  value ← json_of bytes
+  value ← or_fault NotJson (json_of bytes)
   topology ← shape_of value
   judged topology

@@ -1,6 +1,8 @@
 //! What is wrong with a topology text.
 use net_base::{Field, Kind, Name};
+use outside::NoMemory;
 use std::alloc::{AllocError, AllocFailed};
+use text_words::{push_bytes, push_number, push_place, push_word};
 
 /// The rule that a topology text breaks: of several the one that stands first here. Places count from 1 in
 /// their array.
@@ -35,8 +37,8 @@ pub enum TopoFault {
 }
 
 impl TopoFault {
-    ghost use Rattle.std.specs.Prelude.{◌≡◌};
-    ghost use Rattle.topology.specs.Faults.{number_of};
+    ghost use Rattle.std.specs.Prelude.{◌≡◌, ◌++◌, OnOk};
+    ghost use Rattle.topology.specs.Faults.{number_of, word_of, values_of};
 
     /// The number of the fault, from 1 to 12: of several broken rules the one with the least number is told.
     /// Want of memory has the number 0.
@@ -57,6 +59,55 @@ impl TopoFault {
             TopoFault::SelfLink(_) => 11,
             TopoFault::PeerLink(_) => 12,
             TopoFault::NoMemory => 0,
+        }
+    }
+
+    /// The word of the fault.
+    pub fn word(&self) -> &'static [u8]
+        ensures { result.now ≡ word_of self.now }
+    {
+        match self {
+            TopoFault::NotJson => b"not-json",
+            TopoFault::Shape(_) => b"shape",
+            TopoFault::TooMany(_, _) => b"too-many",
+            TopoFault::BadName(_, _) => b"name",
+            TopoFault::Twice(_) => b"twice",
+            TopoFault::AsRange(_) => b"as-range",
+            TopoFault::AsTwice(_, _) => b"as-twice",
+            TopoFault::IdTwice(_, _) => b"id-twice",
+            TopoFault::UnknownEnd(_) => b"unknown-end",
+            TopoFault::LinkTwice(_) => b"link-twice",
+            TopoFault::SelfLink(_) => b"self-link",
+            TopoFault::PeerLink(_) => b"peer-link",
+            TopoFault::NoMemory => b"no-memory",
+        }
+    }
+
+    /// Adds the values of the fault, each after a space.
+    pub fn push_values(&self, text: &mut Vec<u8>) -> Result<(), NoMemory>
+        ensures { OnOk result (text.new.items ≡ text.old.items ++ values_of self.now) }
+    {
+        match self {
+            TopoFault::NotJson | TopoFault::NoMemory => Ok(()),
+            TopoFault::Shape(field) => push_word(text, field.word()),
+            TopoFault::TooMany(kind, number) => {
+                push_word(text, kind.word())?;
+                push_bytes(text, b" ")?;
+                push_number(text, *number)
+            }
+            TopoFault::BadName(kind, place) => {
+                push_word(text, kind.word())?;
+                push_place(text, *place)
+            }
+            TopoFault::Twice(name) | TopoFault::AsRange(name) => push_word(text, name.as_bytes()),
+            TopoFault::AsTwice(first, second) | TopoFault::IdTwice(first, second) => {
+                push_word(text, first.as_bytes())?;
+                push_word(text, second.as_bytes())
+            }
+            TopoFault::UnknownEnd(place)
+            | TopoFault::LinkTwice(place)
+            | TopoFault::SelfLink(place)
+            | TopoFault::PeerLink(place) => push_place(text, *place),
         }
     }
 }

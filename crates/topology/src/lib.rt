@@ -1,20 +1,36 @@
 //! Topology texts: the network that a JSON text spells.
 #![tactic(auto)]
 
+ghost use Rattle.serde_json.specs.View.{view};
+ghost use Rattle.json_words.specs.Json.{json_of};
+ghost use Rattle.net_base.specs.Steps.{or_fault};
 ghost use Rattle.topology.specs.Gives.{Gives};
 ghost use Rattle.topology.specs.Topology.{spelled};
 
 mod fault;
-mod json;
 pub mod laws;
 mod links;
+pub mod names;
 mod rules;
 mod shape;
 mod sites;
 
 pub use fault::TopoFault;
+use json_words::{JsonFault, json_value};
 use net_base::Net;
+use serde_json::Value;
 use std::alloc::Global;
+
+// The JSON value that the bytes spell.
+fn value_of(alloc: Global, bytes: &[u8]) -> Result<Value, TopoFault>
+    ensures { Gives view result (or_fault TopoFault.NotJson (json_of bytes.now)) }
+{
+    match json_value(alloc, bytes) {
+        Ok(value) => Ok(value),
+        Err(JsonFault::NotJson) => Err(TopoFault::NotJson),
+        Err(JsonFault::NoMemory) => Err(TopoFault::NoMemory),
+    }
+}
 
 /// The network that the bytes spell, or the least rule that they break. Routers and peers stand in the order of
 /// the text, links ascend. Any bytes are read or refused, in time and memory in proportion to their number.
@@ -22,7 +38,7 @@ use std::alloc::Global;
 pub fn read_topology(alloc: Global, bytes: &[u8]) -> Result<Net, TopoFault>
     ensures { Gives (λ net. net) result (spelled bytes.now) }
 {
-    let value = json::json_value(alloc, bytes)?;
+    let value = value_of(alloc, bytes)?;
     let raw = shape::shape(alloc, &value)?;
     rules::judge(alloc, &raw)
 }

@@ -3,9 +3,11 @@ ghost use Rattle.std.specs.Prelude.{◌≡◌, ◌≢◌, ◌≤◌, ◌==◌, O
 ghost use Rattle.std.specs.List.{list_any};
 ghost use Rattle.std.specs.Str.{bytes_eq};
 ghost use Rattle.indexmap.specs.IndexSet.{index_set_len};
+ghost use Rattle.net_base.specs.Network.{ordered, same_ends};
 ghost use Rattle.net_base.specs.Steps.{each_from};
+ghost use Rattle.net_base.specs.declared.limits.TheConstants.{LINKS, LOCATIONS};
 ghost use Rattle.topology.specs.Gives.{Gives};
-ghost use Rattle.topology.specs.Rules.{joined, ordered, same_ends, put as put_link, ascending, links_differ, ends_differ as ends_are_different, routers_linked as routers_are_linked, links_of};
+ghost use Rattle.topology.specs.Rules.{joined, put as put_link, ascending, links_differ, ends_differ as ends_are_different, routers_linked as routers_are_linked, links_of};
 ghost use Rattle.topology.specs.Views.{raw_ends, texts};
 
 use crate::fault::TopoFault;
@@ -17,7 +19,7 @@ use std::collections::BTreeSet;
 
 // The location of a name: the place of the name.
 fn location(names: &IndexSet<&[u8]>, name: &str) -> Option<u16>
-    requires { index_set_len names.now ≤ 768 }
+    requires { index_set_len names.now ≤ LOCATIONS }
     ensures { result ≡ position (bytes_eq name.now) (texts names.now.keys) }
 {
     match names.get_index_of(&name.as_bytes()) {
@@ -40,7 +42,7 @@ fn link(a: u16, b: u16) -> (Loc, Loc)
 // The link of the entry at this place.
 #[tactic(auto, unfolding(crate::specs::Rules::joined))]
 fn join(names: &IndexSet<&[u8]>, place: u32, raw: &RawEnds<'_>) -> Result<(Loc, Loc), TopoFault>
-    requires { index_set_len names.now ≤ 768 }
+    requires { index_set_len names.now ≤ LOCATIONS }
     ensures { Gives (λ l. l) result (joined (texts names.now.keys) place (raw_ends raw.now)) }
 {
     let Some(a) = location(names, raw.from) else {
@@ -58,8 +60,8 @@ fn join_all(
     names: &IndexSet<&[u8]>,
     raw: &[RawEnds<'_>],
 ) -> Result<Vec<(Loc, Loc)>, TopoFault>
-    requires names { index_set_len names.now ≤ 768 }
-    requires few { length raw.now ≤ 8192 }
+    requires names { index_set_len names.now ≤ LOCATIONS }
+    requires few { length raw.now ≤ LINKS }
     ensures links { Gives (λ v. v.items) result (each_from (joined (texts names.now.keys)) 1 (map raw_ends raw.now)) }
     ensures count { IfOk result (λ v. length v.items ≡ length raw.now) }
 {
@@ -85,7 +87,7 @@ fn put(links: &mut BTreeSet<(Loc, Loc)>, link: (Loc, Loc)) -> Result<bool, TopoF
 // The links in ascending order, none of which stands twice.
 #[tactic(auto, unfolding(crate::specs::Rules::links_differ))]
 fn distinct(alloc: Global, links: &[(Loc, Loc)]) -> Result<BTreeSet<(Loc, Loc)>, TopoFault>
-    requires few { length links.now ≤ 8192 }
+    requires few { length links.now ≤ LINKS }
     ensures ok { OnOk result (links_differ links.now ≡ Ok tt) }
     ensures order { IfOk result (λ set. set.keys ≡ ascending links.now) }
     ensures err { IfErr result (λ e. e ≢ TopoFault.NoMemory → links_differ links.now ≡ Err e) }
@@ -130,7 +132,7 @@ fn peer_link(routers: u16, links: &[(Loc, Loc)]) -> Option<usize>
 // The ends of each link differ.
 #[tactic(auto, unfolding(crate::specs::Rules::ends_differ))]
 fn ends_differ(links: &[(Loc, Loc)]) -> Result<(), TopoFault>
-    requires { length links.now ≤ 8192 }
+    requires { length links.now ≤ LINKS }
     ensures { Gives (λ u. u) result (ends_are_different links.now) }
 {
     match self_link(links) {
@@ -142,7 +144,7 @@ fn ends_differ(links: &[(Loc, Loc)]) -> Result<(), TopoFault>
 // An end of each link is a router.
 #[tactic(auto, unfolding(crate::specs::Rules::routers_linked))]
 fn routers_linked(routers: u16, links: &[(Loc, Loc)]) -> Result<(), TopoFault>
-    requires { length links.now ≤ 8192 }
+    requires { length links.now ≤ LINKS }
     ensures { Gives (λ u. u) result (routers_are_linked routers links.now) }
 {
     match peer_link(routers, links) {
@@ -159,8 +161,8 @@ pub fn links(
     routers: u16,
     raw: &[RawEnds<'_>],
 ) -> Result<Vec<(Loc, Loc)>, TopoFault>
-    requires names { index_set_len names.now ≤ 768 }
-    requires few { length raw.now ≤ 8192 }
+    requires names { index_set_len names.now ≤ LOCATIONS }
+    requires few { length raw.now ≤ LINKS }
     ensures { Gives (λ v. v.items) result (links_of (texts names.now.keys) routers (map raw_ends raw.now)) }
 {
     let links = join_all(alloc, names, raw)?;

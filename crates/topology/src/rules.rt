@@ -1,6 +1,7 @@
 //! The rules of a topology.
 ghost use Rattle.std.specs.Prelude.{◌≡◌, ◌≤◌, ◌++◌, IfOk, IfErr, OnOk, length};
 ghost use Rattle.std.specs.List.{AllByRecursion};
+ghost use Rattle.net_base.specs.declared.limits.TheConstants.{ROUTERS, PEERS, LINKS};
 ghost use Rattle.topology.specs.Gives.{Gives};
 ghost use Rattle.topology.specs.Rules.{counted, judged};
 ghost use Rattle.topology.specs.Shape.{IsIdentifier};
@@ -17,9 +18,9 @@ use std::alloc::Global;
 #[tactic(auto, unfolding(crate::specs::Rules::counted))]
 fn count(raw: &RawTopology<'_>) -> Result<(), TopoFault>
     ensures rule { Gives (λ u. u) result (counted (raw_topology raw.now)) }
-    ensures routers { OnOk result (length raw.now.routers.items ≤ 512) }
-    ensures peers { OnOk result (length raw.now.peers.items ≤ 256) }
-    ensures links { OnOk result (length raw.now.links.items ≤ 8192) }
+    ensures routers { OnOk result (length raw.now.routers.items ≤ ROUTERS) }
+    ensures peers { OnOk result (length raw.now.peers.items ≤ PEERS) }
+    ensures links { OnOk result (length raw.now.links.items ≤ LINKS) }
 {
     let routers = raw.routers.len() as u64;
     if routers > limits::ROUTERS {

@@ -3,6 +3,7 @@ ghost use Rattle.std.specs.Prelude.{◌≡◌, ◌≢◌, ◌≤◌, ◌++◌, �
 ghost use Rattle.std.specs.List.{list_any};
 ghost use Rattle.std.specs.Str.{bytes_eq};
 ghost use Rattle.net_base.specs.Steps.{each_from};
+ghost use Rattle.net_base.specs.declared.limits.TheConstants.{ROUTERS};
 ghost use Rattle.topology.specs.Gives.{Gives};
 ghost use Rattle.topology.specs.Rules.{named as named_at, is_lawful_as, site_of, names_differ, names_of, number, numbers_differ, shared};
 ghost use Rattle.topology.specs.Shape.{each};
@@ -48,7 +49,7 @@ fn named_entry(kind: Kind, place: u32, raw: &RawEntry<'_>) -> Result<Named, Topo
 
 /// The entries of this kind with their names.
 pub fn with_names(alloc: Global, kind: Kind, raw: &[RawEntry<'_>]) -> Result<Vec<Named>, TopoFault>
-    requires { length raw.now ≤ 512 }
+    requires { length raw.now ≤ ROUTERS }
     ensures entries { Gives (λ v. map named_entry v.items) result (each_from (named_at kind) 1 (map raw_entry raw.now)) }
     ensures count { IfOk result (λ v. length v.items ≡ length raw.now) }
 {

@@ -1,6 +1,7 @@
 use Rattle.std.proofs.Common.{◌≡◌, ◌+◌, [], take, drop}
 use Rattle.topology.specs.declared.fault.TopoFault.TheVariants.{LinkTwice}
-use Rattle.topology.specs.Rules.{all_unlike, same_ends, ascending}
+use Rattle.net_base.specs.Network.{same_ends}
+use Rattle.topology.specs.Rules.{all_unlike, ascending}
 use Rattle.topology.proofs.links.distinct.Given as goal
 
 abbrev pub invariant-loop-link : goal.invariant-loop-link

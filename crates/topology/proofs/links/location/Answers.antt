@@ -1,6 +1,6 @@
 use Rattle.std.proofs.Common.{◌∙◌, sym}
 use Rattle.std.specs.Str.{bytes_eq}
-use Rattle.topology.proofs.Places.{position-map}
+use Rattle.list_laws.proofs.Positions.{position-map}
 use Rattle.topology.proofs.links.location.Goals as goal
 
 pub returns-in-Some : goal.returns-in-Some

@@ -2,10 +2,11 @@ use Rattle.std.proofs.lemmas.List.{map-append}
 use Rattle.std.proofs.Common.{◌≡◌, ◌∙◌, [], ◌∷◌, ap, sym, map, take, Some, None, false}
 use Rattle.std.specs.Prelude.{nat_eq}
 use Rattle.std.specs.List.{list_any, position}
+use Rattle.list_laws.proofs.Positions.{find-earlier, find-no_position, list_any-no_position, position-map}
+use Rattle.list_laws.proofs.Changed.{map_so_far}
 use Rattle.topology.specs.Rules.{number, numbers_differ, same_number, shared}
 use Rattle.topology.specs.Views.{named_entry}
-use Rattle.topology.proofs.Places.{find-earlier, find-no_position, list_any-no_position, position-map}
-use Rattle.topology.proofs.Unlike.{alike, unlike, so_far}
+use Rattle.topology.proofs.Unlike.{alike, unlike}
 use Rattle.topology.proofs.sites.unshared.Goals as goal
 
 pub returns-in-Some : goal.returns-in-Some
@@ -27,6 +28,6 @@ loop-entry-preserved c =
     rw (c.of-number.ensures, c.loop-entry.invariant.0) at (sym c.place_of.ensures ∙ c.in_default.is) in
     let absent : list_any (nat_eq (number c.args.which entry)) numbers ≡ false = list_any-no_position (nat_eq (number c.args.which entry)) numbers placed in
     let none = find-no_position (same_number c.args.which entry) before (sym (position-map (nat_eq (number c.args.which entry)) (number c.args.which) before) ∙ placed) in (
-      c.in_ok-insert.ensures.keys ∙ (rw (c.of-number.ensures, c.loop-entry.invariant.0, absent) (sym (ap (map (number c.args.which)) (so_far named_entry c.args.entries.now c.loop-entry.entry-index _ c.loop-entry-test.true c.entry-item.is) ∙ map-append (number c.args.which) before (entry ∷ [])))),
+      c.in_ok-insert.ensures.keys ∙ (rw (c.of-number.ensures, c.loop-entry.invariant.0, absent) (sym (ap (map (number c.args.which)) (map_so_far named_entry c.args.entries.now c.loop-entry.entry-index _ c.loop-entry-test.true c.entry-item.is) ∙ map-append (number c.args.which) before (entry ∷ [])))),
       unlike named_entry (same_number c.args.which) (λ _. shared c.args.which) c.args.entries.now c.loop-entry.entry-index _ c.loop-entry-test.true c.entry-item.is _ none c.loop-entry.invariant.1,
     )
