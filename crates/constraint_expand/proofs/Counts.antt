@@ -1,5 +1,5 @@
 -- There are as many expressions as alternatives.
-use Rattle.std.proofs.Common.{◌≡◌, ℕ, ◌*◌, ◌-◌, ◌^◌, ◌≤◌, min, List, [], ◌∷◌, ◌++◌, length, map, refl, sym, ap, ◌∙◌, arith}
+use Rattle.std.proofs.Common.{◌≡◌, ℕ, ◌*◌, ◌-◌, ◌^◌, ◌≤◌, min, List, [], ◌∷◌, length, map, refl, sym, ap, ◌∙◌, arith}
 use Rattle.std.specs.List.{flat_map}
 use Rattle.std.proofs.lemmas.List.{length-map, length-append}
 use Rattle.std.proofs.Math.Nat.{suc-mul}
@@ -9,7 +9,7 @@ use Rattle.path_words.specs.Policies.{Ranking, call, calls, prefer, either, both
 use Rattle.path_exprs.specs.Expression.{Expression}
 use Rattle.path_exprs.specs.View.{view, views}
 use Rattle.path_exprs.specs.declared.expr.Expr.{Expr}
-use Rattle.constraint_expand.specs.Forward.{both_of_two, expressions, forward}
+use Rattle.path_exprs.specs.Forward.{both_of_two, expressions, forward}
 
 length-rows : (es fs : List Expression) → length (flat_map (λ e. map (both_of_two e) fs) es) ≡ length es * length fs
 length-rows [] fs = omega arith

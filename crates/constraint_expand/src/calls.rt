@@ -4,11 +4,10 @@ ghost use Rattle.path_exprs.specs.Expression.{Expression};
 ghost use Rattle.path_exprs.specs.Normal.{all};
 ghost use Rattle.path_exprs.specs.View.{view, views};
 ghost use Rattle.path_words.specs.declared.clause.Clause.TheVariants.{Avoid, Exit, Enter};
-ghost use Rattle.constraint_expand.specs.Forward.{forward as forward_of, in_turn as in_turn_of, either_of_two as either_of, both_of_two as both_of};
+ghost use Rattle.path_exprs.specs.Forward.{forward as forward_of, in_turn as in_turn_of, either_of_two as either_of, both_of_two as both_of};
 
-use crate::sets::{common, outside};
 use net_base::{LocSet, Net};
-use path_exprs::{Expr, locations, peers};
+use path_exprs::Expr;
 use path_words::Clause;
 use std::alloc::{AllocError, Global};
 
@@ -44,7 +43,7 @@ pub fn both(alloc: Global, a: Expr, b: Expr) -> Result<Expr, AllocError>
 fn outside_only(alloc: Global, net: &Net, set: &LocSet) -> Result<Expr, AllocError>
     ensures { IfOk result (λ r. view r ≡ forward_of net.now (Avoid set.now)) }
 {
-    let others = outside(&locations(net), set);
+    let others = net.locations().without(set);
     Ok(Expr::Star(Box::new(alloc, Expr::Set(others))?))
 }
 
@@ -55,7 +54,7 @@ pub fn forward(alloc: Global, net: &Net, call: &Clause) -> Result<Expr, AllocErr
     match call {
         Clause::Any => Ok(everything(alloc)?),
         Clause::Drop => Ok(Expr::Never),
-        Clause::Internal => Ok(outside_only(alloc, net, &peers(net))?),
+        Clause::Internal => Ok(outside_only(alloc, net, &net.peer_set())?),
         Clause::Avoid(s) => Ok(outside_only(alloc, net, s)?),
         Clause::Through(s) => {
             let back = seq(alloc, Expr::Set(*s), everything(alloc)?)?;
@@ -65,9 +64,9 @@ pub fn forward(alloc: Global, net: &Net, call: &Clause) -> Result<Expr, AllocErr
             let back = seq(
                 alloc,
                 outside_only(alloc, net, s)?,
-                Expr::Set(locations(net)),
+                Expr::Set(net.locations()),
             )?;
-            Ok(seq(alloc, Expr::Set(locations(net)), back)?)
+            Ok(seq(alloc, Expr::Set(net.locations()), back)?)
         }
         Clause::Start(s) => Ok(seq(alloc, Expr::Set(*s), everything(alloc)?)?),
         Clause::End(s) => Ok(seq(alloc, everything(alloc)?, Expr::Set(*s))?),
@@ -86,8 +85,8 @@ pub fn forward(alloc: Global, net: &Net, call: &Clause) -> Result<Expr, AllocErr
 fn exit(alloc: Global, net: &Net, set: &LocSet) -> Result<Expr, AllocError>
     ensures { IfOk result (λ r. view r ≡ forward_of net.now (Exit set.now)) }
 {
-    let ends = peers(net);
-    let first = seq(alloc, everything(alloc)?, Expr::Set(common(set, &ends)))?;
+    let ends = net.peer_set();
+    let first = seq(alloc, everything(alloc)?, Expr::Set(set.common(&ends)))?;
     let back = seq(alloc, Expr::Set(*set), Expr::Set(ends))?;
     let second = seq(alloc, everything(alloc)?, back)?;
     Ok(either(alloc, first, second)?)
@@ -97,8 +96,8 @@ fn exit(alloc: Global, net: &Net, set: &LocSet) -> Result<Expr, AllocError>
 fn enter(alloc: Global, net: &Net, set: &LocSet) -> Result<Expr, AllocError>
     ensures { IfOk result (λ r. view r ≡ forward_of net.now (Enter set.now)) }
 {
-    let ends = peers(net);
-    let first = seq(alloc, Expr::Set(common(set, &ends)), everything(alloc)?)?;
+    let ends = net.peer_set();
+    let first = seq(alloc, Expr::Set(set.common(&ends)), everything(alloc)?)?;
     let back = seq(alloc, Expr::Set(*set), everything(alloc)?)?;
     let second = seq(alloc, Expr::Set(ends), back)?;
     Ok(either(alloc, first, second)?)

@@ -4,11 +4,12 @@ ghost use Rattle.std.specs.List.{flat_map};
 ghost use Rattle.path_words.specs.Meaning.{alternative_count};
 ghost use Rattle.path_words.specs.Policies.{ranking_of};
 ghost use Rattle.path_exprs.specs.View.{view, views};
-ghost use Rattle.constraint_expand.specs.Forward.{both_of_two, expressions};
+ghost use Rattle.path_exprs.specs.Forward.{both_of_two, expressions};
 ghost use Rattle.constraint_expand.specs.declared.fault.ExpandFault.TheVariants.{NoMemory, TooManyRanks};
 
 use crate::calls::{both, forward, forward_each};
 use crate::fault::ExpandFault;
+use net_base::limits::ALTERNATIVES;
 use net_base::{List, Net};
 use path_exprs::{Expr, RankedExpr, copy_of};
 use path_words::{Ranked, alternatives};
@@ -76,13 +77,13 @@ fn expressions_in_order(alloc: Global, ranked: &Ranked, net: &Net) -> Result<Vec
 /// least two locations of the network is in an expression exactly where it meets that alternative. The fault
 /// is `TooManyRanks` exactly where there are more than 64 alternatives, and else `NoMemory`.
 pub fn expand(alloc: Global, ranked: &Ranked, net: &Net) -> Result<RankedExpr, ExpandFault>
-    ensures too_many { 64 < alternative_count (ranking_of ranked.now)
+    ensures too_many { ALTERNATIVES < alternative_count (ranking_of ranked.now)
         → result ≡ Err (TooManyRanks (min (alternative_count (ranking_of ranked.now)) (2 ^ 64 - 1))) }
-    ensures expanded { alternative_count (ranking_of ranked.now) ≤ 64
+    ensures expanded { alternative_count (ranking_of ranked.now) ≤ ALTERNATIVES
         → MatchResult result (λ r. views r ≡ expressions net.now (ranking_of ranked.now)) (λ e. e ≡ NoMemory) }
 {
     let count = alternatives(ranked);
-    if count > 64 {
+    if count > ALTERNATIVES {
         return Err(ExpandFault::TooManyRanks(count));
     }
     let all = expressions_in_order(alloc, ranked, net)?;

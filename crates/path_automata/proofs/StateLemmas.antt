@@ -1,11 +1,12 @@
 -- States and their numbers.
-use Rattle.std.proofs.Common.{◌≡◌, ℕ, zero, suc, ◌<◌, Bool, true, false, cond, List, [], ◌∷◌, ◌++◌, map, get_or, Some, option_map, Vec, Global, refl, sym, ap, ◌∙◌, arith, ⊎_elim}
+use Rattle.std.proofs.Common.{◌≡◌, ℕ, zero, suc, ◌<◌, Bool, true, false, cond, List, [], ◌∷◌, ◌++◌, map, get_or, Some, option_map, Vec, Global, All, refl, sym, ap, subst, ◌∙◌, arith, ⊎_elim}
 use Rattle.std.specs.Prelude.{slice_get}
 use Rattle.std.specs.List.{list_any, IsDistinct}
 use Rattle.std.specs.Ordering.{is_eq}
 use Rattle.std.proofs.lemmas.Bool.{and_parts, and_from, false≢true, cases_order}
 use Rattle.std.proofs.lemmas.Option.{slice_get-get_or, slice_get_within, slice_get-map, same_Some}
 use Rattle.std.proofs.lemmas.List.{append-nil, map-append}
+use Rattle.std.proofs.lemmas.List.Elements.{All-append}
 use Rattle.std.proofs.lemmas.Map.Keys.{apart_from_distinct}
 use lib.Pointwise.{pointwise}
 use Rattle.indexmap.specs.IndexSet.{insert_key}
@@ -90,3 +91,15 @@ apart-from_distinct ks d i j s p q =
 
 pub seen-get : (ks : List Key) (i : ℕ) (k : Key) → slice_get ks i ≡ Some k → slice_get (seen ks) i ≡ Some (views k.items)
 seen-get ks i k h = slice_get-seen ks i ∙ ap (option_map (λ v. views v.items)) h
+
+-- what holds of each key holds still after one more
+pub all-inserted : (P : Key → Type 0) (ks new : List Key) (k : Key) → new ≡ insert_key same ks k → All P ks → P k → All P new
+all-inserted P ks new k e all here = at (list_any (same k) ks) e
+  where
+    one : All P (k ∷ [])
+    one zero d h = here
+    one (suc i) d h = absurd (omega arith)
+
+    at : (b : Bool) → new ≡ cond b ks (ks ++ k ∷ []) → All P new
+    at true h = subst (All P) (sym h) all
+    at false h = subst (All P) (sym h) (All-append P ks (k ∷ []) all one)

@@ -1,6 +1,5 @@
 //! The normal form of a reversed expression.
-ghost use Rattle.std.specs.Prelude.{◌≡◌, ◌==◌, IfOk};
-ghost use Rattle.std.specs.List.{list_all};
+ghost use Rattle.std.specs.Prelude.{◌≡◌, IfOk};
 ghost use Rattle.net_base.specs.Sets.{same_set};
 ghost use Rattle.path_exprs.specs.Expression.{Expression, expressions_of};
 ghost use Rattle.path_exprs.specs.Normal.{normal_set as normal_set_of, star_of as star_spec, normal, normal_each, reversed, reversed_each};
@@ -10,13 +9,6 @@ use crate::normal::{both_of, complement_of, either_of, is_all, seq_of};
 use net_base::LocSet;
 use path_exprs::Expr;
 use std::alloc::{AllocError, Global};
-
-/// Whether each word is 0.
-fn is_zero(words: &[u64]) -> bool
-    ensures { result ≡ list_all (λ w. w == 0) words.now }
-{
-    words.iter().all(|w| *w == 0)
-}
 
 /// Whether the two sets are equal.
 fn is_same(a: &LocSet, b: &LocSet) -> bool
@@ -29,7 +21,7 @@ fn is_same(a: &LocSet, b: &LocSet) -> bool
 fn normal_set(set: &LocSet) -> Expr
     ensures { view result ≡ normal_set_of set.now }
 {
-    if is_zero(&set.words) {
+    if set.is_empty() {
         Expr::Never
     } else {
         Expr::Set(*set)

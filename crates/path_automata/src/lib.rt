@@ -2,7 +2,9 @@
 #![tactic(auto)]
 
 mod begin;
+mod classes;
 mod derive;
+mod memo;
 mod normal;
 mod states;
 #[cfg(test)]

@@ -3,18 +3,20 @@ ghost use Rattle.std.specs.Prelude.{◌≡◌, ◌≤◌, ◌<◌, ◌∷◌, []
 ghost use Rattle.std.specs.List.{list_all};
 ghost use Rattle.path_exprs.specs.Derivative.{derivative as derivative_of};
 ghost use Rattle.path_exprs.specs.Expression.{Expression};
-ghost use Rattle.path_exprs.specs.NetSets.{locations as all_locations};
+ghost use Rattle.net_base.specs.NetSets.{locations as all_locations};
 ghost use Rattle.path_exprs.specs.Normal.{is_never as is_never_test};
 ghost use Rattle.path_exprs.specs.Runs.{first_with, start_of};
 ghost use Rattle.path_exprs.specs.View.{views};
+ghost use Rattle.path_automata.specs.Memo.{AreAlike, IsRight, NoTwice};
 
 use crate::begin::reversed_normal;
 use crate::derive::{derivative, holds_empty};
+use crate::memo::Memo;
 use crate::normal::is_never;
 use indexmap::IndexSet;
 use net_base::{Loc, LocSet, Net};
 use outside::NoMemory;
-use path_exprs::{Expr, RankedExpr, locations};
+use path_exprs::{Expr, RankedExpr};
 use std::alloc::{AllocError, Global};
 use std::marker::Model;
 
@@ -38,8 +40,12 @@ impl Model for State {
 pub struct Automata {
     alloc: Global,
     found: IndexSet<Vec<Expr>>,
+    memo: Memo,
     ghost few: { All (λ v. vec_len v ≤ 64) found.keys },
     ghost begun: { 0 < length found.keys },
+    ghost apart: { NoTwice (map (λ v. views v.items) found.keys) },
+    ghost alike: { AreAlike memo (map (λ v. views v.items) found.keys) },
+    ghost right: { IsRight memo (map (λ v. views v.items) found.keys) },
 }
 
 impl Automata {
@@ -50,10 +56,11 @@ impl Automata {
     pub fn new(alloc: Global, ranked: &RankedExpr, net: &Net) -> Result<Automata, NoMemory>
         ensures { IfOk result (λ a. states_of a ≡ start_of (all_locations net.now) (views ranked.now) ∷ []) }
     {
-        let first = starts(alloc, &locations(net), ranked.alternatives())?;
+        let first = starts(alloc, &net.locations(), ranked.alternatives())?;
+        let memo = Memo::new(alloc, &first)?;
         let mut found = IndexSet::new(alloc);
         found.insert(first)?;
-        Ok(Automata { alloc, found })
+        Ok(Automata { alloc, found, memo })
     }
 
     /// The state before any location.
@@ -75,12 +82,18 @@ impl Automata {
         ensures extends { Extends (states_of self.old) (states_of self.new) }
         ensures err { OnErr result (states_of self.new ≡ states_of self.old) }
     {
+        if let Some(next) = self.memo.get(state.0, at) {
+            return Ok(State(next));
+        }
+        // Room first: where memory is refused after it, no state was added.
+        self.memo.make_room(state.0)?;
         let alloc = self.alloc;
         let Some(alternatives) = self.found.get_index(state.0 as usize) else {
             unreachable!()
         };
         let next = derivatives(alloc, alternatives, at)?;
         let (number, _) = self.found.insert_full(next)?;
+        self.memo.note(state.0, at, number);
         Ok(State(number as u64))
     }
 

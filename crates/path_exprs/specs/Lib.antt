@@ -10,4 +10,5 @@ pub mod Runs
 pub mod Ordered
 pub mod Total
 pub mod Alike
-pub mod NetSets
+pub mod Forward
+pub mod Standings

@@ -1,11 +1,11 @@
 -- The order of expressions is total. It is the order of their spellings, lists of numbers of which none begins another.
 use Rattle.std.proofs.Common.{◌≡◌, ℕ, List, [], ◌∷◌, refl, sym, ap, subst, ◌∙◌}
 use Rattle.std.specs.Cmp.{IsTotalOrder}
-use Rattle.std.specs.declared.cmp.Ordering.{Ordering}
-use Rattle.std.specs.declared.cmp.Ordering.TheVariants.{Less, Equal, Greater}
+use Rattle.std.specs.declared.cmp.Ordering.TheVariants.{Equal}
 use Rattle.std.specs.Ordering.{nat_cmp, ordering_then, on}
 use Rattle.std.specs.Cmp.Lexicographic.{slice_cmp}
 use Rattle.std.proofs.lemmas.Cmp.{nat_list_cmp_total, on_total, tied_itself}
+use Rattle.list_laws.proofs.Orders.{ordering_then-last, ordering_then_assoc}
 use Rattle.path_exprs.specs.Expression.{Expression, never, empty, set, seq, either, both, complement, star, Expressions, none, more}
 use Rattle.path_exprs.specs.Order.{compare, compare_lists}
 
@@ -29,17 +29,12 @@ abbrev mutual
   spell_each none t = 0 ∷ t
   spell_each (more e es) t = 1 ∷ spell e (spell_each es t)
 
-then_assoc : (a b c : Ordering) → ordering_then (ordering_then a b) c ≡ ordering_then a (ordering_then b c)
-then_assoc Less b c = refl
-then_assoc Equal b c = refl
-then_assoc Greater b c = refl
-
 spell_words-cmp : (v w x y : List ℕ) → slice_cmp nat_cmp (spell_words v x) (spell_words w y) ≡ ordering_then (slice_cmp nat_cmp v w) (slice_cmp nat_cmp x y)
 spell_words-cmp [] [] x y = refl
 spell_words-cmp [] (w ∷ ws) x y = refl
 spell_words-cmp (v ∷ vs) [] x y = refl
 spell_words-cmp (v ∷ vs) (w ∷ ws) x y =
-    ap (ordering_then (nat_cmp v w)) (spell_words-cmp vs ws x y) ∙ sym (then_assoc (nat_cmp v w) (slice_cmp nat_cmp vs ws) (slice_cmp nat_cmp x y))
+    ap (ordering_then (nat_cmp v w)) (spell_words-cmp vs ws x y) ∙ sym (ordering_then_assoc (nat_cmp v w) (slice_cmp nat_cmp vs ws) (slice_cmp nat_cmp x y))
 
 mutual
   spell-cmp : (e f : Expression) (x y : List ℕ) → slice_cmp nat_cmp (spell e x) (spell f y) ≡ ordering_then (compare e f) (slice_cmp nat_cmp x y)
@@ -47,7 +42,7 @@ mutual
   spell-cmp empty empty x y = refl
   spell-cmp (set s) (set t) x y = spell_words-cmp s.words t.words x y
   spell-cmp (seq a b) (seq c d) x y =
-      spell-cmp a c (spell b x) (spell d y) ∙ ap (ordering_then (compare a c)) (spell-cmp b d x y) ∙ sym (then_assoc (compare a c) (compare b d) (slice_cmp nat_cmp x y))
+      spell-cmp a c (spell b x) (spell d y) ∙ ap (ordering_then (compare a c)) (spell-cmp b d x y) ∙ sym (ordering_then_assoc (compare a c) (compare b d) (slice_cmp nat_cmp x y))
   spell-cmp (either es) (either fs) x y = spell_each-cmp es fs x y
   spell-cmp (both es) (both fs) x y = spell_each-cmp es fs x y
   spell-cmp (complement a) (complement b) x y = spell-cmp a b x y
@@ -59,15 +54,10 @@ mutual
   spell_each-cmp none (more f fs) x y = refl
   spell_each-cmp (more e es) none x y = refl
   spell_each-cmp (more e es) (more f fs) x y =
-      spell-cmp e f (spell_each es x) (spell_each fs y) ∙ ap (ordering_then (compare e f)) (spell_each-cmp es fs x y) ∙ sym (then_assoc (compare e f) (compare_lists es fs) (slice_cmp nat_cmp x y))
-
-then-last : (o : Ordering) → ordering_then o Equal ≡ o
-then-last Less = refl
-then-last Equal = refl
-then-last Greater = refl
+      spell-cmp e f (spell_each es x) (spell_each fs y) ∙ ap (ordering_then (compare e f)) (spell_each-cmp es fs x y) ∙ sym (ordering_then_assoc (compare e f) (compare_lists es fs) (slice_cmp nat_cmp x y))
 
 spelling-cmp : (e f : Expression) → slice_cmp nat_cmp (spell e []) (spell f []) ≡ compare e f
-spelling-cmp e f = spell-cmp e f [] [] ∙ then-last (compare e f)
+spelling-cmp e f = spell-cmp e f [] [] ∙ ordering_then-last (compare e f)
 
 pub compare_total : IsTotalOrder compare
 compare_total =

@@ -4,7 +4,6 @@
 mod copy;
 mod equality;
 mod expr;
-mod net_sets;
 mod order;
 mod ranked_expr;
 #[cfg(test)]
@@ -12,5 +11,4 @@ mod tests;
 
 pub use copy::copy_of;
 pub use expr::Expr;
-pub use net_sets::{locations, peers};
 pub use ranked_expr::RankedExpr;

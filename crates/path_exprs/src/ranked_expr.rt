@@ -1,5 +1,6 @@
 //! Expressions in the order of their ranks.
 ghost use Rattle.std.specs.Prelude.{◌≡◌, ◌≤◌, length};
+ghost use Rattle.net_base.specs.declared.limits.TheConstants.{ALTERNATIVES};
 
 use crate::expr::Expr;
 use net_base::List;
@@ -14,6 +15,7 @@ pub struct RankedExpr {
 impl Model for RankedExpr {
     ghost use Rattle.std.specs.Prelude.{List as Items, ◌≤◌, length};
     ghost use Rattle.std.specs.Coded.{codes};
+    ghost use Rattle.net_base.specs.declared.limits.TheConstants.{ALTERNATIVES};
     ghost use Rattle.path_exprs.specs.contracts.expr.Expr as expr;
     ghost use Rattle.path_exprs.specs.declared.expr.Expr.{Expr};
 
@@ -23,13 +25,13 @@ impl Model for RankedExpr {
 
     ghost view = { λ r. r.alternatives };
 
-    ghost invariant = { λ r. length r.alternatives ≤ 64 };
+    ghost invariant = { λ r. length r.alternatives ≤ ALTERNATIVES };
 }
 
 impl RankedExpr {
     /// The expressions of these alternatives.
     pub fn new(alternatives: List<Expr>) -> RankedExpr
-        requires { length alternatives ≤ 64 }
+        requires { length alternatives ≤ ALTERNATIVES }
         ensures { result ≡ alternatives }
     {
         RankedExpr { alternatives }
@@ -38,7 +40,7 @@ impl RankedExpr {
     /// The expressions, in order of rank.
     pub fn alternatives(&self) -> &[Expr]
         ensures alternatives { result.now ≡ self.now }
-        ensures few { length self.now ≤ 64 }
+        ensures few { length self.now ≤ ALTERNATIVES }
     {
         self.alternatives.as_slice()
     }

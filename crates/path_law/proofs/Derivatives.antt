@@ -1,5 +1,6 @@
 -- The derivative holds the lists that, with the location in front, are in the expression.
 use Rattle.std.proofs.Common.{◌≡◌, ℕ, List, [], ◌∷◌, Bool, true, false, not, cond, ◌&&◌, ◌||◌, refl, sym, ap, ◌∙◌}
+use Rattle.std.proofs.Math.Bool.{or-false, or_comm}
 use Rattle.path_exprs.specs.Expression.{Expression, never, empty, set, seq, either, both, complement, star, Expressions, none, more}
 use Rattle.path_exprs.specs.Language.{nothing, repeats}
 use Rattle.net_base.specs.Sets.{holds}
@@ -13,20 +14,10 @@ one_of-at : (b : Bool) (xs : List ℕ) → member (cond b empty never) xs ≡ (b
 one_of-at true xs = refl
 one_of-at false xs = refl
 
-or_false : (a : Bool) → (a || false) ≡ a
-or_false true = refl
-or_false false = refl
-
-or_swapped : (a b : Bool) → (a || b) ≡ (b || a)
-or_swapped true true = refl
-or_swapped true false = refl
-or_swapped false true = refl
-or_swapped false false = refl
-
 seq-at : (t : Bool) (front back : Expression) (xs : List ℕ) →
     member (cond t (either_of (front ∷ back ∷ [])) front) xs ≡ ((t && member back xs) || member front xs)
 seq-at true front back xs =
-    member-either_of (front ∷ back ∷ []) xs ∙ ap (λ b. member front xs || b) (or_false (member back xs)) ∙ or_swapped (member front xs) (member back xs)
+    member-either_of (front ∷ back ∷ []) xs ∙ ap (λ b. member front xs || b) (or-false (member back xs)) ∙ or_comm (member front xs) (member back xs)
 seq-at false front back xs = refl
 
 mutual

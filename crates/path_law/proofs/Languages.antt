@@ -1,35 +1,12 @@
 -- Laws of languages.
 use Rattle.std.proofs.Common.{◌≡◌, ℕ, List, [], ◌∷◌, Bool, true, false, ◌&&◌, ◌||◌, refl, sym, ap, ◌∙◌}
+use Rattle.std.proofs.Math.Bool.{and-false, and-or_distrib_right, and-true, and_assoc, or-false, and-or_distrib_left}
+use Rattle.list_laws.proofs.Truth.{or_or_or_comm}
 use Rattle.path_exprs.specs.Language.{Language, nothing, divides, goes_on, repeats}
 
 -- the two hold the same lists
 abbrev pub Same : Language → Language → Type 0
 Same p q = (xs : List ℕ) → p xs ≡ q xs
-
--- identities of tests
-or_false : (a : Bool) → (a || false) ≡ a
-or_false true = refl
-or_false false = refl
-
-and_true : (a : Bool) → (a && true) ≡ a
-and_true true = refl
-and_true false = refl
-
-and_assoc : (a b c : Bool) → ((a && b) && c) ≡ (a && (b && c))
-and_assoc true b c = refl
-and_assoc false b c = refl
-
-and_false : (a : Bool) → (a && false) ≡ false
-and_false true = refl
-and_false false = refl
-
-or_true : (a : Bool) → (a || true) ≡ true
-or_true true = refl
-or_true false = refl
-
-or_self : (a : Bool) → (a || a) ≡ a
-or_self true = refl
-or_self false = refl
 
 -- (a && b) || (c && ..) regrouped
 or_and : (a u v c : Bool) → (((a || c) && u) || ((false || v))) ≡ ((a && u) || ((c && u) || v))
@@ -39,22 +16,6 @@ or_and true false false true = refl
 or_and true false v false = refl
 or_and false u v c = refl
 
-or_swap : (a b c d : Bool) → ((a || b) || (c || d)) ≡ ((a || c) || (b || d))
-or_swap true b c d = refl
-or_swap false true true d = refl
-or_swap false true false d = refl
-or_swap false false c d = refl
-
-dist : (a b u : Bool) → ((a || b) && u) ≡ ((a && u) || (b && u))
-dist true true true = refl
-dist true true false = refl
-dist true false u = sym (or_false u)
-dist false b u = refl
-
-and_over : (b u v : Bool) → ((b && u) || (b && v)) ≡ (b && (u || v))
-and_over true u v = refl
-and_over false u v = refl
-
 -- divides takes equal languages to equal ones
 pub divides_same : (p p' q q' : Language) → Same p p' → Same q q' → Same (divides p q) (divides p' q')
 divides_same p p' q q' e f xs =
@@ -63,18 +24,18 @@ divides_same p p' q q' e f xs =
     ap (λ r. divides r q xs) ep ∙ ap (λ r. divides p' r xs) eq
 
 pub divides-or : (u v q : Language) (xs : List ℕ) → divides (λ ys. u ys || v ys) q xs ≡ (divides u q xs || divides v q xs)
-divides-or u v q [] = dist (u []) (v []) (q [])
+divides-or u v q [] = and-or_distrib_right (u []) (v []) (q [])
 divides-or u v q (x ∷ xs) =
     ap (λ b. ((u [] || v []) && q (x ∷ xs)) || b) (divides-or (λ ys. u (x ∷ ys)) (λ ys. v (x ∷ ys)) q xs)
-    ∙ ap (λ b. b || (divides (λ ys. u (x ∷ ys)) q xs || divides (λ ys. v (x ∷ ys)) q xs)) (dist (u []) (v []) (q (x ∷ xs)))
-    ∙ or_swap (u [] && q (x ∷ xs)) (v [] && q (x ∷ xs)) (divides (λ ys. u (x ∷ ys)) q xs) (divides (λ ys. v (x ∷ ys)) q xs)
+    ∙ ap (λ b. b || (divides (λ ys. u (x ∷ ys)) q xs || divides (λ ys. v (x ∷ ys)) q xs)) (and-or_distrib_right (u []) (v []) (q (x ∷ xs)))
+    ∙ or_or_or_comm (u [] && q (x ∷ xs)) (v [] && q (x ∷ xs)) (divides (λ ys. u (x ∷ ys)) q xs) (divides (λ ys. v (x ∷ ys)) q xs)
 
 pub divides-and : (b : Bool) (u q : Language) (xs : List ℕ) → divides (λ ys. b && u ys) q xs ≡ (b && divides u q xs)
 divides-and b u q [] = and_assoc b (u []) (q [])
 divides-and b u q (x ∷ xs) =
     ap (λ c. ((b && u []) && q (x ∷ xs)) || c) (divides-and b (λ ys. u (x ∷ ys)) q xs)
     ∙ ap (λ c. c || (b && divides (λ ys. u (x ∷ ys)) q xs)) (and_assoc b (u []) (q (x ∷ xs)))
-    ∙ and_over b (u [] && q (x ∷ xs)) (divides (λ ys. u (x ∷ ys)) q xs)
+    ∙ sym (and-or_distrib_left b (u [] && q (x ∷ xs)) (divides (λ ys. u (x ∷ ys)) q xs))
 
 regroup : (a b c d e : Bool) → (((a && b) && c) || ((a && d) || e)) ≡ ((a && ((b && c) || d)) || e)
 regroup true true true d e = refl
@@ -99,17 +60,17 @@ divides-none_left q (x ∷ xs) = divides-none_left q xs
 
 pub divides-nothing_left : (q : Language) (xs : List ℕ) → divides nothing q xs ≡ q xs
 divides-nothing_left q [] = refl
-divides-nothing_left q (x ∷ xs) = ap (λ b. q (x ∷ xs) || b) (divides-none_left q xs) ∙ or_false (q (x ∷ xs))
+divides-nothing_left q (x ∷ xs) = ap (λ b. q (x ∷ xs) || b) (divides-none_left q xs) ∙ or-false (q (x ∷ xs))
 
 pub divides-none_right : (p : Language) (xs : List ℕ) → divides p (λ ys. false) xs ≡ false
-divides-none_right p [] = and_false (p [])
-divides-none_right p (x ∷ xs) = ap (λ b. b || divides (λ ys. p (x ∷ ys)) (λ ys. false) xs) (and_false (p [])) ∙ divides-none_right (λ ys. p (x ∷ ys)) xs
+divides-none_right p [] = and-false (p [])
+divides-none_right p (x ∷ xs) = ap (λ b. b || divides (λ ys. p (x ∷ ys)) (λ ys. false) xs) (and-false (p [])) ∙ divides-none_right (λ ys. p (x ∷ ys)) xs
 
 pub divides-nothing_right : (p : Language) (xs : List ℕ) → divides p nothing xs ≡ p xs
-divides-nothing_right p [] = and_true (p [])
-divides-nothing_right p (x ∷ xs) = ap (λ b. b || divides (λ ys. p (x ∷ ys)) nothing xs) (and_false (p [])) ∙ divides-nothing_right (λ ys. p (x ∷ ys)) xs
+divides-nothing_right p [] = and-true (p [])
+divides-nothing_right p (x ∷ xs) = ap (λ b. b || divides (λ ys. p (x ∷ ys)) nothing xs) (and-false (p [])) ∙ divides-nothing_right (λ ys. p (x ∷ ys)) xs
 
 -- a first piece, and then more
 pub goes_on-divides : (p q : Language) (xs : List ℕ) → goes_on p q xs ≡ divides q (repeats p) xs
-goes_on-divides p q [] = sym (and_true (q []))
+goes_on-divides p q [] = sym (and-true (q []))
 goes_on-divides p q (x ∷ xs) = ap (λ b. (q [] && goes_on p (λ ys. p (x ∷ ys)) xs) || b) (goes_on-divides p (λ ys. q (x ∷ ys)) xs)

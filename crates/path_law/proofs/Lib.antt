@@ -7,5 +7,5 @@ pub mod Reversal
 pub mod Members
 pub mod Sorting
 pub mod RunLaws
-pub mod NetLaws
-pub mod EmptyNet
+pub mod CallLaws
+pub mod RankedLaws

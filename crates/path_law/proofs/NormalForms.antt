@@ -5,6 +5,8 @@ use Rattle.std.specs.declared.cmp.Ordering.TheVariants.{Less, Equal, Greater}
 use Rattle.std.specs.Ordering.{match_ordering}
 use Rattle.std.specs.List.{list_any, flat_map}
 use Rattle.std.proofs.lemmas.Bool.{or_cases}
+use Rattle.std.proofs.Math.Bool.{and-false, and-true, and_assoc, or-false, or-true, or_assoc, or_self_left, and_self_left}
+use Rattle.list_laws.proofs.Truth.{and_left_comm, or_left_comm}
 use Rattle.path_exprs.specs.Expression.{Expression, never, empty, set, seq, either, both, complement, Expressions, none, more, expressions_of, list_of}
 use Rattle.path_exprs.specs.Order.{compare}
 use Rattle.path_exprs.specs.Language.{Language, divides}
@@ -42,19 +44,6 @@ member-complement_of a xs = refl
 
 -- alternations
 
-or_left_comm : (a b c : Bool) → (a || (b || c)) ≡ (b || (a || c))
-or_left_comm true true c = refl
-or_left_comm true false c = refl
-or_left_comm false b c = refl
-
-or_twice : (a b : Bool) → (a || b) ≡ (a || (a || b))
-or_twice true b = refl
-or_twice false b = refl
-
-or_assoc : (a b c : Bool) → ((a || b) || c) ≡ (a || (b || c))
-or_assoc true b c = refl
-or_assoc false b c = refl
-
 -- a member of the list holds it
 abbrev pub in_some : List Expression → Language
 in_some es xs = some_member (expressions_of es) xs
@@ -75,7 +64,7 @@ in_some-insert-at : (e f : Expression) (fs : List Expression) (xs : List ℕ) �
 in_some-insert-at e f fs xs ih Less h = refl
 in_some-insert-at e f fs xs ih Equal h =
     ap (λ g. member g xs || in_some fs xs) (sym (compare-equal e f h))
-    ∙ or_twice (member e xs) (in_some fs xs)
+    ∙ sym (or_self_left (member e xs) (in_some fs xs))
     ∙ ap (λ g. member e xs || (member g xs || in_some fs xs)) (compare-equal e f h)
 in_some-insert-at e f fs xs ih Greater h =
     ap (λ b. member f xs || b) ih ∙ or_left_comm (member f xs) (member e xs) (in_some fs xs)
@@ -92,14 +81,6 @@ in_some-insert_each (e ∷ es) fs xs =
     ∙ or_left_comm (in_some es xs) (member e xs) (in_some fs xs)
     ∙ sym (or_assoc (member e xs) (in_some es xs) (in_some fs xs))
 
-or_false : (a : Bool) → (a || false) ≡ a
-or_false true = refl
-or_false false = refl
-
-or_true : (a : Bool) → (a || true) ≡ true
-or_true true = refl
-or_true false = refl
-
 in_some-append : (es fs : List Expression) (xs : List ℕ) → in_some (es ++ fs) xs ≡ (in_some es xs || in_some fs xs)
 in_some-append [] fs xs = refl
 in_some-append (e ∷ es) fs xs =
@@ -108,7 +89,7 @@ in_some-append (e ∷ es) fs xs =
 in_some-parts : (e : Expression) (xs : List ℕ) → in_some (either_parts e) xs ≡ member e xs
 in_some-parts never xs = refl
 in_some-parts (either es) xs = in_some-list_of es xs
-in_some-parts e xs = or_false (member e xs)
+in_some-parts e xs = or-false (member e xs)
 
 in_some-flat : (es : List Expression) (xs : List ℕ) → in_some (flat_map either_parts es) xs ≡ in_some es xs
 in_some-flat [] xs = refl
@@ -118,11 +99,11 @@ in_some-flat (e ∷ es) xs =
     ∙ ap (λ b. member e xs || b) (in_some-flat es xs)
 
 in_some-sorted : (es : List Expression) (xs : List ℕ) → in_some (sorted (flat_map either_parts es)) xs ≡ in_some es xs
-in_some-sorted es xs = in_some-insert_each (flat_map either_parts es) [] xs ∙ or_false (in_some (flat_map either_parts es) xs) ∙ in_some-flat es xs
+in_some-sorted es xs = in_some-insert_each (flat_map either_parts es) [] xs ∙ or-false (in_some (flat_map either_parts es) xs) ∙ in_some-flat es xs
 
 member-either_from : (es : List Expression) (xs : List ℕ) → member (either_from es) xs ≡ in_some es xs
 member-either_from [] xs = refl
-member-either_from (e ∷ []) xs = sym (or_false (member e xs))
+member-either_from (e ∷ []) xs = sym (or-false (member e xs))
 member-either_from (e ∷ f ∷ fs) xs = refl
 
 member-is_all : (e : Expression) (xs : List ℕ) → is_all e ≡ true → member e xs ≡ true
@@ -132,7 +113,7 @@ member-is_all e xs h = cc
 in_some-some_all : (es : List Expression) (xs : List ℕ) → list_any is_all es ≡ true → in_some es xs ≡ true
 in_some-some_all [] xs h = cc
 in_some-some_all (e ∷ es) xs h =
-    ⊎_elim (λ k. ap (λ b. b || in_some es xs) (member-is_all e xs k)) (λ k. ap (λ b. member e xs || b) (in_some-some_all es xs k) ∙ or_true (member e xs))
+    ⊎_elim (λ k. ap (λ b. b || in_some es xs) (member-is_all e xs k)) (λ k. ap (λ b. member e xs || b) (in_some-some_all es xs k) ∙ or-true (member e xs))
     (or_cases (is_all e) (list_any is_all es) h)
 
 all-or : (b : Bool) (fs : List Expression) (xs : List ℕ) → list_any is_all fs ≡ b → member (cond b all (either_from fs)) xs ≡ in_some fs xs
@@ -145,33 +126,12 @@ member-either_of es xs =
 
 -- intersections
 
-and_left_comm : (a b c : Bool) → (a && (b && c)) ≡ (b && (a && c))
-and_left_comm true b c = refl
-and_left_comm false true c = refl
-and_left_comm false false c = refl
-
-and_twice : (a b : Bool) → (a && b) ≡ (a && (a && b))
-and_twice true b = refl
-and_twice false b = refl
-
-and_assoc : (a b c : Bool) → ((a && b) && c) ≡ (a && (b && c))
-and_assoc true b c = refl
-and_assoc false b c = refl
-
-and_true : (a : Bool) → (a && true) ≡ a
-and_true true = refl
-and_true false = refl
-
-and_false : (a : Bool) → (a && false) ≡ false
-and_false true = refl
-and_false false = refl
-
 in_each-insert-at : (e f : Expression) (fs : List Expression) (xs : List ℕ) → in_each (insert e fs) xs ≡ (member e xs && in_each fs xs) →
     (o : Ordering) → compare e f ≡ o → in_each (match_ordering o (e ∷ f ∷ fs) (f ∷ fs) (f ∷ insert e fs)) xs ≡ (member e xs && (member f xs && in_each fs xs))
 in_each-insert-at e f fs xs ih Less h = refl
 in_each-insert-at e f fs xs ih Equal h =
     ap (λ g. member g xs && in_each fs xs) (sym (compare-equal e f h))
-    ∙ and_twice (member e xs) (in_each fs xs)
+    ∙ sym (and_self_left (member e xs) (in_each fs xs))
     ∙ ap (λ g. member e xs && (member g xs && in_each fs xs)) (compare-equal e f h)
 in_each-insert-at e f fs xs ih Greater h =
     ap (λ b. member f xs && b) ih ∙ and_left_comm (member f xs) (member e xs) (in_each fs xs)
@@ -196,7 +156,7 @@ in_each-append (e ∷ es) fs xs =
 in_each-parts : (e : Expression) (xs : List ℕ) → in_each (both_parts e) xs ≡ member e xs
 in_each-parts (complement never) xs = refl
 in_each-parts (both es) xs = in_each-list_of es xs
-in_each-parts e xs = and_true (member e xs)
+in_each-parts e xs = and-true (member e xs)
 
 in_each-flat : (es : List Expression) (xs : List ℕ) → in_each (flat_map both_parts es) xs ≡ in_each es xs
 in_each-flat [] xs = refl
@@ -206,11 +166,11 @@ in_each-flat (e ∷ es) xs =
     ∙ ap (λ b. member e xs && b) (in_each-flat es xs)
 
 in_each-sorted : (es : List Expression) (xs : List ℕ) → in_each (sorted (flat_map both_parts es)) xs ≡ in_each es xs
-in_each-sorted es xs = in_each-insert_each (flat_map both_parts es) [] xs ∙ and_true (in_each (flat_map both_parts es) xs) ∙ in_each-flat es xs
+in_each-sorted es xs = in_each-insert_each (flat_map both_parts es) [] xs ∙ and-true (in_each (flat_map both_parts es) xs) ∙ in_each-flat es xs
 
 member-both_from : (es : List Expression) (xs : List ℕ) → member (both_from es) xs ≡ in_each es xs
 member-both_from [] xs = refl
-member-both_from (e ∷ []) xs = sym (and_true (member e xs))
+member-both_from (e ∷ []) xs = sym (and-true (member e xs))
 member-both_from (e ∷ f ∷ fs) xs = refl
 
 member-is_never : (e : Expression) (xs : List ℕ) → is_never e ≡ true → member e xs ≡ false
@@ -220,7 +180,7 @@ member-is_never e xs h = cc
 in_each-some_never : (es : List Expression) (xs : List ℕ) → list_any is_never es ≡ true → in_each es xs ≡ false
 in_each-some_never [] xs h = cc
 in_each-some_never (e ∷ es) xs h =
-    ⊎_elim (λ k. ap (λ b. b && in_each es xs) (member-is_never e xs k)) (λ k. ap (λ b. member e xs && b) (in_each-some_never es xs k) ∙ and_false (member e xs))
+    ⊎_elim (λ k. ap (λ b. b && in_each es xs) (member-is_never e xs k)) (λ k. ap (λ b. member e xs && b) (in_each-some_never es xs k) ∙ and-false (member e xs))
     (or_cases (is_never e) (list_any is_never es) h)
 
 never-or : (b : Bool) (fs : List Expression) (xs : List ℕ) → list_any is_never fs ≡ b → member (cond b never (both_from fs)) xs ≡ in_each fs xs

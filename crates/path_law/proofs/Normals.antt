@@ -1,14 +1,13 @@
 -- The normal form holds the lists of locations of the net that the expression holds.
-use Rattle.std.proofs.Common.{◌≡◌, ◌==◌, ℕ, zero, suc, List, [], ◌∷◌, get_or, Bool, true, false, not, cond, ◌&&◌, ◌||◌, ◌/◌, ◌%◌, refl, sym, ap, ◌∙◌}
-use Rattle.std.proofs.lemmas.Bool.{and_parts, eqb-true}
+use Rattle.std.proofs.Common.{◌≡◌, ◌==◌, ℕ, List, [], ◌∷◌, Bool, true, false, not, cond, ◌&&◌, ◌||◌, refl, sym, ap, ◌∙◌}
+use Rattle.std.proofs.lemmas.Bool.{and_parts}
 use Rattle.std.proofs.lemmas.Slice.Eq.{bytes_eq-Decides}
-use Rattle.std.proofs.lemmas.Nat.Bits.{bit_at-zero}
-use Rattle.std.specs.Int.{bit_at}
 use Rattle.std.specs.List.{list_all}
 use Rattle.path_exprs.specs.Expression.{Expression, never, empty, set, seq, either, both, complement, star, Expressions, none, more}
 use Rattle.path_exprs.specs.Language.{Language, nothing, one_of, divides, goes_on, repeats}
 use Rattle.net_base.specs.declared.loc.LocSet.{LocSet}
 use Rattle.net_base.specs.Sets.{holds, same_set}
+use Rattle.net_base.proofs.SetLaws.{holds-zeros}
 use Rattle.path_exprs.specs.Membership.{member, some_member, each_member}
 use Rattle.path_exprs.specs.Normal.{all, normal_set, star_of, normal, normal_each}
 use Rattle.path_law.proofs.Languages.{Same}
@@ -16,16 +15,6 @@ use Rattle.path_law.proofs.Repeats.{repeats-nothing, repeats-none, repeats-every
 use Rattle.path_law.proofs.NormalForms.{in_some, in_each, member-seq_of, member-either_of, member-both_of, member-complement_of}
 
 -- a set without a location
-
-get_or-zeros : (ws : List ℕ) (k : ℕ) → list_all (λ w. w == 0) ws ≡ true → get_or ws k 0 ≡ 0
-get_or-zeros [] zero h = refl
-get_or-zeros [] (suc k) h = refl
-get_or-zeros (w ∷ ws) zero h = eqb-true w 0 (and_parts (w == 0) (list_all (λ w. w == 0) ws) h).0
-get_or-zeros (w ∷ ws) (suc k) h = get_or-zeros ws k (and_parts (w == 0) (list_all (λ w. w == 0) ws) h).1
-
-holds-zeros : (s : LocSet) (x : ℕ) → list_all (λ w. w == 0) s.words ≡ true → holds s x ≡ false
-holds-zeros s x h =
-    ap (λ w. bit_at w (x % 64) == 1) (get_or-zeros s.words (x / 64) h) ∙ ap (λ b. b == 1) (bit_at-zero (x % 64))
 
 one_of-zeros : (s : LocSet) (xs : List ℕ) → list_all (λ w. w == 0) s.words ≡ true → false ≡ one_of s xs
 one_of-zeros s [] h = refl

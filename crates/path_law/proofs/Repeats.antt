@@ -1,35 +1,12 @@
 -- Laws of repetition.
-use Rattle.std.proofs.Common.{◌≡◌, ℕ, List, [], ◌∷◌, Bool, true, false, ◌&&◌, ◌||◌, refl, ap, ◌∙◌}
+use Rattle.std.proofs.Common.{◌≡◌, ℕ, List, [], ◌∷◌, Bool, true, false, ◌&&◌, ◌||◌, refl, ap, ◌∙◌, sym}
 use Rattle.std.proofs.lemmas.Bool.{and_parts}
 use Rattle.path_exprs.specs.Language.{Language, nothing, one_of, goes_on, repeats}
 use Rattle.net_base.specs.declared.loc.LocSet.{LocSet}
 use Rattle.net_base.specs.Sets.{holds}
 use Rattle.std.specs.List.{list_all}
-
-or_swap : (a b c d : Bool) → ((a || b) || (c || d)) ≡ ((a || c) || (b || d))
-or_swap true b c d = refl
-or_swap false true true d = refl
-or_swap false true false d = refl
-or_swap false false c d = refl
-
-dist : (a b u : Bool) → ((a || b) && u) ≡ ((a && u) || (b && u))
-dist true true true = refl
-dist true true false = refl
-dist true false true = refl
-dist true false false = refl
-dist false b u = refl
-
-and_assoc : (a b c : Bool) → ((a && b) && c) ≡ (a && (b && c))
-and_assoc true b c = refl
-and_assoc false b c = refl
-
-and_over : (b u v : Bool) → ((b && u) || (b && v)) ≡ (b && (u || v))
-and_over true u v = refl
-and_over false u v = refl
-
-or_again : (a b : Bool) → (a || (a || b)) ≡ (a || b)
-or_again true b = refl
-or_again false b = refl
+use Rattle.std.proofs.Math.Bool.{and-or_distrib_right, and_assoc, or_self_left, and-or_distrib_left}
+use Rattle.list_laws.proofs.Truth.{or_or_or_comm}
 
 pub goes_on-none : (p : Language) (xs : List ℕ) → goes_on p (λ ys. false) xs ≡ false
 goes_on-none p [] = refl
@@ -74,8 +51,8 @@ goes_on-or p u v [] = refl
 goes_on-or p u v (x ∷ xs) =
     let r : Bool = goes_on p (λ ys. p (x ∷ ys)) xs in
     ap (λ b. ((u [] || v []) && r) || b) (goes_on-or p (λ ys. u (x ∷ ys)) (λ ys. v (x ∷ ys)) xs)
-    ∙ ap (λ b. b || (goes_on p (λ ys. u (x ∷ ys)) xs || goes_on p (λ ys. v (x ∷ ys)) xs)) (dist (u []) (v []) r)
-    ∙ or_swap (u [] && r) (v [] && r) (goes_on p (λ ys. u (x ∷ ys)) xs) (goes_on p (λ ys. v (x ∷ ys)) xs)
+    ∙ ap (λ b. b || (goes_on p (λ ys. u (x ∷ ys)) xs || goes_on p (λ ys. v (x ∷ ys)) xs)) (and-or_distrib_right (u []) (v []) r)
+    ∙ or_or_or_comm (u [] && r) (v [] && r) (goes_on p (λ ys. u (x ∷ ys)) xs) (goes_on p (λ ys. v (x ∷ ys)) xs)
 
 pub goes_on-and : (b : Bool) (p u : Language) (xs : List ℕ) → goes_on p (λ ys. b && u ys) xs ≡ (b && goes_on p u xs)
 goes_on-and b p u [] = refl
@@ -83,7 +60,7 @@ goes_on-and b p u (x ∷ xs) =
     let r : Bool = goes_on p (λ ys. p (x ∷ ys)) xs in
     ap (λ c. ((b && u []) && r) || c) (goes_on-and b p (λ ys. u (x ∷ ys)) xs)
     ∙ ap (λ c. c || (b && goes_on p (λ ys. u (x ∷ ys)) xs)) (and_assoc b (u []) r)
-    ∙ and_over b (u [] && r) (goes_on p (λ ys. u (x ∷ ys)) xs)
+    ∙ sym (and-or_distrib_left b (u [] && r) (goes_on p (λ ys. u (x ∷ ys)) xs))
 
 goes_on-goes_on : (p q : Language) (xs : List ℕ) → goes_on (repeats p) (goes_on p q) xs ≡ goes_on p q xs
 goes_on-goes_on p q [] = refl
@@ -96,7 +73,7 @@ goes_on-goes_on p q (x ∷ xs) =
     ∙ ap (λ c. c || goes_on (repeats p) (goes_on p qx) xs) (goes_on-and (q []) (repeats p) (goes_on p px) xs)
     ∙ ap (λ c. (q [] && c) || goes_on (repeats p) (goes_on p qx) xs) (goes_on-goes_on p px xs)
     ∙ ap (λ c. (q [] && goes_on p px xs) || c) (goes_on-goes_on p qx xs))
-    ∙ or_again (q [] && goes_on p px xs) (goes_on p qx xs)
+    ∙ or_self_left (q [] && goes_on p px xs) (goes_on p qx xs)
 
 pub repeats-repeats : (p : Language) (xs : List ℕ) → repeats (repeats p) xs ≡ repeats p xs
 repeats-repeats p [] = refl

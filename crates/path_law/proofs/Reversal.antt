@@ -1,6 +1,7 @@
 -- The reversed expression holds a list where the expression holds the reversed list.
 use Rattle.std.proofs.Common.{◌≡◌, ℕ, zero, suc, ◌≤◌, List, [], ◌∷◌, ◌++◌, length, reverse, Bool, true, false, not, ◌&&◌, ◌||◌, refl, sym, ap, ◌∙◌, arith}
 use Rattle.std.proofs.lemmas.List.{reverse-append}
+use Rattle.std.proofs.Math.Bool.{and-false, or_comm, or_assoc}
 use Rattle.path_exprs.specs.Expression.{Expression, never, empty, set, seq, either, both, complement, star, Expressions, none, more}
 use Rattle.path_exprs.specs.Language.{Language, nothing, one_of, divides, goes_on, repeats}
 use Rattle.net_base.specs.declared.loc.LocSet.{LocSet}
@@ -18,39 +19,13 @@ reverse-backwards : (xs : List ℕ) → reverse xs ≡ backwards xs
 reverse-backwards [] = refl
 reverse-backwards (x ∷ xs) = reverse-append (x ∷ []) xs ∙ ap (λ ys. ys ++ x ∷ []) (reverse-backwards xs)
 
-and_true : (a : Bool) → (a && true) ≡ a
-and_true true = refl
-and_true false = refl
-
--- (a && b) || (c || d), with the last first
-or_rotate : (a b c : Bool) → (a || (b || c)) ≡ ((a || b) || c)
-or_rotate true b c = refl
-or_rotate false b c = refl
-
-last_cut : (a b c d : Bool) → ((a && b) || (c && d)) ≡ ((c && d) || (a && b))
-last_cut true true true true = refl
-last_cut true true true false = refl
-last_cut true true false d = refl
-last_cut true false true true = refl
-last_cut true false true false = refl
-last_cut true false false d = refl
-last_cut false b true true = refl
-last_cut false b true false = refl
-last_cut false b false d = refl
-
-or_swapped : (a b : Bool) → (a || b) ≡ (b || a)
-or_swapped true true = refl
-or_swapped true false = refl
-or_swapped false true = refl
-or_swapped false false = refl
-
 -- the cut behind the last location, and the cuts before it
 pub divides-snoc : (p q : Language) (xs : List ℕ) (x : ℕ) →
     divides p q (xs ++ x ∷ []) ≡ (divides p (λ ys. q (ys ++ x ∷ [])) xs || (p (xs ++ x ∷ []) && q []))
 divides-snoc p q [] x = refl
 divides-snoc p q (y ∷ ys) x =
     ap (λ b. (p [] && q (y ∷ (ys ++ x ∷ []))) || b) (divides-snoc (λ zs. p (y ∷ zs)) q ys x)
-    ∙ or_rotate (p [] && q (y ∷ (ys ++ x ∷ []))) (divides (λ zs. p (y ∷ zs)) (λ zs. q (zs ++ x ∷ [])) ys) (p (y ∷ (ys ++ x ∷ [])) && q [])
+    ∙ sym (or_assoc (p [] && q (y ∷ (ys ++ x ∷ []))) (divides (λ zs. p (y ∷ zs)) (λ zs. q (zs ++ x ∷ [])) ys) (p (y ∷ (ys ++ x ∷ [])) && q []))
 
 flip : (a b c : Bool) → (c || (a && b)) ≡ ((b && a) || c)
 flip true true true = refl
@@ -63,7 +38,7 @@ flip false false true = refl
 flip false false false = refl
 
 pub divides-backwards : (p q : Language) (xs : List ℕ) → divides p q (backwards xs) ≡ divides (λ ys. q (backwards ys)) (λ ys. p (backwards ys)) xs
-divides-backwards p q [] = flip (p []) (q []) false ∙ or_swapped (q [] && p []) false
+divides-backwards p q [] = flip (p []) (q []) false ∙ or_comm (q [] && p []) false
 divides-backwards p q (x ∷ xs) =
     divides-snoc p q (backwards xs) x
     ∙ ap (λ b. b || (p (backwards xs ++ x ∷ []) && q [])) (divides-backwards p (λ ys. q (ys ++ x ∷ [])) xs)
@@ -81,7 +56,7 @@ last_piece false b c false e f = refl
 
 goes_on-snoc : (p q : Language) (xs : List ℕ) (x : ℕ) →
     goes_on p q (xs ++ x ∷ []) ≡ (q (xs ++ x ∷ []) || divides (goes_on p q) (λ ys. p (ys ++ x ∷ [])) xs)
-goes_on-snoc p q [] x = or_swapped (q [] && p (x ∷ [])) (q (x ∷ []))
+goes_on-snoc p q [] x = or_comm (q [] && p (x ∷ [])) (q (x ∷ []))
 goes_on-snoc p q (y ∷ ys) x =
     let py : Language = λ zs. p (y ∷ zs) in
     let qy : Language = λ zs. q (y ∷ zs) in
@@ -126,18 +101,14 @@ nothing-backwards : (xs : List ℕ) → nothing xs ≡ nothing (backwards xs)
 nothing-backwards [] = refl
 nothing-backwards (x ∷ xs) = sym (nothing-snoc (backwards xs) x)
 
-and_none : (b : Bool) → (b && false) ≡ false
-and_none true = refl
-and_none false = refl
-
 one_of-long : (s : LocSet) (xs : List ℕ) (y x : ℕ) → one_of s ((xs ++ y ∷ []) ++ x ∷ []) ≡ false
-one_of-long s [] y x = and_none (holds s y)
-one_of-long s (z ∷ zs) y x = ap (λ b. holds s z && b) (nothing-snoc (zs ++ y ∷ []) x) ∙ and_none (holds s z)
+one_of-long s [] y x = and-false (holds s y)
+one_of-long s (z ∷ zs) y x = ap (λ b. holds s z && b) (nothing-snoc (zs ++ y ∷ []) x) ∙ and-false (holds s z)
 
 one_of-backwards : (s : LocSet) (xs : List ℕ) → one_of s xs ≡ one_of s (backwards xs)
 one_of-backwards s [] = refl
 one_of-backwards s (x ∷ []) = refl
-one_of-backwards s (x ∷ y ∷ zs) = and_none (holds s x) ∙ sym (one_of-long s (backwards zs) y x)
+one_of-backwards s (x ∷ y ∷ zs) = and-false (holds s x) ∙ sym (one_of-long s (backwards zs) y x)
 
 mutual
   member-backwards : (e : Expression) (xs : List ℕ) → member (reversed e) xs ≡ member e (backwards xs)

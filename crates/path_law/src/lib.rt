@@ -1,13 +1,16 @@
 //! Laws of expressions, each the contract of a function without a body.
 #![tactic(auto)]
 
-ghost use Rattle.std.specs.Prelude.{◌≡◌, ◌↔◌, ◌∷◌, [], ℕ, List, reverse, true};
+ghost use Rattle.std.specs.Prelude.{◌≡◌, ◌≤◌, ◌↔◌, ◌∷◌, [], ℕ, List, length, map, reverse, true};
 ghost use Rattle.std.specs.List.{list_all};
 ghost use Rattle.net_base.specs.Network.{IsNet, PlainNet, is_location};
+ghost use Rattle.path_words.specs.Meaning.{alternatives, rank_of};
+ghost use Rattle.path_words.specs.Policies.{Ranking};
 ghost use Rattle.path_exprs.specs.Derivative.{derivative};
 ghost use Rattle.path_exprs.specs.Expression.{Expression};
+ghost use Rattle.path_exprs.specs.Forward.{expressions};
 ghost use Rattle.path_exprs.specs.Membership.{Member, member};
-ghost use Rattle.path_exprs.specs.NetSets.{locations};
+ghost use Rattle.net_base.specs.NetSets.{locations};
 ghost use Rattle.path_exprs.specs.Normal.{normal, reversed, sorted};
 ghost use Rattle.path_exprs.specs.Order.{Ascends};
 ghost use Rattle.path_exprs.specs.Runs.{along, first_with, start_of};
@@ -43,4 +46,17 @@ pub fn members_ascend()
 pub fn derivatives_decide()
     ensures { (net : PlainNet) (es : List Expression) (xs : List ℕ) → IsNet net → list_all (is_location net) xs ≡ true
         → first_with [] (along xs (start_of (locations net) es)) ≡ first_with (reverse xs) es }
+{}
+
+/// A list of at least two locations of the network is in the expression of each alternative of a ranked expression exactly
+/// where it meets the alternative.
+pub fn alternatives_are_expressions()
+    ensures { (net : PlainNet) (ranked : Ranking) (path : List ℕ) → IsNet net → 2 ≤ length path → list_all (is_location net) path ≡ true
+        → map (λ e. member e path) (expressions net ranked) ≡ map (λ test. test path) (alternatives net ranked) }
+{}
+
+/// The rank of such a list is the place, from 1, of the first expression that holds it.
+pub fn ranks_are_first_places()
+    ensures { (net : PlainNet) (ranked : Ranking) (path : List ℕ) → IsNet net → 2 ≤ length path → list_all (is_location net) path ≡ true
+        → first_with path (expressions net ranked) ≡ rank_of net ranked path }
 {}

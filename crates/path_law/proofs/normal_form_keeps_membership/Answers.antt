@@ -1,5 +1,5 @@
-use Rattle.path_exprs.specs.NetSets.{locations}
-use Rattle.path_law.proofs.NetLaws.{all_held}
+use Rattle.net_base.specs.NetSets.{locations}
+use Rattle.net_base.proofs.NetSetLaws.{all_held}
 use Rattle.path_law.proofs.Normals.{member-normal}
 use Rattle.path_law.proofs.normal_form_keeps_membership.Goals as goal
 

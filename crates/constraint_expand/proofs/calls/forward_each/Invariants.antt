@@ -1,6 +1,6 @@
 use Rattle.std.proofs.Common.{◌≡◌, map, take}
 use Rattle.path_exprs.specs.View.{views}
-use Rattle.constraint_expand.specs.Forward.{forward}
+use Rattle.path_exprs.specs.Forward.{forward}
 use Rattle.constraint_expand.proofs.calls.forward_each.Given as goal
 
 abbrev pub invariant-loop-call : goal.invariant-loop-call

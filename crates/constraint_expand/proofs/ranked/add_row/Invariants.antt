@@ -1,6 +1,6 @@
 use Rattle.std.proofs.Common.{◌≡◌, ◌++◌, map, take}
 use Rattle.path_exprs.specs.View.{view, views}
-use Rattle.constraint_expand.specs.Forward.{both_of_two}
+use Rattle.path_exprs.specs.Forward.{both_of_two}
 use Rattle.constraint_expand.proofs.ranked.add_row.Given as goal
 
 abbrev pub invariant-loop-f : goal.invariant-loop-f

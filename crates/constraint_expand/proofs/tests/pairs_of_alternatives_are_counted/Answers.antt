@@ -1,4 +1,4 @@
-use Rattle.path_law.proofs.EmptyNet.{is_empty}
+use Rattle.net_base.proofs.EmptyNet.{is_empty}
 use Rattle.constraint_expand.proofs.tests.pairs_of_alternatives_are_counted.Goals as goal
 
 pub new-net-requires : goal.new-net-requires

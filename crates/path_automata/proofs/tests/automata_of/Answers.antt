@@ -1,4 +1,4 @@
-use Rattle.path_law.proofs.EmptyNet.{is_empty}
+use Rattle.net_base.proofs.EmptyNet.{is_empty}
 use Rattle.path_automata.proofs.tests.automata_of.Goals as goal
 
 pub new-net-requires : goal.new-net-requires

@@ -1,5 +1,0 @@
-use Rattle.constraint_expand.proofs.RankedLaws.{held-alternatives, first_with-rank}
-use Rattle.constraint_expand.proofs.laws.ranks_are_first_places.Goals as goal
-
-pub returns : goal.returns
-returns c = λ net r path rules long within. first_with-rank net r path (held-alternatives net r path rules long within)

@@ -1,9 +1,0 @@
-use Rattle.std.proofs.Common.{◌≡◌, ◌++◌, length, take, drop}
-use Rattle.constraint_expand.specs.Sets.{common_words}
-use Rattle.constraint_expand.proofs.sets.common.Given as goal
-
-abbrev pub invariant-loop-i : goal.invariant-loop-i
-invariant-loop-i l = record {
-  len : length l.words ≡ 12;
-  rest : common_words l.a.words l.b.words ≡ take l.i l.words ++ common_words (drop l.i l.a.words) (drop l.i l.b.words);
-}

@@ -1,0 +1,89 @@
+//! Where steps led to, by state and class of the location.
+ghost use Rattle.std.specs.Prelude.{◌≡◌, IfOk, IfSome};
+ghost use Rattle.path_exprs.specs.View.{views};
+ghost use Rattle.path_automata.specs.Classes.{AreBelow, AreSorted, SameClass};
+
+use crate::classes::classes_of;
+use net_base::Loc;
+use path_exprs::Expr;
+use std::alloc::{AllocError, Global};
+
+/// Stands where no next state is known.
+pub const UNKNOWN: u32 = u32::MAX;
+
+/// For each state and class of locations the state that its locations lead to, where it is known.
+#[derive(Drop)]
+pub struct Memo {
+    /// The class of each location.
+    classes: Vec<usize>,
+    /// How many classes there are.
+    count: usize,
+    /// The next states, a row a state and a place in it for each class.
+    next: Vec<u32>,
+    ghost below: { AreBelow classes.items count },
+}
+
+impl Memo {
+    ghost use Rattle.std.specs.Prelude.{ℕ, ◌⊎◌};
+    ghost use Rattle.path_automata.specs.Memo.{IsPlace, Notes};
+
+    /// The memo of the automaton that begins with these expressions: no next state is known.
+    pub fn new(alloc: Global, es: &[Expr]) -> Result<Memo, AllocError>
+        ensures sorted { IfOk result (λ m. AreSorted m.classes.items (views es.now)) }
+        ensures none { IfOk result (λ m. (state at next : ℕ) → ¬ (Notes m state at next)) }
+    {
+        let (classes, count) = classes_of(alloc, es)?;
+        Ok(Memo {
+            classes,
+            count,
+            next: Vec::new(alloc),
+        })
+    }
+
+    /// The state that the location leads to, if it is known.
+    pub fn get(&self, state: u64, at: Loc) -> Option<u64>
+        ensures { IfSome result (λ next. Notes self.now state at next) }
+    {
+        let next = *self.next.get(self.place(state, at)?)?;
+        if next < UNKNOWN {
+            Some(next as u64)
+        } else {
+            None
+        }
+    }
+
+    /// Makes room for the next states of a state. What is known stays.
+    pub fn make_room(&mut self, state: u64) -> Result<(), AllocError>
+        ensures classes { self.new.classes ≡ self.old.classes }
+        ensures kept { (s at next : ℕ) → Notes self.new s at next → Notes self.old s at next }
+    {
+        let row = (state as usize).checked_add(1).ok_or(AllocError)?;
+        let room = row.checked_mul(self.count).ok_or(AllocError)?;
+        if self.next.len() < room {
+            self.next.resize(room, UNKNOWN)?;
+        }
+        Ok(())
+    }
+
+    /// Notes the next state, if there is room for it.
+    pub fn note(&mut self, state: u64, at: Loc, next: usize)
+        ensures classes { self.new.classes ≡ self.old.classes }
+        ensures noted { (s x n : ℕ) → Notes self.new s x n → Notes self.old s x n ⊎ (SameClass self.old.classes.items x at × (s ≡ state) × (n ≡ next)) }
+    {
+        let Some(place) = self.place(state, at) else {
+            return;
+        };
+        if place < self.next.len() && next < UNKNOWN as usize {
+            self.next[place] = next as u32;
+        }
+    }
+
+    /// Where the next state of the state and the location's class stands.
+    fn place(&self, state: u64, at: Loc) -> Option<usize>
+        ensures { IfSome result (λ place. IsPlace self.now state at place) }
+    {
+        let class = *self.classes.get(at.number() as usize)?;
+        let row = (state as usize).checked_mul(self.count)?;
+        row.checked_add(class)
+    }
+}
