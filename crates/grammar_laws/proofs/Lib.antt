@@ -18,7 +18,7 @@ mod Repeats
 mod Sequences
 mod SpanLaws
 mod SetsReaders
-mod TextLaws
+pub mod TextLaws
 mod Tokens
 mod WholeCalls
 mod WholeItems

@@ -1,5 +1,6 @@
 -- How many brackets are open at once.
 use Rattle.std.specs.Prelude.{ℕ, ◌+◌, ◌-◌, nat_le, Bool, false, List, [], ◌∷◌, Option, Some, None, if◌then◌else◌}
+use Rattle.net_base.specs.declared.limits.TheConstants.{BRACKETS}
 use Rattle.net_base.specs.declared.place.Place.{Place}
 use Rattle.policy_grammar.specs.declared.lexeme.Lexeme.{Lexeme}
 use Rattle.policy_grammar.specs.declared.symbol.Symbol.{Symbol}
@@ -13,7 +14,7 @@ open_behind n _ = n
 
 -- the lexeme opens one more bracket, and 64 are open
 abbrev pub is_too_deep : ℕ → Symbol → Bool
-is_too_deep n RoundOpen = nat_le 64 n
+is_too_deep n RoundOpen = nat_le BRACKETS n
 is_too_deep n _ = false
 
 -- the place of the first bracket that is too deep, where n are open before these lexemes

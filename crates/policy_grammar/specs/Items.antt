@@ -1,5 +1,6 @@
 -- Items.
 use Rattle.std.specs.Prelude.{ℕ, zero, suc, List, [], ◌∷◌, ◌++◌, length, Result, Ok, Err}
+use Rattle.net_base.specs.declared.limits.TheConstants.{BRACKETS}
 use Rattle.net_base.specs.Steps.{◌>>=◌}
 use Rattle.policy_tokens.specs.declared.fault.PolicyFault.{PolicyFault}
 use Rattle.policy_grammar.specs.declared.lexeme.Lexeme.{Lexeme}
@@ -49,7 +50,7 @@ unfoldable pub statement_at : List Lexeme → Read Item
 statement_at ls = do
   patterns ← predicate_at ls
   behind ← after symbol.Arrow patterns.1
-  ranked ← ranked_with (inner_at 64) [] behind
+  ranked ← ranked_with (inner_at BRACKETS) [] behind
   from ← from_at ranked.1
   rest ← after symbol.Semicolon from.1
   Ok (State (record { patterns = patterns.0; ranked = ranked.0; from = from.0 }), rest)

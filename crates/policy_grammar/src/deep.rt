@@ -1,5 +1,6 @@
 //! How many brackets are open at once.
 ghost use Rattle.std.specs.Prelude.{◌≡◌, ◌≤◌, false};
+ghost use Rattle.net_base.specs.declared.limits.TheConstants.{BRACKETS};
 ghost use Rattle.policy_grammar.specs.Deep.{first_deep as first_too_deep, is_too_deep as too_deep, open_behind as behind};
 
 use crate::lexeme::Lexeme;
@@ -19,10 +20,10 @@ fn is_too_deep(count: u64, symbol: Symbol) -> bool
 
 // How many brackets are open behind a lexeme.
 fn open_behind(count: u64, symbol: Symbol) -> u64
-    requires fits { count ≤ 64 }
+    requires fits { count ≤ BRACKETS }
     requires shallow { too_deep count symbol ≡ false }
     ensures count { result ≡ behind count symbol }
-    ensures fits { result ≤ 64 }
+    ensures fits { result ≤ BRACKETS }
 {
     match symbol {
         Symbol::RoundOpen => count + 1,

@@ -4,6 +4,7 @@ use Rattle.std.specs.Prelude.{slice_get, if◌then◌else◌}
 use Rattle.std.specs.List.{AllByRecursion, position}
 use Rattle.std.specs.Str.{bytes_eq}
 use Rattle.std.proofs.lemmas.Option.{option_and_then_some}
+use Rattle.list_laws.proofs.Each.{AllByRecursion-push, AllByRecursion_at}
 use Rattle.net_base.specs.declared.loc.LocSet.{LocSet}
 use Rattle.net_base.specs.declared.net.Site.{Site}
 use Rattle.net_base.specs.declared.place.Place.{Place}
@@ -14,13 +15,11 @@ use Rattle.policy_tokens.specs.declared.fault.PolicyFault.TheVariants.{Unknown, 
 use Rattle.policy_grammar.specs.declared.lexeme.Lexeme.{Lexeme}
 use Rattle.policy_grammar.specs.declared.item.Item.{Item}
 use Rattle.policy_grammar.specs.declared.item.Item.TheVariants.{Define, Originate, State}
-use Rattle.policy_rules.specs.LocationSets.{no_location, with_location, union_of}
+use Rattle.net_base.specs.SetOperations.{no_location, with_location, union_of}
 use Rattle.policy_rules.specs.KnownNames.{Names, set_named, is_known, with_name, with_new_name, with_sites, net_names, with_group, first_place}
 use Rattle.policy_rules.specs.Checks.{text, set_at, joined, set_of_names, each, name_known, arg_known, step_known, learnt, all_learnt}
 use Rattle.policy_parser.specs.Spelled.{names_spelled, none_at}
-use Rattle.regret_law.proofs.Lists.{all_at}
-use Rattle.policy_law.proofs.Each.{each_more}
-use Rattle.policy_law.proofs.Held.{AreBelow, none_held, one_held, union_below}
+use Rattle.net_base.proofs.HeldSets.{AreBelow, none_held, one_held, union_below}
 
 -- each name stands for locations below a number
 abbrev pub NamesBelow : ℕ → Names → Type 0
@@ -30,7 +29,7 @@ NamesBelow n known = AllByRecursion (AreBelow n) known.sets
 
 named_below : (n : ℕ) (known : Names) (name : List ℕ) (s : LocSet) → NamesBelow n known → set_named known name ≡ Some s → AreBelow n s
 named_below n known name s below found =
-    option_and_then_some (slice_get known.sets) (position (bytes_eq name) known.names) s found (λ i at here. all_at (AreBelow n) known.sets i s below here)
+    option_and_then_some (slice_get known.sets) (position (bytes_eq name) known.names) s found (λ i at here. AllByRecursion_at (AreBelow n) known.sets i s below here)
 
 pub set_at_below : (bytes : List ℕ) (n : ℕ) (known : Names) (l : Lexeme) (s : LocSet) → NamesBelow n known → set_at bytes known l ≡ Ok s → AreBelow n s
 unfolding set_at
@@ -58,12 +57,12 @@ all_stand bytes n known (l ∷ ls) below = (λ s e. set_at_below bytes n known l
 
 name_more : (n : ℕ) (known : Names) (name : List ℕ) (s : LocSet) (b : Bool) → NamesBelow n known → AreBelow n s → NamesBelow n (if b then known else with_name known name s)
 name_more n known name s true below here = below
-name_more n known name s false below here = each_more (AreBelow n) known.sets s below here
+name_more n known name s false below here = AllByRecursion-push (AreBelow n) known.sets s below here
 
 group_more : (n : ℕ) (known : Names) (place : Option Place) (name : List ℕ) (s : LocSet) (b : Bool) → NamesBelow n known → AreBelow n s
     → NamesBelow n (if b then record { names = known.names; sets = known.sets; twice = place } else with_name known name s)
 group_more n known place name s true below here = below
-group_more n known place name s false below here = each_more (AreBelow n) known.sets s below here
+group_more n known place name s false below here = AllByRecursion-push (AreBelow n) known.sets s below here
 
 -- ---- the names of the network
 

@@ -1,5 +1,3 @@
-pub mod Each
-pub mod Held
 pub mod Known
 pub mod Routers
 pub mod Patterns

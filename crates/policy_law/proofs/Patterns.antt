@@ -1,13 +1,13 @@
 -- Patterns that are read are patterns.
-use Rattle.std.proofs.Common.{◌≡◌, ℕ, List, [], ◌∷◌, ◌++◌, Result, Ok, Err, refl, subst, arith}
+use Rattle.std.proofs.Common.{◌≡◌, ℕ, List, [], ◌∷◌, ◌++◌, Ok, subst, arith}
 use Rattle.std.specs.Prelude.{◌&&◌, nat_le}
 use Rattle.std.specs.List.{AllByRecursion}
 use Rattle.std.proofs.lemmas.Bool.{and_parts}
+use Rattle.list_laws.proofs.Each.{AllByRecursion-push}
 use borrow.Author.Tests.{leb-true}
 use Rattle.net_base.specs.Network.{PlainNet}
 use Rattle.net_base.specs.Prefixes.{PlainPrefix, PlainPattern, IsPrefix, IsPattern, only}
 use Rattle.net_base.specs.PrefixText.{prefix_spelled, length_number}
-use Rattle.net_base.specs.declared.prefix_text.PrefixFault.{PrefixFault}
 use Rattle.net_base.specs.Steps.{◌>>=◌, or_fault, unless}
 use Rattle.net_base.proofs.PrefixLemmas.{prefix_spelled-IsPrefix}
 use Rattle.net_base.proofs.StepLemmas.{bind_ok, unless_ok}
@@ -19,18 +19,14 @@ use Rattle.policy_grammar.specs.declared.item.RawStatement.{RawStatement}
 use Rattle.policy_grammar.specs.declared.item.Item.{Item}
 use Rattle.policy_grammar.specs.declared.item.Item.TheVariants.{Define, Originate, State}
 use Rattle.policy_rules.specs.Checks.{text}
-use Rattle.policy_rules.specs.Figures.{or_bad, prefix_at, upto_at, pattern_at}
+use Rattle.policy_rules.specs.Figures.{prefix_at, upto_at, pattern_at}
 use Rattle.policy_rules.specs.KnownNames.{Names}
 use Rattle.path_words.specs.Policies.{PlainStatement}
+use Rattle.policy_parser.proofs.SpelledPrefixes.{or_bad_ok}
 use Rattle.policy_parser.specs.Built.{patterns_of, ranking_of_steps, from_of, statement_of, statements_of}
-use Rattle.policy_law.proofs.Each.{each_more}
-
-or_bad_is : (l : Lexeme) (r : Result PlainPrefix PrefixFault) (p : PlainPrefix) → ((q : PlainPrefix) → r ≡ Ok q → IsPrefix q) → or_bad l r ≡ Ok p → IsPrefix p
-or_bad_is l (Ok q) p are e = let same : q ≡ p = cc in subst IsPrefix same (are q refl)
-or_bad_is l (Err f) p are e = absurd cc
 
 prefix_is : (bytes : List ℕ) (l : Lexeme) (p : PlainPrefix) → prefix_at bytes l ≡ Ok p → IsPrefix p
-prefix_is bytes l p e = or_bad_is l (prefix_spelled (text bytes l)) p (λ q h. prefix_spelled-IsPrefix (text bytes l) q h) e
+prefix_is bytes l p e = prefix_spelled-IsPrefix (text bytes l) p (or_bad_ok l (prefix_spelled (text bytes l)) p e)
 
 all_is : IsPattern (record { base = record { bits = 0; len = 0 }; upto = 32 })
 all_is = record { prefix = record { wide = omega arith; within = omega arith; clean = omega arith }; least = omega arith; most = omega arith }
@@ -64,7 +60,7 @@ patterns_are : (bytes : List ℕ) (so_far : List PlainPattern) (raw : List RawPa
 patterns_are bytes so_far [] ts e before = let same : so_far ≡ ts = cc in subst (AllByRecursion IsPattern) same before
 patterns_are bytes so_far (r ∷ raw) ts e before =
     let b = bind_ok (pattern_at bytes r) (λ t. patterns_of bytes (so_far ++ t ∷ []) raw) ts e in
-    patterns_are bytes (so_far ++ b.0 ∷ []) raw ts b.2 (each_more IsPattern so_far b.0 before (pattern_is bytes r b.0 b.1))
+    patterns_are bytes (so_far ++ b.0 ∷ []) raw ts b.2 (AllByRecursion-push IsPattern so_far b.0 before (pattern_is bytes r b.0 b.1))
 
 statement_patterns_are : (bytes : List ℕ) (net : PlainNet) (known : Names) (s : RawStatement) (t : PlainStatement) → statement_of bytes net known s ≡ Ok t → AllByRecursion IsPattern t.patterns
 unfolding statement_of
@@ -88,4 +84,4 @@ statements_have_patterns bytes net known so_far (Originate p ns ∷ items) ts e 
 statements_have_patterns bytes net known so_far (State s ∷ items) ts e before =
     let b = bind_ok (statement_of bytes net known s) (λ t. statements_of bytes net known (so_far ++ t ∷ []) items) ts e in
     statements_have_patterns bytes net known (so_far ++ b.0 ∷ []) items ts b.2
-    (each_more (λ (t : PlainStatement). AllByRecursion IsPattern t.patterns) so_far b.0 before (statement_patterns_are bytes net known s b.0 b.1))
+    (AllByRecursion-push (λ (t : PlainStatement). AllByRecursion IsPattern t.patterns) so_far b.0 before (statement_patterns_are bytes net known s b.0 b.1))

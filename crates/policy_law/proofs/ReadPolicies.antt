@@ -22,10 +22,10 @@ use Rattle.policy_parser.specs.Built.{origins_of, statements_of}
 use Rattle.policy_parser.specs.Spelled.{items_spelled, names_spelled, rules_kept, origins_spelled, policy_built, pairs, spelled}
 use Rattle.policy_parser.proofs.BuiltPolicies.{is_policy}
 use Rattle.policy_parser.proofs.SpelledPrefixes.{spelled-HavePrefixes}
-use Rattle.config_base.specs.Made.{IsIn}
-use Rattle.regret_law.specs.Passes.{IsPolicyOf}
-use Rattle.regret_law.proofs.Lists.{all_at}
-use Rattle.policy_law.proofs.Held.{AreBelow}
+use Rattle.list_laws.specs.Members.{IsIn}
+use Rattle.list_laws.proofs.Each.{AllByRecursion_at}
+use Rattle.path_words.specs.Policies.{IsPolicyOf}
+use Rattle.net_base.proofs.HeldSets.{AreBelow}
 use Rattle.policy_law.proofs.Known.{names_below}
 use Rattle.policy_law.proofs.Routers.{AreAtRouters, origins_at_routers}
 use Rattle.policy_law.proofs.Patterns.{HavePatterns, statements_have_patterns}
@@ -94,7 +94,7 @@ at_routers net bytes policy b =
 pub read_routers : (net : PlainNet) (bytes : List ℕ) (policy : PlainPolicy) → spelled net bytes ≡ Ok policy
     → (o : Origin) (l : ℕ) → IsIn policy.origins o → IsTrue (holds o.at l) → IsTrue (is_router net l)
 read_routers net bytes policy h o l in_origins on =
-    let here : AreBelow (length net.routers) o.at = all_at (λ (x : Origin). AreBelow (length net.routers) x.at) policy.origins in_origins.0 o (at_routers net bytes policy (is_built net bytes policy h)) in_origins.1 in
+    let here : AreBelow (length net.routers) o.at = AllByRecursion_at (λ (x : Origin). AreBelow (length net.routers) x.at) policy.origins in_origins.0 o (at_routers net bytes policy (is_built net bytes policy h)) in_origins.1 in
     lt-ltb l (length net.routers) (here l on)
 
 -- each of its patterns is one
@@ -103,12 +103,12 @@ pub read_patterns : (net : PlainNet) (bytes : List ℕ) (policy : PlainPolicy) �
 read_patterns net bytes policy h s t in_statements in_patterns =
     let b = is_built net bytes policy h in
     let have : HavePatterns policy.statements = statements_have_patterns bytes net b.known [] b.items policy.statements b.statements tt in
-    let here = all_at (λ (x : PlainStatement). AllByRecursion IsPattern x.patterns) policy.statements in_statements.0 s have in_statements.1 in
-    all_at IsPattern s.patterns in_patterns.0 t here in_patterns.1
+    let here = AllByRecursion_at (λ (x : PlainStatement). AllByRecursion IsPattern x.patterns) policy.statements in_statements.0 s have in_statements.1 in
+    AllByRecursion_at IsPattern s.patterns in_patterns.0 t here in_patterns.1
 
 -- each of its prefixes is one
 pub read_prefixes : (net : PlainNet) (bytes : List ℕ) (policy : PlainPolicy) → spelled net bytes ≡ Ok policy → (o : Origin) → IsIn policy.origins o → IsPrefix o.prefix
-read_prefixes net bytes policy h o in_origins = all_at (λ (x : Origin). IsPrefix x.prefix) policy.origins in_origins.0 o (spelled-HavePrefixes net bytes policy h) in_origins.1
+read_prefixes net bytes policy h o in_origins = AllByRecursion_at (λ (x : Origin). IsPrefix x.prefix) policy.origins in_origins.0 o (spelled-HavePrefixes net bytes policy h) in_origins.1
 
 -- and it is within the limits
 pub read_rules : (net : PlainNet) (bytes : List ℕ) (policy : PlainPolicy) → spelled net bytes ≡ Ok policy → IsPolicy policy

@@ -3,6 +3,7 @@ use Rattle.std.proofs.Common.{◌≡◌, ℕ, zero, suc, ◌+◌, ◌<◌, ◌�
 use Rattle.std.specs.Prelude.{⊤, not}
 use Rattle.std.specs.List.{AllByRecursion}
 use Rattle.std.proofs.lemmas.Bool.{cases_eq, cases_lt, false≢true, or_parts, not-true}
+use Rattle.list_laws.proofs.Each.{AllByRecursion-push}
 use Rattle.net_base.specs.declared.loc.LocSet.{LocSet}
 use Rattle.net_base.specs.Network.{PlainNet}
 use Rattle.net_base.specs.Sets.{holds}
@@ -18,8 +19,7 @@ use Rattle.policy_rules.specs.Figures.{prefix_at}
 use Rattle.policy_rules.specs.Origins.{has_some, has_peer, routers_alone, origins_fine}
 use Rattle.path_words.specs.declared.policy.Origin.{Origin}
 use Rattle.policy_parser.specs.Built.{origin_of, origins_of}
-use Rattle.policy_law.proofs.Each.{each_more}
-use Rattle.policy_law.proofs.Held.{AreBelow}
+use Rattle.net_base.proofs.HeldSets.{AreBelow}
 use Rattle.policy_law.proofs.Known.{NamesBelow, StandsBelow, set_at_below, set_below}
 
 -- where none of some locations is in a set, no such one is
@@ -76,4 +76,4 @@ origins_at_routers bytes net known so_far (Originate p ns ∷ items) os x below 
     let f = bind_ok (each (routers_alone bytes net known) ns) (λ _. each (origins_fine bytes net known) items) x fine in
     let b = bind_ok (origin_of bytes known p ns) (λ o. origins_of bytes known (so_far ++ o ∷ []) items) os e in
     let here = set_below bytes (length net.routers) known b.0.at ns (router_names bytes net known ns f.0 below f.1) (origin_set bytes known p ns b.0 b.1) in
-    origins_at_routers bytes net known (so_far ++ b.0 ∷ []) items os x below f.2 b.2 (each_more (λ (o : Origin). AreBelow (length net.routers) o.at) so_far b.0 before here)
+    origins_at_routers bytes net known (so_far ++ b.0 ∷ []) items os x below f.2 b.2 (AllByRecursion-push (λ (o : Origin). AreBelow (length net.routers) o.at) so_far b.0 before here)

@@ -1,13 +1,13 @@
 //! Policies that are read fit their network.
 //!
-//! There is no code here. What `policy_parser` reads, by its rules, is what the laws of `regret_law` ask of a policy.
+//! There is no code here. What `policy_parser` reads, by its rules, is what the laws of evidence ask of a policy.
 #![tactic(auto)]
 
 ghost use Rattle.std.specs.Prelude.{◌≡◌, ℕ, List, Ok};
 ghost use Rattle.net_base.specs.Network.{PlainNet};
 ghost use Rattle.path_words.specs.Policies.{PlainPolicy};
 ghost use Rattle.policy_parser.specs.Spelled.{spelled};
-ghost use Rattle.regret_law.specs.Passes.{IsPolicyOf};
+ghost use Rattle.path_words.specs.Policies.{IsPolicyOf};
 
 /// A policy that a text spells for a network is within the limits, is over prefixes and patterns, and has routers alone as
 /// origins. The network need keep no rule for that.

@@ -5,6 +5,7 @@ use Rattle.std.specs.List.{IsDistinct, list_any}
 use Rattle.std.proofs.lemmas.List.{map_push}
 use Rattle.std.proofs.lemmas.List.Sums.{sum_by-cons, sum_by-append}
 use Rattle.std.proofs.lemmas.Map.Keys.{IsDistinct-push}
+use Rattle.std.proofs.lemmas.Bool.{not-true}
 use Rattle.net_base.specs.Network.{PlainNet}
 use Rattle.net_base.specs.declared.place.Kind.{Kind}
 use Rattle.net_base.specs.declared.place.Kind.TheVariants as kind
@@ -24,11 +25,12 @@ use Rattle.policy_rules.specs.Ranks.{ranks_fine}
 use Rattle.policy_rules.specs.Origins.{once_from, origins_fine}
 use Rattle.policy_rules.specs.Counts.{amount, counted, capped, within, items_within}
 use Rattle.path_words.specs.declared.policy.Origin.{Origin}
-use Rattle.path_words.specs.Policies.{PlainStatement, PlainPolicy, IsPolicy, size_of}
+use Rattle.net_base.specs.SetOperations.{size_of}
+use Rattle.path_words.specs.Policies.{PlainStatement, PlainPolicy, IsPolicy}
 use Rattle.policy_parser.specs.Built.{patterns_of, ranking_of_steps, from_of, statement_of, statements_of, origin_of, origins_of}
 use Rattle.policy_parser.specs.Spelled.{rules_kept, origins_spelled, pairs}
 use Rattle.net_base.proofs.StepLemmas.{bind_ok, unless_ok}
-use Rattle.policy_parser.proofs.Steps.{false_of_not, same_prefix_equiv}
+use Rattle.policy_parser.proofs.Steps.{same_prefix_equiv}
 
 abbrev prefixes : List Origin → List PlainPrefix
 prefixes os = map (λ (o : Origin). o.prefix) os
@@ -66,7 +68,7 @@ origins_distinct bytes known so_far (Originate p ns ∷ items) os e once so_dist
     let c = bind_ok (prefix_at bytes p) (λ q. unless (OriginTwice p.place) (not (list_any (same_prefix q) before)) >>= λ _. once_from bytes (before ++ q ∷ []) items) tt once in
     let q : c.0 ≡ b.0.prefix = cc in
     let d = bind_ok (unless (OriginTwice p.place) (not (list_any (same_prefix c.0) before))) (λ _. once_from bytes (before ++ c.0 ∷ []) items) tt c.2 in
-    let fresh = false_of_not _ (unless_ok (OriginTwice p.place) _ d.0 d.1) in
+    let fresh = not-true _ (unless_ok (OriginTwice p.place) _ d.0 d.1) in
     let more : prefixes (so_far ++ b.0 ∷ []) ≡ before ++ c.0 ∷ [] = map_push (λ (o : Origin). o.prefix) so_far b.0 ∙ ap (λ (x : PlainPrefix). before ++ x ∷ []) (sym q) in
     origins_distinct bytes known (so_far ++ b.0 ∷ []) items os b.2 (rw more d.2) (rw more (IsDistinct-push same_prefix_equiv before c.0 so_distinct fresh))
 

@@ -1,6 +1,7 @@
 -- The prefixes of a policy that a text spells.
 use Rattle.std.proofs.Common.{◌≡◌, ℕ, List, [], ◌∷◌, ◌++◌, Result, Ok, Err}
 use Rattle.std.specs.List.{AllByRecursion}
+use Rattle.list_laws.proofs.Each.{AllByRecursion-push}
 use Rattle.net_base.specs.Network.{PlainNet}
 use Rattle.net_base.specs.Prefixes.{PlainPrefix, IsPrefix}
 use Rattle.net_base.specs.PrefixText.{prefix_spelled}
@@ -24,13 +25,10 @@ use Rattle.policy_parser.proofs.BuiltPolicies.{origin_prefix}
 abbrev pub HavePrefixes : List Origin → Type 0
 HavePrefixes os = AllByRecursion (λ (o : Origin). IsPrefix o.prefix) os
 
-or_bad_ok : (l : Lexeme) (r : Result PlainPrefix PrefixFault) (p : PlainPrefix) → or_bad l r ≡ Ok p → r ≡ Ok p
+-- what a lexeme spells
+pub or_bad_ok : (l : Lexeme) (r : Result PlainPrefix PrefixFault) (p : PlainPrefix) → or_bad l r ≡ Ok p → r ≡ Ok p
 or_bad_ok l (Ok q) p h = cc
 or_bad_ok l (Err e) p h = absurd (cc)
-
-one_more : (os : List Origin) (o : Origin) → HavePrefixes os → IsPrefix o.prefix → HavePrefixes (os ++ o ∷ [])
-one_more [] o before here = (here, tt)
-one_more (q ∷ os) o before here = (before.0, one_more os o before.1 here)
 
 origins_have : (bytes : List ℕ) (known : Names) (so_far : List Origin) (items : List Item) (os : List Origin)
     → origins_of bytes known so_far items ≡ Ok os → HavePrefixes so_far → HavePrefixes os
@@ -40,7 +38,7 @@ origins_have bytes known so_far (State s ∷ items) os e before = origins_have b
 origins_have bytes known so_far (Originate p ns ∷ items) os e before =
     let b = bind_ok (origin_of bytes known p ns) (λ o. origins_of bytes known (so_far ++ o ∷ []) items) os e in
     let read = or_bad_ok p (prefix_spelled (text bytes p)) b.0.prefix (origin_prefix bytes known p ns b.0 b.1) in
-    origins_have bytes known (so_far ++ b.0 ∷ []) items os b.2 (one_more so_far b.0 before (prefix_spelled-IsPrefix (text bytes p) b.0.prefix read))
+    origins_have bytes known (so_far ++ b.0 ∷ []) items os b.2 (AllByRecursion-push (λ (o : Origin). IsPrefix o.prefix) so_far b.0 before (prefix_spelled-IsPrefix (text bytes p) b.0.prefix read))
 
 spelled_have : (bytes : List ℕ) (known : Names) (items : List Item) (os : List Origin) → origins_spelled bytes known items ≡ Ok os → HavePrefixes os
 unfolding origins_spelled

@@ -17,7 +17,7 @@ use Rattle.policy_grammar.specs.declared.item.Step.{Step}
 use Rattle.policy_grammar.specs.declared.item.Step.TheVariants as step
 use Rattle.policy_grammar.specs.declared.item.Item.{Item}
 use Rattle.policy_grammar.specs.declared.item.Item.TheVariants.{Define, Originate, State}
-use Rattle.policy_rules.specs.LocationSets.{first_locations}
+use Rattle.net_base.specs.NetSets.{locations}
 use Rattle.policy_rules.specs.KnownNames.{Names}
 use Rattle.policy_rules.specs.Checks.{set_of_names}
 use Rattle.policy_rules.specs.Figures.{prefix_at, pattern_at}
@@ -30,7 +30,7 @@ use Rattle.path_words.specs.Policies.{Ranking, call, calls, prefer, either, both
 
 -- `any` in a set is all locations
 abbrev pub set_of_arg : List ℕ → PlainNet → Names → Arg → Result LocSet PolicyFault
-set_of_arg bytes net known arg.Any = Ok (first_locations (length net.routers + length net.peers))
+set_of_arg bytes net known arg.Any = Ok (locations net)
 set_of_arg bytes net known (arg.Names names) = set_of_names bytes known names
 
 -- the sets so far, and those of some arguments

@@ -1,5 +1,6 @@
 -- The policy that a text spells, or the rule that it breaks.
 use Rattle.std.specs.Prelude.{ℕ, List, [], length, sum_by, Option, Some, None, Result, Ok, Err, ⊤}
+use Rattle.net_base.specs.declared.limits.TheConstants.{ORIGINS}
 use Rattle.net_base.specs.declared.place.Place.{Place}
 use Rattle.net_base.specs.declared.place.Kind.TheVariants as kind
 use Rattle.net_base.specs.Network.{PlainNet}
@@ -20,7 +21,8 @@ use Rattle.policy_rules.specs.Ranks.{ranks_fine}
 use Rattle.policy_rules.specs.Origins.{origins_fine, once_from}
 use Rattle.policy_rules.specs.Counts.{capped, within, items_within, calls_within, paths_within}
 use Rattle.path_words.specs.declared.policy.Origin.{Origin}
-use Rattle.path_words.specs.Policies.{PlainPolicy, size_of}
+use Rattle.net_base.specs.SetOperations.{size_of}
+use Rattle.path_words.specs.Policies.{PlainPolicy}
 use Rattle.policy_parser.specs.Built.{origins_of, statements_of}
 
 -- this fault at the place, if there is one
@@ -59,7 +61,7 @@ unfoldable pub origins_spelled : List ℕ → Names → List Item → Result (Li
 origins_spelled bytes known items = do
   _ ← items_within items
   origins ← origins_of bytes known [] items
-  _ ← within kind.Origins 16384 (pairs origins)
+  _ ← within kind.Origins ORIGINS (pairs origins)
   Ok origins
 
 -- the policy of items that keep the rules, within the limits

@@ -1,13 +1,12 @@
 //! `originate` items.
-ghost use Rattle.std.specs.Prelude.{◌≡◌, [], count_ones, sum_by};
+ghost use Rattle.std.specs.Prelude.{◌≡◌, []};
 ghost use Rattle.policy_tokens.specs.Gives.{Gives};
 ghost use Rattle.policy_rules.specs.KnownView.{plain_names};
-ghost use Rattle.path_words.specs.Policies.{size_of};
 ghost use Rattle.policy_parser.specs.Built.{origin_of as origin_read, origins_of as origins_read};
 ghost use Rattle.policy_parser.specs.Spelled.{pairs as pair_count, origins_spelled};
 
+use net_base::Kind;
 use net_base::limits::ORIGINS;
-use net_base::{Kind, LocSet};
 use path_words::Origin;
 use policy_grammar::{Item, Lexeme};
 use policy_rules::{Known, items_within, prefix_at, set_of, within};
@@ -46,24 +45,13 @@ fn origins_of(
     Ok(origins)
 }
 
-// How many locations a set has.
-fn size(set: &LocSet) -> u64
-    ensures { result ≡ size_of set.now }
-{
-    let mut size = 0;
-    for word in set.words {
-        size += u64::from(word.count_ones());
-    }
-    size
-}
-
 // How many pairs of a prefix and an origin there are.
 fn pairs(origins: &[Origin]) -> u64
     ensures { result ≡ pair_count origins.now }
 {
     let mut total = 0u64;
     for origin in origins {
-        total = total.saturating_add(size(&origin.at));
+        total = total.saturating_add(origin.at.len());
     }
     total
 }

@@ -9,7 +9,7 @@ ghost use Rattle.policy_parser.specs.Views.{rankings};
 use net_base::{List, LocSet, Net};
 use path_words::{Clause, Ranked};
 use policy_grammar::{Arg, CallWord, RawCall, Step};
-use policy_rules::{Known, first_locations, set_of};
+use policy_rules::{Known, set_of};
 use policy_tokens::PolicyFault;
 use std::alloc::Global;
 
@@ -18,10 +18,7 @@ fn arg_set(bytes: &[u8], net: &Net, known: &Known<'_>, arg: &Arg) -> Result<LocS
     ensures { Gives (λ s. s) result (set_of_arg bytes.now net.now (plain_names known.now) arg.now) }
 {
     match arg {
-        Arg::Any => {
-            let count = net.routers().len() + net.peers().len();
-            Ok(first_locations(count as u16))
-        }
+        Arg::Any => Ok(net.locations()),
         Arg::Names(names) => set_of(bytes, known, names.as_slice()),
     }
 }

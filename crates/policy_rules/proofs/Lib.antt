@@ -1,3 +1,1 @@
-pub mod WordLists
-pub mod KnownTexts
 pub mod SomeFrom

@@ -12,7 +12,7 @@ use Rattle.policy_grammar.specs.declared.item.Step.TheVariants as step
 use Rattle.policy_grammar.specs.declared.item.Item.{Item}
 use Rattle.policy_grammar.specs.declared.item.Item.TheVariants.{Define, Originate, State}
 use Rattle.policy_grammar.specs.Lexemes.{slice_of}
-use Rattle.policy_rules.specs.LocationSets.{no_location, union_of}
+use Rattle.net_base.specs.SetOperations.{no_location, union_of}
 use Rattle.policy_rules.specs.KnownNames.{Names, set_named, with_group}
 
 -- the bytes of a lexeme

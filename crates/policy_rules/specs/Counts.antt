@@ -1,5 +1,6 @@
 -- How much a policy may have.
 use Rattle.std.specs.Prelude.{ℕ, nat_le, min, sum_by, List, length, Result, Ok, ⊤}
+use Rattle.net_base.specs.declared.limits.TheConstants.{CALLS, DEFINITIONS, PATTERNS, PLACES, PREFIXES, STATEMENTS}
 use Rattle.net_base.specs.declared.place.Kind.{Kind}
 use Rattle.net_base.specs.declared.place.Kind.TheVariants as kind
 use Rattle.net_base.specs.Steps.{◌>>=◌, unless}
@@ -36,10 +37,10 @@ within k most n = unless (TooMany k n) (nat_le n most)
 -- groups, statements, patterns and originated prefixes
 abbrev pub items_within : List Item → Result ⊤ PolicyFault
 items_within items = do
-  _ ← within kind.Definitions 256 (counted kind.Definitions items)
-  _ ← within kind.Statements 256 (counted kind.Statements items)
-  _ ← within kind.Patterns 16384 (counted kind.Patterns items)
-  within kind.Prefixes 4096 (counted kind.Prefixes items)
+  _ ← within kind.Definitions DEFINITIONS (counted kind.Definitions items)
+  _ ← within kind.Statements STATEMENTS (counted kind.Statements items)
+  _ ← within kind.Patterns PATTERNS (counted kind.Patterns items)
+  within kind.Prefixes PREFIXES (counted kind.Prefixes items)
 
 abbrev pub call_amount : Step → ℕ
 call_amount (step.Call c) = 1
@@ -52,7 +53,7 @@ call_amount step.Not = 0
 abbrev pub calls_within : Item → Result ⊤ PolicyFault
 calls_within (Define name members) = Ok tt
 calls_within (Originate prefix names) = Ok tt
-calls_within (State s) = within kind.Calls 256 (capped (sum_by call_amount s.ranked))
+calls_within (State s) = within kind.Calls CALLS (capped (sum_by call_amount s.ranked))
 
 abbrev pub word_places : CallWord → ℕ → ℕ
 word_places Path n = n
@@ -60,7 +61,7 @@ word_places _ n = 0
 
 -- the places of a `path`
 abbrev pub places_within : Step → Result ⊤ PolicyFault
-places_within (step.Call c) = within kind.Places 256 (word_places c.word (length c.args))
+places_within (step.Call c) = within kind.Places PLACES (word_places c.word (length c.args))
 places_within (step.Above p) = Ok tt
 places_within step.Or = Ok tt
 places_within step.And = Ok tt

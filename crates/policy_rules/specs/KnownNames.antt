@@ -6,7 +6,7 @@ use Rattle.net_base.specs.declared.loc.LocSet.{LocSet}
 use Rattle.net_base.specs.declared.net.Site.{Site}
 use Rattle.net_base.specs.declared.place.Place.{Place}
 use Rattle.net_base.specs.Network.{PlainNet}
-use Rattle.policy_rules.specs.LocationSets.{no_location, with_location}
+use Rattle.net_base.specs.SetOperations.{no_location, with_location}
 
 -- names with the set that each stands for, and where the first name stands that was defined again
 pub record Names : Type 0 where

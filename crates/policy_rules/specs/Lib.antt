@@ -3,7 +3,6 @@ pub mod Counts
 pub mod Figures
 pub mod KnownNames
 pub mod KnownView
-pub mod LocationSets
 pub mod Origins
 pub mod PrefixKeys
 pub mod Ranks

@@ -5,7 +5,6 @@ ghost use Rattle.policy_rules.specs.KnownView.{plain_names};
 ghost use Rattle.policy_rules.specs.Checks.{set_at as set_there, set_of_names, each, name_known, arg_known, step_known, learnt, all_learnt};
 
 use crate::known::Known;
-use crate::sets::union;
 use net_base::LocSet;
 use policy_grammar::{Arg, Item, Lexeme, Step, text_of};
 use policy_tokens::PolicyFault;
@@ -25,9 +24,9 @@ pub fn set_at(bytes: &[u8], known: &Known<'_>, name: &Lexeme) -> Result<LocSet, 
 pub fn set_of(bytes: &[u8], known: &Known<'_>, names: &[Lexeme]) -> Result<LocSet, PolicyFault>
     ensures { Gives (λ s. s) result (set_of_names bytes.now (plain_names known.now) names.now) }
 {
-    let mut set = LocSet { words: [0; 12] };
+    let mut set = LocSet::new();
     for name in names {
-        set = union(set, set_at(bytes, known, name)?);
+        set = set.union(&set_at(bytes, known, name)?);
     }
     Ok(set)
 }

@@ -2,11 +2,11 @@
 ghost use Rattle.std.specs.Prelude.{◌≡◌, ◌≤◌, ◌+◌, ◌++◌, ◌∷◌, [], None, Ok, IfOk, IfErr, IsTrue, not, false, length};
 ghost use Rattle.std.specs.List.{list_any, position};
 ghost use Rattle.std.specs.Str.{bytes_eq};
+ghost use Rattle.net_base.specs.declared.limits.TheConstants.{LOCATIONS};
 ghost use Rattle.policy_rules.specs.KnownNames.{set_named, is_known as knows, with_name, with_new_name, with_sites, net_names, first_place as first_of_two, with_group};
 ghost use Rattle.policy_rules.specs.KnownView.{texts, plain_names};
 ghost use Rattle.policy_tokens.specs.Gives.{Gives};
 
-use crate::sets::with_location;
 use indexmap::IndexSet;
 use net_base::{Loc, LocSet, Net, Place, Site};
 use policy_tokens::PolicyFault;
@@ -90,12 +90,12 @@ impl<'a> Known<'a> {
 
     // The names of locations from `first` on.
     fn add_sites(&mut self, first: u16, sites: &'a [Site]) -> Result<(), PolicyFault>
-        requires { first + length sites.now ≤ 768 }
+        requires { first + length sites.now ≤ LOCATIONS }
         ensures { Gives (λ _. plain_names self.new) result (Ok (with_sites first sites.now (plain_names self.old))) }
     {
         let mut number = first;
         for site in sites {
-            let alone = with_location(LocSet { words: [0; 12] }, Loc::new(number));
+            let alone = LocSet::new().with(Loc::new(number));
             self.add(site.name.as_bytes(), alone)?;
             number += 1;
         }

@@ -7,7 +7,6 @@ mod figures;
 mod known;
 mod origins;
 mod ranks;
-mod sets;
 
 pub use checks::{learn_all, set_at, set_of};
 pub use counts::{all_calls_within, all_paths_within, items_within, within};
@@ -15,4 +14,3 @@ pub use figures::{figures_fine, pattern_at, prefix_at};
 pub use known::Known;
 pub use origins::{origins_fine, origins_once};
 pub use ranks::ranks_fine;
-pub use sets::{first_locations, union, with_location};

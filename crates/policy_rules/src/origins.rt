@@ -1,6 +1,7 @@
 //! Which routers originate which prefixes.
 ghost use Rattle.std.specs.Prelude.{◌≡◌, ◌≤◌, ◌+◌, ◌++◌, ◌∷◌, [], IfOk, IfErr, IsTrue, not, length, map};
 ghost use Rattle.std.specs.List.{list_any};
+ghost use Rattle.net_base.specs.declared.limits.TheConstants.{LOCATIONS};
 ghost use Rattle.net_base.specs.Prefixes.{same_prefix};
 ghost use Rattle.policy_tokens.specs.Gives.{Gives};
 ghost use Rattle.policy_rules.specs.KnownView.{plain_names};
@@ -19,7 +20,7 @@ use std::alloc::Global;
 
 // Whether the set has one of `count` locations from `first` on.
 fn has_some(set: &LocSet, first: u16, count: u16) -> bool
-    requires { first + count ≤ 768 }
+    requires { first + count ≤ LOCATIONS }
     ensures { result ≡ some_from set.now first count }
 {
     for number in first..first + count {

@@ -1,5 +1,8 @@
--- The numbers of the faults.
-use Rattle.std.specs.Prelude.{ℕ}
+-- The numbers of the faults, their words and their values.
+use Rattle.std.specs.Prelude.{ℕ, List, [], ◌++◌, codes}
+use Rattle.std.specs.Fmt.{decimal}
+use Rattle.net_base.specs.PlaceWords.{kind_word}
+use Rattle.text_words.specs.Texts.{word_text, at_place}
 use Rattle.policy_tokens.specs.declared.fault.PolicyFault.{PolicyFault}
 use Rattle.policy_tokens.specs.declared.fault.PolicyFault.TheVariants.{NotText, Token, Deep, Syntax, Unknown, Twice, PrefixBad, RankUnder, OriginPeer, OriginTwice, TooMany, NoMemory}
 
@@ -17,3 +20,33 @@ number_of (OriginPeer p) = 9
 number_of (OriginTwice p) = 10
 number_of (TooMany k n) = 11
 number_of NoMemory = 0
+
+-- the word of a fault
+abbrev pub word_of : PolicyFault → List ℕ
+word_of NotText = codes "not-text"
+word_of (Token p) = codes "token"
+word_of (Deep p) = codes "deep"
+word_of (Syntax p) = codes "syntax"
+word_of (Unknown p) = codes "unknown"
+word_of (Twice p) = codes "twice"
+word_of (PrefixBad p) = codes "prefix-bad"
+word_of (RankUnder p) = codes "rank-under"
+word_of (OriginPeer p) = codes "origin-peer"
+word_of (OriginTwice p) = codes "origin-twice"
+word_of (TooMany k n) = codes "too-many"
+word_of NoMemory = codes "no-memory"
+
+-- its values, each after a space
+abbrev pub values_of : PolicyFault → List ℕ
+values_of NotText = []
+values_of (Token p) = at_place p
+values_of (Deep p) = at_place p
+values_of (Syntax p) = at_place p
+values_of (Unknown p) = at_place p
+values_of (Twice p) = at_place p
+values_of (PrefixBad p) = at_place p
+values_of (RankUnder p) = at_place p
+values_of (OriginPeer p) = at_place p
+values_of (OriginTwice p) = at_place p
+values_of (TooMany k n) = word_text (kind_word k) ++ word_text (decimal n)
+values_of NoMemory = []

@@ -1,6 +1,8 @@
 //! What is wrong with a policy text.
 use net_base::{Kind, Place};
+use outside::NoMemory;
 use std::alloc::{AllocError, AllocFailed};
+use text_words::{push_at, push_bytes, push_number, push_word};
 
 /// The rule that a policy text breaks: of several the one that stands first here, and of that one the first
 /// token that breaks it.
@@ -33,8 +35,8 @@ pub enum PolicyFault {
 }
 
 impl PolicyFault {
-    ghost use Rattle.std.specs.Prelude.{◌≡◌};
-    ghost use Rattle.policy_tokens.specs.Faults.{number_of};
+    ghost use Rattle.std.specs.Prelude.{◌≡◌, ◌++◌, OnOk};
+    ghost use Rattle.policy_tokens.specs.Faults.{number_of, word_of, values_of};
 
     /// The number of the fault, from 1 to 11: of several broken rules the one with the least number is told.
     /// Want of memory has the number 0.
@@ -54,6 +56,49 @@ impl PolicyFault {
             PolicyFault::OriginTwice(_) => 10,
             PolicyFault::TooMany(_, _) => 11,
             PolicyFault::NoMemory => 0,
+        }
+    }
+
+    /// The word of the fault.
+    pub fn word(&self) -> &'static [u8]
+        ensures { result.now ≡ word_of self.now }
+    {
+        match self {
+            PolicyFault::NotText => b"not-text",
+            PolicyFault::Token(_) => b"token",
+            PolicyFault::Deep(_) => b"deep",
+            PolicyFault::Syntax(_) => b"syntax",
+            PolicyFault::Unknown(_) => b"unknown",
+            PolicyFault::Twice(_) => b"twice",
+            PolicyFault::PrefixBad(_) => b"prefix-bad",
+            PolicyFault::RankUnder(_) => b"rank-under",
+            PolicyFault::OriginPeer(_) => b"origin-peer",
+            PolicyFault::OriginTwice(_) => b"origin-twice",
+            PolicyFault::TooMany(_, _) => b"too-many",
+            PolicyFault::NoMemory => b"no-memory",
+        }
+    }
+
+    /// Adds the values of the fault, each after a space.
+    pub fn push_values(&self, text: &mut Vec<u8>) -> Result<(), NoMemory>
+        ensures { OnOk result (text.new.items ≡ text.old.items ++ values_of self.now) }
+    {
+        match self {
+            PolicyFault::NotText | PolicyFault::NoMemory => Ok(()),
+            PolicyFault::Token(place)
+            | PolicyFault::Deep(place)
+            | PolicyFault::Syntax(place)
+            | PolicyFault::Unknown(place)
+            | PolicyFault::Twice(place)
+            | PolicyFault::PrefixBad(place)
+            | PolicyFault::RankUnder(place)
+            | PolicyFault::OriginPeer(place)
+            | PolicyFault::OriginTwice(place) => push_at(text, *place),
+            PolicyFault::TooMany(kind, number) => {
+                push_word(text, kind.word())?;
+                push_bytes(text, b" ")?;
+                push_number(text, *number)
+            }
         }
     }
 }

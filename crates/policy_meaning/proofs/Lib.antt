@@ -1,0 +1,15 @@
+mod Binds
+mod Grown
+mod Lookups
+mod RankMarks
+mod Uses
+mod Learnt
+mod FigureChecks
+mod Growing
+mod OriginChecks
+mod LimitChecks
+mod Building
+mod Whole
+mod HeldNames
+mod Sequence
+mod Places

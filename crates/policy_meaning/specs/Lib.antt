@@ -1,0 +1,11 @@
+pub mod Told
+pub mod Trees
+pub mod Senses
+pub mod Figures
+pub mod Ranks
+pub mod Origins
+pub mod Values
+pub mod Limits
+pub mod Meaning
+pub mod Laws
+pub mod InOrder

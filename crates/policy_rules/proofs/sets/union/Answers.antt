@@ -1,6 +1,0 @@
-use Rattle.std.proofs.Common.{arith}
-use Rattle.policy_rules.proofs.WordLists.{same_words}
-use Rattle.policy_rules.proofs.sets.union.Goals as goal
-
-pub returns : goal.returns
-returns c = same_words c.args.a.words c.args.b.words c.loop-i.words c.loop-i.invariant.size (λ k lt. c.loop-i.invariant.joined k (omega arith))
