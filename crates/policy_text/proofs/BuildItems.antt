@@ -30,7 +30,7 @@ use Rattle.policy_text.proofs.Readings.{Pairs}
 use Rattle.policy_text.proofs.ReadSets.{AreNamesOf}
 use Rattle.policy_text.proofs.ReadItems.{IsRawPattern, IsRawFrom, IsRawStatement}
 use Rattle.policy_text.proofs.Lookups.{site_names}
-use Rattle.policy_text.proofs.PrefixTexts.{prefix_spelled-prefix_text, length_number-decimal}
+use Rattle.text_words.proofs.PrefixTexts.{prefix_spelled-prefix_text, length_number-decimal}
 use Rattle.policy_text.proofs.BuildSets.{known, IsSet, names_stand, names_known}
 use Rattle.policy_text.proofs.BuildRankings.{IsFine, ranking_there, steps_known, paths_fit, calls_counted}
 use Rattle.policy_text.proofs.BuildRanks.{ranks_kept}

@@ -9,7 +9,7 @@ use Rattle.net_base.specs.declared.net.Site.{Site}
 use Rattle.net_base.specs.Sets.{holds}
 use Rattle.net_base.specs.Network.{PlainNet, sites, is_router}
 use Rattle.policy_grammar.specs.declared.lexeme.Lexeme.{Lexeme}
-use Rattle.policy_rules.specs.LocationSets.{no_location, with_location}
+use Rattle.net_base.specs.SetOperations.{no_location, with_location}
 use Rattle.policy_rules.specs.KnownNames.{set_named}
 use Rattle.policy_rules.specs.Checks.{set_at, each}
 use Rattle.policy_rules.specs.Origins.{has_some, routers_alone}

@@ -5,6 +5,7 @@ use Rattle.std.specs.List.{AllByRecursion, IsDistinct, list_any}
 use Rattle.std.specs.Str.{bytes_eq}
 use Rattle.std.proofs.lemmas.Bool.{le-leb}
 use Rattle.std.proofs.lemmas.List.Sums.{sum_by-cons, sum_by-append}
+use Rattle.list_laws.proofs.Keys.{others_before}
 use Rattle.net_base.specs.declared.place.Kind.{Kind}
 use Rattle.net_base.specs.declared.place.Kind.TheVariants as kind
 use Rattle.net_base.specs.Network.{PlainNet, sites}
@@ -20,14 +21,15 @@ use Rattle.policy_rules.specs.Ranks.{ranks_fine}
 use Rattle.policy_rules.specs.Origins.{origins_fine, once_from}
 use Rattle.policy_rules.specs.Counts.{amount, capped, within, items_within, calls_within, paths_within}
 use Rattle.path_words.specs.declared.policy.Origin.{Origin}
-use Rattle.path_words.specs.Policies.{PlainStatement, PlainPolicy, IsPolicy, size_of}
+use Rattle.net_base.specs.SetOperations.{size_of}
+use Rattle.path_words.specs.Policies.{PlainStatement, PlainPolicy, IsPolicy}
 use Rattle.policy_parser.specs.Built.{statements_of, origins_of}
 use Rattle.policy_parser.specs.Spelled.{rules_kept, origins_spelled, policy_built}
 use Rattle.policy_parser.proofs.Steps.{same_prefix_equiv}
 use Rattle.policy_text.proofs.Readings.{Pairs}
 use Rattle.policy_text.proofs.ReadItems.{IsRawPattern, IsStatementItem, IsOriginItem}
 use Rattle.policy_text.proofs.ReadPolicies.{AreItems}
-use Rattle.policy_text.proofs.Lookups.{site_names, others_before}
+use Rattle.policy_text.proofs.Lookups.{site_names}
 use Rattle.policy_text.proofs.BuildRankings.{length-pairs}
 use Rattle.policy_text.proofs.BuildSets.{known}
 use Rattle.policy_text.proofs.BuildItems.{IsFineStatement, IsFineOrigin, prefix_there, statement_there, origin_there, origin_learnt, origin_figures, origin_routers, statement_learnt, statement_figures, statement_ranks, statement_calls, statement_paths}

@@ -6,13 +6,14 @@ use Rattle.std.specs.Str.{bytes_eq}
 use Rattle.std.proofs.lemmas.Bool.{eqb-true, eq-eqb, lt-ltb, le-ltb, cases_lt, ltb-true, false_from_ne_true}
 use Rattle.net_base.specs.declared.loc.LocSet.{LocSet}
 use Rattle.net_base.specs.declared.net.Site.{Site}
-use Rattle.net_base.specs.Sets.{holds}
+use Rattle.net_base.specs.Sets.{holds, IsWords}
 use Rattle.net_base.specs.Network.{PlainNet, sites, is_location}
 use Rattle.net_base.proofs.StepLemmas.{bind_ok}
 use Rattle.policy_grammar.specs.declared.lexeme.Lexeme.{Lexeme}
 use Rattle.policy_grammar.specs.declared.item.Arg.{Arg}
 use Rattle.policy_grammar.specs.declared.item.Arg.TheVariants as arg
-use Rattle.policy_rules.specs.LocationSets.{no_location, union_of, first_locations}
+use Rattle.net_base.specs.NetSets.{locations}
+use Rattle.net_base.specs.SetOperations.{no_location, union_of}
 use Rattle.policy_rules.specs.KnownNames.{Names}
 use Rattle.policy_rules.specs.Checks.{set_at, joined, set_of_names, each, name_known, arg_known}
 use Rattle.policy_parser.specs.Built.{set_of_arg, sets_of}
@@ -22,7 +23,8 @@ use Rattle.policy_text.proofs.Readings.{Pairs}
 use Rattle.policy_text.proofs.ReadSets.{AreNamesOf, AreFilled}
 use Rattle.policy_text.proofs.ReadCalls.{IsSetArg, IsFilled}
 use Rattle.policy_text.proofs.ReadItems.{IsNamed}
-use Rattle.policy_text.proofs.LocSets.{IsWords, same_sets, IsWords-first, holds-first}
+use Rattle.net_base.proofs.SetLaws.{same_sets, IsWords-set_of}
+use Rattle.net_base.proofs.SetOf.{holds-set_of}
 use Rattle.policy_text.proofs.Lookups.{site_names}
 use Rattle.policy_text.proofs.Unions.{sites_known, set_of_names-there}
 
@@ -103,12 +105,11 @@ module _ (bytes : List ℕ) (net : PlainNet) (apart : IsDistinct bytes_eq (site_
   names_known s fine ls are = each_known bytes known no_location s ls (names_stand s fine ls are)
 
   -- a set of all locations is that of `any`
-  all_stand : (s : LocSet) → IsSet s → are_all net (names_in net s) ≡ true → first_locations (length net.routers + length net.peers) ≡ s
+  all_stand : (s : LocSet) → IsSet s → are_all net (names_in net s) ≡ true → locations net ≡ s
   all_stand s fine all =
       let n : ℕ = length net.routers + length net.peers in
-      let low : n ≤ 768 = omega (arith, small, count) in
       let full : length (names_from s 0 (sites net)) ≡ length (sites net) = eqb-true _ n all ∙ sym count in
-      same_sets (first_locations n) s (IsWords-first n low) fine.words (λ l small'. holds-first n l low small' ∙ held l full) where
+      same_sets (locations net) s (IsWords-set_of (is_location net)) fine.words (λ l small'. holds-set_of (is_location net) l small' ∙ held l full) where
         held : (l : ℕ) → length (names_from s 0 (sites net)) ≡ length (sites net) → nat_lt l (length net.routers + length net.peers) ≡ holds s l
         held l full = elim (cases_lt l (length net.routers + length net.peers)) [
           | inl low ↦ lt-ltb l (length net.routers + length net.peers) low ∙ sym (held_all s 0 (sites net) full l (omega arith) (omega (arith, low, count)))

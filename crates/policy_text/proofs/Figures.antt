@@ -1,40 +1,18 @@
 -- Numbers and prefixes as figures.
-use Rattle.std.proofs.Common.{◌≡◌, ℕ, ◌/◌, ◌%◌, ◌^◌, ◌<◌, ◌≤◌, List, [], ◌∷◌, ◌++◌, length, Bool, true, false, Option, Some, None, refl, sym, ap, ◌∙◌, arith, append_assoc, append-nil}
+use Rattle.std.proofs.Common.{◌≡◌, ℕ, ◌/◌, ◌%◌, ◌^◌, ◌<◌, ◌≤◌, List, [], ◌∷◌, ◌++◌, length, Bool, true, false, Some, refl, sym, ap, ◌∙◌, arith, append_assoc, append-nil}
 use Rattle.policy_text.proofs.Words.{figure}
 use Rattle.policy_text.proofs.Cuts.{AreAscii}
-use Rattle.policy_text.proofs.Pieces.{figure_range}
+use Rattle.text_words.proofs.Numbers.{digits_below, figure_range}
 use Rattle.policy_text.proofs.CutWords.{CutsBefore, CutsBefore-figure}
 use Rattle.std.proofs.lemmas.List.Folds.{list_all-append}
 use Rattle.text_words.specs.Texts.{prefix_text}
 use Rattle.net_base.specs.Prefixes.{PlainPrefix, IsPrefix}
 use Rattle.std.specs.Prelude.{◌&&◌, ◌==◌, not}
 use Rattle.std.specs.List.{list_all}
-use Rattle.std.specs.Option.{option_map_or}
 use Rattle.std.specs.Fmt.{decimal, digits}
-use Rattle.std.proofs.lemmas.Bool.{and_parts, eqb-true, agree_below, agree_below_at}
-use Rattle.net_base.specs.Addresses.{is_figure, small_number}
+use Rattle.std.proofs.lemmas.Bool.{and_parts}
+use Rattle.net_base.specs.Addresses.{is_figure}
 use Rattle.policy_tokens.specs.Tokens.{is_figure_byte}
-
--- a number below 256 is written with digits alone, and read again
-abbrev is_read_again : ℕ → Bool
-is_read_again n = option_map_or (λ m. m == n) (small_number (decimal n)) false && (list_all is_figure (decimal n) && not (length (decimal n) == 0))
-
-table : agree_below is_read_again (λ n. true) 256 ≡ true
-unfolding digits
-table = refl
-
-some_same : (o : Option ℕ) (n : ℕ) → option_map_or (λ m. m == n) o false ≡ true → o ≡ Some n
-some_same (Some m) n h = ap Some (eqb-true m n h)
-some_same None n h = absurd (cc)
-
-pub small_number-decimal : (n : ℕ) → n < 256 → small_number (decimal n) ≡ Some n
-small_number-decimal n low = some_same (small_number (decimal n)) n (and_parts _ (list_all is_figure (decimal n) && not (length (decimal n) == 0)) (agree_below_at is_read_again (λ m. true) 256 n table low)).0
-
-digits_below : (n : ℕ) → n < 256 → (list_all is_figure (decimal n) ≡ true) × (not (length (decimal n) == 0) ≡ true)
-digits_below n low = and_parts (list_all is_figure (decimal n)) (not (length (decimal n) == 0)) (and_parts (option_map_or (λ m. m == n) (small_number (decimal n)) false) _ (agree_below_at is_read_again (λ m. true) 256 n table low)).1
-
-pub list_all-is_figure : (n : ℕ) → n < 256 → list_all is_figure (decimal n) ≡ true
-list_all-is_figure n low = (digits_below n low).0
 
 -- a figure: a digit first, then digits, dots and slashes
 abbrev pub is_figure_text : List ℕ → Bool

@@ -14,10 +14,8 @@ pub mod ReadLevels
 pub mod ReadItems
 pub mod ReadPolicies
 pub mod Depths
-pub mod LocSets
 pub mod Lookups
 pub mod Unions
-pub mod PrefixTexts
 pub mod BuildSets
 pub mod BuildRankings
 pub mod BuildRanks

@@ -1,14 +1,17 @@
 -- What stands at the front of a printed text.
 use Rattle.std.proofs.Common.{◌≡◌, ℕ, ◌+◌, ◌<◌, ◌≤◌, List, [], ◌∷◌, ◌++◌, length, Bool, true, false, Option, Some, None, Ok, refl, arith, inl, inr}
-use Rattle.std.specs.Prelude.{◌&&◌, ◌==◌, not, nat_le, slice_index, if◌then◌else◌}
+use Rattle.std.specs.Prelude.{◌&&◌, ◌==◌, not, nat_le, slice_index}
 use Rattle.std.specs.List.{list_all, prefix_len}
 use Rattle.std.proofs.lemmas.Bool.{and_parts, or_cases, leb-true, lt-leb, ne_eqb, not-true}
+use Rattle.list_laws.proofs.Positions.{prefix_len-append_all}
+use Rattle.list_laws.proofs.Truth.{if_same}
 use Rattle.net_base.specs.NameRule.{is_letter, is_name_byte}
 use Rattle.net_base.specs.Addresses.{is_figure}
 use Rattle.net_base.specs.declared.place.Place.{Place}
 use Rattle.policy_tokens.specs.declared.token.TokenKind.{TokenKind}
 use Rattle.policy_tokens.specs.declared.token.TokenKind.TheVariants.{Word, Figure, Arrow, Above}
 use Rattle.policy_tokens.specs.Tokens.{is_blank, is_figure_byte, one_sign, sign_at, piece_at, piece_taken, token_in}
+use Rattle.text_words.proofs.Numbers.{all_pass, figure_range}
 use Rattle.policy_text.proofs.Cuts.{BeginsWith, BeginsBlank}
 
 -- no word and no figure goes on with this text
@@ -19,12 +22,6 @@ is_free (b ∷ bs) = not (is_name_byte b) && not (is_figure_byte b)
 -- at most 32 bytes of words, a letter first
 abbrev pub is_word : List ℕ → Bool
 is_word bs = not (length bs == 0) && (nat_le (length bs) 32 && (is_letter (slice_index bs 0) && list_all is_name_byte bs))
-
-pub all_pass : (p : ℕ → Bool) (bs t : List ℕ) → list_all p bs ≡ true → prefix_len p t ≡ 0 → prefix_len p (bs ++ t) ≡ length bs
-all_pass p [] t all stop = stop
-all_pass p (b ∷ bs) t all stop =
-    let h = and_parts (p b) (list_all p bs) all in
-    rw (h.0, all_pass p bs t h.1 stop) (omega arith)
 
 free_name : (t : List ℕ) → is_free t ≡ true → prefix_len is_name_byte t ≡ 0
 free_name [] free = refl
@@ -40,9 +37,6 @@ letter_high b h = elim (or_cases (nat_le 97 b && nat_le b 122) (nat_le 65 b && n
   | inl x ↦ let p = and_parts (nat_le 97 b) (nat_le b 122) x in (omega (arith, leb-true 97 b p.0), omega (arith, leb-true b 122 p.1))
   | inr x ↦ let p = and_parts (nat_le 65 b) (nat_le b 90) x in (omega (arith, leb-true 65 b p.0), omega (arith, leb-true b 90 p.1))
 ]
-
-pub figure_range : (b : ℕ) → is_figure b ≡ true → (48 ≤ b) × (b ≤ 57)
-figure_range b h = let p = and_parts (nat_le 48 b) (nat_le b 57) h in (leb-true 48 b p.0, leb-true b 57 p.1)
 
 pub name_byte_ascii : (b : ℕ) → is_name_byte b ≡ true → b < 128
 name_byte_ascii b h = grind (arith, letter_high)
@@ -64,7 +58,7 @@ module _ (b : ℕ) (bs t : List ℕ) (free : is_free t ≡ true) where
         ne_eqb b 10 (λ e. omega (arith, e, high.0)),
         ne_eqb b 35 (λ e. omega (arith, e, high.0)),
         h3.0,
-        all_pass is_name_byte bs t h4.1 (free_name t free),
+        prefix_len-append_all is_name_byte bs t h4.1 (free_name t free),
         size,
         h2.0,
       )
@@ -84,14 +78,10 @@ module _ (b : ℕ) (bs t : List ℕ) (free : is_free t ≡ true) where
         lt-leb 97 b (omega (arith, range.1)),
         lt-leb 65 b (omega (arith, range.1)),
         digit,
-        all_pass is_figure_byte bs t all (free_figure t free),
+        prefix_len-append_all is_figure_byte bs t all (free_figure t free),
         size,
       )
       (λ place. refl, λ from place. refl)
-
-either_way : {A : Type 0} (b : Bool) (x : A) → (if b then x else x) ≡ x
-either_way true x = refl
-either_way false x = refl
 
 -- signs of one byte
 module _ (a : ℕ) (kind : TokenKind) (one : one_sign a ≡ Some kind) (arrow : (a == 61) ≡ false) (above : (a == 62) ≡ false) where
@@ -99,7 +89,7 @@ module _ (a : ℕ) (kind : TokenKind) (one : one_sign a ≡ Some kind) (arrow : 
       → ((place : Place) → piece_taken place (sign_at a t) ≡ Ok 1)
       × ((from : ℕ) (place : Place) → token_in from place (sign_at a t) ≡ record { kind = kind; from = from; to = from + 1; place = place } ∷ [])
   one_byte [] = rw one (λ place. refl, λ from place. refl)
-  one_byte (b ∷ bs) = let none : Option TokenKind = None in rw (one, arrow, above, either_way (b == 62) none) (λ place. refl, λ from place. refl)
+  one_byte (b ∷ bs) = let none : Option TokenKind = None in rw (one, arrow, above, if_same (b == 62) none) (λ place. refl, λ from place. refl)
 
   pub BeginsWith-sign : is_blank a ≡ false → (a == 35) ≡ false → is_letter a ≡ false → is_figure a ≡ false → (t : List ℕ) → BeginsWith kind (a ∷ []) (a ∷ t)
   unfolding piece_at

@@ -3,6 +3,7 @@ use Rattle.std.proofs.Common.{◌≡◌, ℕ, zero, suc, ◌+◌, ◌^◌, ◌<�
 use Rattle.std.specs.Prelude.{IsTrue, slice_index}
 use Rattle.std.specs.List.{AllByRecursion, IsDistinct}
 use Rattle.std.specs.Str.{bytes_eq}
+use Rattle.net_base.specs.Sets.{IsWords}
 use Rattle.net_base.specs.declared.loc.LocSet.{LocSet}
 use Rattle.net_base.specs.Network.{PlainNet, IsNet, sites}
 use Rattle.policy_grammar.specs.Symbols.{word_symbol, item_word, operator, path_call, place_call}
@@ -19,10 +20,10 @@ use Rattle.policy_text.specs.Values.{IsLocSet, clause_sets, HasLocSets, HasSourc
 use Rattle.net_base.specs.Prefixes.{IsPrefix}
 use Rattle.net_base.specs.Network.{is_router, is_location}
 use Rattle.std.proofs.lemmas.Bool.{ltb-true, lt-ltb}
+use Rattle.list_laws.proofs.Each.{AllByRecursion-both}
 use Rattle.policy_text.proofs.ReadCalls.{IsFilled, set_in, call_word, IsReadable, HasOne}
 use Rattle.policy_text.proofs.ReadLevels.{IsReadableRanking}
 use Rattle.policy_text.proofs.ReadItems.{IsNamed, HasSources as HasNamed, IsReadableStatement}
-use Rattle.policy_text.proofs.LocSets.{IsWords}
 use Rattle.policy_text.proofs.Lookups.{site_names}
 use Rattle.policy_text.proofs.BuildSets.{IsSet, named, filled}
 use Rattle.policy_text.proofs.BuildRankings.{IsFineCall, IsLike, IsFine}
@@ -35,10 +36,6 @@ all_at (w ∷ ws) all (suc i) = all_at ws all.1 i
 
 is_words : (s : LocSet) → IsLocSet s → IsWords s
 is_words s is = record { size = is.0; fit = all_at s.words is.1 }
-
-pub zip : {X : Type 0} (P Q R : X → Type 0) → ((x : X) → P x → Q x → R x) → (xs : List X) → AllByRecursion P xs → AllByRecursion Q xs → AllByRecursion R xs
-zip P Q R one [] ps qs = tt
-zip P Q R one (x ∷ xs) ps qs = (one x ps.0 qs.0, zip P Q R one xs ps.1 qs.1)
 
 word_there : (c : Clause) → word_of (word_symbol (clause_word c)) ≡ Some (call_word c)
 unfolding word_symbol item_word operator path_call place_call
@@ -82,7 +79,7 @@ module _ (bytes : List ℕ) (net : PlainNet) (apart : IsDistinct bytes_eq (site_
   fine_call (Start s) sets is = ((fine_set s sets is.0, tt), omega arith)
   fine_call (End s) sets is = ((fine_set s sets is.0, tt), omega arith)
   fine_call (Link a b) sets is = ((fine_set a sets.0 is.0, (fine_set b sets.1 is.1.0, tt)), omega arith)
-  fine_call (Path ps) sets is = (zip (IsCallSet net) IsLocSet FineSet fine_set ps sets.0 is, sets.2)
+  fine_call (Path ps) sets is = (AllByRecursion-both (IsCallSet net) IsLocSet FineSet fine_set ps sets.0 is, sets.2)
   fine_call (Exit s) sets is = ((fine_set s sets is.0, tt), omega arith)
   fine_call (Enter s) sets is = ((fine_set s sets is.0, tt), omega arith)
 
@@ -96,7 +93,7 @@ module _ (bytes : List ℕ) (net : PlainNet) (apart : IsDistinct bytes_eq (site_
   readable_call (Start s) sets is = (filled_set s sets is.0, tt)
   readable_call (End s) sets is = (filled_set s sets is.0, tt)
   readable_call (Link a b) sets is = (filled_set a sets.0 is.0, (filled_set b sets.1 is.1.0, tt))
-  readable_call (Path ps) sets is = (sets.1, zip (IsCallSet net) IsLocSet (IsFilled net) filled_set ps sets.0 is)
+  readable_call (Path ps) sets is = (sets.1, AllByRecursion-both (IsCallSet net) IsLocSet (IsFilled net) filled_set ps sets.0 is)
   readable_call (Exit s) sets is = (filled_set s sets is.0, tt)
   readable_call (Enter s) sets is = (filled_set s sets is.0, tt)
 
@@ -130,7 +127,7 @@ module _ (bytes : List ℕ) (net : PlainNet) (apart : IsDistinct bytes_eq (site_
   fine_ranking : (r : Ranking) → IsWritable net r → HasLocSets r → IsFine bytes net apart small r
   fine_ranking (call c) sets is = fine_call c sets is
   fine_ranking (calls []) sets is = absurd sets
-  fine_ranking (calls (c ∷ cs)) sets is = (sets.0, zip (Ranked c) LocSets (IsLike bytes net apart small c) (like c) (c ∷ cs) sets.1 is)
+  fine_ranking (calls (c ∷ cs)) sets is = (sets.0, AllByRecursion-both (Ranked c) LocSets (IsLike bytes net apart small c) (like c) (c ∷ cs) sets.1 is)
   fine_ranking (prefer a b) sets is = (fine_ranking a sets.0 is.0, fine_ranking b sets.1 is.1)
   fine_ranking (either a b) sets is = ((fine_ranking a sets.0.0 is.0, fine_ranking b sets.0.1 is.1), sets.1)
   fine_ranking (both a b) sets is = (fine_ranking a sets.0 is.0, fine_ranking b sets.1 is.1)
@@ -139,7 +136,7 @@ module _ (bytes : List ℕ) (net : PlainNet) (apart : IsDistinct bytes_eq (site_
   readable_ranking : (r : Ranking) → IsWritable net r → HasLocSets r → IsReadableRanking bytes net r
   readable_ranking (call c) sets is = readable_call c sets is
   readable_ranking (calls []) sets is = absurd sets
-  readable_ranking (calls (c ∷ cs)) sets is = let all = zip (Ranked c) LocSets (HasOne bytes net) (has_one c) (c ∷ cs) sets.1 is in (all.0, all.1)
+  readable_ranking (calls (c ∷ cs)) sets is = let all = AllByRecursion-both (Ranked c) LocSets (HasOne bytes net) (has_one c) (c ∷ cs) sets.1 is in (all.0, all.1)
   readable_ranking (prefer a b) sets is = (readable_ranking a sets.0 is.0, readable_ranking b sets.1 is.1)
   readable_ranking (either a b) sets is = (readable_ranking a sets.0.0 is.0, readable_ranking b sets.0.1 is.1)
   readable_ranking (both a b) sets is = (readable_ranking a sets.0 is.0, readable_ranking b sets.1 is.1)

@@ -1,7 +1,8 @@
 -- A printed policy is read again as the same policy.
-use Rattle.std.proofs.Common.{◌≡◌, ℕ, ◌≤◌, List, [], ◌∷◌, length, Ok, None, refl}
+use Rattle.std.proofs.Common.{◌≡◌, ℕ, ◌≤◌, List, length, Ok, None, refl}
 use Rattle.std.specs.List.{AllByRecursion, IsDistinct}
 use Rattle.std.specs.Str.{bytes_eq}
+use Rattle.list_laws.proofs.Each.{AllByRecursion-both, AllByRecursion-weaker}
 use Rattle.net_base.specs.Network.{PlainNet, IsNet, sites}
 use Rattle.net_base.specs.Prefixes.{IsPrefix, IsPattern}
 use Rattle.policy_tokens.specs.declared.token.Token.{Token}
@@ -27,11 +28,7 @@ use Rattle.policy_text.proofs.Lookups.{site_names, net_names-sites}
 use Rattle.policy_text.proofs.Unions.{sites_known}
 use Rattle.policy_text.proofs.BuildItems.{IsFineStatement, IsFineOrigin}
 use Rattle.policy_text.proofs.BuildPolicies.{names_learnt, keeps_rules, builds}
-use Rattle.policy_text.proofs.Premises.{zip, small_net, fine_statement, readable_statement, fine_origin, named_origin}
-
-all_of : {X : Type 0} (P Q : X → Type 0) → ((x : X) → P x → Q x) → (xs : List X) → AllByRecursion P xs → AllByRecursion Q xs
-all_of P Q one [] ps = tt
-all_of P Q one (x ∷ xs) ps = (one x ps.0, all_of P Q one xs ps.1)
+use Rattle.policy_text.proofs.Premises.{small_net, fine_statement, readable_statement, fine_origin, named_origin}
 
 items_there : (bytes : List ℕ) (ts : List Token) (items : List Item) → tokens_of bytes ≡ Ok ts → first_deep 0 (lexemes_of bytes ts (place_of bytes (length bytes))) ≡ None → items_of (lexemes_of bytes ts (place_of bytes (length bytes))) ≡ Ok items
     → items_spelled bytes ≡ Ok items
@@ -53,13 +50,13 @@ spelled-policy_text net policy is named values printable =
     let bytes : List ℕ = policy_text net policy in
     let apart : IsDistinct bytes_eq (site_names (sites net)) = is.names in
     let small : length (sites net) ≤ 768 = small_net net is in
-    let patterns = all_of IsStatementValue (λ (s : PlainStatement). AllByRecursion IsPattern s.patterns) (λ s h. h.patterns) policy.statements values.statements in
-    let brackets = all_of (IsPrintableStatement net) _ (λ s h. h.brackets) policy.statements printable.statements in
-    let origins = zip (IsPrintableOrigin net) (λ (o : Origin). IsLocSet o.at) (λ (o : Origin). IsNamed net o.at) (named_origin bytes net apart small) policy.origins printable.origins values.origins in
-    let sets = zip (IsPrintableOrigin net) (λ (o : Origin). IsLocSet o.at) (λ (o : Origin). IsPrefix o.prefix → IsFineOrigin bytes net apart small o) (fine_origin bytes net apart small) policy.origins printable.origins values.origins in
-    let fine_origins = zip (λ (o : Origin). IsPrefix o.prefix → IsFineOrigin bytes net apart small o) (λ (o : Origin). IsPrefix o.prefix) (IsFineOrigin bytes net apart small) (λ o f p. f p) policy.origins sets values.prefixes in
-    let readable = zip (IsPrintableStatement net) IsStatementValue (IsReadableStatement bytes net) (readable_statement bytes net apart small) policy.statements printable.statements values.statements in
-    let fine = zip (IsPrintableStatement net) IsStatementValue (IsFineStatement bytes net apart small) (fine_statement bytes net apart small) policy.statements printable.statements values.statements in
+    let patterns = AllByRecursion-weaker IsStatementValue (λ (s : PlainStatement). AllByRecursion IsPattern s.patterns) policy.statements (λ s h. h.patterns) values.statements in
+    let brackets = AllByRecursion-weaker (IsPrintableStatement net) _ policy.statements (λ s h. h.brackets) printable.statements in
+    let origins = AllByRecursion-both (IsPrintableOrigin net) (λ (o : Origin). IsLocSet o.at) (λ (o : Origin). IsNamed net o.at) (named_origin bytes net apart small) policy.origins printable.origins values.origins in
+    let sets = AllByRecursion-both (IsPrintableOrigin net) (λ (o : Origin). IsLocSet o.at) (λ (o : Origin). IsPrefix o.prefix → IsFineOrigin bytes net apart small o) (fine_origin bytes net apart small) policy.origins printable.origins values.origins in
+    let fine_origins = AllByRecursion-both (λ (o : Origin). IsPrefix o.prefix → IsFineOrigin bytes net apart small o) (λ (o : Origin). IsPrefix o.prefix) (IsFineOrigin bytes net apart small) (λ o f p. f p) policy.origins sets values.prefixes in
+    let readable = AllByRecursion-both (IsPrintableStatement net) IsStatementValue (IsReadableStatement bytes net) (readable_statement bytes net apart small) policy.statements printable.statements values.statements in
+    let fine = AllByRecursion-both (IsPrintableStatement net) IsStatementValue (IsFineStatement bytes net apart small) (fine_statement bytes net apart small) policy.statements printable.statements values.statements in
     let lexemes = lexemes_are_words net policy named values.prefixes patterns in
     let found = Reads-items bytes net policy origins readable _ lexemes.2 in
     let read = items_there bytes lexemes.0 found.0 lexemes.1 (first_deep-none bytes net policy brackets _ lexemes.2) found.1 in

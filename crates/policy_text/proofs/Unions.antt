@@ -4,16 +4,17 @@ use Rattle.std.specs.Prelude.{◌||◌, ◌&&◌, ◌==◌, if◌then◌else◌,
 use Rattle.std.specs.List.{IsDistinct}
 use Rattle.std.specs.Str.{bytes_eq}
 use Rattle.std.proofs.lemmas.Bool.{eq-eqb, ne_eqb, cases_eq, cases_lt, false_from_ne_true}
+use Rattle.std.proofs.Math.Bool.{or-false}
 use Rattle.net_base.specs.declared.loc.LocSet.{LocSet}
 use Rattle.net_base.specs.declared.net.Site.{Site}
-use Rattle.net_base.specs.Sets.{holds}
+use Rattle.net_base.specs.Sets.{holds, IsWords}
 use Rattle.policy_grammar.specs.declared.lexeme.Lexeme.{Lexeme}
-use Rattle.policy_rules.specs.LocationSets.{no_location, with_location, union_of}
+use Rattle.net_base.specs.SetOperations.{no_location, with_location, union_of}
 use Rattle.policy_rules.specs.KnownNames.{Names, set_named}
 use Rattle.policy_rules.specs.Checks.{text, set_at, joined, set_of_names}
 use Rattle.policy_text.specs.PolicyText.{names_from}
 use Rattle.policy_text.proofs.ReadSets.{AreNamesOf}
-use Rattle.policy_text.proofs.LocSets.{IsWords, same_sets, IsWords-none, holds-none, IsWords-with, holds-with, IsWords-union, holds-union}
+use Rattle.net_base.proofs.SetLaws.{same_sets, IsWords-none, holds-none, IsWords-with, holds-with, IsWords-union, holds-union}
 use Rattle.policy_text.proofs.Lookups.{singles, site_names, set_named-there}
 
 -- m is one of the locations of a set that stand at these sites
@@ -25,14 +26,10 @@ before_all : (s : LocSet) (l : ℕ) (xs : List Site) (m : ℕ) → m < l → is_
 before_all s l [] m low = refl
 before_all s l (x ∷ xs) m low = rw (ne_eqb m l (λ e. omega (arith, e, low)), before_all s (l + 1) xs m (omega (arith, low))) refl
 
-or_none : (b : Bool) → (b || false) ≡ b
-or_none true = refl
-or_none false = refl
-
 among_inside : (s : LocSet) (l : ℕ) (xs : List Site) (m : ℕ) → l ≤ m → m < l + length xs → is_among s l xs m ≡ holds s m
 among_inside s l [] m high low = absurd (omega (arith, high, low))
 among_inside s l (x ∷ xs) m high low = elim (cases_eq m l) [
-  | inl same ↦ rw (eq-eqb m l same, before_all s (l + 1) xs m (omega (arith, same)), same) (or_none (holds s l))
+  | inl same ↦ rw (eq-eqb m l same, before_all s (l + 1) xs m (omega (arith, same)), same) (or-false (holds s l))
   | inr other ↦ rw (ne_eqb m l other) (among_inside s (l + 1) xs m (omega (arith, high, other)) (omega (arith, low)))
 ]
 
@@ -116,7 +113,7 @@ module _ (bytes : List ℕ) (whole : List Site) (apart : IsDistinct bytes_eq (si
   by_held s l x xs small found rest so_far fine ls false off are = absent s l x xs off rest so_far fine ls are
 
   joins : (s : LocSet) (xs pre : List Site) (l : ℕ) → l ≡ length pre → whole ≡ pre ++ xs → Rest s l xs
-  joins s [] pre l at is so_far fine [] are = record { all = so_far; is = refl; words = fine; has = λ m low. sym (or_none (holds so_far m)) }
+  joins s [] pre l at is so_far fine [] are = record { all = so_far; is = refl; words = fine; has = λ m low. sym (or-false (holds so_far m)) }
   joins s [] pre l at is so_far fine (k ∷ ks) are = absurd are
   joins s (x ∷ xs) pre l at is so_far fine ls are =
       let size : length whole ≡ length pre + length (x ∷ xs) = ap (λ (w : List Site). length w) is ∙ length-append pre (x ∷ xs) in
