@@ -1,6 +1,7 @@
 pub mod Keeping
 pub mod Listing
 pub mod Renumbering
-pub mod Rows
+pub mod Sweeping
 pub mod Trails
 pub mod Visiting
+pub mod Work

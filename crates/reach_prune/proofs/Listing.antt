@@ -4,8 +4,8 @@ use Rattle.std.proofs.lemmas.Bool.{or_cases, and_parts, eqb-true}
 use Rattle.std.proofs.lemmas.List.{take_all}
 use Rattle.std.specs.List.{list_any, AllByRecursion}
 use Rattle.graph_base.specs.Graphs.{PlainGraph, IsGraph}
-use Rattle.reach_prune.specs.declared.neighbours.Way.{Way}
-use Rattle.reach_prune.specs.declared.neighbours.Way.TheVariants.{Forward, Backward}
+use Rattle.reach_prune.specs.declared.steps.Way.{Way}
+use Rattle.reach_prune.specs.declared.steps.Way.TheVariants.{Forward, Backward}
 use Rattle.reach_prune.specs.Searches.{is_listed}
 use Rattle.reach_prune.specs.Ways.{ends, step_along}
 

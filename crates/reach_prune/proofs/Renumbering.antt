@@ -5,7 +5,9 @@ use Rattle.std.specs.List.{AllByRecursion, filter, filter_map}
 use Rattle.graph_base.specs.declared.graph.Node.{Node}
 use Rattle.graph_base.specs.Graphs.{PlainGraph, IsGraph}
 use Rattle.reach_prune.specs.Numbers.{number_in, number_kept, step_in}
-use Rattle.reach_prune.specs.Trimmed.{both_kept, graph_kept, kept_below, nodes_kept, renumbered}
+use Rattle.list_laws.specs.Counts.{kept_below}
+use Rattle.list_laws.proofs.Kept.{kept_below-less}
+use Rattle.reach_prune.specs.Trimmed.{both_kept, graph_kept, nodes_kept, renumbered}
 use Rattle.reach_prune.proofs.Keeping.{kept_below_le}
 
 starts_renumbered : (keep : ℕ → Bool) (numbers : List (Option ℕ)) → ((n : ℕ) → number_in numbers n ≡ number_kept keep n) → (starts : List ℕ) → filter_map (number_in numbers) starts ≡ map (kept_below keep) (filter keep starts)
@@ -43,21 +45,10 @@ length-nodes_kept keep k (node ∷ nodes) =
           omega (arith, next, rest, whole, same, none))
     ]
 
--- the numbers of those that are kept ascend
-kept_before : (keep : ℕ → Bool) (n m : ℕ) → keep n ≡ true → n < m → kept_below keep n < kept_below keep m
-kept_before keep n zero kept lt = absurd (omega arith)
-kept_before keep n (suc m) kept lt = elim (cases_lt n m) [
-  | inl before ↦ omega (arith, kept_before keep n m kept before)
-  | inr last ↦ (
-      let same : n ≡ m = omega arith in
-      let here : keep m ≡ true = ap keep (sym same) ∙ kept in
-      rw (same, here) (omega arith))
-]
-
 starts_within : (keep : ℕ → Bool) (size : ℕ) (starts : List ℕ) → AllByRecursion (λ n. n < size) starts → AllByRecursion (λ n. n < kept_below keep size) (map (kept_below keep) (filter keep starts))
 starts_within keep size [] all = tt
 starts_within keep size (n ∷ ns) all = elim (cases_Bool (keep n)) [
-  | inl kept ↦ rw kept (kept_before keep n size kept all.0, starts_within keep size ns all.1)
+  | inl kept ↦ rw kept (kept_below-less keep n size kept all.0, starts_within keep size ns all.1)
   | inr left ↦ rw left (starts_within keep size ns all.1)
 ]
 
@@ -66,7 +57,7 @@ steps_within : (keep : ℕ → Bool) (size : ℕ) (steps : List (ℕ × ℕ)) �
 steps_within keep size [] all = tt
 steps_within keep size (s ∷ ss) all = elim (cases_Bool (keep s.0)) [
   | inl from ↦ elim (cases_Bool (keep s.1)) [
-    | inl to ↦ rw (from, to) ((kept_before keep s.0 size from all.0.0, kept_before keep s.1 size to all.0.1), steps_within keep size ss all.1)
+    | inl to ↦ rw (from, to) ((kept_below-less keep s.0 size from all.0.0, kept_below-less keep s.1 size to all.0.1), steps_within keep size ss all.1)
     | inr left ↦ rw (from, left) (steps_within keep size ss all.1)
   ]
   | inr left ↦ rw left (steps_within keep size ss all.1)

@@ -1,11 +1,13 @@
 -- What lists of neighbours lead to can be reached by the steps of the graph.
-use Rattle.std.proofs.Common.{◌≡◌, ◌↔◌, ℕ, Bool, true, eqb, List, [], ◌∷◌, ◌++◌, refl, sym, ◌∙◌, inl, inr}
-use Rattle.std.proofs.lemmas.Bool.{or_cases, or_left, eqb-true, eq-eqb}
+use Rattle.std.proofs.Common.{◌≡◌, ◌↔◌, ℕ, ◌<◌, length, Bool, true, List, [], ◌∷◌, ◌++◌, refl, sym, ◌∙◌}
 use Rattle.std.specs.Option.{is_some}
 use Rattle.graph_base.specs.Graphs.{PlainGraph}
 use Rattle.graph_base.specs.Runs.{has_step, rank_at, IsTrail, Reaches}
-use Rattle.reach_prune.specs.Searches.{is_among, is_listed, IsChain, IsReached, Leads}
+use Rattle.reach_prune.specs.Searches.{AreLists, is_among, is_listed, IsChain, IsReached, Leads}
 use Rattle.reach_prune.specs.Trimmed.{CanBeRanked}
+use Rattle.reach_prune.specs.Ways.{LeadsAlong, LeadsFrom, step_along}
+use Rattle.reach_prune.specs.declared.steps.Way.{Way}
+use Rattle.reach_prune.specs.declared.steps.Way.TheVariants.{Forward, Backward}
 
 -- one node more at the end
 pub chain_more : (lists : List (List ℕ)) (a b c : ℕ) (via : List ℕ) → IsChain lists a via b → is_listed lists b c ≡ true → IsChain lists a (via ++ c ∷ []) c
@@ -40,22 +42,27 @@ leads_backward g lists a b same = (λ l. back a l.0 l.1, λ r. forth b r.0 r.1)
     forth b [] h = ([], sym h)
     forth b (c ∷ cs) h = let l = forth c cs h.1 in (l.0 ++ b ∷ [], chain_more lists a c b l.0 l.1 (same c b ∙ h.0))
 
--- where the search begins at one node
-pub reached_from_one : (lists : List (List ℕ)) (a n : ℕ) → IsReached lists (a ∷ []) n ↔ Leads lists a n
-reached_from_one lists a n = (
-  λ r. elim (or_cases (eqb a r.0) _ r.1) [ inl e ↦ rw (eqb-true a r.0 e) r.2 | inr never ↦ absurd (cc) ],
-  λ l. (a, or_left _ _ (eq-eqb a a refl), l),
-)
+-- lists of the steps that are followed one way lead where these steps lead
+pub leads_along : (way : Way) (g : PlainGraph) (lists : List (List ℕ)) (a b : ℕ) → ((a b : ℕ) → is_listed lists a b ≡ step_along way g a b) → Leads lists a b ↔ LeadsAlong way g a b
+leads_along Forward g lists a b same = leads_forward g lists a b same
+leads_along Backward g lists a b same = leads_backward g lists a b same
 
-pub reached_forward : (g : PlainGraph) (lists : List (List ℕ)) (a n : ℕ) (mark : Bool) → ((a b : ℕ) → is_listed lists a b ≡ has_step g a b) → (mark ≡ true) ↔ IsReached lists (a ∷ []) n → (mark ≡ true) ↔ Reaches g a n
-reached_forward g lists a n mark same h =
-    let one = reached_from_one lists a n in
-    let leads = leads_forward g lists a n same in
-    (λ m. leads.0 (one.0 (h.0 m)), λ r. h.1 (one.1 (leads.1 r)))
+pub reached_along : (way : Way) (g : PlainGraph) (lists : List (List ℕ)) (first : List ℕ) (n : ℕ) → ((a b : ℕ) → is_listed lists a b ≡ step_along way g a b) → IsReached lists first n ↔ LeadsFrom way g first n
+reached_along way g lists first n same = (λ r. (r.0, r.1, (leads_along way g lists r.0 n same).0 r.2), λ l. (l.0, l.1, (leads_along way g lists l.0 n same).1 l.2))
 
-pub reached_backward : (g : PlainGraph) (lists : List (List ℕ)) (first : List ℕ) (n : ℕ) (mark : Bool) → ((a b : ℕ) → is_listed lists a b ≡ has_step g b a) → ((n : ℕ) → is_among first n ≡ is_some (rank_at g n)) →
-    (mark ≡ true) ↔ IsReached lists first n → (mark ≡ true) ↔ CanBeRanked g n
-reached_backward g lists first n mark same ranked h = (
-  λ m. let r = h.0 m in (r.0, (leads_backward g lists r.0 n same).0 r.2, sym (ranked r.0) ∙ r.1),
-  λ c. h.1 (c.0, ranked c.0 ∙ c.2, (leads_backward g lists c.0 n same).1 c.1),
-)
+-- lists lead to nodes alone
+pub leads_below : (lists : List (List ℕ)) → AreLists lists → (a b : ℕ) (via : List ℕ) → a < length lists → IsChain lists a via b → b < length lists
+leads_below lists are a b [] lt h = rw (sym h) lt
+leads_below lists are a b (c ∷ cs) lt h = leads_below lists are c b cs (are a c h.0) h.1
+
+-- lists lead on from where they led
+pub leads_on : (lists : List (List ℕ)) (a b c : ℕ) → Leads lists a b → Leads lists b c → Leads lists a c
+leads_on lists a b c one other = on a one.0 one.1
+  where
+    on : (a : ℕ) (via : List ℕ) → IsChain lists a via b → Leads lists a c
+    on a [] h = rw h other
+    on a (d ∷ ds) h = let rest = on d ds h.1 in (d ∷ rest.0, (h.0, rest.1))
+
+-- steps lead backward from the nodes with a rank to those from which one can be reached
+pub ranked_backward : (g : PlainGraph) (first : List ℕ) (n : ℕ) (mark : Bool) → ((n : ℕ) → is_among first n ≡ is_some (rank_at g n)) → (mark ≡ true) ↔ LeadsFrom Backward g first n → (mark ≡ true) ↔ CanBeRanked g n
+ranked_backward g first n mark ranked h = (λ m. let l = h.0 m in (l.0, l.2, sym (ranked l.0) ∙ l.1), λ c. h.1 (c.0, ranked c.0 ∙ c.2, c.1))

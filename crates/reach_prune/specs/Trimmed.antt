@@ -1,5 +1,6 @@
 -- A graph without the nodes from which no rank can be reached.
 use Rattle.std.specs.Prelude.{◌≡◌, ◌↔◌, ℕ, ◌+◌, ◌<◌, Bool, ◌&&◌, IsTrue, zero, suc, List, [], ◌∷◌, length, map, filter, IsSome, if◌then◌else◌}
+use Rattle.list_laws.specs.Counts.{kept_below}
 use Rattle.graph_base.specs.declared.graph.Node.{Node}
 use Rattle.graph_base.specs.Graphs.{PlainGraph}
 use Rattle.graph_base.specs.Runs.{rank_at, Reaches}
@@ -7,11 +8,6 @@ use Rattle.graph_base.specs.Runs.{rank_at, Reaches}
 -- a node with a rank can be reached
 abbrev pub CanBeRanked : PlainGraph → ℕ → Type 0
 CanBeRanked g n = (m : ℕ) × Reaches g n m × IsSome (rank_at g m)
-
--- how many of the numbers below n are kept
-abbrev pub kept_below : (ℕ → Bool) → ℕ → ℕ
-kept_below keep zero = 0
-kept_below keep (suc n) = kept_below keep n + (if keep n then 1 else 0)
 
 -- the nodes that are kept, of nodes that are numbered from k
 abbrev pub nodes_kept : (ℕ → Bool) → ℕ → List Node → List Node

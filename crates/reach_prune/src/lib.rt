@@ -1,12 +1,16 @@
 //! What of a graph can be reached, and the part of it that can still get a rank.
 #![tactic(auto)]
 
-mod neighbours;
+mod marking;
 mod reachable;
 mod search;
+mod steps;
+mod sweep;
 mod table;
 mod trimming;
 
-pub use reachable::reach;
+pub use marking::marked;
+pub use reachable::{reach, rows_along};
+pub use steps::{Way, neighbours};
 pub use table::Reach;
 pub use trimming::trim;

@@ -1,43 +1,46 @@
 //! The table of what can be reached.
-ghost use Rattle.std.specs.Prelude.{◌≡◌, ◌<◌, length};
+ghost use Rattle.std.specs.Prelude.{◌≡◌, ◌<◌};
 
-use net_base::List;
+use bit_rows::Rows;
 use std::marker::Model;
 
 /// Which nodes of a graph can be reached from which.
 #[derive(Drop)]
 pub struct Reach {
-    rows: List<List<bool>>,
+    rows: Rows,
 }
 
 impl Model for Reach {
-    ghost use Rattle.std.specs.Prelude.{Bool, List};
-    ghost use Rattle.reach_prune.specs.Reachable.{IsSquare};
+    ghost use Rattle.bit_rows.specs.Tables.{PlainRows};
 
-    ghost Value = { List (List Bool) };
+    ghost Value = { PlainRows };
 
     ghost view = { λ r. r.rows };
-
-    ghost invariant = { λ r. IsSquare r.rows };
 }
 
 impl Reach {
-    ghost use Rattle.reach_prune.specs.Reachable.{can_reach, IsSquare};
+    ghost use Rattle.reach_prune.specs.Reachable.{can_reach};
 
-    /// The table with these rows, one for each node.
-    pub fn new(rows: List<List<bool>>) -> Reach
-        requires { IsSquare rows }
+    /// The table with these rows: that of a node has the nodes from which it can be reached.
+    pub fn new(rows: Rows) -> Reach
         ensures { result ≡ rows }
     {
         Reach { rows }
     }
 
+    /// A row for each node, with a bit for each node from which it can be reached.
+    pub fn rows(&self) -> &Rows
+        ensures { result.now ≡ self.now }
+    {
+        &self.rows
+    }
+
     /// Whether one node can be reached from another. A node reaches itself.
     pub fn has(&self, from: u32, to: u32) -> bool
-        requires from { from < length self.now }
-        requires to { to < length self.now }
+        requires from { from < self.now.bits }
+        requires to { to < self.now.count }
         ensures { result ≡ can_reach self.now from to }
     {
-        self.rows.as_slice()[from as usize].as_slice()[to as usize]
+        self.rows.get(to, from)
     }
 }

@@ -6,8 +6,8 @@ ghost use Rattle.reach_prune.specs.Numbers.{number_in, number_kept, step_in};
 ghost use Rattle.reach_prune.specs.Searches.{is_among, is_marked};
 ghost use Rattle.reach_prune.specs.Trimmed.{CanBeRanked, IsTrimmed, nodes_kept as nodes_kept_of};
 
-use crate::neighbours::{Way, neighbours};
-use crate::search::reached;
+use crate::marking::marked;
+use crate::steps::Way;
 use graph_base::{Graph, Node};
 use net_base::List;
 use outside::NoMemory;
@@ -27,13 +27,12 @@ pub fn trim(alloc: Global, graph: &Graph) -> Result<Graph, NoMemory>
 }
 
 /// Marks the nodes from which a node with a rank can be reached.
-fn can_be_ranked(alloc: Global, graph: &Graph) -> Result<Vec<bool>, AllocError>
+fn can_be_ranked(alloc: Global, graph: &Graph) -> Result<Vec<bool>, NoMemory>
     ensures size { IfOk result (λ kept. length kept.items ≡ length graph.now.nodes) }
     ensures kept { IfOk result (λ kept. (n : ℕ) → n < length graph.now.nodes → IsTrue (is_marked kept.items n) ↔ CanBeRanked graph.now n) }
 {
     let ranked = ranked_nodes(alloc, graph)?;
-    let lists = neighbours(alloc, graph, Way::Backward)?;
-    let kept = reached(alloc, &lists, &ranked)?;
+    let kept = marked(alloc, graph, Way::Backward, &ranked)?;
     Ok(kept)
 }
 

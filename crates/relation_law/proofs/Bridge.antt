@@ -1,10 +1,11 @@
 -- On a graph that is well formed the rules of evidence are met by the same numbers as the rules of the relation.
-use Rattle.std.proofs.Common.{◌≡◌, ℕ, ◌<◌, ◌≤◌, Bool, true, false, ◌&&◌, eqb, nat_le, List, [], ◌∷◌, length, Some, None, is_some, Option, inl, inr, arith, refl, sym, ap, ◌∙◌}
+use Rattle.std.proofs.Common.{◌≡◌, ℕ, ◌<◌, ◌≤◌, Bool, true, false, ◌&&◌, eqb, nat_le, List, [], ◌∷◌, length, Some, inl, inr, arith, refl, sym, ap, ◌∙◌}
 use Rattle.std.specs.List.{list_any, AllByRecursion}
 use Rattle.std.proofs.lemmas.Bool.{or_cases, cases_Bool, and_parts, and_from, not-true, both_ways, eqb-true, leb-true, le-leb, cond-true, cond-false}
 use Rattle.net_base.specs.declared.loc.LocSet.{LocSet}
 use Rattle.net_base.specs.Network.{PlainNet, is_peer, is_router, linked}
 use Rattle.net_base.specs.Sets.{holds}
+use Rattle.list_laws.proofs.Options.{is_some_parts}
 use Rattle.graph_base.specs.Graphs.{PlainGraph, IsGraph}
 use Rattle.graph_base.specs.Rules.{IsWellFormed, IsOver, MeetsRules, steps_on, is_heard}
 use Rattle.graph_base.specs.Runs.{place_of, is_listener, rank_at, is_start, has_step, start_at, IsTrail, Reaches}
@@ -48,10 +49,6 @@ numbers_meet_rules net claimed external g number ok are =
           let y : (j : ℕ) × (rank_at g x.0 ≡ Some j) × (j ≤ i) = no_worse_some (rank_at g x.0) i (ap (no_worse (rank_at g x.0)) (sym e) ∙ x.4) in
           (x.0, y.0, x.2, x.3, y.1, y.2);
     }
-
-is_some_of : (o : Option ℕ) → is_some o ≡ true → (i : ℕ) × (o ≡ Some i)
-is_some_of None h = absurd (cc)
-is_some_of (Some i) h = (i, refl)
 
 -- where steps lead on from a node, some step leads to the last
 entered : (g : PlainGraph) (a b c : ℕ) (via : List ℕ) → IsTrail g a (c ∷ via) b → (m : ℕ) × (has_step g m b ≡ true)
@@ -111,7 +108,7 @@ module _ (net : PlainNet) (origin : ℕ → Bool) (external : Bool) (g : PlainGr
       listener = λ t lt st.
           let p = and_parts (has_step g n t) (is_listener g t) st in
           let peer : is_peer net (place_of g t) ≡ true = (and_parts (is_peer net (place_of g t)) _ (sym (formed.listeners t lt) ∙ p.1)).0 in
-          let i : (i : ℕ) × (rank_at g t ≡ Some i) = is_some_of (rank_at g t) (ranked t lt p.1) in
+          let i : (i : ℕ) × (rank_at g t ≡ Some i) = is_some_parts (rank_at g t) (ranked t lt p.1) in
           let x : (s j : ℕ) × (is_heard g m s ≡ true) × (place_of g s ≡ place_of g t) × (rank_at g s ≡ Some j) × (j ≤ i.0) = rules.listener m n t i.0 (formed.into n t (and_from _ _ p.0 peer)) over st i.1 in
           (x.0, (step_nodes g m x.0 ok (and_parts (has_step g m x.0) _ x.2).0).1, x.2, x.3, no_worse_at (rank_at g x.0) (rank_at g t) x.1 i.0 x.4 i.1 x.5);
     }

@@ -1,6 +1,6 @@
 pub mod Bridge
 pub mod Counts
-pub mod Levels
 pub mod Ranks
 pub mod Rounds
+pub mod Targets
 pub mod Tests

@@ -40,12 +40,6 @@ abbrev pub gone_after : View → (ℕ → ℕ → Bool) → ℕ → ℕ → ℕ 
 gone_after v reach zero m n = false
 gone_after v reach (suc rounds) m n = gone_after v reach rounds m n || fails v reach (gone_after v reach rounds) m n
 
--- the round in which a pair goes, of so many rounds; 0 where it is left
-abbrev pub round_of : View → (ℕ → ℕ → Bool) → ℕ → ℕ → ℕ → ℕ
-round_of v reach zero m n = 0
-round_of v reach (suc rounds) m n =
-    if gone_after v reach rounds m n then round_of v reach rounds m n else (if fails v reach (gone_after v reach rounds) m n then suc rounds else 0)
-
 abbrev pub is_pair : View → ℕ → ℕ → Bool
 is_pair v m n = nat_lt m v.size && (nat_lt n v.size && same_place v m n)
 
@@ -57,17 +51,16 @@ left_after v reach rounds m n = is_pair v m n && not (gone_after v reach rounds 
 abbrev pub IsSettled : View → (ℕ → ℕ → Bool) → ℕ → Type 0
 IsSettled v reach rounds = (m n : ℕ) → Pair v m n → IsTrue (gone_after v reach (suc rounds) m n) → IsTrue (gone_after v reach rounds m n)
 
--- ---- round by round
+-- ---- target by target
 
--- m above n rests on a above b, where the pairs of gone have gone: n steps to b, and m can be reached from a, or has no answer to the step
-abbrev pub rests_on : View → (ℕ → ℕ → Bool) → (ℕ → ℕ → Bool) → ℕ → ℕ → ℕ → ℕ → Bool
-rests_on v reach gone m n a b = steps_on v n b && (reach a m || not (has_answer v gone m b))
+-- below each target that isn't touched the last round took nothing away
+abbrev pub AreTouched : View → (ℕ → ℕ → Bool) → ℕ → (ℕ → Bool) → Type 0
+AreTouched v reach rounds touched =
+    (t a : ℕ) → t < v.size → a < v.size → touched t ≡ false → IsTrue (same_place v a t) → gone_after v reach (suc rounds) a t ≡ gone_after v reach rounds a t
+
+-- a rule fails for m above n at a step to a target that is touched
+abbrev pub goes_by : View → (ℕ → ℕ → Bool) → (ℕ → ℕ → Bool) → (ℕ → Bool) → ℕ → ℕ → Bool
+goes_by v reach gone touched m n = any_below v.size (λ t. touched t && (v.step n t && fails_at v reach gone m t))
 
 abbrev pub is_in : List (ℕ × ℕ) → ℕ → ℕ → Bool
 is_in pairs a b = list_any (λ (x : ℕ × ℕ). x.0 == a && x.1 == b) pairs
-
--- the pairs that go in the round after so many
-pub record AreOf (v : View) (reach : ℕ → ℕ → Bool) (rounds : ℕ) (list : List (ℕ × ℕ)) : Type 0 where
-  pub pairs : (a b : ℕ) → IsTrue (is_in list a b) → Pair v a b
-  pub gone : (a b : ℕ) → IsTrue (is_in list a b) → IsTrue (gone_after v reach (suc rounds) a b)
-  pub each : (a b : ℕ) → Pair v a b → IsTrue (gone_after v reach (suc rounds) a b) → gone_after v reach rounds a b ≡ false → IsTrue (is_in list a b)

@@ -1,7 +1,6 @@
-pub mod Advancing
 pub mod Answering
-pub mod Columns
 pub mod Holding
 pub mod Locating
-pub mod Marking
-pub mod Resting
+pub mod Masking
+pub mod Putting
+pub mod Rounding

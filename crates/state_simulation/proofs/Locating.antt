@@ -5,7 +5,7 @@ use Rattle.std.proofs.lemmas.List.{get_or_read}
 use Rattle.std.proofs.lemmas.List.Folds.{list_any-append, list_any_at}
 use Rattle.reach_prune.specs.Searches.{is_among, is_listed}
 use Rattle.relation_law.specs.Rounds.{is_in}
-use Rattle.state_simulation.proofs.Marking.{or_none}
+use Rattle.std.proofs.Math.Bool.{or-false}
 
 -- one node more below a count
 pub below_more : (place : ℕ → ℕ) (i count more : ℕ) → ((n : ℕ) → n < i → place n < count) → count ≤ more → place i < more → (n : ℕ) → n < i + 1 → place n < more
@@ -24,7 +24,7 @@ below_more place i count more before le here n lt = elim (cases_order n i) [
 pub placed_more : (place : ℕ → ℕ) (pairs new : List (ℕ × ℕ)) (i at p n : ℕ) → new ≡ pairs ++ (at, i) ∷ [] → at ≡ place i → is_in pairs p n ≡ (ltb n i && eqb (place n) p) → is_in new p n ≡ (ltb n (i + 1) && eqb (place n) p)
 placed_more place pairs new i at p n e is h =
     ap (λ l. is_in l p n) e ∙ list_any-append (λ (s : ℕ × ℕ). eqb s.0 p && eqb s.1 n) pairs ((at, i) ∷ []) ∙ ap (λ z. z || ((eqb at p && eqb i n) || false)) h
-    ∙ ap (λ z. (ltb n i && eqb (place n) p) || z) (or_none (eqb at p && eqb i n)) ∙ ap (λ z. (ltb n i && eqb (place n) p) || (eqb z p && eqb i n)) is
+    ∙ ap (λ z. (ltb n i && eqb (place n) p) || z) (or-false (eqb at p && eqb i n)) ∙ ap (λ z. (ltb n i && eqb (place n) p) || (eqb z p && eqb i n)) is
     ∙ one_more (cases_order n i)
   where
     left : (b : Bool) → (b || (b && false)) ≡ b
@@ -50,7 +50,7 @@ placed_more place pairs new i at p n e is h =
         let a : ltb n i ≡ true = lt-ltb _ _ less in
         let b : eqb i n ≡ false = ne_eqb _ _ (λ e. omega arith) in
         let c : ltb n (i + 1) ≡ true = lt-ltb _ _ (omega arith) in
-        rw (a, b, c) (ap (λ z. eqb (place n) p || z) (none (eqb (place i) p)) ∙ or_none (eqb (place n) p)))
+        rw (a, b, c) (ap (λ z. eqb (place n) p || z) (none (eqb (place i) p)) ∙ or-false (eqb (place n) p)))
     one_more (inr (inr more)) = (
         let a : ltb n i ≡ false = le-ltb _ _ (omega arith) in
         let b : eqb i n ≡ false = ne_eqb _ _ (λ e. omega arith) in

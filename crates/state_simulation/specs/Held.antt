@@ -1,27 +1,32 @@
 -- The relation of a graph as it is held.
-use Rattle.std.specs.Prelude.{◌≡◌, ℕ, Bool, ◌&&◌, ◌||◌, ◌==◌, IsTrue, List, length, map, nat_lt, slice_index_or}
+use Rattle.std.specs.Prelude.{◌≡◌, ℕ, ◌≤◌, Bool, ◌&&◌, ◌||◌, ◌==◌, IsTrue, List, length, map, nat_lt, slice_index_or}
+use Rattle.bit_rows.specs.Tables.{PlainRows, has_at}
 use Rattle.graph_base.specs.declared.graph.Node.{Node}
 use Rattle.graph_base.specs.Graphs.{PlainGraph}
 use Rattle.net_base.specs.declared.loc.LocSet.{LocSet}
-use Rattle.relation_law.specs.Relations.{IsGreatest, Pair}
-use Rattle.relation_law.specs.Rounds.{IsSettled, round_of}
+use Rattle.relation_law.specs.Relations.{IsGreatest}
+use Rattle.relation_law.specs.Rounds.{IsSettled, left_after}
 use Rattle.relation_law.specs.Views.{view_of}
-use Rattle.state_simulation.specs.Marks.{cell}
 
--- the location of each node, what is claimed, how many rounds there were, and the round in which each pair went
+-- the location of each node, what is claimed, and a row for each node: which nodes may stand at least as high
 pub record PlainRelation : Type 0 where
   pub places : List ℕ
   pub claimed : LocSet
-  pub rounds : ℕ
-  pub marks : List ℕ
+  pub rows : PlainRows
+
+-- so many rows of as many bits
+pub record IsSquare (size : ℕ) (rows : PlainRows) : Type 0 where
+  pub count : rows.count ≡ size
+  pub bits : rows.bits ≡ size
+  pub few : size ≤ 4294967000
 
 -- two nodes at one location
 abbrev pub are_together : PlainRelation → ℕ → ℕ → Bool
 are_together r m n = nat_lt m (length r.places) && (nat_lt n (length r.places) && slice_index_or r.places m 0 == slice_index_or r.places n 0)
 
--- the pair m above n is left
+-- m, at the location of n, may stand at least as high
 abbrev pub has : PlainRelation → ℕ → ℕ → Bool
-has r m n = are_together r m n && cell r.marks (length r.places) m n == 0
+has r m n = are_together r m n && has_at r.rows n m
 
 -- of a node and each other at its location, itself included, one direction is left
 abbrev pub HasEachOf : PlainRelation → ℕ → Type 0
@@ -35,7 +40,9 @@ pub record IsRelationOf (g : PlainGraph) (r : PlainRelation) : Type 0 where
   pub places : r.places ≡ map (λ (node : Node). node.loc) g.nodes
   pub greatest : IsGreatest (view_of g r.claimed) (has r)
 
--- its marks are the rounds in which pairs go, up to the last one that takes a pair away
-pub record AreRounds (g : PlainGraph) (reach : ℕ → ℕ → Bool) (r : PlainRelation) : Type 0 where
-  pub settled : IsSettled (view_of g r.claimed) reach r.rounds
-  pub marks : (m n : ℕ) → Pair (view_of g r.claimed) m n → cell r.marks (length r.places) m n ≡ round_of (view_of g r.claimed) reach r.rounds m n
+-- It is what the rounds leave, up to one that takes no pair away. In which round each other pair goes, the graph, what can
+-- be reached and what is claimed tell.
+pub record IsLeftByRounds (g : PlainGraph) (reach : ℕ → ℕ → Bool) (r : PlainRelation) : Type 0 where
+  pub rounds : ℕ
+  pub settled : IsSettled (view_of g r.claimed) reach rounds
+  pub left : (m n : ℕ) → has r m n ≡ left_after (view_of g r.claimed) reach rounds m n

@@ -1,4 +1,3 @@
-pub mod Answers
 pub mod Held
 pub mod Looked
-pub mod Marks
+pub mod Targets

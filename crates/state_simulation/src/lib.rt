@@ -1,13 +1,11 @@
 //! Which of two nodes at one location of a graph may stand at least as high as the other.
 #![tactic(auto)]
 
-mod answers;
-mod first;
 mod grouping;
 mod laws;
 mod maps;
-mod marks;
-mod reading;
+mod masks;
+mod pairs;
 mod rounds;
 mod simulation;
 mod table;

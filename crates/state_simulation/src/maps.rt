@@ -5,7 +5,6 @@ ghost use Rattle.relation_law.specs.Rounds.{is_in};
 ghost use Rattle.state_simulation.specs.Looked.{AreMaps};
 
 use crate::grouping::grouped;
-use crate::reading::location;
 use graph_base::Graph;
 use net_base::List;
 use std::alloc::{AllocError, Global};
@@ -70,7 +69,7 @@ impl<'a> Maps<'a> {
         ensures within { All (λ n. n < length self.now.graph.now.nodes) result.now }
         ensures members { (n : ℕ) → n < length self.now.graph.now.nodes → is_among result.now n ≡ (place_of self.now.graph.now n == place_of self.now.graph.now node) }
     {
-        let at = location(self.graph, node).number() as usize;
+        let at = self.graph.location(node).number() as usize;
         self.peers[at].as_slice()
     }
 }
@@ -93,7 +92,7 @@ fn location_count(graph: &Graph) -> usize
 {
     let mut count = 0;
     for node in 0..graph.nodes().len() as u32 {
-        let at = location(graph, node).number() as usize;
+        let at = graph.location(node).number() as usize;
         if count <= at {
             count = at + 1;
         }
@@ -107,7 +106,7 @@ fn placed_nodes(alloc: Global, graph: &Graph) -> Result<Vec<(u32, u32)>, AllocEr
 {
     let mut placed = Vec::new(alloc);
     for node in 0..graph.nodes().len() as u32 {
-        placed.push((location(graph, node).number() as u32, node))?;
+        placed.push((graph.location(node).number() as u32, node))?;
     }
     Ok(placed)
 }

@@ -1,149 +1,102 @@
-//! The rounds after the first.
-ghost use Rattle.std.specs.Prelude.{◌≡◌, ◌<◌, ◌&&◌, ◌==◌, ℕ, Bool, IfOk, OnOk, length};
-ghost use Rattle.graph_base.specs.Runs.{has_step};
-ghost use Rattle.reach_prune.specs.Reachable.{IsReachOf, can_reach};
-ghost use Rattle.relation_law.specs.Relations.{Pair};
-ghost use Rattle.relation_law.specs.Rounds.{IsSettled, rests_on as rests_on_pair, round_of, same_place};
+//! The rounds, target by target.
+ghost use Rattle.std.specs.Prelude.{◌≡◌, ◌*◌, ◌<◌, ◌≤◌, ◌&&◌, ◌||◌, ◌==◌, ℕ, All, IfOk, length, not};
+ghost use Rattle.bit_rows.specs.Bits.{has};
+ghost use Rattle.bit_rows.specs.Tables.{IsSameSize, has_at};
+ghost use Rattle.reach_prune.specs.Searches.{is_among};
+ghost use Rattle.relation_law.specs.Rounds.{IsSettled, goes_by};
 ghost use Rattle.relation_law.specs.Views.{view_of};
 ghost use Rattle.state_simulation.specs.Looked.{shown};
-ghost use Rattle.state_simulation.specs.Marks.{AreWithin, AtRound, Marked, gone_before, mark, rests, rests_there};
+ghost use Rattle.state_simulation.specs.Held.{IsSquare};
+ghost use Rattle.state_simulation.specs.Targets.{AreLeft, AreNodeRows, Put, gone_in, is_touched};
 
-use crate::answers::is_still_answered;
-use crate::first::mark_first;
 use crate::maps::Maps;
-use crate::marks::Marks;
-use crate::reading::hears;
+use crate::masks::make_mask;
+use crate::pairs::ranked_pairs;
+use bit_rows::{Rows, outside_is_empty};
 use net_base::LocSet;
-use reach_prune::Reach;
-use std::alloc::{AllocError, Global};
+use outside::NoMemory;
+use std::alloc::Global;
 
-/// The marks of all pairs, after the round in which nothing more goes.
+/// For each node the nodes that are left above it, after the round in which nothing more goes. The row of a node in
+/// `onwards` has what can be reached from it.
 pub fn all_rounds(
     alloc: Global,
     maps: &Maps,
-    reach: &Reach,
+    onwards: &Rows,
     claimed: &LocSet,
-) -> Result<Marks, AllocError>
-    requires { IsReachOf maps.now.graph.now reach.now }
-    ensures size { IfOk result (λ marks. marks.size ≡ length maps.now.graph.now.nodes) }
-    ensures settled { IfOk result (λ marks. IsSettled (view_of maps.now.graph.now claimed.now) (can_reach reach.now) marks.round) }
-    ensures rounds { IfOk result (λ marks. (x y : ℕ) → Pair (view_of maps.now.graph.now claimed.now) x y
-        → mark marks x y ≡ round_of (view_of maps.now.graph.now claimed.now) (can_reach reach.now) marks.round x y) }
+) -> Result<Rows, NoMemory>
+    requires { AreNodeRows maps.now.graph.now onwards.now }
+    ensures rows { IfOk result (AreNodeRows maps.now.graph.now) }
+    ensures rounds { IfOk result (λ left. (rounds : ℕ) × IsSettled (view_of maps.now.graph.now claimed.now) (has_at onwards.now) rounds
+        × AreLeft (view_of maps.now.graph.now claimed.now) (has_at onwards.now) rounds left) }
 {
-    let mut marks = first_round(alloc, maps, claimed)?;
-    'rounds: while !marks.is_settled() {
-        let frontier = marks.next_round(alloc);
-        mark_frontier(&mut marks, maps, reach, &frontier)?;
+    let mut left = ranked_pairs(alloc, maps, &LocSet::new())?;
+    let mut next = ranked_pairs(alloc, maps, claimed)?;
+    let mut touched = vec![in alloc; true; maps.graph().nodes().len()]?;
+    let mut mask = vec![in alloc; 0; onwards.width()]?;
+    let mut changed = true;
+    'rounds: while changed {
+        take_each(&mut next, maps, onwards, &left, &touched, &mut mask);
+        changed = put_each(&mut left, &next, &mut touched);
     }
-    Ok(marks)
+    Ok(left)
 }
 
-/// The marks after the first round.
-fn first_round(alloc: Global, maps: &Maps, claimed: &LocSet) -> Result<Marks, AllocError>
-    ensures { IfOk result (λ marks. (reach : ℕ → ℕ → Bool) → AtRound (view_of maps.now.graph.now claimed.now) reach 0 marks) }
-{
-    let mut marks = Marks::new(alloc, maps.graph().nodes().len())?;
-    mark_first(&mut marks, maps, claimed)?;
-    Ok(marks)
-}
-
-/// Marks the pairs that rest on a pair of the frontier.
-fn mark_frontier(
-    marks: &mut Marks,
+/// Takes the pairs away for which a rule fails at a step to a touched target.
+fn take_each(
+    next: &mut Rows,
     maps: &Maps,
-    reach: &Reach,
-    frontier: &[(u32, u32)],
-) -> Result<(), AllocError>
-    requires size { marks.old.size ≡ length maps.now.graph.now.nodes }
-    requires reach { length reach.now ≡ length maps.now.graph.now.nodes }
-    requires round { 0 < marks.old.round }
-    requires within { AreWithin frontier.now (length maps.now.graph.now.nodes) }
-    ensures { OnOk result (Marked marks.old marks.new (rests (shown maps.now.graph.now) (can_reach reach.now) marks.old frontier.now)) }
+    onwards: &Rows,
+    left: &Rows,
+    touched: &[bool],
+    mask: &mut [u64],
+)
+    requires next { AreNodeRows maps.now.graph.now next.old }
+    requires onwards { AreNodeRows maps.now.graph.now onwards.now }
+    requires left { AreNodeRows maps.now.graph.now left.now }
+    requires touched { length touched.now ≡ length maps.now.graph.now.nodes }
+    requires mask { length mask.old ≡ onwards.now.width }
+    requires wide { length mask.old ≡ next.old.width }
+    requires room { length maps.now.graph.now.nodes ≤ 64 * length mask.old }
+    ensures size { IsSameSize next.new next.old }
+    ensures len { length mask.new ≡ length mask.old }
+    ensures bits { (n m : ℕ) → n < length maps.now.graph.now.nodes → m < length maps.now.graph.now.nodes
+        → has_at next.new n m ≡ (has_at next.old n m && not (goes_by (shown maps.now.graph.now) (has_at onwards.now) (gone_in left.now) (is_touched touched.now) m n)) }
 {
-    for (a, b) in frontier {
-        mark_below(marks, maps, reach, *a, *b)?;
+    for t in 0..touched.len() as u32 {
+        if touched[t as usize] {
+            make_mask(mask, maps, onwards, left, t);
+            keep_each(next, maps.before(t), mask);
+        }
     }
-    Ok(())
 }
 
-/// Marks the pairs that rest on a above b.
-fn mark_below(
-    marks: &mut Marks,
-    maps: &Maps,
-    reach: &Reach,
-    a: u32,
-    b: u32,
-) -> Result<(), AllocError>
-    requires size { marks.old.size ≡ length maps.now.graph.now.nodes }
-    requires reach { length reach.now ≡ length maps.now.graph.now.nodes }
-    requires round { 0 < marks.old.round }
-    requires a { a < length maps.now.graph.now.nodes }
-    requires b { b < length maps.now.graph.now.nodes }
-    ensures { OnOk result (Marked marks.old marks.new
-        (λ x y. same_place (shown maps.now.graph.now) x y && rests_on_pair (shown maps.now.graph.now) (can_reach reach.now) (gone_before marks.old) x y a b)) }
+/// Clears the bits that the mask doesn't have in the rows of these nodes.
+fn keep_each(rows: &mut Rows, nodes: &[u32], mask: &[u64])
+    requires within { All (λ n. n < rows.old.count) nodes.now }
+    requires mask { length mask.now ≡ rows.old.width }
+    ensures size { IsSameSize rows.new rows.old }
+    ensures bits { (r b : ℕ) → r < rows.old.count → has_at rows.new r b ≡ (has_at rows.old r b && (not (is_among nodes.now r) || has mask.now b)) }
 {
-    if hears(maps.graph(), b) {
-        return Ok(());
+    for n in nodes {
+        rows.keep(*n, mask);
     }
-    mark_before(marks, maps, reach, a, b)
 }
 
-/// Marks the pairs that rest on a above b, which doesn't hear.
-fn mark_before(
-    marks: &mut Marks,
-    maps: &Maps,
-    reach: &Reach,
-    a: u32,
-    b: u32,
-) -> Result<(), AllocError>
-    requires size { marks.old.size ≡ length maps.now.graph.now.nodes }
-    requires reach { length reach.now ≡ length maps.now.graph.now.nodes }
-    requires round { 0 < marks.old.round }
-    requires a { a < length maps.now.graph.now.nodes }
-    requires b { b < length maps.now.graph.now.nodes }
-    ensures { OnOk result (Marked marks.old marks.new
-        (λ x y. has_step maps.now.graph.now y b && (same_place (shown maps.now.graph.now) x y && rests_there (shown maps.now.graph.now) (can_reach reach.now) marks.old a b x))) }
+/// Makes the rows those that the round left, and marks where a row lost a bit. The result says whether any did.
+fn put_each(left: &mut Rows, next: &Rows, touched: &mut [bool]) -> bool
+    requires left { IsSquare (length touched.old) left.old }
+    requires next { IsSameSize next.now left.old }
+    ensures size { IsSameSize left.new left.old }
+    ensures len { length touched.new ≡ length touched.old }
+    ensures put { Put (length touched.old) next.now left.old left.new touched.new result }
 {
-    for n in maps.before(b) {
-        mark_above(marks, maps, reach, *n, a, b)?;
+    let mut changed = false;
+    for n in 0..touched.len() as u32 {
+        let is_lost = !outside_is_empty(left.row(n), left.row(n), next.row(n));
+        touched[n as usize] = is_lost;
+        left.put(n, next.row(n));
+        changed = is_lost || changed;
     }
-    Ok(())
-}
-
-/// Marks the pairs above n, which steps to b, that rest on a above b.
-fn mark_above(
-    marks: &mut Marks,
-    maps: &Maps,
-    reach: &Reach,
-    n: u32,
-    a: u32,
-    b: u32,
-) -> Result<(), AllocError>
-    requires size { marks.old.size ≡ length maps.now.graph.now.nodes }
-    requires reach { length reach.now ≡ length maps.now.graph.now.nodes }
-    requires round { 0 < marks.old.round }
-    requires n { n < length maps.now.graph.now.nodes }
-    requires a { a < length maps.now.graph.now.nodes }
-    requires b { b < length maps.now.graph.now.nodes }
-    ensures { OnOk result (Marked marks.old marks.new
-        (λ x y. y == n && (same_place (shown maps.now.graph.now) x n && rests_there (shown maps.now.graph.now) (can_reach reach.now) marks.old a b x))) }
-{
-    for m in maps.peers(n) {
-        let goes = is_going(marks, maps, reach, *m, n, a, b);
-        marks.mark(*m, n, goes)?;
-    }
-    Ok(())
-}
-
-/// Whether m above n, which steps to b, is left and rests on a above b.
-fn is_going(marks: &Marks, maps: &Maps, reach: &Reach, m: u32, n: u32, a: u32, b: u32) -> bool
-    requires size { marks.now.size ≡ length maps.now.graph.now.nodes }
-    requires reach { length reach.now ≡ length maps.now.graph.now.nodes }
-    requires m { m < length maps.now.graph.now.nodes }
-    requires n { n < length maps.now.graph.now.nodes }
-    requires a { a < length maps.now.graph.now.nodes }
-    requires b { b < length maps.now.graph.now.nodes }
-    ensures { result ≡ (mark marks.now m n == 0 && rests_there (shown maps.now.graph.now) (can_reach reach.now) marks.now a b m) }
-{
-    marks.is_left(m, n) && (reach.has(a, m) || !is_still_answered(maps, marks, m, b))
+    changed
 }

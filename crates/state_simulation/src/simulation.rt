@@ -1,7 +1,7 @@
 //! The relation of a graph.
 ghost use Rattle.std.specs.Prelude.{◌≡◌, IfOk, length, map};
 ghost use Rattle.reach_prune.specs.Reachable.{IsReachOf, can_reach};
-ghost use Rattle.state_simulation.specs.Held.{AreRounds, IsRelationOf};
+ghost use Rattle.state_simulation.specs.Held.{IsLeftByRounds, IsRelationOf};
 
 use crate::maps::Maps;
 use crate::rounds::all_rounds;
@@ -9,7 +9,7 @@ use crate::table::Relation;
 use graph_base::Graph;
 use net_base::{List, Loc, LocSet};
 use outside::NoMemory;
-use reach_prune::Reach;
+use reach_prune::{Reach, Way, rows_along};
 use std::alloc::{AllocError, Global};
 
 /// Which of two nodes at one location of the graph may stand at least as high as the other, where these
@@ -23,12 +23,13 @@ pub fn relation(
     requires { IsReachOf graph.now reach.now }
     ensures relation { IfOk result (IsRelationOf graph.now) }
     ensures claimed { IfOk result (λ r. r.claimed ≡ claimed.now) }
-    ensures rounds { IfOk result (AreRounds graph.now (can_reach reach.now)) }
+    ensures rounds { IfOk result (IsLeftByRounds graph.now (can_reach reach.now)) }
 {
     let maps = Maps::new(alloc, graph)?;
-    let marks = all_rounds(alloc, &maps, reach, claimed)?;
+    let onwards = rows_along(alloc, graph, Way::Forward)?;
+    let rows = all_rounds(alloc, &maps, &onwards, claimed)?;
     let places = places(alloc, graph)?;
-    Ok(Relation::new(places, *claimed, marks))
+    Ok(Relation::new(places, *claimed, rows))
 }
 
 /// The location of each node.

@@ -1,7 +1,7 @@
 //! The table of a relation.
 ghost use Rattle.std.specs.Prelude.{◌≡◌, ◌↔◌, ◌||◌, IsTrue, length, not};
 
-use crate::marks::Marks;
+use bit_rows::Rows;
 use net_base::{List, Loc, LocSet};
 use std::marker::Model;
 
@@ -10,33 +10,41 @@ use std::marker::Model;
 pub struct Relation {
     places: List<Loc>,
     claimed: LocSet,
-    marks: Marks,
+    rows: Rows,
 }
 
 impl Model for Relation {
-    ghost use Rattle.std.specs.Prelude.{◌≡◌, length};
-    ghost use Rattle.state_simulation.specs.Held.{PlainRelation};
+    ghost use Rattle.std.specs.Prelude.{length};
+    ghost use Rattle.state_simulation.specs.Held.{IsSquare, PlainRelation};
 
     ghost Value = { PlainRelation };
 
-    ghost view = { λ r. record { places = r.places; claimed = r.claimed; rounds = r.marks.round; marks = r.marks.cells.items } };
+    ghost view = { λ r. record { places = r.places; claimed = r.claimed; rows = r.rows } };
 
-    ghost invariant = { λ r. r.marks.size ≡ length r.places };
+    ghost invariant = { λ r. IsSquare (length r.places) r.rows };
 }
 
 impl Relation {
-    ghost use Rattle.state_simulation.specs.Held.{HasEach, HasEachOf, are_together, has};
+    ghost use Rattle.state_simulation.specs.Held.{IsSquare, HasEach, HasEachOf, are_together, has};
 
-    /// The relation of the pairs without a mark.
-    pub(crate) fn new(places: List<Loc>, claimed: LocSet, marks: Marks) -> Relation
-        requires { marks.size ≡ length places }
-        ensures { result ≡ record { places = places; claimed = claimed; rounds = marks.round; marks = marks.cells.items } }
+    /// The relation of these rows.
+    pub(crate) fn new(places: List<Loc>, claimed: LocSet, rows: Rows) -> Relation
+        requires { IsSquare (length places) rows }
+        ensures { result ≡ record { places = places; claimed = claimed; rows = rows } }
     {
         Relation {
             places,
             claimed,
-            marks,
+            rows,
         }
+    }
+
+    /// A row for each node, with a bit for each node at its location that may stand at least as high.
+    pub fn rows(&self) -> &Rows
+        ensures rows { result.now ≡ self.now.rows }
+        ensures square { IsSquare (length self.now.places) self.now.rows }
+    {
+        &self.rows
     }
 
     /// The claimed locations for which the relation was made.
@@ -51,7 +59,7 @@ impl Relation {
     pub fn has(&self, better: u32, worse: u32) -> bool
         ensures { result ≡ has self.now better worse }
     {
-        self.are_together(better, worse) && self.marks.is_left(better, worse)
+        self.are_together(better, worse) && self.rows.get(worse, better)
     }
 
     /// Whether of each two nodes at one location, the same node twice included, one may stand at least as

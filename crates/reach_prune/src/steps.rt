@@ -1,0 +1,67 @@
+//! The neighbours of each node.
+ghost use Rattle.std.specs.Prelude.{◌≡◌, ◌<◌, ℕ, [], IfOk, length, replicate, vec_len};
+ghost use Rattle.reach_prune.specs.Searches.{AreLists, is_listed};
+ghost use Rattle.reach_prune.specs.Ways.{ends, nth, step_along};
+
+use graph_base::Graph;
+use net_base::List;
+use outside::NoMemory;
+use std::alloc::{AllocError, Global};
+
+/// Which way steps are followed.
+#[derive(Clone, Copy)]
+pub enum Way {
+    /// As a route travels.
+    Forward,
+    /// Against it.
+    Backward,
+}
+
+impl Way {
+    /// The node at a place of the order, of so many, in which nodes come behind most of those to which steps lead
+    /// from them this way.
+    pub(crate) fn nth(self, size: u32, place: u32) -> u32
+        requires { place < size }
+        ensures { result ≡ nth self size place }
+    {
+        match self {
+            Way::Forward => size - 1 - place,
+            Way::Backward => place,
+        }
+    }
+
+    /// The ends of a step in the order in which it is followed.
+    fn ends(self, step: (u32, u32)) -> (u32, u32)
+        ensures { result ≡ ends self step }
+    {
+        match self {
+            Way::Forward => step,
+            Way::Backward => (step.1, step.0),
+        }
+    }
+}
+
+/// For each node those to which one step leads, forward or backward.
+pub fn neighbours(alloc: Global, graph: &Graph, way: Way) -> Result<Vec<List<u32>>, NoMemory>
+    ensures size { IfOk result (λ lists. length lists.items ≡ length graph.now.nodes) }
+    ensures lists { IfOk result (λ lists. AreLists lists.items) }
+    ensures steps { IfOk result (λ lists. (a b : ℕ) → is_listed lists.items a b ≡ step_along way graph.now a b) }
+{
+    let mut lists = empty_lists(alloc, graph.nodes().len())?;
+    for step in graph.steps() {
+        let (node, neighbour) = way.ends(*step);
+        lists[node as usize].push(neighbour)?;
+    }
+    Ok(lists)
+}
+
+/// So many lists without items.
+fn empty_lists(alloc: Global, size: usize) -> Result<Vec<List<u32>>, AllocError>
+    ensures { IfOk result (λ lists. lists.items ≡ replicate size []) }
+{
+    let mut lists = Vec::new(alloc);
+    for _ in 0..size {
+        lists.push(List::new(alloc))?;
+    }
+    Ok(lists)
+}

@@ -1,0 +1,71 @@
+-- What fails at a step rests on what has gone below its target alone.
+use Rattle.std.proofs.Common.{◌≡◌, ℕ, zero, suc, ◌<◌, Bool, true, false, not, ◌&&◌, ◌||◌, inl, inr, arith, refl, sym, ap, ◌∙◌}
+use Rattle.std.specs.Cmp.{both_ways}
+use Rattle.std.proofs.lemmas.Bool.{or_parts, cases_Bool, and_left}
+use Rattle.relation_law.specs.Numbers.{any_below}
+use Rattle.relation_law.specs.Relations.{no_worse, steps_on}
+use Rattle.relation_law.specs.Rounds.{AreTouched, IsReach, fails, fails_at, gone_after, goes_by, has_answer, is_looped, same_place}
+use Rattle.relation_law.specs.Views.{View}
+use Rattle.relation_law.proofs.Rounds.{fails_heard, fails_stepped}
+use Rattle.relation_law.proofs.Tests.{none_at}
+
+pub any_alike : (n : ℕ) (p q : ℕ → Bool) → ((k : ℕ) → k < n → p k ≡ q k) → any_below n p ≡ any_below n q
+any_alike zero p q h = refl
+any_alike (suc n) p q h = ap (λ z. z || any_below n p) (h n (omega arith)) ∙ ap (λ z. q n || z) (any_alike n p q (λ k lt. h k (omega arith)))
+
+module _ (v : View) (reach old new : ℕ → ℕ → Bool) (t : ℕ) (same : (a : ℕ) → a < v.size → same_place v a t ≡ true → new a t ≡ old a t) where
+  at_place : (f : Bool → Bool) (a : ℕ) → a < v.size → (same_place v a t && f (new a t)) ≡ (same_place v a t && f (old a t))
+  at_place f a la = elim (cases_Bool (same_place v a t)) [
+    | inl e ↦ ap (λ z. same_place v a t && f z) (same a la e)
+    | inr e ↦ and_left _ _ e ∙ sym (and_left _ _ e)
+  ]
+
+  -- so it fails alike for what has gone alike below it
+  pub fails_alike : (m : ℕ) → fails_at v reach new m t ≡ fails_at v reach old m t
+  fails_alike m =
+      let answers : has_answer v new m t ≡ has_answer v old m t = any_alike v.size (λ s. steps_on v m s && (same_place v s t && not (new s t))) (λ s. steps_on v m s && (same_place v s t && not (old s t))) (λ a la. ap (λ z. steps_on v m a && z) (at_place not a la)) in
+      let loops : is_looped v reach new m t ≡ is_looped v reach old m t = any_alike v.size (λ k. same_place v k t && (reach k m && new k t)) (λ k. same_place v k t && (reach k m && old k t)) (λ a la. at_place (λ z. reach a m && z) a la) in
+      elim (cases_Bool (v.hears t)) [
+        | inl h ↦ fails_heard v reach new m t h ∙ sym (fails_heard v reach old m t h)
+        | inr h ↦ fails_stepped v reach new m t h ∙ ap (λ z. not z || is_looped v reach new m t) answers ∙ ap (λ z. not (has_answer v old m t) || z) loops ∙ sym (fails_stepped v reach old m t h)
+      ]
+
+-- After the first round a pair that is left goes just where a rule fails at a step to a target that is touched.
+pub by_targets : (v : View) (reach : ℕ → ℕ → Bool) (rounds : ℕ) (touched : ℕ → Bool) → AreTouched v reach rounds touched → (m n : ℕ) → gone_after v reach (suc rounds) m n ≡ false →
+    fails v reach (gone_after v reach (suc rounds)) m n ≡ goes_by v reach (gone_after v reach (suc rounds)) touched m n
+by_targets v reach rounds touched are m n left =
+    let old : ℕ → ℕ → Bool = gone_after v reach rounds in
+    let new : ℕ → ℕ → Bool = gone_after v reach (suc rounds) in
+    let before : (gone_after v reach rounds m n ≡ false) × (fails v reach (gone_after v reach rounds) m n ≡ false) = or_parts _ _ left in
+    let quiet = or_parts (v.claimed (v.place n) && not (no_worse (v.rank m) (v.rank n))) (any_below v.size (λ t. v.step n t && fails_at v reach (gone_after v reach rounds) m t)) before.1 in
+    ap (λ z. z || any_below v.size (λ t. v.step n t && fails_at v reach (gone_after v reach (suc rounds)) m t)) quiet.0
+    ∙ any_alike v.size (λ t. v.step n t && fails_at v reach (gone_after v reach (suc rounds)) m t) (λ t. touched t && (v.step n t && fails_at v reach (gone_after v reach (suc rounds)) m t))
+    (λ t lt. elim (cases_Bool (touched t)) [
+      | inl e ↦ sym (ap (λ z. z && (v.step n t && fails_at v reach (gone_after v reach (suc rounds)) m t)) e)
+      | inr e ↦ ap (λ z. v.step n t && z) (fails_alike v reach old new t (λ a la same. are t a lt la e same) m)
+          ∙ none_at v.size (λ t. v.step n t && fails_at v reach (gone_after v reach rounds) m t) t quiet.1 lt
+          ∙ sym (and_left _ _ e)
+    ])
+
+-- Two exact tests of what can be reached are one, and so are the rounds by them.
+module _ (v : View) (one other : ℕ → ℕ → Bool) (exact : IsReach v one) (exact_too : IsReach v other) where
+  reached : (a b : ℕ) → a < v.size → b < v.size → one a b ≡ other a b
+  reached a b la lb = both_ways (one a b) (other a b) (λ h. (exact_too a b la lb).1 ((exact a b la lb).0 h)) (λ h. (exact a b la lb).1 ((exact_too a b la lb).0 h))
+
+  fails_by_either : (gone : ℕ → ℕ → Bool) (m t : ℕ) → m < v.size → fails_at v one gone m t ≡ fails_at v other gone m t
+  fails_by_either gone m t lm = elim (cases_Bool (v.hears t)) [
+    | inl h ↦ fails_heard v one gone m t h ∙ sym (fails_heard v other gone m t h)
+    | inr h ↦ fails_stepped v one gone m t h
+        ∙ ap (λ z. not (has_answer v gone m t) || z) (any_alike v.size (λ k. same_place v k t && (one k m && gone k t)) (λ k. same_place v k t && (other k m && gone k t)) (λ k lk. ap (λ z. same_place v k t && (z && gone k t)) (reached k m lk lm)))
+        ∙ sym (fails_stepped v other gone m t h)
+  ]
+
+  pub gone_by_either : (rounds m n : ℕ) → m < v.size → gone_after v one rounds m n ≡ gone_after v other rounds m n
+  gone_by_either zero m n lm = refl
+  gone_by_either (suc rounds) m n lm =
+      let before : ℕ → ℕ → Bool = gone_after v one rounds in
+      let before_too : ℕ → ℕ → Bool = gone_after v other rounds in
+      ap (λ z. z || fails v one (gone_after v one rounds) m n) (gone_by_either rounds m n lm)
+      ∙ ap (λ z. gone_after v other rounds m n || ((v.claimed (v.place n) && not (no_worse (v.rank m) (v.rank n))) || z))
+      (any_alike v.size (λ t. v.step n t && fails_at v one (gone_after v one rounds) m t) (λ t. v.step n t && fails_at v other (gone_after v other rounds) m t)
+      (λ t lt. ap (λ z. v.step n t && z) (fails_alike v one before_too before t (λ a la same. gone_by_either rounds a t la) m ∙ fails_by_either before_too m t lm)))

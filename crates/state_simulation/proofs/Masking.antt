@@ -1,0 +1,113 @@
+-- Bits that are set for one node after another.
+use Rattle.std.proofs.Common.{◌≡◌, ℕ, ◌+◌, ◌<◌, Bool, true, false, not, ◌&&◌, ◌||◌, ltb, eqb, List, [], ◌∷◌, length, get_or, take, All, arith, refl, sym, ap, ◌∙◌, inl, inr}
+use Rattle.std.specs.List.{list_any}
+use Rattle.std.proofs.lemmas.Bool.{cases_Bool, cases_eq, cases_order, eq-eqb, eqb-true, ne_eqb, lt-ltb, le-ltb, and_parts, and_from, both_ways, false_from_ne_true}
+use Rattle.std.proofs.lemmas.List.{take_more}
+use Rattle.std.proofs.lemmas.List.Folds.{list_any-append}
+use Rattle.reach_prune.specs.Searches.{is_among}
+use Rattle.relation_law.specs.Numbers.{any_below}
+use Rattle.relation_law.proofs.Tests.{any_found, any_at}
+use Rattle.state_simulation.proofs.Answering.{among_below, member_passes, passing_member}
+
+or_none : (x : Bool) → (x || false) ≡ x
+or_none true = refl
+or_none false = refl
+
+or_assoc : (x y z : Bool) → ((x || y) || z) ≡ (x || (y || z))
+or_assoc true y z = refl
+or_assoc false y z = refl
+
+-- one node more passes or not
+pub any_more : (p : ℕ → Bool) (xs : List ℕ) (i : ℕ) → i < length xs → list_any p (take (i + 1) xs) ≡ (list_any p (take i xs) || p (get_or xs i 0))
+any_more p xs i lt = ap (list_any p) (take_more xs i 0 lt) ∙ list_any-append p (take i xs) (get_or xs i 0 ∷ []) ∙ ap (λ z. list_any p (take i xs) || z) (or_none (p (get_or xs i 0)))
+
+pub set_more : (p : ℕ → Bool) (xs : List ℕ) (i : ℕ) (old now new : Bool) → i < length xs → now ≡ (old || list_any p (take i xs)) → new ≡ (now || p (get_or xs i 0)) → new ≡ (old || list_any p (take (i + 1) xs))
+set_more p xs i old now new lt before here = here ∙ ap (λ z. z || p (get_or xs i 0)) before ∙ or_assoc old (list_any p (take i xs)) (p (get_or xs i 0)) ∙ ap (λ z. old || z) (sym (any_more p xs i lt))
+
+pub same_more : (p : ℕ → Bool) (xs : List ℕ) (i : ℕ) (old now : Bool) → i < length xs → now ≡ (old || list_any p (take i xs)) → p (get_or xs i 0) ≡ false → now ≡ (old || list_any p (take (i + 1) xs))
+same_more p xs i old now lt before none = set_more p xs i old now now lt before (sym (ap (λ z. now || z) none ∙ or_none now))
+
+-- a list that has the nodes below the bound of which f holds
+pub located_any : (xs : List ℕ) (size : ℕ) (f p q : ℕ → Bool) → All (λ n. n < size) xs → ((x : ℕ) → x < size → is_among xs x ≡ f x) → ((x : ℕ) → x < size → (f x && p x) ≡ q x) → list_any p xs ≡ any_below size q
+located_any xs size f p q within is both = elim (cases_Bool (any_below size q)) [
+  | inl e ↦ (
+      let x : (k : ℕ) × (k < size) × (q k ≡ true) = any_found size q e in
+      let h = and_parts (f x.0) (p x.0) (both x.0 x.1 ∙ x.2) in
+      member_passes p xs x.0 (is x.0 x.1 ∙ h.0) h.1 ∙ sym e)
+  | inr e ↦ false_from_ne_true _ (λ h.
+      let x : (x : ℕ) × (is_among xs x ≡ true) × (p x ≡ true) = passing_member p xs h in
+      let lt = among_below size xs x.0 within x.1 in
+      both_ways _ e (any_at size q x.0 lt (sym (both x.0 lt) ∙ and_from _ _ (sym (is x.0 lt) ∙ x.1) x.2))) ∙ sym e
+]
+
+-- ---- bits of rows
+
+turned : (a b : ℕ) → eqb a b ≡ eqb b a
+turned a b = elim (cases_eq a b) [
+  | inl e ↦ eq-eqb a b e ∙ sym (eq-eqb b a (sym e))
+  | inr ne ↦ ne_eqb a b ne ∙ sym (ne_eqb b a (λ e. ne (sym e)))
+]
+
+pub among_more : (xs : List ℕ) (i x : ℕ) → i < length xs → is_among (take (i + 1) xs) x ≡ (is_among (take i xs) x || eqb x (get_or xs i 0))
+among_more xs i x lt = any_more (λ y. eqb y x) xs i lt ∙ ap (λ z. is_among (take i xs) x || z) (turned (get_or xs i 0) x)
+
+pub kept_more : (x a e h : Bool) → ((x && (not a || h)) && (not e || h)) ≡ (x && (not (a || e) || h))
+kept_more false a e h = refl
+kept_more true true e true = right e
+  where
+    right : (e : Bool) → (not e || true) ≡ true
+    right true = refl
+    right false = refl
+kept_more true true e false = refl
+kept_more true false e h = refl
+
+module _ (nodes : List ℕ) (i b n r : ℕ) (hit : ℕ → Bool) (old now : Bool) (lt : i < length nodes) (before : now ≡ (old || (eqb r n && (is_among (take i nodes) b && hit b)))) where
+  at_node : eqb b (get_or nodes i 0) ≡ true → hit b ≡ hit (get_or nodes i 0)
+  at_node e = ap hit (eqb-true _ _ e)
+
+  join_hit : (o e a k h : Bool) → (k ≡ true → h ≡ true) → ((o || (e && (a && h))) || (e && k)) ≡ (o || (e && ((a || k) && h)))
+  join_hit true e a k h is = refl
+  join_hit false false a k h is = refl
+  join_hit false true true k true is = refl
+  join_hit false true true true false is = sym (is refl)
+  join_hit false true true false false is = refl
+  join_hit false true false true h is = sym (is refl)
+  join_hit false true false false h is = refl
+
+  skip_hit : (o e a k h : Bool) → (k ≡ true → h ≡ false) → (o || (e && (a && h))) ≡ (o || (e && ((a || k) && h)))
+  skip_hit true e a k h is = refl
+  skip_hit false false a k h is = refl
+  skip_hit false true true k h is = refl
+  skip_hit false true false true h is = sym (is refl)
+  skip_hit false true false false h is = refl
+
+  pub above_more : (new : Bool) → hit (get_or nodes i 0) ≡ true → new ≡ (now || (eqb r n && eqb b (get_or nodes i 0))) → new ≡ (old || (eqb r n && (is_among (take (i + 1) nodes) b && hit b)))
+  above_more new is here = here ∙ ap (λ z. z || (eqb r n && eqb b (get_or nodes i 0))) before ∙ join_hit old (eqb r n) (is_among (take i nodes) b) (eqb b (get_or nodes i 0)) (hit b) (λ e. at_node e ∙ is)
+      ∙ ap (λ z. old || (eqb r n && (z && hit b))) (sym (among_more nodes i b lt))
+
+  pub above_same : hit (get_or nodes i 0) ≡ false → now ≡ (old || (eqb r n && (is_among (take (i + 1) nodes) b && hit b)))
+  above_same is = before ∙ skip_hit old (eqb r n) (is_among (take i nodes) b) (eqb b (get_or nodes i 0)) (hit b) (λ e. at_node e ∙ is) ∙ ap (λ z. old || (eqb r n && (z && hit b))) (sym (among_more nodes i b lt))
+
+pub next_below : (y i : ℕ) (f : ℕ → Bool) → ((ltb y i && f y) || (eqb y i && f i)) ≡ (ltb y (i + 1) && f y)
+next_below y i f = elim (cases_order y i) [
+  | inl e ↦ (let a : ltb y i ≡ false = le-ltb _ _ (omega arith) in let b : eqb y i ≡ true = eq-eqb _ _ e in let c : ltb y (i + 1) ≡ true = lt-ltb _ _ (omega arith) in let d : f i ≡ f y = ap f (sym e) in rw (a, b, c, d) refl)
+  | inr o ↦ elim o [
+    | inl less ↦ (let a : ltb y i ≡ true = lt-ltb _ _ less in let b : eqb y i ≡ false = ne_eqb _ _ (λ e. omega arith) in let c : ltb y (i + 1) ≡ true = lt-ltb _ _ (omega arith) in rw (a, b, c) (or_none (f y)))
+    | inr more ↦ (let a : ltb y i ≡ false = le-ltb _ _ (omega arith) in let b : eqb y i ≡ false = ne_eqb _ _ (λ e. omega arith) in let c : ltb y (i + 1) ≡ false = le-ltb _ _ (omega arith) in rw (a, b, c) refl)
+  ]
+]
+
+-- a target more
+pub taken_more : (o a s f : Bool) → ((o && not a) && (not s || not f)) ≡ (o && not ((s && f) || a))
+taken_more false a s f = refl
+taken_more true true true true = refl
+taken_more true true true false = refl
+taken_more true true false f = refl
+taken_more true false true true = refl
+taken_more true false true false = refl
+taken_more true false false f = refl
+
+pub cleared_more : (x a p : Bool) → ((x && not a) && not p) ≡ (x && not (a || p))
+cleared_more false a p = refl
+cleared_more true true p = refl
+cleared_more true false p = refl

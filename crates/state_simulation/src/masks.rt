@@ -1,0 +1,100 @@
+//! Rows of the nodes that a round leaves above the nodes that step to a target.
+ghost use Rattle.std.specs.Prelude.{◌≡◌, ◌*◌, ◌<◌, ◌≤◌, ◌==◌, ◌&&◌, ◌||◌, ℕ, All, false, length, not};
+ghost use Rattle.bit_rows.specs.Bits.{has};
+ghost use Rattle.bit_rows.specs.Tables.{has_at};
+ghost use Rattle.graph_base.specs.Runs.{has_step, is_listener, place_of, rank_at};
+ghost use Rattle.reach_prune.specs.Searches.{is_among};
+ghost use Rattle.relation_law.specs.Numbers.{any_below};
+ghost use Rattle.relation_law.specs.Relations.{no_worse};
+ghost use Rattle.relation_law.specs.Rounds.{fails_at, has_answer, is_heard_there, is_looped};
+ghost use Rattle.state_simulation.specs.Looked.{shown};
+ghost use Rattle.state_simulation.specs.Targets.{AreNodeRows, gone_in};
+
+use crate::maps::Maps;
+use crate::pairs::is_no_worse;
+use bit_rows::{Rows, clear_row, set_bit};
+use graph_base::Graph;
+
+/// Makes the mask that of a target: it has the nodes for which no rule fails at a step to it.
+pub fn make_mask(mask: &mut [u64], maps: &Maps, onwards: &Rows, left: &Rows, t: u32)
+    requires onwards { AreNodeRows maps.now.graph.now onwards.now }
+    requires left { AreNodeRows maps.now.graph.now left.now }
+    requires mask { length mask.old ≡ onwards.now.width }
+    requires room { length maps.now.graph.now.nodes ≤ 64 * length mask.old }
+    requires t { t < length maps.now.graph.now.nodes }
+    ensures len { length mask.new ≡ length mask.old }
+    ensures bits { (m : ℕ) → m < length maps.now.graph.now.nodes → has mask.new m ≡ not (fails_at (shown maps.now.graph.now) (has_at onwards.now) (gone_in left.now) m t) }
+{
+    mask.fill(0);
+    if maps.graph().hears(t) {
+        add_hearers(mask, maps, t);
+    } else {
+        add_answers(mask, maps, left, t);
+        clear_loops(mask, maps, onwards, left, t);
+    }
+}
+
+/// Sets the bits of these nodes.
+fn set_each(mask: &mut [u64], nodes: &[u32])
+    requires { All (λ n. n < 64 * length mask.old) nodes.now }
+    ensures len { length mask.new ≡ length mask.old }
+    ensures bits { (b : ℕ) → has mask.new b ≡ (has mask.old b || is_among nodes.now b) }
+{
+    for node in nodes {
+        set_bit(mask, *node);
+    }
+}
+
+/// Sets who steps to a node at the location of t that doesn't hear and is in t's row.
+fn add_answers(mask: &mut [u64], maps: &Maps, left: &Rows, t: u32)
+    requires left { AreNodeRows maps.now.graph.now left.now }
+    requires mask { length maps.now.graph.now.nodes ≤ 64 * length mask.old }
+    requires t { t < length maps.now.graph.now.nodes }
+    ensures len { length mask.new ≡ length mask.old }
+    ensures bits { (m : ℕ) → has mask.new m ≡ (has mask.old m || has_answer (shown maps.now.graph.now) (gone_in left.now) m t) }
+{
+    for s in maps.peers(t) {
+        if left.get(t, *s) && !maps.graph().hears(*s) {
+            set_each(mask, maps.before(*s));
+        }
+    }
+}
+
+/// Sets who steps to a node at the location of t that hears, with no worse a rank than t.
+fn add_hearers(mask: &mut [u64], maps: &Maps, t: u32)
+    requires mask { length maps.now.graph.now.nodes ≤ 64 * length mask.old }
+    requires t { t < length maps.now.graph.now.nodes }
+    ensures len { length mask.new ≡ length mask.old }
+    ensures bits { (m : ℕ) → has mask.new m ≡ (has mask.old m || is_heard_there (shown maps.now.graph.now) m t) }
+{
+    for s in maps.peers(t) {
+        if is_hearer(maps.graph(), *s, t) {
+            set_each(mask, maps.before(*s));
+        }
+    }
+}
+
+/// Whether s hears, with no worse a rank than t.
+fn is_hearer(graph: &Graph, s: u32, t: u32) -> bool
+    requires s { s < length graph.now.nodes }
+    requires t { t < length graph.now.nodes }
+    ensures { result ≡ (is_listener graph.now s && no_worse (rank_at graph.now s) (rank_at graph.now t)) }
+{
+    graph.hears(s) && is_no_worse(graph.rank(s), graph.rank(t))
+}
+
+/// Clears what can be reached from a node at the location of t that isn't in t's row.
+fn clear_loops(mask: &mut [u64], maps: &Maps, onwards: &Rows, left: &Rows, t: u32)
+    requires onwards { AreNodeRows maps.now.graph.now onwards.now }
+    requires left { AreNodeRows maps.now.graph.now left.now }
+    requires mask { length mask.old ≡ onwards.now.width }
+    requires t { t < length maps.now.graph.now.nodes }
+    ensures len { length mask.new ≡ length mask.old }
+    ensures bits { (m : ℕ) → has mask.new m ≡ (has mask.old m && not (is_looped (shown maps.now.graph.now) (has_at onwards.now) (gone_in left.now) m t)) }
+{
+    for k in maps.peers(t) {
+        if !left.get(t, *k) {
+            clear_row(mask, onwards.row(*k));
+        }
+    }
+}

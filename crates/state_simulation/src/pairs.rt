@@ -1,0 +1,64 @@
+//! The pairs that the rule of ranks leaves.
+ghost use Rattle.std.specs.Prelude.{◌≡◌, ◌<◌, ◌&&◌, ◌||◌, ◌==◌, ℕ, IfOk, length, not};
+ghost use Rattle.bit_rows.specs.Tables.{IsSameSize, has_at};
+ghost use Rattle.relation_law.specs.Relations.{no_worse};
+ghost use Rattle.relation_law.specs.Rounds.{same_place};
+ghost use Rattle.relation_law.specs.Views.{view_of};
+ghost use Rattle.state_simulation.specs.Targets.{AreNodeRows, IsWide, is_outranked as is_outranked_in};
+
+use crate::maps::Maps;
+use bit_rows::Rows;
+use graph_base::Graph;
+use net_base::LocSet;
+use outside::NoMemory;
+use std::alloc::Global;
+
+/// For each node the nodes at its location that don't have a worse rank, where that is claimed.
+pub fn ranked_pairs(alloc: Global, maps: &Maps, claimed: &LocSet) -> Result<Rows, NoMemory>
+    ensures rows { IfOk result (AreNodeRows maps.now.graph.now) }
+    ensures wide { IfOk result (λ rows. IsWide (length maps.now.graph.now.nodes) rows.width) }
+    ensures bits { IfOk result (λ rows. (m n : ℕ) → m < length maps.now.graph.now.nodes → n < length maps.now.graph.now.nodes → has_at rows n m
+        ≡ (same_place (view_of maps.now.graph.now claimed.now) m n && not (is_outranked_in (view_of maps.now.graph.now claimed.now) m n))) }
+{
+    let size = maps.graph().nodes().len() as u32;
+    let mut rows = Rows::new(alloc, size, size)?;
+    for n in 0..size {
+        add_above(&mut rows, maps, claimed, n);
+    }
+    Ok(rows)
+}
+
+/// Sets who of the nodes at the location of n doesn't have a worse rank, where that is claimed.
+fn add_above(rows: &mut Rows, maps: &Maps, claimed: &LocSet, n: u32)
+    requires rows { AreNodeRows maps.now.graph.now rows.old }
+    requires n { n < length maps.now.graph.now.nodes }
+    ensures size { IsSameSize rows.new rows.old }
+    ensures bits { (r b : ℕ) → r < length maps.now.graph.now.nodes → b < length maps.now.graph.now.nodes → has_at rows.new r b
+        ≡ (has_at rows.old r b || (r == n && (same_place (view_of maps.now.graph.now claimed.now) b n && not (is_outranked_in (view_of maps.now.graph.now claimed.now) b n)))) }
+{
+    for m in maps.peers(n) {
+        if !is_outranked(maps.graph(), claimed, *m, n) {
+            rows.set(n, *m);
+        }
+    }
+}
+
+/// Whether the location of n is claimed, and m has a worse rank.
+fn is_outranked(graph: &Graph, claimed: &LocSet, m: u32, n: u32) -> bool
+    requires m { m < length graph.now.nodes }
+    requires n { n < length graph.now.nodes }
+    ensures { result ≡ is_outranked_in (view_of graph.now claimed.now) m n }
+{
+    claimed.holds(graph.location(n)) && !is_no_worse(graph.rank(m), graph.rank(n))
+}
+
+/// Whether the first rank is no worse than the second; to have none is worst.
+pub fn is_no_worse(one: Option<u32>, other: Option<u32>) -> bool
+    ensures { result ≡ no_worse one other }
+{
+    match (one, other) {
+        (_, None) => true,
+        (None, Some(_)) => false,
+        (Some(one), Some(other)) => one <= other,
+    }
+}
