@@ -1,7 +1,7 @@
 -- What the lines of a block say.
-use Rattle.std.proofs.Common.{◌≡◌, ℕ, Bool, true, false, List, [], ◌∷◌, Some, map, refl, ap, IsTrue}
+use Rattle.std.proofs.Common.{◌≡◌, ℕ, Bool, true, false, List, [], ◌∷◌, Some, refl, ap, IsTrue}
 use Rattle.std.specs.Prelude.{◌||◌, ◌&&◌, ◌==◌, MatchBool, if◌then◌else◌}
-use Rattle.std.specs.List.{list_any, find, AllByRecursion}
+use Rattle.std.specs.List.{find, AllByRecursion}
 use Rattle.net_base.specs.declared.numbers.Tag.{Tag}
 use Rattle.net_base.specs.Numbers.{no_tag, is_tag}
 use Rattle.net_base.specs.Network.{PlainNet}
@@ -11,16 +11,6 @@ use Rattle.config_base.specs.declared.config.Rule.{Rule}
 use Rattle.config_base.specs.declared.config.Own.{Own}
 use Rattle.config_base.specs.Configs.{PlainConfig}
 use Rattle.config_base.specs.Lines.{same_tag, router_at, class_of, own_tag}
-
-pub list_any-map : {X Y : Type 0} (p : Y → Bool) (f : X → Y) (xs : List X) → list_any p (map f xs) ≡ list_any (λ x. p (f x)) xs
-list_any-map p f [] = refl
-list_any-map p f (x ∷ xs) = ap (λ b. p (f x) || b) (list_any-map p f xs)
-
-pub if-true : {X : Type 0} (b : Bool) (x y : X) → b ≡ true → (if b then x else y) ≡ x
-if-true b x y h = rw h refl
-
-pub if-false : {X : Type 0} (b : Bool) (x y : X) → b ≡ false → (if b then x else y) ≡ y
-if-false b x y h = rw h refl
 
 -- in the block of a peer no import names a tag, so the one without a tag is the one of the class
 pub line_wanted : (class : ℕ) (tag wanted : Tag) (peer : Bool) (rules : List Rule)

@@ -7,6 +7,7 @@ use Rattle.std.specs.Fn.{Mut, Called, ComputesKey}
 use Rattle.std.proofs.Common.{Bor}
 use Rattle.std.proofs.lemmas.List.Sorted.{IsPartitionPoint-from_clause}
 use Rattle.std.proofs.lemmas.Bool.Decides.{nat_tests}
+use Rattle.list_laws.proofs.Tests.{list_any-find}
 use Rattle.config_base.specs.Configs.{Key, IsBelow, Ascend}
 
 -- the first key stands above the second
@@ -36,14 +37,6 @@ kept p (Some x) = if p x then Some x else None
 abbrev pub passes : {X : Type 0} → (X → Bool) → Option X → Bool
 passes p None = false
 passes p (Some x) = p x
-
-list_any-find : {X : Type 0} (p : X → Bool) (xs : List X) → list_any p xs ≡ is_some (find p xs)
-list_any-find p [] = refl
-list_any-find p (x ∷ xs) = at_first (p x) refl (list_any-find p xs)
-  where
-    at_first : (b : Bool) → p x ≡ b → list_any p xs ≡ is_some (find p xs) → list_any p (x ∷ xs) ≡ is_some (find p (x ∷ xs))
-    at_first true is later = rw is refl
-    at_first false is later = rw is later
 
 is_some-kept : {X : Type 0} (p : X → Bool) (o : Option X) → is_some (kept p o) ≡ passes p o
 is_some-kept p None = refl

@@ -1,4 +1,2 @@
 pub mod Configs
-pub mod Evidence
 pub mod Lines
-pub mod Made

@@ -38,34 +38,44 @@ block_at net config r z =
     same_kind true b = b
     same_kind false b = not b
 
--- the tag that goes with a route over an export line: it's removed towards peers
+-- the tag that goes with a route over an export line of a block, if one permits it: it's removed towards peers
+abbrev pub export_by : PlainNet → ℕ → ℕ → Tag → Session → Option Tag
+export_by net class to tag b =
+    if list_any (λ (e : Export). e.class == class && same_tag e.tag tag) b.exports
+    then Some (if is_peer net to then no_tag else tag)
+    else None
+
 abbrev pub export_of : PlainNet → PlainConfig → ℕ → ℕ → ℕ → Tag → Option Tag
-export_of net config class from to tag = option_and_then permitted (block_at net config from to)
-  where
-    permitted : Session → Option Tag
-    permitted b = if list_any (λ (e : Export). e.class == class && same_tag e.tag tag) b.exports
-        then Some (if is_peer net to then no_tag else tag)
-        else None
+export_of net config class from to tag = option_and_then (export_by net class to tag) (block_at net config from to)
 
 -- the numbers on a path
 abbrev pub as_path : PlainNet → List ℕ → List ℕ
 as_path net path = map (asn_of net) path
 
--- the tag and the preference that an import line gives a neighbour's route, whose path begins with the neighbour
-abbrev pub import_of : PlainNet → PlainConfig → ℕ → ℕ → ℕ → List ℕ → Tag → Option (Tag × ℕ)
-import_of net config class at from path tag = if loops then None else option_and_then (λ (b : Session). found (find applies b.imports)) (block_at net config at from)
-  where
-    loops : Bool
-    loops = if is_peer net from
-        then list_any (λ n. list_any (λ (r : Site). r.asn == n) net.routers) (as_path net path)
-        else list_any (λ n. n == asn_of net at) (as_path net path)
+-- the importer's number stands on the path or, where it comes from a peer, the number of any router
+abbrev pub is_looped : PlainNet → ℕ → ℕ → List ℕ → Bool
+is_looped net at from path =
+    if is_peer net from
+    then list_any (λ n. list_any (λ (r : Site). r.asn == n) net.routers) (as_path net path)
+    else list_any (λ n. n == asn_of net at) (as_path net path)
 
+-- the tag and the preference that the first import line of a block gives that applies
+abbrev pub line_by : PlainNet → ℕ → ℕ → Tag → Session → Option (Tag × ℕ)
+line_by net class from tag b = found (find applies b.imports)
+  where
     applies : Rule → Bool
     applies rule = rule.class == class && (is_peer net from || same_tag rule.tag tag)
 
     found : Option Rule → Option (Tag × ℕ)
     found None = None
     found (Some rule) = Some (rule.set, rule.pref)
+
+-- the tag and the preference that an import line of a block gives a neighbour's route, whose path begins with the neighbour
+abbrev pub import_by : PlainNet → ℕ → ℕ → ℕ → List ℕ → Tag → Session → Option (Tag × ℕ)
+import_by net class at from path tag b = if is_looped net at from path then None else line_by net class from tag b
+
+abbrev pub import_of : PlainNet → PlainConfig → ℕ → ℕ → ℕ → List ℕ → Tag → Option (Tag × ℕ)
+import_of net config class at from path tag = if is_looped net at from path then None else option_and_then (line_by net class from tag) (block_at net config at from)
 
 -- the tag of an origin's own route: that of its `originate` line with the prefix's class and the prefix, or none
 abbrev pub own_tag : PlainNet → PlainConfig → PlainPrefix → ℕ → Tag

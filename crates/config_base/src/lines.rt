@@ -5,11 +5,11 @@ ghost use Rattle.net_base.specs.Numbers.{no_tag};
 ghost use Rattle.net_base.specs.Prefixes.{same_prefix};
 ghost use Rattle.net_base.specs.Network.{asn_of, is_peer};
 ghost use Rattle.config_base.specs.Configs.{Ascend, HasTag, tag_key};
-ghost use Rattle.config_base.specs.Lines.{same_tag, as_path, export_of as exported, import_of as imported, own_tag as tag_of_own};
+ghost use Rattle.config_base.specs.Lines.{same_tag, is_looped as looped, export_by as exported_by, export_of as exported, import_by as imported_by, import_of as imported, own_tag as tag_of_own};
 
 use crate::blocks::{class_of, router_block, session_block};
 use crate::config::{Config, Own, Rule, Session};
-use crate::route::NO_TAG;
+use crate::route::{NO_TAG, Route};
 use crate::search::{has_export, import_line};
 use net_base::{Loc, Net, Prefix, Tag};
 
@@ -20,23 +20,31 @@ fn session_tag(net: &Net, neighbour: Loc, tag: Tag) -> Tag
     if net.is_peer(neighbour) { NO_TAG } else { tag }
 }
 
-/// The tag that goes with a route over an export line, or None where no line permits it. It is removed
+/// The tag that goes with a route over an export line of a block, or None where no line permits it. It is removed
 /// towards peers.
+pub fn export_by(net: &Net, block: &Session, class: u32, to: Loc, tag: Tag) -> Option<Tag>
+    requires { Ascend (map (λ e. tag_key e.class e.tag) block.now.exports) }
+    ensures { result ≡ exported_by net.now class to tag block.now }
+{
+    if !has_export(block.exports.as_slice(), class, tag) {
+        return None;
+    }
+    Some(session_tag(net, to, tag))
+}
+
+/// The tag that goes with a router's route over a session, or None where no line permits it.
 pub fn export_of(
     net: &Net,
     config: &Config,
     class: u32,
     from: Loc,
     to: Loc,
-    tag: Tag,
+    route: &Route,
 ) -> Option<Tag>
-    ensures { result ≡ exported net.now config.now class from to tag }
+    ensures { result ≡ exported net.now config.now class from to route.now.tag }
 {
     let block = session_block(net, config, from, to)?;
-    if !has_export(block.exports.as_slice(), class, tag) {
-        return None;
-    }
-    Some(session_tag(net, to, tag))
+    export_by(net, block, class, to, route.tag)
 }
 
 // The AS number of a location, 0 where the net has no such location.
@@ -75,7 +83,7 @@ fn has_number(net: &Net, path: &[Loc], asn: u32) -> bool
 // Whether the AS_PATH of a neighbour's route holds the importer's number or, where the neighbour is a peer,
 // the number of any router.
 fn is_looped(net: &Net, at: Loc, from: Loc, path: &[Loc]) -> bool
-    ensures { result ≡ (if is_peer net.now from then list_any (λ n. list_any (λ r. r.asn == n) net.now.routers) (as_path net.now path.now) else list_any (λ n. n == asn_of net.now at) (as_path net.now path.now)) }
+    ensures { result ≡ looped net.now at from path.now }
 {
     if net.is_peer(from) {
         has_router_number(net, path)
@@ -94,9 +102,32 @@ fn line_for(net: &Net, block: &Session, class: u32, from: Loc, tag: Tag) -> Opti
     import_line(block.imports.as_slice(), class, session_tag(net, from, tag))
 }
 
-/// The tag and the preference that an import line gives a neighbour's route, whose path begins with the
+/// The tag and the preference that an import line of a block gives a neighbour's route, whose path begins with the
 /// neighbour, or None where no line permits it. A route is refused where its AS_PATH holds the importer's
 /// number (RFC 4271, 9.1.2) or, where it comes from a peer, the number of any router.
+pub fn import_by(
+    net: &Net,
+    block: &Session,
+    class: u32,
+    at: Loc,
+    from: Loc,
+    path: &[Loc],
+    tag: Tag,
+) -> Option<(Tag, u32)>
+    requires order { Ascend (map (λ r. tag_key r.class r.tag) block.now.imports) }
+    requires tags { AllByRecursion (λ r. HasTag block.now r.tag) block.now.imports }
+    requires kind { block.now.peer ≡ is_peer net.now from }
+    ensures { result ≡ imported_by net.now class at from path.now tag block.now }
+{
+    if is_looped(net, at, from, path) {
+        return None;
+    }
+    let rule = line_for(net, block, class, from, tag)?;
+    Some((rule.set, rule.pref))
+}
+
+/// The tag and the preference that a router gives what a neighbour sends over a session, or None where no line
+/// permits it.
 pub fn import_of(
     net: &Net,
     config: &Config,
@@ -108,12 +139,8 @@ pub fn import_of(
 ) -> Option<(Tag, u32)>
     ensures { result ≡ imported net.now config.now class at from path.now tag }
 {
-    if is_looped(net, at, from, path) {
-        return None;
-    }
     let block = session_block(net, config, at, from)?;
-    let rule = line_for(net, block, class, from, tag)?;
-    Some((rule.set, rule.pref))
+    import_by(net, block, class, at, from, path, tag)
 }
 
 // The `originate` line of a class and a prefix.

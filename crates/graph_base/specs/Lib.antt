@@ -1,5 +1,7 @@
 pub mod Graphs
-pub mod Locations
+pub mod Least
+pub mod Ranked
+pub mod Refuting
 pub mod Rules
 pub mod Runs
 pub mod Walks

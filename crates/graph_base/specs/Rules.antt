@@ -39,14 +39,28 @@ steps_on g n t = has_step g n t && not (is_listener g t)
 abbrev pub is_heard : PlainGraph → ℕ → ℕ → Bool
 is_heard g n t = has_step g n t && is_listener g t
 
--- The rules that keep a router's choice from costing it, or who hears from it, a better path: where m is over n,
+-- ---- the rules that keep a router's choice from costing it, or who hears from it, a better path: where m is over n,
+
+-- at a claimed router m has no worse a rank
+abbrev pub KeepsRank : PlainNet → (ℕ → Type 0) → PlainGraph → (ℕ → ℕ) → ℕ → ℕ → Type 0
+KeepsRank net Claimed g number m n = (i : ℕ) → IsOver net g number m n → Claimed (place_of g n) → rank_at g n ≡ Some i → (j : ℕ) × (rank_at g m ≡ Some j) × (j ≤ i)
+
+-- m steps to each router to which n does, and to a node of no less a number
+abbrev pub KeepsStep : PlainNet → PlainGraph → (ℕ → ℕ) → ℕ → ℕ → Type 0
+KeepsStep net g number m n = (t : ℕ) → IsOver net g number m n → IsTrue (steps_on g n t) → (s : ℕ) × IsTrue (steps_on g m s) × (place_of g s ≡ place_of g t) × (number t ≤ number s)
+
+-- no node there from which m can be reached has a lesser number than the one to which n steps
+abbrev pub KeepsLoop : PlainNet → PlainGraph → (ℕ → ℕ) → ℕ → ℕ → Type 0
+KeepsLoop net g number m n = (t k : ℕ) → IsOver net g number m n → IsTrue (steps_on g n t) → k < length g.nodes → place_of g k ≡ place_of g t → Reaches g k m → number t ≤ number k
+
+-- and m is heard at each peer at which n is, with no worse a rank
+abbrev pub KeepsListener : PlainNet → Bool → PlainGraph → (ℕ → ℕ) → ℕ → ℕ → Type 0
+KeepsListener net external g number m n = (t i : ℕ) → external ≡ false → IsOver net g number m n → IsTrue (is_heard g n t) → rank_at g t ≡ Some i
+    → (s j : ℕ) × IsTrue (is_heard g m s) × (place_of g s ≡ place_of g t) × (rank_at g s ≡ Some j) × (j ≤ i)
+
+-- The numbers keep each rule at each pair of nodes.
 pub record MeetsRules (net : PlainNet) (Claimed : ℕ → Type 0) (external : Bool) (g : PlainGraph) (number : ℕ → ℕ) : Type 0 where
-  -- at a claimed router m has no worse a rank
-  pub rank : (m n i : ℕ) → IsOver net g number m n → Claimed (place_of g n) → rank_at g n ≡ Some i → (j : ℕ) × (rank_at g m ≡ Some j) × (j ≤ i)
-  -- m steps to each router to which n does, and to a node of no less a number
-  pub step : (m n t : ℕ) → IsOver net g number m n → IsTrue (steps_on g n t) → (s : ℕ) × IsTrue (steps_on g m s) × (place_of g s ≡ place_of g t) × (number t ≤ number s)
-  -- no node there from which m can be reached has a lesser number than the one to which n steps
-  pub loop : (m n t k : ℕ) → IsOver net g number m n → IsTrue (steps_on g n t) → k < length g.nodes → place_of g k ≡ place_of g t → Reaches g k m → number t ≤ number k
-  -- and m is heard at each peer at which n is, with no worse a rank
-  pub listener : (m n t i : ℕ) → external ≡ false → IsOver net g number m n → IsTrue (is_heard g n t) → rank_at g t ≡ Some i
-      → (s j : ℕ) × IsTrue (is_heard g m s) × (place_of g s ≡ place_of g t) × (rank_at g s ≡ Some j) × (j ≤ i)
+  pub rank : (m n : ℕ) → KeepsRank net Claimed g number m n
+  pub step : (m n : ℕ) → KeepsStep net g number m n
+  pub loop : (m n : ℕ) → KeepsLoop net g number m n
+  pub listener : (m n : ℕ) → KeepsListener net external g number m n

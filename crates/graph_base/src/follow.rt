@@ -1,6 +1,6 @@
 //! Steps that are followed one by one.
 ghost use Rattle.std.specs.Prelude.{◌≡◌, ℕ, ◌<◌, IfOk, IsTrue, length};
-ghost use Rattle.graph_base.specs.Runs.{has_step, is_start as is_start_of, place_of as place_of_node, step_at};
+ghost use Rattle.graph_base.specs.Runs.{has_step, is_start as is_start_of, step_at};
 ghost use Rattle.graph_base.specs.Walks.{IsEnteredFromBefore, IsFirstBefore, IsShownWalk};
 
 use crate::graph::Graph;
@@ -14,7 +14,7 @@ pub fn step_of(graph: &Graph, node: u32, at: Loc) -> Option<u32>
     ensures { result ≡ step_at graph.now node at }
 {
     for (from, to) in graph.steps() {
-        if *from == node && place_of(graph, *to) == at {
+        if *from == node && graph.location(*to) == at {
             return Some(*to);
         }
     }
@@ -31,19 +31,11 @@ pub fn walk_of(alloc: Global, graph: &Graph, node: u32) -> Result<List<Loc>, NoM
     let mut walk = List::new(alloc);
     let mut last = node;
     'back: while !is_start(graph, last) {
-        walk.push(place_of(graph, last))?;
+        walk.push(graph.location(last))?;
         last = first_before(graph, last);
     }
-    walk.push(place_of(graph, last))?;
+    walk.push(graph.location(last))?;
     Ok(walk)
-}
-
-/// The location of a node.
-fn place_of(graph: &Graph, node: u32) -> Loc
-    requires { node < length graph.now.nodes }
-    ensures { result ≡ place_of_node graph.now node }
-{
-    graph.nodes()[node as usize].loc
 }
 
 fn is_start(graph: &Graph, node: u32) -> bool

@@ -1,7 +1,8 @@
 //! Graphs of cases.
-ghost use Rattle.std.specs.Prelude.{◌≡◌};
+ghost use Rattle.std.specs.Prelude.{◌≡◌, ◌<◌, IfOk, length};
 
 use net_base::{List, Loc, Tag};
+use std::alloc::{AllocError, Global};
 use std::marker::Model;
 
 /// A location with what is known of the walk that led there from an origin.
@@ -34,6 +35,7 @@ impl Model for Graph {
 
 impl Graph {
     ghost use Rattle.graph_base.specs.Graphs.{IsGraph};
+    ghost use Rattle.graph_base.specs.Runs.{is_listener, place_of, rank_at};
 
     /// The graph of these nodes, starts and steps.
     pub fn new(nodes: List<Node>, starts: List<u32>, steps: List<(u32, u32)>) -> Graph
@@ -69,6 +71,41 @@ impl Graph {
         ensures rules { IsGraph self.now }
     {
         self.steps.as_slice()
+    }
+
+    /// The location of a node.
+    pub fn location(&self, node: u32) -> Loc
+        requires { node < length self.now.nodes }
+        ensures { result ≡ place_of self.now node }
+    {
+        self.nodes.as_slice()[node as usize].loc
+    }
+
+    /// Whether a node stands at a peer that hears.
+    pub fn hears(&self, node: u32) -> bool
+        requires { node < length self.now.nodes }
+        ensures { result ≡ is_listener self.now node }
+    {
+        self.nodes.as_slice()[node as usize].listener
+    }
+
+    /// The rank of a node, if it has one.
+    pub fn rank(&self, node: u32) -> Option<u32>
+        requires { node < length self.now.nodes }
+        ensures { result ≡ rank_at self.now node }
+    {
+        self.nodes.as_slice()[node as usize].rank
+    }
+
+    /// A copy of the graph.
+    pub fn copy(&self, alloc: Global) -> Result<Graph, AllocError>
+        ensures { IfOk result (λ copy. copy ≡ self.now) }
+    {
+        Ok(Graph {
+            nodes: self.nodes.copy(alloc)?,
+            starts: self.starts.copy(alloc)?,
+            steps: self.steps.copy(alloc)?,
+        })
     }
 }
 

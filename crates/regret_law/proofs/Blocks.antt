@@ -1,23 +1,26 @@
 -- Blocks of a configuration are found by the names of the network.
-use Rattle.std.proofs.Common.{◌≡◌, ℕ, zero, suc, ◌+◌, ◌<◌, Bool, true, false, List, [], ◌∷◌, ◌++◌, length, Option, Some, None, refl, arith, sym, ap, ◌∙◌, inl, inr, subst}
-use Rattle.std.specs.Prelude.{◌&&◌, not, option_map, slice_get, filter}
+use Rattle.std.proofs.Common.{◌≡◌, ℕ, zero, suc, ◌+◌, ◌<◌, Bool, true, false, List, [], ◌∷◌, length, Option, Some, None, refl, arith, sym, ap, ◌∙◌, inl, inr, subst}
+use Rattle.std.specs.Prelude.{◌&&◌, not, option_map, slice_get}
 use Rattle.std.specs.Option.{option_map_or, option_and_then}
 use Rattle.std.specs.List.{find}
 use Rattle.std.specs.Str.{bytes_eq}
-use Rattle.std.proofs.lemmas.Bool.{and_parts, and_from, cases_Bool, cases_lt, ltb-true, true≢false}
+use Rattle.std.proofs.lemmas.Bool.{and_parts, and_from, cases_lt, ltb-true, true≢false}
 use Rattle.std.proofs.lemmas.Option.{slice_get_cases}
 use Rattle.std.proofs.lemmas.Slice.Eq.{bytes_eq-Decides}
+use Rattle.list_laws.proofs.Keys.{place_by_key}
+use Rattle.list_laws.proofs.Tests.{find_from, find_parts}
+use Rattle.list_laws.proofs.Items.{slice_get_in_front, slice_get-there}
+use Rattle.list_laws.proofs.Members.{IsIn-filter_parts, IsIn-filter}
 use Rattle.net_base.specs.declared.net.Site.{Site}
 use Rattle.net_base.specs.Network.{PlainNet, IsNet, sites, site_of, is_named, is_peer, is_router, linked}
 use Rattle.path_words.specs.Policies.{PlainPolicy}
-use Rattle.graph_base.specs.Locations.{numbers_below, in_order, neighbours}
+use Rattle.net_base.specs.Locations.{numbers_below, in_order, neighbours}
 use Rattle.config_base.specs.declared.config.RouterConfig.{RouterConfig}
 use Rattle.config_base.specs.declared.config.Session.{Session}
 use Rattle.config_base.specs.Configs.{PlainConfig}
 use Rattle.config_base.specs.Lines.{router_at, block_at}
-use Rattle.config_base.specs.Made.{PlainCaseEvidence, IsBlock, AreBlocks, IsRouterBlock, IsConfigOf}
-use Rattle.regret_law.proofs.Lists.{place_by_key, found_at, is_found}
-use Rattle.regret_law.proofs.Sites.{linked_known, in_front}
+use Rattle.evidence_base.specs.Made.{PlainCaseEvidence, IsBlock, AreBlocks, IsRouterBlock, IsConfigOf}
+use Rattle.regret_law.proofs.Sites.{linked_known}
 
 -- ---- names
 
@@ -51,49 +54,21 @@ one_name net k l name rules h g =
 
 -- ---- neighbours
 
-at_end : (xs : List ℕ) (x : ℕ) → slice_get (xs ++ x ∷ []) (length xs) ≡ Some x
-at_end [] x = refl
-at_end (y ∷ ys) x = at_end ys x
-
-in_filter : {A : Type 0} (p : A → Bool) (xs : List A) (i : ℕ) (x : A) → slice_get (filter p xs) i ≡ Some x → p x ≡ true
-in_filter p [] i x h = absurd cc
-in_filter p (y ∷ ys) zero x h = elim (cases_Bool (p y)) [
-  | inr t ↦ let later : slice_get (filter p ys) 0 ≡ Some x = sym (rw t refl) ∙ h in in_filter p ys 0 x later
-  | inl t ↦ let here : Some y ≡ Some x = sym (rw t refl) ∙ h in let same : y ≡ x = cc in ap p (sym same) ∙ t
-]
-in_filter p (y ∷ ys) (suc i) x h = elim (cases_Bool (p y)) [
-  | inr t ↦ let later : slice_get (filter p ys) (suc i) ≡ Some x = sym (rw t refl) ∙ h in in_filter p ys (suc i) x later
-  | inl t ↦ let later : slice_get (filter p ys) i ≡ Some x = sym (rw t refl) ∙ h in in_filter p ys i x later
-]
-
-of_filter : {A : Type 0} (p : A → Bool) (xs : List A) (i : ℕ) (x : A) → slice_get xs i ≡ Some x → p x ≡ true → (j : ℕ) × (slice_get (filter p xs) j ≡ Some x)
-of_filter p [] i x at h = absurd cc
-of_filter p (y ∷ ys) zero x at h =
-    let same : y ≡ x = cc in
-    let here : p y ≡ true = ap p same ∙ h in
-    (0, rw here (ap Some same))
-of_filter p (y ∷ ys) (suc i) x at h =
-    let later = of_filter p ys i x at h in
-    elim (cases_Bool (p y)) [
-      | inl t ↦ (suc later.0, rw t later.1)
-      | inr t ↦ (later.0, rw t later.1)
-    ]
-
 below_at : (n i : ℕ) → i < n → (j : ℕ) × (slice_get (numbers_below n) j ≡ Some i)
 below_at zero i less = absurd (omega (arith, less))
 below_at (suc n) i less = elim (cases_lt i n) [
-  | inl t ↦ let early = below_at n i t in (early.0, in_front (numbers_below n) (n ∷ []) early.0 i early.1)
-  | inr t ↦ let last : n ≡ i = omega (arith, t, less) in (length (numbers_below n), at_end (numbers_below n) n ∙ ap Some last)
+  | inl t ↦ let early = below_at n i t in (early.0, slice_get_in_front (numbers_below n) (n ∷ []) early.0 i early.1)
+  | inr t ↦ let last : n ≡ i = omega (arith, t, less) in (length (numbers_below n), slice_get-there (numbers_below n) n [] ∙ ap Some last)
 ]
 
 pub neighbour_linked : (net : PlainNet) (x i z : ℕ) → slice_get (neighbours net x) i ≡ Some z → linked net x z ≡ true
-neighbour_linked net x i z h = in_filter (linked net x) (in_order net) i z h
+neighbour_linked net x i z h = (IsIn-filter_parts (linked net x) (in_order net) z (i, h)).1
 
 pub linked_neighbour : (net : PlainNet) (x z : ℕ) → IsNet net → linked net x z ≡ true → (i : ℕ) × (slice_get (neighbours net x) i ≡ Some z)
 linked_neighbour net x z rules h =
     let known = (linked_known net x z rules h).1 in
     let at = below_at (length net.routers + length net.peers) z (ltb-true _ _ known) in
-    of_filter (linked net x) (in_order net) at.0 z at.1 h
+    IsIn-filter (linked net x) (in_order net) z (at.0, at.1) h
 
 -- ---- the block of a neighbour among the blocks
 
@@ -135,8 +110,8 @@ module _ (net : PlainNet) (policy : PlainPolicy) (cs : List PlainCaseEvidence) (
     | inl t ↦
         let test = λ (c : RouterConfig). is_named net c.name x in
         let here = made.routers x t.0 t.2 in
-        let found = is_found test config.routers x t.0 t.2 (named_router x t.0 here) in
-        let back = found_at test config.routers found.0 found.1 in
+        let found = find_from test config.routers x t.0 t.2 (named_router x t.0 here) in
+        let back = find_parts test config.routers found.0 found.1 in
         let there = made.routers back.0 found.0 back.1 in
         let same : back.0 ≡ x = one_name net back.0 x found.0.name rules (named_router back.0 found.0 there) back.2 in
         (found.0, rw router found.1, subst (λ l. IsRouterBlock net cs l found.0) same there)
@@ -164,8 +139,8 @@ module _ (net : PlainNet) (policy : PlainPolicy) (cs : List PlainCaseEvidence) (
       let r = router_found x router in
       let at = linked_neighbour net x z rules link in
       let b = block_there net cs x (neighbours net x) r.0.sessions at.0 z r.2.sessions at.1 in
-      let found = is_found (is_block net z) r.0.sessions at.0 b.0 b.1 (is_block-of x z b.0 b.2) in
-      let back = found_at (is_block net z) r.0.sessions found.0 found.1 in
+      let found = find_from (is_block net z) r.0.sessions at.0 b.0 b.1 (is_block-of x z b.0 b.2) in
+      let back = find_parts (is_block net z) r.0.sessions found.0 found.1 in
       (found.0, block_of x z (router_at net config x) r.0 found.0 r.1 found.1, (block_is x z back.0 r.0 found.0 r.2 back.1 back.2).1)
 
   -- and no other has one
@@ -174,5 +149,5 @@ module _ (net : PlainNet) (policy : PlainPolicy) (cs : List PlainCaseEvidence) (
   block_only x z b router h =
       let r = router_found x router in
       let there : find (is_block net z) r.0.sessions ≡ Some b = sym (ap (option_and_then (λ (c : RouterConfig). find (is_block net z) c.sessions)) r.1) ∙ h in
-      let back = found_at (is_block net z) r.0.sessions b there in
+      let back = find_parts (is_block net z) r.0.sessions b there in
       block_is x z back.0 r.0 b r.2 back.1 back.2

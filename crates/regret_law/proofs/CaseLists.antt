@@ -1,8 +1,7 @@
 -- The cases of a policy: those of originated prefixes, and external ones.
-use Rattle.std.proofs.Common.{◌≡◌, ℕ, zero, suc, ◌+◌, ◌-◌, ◌*◌, ◌/◌, ◌%◌, ◌^◌, ◌≤◌, true, false, List, [], ◌∷◌, ◌++◌, Option, Some, None, refl, arith, sym, ap, ◌∙◌, inl, inr, subst}
-use Rattle.std.specs.Prelude.{◌&&◌, ◌⊎◌, ◌==◌, nat_le}
+use Rattle.std.proofs.Common.{◌≡◌, ℕ, zero, suc, ◌-◌, ◌/◌, ◌%◌, ◌^◌, ◌≤◌, true, false, List, [], ◌∷◌, ◌++◌, Option, Some, None, refl, arith, sym, ap, ◌∙◌, inl, inr, subst}
+use Rattle.std.specs.Prelude.{◌&&◌, ◌==◌, nat_le}
 use Rattle.std.specs.List.{AllByRecursion}
-use Rattle.std.proofs.Math.Nat.{div-add-mod}
 use Rattle.std.proofs.lemmas.Bool.{and_parts, and_from, cases_Bool, eqb-true, eq-eqb, leb-true, le-leb}
 use Rattle.std.proofs.lemmas.Slice.Eq.{bytes_eq-Decides}
 use Rattle.net_base.specs.declared.loc.LocSet.{LocSet}
@@ -13,17 +12,11 @@ use Rattle.path_words.specs.declared.case.Case.{Case}
 use Rattle.path_words.specs.Policies.{PlainPolicy}
 use Rattle.path_words.specs.Governing.{governing}
 use Rattle.path_words.specs.Cases.{with_prefix, with_governed, originated_cases}
-use Rattle.config_base.specs.Made.{IsIn}
-use Rattle.regret_law.proofs.Sites.{in_front}
+use Rattle.list_laws.specs.Members.{IsIn}
+use Rattle.list_laws.proofs.Numbers.{same_multiple}
+use Rattle.list_laws.proofs.Members.{IsIn-push_cases}
 
 -- ---- one prefix
-
--- a multiple of m is told by its quotient
-same_multiple : (a b m : ℕ) → a % m ≡ 0 → b % m ≡ 0 → a / m ≡ b / m → a ≡ b
-same_multiple a b m clean other same =
-    let left : m * (a / m) + a % m ≡ a = div-add-mod a m in
-    let right : m * (b / m) + b % m ≡ b = div-add-mod b m in
-    sym left ∙ ap (λ k. m * (a / m) + k) (clean ∙ sym other) ∙ ap (λ k. m * k + b % m) same ∙ right
 
 pub prefix_is : (p q : PlainPrefix) → p.bits ≡ q.bits → p.len ≡ q.len → p ≡ q
 prefix_is p q bits len = λ i. record { bits = bits i; len = len i }
@@ -47,24 +40,6 @@ contains-itself q = and_from _ _ (and_from _ _ (le-leb q.len q.len (omega arith)
 
 pub set_is : (s t : LocSet) → same_set s t ≡ true → s ≡ t
 set_is s t h = let e = (bytes_eq-Decides s.words t.words).0 h in λ i. record { words = e i }
-
--- ---- lists with one more item
-
-pub in_longer : {A : Type 0} (xs : List A) (x : A) → IsIn (xs ++ x ∷ []) x
-in_longer [] x = (0, refl)
-in_longer (y ∷ ys) x = let later = in_longer ys x in (suc later.0, later.1)
-
-pub stays_in : {A : Type 0} (xs : List A) (x y : A) → IsIn xs y → IsIn (xs ++ x ∷ []) y
-stays_in xs x y h = (h.0, in_front xs (x ∷ []) h.0 y h.1)
-
-was_in : {A : Type 0} (xs : List A) (x y : A) → IsIn (xs ++ x ∷ []) y → IsIn xs y ⊎ (x ≡ y)
-was_in [] x y (zero, h) = inr cc
-was_in [] x y (suc i, h) = absurd cc
-was_in (z ∷ xs) x y (zero, h) = inl (0, h)
-was_in (z ∷ xs) x y (suc i, h) = elim (was_in xs x y (i, h)) [
-  | inl t ↦ inl (suc t.0, t.1)
-  | inr t ↦ inr t
-]
 
 -- ---- the cases of originated prefixes
 
@@ -91,7 +66,7 @@ joined_case : (policy : PlainPolicy) (k : ℕ) (o : Origin) (c : Case) → IsOri
     → IsOriginatedCase policy (record c { prefixes = c.prefixes ++ o.prefix ∷ [] })
 joined_case policy k o c kept known governed number origins = record {
   inner = kept.inner;
-  each = λ q h. elim (was_in c.prefixes o.prefix q h) [
+  each = λ q h. elim (IsIn-push_cases c.prefixes o.prefix q h) [
     | inl t ↦ kept.each q t
     | inr t ↦ (o, known, t, ap (governing policy) (sym t) ∙ governed ∙ ap Some (sym number), sym origins)
   ];

@@ -1,7 +1,8 @@
 -- What the class of a prefix says of its statement and its origins.
-use Rattle.std.proofs.Common.{◌≡◌, ℕ, suc, ◌+◌, Bool, true, false, List, [], ◌∷◌, ◌++◌, length, Option, Some, None, refl, arith, sym, ap, ◌∙◌, inl, inr, subst}
+use Rattle.std.proofs.Common.{◌≡◌, ℕ, suc, ◌+◌, Bool, true, false, List, [], length, Option, Some, None, refl, arith, sym, ap, ◌∙◌, inl, inr, subst}
 use Rattle.std.specs.Prelude.{◌&&◌, ◌⊎◌, ◌==◌, nat_le, slice_get, if◌then◌else◌}
 use Rattle.std.proofs.lemmas.Bool.{and_parts, and_from, and_right, cases_Bool, cases_lt, eqb-true, eq-eqb, ltb-true, le-ltb, lt-leb, true≢false, false_from_ne_true}
+use Rattle.std.proofs.lemmas.Option.{same_Some}
 use Rattle.net_base.specs.declared.loc.LocSet.{LocSet}
 use Rattle.net_base.specs.Network.{PlainNet, IsNet, is_location, is_peer, is_router}
 use Rattle.net_base.specs.Sets.{holds, set_of}
@@ -12,11 +13,14 @@ use Rattle.path_words.specs.declared.case.Case.{Case}
 use Rattle.path_words.specs.Policies.{PlainPolicy, PlainStatement}
 use Rattle.path_words.specs.Governing.{governing, governing_from, statement_of, originated_at, is_origin, is_origin_by}
 use Rattle.path_words.specs.Cases.{case_list, originated_cases, external_cases}
-use Rattle.config_base.specs.Made.{IsIn, statement_at}
-use Rattle.regret_law.specs.Passes.{IsPolicyOf}
-use Rattle.regret_law.proofs.Lists.{all_at, place_by_key, one_item}
-use Rattle.regret_law.proofs.Sites.{in_front}
-use Rattle.regret_law.proofs.Heard.{router_no_peer, router_known, some_or_none}
+use Rattle.evidence_base.specs.Made.{statement_at}
+use Rattle.list_laws.specs.Members.{IsIn}
+use Rattle.list_laws.proofs.Items.{same_item, slice_get_behind, slice_get_in_front}
+use Rattle.list_laws.proofs.Each.{AllByRecursion_at}
+use Rattle.list_laws.proofs.Keys.{place_by_key}
+use Rattle.list_laws.proofs.Options.{cases_Option}
+use Rattle.path_words.specs.Policies.{IsPolicyOf}
+use Rattle.net_base.proofs.RoutersAndPeers.{router_no_peer, router_known}
 use Rattle.regret_law.proofs.CaseLists.{IsOriginatedCase, originated_are}
 use Rattle.regret_law.proofs.ClassFound.{Names, names_each, class_in, originated_by, originated_some, class_named, class_passed}
 use Rattle.regret_law.proofs.ExternalFound.{statement_number, ungoverned, Known, external_of, class_none, class_external}
@@ -40,13 +44,6 @@ holds_peers net rules = λ i. λ l. at l i
           ∙ sym (false_from_ne_true (is_peer net l) (λ h. absurd (omega (arith, past, ltb-true l (length net.routers + length net.peers) (and_parts (nat_le (length net.routers) l) (is_location net l) h).1, rules.routers, rules.peers))))
     ]
 
-behind_front : {A : Type 0} (xs ys : List A) (i : ℕ) (x : A) → slice_get ys i ≡ Some x → slice_get (xs ++ ys) (length xs + i) ≡ Some x
-behind_front [] ys i x h = let same : 0 + i ≡ i = omega arith in ap (slice_get ys) same ∙ h
-behind_front (y ∷ xs) ys i x h = let same : length (y ∷ xs) + i ≡ suc (length xs + i) = omega arith in ap (slice_get (y ∷ xs ++ ys)) same ∙ behind_front xs ys i x h
-
-pub same_value : {A : Type 0} (x y : A) → Some x ≡ Some y → x ≡ y
-same_value x y h = cc
-
 one_more : (o : Option ℕ) (n m : ℕ) → o ≡ Some (1 + n) → n ≡ m → o ≡ Some (suc m)
 one_more o n m h same = h ∙ ap Some (omega (arith, same))
 
@@ -65,7 +62,7 @@ module _ (net : PlainNet) (policy : PlainPolicy) (p : PlainPrefix) (rules : IsNe
   one_origin : (o x : Origin) → IsIn policy.origins o → IsIn policy.origins x → o.prefix ≡ x.prefix → o ≡ x
   one_origin o x (i, at) (j, there) same =
       let place = place_by_key same_prefix (λ (y : Origin). y.prefix) policy.origins i j o x kept.rules.once at there (prefix_same o.prefix x.prefix same) (prefix_same x.prefix o.prefix (sym same)) in
-      one_item policy.origins i j o x at there place
+      same_item policy.origins i j o x at there place
     where
       prefix_same : (a b : PlainPrefix) → a ≡ b → same_prefix a b ≡ true
       prefix_same a b h = and_from (a.bits == b.bits) (a.len == b.len) (eq-eqb _ _ (ap (λ (q : PlainPrefix). q.bits) h)) (eq-eqb _ _ (ap (λ (q : PlainPrefix). q.len) h))
@@ -79,9 +76,9 @@ module _ (net : PlainNet) (policy : PlainPolicy) (p : PlainPrefix) (rules : IsNe
       let names : Names inner p = subst (Names inner) item.2 (names_each policy policy.origins [] item.1.0 (1 + number.0) item.0 item.1.1 (ap (governing policy) item.2 ∙ number.1)) in
       let found = class_named policy p prefix kept.prefixes inner outer 1 (originated_are policy) names in
       let c = found.1 in
-      let of_case = all_at (IsOriginatedCase policy) inner found.0 c (originated_are policy) found.3 in
+      let of_case = AllByRecursion_at (IsOriginatedCase policy) inner found.0 c (originated_are policy) found.3 in
       let back = of_case.each p found.4 in
-      let statement : c.statement ≡ suc number.0 = same_value c.statement (suc number.0) (sym back.3 ∙ one_more (governing policy p) number.0 number.0 number.1 refl) in
+      let statement : c.statement ≡ suc number.0 = same_Some c.statement (suc number.0) (sym back.3 ∙ one_more (governing policy p) number.0 number.0 number.1 refl) in
       let one = one_origin back.0 item.0 back.1 item.1 (back.2 ∙ sym item.2) in
       let origins : c.origins ≡ at = sym back.4 ∙ ap (λ (o : Origin). o.at) one ∙ item.3 in
       let same : holds c.origins ≡ is_origin net policy p = ap holds origins ∙ sym (ap (is_origin_by net) originated) in
@@ -90,7 +87,7 @@ module _ (net : PlainNet) (policy : PlainPolicy) (p : PlainPrefix) (rules : IsNe
         c,
         one_more (class_in policy p (case_list net policy) 1) found.0 found.0 found.2 refl,
         record {
-          at = in_front inner outer found.0 c found.3;
+          at = slice_get_in_front inner outer found.0 c found.3;
           number = ap (statement_at policy) statement ∙ number.2;
           same = same;
           known = λ l h. router_known net l (routers l h);
@@ -117,7 +114,7 @@ module _ (net : PlainNet) (policy : PlainPolicy) (p : PlainPrefix) (rules : IsNe
       let ext : outer ≡ external_cases net policy 1 policy.statements = rw some refl in
       let class = passed none ∙ ap (λ cs. class_in policy p cs (1 + length inner)) ext ∙ found.1 in
       let place : 1 + length inner + found.0 ≡ suc (length inner + found.0) = omega arith in
-      let there = behind_front inner outer found.0 (external_of net policy p (1 + number.0)) (ap (λ cs. slice_get cs found.0) ext ∙ found.2) in
+      let there = slice_get_behind inner outer found.0 (external_of net policy p (1 + number.0)) (ap (λ cs. slice_get cs found.0) ext ∙ found.2) in
       let next : 1 + number.0 ≡ suc number.0 = omega arith in (
         length inner + found.0,
         external_of net policy p (1 + number.0),
@@ -136,7 +133,7 @@ module _ (net : PlainNet) (policy : PlainPolicy) (p : PlainPrefix) (rules : IsNe
       → ((k : ℕ) × (c : Case) × (class_in policy p (case_list net policy) 1 ≡ Some (suc k)) × IsCaseOf net policy p s k c)
       ⊎ (((l : ℕ) → is_origin net policy p l ≡ false) × (class_in policy p (case_list net policy) 1 ≡ None))
   unfolding class_in
-  governed_case s governed = elim (some_or_none (originated_at policy.origins p)) [
+  governed_case s governed = elim (cases_Option (originated_at policy.origins p)) [
     | inr o ↦ inl (inner_case s o.0 governed o.1)
     | inl none ↦ elim (cases_Bool (length net.peers == 0)) [
       | inr some ↦ inl (outer_case s governed none some)

@@ -4,6 +4,7 @@ use Rattle.std.specs.Prelude.{◌&&◌, ◌⊎◌, ◌==◌, option_map, slice_g
 use Rattle.std.specs.List.{list_any}
 use Rattle.std.proofs.lemmas.Bool.{and_parts, and_from, cases_Bool, eqb-true, eq-eqb, true≢false}
 use Rattle.std.proofs.lemmas.Option.{slice_get-map}
+use Rattle.std.proofs.lemmas.Map.Keys.{any_passes_from_place}
 use Rattle.net_base.specs.declared.loc.LocSet.{LocSet}
 use Rattle.net_base.specs.Sets.{same_set}
 use Rattle.net_base.specs.Prefixes.{PlainPrefix, PlainPattern, IsPrefix, contains, only, same_prefix}
@@ -13,10 +14,12 @@ use Rattle.path_words.specs.Policies.{PlainPolicy, PlainStatement}
 use Rattle.path_words.specs.Governing.{some_contains, governing, originated_at}
 use Rattle.path_words.specs.Cases.{with_prefix, with_governed, originated_cases}
 use Rattle.config_base.specs.Lines.{class_from}
-use Rattle.config_base.specs.Made.{IsIn, statement_at, patterns_of}
-use Rattle.regret_law.proofs.Lists.{some_at, some_of}
-use Rattle.regret_law.proofs.Stability.{mapped}
-use Rattle.regret_law.proofs.CaseLists.{IsOriginatedCase, AreOriginated, in_longer, stays_in, only_itself, contains-itself, prefix_is}
+use Rattle.evidence_base.specs.Made.{statement_at, patterns_of}
+use Rattle.list_laws.specs.Members.{IsIn}
+use Rattle.list_laws.proofs.Tests.{list_any_parts}
+use Rattle.list_laws.proofs.Options.{option_map_parts}
+use Rattle.list_laws.proofs.Members.{IsIn-push, IsIn-append_left}
+use Rattle.regret_law.proofs.CaseLists.{IsOriginatedCase, AreOriginated, only_itself, contains-itself, prefix_is}
 
 -- ---- some case names the prefix
 
@@ -28,7 +31,7 @@ names_more : (k : ℕ) (o : Origin) (cs : List Case) (q : PlainPrefix) → Names
 unfolding Names
 names_more k o [] q h = absurd h
 names_more k o (c ∷ cs) q (inl h) = elim (cases_Bool (c.statement == k && same_set c.origins o.at)) [
-  | inl t ↦ rw t (inl (stays_in c.prefixes o.prefix q h))
+  | inl t ↦ rw t (inl (IsIn-append_left c.prefixes (o.prefix ∷ []) q h))
   | inr t ↦ rw t (inl h)
 ]
 names_more k o (c ∷ cs) q (inr h) = elim (cases_Bool (c.statement == k && same_set c.origins o.at)) [
@@ -40,7 +43,7 @@ names_new : (k : ℕ) (o : Origin) (cs : List Case) → Names (with_prefix k o c
 unfolding Names
 names_new k o [] = inl (0, refl)
 names_new k o (c ∷ cs) = elim (cases_Bool (c.statement == k && same_set c.origins o.at)) [
-  | inl t ↦ rw t (inl (in_longer c.prefixes o.prefix))
+  | inl t ↦ rw t (inl (IsIn-push c.prefixes o.prefix))
   | inr t ↦ rw t (inr (names_new k o cs))
 ]
 
@@ -74,7 +77,7 @@ class_in policy p cs n = class_from (map (patterns_of policy) cs) p n
 own_hits : (policy : PlainPolicy) (p : PlainPrefix) (c : Case) → c.external ≡ false → IsIn c.prefixes p → hits policy p c ≡ true
 unfolding hits
 own_hits policy p c inner known =
-    rw inner (some_of (λ pattern. contains pattern p) (map only c.prefixes) known.0 (only p) (slice_get-map only c.prefixes known.0 ∙ ap (option_map only) known.1) (contains-itself p))
+    rw inner (any_passes_from_place (λ pattern. contains pattern p) (map only c.prefixes) known.0 (only p) (slice_get-map only c.prefixes known.0 ∙ ap (option_map only) known.1) (contains-itself p))
 
 -- ---- items of `originate`
 
@@ -111,8 +114,8 @@ module _ (policy : PlainPolicy) (p : PlainPrefix) (prefix : IsPrefix p) (known :
   unfolding hits
   hit_names c kept h =
       let inner : list_any (λ pattern. contains pattern p) (map only c.prefixes) ≡ true = subst (λ (b : Bool). list_any (λ pattern. contains pattern p) (if b then unwrap_or (option_map (λ (s : PlainStatement). s.patterns) (statement_at policy c.statement)) [] else map only c.prefixes) ≡ true) kept.inner h in
-      let found = some_at (λ pattern. contains pattern p) (map only c.prefixes) inner in
-      let q = mapped only (slice_get c.prefixes found.0) found.1 (sym (slice_get-map only c.prefixes found.0) ∙ found.2) in
+      let found = list_any_parts (λ pattern. contains pattern p) (map only c.prefixes) inner in
+      let q = option_map_parts only (slice_get c.prefixes found.0) found.1 (sym (slice_get-map only c.prefixes found.0) ∙ found.2) in
       let item = kept.each q.0 (found.0, q.1) in
       let rules : IsPrefix q.0 = subst IsPrefix item.2 (known item.0 item.1) in
       let same : p ≡ q.0 = only_itself q.0 p rules prefix (ap (λ (t : PlainPattern). contains t p) q.2 ∙ found.3) in

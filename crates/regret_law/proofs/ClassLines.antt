@@ -2,6 +2,7 @@
 use Rattle.std.proofs.Common.{◌≡◌, ℕ, suc, Bool, true, false, List, [], Option, Some, refl, sym, ap, ◌∙◌, inl, inr, subst}
 use Rattle.std.specs.Prelude.{◌↔◌, ◌||◌, ◌==◌, option_map, slice_get, if◌then◌else◌}
 use Rattle.std.proofs.lemmas.Bool.{and_parts, and_from, or_cases, or_left, eqb-true, eq-eqb, true≢false}
+use Rattle.std.proofs.lemmas.Map.Keys.{any_passes_from_place}
 use Rattle.net_base.specs.declared.numbers.Tag.{Tag}
 use Rattle.net_base.specs.Network.{PlainNet, IsNet, is_location, is_peer, is_router, linked}
 use Rattle.net_base.specs.Numbers.{no_tag}
@@ -16,18 +17,19 @@ use Rattle.config_base.specs.declared.config.Export.{Export}
 use Rattle.config_base.specs.declared.config.Own.{Own}
 use Rattle.config_base.specs.Configs.{PlainConfig}
 use Rattle.config_base.specs.Lines.{class_of, same_tag, block_at, export_of, import_of}
-use Rattle.config_base.specs.Made.{PlainCaseEvidence, IsIn, IsStep, IsExportTo, IsImportFrom, IsOwnAt, IsConfigOf, AreTags, case_at, tag_at, number_at}
+use Rattle.evidence_base.specs.Made.{PlainCaseEvidence, IsStep, IsExportTo, IsImportFrom, IsOwnAt, IsConfigOf, AreTags, case_at, tag_at, number_at}
+use Rattle.list_laws.specs.Members.{IsIn}
+use Rattle.list_laws.proofs.Tests.{find_from, find_parts, list_any_parts}
+use Rattle.list_laws.proofs.Options.{is_some_parts, option_and_then_parts, option_map_parts}
 use Rattle.regret_law.proofs.Setting.{network_of, graph_of, lines_of, pair_of, tag_of, gift_of}
-use Rattle.regret_law.proofs.Lists.{some_at, some_of, found_at, is_found}
 use Rattle.regret_law.proofs.Surviving.{linked_flips}
-use Rattle.regret_law.proofs.Heard.{router_no_peer}
+use Rattle.net_base.proofs.RoutersAndPeers.{router_no_peer}
 use Rattle.regret_law.proofs.GraphSteps.{step_nodes, start_at-is, step_at-is, start_at-of, step_at-of}
-use Rattle.regret_law.proofs.GraphForms.{through, linked_parts, well_formed}
+use Rattle.regret_law.proofs.GraphForms.{heard_at_peers, linked_parts, well_formed}
 use Rattle.regret_law.proofs.GraphRanks.{peer_of}
 use Rattle.regret_law.proofs.Sites.{linked_known}
-use Rattle.regret_law.proofs.Stability.{mapped}
 use Rattle.regret_law.proofs.Blocks.{router_found, block_found, block_only}
-use Rattle.regret_law.proofs.Spelled.{tag_is, tag_same, some_value, exports_tag, imports_tag, names_prefix, is_exported, was_exported, gift, import_some, imported_by, own_by}
+use Rattle.regret_law.proofs.Spelled.{tag_is, tag_same, exports_tag, imports_tag, names_prefix, is_exported, was_exported, gift, import_some, imported_by, own_by}
 use Rattle.routing_law.specs.Spells as law
 use Rattle.routing_law.specs.Lines as line
 
@@ -68,17 +70,17 @@ module _ (net : PlainNet) (policy : PlainPolicy) (cs : List PlainCaseEvidence) (
       let step = link_of u v n m over in
       let b = block_found net policy cs config rules made u v router step.0 in
       let e : Export = record { class = suc k; tag = tag_at c n } in
-      let line : IsExportTo cs u v e = record { case = c; node = n; next = m; step = step.1; tag = refl } in
+      let line : IsExportTo net cs u v e = record { case = c; node = n; next = m; step = step.1; heard = λ peer. heard_at_peers net origin external c.graph graph_rules formed n m step.1.step (ap (is_peer net) step.1.to ∙ peer); tag = refl } in
       let there = (b.2.exports e).1 line in
       let test = and_from (suc k == suc k) (same_tag (tag_at c n) (tag_at c n)) (eq-eqb (suc k) (suc k) refl) (tag_same (tag_at c n) (tag_at c n) refl) in
-      is_exported net config (suc k) u v b.0 b.1 (tag_at c n) (some_of (exports_tag (suc k) (tag_at c n)) b.0.exports there.0 e there.1 test)
+      is_exported net config (suc k) u v b.0 b.1 (tag_at c n) (any_passes_from_place (exports_tag (suc k) (tag_at c n)) b.0.exports there.0 e there.1 test)
 
   pub exports_only : (u v : ℕ) (t : line.Tag) → is_router net u ≡ true → (lines_of net config p (suc k)).exported u v t ≡ true → (n m : ℕ) × Over u v n m × (pair_of (tag_at c n) ≡ t)
   exports_only u v t router h =
-      let y = some_value (export_of net config (suc k) u v (tag_of t)) h in
-      let b = through _ (block_at net config u v) y.0 y.1 in
+      let y = is_some_parts (export_of net config (suc k) u v (tag_of t)) h in
+      let b = option_and_then_parts _ (block_at net config u v) y.0 y.1 in
       let block = block_only net policy cs config rules made u v b.0 router b.1 in
-      let e = some_at (exports_tag (suc k) (tag_of t)) b.0.exports (was_exported net config (suc k) u v b.0 b.1 (tag_of t) h) in
+      let e = list_any_parts (exports_tag (suc k) (tag_of t)) b.0.exports (was_exported net config (suc k) u v b.0 b.1 (tag_of t) h) in
       let parts = and_parts (e.1.class == suc k) (same_tag e.1.tag (tag_of t)) e.3 in
       let line = (block.1.exports e.1).0 (e.0, e.2) in
       let class = eqb-true e.1.class (suc k) parts.0 in
@@ -109,8 +111,8 @@ module _ (net : PlainNet) (policy : PlainPolicy) (cs : List PlainCaseEvidence) (
       let line : IsImportFrom net cs u v rule = record { case = c; node = n; next = m; step = step.1; tag = refl; set = refl; pref = refl } in
       let there = (b.2.imports rule).1 line in
       let test = and_from (suc k == suc k) (is_peer net u || same_tag rule.tag tag) (eq-eqb (suc k) (suc k) refl) meets in
-      let found = is_found (imports_tag net u (suc k) tag) b.0.imports there.0 rule there.1 test in
-      let back = found_at (imports_tag net u (suc k) tag) b.0.imports found.0 found.1 in
+      let found = find_from (imports_tag net u (suc k) tag) b.0.imports there.0 rule there.1 test in
+      let back = find_parts (imports_tag net u (suc k) tag) b.0.imports found.0 found.1 in
       let parts = and_parts (found.0.class == suc k) (is_peer net u || same_tag found.0.tag tag) back.2 in
       let by = import_made u v n m b.0 found.0 b.2.imports (back.0, back.1) (eqb-true found.0.class (suc k) parts.0) in
       let met = subst (λ (t : Tag). (is_peer net u || same_tag t tag) ≡ true) by.3 parts.1 in
@@ -171,7 +173,7 @@ module _ (net : PlainNet) (policy : PlainPolicy) (cs : List PlainCaseEvidence) (
   import_only u v tag q to h =
       let by = imported_by net config (suc k) v u tag q h in
       let block = block_only net policy cs config rules made v u by.0 to by.2 in
-      let back = found_at (imports_tag net u (suc k) tag) by.0.imports by.1 by.3 in
+      let back = find_parts (imports_tag net u (suc k) tag) by.0.imports by.1 by.3 in
       let parts = and_parts (by.1.class == suc k) (is_peer net u || same_tag by.1.tag tag) back.2 in
       let of_step = import_made u v 0 0 by.0 by.1 block.1.imports (back.0, back.1) (eqb-true by.1.class (suc k) parts.0) in
       let met = subst (λ (t : Tag). (is_peer net u || same_tag t tag) ≡ true) of_step.3 parts.1 in
@@ -191,8 +193,8 @@ module _ (net : PlainNet) (policy : PlainPolicy) (cs : List PlainCaseEvidence) (
       let line : IsOwnAt cs v o = record { case = c; node = s; at_class = of_case; start = is.0; at = is.1; prefix = prefix; tag = refl } in
       let there = (r.2.own o).1 line in
       let test = and_from (suc k == suc k) (same_prefix p p) (eq-eqb (suc k) (suc k) refl) (and_from (p.bits == p.bits) (p.len == p.len) (eq-eqb _ _ refl) (eq-eqb _ _ refl)) in
-      let found = is_found (names_prefix p (suc k)) r.0.own there.0 o there.1 test in
-      let back = found_at (names_prefix p (suc k)) r.0.own found.0 found.1 in
+      let found = find_from (names_prefix p (suc k)) r.0.own there.0 o there.1 test in
+      let back = find_parts (names_prefix p (suc k)) r.0.own found.0 found.1 in
       let class = eqb-true found.0.class (suc k) (and_parts (found.0.class == suc k) (same_prefix found.0.prefix p) back.2).0 in
       let made_of = (r.2.own found.0).0 (back.0, back.1) in
       let same : Some made_of.case ≡ Some c = sym made_of.at_class ∙ ap (case_at cs) class ∙ of_case in
@@ -218,13 +220,13 @@ module _ (net : PlainNet) (policy : PlainPolicy) (cs : List PlainCaseEvidence) (
     exports_only = λ u v t router h. exports_only u v t router h;
     imports = λ u v n m from to over. imports u v n m from to over;
     imports_only = λ u v t q from to h.
-        let q' = mapped gift_of (import_of net config (suc k) v u [] (tag_of t)) q h in
+        let q' = option_map_parts gift_of (import_of net config (suc k) v u [] (tag_of t)) q h in
         let by = import_only u v (tag_of t) q'.0 to q'.1 in
         let same = untagged (is_peer net u) (tag_at c by.0) (tag_of t) no_tag (router_no_peer net u from) by.3 in
         (by.0, by.1, by.2, ap pair_of (tag_is (tag_at c by.0) (tag_of t) same), sym q'.2 ∙ ap gift_of by.4);
     peers = λ u v n m off to over. peers u v n m off to (peer_at u v n m off over) over;
     peers_only = λ u v q off to h.
-        let q' = mapped gift_of (import_of net config (suc k) v u [] no_tag) q h in
+        let q' = option_map_parts gift_of (import_of net config (suc k) v u [] no_tag) q h in
         let by = import_only u v no_tag q'.0 to q'.1 in
         (by.0, by.1, by.2, sym q'.2 ∙ ap gift_of by.4);
   }

@@ -4,6 +4,7 @@ use Rattle.std.specs.Prelude.{◌&&◌, not, option_map, slice_get}
 use Rattle.std.specs.Option.{option_and_then}
 use Rattle.std.proofs.lemmas.Bool.{and_parts, and_from, cases_Bool, not_from_true, ltb-true, ltb-false}
 use Rattle.std.proofs.lemmas.Option.{slice_get_past}
+use Rattle.list_laws.proofs.Options.{option_map_parts}
 use Rattle.net_base.specs.Network.{PlainNet, IsNet, is_router}
 use Rattle.net_base.specs.Prefixes.{PlainPrefix}
 use Rattle.path_words.specs.Policies.{PlainPolicy}
@@ -11,10 +12,9 @@ use Rattle.path_words.specs.Governing.{is_origin}
 use Rattle.config_base.specs.declared.route.Route.{Route}
 use Rattle.config_base.specs.Configs.{PlainConfig}
 use Rattle.config_base.specs.Lines.{class_of, own_route}
-use Rattle.regret_law.specs.Outcomes.{Failures, Outcome, is_dead, route_at, given, IsStable, Chooses}
+use Rattle.outcome_base.specs.Outcomes.{Failures, Outcome, is_dead, route_at, given, IsStable, Chooses}
 use Rattle.regret_law.proofs.Setting.{network_of, alive_of, lines_of, lines_at, line_of, tag_of}
 use Rattle.regret_law.proofs.Heard.{given-heard}
-use Rattle.regret_law.proofs.Stability.{mapped}
 use Rattle.routing_law.specs.Network as law
 use Rattle.routing_law.specs.Lines as line
 
@@ -92,11 +92,11 @@ module _ (net : PlainNet) (policy : PlainPolicy) (config : PlainConfig) (f : Fai
     ]
   ]
 
-  given-line : (u v : ℕ) → is_router net v ≡ true → option_map line_of (given net policy config f p outcome u v) ≡ line.line_heard Net (alive_of net f) lines r v u
+  pub given-line : (u v : ℕ) → is_router net v ≡ true → option_map line_of (given net policy config f p outcome u v) ≡ line.line_heard Net (alive_of net f) lines r v u
   given-line u v router = given-heard net policy config f p outcome class rules of_class u v router ∙ heard-same v u
 
   module _ (stable : line.LinesStable Net (alive_of net f) lines r) where
-    choosing : (v : ℕ) → (is_router net v && not (is_origin net policy p v) && not (is_dead f v)) ≡ true → (is_router net v ≡ true) × (law.chooses Net (alive_of net f) v ≡ true)
+    pub choosing : (v : ℕ) → (is_router net v && not (is_origin net policy p v) && not (is_dead f v)) ≡ true → (is_router net v ≡ true) × (law.chooses Net (alive_of net f) v ≡ true)
     choosing v h =
         let last = and_parts (is_router net v && not (is_origin net policy p v)) (not (is_dead f v)) h in
         let first = and_parts (is_router net v) (not (is_origin net policy p v)) last.0 in
@@ -118,9 +118,9 @@ module _ (net : PlainNet) (policy : PlainPolicy) (config : PlainConfig) (f : Fai
     chosen v who = record {
       given_by = λ h at.
           let mine = choosing v who in
-          let x = mapped route_of (r v) h (sym (held net (λ u. option_map route_of (r u)) v mine.0) ∙ at) in
+          let x = option_map_parts route_of (r v) h (sym (held net (λ u. option_map route_of (r u)) v mine.0) ∙ at) in
           let by = stable.given v x.0 mine.1 x.1 in
-          let g = mapped line_of (given net policy config f p outcome by.0 v) x.0 (given-line by.0 v mine.0 ∙ by.1) in
+          let g = option_map_parts line_of (given net policy config f p outcome by.0 v) x.0 (given-line by.0 v mine.0 ∙ by.1) in
           let same : g.0 ≡ h = sym (line-route g.0) ∙ ap route_of g.2 ∙ x.2 in
           (by.0, g.1 ∙ ap Some same);
       best = λ z g at.

@@ -12,14 +12,15 @@ use Rattle.path_words.specs.Cases.{case_list}
 use Rattle.config_base.specs.declared.route.Route.{Route}
 use Rattle.config_base.specs.Configs.{PlainConfig}
 use Rattle.config_base.specs.Lines.{class_of}
-use Rattle.config_base.specs.Made.{PlainCaseEvidence}
-use Rattle.regret_law.specs.Outcomes.{Failures, Outcome, is_dead, route_at, given, IsStable}
-use Rattle.regret_law.specs.Passes.{Passes, IsPolicyOf, IsClaimed}
-use Rattle.config_base.specs.Made.{number_at}
-use Rattle.regret_law.proofs.Stability.{mapped}
+use Rattle.evidence_base.specs.Made.{PlainCaseEvidence}
+use Rattle.outcome_base.specs.Outcomes.{Failures, Outcome, is_dead, route_at, given, IsStable}
+use Rattle.regret_law.specs.Passes.{Passes, IsClaimed}
+use Rattle.path_words.specs.Policies.{IsPolicyOf}
+use Rattle.evidence_base.specs.Made.{number_at}
 use Rattle.regret_law.proofs.ClassFound.{class_in}
 use Rattle.regret_law.proofs.CaseOfClass.{IsCaseOf, governed_case, ungoverned_class}
 use Rattle.std.proofs.lemmas.Bool.{and_left, and_right, not-true, not_from_true}
+use Rattle.list_laws.proofs.Options.{option_map_parts}
 use Rattle.net_base.specs.Sets.{holds}
 use Rattle.config_base.specs.Lines.{own_route}
 use Rattle.regret_law.specs.Laws.{StableOutcomesExist}
@@ -32,7 +33,7 @@ use Rattle.routing_law.specs.Lines as line
 use Rattle.routing_law.proofs.Back.{lines_exist}
 
 module _ (net : PlainNet) (policy : PlainPolicy) (config : PlainConfig) (f : Failures) (p : PlainPrefix) (free : class_of config p ≡ None) where
-  own_alone : ℕ → Option Route
+  pub own_alone : ℕ → Option Route
   own_alone v = if is_origin net policy p v && not (is_dead f v) then Some (own_route net config p v) else None
 
   own_off : (v : ℕ) → (is_origin net policy p v && not (is_dead f v)) ≡ false → own_alone v ≡ None
@@ -46,7 +47,7 @@ module _ (net : PlainNet) (policy : PlainPolicy) (config : PlainConfig) (f : Fai
   ]
 
   -- without a class only origins hold a route
-  lone_stable : IsStable net policy config f p (outcome_of net own_alone)
+  pub lone_stable : IsStable net policy config f p (outcome_of net own_alone)
   unfolding own_alone
   lone_stable = record {
     dead = λ v dead. at_router v (and_right (is_origin net policy p v) (not (is_dead f v)) (not_from_true _ dead));
@@ -94,7 +95,7 @@ module _ (net : PlainNet) (policy : PlainPolicy) (config : PlainConfig) (cs : Li
         | inr nobody ↦ bare_exists (classed ∙ nobody.1)
         | inl found ↦
             let there = slice_get-map (λ (c : PlainCaseEvidence). c.case) cs found.0 in
-            let d = mapped (λ (c : PlainCaseEvidence). c.case) (slice_get cs found.0) found.1 (sym there ∙ ap (λ (xs : List Case). slice_get xs found.0) passes.made.cases ∙ found.3.at) in
+            let d = option_map_parts (λ (c : PlainCaseEvidence). c.case) (slice_get cs found.0) found.1 (sym there ∙ ap (λ (xs : List Case). slice_get xs found.0) passes.made.cases ∙ found.3.at) in
             case_exists s found.0 d.0 d.1 (classed ∙ found.2) (subst (λ (c : Case). IsCaseOf net policy p s found.0 c) (sym d.2) found.3)
       ]
 

@@ -1,8 +1,9 @@
 -- The class of a prefix that isn't originated is that of its statement's external case.
-use Rattle.std.proofs.Common.{◌≡◌, ℕ, suc, ◌+◌, ◌≤◌, Bool, true, false, List, [], ◌∷◌, ◌++◌, add-zero, Some, None, refl, arith, sym, ap, ◌∙◌, inl, inr}
-use Rattle.std.specs.Prelude.{◌⊎◌, ◌==◌, not, nat_le, slice_get, is_some, if◌then◌else◌}
+use Rattle.std.proofs.Common.{◌≡◌, ℕ, suc, ◌+◌, ◌≤◌, true, false, List, [], ◌∷◌, ◌++◌, add-zero, Some, None, refl, arith, sym, ap, ◌∙◌, inl, inr}
+use Rattle.std.specs.Prelude.{◌⊎◌, ◌==◌, not, nat_le, slice_get, is_some}
 use Rattle.std.specs.List.{list_any}
-use Rattle.std.proofs.lemmas.Bool.{and_parts, cases_Bool, eqb-true, leb-true, true≢false, not_from_false}
+use Rattle.std.proofs.lemmas.Bool.{and_parts, cases_Bool, eqb-true, leb-true, true≢false, not_from_false, cond-false, cond-true}
+use Rattle.std.proofs.lemmas.Map.Keys.{any_passes_from_place}
 use Rattle.net_base.specs.Network.{PlainNet, is_peer}
 use Rattle.net_base.specs.Sets.{set_of}
 use Rattle.net_base.specs.Prefixes.{PlainPrefix, PlainPattern, IsPrefix, IsPattern, is_inside, contains}
@@ -10,28 +11,21 @@ use Rattle.path_words.specs.declared.case.Case.{Case}
 use Rattle.path_words.specs.Policies.{PlainPolicy, PlainStatement}
 use Rattle.path_words.specs.Governing.{some_contains, governing_from, statement_from, originated_at}
 use Rattle.path_words.specs.Cases.{is_originated, external_case, external_cases}
-use Rattle.config_base.specs.Made.{IsIn, statement_at}
-use Rattle.regret_law.proofs.Lists.{some_at, some_of}
+use Rattle.evidence_base.specs.Made.{statement_at}
+use Rattle.list_laws.specs.Members.{IsIn}
+use Rattle.list_laws.proofs.Tests.{list_any_parts}
 use Rattle.regret_law.proofs.CaseLists.{inside_itself}
 use Rattle.regret_law.proofs.ClassFound.{hits, class_in}
-
-on : {A : Type 0} (b : Bool) (x y : A) → b ≡ true → (if b then x else y) ≡ x
-on true x y h = refl
-on false x y h = absurd (true≢false (sym h))
-
-off : {A : Type 0} (b : Bool) (x y : A) → b ≡ false → (if b then x else y) ≡ y
-off true x y h = absurd (true≢false h)
-off false x y h = refl
 
 -- the statement that governs, with its number
 pub statement_number : (ss : List PlainStatement) (p : PlainPrefix) (k : ℕ) (s : PlainStatement) → statement_from ss p ≡ Some s → (i : ℕ) × (governing_from ss p k ≡ Some (k + i)) × (slice_get ss i ≡ Some s)
 statement_number [] p k s h = absurd cc
 statement_number (x ∷ ss) p k s h = elim (cases_Bool (some_contains x.patterns p)) [
-  | inl t ↦ (0, on (some_contains x.patterns p) (Some k) (governing_from ss p (k + 1)) t ∙ ap Some (sym (add-zero k)), sym (on (some_contains x.patterns p) (Some x) (statement_from ss p) t) ∙ h)
+  | inl t ↦ (0, cond-true (some_contains x.patterns p) (Some k) (governing_from ss p (k + 1)) t ∙ ap Some (sym (add-zero k)), sym (cond-true (some_contains x.patterns p) (Some x) (statement_from ss p) t) ∙ h)
   | inr t ↦
-      let rest : statement_from ss p ≡ Some s = sym (off (some_contains x.patterns p) (Some x) (statement_from ss p) t) ∙ h in
+      let rest : statement_from ss p ≡ Some s = sym (cond-false (some_contains x.patterns p) (Some x) (statement_from ss p) t) ∙ h in
       let later = statement_number ss p (k + 1) s rest in
-      (suc later.0, off (some_contains x.patterns p) (Some k) (governing_from ss p (k + 1)) t ∙ later.1 ∙ ap Some (omega arith), later.2)
+      (suc later.0, cond-false (some_contains x.patterns p) (Some k) (governing_from ss p (k + 1)) t ∙ later.1 ∙ ap Some (omega arith), later.2)
 ]
 
 pub ungoverned : (ss : List PlainStatement) (p : PlainPrefix) (k : ℕ) → statement_from ss p ≡ None → governing_from ss p k ≡ None
@@ -100,9 +94,9 @@ module _ (net : PlainNet) (policy : PlainPolicy) (p : PlainPrefix) where
     -- a statement that contains the prefix has an external case
     has_case : (k : ℕ) (s : PlainStatement) → ((t : PlainPattern) → IsIn s.patterns t → IsPattern t) → some_contains s.patterns p ≡ true → external_case net policy k s ≡ external_of k ∷ []
     has_case k s rules h =
-        let found = some_at (λ pattern. contains pattern p) s.patterns h in
+        let found = list_any_parts (λ pattern. contains pattern p) s.patterns h in
         let plain = not_single found.1 (rules found.1 (found.0, found.2)) found.3 in
-        let there : list_any (λ pattern. not (is_originated policy pattern)) s.patterns ≡ true = some_of (λ pattern. not (is_originated policy pattern)) s.patterns found.0 found.1 found.2 (not_from_false _ plain) in
+        let there : list_any (λ pattern. not (is_originated policy pattern)) s.patterns ≡ true = any_passes_from_place (λ pattern. not (is_originated policy pattern)) s.patterns found.0 found.1 found.2 (not_from_false _ plain) in
         rw there refl
 
     abbrev pub Found : ℕ → ℕ → List PlainStatement → ℕ → Type 0

@@ -1,16 +1,17 @@
 -- A well-formed graph, its rules and its runs, as the laws of routing see them.
-use Rattle.std.proofs.Common.{◌≡◌, ℕ, ◌<◌, Bool, true, false, List, [], ◌∷◌, length, Option, Some, None, refl, sym, ap, ◌∙◌, inl, inr, subst}
+use Rattle.std.proofs.Common.{◌≡◌, ℕ, ◌<◌, Bool, true, false, List, [], ◌∷◌, length, Some, refl, sym, ap, ◌∙◌, inl, inr, subst}
 use Rattle.std.specs.Prelude.{◌&&◌, not}
 use Rattle.std.specs.Option.{option_and_then}
 use Rattle.std.proofs.lemmas.Bool.{and_parts, and_from, and_left, or_left, or_right, or_cases, not-true, true≢false, cases_Bool, not_from_false, ltb-true}
-use Rattle.net_base.specs.Network.{PlainNet, IsNet, is_router, is_location, linked}
+use Rattle.list_laws.proofs.Options.{option_and_then_parts}
+use Rattle.net_base.specs.Network.{PlainNet, IsNet, is_peer, is_router, is_location, linked}
 use Rattle.graph_base.specs.Graphs.{PlainGraph, IsGraph}
 use Rattle.graph_base.specs.Runs.{place_of, is_start, has_step, is_listener, start_at, step_at, IsTrail, Reaches}
 use Rattle.graph_base.specs.Runs as plain
 use Rattle.graph_base.specs.Rules.{IsWellFormed, IsOver, MeetsRules}
 use Rattle.regret_law.proofs.Setting.{network_of, graph_of}
 use Rattle.regret_law.proofs.Sites.{linked_known}
-use Rattle.regret_law.proofs.Heard.{router_no_peer}
+use Rattle.net_base.proofs.RoutersAndPeers.{router_no_peer}
 use Rattle.regret_law.proofs.GraphSteps.{start_node, step_nodes, start_at-is, step_at-is, start_at-of, step_at-of}
 use Rattle.routing_law.specs.Graph as law
 
@@ -19,13 +20,16 @@ same_run g number [] = refl
 same_run g number (l ∷ []) = refl
 same_run g number (l ∷ k ∷ ls) = ap (option_and_then (λ n. step_at g n l)) (same_run g number (k ∷ ls))
 
-pub through : {A B : Type 0} (f : A → Option B) (o : Option A) (y : B) → option_and_then f o ≡ Some y → (x : A) × (o ≡ Some x) × (f x ≡ Some y)
-through f None y h = absurd (cc)
-through f (Some x) y h = (x, refl, h)
-
 pub linked_parts : (net : PlainNet) (g : PlainGraph) (m n : ℕ) → (linked net (place_of g m) (place_of g n) && not (is_start g n)) ≡ true
     → (linked net (place_of g m) (place_of g n) ≡ true) × (is_start g n ≡ false)
 linked_parts net g m n h = let parts = and_parts (linked net (place_of g m) (place_of g n)) (not (is_start g n)) h in (parts.0, not-true _ parts.1)
+
+-- a step into a peer is one to a node that hears
+pub heard_at_peers : (net : PlainNet) (origin : ℕ → Bool) (external : Bool) (g : PlainGraph) → IsGraph g → IsWellFormed net origin external g → (m n : ℕ) → has_step g m n ≡ true → is_peer net (place_of g n) ≡ true
+    → is_listener g n ≡ true
+heard_at_peers net origin external g rules formed m n step peer =
+    let no_start = (linked_parts net g m n (formed.links m n step)).1 in
+    formed.listeners n (step_nodes g m n rules step).1 ∙ and_from (is_peer net (place_of g n)) (not (is_start g n)) peer (ap not no_start)
 
 module _ (net : PlainNet) (origin : ℕ → Bool) (external : Bool) (g : PlainGraph) (number : ℕ → ℕ) (net_rules : IsNet net) (graph_rules : IsGraph g)
     (known : (l : ℕ) → origin l ≡ true → is_location net l ≡ true) (formed : IsWellFormed net origin external g) where
@@ -80,7 +84,7 @@ module _ (net : PlainNet) (origin : ℕ → Bool) (external : Bool) (g : PlainGr
   pub trail : (k m : ℕ) (zs : List ℕ) → law.follow (graph_of g number) k zs ≡ Some m → Reaches g k m
   trail k m [] h = ([], cc)
   trail k m (z ∷ zs) h =
-      let first = through (λ n. law.follow (graph_of g number) n zs) (step_at g k z) m h in
+      let first = option_and_then_parts (λ n. law.follow (graph_of g number) n zs) (step_at g k z) m h in
       let rest = trail first.0 m zs first.2 in
       (first.0 ∷ rest.0, ((step_at-is g k z first.0 first.1).0, rest.1))
 

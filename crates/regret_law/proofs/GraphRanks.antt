@@ -2,6 +2,7 @@
 use Rattle.std.proofs.Common.{◌≡◌, ℕ, ◌<◌, Bool, true, false, List, [], ◌∷◌, length, Option, Some, None, refl, sym, ap, ◌∙◌, subst}
 use Rattle.std.specs.Prelude.{◌&&◌, not, is_some, if◌then◌else◌}
 use Rattle.std.proofs.lemmas.Bool.{and_parts, and_from, or_left, true≢false, not-true, ltb-false, le-leb}
+use Rattle.list_laws.proofs.Options.{is_some_from, is_some_parts, when_parts}
 use Rattle.net_base.specs.Network.{PlainNet, IsNet, is_peer, is_router, is_location}
 use Rattle.net_base.specs.Sets.{holds}
 use Rattle.path_words.specs.declared.case.Case.{Case}
@@ -36,17 +37,6 @@ if_some : (b : Bool) (o : Option ℕ) → b ≡ true → (if b && is_some o then
 if_some b None h = rw (h) refl
 if_some b (Some x) h = rw (h) refl
 
-chosen : (b : Bool) (o : Option ℕ) (i : ℕ) → (if b then o else None) ≡ Some i → (b ≡ true) × (o ≡ Some i)
-chosen true o i h = (refl, h)
-chosen false o i h = absurd (cc)
-
-is_some-of : (o : Option ℕ) (i : ℕ) → o ≡ Some i → is_some o ≡ true
-is_some-of o i h = ap is_some h
-
-value_of : (o : Option ℕ) → is_some o ≡ true → (i : ℕ) × (o ≡ Some i)
-value_of None h = absurd (true≢false (sym h))
-value_of (Some i) h = (i, refl)
-
 module _ (net : PlainNet) (s : PlainStatement) (c : Case) (g : PlainGraph) (number : ℕ → ℕ) (net_rules : IsNet net) (graph_rules : IsGraph g)
     (faithful : IsFaithful net s (holds c.origins) c.external g) where
   abbrev pub Origin : ℕ → Bool
@@ -78,7 +68,7 @@ module _ (net : PlainNet) (s : PlainStatement) (c : Case) (g : PlainGraph) (numb
           let at = run_begins net Origin c.external g graph_rules faithful.formed l n ls h in
           let there : run g (place_of g n ∷ ls) ≡ Some n = ap (λ z. run g (z ∷ ls)) at ∙ h in
           let r = rank_of_run (place_of g n) n ls may there in
-          (ls, and_from (is_walk_to net Origin (place_of g n ∷ ls) && from_holds s.from (place_of g n)) (is_some (rank_of net s.ranked (place_of g n ∷ ls))) r.1 (is_some-of _ i (sym r.0 ∙ ranked)))
+          (ls, and_from (is_walk_to net Origin (place_of g n ∷ ls) && from_holds s.from (place_of g n)) (is_some (rank_of net s.ranked (place_of g n ∷ ls))) r.1 (is_some_from _ i (sym r.0 ∙ ranked)))
 
   over : (m n : ℕ) → is_router net (place_of g n) ≡ true → law.AtLeast (graph_of g number) m n → IsOver net g number m n
   over m n router a = record { better = a.known; worse = a.other; place = a.place; router = router; numbers = a.number }
@@ -86,10 +76,10 @@ module _ (net : PlainNet) (s : PlainStatement) (c : Case) (g : PlainGraph) (numb
   pub meets_ranks : MeetsRules net (IsClaimed net s c) c.external g number → law.MeetsRanks (network_of net Origin) (graph_of g number) (ranks_of net s Origin g)
   meets_ranks rules = record {
     has_run = λ p i h.
-        let ok = chosen (permits net Origin s p) (rank_of net s.ranked p) i h in
+        let ok = when_parts (permits net Origin s p) (rank_of net s.ranked p) i h in
         let first = and_parts (is_walk_to net Origin p && at_first (from_holds s.from) p) (is_some (rank_of net s.ranked p)) ok.0 in
         let walk = and_parts (is_walk_to net Origin p) (at_first (from_holds s.from) p) first.0 in
-        let n = value_of (run g p) (faithful.has_run [] p (or_left (is_walk_to net Origin p) (is_origin_alone Origin p) walk.0) ok.0) in
+        let n = is_some_parts (run g p) (faithful.has_run [] p (or_left (is_walk_to net Origin p) (is_origin_alone Origin p) walk.0) ok.0) in
         (n.0, same_run g number p ∙ n.1);
     same_rank = λ v rest n may h.
         let r = rank_of_run v n rest may (sym (same_run g number (v ∷ rest)) ∙ h) in

@@ -3,41 +3,44 @@ use Rattle.std.proofs.Common.{◌≡◌, ℕ, ◌<◌, Bool, true, length, Optio
 use Rattle.std.specs.Prelude.{◌&&◌, ◌==◌, option_map, slice_get}
 use Rattle.std.specs.List.{find}
 use Rattle.std.proofs.lemmas.Bool.{and_parts, and_from, eqb-true, eq-eqb}
+use Rattle.std.proofs.lemmas.Map.Keys.{any_passes_from_place}
+use Rattle.list_laws.proofs.Each.{AllByRecursion_at}
+use Rattle.list_laws.proofs.Tests.{find_parts, list_any_parts}
 use Rattle.net_base.specs.Network.{PlainNet}
 use Rattle.graph_base.specs.Graphs.{PlainGraph, IsGraph}
 use Rattle.graph_base.specs.Runs.{place_of, is_start, has_step, start_at, step_at}
-use Rattle.graph_base.specs.Rules.{IsWellFormed, same_pair}
-use Rattle.regret_law.proofs.Lists.{one_place, place_by_key, one_item, all_at, some_at, some_of, found_at, is_found}
+use Rattle.graph_base.specs.Rules.{IsWellFormed}
+use Rattle.graph_base.proofs.Determined.{start_at-start, step_at-step}
 
 -- ---- where starts and steps stand in their lists
 
 start_place : (g : PlainGraph) (n : ℕ) → is_start g n ≡ true → (i : ℕ) × (slice_get g.starts i ≡ Some n)
-start_place g n h = let found = some_at (λ s. s == n) g.starts h in (found.0, found.2 ∙ ap Some (eqb-true _ _ found.3))
+start_place g n h = let found = list_any_parts (λ s. s == n) g.starts h in (found.0, found.2 ∙ ap Some (eqb-true _ _ found.3))
 
 is_start-at : (g : PlainGraph) (i n : ℕ) → slice_get g.starts i ≡ Some n → is_start g n ≡ true
-is_start-at g i n at = some_of (λ s. s == n) g.starts i n at (eq-eqb n n refl)
+is_start-at g i n at = any_passes_from_place (λ s. s == n) g.starts i n at (eq-eqb n n refl)
 
 pair_is : (s : ℕ × ℕ) (m n : ℕ) → (s.0 == m && s.1 == n) ≡ true → s ≡ (m, n)
 pair_is s m n h = let parts = and_parts (s.0 == m) (s.1 == n) h in λ i. (eqb-true s.0 m parts.0 i, eqb-true s.1 n parts.1 i)
 
 step_place : (g : PlainGraph) (m n : ℕ) → has_step g m n ≡ true → (i : ℕ) × (slice_get g.steps i ≡ Some (m, n))
-step_place g m n h = let found = some_at (λ (s : ℕ × ℕ). s.0 == m && s.1 == n) g.steps h in (found.0, found.2 ∙ ap Some (pair_is found.1 m n found.3))
+step_place g m n h = let found = list_any_parts (λ (s : ℕ × ℕ). s.0 == m && s.1 == n) g.steps h in (found.0, found.2 ∙ ap Some (pair_is found.1 m n found.3))
 
 has_step-at : (g : PlainGraph) (i m n : ℕ) → slice_get g.steps i ≡ Some (m, n) → has_step g m n ≡ true
-has_step-at g i m n at = some_of (λ (s : ℕ × ℕ). s.0 == m && s.1 == n) g.steps i (m, n) at (and_from (m == m) (n == n) (eq-eqb m m refl) (eq-eqb n n refl))
+has_step-at g i m n at = any_passes_from_place (λ (s : ℕ × ℕ). s.0 == m && s.1 == n) g.steps i (m, n) at (and_from (m == m) (n == n) (eq-eqb m m refl) (eq-eqb n n refl))
 
 -- ---- nodes
 
 pub start_node : (g : PlainGraph) (n : ℕ) → IsGraph g → is_start g n ≡ true → n < length g.nodes
-start_node g n rules h = let at = start_place g n h in all_at (λ k. k < length g.nodes) g.starts at.0 n rules.starts at.1
+start_node g n rules h = let at = start_place g n h in AllByRecursion_at (λ k. k < length g.nodes) g.starts at.0 n rules.starts at.1
 
 pub step_nodes : (g : PlainGraph) (m n : ℕ) → IsGraph g → has_step g m n ≡ true → (m < length g.nodes) × (n < length g.nodes)
-step_nodes g m n rules h = let at = step_place g m n h in all_at (λ (s : ℕ × ℕ). (s.0 < length g.nodes) × (s.1 < length g.nodes)) g.steps at.0 (m, n) rules.steps at.1
+step_nodes g m n rules h = let at = step_place g m n h in AllByRecursion_at (λ (s : ℕ × ℕ). (s.0 < length g.nodes) × (s.1 < length g.nodes)) g.steps at.0 (m, n) rules.steps at.1
 
 -- ---- the start at a location
 
 pub start_at-is : (g : PlainGraph) (l s : ℕ) → start_at g l ≡ Some s → (is_start g s ≡ true) × (place_of g s ≡ l)
-start_at-is g l s h = let found = found_at (λ n. place_of g n == l) g.starts s h in (is_start-at g found.0 s found.1, eqb-true _ _ found.2)
+start_at-is g l s h = let found = find_parts (λ n. place_of g n == l) g.starts s h in (is_start-at g found.0 s found.1, eqb-true _ _ found.2)
 
 -- ---- the step to a location
 
@@ -52,29 +55,14 @@ pub step_at-is : (g : PlainGraph) (n l m : ℕ) → step_at g n l ≡ Some m →
 unfolding leads
 step_at-is g n l m h =
     let s = second_of (find (leads g n l) g.steps) m h in
-    let found = found_at (leads g n l) g.steps s.0 s.1 in
+    let found = find_parts (leads g n l) g.steps s.0 s.1 in
     let parts = and_parts (s.0.0 == n) (place_of g s.0.1 == l) found.2 in
     let pair : s.0 ≡ (n, m) = λ i. (eqb-true s.0.0 n parts.0 i, s.2 i) in
     (has_step-at g found.0 n m (found.1 ∙ ap Some pair), ap (place_of g) (sym s.2) ∙ eqb-true _ _ parts.1)
 
 module _ (net : PlainNet) (origin : ℕ → Bool) (external : Bool) (g : PlainGraph) (formed : IsWellFormed net origin external g) where
   pub start_at-of : (n : ℕ) → is_start g n ≡ true → start_at g (place_of g n) ≡ Some n
-  start_at-of n h =
-      let at = start_place g n h in
-      let found = is_found (λ k. place_of g k == place_of g n) g.starts at.0 n at.1 (eq-eqb _ _ refl) in
-      let back = found_at (λ k. place_of g k == place_of g n) g.starts found.0 found.1 in
-      let same = one_place (place_of g) g.starts back.0 at.0 found.0 n formed.one_start back.1 at.1 (eqb-true _ _ back.2) in
-      found.1 ∙ ap Some (one_item g.starts back.0 at.0 found.0 n back.1 at.1 same)
+  start_at-of n h = start_at-start g n formed.one_start h
 
   pub step_at-of : (n m : ℕ) → has_step g n m ≡ true → step_at g n (place_of g m) ≡ Some m
-  unfolding leads
-  step_at-of n m h =
-      let at = step_place g n m h in
-      let here = and_from (n == n) (place_of g m == place_of g m) (eq-eqb n n refl) (eq-eqb _ _ refl) in
-      let found = is_found (leads g n (place_of g m)) g.steps at.0 (n, m) at.1 here in
-      let back = found_at (leads g n (place_of g m)) g.steps found.0 found.1 in
-      let parts = and_parts (found.0.0 == n) (place_of g found.0.1 == place_of g m) back.2 in
-      let other = and_from (n == found.0.0) (place_of g m == place_of g found.0.1) (eq-eqb _ _ (sym (eqb-true _ _ parts.0))) (eq-eqb _ _ (sym (eqb-true _ _ parts.1))) in
-      let same = place_by_key same_pair (λ (s : ℕ × ℕ). (s.0, place_of g s.1)) g.steps back.0 at.0 found.0 (n, m) formed.one_step back.1 at.1 back.2 other in
-      let one = one_item g.steps back.0 at.0 found.0 (n, m) back.1 at.1 same in
-      ap (option_map (λ (s : ℕ × ℕ). s.1)) (found.1 ∙ ap Some one)
+  step_at-of n m h = step_at-step g n m formed.one_step h

@@ -1,47 +1,27 @@
 -- What a neighbour gives by the lines of a class is what the laws of routing say that it gives.
 use Rattle.std.proofs.Common.{◌≡◌, ℕ, Bool, true, false, List, [], ◌∷◌, Option, Some, None, refl, sym, ap, ◌∙◌, inl, inr}
-use Rattle.std.specs.Prelude.{◌⊎◌, ◌&&◌, not, if◌then◌else◌, option_map}
+use Rattle.std.specs.Prelude.{◌&&◌, not, if◌then◌else◌, option_map}
 use Rattle.std.specs.Option.{option_and_then}
-use Rattle.std.proofs.Common.{arith}
-use Rattle.std.proofs.lemmas.Bool.{and_parts, and_from, cases_Bool, true≢false, ltb-true, lt-ltb, ltb-false, leb-true, le-leb, le-ltb, lt-leb}
+use Rattle.std.proofs.lemmas.Bool.{and_parts, cases_Bool, true≢false}
+use Rattle.list_laws.proofs.Options.{cases_Option}
 use Rattle.net_base.specs.declared.numbers.Tag.{Tag}
 use Rattle.net_base.specs.Network.{PlainNet, IsNet, is_location, is_peer, is_router}
 use Rattle.net_base.specs.Numbers.{no_tag}
 use Rattle.net_base.specs.Prefixes.{PlainPrefix}
+use Rattle.net_base.proofs.RoutersAndPeers.{router_known, router_no_peer, peer_no_router, router_or_peer}
 use Rattle.path_words.specs.Policies.{PlainPolicy}
 use Rattle.path_words.specs.Governing.{is_origin}
 use Rattle.config_base.specs.declared.route.Route.{Route}
 use Rattle.config_base.specs.Configs.{PlainConfig}
 use Rattle.config_base.specs.Lines.{class_of, block_at, import_of, export_of}
-use Rattle.regret_law.specs.Outcomes.{Failures, Outcome, is_dead, is_silent, is_live, route_at, sent, given}
+use Rattle.outcome_base.specs.Outcomes.{Failures, Outcome, is_dead, is_silent, is_live, route_at, sent, given}
 use Rattle.regret_law.proofs.Setting.{network_of, alive_of, lines_of, lines_at, line_of, gift_of}
 use Rattle.regret_law.proofs.Sites.{linked_known}
 use Rattle.regret_law.proofs.Loops.{import_from_router, import_from_peer}
 use Rattle.routing_law.specs.Network as law
 use Rattle.routing_law.specs.Lines as line
 
--- ---- routers and peers
-
-pub router_known : (net : PlainNet) (l : ℕ) → is_router net l ≡ true → is_location net l ≡ true
-router_known net l h = lt-ltb _ _ (omega (arith, ltb-true _ _ h))
-
-pub router_no_peer : (net : PlainNet) (l : ℕ) → is_router net l ≡ true → is_peer net l ≡ false
-router_no_peer net l h = ap (λ b. b && is_location net l) (lt-leb _ _ (ltb-true _ _ h))
-
-pub peer_no_router : (net : PlainNet) (l : ℕ) → is_peer net l ≡ true → is_router net l ≡ false
-peer_no_router net l h = le-ltb _ _ (leb-true _ _ (and_parts _ _ h).0)
-
-pub router_or_peer : (net : PlainNet) (l : ℕ) → is_location net l ≡ true → is_peer net l ≡ false → is_router net l ≡ true
-router_or_peer net l known off = elim (cases_Bool (is_router net l)) [
-  | inl t ↦ t
-  | inr t ↦ absurd (true≢false (sym (and_from _ _ (le-leb _ _ (ltb-false _ _ t)) known) ∙ off))
-]
-
 -- ---- what a line takes
-
-pub some_or_none : {A : Type 0} (o : Option A) → (o ≡ None) ⊎ ((x : A) × (o ≡ Some x))
-some_or_none None = inl refl
-some_or_none (Some x) = inr (x, refl)
 
 kept_through : {A B : Type 0} (f : A → Option B) (P : B → Type 0) (o : Option A) (y : B) → ((x : A) → f x ≡ Some y → P y) → option_and_then f o ≡ Some y → P y
 kept_through f P None y each h = absurd (cc)
@@ -53,7 +33,7 @@ sent_tag true false tag kept router h = cc
 sent_tag false peer tag kept router h = absurd (cc)
 
 -- towards a router the tag stays
-export_to_router : (net : PlainNet) (config : PlainConfig) (class from to : ℕ) (tag kept : Tag) → is_peer net to ≡ false → export_of net config class from to tag ≡ Some kept → kept ≡ tag
+pub export_to_router : (net : PlainNet) (config : PlainConfig) (class from to : ℕ) (tag kept : Tag) → is_peer net to ≡ false → export_of net config class from to tag ≡ Some kept → kept ≡ tag
 export_to_router net config class from to tag kept router h =
     kept_through _ (λ k. k ≡ tag) (block_at net config from to) kept (λ b e. sent_tag _ (is_peer net to) tag kept router e) h
 
@@ -77,14 +57,14 @@ module _ (net : PlainNet) (policy : PlainPolicy) (config : PlainConfig) (f : Fai
   pub sent-permitted : (u v : ℕ) (h : Route) (t : Tag) → is_peer net u ≡ false → route_at outcome u ≡ Some h → export_of net config class u v h.tag ≡ Some t → sent net policy config f p outcome u v ≡ Some (h.path, t)
   sent-permitted u v h t off r e = rw (of_class, r, e, off) refl
 
-  given-unsent : (u v : ℕ) → is_live net f u v ≡ true → sent net policy config f p outcome u v ≡ None → given net policy config f p outcome u v ≡ None
+  pub given-unsent : (u v : ℕ) → is_live net f u v ≡ true → sent net policy config f p outcome u v ≡ None → given net policy config f p outcome u v ≡ None
   given-unsent u v live s = rw (s, of_class, live) refl
 
-  given-refused : (u v : ℕ) (path : List ℕ) (t : Tag) → is_live net f u v ≡ true → sent net policy config f p outcome u v ≡ Some (path, t)
+  pub given-refused : (u v : ℕ) (path : List ℕ) (t : Tag) → is_live net f u v ≡ true → sent net policy config f p outcome u v ≡ Some (path, t)
       → import_of net config class v u path t ≡ None → given net policy config f p outcome u v ≡ None
   given-refused u v path t live s i = rw (s, of_class, i, live) refl
 
-  given-taken : (u v : ℕ) (path : List ℕ) (t : Tag) (q : Tag × ℕ) → is_live net f u v ≡ true → sent net policy config f p outcome u v ≡ Some (path, t)
+  pub given-taken : (u v : ℕ) (path : List ℕ) (t : Tag) (q : Tag × ℕ) → is_live net f u v ≡ true → sent net policy config f p outcome u v ≡ Some (path, t)
       → import_of net config class v u path t ≡ Some q → given net policy config f p outcome u v ≡ Some (record { path = v ∷ path; tag = q.0; pref = q.1 })
   given-taken u v path t q live s i = rw (s, of_class, i, live) refl
 
@@ -111,7 +91,7 @@ module _ (net : PlainNet) (policy : PlainPolicy) (config : PlainConfig) (f : Fai
       → heard v u ≡ option_map (line.taken_by v (u ∷ [])) (option_map gift_of (import_of net config class v u [] no_tag))
   heard-announced u v live peer silent origin =
       let lives : not (is_dead f u) ≡ true = (and_parts _ _ (and_parts _ _ live).0).1 in
-      elim (some_or_none (import_of net config class v u [] no_tag)) [
+      elim (cases_Option (import_of net config class v u [] no_tag)) [
         | inl e ↦ rw (e, live, silent, origin, lives, peer_no_router net u peer, peer) refl
         | inr e ↦ rw (e.1, live, silent, origin, lives, peer_no_router net u peer, peer) refl
       ]
@@ -126,16 +106,16 @@ module _ (net : PlainNet) (policy : PlainPolicy) (config : PlainConfig) (f : Fai
       let there = heard-extended u v live off router h h.tag route sends in
       elim (cases_Bool (law.stands_on v h.path)) [
         | inl t ↦ rw (given-refused u v h.path h.tag live out (takes ∙ rw t refl), there, t) refl
-        | inr t ↦ elim (some_or_none (import_of net config class v u [] h.tag)) [
+        | inr t ↦ elim (cases_Option (import_of net config class v u [] h.tag)) [
           | inl e ↦ rw (given-refused u v h.path h.tag live out (takes ∙ rw (e, t) refl), there, e, t) refl
           | inr e ↦ rw (given-taken u v h.path h.tag e.0 live out (takes ∙ rw (e.1, t) refl), there, e.1, t) refl
         ]
       ]
 
   from_router : (u v : ℕ) → is_live net f u v ≡ true → is_peer net u ≡ false → is_router net u ≡ true → is_router net v ≡ true → Same u v
-  from_router u v live off router to = elim (some_or_none (route_at outcome u)) [
+  from_router u v live off router to = elim (cases_Option (route_at outcome u)) [
     | inl r ↦ rw (given-unsent u v live (sent-unrouted u v off r), heard-unrouted u v live off router r) refl
-    | inr r ↦ elim (some_or_none (export_of net config class u v r.0.tag)) [
+    | inr r ↦ elim (cases_Option (export_of net config class u v r.0.tag)) [
       | inl e ↦ rw (given-unsent u v live (sent-refused u v r.0 off r.1 e), heard-refused u v live off router r.0 r.1 e) refl
       | inr e ↦
           let same = export_to_router net config class u v r.0.tag e.0 (router_no_peer net v to) e.1 in
@@ -148,7 +128,7 @@ module _ (net : PlainNet) (policy : PlainPolicy) (config : PlainConfig) (f : Fai
       let out : sent net policy config f p outcome u v ≡ Some (u ∷ [], no_tag) = rw (peer, silent, origin) refl in
       let takes = import_from_peer net config class v u no_tag rules peer in
       let there = heard-announced u v live peer silent origin in
-      elim (some_or_none (import_of net config class v u [] no_tag)) [
+      elim (cases_Option (import_of net config class v u [] no_tag)) [
         | inl e ↦ rw (given-refused u v (u ∷ []) no_tag live out (takes ∙ e), there, e) refl
         | inr e ↦ rw (given-taken u v (u ∷ []) no_tag e.0 live out (takes ∙ e.1), there, e.1) refl
       ]

@@ -1,4 +1,3 @@
-pub mod Lists
 pub mod Setting
 pub mod Sites
 pub mod Loops
@@ -7,6 +6,7 @@ pub mod Stability
 pub mod Surviving
 pub mod GraphSteps
 pub mod GraphForms
+pub mod FaithfulParts
 pub mod RunWalks
 pub mod GraphRanks
 pub mod Blocks

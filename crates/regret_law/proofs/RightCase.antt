@@ -3,6 +3,7 @@ use Rattle.std.proofs.Common.{◌≡◌, ℕ, suc, ◌≤◌, Bool, true, List, 
 use Rattle.std.specs.Prelude.{not, option_map}
 use Rattle.std.specs.List.{list_any}
 use Rattle.std.proofs.lemmas.Bool.{and_parts, and_from, or_parts, not-true, not_from_false}
+use Rattle.list_laws.proofs.Options.{is_some_parts}
 use Rattle.net_base.specs.Network.{PlainNet}
 use Rattle.net_base.specs.Sets.{holds}
 use Rattle.net_base.specs.Prefixes.{PlainPrefix}
@@ -13,14 +14,14 @@ use Rattle.path_words.specs.Permitted.{from_holds, is_permitted, is_allowed, IsC
 use Rattle.graph_base.specs.Rules.{MeetsRules}
 use Rattle.config_base.specs.declared.route.Route.{Route}
 use Rattle.config_base.specs.Configs.{PlainConfig}
-use Rattle.config_base.specs.Made.{PlainCaseEvidence, number_at}
-use Rattle.regret_law.specs.Outcomes.{Failures, Outcome, survives, route_at, offered}
-use Rattle.regret_law.specs.Right.{IsGood, IsBest, NoneSurvives, IsRightBy}
+use Rattle.evidence_base.specs.Made.{PlainCaseEvidence, number_at}
+use Rattle.outcome_base.specs.Outcomes.{Failures, Outcome, survives, route_at, offered}
+use Rattle.outcome_base.specs.Right.{IsGood, IsBest, NoneSurvives, IsRightBy}
 use Rattle.regret_law.specs.Faithful.{may_start, permits}
 use Rattle.regret_law.specs.Passes.{IsClaimed}
 use Rattle.regret_law.proofs.Setting.{alive_of, lines_of, lines_at, line_of, setup_of, pairs_of}
-use Rattle.regret_law.proofs.SoundCase.{IsCaseAt, as_lines, as_written, here, not_origin, good, claimed_here, route_line, route_good, transit_router, offer_line, offer_good, walk_parts, permits_parts, rank_value}
-use Rattle.regret_law.proofs.Heard.{peer_no_router}
+use Rattle.regret_law.proofs.SoundCase.{IsCaseAt, as_lines, as_written, here, not_origin, good, claimed_here, route_line, route_good, transit_router, offer_line, offer_good, walk_parts, permits_parts}
+use Rattle.net_base.proofs.RoutersAndPeers.{peer_no_router}
 use Rattle.regret_law.proofs.Surviving.{alive-survives}
 use Rattle.regret_law.proofs.GraphForms.{meets_rules}
 use Rattle.regret_law.proofs.GraphRanks.{ranks_of, meets_ranks}
@@ -56,7 +57,7 @@ module _ {net : PlainNet} {policy : PlainPolicy} {config : PlainConfig} {f : Fai
   best_router : (r : ℕ) (h : Route) → IsClaimedRouter net policy p s r → route_at outcome r ≡ Some h → IsBest net policy f p s (r ∷ []) h.path
   best_router r h claimed at =
       let ok = route_good inst r h claimed at in
-      let n = rank_value (rank_of net s.ranked h.path) (permits_parts net Origin s h.path ok.0).3 in (
+      let n = is_some_parts (rank_of net s.ranked h.path) (permits_parts net Origin s h.path ok.0).3 in (
         n.0,
         n.1,
         λ rest m fine rank.
@@ -71,7 +72,7 @@ module _ {net : PlainNet} {policy : PlainPolicy} {config : PlainConfig} {f : Fai
   none_router : (r : ℕ) → IsClaimedRouter net policy p s r → route_at outcome r ≡ None → NoneSurvives net policy f p s (r ∷ [])
   none_router r claimed at rest fine =
       let parts = good_parts r rest fine in
-      let rank = rank_value (rank_of net s.ranked (r ∷ rest)) (permits_parts net Origin s (r ∷ rest) parts.0).3 in
+      let rank = is_some_parts (rank_of net s.ranked (r ∷ rest)) (permits_parts net Origin s (r ∷ rest) parts.0).3 in
       let b = best.routers r rest rank.0 claimed.at_router (not_origin inst r claimed.no_origin) (claimed_here inst r claimed).0 (ranked_path (r ∷ rest) rank.0 parts.0 rank.1) parts.1 in
       let clash : None ≡ Some b.0 = sym (ap (option_map line_of) at) ∙ b.2 in
       absurd (cc)
@@ -98,7 +99,7 @@ module _ {net : PlainNet} {policy : PlainPolicy} {config : PlainConfig} {f : Fai
   best_session : (r peer : ℕ) (path : List ℕ) → IsClaimedSession net policy p s r peer → offered net policy config f p outcome r peer ≡ Some path → IsBest net policy f p s (peer ∷ r ∷ []) path
   best_session r peer path claimed at =
       let ok = offer_good inst r peer path at in
-      let n = rank_value (rank_of net s.ranked path) (permits_parts net Origin s path ok.0).3 in (
+      let n = is_some_parts (rank_of net s.ranked path) (permits_parts net Origin s path ok.0).3 in (
         n.0,
         n.1,
         λ rest m fine rank.
@@ -112,7 +113,7 @@ module _ {net : PlainNet} {policy : PlainPolicy} {config : PlainConfig} {f : Fai
   none_session : (r peer : ℕ) → IsClaimedSession net policy p s r peer → offered net policy config f p outcome r peer ≡ None → NoneSurvives net policy f p s (peer ∷ r ∷ [])
   none_session r peer claimed at rest fine =
       let parts = good_parts peer (r ∷ rest) fine in
-      let rank = rank_value (rank_of net s.ranked (peer ∷ r ∷ rest)) (permits_parts net Origin s (peer ∷ r ∷ rest) parts.0).3 in
+      let rank = is_some_parts (rank_of net s.ranked (peer ∷ r ∷ rest)) (permits_parts net Origin s (peer ∷ r ∷ rest) parts.0).3 in
       let b = session_best r peer rest rank.0 claimed fine rank.1 in
       let clash : None ≡ Some b.0 = sym at ∙ b.2 in
       absurd (cc)

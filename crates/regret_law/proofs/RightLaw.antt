@@ -4,6 +4,8 @@ use Rattle.std.specs.Prelude.{◌&&◌, ◌⊎◌, not, slice_get}
 use Rattle.std.specs.Option.{option_and_then}
 use Rattle.std.proofs.lemmas.Bool.{and_parts, and_from, cases_Bool, true≢false, not_from_false, lt-ltb}
 use Rattle.std.proofs.lemmas.Option.{slice_get-map, slice_get_within}
+use Rattle.list_laws.proofs.Options.{cases_Option, option_map_parts}
+use Rattle.list_laws.proofs.Changed.{map-map}
 use Rattle.net_base.specs.Network.{PlainNet, IsNet, is_peer, is_router}
 use Rattle.net_base.specs.Prefixes.{PlainPrefix, IsPrefix}
 use Rattle.path_words.specs.declared.case.Case.{Case}
@@ -15,23 +17,19 @@ use Rattle.path_words.specs.Cases.{case_list}
 use Rattle.config_base.specs.declared.route.Route.{Route}
 use Rattle.config_base.specs.Configs.{PlainConfig}
 use Rattle.config_base.specs.Lines.{class_of, class_from}
-use Rattle.config_base.specs.Made.{PlainCaseEvidence, patterns_of, statement_at}
-use Rattle.regret_law.specs.Outcomes.{Failures, Outcome, is_dead, is_live, route_at, sent, given, offered, IsStable}
-use Rattle.regret_law.specs.Right.{IsRight, IsRightBy, IsBare, IsRightOutcome}
-use Rattle.regret_law.specs.Passes.{IsMadeOf, IsPolicyOf, IsClaimed}
+use Rattle.evidence_base.specs.Made.{PlainCaseEvidence, patterns_of, statement_at}
+use Rattle.outcome_base.specs.Outcomes.{Failures, Outcome, is_dead, is_live, route_at, sent, given, offered, IsStable}
+use Rattle.outcome_base.specs.Right.{IsRight, IsRightBy, IsBare, IsRightOutcome}
+use Rattle.regret_law.specs.Passes.{IsMadeOf, IsClaimed}
+use Rattle.path_words.specs.Policies.{IsPolicyOf}
 use Rattle.regret_law.specs.Laws.{IsSoundBy, IsSoundOutcome, IsSound, UsedPathsAreAllowed, PassingEvidenceIsRight}
 use Rattle.graph_base.specs.Rules.{MeetsRules}
-use Rattle.config_base.specs.Made.{number_at}
-use Rattle.regret_law.proofs.Stability.{mapped}
-use Rattle.regret_law.proofs.Heard.{some_or_none, router_no_peer}
+use Rattle.evidence_base.specs.Made.{number_at}
+use Rattle.net_base.proofs.RoutersAndPeers.{router_no_peer}
 use Rattle.regret_law.proofs.ClassFound.{class_in}
 use Rattle.regret_law.proofs.CaseOfClass.{IsCaseOf, governed_case, ungoverned_class}
 use Rattle.regret_law.proofs.SoundCase.{IsCaseAt, sound_case, permits_parts}
 use Rattle.regret_law.proofs.RightCase.{right_case}
-
-map_twice : {A B C : Type 0} (f : A → B) (g : B → C) (xs : List A) → map (λ x. g (f x)) xs ≡ map g (map f xs)
-map_twice f g [] = refl
-map_twice f g (x ∷ xs) = ap (λ ys. g (f x) ∷ ys) (map_twice f g xs)
 
 pub no_value : {A : Type 0} (o : Option A) (x : A) → o ≡ None → o ≡ Some x → ⊥
 no_value o x none some = let clash : None ≡ Some x = sym none ∙ some in absurd cc
@@ -83,7 +81,7 @@ module _ (net : PlainNet) (policy : PlainPolicy) (config : PlainConfig) (f : Fai
     }
       where
         mapped_value : (r : ℕ) (h : Route) → route_at outcome r ≡ Some h → (o : Option Route) × (slice_get outcome r ≡ Some o)
-        mapped_value r h at = elim (some_or_none (slice_get outcome r)) [
+        mapped_value r h at = elim (cases_Option (slice_get outcome r)) [
           | inl none ↦ absurd (no_value (route_at outcome r) h (ap (option_and_then (λ (o : Option Route). o)) none) at)
           | inr some ↦ some
         ]
@@ -113,7 +111,7 @@ module _ (net : PlainNet) (policy : PlainPolicy) (config : PlainConfig) (cs : Li
   pub class_is : (p : PlainPrefix) → class_of config p ≡ class_in policy p (case_list net policy) 1
   unfolding class_in
   class_is p =
-      ap (λ ps. class_from ps p 1) (made.lines.classes ∙ map_twice (λ (c : PlainCaseEvidence). c.case) (patterns_of policy) cs ∙ ap (map (patterns_of policy)) made.cases)
+      ap (λ ps. class_from ps p 1) (made.lines.classes ∙ sym (map-map (patterns_of policy) (λ (c : PlainCaseEvidence). c.case) cs) ∙ ap (map (patterns_of policy)) made.cases)
 
   case_at_class : (p : PlainPrefix) (f : Failures) (outcome : Outcome) (s : PlainStatement) → IsStable net policy config f p outcome → (k : ℕ) (d : PlainCaseEvidence) → slice_get cs k ≡ Some d
       → class_of config p ≡ Some (suc k) → IsCaseOf net policy p s k d.case → IsCaseAt net policy config f p outcome s cs k d
@@ -137,7 +135,7 @@ module _ (net : PlainNet) (policy : PlainPolicy) (config : PlainConfig) (cs : Li
     | inr nobody ↦ inr (empty net policy config f p outcome (class_is p ∙ nobody.1) stable s nobody.0)
     | inl found ↦
         let there = slice_get-map (λ (c : PlainCaseEvidence). c.case) cs found.0 in
-        let d = mapped (λ (c : PlainCaseEvidence). c.case) (slice_get cs found.0) found.1 (sym there ∙ ap (λ (xs : List Case). slice_get xs found.0) made.cases ∙ found.3.at) in
+        let d = option_map_parts (λ (c : PlainCaseEvidence). c.case) (slice_get cs found.0) found.1 (sym there ∙ ap (λ (xs : List Case). slice_get xs found.0) made.cases ∙ found.3.at) in
         let of_case = subst (λ (c : Case). IsCaseOf net policy p s found.0 c) (sym d.2) found.3 in
         inl (found.0, d.0, d.1, of_case.number, case_at_class p f outcome s stable found.0 d.0 d.1 (class_is p ∙ found.2) of_case)
   ]

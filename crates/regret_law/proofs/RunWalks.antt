@@ -3,6 +3,7 @@ use Rattle.std.proofs.Common.{◌≡◌, ℕ, Bool, true, false, List, [], ◌�
 use Rattle.std.specs.Prelude.{◌&&◌, not, nat_le}
 use Rattle.std.specs.List.{list_any}
 use Rattle.std.proofs.lemmas.Bool.{and_from, or_from, or_left, or_right, or_cases, cases_Bool, true≢false, not_from_false, le-leb}
+use Rattle.list_laws.proofs.Options.{option_and_then_parts}
 use Rattle.net_base.specs.Network.{PlainNet, is_peer, is_router, linked}
 use Rattle.path_words.specs.Meaning.{at_last, front}
 use Rattle.path_words.specs.Walks.{steps_linked, is_walk}
@@ -12,15 +13,15 @@ use Rattle.graph_base.specs.Runs.{place_of, is_start, has_step, step_at, run}
 use Rattle.graph_base.specs.Rules.{IsWellFormed}
 use Rattle.regret_law.specs.Faithful.{is_walk_to, is_origin_alone, is_run_path}
 use Rattle.regret_law.proofs.Surviving.{linked_flips}
-use Rattle.regret_law.proofs.Heard.{router_no_peer}
+use Rattle.net_base.proofs.RoutersAndPeers.{router_no_peer}
 use Rattle.regret_law.proofs.GraphSteps.{step_nodes, start_at-is, step_at-is}
-use Rattle.regret_law.proofs.GraphForms.{through, linked_parts}
+use Rattle.regret_law.proofs.GraphForms.{linked_parts}
 
 module _ (net : PlainNet) (origin : ℕ → Bool) (external : Bool) (g : PlainGraph) (graph_rules : IsGraph g) (formed : IsWellFormed net origin external g) where
   -- the last step of a run
   last_step : (l k m : ℕ) (ls : List ℕ) → run g (l ∷ k ∷ ls) ≡ Some m → (n : ℕ) × (run g (k ∷ ls) ≡ Some n) × (has_step g n m ≡ true) × (place_of g m ≡ l)
   last_step l k m ls h =
-      let first = through (λ n. step_at g n l) (run g (k ∷ ls)) m h in
+      let first = option_and_then_parts (λ n. step_at g n l) (run g (k ∷ ls)) m h in
       let is = step_at-is g first.0 l m first.2 in
       (first.0, first.1, is.0, is.1)
 

@@ -10,8 +10,8 @@ use Rattle.graph_base.specs.Runs.{place_of, start_at, step_at}
 use Rattle.config_base.specs.declared.route.Route.{Route}
 use Rattle.config_base.specs.Configs.{PlainConfig}
 use Rattle.config_base.specs.Lines.{export_of, import_of, own_tag}
-use Rattle.config_base.specs.Made.{PlainCaseEvidence, tag_at, number_at}
-use Rattle.regret_law.specs.Outcomes.{Failures, Outcome, is_dead, is_live, is_silent, route_at}
+use Rattle.evidence_base.specs.Made.{PlainCaseEvidence, tag_at, number_at}
+use Rattle.outcome_base.specs.Outcomes.{Failures, Outcome, is_dead, is_live, is_silent, route_at}
 use Rattle.routing_law.specs.Network as law
 use Rattle.routing_law.specs.Lines as line
 use Rattle.routing_law.specs.Graph as graph

@@ -1,12 +1,15 @@
 -- Numbers of a network tell its locations apart.
-use Rattle.std.proofs.Common.{◌≡◌, ℕ, zero, suc, ◌+◌, ◌<◌, ◌≤◌, true, false, List, [], ◌∷◌, ◌++◌, length, Some, sym, ap, ◌∙◌, arith, inl, inr}
-use Rattle.std.specs.Prelude.{◌==◌, ◌&&◌, IsTrue, slice_get, nat_le}
+use Rattle.std.proofs.Common.{◌≡◌, ℕ, ◌+◌, ◌≤◌, true, false, length, Some, sym, ap, ◌∙◌, arith, inl, inr}
+use Rattle.std.specs.Prelude.{◌==◌, ◌&&◌, IsTrue, nat_le}
 use Rattle.std.specs.List.{list_any}
 use Rattle.std.specs.Option.{option_map_or}
 use Rattle.std.proofs.lemmas.Bool.{eqb-true, cases_lt, ltb-true, ltb-false, leb-true, lt-ltb, and_parts, cases_Bool, or_cases}
 use Rattle.std.proofs.lemmas.List.{length-append}
 use Rattle.std.proofs.lemmas.Option.{slice_get_within, slice_get_cases, slice_get_past}
-use Rattle.regret_law.proofs.Lists.{one_place, all_at, some_at}
+use Rattle.list_laws.proofs.Items.{from_behind, from_front, slice_get_in_front}
+use Rattle.list_laws.proofs.Keys.{one_place}
+use Rattle.list_laws.proofs.Each.{AllByRecursion_at}
+use Rattle.list_laws.proofs.Tests.{list_any_parts}
 use Rattle.net_base.specs.declared.net.Site.{Site}
 use Rattle.net_base.specs.Numbers.{is_router_as, is_peer_as}
 use Rattle.net_base.specs.Network.{PlainNet, IsNet, IsLink, sites, site_of, asn_of, is_location, is_peer, joins, linked}
@@ -25,30 +28,15 @@ site_at net l known = elim (slice_get_cases (sites net) l).1 [
 pub no_asn : (net : PlainNet) (l : ℕ) → is_location net l ≡ false → asn_of net l ≡ 0
 no_asn net l unknown = ap (λ o. option_map_or (λ (site : Site). site.asn) o 0) (slice_get_past (sites net) l (omega (arith, ltb-false _ _ unknown, length-append net.routers net.peers)))
 
-pub in_front : {A : Type 0} (xs ys : List A) (i : ℕ) (x : A) → slice_get xs i ≡ Some x → slice_get (xs ++ ys) i ≡ Some x
-in_front [] ys i x at = absurd cc
-in_front (y ∷ xs) ys zero x at = at
-in_front (y ∷ xs) ys (suc i) x at = in_front xs ys i x at
-
-pub behind : {A : Type 0} (xs ys : List A) (i : ℕ) (x : A) → slice_get (xs ++ ys) i ≡ Some x → length xs ≤ i → (j : ℕ) × (slice_get ys j ≡ Some x)
-behind [] ys i x at past = (i, at)
-behind (y ∷ xs) ys zero x at past = absurd (omega (arith, past))
-behind (y ∷ xs) ys (suc i) x at past = behind xs ys i x at (omega (arith, past))
-
-pub before : {A : Type 0} (xs ys : List A) (i : ℕ) (x : A) → slice_get (xs ++ ys) i ≡ Some x → i < length xs → slice_get xs i ≡ Some x
-before [] ys i x at within = absurd (omega (arith, within))
-before (y ∷ xs) ys zero x at within = at
-before (y ∷ xs) ys (suc i) x at within = before xs ys i x at (omega (arith, within))
-
 asn_positive : (net : PlainNet) (l : ℕ) (s : Site) → IsNet net → site_of net l ≡ Some s → 1 ≤ s.asn
 asn_positive net l s rules at = elim (cases_lt l (length net.routers)) [
   | inl t ↦
-      let range = all_at (λ (r : Site). IsTrue (is_router_as r.asn)) net.routers l s rules.router_asns (before net.routers net.peers l s at t) in
+      let range = AllByRecursion_at (λ (r : Site). IsTrue (is_router_as r.asn)) net.routers l s rules.router_asns (from_front net.routers net.peers l s at t) in
       let least = leb-true 64512 s.asn (and_parts (nat_le 64512 s.asn) (nat_le s.asn 65534) range).0 in
       omega (arith, least)
   | inr t ↦
-      let there = behind net.routers net.peers l s at t in
-      let range = all_at (λ (r : Site). IsTrue (is_peer_as r.asn)) net.peers there.0 s rules.peer_asns there.1 in
+      let there = from_behind net.routers net.peers l s at t in
+      let range = AllByRecursion_at (λ (r : Site). IsTrue (is_peer_as r.asn)) net.peers there.0 s rules.peer_asns there.1 in
       leb-true 1 s.asn (and_parts (nat_le 1 s.asn) (nat_le s.asn 65534) range).0
 ]
 
@@ -67,8 +55,8 @@ asn_tells net v l rules known same =
 pub no_router_has : (net : PlainNet) (u : ℕ) → IsNet net → is_peer net u ≡ true → list_any (λ (r : Site). r.asn == asn_of net u) net.routers ≡ false
 no_router_has net u rules peer = elim (cases_Bool (list_any (λ (r : Site). r.asn == asn_of net u) net.routers)) [
   | inl t ↦
-      let found = some_at (λ (r : Site). r.asn == asn_of net u) net.routers t in
-      let here = in_front net.routers net.peers found.0 found.1 found.2 in
+      let found = list_any_parts (λ (r : Site). r.asn == asn_of net u) net.routers t in
+      let here = slice_get_in_front net.routers net.peers found.0 found.1 found.2 in
       let within = slice_get_within net.routers found.0 found.1 found.2 in
       let parts = and_parts (nat_le (length net.routers) u) (is_location net u) peer in
       let other = site_at net u parts.1 in
@@ -98,5 +86,5 @@ joins_known net a b link rules h = elim (or_cases (link.0 == a && link.1 == b) (
 -- what is linked is a location
 pub linked_known : (net : PlainNet) (a b : ℕ) → IsNet net → linked net a b ≡ true → (is_location net a ≡ true) × (is_location net b ≡ true)
 linked_known net a b rules h =
-    let found = some_at (joins a b) net.links h in
-    joins_known net a b found.1 (all_at (IsLink net) net.links found.0 found.1 rules.links found.2) found.3
+    let found = list_any_parts (joins a b) net.links h in
+    joins_known net a b found.1 (AllByRecursion_at (IsLink net) net.links found.0 found.1 rules.links found.2) found.3

@@ -1,8 +1,8 @@
 -- An outcome for a prefix of a case, of a configuration that is made of graphs: whatever the numbers are, paths are allowed.
-use Rattle.std.proofs.Common.{◌≡◌, ℕ, suc, ◌<◌, Bool, true, false, List, [], ◌∷◌, ◌++◌, length, Option, Some, None, refl, sym, ap, ◌∙◌, inl, inr, subst}
+use Rattle.std.proofs.Common.{◌≡◌, ℕ, suc, ◌<◌, Bool, true, false, List, [], ◌∷◌, ◌++◌, length, Some, None, refl, sym, ap, ◌∙◌, inl, inr, subst}
 use Rattle.std.specs.Prelude.{◌&&◌, not, is_some, option_map, slice_get, drop, nat_le, ◌==◌}
 use Rattle.std.specs.List.{list_any}
-use Rattle.std.proofs.lemmas.Bool.{and_parts, and_from, or_left, or_right, cases_Bool, not-true, not_from_false, true≢false}
+use Rattle.std.proofs.lemmas.Bool.{and_parts, and_from, cases_Bool, not-true, not_from_false, true≢false}
 use Rattle.net_base.specs.Network.{PlainNet, IsNet, is_location, is_peer, is_router}
 use Rattle.net_base.specs.Sets.{holds}
 use Rattle.net_base.specs.Prefixes.{PlainPrefix}
@@ -11,13 +11,16 @@ use Rattle.path_words.specs.Meaning.{rank_of, at_first, front}
 use Rattle.path_words.specs.Walks.{is_walk, is_loop_free, steps_linked}
 use Rattle.path_words.specs.Governing.{is_origin}
 use Rattle.path_words.specs.Permitted.{from_holds, ends_at_origin, is_permitted, is_allowed, IsClaimedRouter}
+use Rattle.path_words.proofs.Peers.{peer_inside}
 use Rattle.graph_base.specs.Runs.{run, step_at}
 use Rattle.config_base.specs.declared.route.Route.{Route}
 use Rattle.config_base.specs.Configs.{PlainConfig}
 use Rattle.config_base.specs.Lines.{class_of}
-use Rattle.config_base.specs.Made.{PlainCaseEvidence, IsIn, IsConfigOf, AreTags, number_at}
-use Rattle.regret_law.specs.Outcomes.{Failures, Outcome, is_dead, is_live, survives, route_at, offered, IsStable}
-use Rattle.regret_law.specs.Right.{IsGood}
+use Rattle.evidence_base.specs.Made.{PlainCaseEvidence, IsConfigOf, AreTags, number_at}
+use Rattle.list_laws.specs.Members.{IsIn}
+use Rattle.list_laws.proofs.Options.{option_and_then_parts}
+use Rattle.outcome_base.specs.Outcomes.{Failures, Outcome, is_dead, is_live, survives, route_at, offered, IsStable}
+use Rattle.outcome_base.specs.Right.{IsGood}
 use Rattle.regret_law.specs.Faithful.{is_walk_to, may_start, permits}
 use Rattle.regret_law.specs.Laws.{IsSoundBy}
 use Rattle.regret_law.specs.Passes.{IsClaimed, IsCaseGraph}
@@ -25,7 +28,7 @@ use Rattle.regret_law.proofs.Setting.{network_of, alive_of, graph_of, lines_of, 
 use Rattle.regret_law.proofs.Stability.{stable_lines, offered_lines}
 use Rattle.regret_law.proofs.Surviving.{survives-alive}
 use Rattle.regret_law.proofs.GraphSteps.{start_node, step_nodes, start_at-is, step_at-is}
-use Rattle.regret_law.proofs.GraphForms.{through, same_run}
+use Rattle.regret_law.proofs.GraphForms.{same_run}
 use Rattle.regret_law.proofs.GraphRanks.{rank_of_run}
 use Rattle.regret_law.proofs.RunWalks.{run_begins, run_path}
 use Rattle.regret_law.proofs.ClassLines.{written}
@@ -38,12 +41,6 @@ use Rattle.routing_law.proofs.Used.{used_paths_are_sound}
 same_free : (path : List ℕ) → law.loop_free path ≡ is_loop_free path
 same_free [] = refl
 same_free (l ∷ ls) = ap (λ b. not (list_any (λ k. k == l) ls) && b) (same_free ls)
-
--- a peer in front of a walk's later places is its first place
-peer_inside : (net : PlainNet) (above : List ℕ) (p u : ℕ) (rest : List ℕ) → is_peer net p ≡ true → list_any (is_peer net) (front (above ++ p ∷ u ∷ rest)) ≡ true
-peer_inside net [] p u rest peer = or_left (is_peer net p) (list_any (is_peer net) (front (u ∷ rest))) peer
-peer_inside net (a ∷ []) p u rest peer = or_right (is_peer net a) (list_any (is_peer net) (front (p ∷ u ∷ rest))) (peer_inside net [] p u rest peer)
-peer_inside net (a ∷ b ∷ above) p u rest peer = or_right (is_peer net a) (list_any (is_peer net) (front (b ∷ above ++ p ∷ u ∷ rest))) (peer_inside net (b ∷ above) p u rest peer)
 
 -- the parts of a walk
 pub walk_parts : (net : PlainNet) (path : List ℕ) → is_walk net path ≡ true → (steps_linked net path ≡ true) × (list_any (is_peer net) (front (drop 1 path)) ≡ false)
@@ -60,10 +57,6 @@ permits_parts net origin s path h =
     let second = and_parts (is_walk_to net origin path) (at_first (from_holds s.from) path) first.0 in
     let third = and_parts (is_walk net path) (ends_at_origin origin path) second.0 in
     (third.0, third.1, second.1, first.1)
-
-pub rank_value : (o : Option ℕ) → is_some o ≡ true → (i : ℕ) × (o ≡ Some i)
-rank_value None h = absurd (true≢false (sym h))
-rank_value (Some i) h = (i, refl)
 
 -- a prefix of a case, with a stable outcome for it
 pub record IsCaseAt (net : PlainNet) (policy : PlainPolicy) (config : PlainConfig) (f : Failures) (p : PlainPrefix) (outcome : Outcome) (s : PlainStatement) (cs : List PlainCaseEvidence) (k : ℕ) (c : PlainCaseEvidence) : Type 0 where
@@ -112,7 +105,7 @@ module _ {net : PlainNet} {policy : PlainPolicy} {config : PlainConfig} {f : Fai
   run_node [] n h = absurd (cc)
   run_node (l ∷ []) n h = start_node c.graph n inst.on.graph (start_at-is c.graph l n h).0
   run_node (l ∷ j ∷ ls) n h =
-      let last = through (λ m. step_at c.graph m l) (run c.graph (j ∷ ls)) n h in
+      let last = option_and_then_parts (λ m. step_at c.graph m l) (run c.graph (j ∷ ls)) n h in
       (step_nodes c.graph last.0 n inst.on.graph (step_at-is c.graph last.0 l n last.2).0).1
 
   pub claimed_here : (r : ℕ) → IsClaimedRouter net policy p s r → (may_start Origin s r ≡ true) × IsClaimed net s c.case r

@@ -3,6 +3,7 @@ use Rattle.std.proofs.Common.{◌≡◌, ℕ, Bool, true, false, [], Option, Som
 use Rattle.std.specs.Prelude.{◌&&◌, ◌||◌, ◌==◌, is_some, if◌then◌else◌}
 use Rattle.std.specs.List.{find, list_any}
 use Rattle.std.proofs.lemmas.Bool.{and_parts, and_from, cases_Bool, eqb-true, eq-eqb, true≢false}
+use Rattle.list_laws.proofs.Options.{cases_Option}
 use Rattle.net_base.specs.declared.numbers.Tag.{Tag}
 use Rattle.net_base.specs.Network.{PlainNet, is_peer}
 use Rattle.net_base.specs.Numbers.{no_tag}
@@ -14,7 +15,6 @@ use Rattle.config_base.specs.declared.config.Export.{Export}
 use Rattle.config_base.specs.declared.config.Own.{Own}
 use Rattle.config_base.specs.Configs.{PlainConfig}
 use Rattle.config_base.specs.Lines.{class_of, same_tag, router_at, block_at, export_of, import_of, own_tag}
-use Rattle.regret_law.proofs.Heard.{some_or_none}
 
 pub tag_is : (t u : Tag) → same_tag t u ≡ true → t ≡ u
 tag_is t u h =
@@ -27,10 +27,6 @@ tag_same t u h = and_from (t.asn == u.asn) (t.value == u.value) (eq-eqb _ _ (ap 
 when : (b : Bool) (o p : Option Tag) → (if b then o else None) ≡ p → is_some p ≡ true → b ≡ true
 when true o p h some = refl
 when false o p h some = absurd (true≢false (sym some ∙ ap is_some (sym h)))
-
-pub some_value : {A : Type 0} (o : Option A) → is_some o ≡ true → (x : A) × (o ≡ Some x)
-some_value None h = absurd (true≢false (sym h))
-some_value (Some x) h = (x, refl)
 
 -- ---- lines of one block
 
@@ -79,9 +75,9 @@ module _ (net : PlainNet) (config : PlainConfig) (class at from : ℕ) (tag : Ta
   -- an import comes from a rule of the block
   pub imported_by : (q : Tag × ℕ) → import_of net config class at from [] tag ≡ Some q
       → (b : Session) × (rule : Rule) × (block_at net config at from ≡ Some b) × (find (imports_tag net from class tag) b.imports ≡ Some rule) × (gift rule ≡ q)
-  imported_by q h = elim (some_or_none (block_at net config at from)) [
+  imported_by q h = elim (cases_Option (block_at net config at from)) [
     | inl e ↦ let clash : None ≡ Some q = sym (no_import e) ∙ h in absurd (cc)
-    | inr e ↦ elim (some_or_none (find (imports_tag net from class tag) e.0.imports)) [
+    | inr e ↦ elim (cases_Option (find (imports_tag net from class tag) e.0.imports)) [
       | inl f ↦ let clash : None ≡ Some q = sym (import_none e.0 e.1 f) ∙ h in absurd (cc)
       | inr f ↦ let same : Some (gift f.0) ≡ Some q = sym (import_some e.0 f.0 e.1 f.1) ∙ h in (e.0, f.0, e.1, f.1, cc)
     ]

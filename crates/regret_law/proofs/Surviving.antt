@@ -3,22 +3,17 @@ use Rattle.std.proofs.Common.{◌≡◌, ℕ, Bool, true, false, List, [], ◌�
 use Rattle.std.specs.Prelude.{◌&&◌, ◌||◌, ◌==◌, not}
 use Rattle.std.specs.List.{list_any}
 use Rattle.std.proofs.lemmas.Bool.{and_parts, and_from, or_parts, not-true, not_from_false}
+use Rattle.std.proofs.Math.Bool.{or_comm}
 use Rattle.net_base.specs.Network.{PlainNet, is_peer, joins, linked}
 use Rattle.path_words.specs.Meaning.{front}
 use Rattle.path_words.specs.Walks.{steps_linked}
-use Rattle.regret_law.specs.Outcomes.{Failures, is_dead, is_dead_link, is_silent, is_live, passes_live, ends_heard, survives}
+use Rattle.outcome_base.specs.Outcomes.{Failures, is_dead, is_dead_link, is_silent, is_live, passes_live, ends_heard, survives}
 use Rattle.regret_law.proofs.Setting.{alive_of}
 use Rattle.routing_law.specs.Network as law
 
-or_flips : (x y : Bool) → (x || y) ≡ (y || x)
-or_flips true true = refl
-or_flips true false = refl
-or_flips false true = refl
-or_flips false false = refl
-
 any_flips : (a b : ℕ) (links : List (ℕ × ℕ)) → list_any (joins a b) links ≡ list_any (joins b a) links
 any_flips a b [] = refl
-any_flips a b (l ∷ ls) = ap₂ (λ (x y : Bool). x || y) (or_flips (l.0 == a && l.1 == b) (l.0 == b && l.1 == a)) (any_flips a b ls)
+any_flips a b (l ∷ ls) = ap₂ (λ (x y : Bool). x || y) (or_comm (l.0 == a && l.1 == b) (l.0 == b && l.1 == a)) (any_flips a b ls)
 
 -- links have no direction
 pub linked_flips : (net : PlainNet) (a b : ℕ) → linked net a b ≡ linked net b a

@@ -1,16 +1,19 @@
 -- The laws of configurations that are made of evidence.
-use Rattle.std.specs.Prelude.{◌≡◌, ℕ, not, ◌&&◌, IsTrue, List, ◌++◌, length, Option, Some, None}
+use Rattle.std.specs.Prelude.{◌≡◌, ◌↔◌, ℕ, ◌<◌, Bool, not, ◌&&◌, IsTrue, List, ◌++◌, length, Option, Some, None}
 use Rattle.net_base.specs.Network.{PlainNet, IsNet, is_router}
 use Rattle.net_base.specs.Prefixes.{PlainPrefix, IsPrefix}
 use Rattle.path_words.specs.Policies.{PlainPolicy, PlainStatement}
 use Rattle.path_words.specs.Governing.{is_origin, statement_of}
 use Rattle.path_words.specs.Permitted.{is_permitted, IsClaimedRouter}
+use Rattle.graph_base.specs.Graphs.{PlainGraph, IsGraph}
 use Rattle.config_base.specs.declared.route.Route.{Route}
 use Rattle.config_base.specs.Configs.{PlainConfig}
-use Rattle.config_base.specs.Made.{PlainCaseEvidence}
-use Rattle.regret_law.specs.Outcomes.{Failures, Outcome, route_at, IsStable, offered}
-use Rattle.regret_law.specs.Right.{IsGood, IsBare, IsRight}
-use Rattle.regret_law.specs.Passes.{IsPolicyOf, IsMadeOf, Passes}
+use Rattle.evidence_base.specs.Made.{PlainCaseEvidence}
+use Rattle.outcome_base.specs.Outcomes.{Failures, Outcome, route_at, IsStable, offered}
+use Rattle.outcome_base.specs.Right.{IsGood, IsBare, IsRight}
+use Rattle.regret_law.specs.Faithful.{IsFaithful, HasWalks, HasRank}
+use Rattle.regret_law.specs.Passes.{IsMadeOf, Passes}
+use Rattle.path_words.specs.Policies.{IsPolicyOf}
 
 -- Paths of claimed routers and offers are allowed and survive; the path of every other router is a suffix of a permitted walk.
 pub record IsSoundBy (net : PlainNet) (policy : PlainPolicy) (config : PlainConfig) (f : Failures) (p : PlainPrefix) (s : PlainStatement) (outcome : Outcome) : Type 0 where
@@ -44,3 +47,8 @@ PassingEvidenceIsRight = (net : PlainNet) (policy : PlainPolicy) (config : Plain
 abbrev pub StableOutcomesExist : Type 0
 StableOutcomesExist = (net : PlainNet) (policy : PlainPolicy) (config : PlainConfig) (cs : List PlainCaseEvidence) → IsNet net → IsPolicyOf net policy → Passes net policy config cs
     → (p : PlainPrefix) (f : Failures) → IsPrefix p → (outcome : Outcome) × (length outcome ≡ length net.routers) × IsStable net policy config f p outcome
+
+-- A graph is faithful exactly where it has the walks of the statement, and each node the rank of its walks.
+abbrev pub FaithfulIsWalksAndRanks : Type 0
+FaithfulIsWalksAndRanks = (net : PlainNet) (s : PlainStatement) (origin : ℕ → Bool) (external : Bool) (g : PlainGraph) → IsGraph g
+    → IsFaithful net s origin external g ↔ HasWalks net s origin external g × ((n : ℕ) → n < length g.nodes → HasRank net s origin g n)

@@ -1,25 +1,19 @@
 -- Evidence that makes a configuration right.
-use Rattle.std.specs.Prelude.{◌≡◌, ℕ, ◌<◌, IsTrue, List, ◌∷◌, length, map, Some, slice_get, IsSome}
+use Rattle.std.specs.Prelude.{◌≡◌, ℕ, ◌-◌, ◌<◌, ◌≤◌, IsTrue, List, [], ◌∷◌, length, map, Some, slice_get, IsSome}
+use Rattle.net_base.specs.declared.limits.TheConstants.{ALTERNATIVES, STEPS}
 use Rattle.net_base.specs.Network.{PlainNet, is_router}
 use Rattle.net_base.specs.Sets.{holds}
-use Rattle.net_base.specs.Prefixes.{PlainPattern, IsPrefix, IsPattern}
 use Rattle.path_words.specs.declared.case.Case.{Case}
-use Rattle.path_words.specs.declared.policy.Origin.{Origin}
-use Rattle.path_words.specs.Policies.{PlainPolicy, PlainStatement, IsPolicy}
+use Rattle.path_words.specs.Policies.{PlainPolicy, PlainStatement}
 use Rattle.path_words.specs.Cases.{case_list}
+use Rattle.path_words.specs.Meaning.{alternative_count}
+use Rattle.path_exprs.specs.Standings.{IsWalked, plan_for}
 use Rattle.graph_base.specs.Graphs.{IsGraph}
 use Rattle.graph_base.specs.Runs.{place_of, rank_at}
 use Rattle.graph_base.specs.Rules.{MeetsRules}
 use Rattle.config_base.specs.Configs.{PlainConfig}
-use Rattle.config_base.specs.Made.{PlainCaseEvidence, IsIn, number_at, statement_at, IsConfigOf, AreTags}
+use Rattle.evidence_base.specs.Made.{PlainCaseEvidence, number_at, statement_at, IsConfigOf, AreTags}
 use Rattle.regret_law.specs.Faithful.{IsFaithful, may_start, permits}
-
--- What a policy is for a network: within the limits, over prefixes and patterns, with routers alone as origins.
-pub record IsPolicyOf (net : PlainNet) (policy : PlainPolicy) : Type 0 where
-  pub rules : IsPolicy policy
-  pub prefixes : (o : Origin) → IsIn policy.origins o → IsPrefix o.prefix
-  pub routers : (o : Origin) (l : ℕ) → IsIn policy.origins o → IsTrue (holds o.at l) → IsTrue (is_router net l)
-  pub patterns : (s : PlainStatement) (t : PlainPattern) → IsIn policy.statements s → IsIn s.patterns t → IsPattern t
 
 -- a router of a case that its statement claims: a walk may start there, and a permitted one does
 pub record IsClaimed (net : PlainNet) (s : PlainStatement) (c : Case) (r : ℕ) : Type 0 where
@@ -43,7 +37,22 @@ pub record IsMadeOf (net : PlainNet) (policy : PlainPolicy) (config : PlainConfi
   pub tags : AreTags net cs
   pub lines : IsConfigOf net policy cs config
 
--- The evidence passes: besides, the numbers meet the rules.
+-- ---- limits
+
+-- the most steps over all cases, before they are trimmed
+abbrev pub all_steps : ℕ
+all_steps = STEPS
+
+-- These cases are within the limits one after the other, with room for so many steps: no more than 64 alternatives, 4,096
+-- standings and the room that the earlier ones leave, all counted before anything is trimmed.
+abbrev pub AreWithin : PlainNet → PlainPolicy → ℕ → List Case → Type 0
+AreWithin net policy room [] = Unit {0}
+AreWithin net policy room (c ∷ cs) =
+    (s : PlainStatement) × (steps : ℕ) × (statement_at policy c.statement ≡ Some s) × (alternative_count s.ranked ≤ ALTERNATIVES)
+    × IsWalked net (plan_for net s c) steps × (steps ≤ room) × AreWithin net policy (room - steps) cs
+
+-- The evidence passes: the policy's cases are within the limits, and the numbers meet the rules.
 pub record Passes (net : PlainNet) (policy : PlainPolicy) (config : PlainConfig) (cs : List PlainCaseEvidence) : Type 0 where
+  pub limits : AreWithin net policy all_steps (case_list net policy)
   pub made : IsMadeOf net policy config cs
   pub rules : (k : ℕ) (c : PlainCaseEvidence) (s : PlainStatement) → slice_get cs k ≡ Some c → statement_at policy c.case.statement ≡ Some s → MeetsRules net (IsClaimed net s c.case) c.case.external c.graph (number_at c)

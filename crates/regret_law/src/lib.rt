@@ -1,12 +1,11 @@
-//! Outcomes of a configured network under failures, when they are right, and the laws that make them so.
+//! What is asked of the evidence for a configuration, and the laws that evidence which passes makes the configuration right.
 //!
-//! There is no code here. `specs/Outcomes` says what is alive, what neighbours give each other and when an outcome is stable;
-//! `specs/Right` when a configuration is right for a policy; `specs/Faithful` and `specs/Passes` what is asked of the evidence for a
-//! configuration: a graph for each case of the policy, with a number and a tag for each node. The laws of `specs/Laws` say what
-//! follows. They stand on those of `routing_law`, which know no policy.
+//! There is no code here. `specs/Faithful` and `specs/Passes` say what is asked of evidence: a graph for each case of the policy, with
+//! a number and a tag for each node. The laws of `specs/Laws` say what follows for the outcomes of `outcome_base`. They stand on those
+//! of `routing_law`, which know no policy.
 #![tactic(auto)]
 
-ghost use Rattle.regret_law.specs.Laws.{PassingEvidenceIsRight, StableOutcomesExist, UsedPathsAreAllowed};
+ghost use Rattle.regret_law.specs.Laws.{FaithfulIsWalksAndRanks, PassingEvidenceIsRight, StableOutcomesExist, UsedPathsAreAllowed};
 
 /// Whatever its preference numbers are, a configuration that is made of the graphs of a policy's cases lets only allowed paths be
 /// used: for every prefix, all failures and every stable outcome, the paths of claimed routers and the paths that peers are offered
@@ -25,4 +24,9 @@ pub fn passing_evidence_is_right()
 /// And there is something to be right about: whatever fails, there is a stable outcome for every prefix.
 pub fn stable_outcomes_exist()
     ensures { StableOutcomesExist }
+{}
+
+/// What is asked of the graph of a case is what is asked of its walks and of the rank of each node.
+pub fn faithful_is_walks_and_ranks()
+    ensures { FaithfulIsWalksAndRanks }
 {}

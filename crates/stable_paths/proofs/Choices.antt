@@ -1,33 +1,22 @@
 -- What the tests over links tell of a router's choice.
-use Rattle.std.proofs.Common.{◌≡◌, ℕ, ◌≤◌, Bool, true, false, not, List, [], ◌∷◌, Option, Some, None, refl, sym, ap, ◌∙◌, IsTrue, inl, inr, ◌⊎◌, arith}
-use Rattle.std.specs.Prelude.{◌&&◌, ◌||◌, ◌==◌, ◌↔◌, nat_lt, if◌then◌else◌}
+use Rattle.std.proofs.Common.{◌≡◌, ℕ, ◌≤◌, Bool, true, false, not, List, [], ◌∷◌, Option, Some, None, refl, sym, ap, ◌∙◌, IsTrue, inl, inr, arith}
+use Rattle.std.specs.Prelude.{◌&&◌, ◌||◌, ◌==◌, ◌↔◌, nat_lt}
 use Rattle.std.specs.List.{list_any}
 use Rattle.std.specs.Option.{option_map_or}
-use Rattle.std.proofs.lemmas.Bool.{and_parts, eqb-true}
+use Rattle.std.proofs.lemmas.Bool.{and_parts, eqb-true, or_cases, or_right}
 use Rattle.std.proofs.lemmas.Bool.Decides.{eqb_tells, nat_tests}
+use Rattle.list_laws.proofs.Options.{when_parts}
 use Rattle.net_base.specs.Network.{PlainNet, joins, linked}
 use Rattle.net_base.specs.Prefixes.{PlainPrefix}
 use Rattle.path_words.specs.Policies.{PlainPolicy}
 use Rattle.config_base.specs.declared.route.Route.{Route}
 use Rattle.config_base.specs.Configs.{PlainConfig}
-use Rattle.regret_law.specs.Outcomes.{Failures, Outcome, is_live, route_at, given, Chooses}
+use Rattle.outcome_base.specs.Outcomes.{Failures, Outcome, is_live, route_at, given, Chooses}
 use Rattle.stable_paths.specs.Tests.{is_route, exceeds, is_higher, far_end, gives, outdoes}
 use Rattle.stable_paths.proofs.RouteTests.{is_route-is, is_route-refl}
 
-some_of : (a b : Bool) → (a || b) ≡ true → (a ≡ true) ⊎ (b ≡ true)
-some_of true b h = inl refl
-some_of false b h = inr h
-
-or_later : (a b : Bool) → b ≡ true → (a || b) ≡ true
-or_later true b h = refl
-or_later false b h = h
-
-then_some : {X : Type 0} (b : Bool) (o : Option X) (x : X) → (if b then o else None) ≡ Some x → b ≡ true
-then_some true o x h = refl
-then_some false o x h = absurd (cc)
-
-far : (z r : ℕ) (link : ℕ × ℕ) → joins z r link ≡ true → far_end r link ≡ Some z
-far z r link h = elim (some_of (link.0 == z && link.1 == r) (link.0 == r && link.1 == z) h) [
+pub far : (z r : ℕ) (link : ℕ × ℕ) → joins z r link ≡ true → far_end r link ≡ Some z
+far z r link h = elim (or_cases (link.0 == z && link.1 == r) (link.0 == r && link.1 == z) h) [
   | inl both ↦ first (and_parts (link.0 == z) (link.1 == r) both)
   | inr both ↦ second (and_parts (link.0 == r) (link.1 == z) both)
 ]
@@ -48,10 +37,10 @@ far z r link h = elim (some_of (link.0 == z && link.1 == r) (link.0 == r && link
 at_far_end : (t : ℕ → Bool) (links : List (ℕ × ℕ)) (z r : ℕ) → list_any (joins z r) links ≡ true → t z ≡ true
     → list_any (λ link. option_map_or t (far_end r link) false) links ≡ true
 at_far_end t [] z r joined passes = absurd (cc)
-at_far_end t (link ∷ links) z r joined passes = elim (some_of (joins z r link) (list_any (joins z r) links) joined) [
+at_far_end t (link ∷ links) z r joined passes = elim (or_cases (joins z r link) (list_any (joins z r) links) joined) [
   | inl here ↦ ap (λ o. option_map_or t o false || list_any (λ l. option_map_or t (far_end r l) false) links) (far z r link here)
       ∙ ap (λ b. b || list_any (λ l. option_map_or t (far_end r l) false) links) passes
-  | inr later ↦ or_later _ _ (at_far_end t links z r later passes)
+  | inr later ↦ or_right _ _ (at_far_end t links z r later passes)
 ]
 
 one_passes : (t : ℕ → Bool) (o : Option ℕ) → option_map_or t o false ≡ true → (z : ℕ) × (t z ≡ true)
@@ -61,7 +50,7 @@ one_passes t (Some z) h = (z, h)
 -- and some far end that passes is a location that does
 from_far_end : (t : ℕ → Bool) (links : List (ℕ × ℕ)) (r : ℕ) → list_any (λ link. option_map_or t (far_end r link) false) links ≡ true → (z : ℕ) × (t z ≡ true)
 from_far_end t [] r h = absurd (cc)
-from_far_end t (link ∷ links) r h = elim (some_of (option_map_or t (far_end r link) false) (list_any (λ l. option_map_or t (far_end r l) false) links) h) [
+from_far_end t (link ∷ links) r h = elim (or_cases (option_map_or t (far_end r link) false) (list_any (λ l. option_map_or t (far_end r l) false) links) h) [
   | inl here ↦ one_passes t (far_end r link) here
   | inr later ↦ from_far_end t links r later
 ]
@@ -71,18 +60,18 @@ higher_route None best h = absurd (cc)
 higher_route (Some g) best h = (g, refl, h)
 
 module _ (net : PlainNet) (policy : PlainPolicy) (config : PlainConfig) (f : Failures) (p : PlainPrefix) (outcome : Outcome) (r : ℕ) where
-  linked_if : (z : ℕ) (g : Route) → given net policy config f p outcome z r ≡ Some g → linked net z r ≡ true
+  pub linked_if : (z : ℕ) (g : Route) → given net policy config f p outcome z r ≡ Some g → linked net z r ≡ true
   linked_if z g h =
-      let live = then_some (is_live net f z r) _ g h in
+      let live = (when_parts (is_live net f z r) _ g h).0 in
       (and_parts (linked net z r) _ (and_parts _ _ (and_parts _ _ live).0).0).0
 
-  giver : (h : Route) → list_any (gives net policy config f p outcome r h) net.links ≡ true → (z : ℕ) × (given net policy config f p outcome z r ≡ Some h)
+  pub giver : (h : Route) → list_any (gives net policy config f p outcome r h) net.links ≡ true → (z : ℕ) × (given net policy config f p outcome z r ≡ Some h)
   unfolding gives
   giver h some =
       let at = from_far_end (λ z. is_route (given net policy config f p outcome z r) h) net.links r some in
       (at.0, is_route-is _ h at.1)
 
-  has_giver : (h : Route) (z : ℕ) → given net policy config f p outcome z r ≡ Some h → list_any (gives net policy config f p outcome r h) net.links ≡ true
+  pub has_giver : (h : Route) (z : ℕ) → given net policy config f p outcome z r ≡ Some h → list_any (gives net policy config f p outcome r h) net.links ≡ true
   unfolding gives
   has_giver h z is = at_far_end (λ z. is_route (given net policy config f p outcome z r) h) net.links z r (linked_if z h is) (is_route-refl _ h is)
 

@@ -4,7 +4,7 @@ use Rattle.std.specs.Prelude.{◌&&◌, ◌||◌}
 use Rattle.std.specs.List.{list_any}
 use Rattle.net_base.specs.Network.{PlainNet, is_peer}
 use Rattle.path_words.specs.Meaning.{some_step}
-use Rattle.regret_law.specs.Outcomes.{Failures, is_dead, is_dead_link, is_silent, passes_live, ends_heard}
+use Rattle.outcome_base.specs.Outcomes.{Failures, is_dead, is_dead_link, is_silent, passes_live, ends_heard}
 
 split : (a b c d : Bool) → (not a && not b && (not c && not d)) ≡ (not (a || c) && not (b || d))
 split true b c d = refl

@@ -1,7 +1,7 @@
 -- An outcome is stable where each router is settled.
-use Rattle.std.proofs.Common.{◌≡◌, ℕ, ◌+◌, ◌<◌, subst, Bool, true, not, length, refl, ap, inl, inr, arith}
+use Rattle.std.proofs.Common.{◌≡◌, ℕ, ◌+◌, ◌<◌, subst, Bool, not, length, ap, inl, inr, arith}
 use Rattle.std.specs.Prelude.{◌&&◌, option_and_then}
-use Rattle.std.proofs.lemmas.Bool.{and_parts, cases_lt}
+use Rattle.std.proofs.lemmas.Bool.{and_parts, cases_lt, and_from}
 use Rattle.std.proofs.lemmas.Option.{slice_get_past}
 use borrow.Author.Tests.{ltb-true}
 use Rattle.net_base.specs.Network.{PlainNet, is_router}
@@ -9,11 +9,8 @@ use Rattle.net_base.specs.Prefixes.{PlainPrefix}
 use Rattle.path_words.specs.Policies.{PlainPolicy}
 use Rattle.path_words.specs.Governing.{is_origin}
 use Rattle.config_base.specs.Configs.{PlainConfig}
-use Rattle.regret_law.specs.Outcomes.{Failures, Outcome, is_dead, IsStable}
+use Rattle.outcome_base.specs.Outcomes.{Failures, Outcome, is_dead, IsStable}
 use Rattle.stable_paths.specs.Tests.{IsSettled}
-
-both_true : (a b : Bool) → a ≡ true → b ≡ true → (a && b) ≡ true
-both_true a b x y = rw (x, y) refl
 
 module _ (net : PlainNet) (policy : PlainPolicy) (config : PlainConfig) (f : Failures) (p : PlainPrefix) (outcome : Outcome) where
   abbrev Settled : ℕ → Type 0
@@ -35,11 +32,11 @@ module _ (net : PlainNet) (policy : PlainPolicy) (config : PlainConfig) (f : Fai
     own = λ r is.
         let a = and_parts (is_router net r && origin r) (not (is_dead f r)) is in
         let b = and_parts (is_router net r) (origin r) a.0 in
-        (all r (ltb-true r (length net.routers) b.0)).own (both_true (origin r) (not (is_dead f r)) b.1 a.1);
+        (all r (ltb-true r (length net.routers) b.0)).own (and_from (origin r) (not (is_dead f r)) b.1 a.1);
     chooses = λ r is.
         let a = and_parts (is_router net r && not (origin r)) (not (is_dead f r)) is in
         let b = and_parts (is_router net r) (not (origin r)) a.0 in
-        (all r (ltb-true r (length net.routers) b.0)).chooses (both_true (not (origin r)) (not (is_dead f r)) b.1 a.1);
+        (all r (ltb-true r (length net.routers) b.0)).chooses (and_from (not (origin r)) (not (is_dead f r)) b.1 a.1);
   }
 
   -- a loop over the routers

@@ -2,8 +2,8 @@
 use Rattle.std.specs.Prelude.{ℕ, List, ◌∷◌}
 use Rattle.net_base.specs.declared.numbers.Tag.{Tag}
 use Rattle.config_base.specs.declared.route.Route.{Route}
-use Rattle.stable_paths.specs.declared.given.Announcement.{Announcement}
-use Rattle.stable_paths.specs.declared.given.Imported.{Imported}
+use Rattle.stable_paths.specs.declared.gifts.Announcement.{Announcement}
+use Rattle.stable_paths.specs.declared.gifts.Imported.{Imported}
 
 -- a path and the tag that goes with it
 abbrev pub plain_announcement : Announcement → List ℕ × Tag

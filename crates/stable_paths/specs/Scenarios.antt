@@ -3,7 +3,7 @@ use Rattle.std.specs.Prelude.{ℕ, ◌*◌, List, length}
 use Rattle.std.specs.List.{filter, range_with_len}
 use Rattle.net_base.specs.declared.loc.LocSet.{LocSet}
 use Rattle.net_base.specs.Sets.{holds}
-use Rattle.regret_law.specs.Outcomes.{Failures}
+use Rattle.outcome_base.specs.Outcomes.{Failures}
 use Rattle.stable_paths.specs.declared.scenario.Scenario.{Scenario}
 
 -- the locations of a set, in order, of which each word holds 64

@@ -10,7 +10,7 @@ use Rattle.path_words.specs.Governing.{is_origin}
 use Rattle.config_base.specs.declared.route.Route.{Route}
 use Rattle.config_base.specs.Configs.{PlainConfig}
 use Rattle.config_base.specs.Lines.{same_tag, own_route}
-use Rattle.regret_law.specs.Outcomes.{Failures, Outcome, is_dead, route_at, given, Chooses}
+use Rattle.outcome_base.specs.Outcomes.{Failures, Outcome, is_dead, route_at, given, Chooses}
 
 abbrev pub same_route : Route → Route → Bool
 same_route g h = bytes_eq h.path g.path && (same_tag h.tag g.tag && h.pref == g.pref)

@@ -2,11 +2,11 @@
 ghost use Rattle.std.specs.Prelude.{◌≡◌, ◌↔◌, IsTrue};
 ghost use Rattle.std.specs.List.{list_any};
 ghost use Rattle.path_words.specs.Policies.{policy_of};
-ghost use Rattle.regret_law.specs.Outcomes.{Chooses};
+ghost use Rattle.outcome_base.specs.Outcomes.{Chooses};
 ghost use Rattle.stable_paths.specs.Scenarios.{failures_of};
 ghost use Rattle.stable_paths.specs.Tests.{far_end as other_end, gives, exceeds as higher_than, outdoes};
 
-use crate::given::{given, gives_route};
+use crate::gifts::{given, gives_route};
 use crate::outcome::Outcome;
 use crate::scenario::Scenario;
 use config_base::{Config, Route};
@@ -46,8 +46,8 @@ fn is_given_over(
     }
 }
 
-// Whether some neighbour gives a router this route.
-fn has_giver(
+/// Whether some neighbour gives a router this route.
+pub fn has_giver(
     net: &Net,
     policy: &Policy,
     config: &Config,

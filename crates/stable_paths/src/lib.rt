@@ -2,14 +2,15 @@
 #![tactic(auto)]
 
 mod choice;
-mod given;
+mod gifts;
 mod offers;
 mod outcome;
 mod scenario;
 mod stable;
 
-pub use given::is_given;
+pub use choice::has_giver;
+pub use gifts::{Imported, given, is_given};
 pub use offers::is_offered;
 pub use outcome::Outcome;
 pub use scenario::{Scenario, is_live, survives};
-pub use stable::is_stable;
+pub use stable::{holds_own, is_settled, is_stable};

@@ -2,11 +2,11 @@
 ghost use Rattle.std.specs.Prelude.{◌≡◌, ◌↔◌, ◌&&◌, Some, IsTrue};
 ghost use Rattle.net_base.specs.Network.{is_peer, is_router};
 ghost use Rattle.path_words.specs.Policies.{policy_of};
-ghost use Rattle.regret_law.specs.Outcomes.{is_live as live, offered};
+ghost use Rattle.outcome_base.specs.Outcomes.{is_live as live, offered};
 ghost use Rattle.stable_paths.specs.Scenarios.{failures_of};
 ghost use Rattle.stable_paths.specs.Tests.{is_path, unlooped};
 
-use crate::given::{is_in_front, sent};
+use crate::gifts::{is_in_front, sent};
 use crate::outcome::Outcome;
 use crate::scenario::{Scenario, is_live};
 use config_base::Config;

@@ -1,6 +1,6 @@
 //! Outcomes: what each router holds.
 ghost use Rattle.std.specs.Prelude.{◌≡◌, option_map};
-ghost use Rattle.regret_law.specs.Outcomes.{route_at};
+ghost use Rattle.outcome_base.specs.Outcomes.{route_at};
 
 use config_base::Route;
 use net_base::{List, Loc};

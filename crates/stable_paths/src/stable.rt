@@ -2,12 +2,12 @@
 ghost use Rattle.std.specs.Prelude.{◌≡◌, ◌↔◌, Some, IsTrue, length};
 ghost use Rattle.path_words.specs.Policies.{policy_of};
 ghost use Rattle.config_base.specs.Lines.{own_route};
-ghost use Rattle.regret_law.specs.Outcomes.{IsStable, route_at};
+ghost use Rattle.outcome_base.specs.Outcomes.{IsStable, route_at};
 ghost use Rattle.stable_paths.specs.Scenarios.{failures_of};
 ghost use Rattle.stable_paths.specs.Tests.{IsSettled, same_route};
 
 use crate::choice::chooses;
-use crate::given::is_in_front;
+use crate::gifts::is_in_front;
 use crate::outcome::Outcome;
 use crate::scenario::Scenario;
 use config_base::{Config, Route, own_tag};
@@ -23,8 +23,8 @@ fn is_own_route(net: &Net, config: &Config, prefix: Prefix, at: Loc, route: &Rou
         && route.pref == 0
 }
 
-// Whether a location holds an origin's own route.
-fn holds_own(net: &Net, config: &Config, prefix: Prefix, outcome: &Outcome, at: Loc) -> bool
+/// Whether a location holds an origin's own route.
+pub fn holds_own(net: &Net, config: &Config, prefix: Prefix, outcome: &Outcome, at: Loc) -> bool
     ensures { IsTrue result ↔ (route_at outcome.now.routes at ≡ Some (own_route net.now config.now prefix at)) }
 {
     match outcome.route_at(at) {
@@ -33,8 +33,8 @@ fn holds_own(net: &Net, config: &Config, prefix: Prefix, outcome: &Outcome, at: 
     }
 }
 
-// Whether a router holds what a stable outcome gives it.
-fn is_settled(
+/// Whether a router holds what a stable outcome gives it.
+pub fn is_settled(
     net: &Net,
     policy: &Policy,
     config: &Config,

@@ -1,6 +1,6 @@
 use Rattle.std.proofs.Common.{◌≡◌, sym, ◌∙◌, rules, Some, None}
 use Rattle.path_words.specs.Policies.{policy_of}
-use Rattle.regret_law.specs.Outcomes.{route_at}
+use Rattle.outcome_base.specs.Outcomes.{route_at}
 use Rattle.stable_paths.specs.Scenarios.{failures_of}
 use Rattle.stable_paths.proofs.Choices.{chooses_none, chooses_some, chooses_ungiven}
 use Rattle.stable_paths.proofs.choice.chooses.Goals as goal

@@ -1,6 +1,6 @@
 use Rattle.std.proofs.Common.{◌≡◌, ◌-◌, drop}
 use Rattle.path_words.specs.Meaning.{some_step}
-use Rattle.regret_law.specs.Outcomes.{is_dead_link}
+use Rattle.outcome_base.specs.Outcomes.{is_dead_link}
 use Rattle.stable_paths.specs.Scenarios.{failures_of}
 use Rattle.stable_paths.proofs.scenario.has_dead_link.Given as goal
 
