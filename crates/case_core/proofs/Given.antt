@@ -8,8 +8,9 @@ use Rattle.graph_base.specs.Graphs.{PlainGraph, IsGraph}
 use Rattle.graph_base.specs.Walks.{IsEnteredFromBefore}
 use Rattle.regret_law.specs.Faithful.{IsFaithful}
 use Rattle.graph_law.proofs.Faith.{built_is_faithful, trimmed_is_entered}
-use Rattle.case_core.specs.Cases.{FitsOrigins}
-use Rattle.case_core.specs.Refusals.{FitsCase, IsMade, plan_for}
+use Rattle.case_law.specs.Cases.{FitsOrigins}
+use Rattle.case_core.specs.Refusals.{FitsCase, IsMade}
+use Rattle.path_exprs.specs.Standings.{plan_for}
 use Rattle.case_core.specs.Sources.{IsMixed}
 use Rattle.case_core.proofs.Walks.{claimed_ranked}
 

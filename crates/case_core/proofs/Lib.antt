@@ -2,7 +2,6 @@ pub mod Least
 pub mod Table
 pub mod Walks
 pub mod Verdicts
-pub mod Origins
 pub mod Given
 pub mod Places
 pub mod OneCause

@@ -8,14 +8,17 @@ use Rattle.path_words.specs.Policies.{PlainStatement}
 use Rattle.graph_base.specs.Graphs.{PlainGraph}
 use Rattle.graph_base.specs.Walks.{IsShownWalk}
 use Rattle.graph_base.proofs.ShownWalks.{shown_walk_same}
-use Rattle.product_graph.specs.Outcomes.{PassesStates, PassesSteps}
-use Rattle.product_graph.proofs.OneGraph.{no_more_states, one-graph}
+use Rattle.product_graph.specs.Outcomes.{PassesSteps}
+use Rattle.path_exprs.specs.Standings.{PassesStates, plan_for}
+use Rattle.standings.proofs.OneGraph.{no_more_states, one-graph}
 use Rattle.reach_prune.specs.Trimmed.{IsTrimmed}
 use Rattle.graph_law.proofs.OneTrimmed.{same_trimmed_graphs}
 use Rattle.case_core.specs.declared.cases.CaseGraph.{CaseGraph}
 use Rattle.case_core.specs.declared.refusal.CompileRefusal.{CompileRefusal}
 use Rattle.case_core.specs.declared.refusal.CompileRefusal.TheVariants.{TooManyRanks, TooManyStates, TooManySteps, SourceWithoutPath, MixedSource, NoEvidence, TooManyTags, NoMemory}
-use Rattle.case_core.specs.Refusals.{IsBuiltWithin, IsCause, IsGraphOf, IsMade, IsRankedAt, IsUnrankedAt, IsWalkOfLeast, ShowsMixed, plan_for}
+use Rattle.graph_base.specs.Ranked.{IsRankedAt, IsUnrankedAt}
+use Rattle.graph_law.specs.Limits.{IsBuiltWithin}
+use Rattle.case_core.specs.Refusals.{IsCause, IsGraphOf, IsMade, IsWalkOfLeast, ShowsMixed}
 use Rattle.case_core.specs.Sources.{HavePaths, IsLeast, IsMixed, IsWithoutPath, NoneMixed}
 
 -- there is one least number
@@ -27,6 +30,21 @@ one_walk : (g : PlainGraph) (Of : ℕ → Type 0) (walk other : List ℕ) → Is
 one_walk g Of walk other a b =
     let same = one_least Of a.0 b.0 a.1 b.1 in
     shown_walk_same g b.0 walk other (subst (λ n. IsShownWalk g n walk) same a.2) b.2
+
+module _ (net : PlainNet) (room : ℕ) (s : PlainStatement) (c : Case) where
+  -- one graph is made of a case
+  pub same_made : (one other made also : PlainGraph) → IsMade net room s c one made → IsMade net room s c other also → made ≡ also
+  same_made one other made also a b =
+      let same = one-graph net (plan_for net s c) other one b.within.built a.within.built in
+      same_trimmed_graphs net (plan_for net s c) one made also a.within.built a.trimmed (subst (λ (g : PlainGraph). IsTrimmed g also) same b.trimmed)
+
+  -- so a case is given one graph
+  pub one_given : (given other : CaseGraph) → IsGraphOf net room s c given → IsGraphOf net room s c other → (given.graph ≡ other.graph) × (given.used ≡ other.used)
+  one_given given other a b =
+      let same = one-graph net (plan_for net s c) b.0 a.0 b.1.within.built a.1.within.built in (
+        same_made a.0 b.0 given.graph other.graph a.1 b.1,
+        a.2 ∙ sym (ap (λ (g : PlainGraph). length g.steps) same) ∙ sym b.2,
+      )
 
 module _ (net : PlainNet) (number room : ℕ) (s : PlainStatement) (c : Case) where
   -- a graph that is built within the limits passes none of them
@@ -64,11 +82,6 @@ module _ (net : PlainNet) (number room : ℕ) (s : PlainStatement) (c : Case) wh
       let first : IsWalkOfLeast h (IsRankedAt h q) with = subst (λ (x : PlainGraph). IsWalkOfLeast x (IsRankedAt x q) with) same (subst (λ n. IsWalkOfLeast g (IsRankedAt g n) with) router a.with_least) in
       let second : IsWalkOfLeast h (IsUnrankedAt h q) without = subst (λ (x : PlainGraph). IsWalkOfLeast x (IsUnrankedAt x q) without) same (subst (λ n. IsWalkOfLeast g (IsUnrankedAt g n) without) router a.without_least) in
       (router, one_walk h (IsRankedAt h q) with more first b.with_least, one_walk h (IsUnrankedAt h q) without less second b.without_least)
-
-  same_made : (one other made also : PlainGraph) → IsMade net room s c one made → IsMade net room s c other also → made ≡ also
-  same_made one other made also a b =
-      let same = one-graph net (plan_for net s c) other one b.within.built a.within.built in
-      same_trimmed_graphs net (plan_for net s c) one made also a.within.built a.trimmed (subst (λ (g : PlainGraph). IsTrimmed g also) same b.trimmed)
 
   pub one_cause : (e f : CompileRefusal) → IsCause net number room s c e → IsCause net number room s c f → (e ≡ NoMemory) ⊎ (f ≡ NoMemory) ⊎ (e ≡ f)
   one_cause NoMemory f a b = inl refl
@@ -114,5 +127,5 @@ module _ (net : PlainNet) (number room : ℕ) (s : PlainStatement) (c : Case) wh
   one_cause (MixedSource k r v w) (TooManySteps j) a b = absurd (few_steps a.2.0 a.2.2.within b.2)
   one_cause (MixedSource k r v w) (SourceWithoutPath j q) a b = absurd (b.2.0.1 (a.1 q b.2.0.0))
   one_cause (MixedSource k r v w) (MixedSource j q x y) a b =
-      let same = same_mixed a.2.1 b.2.1 r q v w x y (same_made a.2.0 b.2.0 a.2.1 b.2.1 a.2.2 b.2.2) a.2.3 b.2.3 in
+      let same = same_mixed a.2.1 b.2.1 r q v w x y (same_made net room s c a.2.0 b.2.0 a.2.1 b.2.1 a.2.2 b.2.2) a.2.3 b.2.3 in
       inr (inr (λ i. MixedSource ((a.0 ∙ sym b.0) i) (same.0 i) (same.1 i) (same.2 i)))

@@ -1,7 +1,7 @@
 -- The case and the statement that are read are where the lists have them.
-use Rattle.std.proofs.Common.{◌≡◌, ℕ, zero, suc, ◌-◌, ◌≤◌, List, [], ◌∷◌, length, get_or, map, Some, refl, arith, sym, ap, subst, ◌∙◌}
+use Rattle.std.proofs.Common.{◌≡◌, ℕ, zero, suc, ◌-◌, ◌≤◌, List, length, get_or, map, Some, arith, sym, ap, subst, ◌∙◌}
 use Rattle.std.specs.Prelude.{slice_get}
-use Rattle.std.proofs.lemmas.Option.{slice_get-get_or, slice_get-map, slice_get_within}
+use Rattle.std.proofs.lemmas.Option.{same_Some, slice_get-get_or, slice_get-map, slice_get_within}
 use Rattle.std.proofs.lemmas.List.{length-map}
 use Rattle.std.specs.Option.{option_map}
 use Rattle.net_base.specs.Network.{PlainNet}
@@ -9,10 +9,9 @@ use Rattle.path_words.specs.declared.case.Case.{Case}
 use Rattle.path_words.specs.declared.policy.Statement.{Statement}
 use Rattle.path_words.specs.Cases.{case_list}
 use Rattle.path_words.specs.Policies.{PlainPolicy, PlainStatement, PolicyLists, plain_statement, policy_of}
-use Rattle.config_base.specs.Made.{statement_at}
-use Rattle.case_core.specs.Cases.{OfCase, case_at}
-use Rattle.regret_law.proofs.CaseOfClass.{same_value}
-use Rattle.case_core.proofs.Origins.{IsKnown, case_known}
+use Rattle.evidence_base.specs.Made.{statement_at}
+use Rattle.case_law.specs.Cases.{OfCase, case_at}
+use Rattle.case_law.proofs.Origins.{IsKnown, case_known}
 
 case_at-read : (items all cs : List Case) (number : ℕ) (c : Case) → items ≡ all → all ≡ cs → 1 ≤ number → number ≤ length all → c ≡ get_or items (number - 1) c → case_at cs number ≡ Some c
 case_at-read items all cs zero c same are from within read = absurd (omega (arith, from))
@@ -58,6 +57,6 @@ case_read net lists items all number c same are from within read =
 -- what holds of the one case with a number and of its statement is what holds of that case
 pub of_case : (net : PlainNet) (policy : PlainPolicy) (number : ℕ) (s : PlainStatement) (c : Case) (Says : PlainStatement → Case → Type 0) → case_at (case_list net policy) number ≡ Some c → statement_at policy c.statement ≡ Some s → Says s c → OfCase net policy number Says
 of_case net policy number s c Says at of says other d is =
-    let one : c ≡ d = same_value c d (sym at ∙ is.case) in
-    let statement : s ≡ other = same_value s other (sym of ∙ ap (λ (x : Case). statement_at policy x.statement) one ∙ is.statement) in
+    let one : c ≡ d = same_Some c d (sym at ∙ is.case) in
+    let statement : s ≡ other = same_Some s other (sym of ∙ ap (λ (x : Case). statement_at policy x.statement) one ∙ is.statement) in
     subst (Says other) one (subst (λ x. Says x c) statement says)

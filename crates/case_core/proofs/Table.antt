@@ -1,23 +1,23 @@
 -- The table of first nodes, node by node.
 use Rattle.std.proofs.Common.{◌≡◌, ℕ, suc, ◌+◌, ◌<◌, ◌≤◌, true, false, eqb, List, length, get_or, set, replicate, Option, Some, None, refl, arith, sym, ap, ap₂, subst, ◌∙◌, inl, inr}
-use Rattle.std.specs.Option.{is_some, is_none, option_map, option_and_then, unwrap_or}
-use Rattle.std.specs.List.{slice_get}
+use Rattle.std.specs.Option.{is_some, is_none}
 use Rattle.std.proofs.lemmas.Bool.{and_from, cases_eq, eq-eqb, ne_eqb, true≢false}
 use Rattle.std.proofs.lemmas.List.{get_or-replicate, get_or_read, get_or-set_other, length-replicate, length-set}
 use Rattle.std.proofs.lemmas.Grind.{get_or-set_at}
-use Rattle.std.proofs.lemmas.Option.{slice_get-get_or}
 use Rattle.net_base.specs.declared.loc.LocSet.{LocSet}
 use Rattle.net_base.specs.Sets.{holds}
 use Rattle.path_words.specs.declared.policy.FromSet.{FromSet}
 use Rattle.graph_base.specs.declared.graph.Node.{Node}
 use Rattle.graph_base.specs.Graphs.{PlainGraph}
 use Rattle.graph_base.specs.Runs.{place_of, rank_at}
+use Rattle.graph_base.proofs.NodesRead.{node_read}
 use Rattle.case_core.specs.declared.firsts.Firsts.{Firsts}
 use Rattle.case_core.specs.declared.sources.Mixed.{Mixed}
 use Rattle.case_core.specs.Mixed.{IsFirstMixed, IsMixedRow}
 use Rattle.case_core.specs.Sources.{names}
 use Rattle.case_core.proofs.Least.{least_found}
-use Rattle.case_core.specs.Firsts.{AreFirsts, first_or, firsts_below, has_both, lacks_path, is_ranked_at, is_unranked_at, least_below, no_firsts, row}
+use Rattle.graph_base.specs.Least.{least_below, or_else}
+use Rattle.case_core.specs.Firsts.{AreFirsts, firsts_below, has_both, lacks_path, is_ranked_at, is_unranked_at, no_firsts, row}
 
 pub no_rows : (routers : ℕ) (g : PlainGraph) → AreFirsts routers g 0 (replicate routers no_firsts)
 no_rows routers g = record {
@@ -27,19 +27,14 @@ no_rows routers g = record {
 
 -- a row with one more node
 abbrev pub row_with : Firsts → Node → ℕ → Firsts
-row_with firsts node n = record { ranked = first_or firsts.ranked (is_some node.rank) n; unranked = first_or firsts.unranked (is_none node.rank) n }
+row_with firsts node n = record { ranked = or_else firsts.ranked (is_some node.rank) n; unranked = or_else firsts.unranked (is_none node.rank) n }
 
-first_or-no : (o : Option ℕ) (n : ℕ) → first_or o false n ≡ o
-first_or-no None n = refl
-first_or-no (Some m) n = refl
+or_else-no : (o : Option ℕ) (n : ℕ) → or_else o false n ≡ o
+or_else-no None n = refl
+or_else-no (Some m) n = refl
 
 firsts_is : (a b : Firsts) → a.ranked ≡ b.ranked → a.unranked ≡ b.unranked → a ≡ b
 firsts_is a b ranked unranked = λ i. record { ranked = ranked i; unranked = unranked i }
-
-node_read : (g : PlainGraph) (nodes : List Node) (n : ℕ) (node : Node) → nodes ≡ g.nodes → n < length nodes → node ≡ get_or nodes n node → (place_of g n ≡ node.loc) × (rank_at g n ≡ node.rank)
-node_read g nodes n node same lt read =
-    let at : slice_get g.nodes n ≡ Some node = ap (λ (list : List Node). slice_get list n) (sym same) ∙ slice_get-get_or nodes n node lt ∙ ap Some (sym read) in
-    (ap (λ (o : Option Node). unwrap_or (option_map (λ (x : Node). x.loc) o) 0) at, ap (λ (o : Option Node). option_and_then (λ (x : Node). x.rank) o) at)
 
 -- the row of the node's own location
 own_row : (g : PlainGraph) (n : ℕ) (node : Node) → place_of g n ≡ node.loc → rank_at g n ≡ node.rank → (r : ℕ) → r ≡ node.loc → row_with (firsts_below g n r) node n ≡ firsts_below g (suc n) r
@@ -54,8 +49,8 @@ other_row : (g : PlainGraph) (n : ℕ) (node : Node) → place_of g n ≡ node.l
 other_row g n node place r apart =
     let at : eqb (place_of g n) r ≡ false = ne_eqb _ _ (λ e. apart (sym e ∙ place)) in
     firsts_is (firsts_below g n r) (firsts_below g (suc n) r)
-    (rw at (sym (first_or-no (least_below (is_ranked_at g r) n) n)))
-    (rw at (sym (first_or-no (least_below (is_unranked_at g r) n) n)))
+    (rw at (sym (or_else-no (least_below n (is_ranked_at g r)) n)))
+    (rw at (sym (or_else-no (least_below n (is_unranked_at g r)) n)))
 
 row_set : (routers : ℕ) (g : PlainGraph) (n : ℕ) (table : List Firsts) (node : Node) (old : Firsts) → AreFirsts routers g n table → place_of g n ≡ node.loc → rank_at g n ≡ node.rank →
     node.loc < length table → old ≡ row table node.loc → AreFirsts routers g (suc n) (set table node.loc (row_with old node n))
@@ -105,8 +100,8 @@ lacks_here from origins table i named outside none = rw (named, outside) (none_h
     none_here None h = refl
     none_here (Some n) h = absurd (true≢false h)
 
-pub mixed_found : (table : List Firsts) (i : ℕ) (m : Mixed) → least_below (has_both table) i ≡ None → i < length table → IsMixedRow i (row table i) m → IsFirstMixed table m
+pub mixed_found : (table : List Firsts) (i : ℕ) (m : Mixed) → least_below i (has_both table) ≡ None → i < length table → IsMixedRow i (row table i) m → IsFirstMixed table m
 mixed_found table i m before inside is =
     let both : has_both table i ≡ true = and_from (is_some (row table i).ranked) (is_some (row table i).unranked) (ap is_some is.1) (ap is_some is.2) in
     let here : row table m.router ≡ row table i = ap (row table) is.0 in
-    (least_found (has_both table) i (length table) before both inside ∙ ap Some (sym is.0), (refl, ap (λ (f : Firsts). f.ranked) here ∙ is.1, ap (λ (f : Firsts). f.unranked) here ∙ is.2))
+    (least_found (length table) (has_both table) i before both inside ∙ ap Some (sym is.0), (refl, ap (λ (f : Firsts). f.ranked) here ∙ is.1, ap (λ (f : Firsts). f.unranked) here ∙ is.2))

@@ -1,7 +1,8 @@
 -- What the table of first nodes says of the sources.
-use Rattle.std.proofs.Common.{◌≡◌, ℕ, ◌<◌, true, List, length, Option, Some, None, refl, arith, sym, ap, subst, ◌∙◌, inl, inr}
+use Rattle.std.proofs.Common.{◌≡◌, ℕ, ◌<◌, true, List, length, Some, None, arith, sym, ap, subst, ◌∙◌, inl, inr}
 use Rattle.std.specs.Prelude.{◌&&◌, ◌==◌, not, is_some, is_none}
 use Rattle.std.proofs.lemmas.Bool.{and_parts, and_from, eqb-true, eq-eqb, lt-ltb, ltb-true, true≢false}
+use Rattle.list_laws.proofs.Options.{cases_Option, is_none_from, is_none_parts}
 use Rattle.net_base.specs.Network.{PlainNet, is_router}
 use Rattle.net_base.specs.Sets.{holds}
 use Rattle.path_words.specs.declared.case.Case.{Case}
@@ -12,22 +13,17 @@ use Rattle.graph_base.specs.Runs.{place_of, rank_at}
 use Rattle.graph_base.specs.Walks.{IsShownWalk}
 use Rattle.graph_base.proofs.ShownWalks.{shown_walk_run}
 use Rattle.regret_law.specs.Faithful.{IsFaithful, may_start}
-use Rattle.regret_law.proofs.Heard.{some_or_none}
 use Rattle.case_core.specs.declared.firsts.Firsts.{Firsts}
 use Rattle.case_core.specs.declared.sources.Mixed.{Mixed}
-use Rattle.case_core.specs.Firsts.{AreFirsts, has_both, is_ranked_at, is_unranked_at, lacks_path, least_below, row}
+use Rattle.graph_base.specs.Least.{least_below}
+use Rattle.case_core.specs.Firsts.{AreFirsts, has_both, is_ranked_at, is_unranked_at, lacks_path, row}
 use Rattle.case_core.specs.Mixed.{IsFirstMixed}
-use Rattle.case_core.specs.Refusals.{IsRankedAt, IsUnrankedAt, ShowsMixed}
+use Rattle.graph_base.specs.Ranked.{IsRankedAt, IsUnrankedAt}
+use Rattle.case_core.specs.Refusals.{ShowsMixed}
 use Rattle.case_core.specs.Sources.{HasPath, HavePaths, IsLeast, IsMixed, IsNamedSource, IsUnranked, IsWithoutPath, names}
-use Rattle.case_core.proofs.Least.{found_below, none_below}
-use Rattle.case_core.proofs.Walks.{named_from, permitted_node, ranked_claims, ranked_permits, run_from, unranked_node, unranked_walk}
-
-none_of : {A : Type 0} (o : Option A) → is_none o ≡ true → o ≡ None
-none_of None h = refl
-none_of (Some x) h = absurd (true≢false (sym h))
-
-is_none-of : {A : Type 0} (o : Option A) → o ≡ None → is_none o ≡ true
-is_none-of o h = ap is_none h
+use Rattle.case_core.proofs.Least.{is_found, least_none}
+use Rattle.graph_law.proofs.Claimed.{permitted_node, ranked_claims, ranked_permits, run_from}
+use Rattle.case_core.proofs.Walks.{named_from, unranked_node, unranked_walk}
 
 module _ (net : PlainNet) (s : PlainStatement) (c : Case) (g : PlainGraph) (graph_rules : IsGraph g) (faithful : IsFaithful net s (holds c.origins) c.external g)
     (table : List Firsts) (are : AreFirsts (length net.routers) g (length g.nodes) table) where
@@ -40,26 +36,26 @@ module _ (net : PlainNet) (s : PlainStatement) (c : Case) (g : PlainGraph) (grap
   -- the nodes of a row are the first ones
   ranked_row : (r n : ℕ) → r < length table → (row table r).ranked ≡ Some n → IsLeast (IsRankedAt g r) n
   ranked_row r n lt h =
-      let found = found_below (is_ranked_at g r) (length g.nodes) n (ap (λ (f : Firsts). f.ranked) (sym (are.rows r (row_router r lt))) ∙ h) in
+      let found = is_found (length g.nodes) (is_ranked_at g r) n (ap (λ (f : Firsts). f.ranked) (sym (are.rows r (row_router r lt))) ∙ h) in
       let parts = and_parts (place_of g n == r) (is_some (rank_at g n)) found.passes in
       ((found.below, eqb-true _ _ parts.0, parts.1), λ k at. found.least k (and_from (place_of g k == r) (is_some (rank_at g k)) (eq-eqb _ _ at.1) at.2))
 
   unranked_row : (r n : ℕ) → r < length table → (row table r).unranked ≡ Some n → IsLeast (IsUnrankedAt g r) n
   unranked_row r n lt h =
-      let found = found_below (is_unranked_at g r) (length g.nodes) n (ap (λ (f : Firsts). f.unranked) (sym (are.rows r (row_router r lt))) ∙ h) in
+      let found = is_found (length g.nodes) (is_unranked_at g r) n (ap (λ (f : Firsts). f.unranked) (sym (are.rows r (row_router r lt))) ∙ h) in
       let parts = and_parts (place_of g n == r) (is_none (rank_at g n)) found.passes in
-      ((found.below, eqb-true _ _ parts.0, none_of _ parts.1), λ k at. found.least k (and_from (place_of g k == r) (is_none (rank_at g k)) (eq-eqb _ _ at.1) (is_none-of _ at.2)))
+      ((found.below, eqb-true _ _ parts.0, is_none_parts _ parts.1), λ k at. found.least k (and_from (place_of g k == r) (is_none (rank_at g k)) (eq-eqb _ _ at.1) (is_none_from _ at.2)))
 
   -- where there is a node, the row has one
   no_ranked_row : (r n : ℕ) → r < length table → IsRankedAt g r n → (row table r).ranked ≡ None → ⊥
   no_ranked_row r n lt at none =
-      let no = none_below (is_ranked_at g r) (length g.nodes) (ap (λ (f : Firsts). f.ranked) (sym (are.rows r (row_router r lt))) ∙ none) n at.0 in
+      let no = least_none (length g.nodes) (is_ranked_at g r) (ap (λ (f : Firsts). f.ranked) (sym (are.rows r (row_router r lt))) ∙ none) n at.0 in
       true≢false (sym (and_from (place_of g n == r) (is_some (rank_at g n)) (eq-eqb _ _ at.1) at.2) ∙ no)
 
   no_unranked_row : (r n : ℕ) → r < length table → IsUnrankedAt g r n → (row table r).unranked ≡ None → ⊥
   no_unranked_row r n lt at none =
-      let no = none_below (is_unranked_at g r) (length g.nodes) (ap (λ (f : Firsts). f.unranked) (sym (are.rows r (row_router r lt))) ∙ none) n at.0 in
-      true≢false (sym (and_from (place_of g n == r) (is_none (rank_at g n)) (eq-eqb _ _ at.1) (is_none-of _ at.2)) ∙ no)
+      let no = least_none (length g.nodes) (is_unranked_at g r) (ap (λ (f : Firsts). f.unranked) (sym (are.rows r (row_router r lt))) ∙ none) n at.0 in
+      true≢false (sym (and_from (place_of g n == r) (is_none (rank_at g n)) (eq-eqb _ _ at.1) (is_none_from _ at.2)) ∙ no)
 
   -- ---- sources without a path
 
@@ -77,32 +73,32 @@ module _ (net : PlainNet) (s : PlainStatement) (c : Case) (g : PlainGraph) (grap
         named,
         λ path.
             let node = permitted_node net s c g graph_rules faithful r path.0 (source_may r named) path.1 in
-            no_ranked_row r node.0 lt node.1 (none_of _ parts.1),
+            no_ranked_row r node.0 lt node.1 (is_none_parts _ parts.1),
       )
 
   lacks : (r : ℕ) → IsWithoutPath net s c r → lacks_path s.from c.origins table r ≡ true
   lacks r without =
       let source = without.0 in
       let lt = router_row r source.at_router in
-      let no_node : is_none (row table r).ranked ≡ true = elim (some_or_none (row table r).ranked) [
+      let no_node : is_none (row table r).ranked ≡ true = elim (cases_Option (row table r).ranked) [
         | inr n ↦ absurd (without.1 (has_path r n.0 source.at_router lt n.1))
-        | inl none ↦ is_none-of _ none
+        | inl none ↦ is_none_from _ none
       ] in
       and_from (names s.from r && not (holds c.origins r)) (is_none (row table r).ranked) (and_from (names s.from r) (not (holds c.origins r)) source.named source.no_origin) no_node
 
-  pub least_without_path : (r : ℕ) → least_below (lacks_path s.from c.origins table) (length table) ≡ Some r → IsLeast (IsWithoutPath net s c) r
+  pub least_without_path : (r : ℕ) → least_below (length table) (lacks_path s.from c.origins table) ≡ Some r → IsLeast (IsWithoutPath net s c) r
   least_without_path r h =
-      let found = found_below (lacks_path s.from c.origins table) (length table) r h in
+      let found = is_found (length table) (lacks_path s.from c.origins table) r h in
       (lacking r found.below found.passes, λ k without. found.least k (lacks k without))
 
-  pub all_have_paths : least_below (lacks_path s.from c.origins table) (length table) ≡ None → HavePaths net s c
+  pub all_have_paths : least_below (length table) (lacks_path s.from c.origins table) ≡ None → HavePaths net s c
   all_have_paths h = λ r source.
       let lt = router_row r source.at_router in
-      elim (some_or_none (row table r).ranked) [
+      elim (cases_Option (row table r).ranked) [
         | inr n ↦ has_path r n.0 source.at_router lt n.1
         | inl none ↦
-            let yes = and_from (names s.from r && not (holds c.origins r)) (is_none (row table r).ranked) (and_from (names s.from r) (not (holds c.origins r)) source.named source.no_origin) (is_none-of _ none) in
-            absurd (true≢false (sym yes ∙ none_below (lacks_path s.from c.origins table) (length table) h r lt))
+            let yes = and_from (names s.from r && not (holds c.origins r)) (is_none (row table r).ranked) (and_from (names s.from r) (not (holds c.origins r)) source.named source.no_origin) (is_none_from _ none) in
+            absurd (true≢false (sym yes ∙ least_none (length table) (lacks_path s.from c.origins table) h r lt))
       ]
 
   -- ---- sources with a rank and without one
@@ -113,25 +109,25 @@ module _ (net : PlainNet) (s : PlainStatement) (c : Case) (g : PlainGraph) (grap
       let lt = router_row r claimed.at_router in
       let ranked = permitted_node net s c g graph_rules faithful r claimed.starts.0 claimed.may claimed.starts.1 in
       let unranked = unranked_node net s c g graph_rules faithful r mixed.1.0 claimed.may mixed.1.1 in
-      let some : is_some (row table r).ranked ≡ true = elim (some_or_none (row table r).ranked) [
+      let some : is_some (row table r).ranked ≡ true = elim (cases_Option (row table r).ranked) [
         | inr n ↦ ap is_some n.1
         | inl none ↦ absurd (no_ranked_row r ranked.0 lt ranked.1 none)
       ] in
-      let other : is_some (row table r).unranked ≡ true = elim (some_or_none (row table r).unranked) [
+      let other : is_some (row table r).unranked ≡ true = elim (cases_Option (row table r).unranked) [
         | inr n ↦ ap is_some n.1
         | inl none ↦ absurd (no_unranked_row r unranked.0 lt unranked.1 none)
       ] in
       (lt, and_from (is_some (row table r).ranked) (is_some (row table r).unranked) some other)
 
-  pub none_mixed : least_below (has_both table) (length table) ≡ None → (r : ℕ) → IsMixed net s c r → ⊥
+  pub none_mixed : least_below (length table) (has_both table) ≡ None → (r : ℕ) → IsMixed net s c r → ⊥
   none_mixed h r mixed =
       let both = mixed_row r mixed in
-      true≢false (sym both.1 ∙ none_below (has_both table) (length table) h r both.0)
+      true≢false (sym both.1 ∙ least_none (length table) (has_both table) h r both.0)
 
   pub first_shows : (m : Mixed) (with without : List ℕ) → IsFirstMixed table m → IsShownWalk g m.ranked with → IsShownWalk g m.unranked without → ShowsMixed net s c g m.router with without
   first_shows m with without first shown other =
       let r = m.router in
-      let found = found_below (has_both table) (length table) r first.0 in
+      let found = is_found (length table) (has_both table) r first.0 in
       let router = lt-ltb r (length net.routers) (row_router r found.below) in
       let ranked = ranked_row r m.ranked found.below first.1.1 in
       let unranked = unranked_row r m.unranked found.below first.1.2 in
@@ -154,5 +150,5 @@ module _ (net : PlainNet) (s : PlainStatement) (c : Case) (g : PlainGraph) (grap
   -- the nodes of such a row are nodes
   pub mixed_nodes : (m : Mixed) → IsFirstMixed table m → (m.ranked < length g.nodes) × (m.unranked < length g.nodes)
   mixed_nodes m first =
-      let lt = (found_below (has_both table) (length table) m.router first.0).below in
+      let lt = (is_found (length table) (has_both table) m.router first.0).below in
       ((ranked_row m.router m.ranked lt first.1.1).0.0, (unranked_row m.router m.unranked lt first.1.2).0.0)

@@ -1,22 +1,13 @@
 -- The first nodes at each router, with a rank and without one, and what a table of them shows.
-use Rattle.std.specs.Prelude.{◌≡◌, ℕ, ◌<◌, Bool, not, ◌&&◌, ◌==◌, zero, suc, List, length, Option, Some, None, is_some, is_none, slice_index_or, if◌then◌else◌}
+use Rattle.std.specs.Prelude.{◌≡◌, ℕ, ◌<◌, Bool, not, ◌&&◌, ◌==◌, List, length, None, is_some, is_none, slice_index_or}
 use Rattle.net_base.specs.declared.loc.LocSet.{LocSet}
 use Rattle.net_base.specs.Sets.{holds}
 use Rattle.path_words.specs.declared.policy.FromSet.{FromSet}
 use Rattle.graph_base.specs.Graphs.{PlainGraph}
+use Rattle.graph_base.specs.Least.{least_below}
 use Rattle.graph_base.specs.Runs.{place_of, rank_at}
 use Rattle.case_core.specs.declared.firsts.Firsts.{Firsts}
 use Rattle.case_core.specs.Sources.{names}
-
--- the first one, or else this number where it is one
-abbrev pub first_or : Option ℕ → Bool → ℕ → Option ℕ
-first_or (Some first) is_one n = Some first
-first_or None is_one n = if is_one then Some n else None
-
--- the least number below n that passes the test
-abbrev pub least_below : (ℕ → Bool) → ℕ → Option ℕ
-least_below test zero = None
-least_below test (suc n) = first_or (least_below test n) (test n) n
 
 abbrev pub is_ranked_at : PlainGraph → ℕ → ℕ → Bool
 is_ranked_at g r n = place_of g n == r && is_some (rank_at g n)
@@ -26,7 +17,7 @@ is_unranked_at g r n = place_of g n == r && is_none (rank_at g n)
 
 -- the first ones at a location among the nodes below n
 abbrev pub firsts_below : PlainGraph → ℕ → ℕ → Firsts
-firsts_below g n r = record { ranked = least_below (is_ranked_at g r) n; unranked = least_below (is_unranked_at g r) n }
+firsts_below g n r = record { ranked = least_below n (is_ranked_at g r); unranked = least_below n (is_unranked_at g r) }
 
 abbrev pub no_firsts : Firsts
 no_firsts = record { ranked = None; unranked = None }

@@ -1,4 +1,3 @@
-pub mod Cases
 pub mod Firsts
 pub mod Mixed
 pub mod Refusals

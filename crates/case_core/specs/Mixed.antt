@@ -2,7 +2,8 @@
 use Rattle.std.specs.Prelude.{◌≡◌, ℕ, ◌&&◌, false, List, length, Some, is_some}
 use Rattle.case_core.specs.declared.firsts.Firsts.{Firsts}
 use Rattle.case_core.specs.declared.sources.Mixed.{Mixed}
-use Rattle.case_core.specs.Firsts.{has_both, least_below, row}
+use Rattle.graph_base.specs.Least.{least_below}
+use Rattle.case_core.specs.Firsts.{has_both, row}
 
 abbrev pub IsNotMixed : Firsts → Type 0
 IsNotMixed firsts = (is_some firsts.ranked && is_some firsts.unranked) ≡ false
@@ -14,4 +15,4 @@ IsMixedRow r firsts mixed = (mixed.router ≡ r) × (firsts.ranked ≡ Some mixe
 -- and the first such router of a table
 abbrev pub IsFirstMixed : List Firsts → Mixed → Type 0
 IsFirstMixed table mixed =
-    (least_below (has_both table) (length table) ≡ Some mixed.router) × IsMixedRow mixed.router (row table mixed.router) mixed
+    (least_below (length table) (has_both table) ≡ Some mixed.router) × IsMixedRow mixed.router (row table mixed.router) mixed

@@ -1,40 +1,26 @@
 -- What is made of a case, and why a case is refused.
-use Rattle.std.specs.Prelude.{◌≡◌, ℕ, ◌-◌, ◌^◌, ◌<◌, ◌≤◌, min, IsTrue, IsSome, zero, suc, List, ◌∷◌, length, Option, Some, None, slice_get}
+use Rattle.std.specs.Prelude.{◌≡◌, ℕ, ◌-◌, ◌^◌, ◌<◌, ◌≤◌, min, IsTrue, List, ◌∷◌, length}
+use Rattle.net_base.specs.declared.limits.TheConstants.{ALTERNATIVES, NODES}
 use Rattle.net_base.specs.declared.numbers.Tag.{Tag}
-use Rattle.net_base.specs.Network.{PlainNet, IsNet, is_router}
+use Rattle.net_base.specs.Network.{PlainNet}
 use Rattle.net_base.specs.Sets.{holds}
 use Rattle.path_words.specs.declared.case.Case.{Case}
-use Rattle.path_words.specs.declared.policy.Origin.{Origin}
-use Rattle.path_words.specs.Cases.{case_list}
 use Rattle.path_words.specs.Meaning.{alternative_count}
-use Rattle.path_words.specs.Policies.{PlainPolicy, PlainStatement}
-use Rattle.constraint_expand.specs.Forward.{expressions}
+use Rattle.path_words.specs.Policies.{PlainStatement}
 use Rattle.graph_base.specs.Graphs.{PlainGraph}
-use Rattle.graph_base.specs.Runs.{place_of, rank_at}
+use Rattle.graph_base.specs.Ranked.{IsRankedAt, IsUnrankedAt}
 use Rattle.graph_base.specs.Walks.{IsShownWalk}
-use Rattle.config_base.specs.Made.{IsIn, statement_at}
 use Rattle.regret_law.specs.Faithful.{permits}
 use Rattle.regret_law.specs.Passes.{IsCaseGraph}
-use Rattle.product_graph.specs.Built.{Plan, IsBuilt}
-use Rattle.product_graph.specs.Outcomes.{plan_of, PassesStates, PassesSteps}
-use Rattle.graph_law.specs.Origins.{AreOrigins}
+use Rattle.path_exprs.specs.Standings.{PassesStates, plan_for}
+use Rattle.product_graph.specs.Outcomes.{PassesSteps}
+use Rattle.graph_law.specs.Limits.{IsBuiltWithin}
 use Rattle.reach_prune.specs.Trimmed.{IsTrimmed}
 use Rattle.case_core.specs.declared.cases.CaseGraph.{CaseGraph}
 use Rattle.case_core.specs.declared.refusal.CompileRefusal.{CompileRefusal}
 use Rattle.case_core.specs.declared.refusal.CompileRefusal.TheVariants.{TooManyRanks, TooManyStates, TooManySteps, SourceWithoutPath, MixedSource, NoEvidence, TooManyTags, NoMemory}
 use Rattle.case_core.specs.declared.sources.Mixed.{Mixed}
 use Rattle.case_core.specs.Sources.{IsLeast, HavePaths, IsMixed, IsUnranked, IsWithoutPath}
-
--- what is built of a case
-abbrev pub plan_for : PlainNet → PlainStatement → Case → Plan
-plan_for net s c = plan_of (expressions net s.ranked) s.from c
-
--- no more than 64 alternatives, and a graph with no more than 4,096 nodes, and with steps that there is room for
-pub record IsBuiltWithin (net : PlainNet) (room : ℕ) (s : PlainStatement) (c : Case) (g : PlainGraph) : Type 0 where
-  pub ranks : alternative_count s.ranked ≤ 64
-  pub built : IsBuilt net (plan_for net s c) g
-  pub states : length g.nodes ≤ 4096
-  pub steps : length g.steps ≤ room
 
 -- the graph of a case, of which `built` is what was built
 pub record IsMade (net : PlainNet) (room : ℕ) (s : PlainStatement) (c : Case) (built made : PlainGraph) : Type 0 where
@@ -51,13 +37,6 @@ abbrev pub FitsCase : PlainNet → PlainStatement → Case → PlainGraph → Ty
 FitsCase net s c g = (numbers : List ℕ) (tags : List Tag) → IsCaseGraph net s (record { case = c; graph = g; numbers = numbers; tags = tags })
 
 -- ---- refusals
-
--- a node at a router that has a rank, and one that has none
-abbrev pub IsRankedAt : PlainGraph → ℕ → ℕ → Type 0
-IsRankedAt g r n = (n < length g.nodes) × (place_of g n ≡ r) × IsSome (rank_at g n)
-
-abbrev pub IsUnrankedAt : PlainGraph → ℕ → ℕ → Type 0
-IsUnrankedAt g r n = (n < length g.nodes) × (place_of g n ≡ r) × (rank_at g n ≡ None)
 
 -- the walk by which the least of some nodes is shown
 abbrev pub IsWalkOfLeast : PlainGraph → (ℕ → Type 0) → List ℕ → Type 0
@@ -81,11 +60,11 @@ ShowsWalks g number mixed e =
 -- What a refusal of a case's graph says of the case with this number. Each one says too that none before it applies.
 abbrev pub IsCause : PlainNet → ℕ → ℕ → PlainStatement → Case → CompileRefusal → Type 0
 IsCause net number room s c (TooManyRanks k count) =
-    (k ≡ number) × (64 < alternative_count s.ranked) × (count ≡ min (alternative_count s.ranked) (2 ^ 64 - 1))
+    (k ≡ number) × (ALTERNATIVES < alternative_count s.ranked) × (count ≡ min (alternative_count s.ranked) (2 ^ 64 - 1))
 IsCause net number room s c (TooManyStates k) =
-    (k ≡ number) × (alternative_count s.ranked ≤ 64) × PassesStates net (plan_for net s c) 4096
+    (k ≡ number) × (alternative_count s.ranked ≤ ALTERNATIVES) × PassesStates net (plan_for net s c) NODES
 IsCause net number room s c (TooManySteps k) =
-    (k ≡ number) × (alternative_count s.ranked ≤ 64) × PassesSteps net (plan_for net s c) 4096 room
+    (k ≡ number) × (alternative_count s.ranked ≤ ALTERNATIVES) × PassesSteps net (plan_for net s c) NODES room
 IsCause net number room s c (SourceWithoutPath k r) =
     (k ≡ number) × ((built : PlainGraph) × IsBuiltWithin net room s c built) × IsLeast (IsWithoutPath net s c) r
 IsCause net number room s c (MixedSource k r with without) =

@@ -5,11 +5,12 @@ ghost use Rattle.path_words.specs.Cases.{case_list};
 ghost use Rattle.path_words.specs.Meaning.{alternative_count};
 ghost use Rattle.path_words.specs.Policies.{plain_statement, policy_of, ranking_of};
 ghost use Rattle.path_exprs.specs.View.{views};
-ghost use Rattle.constraint_expand.specs.Forward.{expressions};
+ghost use Rattle.path_exprs.specs.Forward.{expressions};
 ghost use Rattle.graph_base.specs.Graphs.{IsGraph, PlainGraph};
 ghost use Rattle.graph_base.specs.Walks.{IsEnteredFromBefore};
-ghost use Rattle.case_core.specs.Cases.{FitsOrigins, OfCase, OriginsAreRouters};
-ghost use Rattle.case_core.specs.Refusals.{FitsCase, IsBuiltWithin, IsCause, IsGraphOf, IsMade, ShowsWalks};
+ghost use Rattle.case_law.specs.Cases.{FitsOrigins, OfCase, OriginsAreRouters};
+ghost use Rattle.graph_law.specs.Limits.{IsBuiltWithin};
+ghost use Rattle.case_core.specs.Refusals.{FitsCase, IsCause, IsGraphOf, IsMade, ShowsWalks};
 ghost use Rattle.case_core.specs.Sources.{HavePaths, NoneMixed};
 
 use crate::firsts::first_nodes;

@@ -1,6 +1,7 @@
 //! The first nodes at each router, with a rank and without one.
 ghost use Rattle.std.specs.Prelude.{◌≡◌, is_none, is_some, IfOk, length};
-ghost use Rattle.case_core.specs.Firsts.{AreFirsts, first_or as first_or_number};
+ghost use Rattle.graph_base.specs.Least.{or_else};
+ghost use Rattle.case_core.specs.Firsts.{AreFirsts};
 
 use graph_base::{Graph, Node};
 use std::alloc::{AllocError, Global};
@@ -14,7 +15,7 @@ pub struct Firsts {
 
 /// The first one, or else this number where it is one.
 fn first_or(first: Option<u32>, is_one: bool, number: u32) -> Option<u32>
-    ensures { result ≡ first_or_number first is_one number }
+    ensures { result ≡ or_else first is_one number }
 {
     if first.is_none() && is_one {
         Some(number)
@@ -25,7 +26,7 @@ fn first_or(first: Option<u32>, is_one: bool, number: u32) -> Option<u32>
 
 /// The first ones after one more node, with this number.
 fn with_node(firsts: Firsts, node: Node, number: u32) -> Firsts
-    ensures { result ≡ record { ranked = first_or_number firsts.ranked (is_some node.rank) number; unranked = first_or_number firsts.unranked (is_none node.rank) number } }
+    ensures { result ≡ record { ranked = or_else firsts.ranked (is_some node.rank) number; unranked = or_else firsts.unranked (is_none node.rank) number } }
 {
     Firsts {
         ranked: first_or(firsts.ranked, node.rank.is_some(), number),

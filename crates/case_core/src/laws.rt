@@ -1,21 +1,13 @@
 //! Laws of the compiler, each the contract of a function without a body.
-ghost use Rattle.std.specs.Prelude.{◌≡◌, ◌⊎◌, ℕ, Some, slice_get};
+ghost use Rattle.std.specs.Prelude.{◌≡◌, ◌⊎◌, ℕ};
 ghost use Rattle.net_base.specs.Network.{PlainNet};
 ghost use Rattle.path_words.specs.declared.case.Case.{Case};
-ghost use Rattle.path_words.specs.Cases.{case_list};
-ghost use Rattle.path_words.specs.Policies.{PlainPolicy, PlainStatement};
-ghost use Rattle.config_base.specs.Made.{statement_at};
+ghost use Rattle.path_words.specs.Policies.{PlainStatement};
 ghost use Rattle.case_core.specs.declared.cases.CaseGraph.{CaseGraph};
 ghost use Rattle.case_core.specs.declared.refusal.CompileRefusal.{CompileRefusal};
 ghost use Rattle.case_core.specs.declared.refusal.CompileRefusal.TheVariants.{NoMemory};
 ghost use Rattle.case_core.specs.Refusals.{IsCause, IsGraphOf};
 ghost use Rattle.case_core.specs.Sources.{HavePaths, NoneMixed};
-
-/// Each case of a policy is of a statement of it.
-pub fn cases_have_statements()
-    ensures { (net : PlainNet) (policy : PlainPolicy) (k : ℕ) (c : Case) → slice_get (case_list net policy) k ≡ Some c
-        → (s : PlainStatement) × (statement_at policy c.statement ≡ Some s) }
-{}
 
 /// Where a graph is given for a case, nothing refuses it: so each refusal comes exactly where its cause applies.
 pub fn given_cases_are_not_refused()

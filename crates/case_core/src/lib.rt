@@ -8,5 +8,5 @@ mod refusal;
 mod sources;
 
 pub use cases::{CaseGraph, case_graph};
-pub use laws::{cases_have_statements, given_cases_are_not_refused, refusals_exclude_one_another};
+pub use laws::{given_cases_are_not_refused, refusals_exclude_one_another};
 pub use refusal::CompileRefusal;

@@ -1,6 +1,8 @@
 //! The sources that a statement claims, against the nodes at them.
 ghost use Rattle.std.specs.Prelude.{◌≡◌, ◌≤◌, MatchOption, None, length};
-ghost use Rattle.case_core.specs.Firsts.{has_both, lacks_path, least_below};
+ghost use Rattle.net_base.specs.declared.limits.TheConstants.{ROUTERS};
+ghost use Rattle.graph_base.specs.Least.{least_below};
+ghost use Rattle.case_core.specs.Firsts.{has_both, lacks_path};
 ghost use Rattle.case_core.specs.Mixed.{IsFirstMixed, IsMixedRow, IsNotMixed};
 ghost use Rattle.case_core.specs.Sources.{names as names_of};
 
@@ -20,8 +22,8 @@ fn names(from: &FromSet, at: Loc) -> bool
 
 /// The first router that the `from` set names, that is no origin, and at which no node has a rank.
 pub fn without_path(from: &FromSet, origins: &LocSet, table: &[Firsts]) -> Option<Loc>
-    requires { length table.now ≤ 512 }
-    ensures { result ≡ least_below (lacks_path from.now origins.now table.now) (length table.now) }
+    requires { length table.now ≤ ROUTERS }
+    ensures { result ≡ least_below (length table.now) (lacks_path from.now origins.now table.now) }
 {
     for i in 0..table.len() {
         let at = Loc::new(i as u16);
@@ -56,8 +58,8 @@ fn mixed_at(router: Loc, firsts: Firsts) -> Option<Mixed>
 
 /// The first router at which a node has a rank and another one has none.
 pub fn first_mixed(table: &[Firsts]) -> Option<Mixed>
-    requires { length table.now ≤ 512 }
-    ensures { MatchOption result (least_below (has_both table.now) (length table.now) ≡ None) (λ mixed. IsFirstMixed table.now mixed) }
+    requires { length table.now ≤ ROUTERS }
+    ensures { MatchOption result (least_below (length table.now) (has_both table.now) ≡ None) (λ mixed. IsFirstMixed table.now mixed) }
 {
     for i in 0..table.len() {
         if let Some(mixed) = mixed_at(Loc::new(i as u16), table[i]) {

@@ -1,40 +1,26 @@
 -- What numbers on the graph of a case say of the case.
-use Rattle.std.proofs.Common.{◌≡◌, ℕ, zero, suc, ◌<◌, Bool, true, false, List, [], ◌∷◌, ◌++◌, length, Some, refl, sym, ap, subst, ◌∙◌}
-use Rattle.std.specs.Prelude.{◌↔◌, not, is_some}
-use Rattle.std.specs.List.{list_any}
-use Rattle.std.proofs.lemmas.Bool.{and_from, and_parts, not-true, or_left, or_right, true≢false}
-use Rattle.net_base.specs.Network.{PlainNet, is_peer}
+use Rattle.std.proofs.Common.{◌≡◌, ℕ, zero, suc, ◌<◌, Bool, true, List, [], ◌∷◌, length, refl, sym, subst, ◌∙◌}
+use Rattle.std.specs.Prelude.{◌↔◌}
+use Rattle.net_base.specs.Network.{PlainNet}
 use Rattle.net_base.specs.Sets.{holds}
 use Rattle.path_words.specs.declared.case.Case.{Case}
 use Rattle.path_words.specs.Policies.{PlainStatement}
-use Rattle.path_words.specs.Meaning.{front}
-use Rattle.path_words.specs.Permitted.{from_holds}
 use Rattle.graph_base.specs.Graphs.{PlainGraph, IsGraph}
 use Rattle.graph_base.specs.Rules.{MeetsRules}
-use Rattle.graph_base.specs.Runs.{is_start, place_of, rank_at, run}
-use Rattle.relation_law.specs.Evidence.{AreRanked}
+use Rattle.graph_base.specs.Runs.{place_of}
 use Rattle.relation_law.specs.Views.{view_of}
 use Rattle.relation_law.proofs.Bridge.{rules_give_numbers}
 use Rattle.relation_law.proofs.Counts.{numbers_give_total}
 use Rattle.state_simulation.specs.Held.{HasEach, IsRelationOf, PlainRelation, has}
 use Rattle.state_simulation.proofs.Holding.{each_where_total, total_where_each}
 use Rattle.pref_inference.specs.Inferred as found
-use Rattle.regret_law.specs.Faithful.{IsFaithful, may_start, permits}
+use Rattle.regret_law.specs.Faithful.{IsFaithful}
 use Rattle.regret_law.specs.Passes.{IsClaimed}
-use Rattle.regret_law.proofs.GraphSteps.{start_at-is}
-use Rattle.regret_law.proofs.RunWalks.{late_no_origin, run_begins}
-use Rattle.regret_law.proofs.SoundCase.{permits_parts, walk_parts}
 use Rattle.case_core.specs.declared.refusal.CompileRefusal.TheVariants.{NoEvidence}
-use Rattle.case_core.proofs.Walks.{permitted_node, ranked_claims}
+use Rattle.graph_law.proofs.Claimed.{claimed_where_ranked, listeners_ranked}
 use Rattle.case_evidence.specs.declared.accepted.AcceptedCase.{AcceptedCase}
 use Rattle.case_evidence.specs.Accepted.{HasNoNumbers, IsAccepted, IsCaseCause, IsGivenGraph, IsNumbered, number_in}
-use Rattle.case_evidence.specs.Claims.{IsRankedRouter}
-
--- a peer with a place after it isn't the last place
-peer_before : (net : PlainNet) (above : List ℕ) (p u : ℕ) (rest : List ℕ) → is_peer net p ≡ true → list_any (is_peer net) (front (above ++ p ∷ u ∷ rest)) ≡ true
-peer_before net [] p u rest peer = or_left (is_peer net p) (list_any (is_peer net) (front (u ∷ rest))) peer
-peer_before net (a ∷ []) p u rest peer = or_right (is_peer net a) (list_any (is_peer net) (front (p ∷ u ∷ rest))) (peer_before net [] p u rest peer)
-peer_before net (a ∷ b ∷ above) p u rest peer = or_right (is_peer net a) (list_any (is_peer net) (front (b ∷ above ++ p ∷ u ∷ rest))) (peer_before net (b ∷ above) p u rest peer)
+use Rattle.graph_base.specs.Ranked.{IsRankedRouter}
 
 -- the rules ask for ranks at claimed routers alone
 rules_claimed : (net : PlainNet) (One Other : ℕ → Type 0) (external : Bool) (g : PlainGraph) (number : ℕ → ℕ) → ((l : ℕ) → Other l → One l) → MeetsRules net One external g number → MeetsRules net Other external g number
@@ -52,41 +38,9 @@ number_read (x ∷ xs) zero = refl
 number_read (x ∷ xs) (suc n) = number_read xs n
 
 module _ (net : PlainNet) (s : PlainStatement) (c : Case) (g : PlainGraph) (graph_rules : IsGraph g) (faithful : IsFaithful net s (holds c.origins) c.external g) where
-  abbrev Origin : ℕ → Bool
-  Origin = holds c.origins
-
-  -- the claimed routers are those at which a node has a rank
-  pub claimed_where_ranked : (l : ℕ) → IsRankedRouter net g l ↔ IsClaimed net s c l
-  claimed_where_ranked l = (
-    λ h. ranked_claims net s c g graph_rules faithful l h.1.0 h.0 h.1.1,
-    λ h. (h.at_router, permitted_node net s c g graph_rules faithful l h.starts.0 h.may h.starts.1),
-  )
-
-  -- a node at a peer at which a walk ends has the rank of that walk, since nothing stands in front of a peer
-  peer_ranked : (n : ℕ) → is_peer net (place_of g n) ≡ true → is_start g n ≡ false → (path above : List ℕ) → run g path ≡ Some n → permits net Origin s (above ++ path) ≡ true → is_some (rank_at g n) ≡ true
-  peer_ranked n peer late [] above h permitted = absurd cc
-  peer_ranked n peer late (l ∷ []) above h permitted = absurd (true≢false (sym (start_at-is g l n h).0 ∙ late))
-  peer_ranked n peer late (l ∷ k ∷ ls) [] h permitted =
-      let at = run_begins net Origin c.external g graph_rules faithful.formed l n (k ∷ ls) h in
-      let parts = permits_parts net Origin s (l ∷ k ∷ ls) permitted in
-      let outside = late_no_origin net Origin c.external g graph_rules faithful.formed l k n ls h in
-      let may : may_start Origin s (place_of g n) ≡ true = ap (may_start Origin s) at ∙ and_from (from_holds s.from l) (not (Origin l)) parts.2 (ap not outside) in
-      ap is_some (faithful.ranks (l ∷ k ∷ ls) n h may) ∙ parts.3
-  peer_ranked n peer late (l ∷ k ∷ ls) (a ∷ above) h permitted =
-      let at = run_begins net Origin c.external g graph_rules faithful.formed l n (k ∷ ls) h in
-      let walk = walk_parts net (a ∷ above ++ l ∷ k ∷ ls) (permits_parts net Origin s (a ∷ above ++ l ∷ k ∷ ls) permitted).0 in
-      absurd (true≢false (sym (peer_before net above l k ls (ap (is_peer net) (sym at) ∙ peer)) ∙ walk.1))
-
-  pub listeners_are_ranked : AreRanked g
-  listeners_are_ranked n node hears =
-      let kind = and_parts (is_peer net (place_of g n)) (not (is_start g n)) (sym (faithful.formed.listeners n node) ∙ hears) in
-      let ended = faithful.is_ended n node in
-      let suffix = faithful.has_no_other ended.0 ended.1 (ap is_some ended.2) in
-      peer_ranked n kind.0 (not-true (is_start g n) kind.1) ended.0 suffix.0 ended.2 suffix.1
-
   module _ (r : PlainRelation) (is : IsRelationOf g r) (ranked : (l : ℕ) → (holds r.claimed l ≡ true) ↔ IsRankedRouter net g l) where
     claims : (l : ℕ) → (holds r.claimed l ≡ true) ↔ IsClaimed net s c l
-    claims l = (λ h. (claimed_where_ranked l).0 ((ranked l).0 h), λ h. (ranked l).1 ((claimed_where_ranked l).1 h))
+    claims l = (λ h. (claimed_where_ranked net s c g graph_rules faithful l).0 ((ranked l).0 h), λ h. (ranked l).1 ((claimed_where_ranked net s c g graph_rules faithful l).1 h))
 
     -- where the relation isn't total, no numbers meet the rules
     pub no_numbers : (HasEach r → ⊥) → HasNoNumbers net s c g
@@ -95,7 +49,7 @@ module _ (net : PlainNet) (s : PlainStatement) (c : Case) (g : PlainGraph) (grap
         partial
         (each_where_total g r is
         (numbers_give_total (view_of g r.claimed) (has r) number is.greatest
-        (rules_give_numbers net Origin c.external g faithful.formed graph_rules r.claimed (λ l h. ((claims l).0 h).at_router) listeners_are_ranked number held)))
+        (rules_give_numbers net (holds c.origins) c.external g faithful.formed graph_rules r.claimed (λ l h. ((claims l).0 h).at_router) (listeners_ranked net s c g graph_rules faithful) number held)))
 
     -- where it is, the numbers are those of the case
     pub are_numbers : (numbers : List ℕ) → HasEach r → length numbers ≡ length g.nodes → ((n : ℕ) → n < length g.nodes → found.number_in numbers n ≡ found.inferred net g r n) → IsNumbered net s c g numbers

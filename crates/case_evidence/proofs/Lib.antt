@@ -1,4 +1,3 @@
-pub mod RankedRouters
 pub mod Judged
 pub mod OfCases
 pub mod OneVerdict

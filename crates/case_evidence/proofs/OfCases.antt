@@ -6,10 +6,10 @@ use Rattle.net_base.specs.Network.{PlainNet}
 use Rattle.path_words.specs.declared.case.Case.{Case}
 use Rattle.path_words.specs.Cases.{case_list}
 use Rattle.path_words.specs.Policies.{PlainPolicy, PlainStatement}
-use Rattle.case_core.specs.Cases.{IsCase, OfCase}
+use Rattle.case_law.specs.Cases.{IsCase, OfCase}
 use Rattle.case_core.specs.Refusals.{IsGraphOf}
 use Rattle.case_core.specs.declared.cases.CaseGraph.{CaseGraph}
-use Rattle.case_core.proofs.Origins.{case_known}
+use Rattle.case_law.proofs.Origins.{case_known}
 
 -- what holds of a result for each such case holds of the value that it gives
 pub ok_of_case : {X E : Type 0} (r : Result X E) (net : PlainNet) (policy : PlainPolicy) (number : ℕ) (Says : PlainStatement → Case → X → Type 0) → OfCase net policy number (λ s c. IfOk r (Says s c)) → IfOk r (λ x. OfCase net policy number (λ s c. Says s c x))

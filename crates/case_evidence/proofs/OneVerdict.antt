@@ -9,18 +9,14 @@ use Rattle.path_words.specs.declared.case.Case.{Case}
 use Rattle.path_words.specs.Policies.{PlainStatement}
 use Rattle.graph_base.specs.Graphs.{PlainGraph}
 use Rattle.graph_base.specs.Rules.{MeetsRules}
-use Rattle.product_graph.proofs.OneGraph.{one-graph}
-use Rattle.reach_prune.specs.Trimmed.{IsTrimmed}
-use Rattle.graph_law.proofs.OneTrimmed.{same_trimmed_graphs}
 use Rattle.relation_law.specs.Evidence.{at_routers}
 use Rattle.relation_law.specs.Numbers.{number_of}
 use Rattle.relation_law.specs.Relations.{IsGreatest}
 use Rattle.relation_law.specs.Views.{view_of, view_with}
 use Rattle.relation_law.proofs.Counts.{one_greatest}
-use Rattle.case_core.specs.declared.cases.CaseGraph.{CaseGraph}
 use Rattle.case_core.specs.declared.refusal.CompileRefusal.{CompileRefusal}
 use Rattle.case_core.specs.declared.refusal.CompileRefusal.TheVariants.{TooManyRanks, TooManyStates, TooManySteps, SourceWithoutPath, MixedSource, NoEvidence, TooManyTags, NoMemory}
-use Rattle.case_core.specs.Refusals.{IsCause, IsGraphOf, plan_for}
+use Rattle.case_core.specs.Refusals.{IsCause}
 use Rattle.regret_law.specs.Passes.{IsClaimed}
 use Rattle.case_core.proofs.OneCause as graphs
 use Rattle.case_evidence.specs.declared.accepted.AcceptedCase.{AcceptedCase}
@@ -43,17 +39,9 @@ one_list net s c g xs ys a b =
     ∙ sym (number_read ys n))
 
 module _ (net : PlainNet) (room : ℕ) (s : PlainStatement) (c : Case) where
-  -- a case is given one graph
-  one_given : (given other : CaseGraph) → IsGraphOf net room s c given → IsGraphOf net room s c other → (given.graph ≡ other.graph) × (given.used ≡ other.used)
-  one_given given other a b =
-      let same = one-graph net (plan_for net s c) b.0 a.0 b.1.within.built a.1.within.built in (
-        same_trimmed_graphs net (plan_for net s c) a.0 given.graph other.graph a.1.within.built a.1.trimmed (subst (λ (g : PlainGraph). IsTrimmed g other.graph) same b.1.trimmed),
-        a.2 ∙ sym (ap (λ (g : PlainGraph). length g.steps) same) ∙ sym b.2,
-      )
-
   pub one_accepted : (given other : AcceptedCase) → IsAccepted net room s c given → IsAccepted net room s c other → given ≡ other
   one_accepted given other a b =
-      let same = one_given (record { graph = given.graph; used = given.used }) (record { graph = other.graph; used = other.used }) a.graph.graph b.graph.graph in
+      let same = graphs.one_given net room s c (record { graph = given.graph; used = given.used }) (record { graph = other.graph; used = other.used }) a.graph.graph b.graph.graph in
       let numbers = one_list net s c other.graph given.prefs.of other.prefs.of (subst (λ (g : PlainGraph). IsNumbered net s c g given.prefs.of) same.0 a.numbers) b.numbers in
       λ i. record { graph = same.0 i; used = same.1 i; prefs = record { of = numbers i } }
 
@@ -82,7 +70,7 @@ module _ (net : PlainNet) (number room : ℕ) (s : PlainStatement) (c : Case) wh
   given_not_refused g used e is cause = graphs.not_refused net number room s c (record { graph = g; used = used }) e is.graph is.paths is.unmixed cause
 
   one_graph : (g h : PlainGraph) (m n : ℕ) → IsGivenGraph net room s c g m → IsGivenGraph net room s c h n → g ≡ h
-  one_graph g h m n a b = (one_given net room s c (record { graph = g; used = m }) (record { graph = h; used = n }) a.graph b.graph).0
+  one_graph g h m n a b = (graphs.one_given net room s c (record { graph = g; used = m }) (record { graph = h; used = n }) a.graph b.graph).0
 
   pub not_refused : (given : AcceptedCase) (e : CompileRefusal) → IsAccepted net room s c given → IsCaseCause net number room s c e → e ≡ NoMemory
   not_refused given e is cause = elim (kinds e cause) [

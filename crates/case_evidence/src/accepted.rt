@@ -3,7 +3,7 @@ ghost use Rattle.std.specs.Prelude.{◌≡◌, ◌≤◌, ℕ, IfErr, IfOk, leng
 ghost use Rattle.path_words.specs.declared.case.Case.{Case};
 ghost use Rattle.path_words.specs.Cases.{case_list};
 ghost use Rattle.path_words.specs.Policies.{PlainStatement, policy_of};
-ghost use Rattle.case_core.specs.Cases.{OfCase, OriginsAreRouters};
+ghost use Rattle.case_law.specs.Cases.{OfCase, OriginsAreRouters};
 ghost use Rattle.case_evidence.specs.Accepted.{IsAccepted, IsCaseCause, IsGivenGraph};
 
 use crate::claimed::claimed_relation;

@@ -1,28 +1,26 @@
 -- What the graph that is built says of walks.
-use Rattle.std.proofs.Common.{◌≡◌, ℕ, ◌<◌, true, List, ◌∷◌, length, slice_get, Option, Some, None, is_some, IsTrue, refl, ap, arith}
-use Rattle.std.proofs.lemmas.Bool.{false≢true}
+use Rattle.std.proofs.Common.{◌≡◌, ℕ, ◌<◌, List, ◌∷◌, length, slice_get, Some, is_some, IsTrue, ap, arith}
 use Rattle.std.proofs.lemmas.List.{length-map}
+use Rattle.list_laws.proofs.Options.{is_some_parts}
+use Rattle.list_laws.proofs.Truth.{same_tests}
 use Rattle.net_base.specs.Network.{PlainNet, IsNet}
 use Rattle.graph_base.specs.Runs.{run}
 use Rattle.regret_law.specs.Faithful.{is_run_path}
-use Rattle.product_graph.specs.Built.{Plan, Standing, AreStandings, node_of, graph_over}
-use Rattle.graph_law.specs.Origins.{AreOrigins}
+use Rattle.standings.specs.Built.{node_of, graph_over}
+use Rattle.path_exprs.specs.Standings.{Plan, Standing, AreStandings}
+use Rattle.case_law.specs.Origins.{AreOrigins}
 use Rattle.graph_law.specs.Ways.{standing_after, stays_alive}
 use Rattle.graph_law.proofs.RunPaths.{goes_from_run_path, run_path_from_places}
-use Rattle.graph_law.proofs.WellBuilt.{same_tests, well_formed}
+use Rattle.graph_law.proofs.WellBuilt.{well_formed}
 use Rattle.graph_law.proofs.Follow.{runs_from_run, run_from_runs, goes_from_runs}
 use Rattle.graph_law.proofs.BuiltRuns.{inside, standing_of_run, run_stays_alive, ended, run_from_alive}
-
-pub some_parts : (o : Option ℕ) → is_some o ≡ true → (n : ℕ) × (o ≡ Some n)
-some_parts None h = absurd (false≢true h)
-some_parts (Some n) h = (n, refl)
 
 module _ (net : PlainNet) (plan : Plan) (xs : List Standing) (are : AreStandings net plan xs) where
   pub runs_are_alive : IsNet net → AreOrigins net plan.origin plan.external → (path : List ℕ) → IsTrue (is_run_path net plan.origin path) →
       is_some (run (graph_over net plan xs) path) ≡ stays_alive net plan path
   runs_are_alive rules origins path h =
       same_tests (is_some (run (graph_over net plan xs) path)) (stays_alive net plan path)
-      (λ s. let o = some_parts (run (graph_over net plan xs) path) s in
+      (λ s. let o = is_some_parts (run (graph_over net plan xs) path) s in
       run_stays_alive net plan xs are path o.0 (runs_from_run (graph_over net plan xs) path o.0 o.1))
       (λ alive. let r = run_from_alive net plan xs are rules origins path (goes_from_run_path net plan.origin path h) alive in
       ap is_some (run_from_runs net plan.origin plan.external (graph_over net plan xs) (well_formed net plan xs are) path r.0 r.1))

@@ -5,16 +5,17 @@ use Rattle.std.proofs.lemmas.List.{length-map}
 use Rattle.std.proofs.lemmas.Option.{same_Some, slice_get_within}
 use Rattle.net_base.specs.Network.{PlainNet, IsNet, is_router, linked}
 use Rattle.path_exprs.specs.Derivative.{derivative}
-use Rattle.path_exprs.specs.NetSets.{locations}
+use Rattle.net_base.specs.NetSets.{locations}
 use Rattle.path_exprs.specs.Runs.{start_of}
 use Rattle.graph_base.specs.Runs.{place_of, is_start, has_step}
-use Rattle.product_graph.specs.Built.{Plan, Standing, AreStandings, starts, moved, may_go, is_dead, node_of, graph_over}
-use Rattle.graph_law.specs.Origins.{AreOrigins}
+use Rattle.standings.specs.Built.{node_of, graph_over}
+use Rattle.path_exprs.specs.Standings.{Plan, Standing, AreStandings, starts, moved, may_go, is_dead}
+use Rattle.case_law.specs.Origins.{AreOrigins}
 use Rattle.graph_law.specs.Ways.{left_after, standing_after, stays_alive}
-use Rattle.graph_law.proofs.Lists.{place_from_In}
 use Rattle.graph_law.proofs.Left.{left_after-more}
 use Rattle.graph_law.proofs.Targets.{next_from_In, In-starts, In-targets}
-use Rattle.graph_law.proofs.RunPaths.{GoesTo, goes_from_rest, goes_link, goes_no_origin, linked_turned, linked_located, origin_located, inside_unless_origin, router_from_location}
+use Rattle.net_base.proofs.RoutersAndPeers.{router_or_peer}
+use Rattle.graph_law.proofs.RunPaths.{GoesTo, goes_from_rest, goes_link, goes_no_origin, linked_turned, linked_located, origin_located, inside_unless_origin}
 use Rattle.graph_law.proofs.Nodes.{place_at, start_at_front, start_below, start_from_below, step_parts, step_made}
 use Rattle.graph_law.proofs.WellBuilt.{goes_parts, start_at_origin, entered}
 use Rattle.graph_law.proofs.Follow.{RunsTo, IsInside}
@@ -93,7 +94,7 @@ module _ (net : PlainNet) (plan : Plan) (xs : List Standing) (are : AreStandings
     sends l k [] h = or_left (plan.origin k) (is_router net k) h.2
     sends l k (j ∷ ls) h =
         or_right (plan.origin k) (is_router net k)
-        (router_from_location net k (linked_located net rules k l (linked_turned net l k h.0)) h.2)
+        (router_or_peer net k (linked_located net rules k l (linked_turned net l k h.0)) h.2)
 
     goes : (l k : ℕ) (ls : List ℕ) → GoesTo net plan.origin (l ∷ k ∷ ls) → is_dead (left_after net plan (l ∷ k ∷ ls)) ≡ false →
         may_go net plan (standing_after net plan k ls) l ≡ true
@@ -109,7 +110,7 @@ module _ (net : PlainNet) (plan : Plan) (xs : List Standing) (are : AreStandings
 
     begin : (l : ℕ) → plan.origin l ≡ true → (n : ℕ) × RunsTo (graph_over net plan xs) (l ∷ []) n
     begin l o =
-        let p = place_from_In (moved (start_of (locations net) plan.expressions) l) (starts net plan) (In-starts net plan l (origin_located net plan.origin plan.external origins l o) o) in
+        let p = In-starts net plan l (origin_located net plan.origin plan.external origins l o) o in
         let lt = slice_get_within (starts net plan) p.0 (moved (start_of (locations net) plan.expressions) l) p.1 in
         let a = start_at_front net plan xs are p.0 lt in
         let same : a.0 ≡ moved (start_of (locations net) plan.expressions) l = same_Some a.0 (moved (start_of (locations net) plan.expressions) l) (sym a.3 ∙ p.1) in

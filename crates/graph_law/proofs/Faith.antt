@@ -1,18 +1,21 @@
 -- The trimmed graph is faithful.
 use Rattle.std.proofs.Common.{◌≡◌, ◌↔◌, ℕ, ◌<◌, Bool, true, false, not, ◌&&◌, IsTrue, IsSome, List, [], ◌∷◌, ◌++◌, length, Some, None, is_some, sym, ap, ◌∙◌, subst}
 use Rattle.std.proofs.lemmas.Bool.{and_parts, and_from, or_left, false≢true, not-true, not_from_true, not_from_false}
+use Rattle.list_laws.proofs.Options.{is_some_parts}
 use Rattle.net_base.specs.Network.{PlainNet, IsNet}
 use Rattle.path_words.specs.Policies.{PlainStatement}
 use Rattle.path_words.specs.Meaning.{at_first, rank_of}
 use Rattle.path_words.specs.Permitted.{from_holds}
-use Rattle.constraint_expand.specs.Forward.{expressions}
+use Rattle.path_exprs.specs.Forward.{expressions}
 use Rattle.graph_base.specs.Graphs.{PlainGraph}
 use Rattle.graph_base.specs.Runs.{place_of, rank_at, has_step, run}
 use Rattle.graph_base.specs.Rules.{IsWellFormed}
 use Rattle.regret_law.specs.Faithful.{is_walk_to, is_run_path, permits, may_start, IsFaithful}
-use Rattle.product_graph.specs.Built.{Plan, Standing, AreStandings, IsBuilt, graph_over}
-use Rattle.reach_prune.specs.Trimmed.{CanBeRanked, IsTrimmed, kept_below, graph_kept}
-use Rattle.graph_law.specs.Origins.{AreOrigins}
+use Rattle.standings.specs.Built.{IsBuilt, graph_over}
+use Rattle.path_exprs.specs.Standings.{Plan, Standing, AreStandings}
+use Rattle.list_laws.specs.Counts.{kept_below}
+use Rattle.reach_prune.specs.Trimmed.{CanBeRanked, IsTrimmed, graph_kept}
+use Rattle.case_law.specs.Origins.{AreOrigins}
 use Rattle.graph_base.specs.Walks.{IsEnteredFromBefore}
 use Rattle.graph_law.specs.Ways.{left_after}
 use Rattle.graph_law.proofs.Left.{ranked-alive}
@@ -21,7 +24,6 @@ use Rattle.graph_law.proofs.Nodes.{place_at, standing_at}
 use Rattle.graph_law.proofs.WellBuilt.{well_formed, entered}
 use Rattle.graph_law.proofs.Follow.{RunsTo, runs_from_run, run_from_runs, run_inside, goes_from_runs}
 use Rattle.graph_law.proofs.BuiltRuns.{inside, ended, run_from_alive}
-use Rattle.graph_law.proofs.BuiltLaws.{some_parts}
 use Rattle.graph_law.proofs.Kept.{rank_kept, node_from_kept}
 use Rattle.graph_law.proofs.KeptFormed.{place_from, kept_well_formed, kept_entered}
 use Rattle.graph_law.proofs.KeptRuns.{run_kept, run_from_kept, run_passes, run_goes_on}
@@ -81,7 +83,7 @@ module _ (net : PlainNet) (s : PlainStatement) (plan : Plan) (of : IsPlanOf net 
       let p = permitted_parts net plan.origin s (l ∷ k ∷ ls) h in
       let goes = goes_from_run_path net plan.origin (l ∷ k ∷ ls) (or_left (is_walk_to net plan.origin (l ∷ k ∷ ls)) false p.walk) in
       let left = rank_of_walk net of.rules plan s.ranked of.expressions l k ls goes in
-      let rank = some_parts (rank_of net s.ranked (l ∷ k ∷ ls)) p.ranked in
+      let rank = is_some_parts (rank_of net s.ranked (l ∷ k ∷ ls)) p.ranked in
       let alive = alive_all_along net plan l (k ∷ ls) (ranked-alive (left_after net plan (l ∷ k ∷ ls)) [] rank.0 (left ∙ rank.1)) in
       let r = run_from_alive net plan xs are of.rules of.origins (l ∷ k ∷ ls) goes alive in
       let start = and_from (from_holds s.from l) (not (plan.origin l)) p.from (not_from_false (plan.origin l) (no_origin l k ls goes)) in
@@ -129,7 +131,7 @@ module _ (net : PlainNet) (s : PlainStatement) (plan : Plan) (of : IsPlanOf net 
         (above : List ℕ) × IsTrue (permits net plan.origin s (above ++ path))
     has_no_other [] h some = absurd (goes_from_run_path net plan.origin [] h)
     has_no_other (l ∷ ls) h some =
-        let o = some_parts (run (graph_kept keep (graph_over net plan xs)) (l ∷ ls)) some in
+        let o = is_some_parts (run (graph_kept keep (graph_over net plan xs)) (l ∷ ls)) some in
         let r = whole_run (l ∷ ls) o.0 o.1 in
         let c = (kept r.0 (run_inside (graph_over net plan xs) (inside net plan xs are) (l ∷ ls) r.0 r.1)).0 r.2 in
         let on = run_goes_on (graph_over net plan xs) c.1.0 r.0 c.0 l ls r.1 c.1.1 in

@@ -1,14 +1,17 @@
 -- Runs of a graph step by step, and what a run says of its path where the graph is well formed.
-use Rattle.std.proofs.Common.{◌≡◌, ℕ, ◌<◌, Bool, true, false, not, ◌&&◌, ◌==◌, nat_eq, List, [], ◌∷◌, length, option_map, option_and_then, find, Option, Some, None, refl, sym, ap, ◌∙◌, subst, ⊎_elim, eqb-true, eq-eqb}
+use Rattle.std.proofs.Common.{◌≡◌, ℕ, ◌<◌, Bool, true, false, not, ◌&&◌, ◌==◌, nat_eq, List, [], ◌∷◌, length, option_map, option_and_then, find, Some, refl, sym, ap, ◌∙◌, subst, ⊎_elim, eqb-true, eq-eqb}
 use Rattle.std.proofs.lemmas.Bool.{and_parts, and_from, or_cases, not-true, false≢true, false_from_ne_true}
-use Rattle.std.proofs.lemmas.Option.{none-some, same_Some, option_and_then_some}
+use Rattle.std.proofs.lemmas.Option.{none-some, option_and_then_some}
+use Rattle.list_laws.proofs.Apart.{Apart-same, Apart-from_distinct}
+use Rattle.list_laws.proofs.Tests.{find_from, find_parts}
+use Rattle.list_laws.specs.Members.{IsIn}
+use Rattle.list_laws.proofs.Options.{option_map_parts}
 use Rattle.net_base.specs.Network.{PlainNet, is_peer, is_router, linked}
 use Rattle.graph_base.specs.Graphs.{PlainGraph}
 use Rattle.graph_base.specs.Runs.{place_of, is_start, has_step, start_at, step_at, run}
 use Rattle.graph_base.specs.Rules.{IsWellFormed, same_pair}
-use Rattle.graph_law.proofs.Lists.{In, find_parts, find-In}
-use Rattle.graph_law.proofs.Apart.{Apart-from_distinct, Apart-same}
-use Rattle.graph_law.proofs.RunPaths.{GoesTo, linked_turned, router_is_no_peer}
+use Rattle.net_base.proofs.RoutersAndPeers.{router_no_peer}
+use Rattle.graph_law.proofs.RunPaths.{GoesTo, linked_turned}
 use Rattle.graph_law.proofs.Nodes.{In-start, start_from_In, In-step, step_from_In}
 
 -- the run along a path ends in n
@@ -17,22 +20,18 @@ RunsTo g [] n = ⊥
 RunsTo g (l ∷ []) n = (is_start g n ≡ true) × (place_of g n ≡ l)
 RunsTo g (l ∷ k ∷ ls) n = (m : ℕ) × RunsTo g (k ∷ ls) m × (has_step g m n ≡ true) × (place_of g n ≡ l)
 
-option_map_parts : {A B : Type 0} (f : A → B) (o : Option A) (y : B) → option_map f o ≡ Some y → (x : A) × (o ≡ Some x) × (f x ≡ y)
-option_map_parts f None y h = absurd (none-some y h)
-option_map_parts f (Some x) y h = (x, refl, same_Some (f x) y h)
-
 start_at_parts : (g : PlainGraph) (l n : ℕ) → start_at g l ≡ Some n → (is_start g n ≡ true) × (place_of g n ≡ l)
 start_at_parts g l n h =
-    let f = find_parts (λ m. place_of g m == l) n g.starts h in
-    (start_from_In g n f.0, eqb-true (place_of g n) l f.1)
+    let f = find_parts (λ m. place_of g m == l) g.starts n h in
+    (start_from_In g n (f.0, f.1), eqb-true (place_of g n) l f.2)
 
 step_at_parts : (g : PlainGraph) (m l n : ℕ) → step_at g m l ≡ Some n → (has_step g m n ≡ true) × (place_of g n ≡ l)
 step_at_parts g m l n h =
     let o = option_map_parts (λ (s : ℕ × ℕ). s.1) (find (λ (s : ℕ × ℕ). s.0 == m && place_of g s.1 == l) g.steps) n h in
-    let f = find_parts (λ (s : ℕ × ℕ). s.0 == m && place_of g s.1 == l) o.0 g.steps o.1 in
-    let parts = and_parts (o.0.0 == m) (place_of g o.0.1 == l) f.1 in
+    let f = find_parts (λ (s : ℕ × ℕ). s.0 == m && place_of g s.1 == l) g.steps o.0 o.1 in
+    let parts = and_parts (o.0.0 == m) (place_of g o.0.1 == l) f.2 in
     let from : o.0.0 ≡ m = eqb-true o.0.0 m parts.0 in (
-      step_from_In g m n (subst (λ (s : ℕ × ℕ). In s g.steps) (λ i. (from i, o.2 i)) f.0),
+      step_from_In g m n (subst (λ (s : ℕ × ℕ). IsIn g.steps s) (λ i. (from i, o.2 i)) (f.0, f.1)),
       ap (place_of g) (sym o.2) ∙ eqb-true (place_of g o.0.1) l parts.1,
     )
 
@@ -78,13 +77,15 @@ module _ (net : PlainNet) (origin : ℕ → Bool) (external : Bool) (g : PlainGr
 
   start_at_made : (l n : ℕ) → is_start g n ≡ true → place_of g n ≡ l → start_at g l ≡ Some n
   start_at_made l n h e =
-      let f = find-In (λ m. place_of g m == l) n g.starts (In-start g n h) (eq-eqb (place_of g n) l e) in
+      let at = In-start g n h in
+      let f = find_from (λ m. place_of g m == l) g.starts at.0 n at.1 (eq-eqb (place_of g n) l e) in
       let parts = start_at_parts g l f.0 f.1 in
       f.1 ∙ ap Some (one_start f.0 n parts.0 h (parts.1 ∙ sym e))
 
   found : (m l n : ℕ) → has_step g m n ≡ true → place_of g n ≡ l → (z : ℕ) × (step_at g m l ≡ Some z)
   found m l n h e =
-      let f = find-In {X = ℕ × ℕ} (λ s. s.0 == m && place_of g s.1 == l) (m, n) g.steps (In-step g m n h) (and_from (m == m) (place_of g n == l) (eq-eqb m m refl) (eq-eqb (place_of g n) l e)) in
+      let at = In-step g m n h in
+      let f = find_from (λ (s : ℕ × ℕ). s.0 == m && place_of g s.1 == l) g.steps at.0 (m, n) at.1 (and_from (m == m) (place_of g n == l) (eq-eqb m m refl) (eq-eqb (place_of g n) l e)) in
       (f.0.1, ap (option_map (λ (s : ℕ × ℕ). s.1)) f.1)
 
   step_at_made : (m l n : ℕ) → has_step g m n ≡ true → place_of g n ≡ l → step_at g m l ≡ Some n
@@ -113,7 +114,7 @@ module _ (net : PlainNet) (origin : ℕ → Bool) (external : Bool) (g : PlainGr
 
   step_from_router : (m n k : ℕ) → has_step g m n ≡ true → is_start g m ≡ false → place_of g m ≡ k → is_peer net k ≡ false
   step_from_router m n k h s e =
-      ⊎_elim (λ t. absurd (false≢true (sym s ∙ t))) (λ r. ap (is_peer net) (sym e) ∙ router_is_no_peer net (place_of g m) r)
+      ⊎_elim (λ t. absurd (false≢true (sym s ∙ t))) (λ r. ap (is_peer net) (sym e) ∙ router_no_peer net (place_of g m) r)
       (or_cases (is_start g m) (is_router net (place_of g m)) (wf.from m n h))
 
   pub run_place : (l : ℕ) (ls : List ℕ) (n : ℕ) → RunsTo g (l ∷ ls) n → place_of g n ≡ l

@@ -1,47 +1,18 @@
 -- The graph of the nodes that are kept: its nodes, starts and steps are those of the whole graph, under other numbers.
-use Rattle.std.proofs.Common.{◌≡◌, ℕ, zero, suc, ◌+◌, ◌-◌, ◌<◌, ◌≤◌, Bool, true, false, cond, List, [], ◌∷◌, length, filter, slice_get, option_map, option_and_then, unwrap_or, Some, refl, sym, ap, ◌∙◌, subst, ⊎_elim, arith}
-use Rattle.std.proofs.lemmas.Bool.{and_parts, and_from, false≢true, cases_order, cases_Bool}
+use Rattle.std.proofs.Common.{◌≡◌, ℕ, zero, suc, ◌+◌, ◌<◌, Bool, true, false, cond, List, [], ◌∷◌, length, filter, slice_get, option_map, option_and_then, unwrap_or, Some, refl, sym, ap, ◌∙◌, arith}
+use Rattle.std.proofs.lemmas.Bool.{and_parts, and_from, false≢true}
 use Rattle.std.proofs.lemmas.Option.{none-some, slice_get_within}
+use Rattle.list_laws.proofs.Items.{slice_get_inside}
+use Rattle.list_laws.proofs.Members.{IsIn-map, IsIn-map_parts, IsIn-filter, IsIn-filter_parts}
+use Rattle.list_laws.proofs.Kept.{kept_below-kept, kept_below-left, kept_below-less, kept_below-same}
 use Rattle.graph_base.specs.declared.graph.Node.{Node}
 use Rattle.graph_base.specs.Graphs.{PlainGraph}
 use Rattle.graph_base.specs.Runs.{place_of, is_listener, rank_at, is_start, has_step}
-use Rattle.reach_prune.specs.Trimmed.{kept_below, nodes_kept, both_kept, renumbered, graph_kept}
-use Rattle.graph_law.proofs.Lists.{In-map, In-map_parts, In-filter, In-filter_parts, slice_get_inside}
+use Rattle.list_laws.specs.Counts.{kept_below}
+use Rattle.reach_prune.specs.Trimmed.{nodes_kept, both_kept, renumbered, graph_kept}
 use Rattle.graph_law.proofs.Nodes.{In-start, start_from_In, In-step, step_from_In}
 
 module _ (keep : ℕ → Bool) where
-  -- numbers
-
-  kept_below-kept : (n : ℕ) → keep n ≡ true → kept_below keep (suc n) ≡ kept_below keep n + 1
-  kept_below-kept n e = ap (λ b. kept_below keep n + cond b 1 0) e
-
-  kept_below-left : (n : ℕ) → keep n ≡ false → kept_below keep (suc n) ≡ kept_below keep n
-  kept_below-left n e = let at = ap (λ b. kept_below keep n + cond b 1 0) e in omega (arith, at)
-
-  kept_below-more : (n : ℕ) → kept_below keep n ≤ kept_below keep (suc n)
-  kept_below-more n = ⊎_elim (λ e. let at = kept_below-kept n e in omega (arith, at)) (λ e. let at = kept_below-left n e in omega (arith, at)) (cases_Bool (keep n))
-
-  kept_below-far : (m d : ℕ) → kept_below keep m ≤ kept_below keep (d + m)
-  kept_below-far m zero = let at : zero + m ≡ m = omega arith in subst (λ k. kept_below keep m ≤ kept_below keep k) (sym at) (omega arith)
-  kept_below-far m (suc d) =
-      let at : suc d + m ≡ suc (d + m) = omega arith in
-      let far = kept_below-far m d in
-      let more = kept_below-more (d + m) in
-      subst (λ k. kept_below keep m ≤ kept_below keep k) (sym at) (omega (arith, far, more))
-
-  pub kept_below-less : (m n : ℕ) → keep m ≡ true → m < n → kept_below keep m < kept_below keep n
-  kept_below-less m n e lt =
-      let at : (n - suc m) + suc m ≡ n = omega (arith, lt) in
-      let here = kept_below-kept m e in
-      let far = subst (λ k. kept_below keep (suc m) ≤ kept_below keep k) at (kept_below-far (suc m) (n - suc m)) in
-      omega (arith, here, far)
-
-  pub kept_below-same : (m n : ℕ) → keep m ≡ true → keep n ≡ true → kept_below keep m ≡ kept_below keep n → m ≡ n
-  kept_below-same m n h k e =
-      ⊎_elim (λ same. same)
-      (λ apart. ⊎_elim (λ lt. let less = kept_below-less m n h lt in absurd (omega (arith, less, e))) (λ gt. let less = kept_below-less n m k gt in absurd (omega (arith, less, e))) apart)
-      (cases_order m n)
-
   -- nodes
 
   get-at : (k : ℕ) (node : Node) (nodes : List Node) (i j : ℕ) (b : Bool) → keep k ≡ b →
@@ -54,12 +25,12 @@ module _ (keep : ℕ → Bool) where
       let both = ap (kept_below keep) here in
       absurd (omega (arith, at, both))
   get-at k node nodes (suc i) zero true e rest h at =
-      let less = kept_below-less k (k + suc i) e (omega arith) in
+      let less = kept_below-less keep k (k + suc i) e (omega arith) in
       absurd (omega (arith, at, less))
   get-at k node nodes (suc i) (suc j) true e rest h at =
       let on : k + suc i ≡ k + 1 + i = omega arith in
       let one : k + 1 ≡ suc k = omega arith in
-      let step = ap (kept_below keep) one ∙ kept_below-kept k e in
+      let step = ap (kept_below keep) one ∙ kept_below-kept keep k e in
       let same = ap (kept_below keep) on in
       rest i j (ap keep (sym on) ∙ h) (omega (arith, at, step, same))
   get-at k node nodes zero j false e rest h at =
@@ -68,7 +39,7 @@ module _ (keep : ℕ → Bool) where
   get-at k node nodes (suc i) j false e rest h at =
       let on : k + suc i ≡ k + 1 + i = omega arith in
       let one : k + 1 ≡ suc k = omega arith in
-      let step = ap (kept_below keep) one ∙ kept_below-left k e in
+      let step = ap (kept_below keep) one ∙ kept_below-left keep k e in
       let same = ap (kept_below keep) on in
       rest i j (ap keep (sym on) ∙ h) (omega (arith, at, step, same))
 
@@ -97,11 +68,11 @@ module _ (keep : ℕ → Bool) where
       (zero, h, ap keep here ∙ e, omega (arith, same))
   from-at k first nodes (suc j) node true e rest h =
       let one : k + 1 ≡ suc k = omega arith in
-      let step = ap (kept_below keep) one ∙ kept_below-kept k e in
+      let step = ap (kept_below keep) one ∙ kept_below-kept keep k e in
       later k first nodes (suc j) j node (omega (arith, step)) (rest j h)
   from-at k first nodes j node false e rest h =
       let one : k + 1 ≡ suc k = omega arith in
-      let step = ap (kept_below keep) one ∙ kept_below-left k e in
+      let step = ap (kept_below keep) one ∙ kept_below-left keep k e in
       later k first nodes j j node (omega (arith, step)) (rest j h)
 
   from-nodes_kept : (k : ℕ) (nodes : List Node) (j : ℕ) (node : Node) → slice_get (nodes_kept keep k nodes) j ≡ Some node → From k nodes j node
@@ -136,29 +107,29 @@ module _ (keep : ℕ → Bool) where
 
     pub start_kept : (n : ℕ) → is_start g n ≡ true → keep n ≡ true → is_start (graph_kept keep g) (kept_below keep n) ≡ true
     start_kept n s h =
-        start_from_In (graph_kept keep g) (kept_below keep n) (In-map (kept_below keep) n (filter keep g.starts) (In-filter keep n g.starts (In-start g n s) h))
+        start_from_In (graph_kept keep g) (kept_below keep n) (IsIn-map (kept_below keep) (filter keep g.starts) n (IsIn-filter keep g.starts n (In-start g n s) h))
 
     pub start_from_kept : (i : ℕ) → is_start (graph_kept keep g) i ≡ true → (n : ℕ) × (is_start g n ≡ true) × (keep n ≡ true) × (i ≡ kept_below keep n)
     start_from_kept i s =
-        let m = In-map_parts (kept_below keep) i (filter keep g.starts) (In-start (graph_kept keep g) i s) in
-        let f = In-filter_parts keep m.0 g.starts m.1 in
-        (m.0, start_from_In g m.0 f.0, f.1, m.2)
+        let m = IsIn-map_parts (kept_below keep) (filter keep g.starts) i (In-start (graph_kept keep g) i s) in
+        let f = IsIn-filter_parts keep g.starts m.0 m.1 in
+        (m.0, start_from_In g m.0 f.0, f.1, sym m.2)
 
     pub is_start-kept : (n : ℕ) → keep n ≡ true → is_start (graph_kept keep g) (kept_below keep n) ≡ true → is_start g n ≡ true
     is_start-kept n h s =
         let f = start_from_kept (kept_below keep n) s in
-        ap (is_start g) (kept_below-same n f.0 h f.2 f.3) ∙ f.1
+        ap (is_start g) (kept_below-same keep n f.0 h f.2 f.3) ∙ f.1
 
     pub step_kept : (m n : ℕ) → has_step g m n ≡ true → keep m ≡ true → keep n ≡ true → has_step (graph_kept keep g) (kept_below keep m) (kept_below keep n) ≡ true
     step_kept m n s h k =
         step_from_In (graph_kept keep g) (kept_below keep m) (kept_below keep n)
-        (In-map {X = ℕ × ℕ} (renumbered keep) (m, n) (filter (both_kept keep) g.steps)
-        (In-filter {X = ℕ × ℕ} (both_kept keep) (m, n) g.steps (In-step g m n s) (and_from (keep m) (keep n) h k)))
+        (IsIn-map (renumbered keep) (filter (both_kept keep) g.steps) (m, n)
+        (IsIn-filter (both_kept keep) g.steps (m, n) (In-step g m n s) (and_from (keep m) (keep n) h k)))
 
     pub step_from_kept : (i j : ℕ) → has_step (graph_kept keep g) i j ≡ true →
         (m n : ℕ) × (has_step g m n ≡ true) × (keep m ≡ true) × (keep n ≡ true) × (i ≡ kept_below keep m) × (j ≡ kept_below keep n)
     step_from_kept i j s =
-        let m = In-map_parts {X = ℕ × ℕ} (renumbered keep) (i, j) (filter (both_kept keep) g.steps) (In-step (graph_kept keep g) i j s) in
-        let f = In-filter_parts {X = ℕ × ℕ} (both_kept keep) m.0 g.steps m.1 in
+        let m = IsIn-map_parts (renumbered keep) (filter (both_kept keep) g.steps) (i, j) (In-step (graph_kept keep g) i j s) in
+        let f = IsIn-filter_parts (both_kept keep) g.steps m.0 m.1 in
         let both = and_parts (keep m.0.0) (keep m.0.1) f.1 in
-        (m.0.0, m.0.1, step_from_In g m.0.0 m.0.1 f.0, both.0, both.1, ap (λ (r : ℕ × ℕ). r.0) m.2, ap (λ (r : ℕ × ℕ). r.1) m.2)
+        (m.0.0, m.0.1, step_from_In g m.0.0 m.0.1 f.0, both.0, both.1, ap (λ (r : ℕ × ℕ). r.0) (sym m.2), ap (λ (r : ℕ × ℕ). r.1) (sym m.2))

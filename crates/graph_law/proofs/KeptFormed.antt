@@ -2,16 +2,19 @@
 use Rattle.std.proofs.Common.{◌≡◌, ℕ, ◌<◌, Bool, true, not, ◌&&◌, ◌||◌, ◌==◌, IsTrue, nat_eq, map, filter, sym, ap, ◌∙◌, subst, inl, inr, ⊎_elim, eqb-true, eq-eqb}
 use Rattle.std.specs.List.{IsDistinct}
 use Rattle.std.proofs.lemmas.Bool.{and_parts, and_from}
+use Rattle.list_laws.proofs.Apart.{Apart-filter, Apart-map, Apart-from_distinct, IsDistinct-from_apart}
+use Rattle.list_laws.proofs.Members.{IsIn-filter_parts}
+use Rattle.list_laws.specs.Members.{IsIn}
+use Rattle.list_laws.proofs.Truth.{same_tests}
+use Rattle.list_laws.proofs.Kept.{kept_below-less, kept_below-same}
 use Rattle.net_base.specs.Network.{PlainNet, is_peer, is_router, linked}
 use Rattle.graph_base.specs.Graphs.{PlainGraph}
 use Rattle.graph_base.specs.Runs.{place_of, is_listener, is_start, has_step}
 use Rattle.graph_base.specs.Rules.{IsWellFormed, same_pair}
-use Rattle.reach_prune.specs.Trimmed.{kept_below, both_kept, renumbered, graph_kept}
+use Rattle.list_laws.specs.Counts.{kept_below}
+use Rattle.reach_prune.specs.Trimmed.{both_kept, renumbered, graph_kept}
 use Rattle.graph_base.specs.Walks.{IsEnteredFromBefore}
-use Rattle.graph_law.proofs.Lists.{In, In-filter_parts}
-use Rattle.graph_law.proofs.Apart.{Apart-from_distinct, Apart-filter, Apart-map, IsDistinct-from_apart}
-use Rattle.graph_law.proofs.WellBuilt.{same_tests}
-use Rattle.graph_law.proofs.Kept.{kept_below-less, kept_below-same, place_kept, listener_kept, node_from_kept, start_kept, start_from_kept, is_start-kept, step_kept, step_from_kept}
+use Rattle.graph_law.proofs.Kept.{place_kept, listener_kept, node_from_kept, start_kept, start_from_kept, is_start-kept, step_kept, step_from_kept}
 
 module _ (keep : ℕ → Bool) (g : PlainGraph) where
   pub place_from : (i n : ℕ) → keep n ≡ true → i ≡ kept_below keep n → place_of (graph_kept keep g) i ≡ place_of g n
@@ -34,10 +37,10 @@ module _ (keep : ℕ → Bool) (g : PlainGraph) where
       (Apart-filter (λ i j. nat_eq (place_of g i) (place_of g j) ≡ true) keep g.starts (Apart-from_distinct nat_eq (place_of g) g.starts apart))
       back)
     where
-      back : (m n : ℕ) → In m (filter keep g.starts) → In n (filter keep g.starts) →
+      back : (m n : ℕ) → IsIn (filter keep g.starts) m → IsIn (filter keep g.starts) n →
           nat_eq (place_of (graph_kept keep g) (kept_below keep m)) (place_of (graph_kept keep g) (kept_below keep n)) ≡ true → nat_eq (place_of g m) (place_of g n) ≡ true
       back m n h k e =
-          (λ i. nat_eq (sym (place_kept keep g m (In-filter_parts keep m g.starts h).1) i) (sym (place_kept keep g n (In-filter_parts keep n g.starts k).1) i)) ∙ e
+          (λ i. nat_eq (sym (place_kept keep g m (IsIn-filter_parts keep g.starts m h).1) i) (sym (place_kept keep g n (IsIn-filter_parts keep g.starts n k).1) i)) ∙ e
 
   steps_apart : IsDistinct same_pair (map (λ (s : ℕ × ℕ). (s.0, place_of g s.1)) g.steps) →
       IsDistinct same_pair (map (λ (s : ℕ × ℕ). (s.0, place_of (graph_kept keep g) s.1)) (graph_kept keep g).steps)
@@ -48,11 +51,11 @@ module _ (keep : ℕ → Bool) (g : PlainGraph) where
       (Apart-filter (AreAlike g) (both_kept keep) g.steps (Apart-from_distinct same_pair (λ (s : ℕ × ℕ). (s.0, place_of g s.1)) g.steps apart))
       back)
     where
-      back : (s t : ℕ × ℕ) → In s (filter (both_kept keep) g.steps) → In t (filter (both_kept keep) g.steps) →
+      back : (s t : ℕ × ℕ) → IsIn (filter (both_kept keep) g.steps) s → IsIn (filter (both_kept keep) g.steps) t →
           AreAlike (graph_kept keep g) (renumbered keep s) (renumbered keep t) → AreAlike g s t
       back s t h k e =
-          let ks = and_parts (keep s.0) (keep s.1) (In-filter_parts (both_kept keep) s g.steps h).1 in
-          let kt = and_parts (keep t.0) (keep t.1) (In-filter_parts (both_kept keep) t g.steps k).1 in
+          let ks = and_parts (keep s.0) (keep s.1) (IsIn-filter_parts (both_kept keep) g.steps s h).1 in
+          let kt = and_parts (keep t.0) (keep t.1) (IsIn-filter_parts (both_kept keep) g.steps t k).1 in
           let parts = and_parts (kept_below keep s.0 == kept_below keep t.0) (place_of (graph_kept keep g) (kept_below keep s.1) == place_of (graph_kept keep g) (kept_below keep t.1)) e in
           and_from (s.0 == t.0) (place_of g s.1 == place_of g t.1)
           (eq-eqb s.0 t.0 (kept_below-same keep s.0 t.0 ks.0 kt.0 (eqb-true (kept_below keep s.0) (kept_below keep t.0) parts.0)))

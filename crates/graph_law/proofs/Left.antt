@@ -9,10 +9,10 @@ use Rattle.path_words.specs.Meaning.{place_of}
 use Rattle.path_exprs.specs.Expression.{Expression, never}
 use Rattle.path_exprs.specs.Membership.{member}
 use Rattle.path_exprs.specs.Derivative.{derivative}
-use Rattle.path_exprs.specs.NetSets.{locations}
+use Rattle.net_base.specs.NetSets.{locations}
 use Rattle.path_exprs.specs.Normal.{is_never}
 use Rattle.path_exprs.specs.Runs.{along, start_of, first_with}
-use Rattle.product_graph.specs.Built.{Plan, is_dead}
+use Rattle.path_exprs.specs.Standings.{Plan, is_dead}
 use Rattle.graph_law.specs.Ways.{left_after}
 
 along-push : (xs : List ℕ) (x : ℕ) (es : List Expression) → along (xs ++ x ∷ []) es ≡ map (derivative x) (along xs es)

@@ -1,5 +1,4 @@
-pub mod Lists
-pub mod Apart
+pub mod NumbersBelow
 pub mod Standings
 pub mod Targets
 pub mod RunPaths
@@ -15,3 +14,4 @@ pub mod KeptRuns
 pub mod Ranks
 pub mod Faith
 pub mod OneTrimmed
+pub mod Claimed

@@ -1,29 +1,22 @@
 -- A graph whose starts and steps lead to nodes has one trimmed graph.
-use Rattle.std.proofs.Common.{◌≡◌, ℕ, zero, suc, ◌+◌, ◌<◌, Bool, cond, ◌&&◌, List, [], ◌∷◌, map, length, filter, refl, sym, ap, ◌∙◌, subst, inl, inr, arith}
+use Rattle.std.proofs.Common.{◌≡◌, ℕ, ◌+◌, ◌<◌, Bool, cond, ◌&&◌, List, [], ◌∷◌, map, length, filter, refl, sym, ap, ◌∙◌, subst, arith}
+use Rattle.list_laws.proofs.Changed.{filter_same, map_same}
+use Rattle.list_laws.proofs.Members.{IsIn-filter_parts}
+use Rattle.list_laws.specs.Members.{IsIn}
+use Rattle.list_laws.proofs.Truth.{same_tests}
+use Rattle.list_laws.proofs.Kept.{kept_below_alike}
 use Rattle.graph_base.specs.declared.graph.Node.{Node}
 use Rattle.graph_base.specs.Graphs.{PlainGraph}
 use Rattle.net_base.specs.Network.{PlainNet}
-use Rattle.product_graph.specs.Built.{Plan, IsBuilt}
-use Rattle.reach_prune.specs.Trimmed.{IsTrimmed, kept_below, nodes_kept, both_kept, renumbered, graph_kept}
-use Rattle.graph_law.proofs.Lists.{In, In-filter_parts}
+use Rattle.standings.specs.Built.{IsBuilt}
+use Rattle.path_exprs.specs.Standings.{Plan}
+use Rattle.list_laws.specs.Counts.{kept_below}
+use Rattle.reach_prune.specs.Trimmed.{IsTrimmed, nodes_kept, both_kept, renumbered, graph_kept}
 use Rattle.graph_law.proofs.Nodes.{start_from_In, step_from_In}
-use Rattle.graph_law.proofs.WellBuilt.{same_tests}
 use Rattle.graph_law.proofs.Follow.{IsInside}
 use Rattle.graph_law.proofs.BuiltRuns.{inside}
 
-filter_same : {X : Type 0} (p q : X → Bool) (xs : List X) → ((x : X) → In x xs → p x ≡ q x) → filter p xs ≡ filter q xs
-filter_same p q [] same = refl
-filter_same p q (x ∷ xs) same = λ i. cond (same x (inl refl) i) (x ∷ filter_same p q xs (λ y h. same y (inr h)) i) (filter_same p q xs (λ y h. same y (inr h)) i)
-
-map_same : {X Y : Type 0} (f g : X → Y) (xs : List X) → ((x : X) → In x xs → f x ≡ g x) → map f xs ≡ map g xs
-map_same f g [] same = refl
-map_same f g (x ∷ xs) same = λ i. same x (inl refl) i ∷ map_same f g xs (λ y h. same y (inr h)) i
-
 module _ (keep keep' : ℕ → Bool) where
-  kept_below_same : (n : ℕ) → ((i : ℕ) → i < n → keep i ≡ keep' i) → kept_below keep n ≡ kept_below keep' n
-  kept_below_same zero same = refl
-  kept_below_same (suc n) same = λ i. kept_below_same n (λ k lt. same k (omega (arith, lt))) i + cond (same n (omega arith) i) 1 0
-
   nodes_kept_same : (k : ℕ) (nodes : List Node) → ((i : ℕ) → i < k + length nodes → keep i ≡ keep' i) → nodes_kept keep k nodes ≡ nodes_kept keep' k nodes
   nodes_kept_same k [] same = refl
   nodes_kept_same k (node ∷ nodes) same =
@@ -37,24 +30,24 @@ module _ (keep keep' : ℕ → Bool) where
       nodes = nodes_kept_same 0 g.nodes (λ i lt. same i (omega (arith, lt)))
 
       number : (n : ℕ) → n < length g.nodes → kept_below keep n ≡ kept_below keep' n
-      number n lt = kept_below_same n (λ i less. same i (omega (arith, lt, less)))
+      number n lt = kept_below_alike keep keep' n (λ i less. same i (omega (arith, lt, less)))
 
       starts : map (kept_below keep) (filter keep g.starts) ≡ map (kept_below keep') (filter keep' g.starts)
       starts =
           map_same (kept_below keep) (kept_below keep') (filter keep g.starts)
-          (λ n h. number n (inside.starts n (start_from_In g n (In-filter_parts keep n g.starts h).0)))
+          (λ n h. number n (inside.starts n (start_from_In g n (IsIn-filter_parts keep g.starts n h).0)))
           ∙ ap (map (kept_below keep')) (filter_same keep keep' g.starts (λ n h. same n (inside.starts n (start_from_In g n h))))
 
-      from : (s : ℕ × ℕ) → In s g.steps → s.0 < length g.nodes
+      from : (s : ℕ × ℕ) → IsIn g.steps s → s.0 < length g.nodes
       from s h = inside.sources s.0 s.1 (step_from_In g s.0 s.1 h)
 
-      to : (s : ℕ × ℕ) → In s g.steps → s.1 < length g.nodes
+      to : (s : ℕ × ℕ) → IsIn g.steps s → s.1 < length g.nodes
       to s h = inside.steps s.0 s.1 (step_from_In g s.0 s.1 h)
 
       steps : map (renumbered keep) (filter (both_kept keep) g.steps) ≡ map (renumbered keep') (filter (both_kept keep') g.steps)
       steps =
           map_same (renumbered keep) (renumbered keep') (filter (both_kept keep) g.steps)
-          (λ s h. let at = (In-filter_parts (both_kept keep) s g.steps h).0 in λ i. (number s.0 (from s at) i, number s.1 (to s at) i))
+          (λ s h. let at = (IsIn-filter_parts (both_kept keep) g.steps s h).0 in λ i. (number s.0 (from s at) i, number s.1 (to s at) i))
           ∙ ap (map (renumbered keep'))
           (filter_same (both_kept keep) (both_kept keep') g.steps (λ s h. λ i. same s.0 (from s h) i && same s.1 (to s h) i))
 

@@ -7,18 +7,20 @@ use Rattle.net_base.specs.Network.{PlainNet, IsNet, is_location}
 use Rattle.path_words.specs.Policies.{Ranking}
 use Rattle.path_words.specs.Meaning.{rank_of}
 use Rattle.path_words.specs.Permitted.{from_holds}
-use Rattle.path_exprs.specs.NetSets.{locations}
+use Rattle.net_base.specs.NetSets.{locations}
 use Rattle.path_exprs.specs.Runs.{first_with}
-use Rattle.path_law.proofs.NetLaws.{all_held}
+use Rattle.net_base.proofs.NetSetLaws.{all_held}
 use Rattle.path_law.proofs.RunLaws.{first_with-reverse}
-use Rattle.constraint_expand.specs.Forward.{expressions}
-use Rattle.constraint_expand.proofs.RankedLaws.{held-alternatives, first_with-rank}
+use Rattle.path_exprs.specs.Forward.{expressions}
+use Rattle.path_law.proofs.RankedLaws.{held-alternatives, first_with-rank}
 use Rattle.graph_base.specs.Runs.{rank_at}
-use Rattle.product_graph.specs.Built.{Plan, Standing, AreStandings, is_dead, node_of, rank_of_standing, graph_over}
+use Rattle.graph_base.proofs.NodesRead.{rank_at-node}
+use Rattle.standings.specs.Built.{node_of, rank_of_standing, graph_over}
+use Rattle.path_exprs.specs.Standings.{Plan, Standing, AreStandings, is_dead}
 use Rattle.graph_law.specs.Ways.{left_after, standing_after, stays_alive}
 use Rattle.graph_law.proofs.Left.{left_after-more, dead-derivative}
 use Rattle.graph_law.proofs.RunPaths.{GoesTo, goes_from_rest, goes_link, linked_located, linked_turned}
-use Rattle.graph_law.proofs.Nodes.{node_at, rank_at-node}
+use Rattle.graph_law.proofs.Nodes.{node_at}
 use Rattle.graph_law.proofs.Follow.{RunsTo}
 use Rattle.graph_law.proofs.BuiltRuns.{standing_of_run}
 

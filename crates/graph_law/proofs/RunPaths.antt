@@ -1,14 +1,15 @@
 -- Paths that can have a run, place by place.
-use Rattle.std.proofs.Common.{◌≡◌, ℕ, ◌+◌, ◌≤◌, Bool, true, false, not, ◌&&◌, ◌||◌, ◌==◌, nat_le, List, [], ◌∷◌, length, refl, sym, ◌∙◌, subst, inl, inr, ⊎_elim, arith, eqb-true, ltb-true, lt-ltb, le-leb, leb-true}
-use Rattle.std.specs.List.{list_any, AllByRecursion}
-use Rattle.std.proofs.lemmas.Bool.{and_parts, and_from, or_cases, or_parts, or_from, or_left, or_right, not-true, not_from_false, false≢true, false_from_ne_true, cases_lt}
+use Rattle.std.proofs.Common.{◌≡◌, ℕ, ◌+◌, ◌≤◌, Bool, true, false, not, ◌&&◌, ◌||◌, ◌==◌, nat_le, List, [], ◌∷◌, length, refl, sym, ◌∙◌, ⊎_elim, arith, eqb-true, lt-ltb, le-leb}
+use Rattle.std.specs.List.{list_any}
+use Rattle.std.proofs.lemmas.Bool.{and_parts, and_from, or_cases, or_parts, or_from, or_left, or_right, not-true, not_from_false, false≢true}
+use Rattle.list_laws.proofs.Members.{list_any-from_IsIn, list_any_member, AllByRecursion-IsIn}
 use Rattle.net_base.specs.Network.{PlainNet, IsNet, IsLink, is_location, is_peer, is_router, joins, linked}
+use Rattle.net_base.proofs.RoutersAndPeers.{router_known, router_or_peer}
 use Rattle.path_words.specs.Meaning.{at_last, front}
 use Rattle.path_words.specs.Walks.{is_walk, steps_linked}
 use Rattle.path_words.specs.Permitted.{ends_at_origin}
 use Rattle.regret_law.specs.Faithful.{is_walk_to, is_run_path}
-use Rattle.graph_law.specs.Origins.{AreOrigins}
-use Rattle.graph_law.proofs.Lists.{In, list_any_parts, list_any-In}
+use Rattle.case_law.specs.Origins.{AreOrigins}
 
 -- a walk to an origin that no other place is, or an origin alone
 abbrev pub GoesTo : PlainNet → (ℕ → Bool) → List ℕ → Type 0
@@ -96,18 +97,13 @@ joins_turned a b link h =
 
 pub linked_turned : (net : PlainNet) (a b : ℕ) → linked net a b ≡ true → linked net b a ≡ true
 linked_turned net a b h =
-    let r = list_any_parts (joins a b) net.links h in
-    list_any-In (joins b a) r.0 net.links r.1 (joins_turned a b r.0 r.2)
-
-All-In : {X : Type 0} (P : X → Type 0) (xs : List X) → AllByRecursion P xs → (x : X) → In x xs → P x
-All-In P [] all x h = absurd h
-All-In P (y ∷ ys) all x (inl e) = subst P (sym e) all.0
-All-In P (y ∷ ys) all x (inr h) = All-In P ys all.1 x h
+    let r = list_any_member (joins a b) net.links h in
+    list_any-from_IsIn (joins b a) net.links r.0 r.1 (joins_turned a b r.0 r.2)
 
 pub linked_located : (net : PlainNet) → IsNet net → (a b : ℕ) → linked net a b ≡ true → is_location net a ≡ true
 linked_located net rules a b h =
-    let r = list_any_parts (joins a b) net.links h in
-    let is-link = All-In (IsLink net) net.links rules.links r.0 r.1 in
+    let r = list_any_member (joins a b) net.links h in
+    let is-link = AllByRecursion-IsIn (IsLink net) net.links r.0 rules.links r.1 in
     let less = is-link.0 in
     let inside = is-link.1 in
     ⊎_elim
@@ -115,30 +111,13 @@ linked_located net rules a b h =
     (λ e. let at = eqb-true r.0.1 a (and_parts (r.0.0 == b) (r.0.1 == a) e).1 in lt-ltb a (length net.routers + length net.peers) (omega (arith, at, less, inside)))
     (or_cases (r.0.0 == a && r.0.1 == b) (r.0.0 == b && r.0.1 == a) r.2)
 
--- kinds of locations
-
-pub router_from_location : (net : PlainNet) (l : ℕ) → is_location net l ≡ true → is_peer net l ≡ false → is_router net l ≡ true
-router_from_location net l at no_peer =
-    ⊎_elim (λ below. lt-ltb l (length net.routers) below)
-    (λ past. absurd (false≢true (sym no_peer ∙ and_from (nat_le (length net.routers) l) (is_location net l) (le-leb (length net.routers) l past) at)))
-    (cases_lt l (length net.routers))
-
-pub peer_is_no_router : (net : PlainNet) (l : ℕ) → is_peer net l ≡ true → is_router net l ≡ false
-peer_is_no_router net l h =
-    let past = leb-true (length net.routers) l (and_parts _ _ h).0 in
-    false_from_ne_true (is_router net l) (λ r. let below = ltb-true l (length net.routers) r in absurd (omega arith))
-
-pub router_is_no_peer : (net : PlainNet) (l : ℕ) → is_router net l ≡ true → is_peer net l ≡ false
-router_is_no_peer net l r = false_from_ne_true (is_peer net l) (λ p. false≢true (sym (peer_is_no_router net l p) ∙ r))
-
-router_located : (net : PlainNet) (l : ℕ) → is_router net l ≡ true → is_location net l ≡ true
-router_located net l r = let below = ltb-true l (length net.routers) r in lt-ltb l (length net.routers + length net.peers) (omega arith)
+-- origins
 
 pub origin_located : (net : PlainNet) (origin : ℕ → Bool) (external : Bool) → AreOrigins net origin external → (l : ℕ) → origin l ≡ true → is_location net l ≡ true
 origin_located net origin true are l o = (and_parts (nat_le (length net.routers) l) (is_location net l) (sym (are l) ∙ o)).1
-origin_located net origin false are l o = router_located net l (are l o)
+origin_located net origin false are l o = router_known net l (are l o)
 
 pub inside_unless_origin : (net : PlainNet) (origin : ℕ → Bool) (external : Bool) → AreOrigins net origin external → (l : ℕ) → is_location net l ≡ true →
     origin l ≡ false → (is_router net l || not external) ≡ true
-inside_unless_origin net origin true are l at o = or_left (is_router net l) false (router_from_location net l at (sym (are l) ∙ o))
+inside_unless_origin net origin true are l at o = or_left (is_router net l) false (router_or_peer net l at (sym (are l) ∙ o))
 inside_unless_origin net origin false are l at o = or_right (is_router net l) true refl

@@ -1,16 +1,19 @@
 -- Where walks start, and where they go on.
 use Rattle.std.proofs.Common.{◌≡◌, ℕ, ◌+◌, Bool, true, false, cond, ◌||◌, [], map, length, filter, refl, sym, ap, ◌∙◌, subst, ltb-true, lt-ltb}
+use Rattle.list_laws.proofs.Apart.{Apart, Apart-filter, Apart-map}
+use Rattle.list_laws.proofs.Members.{IsIn-map, IsIn-map_parts, IsIn-filter, IsIn-filter_parts, IsIn-nil}
+use Rattle.list_laws.specs.Members.{IsIn}
 use Rattle.net_base.specs.Network.{PlainNet, is_location, is_router}
-use Rattle.path_exprs.specs.NetSets.{locations}
+use Rattle.net_base.specs.NetSets.{locations}
 use Rattle.path_exprs.specs.Runs.{start_of}
-use Rattle.product_graph.specs.Built.{Plan, Standing, in_order, moved, starts, may_go, targets}
-use Rattle.graph_law.proofs.Lists.{In, In-map, In-map_parts, In-filter, In-filter_parts, In-numbers_below, below_from_In}
-use Rattle.graph_law.proofs.Apart.{Apart, Apart-map, Apart-filter, Apart-numbers_below}
+use Rattle.path_exprs.specs.Standings.{Plan, Standing, moved, starts, may_go, targets}
+use Rattle.net_base.specs.Locations.{in_order}
+use Rattle.graph_law.proofs.NumbersBelow.{In-numbers_below, below_from_In, Apart-numbers_below}
 
-In-in_order : (net : PlainNet) (l : ℕ) → is_location net l ≡ true → In l (in_order net)
+In-in_order : (net : PlainNet) (l : ℕ) → is_location net l ≡ true → IsIn (in_order net) l
 In-in_order net l h = In-numbers_below l (length net.routers + length net.peers) (ltb-true l (length net.routers + length net.peers) h)
 
-location_from_In : (net : PlainNet) (l : ℕ) → In l (in_order net) → is_location net l ≡ true
+location_from_In : (net : PlainNet) (l : ℕ) → IsIn (in_order net) l → is_location net l ≡ true
 location_from_In net l h = lt-ltb l (length net.routers + length net.peers) (below_from_In l (length net.routers + length net.peers) h)
 
 -- a standing where a walk starts
@@ -19,20 +22,20 @@ pub record IsBegin (net : PlainNet) (plan : Plan) (y : Standing) : Type 0 where
   pub origin : plan.origin y.at ≡ true
   pub moves : y ≡ moved (start_of (locations net) plan.expressions) y.at
 
-pub begin_from_In : (net : PlainNet) (plan : Plan) (y : Standing) → In y (starts net plan) → IsBegin net plan y
+pub begin_from_In : (net : PlainNet) (plan : Plan) (y : Standing) → IsIn (starts net plan) y → IsBegin net plan y
 begin_from_In net plan y h =
-    let o = In-map_parts (moved (start_of (locations net) plan.expressions)) y (filter plan.origin (in_order net)) h in
-    let f = In-filter_parts plan.origin o.0 (in_order net) o.1 in
-    let at : o.0 ≡ y.at = ap (λ (s : Standing). s.at) (sym o.2) in
+    let o = IsIn-map_parts (moved (start_of (locations net) plan.expressions)) (filter plan.origin (in_order net)) y h in
+    let f = IsIn-filter_parts plan.origin (in_order net) o.0 o.1 in
+    let at : o.0 ≡ y.at = ap (λ (s : Standing). s.at) o.2 in
     record {
       location = ap (is_location net) (sym at) ∙ location_from_In net o.0 f.0;
       origin = ap plan.origin (sym at) ∙ f.1;
-      moves = o.2 ∙ ap (moved (start_of (locations net) plan.expressions)) at;
+      moves = sym o.2 ∙ ap (moved (start_of (locations net) plan.expressions)) at;
     }
 
-pub In-starts : (net : PlainNet) (plan : Plan) (l : ℕ) → is_location net l ≡ true → plan.origin l ≡ true → In (moved (start_of (locations net) plan.expressions) l) (starts net plan)
+pub In-starts : (net : PlainNet) (plan : Plan) (l : ℕ) → is_location net l ≡ true → plan.origin l ≡ true → IsIn (starts net plan) (moved (start_of (locations net) plan.expressions) l)
 In-starts net plan l h o =
-    In-map (moved (start_of (locations net) plan.expressions)) l (filter plan.origin (in_order net)) (In-filter plan.origin l (in_order net) (In-in_order net l h) o)
+    IsIn-map (moved (start_of (locations net) plan.expressions)) (filter plan.origin (in_order net)) l (IsIn-filter plan.origin (in_order net) l (In-in_order net l h) o)
 
 pub Apart-starts : (net : PlainNet) (plan : Plan) → Apart (λ y z. y ≡ z) (starts net plan)
 Apart-starts net plan =
@@ -48,27 +51,27 @@ pub record IsNext (net : PlainNet) (plan : Plan) (x y : Standing) : Type 0 where
   pub moves : y ≡ moved x.left y.at
 
 next-at : (net : PlainNet) (plan : Plan) (x y : Standing) (b : Bool) → (plan.origin x.at || is_router net x.at) ≡ b →
-    In y (cond b (map (moved x.left) (filter (may_go net plan x) (in_order net))) []) → IsNext net plan x y
+    IsIn (cond b (map (moved x.left) (filter (may_go net plan x) (in_order net))) []) y → IsNext net plan x y
 next-at net plan x y true e h =
-    let o = In-map_parts (moved x.left) y (filter (may_go net plan x) (in_order net)) h in
-    let f = In-filter_parts (may_go net plan x) o.0 (in_order net) o.1 in
-    let at : o.0 ≡ y.at = ap (λ (s : Standing). s.at) (sym o.2) in
+    let o = IsIn-map_parts (moved x.left) (filter (may_go net plan x) (in_order net)) y h in
+    let f = IsIn-filter_parts (may_go net plan x) (in_order net) o.0 o.1 in
+    let at : o.0 ≡ y.at = ap (λ (s : Standing). s.at) o.2 in
     record {
       location = ap (is_location net) (sym at) ∙ location_from_In net o.0 f.0;
       sends = e;
       goes = ap (may_go net plan x) (sym at) ∙ f.1;
-      moves = o.2 ∙ ap (moved x.left) at;
+      moves = sym o.2 ∙ ap (moved x.left) at;
     }
-next-at net plan x y false e h = absurd h
+next-at net plan x y false e h = absurd (IsIn-nil y h)
 
-pub next_from_In : (net : PlainNet) (plan : Plan) (x y : Standing) → In y (targets net plan x) → IsNext net plan x y
+pub next_from_In : (net : PlainNet) (plan : Plan) (x y : Standing) → IsIn (targets net plan x) y → IsNext net plan x y
 next_from_In net plan x y h = next-at net plan x y (plan.origin x.at || is_router net x.at) refl h
 
 pub In-targets : (net : PlainNet) (plan : Plan) (x : Standing) (l : ℕ) → is_location net l ≡ true → (plan.origin x.at || is_router net x.at) ≡ true →
-    may_go net plan x l ≡ true → In (moved x.left l) (targets net plan x)
+    may_go net plan x l ≡ true → IsIn (targets net plan x) (moved x.left l)
 In-targets net plan x l h s g =
-    subst (λ b. In (moved x.left l) (cond b (map (moved x.left) (filter (may_go net plan x) (in_order net))) [])) (sym s)
-    (In-map (moved x.left) l (filter (may_go net plan x) (in_order net)) (In-filter (may_go net plan x) l (in_order net) (In-in_order net l h) g))
+    subst (λ b. IsIn (cond b (map (moved x.left) (filter (may_go net plan x) (in_order net))) []) (moved x.left l)) (sym s)
+    (IsIn-map (moved x.left) (filter (may_go net plan x) (in_order net)) l (IsIn-filter (may_go net plan x) (in_order net) l (In-in_order net l h) g))
 
 apart-at : (net : PlainNet) (plan : Plan) (x : Standing) (b : Bool) →
     Apart (λ (y : Standing) (z : Standing). y.at ≡ z.at) (cond b (map (moved x.left) (filter (may_go net plan x) (in_order net))) [])

@@ -1,26 +1,29 @@
 -- The graph that is built is well formed.
-use Rattle.std.proofs.Common.{◌≡◌, ℕ, ◌+◌, ◌<◌, ◌≤◌, Bool, true, false, not, ◌&&◌, ◌||◌, ◌==◌, IsTrue, nat_eq, List, [], ◌∷◌, map, length, slice_get, flat_map, Some, refl, sym, ap, ◌∙◌, subst, inl, inr, ⊎_elim, arith, eqb-true}
+use Rattle.std.proofs.Common.{◌≡◌, ℕ, ◌+◌, ◌<◌, ◌≤◌, true, false, not, ◌&&◌, ◌||◌, ◌==◌, IsTrue, nat_eq, List, [], ◌∷◌, map, length, slice_get, flat_map, Some, refl, sym, ap, ◌∙◌, subst, inl, inr, ⊎_elim, arith, eqb-true}
 use Rattle.std.proofs.lemmas.List.{length-map}
-use Rattle.std.proofs.lemmas.Bool.{and_parts, and_from, or_cases, not-true, false≢true, false_from_ne_true}
+use Rattle.std.proofs.lemmas.Bool.{and_parts, and_from, or_cases, not-true, false≢true}
 use Rattle.std.proofs.lemmas.Option.{same_Some, slice_get_within}
+use Rattle.list_laws.proofs.Apart.{Apart, Apart-append, Apart-weaken, Apart-map, IsDistinct-from_apart, place_is_one}
+use Rattle.list_laws.proofs.Members.{IsIn-map_parts, IsIn-flat_map_parts, IsIn-later, list_any_member, AllByRecursion-from_IsIn}
+use Rattle.list_laws.specs.Members.{IsIn}
+use Rattle.list_laws.proofs.Truth.{same_tests}
 use Rattle.net_base.specs.Network.{PlainNet, is_peer, is_router, linked}
-use Rattle.path_exprs.specs.NetSets.{locations}
+use Rattle.net_base.specs.NetSets.{locations}
 use Rattle.path_exprs.specs.Runs.{start_of}
 use Rattle.graph_base.specs.Graphs.{IsGraph}
 use Rattle.graph_base.specs.Runs.{place_of, is_start, has_step}
 use Rattle.graph_base.specs.Rules.{IsWellFormed, same_pair}
-use Rattle.product_graph.specs.Built.{Plan, Standing, AreStandings, starts, moved, targets, is_dead, place_in, steps_from, node_of, graph_over, numbers_below, same_standing}
+use Rattle.standings.specs.Built.{place_in, steps_from, node_of, graph_over}
+use Rattle.path_exprs.specs.Standings.{Plan, Standing, AreStandings, starts, moved, targets, is_dead, same_standing}
+use Rattle.net_base.specs.Locations.{numbers_below}
 use Rattle.graph_base.specs.Walks.{IsEnteredFromBefore}
-use Rattle.graph_law.proofs.Lists.{In, All-from_In, In-flat_map_parts, In-map_parts, below_from_In, list_any_parts}
-use Rattle.graph_law.proofs.Apart.{Apart, Apart-append, Apart-map, Apart-weaken, Apart-numbers_below, IsDistinct-from_apart, place_is_one}
+use Rattle.graph_base.proofs.NodesRead.{is_listener-node}
+use Rattle.graph_law.proofs.NumbersBelow.{below_from_In, Apart-numbers_below}
 use Rattle.graph_law.proofs.Standings.{same-equal, slice_get-place_in}
 use Rattle.graph_law.proofs.Targets.{IsBegin, IsNext, begin_from_In, next_from_In, Apart-targets}
-use Rattle.graph_law.proofs.RunPaths.{peer_is_no_router}
-use Rattle.graph_law.proofs.Nodes.{node_at, place_at, standing_at, standings_apart, start_at_front, start_or_target, In-next, start_below, start_from_below, step_parts, step_made, steps_from_parts, step_from_In, is_listener-node}
-
-pub same_tests : (a b : Bool) → (a ≡ true → b ≡ true) → (b ≡ true → a ≡ true) → a ≡ b
-same_tests true b f g = sym (f refl)
-same_tests false b f g = sym (false_from_ne_true b (λ e. false≢true (g e)))
+use Rattle.net_base.proofs.RoutersAndPeers.{peer_no_router}
+use Rattle.graph_law.proofs.Nodes.{node_at, place_at, standing_at, standings_apart, start_at_front, start_or_target, In-next, start_below, start_from_below, step_parts, step_made, steps_from_parts, step_from_In}
+use Rattle.graph_base.proofs.NodesRead.{is_listener-node}
 
 -- what `may_go` says
 pub record Goes (net : PlainNet) (plan : Plan) (x : Standing) (y : Standing) : Type 0 where
@@ -43,7 +46,7 @@ goes_parts net plan x y h =
 
 -- a target's place is its location
 abbrev ArePlaced : PlainNet → Plan → List Standing → List Standing → Type 0
-ArePlaced net plan xs ys = (x y : Standing) → In x ys → In y (targets net plan x) → place_of (graph_over net plan xs) (place_in xs y) ≡ y.at
+ArePlaced net plan xs ys = (x y : Standing) → IsIn ys x → IsIn (targets net plan x) y → place_of (graph_over net plan xs) (place_in xs y) ≡ y.at
 
 -- steps of one node to one location
 abbrev AreAlike : PlainNet → Plan → List Standing → ℕ × ℕ → ℕ × ℕ → Type 0
@@ -61,26 +64,26 @@ rows_apart net plan xs k [] placed = tt
 rows_apart net plan xs k (x ∷ ys) placed =
     Apart-append (AreAlike net plan xs) row (steps_from net plan xs (k + 1) ys)
     (Apart-map (λ (y : Standing) (z : Standing). y.at ≡ z.at) (AreAlike net plan xs) (λ t. (k, place_in xs t)) (targets net plan x) (Apart-targets net plan x) back)
-    (rows_apart net plan xs (k + 1) ys (λ y z h t. placed y z (inr h) t))
+    (rows_apart net plan xs (k + 1) ys (λ y z h t. placed y z (IsIn-later x y ys h) t))
     cross
   where
     row : List (ℕ × ℕ)
     row = map (λ t. (k, place_in xs t)) (targets net plan x)
 
-    back : (y z : Standing) → In y (targets net plan x) → In z (targets net plan x) → AreAlike net plan xs (k, place_in xs y) (k, place_in xs z) → y.at ≡ z.at
-    back y z h t e = sym (placed x y (inl refl) h) ∙ (alike_parts net plan xs (k, place_in xs y) (k, place_in xs z) e).1 ∙ placed x z (inl refl) t
+    back : (y z : Standing) → IsIn (targets net plan x) y → IsIn (targets net plan x) z → AreAlike net plan xs (k, place_in xs y) (k, place_in xs z) → y.at ≡ z.at
+    back y z h t e = sym (placed x y (0, refl) h) ∙ (alike_parts net plan xs (k, place_in xs y) (k, place_in xs z) e).1 ∙ placed x z (0, refl) t
 
-    cross : (s t : ℕ × ℕ) → In s row → In t (steps_from net plan xs (k + 1) ys) → AreAlike net plan xs s t → ⊥
+    cross : (s t : ℕ × ℕ) → IsIn row s → IsIn (steps_from net plan xs (k + 1) ys) t → AreAlike net plan xs s t → ⊥
     cross s t h h' e =
-        let here : s.0 ≡ k = ap (λ (r : ℕ × ℕ). r.0) (In-map_parts (λ u. (k, place_in xs u)) s (targets net plan x) h).2 in
+        let here : s.0 ≡ k = ap (λ (r : ℕ × ℕ). r.0) (sym (IsIn-map_parts (λ u. (k, place_in xs u)) (targets net plan x) s h).2) in
         let later = (steps_from_parts net plan xs (k + 1) ys t h').5 in
         let both = (alike_parts net plan xs s t e).0 in
         omega (arith, here, later, both)
 
 module _ (net : PlainNet) (plan : Plan) (xs : List Standing) (are : AreStandings net plan xs) where
-  target_no_origin : (x : Standing) → In x (flat_map (targets net plan) xs) → plan.origin x.at ≡ false
+  target_no_origin : (x : Standing) → IsIn (flat_map (targets net plan) xs) x → plan.origin x.at ≡ false
   target_no_origin x h =
-      let r = In-flat_map_parts (targets net plan) x xs h in
+      let r = IsIn-flat_map_parts (targets net plan) xs x h in
       (goes_parts net plan r.0 x (next_from_In net plan r.0 x r.2)).no_origin
 
   pub start_at_origin : (n : ℕ) (x : Standing) → slice_get xs n ≡ Some x → is_start (graph_over net plan xs) n ≡ true → IsBegin net plan x
@@ -94,10 +97,10 @@ module _ (net : PlainNet) (plan : Plan) (xs : List Standing) (are : AreStandings
       same_tests (is_start (graph_over net plan xs) n) (plan.origin x.at)
       (λ s. (start_at_origin n x h s).origin)
       (λ o. ⊎_elim (λ lt. start_from_below net plan xs are n lt)
-      (λ (r : (length (starts net plan) ≤ n) × In x (flat_map (targets net plan) xs)). absurd (false≢true (sym (target_no_origin x r.1) ∙ o)))
+      (λ (r : (length (starts net plan) ≤ n) × IsIn (flat_map (targets net plan) xs) x). absurd (false≢true (sym (target_no_origin x r.1) ∙ o)))
       (start_or_target net plan xs are n x h))
 
-  starts_differ : (i j : ℕ) → In i (numbers_below (length (starts net plan))) → In j (numbers_below (length (starts net plan))) →
+  starts_differ : (i j : ℕ) → IsIn (numbers_below (length (starts net plan))) i → IsIn (numbers_below (length (starts net plan))) j →
       nat_eq (place_of (graph_over net plan xs) i) (place_of (graph_over net plan xs) j) ≡ true → i ≡ j
   starts_differ i j h k e =
       let a = start_at_front net plan xs are i (below_from_In i (length (starts net plan)) h) in
@@ -113,7 +116,7 @@ module _ (net : PlainNet) (plan : Plan) (xs : List Standing) (are : AreStandings
 
   into_peer : (y : Standing) → (is_router net y.at || not plan.external) ≡ true → is_peer net y.at ≡ true → plan.external ≡ false
   into_peer y inside peer =
-      ⊎_elim (λ r. absurd (false≢true (sym (peer_is_no_router net y.at peer) ∙ r))) (λ e. not-true plan.external e)
+      ⊎_elim (λ r. absurd (false≢true (sym (peer_no_router net y.at peer) ∙ r))) (λ e. not-true plan.external e)
       (or_cases (is_router net y.at) (not plan.external) inside)
 
   pub well_formed : IsWellFormed net plan.origin plan.external (graph_over net plan xs)
@@ -150,33 +153,33 @@ module _ (net : PlainNet) (plan : Plan) (xs : List Standing) (are : AreStandings
   entered n lt =
       let s = standing_at net plan xs are n lt in
       ⊎_elim (λ below. inl (start_from_below net plan xs are n below))
-      (λ (r : (length (starts net plan) ≤ n) × In s.0 (flat_map (targets net plan) xs)). inr (from_before s.0 s.1 r.0))
+      (λ (r : (length (starts net plan) ≤ n) × IsIn (flat_map (targets net plan) xs) s.0). inr (from_before s.0 s.1 r.0))
       (start_or_target net plan xs are n s.0 s.1)
     where
       from_before : (x : Standing) → slice_get xs n ≡ Some x → length (starts net plan) ≤ n → (m : ℕ) × (m < n) × IsTrue (has_step (graph_over net plan xs) m n)
       from_before x h le =
           let e = are.earlier n x le h in
-          let t = list_any_parts (same_standing x) (targets net plan e.1) e.4 in
-          let made = step_made net plan xs are e.0 e.1 x e.3 (subst (λ z. In z (targets net plan e.1)) (sym (same-equal x t.0 t.2)) t.1) in
+          let t = list_any_member (same_standing x) (targets net plan e.1) e.4 in
+          let made = step_made net plan xs are e.0 e.1 x e.3 (subst (λ z. IsIn (targets net plan e.1) z) (sym (same-equal x t.0 t.2)) t.1) in
           let at : made.0 ≡ n = place_is_one xs (standings_apart net plan xs are) made.0 n x made.1 h in
           (e.0, e.2, ap (has_step (graph_over net plan xs) e.0) (sym at) ∙ made.2)
 
   pub named : length (graph_over net plan xs).nodes ≤ 4294967000 → IsGraph (graph_over net plan xs)
   named few = record {
     count = few;
-    starts = All-from_In (λ n. n < length (graph_over net plan xs).nodes) (numbers_below (length (starts net plan))) start_named;
-    steps = All-from_In (λ (s : ℕ × ℕ). (s.0 < length (graph_over net plan xs).nodes) × (s.1 < length (graph_over net plan xs).nodes)) (steps_from net plan xs 0 xs) step_named;
+    starts = AllByRecursion-from_IsIn (λ n. n < length (graph_over net plan xs).nodes) (numbers_below (length (starts net plan))) start_named;
+    steps = AllByRecursion-from_IsIn (λ (s : ℕ × ℕ). (s.0 < length (graph_over net plan xs).nodes) × (s.1 < length (graph_over net plan xs).nodes)) (steps_from net plan xs 0 xs) step_named;
   }
     where
       below : (n : ℕ) (x : Standing) → slice_get xs n ≡ Some x → n < length (graph_over net plan xs).nodes
       below n x h = let lt = slice_get_within xs n x h in omega (arith, length-map xs (node_of net plan), lt)
 
-      start_named : (n : ℕ) → In n (numbers_below (length (starts net plan))) → n < length (graph_over net plan xs).nodes
+      start_named : (n : ℕ) → IsIn (numbers_below (length (starts net plan))) n → n < length (graph_over net plan xs).nodes
       start_named n h =
           let a = start_at_front net plan xs are n (below_from_In n (length (starts net plan)) h) in
           below n a.0 a.1
 
-      step_named : (s : ℕ × ℕ) → In s (steps_from net plan xs 0 xs) → (s.0 < length (graph_over net plan xs).nodes) × (s.1 < length (graph_over net plan xs).nodes)
+      step_named : (s : ℕ × ℕ) → IsIn (steps_from net plan xs 0 xs) s → (s.0 < length (graph_over net plan xs).nodes) × (s.1 < length (graph_over net plan xs).nodes)
       step_named s h =
           let p = step_parts net plan xs are s.0 s.1 (step_from_In (graph_over net plan xs) s.0 s.1 h) in
           (below s.0 p.0 p.2, below s.1 p.1 p.3)

@@ -1,2 +1,2 @@
-pub mod Origins
+pub mod Limits
 pub mod Ways

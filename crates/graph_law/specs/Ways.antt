@@ -2,9 +2,9 @@
 use Rattle.std.specs.Prelude.{ℕ, Bool, true, not, ◌&&◌, List, [], ◌∷◌, reverse}
 use Rattle.net_base.specs.Network.{PlainNet}
 use Rattle.path_exprs.specs.Expression.{Expression}
-use Rattle.path_exprs.specs.NetSets.{locations}
+use Rattle.net_base.specs.NetSets.{locations}
 use Rattle.path_exprs.specs.Runs.{along, start_of}
-use Rattle.product_graph.specs.Built.{Plan, Standing, is_dead}
+use Rattle.path_exprs.specs.Standings.{Plan, Standing, is_dead}
 
 -- what is left of each alternative after a path, which is read from its last place, the origin, to its first
 abbrev pub left_after : PlainNet → Plan → List ℕ → List Expression

@@ -1,17 +1,22 @@
 //! What the graph of a case says of walks.
 #![tactic(auto)]
 
-ghost use Rattle.std.specs.Prelude.{◌≡◌, ◌<◌, ◌≤◌, ◌∷◌, ℕ, IsTrue, List, Some, is_some, length, slice_get};
+ghost use Rattle.std.specs.Prelude.{◌≡◌, ◌↔◌, ◌<◌, ◌≤◌, ◌∷◌, ℕ, IsSome, IsTrue, List, Some, is_some, length, slice_get};
 ghost use Rattle.net_base.specs.Network.{IsNet, PlainNet};
+ghost use Rattle.net_base.specs.Sets.{holds};
+ghost use Rattle.path_words.specs.declared.case.Case.{Case};
 ghost use Rattle.path_words.specs.Policies.{PlainStatement};
-ghost use Rattle.constraint_expand.specs.Forward.{expressions};
+ghost use Rattle.path_exprs.specs.Forward.{expressions};
 ghost use Rattle.graph_base.specs.Graphs.{IsGraph, PlainGraph};
 ghost use Rattle.graph_base.specs.Rules.{IsWellFormed};
-ghost use Rattle.graph_base.specs.Runs.{run};
+ghost use Rattle.graph_base.specs.Ranked.{IsRankedRouter};
+ghost use Rattle.graph_base.specs.Runs.{is_listener, rank_at, run};
 ghost use Rattle.regret_law.specs.Faithful.{IsFaithful, is_run_path};
-ghost use Rattle.product_graph.specs.Built.{AreStandings, IsBuilt, Plan, Standing, graph_over};
+ghost use Rattle.regret_law.specs.Passes.{IsClaimed};
+ghost use Rattle.standings.specs.Built.{IsBuilt, graph_over};
+ghost use Rattle.path_exprs.specs.Standings.{AreStandings, Plan, Standing};
 ghost use Rattle.reach_prune.specs.Trimmed.{IsTrimmed};
-ghost use Rattle.graph_law.specs.Origins.{AreOrigins};
+ghost use Rattle.case_law.specs.Origins.{AreOrigins};
 ghost use Rattle.graph_base.specs.Walks.{IsEnteredFromBefore};
 ghost use Rattle.graph_law.specs.Ways.{standing_after, stays_alive};
 
@@ -48,7 +53,19 @@ pub fn trimmed_graphs_are_faithful()
     ensures entered { (net : PlainNet) (plan : Plan) (g t : PlainGraph) → IsBuilt net plan g → IsTrimmed g t → IsEnteredFromBefore t }
 {}
 
-/// The graph that is built of a plan is trimmed to one. That a plan has one graph is a law of `product_graph`.
+/// The graph that is built of a plan is trimmed to one. That a plan has one graph is a law of `standings`.
 pub fn trimmed_graphs_are_one()
     ensures { (net : PlainNet) (plan : Plan) (g t u : PlainGraph) → IsBuilt net plan g → IsTrimmed g t → IsTrimmed g u → t ≡ u }
+{}
+
+/// In a faithful graph of a case the routers at which a node has a rank are those that the statement claims.
+pub fn claimed_routers_are_ranked()
+    ensures { (net : PlainNet) (s : PlainStatement) (c : Case) (g : PlainGraph) (l : ℕ) → IsGraph g
+        → IsFaithful net s (holds c.origins) c.external g → IsRankedRouter net g l ↔ IsClaimed net s c l }
+{}
+
+/// In a faithful graph of a case each node that hears has a rank.
+pub fn listeners_are_ranked()
+    ensures { (net : PlainNet) (s : PlainStatement) (c : Case) (g : PlainGraph) (n : ℕ) → IsGraph g
+        → IsFaithful net s (holds c.origins) c.external g → n < length g.nodes → IsTrue (is_listener g n) → IsSome (rank_at g n) }
 {}

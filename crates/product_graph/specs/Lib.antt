@@ -1,3 +1,2 @@
-pub mod Built
-pub mod Growth
+pub mod Faults
 pub mod Outcomes

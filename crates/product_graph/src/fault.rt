@@ -1,9 +1,8 @@
 //! Why the graph of a case is not built.
 ghost use Rattle.std.specs.Prelude.{◌≡◌};
-ghost use Rattle.product_graph.specs.declared.fault.BuildFault.TheVariants.{NoMemory as no_memory};
+ghost use Rattle.product_graph.specs.Faults.{fault_of};
 
-use outside::NoMemory;
-use std::alloc::AllocFailed;
+use standings::StandingsFault;
 use thiserror::Error;
 
 /// Why the graph of a case is not built.
@@ -20,18 +19,13 @@ pub enum BuildFault {
     NoMemory,
 }
 
-impl From<NoMemory> for BuildFault {
-    ghost from_gives = { λ _ e. e ≡ no_memory };
+impl From<StandingsFault> for BuildFault {
+    ghost from_gives = { λ fault e. e ≡ fault_of fault };
 
-    fn from(_: NoMemory) -> BuildFault {
-        BuildFault::NoMemory
-    }
-}
-
-impl<T: Drop> From<AllocFailed<T>> for BuildFault {
-    ghost from_gives = { λ _ e. e ≡ no_memory };
-
-    fn from(_: AllocFailed<T>) -> BuildFault {
-        BuildFault::NoMemory
+    fn from(fault: StandingsFault) -> BuildFault {
+        match fault {
+            StandingsFault::TooMany => BuildFault::TooManyStates,
+            StandingsFault::NoMemory => BuildFault::NoMemory,
+        }
     }
 }

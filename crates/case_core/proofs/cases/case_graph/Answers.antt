@@ -1,10 +1,10 @@
 use Rattle.std.proofs.Common.{length, ap, arith}
 use Rattle.std.proofs.lemmas.Result.{IfErr-weaker, IfOk-weaker}
 use Rattle.path_words.specs.Policies.{plain_statement, policy_of}
-use Rattle.case_core.specs.Cases.{OfCase}
+use Rattle.case_law.specs.Cases.{OfCase}
 use Rattle.case_core.specs.Refusals.{FitsCase, IsCause, IsGraphOf}
 use Rattle.case_core.specs.Sources.{HavePaths, NoneMixed}
-use Rattle.case_core.proofs.Origins.{known_origins}
+use Rattle.case_law.proofs.Origins.{known_origins}
 use Rattle.case_core.proofs.Places.{case_read, of_case, statement_at-read}
 use Rattle.case_core.proofs.cases.case_graph.Goals as goal
 

@@ -1,7 +1,8 @@
 use Rattle.std.proofs.Common.{◌≡◌, length, List, Some, None, refl, sym, ap, subst, ◌∙◌}
 use Rattle.path_words.specs.Policies.{plain_statement}
 use Rattle.case_core.specs.declared.firsts.Firsts.{Firsts}
-use Rattle.case_core.specs.Firsts.{AreFirsts, has_both, lacks_path, least_below}
+use Rattle.graph_base.specs.Least.{least_below}
+use Rattle.case_core.specs.Firsts.{AreFirsts, has_both, lacks_path}
 use Rattle.case_core.specs.Mixed.{IsFirstMixed}
 use Rattle.case_core.specs.Refusals.{IsCause}
 use Rattle.case_core.proofs.Given.{fits, made_is_entered, made_is_faithful}
@@ -18,7 +19,7 @@ returns-in-Some-clause-refused c = λ room built is.
     let made = c.requires.made in
     let faithful = made_is_faithful net made.0 s case made.1 g c.routers.ensures.rules c.requires.origins made.2 in
     let are : AreFirsts (length net.routers) g (length g.nodes) table = subst (λ n. AreFirsts n g (length g.nodes) table) (ap length c.routers.ensures.routers) c.in_ok-table.ensures in
-    let found = subst (λ (t : List Firsts). least_below (lacks_path s.from case.origins t) (length t) ≡ Some c.in-Some.at) c.deref.ensures.value (sym c.without_path.ensures ∙ c.in-Some.is) in
+    let found = subst (λ (t : List Firsts). least_below (length t) (lacks_path s.from case.origins t) ≡ Some c.in-Some.at) c.deref.ensures.value (sym c.without_path.ensures ∙ c.in-Some.is) in
     (refl, (built, is.within), least_without_path net s case g c.requires.graph faithful table are c.in-Some.at found)
 
 pub mixed_source-requires-clause-ranked : goal.mixed_source-requires-clause-ranked
@@ -62,7 +63,7 @@ returns-in-Some-first_mixed-clause-refused c = λ room built is.
     let made = c.requires.made in
     let faithful = made_is_faithful net made.0 s case made.1 g c.routers.ensures.rules c.requires.origins made.2 in
     let are : AreFirsts (length net.routers) g (length g.nodes) table = subst (λ n. AreFirsts n g (length g.nodes) table) (ap length c.routers.ensures.routers) c.in_ok-table.ensures in
-    let none = subst (λ (t : List Firsts). least_below (lacks_path s.from case.origins t) (length t) ≡ None) c.deref.ensures.value (sym c.without_path.ensures ∙ c.in_default.is) in
+    let none = subst (λ (t : List Firsts). least_below (length t) (lacks_path s.from case.origins t) ≡ None) c.deref.ensures.value (sym c.without_path.ensures ∙ c.in_default.is) in
     let first = subst (λ (t : List Firsts). IsFirstMixed t c.in-Some-first_mixed.mixed) c.deref-2.ensures.value c.in-Some-first_mixed.ensures in
     let shown = c.in_ok-mixed_source.ensures in
     let paths = all_have_paths net s case g c.requires.graph faithful table are none in
@@ -79,7 +80,7 @@ returns-clause-fits c =
     let made = c.requires.made in
     let faithful = made_is_faithful net made.0 s case made.1 g c.routers.ensures.rules c.requires.origins made.2 in
     let are : AreFirsts (length net.routers) g (length g.nodes) table = subst (λ n. AreFirsts n g (length g.nodes) table) (ap length c.routers.ensures.routers) c.in_ok-table.ensures in
-    let none = subst (λ (t : List Firsts). least_below (has_both t) (length t) ≡ None) c.deref-2.ensures.value c.in_default-first_mixed.ensures in
+    let none = subst (λ (t : List Firsts). least_below (length t) (has_both t) ≡ None) c.deref-2.ensures.value c.in_default-first_mixed.ensures in
     fits net s case g c.requires.graph faithful (none_mixed net s case g c.requires.graph faithful table are none)
 
 pub returns-clause-paths : goal.returns-clause-paths
@@ -92,7 +93,7 @@ returns-clause-paths c =
     let made = c.requires.made in
     let faithful = made_is_faithful net made.0 s case made.1 g c.routers.ensures.rules c.requires.origins made.2 in
     let are : AreFirsts (length net.routers) g (length g.nodes) table = subst (λ n. AreFirsts n g (length g.nodes) table) (ap length c.routers.ensures.routers) c.in_ok-table.ensures in
-    let none = subst (λ (t : List Firsts). least_below (lacks_path s.from case.origins t) (length t) ≡ None) c.deref.ensures.value (sym c.without_path.ensures ∙ c.in_default.is) in
+    let none = subst (λ (t : List Firsts). least_below (length t) (lacks_path s.from case.origins t) ≡ None) c.deref.ensures.value (sym c.without_path.ensures ∙ c.in_default.is) in
     all_have_paths net s case g c.requires.graph faithful table are none
 
 pub returns-clause-unmixed : goal.returns-clause-unmixed
@@ -105,5 +106,5 @@ returns-clause-unmixed c =
     let made = c.requires.made in
     let faithful = made_is_faithful net made.0 s case made.1 g c.routers.ensures.rules c.requires.origins made.2 in
     let are : AreFirsts (length net.routers) g (length g.nodes) table = subst (λ n. AreFirsts n g (length g.nodes) table) (ap length c.routers.ensures.routers) c.in_ok-table.ensures in
-    let none = subst (λ (t : List Firsts). least_below (has_both t) (length t) ≡ None) c.deref-2.ensures.value c.in_default-first_mixed.ensures in
+    let none = subst (λ (t : List Firsts). least_below (length t) (has_both t) ≡ None) c.deref-2.ensures.value c.in_default-first_mixed.ensures in
     none_mixed net s case g c.requires.graph faithful table are none

@@ -11,4 +11,4 @@ returns-then-is_none c =
     let named : names c.args.from.now c.loop-i.i ≡ true = ap (names c.args.from.now) (sym c.new-at.ensures) ∙ sym c.names.ensures ∙ c.if-names.true in
     let outside : holds c.args.origins.now c.loop-i.i ≡ false = ap (holds c.args.origins.now) (sym c.new-at.ensures) ∙ sym c.if-not-holds.ensures in
     let lacks = lacks_here c.args.from.now c.args.origins.now c.args.table.now c.loop-i.i named outside c.if-is_none.ensures in
-    ap Some c.new-at.ensures ∙ sym (least_found (lacks_path c.args.from.now c.args.origins.now c.args.table.now) c.loop-i.i (length c.args.table.now) c.loop-i.invariant lacks c.loop-i-test.true)
+    ap Some c.new-at.ensures ∙ sym (least_found (length c.args.table.now) (lacks_path c.args.from.now c.args.origins.now c.args.table.now) c.loop-i.i c.loop-i.invariant lacks c.loop-i-test.true)

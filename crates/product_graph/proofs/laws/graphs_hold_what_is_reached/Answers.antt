@@ -1,5 +1,0 @@
-use Rattle.product_graph.proofs.OneGraph.{no_more_states}
-use Rattle.product_graph.proofs.laws.graphs_hold_what_is_reached.Goals as goal
-
-pub returns : goal.returns
-returns c = no_more_states

@@ -1,9 +1,0 @@
-use Rattle.std.proofs.Common.{◌≡◌, List, map, take}
-use Rattle.path_exprs.specs.Expression.{Expression}
-use Rattle.product_graph.specs.Built.{node_of}
-use Rattle.product_graph.specs.Outcomes.{plan_of}
-use Rattle.product_graph.specs.Growth.{standings_of}
-use Rattle.product_graph.proofs.reached.Reached.nodes.Given as goal
-
-abbrev pub invariant-loop-number : goal.invariant-loop-number
-invariant-loop-number l = (es : List Expression) → l.nodes ≡ map (node_of l.net (plan_of es l.from l.case)) (take l.number (standings_of l.self))

@@ -1,0 +1,11 @@
+pub mod Asking
+pub mod Below
+pub mod Building
+pub mod Gathering
+pub mod LinkLemmas
+pub mod Numbering
+pub mod OneGraph
+pub mod SameStandings
+pub mod Starting
+pub mod Stepping
+pub mod WayLists

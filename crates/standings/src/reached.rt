@@ -1,0 +1,251 @@
+//! The standings that walks reach, numbered in breadth-first order, and the steps between them.
+ghost use Rattle.std.specs.Prelude.{◌≡◌, ◌≤◌, ◌<◌, ◌++◌, ◌&&◌, not, [], ℕ, All, List as Items, filter, length, map, take, slice_get, Some, IfOk, OnOk, IsErrOf, IsTrue, option_map};
+ghost use Rattle.std.specs.List.{IsDistinct};
+ghost use Rattle.net_base.specs.declared.limits.TheConstants.{NODES};
+ghost use Rattle.net_base.specs.Network.{is_peer};
+ghost use Rattle.net_base.specs.Sets.{holds};
+ghost use Rattle.path_automata.specs.States.{AreApart, Extends, states_of};
+ghost use Rattle.path_exprs.specs.Expression.{Expression};
+ghost use Rattle.net_base.specs.NetSets.{locations as all_locations};
+ghost use Rattle.path_exprs.specs.Runs.{start_of};
+ghost use Rattle.path_exprs.specs.View.{views};
+ghost use Rattle.standings.specs.Built.{node_of, place_in, rank_of_standing};
+ghost use Rattle.net_base.specs.Locations.{in_order};
+ghost use Rattle.path_exprs.specs.Standings.{moved, same_standing};
+
+use crate::fault::StandingsFault;
+use crate::neighbours::all_ways;
+use graph_base::Node;
+use indexmap::IndexSet;
+use net_base::limits::NODES;
+use net_base::{List, Loc, Net};
+use outside::NoMemory;
+use path_automata::{Automata, State};
+use path_exprs::RankedExpr;
+use path_words::{Case, FromSet};
+use std::alloc::Global;
+
+/// The most standings that walks of a case may reach.
+const MOST_NODES: usize = NODES as usize;
+
+/// Whether a node at a location hears: at a peer that is no origin.
+fn is_listener(net: &Net, case: &Case, at: Loc) -> bool
+    ensures { result ≡ (is_peer net.now at && not (holds case.now.origins at)) }
+{
+    net.is_peer(at) && !case.origins.holds(at)
+}
+
+/// Standings, each a location with the state after a walk that led there, and the steps between them.
+#[derive(Drop)]
+pub(crate) struct Reached {
+    automata: Automata,
+    found: IndexSet<(Loc, State)>,
+    steps: Vec<(u32, u32)>,
+    ghost known: { All (λ k. k.1 < length (states_of automata)) found.keys },
+    ghost apart: { AreApart (states_of automata) },
+}
+
+impl Reached {
+    ghost use Rattle.path_exprs.specs.Standings.{AreReached, Standing, plan_of};
+    ghost use Rattle.standings.specs.Growth.{each_live, gathered, left_in, live, next_in, standing_in, standings_of, steps_to, with_standing, AreAsked, AreWithin};
+
+    /// No standing yet.
+    pub(crate) fn new(alloc: Global, net: &Net, ranked: &RankedExpr) -> Result<Reached, NoMemory>
+        ensures none { IfOk result (λ r. standings_of r ≡ []) }
+        ensures steps { IfOk result (λ r. r.steps.items ≡ []) }
+        ensures begun { IfOk result (λ r. 0 < length (states_of r.automata)) }
+        ensures start { IfOk result (λ r. left_in (states_of r.automata) 0 ≡ start_of (all_locations net.now) (views ranked.now)) }
+    {
+        let automata = Automata::new(alloc, ranked, net)?;
+        Ok(Reached {
+            automata,
+            found: IndexSet::new(alloc),
+            steps: Vec::new(alloc),
+        })
+    }
+
+    /// The number of standings.
+    pub(crate) fn len(&self) -> usize
+        ensures { result ≡ length (standings_of self.now) }
+    {
+        self.found.len()
+    }
+
+    /// Adds the standing of an origin, after it was read itself.
+    fn add_start(&mut self, at: Loc) -> Result<(), NoMemory>
+        requires begun { 0 < length (states_of self.old.automata) }
+        ensures ok { OnOk result (standings_of self.new ≡ with_standing (standings_of self.old) (moved (left_in (states_of self.old.automata) 0) at)) }
+        ensures kept { Extends (states_of self.old.automata) (states_of self.new.automata) }
+        ensures steps { self.new.steps ≡ self.old.steps }
+    {
+        let state = self.automata.step(self.automata.start(), at)?;
+        self.found.insert((at, state))?;
+        Ok(())
+    }
+
+    /// Adds the standing of each origin, in order of location.
+    pub(crate) fn add_starts(&mut self, net: &Net, case: &Case) -> Result<(), NoMemory>
+        requires begun { 0 < length (states_of self.old.automata) }
+        requires none { standings_of self.old ≡ [] }
+        ensures ok { OnOk result (standings_of self.new ≡ map (moved (left_in (states_of self.old.automata) 0)) (filter (holds case.now.origins) (in_order net.now))) }
+        ensures within { OnOk result (AreWithin net.now (standings_of self.new)) }
+        ensures different { OnOk result (IsDistinct same_standing (standings_of self.new)) }
+        ensures few { OnOk result (length (standings_of self.new) ≤ 768) }
+        ensures steps { self.new.steps ≡ self.old.steps }
+    {
+        for number in 0..net.routers().len() + net.peers().len() {
+            let at = Loc::new(number as u16);
+            if case.origins.holds(at) {
+                self.add_start(at)?;
+            }
+        }
+        Ok(())
+    }
+
+    /// Whether a standing is held, or can be put behind the others.
+    fn has_room(&self, at: Loc, state: State) -> bool
+        requires known { state < length (states_of self.now.automata) }
+        requires few { length (standings_of self.now) ≤ NODES }
+        ensures room { IsTrue result → length (with_standing (standings_of self.now) (standing_in (states_of self.now.automata) (at, state))) ≤ NODES }
+        ensures full { IsTrue (not result) → NODES < length (with_standing (standings_of self.now) (standing_in (states_of self.now.automata) (at, state))) }
+    {
+        self.found.len() < MOST_NODES || self.found.contains(&(at, state))
+    }
+
+    /// The number of a standing, which is put behind the others where it isn't among them.
+    fn number_of(&mut self, at: Loc, state: State) -> Result<u32, StandingsFault>
+        requires known { state < length (states_of self.old.automata) }
+        requires few { length (standings_of self.old) ≤ NODES }
+        ensures number { IfOk result (λ n. n ≡ place_in (standings_of self.new) (standing_in (states_of self.old.automata) (at, state))) }
+        ensures ok { OnOk result (standings_of self.new ≡ with_standing (standings_of self.old) (standing_in (states_of self.old.automata) (at, state))) }
+        ensures few { length (standings_of self.new) ≤ NODES }
+        ensures many { IsErrOf result StandingsFault.TooMany → NODES < length (with_standing (standings_of self.old) (standing_in (states_of self.old.automata) (at, state))) }
+        ensures steps { self.new.steps ≡ self.old.steps }
+        ensures states { states_of self.new.automata ≡ states_of self.old.automata }
+    {
+        if !self.has_room(at, state) {
+            return Err(StandingsFault::TooMany);
+        }
+        let (number, _) = self.found.insert_full((at, state))?;
+        Ok(number as u32)
+    }
+
+    /// Adds the step of a standing to a location, where that can still be permitted.
+    fn add_step(&mut self, number: u32, from: State, at: Loc) -> Result<(), StandingsFault>
+        requires known { from < length (states_of self.old.automata) }
+        requires few { length (standings_of self.old) ≤ NODES }
+        ensures ok { OnOk result (standings_of self.new ≡ gathered (standings_of self.old) (live (left_in (states_of self.old.automata) from) at)) }
+        ensures steps { OnOk result (self.new.steps.items ≡ self.old.steps.items ++ steps_to (standings_of self.new) number (live (left_in (states_of self.old.automata) from) at)) }
+        ensures few { length (standings_of self.new) ≤ NODES }
+        ensures many { IsErrOf result StandingsFault.TooMany → NODES < length (gathered (standings_of self.old) (live (left_in (states_of self.old.automata) from) at)) }
+        ensures kept { Extends (states_of self.old.automata) (states_of self.new.automata) }
+    {
+        let state = self.automata.step(from, at)?;
+        if self.automata.is_dead(state) {
+            return Ok(());
+        }
+        let target = self.number_of(at, state)?;
+        self.steps.push((number, target))?;
+        Ok(())
+    }
+
+    /// Adds the steps of a standing.
+    fn add_steps(&mut self, number: u32, from: State, ways: &[Loc]) -> Result<(), StandingsFault>
+        requires known { from < length (states_of self.old.automata) }
+        requires few { length (standings_of self.old) ≤ NODES }
+        ensures ok { OnOk result (standings_of self.new ≡ gathered (standings_of self.old) (each_live (left_in (states_of self.old.automata) from) ways.now)) }
+        ensures steps { OnOk result (self.new.steps.items ≡ self.old.steps.items ++ steps_to (standings_of self.new) number (each_live (left_in (states_of self.old.automata) from) ways.now)) }
+        ensures few { length (standings_of self.new) ≤ NODES }
+        ensures many { IsErrOf result StandingsFault.TooMany → (n : ℕ) × (NODES < length (gathered (standings_of self.old) (each_live (left_in (states_of self.old.automata) from) (take n ways.now)))) }
+    {
+        for next in ways {
+            self.add_step(number, from, *next)?;
+        }
+        Ok(())
+    }
+
+    /// A standing by its number.
+    fn standing(&self, number: usize) -> (Loc, State)
+        requires within { number < length self.now.found.keys }
+        ensures { slice_get self.now.found.keys number ≡ Some result }
+    {
+        let Some(standing) = self.found.get_index(number) else {
+            unreachable!()
+        };
+        *standing
+    }
+
+    /// Adds all that walks reach from here.
+    pub(crate) fn walk(
+        &mut self,
+        alloc: Global,
+        net: &Net,
+        case: &Case,
+    ) -> Result<(), StandingsFault>
+        requires within { AreWithin net.now (standings_of self.old) }
+        requires different { IsDistinct same_standing (standings_of self.old) }
+        requires few { length (standings_of self.old) ≤ NODES }
+        requires no_steps { self.old.steps.items ≡ [] }
+        ensures ok { OnOk result (AreAsked (standings_of self.old) (next_in net.now case.now) (standings_of self.new) self.new.steps.items (length (standings_of self.new))) }
+        ensures few { length (standings_of self.new) ≤ NODES }
+        ensures many { IsErrOf result StandingsFault.TooMany → (xs : Items Standing) × AreReached (standings_of self.old) (next_in net.now case.now) xs × (NODES < length xs) }
+    {
+        let ways = all_ways(alloc, net, case)?;
+        let mut number = 0;
+        while number < self.found.len() {
+            let (at, from) = self.standing(number);
+            self.add_steps(number as u32, from, &ways[at.number() as usize])?;
+            number += 1;
+        }
+        Ok(())
+    }
+
+    /// The steps.
+    pub(crate) fn into_steps(self) -> List<(u32, u32)>
+        ensures { result ≡ self.steps.items }
+    {
+        List::from_vec(self.steps)
+    }
+
+    /// The rank of the walks that came to a standing, where they have one.
+    fn rank(&self, case: &Case, from: &FromSet, at: Loc, state: State) -> Option<u32>
+        requires known { state < length (states_of self.now.automata) }
+        ensures { (es : Items Expression) → result ≡ rank_of_standing (plan_of es from.now case.now) (standing_in (states_of self.now.automata) (at, state)) }
+    {
+        if from.holds(at) && !case.origins.holds(at) {
+            self.automata.rank(state)
+        } else {
+            None
+        }
+    }
+
+    /// The node of a standing.
+    fn node(&self, net: &Net, case: &Case, from: &FromSet, number: usize) -> Node
+        requires within { number < length self.now.found.keys }
+        ensures { (es : Items Expression) → option_map (node_of net.now (plan_of es from.now case.now)) (slice_get (standings_of self.now) number) ≡ Some result }
+    {
+        let (at, state) = self.standing(number);
+        Node {
+            loc: at,
+            listener: is_listener(net, case, at),
+            rank: self.rank(case, from, at, state),
+        }
+    }
+
+    /// The node of each standing.
+    pub(crate) fn nodes(
+        &self,
+        alloc: Global,
+        net: &Net,
+        case: &Case,
+        from: &FromSet,
+    ) -> Result<List<Node>, NoMemory>
+        ensures { (es : Items Expression) → IfOk result (λ nodes. nodes ≡ map (node_of net.now (plan_of es from.now case.now)) (standings_of self.now)) }
+    {
+        let mut nodes = List::new(alloc);
+        for number in 0..self.found.len() {
+            nodes.push(self.node(net, case, from, number))?;
+        }
+        Ok(nodes)
+    }
+}
