@@ -13,7 +13,7 @@ use Rattle.net_base.specs.Network.{PlainNet, IsNet, is_router, is_peer, is_locat
 use Rattle.graph_base.specs.declared.graph.Node.{Node}
 use Rattle.graph_base.specs.Graphs.{PlainGraph}
 use Rattle.graph_base.specs.Runs.{place_of}
-use Rattle.config_base.specs.Made.{PlainCaseEvidence, AreTags, tag_at}
+use Rattle.evidence_base.specs.Made.{PlainCaseEvidence, AreTags, tag_at}
 use Rattle.community_assign.specs.Tagging.{count_at, tag_for, tags_after, graph_tags_after, tags_of, all_nodes, IsRoomy}
 use Rattle.community_assign.specs.Law.{graphs_of, AreAtLocations, TagsKeepTheirRule}
 

@@ -3,7 +3,7 @@ use Rattle.std.specs.Prelude.{◌≡◌, ℕ, ◌<◌, IsTrue, List, length, map
 use Rattle.net_base.specs.Network.{PlainNet, IsNet, is_location}
 use Rattle.graph_base.specs.Graphs.{PlainGraph}
 use Rattle.graph_base.specs.Runs.{place_of}
-use Rattle.config_base.specs.Made.{PlainCaseEvidence, AreTags}
+use Rattle.evidence_base.specs.Made.{PlainCaseEvidence, AreTags}
 use Rattle.community_assign.specs.Tagging.{tags_of, all_nodes, IsRoomy}
 
 abbrev pub graphs_of : List PlainCaseEvidence → List PlainGraph

@@ -1,5 +1,6 @@
 //! The tags of nodes.
 ghost use Rattle.std.specs.Prelude.{◌≡◌, ◌≤◌, ◌<◌, ◌++◌, ℕ, List, [], IsTrue, IfSome, IfNone, IfOk, OnOk, IfErr, length, slice_index, slice_set, if◌then◌else◌};
+ghost use Rattle.net_base.specs.declared.limits.TheConstants.{TAGS};
 ghost use Rattle.net_base.specs.Network.{is_router};
 ghost use Rattle.graph_base.specs.declared.graph.Node.{Node as PlainNode};
 ghost use Rattle.community_assign.specs.Counts.{counted as one_more, HasCounts};
@@ -80,8 +81,8 @@ fn graph_tags(
 
 // The place of the first counter that has too many.
 fn first_crowded(counts: &[u32]) -> Option<usize>
-    ensures some { IfSome result (λ r. (r < length counts.now) × (65535 < slice_index counts.now r) × ((l : ℕ) → l < r → slice_index counts.now l ≤ 65535)) }
-    ensures none { IfNone result ((r : ℕ) → r < length counts.now → slice_index counts.now r ≤ 65535) }
+    ensures some { IfSome result (λ r. (r < length counts.now) × (TAGS < slice_index counts.now r) × ((l : ℕ) → l < r → slice_index counts.now l ≤ TAGS)) }
+    ensures none { IfNone result ((r : ℕ) → r < length counts.now → slice_index counts.now r ≤ TAGS) }
 {
     for router in 0..counts.len() {
         if u64::from(counts[router]) > TAGS {

@@ -4,13 +4,14 @@ use Rattle.std.proofs.lemmas.List.Sums.{sum_by-cons}
 use Rattle.net_base.specs.Network.{PlainNet}
 use Rattle.path_words.specs.Cases.{case_list}
 use Rattle.path_words.specs.Policies.{PlainPolicy}
-use Rattle.case_core.specs.Cases.{OfCase}
+use Rattle.case_law.specs.Cases.{OfCase}
 use Rattle.case_core.specs.declared.refusal.CompileRefusal.{CompileRefusal}
 use Rattle.case_core.specs.declared.refusal.CompileRefusal.TheVariants.{NoMemory}
 use Rattle.case_evidence.specs.declared.accepted.AcceptedCase.{AcceptedCase}
 use Rattle.case_evidence.specs.Accepted.{IsCaseCause}
 use Rattle.case_evidence.proofs.OneVerdict.{not_refused, one_accepted}
-use Rattle.compile_core.specs.Compiling.{AreAccepted, AreAcceptedFrom, all_steps, room_after}
+use Rattle.regret_law.specs.Passes.{all_steps}
+use Rattle.compile_core.specs.Compiling.{AreAccepted, AreAcceptedFrom, room_after}
 use Rattle.compile_core.proofs.OneByOne.{IsAcceptedAt, there, used_by}
 
 module _ (net : PlainNet) (policy : PlainPolicy) where

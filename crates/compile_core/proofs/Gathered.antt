@@ -9,7 +9,7 @@ use Rattle.net_base.specs.declared.numbers.Tag.{Tag}
 use Rattle.path_words.specs.declared.case.Case.{Case}
 use Rattle.graph_base.specs.declared.graph.Prefs.{Prefs}
 use Rattle.graph_base.specs.Graphs.{PlainGraph}
-use Rattle.config_base.specs.Made.{PlainCaseEvidence}
+use Rattle.evidence_base.specs.Made.{PlainCaseEvidence}
 use Rattle.config_made.specs.Evidence.{evidence_of}
 use Rattle.config_made.proofs.Gathering.{evidence-at, evidence-short}
 

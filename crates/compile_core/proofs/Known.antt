@@ -3,7 +3,8 @@ use Rattle.std.proofs.Common.{◌≡◌, ℕ, zero, suc, ◌≤◌, List, [], le
 use Rattle.std.specs.Prelude.{slice_get}
 use Rattle.std.specs.Option.{option_map}
 use Rattle.std.proofs.lemmas.List.{length-map}
-use Rattle.std.proofs.lemmas.Option.{slice_get-map, slice_get_within}
+use Rattle.std.proofs.lemmas.Option.{slice_get-map, slice_get_within, same_Some}
+use Rattle.list_laws.proofs.Items.{slice_get_inside}
 use Rattle.net_base.specs.Network.{PlainNet, IsNet}
 use Rattle.net_base.specs.Sets.{holds}
 use Rattle.path_words.specs.Cases.{case_list}
@@ -11,23 +12,23 @@ use Rattle.path_words.specs.Policies.{PlainPolicy, PlainStatement}
 use Rattle.graph_base.specs.declared.graph.Prefs.{Prefs}
 use Rattle.graph_base.specs.Graphs.{PlainGraph}
 use Rattle.graph_base.specs.Rules.{MeetsRules}
-use Rattle.graph_law.specs.Origins.{AreOrigins}
-use Rattle.config_base.specs.Evidence.{IsCaseEvidence}
-use Rattle.config_base.specs.Made.{PlainCaseEvidence, AreTags, IsConfigOf, number_at, statement_at}
+use Rattle.case_law.specs.Origins.{AreOrigins}
+use Rattle.evidence_base.specs.Evidence.{IsCaseEvidence}
+use Rattle.evidence_base.specs.Made.{PlainCaseEvidence, AreTags, IsConfigOf, number_at, statement_at}
 use Rattle.config_base.specs.Configs.{PlainConfig}
 use Rattle.config_made.specs.Conditions.{IsSingle, IsWhole}
 use Rattle.config_made.specs.Evidence.{evidence_of}
-use Rattle.config_made.proofs.Gathering.{case_at}
 use Rattle.community_assign.specs.Law.{AreAtLocations}
 use Rattle.community_assign.specs.Tagging.{tags_of, all_nodes, IsRoomy}
 use Rattle.community_assign.proofs.Order.{tagging}
-use Rattle.regret_law.specs.Passes.{IsCaseGraph, IsClaimed, Passes}
-use Rattle.regret_law.proofs.CaseOfClass.{same_value}
-use Rattle.case_core.specs.Cases.{OriginsAreRouters}
-use Rattle.case_core.proofs.Origins.{case_known, known_origins}
+use Rattle.regret_law.specs.Passes.{IsCaseGraph, IsClaimed, Passes, all_steps}
+use Rattle.regret_law.proofs.GraphForms.{heard_at_peers}
+use Rattle.case_law.specs.Cases.{OriginsAreRouters}
+use Rattle.case_law.proofs.Origins.{case_known, known_origins}
 use Rattle.case_evidence.specs.declared.accepted.AcceptedCase.{AcceptedCase}
 use Rattle.case_evidence.specs.Accepted.{IsAccepted, number_in}
-use Rattle.compile_core.specs.Compiling.{AreAccepted, all_steps, graphs_of, prefs_of}
+use Rattle.compile_core.specs.Compiling.{AreAccepted, graphs_of, prefs_of}
+use Rattle.compile_core.proofs.Limits.{made_within}
 use Rattle.compile_core.proofs.Parts.{parts, all_parts, as_many_tags, tag_each, accepted_at}
 use Rattle.compile_core.proofs.Places.{node_located, places, ranks}
 
@@ -46,13 +47,13 @@ pub record IsKnown (net : PlainNet) (policy : PlainPolicy) (e : PlainCaseEvidenc
 module _ (net : PlainNet) (policy : PlainPolicy) (e : PlainCaseEvidence) (known : IsKnown net policy e) where
   pub case_graph : (s : PlainStatement) → statement_at policy e.case.statement ≡ Some s → IsCaseGraph net s e
   case_graph s at =
-      let same = same_value known.statement s (sym known.of ∙ at) in
+      let same = same_Some known.statement s (sym known.of ∙ at) in
       subst (λ (t : PlainStatement). IsCaseGraph net t e) same
       (subst (λ (g : PlainGraph). IsCaseGraph net known.statement (record { case = e.case; graph = g; numbers = e.numbers; tags = e.tags })) known.graph (known.is.graph.fits e.numbers e.tags))
 
   pub meets : (s : PlainStatement) → statement_at policy e.case.statement ≡ Some s → MeetsRules net (IsClaimed net s e.case) e.case.external e.graph (number_at e)
   meets s at =
-      let same = same_value known.statement s (sym known.of ∙ at) in
+      let same = same_Some known.statement s (sym known.of ∙ at) in
       subst (λ (t : PlainStatement). MeetsRules net (IsClaimed net t e.case) e.case.external e.graph (number_at e)) same
       (subst (λ (ns : List ℕ). MeetsRules net (IsClaimed net known.statement e.case) e.case.external e.graph (number_in ns)) known.numbers
       (subst (λ (g : PlainGraph). MeetsRules net (IsClaimed net known.statement e.case) e.case.external g (number_in known.given.prefs.of)) known.graph known.is.rules))
@@ -61,7 +62,10 @@ module _ (net : PlainNet) (policy : PlainPolicy) (e : PlainCaseEvidence) (known 
   whole = record { numbers = ap length (sym known.numbers) ∙ known.is.numbers.size ∙ ap (λ (g : PlainGraph). length g.nodes) known.graph; tags = known.tagged }
 
   pub single : IsSingle net e.graph
-  single = let formed = (case_graph known.statement known.of).faithful.formed in record { one_start = formed.one_start; one_step = formed.one_step; from = formed.from }
+  single =
+      let on = case_graph known.statement known.of in
+      let formed = on.faithful.formed in
+      record { one_start = formed.one_start; one_step = formed.one_step; from = formed.from; heard = heard_at_peers net (holds e.case.origins) e.case.external e.graph on.graph formed }
 
   stated : (number : ℕ) → statement_at policy number ≡ Some known.statement → 1 ≤ number
   stated zero at = absurd cc
@@ -97,7 +101,7 @@ module _ (net : PlainNet) (rules : IsNet net) (policy : PlainPolicy) (routers : 
   known_at k e at =
       let has = parts (case_list net policy) (graphs_of accepted) (prefs_of accepted) (tags_of net (graphs_of accepted)) k e at in
       let case = case_known net policy k e.case has.case in
-      let one = case_at accepted k (omega (arith, slice_get_within (graphs_of accepted) k e.graph has.graph, length-map accepted (λ (a : AcceptedCase). a.graph))) in
+      let one = slice_get_inside accepted k (omega (arith, slice_get_within (graphs_of accepted) k e.graph has.graph, length-map accepted (λ (a : AcceptedCase). a.graph))) in
       let is = accepted_at net policy 1 all_steps accepted k (suc k) one.0 each one.1 (omega arith) in
       let graph : Some one.0.graph ≡ Some e.graph = sym (slice_get-map (λ (a : AcceptedCase). a.graph) accepted k ∙ ap (option_map (λ (a : AcceptedCase). a.graph)) one.1) ∙ has.graph in
       let prefs : Some one.0.prefs ≡ Some has.prefs = sym (slice_get-map (λ (a : AcceptedCase). a.prefs) accepted k ∙ ap (option_map (λ (a : AcceptedCase). a.prefs)) one.1) ∙ has.prefs_at in
@@ -108,8 +112,8 @@ module _ (net : PlainNet) (rules : IsNet net) (policy : PlainPolicy) (routers : 
         given = one.0;
         room = is.0;
         is = is.1 case.statement.0 e.case (record { case = has.case; statement = case.statement.1 });
-        graph = same_value one.0.graph e.graph graph;
-        numbers = ap (λ (p : Prefs). p.of) (same_value one.0.prefs has.prefs prefs) ∙ has.numbers;
+        graph = same_Some one.0.graph e.graph graph;
+        numbers = ap (λ (p : Prefs). p.of) (same_Some one.0.prefs has.prefs prefs) ∙ has.numbers;
         tagged = tag_each net [] (graphs_of accepted) k e.graph e.tags has.graph has.tags;
       }
 
@@ -128,6 +132,7 @@ module _ (net : PlainNet) (rules : IsNet net) (policy : PlainPolicy) (routers : 
   passing config roomy lines =
       let are = all_parts (case_list net policy) (graphs_of accepted) (prefs_of accepted) (tags_of net (graphs_of accepted)) as_many_graphs as_many_prefs (as_many_tags net (graphs_of accepted) ∙ as_many_graphs) in
       record {
+        limits = made_within net policy accepted all each;
         made = record {
           cases = are.cases;
           graphs = λ k e s at of. case_graph net policy e (known_at k e at) s of;

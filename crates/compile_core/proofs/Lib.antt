@@ -2,8 +2,8 @@ pub mod Gathered
 pub mod OneByOne
 pub mod Places
 pub mod Parts
+pub mod Limits
 pub mod Known
 pub mod Whole
 pub mod Agreement
-pub mod OneConfiguration
 pub mod OneRefusal

@@ -3,24 +3,25 @@ use Rattle.std.proofs.Common.{◌≡◌, ℕ, suc, ◌+◌, ◌-◌, ◌<◌, Li
 use Rattle.std.specs.Prelude.{sum_by}
 use Rattle.std.proofs.lemmas.List.{length_push, map-append}
 use Rattle.std.proofs.lemmas.List.Sums.{sum_by-append, sum_by-cons}
+use Rattle.list_laws.proofs.Items.{slice_get_inside}
 use Rattle.net_base.specs.Network.{PlainNet}
 use Rattle.path_words.specs.declared.case.Case.{Case}
 use Rattle.path_words.specs.Cases.{case_list}
 use Rattle.path_words.specs.Policies.{PlainPolicy, PlainStatement}
 use Rattle.graph_base.specs.Graphs.{PlainGraph}
 use Rattle.graph_base.specs.declared.graph.Prefs.{Prefs}
-use Rattle.config_made.proofs.Gathering.{case_at}
-use Rattle.case_core.specs.Cases.{OfCase, IsCase}
+use Rattle.case_law.specs.Cases.{OfCase, IsCase}
 use Rattle.case_core.specs.declared.refusal.CompileRefusal.{CompileRefusal}
 use Rattle.case_core.specs.declared.refusal.CompileRefusal.TheVariants.{TooManyRanks, TooManyStates, TooManySteps, SourceWithoutPath, MixedSource, NoEvidence, TooManyTags, NoMemory}
-use Rattle.case_core.proofs.Origins.{case_known}
+use Rattle.case_law.proofs.Origins.{case_known}
 use Rattle.case_evidence.specs.declared.accepted.AcceptedCase.{AcceptedCase}
 use Rattle.case_evidence.specs.Accepted.{IsAccepted, IsCaseCause}
 use Rattle.community_assign.specs.declared.fault.TagFault.{TagFault}
 use Rattle.community_assign.specs.declared.fault.TagFault.TheVariants as fault
 use Rattle.community_assign.specs.Tagging.{all_nodes, IsFirstCrowded}
 use Rattle.compile_core.specs.Accepting.{AreAllGiven, AreGiven, refusal_of as tag_refusal}
-use Rattle.compile_core.specs.Compiling.{AreAccepted, AreAcceptedFrom, IsRefusal, all_steps, room_after}
+use Rattle.regret_law.specs.Passes.{all_steps}
+use Rattle.compile_core.specs.Compiling.{AreAccepted, AreAcceptedFrom, IsRefusal, room_after}
 
 -- how many steps these cases took
 abbrev pub used_by : List AcceptedCase → ℕ
@@ -33,7 +34,7 @@ IsAcceptedAt net policy number room a = OfCase net policy number (λ s c. IsAcce
 -- there is a case with each number
 pub there : (net : PlainNet) (policy : PlainPolicy) (k number : ℕ) → k < length (case_list net policy) → number ≡ k + 1 → (s : PlainStatement) × (c : Case) × IsCase net policy number s c
 there net policy k number within is =
-    let found = case_at (case_list net policy) k within in
+    let found = slice_get_inside (case_list net policy) k within in
     let statement = (case_known net policy k found.0 found.1).statement in
     let after : suc k ≡ number = omega (arith, is) in
     let here : IsCase net policy (suc k) statement.0 found.0 = record { case = found.1; statement = statement.1 } in

@@ -8,7 +8,7 @@ use Rattle.path_words.specs.Policies.{PlainPolicy}
 use Rattle.graph_base.specs.declared.graph.Node.{Node}
 use Rattle.graph_base.specs.declared.graph.Prefs.{Prefs}
 use Rattle.graph_base.specs.Graphs.{PlainGraph}
-use Rattle.config_base.specs.Made.{PlainCaseEvidence}
+use Rattle.evidence_base.specs.Made.{PlainCaseEvidence}
 use Rattle.config_made.specs.Evidence.{evidence_of}
 use Rattle.community_assign.specs.Tagging.{graph_tags_after, tags_after, tags_of}
 use Rattle.case_evidence.specs.declared.accepted.AcceptedCase.{AcceptedCase}

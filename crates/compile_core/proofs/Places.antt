@@ -4,6 +4,7 @@ use Rattle.std.specs.Prelude.{unwrap_or, option_map, option_and_then, nat_le}
 use Rattle.std.specs.List.{AllByRecursion}
 use Rattle.std.proofs.lemmas.Bool.{and_parts, cases_Bool, ltb-true, not_from_false}
 use Rattle.std.proofs.lemmas.Option.{slice_get_within}
+use Rattle.list_laws.proofs.Members.{AllByRecursion-from_IsIn}
 use Rattle.net_base.specs.Network.{PlainNet, IsNet, is_location, linked}
 use Rattle.path_words.specs.Meaning.{PathTest, alternatives, place_of as first_place, rank_of}
 use Rattle.path_words.specs.Policies.{PlainStatement, Ranking}
@@ -11,11 +12,10 @@ use Rattle.path_words.specs.Walks.{steps_linked}
 use Rattle.graph_base.specs.declared.graph.Node.{Node}
 use Rattle.graph_base.specs.Graphs.{PlainGraph, IsGraph}
 use Rattle.graph_base.specs.Runs.{place_of, rank_at, run}
-use Rattle.config_made.proofs.Members.{each_in}
-use Rattle.graph_law.specs.Origins.{AreOrigins}
+use Rattle.case_law.specs.Origins.{AreOrigins}
 use Rattle.regret_law.specs.Faithful.{IsFaithful, may_start}
 use Rattle.regret_law.proofs.GraphSteps.{start_at-is}
-use Rattle.regret_law.proofs.Heard.{router_known}
+use Rattle.net_base.proofs.RoutersAndPeers.{router_known}
 use Rattle.regret_law.proofs.RunWalks.{run_begins, run_linked}
 use Rattle.regret_law.proofs.Sites.{linked_known}
 
@@ -60,11 +60,11 @@ module _ (net : PlainNet) (rules : IsNet net) (s : PlainStatement) (origin : ℕ
 
   -- places of nodes are below 768, and their ranks aren't 0
   pub places : AllByRecursion (λ (n : Node). n.loc < 768) g.nodes
-  places = each_in (λ (n : Node). n.loc < 768) g.nodes (λ node (n, at).
+  places = AllByRecursion-from_IsIn (λ (n : Node). n.loc < 768) g.nodes (λ node (n, at).
       let here : place_of g n ≡ node.loc = ap (λ (o : Option Node). unwrap_or (option_map (λ (x : Node). x.loc) o) 0) at in
       omega (arith, here, ltb-true _ _ (node_located n (slice_get_within g.nodes n node at)), rules.routers, rules.peers))
 
   pub ranks : AllByRecursion (λ (n : Node). n.rank ≢ Some 0) g.nodes
-  ranks = each_in (λ (n : Node). n.rank ≢ Some 0) g.nodes (λ node (n, at) zero_rank.
+  ranks = AllByRecursion-from_IsIn (λ (n : Node). n.rank ≢ Some 0) g.nodes (λ node (n, at) zero_rank.
       let here : rank_at g n ≡ node.rank = ap (λ (o : Option Node). option_and_then (λ (x : Node). x.rank) o) at in
       node_counts n (slice_get_within g.nodes n node at) (here ∙ zero_rank))

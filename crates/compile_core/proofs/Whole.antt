@@ -9,14 +9,14 @@ use Rattle.path_words.specs.Policies.{IsPolicy, PlainPolicy}
 use Rattle.graph_base.specs.declared.graph.Prefs.{Prefs}
 use Rattle.graph_base.specs.Graphs.{PlainGraph}
 use Rattle.config_base.specs.Configs.{PlainConfig}
-use Rattle.config_base.specs.Evidence.{IsCaseEvidence}
-use Rattle.config_base.specs.Made.{PlainCaseEvidence, AreTags, IsConfigOf}
+use Rattle.evidence_base.specs.Evidence.{IsCaseEvidence}
+use Rattle.evidence_base.specs.Made.{PlainCaseEvidence, AreTags, IsConfigOf}
 use Rattle.config_made.specs.Conditions.{AreClasses, IsSingle, IsWhole}
 use Rattle.config_made.specs.Evidence.{evidence_of}
 use Rattle.config_made.proofs.CaseClasses.{case_lists}
 use Rattle.community_assign.specs.Tagging.{tags_of, all_nodes, IsRoomy}
 use Rattle.regret_law.specs.Passes.{Passes}
-use Rattle.case_core.specs.Cases.{OriginsAreRouters}
+use Rattle.case_law.specs.Cases.{OriginsAreRouters}
 use Rattle.case_evidence.specs.declared.accepted.AcceptedCase.{AcceptedCase}
 use Rattle.compile_core.specs.Accepting.{AreAllGiven}
 use Rattle.compile_core.specs.Compiling.{IsMade, graphs_of}

@@ -6,18 +6,15 @@ use Rattle.path_words.specs.Policies.{PlainPolicy}
 use Rattle.graph_base.specs.Graphs.{PlainGraph}
 use Rattle.graph_base.specs.declared.graph.Prefs.{Prefs}
 use Rattle.config_base.specs.Configs.{PlainConfig}
-use Rattle.config_base.specs.Made.{PlainCaseEvidence, IsConfigOf}
+use Rattle.evidence_base.specs.Made.{PlainCaseEvidence, IsConfigOf}
+use Rattle.regret_law.specs.Passes.{all_steps}
 use Rattle.config_made.specs.Evidence.{evidence_of}
 use Rattle.community_assign.specs.Tagging.{tags_of, all_nodes, IsRoomy, IsFirstCrowded}
-use Rattle.case_core.specs.Cases.{OfCase}
+use Rattle.case_law.specs.Cases.{OfCase}
 use Rattle.case_core.specs.declared.refusal.CompileRefusal.{CompileRefusal}
 use Rattle.case_core.specs.declared.refusal.CompileRefusal.TheVariants.{TooManyTags, NoMemory}
 use Rattle.case_evidence.specs.declared.accepted.AcceptedCase.{AcceptedCase}
 use Rattle.case_evidence.specs.Accepted.{IsAccepted, IsCaseCause}
-
--- the most steps over all cases, before they are trimmed
-abbrev pub all_steps : ℕ
-all_steps = 131072
 
 abbrev pub graphs_of : List AcceptedCase → List PlainGraph
 graphs_of accepted = map (λ (a : AcceptedCase). a.graph) accepted

@@ -2,7 +2,7 @@
 ghost use Rattle.std.specs.Prelude.{◌≡◌, ◌<◌, ◌^◌, [], ◌∷◌, ◌++◌, IfErr, IfOk, OnOk, length};
 ghost use Rattle.path_words.specs.Cases.{case_list};
 ghost use Rattle.path_words.specs.Policies.{policy_of};
-ghost use Rattle.case_core.specs.Cases.{OriginsAreRouters};
+ghost use Rattle.case_law.specs.Cases.{OriginsAreRouters};
 ghost use Rattle.compile_core.specs.Accepting.{AreAllGiven};
 ghost use Rattle.compile_core.specs.Compiling.{IsRefusal};
 

@@ -1,6 +1,7 @@
 //! What the compiler gives.
 
-use config_base::{Config, Evidence};
+use config_base::Config;
+use evidence_base::Evidence;
 
 /// The configuration of a policy, and the evidence that it is right.
 #[derive(Drop)]

@@ -6,7 +6,7 @@ ghost use Rattle.path_words.specs.Cases.{case_list};
 ghost use Rattle.path_words.specs.Policies.{IsPolicy, PlainPolicy, policy_of};
 ghost use Rattle.community_assign.specs.Tagging.{tags_of, all_nodes, IsRoomy};
 ghost use Rattle.regret_law.specs.Passes.{Passes};
-ghost use Rattle.case_core.specs.Cases.{OriginsAreRouters};
+ghost use Rattle.case_law.specs.Cases.{OriginsAreRouters};
 ghost use Rattle.compile_core.specs.Accepting.{AreAllGiven, refusal_of as plain_refusal_of};
 ghost use Rattle.compile_core.specs.Compiling.{IsMade, IsRefusal};
 

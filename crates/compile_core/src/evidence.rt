@@ -1,34 +1,14 @@
 //! The evidence of a configuration.
 ghost use Rattle.std.specs.Prelude.{◌≡◌, ℕ, IfOk, Some, length, slice_get};
-ghost use Rattle.config_base.specs.Evidence.{IsCaseEvidence};
-ghost use Rattle.config_base.specs.Made.{PlainCaseEvidence};
+ghost use Rattle.evidence_base.specs.Evidence.{IsCaseEvidence};
+ghost use Rattle.evidence_base.specs.Made.{PlainCaseEvidence};
 ghost use Rattle.config_made.specs.Evidence.{evidence_of as plain_evidence_of};
 
-use config_base::{CaseEvidence, Evidence};
+use evidence_base::{CaseEvidence, Evidence, case_copy};
 use graph_base::{Graph, Prefs};
 use net_base::{List, Tag};
 use path_words::Case;
 use std::alloc::{AllocError, Global};
-
-/// A copy of a case.
-fn case_copy(alloc: Global, case: &Case) -> Result<Case, AllocError>
-    ensures { IfOk result (λ copy. copy ≡ case.now) }
-{
-    let prefixes = Vec::from_slice(alloc, case.prefixes.as_slice())?;
-    Ok(Case {
-        statement: case.statement,
-        origins: case.origins,
-        external: case.external,
-        prefixes: List::from_vec(prefixes),
-    })
-}
-
-/// A copy of tags.
-fn tags_copy(alloc: Global, tags: &[Tag]) -> Result<List<Tag>, AllocError>
-    ensures { IfOk result (λ copy. copy ≡ tags.now) }
-{
-    Ok(List::from_vec(Vec::from_slice(alloc, tags)?))
-}
 
 /// The evidence of cases: each with its graph, numbers and tags. Graphs and numbers are moved.
 pub fn evidence_of(
@@ -48,7 +28,7 @@ pub fn evidence_of(
     for (graph, prefs) in graphs.into_iter().zip(prefs) {
         let place = all.as_slice().len();
         let case = case_copy(alloc, &cases[place])?;
-        let tags = tags_copy(alloc, tags[place].as_slice())?;
+        let tags = tags[place].copy(alloc)?;
         all.push(CaseEvidence::new(case, graph, prefs, tags))?;
     }
     Ok(Evidence { cases: all })

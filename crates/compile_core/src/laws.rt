@@ -2,10 +2,10 @@
 ghost use Rattle.std.specs.Prelude.{◌≡◌, ◌⊎◌, List};
 ghost use Rattle.net_base.specs.Network.{IsNet, PlainNet};
 ghost use Rattle.path_words.specs.Policies.{PlainPolicy};
-ghost use Rattle.config_base.specs.Configs.{IsConfig, PlainConfig};
-ghost use Rattle.config_base.specs.Made.{PlainCaseEvidence};
+ghost use Rattle.config_base.specs.Configs.{PlainConfig};
+ghost use Rattle.evidence_base.specs.Made.{PlainCaseEvidence};
 ghost use Rattle.regret_law.specs.Passes.{Passes};
-ghost use Rattle.case_core.specs.Cases.{OriginsAreRouters};
+ghost use Rattle.case_law.specs.Cases.{OriginsAreRouters};
 ghost use Rattle.case_core.specs.declared.refusal.CompileRefusal.{CompileRefusal};
 ghost use Rattle.case_core.specs.declared.refusal.CompileRefusal.TheVariants.{NoMemory};
 ghost use Rattle.compile_core.specs.Compiling.{IsMade, IsRefusal};
@@ -30,5 +30,5 @@ pub fn refusals_of_policies_exclude_one_another()
 /// There is one evidence for a policy, and one configuration.
 pub fn made_pairs_are_one()
     ensures { (net : PlainNet) (policy : PlainPolicy) (config other : PlainConfig) (cs ds : List PlainCaseEvidence) → IsMade net policy config cs
-        → IsMade net policy other ds → (cs ≡ ds) × (IsConfig config → IsConfig other → config ≡ other) }
+        → IsMade net policy other ds → (cs ≡ ds) × (config ≡ other) }
 {}

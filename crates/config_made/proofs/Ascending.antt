@@ -1,5 +1,5 @@
 -- The lines of a block ascend, since no two steps between two locations have one class and one tag.
-use Rattle.std.proofs.Common.{◌≡◌, ℕ, ◌<◌, true, List, [], ◌∷◌, length, map, Some, refl, sym, ap, ◌∙◌, subst, arith, inl, inr}
+use Rattle.std.proofs.Common.{◌≡◌, ℕ, ◌<◌, true, List, [], ◌∷◌, length, map, Some, sym, ap, ◌∙◌, subst, arith, inl, inr}
 use Rattle.std.specs.Prelude.{nat_eq, nat_le, slice_get}
 use Rattle.std.specs.List.{AllByRecursion}
 use Rattle.std.specs.List.Sorted.{IsStrictlySortedBy}
@@ -9,19 +9,20 @@ use Rattle.std.specs.declared.cmp.Ordering.TheVariants.{Less, Equal}
 use Rattle.std.proofs.lemmas.Bool.{cases_Bool, and_parts, and_from, or_cases, eqb-true, eq-eqb, ltb-true, leb-true}
 use Rattle.std.proofs.lemmas.Cmp.{tied_itself}
 use Rattle.std.proofs.lemmas.Map.Keys.{sorted_head, sorted_tail}
+use Rattle.list_laws.proofs.Members.{AllByRecursion-IsIn}
+use Rattle.list_laws.proofs.Keys.{one_by_key}
+use Rattle.list_laws.proofs.Orders.{nat_cmp-Equal, nat_cmp-Less, ordering_then-Less}
 use Rattle.net_base.specs.Network.{PlainNet, is_peer, is_router, is_location}
 use Rattle.graph_base.specs.Graphs.{IsGraph}
 use Rattle.graph_base.specs.Runs.{place_of, is_start, has_step}
 use Rattle.graph_base.specs.Rules.{same_pair}
 use Rattle.config_base.specs.Configs.{Key, IsBelow, Ascend, tag_key}
-use Rattle.config_base.specs.Made.{PlainCaseEvidence, tag_at, number_at, case_at, AreTags}
+use Rattle.evidence_base.specs.Made.{PlainCaseEvidence, tag_at, number_at, case_at, AreTags}
 use Rattle.config_made.specs.declared.hop.Hop.{Hop}
 use Rattle.config_made.specs.declared.hop.Announced.{Announced}
 use Rattle.config_made.specs.Conditions.{IsSingle}
 use Rattle.config_made.specs.Hops.{hop_order, announced_order, tag_order, prefix_order, goes, stands}
-use Rattle.config_made.proofs.Members.{each_of, one_by_key}
 use Rattle.config_made.proofs.Made.{IsHop, IsAnnounced, step_in, start_in, class_place, goes_parts}
-use Rattle.config_made.proofs.Runs.{then_less, less, equal}
 use Rattle.config_made.proofs.Settling.{hop_total, announced_total, tag_exact, prefix_exact}
 
 -- ---- lists
@@ -36,25 +37,21 @@ pub ascends : {A : Type 0} (key : A → Key) (P : A → Type 0) (R : A → A →
 ascends key P R up [] all sorted = tt
 ascends key P R up (x ∷ xs) all sorted = (keys_above key P R x up all.0 xs all.1 (sorted_head R x xs sorted), ascends key P R up xs all.1 (sorted_tail R x xs sorted))
 
-pub map_map : {A B C : Type 0} (f : B → C) (g : A → B) (xs : List A) → map f (map g xs) ≡ map (λ x. f (g x)) xs
-map_map f g [] = refl
-map_map f g (x ∷ xs) = ap (λ ys. f (g x) ∷ ys) (map_map f g xs)
-
 -- ---- the order by three numbers
 
 below_by_tag : (a b : Hop) → ordering_then (nat_cmp a.class b.class) (ordering_then (tag_order a.tag b.tag) (ordering_then (tag_order a.set b.set) (nat_cmp a.pref b.pref))) ≡ Less
     → (a.class ≡ b.class → a.tag ≡ b.tag → ⊥) → IsBelow (tag_key a.class a.tag) (tag_key b.class b.tag)
-below_by_tag a b h apart = elim (then_less (nat_cmp a.class b.class) _ h) [
-  | inl t ↦ let low : a.class < b.class = less a.class b.class t in (omega (arith, low), λ e. absurd (omega (arith, low, e)))
+below_by_tag a b h apart = elim (ordering_then-Less (nat_cmp a.class b.class) _ h) [
+  | inl t ↦ let low : a.class < b.class = nat_cmp-Less a.class b.class t in (omega (arith, low), λ e. absurd (omega (arith, low, e)))
   | inr t ↦
-      let same : a.class ≡ b.class = equal a.class b.class t.0 in
-      elim (then_less (tag_order a.tag b.tag) _ t.1) [
+      let same : a.class ≡ b.class = nat_cmp-Equal a.class b.class t.0 in
+      elim (ordering_then-Less (tag_order a.tag b.tag) _ t.1) [
         | inr u ↦ absurd (apart same (tag_exact a.tag b.tag (ap is_eq u.0)))
-        | inl u ↦ elim (then_less (nat_cmp a.tag.asn b.tag.asn) _ u) [
-          | inl v ↦ let low : a.tag.asn < b.tag.asn = less a.tag.asn b.tag.asn v in (omega (arith, same), λ e. (omega (arith, low), λ f. absurd (omega (arith, low, f))))
+        | inl u ↦ elim (ordering_then-Less (nat_cmp a.tag.asn b.tag.asn) _ u) [
+          | inl v ↦ let low : a.tag.asn < b.tag.asn = nat_cmp-Less a.tag.asn b.tag.asn v in (omega (arith, same), λ e. (omega (arith, low), λ f. absurd (omega (arith, low, f))))
           | inr v ↦
-              let asn : a.tag.asn ≡ b.tag.asn = equal a.tag.asn b.tag.asn v.0 in
-              let low : a.tag.value < b.tag.value = less a.tag.value b.tag.value v.1 in
+              let asn : a.tag.asn ≡ b.tag.asn = nat_cmp-Equal a.tag.asn b.tag.asn v.0 in
+              let low : a.tag.value < b.tag.value = nat_cmp-Less a.tag.value b.tag.value v.1 in
               (omega (arith, same), λ e. (omega (arith, asn), λ f. low))
         ]
       ]
@@ -62,17 +59,17 @@ below_by_tag a b h apart = elim (then_less (nat_cmp a.class b.class) _ h) [
 
 below_by_prefix : (a b : Announced) → ordering_then (nat_cmp a.class b.class) (ordering_then (prefix_order a.prefix b.prefix) (tag_order a.tag b.tag)) ≡ Less
     → (a.class ≡ b.class → a.prefix ≡ b.prefix → ⊥) → IsBelow (record { first = a.class; second = a.prefix.bits; third = a.prefix.len }) (record { first = b.class; second = b.prefix.bits; third = b.prefix.len })
-below_by_prefix a b h apart = elim (then_less (nat_cmp a.class b.class) _ h) [
-  | inl t ↦ let low : a.class < b.class = less a.class b.class t in (omega (arith, low), λ e. absurd (omega (arith, low, e)))
+below_by_prefix a b h apart = elim (ordering_then-Less (nat_cmp a.class b.class) _ h) [
+  | inl t ↦ let low : a.class < b.class = nat_cmp-Less a.class b.class t in (omega (arith, low), λ e. absurd (omega (arith, low, e)))
   | inr t ↦
-      let same : a.class ≡ b.class = equal a.class b.class t.0 in
-      elim (then_less (prefix_order a.prefix b.prefix) _ t.1) [
+      let same : a.class ≡ b.class = nat_cmp-Equal a.class b.class t.0 in
+      elim (ordering_then-Less (prefix_order a.prefix b.prefix) _ t.1) [
         | inr u ↦ absurd (apart same (prefix_exact a.prefix b.prefix (ap is_eq u.0)))
-        | inl u ↦ elim (then_less (nat_cmp a.prefix.bits b.prefix.bits) _ u) [
-          | inl v ↦ let low : a.prefix.bits < b.prefix.bits = less a.prefix.bits b.prefix.bits v in (omega (arith, same), λ e. (omega (arith, low), λ f. absurd (omega (arith, low, f))))
+        | inl u ↦ elim (ordering_then-Less (nat_cmp a.prefix.bits b.prefix.bits) _ u) [
+          | inl v ↦ let low : a.prefix.bits < b.prefix.bits = nat_cmp-Less a.prefix.bits b.prefix.bits v in (omega (arith, same), λ e. (omega (arith, low), λ f. absurd (omega (arith, low, f))))
           | inr v ↦
-              let bits : a.prefix.bits ≡ b.prefix.bits = equal a.prefix.bits b.prefix.bits v.0 in
-              let low : a.prefix.len < b.prefix.len = less a.prefix.len b.prefix.len v.1 in
+              let bits : a.prefix.bits ≡ b.prefix.bits = nat_cmp-Equal a.prefix.bits b.prefix.bits v.0 in
+              let low : a.prefix.len < b.prefix.len = nat_cmp-Less a.prefix.len b.prefix.len v.1 in
               (omega (arith, same), λ e. (omega (arith, bits), λ f. low))
         ]
       ]
@@ -83,10 +80,10 @@ below_by_prefix a b h apart = elim (then_less (nat_cmp a.class b.class) _ h) [
 module _ (net : PlainNet) (cs : List PlainCaseEvidence) (graphs : (k : ℕ) (c : PlainCaseEvidence) → slice_get cs k ≡ Some c → IsGraph c.graph)
     (single : (k : ℕ) (c : PlainCaseEvidence) → slice_get cs k ≡ Some c → IsSingle net c.graph) (tags : AreTags net cs) where
   pub step_within : (k : ℕ) (c : PlainCaseEvidence) → slice_get cs k ≡ Some c → (n m : ℕ) → has_step c.graph n m ≡ true → (n < length c.graph.nodes) × (m < length c.graph.nodes)
-  step_within k c at n m step = each_of (λ (s : ℕ × ℕ). (s.0 < length c.graph.nodes) × (s.1 < length c.graph.nodes)) c.graph.steps (n, m) (graphs k c at).steps (step_in c.graph n m step)
+  step_within k c at n m step = AllByRecursion-IsIn (λ (s : ℕ × ℕ). (s.0 < length c.graph.nodes) × (s.1 < length c.graph.nodes)) c.graph.steps (n, m) (graphs k c at).steps (step_in c.graph n m step)
 
   pub start_within : (k : ℕ) (c : PlainCaseEvidence) → slice_get cs k ≡ Some c → (n : ℕ) → is_start c.graph n ≡ true → n < length c.graph.nodes
-  start_within k c at n start = each_of (λ (s : ℕ). s < length c.graph.nodes) c.graph.starts n (graphs k c at).starts (start_in c.graph n start)
+  start_within k c at n start = AllByRecursion-IsIn (λ (s : ℕ). s < length c.graph.nodes) c.graph.starts n (graphs k c at).starts (start_in c.graph n start)
 
   no_router : (l : ℕ) → is_peer net l ≡ true → is_router net l ≡ true → ⊥
   no_router l peer router = omega (arith, ltb-true l (length net.routers) router, leb-true (length net.routers) l (and_parts (nat_le (length net.routers) l) (is_location net l) peer).0)
@@ -144,10 +141,10 @@ module _ (net : PlainNet) (cs : List PlainCaseEvidence) (graphs : (k : ℕ) (c :
       let same = same_hop a b of_a.0 of_b.0 from to class tag in
       let tied : hop_order a b ≡ Equal = ap (hop_order a) (sym same) ∙ tied_itself hop_total a in
       let clash : Less ≡ Equal = sym h ∙ tied in cc in
-      elim (then_less (nat_cmp a.from b.from) _ h) [
-        | inl t ↦ absurd (omega (arith, less a.from b.from t, from))
-        | inr t ↦ elim (then_less (nat_cmp a.to b.to) _ t.1) [
-          | inl u ↦ absurd (omega (arith, less a.to b.to u, to))
+      elim (ordering_then-Less (nat_cmp a.from b.from) _ h) [
+        | inl t ↦ absurd (omega (arith, nat_cmp-Less a.from b.from t, from))
+        | inr t ↦ elim (ordering_then-Less (nat_cmp a.to b.to) _ t.1) [
+          | inl u ↦ absurd (omega (arith, nat_cmp-Less a.to b.to u, to))
           | inr u ↦ below_by_tag a b u.1 apart
         ]
       ]
@@ -172,7 +169,7 @@ module _ (net : PlainNet) (cs : List PlainCaseEvidence) (graphs : (k : ℕ) (c :
       let same = same_announced a b of_a.0 of_b.0 at class prefix in
       let tied : announced_order a b ≡ Equal = ap (announced_order a) (sym same) ∙ tied_itself announced_total a in
       let clash : Less ≡ Equal = sym h ∙ tied in cc in
-      elim (then_less (nat_cmp a.at b.at) _ h) [
-        | inl t ↦ absurd (omega (arith, less a.at b.at t, at))
+      elim (ordering_then-Less (nat_cmp a.at b.at) _ h) [
+        | inl t ↦ absurd (omega (arith, nat_cmp-Less a.at b.at t, at))
         | inr t ↦ below_by_prefix a b t.1 apart
       ]

@@ -3,6 +3,7 @@ use Rattle.std.proofs.Common.{◌≡◌, ◌≢◌, ℕ, suc, ◌+◌, ◌≤◌
 use Rattle.std.specs.Prelude.{◌&&◌, ◌==◌, not, slice_get, option_map, unwrap_or, if◌then◌else◌}
 use Rattle.std.specs.List.{AllByRecursion, list_any}
 use Rattle.std.proofs.lemmas.Bool.{cases_Bool, false≢true}
+use Rattle.list_laws.proofs.Each.{AllByRecursion-append, AllByRecursion-weaker}
 use Rattle.net_base.specs.Network.{PlainNet}
 use Rattle.net_base.specs.Sets.{same_set}
 use Rattle.net_base.specs.Prefixes.{PlainPattern, PlainPrefix, only}
@@ -11,7 +12,7 @@ use Rattle.path_words.specs.declared.policy.Origin.{Origin}
 use Rattle.path_words.specs.Policies.{PlainPolicy, PlainStatement}
 use Rattle.path_words.specs.Governing.{governing}
 use Rattle.path_words.specs.Cases.{with_prefix, with_governed, originated_cases, is_originated, external_case, external_cases}
-use Rattle.config_base.specs.Made.{patterns_of, statement_at}
+use Rattle.evidence_base.specs.Made.{patterns_of, statement_at}
 use Rattle.config_made.specs.Law.{CaseListsAreClasses}
 
 -- ---- cases of originated prefixes
@@ -71,10 +72,6 @@ external_kept net policy k s at = elim (cases_Bool (list_any (λ pattern. not (i
   | inr t ↦ rw t tt
 ]
 
-joined : {A : Type 0} (P : A → Type 0) (xs ys : List A) → AllByRecursion P xs → AllByRecursion P ys → AllByRecursion P (xs ++ ys)
-joined P [] ys a b = b
-joined P (x ∷ xs) ys a b = (a.0, joined P xs ys a.1 b)
-
 externals_kept : (net : PlainNet) (policy : PlainPolicy) (i : ℕ) (ss : List PlainStatement) → ((j : ℕ) (s : PlainStatement) → slice_get ss j ≡ Some s → slice_get policy.statements (i + j) ≡ Some s)
     → AllByRecursion (HasStatement policy) (external_cases net policy (suc i) ss)
 externals_kept net policy i [] at = tt
@@ -83,7 +80,7 @@ externals_kept net policy i (s ∷ ss) at =
     let next : suc i + 1 ≡ suc (i + 1) = omega arith in
     let here : statement_at policy (suc i) ≡ Some s = ap (slice_get policy.statements) (sym same) ∙ at 0 s refl in
     let later = externals_kept net policy (i + 1) ss (λ j t there. let e : i + 1 + j ≡ i + suc j = omega arith in ap (slice_get policy.statements) e ∙ at (suc j) t there) in
-    joined (HasStatement policy) (external_case net policy (suc i) s) (external_cases net policy (suc i + 1) ss) (external_kept net policy (suc i) s here)
+    AllByRecursion-append (HasStatement policy) (external_case net policy (suc i) s) (external_cases net policy (suc i + 1) ss) (external_kept net policy (suc i) s here)
     (subst (λ k. AllByRecursion (HasStatement policy) (external_cases net policy k ss)) (sym next) later)
 
 external_count : (net : PlainNet) (policy : PlainPolicy) (k : ℕ) (s : PlainStatement) → length (external_case net policy k s) ≤ 1
@@ -98,10 +95,6 @@ externals_count net policy k (s ∷ ss) =
     omega (arith, length-append (external_case net policy k s) (external_cases net policy (k + 1) ss), external_count net policy k s, externals_count net policy (k + 1) ss)
 
 -- ---- both
-
-weaker : {A : Type 0} (P Q : A → Type 0) (xs : List A) → ((x : A) → P x → Q x) → AllByRecursion P xs → AllByRecursion Q xs
-weaker P Q [] f all = tt
-weaker P Q (x ∷ xs) f all = (f x all.0, weaker P Q xs f all.1)
 
 mapped : (ps : List PlainPrefix) → ps ≢ [] → map only ps ≢ []
 mapped [] some e = some refl
@@ -137,7 +130,7 @@ case_lists net policy rules =
     let external = outer net policy (length net.peers == 0) in
     record {
       count = omega (arith, length-append inner external, originated_count policy policy.origins [], outer_count net policy (length net.peers == 0), rules.statements, rules.prefixes);
-      patterns = joined (λ (c : Case). patterns_of policy c ≢ []) inner external
-          (weaker HasPrefix (λ (c : Case). patterns_of policy c ≢ []) inner (of_prefixes policy) (originated_kept policy policy.origins [] tt))
-          (weaker (HasStatement policy) (λ (c : Case). patterns_of policy c ≢ []) external (of_statement policy) (outer_kept net policy (length net.peers == 0)));
+      patterns = AllByRecursion-append (λ (c : Case). patterns_of policy c ≢ []) inner external
+          (AllByRecursion-weaker HasPrefix (λ (c : Case). patterns_of policy c ≢ []) inner (of_prefixes policy) (originated_kept policy policy.origins [] tt))
+          (AllByRecursion-weaker (HasStatement policy) (λ (c : Case). patterns_of policy c ≢ []) external (of_statement policy) (outer_kept net policy (length net.peers == 0)));
     }

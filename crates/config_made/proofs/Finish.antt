@@ -14,15 +14,18 @@ use Rattle.graph_base.specs.declared.graph.Prefs.{Prefs}
 use Rattle.graph_base.specs.Graphs.{PlainGraph, IsGraph}
 use Rattle.config_base.specs.declared.config.RouterConfig.{RouterConfig}
 use Rattle.config_base.specs.Configs.{IsConfig}
-use Rattle.config_base.specs.Made.{PlainCaseEvidence, patterns_of, IsIn, IsConfigOf, AreTags}
+use Rattle.evidence_base.specs.Made.{PlainCaseEvidence, patterns_of, IsConfigOf, AreTags}
+use Rattle.list_laws.specs.Members.{IsIn}
+use Rattle.list_laws.proofs.Each.{AllByRecursion-map}
+use Rattle.list_laws.proofs.Changed.{map-map}
+use Rattle.list_laws.proofs.Items.{slice_get_inside}
 use Rattle.config_made.specs.declared.hop.Hop.{Hop}
 use Rattle.config_made.specs.declared.hop.Announced.{Announced}
 use Rattle.config_made.specs.Conditions.{IsSingle, IsWhole, AreClasses}
 use Rattle.config_made.specs.Evidence.{evidence_of}
 use Rattle.config_made.specs.Hops.{HasPref, hop_order, announced_order, hops_from, announced_from}
 use Rattle.config_made.specs.Writing.{routers_of}
-use Rattle.config_made.proofs.Ascending.{map_map}
-use Rattle.config_made.proofs.Gathering.{case_at, whole-at, evidence-short}
+use Rattle.config_made.proofs.Gathering.{whole-at, evidence-short}
 use Rattle.config_made.proofs.Whole.{config_kept, config_of_cases}
 
 evidence-graph : (cs : List Case) (gs : List PlainGraph) (ps : List Prefs) (ts : List (List Tag)) (k : ℕ) (e : PlainCaseEvidence) → slice_get (evidence_of cs gs ps ts) k ≡ Some e → slice_get gs k ≡ Some e.graph
@@ -44,18 +47,14 @@ evidence-cases (c ∷ cs) (g ∷ gs) [] ts a b d = absurd (omega (arith, b))
 evidence-cases (c ∷ cs) (g ∷ gs) (p ∷ ps) [] a b d = absurd (omega (arith, d))
 evidence-cases (c ∷ cs) (g ∷ gs) (p ∷ ps) (t ∷ ts) a b d = ap (λ l. c ∷ l) (evidence-cases cs gs ps ts (omega (arith, a)) (omega (arith, b)) (omega (arith, d)))
 
-each_mapped : {A B : Type 0} (f : A → B) (P : B → Type 0) (xs : List A) → AllByRecursion (λ x. P (f x)) xs → AllByRecursion P (map f xs)
-each_mapped f P [] all = tt
-each_mapped f P (x ∷ xs) all = (all.0, each_mapped f P xs all.1)
-
 -- each list of tags is as long as the nodes of its graph
 pub tags_whole : (cs : List Case) (gs : List PlainGraph) (ps : List Prefs) (ts : List (List Tag)) → length gs ≡ length cs → length ps ≡ length cs
     → ((k : ℕ) (e : PlainCaseEvidence) → slice_get (evidence_of cs gs ps ts) k ≡ Some e → IsWhole e)
     → (k : ℕ) (g : PlainGraph) (t : List Tag) → slice_get gs k ≡ Some g → slice_get ts k ≡ Some t → length t ≡ length g.nodes
 tags_whole cs gs ps ts same_g same_p whole k g t at_g at_t =
     let within = slice_get_within gs k g at_g in
-    let c = case_at cs k (omega (arith, within, same_g)) in
-    let p = case_at ps k (omega (arith, within, same_g, same_p)) in
+    let c = slice_get_inside cs k (omega (arith, within, same_g)) in
+    let p = slice_get_inside ps k (omega (arith, within, same_g, same_p)) in
     (whole-at cs gs ps ts k c.0 g p.0 t c.1 at_g p.1 at_t whole).tags
 
 module _ (net : PlainNet) (rules : IsNet net) (policy : PlainPolicy) (cs : List Case) (gs : List PlainGraph) (ps : List Prefs) (ts : List (List Tag)) (same_g : length gs ≡ length cs)
@@ -81,13 +80,13 @@ module _ (net : PlainNet) (rules : IsNet net) (policy : PlainPolicy) (cs : List 
   made_kept =
       let long : length classes ≡ length cs = ap length of_cases ∙ length-map cs (patterns_of policy) in
       let patterns : AllByRecursion (λ (qs : List PlainPattern). qs ≢ []) classes =
-      subst (AllByRecursion (λ (qs : List PlainPattern). qs ≢ [])) (sym of_cases) (each_mapped (patterns_of policy) (λ (qs : List PlainPattern). qs ≢ []) cs fit.patterns) in
+      subst (AllByRecursion (λ (qs : List PlainPattern). qs ≢ [])) (sym of_cases) (AllByRecursion-map (patterns_of policy) (λ (qs : List PlainPattern). qs ≢ []) cs fit.patterns) in
       subst (λ rs. IsConfig (record { classes = classes; routers = rs })) (sym of_hops)
       (config_kept net rules evidence (length cs) (evidence-short cs gs ps ts) evidence_graphs single tags hops hops_are hops_up (subst (All HasPref) gathered fits) all all_are all_up classes long fit.count patterns)
 
   pub made_of_cases : IsConfigOf net policy evidence (record { classes = classes; routers = routers })
   made_of_cases =
       let cases : classes ≡ map (λ (c : PlainCaseEvidence). patterns_of policy c.case) evidence =
-      of_cases ∙ ap (map (patterns_of policy)) (sym (evidence-cases cs gs ps ts same_g same_p same_t)) ∙ map_map (patterns_of policy) (λ (c : PlainCaseEvidence). c.case) evidence in
+      of_cases ∙ ap (map (patterns_of policy)) (sym (evidence-cases cs gs ps ts same_g same_p same_t)) ∙ map-map (patterns_of policy) (λ (c : PlainCaseEvidence). c.case) evidence in
       subst (λ rs. IsConfigOf net policy evidence (record { classes = classes; routers = rs })) (sym of_hops)
       (config_of_cases net rules evidence (length cs) (evidence-short cs gs ps ts) evidence_graphs single tags hops hops_are hops_up (subst (All HasPref) gathered fits) all all_are all_up policy classes cases)

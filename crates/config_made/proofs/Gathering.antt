@@ -1,13 +1,13 @@
 -- The cases one by one, with what is gathered of them.
-use Rattle.std.proofs.Common.{◌≡◌, ℕ, zero, suc, ◌+◌, ◌<◌, ◌≤◌, List, [], ◌∷◌, ◌++◌, length, map, drop, Some, sym, ap, ◌∙◌, arith, append_assoc, append-nil, inl, inr}
+use Rattle.std.proofs.Common.{◌≡◌, ℕ, zero, suc, ◌+◌, ◌≤◌, List, [], ◌∷◌, ◌++◌, length, map, drop, Some, sym, ap, ◌∙◌, arith, append_assoc, append-nil}
 use Rattle.std.specs.Prelude.{slice_get}
-use Rattle.std.proofs.lemmas.List.{drop_more, drop_all}
-use Rattle.std.proofs.lemmas.Option.{slice_get_cases, slice_get_within, get_or_from_slice_get}
+use Rattle.std.proofs.lemmas.List.{drop_all}
+use Rattle.list_laws.proofs.Items.{drop_from}
 use Rattle.net_base.specs.declared.numbers.Tag.{Tag}
 use Rattle.path_words.specs.declared.case.Case.{Case}
 use Rattle.graph_base.specs.declared.graph.Prefs.{Prefs}
 use Rattle.graph_base.specs.Graphs.{PlainGraph}
-use Rattle.config_base.specs.Made.{PlainCaseEvidence}
+use Rattle.evidence_base.specs.Made.{PlainCaseEvidence}
 use Rattle.config_made.specs.declared.hop.Hop.{Hop}
 use Rattle.config_made.specs.declared.hop.Announced.{Announced}
 use Rattle.config_made.specs.Conditions.{IsWhole}
@@ -38,19 +38,13 @@ evidence-short (c ∷ cs) (g ∷ gs) [] ts = omega arith
 evidence-short (c ∷ cs) (g ∷ gs) (p ∷ ps) [] = omega arith
 evidence-short (c ∷ cs) (g ∷ gs) (p ∷ ps) (t ∷ ts) = omega (arith, evidence-short cs gs ps ts)
 
-pub case_at : {A : Type 0} (cs : List A) (i : ℕ) → i < length cs → (c : A) × (slice_get cs i ≡ Some c)
-case_at cs i within = elim (slice_get_cases cs i).1 [ inl t ↦ (t.0, t.2) | inr t ↦ absurd (omega arith) ]
-
-drop_at : {A : Type 0} (xs : List A) (i : ℕ) (x : A) → slice_get xs i ≡ Some x → drop i xs ≡ x ∷ drop (i + 1) xs
-drop_at xs i x at = drop_more xs i x (slice_get_within xs i x at) ∙ ap (λ y. y ∷ drop (i + 1) xs) (get_or_from_slice_get xs i x x at)
-
 module _ (cs : List Case) (gs : List PlainGraph) (ps : List Prefs) (ts : List (List Tag)) where
   abbrev all : List PlainCaseEvidence
   all = evidence_of cs gs ps ts
 
   module _ (i : ℕ) (c : Case) (g : PlainGraph) (p : Prefs) (t : List Tag) (at_c : slice_get cs i ≡ Some c) (at_g : slice_get gs i ≡ Some g) (at_p : slice_get ps i ≡ Some p) (at_t : slice_get ts i ≡ Some t) where
     rest : drop i all ≡ one c g p t ∷ drop (i + 1) all
-    rest = drop_at all i (one c g p t) (evidence-at cs gs ps ts i c g p t at_c at_g at_p at_t)
+    rest = drop_from all i (one c g p t) (evidence-at cs gs ps ts i c g p t at_c at_g at_p at_t)
 
     pub whole-at : ((k : ℕ) (e : PlainCaseEvidence) → slice_get all k ≡ Some e → IsWhole e) → IsWhole (one c g p t)
     whole-at whole = whole i (one c g p t) (evidence-at cs gs ps ts i c g p t at_c at_g at_p at_t)

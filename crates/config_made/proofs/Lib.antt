@@ -3,9 +3,9 @@ pub mod CaseClasses
 pub mod Finish
 pub mod Gathering
 pub mod Made
-pub mod Members
 pub mod Numbered
 pub mod Runs
 pub mod Settling
 pub mod Sites
 pub mod Whole
+pub mod OneConfiguration

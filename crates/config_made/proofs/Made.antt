@@ -6,22 +6,24 @@ use Rattle.net_base.specs.Numbers.{no_tag}
 use Rattle.net_base.specs.Network.{PlainNet, is_peer}
 use Rattle.net_base.specs.Prefixes.{PlainPrefix}
 use Rattle.graph_base.specs.Graphs.{PlainGraph, IsGraph}
-use Rattle.graph_base.specs.Runs.{place_of, is_start, has_step}
+use Rattle.graph_base.specs.Runs.{place_of, is_listener, is_start, has_step}
 use Rattle.config_base.specs.declared.config.Rule.{Rule}
 use Rattle.config_base.specs.declared.config.Export.{Export}
 use Rattle.config_base.specs.declared.config.Own.{Own}
-use Rattle.config_base.specs.Made.{PlainCaseEvidence, number_at, tag_at, case_at, IsIn, IsStep, IsExportTo, IsImportFrom, IsOwnAt, AreTags}
+use Rattle.evidence_base.specs.Made.{PlainCaseEvidence, number_at, tag_at, case_at, IsStep, IsExportTo, IsImportFrom, IsOwnAt, AreTags}
+use Rattle.list_laws.specs.Members.{IsIn}
+use Rattle.list_laws.proofs.Members.{AllByRecursion-IsIn, IsIn-append_cases, IsIn-append_left, IsIn-append_right, IsIn-filter, IsIn-filter_parts, IsIn-flat_map, IsIn-flat_map_parts, IsIn-map, IsIn-map_parts, list_any-from_IsIn, list_any_member}
 use Rattle.config_made.specs.declared.hop.Hop.{Hop}
 use Rattle.config_made.specs.declared.hop.Announced.{Announced}
+use Rattle.config_made.specs.Conditions.{IsSingle}
 use Rattle.config_made.specs.Hops.{tag_in, hop_of, hops_from, announced_of, announced_at, announced_by, announced_from, goes, stands}
 use Rattle.config_made.specs.Writing.{export_line, import_line, own_line}
-use Rattle.config_made.proofs.Members.{in-append, in-front, in-back, map-in, in-map, in-filter, filter-in, in-flat_map, flat_map-in, any-in, in-any, each_of}
 
 -- ---- steps
 
 pub step_in : (g : PlainGraph) (n m : ℕ) → has_step g n m ≡ true → IsIn g.steps (n, m)
 step_in g n m h =
-    let found = any-in (λ (s : ℕ × ℕ). s.0 == n && s.1 == m) g.steps h in
+    let found = list_any_member (λ (s : ℕ × ℕ). s.0 == n && s.1 == m) g.steps h in
     let parts = and_parts (found.0.0 == n) (found.0.1 == m) found.2 in
     let from : found.0.0 ≡ n = eqb-true _ _ parts.0 in
     let to : found.0.1 ≡ m = eqb-true _ _ parts.1 in
@@ -29,15 +31,15 @@ step_in g n m h =
     subst (IsIn g.steps) same found.1
 
 pub in_step : (g : PlainGraph) (s : ℕ × ℕ) → IsIn g.steps s → has_step g s.0 s.1 ≡ true
-in_step g s at = in-any (λ (t : ℕ × ℕ). t.0 == s.0 && t.1 == s.1) g.steps s at (and_from _ _ (eq-eqb s.0 s.0 refl) (eq-eqb s.1 s.1 refl))
+in_step g s at = list_any-from_IsIn (λ (t : ℕ × ℕ). t.0 == s.0 && t.1 == s.1) g.steps s at (and_from _ _ (eq-eqb s.0 s.0 refl) (eq-eqb s.1 s.1 refl))
 
 pub start_in : (g : PlainGraph) (n : ℕ) → is_start g n ≡ true → IsIn g.starts n
 start_in g n h =
-    let found = any-in (λ s. s == n) g.starts h in
+    let found = list_any_member (λ s. s == n) g.starts h in
     subst (IsIn g.starts) (eqb-true found.0 n found.2) found.1
 
 pub in_start : (g : PlainGraph) (n : ℕ) → IsIn g.starts n → is_start g n ≡ true
-in_start g n at = in-any (λ s. s == n) g.starts n at (eq-eqb n n refl)
+in_start g n at = list_any-from_IsIn (λ s. s == n) g.starts n at (eq-eqb n n refl)
 
 -- a class with a case is a number from 1
 pub class_place : (cs : List PlainCaseEvidence) (class : ℕ) (c : PlainCaseEvidence) → case_at cs class ≡ Some c → (k : ℕ) × (class ≡ suc k) × (slice_get cs k ≡ Some c)
@@ -62,9 +64,9 @@ hop class c s = hop_of class c.graph c.numbers c.tags s
 hops_of_case : (k : ℕ) (cs : List PlainCaseEvidence) (h : Hop) → IsIn (hops_from k cs) h
     → (i : ℕ) × (c : PlainCaseEvidence) × (s : ℕ × ℕ) × (slice_get cs i ≡ Some c) × IsIn c.graph.steps s × (hop (k + i) c s ≡ h)
 hops_of_case k [] h at = absurd (let gone : slice_get [] at.0 ≡ Some h = at.1 in cc)
-hops_of_case k (c ∷ cs) h at = elim (in-append (map (hop k c) c.graph.steps) (hops_from (k + 1) cs) h at) [
+hops_of_case k (c ∷ cs) h at = elim (IsIn-append_cases (map (hop k c) c.graph.steps) (hops_from (k + 1) cs) h at) [
   | inl t ↦
-      let found = in-map (hop k c) c.graph.steps h t in
+      let found = IsIn-map_parts (hop k c) c.graph.steps h t in
       let same : k + 0 ≡ k = omega arith in
       (0, c, found.0, refl, found.1, ap (λ class. hop class c found.0) same ∙ found.2)
   | inr t ↦
@@ -78,13 +80,13 @@ hops_with_case k [] i c s at step = absurd cc
 hops_with_case k (d ∷ cs) zero c s at step =
     let is : d ≡ c = cc in
     let same : k ≡ k + 0 = omega arith in
-    let here = map-in (hop k c) c.graph.steps s step in
+    let here = IsIn-map (hop k c) c.graph.steps s step in
     let there : IsIn (map (hop k d) d.graph.steps) (hop k c s) = subst (λ e. IsIn (map (hop k e) e.graph.steps) (hop k c s)) (sym is) here in
-    subst (λ class. IsIn (hops_from k (d ∷ cs)) (hop class c s)) same (in-front (map (hop k d) d.graph.steps) (hops_from (k + 1) cs) (hop k c s) there)
+    subst (λ class. IsIn (hops_from k (d ∷ cs)) (hop class c s)) same (IsIn-append_left (map (hop k d) d.graph.steps) (hops_from (k + 1) cs) (hop k c s) there)
 hops_with_case k (d ∷ cs) (suc i) c s at step =
     let same : k + 1 + i ≡ k + suc i = omega arith in
     let later = hops_with_case (k + 1) cs i c s at step in
-    subst (λ class. IsIn (hops_from k (d ∷ cs)) (hop class c s)) same (in-back (map (hop k d) d.graph.steps) (hops_from (k + 1) cs) (hop (k + 1 + i) c s) later)
+    subst (λ class. IsIn (hops_from k (d ∷ cs)) (hop class c s)) same (IsIn-append_right (map (hop k d) d.graph.steps) (hops_from (k + 1) cs) (hop (k + 1 + i) c s) later)
 
 pub hop_made : (cs : List PlainCaseEvidence) (h : Hop) → IsIn (hops_from 1 cs) h → IsHop cs h
 hop_made cs h at =
@@ -133,10 +135,10 @@ all_of k c = announced_by k c.case.prefixes c.graph c.tags
 announced_of_case : (k : ℕ) (cs : List PlainCaseEvidence) (a : Announced) → IsIn (announced_from k cs) a
     → (i : ℕ) × (c : PlainCaseEvidence) × (n : ℕ) × (p : PlainPrefix) × (slice_get cs i ≡ Some c) × IsIn c.graph.starts n × IsIn c.case.prefixes p × (announced (k + i) c n p ≡ a)
 announced_of_case k [] a at = absurd (let gone : slice_get [] at.0 ≡ Some a = at.1 in cc)
-announced_of_case k (c ∷ cs) a at = elim (in-append (all_of k c) (announced_from (k + 1) cs) a at) [
+announced_of_case k (c ∷ cs) a at = elim (IsIn-append_cases (all_of k c) (announced_from (k + 1) cs) a at) [
   | inl t ↦
-      let start = in-flat_map (announced_at k c.case.prefixes c.graph c.tags) c.graph.starts a t in
-      let found = in-map (announced k c start.0) c.case.prefixes a start.2 in
+      let start = IsIn-flat_map_parts (announced_at k c.case.prefixes c.graph c.tags) c.graph.starts a t in
+      let found = IsIn-map_parts (announced k c start.0) c.case.prefixes a start.2 in
       let same : k + 0 ≡ k = omega arith in
       (0, c, start.0, found.0, refl, start.1, found.1, ap (λ class. announced class c start.0 found.0) same ∙ found.2)
   | inr t ↦
@@ -152,13 +154,13 @@ announced_with_case k (d ∷ cs) zero c n p at start prefix =
     let is : d ≡ c = cc in
     let same : k ≡ k + 0 = omega arith in
     let here : IsIn (all_of k c) (announced k c n p) =
-    flat_map-in (announced_at k c.case.prefixes c.graph c.tags) c.graph.starts n (announced k c n p) start (map-in (announced k c n) c.case.prefixes p prefix) in
+    IsIn-flat_map (announced_at k c.case.prefixes c.graph c.tags) c.graph.starts n (announced k c n p) start (IsIn-map (announced k c n) c.case.prefixes p prefix) in
     let there : IsIn (all_of k d) (announced k c n p) = subst (λ e. IsIn (all_of k e) (announced k c n p)) (sym is) here in
-    subst (λ class. IsIn (announced_from k (d ∷ cs)) (announced class c n p)) same (in-front (all_of k d) (announced_from (k + 1) cs) (announced k c n p) there)
+    subst (λ class. IsIn (announced_from k (d ∷ cs)) (announced class c n p)) same (IsIn-append_left (all_of k d) (announced_from (k + 1) cs) (announced k c n p) there)
 announced_with_case k (d ∷ cs) (suc i) c n p at start prefix =
     let same : k + 1 + i ≡ k + suc i = omega arith in
     let later = announced_with_case (k + 1) cs i c n p at start prefix in
-    subst (λ class. IsIn (announced_from k (d ∷ cs)) (announced class c n p)) same (in-back (all_of k d) (announced_from (k + 1) cs) (announced (k + 1 + i) c n p) later)
+    subst (λ class. IsIn (announced_from k (d ∷ cs)) (announced class c n p)) same (IsIn-append_right (all_of k d) (announced_from (k + 1) cs) (announced (k + 1 + i) c n p) later)
 
 pub announced_made : (cs : List PlainCaseEvidence) (a : Announced) → IsIn (announced_from 1 cs) a → IsAnnounced cs a
 announced_made cs a at =
@@ -192,22 +194,29 @@ module _ (cs : List PlainCaseEvidence) (hops : List Hop) (are : (h : Hop) → Is
   step_to x z h is e = let parts = goes_parts x z h e in record { at_class = is.step.at_class; step = is.step.step; from = is.step.from ∙ parts.0; to = is.step.to ∙ parts.1 }
 
   there : (x z : ℕ) (h : Hop) → IsHop cs h → h.from ≡ x → h.to ≡ z → IsIn (filter (goes x z) hops) h
-  there x z h is from to = filter-in (goes x z) hops h (hop_is h is) (and_from _ _ (eq-eqb h.from x from) (eq-eqb h.to z to))
+  there x z h is from to = IsIn-filter (goes x z) hops h (hop_is h is) (and_from _ _ (eq-eqb h.from x from) (eq-eqb h.to z to))
 
-  pub exports_are : (x z : ℕ) (e : Export) → IsIn (map export_line (filter (goes x z) hops)) e ↔ IsExportTo cs x z e
-  exports_are x z e = (to, from)
-    where
-      to : IsIn (map export_line (filter (goes x z) hops)) e → IsExportTo cs x z e
-      to at =
-          let line = in-map export_line (filter (goes x z) hops) e at in
-          let found = in-filter (goes x z) hops line.0 line.1 in
-          let is = is_hop line.0 found.0 in
-          subst (IsExportTo cs x z) line.2 (record { case = is.case; node = is.node; next = is.next; step = step_to x z line.0 is found.1; tag = is.tag })
+  module _ (net : PlainNet) (single : (k : ℕ) (c : PlainCaseEvidence) → slice_get cs k ≡ Some c → IsSingle net c.graph) where
+    heard : (class x z n m : ℕ) (c : PlainCaseEvidence) → IsStep cs class x z c n m → is_peer net z ≡ true → is_listener c.graph m ≡ true
+    heard class x z n m c step peer =
+        let place = class_place cs class c step.at_class in
+        (single place.0 c place.2).heard n m step.step (ap (is_peer net) step.to ∙ peer)
 
-      from : IsExportTo cs x z e → IsIn (map export_line (filter (goes x z) hops)) e
-      from is =
-          let h : Hop = record { from = x; to = z; class = e.class; tag = e.tag; set = tag_at is.case is.next; pref = number_at is.case is.next } in
-          map-in export_line (filter (goes x z) hops) h (there x z h (record { case = is.case; node = is.node; next = is.next; step = is.step; tag = is.tag; set = refl; pref = refl }) refl refl)
+    pub exports_are : (x z : ℕ) (e : Export) → IsIn (map export_line (filter (goes x z) hops)) e ↔ IsExportTo net cs x z e
+    exports_are x z e = (to, from)
+      where
+        to : IsIn (map export_line (filter (goes x z) hops)) e → IsExportTo net cs x z e
+        to at =
+            let line = IsIn-map_parts export_line (filter (goes x z) hops) e at in
+            let found = IsIn-filter_parts (goes x z) hops line.0 line.1 in
+            let is = is_hop line.0 found.0 in
+            let step = step_to x z line.0 is found.1 in
+            subst (IsExportTo net cs x z) line.2 (record { case = is.case; node = is.node; next = is.next; step = step; heard = heard line.0.class x z is.node is.next is.case step; tag = is.tag })
+
+        from : IsExportTo net cs x z e → IsIn (map export_line (filter (goes x z) hops)) e
+        from is =
+            let h : Hop = record { from = x; to = z; class = e.class; tag = e.tag; set = tag_at is.case is.next; pref = number_at is.case is.next } in
+            IsIn-map export_line (filter (goes x z) hops) h (there x z h (record { case = is.case; node = is.node; next = is.next; step = is.step; tag = is.tag; set = refl; pref = refl }) refl refl)
 
   module _ (net : PlainNet) (graphs : (k : ℕ) (c : PlainCaseEvidence) → slice_get cs k ≡ Some c → IsGraph c.graph) (tags : AreTags net cs) where
     -- what a peer sends has no tag, and so has its node
@@ -215,7 +224,7 @@ module _ (cs : List PlainCaseEvidence) (hops : List Hop) (are : (h : Hop) → Is
     bare class x z n m c step = elim (cases_Bool (is_peer net x)) [
       | inl t ↦
           let place = class_place cs class c step.at_class in
-          let within = (each_of (λ (s : ℕ × ℕ). (s.0 < length c.graph.nodes) × (s.1 < length c.graph.nodes)) c.graph.steps (n, m) (graphs place.0 c place.2).steps (step_in c.graph n m step.step)).0 in
+          let within = (AllByRecursion-IsIn (λ (s : ℕ × ℕ). (s.0 < length c.graph.nodes) × (s.1 < length c.graph.nodes)) c.graph.steps (n, m) (graphs place.0 c place.2).steps (step_in c.graph n m step.step)).0 in
           let none = tags.at_peers place.0 n c place.2 within (ap (is_peer net) step.from ∙ t) in
           rw t none
       | inr t ↦ rw t refl
@@ -226,8 +235,8 @@ module _ (cs : List PlainCaseEvidence) (hops : List Hop) (are : (h : Hop) → Is
       where
         to : IsIn (map import_line (filter (goes z x) hops)) rule → IsImportFrom net cs z x rule
         to at =
-            let line = in-map import_line (filter (goes z x) hops) rule at in
-            let found = in-filter (goes z x) hops line.0 line.1 in
+            let line = IsIn-map_parts import_line (filter (goes z x) hops) rule at in
+            let found = IsIn-filter_parts (goes z x) hops line.0 line.1 in
             let is = is_hop line.0 found.0 in
             let step = step_to z x line.0 is found.1 in
             subst (IsImportFrom net cs z x) line.2
@@ -237,7 +246,7 @@ module _ (cs : List PlainCaseEvidence) (hops : List Hop) (are : (h : Hop) → Is
         from is =
             let h : Hop = record { from = z; to = x; class = rule.class; tag = rule.tag; set = rule.set; pref = rule.pref } in
             let tag = is.tag ∙ sym (bare rule.class z x is.node is.next is.case is.step) in
-            map-in import_line (filter (goes z x) hops) h (there z x h (record { case = is.case; node = is.node; next = is.next; step = is.step; tag = tag; set = is.set; pref = is.pref }) refl refl)
+            IsIn-map import_line (filter (goes z x) hops) h (there z x h (record { case = is.case; node = is.node; next = is.next; step = is.step; tag = tag; set = is.set; pref = is.pref }) refl refl)
 
 module _ (cs : List PlainCaseEvidence) (all : List Announced) (are : (a : Announced) → IsIn all a ↔ IsIn (announced_from 1 cs) a) where
   pub is_announced : (a : Announced) → IsIn all a → IsAnnounced cs a
@@ -248,8 +257,8 @@ module _ (cs : List PlainCaseEvidence) (all : List Announced) (are : (a : Announ
     where
       to : IsIn (map own_line (filter (stands x) all)) o → IsOwnAt cs x o
       to at =
-          let line = in-map own_line (filter (stands x) all) o at in
-          let found = in-filter (stands x) all line.0 line.1 in
+          let line = IsIn-map_parts own_line (filter (stands x) all) o at in
+          let found = IsIn-filter_parts (stands x) all line.0 line.1 in
           let is = is_announced line.0 found.0 in
           subst (IsOwnAt cs x) line.2 (record { case = is.case; node = is.node; at_class = is.at_class; start = is.start; at = is.place ∙ eqb-true line.0.at x found.1; prefix = is.prefix; tag = is.tag })
 
@@ -257,4 +266,4 @@ module _ (cs : List PlainCaseEvidence) (all : List Announced) (are : (a : Announ
       from is =
           let a : Announced = record { at = x; class = o.class; prefix = o.prefix; tag = o.tag } in
           let here = made_announced cs a (record { case = is.case; node = is.node; at_class = is.at_class; start = is.start; place = is.at; prefix = is.prefix; tag = is.tag }) in
-          map-in own_line (filter (stands x) all) a (filter-in (stands x) all a ((are a).1 here) (eq-eqb x x refl))
+          IsIn-map own_line (filter (stands x) all) a (IsIn-filter (stands x) all a ((are a).1 here) (eq-eqb x x refl))

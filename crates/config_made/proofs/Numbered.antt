@@ -4,7 +4,7 @@ use Rattle.std.specs.Prelude.{slice_get, option_map}
 use Rattle.std.proofs.lemmas.Option.{slice_get_past, slice_get_read, slice_get-map}
 use Rattle.path_words.specs.Policies.{PlainPolicy, PlainStatement, PolicyLists, policy_of, plain_statement}
 use Rattle.path_words.specs.declared.policy.Statement.{Statement}
-use Rattle.config_base.specs.Made.{statement_at}
+use Rattle.evidence_base.specs.Made.{statement_at}
 
 pub statement-none : (policy : PlainPolicy) (n : ℕ) → length policy.statements < n → statement_at policy n ≡ None
 statement-none policy zero past = absurd (omega arith)

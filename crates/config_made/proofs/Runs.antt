@@ -1,84 +1,25 @@
 -- In a list in order what stands at one place is a run.
-use Rattle.std.proofs.Common.{◌≡◌, ℕ, zero, suc, ◌+◌, ◌-◌, ◌<◌, ◌≤◌, Bool, true, false, cond, List, [], ◌∷◌, length, get_or, take, drop, refl, sym, ap, ◌∙◌, subst, arith, inl, inr}
+use Rattle.std.proofs.Common.{◌≡◌, ℕ, ◌-◌, ◌<◌, ◌≤◌, Bool, true, false, List, length, take, drop, sym, ◌∙◌, arith, inl, inr}
 use Rattle.std.specs.Prelude.{◌⊎◌, ◌==◌, nat_lt, nat_le, filter}
 use Rattle.std.specs.List.Sorted.{IsStrictlySortedBy, IsPartitionedBy, IsPartitionPoint}
-use Rattle.std.specs.Ordering.{nat_cmp, ordering_then, is_eq}
-use Rattle.std.specs.declared.cmp.Ordering.{Ordering}
-use Rattle.std.specs.declared.cmp.Ordering.TheVariants.{Less, Equal, Greater}
-use Rattle.std.proofs.lemmas.Bool.{cases_Bool, cases_lt, cases_eq, and_parts, and_from, or_cases, or_left, or_right, ltb-true, ltb-false, leb-true, leb-false, lt-ltb, le-leb, eqb-true, eq-eqb, true≢false}
-use Rattle.std.proofs.lemmas.Map.Keys.{Less-from_sorted}
+use Rattle.std.specs.Ordering.{nat_cmp}
+use Rattle.std.specs.declared.cmp.Ordering.TheVariants.{Less}
+use Rattle.std.proofs.lemmas.Bool.{cases_lt, and_parts, and_from, or_cases, or_left, or_right, ltb-true, ltb-false, leb-true, leb-false, lt-ltb, le-leb, eqb-true, eq-eqb, true≢false, false_from_ne_true}
+use Rattle.list_laws.proofs.SortedRuns.{IsPartitionedBy-from_sorted, points_ordered, run_between}
+use Rattle.list_laws.proofs.Orders.{nat_cmp-Equal, nat_cmp-Less, ordering_then-Less}
 use Rattle.config_made.specs.declared.hop.Hop.{Hop}
 use Rattle.config_made.specs.declared.hop.Announced.{Announced}
 use Rattle.config_made.specs.Hops.{hop_order, announced_order, goes, stands, is_before, is_upto}
-use Rattle.config_made.proofs.Settling.{number}
-
--- ---- a run by its ends
-
-filter_run : {A : Type 0} (p : A → Bool) (xs : List A) (i n : ℕ) → ((k : ℕ) (d : A) → k < i → k < length xs → p (get_or xs k d) ≡ false)
-    → ((k : ℕ) (d : A) → i ≤ k → k < i + n → k < length xs → p (get_or xs k d) ≡ true) → ((k : ℕ) (d : A) → i + n ≤ k → k < length xs → p (get_or xs k d) ≡ false)
-    → filter p xs ≡ take n (drop i xs)
-filter_run p [] zero zero before inside after = refl
-filter_run p [] zero (suc n) before inside after = refl
-filter_run p [] (suc i) zero before inside after = refl
-filter_run p [] (suc i) (suc n) before inside after = refl
-filter_run p (x ∷ xs) (suc i) n before inside after =
-    let off : p x ≡ false = before zero x (omega arith) (omega arith) in
-    rw off (filter_run p xs i n (λ k d l w. before (suc k) d (omega arith) (omega arith)) (λ k d l m w. inside (suc k) d (omega arith) (omega arith) (omega arith)) (λ k d l w. after (suc k) d (omega arith) (omega arith)))
-filter_run p (x ∷ xs) zero (suc n) before inside after =
-    let on : p x ≡ true = inside zero x (omega arith) (omega arith) (omega arith) in
-    rw on (ap (λ ys. x ∷ ys) (filter_run p xs zero n (λ k d l w. absurd (omega arith)) (λ k d l m w. inside (suc k) d (omega arith) (omega arith) (omega arith)) (λ k d l w. after (suc k) d (omega arith) (omega arith))))
-filter_run p (x ∷ xs) zero zero before inside after =
-    let off : p x ≡ false = after zero x (omega arith) (omega arith) in
-    rw off (filter_run p xs zero zero (λ k d l w. absurd (omega arith)) (λ k d l m w. absurd (omega arith)) (λ k d l w. after (suc k) d (omega arith) (omega arith)))
-
-module _ {A : Type 0} (q r p : A → Bool) (more : (x : A) → q x ≡ true → r x ≡ true) (early : (x : A) → q x ≡ true → p x ≡ false) (late : (x : A) → r x ≡ false → p x ≡ false)
-    (within : (x : A) → q x ≡ false → r x ≡ true → p x ≡ true) (xs : List A) (i j : ℕ) (short : i ≤ length xs)
-    (start : IsPartitionPoint (λ x. q x ≡ true) (λ x. q x ≡ false) xs i) (end : IsPartitionPoint (λ x. r x ≡ true) (λ x. r x ≡ false) xs j) where
-  pub points_ordered : A → i ≤ j
-  points_ordered d = elim (cases_lt j i) [
-    | inl t ↦ absurd (true≢false (sym (more _ (start.0 j d (omega arith) t)) ∙ end.1 j d (omega arith) (omega arith)))
-    | inr t ↦ t
-  ]
-
-  pub run_between : i ≤ j → take (j - i) (drop i xs) ≡ filter p xs
-  run_between ordered =
-      sym
-      (filter_run p xs i (j - i) (λ k d l w. early _ (start.0 k d (omega arith) l))
-      (λ k d l m w. within _ (start.1 k d l w) (end.0 k d (omega arith) (omega arith))) (λ k d l w. late _ (end.1 k d (omega arith) w)))
-
-partitioned : {A : Type 0} (R : A → A → Ordering) (q : A → Bool) → ((a b : A) → R a b ≡ Less → q b ≡ true → q a ≡ true) → (xs : List A) → IsStrictlySortedBy R xs → IsPartitionedBy q xs
-partitioned R q down xs sorted i j d le within holds = elim (cases_eq i j) [
-  | inl t ↦ subst (λ k. q (get_or xs k d) ≡ true) (sym t) holds
-  | inr t ↦ down _ _ (Less-from_sorted R xs i j d sorted (omega (arith, le, t)) within) holds
-]
 
 -- ---- what stands before in the order
 
-pub then_less : (o p : Ordering) → ordering_then o p ≡ Less → (o ≡ Less) ⊎ ((o ≡ Equal) × (p ≡ Less))
-then_less Less p h = inl refl
-then_less Equal p h = inr (refl, h)
-then_less Greater p h = absurd (cc)
-
-pub less : (x y : ℕ) → nat_cmp x y ≡ Less → x < y
-less x y h = elim (cases_Bool (nat_lt x y)) [
-  | inl t ↦ ltb-true x y t
-  | inr t ↦ absurd (not_less (x == y) (sym (rw t refl) ∙ h))
-]
-  where
-    not_less : (b : Bool) → cond b Equal Greater ≡ Less → ⊥
-    not_less true e = cc
-    not_less false e = cc
-
-pub equal : (x y : ℕ) → nat_cmp x y ≡ Equal → x ≡ y
-equal x y h = number x y (ap is_eq h)
-
 -- the ends of a hop that stands before another
 pub ends_up : (a b : Hop) → hop_order a b ≡ Less → (a.from < b.from) ⊎ ((a.from ≡ b.from) × (a.to ≤ b.to))
-ends_up a b h = elim (then_less (nat_cmp a.from b.from) _ h) [
-  | inl t ↦ inl (less _ _ t)
-  | inr t ↦ elim (then_less (nat_cmp a.to b.to) _ t.1) [
-    | inl u ↦ inr (equal _ _ t.0, let below : a.to < b.to = less a.to b.to u in omega (arith, below))
-    | inr u ↦ inr (equal _ _ t.0, let same : a.to ≡ b.to = equal a.to b.to u.0 in omega (arith, same))
+ends_up a b h = elim (ordering_then-Less (nat_cmp a.from b.from) _ h) [
+  | inl t ↦ inl (nat_cmp-Less _ _ t)
+  | inr t ↦ elim (ordering_then-Less (nat_cmp a.to b.to) _ t.1) [
+    | inl u ↦ inr (nat_cmp-Equal _ _ t.0, let below : a.to < b.to = nat_cmp-Less a.to b.to u in omega (arith, below))
+    | inr u ↦ inr (nat_cmp-Equal _ _ t.0, let same : a.to ≡ b.to = nat_cmp-Equal a.to b.to u.0 in omega (arith, same))
   ]
 ]
 
@@ -121,26 +62,22 @@ upto_down from to a b up h = upto-from from to a (elim (ends_up a b up) [
 goes-parts : (from to : ℕ) (h : Hop) → goes from to h ≡ true → (h.from ≡ from) × (h.to ≡ to)
 goes-parts from to h e = let parts = and_parts (h.from == from) (h.to == to) e in (eqb-true _ _ parts.0, eqb-true _ _ parts.1)
 
-false_since : (b : Bool) → (b ≡ true → ⊥) → b ≡ false
-false_since true h = absurd (h refl)
-false_since false h = refl
-
 module _ (from to : ℕ) (hops : List Hop) (sorted : IsStrictlySortedBy hop_order hops) where
   pub before_parts : IsPartitionedBy (is_before from to) hops
-  before_parts = partitioned hop_order (is_before from to) (before_down from to) hops sorted
+  before_parts = IsPartitionedBy-from_sorted hop_order (is_before from to) (before_down from to) hops sorted
 
   pub upto_parts : IsPartitionedBy (is_upto from to) hops
-  upto_parts = partitioned hop_order (is_upto from to) (upto_down from to) hops sorted
+  upto_parts = IsPartitionedBy-from_sorted hop_order (is_upto from to) (upto_down from to) hops sorted
 
 more_hops : (from to : ℕ) (h : Hop) → is_before from to h ≡ true → is_upto from to h ≡ true
 more_hops from to h e = upto-from from to h (elim (before-by from to h e) [ inl t ↦ inl t | inr t ↦ inr (t.0, omega (arith, t.1)) ])
 
 early_hop : (from to : ℕ) (h : Hop) → is_before from to h ≡ true → goes from to h ≡ false
-early_hop from to h e = false_since _ (λ g. let parts = goes-parts from to h g in
+early_hop from to h e = false_from_ne_true _ (λ g. let parts = goes-parts from to h g in
     elim (before-by from to h e) [ inl t ↦ omega (arith, t, parts.0) | inr t ↦ omega (arith, t.1, parts.1) ])
 
 late_hop : (from to : ℕ) (h : Hop) → is_upto from to h ≡ false → goes from to h ≡ false
-late_hop from to h e = false_since _ (λ g. let parts = goes-parts from to h g in true≢false (sym (upto-from from to h (inr (parts.0, omega (arith, parts.1)))) ∙ e))
+late_hop from to h e = false_from_ne_true _ (λ g. let parts = goes-parts from to h g in true≢false (sym (upto-from from to h (inr (parts.0, omega (arith, parts.1)))) ∙ e))
 
 within_hop : (from to : ℕ) (h : Hop) → is_before from to h ≡ false → is_upto from to h ≡ true → goes from to h ≡ true
 within_hop from to h e u = elim (upto-by from to h u) [
@@ -164,9 +101,9 @@ module _ (from to : ℕ) (hops : List Hop) (i j : ℕ) (short : i ≤ length hop
 -- ---- the same for what is announced
 
 at_up : (a b : Announced) → announced_order a b ≡ Less → a.at ≤ b.at
-at_up a b h = elim (then_less (nat_cmp a.at b.at) _ h) [
-  | inl t ↦ let below : a.at < b.at = less a.at b.at t in omega (arith, below)
-  | inr t ↦ let same : a.at ≡ b.at = equal a.at b.at t.0 in omega (arith, same)
+at_up a b h = elim (ordering_then-Less (nat_cmp a.at b.at) _ h) [
+  | inl t ↦ let below : a.at < b.at = nat_cmp-Less a.at b.at t in omega (arith, below)
+  | inr t ↦ let same : a.at ≡ b.at = nat_cmp-Equal a.at b.at t.0 in omega (arith, same)
 ]
 
 abbrev pub below_place : ℕ → Announced → Bool
@@ -177,19 +114,19 @@ upto_place at a = nat_le a.at at
 
 module _ (at : ℕ) (all : List Announced) (sorted : IsStrictlySortedBy announced_order all) where
   pub below_parts : IsPartitionedBy (below_place at) all
-  below_parts = partitioned announced_order (below_place at) (λ a b up h. lt-ltb a.at at (omega (arith, at_up a b up, ltb-true b.at at h))) all sorted
+  below_parts = IsPartitionedBy-from_sorted announced_order (below_place at) (λ a b up h. lt-ltb a.at at (omega (arith, at_up a b up, ltb-true b.at at h))) all sorted
 
   pub upto_place_parts : IsPartitionedBy (upto_place at) all
-  upto_place_parts = partitioned announced_order (upto_place at) (λ a b up h. le-leb a.at at (omega (arith, at_up a b up, leb-true b.at at h))) all sorted
+  upto_place_parts = IsPartitionedBy-from_sorted announced_order (upto_place at) (λ a b up h. le-leb a.at at (omega (arith, at_up a b up, leb-true b.at at h))) all sorted
 
 more_places : (at : ℕ) (a : Announced) → below_place at a ≡ true → upto_place at a ≡ true
 more_places at a h = le-leb a.at at (omega (arith, ltb-true a.at at h))
 
 early_place : (at : ℕ) (a : Announced) → below_place at a ≡ true → stands at a ≡ false
-early_place at a h = false_since _ (λ g. omega (arith, ltb-true a.at at h, eqb-true a.at at g))
+early_place at a h = false_from_ne_true _ (λ g. omega (arith, ltb-true a.at at h, eqb-true a.at at g))
 
 late_place : (at : ℕ) (a : Announced) → upto_place at a ≡ false → stands at a ≡ false
-late_place at a h = false_since _ (λ g. omega (arith, leb-false a.at at h, eqb-true a.at at g))
+late_place at a h = false_from_ne_true _ (λ g. omega (arith, leb-false a.at at h, eqb-true a.at at g))
 
 within_place : (at : ℕ) (a : Announced) → below_place at a ≡ false → upto_place at a ≡ true → stands at a ≡ true
 within_place at a h u = eq-eqb a.at at (omega (arith, ltb-false a.at at h, leb-true a.at at u))

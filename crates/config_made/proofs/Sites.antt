@@ -5,19 +5,17 @@ use Rattle.std.specs.Option.{option_map_or}
 use Rattle.std.specs.List.{AllByRecursion, IsDistinct}
 use Rattle.std.specs.List.Sorted.{IsStrictlySortedBy}
 use Rattle.std.specs.Ordering.{nat_cmp}
-use Rattle.std.specs.declared.cmp.Ordering.TheVariants.{Less}
 use Rattle.std.proofs.lemmas.Bool.{cases_Bool, cases_lt, and_parts, and_from, ltb-true, leb-true, le-leb, lt-ltb, true≢false}
 use Rattle.std.proofs.lemmas.List.{length-map, length_push, get_or_append_left, get_or_push}
 use Rattle.std.proofs.lemmas.List.Kept.{IsStrictlySortedBy-filter}
-use Rattle.std.proofs.lemmas.Map.Keys.{sorted_head, sorted_tail, sorted_from_strictly_increasing, apart_from_distinct}
+use Rattle.std.proofs.lemmas.Map.Keys.{sorted_from_strictly_increasing, apart_from_distinct}
 use Rattle.std.proofs.lemmas.Option.{slice_get_within, slice_get_cases, get_or_from_slice_get}
 use Rattle.net_base.specs.declared.net.Site.{Site}
 use Rattle.net_base.specs.Numbers.{is_router_as, is_peer_as}
 use Rattle.net_base.specs.Network.{PlainNet, IsNet, sites, site_of, is_peer, is_location, asn_of, id_of, linked}
-use Rattle.graph_base.specs.Locations.{numbers_below, in_order, neighbours}
-use Rattle.config_base.specs.Made.{IsIn}
-use Rattle.config_made.proofs.Members.{each_in, in-filter}
-use Rattle.config_made.proofs.Runs.{less}
+use Rattle.net_base.specs.Locations.{numbers_below, in_order, neighbours}
+use Rattle.list_laws.specs.Members.{IsIn}
+use Rattle.list_laws.proofs.Members.{AllByRecursion-from_IsIn, IsIn-filter_parts}
 
 -- ---- numbers in order
 
@@ -45,29 +43,18 @@ sorted_numbers n = sorted_from_strictly_increasing (numbers_below n) (λ k withi
     omega (arith, this, next))
 
 pub low_numbers : (n : ℕ) → AllByRecursion (λ z. z < n) (numbers_below n)
-low_numbers n = each_in (λ z. z < n) (numbers_below n) (λ z at. let got = number_got n at.0 z at.1 in omega (arith, got.0, got.1))
+low_numbers n = AllByRecursion-from_IsIn (λ z. z < n) (numbers_below n) (λ z at. let got = number_got n at.0 z at.1 in omega (arith, got.0, got.1))
 
 pub sorted_neighbours : (net : PlainNet) (x : ℕ) → IsStrictlySortedBy nat_cmp (neighbours net x)
 sorted_neighbours net x = IsStrictlySortedBy-filter nat_cmp (linked net x) (in_order net) (sorted_numbers (length net.routers + length net.peers))
 
 pub neighbour_known : (net : PlainNet) (x z : ℕ) → IsIn (neighbours net x) z → z < length net.routers + length net.peers
 neighbour_known net x z at =
-    let found = (in-filter (linked net x) (in_order net) z at).0 in
+    let found = (IsIn-filter_parts (linked net x) (in_order net) z at).0 in
     let got = number_got (length net.routers + length net.peers) found.0 z found.1 in
     omega (arith, got.0, got.1)
 
 -- ---- keys of different locations differ
-
-apart_all : {K : Type 0} (e : K → K → Bool) (f : ℕ → K) (n x : ℕ) (zs : List ℕ) → AllByRecursion (λ z. nat_cmp x z ≡ Less) zs → AllByRecursion (λ z. z < n) zs
-    → ((a b : ℕ) → a < b → b < n → e (f a) (f b) ≡ false) → AllByRecursion (λ k. e (f x) k ≡ false) (map f zs)
-apart_all e f n x [] above low apart = tt
-apart_all e f n x (z ∷ zs) above low apart = (apart x z (less x z above.0) low.0, apart_all e f n x zs above.1 low.1 apart)
-
-pub distinct_keys : {K : Type 0} (e : K → K → Bool) (f : ℕ → K) (n : ℕ) (zs : List ℕ) → IsStrictlySortedBy nat_cmp zs → AllByRecursion (λ z. z < n) zs
-    → ((a b : ℕ) → a < b → b < n → e (f a) (f b) ≡ false) → IsDistinct e (map f zs)
-unfolding IsDistinct
-distinct_keys e f n [] sorted low apart = tt
-distinct_keys e f n (z ∷ zs) sorted low apart = (apart_all e f n z zs (sorted_head nat_cmp z zs sorted) low.1 apart, distinct_keys e f n zs (sorted_tail nat_cmp z zs sorted) low.1 apart)
 
 keyed : {K : Type 0} (key : Site → K) (xs : List Site) (i : ℕ) (d : K) → option_map_or key (slice_get xs i) d ≡ get_or (map key xs) i d
 keyed key [] i d = refl

@@ -16,24 +16,26 @@ use Rattle.net_base.specs.Prefixes.{PlainPattern}
 use Rattle.net_base.specs.Network.{PlainNet, IsNet, is_peer, asn_of, id_of}
 use Rattle.path_words.specs.Policies.{PlainPolicy}
 use Rattle.graph_base.specs.Graphs.{IsGraph}
-use Rattle.graph_base.specs.Locations.{numbers_below, neighbours}
+use Rattle.net_base.specs.Locations.{numbers_below, neighbours}
 use Rattle.graph_base.specs.Runs.{place_of}
 use Rattle.config_base.specs.declared.config.RouterConfig.{RouterConfig}
 use Rattle.config_base.specs.declared.config.Session.{Session}
 use Rattle.config_base.specs.declared.config.Rule.{Rule}
 use Rattle.config_base.specs.declared.config.Export.{Export}
 use Rattle.config_base.specs.Configs.{Ascend, tag_key, own_key, IsClass, HasTag, IsImport, IsExport, IsOwn, IsSession, IsRouter, IsConfig}
-use Rattle.config_base.specs.Made.{PlainCaseEvidence, tag_at, case_at, patterns_of, IsIn, AreBlocks, IsBlock, IsRouterBlock, IsConfigOf, AreTags}
+use Rattle.evidence_base.specs.Made.{PlainCaseEvidence, tag_at, case_at, patterns_of, AreBlocks, IsBlock, IsRouterBlock, IsConfigOf, AreTags}
+use Rattle.list_laws.specs.Members.{IsIn}
+use Rattle.list_laws.proofs.Members.{AllByRecursion-from_IsIn, Contains-from_IsIn, IsIn-filter_parts, IsIn-map_parts}
+use Rattle.list_laws.proofs.Changed.{map-map}
+use Rattle.list_laws.proofs.Keys.{IsDistinct-sorted_keys}
 use Rattle.config_made.specs.declared.hop.Hop.{Hop}
 use Rattle.config_made.specs.declared.hop.Announced.{Announced}
 use Rattle.config_made.specs.Conditions.{IsSingle}
 use Rattle.config_made.specs.Hops.{HasPref, hop_order, announced_order, hops_from, announced_from, goes, stands}
 use Rattle.config_made.specs.Writing.{export_line, import_line, own_line, name_of, session_of, router_of, routers_of}
-use Rattle.config_made.proofs.Members.{each_in, in-map, in-filter}
 use Rattle.config_made.proofs.Made.{IsAnnounced, class_place, goes_parts, is_hop, is_announced, exports_are, imports_are, own_are}
-use Rattle.config_made.proofs.Ascending.{ascends, map_map, IsBetween, hop_up, announced_up, step_within, start_within}
-use Rattle.config_made.proofs.Settling.{contained}
-use Rattle.config_made.proofs.Sites.{length_numbers, number_got, sorted_numbers, low_numbers, sorted_neighbours, neighbour_known, distinct_keys, apart_sites, site_at, router_number, identifier_fits, router_no_peer, number_fits}
+use Rattle.config_made.proofs.Ascending.{ascends, IsBetween, hop_up, announced_up, step_within, start_within}
+use Rattle.config_made.proofs.Sites.{length_numbers, number_got, sorted_numbers, low_numbers, sorted_neighbours, neighbour_known, apart_sites, site_at, router_number, identifier_fits, router_no_peer, number_fits}
 
 module _ (net : PlainNet) (rules : IsNet net) (cs : List PlainCaseEvidence) (count : ℕ) (few : length cs ≤ count)
     (graphs : (k : ℕ) (c : PlainCaseEvidence) → slice_get cs k ≡ Some c → IsGraph c.graph) (single : (k : ℕ) (c : PlainCaseEvidence) → slice_get cs k ≡ Some c → IsSingle net c.graph) (tags : AreTags net cs)
@@ -54,12 +56,18 @@ module _ (net : PlainNet) (rules : IsNet net) (cs : List PlainCaseEvidence) (cou
   -- ---- the lines between two locations
 
   between : (x z : ℕ) → AllByRecursion (IsBetween net cs graphs single tags x z) (filter (goes x z) hops)
-  between x z = each_in (IsBetween net cs graphs single tags x z) (filter (goes x z) hops) (λ h at. let found = in-filter (goes x z) hops h at in (is_hop cs hops hops_are h found.0, found.1))
+  between x z = AllByRecursion-from_IsIn (IsBetween net cs graphs single tags x z) (filter (goes x z) hops) (λ h at. let found = IsIn-filter_parts (goes x z) hops h at in (is_hop cs hops hops_are h found.0, found.1))
 
   hops_ascend : (x z : ℕ) → Ascend (map (λ (h : Hop). tag_key h.class h.tag) (filter (goes x z) hops))
   hops_ascend x z =
       ascends (λ (h : Hop). tag_key h.class h.tag) (IsBetween net cs graphs single tags x z) hop_order (hop_up net cs graphs single tags x z) (filter (goes x z) hops) (between x z)
       (IsStrictlySortedBy-filter hop_order (goes x z) hops hops_up)
+
+  imports_ascend : (x z : ℕ) → Ascend (map (λ (r : Rule). tag_key r.class r.tag) (map import_line (filter (goes x z) hops)))
+  imports_ascend x z = subst Ascend (sym (map-map (λ (r : Rule). tag_key r.class r.tag) import_line (filter (goes x z) hops))) (hops_ascend x z)
+
+  exports_ascend : (x z : ℕ) → Ascend (map (λ (e : Export). tag_key e.class e.tag) (map export_line (filter (goes x z) hops)))
+  exports_ascend x z = subst Ascend (sym (map-map (λ (e : Export). tag_key e.class e.tag) export_line (filter (goes x z) hops))) (hops_ascend x z)
 
   -- the tag of a node at a router is a tag
   tag_fits : (l class n : ℕ) (c : PlainCaseEvidence) → case_at cs class ≡ Some c → n < length c.graph.nodes → place_of c.graph n ≡ l → is_peer net l ≡ false → is_tag (tag_at c n) ≡ true
@@ -95,21 +103,21 @@ module _ (net : PlainNet) (rules : IsNet net) (cs : List PlainCaseEvidence) (cou
       (class_fits h.class is.case is.step.at_class, ap is_tag is.tag ∙ tag_fits x h.class is.node is.case is.step.at_class within.0 (is.step.from ∙ ends.0) (router_no_peer net rules x at_router))
 
   pref_fits : (h : Hop) → IsIn hops h → HasPref h
-  pref_fits h at = All-contains HasPref (hops_from 1 cs) h fits (contained (hops_from 1 cs) h ((hops_are h).0 at))
+  pref_fits h at = All-contains HasPref (hops_from 1 cs) h fits (Contains-from_IsIn (hops_from 1 cs) h ((hops_are h).0 at))
 
   session_kept : (x z : ℕ) → x < routers → z < total → IsSession count (session_of net hops x z)
   session_kept x z at_router known = record {
     number = number_fits net rules z known;
-    imports = each_in (IsImport count (session_of net hops x z)) (map import_line (filter (goes z x) hops)) (λ rule at.
-        let line = in-map import_line (filter (goes z x) hops) rule at in
-        let found = in-filter (goes z x) hops line.0 line.1 in
+    imports = AllByRecursion-from_IsIn (IsImport count (session_of net hops x z)) (map import_line (filter (goes z x) hops)) (λ rule at.
+        let line = IsIn-map_parts import_line (filter (goes z x) hops) rule at in
+        let found = IsIn-filter_parts (goes z x) hops line.0 line.1 in
         subst (IsImport count (session_of net hops x z)) line.2 (import_fits x z at_router line.0 (is_hop cs hops hops_are line.0 found.0, found.1) (pref_fits line.0 found.0)));
-    import_order = subst Ascend (sym (map_map (λ (r : Rule). tag_key r.class r.tag) import_line (filter (goes z x) hops))) (hops_ascend z x);
-    exports = each_in (IsExport count) (map export_line (filter (goes x z) hops)) (λ e at.
-        let line = in-map export_line (filter (goes x z) hops) e at in
-        let found = in-filter (goes x z) hops line.0 line.1 in
+    import_order = imports_ascend z x;
+    exports = AllByRecursion-from_IsIn (IsExport count) (map export_line (filter (goes x z) hops)) (λ e at.
+        let line = IsIn-map_parts export_line (filter (goes x z) hops) e at in
+        let found = IsIn-filter_parts (goes x z) hops line.0 line.1 in
         subst (IsExport count) line.2 (export_fits x z at_router line.0 (is_hop cs hops hops_are line.0 found.0, found.1)));
-    export_order = subst Ascend (sym (map_map (λ (e : Export). tag_key e.class e.tag) export_line (filter (goes x z) hops))) (hops_ascend x z);
+    export_order = exports_ascend x z;
   }
 
   -- ---- the block of a router
@@ -124,7 +132,13 @@ module _ (net : PlainNet) (rules : IsNet net) (cs : List PlainCaseEvidence) (cou
   Stands x a = IsAnnounced cs a × (stands x a ≡ true)
 
   standing : (x : ℕ) → AllByRecursion (Stands x) (filter (stands x) all)
-  standing x = each_in (Stands x) (filter (stands x) all) (λ a at. let found = in-filter (stands x) all a at in (is_announced cs all all_are a found.0, found.1))
+  standing x = AllByRecursion-from_IsIn (Stands x) (filter (stands x) all) (λ a at. let found = IsIn-filter_parts (stands x) all a at in (is_announced cs all all_are a found.0, found.1))
+
+  own_ascend : (x : ℕ) → Ascend (map own_key (map own_line (filter (stands x) all)))
+  own_ascend x =
+      subst Ascend (sym (map-map own_key own_line (filter (stands x) all)))
+      (ascends (λ (a : Announced). record { first = a.class; second = a.prefix.bits; third = a.prefix.len }) (Stands x) announced_order (announced_up net cs graphs single tags x) (filter (stands x) all) (standing x)
+      (IsStrictlySortedBy-filter announced_order (stands x) all all_up))
 
   names_apart : (a b : ℕ) → a < b → b < total → bytes_eq (name_of net a) (name_of net b) ≡ false
   names_apart = apart_sites net bytes_eq (λ (s : Site). s.name) [] rules.names
@@ -133,25 +147,23 @@ module _ (net : PlainNet) (rules : IsNet net) (cs : List PlainCaseEvidence) (cou
   router_kept x at_router = record {
     number = router_number net rules x at_router;
     identifier = identifier_fits net rules x (omega (arith, at_router));
-    own = each_in (IsOwn count) (map own_line (filter (stands x) all)) (λ o at.
-        let line = in-map own_line (filter (stands x) all) o at in
-        let found = in-filter (stands x) all line.0 line.1 in
+    own = AllByRecursion-from_IsIn (IsOwn count) (map own_line (filter (stands x) all)) (λ o at.
+        let line = IsIn-map_parts own_line (filter (stands x) all) o at in
+        let found = IsIn-filter_parts (stands x) all line.0 line.1 in
         subst (IsOwn count) line.2 (own_fits x at_router line.0 (is_announced cs all all_are line.0 found.0) (eqb-true line.0.at x found.1)));
-    own_order = subst Ascend (sym (map_map own_key own_line (filter (stands x) all)))
-        (ascends (λ (a : Announced). record { first = a.class; second = a.prefix.bits; third = a.prefix.len }) (Stands x) announced_order (announced_up net cs graphs single tags x) (filter (stands x) all) (standing x)
-        (IsStrictlySortedBy-filter announced_order (stands x) all all_up));
-    sessions = each_in (IsSession count) (map (session_of net hops x) (neighbours net x)) (λ b at.
-        let found = in-map (session_of net hops x) (neighbours net x) b at in
+    own_order = own_ascend x;
+    sessions = AllByRecursion-from_IsIn (IsSession count) (map (session_of net hops x) (neighbours net x)) (λ b at.
+        let found = IsIn-map_parts (session_of net hops x) (neighbours net x) b at in
         subst (IsSession count) found.2 (session_kept x found.0 at_router (neighbour_known net x found.0 found.1)));
-    names = subst (IsDistinct bytes_eq) (sym (map_map (λ (s : Session). s.name) (session_of net hops x) (neighbours net x)))
-        (distinct_keys bytes_eq (name_of net) total (neighbours net x) (sorted_neighbours net x) (each_in (λ z. z < total) (neighbours net x) (neighbour_known net x)) names_apart);
+    names = subst (IsDistinct bytes_eq) (sym (map-map (λ (s : Session). s.name) (session_of net hops x) (neighbours net x)))
+        (IsDistinct-sorted_keys bytes_eq (name_of net) total (neighbours net x) (sorted_neighbours net x) (AllByRecursion-from_IsIn (λ z. z < total) (neighbours net x) (neighbour_known net x)) names_apart);
   }
 
   -- ---- all blocks
 
   each_router : (r : RouterConfig) → IsIn (routers_of net hops all) r → IsRouter count r
   each_router r at =
-      let found = in-map (router_of net hops all) (numbers_below routers) r at in
+      let found = IsIn-map_parts (router_of net hops all) (numbers_below routers) r at in
       let got = number_got routers found.1.0 found.0 found.1.1 in
       subst (IsRouter count) found.2 (router_kept found.0 (omega (arith, got.0, got.1)))
 
@@ -160,14 +172,14 @@ module _ (net : PlainNet) (rules : IsNet net) (cs : List PlainCaseEvidence) (cou
   config_kept classes long low patterns = record {
     count = omega (arith, long, low);
     patterns = patterns;
-    routers = subst (λ n. AllByRecursion (IsRouter n) (routers_of net hops all)) (sym long) (each_in (IsRouter count) (routers_of net hops all) each_router);
-    names = subst (IsDistinct bytes_eq) (sym (map_map (λ (r : RouterConfig). r.name) (router_of net hops all) (numbers_below routers)))
-        (distinct_keys bytes_eq (name_of net) routers (numbers_below routers) (sorted_numbers routers) (low_numbers routers) (λ a b less within. names_apart a b less (omega (arith, within))));
-    asns = subst (IsDistinct nat_eq) (sym (map_map (λ (r : RouterConfig). r.asn) (router_of net hops all) (numbers_below routers)))
-        (distinct_keys nat_eq (asn_of net) routers (numbers_below routers) (sorted_numbers routers) (low_numbers routers)
+    routers = subst (λ n. AllByRecursion (IsRouter n) (routers_of net hops all)) (sym long) (AllByRecursion-from_IsIn (IsRouter count) (routers_of net hops all) each_router);
+    names = subst (IsDistinct bytes_eq) (sym (map-map (λ (r : RouterConfig). r.name) (router_of net hops all) (numbers_below routers)))
+        (IsDistinct-sorted_keys bytes_eq (name_of net) routers (numbers_below routers) (sorted_numbers routers) (low_numbers routers) (λ a b less within. names_apart a b less (omega (arith, within))));
+    asns = subst (IsDistinct nat_eq) (sym (map-map (λ (r : RouterConfig). r.asn) (router_of net hops all) (numbers_below routers)))
+        (IsDistinct-sorted_keys nat_eq (asn_of net) routers (numbers_below routers) (sorted_numbers routers) (low_numbers routers)
         (λ a b less within. apart_sites net nat_eq (λ (s : Site). s.asn) 0 rules.asns a b less (omega (arith, within))));
-    ids = subst (IsDistinct nat_eq) (sym (map_map (λ (r : RouterConfig). r.id) (router_of net hops all) (numbers_below routers)))
-        (distinct_keys nat_eq (id_of net) routers (numbers_below routers) (sorted_numbers routers) (low_numbers routers)
+    ids = subst (IsDistinct nat_eq) (sym (map-map (λ (r : RouterConfig). r.id) (router_of net hops all) (numbers_below routers)))
+        (IsDistinct-sorted_keys nat_eq (id_of net) routers (numbers_below routers) (sorted_numbers routers) (low_numbers routers)
         (λ a b less within. apart_sites net nat_eq (λ (s : Site). s.id) 0 rules.ids a b less (omega (arith, within))));
   }
 
@@ -181,7 +193,9 @@ module _ (net : PlainNet) (rules : IsNet net) (cs : List PlainCaseEvidence) (cou
         asn = refl;
         peer = refl;
         imports = imports_are cs hops hops_are net graphs tags x z;
-        exports = exports_are cs hops hops_are x z;
+        import_order = imports_ascend z x;
+        exports = exports_are cs hops hops_are net single x z;
+        export_order = exports_ascend x z;
       }
 
   blocks : (x : ℕ) (zs : List ℕ) → AllByRecursion (λ z. z < total) zs → AreBlocks net cs x zs (map (session_of net hops x) zs)
@@ -197,7 +211,8 @@ module _ (net : PlainNet) (rules : IsNet net) (cs : List PlainCaseEvidence) (cou
       record {
         site = site.1 ∙ (λ i. Some (record { name = name i; asn = asn i; id = id i }));
         own = own_are cs all all_are x;
-        sessions = blocks x (neighbours net x) (each_in (λ z. z < total) (neighbours net x) (neighbour_known net x));
+        own_order = own_ascend x;
+        sessions = blocks x (neighbours net x) (AllByRecursion-from_IsIn (λ z. z < total) (neighbours net x) (neighbour_known net x));
       }
 
   pub config_of_cases : (policy : PlainPolicy) (classes : List (List PlainPattern)) → classes ≡ map (λ (c : PlainCaseEvidence). patterns_of policy c.case) cs

@@ -4,7 +4,7 @@ use Rattle.net_base.specs.declared.numbers.Tag.{Tag}
 use Rattle.path_words.specs.declared.case.Case.{Case}
 use Rattle.graph_base.specs.declared.graph.Prefs.{Prefs}
 use Rattle.graph_base.specs.Graphs.{PlainGraph}
-use Rattle.config_base.specs.Made.{PlainCaseEvidence}
+use Rattle.evidence_base.specs.Made.{PlainCaseEvidence}
 
 -- each case with its own graph, numbers and tags
 abbrev pub evidence_of : List Case → List PlainGraph → List Prefs → List (List Tag) → List PlainCaseEvidence

@@ -8,7 +8,7 @@ use Rattle.net_base.specs.Numbers.{no_tag}
 use Rattle.net_base.specs.Prefixes.{PlainPrefix}
 use Rattle.graph_base.specs.Graphs.{PlainGraph}
 use Rattle.graph_base.specs.Runs.{place_of}
-use Rattle.config_base.specs.Made.{PlainCaseEvidence}
+use Rattle.evidence_base.specs.Made.{PlainCaseEvidence}
 use Rattle.config_made.specs.declared.hop.Hop.{Hop}
 use Rattle.config_made.specs.declared.hop.Announced.{Announced}
 

@@ -1,9 +1,16 @@
--- Case lists can be made into configurations.
+-- Case lists can be made into configurations, each into one.
+use Rattle.std.specs.Prelude.{◌≡◌, List}
 use Rattle.net_base.specs.Network.{PlainNet}
 use Rattle.path_words.specs.Policies.{PlainPolicy, IsPolicy}
 use Rattle.path_words.specs.Cases.{case_list}
+use Rattle.config_base.specs.Configs.{PlainConfig}
+use Rattle.evidence_base.specs.Made.{PlainCaseEvidence, IsConfigOf}
 use Rattle.config_made.specs.Conditions.{AreClasses}
 
 -- Each case of a policy has a pattern, and a policy has fewer cases than a class has numbers.
 abbrev pub CaseListsAreClasses : Type 0
 CaseListsAreClasses = (net : PlainNet) (policy : PlainPolicy) → IsPolicy policy → AreClasses policy (case_list net policy)
+
+-- Two configurations that are made of the same cases are one.
+abbrev pub MadeConfigurationsAreOne : Type 0
+MadeConfigurationsAreOne = (net : PlainNet) (policy : PlainPolicy) (cs : List PlainCaseEvidence) (config other : PlainConfig) → IsConfigOf net policy cs config → IsConfigOf net policy cs other → config ≡ other

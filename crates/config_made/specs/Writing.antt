@@ -3,7 +3,7 @@ use Rattle.std.specs.Prelude.{ℕ, List, [], length, map, filter}
 use Rattle.std.specs.Option.{option_map_or}
 use Rattle.net_base.specs.declared.net.Site.{Site}
 use Rattle.net_base.specs.Network.{PlainNet, is_peer, asn_of, id_of, site_of}
-use Rattle.graph_base.specs.Locations.{numbers_below, neighbours}
+use Rattle.net_base.specs.Locations.{numbers_below, neighbours}
 use Rattle.config_base.specs.declared.config.RouterConfig.{RouterConfig}
 use Rattle.config_base.specs.declared.config.Session.{Session}
 use Rattle.config_base.specs.declared.config.Rule.{Rule}

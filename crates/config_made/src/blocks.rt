@@ -3,7 +3,7 @@ ghost use Rattle.std.specs.Prelude.{◌≡◌, ◌<◌, ℕ, IsTrue, IfOk, lengt
 ghost use Rattle.std.specs.List.Sorted.{IsStrictlySortedBy};
 ghost use Rattle.net_base.specs.Network.{IsNet, is_location, is_router, linked};
 ghost use Rattle.net_base.specs.Sets.{holds};
-ghost use Rattle.graph_base.specs.Locations.{neighbours};
+ghost use Rattle.net_base.specs.Locations.{neighbours};
 ghost use Rattle.config_made.specs.Hops.{goes, stands, hop_order, announced_order};
 ghost use Rattle.config_made.specs.Writing.{import_line, export_line, own_line, session_of as plain_session_of, router_of as plain_router_of, routers_of as plain_routers_of};
 

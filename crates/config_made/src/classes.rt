@@ -2,7 +2,7 @@
 ghost use Rattle.std.specs.Prelude.{◌≡◌, IfOk, map, option_map};
 ghost use Rattle.net_base.specs.Prefixes.{only};
 ghost use Rattle.path_words.specs.Policies.{policy_of, plain_statement};
-ghost use Rattle.config_base.specs.Made.{statement_at as plain_statement_at, patterns_of as plain_patterns_of};
+ghost use Rattle.evidence_base.specs.Made.{statement_at as plain_statement_at, patterns_of as plain_patterns_of};
 
 use net_base::{List, Pattern, Prefix};
 use path_words::{Case, Policy, Statement};
@@ -30,12 +30,6 @@ fn only_each(alloc: Global, prefixes: &[Prefix]) -> Result<List<Pattern>, AllocE
     Ok(patterns)
 }
 
-fn copy_of(alloc: Global, patterns: &[Pattern]) -> Result<List<Pattern>, AllocError>
-    ensures { IfOk result (λ copy. copy ≡ patterns.now) }
-{
-    Ok(List::from_vec(Vec::from_slice(alloc, patterns)?))
-}
-
 // The patterns of a case: its prefixes, or those of its statement where it's external.
 fn patterns_of(alloc: Global, policy: &Policy, case: &Case) -> Result<List<Pattern>, AllocError>
     ensures { IfOk result (λ patterns. patterns ≡ plain_patterns_of (policy_of policy.now) case.now) }
@@ -44,7 +38,7 @@ fn patterns_of(alloc: Global, policy: &Policy, case: &Case) -> Result<List<Patte
         return only_each(alloc, case.prefixes.as_slice());
     }
     match statement_at(policy, case.statement) {
-        Some(statement) => copy_of(alloc, statement.patterns.as_slice()),
+        Some(statement) => statement.patterns.copy(alloc),
         None => Ok(List::new(alloc)),
     }
 }

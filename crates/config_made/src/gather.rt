@@ -4,7 +4,7 @@ ghost use Rattle.net_base.specs.declared.numbers.Tag.{Tag as PlainTag};
 ghost use Rattle.std.specs.Prelude.{List as Items, ◌≡◌, ◌<◌, ◌^◌, ◌++◌, ℕ, IfOk, OnOk, Some, length, map, slice_get};
 ghost use Rattle.graph_base.specs.declared.graph.Prefs.{Prefs as PlainPrefs};
 ghost use Rattle.graph_base.specs.Graphs.{PlainGraph, IsGraph};
-ghost use Rattle.config_base.specs.Made.{PlainCaseEvidence};
+ghost use Rattle.evidence_base.specs.Made.{PlainCaseEvidence};
 ghost use Rattle.config_made.specs.Conditions.{IsWhole};
 ghost use Rattle.config_made.specs.Evidence.{evidence_of};
 ghost use Rattle.config_made.specs.Hops.{HasPref, hop_of as plain_hop, hops_from, announced_of, announced_at, announced_by, announced_from};
@@ -24,12 +24,11 @@ fn hop_of(class: u32, graph: &Graph, numbers: &[u32], tags: &[Tag], step: (u32, 
     ensures hop { result ≡ plain_hop class graph.now numbers.now tags.now step }
     ensures fits { result.pref < 2 ^ 32 }
 {
-    let nodes = graph.nodes();
     let from = step.0 as usize;
     let to = step.1 as usize;
     Hop {
-        from: nodes[from].loc,
-        to: nodes[to].loc,
+        from: graph.location(step.0),
+        to: graph.location(step.1),
         class,
         tag: tags[from],
         set: tags[to],
@@ -117,9 +116,13 @@ fn add_start(
     requires tags { length tags.now ≡ length graph.now.nodes }
     ensures { OnOk result (all.new.items ≡ all.old.items ++ announced_at class prefixes.now graph.now tags.now start) }
 {
-    let place = start as usize;
-    let at = graph.nodes()[place].loc;
-    add_prefixes(class, at, tags[place], prefixes, all)
+    add_prefixes(
+        class,
+        graph.location(start),
+        tags[start as usize],
+        prefixes,
+        all,
+    )
 }
 
 // What the starts of a graph announce.

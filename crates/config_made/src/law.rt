@@ -1,7 +1,12 @@
-//! What case lists keep.
-ghost use Rattle.config_made.specs.Law.{CaseListsAreClasses};
+//! What case lists keep, and that one configuration is made of them.
+ghost use Rattle.config_made.specs.Law.{CaseListsAreClasses, MadeConfigurationsAreOne};
 
 /// Each case of a policy has a pattern, and there are fewer cases than a class has numbers.
 pub fn case_lists_are_classes()
     ensures { CaseListsAreClasses }
+{}
+
+/// There is one configuration of cases with their graphs, numbers and tags.
+pub fn made_configurations_are_one()
+    ensures { MadeConfigurationsAreOne }
 {}

@@ -9,5 +9,5 @@ mod hop;
 mod law;
 mod make;
 
-pub use law::case_lists_are_classes;
+pub use law::{case_lists_are_classes, made_configurations_are_one};
 pub use make::config_of;

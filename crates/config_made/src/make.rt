@@ -1,7 +1,7 @@
 //! Configurations.
 ghost use Rattle.std.specs.Prelude.{◌≡◌, ℕ, IfOk, Some, length, slice_get};
 ghost use Rattle.path_words.specs.Policies.{policy_of};
-ghost use Rattle.config_base.specs.Made.{PlainCaseEvidence, AreTags, IsConfigOf};
+ghost use Rattle.evidence_base.specs.Made.{PlainCaseEvidence, AreTags, IsConfigOf};
 ghost use Rattle.config_made.specs.Conditions.{AreClasses, IsSingle, IsWhole};
 ghost use Rattle.config_made.specs.Evidence.{evidence_of};
 

@@ -15,8 +15,8 @@ use Rattle.config_base.specs.declared.config.Export.{Export}
 use Rattle.config_base.specs.declared.config.Own.{Own}
 use Rattle.config_base.specs.Configs.{PlainConfig}
 use Rattle.config_text.specs.ConfigText.{own_line, import_line, export_line, session_line, session_text, router_text, class_lines, config_text}
-use Rattle.config_text.proofs.Words.{number_cut, address_cut, after}
-use Rattle.config_text.proofs.Pieces.{name_cut}
+use Rattle.text_words.proofs.Words.{number_cut, address_cut, after}
+use Rattle.text_words.proofs.Pieces.{name_cut}
 use Rattle.config_text.proofs.Repeats.{list_cut, begins, any_text}
 use Rattle.config_text.proofs.Classes.{IsFullClass, classes_cut}
 use Rattle.config_text.proofs.Lines.{IsShortOwn, owns_cut, IsShortRule, imports_cut, IsShortExport, begins_export, exports_cut}

@@ -1,8 +1,8 @@
 -- A lawful configuration's numbers are short, so its text is read in one way only.
-use Rattle.std.proofs.Common.{◌≡◌, ℕ, ◌^◌, ◌<◌, List, [], ◌∷◌, length, Bool, true, false, sym, ◌∙◌, arith}
+use Rattle.std.proofs.Common.{◌≡◌, ℕ, ◌^◌, ◌<◌, List, [], length, Bool, true, false, sym, ◌∙◌, arith}
 use Rattle.std.specs.Prelude.{◌&&◌, ◌≢◌, nat_le, IsTrue, MatchBool}
-use Rattle.std.specs.List.{AllByRecursion}
 use Rattle.std.proofs.lemmas.Bool.{and_parts, leb-true}
+use Rattle.list_laws.proofs.Each.{AllByRecursion-both, AllByRecursion-weaker}
 use Rattle.net_base.specs.declared.numbers.Tag.{Tag}
 use Rattle.net_base.specs.Numbers.{is_router_as, is_peer_as, is_tag, no_tag}
 use Rattle.net_base.specs.Prefixes.{PlainPattern}
@@ -13,18 +13,10 @@ use Rattle.config_base.specs.declared.config.Export.{Export}
 use Rattle.config_base.specs.declared.config.Own.{Own}
 use Rattle.config_base.specs.Configs.{PlainConfig, IsImport, IsExport, IsOwn, IsSession, IsRouter}
 use Rattle.config_text.specs.Spelled.{ArePatterns, HasPrefix, IsNamed, HasLawfulParts, IsLawful, Spells}
-use Rattle.config_text.proofs.Pieces.{IsShort}
+use Rattle.text_words.specs.Ends.{IsShort}
 use Rattle.config_text.proofs.Classes.{IsFullClass}
 use Rattle.config_text.proofs.Lines.{IsShortOwn, IsShortRule, IsShortExport}
 use Rattle.config_text.proofs.Blocks.{IsReadableSession, IsReadableRouter, IsReadable, config_cut}
-
-each : {X : Type 0} (P Q : X → Type 0) → ((x : X) → P x → Q x) → (xs : List X) → AllByRecursion P xs → AllByRecursion Q xs
-each P Q one [] ps = tt
-each P Q one (x ∷ xs) ps = (one x ps.0, each P Q one xs ps.1)
-
-both : {X : Type 0} (P Q R : X → Type 0) → ((x : X) → P x → Q x → R x) → (xs : List X) → AllByRecursion P xs → AllByRecursion Q xs → AllByRecursion R xs
-both P Q R one [] ps qs = tt
-both P Q R one (x ∷ xs) ps qs = (one x ps.0 qs.0, both P Q R one xs ps.1 qs.1)
 
 router_number : (n : ℕ) → IsTrue (is_router_as n) → n < 2 ^ 32
 router_number n is = let p = and_parts (nat_le 64512 n) (nat_le n 65534) is in omega (arith, leb-true n 65534 p.1)
@@ -60,8 +52,8 @@ module _ (count : ℕ) (low : count < 2 ^ 32) where
   readable_session s is named = record {
     name = named;
     asn = session_number s.peer s.asn is.number;
-    imports = each (IsImport count s) (IsShortRule s.peer) (short_rule s) s.imports is.imports;
-    exports = each (IsExport count) IsShortExport short_export s.exports is.exports;
+    imports = AllByRecursion-weaker (IsImport count s) (IsShortRule s.peer) s.imports (short_rule s) is.imports;
+    exports = AllByRecursion-weaker (IsExport count) IsShortExport s.exports short_export is.exports;
   }
 
   readable_router : (r : RouterConfig) → IsRouter count r → HasLawfulParts r → IsReadableRouter r
@@ -69,8 +61,8 @@ module _ (count : ℕ) (low : count < 2 ^ 32) where
     name = parts.name;
     asn = router_number r.asn is.number;
     id = is.identifier.1;
-    own = both (IsOwn count) HasPrefix IsShortOwn short_own r.own is.own parts.prefixes;
-    sessions = both (IsSession count) IsNamed IsReadableSession readable_session r.sessions is.sessions parts.names;
+    own = AllByRecursion-both (IsOwn count) HasPrefix IsShortOwn short_own r.own is.own parts.prefixes;
+    sessions = AllByRecursion-both (IsSession count) IsNamed IsReadableSession readable_session r.sessions is.sessions parts.names;
   }
 
 full_class : (ts : List PlainPattern) → ts ≢ [] → ArePatterns ts → IsFullClass ts
@@ -78,8 +70,8 @@ full_class ts some all = record { some = some; all = all }
 
 readable : (c : PlainConfig) → IsLawful c → IsReadable c
 readable c is = record {
-  classes = both (λ (ts : List PlainPattern). ts ≢ []) ArePatterns IsFullClass full_class c.classes is.rules.patterns is.patterns;
-  routers = both (IsRouter (length c.classes)) HasLawfulParts IsReadableRouter (readable_router (length c.classes) is.rules.count) c.routers is.rules.routers is.routers;
+  classes = AllByRecursion-both (λ (ts : List PlainPattern). ts ≢ []) ArePatterns IsFullClass full_class c.classes is.rules.patterns is.patterns;
+  routers = AllByRecursion-both (IsRouter (length c.classes)) HasLawfulParts IsReadableRouter (readable_router (length c.classes) is.rules.count) c.routers is.rules.routers is.routers;
 }
 
 -- a text is that of one configuration only

@@ -1,5 +1,3 @@
-pub mod Words
-pub mod Pieces
 pub mod Repeats
 pub mod Classes
 pub mod Lines

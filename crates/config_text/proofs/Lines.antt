@@ -13,8 +13,9 @@ use Rattle.config_base.specs.declared.config.Rule.{Rule}
 use Rattle.config_base.specs.declared.config.Export.{Export}
 use Rattle.config_base.specs.declared.config.Own.{Own}
 use Rattle.config_text.specs.ConfigText.{own_line, read_tag, set_text, import_line, export_line}
-use Rattle.config_text.proofs.Words.{stops, number_cut, after}
-use Rattle.config_text.proofs.Pieces.{prefix_cut, tag_cut, IsShort}
+use Rattle.text_words.specs.Ends.{stops, IsShort}
+use Rattle.text_words.proofs.Words.{number_cut, after}
+use Rattle.text_words.proofs.Pieces.{prefix_cut, tag_cut}
 use Rattle.config_text.proofs.Repeats.{list_cut, begins, any_text}
 
 -- ---- originate lines

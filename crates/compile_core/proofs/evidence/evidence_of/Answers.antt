@@ -1,6 +1,6 @@
 use Rattle.std.proofs.Common.{◌≡◌, ◌+◌, Some, length, ap, ◌∙◌, sym, rules}
 use Rattle.std.proofs.lemmas.List.{length_push}
-use Rattle.config_base.specs.Made.{PlainCaseEvidence}
+use Rattle.evidence_base.specs.Made.{PlainCaseEvidence}
 use Rattle.std.proofs.lemmas.Iterator.{YieldsList-from_zip}
 use Rattle.std.proofs.lemmas.Iterator.Adapters.{YieldsList-from_vec}
 use Rattle.std.proofs.lemmas.Iterator.Consumers.{YieldsList-turn, YieldsList-end}
@@ -15,7 +15,7 @@ new-requires c =
     c.requires.kept (length c.loop-graph.yielded) (record { case = c.in_ok-case.case; graph = c.in-Some.graph; numbers = c.in-Some.prefs.of; tags = c.in_ok-tags.tags })
     (read c.args.cases.now c.args.graphs.items c.args.prefs.items c.args.tags.now c.requires.graphs c.requires.prefs c.requires.tags
     (length c.loop-graph.yielded) (length c.as_slice-place.result.now) c.index-cases-place.result c.in_ok-case.case c.in-Some.graph c.in-Some.prefs c.index-tags-place.result c.in_ok-tags.tags
-    t.0 t.1 size c.index-cases-place.is c.in_ok-case.ensures c.index-tags-place.is (c.in_ok-tags.ensures ∙ c.as_slice.ensures))
+    t.0 t.1 size c.index-cases-place.is c.in_ok-case.ensures c.index-tags-place.is c.in_ok-tags.ensures)
 
 pub loop-graph-preserved : goal.loop-graph-preserved
 loop-graph-preserved c =
@@ -24,7 +24,7 @@ loop-graph-preserved c =
     let size : length c.as_slice-place.result.now ≡ length c.loop-graph.yielded = ap length c.as_slice-place.ensures ∙ c.loop-graph.invariant.size in
     let at = read c.args.cases.now c.args.graphs.items c.args.prefs.items c.args.tags.now c.requires.graphs c.requires.prefs c.requires.tags
     (length c.loop-graph.yielded) (length c.as_slice-place.result.now) c.index-cases-place.result c.in_ok-case.case c.in-Some.graph c.in-Some.prefs c.index-tags-place.result c.in_ok-tags.tags
-    t.0 t.1 size c.index-cases-place.is c.in_ok-case.ensures c.index-tags-place.is (c.in_ok-tags.ensures ∙ c.as_slice.ensures) in
+    t.0 t.1 size c.index-cases-place.is c.in_ok-case.ensures c.index-tags-place.is c.in_ok-tags.ensures in
     let one = length_push c.loop-graph.yielded (c.in-Some.graph, c.in-Some.prefs) in
     let more = length_push c.loop-graph.all c.new.result in
     record {

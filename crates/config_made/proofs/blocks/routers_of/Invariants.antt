@@ -1,5 +1,5 @@
 use Rattle.std.proofs.Common.{◌≡◌, map}
-use Rattle.graph_base.specs.Locations.{numbers_below}
+use Rattle.net_base.specs.Locations.{numbers_below}
 use Rattle.config_made.specs.Writing.{router_of}
 use Rattle.config_made.proofs.blocks.routers_of.Given as goal
 

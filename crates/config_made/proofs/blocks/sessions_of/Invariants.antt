@@ -1,6 +1,6 @@
 use Rattle.std.proofs.Common.{◌≡◌, map, filter}
 use Rattle.net_base.specs.Network.{linked}
-use Rattle.graph_base.specs.Locations.{numbers_below}
+use Rattle.net_base.specs.Locations.{numbers_below}
 use Rattle.config_made.specs.Writing.{session_of}
 use Rattle.config_made.proofs.blocks.sessions_of.Given as goal
 

@@ -1,6 +1,6 @@
 use Rattle.std.proofs.Common.{◌≡◌, map, take}
 use Rattle.path_words.specs.Policies.{policy_of}
-use Rattle.config_base.specs.Made.{patterns_of}
+use Rattle.evidence_base.specs.Made.{patterns_of}
 use Rattle.config_made.proofs.classes.classes_of.Given as goal
 
 abbrev pub invariant-loop-case : goal.invariant-loop-case

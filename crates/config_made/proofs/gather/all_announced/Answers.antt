@@ -1,8 +1,9 @@
 use Rattle.std.proofs.Common.{◌≡◌, ◌∙◌, ◌+◌, ◌++◌, length, refl, sym, ap, rules, arith}
 use Rattle.std.proofs.lemmas.Option.{slice_get_read}
+use Rattle.list_laws.proofs.Items.{slice_get_inside}
 use Rattle.path_words.specs.declared.case.Case.{Case}
 use Rattle.config_made.specs.Hops.{announced_by}
-use Rattle.config_made.proofs.Gathering.{case_at, announced-step, announced-end}
+use Rattle.config_made.proofs.Gathering.{announced-step, announced-end}
 use Rattle.config_made.proofs.gather.all_announced.Goals as goal
 
 pub add_announced-requires : goal.add_announced-requires
@@ -18,7 +19,7 @@ loop-i-preserved c =
     let t = slice_get_read c.args.tags.now (length c.args.tags.now) c.loop-i.i c.index-tags-i.result refl (omega (arith, c.requires.tags, c.loop-i-test.true)) c.index-tags-i.is in
     let prefixes : c.as_slice-prefixes.result.now ≡ c.index-cases-i.result.prefixes = c.as_slice-prefixes.ensures ∙ ap (λ (e : Case). e.prefixes) (sym c.index-cases-i.is) in
     λ prefs long.
-    let p = case_at prefs c.loop-i.i (omega (arith, long, c.loop-i-test.true)) in
+    let p = slice_get_inside prefs c.loop-i.i (omega (arith, long, c.loop-i-test.true)) in
     announced-step c.args.cases.now c.args.graphs.now prefs c.args.tags.now c.loop-i.i c.index-cases-i.result c.index-graphs-i.result p.0 c.index-tags-i.result k g p.1 t c.loop-i.all.items c.add_announced.new.all.items
     (c.in_ok-add_announced.ensures
     ∙ ap (λ ps. c.loop-i.all.items ++ announced_by (c.loop-i.i + 1) ps c.index-graphs-i.result c.as_slice-tags.result.now) prefixes

@@ -2,15 +2,16 @@ use Rattle.std.proofs.Common.{◌≡◌, ◌∙◌, ◌+◌, ◌++◌, length, m
 use Rattle.std.proofs.lemmas.Option.{slice_get_read, slice_get_within}
 use Rattle.std.specs.Prelude.{slice_get}
 use Rattle.std.proofs.lemmas.Bool.{cases_lt}
+use Rattle.list_laws.proofs.Items.{slice_get_inside}
 use Rattle.graph_base.specs.Graphs.{IsGraph}
 use Rattle.graph_base.specs.declared.graph.Prefs.{Prefs}
 use Rattle.config_made.specs.Hops.{hop_of}
-use Rattle.config_made.proofs.Gathering.{case_at, whole-at, hops-step, hops-end}
+use Rattle.config_made.proofs.Gathering.{whole-at, hops-step, hops-end}
 use Rattle.config_made.proofs.gather.all_hops.Goals as goal
 
 pub add_hops-requires-clause-numbers : goal.add_hops-requires-clause-numbers
 add_hops-requires-clause-numbers c =
-    let k = case_at c.args.cases.now c.loop-i.i c.loop-i-test.true in
+    let k = slice_get_inside c.args.cases.now c.loop-i.i c.loop-i-test.true in
     let g = slice_get_read c.args.graphs.now (length c.args.graphs.now) c.loop-i.i c.index-graphs-i.result refl (omega (arith, c.requires.graphs, c.loop-i-test.true)) c.index-graphs-i.is in
     let p = slice_get_read c.args.prefs.now (length c.args.prefs.now) c.loop-i.i c.index-prefs-i.result refl (omega (arith, c.requires.prefs, c.loop-i-test.true)) c.index-prefs-i.is in
     let t = slice_get_read c.args.tags.now (length c.args.tags.now) c.loop-i.i c.index-tags-i.result refl (omega (arith, c.requires.tags, c.loop-i-test.true)) c.index-tags-i.is in
@@ -19,7 +20,7 @@ add_hops-requires-clause-numbers c =
 
 pub add_hops-requires-clause-tags : goal.add_hops-requires-clause-tags
 add_hops-requires-clause-tags c =
-    let k = case_at c.args.cases.now c.loop-i.i c.loop-i-test.true in
+    let k = slice_get_inside c.args.cases.now c.loop-i.i c.loop-i-test.true in
     let g = slice_get_read c.args.graphs.now (length c.args.graphs.now) c.loop-i.i c.index-graphs-i.result refl (omega (arith, c.requires.graphs, c.loop-i-test.true)) c.index-graphs-i.is in
     let p = slice_get_read c.args.prefs.now (length c.args.prefs.now) c.loop-i.i c.index-prefs-i.result refl (omega (arith, c.requires.prefs, c.loop-i-test.true)) c.index-prefs-i.is in
     let t = slice_get_read c.args.tags.now (length c.args.tags.now) c.loop-i.i c.index-tags-i.result refl (omega (arith, c.requires.tags, c.loop-i-test.true)) c.index-tags-i.is in
@@ -27,7 +28,7 @@ add_hops-requires-clause-tags c =
 
 pub loop-i-preserved : goal.loop-i-preserved
 loop-i-preserved c =
-    let k = case_at c.args.cases.now c.loop-i.i c.loop-i-test.true in
+    let k = slice_get_inside c.args.cases.now c.loop-i.i c.loop-i-test.true in
     let g = slice_get_read c.args.graphs.now (length c.args.graphs.now) c.loop-i.i c.index-graphs-i.result refl (omega (arith, c.requires.graphs, c.loop-i-test.true)) c.index-graphs-i.is in
     let p = slice_get_read c.args.prefs.now (length c.args.prefs.now) c.loop-i.i c.index-prefs-i.result refl (omega (arith, c.requires.prefs, c.loop-i-test.true)) c.index-prefs-i.is in
     let t = slice_get_read c.args.tags.now (length c.args.tags.now) c.loop-i.i c.index-tags-i.result refl (omega (arith, c.requires.tags, c.loop-i-test.true)) c.index-tags-i.is in

@@ -1,7 +1,7 @@
 use Rattle.std.proofs.Common.{◌≡◌, ◌∙◌, ℕ, Some, sym, ap, subst}
 use Rattle.std.specs.Prelude.{slice_get}
 use Rattle.path_words.specs.Policies.{policy_of}
-use Rattle.config_base.specs.Made.{PlainCaseEvidence, IsConfigOf}
+use Rattle.evidence_base.specs.Made.{PlainCaseEvidence, IsConfigOf}
 use Rattle.config_made.specs.Conditions.{IsWhole}
 use Rattle.config_made.specs.Evidence.{evidence_of}
 use Rattle.config_made.specs.Hops.{hops_from, announced_from}
