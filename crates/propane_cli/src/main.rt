@@ -7,20 +7,6 @@ use std::io::ErrorKind;
 use std::process::ExitCode;
 use std::{env, io};
 
-/// The number of a status.
-fn number_of(status: Status) -> u8 {
-    match status {
-        Status::Done => 0,
-        Status::Refused => 1,
-        Status::Usage => 2,
-        Status::BadInput => 3,
-        Status::ReadFault => 4,
-        Status::WriteFault => 5,
-        Status::NoMemory => 6,
-        Status::CheckFails => 7,
-    }
-}
-
 /// The words after the program's name.
 fn words_given(rt: &HostRuntime) -> io::Result<Vec<String>> {
     let mut words = Vec::new(rt.alloc());
@@ -36,7 +22,7 @@ fn main(rt: HostRuntime) -> ExitCode {
         Ok(words) => words,
         Err(error) => {
             if error.kind() == ErrorKind::OutOfMemory {
-                return ExitCode::from(number_of(Status::NoMemory));
+                return ExitCode::from(Status::NoMemory.number());
             }
             // Words that can't be read are no command.
             Vec::new(alloc)
@@ -46,5 +32,5 @@ fn main(rt: HostRuntime) -> ExitCode {
     let mut err = OutSink::new(rt.stderr());
     let mut inputs = FileInputs::new(rt);
     let status = run(alloc, &words, &mut inputs, &mut out, &mut err);
-    ExitCode::from(number_of(status))
+    ExitCode::from(status.number())
 }

@@ -1,6 +1,9 @@
+pub mod ByCommand
 pub mod Causes
-pub mod Compiles
-pub mod Expected
+pub mod Dispatch
 pub mod Jobs
-pub mod Laws
+pub mod OnlyRead
+pub mod RunLaws
 pub mod Sending
+pub mod Spelling
+pub mod Told

@@ -13,11 +13,8 @@ FaultFound holds words c l =
     ((name : List ℕ) × IsAmong (names_read words c) name × IfSome (holds name) (λ held. most < length held) × (l ≡ (too_long name).to_err))
     ⊎ Comes holds words c (line BadInput l)
 
--- The words are this command, all that it reads is told, and nothing fails: no count rises, of a name that it reads or of
--- a sink.
-pub record IsSmooth (holds : Holds) (rose : List ℕ → Type 0) (out_rose err_rose : Type 0) (words : List (List ℕ)) (c : Command) : Type 0 where
+-- The words are this command, all that it reads is told, and no count rises of a name that it reads.
+pub record ReadsSmoothly (holds : Holds) (rose : List ℕ → Type 0) (words : List (List ℕ)) (c : Command) : Type 0 where
   pub is : words_are words ≡ Some c
   pub told : AreTold holds (names_read words c)
   pub reads : (name : List ℕ) → IsAmong (names_read words c) name → ¬ rose name
-  pub out : ¬ out_rose
-  pub err : ¬ err_rose

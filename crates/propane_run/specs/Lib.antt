@@ -1,10 +1,14 @@
+pub mod Asked
 pub mod Clauses
 pub mod Compiled
 pub mod FaultLines
 pub mod Headline
-pub mod NetRead
 pub mod Reading
 pub mod RefusalLines
+pub mod Refusing
 pub mod Run
 pub mod Said
+pub mod Statuses
+pub mod Texts
 pub mod Words
+pub mod commands

@@ -1,15 +1,27 @@
 -- What comes of reading names.
 use Rattle.std.specs.Prelude.{◌≡◌, ◌⊎◌, ℕ, ◌≤◌, ◌<◌, List, [], ◌∷◌, ◌++◌, length, Option, Some, IsSome, IfSome, codes}
+use Rattle.net_base.specs.declared.limits.TheConstants.{INPUT_BYTES}
+use Rattle.outside.specs.Outside.{Rose}
 use Rattle.propane_run.specs.Said.{Said, line, no_memory}
 use Rattle.propane_run.specs.declared.outcome.Status.TheVariants.{ReadFault, BadInput}
 
 -- the most bytes of a named input
 abbrev pub most : ℕ
-most = 33554432
+most = INPUT_BYTES
 
 -- what each name holds, where that is told
 abbrev pub Holds : Type 0
 Holds = List ℕ → Option (List ℕ)
+
+-- the count of a name rose
+abbrev pub RoseOf : (List ℕ → ℕ) → (List ℕ → ℕ) → List ℕ → Type 0
+RoseOf before now name = Rose (before name) (now name)
+
+-- Inputs that were only read: a name holds what it held, no count fell, and a name that is sure stays so, with its count.
+pub record AreOnlyRead (held held' : Holds) (count count' : List ℕ → ℕ) (is_sure is_sure' : List ℕ → Type 0) : Type 0 where
+  pub holds : (name : List ℕ) → held' name ≡ held name
+  pub counts : (name : List ℕ) → count name ≤ count' name
+  pub sure : (name : List ℕ) → is_sure name → (count' name ≡ count name) × is_sure' name
 
 -- what is said of a name that can't be read, and of one that holds too much
 abbrev pub unread : List ℕ → Said

@@ -4,13 +4,14 @@ use Rattle.propane_run.specs.declared.command.Command.{Command}
 use Rattle.propane_run.specs.declared.command.Command.TheVariants.{Compile}
 use Rattle.propane_run.specs.Words.{words_are, names_read}
 use Rattle.propane_run.specs.Reading.{Holds, ReadsAll, AllHeld}
-use Rattle.propane_run.specs.Compiled.{Says}
+use Rattle.propane_run.specs.Texts.{OfTexts}
+use Rattle.propane_run.specs.commands.Compile.{SaysOfPolicy}
 use Rattle.propane_run.specs.Said.{Said, no_memory, usage}
 
 -- what a command says of the bytes that it read, one for each of its names
 abbrev pub Job : Command → List (List ℕ) → Said → Type 0
-Job (Compile t p) (topology ∷ policy ∷ []) what = Says topology policy what
-Job (Compile t p) _ what = ⊥
+Job (Compile _ _) (topology ∷ policy ∷ []) what = OfTexts SaysOfPolicy topology policy what
+Job (Compile _ _) _ what = ⊥
 
 -- such a thing is said, unless memory ran out
 abbrev pub IsGiven : (Said → Type 0) → Said → Type 0

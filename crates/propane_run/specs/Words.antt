@@ -1,5 +1,6 @@
 -- Which words are a command.
-use Rattle.std.specs.Prelude.{ℕ, ◌<◌, List, [], ◌∷◌, Option, Some, None, if◌then◌else◌, codes, slice_get, unwrap_or}
+use Rattle.std.specs.Prelude.{ℕ, ◌<◌, List, [], ◌∷◌, Option, Some, None, if◌then◌else◌, codes, map, slice_get, unwrap_or}
+use Rattle.std.specs.List.{AllByRecursion}
 use Rattle.std.specs.Str.{bytes_eq}
 use Rattle.propane_run.specs.declared.command.Command.{Command}
 use Rattle.propane_run.specs.declared.command.Command.TheVariants.{Compile}
@@ -8,9 +9,13 @@ abbrev pub words_are : List (List ℕ) → Option Command
 words_are (name ∷ topology ∷ policy ∷ []) = if bytes_eq name (codes "compile") then Some (Compile 1 2) else None
 words_are _ = None
 
--- the places of a command's names are places of the words
+-- the places of the names that a command reads, in order
+abbrev pub places_of : Command → List ℕ
+places_of (Compile topology policy) = topology ∷ policy ∷ []
+
+-- they are places of the words
 abbrev pub IsWithin : ℕ → Command → Type 0
-IsWithin count (Compile t p) = (t < count) × (p < count)
+IsWithin count c = AllByRecursion (λ place. place < count) (places_of c)
 
 -- the word at a place
 abbrev pub word_at : List (List ℕ) → ℕ → List ℕ
@@ -18,4 +23,4 @@ word_at words k = unwrap_or (slice_get words k) []
 
 -- the names that a command reads, in order
 abbrev pub names_read : List (List ℕ) → Command → List (List ℕ)
-names_read words (Compile t p) = word_at words t ∷ word_at words p ∷ []
+names_read words c = map (word_at words) (places_of c)

@@ -1,4 +1,5 @@
 //! The tail of every command: what it came to is written.
+ghost use Rattle.std.specs.Prelude.{◌≤◌};
 ghost use Rattle.propane_run.specs.Said.{said, stop_said, Sent, Delivered};
 
 use crate::outcome::{Status, Stop};
@@ -9,7 +10,8 @@ pub const USAGE: &[u8] = b"propane: usage: compile TOPO POLICY\n";
 
 // Writes the bytes, and gives the status, or `WriteFault`.
 fn send<S: Sink>(sink: &mut S, bytes: &[u8], status: Status) -> Status
-    ensures { Sent S.taken S.faults bytes.now status sink.old sink.new result }
+    ensures sent { Sent S.taken S.faults bytes.now status sink.old sink.new result }
+    ensures counts { S.faults sink.old ≤ S.faults sink.new }
 {
     match write_whole(sink, bytes) {
         Ok(()) => status,
@@ -19,8 +21,10 @@ fn send<S: Sink>(sink: &mut S, bytes: &[u8], status: Status) -> Status
 
 // Says why a command gives no text.
 fn tell<O: Sink, E: Sink>(stop: &Stop, out: &mut O, err: &mut E) -> Status
-    ensures { Delivered O.taken O.faults E.taken E.faults (stop_said stop.now)
+    ensures delivered { Delivered O.taken O.faults E.taken E.faults (stop_said stop.now)
         out.old out.new err.old err.new result }
+    ensures out_counts { O.faults out.old ≤ O.faults out.new }
+    ensures err_counts { E.faults err.old ≤ E.faults err.new }
 {
     match stop {
         Stop::Line(status, line) => send(err, line, *status),
@@ -31,8 +35,10 @@ fn tell<O: Sink, E: Sink>(stop: &Stop, out: &mut O, err: &mut E) -> Status
 
 /// Writes what a command came to, and says how the run ended.
 pub fn deliver<O: Sink, E: Sink>(came: &Result<Vec<u8>, Stop>, out: &mut O, err: &mut E) -> Status
-    ensures { Delivered O.taken O.faults E.taken E.faults (said came.now)
+    ensures delivered { Delivered O.taken O.faults E.taken E.faults (said came.now)
         out.old out.new err.old err.new result }
+    ensures out_counts { O.faults out.old ≤ O.faults out.new }
+    ensures err_counts { E.faults err.old ≤ E.faults err.new }
 {
     match came {
         Ok(text) => send(out, text, Status::Done),

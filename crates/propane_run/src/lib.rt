@@ -1,29 +1,35 @@
 //! The top call.
 #![tactic(auto)]
 
-ghost use Rattle.std.specs.Prelude.{◌≡◌, ◌≢◌, ◌⊎◌, ◌<◌, ℕ, List, Some, None, IfSome, length, map, string_bytes};
+ghost use Rattle.std.specs.Prelude.{◌≡◌, ◌≢◌, ◌⊎◌, ◌<◌, ◌≤◌, ℕ, List, Some, None, length, map, string_bytes};
 ghost use Rattle.net_base.specs.Network.{PlainNet};
 ghost use Rattle.outside.specs.Outside.{Rose};
 ghost use Rattle.path_words.specs.Policies.{PlainPolicy};
+ghost use Rattle.evidence_base.specs.Made.{PlainCaseEvidence};
 ghost use Rattle.case_core.specs.declared.refusal.CompileRefusal.{CompileRefusal};
-ghost use Rattle.propane_run.specs.Clauses.{FaultFound, IsSmooth};
-ghost use Rattle.propane_run.specs.Compiled.{IsRefusedFor};
-ghost use Rattle.propane_run.specs.Headline.{AsksFor, CompilesRight, RefusesRight};
-ghost use Rattle.propane_run.specs.Reading.{unread, SaidOfTold};
+ghost use Rattle.propane_run.specs.Asked.{AsksFor};
+ghost use Rattle.propane_run.specs.Clauses.{FaultFound, ReadsSmoothly};
+ghost use Rattle.propane_run.specs.Compiled.{IsCompiled, IsRefusedFor};
+ghost use Rattle.propane_run.specs.Headline.{CompilesRight};
+ghost use Rattle.propane_run.specs.Reading.{AreOnlyRead, RoseOf, SaidOfTold, unread};
 ghost use Rattle.propane_run.specs.RefusalLines.{refusal_line as line_of_refusal};
+ghost use Rattle.propane_run.specs.Refusing.{RefusesRight};
 ghost use Rattle.propane_run.specs.Run.{IsAnswer, IsAmong, Comes, Job};
 ghost use Rattle.propane_run.specs.Said.{Said, said, text, usage, Delivered, Whole, Part};
 ghost use Rattle.propane_run.specs.Words.{words_are, names_read, word_at};
 
 mod command;
-mod compile;
+mod commands;
 mod deliver;
 mod fault_lines;
+mod laws;
 mod outcome;
 mod reading;
 mod refusal_lines;
+mod texts;
 
 pub use command::{Command, words_of};
+pub use laws::{commands_say_one_thing, told_texts_come_to_one_thing};
 pub use outcome::Status;
 use outcome::Stop;
 use outside::{Inputs, Sink};
@@ -39,12 +45,12 @@ fn word(words: &[String], place: u32) -> &str
 
 // What the words and the inputs come to, before anything is written.
 fn answer<I: Inputs>(alloc: Global, words: &[String], inputs: &mut I) -> Result<Vec<u8>, Stop>
-    ensures { IsAnswer (I.holds inputs.old) (λ n. Rose (I.faults inputs.old n) (I.faults inputs.new n))
-        (map string_bytes words.now) (said result) }
+    ensures says { IsAnswer (I.holds inputs.old) (RoseOf (I.faults inputs.old) (I.faults inputs.new)) (map string_bytes words.now) (said result) }
+    ensures read { AreOnlyRead (I.holds inputs.old) (I.holds inputs.new) (I.faults inputs.old) (I.faults inputs.new) (I.sure inputs.old) (I.sure inputs.new) }
 {
     match words_of(words) {
         Some(Command::Compile(topology, policy)) => {
-            compile::compile(alloc, inputs, word(words, topology), word(words, policy))
+            commands::compile::compile(alloc, inputs, word(words, topology), word(words, policy))
         }
         None => Err(Stop::Usage),
     }
@@ -58,9 +64,12 @@ fn run_whole<I: Inputs, O: Sink, E: Sink>(
     out: &mut O,
     err: &mut E,
 ) -> Status
-    ensures { (what : Said)
-        × IsAnswer (I.holds inputs.old) (λ n. Rose (I.faults inputs.old n) (I.faults inputs.new n)) (map string_bytes words.now) what
+    ensures whole { (what : Said)
+        × IsAnswer (I.holds inputs.old) (RoseOf (I.faults inputs.old) (I.faults inputs.new)) (map string_bytes words.now) what
         × Delivered O.taken O.faults E.taken E.faults what out.old out.new err.old err.new result }
+    ensures read { AreOnlyRead (I.holds inputs.old) (I.holds inputs.new) (I.faults inputs.old) (I.faults inputs.new) (I.sure inputs.old) (I.sure inputs.new) }
+    ensures out_counts { O.faults out.old ≤ O.faults out.new }
+    ensures err_counts { E.faults err.old ≤ E.faults err.new }
 {
     let came = answer(alloc, words, inputs);
     deliver::deliver(&came, out, err)
@@ -78,19 +87,24 @@ pub fn run<I: Inputs, O: Sink, E: Sink>(
     out: &mut O,
     err: &mut E,
 ) -> Status
-    // All that a run may do: an answer of the words and the inputs, delivered. The other clauses follow from it.
+    // Where `compile` ends with Done, `out` grew by a text that spells a configuration, and this is right for the network
+    // and the policy that the inputs spell.
+    ensures right { (topology policy : ℕ) → let c = Command.Compile topology policy in words_are (map string_bytes words.now) ≡ Some c
+        → result ≡ Status.Done → CompilesRight (I.holds inputs.old) O.taken (map string_bytes words.now) c out.old out.new }
+
+    // That configuration is what is compiled from the policy, with evidence that passes.
+    ensures compiled { (topology policy : ℕ) → let c = Command.Compile topology policy in words_are (map string_bytes words.now) ≡ Some c
+        → result ≡ Status.Done → (claim : CompilesRight (I.holds inputs.old) O.taken (map string_bytes words.now) c out.old out.new)
+        × (evidence : List PlainCaseEvidence) × IsCompiled claim.net claim.policy claim.config evidence }
+
+    // It ends with Refused only where the inputs spell a network and a policy to which the refusal applies that the line tells.
+    ensures refused { (topology policy : ℕ) → let c = Command.Compile topology policy in words_are (map string_bytes words.now) ≡ Some c
+        → result ≡ Status.Refused → RefusesRight (I.holds inputs.old) E.taken (map string_bytes words.now) c err.old err.new × (out.new ≡ out.old) }
+
+    // All that a run may do: an answer of the words and the inputs, delivered. The other clauses on what is written follow.
     ensures whole { (what : Said)
-        × IsAnswer (I.holds inputs.old) (λ n. Rose (I.faults inputs.old n) (I.faults inputs.new n)) (map string_bytes words.now) what
+        × IsAnswer (I.holds inputs.old) (RoseOf (I.faults inputs.old) (I.faults inputs.new)) (map string_bytes words.now) what
         × Delivered O.taken O.faults E.taken E.faults what out.old out.new err.old err.new result }
-
-    // On Done the configuration that was written is compiled from the network and the policy that the inputs spell, and
-    // is right for them.
-    ensures right { result ≡ Status.Done
-        → CompilesRight (I.holds inputs.old) O.taken (map string_bytes words.now) out.old out.new }
-
-    // Refused only where the inputs spell a network and a policy to which the refusal applies that the line tells.
-    ensures refused { result ≡ Status.Refused
-        → RefusesRight (I.holds inputs.old) E.taken (map string_bytes words.now) err.old err.new × (out.new ≡ out.old) }
 
     // On Done `out` grew by exactly the text that the bytes of the inputs come to, and `err` is untouched.
     ensures done { result ≡ Status.Done → (c : Command) × (bytes : List ℕ)
@@ -117,7 +131,7 @@ pub fn run<I: Inputs, O: Sink, E: Sink>(
 
     // WriteFault only where the count of a sink rose that was to take something, and took a front of it.
     ensures write_fault { result ≡ Status.WriteFault → (what : Said)
-        × IsAnswer (I.holds inputs.old) (λ n. Rose (I.faults inputs.old n) (I.faults inputs.new n)) (map string_bytes words.now) what
+        × IsAnswer (I.holds inputs.old) (RoseOf (I.faults inputs.old) (I.faults inputs.new)) (map string_bytes words.now) what
         × (Part O.taken O.faults what.to_out out.old out.new × Whole E.taken what.to_err err.old err.new
         ⊎ Whole O.taken what.to_out out.old out.new × Part E.taken E.faults what.to_err err.old err.new) }
 
@@ -127,25 +141,34 @@ pub fn run<I: Inputs, O: Sink, E: Sink>(
     // No command checks evidence yet.
     ensures not_failing { result ≢ Status.CheckFails }
 
-    // Where all that a command reads is told and nothing fails, the run says what the bytes come to, or memory ran out.
+    // Where all that a command reads is told and no count of it rises, what the bytes come to is delivered, or memory ran out.
     ensures complete { (c : Command)
-        → IsSmooth (I.holds inputs.old) (λ n. Rose (I.faults inputs.old n) (I.faults inputs.new n)) (Rose (O.faults out.old) (O.faults out.new)) (Rose (E.faults err.old) (E.faults err.new)) (map string_bytes words.now) c
+        → ReadsSmoothly (I.holds inputs.old) (RoseOf (I.faults inputs.old) (I.faults inputs.new)) (map string_bytes words.now) c
         → (result ≡ Status.NoMemory)
         ⊎ (wanted : Said) × SaidOfTold (I.holds inputs.old) (names_read (map string_bytes words.now) c) (Job c) wanted
-        × (result ≡ wanted.status) × Whole O.taken wanted.to_out out.old out.new × Whole E.taken wanted.to_err err.old err.new }
+        × Delivered O.taken O.faults E.taken E.faults wanted out.old out.new err.old err.new result }
 
-    // There a policy to which a refusal applies is refused, and the line tells that refusal, or memory ran out.
-    ensures refused_where { (c : Command) (net : PlainNet) (policy : PlainPolicy) (e : CompileRefusal)
-        → IsSmooth (I.holds inputs.old) (λ n. Rose (I.faults inputs.old n) (I.faults inputs.new n)) (Rose (O.faults out.old) (O.faults out.new)) (Rose (E.faults err.old) (E.faults err.new)) (map string_bytes words.now) c
-        → AsksFor (I.holds inputs.old) (map string_bytes words.now) net policy → IsRefusedFor net policy e
+    // There `compile` refuses a policy to which a refusal applies, and tells it, if no count of `err` rises; or memory ran out.
+    ensures refused_where { (topology policy : ℕ) → let c = Command.Compile topology policy in (net : PlainNet) (asked : PlainPolicy) (e : CompileRefusal)
+        → ReadsSmoothly (I.holds inputs.old) (RoseOf (I.faults inputs.old) (I.faults inputs.new)) (map string_bytes words.now) c
+        → ¬ Rose (E.faults err.old) (E.faults err.new)
+        → AsksFor (I.holds inputs.old) (map string_bytes words.now) c net asked → IsRefusedFor net asked e
         → (result ≡ Status.NoMemory)
         ⊎ (result ≡ Status.Refused) × Whole E.taken (line_of_refusal net e) err.old err.new × (out.new ≡ out.old) }
 
-    // And a policy to which none applies is compiled, or memory ran out.
-    ensures compiled_where { (c : Command) (net : PlainNet) (policy : PlainPolicy)
-        → IsSmooth (I.holds inputs.old) (λ n. Rose (I.faults inputs.old n) (I.faults inputs.new n)) (Rose (O.faults out.old) (O.faults out.new)) (Rose (E.faults err.old) (E.faults err.new)) (map string_bytes words.now) c
-        → AsksFor (I.holds inputs.old) (map string_bytes words.now) net policy → ((e : CompileRefusal) → ¬ IsRefusedFor net policy e)
+    // And it compiles a policy to which none applies, if no count of `out` rises; or memory ran out.
+    ensures compiled_where { (topology policy : ℕ) → let c = Command.Compile topology policy in (net : PlainNet) (asked : PlainPolicy)
+        → ReadsSmoothly (I.holds inputs.old) (RoseOf (I.faults inputs.old) (I.faults inputs.new)) (map string_bytes words.now) c
+        → ¬ Rose (O.faults out.old) (O.faults out.new)
+        → AsksFor (I.holds inputs.old) (map string_bytes words.now) c net asked → ((e : CompileRefusal) → ¬ IsRefusedFor net asked e)
         → (result ≡ Status.NoMemory) ⊎ (result ≡ Status.Done) }
+
+    // Another run may follow: no read changed what a name holds, no count fell, and a name that is sure stays so.
+    ensures holds { (name : List ℕ) → I.holds inputs.new name ≡ I.holds inputs.old name }
+    ensures counts { (name : List ℕ) → I.faults inputs.old name ≤ I.faults inputs.new name }
+    ensures sure { (name : List ℕ) → I.sure inputs.old name → (I.faults inputs.new name ≡ I.faults inputs.old name) × I.sure inputs.new name }
+    ensures out_counts { O.faults out.old ≤ O.faults out.new }
+    ensures err_counts { E.faults err.old ≤ E.faults err.new }
 {
     run_whole(alloc, words, inputs, out, err)
 }

@@ -1,7 +1,7 @@
 //! What a run comes to.
 use outside::NoMemory;
 
-/// How a run ended. The program's exit status is the number.
+/// How a run ended. The program ends with its number.
 #[derive(Clone, Copy, Debug, PartialEq, Eq)]
 pub enum Status {
     /// 0: the command's text was written whole.
@@ -20,6 +20,27 @@ pub enum Status {
     NoMemory,
     /// 7: the check of evidence fails.
     CheckFails,
+}
+
+impl Status {
+    ghost use Rattle.std.specs.Prelude.{◌≡◌};
+    ghost use Rattle.propane_run.specs.Statuses.{number_of};
+
+    /// The number with which the program ends.
+    pub fn number(self) -> u8
+        ensures { result ≡ number_of self }
+    {
+        match self {
+            Status::Done => 0,
+            Status::Refused => 1,
+            Status::Usage => 2,
+            Status::BadInput => 3,
+            Status::ReadFault => 4,
+            Status::WriteFault => 5,
+            Status::NoMemory => 6,
+            Status::CheckFails => 7,
+        }
+    }
 }
 
 /// Why a command gives no text.

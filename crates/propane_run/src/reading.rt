@@ -1,8 +1,7 @@
 //! A named input is read, or the run stops.
-ghost use Rattle.std.specs.Prelude.{◌≡◌, ◌++◌, ℕ, List, ◌≤◌, Err, IfOk, MatchResult, codes};
-ghost use Rattle.outside.specs.Outside.{Rose};
+ghost use Rattle.std.specs.Prelude.{◌≡◌, ◌++◌, Err, IfOk, MatchResult, codes};
 ghost use Rattle.propane_run.specs.Said.{said};
-ghost use Rattle.propane_run.specs.Reading.{IsHeld, IsStop};
+ghost use Rattle.propane_run.specs.Reading.{AreOnlyRead, IsHeld, IsStop, RoseOf};
 
 use crate::outcome::{Status, Stop};
 use net_base::limits::INPUT_BYTES;
@@ -24,9 +23,8 @@ fn line_about(alloc: Global, what: &[u8], name: &str) -> Result<Vec<u8>, NoMemor
 
 /// The bytes of a name.
 pub fn read_named<I: Inputs>(alloc: Global, inputs: &mut I, name: &str) -> Result<Vec<u8>, Stop>
-    ensures read { MatchResult result (λ v. IsHeld (I.holds inputs.old) name.now v.items) (λ stop. IsStop (I.holds inputs.old) (λ n. Rose (I.faults inputs.old n) (I.faults inputs.new n)) name.now (said (Err stop))) }
-    ensures holds { (n : List ℕ) → I.holds inputs.new n ≡ I.holds inputs.old n }
-    ensures counts { (n : List ℕ) → I.faults inputs.old n ≤ I.faults inputs.new n }
+    ensures read { MatchResult result (λ v. IsHeld (I.holds inputs.old) name.now v.items) (λ stop. IsStop (I.holds inputs.old) (RoseOf (I.faults inputs.old) (I.faults inputs.new)) name.now (said (Err stop))) }
+    ensures kept { AreOnlyRead (I.holds inputs.old) (I.holds inputs.new) (I.faults inputs.old) (I.faults inputs.new) (I.sure inputs.old) (I.sure inputs.new) }
 {
     match inputs.read(alloc, name, INPUT_BYTES) {
         Ok(bytes) => Ok(bytes),

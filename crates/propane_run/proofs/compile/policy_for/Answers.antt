@@ -1,5 +1,0 @@
-use Rattle.policy_law.proofs.ReadPolicies.{read_policies_fit}
-use Rattle.propane_run.proofs.compile.policy_for.Goals as goal
-
-pub returns-in-Ok-clause-routers : goal.returns-in-Ok-clause-routers
-returns-in-Ok-clause-routers c = (read_policies_fit c.args.net.now c.args.policy.now _ c.in-Ok.ensures).routers

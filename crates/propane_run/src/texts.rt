@@ -1,0 +1,44 @@
+//! The texts of a topology and of a policy for its network.
+ghost use Rattle.std.specs.Prelude.{◌<◌, length, IfOk};
+ghost use Rattle.policy_parser.specs.Spelled.{spelled as policy_spelled};
+ghost use Rattle.case_law.specs.Cases.{OriginsAreRouters};
+ghost use Rattle.propane_run.specs.Texts.{IsNetOr, IsPolicyOr};
+ghost use Rattle.topology.specs.Topology.{spelled};
+
+use crate::fault_lines::{policy_fault_line, topology_fault_line};
+use crate::outcome::{Status, Stop};
+use net_base::Net;
+use path_words::Policy;
+use policy_parser::{PolicyFault, read_policy};
+use std::alloc::Global;
+use topology::{TopoFault, read_topology};
+
+/// The net that the bytes spell, or why the run stops.
+pub fn net_of(alloc: Global, topology: &[u8]) -> Result<Net, Stop>
+    ensures { IsNetOr (spelled topology.now) result }
+{
+    match read_topology(alloc, topology) {
+        Ok(net) => Ok(net),
+        Err(TopoFault::NoMemory) => Err(Stop::NoMemory),
+        Err(fault) => {
+            let line = topology_fault_line(alloc, &fault)?;
+            Err(Stop::Line(Status::BadInput, line))
+        }
+    }
+}
+
+/// The policy that the bytes spell for the net, or why the run stops.
+pub fn policy_for(alloc: Global, net: &Net, policy: &[u8]) -> Result<Policy, Stop>
+    requires { length policy.now < 4294967295 }
+    ensures spells { IsPolicyOr (policy_spelled net.now policy.now) result }
+    ensures routers { IfOk result (λ policy. OriginsAreRouters net.now policy.origins) }
+{
+    match read_policy(alloc, policy, net) {
+        Ok(policy) => Ok(policy),
+        Err(PolicyFault::NoMemory) => Err(Stop::NoMemory),
+        Err(fault) => {
+            let line = policy_fault_line(alloc, &fault)?;
+            Err(Stop::Line(Status::BadInput, line))
+        }
+    }
+}
