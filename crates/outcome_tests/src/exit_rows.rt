@@ -1,11 +1,7 @@
 //! Rows over the network of two routers with a peer each.
 use crate::lines::Line;
 use crate::rows::Row;
-
-/// Routers R1 and R2 with a peer each: locations 0, 1, 2 and 3.
-const TWO_EXITS: &[u8] = br#"{"routers":[{"name":"R1","asn":64512,"id":"10.255.0.1"},
-{"name":"R2","asn":64513,"id":"10.255.0.2"}],"peers":[{"name":"P1","asn":1001,"id":"192.0.2.1"},
-{"name":"P2","asn":1002,"id":"192.0.2.2"}],"links":[["R1","R2"],["R1","P1"],["R2","P2"]]}"#;
+use samples::TWO_EXITS;
 
 /// R1 prefers the exit at P1 and reaches P2 over R2, and R2 the other way round.
 const EXIT_LINES: [Line; 10] = [

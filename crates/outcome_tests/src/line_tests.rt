@@ -2,7 +2,7 @@
 use crate::exit_rows::{entered_row, exits_row, exported_row};
 use crate::lines::{Held, Line, config, outcome, path, route, scenario, tag};
 use crate::setting::{Setting, pattern, prefix, set_up};
-use config_base::{Config, class_of, export_of, import_of, own_tag};
+use config_base::{Config, Route, class_of, export_of, import_of, own_tag};
 use net_base::{List, Loc, Pattern, Prefix, read_prefix};
 use outside::NoMemory;
 use stable_paths::{Outcome, Scenario, is_given, is_live, is_offered, survives};
@@ -57,17 +57,15 @@ const EXPORTS: [(u32, u16, u16, u32, Option<u32>); 6] = [
     (1, 0, 1, 1, None),
 ];
 
-fn wrong_export(setting: &Setting) -> Option<usize> {
+fn wrong_export(alloc: Global, setting: &Setting) -> Option<usize> {
     EXPORTS.iter().position(|row| {
         let (from, to) = (Loc::new(row.1), Loc::new(row.2));
-        let sent = export_of(
-            &setting.net,
-            &setting.config,
-            row.0,
-            from,
-            to,
-            tag(row.1, row.3),
-        );
+        let held = Route {
+            path: List::new(alloc),
+            tag: tag(row.1, row.3),
+            pref: 100,
+        };
+        let sent = export_of(&setting.net, &setting.config, row.0, from, to, &held);
         let wanted = match row.4 {
             None => None,
             Some(value) => Some(tag(row.1, value)),
@@ -124,7 +122,7 @@ fn are_own_tags_right(setting: &Setting, named: Prefix, other: Prefix) -> bool {
 fn own_tags_and_exports_by_hand(rt: HostRuntime) {
     let alloc = rt.alloc();
     let setting = set_up(&rt, alloc, entered_row());
-    assert!(rt; wrong_export(&setting).is_none());
+    assert!(rt; wrong_export(alloc, &setting).is_none());
     let named = prefix(&rt, setting.row.prefix);
     let other = prefix(&rt, b"10.0.2.0/24");
     assert!(rt; are_own_tags_right(&setting, named, other));

@@ -2,6 +2,7 @@
 //! gives it, so that proofs of what uses it don't read it.
 use crate::exit_rows::{entered_row, exits_row, exported_row, silent_exit_row};
 use crate::lines::{Held, Line};
+use samples::{LINE, RING, TRIANGLE, TWO_ROUTERS, TWO_SPINES, TWO_WAYS};
 
 /// A network with a policy, its configuration and failures; the routes that the routers settle on; and single
 /// routes in whose place the outcome isn't stable. Locations go by their numbers.
@@ -20,33 +21,6 @@ pub(crate) struct Row {
     pub(crate) settled: &'static [Held],
     pub(crate) unstable: &'static [(u16, Held)],
 }
-
-const TWO_ROUTERS: &[u8] = br#"{"routers":[{"name":"A","asn":64512,"id":"10.255.0.1"},
-{"name":"B","asn":64513,"id":"10.255.0.2"}],"peers":[],"links":[["A","B"]]}"#;
-
-const TRIANGLE: &[u8] = br#"{"routers":[{"name":"A","asn":64512,"id":"10.255.0.1"},
-{"name":"B","asn":64513,"id":"10.255.0.2"},{"name":"C","asn":64514,"id":"10.255.0.3"}],
-"peers":[],"links":[["A","B"],["A","C"],["B","C"]]}"#;
-
-const DETOUR: &[u8] = br#"{"routers":[{"name":"D","asn":64512,"id":"10.255.0.1"},
-{"name":"B","asn":64513,"id":"10.255.0.2"},{"name":"X","asn":64514,"id":"10.255.0.3"},
-{"name":"C","asn":64515,"id":"10.255.0.4"}],
-"peers":[],"links":[["D","B"],["B","X"],["X","C"],["C","D"]]}"#;
-
-const FALLBACK: &[u8] = br#"{"routers":[{"name":"A","asn":64512,"id":"10.255.0.1"},
-{"name":"B","asn":64513,"id":"10.255.0.2"},{"name":"C","asn":64514,"id":"10.255.0.3"},
-{"name":"D","asn":64515,"id":"10.255.0.4"},{"name":"E","asn":64516,"id":"10.255.0.5"}],
-"peers":[],"links":[["A","B"],["B","C"],["C","D"],["A","E"],["E","D"]]}"#;
-
-const VALLEY_FREE: &[u8] = br#"{"routers":[{"name":"T1","asn":64512,"id":"10.255.0.1"},
-{"name":"A1","asn":64513,"id":"10.255.0.2"},{"name":"S1","asn":64514,"id":"10.255.0.3"},
-{"name":"S2","asn":64515,"id":"10.255.0.4"},{"name":"A2","asn":64516,"id":"10.255.0.5"},
-{"name":"T3","asn":64517,"id":"10.255.0.6"},{"name":"T4","asn":64518,"id":"10.255.0.7"}],"peers":[],
-"links":[["T1","A1"],["A1","S1"],["A1","S2"],["S1","A2"],["S2","A2"],["A2","T3"],["A2","T4"]]}"#;
-
-const TWO_ORIGINS: &[u8] = br#"{"routers":[{"name":"A","asn":64512,"id":"10.255.0.1"},
-{"name":"D","asn":64513,"id":"10.255.0.2"},{"name":"C","asn":64514,"id":"10.255.0.3"}],
-"peers":[],"links":[["A","D"],["D","C"]]}"#;
 
 const ANY_FROM_A: &[u8] = b"originate 10.0.1.0/24 at A; 10.0.1.0/24 => any;";
 
@@ -136,7 +110,7 @@ fn dead_origin_row() -> Row {
 
 /// A detour that is ranked second.
 const RANKED_DETOUR: Row = Row {
-    topology: DETOUR,
+    topology: RING,
     policy: b"originate 10.0.1.0/24 at D; 10.0.1.0/24 => avoid(X) >> any;",
     class: (b"10.0.1.0/24", 24),
     lines: &[
@@ -185,7 +159,7 @@ fn ranked_detour_row() -> Row {
 
 /// A fallback path that is ranked second.
 const RANKED_FALLBACK: Row = Row {
-    topology: FALLBACK,
+    topology: TWO_WAYS,
     policy: b"originate 10.0.1.0/24 at D; 10.0.1.0/24 => path(A, B, C, D) >> path(A, E, D) from A;",
     class: (b"10.0.1.0/24", 24),
     lines: &[
@@ -254,7 +228,7 @@ fn ungoverned_row() -> Row {
 
 /// The valley-free policy with a dead router.
 const DEAD_SPINE: Row = Row {
-    topology: VALLEY_FREE,
+    topology: TWO_SPINES,
     policy: b"originate 10.0.1.0/24 at T1;
 10.0.1.0/24 => through(S1, S2) and notransit(T1, T3, T4) from T3, T4;",
     class: (b"10.0.1.0/24", 24),
@@ -314,7 +288,7 @@ fn dead_spine_row() -> Row {
 
 /// Two origins, of which one announces.
 const SEVERAL_ORIGINS: Row = Row {
-    topology: TWO_ORIGINS,
+    topology: LINE,
     policy: b"originate 10.0.5.0/24 at A, D; 10.0.5.0/24 => end(A >> D);",
     class: (b"10.0.5.0/24", 24),
     lines: &[

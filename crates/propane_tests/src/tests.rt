@@ -4,16 +4,11 @@ mod policies;
 mod refused;
 mod topologies;
 
-use outside::{CountSink, MemInputs, MemSink, NoMemory, SureInputs};
+use outside::{CountSink, MemInputs, MemSink, NoMemory};
 use propane_run::{Status, run};
+use samples::TWO_ROUTERS;
 use std::alloc::Global;
 use std::test::Fail;
-
-const TWO_ROUTERS: &[u8] =
-    b"{\"links\":[[\"A\",\"B\"]],\"peers\":[],\"routers\":[{\"asn\":64512,\"id\":\"10.255.0.1\",\"name\":\"A\"},{\"asn\":64513,\"id\":\"10.255.0.2\",\"name\":\"B\"}]}";
-
-const TWO_EXITS: &[u8] =
-    b"{\"links\":[[\"R1\",\"R2\"],[\"R1\",\"P1\"],[\"R2\",\"P2\"]],\"peers\":[{\"asn\":1001,\"id\":\"192.0.2.1\",\"name\":\"P1\"},{\"asn\":1002,\"id\":\"192.0.2.2\",\"name\":\"P2\"}],\"routers\":[{\"asn\":64512,\"id\":\"10.255.0.1\",\"name\":\"R1\"},{\"asn\":64513,\"id\":\"10.255.0.2\",\"name\":\"R2\"}]}";
 
 const ANY_PATH: &[u8] = b"originate 10.0.1.0/24 at A; 10.0.1.0/24 => any;";
 
@@ -79,73 +74,124 @@ fn refuses(alloc: Global, topology: &[u8], policy: &[u8], line: &[u8]) -> Result
     compiles(alloc, topology, policy, Status::BadInput, b"", line)
 }
 
-#[test]
-fn two_routers_compile(rt: HostRuntime) -> Result<(), Fail> {
-    let alloc = rt.alloc();
-    assert!(rt; compiles(alloc, TWO_ROUTERS, ANY_PATH, Status::Done, CONFIG, b"")?);
-    Ok(())
-}
+const COMPILE: &[&str] = &["compile", "t.json", "p.propane"];
+
+const USAGE: &[u8] = b"propane: usage: compile TOPO POLICY\n";
+
+// One run: its words, the calls of the inputs, of `out` and of `err` that fail (none is numbered 0), the status and its
+// number, and what `out` and `err` took.
+type Row = (
+    &'static str,
+    &'static [&'static str],
+    (u64, u64, u64),
+    (Status, u8),
+    (&'static [u8], &'static [u8]),
+);
+
+const ENDS: [Row; 12] = [
+    (
+        "two routers compile",
+        COMPILE,
+        (0, 0, 0),
+        (Status::Done, 0),
+        (CONFIG, b""),
+    ),
+    (
+        "each name is read once",
+        COMPILE,
+        (3, 0, 0),
+        (Status::Done, 0),
+        (CONFIG, b""),
+    ),
+    (
+        "one word is missing",
+        &["compile", "t.json"],
+        (0, 0, 0),
+        (Status::Usage, 2),
+        (b"", USAGE),
+    ),
+    (
+        "another command",
+        &["compiles", "t.json", "p.propane"],
+        (0, 0, 0),
+        (Status::Usage, 2),
+        (b"", USAGE),
+    ),
+    (
+        "the names are exchanged",
+        &["compile", "p.propane", "t.json"],
+        (0, 0, 0),
+        (Status::BadInput, 3),
+        (b"", b"propane: topology 1 not-json\n"),
+    ),
+    (
+        "the first name can't be read",
+        COMPILE,
+        (1, 0, 0),
+        (Status::ReadFault, 4),
+        (b"", b"propane: cannot read t.json\n"),
+    ),
+    (
+        "the second name can't be read",
+        COMPILE,
+        (2, 0, 0),
+        (Status::ReadFault, 4),
+        (b"", b"propane: cannot read p.propane\n"),
+    ),
+    (
+        "a name that isn't held",
+        &["compile", "t.json", "absent"],
+        (0, 0, 0),
+        (Status::ReadFault, 4),
+        (b"", b"propane: cannot read absent\n"),
+    ),
+    (
+        "the output fails at its second write",
+        COMPILE,
+        (0, 2, 0),
+        (Status::WriteFault, 5),
+        (b"propane", b""),
+    ),
+    (
+        "the error output fails",
+        &["compile"],
+        (0, 0, 1),
+        (Status::WriteFault, 5),
+        (b"", b""),
+    ),
+    (
+        "an output to which nothing goes isn't called",
+        &["compile"],
+        (0, 1, 0),
+        (Status::Usage, 2),
+        (b"", USAGE),
+    ),
+    (
+        "nor is the error output",
+        COMPILE,
+        (0, 0, 1),
+        (Status::Done, 0),
+        (CONFIG, b""),
+    ),
+];
 
 #[test]
-fn counted_and_sure(rt: HostRuntime) -> Result<(), Fail> {
+fn how_runs_end(rt: HostRuntime) -> Result<(), Fail> {
     let alloc = rt.alloc();
-    let words = words_of(alloc, &["compile", "t.json", "p.propane"])?;
-    let mut inputs = SureInputs::new(alloc);
-    inputs.hold("t.json", TWO_ROUTERS)?;
-    inputs.hold("p.propane", ANY_PATH)?;
-    let mut out = CountSink::new();
-    let mut err = CountSink::new();
-    let status = super::run_surely(alloc, &words, &mut inputs, &mut out, &mut err);
-    assert!(rt; status == Status::Done);
-    assert_eq!(rt; out.count(), 250);
-    assert_eq!(rt; err.count(), 0);
-    Ok(())
-}
-
-#[test]
-fn words_that_are_no_command(rt: HostRuntime) -> Result<(), Fail> {
-    let alloc = rt.alloc();
-    let words = words_of(alloc, &["compile", "a"])?;
-    let mut inputs = MemInputs::new(alloc);
-    let mut out = MemSink::new(alloc, 100, 100)?;
-    let mut err = MemSink::new(alloc, 100, 100)?;
-    let status = run(alloc, &words, &mut inputs, &mut out, &mut err);
-    assert!(rt; status == Status::Usage);
-    assert_eq!(rt;
-        err.taken(),
-        b"propane: usage: compile TOPO POLICY\n".as_slice()
-    );
-    assert!(rt; out.taken().is_empty());
-    Ok(())
-}
-
-#[test]
-fn a_name_that_cannot_be_read(rt: HostRuntime) -> Result<(), Fail> {
-    let alloc = rt.alloc();
-    let words = words_of(alloc, &["compile", "t.json", "p.propane"])?;
-    let mut inputs = inputs_of(alloc, TWO_ROUTERS, ANY_PATH)?;
-    inputs.fail(1)?;
-    let mut out = MemSink::new(alloc, 100, 100)?;
-    let mut err = MemSink::new(alloc, 100, 100)?;
-    let status = run(alloc, &words, &mut inputs, &mut out, &mut err);
-    assert!(rt; status == Status::ReadFault);
-    assert_eq!(rt; err.taken(), b"propane: cannot read t.json\n".as_slice());
-    assert!(rt; out.taken().is_empty());
-    Ok(())
-}
-
-#[test]
-fn an_output_that_fails(rt: HostRuntime) -> Result<(), Fail> {
-    let alloc = rt.alloc();
-    let words = words_of(alloc, &["compile", "t.json", "p.propane"])?;
-    let mut inputs = inputs_of(alloc, TWO_ROUTERS, ANY_PATH)?;
-    let mut out = MemSink::new(alloc, 100, 3)?;
-    out.fail(2)?;
-    let mut err = MemSink::new(alloc, 100, 100)?;
-    let status = run(alloc, &words, &mut inputs, &mut out, &mut err);
-    assert!(rt; status == Status::WriteFault);
-    assert_eq!(rt; out.taken(), b"pro".as_slice());
-    assert!(rt; err.taken().is_empty());
+    for (name, words, (read, to_out, to_err), (status, number), (out_wanted, err_wanted)) in ENDS {
+        let words = words_of(alloc, words)?;
+        let mut inputs = inputs_of(alloc, TWO_ROUTERS, ANY_PATH)?;
+        inputs.fail(read)?;
+        let mut out = MemSink::new(alloc, 4096, 7)?;
+        out.fail(to_out)?;
+        let mut err = MemSink::new(alloc, 4096, 100)?;
+        err.fail(to_err)?;
+        let ended = run(alloc, &words, &mut inputs, &mut out, &mut err);
+        assert_eq!(rt; ended, status, "{name}");
+        assert_eq!(rt; ended.number(), number, "{name}");
+        assert_eq!(rt; out.taken(), out_wanted, "{name}");
+        assert_eq!(rt; err.taken(), err_wanted, "{name}");
+    }
     Ok(())
 }
 
@@ -160,7 +206,7 @@ fn a_topology_that_is_too_long(rt: HostRuntime) -> Result<(), Fail> {
     let mut out = CountSink::new();
     let mut err = MemSink::new(alloc, 100, 100)?;
     let status = run(alloc, &words, &mut inputs, &mut out, &mut err);
-    assert!(rt; status == Status::BadInput);
+    assert_eq!(rt; status, Status::BadInput);
     assert_eq!(rt; err.taken(), b"propane: too long t.json\n".as_slice());
     assert_eq!(rt; out.count(), 0);
     Ok(())

@@ -1,23 +1,8 @@
 //! Policies that are compiled, and the configuration that each comes to.
-use super::{ANY_PATH, CONFIG, TWO_EXITS, TWO_ROUTERS, compiles};
+use super::{ANY_PATH, CONFIG, compiles};
 use propane_run::Status;
+use samples::{LINE, RING, TWO_EXITS, TWO_ROUTERS, TWO_SPINES, TWO_WAYS};
 use std::test::Fail;
-
-// D, B, X and C: a ring with two ways round.
-const RING: &[u8] =
-    b"{\"links\":[[\"D\",\"B\"],[\"B\",\"X\"],[\"X\",\"C\"],[\"C\",\"D\"]],\"peers\":[],\"routers\":[{\"asn\":64512,\"id\":\"10.255.0.1\",\"name\":\"D\"},{\"asn\":64513,\"id\":\"10.255.0.2\",\"name\":\"B\"},{\"asn\":64514,\"id\":\"10.255.0.3\",\"name\":\"X\"},{\"asn\":64515,\"id\":\"10.255.0.4\",\"name\":\"C\"}]}";
-
-// A, B, C, D and E: a long way and a short one from A to D.
-const BRANCHES: &[u8] =
-    b"{\"links\":[[\"A\",\"B\"],[\"B\",\"C\"],[\"C\",\"D\"],[\"A\",\"E\"],[\"E\",\"D\"]],\"peers\":[],\"routers\":[{\"asn\":64512,\"id\":\"10.255.0.1\",\"name\":\"A\"},{\"asn\":64513,\"id\":\"10.255.0.2\",\"name\":\"B\"},{\"asn\":64514,\"id\":\"10.255.0.3\",\"name\":\"C\"},{\"asn\":64515,\"id\":\"10.255.0.4\",\"name\":\"D\"},{\"asn\":64516,\"id\":\"10.255.0.5\",\"name\":\"E\"}]}";
-
-// T1, A1, S1, S2, A2, T3 and T4: two ways over the middle.
-pub const TWO_SPINES: &[u8] =
-    b"{\"links\":[[\"T1\",\"A1\"],[\"A1\",\"S1\"],[\"A1\",\"S2\"],[\"S1\",\"A2\"],[\"S2\",\"A2\"],[\"A2\",\"T3\"],[\"A2\",\"T4\"]],\"peers\":[],\"routers\":[{\"asn\":64512,\"id\":\"10.255.0.1\",\"name\":\"T1\"},{\"asn\":64513,\"id\":\"10.255.0.2\",\"name\":\"A1\"},{\"asn\":64514,\"id\":\"10.255.0.3\",\"name\":\"S1\"},{\"asn\":64515,\"id\":\"10.255.0.4\",\"name\":\"S2\"},{\"asn\":64516,\"id\":\"10.255.0.5\",\"name\":\"A2\"},{\"asn\":64517,\"id\":\"10.255.0.6\",\"name\":\"T3\"},{\"asn\":64518,\"id\":\"10.255.0.7\",\"name\":\"T4\"}]}";
-
-// A, D and C in a line.
-const LINE: &[u8] =
-    b"{\"links\":[[\"A\",\"D\"],[\"D\",\"C\"]],\"peers\":[],\"routers\":[{\"asn\":64512,\"id\":\"10.255.0.1\",\"name\":\"A\"},{\"asn\":64513,\"id\":\"10.255.0.2\",\"name\":\"D\"},{\"asn\":64514,\"id\":\"10.255.0.3\",\"name\":\"C\"}]}";
 
 const TWO_EXITS_CONFIG: &[u8] = b"propane-config 1
 class 1 0.0.0.0/0 le 32
@@ -216,55 +201,58 @@ end
 ";
 
 // Each network with its policy and their configuration.
-const ROWS: [(&[u8], &[u8], &[u8]); 10] = [
-    // any path
-    (TWO_ROUTERS, ANY_PATH, CONFIG),
-    // two ranked exits: each router has a node for its own exit and one for the other
-    (TWO_EXITS, b"true => exit(P1 >> P2);", TWO_EXITS_CONFIG),
-    // a detour that is ranked second
+const ROWS: [(&str, &[u8], &[u8], &[u8]); 10] = [
+    ("any path", TWO_ROUTERS, ANY_PATH, CONFIG),
     (
+        "two ranked exits: each router has a node for its own exit and one for the other",
+        TWO_EXITS,
+        b"true => exit(P1 >> P2);",
+        TWO_EXITS_CONFIG,
+    ),
+    (
+        "a detour that is ranked second",
         RING,
         b"originate 10.0.1.0/24 at D; 10.0.1.0/24 => avoid(X) >> any;",
         RING_CONFIG,
     ),
-    // a path and its fallback, for one source
     (
-        BRANCHES,
+        "a path and its fallback, for one source",
+        TWO_WAYS,
         b"originate 10.0.1.0/24 at D; 10.0.1.0/24 => path(A, B, C, D) >> path(A, E, D) from A;",
         BRANCHES_CONFIG,
     ),
-    // no path at all
     (
+        "no path at all",
         TWO_ROUTERS,
         b"originate 10.0.1.0/24 at A; 10.0.1.0/24 => drop;",
         DROP_CONFIG,
     ),
-    // a prefix that no statement governs changes nothing
     (
+        "a prefix that no statement governs changes nothing",
         TWO_ROUTERS,
         b"originate 10.0.1.0/24 at A; originate 10.0.9.0/24 at A; 10.0.1.0/24 => any;",
         CONFIG,
     ),
-    // no way through the leaves: A1 has two tags
     (
+        "no way through the leaves: A1 has two tags",
         TWO_SPINES,
         b"originate 10.0.1.0/24 at T1; 10.0.1.0/24 => through(S1, S2) and notransit(T1, T3, T4) from T3, T4;",
         TWO_SPINES_CONFIG,
     ),
-    // two ranked origins, of which neither is on the way to the other
     (
+        "two ranked origins, of which neither is on the way to the other",
         LINE,
         b"originate 10.0.5.0/24 at A, D; 10.0.5.0/24 => end(A >> D);",
         LINE_CONFIG,
     ),
-    // a peer that may enter at one router
     (
+        "a peer that may enter at one router",
         TWO_EXITS,
         b"originate 10.0.1.0/24 at R2; 10.0.1.0/24 => enter(R1);",
         ENTERED_CONFIG,
     ),
-    // no network and no policy
     (
+        "no network and no policy",
         b"{\"links\":[],\"peers\":[],\"routers\":[]}",
         b"",
         b"propane-config 1\n",
@@ -274,8 +262,11 @@ const ROWS: [(&[u8], &[u8], &[u8]); 10] = [
 #[test]
 fn policies_that_compile(rt: HostRuntime) -> Result<(), Fail> {
     let alloc = rt.alloc();
-    for (topology, policy, config) in ROWS {
-        assert!(rt; compiles(alloc, topology, policy, Status::Done, config, b"")?);
+    for (name, topology, policy, config) in ROWS {
+        assert!(rt;
+            compiles(alloc, topology, policy, Status::Done, config, b"")?,
+            "{name}"
+        );
     }
     Ok(())
 }

@@ -1,13 +1,10 @@
 //! Policies at each limit, which are read, and one past it, which are refused.
 use super::{is_lawful, refuses};
 use outside::NoMemory;
+use samples::EIGHT;
 use std::alloc::Global;
 use std::test::Fail;
 use text_words::{push_bytes, push_number};
-
-// Eight routers without links.
-const EIGHT: &[u8] =
-    b"{\"links\":[],\"peers\":[],\"routers\":[{\"asn\":64512,\"id\":\"10.255.0.1\",\"name\":\"R1\"},{\"asn\":64513,\"id\":\"10.255.0.2\",\"name\":\"R2\"},{\"asn\":64514,\"id\":\"10.255.0.3\",\"name\":\"R3\"},{\"asn\":64515,\"id\":\"10.255.0.4\",\"name\":\"R4\"},{\"asn\":64516,\"id\":\"10.255.0.5\",\"name\":\"R5\"},{\"asn\":64517,\"id\":\"10.255.0.6\",\"name\":\"R6\"},{\"asn\":64518,\"id\":\"10.255.0.7\",\"name\":\"R7\"},{\"asn\":64519,\"id\":\"10.255.0.8\",\"name\":\"R8\"}]}";
 
 // Whether the text is read.
 fn is_read(alloc: Global, text: &[u8]) -> Result<bool, NoMemory> {
@@ -77,29 +74,38 @@ fn pairs(alloc: Global, items: u64, last: &[u8]) -> Result<Vec<u8>, NoMemory> {
 #[test]
 fn items_at_their_limits(rt: HostRuntime) -> Result<(), Fail> {
     let alloc = rt.alloc();
-    assert!(rt; is_read(alloc, &definitions(alloc, 256)?)?);
+    assert!(rt;
+        is_read(alloc, &definitions(alloc, 256)?)?,
+        "256 definitions"
+    );
     assert!(rt;
         refuses(
             alloc,
             EIGHT,
             &definitions(alloc, 257)?,
             b"propane: policy 11 too-many definitions 257\n"
-        )?
+        )?,
+        "257 definitions"
     );
-    assert!(rt; is_read(alloc, &repeated(alloc, b"", b"true => any;", 256, b"")?)?);
+    assert!(rt;
+        is_read(alloc, &repeated(alloc, b"", b"true => any;", 256, b"")?)?,
+        "256 statements"
+    );
     assert!(rt;
         refuses(
             alloc,
             EIGHT,
             &repeated(alloc, b"", b"true => any;", 257, b"")?,
             b"propane: policy 11 too-many statements 257\n"
-        )?
+        )?,
+        "257 statements"
     );
     assert!(rt;
         is_read(
             alloc,
             &repeated(alloc, b"1.0.0.0/8", b" or 1.0.0.0/8", 16383, b" => any;")?
-        )?
+        )?,
+        "16384 patterns"
     );
     assert!(rt;
         refuses(
@@ -107,7 +113,8 @@ fn items_at_their_limits(rt: HostRuntime) -> Result<(), Fail> {
             EIGHT,
             &repeated(alloc, b"1.0.0.0/8", b" or 1.0.0.0/8", 16384, b" => any;")?,
             b"propane: policy 11 too-many patterns 16385\n"
-        )?
+        )?,
+        "16385 patterns"
     );
     Ok(())
 }
@@ -115,23 +122,28 @@ fn items_at_their_limits(rt: HostRuntime) -> Result<(), Fail> {
 #[test]
 fn origins_at_their_limits(rt: HostRuntime) -> Result<(), Fail> {
     let alloc = rt.alloc();
-    assert!(rt; is_read(alloc, &prefixes(alloc, 4096)?)?);
+    assert!(rt; is_read(alloc, &prefixes(alloc, 4096)?)?, "4096 prefixes");
     assert!(rt;
         refuses(
             alloc,
             EIGHT,
             &prefixes(alloc, 4097)?,
             b"propane: policy 11 too-many prefixes 4097\n"
-        )?
+        )?,
+        "4097 prefixes"
     );
-    assert!(rt; is_read(alloc, &pairs(alloc, 2047, b"ALL, R1")?)?);
+    assert!(rt;
+        is_read(alloc, &pairs(alloc, 2047, b"ALL, R1")?)?,
+        "16384 origins"
+    );
     assert!(rt;
         refuses(
             alloc,
             EIGHT,
             &pairs(alloc, 2048, b"R1")?,
             b"propane: policy 11 too-many origins 16385\n"
-        )?
+        )?,
+        "16385 origins"
     );
     Ok(())
 }
@@ -143,7 +155,8 @@ fn expressions_at_their_limits(rt: HostRuntime) -> Result<(), Fail> {
         is_read(
             alloc,
             &repeated(alloc, b"true => any", b" or any", 255, b";")?
-        )?
+        )?,
+        "256 calls"
     );
     assert!(rt;
         refuses(
@@ -151,13 +164,15 @@ fn expressions_at_their_limits(rt: HostRuntime) -> Result<(), Fail> {
             EIGHT,
             &repeated(alloc, b"true => any", b" or any", 999, b";")?,
             b"propane: policy 11 too-many calls 1000\n"
-        )?
+        )?,
+        "1000 calls"
     );
     assert!(rt;
         is_read(
             alloc,
             &repeated(alloc, b"true => path(any", b",any", 255, b");")?
-        )?
+        )?,
+        "256 places"
     );
     assert!(rt;
         refuses(
@@ -165,17 +180,22 @@ fn expressions_at_their_limits(rt: HostRuntime) -> Result<(), Fail> {
             EIGHT,
             &repeated(alloc, b"true => path(any", b",any", 256, b");")?,
             b"propane: policy 11 too-many places 257\n"
-        )?
+        )?,
+        "257 places"
     );
     let open = repeated(alloc, b"true => ", b"(", 64, b"any")?;
-    assert!(rt; is_read(alloc, &repeated(alloc, &open, b")", 64, b";")?)?);
+    assert!(rt;
+        is_read(alloc, &repeated(alloc, &open, b")", 64, b";")?)?,
+        "64 levels"
+    );
     assert!(rt;
         refuses(
             alloc,
             EIGHT,
             &repeated(alloc, b"true => ", b"(", 65, b"any")?,
             b"propane: policy 3 deep at 1:73\n"
-        )?
+        )?,
+        "65 levels"
     );
     Ok(())
 }

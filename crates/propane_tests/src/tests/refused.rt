@@ -1,49 +1,40 @@
 //! Policies that are refused, and the line that each comes to.
-use super::compiled::TWO_SPINES;
-use super::{TWO_ROUTERS, compiles};
-use mesh_texts::{mesh, prefixes, ways};
+use super::compiles;
 use outside::NoMemory;
 use propane_run::Status;
+use samples::{CHAIN, TWO_ROUTERS, TWO_SPINES, WAYPOINT_RING, mesh, prefixes, ways};
 use std::alloc::Global;
 use std::test::Fail;
 
-// D, X, W and Y: a ring with a waypoint opposite the origin.
-const WAYPOINT_RING: &[u8] =
-    b"{\"links\":[[\"D\",\"X\"],[\"X\",\"W\"],[\"W\",\"Y\"],[\"Y\",\"D\"]],\"peers\":[],\"routers\":[{\"asn\":64512,\"id\":\"10.255.0.1\",\"name\":\"D\"},{\"asn\":64513,\"id\":\"10.255.0.2\",\"name\":\"X\"},{\"asn\":64514,\"id\":\"10.255.0.3\",\"name\":\"W\"},{\"asn\":64515,\"id\":\"10.255.0.4\",\"name\":\"Y\"}]}";
-
-// D, X and W: a line with a waypoint at its end.
-const WAYPOINT_LINE: &[u8] =
-    b"{\"links\":[[\"D\",\"X\"],[\"X\",\"W\"]],\"peers\":[],\"routers\":[{\"asn\":64512,\"id\":\"10.255.0.1\",\"name\":\"D\"},{\"asn\":64513,\"id\":\"10.255.0.2\",\"name\":\"X\"},{\"asn\":64514,\"id\":\"10.255.0.3\",\"name\":\"W\"}]}";
-
 // Each network with its policy and why it is refused.
-const ROWS: [(&[u8], &[u8], &[u8]); 5] = [
-    // 72 alternatives
+const ROWS: [(&str, &[u8], &[u8], &[u8]); 5] = [
     (
+        "72 alternatives",
         TWO_ROUTERS,
         b"originate 10.0.1.0/24 at A; 10.0.1.0/24 => end(A >> B >> A >> B >> A >> B >> A >> B >> A) and end(A >> B >> A >> B >> A >> B >> A >> B);",
         b"propane: refused 1 too-many-ranks case 1 number 72\n",
     ),
-    // a source that is named, and no path at all
     (
+        "a source that is named, and no path at all",
         TWO_ROUTERS,
         b"originate 10.0.1.0/24 at A; 10.0.1.0/24 => drop from B;",
         b"propane: refused 4 source-without-path case 1 router B\n",
     ),
-    // a source with a ranked way and one without a rank that others need
     (
+        "a source with a ranked way and one without a rank that others need",
         TWO_SPINES,
         b"originate 10.0.1.0/24 at T1; 10.0.1.0/24 => through(S1, S2);",
         b"propane: refused 5 mixed-source case 1 router A1 with A1 S1 A1 T1 without A1 T1\n",
     ),
-    // whoever waits for the waypoint waits for the other
     (
+        "whoever waits for the waypoint waits for the other",
         WAYPOINT_RING,
         b"originate 10.0.1.0/24 at D; 10.0.1.0/24 => through(W) >> any;",
         b"propane: refused 6 no-evidence case 1\n",
     ),
-    // the way to the waypoint leads through the one that would use it
     (
-        WAYPOINT_LINE,
+        "the way to the waypoint leads through the one that would use it",
+        CHAIN,
         b"originate 10.0.1.0/24 at D; 10.0.1.0/24 => through(W) >> any;",
         b"propane: refused 6 no-evidence case 1\n",
     ),
@@ -62,8 +53,8 @@ fn turns_down(
 #[test]
 fn policies_that_are_refused(rt: HostRuntime) -> Result<(), Fail> {
     let alloc = rt.alloc();
-    for (topology, policy, line) in ROWS {
-        assert!(rt; turns_down(alloc, topology, policy, line)?);
+    for (name, topology, policy, line) in ROWS {
+        assert!(rt; turns_down(alloc, topology, policy, line)?, "{name}");
     }
     Ok(())
 }
@@ -73,7 +64,10 @@ fn policies_past_the_limits(rt: HostRuntime) -> Result<(), Fail> {
     let alloc = rt.alloc();
     let small = mesh(alloc, 21)?;
     let states = b"propane: refused 2 too-many-states case 1\n";
-    assert!(rt; turns_down(alloc, small.as_bytes(), ways(alloc, 8)?.as_bytes(), states)?);
+    assert!(rt;
+        turns_down(alloc, small.as_bytes(), ways(alloc, 8)?.as_bytes(), states)?,
+        "too many states"
+    );
     let large = mesh(alloc, 90)?;
     let steps = b"propane: refused 3 too-many-steps case 17\n";
     assert!(rt;
@@ -82,7 +76,8 @@ fn policies_past_the_limits(rt: HostRuntime) -> Result<(), Fail> {
             large.as_bytes(),
             prefixes(alloc, 17)?.as_bytes(),
             steps
-        )?
+        )?,
+        "too many steps"
     );
     Ok(())
 }

@@ -1,2 +1,0 @@
-pub mod SmallNet
-pub mod SmallPolicy

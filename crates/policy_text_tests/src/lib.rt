@@ -1,5 +1,0 @@
-//! Policies that are printed and read again.
-#![tactic(auto)]
-
-#[cfg(test)]
-mod tests;

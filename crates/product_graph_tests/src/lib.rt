@@ -1,5 +1,0 @@
-//! Graphs of cases against graphs that were worked by hand.
-#![tactic(auto)]
-
-#[cfg(test)]
-mod tests;

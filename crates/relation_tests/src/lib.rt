@@ -1,5 +1,0 @@
-//! Relations and numbers of graphs that were worked by hand.
-#![tactic(auto)]
-
-#[cfg(test)]
-mod tests;
