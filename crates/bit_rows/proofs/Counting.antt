@@ -11,7 +11,7 @@ use Rattle.std.specs.Prelude.{count_ones}
 use native.Mathlib.Nat.{pow-suc}
 use Rattle.bit_rows.specs.Bits.{has}
 
-first_of : (p : ℕ → Bool) (a n : ℕ) → count_by p (range_with_len a (suc n)) ≡ cond (p a) 1 0 + count_by p (range_with_len (a + 1) n)
+pub first_of : (p : ℕ → Bool) (a n : ℕ) → count_by p (range_with_len a (suc n)) ≡ cond (p a) 1 0 + count_by p (range_with_len (a + 1) n)
 first_of p a n = sum_by-cons (λ x. cond (p x) 1 0) a (range_with_len (a + 1) n)
 
 -- tests of two runs of numbers that agree place by place
@@ -45,7 +45,8 @@ ones_bits (suc k) w lt =
       | inr high ↦ (let e : d ≡ 1 = omega arith in rw e refl)
     ]
 
-count_split : (p : ℕ → Bool) (a m n : ℕ) → count_by p (range_with_len a (m + n)) ≡ count_by p (range_with_len a m) + count_by p (range_with_len (a + m) n)
+-- tests of one run of numbers and of the next
+pub count_split : (p : ℕ → Bool) (a m n : ℕ) → count_by p (range_with_len a (m + n)) ≡ count_by p (range_with_len a m) + count_by p (range_with_len (a + m) n)
 count_split p a zero n =
     let none : 0 + n ≡ n = omega arith in
     let start : a ≡ a + 0 = omega arith in
@@ -61,16 +62,22 @@ count_split p a (suc m) n =
     regroup : (x y z : ℕ) → x + (y + z) ≡ (x + y) + z
     regroup x y z = omega arith
 
--- one word more
-pub count_word : (row : List ℕ) (i w : ℕ) → w ≡ get_or row i 0 → w < 2 ^ 64 → count_by (has row) (range_with_len 0 (64 * i)) + count_ones w ≡ count_by (has row) (range_with_len 0 (64 * (i + 1)))
-count_word row i w is lt =
+-- one word more, whose bits are the tests of its place
+pub count_word : (p : ℕ → Bool) (i w : ℕ) → ((k : ℕ) → k < 64 → p (64 * i + k) ≡ eqb (bit_at w k) 1) → w < 2 ^ 64 → count_by p (range_with_len 0 (64 * i)) + count_ones w ≡ count_by p (range_with_len 0 (64 * (i + 1)))
+count_word p i w same lt =
     let more : 64 * (i + 1) ≡ 64 * i + 64 = omega arith in
-    let start : 0 + 64 * i ≡ 64 * i = omega arith in
-    let word : count_by (has row) (range_with_len (0 + 64 * i) 64) ≡ count_by (λ b. eqb (bit_at w b) 1) (range_with_len 0 64) = count_alike (has row) (λ b. eqb (bit_at w b) 1) (0 + 64 * i) 0 64 (λ k lk.
-    let at : (0 + 64 * i + k) / 64 ≡ i = omega arith in
-    let bit : (0 + 64 * i + k) % 64 ≡ 0 + k = omega arith in
-    ap (λ z. eqb (bit_at (get_or row z 0) ((0 + 64 * i + k) % 64)) 1) at ∙ ap (λ z. eqb (bit_at (get_or row i 0) z) 1) bit ∙ ap (λ z. eqb (bit_at z (0 + k)) 1) (sym is)) in
-    ap (λ z. count_by (has row) (range_with_len 0 (64 * i)) + z) (ones_bits 64 w lt ∙ sym word) ∙ sym (ap (λ z. count_by (has row) (range_with_len 0 z)) more ∙ count_split (has row) 0 (64 * i) 64)
+    let word : count_by p (range_with_len (0 + 64 * i) 64) ≡ count_by (λ b. eqb (bit_at w b) 1) (range_with_len 0 64) = count_alike p (λ b. eqb (bit_at w b) 1) (0 + 64 * i) 0 64 (λ k lk.
+    let at : 0 + 64 * i + k ≡ 64 * i + k = omega arith in
+    let bit : k ≡ 0 + k = omega arith in
+    ap p at ∙ same k lk ∙ ap (λ z. eqb (bit_at w z) 1) bit) in
+    ap (λ z. count_by p (range_with_len 0 (64 * i)) + z) (ones_bits 64 w lt ∙ sym word) ∙ sym (ap (λ z. count_by p (range_with_len 0 z)) more ∙ count_split p 0 (64 * i) 64)
+
+-- the bits of a row that stand in one word
+pub word_bits : (row : List ℕ) (i k : ℕ) → k < 64 → has row (64 * i + k) ≡ eqb (bit_at (get_or row i 0) k) 1
+word_bits row i k lk =
+    let at : (64 * i + k) / 64 ≡ i = omega arith in
+    let bit : (64 * i + k) % 64 ≡ k = omega arith in
+    ap (λ z. eqb (bit_at (get_or row z 0) ((64 * i + k) % 64)) 1) at ∙ ap (λ z. eqb (bit_at (get_or row i 0) z) 1) bit
 
 pub count_within : (p : ℕ → Bool) (a n : ℕ) → count_by p (range_with_len a n) ≤ n
 count_within p a n = omega (arith, count_by-le-length p (range_with_len a n), length-range_with_len a n)

@@ -8,7 +8,9 @@ use Rattle.std.proofs.lemmas.List.Folds.{list_any-append}
 use Rattle.std.specs.Prelude.{bit_and, bit_or}
 use Rattle.std.specs.Int.{bit_at, bit_not, trailing_zeros}
 use Rattle.std.specs.List.{list_any}
-use Rattle.bit_rows.specs.Bits.{has}
+use Rattle.std.proofs.Math.Bool.{or-false}
+use Rattle.bit_rows.specs.Bits.{has, outside}
+use Rattle.bit_rows.proofs.Counting.{word_bits}
 
 zero_or_one : (x : ℕ) → x < 2 → (x ≡ 0) ⊎ (x ≡ 1)
 zero_or_one x lt = elim (cases_lt x 1) [ inl low ↦ inl (omega arith) | inr high ↦ inr (omega arith) ]
@@ -68,10 +70,6 @@ smaller left b lb set =
       | inr other ↦ omega (arith, and_le_l left (bit_not w64 (1 * 2 ^ b % 2 ^ 64)))
     ]
 
-or_none : (x : Bool) → (x || false) ≡ x
-or_none true = refl
-or_none false = refl
-
 pub still_of : (word left b j : ℕ) → b < 64 → j < 64 → ((i : ℕ) → i < 64 → bit_at left i ≡ 1 → bit_at word i ≡ 1) → bit_at (rest_of left b) j ≡ 1 → bit_at word j ≡ 1
 still_of word left b j lb lj of set = elim (cases_eq j b) [
   | inl e ↦ absurd (let gone : bit_at (rest_of left b) b ≡ 0 = bit_at_clear_same w64 left b lb in let here : bit_at (rest_of left b) b ≡ 1 = ap (bit_at (rest_of left b)) (sym e) ∙ set in omega arith)
@@ -82,7 +80,7 @@ pub listed_next : (word left place b : ℕ) (xs : List ℕ) (k : ℕ) (o : Bool)
     list_any (λ x. eqb x k) xs ≡ (o || (eqb (k / 64) place && (eqb (bit_at word (k % 64)) 1 && not (eqb (bit_at left (k % 64)) 1)))) →
     list_any (λ x. eqb x k) (xs ++ (64 * place + b) ∷ []) ≡ (o || (eqb (k / 64) place && (eqb (bit_at word (k % 64)) 1 && not (eqb (bit_at (rest_of left b) (k % 64)) 1))))
 listed_next word left place b xs k o lb set in_word before =
-    list_any-append (λ x. eqb x k) xs ((64 * place + b) ∷ []) ∙ ap (λ z. z || (eqb (64 * place + b) k || false)) before ∙ ap (λ z. (o || old) || z) (or_none (eqb (64 * place + b) k)) ∙ elim (cases_eq k (64 * place + b)) [
+    list_any-append (λ x. eqb x k) xs ((64 * place + b) ∷ []) ∙ ap (λ z. z || (eqb (64 * place + b) k || false)) before ∙ ap (λ z. (o || old) || z) (or-false (eqb (64 * place + b) k)) ∙ elim (cases_eq k (64 * place + b)) [
       | inl e ↦ (
           let word_is : k / 64 ≡ place = omega arith in
           let bit_is : k % 64 ≡ b = omega arith in
@@ -90,7 +88,7 @@ listed_next word left place b xs k o lb set in_word before =
           let w : eqb (bit_at word (k % 64)) 1 ≡ true = eq-eqb _ _ (ap (bit_at word) bit_is ∙ in_word) in
           let l : eqb (bit_at (rest_of left b) (k % 64)) 1 ≡ false = ap (λ z. eqb z 1) (ap (bit_at (rest_of left b)) bit_is ∙ bit_at_clear_same w64 left b lb) in
           or_right (o || old) _ test ∙ sym (or_right o _ (and_from _ _ (eq-eqb _ _ word_is) (and_from _ _ w (ap not l)))))
-      | inr n ↦ ap (λ z. (o || old) || z) (ne_eqb _ _ (λ e. n (sym e))) ∙ or_none (o || old) ∙ ap (λ z. o || z) (elim (cases_eq (k / 64) place) [
+      | inr n ↦ ap (λ z. (o || old) || z) (ne_eqb _ _ (λ e. n (sym e))) ∙ or-false (o || old) ∙ ap (λ z. o || z) (elim (cases_eq (k / 64) place) [
         | inl e ↦ (
             let apart : k % 64 ≡ b → ⊥ = λ h. n (omega arith) in
             ap (λ z. eqb (k / 64) place && (eqb (bit_at word (k % 64)) 1 && not (eqb z 1))) (sym (bit_at_clear_other w64 left b lb (k % 64) (omega arith) apart)))
@@ -103,10 +101,7 @@ listed_next word left place b xs k o lb set in_word before =
 
 -- ---- three rows
 
-abbrev outside : ℕ → ℕ → ℕ → ℕ
-outside x y z = bit_and (bit_and x y) (bit_not w64 z)
-
-outside_bit : (x y z i : ℕ) → z < 2 ^ 64 → i < 64 → eqb (bit_at (outside x y z) i) 1 ≡ (eqb (bit_at x i) 1 && (eqb (bit_at y i) 1 && not (eqb (bit_at z i) 1)))
+pub outside_bit : (x y z i : ℕ) → z < 2 ^ 64 → i < 64 → eqb (bit_at (outside x y z) i) 1 ≡ (eqb (bit_at x i) 1 && (eqb (bit_at y i) 1 && not (eqb (bit_at z i) 1)))
 outside_bit x y z i fit li =
     ap (λ w. eqb w 1) (bit_at_and (bit_and x y) (bit_not w64 z) i) ∙ min_tests (bit_at (bit_and x y) i) (bit_at (bit_not w64 z) i) (bit_at-lt _ _) (bit_at-lt _ _)
     ∙ ap (λ w. eqb w 1 && eqb (bit_at (bit_not w64 z) i) 1) (bit_at_and x y i) ∙ ap (λ w. w && eqb (bit_at (bit_not w64 z) i) 1) (min_tests (bit_at x i) (bit_at y i) (bit_at-lt _ _) (bit_at-lt _ _))
@@ -116,6 +111,15 @@ outside_bit x y z i fit li =
     regroup : (a b c : Bool) → ((a && b) && c) ≡ (a && (b && c))
     regroup true b c = refl
     regroup false b c = refl
+
+pub outside_fits : (a b c : List ℕ) (i : ℕ) → get_or a i 0 < 2 ^ 64 → outside (get_or a i 0) (get_or b i 0) (get_or c i 0) < 2 ^ 64
+outside_fits a b c i fit = omega (arith, fit, and_le_l (bit_and (get_or a i 0) (get_or b i 0)) (bit_not w64 (get_or c i 0)), and_le_l (get_or a i 0) (get_or b i 0))
+
+-- the bits of three rows that stand in one word
+pub outside_bits : (a b c : List ℕ) (i : ℕ) → get_or c i 0 < 2 ^ 64 → (k : ℕ) → k < 64 → (has a (64 * i + k) && (has b (64 * i + k) && not (has c (64 * i + k)))) ≡ eqb (bit_at (outside (get_or a i 0) (get_or b i 0) (get_or c i 0)) k) 1
+outside_bits a b c i fit k lk =
+    ap (λ z. z && (has b (64 * i + k) && not (has c (64 * i + k)))) (word_bits a i k lk) ∙ ap (λ z. eqb (bit_at (get_or a i 0) k) 1 && (z && not (has c (64 * i + k)))) (word_bits b i k lk)
+    ∙ ap (λ z. eqb (bit_at (get_or a i 0) k) 1 && (eqb (bit_at (get_or b i 0) k) 1 && not z)) (word_bits c i k lk) ∙ sym (outside_bit (get_or a i 0) (get_or b i 0) (get_or c i 0) k fit lk)
 
 pub none_outside : (a b c : List ℕ) (i : ℕ) → length a ≤ i → ((j : ℕ) → get_or c j 0 < 2 ^ 64) → ((j : ℕ) → j < i → outside (get_or a j 0) (get_or b j 0) (get_or c j 0) ≡ 0) → (k : ℕ) → (has a k && (has b k && not (has c k))) ≡ false
 none_outside a b c i le fit none k = elim (cases_lt (k / 64) i) [
@@ -137,3 +141,10 @@ some_outside a b c i fita fit pos h =
     ∙ ap (λ z. eqb (bit_at (get_or a i 0) z) 1 && (eqb (bit_at (get_or b i 0) z) 1 && not (eqb (bit_at (get_or c i 0) z) 1))) bit
     ∙ sym (outside_bit (get_or a i 0) (get_or b i 0) (get_or c i 0) j (fit i) low.0) ∙ eq-eqb _ _ low.1 in
     both_ways _ (h k) here
+
+-- no bit outside, no word
+pub clear_word : (a b c : List ℕ) (i : ℕ) → ((j : ℕ) → get_or a j 0 < 2 ^ 64) → ((j : ℕ) → get_or c j 0 < 2 ^ 64) → ((k : ℕ) → (has a k && (has b k && not (has c k))) ≡ false) → outside (get_or a i 0) (get_or b i 0) (get_or c i 0) ≡ 0
+clear_word a b c i fita fit h = elim (cases_eq (outside (get_or a i 0) (get_or b i 0) (get_or c i 0)) 0) [
+  | inl none ↦ none
+  | inr some ↦ absurd (some_outside a b c i fita fit (omega (arith, some)) h)
+]

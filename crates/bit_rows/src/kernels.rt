@@ -2,7 +2,7 @@
 ghost use Rattle.std.specs.Prelude.{◌≡◌, ◌↔◌, ℕ, ◌+◌, ◌*◌, ◌==◌, ◌<◌, ◌≤◌, ◌&&◌, ◌||◌, not, false, IsTrue, length, slice_index, bit_and, bit_or};
 ghost use Rattle.std.specs.Int.{bit_not, w64};
 ghost use Rattle.std.specs.List.{count_by, range_with_len};
-ghost use Rattle.bit_rows.specs.Bits.{has};
+ghost use Rattle.bit_rows.specs.Bits.{has, outside};
 
 use std::simd::prelude::*;
 
@@ -116,12 +116,45 @@ pub fn outside_is_empty(a: &[u64], b: &[u64], c: &[u64]) -> bool
     requires c { length c.now ≡ length a.now }
     ensures { IsTrue result ↔ ((k : ℕ) → (has a.now k && (has b.now k && not (has c.now k))) ≡ false) }
 {
-    for i in 0..a.len() {
+    let whole = a.len() / 4;
+    for k in 0..whole {
+        if !lanes_are_inside(a, b, c, 4 * k) {
+            return false;
+        }
+    }
+    for i in 4 * whole..a.len() {
         if a[i] & b[i] & !c[i] != 0 {
             return false;
         }
     }
     true
+}
+
+/// Whether in four words from `at` on each bit that is set in the first two rows is set in the third.
+fn lanes_are_inside(a: &[u64], b: &[u64], c: &[u64], at: usize) -> bool
+    requires b { length b.now ≡ length a.now }
+    requires c { length c.now ≡ length a.now }
+    requires room { at + 4 ≤ length a.now }
+    ensures { IsTrue result ↔ ((j : ℕ) → at ≤ j → j < at + 4 → outside (slice_index a.now j) (slice_index b.now j) (slice_index c.now j) ≡ 0) }
+{
+    let x = u64x4::from_slice(&a[at..]);
+    let y = u64x4::from_slice(&b[at..]);
+    let z = u64x4::from_slice(&c[at..]);
+    (x & y & !z).reduce_or() == 0
+}
+
+/// How many bits are set in the first two rows and not in the third.
+pub fn count_outside(a: &[u64], b: &[u64], c: &[u64]) -> u32
+    requires few { 64 * length a.now < 4294967296 }
+    requires b { length b.now ≡ length a.now }
+    requires c { length c.now ≡ length a.now }
+    ensures { result ≡ count_by (λ k. has a.now k && (has b.now k && not (has c.now k))) (range_with_len 0 (64 * length a.now)) }
+{
+    let mut count = 0;
+    for i in 0..a.len() {
+        count += (a[i] & b[i] & !c[i]).count_ones();
+    }
+    count
 }
 
 /// How many bits are set.

@@ -7,6 +7,8 @@ mod rows;
 #[cfg(test)]
 mod tests;
 
-pub use kernels::{add_row, clear_row, count_bits, is_set, keep_row, outside_is_empty, set_bit};
+pub use kernels::{
+    add_row, clear_row, count_bits, count_outside, is_set, keep_row, outside_is_empty, set_bit,
+};
 pub use members::add_members;
 pub use rows::Rows;

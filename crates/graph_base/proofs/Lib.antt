@@ -4,3 +4,6 @@ pub mod NodesRead
 pub mod RankedRouters
 pub mod ShownWalks
 pub mod WalkLemmas
+pub mod StartsAndSteps
+pub mod WellFormed
+pub mod RunSteps

@@ -1,5 +1,6 @@
 //! The routers at which a node of a graph has a rank.
 ghost use Rattle.std.specs.Prelude.{◌≡◌, ◌↔◌, ◌&&◌, ◌<◌, ℕ, IsTrue, is_some};
+ghost use Rattle.net_base.specs.declared.limits.TheConstants.{LOCATIONS};
 ghost use Rattle.net_base.specs.Network.{is_router};
 ghost use Rattle.net_base.specs.Sets.{holds};
 ghost use Rattle.graph_base.specs.Ranked.{IsRankedRouter};
@@ -10,7 +11,7 @@ use net_base::{LocSet, Net};
 /// Whether a node stands at a router and has a rank.
 fn is_ranked(net: &Net, node: Node) -> bool
     ensures exact { result ≡ (is_router net.now node.loc && is_some node.rank) }
-    ensures within { IsTrue result → node.loc < 768 }
+    ensures within { IsTrue result → node.loc < LOCATIONS }
 {
     (node.loc.number() as usize) < net.routers().len() && node.rank.is_some()
 }

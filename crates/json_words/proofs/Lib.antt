@@ -1,2 +1,4 @@
 pub mod JsonLists
 pub mod JsonTexts
+mod Line
+pub mod ReadAgain

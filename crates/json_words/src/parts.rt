@@ -2,7 +2,7 @@
 ghost use Rattle.std.specs.Prelude.{◌≡◌, map, option_map};
 ghost use Rattle.serde_json.specs.Events.{members_len};
 ghost use Rattle.serde_json.specs.View.{view, members_view};
-ghost use Rattle.json_words.specs.Json.{list_at};
+ghost use Rattle.json_words.specs.Json.{has as has_key, list_at};
 
 use serde_json::{Map, Value};
 
@@ -21,4 +21,11 @@ pub fn list(value: &Value) -> Option<&[Value]>
         Some(items) => Some(items.as_slice()),
         None => None,
     }
+}
+
+/// Whether an object has a key. What is no object has none.
+pub fn has(value: &Value, key: &str) -> bool
+    ensures { result ≡ has_key key.now (view value.now) }
+{
+    value.get(key).is_some()
 }

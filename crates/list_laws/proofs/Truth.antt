@@ -32,6 +32,11 @@ pub if_same : {A : Type 0} (b : Bool) (x : A) → (if b then x else x) ≡ x
 if_same true x = refl
 if_same false x = refl
 
+-- beside a test that fails the other one decides
+pub or_failed : (x y : Bool) → y ≡ false → (x || y) ≡ x
+or_failed true y off = refl
+or_failed false y off = off
+
 -- a test of two parts, of which the second one is tried where the first one holds
 pub and_by_second : (whole first second answer : Bool) → whole ≡ (first && second) → first ≡ true → answer ≡ second → answer ≡ whole
 and_by_second whole first second answer is met same = same ∙ sym (is ∙ ap (λ b. b && second) met)

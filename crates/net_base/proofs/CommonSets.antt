@@ -1,11 +1,12 @@
 -- What the sets made word by word hold.
-use Rattle.std.proofs.Common.{◌≡◌, ◌==◌, ℕ, zero, suc, ◌+◌, ◌/◌, ◌%◌, min, ◌<◌, List, [], ◌∷◌, get_or, Bool, true, false, not, ◌&&◌, refl, sym, ap, ◌∙◌, arith}
+use Rattle.std.proofs.Common.{◌≡◌, ◌==◌, ℕ, zero, suc, ◌+◌, ◌/◌, ◌%◌, min, ◌<◌, List, [], ◌∷◌, get_or, false, not, ◌&&◌, refl, sym, ap, ◌∙◌, arith}
 use Rattle.std.specs.Prelude.{bit_and, bit_xor}
 use Rattle.std.specs.Int.{bit_at}
 use Rattle.std.proofs.lemmas.Nat.Bits.{bit_at-zero, bit_at_and, bit_at_xor, bit_at-lt}
 use Rattle.net_base.specs.declared.loc.LocSet.{LocSet}
 use Rattle.net_base.specs.Sets.{holds}
 use Rattle.net_base.specs.SetOperations.{common, common_words, outside, outside_words}
+use Rattle.std.proofs.Math.Bool.{and-false, and-true}
 
 min_test : (m n : ℕ) → m < 2 → n < 2 → (min m n == 1) ≡ ((m == 1) && (n == 1))
 min_test zero zero p q = refl
@@ -36,14 +37,6 @@ bit-outside v w i =
 no_bit : (i : ℕ) → (bit_at 0 i == 1) ≡ false
 no_bit i = ap (λ n. n == 1) (bit_at-zero i)
 
-and_none : (b : Bool) → false ≡ (b && false)
-and_none true = refl
-and_none false = refl
-
-and_all : (b : Bool) → b ≡ (b && true)
-and_all true = refl
-and_all false = refl
-
 get_or-nothing : (k : ℕ) → get_or {A = ℕ} [] k 0 ≡ 0
 get_or-nothing zero = refl
 get_or-nothing (suc k) = refl
@@ -54,7 +47,7 @@ common-at [] ws k i =
     ∙ sym (ap (λ n. (bit_at n i == 1) && (bit_at (get_or ws k 0) i == 1)) (get_or-nothing k) ∙ ap (λ b. b && (bit_at (get_or ws k 0) i == 1)) (no_bit i))
 common-at (v ∷ vs) [] k i =
     ap (λ n. bit_at n i == 1) (get_or-nothing k) ∙ no_bit i
-    ∙ and_none (bit_at (get_or (v ∷ vs) k 0) i == 1)
+    ∙ sym (and-false (bit_at (get_or (v ∷ vs) k 0) i == 1))
     ∙ sym (ap (λ n. (bit_at (get_or (v ∷ vs) k 0) i == 1) && (bit_at n i == 1)) (get_or-nothing k) ∙ ap (λ b. (bit_at (get_or (v ∷ vs) k 0) i == 1) && b) (no_bit i))
 common-at (v ∷ vs) (w ∷ ws) zero i = bit-common v w i
 common-at (v ∷ vs) (w ∷ ws) (suc k) i = common-at vs ws k i
@@ -64,7 +57,7 @@ outside-at [] ws k i =
     ap (λ n. bit_at n i == 1) (get_or-nothing k) ∙ no_bit i
     ∙ sym (ap (λ n. (bit_at n i == 1) && not (bit_at (get_or ws k 0) i == 1)) (get_or-nothing k) ∙ ap (λ b. b && not (bit_at (get_or ws k 0) i == 1)) (no_bit i))
 outside-at (v ∷ vs) [] k i =
-    and_all (bit_at (get_or (v ∷ vs) k 0) i == 1)
+    sym (and-true (bit_at (get_or (v ∷ vs) k 0) i == 1))
     ∙ sym (ap (λ n. (bit_at (get_or (v ∷ vs) k 0) i == 1) && not (bit_at n i == 1)) (get_or-nothing k) ∙ ap (λ b. (bit_at (get_or (v ∷ vs) k 0) i == 1) && not b) (no_bit i))
 outside-at (v ∷ vs) (w ∷ ws) zero i = bit-outside v w i
 outside-at (v ∷ vs) (w ∷ ws) (suc k) i = outside-at vs ws k i

@@ -11,3 +11,8 @@ pub mod SetLemmas
 pub mod SetOf
 pub mod StepLemmas
 mod WordSteps
+pub mod NumbersBelow
+pub mod Sites
+pub mod Links
+pub mod Neighbours
+pub mod SiteNumbers

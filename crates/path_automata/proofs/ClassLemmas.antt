@@ -1,51 +1,61 @@
 -- Classes of locations and their sets.
-use Rattle.std.proofs.Common.{◌≡◌, ℕ, zero, suc, ◌+◌, ◌*◌, ◌/◌, ◌<◌, ◌≤◌, Bool, true, false, cond, ◌&&◌, ◌||◌, eqb, List, [], ◌∷◌, ◌++◌, length, map, get_or, drop, Some, refl, sym, ap, ◌∙◌, ◌⊎◌, inl, inr, arith, ⊎_elim, add-one, drop-cons}
-use Rattle.std.specs.Prelude.{slice_get}
+use Rattle.std.proofs.Common.{◌≡◌, ℕ, zero, suc, ◌+◌, ◌*◌, ◌/◌, ◌<◌, Bool, true, false, cond, ◌||◌, eqb, List, [], ◌∷◌, ◌++◌, length, map, get_or, take, Some, refl, sym, ap, ◌∙◌, ◌⊎◌, inl, inr, arith, ⊎_elim}
+use Rattle.std.specs.Prelude.{nat_lt, slice_get}
 use Rattle.std.specs.List.{list_all, list_any}
 use Rattle.std.proofs.lemmas.Bool.{and_parts, and_from, cases_order}
 use Rattle.std.proofs.lemmas.List.Folds.{list_all-append}
 use Rattle.std.proofs.lemmas.Option.{slice_get_within, slice_get_read, get_or_from_slice_get, same_Some}
-use Rattle.std.proofs.lemmas.List.{map-append, get_or-set_same, get_or-set_other}
-use Rattle.std.proofs.Math.Bool.{true-and}
+use Rattle.std.proofs.lemmas.List.{map-append, take_all, get_or-set_same, get_or-set_other}
+use Rattle.list_laws.proofs.Items.{slice_get_in_front}
 use lib.Pointwise.{pointwise}
 use Rattle.std.proofs.Math.Bool.{beq}
-use Rattle.std.proofs.lemmas.Bool.{eqb-true}
+use Rattle.std.proofs.lemmas.Bool.{eqb-true, ltb-true}
 use Rattle.std.proofs.lemmas.Nat.{div-mul-add}
 use Rattle.std.proofs.Math.ListN.{set, length-set}
 use Rattle.indexmap.specs.IndexSet.{insert_key}
 use Rattle.net_base.specs.declared.loc.LocSet.{LocSet}
 use Rattle.net_base.specs.Sets.{holds}
-use Rattle.path_exprs.specs.declared.expr.Expr.{Expr}
-use Rattle.path_exprs.specs.Expression.{Expression, expressions_of}
-use Rattle.path_exprs.specs.View.{view, views}
-use Rattle.path_automata.specs.Sets.{agrees, each_pass, sets_pass}
+use Rattle.path_exprs.specs.Expression.{Expression}
+use Rattle.path_terms.specs.declared.term.Term.{Term}
+use Rattle.path_terms.specs.declared.term.Term.TheVariants.{Never, Empty, Set, Seq, Either, Both, Not, Star}
+use Rattle.path_terms.specs.Terms.{ascending, at, is_sound, node}
+use Rattle.path_automata.specs.Sets.{agrees, sets_pass}
+use Rattle.path_automata.proofs.Kept.{sorted_pass}
 
-pub drop_passes : (p : LocSet → Bool) (es : List Expr) (i : ℕ) (e : Expr) → i < length es → e ≡ get_or es i e → sets_pass p (view e) ≡ true
-    → each_pass p (expressions_of (views (drop i es))) ≡ each_pass p (expressions_of (views (drop (i + 1) es)))
-drop_passes p es i e h is pass =
-    ap (λ l. each_pass p (expressions_of (views l))) (drop-cons es i e h)
-    ∙ ap (λ x. sets_pass p (view x) && each_pass p (expressions_of (views (drop (suc i) es)))) (sym is)
-    ∙ ap (λ b. b && each_pass p (expressions_of (views (drop (suc i) es)))) pass
-    ∙ true-and (each_pass p (expressions_of (views (drop (suc i) es))))
-    ∙ ap (λ j. each_pass p (expressions_of (views (drop j es)))) (sym (add-one i))
+-- the sets of a term are its children's, or the one that it is
 
-pub none_left : (p : LocSet → Bool) (es : List Expr) (i : ℕ) → length es ≤ i → each_pass p (expressions_of (views (drop i es))) ≡ true
-none_left p [] zero h = refl
-none_left p [] (suc i) h = refl
-none_left p (e ∷ es) zero h = absurd (omega arith)
-none_left p (e ∷ es) (suc i) h = none_left p es i (omega arith)
+at-passes : (p : LocSet → Bool) (vs : List Expression) (n m : ℕ) → m < n → list_all (sets_pass p) (take n vs) ≡ true → sets_pass p (at vs m) ≡ true
+at-passes p [] n m lt h = refl
+at-passes p (v ∷ vs) zero m lt h = absurd (omega (arith, lt))
+at-passes p (v ∷ vs) (suc n) zero lt h = (and_parts (sets_pass p v) (list_all (sets_pass p) (take n vs)) h).0
+at-passes p (v ∷ vs) (suc n) (suc m) lt h = at-passes p vs n m (omega (arith, lt)) (and_parts (sets_pass p v) (list_all (sets_pass p) (take n vs)) h).1
 
-pub passes_each : (p : LocSet → Bool) (es : List Expression) → each_pass p (expressions_of es) ≡ true → list_all (sets_pass p) es ≡ true
-passes_each p [] h = refl
-passes_each p (e ∷ es) h = let u = and_parts (sets_pass p e) (each_pass p (expressions_of es)) h in and_from _ _ u.0 (passes_each p es u.1)
+each-passes : (p : LocSet → Bool) (vs : List Expression) (n : ℕ) (ms : List ℕ) → list_all (λ m. nat_lt m n) ms ≡ true → list_all (sets_pass p) (take n vs) ≡ true
+    → list_all (sets_pass p) (map (at vs) ms) ≡ true
+each-passes p vs n [] below h = refl
+each-passes p vs n (m ∷ ms) below h =
+    let u = and_parts (nat_lt m n) (list_all (λ m. nat_lt m n) ms) below in
+    and_from _ _ (at-passes p vs n m (ltb-true m n u.0) h) (each-passes p vs n ms u.1 h)
+
+pub known-pass : (p : LocSet → Bool) (vs : List Expression) (ms : List ℕ) → list_all (λ m. nat_lt m (length vs)) ms ≡ true → list_all (sets_pass p) vs ≡ true → list_all (sets_pass p) (map (at vs) ms) ≡ true
+known-pass p vs ms known h = each-passes p vs (length vs) ms known (ap (list_all (sets_pass p)) (take_all (length vs) vs (omega arith)) ∙ h)
+
+pub node-passes : (p : LocSet → Bool) (vs : List Expression) (n : ℕ) (t : Term) → is_sound n t ≡ true → ((s : LocSet) → t ≡ Set s → p s ≡ true)
+    → list_all (sets_pass p) (take n vs) ≡ true → sets_pass p (node vs t) ≡ true
+node-passes p vs n Never sound own h = refl
+node-passes p vs n Empty sound own h = refl
+node-passes p vs n (Set s) sound own h = own s refl
+node-passes p vs n (Seq a b) sound own h =
+    let u = and_parts (nat_lt a n) (nat_lt b n) sound in
+    and_from _ _ (at-passes p vs n a (ltb-true a n u.0) h) (at-passes p vs n b (ltb-true b n u.1) h)
+node-passes p vs n (Either v) sound own h =
+    sorted_pass p (map (at vs) v.items) (each-passes p vs n v.items (and_parts (list_all (λ m. nat_lt m n) v.items) (ascending v.items) sound).0 h)
+node-passes p vs n (Both v) sound own h =
+    sorted_pass p (map (at vs) v.items) (each-passes p vs n v.items (and_parts (list_all (λ m. nat_lt m n) v.items) (ascending v.items) sound).0 h)
+node-passes p vs n (Not a) sound own h = at-passes p vs n a (ltb-true a n sound) h
+node-passes p vs n (Star a) sound own h = at-passes p vs n a (ltb-true a n sound) h
 
 -- lists that grow at the end
-
-pub get-append : {A : Type 0} (xs ys : List A) (i : ℕ) (x : A) → slice_get xs i ≡ Some x → slice_get (xs ++ ys) i ≡ Some x
-get-append [] ys zero x h = cc
-get-append [] ys (suc i) x h = cc
-get-append (z ∷ xs) ys zero x h = h
-get-append (z ∷ xs) ys (suc i) x h = get-append xs ys i x h
 
 pub get-push : {A : Type 0} (xs : List A) (y : A) (i : ℕ) (x : A) → slice_get (xs ++ y ∷ []) i ≡ Some x → (slice_get xs i ≡ Some x) ⊎ ((i ≡ length xs) × (y ≡ x))
 get-push [] y zero x h = inr (refl, same_Some _ _ h)
@@ -106,7 +116,7 @@ or_false : (a b : Bool) → a ≡ false → (a || b) ≡ true → b ≡ true
 or_false true b e h = cc
 or_false false b e h = h
 
-words_same : (xs ys : List ℕ) → pointwise eqb xs ys ≡ true → xs ≡ ys
+pub words_same : (xs ys : List ℕ) → pointwise eqb xs ys ≡ true → xs ≡ ys
 words_same [] [] h = refl
 words_same [] (y ∷ ys) h = cc
 words_same (x ∷ xs) [] h = cc
@@ -158,7 +168,7 @@ mapped-inserted f same ks new k e = at (list_any (same k) ks) e
     at false is = inr (ap (map f) is ∙ map-append f ks (k ∷ []))
 
 pub get-grown : {A : Type 0} (xs ys : List A) (d : A) → (ys ≡ xs) ⊎ (ys ≡ xs ++ d ∷ []) → (i : ℕ) (x : A) → slice_get xs i ≡ Some x → slice_get ys i ≡ Some x
-get-grown xs ys d g i x h = ⊎_elim (λ e. ap (λ l. slice_get l i) e ∙ h) (λ e. ap (λ l. slice_get l i) e ∙ get-append xs (d ∷ []) i x h) g
+get-grown xs ys d g i x h = ⊎_elim (λ e. ap (λ l. slice_get l i) e ∙ h) (λ e. ap (λ l. slice_get l i) e ∙ slice_get_in_front xs (d ∷ []) i x h) g
 
 same_bool : (x y : Bool) → beq x y ≡ true → x ≡ y
 same_bool true true h = refl

@@ -1,6 +1,6 @@
 -- A derivative has no sets but those of its expression.
-use Rattle.std.proofs.Common.{◌≡◌, ℕ, Bool, true, false, cond, ◌&&◌, List, [], ◌∷◌, ◌++◌, refl, ap, ◌∙◌}
-use Rattle.std.specs.List.{flat_map, list_any}
+use Rattle.std.proofs.Common.{◌≡◌, ℕ, Bool, true, false, cond, List, [], ◌∷◌, ◌++◌, refl, ap, ◌∙◌}
+use Rattle.std.specs.List.{flat_map, list_all, list_any}
 use Rattle.std.specs.Ordering.{match_ordering}
 use Rattle.std.specs.declared.cmp.Ordering.{Ordering}
 use Rattle.std.specs.declared.cmp.Ordering.TheVariants.{Less, Equal, Greater}
@@ -15,8 +15,7 @@ use Rattle.path_exprs.specs.Order.{compare}
 use Rattle.path_automata.specs.Sets.{agrees, sets_pass, each_pass}
 
 abbrev all_pass : (LocSet → Bool) → List Expression → Bool
-all_pass p [] = true
-all_pass p (e ∷ es) = sets_pass p e && all_pass p es
+all_pass p es = list_all (sets_pass p) es
 
 module _ (p : LocSet → Bool) where
   to_each : (es : List Expression) → all_pass p es ≡ true → each_pass p (expressions_of es) ≡ true
@@ -73,6 +72,9 @@ module _ (p : LocSet → Bool) where
   insert_each_pass : (es fs : List Expression) → all_pass p es ≡ true → all_pass p fs ≡ true → all_pass p (insert_each es fs) ≡ true
   insert_each_pass [] fs h k = k
   insert_each_pass (e ∷ es) fs h k = let u = and_parts (sets_pass p e) (all_pass p es) h in insert_each_pass es (insert e fs) u.1 (insert_pass e fs u.0 k)
+
+  pub sorted_pass : (es : List Expression) → all_pass p es ≡ true → each_pass p (expressions_of (sorted es)) ≡ true
+  sorted_pass es h = to_each (sorted es) (insert_each_pass es [] h refl)
 
   either_parts_pass : (e : Expression) → sets_pass p e ≡ true → all_pass p (either_parts e) ≡ true
   either_parts_pass never h = refl

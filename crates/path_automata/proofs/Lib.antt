@@ -1,5 +1,9 @@
+pub mod Alone
 pub mod ClassLemmas
+pub mod Entries
 pub mod Kept
+pub mod Lists
 pub mod MemoLemmas
+pub mod Reversals
 pub mod StateLemmas
 pub mod Views

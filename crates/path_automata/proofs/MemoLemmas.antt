@@ -3,20 +3,18 @@ use Rattle.std.proofs.Common.{◌≡◌, ℕ, zero, suc, ◌<◌, Bool, true, re
 use Rattle.std.specs.Prelude.{slice_get, slice_index_or}
 use Rattle.std.specs.List.{list_all}
 use Rattle.std.specs.Ordering.{is_eq}
-use Rattle.list_laws.proofs.Orders.{is_eq-Equal}
 use Rattle.std.proofs.lemmas.Bool.{and_parts, and_from}
 use Rattle.std.proofs.lemmas.Option.{get_or_from_slice_get, slice_get_within, same_Some, slice_get-get_or}
 use Rattle.net_base.specs.declared.loc.LocSet.{LocSet}
 use Rattle.path_exprs.specs.Derivative.{derivative}
 use Rattle.path_exprs.specs.Expression.{Expression}
 use Rattle.path_exprs.specs.Order.{compare}
-use Rattle.path_exprs.specs.Ordered.{compare-equal}
-use Rattle.path_exprs.specs.Total.{compare_itself}
 use Rattle.path_automata.specs.declared.memo.Memo.{Memo}
 use Rattle.path_automata.specs.Classes.{AreSorted, InSameSets, SameClass}
 use Rattle.path_automata.specs.Memo.{AreAlike, IsRight, NoTwice, Notes, same_state}
 use Rattle.path_automata.specs.Sets.{agrees, sets_pass}
 use Rattle.path_automata.proofs.ClassLemmas.{get-grown, get-push}
+use Rattle.path_automata.proofs.Entries.{is-same, same-is}
 use Rattle.path_automata.proofs.Kept.{kept, same}
 
 kept_each : (p : LocSet → Bool) (x : ℕ) (es : List Expression) → list_all (sets_pass p) es ≡ true → list_all (sets_pass p) (map (derivative x) es) ≡ true
@@ -52,11 +50,11 @@ state_is [] (f ∷ fs) h = cc
 state_is (e ∷ es) [] h = cc
 state_is (e ∷ es) (f ∷ fs) h =
     let u = and_parts (is_eq (compare e f)) (same_state es fs) h in
-    ap (λ l. e ∷ l) (state_is es fs u.1) ∙ ap (λ g. g ∷ fs) (compare-equal e f (is_eq-Equal (compare e f) u.0))
+    ap (λ l. e ∷ l) (state_is es fs u.1) ∙ ap (λ g. g ∷ fs) (same-is e f u.0)
 
 state_same : (es : List Expression) → same_state es es ≡ true
 state_same [] = refl
-state_same (e ∷ es) = and_from (is_eq (compare e e)) (same_state es es) (ap is_eq (compare_itself e)) (state_same es)
+state_same (e ∷ es) = and_from (is_eq (compare e e)) (same_state es es) (is-same e e refl) (state_same es)
 
 abbrev pub Known : Memo → List (List Expression) → Type 0
 Known m ss = (state at next : ℕ) → Notes m state at next → (state < length ss) × (slice_get ss next ≡ Some (map (derivative at) (slice_index_or ss state [])))
@@ -101,7 +99,7 @@ right-kept m n ss kept right s x t note = right s x t (kept s x t note)
 
 -- one state
 
-only : (ss : List (List Expression)) (s : List Expression) → ss ≡ s ∷ [] → (i : ℕ) (t : List Expression) → slice_get ss i ≡ Some t → (i ≡ 0) × (s ≡ t)
+pub only : (ss : List (List Expression)) (s : List Expression) → ss ≡ s ∷ [] → (i : ℕ) (t : List Expression) → slice_get ss i ≡ Some t → (i ≡ 0) × (s ≡ t)
 only ss s e i t h = at i (ap (λ l. slice_get l i) (sym e) ∙ h)
   where
     at : (i : ℕ) → slice_get (s ∷ []) i ≡ Some t → (i ≡ 0) × (s ≡ t)

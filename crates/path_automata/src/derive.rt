@@ -1,98 +1,162 @@
 //! The derivative.
-ghost use Rattle.std.specs.Prelude.{◌≡◌, [], IfOk};
-ghost use Rattle.path_exprs.specs.Expression.{expressions_of};
-ghost use Rattle.path_exprs.specs.Derivative.{derivative as derivative_of, derivative_each as derivative_each_of};
-ghost use Rattle.path_exprs.specs.Membership.{member, some_member, each_member};
-ghost use Rattle.path_exprs.specs.View.{view, views};
+ghost use Rattle.std.specs.Prelude.{◌≡◌, ◌<◌, length, map, true, IfOk};
+ghost use Rattle.path_exprs.specs.Derivative.{derivative as derivative_of};
+ghost use Rattle.path_terms.specs.Terms.{are_known, Extends};
+ghost use Rattle.path_terms.specs.Values.{values, value};
+ghost use Rattle.path_automata.specs.Classes.{AreSorted, IsClassed};
+ghost use Rattle.path_automata.specs.Derived.{AreDerivatives};
 
-use crate::normal::{both_of, complement_of, either_of, seq_of};
+use crate::derived::{note, recall};
+use crate::shortcuts::{front, joined};
+use indexmap::IndexMap;
 use net_base::Loc;
-use path_exprs::{Expr, copy_of};
-use std::alloc::{AllocError, Global};
+use outside::NoMemory;
+use path_terms::{Term, Terms, both_of, complement_of, either_of, holds_empty};
+use std::alloc::Global;
 
-/// Whether the empty list is in the expression.
-#[cycle(holds_empty)]
-pub fn holds_empty(e: &Expr) -> bool
-    ensures { result ≡ member (view e.now) [] }
+/// Whether derivatives of the term are kept: of lists and complements, since those of others cost no more than a look-up.
+fn is_kept(terms: &Terms, e: u32) -> bool
+    requires known { e < length (values terms.now) }
 {
-    match e {
-        Expr::Never => false,
-        Expr::Empty => true,
-        Expr::Set(_) => false,
-        Expr::Seq(a, b) => holds_empty(a) && holds_empty(b),
-        Expr::Either(es) => some_holds_empty(es),
-        Expr::Both(es) => each_holds_empty(es),
-        Expr::Not(a) => !holds_empty(a),
-        Expr::Star(_) => true,
+    match terms.term(e) {
+        Term::Either(_) => true,
+        Term::Both(_) => true,
+        Term::Not(_) => true,
+        Term::Never => false,
+        Term::Empty => false,
+        Term::Set(_) => false,
+        Term::Seq(_, _) => false,
+        Term::Star(_) => false,
     }
 }
 
-#[cycle(holds_empty)]
-fn some_holds_empty(es: &[Expr]) -> bool
-    ensures { result ≡ some_member (expressions_of (views es.now)) [] }
-{
-    for e in es {
-        if holds_empty(e) {
-            return true;
-        }
-    }
-    false
-}
-
-#[cycle(holds_empty)]
-fn each_holds_empty(es: &[Expr]) -> bool
-    ensures { result ≡ each_member (expressions_of (views es.now)) [] }
-{
-    for e in es {
-        if !holds_empty(e) {
-            return false;
-        }
-    }
-    true
-}
-
-/// The lists that, with the location in front, are in the expression.
+/// The derivative of a term by a location.
 #[cycle(derivative)]
-pub fn derivative(alloc: Global, e: &Expr, at: Loc) -> Result<Expr, AllocError>
-    ensures { IfOk result (λ r. view r ≡ derivative_of at (view e.now)) }
+pub fn derivative(
+    terms: &mut Terms,
+    classes: &[usize],
+    derived: &mut IndexMap<(u32, usize), u32>,
+    alloc: Global,
+    e: u32,
+    at: Loc,
+) -> Result<u32, NoMemory>
+    requires derived { AreDerivatives classes.now (values terms.old) derived.old }
+    requires known { e < length (values terms.old) }
+    requires classed { IsClassed classes.now (value terms.old e) }
+    ensures derived { AreDerivatives classes.now (values terms.new) derived.new }
+    ensures made { IfOk result (λ n. value terms.new n ≡ derivative_of at (value terms.old e)) }
+    ensures known { IfOk result (λ n. n < length (values terms.new)) }
+    ensures extends { Extends (values terms.old) (values terms.new) }
 {
-    match e {
-        Expr::Never => Ok(Expr::Never),
-        Expr::Empty => Ok(Expr::Never),
-        Expr::Set(set) => {
+    if !is_kept(terms, e) {
+        return made(terms, classes, derived, alloc, e, at);
+    }
+    match recall(terms, classes, derived, e, at) {
+        Some(d) => Ok(d),
+        None => {
+            let d = made(terms, classes, derived, alloc, e, at)?;
+            note(terms, classes, derived, e, at, d)?;
+            Ok(d)
+        }
+    }
+}
+
+/// The derivative of a term by a location, made anew.
+#[cycle(derivative)]
+#[tactic(auto, using(crate::proofs::Entries::derived_extends))]
+fn made(
+    terms: &mut Terms,
+    classes: &[usize],
+    derived: &mut IndexMap<(u32, usize), u32>,
+    alloc: Global,
+    e: u32,
+    at: Loc,
+) -> Result<u32, NoMemory>
+    requires derived { AreDerivatives classes.now (values terms.old) derived.old }
+    requires known { e < length (values terms.old) }
+    requires classed { IsClassed classes.now (value terms.old e) }
+    ensures derived { AreDerivatives classes.now (values terms.new) derived.new }
+    ensures made { IfOk result (λ n. value terms.new n ≡ derivative_of at (value terms.old e)) }
+    ensures known { IfOk result (λ n. n < length (values terms.new)) }
+    ensures extends { Extends (values terms.old) (values terms.new) }
+{
+    match terms.term(e) {
+        Term::Not(a) => {
+            let a = *a;
+            let inner = derivative(terms, classes, derived, alloc, a, at)?;
+            complement_of(terms, inner)
+        }
+        Term::Star(a) => {
+            let a = *a;
+            let first = derivative(terms, classes, derived, alloc, a, at)?;
+            terms.seq_of(first, e)
+        }
+        Term::Set(set) => {
             if set.holds(at) {
-                Ok(Expr::Empty)
+                terms.intern(Term::Empty)
             } else {
-                Ok(Expr::Never)
+                terms.intern(Term::Never)
             }
         }
-        Expr::Seq(a, b) => {
-            let first = derivative(alloc, a, at)?;
-            let front = seq_of(alloc, first, copy_of(alloc, b)?)?;
-            if holds_empty(a) {
-                let back = derivative(alloc, b, at)?;
-                Ok(either_of(alloc, vec![in alloc; front, back]?)?)
+        Term::Seq(a, b) => {
+            let a = *a;
+            let b = *b;
+            let first = derivative(terms, classes, derived, alloc, a, at)?;
+            let kept = front(terms, e, a, b, first)?;
+            if holds_empty(terms, a) {
+                let back = derivative(terms, classes, derived, alloc, b, at)?;
+                joined(terms, alloc, kept, back)
             } else {
-                Ok(front)
+                Ok(kept)
             }
         }
-        Expr::Either(es) => Ok(either_of(alloc, derivative_each(alloc, es, at)?)?),
-        Expr::Both(es) => Ok(both_of(alloc, derivative_each(alloc, es, at)?)?),
-        Expr::Not(a) => Ok(complement_of(alloc, derivative(alloc, a, at)?)?),
-        Expr::Star(a) => {
-            let first = derivative(alloc, a, at)?;
-            Ok(seq_of(alloc, first, copy_of(alloc, e)?)?)
+        Term::Never => terms.intern(Term::Never),
+        Term::Empty => terms.intern(Term::Never),
+        Term::Either(members) => {
+            let members = copied(alloc, members)?;
+            let all = derivative_each(terms, classes, derived, alloc, e, &members, at)?;
+            either_of(terms, alloc, &all)
+        }
+        Term::Both(members) => {
+            let members = copied(alloc, members)?;
+            let all = derivative_each(terms, classes, derived, alloc, e, &members, at)?;
+            both_of(terms, alloc, &all)
         }
     }
 }
 
-#[cycle(derivative)]
-fn derivative_each(alloc: Global, es: &[Expr], at: Loc) -> Result<Vec<Expr>, AllocError>
-    ensures { IfOk result (λ r. views r.items ≡ derivative_each_of at (expressions_of (views es.now))) }
+/// A list of the same numbers.
+fn copied(alloc: Global, numbers: &[u32]) -> Result<Vec<u32>, NoMemory>
+    ensures { IfOk result (λ r. r.items ≡ numbers.now) }
 {
     let mut all = Vec::new(alloc);
-    for i in 0..es.len() {
-        all.push(derivative(alloc, &es[i], at)?)?;
+    all.extend_from_slice(numbers)?;
+    Ok(all)
+}
+
+/// The derivative of each of these terms, all below a number.
+#[cycle(derivative)]
+fn derivative_each(
+    terms: &mut Terms,
+    classes: &[usize],
+    derived: &mut IndexMap<(u32, usize), u32>,
+    alloc: Global,
+    bound: u32,
+    numbers: &[u32],
+    at: Loc,
+) -> Result<Vec<u32>, NoMemory>
+    requires derived { AreDerivatives classes.now (values terms.old) derived.old }
+    requires bound { bound < length (values terms.old) }
+    requires below { are_known bound numbers.now ≡ true }
+    requires classed { AreSorted classes.now (map (value terms.old) numbers.now) }
+    ensures derived { AreDerivatives classes.now (values terms.new) derived.new }
+    ensures made { IfOk result (λ r. map (value terms.new) r.items ≡ map (derivative_of at) (map (value terms.old) numbers.now)) }
+    ensures known { IfOk result (λ r. are_known (length (values terms.new)) r.items ≡ true) }
+    ensures extends { Extends (values terms.old) (values terms.new) }
+{
+    let mut all = Vec::new(alloc);
+    for i in 0..numbers.len() {
+        all.push(derivative(terms, classes, derived, alloc, numbers[i], at)?)?;
     }
     Ok(all)
 }

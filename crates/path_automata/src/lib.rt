@@ -1,11 +1,13 @@
 //! States of ranked expressions: what is left of them after a list of locations, read from the origin end.
 #![tactic(auto)]
 
-mod begin;
 mod classes;
 mod derive;
+mod derived;
+mod facts;
 mod memo;
-mod normal;
+mod reversal;
+mod shortcuts;
 mod states;
 #[cfg(test)]
 mod tests;

@@ -1,11 +1,11 @@
 //! Where steps led to, by state and class of the location.
 ghost use Rattle.std.specs.Prelude.{◌≡◌, IfOk, IfSome};
-ghost use Rattle.path_exprs.specs.View.{views};
+ghost use Rattle.path_terms.specs.Values.{values};
 ghost use Rattle.path_automata.specs.Classes.{AreBelow, AreSorted, SameClass};
 
 use crate::classes::classes_of;
 use net_base::Loc;
-use path_exprs::Expr;
+use path_terms::Terms;
 use std::alloc::{AllocError, Global};
 
 /// Stands where no next state is known.
@@ -14,7 +14,7 @@ pub const UNKNOWN: u32 = u32::MAX;
 /// For each state and class of locations the state that its locations lead to, where it is known.
 #[derive(Drop)]
 pub struct Memo {
-    /// The class of each location.
+    /// The class of each location of the network.
     classes: Vec<usize>,
     /// How many classes there are.
     count: usize,
@@ -27,17 +27,25 @@ impl Memo {
     ghost use Rattle.std.specs.Prelude.{ℕ, ◌⊎◌};
     ghost use Rattle.path_automata.specs.Memo.{IsPlace, Notes};
 
-    /// The memo of the automaton that begins with these expressions: no next state is known.
-    pub fn new(alloc: Global, es: &[Expr]) -> Result<Memo, AllocError>
-        ensures sorted { IfOk result (λ m. AreSorted m.classes.items (views es.now)) }
+    /// The memo of the automaton whose first state has these terms alone, in a network of so many locations: no next
+    /// state is known.
+    pub fn new(alloc: Global, terms: &Terms, locations: u16) -> Result<Memo, AllocError>
+        ensures sorted { IfOk result (λ m. AreSorted m.classes.items (values terms.now)) }
         ensures none { IfOk result (λ m. (state at next : ℕ) → ¬ (Notes m state at next)) }
     {
-        let (classes, count) = classes_of(alloc, es)?;
+        let (classes, count) = classes_of(alloc, terms, locations)?;
         Ok(Memo {
             classes,
             count,
             next: Vec::new(alloc),
         })
+    }
+
+    /// The class of each location.
+    pub fn classes(&self) -> &[usize]
+        ensures { result.now ≡ self.now.classes.items }
+    {
+        &self.classes
     }
 
     /// The state that the location leads to, if it is known.

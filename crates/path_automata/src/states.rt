@@ -1,23 +1,31 @@
 //! States, each with its number.
-ghost use Rattle.std.specs.Prelude.{◌≡◌, ◌≤◌, ◌<◌, ◌∷◌, [], All, IfOk, OnErr, OnOk, length, map, vec_len};
+ghost use Rattle.std.specs.Prelude.{◌≡◌, ◌≤◌, ◌<◌, ◌∷◌, [], ℕ, Some, All, IfOk, OnErr, OnOk, length, map, slice_get, true, vec_len};
 ghost use Rattle.std.specs.List.{list_all};
+ghost use Rattle.std.proofs.Props.{props};
+ghost use Rattle.net_base.specs.declared.limits.TheConstants.{ALTERNATIVES};
+ghost use Rattle.net_base.specs.NetSets.{locations as all_locations};
 ghost use Rattle.path_exprs.specs.Derivative.{derivative as derivative_of};
 ghost use Rattle.path_exprs.specs.Expression.{Expression};
-ghost use Rattle.net_base.specs.NetSets.{locations as all_locations};
 ghost use Rattle.path_exprs.specs.Normal.{is_never as is_never_test};
 ghost use Rattle.path_exprs.specs.Runs.{first_with, start_of};
 ghost use Rattle.path_exprs.specs.View.{views};
+ghost use Rattle.path_terms.specs.Terms.{are_known, Extends as Grows};
+ghost use Rattle.path_terms.specs.Values.{values, value};
+ghost use Rattle.path_automata.specs.Classes.{AreSorted};
+ghost use Rattle.path_automata.specs.Derived.{AreDerivatives};
+ghost use Rattle.path_automata.specs.Found.{states_in, AreFacts};
 ghost use Rattle.path_automata.specs.Memo.{AreAlike, IsRight, NoTwice};
 
-use crate::begin::reversed_normal;
-use crate::derive::{derivative, holds_empty};
+use crate::derive::derivative;
+use crate::facts::{Facts, facts_of};
 use crate::memo::Memo;
-use crate::normal::is_never;
-use indexmap::IndexSet;
-use net_base::{Loc, LocSet, Net};
+use crate::reversal::starts;
+use indexmap::{IndexMap, IndexSet};
+use net_base::{Loc, Net};
 use outside::NoMemory;
-use path_exprs::{Expr, RankedExpr};
-use std::alloc::{AllocError, Global};
+use path_exprs::RankedExpr;
+use path_terms::Terms;
+use std::alloc::Global;
 use std::marker::Model;
 
 /// A state of an automaton by its number.
@@ -39,13 +47,23 @@ impl Model for State {
 #[derive(Drop)]
 pub struct Automata {
     alloc: Global,
-    found: IndexSet<Vec<Expr>>,
+    /// The expressions of all states, with their parts shared.
+    terms: Terms,
+    /// Derivatives of terms, as far as they were made.
+    derived: IndexMap<(u32, usize), u32>,
+    /// The terms of each state, one an alternative.
+    found: IndexSet<Vec<u32>>,
+    /// What is asked of each state.
+    facts: Vec<Facts>,
     memo: Memo,
-    ghost few: { All (λ v. vec_len v ≤ 64) found.keys },
+    ghost few: { All (λ v. vec_len v ≤ ALTERNATIVES) found.keys },
     ghost begun: { 0 < length found.keys },
-    ghost apart: { NoTwice (map (λ v. views v.items) found.keys) },
-    ghost alike: { AreAlike memo (map (λ v. views v.items) found.keys) },
-    ghost right: { IsRight memo (map (λ v. views v.items) found.keys) },
+    ghost known: { All (λ v. are_known (length (values terms)) v.items ≡ true) found.keys },
+    ghost kept: { AreDerivatives memo.classes.items (values terms) derived } by { Prim.hlevel props },
+    ghost told: { AreFacts facts.items (states_in (values terms) found.keys) },
+    ghost apart: { NoTwice (states_in (values terms) found.keys) },
+    ghost alike: { AreAlike memo (states_in (values terms) found.keys) },
+    ghost right: { IsRight memo (states_in (values terms) found.keys) },
 }
 
 impl Automata {
@@ -56,11 +74,22 @@ impl Automata {
     pub fn new(alloc: Global, ranked: &RankedExpr, net: &Net) -> Result<Automata, NoMemory>
         ensures { IfOk result (λ a. states_of a ≡ start_of (all_locations net.now) (views ranked.now) ∷ []) }
     {
-        let first = starts(alloc, &net.locations(), ranked.alternatives())?;
-        let memo = Memo::new(alloc, &first)?;
+        let mut terms = Terms::new(alloc);
+        let full = net.locations();
+        let first = starts(&mut terms, alloc, &full, ranked.alternatives())?;
+        let locations = net.routers().len() + net.peers().len();
+        let memo = Memo::new(alloc, &terms, locations as u16)?;
+        let facts = vec![in alloc; facts_of(&terms, &first)]?;
         let mut found = IndexSet::new(alloc);
         found.insert(first)?;
-        Ok(Automata { alloc, found, memo })
+        Ok(Automata {
+            alloc,
+            terms,
+            derived: IndexMap::new(alloc),
+            found,
+            facts,
+            memo,
+        })
     }
 
     /// The state before any location.
@@ -91,7 +120,16 @@ impl Automata {
         let Some(alternatives) = self.found.get_index(state.0 as usize) else {
             unreachable!()
         };
-        let next = derivatives(alloc, alternatives, at)?;
+        let next = derivatives(
+            &mut self.terms,
+            self.memo.classes(),
+            &mut self.derived,
+            alloc,
+            alternatives,
+            at,
+        )?;
+        let facts = facts_of(&self.terms, &next);
+        put_facts(&mut self.facts, self.found.len(), facts)?;
         let (number, _) = self.found.insert_full(next)?;
         self.memo.note(state.0, at, number);
         Ok(State(number as u64))
@@ -102,10 +140,7 @@ impl Automata {
         requires known { state < length (states_of self.now) }
         ensures { (s : List Expression) → IsState self.now state s → result ≡ first_with [] s }
     {
-        let Some(alternatives) = self.found.get_index(state.0 as usize) else {
-            unreachable!()
-        };
-        first_with_empty(alternatives)
+        self.facts[state.0 as usize].rank
     }
 
     /// Whether every alternative is Never.
@@ -113,58 +148,45 @@ impl Automata {
         requires known { state < length (states_of self.now) }
         ensures { (s : List Expression) → IsState self.now state s → result ≡ list_all is_never_test s }
     {
-        let Some(alternatives) = self.found.get_index(state.0 as usize) else {
-            unreachable!()
-        };
-        is_each_never(alternatives)
+        self.facts[state.0 as usize].dead
     }
 }
 
-/// The normal form of each reversed expression.
-fn starts(alloc: Global, full: &LocSet, es: &[Expr]) -> Result<Vec<Expr>, AllocError>
-    ensures started { IfOk result (λ r. views r.items ≡ start_of full.now (views es.now)) }
-    ensures len { IfOk result (λ r. vec_len r ≡ length es.now) }
+/// The derivative of each of these terms.
+fn derivatives(
+    terms: &mut Terms,
+    classes: &[usize],
+    derived: &mut IndexMap<(u32, usize), u32>,
+    alloc: Global,
+    numbers: &[u32],
+    at: Loc,
+) -> Result<Vec<u32>, NoMemory>
+    requires derived { AreDerivatives classes.now (values terms.old) derived.old }
+    requires known { are_known (length (values terms.old)) numbers.now ≡ true }
+    requires classed { AreSorted classes.now (map (value terms.old) numbers.now) }
+    ensures derived { AreDerivatives classes.now (values terms.new) derived.new }
+    ensures made { IfOk result (λ r. map (value terms.new) r.items ≡ map (derivative_of at) (map (value terms.old) numbers.now)) }
+    ensures known { IfOk result (λ r. are_known (length (values terms.new)) r.items ≡ true) }
+    ensures len { IfOk result (λ r. vec_len r ≡ length numbers.now) }
+    ensures extends { Grows (values terms.old) (values terms.new) }
 {
     let mut all = Vec::new(alloc);
-    for e in es {
-        all.push(reversed_normal(alloc, full, e)?)?;
+    for i in 0..numbers.len() {
+        all.push(derivative(terms, classes, derived, alloc, numbers[i], at)?)?;
     }
     Ok(all)
 }
 
-/// The derivative of each.
-fn derivatives(alloc: Global, es: &[Expr], at: Loc) -> Result<Vec<Expr>, AllocError>
-    ensures derived { IfOk result (λ r. views r.items ≡ map (derivative_of at) (views es.now)) }
-    ensures len { IfOk result (λ r. vec_len r ≡ length es.now) }
+/// Puts what is asked of a state at its number, which is at most one past the last.
+fn put_facts(all: &mut Vec<Facts>, number: usize, facts: Facts) -> Result<(), NoMemory>
+    requires within { number ≤ vec_len all.old }
+    ensures before { (i : ℕ) → i < number → slice_get all.new.items i ≡ slice_get all.old.items i }
+    ensures here { OnOk result (slice_get all.new.items number ≡ Some facts) }
 {
-    let mut all = Vec::new(alloc);
-    for e in es {
-        all.push(derivative(alloc, e, at)?)?;
+    if number < all.len() {
+        all[number] = facts;
+    } else {
+        all.push(facts)?;
     }
-    Ok(all)
-}
-
-/// The place, from 1, of the first that holds the empty list.
-fn first_with_empty(es: &[Expr]) -> Option<u32>
-    requires { length es.now ≤ 64 }
-    ensures { result ≡ first_with [] (views es.now) }
-{
-    for i in 0..es.len() {
-        if holds_empty(&es[i]) {
-            return Some(i as u32 + 1);
-        }
-    }
-    None
-}
-
-/// Whether each is Never.
-fn is_each_never(es: &[Expr]) -> bool
-    ensures { result ≡ list_all is_never_test (views es.now) }
-{
-    for e in es {
-        if !is_never(e) {
-            return false;
-        }
-    }
-    true
+    Ok(())
 }

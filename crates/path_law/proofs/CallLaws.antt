@@ -1,7 +1,9 @@
 -- The expression of each call holds the lists that meet the call.
-use Rattle.std.proofs.Common.{◌≡◌, ℕ, List, [], ◌∷◌, Bool, true, false, not, ◌&&◌, ◌||◌, refl, sym, ap, ◌∙◌}
+use Rattle.std.proofs.Common.{◌≡◌, ℕ, List, [], ◌∷◌, Bool, true, false, not, ◌&&◌, ◌||◌, refl, ap, ◌∙◌}
 use Rattle.std.specs.List.{list_all, list_any}
+use Rattle.std.proofs.Math.Bool.{and-false, and-true, or-false}
 use Rattle.std.proofs.lemmas.Bool.{and_parts}
+use Rattle.list_laws.proofs.Truth.{not_and_not}
 use Rattle.net_base.specs.declared.loc.LocSet.{LocSet}
 use Rattle.net_base.specs.Network.{PlainNet, IsNet, is_location}
 use Rattle.net_base.specs.Sets.{holds}
@@ -17,37 +19,23 @@ use Rattle.path_law.proofs.Repeats.{goes_on-and}
 use Rattle.net_base.specs.SetOperations.{common, outside}
 use Rattle.path_exprs.specs.Forward.{forward, in_turn}
 use Rattle.net_base.proofs.CommonSets.{holds-common, holds-outside}
+use Rattle.std.proofs.Math.Bool.{and-true, and-false, or-false}
+use Rattle.list_laws.proofs.Truth.{not_and_not}
 
 abbrev anything : Language
 anything xs = true
-
-and_none : (b : Bool) → false ≡ (b && false)
-and_none true = refl
-and_none false = refl
-
-pub and_all : (b : Bool) → b ≡ (b && true)
-and_all true = refl
-and_all false = refl
-
-or_false : (a : Bool) → (a || false) ≡ a
-or_false true = refl
-or_false false = refl
-
-not-or : (a b : Bool) → (not a && not b) ≡ not (a || b)
-not-or true b = refl
-not-or false b = refl
 
 divides-one_of : (s : LocSet) (q : Language) (x : ℕ) (xs : List ℕ) → divides (one_of s) q (x ∷ xs) ≡ (holds s x && q xs)
 divides-one_of s q x xs = divides-and (holds s x) nothing q xs ∙ ap (λ b. holds s x && b) (divides-nothing_left q xs)
 
 starts : (s : LocSet) (xs : List ℕ) → divides (one_of s) anything xs ≡ at_first (holds s) xs
 starts s [] = refl
-starts s (x ∷ xs) = divides-one_of s anything x xs ∙ sym (and_all (holds s x))
+starts s (x ∷ xs) = divides-one_of s anything x xs ∙ and-true (holds s x)
 
 ends : (s : LocSet) (xs : List ℕ) → divides anything (one_of s) xs ≡ at_last (holds s) xs
 ends s [] = refl
-ends s (x ∷ []) = or_false (holds s x && true) ∙ sym (and_all (holds s x))
-ends s (x ∷ y ∷ ys) = ap (λ b. b || divides anything (one_of s) (y ∷ ys)) (sym (and_none (holds s x))) ∙ ends s (y ∷ ys)
+ends s (x ∷ []) = or-false (holds s x && true) ∙ and-true (holds s x)
+ends s (x ∷ y ∷ ys) = ap (λ b. b || divides anything (one_of s) (y ∷ ys)) (and-false (holds s x)) ∙ ends s (y ∷ ys)
 
 some_first : (s : LocSet) (xs : List ℕ) → divides anything (at_first (holds s)) xs ≡ list_any (holds s) xs
 some_first s [] = refl
@@ -72,7 +60,7 @@ keeps_out full s (x ∷ xs) h =
     let parts = and_parts (holds full x) (list_all (holds full) xs) h in
     ap (λ b. b && list_all (holds (outside full s)) xs) (holds-outside full s x ∙ ap (λ b. b && not (holds s x)) parts.0)
     ∙ ap (λ b. not (holds s x) && b) (keeps_out full s xs parts.1)
-    ∙ not-or (holds s x) (list_any (holds s) xs)
+    ∙ not_and_not (holds s x) (list_any (holds s) xs)
 
 avoids : (full s : LocSet) (xs : List ℕ) → list_all (holds full) xs ≡ true → repeats (one_of (outside full s)) xs ≡ not (list_any (holds s) xs)
 avoids full s xs h = repeats-set (outside full s) xs ∙ keeps_out full s xs h
@@ -92,7 +80,7 @@ outside_till_last full s (y ∷ ys) h x k =
     ∙ ap (λ b. b && divides (repeats (one_of o)) (one_of full) (y ∷ ys)) (holds-outside full s x ∙ ap (λ b. b && not (holds s x)) k)
     ∙ ap (λ b. not (holds s x) && b) (outside_till_last full s ys parts.1 y parts.0))
     ∙ none_first (holds full x) (not (holds s x) && not (list_any (holds s) (front (y ∷ ys))))
-    ∙ not-or (holds s x) (list_any (holds s) (front (y ∷ ys)))
+    ∙ not_and_not (holds s x) (list_any (holds s) (front (y ∷ ys)))
   where
     none_first : (a b : Bool) → ((a && false) || b) ≡ b
     none_first true b = refl
@@ -109,7 +97,7 @@ stays_out full s x y ys h =
 
 links : (s t : LocSet) (xs : List ℕ) → divides anything (divides (one_of s) (divides (one_of t) anything)) xs ≡ some_step (λ k l. holds s k && holds t l) xs
 links s t [] = refl
-links s t (x ∷ []) = ap (λ b. b || false) (divides-one_of s (divides (one_of t) anything) x [] ∙ sym (and_none (holds s x)))
+links s t (x ∷ []) = ap (λ b. b || false) (divides-one_of s (divides (one_of t) anything) x [] ∙ and-false (holds s x))
 links s t (x ∷ y ∷ ys) =
     ap (λ b. b || divides anything (divides (one_of s) (divides (one_of t) anything)) (y ∷ ys))
     (divides-one_of s (divides (one_of t) anything) x (y ∷ ys) ∙ ap (λ b. holds s x && b) (starts t (y ∷ ys)))
@@ -169,7 +157,7 @@ starts_with_two s t x xs = divides-one_of s (divides (one_of t) anything) x xs �
 either_place : (a b c : Bool) → ((a && b) || ((b && c) || false)) ≡ (b && (a || c))
 either_place true true c = refl
 either_place true false c = refl
-either_place false true c = or_false c
+either_place false true c = or-false c
 either_place false false c = refl
 
 leaves : (s t : LocSet) (xs : List ℕ) →

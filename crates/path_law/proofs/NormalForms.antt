@@ -5,7 +5,7 @@ use Rattle.std.specs.declared.cmp.Ordering.TheVariants.{Less, Equal, Greater}
 use Rattle.std.specs.Ordering.{match_ordering}
 use Rattle.std.specs.List.{list_any, flat_map}
 use Rattle.std.proofs.lemmas.Bool.{or_cases}
-use Rattle.std.proofs.Math.Bool.{and-false, and-true, and_assoc, or-false, or-true, or_assoc, or_self_left, and_self_left}
+use Rattle.std.proofs.Math.Bool.{and-false, and-true, and_assoc, or-false, or-true, or_assoc, or_self_left, and_self_left, not-not}
 use Rattle.list_laws.proofs.Truth.{and_left_comm, or_left_comm}
 use Rattle.path_exprs.specs.Expression.{Expression, never, empty, set, seq, either, both, complement, Expressions, none, more, expressions_of, list_of}
 use Rattle.path_exprs.specs.Order.{compare}
@@ -14,6 +14,7 @@ use Rattle.path_exprs.specs.Membership.{member, some_member, each_member}
 use Rattle.path_exprs.specs.Normal.{all, is_all, is_never, after, before, seq_of, insert, insert_each, sorted, either_parts, either_from, either_of, both_parts, both_from, both_of, complement_of}
 use Rattle.path_law.proofs.Languages.{Same, divides_same, divides_assoc, divides-none_left, divides-nothing_left, divides-none_right, divides-nothing_right}
 use Rattle.path_exprs.specs.Ordered.{compare-equal}
+use Rattle.path_exprs.proofs.NeverMembers.{member-is_never}
 
 -- sequences
 
@@ -35,11 +36,7 @@ member-seq_of empty b xs = sym (divides-nothing_left (member b) xs)
 member-seq_of a b xs = member-before a b xs
 
 pub member-complement_of : (a : Expression) → Same (member (complement_of a)) (λ xs. not (member a xs))
-member-complement_of (complement a) xs = twice (member a xs)
-  where
-    twice : (b : Bool) → b ≡ not (not b)
-    twice true = refl
-    twice false = refl
+member-complement_of (complement a) xs = sym (not-not (member a xs))
 member-complement_of a xs = refl
 
 -- alternations
@@ -172,10 +169,6 @@ member-both_from : (es : List Expression) (xs : List ℕ) → member (both_from 
 member-both_from [] xs = refl
 member-both_from (e ∷ []) xs = sym (and-true (member e xs))
 member-both_from (e ∷ f ∷ fs) xs = refl
-
-member-is_never : (e : Expression) (xs : List ℕ) → is_never e ≡ true → member e xs ≡ false
-member-is_never never xs h = refl
-member-is_never e xs h = cc
 
 in_each-some_never : (es : List Expression) (xs : List ℕ) → list_any is_never es ≡ true → in_each es xs ≡ false
 in_each-some_never [] xs h = cc

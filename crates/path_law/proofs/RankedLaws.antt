@@ -3,6 +3,7 @@ use Rattle.std.proofs.Common.{◌≡◌, ◌≤◌, ℕ, ◌+◌, length, arith,
 use Rattle.std.specs.Prelude.{if◌then◌else◌}
 use Rattle.std.specs.List.{list_all, list_any, flat_map}
 use Rattle.std.proofs.lemmas.List.{map-append}
+use Rattle.std.proofs.Math.Bool.{and-true}
 use Rattle.std.proofs.lemmas.Simd.{map-map}
 use Rattle.net_base.specs.Network.{PlainNet, IsNet, is_location}
 use Rattle.path_words.specs.declared.clause.Clause.{Clause}
@@ -13,8 +14,8 @@ use Rattle.path_exprs.specs.Expression.{Expression, expressions_of}
 use Rattle.path_exprs.specs.Membership.{member, some_member}
 use Rattle.path_exprs.specs.Runs.{first_with}
 use Rattle.path_exprs.specs.Forward.{forward, expressions, both_of_two}
-use Rattle.path_law.proofs.CallLaws.{and_all}
 use Rattle.path_law.proofs.CallLaws.{member-forward}
+use Rattle.std.proofs.Math.Bool.{and-true}
 
 -- what the tests say of a path, and which expressions hold it
 abbrev tested : List ℕ → List PathTest → List Bool
@@ -42,7 +43,7 @@ held-row : (e : Expression) (fs : List Expression) (path : List ℕ) → held pa
 held-row e [] path = refl
 held-row e (f ∷ fs) path =
     ap (λ l. member (both_of_two e f) path ∷ l) (held-row e fs path)
-    ∙ ap (λ b. (member e path && b) ∷ map (λ q. member e path && q) (held path fs)) (sym (and_all (member f path)))
+    ∙ ap (λ b. (member e path && b) ∷ map (λ q. member e path && q) (held path fs)) (and-true (member f path))
 
 held-pairs : (es fs : List Expression) (path : List ℕ) → held path (flat_map (λ e. map (both_of_two e) fs) es) ≡ pairs (held path es) (held path fs)
 held-pairs [] fs path = refl

@@ -57,7 +57,7 @@ ascends-insert e (f ∷ fs) s = at (compare e f) refl (ascends-insert e fs s.1)
     at Equal h ih = s
     at Greater h ih = (below-insert f e fs (greater-less e f h) s.0, ih)
 
-ascends-insert_each : (es fs : List Expression) → Ascends fs → Ascends (insert_each es fs)
+pub ascends-insert_each : (es fs : List Expression) → Ascends fs → Ascends (insert_each es fs)
 ascends-insert_each [] fs s = s
 ascends-insert_each (e ∷ es) fs s = ascends-insert_each es (insert e fs) (ascends-insert e fs s)
 
@@ -81,12 +81,12 @@ insert-In : (g e : Expression) (fs : List Expression) → (g ≡ e) ⊎ In g fs 
 insert-In g e [] i = i
 insert-In g e (f ∷ fs) i = insert-In-at g e f fs (compare e f) refl (insert-In g e fs) i
 
-In-insert_each : (g : Expression) (es fs : List Expression) → In g (insert_each es fs) → In g es ⊎ In g fs
+pub In-insert_each : (g : Expression) (es fs : List Expression) → In g (insert_each es fs) → In g es ⊎ In g fs
 In-insert_each g [] fs i = inr i
 In-insert_each g (e ∷ es) fs i =
     ⊎_elim (λ j. inl (inr j)) (λ j. ⊎_elim (λ q. inl (inl q)) inr (In-insert g e fs j)) (In-insert_each g es (insert e fs) i)
 
-insert_each-In : (g : Expression) (es fs : List Expression) → In g es ⊎ In g fs → In g (insert_each es fs)
+pub insert_each-In : (g : Expression) (es fs : List Expression) → In g es ⊎ In g fs → In g (insert_each es fs)
 insert_each-In g [] fs i = ⊎_elim (λ j. absurd j) (λ j. j) i
 insert_each-In g (e ∷ es) fs i =
     insert_each-In g es (insert e fs)
@@ -107,7 +107,7 @@ tail-to : (e : Expression) (es fs : List Expression) → Below e es → ((g : Ex
 tail-to e es fs b to g i =
     ⊎_elim (λ q. absurd (not_less_itself e (ap (compare e) (sym q) ∙ below-In e g es b i))) (λ j. j) (to g (inr i))
 
-same_members : (es fs : List Expression) → Ascends es → Ascends fs → ((g : Expression) → In g es → In g fs) → ((g : Expression) → In g fs → In g es) → es ≡ fs
+pub same_members : (es fs : List Expression) → Ascends es → Ascends fs → ((g : Expression) → In g es → In g fs) → ((g : Expression) → In g fs → In g es) → es ≡ fs
 same_members [] [] s t to from = refl
 same_members [] (f ∷ fs) s t to from = absurd (from f (inl refl))
 same_members (e ∷ es) [] s t to from = absurd (to e (inl refl))

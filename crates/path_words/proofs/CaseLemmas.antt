@@ -1,6 +1,8 @@
 -- A prefix that joins a case.
-use Rattle.std.proofs.Common.{◌≡◌, ℕ, zero, suc, ◌+◌, ◌<◌, ◌≤◌, ◌⊎◌, Bool, true, false, List, [], ◌∷◌, ◌++◌, length, get_or, set, refl, sym, ap, ◌∙◌, arith, inl, inr}
-use Rattle.std.specs.Prelude.{◌&&◌, ◌==◌, if◌then◌else◌}
+use Rattle.std.proofs.Common.{◌≡◌, ℕ, zero, suc, ◌+◌, ◌<◌, ◌≤◌, Bool, true, false, List, [], ◌∷◌, ◌++◌, length, get_or, set, drop, refl, sym, ap, ◌∙◌, arith, inl, inr}
+use Rattle.std.proofs.Math.Seq.{drop-cons}
+use Rattle.std.proofs.Math.Numerals.{add-one}
+use Rattle.std.specs.Prelude.{Option, ◌&&◌, ◌==◌, if◌then◌else◌}
 use Rattle.std.specs.List.{position_or_len}
 use Rattle.std.proofs.lemmas.Bool.{cases_Bool}
 use Rattle.list_laws.proofs.Positions.{position_or_len-first, position_or_len-next}
@@ -9,17 +11,19 @@ use Rattle.net_base.specs.Sets.{same_set}
 use Rattle.net_base.specs.Prefixes.{PlainPrefix}
 use Rattle.path_words.specs.declared.policy.Origin.{Origin}
 use Rattle.path_words.specs.declared.case.Case.{Case}
-use Rattle.path_words.specs.Cases.{with_prefix}
+use Rattle.path_words.specs.Policies.{PlainPolicy}
+use Rattle.path_words.specs.Governing.{governing}
+use Rattle.path_words.specs.Cases.{with_prefix, with_governed, originated_cases}
 
 -- a case that has the statement and the origins
-fits : ℕ → LocSet → Case → Bool
+unfoldable pub fits : ℕ → LocSet → Case → Bool
 fits k at c = c.statement == k && same_set c.origins at
 
-here : (k : ℕ) (o : Origin) (c : Case) (cs : List Case) → fits k o.at c ≡ true → with_prefix k o (c ∷ cs) ≡ (record c { prefixes = c.prefixes ++ o.prefix ∷ [] }) ∷ cs
+pub here : (k : ℕ) (o : Origin) (c : Case) (cs : List Case) → fits k o.at c ≡ true → with_prefix k o (c ∷ cs) ≡ (record c { prefixes = c.prefixes ++ o.prefix ∷ [] }) ∷ cs
 unfolding fits
 here k o c cs is = ap (λ b. if b then (record c { prefixes = c.prefixes ++ o.prefix ∷ [] }) ∷ cs else c ∷ with_prefix k o cs) is
 
-later : (k : ℕ) (o : Origin) (c : Case) (cs : List Case) → fits k o.at c ≡ false → with_prefix k o (c ∷ cs) ≡ c ∷ with_prefix k o cs
+pub later : (k : ℕ) (o : Origin) (c : Case) (cs : List Case) → fits k o.at c ≡ false → with_prefix k o (c ∷ cs) ≡ c ∷ with_prefix k o cs
 unfolding fits
 later k o c cs is = ap (λ b. if b then (record c { prefixes = c.prefixes ++ o.prefix ∷ [] }) ∷ cs else c ∷ with_prefix k o cs) is
 
@@ -58,3 +62,11 @@ with_prefix_new k o (c ∷ cs) (suc i) is past = elim (cases_Bool (fits k o.at c
       let next : suc i ≡ 1 + position_or_len (fits k o.at) cs = is ∙ position_or_len-next (fits k o.at) c cs missed in
       later k o c cs missed ∙ ap (λ ds. c ∷ ds) (with_prefix_new k o cs i (omega (arith, next)) (omega arith))
 ]
+
+-- one originated prefix more
+pub originated_cases-next : (policy : PlainPolicy) (os : List Origin) (i : ℕ) (o : Origin) (g : Option ℕ) (cs ds : List Case) → i < length os → o ≡ get_or os i o
+    → g ≡ governing policy o.prefix → with_governed g o cs ≡ ds → originated_cases policy (drop i os) cs ≡ originated_cases policy (drop (i + 1) os) ds
+originated_cases-next policy os i o g cs ds within read found made =
+    ap (λ l. originated_cases policy l cs) (drop-cons os i o within ∙ ap (λ q. q ∷ drop (suc i) os) (sym read))
+    ∙ ap (λ h. originated_cases policy (drop (suc i) os) (with_governed h o cs)) (sym found) ∙ ap (λ es. originated_cases policy (drop (suc i) os) es) made
+    ∙ ap (λ n. originated_cases policy (drop n os) ds) (sym (add-one i))

@@ -1,4 +1,6 @@
+pub mod CaseIndex
 pub mod Cases
+pub mod Fronts
 pub mod Governing
 pub mod Meaning
 pub mod Permitted

@@ -1,23 +1,20 @@
 //! The case list.
-ghost use Rattle.std.specs.Prelude.{◌≡◌, ◌∷◌, [], ◌++◌, ◌&&◌, ◌==◌, map, not, OnOk, IfOk, false};
-ghost use Rattle.std.specs.List.{list_any, position_or_len};
-ghost use Rattle.net_base.specs.Sets.{same_set};
-ghost use Rattle.path_words.specs.Policies.{policy_of, plain_statement};
-ghost use Rattle.path_words.specs.Cases.{with_prefix, with_governed, originated_cases, is_originated as originated, external_case, external_cases, case_list};
+ghost use Rattle.std.specs.Prelude.{◌≡◌, ◌∷◌, [], ◌++◌, map, not, is_some, OnOk, IfOk, false};
+ghost use Rattle.std.specs.List.{list_any};
+ghost use Rattle.indexmap.specs.IndexSet.{contains};
+ghost use Rattle.net_base.specs.Prefixes.{PlainPrefix, same_prefix};
+ghost use Rattle.path_words.specs.Policies.{PlainPolicy, policy_of, plain_statement};
+ghost use Rattle.path_words.specs.Governing.{originated_at};
+ghost use Rattle.path_words.specs.Cases.{with_prefix, with_governed, originated_cases, is_originated as is_originated_by, external_case, external_cases, case_list};
+ghost use Rattle.path_words.specs.CaseIndex.{kind_of, AreOriginated};
 
 use crate::case::{Case, CaseList};
-use crate::governed::{governing, origins_of};
+use crate::fronts::Governors;
 use crate::policy::{Origin, Policy, Statement};
-use net_base::{List, LocSet, Net, Pattern};
+use indexmap::IndexSet;
+use net_base::{List, LocSet, Net, Pattern, Prefix};
 use outside::NoMemory;
 use std::alloc::Global;
-
-// Whether a case has this statement and these origins.
-fn fits(case: &Case, statement: u32, origins: &LocSet) -> bool
-    ensures { result ≡ (case.now.statement == statement && same_set case.now.origins origins.now) }
-{
-    case.statement == statement && case.origins.words == origins.words
-}
 
 // A case of one prefix.
 fn case_of(alloc: Global, statement: u32, origin: Origin) -> Result<Case, NoMemory>
@@ -33,28 +30,20 @@ fn case_of(alloc: Global, statement: u32, origin: Origin) -> Result<Case, NoMemo
     })
 }
 
-// The place of the first case that has this statement and these origins, or the number of cases.
-fn place_of_case(cases: &[Case], statement: u32, origins: &LocSet) -> usize
-    ensures { result ≡ position_or_len (λ c. c.statement == statement && same_set c.origins origins.now) cases.now }
-{
-    for i in 0..cases.len() {
-        if fits(&cases[i], statement, origins) {
-            return i;
-        }
-    }
-    cases.len()
-}
-
-// Puts a prefix into the case that has its statement and its origins, or into a new one.
+// Puts a prefix into the case that has its statement and its origins, or into a new one. Those of each case are kept in
+// the order of the cases.
 fn add_prefix(
     alloc: Global,
     cases: &mut Vec<Case>,
+    kinds: &mut IndexSet<(u32, LocSet)>,
     statement: u32,
     origin: Origin,
 ) -> Result<(), NoMemory>
-    ensures { OnOk result (cases.new.items ≡ with_prefix statement origin cases.old.items) }
+    requires { kinds.old.keys ≡ map kind_of cases.old.items }
+    ensures joined { OnOk result (cases.new.items ≡ with_prefix statement origin cases.old.items) }
+    ensures kinds { OnOk result (kinds.new.keys ≡ map kind_of cases.new.items) }
 {
-    let place = place_of_case(cases, statement, &origin.at);
+    let (place, _) = kinds.insert_full((statement, origin.at))?;
     if place < cases.len() {
         cases[place].prefixes.push(origin.prefix)?;
     } else {
@@ -64,30 +53,44 @@ fn add_prefix(
 }
 
 // The cases of the originated prefixes that a statement governs.
-fn add_originated(alloc: Global, policy: &Policy, cases: &mut Vec<Case>) -> Result<(), NoMemory>
-    ensures { OnOk result (cases.new.items ≡ originated_cases (policy_of policy.now) policy.now.origins cases.old.items) }
+fn originated(alloc: Global, policy: &Policy) -> Result<Vec<Case>, NoMemory>
+    ensures { IfOk result (λ cases. cases.items ≡ originated_cases (policy_of policy.now) policy.now.origins []) }
 {
+    let governors = Governors::new(alloc, policy)?;
+    let mut cases = Vec::new(alloc);
+    let mut kinds = IndexSet::new(alloc);
     for origin in policy.origins() {
-        if let Some(statement) = governing(policy, origin.prefix) {
-            add_prefix(alloc, cases, statement, *origin)?;
+        if let Some(statement) = governors.governing(origin.prefix) {
+            add_prefix(alloc, &mut cases, &mut kinds, statement, *origin)?;
         }
     }
-    Ok(())
+    Ok(cases)
+}
+
+// The prefixes that are originated.
+fn prefixes_of(alloc: Global, origins: &[Origin]) -> Result<IndexSet<Prefix>, NoMemory>
+    ensures { IfOk result (λ set. (p : PlainPrefix) → contains same_prefix set p ≡ is_some (originated_at origins.now p)) }
+{
+    let mut prefixes = IndexSet::new(alloc);
+    for origin in origins {
+        prefixes.insert(origin.prefix)?;
+    }
+    Ok(prefixes)
 }
 
 // Whether a pattern is one single prefix that is originated.
-fn is_originated(policy: &Policy, pattern: Pattern) -> bool
-    ensures { result ≡ originated (policy_of policy.now) pattern }
+fn is_originated(prefixes: &IndexSet<Prefix>, pattern: Pattern) -> bool
+    ensures { (policy : PlainPolicy) → AreOriginated prefixes.now policy → result ≡ is_originated_by policy pattern }
 {
-    pattern.upto() == pattern.base().len() && origins_of(policy, pattern.base()).is_some()
+    pattern.upto() == pattern.base().len() && prefixes.contains(&pattern.base())
 }
 
 // Whether each pattern is one single prefix that is originated.
-fn are_originated(policy: &Policy, patterns: &[Pattern]) -> bool
-    ensures { result ≡ not (list_any (λ pattern. not (originated (policy_of policy.now) pattern)) patterns.now) }
+fn are_originated(prefixes: &IndexSet<Prefix>, patterns: &[Pattern]) -> bool
+    ensures { (policy : PlainPolicy) → AreOriginated prefixes.now policy → result ≡ not (list_any (λ pattern. not (is_originated_by policy pattern)) patterns.now) }
 {
     for pattern in patterns {
-        if !is_originated(policy, *pattern) {
+        if !is_originated(prefixes, *pattern) {
             return false;
         }
     }
@@ -98,14 +101,14 @@ fn are_originated(policy: &Policy, patterns: &[Pattern]) -> bool
 fn add_external_case(
     alloc: Global,
     net: &Net,
-    policy: &Policy,
+    prefixes: &IndexSet<Prefix>,
     number: u32,
     statement: &Statement,
     cases: &mut Vec<Case>,
 ) -> Result<(), NoMemory>
-    ensures { OnOk result (cases.new.items ≡ cases.old.items ++ external_case net.now (policy_of policy.now) number (plain_statement statement.now)) }
+    ensures { (policy : PlainPolicy) → AreOriginated prefixes.now policy → OnOk result (cases.new.items ≡ cases.old.items ++ external_case net.now policy number (plain_statement statement.now)) }
 {
-    if are_originated(policy, statement.patterns.as_slice()) {
+    if are_originated(prefixes, statement.patterns.as_slice()) {
         return Ok(());
     }
     cases.push(Case {
@@ -126,9 +129,10 @@ fn add_external(
 ) -> Result<(), NoMemory>
     ensures { OnOk result (cases.new.items ≡ cases.old.items ++ external_cases net.now (policy_of policy.now) 1 (map plain_statement policy.now.statements)) }
 {
+    let prefixes = prefixes_of(alloc, policy.origins())?;
     let statements = policy.statements();
     for i in 0..statements.len() {
-        add_external_case(alloc, net, policy, i as u32 + 1, &statements[i], cases)?;
+        add_external_case(alloc, net, &prefixes, i as u32 + 1, &statements[i], cases)?;
     }
     Ok(())
 }
@@ -139,8 +143,7 @@ fn add_external(
 pub fn cases(alloc: Global, net: &Net, policy: &Policy) -> Result<CaseList, NoMemory>
     ensures { IfOk result (λ list. list.cases ≡ case_list net.now (policy_of policy.now)) }
 {
-    let mut all = Vec::new(alloc);
-    add_originated(alloc, policy, &mut all)?;
+    let mut all = originated(alloc, policy)?;
     if !net.peers().is_empty() {
         add_external(alloc, net, policy, &mut all)?;
     }

@@ -4,6 +4,7 @@
 mod case;
 mod case_list;
 mod clause;
+mod fronts;
 mod governed;
 mod meaning;
 mod permitted;

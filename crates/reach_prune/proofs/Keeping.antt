@@ -1,10 +1,8 @@
 -- The nodes of a graph that are kept, one after another.
-use Rattle.std.proofs.Common.{◌≡◌, ℕ, ◌+◌, ◌<◌, ◌≤◌, Bool, true, false, ◌&&◌, ◌||◌, eqb, ltb, List, [], ◌∷◌, ◌++◌, length, take, drop, get_or, Option, Some, None, refl, sym, ap, ◌∙◌, inl, inr, arith, zero, suc, append_assoc, All}
+use Rattle.std.proofs.Common.{◌≡◌, ℕ, ◌+◌, ◌<◌, ◌≤◌, Bool, true, false, ◌&&◌, ◌||◌, eqb, ltb, List, [], ◌∷◌, ◌++◌, length, drop, get_or, None, refl, sym, ap, ◌∙◌, inl, inr, arith, zero, suc, append_assoc, All}
 use Rattle.std.proofs.lemmas.Bool.{cases_Bool, cases_order, cond-true, cond-false, lt-ltb, le-ltb, eq-eqb, ne_eqb, cases_lt, both_ways}
-use Rattle.std.proofs.lemmas.List.{append-nil, take_more, drop_more}
-use Rattle.std.proofs.lemmas.List.Elements.{filter_map-append}
+use Rattle.std.proofs.lemmas.List.{drop_more}
 use Rattle.std.proofs.lemmas.List.Folds.{list_any-append, list_any_at}
-use Rattle.std.specs.List.{filter_map, cons_option}
 use Rattle.std.specs.List.{slice_get}
 use Rattle.std.specs.Option.{is_some, option_and_then}
 use Rattle.std.proofs.lemmas.Option.{slice_get-get_or, slice_get_past}
@@ -52,13 +50,6 @@ nodes_yes keep i node list nodes all lt read kept before =
 pub nodes_no : (keep : ℕ → Bool) (i : ℕ) (list nodes all : List Node) → i < length nodes → keep i ≡ false → list ++ nodes_kept keep i (drop i nodes) ≡ all → list ++ nodes_kept keep (i + 1) (drop (i + 1) nodes) ≡ all
 nodes_no keep i list nodes all lt left before =
     ap (λ rest. list ++ rest) (sym (ap (nodes_kept keep i) (drop_more nodes i (record { loc = 0; listener = false; rank = None }) lt) ∙ cond-false (keep i) _ _ left)) ∙ before
-
--- one item more of which h gives something
-pub filter_map_yes : {X Y : Type 0} (h : X → Option Y) (xs : List X) (i : ℕ) (d : X) (y : Y) → i < length xs → h (get_or xs i d) ≡ Some y → filter_map h (take (i + 1) xs) ≡ filter_map h (take i xs) ++ y ∷ []
-filter_map_yes h xs i d y lt gives = ap (filter_map h) (take_more xs i d lt) ∙ filter_map-append h (take i xs) (get_or xs i d ∷ []) ∙ ap (λ o. filter_map h (take i xs) ++ cons_option o []) gives
-
-pub filter_map_no : {X Y : Type 0} (h : X → Option Y) (xs : List X) (i : ℕ) (d : X) → i < length xs → h (get_or xs i d) ≡ None → filter_map h (take (i + 1) xs) ≡ filter_map h (take i xs)
-filter_map_no h xs i d lt gives = ap (filter_map h) (take_more xs i d lt) ∙ filter_map-append h (take i xs) (get_or xs i d ∷ []) ∙ ap (λ o. filter_map h (take i xs) ++ cons_option o []) gives ∙ append-nil _
 
 pub rank_read : (g : PlainGraph) (nodes : List Node) (i : ℕ) (node : Node) → nodes ≡ g.nodes → i < length nodes → node ≡ get_or nodes i node → rank_at g i ≡ node.rank
 rank_read g nodes i node same lt read =

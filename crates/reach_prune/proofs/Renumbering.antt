@@ -1,6 +1,6 @@
 -- The numbers of the nodes that are kept close up.
-use Rattle.std.proofs.Common.{◌≡◌, ℕ, ◌+◌, ◌<◌, Bool, true, List, [], ◌∷◌, length, map, Option, refl, sym, ap, ◌∙◌, inl, inr, arith, zero, suc, cond, add-one}
-use Rattle.std.proofs.lemmas.Bool.{cases_Bool, cases_lt, cond-false, cond-true}
+use Rattle.std.proofs.Common.{◌≡◌, ℕ, ◌+◌, ◌<◌, Bool, List, [], ◌∷◌, length, map, Option, refl, ap, inl, inr, arith, suc, cond, add-one}
+use Rattle.std.proofs.lemmas.Bool.{cases_Bool, cond-false, cond-true}
 use Rattle.std.specs.List.{AllByRecursion, filter, filter_map}
 use Rattle.graph_base.specs.declared.graph.Node.{Node}
 use Rattle.graph_base.specs.Graphs.{PlainGraph, IsGraph}

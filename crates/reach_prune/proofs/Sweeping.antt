@@ -1,16 +1,15 @@
 -- A search that takes finished rows over finds what the lists lead to.
 use Rattle.std.proofs.Common.{◌≡◌, ◌≢◌, ℕ, ◌+◌, ◌<◌, Bool, true, false, cond, not, ◌&&◌, ◌||◌, eqb, List, [], ◌∷◌, ◌++◌, length, refl, sym, ap, ◌∙◌, inl, inr, ◌⊎◌, ◌↔◌, arith, ltb, vec_len}
 use Rattle.std.proofs.lemmas.Bool.{cases_Bool, cases_eq, cases_lt, or_cases, or_left, or_right, and_from, and_parts, not_from_false, not-true, both_ways, eqb-true, eq-eqb, cond-true, cond-false, ltb-true, lt-ltb, le-ltb, ne_eqb}
-use Rattle.std.proofs.lemmas.List.Folds.{list_any-append}
 use Rattle.std.specs.List.{count_by, range_with_len}
 use Rattle.bit_rows.specs.Tables.{IsSameSize, has_at}
 use Rattle.reach_prune.specs.declared.steps.Way.{Way}
 use Rattle.reach_prune.specs.declared.steps.Way.TheVariants.{Forward, Backward}
 use Rattle.reach_prune.specs.declared.sweep.Sweep.{Sweep}
-use Rattle.reach_prune.specs.Searches.{AreLists, is_among, is_listed, IsChain, Leads}
+use Rattle.reach_prune.specs.Searches.{AreLists, is_among, is_listed, Leads}
 use Rattle.reach_prune.specs.Sweeps.{Comes, Swept}
 use Rattle.reach_prune.specs.Ways.{nth}
-use Rattle.reach_prune.proofs.Trails.{chain_more, leads_below, leads_on}
+use Rattle.reach_prune.proofs.Trails.{chain_more, complete, leads_below, leads_on, waited}
 use Rattle.reach_prune.proofs.Work.{count_le, count_lt}
 
 -- The search from a node has come some way: what it found the lists lead to, and what is listed behind that is found too, but
@@ -24,14 +23,6 @@ pub record Stage (lists : List (List ℕ)) (done : ℕ → Bool) (node : ℕ) (O
   pub waits : (n : ℕ) → is_among s.waiting.items n ≡ true → has_at s.rows node n ≡ true
   pub sound : (n : ℕ) → has_at s.rows node n ≡ true → Leads lists node n
   pub closed : (a b : ℕ) → has_at s.rows node a ≡ true → is_listed lists a b ≡ true → (has_at s.rows node b ≡ true) ⊎ ((is_among s.waiting.items a ≡ true) ⊎ Open a)
-
-pub waited : (s rest : List ℕ) (a n : ℕ) → s ≡ rest ++ a ∷ [] → is_among s n ≡ (is_among rest n || eqb a n)
-waited s rest a n pop = ap (λ x. is_among x n) pop ∙ list_any-append (λ x. eqb x n) rest (a ∷ []) ∙ or_none _ _
-  where
-    or_none : (x y : Bool) → (x || (y || false)) ≡ (x || y)
-    or_none true y = refl
-    or_none false true = refl
-    or_none false false = refl
 
 module _ (lists : List (List ℕ)) (done : ℕ → Bool) (node at : ℕ) (old mid : Sweep) (s : Stage lists done node (λ a. ⊥) old) (rows : mid.rows ≡ old.rows) (pop : old.waiting.items ≡ mid.waiting.items ++ at ∷ []) where
   same : (a b : ℕ) → has_at mid.rows a b ≡ has_at old.rows a b
@@ -155,10 +146,6 @@ close lists done node at s t all = record {
     | inr o ↦ elim o [ inl w ↦ inr (inl w) | inr e ↦ inl (all b (ap (λ x. is_listed lists x b) (sym e) ∙ l)) ]
   ];
 }
-
-complete : (lists : List (List ℕ)) (found : ℕ → Bool) → ((a b : ℕ) → found a ≡ true → is_listed lists a b ≡ true → found b ≡ true) → (a b : ℕ) (via : List ℕ) → found a ≡ true → IsChain lists a via b → found b ≡ true
-complete lists found closed a b [] m h = ap found (sym h) ∙ m
-complete lists found closed a b (c ∷ cs) m h = complete lists found closed c b cs (closed a c m h.0) h.1
 
 pub nth_twice : (way : Way) (size a : ℕ) → a < size → nth way size (nth way size a) ≡ a
 nth_twice Forward size a lt = omega arith

@@ -1,5 +1,7 @@
 -- What lists of neighbours lead to can be reached by the steps of the graph.
-use Rattle.std.proofs.Common.{◌≡◌, ◌↔◌, ℕ, ◌<◌, length, Bool, true, List, [], ◌∷◌, ◌++◌, refl, sym, ◌∙◌}
+use Rattle.std.proofs.Common.{◌≡◌, ◌↔◌, ℕ, ◌<◌, length, Bool, true, ◌||◌, eqb, List, [], ◌∷◌, ◌++◌, refl, sym, ap, ◌∙◌}
+use Rattle.std.proofs.Math.Bool.{or-false}
+use Rattle.std.proofs.lemmas.List.Folds.{list_any-append}
 use Rattle.std.specs.Option.{is_some}
 use Rattle.graph_base.specs.Graphs.{PlainGraph}
 use Rattle.graph_base.specs.Runs.{has_step, rank_at, IsTrail, Reaches}
@@ -66,3 +68,12 @@ leads_on lists a b c one other = on a one.0 one.1
 -- steps lead backward from the nodes with a rank to those from which one can be reached
 pub ranked_backward : (g : PlainGraph) (first : List ℕ) (n : ℕ) (mark : Bool) → ((n : ℕ) → is_among first n ≡ is_some (rank_at g n)) → (mark ≡ true) ↔ LeadsFrom Backward g first n → (mark ≡ true) ↔ CanBeRanked g n
 ranked_backward g first n mark ranked h = (λ m. let l = h.0 m in (l.0, l.2, sym (ranked l.0) ∙ l.1), λ c. h.1 (c.0, ranked c.0 ∙ c.2, c.1))
+
+-- what waits where one more does, behind the others
+pub waited : (s rest : List ℕ) (a n : ℕ) → s ≡ rest ++ a ∷ [] → is_among s n ≡ (is_among rest n || eqb a n)
+waited s rest a n pop = ap (λ x. is_among x n) pop ∙ list_any-append (λ x. eqb x n) rest (a ∷ []) ∙ ap (λ b. is_among rest n || b) (or-false (eqb a n))
+
+-- what is closed under the lists has the end of each chain from it
+pub complete : (lists : List (List ℕ)) (marked : ℕ → Bool) → ((a b : ℕ) → marked a ≡ true → is_listed lists a b ≡ true → marked b ≡ true) → (a b : ℕ) (via : List ℕ) → marked a ≡ true → IsChain lists a via b → marked b ≡ true
+complete lists marked closed a b [] m h = ap marked (sym h) ∙ m
+complete lists marked closed a b (c ∷ cs) m h = complete lists marked closed c b cs (closed a c m h.0) h.1

@@ -2,10 +2,10 @@
 use Rattle.std.proofs.Common.{◌≡◌, ℕ, ◌<◌, Bool, true, false, not, ◌&&◌, ◌||◌, eqb, List, [], ◌∷◌, ◌++◌, length, get_or, refl, sym, ap, ◌∙◌, inl, inr, ◌⊎◌, ◌↔◌, arith, vec_len}
 use Rattle.std.proofs.lemmas.Bool.{cases_Bool, or_cases, or_left, or_right, and_from, and_parts, not_from_false, both_ways, eqb-true, eq-eqb, cases_lt}
 use Rattle.std.proofs.lemmas.List.{get_or_past}
-use Rattle.std.proofs.lemmas.List.Folds.{list_any-append, list_any_at}
+use Rattle.std.proofs.lemmas.List.Folds.{list_any_at}
 use Rattle.reach_prune.specs.declared.search.Search.{Search}
-use Rattle.reach_prune.proofs.Trails.{chain_more}
-use Rattle.reach_prune.specs.Searches.{is_among, is_marked, is_listed, AreLists, IsChain, IsReached, Visits}
+use Rattle.reach_prune.proofs.Trails.{chain_more, complete, waited}
+use Rattle.reach_prune.specs.Searches.{is_among, is_marked, is_listed, AreLists, IsReached, Visits}
 
 -- what is listed behind a node that is reached is reached
 reached_more : (lists : List (List ℕ)) (first : List ℕ) (b c : ℕ) → IsReached lists first b → is_listed lists b c ≡ true → IsReached lists first c
@@ -21,14 +21,6 @@ pub record Stage (lists : List (List ℕ)) (first : List ℕ) (s : Search) : Typ
   pub begun : (n : ℕ) → is_among first n ≡ true → is_marked s.marks.items n ≡ true
   pub closed : (a b : ℕ) → is_marked s.marks.items a ≡ true → is_listed lists a b ≡ true → (is_marked s.marks.items b ≡ true) ⊎ (is_among s.waiting.items a ≡ true)
   pub sound : (n : ℕ) → is_marked s.marks.items n ≡ true → IsReached lists first n
-
-waited : (s rest : List ℕ) (a n : ℕ) → s ≡ rest ++ a ∷ [] → is_among s n ≡ (is_among rest n || eqb a n)
-waited s rest a n pop = ap (λ x. is_among x n) pop ∙ list_any-append (λ x. eqb x n) rest (a ∷ []) ∙ or_none _ _
-  where
-    or_none : (x y : Bool) → (x || (y || false)) ≡ (x || y)
-    or_none true y = refl
-    or_none false true = refl
-    or_none false false = refl
 
 waited_marked : (lists : List (List ℕ)) (first : List ℕ) (a : ℕ) (s : Search) (rest : List ℕ) → Stage lists first s → s.waiting.items ≡ rest ++ a ∷ [] → is_marked s.marks.items a ≡ true
 waited_marked lists first a s rest t pop = t.waits a (waited _ rest a a pop ∙ or_right _ _ (eq-eqb a a refl))
@@ -73,10 +65,6 @@ stage_next lists first a nodes old mid new s len same pop listed v = record {
 
     waiting : (n : ℕ) → is_among new.waiting.items n ≡ (is_among mid.waiting.items n || (is_listed lists a n && not (is_marked old.marks.items n)))
     waiting n = v.waiting n ∙ rw (same, listed) refl
-
-complete : (lists : List (List ℕ)) (marked : ℕ → Bool) → ((a b : ℕ) → marked a ≡ true → is_listed lists a b ≡ true → marked b ≡ true) → (a b : ℕ) (via : List ℕ) → marked a ≡ true → IsChain lists a via b → marked b ≡ true
-complete lists marked closed a b [] m h = ap marked (sym h) ∙ m
-complete lists marked closed a b (c ∷ cs) m h = complete lists marked closed c b cs (closed a c m h.0) h.1
 
 pub stage_end : (lists : List (List ℕ)) (first : List ℕ) (s : Search) → Stage lists first s → s.waiting.items ≡ [] → (n : ℕ) → (is_marked s.marks.items n ≡ true) ↔ IsReached lists first n
 stage_end lists first s t done n = (

@@ -1,5 +1,5 @@
 -- A graph without the nodes from which no rank can be reached.
-use Rattle.std.specs.Prelude.{◌≡◌, ◌↔◌, ℕ, ◌+◌, ◌<◌, Bool, ◌&&◌, IsTrue, zero, suc, List, [], ◌∷◌, length, map, filter, IsSome, if◌then◌else◌}
+use Rattle.std.specs.Prelude.{◌≡◌, ◌↔◌, ℕ, ◌+◌, ◌<◌, Bool, ◌&&◌, IsTrue, List, [], ◌∷◌, length, map, filter, IsSome, if◌then◌else◌}
 use Rattle.list_laws.specs.Counts.{kept_below}
 use Rattle.graph_base.specs.declared.graph.Node.{Node}
 use Rattle.graph_base.specs.Graphs.{PlainGraph}

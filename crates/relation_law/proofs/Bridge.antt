@@ -1,36 +1,21 @@
 -- On a graph that is well formed the rules of evidence are met by the same numbers as the rules of the relation.
-use Rattle.std.proofs.Common.{◌≡◌, ℕ, ◌<◌, ◌≤◌, Bool, true, false, ◌&&◌, eqb, nat_le, List, [], ◌∷◌, length, Some, inl, inr, arith, refl, sym, ap, ◌∙◌}
-use Rattle.std.specs.List.{list_any, AllByRecursion}
-use Rattle.std.proofs.lemmas.Bool.{or_cases, cases_Bool, and_parts, and_from, not-true, both_ways, eqb-true, leb-true, le-leb, cond-true, cond-false}
+use Rattle.std.proofs.Common.{◌≡◌, ℕ, ◌<◌, ◌≤◌, Bool, true, false, nat_le, length, Some, inl, inr, arith, refl, sym, ap, ◌∙◌}
+use Rattle.std.proofs.lemmas.Bool.{cases_Bool, and_parts, and_from, both_ways, leb-true, le-leb, cond-true, cond-false}
 use Rattle.net_base.specs.declared.loc.LocSet.{LocSet}
-use Rattle.net_base.specs.Network.{PlainNet, is_peer, is_router, linked}
+use Rattle.net_base.specs.Network.{PlainNet, is_peer, is_router}
 use Rattle.net_base.specs.Sets.{holds}
 use Rattle.list_laws.proofs.Options.{is_some_parts}
 use Rattle.graph_base.specs.Graphs.{PlainGraph, IsGraph}
 use Rattle.graph_base.specs.Rules.{IsWellFormed, IsOver, MeetsRules, steps_on, is_heard}
-use Rattle.graph_base.specs.Runs.{place_of, is_listener, rank_at, is_start, has_step, start_at, IsTrail, Reaches}
-use Rattle.graph_base.proofs.Determined.{start_at-start}
+use Rattle.graph_base.specs.Runs.{place_of, is_listener, rank_at, is_start, has_step}
+use Rattle.graph_base.proofs.WellFormed.{alone_with_steps, no_step_to_start, only_itself, start_there}
+use Rattle.graph_base.proofs.StartsAndSteps.{step_nodes}
 use Rattle.relation_law.specs.Evidence.{AreRouters, AreRanked, at_routers}
 use Rattle.relation_law.specs.Numbers.{AreNumbers}
 use Rattle.relation_law.specs.Relations.{Pair, Meets, no_worse}
 use Rattle.relation_law.specs.Views.{view_of}
 use Rattle.relation_law.proofs.Ranks.{no_worse_refl, no_worse_some, no_worse_from, no_worse_at}
 use Rattle.relation_law.proofs.Rounds.{Answer, Hearer}
-
--- both ends of a step are nodes
-pub step_nodes : (g : PlainGraph) (a b : ℕ) → IsGraph g → has_step g a b ≡ true → (a < length g.nodes) × (b < length g.nodes)
-step_nodes g a b ok h = within g.steps ok.steps h
-  where
-    within : (steps : List (ℕ × ℕ)) → AllByRecursion (λ (s : ℕ × ℕ). (s.0 < length g.nodes) × (s.1 < length g.nodes)) steps → list_any (λ (s : ℕ × ℕ). eqb s.0 a && eqb s.1 b) steps ≡ true → (a < length g.nodes) × (b < length g.nodes)
-    within [] all h = absurd (cc)
-    within (s ∷ ss) all h = elim (or_cases (eqb s.0 a && eqb s.1 b) _ h) [
-      | inl here ↦ (
-          let e = and_parts (eqb s.0 a) (eqb s.1 b) here in
-          let a_is = eqb-true s.0 a e.0 in
-          let b_is = eqb-true s.1 b e.1 in
-          (omega (arith, all.0), omega (arith, all.0)))
-      | inr there ↦ within ss all.1 there
-    ]
 
 -- numbers of the relation meet the rules of evidence
 pub numbers_meet_rules : (net : PlainNet) (claimed : LocSet) (external : Bool) (g : PlainGraph) (number : ℕ → ℕ) → IsGraph g → AreNumbers (view_of g claimed) number → MeetsRules net (λ l. holds claimed l ≡ true) external g number
@@ -50,51 +35,24 @@ numbers_meet_rules net claimed external g number ok are =
           (x.0, y.0, x.2, x.3, y.1, y.2);
     }
 
--- where steps lead on from a node, some step leads to the last
-entered : (g : PlainGraph) (a b c : ℕ) (via : List ℕ) → IsTrail g a (c ∷ via) b → (m : ℕ) × (has_step g m b ≡ true)
-entered g a b c [] trail = (a, ap (has_step g a) (sym trail.1) ∙ trail.0)
-entered g a b c (d ∷ via) trail = entered g c b d via trail.1
-
 module _ (net : PlainNet) (origin : ℕ → Bool) (external : Bool) (g : PlainGraph) (formed : IsWellFormed net origin external g) (ok : IsGraph g) where
-  no_step_to_start : (m n : ℕ) → has_step g m n ≡ true → is_start g n ≡ true → ⊥
-  no_step_to_start m n st start = both_ways _ (not-true _ (and_parts (linked net (place_of g m) (place_of g n)) _ (formed.links m n st)).1) start
-
-  only_itself : (k n : ℕ) → is_start g n ≡ true → Reaches g k n → k ≡ n
-  only_itself k n start ([], trail) = trail
-  only_itself k n start (c ∷ via, trail) = let x : (m : ℕ) × (has_step g m n ≡ true) = entered g k n c via trail in absurd (no_step_to_start x.0 n x.1 start)
-
-  same_start : (m n : ℕ) → is_start g m ≡ true → is_start g n ≡ true → place_of g m ≡ place_of g n → m ≡ n
-  same_start m n a b e =
-      let at : Some m ≡ Some n = sym (start_at-start g m formed.one_start a) ∙ ap (start_at g) e ∙ start_at-start g n formed.one_start b in
-      cc
-
-  start_there : (m n : ℕ) → m < length g.nodes → is_start g n ≡ true → place_of g m ≡ place_of g n → is_start g m ≡ true
-  start_there m n lt start e = formed.alone m lt (ap origin e ∙ formed.starts n start)
-
-  -- away from the routers a node with steps is the only one at its location
-  alone_with_steps : (m n t : ℕ) → m < length g.nodes → place_of g m ≡ place_of g n → is_router net (place_of g n) ≡ false → has_step g n t ≡ true → (m ≡ n) × (is_start g n ≡ true)
-  alone_with_steps m n t lt e away st = elim (or_cases (is_start g n) (is_router net (place_of g n)) (formed.from n t st)) [
-    | inl start ↦ (same_start m n (start_there m n lt start e) start e, start)
-    | inr router ↦ absurd (both_ways _ away router)
-  ]
-
   module _ (claimed : LocSet) (routers : AreRouters net claimed) (ranked : AreRanked g) (number : ℕ → ℕ) (rules : MeetsRules net (λ l. holds claimed l ≡ true) external g number) where
     -- away from the routers the rules hold by themselves
     meets_away : (m n : ℕ) → Pair (view_of g claimed) m n → is_router net (place_of g n) ≡ false → Meets (view_of g claimed) (λ a b. nat_le (number b) (number a)) m n
     meets_away m n pair away = record {
       rank = λ cl. absurd (both_ways _ away (routers (place_of g n) cl));
       step = λ t lt st.
-          let one = alone_with_steps m n t pair.left pair.place away (and_parts (has_step g n t) _ st).0 in
+          let one = alone_with_steps net origin external g formed m n t pair.left pair.place away (and_parts (has_step g n t) _ st).0 in
           (t, lt, ap (λ z. steps_on g z t) one.0 ∙ st, refl, le-leb (number t) (number t) (omega arith));
       loop = λ t k lt lk st e leads.
           let step = (and_parts (has_step g n t) _ st).0 in
-          let one = alone_with_steps m n t pair.left pair.place away step in
+          let one = alone_with_steps net origin external g formed m n t pair.left pair.place away step in
           let m_start : is_start g m ≡ true = ap (is_start g) one.0 ∙ one.1 in
-          let k_is : k ≡ m = only_itself k m m_start leads in
+          let k_is : k ≡ m = only_itself net origin external g formed k m m_start leads in
           let k_start : is_start g k ≡ true = ap (is_start g) k_is ∙ m_start in
-          absurd (no_step_to_start n t step (start_there t k lt k_start (sym e)));
+          absurd (no_step_to_start net origin external g formed n t step (start_there net origin external g formed t k lt k_start (sym e)));
       listener = λ t lt st.
-          let one = alone_with_steps m n t pair.left pair.place away (and_parts (has_step g n t) _ st).0 in
+          let one = alone_with_steps net origin external g formed m n t pair.left pair.place away (and_parts (has_step g n t) _ st).0 in
           (t, lt, ap (λ z. is_heard g z t) one.0 ∙ st, refl, no_worse_refl (rank_at g t));
     }
 

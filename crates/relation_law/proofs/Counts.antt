@@ -10,25 +10,30 @@ use Rattle.relation_law.proofs.Rounds.{Answer, Hearer, Meets-wider, pair_from, p
 use Rattle.relation_law.proofs.Tests.{any_found, any_at, none_at, none_below, count_le, count_lt}
 
 -- the pairs that numbers put in order are a closed relation
-by_number : View → (ℕ → ℕ) → ℕ → ℕ → Bool
+pub by_number : View → (ℕ → ℕ) → ℕ → ℕ → Bool
 by_number v of m n = is_pair v m n && nat_le (of n) (of m)
 
-by_number-closed : (v : View) (of : ℕ → ℕ) → AreNumbers v of → IsClosed v (by_number v of)
+pub by_number-closed : (v : View) (of : ℕ → ℕ) → AreNumbers v of → IsClosed v (by_number v of)
 unfolding by_number
 by_number-closed v of h m n e =
     let p = and_parts _ _ e in
     let q : Pair v m n = pair_from v m n p.0 in
     (q, Meets-wider v (λ a b. nat_le (of b) (of a)) (by_number v of) m n (h m n q (leb-true _ _ p.1)) (λ a b ab le. and_from _ _ (pair_to v a b ab) le))
 
+-- of each two nodes at one location it has one direction
+pub by_number-total : (v : View) (of : ℕ → ℕ) → IsTotal v (by_number v of)
+unfolding by_number
+by_number-total v of m n p = elim (cases_lt (of m) (of n)) [
+  | inl lt ↦ inr (and_from _ _ (pair_to v n m (record { left = p.right; right = p.left; place = sym p.place })) (le-leb _ _ (omega arith)))
+  | inr le ↦ inl (and_from _ _ (pair_to v m n p) (le-leb _ _ le))
+]
+
 -- numbers exist only where the greatest closed relation is total
 pub numbers_give_total : (v : View) (r : ℕ → ℕ → Bool) (of : ℕ → ℕ) → IsGreatest v r → AreNumbers v of → IsTotal v r
-unfolding by_number
-numbers_give_total v r of g h m n p =
-    let back : Pair v n m = record { left = p.right; right = p.left; place = sym p.place } in
-    elim (cases_lt (of m) (of n)) [
-      | inl lt ↦ inr (g.greatest (by_number v of) (by_number-closed v of h) n m (and_from _ _ (pair_to v n m back) (le-leb _ _ (omega arith))))
-      | inr le ↦ inl (g.greatest (by_number v of) (by_number-closed v of h) m n (and_from _ _ (pair_to v m n p) (le-leb _ _ le)))
-    ]
+numbers_give_total v r of g h m n p = elim (by_number-total v of m n p) [
+  | inl e ↦ inl (g.greatest (by_number v of) (by_number-closed v of h) m n e)
+  | inr e ↦ inr (g.greatest (by_number v of) (by_number-closed v of h) n m e)
+]
 
 -- there is one greatest closed relation
 pub one_greatest : (v : View) (r s : ℕ → ℕ → Bool) → IsGreatest v r → IsGreatest v s → (m n : ℕ) → r m n ≡ s m n

@@ -1,3 +1,4 @@
+pub mod ByRows
 pub mod Bridge
 pub mod Counts
 pub mod Ranks

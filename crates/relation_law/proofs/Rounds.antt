@@ -1,7 +1,7 @@
 -- What the rounds leave is the greatest closed relation.
 use Rattle.std.proofs.Common.{◌≡◌, ℕ, zero, suc, ◌<◌, Bool, true, false, not, ◌&&◌, ◌||◌, inl, inr, refl, sym, ◌∙◌}
 use Rattle.std.proofs.lemmas.Bool.{or_cases, or_parts, or_from, cases_Bool, and_parts, and_from, and_cases, not-true, not-false, not_from_false, both_ways, eqb-true, eq-eqb, ltb-true, lt-ltb, false_from_ne_true, cond-true, cond-false}
-use Rattle.relation_law.specs.Relations.{Pair, Meets, IsClosed, IsGreatest, no_worse, steps_on, is_heard}
+use Rattle.relation_law.specs.Relations.{Pair, Meets, IsClosed, IsGreatest, IsTotal, no_worse, steps_on, is_heard}
 use Rattle.relation_law.specs.Rounds.{IsReach, same_place, has_answer, is_heard_there, is_looped, fails_at, fails, gone_after, is_pair, left_after, IsSettled}
 use Rattle.relation_law.specs.Views.{View}
 use Rattle.relation_law.proofs.Tests.{any_found, any_at, none_at, none_below}
@@ -40,7 +40,15 @@ fails_heard v reach gone m t h = cond-true (v.hears t) _ _ h
 pub fails_stepped : (v : View) (reach gone : ℕ → ℕ → Bool) (m t : ℕ) → v.hears t ≡ false → fails_at v reach gone m t ≡ (not (has_answer v gone m t) || is_looped v reach gone m t)
 fails_stepped v reach gone m t h = cond-false (v.hears t) _ _ h
 
-module _ (v : View) (reach : ℕ → ℕ → Bool) (exact : IsReach v reach) where
+-- the test passes only where the first node leads to the second
+abbrev pub IsSound : View → (ℕ → ℕ → Bool) → Type 0
+IsSound v reach = (a b : ℕ) → a < v.size → b < v.size → reach a b ≡ true → v.Leads a b
+
+-- it passes wherever it does
+abbrev pub IsWhole : View → (ℕ → ℕ → Bool) → Type 0
+IsWhole v reach = (a b : ℕ) → a < v.size → b < v.size → v.Leads a b → reach a b ≡ true
+
+module _ (v : View) (reach : ℕ → ℕ → Bool) (sound : IsSound v reach) where
   -- where the rules are met against a relation of which no pair has gone, none fails at a step
   none_fails_at : (r gone : ℕ → ℕ → Bool) (m n t : ℕ) → m < v.size → t < v.size → Meets v r m n → ((a b : ℕ) → r a b ≡ true → gone a b ≡ false) → v.step n t ≡ true → fails_at v reach gone m t ≡ true → ⊥
   none_fails_at r gone m n t lm lt h left st e = elim (cases_Bool (v.hears t)) [
@@ -57,7 +65,7 @@ module _ (v : View) (reach : ℕ → ℕ → Bool) (exact : IsReach v reach) whe
           let y : (k : ℕ) × (k < v.size) × ((same_place v k t && (reach k m && gone k t)) ≡ true) = any_found v.size (λ k. same_place v k t && (reach k m && gone k t)) f in
           let y1 = and_parts _ _ y.2 in
           let y2 = and_parts _ _ y1.1 in
-          both_ways _ (left y.0 t (h.loop t y.0 lt y.1 (and_from _ _ st (not_from_false _ l)) (eqb-true _ _ y1.0) ((exact y.0 m y.1 lm).0 y2.0))) y2.1)
+          both_ways _ (left y.0 t (h.loop t y.0 lt y.1 (and_from _ _ st (not_from_false _ l)) (eqb-true _ _ y1.0) (sound y.0 m y.1 lm y2.0))) y2.1)
     ]
   ]
 
@@ -71,6 +79,14 @@ module _ (v : View) (reach : ℕ → ℕ → Bool) (exact : IsReach v reach) whe
       let p = and_parts (v.step n t) (fails_at v reach gone m t) e in
       none_fails_at r gone m n t lm lt h left p.0 p.1))
 
+  -- No pair of a closed relation ever goes.
+  pub closed_stays : (s : ℕ → ℕ → Bool) → IsClosed v s → (rounds m n : ℕ) → s m n ≡ true → gone_after v reach rounds m n ≡ false
+  closed_stays s c zero m n h = refl
+  closed_stays s c (suc rounds) m n h =
+      or_from _ _ (closed_stays s c rounds m n h)
+      (no_rule_fails s (gone_after v reach rounds) m n (c m n h).0.left (c m n h).1 (λ a b e. closed_stays s c rounds a b e))
+
+module _ (v : View) (reach : ℕ → ℕ → Bool) (whole : IsWhole v reach) where
   -- Where no rule fails, the rules are met against the pairs of one location that haven't gone.
   pub rules_are_met : (gone : ℕ → ℕ → Bool) (m n : ℕ) → m < v.size → fails v reach gone m n ≡ false → Meets v (λ a b. is_pair v a b && not (gone a b)) m n
   rules_are_met gone m n lm h =
@@ -93,7 +109,7 @@ module _ (v : View) (reach : ℕ → ℕ → Bool) (exact : IsReach v reach) whe
         loop = λ t k lt lk st e leads.
             pair k t lk lt e (false_from_ne_true _ (λ gk.
             both_ways _ (none_at v.size (λ k. same_place v k t && (reach k m && gone k t)) k (stepped t lt st).1 lk)
-            (and_from _ _ (eq-eqb _ _ e) (and_from _ _ ((exact k m lk lm).1 leads) gk))));
+            (and_from _ _ (eq-eqb _ _ e) (and_from _ _ (whole k m lk lm leads) gk))));
         listener = λ t lt st.
             let p = and_parts (v.step n t) (v.hears t) st in
             let f : is_heard_there v m t ≡ true = not-false _ (sym (fails_heard v reach gone m t p.1) ∙ at_step t lt p.0) in
@@ -103,20 +119,26 @@ module _ (v : View) (reach : ℕ → ℕ → Bool) (exact : IsReach v reach) whe
             (x.0, x.1, x1.0, eqb-true _ _ x2.0, x2.1);
       }
 
-  -- No pair of a closed relation ever goes.
-  pub closed_stays : (s : ℕ → ℕ → Bool) → IsClosed v s → (rounds m n : ℕ) → s m n ≡ true → gone_after v reach rounds m n ≡ false
-  closed_stays s c zero m n h = refl
-  closed_stays s c (suc rounds) m n h =
-      or_from _ _ (closed_stays s c rounds m n h)
-      (no_rule_fails s (gone_after v reach rounds) m n (c m n h).0.left (c m n h).1 (λ a b e. closed_stays s c rounds a b e))
+-- Where a round takes nothing more away, what is left is the greatest closed relation, as long as a test that passes too often
+-- leaves what one that passes too seldom does.
+pub greatest_between : (v : View) (low high : ℕ → ℕ → Bool) (rounds : ℕ) → IsSound v low → IsWhole v high → IsSettled v high rounds → ((m n : ℕ) → left_after v low rounds m n ≡ left_after v high rounds m n)
+    → IsGreatest v (left_after v high rounds)
+greatest_between v low high rounds sound whole h same = record {
+  closed = λ m n e.
+      let p = and_parts (is_pair v m n) (not (gone_after v high rounds m n)) e in
+      let q : Pair v m n = pair_from v m n p.0 in
+      let stays : gone_after v high (suc rounds) m n ≡ false = false_from_ne_true _ (λ g. both_ways _ (not-true _ p.1) (h m n q g)) in
+      (q, rules_are_met v high whole (gone_after v high rounds) m n q.left (or_parts _ _ stays).1);
+  greatest = λ s c m n e. sym (same m n) ∙ and_from _ _ (pair_to v m n (c m n e).0) (not_from_false _ (closed_stays v low sound s c rounds m n e));
+}
 
-  -- Where a round takes nothing more away, what is left is the greatest closed relation.
-  pub settled_is_greatest : (rounds : ℕ) → IsSettled v reach rounds → IsGreatest v (left_after v reach rounds)
-  settled_is_greatest rounds h = record {
-    closed = λ m n e.
-        let p = and_parts (is_pair v m n) (not (gone_after v reach rounds m n)) e in
-        let q : Pair v m n = pair_from v m n p.0 in
-        let stays : gone_after v reach (suc rounds) m n ≡ false = false_from_ne_true _ (λ g. both_ways _ (not-true _ p.1) (h m n q g)) in
-        (q, rules_are_met (gone_after v reach rounds) m n q.left (or_parts _ _ stays).1);
-    greatest = λ s c m n e. and_from _ _ (pair_to v m n (c m n e).0) (not_from_false _ (closed_stays s c rounds m n e));
-  }
+pub settled_is_greatest : (v : View) (reach : ℕ → ℕ → Bool) → IsReach v reach → (rounds : ℕ) → IsSettled v reach rounds → IsGreatest v (left_after v reach rounds)
+settled_is_greatest v reach exact rounds h =
+    greatest_between v reach reach rounds (λ a b la lb. (exact a b la lb).0) (λ a b la lb. (exact a b la lb).1) h (λ m n. refl)
+
+-- A pair that has gone both ways shows that no closed relation is total.
+pub open_pair : (v : View) (reach r : ℕ → ℕ → Bool) (k m n : ℕ) → IsSound v reach → IsClosed v r → Pair v m n → gone_after v reach k m n ≡ true → gone_after v reach k n m ≡ true → IsTotal v r → ⊥
+open_pair v reach r k m n sound c pair a b total = elim (total m n pair) [
+  | inl e ↦ both_ways _ (closed_stays v reach sound r c k m n e) a
+  | inr e ↦ both_ways _ (closed_stays v reach sound r c k n m e) b
+]

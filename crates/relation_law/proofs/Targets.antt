@@ -1,10 +1,9 @@
 -- What fails at a step rests on what has gone below its target alone.
 use Rattle.std.proofs.Common.{◌≡◌, ℕ, zero, suc, ◌<◌, Bool, true, false, not, ◌&&◌, ◌||◌, inl, inr, arith, refl, sym, ap, ◌∙◌}
-use Rattle.std.specs.Cmp.{both_ways}
 use Rattle.std.proofs.lemmas.Bool.{or_parts, cases_Bool, and_left}
 use Rattle.relation_law.specs.Numbers.{any_below}
 use Rattle.relation_law.specs.Relations.{no_worse, steps_on}
-use Rattle.relation_law.specs.Rounds.{AreTouched, IsReach, fails, fails_at, gone_after, goes_by, has_answer, is_looped, same_place}
+use Rattle.relation_law.specs.Rounds.{AreTouched, fails, fails_at, gone_after, goes_by, has_answer, is_looped, same_place}
 use Rattle.relation_law.specs.Views.{View}
 use Rattle.relation_law.proofs.Rounds.{fails_heard, fails_stepped}
 use Rattle.relation_law.proofs.Tests.{none_at}
@@ -47,25 +46,14 @@ by_targets v reach rounds touched are m n left =
           ∙ sym (and_left _ _ e)
     ])
 
--- Two exact tests of what can be reached are one, and so are the rounds by them.
-module _ (v : View) (one other : ℕ → ℕ → Bool) (exact : IsReach v one) (exact_too : IsReach v other) where
-  reached : (a b : ℕ) → a < v.size → b < v.size → one a b ≡ other a b
-  reached a b la lb = both_ways (one a b) (other a b) (λ h. (exact_too a b la lb).1 ((exact a b la lb).0 h)) (λ h. (exact a b la lb).1 ((exact_too a b la lb).0 h))
-
-  fails_by_either : (gone : ℕ → ℕ → Bool) (m t : ℕ) → m < v.size → fails_at v one gone m t ≡ fails_at v other gone m t
-  fails_by_either gone m t lm = elim (cases_Bool (v.hears t)) [
-    | inl h ↦ fails_heard v one gone m t h ∙ sym (fails_heard v other gone m t h)
-    | inr h ↦ fails_stepped v one gone m t h
-        ∙ ap (λ z. not (has_answer v gone m t) || z) (any_alike v.size (λ k. same_place v k t && (one k m && gone k t)) (λ k. same_place v k t && (other k m && gone k t)) (λ k lk. ap (λ z. same_place v k t && (z && gone k t)) (reached k m lk lm)))
-        ∙ sym (fails_stepped v other gone m t h)
-  ]
-
-  pub gone_by_either : (rounds m n : ℕ) → m < v.size → gone_after v one rounds m n ≡ gone_after v other rounds m n
-  gone_by_either zero m n lm = refl
-  gone_by_either (suc rounds) m n lm =
-      let before : ℕ → ℕ → Bool = gone_after v one rounds in
-      let before_too : ℕ → ℕ → Bool = gone_after v other rounds in
-      ap (λ z. z || fails v one (gone_after v one rounds) m n) (gone_by_either rounds m n lm)
-      ∙ ap (λ z. gone_after v other rounds m n || ((v.claimed (v.place n) && not (no_worse (v.rank m) (v.rank n))) || z))
-      (any_alike v.size (λ t. v.step n t && fails_at v one (gone_after v one rounds) m t) (λ t. v.step n t && fails_at v other (gone_after v other rounds) m t)
-      (λ t lt. ap (λ z. v.step n t && z) (fails_alike v one before_too before t (λ a la same. gone_by_either rounds a t la) m ∙ fails_by_either before_too m t lm)))
+-- what fails at a step asks what can be reached only from nodes that have gone below its target
+pub fails_by_either : (v : View) (one other gone : ℕ → ℕ → Bool) (m t : ℕ) → ((k : ℕ) → k < v.size → same_place v k t ≡ true → (one k m && gone k t) ≡ (other k m && gone k t)) → fails_at v one gone m t ≡ fails_at v other gone m t
+fails_by_either v one other gone m t same = elim (cases_Bool (v.hears t)) [
+  | inl h ↦ fails_heard v one gone m t h ∙ sym (fails_heard v other gone m t h)
+  | inr h ↦ fails_stepped v one gone m t h
+      ∙ ap (λ z. not (has_answer v gone m t) || z) (any_alike v.size (λ k. same_place v k t && (one k m && gone k t)) (λ k. same_place v k t && (other k m && gone k t)) (λ k lk. elim (cases_Bool (same_place v k t)) [
+        | inl e ↦ ap (λ z. same_place v k t && z) (same k lk e)
+        | inr e ↦ and_left _ _ e ∙ sym (and_left _ _ e)
+      ]))
+      ∙ sym (fails_stepped v other gone m t h)
+]

@@ -10,14 +10,20 @@ ghost use Rattle.net_base.specs.Network.{PlainNet};
 ghost use Rattle.net_base.specs.Sets.{holds};
 ghost use Rattle.relation_law.specs.Evidence.{AreRanked, AreRouters, at_routers};
 ghost use Rattle.relation_law.specs.Numbers.{AreNumbers, number_of};
-ghost use Rattle.relation_law.specs.Relations.{IsGreatest, IsTotal};
-ghost use Rattle.relation_law.specs.Rounds.{IsReach, IsSettled, left_after};
+ghost use Rattle.relation_law.specs.Relations.{IsClosed, IsGreatest, IsTotal, Pair};
+ghost use Rattle.relation_law.specs.Rounds.{IsReach, IsSettled, gone_after, left_after};
 ghost use Rattle.relation_law.specs.Views.{view_of};
 
 /// Where a round takes nothing more away, what is left is the greatest relation.
 pub fn rounds_end_at_the_greatest()
     ensures { (g : PlainGraph) (claimed : LocSet) (reach : ℕ → ℕ → Bool) (rounds : ℕ) → IsReach (view_of g claimed) reach → IsSettled (view_of g claimed) reach rounds
         → IsGreatest (view_of g claimed) (left_after (view_of g claimed) reach rounds) }
+{}
+
+/// A pair that has gone in both directions after some round shows that no closed relation is total, nor so the greatest.
+pub fn open_pairs_leave_no_total_relation()
+    ensures { (g : PlainGraph) (claimed : LocSet) (reach r : ℕ → ℕ → Bool) (rounds m n : ℕ) → IsReach (view_of g claimed) reach → IsClosed (view_of g claimed) r → Pair (view_of g claimed) m n
+        → IsTrue (gone_after (view_of g claimed) reach rounds m n) → IsTrue (gone_after (view_of g claimed) reach rounds n m) → ¬ IsTotal (view_of g claimed) r }
 {}
 
 /// There is one greatest relation.

@@ -1,9 +1,23 @@
-use Rattle.std.proofs.Common.{◌≡◌, ◌++◌, drop}
-use Rattle.path_exprs.specs.Expression.{expressions_of}
-use Rattle.path_exprs.specs.Derivative.{derivative_each}
-use Rattle.path_exprs.specs.View.{views}
+use Rattle.std.proofs.Common.{◌≡◌, ◌+◌, ◌*◌, map, take, length, true}
+use Rattle.path_exprs.specs.Derivative.{derivative}
+use Rattle.path_automata.specs.Derived.{AreDerivatives}
+use Rattle.path_terms.specs.Terms.{are_known, Extends}
+use Rattle.path_terms.specs.Values.{values, value}
 use Rattle.path_automata.proofs.derive.+derivative.Given as goal
 
+abbrev pub decreases-derivative : goal.decreases-derivative
+decreases-derivative l = 4 * l.e + 3
+
+abbrev pub decreases-made : goal.decreases-made
+decreases-made l = 4 * l.e + 2
+
+abbrev pub decreases-derivative_each : goal.decreases-derivative_each
+decreases-derivative_each l = 4 * l.bound + 1
+
 abbrev pub invariant-derivative_each-loop-i : goal.invariant-derivative_each-loop-i
-invariant-derivative_each-loop-i l =
-    derivative_each l.at (expressions_of (views l.es)) ≡ views l.all.items ++ derivative_each l.at (expressions_of (views (drop l.i l.es)))
+invariant-derivative_each-loop-i l = record {
+  derived : AreDerivatives l.classes (values l.terms) l.derived;
+  extends : Extends (values l.initial.terms) (values l.terms);
+  made : map (value l.terms) l.all.items ≡ map (derivative l.at) (map (value l.initial.terms) (take l.i l.numbers));
+  known : are_known (length (values l.terms)) l.all.items ≡ true;
+}

@@ -1,11 +1,12 @@
 use Rattle.std.proofs.Common.{◌≡◌, drop}
 use Rattle.std.specs.Prelude.{not}
 use Rattle.std.specs.List.{list_any}
-use Rattle.path_words.specs.Policies.{policy_of}
+use Rattle.path_words.specs.Policies.{PlainPolicy}
 use Rattle.path_words.specs.Cases.{is_originated}
+use Rattle.path_words.specs.CaseIndex.{AreOriginated}
 use Rattle.path_words.proofs.case_list.are_originated.Given as goal
 
 abbrev pub invariant-loop-pattern : goal.invariant-loop-pattern
 invariant-loop-pattern l =
-    list_any (λ p. not (is_originated (policy_of l.policy) p)) l.patterns
-    ≡ list_any (λ p. not (is_originated (policy_of l.policy) p)) (drop l.pattern-index l.patterns)
+    (policy : PlainPolicy) → AreOriginated l.prefixes policy
+    → list_any (λ p. not (is_originated policy p)) l.patterns ≡ list_any (λ p. not (is_originated policy p)) (drop l.pattern-index l.patterns)

@@ -1,15 +1,12 @@
-use Rattle.std.proofs.Common.{◌≡◌, ℕ, ◌+◌, ◌*◌, ◌-◌, ◌<◌, Bool, true, false, not, ◌&&◌, ◌||◌, eqb, List, length, arith, refl, sym, ap, ◌∙◌, inl, inr}
+use Rattle.std.proofs.Common.{◌≡◌, ℕ, ◌+◌, ◌*◌, ◌-◌, ◌<◌, false, not, ◌&&◌, ◌||◌, eqb, List, length, arith, sym, ap, ◌∙◌, inl, inr}
 use Rattle.std.proofs.lemmas.Bool.{cases_eq, cond-true, cond-false, eq-eqb, ne_eqb}
+use Rattle.std.proofs.Math.Bool.{and-true}
 use Rattle.std.proofs.lemmas.List.{with_items_is}
 use borrow.Rule.Slice.PartMut.{put_mid}
 use Rattle.bit_rows.specs.Bits.{has}
 use Rattle.bit_rows.specs.Tables.{PlainRows, has_at, row_of}
 use Rattle.bit_rows.proofs.Tables.{length-put_mid, put_bits, put_table, row_ends, row_part, row_wide}
 use Rattle.bit_rows.proofs.rows.Rows.keep.Goals as goal
-
-and_all : (x : Bool) → x ≡ (x && true)
-and_all true = refl
-and_all false = refl
 
 pub invariant_of-self : goal.invariant_of-self
 invariant_of-self c =
@@ -42,5 +39,5 @@ returns-clause-bits c = λ other b lo.
     put_bits r c.args.row c.self.invariant lt _ part ys same k wide len (with_items_is c.self.inside.words (put_mid (c.args.row * r.width) k part ys) whole) other b
     ∙ elim (cases_eq other c.args.row) [
       | inl e ↦ cond-true (eqb other c.args.row) (has ys b) (has_at r other b) (eq-eqb _ _ e) ∙ c.keep_row.ensures.bits b ∙ ap (λ l. has l b && has c.args.mask.now b) (row_part r c.args.row part same) ∙ ap (λ (t : PlainRows). has_at t c.args.row b && has c.args.mask.now b) view ∙ ap (λ o. has_at c.args.self.now o b && has c.args.mask.now b) (sym e) ∙ sym (ap (λ z. has_at c.args.self.now other b && (not z || has c.args.mask.now b)) (eq-eqb _ _ e))
-      | inr n ↦ cond-false (eqb other c.args.row) (has ys b) (has_at r other b) (ne_eqb _ _ n) ∙ ap (λ (t : PlainRows). has_at t other b) view ∙ and_all (has_at c.args.self.now other b) ∙ sym (ap (λ z. has_at c.args.self.now other b && (not z || has c.args.mask.now b)) (ne_eqb _ _ n))
+      | inr n ↦ cond-false (eqb other c.args.row) (has ys b) (has_at r other b) (ne_eqb _ _ n) ∙ ap (λ (t : PlainRows). has_at t other b) view ∙ sym (and-true (has_at c.args.self.now other b)) ∙ sym (ap (λ z. has_at c.args.self.now other b && (not z || has c.args.mask.now b)) (ne_eqb _ _ n))
     ]

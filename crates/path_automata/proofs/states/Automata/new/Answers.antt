@@ -1,21 +1,36 @@
-use Rattle.std.proofs.Common.{ap, subst, ◌∙◌}
+use Rattle.std.proofs.Common.{◌≤◌, ◌<◌, [], Some, vec_len, length, map, arith, ap, sym, subst, ◌∙◌}
+use Rattle.std.specs.Prelude.{IfSome, slice_get}
+use Rattle.std.specs.Map.{lookup}
 use Rattle.indexmap.specs.IndexSet.{insert_key}
-use Rattle.path_exprs.specs.View.{views}
-use Rattle.path_automata.specs.Classes.{AreSorted}
+use Rattle.net_base.specs.declared.limits.TheConstants.{ALTERNATIVES}
+use Rattle.path_terms.specs.Terms.{at}
+use Rattle.path_terms.specs.Values.{values}
+use Rattle.path_automata.specs.Derived.{same_key, IsDerivative}
+use Rattle.path_automata.specs.Found.{states_in, facts_of}
+use Rattle.path_automata.specs.Sets.{agrees}
+use Rattle.path_automata.proofs.ClassLemmas.{known-pass}
 use Rattle.path_automata.proofs.MemoLemmas.{alike-one, apart-one}
-use Rattle.path_automata.proofs.StateLemmas.{same, seen}
+use Rattle.path_automata.proofs.StateLemmas.{IsKnown, all-inserted, facts-one, same}
 use Rattle.path_automata.proofs.states.Automata.new.Goals as goal
 
-pub invariant_of-result-clause-apart : goal.invariant_of-result-clause-apart
-invariant_of-result-clause-apart c =
-    apart-one (seen c.insert.new.self.keys) (views c.in_ok-first.first.items)
-    (ap seen (c.in_ok-insert.ensures.keys ∙ ap (λ ks. insert_key same ks c.in_ok-first.first) c.new-found.ensures.empty))
-
-pub invariant_of-result-clause-alike : goal.invariant_of-result-clause-alike
-invariant_of-result-clause-alike c =
-    alike-one c.in_ok-memo.memo (seen c.insert.new.self.keys) (views c.in_ok-first.first.items)
-    (ap seen (c.in_ok-insert.ensures.keys ∙ ap (λ ks. insert_key same ks c.in_ok-first.first) c.new-found.ensures.empty))
-    (subst (λ es. AreSorted c.in_ok-memo.memo.classes.items (views es)) c.deref.ensures.value c.in_ok-memo.ensures.sorted)
-
-pub invariant_of-result-clause-right : goal.invariant_of-result-clause-right
-invariant_of-result-clause-right c = λ s x t note. absurd (c.in_ok-memo.ensures.none s x t note)
+pub invariant_of-result : goal.invariant_of-result
+invariant_of-result c =
+    let vs = values c.starts.new.terms in
+    let ks = c.insert.new.self.keys in
+    let first = c.in_ok-first.first in
+    let memo = c.in_ok-memo.memo in
+    let s = map (at vs) first.items in
+    let is = c.in_ok-insert.ensures.keys ∙ ap (λ ks. insert_key same ks first) c.new-found.ensures.empty in
+    let one = ap (states_in vs) is in
+    let size = ap length c.alternatives.ensures.alternatives in
+    record {
+      few = all-inserted (λ v. vec_len v ≤ ALTERNATIVES) [] ks first is (λ i d h. absurd (omega (arith, h))) (omega (arith, c.in_ok-first.ensures.len, c.alternatives.ensures.few, size));
+      begun = subst (λ ks. 0 < length ks) (sym is) (omega arith);
+      known = all-inserted (IsKnown vs) [] ks first is (λ i d h. absurd (omega (arith, h))) c.in_ok-first.ensures.known;
+      kept = λ key. subst (λ es. IfSome (lookup (same_key key) es) (λ d. IsDerivative memo.classes.items vs key d)) (sym c.new-2.ensures.empty) tt;
+      told = facts-one c.in_ok-facts.facts.items (states_in vs ks) s one
+          (ap (λ l. slice_get l 0) c.in_ok-facts.ensures.items ∙ ap Some (c.facts_of.ensures ∙ ap (λ l. facts_of (map (at vs) l)) c.deref.ensures.value));
+      apart = apart-one (states_in vs ks) s one;
+      alike = alike-one memo (states_in vs ks) s one (λ x y sc. known-pass (agrees x y) vs first.items c.in_ok-first.ensures.known (c.in_ok-memo.ensures.sorted x y sc));
+      right = λ s x t note. absurd (c.in_ok-memo.ensures.none s x t note);
+    }

@@ -1,10 +1,20 @@
-use Rattle.std.proofs.Common.{[], ap, sym, ◌∙◌}
-use Rattle.path_exprs.specs.Runs.{first_with}
-use Rattle.path_exprs.specs.View.{views}
-use Rattle.path_automata.proofs.StateLemmas.{seen-at}
+use Rattle.std.proofs.Common.{arith, ap, ◌∙◌}
+use Rattle.std.specs.Prelude.{slice_get}
+use Rattle.std.proofs.lemmas.Option.{get_or_from_slice_get}
+use Rattle.path_terms.specs.Values.{values}
+use Rattle.path_automata.specs.declared.facts.Facts.{Facts}
+use Rattle.path_automata.specs.Found.{facts_of, states_in}
+use Rattle.path_automata.proofs.StateLemmas.{facts-cover}
 use Rattle.path_automata.proofs.states.Automata.rank.Goals as goal
+
+pub index-requires : goal.index-requires
+index-requires c =
+    let self = c.args.self.now in
+    let cover = facts-cover self.facts.items (states_in (values self.terms) self.found.keys) self.told in
+    omega (arith, cover, c.requires.known, c.state.view_is)
 
 pub returns : goal.returns
 returns c = λ s e.
-    let is = seen-at c.args.self.now.found.keys c.state.inside.0 c.args.state c.in-Some.alternatives.now s c.state.view_is (sym c.in-Some.ensures.key) e in
-    c.first_with_empty.ensures ∙ ap (first_with []) (ap views c.deref.ensures.value ∙ sym is)
+    let self = c.args.self.now in
+    ap (λ (f : Facts). f.rank)
+    (c.index.ensures ∙ get_or_from_slice_get self.facts.items c.state.inside.0 (facts_of s) _ (ap (slice_get self.facts.items) c.state.view_is ∙ self.told c.args.state s e))

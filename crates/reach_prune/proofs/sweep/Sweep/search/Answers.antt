@@ -7,7 +7,8 @@ use Rattle.reach_prune.specs.declared.sweep.Sweep.{Sweep}
 use Rattle.reach_prune.specs.Searches.{is_among, is_listed}
 use Rattle.reach_prune.specs.Sweeps.{Comes}
 use Rattle.reach_prune.specs.Ways.{nth}
-use Rattle.reach_prune.proofs.Sweeping.{Stage, close, come, next_found, nth_below, nth_twice, open_below, popped, popped_found, still_found, swept_begins, swept_more, waited}
+use Rattle.reach_prune.proofs.Sweeping.{Stage, close, come, next_found, nth_below, nth_twice, open_below, popped, popped_found, still_found, swept_begins, swept_more}
+use Rattle.reach_prune.proofs.Trails.{waited}
 use Rattle.reach_prune.proofs.Visiting.{listed_below}
 use Rattle.reach_prune.proofs.sweep.Sweep.search.Goals as goal
 

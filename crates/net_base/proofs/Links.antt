@@ -1,0 +1,39 @@
+-- What is linked is a location, and links have no direction.
+use Rattle.std.proofs.Common.{◌≡◌, ℕ, ◌+◌, true, length, arith, inl, inr, Bool, List, [], ◌∷◌, refl, ap₂}
+use Rattle.std.specs.Prelude.{◌==◌, ◌&&◌, ◌||◌}
+use Rattle.std.specs.List.{list_any}
+use Rattle.std.proofs.lemmas.Bool.{eqb-true, lt-ltb, and_parts, or_cases}
+use Rattle.list_laws.proofs.Each.{AllByRecursion_at}
+use Rattle.list_laws.proofs.Tests.{list_any_parts}
+use Rattle.net_base.specs.Network.{PlainNet, IsNet, IsLink, is_location, joins, linked}
+use Rattle.std.proofs.Math.Bool.{or_comm}
+
+pub any_flips : (a b : ℕ) (links : List (ℕ × ℕ)) → list_any (joins a b) links ≡ list_any (joins b a) links
+any_flips a b [] = refl
+any_flips a b (l ∷ ls) = ap₂ (λ (x y : Bool). x || y) (or_comm (l.0 == a && l.1 == b) (l.0 == b && l.1 == a)) (any_flips a b ls)
+
+-- links have no direction
+pub linked_flips : (net : PlainNet) (a b : ℕ) → linked net a b ≡ linked net b a
+linked_flips net a b = any_flips a b net.links
+
+ends_known : (net : PlainNet) (a b : ℕ) (link : ℕ × ℕ) → IsLink net link → link.0 ≡ a → link.1 ≡ b → (is_location net a ≡ true) × (is_location net b ≡ true)
+ends_known net a b link rules x y =
+    let total = length net.routers + length net.peers in
+    (lt-ltb a total (omega (arith, rules.0, rules.1, x)), lt-ltb b total (omega (arith, rules.1, y)))
+
+joins_known : (net : PlainNet) (a b : ℕ) (link : ℕ × ℕ) → IsLink net link → joins a b link ≡ true → (is_location net a ≡ true) × (is_location net b ≡ true)
+joins_known net a b link rules h = elim (or_cases (link.0 == a && link.1 == b) (link.0 == b && link.1 == a) h) [
+  | inl t ↦
+      let parts = and_parts (link.0 == a) (link.1 == b) t in
+      ends_known net a b link rules (eqb-true link.0 a parts.0) (eqb-true link.1 b parts.1)
+  | inr t ↦
+      let parts = and_parts (link.0 == b) (link.1 == a) t in
+      let both = ends_known net b a link rules (eqb-true link.0 b parts.0) (eqb-true link.1 a parts.1) in
+      (both.1, both.0)
+]
+
+-- what is linked is a location
+pub linked_known : (net : PlainNet) (a b : ℕ) → IsNet net → linked net a b ≡ true → (is_location net a ≡ true) × (is_location net b ≡ true)
+linked_known net a b rules h =
+    let found = list_any_parts (joins a b) net.links h in
+    joins_known net a b found.1 (AllByRecursion_at (IsLink net) net.links found.0 found.1 rules.links found.2) found.3

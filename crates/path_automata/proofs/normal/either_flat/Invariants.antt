@@ -1,8 +1,0 @@
-use Rattle.std.proofs.Common.{◌≡◌}
-use Rattle.std.specs.List.{flat_map}
-use Rattle.path_exprs.specs.Normal.{either_parts}
-use Rattle.path_exprs.specs.View.{views}
-use Rattle.path_automata.proofs.normal.either_flat.Given as goal
-
-abbrev pub invariant-loop-e : goal.invariant-loop-e
-invariant-loop-e l = views l.all.items ≡ flat_map either_parts (views l.yielded)

@@ -1,0 +1,107 @@
+use Rattle.std.proofs.Common.{◌≡◌, ◌≤◌, map, length, true, sym, ap, subst, ◌∙◌, arith}
+use Rattle.std.proofs.lemmas.List.{length-append}
+use Rattle.std.proofs.lemmas.Result.{IfOk-weaker}
+use Rattle.path_exprs.specs.Normal.{both_of, complement_of, either_of, normal, reversed, seq_of, star_of}
+use Rattle.path_exprs.specs.Runs.{start_of}
+use Rattle.path_exprs.specs.View.{view, views}
+use Rattle.path_terms.specs.Terms.{at, are_known}
+use Rattle.path_terms.specs.Values.{values}
+use Rattle.path_terms.proofs.Growth.{at-extends}
+use Rattle.path_terms.proofs.Members.{known-append, known-more, known-one}
+use Rattle.path_terms.proofs.Sequences.{seq-seq}
+use Rattle.path_automata.proofs.Entries.{extends-trans, longer}
+use Rattle.path_automata.proofs.Reversals.{onto-nothing, start-each, start-turn}
+use Rattle.path_automata.proofs.Views.{view-Seq, view-Either, view-Both, view-Not, view-Star}
+use Rattle.path_automata.proofs.reversal.+reversal.Goals as goal
+
+pub starts-loop-i-preserved : goal.starts-loop-i-preserved
+starts-loop-i-preserved t c =
+    let cur = values c.loop-i.terms in
+    let new = values c.reversed_onto.new.terms in
+    let x = c.reversed_onto.ensures.extends in
+    let le : length cur ≤ length new = (let l = ap length x.1 ∙ length-append cur x.0 in omega (arith, l)) in
+    let here = c.loop-i.invariant.here in
+    record {
+      made = ap (map (at new)) c.in_ok-push.ensures.items
+          ∙ start-turn c.args.full.now cur new c.loop-i.all.items c.args.es.now c.loop-i.i _ c.index-es-i.result x c.loop-i.invariant.known c.loop-i-test.true c.index-es-i.is c.loop-i.invariant.made
+          (onto-nothing _ _ _ c.in_ok-reversed_onto.ensures.made c.loop-i.invariant.nothing);
+      known = subst (λ l. are_known (length new) l ≡ true) (sym c.in_ok-push.ensures.items)
+          (known-append (length new) c.loop-i.all.items _ (known-more (length cur) (length new) c.loop-i.all.items le c.loop-i.invariant.known) (known-one (length new) _ c.in_ok-reversed_onto.ensures.known));
+      len = omega (arith, c.in_ok-push.ensures.len, c.loop-i.invariant.len);
+      extends = extends-trans (values c.args.terms.now) cur new c.loop-i.invariant.extends x;
+      here = longer cur new c.in_ok-empty.empty x here;
+      nothing = at-extends cur new c.in_ok-empty.empty x here ∙ c.loop-i.invariant.nothing;
+    }
+
+pub reversed_onto-returns-in_ok-rest-in-Seq-clause-made : goal.reversed_onto-returns-in_ok-rest-in-Seq-clause-made
+reversed_onto-returns-in_ok-rest-in-Seq-clause-made t c =
+    let full = c.args.full.now in
+    let a = c.in-Seq.a.value in
+    let b = c.in-Seq.b.value in
+    let tail = at (values c.args.terms.now) c.args.tail in
+    let is = ap view c.in-Seq.is ∙ view-Seq c.in-Seq.a c.in-Seq.b in
+    IfOk-weaker c.reversed_onto-in-Seq.result _ _
+    (λ n q. q
+    ∙ ap (λ e. seq_of (normal full (reversed (view e))) (at (values c.reversed_onto.new.terms) c.in_ok-rest-in-Seq.rest)) c.deref-in-Seq.ensures
+    ∙ ap (seq_of (normal full (reversed (view b)))) (c.in_ok-rest-in-Seq.ensures.made ∙ ap (λ e. seq_of (normal full (reversed (view e))) tail) c.deref.ensures)
+    ∙ sym (seq-seq (normal full (reversed (view b))) (normal full (reversed (view a))) tail)
+    ∙ sym (ap (λ e. seq_of (normal full (reversed e)) tail) is))
+    c.reversed_onto-in-Seq.ensures.made
+
+pub reversed_onto-returns-in_ok-first-in-Either-clause-made : goal.reversed_onto-returns-in_ok-first-in-Either-clause-made
+reversed_onto-returns-in_ok-first-in-Either-clause-made t c =
+    let full = c.args.full.now in
+    let old = values c.args.terms.now in
+    let one = values c.starts.new.terms in
+    let two = values c.either_of.new.terms in
+    let x = extends-trans old one two c.starts.ensures.extends c.either_of.ensures.extends in
+    let is = ap view c.in-Either.is ∙ view-Either c.in-Either.es in
+    let members = ap (map (at one)) c.deref-in-Either-2.ensures.value ∙ c.in_ok-members-in-Either.ensures.made ∙ ap (λ l. start_of full (views l)) c.deref-in-Either.ensures.value ∙ start-each full (views c.in-Either.es.items) in
+    let first = c.in_ok-first-in-Either.ensures.made ∙ ap either_of members ∙ sym (ap (λ e. normal full (reversed e)) is) in
+    IfOk-weaker c.seq_of-in-Either.result _ _
+    (λ n q. q ∙ ap (λ e. seq_of e (at two c.args.tail)) first ∙ ap (seq_of (normal full (reversed (view c.args.e.now)))) (at-extends old two c.args.tail x c.requires.tail))
+    c.seq_of-in-Either.ensures.made
+
+pub reversed_onto-returns-in_ok-first-in-Both-clause-made : goal.reversed_onto-returns-in_ok-first-in-Both-clause-made
+reversed_onto-returns-in_ok-first-in-Both-clause-made t c =
+    let full = c.args.full.now in
+    let old = values c.args.terms.now in
+    let one = values c.starts-in-Both.new.terms in
+    let two = values c.both_of.new.terms in
+    let x = extends-trans old one two c.starts-in-Both.ensures.extends c.both_of.ensures.extends in
+    let is = ap view c.in-Both.is ∙ view-Both c.in-Both.es in
+    let members = ap (map (at one)) c.deref-in-Both-2.ensures.value ∙ c.in_ok-members-in-Both.ensures.made ∙ ap (λ l. start_of full (views l)) c.deref-in-Both.ensures.value ∙ start-each full (views c.in-Both.es.items) in
+    let first = c.in_ok-first-in-Both.ensures.made ∙ ap both_of members ∙ sym (ap (λ e. normal full (reversed e)) is) in
+    IfOk-weaker c.seq_of-in-Both.result _ _
+    (λ n q. q ∙ ap (λ e. seq_of e (at two c.args.tail)) first ∙ ap (seq_of (normal full (reversed (view c.args.e.now)))) (at-extends old two c.args.tail x c.requires.tail))
+    c.seq_of-in-Both.ensures.made
+
+pub reversed_onto-returns-in_ok-first-in-Not-clause-made : goal.reversed_onto-returns-in_ok-first-in-Not-clause-made
+reversed_onto-returns-in_ok-first-in-Not-clause-made t c =
+    let full = c.args.full.now in
+    let old = values c.args.terms.now in
+    let one = values c.intern-in-Not.new.self in
+    let two = values c.reversed_onto-in-Not.new.terms in
+    let three = values c.complement_of.new.terms in
+    let x = extends-trans old one three c.intern-in-Not.ensures.extends (extends-trans one two three c.reversed_onto-in-Not.ensures.extends c.complement_of.ensures.extends) in
+    let is = ap view c.in-Not.is ∙ view-Not c.in-Not.a in
+    let inner = onto-nothing _ _ _ c.in_ok-inner-in-Not.ensures.made c.in_ok-empty-in-Not.ensures.made ∙ ap (λ e. normal full (reversed (view e))) c.deref-in-Not.ensures in
+    let first = c.in_ok-first-in-Not.ensures.made ∙ ap complement_of inner ∙ sym (ap (λ e. normal full (reversed e)) is) in
+    IfOk-weaker c.seq_of-in-Not.result _ _
+    (λ n q. q ∙ ap (λ e. seq_of e (at three c.args.tail)) first ∙ ap (seq_of (normal full (reversed (view c.args.e.now)))) (at-extends old three c.args.tail x c.requires.tail))
+    c.seq_of-in-Not.ensures.made
+
+pub reversed_onto-returns-in_ok-first-in-Star-clause-made : goal.reversed_onto-returns-in_ok-first-in-Star-clause-made
+reversed_onto-returns-in_ok-first-in-Star-clause-made t c =
+    let full = c.args.full.now in
+    let old = values c.args.terms.now in
+    let one = values c.intern-in-Star.new.self in
+    let two = values c.reversed_onto-in-Star.new.terms in
+    let three = values c.star_of.new.terms in
+    let x = extends-trans old one three c.intern-in-Star.ensures.extends (extends-trans one two three c.reversed_onto-in-Star.ensures.extends c.star_of.ensures.extends) in
+    let is = ap view c.in-Star.is ∙ view-Star c.in-Star.a in
+    let inner = onto-nothing _ _ _ c.in_ok-inner-in-Star.ensures.made c.in_ok-empty-in-Star.ensures.made ∙ ap (λ e. normal full (reversed (view e))) c.deref-in-Star.ensures in
+    let first = c.in_ok-first-in-Star.ensures.made ∙ ap (star_of full) inner ∙ sym (ap (λ e. normal full (reversed e)) is) in
+    IfOk-weaker c.seq_of-in-Star.result _ _
+    (λ n q. q ∙ ap (λ e. seq_of e (at three c.args.tail)) first ∙ ap (seq_of (normal full (reversed (view c.args.e.now)))) (at-extends old three c.args.tail x c.requires.tail))
+    c.seq_of-in-Star.ensures.made

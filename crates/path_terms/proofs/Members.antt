@@ -1,0 +1,257 @@
+-- Members of alternations: what they are sorted to depends on which they are alone.
+use Rattle.std.proofs.Common.{◌≡◌, ℕ, zero, suc, ◌<◌, ◌≤◌, Bool, true, false, cond, List, [], ◌∷◌, ◌++◌, ◌⊎◌, inl, inr, ⊎_elim, map, length, get_or, drop, ◌+◌, refl, sym, ap, subst, ◌∙◌, arith, append_assoc, Vec, Global}
+use Rattle.std.specs.Prelude.{◌&&◌, ◌||◌, nat_lt, slice_index_or}
+use Rattle.path_exprs.specs.Membership.{member, some_member, each_member}
+use Rattle.std.specs.List.{list_all, list_any, flat_map, Contains, dedup, AllByRecursion}
+use Rattle.std.specs.List.Sorted.{IsStrictlySortedBy, IsSorted, IsPermutation}
+use Rattle.std.specs.Ordering.{nat_cmp, eq_by_cmp, is_eq}
+use Rattle.std.specs.declared.cmp.Ordering.{Ordering}
+use Rattle.std.specs.declared.cmp.Ordering.TheVariants.{Less, Equal, Greater}
+use Rattle.std.proofs.lemmas.Bool.{and_parts, and_from, lt-ltb, ne_eqb, eq-eqb, false≢true, or_cases, or_left, or_right}
+use Rattle.std.proofs.lemmas.Cmp.{ranked, nat_cmp_total}
+use Rattle.std.proofs.lemmas.List.{append-nil, map-append, drop_more}
+use Rattle.std.proofs.lemmas.List.Kept.{IsStrictlySortedBy-dedup, Contains-dedup_nat, Contains-from_dedup}
+use Rattle.std.proofs.lemmas.List.Sorted.{Contains-permutation, IsPermutation-sym}
+use Rattle.path_exprs.specs.Expression.{Expression, never, either, both, expressions_of}
+use Rattle.path_exprs.specs.Normal.{sorted, all, is_all, either_parts, either_from, either_of}
+use Rattle.list_laws.proofs.Truth.{same_tests}
+use Rattle.path_law.proofs.Sorting.{In, same_members, ascends-sorted}
+use Rattle.path_terms.specs.declared.term.Term.{Term}
+use Rattle.path_terms.specs.declared.term.Term.TheVariants.{Never, Empty, Set, Seq, Either, Both, Not, Star}
+use Rattle.path_terms.specs.Terms.{at, node, ascending, are_known, AreApart, Among, IsSettled}
+use Rattle.path_terms.proofs.Numbers.{lt_from, among-all, In-map, map-In, In-sorted, sorted-In}
+use Rattle.path_exprs.proofs.Lists.{list_of-expressions_of}
+use lib.Dec.{eqb}
+
+pub sorted-same : (es fs : List Expression) → ((g : Expression) → In g es → In g fs) → ((g : Expression) → In g fs → In g es) → sorted es ≡ sorted fs
+sorted-same es fs to from =
+    same_members (sorted es) (sorted fs) (ascends-sorted es) (ascends-sorted fs)
+    (λ g i. In-sorted g fs (to g (sorted-In g es i))) (λ g i. In-sorted g es (from g (sorted-In g fs i)))
+
+pub sorted-sorted : (es : List Expression) → sorted (sorted es) ≡ sorted es
+sorted-sorted es = sorted-same (sorted es) es (λ g i. sorted-In g es i) (λ g i. In-sorted g es i)
+
+carried : (g : Expression) (es fs : List Expression) → sorted es ≡ sorted fs → In g es → In g fs
+carried g es fs q i = sorted-In g fs (subst (In g) q (In-sorted g es i))
+
+pub In-append : (g : Expression) (es fs : List Expression) → In g (es ++ fs) → In g es ⊎ In g fs
+In-append g [] fs i = inr i
+In-append g (e ∷ es) fs i = ⊎_elim (λ q. inl (inl q)) (λ j. ⊎_elim (λ k. inl (inr k)) inr (In-append g es fs j)) i
+
+pub append-In : (g : Expression) (es fs : List Expression) → In g es ⊎ In g fs → In g (es ++ fs)
+append-In g [] fs i = ⊎_elim (λ j. absurd j) (λ j. j) i
+append-In g (e ∷ es) fs i = ⊎_elim (λ j. ⊎_elim inl (λ k. inr (append-In g es fs (inl k))) j) (λ j. inr (append-In g es fs (inr j))) i
+
+pub sorted-append : (es es' fs fs' : List Expression) → sorted es ≡ sorted es' → sorted fs ≡ sorted fs' → sorted (es ++ fs) ≡ sorted (es' ++ fs')
+sorted-append es es' fs fs' p q =
+    sorted-same (es ++ fs) (es' ++ fs')
+    (λ g i. append-In g es' fs' (⊎_elim (λ j. inl (carried g es es' p j)) (λ j. inr (carried g fs fs' q j)) (In-append g es fs i)))
+    (λ g i. append-In g es fs (⊎_elim (λ j. inl (carried g es' es (sym p) j)) (λ j. inr (carried g fs' fs (sym q) j)) (In-append g es' fs' i)))
+
+-- what a member adds
+
+pub add-nothing : (es : List Expression) (e : Expression) → e ≡ never → sorted es ≡ sorted (es ++ either_parts e)
+add-nothing es e q = ap sorted (sym (append-nil es) ∙ ap (λ x. es ++ either_parts x) (sym q))
+
+pub add-members : (vs : List Expression) (ns ms : List ℕ) (e : Expression) → e ≡ either (expressions_of (sorted (map (at vs) ms)))
+    → sorted (map (at vs) (ns ++ ms)) ≡ sorted (map (at vs) ns ++ either_parts e)
+add-members vs ns ms e q =
+    ap sorted (map-append (at vs) ns ms)
+    ∙ sorted-append (map (at vs) ns) (map (at vs) ns) (map (at vs) ms) (sorted (map (at vs) ms)) refl (sym (sorted-sorted (map (at vs) ms)))
+    ∙ ap (λ l. sorted (map (at vs) ns ++ l)) (sym (list_of-expressions_of (sorted (map (at vs) ms))) ∙ ap either_parts (sym q))
+
+parts-default : (vs : List Expression) (t : Term) → (t ≡ Never → ⊥) → ((v : Vec ℕ Global) → t ≡ Either v → ⊥) → either_parts (node vs t) ≡ node vs t ∷ []
+parts-default vs Never h k = absurd (h refl)
+parts-default vs Empty h k = refl
+parts-default vs (Set s) h k = refl
+parts-default vs (Seq a b) h k = refl
+parts-default vs (Either v) h k = absurd (k v refl)
+parts-default vs (Both v) h k = refl
+parts-default vs (Not a) h k = refl
+parts-default vs (Star a) h k = refl
+
+pub add-one : (vs : List Expression) (ns : List ℕ) (n : ℕ) (t : Term) → at vs n ≡ node vs t → (t ≡ Never → ⊥) → ((v : Vec ℕ Global) → t ≡ Either v → ⊥)
+    → sorted (map (at vs) (ns ++ n ∷ [])) ≡ sorted (map (at vs) ns ++ either_parts (at vs n))
+add-one vs ns n t q h k =
+    ap sorted (map-append (at vs) ns (n ∷ []))
+    ∙ ap (λ l. sorted (map (at vs) ns ++ l)) (ap (λ e. e ∷ []) q ∙ sym (parts-default vs t h k) ∙ ap either_parts (sym q))
+
+pub known-append : (k : ℕ) (ns ms : List ℕ) → are_known k ns ≡ true → are_known k ms ≡ true → are_known k (ns ++ ms) ≡ true
+known-append k [] ms h g = g
+known-append k (n ∷ ns) ms h g = let u = and_parts (nat_lt n k) (are_known k ns) h in and_from (nat_lt n k) (are_known k (ns ++ ms)) u.0 (known-append k ns ms u.1 g)
+
+pub known-one : (k n : ℕ) → n < k → are_known k (n ∷ []) ≡ true
+known-one k n lt = and_from (nat_lt n k) true (lt-ltb n k lt) refl
+
+pub known-more : (k m : ℕ) (ns : List ℕ) → k ≤ m → are_known k ns ≡ true → are_known m ns ≡ true
+known-more k m [] le h = refl
+known-more k m (n ∷ ns) le h =
+    let u = and_parts (nat_lt n k) (are_known k ns) h in
+    let lt = lt_from n k u.0 in
+    and_from (nat_lt n m) (are_known m ns) (lt-ltb n m (omega (arith, lt, le))) (known-more k m ns le u.1)
+
+pub flat-step : (es fs parts rest : List Expression) → sorted fs ≡ sorted (es ++ parts) → sorted (es ++ (parts ++ rest)) ≡ sorted (fs ++ rest)
+flat-step es fs parts rest q =
+    ap sorted (sym (append_assoc es parts rest)) ∙ sorted-append (es ++ parts) fs rest rest (sym q) refl
+
+-- settling
+
+at_least_one : (x : ℕ) (xs : List ℕ) (k : ℕ) → k < length xs → get_or xs k x ≡ x → Among x xs
+at_least_one x [] k p q = absurd (omega (arith, p))
+at_least_one x (y ∷ ys) zero p q = inl (sym q)
+at_least_one x (y ∷ ys) (suc k) p q = inr (at_least_one x ys k (omega (arith, p)) q)
+
+from_Contains : (xs : List ℕ) (x : ℕ) → Contains xs x → Among x xs
+from_Contains xs x c = at_least_one x xs c.0 c.1 c.2
+
+to_Contains : (xs : List ℕ) (x : ℕ) → Among x xs → Contains xs x
+to_Contains [] x i = absurd i
+to_Contains (y ∷ ys) x i =
+    ⊎_elim (λ q. (0, omega arith, sym q))
+    (λ j. let r = to_Contains ys x j in (suc r.0, omega (arith, r.1), r.2)) i
+
+ascends : (xs : List ℕ) → IsStrictlySortedBy nat_cmp xs → ascending xs ≡ true
+unfolding IsStrictlySortedBy
+ascends [] s = refl
+ascends (x ∷ xs) s = and_from (list_all (λ m. nat_lt x m) xs) (ascending xs) (below xs s.0) (ascends xs s.1)
+  where
+    below : (ys : List ℕ) → AllByRecursion (λ y. nat_cmp x y ≡ Less) ys → list_all (λ m. nat_lt x m) ys ≡ true
+    below [] b = refl
+    below (y ∷ ys) b = and_from (nat_lt x y) (list_all (λ m. nat_lt x m) ys) (lt-ltb x y (ranked x y Less (sym b.0))) (below ys b.1)
+
+pub settled : (old mid new : List ℕ) → IsPermutation old mid → IsSorted nat_cmp mid → new ≡ dedup eqb mid → IsSettled old new
+settled old mid new p s e =
+    subst (IsSettled old) (sym e) (
+      ascends (dedup eqb mid) (IsStrictlySortedBy-dedup nat_cmp_total ties mid s),
+      (λ n i. from_Contains (dedup eqb mid) n (Contains-dedup_nat mid n (Contains-permutation old mid n p (to_Contains old n i)))),
+      (λ n i. from_Contains old n (Contains-permutation mid old n (IsPermutation-sym old mid p) (Contains-from_dedup eqb mid n (to_Contains (dedup eqb mid) n i)))),
+    )
+  where
+    ties : (x y : ℕ) → eqb x y ≡ eq_by_cmp nat_cmp x y
+    ties x y = by_order (nat_cmp x y) refl tt
+      where
+        by_order : (o : Ordering) → nat_cmp x y ≡ o → Unit {0} → eqb x y ≡ eq_by_cmp nat_cmp x y
+        by_order Less h m = let lt = ranked x y Less (sym h) in ne_eqb x y (λ q. omega (arith, lt, q)) ∙ sym (ap is_eq h)
+        by_order Equal h m = eq-eqb x y (ranked x y Equal (sym h)) ∙ sym (ap is_eq h)
+        by_order Greater h m = let gt = ranked x y Greater (sym h) in ne_eqb x y (λ q. omega (arith, gt, q)) ∙ sym (ap is_eq h)
+
+pub sorted-settled : (vs : List Expression) (old new : List ℕ) → IsSettled old new → sorted (map (at vs) new) ≡ sorted (map (at vs) old)
+sorted-settled vs old new s =
+    sorted-same (map (at vs) new) (map (at vs) old)
+    (λ g i. let r = map-In vs g new i in subst (λ e. In e (map (at vs) old)) (sym r.2) (In-map vs r.0 old (s.2 r.0 r.1)))
+    (λ g i. let r = map-In vs g old i in subst (λ e. In e (map (at vs) new)) (sym r.2) (In-map vs r.0 new (s.1 r.0 r.1)))
+
+all-among : (p : ℕ → Bool) (ms : List ℕ) → ((n : ℕ) → Among n ms → p n ≡ true) → list_all p ms ≡ true
+all-among p [] h = refl
+all-among p (m ∷ ms) h = and_from (p m) (list_all p ms) (h m (inl refl)) (all-among p ms (λ n i. h n (inr i)))
+
+pub known-settled : (k : ℕ) (old new : List ℕ) → IsSettled old new → are_known k old ≡ true → are_known k new ≡ true
+known-settled k old new s h = all-among (λ n. nat_lt n k) new (λ n i. among-all (λ m. nat_lt m k) n old h (s.2 n i))
+
+-- one member is All
+
+any-In : (p : Expression → Bool) (es : List Expression) → list_any p es ≡ true → (g : Expression) × In g es × (p g ≡ true)
+any-In p [] h = absurd (false≢true h)
+any-In p (e ∷ es) h = ⊎_elim (λ q. (e, inl refl, q)) (λ q. let r = any-In p es q in (r.0, inr r.1, r.2)) (or_cases (p e) (list_any p es) h)
+
+In-any : (p : Expression → Bool) (g : Expression) (es : List Expression) → In g es → p g ≡ true → list_any p es ≡ true
+In-any p g [] i h = absurd i
+In-any p g (e ∷ es) i h = ⊎_elim (λ q. or_left (p e) (list_any p es) (ap p (sym q) ∙ h)) (λ j. or_right (p e) (list_any p es) (In-any p g es j h)) i
+
+pub any-sorted : (p : Expression → Bool) (es : List Expression) → list_any p es ≡ list_any p (sorted es)
+any-sorted p es =
+    same_tests (list_any p es) (list_any p (sorted es))
+    (λ h. let r = any-In p es h in In-any p r.0 (sorted es) (In-sorted r.0 es r.1) r.2)
+    (λ h. let r = any-In p (sorted es) h in In-any p r.0 es (sorted-In r.0 es r.1) r.2)
+
+-- the whole
+
+two-members : (es : List Expression) (a b : Expression) → In a es → In b es → (a ≡ b → ⊥) → either_from es ≡ either (expressions_of es)
+two-members [] a b i j h = absurd i
+two-members (e ∷ []) a b i j h = absurd (⊎_elim (λ p. ⊎_elim (λ q. h (p ∙ sym q)) (λ n. n) j) (λ n. n) i)
+two-members (e ∷ f ∷ es) a b i j h = refl
+
+pub either-many : (vs : List Expression) (n m : ℕ) (ns : List ℕ) → AreApart vs → are_known (length vs) (n ∷ m ∷ ns) ≡ true → ascending (n ∷ m ∷ ns) ≡ true
+    → either (expressions_of (sorted (map (at vs) (n ∷ m ∷ ns)))) ≡ either_from (sorted (map (at vs) (n ∷ m ∷ ns)))
+either-many vs n m ns apart h s =
+    let u = and_parts (nat_lt n (length vs)) (are_known (length vs) (m ∷ ns)) h in
+    let v = and_parts (nat_lt m (length vs)) (are_known (length vs) ns) u.1 in
+    let w = and_parts (list_all (λ k. nat_lt n k) (m ∷ ns)) (ascending (m ∷ ns)) s in
+    let x = and_parts (nat_lt n m) (list_all (λ k. nat_lt n k) ns) w.0 in
+    let es = map (at vs) (n ∷ m ∷ ns) in
+    sym (two-members (sorted es) (at vs n) (at vs m) (In-sorted (at vs n) es (inl refl)) (In-sorted (at vs m) es (inr (inl refl)))
+    (λ q. let lt = lt_from n m x.0 in let same = apart n m (lt_from n (length vs) u.0) (lt_from m (length vs) v.0) q in absurd (omega (arith, lt, same))))
+
+pub either-all : (es fs : List Expression) → sorted fs ≡ sorted (flat_map either_parts es) → list_any is_all fs ≡ true → all ≡ either_of es
+either-all es fs q h =
+    let there : list_any is_all (sorted (flat_map either_parts es)) ≡ true = sym (ap (list_any is_all) q) ∙ sym (any-sorted is_all fs) ∙ h in
+    sym (ap (λ b. cond b all (either_from (sorted (flat_map either_parts es)))) there)
+
+pub either-else : (es fs : List Expression) → sorted fs ≡ sorted (flat_map either_parts es) → list_any is_all fs ≡ false → either_from (sorted fs) ≡ either_of es
+either-else es fs q h =
+    let there : list_any is_all (sorted (flat_map either_parts es)) ≡ false = sym (ap (list_any is_all) q) ∙ sym (any-sorted is_all fs) ∙ h in
+    ap either_from q ∙ sym (ap (λ b. cond b all (either_from (sorted (flat_map either_parts es)))) there)
+
+pub either-none : (vs : List Expression) (ns : List ℕ) → length ns < 1 → never ≡ either_from (sorted (map (at vs) ns))
+either-none vs [] h = refl
+either-none vs (n ∷ ns) h = absurd (omega (arith, h))
+
+pub either-one : (vs : List Expression) (ns : List ℕ) → 1 ≤ length ns → length ns < 2 → at vs (slice_index_or ns 0 0) ≡ either_from (sorted (map (at vs) ns))
+either-one vs [] g h = absurd (omega (arith, g))
+either-one vs (n ∷ []) g h = refl
+either-one vs (n ∷ m ∷ ns) g h = absurd (omega (arith, h))
+
+pub known-first : (k : ℕ) (ns : List ℕ) → 1 ≤ length ns → are_known k ns ≡ true → slice_index_or ns 0 0 < k
+known-first k [] g h = absurd (omega (arith, g))
+known-first k (n ∷ ns) g h = lt_from n k (and_parts (nat_lt n k) (are_known k ns) h).0
+
+pub either-long : (vs : List Expression) (ns : List ℕ) → AreApart vs → 2 ≤ length ns → are_known (length vs) ns ≡ true → ascending ns ≡ true
+    → either (expressions_of (sorted (map (at vs) ns))) ≡ either_from (sorted (map (at vs) ns))
+either-long vs [] apart g h s = absurd (omega (arith, g))
+either-long vs (n ∷ []) apart g h s = absurd (omega (arith, g))
+either-long vs (n ∷ m ∷ ns) apart g h s = either-many vs n m ns apart h s
+
+pub known-at : (k : ℕ) (ns : List ℕ) (i : ℕ) (d : ℕ) → i < length ns → are_known k ns ≡ true → get_or ns i d < k
+known-at k [] i d lt h = absurd (omega (arith, lt))
+known-at k (n ∷ ns) zero d lt h = lt_from n k (and_parts (nat_lt n k) (are_known k ns) h).0
+known-at k (n ∷ ns) (suc i) d lt h = known-at k ns i d (omega (arith, lt)) (and_parts (nat_lt n k) (are_known k ns) h).1
+
+pub flat-turn : (vs : List Expression) (ns ms new : List ℕ) (i d : ℕ) (whole : List Expression) → i < length ms
+    → whole ≡ sorted (map (at vs) ns ++ flat_map either_parts (map (at vs) (drop i ms)))
+    → sorted (map (at vs) new) ≡ sorted (map (at vs) ns ++ either_parts (at vs (get_or ms i d)))
+    → whole ≡ sorted (map (at vs) new ++ flat_map either_parts (map (at vs) (drop (i + 1) ms)))
+flat-turn vs ns ms new i d whole lt q r =
+    q ∙ ap (λ l. sorted (map (at vs) ns ++ flat_map either_parts (map (at vs) l))) (drop_more ms i d lt)
+    ∙ flat-step (map (at vs) ns) (map (at vs) new) (either_parts (at vs (get_or ms i d))) (flat_map either_parts (map (at vs) (drop (i + 1) ms))) r
+
+-- the empty list in an alternation and in an intersection
+
+some_member-any : (es : List Expression) → list_any (λ e. member e []) es ≡ some_member (expressions_of es) []
+some_member-any [] = refl
+some_member-any (e ∷ es) = ap (λ b. member e [] || b) (some_member-any es)
+
+each_member-all : (es : List Expression) → list_all (λ e. member e []) es ≡ each_member (expressions_of es) []
+each_member-all [] = refl
+each_member-all (e ∷ es) = ap (λ b. member e [] && b) (each_member-all es)
+
+all-In : (p : Expression → Bool) (g : Expression) (es : List Expression) → list_all p es ≡ true → In g es → p g ≡ true
+all-In p g [] h i = absurd i
+all-In p g (e ∷ es) h i = let u = and_parts (p e) (list_all p es) h in ⊎_elim (λ q. ap p q ∙ u.0) (λ j. all-In p g es u.1 j) i
+
+In-all : (p : Expression → Bool) (es : List Expression) → ((g : Expression) → In g es → p g ≡ true) → list_all p es ≡ true
+In-all p [] h = refl
+In-all p (e ∷ es) h = and_from (p e) (list_all p es) (h e (inl refl)) (In-all p es (λ g i. h g (inr i)))
+
+pub all-sorted : (p : Expression → Bool) (es : List Expression) → list_all p es ≡ list_all p (sorted es)
+all-sorted p es =
+    same_tests (list_all p es) (list_all p (sorted es))
+    (λ h. In-all p (sorted es) (λ g i. all-In p g es h (sorted-In g es i)))
+    (λ h. In-all p es (λ g i. all-In p g (sorted es) h (In-sorted g es i)))
+
+pub holds-either : (vs : List Expression) (ms : List ℕ) (e : Expression) → e ≡ either (expressions_of (sorted (map (at vs) ms))) → list_any (λ e. member e []) (map (at vs) ms) ≡ member e []
+holds-either vs ms e q =
+    any-sorted (λ e. member e []) (map (at vs) ms) ∙ some_member-any (sorted (map (at vs) ms)) ∙ sym (ap (λ e. member e []) q)
+
+pub holds-both : (vs : List Expression) (ms : List ℕ) (e : Expression) → e ≡ both (expressions_of (sorted (map (at vs) ms))) → list_all (λ e. member e []) (map (at vs) ms) ≡ member e []
+holds-both vs ms e q =
+    all-sorted (λ e. member e []) (map (at vs) ms) ∙ each_member-all (sorted (map (at vs) ms)) ∙ sym (ap (λ e. member e []) q)

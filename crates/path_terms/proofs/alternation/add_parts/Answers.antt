@@ -1,0 +1,22 @@
+use Rattle.std.proofs.Common.{arith, ap, sym, ◌∙◌, ◌≡◌, true, ◌++◌, map, subst, length}
+use Rattle.std.proofs.lemmas.Bool.{and_parts}
+use Rattle.path_exprs.specs.Normal.{sorted}
+use Rattle.path_terms.specs.Terms.{are_known, at, node, is_sound, ascending}
+use Rattle.path_terms.specs.Values.{values}
+use Rattle.path_terms.proofs.Members.{add-members, known-append, known-more}
+use Rattle.path_terms.proofs.alternation.add_parts.Goals as goal
+
+pub returns-in_ok-extend_from_slice-in-Either-clause-added : goal.returns-in_ok-extend_from_slice-in-Either-clause-added
+returns-in_ok-extend_from_slice-in-Either-clause-added c =
+    let vs = values c.args.terms.now in
+    ap (λ l. sorted (map (at vs) l)) (c.in_ok-extend_from_slice-in-Either.ensures.items ∙ ap (λ l. c.args.all.now.items ++ l) c.deref.ensures.value)
+    ∙ add-members vs c.args.all.now.items c.in-Either.members.items (at vs c.args.number) (c.term.ensures.node ∙ ap (node vs) c.in-Either.is)
+
+pub returns-in_ok-extend_from_slice-in-Either-clause-known : goal.returns-in_ok-extend_from_slice-in-Either-clause-known
+returns-in_ok-extend_from_slice-in-Either-clause-known c =
+    let k = length (values c.args.terms.now) in
+    let ms = c.in-Either.members.items in
+    let sound = subst (λ t. is_sound c.args.number t ≡ true) c.in-Either.is c.term.ensures.sound in
+    let below = (and_parts (are_known c.args.number ms) (ascending ms) sound).0 in
+    subst (λ l. are_known k l ≡ true) (sym (c.in_ok-extend_from_slice-in-Either.ensures.items ∙ ap (λ l. c.args.all.now.items ++ l) c.deref.ensures.value))
+    (known-append k c.args.all.now.items ms c.requires.all_known (known-more c.args.number k ms (omega (arith, c.requires.known)) below))

@@ -1,0 +1,16 @@
+//! Terms that stand for expressions in normal form, each by a number of its own, with their parts shared.
+#![tactic(auto)]
+
+mod alternation;
+mod emptiness;
+mod intersection;
+mod single;
+mod store;
+mod term;
+
+pub use alternation::{either_of, is_all};
+pub use emptiness::holds_empty;
+pub use intersection::both_of;
+pub use single::{complement_of, set_of, star_of};
+pub use store::Terms;
+pub use term::Term;
