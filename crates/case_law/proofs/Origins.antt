@@ -1,6 +1,6 @@
 -- The origins and the statements of the cases of a policy.
-use Rattle.std.proofs.Common.{◌≡◌, ℕ, suc, ◌+◌, true, false, List, [], ◌∷◌, ◌++◌, length, Option, Some, None, refl, arith, sym, ap, subst, ◌∙◌, inl, inr, add-zero}
-use Rattle.std.specs.Prelude.{◌⊎◌, ◌&&◌, ◌==◌, not, slice_get, if◌then◌else◌}
+use Rattle.std.proofs.Common.{◌≡◌, ℕ, suc, ◌+◌, true, false, List, [], ◌∷◌, ◌++◌, length, Option, Some, None, refl, arith, sym, ap, subst, ◌∙◌, inl, inr, add-zero, Bool}
+use Rattle.std.specs.Prelude.{◌⊎◌, ◌&&◌, ◌==◌, not, slice_get, if◌then◌else◌, nat_le}
 use Rattle.std.specs.List.{AllByRecursion, list_any}
 use Rattle.std.proofs.lemmas.Bool.{and_parts, cases_Bool, cases_lt, false_from_ne_true, ltb-true}
 use Rattle.net_base.specs.Network.{PlainNet, IsNet, is_location, is_peer}
@@ -17,6 +17,7 @@ use Rattle.list_laws.specs.Members.{IsIn}
 use Rattle.list_laws.proofs.Each.{AllByRecursion_at}
 use Rattle.case_law.specs.Origins.{AreOrigins}
 use Rattle.case_law.specs.Cases.{OriginsAreRouters}
+use Rattle.net_base.proofs.RoutersAndPeers.{router_known}
 
 -- a case of a network and a policy: it has a statement, and its origins are those of an `originate` item, or all peers
 pub record IsKnown (net : PlainNet) (policy : PlainPolicy) (c : Case) : Type 0 where
@@ -104,3 +105,8 @@ known_origins net policy c rules routers known = elim known.origins [
   | inl t ↦ subst (AreOrigins net (holds c.origins)) (sym t.0) (λ l h. routers t.1.0 l t.1.1 (ap (λ set. holds set l) t.1.2 ∙ h))
   | inr t ↦ subst (AreOrigins net (holds c.origins)) (sym t.0) (λ l. ap (λ set. holds set l) t.1 ∙ holds_peers net rules l)
 ]
+
+-- the origins are locations
+pub origins_known : (net : PlainNet) (origin : ℕ → Bool) (external : Bool) → AreOrigins net origin external → (l : ℕ) → origin l ≡ true → is_location net l ≡ true
+origins_known net origin true are l o = (and_parts (nat_le (length net.routers) l) (is_location net l) (sym (are l) ∙ o)).1
+origins_known net origin false are l o = router_known net l (are l o)

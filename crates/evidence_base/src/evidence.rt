@@ -66,7 +66,8 @@ impl CaseEvidence {
 
     /// The graph of its walks.
     pub fn graph(&self) -> &Graph
-        ensures { result.now ≡ self.now.graph }
+        ensures graph { result.now ≡ self.now.graph }
+        ensures rules { IsCaseEvidence self.now }
     {
         &self.graph
     }

@@ -12,8 +12,9 @@ use Rattle.case_law.specs.Origins.{AreOrigins}
 use Rattle.graph_law.specs.Ways.{standing_after, stays_alive}
 use Rattle.graph_law.proofs.RunPaths.{goes_from_run_path, run_path_from_places}
 use Rattle.graph_law.proofs.WellBuilt.{well_formed}
-use Rattle.graph_law.proofs.Follow.{runs_from_run, run_from_runs, goes_from_runs}
+use Rattle.graph_law.proofs.Follow.{goes_from_runs}
 use Rattle.graph_law.proofs.BuiltRuns.{inside, standing_of_run, run_stays_alive, ended, run_from_alive}
+use Rattle.graph_base.proofs.RunSteps.{runs_from_run, run_from_runs}
 
 module _ (net : PlainNet) (plan : Plan) (xs : List Standing) (are : AreStandings net plan xs) where
   pub runs_are_alive : IsNet net → AreOrigins net plan.origin plan.external → (path : List ℕ) → IsTrue (is_run_path net plan.origin path) →

@@ -1,38 +1,36 @@
 -- Runs of the graph that is built are the walks that stay alive.
 use Rattle.std.proofs.Common.{◌≡◌, ◌⊎◌, ℕ, zero, suc, ◌<◌, true, false, not, ◌&&◌, ◌||◌, List, [], ◌∷◌, map, length, slice_get, Some, refl, sym, ap, ◌∙◌, inl, inr, arith}
 use Rattle.std.proofs.lemmas.Bool.{and_parts, and_from, or_left, or_right, not-true, not_from_false}
-use Rattle.std.proofs.lemmas.List.{length-map}
 use Rattle.std.proofs.lemmas.Option.{same_Some, slice_get_within}
 use Rattle.net_base.specs.Network.{PlainNet, IsNet, is_router, linked}
 use Rattle.path_exprs.specs.Derivative.{derivative}
 use Rattle.net_base.specs.NetSets.{locations}
 use Rattle.path_exprs.specs.Runs.{start_of}
 use Rattle.graph_base.specs.Runs.{place_of, is_start, has_step}
-use Rattle.standings.specs.Built.{node_of, graph_over}
+use Rattle.standings.specs.Built.{graph_over}
 use Rattle.path_exprs.specs.Standings.{Plan, Standing, AreStandings, starts, moved, may_go, is_dead}
 use Rattle.case_law.specs.Origins.{AreOrigins}
 use Rattle.graph_law.specs.Ways.{left_after, standing_after, stays_alive}
 use Rattle.graph_law.proofs.Left.{left_after-more}
 use Rattle.graph_law.proofs.Targets.{next_from_In, In-starts, In-targets}
 use Rattle.net_base.proofs.RoutersAndPeers.{router_or_peer}
-use Rattle.graph_law.proofs.RunPaths.{GoesTo, goes_from_rest, goes_link, goes_no_origin, linked_turned, linked_located, origin_located, inside_unless_origin}
-use Rattle.graph_law.proofs.Nodes.{place_at, start_at_front, start_below, start_from_below, step_parts, step_made}
+use Rattle.graph_law.proofs.RunPaths.{GoesTo, goes_from_rest, goes_link, goes_no_origin, inside_unless_origin}
+use Rattle.graph_law.proofs.Nodes.{place_at, start_at_front, start_below, start_from_below, step_parts, step_made, node_within}
 use Rattle.graph_law.proofs.WellBuilt.{goes_parts, start_at_origin, entered}
-use Rattle.graph_law.proofs.Follow.{RunsTo, IsInside}
+use Rattle.graph_base.proofs.RunSteps.{RunsTo, IsInside}
+use Rattle.net_base.proofs.Links.{linked_flips, linked_known}
+use Rattle.case_law.proofs.Origins.{origins_known}
 
 -- a standing that is moved to l is what is left there after the path
 moved-after : (net : PlainNet) (plan : Plan) (l : ℕ) (ls : List ℕ) → moved (left_after net plan ls) l ≡ standing_after net plan l ls
 moved-after net plan l ls = λ i. record { at = l; left = sym (left_after-more net plan l ls) i }
 
 module _ (net : PlainNet) (plan : Plan) (xs : List Standing) (are : AreStandings net plan xs) where
-  below : (n : ℕ) (x : Standing) → slice_get xs n ≡ Some x → n < length (graph_over net plan xs).nodes
-  below n x h = let lt = slice_get_within xs n x h in omega (arith, length-map xs (node_of net plan), lt)
-
   pub inside : IsInside (graph_over net plan xs)
   inside = record {
-    starts = λ n h. let a = start_at_front net plan xs are n (start_below net plan xs are n h) in below n a.0 a.1;
-    sources = λ m n h. let p = step_parts net plan xs are m n h in below m p.0 p.2;
-    steps = λ m n h. let p = step_parts net plan xs are m n h in below n p.1 p.3;
+    starts = λ n h. let a = start_at_front net plan xs are n (start_below net plan xs are n h) in node_within net plan xs are n a.0 a.1;
+    sources = λ m n h. let p = step_parts net plan xs are m n h in node_within net plan xs are m p.0 p.2;
+    steps = λ m n h. let p = step_parts net plan xs are m n h in node_within net plan xs are n p.1 p.3;
   }
 
   -- where a run ends
@@ -94,23 +92,23 @@ module _ (net : PlainNet) (plan : Plan) (xs : List Standing) (are : AreStandings
     sends l k [] h = or_left (plan.origin k) (is_router net k) h.2
     sends l k (j ∷ ls) h =
         or_right (plan.origin k) (is_router net k)
-        (router_or_peer net k (linked_located net rules k l (linked_turned net l k h.0)) h.2)
+        (router_or_peer net k (linked_known net k l rules (linked_flips net k l ∙ h.0)).0 h.2)
 
     goes : (l k : ℕ) (ls : List ℕ) → GoesTo net plan.origin (l ∷ k ∷ ls) → is_dead (left_after net plan (l ∷ k ∷ ls)) ≡ false →
         may_go net plan (standing_after net plan k ls) l ≡ true
     goes l k ls h alive =
         let link = goes_link net plan.origin l k ls h in
         let no_origin = goes_no_origin net plan.origin l k ls h in
-        let at = linked_located net rules l k link in
+        let at = (linked_known net l k rules link).0 in
         and_from (linked net k l && not (plan.origin l) && (is_router net l || not plan.external)) (not (is_dead (map (derivative l) (left_after net plan (k ∷ ls)))))
         (and_from (linked net k l && not (plan.origin l)) (is_router net l || not plan.external)
-        (and_from (linked net k l) (not (plan.origin l)) (linked_turned net l k link) (not_from_false (plan.origin l) no_origin))
+        (and_from (linked net k l) (not (plan.origin l)) (linked_flips net k l ∙ link) (not_from_false (plan.origin l) no_origin))
         (inside_unless_origin net plan.origin plan.external origins l at no_origin))
         (not_from_false (is_dead (map (derivative l) (left_after net plan (k ∷ ls)))) (ap is_dead (sym (left_after-more net plan l (k ∷ ls))) ∙ alive))
 
     begin : (l : ℕ) → plan.origin l ≡ true → (n : ℕ) × RunsTo (graph_over net plan xs) (l ∷ []) n
     begin l o =
-        let p = In-starts net plan l (origin_located net plan.origin plan.external origins l o) o in
+        let p = In-starts net plan l (origins_known net plan.origin plan.external origins l o) o in
         let lt = slice_get_within (starts net plan) p.0 (moved (start_of (locations net) plan.expressions) l) p.1 in
         let a = start_at_front net plan xs are p.0 lt in
         let same : a.0 ≡ moved (start_of (locations net) plan.expressions) l = same_Some a.0 (moved (start_of (locations net) plan.expressions) l) (sym a.3 ∙ p.1) in
@@ -124,7 +122,7 @@ module _ (net : PlainNet) (plan : Plan) (xs : List Standing) (are : AreStandings
         let r = run_from_alive (k ∷ ls) (goes_from_rest net plan.origin l k ls h) parts.1 in
         let x = standing_of_run k ls r.0 r.1 in
         let link = goes_link net plan.origin l k ls h in
-        let next = In-targets net plan (standing_after net plan k ls) l (linked_located net rules l k link) (sends l k ls h)
+        let next = In-targets net plan (standing_after net plan k ls) l (linked_known net l k rules link).0 (sends l k ls h)
         (goes l k ls h (not-true (is_dead (left_after net plan (l ∷ k ∷ ls))) parts.0)) in
         let made = step_made net plan xs are r.0 (standing_after net plan k ls) (moved (left_after net plan (k ∷ ls)) l) x next in
         (made.0, (r.0, r.1, made.2, place_at net plan xs are made.0 (moved (left_after net plan (k ∷ ls)) l) made.1))

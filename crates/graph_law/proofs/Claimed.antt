@@ -13,12 +13,14 @@ use Rattle.graph_base.specs.Ranked.{IsRankedAt, IsRankedRouter}
 use Rattle.graph_base.specs.Runs.{is_listener, is_start, place_of, rank_at, run}
 use Rattle.regret_law.specs.Faithful.{IsFaithful, is_walk_to, may_start, permits}
 use Rattle.regret_law.specs.Passes.{IsClaimed}
-use Rattle.regret_law.proofs.RunWalks.{late_no_origin, run_begins, run_walk}
 use Rattle.path_words.proofs.Peers.{peer_inside}
-use Rattle.regret_law.proofs.SoundCase.{permits_parts, walk_parts}
-use Rattle.regret_law.proofs.FaithfulParts.{run_inside}
-use Rattle.regret_law.proofs.GraphSteps.{start_at-is}
 use Rattle.list_laws.proofs.Options.{is_some_parts}
+use Rattle.graph_base.proofs.RunSteps.{late_no_origin, run_begins, run_inside}
+use Rattle.graph_base.proofs.StartsAndSteps.{start_at-is}
+use Rattle.regret_law.proofs.RunWalks.{runs_are_walks}
+use Rattle.graph_law.proofs.RunPaths.{walk-from_run_path}
+use Rattle.path_words.proofs.WalkParts.{walk_parts}
+use Rattle.regret_law.proofs.PermittedWalks.{permits_parts}
 
 module _ (net : PlainNet) (s : PlainStatement) (c : Case) (g : PlainGraph) (graph_rules : IsGraph g) (faithful : IsFaithful net s (holds c.origins) c.external g) where
   abbrev Origin : ℕ → Bool
@@ -40,11 +42,11 @@ module _ (net : PlainNet) (s : PlainStatement) (c : Case) (g : PlainGraph) (grap
       let origin : Origin r ≡ true = ap Origin (sym at) ∙ faithful.formed.starts n is.0 in
       absurd (true≢false (sym origin ∙ not-true (Origin r) (and_parts (from_holds s.from r) (not (Origin r)) may).1))
   run_from r n (l ∷ k ∷ ls) at may h =
-      let begins : l ≡ r = sym (run_begins net Origin c.external g graph_rules faithful.formed l n (k ∷ ls) h) ∙ at in
+      let begins : l ≡ r = sym (run_begins g l n (k ∷ ls) h) ∙ at in
       let there : may_start Origin s (place_of g n) ≡ true = ap (may_start Origin s) at ∙ may in (
         k ∷ ls,
         ap (λ z. z ∷ k ∷ ls) begins,
-        run_walk net Origin c.external g graph_rules faithful.formed l k n ls h,
+        walk-from_run_path net Origin l k ls (runs_are_walks net Origin c.external g graph_rules faithful.formed (l ∷ k ∷ ls) n h),
         sym (faithful.ranks (l ∷ k ∷ ls) n h there),
       )
 
@@ -58,7 +60,7 @@ module _ (net : PlainNet) (s : PlainStatement) (c : Case) (g : PlainGraph) (grap
       (ap is_some is.3 ∙ ranked)
 
   -- a router with a node that has a rank is claimed
-  pub ranked_claims : (r n : ℕ) → is_router net r ≡ true → IsRankedAt g r n → IsClaimed net s c r
+  ranked_claims : (r n : ℕ) → is_router net r ≡ true → IsRankedAt g r n → IsClaimed net s c r
   ranked_claims r n router node =
       let may : may_start Origin s r ≡ true = ap (may_start Origin s) (sym node.1) ∙ ranked_may n node.0 node.2 in
       let ended = faithful.is_ended n node.0 in
@@ -67,12 +69,12 @@ module _ (net : PlainNet) (s : PlainStatement) (c : Case) (g : PlainGraph) (grap
       record { at_router = router; may = may; starts = (is.0, ap (permits net Origin s) (sym is.1) ∙ permitted) }
 
   -- where a permitted walk starts there is such a node
-  pub permitted_node : (r : ℕ) (rest : List ℕ) → may_start Origin s r ≡ true → permits net Origin s (r ∷ rest) ≡ true → (n : ℕ) × IsRankedAt g r n
+  permitted_node : (r : ℕ) (rest : List ℕ) → may_start Origin s r ≡ true → permits net Origin s (r ∷ rest) ≡ true → (n : ℕ) × IsRankedAt g r n
   permitted_node r rest may permitted =
       let parts = and_parts (is_walk_to net Origin (r ∷ rest) && from_holds s.from r) (is_some (rank_of net s.ranked (r ∷ rest))) permitted in
       let walk = (and_parts (is_walk_to net Origin (r ∷ rest)) (from_holds s.from r) parts.0).0 in
       let found = is_some_parts (run g (r ∷ rest)) (faithful.has_run [] (r ∷ rest) (or_left (is_walk_to net Origin (r ∷ rest)) _ walk) permitted) in
-      let at = run_begins net Origin c.external g graph_rules faithful.formed r found.0 rest found.1 in
+      let at = run_begins g r found.0 rest found.1 in
       let is = run_from r found.0 (r ∷ rest) at may found.1 in
       (found.0, (run_inside g graph_rules (r ∷ rest) found.0 found.1, at, ap is_some (sym is.3) ∙ parts.1))
 
@@ -88,13 +90,13 @@ module _ (net : PlainNet) (s : PlainStatement) (c : Case) (g : PlainGraph) (grap
   peer_ranked n peer late [] above h permitted = absurd cc
   peer_ranked n peer late (l ∷ []) above h permitted = absurd (true≢false (sym (start_at-is g l n h).0 ∙ late))
   peer_ranked n peer late (l ∷ k ∷ ls) [] h permitted =
-      let at = run_begins net Origin c.external g graph_rules faithful.formed l n (k ∷ ls) h in
+      let at = run_begins g l n (k ∷ ls) h in
       let parts = permits_parts net Origin s (l ∷ k ∷ ls) permitted in
       let outside = late_no_origin net Origin c.external g graph_rules faithful.formed l k n ls h in
       let may : may_start Origin s (place_of g n) ≡ true = ap (may_start Origin s) at ∙ and_from (from_holds s.from l) (not (Origin l)) parts.2 (ap not outside) in
       ap is_some (faithful.ranks (l ∷ k ∷ ls) n h may) ∙ parts.3
   peer_ranked n peer late (l ∷ k ∷ ls) (a ∷ above) h permitted =
-      let at = run_begins net Origin c.external g graph_rules faithful.formed l n (k ∷ ls) h in
+      let at = run_begins g l n (k ∷ ls) h in
       let walk = walk_parts net (a ∷ above ++ l ∷ k ∷ ls) (permits_parts net Origin s (a ∷ above ++ l ∷ k ∷ ls) permitted).0 in
       absurd (true≢false (sym (peer_inside net above l k ls (ap (is_peer net) (sym at) ∙ peer)) ∙ walk.1))
 

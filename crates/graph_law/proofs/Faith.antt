@@ -22,12 +22,13 @@ use Rattle.graph_law.proofs.Left.{ranked-alive}
 use Rattle.graph_law.proofs.RunPaths.{GoesTo, goes_from_run_path, walk_from_places, run_path_from_places}
 use Rattle.graph_law.proofs.Nodes.{place_at, standing_at}
 use Rattle.graph_law.proofs.WellBuilt.{well_formed, entered}
-use Rattle.graph_law.proofs.Follow.{RunsTo, runs_from_run, run_from_runs, run_inside, goes_from_runs}
+use Rattle.graph_law.proofs.Follow.{goes_from_runs}
 use Rattle.graph_law.proofs.BuiltRuns.{inside, ended, run_from_alive}
 use Rattle.graph_law.proofs.Kept.{rank_kept, node_from_kept}
 use Rattle.graph_law.proofs.KeptFormed.{place_from, kept_well_formed, kept_entered}
 use Rattle.graph_law.proofs.KeptRuns.{run_kept, run_from_kept, run_passes, run_goes_on}
 use Rattle.graph_law.proofs.Ranks.{rank_of_walk, alive_all_along, rank_of_node, rank-elsewhere, rank_at_start, starts_from_rank}
+use Rattle.graph_base.proofs.RunSteps.{RunsTo, runs_from_run, run_from_runs, runs_inside}
 
 -- what a permitted walk is
 record IsPermitted (net : PlainNet) (origin : ℕ → Bool) (s : PlainStatement) (path : List ℕ) : Type 0 where
@@ -124,7 +125,7 @@ module _ (net : PlainNet) (s : PlainStatement) (plan : Plan) (of : IsPlanOf net 
     has_run above (l ∷ ls) h p =
         let whole = run_of_permitted (above ++ l ∷ ls) p in
         let part = run_passes (graph_over net plan xs) above l ls whole.0 whole.1 in
-        let in_graph = run_inside (graph_over net plan xs) (inside net plan xs are) (l ∷ ls) part.0 part.1 in
+        let in_graph = runs_inside (graph_over net plan xs) (inside net plan xs are) (l ∷ ls) part.0 part.1 in
         ap is_some (trimmed_run (l ∷ ls) part.0 part.1 ((kept part.0 in_graph).1 (whole.0, part.2, whole.2)))
 
     has_no_other : (path : List ℕ) → IsTrue (is_run_path net plan.origin path) → IsSome (run (graph_kept keep (graph_over net plan xs)) path) →
@@ -133,7 +134,7 @@ module _ (net : PlainNet) (s : PlainStatement) (plan : Plan) (of : IsPlanOf net 
     has_no_other (l ∷ ls) h some =
         let o = is_some_parts (run (graph_kept keep (graph_over net plan xs)) (l ∷ ls)) some in
         let r = whole_run (l ∷ ls) o.0 o.1 in
-        let c = (kept r.0 (run_inside (graph_over net plan xs) (inside net plan xs are) (l ∷ ls) r.0 r.1)).0 r.2 in
+        let c = (kept r.0 (runs_inside (graph_over net plan xs) (inside net plan xs are) (l ∷ ls) r.0 r.1)).0 r.2 in
         let on = run_goes_on (graph_over net plan xs) c.1.0 r.0 c.0 l ls r.1 c.1.1 in
         (on.0, permitted_from_rank (on.0 ++ l ∷ ls) c.0 on.1 c.2)
 

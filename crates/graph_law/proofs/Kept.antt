@@ -10,7 +10,7 @@ use Rattle.graph_base.specs.Graphs.{PlainGraph}
 use Rattle.graph_base.specs.Runs.{place_of, is_listener, rank_at, is_start, has_step}
 use Rattle.list_laws.specs.Counts.{kept_below}
 use Rattle.reach_prune.specs.Trimmed.{nodes_kept, both_kept, renumbered, graph_kept}
-use Rattle.graph_law.proofs.Nodes.{In-start, start_from_In, In-step, step_from_In}
+use Rattle.graph_base.proofs.StartsAndSteps.{start_in, in_start, step_in, in_step}
 
 module _ (keep : ℕ → Bool) where
   -- nodes
@@ -107,13 +107,13 @@ module _ (keep : ℕ → Bool) where
 
     pub start_kept : (n : ℕ) → is_start g n ≡ true → keep n ≡ true → is_start (graph_kept keep g) (kept_below keep n) ≡ true
     start_kept n s h =
-        start_from_In (graph_kept keep g) (kept_below keep n) (IsIn-map (kept_below keep) (filter keep g.starts) n (IsIn-filter keep g.starts n (In-start g n s) h))
+        in_start (graph_kept keep g) (kept_below keep n) (IsIn-map (kept_below keep) (filter keep g.starts) n (IsIn-filter keep g.starts n (start_in g n s) h))
 
     pub start_from_kept : (i : ℕ) → is_start (graph_kept keep g) i ≡ true → (n : ℕ) × (is_start g n ≡ true) × (keep n ≡ true) × (i ≡ kept_below keep n)
     start_from_kept i s =
-        let m = IsIn-map_parts (kept_below keep) (filter keep g.starts) i (In-start (graph_kept keep g) i s) in
+        let m = IsIn-map_parts (kept_below keep) (filter keep g.starts) i (start_in (graph_kept keep g) i s) in
         let f = IsIn-filter_parts keep g.starts m.0 m.1 in
-        (m.0, start_from_In g m.0 f.0, f.1, sym m.2)
+        (m.0, in_start g m.0 f.0, f.1, sym m.2)
 
     pub is_start-kept : (n : ℕ) → keep n ≡ true → is_start (graph_kept keep g) (kept_below keep n) ≡ true → is_start g n ≡ true
     is_start-kept n h s =
@@ -122,14 +122,14 @@ module _ (keep : ℕ → Bool) where
 
     pub step_kept : (m n : ℕ) → has_step g m n ≡ true → keep m ≡ true → keep n ≡ true → has_step (graph_kept keep g) (kept_below keep m) (kept_below keep n) ≡ true
     step_kept m n s h k =
-        step_from_In (graph_kept keep g) (kept_below keep m) (kept_below keep n)
+        in_step (graph_kept keep g) (kept_below keep m) (kept_below keep n)
         (IsIn-map (renumbered keep) (filter (both_kept keep) g.steps) (m, n)
-        (IsIn-filter (both_kept keep) g.steps (m, n) (In-step g m n s) (and_from (keep m) (keep n) h k)))
+        (IsIn-filter (both_kept keep) g.steps (m, n) (step_in g m n s) (and_from (keep m) (keep n) h k)))
 
     pub step_from_kept : (i j : ℕ) → has_step (graph_kept keep g) i j ≡ true →
         (m n : ℕ) × (has_step g m n ≡ true) × (keep m ≡ true) × (keep n ≡ true) × (i ≡ kept_below keep m) × (j ≡ kept_below keep n)
     step_from_kept i j s =
-        let m = IsIn-map_parts (renumbered keep) (filter (both_kept keep) g.steps) (i, j) (In-step (graph_kept keep g) i j s) in
+        let m = IsIn-map_parts (renumbered keep) (filter (both_kept keep) g.steps) (i, j) (step_in (graph_kept keep g) i j s) in
         let f = IsIn-filter_parts (both_kept keep) g.steps m.0 m.1 in
         let both = and_parts (keep m.0.0) (keep m.0.1) f.1 in
-        (m.0.0, m.0.1, step_from_In g m.0.0 m.0.1 f.0, both.0, both.1, ap (λ (r : ℕ × ℕ). r.0) (sym m.2), ap (λ (r : ℕ × ℕ). r.1) (sym m.2))
+        (m.0.0, m.0.1, in_step g m.0.0 m.0.1 f.0, both.0, both.1, ap (λ (r : ℕ × ℕ). r.0) (sym m.2), ap (λ (r : ℕ × ℕ). r.1) (sym m.2))

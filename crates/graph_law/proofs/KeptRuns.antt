@@ -5,8 +5,8 @@ use Rattle.graph_base.specs.Graphs.{PlainGraph}
 use Rattle.graph_base.specs.Runs.{place_of, has_step, IsTrail, Reaches}
 use Rattle.list_laws.specs.Counts.{kept_below}
 use Rattle.reach_prune.specs.Trimmed.{graph_kept}
-use Rattle.graph_law.proofs.Follow.{RunsTo}
 use Rattle.graph_law.proofs.Kept.{place_kept, start_kept, start_from_kept, step_kept, step_from_kept}
+use Rattle.graph_base.proofs.RunSteps.{RunsTo}
 
 module _ (keep : ℕ → Bool) (g : PlainGraph) where
   pub run_kept : ((m n : ℕ) → has_step g m n ≡ true → keep n ≡ true → keep m ≡ true) → (path : List ℕ) (n : ℕ) → RunsTo g path n → keep n ≡ true →

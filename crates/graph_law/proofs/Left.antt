@@ -14,6 +14,7 @@ use Rattle.path_exprs.specs.Normal.{is_never}
 use Rattle.path_exprs.specs.Runs.{along, start_of, first_with}
 use Rattle.path_exprs.specs.Standings.{Plan, is_dead}
 use Rattle.graph_law.specs.Ways.{left_after}
+use Rattle.path_exprs.proofs.NeverMembers.{member-is_never}
 
 along-push : (xs : List ℕ) (x : ℕ) (es : List Expression) → along (xs ++ x ∷ []) es ≡ map (derivative x) (along xs es)
 along-push [] x es = refl
@@ -34,15 +35,11 @@ dead-derivative x (e ∷ es) h =
     let parts = and_parts (is_never e) (is_dead es) h in
     and_from (is_never (derivative x e)) (is_dead (map (derivative x) es)) (never-derivative x e parts.0) (dead-derivative x es parts.1)
 
-never-member : (e : Expression) (xs : List ℕ) → is_never e ≡ true → member e xs ≡ false
-never-member never xs h = refl
-never-member e xs h = cc
-
 dead-unranked : (es : List Expression) (xs : List ℕ) (k : ℕ) → is_dead es ≡ true → place_of (map member es) xs k ≡ None
 dead-unranked [] xs k h = refl
 dead-unranked (e ∷ es) xs k h =
     let parts = and_parts (is_never e) (is_dead es) h in
-    ap (λ b. if b then Some k else place_of (map member es) xs (k + 1)) (never-member e xs parts.0) ∙ dead-unranked es xs (k + 1) parts.1
+    ap (λ b. if b then Some k else place_of (map member es) xs (k + 1)) (member-is_never e xs parts.0) ∙ dead-unranked es xs (k + 1) parts.1
 
 -- a state that holds a list isn't dead
 pub ranked-alive : (es : List Expression) (xs : List ℕ) (i : ℕ) → first_with xs es ≡ Some i → is_dead es ≡ false

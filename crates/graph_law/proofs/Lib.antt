@@ -1,4 +1,3 @@
-pub mod NumbersBelow
 pub mod Standings
 pub mod Targets
 pub mod RunPaths

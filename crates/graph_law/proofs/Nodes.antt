@@ -1,52 +1,26 @@
 -- The nodes and steps of a graph that is built, by their standings.
-use Rattle.std.proofs.Common.{◌≡◌, ◌⊎◌, ℕ, zero, suc, ◌+◌, ◌<◌, ◌≤◌, true, ◌&&◌, List, [], ◌∷◌, ◌++◌, map, length, slice_get, option_map, ◌==◌, flat_map, Some, refl, sym, ap, ◌∙◌, subst, inl, inr, ⊎_elim, arith, eqb-true, eq-eqb}
-use Rattle.std.proofs.lemmas.Bool.{and_parts, and_from}
+use Rattle.std.proofs.Common.{◌≡◌, ◌⊎◌, ℕ, zero, suc, ◌+◌, ◌<◌, ◌≤◌, true, List, [], ◌∷◌, ◌++◌, map, length, slice_get, option_map, flat_map, Some, refl, sym, ap, ◌∙◌, subst, inl, inr, ⊎_elim, arith}
 use Rattle.std.proofs.lemmas.List.{length-map}
-use Rattle.std.proofs.lemmas.Option.{none-some, same_Some, slice_get-map}
+use Rattle.std.proofs.lemmas.Option.{none-some, same_Some, slice_get-map, slice_get_within}
 use Rattle.list_laws.proofs.Apart.{Apart}
 use Rattle.list_laws.proofs.Items.{slice_get_inside, slice_get-append_left}
-use Rattle.list_laws.proofs.Members.{IsIn-append_left, IsIn-append_right, IsIn-append_cases, IsIn-map, IsIn-map_parts, IsIn-flat_map, IsIn-nil, list_any-from_IsIn, list_any_member}
+use Rattle.list_laws.proofs.Members.{IsIn-append_left, IsIn-append_right, IsIn-append_cases, IsIn-map, IsIn-map_parts, IsIn-flat_map, IsIn-nil}
 use Rattle.list_laws.specs.Members.{IsIn}
 use Rattle.net_base.specs.Network.{PlainNet}
-use Rattle.graph_base.specs.Graphs.{PlainGraph}
 use Rattle.graph_base.specs.Runs.{place_of, is_start, has_step}
 use Rattle.graph_base.proofs.NodesRead.{place_of-node}
 use Rattle.standings.specs.Built.{place_in, steps_from, node_of, graph_over}
 use Rattle.path_exprs.specs.Standings.{Plan, Standing, AreStandings, starts, targets, without_repeats}
-use Rattle.graph_law.proofs.NumbersBelow.{In-numbers_below, below_from_In}
+use Rattle.net_base.proofs.NumbersBelow.{In-numbers_below, below_from_In}
 use Rattle.graph_law.proofs.Standings.{without_repeats_cases, without_repeats_parts, apart_without_repeats, without_repeats-append, without_repeats-apart, slice_get-place_in}
 use Rattle.graph_law.proofs.Targets.{Apart-starts}
-
--- any graph
-
-pub In-start : (g : PlainGraph) (n : ℕ) → is_start g n ≡ true → IsIn g.starts n
-In-start g n h =
-    let r = list_any_member (λ s. s == n) g.starts h in
-    subst (λ k. IsIn g.starts k) (eqb-true r.0 n r.2) r.1
-
-pub start_from_In : (g : PlainGraph) (n : ℕ) → IsIn g.starts n → is_start g n ≡ true
-start_from_In g n h = list_any-from_IsIn (λ s. s == n) g.starts n h (eq-eqb n n refl)
-
-pub In-step : (g : PlainGraph) (m n : ℕ) → has_step g m n ≡ true → IsIn g.steps (m, n)
-In-step g m n h =
-    let r = list_any_member (λ (s : ℕ × ℕ). s.0 == m && s.1 == n) g.steps h in
-    let parts = and_parts _ _ r.2 in
-    let from : r.0.0 ≡ m = eqb-true r.0.0 m parts.0 in
-    let to : r.0.1 ≡ n = eqb-true r.0.1 n parts.1 in
-    subst (λ (s : ℕ × ℕ). IsIn g.steps s) (λ i. (from i, to i)) r.1
-
-pub step_from_In : (g : PlainGraph) (m n : ℕ) → IsIn g.steps (m, n) → has_step g m n ≡ true
-step_from_In g m n h = list_any-from_IsIn (λ (s : ℕ × ℕ). s.0 == m && s.1 == n) g.steps (m, n) h (and_from _ _ (eq-eqb m m refl) (eq-eqb n n refl))
-
--- lists
+use Rattle.graph_base.proofs.StartsAndSteps.{start_in, in_start, step_in, in_step}
 
 slice_get-append_cases : (xs ys : List Standing) (i : ℕ) (x : Standing) → slice_get (xs ++ ys) i ≡ Some x → (i < length xs) ⊎ ((length xs ≤ i) × IsIn ys x)
 slice_get-append_cases [] ys i x h = inr (omega arith, (i, h))
 slice_get-append_cases (z ∷ zs) ys zero x h = inl (omega arith)
 slice_get-append_cases (z ∷ zs) ys (suc i) x h =
     ⊎_elim (λ lt. inl (omega arith)) (λ (r : (length zs ≤ i) × IsIn ys x). let le = r.0 in inr (omega arith, r.1)) (slice_get-append_cases zs ys i x h)
-
--- steps
 
 pub steps_from_parts : (net : PlainNet) (plan : Plan) (all : List Standing) (k : ℕ) (ys : List Standing) (s : ℕ × ℕ) → IsIn (steps_from net plan all k ys) s →
     (i : ℕ) × (x y : Standing) × (slice_get ys i ≡ Some x) × IsIn (targets net plan x) y × (s.0 ≡ k + i) × (s.1 ≡ place_in all y)
@@ -85,6 +59,9 @@ module _ (net : PlainNet) (plan : Plan) (xs : List Standing) (are : AreStandings
   pub standing_at : (n : ℕ) → n < length (graph_over net plan xs).nodes → (x : Standing) × (slice_get xs n ≡ Some x)
   standing_at n lt = slice_get_inside xs n (omega (arith, length-map xs (node_of net plan), lt))
 
+  pub node_within : (n : ℕ) (x : Standing) → slice_get xs n ≡ Some x → n < length (graph_over net plan xs).nodes
+  node_within n x h = let lt = slice_get_within xs n x h in omega (arith, length-map xs (node_of net plan), lt)
+
   pub standings_apart : Apart (λ x y. x ≡ y) xs
   standings_apart = subst (Apart (λ x y. x ≡ y)) (sym are.order) (apart_without_repeats [] (starts net plan ++ flat_map (targets net plan) xs))
 
@@ -116,15 +93,15 @@ module _ (net : PlainNet) (plan : Plan) (xs : List Standing) (are : AreStandings
   In-next x y h t = In-standings y (IsIn-append_right (starts net plan) (flat_map (targets net plan) xs) y (IsIn-flat_map (targets net plan) xs x y h t))
 
   pub start_below : (n : ℕ) → is_start (graph_over net plan xs) n ≡ true → n < length (starts net plan)
-  start_below n h = below_from_In n (length (starts net plan)) (In-start (graph_over net plan xs) n h)
+  start_below n h = below_from_In n (length (starts net plan)) (start_in (graph_over net plan xs) n h)
 
   pub start_from_below : (n : ℕ) → n < length (starts net plan) → is_start (graph_over net plan xs) n ≡ true
-  start_from_below n lt = start_from_In (graph_over net plan xs) n (In-numbers_below n (length (starts net plan)) lt)
+  start_from_below n lt = in_start (graph_over net plan xs) n (In-numbers_below n (length (starts net plan)) lt)
 
   pub step_parts : (m n : ℕ) → has_step (graph_over net plan xs) m n ≡ true →
       (x y : Standing) × (slice_get xs m ≡ Some x) × (slice_get xs n ≡ Some y) × IsIn (targets net plan x) y
   step_parts m n h =
-      let r = steps_from_parts net plan xs 0 xs (m, n) (In-step (graph_over net plan xs) m n h) in
+      let r = steps_from_parts net plan xs 0 xs (m, n) (step_in (graph_over net plan xs) m n h) in
       let from = r.5 in
       let at : r.0 ≡ m = omega (arith, from) in
       let y-in = In-next r.1 r.2 (r.0, r.3) r.4 in
@@ -136,6 +113,6 @@ module _ (net : PlainNet) (plan : Plan) (xs : List Standing) (are : AreStandings
       let at : 0 + m ≡ m = omega arith in (
         place_in xs y,
         slice_get-place_in xs y (In-next x y (m, h) t),
-        step_from_In (graph_over net plan xs) m (place_in xs y)
+        in_step (graph_over net plan xs) m (place_in xs y)
             (subst (λ j. IsIn (steps_from net plan xs 0 xs) (j, place_in xs y)) at (In-steps_from net plan xs 0 xs m x y h t)),
       )

@@ -12,9 +12,9 @@ use Rattle.standings.specs.Built.{IsBuilt}
 use Rattle.path_exprs.specs.Standings.{Plan}
 use Rattle.list_laws.specs.Counts.{kept_below}
 use Rattle.reach_prune.specs.Trimmed.{IsTrimmed, nodes_kept, both_kept, renumbered, graph_kept}
-use Rattle.graph_law.proofs.Nodes.{start_from_In, step_from_In}
-use Rattle.graph_law.proofs.Follow.{IsInside}
 use Rattle.graph_law.proofs.BuiltRuns.{inside}
+use Rattle.graph_base.proofs.StartsAndSteps.{in_start, in_step}
+use Rattle.graph_base.proofs.RunSteps.{IsInside}
 
 module _ (keep keep' : ℕ → Bool) where
   nodes_kept_same : (k : ℕ) (nodes : List Node) → ((i : ℕ) → i < k + length nodes → keep i ≡ keep' i) → nodes_kept keep k nodes ≡ nodes_kept keep' k nodes
@@ -35,14 +35,14 @@ module _ (keep keep' : ℕ → Bool) where
       starts : map (kept_below keep) (filter keep g.starts) ≡ map (kept_below keep') (filter keep' g.starts)
       starts =
           map_same (kept_below keep) (kept_below keep') (filter keep g.starts)
-          (λ n h. number n (inside.starts n (start_from_In g n (IsIn-filter_parts keep g.starts n h).0)))
-          ∙ ap (map (kept_below keep')) (filter_same keep keep' g.starts (λ n h. same n (inside.starts n (start_from_In g n h))))
+          (λ n h. number n (inside.starts n (in_start g n (IsIn-filter_parts keep g.starts n h).0)))
+          ∙ ap (map (kept_below keep')) (filter_same keep keep' g.starts (λ n h. same n (inside.starts n (in_start g n h))))
 
       from : (s : ℕ × ℕ) → IsIn g.steps s → s.0 < length g.nodes
-      from s h = inside.sources s.0 s.1 (step_from_In g s.0 s.1 h)
+      from s h = inside.sources s.0 s.1 (in_step g s.0 s.1 h)
 
       to : (s : ℕ × ℕ) → IsIn g.steps s → s.1 < length g.nodes
-      to s h = inside.steps s.0 s.1 (step_from_In g s.0 s.1 h)
+      to s h = inside.steps s.0 s.1 (in_step g s.0 s.1 h)
 
       steps : map (renumbered keep) (filter (both_kept keep) g.steps) ≡ map (renumbered keep') (filter (both_kept keep') g.steps)
       steps =

@@ -19,10 +19,11 @@ use Rattle.standings.specs.Built.{node_of, rank_of_standing, graph_over}
 use Rattle.path_exprs.specs.Standings.{Plan, Standing, AreStandings, is_dead}
 use Rattle.graph_law.specs.Ways.{left_after, standing_after, stays_alive}
 use Rattle.graph_law.proofs.Left.{left_after-more, dead-derivative}
-use Rattle.graph_law.proofs.RunPaths.{GoesTo, goes_from_rest, goes_link, linked_located, linked_turned}
+use Rattle.graph_law.proofs.RunPaths.{GoesTo, goes_from_rest, goes_link}
 use Rattle.graph_law.proofs.Nodes.{node_at}
-use Rattle.graph_law.proofs.Follow.{RunsTo}
 use Rattle.graph_law.proofs.BuiltRuns.{standing_of_run}
+use Rattle.graph_base.proofs.RunSteps.{RunsTo}
+use Rattle.net_base.proofs.Links.{linked_flips, linked_known}
 
 list_all-push : (p : ℕ → Bool) (xs : List ℕ) (x : ℕ) → list_all p xs ≡ true → p x ≡ true → list_all p (xs ++ x ∷ []) ≡ true
 list_all-push p [] x h k = and_from (p x) true k refl
@@ -39,10 +40,10 @@ list_all-reverse p (x ∷ xs) h =
 -- all places of a walk are locations
 located : (net : PlainNet) → IsNet net → (origin : ℕ → Bool) (l k : ℕ) (ls : List ℕ) → GoesTo net origin (l ∷ k ∷ ls) → list_all (is_location net) (l ∷ k ∷ ls) ≡ true
 located net rules origin l k [] h =
-    and_from (is_location net l) (is_location net k && true) (linked_located net rules l k (goes_link net origin l k [] h))
-    (and_from (is_location net k) true (linked_located net rules k l (linked_turned net l k (goes_link net origin l k [] h))) refl)
+    and_from (is_location net l) (is_location net k && true) (linked_known net l k rules (goes_link net origin l k [] h)).0
+    (and_from (is_location net k) true (linked_known net k l rules (linked_flips net k l ∙ (goes_link net origin l k [] h))).0 refl)
 located net rules origin l k (j ∷ ls) h =
-    and_from (is_location net l) (list_all (is_location net) (k ∷ j ∷ ls)) (linked_located net rules l k (goes_link net origin l k (j ∷ ls) h))
+    and_from (is_location net l) (list_all (is_location net) (k ∷ j ∷ ls)) (linked_known net l k rules (goes_link net origin l k (j ∷ ls) h)).0
     (located net rules origin k j ls (goes_from_rest net origin l k (j ∷ ls) h))
 
 -- what is left of the alternatives after a walk holds the empty list where they hold the walk

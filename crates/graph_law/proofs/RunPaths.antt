@@ -1,10 +1,9 @@
 -- Paths that can have a run, place by place.
-use Rattle.std.proofs.Common.{◌≡◌, ℕ, ◌+◌, ◌≤◌, Bool, true, false, not, ◌&&◌, ◌||◌, ◌==◌, nat_le, List, [], ◌∷◌, length, refl, sym, ◌∙◌, ⊎_elim, arith, eqb-true, lt-ltb, le-leb}
+use Rattle.std.proofs.Common.{◌≡◌, ℕ, ◌≤◌, Bool, true, false, not, ◌&&◌, ◌||◌, nat_le, List, [], ◌∷◌, length, refl, sym, ◌∙◌, ⊎_elim, arith, le-leb}
 use Rattle.std.specs.List.{list_any}
 use Rattle.std.proofs.lemmas.Bool.{and_parts, and_from, or_cases, or_parts, or_from, or_left, or_right, not-true, not_from_false, false≢true}
-use Rattle.list_laws.proofs.Members.{list_any-from_IsIn, list_any_member, AllByRecursion-IsIn}
-use Rattle.net_base.specs.Network.{PlainNet, IsNet, IsLink, is_location, is_peer, is_router, joins, linked}
-use Rattle.net_base.proofs.RoutersAndPeers.{router_known, router_or_peer}
+use Rattle.net_base.specs.Network.{PlainNet, is_location, is_peer, is_router, linked}
+use Rattle.net_base.proofs.RoutersAndPeers.{router_or_peer}
 use Rattle.path_words.specs.Meaning.{at_last, front}
 use Rattle.path_words.specs.Walks.{is_walk, steps_linked}
 use Rattle.path_words.specs.Permitted.{ends_at_origin}
@@ -88,34 +87,7 @@ pub goes_no_origin : (net : PlainNet) (origin : ℕ → Bool) (l k : ℕ) (ls : 
 goes_no_origin net origin l k [] h = h.1
 goes_no_origin net origin l k (j ∷ ls) h = h.1
 
--- links
-
-joins_turned : (a b : ℕ) (link : ℕ × ℕ) → joins a b link ≡ true → joins b a link ≡ true
-joins_turned a b link h =
-    ⊎_elim (λ e. or_right (link.0 == b && link.1 == a) (link.0 == a && link.1 == b) e) (λ e. or_left (link.0 == b && link.1 == a) (link.0 == a && link.1 == b) e)
-    (or_cases (link.0 == a && link.1 == b) (link.0 == b && link.1 == a) h)
-
-pub linked_turned : (net : PlainNet) (a b : ℕ) → linked net a b ≡ true → linked net b a ≡ true
-linked_turned net a b h =
-    let r = list_any_member (joins a b) net.links h in
-    list_any-from_IsIn (joins b a) net.links r.0 r.1 (joins_turned a b r.0 r.2)
-
-pub linked_located : (net : PlainNet) → IsNet net → (a b : ℕ) → linked net a b ≡ true → is_location net a ≡ true
-linked_located net rules a b h =
-    let r = list_any_member (joins a b) net.links h in
-    let is-link = AllByRecursion-IsIn (IsLink net) net.links r.0 rules.links r.1 in
-    let less = is-link.0 in
-    let inside = is-link.1 in
-    ⊎_elim
-    (λ e. let at = eqb-true r.0.0 a (and_parts (r.0.0 == a) (r.0.1 == b) e).0 in lt-ltb a (length net.routers + length net.peers) (omega (arith, at, less, inside)))
-    (λ e. let at = eqb-true r.0.1 a (and_parts (r.0.0 == b) (r.0.1 == a) e).1 in lt-ltb a (length net.routers + length net.peers) (omega (arith, at, less, inside)))
-    (or_cases (r.0.0 == a && r.0.1 == b) (r.0.0 == b && r.0.1 == a) r.2)
-
 -- origins
-
-pub origin_located : (net : PlainNet) (origin : ℕ → Bool) (external : Bool) → AreOrigins net origin external → (l : ℕ) → origin l ≡ true → is_location net l ≡ true
-origin_located net origin true are l o = (and_parts (nat_le (length net.routers) l) (is_location net l) (sym (are l) ∙ o)).1
-origin_located net origin false are l o = router_known net l (are l o)
 
 pub inside_unless_origin : (net : PlainNet) (origin : ℕ → Bool) (external : Bool) → AreOrigins net origin external → (l : ℕ) → is_location net l ≡ true →
     origin l ≡ false → (is_router net l || not external) ≡ true

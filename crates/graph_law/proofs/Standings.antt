@@ -1,41 +1,15 @@
--- Standings that test as the same are the same, and where each stands in a list of them.
+-- Lists of standings without repeats, and where each stands in one.
 use Rattle.std.proofs.Common.{◌≡◌, ◌⊎◌, zero, suc, Bool, true, false, cond, List, [], ◌∷◌, ◌++◌, slice_get, Some, refl, sym, ap, ◌∙◌, subst, inl, inr}
 use Rattle.std.specs.List.{list_any}
-use Rattle.std.specs.Ordering.{is_eq}
-use Rattle.std.proofs.lemmas.Bool.{false≢true, and_parts, and_from, eqb-true, eq-eqb}
+use Rattle.std.proofs.lemmas.Bool.{false≢true}
 use Rattle.std.proofs.lemmas.Option.{same_Some}
 use Rattle.list_laws.proofs.Apart.{Apart}
 use Rattle.list_laws.proofs.Members.{IsIn-nil, IsIn-later, list_any-from_IsIn, list_any_member}
 use Rattle.list_laws.specs.Members.{IsIn}
-use Rattle.list_laws.proofs.Orders.{is_eq-Equal}
-use Rattle.path_exprs.specs.Expression.{Expression, Expressions, none, more, expressions_of, list_of}
-use Rattle.path_exprs.specs.Order.{compare_lists}
-use Rattle.path_exprs.specs.Ordered.{lists-equal}
-use Rattle.path_exprs.specs.Total.{compare_itself}
+use Rattle.path_exprs.specs.Expression.{more}
 use Rattle.standings.specs.Built.{place_in}
 use Rattle.path_exprs.specs.Standings.{Standing, same_standing, without_repeats}
-
-list_of-expressions_of : (es : List Expression) → list_of (expressions_of es) ≡ es
-list_of-expressions_of [] = refl
-list_of-expressions_of (e ∷ es) = ap (λ l. e ∷ l) (list_of-expressions_of es)
-
-pub same-equal : (x y : Standing) → same_standing x y ≡ true → x ≡ y
-same-equal x y h =
-    let parts = and_parts _ _ h in
-    let at : x.at ≡ y.at = eqb-true x.at y.at parts.0 in
-    let lists = lists-equal (expressions_of x.left) (expressions_of y.left) (is_eq-Equal _ parts.1) in
-    let left : x.left ≡ y.left = sym (list_of-expressions_of x.left) ∙ ap list_of lists ∙ list_of-expressions_of y.left in
-    λ i. record { at = at i; left = left i }
-
-compare_lists-itself : (es : Expressions) → is_eq (compare_lists es es) ≡ true
-compare_lists-itself none = refl
-compare_lists-itself (more e es) = rw (compare_itself e, compare_lists-itself es)
-
-pub same-itself : (x : Standing) → same_standing x x ≡ true
-same-itself x = and_from _ _ (eq-eqb x.at x.at refl) (compare_lists-itself (expressions_of x.left))
-
-pub equal-same : (x y : Standing) → x ≡ y → same_standing x y ≡ true
-equal-same x y e = ap (same_standing x) (sym e) ∙ same-itself x
+use Rattle.standings.proofs.SameStandings.{same-equal, same-itself, equal-same}
 
 -- it is seen
 seen-In : (x : Standing) (seen : List Standing) → list_any (same_standing x) seen ≡ true → IsIn seen x

@@ -8,7 +8,7 @@ use Rattle.net_base.specs.NetSets.{locations}
 use Rattle.path_exprs.specs.Runs.{start_of}
 use Rattle.path_exprs.specs.Standings.{Plan, Standing, moved, starts, may_go, targets}
 use Rattle.net_base.specs.Locations.{in_order}
-use Rattle.graph_law.proofs.NumbersBelow.{In-numbers_below, below_from_In, Apart-numbers_below}
+use Rattle.net_base.proofs.NumbersBelow.{In-numbers_below, below_from_In, Apart-numbers_below}
 
 In-in_order : (net : PlainNet) (l : ℕ) → is_location net l ≡ true → IsIn (in_order net) l
 In-in_order net l h = In-numbers_below l (length net.routers + length net.peers) (ltb-true l (length net.routers + length net.peers) h)

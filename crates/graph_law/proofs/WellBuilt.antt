@@ -1,8 +1,7 @@
 -- The graph that is built is well formed.
 use Rattle.std.proofs.Common.{◌≡◌, ℕ, ◌+◌, ◌<◌, ◌≤◌, true, false, not, ◌&&◌, ◌||◌, ◌==◌, IsTrue, nat_eq, List, [], ◌∷◌, map, length, slice_get, flat_map, Some, refl, sym, ap, ◌∙◌, subst, inl, inr, ⊎_elim, arith, eqb-true}
-use Rattle.std.proofs.lemmas.List.{length-map}
 use Rattle.std.proofs.lemmas.Bool.{and_parts, and_from, or_cases, not-true, false≢true}
-use Rattle.std.proofs.lemmas.Option.{same_Some, slice_get_within}
+use Rattle.std.proofs.lemmas.Option.{same_Some}
 use Rattle.list_laws.proofs.Apart.{Apart, Apart-append, Apart-weaken, Apart-map, IsDistinct-from_apart, place_is_one}
 use Rattle.list_laws.proofs.Members.{IsIn-map_parts, IsIn-flat_map_parts, IsIn-later, list_any_member, AllByRecursion-from_IsIn}
 use Rattle.list_laws.specs.Members.{IsIn}
@@ -18,12 +17,13 @@ use Rattle.path_exprs.specs.Standings.{Plan, Standing, AreStandings, starts, mov
 use Rattle.net_base.specs.Locations.{numbers_below}
 use Rattle.graph_base.specs.Walks.{IsEnteredFromBefore}
 use Rattle.graph_base.proofs.NodesRead.{is_listener-node}
-use Rattle.graph_law.proofs.NumbersBelow.{below_from_In, Apart-numbers_below}
-use Rattle.graph_law.proofs.Standings.{same-equal, slice_get-place_in}
+use Rattle.net_base.proofs.NumbersBelow.{below_from_In, Apart-numbers_below}
+use Rattle.graph_law.proofs.Standings.{slice_get-place_in}
 use Rattle.graph_law.proofs.Targets.{IsBegin, IsNext, begin_from_In, next_from_In, Apart-targets}
 use Rattle.net_base.proofs.RoutersAndPeers.{peer_no_router}
-use Rattle.graph_law.proofs.Nodes.{node_at, place_at, standing_at, standings_apart, start_at_front, start_or_target, In-next, start_below, start_from_below, step_parts, step_made, steps_from_parts, step_from_In}
-use Rattle.graph_base.proofs.NodesRead.{is_listener-node}
+use Rattle.graph_law.proofs.Nodes.{node_at, place_at, standing_at, standings_apart, start_at_front, start_or_target, In-next, start_below, start_from_below, step_parts, step_made, steps_from_parts, node_within}
+use Rattle.graph_base.proofs.StartsAndSteps.{in_step}
+use Rattle.standings.proofs.SameStandings.{same-equal}
 
 -- what `may_go` says
 pub record Goes (net : PlainNet) (plan : Plan) (x : Standing) (y : Standing) : Type 0 where
@@ -171,15 +171,12 @@ module _ (net : PlainNet) (plan : Plan) (xs : List Standing) (are : AreStandings
     steps = AllByRecursion-from_IsIn (λ (s : ℕ × ℕ). (s.0 < length (graph_over net plan xs).nodes) × (s.1 < length (graph_over net plan xs).nodes)) (steps_from net plan xs 0 xs) step_named;
   }
     where
-      below : (n : ℕ) (x : Standing) → slice_get xs n ≡ Some x → n < length (graph_over net plan xs).nodes
-      below n x h = let lt = slice_get_within xs n x h in omega (arith, length-map xs (node_of net plan), lt)
-
       start_named : (n : ℕ) → IsIn (numbers_below (length (starts net plan))) n → n < length (graph_over net plan xs).nodes
       start_named n h =
           let a = start_at_front net plan xs are n (below_from_In n (length (starts net plan)) h) in
-          below n a.0 a.1
+          node_within net plan xs are n a.0 a.1
 
       step_named : (s : ℕ × ℕ) → IsIn (steps_from net plan xs 0 xs) s → (s.0 < length (graph_over net plan xs).nodes) × (s.1 < length (graph_over net plan xs).nodes)
       step_named s h =
-          let p = step_parts net plan xs are s.0 s.1 (step_from_In (graph_over net plan xs) s.0 s.1 h) in
-          (below s.0 p.0 p.2, below s.1 p.1 p.3)
+          let p = step_parts net plan xs are s.0 s.1 (in_step (graph_over net plan xs) s.0 s.1 h) in
+          (node_within net plan xs are s.0 p.0 p.2, node_within net plan xs are s.1 p.1 p.3)

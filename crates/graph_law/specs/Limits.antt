@@ -1,6 +1,6 @@
 -- When the graph of a case is within the limits.
 use Rattle.std.specs.Prelude.{ℕ, ◌≤◌, length}
-use Rattle.net_base.specs.declared.limits.TheConstants.{NODES}
+use Rattle.net_base.specs.declared.limits.TheConstants.{ALTERNATIVES, NODES}
 use Rattle.net_base.specs.Network.{PlainNet}
 use Rattle.path_words.specs.declared.case.Case.{Case}
 use Rattle.path_words.specs.Meaning.{alternative_count}
@@ -11,7 +11,7 @@ use Rattle.standings.specs.Built.{IsBuilt}
 
 -- no more than 64 alternatives, and a graph with no more than 4,096 nodes, and with steps that there is room for
 pub record IsBuiltWithin (net : PlainNet) (room : ℕ) (s : PlainStatement) (c : Case) (g : PlainGraph) : Type 0 where
-  pub ranks : alternative_count s.ranked ≤ 64
+  pub ranks : alternative_count s.ranked ≤ ALTERNATIVES
   pub built : IsBuilt net (plan_for net s c) g
   pub states : length g.nodes ≤ NODES
   pub steps : length g.steps ≤ room

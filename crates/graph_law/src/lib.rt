@@ -5,13 +5,14 @@ ghost use Rattle.std.specs.Prelude.{◌≡◌, ◌↔◌, ◌<◌, ◌≤◌, �
 ghost use Rattle.net_base.specs.Network.{IsNet, PlainNet};
 ghost use Rattle.net_base.specs.Sets.{holds};
 ghost use Rattle.path_words.specs.declared.case.Case.{Case};
+ghost use Rattle.path_words.specs.Meaning.{rank_of};
 ghost use Rattle.path_words.specs.Policies.{PlainStatement};
 ghost use Rattle.path_exprs.specs.Forward.{expressions};
 ghost use Rattle.graph_base.specs.Graphs.{IsGraph, PlainGraph};
 ghost use Rattle.graph_base.specs.Rules.{IsWellFormed};
 ghost use Rattle.graph_base.specs.Ranked.{IsRankedRouter};
-ghost use Rattle.graph_base.specs.Runs.{is_listener, rank_at, run};
-ghost use Rattle.regret_law.specs.Faithful.{IsFaithful, is_run_path};
+ghost use Rattle.graph_base.specs.Runs.{is_listener, place_of, rank_at, run};
+ghost use Rattle.regret_law.specs.Faithful.{IsFaithful, is_run_path, is_walk_to, may_start, permits};
 ghost use Rattle.regret_law.specs.Passes.{IsClaimed};
 ghost use Rattle.standings.specs.Built.{IsBuilt, graph_over};
 ghost use Rattle.path_exprs.specs.Standings.{AreStandings, Plan, Standing};
@@ -56,6 +57,17 @@ pub fn trimmed_graphs_are_faithful()
 /// The graph that is built of a plan is trimmed to one. That a plan has one graph is a law of `standings`.
 pub fn trimmed_graphs_are_one()
     ensures { (net : PlainNet) (plan : Plan) (g t u : PlainGraph) → IsBuilt net plan g → IsTrimmed g t → IsTrimmed g u → t ≡ u }
+{}
+
+/// In a faithful graph of a case a path whose run ends in a node where walks may start is a walk from there to an origin, and
+/// its rank is that of the node. Where the node has one, the path is permitted.
+pub fn runs_have_the_ranks_of_their_nodes()
+    ensures walks { (net : PlainNet) (s : PlainStatement) (c : Case) (g : PlainGraph) (r n : ℕ) (path : List ℕ) → IsGraph g
+        → IsFaithful net s (holds c.origins) c.external g → place_of g n ≡ r → IsTrue (may_start (holds c.origins) s r) → run g path ≡ Some n
+        → (rest : List ℕ) × (path ≡ r ∷ rest) × IsTrue (is_walk_to net (holds c.origins) path) × (rank_of net s.ranked path ≡ rank_at g n) }
+    ensures permitted { (net : PlainNet) (s : PlainStatement) (c : Case) (g : PlainGraph) (r n : ℕ) (path : List ℕ) → IsGraph g
+        → IsFaithful net s (holds c.origins) c.external g → place_of g n ≡ r → IsTrue (may_start (holds c.origins) s r) → run g path ≡ Some n → IsSome (rank_at g n)
+        → IsTrue (permits net (holds c.origins) s path) }
 {}
 
 /// In a faithful graph of a case the routers at which a node has a rank are those that the statement claims.

@@ -1,6 +1,6 @@
 -- The inferred numbers meet the rules of evidence.
-use Rattle.std.proofs.Common.{◌≡◌, ℕ, ◌<◌, ◌≤◌, Bool, true, List, length, arith, ◌∙◌}
-use Rattle.std.proofs.lemmas.Bool.{or_cases, and_parts}
+use Rattle.std.proofs.Common.{◌≡◌, ℕ, ◌<◌, ◌≤◌, Bool, true, List, length, arith}
+use Rattle.std.proofs.lemmas.Bool.{and_parts}
 use Rattle.graph_base.specs.Graphs.{PlainGraph, IsGraph}
 use Rattle.graph_base.specs.Rules.{IsOver, MeetsRules, steps_on}
 use Rattle.graph_base.specs.Runs.{has_step, place_of}
@@ -8,11 +8,10 @@ use Rattle.net_base.specs.Network.{PlainNet}
 use Rattle.net_base.specs.Sets.{holds}
 use Rattle.pref_inference.specs.Inferred.{inferred, number_in}
 use Rattle.relation_law.specs.Numbers.{number_of}
-use Rattle.relation_law.specs.Relations.{IsTotal}
 use Rattle.relation_law.specs.Views.{view_of}
-use Rattle.relation_law.proofs.Bridge.{numbers_meet_rules, rules_at_routers, step_nodes}
+use Rattle.graph_base.proofs.StartsAndSteps.{step_nodes}
+use Rattle.relation_law.proofs.Bridge.{numbers_meet_rules, rules_at_routers}
 use Rattle.relation_law.proofs.Counts.{counts_are_numbers}
-use Rattle.relation_law.proofs.Rounds.{pair_to}
 use Rattle.state_simulation.specs.Held.{HasEach, IsRelationOf, PlainRelation, has}
 use Rattle.state_simulation.proofs.Holding.{total_where_each}
 

@@ -1,16 +1,17 @@
 //! The numbers.
-ghost use Rattle.std.specs.Prelude.{◌≡◌, ◌≤◌, ◌<◌, ℕ, Bool, false, IfOk, IsTrue, length, slice_index_or};
+ghost use Rattle.std.specs.Prelude.{◌≡◌, ◌<◌, ℕ, Bool, IfOk, IsTrue, length};
 ghost use Rattle.graph_base.specs.Rules.{MeetsRules};
 ghost use Rattle.net_base.specs.Sets.{holds};
-ghost use Rattle.pref_inference.specs.Inferred.{inferred, number_in};
-ghost use Rattle.relation_law.specs.Numbers.{is_first};
-ghost use Rattle.state_simulation.specs.Held.{HasEach, IsRelationOf, has};
+ghost use Rattle.pref_inference.specs.Inferred.{AreFirsts, inferred, number_in};
+ghost use Rattle.state_simulation.specs.Held.{HasEach, IsRelationOf};
+ghost use Rattle.state_simulation.specs.Looked.{AreLocated};
 
-use crate::classes::{firsts, lower_classes};
+use crate::classes::firsts;
+use bit_rows::{Rows, count_outside};
 use graph_base::{Graph, Prefs};
 use net_base::{List, Net};
 use outside::NoMemory;
-use state_simulation::Relation;
+use state_simulation::{Relation, located_rows};
 use std::alloc::{AllocError, Global};
 
 /// The preference number of each node of the graph: at a router 100 and one for each class of nodes that
@@ -28,40 +29,55 @@ pub fn infer(
     ensures rules { IfOk result (λ prefs. (external : Bool) → MeetsRules net.now (λ l. IsTrue (holds relation.now.claimed l)) external graph.now (number_in prefs.of)) }
 {
     let firsts = firsts(alloc, relation, graph.nodes().len() as u32)?;
-    let of = numbers(alloc, net, graph, relation, &firsts)?;
+    let located = located_rows(alloc, graph)?;
+    let of = numbers(alloc, net, graph, relation, &firsts, &located)?;
     Ok(Prefs { of })
 }
 
-/// The number of each node, by the first nodes of classes.
+/// The number of each node, by the row of the first nodes of classes and the rows of the nodes of each location.
 fn numbers(
     alloc: Global,
     net: &Net,
     graph: &Graph,
     relation: &Relation,
-    firsts: &[bool],
+    firsts: &Rows,
+    located: &Rows,
 ) -> Result<List<u32>, AllocError>
-    requires size { length firsts.now ≡ length graph.now.nodes }
-    requires firsts { (p : ℕ) → p < length graph.now.nodes → slice_index_or firsts.now p false ≡ is_first (has relation.now) p }
+    requires relation { IsRelationOf graph.now relation.now }
+    requires total { HasEach relation.now }
+    requires firsts { AreFirsts (length graph.now.nodes) relation.now firsts.now }
+    requires located { AreLocated graph.now located.now }
     ensures size { IfOk result (λ of. length of ≡ length graph.now.nodes) }
     ensures numbers { IfOk result (λ of. (n : ℕ) → n < length graph.now.nodes → number_in of n ≡ inferred net.now graph.now relation.now n) }
 {
     let mut of = List::new(alloc);
     for node in 0..graph.nodes().len() as u32 {
-        of.push(number(net, graph, relation, firsts, node))?;
+        of.push(number(net, graph, relation, firsts, located, node))?;
     }
     Ok(of)
 }
 
-/// The number of a node.
-fn number(net: &Net, graph: &Graph, relation: &Relation, firsts: &[bool], node: u32) -> u32
-    requires size { length firsts.now ≡ length graph.now.nodes }
+/// The number of a node: at a router 100 and one for each first node at its location that isn't in its row.
+fn number(
+    net: &Net,
+    graph: &Graph,
+    relation: &Relation,
+    firsts: &Rows,
+    located: &Rows,
+    node: u32,
+) -> u32
+    requires relation { IsRelationOf graph.now relation.now }
+    requires total { HasEach relation.now }
+    requires firsts { AreFirsts (length graph.now.nodes) relation.now firsts.now }
+    requires located { AreLocated graph.now located.now }
     requires node { node < length graph.now.nodes }
-    requires firsts { (p : ℕ) → p < length graph.now.nodes → slice_index_or firsts.now p false ≡ is_first (has relation.now) p }
     ensures { result ≡ inferred net.now graph.now relation.now node }
 {
-    if net.is_router(graph.nodes()[node as usize].loc) {
-        100 + lower_classes(relation, firsts, node)
-    } else {
-        0
+    if !net.is_router(graph.location(node)) {
+        return 0;
     }
+    let first = firsts.row(0);
+    let here = located.row(graph.location(node).number() as u32);
+    let above = relation.rows().row(node);
+    100 + count_outside(first, here, above)
 }

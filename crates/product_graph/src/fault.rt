@@ -1,7 +1,9 @@
 //! Why the graph of a case is not built.
 ghost use Rattle.std.specs.Prelude.{◌≡◌};
 ghost use Rattle.product_graph.specs.Faults.{fault_of};
+ghost use Rattle.product_graph.specs.declared.fault.BuildFault.TheVariants.{NoMemory as no_memory};
 
+use outside::NoMemory;
 use standings::StandingsFault;
 use thiserror::Error;
 
@@ -27,5 +29,13 @@ impl From<StandingsFault> for BuildFault {
             StandingsFault::TooMany => BuildFault::TooManyStates,
             StandingsFault::NoMemory => BuildFault::NoMemory,
         }
+    }
+}
+
+impl From<NoMemory> for BuildFault {
+    ghost from_gives = { λ _ e. e ≡ no_memory };
+
+    fn from(_: NoMemory) -> BuildFault {
+        BuildFault::NoMemory
     }
 }

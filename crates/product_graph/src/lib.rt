@@ -4,5 +4,5 @@
 mod case_graph;
 mod fault;
 
-pub use case_graph::build;
+pub use case_graph::{build, build_over};
 pub use fault::BuildFault;

@@ -1,26 +1,24 @@
 -- Blocks of a configuration are found by the names of the network.
-use Rattle.std.proofs.Common.{◌≡◌, ℕ, zero, suc, ◌+◌, ◌<◌, Bool, true, false, List, [], ◌∷◌, length, Option, Some, None, refl, arith, sym, ap, ◌∙◌, inl, inr, subst}
+use Rattle.std.proofs.Common.{◌≡◌, ℕ, zero, suc, Bool, true, false, List, [], ◌∷◌, Option, Some, None, refl, arith, sym, ap, ◌∙◌, inl, inr, subst}
 use Rattle.std.specs.Prelude.{◌&&◌, not, option_map, slice_get}
 use Rattle.std.specs.Option.{option_map_or, option_and_then}
 use Rattle.std.specs.List.{find}
 use Rattle.std.specs.Str.{bytes_eq}
-use Rattle.std.proofs.lemmas.Bool.{and_parts, and_from, cases_lt, ltb-true, true≢false}
+use Rattle.std.proofs.lemmas.Bool.{and_parts, and_from, ltb-true, true≢false}
 use Rattle.std.proofs.lemmas.Option.{slice_get_cases}
 use Rattle.std.proofs.lemmas.Slice.Eq.{bytes_eq-Decides}
 use Rattle.list_laws.proofs.Keys.{place_by_key}
 use Rattle.list_laws.proofs.Tests.{find_from, find_parts}
-use Rattle.list_laws.proofs.Items.{slice_get_in_front, slice_get-there}
-use Rattle.list_laws.proofs.Members.{IsIn-filter_parts, IsIn-filter}
 use Rattle.net_base.specs.declared.net.Site.{Site}
 use Rattle.net_base.specs.Network.{PlainNet, IsNet, sites, site_of, is_named, is_peer, is_router, linked}
 use Rattle.path_words.specs.Policies.{PlainPolicy}
-use Rattle.net_base.specs.Locations.{numbers_below, in_order, neighbours}
+use Rattle.net_base.specs.Locations.{neighbours}
 use Rattle.config_base.specs.declared.config.RouterConfig.{RouterConfig}
 use Rattle.config_base.specs.declared.config.Session.{Session}
 use Rattle.config_base.specs.Configs.{PlainConfig}
 use Rattle.config_base.specs.Lines.{router_at, block_at}
 use Rattle.evidence_base.specs.Made.{PlainCaseEvidence, IsBlock, AreBlocks, IsRouterBlock, IsConfigOf}
-use Rattle.regret_law.proofs.Sites.{linked_known}
+use Rattle.net_base.proofs.Neighbours.{neighbour_linked, linked_neighbour}
 
 -- ---- names
 
@@ -51,24 +49,6 @@ one_name net k l name rules h g =
     let b = site-by net l name g in
     let same : a.0.name ≡ b.0.name = a.2 ∙ sym b.2 in
     place_by_key bytes_eq (λ (s : Site). s.name) (sites net) k l a.0 b.0 rules.names a.1 b.1 ((bytes_eq-Decides a.0.name b.0.name).1 same) ((bytes_eq-Decides b.0.name a.0.name).1 (sym same))
-
--- ---- neighbours
-
-below_at : (n i : ℕ) → i < n → (j : ℕ) × (slice_get (numbers_below n) j ≡ Some i)
-below_at zero i less = absurd (omega (arith, less))
-below_at (suc n) i less = elim (cases_lt i n) [
-  | inl t ↦ let early = below_at n i t in (early.0, slice_get_in_front (numbers_below n) (n ∷ []) early.0 i early.1)
-  | inr t ↦ let last : n ≡ i = omega (arith, t, less) in (length (numbers_below n), slice_get-there (numbers_below n) n [] ∙ ap Some last)
-]
-
-pub neighbour_linked : (net : PlainNet) (x i z : ℕ) → slice_get (neighbours net x) i ≡ Some z → linked net x z ≡ true
-neighbour_linked net x i z h = (IsIn-filter_parts (linked net x) (in_order net) z (i, h)).1
-
-pub linked_neighbour : (net : PlainNet) (x z : ℕ) → IsNet net → linked net x z ≡ true → (i : ℕ) × (slice_get (neighbours net x) i ≡ Some z)
-linked_neighbour net x z rules h =
-    let known = (linked_known net x z rules h).1 in
-    let at = below_at (length net.routers + length net.peers) z (ltb-true _ _ known) in
-    IsIn-filter (linked net x) (in_order net) z (at.0, at.1) h
 
 -- ---- the block of a neighbour among the blocks
 

@@ -22,16 +22,17 @@ use Rattle.list_laws.specs.Members.{IsIn}
 use Rattle.list_laws.proofs.Tests.{find_from, find_parts, list_any_parts}
 use Rattle.list_laws.proofs.Options.{is_some_parts, option_and_then_parts, option_map_parts}
 use Rattle.regret_law.proofs.Setting.{network_of, graph_of, lines_of, pair_of, tag_of, gift_of}
-use Rattle.regret_law.proofs.Surviving.{linked_flips}
+use Rattle.net_base.proofs.Links.{linked_flips, linked_known}
 use Rattle.net_base.proofs.RoutersAndPeers.{router_no_peer}
-use Rattle.regret_law.proofs.GraphSteps.{step_nodes, start_at-is, step_at-is, start_at-of, step_at-of}
-use Rattle.regret_law.proofs.GraphForms.{heard_at_peers, linked_parts, well_formed}
+use Rattle.regret_law.proofs.GraphForms.{well_formed}
 use Rattle.regret_law.proofs.GraphRanks.{peer_of}
-use Rattle.regret_law.proofs.Sites.{linked_known}
 use Rattle.regret_law.proofs.Blocks.{router_found, block_found, block_only}
-use Rattle.regret_law.proofs.Spelled.{tag_is, tag_same, exports_tag, imports_tag, names_prefix, is_exported, was_exported, gift, import_some, imported_by, own_by}
+use Rattle.regret_law.proofs.Spelled.{exports_tag, imports_tag, names_prefix, is_exported, was_exported, gift, import_some, imported_by, own_by}
 use Rattle.routing_law.specs.Spells as law
 use Rattle.routing_law.specs.Lines as line
+use Rattle.graph_base.proofs.StartsAndSteps.{step_nodes, start_at-is, step_at-is}
+use Rattle.graph_base.proofs.WellFormed.{heard_at_peers, linked_parts, start_at-of, step_at-of}
+use Rattle.config_base.proofs.SameTags.{same_tag-is, is-same_tag}
 
 module _ (net : PlainNet) (policy : PlainPolicy) (cs : List PlainCaseEvidence) (config : PlainConfig) (p : PlainPrefix) (rules : IsNet net) (made : IsConfigOf net policy cs config) (tags : AreTags net cs)
     (k : ℕ) (c : PlainCaseEvidence) (of_case : slice_get cs k ≡ Some c) (of_class : class_of config p ≡ Some (suc k)) (graph_rules : IsGraph c.graph)
@@ -72,7 +73,7 @@ module _ (net : PlainNet) (policy : PlainPolicy) (cs : List PlainCaseEvidence) (
       let e : Export = record { class = suc k; tag = tag_at c n } in
       let line : IsExportTo net cs u v e = record { case = c; node = n; next = m; step = step.1; heard = λ peer. heard_at_peers net origin external c.graph graph_rules formed n m step.1.step (ap (is_peer net) step.1.to ∙ peer); tag = refl } in
       let there = (b.2.exports e).1 line in
-      let test = and_from (suc k == suc k) (same_tag (tag_at c n) (tag_at c n)) (eq-eqb (suc k) (suc k) refl) (tag_same (tag_at c n) (tag_at c n) refl) in
+      let test = and_from (suc k == suc k) (same_tag (tag_at c n) (tag_at c n)) (eq-eqb (suc k) (suc k) refl) (is-same_tag (tag_at c n) (tag_at c n) refl) in
       is_exported net config (suc k) u v b.0 b.1 (tag_at c n) (any_passes_from_place (exports_tag (suc k) (tag_at c n)) b.0.exports there.0 e there.1 test)
 
   pub exports_only : (u v : ℕ) (t : line.Tag) → is_router net u ≡ true → (lines_of net config p (suc k)).exported u v t ≡ true → (n m : ℕ) × Over u v n m × (pair_of (tag_at c n) ≡ t)
@@ -85,7 +86,7 @@ module _ (net : PlainNet) (policy : PlainPolicy) (cs : List PlainCaseEvidence) (
       let line = (block.1.exports e.1).0 (e.0, e.2) in
       let class = eqb-true e.1.class (suc k) parts.0 in
       let is = of_this e.1.class u v line.node line.next line.case class line.step in
-      let same : tag_at c line.node ≡ tag_of t = sym (line.tag ∙ ap (λ (d : PlainCaseEvidence). tag_at d line.node) is) ∙ tag_is e.1.tag (tag_of t) parts.1 in
+      let same : tag_at c line.node ≡ tag_of t = sym (line.tag ∙ ap (λ (d : PlainCaseEvidence). tag_at d line.node) is) ∙ same_tag-is e.1.tag (tag_of t) parts.1 in
       (line.node, line.next, over_of e.1.class u v line.node line.next line.case class line.step, ap pair_of same)
 
   -- ---- imports
@@ -122,7 +123,7 @@ module _ (net : PlainNet) (policy : PlainPolicy) (cs : List PlainCaseEvidence) (
   tag_tells : (u v n m a l : ℕ) → is_router net u ≡ true → Over u v n m → Over u v a l → same_tag (tag_at c a) (tag_at c n) ≡ true → a ≡ n
   tag_tells u v n m a l router one other same =
       let off : is_peer net (place_of c.graph a) ≡ false = ap (is_peer net) other.place ∙ router_no_peer net u router in
-      (tags.differ k k a n c c of_case of_case other.node one.node off (other.place ∙ sym one.place) (tag_is (tag_at c a) (tag_at c n) same)).1
+      (tags.differ k k a n c c of_case of_case other.node one.node off (other.place ∙ sym one.place) (same_tag-is (tag_at c a) (tag_at c n) same)).1
 
   -- there is one start at a peer
   peer_tells : (u v n m a l : ℕ) → is_router net u ≡ false → Over u v n m → Over u v a l → a ≡ n
@@ -146,7 +147,7 @@ module _ (net : PlainNet) (policy : PlainPolicy) (cs : List PlainCaseEvidence) (
 
   tagged : (b : Bool) (t v : Tag) → (b || same_tag (if b then v else t) t) ≡ true
   tagged true t v = refl
-  tagged false t v = tag_same t t refl
+  tagged false t v = is-same_tag t t refl
 
   next_same : (n a v m l : ℕ) → a ≡ n → step_at c.graph n v ≡ Some m → step_at c.graph a v ≡ Some l → l ≡ m
   next_same n a v m l same here there = one_next n v m l here (ap (λ x. step_at c.graph x v) (sym same) ∙ there)
@@ -223,7 +224,7 @@ module _ (net : PlainNet) (policy : PlainPolicy) (cs : List PlainCaseEvidence) (
         let q' = option_map_parts gift_of (import_of net config (suc k) v u [] (tag_of t)) q h in
         let by = import_only u v (tag_of t) q'.0 to q'.1 in
         let same = untagged (is_peer net u) (tag_at c by.0) (tag_of t) no_tag (router_no_peer net u from) by.3 in
-        (by.0, by.1, by.2, ap pair_of (tag_is (tag_at c by.0) (tag_of t) same), sym q'.2 ∙ ap gift_of by.4);
+        (by.0, by.1, by.2, ap pair_of (same_tag-is (tag_at c by.0) (tag_of t) same), sym q'.2 ∙ ap gift_of by.4);
     peers = λ u v n m off to over. peers u v n m off to (peer_at u v n m off over) over;
     peers_only = λ u v q off to h.
         let q' = option_map_parts gift_of (import_of net config (suc k) v u [] no_tag) q h in

@@ -1,35 +1,29 @@
 -- A well-formed graph, its rules and its runs, as the laws of routing see them.
 use Rattle.std.proofs.Common.{◌≡◌, ℕ, ◌<◌, Bool, true, false, List, [], ◌∷◌, length, Some, refl, sym, ap, ◌∙◌, inl, inr, subst}
-use Rattle.std.specs.Prelude.{◌&&◌, not}
+use Rattle.std.specs.Prelude.{not}
 use Rattle.std.specs.Option.{option_and_then}
-use Rattle.std.proofs.lemmas.Bool.{and_parts, and_from, and_left, or_left, or_right, or_cases, not-true, true≢false, cases_Bool, not_from_false, ltb-true}
+use Rattle.std.proofs.lemmas.Bool.{and_parts, and_from, and_left, or_left, or_right, or_cases, true≢false, cases_Bool, not_from_false, ltb-true}
 use Rattle.list_laws.proofs.Options.{option_and_then_parts}
-use Rattle.net_base.specs.Network.{PlainNet, IsNet, is_peer, is_router, is_location, linked}
+use Rattle.net_base.specs.Network.{PlainNet, IsNet, is_router, is_location, linked}
 use Rattle.graph_base.specs.Graphs.{PlainGraph, IsGraph}
-use Rattle.graph_base.specs.Runs.{place_of, is_start, has_step, is_listener, start_at, step_at, IsTrail, Reaches}
+use Rattle.graph_base.specs.Runs.{place_of, is_start, has_step, is_listener, step_at, Reaches}
 use Rattle.graph_base.specs.Runs as plain
 use Rattle.graph_base.specs.Rules.{IsWellFormed, IsOver, MeetsRules}
 use Rattle.regret_law.proofs.Setting.{network_of, graph_of}
-use Rattle.regret_law.proofs.Sites.{linked_known}
 use Rattle.net_base.proofs.RoutersAndPeers.{router_no_peer}
-use Rattle.regret_law.proofs.GraphSteps.{start_node, step_nodes, start_at-is, step_at-is, start_at-of, step_at-of}
 use Rattle.routing_law.specs.Graph as law
+use Rattle.net_base.proofs.Links.{linked_known}
+use Rattle.graph_base.proofs.StartsAndSteps.{start_node, step_nodes, start_at-is, step_at-is}
+use Rattle.graph_base.proofs.WellFormed.{linked_parts, start_at-of, step_at-of}
 
 pub same_run : (g : PlainGraph) (number : ℕ → ℕ) (path : List ℕ) → law.run (graph_of g number) path ≡ plain.run g path
 same_run g number [] = refl
 same_run g number (l ∷ []) = refl
 same_run g number (l ∷ k ∷ ls) = ap (option_and_then (λ n. step_at g n l)) (same_run g number (k ∷ ls))
 
-pub linked_parts : (net : PlainNet) (g : PlainGraph) (m n : ℕ) → (linked net (place_of g m) (place_of g n) && not (is_start g n)) ≡ true
-    → (linked net (place_of g m) (place_of g n) ≡ true) × (is_start g n ≡ false)
-linked_parts net g m n h = let parts = and_parts (linked net (place_of g m) (place_of g n)) (not (is_start g n)) h in (parts.0, not-true _ parts.1)
-
--- a step into a peer is one to a node that hears
-pub heard_at_peers : (net : PlainNet) (origin : ℕ → Bool) (external : Bool) (g : PlainGraph) → IsGraph g → IsWellFormed net origin external g → (m n : ℕ) → has_step g m n ≡ true → is_peer net (place_of g n) ≡ true
-    → is_listener g n ≡ true
-heard_at_peers net origin external g rules formed m n step peer =
-    let no_start = (linked_parts net g m n (formed.links m n step)).1 in
-    formed.listeners n (step_nodes g m n rules step).1 ∙ and_from (is_peer net (place_of g n)) (not (is_start g n)) peer (ap not no_start)
+-- a node of at least the number of another at its router is over it
+pub over : (net : PlainNet) (g : PlainGraph) (number : ℕ → ℕ) (m n : ℕ) → is_router net (place_of g n) ≡ true → law.AtLeast (graph_of g number) m n → IsOver net g number m n
+over net g number m n router a = record { better = a.known; worse = a.other; place = a.place; router = router; numbers = a.number }
 
 module _ (net : PlainNet) (origin : ℕ → Bool) (external : Bool) (g : PlainGraph) (number : ℕ → ℕ) (net_rules : IsNet net) (graph_rules : IsGraph g)
     (known : (l : ℕ) → origin l ≡ true → is_location net l ≡ true) (formed : IsWellFormed net origin external g) where
@@ -77,9 +71,6 @@ module _ (net : PlainNet) (origin : ℕ → Bool) (external : Bool) (g : PlainGr
   deaf : (n : ℕ) → n < length g.nodes → is_router net (place_of g n) ≡ true → not (is_listener g n) ≡ true
   deaf n node router = not_from_false _ (formed.listeners n node ∙ and_left _ _ (router_no_peer net (place_of g n) router))
 
-  over : (m n : ℕ) → is_router net (place_of g n) ≡ true → law.AtLeast (graph_of g number) m n → IsOver net g number m n
-  over m n router a = record { better = a.known; worse = a.other; place = a.place; router = router; numbers = a.number }
-
   -- steps that follow one another
   pub trail : (k m : ℕ) (zs : List ℕ) → law.follow (graph_of g number) k zs ≡ Some m → Reaches g k m
   trail k m [] h = ([], cc)
@@ -95,7 +86,7 @@ module _ (net : PlainNet) (origin : ℕ → Bool) (external : Bool) (g : PlainGr
         let nodes = step_nodes g n n' graph_rules s.0 in
         let here : is_router net (place_of g n') ≡ true = ap (is_router net) s.1 ∙ at in
         let on = and_from (has_step g n n') (not (is_listener g n')) s.0 (deaf n' nodes.1 here) in
-        let found = rules.step m n n' (over m n router a) on in
+        let found = rules.step m n n' (over net g number m n router a) on in
         let parts = and_parts (has_step g m found.0) (not (is_listener g found.0)) found.1 in
         let there : step_at g m z ≡ Some found.0 = ap (step_at g m) (sym (found.2 ∙ s.1)) ∙ step_at-of net origin external g formed m found.0 parts.0 in
         (found.0, there, found.3);
@@ -104,5 +95,5 @@ module _ (net : PlainNet) (origin : ℕ → Bool) (external : Bool) (g : PlainGr
         let nodes = step_nodes g n n' graph_rules s.0 in
         let here : is_router net (place_of g n') ≡ true = ap (is_router net) s.1 ∙ at in
         let on = and_from (has_step g n n') (not (is_listener g n')) s.0 (deaf n' nodes.1 here) in
-        rules.loop m n n' k (over m n router a) on node (place ∙ sym s.1) (trail k m reach.0 reach.1);
+        rules.loop m n n' k (over net g number m n router a) on node (place ∙ sym s.1) (trail k m reach.0 reach.1);
   }

@@ -11,15 +11,17 @@ use Rattle.path_words.specs.Meaning.{rank_of, at_first}
 use Rattle.path_words.specs.Permitted.{from_holds}
 use Rattle.graph_base.specs.Graphs.{PlainGraph, IsGraph}
 use Rattle.graph_base.specs.Runs.{place_of, is_start, has_step, is_listener, rank_at, step_at, run}
-use Rattle.graph_base.specs.Rules.{IsOver, MeetsRules}
+use Rattle.graph_base.specs.Rules.{MeetsRules}
 use Rattle.regret_law.specs.Faithful.{IsFaithful, is_walk_to, is_origin_alone, may_start, permits}
 use Rattle.regret_law.specs.Passes.{IsClaimed}
 use Rattle.regret_law.proofs.Setting.{network_of, graph_of}
-use Rattle.regret_law.proofs.Sites.{linked_known}
-use Rattle.regret_law.proofs.GraphSteps.{step_nodes, start_at-is, step_at-is, step_at-of}
-use Rattle.regret_law.proofs.GraphForms.{same_run, linked_parts}
-use Rattle.regret_law.proofs.RunWalks.{run_begins, run_walk}
+use Rattle.regret_law.proofs.GraphForms.{same_run, over}
+use Rattle.regret_law.proofs.RunWalks.{run_walk}
 use Rattle.routing_law.specs.Graph as law
+use Rattle.net_base.proofs.Links.{linked_known}
+use Rattle.graph_base.proofs.StartsAndSteps.{step_nodes, start_at-is, step_at-is}
+use Rattle.graph_base.proofs.WellFormed.{linked_parts, step_at-of}
+use Rattle.graph_base.proofs.RunSteps.{run_begins}
 
 -- the ranks of permitted walks, those of nodes, and where walks may start
 abbrev pub ranks_of : PlainNet → PlainStatement → (ℕ → Bool) → PlainGraph → law.Ranks
@@ -47,12 +49,12 @@ module _ (net : PlainNet) (s : PlainStatement) (c : Case) (g : PlainGraph) (numb
       → (rank_at g n ≡ rank_of net s.ranked (v ∷ rest)) × ((is_walk_to net Origin (v ∷ rest) && from_holds s.from v) ≡ true)
   rank_of_run v n [] may h =
       let parts = and_parts (from_holds s.from v) (not (Origin v)) may in
-      let at = run_begins net Origin c.external g graph_rules faithful.formed v n [] h in
+      let at = run_begins g v n [] h in
       let is = start_at-is g v n h in
       let here : Origin v ≡ true = subst (λ l. Origin l ≡ true) is.1 (faithful.formed.starts n is.0) in
       absurd (true≢false (sym here ∙ not-true (Origin v) parts.1))
   rank_of_run v n (k ∷ ls) may h =
-      let at = run_begins net Origin c.external g graph_rules faithful.formed v n (k ∷ ls) h in
+      let at = run_begins g v n (k ∷ ls) h in
       let there : may_start Origin s (place_of g n) ≡ true = ap (may_start Origin s) at ∙ may in
       let parts = and_parts (from_holds s.from v) (not (Origin v)) may in
       (faithful.ranks (v ∷ k ∷ ls) n h there, and_from (is_walk_to net Origin (v ∷ k ∷ ls)) (from_holds s.from v) (run_walk net Origin c.external g graph_rules faithful.formed v k n ls h) parts.0)
@@ -65,13 +67,10 @@ module _ (net : PlainNet) (s : PlainStatement) (c : Case) (g : PlainGraph) (numb
       go : (path : List ℕ) → run g path ≡ Some n → (rest : List ℕ) × (permits net Origin s (place_of g n ∷ rest) ≡ true)
       go [] h = absurd (cc)
       go (l ∷ ls) h =
-          let at = run_begins net Origin c.external g graph_rules faithful.formed l n ls h in
+          let at = run_begins g l n ls h in
           let there : run g (place_of g n ∷ ls) ≡ Some n = ap (λ z. run g (z ∷ ls)) at ∙ h in
           let r = rank_of_run (place_of g n) n ls may there in
           (ls, and_from (is_walk_to net Origin (place_of g n ∷ ls) && from_holds s.from (place_of g n)) (is_some (rank_of net s.ranked (place_of g n ∷ ls))) r.1 (is_some_from _ i (sym r.0 ∙ ranked)))
-
-  over : (m n : ℕ) → is_router net (place_of g n) ≡ true → law.AtLeast (graph_of g number) m n → IsOver net g number m n
-  over m n router a = record { better = a.known; worse = a.other; place = a.place; router = router; numbers = a.number }
 
   pub meets_ranks : MeetsRules net (IsClaimed net s c) c.external g number → law.MeetsRanks (network_of net Origin) (graph_of g number) (ranks_of net s Origin g)
   meets_ranks rules = record {
@@ -86,7 +85,7 @@ module _ (net : PlainNet) (s : PlainStatement) (c : Case) (g : PlainGraph) (numb
         r.0 ∙ sym (if_some (is_walk_to net Origin (v ∷ rest) && from_holds s.from v) (rank_of net s.ranked (v ∷ rest)) r.1);
     ranks = λ m n i router may a ranked.
         let walk = ranked_walk n i a.other may ranked in
-        rules.rank m n i (over m n router a) (record { at_router = router; may = may; starts = walk }) ranked;
+        rules.rank m n i (over net g number m n router a) (record { at_router = router; may = may; starts = walk }) ranked;
     listeners = λ m n p l i router a off h ranked.
         let is = step_at-is g n p l h in
         let link = linked_parts net g n l (faithful.formed.links n l is.0) in
@@ -95,7 +94,7 @@ module _ (net : PlainNet) (s : PlainStatement) (c : Case) (g : PlainGraph) (numb
         let nodes = step_nodes g n l graph_rules is.0 in
         let external = faithful.formed.into n l (and_from (has_step g n l) (is_peer net (place_of g l)) is.0 peer) in
         let hears : is_listener g l ≡ true = faithful.formed.listeners l nodes.1 ∙ and_from (is_peer net (place_of g l)) (not (is_start g l)) peer (ap not link.1) in
-        let found = rules.listener m n l i external (over m n router a) (and_from (has_step g n l) (is_listener g l) is.0 hears) ranked in
+        let found = rules.listener m n l i external (over net g number m n router a) (and_from (has_step g n l) (is_listener g l) is.0 hears) ranked in
         let parts = and_parts (has_step g m found.0) (is_listener g found.0) found.2 in
         let there : step_at g m p ≡ Some found.0 = ap (step_at g m) (sym (found.3 ∙ is.1)) ∙ step_at-of net Origin c.external g faithful.formed m found.0 parts.0 in
         (found.0, found.1, there, found.4, found.5);

@@ -1,6 +1,6 @@
 -- What a neighbour gives by the lines of a class is what the laws of routing say that it gives.
 use Rattle.std.proofs.Common.{◌≡◌, ℕ, Bool, true, false, List, [], ◌∷◌, Option, Some, None, refl, sym, ap, ◌∙◌, inl, inr}
-use Rattle.std.specs.Prelude.{◌&&◌, not, if◌then◌else◌, option_map}
+use Rattle.std.specs.Prelude.{not, if◌then◌else◌, option_map}
 use Rattle.std.specs.Option.{option_and_then}
 use Rattle.std.proofs.lemmas.Bool.{and_parts, cases_Bool, true≢false}
 use Rattle.list_laws.proofs.Options.{cases_Option}
@@ -16,10 +16,10 @@ use Rattle.config_base.specs.Configs.{PlainConfig}
 use Rattle.config_base.specs.Lines.{class_of, block_at, import_of, export_of}
 use Rattle.outcome_base.specs.Outcomes.{Failures, Outcome, is_dead, is_silent, is_live, route_at, sent, given}
 use Rattle.regret_law.proofs.Setting.{network_of, alive_of, lines_of, lines_at, line_of, gift_of}
-use Rattle.regret_law.proofs.Sites.{linked_known}
 use Rattle.regret_law.proofs.Loops.{import_from_router, import_from_peer}
 use Rattle.routing_law.specs.Network as law
 use Rattle.routing_law.specs.Lines as line
+use Rattle.net_base.proofs.Links.{linked_known}
 
 -- ---- what a line takes
 

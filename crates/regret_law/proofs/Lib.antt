@@ -1,10 +1,8 @@
 pub mod Setting
-pub mod Sites
 pub mod Loops
 pub mod Heard
 pub mod Stability
 pub mod Surviving
-pub mod GraphSteps
 pub mod GraphForms
 pub mod FaithfulParts
 pub mod RunWalks
@@ -21,3 +19,4 @@ pub mod CaseOfClass
 pub mod RightLaw
 pub mod Existence
 pub mod ExistenceLaw
+pub mod PermittedWalks

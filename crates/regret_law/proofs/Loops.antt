@@ -8,7 +8,7 @@ use Rattle.net_base.specs.declared.numbers.Tag.{Tag}
 use Rattle.net_base.specs.Network.{PlainNet, IsNet, asn_of, is_location, is_peer}
 use Rattle.config_base.specs.Configs.{PlainConfig}
 use Rattle.config_base.specs.Lines.{as_path, import_of}
-use Rattle.regret_law.proofs.Sites.{asn_tells, no_router_has}
+use Rattle.net_base.proofs.Sites.{asn_tells, no_router_has}
 use Rattle.routing_law.specs.Network.{stands_on}
 
 number_is_place : (net : PlainNet) (v l : ℕ) → IsNet net → is_location net v ≡ true → (asn_of net l == asn_of net v) ≡ (l == v)

@@ -20,7 +20,7 @@ use Rattle.outcome_base.specs.Right.{IsGood, IsBest, NoneSurvives, IsRightBy}
 use Rattle.regret_law.specs.Faithful.{may_start, permits}
 use Rattle.regret_law.specs.Passes.{IsClaimed}
 use Rattle.regret_law.proofs.Setting.{alive_of, lines_of, lines_at, line_of, setup_of, pairs_of}
-use Rattle.regret_law.proofs.SoundCase.{IsCaseAt, as_lines, as_written, here, not_origin, good, claimed_here, route_line, route_good, transit_router, offer_line, offer_good, walk_parts, permits_parts}
+use Rattle.regret_law.proofs.SoundCase.{IsCaseAt, as_lines, as_written, here, not_origin, good, claimed_here, route_line, route_good, transit_router, offer_line, offer_good}
 use Rattle.net_base.proofs.RoutersAndPeers.{peer_no_router}
 use Rattle.regret_law.proofs.Surviving.{alive-survives}
 use Rattle.regret_law.proofs.GraphForms.{meets_rules}
@@ -29,6 +29,8 @@ use Rattle.routing_law.specs.Network as law
 use Rattle.routing_law.specs.Lines as line
 use Rattle.routing_law.specs.Laws as laws
 use Rattle.routing_law.proofs.Used.{lines_are_right}
+use Rattle.path_words.proofs.WalkParts.{walk_parts}
+use Rattle.regret_law.proofs.PermittedWalks.{permits_parts}
 
 module _ {net : PlainNet} {policy : PlainPolicy} {config : PlainConfig} {f : Failures} {p : PlainPrefix} {outcome : Outcome} {s : PlainStatement} {cs : List PlainCaseEvidence} {k : ℕ} {c : PlainCaseEvidence} (inst : IsCaseAt net policy config f p outcome s cs k c) (numbers : MeetsRules net (IsClaimed net s c.case) c.case.external c.graph (number_at c)) where
   abbrev Origin : ℕ → Bool

@@ -28,8 +28,9 @@ use Rattle.evidence_base.specs.Made.{number_at}
 use Rattle.net_base.proofs.RoutersAndPeers.{router_no_peer}
 use Rattle.regret_law.proofs.ClassFound.{class_in}
 use Rattle.regret_law.proofs.CaseOfClass.{IsCaseOf, governed_case, ungoverned_class}
-use Rattle.regret_law.proofs.SoundCase.{IsCaseAt, sound_case, permits_parts}
+use Rattle.regret_law.proofs.SoundCase.{IsCaseAt, sound_case}
 use Rattle.regret_law.proofs.RightCase.{right_case}
+use Rattle.regret_law.proofs.PermittedWalks.{permits_parts}
 
 pub no_value : {A : Type 0} (o : Option A) (x : A) → o ≡ None → o ≡ Some x → ⊥
 no_value o x none some = let clash : None ≡ Some x = sym none ∙ some in absurd cc

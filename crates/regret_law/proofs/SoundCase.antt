@@ -1,24 +1,23 @@
 -- An outcome for a prefix of a case, of a configuration that is made of graphs: whatever the numbers are, paths are allowed.
-use Rattle.std.proofs.Common.{◌≡◌, ℕ, suc, ◌<◌, Bool, true, false, List, [], ◌∷◌, ◌++◌, length, Some, None, refl, sym, ap, ◌∙◌, inl, inr, subst}
-use Rattle.std.specs.Prelude.{◌&&◌, not, is_some, option_map, slice_get, drop, nat_le, ◌==◌}
+use Rattle.std.proofs.Common.{◌≡◌, ℕ, suc, Bool, true, false, List, [], ◌∷◌, ◌++◌, Some, None, refl, sym, ap, ◌∙◌, inl, inr, subst}
+use Rattle.std.specs.Prelude.{◌&&◌, not, is_some, option_map, slice_get, ◌==◌}
 use Rattle.std.specs.List.{list_any}
 use Rattle.std.proofs.lemmas.Bool.{and_parts, and_from, cases_Bool, not-true, not_from_false, true≢false}
 use Rattle.net_base.specs.Network.{PlainNet, IsNet, is_location, is_peer, is_router}
 use Rattle.net_base.specs.Sets.{holds}
 use Rattle.net_base.specs.Prefixes.{PlainPrefix}
 use Rattle.path_words.specs.Policies.{PlainPolicy, PlainStatement}
-use Rattle.path_words.specs.Meaning.{rank_of, at_first, front}
-use Rattle.path_words.specs.Walks.{is_walk, is_loop_free, steps_linked}
+use Rattle.path_words.specs.Meaning.{rank_of}
+use Rattle.path_words.specs.Walks.{is_walk, is_loop_free}
 use Rattle.path_words.specs.Governing.{is_origin}
-use Rattle.path_words.specs.Permitted.{from_holds, ends_at_origin, is_permitted, is_allowed, IsClaimedRouter}
+use Rattle.path_words.specs.Permitted.{from_holds, is_permitted, is_allowed, IsClaimedRouter}
 use Rattle.path_words.proofs.Peers.{peer_inside}
-use Rattle.graph_base.specs.Runs.{run, step_at}
+use Rattle.graph_base.specs.Runs.{run}
 use Rattle.config_base.specs.declared.route.Route.{Route}
 use Rattle.config_base.specs.Configs.{PlainConfig}
 use Rattle.config_base.specs.Lines.{class_of}
 use Rattle.evidence_base.specs.Made.{PlainCaseEvidence, IsConfigOf, AreTags, number_at}
 use Rattle.list_laws.specs.Members.{IsIn}
-use Rattle.list_laws.proofs.Options.{option_and_then_parts}
 use Rattle.outcome_base.specs.Outcomes.{Failures, Outcome, is_dead, is_live, survives, route_at, offered, IsStable}
 use Rattle.outcome_base.specs.Right.{IsGood}
 use Rattle.regret_law.specs.Faithful.{is_walk_to, may_start, permits}
@@ -27,36 +26,22 @@ use Rattle.regret_law.specs.Passes.{IsClaimed, IsCaseGraph}
 use Rattle.regret_law.proofs.Setting.{network_of, alive_of, graph_of, lines_of, lines_at, line_of, setup_of, pairs_of}
 use Rattle.regret_law.proofs.Stability.{stable_lines, offered_lines}
 use Rattle.regret_law.proofs.Surviving.{survives-alive}
-use Rattle.regret_law.proofs.GraphSteps.{start_node, step_nodes, start_at-is, step_at-is}
 use Rattle.regret_law.proofs.GraphForms.{same_run}
 use Rattle.regret_law.proofs.GraphRanks.{rank_of_run}
-use Rattle.regret_law.proofs.RunWalks.{run_begins, run_path}
+use Rattle.regret_law.proofs.RunWalks.{runs_are_walks}
 use Rattle.regret_law.proofs.ClassLines.{written}
 use Rattle.routing_law.specs.Network as law
 use Rattle.routing_law.specs.Lines as line
 use Rattle.routing_law.specs.Spells as spelled
 use Rattle.routing_law.specs.Laws as laws
 use Rattle.routing_law.proofs.Used.{used_paths_are_sound}
+use Rattle.graph_base.proofs.RunSteps.{run_begins, run_inside}
+use Rattle.path_words.proofs.WalkParts.{walk_parts}
+use Rattle.regret_law.proofs.PermittedWalks.{permits_parts}
 
 same_free : (path : List ℕ) → law.loop_free path ≡ is_loop_free path
 same_free [] = refl
 same_free (l ∷ ls) = ap (λ b. not (list_any (λ k. k == l) ls) && b) (same_free ls)
-
--- the parts of a walk
-pub walk_parts : (net : PlainNet) (path : List ℕ) → is_walk net path ≡ true → (steps_linked net path ≡ true) × (list_any (is_peer net) (front (drop 1 path)) ≡ false)
-walk_parts net path h =
-    let last = and_parts (nat_le 2 (length path) && steps_linked net path) (not (list_any (is_peer net) (front (drop 1 path)))) h in
-    let first = and_parts (nat_le 2 (length path)) (steps_linked net path) last.0 in
-    (first.1, not-true _ last.1)
-
--- the parts of a walk that is permitted
-pub permits_parts : (net : PlainNet) (origin : ℕ → Bool) (s : PlainStatement) (path : List ℕ) → permits net origin s path ≡ true
-    → (is_walk net path ≡ true) × (ends_at_origin origin path ≡ true) × (at_first (from_holds s.from) path ≡ true) × (is_some (rank_of net s.ranked path) ≡ true)
-permits_parts net origin s path h =
-    let first = and_parts (is_walk_to net origin path && at_first (from_holds s.from) path) (is_some (rank_of net s.ranked path)) h in
-    let second = and_parts (is_walk_to net origin path) (at_first (from_holds s.from) path) first.0 in
-    let third = and_parts (is_walk net path) (ends_at_origin origin path) second.0 in
-    (third.0, third.1, second.1, first.1)
 
 -- a prefix of a case, with a stable outcome for it
 pub record IsCaseAt (net : PlainNet) (policy : PlainPolicy) (config : PlainConfig) (f : Failures) (p : PlainPrefix) (outcome : Outcome) (s : PlainStatement) (cs : List PlainCaseEvidence) (k : ℕ) (c : PlainCaseEvidence) : Type 0 where
@@ -101,13 +86,6 @@ module _ {net : PlainNet} {policy : PlainPolicy} {config : PlainConfig} {f : Fai
 
   -- ---- the run of a route or an offer
 
-  run_node : (path : List ℕ) (n : ℕ) → run c.graph path ≡ Some n → n < length c.graph.nodes
-  run_node [] n h = absurd (cc)
-  run_node (l ∷ []) n h = start_node c.graph n inst.on.graph (start_at-is c.graph l n h).0
-  run_node (l ∷ j ∷ ls) n h =
-      let last = option_and_then_parts (λ m. step_at c.graph m l) (run c.graph (j ∷ ls)) n h in
-      (step_nodes c.graph last.0 n inst.on.graph (step_at-is c.graph last.0 l n last.2).0).1
-
   pub claimed_here : (r : ℕ) → IsClaimedRouter net policy p s r → (may_start Origin s r ≡ true) × IsClaimed net s c.case r
   claimed_here r claimed =
       let may = and_from (from_holds s.from r) (not (Origin r)) claimed.from (not_from_false _ (not_origin r claimed.no_origin)) in
@@ -117,8 +95,8 @@ module _ {net : PlainNet} {policy : PlainPolicy} {config : PlainConfig} {f : Fai
   claimed_permits : (r n : ℕ) (rest : List ℕ) → IsClaimedRouter net policy p s r → run c.graph (r ∷ rest) ≡ Some n → permits net Origin s (r ∷ rest) ≡ true
   claimed_permits r n rest claimed h =
       let mine = claimed_here r claimed in
-      let at = run_begins net Origin c.case.external c.graph inst.on.graph inst.on.faithful.formed r n rest h in
-      let ranked = inst.on.ranked n (run_node (r ∷ rest) n h) (subst (IsClaimed net s c.case) (sym at) mine.1) in
+      let at = run_begins c.graph r n rest h in
+      let ranked = inst.on.ranked n (run_inside c.graph inst.on.graph (r ∷ rest) n h) (subst (IsClaimed net s c.case) (sym at) mine.1) in
       let rank = rank_of_run net s c.case c.graph (number_at c) inst.rules inst.on.graph inst.on.faithful r n rest mine.0 h in
       and_from (is_walk_to net Origin (r ∷ rest) && from_holds s.from r) (is_some (rank_of net s.ranked (r ∷ rest))) rank.1 (ap is_some (sym rank.0) ∙ ranked)
 
@@ -140,7 +118,7 @@ module _ {net : PlainNet} {policy : PlainPolicy} {config : PlainConfig} {f : Fai
       let parts = and_parts (is_router net r) (not (is_origin net policy p r)) who in
       let x = used.routes r (line_of h) parts.0 (not_origin r parts.1) (route_line r h at) in
       let runs : run c.graph h.path ≡ Some x.node = sym (same_run c.graph (number_at c) h.path) ∙ x.runs in
-      let path = run_path net Origin c.case.external c.graph inst.on.graph inst.on.faithful.formed h.path x.node runs in
+      let path = runs_are_walks net Origin c.case.external c.graph inst.on.graph inst.on.faithful.formed h.path x.node runs in
       let above = inst.on.faithful.has_no_other h.path path (ap is_some runs) in
       (above.0, there (above.0 ++ h.path) above.1)
 
@@ -167,7 +145,7 @@ module _ {net : PlainNet} {policy : PlainPolicy} {config : PlainConfig} {f : Fai
 
   offer_permits : (peer u n : ℕ) (rest : List ℕ) → is_peer net peer ≡ true → run c.graph (peer ∷ u ∷ rest) ≡ Some n → permits net Origin s (peer ∷ u ∷ rest) ≡ true
   offer_permits peer u n rest at runs =
-      let path = run_path net Origin c.case.external c.graph inst.on.graph inst.on.faithful.formed (peer ∷ u ∷ rest) n runs in
+      let path = runs_are_walks net Origin c.case.external c.graph inst.on.graph inst.on.faithful.formed (peer ∷ u ∷ rest) n runs in
       let above = inst.on.faithful.has_no_other (peer ∷ u ∷ rest) path (ap is_some runs) in
       let none = nothing_above above.0 peer u rest at (permits_parts net Origin s (above.0 ++ peer ∷ u ∷ rest) above.1).0 in
       subst (λ (a : List ℕ). permits net Origin s (a ++ peer ∷ u ∷ rest) ≡ true) none above.1

@@ -2,7 +2,7 @@
 use Rattle.std.proofs.Common.{◌≡◌, ℕ, Bool, true, false, [], Option, Some, None, refl, sym, ap, ◌∙◌, inl, inr}
 use Rattle.std.specs.Prelude.{◌&&◌, ◌||◌, ◌==◌, is_some, if◌then◌else◌}
 use Rattle.std.specs.List.{find, list_any}
-use Rattle.std.proofs.lemmas.Bool.{and_parts, and_from, cases_Bool, eqb-true, eq-eqb, true≢false}
+use Rattle.std.proofs.lemmas.Bool.{cases_Bool, true≢false}
 use Rattle.list_laws.proofs.Options.{cases_Option}
 use Rattle.net_base.specs.declared.numbers.Tag.{Tag}
 use Rattle.net_base.specs.Network.{PlainNet, is_peer}
@@ -15,14 +15,6 @@ use Rattle.config_base.specs.declared.config.Export.{Export}
 use Rattle.config_base.specs.declared.config.Own.{Own}
 use Rattle.config_base.specs.Configs.{PlainConfig}
 use Rattle.config_base.specs.Lines.{class_of, same_tag, router_at, block_at, export_of, import_of, own_tag}
-
-pub tag_is : (t u : Tag) → same_tag t u ≡ true → t ≡ u
-tag_is t u h =
-    let parts = and_parts (t.asn == u.asn) (t.value == u.value) h in
-    λ i. record { asn = eqb-true t.asn u.asn parts.0 i; value = eqb-true t.value u.value parts.1 i }
-
-pub tag_same : (t u : Tag) → t ≡ u → same_tag t u ≡ true
-tag_same t u h = and_from (t.asn == u.asn) (t.value == u.value) (eq-eqb _ _ (ap (λ (x : Tag). x.asn) h)) (eq-eqb _ _ (ap (λ (x : Tag). x.value) h))
 
 when : (b : Bool) (o p : Option Tag) → (if b then o else None) ≡ p → is_some p ≡ true → b ≡ true
 when true o p h some = refl

@@ -1,23 +1,15 @@
 -- A walk survives by the failures exactly where it survives by what they leave alive.
-use Rattle.std.proofs.Common.{◌≡◌, ℕ, Bool, true, false, List, [], ◌∷◌, refl, ap, ap₂, ◌∙◌}
-use Rattle.std.specs.Prelude.{◌&&◌, ◌||◌, ◌==◌, not}
+use Rattle.std.proofs.Common.{◌≡◌, ℕ, Bool, true, false, List, [], ◌∷◌, refl, ap, ◌∙◌}
+use Rattle.std.specs.Prelude.{◌&&◌, not}
 use Rattle.std.specs.List.{list_any}
 use Rattle.std.proofs.lemmas.Bool.{and_parts, and_from, or_parts, not-true, not_from_false}
-use Rattle.std.proofs.Math.Bool.{or_comm}
-use Rattle.net_base.specs.Network.{PlainNet, is_peer, joins, linked}
+use Rattle.net_base.specs.Network.{PlainNet, is_peer, linked}
 use Rattle.path_words.specs.Meaning.{front}
 use Rattle.path_words.specs.Walks.{steps_linked}
 use Rattle.outcome_base.specs.Outcomes.{Failures, is_dead, is_dead_link, is_silent, is_live, passes_live, ends_heard, survives}
 use Rattle.regret_law.proofs.Setting.{alive_of}
 use Rattle.routing_law.specs.Network as law
-
-any_flips : (a b : ℕ) (links : List (ℕ × ℕ)) → list_any (joins a b) links ≡ list_any (joins b a) links
-any_flips a b [] = refl
-any_flips a b (l ∷ ls) = ap₂ (λ (x y : Bool). x || y) (or_comm (l.0 == a && l.1 == b) (l.0 == b && l.1 == a)) (any_flips a b ls)
-
--- links have no direction
-pub linked_flips : (net : PlainNet) (a b : ℕ) → linked net a b ≡ linked net b a
-linked_flips net a b = any_flips a b net.links
+use Rattle.net_base.proofs.Links.{any_flips, linked_flips}
 
 module _ (net : PlainNet) (f : Failures) where
   -- ---- what is alive survives

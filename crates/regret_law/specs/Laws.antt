@@ -11,9 +11,11 @@ use Rattle.config_base.specs.Configs.{PlainConfig}
 use Rattle.evidence_base.specs.Made.{PlainCaseEvidence}
 use Rattle.outcome_base.specs.Outcomes.{Failures, Outcome, route_at, IsStable, offered}
 use Rattle.outcome_base.specs.Right.{IsGood, IsBare, IsRight}
-use Rattle.regret_law.specs.Faithful.{IsFaithful, HasWalks, HasRank}
+use Rattle.regret_law.specs.Faithful.{IsFaithful, HasWalks, HasRank, is_run_path}
 use Rattle.regret_law.specs.Passes.{IsMadeOf, Passes}
 use Rattle.path_words.specs.Policies.{IsPolicyOf}
+use Rattle.graph_base.specs.Rules.{IsWellFormed}
+use Rattle.graph_base.specs.Runs.{run}
 
 -- Paths of claimed routers and offers are allowed and survive; the path of every other router is a suffix of a permitted walk.
 pub record IsSoundBy (net : PlainNet) (policy : PlainPolicy) (config : PlainConfig) (f : Failures) (p : PlainPrefix) (s : PlainStatement) (outcome : Outcome) : Type 0 where
@@ -52,3 +54,8 @@ StableOutcomesExist = (net : PlainNet) (policy : PlainPolicy) (config : PlainCon
 abbrev pub FaithfulIsWalksAndRanks : Type 0
 FaithfulIsWalksAndRanks = (net : PlainNet) (s : PlainStatement) (origin : ℕ → Bool) (external : Bool) (g : PlainGraph) → IsGraph g
     → IsFaithful net s origin external g ↔ HasWalks net s origin external g × ((n : ℕ) → n < length g.nodes → HasRank net s origin g n)
+
+-- In a well-formed graph each path with a run is a walk to an origin, or an origin alone.
+abbrev pub RunsAreWalks : Type 0
+RunsAreWalks = (net : PlainNet) (origin : ℕ → Bool) (external : Bool) (g : PlainGraph) → IsGraph g → IsWellFormed net origin external g
+    → (path : List ℕ) (n : ℕ) → run g path ≡ Some n → IsTrue (is_run_path net origin path)

@@ -5,7 +5,7 @@
 //! of `routing_law`, which know no policy.
 #![tactic(auto)]
 
-ghost use Rattle.regret_law.specs.Laws.{FaithfulIsWalksAndRanks, PassingEvidenceIsRight, StableOutcomesExist, UsedPathsAreAllowed};
+ghost use Rattle.regret_law.specs.Laws.{FaithfulIsWalksAndRanks, PassingEvidenceIsRight, RunsAreWalks, StableOutcomesExist, UsedPathsAreAllowed};
 
 /// Whatever its preference numbers are, a configuration that is made of the graphs of a policy's cases lets only allowed paths be
 /// used: for every prefix, all failures and every stable outcome, the paths of claimed routers and the paths that peers are offered
@@ -29,4 +29,9 @@ pub fn stable_outcomes_exist()
 /// What is asked of the graph of a case is what is asked of its walks and of the rank of each node.
 pub fn faithful_is_walks_and_ranks()
     ensures { FaithfulIsWalksAndRanks }
+{}
+
+/// In a well-formed graph each path with a run is a walk to an origin, or an origin alone.
+pub fn runs_are_walks()
+    ensures { RunsAreWalks }
 {}

@@ -3,7 +3,7 @@ use Rattle.std.proofs.Common.{◌≡◌, ℕ, ◌≤◌, Bool, true, false, not,
 use Rattle.std.specs.Prelude.{◌&&◌, ◌||◌, ◌==◌, ◌↔◌, nat_lt}
 use Rattle.std.specs.List.{list_any}
 use Rattle.std.specs.Option.{option_map_or}
-use Rattle.std.proofs.lemmas.Bool.{and_parts, eqb-true, or_cases, or_right}
+use Rattle.std.proofs.lemmas.Bool.{and_parts, eqb-true, or_cases, or_right, not-true}
 use Rattle.std.proofs.lemmas.Bool.Decides.{eqb_tells, nat_tests}
 use Rattle.list_laws.proofs.Options.{when_parts}
 use Rattle.net_base.specs.Network.{PlainNet, joins, linked}
@@ -114,15 +114,11 @@ module _ (net : PlainNet) (policy : PlainPolicy) (config : PlainConfig) (f : Fai
   chooses_none b empty is = (
     λ t. record {
       given_by = λ h e. absurd (cc);
-      best = λ z g e. let more = never_exceeds None (sym is ∙ not_true b t) z g e in absurd (cc);
+      best = λ z g e. let more = never_exceeds None (sym is ∙ not-true b t) z g e in absurd (cc);
     },
     λ c. ap not (is ∙ none_outdoes None (λ z g e. let held = c.best z g e in absurd (no_route held.0 held.1))),
   )
     where
-      not_true : (b : Bool) → IsTrue (not b) → b ≡ false
-      not_true true t = absurd (cc)
-      not_true false t = refl
-
       no_route : (h : Route) → route_at outcome r ≡ Some h → ⊥
       no_route h e = cc
 
@@ -132,15 +128,11 @@ module _ (net : PlainNet) (policy : PlainPolicy) (config : PlainConfig) (f : Fai
   chooses_some b h held given_some is = (
     λ t. record {
       given_by = λ k e. let g = giver h given_some in (g.0, g.1 ∙ sym held ∙ e);
-      best = λ z g e. (h, held, at_most h.pref g.pref (never_exceeds (Some h.pref) (sym is ∙ not_true b t) z g e));
+      best = λ z g e. (h, held, at_most h.pref g.pref (never_exceeds (Some h.pref) (sym is ∙ not-true b t) z g e));
     },
     λ c. ap not (is ∙ none_outdoes (Some h.pref) (λ z g e. let other = c.best z g e in at_least h.pref g.pref other.0.pref (same_pref other.0 other.1) other.2)),
   )
     where
-      not_true : (b : Bool) → IsTrue (not b) → b ≡ false
-      not_true true t = absurd (cc)
-      not_true false t = refl
-
       at_most : (m n : ℕ) → nat_lt m n ≡ false → n ≤ m
       at_most m n less = grind (arith, nat_tests)
 

@@ -4,17 +4,10 @@ use Rattle.std.specs.Prelude.{◌==◌, ◌↔◌}
 use Rattle.std.specs.Str.{bytes_eq}
 use Rattle.std.proofs.lemmas.Bool.{and_parts, eqb-true, eq-eqb}
 use Rattle.std.proofs.lemmas.Slice.Eq.{bytes_eq-Decides}
-use Rattle.net_base.specs.declared.numbers.Tag.{Tag}
 use Rattle.config_base.specs.declared.route.Route.{Route}
 use Rattle.config_base.specs.Lines.{same_tag}
 use Rattle.stable_paths.specs.Tests.{same_route, is_route, is_path}
-
-same_tag-is : (t u : Tag) → same_tag t u ≡ true → t ≡ u
-same_tag-is t u h =
-    let a = and_parts (t.asn == u.asn) (t.value == u.value) h in
-    let x = eqb-true t.asn u.asn a.0 in
-    let y = eqb-true t.value u.value a.1 in
-    λ i. record { asn = x i; value = y i }
+use Rattle.config_base.proofs.SameTags.{same_tag-is}
 
 same_route-is : (g h : Route) → same_route g h ≡ true → g ≡ h
 same_route-is g h same =

@@ -16,7 +16,7 @@ use Rattle.path_exprs.specs.Derivative.{derivative}
 use Rattle.path_exprs.specs.Standings.{Standing, is_dead, moved, same_standing, AreReached}
 use Rattle.net_base.specs.Locations.{in_order}
 use Rattle.standings.specs.Growth.{AreAsked, AreWithin, each_live, gathered, left_in, live, may_enter, next_in, standing_in, standings_in, steps_over, steps_to, ways, with_standing}
-use Rattle.standings.proofs.Below.{numbers-below}
+use Rattle.net_base.proofs.NumbersBelow.{numbers-below}
 use Rattle.standings.proofs.SameStandings.{Among, among-first, among-head, among-later}
 use Rattle.standings.proofs.Gathering.{among-append, among-left, among-right, among-slice_get, gathered-among, gathered-append, gathered-distinct, gathered-extends, gathered-new, with-cases}
 use Rattle.standings.proofs.Numbering.{Key, slice_get-standings_in}

@@ -1,48 +1,18 @@
 -- The numbers below a number.
-use Rattle.std.proofs.Common.{◌≡◌, ℕ, zero, suc, ◌+◌, ◌<◌, ◌≤◌, Bool, true, false, cond, List, [], ◌∷◌, ◌++◌, map, length, get_or, Some, inl, inr, refl, sym, ap, ◌∙◌, add-one, length-append, arith}
+use Rattle.std.proofs.Common.{◌≡◌, ℕ, zero, suc, ◌+◌, ◌<◌, ◌≤◌, Bool, true, false, cond, List, [], ◌∷◌, ◌++◌, map, length, get_or, Some, inl, inr, refl, sym, ap, ◌∙◌, add-one, arith}
 use Rattle.std.specs.Prelude.{filter, option_map, slice_get, ◌==◌, ◌||◌}
-use Rattle.std.specs.List.{AllByRecursion}
-use Rattle.std.proofs.lemmas.Bool.{cases_Bool, cases_eq, cases_lt, cond-true, cond-false, eq-eqb, ne_eqb, or_left}
+use Rattle.std.proofs.lemmas.Bool.{cases_Bool, cases_eq, cond-true, cond-false, eq-eqb, ne_eqb, or_left}
 use Rattle.std.proofs.lemmas.List.{length-map}
 use Rattle.std.proofs.lemmas.List.Elements.{filter-append}
 use Rattle.std.proofs.lemmas.Option.{same_Some, slice_get-get_or, slice_get-map}
-use Rattle.list_laws.proofs.Each.{AllByRecursion-append, AllByRecursion-weaker}
-use Rattle.list_laws.proofs.Items.{slice_get-append_left}
 use Rattle.net_base.specs.Locations.{numbers_below}
+use Rattle.net_base.proofs.NumbersBelow.{length-numbers_below, slice_get-numbers_below}
 
 pub numbers_below-more : (n : ℕ) → numbers_below (n + 1) ≡ numbers_below n ++ n ∷ []
 numbers_below-more n = ap numbers_below (add-one n)
 
 pub filter-below-more : (p : ℕ → Bool) (n : ℕ) → filter p (numbers_below (n + 1)) ≡ filter p (numbers_below n) ++ filter p (n ∷ [])
 filter-below-more p n = ap (filter p) (numbers_below-more n) ∙ filter-append p (numbers_below n) (n ∷ [])
-
-pub length-numbers_below : (n : ℕ) → length (numbers_below n) ≡ n
-length-numbers_below zero = refl
-length-numbers_below (suc n) =
-    let e = length-append (numbers_below n) (n ∷ []) in
-    let f = length-numbers_below n in
-    omega arith
-
-pub numbers-below : (n : ℕ) → AllByRecursion (λ l. l < n) (numbers_below n)
-numbers-below zero = tt
-numbers-below (suc n) =
-    AllByRecursion-append (λ l. l < suc n) (numbers_below n) (n ∷ []) (AllByRecursion-weaker (λ l. l < n) (λ l. l < suc n) (numbers_below n) (λ l low. omega arith) (numbers-below n)) (omega arith, tt)
-
-slice_get-last : (xs : List ℕ) (y : ℕ) (n : ℕ) → length xs ≡ n → slice_get (xs ++ y ∷ []) n ≡ Some y
-slice_get-last [] y n e = ap (slice_get (y ∷ [])) (sym e)
-slice_get-last (x ∷ xs) y n e = ap (slice_get (x ∷ (xs ++ y ∷ []))) (sym e) ∙ slice_get-last xs y (length xs) refl
-
-pub slice_get-numbers_below : (n k : ℕ) → k < n → slice_get (numbers_below n) k ≡ Some k
-slice_get-numbers_below zero k lt = absurd (omega arith)
-slice_get-numbers_below (suc n) k lt = elim (cases_lt k n) [
-  | inl less ↦
-      let e = length-numbers_below n in
-      slice_get-append_left (numbers_below n) (n ∷ []) k (omega arith) ∙ slice_get-numbers_below n k less
-  | inr ge ↦
-      let e = length-numbers_below n in
-      let is : k ≡ n = omega arith in
-      slice_get-last (numbers_below n) n k (omega arith) ∙ ap Some (sym is)
-]
 
 -- what stands at a place of a list of lists that were made for the numbers below n
 pub made-at : {V : Type 0} → (items : V → List ℕ) (all : List V) (f : ℕ → List ℕ) (n k : ℕ) (v d : V) → map items all ≡ map f (numbers_below n) → k < n → v ≡ get_or all k d → items v ≡ f k

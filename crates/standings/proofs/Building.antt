@@ -18,7 +18,7 @@ use Rattle.standings.specs.Built.{graph_over, node_of, place_in, steps_from}
 use Rattle.path_exprs.specs.Standings.{AreStandings, Plan, Standing, is_dead, may_go, moved, starts, targets, AreReached, plan_of}
 use Rattle.net_base.specs.Locations.{in_order, numbers_below}
 use Rattle.standings.specs.Growth.{AreAsked, each_live, gathered, live, may_enter, next_in, steps_over, steps_to, ways}
-use Rattle.standings.proofs.Below.{numbers-below}
+use Rattle.net_base.proofs.NumbersBelow.{numbers-below}
 use Rattle.standings.proofs.SameStandings.{Among, among-first, among-later}
 use Rattle.standings.proofs.Gathering.{among-left, among-right, gathered-among, gathered-append, place-within, without_repeats-gathered}
 use Rattle.standings.proofs.Starting.{gathered-starts}

@@ -139,31 +139,25 @@ without_repeats-gathered seen xs (t ∷ ts) alike = elim (with-cases xs t) [
         ∙ or_swap (same_standing x t) (list_any (same_standing x) xs)
         ∙ sym (list_any-append (same_standing x) xs (t ∷ []))
 
+among-rest : (x y : Standing) (ys : List Standing) → Among (y ∷ ys) x → same_standing y x ≡ false → Among ys x
+among-rest x y ys h f = elim (among-head x y ys h) [
+  | inl e ↦ absurd (false≢true (sym f ∙ equal-same y x (sym e)))
+  | inr e ↦ e
+]
+
 pub place-kept : (xs more : List Standing) (x : Standing) → Among xs x → place_in (xs ++ more) x ≡ place_in xs x
 place-kept [] more x h = absurd (false≢true h)
 place-kept (y ∷ ys) more x h = elim (cases_Bool (same_standing y x)) [
   | inl t ↦ cond-true (same_standing y x) _ _ t ∙ sym (cond-true (same_standing y x) _ _ t)
   | inr f ↦
-      cond-false (same_standing y x) _ _ f ∙ ap suc (place-kept ys more x (later f)) ∙ sym (cond-false (same_standing y x) _ _ f)
+      cond-false (same_standing y x) _ _ f ∙ ap suc (place-kept ys more x (among-rest x y ys h f)) ∙ sym (cond-false (same_standing y x) _ _ f)
 ]
-  where
-    later : same_standing y x ≡ false → Among ys x
-    later f = elim (among-head x y ys h) [
-      | inl e ↦ absurd (false≢true (sym f ∙ equal-same y x (sym e)))
-      | inr e ↦ e
-    ]
 
 pub place-within : (xs : List Standing) (x : Standing) → Among xs x → place_in xs x < length xs
 place-within [] x h = absurd (false≢true h)
 place-within (y ∷ ys) x h = elim (cases_Bool (same_standing y x)) [
   | inl t ↦ subst (λ n. n < length (y ∷ ys)) (sym (cond-true (same_standing y x) 0 (suc (place_in ys x)) t)) (omega arith)
   | inr f ↦
-      let below = place-within ys x (later f) in
+      let below = place-within ys x (among-rest x y ys h f) in
       subst (λ n. n < length (y ∷ ys)) (sym (cond-false (same_standing y x) 0 (suc (place_in ys x)) f)) (omega arith)
 ]
-  where
-    later : same_standing y x ≡ false → Among ys x
-    later f = elim (among-head x y ys h) [
-      | inl e ↦ absurd (false≢true (sym f ∙ equal-same y x (sym e)))
-      | inr e ↦ e
-    ]

@@ -11,7 +11,7 @@ use Rattle.path_exprs.specs.Expression.{either, expressions_of, list_of}
 use Rattle.path_exprs.specs.Order.{compare_lists}
 use Rattle.path_exprs.specs.Ordered.{lists-equal}
 use Rattle.path_exprs.specs.Total.{compare_itself}
-use Rattle.path_automata.proofs.Views.{list_of-expressions_of}
+use Rattle.path_exprs.proofs.Lists.{list_of-expressions_of}
 use Rattle.path_exprs.specs.Standings.{Standing, same_standing}
 
 -- x is among these

@@ -10,7 +10,7 @@ use Rattle.path_words.specs.declared.case.Case.{Case}
 use Rattle.net_base.specs.Locations.{numbers_below}
 use Rattle.standings.specs.Growth.{may_enter, sends_on, way_between, ways, ways_in}
 use Rattle.standings.proofs.LinkLemmas.{IsPair, each_pair, other_end, over_links, ways-none, ways-over_links}
-use Rattle.standings.proofs.Below.{length-numbers_below, slice_get-numbers_below}
+use Rattle.net_base.proofs.NumbersBelow.{length-numbers_below, slice_get-numbers_below}
 
 -- what both directions of a link add to the ways from a location
 abbrev pub link_ways : PlainNet → Case → ℕ → ℕ × ℕ → List ℕ

@@ -1,9 +1,11 @@
 //! The graph over the standings of a case.
-ghost use Rattle.std.specs.Prelude.{◌≡◌, ◌≤◌, length, IfOk, IsErrOf};
-ghost use Rattle.net_base.specs.declared.limits.TheConstants.{NODES};
+ghost use Rattle.std.specs.Prelude.{◌≡◌, ◌≤◌, List as Items, length, IfOk, IsErrOf};
+ghost use Rattle.net_base.specs.declared.limits.TheConstants.{LOCATIONS, NODES};
 ghost use Rattle.net_base.specs.Locations.{numbers_below};
+ghost use Rattle.net_base.specs.NetSets.{locations as all_locations};
+ghost use Rattle.path_automata.specs.States.{Begins, Extends, states_of};
+ghost use Rattle.path_exprs.specs.Expression.{Expression};
 ghost use Rattle.path_exprs.specs.Standings.{PassesStates, plan_of};
-ghost use Rattle.path_exprs.specs.View.{views};
 ghost use Rattle.standings.specs.Built.{IsBuilt};
 
 use crate::fault::StandingsFault;
@@ -11,13 +13,13 @@ use crate::reached::Reached;
 use graph_base::Graph;
 use net_base::{List, Net};
 use outside::NoMemory;
-use path_exprs::RankedExpr;
+use path_automata::Automata;
 use path_words::{Case, FromSet};
 use std::alloc::Global;
 
 /// The numbers below a count.
 fn numbers(alloc: Global, count: usize) -> Result<List<u32>, NoMemory>
-    requires { count ≤ 768 }
+    requires { count ≤ LOCATIONS }
     ensures { IfOk result (λ ns. ns ≡ numbers_below count) }
 {
     let mut all = List::new(alloc);
@@ -27,24 +29,28 @@ fn numbers(alloc: Global, count: usize) -> Result<List<u32>, NoMemory>
     Ok(all)
 }
 
-/// Where walks of a case of a network can stand, for the sources that the case's statement claims and for what its paths
-/// must meet: a node for each location with what is left of the alternatives there, and the steps between them. There are
-/// at most 4,096, and no more are ever held.
+/// Where walks of a case of a network can stand, for the sources that the case's statement claims and by the automaton of what
+/// its paths must meet: a node for each location with what is left of the alternatives there, and the steps between them.
+/// There are at most 4,096, and no more are ever held. The automaton is given back, with the states that were found.
 pub fn standings(
     alloc: Global,
     net: &Net,
     case: &Case,
     from: &FromSet,
-    ranked: &RankedExpr,
-) -> Result<Graph, StandingsFault>
-    ensures built { IfOk result (λ g. IsBuilt net.now (plan_of (views ranked.now) from.now case.now) g) }
-    ensures few { IfOk result (λ g. length g.nodes ≤ NODES) }
-    ensures many { IsErrOf result StandingsFault.TooMany → PassesStates net.now (plan_of (views ranked.now) from.now case.now) NODES }
+    automata: Automata,
+) -> Result<(Graph, Automata), StandingsFault>
+    requires begun { (es : Items Expression) × Begins automata (all_locations net.now) es }
+    ensures built { (es : Items Expression) → Begins automata (all_locations net.now) es → IfOk result (λ r. IsBuilt net.now (plan_of es from.now case.now) r.0) }
+    ensures few { IfOk result (λ r. length r.0.nodes ≤ NODES) }
+    ensures many { (es : Items Expression) → Begins automata (all_locations net.now) es
+        → IsErrOf result StandingsFault.TooMany → PassesStates net.now (plan_of es from.now case.now) NODES }
+    ensures kept { IfOk result (λ r. Extends (states_of automata) (states_of r.1)) }
 {
-    let mut reached = Reached::new(alloc, net, ranked)?;
+    let mut reached = Reached::new(alloc, automata);
     reached.add_starts(net, case)?;
     let starts = numbers(alloc, reached.len())?;
     reached.walk(alloc, net, case)?;
     let nodes = reached.nodes(alloc, net, case, from)?;
-    Ok(Graph::new(nodes, starts, reached.into_steps()))
+    let (steps, automata) = reached.into_parts();
+    Ok((Graph::new(nodes, starts, steps), automata))
 }

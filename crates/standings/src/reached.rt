@@ -1,14 +1,11 @@
 //! The standings that walks reach, numbered in breadth-first order, and the steps between them.
 ghost use Rattle.std.specs.Prelude.{◌≡◌, ◌≤◌, ◌<◌, ◌++◌, ◌&&◌, not, [], ℕ, All, List as Items, filter, length, map, take, slice_get, Some, IfOk, OnOk, IsErrOf, IsTrue, option_map};
 ghost use Rattle.std.specs.List.{IsDistinct};
-ghost use Rattle.net_base.specs.declared.limits.TheConstants.{NODES};
+ghost use Rattle.net_base.specs.declared.limits.TheConstants.{LOCATIONS, NODES};
 ghost use Rattle.net_base.specs.Network.{is_peer};
 ghost use Rattle.net_base.specs.Sets.{holds};
 ghost use Rattle.path_automata.specs.States.{AreApart, Extends, states_of};
 ghost use Rattle.path_exprs.specs.Expression.{Expression};
-ghost use Rattle.net_base.specs.NetSets.{locations as all_locations};
-ghost use Rattle.path_exprs.specs.Runs.{start_of};
-ghost use Rattle.path_exprs.specs.View.{views};
 ghost use Rattle.standings.specs.Built.{node_of, place_in, rank_of_standing};
 ghost use Rattle.net_base.specs.Locations.{in_order};
 ghost use Rattle.path_exprs.specs.Standings.{moved, same_standing};
@@ -21,7 +18,6 @@ use net_base::limits::NODES;
 use net_base::{List, Loc, Net};
 use outside::NoMemory;
 use path_automata::{Automata, State};
-use path_exprs::RankedExpr;
 use path_words::{Case, FromSet};
 use std::alloc::Global;
 
@@ -49,19 +45,17 @@ impl Reached {
     ghost use Rattle.path_exprs.specs.Standings.{AreReached, Standing, plan_of};
     ghost use Rattle.standings.specs.Growth.{each_live, gathered, left_in, live, next_in, standing_in, standings_of, steps_to, with_standing, AreAsked, AreWithin};
 
-    /// No standing yet.
-    pub(crate) fn new(alloc: Global, net: &Net, ranked: &RankedExpr) -> Result<Reached, NoMemory>
-        ensures none { IfOk result (λ r. standings_of r ≡ []) }
-        ensures steps { IfOk result (λ r. r.steps.items ≡ []) }
-        ensures begun { IfOk result (λ r. 0 < length (states_of r.automata)) }
-        ensures start { IfOk result (λ r. left_in (states_of r.automata) 0 ≡ start_of (all_locations net.now) (views ranked.now)) }
+    /// No standing yet, of walks whose states are those of the automaton.
+    pub(crate) fn new(alloc: Global, automata: Automata) -> Reached
+        ensures none { standings_of result ≡ [] }
+        ensures steps { result.steps.items ≡ [] }
+        ensures automata { states_of result.automata ≡ states_of automata }
     {
-        let automata = Automata::new(alloc, ranked, net)?;
-        Ok(Reached {
+        Reached {
             automata,
             found: IndexSet::new(alloc),
             steps: Vec::new(alloc),
-        })
+        }
     }
 
     /// The number of standings.
@@ -90,8 +84,9 @@ impl Reached {
         ensures ok { OnOk result (standings_of self.new ≡ map (moved (left_in (states_of self.old.automata) 0)) (filter (holds case.now.origins) (in_order net.now))) }
         ensures within { OnOk result (AreWithin net.now (standings_of self.new)) }
         ensures different { OnOk result (IsDistinct same_standing (standings_of self.new)) }
-        ensures few { OnOk result (length (standings_of self.new) ≤ 768) }
+        ensures few { OnOk result (length (standings_of self.new) ≤ LOCATIONS) }
         ensures steps { self.new.steps ≡ self.old.steps }
+        ensures kept { OnOk result (Extends (states_of self.old.automata) (states_of self.new.automata)) }
     {
         for number in 0..net.routers().len() + net.peers().len() {
             let at = Loc::new(number as u16);
@@ -157,6 +152,7 @@ impl Reached {
         ensures steps { OnOk result (self.new.steps.items ≡ self.old.steps.items ++ steps_to (standings_of self.new) number (each_live (left_in (states_of self.old.automata) from) ways.now)) }
         ensures few { length (standings_of self.new) ≤ NODES }
         ensures many { IsErrOf result StandingsFault.TooMany → (n : ℕ) × (NODES < length (gathered (standings_of self.old) (each_live (left_in (states_of self.old.automata) from) (take n ways.now)))) }
+        ensures kept { OnOk result (Extends (states_of self.old.automata) (states_of self.new.automata)) }
     {
         for next in ways {
             self.add_step(number, from, *next)?;
@@ -189,6 +185,7 @@ impl Reached {
         ensures ok { OnOk result (AreAsked (standings_of self.old) (next_in net.now case.now) (standings_of self.new) self.new.steps.items (length (standings_of self.new))) }
         ensures few { length (standings_of self.new) ≤ NODES }
         ensures many { IsErrOf result StandingsFault.TooMany → (xs : Items Standing) × AreReached (standings_of self.old) (next_in net.now case.now) xs × (NODES < length xs) }
+        ensures kept { OnOk result (Extends (states_of self.old.automata) (states_of self.new.automata)) }
     {
         let ways = all_ways(alloc, net, case)?;
         let mut number = 0;
@@ -200,11 +197,12 @@ impl Reached {
         Ok(())
     }
 
-    /// The steps.
-    pub(crate) fn into_steps(self) -> List<(u32, u32)>
-        ensures { result ≡ self.steps.items }
+    /// The steps, and the automaton with the states that were found.
+    pub(crate) fn into_parts(self) -> (List<(u32, u32)>, Automata)
+        ensures steps { result.0 ≡ self.steps.items }
+        ensures automata { states_of result.1 ≡ states_of self.automata }
     {
-        List::from_vec(self.steps)
+        (List::from_vec(self.steps), self.automata)
     }
 
     /// The rank of the walks that came to a standing, where they have one.

@@ -1,6 +1,6 @@
 -- What is held is the relation.
-use Rattle.std.proofs.Common.{◌≡◌, ℕ, zero, suc, ◌<◌, Bool, ◌&&◌, not, eqb, ltb, List, [], ◌∷◌, length, get_or, map, unwrap_or, option_map, slice_get, refl, sym, ap, ◌∙◌, subst, inl, inr}
-use Rattle.std.proofs.lemmas.Bool.{cases_Bool, and_left, or_cases, or_left, or_right}
+use Rattle.std.proofs.Common.{◌≡◌, ℕ, zero, suc, Bool, true, ◌&&◌, eqb, ltb, List, [], ◌∷◌, length, get_or, map, unwrap_or, option_map, slice_get, refl, sym, ap, ◌∙◌, subst, inl, inr}
+use Rattle.std.proofs.lemmas.Bool.{and_from, or_cases, or_left, or_right}
 use Rattle.std.proofs.lemmas.List.{length-map}
 use Rattle.bit_rows.specs.Tables.{PlainRows, has_at}
 use Rattle.graph_base.specs.declared.graph.Node.{Node}
@@ -8,10 +8,11 @@ use Rattle.graph_base.specs.Graphs.{PlainGraph}
 use Rattle.graph_base.specs.Runs.{place_of}
 use Rattle.net_base.specs.declared.loc.LocSet.{LocSet}
 use Rattle.relation_law.specs.Relations.{IsGreatest, IsTotal}
-use Rattle.relation_law.specs.Rounds.{IsReach, IsSettled, gone_after, is_pair, left_after}
+use Rattle.relation_law.specs.Rounds.{IsSettled, is_pair, left_after}
 use Rattle.relation_law.specs.Views.{view_of}
-use Rattle.relation_law.proofs.Rounds.{pair_from, pair_to, settled_is_greatest}
-use Rattle.relation_law.proofs.Targets.{gone_by_either}
+use Rattle.relation_law.proofs.Rounds.{pair_from, pair_to}
+use Rattle.state_simulation.specs.Stages.{AreBound, above_in}
+use Rattle.state_simulation.proofs.Staging.{above_left}
 use Rattle.state_simulation.specs.Held.{HasEach, IsLeftByRounds, IsRelationOf, PlainRelation, are_together, has}
 use Rattle.state_simulation.specs.Targets.{AreLeft}
 
@@ -43,39 +44,37 @@ each_where_total g r is total m n both = elim (total m n (pair_from (view_of g r
 
 -- ---- from the rows that the rounds leave
 
-module _ (g : PlainGraph) (r : PlainRelation) (reach by : ℕ → ℕ → Bool) (exact : IsReach (view_of g r.claimed) reach) (exact_too : IsReach (view_of g r.claimed) by)
-    (are : r.places ≡ map (λ (node : Node). node.loc) g.nodes) (rounds : ℕ) (settled : IsSettled (view_of g r.claimed) by rounds) (rows : AreLeft (view_of g r.claimed) by rounds r.rows) where
-  gone : (k m n : ℕ) → m < length g.nodes → gone_after (view_of g r.claimed) by k m n ≡ gone_after (view_of g r.claimed) reach k m n
-  gone k m n lm = gone_by_either (view_of g r.claimed) by reach exact_too exact k m n lm
+-- what is made of the rows of a graph has the pairs of one location that they have
+pub made_has : (g : PlainGraph) (claimed : LocSet) (r : PlainRelation) (left : PlainRows) → r ≡ record { places = map (λ (node : Node). node.loc) g.nodes; claimed = claimed; rows = left } → (m n : ℕ) → has r m n ≡ above_in (view_of g claimed) left m n
+made_has g claimed r left is m n =
+    ap (λ z. z && has_at r.rows n m) (together g r (ap (λ (z : PlainRelation). z.places) is) m n) ∙ ap (λ (z : PlainRelation). is_pair (view_of g claimed) m n && has_at z.rows n m) is
 
-  left_has : (m n : ℕ) → has r m n ≡ left_after (view_of g r.claimed) reach rounds m n
-  left_has m n = ap (λ z. z && has_at r.rows n m) (together g r are m n) ∙ elim (cases_Bool (is_pair (view_of g r.claimed) m n)) [
-    | inl e ↦ (
-        let pair = pair_from (view_of g r.claimed) m n e in
-        ap (λ z. z && has_at r.rows n m) e ∙ rows m n pair.left pair.right ∙ ap (λ z. is_pair (view_of g r.claimed) m n && not z) (gone rounds m n pair.left))
-    | inr e ↦ and_left _ _ e ∙ sym (and_left _ _ e)
-  ]
+pub made_relation : (old g : PlainGraph) (claimed : LocSet) (r : PlainRelation) (left : PlainRows) → old ≡ g → r ≡ record { places = map (λ (node : Node). node.loc) g.nodes; claimed = claimed; rows = left } →
+    IsGreatest (view_of old claimed) (above_in (view_of old claimed) left) → IsRelationOf g r
+made_relation old g claimed r left same is greatest =
+    let now : IsGreatest (view_of g claimed) (above_in (view_of g claimed) left) = subst (λ (z : PlainGraph). IsGreatest (view_of z claimed) (above_in (view_of z claimed) left)) same greatest in
+    let has_now : IsGreatest (view_of g claimed) (has r) = subst (IsGreatest (view_of g claimed)) (λ i m n. sym (made_has g claimed r left is m n) i) now in
+    record { places = ap (λ (z : PlainRelation). z.places) is; greatest = subst (λ (z : LocSet). IsGreatest (view_of g z) (has r)) (sym (ap (λ (z : PlainRelation). z.claimed) is)) has_now }
 
-  settled_too : IsSettled (view_of g r.claimed) reach rounds
-  settled_too m n pair now = sym (gone rounds m n pair.left) ∙ settled m n pair (gone (suc rounds) m n pair.left ∙ now)
+pub made_rounds : (old g : PlainGraph) (claimed : LocSet) (r : PlainRelation) (reach : ℕ → ℕ → Bool) (left : PlainRows) → old ≡ g → r ≡ record { places = map (λ (node : Node). node.loc) g.nodes; claimed = claimed; rows = left } →
+    (rounds : ℕ) × IsSettled (view_of old claimed) reach rounds × AreLeft (view_of old claimed) reach rounds left → IsLeftByRounds g reach r
+made_rounds old g claimed r reach left same is made =
+    let now : IsSettled (view_of g claimed) reach made.0 × AreLeft (view_of g claimed) reach made.0 left = subst (λ (z : PlainGraph). IsSettled (view_of z claimed) reach made.0 × AreLeft (view_of z claimed) reach made.0 left) same (made.1, made.2) in
+    let back : claimed ≡ r.claimed = sym (ap (λ (z : PlainRelation). z.claimed) is) in
+    record {
+      rounds = made.0;
+      settled = subst (λ (z : LocSet). IsSettled (view_of g z) reach made.0) back now.0;
+      left = subst (λ (z : LocSet). (m n : ℕ) → has r m n ≡ left_after (view_of g z) reach made.0 m n) back (λ m n. made_has g claimed r left is m n ∙ above_left g claimed reach made.0 left now.1 m n);
+    }
 
-  pub held_rounds : IsLeftByRounds g reach r
-  held_rounds = record { rounds = rounds; settled = settled_too; left = left_has }
-
-  pub held_relation : IsRelationOf g r
-  held_relation = record { places = are; greatest = subst (IsGreatest (view_of g r.claimed)) (λ i m n. sym (left_has m n) i) (settled_is_greatest (view_of g r.claimed) reach exact rounds settled_too) }
-
--- what is made of the rows of a graph
-pub all_held : (old g : PlainGraph) (claimed : LocSet) (r : PlainRelation) (reach by : ℕ → ℕ → Bool) (left : PlainRows) → IsReach (view_of g claimed) reach → IsReach (view_of g claimed) by → old ≡ g
-    → r ≡ record { places = map (λ (node : Node). node.loc) g.nodes; claimed = claimed; rows = left } → ((rounds : ℕ) × IsSettled (view_of old claimed) by rounds × AreLeft (view_of old claimed) by rounds left) →
-    IsLeftByRounds g reach r × IsRelationOf g r
-all_held old g claimed r reach by left exact exact_too same is made =
-    let kept : claimed ≡ r.claimed = ap (λ (z : PlainRelation). z.claimed) (sym is) in
-    let rows : left ≡ r.rows = ap (λ (z : PlainRelation). z.rows) (sym is) in
-    let places = ap (λ (z : PlainRelation). z.places) is in
-    let rounds : ℕ = made.0 in
-    let exact_now : IsReach (view_of g r.claimed) reach = exact in
-    let exact_too_now : IsReach (view_of g r.claimed) by = exact_too in
-    let settled : IsSettled (view_of g r.claimed) by rounds = subst (λ (z : PlainGraph × LocSet). IsSettled (view_of z.0 z.1) by rounds) (λ i. (same i, kept i)) made.1 in
-    let left_now : AreLeft (view_of g r.claimed) by rounds r.rows = subst (λ (z : PlainGraph × LocSet × PlainRows). AreLeft (view_of z.0 z.1) by rounds z.2) (λ i. (same i, kept i, rows i)) made.2 in
-    (held_rounds g r reach by exact_now exact_too_now places rounds settled left_now, held_relation g r reach by exact_now exact_too_now places rounds settled left_now)
+-- rows that have each pair one way or the other make a relation that does
+pub made_total : (old g : PlainGraph) (claimed : LocSet) (r : PlainRelation) (left : PlainRows) → old ≡ g → r ≡ record { places = map (λ (node : Node). node.loc) g.nodes; claimed = claimed; rows = left } → AreBound old left → HasEach r
+made_total old g claimed r left same is bound m n both =
+    let now : AreBound g left = subst (λ (z : PlainGraph). AreBound z left) same bound in
+    let pair = pair_from (view_of g r.claimed) m n (sym (together g r (ap (λ (z : PlainRelation). z.places) is) m n) ∙ both) in
+    let back : are_together r n m ≡ true = together g r (ap (λ (z : PlainRelation). z.places) is) n m ∙ pair_to (view_of g r.claimed) n m (record { left = pair.right; right = pair.left; place = sym pair.place }) in
+    let rows : (a b : ℕ) → has_at left a b ≡ has_at r.rows a b = λ a b. ap (λ (z : PlainRelation). has_at z.rows a b) (sym is) in
+    elim (or_cases (has_at left n m) (has_at left m n) (now m n pair.left pair.right pair.place)) [
+      | inl e ↦ or_left _ _ (and_from _ _ both (sym (rows n m) ∙ e))
+      | inr e ↦ or_right _ _ (and_from _ _ back (sym (rows m n) ∙ e))
+    ]

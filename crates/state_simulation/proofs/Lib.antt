@@ -4,3 +4,5 @@ pub mod Locating
 pub mod Masking
 pub mod Putting
 pub mod Rounding
+pub mod Staging
+pub mod Targeting

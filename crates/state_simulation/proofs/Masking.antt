@@ -1,31 +1,28 @@
 -- Bits that are set for one node after another.
-use Rattle.std.proofs.Common.{◌≡◌, ℕ, ◌+◌, ◌<◌, Bool, true, false, not, ◌&&◌, ◌||◌, ltb, eqb, List, [], ◌∷◌, length, get_or, take, All, arith, refl, sym, ap, ◌∙◌, inl, inr}
+use Rattle.std.proofs.Common.{◌≡◌, ◌↔◌, ℕ, zero, suc, ◌+◌, ◌<◌, Bool, true, false, not, ◌&&◌, ◌||◌, ltb, eqb, List, [], ◌∷◌, ◌++◌, length, get_or, take, All, arith, refl, sym, ap, subst, ◌∙◌, inl, inr}
 use Rattle.std.specs.List.{list_any}
-use Rattle.std.proofs.lemmas.Bool.{cases_Bool, cases_eq, cases_order, eq-eqb, eqb-true, ne_eqb, lt-ltb, le-ltb, and_parts, and_from, both_ways, false_from_ne_true}
-use Rattle.std.proofs.lemmas.List.{take_more}
-use Rattle.std.proofs.lemmas.List.Folds.{list_any-append}
+use Rattle.bit_rows.specs.Tables.{PlainRows, has_at}
+use Rattle.std.proofs.lemmas.Bool.{cases_Bool, cases_order, eq-eqb, eqb-true, ne_eqb, lt-ltb, le-ltb, and_parts, and_from, both_ways, false_from_ne_true, or_cases, or_left, or_right}
+use Rattle.std.proofs.lemmas.List.Folds.{list_any_more}
+use Rattle.std.proofs.Math.Bool.{or-false}
+use Rattle.list_laws.proofs.Numbers.{eqb_comm}
+use Rattle.graph_base.specs.Graphs.{PlainGraph}
+use Rattle.graph_base.specs.Runs.{IsTrail, Reaches}
 use Rattle.reach_prune.specs.Searches.{is_among}
 use Rattle.relation_law.specs.Numbers.{any_below}
 use Rattle.relation_law.proofs.Tests.{any_found, any_at}
 use Rattle.state_simulation.proofs.Answering.{among_below, member_passes, passing_member}
-
-or_none : (x : Bool) → (x || false) ≡ x
-or_none true = refl
-or_none false = refl
 
 or_assoc : (x y z : Bool) → ((x || y) || z) ≡ (x || (y || z))
 or_assoc true y z = refl
 or_assoc false y z = refl
 
 -- one node more passes or not
-pub any_more : (p : ℕ → Bool) (xs : List ℕ) (i : ℕ) → i < length xs → list_any p (take (i + 1) xs) ≡ (list_any p (take i xs) || p (get_or xs i 0))
-any_more p xs i lt = ap (list_any p) (take_more xs i 0 lt) ∙ list_any-append p (take i xs) (get_or xs i 0 ∷ []) ∙ ap (λ z. list_any p (take i xs) || z) (or_none (p (get_or xs i 0)))
-
 pub set_more : (p : ℕ → Bool) (xs : List ℕ) (i : ℕ) (old now new : Bool) → i < length xs → now ≡ (old || list_any p (take i xs)) → new ≡ (now || p (get_or xs i 0)) → new ≡ (old || list_any p (take (i + 1) xs))
-set_more p xs i old now new lt before here = here ∙ ap (λ z. z || p (get_or xs i 0)) before ∙ or_assoc old (list_any p (take i xs)) (p (get_or xs i 0)) ∙ ap (λ z. old || z) (sym (any_more p xs i lt))
+set_more p xs i old now new lt before here = here ∙ ap (λ z. z || p (get_or xs i 0)) before ∙ or_assoc old (list_any p (take i xs)) (p (get_or xs i 0)) ∙ ap (λ z. old || z) (sym (list_any_more p xs i 0 lt))
 
 pub same_more : (p : ℕ → Bool) (xs : List ℕ) (i : ℕ) (old now : Bool) → i < length xs → now ≡ (old || list_any p (take i xs)) → p (get_or xs i 0) ≡ false → now ≡ (old || list_any p (take (i + 1) xs))
-same_more p xs i old now lt before none = set_more p xs i old now now lt before (sym (ap (λ z. now || z) none ∙ or_none now))
+same_more p xs i old now lt before none = set_more p xs i old now now lt before (sym (ap (λ z. now || z) none ∙ or-false now))
 
 -- a list that has the nodes below the bound of which f holds
 pub located_any : (xs : List ℕ) (size : ℕ) (f p q : ℕ → Bool) → All (λ n. n < size) xs → ((x : ℕ) → x < size → is_among xs x ≡ f x) → ((x : ℕ) → x < size → (f x && p x) ≡ q x) → list_any p xs ≡ any_below size q
@@ -42,14 +39,8 @@ located_any xs size f p q within is both = elim (cases_Bool (any_below size q)) 
 
 -- ---- bits of rows
 
-turned : (a b : ℕ) → eqb a b ≡ eqb b a
-turned a b = elim (cases_eq a b) [
-  | inl e ↦ eq-eqb a b e ∙ sym (eq-eqb b a (sym e))
-  | inr ne ↦ ne_eqb a b ne ∙ sym (ne_eqb b a (λ e. ne (sym e)))
-]
-
 pub among_more : (xs : List ℕ) (i x : ℕ) → i < length xs → is_among (take (i + 1) xs) x ≡ (is_among (take i xs) x || eqb x (get_or xs i 0))
-among_more xs i x lt = any_more (λ y. eqb y x) xs i lt ∙ ap (λ z. is_among (take i xs) x || z) (turned (get_or xs i 0) x)
+among_more xs i x lt = list_any_more (λ y. eqb y x) xs i 0 lt ∙ ap (λ z. is_among (take i xs) x || z) (eqb_comm (get_or xs i 0) x)
 
 pub kept_more : (x a e h : Bool) → ((x && (not a || h)) && (not e || h)) ≡ (x && (not (a || e) || h))
 kept_more false a e h = refl
@@ -92,22 +83,58 @@ pub next_below : (y i : ℕ) (f : ℕ → Bool) → ((ltb y i && f y) || (eqb y 
 next_below y i f = elim (cases_order y i) [
   | inl e ↦ (let a : ltb y i ≡ false = le-ltb _ _ (omega arith) in let b : eqb y i ≡ true = eq-eqb _ _ e in let c : ltb y (i + 1) ≡ true = lt-ltb _ _ (omega arith) in let d : f i ≡ f y = ap f (sym e) in rw (a, b, c, d) refl)
   | inr o ↦ elim o [
-    | inl less ↦ (let a : ltb y i ≡ true = lt-ltb _ _ less in let b : eqb y i ≡ false = ne_eqb _ _ (λ e. omega arith) in let c : ltb y (i + 1) ≡ true = lt-ltb _ _ (omega arith) in rw (a, b, c) (or_none (f y)))
+    | inl less ↦ (let a : ltb y i ≡ true = lt-ltb _ _ less in let b : eqb y i ≡ false = ne_eqb _ _ (λ e. omega arith) in let c : ltb y (i + 1) ≡ true = lt-ltb _ _ (omega arith) in rw (a, b, c) (or-false (f y)))
     | inr more ↦ (let a : ltb y i ≡ false = le-ltb _ _ (omega arith) in let b : eqb y i ≡ false = ne_eqb _ _ (λ e. omega arith) in let c : ltb y (i + 1) ≡ false = le-ltb _ _ (omega arith) in rw (a, b, c) refl)
   ]
 ]
 
 -- a target more
-pub taken_more : (o a s f : Bool) → ((o && not a) && (not s || not f)) ≡ (o && not ((s && f) || a))
+pub taken_more : (o a s f : Bool) → ((o && not a) && (not s || not f)) ≡ (o && not (a || (s && f)))
 taken_more false a s f = refl
-taken_more true true true true = refl
-taken_more true true true false = refl
-taken_more true true false f = refl
+taken_more true true s f = refl
 taken_more true false true true = refl
 taken_more true false true false = refl
 taken_more true false false f = refl
 
-pub cleared_more : (x a p : Bool) → ((x && not a) && not p) ≡ (x && not (a || p))
-cleared_more false a p = refl
-cleared_more true true p = refl
-cleared_more true false p = refl
+-- ---- what the loop rule takes
+
+absorbed : (x y : Bool) → (y ≡ true → x ≡ true) → (x || y) ≡ x
+absorbed true y h = refl
+absorbed false true h = sym (h refl)
+absorbed false false h = refl
+
+-- a node more of which the row is set already, since rows are transitive
+pub covered : (gone : ℕ → Bool) (reach : ℕ → ℕ → Bool) (xs : List ℕ) (k m : ℕ) → ((a : ℕ) → is_among xs a ≡ true → reach a k ≡ true → reach k m ≡ true → reach a m ≡ true) → list_any (λ a. gone a && reach a k) xs ≡ true →
+    (list_any (λ a. gone a && reach a m) xs || (gone k && reach k m)) ≡ list_any (λ a. gone a && reach a m) xs
+covered gone reach xs k m leads set = absorbed (list_any (λ a. gone a && reach a m) xs) (gone k && reach k m) (λ h.
+    let x : (a : ℕ) × (is_among xs a ≡ true) × ((gone a && reach a k) ≡ true) = passing_member (λ a. gone a && reach a k) xs set in
+    let both = and_parts (gone x.0) (reach x.0 k) x.2 in
+    member_passes (λ a. gone a && reach a m) xs x.0 x.1 (and_from _ _ both.0 (leads x.0 x.1 both.1 (and_parts (gone k) (reach k m) h).1)))
+
+pub reaches_on : (g : PlainGraph) (a b c : ℕ) → Reaches g a b → Reaches g b c → Reaches g a c
+reaches_on g a b c one other = (one.0 ++ other.0, joined a one.0 one.1)
+  where
+    joined : (a : ℕ) (via : List ℕ) → IsTrail g a via b → IsTrail g a (via ++ other.0) c
+    joined a [] h = subst (λ x. IsTrail g x other.0 c) (sym h) other.1
+    joined a (d ∷ ds) h = (h.0, joined d ds h.1)
+
+any_taken : (p : ℕ → Bool) (xs : List ℕ) (i : ℕ) → list_any p (take i xs) ≡ true → list_any p xs ≡ true
+any_taken p xs zero h = absurd (cc)
+any_taken p [] (suc i) h = absurd (cc)
+any_taken p (x ∷ xs) (suc i) h = elim (or_cases (p x) _ h) [ inl here ↦ or_left _ _ here | inr there ↦ or_right _ _ (any_taken p xs i there) ]
+
+-- what a node of the list leads to, and what that leads to
+pub leads_on : (g : PlainGraph) (onwards : PlainRows) → ((a b : ℕ) → a < length g.nodes → (has_at onwards a b ≡ true) ↔ Reaches g a b) → (nodes : List ℕ) (i k m : ℕ) → All (λ n. n < length g.nodes) nodes → i < length nodes → k ≡ get_or nodes i 0 →
+    (a : ℕ) → is_among (take i nodes) a ≡ true → has_at onwards a k ≡ true → has_at onwards k m ≡ true → has_at onwards a m ≡ true
+leads_on g onwards exact nodes i k m within lt is a here one other =
+    let la : a < length g.nodes = among_below (length g.nodes) nodes a within (any_taken (λ x. eqb x a) nodes i here) in
+    let below : get_or nodes i 0 < length g.nodes = within i 0 lt in
+    let lk : k < length g.nodes = omega (arith, is, below) in
+    (exact a m la).1 (reaches_on g a k m ((exact a k la).0 one) ((exact k m lk).0 other))
+
+-- a node more of the list passes
+pub each_more : (p : ℕ → Bool) (xs : List ℕ) (i : ℕ) → i < length xs → ((x : ℕ) → is_among (take i xs) x ≡ true → p x ≡ true) → p (get_or xs i 0) ≡ true → (x : ℕ) → is_among (take (i + 1) xs) x ≡ true → p x ≡ true
+each_more p xs i lt before here x h = elim (or_cases (is_among (take i xs) x) (eqb x (get_or xs i 0)) (sym (among_more xs i x lt) ∙ h)) [
+  | inl old ↦ before x old
+  | inr new ↦ ap p (eqb-true x (get_or xs i 0) new) ∙ here
+]

@@ -1,5 +1,5 @@
 -- Rows that become those of the next round, one after another.
-use Rattle.std.proofs.Common.{◌≡◌, ℕ, ◌+◌, ◌<◌, ◌≤◌, Bool, true, false, cond, not, ◌&&◌, ◌||◌, eqb, List, length, get_or, set, arith, sym, ap, ◌∙◌, inl, inr, ◌⊎◌}
+use Rattle.std.proofs.Common.{◌≡◌, ℕ, ◌+◌, ◌<◌, ◌≤◌, Bool, true, false, cond, not, ◌&&◌, ◌||◌, eqb, List, length, get_or, set, arith, refl, sym, ap, ◌∙◌, inl, inr, ◌⊎◌}
 use Rattle.std.proofs.lemmas.Bool.{cases_Bool, cases_order, or_parts, cond-true, cond-false, eq-eqb, ne_eqb}
 use Rattle.std.proofs.lemmas.List.{get_or-set_same, get_or-set_other}
 use Rattle.bit_rows.specs.Tables.{PlainRows, has_at}
@@ -19,6 +19,13 @@ some_bit bits p clear some = elim (cases_Bool (any_below bits p)) [
     ]
   ]))
 ]
+
+-- a bit that isn't lost, and isn't new
+pub same_bit : (was is : Bool) → (is ≡ true → was ≡ true) → (was && (was && not is)) ≡ false → was ≡ is
+same_bit true true old h = refl
+same_bit true false old h = absurd (cc)
+same_bit false true old h = old refl
+same_bit false false old h = refl
 
 module _ (next init left new : PlainRows) (touched : List Bool) (changed lost : Bool) (size n : ℕ) (lt : n < size) (len : length touched ≡ size) (put : Put n next init left touched changed)
     (rest : (r b : ℕ) → n ≤ r → r < size → has_at left r b ≡ has_at init r b) (bits : (r b : ℕ) → r < size → has_at new r b ≡ cond (eqb r n) (has_at next n b) (has_at left r b))

@@ -1,21 +1,21 @@
 -- From round to round.
-use Rattle.std.proofs.Common.{◌≡◌, ℕ, zero, suc, ◌+◌, ◌*◌, ◌/◌, ◌%◌, ◌<◌, ◌≤◌, Bool, true, false, not, ◌&&◌, ◌||◌, ltb, mod-lt, arith, refl, sym, ap, ◌∙◌, inl, inr}
-use Rattle.std.proofs.lemmas.Bool.{cases_Bool, and_parts, and_from, and_left, or_left, both_ways, eqb-true, eq-eqb, lt-ltb, not-true, false_from_ne_true}
+use Rattle.std.proofs.Common.{◌≡◌, ℕ, zero, suc, ◌+◌, ◌*◌, ◌/◌, ◌%◌, ◌<◌, ◌≤◌, Bool, true, false, cond, not, ◌&&◌, ◌||◌, ltb, mod-lt, List, Option, None, Some, length, arith, refl, sym, ap, ◌∙◌, inl, inr}
+use Rattle.std.proofs.lemmas.Bool.{cases_Bool, and_parts, and_from, and_left, and_right, or_left, both_ways, eqb-true, eq-eqb, lt-ltb, not-true, false_from_ne_true}
 use Rattle.std.proofs.Math.Nat.{div-lt_iff_lt-mul}
 use Rattle.std.proofs.lemmas.Nat.{div-mul-add, mod-mul-add, mul-add-lt}
 use Rattle.bit_rows.specs.Tables.{PlainRows, has_at}
-use Rattle.relation_law.specs.Numbers.{count_below}
 use Rattle.relation_law.specs.Relations.{Pair}
 use Rattle.relation_law.specs.Rounds.{AreTouched, IsSettled, fails, fails_at, gone_after, goes_by, is_pair, left_after, same_place}
-use Rattle.relation_law.specs.Views.{View}
+use Rattle.relation_law.specs.Views.{View, view_of}
 use Rattle.relation_law.proofs.Rounds.{pair_from, pair_to}
-use Rattle.relation_law.proofs.Targets.{any_alike, by_targets, fails_alike}
+use Rattle.relation_law.proofs.Targets.{any_alike, by_targets, fails_alike, fails_by_either}
 use Rattle.relation_law.proofs.Tests.{count_le, count_lt}
-use Rattle.state_simulation.specs.Targets.{AreLeft, AtRound, differs, gone_in, is_outranked}
-
--- how many bits are set
-abbrev pub bits_set : ℕ → PlainRows → ℕ
-bits_set size rows = count_below (size * size) (λ i. has_at rows (i / size) (i % size))
+use Rattle.state_simulation.specs.Stages.{Knows, bits_set}
+use Rattle.state_simulation.proofs.Putting.{same_bit}
+use Rattle.state_simulation.specs.Targets.{AreLeft, AreWithin, AtRound, Put, differs, gone_in, is_outranked, is_touched, tells}
+use Rattle.state_simulation.specs.Looked.{shown}
+use Rattle.graph_base.specs.Graphs.{PlainGraph}
+use Rattle.net_base.specs.declared.loc.LocSet.{LocSet}
 
 positive : (size i : ℕ) → i < size * size → 0 < size
 positive zero i lt = absurd (omega (arith, lt))
@@ -66,7 +66,7 @@ none_of true true f h = refl
 none_of true false f h = absurd (cc)
 none_of false g f h = refl
 
-neither : (x g : Bool) → (x && not g) ≡ not (not x || g)
+pub neither : (x g : Bool) → (x && not g) ≡ not (not x || g)
 neither true g = refl
 neither false g = refl
 
@@ -75,9 +75,8 @@ kept true true e h = refl
 kept true false e h = absurd (cc)
 kept false b e h = absurd (cc)
 
-module _ (v : View) (reach : ℕ → ℕ → Bool) (k : ℕ) (left next new : PlainRows) (touched : ℕ → Bool) (at : AtRound v reach k left next touched)
-    (taken : (n m : ℕ) → n < v.size → m < v.size → has_at new n m ≡ (has_at next n m && not (goes_by v reach (gone_in left) touched m n))) where
-  gone_same : (a t : ℕ) → a < v.size → t < v.size → same_place v a t ≡ true → gone_in left a t ≡ gone_after v reach k a t
+module _ (v : View) (reach : ℕ → ℕ → Bool) (k : ℕ) (left next : PlainRows) (touched : ℕ → Bool) (at : AtRound v reach k left next touched) where
+  pub gone_same : (a t : ℕ) → a < v.size → t < v.size → same_place v a t ≡ true → gone_in left a t ≡ gone_after v reach k a t
   gone_same a t la lt same =
       ap not (at.exact a t la lt ∙ ap (λ z. z && not (gone_after v reach k a t)) (pair_to v a t (record { left = la; right = lt; place = eqb-true _ _ same }))) ∙ twice (gone_after v reach k a t)
     where
@@ -89,12 +88,20 @@ module _ (v : View) (reach : ℕ → ℕ → Bool) (k : ℕ) (left next new : Pl
   goes_same m n = any_alike v.size (λ t. touched t && (v.step n t && fails_at v reach (gone_in left) m t)) (λ t. touched t && (v.step n t && fails_at v reach (gone_after v reach k) m t))
       (λ t lt. ap (λ z. touched t && (v.step n t && z)) (fails_alike v reach (gone_after v reach k) (gone_in left) t (λ a la same. gone_same a t la lt same) m))
 
+  -- a test of what can be reached that tells the same of what has gone
+  pub goes_told : (by : ℕ → ℕ → Bool) → ((a m t : ℕ) → a < v.size → m < v.size → t < v.size → same_place v a t ≡ true → (by a m && gone_in left a t) ≡ (reach a m && gone_in left a t)) → (m n : ℕ) → m < v.size →
+      goes_by v by (gone_in left) touched m n ≡ goes_by v reach (gone_in left) touched m n
+  goes_told by same m n lm = any_alike v.size (λ t. touched t && (v.step n t && fails_at v by (gone_in left) m t)) (λ t. touched t && (v.step n t && fails_at v reach (gone_in left) m t))
+      (λ t lt. ap (λ z. touched t && (v.step n t && z)) (fails_by_either v by reach (gone_in left) m t (λ a la e. same a m t la lm lt e)))
+
+module _ (v : View) (reach : ℕ → ℕ → Bool) (k : ℕ) (left next new : PlainRows) (touched : ℕ → Bool) (at : AtRound v reach k left next touched)
+    (taken : (n m : ℕ) → n < v.size → m < v.size → has_at new n m ≡ (has_at next n m && not (goes_by v reach (gone_in left) touched m n))) where
   -- what is taken is what goes in the round
   pub taken_left : AreLeft v reach (suc k) new
   taken_left m n lm ln = elim (cases_Bool (left_after v reach k m n)) [
     | inl e ↦ (
         let p = and_parts (is_pair v m n) (not (gone_after v reach k m n)) e in
-        taken n m ln lm ∙ ap (λ z. has_at next n m && not z) (goes_same m n) ∙ neither (has_at next n m) (goes_by v reach (gone_after v reach k) touched m n) ∙ ap not (sym (at.goes m n lm ln e))
+        taken n m ln lm ∙ ap (λ z. has_at next n m && not z) (goes_same v reach k left next touched at m n) ∙ neither (has_at next n m) (goes_by v reach (gone_after v reach k) touched m n) ∙ ap not (sym (at.goes m n lm ln e))
         ∙ sym (ap (λ z. z && not (gone_after v reach k m n || fails v reach (gone_after v reach k) m n)) p.0 ∙ ap (λ z. not (z || fails v reach (gone_after v reach k) m n)) (not-true _ p.1)))
     | inr e ↦ (
         let none : has_at next n m ≡ false = false_from_ne_true _ (λ h. both_ways _ (at.exact m n lm ln ∙ e) (at.within m n lm ln h)) in
@@ -141,3 +148,56 @@ module _ (v : View) (reach : ℕ → ℕ → Bool) (k : ℕ) (left next new : Pl
           let g : gone_after v reach (suc k) m n ≡ false = not-true _ (and_parts (is_pair v m n) (not (gone_after v reach (suc k) m n)) h).1 in
           by_targets v reach k marked are_touched m n g ∙ sym (ap (λ z. not z || goes_by v reach (gone_after v reach (suc k)) marked m n) (taken_left m n lm ln ∙ h));
     }
+
+-- ---- a round over the rows of a graph
+
+-- what is known of what can be reached tells the next round all that it asks
+known : (g : PlainGraph) (claimed : LocSet) (reach : ℕ → ℕ → Bool) (k : ℕ) (left next : PlainRows) (touched : ℕ → Bool) → AtRound (view_of g claimed) reach k left next touched → (onwards : Option PlainRows) → Knows g reach k onwards →
+    (a m t : ℕ) → a < length g.nodes → m < length g.nodes → t < length g.nodes → same_place (shown g) a t ≡ true → (tells onwards a m && gone_in left a t) ≡ (reach a m && gone_in left a t)
+known g claimed reach k left next touched at None first a m t la lm lt same =
+    let none : gone_in left a t ≡ false = gone_same (view_of g claimed) reach k left next touched at a t la lt same ∙ ap (λ z. gone_after (view_of g claimed) reach z a t) first in
+    sym (and_right (reach a m) (gone_in left a t) none)
+known g claimed reach k left next touched at (Some onwards) told a m t la lm lt same = ap (λ z. z && gone_in left a t) (told a m la lm)
+
+-- what is taken away leaves no new bit
+pub taken_within : (size : ℕ) (left next new : PlainRows) (goes : ℕ → ℕ → Bool) → AreWithin size next left → ((n m : ℕ) → n < size → m < size → has_at new n m ≡ (has_at next n m && not (goes n m))) → AreWithin size new left
+taken_within size left next new goes within taken n b ln lb h = within n b ln lb (and_parts (has_at next n b) _ (sym (taken n b ln lb) ∙ h)).0
+
+module _ (g : PlainGraph) (onwards : Option PlainRows) (left next new after : PlainRows) (touched marked : List Bool) (changed : Bool)
+    (taken : (n m : ℕ) → n < length g.nodes → m < length g.nodes → has_at new n m ≡ (has_at next n m && not (goes_by (shown g) (tells onwards) (gone_in left) (is_touched touched) m n)))
+    (put : Put (length g.nodes) new left after marked changed) where
+  module _ (claimed : LocSet) (reach : ℕ → ℕ → Bool) (k : ℕ) (knows : Knows g reach k onwards) (at : AtRound (view_of g claimed) reach k left next (is_touched touched)) where
+    taken_told : (n m : ℕ) → n < length g.nodes → m < length g.nodes → has_at new n m ≡ (has_at next n m && not (goes_by (view_of g claimed) reach (gone_in left) (is_touched touched) m n))
+    taken_told n m ln lm = taken n m ln lm
+        ∙ ap (λ z. has_at next n m && not z) (goes_told (view_of g claimed) reach k left next (is_touched touched) at (tells onwards) (known g claimed reach k left next (is_touched touched) at onwards knows) m n lm)
+
+    pub advanced : AtRound (view_of g claimed) reach (suc k) after new (is_touched marked)
+    advanced = at_next (view_of g claimed) reach k left next new (is_touched touched) at taken_told after (is_touched marked) put.rows put.quiet
+
+    pub advanced_settled : changed ≡ false → IsSettled (view_of g claimed) reach k × AreLeft (view_of g claimed) reach k after
+    advanced_settled e =
+        let same : (n b : ℕ) → n < length g.nodes → differs left new n b ≡ false = put.same e in
+        let rows : AreLeft (view_of g claimed) reach k new = left_where_same (view_of g claimed) reach k left next new (is_touched touched) at taken_told same in
+        (settled_where_same (view_of g claimed) reach k left next new (is_touched touched) at taken_told same, λ m n lm ln. put.rows n m ln ∙ rows m n lm ln)
+
+  -- a row that isn't touched is as it was
+  pub advanced_quiet : AreWithin (length g.nodes) new left → (n b : ℕ) → n < length g.nodes → b < length g.nodes → is_touched marked n ≡ false → has_at after n b ≡ has_at left n b
+  advanced_quiet within n b ln lb none = put.rows n b ln ∙ sym (same_bit (has_at left n b) (has_at new n b) (within n b ln lb) (put.quiet n b ln none))
+
+  pub advanced_fewer : AreWithin (length g.nodes) new left → left.bits ≡ length g.nodes → bits_set (length g.nodes) after + cond changed 1 0 ≤ bits_set (length g.nodes) left
+  advanced_fewer within bits =
+      let lower : (n b : ℕ) → n < length g.nodes → b < length g.nodes → has_at after n b ≡ true → has_at left n b ≡ true = λ n b ln lb h. within n b ln lb (sym (put.rows n b ln) ∙ h) in
+      elim (cases_Bool changed) [
+        | inl e ↦ (
+            let x = put.lost e in
+            let lb : x.1 < length g.nodes = omega (arith, x.3, bits) in
+            let both = and_parts (has_at left x.0 x.1) (has_at left x.0 x.1 && not (has_at new x.0 x.1)) x.4 in
+            let gone : has_at after x.0 x.1 ≡ false = put.rows x.0 x.1 x.2 ∙ not-true _ (and_parts (has_at left x.0 x.1) (not (has_at new x.0 x.1)) both.1).1 in
+            let strict : bits_set (length g.nodes) after < bits_set (length g.nodes) left = fewer (length g.nodes) left after lower x.0 x.1 x.2 lb gone both.0 in
+            let one : ◌≡◌ {A = ℕ} (cond changed 1 0) 1 = ap (λ z. cond z 1 0) e in
+            omega (arith, strict, one))
+        | inr e ↦ (
+            let most : bits_set (length g.nodes) after ≤ bits_set (length g.nodes) left = no_more (length g.nodes) left after lower in
+            let none : ◌≡◌ {A = ℕ} (cond changed 1 0) 0 = ap (λ z. cond z 1 0) e in
+            omega (arith, most, none))
+      ]

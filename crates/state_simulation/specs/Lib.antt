@@ -1,3 +1,4 @@
 pub mod Held
 pub mod Looked
+pub mod Stages
 pub mod Targets

@@ -1,11 +1,14 @@
 -- Rows of nodes, and what they say of the pairs of one location.
-use Rattle.std.specs.Prelude.{◌≡◌, ℕ, ◌+◌, ◌*◌, ◌<◌, ◌≤◌, Bool, false, not, ◌&&◌, ◌||◌, IsTrue, List, length, slice_index_or}
+use Rattle.std.specs.Prelude.{◌≡◌, ◌↔◌, ℕ, ◌+◌, ◌*◌, ◌<◌, ◌≤◌, Bool, false, not, ◌&&◌, ◌||◌, IsTrue, List, Option, None, Some, length, slice_index_or}
+use Rattle.bit_rows.specs.Bits.{has}
 use Rattle.bit_rows.specs.Tables.{PlainRows, has_at}
 use Rattle.graph_base.specs.Graphs.{PlainGraph}
-use Rattle.relation_law.specs.Relations.{no_worse}
-use Rattle.relation_law.specs.Rounds.{fails, gone_after, goes_by, left_after}
+use Rattle.graph_base.specs.Runs.{Reaches}
+use Rattle.relation_law.specs.Rounds.{fails, fails_at, gone_after, goes_by, left_after}
 use Rattle.relation_law.specs.Views.{View}
 use Rattle.state_simulation.specs.Held.{IsSquare}
+pub use Rattle.refutation_law.specs.Reasons.{is_outranked}
+use Rattle.state_simulation.specs.Looked.{shown}
 
 -- a row and a bit for each node of the graph
 abbrev pub AreNodeRows : PlainGraph → PlainRows → Type 0
@@ -20,9 +23,19 @@ pub record IsWide (size words : ℕ) : Type 0 where
 abbrev pub gone_in : PlainRows → ℕ → ℕ → Bool
 gone_in left a b = not (has_at left b a)
 
--- at a claimed location m has a worse rank than n
-abbrev pub is_outranked : View → ℕ → ℕ → Bool
-is_outranked v m n = v.claimed (v.place n) && not (no_worse (v.rank m) (v.rank n))
+-- rows that tell what can be reached from each node
+pub record AreTold (g : PlainGraph) (onwards : PlainRows) : Type 0 where
+  pub square : AreNodeRows g onwards
+  pub exact : (a b : ℕ) → a < length g.nodes → IsTrue (has_at onwards a b) ↔ Reaches g a b
+
+-- the second node can be reached from the first, as the rows tell; where there are none, nothing is known to
+abbrev pub tells : Option PlainRows → ℕ → ℕ → Bool
+tells None a b = false
+tells (Some onwards) a b = has_at onwards a b
+
+-- the mask has the nodes for which no rule fails at a step to t
+abbrev pub IsMaskOf : PlainGraph → Option PlainRows → PlainRows → List ℕ → ℕ → Type 0
+IsMaskOf g onwards left mask t = (m : ℕ) → m < length g.nodes → has mask m ≡ not (fails_at (shown g) (tells onwards) (gone_in left) m t)
 
 abbrev pub is_touched : List Bool → ℕ → Bool
 is_touched touched t = slice_index_or touched t false
@@ -37,6 +50,10 @@ pub record AtRound (v : View) (reach : ℕ → ℕ → Bool) (rounds : ℕ) (lef
   pub exact : AreLeft v reach rounds left
   pub within : (m n : ℕ) → m < v.size → n < v.size → IsTrue (has_at next n m) → IsTrue (has_at left n m)
   pub goes : (m n : ℕ) → m < v.size → n < v.size → IsTrue (left_after v reach rounds m n) → fails v reach (gone_after v reach rounds) m n ≡ (not (has_at next n m) || goes_by v reach (gone_after v reach rounds) touched m n)
+
+-- the rows of the first table have no bits of nodes that those of the second don't
+abbrev pub AreWithin : ℕ → PlainRows → PlainRows → Type 0
+AreWithin size one other = (n b : ℕ) → n < size → b < size → IsTrue (has_at one n b) → IsTrue (has_at other n b)
 
 -- the bit is in one row and not in the other
 abbrev pub differs : PlainRows → PlainRows → ℕ → ℕ → Bool

@@ -3,13 +3,21 @@
 
 mod grouping;
 mod laws;
+mod located;
 mod maps;
 mod masks;
+mod ordering;
 mod pairs;
 mod rounds;
 mod simulation;
 mod table;
+mod taking;
 
 pub use laws::evidence_needs_a_total_relation;
-pub use simulation::relation;
+pub use located::located_rows;
+pub use maps::{Maps, location_count};
+pub use masks::is_hearer;
+pub use pairs::is_outranked;
+pub use rounds::Rounds;
+pub use simulation::{relation, total_relation};
 pub use table::Relation;

@@ -2,9 +2,10 @@
 ghost use Rattle.std.specs.Prelude.{◌≡◌, ◌<◌, ◌≤◌, ◌&&◌, ◌==◌, All, ℕ, IfOk, length, nat_lt};
 ghost use Rattle.graph_base.specs.Runs.{has_step, place_of};
 ghost use Rattle.relation_law.specs.Rounds.{is_in};
-ghost use Rattle.state_simulation.specs.Looked.{AreMaps};
+ghost use Rattle.state_simulation.specs.Looked.{AreMaps, IsOrder};
 
 use crate::grouping::grouped;
+use crate::ordering::by_location;
 use graph_base::Graph;
 use net_base::List;
 use std::alloc::{AllocError, Global};
@@ -16,11 +17,13 @@ pub struct Maps<'a> {
     successors: Vec<List<u32>>,
     before: Vec<List<u32>>,
     peers: Vec<List<u32>>,
+    order: Vec<u32>,
     ghost are: { AreMaps graph.now successors.items before.items peers.items },
+    ghost ordered: { IsOrder graph.now order.items },
 }
 
 impl<'a> Maps<'a> {
-    ghost use Rattle.std.specs.Prelude.{Bool, List as Items};
+    ghost use Rattle.std.specs.Prelude.{Bool, IsTrue, List as Items};
     ghost use Rattle.reach_prune.specs.Searches.{is_among};
 
     /// The maps of a graph.
@@ -34,7 +37,8 @@ impl<'a> Maps<'a> {
             graph,
             successors: grouped(alloc, size, graph.steps())?,
             before: grouped(alloc, size, &turned)?,
-            peers: grouped(alloc, location_count(graph), &placed)?,
+            peers: grouped(alloc, location_count(graph) as usize, &placed)?,
+            order: by_location(alloc, graph)?,
         })
     }
 
@@ -63,6 +67,14 @@ impl<'a> Maps<'a> {
         self.before[node as usize].as_slice()
     }
 
+    /// All nodes, by location.
+    pub fn by_location(&self) -> &[u32]
+        ensures within { All (λ n. n < length self.now.graph.now.nodes) result.now }
+        ensures each { (n : ℕ) → n < length self.now.graph.now.nodes → IsTrue (is_among result.now n) }
+    {
+        self.order.as_slice()
+    }
+
     /// The nodes that stand where a node stands, the node among them.
     pub fn peers(&self, node: u32) -> &[u32]
         requires { node < length self.now.graph.now.nodes }
@@ -87,12 +99,12 @@ fn turned_steps(alloc: Global, graph: &Graph) -> Result<Vec<(u32, u32)>, AllocEr
 }
 
 /// One more than the greatest location of a node.
-fn location_count(graph: &Graph) -> usize
+pub fn location_count(graph: &Graph) -> u32
     ensures { (n : ℕ) → n < length graph.now.nodes → place_of graph.now n < result }
 {
     let mut count = 0;
     for node in 0..graph.nodes().len() as u32 {
-        let at = graph.location(node).number() as usize;
+        let at = graph.location(node).number() as u32;
         if count <= at {
             count = at + 1;
         }

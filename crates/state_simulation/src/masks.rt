@@ -1,5 +1,5 @@
 //! Rows of the nodes that a round leaves above the nodes that step to a target.
-ghost use Rattle.std.specs.Prelude.{◌≡◌, ◌*◌, ◌<◌, ◌≤◌, ◌==◌, ◌&&◌, ◌||◌, ℕ, All, false, length, not};
+ghost use Rattle.std.specs.Prelude.{◌≡◌, ◌*◌, ◌<◌, ◌≤◌, ◌==◌, ◌&&◌, ◌||◌, ℕ, Bool, All, IfSome, IsTrue, false, length, not};
 ghost use Rattle.bit_rows.specs.Bits.{has};
 ghost use Rattle.bit_rows.specs.Tables.{has_at};
 ghost use Rattle.graph_base.specs.Runs.{has_step, is_listener, place_of, rank_at};
@@ -8,29 +8,69 @@ ghost use Rattle.relation_law.specs.Numbers.{any_below};
 ghost use Rattle.relation_law.specs.Relations.{no_worse};
 ghost use Rattle.relation_law.specs.Rounds.{fails_at, has_answer, is_heard_there, is_looped};
 ghost use Rattle.state_simulation.specs.Looked.{shown};
-ghost use Rattle.state_simulation.specs.Targets.{AreNodeRows, gone_in};
+ghost use Rattle.state_simulation.specs.Targets.{AreNodeRows, AreTold, IsMaskOf, IsWide, gone_in};
 
 use crate::maps::Maps;
 use crate::pairs::is_no_worse;
-use bit_rows::{Rows, clear_row, set_bit};
+use bit_rows::{Rows, add_row, clear_row, is_set, set_bit};
 use graph_base::Graph;
 
-/// Makes the mask that of a target: it has the nodes for which no rule fails at a step to it.
-pub fn make_mask(mask: &mut [u64], maps: &Maps, onwards: &Rows, left: &Rows, t: u32)
-    requires onwards { AreNodeRows maps.now.graph.now onwards.now }
+/// Makes the mask that of a target: it has the nodes for which no rule fails at a step to it. It may be the mask of
+/// another target before. The other row is for the nodes that the loop rule takes.
+pub fn make_mask(
+    mask: &mut [u64],
+    looped: &mut [u64],
+    maps: &Maps,
+    onwards: &Option<Rows>,
+    left: &Rows,
+    held: Option<u32>,
+    t: u32,
+)
+    requires onwards { IfSome onwards.now (AreTold maps.now.graph.now) }
     requires left { AreNodeRows maps.now.graph.now left.now }
-    requires mask { length mask.old ≡ onwards.now.width }
-    requires room { length maps.now.graph.now.nodes ≤ 64 * length mask.old }
+    requires looped { length looped.old ≡ length mask.old }
+    requires wide { IsWide (length maps.now.graph.now.nodes) (length mask.old) }
+    requires held { IfSome held (λ s. s < length maps.now.graph.now.nodes) }
+    requires mask { IfSome held (IsMaskOf maps.now.graph.now onwards.now left.now mask.old) }
     requires t { t < length maps.now.graph.now.nodes }
     ensures len { length mask.new ≡ length mask.old }
-    ensures bits { (m : ℕ) → m < length maps.now.graph.now.nodes → has mask.new m ≡ not (fails_at (shown maps.now.graph.now) (has_at onwards.now) (gone_in left.now) m t) }
+    ensures looped { length looped.new ≡ length looped.old }
+    ensures bits { IsMaskOf maps.now.graph.now onwards.now left.now mask.new t }
 {
+    if let Some(s) = held {
+        if have_one_mask(maps, left, s, t) {
+            return;
+        }
+    }
     mask.fill(0);
     if maps.graph().hears(t) {
         add_hearers(mask, maps, t);
+        return;
+    }
+    add_answers(mask, maps, left, t);
+    if let Some(onwards) = onwards {
+        looped.fill(0);
+        add_loops(looped, maps, onwards, left, t);
+        clear_row(mask, looped);
+    }
+}
+
+/// Whether two targets at one location hear with one rank, or don't hear and have one row. Then they have one mask.
+fn have_one_mask(maps: &Maps, left: &Rows, s: u32, t: u32) -> bool
+    requires left { AreNodeRows maps.now.graph.now left.now }
+    requires s { s < length maps.now.graph.now.nodes }
+    requires t { t < length maps.now.graph.now.nodes }
+    ensures { IsTrue result → (reach : ℕ → ℕ → Bool) (m : ℕ) → fails_at (shown maps.now.graph.now) reach (gone_in left.now) m s
+        ≡ fails_at (shown maps.now.graph.now) reach (gone_in left.now) m t }
+{
+    let graph = maps.graph();
+    if graph.location(s) != graph.location(t) || graph.hears(s) != graph.hears(t) {
+        return false;
+    }
+    if graph.hears(t) {
+        graph.rank(s) == graph.rank(t)
     } else {
-        add_answers(mask, maps, left, t);
-        clear_loops(mask, maps, onwards, left, t);
+        left.row(s) == left.row(t)
     }
 }
 
@@ -75,7 +115,7 @@ fn add_hearers(mask: &mut [u64], maps: &Maps, t: u32)
 }
 
 /// Whether s hears, with no worse a rank than t.
-fn is_hearer(graph: &Graph, s: u32, t: u32) -> bool
+pub fn is_hearer(graph: &Graph, s: u32, t: u32) -> bool
     requires s { s < length graph.now.nodes }
     requires t { t < length graph.now.nodes }
     ensures { result ≡ (is_listener graph.now s && no_worse (rank_at graph.now s) (rank_at graph.now t)) }
@@ -83,18 +123,20 @@ fn is_hearer(graph: &Graph, s: u32, t: u32) -> bool
     graph.hears(s) && is_no_worse(graph.rank(s), graph.rank(t))
 }
 
-/// Clears what can be reached from a node at the location of t that isn't in t's row.
-fn clear_loops(mask: &mut [u64], maps: &Maps, onwards: &Rows, left: &Rows, t: u32)
-    requires onwards { AreNodeRows maps.now.graph.now onwards.now }
+/// Sets what can be reached from a node at the location of t that isn't in t's row.
+fn add_loops(looped: &mut [u64], maps: &Maps, onwards: &Rows, left: &Rows, t: u32)
+    requires onwards { AreTold maps.now.graph.now onwards.now }
     requires left { AreNodeRows maps.now.graph.now left.now }
-    requires mask { length mask.old ≡ onwards.now.width }
+    requires looped { (b : ℕ) → has looped.old b ≡ false }
+    requires wide { IsWide (length maps.now.graph.now.nodes) (length looped.old) }
     requires t { t < length maps.now.graph.now.nodes }
-    ensures len { length mask.new ≡ length mask.old }
-    ensures bits { (m : ℕ) → has mask.new m ≡ (has mask.old m && not (is_looped (shown maps.now.graph.now) (has_at onwards.now) (gone_in left.now) m t)) }
+    ensures len { length looped.new ≡ length looped.old }
+    ensures bits { (m : ℕ) → has looped.new m ≡ is_looped (shown maps.now.graph.now) (has_at onwards.now) (gone_in left.now) m t }
 {
     for k in maps.peers(t) {
-        if !left.get(t, *k) {
-            clear_row(mask, onwards.row(*k));
+        // What can be reached from a node that is set already is set too.
+        if !left.get(t, *k) && !is_set(looped, *k) {
+            add_row(looped, onwards.row(*k));
         }
     }
 }

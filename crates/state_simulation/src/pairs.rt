@@ -44,7 +44,7 @@ fn add_above(rows: &mut Rows, maps: &Maps, claimed: &LocSet, n: u32)
 }
 
 /// Whether the location of n is claimed, and m has a worse rank.
-fn is_outranked(graph: &Graph, claimed: &LocSet, m: u32, n: u32) -> bool
+pub fn is_outranked(graph: &Graph, claimed: &LocSet, m: u32, n: u32) -> bool
     requires m { m < length graph.now.nodes }
     requires n { n < length graph.now.nodes }
     ensures { result ≡ is_outranked_in (view_of graph.now claimed.now) m n }

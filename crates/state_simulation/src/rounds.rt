@@ -1,102 +1,175 @@
-//! The rounds, target by target.
-ghost use Rattle.std.specs.Prelude.{◌≡◌, ◌*◌, ◌<◌, ◌≤◌, ◌&&◌, ◌||◌, ◌==◌, ℕ, All, IfOk, length, not};
-ghost use Rattle.bit_rows.specs.Bits.{has};
-ghost use Rattle.bit_rows.specs.Tables.{IsSameSize, has_at};
-ghost use Rattle.reach_prune.specs.Searches.{is_among};
-ghost use Rattle.relation_law.specs.Rounds.{IsSettled, goes_by};
+//! The rounds.
+ghost use Rattle.std.specs.Prelude.{◌≡◌, ◌+◌, ◌<◌, ◌≤◌, ℕ, suc, Bool, None, Some, false, if◌then◌else◌, IfNone, IfOk, IfSome, IsTrue, OnOk, length};
+ghost use Rattle.bit_rows.specs.Tables.{PlainRows, has_at};
+ghost use Rattle.graph_base.specs.Runs.{place_of};
+ghost use Rattle.net_base.specs.declared.loc.LocSet.{LocSet as Claimed};
+ghost use Rattle.relation_law.specs.Relations.{IsClosed, IsGreatest, IsTotal};
+ghost use Rattle.relation_law.specs.Rounds.{IsReach, IsSettled};
 ghost use Rattle.relation_law.specs.Views.{view_of};
-ghost use Rattle.state_simulation.specs.Looked.{shown};
-ghost use Rattle.state_simulation.specs.Held.{IsSquare};
-ghost use Rattle.state_simulation.specs.Targets.{AreLeft, AreNodeRows, Put, gone_in, is_touched};
+ghost use Rattle.state_simulation.specs.Stages.{AreAt, AreBound, AreSized, IsOpen, Knows, above_in, bits_set, has_either};
+ghost use Rattle.state_simulation.specs.Targets.{AreLeft, AreNodeRows, is_touched};
 
 use crate::maps::Maps;
-use crate::masks::make_mask;
 use crate::pairs::ranked_pairs;
-use bit_rows::{Rows, outside_is_empty};
+use crate::taking::{put_each, take_each};
+use bit_rows::Rows;
 use net_base::LocSet;
 use outside::NoMemory;
-use std::alloc::Global;
+use reach_prune::{Way, rows_along};
+use std::alloc::{AllocError, Global};
 
-/// For each node the nodes that are left above it, after the round in which nothing more goes. The row of a node in
-/// `onwards` has what can be reached from it.
-pub fn all_rounds(
-    alloc: Global,
-    maps: &Maps,
-    onwards: &Rows,
-    claimed: &LocSet,
-) -> Result<Rows, NoMemory>
-    requires { AreNodeRows maps.now.graph.now onwards.now }
-    ensures rows { IfOk result (AreNodeRows maps.now.graph.now) }
-    ensures rounds { IfOk result (λ left. (rounds : ℕ) × IsSettled (view_of maps.now.graph.now claimed.now) (has_at onwards.now) rounds
-        × AreLeft (view_of maps.now.graph.now claimed.now) (has_at onwards.now) rounds left) }
-{
-    let mut left = ranked_pairs(alloc, maps, &LocSet::new())?;
-    let mut next = ranked_pairs(alloc, maps, claimed)?;
-    let mut touched = vec![in alloc; true; maps.graph().nodes().len()]?;
-    let mut mask = vec![in alloc; 0; onwards.width()]?;
-    let mut changed = true;
-    'rounds: while changed {
-        take_each(&mut next, maps, onwards, &left, &touched, &mut mask);
-        changed = put_each(&mut left, &next, &mut touched);
-    }
-    Ok(left)
+/// What is left after some rounds, where the last one took something away, and what the next one knows.
+#[derive(Drop)]
+pub struct Rounds {
+    pub left: Rows,
+    next: Rows,
+    pub touched: Vec<bool>,
+    pub onwards: Option<Rows>,
+    mask: Vec<u64>,
+    looped: Vec<u64>,
 }
 
-/// Takes the pairs away for which a rule fails at a step to a touched target.
-fn take_each(
-    next: &mut Rows,
-    maps: &Maps,
-    onwards: &Rows,
-    left: &Rows,
-    touched: &[bool],
-    mask: &mut [u64],
-)
-    requires next { AreNodeRows maps.now.graph.now next.old }
-    requires onwards { AreNodeRows maps.now.graph.now onwards.now }
+impl Rounds {
+    /// All pairs of one location, before the first round.
+    pub fn new(alloc: Global, maps: &Maps, claimed: &LocSet) -> Result<Rounds, NoMemory>
+        ensures sized { IfOk result (AreSized maps.now.graph.now) }
+        ensures onwards { IfOk result (λ rounds. rounds.onwards ≡ None) }
+        ensures first { IfOk result (λ rounds. (reach : ℕ → ℕ → Bool) → AreAt maps.now.graph.now claimed.now reach 0 rounds) }
+    {
+        let left = ranked_pairs(alloc, maps, &LocSet::new())?;
+        let next = ranked_pairs(alloc, maps, claimed)?;
+        let touched = vec![in alloc; true; maps.graph().nodes().len()]?;
+        let mask = vec![in alloc; 0; left.width()]?;
+        let looped = vec![in alloc; 0; left.width()]?;
+        Ok(Rounds {
+            left,
+            next,
+            touched,
+            onwards: None,
+            mask,
+            looped,
+        })
+    }
+
+    /// Finds what can be reached from each node. The first round doesn't ask for it.
+    pub fn look_onwards(&mut self, alloc: Global, maps: &Maps) -> Result<(), NoMemory>
+        requires { AreSized maps.now.graph.now self.old }
+        ensures sized { OnOk result (AreSized maps.now.graph.now self.new) }
+        ensures onwards { OnOk result ((onwards : PlainRows) × (self.new.onwards ≡ Some onwards)) }
+        ensures left { OnOk result (self.new.left ≡ self.old.left) }
+        ensures at { OnOk result ((claimed : Claimed) (reach : ℕ → ℕ → Bool) (k : ℕ) → AreAt maps.now.graph.now claimed reach k self.old → AreAt maps.now.graph.now claimed reach k self.new) }
+    {
+        let onwards = rows_along(alloc, maps.graph(), Way::Forward)?;
+        self.onwards = Some(onwards);
+        Ok(())
+    }
+
+    /// The next round. The result says whether it took something away.
+    pub fn advance(&mut self, maps: &Maps) -> bool
+        requires { AreSized maps.now.graph.now self.old }
+        ensures sized { AreSized maps.now.graph.now self.new }
+        ensures onwards { self.new.onwards ≡ self.old.onwards }
+        ensures next { (claimed : Claimed) (reach : ℕ → ℕ → Bool) (k : ℕ) → Knows maps.now.graph.now reach k self.old.onwards → AreAt maps.now.graph.now claimed reach k self.old
+            → AreAt maps.now.graph.now claimed reach (suc k) self.new }
+        ensures settled { result ≡ false → (claimed : Claimed) (reach : ℕ → ℕ → Bool) (k : ℕ) → Knows maps.now.graph.now reach k self.old.onwards → AreAt maps.now.graph.now claimed reach k self.old
+            → IsSettled (view_of maps.now.graph.now claimed) reach k × AreLeft (view_of maps.now.graph.now claimed) reach k self.new.left }
+        ensures quiet { (n b : ℕ) → n < length maps.now.graph.now.nodes → b < length maps.now.graph.now.nodes → is_touched self.new.touched.items n ≡ false → has_at self.new.left n b ≡ has_at self.old.left n b }
+        ensures fewer { bits_set (length maps.now.graph.now.nodes) self.new.left + (if result then 1 else 0) ≤ bits_set (length maps.now.graph.now.nodes) self.old.left }
+    {
+        take_each(
+            &mut self.next,
+            maps,
+            &self.onwards,
+            &self.left,
+            &self.touched,
+            &mut self.mask,
+            &mut self.looped,
+        );
+        put_each(&mut self.left, &self.next, &mut self.touched)
+    }
+    /// Whether some node of a touched row and another at its location are each not in the row of the other.
+    pub fn is_open(&self, maps: &Maps) -> bool
+        requires { AreSized maps.now.graph.now self.now }
+        ensures open { IsTrue result → (m n : ℕ) × IsOpen maps.now.graph.now self.now.left m n }
+        ensures bound { result ≡ false → (n m : ℕ) → n < length maps.now.graph.now.nodes → m < length maps.now.graph.now.nodes → IsTrue (is_touched self.now.touched.items n)
+            → place_of maps.now.graph.now m ≡ place_of maps.now.graph.now n → IsTrue (has_either self.now.left m n) }
+    {
+        for n in 0..self.touched.len() as u32 {
+            if self.touched[n as usize] && has_open(maps, &self.left, n) {
+                return true;
+            }
+        }
+        false
+    }
+}
+
+/// Whether n and some node at its location are each not in the row of the other.
+fn has_open(maps: &Maps, left: &Rows, n: u32) -> bool
     requires left { AreNodeRows maps.now.graph.now left.now }
-    requires touched { length touched.now ≡ length maps.now.graph.now.nodes }
-    requires mask { length mask.old ≡ onwards.now.width }
-    requires wide { length mask.old ≡ next.old.width }
-    requires room { length maps.now.graph.now.nodes ≤ 64 * length mask.old }
-    ensures size { IsSameSize next.new next.old }
-    ensures len { length mask.new ≡ length mask.old }
-    ensures bits { (n m : ℕ) → n < length maps.now.graph.now.nodes → m < length maps.now.graph.now.nodes
-        → has_at next.new n m ≡ (has_at next.old n m && not (goes_by (shown maps.now.graph.now) (has_at onwards.now) (gone_in left.now) (is_touched touched.now) m n)) }
+    requires n { n < length maps.now.graph.now.nodes }
+    ensures open { IsTrue result → (m : ℕ) × IsOpen maps.now.graph.now left.now m n }
+    ensures bound { result ≡ false → (m : ℕ) → m < length maps.now.graph.now.nodes → place_of maps.now.graph.now m ≡ place_of maps.now.graph.now n → IsTrue (has_either left.now m n) }
 {
-    for t in 0..touched.len() as u32 {
-        if touched[t as usize] {
-            make_mask(mask, maps, onwards, left, t);
-            keep_each(next, maps.before(t), mask);
+    for m in maps.peers(n) {
+        if !left.get(n, *m) && !left.get(*m, n) {
+            return true;
         }
     }
+    false
 }
 
-/// Clears the bits that the mask doesn't have in the rows of these nodes.
-fn keep_each(rows: &mut Rows, nodes: &[u32], mask: &[u64])
-    requires within { All (λ n. n < rows.old.count) nodes.now }
-    requires mask { length mask.now ≡ rows.old.width }
-    ensures size { IsSameSize rows.new rows.old }
-    ensures bits { (r b : ℕ) → r < rows.old.count → has_at rows.new r b ≡ (has_at rows.old r b && (not (is_among nodes.now r) || has mask.now b)) }
+/// For each node the nodes that are left above it, after the round in which nothing more goes.
+pub fn all_rounds(alloc: Global, maps: &Maps, claimed: &LocSet) -> Result<Rows, NoMemory>
+    ensures rows { IfOk result (AreNodeRows maps.now.graph.now) }
+    ensures rounds { IfOk result (λ left. (reach : ℕ → ℕ → Bool) → IsReach (view_of maps.now.graph.now claimed.now) reach
+        → (rounds : ℕ) × IsSettled (view_of maps.now.graph.now claimed.now) reach rounds × AreLeft (view_of maps.now.graph.now claimed.now) reach rounds left) }
 {
-    for n in nodes {
-        rows.keep(*n, mask);
+    let mut rounds = Rounds::new(alloc, maps, claimed)?;
+    rounds.look_onwards(alloc, maps)?;
+    let mut changed = true;
+    'rounds: while changed {
+        changed = rounds.advance(maps);
     }
+    Ok(rounds.left)
 }
 
-/// Makes the rows those that the round left, and marks where a row lost a bit. The result says whether any did.
-fn put_each(left: &mut Rows, next: &Rows, touched: &mut [bool]) -> bool
-    requires left { IsSquare (length touched.old) left.old }
-    requires next { IsSameSize next.now left.old }
-    ensures size { IsSameSize left.new left.old }
-    ensures len { length touched.new ≡ length touched.old }
-    ensures put { Put (length touched.old) next.now left.old left.new touched.new result }
+/// The same, or none where two nodes at one location are left without a direction. It stops at the first round that leaves
+/// such nodes, and finds what can be reached only where the first round took something away.
+pub fn total_rounds(alloc: Global, maps: &Maps, claimed: &LocSet) -> Result<Option<Rows>, NoMemory>
+    ensures rows { IfOk result (λ left. IfSome left (AreNodeRows maps.now.graph.now)) }
+    ensures greatest { IfOk result (λ left. IfSome left (λ rows. IsGreatest (view_of maps.now.graph.now claimed.now) (above_in (view_of maps.now.graph.now claimed.now) rows))) }
+    ensures total { IfOk result (λ left. IfSome left (AreBound maps.now.graph.now)) }
+    ensures open { IfOk result (λ left. IfNone left ((r : ℕ → ℕ → Bool) → IsClosed (view_of maps.now.graph.now claimed.now) r → ¬ IsTotal (view_of maps.now.graph.now claimed.now) r)) }
 {
-    let mut changed = false;
-    for n in 0..touched.len() as u32 {
-        let is_lost = !outside_is_empty(left.row(n), left.row(n), next.row(n));
-        touched[n as usize] = is_lost;
-        left.put(n, next.row(n));
-        changed = is_lost || changed;
+    let mut rounds = Rounds::new(alloc, maps, claimed)?;
+    let changed = rounds.advance(maps);
+    if rounds.is_open(maps) {
+        return Ok(None);
     }
-    changed
+    if !changed {
+        return Ok(Some(rounds.left));
+    }
+    rounds.look_onwards(alloc, maps)?;
+    Ok(total_rest(rounds, maps, claimed))
+}
+
+/// What the rounds leave behind the first one, or none where they leave two nodes at one location without a direction.
+fn total_rest(mut rounds: Rounds, maps: &Maps, claimed: &LocSet) -> Option<Rows>
+    requires sized { AreSized maps.now.graph.now rounds }
+    requires onwards { (onwards : PlainRows) × (rounds.onwards ≡ Some onwards) }
+    requires bound { AreBound maps.now.graph.now rounds.left }
+    requires first { (reach : ℕ → ℕ → Bool) → AreAt maps.now.graph.now claimed.now reach 1 rounds }
+    ensures rows { IfSome result (AreNodeRows maps.now.graph.now) }
+    ensures greatest { IfSome result (λ rows. IsGreatest (view_of maps.now.graph.now claimed.now) (above_in (view_of maps.now.graph.now claimed.now) rows)) }
+    ensures total { IfSome result (AreBound maps.now.graph.now) }
+    ensures open { IfNone result ((r : ℕ → ℕ → Bool) → IsClosed (view_of maps.now.graph.now claimed.now) r → ¬ IsTotal (view_of maps.now.graph.now claimed.now) r) }
+{
+    let mut changed = true;
+    'rounds: while changed {
+        changed = rounds.advance(maps);
+        if rounds.is_open(maps) {
+            return None;
+        }
+    }
+    Some(rounds.left)
 }

@@ -1,15 +1,17 @@
 //! The relation of a graph.
-ghost use Rattle.std.specs.Prelude.{◌≡◌, IfOk, length, map};
+ghost use Rattle.std.specs.Prelude.{◌≡◌, ℕ, Bool, IfNone, IfOk, IfSome, map};
 ghost use Rattle.reach_prune.specs.Reachable.{IsReachOf, can_reach};
-ghost use Rattle.state_simulation.specs.Held.{IsLeftByRounds, IsRelationOf};
+ghost use Rattle.relation_law.specs.Relations.{IsClosed, IsTotal};
+ghost use Rattle.relation_law.specs.Views.{view_of};
+ghost use Rattle.state_simulation.specs.Held.{HasEach, IsLeftByRounds, IsRelationOf};
 
 use crate::maps::Maps;
-use crate::rounds::all_rounds;
+use crate::rounds::{all_rounds, total_rounds};
 use crate::table::Relation;
 use graph_base::Graph;
 use net_base::{List, Loc, LocSet};
 use outside::NoMemory;
-use reach_prune::{Reach, Way, rows_along};
+use reach_prune::Reach;
 use std::alloc::{AllocError, Global};
 
 /// Which of two nodes at one location of the graph may stand at least as high as the other, where these
@@ -26,10 +28,30 @@ pub fn relation(
     ensures rounds { IfOk result (IsLeftByRounds graph.now (can_reach reach.now)) }
 {
     let maps = Maps::new(alloc, graph)?;
-    let onwards = rows_along(alloc, graph, Way::Forward)?;
-    let rows = all_rounds(alloc, &maps, &onwards, claimed)?;
+    let rows = all_rounds(alloc, &maps, claimed)?;
     let places = places(alloc, graph)?;
     Ok(Relation::new(places, *claimed, rows))
+}
+
+/// The same relation where it has a direction of each two nodes at one location. There is none where it has not: then no
+/// relation that keeps the rules has. That is told as soon as two nodes are left without a direction, and what can be
+/// reached is found only where the first round took something away.
+pub fn total_relation(
+    alloc: Global,
+    graph: &Graph,
+    claimed: &LocSet,
+) -> Result<Option<Relation>, NoMemory>
+    ensures relation { IfOk result (λ r. IfSome r (IsRelationOf graph.now)) }
+    ensures claimed { IfOk result (λ r. IfSome r (λ r. r.claimed ≡ claimed.now)) }
+    ensures total { IfOk result (λ r. IfSome r HasEach) }
+    ensures none { IfOk result (λ r. IfNone r ((s : ℕ → ℕ → Bool) → IsClosed (view_of graph.now claimed.now) s → ¬ IsTotal (view_of graph.now claimed.now) s)) }
+{
+    let maps = Maps::new(alloc, graph)?;
+    let Some(rows) = total_rounds(alloc, &maps, claimed)? else {
+        return Ok(None);
+    };
+    let places = places(alloc, graph)?;
+    Ok(Some(Relation::new(places, *claimed, rows)))
 }
 
 /// The location of each node.

@@ -1,15 +1,29 @@
-use Rattle.std.proofs.Common.{ap, ◌∙◌}
-use Rattle.bit_rows.specs.Tables.{has_at}
+use Rattle.std.proofs.Common.{sym, ap, subst, ◌∙◌}
+use Rattle.graph_base.specs.Graphs.{PlainGraph}
+use Rattle.relation_law.specs.Rounds.{IsReach}
+use Rattle.relation_law.specs.Views.{view_of}
 use Rattle.reach_prune.specs.Reachable.{can_reach}
-use Rattle.state_simulation.proofs.Holding.{all_held}
+use Rattle.state_simulation.proofs.Holding.{made_relation, made_rounds}
+use Rattle.state_simulation.proofs.Staging.{greatest_left}
 use Rattle.state_simulation.proofs.simulation.relation.Goals as goal
 
 pub returns-clause-relation : goal.returns-clause-relation
 returns-clause-relation c =
-    let r = c.new-2.ensures ∙ ap (λ places. record { places = places; claimed = c.args.claimed.now; rows = c.in_ok-rows.rows }) c.in_ok-places.ensures in
-    (all_held c.in_ok-maps.maps.graph.now c.args.graph.now c.args.claimed.now c.new-2.result (can_reach c.args.reach.now) (has_at c.in_ok-onwards.onwards) c.in_ok-rows.rows c.requires.exact (λ a b la lb. c.in_ok-onwards.ensures.exact a b la) c.in_ok-maps.ensures r c.in_ok-rows.ensures.rounds).1
+    let old = c.in_ok-maps.maps.graph.now in
+    let claimed = c.args.claimed.now in
+    let reach = can_reach c.args.reach.now in
+    let rows = c.in_ok-rows.rows in
+    let exact : IsReach (view_of old claimed) reach = subst (λ (z : PlainGraph). IsReach (view_of z claimed) reach) (sym c.in_ok-maps.ensures) c.requires.exact in
+    let made = c.in_ok-rows.ensures.rounds reach exact in
+    let r = c.new-2.ensures ∙ ap (λ places. record { places = places; claimed = claimed; rows = rows }) c.in_ok-places.ensures in
+    made_relation old c.args.graph.now claimed c.new-2.result rows c.in_ok-maps.ensures r (greatest_left old claimed reach made.0 rows exact made.1 made.2)
 
 pub returns-clause-rounds : goal.returns-clause-rounds
 returns-clause-rounds c =
-    let r = c.new-2.ensures ∙ ap (λ places. record { places = places; claimed = c.args.claimed.now; rows = c.in_ok-rows.rows }) c.in_ok-places.ensures in
-    (all_held c.in_ok-maps.maps.graph.now c.args.graph.now c.args.claimed.now c.new-2.result (can_reach c.args.reach.now) (has_at c.in_ok-onwards.onwards) c.in_ok-rows.rows c.requires.exact (λ a b la lb. c.in_ok-onwards.ensures.exact a b la) c.in_ok-maps.ensures r c.in_ok-rows.ensures.rounds).0
+    let old = c.in_ok-maps.maps.graph.now in
+    let claimed = c.args.claimed.now in
+    let reach = can_reach c.args.reach.now in
+    let rows = c.in_ok-rows.rows in
+    let exact : IsReach (view_of old claimed) reach = subst (λ (z : PlainGraph). IsReach (view_of z claimed) reach) (sym c.in_ok-maps.ensures) c.requires.exact in
+    let r = c.new-2.ensures ∙ ap (λ places. record { places = places; claimed = claimed; rows = rows }) c.in_ok-places.ensures in
+    made_rounds old c.args.graph.now claimed c.new-2.result reach rows c.in_ok-maps.ensures r (c.in_ok-rows.ensures.rounds reach exact)

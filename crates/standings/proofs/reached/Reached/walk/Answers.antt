@@ -1,9 +1,10 @@
 use Rattle.std.proofs.Common.{◌≡◌, ℕ, ◌+◌, ◌<◌, refl, ap, sym, subst, ◌∙◌, length, take, get_or, length-append, arith, rules}
 use Rattle.path_automata.specs.States.{states_of}
+use Rattle.path_automata.proofs.StateLemmas.{extends-itself}
 use Rattle.standings.specs.Growth.{AreAsked, each_live, gathered, left_in, next_in, standings_of, ways}
 use Rattle.standings.proofs.Asking.{asked-key, asked-start, asked-within, key-within, reached-key}
 use Rattle.standings.proofs.Gathering.{gathered-extends}
-use Rattle.standings.proofs.Numbering.{known-at, length-standings_in}
+use Rattle.standings.proofs.Numbering.{extends-further, known-at, length-standings_in}
 use Rattle.standings.proofs.Below.{length-made, made-at}
 use Rattle.standings.proofs.reached.Reached.walk.Goals as goal
 
@@ -14,6 +15,7 @@ loop-number-init c =
       asked = subst (λ l. AreAsked first (next_in c.args.net.now c.args.case.now) first l 0) (sym c.requires.no_steps) (asked-start (next_in c.args.net.now c.args.case.now) first c.requires.different);
       few = c.requires.few;
       within = omega arith;
+      kept = extends-itself (states_of c.args.self.now.automata);
     }
 
 pub index-requires : goal.index-requires
@@ -51,6 +53,7 @@ loop-number-preserved c =
           c.loop-number.invariant.asked c.standing-at.ensures here c.in_ok-add_steps.ensures.ok c.in_ok-add_steps.ensures.steps;
       few = c.in_ok-add_steps.ensures.few;
       within = omega (arith, grown, c.loop-number-test.true, c.len.ensures.len);
+      kept = extends-further (states_of c.args.self.now.automata) states (states_of c.add_steps.new.self.automata) c.loop-number.invariant.kept c.in_ok-add_steps.ensures.kept;
     }
 
 pub loop-number-smaller : goal.loop-number-smaller

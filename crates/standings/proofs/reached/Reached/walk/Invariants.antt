@@ -1,4 +1,5 @@
 use Rattle.std.proofs.Common.{◌≤◌, ◌-◌, length}
+use Rattle.path_automata.specs.States.{Extends, states_of}
 use Rattle.standings.specs.Growth.{AreAsked, next_in, standings_of}
 use Rattle.standings.proofs.reached.Reached.walk.Given as goal
 
@@ -7,6 +8,7 @@ invariant-loop-number l = record {
   asked : AreAsked (standings_of l.initial.self) (next_in l.net l.case) (standings_of l.self) l.self.steps.items l.number;
   few : length (standings_of l.self) ≤ 4096;
   within : l.number ≤ length (standings_of l.self);
+  kept : Extends (states_of l.initial.self.automata) (states_of l.self.automata);
 }
 
 abbrev pub decreases-loop-number : goal.decreases-loop-number
