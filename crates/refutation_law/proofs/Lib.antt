@@ -1,0 +1,5 @@
+pub mod Refuted
+pub mod Chains
+pub mod Falling
+pub mod OneRefutation
+pub mod Resting
