@@ -5,3 +5,4 @@ pub mod Verdicts
 pub mod Given
 pub mod Places
 pub mod OneCause
+pub mod LentAutomata

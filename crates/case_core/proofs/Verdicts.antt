@@ -22,7 +22,7 @@ use Rattle.graph_base.specs.Ranked.{IsRankedAt, IsUnrankedAt}
 use Rattle.case_core.specs.Refusals.{ShowsMixed}
 use Rattle.case_core.specs.Sources.{HasPath, HavePaths, IsLeast, IsMixed, IsNamedSource, IsUnranked, IsWithoutPath, names}
 use Rattle.case_core.proofs.Least.{is_found, least_none}
-use Rattle.graph_law.proofs.Claimed.{permitted_node, ranked_claims, ranked_permits, run_from}
+use Rattle.graph_law.proofs.Claimed.{ranked_permits, run_from, claimed_where_ranked}
 use Rattle.case_core.proofs.Walks.{named_from, unranked_node, unranked_walk}
 
 module _ (net : PlainNet) (s : PlainStatement) (c : Case) (g : PlainGraph) (graph_rules : IsGraph g) (faithful : IsFaithful net s (holds c.origins) c.external g)
@@ -63,7 +63,7 @@ module _ (net : PlainNet) (s : PlainStatement) (c : Case) (g : PlainGraph) (grap
   source_may r source = and_from (from_holds s.from r) (not (holds c.origins r)) (named_from s.from r source.named) source.no_origin
 
   has_path : (r n : ℕ) → is_router net r ≡ true → r < length table → (row table r).ranked ≡ Some n → HasPath net s c r
-  has_path r n router lt h = (ranked_claims net s c g graph_rules faithful r n router (ranked_row r n lt h).0).starts
+  has_path r n router lt h = ((claimed_where_ranked net s c g graph_rules faithful r).0 (router, (n, (ranked_row r n lt h).0))).starts
 
   lacking : (r : ℕ) → r < length table → lacks_path s.from c.origins table r ≡ true → IsWithoutPath net s c r
   lacking r lt h =
@@ -72,7 +72,7 @@ module _ (net : PlainNet) (s : PlainStatement) (c : Case) (g : PlainGraph) (grap
       let named : IsNamedSource net s c r = record { at_router = lt-ltb r (length net.routers) (row_router r lt); named = source.0; no_origin = source.1 } in (
         named,
         λ path.
-            let node = permitted_node net s c g graph_rules faithful r path.0 (source_may r named) path.1 in
+            let node = ((claimed_where_ranked net s c g graph_rules faithful r).1 (record { at_router = named.at_router; may = source_may r named; starts = path })).1 in
             no_ranked_row r node.0 lt node.1 (is_none_parts _ parts.1),
       )
 
@@ -107,7 +107,7 @@ module _ (net : PlainNet) (s : PlainStatement) (c : Case) (g : PlainGraph) (grap
   mixed_row r mixed =
       let claimed = mixed.0 in
       let lt = router_row r claimed.at_router in
-      let ranked = permitted_node net s c g graph_rules faithful r claimed.starts.0 claimed.may claimed.starts.1 in
+      let ranked = ((claimed_where_ranked net s c g graph_rules faithful r).1 claimed).1 in
       let unranked = unranked_node net s c g graph_rules faithful r mixed.1.0 claimed.may mixed.1.1 in
       let some : is_some (row table r).ranked ≡ true = elim (cases_Option (row table r).ranked) [
         | inr n ↦ ap is_some n.1
@@ -131,7 +131,7 @@ module _ (net : PlainNet) (s : PlainStatement) (c : Case) (g : PlainGraph) (grap
       let router = lt-ltb r (length net.routers) (row_router r found.below) in
       let ranked = ranked_row r m.ranked found.below first.1.1 in
       let unranked = unranked_row r m.unranked found.below first.1.2 in
-      let claimed = ranked_claims net s c g graph_rules faithful r m.ranked router ranked.0 in
+      let claimed = (claimed_where_ranked net s c g graph_rules faithful r).0 (router, (m.ranked, ranked.0)) in
       let run = shown_walk_run net (holds c.origins) c.external g m.ranked with faithful.formed shown in
       let other_run = shown_walk_run net (holds c.origins) c.external g m.unranked without faithful.formed other in
       let starts = run_from net s c g graph_rules faithful r m.ranked with ranked.0.1 claimed.may run in

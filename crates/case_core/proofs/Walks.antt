@@ -14,11 +14,11 @@ use Rattle.graph_base.specs.Ranked.{IsUnrankedAt}
 use Rattle.graph_base.specs.Runs.{place_of, rank_at, run}
 use Rattle.regret_law.specs.Faithful.{IsFaithful, is_walk_to, may_start}
 use Rattle.regret_law.specs.Passes.{IsClaimed}
-use Rattle.regret_law.proofs.RunWalks.{run_begins, run_path}
-use Rattle.regret_law.proofs.FaithfulParts.{run_inside}
 use Rattle.list_laws.proofs.Options.{cases_Option, is_some_parts}
 use Rattle.graph_law.proofs.Claimed.{run_from}
 use Rattle.case_core.specs.Sources.{IsMixed, IsUnranked, names}
+use Rattle.graph_base.proofs.RunSteps.{run_begins, run_inside}
+use Rattle.regret_law.proofs.RunWalks.{runs_are_walks}
 
 pub named_from : (from : FromSet) (r : ℕ) → names from r ≡ true → from_holds from r ≡ true
 named_from Any r h = absurd (true≢false (sym h))
@@ -35,14 +35,14 @@ module _ (net : PlainNet) (s : PlainStatement) (c : Case) (g : PlainGraph) (grap
       record {
         walk = is.2;
         rank = is.3 ∙ none;
-        suffix = faithful.has_no_other path (run_path net Origin c.external g graph_rules faithful.formed path n h) (ap is_some h);
+        suffix = faithful.has_no_other path (runs_are_walks net Origin c.external g graph_rules faithful.formed path n h) (ap is_some h);
       }
 
   -- where a walk without a rank starts with which a permitted one ends, one without a rank
   pub unranked_node : (r : ℕ) (rest : List ℕ) → may_start Origin s r ≡ true → IsUnranked net s c (r ∷ rest) → (n : ℕ) × IsUnrankedAt g r n
   unranked_node r rest may is =
       let found = is_some_parts (run g (r ∷ rest)) (faithful.has_run is.suffix.0 (r ∷ rest) (or_left (is_walk_to net Origin (r ∷ rest)) _ is.walk) is.suffix.1) in
-      let at = run_begins net Origin c.external g graph_rules faithful.formed r found.0 rest found.1 in
+      let at = run_begins g r found.0 rest found.1 in
       let same = run_from net s c g graph_rules faithful r found.0 (r ∷ rest) at may found.1 in
       (found.0, (run_inside g graph_rules (r ∷ rest) found.0 found.1, at, sym same.3 ∙ is.rank))
 

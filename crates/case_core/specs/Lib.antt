@@ -1,3 +1,4 @@
+pub mod Automata
 pub mod Firsts
 pub mod Mixed
 pub mod Refusals

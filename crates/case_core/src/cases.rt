@@ -1,28 +1,26 @@
 //! The graph of a case.
-ghost use Rattle.std.specs.Prelude.{◌≡◌, ◌<◌, ◌≤◌, ℕ, IfErr, IfOk, OnOk, length};
+ghost use Rattle.std.specs.Prelude.{◌≡◌, ◌<◌, ◌≤◌, ℕ, IfErr, IfOk, IfSome, OnOk, length};
 ghost use Rattle.path_words.specs.declared.case.Case.{Case as PlainCase};
 ghost use Rattle.path_words.specs.Cases.{case_list};
-ghost use Rattle.path_words.specs.Meaning.{alternative_count};
-ghost use Rattle.path_words.specs.Policies.{plain_statement, policy_of, ranking_of};
-ghost use Rattle.path_exprs.specs.View.{views};
-ghost use Rattle.path_exprs.specs.Forward.{expressions};
+ghost use Rattle.path_words.specs.Policies.{plain_statement, policy_of};
 ghost use Rattle.graph_base.specs.Graphs.{IsGraph, PlainGraph};
 ghost use Rattle.graph_base.specs.Walks.{IsEnteredFromBefore};
 ghost use Rattle.case_law.specs.Cases.{FitsOrigins, OfCase, OriginsAreRouters};
 ghost use Rattle.graph_law.specs.Limits.{IsBuiltWithin};
+ghost use Rattle.case_core.specs.Automata.{FitsNumber, FitsStatement, IsAutomatonOf};
 ghost use Rattle.case_core.specs.Refusals.{FitsCase, IsCause, IsGraphOf, IsMade, ShowsWalks};
 ghost use Rattle.case_core.specs.Sources.{HavePaths, NoneMixed};
 
+use crate::automata::{StatementAutomata, automata_for};
 use crate::firsts::first_nodes;
 use crate::refusal::CompileRefusal;
 use crate::sources::{Mixed, first_mixed, without_path};
-use constraint_expand::{ExpandFault, expand};
 use graph_base::{Graph, walk_of};
 use net_base::Net;
 use outside::NoMemory;
-use path_exprs::RankedExpr;
+use path_automata::Automata;
 use path_words::{Case, CaseList, Policy, Statement};
-use product_graph::{BuildFault, build};
+use product_graph::{BuildFault, build_over};
 use reach_prune::trim;
 use std::alloc::Global;
 
@@ -33,39 +31,24 @@ pub struct CaseGraph {
     pub used: u32,
 }
 
-/// The expressions of a statement's alternatives.
-fn expanded(
-    alloc: Global,
-    net: &Net,
-    number: u32,
-    statement: &Statement,
-) -> Result<RankedExpr, CompileRefusal>
-    ensures ranks { OnOk result (alternative_count (ranking_of statement.now.ranked) ≤ 64) }
-    ensures expressions { IfOk result (λ r. views r ≡ expressions net.now (ranking_of statement.now.ranked)) }
-    ensures refused { (room : ℕ) (c : PlainCase) → IfErr result (λ e. IsCause net.now number room (plain_statement statement.now) c e) }
-{
-    match expand(alloc, &statement.ranked, net) {
-        Ok(ranked) => Ok(ranked),
-        Err(ExpandFault::TooManyRanks(count)) => Err(CompileRefusal::TooManyRanks(number, count)),
-        Err(ExpandFault::NoMemory) => Err(CompileRefusal::NoMemory),
-    }
-}
-
-/// The graph that is built of a case.
+/// The graph that is built of a case by the automaton of its statement, which is given back.
+#[tactic(auto, using(crate::proofs::LentAutomata::automaton_extends))]
 fn built(
     alloc: Global,
     net: &Net,
     number: u32,
     case: &Case,
     statement: &Statement,
+    automata: Automata,
     room: u32,
-) -> Result<Graph, CompileRefusal>
-    ensures built { IfOk result (λ g. IsBuiltWithin net.now room (plain_statement statement.now) case.now g) }
+) -> Result<(Graph, Automata), CompileRefusal>
+    requires { IsAutomatonOf net.now (plain_statement statement.now) automata }
+    ensures built { IfOk result (λ r. IsBuiltWithin net.now room (plain_statement statement.now) case.now r.0) }
+    ensures automata { IfOk result (λ r. IsAutomatonOf net.now (plain_statement statement.now) r.1) }
     ensures refused { IfErr result (λ e. IsCause net.now number room (plain_statement statement.now) case.now e) }
 {
-    let ranked = expanded(alloc, net, number, statement)?;
-    match build(alloc, net, case, &statement.from, &ranked, room) {
-        Ok(graph) => Ok(graph),
+    match build_over(alloc, net, case, &statement.from, automata, room) {
+        Ok(given) => Ok(given),
         Err(BuildFault::TooManyStates) => Err(CompileRefusal::TooManyStates(number)),
         Err(BuildFault::TooManySteps) => Err(CompileRefusal::TooManySteps(number)),
         Err(BuildFault::NoMemory) => Err(CompileRefusal::NoMemory),
@@ -118,27 +101,65 @@ fn judged(
     Ok(())
 }
 
-/// The graph of a case with its statement, or why the case is refused.
+/// The graph of a case with its statement, and the automaton for the statement's next case, or why the case is refused.
 fn graph_of(
     alloc: Global,
     net: &Net,
     number: u32,
     case: &Case,
     statement: &Statement,
+    kept: Option<StatementAutomata>,
     room: u32,
-) -> Result<CaseGraph, CompileRefusal>
-    requires { FitsOrigins net.now case.now }
-    ensures graph { IfOk result (λ given. IsGraphOf net.now room (plain_statement statement.now) case.now given) }
-    ensures fits { IfOk result (λ given. FitsCase net.now (plain_statement statement.now) case.now given.graph) }
+) -> Result<(CaseGraph, StatementAutomata), CompileRefusal>
+    requires origins { FitsOrigins net.now case.now }
+    requires kept { IfSome kept (FitsStatement net.now case.now.statement (plain_statement statement.now)) }
+    ensures graph { IfOk result (λ given. IsGraphOf net.now room (plain_statement statement.now) case.now given.0) }
+    ensures fits { IfOk result (λ given. FitsCase net.now (plain_statement statement.now) case.now given.0.graph) }
     ensures paths { OnOk result (HavePaths net.now (plain_statement statement.now) case.now) }
     ensures unmixed { OnOk result (NoneMixed net.now (plain_statement statement.now) case.now) }
+    ensures automata { IfOk result (λ given. IsAutomatonOf net.now (plain_statement statement.now) given.1.automata) }
+    ensures statement { IfOk result (λ given. given.1.statement ≡ case.now.statement) }
     ensures refused { IfErr result (λ e. IsCause net.now number room (plain_statement statement.now) case.now e) }
 {
-    let all = built(alloc, net, number, case, statement, room)?;
+    let kept = automata_for(alloc, net, number, case, statement, kept)?;
+    let (all, automata) = built(alloc, net, number, case, statement, kept.automata, room)?;
     let graph = trim(alloc, &all)?;
     judged(alloc, net, number, case, statement, &graph)?;
     let used = all.steps().len() as u32;
-    Ok(CaseGraph { graph, used })
+    let next = StatementAutomata {
+        statement: kept.statement,
+        automata,
+        nodes: kept.nodes.saturating_sub(all.nodes().len()),
+    };
+    Ok((CaseGraph { graph, used }, next))
+}
+
+/// The graph of the case with this number, from 1, or why the case is refused, as `case_graph` says. What is kept of an
+/// earlier case serves this one, where they have one statement, and what is given back serves the next one.
+pub fn case_graph_over(
+    alloc: Global,
+    net: &Net,
+    policy: &Policy,
+    cases: &CaseList,
+    number: u32,
+    room: u32,
+    kept: Option<StatementAutomata>,
+) -> Result<(CaseGraph, StatementAutomata), CompileRefusal>
+    requires cases { cases.now.cases ≡ case_list net.now (policy_of policy.now) }
+    requires from_one { 1 ≤ number }
+    requires within { number ≤ length cases.now.cases }
+    requires routers { OriginsAreRouters net.now policy.now.origins }
+    requires kept { IfSome kept (FitsNumber net.now (policy_of policy.now)) }
+    ensures graph { IfOk result (λ given. OfCase net.now (policy_of policy.now) number (λ s c. IsGraphOf net.now room s c given.0)) }
+    ensures fits { IfOk result (λ given. OfCase net.now (policy_of policy.now) number (λ s c. FitsCase net.now s c given.0.graph)) }
+    ensures paths { OnOk result (OfCase net.now (policy_of policy.now) number (HavePaths net.now)) }
+    ensures unmixed { OnOk result (OfCase net.now (policy_of policy.now) number (NoneMixed net.now)) }
+    ensures kept { IfOk result (λ given. FitsNumber net.now (policy_of policy.now) given.1) }
+    ensures refused { IfErr result (λ e. OfCase net.now (policy_of policy.now) number (λ s c. IsCause net.now number room s c e)) }
+{
+    let case = &cases.cases.as_slice()[number as usize - 1];
+    let statement = &policy.statements()[case.statement as usize - 1];
+    graph_of(alloc, net, number, case, statement, kept, room)
 }
 
 /// The graph of the case with this number, from 1, with at most `room` steps before it is trimmed, or why
@@ -162,7 +183,6 @@ pub fn case_graph(
     ensures unmixed { OnOk result (OfCase net.now (policy_of policy.now) number (NoneMixed net.now)) }
     ensures refused { IfErr result (λ e. OfCase net.now (policy_of policy.now) number (λ s c. IsCause net.now number room s c e)) }
 {
-    let case = &cases.cases.as_slice()[number as usize - 1];
-    let statement = &policy.statements()[case.statement as usize - 1];
-    graph_of(alloc, net, number, case, statement, room)
+    let (given, _) = case_graph_over(alloc, net, policy, cases, number, room, None)?;
+    Ok(given)
 }

@@ -1,12 +1,14 @@
 //! The graph of a case of a policy, or why the case is refused.
 #![tactic(auto)]
 
+mod automata;
 mod cases;
 mod firsts;
 mod laws;
 mod refusal;
 mod sources;
 
-pub use cases::{CaseGraph, case_graph};
+pub use automata::StatementAutomata;
+pub use cases::{CaseGraph, case_graph, case_graph_over};
 pub use laws::{given_cases_are_not_refused, refusals_exclude_one_another};
 pub use refusal::CompileRefusal;

@@ -10,9 +10,11 @@ use Rattle.graph_base.specs.Rules.{MeetsRules}
 use Rattle.graph_base.specs.Runs.{place_of}
 use Rattle.relation_law.specs.Views.{view_of}
 use Rattle.relation_law.proofs.Bridge.{rules_give_numbers}
-use Rattle.relation_law.proofs.Counts.{numbers_give_total}
+use Rattle.relation_law.proofs.Counts.{by_number, by_number-closed, by_number-total}
 use Rattle.state_simulation.specs.Held.{HasEach, IsRelationOf, PlainRelation, has}
-use Rattle.state_simulation.proofs.Holding.{each_where_total, total_where_each}
+use Rattle.state_simulation.proofs.Holding.{total_where_each}
+use Rattle.case_evidence.specs.Claimed.{HasNoTotal}
+use Rattle.net_base.specs.declared.loc.LocSet.{LocSet}
 use Rattle.pref_inference.specs.Inferred as found
 use Rattle.regret_law.specs.Faithful.{IsFaithful}
 use Rattle.regret_law.specs.Passes.{IsClaimed}
@@ -38,24 +40,25 @@ number_read (x ∷ xs) zero = refl
 number_read (x ∷ xs) (suc n) = number_read xs n
 
 module _ (net : PlainNet) (s : PlainStatement) (c : Case) (g : PlainGraph) (graph_rules : IsGraph g) (faithful : IsFaithful net s (holds c.origins) c.external g) where
-  module _ (r : PlainRelation) (is : IsRelationOf g r) (ranked : (l : ℕ) → (holds r.claimed l ≡ true) ↔ IsRankedRouter net g l) where
-    claims : (l : ℕ) → (holds r.claimed l ≡ true) ↔ IsClaimed net s c l
+  module _ (claimed : LocSet) (ranked : (l : ℕ) → (holds claimed l ≡ true) ↔ IsRankedRouter net g l) where
+    claims : (l : ℕ) → (holds claimed l ≡ true) ↔ IsClaimed net s c l
     claims l = (λ h. (claimed_where_ranked net s c g graph_rules faithful l).0 ((ranked l).0 h), λ h. (ranked l).1 ((claimed_where_ranked net s c g graph_rules faithful l).1 h))
 
-    -- where the relation isn't total, no numbers meet the rules
-    pub no_numbers : (HasEach r → ⊥) → HasNoNumbers net s c g
-    no_numbers partial number rules =
-        let held : MeetsRules net (λ l. holds r.claimed l ≡ true) c.external g number = rules_claimed net (IsClaimed net s c) (λ l. holds r.claimed l ≡ true) c.external g number (λ l h. (claims l).0 h) rules in
-        partial
-        (each_where_total g r is
-        (numbers_give_total (view_of g r.claimed) (has r) number is.greatest
-        (rules_give_numbers net (holds c.origins) c.external g faithful.formed graph_rules r.claimed (λ l h. ((claims l).0 h).at_router) (listeners_ranked net s c g graph_rules faithful) number held)))
+  -- numbers that meet the rules put the nodes in an order that keeps the rules of a relation
+  pub no_numbers : HasNoTotal net g → HasNoNumbers net s c g
+  no_numbers partial number rules =
+      let claimed = partial.claimed in
+      let claims = claims claimed partial.claims in
+      let held : MeetsRules net (λ l. holds claimed l ≡ true) c.external g number = rules_claimed net (IsClaimed net s c) (λ l. holds claimed l ≡ true) c.external g number (λ l h. (claims l).0 h) rules in
+      let numbers = rules_give_numbers net (holds c.origins) c.external g faithful.formed graph_rules claimed (λ l h. ((claims l).0 h).at_router) (listeners_ranked net s c g graph_rules faithful) number held in
+      partial.none (by_number (view_of g claimed) number) (by_number-closed (view_of g claimed) number numbers) (by_number-total (view_of g claimed) number)
 
+  module _ (r : PlainRelation) (is : IsRelationOf g r) (ranked : (l : ℕ) → (holds r.claimed l ≡ true) ↔ IsRankedRouter net g l) where
     -- where it is, the numbers are those of the case
     pub are_numbers : (numbers : List ℕ) → HasEach r → length numbers ≡ length g.nodes → ((n : ℕ) → n < length g.nodes → found.number_in numbers n ≡ found.inferred net g r n) → IsNumbered net s c g numbers
     are_numbers numbers each size counts = record {
       claimed = r.claimed;
-      claims = claims;
+      claims = claims r.claimed ranked;
       relation = has r;
       greatest = is.greatest;
       total = total_where_each g r is each;
@@ -65,7 +68,7 @@ module _ (net : PlainNet) (s : PlainStatement) (c : Case) (g : PlainGraph) (grap
 
     pub numbers_meet : (numbers : List ℕ) → MeetsRules net (λ l. holds r.claimed l ≡ true) c.external g (found.number_in numbers) → MeetsRules net (IsClaimed net s c) c.external g (number_in numbers)
     numbers_meet numbers rules =
-        rules_claimed net (λ l. holds r.claimed l ≡ true) (IsClaimed net s c) c.external g (number_in numbers) (λ l h. (claims l).1 h)
+        rules_claimed net (λ l. holds r.claimed l ≡ true) (IsClaimed net s c) c.external g (number_in numbers) (λ l h. (claims r.claimed ranked l).1 h)
         (subst (MeetsRules net (λ l. holds r.claimed l ≡ true) c.external g) (λ i n. number_read numbers n i) rules)
 
 -- ---- of a graph that is given
@@ -82,8 +85,7 @@ module _ (net : PlainNet) (room : ℕ) (s : PlainStatement) (c : Case) (given : 
         rules = numbers_meet net s c given.graph fits.graph fits.faithful r relation ranked given.prefs.of (rules c.external);
       }
 
-pub is_refused : (net : PlainNet) (number room : ℕ) (s : PlainStatement) (c : Case) (g : PlainGraph) (used : ℕ) → IsGivenGraph net room s c g used → (r : PlainRelation) → IsRelationOf g r
-    → ((l : ℕ) → (holds r.claimed l ≡ true) ↔ IsRankedRouter net g l) → (HasEach r → ⊥) → IsCaseCause net number room s c (NoEvidence number g)
-is_refused net number room s c g used is r relation ranked partial =
+pub is_refused : (net : PlainNet) (number room : ℕ) (s : PlainStatement) (c : Case) (g : PlainGraph) (used : ℕ) → IsGivenGraph net room s c g used → HasNoTotal net g → IsCaseCause net number room s c (NoEvidence number g)
+is_refused net number room s c g used is partial =
     let fits = is.fits [] [] in
-    (refl, (used, is), no_numbers net s c g fits.graph fits.faithful r relation ranked partial)
+    (refl, (used, is), no_numbers net s c g fits.graph fits.faithful partial)

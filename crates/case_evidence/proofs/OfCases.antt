@@ -1,24 +1,18 @@
 -- What is known of the one case with a number.
-use Rattle.std.proofs.Common.{◌≡◌, ℕ, zero, suc, ◌≤◌, length, Some, Result, Ok, Err, inl, inr, arith}
-use Rattle.std.specs.Prelude.{IfErr, IfOk, slice_get}
+use Rattle.std.proofs.Common.{◌≡◌, ℕ, zero, suc, ◌≤◌, length, Some, inl, inr, arith}
+use Rattle.std.specs.Prelude.{slice_get}
 use Rattle.std.proofs.lemmas.Option.{slice_get_cases}
 use Rattle.net_base.specs.Network.{PlainNet}
 use Rattle.path_words.specs.declared.case.Case.{Case}
 use Rattle.path_words.specs.Cases.{case_list}
 use Rattle.path_words.specs.Policies.{PlainPolicy, PlainStatement}
 use Rattle.case_law.specs.Cases.{IsCase, OfCase}
-use Rattle.case_core.specs.Refusals.{IsGraphOf}
+use Rattle.case_core.specs.Refusals.{IsCause, IsGraphOf}
+use Rattle.case_core.specs.declared.refusal.CompileRefusal.{CompileRefusal}
+use Rattle.case_core.specs.declared.refusal.CompileRefusal.TheVariants.{TooManyRanks, TooManyStates, TooManySteps, SourceWithoutPath, MixedSource, NoEvidence, TooManyTags, NoMemory}
+use Rattle.case_evidence.specs.Accepted.{IsCaseCause}
 use Rattle.case_core.specs.declared.cases.CaseGraph.{CaseGraph}
 use Rattle.case_law.proofs.Origins.{case_known}
-
--- what holds of a result for each such case holds of the value that it gives
-pub ok_of_case : {X E : Type 0} (r : Result X E) (net : PlainNet) (policy : PlainPolicy) (number : ℕ) (Says : PlainStatement → Case → X → Type 0) → OfCase net policy number (λ s c. IfOk r (Says s c)) → IfOk r (λ x. OfCase net policy number (λ s c. Says s c x))
-ok_of_case (Ok x) net policy number Says each = each
-ok_of_case (Err e) net policy number Says each = tt
-
-pub err_of_case : {X E : Type 0} (r : Result X E) (net : PlainNet) (policy : PlainPolicy) (number : ℕ) (Says : PlainStatement → Case → E → Type 0) → OfCase net policy number (λ s c. IfErr r (Says s c)) → IfErr r (λ x. OfCase net policy number (λ s c. Says s c x))
-err_of_case (Ok x) net policy number Says each = tt
-err_of_case (Err e) net policy number Says each = each
 
 -- there is a case with each number of the list, from 1
 pub case_there : (net : PlainNet) (policy : PlainPolicy) (number : ℕ) → 1 ≤ number → number ≤ length (case_list net policy) → (s : PlainStatement) × (c : Case) × IsCase net policy number s c
@@ -37,3 +31,14 @@ used_within net policy number room given from within of =
     let case = case_there net policy number from within in
     let graph = of case.0 case.1 case.2 in
     omega (arith, graph.1.within.steps, graph.2)
+
+-- what refuses the graph of a case refuses the case
+pub case_cause : (net : PlainNet) (number room : ℕ) (s : PlainStatement) (c : Case) (e : CompileRefusal) → IsCause net number room s c e → IsCaseCause net number room s c e
+case_cause net number room s c (TooManyRanks k count) why = why
+case_cause net number room s c (TooManyStates k) why = why
+case_cause net number room s c (TooManySteps k) why = why
+case_cause net number room s c (SourceWithoutPath k r) why = why
+case_cause net number room s c (MixedSource k r with without) why = why
+case_cause net number room s c (NoEvidence k g) why = absurd why
+case_cause net number room s c (TooManyTags r) why = why
+case_cause net number room s c NoMemory why = why

@@ -1,13 +1,14 @@
 //! Cases that are accepted.
-ghost use Rattle.std.specs.Prelude.{◌≡◌, ◌≤◌, ℕ, IfErr, IfOk, length};
+ghost use Rattle.std.specs.Prelude.{◌≡◌, ◌≤◌, ℕ, IfErr, IfOk, IfSome, length};
 ghost use Rattle.path_words.specs.declared.case.Case.{Case};
 ghost use Rattle.path_words.specs.Cases.{case_list};
 ghost use Rattle.path_words.specs.Policies.{PlainStatement, policy_of};
 ghost use Rattle.case_law.specs.Cases.{OfCase, OriginsAreRouters};
+ghost use Rattle.case_core.specs.Automata.{FitsNumber};
 ghost use Rattle.case_evidence.specs.Accepted.{IsAccepted, IsCaseCause, IsGivenGraph};
 
 use crate::claimed::claimed_relation;
-use case_core::{CaseGraph, CompileRefusal, case_graph};
+use case_core::{CaseGraph, CompileRefusal, StatementAutomata, case_graph_over};
 use graph_base::{Graph, Prefs};
 use net_base::Net;
 use path_words::{CaseList, Policy};
@@ -36,10 +37,9 @@ fn numbered(
     ensures used { IfOk result (λ made. made.used ≡ given.used) }
     ensures sized { IfOk result (λ made. length made.prefs.of ≡ length made.graph.nodes) }
 {
-    let relation = claimed_relation(alloc, net, &given.graph)?;
-    if !relation.is_total() {
+    let Some(relation) = claimed_relation(alloc, net, &given.graph)? else {
         return Err(CompileRefusal::NoEvidence(number, given.graph));
-    }
+    };
     let prefs = infer(alloc, net, &given.graph, &relation)?;
     Ok(AcceptedCase {
         graph: given.graph,
@@ -50,7 +50,8 @@ fn numbered(
 
 /// The case with this number, from 1, with numbers for the nodes of its graph, or why the case is refused.
 /// The graph has at most `room` steps before it is trimmed. The refusals are tried in the order of
-/// `CompileRefusal`, and if memory is not refused the case is accepted exactly where none applies.
+/// `CompileRefusal`, and if memory is not refused the case is accepted exactly where none applies. What is
+/// kept of an earlier case serves this one, where they have one statement, and what is given back serves the next one.
 pub fn accepted_case(
     alloc: Global,
     net: &Net,
@@ -58,16 +59,20 @@ pub fn accepted_case(
     cases: &CaseList,
     number: u32,
     room: u32,
-) -> Result<AcceptedCase, CompileRefusal>
+    kept: Option<StatementAutomata>,
+) -> Result<(AcceptedCase, StatementAutomata), CompileRefusal>
     requires cases { cases.now.cases ≡ case_list net.now (policy_of policy.now) }
     requires from_one { 1 ≤ number }
     requires within { number ≤ length cases.now.cases }
     requires routers { OriginsAreRouters net.now policy.now.origins }
-    ensures accepted { IfOk result (λ given. OfCase net.now (policy_of policy.now) number (λ s c. IsAccepted net.now room s c given)) }
+    requires kept { IfSome kept (FitsNumber net.now (policy_of policy.now)) }
+    ensures accepted { IfOk result (λ given. OfCase net.now (policy_of policy.now) number (λ s c. IsAccepted net.now room s c given.0)) }
     ensures refused { IfErr result (λ e. OfCase net.now (policy_of policy.now) number (λ s c. IsCaseCause net.now number room s c e)) }
-    ensures room { IfOk result (λ given. given.used ≤ room) }
-    ensures sized { IfOk result (λ given. length given.prefs.of ≡ length given.graph.nodes) }
+    ensures room { IfOk result (λ given. given.0.used ≤ room) }
+    ensures sized { IfOk result (λ given. length given.0.prefs.of ≡ length given.0.graph.nodes) }
+    ensures kept { IfOk result (λ given. FitsNumber net.now (policy_of policy.now) given.1) }
 {
-    let given = case_graph(alloc, net, policy, cases, number, room)?;
-    numbered(alloc, net, number, given)
+    let (given, kept) = case_graph_over(alloc, net, policy, cases, number, room, kept)?;
+    let accepted = numbered(alloc, net, number, given)?;
+    Ok((accepted, kept))
 }

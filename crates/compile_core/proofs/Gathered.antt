@@ -1,5 +1,5 @@
 -- The evidence that is gathered case by case.
-use Rattle.std.proofs.Common.{◌≡◌, ℕ, ◌+◌, ◌<◌, List, [], ◌∷◌, ◌++◌, length, drop, get_or, Some, refl, sym, ap, ◌∙◌, arith, append_assoc, append-nil}
+use Rattle.std.proofs.Common.{◌≡◌, ℕ, zero, suc, ◌+◌, ◌<◌, ◌≤◌, List, [], ◌∷◌, ◌++◌, length, drop, get_or, Some, refl, sym, ap, ◌∙◌, arith, append_assoc, append-nil}
 use Rattle.std.specs.Prelude.{slice_get}
 use Rattle.std.specs.List.{zip}
 use Rattle.std.proofs.lemmas.List.{drop_more, drop_all}
@@ -10,8 +10,31 @@ use Rattle.path_words.specs.declared.case.Case.{Case}
 use Rattle.graph_base.specs.declared.graph.Prefs.{Prefs}
 use Rattle.graph_base.specs.Graphs.{PlainGraph}
 use Rattle.evidence_base.specs.Made.{PlainCaseEvidence}
-use Rattle.config_made.specs.Evidence.{evidence_of}
-use Rattle.config_made.proofs.Gathering.{evidence-at, evidence-short}
+use Rattle.compile_core.specs.Compiling.{evidence_of}
+
+abbrev one : Case → PlainGraph → Prefs → List Tag → PlainCaseEvidence
+one c g p t = record { case = c; graph = g; numbers = p.of; tags = t }
+
+evidence-at : (cs : List Case) (gs : List PlainGraph) (ps : List Prefs) (ts : List (List Tag)) (k : ℕ) (c : Case) (g : PlainGraph) (p : Prefs) (t : List Tag)
+    → slice_get cs k ≡ Some c → slice_get gs k ≡ Some g → slice_get ps k ≡ Some p → slice_get ts k ≡ Some t → slice_get (evidence_of cs gs ps ts) k ≡ Some (one c g p t)
+evidence-at [] gs ps ts k c g p t a b d e = absurd cc
+evidence-at (c' ∷ cs) [] ps ts k c g p t a b d e = absurd cc
+evidence-at (c' ∷ cs) (g' ∷ gs) [] ts k c g p t a b d e = absurd cc
+evidence-at (c' ∷ cs) (g' ∷ gs) (p' ∷ ps) [] k c g p t a b d e = absurd cc
+evidence-at (c' ∷ cs) (g' ∷ gs) (p' ∷ ps) (t' ∷ ts) zero c g p t a b d e =
+    let is_c : c' ≡ c = cc in
+    let is_g : g' ≡ g = cc in
+    let is_p : p' ≡ p = cc in
+    let is_t : t' ≡ t = cc in
+    λ i. Some (one (is_c i) (is_g i) (is_p i) (is_t i))
+evidence-at (c' ∷ cs) (g' ∷ gs) (p' ∷ ps) (t' ∷ ts) (suc k) c g p t a b d e = evidence-at cs gs ps ts k c g p t a b d e
+
+evidence-short : (cs : List Case) (gs : List PlainGraph) (ps : List Prefs) (ts : List (List Tag)) → length (evidence_of cs gs ps ts) ≤ length cs
+evidence-short [] gs ps ts = omega arith
+evidence-short (c ∷ cs) [] ps ts = omega arith
+evidence-short (c ∷ cs) (g ∷ gs) [] ts = omega arith
+evidence-short (c ∷ cs) (g ∷ gs) (p ∷ ps) [] = omega arith
+evidence-short (c ∷ cs) (g ∷ gs) (p ∷ ps) (t ∷ ts) = omega (arith, evidence-short cs gs ps ts)
 
 pair_parts : (g h : PlainGraph) (p q : Prefs) → ◌≡◌ {A = PlainGraph × Prefs} (g, p) (h, q) → (g ≡ h) × (p ≡ q)
 pair_parts g h p q same = (ap (λ (x : PlainGraph × Prefs). x.0) same, ap (λ (x : PlainGraph × Prefs). x.1) same)

@@ -16,21 +16,20 @@ use Rattle.case_law.specs.Origins.{AreOrigins}
 use Rattle.evidence_base.specs.Evidence.{IsCaseEvidence}
 use Rattle.evidence_base.specs.Made.{PlainCaseEvidence, AreTags, IsConfigOf, number_at, statement_at}
 use Rattle.config_base.specs.Configs.{PlainConfig}
-use Rattle.config_made.specs.Conditions.{IsSingle, IsWhole}
-use Rattle.config_made.specs.Evidence.{evidence_of}
+use Rattle.config_made.specs.Conditions.{IsSingle}
 use Rattle.community_assign.specs.Law.{AreAtLocations}
 use Rattle.community_assign.specs.Tagging.{tags_of, all_nodes, IsRoomy}
 use Rattle.community_assign.proofs.Order.{tagging}
 use Rattle.regret_law.specs.Passes.{IsCaseGraph, IsClaimed, Passes, all_steps}
-use Rattle.regret_law.proofs.GraphForms.{heard_at_peers}
 use Rattle.case_law.specs.Cases.{OriginsAreRouters}
 use Rattle.case_law.proofs.Origins.{case_known, known_origins}
 use Rattle.case_evidence.specs.declared.accepted.AcceptedCase.{AcceptedCase}
 use Rattle.case_evidence.specs.Accepted.{IsAccepted, number_in}
-use Rattle.compile_core.specs.Compiling.{AreAccepted, graphs_of, prefs_of}
+use Rattle.compile_core.specs.Compiling.{evidence_of, AreAccepted, graphs_of, prefs_of}
 use Rattle.compile_core.proofs.Limits.{made_within}
 use Rattle.compile_core.proofs.Parts.{parts, all_parts, as_many_tags, tag_each, accepted_at}
 use Rattle.compile_core.proofs.Places.{node_located, places, ranks}
+use Rattle.graph_base.proofs.WellFormed.{heard_at_peers}
 
 -- evidence of a case of the policy, which is accepted
 pub record IsKnown (net : PlainNet) (policy : PlainPolicy) (e : PlainCaseEvidence) : Type 0 where
@@ -58,9 +57,6 @@ module _ (net : PlainNet) (policy : PlainPolicy) (e : PlainCaseEvidence) (known 
       (subst (λ (ns : List ℕ). MeetsRules net (IsClaimed net known.statement e.case) e.case.external e.graph (number_in ns)) known.numbers
       (subst (λ (g : PlainGraph). MeetsRules net (IsClaimed net known.statement e.case) e.case.external g (number_in known.given.prefs.of)) known.graph known.is.rules))
 
-  pub whole : IsWhole e
-  whole = record { numbers = ap length (sym known.numbers) ∙ known.is.numbers.size ∙ ap (λ (g : PlainGraph). length g.nodes) known.graph; tags = known.tagged }
-
   pub single : IsSingle net e.graph
   single =
       let on = case_graph known.statement known.of in
@@ -75,7 +71,7 @@ module _ (net : PlainNet) (policy : PlainPolicy) (e : PlainCaseEvidence) (known 
   case_evidence rules =
       let on = case_graph known.statement known.of in
       record {
-        sized = whole.numbers;
+        sized = ap length (sym known.numbers) ∙ known.is.numbers.size ∙ ap (λ (g : PlainGraph). length g.nodes) known.graph;
         tagged = known.tagged;
         stated = stated e.case.statement known.of;
         places = places net rules known.statement (holds e.case.origins) e.case.external known.origins e.graph on.graph on.faithful;

@@ -1,5 +1,5 @@
 -- Cases that are accepted one after the other are within the limits.
-use Rattle.std.proofs.Common.{◌≡◌, ℕ, zero, suc, ◌+◌, ◌-◌, ◌≤◌, List, [], ◌∷◌, ◌++◌, length, map, Option, Some, slice_get, refl, sym, ap, ap₂, subst, ◌∙◌, arith, length-append}
+use Rattle.std.proofs.Common.{◌≡◌, ℕ, suc, ◌+◌, ◌-◌, ◌≤◌, List, [], ◌∷◌, length, map, Some, slice_get, refl, sym, ap, ap₂, subst, ◌∙◌, arith, length-append}
 use Rattle.std.specs.List.{flat_map}
 use Rattle.std.proofs.lemmas.List.{length-map}
 use Rattle.net_base.specs.Network.{PlainNet}
@@ -8,8 +8,7 @@ use Rattle.path_words.specs.Cases.{case_list}
 use Rattle.path_words.specs.Policies.{PlainPolicy, PlainStatement}
 use Rattle.graph_base.specs.Graphs.{PlainGraph}
 use Rattle.path_exprs.specs.Standings.{Plan, Standing, IsWalked, plan_for, targets}
-use Rattle.evidence_base.specs.Made.{statement_at}
-use Rattle.standings.specs.Built.{steps_from, place_in, graph_over}
+use Rattle.standings.specs.Built.{steps_from, place_in}
 use Rattle.regret_law.specs.Passes.{AreWithin, all_steps}
 use Rattle.graph_law.specs.Limits.{IsBuiltWithin}
 use Rattle.case_law.proofs.Origins.{case_known}

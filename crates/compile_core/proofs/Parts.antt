@@ -9,10 +9,9 @@ use Rattle.graph_base.specs.declared.graph.Node.{Node}
 use Rattle.graph_base.specs.declared.graph.Prefs.{Prefs}
 use Rattle.graph_base.specs.Graphs.{PlainGraph}
 use Rattle.evidence_base.specs.Made.{PlainCaseEvidence}
-use Rattle.config_made.specs.Evidence.{evidence_of}
 use Rattle.community_assign.specs.Tagging.{graph_tags_after, tags_after, tags_of}
 use Rattle.case_evidence.specs.declared.accepted.AcceptedCase.{AcceptedCase}
-use Rattle.compile_core.specs.Compiling.{AreAcceptedFrom}
+use Rattle.compile_core.specs.Compiling.{evidence_of, AreAcceptedFrom}
 use Rattle.compile_core.proofs.OneByOne.{IsAcceptedAt}
 
 -- the parts of the evidence of a case

@@ -1,28 +1,23 @@
 -- The nodes of a case's graph: their places and their ranks.
-use Rattle.std.proofs.Common.{◌≡◌, ◌≢◌, ℕ, ◌+◌, ◌<◌, ◌≤◌, Bool, true, false, List, [], ◌∷◌, length, Option, Some, refl, sym, ap, ◌∙◌, arith, inl, inr}
-use Rattle.std.specs.Prelude.{unwrap_or, option_map, option_and_then, nat_le}
+use Rattle.std.proofs.Common.{◌≡◌, ◌≢◌, ℕ, ◌+◌, ◌<◌, ◌≤◌, Bool, true, List, [], ◌∷◌, length, Option, Some, refl, sym, ap, ◌∙◌, arith, inl, inr}
+use Rattle.std.specs.Prelude.{unwrap_or, option_map, option_and_then}
 use Rattle.std.specs.List.{AllByRecursion}
-use Rattle.std.proofs.lemmas.Bool.{and_parts, cases_Bool, ltb-true, not_from_false}
+use Rattle.std.proofs.lemmas.Bool.{cases_Bool, ltb-true, not_from_false}
 use Rattle.std.proofs.lemmas.Option.{slice_get_within}
 use Rattle.list_laws.proofs.Members.{AllByRecursion-from_IsIn}
-use Rattle.net_base.specs.Network.{PlainNet, IsNet, is_location, linked}
+use Rattle.net_base.specs.Network.{PlainNet, IsNet, is_location}
 use Rattle.path_words.specs.Meaning.{PathTest, alternatives, place_of as first_place, rank_of}
 use Rattle.path_words.specs.Policies.{PlainStatement, Ranking}
-use Rattle.path_words.specs.Walks.{steps_linked}
 use Rattle.graph_base.specs.declared.graph.Node.{Node}
 use Rattle.graph_base.specs.Graphs.{PlainGraph, IsGraph}
 use Rattle.graph_base.specs.Runs.{place_of, rank_at, run}
 use Rattle.case_law.specs.Origins.{AreOrigins}
 use Rattle.regret_law.specs.Faithful.{IsFaithful, may_start}
-use Rattle.regret_law.proofs.GraphSteps.{start_at-is}
-use Rattle.net_base.proofs.RoutersAndPeers.{router_known}
-use Rattle.regret_law.proofs.RunWalks.{run_begins, run_linked}
-use Rattle.regret_law.proofs.Sites.{linked_known}
-
--- the origins of a case are locations
-pub origins_known : (net : PlainNet) (origin : ℕ → Bool) (external : Bool) → AreOrigins net origin external → (l : ℕ) → origin l ≡ true → is_location net l ≡ true
-origins_known net origin true are l h = (and_parts (nat_le (length net.routers) l) (is_location net l) (sym (are l) ∙ h)).1
-origins_known net origin false are l h = router_known net l (are l h)
+use Rattle.graph_base.proofs.StartsAndSteps.{start_at-is}
+use Rattle.graph_base.proofs.RunSteps.{last_step}
+use Rattle.graph_base.proofs.WellFormed.{linked_parts}
+use Rattle.net_base.proofs.Links.{linked_known}
+use Rattle.case_law.proofs.Origins.{origins_known}
 
 -- a place is counted from k
 place_counts : (tests : List PathTest) (path : List ℕ) (k m : ℕ) → first_place tests path k ≡ Some m → k ≤ m
@@ -43,9 +38,9 @@ module _ (net : PlainNet) (rules : IsNet net) (s : PlainStatement) (origin : ℕ
   run_at [] n h = absurd cc
   run_at (l ∷ []) n h = let start = start_at-is g l n h in origins_known net origin external origins (place_of g n) (faithful.formed.starts n start.0)
   run_at (l ∷ k ∷ ls) n h =
-      let begins = run_begins net origin external g graph faithful.formed l n (k ∷ ls) h in
-      let links = and_parts (linked net l k) (steps_linked net (k ∷ ls)) (run_linked net origin external g graph faithful.formed (l ∷ k ∷ ls) n h) in
-      ap (is_location net) begins ∙ (linked_known net l k rules links.0).0
+      let last = last_step g l k n ls h in
+      let link = (linked_parts net g last.0 n (faithful.formed.links last.0 n last.2)).0 in
+      (linked_known net (place_of g last.0) (place_of g n) rules link).1
 
   pub node_located : (n : ℕ) → n < length g.nodes → is_location net (place_of g n) ≡ true
   node_located n within = let ended = faithful.is_ended n within in run_at ended.0 n ended.2

@@ -1,5 +1,5 @@
 -- What is made of the cases that are given.
-use Rattle.std.proofs.Common.{◌≡◌, ℕ, ◌<◌, ◌^◌, List, length, Some, sym, ap, subst, ◌∙◌}
+use Rattle.std.proofs.Common.{◌≡◌, ℕ, ◌<◌, ◌^◌, List, length, map, Some, sym, ap, subst, ◌∙◌}
 use Rattle.std.specs.Prelude.{slice_get}
 use Rattle.net_base.specs.declared.numbers.Tag.{Tag}
 use Rattle.net_base.specs.Network.{PlainNet, IsNet}
@@ -11,17 +11,16 @@ use Rattle.graph_base.specs.Graphs.{PlainGraph}
 use Rattle.config_base.specs.Configs.{PlainConfig}
 use Rattle.evidence_base.specs.Evidence.{IsCaseEvidence}
 use Rattle.evidence_base.specs.Made.{PlainCaseEvidence, AreTags, IsConfigOf}
-use Rattle.config_made.specs.Conditions.{AreClasses, IsSingle, IsWhole}
-use Rattle.config_made.specs.Evidence.{evidence_of}
+use Rattle.config_made.specs.Conditions.{AreClasses, IsSingle}
 use Rattle.config_made.proofs.CaseClasses.{case_lists}
 use Rattle.community_assign.specs.Tagging.{tags_of, all_nodes, IsRoomy}
 use Rattle.regret_law.specs.Passes.{Passes}
 use Rattle.case_law.specs.Cases.{OriginsAreRouters}
 use Rattle.case_evidence.specs.declared.accepted.AcceptedCase.{AcceptedCase}
 use Rattle.compile_core.specs.Accepting.{AreAllGiven}
-use Rattle.compile_core.specs.Compiling.{IsMade, graphs_of}
-use Rattle.compile_core.proofs.Known.{are_tags, as_many_graphs, as_many_prefs, case_evidence, evidence_for, known_at, passing, single, whole}
-use Rattle.compile_core.proofs.Parts.{as_many_tags}
+use Rattle.compile_core.specs.Compiling.{evidence_of, IsMade, graphs_of}
+use Rattle.compile_core.proofs.Known.{are_tags, as_many_graphs, as_many_prefs, case_evidence, evidence_for, known_at, passing, single}
+use Rattle.compile_core.proofs.Parts.{all_parts, as_many_tags}
 
 -- there are few cases
 pub few_cases : (net : PlainNet) (policy : PlainPolicy) (cs : List Case) → IsPolicy policy → cs ≡ case_list net policy → length cs < 2 ^ 32
@@ -45,9 +44,6 @@ module _ (net : PlainNet) (rules : IsNet net) (policy : PlainPolicy) (kept : IsP
   there : (k : ℕ) (e : PlainCaseEvidence) → slice_get (evidence_of cs gs ps ts) k ≡ Some e → slice_get (evidence_for net policy accepted) k ≡ Some e
   there k e at = ap (λ (es : List PlainCaseEvidence). slice_get es k) (sym same) ∙ at
 
-  pub classes : AreClasses policy cs
-  classes = subst (AreClasses policy) (sym cases) (case_lists net policy kept)
-
   pub graph_each : length gs ≡ length cs
   graph_each = ap length graphs_are ∙ as_many_graphs net rules policy routers accepted given.1.count given.1.each ∙ ap length (sym cases)
 
@@ -57,8 +53,8 @@ module _ (net : PlainNet) (rules : IsNet net) (policy : PlainPolicy) (kept : IsP
   pub tags_each : length ts ≡ length cs
   tags_each = ap length tags ∙ as_many_tags net graphs ∙ ap length (sym same_g) ∙ graph_each
 
-  pub each_whole : (k : ℕ) (e : PlainCaseEvidence) → slice_get (evidence_of cs gs ps ts) k ≡ Some e → IsWhole e
-  each_whole k e at = whole net policy e (known_at net rules policy routers accepted given.1.count given.1.each k e (there k e at))
+  pub classes : AreClasses policy (map (λ (e : PlainCaseEvidence). e.case) (evidence_of cs gs ps ts))
+  classes = subst (AreClasses policy) (sym ((all_parts cs gs ps ts graph_each prefs_each tags_each).cases ∙ cases)) (case_lists net policy kept)
 
   pub each_single : (k : ℕ) (e : PlainCaseEvidence) → slice_get (evidence_of cs gs ps ts) k ≡ Some e → IsSingle net e.graph
   each_single k e at = single net policy e (known_at net rules policy routers accepted given.1.count given.1.each k e (there k e at))

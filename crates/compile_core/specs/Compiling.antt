@@ -1,6 +1,8 @@
 -- What the compiler makes of a policy, and why it refuses one.
 use Rattle.std.specs.Prelude.{◌≡◌, ℕ, ◌+◌, ◌-◌, ◌<◌, List, [], ◌∷◌, length, map, sum_by}
+use Rattle.net_base.specs.declared.numbers.Tag.{Tag}
 use Rattle.net_base.specs.Network.{PlainNet}
+use Rattle.path_words.specs.declared.case.Case.{Case}
 use Rattle.path_words.specs.Cases.{case_list}
 use Rattle.path_words.specs.Policies.{PlainPolicy}
 use Rattle.graph_base.specs.Graphs.{PlainGraph}
@@ -8,13 +10,17 @@ use Rattle.graph_base.specs.declared.graph.Prefs.{Prefs}
 use Rattle.config_base.specs.Configs.{PlainConfig}
 use Rattle.evidence_base.specs.Made.{PlainCaseEvidence, IsConfigOf}
 use Rattle.regret_law.specs.Passes.{all_steps}
-use Rattle.config_made.specs.Evidence.{evidence_of}
 use Rattle.community_assign.specs.Tagging.{tags_of, all_nodes, IsRoomy, IsFirstCrowded}
 use Rattle.case_law.specs.Cases.{OfCase}
 use Rattle.case_core.specs.declared.refusal.CompileRefusal.{CompileRefusal}
 use Rattle.case_core.specs.declared.refusal.CompileRefusal.TheVariants.{TooManyTags, NoMemory}
 use Rattle.case_evidence.specs.declared.accepted.AcceptedCase.{AcceptedCase}
 use Rattle.case_evidence.specs.Accepted.{IsAccepted, IsCaseCause}
+
+-- each case with its own graph, numbers and tags
+abbrev pub evidence_of : List Case → List PlainGraph → List Prefs → List (List Tag) → List PlainCaseEvidence
+evidence_of (c ∷ cs) (g ∷ gs) (p ∷ ps) (t ∷ ts) = record { case = c; graph = g; numbers = p.of; tags = t } ∷ evidence_of cs gs ps ts
+evidence_of _ _ _ _ = []
 
 abbrev pub graphs_of : List AcceptedCase → List PlainGraph
 graphs_of accepted = map (λ (a : AcceptedCase). a.graph) accepted

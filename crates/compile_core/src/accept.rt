@@ -50,10 +50,13 @@ pub fn accepted_cases(
         prefs: Vec::new(alloc),
     };
     let mut room = STEPS as u32;
+    let mut kept = None;
     for place in 0..cases.cases.as_slice().len() {
-        let given = accepted_case(alloc, net, policy, cases, place as u32 + 1, room)?;
+        let number = place as u32 + 1;
+        let (given, automata) = accepted_case(alloc, net, policy, cases, number, room, kept)?;
         room -= given.used;
         keep(&mut all, given.graph, given.prefs)?;
+        kept = Some(automata);
     }
     Ok(all)
 }

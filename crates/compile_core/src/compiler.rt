@@ -72,8 +72,8 @@ fn compiled(
     ensures passes { IfOk result (λ given. Passes net.now (policy_of policy.now) given.config given.evidence.cases) }
     ensures refused { IfErr result (λ e. IsRefusal net.now (policy_of policy.now) e) }
 {
-    let config = config_of(alloc, net, policy, cases, &all.graphs, &all.prefs, tags)?;
     let evidence = evidence_of(alloc, cases, all.graphs, all.prefs, tags.of.as_slice())?;
+    let config = config_of(alloc, net, policy, evidence.cases.as_slice())?;
     Ok(Compiled { config, evidence })
 }
 

@@ -2,7 +2,7 @@
 ghost use Rattle.std.specs.Prelude.{◌≡◌, ℕ, IfOk, Some, length, slice_get};
 ghost use Rattle.evidence_base.specs.Evidence.{IsCaseEvidence};
 ghost use Rattle.evidence_base.specs.Made.{PlainCaseEvidence};
-ghost use Rattle.config_made.specs.Evidence.{evidence_of as plain_evidence_of};
+ghost use Rattle.compile_core.specs.Compiling.{evidence_of as plain_evidence_of};
 
 use evidence_base::{CaseEvidence, Evidence, case_copy};
 use graph_base::{Graph, Prefs};

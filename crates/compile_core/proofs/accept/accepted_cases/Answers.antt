@@ -9,12 +9,14 @@ pub returns-in_err-given-clause-refused : goal.returns-in_err-given-clause-refus
 returns-in_err-given-clause-refused c =
     let end : length c.as_slice-place-end.result.now ≡ length (case_list c.args.net.now (policy_of c.args.policy.now)) = ap length (c.as_slice-place-end.ensures ∙ c.requires.cases) in
     let why = refused_next c.args.net.now (policy_of c.args.policy.now) c.loop-place.place (c.loop-place.place + 1) c.loop-place.room c.loop-place.all.graphs.items c.loop-place.all.prefs.items c.in_err-given.field-0.0
-    c.loop-place.invariant (omega (arith, c.loop-place-test.true, end)) refl c.in_err-given.ensures.refused in
+    c.loop-place.invariant.given (omega (arith, c.loop-place-test.true, end)) refl c.in_err-given.ensures.refused in
     let p = err_from_is_err_and c.from_residual.result c.from_residual.ensures.1 in
     rw (p.1, p.2) why
 
 pub loop-place-preserved : goal.loop-place-preserved
-loop-place-preserved c =
-    given_more c.args.net.now (policy_of c.args.policy.now) c.loop-place.place (c.loop-place.place + 1) c.loop-place.room (c.loop-place.room - c.in_ok-given.given.used)
-    c.loop-place.all.graphs.items c.keep.new.all.graphs.items c.loop-place.all.prefs.items c.keep.new.all.prefs.items c.in_ok-given.given c.loop-place.invariant c.in_ok-given.ensures.accepted
-    refl refl c.in_ok-keep.ensures.graphs c.in_ok-keep.ensures.prefs
+loop-place-preserved c = record {
+  given = given_more c.args.net.now (policy_of c.args.policy.now) c.loop-place.place (c.loop-place.place + 1) c.loop-place.room (c.loop-place.room - c.in_ok-given.given.used)
+      c.loop-place.all.graphs.items c.keep.new.all.graphs.items c.loop-place.all.prefs.items c.keep.new.all.prefs.items c.in_ok-given.given c.loop-place.invariant.given c.in_ok-given.ensures.accepted
+      refl refl c.in_ok-keep.ensures.graphs c.in_ok-keep.ensures.prefs;
+  kept = c.in_ok-given.ensures.kept;
+}

@@ -1,5 +1,5 @@
 use Rattle.std.proofs.Common.{◌≡◌, ◌++◌, length, drop}
-use Rattle.config_made.specs.Evidence.{evidence_of as plain_evidence_of}
+use Rattle.compile_core.specs.Compiling.{evidence_of as plain_evidence_of}
 use Rattle.compile_core.proofs.evidence.evidence_of.Given as goal
 
 abbrev pub invariant-loop-graph : goal.invariant-loop-graph

@@ -5,8 +5,9 @@ use Rattle.case_law.specs.Cases.{OfCase}
 use Rattle.case_core.specs.Refusals.{FitsCase, IsCause, IsGraphOf}
 use Rattle.case_core.specs.Sources.{HavePaths, NoneMixed}
 use Rattle.case_law.proofs.Origins.{known_origins}
+use Rattle.case_core.proofs.LentAutomata.{kept_fits, number_fits}
 use Rattle.case_core.proofs.Places.{case_read, of_case, statement_at-read}
-use Rattle.case_core.proofs.cases.case_graph.Goals as goal
+use Rattle.case_core.proofs.cases.case_graph_over.Goals as goal
 
 pub overflow_sub-statement : goal.overflow_sub-statement
 overflow_sub-statement c =
@@ -22,13 +23,23 @@ bounds-statements-case c =
     let case_is = case_read net c.args.policy.now c.as_slice.result.now c.args.cases.now.cases c.args.number case c.as_slice.ensures c.requires.cases c.requires.from_one c.requires.within c.index-as_slice-number.is in
     omega (arith, case_is.from_one, case_is.within, ap length c.statements.ensures.statements)
 
-pub graph_of-requires : goal.graph_of-requires
-graph_of-requires c = λ rules.
+pub graph_of-requires-clause-origins : goal.graph_of-requires-clause-origins
+graph_of-requires-clause-origins c = λ rules.
     let net = c.args.net.now in
     let policy = policy_of c.args.policy.now in
     let case = c.index-as_slice-number.result in
     let case_is = case_read net c.args.policy.now c.as_slice.result.now c.args.cases.now.cases c.args.number case c.as_slice.ensures c.requires.cases c.requires.from_one c.requires.within c.index-as_slice-number.is in
     known_origins net policy case rules c.requires.routers case_is.known
+
+pub graph_of-requires-clause-kept : goal.graph_of-requires-clause-kept
+graph_of-requires-clause-kept c =
+    let net = c.args.net.now in
+    let policy = policy_of c.args.policy.now in
+    let case = c.index-as_slice-number.result in
+    let s = plain_statement c.index-statements-case.result in
+    let case_is = case_read net c.args.policy.now c.as_slice.result.now c.args.cases.now.cases c.args.number case c.as_slice.ensures c.requires.cases c.requires.from_one c.requires.within c.index-as_slice-number.is in
+    let of = statement_at-read c.statements.result.now c.args.policy.now case.statement c.index-statements-case.result c.statements.ensures.statements case_is.from_one case_is.within c.index-statements-case.is in
+    kept_fits net policy s case.statement c.args.kept of c.requires.kept
 
 pub returns-clause-graph : goal.returns-clause-graph
 returns-clause-graph c =
@@ -38,8 +49,8 @@ returns-clause-graph c =
     let s = plain_statement c.index-statements-case.result in
     let case_is = case_read net c.args.policy.now c.as_slice.result.now c.args.cases.now.cases c.args.number case c.as_slice.ensures c.requires.cases c.requires.from_one c.requires.within c.index-as_slice-number.is in
     let of = statement_at-read c.statements.result.now c.args.policy.now case.statement c.index-statements-case.result c.statements.ensures.statements case_is.from_one case_is.within c.index-statements-case.is in
-    IfOk-weaker c.graph_of.result (λ given. IsGraphOf net c.args.room s case given) (λ given. OfCase net policy c.args.number (λ t d. IsGraphOf net c.args.room t d given))
-    (λ given h. of_case net policy c.args.number s case (λ t d. IsGraphOf net c.args.room t d given) case_is.at of h) c.graph_of.ensures.graph
+    IfOk-weaker c.graph_of.result (λ given. IsGraphOf net c.args.room s case given.0) (λ given. OfCase net policy c.args.number (λ t d. IsGraphOf net c.args.room t d given.0))
+    (λ given h. of_case net policy c.args.number s case (λ t d. IsGraphOf net c.args.room t d given.0) case_is.at of h) c.graph_of.ensures.graph
 
 pub returns-clause-fits : goal.returns-clause-fits
 returns-clause-fits c =
@@ -49,8 +60,8 @@ returns-clause-fits c =
     let s = plain_statement c.index-statements-case.result in
     let case_is = case_read net c.args.policy.now c.as_slice.result.now c.args.cases.now.cases c.args.number case c.as_slice.ensures c.requires.cases c.requires.from_one c.requires.within c.index-as_slice-number.is in
     let of = statement_at-read c.statements.result.now c.args.policy.now case.statement c.index-statements-case.result c.statements.ensures.statements case_is.from_one case_is.within c.index-statements-case.is in
-    IfOk-weaker c.graph_of.result (λ given. FitsCase net s case given.graph) (λ given. OfCase net policy c.args.number (λ t d. FitsCase net t d given.graph))
-    (λ given h. of_case net policy c.args.number s case (λ t d. FitsCase net t d given.graph) case_is.at of h) c.graph_of.ensures.fits
+    IfOk-weaker c.graph_of.result (λ given. FitsCase net s case given.0.graph) (λ given. OfCase net policy c.args.number (λ t d. FitsCase net t d given.0.graph))
+    (λ given h. of_case net policy c.args.number s case (λ t d. FitsCase net t d given.0.graph) case_is.at of h) c.graph_of.ensures.fits
 
 pub returns-clause-paths : goal.returns-clause-paths
 returns-clause-paths c =
@@ -73,6 +84,16 @@ returns-clause-unmixed c =
     let of = statement_at-read c.statements.result.now c.args.policy.now case.statement c.index-statements-case.result c.statements.ensures.statements case_is.from_one case_is.within c.index-statements-case.is in
     IfOk-weaker c.graph_of.result (λ given. NoneMixed net s case) (λ given. OfCase net policy c.args.number (NoneMixed net))
     (λ given h. of_case net policy c.args.number s case (NoneMixed net) case_is.at of h) c.graph_of.ensures.unmixed
+
+pub returns-clause-kept : goal.returns-clause-kept
+returns-clause-kept c =
+    let net = c.args.net.now in
+    let policy = policy_of c.args.policy.now in
+    let case = c.index-as_slice-number.result in
+    let s = plain_statement c.index-statements-case.result in
+    let case_is = case_read net c.args.policy.now c.as_slice.result.now c.args.cases.now.cases c.args.number case c.as_slice.ensures c.requires.cases c.requires.from_one c.requires.within c.index-as_slice-number.is in
+    let of = statement_at-read c.statements.result.now c.args.policy.now case.statement c.index-statements-case.result c.statements.ensures.statements case_is.from_one case_is.within c.index-statements-case.is in
+    number_fits c.graph_of.result (λ given. given.1) net policy s case.statement of c.graph_of.ensures.automata c.graph_of.ensures.statement
 
 pub returns-clause-refused : goal.returns-clause-refused
 returns-clause-refused c =
