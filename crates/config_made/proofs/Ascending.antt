@@ -22,8 +22,10 @@ use Rattle.config_made.specs.declared.hop.Hop.{Hop}
 use Rattle.config_made.specs.declared.hop.Announced.{Announced}
 use Rattle.config_made.specs.Conditions.{IsSingle}
 use Rattle.config_made.specs.Hops.{hop_order, announced_order, tag_order, prefix_order, goes, stands}
-use Rattle.config_made.proofs.Made.{IsHop, IsAnnounced, step_in, start_in, class_place, goes_parts}
+use Rattle.config_made.proofs.Made.{IsHop, IsAnnounced, class_place}
 use Rattle.config_made.proofs.Settling.{hop_total, announced_total, tag_exact, prefix_exact}
+use Rattle.graph_base.proofs.StartsAndSteps.{start_in, step_in}
+use Rattle.config_made.proofs.Runs.{goes_parts}
 
 -- ---- lists
 

@@ -6,6 +6,5 @@ pub mod Made
 pub mod Numbered
 pub mod Runs
 pub mod Settling
-pub mod Sites
 pub mod Whole
 pub mod OneConfiguration

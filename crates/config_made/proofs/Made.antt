@@ -1,45 +1,25 @@
 -- The gathered steps and starts are those of the cases, and their lines are the lines of the blocks.
 use Rattle.std.proofs.Common.{◌≡◌, ℕ, zero, suc, ◌+◌, ◌<◌, true, List, [], ◌∷◌, length, map, filter, Some, refl, sym, ap, ◌∙◌, subst, arith, inl, inr}
-use Rattle.std.specs.Prelude.{◌↔◌, ◌&&◌, ◌==◌, IsTrue, slice_get, if◌then◌else◌}
-use Rattle.std.proofs.lemmas.Bool.{cases_Bool, and_parts, and_from, eqb-true, eq-eqb}
+use Rattle.std.specs.Prelude.{◌↔◌, IsTrue, slice_get, if◌then◌else◌}
+use Rattle.std.proofs.lemmas.Bool.{cases_Bool, and_from, eqb-true, eq-eqb}
 use Rattle.net_base.specs.Numbers.{no_tag}
 use Rattle.net_base.specs.Network.{PlainNet, is_peer}
 use Rattle.net_base.specs.Prefixes.{PlainPrefix}
-use Rattle.graph_base.specs.Graphs.{PlainGraph, IsGraph}
-use Rattle.graph_base.specs.Runs.{place_of, is_listener, is_start, has_step}
+use Rattle.graph_base.specs.Graphs.{IsGraph}
+use Rattle.graph_base.specs.Runs.{place_of, is_listener, is_start}
 use Rattle.config_base.specs.declared.config.Rule.{Rule}
 use Rattle.config_base.specs.declared.config.Export.{Export}
 use Rattle.config_base.specs.declared.config.Own.{Own}
 use Rattle.evidence_base.specs.Made.{PlainCaseEvidence, number_at, tag_at, case_at, IsStep, IsExportTo, IsImportFrom, IsOwnAt, AreTags}
 use Rattle.list_laws.specs.Members.{IsIn}
-use Rattle.list_laws.proofs.Members.{AllByRecursion-IsIn, IsIn-append_cases, IsIn-append_left, IsIn-append_right, IsIn-filter, IsIn-filter_parts, IsIn-flat_map, IsIn-flat_map_parts, IsIn-map, IsIn-map_parts, list_any-from_IsIn, list_any_member}
+use Rattle.list_laws.proofs.Members.{AllByRecursion-IsIn, IsIn-append_cases, IsIn-append_left, IsIn-append_right, IsIn-filter, IsIn-filter_parts, IsIn-flat_map, IsIn-flat_map_parts, IsIn-map, IsIn-map_parts}
 use Rattle.config_made.specs.declared.hop.Hop.{Hop}
 use Rattle.config_made.specs.declared.hop.Announced.{Announced}
 use Rattle.config_made.specs.Conditions.{IsSingle}
 use Rattle.config_made.specs.Hops.{tag_in, hop_of, hops_from, announced_of, announced_at, announced_by, announced_from, goes, stands}
 use Rattle.config_made.specs.Writing.{export_line, import_line, own_line}
-
--- ---- steps
-
-pub step_in : (g : PlainGraph) (n m : ℕ) → has_step g n m ≡ true → IsIn g.steps (n, m)
-step_in g n m h =
-    let found = list_any_member (λ (s : ℕ × ℕ). s.0 == n && s.1 == m) g.steps h in
-    let parts = and_parts (found.0.0 == n) (found.0.1 == m) found.2 in
-    let from : found.0.0 ≡ n = eqb-true _ _ parts.0 in
-    let to : found.0.1 ≡ m = eqb-true _ _ parts.1 in
-    let same : found.0 ≡ (n, m) = λ i. (from i, to i) in
-    subst (IsIn g.steps) same found.1
-
-pub in_step : (g : PlainGraph) (s : ℕ × ℕ) → IsIn g.steps s → has_step g s.0 s.1 ≡ true
-in_step g s at = list_any-from_IsIn (λ (t : ℕ × ℕ). t.0 == s.0 && t.1 == s.1) g.steps s at (and_from _ _ (eq-eqb s.0 s.0 refl) (eq-eqb s.1 s.1 refl))
-
-pub start_in : (g : PlainGraph) (n : ℕ) → is_start g n ≡ true → IsIn g.starts n
-start_in g n h =
-    let found = list_any_member (λ s. s == n) g.starts h in
-    subst (IsIn g.starts) (eqb-true found.0 n found.2) found.1
-
-pub in_start : (g : PlainGraph) (n : ℕ) → IsIn g.starts n → is_start g n ≡ true
-in_start g n at = list_any-from_IsIn (λ s. s == n) g.starts n at (eq-eqb n n refl)
+use Rattle.graph_base.proofs.StartsAndSteps.{in_start, in_step, start_in, step_in}
+use Rattle.config_made.proofs.Runs.{goes_parts}
 
 -- a class with a case is a number from 1
 pub class_place : (cs : List PlainCaseEvidence) (class : ℕ) (c : PlainCaseEvidence) → case_at cs class ≡ Some c → (k : ℕ) × (class ≡ suc k) × (slice_get cs k ≡ Some c)
@@ -100,7 +80,7 @@ hop_made cs h at =
       case = c;
       node = s.0;
       next = s.1;
-      step = record { at_class = ap (case_at cs) class ∙ found.3; step = in_step c.graph s found.4; from = refl; to = refl };
+      step = record { at_class = ap (case_at cs) class ∙ found.3; step = in_step c.graph s.0 s.1 found.4; from = refl; to = refl };
       tag = refl;
       set = refl;
       pref = refl;
@@ -179,9 +159,6 @@ made_announced cs a is =
     subst (IsIn (announced_from 1 cs)) same here
 
 -- ---- lines
-
-pub goes_parts : (x z : ℕ) (h : Hop) → goes x z h ≡ true → (h.from ≡ x) × (h.to ≡ z)
-goes_parts x z h e = let parts = and_parts (h.from == x) (h.to == z) e in (eqb-true h.from x parts.0, eqb-true h.to z parts.1)
 
 module _ (cs : List PlainCaseEvidence) (hops : List Hop) (are : (h : Hop) → IsIn hops h ↔ IsIn (hops_from 1 cs) h) where
   pub is_hop : (h : Hop) → IsIn hops h → IsHop cs h

@@ -59,8 +59,8 @@ upto_down from to a b up h = upto-from from to a (elim (ends_up a b up) [
   | inr t ↦ elim (upto-by from to b h) [ inl u ↦ inl (omega (arith, t.0, u)) | inr u ↦ inr (omega (arith, t.0, u.0), omega (arith, t.1, u.1)) ]
 ])
 
-goes-parts : (from to : ℕ) (h : Hop) → goes from to h ≡ true → (h.from ≡ from) × (h.to ≡ to)
-goes-parts from to h e = let parts = and_parts (h.from == from) (h.to == to) e in (eqb-true _ _ parts.0, eqb-true _ _ parts.1)
+pub goes_parts : (from to : ℕ) (h : Hop) → goes from to h ≡ true → (h.from ≡ from) × (h.to ≡ to)
+goes_parts from to h e = let parts = and_parts (h.from == from) (h.to == to) e in (eqb-true _ _ parts.0, eqb-true _ _ parts.1)
 
 module _ (from to : ℕ) (hops : List Hop) (sorted : IsStrictlySortedBy hop_order hops) where
   pub before_parts : IsPartitionedBy (is_before from to) hops
@@ -73,11 +73,11 @@ more_hops : (from to : ℕ) (h : Hop) → is_before from to h ≡ true → is_up
 more_hops from to h e = upto-from from to h (elim (before-by from to h e) [ inl t ↦ inl t | inr t ↦ inr (t.0, omega (arith, t.1)) ])
 
 early_hop : (from to : ℕ) (h : Hop) → is_before from to h ≡ true → goes from to h ≡ false
-early_hop from to h e = false_from_ne_true _ (λ g. let parts = goes-parts from to h g in
+early_hop from to h e = false_from_ne_true _ (λ g. let parts = goes_parts from to h g in
     elim (before-by from to h e) [ inl t ↦ omega (arith, t, parts.0) | inr t ↦ omega (arith, t.1, parts.1) ])
 
 late_hop : (from to : ℕ) (h : Hop) → is_upto from to h ≡ false → goes from to h ≡ false
-late_hop from to h e = false_from_ne_true _ (λ g. let parts = goes-parts from to h g in true≢false (sym (upto-from from to h (inr (parts.0, omega (arith, parts.1)))) ∙ e))
+late_hop from to h e = false_from_ne_true _ (λ g. let parts = goes_parts from to h g in true≢false (sym (upto-from from to h (inr (parts.0, omega (arith, parts.1)))) ∙ e))
 
 within_hop : (from to : ℕ) (h : Hop) → is_before from to h ≡ false → is_upto from to h ≡ true → goes from to h ≡ true
 within_hop from to h e u = elim (upto-by from to h u) [

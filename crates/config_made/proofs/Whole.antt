@@ -5,7 +5,7 @@ use Rattle.std.specs.Option.{option_map_or}
 use Rattle.std.specs.List.{AllByRecursion, IsDistinct}
 use Rattle.std.specs.List.Sorted.{IsStrictlySortedBy}
 use Rattle.std.specs.Str.{bytes_eq}
-use Rattle.std.proofs.lemmas.Bool.{cases_Bool, eqb-true}
+use Rattle.std.proofs.lemmas.Bool.{cases_Bool, eqb-true, lt-ltb}
 use Rattle.std.proofs.lemmas.List.{length-map}
 use Rattle.std.proofs.lemmas.List.Elements.{All-contains}
 use Rattle.std.proofs.lemmas.List.Kept.{IsStrictlySortedBy-filter}
@@ -33,9 +33,14 @@ use Rattle.config_made.specs.declared.hop.Announced.{Announced}
 use Rattle.config_made.specs.Conditions.{IsSingle}
 use Rattle.config_made.specs.Hops.{HasPref, hop_order, announced_order, hops_from, announced_from, goes, stands}
 use Rattle.config_made.specs.Writing.{export_line, import_line, own_line, name_of, session_of, router_of, routers_of}
-use Rattle.config_made.proofs.Made.{IsAnnounced, class_place, goes_parts, is_hop, is_announced, exports_are, imports_are, own_are}
+use Rattle.config_made.proofs.Made.{IsAnnounced, class_place, is_hop, is_announced, exports_are, imports_are, own_are}
 use Rattle.config_made.proofs.Ascending.{ascends, IsBetween, hop_up, announced_up, step_within, start_within}
-use Rattle.config_made.proofs.Sites.{length_numbers, number_got, sorted_numbers, low_numbers, sorted_neighbours, neighbour_known, apart_sites, site_at, router_number, identifier_fits, router_no_peer, number_fits}
+use Rattle.net_base.proofs.NumbersBelow.{length-numbers_below, number_got, numbers-below, sorted_numbers}
+use Rattle.net_base.proofs.Neighbours.{neighbour_known, sorted_neighbours}
+use Rattle.net_base.proofs.RoutersAndPeers.{router_no_peer}
+use Rattle.net_base.proofs.SiteNumbers.{apart_sites, identifier_fits, number_fits, router_number}
+use Rattle.net_base.proofs.Sites.{site_at}
+use Rattle.config_made.proofs.Runs.{goes_parts}
 
 module _ (net : PlainNet) (rules : IsNet net) (cs : List PlainCaseEvidence) (count : ℕ) (few : length cs ≤ count)
     (graphs : (k : ℕ) (c : PlainCaseEvidence) → slice_get cs k ≡ Some c → IsGraph c.graph) (single : (k : ℕ) (c : PlainCaseEvidence) → slice_get cs k ≡ Some c → IsSingle net c.graph) (tags : AreTags net cs)
@@ -92,7 +97,7 @@ module _ (net : PlainNet) (rules : IsNet net) (cs : List PlainCaseEvidence) (cou
         | inl t ↦ rw t (is.tag ∙ tag_none z h.class is.node is.case is.step.at_class within.0 from t)
         | inr t ↦ rw t (ap is_tag is.tag ∙ tag_fits z h.class is.node is.case is.step.at_class within.0 from t)
       ] in
-      (class_fits h.class is.case is.step.at_class, tag, ap is_tag is.set ∙ tag_fits x h.class is.next is.case is.step.at_class within.1 to (router_no_peer net rules x at_router), pref)
+      (class_fits h.class is.case is.step.at_class, tag, ap is_tag is.set ∙ tag_fits x h.class is.next is.case is.step.at_class within.1 to (router_no_peer net x (lt-ltb x (length net.routers) at_router)), pref)
 
   export_fits : (x z : ℕ) → x < routers → (h : Hop) → IsBetween net cs graphs single tags x z h → IsExport count (export_line h)
   export_fits x z at_router h of_h =
@@ -100,7 +105,7 @@ module _ (net : PlainNet) (rules : IsNet net) (cs : List PlainCaseEvidence) (cou
       let ends = goes_parts x z h of_h.1 in
       let place = class_place cs h.class is.case is.step.at_class in
       let within = step_within net cs graphs single tags place.0 is.case place.2 is.node is.next is.step.step in
-      (class_fits h.class is.case is.step.at_class, ap is_tag is.tag ∙ tag_fits x h.class is.node is.case is.step.at_class within.0 (is.step.from ∙ ends.0) (router_no_peer net rules x at_router))
+      (class_fits h.class is.case is.step.at_class, ap is_tag is.tag ∙ tag_fits x h.class is.node is.case is.step.at_class within.0 (is.step.from ∙ ends.0) (router_no_peer net x (lt-ltb x (length net.routers) at_router)))
 
   pref_fits : (h : Hop) → IsIn hops h → HasPref h
   pref_fits h at = All-contains HasPref (hops_from 1 cs) h fits (Contains-from_IsIn (hops_from 1 cs) h ((hops_are h).0 at))
@@ -126,7 +131,7 @@ module _ (net : PlainNet) (rules : IsNet net) (cs : List PlainCaseEvidence) (cou
   own_fits x at_router a is here =
       let place = class_place cs a.class is.case is.at_class in
       let within = start_within net cs graphs single tags place.0 is.case place.2 is.node is.start in
-      (class_fits a.class is.case is.at_class, ap is_tag is.tag ∙ tag_fits x a.class is.node is.case is.at_class within (is.place ∙ here) (router_no_peer net rules x at_router))
+      (class_fits a.class is.case is.at_class, ap is_tag is.tag ∙ tag_fits x a.class is.node is.case is.at_class within (is.place ∙ here) (router_no_peer net x (lt-ltb x (length net.routers) at_router)))
 
   abbrev Stands : ℕ → Announced → Type 0
   Stands x a = IsAnnounced cs a × (stands x a ≡ true)
@@ -174,12 +179,12 @@ module _ (net : PlainNet) (rules : IsNet net) (cs : List PlainCaseEvidence) (cou
     patterns = patterns;
     routers = subst (λ n. AllByRecursion (IsRouter n) (routers_of net hops all)) (sym long) (AllByRecursion-from_IsIn (IsRouter count) (routers_of net hops all) each_router);
     names = subst (IsDistinct bytes_eq) (sym (map-map (λ (r : RouterConfig). r.name) (router_of net hops all) (numbers_below routers)))
-        (IsDistinct-sorted_keys bytes_eq (name_of net) routers (numbers_below routers) (sorted_numbers routers) (low_numbers routers) (λ a b less within. names_apart a b less (omega (arith, within))));
+        (IsDistinct-sorted_keys bytes_eq (name_of net) routers (numbers_below routers) (sorted_numbers routers) (numbers-below routers) (λ a b less within. names_apart a b less (omega (arith, within))));
     asns = subst (IsDistinct nat_eq) (sym (map-map (λ (r : RouterConfig). r.asn) (router_of net hops all) (numbers_below routers)))
-        (IsDistinct-sorted_keys nat_eq (asn_of net) routers (numbers_below routers) (sorted_numbers routers) (low_numbers routers)
+        (IsDistinct-sorted_keys nat_eq (asn_of net) routers (numbers_below routers) (sorted_numbers routers) (numbers-below routers)
         (λ a b less within. apart_sites net nat_eq (λ (s : Site). s.asn) 0 rules.asns a b less (omega (arith, within))));
     ids = subst (IsDistinct nat_eq) (sym (map-map (λ (r : RouterConfig). r.id) (router_of net hops all) (numbers_below routers)))
-        (IsDistinct-sorted_keys nat_eq (id_of net) routers (numbers_below routers) (sorted_numbers routers) (low_numbers routers)
+        (IsDistinct-sorted_keys nat_eq (id_of net) routers (numbers_below routers) (sorted_numbers routers) (numbers-below routers)
         (λ a b less within. apart_sites net nat_eq (λ (s : Site). s.id) 0 rules.ids a b less (omega (arith, within))));
   }
 
@@ -187,7 +192,7 @@ module _ (net : PlainNet) (rules : IsNet net) (cs : List PlainCaseEvidence) (cou
 
   block : (x z : ℕ) → z < total → IsBlock net cs x z (session_of net hops x z)
   block x z known =
-      let site = site_at net z known in
+      let site = site_at net z (lt-ltb z (length net.routers + length net.peers) known) in
       record {
         name = ap (option_map (λ (s : Site). s.name)) site.1 ∙ ap Some (sym (ap (λ (o : Option Site). option_map_or (λ (s : Site). s.name) o []) site.1));
         asn = refl;
@@ -204,7 +209,7 @@ module _ (net : PlainNet) (rules : IsNet net) (cs : List PlainCaseEvidence) (cou
 
   router_block : (x : ℕ) → x < routers → IsRouterBlock net cs x (router_of net hops all x)
   router_block x at_router =
-      let site = site_at net x (omega (arith, at_router)) in
+      let site = site_at net x (lt-ltb x (length net.routers + length net.peers) (omega (arith, at_router))) in
       let name : site.0.name ≡ name_of net x = sym (ap (λ (o : Option Site). option_map_or (λ (s : Site). s.name) o []) site.1) in
       let asn : site.0.asn ≡ asn_of net x = sym (ap (λ (o : Option Site). option_map_or (λ (s : Site). s.asn) o 0) site.1) in
       let id : site.0.id ≡ id_of net x = sym (ap (λ (o : Option Site). option_map_or (λ (s : Site). s.id) o 0) site.1) in
@@ -219,7 +224,7 @@ module _ (net : PlainNet) (rules : IsNet net) (cs : List PlainCaseEvidence) (cou
       → IsConfigOf net policy cs (record { classes = classes; routers = routers_of net hops all })
   config_of_cases policy classes are = record {
     classes = are;
-    count = length-map (numbers_below routers) (router_of net hops all) ∙ length_numbers routers;
+    count = length-map (numbers_below routers) (router_of net hops all) ∙ length-numbers_below routers;
     routers = λ x r at.
         let found = some_of (slice_get (numbers_below routers) x) (router_of net hops all) r (sym (slice_get-map (router_of net hops all) (numbers_below routers) x) ∙ at) in
         let got = number_got routers x found.0 found.1 in

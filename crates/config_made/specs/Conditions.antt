@@ -1,5 +1,5 @@
 -- What is asked of cases and their graphs, so that a lawful configuration can be made of them.
-use Rattle.std.specs.Prelude.{◌≡◌, ◌≢◌, ℕ, ◌<◌, ◌^◌, ◌||◌, IsTrue, nat_eq, List, [], length, map}
+use Rattle.std.specs.Prelude.{◌≢◌, ℕ, ◌<◌, ◌^◌, ◌||◌, IsTrue, nat_eq, List, [], length, map}
 use Rattle.std.specs.List.{AllByRecursion, IsDistinct}
 use Rattle.net_base.specs.Network.{PlainNet, is_peer, is_router}
 use Rattle.path_words.specs.declared.case.Case.{Case}
@@ -7,7 +7,7 @@ use Rattle.path_words.specs.Policies.{PlainPolicy}
 use Rattle.graph_base.specs.Graphs.{PlainGraph}
 use Rattle.graph_base.specs.Runs.{place_of, is_listener, is_start, has_step}
 use Rattle.graph_base.specs.Rules.{same_pair}
-use Rattle.evidence_base.specs.Made.{PlainCaseEvidence, patterns_of}
+use Rattle.evidence_base.specs.Made.{patterns_of}
 
 -- a graph with at most one start at a location, at most one step from a node to a location, no steps from other nodes
 -- at peers than starts, and only steps into peers to nodes that hear
@@ -16,11 +16,6 @@ pub record IsSingle (net : PlainNet) (g : PlainGraph) : Type 0 where
   pub one_step : IsDistinct same_pair (map (λ (s : ℕ × ℕ). (s.0, place_of g s.1)) g.steps)
   pub from : (m n : ℕ) → IsTrue (has_step g m n) → IsTrue (is_start g m || is_router net (place_of g m))
   pub heard : (m n : ℕ) → IsTrue (has_step g m n) → IsTrue (is_peer net (place_of g n)) → IsTrue (is_listener g n)
-
--- a number and a tag for each node
-pub record IsWhole (c : PlainCaseEvidence) : Type 0 where
-  pub numbers : length c.numbers ≡ length c.graph.nodes
-  pub tags : length c.tags ≡ length c.graph.nodes
 
 -- each case has a pattern, and there are fewer cases than a class has numbers
 pub record AreClasses (policy : PlainPolicy) (cases : List Case) : Type 0 where

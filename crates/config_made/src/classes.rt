@@ -2,8 +2,9 @@
 ghost use Rattle.std.specs.Prelude.{◌≡◌, IfOk, map, option_map};
 ghost use Rattle.net_base.specs.Prefixes.{only};
 ghost use Rattle.path_words.specs.Policies.{policy_of, plain_statement};
-ghost use Rattle.evidence_base.specs.Made.{statement_at as plain_statement_at, patterns_of as plain_patterns_of};
+ghost use Rattle.evidence_base.specs.Made.{PlainCaseEvidence, statement_at as plain_statement_at, patterns_of as plain_patterns_of};
 
+use evidence_base::CaseEvidence;
 use net_base::{List, Pattern, Prefix};
 use path_words::{Case, Policy, Statement};
 use std::alloc::{AllocError, Global};
@@ -47,13 +48,13 @@ fn patterns_of(alloc: Global, policy: &Policy, case: &Case) -> Result<List<Patte
 pub fn classes_of(
     alloc: Global,
     policy: &Policy,
-    cases: &[Case],
+    evidence: &[CaseEvidence],
 ) -> Result<List<List<Pattern>>, AllocError>
-    ensures { IfOk result (λ classes. classes ≡ map (plain_patterns_of (policy_of policy.now)) cases.now) }
+    ensures { IfOk result (λ classes. classes ≡ map (λ (c : PlainCaseEvidence). plain_patterns_of (policy_of policy.now) c.case) evidence.now) }
 {
     let mut classes = List::new(alloc);
-    for case in cases {
-        classes.push(patterns_of(alloc, policy, case)?)?;
+    for case in evidence {
+        classes.push(patterns_of(alloc, policy, case.case())?)?;
     }
     Ok(classes)
 }

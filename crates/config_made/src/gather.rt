@@ -1,18 +1,14 @@
 //! The steps and the starts of all cases.
 ghost use Rattle.std.specs.List.{All};
-ghost use Rattle.net_base.specs.declared.numbers.Tag.{Tag as PlainTag};
-ghost use Rattle.std.specs.Prelude.{List as Items, ◌≡◌, ◌<◌, ◌^◌, ◌++◌, ℕ, IfOk, OnOk, Some, length, map, slice_get};
-ghost use Rattle.graph_base.specs.declared.graph.Prefs.{Prefs as PlainPrefs};
-ghost use Rattle.graph_base.specs.Graphs.{PlainGraph, IsGraph};
+ghost use Rattle.std.specs.Prelude.{◌≡◌, ◌<◌, ◌^◌, ◌++◌, ℕ, IfOk, OnOk, Some, length, map, slice_get};
+ghost use Rattle.graph_base.specs.Graphs.{IsGraph};
 ghost use Rattle.evidence_base.specs.Made.{PlainCaseEvidence};
-ghost use Rattle.config_made.specs.Conditions.{IsWhole};
-ghost use Rattle.config_made.specs.Evidence.{evidence_of};
 ghost use Rattle.config_made.specs.Hops.{HasPref, hop_of as plain_hop, hops_from, announced_of, announced_at, announced_by, announced_from};
 
 use crate::hop::{Announced, Hop};
-use graph_base::{Graph, Prefs};
-use net_base::{List, Loc, Prefix, Tag};
-use path_words::Case;
+use evidence_base::CaseEvidence;
+use graph_base::Graph;
+use net_base::{Loc, Prefix, Tag};
 use std::alloc::{AllocError, Global};
 
 // A step of the graph of a class.
@@ -37,47 +33,28 @@ fn hop_of(class: u32, graph: &Graph, numbers: &[u32], tags: &[Tag], step: (u32, 
 }
 
 // The steps of the graph of a class.
-fn add_hops(
-    class: u32,
-    graph: &Graph,
-    numbers: &[u32],
-    tags: &[Tag],
-    hops: &mut Vec<Hop>,
-) -> Result<(), AllocError>
-    requires numbers { length numbers.now ≡ length graph.now.nodes }
-    requires tags { length tags.now ≡ length graph.now.nodes }
-    ensures hops { OnOk result (hops.new.items ≡ hops.old.items ++ map (plain_hop class graph.now numbers.now tags.now) graph.now.steps) }
-    ensures graph { IsGraph graph.now }
+fn add_hops(class: u32, case: &CaseEvidence, hops: &mut Vec<Hop>) -> Result<(), AllocError>
+    ensures hops { OnOk result (hops.new.items ≡ hops.old.items ++ map (plain_hop class case.now.graph case.now.numbers case.now.tags) case.now.graph.steps) }
+    ensures graph { IsGraph case.now.graph }
     ensures fits { OnOk result (All HasPref hops.old.items → All HasPref hops.new.items) }
 {
+    let graph = case.graph();
     for step in graph.steps() {
-        hops.push(hop_of(class, graph, numbers, tags, *step))?;
+        hops.push(hop_of(class, graph, case.prefs(), case.tags(), *step))?;
     }
     Ok(())
 }
 
 /// The steps of all cases.
-pub fn all_hops(
-    alloc: Global,
-    cases: &[Case],
-    graphs: &[Graph],
-    prefs: &[Prefs],
-    tags: &[List<Tag>],
-) -> Result<Vec<Hop>, AllocError>
-    requires count { length cases.now < 2 ^ 32 }
-    requires graphs { length graphs.now ≡ length cases.now }
-    requires prefs { length prefs.now ≡ length cases.now }
-    requires tags { length tags.now ≡ length cases.now }
-    requires whole { (k : ℕ) (c : PlainCaseEvidence) → slice_get (evidence_of cases.now graphs.now prefs.now tags.now) k ≡ Some c → IsWhole c }
-    ensures hops { IfOk result (λ hops. hops.items ≡ hops_from 1 (evidence_of cases.now graphs.now prefs.now tags.now)) }
+pub fn all_hops(alloc: Global, evidence: &[CaseEvidence]) -> Result<Vec<Hop>, AllocError>
+    requires { length evidence.now < 2 ^ 32 }
+    ensures hops { IfOk result (λ hops. hops.items ≡ hops_from 1 evidence.now) }
     ensures fits { IfOk result (λ hops. All HasPref hops.items) }
-    ensures graphs { OnOk result ((k : ℕ) (g : PlainGraph) → slice_get graphs.now k ≡ Some g → IsGraph g) }
+    ensures graphs { OnOk result ((k : ℕ) (c : PlainCaseEvidence) → slice_get evidence.now k ≡ Some c → IsGraph c.graph) }
 {
     let mut hops = Vec::new(alloc);
-    for i in 0..cases.len() {
-        let numbers = prefs[i].of.as_slice();
-        let tags = tags[i].as_slice();
-        add_hops(i as u32 + 1, &graphs[i], numbers, tags, &mut hops)?;
+    for place in 0..evidence.len() {
+        add_hops(place as u32 + 1, &evidence[place], &mut hops)?;
     }
     Ok(hops)
 }
@@ -125,41 +102,30 @@ fn add_start(
     )
 }
 
-// What the starts of a graph announce.
+// What the starts of a case announce.
 fn add_announced(
     class: u32,
-    prefixes: &[Prefix],
-    graph: &Graph,
-    tags: &[Tag],
+    case: &CaseEvidence,
     all: &mut Vec<Announced>,
 ) -> Result<(), AllocError>
-    requires { length tags.now ≡ length graph.now.nodes }
-    ensures { OnOk result (all.new.items ≡ all.old.items ++ announced_by class prefixes.now graph.now tags.now) }
+    ensures { OnOk result (all.new.items ≡ all.old.items ++ announced_by class case.now.case.prefixes case.now.graph case.now.tags) }
 {
+    let prefixes = case.case().prefixes.as_slice();
+    let graph = case.graph();
     for start in graph.starts() {
-        add_start(class, prefixes, graph, tags, *start, all)?;
+        add_start(class, prefixes, graph, case.tags(), *start, all)?;
     }
     Ok(())
 }
 
-/// What the starts of all cases announce, whatever the numbers of their nodes are.
-pub fn all_announced(
-    alloc: Global,
-    cases: &[Case],
-    graphs: &[Graph],
-    tags: &[List<Tag>],
-) -> Result<Vec<Announced>, AllocError>
-    requires count { length cases.now < 2 ^ 32 }
-    requires graphs { length graphs.now ≡ length cases.now }
-    requires tags { length tags.now ≡ length cases.now }
-    requires whole { (k : ℕ) (g : PlainGraph) (t : Items PlainTag) → slice_get graphs.now k ≡ Some g → slice_get tags.now k ≡ Some t → length t ≡ length g.nodes }
-    ensures { IfOk result (λ all. (prefs : Items PlainPrefs) → length prefs ≡ length cases.now → all.items ≡ announced_from 1 (evidence_of cases.now graphs.now prefs tags.now)) }
+/// What the starts of all cases announce.
+pub fn all_announced(alloc: Global, evidence: &[CaseEvidence]) -> Result<Vec<Announced>, AllocError>
+    requires { length evidence.now < 2 ^ 32 }
+    ensures { IfOk result (λ all. all.items ≡ announced_from 1 evidence.now) }
 {
     let mut all = Vec::new(alloc);
-    for i in 0..cases.len() {
-        let prefixes = cases[i].prefixes.as_slice();
-        let tags = tags[i].as_slice();
-        add_announced(i as u32 + 1, prefixes, &graphs[i], tags, &mut all)?;
+    for place in 0..evidence.len() {
+        add_announced(place as u32 + 1, &evidence[place], &mut all)?;
     }
     Ok(all)
 }

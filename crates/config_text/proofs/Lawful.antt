@@ -12,23 +12,18 @@ use Rattle.config_base.specs.declared.config.Rule.{Rule}
 use Rattle.config_base.specs.declared.config.Export.{Export}
 use Rattle.config_base.specs.declared.config.Own.{Own}
 use Rattle.config_base.specs.Configs.{PlainConfig, IsImport, IsExport, IsOwn, IsSession, IsRouter}
+use Rattle.config_lines.proofs.WrittenForms.{router_low, peer_low}
 use Rattle.config_text.specs.Spelled.{ArePatterns, HasPrefix, IsNamed, HasLawfulParts, IsLawful, Spells}
 use Rattle.text_words.specs.Ends.{IsShort}
 use Rattle.config_text.proofs.Classes.{IsFullClass}
 use Rattle.config_text.proofs.Lines.{IsShortOwn, IsShortRule, IsShortExport}
 use Rattle.config_text.proofs.Blocks.{IsReadableSession, IsReadableRouter, IsReadable, config_cut}
 
-router_number : (n : ℕ) → IsTrue (is_router_as n) → n < 2 ^ 32
-router_number n is = let p = and_parts (nat_le 64512 n) (nat_le n 65534) is in omega (arith, leb-true n 65534 p.1)
-
-peer_number : (n : ℕ) → IsTrue (is_peer_as n) → n < 2 ^ 32
-peer_number n is = let p = and_parts (nat_le 1 n) (nat_le n 65534) is in omega (arith, leb-true n 65534 p.1)
-
 short_tag : (t : Tag) → IsTrue (is_tag t) → IsShort t
 short_tag t is =
     let p = and_parts (is_router_as t.asn) (nat_le 1 t.value && nat_le t.value 65535) is in
     let q = and_parts (nat_le 1 t.value) (nat_le t.value 65535) p.1 in
-    record { asn = router_number t.asn p.0; value = omega (arith, leb-true t.value 65535 q.1) }
+    record { asn = router_low t.asn p.0; value = omega (arith, leb-true t.value 65535 q.1) }
 
 module _ (count : ℕ) (low : count < 2 ^ 32) where
   short_own : (o : Own) → IsOwn count o → HasPrefix o → IsShortOwn o
@@ -45,8 +40,8 @@ module _ (count : ℕ) (low : count < 2 ^ 32) where
   short_export e is = record { class = omega (arith, low, is.0.1); tag = short_tag e.tag is.1 }
 
   session_number : (peer : Bool) (n : ℕ) → MatchBool peer (IsTrue (is_peer_as n)) (IsTrue (is_router_as n)) → n < 2 ^ 32
-  session_number true n h = peer_number n h
-  session_number false n h = router_number n h
+  session_number true n h = peer_low n h
+  session_number false n h = router_low n h
 
   readable_session : (s : Session) → IsSession count s → IsNamed s → IsReadableSession s
   readable_session s is named = record {
@@ -59,7 +54,7 @@ module _ (count : ℕ) (low : count < 2 ^ 32) where
   readable_router : (r : RouterConfig) → IsRouter count r → HasLawfulParts r → IsReadableRouter r
   readable_router r is parts = record {
     name = parts.name;
-    asn = router_number r.asn is.number;
+    asn = router_low r.asn is.number;
     id = is.identifier.1;
     own = AllByRecursion-both (IsOwn count) HasPrefix IsShortOwn short_own r.own is.own parts.prefixes;
     sessions = AllByRecursion-both (IsSession count) IsNamed IsReadableSession readable_session r.sessions is.sessions parts.names;

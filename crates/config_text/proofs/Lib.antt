@@ -3,3 +3,4 @@ pub mod Classes
 pub mod Lines
 pub mod Blocks
 pub mod Lawful
+pub mod TextLines

@@ -12,7 +12,8 @@ use Rattle.text_words.specs.Texts.{prefix_text, tag_text}
 use Rattle.config_base.specs.declared.config.Rule.{Rule}
 use Rattle.config_base.specs.declared.config.Export.{Export}
 use Rattle.config_base.specs.declared.config.Own.{Own}
-use Rattle.config_text.specs.ConfigText.{own_line, read_tag, set_text, import_line, export_line}
+use Rattle.config_text.specs.ConfigText.{own_line, import_line, export_line}
+use Rattle.config_lines.specs.LineText.{read_tag, set_text, import_text}
 use Rattle.text_words.specs.Ends.{stops, IsShort}
 use Rattle.text_words.proofs.Words.{number_cut, after}
 use Rattle.text_words.proofs.Pieces.{prefix_cut, tag_cut}
@@ -92,7 +93,7 @@ read_cut false t u rest more ht hu hr hm e =
 
 import_parts : (peer : Bool) (r : Rule) (rest : List ℕ) → import_line peer r ++ rest
     ≡ codes "import " ++ (decimal r.class ++ (read_tag peer r.tag ++ (set_text r ++ (10 ∷ rest))))
-unfolding import_line
+unfolding import_line import_text
 import_parts peer r rest = parts_by (decimal r.class) (read_tag peer r.tag) (set_text r)
   where
     parts_by : (a b c : List ℕ) → (codes "import " ++ a ++ b ++ c ++ codes "\n") ++ rest ≡ codes "import " ++ (a ++ (b ++ (c ++ (10 ∷ rest))))
@@ -114,7 +115,7 @@ one_import peer r q rest more hr hq tr tm e =
     (same_rule r q a.0 b.0 c.0 c.1, c.2)
 
 import_begins : (peer : Bool) (r : Rule) (rest : List ℕ) → begins 105 (import_line peer r ++ rest) ≡ true
-unfolding import_line
+unfolding import_line import_text
 import_begins peer r rest = refl
 
 pub imports_cut : (peer : Bool) (rs qs : List Rule) (rest more : List ℕ) → AllByRecursion (IsShortRule peer) rs → AllByRecursion (IsShortRule peer) qs

@@ -1,2 +1,3 @@
+pub mod ConfigLines
 pub mod ConfigText
 pub mod Spelled

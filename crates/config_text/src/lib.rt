@@ -3,7 +3,8 @@
 
 ghost use Rattle.std.specs.Prelude.{◌≡◌, ◌++◌, ◌+◌, OnOk, IfOk};
 ghost use Rattle.std.specs.List.{flat_map, AllByRecursion};
-ghost use Rattle.config_text.specs.ConfigText.{class_line, class_lines, router_line, own_line, session_line, import_line, read_tag, set_text, next_pattern, export_line, session_text, router_text, config_text, joined_patterns};
+ghost use Rattle.config_text.specs.ConfigText.{class_line, class_lines, router_line, own_line, session_line, import_line, export_line, session_text, router_text, config_text};
+ghost use Rattle.config_lines.specs.LineText.{read_tag, set_text, next_pattern, joined_patterns};
 ghost use Rattle.config_text.specs.Spelled.{ArePatterns, HasPrefix, IsNamed, HasLawfulParts, Spells};
 
 use config_base::{Config, Export, Own, RouterConfig, Rule, Session};
@@ -16,7 +17,10 @@ use text_words::{
 
 mod law;
 
-pub use law::texts_spell_one_configuration;
+pub use law::{texts_are_lines, texts_spell_one_configuration};
+
+/// As many bytes as most lines have.
+const LINE_BYTES: usize = 48;
 
 // Adds patterns, each after a comma and a space.
 fn push_more_patterns(text: &mut Vec<u8>, patterns: &[Pattern]) -> Result<(), NoMemory>
@@ -84,7 +88,7 @@ fn push_own(text: &mut Vec<u8>, own: &Own) -> Result<(), NoMemory>
 }
 
 // Adds the tag that an import reads: none in the block of a peer.
-#[tactic(auto, unfolding(crate::specs::ConfigText::read_tag))]
+#[tactic(auto, unfolding(config_lines::specs::LineText::read_tag))]
 fn push_read_tag(text: &mut Vec<u8>, peer: bool, tag: Tag) -> Result<(), NoMemory>
     ensures { OnOk result (text.new.items ≡ text.old.items ++ read_tag peer tag) }
 {
@@ -106,7 +110,7 @@ fn push_set(text: &mut Vec<u8>, rule: &Rule) -> Result<(), NoMemory>
 }
 
 // Adds an import line.
-#[tactic(auto, unfolding(crate::specs::ConfigText::import_line))]
+#[tactic(auto, unfolding(crate::specs::ConfigText::import_line, config_lines::specs::LineText::import_text))]
 fn push_import(text: &mut Vec<u8>, peer: bool, rule: &Rule) -> Result<(), NoMemory>
     ensures { OnOk result (text.new.items ≡ text.old.items ++ import_line peer rule.now) }
 {
@@ -224,12 +228,31 @@ fn push_routers(text: &mut Vec<u8>, routers: &[RouterConfig]) -> Result<(), NoMe
     Ok(())
 }
 
+// How many imports and exports a router's neighbours have.
+fn lines_of(sessions: &[Session]) -> usize {
+    let mut lines = 0usize;
+    for session in sessions {
+        lines = lines.saturating_add(session.imports.as_slice().len());
+        lines = lines.saturating_add(session.exports.as_slice().len());
+    }
+    lines
+}
+
+// Room for the lines of routers, which is asked for once. Where it falls short, the text grows.
+fn room_for(routers: &[RouterConfig]) -> usize {
+    let mut lines = 0usize;
+    for router in routers {
+        lines = lines.saturating_add(lines_of(router.sessions.as_slice()));
+    }
+    lines.saturating_mul(LINE_BYTES)
+}
+
 /// The text of a configuration. It spells this configuration, and no text spells two.
 pub fn print_config(alloc: Global, config: &Config) -> Result<Vec<u8>, NoMemory>
     ensures text { IfOk result (λ v. v.items ≡ config_text config.now) }
     ensures spells { IfOk result (λ v. Spells v.items config.now) }
 {
-    let mut text = Vec::new(alloc);
+    let mut text = Vec::with_capacity(alloc, room_for(config.routers()))?;
     push_bytes(&mut text, b"propane-config 1\n")?;
     push_classes(&mut text, config.classes())?;
     push_routers(&mut text, config.routers())?;

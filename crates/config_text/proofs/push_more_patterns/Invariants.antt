@@ -1,7 +1,7 @@
 use Rattle.std.proofs.Common.{◌≡◌, ◌++◌, take}
 use Rattle.std.specs.List.{flat_map, AllByRecursion}
 use Rattle.net_base.specs.Prefixes.{IsPattern}
-use Rattle.config_text.specs.ConfigText.{next_pattern}
+use Rattle.config_lines.specs.LineText.{next_pattern}
 use Rattle.config_text.proofs.push_more_patterns.Given as goal
 
 abbrev pub invariant-loop-pattern : goal.invariant-loop-pattern

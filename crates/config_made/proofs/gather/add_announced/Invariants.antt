@@ -4,4 +4,4 @@ use Rattle.config_made.proofs.gather.add_announced.Given as goal
 
 abbrev pub invariant-loop-start : goal.invariant-loop-start
 invariant-loop-start l =
-    l.all.items ≡ l.initial.all.items ++ flat_map (announced_at l.class l.prefixes l.graph l.tags) (take l.start-index l.start-items)
+    l.all.items ≡ l.initial.all.items ++ flat_map (announced_at l.class l.prefixes l.graph l.case.tags) (take l.start-index l.start-items)

@@ -1,0 +1,46 @@
+-- The texts of lines are their words, joined by spaces.
+use Rattle.std.proofs.Common.{◌≡◌, ℕ, List, [], ◌∷◌, ◌++◌, true, false, refl, append_assoc, append-nil}
+use Rattle.std.specs.Prelude.{codes}
+use Rattle.std.specs.List.{join_with_byte}
+use Rattle.std.specs.Fmt.{decimal}
+use Rattle.text_words.specs.Texts.{tag_text}
+use Rattle.config_base.specs.declared.config.Rule.{Rule}
+use Rattle.config_lines.specs.LineText.{import_text, read_tag}
+
+pub router_joined : (name asn n id address v a b : List ℕ) → asn ≡ codes "asn" → id ≡ codes "id" → name ≡ v → n ≡ a → address ≡ b
+    → join_with_byte 32 (codes "router" ∷ name ∷ asn ∷ n ∷ id ∷ address ∷ []) ≡ codes "router " ++ v ++ codes " asn " ++ a ++ codes " id " ++ b
+router_joined name asn n id address v a b e1 e2 e3 e4 e5 = rw (e1, e2, e3, e4, e5) (simp append_assoc refl)
+
+pub own_joined : (n prefix tag t a b c : List ℕ) → tag ≡ codes "tag" → n ≡ a → prefix ≡ b → t ≡ c
+    → join_with_byte 32 (codes "originate" ∷ n ∷ prefix ∷ tag ∷ t ∷ []) ≡ codes "originate " ++ a ++ codes " " ++ b ++ codes " tag " ++ c
+own_joined n prefix tag t a b c e1 e2 e3 e4 = rw (e1, e2, e3, e4) (simp append_assoc refl)
+
+pub session_joined : (name asn n v a : List ℕ) → asn ≡ codes "asn" → name ≡ v → n ≡ a
+    → join_with_byte 32 (codes "session" ∷ name ∷ asn ∷ n ∷ []) ≡ codes "session " ++ v ++ codes " asn " ++ a
+session_joined name asn n v a e1 e2 e3 = rw (e1, e2, e3) (simp append_assoc refl)
+
+pub peer_joined : (name asn n v a : List ℕ) → asn ≡ codes "asn" → name ≡ v → n ≡ a
+    → join_with_byte 32 (codes "peer" ∷ name ∷ asn ∷ n ∷ []) ≡ codes "peer " ++ v ++ codes " asn " ++ a
+peer_joined name asn n v a e1 e2 e3 = rw (e1, e2, e3) (simp append_assoc refl)
+
+pub export_joined : (n tag t a b : List ℕ) → tag ≡ codes "tag" → n ≡ a → t ≡ b
+    → join_with_byte 32 (codes "export" ∷ n ∷ tag ∷ t ∷ []) ≡ codes "export " ++ a ++ codes " tag " ++ b
+export_joined n tag t a b e1 e2 e3 = rw (e1, e2, e3) (simp append_assoc refl)
+
+tagged_by : (a b c d : List ℕ) → join_with_byte 32 (codes "import" ∷ a ∷ codes "tag" ∷ b ∷ codes "set" ∷ c ∷ codes "pref" ∷ d ∷ [])
+    ≡ codes "import " ++ a ++ (codes " tag " ++ b) ++ (codes " set " ++ c ++ codes " pref " ++ d)
+tagged_by a b c d = rw (append_assoc a (codes " tag " ++ b) (codes " set " ++ c ++ codes " pref " ++ d), append_assoc c (codes " pref ") d) refl
+
+pub tagged_joined : (n tag t set u pref m : List ℕ) (r : Rule) → tag ≡ codes "tag" → set ≡ codes "set" → pref ≡ codes "pref" → n ≡ decimal r.class → t ≡ tag_text r.tag → u ≡ tag_text r.set → m ≡ decimal r.pref
+    → join_with_byte 32 (codes "import" ∷ n ∷ tag ∷ t ∷ set ∷ u ∷ pref ∷ m ∷ []) ≡ import_text false r
+unfolding import_text read_tag
+tagged_joined n tag t set u pref m r e1 e2 e3 e4 e5 e6 e7 = rw (e1, e2, e3, e4, e5, e6, e7) (tagged_by (decimal r.class) (tag_text r.tag) (tag_text r.set) (decimal r.pref))
+
+untagged_by : (a c d : List ℕ) → join_with_byte 32 (codes "import" ∷ a ∷ codes "set" ∷ c ∷ codes "pref" ∷ d ∷ [])
+    ≡ codes "import " ++ a ++ [] ++ (codes " set " ++ c ++ codes " pref " ++ d)
+untagged_by a c d = rw (append-nil a, append_assoc c (codes " pref ") d) refl
+
+pub untagged_joined : (n set u pref m : List ℕ) (r : Rule) → set ≡ codes "set" → pref ≡ codes "pref" → n ≡ decimal r.class → u ≡ tag_text r.set → m ≡ decimal r.pref
+    → join_with_byte 32 (codes "import" ∷ n ∷ set ∷ u ∷ pref ∷ m ∷ []) ≡ import_text true r
+unfolding import_text read_tag
+untagged_joined n set u pref m r e1 e2 e3 e4 e5 = rw (e1, e2, e3, e4, e5) (untagged_by (decimal r.class) (tag_text r.set) (decimal r.pref))

@@ -1,0 +1,6 @@
+pub mod Gives
+pub mod LineText
+pub mod Lines
+pub mod Numbers
+pub mod Patterns
+pub mod Words

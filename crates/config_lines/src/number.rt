@@ -1,0 +1,146 @@
+//! The numbers of a line, first as they stand and then in their ranges.
+ghost use Rattle.std.specs.Prelude.{◌≡◌, ◌==◌, ◌<◌, ◌^◌, nat_lt, false, IfSome, IfNone};
+ghost use Rattle.std.specs.List.{list_all};
+ghost use Rattle.net_base.specs.Addresses.{is_figure as figure};
+ghost use Rattle.config_lines.specs.Numbers.{value_of, is_number as are_digits, is_padded as padded, figure_of, number_of, in_range as ranged, class_in, class_number as numbered, tag_in_range};
+
+use crate::line::LineFault;
+use net_base::{Tag, tag_fits};
+
+/// A number as it stands in a line.
+#[derive(Clone, Copy, Debug, PartialEq, Eq)]
+pub enum Figure {
+    /// It has a leading zero.
+    LeadingZero,
+    /// It is over 4294967295.
+    Large,
+    /// Any other number.
+    Value(u32),
+}
+
+/// The two numbers of a tag as they stand in a line.
+#[derive(Clone, Copy, Debug, PartialEq, Eq)]
+pub struct RawTag {
+    pub asn: Figure,
+    pub value: Figure,
+}
+
+/// The tag and the preference that an import gives, with their numbers as they stand.
+#[derive(Clone, Copy, Debug, PartialEq, Eq)]
+pub struct Setting {
+    pub set: RawTag,
+    pub pref: Figure,
+}
+
+fn is_figure(byte: u8) -> bool
+    ensures { result ≡ figure byte }
+{
+    byte.is_ascii_digit()
+}
+
+fn are_figures(bytes: &[u8]) -> bool
+    ensures { result ≡ list_all figure bytes.now }
+{
+    bytes.iter().all(|byte| is_figure(*byte))
+}
+
+// Whether the bytes are one or more digits.
+fn is_number(bytes: &[u8]) -> bool
+    ensures { result ≡ are_digits bytes.now }
+{
+    !bytes.is_empty() && are_figures(bytes)
+}
+
+// Whether the digits are more than one, of which the first is 0.
+fn is_padded(digits: &[u8]) -> bool
+    ensures { result ≡ padded digits.now }
+{
+    digits.len() >= 2 && digits[0] == b'0'
+}
+
+// The number that digits make, None where it is over 4294967295.
+fn value(digits: &[u8]) -> Option<u32>
+    ensures some { IfSome result (λ n. n ≡ value_of digits.now) }
+    ensures none { IfNone result (nat_lt (value_of digits.now) (2 ^ 32) ≡ false) }
+{
+    let mut value: u32 = 0;
+    for digit in digits {
+        let next = 10 * u64::from(value) + u64::from(digit.saturating_sub(b'0'));
+        if next > u64::from(u32::MAX) {
+            return None;
+        }
+        value = next as u32;
+    }
+    Some(value)
+}
+
+// The number of digits as it stands.
+fn as_it_stands(digits: &[u8]) -> Figure
+    ensures { result ≡ figure_of digits.now }
+{
+    if is_padded(digits) {
+        return Figure::LeadingZero;
+    }
+    match value(digits) {
+        Some(n) => Figure::Value(n),
+        None => Figure::Large,
+    }
+}
+
+/// The number that a word is, as it stands. A word that isn't one or more digits is not of its form.
+#[tactic(auto, unfolding(crate::specs::Numbers::number_of))]
+pub fn read_number(word: &[u8]) -> Result<Figure, LineFault>
+    ensures { result ≡ number_of word.now }
+{
+    if !is_number(word) {
+        return Err(LineFault::Form);
+    }
+    Ok(as_it_stands(word))
+}
+
+/// The number, which has no leading zero and at most 32 bits.
+pub fn in_range(number: Figure) -> Result<u32, LineFault>
+    ensures { result ≡ ranged number }
+{
+    match number {
+        Figure::Value(n) => Ok(n),
+        Figure::LeadingZero | Figure::Large => Err(LineFault::Number),
+    }
+}
+
+/// The number of a class, of which there are so many.
+#[tactic(auto, unfolding(crate::specs::Numbers::class_in))]
+pub fn read_class(classes: u32, number: Figure) -> Result<u32, LineFault>
+    ensures { result ≡ class_in classes number }
+{
+    let n = in_range(number)?;
+    if n == 0 || n > classes {
+        return Err(LineFault::Number);
+    }
+    Ok(n)
+}
+
+/// The number of a `class` line, which has no range: None where it is over 4294967295.
+pub fn class_number(number: Figure) -> Result<Option<u32>, LineFault>
+    ensures { result ≡ numbered number }
+{
+    match number {
+        Figure::LeadingZero => Err(LineFault::Number),
+        Figure::Large => Ok(None),
+        Figure::Value(n) => Ok(Some(n)),
+    }
+}
+
+/// The tag of two numbers, which are in their ranges.
+#[tactic(auto, unfolding(crate::specs::Numbers::tag_in_range))]
+pub fn fitting_tag(raw: RawTag) -> Result<Tag, LineFault>
+    ensures { result ≡ tag_in_range raw }
+{
+    let asn = in_range(raw.asn)?;
+    let value = in_range(raw.value)?;
+    let tag = Tag { asn, value };
+    if !tag_fits(tag) {
+        return Err(LineFault::Number);
+    }
+    Ok(tag)
+}

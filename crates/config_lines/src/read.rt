@@ -1,0 +1,267 @@
+//! Lines are read.
+ghost use Rattle.std.specs.Prelude.{◌≡◌, map};
+ghost use Rattle.config_lines.specs.Gives.{Gives};
+ghost use Rattle.config_lines.specs.Lines.{class_line, router_line, own_line, neighbour, session_line, peer_line, setting, tagged_line, untagged_line, import_line, export_line, end_line, form_line, words_line, pieces_line, line_of};
+
+use crate::line::{Line, LineFault};
+use crate::number::{Setting, class_number, fitting_tag, in_range, read_class, read_number};
+use crate::parts::{cut_parts, expect, is_word, prefix, read_identifier, read_name, read_tag};
+use crate::pattern::{read_pattern, read_patterns};
+use config_base::{Export, NO_TAG, Own, Rule};
+use net_base::{Name, Tag, peer_as, router_as};
+use std::alloc::Global;
+
+// A `class` line, by what follows its first word up to the first comma, and its other pieces.
+#[tactic(auto, unfolding(crate::specs::Lines::class_line))]
+fn read_class_line(alloc: Global, words: &[&[u8]], pieces: &[&[u8]]) -> Result<Line, LineFault>
+    ensures { Gives (λ l. l) result (class_line (map (λ w. w.now) words.now) (map (λ p. p.now) pieces.now)) }
+{
+    let [number, pattern @ ..] = words else {
+        return Err(LineFault::Form);
+    };
+    let number = read_number(number)?;
+    let first = read_pattern(pattern)?;
+    let patterns = read_patterns(alloc, first, pieces)?;
+    Ok(Line::Class(class_number(number)?, patterns))
+}
+
+// A `router` line, by what follows its first word.
+#[tactic(auto, unfolding(crate::specs::Lines::router_line))]
+fn read_router_line(words: &[&[u8]]) -> Result<Line, LineFault>
+    ensures { result ≡ router_line (map (λ w. w.now) words.now) }
+{
+    let [name, asn_word, asn, id_word, id] = words else {
+        return Err(LineFault::Form);
+    };
+    expect("asn", asn_word)?;
+    expect("id", id_word)?;
+    let asn = read_number(asn)?;
+    let id = read_identifier(id)?;
+    let name = read_name(name)?;
+    let asn = in_range(asn)?;
+    if !router_as(asn) {
+        return Err(LineFault::Number);
+    }
+    Ok(Line::Router(name, asn, id))
+}
+
+// An `originate` line, by what follows its first word.
+#[tactic(auto, unfolding(crate::specs::Lines::own_line))]
+fn read_own_line(alloc: Global, classes: u32, words: &[&[u8]]) -> Result<Line, LineFault>
+    ensures { Gives (λ l. l) result (own_line classes (map (λ w. w.now) words.now)) }
+{
+    let [class, base, tag_word, tag] = words else {
+        return Err(LineFault::Form);
+    };
+    let class = read_number(class)?;
+    let prefix = prefix(base)?;
+    expect("tag", tag_word)?;
+    let tag = read_tag(alloc, tag)?;
+    let class = read_class(classes, class)?;
+    let tag = fitting_tag(tag)?;
+    Ok(Line::Own(Own { class, prefix, tag }))
+}
+
+// The name and the AS number of a neighbour, by what follows the first word of its line.
+#[tactic(auto, unfolding(crate::specs::Lines::neighbour))]
+fn read_neighbour(words: &[&[u8]]) -> Result<(Name, u32), LineFault>
+    ensures { result ≡ neighbour (map (λ w. w.now) words.now) }
+{
+    let [name, asn_word, asn] = words else {
+        return Err(LineFault::Form);
+    };
+    expect("asn", asn_word)?;
+    let name = read_name(name)?;
+    let asn = read_number(asn)?;
+    let asn = in_range(asn)?;
+    Ok((name, asn))
+}
+
+// A `session` line, by what follows its first word.
+#[tactic(auto, unfolding(crate::specs::Lines::session_line))]
+fn read_session_line(words: &[&[u8]]) -> Result<Line, LineFault>
+    ensures { result ≡ session_line (map (λ w. w.now) words.now) }
+{
+    let (name, asn) = read_neighbour(words)?;
+    if !router_as(asn) {
+        return Err(LineFault::Number);
+    }
+    Ok(Line::Session(name, asn))
+}
+
+// A `peer` line, by what follows its first word.
+#[tactic(auto, unfolding(crate::specs::Lines::peer_line))]
+fn read_peer_line(words: &[&[u8]]) -> Result<Line, LineFault>
+    ensures { result ≡ peer_line (map (λ w. w.now) words.now) }
+{
+    let (name, asn) = read_neighbour(words)?;
+    if !peer_as(asn) {
+        return Err(LineFault::Number);
+    }
+    Ok(Line::Peer(name, asn))
+}
+
+// The tag and the preference of an import are named: the words behind its class and its own tag.
+#[tactic(auto, unfolding(crate::specs::Lines::setting))]
+fn read_setting(alloc: Global, words: &[&[u8]]) -> Result<Setting, LineFault>
+    ensures { Gives (λ s. s) result (setting (map (λ w. w.now) words.now)) }
+{
+    let [set_word, set, pref_word, pref] = words else {
+        return Err(LineFault::Form);
+    };
+    expect("set", set_word)?;
+    let set = read_tag(alloc, set)?;
+    expect("pref", pref_word)?;
+    let pref = read_number(pref)?;
+    Ok(Setting { set, pref })
+}
+
+// An `import` line in the block of a router, by what follows its first word.
+#[tactic(auto, unfolding(crate::specs::Lines::tagged_line))]
+fn read_tagged_line(alloc: Global, classes: u32, words: &[&[u8]]) -> Result<Line, LineFault>
+    ensures { Gives (λ l. l) result (tagged_line classes (map (λ w. w.now) words.now)) }
+{
+    let [class, tag_word, tag, setting @ ..] = words else {
+        return Err(LineFault::Form);
+    };
+    let class = read_number(class)?;
+    expect("tag", tag_word)?;
+    let tag = read_tag(alloc, tag)?;
+    let setting = read_setting(alloc, setting)?;
+    Ok(Line::Import(Rule {
+        class: read_class(classes, class)?,
+        tag: fitting_tag(tag)?,
+        set: fitting_tag(setting.set)?,
+        pref: in_range(setting.pref)?,
+    }))
+}
+
+// An `import` line in the block of a peer, by what follows its first word.
+#[tactic(auto, unfolding(crate::specs::Lines::untagged_line))]
+fn read_untagged_line(alloc: Global, classes: u32, words: &[&[u8]]) -> Result<Line, LineFault>
+    ensures { Gives (λ l. l) result (untagged_line classes (map (λ w. w.now) words.now)) }
+{
+    let [class, setting @ ..] = words else {
+        return Err(LineFault::Form);
+    };
+    let class = read_number(class)?;
+    let setting = read_setting(alloc, setting)?;
+    Ok(Line::PeerImport(Rule {
+        class: read_class(classes, class)?,
+        tag: NO_TAG,
+        set: fitting_tag(setting.set)?,
+        pref: in_range(setting.pref)?,
+    }))
+}
+
+// An `import` line, by what follows its first word.
+#[tactic(auto, unfolding(crate::specs::Lines::import_line))]
+fn read_import_line(alloc: Global, classes: u32, words: &[&[u8]]) -> Result<Line, LineFault>
+    ensures { Gives (λ l. l) result (import_line classes (map (λ w. w.now) words.now)) }
+{
+    if words.len() == 7 {
+        read_tagged_line(alloc, classes, words)
+    } else {
+        read_untagged_line(alloc, classes, words)
+    }
+}
+
+// An `export` line, by what follows its first word.
+#[tactic(auto, unfolding(crate::specs::Lines::export_line))]
+fn read_export_line(alloc: Global, classes: u32, words: &[&[u8]]) -> Result<Line, LineFault>
+    ensures { Gives (λ l. l) result (export_line classes (map (λ w. w.now) words.now)) }
+{
+    let [class, tag_word, tag] = words else {
+        return Err(LineFault::Form);
+    };
+    let class = read_number(class)?;
+    expect("tag", tag_word)?;
+    let tag = read_tag(alloc, tag)?;
+    let class = read_class(classes, class)?;
+    let tag = fitting_tag(tag)?;
+    Ok(Line::Export(Export { class, tag }))
+}
+
+// The `end` line, behind whose word nothing stands.
+#[tactic(auto, unfolding(crate::specs::Lines::end_line))]
+fn read_end_line(words: &[&[u8]]) -> Result<Line, LineFault>
+    ensures { result ≡ end_line (map (λ w. w.now) words.now) }
+{
+    match words {
+        [] => Ok(Line::End),
+        _ => Err(LineFault::Form),
+    }
+}
+
+// A line other than that of a class, by its first word and what follows it.
+#[tactic(auto, unfolding(crate::specs::Lines::form_line))]
+fn read_form_line(
+    alloc: Global,
+    classes: u32,
+    word: &[u8],
+    words: &[&[u8]],
+) -> Result<Line, LineFault>
+    ensures { Gives (λ l. l) result (form_line classes word.now (map (λ w. w.now) words.now)) }
+{
+    if is_word("router", word) {
+        read_router_line(words)
+    } else if is_word("originate", word) {
+        read_own_line(alloc, classes, words)
+    } else if is_word("session", word) {
+        read_session_line(words)
+    } else if is_word("peer", word) {
+        read_peer_line(words)
+    } else if is_word("import", word) {
+        read_import_line(alloc, classes, words)
+    } else if is_word("export", word) {
+        read_export_line(alloc, classes, words)
+    } else if is_word("end", word) {
+        read_end_line(words)
+    } else {
+        Err(LineFault::Form)
+    }
+}
+
+// A line, by the words of its first piece and its other pieces.
+#[tactic(auto, unfolding(crate::specs::Lines::words_line))]
+fn read_words_line(
+    alloc: Global,
+    classes: u32,
+    words: &[&[u8]],
+    pieces: &[&[u8]],
+) -> Result<Line, LineFault>
+    ensures { Gives (λ l. l) result (words_line classes (map (λ w. w.now) words.now) (map (λ p. p.now) pieces.now)) }
+{
+    let [word, words @ ..] = words else {
+        return Err(LineFault::Form);
+    };
+    if is_word("class", word) {
+        return read_class_line(alloc, words, pieces);
+    }
+    if !pieces.is_empty() {
+        return Err(LineFault::Form);
+    }
+    read_form_line(alloc, classes, word, words)
+}
+
+// A line, by its pieces.
+fn read_pieces_line(alloc: Global, classes: u32, pieces: &[&[u8]]) -> Result<Line, LineFault>
+    ensures { Gives (λ l. l) result (pieces_line classes (map (λ p. p.now) pieces.now)) }
+{
+    let [piece, pieces @ ..] = pieces else {
+        return Err(LineFault::Form);
+    };
+    let words = cut_parts(alloc, b' ', piece)?;
+    read_words_line(alloc, classes, &words, pieces)
+}
+
+/// The line that the bytes spell, where there are so many classes above it, or why they spell none: its form is
+/// judged before its numbers. The numbers of classes are from 1 to `classes`, but for that of a `class` line,
+/// which has no range. It takes memory in proportion to the words of the line.
+#[tactic(auto, unfolding(crate::specs::Lines::line_of))]
+pub fn read_line(alloc: Global, bytes: &[u8], classes: u32) -> Result<Line, LineFault>
+    ensures { Gives (λ l. l) result (line_of bytes.now classes) }
+{
+    let pieces = cut_parts(alloc, b',', bytes)?;
+    read_pieces_line(alloc, classes, &pieces)
+}

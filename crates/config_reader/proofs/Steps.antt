@@ -1,0 +1,181 @@
+-- What was read with one line more.
+use Rattle.std.proofs.Common.{◌≡◌, ℕ, ◌+◌, ◌<◌, ◌≤◌, get_or, map, drop, drop-cons, add-one, Bor, List, [], ◌∷◌, ◌++◌, length, Bool, true, false, Option, Some, None, Result, Ok, Err, refl, sym, ◌∙◌, ap, arith, length-append}
+use Rattle.std.specs.Prelude.{◌&&◌, ◌==◌, not, is_none, ⊤}
+use Rattle.std.specs.List.{list_any}
+use Rattle.std.specs.Str.{bytes_eq}
+use Rattle.net_base.specs.Prefixes.{PlainPattern}
+use Rattle.net_base.specs.Steps.{◌>>=◌, or_fault, unless}
+use Rattle.net_base.proofs.StepLemmas.{bind_ok, unless_ok, or_fault_ok, ok_same}
+use Rattle.config_base.specs.Configs.{own_key}
+use Rattle.config_base.specs.declared.config.RouterConfig.{RouterConfig}
+use Rattle.config_base.specs.declared.config.Session.{Session}
+use Rattle.config_base.specs.declared.config.Rule.{Rule}
+use Rattle.config_base.specs.declared.config.Export.{Export}
+use Rattle.config_base.specs.declared.config.Own.{Own}
+use Rattle.config_lines.specs.declared.line.Line.{Line}
+use Rattle.config_lines.specs.declared.line.Line.TheVariants as line
+use Rattle.config_lines.specs.declared.line.LineFault.{LineFault}
+use Rattle.config_lines.specs.declared.line.LineFault.TheVariants as linefault
+use Rattle.config_lines.specs.Lines.{line_of}
+use Rattle.config_reader.specs.declared.fault.ConfigFault.{ConfigFault}
+use Rattle.config_reader.specs.Order.{ascends, rule_key, export_key}
+use Rattle.config_reader.specs.declared.reading.OpenRouter.{OpenRouter}
+use Rattle.config_reader.specs.declared.reading.Reading.{Reading}
+use Rattle.config_reader.specs.declared.reading.Misplaced.{Misplaced}
+use Rattle.config_reader.specs.declared.reading.Misplaced.TheVariants as misplaced
+use Rattle.config_reader.specs.Reading.{with_class, with_router, with_own, with_neighbour, with_import, with_export, with_end, after, is_next, stood_before, closed, same_kind, import_into, export_into}
+use Rattle.config_reader.specs.Text.{read_at, placed_at, with_line, with_lines}
+
+pub read_at_ok : (n : ℕ) (r : Result Line LineFault) (l : Line) → read_at n r ≡ Ok l → r ≡ Ok l
+read_at_ok n (Ok m) l h = ap Ok (ok_same m l h)
+read_at_ok n (Err linefault.Form) l h = absurd cc
+read_at_ok n (Err linefault.Number) l h = absurd cc
+read_at_ok n (Err linefault.NoMemory) l h = absurd cc
+
+pub placed_at_ok : (n : ℕ) (r : Result Reading Misplaced) (s : Reading) → placed_at n r ≡ Ok s → r ≡ Ok s
+placed_at_ok n (Ok q) s h = ap Ok (ok_same q s h)
+placed_at_ok n (Err misplaced.Order) s h = absurd cc
+placed_at_ok n (Err misplaced.Twice) s h = absurd cc
+placed_at_ok n (Err misplaced.NoMemory) s h = absurd cc
+
+-- the line that was read, and what it made
+pub with_line_ok : (n : ℕ) (r s : Reading) (bytes : List ℕ) → with_line n r bytes ≡ Ok s → (l : Line) × (line_of bytes (length r.classes) ≡ Ok l) × (after r l ≡ Ok s)
+unfolding with_line
+with_line_ok n r s bytes h =
+    let l = bind_ok (read_at n (line_of bytes (length r.classes))) _ s h in
+    (l.0, read_at_ok n _ l.0 l.1, placed_at_ok n _ s l.2)
+
+-- a line more, and the lines behind it
+pub with_lines_next : (n : ℕ) (r s : Reading) (bytes : List ℕ) (more : List (List ℕ)) (whole : Result Reading ConfigFault) → with_line n r bytes ≡ Ok s
+    → with_lines n r (bytes ∷ more) ≡ whole → with_lines (n + 1) s more ≡ whole
+with_lines_next n r s bytes more whole here h = rw here at h
+
+-- ---- what each line wanted, and what it made
+
+pub class_ok : (r s : Reading) (number : Option ℕ) (patterns : List PlainPattern) → with_class r number patterns ≡ Ok s
+    → ((is_none r.opened && length r.routers == 0) ≡ true) × (is_next number (length r.classes) ≡ true) × ((let q : Reading = record { classes = r.classes ++ patterns ∷ []; routers = r.routers; opened = r.opened } in q) ≡ s)
+unfolding with_class
+class_ok r s number patterns h =
+    let a = bind_ok (unless misplaced.Order (is_none r.opened && length r.routers == 0)) _ s h in
+    let b = bind_ok (unless misplaced.Order (is_next number (length r.classes))) _ s a.2 in
+    (unless_ok misplaced.Order _ a.0 a.1, unless_ok misplaced.Order _ b.0 b.1, ok_same _ s b.2)
+
+abbrev pub new_router : List ℕ → ℕ → ℕ → RouterConfig
+new_router name asn id = record { name = name; asn = asn; id = id; own = []; sessions = [] }
+
+abbrev pub with_open : Reading → OpenRouter → Reading
+with_open r o = record { classes = r.classes; routers = r.routers; opened = Some o }
+
+pub router_ok : (r s : Reading) (name : List ℕ) (asn id : ℕ) → with_router r name asn id ≡ Ok s
+    → (is_none r.opened ≡ true) × (not (stood_before name asn id r.routers) ≡ true) × (with_open r (record { router = new_router name asn id; names = []; block = None }) ≡ s)
+unfolding with_router
+router_ok r s name asn id h =
+    let a = bind_ok (unless misplaced.Order (is_none r.opened)) _ s h in
+    let b = bind_ok (unless misplaced.Twice (not (stood_before name asn id r.routers))) _ s a.2 in
+    (unless_ok misplaced.Order _ a.0 a.1, unless_ok misplaced.Twice _ b.0 b.1, ok_same _ s b.2)
+
+abbrev pub router_with_own : OpenRouter → Own → OpenRouter
+router_with_own o own = record { router = record { name = o.router.name; asn = o.router.asn; id = o.router.id; own = o.router.own ++ own ∷ []; sessions = o.router.sessions }; names = o.names; block = o.block }
+
+pub own_ok : (r s : Reading) (own : Own) → with_own r own ≡ Ok s
+    → (o : OpenRouter) × (r.opened ≡ Some o) × ((is_none o.block && ascends own_key o.router.own (own_key own)) ≡ true) × (with_open r (router_with_own o own) ≡ s)
+unfolding with_own
+own_ok r s own h =
+    let a = bind_ok (or_fault misplaced.Order r.opened) _ s h in
+    let b = bind_ok (unless misplaced.Order (is_none a.0.block && ascends own_key a.0.router.own (own_key own))) _ s a.2 in
+    (a.0, or_fault_ok misplaced.Order r.opened a.0 a.1, unless_ok misplaced.Order _ b.0 b.1, ok_same _ s b.2)
+
+abbrev pub new_session : List ℕ → ℕ → Bool → Session
+new_session name asn peer = record { name = name; asn = asn; peer = peer; imports = []; exports = [] }
+
+abbrev pub with_session : OpenRouter → Bool → List ℕ → ℕ → OpenRouter
+with_session o peer name asn = record { router = closed o.router o.block; names = o.names ++ name ∷ []; block = Some (new_session name asn peer) }
+
+pub neighbour_ok : (peer : Bool) (r s : Reading) (name : List ℕ) (asn : ℕ) → with_neighbour peer r name asn ≡ Ok s
+    → (o : OpenRouter) × (r.opened ≡ Some o) × (not (list_any (bytes_eq name) o.names) ≡ true) × (with_open r (with_session o peer name asn) ≡ s)
+unfolding with_neighbour
+neighbour_ok peer r s name asn h =
+    let a = bind_ok (or_fault misplaced.Order r.opened) _ s h in
+    let b = bind_ok (unless misplaced.Twice (not (list_any (bytes_eq name) a.0.names))) _ s a.2 in
+    (a.0, or_fault_ok misplaced.Order r.opened a.0 a.1, unless_ok misplaced.Twice _ b.0 b.1, ok_same _ s b.2)
+
+abbrev pub with_block : OpenRouter → Session → OpenRouter
+with_block o b = record { router = o.router; names = o.names; block = Some b }
+
+abbrev pub session_with_import : Session → Rule → Session
+session_with_import b rule = record { name = b.name; asn = b.asn; peer = b.peer; imports = b.imports ++ rule ∷ []; exports = b.exports }
+
+pub import_ok : (peer : Bool) (r s : Reading) (rule : Rule) → with_import peer r rule ≡ Ok s
+    → (o : OpenRouter) × (b : Session) × (r.opened ≡ Some o) × (o.block ≡ Some b) × ((same_kind b.peer peer && length b.exports == 0) ≡ true) × (ascends rule_key b.imports (rule_key rule) ≡ true) × (with_open r (with_block o (session_with_import b rule)) ≡ s)
+unfolding with_import import_into
+import_ok peer r s rule h =
+    let a = bind_ok (or_fault misplaced.Order r.opened) _ s h in
+    let b = bind_ok (or_fault misplaced.Order a.0.block) _ s a.2 in
+    let c = bind_ok (import_into peer b.0 rule) _ s b.2 in
+    let d = bind_ok (unless misplaced.Order (same_kind b.0.peer peer && length b.0.exports == 0)) _ c.0 c.1 in
+    let e = bind_ok (unless misplaced.Order (ascends rule_key b.0.imports (rule_key rule))) _ c.0 d.2 in
+    let made : session_with_import b.0 rule ≡ c.0 = ok_same _ c.0 e.2 in (
+      a.0,
+      b.0,
+      or_fault_ok misplaced.Order r.opened a.0 a.1,
+      or_fault_ok misplaced.Order a.0.block b.0 b.1,
+      unless_ok misplaced.Order _ d.0 d.1,
+      unless_ok misplaced.Order _ e.0 e.1,
+      ap (λ (q : Session). with_open r (with_block a.0 q)) made ∙ ok_same _ s c.2,
+    )
+
+abbrev pub session_with_export : Session → Export → Session
+session_with_export b export = record { name = b.name; asn = b.asn; peer = b.peer; imports = b.imports; exports = b.exports ++ export ∷ [] }
+
+pub export_ok : (r s : Reading) (export : Export) → with_export r export ≡ Ok s
+    → (o : OpenRouter) × (b : Session) × (r.opened ≡ Some o) × (o.block ≡ Some b) × (ascends export_key b.exports (export_key export) ≡ true) × (with_open r (with_block o (session_with_export b export)) ≡ s)
+unfolding with_export export_into
+export_ok r s export h =
+    let a = bind_ok (or_fault misplaced.Order r.opened) _ s h in
+    let b = bind_ok (or_fault misplaced.Order a.0.block) _ s a.2 in
+    let c = bind_ok (export_into b.0 export) _ s b.2 in
+    let e = bind_ok (unless misplaced.Order (ascends export_key b.0.exports (export_key export))) _ c.0 c.1 in
+    let made : session_with_export b.0 export ≡ c.0 = ok_same _ c.0 e.2 in (
+      a.0,
+      b.0,
+      or_fault_ok misplaced.Order r.opened a.0 a.1,
+      or_fault_ok misplaced.Order a.0.block b.0 b.1,
+      unless_ok misplaced.Order _ e.0 e.1,
+      ap (λ (q : Session). with_open r (with_block a.0 q)) made ∙ ok_same _ s c.2,
+    )
+
+pub end_ok : (r s : Reading) → with_end r ≡ Ok s
+    → (o : OpenRouter) × (r.opened ≡ Some o) × ((let q : Reading = record { classes = r.classes; routers = r.routers ++ closed o.router o.block ∷ []; opened = None } in q) ≡ s)
+unfolding with_end
+end_ok r s h =
+    let a = bind_ok (or_fault misplaced.Order r.opened) _ s h in
+    (a.0, or_fault_ok misplaced.Order r.opened a.0 a.1, ok_same _ s a.2)
+
+-- ---- at most one class more
+
+same_count : (r s q : Reading) → q.classes ≡ r.classes → q ≡ s → length s.classes ≤ length r.classes + 1
+same_count r s q er es = rw (← es, er) (omega arith)
+
+pub after-classes : (r s : Reading) (l : Line) → after r l ≡ Ok s → length s.classes ≤ length r.classes + 1
+after-classes r s (line.Class number patterns) h =
+    let k = class_ok r s number patterns h in
+    rw (← k.2, length-append r.classes (patterns ∷ [])) (omega arith)
+after-classes r s (line.Router name asn id) h = same_count r s _ refl (router_ok r s name asn id h).2
+after-classes r s (line.Own own) h = same_count r s _ refl (own_ok r s own h).3
+after-classes r s (line.Session name asn) h = same_count r s _ refl (neighbour_ok false r s name asn h).3
+after-classes r s (line.Peer name asn) h = same_count r s _ refl (neighbour_ok true r s name asn h).3
+after-classes r s (line.Import rule) h = same_count r s _ refl (import_ok false r s rule h).6
+after-classes r s (line.PeerImport rule) h = same_count r s _ refl (import_ok true r s rule h).6
+after-classes r s (line.Export export) h = same_count r s _ refl (export_ok r s export h).5
+after-classes r s line.End h = same_count r s _ refl (end_ok r s h).2
+
+pub with_line-classes : (n : ℕ) (r s : Reading) (bytes : List ℕ) → with_line n r bytes ≡ Ok s → length s.classes ≤ length r.classes + 1
+with_line-classes n r s bytes h = let l = with_line_ok n r s bytes h in after-classes r s l.0 l.2
+
+-- the same in a loop over the lines
+pub loop_step : (lines : List (Bor (List ℕ))) (i : ℕ) (d : Bor (List ℕ)) (n : ℕ) (r s : Reading) (whole : Result Reading ConfigFault) → i < length lines
+    → with_line n r (get_or lines i d).now ≡ Ok s
+    → with_lines n r (map (λ l. l.now) (drop i lines)) ≡ whole → with_lines (n + 1) s (map (λ l. l.now) (drop (i + 1) lines)) ≡ whole
+loop_step lines i d n r s whole within here before =
+    let at : drop i lines ≡ get_or lines i d ∷ drop (i + 1) lines = drop-cons lines i d within ∙ rw add-one refl in
+    with_lines_next n r s (get_or lines i d).now (map (λ l. l.now) (drop (i + 1) lines)) whole here (rw at at before)

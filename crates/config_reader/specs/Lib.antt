@@ -1,0 +1,6 @@
+pub mod Faults
+pub mod FirstFault
+pub mod Order
+pub mod Reading
+pub mod Text
+pub mod Views

@@ -1,0 +1,124 @@
+-- What was read so far, and what the next line makes of it.
+use Rattle.std.specs.Prelude.{ℕ, ◌+◌, ◌&&◌, ◌||◌, ◌==◌, not, Bool, true, false, List, [], ◌∷◌, ◌++◌, length, is_none, Option, Some, None, Result, Ok, Err}
+use Rattle.std.specs.List.{list_any}
+use Rattle.std.specs.Str.{bytes_eq}
+use Rattle.net_base.specs.Gives.{GivesUnless}
+use Rattle.net_base.specs.Prefixes.{PlainPattern}
+use Rattle.net_base.specs.Steps.{◌>>=◌, or_fault, unless}
+use Rattle.config_base.specs.declared.config.RouterConfig.{RouterConfig}
+use Rattle.config_base.specs.declared.config.Session.{Session}
+use Rattle.config_base.specs.declared.config.Rule.{Rule}
+use Rattle.config_base.specs.declared.config.Export.{Export}
+use Rattle.config_base.specs.declared.config.Own.{Own}
+use Rattle.config_base.specs.Configs.{own_key}
+use Rattle.config_lines.specs.declared.line.Line.{Line}
+use Rattle.config_lines.specs.declared.line.Line.TheVariants as line
+use Rattle.config_reader.specs.declared.reading.OpenRouter.{OpenRouter}
+use Rattle.config_reader.specs.declared.reading.Reading.{Reading}
+use Rattle.config_reader.specs.declared.reading.Misplaced.{Misplaced}
+use Rattle.config_reader.specs.declared.reading.Misplaced.TheVariants.{Order, Twice, NoMemory}
+use Rattle.config_reader.specs.Order.{ascends, rule_key, export_key}
+
+-- what came back, seen by view, is what the rules give, unless memory ran out
+abbrev pub Gives : {X Y : Type 0} → (X → Y) → Result X Misplaced → Result Y Misplaced → Type 0
+Gives view result read = GivesUnless NoMemory view result read
+
+-- nothing was read
+abbrev pub opening : Reading
+opening = record { classes = []; routers = []; opened = None }
+
+-- the number after so many classes
+abbrev pub is_next : Option ℕ → ℕ → Bool
+is_next None classes = false
+is_next (Some n) classes = n == classes + 1
+
+-- the lines of the classes come first, numbered from 1
+unfoldable pub with_class : Reading → Option ℕ → List PlainPattern → Result Reading Misplaced
+with_class r number patterns = do
+  _ ← unless Order (is_none r.opened && length r.routers == 0)
+  _ ← unless Order (is_next number (length r.classes))
+  Ok (record { classes = r.classes ++ patterns ∷ []; routers = r.routers; opened = r.opened })
+
+-- the name, the AS number or the identifier is that of this router
+abbrev pub same_router : List ℕ → ℕ → ℕ → RouterConfig → Bool
+same_router name asn id r = (r.asn == asn) || ((r.id == id) || bytes_eq r.name name)
+
+-- it is that of an earlier router
+abbrev pub stood_before : List ℕ → ℕ → ℕ → List RouterConfig → Bool
+stood_before name asn id routers = list_any (same_router name asn id) routers
+
+-- a router's block begins where none is open
+unfoldable pub with_router : Reading → List ℕ → ℕ → ℕ → Result Reading Misplaced
+with_router r name asn id = do
+  _ ← unless Order (is_none r.opened)
+  _ ← unless Twice (not (stood_before name asn id r.routers))
+  Ok (record { classes = r.classes; routers = r.routers; opened = Some (record { router = record { name = name; asn = asn; id = id; own = []; sessions = [] }; names = []; block = None }) })
+
+-- the originate lines come before the neighbours, and ascend
+unfoldable pub with_own : Reading → Own → Result Reading Misplaced
+with_own r own = do
+  now ← or_fault Order r.opened
+  _ ← unless Order (is_none now.block && ascends own_key now.router.own (own_key own))
+  Ok (record { classes = r.classes; routers = r.routers; opened = Some (record { router = record now.router { own = now.router.own ++ own ∷ [] }; names = now.names; block = now.block }) })
+
+-- with the block that was open
+abbrev pub closed : RouterConfig → Option Session → RouterConfig
+closed router None = router
+closed router (Some s) = record router { sessions = router.sessions ++ s ∷ [] }
+
+-- a neighbour's block begins, and the one before it ends
+unfoldable pub with_neighbour : Bool → Reading → List ℕ → ℕ → Result Reading Misplaced
+with_neighbour peer r name asn = do
+  now ← or_fault Order r.opened
+  _ ← unless Twice (not (list_any (bytes_eq name) now.names))
+  Ok (record { classes = r.classes; routers = r.routers; opened = Some (record { router = closed now.router now.block; names = now.names ++ name ∷ []; block = Some (record { name = name; asn = asn; peer = peer; imports = []; exports = [] }) }) })
+
+abbrev pub same_kind : Bool → Bool → Bool
+same_kind true b = b
+same_kind false b = not b
+
+-- imports come before exports, in the form of their block, and ascend
+unfoldable pub import_into : Bool → Session → Rule → Result Session Misplaced
+import_into peer s rule = do
+  _ ← unless Order (same_kind s.peer peer && length s.exports == 0)
+  _ ← unless Order (ascends rule_key s.imports (rule_key rule))
+  Ok (record s { imports = s.imports ++ rule ∷ [] })
+
+-- exports ascend
+unfoldable pub export_into : Session → Export → Result Session Misplaced
+export_into s export = do
+  _ ← unless Order (ascends export_key s.exports (export_key export))
+  Ok (record s { exports = s.exports ++ export ∷ [] })
+
+-- into the neighbour's block that is open
+unfoldable pub with_import : Bool → Reading → Rule → Result Reading Misplaced
+with_import peer r rule = do
+  now ← or_fault Order r.opened
+  s ← or_fault Order now.block
+  s ← import_into peer s rule
+  Ok (record { classes = r.classes; routers = r.routers; opened = Some (record { router = now.router; names = now.names; block = Some s }) })
+
+unfoldable pub with_export : Reading → Export → Result Reading Misplaced
+with_export r export = do
+  now ← or_fault Order r.opened
+  s ← or_fault Order now.block
+  s ← export_into s export
+  Ok (record { classes = r.classes; routers = r.routers; opened = Some (record { router = now.router; names = now.names; block = Some s }) })
+
+-- the router's block that is open ends
+unfoldable pub with_end : Reading → Result Reading Misplaced
+with_end r = do
+  now ← or_fault Order r.opened
+  Ok (record { classes = r.classes; routers = r.routers ++ closed now.router now.block ∷ []; opened = None })
+
+-- what was read so far with one more line, or why the line can't follow
+abbrev pub after : Reading → Line → Result Reading Misplaced
+after r (line.Class number patterns) = with_class r number patterns
+after r (line.Router name asn id) = with_router r name asn id
+after r (line.Own own) = with_own r own
+after r (line.Session name asn) = with_neighbour false r name asn
+after r (line.Peer name asn) = with_neighbour true r name asn
+after r (line.Import rule) = with_import false r rule
+after r (line.PeerImport rule) = with_import true r rule
+after r (line.Export export) = with_export r export
+after r line.End = with_end r

@@ -1,0 +1,12 @@
+//! Configuration texts are read: the configuration that bytes spell, or the first fault of the text.
+#![tactic(auto)]
+
+mod fault;
+pub mod laws;
+mod names;
+mod order;
+mod read;
+mod reading;
+
+pub use fault::ConfigFault;
+pub use read::read_config;

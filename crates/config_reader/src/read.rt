@@ -1,0 +1,148 @@
+//! A text is read line by line.
+ghost use Rattle.std.specs.Prelude.{◌≡◌, ◌<◌, ◌≤◌, ◌+◌, ◌^◌, None, Ok, IfOk, length, map};
+ghost use Rattle.config_reader.specs.Faults.{Gives};
+ghost use Rattle.config_reader.specs.Reading.{opening, after as after_line};
+ghost use Rattle.config_reader.specs.Text.{read_at, placed_at, with_line, with_lines, finished, heading, whole_lines, behind_heading, in_lines, spelled};
+ghost use Rattle.std.specs.Str.{bytes_eq};
+ghost use Rattle.config_base.specs.Configs.{PlainConfig, IsConfig};
+ghost use Rattle.config_text.specs.Spelled.{Spells};
+ghost use Rattle.config_lines.specs.Lines.{line_of};
+
+use crate::fault::ConfigFault;
+use crate::reading::{Misplaced, Reading, after, nothing_read};
+use config_base::Config;
+use config_lines::{Line, LineFault, cut_parts, read_line};
+use std::alloc::Global;
+
+// The line with this number.
+fn line_at(alloc: Global, number: u32, bytes: &[u8], classes: u32) -> Result<Line, ConfigFault>
+    ensures { Gives (λ l. l) result (read_at number (line_of bytes.now classes)) }
+{
+    match read_line(alloc, bytes, classes) {
+        Ok(line) => Ok(line),
+        Err(LineFault::Form) => Err(ConfigFault::Line(number)),
+        Err(LineFault::Number) => Err(ConfigFault::Number(number)),
+        Err(LineFault::NoMemory) => Err(ConfigFault::NoMemory),
+    }
+}
+
+// What was read with one line more, which has this number.
+fn after_at(
+    alloc: Global,
+    number: u32,
+    reading: Reading,
+    line: Line,
+) -> Result<Reading, ConfigFault>
+    ensures { Gives (λ r. r) result (placed_at number (after_line reading line)) }
+{
+    match after(alloc, reading, line) {
+        Ok(next) => Ok(next),
+        Err(Misplaced::Order) => Err(ConfigFault::Order(number)),
+        Err(Misplaced::Twice) => Err(ConfigFault::Twice(number)),
+        Err(Misplaced::NoMemory) => Err(ConfigFault::NoMemory),
+    }
+}
+
+// What was read with the bytes of one line more, which has this number.
+#[tactic(auto, unfolding(crate::specs::Text::with_line))]
+fn take_line(
+    alloc: Global,
+    number: u32,
+    reading: Reading,
+    bytes: &[u8],
+) -> Result<Reading, ConfigFault>
+    requires { length reading.classes < 2 ^ 32 }
+    ensures { Gives (λ r. r) result (with_line number reading bytes.now) }
+{
+    let classes = reading.classes.as_slice().len() as u32;
+    let line = line_at(alloc, number, bytes, classes)?;
+    after_at(alloc, number, reading, line)
+}
+
+// What is read of the lines, of which the first one has the number 2.
+fn read_lines(alloc: Global, lines: &[&[u8]]) -> Result<Reading, ConfigFault>
+    requires { length lines.now + 2 < 2 ^ 32 }
+    ensures { Gives (λ r. r) result (with_lines 2 opening (map (λ l. l.now) lines.now)) }
+{
+    let mut reading = nothing_read(alloc);
+    let mut number = 2;
+    for bytes in lines {
+        reading = take_line(alloc, number, reading, bytes)?;
+        number += 1;
+    }
+    Ok(reading)
+}
+
+// The configuration that was read, where nothing is open and nothing follows the last line feed.
+#[tactic(auto, unfolding(crate::specs::Text::finished))]
+fn finish(reading: Reading, rest: &[u8]) -> Result<Config, ConfigFault>
+    requires { reading.opened ≡ None → IsConfig (record { classes = reading.classes; routers = reading.routers }) }
+    ensures { Gives (λ c. c) result (finished reading rest.now) }
+{
+    let Reading {
+        classes,
+        routers,
+        opened,
+    } = reading;
+    if opened.is_some() || !rest.is_empty() {
+        return Err(ConfigFault::Unfinished);
+    }
+    Ok(Config::new(classes, routers))
+}
+
+// What is read of the lines but the last one. The first one has the number 2.
+fn read_whole_lines(alloc: Global, more: &[&[u8]]) -> Result<Reading, ConfigFault>
+    requires some { 0 < length more.now }
+    requires few { length more.now < 4294967295 }
+    ensures { Gives (λ r. r) result (with_lines 2 opening (whole_lines (map (λ l. l.now) more.now))) }
+{
+    let end = more.len() - 1;
+    read_lines(alloc, &more[..end])
+}
+
+// The configuration of the lines behind the first one. The last of them is what follows the last line feed.
+#[tactic(auto, unfolding(crate::specs::Text::behind_heading))]
+fn read_behind_heading(alloc: Global, more: &[&[u8]]) -> Result<Config, ConfigFault>
+    requires some { 0 < length more.now }
+    requires few { length more.now < 4294967295 }
+    ensures { Gives (λ c. c) result (behind_heading (map (λ l. l.now) more.now)) }
+{
+    let end = more.len() - 1;
+    let reading = read_whole_lines(alloc, more)?;
+    finish(reading, more[end])
+}
+
+// Whether a line is the first one of every text.
+fn is_heading(line: &[u8]) -> bool
+    ensures { result ≡ bytes_eq line.now heading }
+{
+    line == b"propane-config 1".as_slice()
+}
+
+// The configuration of the lines, the last of which is what follows the last line feed.
+#[tactic(auto, unfolding(crate::specs::Text::in_lines))]
+fn read_all(alloc: Global, lines: &[&[u8]]) -> Result<Config, ConfigFault>
+    requires { length lines.now ≤ 4294967295 }
+    ensures { Gives (λ c. c) result (in_lines (map (λ l. l.now) lines.now)) }
+{
+    let [first, more @ ..] = lines else {
+        return Err(ConfigFault::Version);
+    };
+    if more.is_empty() || !is_heading(first) {
+        return Err(ConfigFault::Version);
+    }
+    read_behind_heading(alloc, more)
+}
+
+/// The configuration that the bytes spell, or the first fault of the text: version first; then line by line, in
+/// each line its form, its numbers, its order and what stands twice; last whether the text is finished. It takes
+/// one pass, and memory in proportion to the text.
+pub fn read_config(alloc: Global, bytes: &[u8]) -> Result<Config, ConfigFault>
+    requires { length bytes.now < 4294967295 }
+    ensures exact { Gives (λ c. c) result (spelled bytes.now) }
+    ensures spells { IfOk result (λ c. Spells bytes.now c) }
+    ensures only { (c : PlainConfig) → Spells bytes.now c → Gives (λ d. d) result (Ok c) }
+{
+    let lines = cut_parts(alloc, b'\n', bytes)?;
+    read_all(alloc, &lines)
+}

@@ -1,0 +1,138 @@
+-- Items that are written one after another.
+use Rattle.std.proofs.Common.{◌≡◌, ℕ, zero, suc, ◌+◌, ◌^◌, ◌<◌, ◌≤◌, Bool, true, List, [], ◌∷◌, ◌++◌, length, map, take, drop, subst, get_or, Result, Ok, Err, refl, sym, ap, ◌∙◌, append-nil, append_assoc, add-one, drop-cons, arith}
+use Rattle.std.specs.Prelude.{nat_lt, codes, OnOk, ⊤}
+use Rattle.std.proofs.lemmas.Bool.{lt-ltb}
+use Rattle.std.proofs.lemmas.List.{drop_all}
+use Rattle.std.specs.List.{AllByRecursion}
+use Rattle.std.specs.Fmt.{decimal, digits}
+use Rattle.json.specs.Print.{escape_byte}
+use Rattle.json_words.specs.Json.{array_of, numbers_data, texts_data}
+use Rattle.net_base.specs.Prefixes.{PlainPrefix}
+use Rattle.net_base.specs.declared.numbers.Tag.{Tag}
+use Rattle.graph_base.specs.declared.graph.Node.{Node}
+use Rattle.text_words.specs.Texts.{prefix_text}
+use Rattle.evidence_base.specs.Made.{PlainCaseEvidence}
+use Rattle.evidence_text.specs.Writable.{IsShort}
+use Rattle.evidence_text.specs.Text.{case_data, evidence_data, evidence_text, members, nodes_data, step_data}
+use Rattle.serde_json.specs.Data.{Data, boolean, string}
+use Rattle.serde_json.specs.View.{items_of}
+use Rattle.serde_json.specs.Written.{comma_if, compact_text, items_text}
+
+-- the items from a place on, with a comma before each but the first of all
+abbrev pub rest_text : ℕ → List Data → List ℕ
+rest_text i ds = items_text (nat_lt 0 i) (items_of ds)
+
+later : (i : ℕ) → nat_lt 0 (i + 1) ≡ true
+later i = lt-ltb 0 (i + 1) (omega arith)
+
+-- the item here is written
+pub rest_text-cons : (i : ℕ) (d : Data) (ds : List Data) (text : List ℕ) → ((text ++ comma_if (nat_lt 0 i)) ++ compact_text d) ++ rest_text (i + 1) ds ≡ text ++ rest_text i (d ∷ ds)
+rest_text-cons i d ds text =
+    append_assoc (text ++ comma_if (nat_lt 0 i)) (compact_text d) (rest_text (i + 1) ds)
+    ∙ append_assoc text (comma_if (nat_lt 0 i)) (compact_text d ++ rest_text (i + 1) ds)
+    ∙ ap (λ b. text ++ (comma_if (nat_lt 0 i) ++ (compact_text d ++ items_text b (items_of ds)))) (later i)
+
+module _ {X : Type 0} (f : X → Data) (xs : List X) (i : ℕ) (x : X) (within : i < length xs) (is : x ≡ get_or xs i x) where
+  at : drop i xs ≡ x ∷ drop (i + 1) xs
+  at = drop-cons xs i x within ∙ rw (add-one, ← is) refl
+
+  pub one_more : (text new whole : List ℕ) → new ≡ (text ++ comma_if (nat_lt 0 i)) ++ compact_text (f x) → text ++ rest_text i (map f (drop i xs)) ≡ whole
+      → new ++ rest_text (i + 1) (map f (drop (i + 1) xs)) ≡ whole
+  one_more text new whole made before =
+      ap (λ t. t ++ rest_text (i + 1) (map f (drop (i + 1) xs))) made ∙ rest_text-cons i (f x) (map f (drop (i + 1) xs)) text ∙ ap (λ ys. text ++ rest_text i (map f ys)) (sym at) ∙ before
+
+-- none is left
+pub all_written : {X : Type 0} (f : X → Data) (xs : List X) (i : ℕ) → length xs ≤ i → (text whole : List ℕ) → text ++ rest_text i (map f (drop i xs)) ≡ whole → text ++ 93 ∷ [] ≡ whole
+all_written f xs i past text whole before = ap (λ ys. text ++ rest_text i (map f ys)) (sym (drop_all i xs past)) ∙ before
+
+abbrev pub prefix_data : PlainPrefix → Data
+prefix_data p = string (prefix_text p)
+
+pub texts-prefixes : (ps : List PlainPrefix) → map string (map prefix_text ps) ≡ map prefix_data ps
+texts-prefixes [] = refl
+texts-prefixes (p ∷ ps) = ap (λ ds. prefix_data p ∷ ds) (texts-prefixes ps)
+
+-- one piece, and then the others
+pub and_then : (old here new piece others : List ℕ) → here ≡ old ++ piece → new ≡ here ++ others → new ≡ old ++ (piece ++ others)
+and_then old here new piece others first rest = rest ∙ ap (λ t. t ++ others) first ∙ append_assoc old piece others
+
+-- pieces that are written one after another, each with the text that it leaves
+abbrev pub AreWritten : List ℕ → List (List ℕ × List ℕ) → Type 0
+AreWritten old [] = Unit {0}
+AreWritten old (p ∷ ps) = (p.1 ≡ old ++ p.0) × AreWritten p.1 ps
+
+abbrev pub text_after : List ℕ → List (List ℕ × List ℕ) → List ℕ
+text_after old [] = old
+text_after old (p ∷ ps) = text_after p.1 ps
+
+abbrev pub pieces : List (List ℕ × List ℕ) → List ℕ
+pieces [] = []
+pieces (p ∷ ps) = p.0 ++ pieces ps
+
+pub written : (old : List ℕ) (ps : List (List ℕ × List ℕ)) → AreWritten old ps → text_after old ps ≡ old ++ pieces ps
+written old [] h = sym (append-nil old)
+written old (p ∷ ps) h = written p.1 ps h.1 ∙ ap (λ t. t ++ pieces ps) h.0 ∙ append_assoc old p.0 (pieces ps)
+
+-- the pieces of a case
+pub case_as : (c : PlainCaseEvidence) (external : Bool) (nodes : List Node) (numbers : List ℕ) (tags : List Tag) (origins : List ℕ) (prefixes : List PlainPrefix) (starts : List ℕ) (statement : ℕ) (steps : List (ℕ × ℕ))
+    → external ≡ c.case.external → nodes ≡ c.graph.nodes → numbers ≡ c.numbers → tags ≡ c.tags → origins ≡ members c.case.origins → prefixes ≡ c.case.prefixes → starts ≡ c.graph.starts → statement ≡ c.case.statement → steps ≡ c.graph.steps
+    → codes "{\"external\":" ++ (compact_text (boolean external)
+    ++ (codes ",\"nodes\":" ++ (compact_text (array_of (nodes_data nodes numbers tags))
+    ++ (codes ",\"origins\":" ++ (compact_text (numbers_data origins)
+    ++ (codes ",\"prefixes\":" ++ (compact_text (texts_data (map prefix_text prefixes))
+    ++ (codes ",\"starts\":" ++ (compact_text (numbers_data starts)
+    ++ (codes ",\"statement\":" ++ (decimal statement
+    ++ (codes ",\"steps\":" ++ (compact_text (array_of (map step_data steps))
+    ++ codes "}")))))))))))))
+    ≡ compact_text (case_data c)
+unfolding case_data escape_byte
+case_as c external nodes numbers tags origins prefixes starts statement steps e1 e2 e3 e4 e5 e6 e7 e8 e9 =
+    λ i. codes "{\"external\":" ++ (compact_text (boolean (e1 i))
+    ++ (codes ",\"nodes\":" ++ (compact_text (array_of (nodes_data (e2 i) (e3 i) (e4 i)))
+    ++ (codes ",\"origins\":" ++ (compact_text (numbers_data (e5 i))
+    ++ (codes ",\"prefixes\":" ++ (compact_text (texts_data (map prefix_text (e6 i)))
+    ++ (codes ",\"starts\":" ++ (compact_text (numbers_data (e7 i))
+    ++ (codes ",\"statement\":" ++ (decimal (e8 i)
+    ++ (codes ",\"steps\":" ++ (compact_text (array_of (map step_data (e9 i)))
+    ++ codes "}")))))))))))))
+
+one_written : decimal 1 ≡ codes "1"
+unfolding digits
+one_written = refl
+
+whole_text : (cs : List PlainCaseEvidence) → codes "{\"cases\":" ++ (compact_text (array_of (map case_data cs)) ++ codes ",\"version\":1}\n") ≡ evidence_text cs
+unfolding evidence_data escape_byte
+whole_text cs =
+    let cases = compact_text (array_of (map case_data cs)) in
+    ap (λ one. codes "{\"cases\":" ++ (cases ++ (codes ",\"version\":" ++ (one ++ codes "}\n")))) (sym one_written)
+    ∙ ap (λ t. codes "{\"cases\":" ++ t) (sym (append_assoc cases (codes ",\"version\":" ++ (decimal 1 ++ codes "}")) (codes "\n")
+    ∙ ap (λ t. cases ++ (codes ",\"version\":" ++ t)) (append_assoc (decimal 1) (codes "}") (codes "\n"))))
+
+pub whole_pushed : (cs : List PlainCaseEvidence) (t1 t2 t3 : List ℕ) → t1 ≡ codes "{\"cases\":" → t2 ≡ t1 ++ compact_text (array_of (map case_data cs)) → t3 ≡ t2 ++ codes ",\"version\":1}\n" → t3 ≡ evidence_text cs
+whole_pushed cs t1 t2 t3 first second third =
+    let cases = compact_text (array_of (map case_data cs)) in
+    and_then t1 t2 t3 cases (codes ",\"version\":1}\n") second third ∙ ap (λ t. t ++ (cases ++ codes ",\"version\":1}\n")) first ∙ whole_text cs
+
+-- one more item of a list is as the items before it
+one_kept_after : {X : Type 0} (P : X → Type 0) (xs : List X) (i : ℕ) (x : X) → i < length xs → x ≡ get_or xs i x → AllByRecursion P (take i xs) → P x → AllByRecursion P (take (suc i) xs)
+one_kept_after P [] i x within is all px = absurd (omega (arith, within))
+one_kept_after P (y ∷ ys) zero x within is all px = (subst P is px, tt)
+one_kept_after P (y ∷ ys) (suc i) x within is all px = (all.0, one_kept_after P ys i x (omega (arith, within)) is all.1 px)
+
+pub one_kept : {X : Type 0} (P : X → Type 0) (xs : List X) (i : ℕ) (x : X) → i < length xs → x ≡ get_or xs i x → AllByRecursion P (take i xs) → P x → AllByRecursion P (take (i + 1) xs)
+one_kept P xs i x within is all px = rw (add-one) (one_kept_after P xs i x within is all px)
+
+-- every item of a list of numbers of 32 bits is one
+pub all_short : (ns : List ℕ) → ((i : ℕ) → get_or ns i 0 < 2 ^ 32) → AllByRecursion IsShort ns
+all_short [] fit = tt
+all_short (n ∷ ns) fit = (fit 0, all_short ns (λ i. fit (suc i)))
+
+-- what holds, holds also where a call ended well
+pub on_ok : {E : Type 0} (P : Type 0) (r : Result ⊤ E) → P → OnOk r P
+on_ok P (Ok x) h = h
+on_ok P (Err e) h = tt
+
+-- what a last call leaves, where it ended well
+pub if_done : {E : Type 0} (P Q : Type 0) (r : Result ⊤ E) → (P → Q) → OnOk r P → OnOk r Q
+if_done P Q (Ok x) f h = f h
+if_done P Q (Err e) f h = tt

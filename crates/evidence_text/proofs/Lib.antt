@@ -1,0 +1,9 @@
+mod Each
+mod FaultKinds
+mod InRange
+mod Items
+mod PlaceSets
+mod PrefixLetters
+mod Rewritten
+mod SetMembers
+mod Told

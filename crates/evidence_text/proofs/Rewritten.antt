@@ -1,0 +1,376 @@
+-- Evidence is read again from its text.
+use Rattle.std.proofs.Common.{◌≡◌, ◌≢◌, ℕ, zero, suc, ◌<◌, ◌≤◌, ◌^◌, Bool, true, false, List, [], ◌∷◌, length, map, Option, Some, None, Result, Ok, refl, sym, ap, ◌∙◌, arith}
+use Rattle.std.specs.Prelude.{nat_lt, ◌&&◌, ◌==◌, unwrap_or, if◌then◌else◌}
+use Rattle.std.specs.List.{AllByRecursion, list_all}
+use Rattle.std.proofs.lemmas.Bool.{le-leb, lt-ltb, ne_eqb}
+use Rattle.std.specs.Str.{IsUtf8}
+use Rattle.std.proofs.lemmas.List.{length-map}
+use Rattle.json.proofs.Printed.Utf8.{IsUtf8-are_ascii, are_ascii}
+use Rattle.json_words.specs.Plain.{IsPlain, ArePlain}
+use Rattle.json_words.proofs.ReadAgain.{json_of-line}
+use Rattle.serde_json.specs.Data.{Data, number, string, unsigned, depth, items_depth}
+use Rattle.serde_json.specs.View.{items_of}
+use Rattle.serde_json.proofs.OnLiterals.{serde_json_on_literals}
+use Rattle.list_laws.proofs.Each.{AllByRecursion-weaker}
+use Rattle.net_base.specs.declared.loc.LocSet.{LocSet}
+use Rattle.json_words.specs.Json.{list_of as items_as_list}
+use Rattle.net_base.specs.declared.place.Field.{Field}
+use Rattle.net_base.specs.declared.place.Field.TheVariants as field
+use Rattle.net_base.specs.declared.numbers.Tag.{Tag}
+use Rattle.net_base.specs.Prefixes.{PlainPrefix, IsPrefix}
+use Rattle.net_base.specs.Steps.{or_fault}
+use Rattle.text_words.specs.Texts.{prefix_text}
+use Rattle.text_words.proofs.PrefixTexts.{prefix_spelled-prefix_text}
+use Rattle.graph_base.specs.declared.graph.Node.{Node}
+use Rattle.evidence_base.specs.Made.{PlainCaseEvidence}
+use Rattle.evidence_text.specs.declared.fault.EvidenceFault.{EvidenceFault}
+use Rattle.evidence_text.specs.declared.fault.EvidenceFault.TheVariants.{Number}
+use Rattle.evidence_text.specs.declared.raw.NodeEntry.{NodeEntry}
+use Rattle.evidence_text.specs.declared.raw.RawCase.{RawCase}
+use Rattle.evidence_text.specs.declared.raw.RawEvidence.{RawEvidence}
+use Rattle.evidence_text.specs.declared.raw.ReadText.{ReadText}
+use Rattle.evidence_text.specs.declared.raw.ReadCase.{ReadCase}
+use Rattle.evidence_text.specs.Entries.{entry, pair, rank_of}
+use Rattle.evidence_text.specs.Shape.{each, greatest, number_of, number_at, row_of, node_of, step_of, prefix_of, origins_of, prefix_or, is_case, is_evidence, list_of, case_of, shape_of}
+use Rattle.evidence_text.specs.Spelled.{numbered_case, numbered, is_placed, evidence_of, spelled}
+use Rattle.evidence_text.specs.Text.{members, case_data, evidence_data, evidence_text, node_data, nodes_data, step_data}
+use Rattle.evidence_text.specs.Writable.{IsWritable}
+use Rattle.evidence_text.proofs.Items.{prefix_data, texts-prefixes}
+use Rattle.evidence_text.proofs.PrefixLetters.{ascii-prefix_text}
+use Rattle.evidence_text.proofs.Told.{says}
+use Rattle.evidence_text.proofs.SetMembers.{members_in_order, members_below, set_of_members}
+
+-- what is read of items that are written
+each_map : {A B C : Type 0} (P : A → Type 0) (f : B → Result C EvidenceFault) (g : A → B) (h : A → C) → ((x : A) → P x → f (g x) ≡ Ok (h x)) → (xs : List A) → AllByRecursion P xs → each f (map g xs) ≡ Ok (map h xs)
+each_map P f g h one [] all = refl
+each_map P f g h one (x ∷ xs) all = rw (one x all.0, each_map P f g h one xs all.1) refl
+
+pub all_some : {A : Type 0} (e : EvidenceFault) (xs : List A) → each (or_fault e) (map (λ x. Some x) xs) ≡ Ok xs
+all_some e [] = refl
+all_some e (x ∷ xs) = rw (all_some e xs) refl
+
+number_ok : (f : Field) (least most n : ℕ) → least ≤ n → n ≤ most → number_of f least most (number (unsigned n)) ≡ Ok (Some n)
+unfolding number_of
+number_ok f least most n low high = rw (le-leb least n low, le-leb n most high) refl
+
+-- ---- nodes
+
+mark : (b : Bool) → ((if b then 1 else 0) == 1) ≡ b
+mark true = refl
+mark false = refl
+
+mark_low : (b : Bool) → (if b then 1 else 0) ≤ 1
+mark_low true = omega arith
+mark_low false = omega arith
+
+rank_again : (r : Option ℕ) → r ≢ Some 0 → rank_of (unwrap_or r 0) ≡ r
+rank_again None h = refl
+rank_again (Some zero) h = absurd (h refl)
+rank_again (Some (suc n)) h = rw (ne_eqb (suc n) 0 (λ e. omega (arith, e))) refl
+
+IsWritten : Node → ℕ → Tag → Type 0
+IsWritten v n tag = (v.loc < 768) × (v.rank ≢ Some 0) × (unwrap_or v.rank 0 < 4294967296) × (n < 4294967296) × (tag.asn < 4294967296) × (tag.value < 4294967296)
+
+node_again : (v : Node) (n : ℕ) (tag : Tag) → IsWritten v n tag → node_of (node_data v n tag) ≡ Ok (Some (record { node = v; number = n; tag = tag }))
+unfolding node_of row_of number_at entry IsWritten
+node_again v n tag h =
+    rw (
+      number_ok field.Nodes 0 767 v.loc (omega arith) (omega (arith, h.0)),
+      number_ok field.Nodes 0 1 (if v.listener then 1 else 0) (omega arith) (mark_low v.listener),
+      number_ok field.Nodes 0 greatest (unwrap_or v.rank 0) (omega arith) (omega (arith, h.2)),
+      number_ok field.Nodes 0 greatest n (omega arith) (omega (arith, h.3)),
+      number_ok field.Nodes 0 greatest tag.asn (omega arith) (omega (arith, h.4)),
+      number_ok field.Nodes 0 greatest tag.value (omega arith) (omega (arith, h.5)),
+      mark v.listener,
+      rank_again v.rank h.1,
+    )
+    refl
+
+pub entries : List Node → List ℕ → List Tag → List NodeEntry
+entries [] ns tags = []
+entries (v ∷ vs) [] tags = []
+entries (v ∷ vs) (n ∷ ns) [] = []
+entries (v ∷ vs) (n ∷ ns) (tag ∷ tags) = record { node = v; number = n; tag = tag } ∷ entries vs ns tags
+
+pub entries_nodes : (vs : List Node) (ns : List ℕ) (tags : List Tag) → length ns ≡ length vs → length tags ≡ length vs → map (λ (e : NodeEntry). e.node) (entries vs ns tags) ≡ vs
+unfolding entries
+entries_nodes [] ns tags a b = refl
+entries_nodes (v ∷ vs) [] tags a b = absurd (omega arith)
+entries_nodes (v ∷ vs) (n ∷ ns) [] a b = absurd (omega arith)
+entries_nodes (v ∷ vs) (n ∷ ns) (tag ∷ tags) a b = ap (λ xs. v ∷ xs) (entries_nodes vs ns tags (omega arith) (omega arith))
+
+pub entries_numbers : (vs : List Node) (ns : List ℕ) (tags : List Tag) → length ns ≡ length vs → length tags ≡ length vs → map (λ (e : NodeEntry). e.number) (entries vs ns tags) ≡ ns
+unfolding entries
+entries_numbers [] [] tags a b = refl
+entries_numbers [] (n ∷ ns) tags a b = absurd (omega arith)
+entries_numbers (v ∷ vs) [] tags a b = absurd (omega arith)
+entries_numbers (v ∷ vs) (n ∷ ns) [] a b = absurd (omega arith)
+entries_numbers (v ∷ vs) (n ∷ ns) (tag ∷ tags) a b = ap (λ xs. n ∷ xs) (entries_numbers vs ns tags (omega arith) (omega arith))
+
+pub entries_tags : (vs : List Node) (ns : List ℕ) (tags : List Tag) → length ns ≡ length vs → length tags ≡ length vs → map (λ (e : NodeEntry). e.tag) (entries vs ns tags) ≡ tags
+unfolding entries
+entries_tags [] ns [] a b = refl
+entries_tags [] ns (tag ∷ tags) a b = absurd (omega arith)
+entries_tags (v ∷ vs) [] tags a b = absurd (omega arith)
+entries_tags (v ∷ vs) (n ∷ ns) [] a b = absurd (omega arith)
+entries_tags (v ∷ vs) (n ∷ ns) (tag ∷ tags) a b = ap (λ xs. tag ∷ xs) (entries_tags vs ns tags (omega arith) (omega arith))
+
+nodes_again : (vs : List Node) (ns : List ℕ) (tags : List Tag)
+    → AllByRecursion (λ (v : Node). v.loc < 768) vs → AllByRecursion (λ (v : Node). v.rank ≢ Some 0) vs → AllByRecursion (λ (v : Node). unwrap_or v.rank 0 < 2 ^ 32) vs
+    → AllByRecursion (λ n. n < 2 ^ 32) ns → AllByRecursion (λ (t : Tag). (t.asn < 2 ^ 32) × (t.value < 2 ^ 32)) tags
+    → each node_of (nodes_data vs ns tags) ≡ Ok (map (λ e. Some e) (entries vs ns tags))
+unfolding entries IsWritten
+nodes_again [] ns tags a b c d e = refl
+nodes_again (v ∷ vs) [] tags a b c d e = refl
+nodes_again (v ∷ vs) (n ∷ ns) [] a b c d e = refl
+nodes_again (v ∷ vs) (n ∷ ns) (tag ∷ tags) a b c d e =
+    rw (node_again v n tag (a.0, b.0, c.0, d.0, e.0.0, e.0.1), nodes_again vs ns tags a.1 b.1 c.1 d.1 e.1) refl
+
+-- ---- the other parts
+
+step_again : (s : ℕ × ℕ) → (s.0 < 4294967000) × (s.1 < 4294967000) → step_of (step_data s) ≡ Ok (Some s)
+unfolding step_of row_of number_at pair
+step_again s h = rw (number_ok field.Steps 0 greatest s.0 (omega arith) (omega (arith, h.0)), number_ok field.Steps 0 greatest s.1 (omega arith) (omega (arith, h.1))) refl
+
+prefix_again : (p : PlainPrefix) → IsPrefix p → prefix_of (string (prefix_text p)) ≡ Ok p
+unfolding prefix_of
+prefix_again p is = ap prefix_or (prefix_spelled-prefix_text p is)
+
+numbers_again : (f : Field) (most : ℕ) (ns : List ℕ) → AllByRecursion (λ n. n ≤ most) ns → each (number_of f 0 most) (map (λ n. number (unsigned n)) ns) ≡ Ok (map (λ n. Some n) ns)
+numbers_again f most ns small = each_map (λ n. n ≤ most) (number_of f 0 most) (λ n. number (unsigned n)) (λ n. Some n) (λ n low. number_ok f 0 most n (omega arith) low) ns small
+
+pub items_as_list-items_of : (ds : List Data) → items_as_list (items_of ds) ≡ ds
+items_as_list-items_of [] = refl
+items_as_list-items_of (d ∷ ds) = ap (λ xs. d ∷ xs) (items_as_list-items_of ds)
+
+-- ---- a case whose numbers are judged
+
+pub raw_case : PlainCaseEvidence → RawCase
+raw_case c = record {
+  external = c.case.external;
+  nodes = map (λ e. Some e) (entries c.graph.nodes c.numbers c.tags);
+  origins = map (λ n. Some n) (members c.case.origins);
+  prefixes = c.case.prefixes;
+  starts = map (λ n. Some n) c.graph.starts;
+  statement = Some c.case.statement;
+  steps = map (λ s. Some s) c.graph.steps;
+}
+
+pub read_case : PlainCaseEvidence → ReadCase
+read_case c = record { case = c.case; nodes = entries c.graph.nodes c.numbers c.tags; starts = c.graph.starts; steps = c.graph.steps }
+
+pub numbered_again : (c : PlainCaseEvidence) → IsWritable c → numbered_case (raw_case c) ≡ Ok (read_case c)
+unfolding numbered_case raw_case read_case
+numbered_again c is =
+    rw (
+      all_some (Number field.Nodes) (entries c.graph.nodes c.numbers c.tags),
+      all_some (Number field.Origins) (members c.case.origins),
+      all_some (Number field.Starts) c.graph.starts,
+      all_some (Number field.Steps) c.graph.steps,
+      set_of_members c.case.origins is.origins,
+    )
+    refl
+
+map_same : {A : Type 0} (xs : List A) → map (λ x. x) xs ≡ xs
+map_same [] = refl
+map_same (x ∷ xs) = ap (λ ys. x ∷ ys) (map_same xs)
+
+prefixes_again : (ps : List PlainPrefix) → AllByRecursion IsPrefix ps → each prefix_of (map string (map prefix_text ps)) ≡ Ok ps
+prefixes_again ps are = ap (each prefix_of) (texts-prefixes ps) ∙ each_map IsPrefix prefix_of prefix_data (λ p. p) prefix_again ps are ∙ ap Ok (map_same ps)
+
+origins_again : (s : LocSet) → origins_of (map (λ n. number (unsigned n)) (members s)) ≡ Ok (map (λ n. Some n) (members s))
+unfolding origins_of
+origins_again s =
+    rw (numbers_again field.Origins 767 (members s) (AllByRecursion-weaker (λ l. l < 768) (λ l. l ≤ 767) (members s) (λ l low. omega (arith, low)) (members_below s)), members_in_order s) refl
+
+case_again : (c : PlainCaseEvidence) → IsWritable c → case_of (case_data c) ≡ Ok (raw_case c)
+unfolding case_of case_data is_case list_of raw_case serde_json_on_literals
+case_again c is =
+    let count = is.graph.count in
+    rw (
+      items_as_list-items_of (nodes_data c.graph.nodes c.numbers c.tags),
+      nodes_again c.graph.nodes c.numbers c.tags is.rules.places is.rules.ranks is.ranks is.numbers is.tags,
+      items_as_list-items_of (map (λ n. number (unsigned n)) (members c.case.origins)),
+      origins_again c.case.origins,
+      items_as_list-items_of (map string (map prefix_text c.case.prefixes)),
+      prefixes_again c.case.prefixes is.prefixes,
+      items_as_list-items_of (map (λ n. number (unsigned n)) c.graph.starts),
+      numbers_again field.Starts greatest c.graph.starts (AllByRecursion-weaker (λ n. n < length c.graph.nodes) (λ n. n ≤ greatest) c.graph.starts (λ n low. omega (arith, low, count)) is.graph.starts),
+      number_ok field.Statement 1 greatest c.case.statement is.rules.stated (omega (arith, is.statement)),
+      items_as_list-items_of (map step_data c.graph.steps),
+      each_map (λ (s : ℕ × ℕ). (s.0 < length c.graph.nodes) × (s.1 < length c.graph.nodes)) step_of step_data (λ s. Some s) (λ s low. step_again s (omega (arith, low.0, count), omega (arith, low.1, count))) c.graph.steps is.graph.steps,
+    )
+    refl
+
+-- ---- the whole text
+
+cases_again : (cs : List PlainCaseEvidence) → AllByRecursion IsWritable cs → each case_of (map case_data cs) ≡ Ok (map raw_case cs)
+cases_again cs are = each_map IsWritable case_of case_data raw_case case_again cs are
+
+all_numbered : (cs : List PlainCaseEvidence) → AllByRecursion IsWritable cs → each numbered_case (map raw_case cs) ≡ Ok (map read_case cs)
+all_numbered cs are = each_map IsWritable numbered_case raw_case read_case numbered_again cs are
+
+raw_text : List PlainCaseEvidence → RawEvidence
+raw_text cs = record { cases = map raw_case cs; version = Some 1 }
+
+read_text : List PlainCaseEvidence → ReadText
+read_text cs = record { cases = map read_case cs; version = 1 }
+
+shape_again : (cs : List PlainCaseEvidence) → AllByRecursion IsWritable cs → shape_of (evidence_data cs) ≡ Ok (raw_text cs)
+unfolding shape_of evidence_data is_evidence list_of raw_text serde_json_on_literals
+shape_again cs are =
+    rw (items_as_list-items_of (map case_data cs), cases_again cs are, number_ok field.Version 0 greatest 1 (omega arith) (omega arith)) refl
+
+text_again : (cs : List PlainCaseEvidence) → AllByRecursion IsWritable cs → numbered (raw_text cs) ≡ Ok (read_text cs)
+unfolding numbered raw_text read_text
+text_again cs are = rw (all_numbered cs are) refl
+
+entries_size : (vs : List Node) (ns : List ℕ) (tags : List Tag) → length ns ≡ length vs → length tags ≡ length vs → length (entries vs ns tags) ≡ length vs
+entries_size vs ns tags a b = sym (length-map (entries vs ns tags) (λ (e : NodeEntry). e.node)) ∙ ap length (entries_nodes vs ns tags a b)
+
+all_tested : {A : Type 0} (P : A → Type 0) (p : A → Bool) → ((x : A) → P x → p x ≡ true) → (xs : List A) → AllByRecursion P xs → list_all p xs ≡ true
+all_tested P p one [] all = refl
+all_tested P p one (x ∷ xs) all = rw (one x all.0, all_tested P p one xs all.1) refl
+
+placed_again : (c : PlainCaseEvidence) → IsWritable c → is_placed (read_case c) ≡ true
+unfolding read_case
+placed_again c is =
+    let n = length c.graph.nodes in
+    rw (
+      entries_size c.graph.nodes c.numbers c.tags is.rules.sized is.rules.tagged,
+      all_tested (λ k. k < n) (λ k. nat_lt k n) (λ k low. lt-ltb k n low) c.graph.starts is.graph.starts,
+      all_tested (λ (s : ℕ × ℕ). (s.0 < n) × (s.1 < n)) (λ (s : ℕ × ℕ). nat_lt s.0 n && nat_lt s.1 n) (λ s low. rw (lt-ltb s.0 n low.0, lt-ltb s.1 n low.1) refl) c.graph.steps is.graph.steps,
+    )
+    refl
+
+all_placed : (cs : List PlainCaseEvidence) → AllByRecursion IsWritable cs → list_all is_placed (map read_case cs) ≡ true
+all_placed [] are = refl
+all_placed (c ∷ cs) are = rw (placed_again c are.0, all_placed cs are.1) refl
+
+made_again : (c : PlainCaseEvidence) → IsWritable c → evidence_of (read_case c) ≡ c
+unfolding read_case
+made_again c is =
+    let vs = c.graph.nodes in
+    rw (entries_nodes vs c.numbers c.tags is.rules.sized is.rules.tagged, entries_numbers vs c.numbers c.tags is.rules.sized is.rules.tagged, entries_tags vs c.numbers c.tags is.rules.sized is.rules.tagged) refl
+
+all_made : (cs : List PlainCaseEvidence) → AllByRecursion IsWritable cs → map evidence_of (map read_case cs) ≡ cs
+all_made [] are = refl
+all_made (c ∷ cs) are = λ i. made_again c are.0 i ∷ all_made cs are.1 i
+
+-- ---- the JSON value
+
+plain_items : (ds : List Data) → AllByRecursion IsPlain ds → ArePlain (items_of ds)
+plain_items [] are = tt
+plain_items (d ∷ ds) are = (are.0, plain_items ds are.1)
+
+plain_map : {A : Type 0} (P : A → Type 0) (f : A → Data) → ((x : A) → P x → IsPlain (f x)) → (xs : List A) → AllByRecursion P xs → ArePlain (items_of (map f xs))
+plain_map P f one [] are = tt
+plain_map P f one (x ∷ xs) are = (one x are.0, plain_map P f one xs are.1)
+
+plain_numbers : (ns : List ℕ) → AllByRecursion (λ n. n < 4294967296) ns → ArePlain (items_of (map (λ n. number (unsigned n)) ns))
+plain_numbers ns are = plain_map (λ n. n < 4294967296) (λ n. number (unsigned n)) (λ n low. omega (arith, low)) ns are
+
+plain_nodes : (vs : List Node) (ns : List ℕ) (tags : List Tag)
+    → AllByRecursion (λ (v : Node). v.loc < 768) vs → AllByRecursion (λ (v : Node). unwrap_or v.rank 0 < 2 ^ 32) vs
+    → AllByRecursion (λ n. n < 2 ^ 32) ns → AllByRecursion (λ (t : Tag). (t.asn < 2 ^ 32) × (t.value < 2 ^ 32)) tags
+    → ArePlain (items_of (nodes_data vs ns tags))
+plain_nodes [] ns tags a c d e = tt
+plain_nodes (v ∷ vs) [] tags a c d e = tt
+plain_nodes (v ∷ vs) (n ∷ ns) [] a c d e = tt
+plain_nodes (v ∷ vs) (n ∷ ns) (tag ∷ tags) a c d e = (
+  plain_numbers (v.loc ∷ (if v.listener then 1 else 0) ∷ unwrap_or v.rank 0 ∷ n ∷ tag.asn ∷ tag.value ∷ [])
+      (omega (arith, a.0), (omega (arith, mark_low v.listener), (c.0, (d.0, (e.0.0, (e.0.1, tt)))))),
+  plain_nodes vs ns tags a.1 c.1 d.1 e.1,
+)
+
+prefix_utf8 : (p : PlainPrefix) → IsPrefix p → IsUtf8 (prefix_text p)
+prefix_utf8 p is = IsUtf8-are_ascii (prefix_text p) (ascii (prefix_text p) (ascii-prefix_text p is))
+  where
+    ascii : (s : List ℕ) → AllByRecursion (λ x. x < 128) s → are_ascii s ≡ true
+    ascii [] are = refl
+    ascii (x ∷ xs) are = rw (lt-ltb x 128 are.0, ascii xs are.1) refl
+
+plain_prefixes : (ps : List PlainPrefix) → AllByRecursion IsPrefix ps → ArePlain (items_of (map string (map prefix_text ps)))
+plain_prefixes ps are = rw (texts-prefixes ps) (plain_map IsPrefix prefix_data prefix_utf8 ps are)
+
+plain_case : (c : PlainCaseEvidence) → IsWritable c → IsPlain (case_data c)
+unfolding case_data serde_json_on_literals
+plain_case c is =
+    let count = is.graph.count in (
+      IsUtf8-are_ascii _ refl,
+      tt,
+      (refl, (refl, (refl, (refl, (refl, (refl, tt)))))),
+      (
+        IsUtf8-are_ascii _ refl,
+        plain_nodes c.graph.nodes c.numbers c.tags is.rules.places is.ranks is.numbers is.tags,
+        (refl, (refl, (refl, (refl, (refl, tt))))),
+        (
+          IsUtf8-are_ascii _ refl,
+          plain_numbers (members c.case.origins) (AllByRecursion-weaker (λ l. l < 768) (λ l. l < 4294967296) (members c.case.origins) (λ l low. omega (arith, low)) (members_below c.case.origins)),
+          (refl, (refl, (refl, (refl, tt)))),
+          (
+            IsUtf8-are_ascii _ refl,
+            plain_prefixes c.case.prefixes is.prefixes,
+            (refl, (refl, (refl, tt))),
+            (
+              IsUtf8-are_ascii _ refl,
+              plain_numbers c.graph.starts (AllByRecursion-weaker (λ n. n < length c.graph.nodes) (λ n. n < 4294967296) c.graph.starts (λ n low. omega (arith, low, count)) is.graph.starts),
+              (refl, (refl, tt)),
+              (
+                IsUtf8-are_ascii _ refl,
+                omega (arith, is.statement),
+                (refl, tt),
+                (
+                  IsUtf8-are_ascii _ refl,
+                  plain_map (λ (s : ℕ × ℕ). (s.0 < length c.graph.nodes) × (s.1 < length c.graph.nodes)) step_data (λ s low. plain_numbers (s.0 ∷ s.1 ∷ []) (omega (arith, low.0, count), (omega (arith, low.1, count), tt))) c.graph.steps is.graph.steps,
+                  tt,
+                  tt,
+                ),
+              ),
+            ),
+          ),
+        ),
+      ),
+    )
+
+plain_text : (cs : List PlainCaseEvidence) → AllByRecursion IsWritable cs → IsPlain (evidence_data cs)
+unfolding evidence_data serde_json_on_literals
+plain_text cs are =
+    (IsUtf8-are_ascii _ refl, plain_map IsWritable case_data plain_case cs are, (refl, tt), (IsUtf8-are_ascii _ refl, omega arith, tt, tt))
+
+flat_numbers : (ns : List ℕ) → items_depth (items_of (map (λ n. number (unsigned n)) ns)) ≡ 0
+flat_numbers [] = refl
+flat_numbers (n ∷ ns) = omega (arith, flat_numbers ns)
+
+flat_texts : (ts : List (List ℕ)) → items_depth (items_of (map string ts)) ≡ 0
+flat_texts [] = refl
+flat_texts (t ∷ ts) = omega (arith, flat_texts ts)
+
+flat_nodes : (vs : List Node) (ns : List ℕ) (tags : List Tag) → items_depth (items_of (nodes_data vs ns tags)) ≤ 1
+flat_nodes [] ns tags = omega arith
+flat_nodes (v ∷ vs) [] tags = omega arith
+flat_nodes (v ∷ vs) (n ∷ ns) [] = omega arith
+flat_nodes (v ∷ vs) (n ∷ ns) (tag ∷ tags) = omega (arith, flat_nodes vs ns tags)
+
+flat_steps : (ss : List (ℕ × ℕ)) → items_depth (items_of (map step_data ss)) ≤ 1
+flat_steps [] = omega arith
+flat_steps (s ∷ ss) = omega (arith, flat_steps ss)
+
+case_depth : (c : PlainCaseEvidence) → depth (case_data c) ≤ 3
+unfolding case_data
+case_depth c =
+    omega (arith, flat_nodes c.graph.nodes c.numbers c.tags, flat_numbers (members c.case.origins), flat_texts (map prefix_text c.case.prefixes), flat_numbers c.graph.starts, flat_steps c.graph.steps)
+
+cases_depth : (cs : List PlainCaseEvidence) → items_depth (items_of (map case_data cs)) ≤ 3
+cases_depth [] = omega arith
+cases_depth (c ∷ cs) = omega (arith, case_depth c, cases_depth cs)
+
+text_depth : (cs : List PlainCaseEvidence) → depth (evidence_data cs) ≤ 127
+unfolding evidence_data
+text_depth cs = omega (arith, cases_depth cs)
+
+pub read_again : (cs : List PlainCaseEvidence) → AllByRecursion IsWritable cs → spelled (evidence_text cs) ≡ Ok cs
+unfolding read_text
+read_again cs are =
+    says (evidence_text cs) cs
+    (read_text cs, ((raw_text cs, (evidence_data cs, json_of-line (evidence_data cs) (plain_text cs are) (text_depth cs), shape_again cs are), text_again cs are), all_placed cs are), refl, all_made cs are)

@@ -1,0 +1,8 @@
+use Rattle.std.proofs.Common.{◌≡◌, map, drop}
+use Rattle.serde_json.specs.View.{view}
+use Rattle.evidence_text.specs.Shape.{each, prefix_of}
+use Rattle.evidence_text.proofs.Each.{with_front}
+use Rattle.evidence_text.proofs.shape.prefixes.Given as goal
+
+abbrev pub invariant-loop-value : goal.invariant-loop-value
+invariant-loop-value l = with_front l.all (each prefix_of (map view (drop l.value-index l.values))) ≡ each prefix_of (map view l.values)

@@ -1,0 +1,9 @@
+pub mod Entries
+pub mod Faults
+pub mod Gives
+pub mod Laws
+pub mod Ranges
+pub mod Shape
+pub mod Spelled
+pub mod Text
+pub mod Writable

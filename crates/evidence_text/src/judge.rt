@@ -1,0 +1,203 @@
+//! The numbers of a text and its nodes.
+ghost use Rattle.std.specs.Prelude.{◌≡◌, ◌<◌, ◌&&◌, nat_eq, nat_lt, Ok, length, map, IfOk, IfErr, IsTrue, true};
+ghost use Rattle.std.specs.List.{AllByRecursion, list_all, list_any};
+ghost use Rattle.net_base.specs.declared.limits.TheConstants.{LOCATIONS};
+ghost use Rattle.net_base.specs.Sets.{set_of};
+ghost use Rattle.net_base.specs.Steps.{or_fault};
+ghost use Rattle.evidence_base.specs.Evidence.{IsCaseEvidence};
+ghost use Rattle.evidence_text.specs.Gives.{Gives};
+ghost use Rattle.evidence_text.specs.Shape.{each};
+ghost use Rattle.evidence_text.specs.Spelled.{evidence_of, is_placed as is_placed_case, numbered as numbered_text, numbered_case};
+ghost use Rattle.evidence_text.specs.Ranges.{HasRanges, IsReadCase};
+
+use crate::fault::EvidenceFault;
+use crate::raw::{NodeEntry, RawCase, RawEvidence, ReadCase, ReadText};
+use evidence_base::{CaseEvidence, Evidence};
+use graph_base::{Graph, Node, Prefs};
+use net_base::{Field, List, Loc, LocSet, Tag};
+use path_words::Case;
+use std::alloc::Global;
+
+// All of these, where none of them is out of its range.
+fn all_of<T: Copy + Drop>(
+    alloc: Global,
+    field: Field,
+    items: &List<Option<T>>,
+) -> Result<List<T>, EvidenceFault>
+    ensures { Gives (λ v. v) result (each (or_fault (EvidenceFault.Number field)) items.now) }
+{
+    let mut all = List::new(alloc);
+    for item in items.as_slice() {
+        let Some(item) = item else {
+            return Err(EvidenceFault::Number(field));
+        };
+        all.push(*item)?;
+    }
+    Ok(all)
+}
+
+// The set of these locations.
+fn set_of_places(places: &[u32]) -> LocSet
+    requires { AllByRecursion (λ l. l < LOCATIONS) places.now }
+    ensures { result ≡ set_of (λ l. list_any (nat_eq l) places.now) }
+{
+    let mut set = LocSet::new();
+    for place in places {
+        set = set.with(Loc::new(*place as u16));
+    }
+    set
+}
+
+// The number of the statement, where it is in its range.
+fn statement_of(number: Option<u32>) -> Result<u32, EvidenceFault>
+    ensures { Gives (λ n. n) result (or_fault (EvidenceFault.Number Field.Statement) number) }
+{
+    match number {
+        Some(number) => Ok(number),
+        None => Err(EvidenceFault::Number(Field::Statement)),
+    }
+}
+
+// The case, where all of its numbers are in their ranges.
+#[tactic(auto, unfolding(crate::specs::Spelled::numbered_case))]
+fn read_case(alloc: Global, raw: &RawCase) -> Result<ReadCase, EvidenceFault>
+    requires { HasRanges raw.now }
+    ensures { Gives (λ c. c) result (numbered_case raw.now) }
+{
+    let nodes = all_of(alloc, Field::Nodes, &raw.nodes)?;
+    let origins = all_of(alloc, Field::Origins, &raw.origins)?;
+    let starts = all_of(alloc, Field::Starts, &raw.starts)?;
+    let statement = statement_of(raw.statement)?;
+    let steps = all_of(alloc, Field::Steps, &raw.steps)?;
+    let case = Case {
+        statement,
+        origins: set_of_places(origins.as_slice()),
+        external: raw.external,
+        prefixes: raw.prefixes.copy(alloc)?,
+    };
+    Ok(ReadCase {
+        case,
+        nodes,
+        starts,
+        steps,
+    })
+}
+
+fn read_cases(alloc: Global, raw: &[RawCase]) -> Result<List<ReadCase>, EvidenceFault>
+    requires { AllByRecursion HasRanges raw.now }
+    ensures { Gives (λ v. v) result (each numbered_case raw.now) }
+{
+    let mut all = List::new(alloc);
+    for case in raw {
+        let read = read_case(alloc, case)?;
+        all.push(read)?;
+    }
+    Ok(all)
+}
+
+/// The text, where all of its numbers are in their ranges; else the first part that holds one that isn't.
+#[tactic(auto, unfolding(crate::specs::Spelled::numbered))]
+pub fn numbered(alloc: Global, raw: RawEvidence) -> Result<ReadText, EvidenceFault>
+    requires { AllByRecursion HasRanges raw.cases }
+    ensures { Gives (λ t. t) result (numbered_text raw) }
+{
+    let cases = read_cases(alloc, raw.cases.as_slice())?;
+    match raw.version {
+        Some(version) => Ok(ReadText { cases, version }),
+        None => Err(EvidenceFault::Number(Field::Version)),
+    }
+}
+
+fn starts_are_nodes(count: usize, starts: &[u32]) -> bool
+    ensures { result ≡ list_all (λ n. nat_lt n count) starts.now }
+{
+    starts.iter().all(|node| (*node as usize) < count)
+}
+
+fn steps_join_nodes(count: usize, steps: &[(u32, u32)]) -> bool
+    ensures { result ≡ list_all (λ s. nat_lt s.0 count && nat_lt s.1 count) steps.now }
+{
+    steps.iter().all(|step| (step.0 as usize) < count && (step.1 as usize) < count)
+}
+
+// Whether the starts and steps of a case name nodes of its list.
+fn is_placed(case: &ReadCase) -> bool
+    ensures { result ≡ is_placed_case case.now }
+{
+    let count = case.nodes.as_slice().len();
+    starts_are_nodes(count, case.starts.as_slice())
+        && steps_join_nodes(count, case.steps.as_slice())
+}
+
+/// Whether the starts and steps of each case name nodes of its list.
+pub fn are_placed(cases: &[ReadCase]) -> bool
+    ensures { result ≡ list_all is_placed_case cases.now }
+{
+    cases.iter().all(|case| is_placed(case))
+}
+
+fn nodes_of(alloc: Global, entries: &List<NodeEntry>) -> Result<List<Node>, EvidenceFault>
+    ensures values { IfOk result (λ v. v ≡ map (λ e. e.node) entries.now) }
+    ensures err { IfErr result (λ e. e ≡ EvidenceFault.NoMemory) }
+{
+    let mut all = List::new(alloc);
+    for entry in entries.as_slice() {
+        all.push(entry.node)?;
+    }
+    Ok(all)
+}
+
+fn numbers_of(alloc: Global, entries: &List<NodeEntry>) -> Result<List<u32>, EvidenceFault>
+    ensures values { IfOk result (λ v. v ≡ map (λ e. e.number) entries.now) }
+    ensures err { IfErr result (λ e. e ≡ EvidenceFault.NoMemory) }
+{
+    let mut all = List::new(alloc);
+    for entry in entries.as_slice() {
+        all.push(entry.number)?;
+    }
+    Ok(all)
+}
+
+fn tags_of(alloc: Global, entries: &List<NodeEntry>) -> Result<List<Tag>, EvidenceFault>
+    ensures values { IfOk result (λ v. v ≡ map (λ e. e.tag) entries.now) }
+    ensures err { IfErr result (λ e. e ≡ EvidenceFault.NoMemory) }
+{
+    let mut all = List::new(alloc);
+    for entry in entries.as_slice() {
+        all.push(entry.tag)?;
+    }
+    Ok(all)
+}
+
+// The evidence of a case whose starts and steps name nodes. No text that memory holds has so many nodes that a graph
+// can't number them, and where one had, memory is said to be short.
+fn case_evidence(alloc: Global, read: ReadCase) -> Result<CaseEvidence, EvidenceFault>
+    requires ranges { IsReadCase read }
+    requires placed { is_placed_case read ≡ true }
+    ensures evidence { IfOk result (λ c. c ≡ evidence_of read) }
+    ensures err { IfErr result (λ e. e ≡ EvidenceFault.NoMemory) }
+{
+    if read.nodes.as_slice().len() > 4_294_967_000 {
+        return Err(EvidenceFault::NoMemory);
+    }
+    let nodes = nodes_of(alloc, &read.nodes)?;
+    let numbers = numbers_of(alloc, &read.nodes)?;
+    let tags = tags_of(alloc, &read.nodes)?;
+    let graph = Graph::new(nodes, read.starts, read.steps);
+    Ok(CaseEvidence::new(read.case, graph, Prefs { of: numbers }, tags))
+}
+
+/// The evidence of a text whose starts and steps name nodes.
+pub fn evidence(alloc: Global, cases: List<ReadCase>) -> Result<Evidence, EvidenceFault>
+    requires ranges { AllByRecursion IsReadCase cases }
+    requires placed { list_all is_placed_case cases ≡ true }
+    ensures evidence { IfOk result (λ e. e.cases ≡ map evidence_of cases) }
+    ensures err { IfErr result (λ e. e ≡ EvidenceFault.NoMemory) }
+{
+    let mut all = List::new(alloc);
+    for case in cases.into_vec() {
+        let read = case_evidence(alloc, case)?;
+        all.push(read)?;
+    }
+    Ok(Evidence { cases: all })
+}
