@@ -1,0 +1,9 @@
+pub mod Alike
+pub mod AllRules
+pub mod Faults
+pub mod Fold
+pub mod Limits
+pub mod Live
+pub mod Parts
+pub mod SeenTags
+pub mod Texts

@@ -1,0 +1,81 @@
+-- How many steps are counted where walks of a case come to.
+use Rattle.std.proofs.Common.{◌≡◌, ℕ, ◌+◌, ◌-◌, ◌≤◌, List, [], ◌∷◌, ◌++◌, length, map, refl, sym, ap, ap₂, subst, ◌∙◌, arith, length-append}
+use Rattle.std.specs.List.{flat_map}
+use Rattle.std.proofs.lemmas.List.{length-map}
+use Rattle.std.proofs.lemmas.Option.{same_Some}
+use Rattle.net_base.specs.declared.limits.TheConstants.{NODES}
+use Rattle.net_base.specs.Network.{PlainNet}
+use Rattle.path_words.specs.declared.case.Case.{Case}
+use Rattle.path_words.specs.Policies.{PlainPolicy, PlainStatement}
+use Rattle.path_exprs.specs.Standings.{IsWalked, PassesStates, Plan, Standing, plan_for, targets}
+use Rattle.graph_base.specs.Graphs.{PlainGraph}
+use Rattle.standings.specs.Built.{IsBuilt, graph_over, node_of, place_in, steps_from}
+use Rattle.standings.proofs.OneGraph.{no_more_states, one-graph}
+use Rattle.graph_law.specs.Limits.{IsBuiltWithin}
+use Rattle.regret_law.specs.Passes.{AreWithin}
+use Rattle.evidence_check.specs.Listed.{AreWithinTo, IsWithin, IsWithinRoom}
+
+-- as many steps are built as the standings have targets
+count_steps : (net : PlainNet) (plan : Plan) (all : List Standing) (k : ℕ) (xs : List Standing) → length (steps_from net plan all k xs) ≡ length (flat_map (targets net plan) xs)
+count_steps net plan all k [] = refl
+count_steps net plan all k (x ∷ xs) =
+    length-append (map (λ t. (k, place_in all t)) (targets net plan x)) (steps_from net plan all (k + 1) xs)
+    ∙ ap₂ (λ a b. a + b) (length-map (targets net plan x) (λ t. (k, place_in all t))) (count_steps net plan all (k + 1) xs)
+    ∙ sym (length-append (targets net plan x) (flat_map (targets net plan) xs))
+
+-- what is counted is what is built
+pub walked_steps : (net : PlainNet) (plan : Plan) (g : PlainGraph) (steps : ℕ) → IsBuilt net plan g → IsWalked net plan steps → steps ≡ length g.steps
+walked_steps net plan g steps built walked =
+    let xs = walked.standings in
+    let same = one-graph net plan g (graph_over net plan xs) built (xs, walked.are, refl) in
+    walked.count ∙ sym (ap (λ (h : PlainGraph). length h.steps) same ∙ count_steps net plan xs 0 xs)
+
+one_count : (net : PlainNet) (plan : Plan) (m n : ℕ) → IsWalked net plan m → IsWalked net plan n → m ≡ n
+one_count net plan m n one other =
+    let xs = other.standings in
+    walked_steps net plan (graph_over net plan xs) m (xs, other.are, refl) one ∙ sym (walked_steps net plan (graph_over net plan xs) n (xs, other.are, refl) other)
+
+pub not_too_many : (net : PlainNet) (plan : Plan) (steps : ℕ) → PassesStates net plan NODES → IsWalked net plan steps → ⊥
+not_too_many net plan steps many walked =
+    let xs = walked.standings in
+    no_more_states net plan (graph_over net plan xs) NODES (xs, walked.are, refl) (omega (arith, length-map xs (node_of net plan), walked.few)) many
+
+-- what is built within the limits is within them
+pub built_within : (net : PlainNet) (room : ℕ) (s : PlainStatement) (c : Case) (g : PlainGraph) → IsBuiltWithin net room s c g → IsWithin net s c room (length g.steps)
+built_within net room s c g within =
+    let built = within.built in
+    let xs = built.0 in
+    record {
+      ranks = within.ranks;
+      walked = record {
+        standings = xs;
+        are = built.1;
+        few = subst (λ n. n ≤ NODES) (ap (λ (h : PlainGraph). length h.nodes) built.2 ∙ length-map xs _) within.states;
+        count = ap (λ (h : PlainGraph). length h.steps) built.2 ∙ count_steps net (plan_for net s c) xs 0 xs;
+      };
+      fits = within.steps;
+    }
+
+-- ---- cases one after the other
+
+module _ (net : PlainNet) (policy : PlainPolicy) where
+  pub within_to : (room left : ℕ) (cs : List Case) → AreWithinTo net policy room cs left → AreWithin net policy room cs
+  within_to room left [] h = tt
+  within_to room left (c ∷ cs) h =
+      let here = h.1 in
+      (here.0, h.0, here.1, here.2.ranks, here.2.walked, here.2.fits, within_to (room - h.0) left cs h.2)
+
+  pub within_more : (room left steps : ℕ) (cs : List Case) (c : Case) → AreWithinTo net policy room cs left → IsWithinRoom net policy c left steps → AreWithinTo net policy room (cs ++ c ∷ []) (left - steps)
+  within_more room left steps [] c h here = (steps, subst (λ r. IsWithinRoom net policy c r steps) h here, ap (λ r. r - steps) h)
+  within_more room left steps (d ∷ cs) c h here = (h.0, h.1, within_more (room - h.0) left steps cs c h.2 here)
+
+  -- where one more case is within the limits, it is so with the room that is left
+  pub within_last : (room left : ℕ) (cs : List Case) (c : Case) → AreWithinTo net policy room cs left → AreWithin net policy room (cs ++ c ∷ []) → (steps : ℕ) × IsWithinRoom net policy c left steps
+  within_last room left [] c h all =
+      let within : IsWithin net all.0 c room all.1 = record { ranks = all.3; walked = all.4; fits = all.5 } in
+      (all.1, subst (λ r. IsWithinRoom net policy c r all.1) (sym h) (all.0, all.2, within))
+  within_last room left (d ∷ cs) c h all =
+      let same : all.0 ≡ h.1.0 = same_Some all.0 h.1.0 (sym all.2 ∙ h.1.1) in
+      let walked = subst (λ (s : PlainStatement). IsWalked net (plan_for net s d) all.1) same all.4 in
+      let steps : all.1 ≡ h.0 = one_count net (plan_for net h.1.0 d) all.1 h.0 walked h.1.2.walked in
+      within_last (room - h.0) left cs c h.2 (subst (λ n. AreWithin net policy (room - n) (cs ++ c ∷ [])) steps all.6)

@@ -1,0 +1,22 @@
+-- What is left of the graph over a case's standings is faithful to the case.
+use Rattle.std.proofs.Common.{refl}
+use Rattle.list_laws.specs.Members.{IsIn}
+use Rattle.net_base.specs.Network.{IsNet, PlainNet}
+use Rattle.net_base.specs.Sets.{holds}
+use Rattle.path_words.specs.declared.case.Case.{Case}
+use Rattle.path_words.specs.Cases.{case_list}
+use Rattle.path_words.specs.Policies.{PlainPolicy, PlainStatement}
+use Rattle.path_exprs.specs.Standings.{plan_for}
+use Rattle.graph_base.specs.Graphs.{PlainGraph}
+use Rattle.standings.specs.Built.{IsBuilt}
+use Rattle.reach_prune.specs.Trimmed.{IsTrimmed}
+use Rattle.regret_law.specs.Faithful.{IsFaithful}
+use Rattle.case_law.specs.Cases.{OriginsAreRouters}
+use Rattle.case_law.proofs.Origins.{case_known, known_origins}
+use Rattle.graph_law.proofs.Faith.{built_is_faithful}
+
+pub case_is_live : (net : PlainNet) (policy : PlainPolicy) (c : Case) (s : PlainStatement) (built live : PlainGraph) → IsNet net → OriginsAreRouters net policy.origins → IsIn (case_list net policy) c
+    → IsBuilt net (plan_for net s c) built → IsTrimmed built live → IsFaithful net s (holds c.origins) c.external live
+case_is_live net policy c s built live rules routers listed is trimmed =
+    let origins = known_origins net policy c rules routers (case_known net policy listed.0 c listed.1) in
+    built_is_faithful net s (plan_for net s c) built live (record { rules = rules; origins = origins; expressions = refl; from = refl }) is trimmed

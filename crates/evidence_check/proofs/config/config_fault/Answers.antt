@@ -1,0 +1,19 @@
+use Rattle.std.proofs.Common.{arith}
+use Rattle.path_words.specs.Policies.{policy_of}
+use Rattle.evidence_check.proofs.AllRules.{are_classes, are_single, are_tags}
+use Rattle.evidence_check.proofs.config.config_fault.Goals as goal
+
+pub config_of-requires-clause-classes : goal.config_of-requires-clause-classes
+config_of-requires-clause-classes c = are_classes c.args.net.now (policy_of c.args.policy.now) c.args.evidence.now c.requires c.known_policy.ensures
+
+pub config_of-requires-clause-single : goal.config_of-requires-clause-single
+config_of-requires-clause-single c = are_single c.args.net.now (policy_of c.args.policy.now) c.args.evidence.now c.requires
+
+pub config_of-requires-clause-differ : goal.config_of-requires-clause-differ
+config_of-requires-clause-differ c = are_tags c.args.net.now (policy_of c.args.policy.now) c.args.evidence.now c.requires
+
+pub block_of-requires : goal.block_of-requires
+block_of-requires c =
+    let count = c.in_ok-made.ensures.count in
+    let few = c.known_net.ensures.routers in
+    omega (arith, count, few)

@@ -1,0 +1,10 @@
+pub mod Forests
+pub mod Climbing
+pub mod Pairs
+pub mod Places
+pub mod Rooting
+pub mod WayRuns
+pub mod Stages
+pub mod Meeting
+pub mod Ordered
+pub mod Finding

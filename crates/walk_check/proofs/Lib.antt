@@ -1,0 +1,10 @@
+pub mod Gathered
+pub mod OneWay
+pub mod Followed
+pub mod Unions
+pub mod FormedParts
+pub mod KeysSeen
+pub mod ReachedNodes
+pub mod AlikeWalks
+pub mod RankWalks
+pub mod LeastPair

@@ -1,0 +1,45 @@
+-- A node can be reached from a start exactly where some run ends in it.
+use Rattle.std.proofs.Common.{◌≡◌, ℕ, zero, suc, ◌<◌, Bool, true, false, List, [], ◌∷◌, length, Some, refl, ap, ◌∙◌, arith}
+use Rattle.std.specs.Prelude.{not, option_and_then}
+use Rattle.std.specs.List.{list_any}
+use Rattle.std.proofs.Math.Bool.{beq}
+use Rattle.std.proofs.lemmas.Bool.{false≢true}
+use Rattle.list_laws.proofs.Options.{option_and_then_parts}
+use Rattle.graph_base.specs.Graphs.{PlainGraph}
+use Rattle.graph_base.specs.Runs.{place_of, step_at, run, IsTrail}
+use Rattle.graph_base.proofs.Determined.{start_at-start, step_at-step}
+use Rattle.reach_prune.specs.Searches.{is_marked}
+use Rattle.graph_base.proofs.StartsAndSteps.{start_at-is, step_at-is}
+use Rattle.walk_check.specs.Alike.{IsSingleStepped}
+use Rattle.walk_check.specs.Formed.{CanBeReached}
+
+module _ (g : PlainGraph) where
+  reached_on : (path : List ℕ) (m n : ℕ) (via : List ℕ) → run g path ≡ Some m → IsTrail g m via n → CanBeReached g n
+  reached_on [] m n via h t = absurd cc
+  reached_on (l ∷ []) m n via h t = (m, (start_at-is g l m h).0, (via, t))
+  reached_on (l ∷ k ∷ ls) m n via h t =
+      let last = option_and_then_parts (λ a. step_at g a l) (run g (k ∷ ls)) m h in
+      reached_on (k ∷ ls) last.0 n (m ∷ via) last.1 ((step_at-is g last.0 l m last.2).0, t)
+
+  pub reached_from_run : (path : List ℕ) (n : ℕ) → run g path ≡ Some n → CanBeReached g n
+  reached_from_run path n h = reached_on path n n [] h refl
+
+  run_on : IsSingleStepped g → (via : List ℕ) (a n l : ℕ) (ls : List ℕ) → run g (l ∷ ls) ≡ Some a → IsTrail g a via n → (path : List ℕ) × (run g path ≡ Some n)
+  run_on single [] a n l ls h t = (l ∷ ls, h ∙ ap Some t)
+  run_on single (c ∷ cs) a n l ls h t =
+      run_on single cs c n (place_of g c) (l ∷ ls) (ap (option_and_then (λ m. step_at g m (place_of g c))) h ∙ step_at-step g a c single.one_step t.0) t.1
+
+  pub run_from_reached : IsSingleStepped g → (n : ℕ) → CanBeReached g n → (path : List ℕ) × (run g path ≡ Some n)
+  run_from_reached single n r = run_on single r.2.0 r.0 n (place_of g r.0) [] (start_at-start g r.0 single.one_start r.1) r.2.1
+
+-- none is false where each is marked, and conversely
+pub marked_from_none : (marks : List Bool) → not (list_any (λ m. beq m false) marks) ≡ true → (n : ℕ) → n < length marks → is_marked marks n ≡ true
+marked_from_none [] h n lt = absurd (omega (arith, lt))
+marked_from_none (true ∷ ms) h zero lt = refl
+marked_from_none (true ∷ ms) h (suc n) lt = marked_from_none ms h n (omega (arith, lt))
+marked_from_none (false ∷ ms) h n lt = absurd (false≢true h)
+
+pub none_from_marked : (marks : List Bool) → ((n : ℕ) → n < length marks → is_marked marks n ≡ true) → not (list_any (λ m. beq m false) marks) ≡ true
+none_from_marked [] h = refl
+none_from_marked (true ∷ ms) h = none_from_marked ms (λ n lt. h (suc n) (omega (arith, lt)))
+none_from_marked (false ∷ ms) h = absurd (false≢true (h zero (omega arith)))

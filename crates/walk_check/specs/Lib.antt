@@ -1,0 +1,5 @@
+pub mod Alike
+pub mod WaysOf
+pub mod Formed
+pub mod Firsts
+pub mod PairRanks

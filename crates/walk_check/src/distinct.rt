@@ -1,0 +1,67 @@
+//! Whether a graph has at most one start at a location, and at most one step from a node to a location.
+ghost use Rattle.std.specs.Prelude.{◌≡◌, ◌↔◌, ◌++◌, [], ◌∷◌, ℕ, IfOk, IsTrue, map, not};
+ghost use Rattle.std.specs.List.{IsDistinct, list_any};
+ghost use Rattle.graph_base.specs.Rules.{same_pair};
+ghost use Rattle.graph_base.specs.Runs.{place_of};
+ghost use Rattle.walk_check.specs.Alike.{IsSingleStepped};
+
+use graph_base::Graph;
+use indexmap::IndexSet;
+use net_base::Loc;
+use outside::NoMemory;
+use std::alloc::{AllocError, Global};
+
+/// The location of each start, under one number.
+fn start_keys(alloc: Global, graph: &Graph) -> Result<Vec<(u32, Loc)>, AllocError>
+    ensures { IfOk result (λ keys. keys.items ≡ map (λ (s : ℕ). (0, place_of graph.now s)) graph.now.starts) }
+{
+    let mut keys = Vec::new(alloc);
+    for start in graph.starts() {
+        keys.push((0, graph.location(*start)))?;
+    }
+    Ok(keys)
+}
+
+/// For each step the node from which it leads, with the location to which it leads.
+fn step_keys(alloc: Global, graph: &Graph) -> Result<Vec<(u32, Loc)>, AllocError>
+    ensures { IfOk result (λ keys. keys.items ≡ map (λ (s : ℕ × ℕ). (s.0, place_of graph.now s.1)) graph.now.steps) }
+{
+    let mut keys = Vec::new(alloc);
+    for step in graph.steps() {
+        keys.push((step.0, graph.location(step.1)))?;
+    }
+    Ok(keys)
+}
+
+/// Puts a key behind those that were seen, unless it is there; says whether it is new.
+fn note(seen: &mut IndexSet<(u32, Loc)>, key: (u32, Loc)) -> Result<bool, NoMemory>
+    ensures fresh { IfOk result (λ new. new ≡ not (list_any (same_pair key) seen.old.keys)) }
+    ensures added { IfOk result (λ new. IsTrue new → seen.new.keys ≡ seen.old.keys ++ key ∷ []) }
+{
+    Ok(seen.insert(key)?)
+}
+
+/// Whether no key stands twice.
+fn are_distinct(alloc: Global, keys: &[(u32, Loc)]) -> Result<bool, NoMemory>
+    ensures { IfOk result (λ b. IsTrue b ↔ IsDistinct same_pair keys.now) }
+{
+    let mut seen = IndexSet::new(alloc);
+    for key in keys {
+        if !note(&mut seen, *key)? {
+            return Ok(false);
+        }
+    }
+    Ok(true)
+}
+
+/// Whether there is at most one start at a location, and at most one step from a node to a location, as `alike` and `walks` ask.
+pub fn is_single_stepped(alloc: Global, graph: &Graph) -> Result<bool, NoMemory>
+    ensures { IfOk result (λ b. IsTrue b ↔ IsSingleStepped graph.now) }
+{
+    let starts = start_keys(alloc, graph)?;
+    if !are_distinct(alloc, &starts)? {
+        return Ok(false);
+    }
+    let steps = step_keys(alloc, graph)?;
+    are_distinct(alloc, &steps)
+}
