@@ -16,12 +16,6 @@ use Rattle.propane_run.specs.Words.{words_are}
 use Rattle.propane_run.specs.commands.Compile.{SaysOfPolicy}
 use Rattle.memory_run.specs.Texts.{compile_words, topology_name, policy_name, Spell, IsFaultLine}
 
-status_is : (a b : Said) → a ≡ b → a.status ≡ b.status
-status_is a b e = ap (λ (w : Said). w.status) e
-
-err_is : (a b : Said) → a ≡ b → a.to_err ≡ b.to_err
-err_is a b e = ap (λ (w : Said). w.to_err) e
-
 -- the words are `compile`, with the two names
 pub asked : (words : List (List ℕ)) → words ≡ compile_words → words_are words ≡ Some (Compile 1 2)
 asked words is = rw is refl
@@ -79,16 +73,16 @@ module _ (holds : Holds) (topology policy_text : List ℕ) (topology_is : holds 
   -- ---- what is wrong with the texts
 
   not_of_policy : (net : PlainNet) (policy : PlainPolicy) (l : List ℕ) → SaysOfPolicy net policy (line BadInput l) → ⊥
-  not_of_policy net policy l (inl h) = let s = status_is _ _ h.5 in cc
-  not_of_policy net policy l (inr h) = let s = status_is _ _ h.2 in cc
+  not_of_policy net policy l (inl h) = let s = ap (λ (w : Said). w.status) h.5 in cc
+  not_of_policy net policy l (inr h) = let s = ap (λ (w : Said). w.status) h.2 in cc
 
   policy_fault : (net : PlainNet) (l : List ℕ) → spelled topology ≡ Ok net → OfPolicyText SaysOfPolicy net policy_text (line BadInput l) → IsFaultLine topology policy_text l
-  policy_fault net l net_is (inl h) = inr (inr (inr (net, h.0, net_is, h.1, err_is _ _ h.2)))
+  policy_fault net l net_is (inl h) = inr (inr (inr (net, h.0, net_is, h.1, ap (λ (w : Said). w.to_err) h.2)))
   policy_fault net l net_is (inr h) = absurd (not_of_policy net h.0 l h.2)
 
   texts_fault : (l : List ℕ) → OfTexts SaysOfPolicy topology policy_text (line BadInput l) → IsFaultLine topology policy_text l
   unfolding OfTexts
-  texts_fault l (inl h) = inr (inr (inl (h.0, h.1, err_is _ _ h.2)))
+  texts_fault l (inl h) = inr (inr (inl (h.0, h.1, ap (λ (w : Said). w.to_err) h.2)))
   texts_fault l (inr h) = policy_fault h.0 l h.1 h.2
 
   job_fault : (l : List ℕ) (bs : List (List ℕ)) → AllHeld holds (topology_name ∷ policy_name ∷ []) bs → Job (Compile 1 2) bs (line BadInput l) → IsFaultLine topology policy_text l

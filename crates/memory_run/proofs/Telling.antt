@@ -45,6 +45,13 @@ fault_of_compile holds words is c asks l found =
     let Q : Command → Type 0 = λ d. FaultFound holds words d l in
     subst Q (sym (command_is c (subst P is asks))) found
 
+pub refusal_of_compile : {E : Type 0} (holds : Holds) (words : List (List ℕ)) → words ≡ compile_words → (taken : E → Option (List ℕ)) (err err' : E) (c : Command)
+    → RefusesRight holds taken words c err err' → RefusesRight holds taken words (Compile 1 2) err err'
+refusal_of_compile holds words is taken err err' c claim =
+    let P : List (List ℕ) → Type 0 = λ ws. words_are ws ≡ Some c in
+    let Q : Command → Type 0 = λ d. RefusesRight holds taken words d err err' in
+    subst Q (sym (command_is c (subst P is claim.asked.asked))) claim
+
 module _ (words : List (List ℕ)) (is : words ≡ compile_words) (holds : Holds) (topology policy_text : List ℕ)
     (topology_is : holds topology_name ≡ Some topology) (policy_is : holds policy_name ≡ Some policy_text) where
   pub right_text : {O : Type 0} (taken : O → Option (List ℕ)) (out out' : O) (claim : CompilesRight holds taken words (Compile 1 2) out out') (evidence : List PlainCaseEvidence)

@@ -27,9 +27,10 @@ pub fn run_surely(
     // So words that are no command end with Usage.
     ensures usage { words_are (map string_bytes words.now) ≡ None → result ≡ Status.Usage }
 
-    // Done counts on `out` alone, each other status on `err` alone, and want of memory on neither.
+    // Done and CheckFails count on `out` alone, each other status on `err` alone, and want of memory on neither.
     ensures done { result ≡ Status.Done → err.new ≡ err.old }
-    ensures text { result ≢ Status.Done → out.new ≡ out.old }
+    ensures check_fails { result ≡ Status.CheckFails → err.new ≡ err.old }
+    ensures text { result ≢ Status.Done → result ≢ Status.CheckFails → out.new ≡ out.old }
     ensures no_memory { result ≡ Status.NoMemory → err.new ≡ err.old }
 
     // Another run finds the same bytes.
@@ -73,7 +74,7 @@ pub fn count_compiled(
         Status::Done => Ok(Some(out.count())),
         Status::Refused | Status::BadInput => Ok(None),
         Status::NoMemory => Err(NoMemory),
-        // The words are a command, nothing fails, and no evidence is checked.
+        // The words are a command that compiles, and nothing fails.
         Status::Usage | Status::ReadFault | Status::WriteFault | Status::CheckFails =>
             unreachable!(),
     }

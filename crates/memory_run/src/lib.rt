@@ -5,8 +5,6 @@ mod again;
 mod came;
 mod counted;
 mod memory;
-#[cfg(test)]
-mod tests;
 mod words;
 
 pub use again::run_again;

@@ -73,7 +73,7 @@ fn compile_held(
         Status::BadInput => Ok(Came::Faulty(copy_of(alloc, &err)?)),
         Status::WriteFault => Ok(Came::NoRoom),
         Status::NoMemory => Err(NoMemory),
-        // The words are a command, no reading fails, and no evidence is checked.
+        // The words are a command that compiles, and no reading fails.
         Status::Usage | Status::ReadFault | Status::CheckFails => unreachable!(),
     }
 }

@@ -1,2 +1,4 @@
 -- The laws of each command.
+pub mod Check
 pub mod Compile
+pub mod Evidence

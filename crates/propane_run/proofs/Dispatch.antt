@@ -1,16 +1,25 @@
 -- What the job of each command says. A line for each command.
-use Rattle.std.proofs.Common.{◌≡◌, ℕ, List, [], ◌∷◌}
+use Rattle.std.proofs.Common.{◌≡◌, ℕ, List}
 use Rattle.propane_run.specs.declared.command.Command.{Command}
-use Rattle.propane_run.specs.declared.command.Command.TheVariants.{Compile}
+use Rattle.propane_run.specs.declared.command.Command.TheVariants.{Compile, Evidence, Check}
 use Rattle.propane_run.specs.Said.{Said}
 use Rattle.propane_run.specs.Run.{Job}
+use Rattle.propane_run.specs.commands.Compile.{WritesConfig}
+use Rattle.propane_run.specs.commands.Evidence.{WritesEvidence}
+use Rattle.propane_run.proofs.Compiling as compiling
 use Rattle.propane_run.proofs.Jobs.{IsJobSaid}
+use Rattle.propane_run.proofs.ByCommand.Check as check
 use Rattle.propane_run.proofs.ByCommand.Compile as compile
+use Rattle.propane_run.proofs.ByCommand.Evidence as evidence
 
 -- it has a form
-pub job-is : (c : Command) (bs : List (List ℕ)) (what : Said) → Job c bs what → IsJobSaid what
-job-is (Compile t p) bs what h = compile.job_form t p bs what h
+pub job-is : (c : Command) (bs : List (List ℕ)) (what : Said) → Job c bs what → IsJobSaid c what
+job-is (Compile t p) bs what h = compiling.job_form WritesConfig (Compile t p) tt bs what h
+job-is (Evidence t p) bs what h = compiling.job_form WritesEvidence (Evidence t p) tt bs what h
+job-is (Check t p c e) bs what h = check.job_form (Check t p c e) tt bs what h
 
 -- and is one thing
 pub one_job : (c : Command) (bs : List (List ℕ)) (one other : Said) → Job c bs one → Job c bs other → one ≡ other
-one_job (Compile t p) bs one other a b = compile.one_job t p bs one other a b
+one_job (Compile t p) bs one other a b = compiling.one_job WritesConfig compile.one_text bs one other a b
+one_job (Evidence t p) bs one other a b = compiling.one_job WritesEvidence evidence.one_text bs one other a b
+one_job (Check t p c e) bs one other a b = check.one_job bs one other a b

@@ -1,13 +1,18 @@
 -- What a job may say.
 use Rattle.std.proofs.Common.{◌≡◌, ℕ, List, ap}
+use Rattle.propane_run.specs.declared.command.Command.{Command}
 use Rattle.propane_run.specs.declared.outcome.Status.TheVariants.{BadInput, Refused}
-use Rattle.propane_run.specs.Said.{Said, text, line}
+use Rattle.propane_run.specs.Checking.{Checks}
+use Rattle.propane_run.specs.Compiling.{Compiles}
+use Rattle.propane_run.specs.Said.{Said, text, line, failing}
 
--- a text, a line about a text that isn't lawful, or the line of a refusal
-pub data IsJobSaid (what : Said) : Type 0 where
-  in_text : (b : List ℕ) → what ≡ text b → IsJobSaid what
-  in_line : (l : List ℕ) → what ≡ line BadInput l → IsJobSaid what
-  in_refusal : (l : List ℕ) → what ≡ line Refused l → IsJobSaid what
+-- a text; a line about a text that isn't lawful; of a command that compiles the line of a refusal; and of one that checks that
+-- of a rule that fails
+pub data IsJobSaid (c : Command) (what : Said) : Type 0 where
+  in_text : (b : List ℕ) → what ≡ text b → IsJobSaid c what
+  in_line : (l : List ℕ) → what ≡ line BadInput l → IsJobSaid c what
+  in_refusal : Compiles c → (l : List ℕ) → what ≡ line Refused l → IsJobSaid c what
+  in_failing : Checks c → (l : List ℕ) → what ≡ failing l → IsJobSaid c what
 
 -- ---- what is said alike has these parts alike
 

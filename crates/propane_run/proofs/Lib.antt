@@ -1,9 +1,14 @@
 pub mod ByCommand
 pub mod Causes
+pub mod Checkers
+pub mod Compilers
+pub mod Compiling
 pub mod Dispatch
 pub mod Jobs
 pub mod OnlyRead
 pub mod RunLaws
 pub mod Sending
+pub mod Sent
 pub mod Spelling
 pub mod Told
+pub mod Wording

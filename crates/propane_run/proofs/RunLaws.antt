@@ -1,15 +1,16 @@
 -- What follows for a run whose answer was delivered, whatever its command.
-use Rattle.std.proofs.Common.{◌≡◌, ◌≢◌, ◌⊎◌, inl, inr, ℕ, List, [], Option, Some, None, refl, sym, ◌∙◌, subst}
-use Rattle.outside.specs.Outside.{Rose}
+use Rattle.std.proofs.Common.{◌≡◌, ◌≢◌, ◌⊎◌, inl, inr, ℕ, List, Option, Some, None, refl, sym, ◌∙◌, subst}
 use Rattle.propane_run.specs.declared.command.Command.{Command}
 use Rattle.propane_run.specs.declared.outcome.Status.{Status}
 use Rattle.propane_run.specs.declared.outcome.Status.TheVariants.{Done, Refused, Usage, BadInput, ReadFault, WriteFault, NoMemory, CheckFails}
-use Rattle.propane_run.specs.Said.{Said, text, line, no_memory, usage, Whole, Part, Delivered}
+use Rattle.propane_run.specs.Said.{Said, text, line, failing, no_memory, usage, Whole, Part, Delivered}
 use Rattle.propane_run.specs.Words.{words_are, names_read}
 use Rattle.propane_run.specs.Reading.{Holds, unread, SaidOfTold}
 use Rattle.propane_run.specs.Run.{IsAnswer, IsAnswerOf, IsAmong, Comes, Job}
+use Rattle.propane_run.specs.Checking.{Checks}
 use Rattle.propane_run.specs.Clauses.{FaultFound, ReadsSmoothly}
-use Rattle.propane_run.proofs.Causes.{Cause, Why, why}
+use Rattle.propane_run.specs.Compiling.{Compiles}
+use Rattle.propane_run.proofs.Causes.{Why, why}
 use Rattle.propane_run.proofs.Jobs.{status_is}
 use Rattle.propane_run.proofs.Told.{reads_told}
 
@@ -80,10 +81,23 @@ module _ {O E : Type 0} (ot : O → Option (List ℕ)) (of : O → ℕ) (et : E 
   pub done : ended ≡ Done → (c : Command) × (b : List ℕ) × Comes holds words c (text b) × Whole ot b out out' × (err' ≡ err)
   done = done_at (words_are words) refl
 
-  pub refused_for : (c : Command) → words_are words ≡ Some c → ended ≡ Refused → (l : List ℕ) × Comes holds words c (line Refused l) × Whole et l err err' × (out' ≡ out)
-  refused_for c asks is = let r = came (Some c) asks Refused (λ x. cc) is in let e = r.cause.2 in (r.cause.0, r.cause.1, rw e at r.to_err, (rw e at r.to_out).idle refl)
+  refused_at : (o : Option Command) → Came o Refused → (c : Command) × (l : List ℕ) × Compiles c × Comes holds words c (line Refused l) × Whole et l err err' × (out' ≡ out)
+  refused_at None r = absurd (let e = r.cause.0 in cc)
+  refused_at (Some c) r = let e = r.cause.3 in (c, r.cause.0, r.cause.1, r.cause.2, rw e at r.to_err, (rw e at r.to_out).idle refl)
 
-  -- ---- writes that failed, and statuses that no command has
+  pub refused : ended ≡ Refused → (c : Command) × (l : List ℕ) × Compiles c × Comes holds words c (line Refused l) × Whole et l err err' × (out' ≡ out)
+  refused is = refused_at (words_are words) (came (words_are words) refl Refused (λ x. cc) is)
+
+  -- ---- evidence that fails
+
+  failing_at : (o : Option Command) → Came o CheckFails → (c : Command) × (l : List ℕ) × Checks c × Comes holds words c (failing l) × Whole ot l out out' × (err' ≡ err)
+  failing_at None r = absurd (let e = r.cause.0 in cc)
+  failing_at (Some c) r = let e = r.cause.3 in (c, r.cause.0, r.cause.1, r.cause.2, rw e at r.to_out, (rw e at r.to_err).idle refl)
+
+  pub fails : ended ≡ CheckFails → (c : Command) × (l : List ℕ) × Checks c × Comes holds words c (failing l) × Whole ot l out out' × (err' ≡ err)
+  fails is = failing_at (words_are words) (came (words_are words) refl CheckFails (λ x. cc) is)
+
+  -- ---- writes that failed
 
   no_write_fault : (o : Option Command) → Why holds rose words o what WriteFault → ⊥
   no_write_fault None cause = let e = cause.0 in cc
@@ -96,13 +110,6 @@ module _ {O E : Type 0} (ot : O → Option (List ℕ)) (of : O → ℕ) (et : E 
 
   pub write_fault : ended ≡ WriteFault → Part ot of what.to_out out out' × Whole et what.to_err err err' ⊎ Whole ot what.to_out out out' × Part et ef what.to_err err err'
   write_fault = write_fault_by sent
-
-  no_check_at : (o : Option Command) → Why holds rose words o what CheckFails → ⊥
-  no_check_at None cause = let e = cause.0 in cc
-  no_check_at (Some c) cause = cause
-
-  pub no_check : ended ≢ CheckFails
-  no_check is = no_check_at (words_are words) (came (words_are words) refl CheckFails (λ x. cc) is).cause
 
   -- ---- want of memory
 

@@ -1,50 +1,67 @@
--- What is said of a topology and a policy.
-use Rattle.std.proofs.Common.{◌≡◌, ◌≢◌, ℕ, List, Ok, Err, inl, inr, sym, ap, subst, ◌∙◌}
+-- What is said of texts, each of which spells something or has a fault.
+use Rattle.std.proofs.Common.{◌≡◌, ◌≢◌, ℕ, List, Result, Ok, inl, inr, sym, ap, subst, ◌∙◌}
 use Rattle.net_base.specs.Network.{PlainNet}
 use Rattle.path_words.specs.Policies.{PlainPolicy}
 use Rattle.policy_parser.specs.Spelled.{spelled as policy_spelled}
-use Rattle.policy_tokens.specs.declared.fault.PolicyFault.{PolicyFault}
 use Rattle.topology.specs.Topology.{spelled}
-use Rattle.topology.specs.declared.fault.TopoFault.{TopoFault}
+use Rattle.config_base.specs.Configs.{PlainConfig}
+use Rattle.config_reader.specs.Text.{spelled as config_spelled}
+use Rattle.evidence_base.specs.Made.{PlainCaseEvidence}
+use Rattle.evidence_text.specs.Spelled.{spelled as evidence_spelled}
+use Rattle.propane_run.specs.declared.command.Command.{Command}
 use Rattle.propane_run.specs.declared.outcome.Status.TheVariants.{BadInput}
-use Rattle.propane_run.specs.FaultLines.{topology_line, policy_line}
+use Rattle.propane_run.specs.FaultLines.{topology_line, policy_line, config_line, evidence_line}
 use Rattle.propane_run.specs.Said.{Said, line}
-use Rattle.propane_run.specs.Texts.{OfPolicyText, OfTexts}
+use Rattle.propane_run.specs.Texts.{OfRead, OfPolicyText, OfTexts, OfEvidenceText, OfPairTexts}
 use Rattle.propane_run.proofs.Jobs.{IsJobSaid, in_line, status_is}
 
-module _ (Next : PlainNet → PlainPolicy → Said → Type 0) where
-  policy_form : ((net : PlainNet) (policy : PlainPolicy) (what : Said) → Next net policy what → IsJobSaid what)
-      → (net : PlainNet) (policy_text : List ℕ) (what : Said) → OfPolicyText Next net policy_text what → IsJobSaid what
-  policy_form each net policy_text what (inl h) = in_line _ h.2
-  policy_form each net policy_text what (inr h) = each net h.0 what h.2
+-- ---- one text
 
-  -- its form, where what follows from both has one
-  pub form_of : ((net : PlainNet) (policy : PlainPolicy) (what : Said) → Next net policy what → IsJobSaid what)
-      → (topology policy_text : List ℕ) (what : Said) → OfTexts Next topology policy_text what → IsJobSaid what
-  unfolding OfTexts
-  form_of each topology policy_text what (inl h) = in_line _ h.2
-  form_of each topology policy_text what (inr h) = policy_form each h.0 policy_text what h.2
+module _ {Y F : Type 0} (line_of : F → List ℕ) (read : Result Y F) (Next : Y → Said → Type 0) where
+  -- its form, where what follows has one
+  read_form : (c : Command) → ((y : Y) (what : Said) → Next y what → IsJobSaid c what) → (what : Said) → OfRead line_of read Next what → IsJobSaid c what
+  read_form c each what (inl h) = in_line _ h.2
+  read_form c each what (inr h) = each h.0 what h.2
 
-  -- ---- of texts that are lawful
-
-  at_policy : (net : PlainNet) (policy : PlainPolicy) (policy_text : List ℕ) (what : Said) → policy_spelled net policy_text ≡ Ok policy → OfPolicyText Next net policy_text what → Next net policy what
-  at_policy net policy policy_text what is (inl h) = absurd (let e = h.1 in cc)
-  at_policy net policy policy_text what is (inr h) =
+  -- where it is known what the text spells, what follows is said
+  at_read : (y : Y) (what : Said) → read ≡ Ok y → OfRead line_of read Next what → Next y what
+  at_read y what is (inl h) = absurd (let e = h.1 in cc)
+  at_read y what is (inr h) =
       let e = h.1 in
-      let same : h.0 ≡ policy = cc in
-      let P : PlainPolicy → Type 0 = λ q. Next net q what in
+      let same : h.0 ≡ y = cc in
+      let P : Y → Type 0 = λ x. Next x what in
       subst P same h.2
 
-  -- where the network and the policy are known, what follows from both is said
+  -- a thing that is said, and isn't about the text, follows from what it spells
+  of_read : (what : Said) → what.status ≢ BadInput → OfRead line_of read Next what → (y : Y) × (read ≡ Ok y) × Next y what
+  of_read what lawful (inl h) = absurd (lawful (status_is _ _ h.2))
+  of_read what lawful (inr h) = h
+
+  -- one thing is said, where one thing follows
+  one_of_read : ((y : Y) (one other : Said) → Next y one → Next y other → one ≡ other) → (one other : Said) → OfRead line_of read Next one → OfRead line_of read Next other → one ≡ other
+  one_of_read each one other (inl a) (inl b) =
+      let e = a.1 in
+      let f = b.1 in
+      let same : a.0 ≡ b.0 = cc in
+      a.2 ∙ ap (λ (f : F). line BadInput (line_of f)) same ∙ sym b.2
+  one_of_read each one other (inl a) (inr b) = absurd (let e = a.1 in let f = b.1 in cc)
+  one_of_read each one other (inr a) b = each a.0 one other a.2 (at_read a.0 other a.1 b)
+
+-- ---- a topology and a policy
+
+module _ (Next : PlainNet → PlainPolicy → Said → Type 0) where
+  pub form_of : (c : Command) → ((net : PlainNet) (policy : PlainPolicy) (what : Said) → Next net policy what → IsJobSaid c what)
+      → (topology policy_text : List ℕ) (what : Said) → OfTexts Next topology policy_text what → IsJobSaid c what
+  unfolding OfTexts
+  form_of c each topology policy_text what h =
+      read_form topology_line (spelled topology) (λ net. OfPolicyText Next net policy_text) c (λ net. read_form policy_line (policy_spelled net policy_text) (Next net) c (each net)) what h
+
   pub at_spelled : (topology policy_text : List ℕ) (net : PlainNet) (policy : PlainPolicy) (what : Said) → spelled topology ≡ Ok net → policy_spelled net policy_text ≡ Ok policy
       → OfTexts Next topology policy_text what → Next net policy what
   unfolding OfTexts
-  at_spelled topology policy_text net policy what net_is policy_is (inl h) = absurd (let e = h.1 in cc)
-  at_spelled topology policy_text net policy what net_is policy_is (inr h) =
-      let e = h.1 in
-      let same : h.0 ≡ net = cc in
-      let P : PlainNet → Type 0 = λ n. OfPolicyText Next n policy_text what in
-      at_policy net policy policy_text what policy_is (subst P same h.2)
+  at_spelled topology policy_text net policy what net_is policy_is h =
+      at_read policy_line (policy_spelled net policy_text) (Next net) policy what policy_is
+      (at_read topology_line (spelled topology) (λ n. OfPolicyText Next n policy_text) net what net_is h)
 
   -- the network and the policy of which a thing is said that isn't about the texts
   pub record OfSpelled (topology policy_text : List ℕ) (what : Said) : Type 0 where
@@ -54,39 +71,54 @@ module _ (Next : PlainNet → PlainPolicy → Said → Type 0) where
     pub policy_spelled : policy_spelled net policy_text ≡ Ok policy
     pub says : Next net policy what
 
-  of_policy : (topology policy_text : List ℕ) (what : Said) → what.status ≢ BadInput → (net : PlainNet) → spelled topology ≡ Ok net → OfPolicyText Next net policy_text what → OfSpelled topology policy_text what
-  of_policy topology policy_text what lawful net is (inl h) = absurd (lawful (status_is _ _ h.2))
-  of_policy topology policy_text what lawful net is (inr h) = record { net = net; policy = h.0; net_spelled = is; policy_spelled = h.1; says = h.2 }
-
   pub of_spelled : (topology policy_text : List ℕ) (what : Said) → what.status ≢ BadInput → OfTexts Next topology policy_text what → OfSpelled topology policy_text what
   unfolding OfTexts
-  of_spelled topology policy_text what lawful (inl h) = absurd (lawful (status_is _ _ h.2))
-  of_spelled topology policy_text what lawful (inr h) = of_policy topology policy_text what lawful h.0 h.1 h.2
+  of_spelled topology policy_text what lawful h =
+      let n = of_read topology_line (spelled topology) (λ net. OfPolicyText Next net policy_text) what lawful h in
+      let p = of_read policy_line (policy_spelled n.0 policy_text) (Next n.0) what lawful n.2 in
+      record { net = n.0; policy = p.0; net_spelled = n.1; policy_spelled = p.1; says = p.2 }
 
-  -- ---- one thing is said, where one thing follows from both
+  pub one_of_texts : ((net : PlainNet) (policy : PlainPolicy) (one other : Said) → Next net policy one → Next net policy other → one ≡ other)
+      → (topology policy_text : List ℕ) (one other : Said) → OfTexts Next topology policy_text one → OfTexts Next topology policy_text other → one ≡ other
+  unfolding OfTexts
+  one_of_texts each topology policy_text one other a b =
+      one_of_read topology_line (spelled topology) (λ net. OfPolicyText Next net policy_text) (λ net. one_of_read policy_line (policy_spelled net policy_text) (Next net) (each net)) one other a b
 
-  module _ (each : (net : PlainNet) (policy : PlainPolicy) (one other : Said) → Next net policy one → Next net policy other → one ≡ other) where
-    policy_one : (net : PlainNet) (policy_text : List ℕ) (one other : Said) → OfPolicyText Next net policy_text one → OfPolicyText Next net policy_text other → one ≡ other
-    policy_one net policy_text one other (inl a) (inl b) =
-        let e = a.1 in
-        let f = b.1 in
-        let same : a.0 ≡ b.0 = cc in
-        a.2 ∙ ap (λ (f : PolicyFault). line BadInput (policy_line f)) same ∙ sym b.2
-    policy_one net policy_text one other (inl a) (inr b) = absurd (let e = a.1 in let f = b.1 in cc)
-    policy_one net policy_text one other (inr a) b = each net a.0 one other a.2 (at_policy net a.0 policy_text other a.1 b)
+-- ---- a configuration and its evidence
 
-    pub one_of_texts : (topology policy_text : List ℕ) (one other : Said) → OfTexts Next topology policy_text one → OfTexts Next topology policy_text other → one ≡ other
-    unfolding OfTexts
-    one_of_texts topology policy_text one other (inl a) (inl b) =
-        let e = a.1 in
-        let f = b.1 in
-        let same : a.0 ≡ b.0 = cc in
-        a.2 ∙ ap (λ (f : TopoFault). line BadInput (topology_line f)) same ∙ sym b.2
-    one_of_texts topology policy_text one other (inl a) (inr b) = absurd (let e = a.1 in let f = b.1 in cc)
-    one_of_texts topology policy_text one other (inr a) (inl b) = absurd (let e = a.1 in let f = b.1 in cc)
-    one_of_texts topology policy_text one other (inr a) (inr b) =
-        let e = a.1 in
-        let f = b.1 in
-        let same : b.0 ≡ a.0 = cc in
-        let P : PlainNet → Type 0 = λ n. OfPolicyText Next n policy_text other in
-        policy_one a.0 policy_text one other a.2 (subst P same b.2)
+module _ (Next : PlainConfig → List PlainCaseEvidence → Said → Type 0) where
+  pub pair_form : (c : Command) → ((config : PlainConfig) (evidence : List PlainCaseEvidence) (what : Said) → Next config evidence what → IsJobSaid c what)
+      → (config_text evidence_text : List ℕ) (what : Said) → OfPairTexts Next config_text evidence_text what → IsJobSaid c what
+  unfolding OfPairTexts
+  pair_form c each config_text evidence_text what h =
+      read_form config_line (config_spelled config_text) (λ config. OfEvidenceText Next config evidence_text) c
+      (λ config. read_form evidence_line (evidence_spelled evidence_text) (Next config) c (each config)) what h
+
+  pub at_pair : (config_text evidence_text : List ℕ) (config : PlainConfig) (evidence : List PlainCaseEvidence) (what : Said) → config_spelled config_text ≡ Ok config
+      → evidence_spelled evidence_text ≡ Ok evidence → OfPairTexts Next config_text evidence_text what → Next config evidence what
+  unfolding OfPairTexts
+  at_pair config_text evidence_text config evidence what config_is evidence_is h =
+      at_read evidence_line (evidence_spelled evidence_text) (Next config) evidence what evidence_is
+      (at_read config_line (config_spelled config_text) (λ c. OfEvidenceText Next c evidence_text) config what config_is h)
+
+  -- the configuration and the evidence of which a thing is said that isn't about the texts
+  pub record OfPair (config_text evidence_text : List ℕ) (what : Said) : Type 0 where
+    pub config : PlainConfig
+    pub evidence : List PlainCaseEvidence
+    pub config_spelled : config_spelled config_text ≡ Ok config
+    pub evidence_spelled : evidence_spelled evidence_text ≡ Ok evidence
+    pub says : Next config evidence what
+
+  pub of_pair : (config_text evidence_text : List ℕ) (what : Said) → what.status ≢ BadInput → OfPairTexts Next config_text evidence_text what → OfPair config_text evidence_text what
+  unfolding OfPairTexts
+  of_pair config_text evidence_text what lawful h =
+      let c = of_read config_line (config_spelled config_text) (λ config. OfEvidenceText Next config evidence_text) what lawful h in
+      let e = of_read evidence_line (evidence_spelled evidence_text) (Next c.0) what lawful c.2 in
+      record { config = c.0; evidence = e.0; config_spelled = c.1; evidence_spelled = e.1; says = e.2 }
+
+  pub one_of_pair : ((config : PlainConfig) (evidence : List PlainCaseEvidence) (one other : Said) → Next config evidence one → Next config evidence other → one ≡ other)
+      → (config_text evidence_text : List ℕ) (one other : Said) → OfPairTexts Next config_text evidence_text one → OfPairTexts Next config_text evidence_text other → one ≡ other
+  unfolding OfPairTexts
+  one_of_pair each config_text evidence_text one other a b =
+      one_of_read config_line (config_spelled config_text) (λ config. OfEvidenceText Next config evidence_text)
+      (λ config. one_of_read evidence_line (evidence_spelled evidence_text) (Next config) (each config)) one other a b

@@ -1,7 +1,7 @@
 -- Names that are read, where all is told.
-use Rattle.std.proofs.Common.{◌≡◌, ◌⊎◌, inl, inr, ℕ, ◌<◌, ◌≤◌, List, [], ◌∷◌, length, Option, Some, None, refl, sym, ap, ◌∙◌, subst, arith}
+use Rattle.std.proofs.Common.{◌≡◌, ◌⊎◌, inl, inr, ℕ, ◌<◌, List, [], ◌∷◌, length, Option, Some, None, refl, sym, ap, ◌∙◌, subst, arith}
 use Rattle.std.specs.Prelude.{IsSome}
-use Rattle.propane_run.specs.Reading.{Holds, IsStop, Reads, ReadsAll, AllHeld, most, too_long, AreTold, SaidOfTold}
+use Rattle.propane_run.specs.Reading.{Holds, IsStop, ReadsAll, AllHeld, most, AreTold, SaidOfTold}
 use Rattle.propane_run.specs.Run.{IsGiven, IsAmong}
 use Rattle.propane_run.specs.Said.{Said, no_memory}
 

@@ -5,6 +5,10 @@ use Rattle.topology.specs.declared.fault.TopoFault.{TopoFault}
 use Rattle.topology.specs.Faults as topology
 use Rattle.policy_tokens.specs.declared.fault.PolicyFault.{PolicyFault}
 use Rattle.policy_tokens.specs.Faults as policy
+use Rattle.config_reader.specs.declared.fault.ConfigFault.{ConfigFault}
+use Rattle.config_reader.specs.Faults as config
+use Rattle.evidence_text.specs.declared.fault.EvidenceFault.{EvidenceFault}
+use Rattle.evidence_text.specs.Faults as evidence
 
 -- the kind of text, the number of the rule, its word, and its values
 abbrev pub fault_line : List ℕ → ℕ → List ℕ → List ℕ → List ℕ
@@ -15,3 +19,9 @@ topology_line f = fault_line (codes "topology") (topology.number_of f) (topology
 
 unfoldable pub policy_line : PolicyFault → List ℕ
 policy_line f = fault_line (codes "policy") (policy.number_of f) (policy.word_of f) (policy.values_of f)
+
+unfoldable pub config_line : ConfigFault → List ℕ
+config_line f = fault_line (codes "config") (config.number_of f) (config.word_of f) (config.values_of f)
+
+unfoldable pub evidence_line : EvidenceFault → List ℕ
+evidence_line f = fault_line (codes "evidence") (evidence.number_of f) (evidence.word_of f) (evidence.values_of f)

@@ -1,14 +1,17 @@
--- What a run of `compile` that ends with Done has written, and for what.
+-- What a run of `compile`, or of `evidence`, that ends with Done has written, and for what.
 use Rattle.std.specs.Prelude.{◌≡◌, ℕ, List, length, Option}
 use Rattle.net_base.specs.Network.{PlainNet}
 use Rattle.net_base.specs.Prefixes.{PlainPrefix, IsPrefix}
 use Rattle.path_words.specs.Policies.{PlainPolicy}
 use Rattle.config_base.specs.Configs.{PlainConfig}
 use Rattle.config_text.specs.Spelled.{Spells}
+use Rattle.evidence_base.specs.Made.{PlainCaseEvidence}
+use Rattle.evidence_text.specs.Text.{evidence_text}
 use Rattle.outcome_base.specs.Outcomes.{Failures, Outcome, IsStable}
 use Rattle.outcome_base.specs.Right.{IsRight}
 use Rattle.propane_run.specs.declared.command.Command.{Command}
 use Rattle.propane_run.specs.Asked.{AsksFor}
+use Rattle.propane_run.specs.Compiled.{IsCompiled}
 use Rattle.propane_run.specs.Reading.{Holds}
 use Rattle.propane_run.specs.Said.{Whole}
 
@@ -27,5 +30,18 @@ pub record CompilesRight {O : Type 0} (holds : Holds) (taken : O → Option (Lis
   pub written : Whole taken bytes out out'
   pub config : PlainConfig
   pub spelled : Spells bytes config
+  pub right : IsRight net policy config
+  pub outcomes : HasOutcomes net policy config
+
+-- `out` grew by exactly the text of evidence. It passes for the configuration that is compiled with it from the network and the
+-- policy that were asked for, which is right for them.
+pub record GivesEvidence {O : Type 0} (holds : Holds) (taken : O → Option (List ℕ)) (words : List (List ℕ)) (c : Command) (out out' : O) : Type 0 where
+  pub net : PlainNet
+  pub policy : PlainPolicy
+  pub asked : AsksFor holds words c net policy
+  pub evidence : List PlainCaseEvidence
+  pub written : Whole taken (evidence_text evidence) out out'
+  pub config : PlainConfig
+  pub compiled : IsCompiled net policy config evidence
   pub right : IsRight net policy config
   pub outcomes : HasOutcomes net policy config

@@ -1,8 +1,11 @@
 pub mod Asked
+pub mod Checking
 pub mod Clauses
 pub mod Compiled
+pub mod Compiling
 pub mod FaultLines
 pub mod Headline
+pub mod Pairs
 pub mod Reading
 pub mod RefusalLines
 pub mod Refusing
@@ -10,5 +13,6 @@ pub mod Run
 pub mod Said
 pub mod Statuses
 pub mod Texts
+pub mod VerdictLines
 pub mod Words
 pub mod commands

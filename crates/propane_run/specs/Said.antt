@@ -3,7 +3,7 @@ use Rattle.std.specs.Prelude.{◌≡◌, ◌≢◌, ◌⊎◌, ℕ, List, [], Op
 use Rattle.std.specs.declared.alloc.Global.{Global}
 use Rattle.outside.specs.Outside.{Rose, Grew, GrewByPart}
 use Rattle.propane_run.specs.declared.outcome.Status.{Status}
-use Rattle.propane_run.specs.declared.outcome.Status.TheVariants.{Done, Usage, WriteFault, NoMemory}
+use Rattle.propane_run.specs.declared.outcome.Status.TheVariants.{Done, Usage, WriteFault, NoMemory, CheckFails}
 use Rattle.propane_run.specs.declared.outcome.Stop.{Stop}
 use Rattle.propane_run.specs.declared.outcome.Stop.TheVariants as stop
 
@@ -19,14 +19,18 @@ text bytes = record { status = Done; to_out = bytes; to_err = [] }
 abbrev pub line : Status → List ℕ → Said
 line status bytes = record { status = status; to_out = []; to_err = bytes }
 
+abbrev pub failing : List ℕ → Said
+failing bytes = record { status = CheckFails; to_out = bytes; to_err = [] }
+
 abbrev pub no_memory : Said
 no_memory = record { status = NoMemory; to_out = []; to_err = [] }
 
 abbrev pub usage : Said
-usage = line Usage (codes "propane: usage: compile TOPO POLICY\n")
+usage = line Usage (codes "propane: usage: compile TOPO POLICY, evidence TOPO POLICY, check TOPO POLICY CONFIG EVIDENCE\n")
 
 abbrev pub stop_said : Stop → Said
 stop_said (stop.Line status l) = line status l.items
+stop_said (stop.Failing l) = failing l.items
 stop_said stop.Usage = usage
 stop_said stop.NoMemory = no_memory
 

@@ -1,34 +1,67 @@
--- What reading a topology, and a policy for its network, comes to.
-use Rattle.std.specs.Prelude.{◌≡◌, ◌⊎◌, ℕ, List, Result, Ok, Err}
+-- What reading the texts of a run comes to.
+use Rattle.std.specs.Prelude.{◌≡◌, ◌⊎◌, ℕ, List, [], ◌∷◌, Result, Ok, Err}
 use Rattle.net_base.specs.Network.{PlainNet}
 use Rattle.topology.specs.declared.fault.TopoFault.{TopoFault}
 use Rattle.topology.specs.Topology.{spelled}
 use Rattle.path_words.specs.Policies.{PlainPolicy, PolicyLists, policy_of}
 use Rattle.policy_tokens.specs.declared.fault.PolicyFault.{PolicyFault}
 use Rattle.policy_parser.specs.Spelled.{spelled as policy_spelled}
+use Rattle.config_base.specs.Configs.{PlainConfig}
+use Rattle.config_reader.specs.declared.fault.ConfigFault.{ConfigFault}
+use Rattle.config_reader.specs.Text.{spelled as config_spelled}
+use Rattle.evidence_base.specs.Made.{PlainCaseEvidence}
+use Rattle.evidence_base.specs.declared.evidence.Evidence.{Evidence}
+use Rattle.evidence_text.specs.declared.fault.EvidenceFault.{EvidenceFault}
+use Rattle.evidence_text.specs.Spelled.{spelled as evidence_spelled}
 use Rattle.propane_run.specs.declared.outcome.Stop.{Stop}
 use Rattle.propane_run.specs.declared.outcome.Status.TheVariants.{BadInput}
 use Rattle.propane_run.specs.Said.{Said, stop_said, no_memory, line}
-use Rattle.propane_run.specs.FaultLines.{topology_line, policy_line}
+use Rattle.propane_run.specs.FaultLines.{topology_line, policy_line, config_line, evidence_line}
 
--- The net that was read; or its fault is said, or that memory ran out.
+-- ---- one text
+
+-- What was read, by its view; or the fault of the text is said, or that memory ran out.
+abbrev pub IsReadOr : {X Y F : Type 0} → (X → Y) → (F → List ℕ) → Result Y F → Result X Stop → Type 0
+IsReadOr {X} {Y} {F} view line_of read (Ok x) = read ≡ Ok (view x)
+IsReadOr {X} {Y} {F} view line_of read (Err s) = (stop_said s ≡ no_memory) ⊎ ((f : F) × (read ≡ Err f) × (stop_said s ≡ line BadInput (line_of f)))
+
 abbrev pub IsNetOr : Result PlainNet TopoFault → Result PlainNet Stop → Type 0
-IsNetOr read (Ok net) = read ≡ Ok net
-IsNetOr read (Err s) = (stop_said s ≡ no_memory) ⊎ (f : TopoFault) × (read ≡ Err f) × (stop_said s ≡ line BadInput (topology_line f))
+IsNetOr = IsReadOr (λ net. net) topology_line
 
--- The policy that was read; or its fault is said, or that memory ran out.
 abbrev pub IsPolicyOr : Result PlainPolicy PolicyFault → Result PolicyLists Stop → Type 0
-IsPolicyOr read (Ok policy) = read ≡ Ok (policy_of policy)
-IsPolicyOr read (Err s) = (stop_said s ≡ no_memory) ⊎ (f : PolicyFault) × (read ≡ Err f) × (stop_said s ≡ line BadInput (policy_line f))
+IsPolicyOr = IsReadOr policy_of policy_line
 
--- the line of the fault of the policy's text, or what follows from the policy
+abbrev pub IsConfigOr : Result PlainConfig ConfigFault → Result PlainConfig Stop → Type 0
+IsConfigOr = IsReadOr (λ config. config) config_line
+
+abbrev pub IsEvidenceOr : Result (List PlainCaseEvidence) EvidenceFault → Result Evidence Stop → Type 0
+IsEvidenceOr = IsReadOr (λ (evidence : Evidence). evidence.cases) evidence_line
+
+-- the line of the fault of a text, or what follows from what it spells
+abbrev pub OfRead : {Y F : Type 0} → (F → List ℕ) → Result Y F → (Y → Said → Type 0) → Said → Type 0
+OfRead {Y} {F} line_of read Next what =
+    ((fault : F) × (read ≡ Err fault) × (what ≡ line BadInput (line_of fault)))
+    ⊎ ((y : Y) × (read ≡ Ok y) × Next y what)
+
+-- ---- several
+
+-- the policy for a network
 abbrev pub OfPolicyText : (PlainNet → PlainPolicy → Said → Type 0) → PlainNet → List ℕ → Said → Type 0
-OfPolicyText Next net policy_text what =
-    ((fault : PolicyFault) × (policy_spelled net policy_text ≡ Err fault) × (what ≡ line BadInput (policy_line fault)))
-    ⊎ (policy : PlainPolicy) × (policy_spelled net policy_text ≡ Ok policy) × Next net policy what
+OfPolicyText Next net policy_text = OfRead policy_line (policy_spelled net policy_text) (Next net)
 
 -- The topology is read, and then the policy for its network. What is wrong first is said, or what follows from both.
 unfoldable pub OfTexts : (PlainNet → PlainPolicy → Said → Type 0) → List ℕ → List ℕ → Said → Type 0
-OfTexts Next topology policy_text what =
-    ((fault : TopoFault) × (spelled topology ≡ Err fault) × (what ≡ line BadInput (topology_line fault)))
-    ⊎ (net : PlainNet) × (spelled topology ≡ Ok net) × OfPolicyText Next net policy_text what
+OfTexts Next topology policy_text what = OfRead topology_line (spelled topology) (λ net. OfPolicyText Next net policy_text) what
+
+-- the same, where these are two texts
+abbrev pub OfTwoTexts : (PlainNet → PlainPolicy → Said → Type 0) → List (List ℕ) → Said → Type 0
+OfTwoTexts Next (topology ∷ policy_text ∷ []) what = OfTexts Next topology policy_text what
+OfTwoTexts Next _ what = ⊥
+
+-- the evidence for a configuration
+abbrev pub OfEvidenceText : (PlainConfig → List PlainCaseEvidence → Said → Type 0) → PlainConfig → List ℕ → Said → Type 0
+OfEvidenceText Next config evidence_text = OfRead evidence_line (evidence_spelled evidence_text) (Next config)
+
+-- The configuration is read, and then its evidence.
+unfoldable pub OfPairTexts : (PlainConfig → List PlainCaseEvidence → Said → Type 0) → List ℕ → List ℕ → Said → Type 0
+OfPairTexts Next config_text evidence_text what = OfRead config_line (config_spelled config_text) (λ config. OfEvidenceText Next config evidence_text) what

@@ -1,2 +1,4 @@
 //! The commands, each in a file: what it makes of its inputs.
+pub mod check;
 pub mod compile;
+pub mod evidence;

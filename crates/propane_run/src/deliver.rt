@@ -6,7 +6,8 @@ use crate::outcome::{Status, Stop};
 use outside::{Sink, write_whole};
 
 /// What is said of words that are no command.
-pub const USAGE: &[u8] = b"propane: usage: compile TOPO POLICY\n";
+pub const USAGE: &[u8] =
+    b"propane: usage: compile TOPO POLICY, evidence TOPO POLICY, check TOPO POLICY CONFIG EVIDENCE\n";
 
 // Writes the bytes, and gives the status, or `WriteFault`.
 fn send<S: Sink>(sink: &mut S, bytes: &[u8], status: Status) -> Status
@@ -28,6 +29,7 @@ fn tell<O: Sink, E: Sink>(stop: &Stop, out: &mut O, err: &mut E) -> Status
 {
     match stop {
         Stop::Line(status, line) => send(err, line, *status),
+        Stop::Failing(line) => send(out, line, Status::CheckFails),
         Stop::Usage => send(err, USAGE, Status::Usage),
         Stop::NoMemory => Status::NoMemory,
     }

@@ -1,8 +1,10 @@
 //! What is said of a text that breaks a rule.
 ghost use Rattle.std.specs.Prelude.{◌≡◌, ◌++◌, OnOk, IfOk, codes};
 ghost use Rattle.std.specs.Fmt.{decimal};
-ghost use Rattle.propane_run.specs.FaultLines.{topology_line, policy_line};
+ghost use Rattle.propane_run.specs.FaultLines.{topology_line, policy_line, config_line, evidence_line};
 
+use config_reader::ConfigFault;
+use evidence_text::EvidenceFault;
 use outside::NoMemory;
 use policy_parser::PolicyFault;
 use std::alloc::Global;
@@ -39,6 +41,30 @@ pub fn policy_fault_line(alloc: Global, fault: &PolicyFault) -> Result<Vec<u8>, 
 {
     let mut line = Vec::new(alloc);
     push_fault(&mut line, b"policy", fault.number(), fault.word())?;
+    fault.push_values(&mut line)?;
+    push_bytes(&mut line, b"\n")?;
+    Ok(line)
+}
+
+/// The line that tells a fault of a configuration: the number of the rule, its word and its values.
+#[tactic(auto, unfolding(crate::specs::FaultLines::config_line))]
+pub fn config_fault_line(alloc: Global, fault: &ConfigFault) -> Result<Vec<u8>, NoMemory>
+    ensures { IfOk result (λ v. v.items ≡ config_line fault.now) }
+{
+    let mut line = Vec::new(alloc);
+    push_fault(&mut line, b"config", fault.number(), fault.word())?;
+    fault.push_values(&mut line)?;
+    push_bytes(&mut line, b"\n")?;
+    Ok(line)
+}
+
+/// The line that tells a fault of evidence: the number of the rule, its word and its values.
+#[tactic(auto, unfolding(crate::specs::FaultLines::evidence_line))]
+pub fn evidence_fault_line(alloc: Global, fault: &EvidenceFault) -> Result<Vec<u8>, NoMemory>
+    ensures { IfOk result (λ v. v.items ≡ evidence_line fault.now) }
+{
+    let mut line = Vec::new(alloc);
+    push_fault(&mut line, b"evidence", fault.number(), fault.word())?;
     fault.push_values(&mut line)?;
     push_bytes(&mut line, b"\n")?;
     Ok(line)

@@ -1,8 +1,9 @@
 //! Laws of the commands, each the contract of a function without a body.
-ghost use Rattle.std.specs.Prelude.{◌≡◌, ℕ, List};
+ghost use Rattle.std.specs.Prelude.{◌≡◌, ℕ, List, [], ◌∷◌};
+ghost use Rattle.propane_run.specs.Pairs.{ArePair};
 ghost use Rattle.propane_run.specs.Reading.{Holds, SaidOfTold};
 ghost use Rattle.propane_run.specs.Run.{Job};
-ghost use Rattle.propane_run.specs.Said.{Said};
+ghost use Rattle.propane_run.specs.Said.{Said, text};
 ghost use Rattle.propane_run.specs.Words.{names_read};
 ghost use Rattle.propane_run.specs.declared.command.Command.{Command};
 
@@ -16,4 +17,12 @@ pub fn commands_say_one_thing()
 pub fn told_texts_come_to_one_thing()
     ensures { (holds : Holds) (words : List (List ℕ)) (c : Command) (one other : Said)
         → SaidOfTold holds (names_read words c) (Job c) one → SaidOfTold holds (names_read words c) (Job c) other → one ≡ other }
+{}
+
+/// What `evidence` writes passes with what `compile` writes of the same texts.
+pub fn written_pairs_pass()
+    ensures { (t p u q : ℕ) (topology policy config_written evidence_written : List ℕ)
+        → Job (Command.Compile t p) (topology ∷ policy ∷ []) (text config_written)
+        → Job (Command.Evidence u q) (topology ∷ policy ∷ []) (text evidence_written)
+        → ArePair topology policy config_written evidence_written }
 {}

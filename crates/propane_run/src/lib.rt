@@ -1,16 +1,20 @@
 //! The top call.
 #![tactic(auto)]
 
-ghost use Rattle.std.specs.Prelude.{◌≡◌, ◌≢◌, ◌⊎◌, ◌<◌, ◌≤◌, ℕ, List, Some, None, length, map, string_bytes};
+ghost use Rattle.std.specs.Prelude.{◌≡◌, ◌⊎◌, ◌<◌, ◌≤◌, ℕ, List, Some, None, length, map, string_bytes};
 ghost use Rattle.net_base.specs.Network.{PlainNet};
 ghost use Rattle.outside.specs.Outside.{Rose};
 ghost use Rattle.path_words.specs.Policies.{PlainPolicy};
 ghost use Rattle.evidence_base.specs.Made.{PlainCaseEvidence};
 ghost use Rattle.case_core.specs.declared.refusal.CompileRefusal.{CompileRefusal};
 ghost use Rattle.propane_run.specs.Asked.{AsksFor};
+ghost use Rattle.config_base.specs.Configs.{PlainConfig};
+ghost use Rattle.regret_law.specs.Passes.{Passes};
+ghost use Rattle.propane_run.specs.Checking.{Checks, AsksOf, ChecksRight, TellsFault};
 ghost use Rattle.propane_run.specs.Clauses.{FaultFound, ReadsSmoothly};
 ghost use Rattle.propane_run.specs.Compiled.{IsCompiled, IsRefusedFor};
-ghost use Rattle.propane_run.specs.Headline.{CompilesRight};
+ghost use Rattle.propane_run.specs.Compiling.{Compiles};
+ghost use Rattle.propane_run.specs.Headline.{CompilesRight, GivesEvidence};
 ghost use Rattle.propane_run.specs.Reading.{AreOnlyRead, RoseOf, SaidOfTold, unread};
 ghost use Rattle.propane_run.specs.RefusalLines.{refusal_line as line_of_refusal};
 ghost use Rattle.propane_run.specs.Refusing.{RefusesRight};
@@ -24,12 +28,14 @@ mod deliver;
 mod fault_lines;
 mod laws;
 mod outcome;
+mod pairs;
 mod reading;
 mod refusal_lines;
 mod texts;
+mod verdict_lines;
 
 pub use command::{Command, words_of};
-pub use laws::{commands_say_one_thing, told_texts_come_to_one_thing};
+pub use laws::{commands_say_one_thing, told_texts_come_to_one_thing, written_pairs_pass};
 pub use outcome::Status;
 use outcome::Stop;
 use outside::{Inputs, Sink};
@@ -52,6 +58,17 @@ fn answer<I: Inputs>(alloc: Global, words: &[String], inputs: &mut I) -> Result<
         Some(Command::Compile(topology, policy)) => {
             commands::compile::compile(alloc, inputs, word(words, topology), word(words, policy))
         }
+        Some(Command::Evidence(topology, policy)) => {
+            commands::evidence::evidence(alloc, inputs, word(words, topology), word(words, policy))
+        }
+        Some(Command::Check(topology, policy, config, evidence)) => commands::check::check(
+            alloc,
+            inputs,
+            word(words, topology),
+            word(words, policy),
+            word(words, config),
+            word(words, evidence),
+        ),
         None => Err(Stop::Usage),
     }
 }
@@ -97,9 +114,24 @@ pub fn run<I: Inputs, O: Sink, E: Sink>(
         → result ≡ Status.Done → (claim : CompilesRight (I.holds inputs.old) O.taken (map string_bytes words.now) c out.old out.new)
         × (evidence : List PlainCaseEvidence) × IsCompiled claim.net claim.policy claim.config evidence }
 
-    // It ends with Refused only where the inputs spell a network and a policy to which the refusal applies that the line tells.
-    ensures refused { (topology policy : ℕ) → let c = Command.Compile topology policy in words_are (map string_bytes words.now) ≡ Some c
-        → result ≡ Status.Refused → RefusesRight (I.holds inputs.old) E.taken (map string_bytes words.now) c err.old err.new × (out.new ≡ out.old) }
+    // Where `evidence` ends with Done, `out` grew by the text of that evidence.
+    ensures gives_evidence { (topology policy : ℕ) → let c = Command.Evidence topology policy in words_are (map string_bytes words.now) ≡ Some c
+        → result ≡ Status.Done → GivesEvidence (I.holds inputs.old) O.taken (map string_bytes words.now) c out.old out.new }
+
+    // Where `check` ends with Done, the evidence that the inputs spell passes, and the configuration is right; `out` says that
+    // it holds.
+    ensures checks_right { (topology policy config evidence : ℕ) → let c = Command.Check topology policy config evidence in words_are (map string_bytes words.now) ≡ Some c
+        → result ≡ Status.Done → ChecksRight (I.holds inputs.old) O.taken (map string_bytes words.now) c out.old out.new }
+
+    // It ends with CheckFails only where the command checks, and the inputs spell evidence of which a rule fails: the first
+    // one, which `out` tells.
+    ensures check_fails { result ≡ Status.CheckFails → (c : Command) × Checks c
+        × TellsFault (I.holds inputs.old) O.taken (map string_bytes words.now) c out.old out.new × (err.new ≡ err.old) }
+
+    // It ends with Refused only where the command compiles, and the inputs spell a network and a policy to which the refusal
+    // applies that the line tells.
+    ensures refused { result ≡ Status.Refused → (c : Command) × Compiles c
+        × RefusesRight (I.holds inputs.old) E.taken (map string_bytes words.now) c err.old err.new × (out.new ≡ out.old) }
 
     // All that a run may do: an answer of the words and the inputs, delivered. The other clauses on what is written follow.
     ensures whole { (what : Said)
@@ -138,9 +170,6 @@ pub fn run<I: Inputs, O: Sink, E: Sink>(
     // Want of memory writes nothing.
     ensures no_memory { result ≡ Status.NoMemory → (out.new ≡ out.old) × (err.new ≡ err.old) }
 
-    // No command checks evidence yet.
-    ensures not_failing { result ≢ Status.CheckFails }
-
     // Where all that a command reads is told and no count of it rises, what the bytes come to is delivered, or memory ran out.
     ensures complete { (c : Command)
         → ReadsSmoothly (I.holds inputs.old) (RoseOf (I.faults inputs.old) (I.faults inputs.new)) (map string_bytes words.now) c
@@ -148,8 +177,9 @@ pub fn run<I: Inputs, O: Sink, E: Sink>(
         ⊎ (wanted : Said) × SaidOfTold (I.holds inputs.old) (names_read (map string_bytes words.now) c) (Job c) wanted
         × Delivered O.taken O.faults E.taken E.faults wanted out.old out.new err.old err.new result }
 
-    // There `compile` refuses a policy to which a refusal applies, and tells it, if no count of `err` rises; or memory ran out.
-    ensures refused_where { (topology policy : ℕ) → let c = Command.Compile topology policy in (net : PlainNet) (asked : PlainPolicy) (e : CompileRefusal)
+    // There a command that compiles refuses a policy to which a refusal applies, and tells it, if no count of `err` rises; or
+    // memory ran out.
+    ensures refused_where { (c : Command) → Compiles c → (net : PlainNet) (asked : PlainPolicy) (e : CompileRefusal)
         → ReadsSmoothly (I.holds inputs.old) (RoseOf (I.faults inputs.old) (I.faults inputs.new)) (map string_bytes words.now) c
         → ¬ Rose (E.faults err.old) (E.faults err.new)
         → AsksFor (I.holds inputs.old) (map string_bytes words.now) c net asked → IsRefusedFor net asked e
@@ -157,11 +187,24 @@ pub fn run<I: Inputs, O: Sink, E: Sink>(
         ⊎ (result ≡ Status.Refused) × Whole E.taken (line_of_refusal net e) err.old err.new × (out.new ≡ out.old) }
 
     // And it compiles a policy to which none applies, if no count of `out` rises; or memory ran out.
-    ensures compiled_where { (topology policy : ℕ) → let c = Command.Compile topology policy in (net : PlainNet) (asked : PlainPolicy)
+    ensures compiled_where { (c : Command) → Compiles c → (net : PlainNet) (asked : PlainPolicy)
         → ReadsSmoothly (I.holds inputs.old) (RoseOf (I.faults inputs.old) (I.faults inputs.new)) (map string_bytes words.now) c
         → ¬ Rose (O.faults out.old) (O.faults out.new)
         → AsksFor (I.holds inputs.old) (map string_bytes words.now) c net asked → ((e : CompileRefusal) → ¬ IsRefusedFor net asked e)
         → (result ≡ Status.NoMemory) ⊎ (result ≡ Status.Done) }
+
+    // There `check` says that evidence which passes holds, and that other evidence fails, if no count of `out` rises; or memory
+    // ran out.
+    ensures holds_where { (c : Command) → Checks c → (net : PlainNet) (policy : PlainPolicy) (config : PlainConfig) (evidence : List PlainCaseEvidence)
+        → ReadsSmoothly (I.holds inputs.old) (RoseOf (I.faults inputs.old) (I.faults inputs.new)) (map string_bytes words.now) c
+        → ¬ Rose (O.faults out.old) (O.faults out.new)
+        → AsksOf (I.holds inputs.old) (map string_bytes words.now) c net policy config evidence → Passes net policy config evidence
+        → (result ≡ Status.NoMemory) ⊎ (result ≡ Status.Done) }
+    ensures fails_where { (c : Command) → Checks c → (net : PlainNet) (policy : PlainPolicy) (config : PlainConfig) (evidence : List PlainCaseEvidence)
+        → ReadsSmoothly (I.holds inputs.old) (RoseOf (I.faults inputs.old) (I.faults inputs.new)) (map string_bytes words.now) c
+        → ¬ Rose (O.faults out.old) (O.faults out.new)
+        → AsksOf (I.holds inputs.old) (map string_bytes words.now) c net policy config evidence → ¬ Passes net policy config evidence
+        → (result ≡ Status.NoMemory) ⊎ (result ≡ Status.CheckFails) }
 
     // Another run may follow: no read changed what a name holds, no count fell, and a name that is sure stays so.
     ensures holds { (name : List ℕ) → I.holds inputs.new name ≡ I.holds inputs.old name }

@@ -48,6 +48,8 @@ impl Status {
 pub enum Stop {
     /// A line for standard error, and the status that goes with it.
     Line(Status, Vec<u8>),
+    /// The check of evidence fails: a line for the output.
+    Failing(Vec<u8>),
     /// The words are no command.
     Usage,
     /// Memory was refused.

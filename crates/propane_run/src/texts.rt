@@ -1,12 +1,20 @@
-//! The texts of a topology and of a policy for its network.
+//! The texts that are read: of a topology, of a policy for its network, of a configuration and of evidence.
 ghost use Rattle.std.specs.Prelude.{◌<◌, length, IfOk};
 ghost use Rattle.policy_parser.specs.Spelled.{spelled as policy_spelled};
 ghost use Rattle.case_law.specs.Cases.{OriginsAreRouters};
-ghost use Rattle.propane_run.specs.Texts.{IsNetOr, IsPolicyOr};
+ghost use Rattle.config_reader.specs.Text.{spelled as config_spelled};
+ghost use Rattle.evidence_text.specs.Spelled.{spelled as evidence_spelled};
+ghost use Rattle.propane_run.specs.Texts.{IsNetOr, IsPolicyOr, IsConfigOr, IsEvidenceOr};
 ghost use Rattle.topology.specs.Topology.{spelled};
 
-use crate::fault_lines::{policy_fault_line, topology_fault_line};
+use crate::fault_lines::{
+    config_fault_line, evidence_fault_line, policy_fault_line, topology_fault_line,
+};
 use crate::outcome::{Status, Stop};
+use config_base::Config;
+use config_reader::{ConfigFault, read_config};
+use evidence_base::Evidence;
+use evidence_text::{EvidenceFault, read_evidence};
 use net_base::Net;
 use path_words::Policy;
 use policy_parser::{PolicyFault, read_policy};
@@ -38,6 +46,35 @@ pub fn policy_for(alloc: Global, net: &Net, policy: &[u8]) -> Result<Policy, Sto
         Err(PolicyFault::NoMemory) => Err(Stop::NoMemory),
         Err(fault) => {
             let line = policy_fault_line(alloc, &fault)?;
+            Err(Stop::Line(Status::BadInput, line))
+        }
+    }
+}
+
+/// The configuration that the bytes spell, or why the run stops.
+pub fn config_for(alloc: Global, config: &[u8]) -> Result<Config, Stop>
+    requires { length config.now < 4294967295 }
+    ensures { IsConfigOr (config_spelled config.now) result }
+{
+    match read_config(alloc, config) {
+        Ok(config) => Ok(config),
+        Err(ConfigFault::NoMemory) => Err(Stop::NoMemory),
+        Err(fault) => {
+            let line = config_fault_line(alloc, &fault)?;
+            Err(Stop::Line(Status::BadInput, line))
+        }
+    }
+}
+
+/// The evidence that the bytes spell, or why the run stops.
+pub fn evidence_for(alloc: Global, evidence: &[u8]) -> Result<Evidence, Stop>
+    ensures { IsEvidenceOr (evidence_spelled evidence.now) result }
+{
+    match read_evidence(alloc, evidence) {
+        Ok(evidence) => Ok(evidence),
+        Err(EvidenceFault::NoMemory) => Err(Stop::NoMemory),
+        Err(fault) => {
+            let line = evidence_fault_line(alloc, &fault)?;
             Err(Stop::Line(Status::BadInput, line))
         }
     }

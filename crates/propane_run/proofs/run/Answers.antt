@@ -1,7 +1,11 @@
 use Rattle.std.proofs.Common.{map, string_bytes}
 use Rattle.propane_run.specs.Reading.{RoseOf}
 use Rattle.propane_run.proofs.RunLaws as law
+use Rattle.propane_run.proofs.ByCommand.Check as check
 use Rattle.propane_run.proofs.ByCommand.Compile as compile
+use Rattle.propane_run.proofs.ByCommand.Evidence as evidence
+use Rattle.propane_run.proofs.Checkers as checkers
+use Rattle.propane_run.proofs.Compilers as compilers
 use Rattle.propane_run.proofs.run.Goals as goal
 
 pub returns-clause-right : goal.returns-clause-right
@@ -16,11 +20,29 @@ returns-clause-compiled g c = λ t p asks is.
     let d = law.done_for _ _ _ _ (g.I.Inputs.holds c.args.inputs.now) (RoseOf (g.I.Inputs.faults c.args.inputs.now) (g.I.Inputs.faults c.run_whole.new.inputs)) (map string_bytes c.args.words.now) _ _ _ _ h.0 _ h.1 h.2 _ asks is in
     compile.compiled _ _ _ _ _ d.0 d.2 t p d.1
 
-pub returns-clause-refused : goal.returns-clause-refused
-returns-clause-refused g c = λ t p asks is.
+pub returns-clause-gives_evidence : goal.returns-clause-gives_evidence
+returns-clause-gives_evidence g c = λ t p asks is.
     let h = c.run_whole.ensures.whole in
-    let d = law.refused_for _ _ _ _ (g.I.Inputs.holds c.args.inputs.now) (RoseOf (g.I.Inputs.faults c.args.inputs.now) (g.I.Inputs.faults c.run_whole.new.inputs)) (map string_bytes c.args.words.now) _ _ _ _ h.0 _ h.1 h.2 _ asks is in
-    (compile.refused _ _ _ _ _ d.0 d.2 t p d.1, d.3)
+    let d = law.done_for _ _ _ _ (g.I.Inputs.holds c.args.inputs.now) (RoseOf (g.I.Inputs.faults c.args.inputs.now) (g.I.Inputs.faults c.run_whole.new.inputs)) (map string_bytes c.args.words.now) _ _ _ _ h.0 _ h.1 h.2 _ asks is in
+    evidence.given _ _ _ _ _ d.0 d.2 t p d.1
+
+pub returns-clause-checks_right : goal.returns-clause-checks_right
+returns-clause-checks_right g c = λ x y z w asks is.
+    let h = c.run_whole.ensures.whole in
+    let d = law.done_for _ _ _ _ (g.I.Inputs.holds c.args.inputs.now) (RoseOf (g.I.Inputs.faults c.args.inputs.now) (g.I.Inputs.faults c.run_whole.new.inputs)) (map string_bytes c.args.words.now) _ _ _ _ h.0 _ h.1 h.2 _ asks is in
+    check.right _ _ _ (λ bs what says. says) _ _ _ d.0 d.2 d.1
+
+pub returns-clause-check_fails : goal.returns-clause-check_fails
+returns-clause-check_fails g c = λ is.
+    let h = c.run_whole.ensures.whole in
+    let d = law.fails _ _ _ _ (g.I.Inputs.holds c.args.inputs.now) (RoseOf (g.I.Inputs.faults c.args.inputs.now) (g.I.Inputs.faults c.run_whole.new.inputs)) (map string_bytes c.args.words.now) _ _ _ _ h.0 _ h.1 h.2 is in
+    (d.0, d.2, checkers.fails _ _ _ _ _ d.1 d.4 d.0 d.2 d.3, d.5)
+
+pub returns-clause-refused : goal.returns-clause-refused
+returns-clause-refused g c = λ is.
+    let h = c.run_whole.ensures.whole in
+    let d = law.refused _ _ _ _ (g.I.Inputs.holds c.args.inputs.now) (RoseOf (g.I.Inputs.faults c.args.inputs.now) (g.I.Inputs.faults c.run_whole.new.inputs)) (map string_bytes c.args.words.now) _ _ _ _ h.0 _ h.1 h.2 is in
+    (d.0, d.2, compilers.refused _ _ _ _ _ d.1 d.4 d.0 d.2 d.3, d.5)
 
 pub returns-clause-done : goal.returns-clause-done
 returns-clause-done g c = let h = c.run_whole.ensures.whole in law.done _ _ _ _ (g.I.Inputs.holds c.args.inputs.now) (RoseOf (g.I.Inputs.faults c.args.inputs.now) (g.I.Inputs.faults c.run_whole.new.inputs)) (map string_bytes c.args.words.now) _ _ _ _ h.0 _ h.1 h.2
@@ -43,18 +65,25 @@ returns-clause-write_fault g c = λ is. let h = c.run_whole.ensures.whole in (h.
 pub returns-clause-no_memory : goal.returns-clause-no_memory
 returns-clause-no_memory g c = let h = c.run_whole.ensures.whole in law.no_memory_said _ _ _ _ (g.I.Inputs.holds c.args.inputs.now) (RoseOf (g.I.Inputs.faults c.args.inputs.now) (g.I.Inputs.faults c.run_whole.new.inputs)) (map string_bytes c.args.words.now) _ _ _ _ h.0 _ h.1 h.2
 
-pub returns-clause-not_failing : goal.returns-clause-not_failing
-returns-clause-not_failing g c = let h = c.run_whole.ensures.whole in law.no_check _ _ _ _ (g.I.Inputs.holds c.args.inputs.now) (RoseOf (g.I.Inputs.faults c.args.inputs.now) (g.I.Inputs.faults c.run_whole.new.inputs)) (map string_bytes c.args.words.now) _ _ _ _ h.0 _ h.1 h.2
-
 pub returns-clause-complete : goal.returns-clause-complete
 returns-clause-complete g c = let h = c.run_whole.ensures.whole in law.complete _ _ _ _ (g.I.Inputs.holds c.args.inputs.now) (RoseOf (g.I.Inputs.faults c.args.inputs.now) (g.I.Inputs.faults c.run_whole.new.inputs)) (map string_bytes c.args.words.now) _ _ _ _ h.0 _ h.1 h.2
 
 pub returns-clause-refused_where : goal.returns-clause-refused_where
-returns-clause-refused_where g c = λ t p net policy e smooth calm asks applies.
+returns-clause-refused_where g c = λ command compiles net policy e smooth calm asks applies.
     let h = c.run_whole.ensures.whole in
-    compile.refused_where _ _ _ _ _ _ _ _ _ _ _ t p net policy asks e calm applies (law.complete _ _ _ _ (g.I.Inputs.holds c.args.inputs.now) (RoseOf (g.I.Inputs.faults c.args.inputs.now) (g.I.Inputs.faults c.run_whole.new.inputs)) (map string_bytes c.args.words.now) _ _ _ _ h.0 _ h.1 h.2 _ smooth)
+    compilers.refused_where _ _ _ _ _ _ _ _ _ _ _ net policy command compiles asks e calm applies (law.complete _ _ _ _ (g.I.Inputs.holds c.args.inputs.now) (RoseOf (g.I.Inputs.faults c.args.inputs.now) (g.I.Inputs.faults c.run_whole.new.inputs)) (map string_bytes c.args.words.now) _ _ _ _ h.0 _ h.1 h.2 _ smooth)
 
 pub returns-clause-compiled_where : goal.returns-clause-compiled_where
-returns-clause-compiled_where g c = λ t p net policy smooth calm asks none.
+returns-clause-compiled_where g c = λ command compiles net policy smooth calm asks none.
     let h = c.run_whole.ensures.whole in
-    compile.compiled_where _ _ _ _ _ _ _ _ _ _ _ t p net policy asks none calm (law.complete _ _ _ _ (g.I.Inputs.holds c.args.inputs.now) (RoseOf (g.I.Inputs.faults c.args.inputs.now) (g.I.Inputs.faults c.run_whole.new.inputs)) (map string_bytes c.args.words.now) _ _ _ _ h.0 _ h.1 h.2 _ smooth)
+    compilers.compiled_where _ _ _ _ _ _ _ _ _ _ _ net policy command compiles asks none calm (law.complete _ _ _ _ (g.I.Inputs.holds c.args.inputs.now) (RoseOf (g.I.Inputs.faults c.args.inputs.now) (g.I.Inputs.faults c.run_whole.new.inputs)) (map string_bytes c.args.words.now) _ _ _ _ h.0 _ h.1 h.2 _ smooth)
+
+pub returns-clause-holds_where : goal.returns-clause-holds_where
+returns-clause-holds_where g c = λ command checks net policy config evidence smooth calm asks passes.
+    let h = c.run_whole.ensures.whole in
+    checkers.holds_where _ _ _ _ _ _ _ _ _ _ _ net policy config evidence command checks asks calm passes (law.complete _ _ _ _ (g.I.Inputs.holds c.args.inputs.now) (RoseOf (g.I.Inputs.faults c.args.inputs.now) (g.I.Inputs.faults c.run_whole.new.inputs)) (map string_bytes c.args.words.now) _ _ _ _ h.0 _ h.1 h.2 _ smooth)
+
+pub returns-clause-fails_where : goal.returns-clause-fails_where
+returns-clause-fails_where g c = λ command checks net policy config evidence smooth calm asks fails.
+    let h = c.run_whole.ensures.whole in
+    checkers.fails_where _ _ _ _ _ _ _ _ _ _ _ net policy config evidence command checks asks calm fails (law.complete _ _ _ _ (g.I.Inputs.holds c.args.inputs.now) (RoseOf (g.I.Inputs.faults c.args.inputs.now) (g.I.Inputs.faults c.run_whole.new.inputs)) (map string_bytes c.args.words.now) _ _ _ _ h.0 _ h.1 h.2 _ smooth)

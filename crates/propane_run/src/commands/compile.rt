@@ -8,11 +8,10 @@ ghost use Rattle.propane_run.specs.Said.{said};
 ghost use Rattle.propane_run.specs.Texts.{OfTexts};
 ghost use Rattle.propane_run.specs.commands.Compile.{SaysOfPolicy};
 
-use crate::outcome::{Status, Stop};
+use crate::outcome::Stop;
+use crate::pairs::compiled_for;
 use crate::reading::read_named;
-use crate::refusal_lines::refusal_line;
 use crate::texts::{net_of, policy_for};
-use compile_core::{CompileRefusal, compile as compile_policy};
 use config_text::print_config;
 use net_base::Net;
 use outside::Inputs;
@@ -20,18 +19,12 @@ use path_words::Policy;
 use std::alloc::Global;
 
 // The text of the configuration that is compiled from the policy, or why the policy is refused.
-fn compiled_text(alloc: Global, net: &Net, policy: &Policy) -> Result<Vec<u8>, Stop>
+fn config_text(alloc: Global, net: &Net, policy: &Policy) -> Result<Vec<u8>, Stop>
     requires { OriginsAreRouters net.now policy.now.origins }
     ensures { IsGiven (SaysOfPolicy net.now (policy_of policy.now)) (said result) }
 {
-    match compile_policy(alloc, net, policy) {
-        Ok(compiled) => Ok(print_config(alloc, &compiled.config)?),
-        Err(CompileRefusal::NoMemory) => Err(Stop::NoMemory),
-        Err(refusal) => {
-            let line = refusal_line(alloc, net, &refusal)?;
-            Err(Stop::Line(Status::Refused, line))
-        }
-    }
+    let compiled = compiled_for(alloc, net, policy)?;
+    Ok(print_config(alloc, &compiled.config)?)
 }
 
 // What the texts come to.
@@ -42,7 +35,7 @@ fn compile_texts(alloc: Global, topology: &[u8], policy: &[u8]) -> Result<Vec<u8
 {
     let net = net_of(alloc, topology)?;
     let policy = policy_for(alloc, &net, policy)?;
-    compiled_text(alloc, &net, &policy)
+    config_text(alloc, &net, &policy)
 }
 
 /// The command, from the names of its inputs: both are read, then judged in order.

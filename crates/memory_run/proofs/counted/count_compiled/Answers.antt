@@ -1,6 +1,7 @@
 use Rattle.std.proofs.Common.{◌≡◌, Some, map, string_bytes, ap, refl, ◌∙◌, inl, inr}
 use Rattle.outside.specs.Outside.{Rose}
 use Rattle.outside.specs.SureInputs.{bytes_of}
+use Rattle.propane_run.specs.declared.command.Command.TheVariants.{Compile}
 use Rattle.memory_run.specs.Texts.{compile_words}
 use Rattle.memory_run.proofs.Asking.{asks_for, reads_smoothly}
 use Rattle.memory_run.proofs.Telling.{still}
@@ -15,7 +16,7 @@ returns-in-Done-clause-refused_where c = λ net asked e spell applies.
     let smooth = reads_smoothly _ is (λ name. Some (bytes_of c.in_ok-inputs.inputs name)) _ _ t p (λ name. Rose 0 0) calm calm in
     let asks = asks_for _ is (λ name. Some (bytes_of c.in_ok-inputs.inputs name)) _ _ t p net asked spell in
     let done = c.in-Done.is in
-    elim (c.run.ensures.refused_where 1 2 net asked e smooth calm asks applies) [ inl m ↦ cc | inr h ↦ let r = h.0 in cc ]
+    elim (c.run.ensures.refused_where (Compile 1 2) tt net asked e smooth calm asks applies) [ inl m ↦ cc | inr h ↦ let r = h.0 in cc ]
 
 pub returns-in-Refused-clause-compiled_where : goal.returns-in-Refused-clause-compiled_where
 returns-in-Refused-clause-compiled_where c = λ net asked spell none.
@@ -25,7 +26,7 @@ returns-in-Refused-clause-compiled_where c = λ net asked spell none.
     let calm = still 0 0 refl refl in
     let smooth = reads_smoothly _ is (λ name. Some (bytes_of c.in_ok-inputs.inputs name)) _ _ t p (λ name. Rose 0 0) calm calm in
     let asks = asks_for _ is (λ name. Some (bytes_of c.in_ok-inputs.inputs name)) _ _ t p net asked spell in
-    let ends = c.run.ensures.compiled_where 1 2 net asked smooth calm asks none in
+    let ends = c.run.ensures.compiled_where (Compile 1 2) tt net asked smooth calm asks none in
     let other = c.in-Refused.is in
     elim ends [
       | inl m ↦ elim other [ inl r ↦ cc | inr b ↦ cc ]

@@ -5,7 +5,7 @@ use Rattle.propane_run.specs.Reading.{RoseOf}
 use Rattle.memory_run.specs.Texts.{IsFaultLine}
 use Rattle.memory_run.proofs.Asking.{asked, fault_told}
 use Rattle.memory_run.proofs.Coming.{ready_smoothly, to_say, written}
-use Rattle.memory_run.proofs.Telling.{fault_of_compile, from_nothing, no_fault, no_refusal, no_text, refusal_told, right_text, that_refusal}
+use Rattle.memory_run.proofs.Telling.{fault_of_compile, from_nothing, no_fault, no_refusal, no_text, refusal_of_compile, refusal_told, right_text, that_refusal}
 use Rattle.memory_run.proofs.memory.compile_held.Goals as goal
 
 -- ---- done
@@ -24,9 +24,10 @@ returns-in-Done-clause-refused_where c = λ topology policy t p net asked e spel
 
 pub returns-in-Refused-clause-right : goal.returns-in-Refused-clause-right
 returns-in-Refused-clause-right c = λ topology policy t p.
-    let claim = c.run.ensures.refused 1 2 (asked _ c.requires.words) c.in-Refused.is in
-    refusal_told _ c.requires.words (told c.args.inputs.now) _ _ t p _ _ _ claim.0 _
-    (from_nothing _ _ _ (ap (λ (s : Taking). s.bytes) c.in_ok-err.ensures) claim.0.written.grew ∙ sym c.in_ok-copy_of-in-Refused.ensures)
+    let refused = c.run.ensures.refused c.in-Refused.is in
+    let claim = refusal_of_compile (told c.args.inputs.now) _ c.requires.words _ _ _ refused.0 refused.2 in
+    refusal_told _ c.requires.words (told c.args.inputs.now) _ _ t p _ _ _ claim _
+    (from_nothing _ _ _ (ap (λ (s : Taking). s.bytes) c.in_ok-err.ensures) claim.written.grew ∙ sym c.in_ok-copy_of-in-Refused.ensures)
 
 pub returns-in-Refused-clause-refused_where : goal.returns-in-Refused-clause-refused_where
 returns-in-Refused-clause-refused_where c = λ topology policy t p net asked e spell applies.
