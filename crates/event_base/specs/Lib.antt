@@ -1,0 +1,3 @@
+pub mod Speaking
+pub mod Steps
+pub mod World

@@ -1,0 +1,51 @@
+//! Events, and why one is refused.
+ghost use Rattle.std.specs.Prelude.{◌≡◌};
+ghost use Rattle.event_base.specs.declared.event.EventFault.TheVariants.{NoMemory as no_memory};
+
+use net_base::Loc;
+use std::alloc::AllocError;
+use std::fmt;
+use thiserror::Error;
+
+/// What happens next on a network.
+#[derive(Clone, Copy, Debug, PartialEq, Eq)]
+pub enum Event {
+    /// The first message from one end of a session to the other is delivered.
+    Deliver(Loc, Loc),
+    LinkDown(Loc, Loc),
+    LinkUp(Loc, Loc),
+    RouterDown(Loc),
+    RouterUp(Loc),
+    /// A peer announces again to a router, which stands first.
+    PeerSpeak(Loc, Loc),
+    /// A peer announces nothing any more to a router, which stands first.
+    PeerSilent(Loc, Loc),
+}
+
+/// Why an event is refused.
+#[derive(Clone, Copy, Debug, PartialEq, Eq, Error)]
+pub enum EventFault {
+    /// No message waits on the session.
+    #[error("no message waits")]
+    NothingWaits,
+    /// What is to go down or silent is so already.
+    #[error("not up")]
+    NotUp,
+    /// What is to come up or to speak does so already.
+    #[error("not down")]
+    NotDown,
+    /// The locations aren't linked, the one location is no router, or the two aren't a router and a peer in this order.
+    #[error("no such link")]
+    NoLink,
+    /// Memory was refused.
+    #[error("out of memory")]
+    NoMemory,
+}
+
+impl From<AllocError> for EventFault {
+    ghost from_gives = { λ _ e. e ≡ no_memory };
+
+    fn from(_error: AllocError) -> EventFault {
+        EventFault::NoMemory
+    }
+}

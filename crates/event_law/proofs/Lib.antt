@@ -1,0 +1,4 @@
+pub mod Downs
+pub mod Keeping
+pub mod KindsKept
+pub mod Together

@@ -1,0 +1,23 @@
+//! What every event keeps on a network of speakers of BGP, each law the contract of a function without a body.
+#![tactic(auto)]
+
+ghost use Rattle.std.specs.Prelude.{◌≡◌, List, None};
+ghost use Rattle.config_base.specs.declared.route.Route.{Route};
+ghost use Rattle.event_base.specs.declared.event.Event.{Event};
+ghost use Rattle.event_base.specs.Steps.{IsQuiet, fault_of, opening, run, step};
+ghost use Rattle.event_law.specs.Kept.{AreSpeakers, IsKept, IsStable};
+ghost use Rattle.event_law.specs.Together.{OrderIsFree};
+ghost use Rattle.event_base.specs.World.{Speakers, World};
+
+/// Each event keeps what is kept, and in a quiet world the routes are stable.
+pub fn events_keep()
+    ensures opening { (net : Speakers Route) → AreSpeakers net → IsKept net (opening net) }
+    ensures step { (net : Speakers Route) (e : Event) (w : World Route) → AreSpeakers net → IsKept net w → fault_of net e w ≡ None → IsKept net (step net e w) }
+    ensures run { (net : Speakers Route) (es : List Event) → AreSpeakers net → IsKept net (run net es (opening net)) }
+    ensures quiet { (net : Speakers Route) (w : World Route) → AreSpeakers net → IsKept net w → IsQuiet w → IsStable net w }
+{}
+
+/// It doesn't matter in which order routers choose again in one event.
+pub fn choices_have_no_order()
+    ensures { (net : Speakers Route) → OrderIsFree net }
+{}

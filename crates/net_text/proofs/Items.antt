@@ -1,0 +1,60 @@
+-- Items that are written one after another.
+use Rattle.std.proofs.Common.{◌≡◌, ℕ, zero, suc, ◌+◌, ◌<◌, ◌≤◌, true, List, [], ◌∷◌, ◌++◌, length, map, take, drop, subst, get_or, Result, Ok, Err, refl, sym, ap, ◌∙◌, append-nil, append_assoc, add-one, drop-cons, arith}
+use Rattle.std.specs.Prelude.{codes, nat_lt, OnOk, ⊤}
+use Rattle.std.specs.Fmt.{decimal}
+use Rattle.std.proofs.lemmas.Bool.{lt-ltb}
+use Rattle.std.proofs.lemmas.List.{drop_all}
+use Rattle.json.specs.Print.{escape_byte}
+use Rattle.json_words.specs.Json.{array_of}
+use Rattle.net_base.specs.Network.{PlainNet}
+use Rattle.net_base.specs.declared.net.Site.{Site}
+use Rattle.text_words.specs.Texts.{address_text}
+use Rattle.net_text.specs.NetText.{link_data, name_at, net_data, net_text, site_data}
+use Rattle.serde_json.specs.Data.{Data, string}
+use Rattle.serde_json.specs.View.{items_of}
+use Rattle.serde_json.specs.Written.{comma_if, compact_text, items_text}
+
+-- the items from a place on, with a comma before each but the first of all
+abbrev pub rest_text : ℕ → List Data → List ℕ
+rest_text i ds = items_text (nat_lt 0 i) (items_of ds)
+
+-- pieces that are written one after another, each with the text that it leaves
+abbrev pub AreWritten : List ℕ → List (List ℕ × List ℕ) → Type 0
+AreWritten old [] = Unit {0}
+AreWritten old (p ∷ ps) = (p.1 ≡ old ++ p.0) × AreWritten p.1 ps
+
+abbrev pub text_after : List ℕ → List (List ℕ × List ℕ) → List ℕ
+text_after old [] = old
+text_after old (p ∷ ps) = text_after p.1 ps
+
+abbrev pub pieces : List (List ℕ × List ℕ) → List ℕ
+pieces [] = []
+pieces (p ∷ ps) = p.0 ++ pieces ps
+
+pub written : (old : List ℕ) (ps : List (List ℕ × List ℕ)) → AreWritten old ps → text_after old ps ≡ old ++ pieces ps
+written old [] h = sym (append-nil old)
+written old (p ∷ ps) h = written p.1 ps h.1 ∙ ap (λ t. t ++ pieces ps) h.0 ∙ append_assoc old p.0 (pieces ps)
+
+-- what a last call leaves, where it ended well
+pub if_done : {E : Type 0} (P Q : Type 0) (r : Result ⊤ E) → (P → Q) → OnOk r P → OnOk r Q
+if_done P Q (Ok x) f h = f h
+if_done P Q (Err e) f h = tt
+
+-- ---- the pieces of a site, of a link and of a network
+
+pub site_as : (s : Site) → codes "{\"asn\":" ++ (decimal s.asn ++ (codes ",\"id\":" ++ (compact_text (string (address_text s.id)) ++ (codes ",\"name\":" ++ (compact_text (string s.name) ++ codes "}"))))) ≡ compact_text (site_data s)
+unfolding site_data escape_byte
+site_as s = refl
+
+pub link_as : (net : PlainNet) (link : ℕ × ℕ) → codes "[" ++ (compact_text (string (name_at net link.0)) ++ (codes "," ++ (compact_text (string (name_at net link.1)) ++ codes "]"))) ≡ compact_text (link_data net link)
+link_as net link = refl
+
+pub net_as : (net : PlainNet) → codes "{\"links\":" ++ (compact_text (array_of (map (link_data net) net.links)) ++ (codes ",\"peers\":" ++ (compact_text (array_of (map site_data net.peers)) ++ (codes ",\"routers\":" ++ (compact_text (array_of (map site_data net.routers)) ++ codes "}\n"))))) ≡ net_text net
+unfolding net_data escape_byte
+net_as net =
+    let links = compact_text (array_of (map (link_data net) net.links)) in
+    let peers = compact_text (array_of (map site_data net.peers)) in
+    let routers = compact_text (array_of (map site_data net.routers)) in
+    sym (ap (λ t. codes "{\"links\":" ++ t) (append_assoc links (codes ",\"peers\":" ++ (peers ++ (codes ",\"routers\":" ++ (routers ++ codes "}")))) (codes "\n")
+    ∙ ap (λ t. links ++ (codes ",\"peers\":" ++ t)) (append_assoc peers (codes ",\"routers\":" ++ (routers ++ codes "}")) (codes "\n")
+    ∙ ap (λ t. peers ++ (codes ",\"routers\":" ++ t)) (append_assoc routers (codes "}") (codes "\n")))))

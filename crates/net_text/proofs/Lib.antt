@@ -1,0 +1,6 @@
+pub mod Identifiers
+pub mod Letters
+pub mod Items
+pub mod Shaped
+pub mod Judged
+pub mod ReadAgain

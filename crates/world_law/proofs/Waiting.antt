@@ -1,0 +1,213 @@
+-- Held and waiting routes run in the graph of the case, in the words of the graph.
+use Rattle.std.proofs.Common.{◌≡◌, ℕ, ◌<◌, suc, zero, Bool, true, false, not, ◌&&◌, List, [], ◌∷◌, ◌++◌, length, map, Option, Some, None, refl, arith, sym, ap, ◌∙◌, subst, inl, inr}
+use Rattle.std.specs.Prelude.{is_some, option_map, slice_get, ◌==◌}
+use Rattle.std.specs.List.{list_any}
+use Rattle.std.specs.Option.{option_and_then}
+use Rattle.std.proofs.lemmas.Bool.{and_from, and_parts, cases_Bool, cases_lt, cond-true, cond-false, lt-ltb, not_from_false, or_left, or_right, true≢false}
+use Rattle.std.proofs.lemmas.List.{length-map}
+use Rattle.std.proofs.lemmas.Option.{slice_get-map}
+use Rattle.net_base.specs.Network.{PlainNet, IsNet, is_peer, is_router}
+use Rattle.net_base.specs.Prefixes.{PlainPrefix}
+use Rattle.net_base.specs.Sets.{holds}
+use Rattle.path_words.specs.Policies.{PlainPolicy, PlainStatement}
+use Rattle.path_words.specs.Governing.{is_origin}
+use Rattle.path_words.specs.Meaning.{front}
+use Rattle.path_words.specs.Permitted.{is_permitted}
+use Rattle.path_words.specs.Walks.{is_loop_free, is_walk}
+use Rattle.net_base.specs.Locations.{neighbours, numbers_below}
+use Rattle.graph_base.specs.Runs as plain
+use Rattle.config_base.specs.declared.route.Route.{Route}
+use Rattle.config_base.specs.Configs.{PlainConfig}
+use Rattle.config_base.specs.Lines.{class_of, own_route}
+use Rattle.evidence_base.specs.Made.{PlainCaseEvidence, number_at}
+use Rattle.regret_law.specs.Faithful.{permits}
+use Rattle.outcome_base.specs.Outcomes.{Failures, Outcome, offered}
+use Rattle.path_words.specs.Policies.{IsPolicyOf}
+use Rattle.regret_law.specs.Passes.{Passes}
+use Rattle.regret_law.proofs.Existence.{held, outcome_of, outcome-size}
+use Rattle.regret_law.proofs.GraphForms.{same_run}
+use Rattle.net_base.proofs.RoutersAndPeers.{peer_no_router}
+use Rattle.regret_law.proofs.RunWalks.{runs_are_walks}
+use Rattle.regret_law.proofs.Setting.{graph_of, network_of, tag_of}
+use Rattle.net_base.proofs.NumbersBelow.{length-numbers_below, slice_get-numbers_below}
+use Rattle.path_words.proofs.Peers.{peer_inside}
+use Rattle.path_words.proofs.WalkParts.{walk_parts}
+use Rattle.regret_law.proofs.PermittedWalks.{permits_parts}
+use Rattle.routing_law.specs.Graph as laws
+use Rattle.routing_law.specs.Network as law
+use Rattle.list_laws.proofs.Options.{option_map_parts}
+use Rattle.event_base.specs.declared.event.Event.{Event}
+use Rattle.event_law.specs.Kinds.{AreKinds, Each, IsKind}
+use Rattle.event_base.specs.Steps.{opening, run}
+use Rattle.event_base.specs.World.{Speakers, World}
+use Rattle.event_law.proofs.KindsKept.{opening-kinds, run-kinds}
+use Rattle.settled_law.proofs.Fully.{same_list}
+use Rattle.settled_law.proofs.SettledLaw.{CaseFound, case_or_bare}
+use Rattle.settled_law.specs.Settled.{IsFullyStable}
+use Rattle.world_law.specs.Laws.{QuietWorldsAreSettled, QuietWorldsOffer}
+use Rattle.world_law.specs.Scenarios.{routes_of}
+use Rattle.event_base.specs.Speaking.{exported_by, first_of, speakers_of, taken_by}
+use Rattle.world_law.specs.Waiting.{HasRun, HeldAndWaitingRoutesRun, IsHeld, IsOnItsWay, OriginsAloneHoldRoutes}
+use Rattle.world_law.proofs.Offers as way
+use Rattle.world_law.proofs.Offers.{Held_at, On_the_way, peer_off, quiet_worlds_offer}
+use Rattle.world_law.proofs.Quiet as rest
+use Rattle.world_law.proofs.Running.{first_is_given}
+
+-- ---- other words for what holds of every route
+
+module _ {R : Type 0} (at at' : ℕ → R → Type 0) (on on' : ℕ → ℕ → R → Type 0) (f : (r : ℕ) (h : R) → at r h → at' r h) (g : (a b : ℕ) (m : R) → on a b m → on' a b m) where
+  each_said : (a b : ℕ) (ms : List (Option R)) → Each (on a b) ms → Each (on' a b) ms
+  each_said a b [] e = tt
+  each_said a b (m ∷ ms) e = (λ y h. g a b y (e.0 y h), each_said a b ms e.1)
+
+  pub said : (w : World R) → AreKinds at on w → AreKinds at' on' w
+  said w k = record {
+    queue = λ a b. each_said a b (w.queue a b) (k.queue a b);
+    heard = λ a b y h. g a b y (k.heard a b y h);
+    queued = λ a b y h. g a b y (k.queued a b y h);
+    route = λ r y h. f r y (k.route r y h);
+  }
+
+same_free : (path : List ℕ) → law.loop_free path ≡ is_loop_free path
+same_free [] = refl
+same_free (l ∷ ls) = ap (λ b. not (list_any (λ k. k == l) ls) && b) (same_free ls)
+
+-- a peer in front of a walk's later places is its first place
+nothing_above : (net : PlainNet) (above : List ℕ) (peer u : ℕ) (rest : List ℕ) → is_peer net peer ≡ true → is_walk net (above ++ peer ∷ u ∷ rest) ≡ true → above ≡ []
+nothing_above net [] peer u rest at walk = refl
+nothing_above net (a ∷ more) peer u rest at walk =
+    absurd (true≢false (sym (peer_inside net more peer u rest at) ∙ (walk_parts net (a ∷ more ++ peer ∷ u ∷ rest) walk).1))
+
+module _ (net : PlainNet) (policy : PlainPolicy) (config : PlainConfig) (cs : List PlainCaseEvidence) (rules : IsNet net) (kept : IsPolicyOf net policy) (passes : Passes net policy config cs) (p : PlainPrefix) (f : Failures)
+    (c : CaseFound net policy config cs rules kept passes f p) where
+  -- a path with a peer in front that has a run is permitted
+  peer_permits : (peer u n : ℕ) (rest : List ℕ) → is_peer net peer ≡ true → plain.run c.d.graph (peer ∷ u ∷ rest) ≡ Some n → is_permitted net policy p c.s (peer ∷ u ∷ rest) ≡ true
+  peer_permits peer u n rest at runs =
+      let path = runs_are_walks net (holds c.d.case.origins) c.d.case.external c.d.graph c.on.graph c.on.faithful.formed (peer ∷ u ∷ rest) n runs in
+      let above = c.on.faithful.has_no_other (peer ∷ u ∷ rest) path (ap is_some runs) in
+      let none = nothing_above net above.0 peer u rest at (permits_parts net (holds c.d.case.origins) c.s (above.0 ++ peer ∷ u ∷ rest) above.1).0 in
+      let here : permits net (holds c.d.case.origins) c.s (peer ∷ u ∷ rest) ≡ true = subst (λ (a : List ℕ). permits net (holds c.d.case.origins) c.s (a ++ peer ∷ u ∷ rest) ≡ true) none above.1 in
+      subst (λ (o : ℕ → Bool). permits net o c.s (peer ∷ u ∷ rest) ≡ true) c.same here
+
+  has_run : (r : ℕ) (path rest : List ℕ) (n : ℕ) → path ≡ r ∷ rest → law.loop_free path ≡ true → plain.run c.d.graph path ≡ Some n → HasRun c.d r path n
+  has_run r path rest n begins free runs = record { rest = rest; begins = begins; free = sym (same_free path) ∙ free; runs = runs }
+
+  held_said : (r : ℕ) (h : Route) → Held_at net policy config cs rules kept passes p f c r h → IsHeld net policy config p c.d r h
+  held_said r h x = record {
+    own = x.own;
+    other = λ o.
+        let a = x.other o in
+        (a.node, has_run r h.path a.rest a.node a.begins a.free (sym (same_run c.d.graph (number_at c.d) h.path) ∙ a.runs), ap tag_of a.tag_is, a.pref_is);
+  }
+
+  way_said : (a b : ℕ) (m : Route) → On_the_way net policy config cs rules kept passes p f c a b m → IsOnItsWay net policy p c.s c.d a b m
+  way_said a b m x = record {
+    router = λ t.
+        let y = x.router t in
+        (y.node, y.next, has_run a m.path y.rest y.node y.begins y.free (run_is y.node y.runs), y.step, λ to. ap tag_of (y.to_router to));
+    allowed = λ t.
+        let who = and_parts (is_router net a) (is_peer net b) t in
+        let y = x.router who.0 in
+        let off = peer_off (network_of net (is_origin net policy p)) (graph_of c.d.graph (number_at c.d)) (way.lines_here net policy config cs rules kept passes p f c).formed m.path y.rest a b y.node y.next y.begins y.runs y.step who.0
+        (peer_no_router net b who.1) in
+        let runs : plain.run c.d.graph (b ∷ a ∷ y.rest) ≡ Some y.next = ap (option_and_then (λ n. plain.step_at c.d.graph n b)) (ap (plain.run c.d.graph) (sym y.begins) ∙ run_is y.node y.runs) ∙ y.step in
+        let permitted = subst (λ (q : List ℕ). is_permitted net policy p c.s (b ∷ q) ≡ true) (sym y.begins) (peer_permits b a y.next y.rest who.1 runs) in
+        and_from (is_permitted net policy p c.s (b ∷ m.path)) (is_loop_free (b ∷ m.path)) permitted (and_from (not (law.stands_on b m.path)) (is_loop_free m.path) (not_from_false _ off) (sym (same_free m.path) ∙ y.free));
+    peer = λ o. (let y = x.peer o in (y.0, y.1));
+  }
+    where
+      run_is : (n : ℕ) → laws.run (graph_of c.d.graph (number_at c.d)) m.path ≡ Some n → plain.run c.d.graph m.path ≡ Some n
+      run_is n h = sym (same_run c.d.graph (number_at c.d) m.path) ∙ h
+
+  all_said : (es : List Event) → AreKinds (IsHeld net policy config p c.d) (IsOnItsWay net policy p c.s c.d) (run (speakers_of net policy config p) es (opening (speakers_of net policy config p)))
+  all_said es = said (Held_at net policy config cs rules kept passes p f c) (IsHeld net policy config p c.d) (On_the_way net policy config cs rules kept passes p f c) (IsOnItsWay net policy p c.s c.d) held_said way_said
+      (run (speakers_of net policy config p) es (opening (speakers_of net policy config p))) (way.held_and_waiting_routes_run net policy config cs rules kept passes p f c es)
+
+none_fail : Failures
+none_fail = record { dead = []; dead_links = []; silent = [] }
+
+pub held_and_waiting_routes_run : HeldAndWaitingRoutesRun
+held_and_waiting_routes_run net policy config cs rules kept passes p s k d prefix governs of_class at es = elim (case_or_bare net policy config cs rules kept passes none_fail p prefix) [
+  | inr free ↦ (let none : None ≡ Some (suc k) = sym free ∙ of_class in absurd (cc))
+  | inl c ↦ (
+      let number : Some (suc c.k) ≡ Some (suc k) = sym c.of_class ∙ of_class in
+      let same_k : c.k ≡ k = cc in
+      let found : Some c.d ≡ Some d = sym c.at ∙ ap (slice_get cs) same_k ∙ at in
+      let same_d : c.d ≡ d = cc in
+      let rule : Some c.s ≡ Some s = sym c.governs ∙ governs in
+      let same_s : c.s ≡ s = cc in
+      subst (λ (z : PlainStatement). AreKinds (IsHeld net policy config p d) (IsOnItsWay net policy p z d) (run (speakers_of net policy config p) es (opening (speakers_of net policy config p)))) same_s
+      (subst (λ (e : PlainCaseEvidence). AreKinds (IsHeld net policy config p e) (IsOnItsWay net policy p c.s e) (run (speakers_of net policy config p) es (opening (speakers_of net policy config p)))) same_d
+      (all_said net policy config cs rules kept passes p none_fail c es)))
+]
+
+-- ---- without a class
+
+module _ (net : PlainNet) (policy : PlainPolicy) (config : PlainConfig) (p : PlainPrefix) (free : class_of config p ≡ None) where
+  abbrev S : Speakers Route
+  S = speakers_of net policy config p
+
+  abbrev IsOwn : ℕ → Route → Type 0
+  IsOwn r h = (is_origin net policy p r ≡ true) × (h ≡ own_route net config p r)
+
+  abbrev IsNews : ℕ → ℕ → Route → Type 0
+  IsNews a b m = (is_router net a ≡ false) × (is_origin net policy p a ≡ true)
+
+  abbrev gives : ℕ → (ℕ → Option Route) → ℕ → Option Route
+  gives r offer u = taken_by net config p r u (offer u)
+
+  bare_kind : IsKind S IsOwn IsNews
+  bare_kind = record {
+    exports = λ a b m router before y e. absurd (nothing (unexported a b m) e);
+    announces = λ a b off y e. elim (cases_Bool (is_origin net policy p a)) [
+      | inl origin ↦ (off, origin)
+      | inr other ↦ absurd (nothing (cond-false (is_origin net policy p a) _ None other) e)
+    ];
+    chooses = λ r offer router before y e. elim (cases_Bool (is_origin net policy p r)) [
+      | inl origin ↦ (
+          let is : Some (own_route net config p r) ≡ Some y = sym (cond-true (is_origin net policy p r) (Some (own_route net config p r)) (option_map (λ (x : ℕ × Route). x.1) (first_of net (gives r offer) (neighbours net r))) origin) ∙ e in
+          let same : own_route net config p r ≡ y = cc in
+          (origin, sym same))
+      | inr other ↦ absurd (ungiven r offer y (sym (cond-false (is_origin net policy p r) (Some (own_route net config p r)) (option_map (λ (x : ℕ × Route). x.1) (first_of net (gives r offer) (neighbours net r))) other) ∙ e))
+    ];
+  }
+    where
+      nothing : {A : Type 0} {o : Option A} {y : A} → o ≡ None → o ≡ Some y → ⊥
+      nothing {o = o} {y = y} a b = (let none : None ≡ Some y = sym a ∙ b in cc)
+
+      unexported : (a b : ℕ) (m : Option Route) → exported_by net config p a b m ≡ None
+      unexported a b m = rw free refl
+
+      untaken : (r u : ℕ) (o : Option Route) → taken_by net config p r u o ≡ None
+      untaken r u o = rw free refl
+
+      ungiven : (r : ℕ) (offer : ℕ → Option Route) (y : Route) → option_map (λ (x : ℕ × Route). x.1) (first_of net (gives r offer) (neighbours net r)) ≡ Some y → ⊥
+      ungiven r offer y h =
+          let x = option_map_parts (λ (x : ℕ × Route). x.1) (first_of net (gives r offer) (neighbours net r)) y h in
+          nothing (untaken r x.0.0 (offer x.0.0)) (first_is_given net (gives r offer) (neighbours net r) x.0 x.1)
+
+pub origins_alone_hold_routes : OriginsAloneHoldRoutes
+origins_alone_hold_routes net policy config p free es =
+    let S = speakers_of net policy config p in
+    run-kinds S (IsOwn net policy config p free) (IsNews net policy config p free) (bare_kind net policy config p free) es (opening S) (opening-kinds S (IsOwn net policy config p free) (IsNews net policy config p free) (bare_kind net policy config p free))
+
+-- ---- the routes of a world, one entry a router
+
+pub same_routes : (net : PlainNet) (w : World Route) → outcome_of net w.route ≡ routes_of net w
+same_routes net w =
+    let n = length net.routers in
+    let size : length (routes_of net w) ≡ n = length-map (numbers_below n) w.route ∙ length-numbers_below n in
+    same_list (outcome_of net w.route) (routes_of net w) (outcome-size net w.route ∙ sym size) (λ i below.
+    let less : i < n = subst (λ (k : ℕ). i < k) (outcome-size net w.route) below in
+    held net w.route i (lt-ltb i n less) ∙ sym (ap (option_and_then (λ (o : Option Route). o)) (slice_get-map w.route (numbers_below n) i ∙ ap (option_map w.route) (slice_get-numbers_below n i less))))
+
+pub quiet_worlds_are_settled : QuietWorldsAreSettled
+quiet_worlds_are_settled net policy config p es f rules quiet scenario =
+    let S = speakers_of net policy config p in
+    subst (IsFullyStable net policy config f p) (same_routes net (run S es (opening S))) (rest.quiet_worlds_are_settled net policy config p es f rules quiet scenario)
+
+pub peers_hear_offers : QuietWorldsOffer
+peers_hear_offers net policy config cs rules kept passes p prefix es f quiet scenario r q router peer =
+    let S = speakers_of net policy config p in
+    quiet_worlds_offer net policy config cs rules kept passes p prefix es f quiet scenario r q router peer
+    ∙ ap (λ (o : Outcome). offered net policy config f p o r q) (same_routes net (run S es (opening S)))
