@@ -1,12 +1,31 @@
-//! Graphs against graphs that were worked by hand.
+//! What is built before anything is pruned, against graphs that were worked by hand.
+use crate::drawing::{Drawing, is_drawn};
 use constraint_expand::expand;
-use graph_base::{Graph, Node};
-use net_base::{List, Loc, LocSet, Net};
-use outside::NoMemory;
+use graph_base::Graph;
+use net_base::{List, LocSet, Net};
 use path_words::{Case, Clause, FromSet, Ranked};
 use product_graph::{BuildFault, build};
 use samples::{TWO_EXITS, net_of};
 use std::alloc::Global;
+
+// Any path to a router: peers hear, and sources that aren't named have no rank.
+const NAMED_SOURCES: Drawing = Drawing {
+    nodes: &[
+        (0, false, None),
+        (1, false, Some(1)),
+        (2, true, None),
+        (3, true, Some(1)),
+    ],
+    starts: &[0],
+    steps: &[(0, 1), (0, 2), (1, 3)],
+};
+
+// Where no path is permitted, the starts alone are nodes.
+const DEAD_STARTS: Drawing = Drawing {
+    nodes: &[(2, false, None), (3, false, None)],
+    starts: &[0, 1],
+    steps: &[],
+};
 
 // The set of the locations whose bits are set.
 fn set(bits: u64) -> LocSet {
@@ -15,15 +34,14 @@ fn set(bits: u64) -> LocSet {
     }
 }
 
-// What is built for these origins, this ranked expression, these sources and this room.
+// What is built for these origins, this call and these sources, with room for four steps.
 fn built(
     alloc: Global,
     net: &Net,
     origins: u64,
     external: bool,
-    ranked: &Ranked,
+    call: Clause,
     from: &FromSet,
-    room: u32,
 ) -> Result<Graph, BuildFault> {
     let case = Case {
         statement: 1,
@@ -31,91 +49,26 @@ fn built(
         external,
         prefixes: List::new(alloc),
     };
-    match expand(alloc, ranked, net) {
-        Ok(expressions) => build(alloc, net, &case, from, &expressions, room),
+    match expand(alloc, &Ranked::Call(call), net) {
+        Ok(expressions) => build(alloc, net, &case, from, &expressions, 4),
         Err(_) => Err(BuildFault::NoMemory),
     }
 }
 
-// Whether a node is at this location, hears, and has this rank.
-fn is_node(node: &Node, row: &(u16, bool, Option<u32>)) -> bool {
-    node.loc == Loc::new(row.0) && node.listener == row.1 && node.rank == row.2
-}
-
-// Whether the graph has these nodes, so many starts and these steps.
-fn is_graph(
-    graph: &Result<Graph, BuildFault>,
-    nodes: &[(u16, bool, Option<u32>)],
-    starts: usize,
-    steps: &[(u32, u32)],
-) -> bool {
-    let Ok(graph) = graph else {
-        return false;
-    };
-    graph.nodes().len() == nodes.len()
-        && graph
-            .nodes()
-            .iter()
-            .zip(nodes)
-            .all(|(node, row)| is_node(node, row))
-        && graph.starts().len() == starts
-        && graph.steps() == steps
-}
-
-fn two_exits_in_order(alloc: Global) -> Result<Ranked, NoMemory> {
-    let exits = vec![in alloc; Clause::Exit(set(0b0100)), Clause::Exit(set(0b1000))]?;
-    Ok(Ranked::Calls(List::from_vec(exits)))
-}
-
-const TWO_EXITS_NODES: [(u16, bool, Option<u32>); 6] = [
-    (2, false, None),
-    (3, false, None),
-    (0, false, Some(1)),
-    (1, false, Some(2)),
-    (1, false, Some(1)),
-    (0, false, Some(2)),
-];
-
-const TWO_EXITS_STEPS: [(u32, u32); 6] = [(0, 2), (1, 3), (2, 4), (3, 5), (4, 2), (5, 3)];
-
-// The peers as origins, with room for each step and with room for one less.
-fn is_external_right(alloc: Global, net: &Net) -> Result<bool, NoMemory> {
-    let exits = two_exits_in_order(alloc)?;
-    let graph = built(alloc, net, 0b1100, true, &exits, &FromSet::Any, 6);
-    let fault = built(alloc, net, 0b1100, true, &exits, &FromSet::Any, 5);
-    Ok(
-        is_graph(&graph, &TWO_EXITS_NODES, 2, &TWO_EXITS_STEPS)
-            && fault.err() == Some(BuildFault::TooManySteps),
-    )
-}
-
-// A router as origin: peers hear, and sources that aren't named have no rank.
-fn is_internal_right(alloc: Global, net: &Net) -> bool {
-    let any = Ranked::Call(Clause::Any);
-    let from = FromSet::Named(set(0b1010));
-    let graph = built(alloc, net, 0b0001, false, &any, &from, 4);
-    let nodes = [
-        (0, false, None),
-        (1, false, Some(1)),
-        (2, true, None),
-        (3, true, Some(1)),
-    ];
-    is_graph(&graph, &nodes, 1, &[(0, 1), (0, 2), (1, 3)])
-}
-
-// Where no path is permitted, the starts alone are nodes.
-fn is_dead_right(alloc: Global, net: &Net) -> bool {
-    let drop = Ranked::Call(Clause::Drop);
-    let graph = built(alloc, net, 0b1100, true, &drop, &FromSet::Any, 0);
-    is_graph(&graph, &[(2, false, None), (3, false, None)], 2, &[])
+fn is_right(built: &Result<Graph, BuildFault>, drawing: &Drawing) -> bool {
+    match built {
+        Ok(graph) => is_drawn(graph, drawing),
+        Err(_) => false,
+    }
 }
 
 #[test]
-fn graphs_by_hand(rt: HostRuntime) {
+fn graphs_before_pruning(rt: HostRuntime) {
     let alloc = rt.alloc();
     let net = net_of(alloc, TWO_EXITS).expect(&rt, "a topology");
-    let external = is_external_right(alloc, &net).expect(&rt, "memory");
-    assert!(rt; external, "two exits");
-    assert!(rt; is_internal_right(alloc, &net), "any path to a router");
-    assert!(rt; is_dead_right(alloc, &net), "dead starts");
+    let from = FromSet::Named(set(0b1010));
+    let named = built(alloc, &net, 0b0001, false, Clause::Any, &from);
+    assert!(rt; is_right(&named, &NAMED_SOURCES), "named sources");
+    let dead = built(alloc, &net, 0b1100, true, Clause::Drop, &FromSet::Any);
+    assert!(rt; is_right(&dead, &DEAD_STARTS), "dead starts");
 }

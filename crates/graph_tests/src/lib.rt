@@ -1,14 +1,14 @@
-//! Graphs of cases, what is reached in them, relations, numbers, refusals and evidence, against small networks worked by hand.
+//! Graphs of cases, relations, numbers and refutations against small networks worked by hand.
 #![tactic(auto)]
 
 #[cfg(test)]
 mod building;
 #[cfg(test)]
-mod cases;
+mod drawing;
 #[cfg(test)]
-mod compiled;
+mod graphs;
 #[cfg(test)]
-mod reaching;
+mod refutations;
 #[cfg(test)]
 mod relations;
 #[cfg(test)]

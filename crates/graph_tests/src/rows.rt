@@ -1,138 +1,205 @@
 //! Graphs of small networks, worked by hand.
-use crate::cases::{answer, is_given};
-use samples::{CHAIN, RING, TWO_EXITS, TWO_SPINES};
-use std::test::Fail;
+use crate::drawing::{Drawing, is_drawn};
+use case_core::{CaseGraph, CompileRefusal, case_graph};
+use path_words::cases;
+use samples::{CHAIN, RING, TWO_EXITS, TWO_ROUTERS, TWO_SPINES, read};
+use std::alloc::Global;
+use std::process::Abort;
 
-// The nodes of a ring with two ways round: the middle has one node, its neighbours have two.
-#[test]
-fn a_detour_and_a_waypoint(rt: HostRuntime) -> Result<(), Fail> {
-    let alloc = rt.alloc();
-    let steps = [
-        (0, 1),
-        (0, 2),
-        (1, 3),
-        (2, 3),
-        (3, 4),
-        (3, 5),
-        (4, 3),
-        (5, 3),
-    ];
-    let avoided = [
-        (0, false, None),
-        (1, false, Some(1)),
-        (3, false, Some(1)),
-        (2, false, Some(2)),
-        (1, false, Some(2)),
-        (3, false, Some(2)),
-    ];
-    let detour = "originate 10.0.1.0/24 at D; 10.0.1.0/24 => avoid(X) >> any;";
-    assert!(rt; is_given(&answer(&rt, alloc, RING, detour, 1, 8), &avoided, &steps, 8));
-    let passed = [
-        (0, false, None),
-        (1, false, Some(2)),
-        (3, false, Some(2)),
-        (2, false, Some(1)),
-        (1, false, Some(1)),
-        (3, false, Some(1)),
-    ];
-    let waypoint = "originate 10.0.1.0/24 at D; 10.0.1.0/24 => through(X) >> any;";
-    assert!(rt;
-        is_given(
-            &answer(&rt, alloc, RING, waypoint, 1, 8),
-            &passed,
-            &steps,
-            8
-        )
-    );
-    Ok(())
+// A network and a policy, how many steps are built of its first case, and the graph of the case.
+struct Row {
+    name: &'static str,
+    topology: &'static [u8],
+    policy: &'static str,
+    built: u32,
+    graph: Drawing,
+}
+
+// The steps of a ring with two ways round: the middle has one node, its neighbours have two.
+const RING_STEPS: &[(u32, u32)] = &[
+    (0, 1),
+    (0, 2),
+    (1, 3),
+    (2, 3),
+    (3, 4),
+    (3, 5),
+    (4, 3),
+    (5, 3),
+];
+
+const ROWS: [Row; 8] = [
+    Row {
+        name: "two exits in order",
+        topology: TWO_EXITS,
+        policy: "true => exit(P1 >> P2);",
+        built: 6,
+        graph: Drawing {
+            nodes: &[
+                (2, false, None),
+                (3, false, None),
+                (0, false, Some(1)),
+                (1, false, Some(2)),
+                (1, false, Some(1)),
+                (0, false, Some(2)),
+            ],
+            starts: &[0, 1],
+            steps: &[(0, 2), (1, 3), (2, 4), (3, 5), (4, 2), (5, 3)],
+        },
+    },
+    Row {
+        name: "dropped paths",
+        topology: TWO_ROUTERS,
+        policy: "originate 10.0.1.0/24 at A; 10.0.1.0/24 => drop;",
+        built: 0,
+        graph: Drawing {
+            nodes: &[],
+            starts: &[],
+            steps: &[],
+        },
+    },
+    Row {
+        name: "a detour",
+        topology: RING,
+        policy: "originate 10.0.1.0/24 at D; 10.0.1.0/24 => avoid(X) >> any;",
+        built: 8,
+        graph: Drawing {
+            nodes: &[
+                (0, false, None),
+                (1, false, Some(1)),
+                (3, false, Some(1)),
+                (2, false, Some(2)),
+                (1, false, Some(2)),
+                (3, false, Some(2)),
+            ],
+            starts: &[0],
+            steps: RING_STEPS,
+        },
+    },
+    Row {
+        name: "a waypoint",
+        topology: RING,
+        policy: "originate 10.0.1.0/24 at D; 10.0.1.0/24 => through(X) >> any;",
+        built: 8,
+        graph: Drawing {
+            nodes: &[
+                (0, false, None),
+                (1, false, Some(2)),
+                (3, false, Some(2)),
+                (2, false, Some(1)),
+                (1, false, Some(1)),
+                (3, false, Some(1)),
+            ],
+            starts: &[0],
+            steps: RING_STEPS,
+        },
+    },
+    Row {
+        name: "a waypoint at the end",
+        topology: CHAIN,
+        policy: "originate 10.0.1.0/24 at D; 10.0.1.0/24 => through(W) >> any;",
+        built: 4,
+        graph: Drawing {
+            nodes: &[
+                (0, false, None),
+                (1, false, Some(2)),
+                (2, false, Some(1)),
+                (1, false, Some(1)),
+            ],
+            starts: &[0],
+            steps: &[(0, 1), (1, 2), (2, 3), (3, 2)],
+        },
+    },
+    Row {
+        name: "no way through the leaves: A1 has a node before a spine was passed and one after",
+        topology: TWO_SPINES,
+        policy: "originate 10.0.1.0/24 at T1; 10.0.1.0/24 => through(S1, S2) and notransit(T1, T3, T4) from T3, T4;",
+        built: 13,
+        graph: Drawing {
+            nodes: &[
+                (0, false, None),
+                (1, false, None),
+                (2, false, None),
+                (3, false, None),
+                (1, false, None),
+                (4, false, None),
+                (5, false, Some(1)),
+                (6, false, Some(1)),
+            ],
+            starts: &[0],
+            steps: &[
+                (0, 1),
+                (1, 2),
+                (1, 3),
+                (2, 4),
+                (2, 5),
+                (3, 4),
+                (3, 5),
+                (4, 2),
+                (4, 3),
+                (5, 2),
+                (5, 3),
+                (5, 6),
+                (5, 7),
+            ],
+        },
+    },
+    Row {
+        name: "two origins: no path goes over one, so the first has no node",
+        topology: CHAIN,
+        policy: "originate 10.0.5.0/24 at D, X; 10.0.5.0/24 => end(D >> X);",
+        built: 1,
+        graph: Drawing {
+            nodes: &[(1, false, None), (2, false, Some(2))],
+            starts: &[0],
+            steps: &[(0, 1)],
+        },
+    },
+    Row {
+        name: "the peer at the entry hears, and the other one is pruned",
+        topology: TWO_EXITS,
+        policy: "originate 10.0.1.0/24 at R2; 10.0.1.0/24 => enter(R1);",
+        built: 3,
+        graph: Drawing {
+            nodes: &[(1, false, None), (0, false, None), (2, true, Some(1))],
+            starts: &[0],
+            steps: &[(0, 1), (1, 2)],
+        },
+    },
+];
+
+// What is answered for the first case of the texts, with room for so many steps.
+fn answer(
+    rt: &impl Abort,
+    alloc: Global,
+    topology: &[u8],
+    policy: &str,
+    room: u32,
+) -> Result<CaseGraph, CompileRefusal> {
+    let (net, policy) = read(alloc, topology, policy).expect(rt, "texts that are read");
+    let cases = cases(alloc, &net, &policy)?;
+    assert!(rt; !cases.cases.as_slice().is_empty());
+    case_graph(alloc, &net, &policy, &cases, 1, room)
+}
+
+// Whether the case of a row has its graph where there is just room for what is built of it.
+fn is_row_right(rt: &impl Abort, alloc: Global, row: &Row) -> bool {
+    match answer(rt, alloc, row.topology, row.policy, row.built) {
+        Ok(given) => given.used == row.built && is_drawn(&given.graph, &row.graph),
+        Err(_) => false,
+    }
+}
+
+// The name of the first row that is wrong.
+fn wrong_row(rt: &impl Abort, alloc: Global) -> Option<&'static str> {
+    for row in &ROWS {
+        if !is_row_right(rt, alloc, row) {
+            return Some(row.name);
+        }
+    }
+    None
 }
 
 #[test]
-fn a_waypoint_at_the_end(rt: HostRuntime) -> Result<(), Fail> {
-    let alloc = rt.alloc();
-    let policy = "originate 10.0.1.0/24 at D; 10.0.1.0/24 => through(W) >> any;";
-    let nodes = [
-        (0, false, None),
-        (1, false, Some(2)),
-        (2, false, Some(1)),
-        (1, false, Some(1)),
-    ];
-    let steps = [(0, 1), (1, 2), (2, 3), (3, 2)];
-    assert!(rt; is_given(&answer(&rt, alloc, CHAIN, policy, 1, 4), &nodes, &steps, 4));
-    Ok(())
-}
-
-// A1 has two nodes: before a spine was passed and after.
-#[test]
-fn valley_free_paths(rt: HostRuntime) -> Result<(), Fail> {
-    let alloc = rt.alloc();
-    let policy =
-        "originate 10.0.1.0/24 at T1; 10.0.1.0/24 => through(S1, S2) and notransit(T1, T3, T4) from T3, T4;";
-    let nodes = [
-        (0, false, None),
-        (1, false, None),
-        (2, false, None),
-        (3, false, None),
-        (1, false, None),
-        (4, false, None),
-        (5, false, Some(1)),
-        (6, false, Some(1)),
-    ];
-    let steps = [
-        (0, 1),
-        (1, 2),
-        (1, 3),
-        (2, 4),
-        (2, 5),
-        (3, 4),
-        (3, 5),
-        (4, 2),
-        (4, 3),
-        (5, 2),
-        (5, 3),
-        (5, 6),
-        (5, 7),
-    ];
-    assert!(rt;
-        is_given(
-            &answer(&rt, alloc, TWO_SPINES, policy, 1, 13),
-            &nodes,
-            &steps,
-            13
-        )
-    );
-    Ok(())
-}
-
-// No path goes over an origin, so the first of the two origins has no node.
-#[test]
-fn two_origins(rt: HostRuntime) -> Result<(), Fail> {
-    let alloc = rt.alloc();
-    let policy = "originate 10.0.5.0/24 at D, X; 10.0.5.0/24 => end(D >> X);";
-    assert!(rt;
-        is_given(
-            &answer(&rt, alloc, CHAIN, policy, 1, 1),
-            &[(1, false, None), (2, false, Some(2))],
-            &[(0, 1)],
-            1
-        )
-    );
-    Ok(())
-}
-
-// The peer at the entry hears; the other one is pruned.
-#[test]
-fn an_entry(rt: HostRuntime) -> Result<(), Fail> {
-    let alloc = rt.alloc();
-    let policy = "originate 10.0.1.0/24 at R2; 10.0.1.0/24 => enter(R1);";
-    let nodes = [(1, false, None), (0, false, None), (2, true, Some(1))];
-    assert!(rt;
-        is_given(
-            &answer(&rt, alloc, TWO_EXITS, policy, 1, 3),
-            &nodes,
-            &[(0, 1), (1, 2)],
-            3
-        )
-    );
-    Ok(())
+fn graphs_of_small_networks(rt: HostRuntime) {
+    assert_eq!(rt; wrong_row(&rt, rt.alloc()), None);
 }

@@ -49,11 +49,18 @@ const ROWS: [(&str, &[u8], &str, &str); 5] = [
     ("brackets and lists", TWO_EXITS, BRACKETS, FEWER_BRACKETS),
 ];
 
+// The name of the first policy of which something else is printed.
+fn wrong_text(alloc: Global) -> Result<Option<&'static str>, NoMemory> {
+    for row in &ROWS {
+        if !prints(alloc, row.1, row.2, row.3)? {
+            return Ok(Some(row.0));
+        }
+    }
+    Ok(None)
+}
+
 #[test]
 fn policies_are_printed(rt: HostRuntime) -> Result<(), Fail> {
-    let alloc = rt.alloc();
-    for (name, topology, text, wanted) in ROWS {
-        assert!(rt; prints(alloc, topology, text, wanted)?, "{name}");
-    }
+    assert_eq!(rt; wrong_text(rt.alloc())?, None);
     Ok(())
 }

@@ -1,28 +1,37 @@
 //! Rows over the network of two routers with a peer each.
-use crate::lines::Line;
 use crate::rows::Row;
-use samples::TWO_EXITS;
+use samples::{ENTERED_CONFIG, TWO_EXITS, TWO_EXITS_CONFIG};
 
-/// R1 prefers the exit at P1 and reaches P2 over R2, and R2 the other way round.
-const EXIT_LINES: [Line; 10] = [
-    Line::Import(0, 1, 1, 2, 100),
-    Line::Import(0, 1, 2, 1, 101),
-    Line::Export(0, 1, 1),
-    Line::Export(0, 1, 2),
-    Line::Import(0, 2, 0, 1, 101),
-    Line::Import(1, 0, 1, 2, 101),
-    Line::Import(1, 0, 2, 1, 100),
-    Line::Export(1, 0, 1),
-    Line::Export(1, 0, 2),
-    Line::Import(1, 3, 0, 1, 100),
-];
+// Two exits, where each router also exports to its peer what came from P1.
+const EXPORTED_CONFIG: &str = "propane-config 1
+class 1 0.0.0.0/0 le 32
+router R1 asn 64512 id 10.255.0.1
+session R2 asn 64513
+import 1 tag 64513:1 set 64512:2 pref 100
+import 1 tag 64513:2 set 64512:1 pref 101
+export 1 tag 64512:1
+export 1 tag 64512:2
+peer P1 asn 1001
+import 1 set 64512:1 pref 101
+export 1 tag 64512:1
+end
+router R2 asn 64513 id 10.255.0.2
+session R1 asn 64512
+import 1 tag 64512:1 set 64513:2 pref 101
+import 1 tag 64512:2 set 64513:1 pref 100
+export 1 tag 64513:1
+export 1 tag 64513:2
+peer P2 asn 1002
+import 1 set 64513:1 pref 100
+export 1 tag 64513:2
+end
+";
 
-/// Two exits.
 const EXITS: Row = Row {
+    name: "two exits",
     topology: TWO_EXITS,
-    policy: b"true => exit(P1 >> P2);",
-    class: (b"0.0.0.0/0", 32),
-    lines: &EXIT_LINES,
+    policy: "true => exit(P1 >> P2);",
+    config: TWO_EXITS_CONFIG,
     prefix: b"198.51.100.0/24",
     dead: 0,
     dead_links: &[],
@@ -41,12 +50,11 @@ pub(crate) fn exits_row() -> Row {
     EXITS
 }
 
-/// Two exits, the preferred one silent.
 const SILENT_EXIT: Row = Row {
+    name: "two exits, the preferred one silent",
     topology: TWO_EXITS,
-    policy: b"true => exit(P1 >> P2);",
-    class: (b"0.0.0.0/0", 32),
-    lines: &EXIT_LINES,
+    policy: "true => exit(P1 >> P2);",
+    config: TWO_EXITS_CONFIG,
     prefix: b"198.51.100.0/24",
     dead: 0,
     dead_links: &[],
@@ -64,17 +72,11 @@ pub(crate) fn silent_exit_row() -> Row {
     SILENT_EXIT
 }
 
-/// R2 originates a prefix, which P1 hears of over R1.
 const ENTERED: Row = Row {
+    name: "r2 originates a prefix, which P1 hears of over R1",
     topology: TWO_EXITS,
-    policy: b"originate 10.0.1.0/24 at R2; 10.0.1.0/24 => enter(R1);",
-    class: (b"10.0.1.0/24", 24),
-    lines: &[
-        Line::Originate(1, 1),
-        Line::Export(1, 0, 1),
-        Line::Import(0, 1, 1, 1, 100),
-        Line::Export(0, 2, 1),
-    ],
+    policy: "originate 10.0.1.0/24 at R2; 10.0.1.0/24 => enter(R1);",
+    config: ENTERED_CONFIG,
     prefix: b"10.0.1.0/24",
     dead: 0,
     dead_links: &[],
@@ -92,25 +94,11 @@ pub(crate) fn entered_row() -> Row {
     ENTERED
 }
 
-/// The row of two exits, with lines that export to the peers what came from P1.
 const EXPORTED: Row = Row {
+    name: "the row of two exits, with lines that export to the peers what came from P1",
     topology: TWO_EXITS,
-    policy: b"true => exit(P1 >> P2);",
-    class: (b"0.0.0.0/0", 32),
-    lines: &[
-        Line::Import(0, 1, 1, 2, 100),
-        Line::Import(0, 1, 2, 1, 101),
-        Line::Export(0, 1, 1),
-        Line::Export(0, 1, 2),
-        Line::Import(0, 2, 0, 1, 101),
-        Line::Export(0, 2, 1),
-        Line::Import(1, 0, 1, 2, 101),
-        Line::Import(1, 0, 2, 1, 100),
-        Line::Export(1, 0, 1),
-        Line::Export(1, 0, 2),
-        Line::Import(1, 3, 0, 1, 100),
-        Line::Export(1, 3, 2),
-    ],
+    policy: "true => exit(P1 >> P2);",
+    config: EXPORTED_CONFIG,
     prefix: b"198.51.100.0/24",
     dead: 0,
     dead_links: &[],

@@ -4,14 +4,12 @@
 #[cfg(test)]
 mod exit_rows;
 #[cfg(test)]
-mod lawful;
-#[cfg(test)]
 mod line_tests;
-#[cfg(test)]
-mod lines;
 #[cfg(test)]
 mod rows;
 #[cfg(test)]
 mod setting;
 #[cfg(test)]
 mod tests;
+#[cfg(test)]
+mod values;

@@ -1,14 +1,19 @@
 //! What single lines say, and what is given, offered and left alive.
 use crate::exit_rows::{entered_row, exits_row, exported_row};
-use crate::lines::{Held, Line, config, outcome, path, route, scenario, tag};
-use crate::setting::{Setting, pattern, prefix, set_up};
+use crate::setting::{Setting, config_of, prefix_of, set_up};
+use crate::values::{Held, outcome, path, route, scenario, tag};
 use config_base::{Config, Route, class_of, export_of, import_of, own_tag};
-use net_base::{List, Loc, Pattern, Prefix, read_prefix};
+use net_base::{List, Loc, Prefix, read_prefix};
 use outside::NoMemory;
 use stable_paths::{Outcome, Scenario, is_given, is_live, is_offered, survives};
 use std::alloc::Global;
 
-// Prefixes, and their classes where the first class has 10.0.0.0/8 up to 16 and the second up to 24.
+const TWO_CLASSES: &str = "propane-config 1
+class 1 10.0.0.0/8 le 16
+class 2 10.0.0.0/8 le 16, 10.0.0.0/8 le 24
+";
+
+// Prefixes and their classes.
 const CLASSES: [(&[u8], Option<u32>); 5] = [
     (b"10.0.0.0/8", Some(1)),
     (b"10.1.0.0/16", Some(1)),
@@ -16,16 +21,6 @@ const CLASSES: [(&[u8], Option<u32>); 5] = [
     (b"10.1.1.4/30", None),
     (b"11.0.0.0/8", None),
 ];
-
-fn two_classes(
-    alloc: Global,
-    short: Pattern,
-    long: Pattern,
-) -> Result<Vec<List<Pattern>>, NoMemory> {
-    let first = vec![in alloc; short]?;
-    let second = vec![in alloc; short, long]?;
-    Ok(vec![in alloc; List::from_vec(first), List::from_vec(second)]?)
-}
 
 fn wrong_class(config: &Config) -> Option<usize> {
     CLASSES.iter().position(|row| match read_prefix(row.0) {
@@ -36,19 +31,14 @@ fn wrong_class(config: &Config) -> Option<usize> {
 
 #[test]
 fn classes_go_by_first_match(rt: HostRuntime) {
-    let alloc = rt.alloc();
-    let setting = set_up(&rt, alloc, exits_row());
-    let short = pattern(&rt, b"10.0.0.0/8", 16);
-    let long = pattern(&rt, b"10.0.0.0/8", 24);
-    let classes = two_classes(alloc, short, long).expect(&rt, "memory");
-    let none: [Line; 0] = [];
-    let config = config(alloc, &setting.net, classes, short.base(), &none).expect(&rt, "memory");
-    let config = config.expect(&rt, "a configuration");
+    let config = config_of(&rt, rt.alloc(), TWO_CLASSES);
     assert!(rt; wrong_class(&config).is_none());
 }
 
 // A class, a router, a neighbour and the value of the router's tag, and the value that goes out.
-const EXPORTS: [(u32, u16, u16, u32, Option<u32>); 6] = [
+type Sent = (u32, u16, u16, u32, Option<u32>);
+
+const EXPORTS: [Sent; 6] = [
     (1, 1, 0, 1, Some(1)),
     (1, 0, 2, 1, Some(0)),
     (1, 0, 2, 2, None),
@@ -57,8 +47,8 @@ const EXPORTS: [(u32, u16, u16, u32, Option<u32>); 6] = [
     (1, 0, 1, 1, None),
 ];
 
-fn wrong_export(alloc: Global, setting: &Setting) -> Option<usize> {
-    EXPORTS.iter().position(|row| {
+fn wrong_export(alloc: Global, setting: &Setting, rows: &[Sent]) -> Option<usize> {
+    rows.iter().position(|row| {
         let (from, to) = (Loc::new(row.1), Loc::new(row.2));
         let held = Route {
             path: List::new(alloc),
@@ -76,7 +66,16 @@ fn wrong_export(alloc: Global, setting: &Setting) -> Option<usize> {
 
 // A class, a router, a neighbour, the path that begins with it, whose tag comes with it and its value, and what
 // becomes of them.
-const IMPORTS: [(u32, u16, u16, &[u16], (u16, u32), Option<(u32, u32)>); 12] = [
+type Read = (
+    u32,
+    u16,
+    u16,
+    &'static [u16],
+    (u16, u32),
+    Option<(u32, u32)>,
+);
+
+const IMPORTS: [Read; 12] = [
     (1, 0, 1, &[1, 3], (1, 1), Some((2, 100))),
     (1, 0, 1, &[1, 3], (1, 2), Some((1, 101))),
     (1, 0, 1, &[1, 3], (1, 3), None),
@@ -91,9 +90,13 @@ const IMPORTS: [(u32, u16, u16, &[u16], (u16, u32), Option<(u32, u32)>); 12] = [
     (1, 1, 3, &[3], (3, 0), Some((1, 100))),
 ];
 
-fn wrong_import(alloc: Global, setting: &Setting) -> Result<Option<usize>, NoMemory> {
-    for i in 0..12 {
-        let (class, at, from, numbers, sent, wanted) = IMPORTS[i];
+fn wrong_import(
+    alloc: Global,
+    setting: &Setting,
+    rows: &[Read],
+) -> Result<Option<usize>, NoMemory> {
+    for i in 0..rows.len() {
+        let (class, at, from, numbers, sent, wanted) = rows[i];
         let path = path(alloc, numbers)?;
         let (router, neighbour) = (Loc::new(at), Loc::new(from));
         let tag_sent = tag(sent.0, sent.1);
@@ -122,17 +125,16 @@ fn are_own_tags_right(setting: &Setting, named: Prefix, other: Prefix) -> bool {
 fn own_tags_and_exports_by_hand(rt: HostRuntime) {
     let alloc = rt.alloc();
     let setting = set_up(&rt, alloc, entered_row());
-    assert!(rt; wrong_export(alloc, &setting).is_none());
-    let named = prefix(&rt, setting.row.prefix);
-    let other = prefix(&rt, b"10.0.2.0/24");
-    assert!(rt; are_own_tags_right(&setting, named, other));
+    assert!(rt; wrong_export(alloc, &setting, &EXPORTS).is_none());
+    let other = prefix_of(&rt, b"10.0.2.0/24");
+    assert!(rt; are_own_tags_right(&setting, setting.scenario.prefix, other));
 }
 
 #[test]
 fn imports_by_hand(rt: HostRuntime) {
     let alloc = rt.alloc();
     let setting = set_up(&rt, alloc, exits_row());
-    let wrong = wrong_import(alloc, &setting).expect(&rt, "memory");
+    let wrong = wrong_import(alloc, &setting, &IMPORTS).expect(&rt, "memory");
     assert!(rt; wrong.is_none());
 }
 
@@ -210,7 +212,9 @@ fn a_peer_on_the_path_is_offered_nothing(rt: HostRuntime) {
 }
 
 // A neighbour, a router and a route, and whether the one gives it to the other.
-const GIVEN: [(u16, u16, Held, bool); 7] = [
+type Gift = (u16, u16, Held, bool);
+
+const GIVEN: [Gift; 7] = [
     (0, 1, Some((&[1, 0, 2], 2, 101)), true),
     (0, 1, Some((&[1, 0, 2], 1, 101)), false),
     (0, 1, Some((&[1, 0, 2], 2, 100)), false),
@@ -224,9 +228,10 @@ fn wrong_given(
     alloc: Global,
     setting: &Setting,
     outcome: &Outcome,
+    rows: &[Gift],
 ) -> Result<Option<usize>, NoMemory> {
-    for i in 0..7 {
-        let (from, to, held, wanted) = GIVEN[i];
+    for i in 0..rows.len() {
+        let (from, to, held, wanted) = rows[i];
         let Some(route) = route(alloc, to, held)? else {
             return Ok(Some(i));
         };
@@ -241,7 +246,9 @@ fn wrong_given(
 }
 
 // Paths, and whether they survive where the link R1-R2 is dead and the session R1-P1 silent, and where P2 is dead.
-const SURVIVORS: [(&[u16], bool, bool); 7] = [
+type Survivor = (&'static [u16], bool, bool);
+
+const SURVIVORS: [Survivor; 7] = [
     (&[], true, true),
     (&[3], true, false),
     (&[0, 2], false, true),
@@ -256,9 +263,10 @@ fn wrong_survivor(
     setting: &Setting,
     cut: &Scenario,
     dead: &Scenario,
+    rows: &[Survivor],
 ) -> Result<Option<usize>, NoMemory> {
-    for i in 0..7 {
-        let (numbers, after_cut, after_death) = SURVIVORS[i];
+    for i in 0..rows.len() {
+        let (numbers, after_cut, after_death) = rows[i];
         let path = path(alloc, numbers)?;
         if survives(&setting.net, cut, &path) != after_cut
             || survives(&setting.net, dead, &path) != after_death
@@ -289,7 +297,7 @@ fn routes_that_are_given_by_hand(rt: HostRuntime) {
     let alloc = rt.alloc();
     let setting = set_up(&rt, alloc, exits_row());
     let routes = outcome(alloc, setting.row.settled, None).expect(&rt, "memory");
-    let wrong = wrong_given(alloc, &setting, &routes).expect(&rt, "memory");
+    let wrong = wrong_given(alloc, &setting, &routes, &GIVEN).expect(&rt, "memory");
     assert!(rt; wrong.is_none());
 }
 
@@ -301,7 +309,7 @@ fn wrong_failures(
     let prefix = setting.scenario.prefix;
     let cut = scenario(alloc, prefix, 0, &[(1, 0)], &[(0, 2)])?;
     let dead = scenario(alloc, prefix, 0b1000, &[], &[])?;
-    let path = wrong_survivor(alloc, setting, &cut, &dead)?;
+    let path = wrong_survivor(alloc, setting, &cut, &dead, &SURVIVORS)?;
     Ok((path, wrong_live(setting, &cut, &dead)))
 }
 

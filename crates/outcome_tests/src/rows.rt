@@ -1,18 +1,20 @@
 //! Networks under failures, with the routes that their routers settle on. A row is a constant, and a function
 //! gives it, so that proofs of what uses it don't read it.
 use crate::exit_rows::{entered_row, exits_row, exported_row, silent_exit_row};
-use crate::lines::{Held, Line};
-use samples::{LINE, RING, TRIANGLE, TWO_ROUTERS, TWO_SPINES, TWO_WAYS};
+use crate::values::Held;
+use samples::{
+    LINE, LINE_CONFIG, RING, RING_CONFIG, TRIANGLE, TRIANGLE_CONFIG, TWO_ROUTERS,
+    TWO_ROUTERS_CONFIG, TWO_SPINES, TWO_SPINES_CONFIG, TWO_WAYS, TWO_WAYS_CONFIG,
+};
 
 /// A network with a policy, its configuration and failures; the routes that the routers settle on; and single
 /// routes in whose place the outcome isn't stable. Locations go by their numbers.
 #[derive(Clone, Copy)]
 pub(crate) struct Row {
+    pub(crate) name: &'static str,
     pub(crate) topology: &'static [u8],
-    pub(crate) policy: &'static [u8],
-    /// The one class: a prefix, and the greatest length in it.
-    pub(crate) class: (&'static [u8], u8),
-    pub(crate) lines: &'static [Line],
+    pub(crate) policy: &'static str,
+    pub(crate) config: &'static str,
     pub(crate) prefix: &'static [u8],
     /// Dead locations, as bits.
     pub(crate) dead: u64,
@@ -22,26 +24,13 @@ pub(crate) struct Row {
     pub(crate) unstable: &'static [(u16, Held)],
 }
 
-const ANY_FROM_A: &[u8] = b"originate 10.0.1.0/24 at A; 10.0.1.0/24 => any;";
+const ANY_FROM_A: &str = "originate 10.0.1.0/24 at A; 10.0.1.0/24 => any;";
 
-const TRIANGLE_LINES: [Line; 9] = [
-    Line::Originate(0, 1),
-    Line::Export(0, 1, 1),
-    Line::Export(0, 2, 1),
-    Line::Import(1, 0, 1, 1, 100),
-    Line::Import(1, 2, 1, 1, 100),
-    Line::Export(1, 2, 1),
-    Line::Import(2, 0, 1, 1, 100),
-    Line::Import(2, 1, 1, 1, 100),
-    Line::Export(2, 1, 1),
-];
-
-/// A triangle with a dead link.
 const DEAD_LINK: Row = Row {
+    name: "a triangle with a dead link",
     topology: TRIANGLE,
     policy: ANY_FROM_A,
-    class: (b"10.0.1.0/24", 24),
-    lines: &TRIANGLE_LINES,
+    config: TRIANGLE_CONFIG,
     prefix: b"10.0.1.0/24",
     dead: 0,
     dead_links: &[(2, 0)],
@@ -68,12 +57,11 @@ fn dead_link_row() -> Row {
     DEAD_LINK
 }
 
-/// A triangle without failures, in which C takes the longer of two routes with one preference.
 const TIE: Row = Row {
+    name: "a tie, where C takes the longer of two routes with one preference",
     topology: TRIANGLE,
     policy: ANY_FROM_A,
-    class: (b"10.0.1.0/24", 24),
-    lines: &TRIANGLE_LINES,
+    config: TRIANGLE_CONFIG,
     prefix: b"10.0.1.0/24",
     dead: 0,
     dead_links: &[],
@@ -90,12 +78,11 @@ fn tie_row() -> Row {
     TIE
 }
 
-/// A triangle with its origin dead.
 const DEAD_ORIGIN: Row = Row {
+    name: "a triangle with its origin dead",
     topology: TRIANGLE,
     policy: ANY_FROM_A,
-    class: (b"10.0.1.0/24", 24),
-    lines: &TRIANGLE_LINES,
+    config: TRIANGLE_CONFIG,
     prefix: b"10.0.1.0/24",
     dead: 0b1,
     dead_links: &[],
@@ -108,30 +95,11 @@ fn dead_origin_row() -> Row {
     DEAD_ORIGIN
 }
 
-/// A detour that is ranked second.
 const RANKED_DETOUR: Row = Row {
+    name: "a detour that is ranked second",
     topology: RING,
-    policy: b"originate 10.0.1.0/24 at D; 10.0.1.0/24 => avoid(X) >> any;",
-    class: (b"10.0.1.0/24", 24),
-    lines: &[
-        Line::Originate(0, 1),
-        Line::Export(0, 1, 1),
-        Line::Export(0, 3, 1),
-        Line::Import(1, 0, 1, 1, 101),
-        Line::Import(1, 2, 1, 2, 100),
-        Line::Export(1, 2, 1),
-        Line::Export(1, 2, 2),
-        Line::Import(2, 1, 1, 1, 100),
-        Line::Import(2, 1, 2, 1, 100),
-        Line::Import(2, 3, 1, 1, 100),
-        Line::Import(2, 3, 2, 1, 100),
-        Line::Export(2, 1, 1),
-        Line::Export(2, 3, 1),
-        Line::Import(3, 0, 1, 1, 101),
-        Line::Import(3, 2, 1, 2, 100),
-        Line::Export(3, 2, 1),
-        Line::Export(3, 2, 2),
-    ],
+    policy: "originate 10.0.1.0/24 at D; 10.0.1.0/24 => avoid(X) >> any;",
+    config: RING_CONFIG,
     prefix: b"10.0.1.0/24",
     dead: 0,
     dead_links: &[(0, 1)],
@@ -157,24 +125,11 @@ fn ranked_detour_row() -> Row {
     RANKED_DETOUR
 }
 
-/// A fallback path that is ranked second.
 const RANKED_FALLBACK: Row = Row {
+    name: "a fallback path that is ranked second",
     topology: TWO_WAYS,
-    policy: b"originate 10.0.1.0/24 at D; 10.0.1.0/24 => path(A, B, C, D) >> path(A, E, D) from A;",
-    class: (b"10.0.1.0/24", 24),
-    lines: &[
-        Line::Originate(3, 1),
-        Line::Export(3, 2, 1),
-        Line::Export(3, 4, 1),
-        Line::Import(2, 3, 1, 1, 100),
-        Line::Export(2, 1, 1),
-        Line::Import(1, 2, 1, 1, 100),
-        Line::Export(1, 0, 1),
-        Line::Import(4, 3, 1, 1, 100),
-        Line::Export(4, 0, 1),
-        Line::Import(0, 1, 1, 2, 101),
-        Line::Import(0, 4, 1, 1, 100),
-    ],
+    policy: "originate 10.0.1.0/24 at D; 10.0.1.0/24 => path(A, B, C, D) >> path(A, E, D) from A;",
+    config: TWO_WAYS_CONFIG,
     prefix: b"10.0.1.0/24",
     dead: 0,
     dead_links: &[(1, 2)],
@@ -200,16 +155,11 @@ fn ranked_fallback_row() -> Row {
     RANKED_FALLBACK
 }
 
-/// A prefix that nothing governs.
 const UNGOVERNED: Row = Row {
+    name: "a prefix that nothing governs",
     topology: TWO_ROUTERS,
-    policy: b"originate 10.0.1.0/24 at A; originate 10.0.9.0/24 at A; 10.0.1.0/24 => any;",
-    class: (b"10.0.1.0/24", 24),
-    lines: &[
-        Line::Originate(0, 1),
-        Line::Export(0, 1, 1),
-        Line::Import(1, 0, 1, 1, 100),
-    ],
+    policy: "originate 10.0.1.0/24 at A; originate 10.0.9.0/24 at A; 10.0.1.0/24 => any;",
+    config: TWO_ROUTERS_CONFIG,
     prefix: b"10.0.9.0/24",
     dead: 0,
     dead_links: &[],
@@ -226,37 +176,12 @@ fn ungoverned_row() -> Row {
     UNGOVERNED
 }
 
-/// The valley-free policy with a dead router.
 const DEAD_SPINE: Row = Row {
+    name: "the valley-free policy with a dead router",
     topology: TWO_SPINES,
-    policy: b"originate 10.0.1.0/24 at T1;
+    policy: "originate 10.0.1.0/24 at T1;
 10.0.1.0/24 => through(S1, S2) and notransit(T1, T3, T4) from T3, T4;",
-    class: (b"10.0.1.0/24", 24),
-    lines: &[
-        Line::Originate(0, 1),
-        Line::Export(0, 1, 1),
-        Line::Import(1, 0, 1, 1, 100),
-        Line::Import(1, 2, 1, 1, 100),
-        Line::Import(1, 3, 1, 1, 100),
-        Line::Export(1, 2, 1),
-        Line::Export(1, 3, 1),
-        Line::Import(2, 1, 1, 1, 100),
-        Line::Import(2, 4, 1, 1, 100),
-        Line::Export(2, 1, 1),
-        Line::Export(2, 4, 1),
-        Line::Import(3, 1, 1, 1, 100),
-        Line::Import(3, 4, 1, 1, 100),
-        Line::Export(3, 1, 1),
-        Line::Export(3, 4, 1),
-        Line::Import(4, 2, 1, 1, 100),
-        Line::Import(4, 3, 1, 1, 100),
-        Line::Export(4, 2, 1),
-        Line::Export(4, 3, 1),
-        Line::Export(4, 5, 1),
-        Line::Export(4, 6, 1),
-        Line::Import(5, 4, 1, 1, 100),
-        Line::Import(6, 4, 1, 1, 100),
-    ],
+    config: TWO_SPINES_CONFIG,
     prefix: b"10.0.1.0/24",
     dead: 0b100,
     dead_links: &[],
@@ -286,16 +211,11 @@ fn dead_spine_row() -> Row {
     DEAD_SPINE
 }
 
-/// Two origins, of which one announces.
 const SEVERAL_ORIGINS: Row = Row {
+    name: "two origins, of which one announces",
     topology: LINE,
-    policy: b"originate 10.0.5.0/24 at A, D; 10.0.5.0/24 => end(A >> D);",
-    class: (b"10.0.5.0/24", 24),
-    lines: &[
-        Line::Originate(1, 1),
-        Line::Export(1, 2, 1),
-        Line::Import(2, 1, 1, 1, 100),
-    ],
+    policy: "originate 10.0.5.0/24 at A, D; 10.0.5.0/24 => end(A >> D);",
+    config: LINE_CONFIG,
     prefix: b"10.0.5.0/24",
     dead: 0,
     dead_links: &[],

@@ -1,14 +1,14 @@
 //! What a row says, as values.
-use crate::lines::{config, scenario};
 use crate::rows::Row;
+use crate::values::scenario;
 use config_base::Config;
-use net_base::{List, Net, Pattern, Prefix, read_prefix};
+use config_reader::read_config;
+use net_base::{Net, Prefix, read_prefix};
 use path_words::Policy;
-use policy_parser::read_policy;
+use samples::read;
 use stable_paths::Scenario;
 use std::alloc::Global;
 use std::process::Abort;
-use topology::read_topology;
 
 /// A row with its network, policy, configuration and scenario.
 #[derive(Drop)]
@@ -20,33 +20,22 @@ pub(crate) struct Setting {
     pub(crate) scenario: Scenario,
 }
 
-pub(crate) fn prefix(rt: &impl Abort, text: &[u8]) -> Prefix {
+pub(crate) fn prefix_of(rt: &impl Abort, text: &[u8]) -> Prefix {
     read_prefix(text).expect(rt, "a prefix")
 }
 
-/// The prefixes in this one, up to a length.
-pub(crate) fn pattern(rt: &impl Abort, text: &[u8], upto: u8) -> Pattern {
-    let base = prefix(rt, text);
-    assert!(rt; base.len() <= upto && upto <= 32, "a pattern");
-    Pattern::new(base, upto)
+pub(crate) fn config_of(rt: &impl Abort, alloc: Global, text: &str) -> Config {
+    assert!(rt; text.len() < 65536, "a short configuration");
+    read_config(alloc, text.as_bytes())
+        .ok()
+        .expect(rt, "a configuration")
 }
 
 /// The values of a row.
 pub(crate) fn set_up(rt: &impl Abort, alloc: Global, row: Row) -> Setting {
-    let Ok(net) = read_topology(alloc, row.topology) else {
-        panic!(rt; "a network");
-    };
-    assert!(rt; row.policy.len() < 65536, "a short policy");
-    let Ok(policy) = read_policy(alloc, row.policy, &net) else {
-        panic!(rt; "a policy");
-    };
-    let prefix = prefix(rt, row.prefix);
-    let pattern = pattern(rt, row.class.0, row.class.1);
-    let patterns = vec![in alloc; pattern].expect(rt, "memory");
-    let classes = vec![in alloc; List::from_vec(patterns)].expect(rt, "memory");
-    let config = config(alloc, &net, classes, prefix, row.lines)
-        .expect(rt, "memory")
-        .expect(rt, "a configuration");
+    let (net, policy) = read(alloc, row.topology, row.policy).expect(rt, "texts that are read");
+    let config = config_of(rt, alloc, row.config);
+    let prefix = prefix_of(rt, row.prefix);
     let scenario = scenario(alloc, prefix, row.dead, row.dead_links, row.silent).expect(
         rt, "memory",
     );

@@ -1,10 +1,11 @@
 //! The outcomes of the rows.
-use crate::lines::{Held, outcome};
-use crate::rows::{COUNT, nth_row};
+use crate::rows::{COUNT, Row, nth_row};
 use crate::setting::{Setting, set_up};
+use crate::values::{Held, outcome};
 use outside::NoMemory;
 use stable_paths::is_stable;
 use std::alloc::Global;
+use std::process::Abort;
 
 // Whether the routes of a row are stable, where one router may hold something else.
 fn settles(alloc: Global, setting: &Setting, other: Option<(u16, Held)>) -> Result<bool, NoMemory> {
@@ -18,28 +19,34 @@ fn settles(alloc: Global, setting: &Setting, other: Option<(u16, Held)>) -> Resu
     ))
 }
 
-// The first single change of a row that is taken for stable.
-fn wrong_change(alloc: Global, setting: &Setting) -> Result<Option<usize>, NoMemory> {
-    let changes = setting.row.unstable;
-    for i in 0..changes.len() {
-        if settles(alloc, setting, Some(changes[i]))? {
-            return Ok(Some(i));
+// Whether a row's routes are stable, and no single change of them is.
+fn is_right(alloc: Global, setting: &Setting) -> Result<bool, NoMemory> {
+    for change in setting.row.unstable {
+        if settles(alloc, setting, Some(*change))? {
+            return Ok(false);
+        }
+    }
+    settles(alloc, setting, None)
+}
+
+fn is_row_right(rt: &impl Abort, alloc: Global, row: Row) -> Result<bool, NoMemory> {
+    let setting = set_up(rt, alloc, row);
+    is_right(alloc, &setting)
+}
+
+// The name of the first row that is wrong.
+fn wrong_row(rt: &impl Abort, alloc: Global) -> Result<Option<&'static str>, NoMemory> {
+    for number in 0..COUNT {
+        let row = nth_row(number);
+        if !is_row_right(rt, alloc, row)? {
+            return Ok(Some(row.name));
         }
     }
     Ok(None)
 }
 
-// Whether a row's routes are stable, and no single change of them is.
-fn is_right(alloc: Global, setting: &Setting) -> Result<bool, NoMemory> {
-    Ok(settles(alloc, setting, None)? && wrong_change(alloc, setting)?.is_none())
-}
-
 #[test]
 fn rows_settle_on_their_routes_alone(rt: HostRuntime) {
-    let alloc = rt.alloc();
-    for number in 0..COUNT {
-        let setting = set_up(&rt, alloc, nth_row(number));
-        let right = is_right(alloc, &setting).expect(&rt, "memory");
-        assert!(rt; right, "row {number}");
-    }
+    let wrong = wrong_row(&rt, rt.alloc()).expect(&rt, "memory");
+    assert_eq!(rt; wrong, None);
 }

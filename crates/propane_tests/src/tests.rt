@@ -1,29 +1,18 @@
+mod checked;
 mod compiled;
 mod limits;
+mod memory;
 mod policies;
 mod refused;
 mod topologies;
 
 use outside::{CountSink, MemInputs, MemSink, NoMemory};
 use propane_run::{Status, run};
-use samples::TWO_ROUTERS;
+use samples::{TWO_ROUTERS, TWO_ROUTERS_CONFIG, TWO_ROUTERS_EVIDENCE};
 use std::alloc::Global;
 use std::test::Fail;
 
 const ANY_PATH: &[u8] = b"originate 10.0.1.0/24 at A; 10.0.1.0/24 => any;";
-
-const CONFIG: &[u8] = b"propane-config 1
-class 1 10.0.1.0/24
-router A asn 64512 id 10.255.0.1
-originate 1 10.0.1.0/24 tag 64512:1
-session B asn 64513
-export 1 tag 64512:1
-end
-router B asn 64513 id 10.255.0.2
-session A asn 64512
-import 1 tag 64512:1 set 64513:1 pref 100
-end
-";
 
 // The words of a command.
 fn words_of(alloc: Global, words: &[&str]) -> Result<Vec<String>, NoMemory> {
@@ -42,26 +31,48 @@ fn inputs_of(alloc: Global, topology: &[u8], policy: &[u8]) -> Result<MemInputs,
     Ok(inputs)
 }
 
-// One run of `compile` over memory: its status, and whether it wrote these bytes.
+// One run over two texts, where these calls of the inputs, of `out` and of `err` fail (none is numbered 0): whether it
+// ends with this status, and `out` and `err` took these bytes.
+fn ends(
+    alloc: Global,
+    words: &[&str],
+    texts: (&[u8], &[u8]),
+    fails: (u64, u64, u64),
+    status: Status,
+    wanted: (&str, &str),
+) -> Result<bool, NoMemory> {
+    let words = words_of(alloc, words)?;
+    let mut inputs = inputs_of(alloc, texts.0, texts.1)?;
+    inputs.fail(fails.0)?;
+    let mut out = MemSink::new(alloc, 4096, 7)?;
+    out.fail(fails.1)?;
+    let mut err = MemSink::new(alloc, 4096, 100)?;
+    err.fail(fails.2)?;
+    let ended = run(alloc, &words, &mut inputs, &mut out, &mut err);
+    Ok(ended == status && out.taken() == wanted.0.as_bytes() && err.taken() == wanted.1.as_bytes())
+}
+
+// One run of `compile`: whether it ends with this status, and `out` and `err` took these bytes.
 fn compiles(
     alloc: Global,
     topology: &[u8],
     policy: &[u8],
-    wanted: Status,
-    out_wanted: &[u8],
-    err_wanted: &[u8],
+    status: Status,
+    wanted: (&str, &str),
 ) -> Result<bool, NoMemory> {
-    let words = words_of(alloc, &["compile", "t.json", "p.propane"])?;
-    let mut inputs = inputs_of(alloc, topology, policy)?;
-    let mut out = MemSink::new(alloc, 4096, 100)?;
-    let mut err = MemSink::new(alloc, 4096, 7)?;
-    let status = run(alloc, &words, &mut inputs, &mut out, &mut err);
-    Ok(status == wanted && out.taken() == out_wanted && err.taken() == err_wanted)
+    ends(
+        alloc,
+        COMPILE,
+        (topology, policy),
+        (0, 0, 0),
+        status,
+        wanted,
+    )
 }
 
 // Whether both texts are lawful: the policy is compiled or refused.
 fn is_lawful(alloc: Global, topology: &[u8], policy: &[u8]) -> Result<bool, NoMemory> {
-    let words = words_of(alloc, &["compile", "t.json", "p.propane"])?;
+    let words = words_of(alloc, COMPILE)?;
     let mut inputs = inputs_of(alloc, topology, policy)?;
     let mut out = CountSink::new();
     let mut err = CountSink::new();
@@ -69,145 +80,143 @@ fn is_lawful(alloc: Global, topology: &[u8], policy: &[u8]) -> Result<bool, NoMe
     Ok(matches!(status, Status::Done | Status::Refused))
 }
 
-// One run of `compile` that ends with BadInput: whether it told this line and wrote nothing.
-fn refuses(alloc: Global, topology: &[u8], policy: &[u8], line: &[u8]) -> Result<bool, NoMemory> {
-    compiles(alloc, topology, policy, Status::BadInput, b"", line)
+// Whether a run of `compile` ends with BadInput and this line; or, where the line is empty, whether the texts are lawful.
+fn tells(alloc: Global, topology: &[u8], policy: &[u8], line: &str) -> Result<bool, NoMemory> {
+    if line.is_empty() {
+        return is_lawful(alloc, topology, policy);
+    }
+    compiles(alloc, topology, policy, Status::BadInput, ("", line))
 }
 
 const COMPILE: &[&str] = &["compile", "t.json", "p.propane"];
 
-const USAGE: &[u8] = b"propane: usage: compile TOPO POLICY\n";
+const USAGE: &str =
+    "propane: usage: compile TOPO POLICY, evidence TOPO POLICY, check TOPO POLICY CONFIG EVIDENCE
+";
 
-// One run: its words, the calls of the inputs, of `out` and of `err` that fail (none is numbered 0), the status and its
-// number, and what `out` and `err` took.
+// One run: its words, the calls that fail, the status, and what `out` and `err` took.
 type Row = (
     &'static str,
     &'static [&'static str],
     (u64, u64, u64),
-    (Status, u8),
-    (&'static [u8], &'static [u8]),
+    Status,
+    (&'static str, &'static str),
 );
 
-const ENDS: [Row; 12] = [
+const ENDS: [Row; 13] = [
     (
         "two routers compile",
         COMPILE,
         (0, 0, 0),
-        (Status::Done, 0),
-        (CONFIG, b""),
+        Status::Done,
+        (TWO_ROUTERS_CONFIG, ""),
+    ),
+    (
+        "the evidence for what they compile",
+        &["evidence", "t.json", "p.propane"],
+        (0, 0, 0),
+        Status::Done,
+        (TWO_ROUTERS_EVIDENCE, ""),
     ),
     (
         "each name is read once",
         COMPILE,
         (3, 0, 0),
-        (Status::Done, 0),
-        (CONFIG, b""),
+        Status::Done,
+        (TWO_ROUTERS_CONFIG, ""),
     ),
     (
         "one word is missing",
         &["compile", "t.json"],
         (0, 0, 0),
-        (Status::Usage, 2),
-        (b"", USAGE),
+        Status::Usage,
+        ("", USAGE),
     ),
     (
         "another command",
         &["compiles", "t.json", "p.propane"],
         (0, 0, 0),
-        (Status::Usage, 2),
-        (b"", USAGE),
+        Status::Usage,
+        ("", USAGE),
     ),
     (
         "the names are exchanged",
         &["compile", "p.propane", "t.json"],
         (0, 0, 0),
-        (Status::BadInput, 3),
-        (b"", b"propane: topology 1 not-json\n"),
+        Status::BadInput,
+        ("", "propane: topology 1 not-json\n"),
     ),
     (
         "the first name can't be read",
         COMPILE,
         (1, 0, 0),
-        (Status::ReadFault, 4),
-        (b"", b"propane: cannot read t.json\n"),
+        Status::ReadFault,
+        ("", "propane: cannot read t.json\n"),
     ),
     (
         "the second name can't be read",
         COMPILE,
         (2, 0, 0),
-        (Status::ReadFault, 4),
-        (b"", b"propane: cannot read p.propane\n"),
+        Status::ReadFault,
+        ("", "propane: cannot read p.propane\n"),
     ),
     (
         "a name that isn't held",
         &["compile", "t.json", "absent"],
         (0, 0, 0),
-        (Status::ReadFault, 4),
-        (b"", b"propane: cannot read absent\n"),
+        Status::ReadFault,
+        ("", "propane: cannot read absent\n"),
     ),
     (
         "the output fails at its second write",
         COMPILE,
         (0, 2, 0),
-        (Status::WriteFault, 5),
-        (b"propane", b""),
+        Status::WriteFault,
+        ("propane", ""),
     ),
     (
         "the error output fails",
         &["compile"],
         (0, 0, 1),
-        (Status::WriteFault, 5),
-        (b"", b""),
+        Status::WriteFault,
+        ("", ""),
     ),
     (
         "an output to which nothing goes isn't called",
         &["compile"],
         (0, 1, 0),
-        (Status::Usage, 2),
-        (b"", USAGE),
+        Status::Usage,
+        ("", USAGE),
     ),
     (
         "nor is the error output",
         COMPILE,
         (0, 0, 1),
-        (Status::Done, 0),
-        (CONFIG, b""),
+        Status::Done,
+        (TWO_ROUTERS_CONFIG, ""),
     ),
 ];
 
+// The name of the first row that ends otherwise.
+fn wrong_end(alloc: Global, rows: &[Row]) -> Result<Option<&'static str>, NoMemory> {
+    for row in rows {
+        if !ends(alloc, row.1, (TWO_ROUTERS, ANY_PATH), row.2, row.3, row.4)? {
+            return Ok(Some(row.0));
+        }
+    }
+    Ok(None)
+}
+
 #[test]
 fn how_runs_end(rt: HostRuntime) -> Result<(), Fail> {
-    let alloc = rt.alloc();
-    for (name, words, (read, to_out, to_err), (status, number), (out_wanted, err_wanted)) in ENDS {
-        let words = words_of(alloc, words)?;
-        let mut inputs = inputs_of(alloc, TWO_ROUTERS, ANY_PATH)?;
-        inputs.fail(read)?;
-        let mut out = MemSink::new(alloc, 4096, 7)?;
-        out.fail(to_out)?;
-        let mut err = MemSink::new(alloc, 4096, 100)?;
-        err.fail(to_err)?;
-        let ended = run(alloc, &words, &mut inputs, &mut out, &mut err);
-        assert_eq!(rt; ended, status, "{name}");
-        assert_eq!(rt; ended.number(), number, "{name}");
-        assert_eq!(rt; out.taken(), out_wanted, "{name}");
-        assert_eq!(rt; err.taken(), err_wanted, "{name}");
-    }
+    assert_eq!(rt; wrong_end(rt.alloc(), &ENDS)?, None);
     Ok(())
 }
 
 #[test]
 fn a_topology_that_is_too_long(rt: HostRuntime) -> Result<(), Fail> {
     let alloc = rt.alloc();
-    let words = words_of(alloc, &["compile", "t.json", "p.propane"])?;
-    let mut inputs = MemInputs::new(alloc);
     let long = vec![in alloc; b' '; 33_554_433]?;
-    inputs.hold("t.json", &long)?;
-    inputs.hold("p.propane", ANY_PATH)?;
-    let mut out = CountSink::new();
-    let mut err = MemSink::new(alloc, 100, 100)?;
-    let status = run(alloc, &words, &mut inputs, &mut out, &mut err);
-    assert_eq!(rt; status, Status::BadInput);
-    assert_eq!(rt; err.taken(), b"propane: too long t.json\n".as_slice());
-    assert_eq!(rt; out.count(), 0);
+    assert!(rt; tells(alloc, &long, ANY_PATH, "propane: too long t.json\n")?);
     Ok(())
 }

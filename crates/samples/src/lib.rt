@@ -1,10 +1,15 @@
-//! Networks and policies as texts, for the tests of other crates.
+//! Networks, policies and configurations as texts, for the tests of other crates.
 #![tactic(auto)]
 
+mod configs;
 mod meshes;
 mod networks;
 mod reading;
 
+pub use configs::{
+    ENTERED_CONFIG, LINE_CONFIG, RING_CONFIG, TRIANGLE_CONFIG, TWO_EXITS_CONFIG,
+    TWO_ROUTERS_CONFIG, TWO_ROUTERS_EVIDENCE, TWO_SPINES_CONFIG, TWO_WAYS_CONFIG,
+};
 pub use meshes::{mesh, prefixes, ways};
 pub use networks::{
     CHAIN, EIGHT, LINE, RING, RING_WITH_A_PEER, ROW_BETWEEN_PEERS, TRIANGLE, TWO_EXITS,

@@ -1,201 +1,181 @@
 //! Policies at each limit, which are read, and one past it, which are refused.
-use super::{is_lawful, refuses};
+use super::tells;
 use outside::NoMemory;
 use samples::EIGHT;
 use std::alloc::Global;
 use std::test::Fail;
 use text_words::{push_bytes, push_number};
 
-// Whether the text is read.
-fn is_read(alloc: Global, text: &[u8]) -> Result<bool, NoMemory> {
-    is_lawful(alloc, EIGHT, text)
+// A part of a text. The number of a definition or of a prefix is that of its place in the text.
+enum Part {
+    Text(&'static str),
+    Definition,
+    // a prefix that is originated at these routers
+    Prefix(&'static str),
 }
 
-// A text with a part that stands many times.
-fn repeated(
-    alloc: Global,
-    front: &[u8],
-    part: &[u8],
-    count: u64,
-    back: &[u8],
-) -> Result<Vec<u8>, NoMemory> {
-    let mut text = Vec::new(alloc);
-    push_bytes(&mut text, front)?;
-    for _ in 0..count {
-        push_bytes(&mut text, part)?;
-    }
-    push_bytes(&mut text, back)?;
-    Ok(text)
-}
+// A text: its parts, how often each stands, and its line. A text without a line is read.
+type Row = (&'static str, &'static [(Part, u64)], &'static str);
 
-fn definitions(alloc: Global, count: u64) -> Result<Vec<u8>, NoMemory> {
-    let mut text = Vec::new(alloc);
-    for number in 0..count {
-        push_bytes(&mut text, b"define G")?;
-        push_number(&mut text, number)?;
-        push_bytes(&mut text, b" = { R1 };\n")?;
-    }
-    Ok(text)
-}
+const ROWS: [Row; 16] = [
+    ("256 definitions", &[(Part::Definition, 256)], ""),
+    (
+        "257 definitions",
+        &[(Part::Definition, 257)],
+        "propane: policy 11 too-many definitions 257\n",
+    ),
+    ("256 statements", &[(Part::Text("true => any;"), 256)], ""),
+    (
+        "257 statements",
+        &[(Part::Text("true => any;"), 257)],
+        "propane: policy 11 too-many statements 257\n",
+    ),
+    (
+        "16384 patterns",
+        &[
+            (Part::Text("1.0.0.0/8"), 1),
+            (Part::Text(" or 1.0.0.0/8"), 16383),
+            (Part::Text(" => any;"), 1),
+        ],
+        "",
+    ),
+    (
+        "16385 patterns",
+        &[
+            (Part::Text("1.0.0.0/8"), 1),
+            (Part::Text(" or 1.0.0.0/8"), 16384),
+            (Part::Text(" => any;"), 1),
+        ],
+        "propane: policy 11 too-many patterns 16385\n",
+    ),
+    ("4096 prefixes", &[(Part::Prefix("R1"), 4096)], ""),
+    (
+        "4097 prefixes",
+        &[(Part::Prefix("R1"), 4097)],
+        "propane: policy 11 too-many prefixes 4097\n",
+    ),
+    (
+        "16384 origins",
+        &[
+            (Part::Text(ALL), 1),
+            (Part::Prefix("ALL"), 2047),
+            (Part::Prefix("ALL, R1"), 1),
+        ],
+        "",
+    ),
+    (
+        "16385 origins",
+        &[
+            (Part::Text(ALL), 1),
+            (Part::Prefix("ALL"), 2048),
+            (Part::Prefix("R1"), 1),
+        ],
+        "propane: policy 11 too-many origins 16385\n",
+    ),
+    (
+        "256 calls",
+        &[
+            (Part::Text("true => any"), 1),
+            (Part::Text(" or any"), 255),
+            (Part::Text(";"), 1),
+        ],
+        "",
+    ),
+    (
+        "1000 calls",
+        &[
+            (Part::Text("true => any"), 1),
+            (Part::Text(" or any"), 999),
+            (Part::Text(";"), 1),
+        ],
+        "propane: policy 11 too-many calls 1000\n",
+    ),
+    (
+        "256 places",
+        &[
+            (Part::Text("true => path(any"), 1),
+            (Part::Text(",any"), 255),
+            (Part::Text(");"), 1),
+        ],
+        "",
+    ),
+    (
+        "257 places",
+        &[
+            (Part::Text("true => path(any"), 1),
+            (Part::Text(",any"), 256),
+            (Part::Text(");"), 1),
+        ],
+        "propane: policy 11 too-many places 257\n",
+    ),
+    (
+        "64 levels",
+        &[
+            (Part::Text("true => "), 1),
+            (Part::Text("("), 64),
+            (Part::Text("any"), 1),
+            (Part::Text(")"), 64),
+            (Part::Text(";"), 1),
+        ],
+        "",
+    ),
+    (
+        "65 levels",
+        &[(Part::Text("true => "), 1), (Part::Text("("), 65)],
+        "propane: policy 3 deep at 1:73\n",
+    ),
+];
 
-// The item that originates the prefix with a number at these routers.
-fn push_item(text: &mut Vec<u8>, number: u64, at: &[u8]) -> Result<(), NoMemory> {
+const ALL: &str = "define ALL = { R1, R2, R3, R4, R5, R6, R7, R8 };\n";
+
+fn push_prefix(text: &mut Vec<u8>, number: u64, at: &str) -> Result<(), NoMemory> {
     push_bytes(text, b"originate 10.")?;
     push_number(text, number / 256)?;
     push_bytes(text, b".")?;
     push_number(text, number % 256)?;
     push_bytes(text, b".0/24 at ")?;
-    push_bytes(text, at)?;
+    push_bytes(text, at.as_bytes())?;
     push_bytes(text, b";\n")
 }
 
-fn prefixes(alloc: Global, count: u64) -> Result<Vec<u8>, NoMemory> {
+fn push_part(text: &mut Vec<u8>, part: &Part, number: u64) -> Result<(), NoMemory> {
+    match part {
+        Part::Text(words) => push_bytes(text, words.as_bytes()),
+        Part::Definition => {
+            push_bytes(text, b"define G")?;
+            push_number(text, number)?;
+            push_bytes(text, b" = { R1 };\n")
+        }
+        Part::Prefix(at) => push_prefix(text, number, at),
+    }
+}
+
+// The text of these parts, each as often as it is to stand.
+fn text_of(alloc: Global, parts: &[(Part, u64)]) -> Result<Vec<u8>, NoMemory> {
     let mut text = Vec::new(alloc);
-    for number in 0..count {
-        push_item(&mut text, number, b"R1")?;
+    let mut number = 0u64;
+    for (part, count) in parts {
+        for _ in 0..*count {
+            push_part(&mut text, part, number)?;
+            number = number.wrapping_add(1);
+        }
     }
     Ok(text)
 }
 
-// Items at all eight routers, and then one at these.
-fn pairs(alloc: Global, items: u64, last: &[u8]) -> Result<Vec<u8>, NoMemory> {
-    let mut text = Vec::new(alloc);
-    push_bytes(
-        &mut text,
-        b"define ALL = { R1, R2, R3, R4, R5, R6, R7, R8 };\n",
-    )?;
-    for number in 0..items {
-        push_item(&mut text, number, b"ALL")?;
+// The name of the first text of which something else is told.
+fn wrong_text(alloc: Global, rows: &[Row]) -> Result<Option<&'static str>, NoMemory> {
+    for row in rows {
+        let text = text_of(alloc, row.1)?;
+        if !tells(alloc, EIGHT, &text, row.2)? {
+            return Ok(Some(row.0));
+        }
     }
-    push_item(&mut text, items, last)?;
-    Ok(text)
+    Ok(None)
 }
 
 #[test]
-fn items_at_their_limits(rt: HostRuntime) -> Result<(), Fail> {
-    let alloc = rt.alloc();
-    assert!(rt;
-        is_read(alloc, &definitions(alloc, 256)?)?,
-        "256 definitions"
-    );
-    assert!(rt;
-        refuses(
-            alloc,
-            EIGHT,
-            &definitions(alloc, 257)?,
-            b"propane: policy 11 too-many definitions 257\n"
-        )?,
-        "257 definitions"
-    );
-    assert!(rt;
-        is_read(alloc, &repeated(alloc, b"", b"true => any;", 256, b"")?)?,
-        "256 statements"
-    );
-    assert!(rt;
-        refuses(
-            alloc,
-            EIGHT,
-            &repeated(alloc, b"", b"true => any;", 257, b"")?,
-            b"propane: policy 11 too-many statements 257\n"
-        )?,
-        "257 statements"
-    );
-    assert!(rt;
-        is_read(
-            alloc,
-            &repeated(alloc, b"1.0.0.0/8", b" or 1.0.0.0/8", 16383, b" => any;")?
-        )?,
-        "16384 patterns"
-    );
-    assert!(rt;
-        refuses(
-            alloc,
-            EIGHT,
-            &repeated(alloc, b"1.0.0.0/8", b" or 1.0.0.0/8", 16384, b" => any;")?,
-            b"propane: policy 11 too-many patterns 16385\n"
-        )?,
-        "16385 patterns"
-    );
-    Ok(())
-}
-
-#[test]
-fn origins_at_their_limits(rt: HostRuntime) -> Result<(), Fail> {
-    let alloc = rt.alloc();
-    assert!(rt; is_read(alloc, &prefixes(alloc, 4096)?)?, "4096 prefixes");
-    assert!(rt;
-        refuses(
-            alloc,
-            EIGHT,
-            &prefixes(alloc, 4097)?,
-            b"propane: policy 11 too-many prefixes 4097\n"
-        )?,
-        "4097 prefixes"
-    );
-    assert!(rt;
-        is_read(alloc, &pairs(alloc, 2047, b"ALL, R1")?)?,
-        "16384 origins"
-    );
-    assert!(rt;
-        refuses(
-            alloc,
-            EIGHT,
-            &pairs(alloc, 2048, b"R1")?,
-            b"propane: policy 11 too-many origins 16385\n"
-        )?,
-        "16385 origins"
-    );
-    Ok(())
-}
-
-#[test]
-fn expressions_at_their_limits(rt: HostRuntime) -> Result<(), Fail> {
-    let alloc = rt.alloc();
-    assert!(rt;
-        is_read(
-            alloc,
-            &repeated(alloc, b"true => any", b" or any", 255, b";")?
-        )?,
-        "256 calls"
-    );
-    assert!(rt;
-        refuses(
-            alloc,
-            EIGHT,
-            &repeated(alloc, b"true => any", b" or any", 999, b";")?,
-            b"propane: policy 11 too-many calls 1000\n"
-        )?,
-        "1000 calls"
-    );
-    assert!(rt;
-        is_read(
-            alloc,
-            &repeated(alloc, b"true => path(any", b",any", 255, b");")?
-        )?,
-        "256 places"
-    );
-    assert!(rt;
-        refuses(
-            alloc,
-            EIGHT,
-            &repeated(alloc, b"true => path(any", b",any", 256, b");")?,
-            b"propane: policy 11 too-many places 257\n"
-        )?,
-        "257 places"
-    );
-    let open = repeated(alloc, b"true => ", b"(", 64, b"any")?;
-    assert!(rt;
-        is_read(alloc, &repeated(alloc, &open, b")", 64, b";")?)?,
-        "64 levels"
-    );
-    assert!(rt;
-        refuses(
-            alloc,
-            EIGHT,
-            &repeated(alloc, b"true => ", b"(", 65, b"any")?,
-            b"propane: policy 3 deep at 1:73\n"
-        )?,
-        "65 levels"
-    );
+fn policies_at_their_limits(rt: HostRuntime) -> Result<(), Fail> {
+    assert_eq!(rt; wrong_text(rt.alloc(), &ROWS)?, None);
     Ok(())
 }

@@ -6,78 +6,88 @@ use samples::{CHAIN, TWO_ROUTERS, TWO_SPINES, WAYPOINT_RING, mesh, prefixes, way
 use std::alloc::Global;
 use std::test::Fail;
 
-// Each network with its policy and why it is refused.
-const ROWS: [(&str, &[u8], &[u8], &[u8]); 5] = [
+// A network with its policy and why it is refused.
+type Row = (&'static str, &'static [u8], &'static str, &'static str);
+
+const ROWS: [Row; 5] = [
     (
         "72 alternatives",
         TWO_ROUTERS,
-        b"originate 10.0.1.0/24 at A; 10.0.1.0/24 => end(A >> B >> A >> B >> A >> B >> A >> B >> A) and end(A >> B >> A >> B >> A >> B >> A >> B);",
-        b"propane: refused 1 too-many-ranks case 1 number 72\n",
+        "originate 10.0.1.0/24 at A; 10.0.1.0/24 => end(A >> B >> A >> B >> A >> B >> A >> B >> A) and end(A >> B >> A >> B >> A >> B >> A >> B);",
+        "propane: refused 1 too-many-ranks case 1 number 72\n",
     ),
     (
         "a source that is named, and no path at all",
         TWO_ROUTERS,
-        b"originate 10.0.1.0/24 at A; 10.0.1.0/24 => drop from B;",
-        b"propane: refused 4 source-without-path case 1 router B\n",
+        "originate 10.0.1.0/24 at A; 10.0.1.0/24 => drop from B;",
+        "propane: refused 4 source-without-path case 1 router B\n",
     ),
     (
         "a source with a ranked way and one without a rank that others need",
         TWO_SPINES,
-        b"originate 10.0.1.0/24 at T1; 10.0.1.0/24 => through(S1, S2);",
-        b"propane: refused 5 mixed-source case 1 router A1 with A1 S1 A1 T1 without A1 T1\n",
+        "originate 10.0.1.0/24 at T1; 10.0.1.0/24 => through(S1, S2);",
+        "propane: refused 5 mixed-source case 1 router A1 with A1 S1 A1 T1 without A1 T1\n",
     ),
     (
         "whoever waits for the waypoint waits for the other",
         WAYPOINT_RING,
-        b"originate 10.0.1.0/24 at D; 10.0.1.0/24 => through(W) >> any;",
-        b"propane: refused 6 no-evidence case 1\n",
+        "originate 10.0.1.0/24 at D; 10.0.1.0/24 => through(W) >> any;",
+        "propane: refused 6 no-evidence case 1\n",
     ),
     (
         "the way to the waypoint leads through the one that would use it",
         CHAIN,
-        b"originate 10.0.1.0/24 at D; 10.0.1.0/24 => through(W) >> any;",
-        b"propane: refused 6 no-evidence case 1\n",
+        "originate 10.0.1.0/24 at D; 10.0.1.0/24 => through(W) >> any;",
+        "propane: refused 6 no-evidence case 1\n",
     ),
 ];
 
-// One run that ends with Refused: whether it told this line and wrote nothing.
-fn turns_down(
-    alloc: Global,
-    topology: &[u8],
-    policy: &[u8],
-    line: &[u8],
-) -> Result<bool, NoMemory> {
-    compiles(alloc, topology, policy, Status::Refused, b"", line)
+fn turns_down(alloc: Global, topology: &[u8], policy: &str, line: &str) -> Result<bool, NoMemory> {
+    compiles(
+        alloc,
+        topology,
+        policy.as_bytes(),
+        Status::Refused,
+        ("", line),
+    )
+}
+
+// The name of the first row that comes to something else.
+fn wrong_row(alloc: Global, rows: &[Row]) -> Result<Option<&'static str>, NoMemory> {
+    for row in rows {
+        if !turns_down(alloc, row.1, row.2, row.3)? {
+            return Ok(Some(row.0));
+        }
+    }
+    Ok(None)
 }
 
 #[test]
 fn policies_that_are_refused(rt: HostRuntime) -> Result<(), Fail> {
-    let alloc = rt.alloc();
-    for (name, topology, policy, line) in ROWS {
-        assert!(rt; turns_down(alloc, topology, policy, line)?, "{name}");
-    }
+    assert_eq!(rt; wrong_row(rt.alloc(), &ROWS)?, None);
     Ok(())
+}
+
+// Whether 21 linked routers have too many states under eight alternatives.
+fn has_too_many_states(alloc: Global) -> Result<bool, NoMemory> {
+    let topology = mesh(alloc, 21)?;
+    let policy = ways(alloc, 8)?;
+    let line = "propane: refused 2 too-many-states case 1\n";
+    turns_down(alloc, topology.as_bytes(), &policy, line)
+}
+
+// Whether 90 linked routers have too many steps under 17 prefixes.
+fn has_too_many_steps(alloc: Global) -> Result<bool, NoMemory> {
+    let topology = mesh(alloc, 90)?;
+    let policy = prefixes(alloc, 17)?;
+    let line = "propane: refused 3 too-many-steps case 17\n";
+    turns_down(alloc, topology.as_bytes(), &policy, line)
 }
 
 #[test]
 fn policies_past_the_limits(rt: HostRuntime) -> Result<(), Fail> {
     let alloc = rt.alloc();
-    let small = mesh(alloc, 21)?;
-    let states = b"propane: refused 2 too-many-states case 1\n";
-    assert!(rt;
-        turns_down(alloc, small.as_bytes(), ways(alloc, 8)?.as_bytes(), states)?,
-        "too many states"
-    );
-    let large = mesh(alloc, 90)?;
-    let steps = b"propane: refused 3 too-many-steps case 17\n";
-    assert!(rt;
-        turns_down(
-            alloc,
-            large.as_bytes(),
-            prefixes(alloc, 17)?.as_bytes(),
-            steps
-        )?,
-        "too many steps"
-    );
+    assert!(rt; has_too_many_states(alloc)?, "too many states");
+    assert!(rt; has_too_many_steps(alloc)?, "too many steps");
     Ok(())
 }

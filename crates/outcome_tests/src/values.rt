@@ -1,0 +1,90 @@
+//! Scenarios and outcomes from tables.
+use config_base::{NO_TAG, Route};
+use net_base::{List, Loc, LocSet, Prefix, Tag};
+use outside::NoMemory;
+use stable_paths::{Outcome, Scenario};
+use std::alloc::Global;
+
+/// What a router holds: none, or a path, the value of its tag, and a preference.
+pub(crate) type Held = Option<(&'static [u16], u32, u32)>;
+
+/// The tag of a location with this value. Routers have the AS numbers from 64512 on.
+pub(crate) fn tag(at: u16, value: u32) -> Tag {
+    if value == 0 {
+        NO_TAG
+    } else {
+        Tag {
+            asn: 64512 + u32::from(at),
+            value,
+        }
+    }
+}
+
+/// The locations of these numbers.
+pub(crate) fn path(alloc: Global, numbers: &[u16]) -> Result<Vec<Loc>, NoMemory> {
+    let mut path = Vec::new(alloc);
+    for number in numbers {
+        path.push(Loc::new(*number))?;
+    }
+    Ok(path)
+}
+
+fn pairs(alloc: Global, numbers: &[(u16, u16)]) -> Result<List<(Loc, Loc)>, NoMemory> {
+    let mut pairs = Vec::new(alloc);
+    for pair in numbers {
+        pairs.push((Loc::new(pair.0), Loc::new(pair.1)))?;
+    }
+    Ok(List::from_vec(pairs))
+}
+
+/// The scenario of a prefix in which these locations, as bits, and these links are dead, and these sessions
+/// silent.
+pub(crate) fn scenario(
+    alloc: Global,
+    prefix: Prefix,
+    dead: u64,
+    dead_links: &[(u16, u16)],
+    silent: &[(u16, u16)],
+) -> Result<Scenario, NoMemory> {
+    Ok(Scenario {
+        prefix,
+        dead: LocSet {
+            words: [dead, 0, 0, 0, 0, 0, 0, 0, 0, 0, 0, 0],
+        },
+        dead_links: pairs(alloc, dead_links)?,
+        silent: pairs(alloc, silent)?,
+    })
+}
+
+/// The route that a router holds.
+pub(crate) fn route(alloc: Global, router: u16, held: Held) -> Result<Option<Route>, NoMemory> {
+    match held {
+        None => Ok(None),
+        Some((numbers, value, pref)) => Ok(Some(Route {
+            path: List::from_vec(path(alloc, numbers)?),
+            tag: tag(router, value),
+            pref,
+        })),
+    }
+}
+
+/// What the routers hold, where one of them may hold something else.
+pub(crate) fn outcome(
+    alloc: Global,
+    all: &[Held],
+    other: Option<(u16, Held)>,
+) -> Result<Outcome, NoMemory> {
+    let mut routes = Vec::new(alloc);
+    let mut at = 0u16;
+    for held in all {
+        let held = match other {
+            Some((router, instead)) if router == at => instead,
+            _ => *held,
+        };
+        routes.push(route(alloc, at, held)?)?;
+        at = at.wrapping_add(1);
+    }
+    Ok(Outcome {
+        routes: List::from_vec(routes),
+    })
+}

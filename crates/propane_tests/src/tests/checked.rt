@@ -1,0 +1,186 @@
+//! Configurations with their evidence, and what `check` says of them.
+use super::words_of;
+use outside::{MemInputs, MemSink, NoMemory};
+use propane_run::{Status, run};
+use samples::{
+    TRIANGLE, TRIANGLE_CONFIG, TWO_EXITS, TWO_ROUTERS, TWO_ROUTERS_CONFIG, TWO_ROUTERS_EVIDENCE,
+};
+use std::alloc::Global;
+use std::test::Fail;
+
+const ANY_PATH: &str = "originate 10.0.1.0/24 at A; 10.0.1.0/24 => any;";
+
+const LEADING_ZERO: &str = "propane-config 1
+class 1 10.0.1.0/24
+router A asn 64512 id 10.255.0.1
+originate 1 10.0.1.0/24 tag 64512:1
+session B asn 64513
+export 1 tag 64512:1
+end
+router B asn 64513 id 10.255.0.2
+session A asn 64512
+import 1 tag 64512:1 set 64513:1 pref 0100
+end
+";
+
+const CUT: &str =
+    "{\"cases\":[{\"external\":false,\"nodes\":[[0,0,0,100,64512,1],[1,0,1,100,64513,1]],\"origins\":[0],\"prefixes\":[\"10.0.1.0/24\"],\"starts\":[0],\"statement\":1,\"steps\":[[0,1]]}],\"version\":1";
+
+const ANOTHER_PREFERENCE: &str =
+    "{\"cases\":[{\"external\":false,\"nodes\":[[0,0,0,100,64512,1],[1,0,1,101,64513,1]],\"origins\":[0],\"prefixes\":[\"10.0.1.0/24\"],\"starts\":[0],\"statement\":1,\"steps\":[[0,1]]}],\"version\":1}\n";
+
+const RANKED_EXITS: &str = "true => exit(P1 >> P2);";
+
+const EXCHANGED_CONFIG: &str = "propane-config 1
+class 1 0.0.0.0/0 le 32
+router R1 asn 64512 id 10.255.0.1
+session R2 asn 64513
+import 1 tag 64513:1 set 64512:2 pref 101
+import 1 tag 64513:2 set 64512:1 pref 100
+export 1 tag 64512:1
+export 1 tag 64512:2
+peer P1 asn 1001
+import 1 set 64512:1 pref 100
+end
+router R2 asn 64513 id 10.255.0.2
+session R1 asn 64512
+import 1 tag 64512:1 set 64513:2 pref 101
+import 1 tag 64512:2 set 64513:1 pref 100
+export 1 tag 64513:1
+export 1 tag 64513:2
+peer P2 asn 1002
+import 1 set 64513:1 pref 100
+end
+";
+
+const EXCHANGED: &str =
+    "{\"cases\":[{\"external\":true,\"nodes\":[[2,0,0,0,0,0],[3,0,0,0,0,0],[0,0,1,100,64512,1],[1,0,2,100,64513,1],[1,0,1,101,64513,2],[0,0,2,101,64512,2]],\"origins\":[2,3],\"prefixes\":[],\"starts\":[0,1],\"statement\":1,\"steps\":[[0,2],[1,3],[2,4],[3,5],[4,2],[5,3]]}],\"version\":1}\n";
+
+const FINER: &str =
+    "{\"cases\":[{\"external\":false,\"nodes\":[[0,0,0,100,64512,1],[1,0,1,100,64513,1],[2,0,1,100,64514,1],[1,0,1,100,64513,2],[2,0,1,100,64514,2]],\"origins\":[0],\"prefixes\":[\"10.0.1.0/24\"],\"starts\":[0],\"statement\":1,\"steps\":[[0,1],[0,2],[1,4],[2,3],[3,4],[4,3]]}],\"version\":1}\n";
+
+const FINER_CONFIG: &str = "propane-config 1
+class 1 10.0.1.0/24
+router A asn 64512 id 10.255.0.1
+originate 1 10.0.1.0/24 tag 64512:1
+session B asn 64513
+export 1 tag 64512:1
+session C asn 64514
+export 1 tag 64512:1
+end
+router B asn 64513 id 10.255.0.2
+session A asn 64512
+import 1 tag 64512:1 set 64513:1 pref 100
+session C asn 64514
+import 1 tag 64514:1 set 64513:2 pref 100
+import 1 tag 64514:2 set 64513:2 pref 100
+export 1 tag 64513:1
+export 1 tag 64513:2
+end
+router C asn 64514 id 10.255.0.3
+session A asn 64512
+import 1 tag 64512:1 set 64514:1 pref 100
+session B asn 64513
+import 1 tag 64513:1 set 64514:2 pref 100
+import 1 tag 64513:2 set 64514:2 pref 100
+export 1 tag 64514:1
+export 1 tag 64514:2
+end
+";
+
+// A network and a policy, a configuration and its evidence, the status, and what `out` and `err` took.
+type Row = (
+    &'static str,
+    (&'static [u8], &'static str),
+    (&'static str, &'static str),
+    Status,
+    (&'static str, &'static str),
+);
+
+const ROWS: [Row; 7] = [
+    (
+        "what is compiled holds",
+        (TWO_ROUTERS, ANY_PATH),
+        (TWO_ROUTERS_CONFIG, TWO_ROUTERS_EVIDENCE),
+        Status::Done,
+        ("holds\n", ""),
+    ),
+    (
+        "exchanged numbers",
+        (TWO_EXITS, RANKED_EXITS),
+        (EXCHANGED_CONFIG, EXCHANGED),
+        Status::CheckFails,
+        ("fails 5 pref-rank case 1 first 5 second 2 line 0\n", ""),
+    ),
+    (
+        "a preference with a leading zero",
+        (TWO_ROUTERS, ANY_PATH),
+        (LEADING_ZERO, TWO_ROUTERS_EVIDENCE),
+        Status::BadInput,
+        ("", "propane: config 5 number line 10\n"),
+    ),
+    (
+        "evidence that is cut off",
+        (TWO_ROUTERS, ANY_PATH),
+        (TWO_ROUTERS_CONFIG, CUT),
+        Status::BadInput,
+        ("", "propane: evidence 1 not-json\n"),
+    ),
+    (
+        "another preference in the evidence alone",
+        (TWO_ROUTERS, ANY_PATH),
+        (TWO_ROUTERS_CONFIG, ANOTHER_PREFERENCE),
+        Status::CheckFails,
+        (
+            "fails 10 config-differs case 0 first 1 second 0 line 10\n",
+            "",
+        ),
+    ),
+    (
+        "evidence over a finer graph",
+        (TRIANGLE, ANY_PATH),
+        (FINER_CONFIG, FINER),
+        Status::Done,
+        ("holds\n", ""),
+    ),
+    (
+        "evidence over a finer graph, with the configuration of the coarser one",
+        (TRIANGLE, ANY_PATH),
+        (TRIANGLE_CONFIG, FINER),
+        Status::CheckFails,
+        (
+            "fails 10 config-differs case 0 first 1 second 0 line 14\n",
+            "",
+        ),
+    ),
+];
+
+// Whether a run of `check` over the texts of a row ends as the row says.
+fn is_right(alloc: Global, row: &Row) -> Result<bool, NoMemory> {
+    let words = words_of(alloc, &["check", "t.json", "p.propane", "c.txt", "e.json"])?;
+    let mut inputs = MemInputs::new(alloc);
+    inputs.hold("t.json", row.1.0)?;
+    inputs.hold("p.propane", row.1.1.as_bytes())?;
+    inputs.hold("c.txt", row.2.0.as_bytes())?;
+    inputs.hold("e.json", row.2.1.as_bytes())?;
+    let mut out = MemSink::new(alloc, 4096, 7)?;
+    let mut err = MemSink::new(alloc, 4096, 100)?;
+    let status = run(alloc, &words, &mut inputs, &mut out, &mut err);
+    Ok(status == row.3 && out.taken() == row.4.0.as_bytes() && err.taken() == row.4.1.as_bytes())
+}
+
+// The name of the first row that ends otherwise.
+fn wrong_row(alloc: Global, rows: &[Row]) -> Result<Option<&'static str>, NoMemory> {
+    for row in rows {
+        if !is_right(alloc, row)? {
+            return Ok(Some(row.0));
+        }
+    }
+    Ok(None)
+}
+
+#[test]
+fn what_check_says(rt: HostRuntime) -> Result<(), Fail> {
+    assert_eq!(rt; wrong_row(rt.alloc(), &ROWS)?, None);
+    Ok(())
+}
