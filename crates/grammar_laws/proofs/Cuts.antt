@@ -12,6 +12,7 @@ use Rattle.policy_tokens.specs.Tokens.{is_blank, in_line, piece_at, piece_taken,
 use Rattle.grammar_laws.specs.Spans.{SpansAscend, StandsIn, IsGap, IsLastGap, GapsBetween, IsCut}
 use Rattle.grammar_laws.proofs.Pieces.{FrontIsGap, piece_parts}
 use Rattle.grammar_laws.proofs.SpanLaws.{place_after-append, place_of-add, spans_within}
+use Rattle.policy_tokens.proofs.Cutting.{tokens_from-nil}
 
 -- ---- gaps are passed over
 
@@ -127,22 +128,17 @@ token_step text t ts n stands some le rest = by (drop t.from text) refl
 
 -- ---- all tokens
 
-cut_nothing : (n from : ℕ) (place : Place) → tokens_from n from place [] ≡ Ok []
-unfolding tokens_from
-cut_nothing zero from place = refl
-cut_nothing (suc n) from place = refl
-
 last_line : (n from : ℕ) (place : Place) (line : List ℕ) → AllByRecursion (λ b. in_line b ≡ true) line → length (35 ∷ line) ≤ n → tokens_from n from place (35 ∷ line) ≡ Ok []
 last_line zero from place line all le = absurd (omega arith)
 last_line (suc n) from place line all le =
     ap (λ z. tokens_from (suc n) from place (35 ∷ z)) (sym (append-nil line))
     ∙ comment_step n from place line [] (ap (prefix_len in_line) (append-nil line) ∙ prefix_len-last line all)
-    ∙ cut_nothing n (from + length (35 ∷ line)) (place_after place (35 ∷ line))
+    ∙ tokens_from-nil n (from + length (35 ∷ line)) (place_after place (35 ∷ line))
 
 last_gap : (bytes : List ℕ) → IsLastGap bytes → (n from : ℕ) (place : Place) → length bytes ≤ n → tokens_from n from place bytes ≡ Ok []
 last_gap bytes (inl g) n from place le =
     let p = pass_gap g n from place [] (omega (arith, le, ap length (append-nil bytes))) in
-    ap (tokens_from n from place) (sym (append-nil bytes)) ∙ p.2 ∙ cut_nothing p.0 (from + length bytes) (place_after place bytes)
+    ap (tokens_from n from place) (sym (append-nil bytes)) ∙ p.2 ∙ tokens_from-nil p.0 (from + length bytes) (place_after place bytes)
 last_gap bytes (inr (gap, line, e, g, all)) n from place le =
     let p = pass_gap g n from place (35 ∷ line) (omega (arith, le, ap length e)) in
     ap (tokens_from n from place) e ∙ p.2 ∙ last_line p.0 (from + length gap) (place_after place gap) line all p.1

@@ -30,53 +30,60 @@ use Rattle.policy_law.proofs.Known.{names_below}
 use Rattle.policy_law.proofs.Routers.{AreAtRouters, origins_at_routers}
 use Rattle.policy_law.proofs.Patterns.{HavePatterns, statements_have_patterns}
 
--- what a policy is built of
-record IsBuilt (net : PlainNet) (bytes : List ℕ) (policy : PlainPolicy) : Type 0 where
-  items : List Item
-  known : Names
-  names : names_spelled bytes net items ≡ Ok known
-  rules : rules_kept bytes net known items ≡ Ok tt
-  origins : origins_spelled bytes known items ≡ Ok policy.origins
-  statements : statements_of bytes net known [] items ≡ Ok policy.statements
+-- What a policy is built of, and the rules that were kept.
+pub record IsBuilt (net : PlainNet) (bytes : List ℕ) (policy : PlainPolicy) : Type 0 where
+  pub items : List Item
+  pub known : Names
+  pub read : items_spelled bytes ≡ Ok items
+  pub names : names_spelled bytes net items ≡ Ok known
+  pub rules : rules_kept bytes net known items ≡ Ok tt
+  pub origins : origins_spelled bytes known items ≡ Ok policy.origins
+  pub calls : each calls_within items ≡ Ok tt
+  pub places : each paths_within items ≡ Ok tt
+  pub statements : statements_of bytes net known [] items ≡ Ok policy.statements
 
-built : (net : PlainNet) (bytes : List ℕ) (policy : PlainPolicy) (items : List Item) (known : Names) → names_spelled bytes net items ≡ Ok known → rules_kept bytes net known items ≡ Ok tt
-    → policy_built bytes net known items ≡ Ok policy → IsBuilt net bytes policy
-unfolding policy_built
-built net bytes policy items known named kept h =
-    let a = bind_ok (origins_spelled bytes known items) _ policy h in
-    let b = bind_ok (each calls_within items) _ policy a.2 in
-    let c = bind_ok (each paths_within items) _ policy b.2 in
-    let d = bind_ok (statements_of bytes net known [] items) _ policy c.2 in
-    let made : PlainPolicy = record { origins = a.0; statements = d.0 } in
-    let same : made ≡ policy = cc in
-    record {
-      items = items;
-      known = known;
-      names = named;
-      rules = kept;
-      origins = a.1 ∙ ap (λ (x : PlainPolicy). Ok x.origins) same;
-      statements = d.1 ∙ ap (λ (x : PlainPolicy). Ok x.statements) same;
-    }
-
-is_built : (net : PlainNet) (bytes : List ℕ) (policy : PlainPolicy) → spelled net bytes ≡ Ok policy → IsBuilt net bytes policy
-unfolding spelled
+pub is_built : (net : PlainNet) (bytes : List ℕ) (policy : PlainPolicy) → spelled net bytes ≡ Ok policy → IsBuilt net bytes policy
+unfolding spelled policy_built
 is_built net bytes policy h =
     let items = bind_ok (items_spelled bytes) _ policy h in
     let known = bind_ok (names_spelled bytes net items.0) _ policy items.2 in
-    let rules = bind_ok (rules_kept bytes net known.0 items.0) _ policy known.2 in
-    built net bytes policy items.0 known.0 known.1 rules.1 rules.2
+    let kept = bind_ok (rules_kept bytes net known.0 items.0) _ policy known.2 in
+    let origins = bind_ok (origins_spelled bytes known.0 items.0) _ policy kept.2 in
+    let calls = bind_ok (each calls_within items.0) _ policy origins.2 in
+    let places = bind_ok (each paths_within items.0) _ policy calls.2 in
+    let statements = bind_ok (statements_of bytes net known.0 [] items.0) _ policy places.2 in
+    let made : PlainPolicy = record { origins = origins.0; statements = statements.0 } in
+    let same : made ≡ policy = cc in
+    record {
+      items = items.0;
+      known = known.0;
+      read = items.1;
+      names = known.1;
+      rules = kept.1;
+      origins = origins.1 ∙ ap (λ (x : PlainPolicy). Ok x.origins) same;
+      calls = calls.1;
+      places = places.1;
+      statements = statements.1 ∙ ap (λ (x : PlainPolicy). Ok x.statements) same;
+    }
 
--- the rule on origins was kept
-origins_kept : (bytes : List ℕ) (net : PlainNet) (known : Names) (items : List Item) → rules_kept bytes net known items ≡ Ok tt → each (origins_fine bytes net known) items ≡ Ok tt
+-- ---- the rules on ranks and on origins were kept
+
+rules_parts : (bytes : List ℕ) (net : PlainNet) (known : Names) (items : List Item) → rules_kept bytes net known items ≡ Ok tt → (each ranks_fine items ≡ Ok tt) × (each (origins_fine bytes net known) items ≡ Ok tt)
 unfolding rules_kept
-origins_kept bytes net known items kept =
+rules_parts bytes net known items kept =
     let a = bind_ok (each (figures_fine bytes) items) (λ _. each ranks_fine items >>= λ _. each (origins_fine bytes net known) items >>= λ _. once_from bytes [] items) tt kept in
     let b = bind_ok (each ranks_fine items) (λ _. each (origins_fine bytes net known) items >>= λ _. once_from bytes [] items) tt a.2 in
     let c = bind_ok (each (origins_fine bytes net known) items) (λ _. once_from bytes [] items) tt b.2 in
-    c.1
+    (b.1, c.1)
+
+pub ranks_kept : (bytes : List ℕ) (net : PlainNet) (known : Names) (items : List Item) → rules_kept bytes net known items ≡ Ok tt → each ranks_fine items ≡ Ok tt
+ranks_kept bytes net known items kept = (rules_parts bytes net known items kept).0
+
+origins_kept : (bytes : List ℕ) (net : PlainNet) (known : Names) (items : List Item) → rules_kept bytes net known items ≡ Ok tt → each (origins_fine bytes net known) items ≡ Ok tt
+origins_kept bytes net known items kept = (rules_parts bytes net known items kept).1
 
 -- the origins are those of the items
-origins_made : (bytes : List ℕ) (known : Names) (items : List Item) (os : List Origin) → origins_spelled bytes known items ≡ Ok os → origins_of bytes known [] items ≡ Ok os
+pub origins_made : (bytes : List ℕ) (known : Names) (items : List Item) (os : List Origin) → origins_spelled bytes known items ≡ Ok os → origins_of bytes known [] items ≡ Ok os
 unfolding origins_spelled
 origins_made bytes known items os h =
     let a = bind_ok (items_within items) _ os h in

@@ -1,5 +1,5 @@
 -- A text spells what its policy means.
-use Rattle.std.proofs.Common.{◌≡◌, ℕ, List, [], map, length, Option, Some, None, Result, Ok, refl, sym, ap, ap₂, ◌∙◌}
+use Rattle.std.proofs.Common.{◌≡◌, ℕ, List, [], map, length, Option, None, Result, Ok, sym, ap, ap₂, ◌∙◌}
 use Rattle.std.specs.Prelude.{⊤}
 use Rattle.std.specs.List.{flat_map}
 use Rattle.net_base.specs.declared.place.Place.{Place}
@@ -42,6 +42,7 @@ use Rattle.policy_meaning.proofs.FigureChecks.{figures_told}
 use Rattle.policy_meaning.proofs.OriginChecks.{peers_told, origins_told}
 use Rattle.policy_meaning.proofs.LimitChecks.{self}
 use Rattle.policy_meaning.proofs.Building.{policy_is}
+use Rattle.policy_parser.proofs.Steps.{none_at_ok}
 
 -- the rules on figures, ranks and origins, where each name stands for something
 kept : (net : PlainNet) (bytes : List ℕ) (known : Names) (sense : Sense) → HasSense bytes known sense → (xs : List Written) → flat_map (unknown_in_item sense) xs ≡ [] → (more : Result PlainPolicy PolicyFault)
@@ -119,10 +120,6 @@ text_spells read net bytes tokens items cut shallow p =
 abbrev pub IsReadAsPolicy : Type 0
 IsReadAsPolicy = (bytes : List ℕ) (tokens : List Token) (end : Place) (items : List Item) → items_of (lexemes_of bytes tokens end) ≡ Ok items → IsPolicy items (map (lexeme_of bytes) tokens)
 
-none_told : (fault : Place → PolicyFault) (o : Option Place) (x : ⊤) → none_at fault o ≡ Ok x → o ≡ None
-none_told fault (Some p) x e = absurd cc
-none_told fault None x e = refl
-
 -- what the items of a text are read of
 items_read : (bytes : List ℕ) (items : List Item) → items_spelled bytes ≡ Ok items
     → (tokens : List Token) × (tokens_of bytes ≡ Ok tokens) × (first_deep 0 (lexemes_of bytes tokens (place_of bytes (length bytes))) ≡ None) × (items_of (lexemes_of bytes tokens (place_of bytes (length bytes))) ≡ Ok items)
@@ -131,7 +128,7 @@ items_read bytes items e =
     let end : Place = place_of bytes (length bytes) in
     let a = bind_ok (tokens_of bytes) (λ tokens. none_at Deep (first_deep 0 (lexemes_of bytes tokens end)) >>= λ _. items_of (lexemes_of bytes tokens end)) items e in
     let b = bind_ok (none_at Deep (first_deep 0 (lexemes_of bytes a.0 end))) (λ _. items_of (lexemes_of bytes a.0 end)) items a.2 in
-    (a.0, a.1, none_told Deep (first_deep 0 (lexemes_of bytes a.0 end)) b.0 b.1, b.2)
+    (a.0, a.1, none_at_ok Deep (first_deep 0 (lexemes_of bytes a.0 end)) b.0 b.1, b.2)
 
 pub policy_meant : EachIsRead → IsReadAsPolicy → (net : PlainNet) (bytes : List ℕ) (spelt : PlainPolicy) → spelled net bytes ≡ Ok spelt
     → (tokens : List Token) × (items : List Item) × (p : IsPolicy items (map (lexeme_of bytes) tokens)) × (tokens_of bytes ≡ Ok tokens) × (meaning net bytes (policy_tree p) ≡ Ok spelt)

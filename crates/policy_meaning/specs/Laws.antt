@@ -27,6 +27,7 @@ use Rattle.policy_meaning.specs.Senses.{Sense, located, set_of_names, sense_of, 
 use Rattle.policy_meaning.specs.Values.{ranking}
 use Rattle.policy_meaning.specs.Meaning.{meaning}
 use Rattle.policy_meaning.specs.InOrder.{PlacesInOrder}
+use Rattle.net_base.specs.declared.limits.TheConstants.{LOCATIONS}
 
 -- the steps that the grammar writes as some tokens are those of the tree that it finds there
 abbrev pub StepsAreTrees : Type 0
@@ -47,7 +48,7 @@ NamesHaveTheirSense = (net : PlainNet) (bytes : List ℕ) (items : List Written)
 
 -- a list of names has exactly the locations that some name of it stands for
 abbrev pub ListsHoldTheirNames : Type 0
-ListsHoldTheirNames = (sense : Sense) (names : List Lexeme) (l : ℕ) → l < 768 → holds (set_of_names sense names) l ≡ list_any (λ name. holds (located (sense name)) l) names
+ListsHoldTheirNames = (sense : Sense) (names : List Lexeme) (l : ℕ) → l < LOCATIONS → holds (set_of_names sense names) l ≡ list_any (λ name. holds (located (sense name)) l) names
 
 -- the steps of an expression make its value, or the first of its names that stands for nothing is told
 abbrev pub ExpressionsHaveTheirValue : Type 0

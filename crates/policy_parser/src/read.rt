@@ -25,6 +25,7 @@ fn items_of(alloc: Global, bytes: &[u8]) -> Result<Vec<Item>, PolicyFault>
 {
     let found = tokens(alloc, bytes)?;
     let lexemes = lexemes(alloc, bytes, &found, end_place(bytes))?;
+    drop(found);
     if let Some(place) = first_deep(&lexemes) {
         return Err(PolicyFault::Deep(place));
     }

@@ -1,1 +1,2 @@
 pub mod SomeFrom
+pub mod CallSums

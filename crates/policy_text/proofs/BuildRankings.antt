@@ -28,6 +28,7 @@ use Rattle.policy_text.proofs.ReadCalls.{IsSetArg, IsRawCall, set_in, call_word}
 use Rattle.policy_text.proofs.ReadRankings.{AreSteps}
 use Rattle.policy_text.proofs.Lookups.{site_names}
 use Rattle.policy_text.proofs.BuildSets.{known, IsSet, sets_stand, args_are_known}
+use Rattle.policy_rules.proofs.CallSums.{calls_of_sides}
 
 -- a call with the sets of a clause is that clause
 call_there : (c : Clause) → call_of (call_word c) (clause_sets c) ≡ call c
@@ -196,14 +197,11 @@ module _ (bytes : List ℕ) (net : PlainNet) (apart : IsDistinct bytes_eq (site_
       (λ raw c cs is' fine'. few_places raw (call_word c) (map set_in (c ∷ cs)) is' (omega (arith, no_places c (length (map set_in (c ∷ cs))) fine'.0.0))) r fine ss is
 
   -- it has as many calls as its steps
-  two_sides : (ss ts : List Step) (s : Step) (m n : ℕ) → sum_by call_amount ss ≡ m → sum_by call_amount ts ≡ n → call_amount s ≡ 0 → sum_by call_amount (ss ++ ts ++ s ∷ []) ≡ m + n
-  two_sides ss ts s m n a b none = omega (arith, sum_by-append call_amount (ss ++ ts) (s ∷ []), sum_by-append call_amount ss ts, sum_by-cons call_amount s [], a, b, none)
-
   pub calls_counted : (r : Ranking) → (ss : List Step) → AreSteps bytes net r ss → sum_by call_amount ss ≡ call_count r
   calls_counted (call c) ss is = rw is.1 (omega (arith, sum_by-cons call_amount (step.Call is.0) []))
   calls_counted (calls []) ss is = absurd is
   calls_counted (calls (c ∷ cs)) ss is = rw is.1 (omega (arith, sum_by-cons call_amount (step.Call is.0) []))
-  calls_counted (prefer a b) ss is = rw is.3 (two_sides is.0 is.1 (step.Above is.2) (call_count a) (call_count b) (calls_counted a is.0 is.4) (calls_counted b is.1 is.5) refl)
-  calls_counted (either a b) ss is = rw is.2 (two_sides is.0 is.1 step.Or (call_count a) (call_count b) (calls_counted a is.0 is.3) (calls_counted b is.1 is.4) refl)
-  calls_counted (both a b) ss is = rw is.2 (two_sides is.0 is.1 step.And (call_count a) (call_count b) (calls_counted a is.0 is.3) (calls_counted b is.1 is.4) refl)
+  calls_counted (prefer a b) ss is = rw is.3 (calls_of_sides is.0 is.1 (step.Above is.2) (call_count a) (call_count b) (calls_counted a is.0 is.4) (calls_counted b is.1 is.5) refl)
+  calls_counted (either a b) ss is = rw is.2 (calls_of_sides is.0 is.1 step.Or (call_count a) (call_count b) (calls_counted a is.0 is.3) (calls_counted b is.1 is.4) refl)
+  calls_counted (both a b) ss is = rw is.2 (calls_of_sides is.0 is.1 step.And (call_count a) (call_count b) (calls_counted a is.0 is.3) (calls_counted b is.1 is.4) refl)
   calls_counted (negated a) ss is = rw is.1 (omega (arith, sum_by-append call_amount is.0 (step.Not ∷ []), sum_by-cons call_amount step.Not [], calls_counted a is.0 is.2))

@@ -12,6 +12,7 @@ use Rattle.policy_grammar.specs.declared.symbol.Symbol.TheVariants as symbol
 use Rattle.policy_grammar.specs.Symbols.{symbol_of}
 use Rattle.policy_grammar.specs.Lexemes.{lexeme_of, slice_of}
 use Rattle.policy_text.proofs.Words.{Word, sign, name, figure, IsWord, AreWords}
+use Rattle.policy_tokens.proofs.Cutting.{tokens_from-nil}
 
 -- bytes of ASCII
 abbrev pub AreAscii : List ℕ → Type 0
@@ -45,14 +46,9 @@ tokens_step : (n from : ℕ) (place : Place) (b : ℕ) (bs : List ℕ) (k : ℕ)
 unfolding tokens_from
 tokens_step n from place b bs k here ts taken token rest = rw (taken, rest, token) refl
 
-tokens_none : (n from : ℕ) (place : Place) → tokens_from n from place [] ≡ Ok []
-unfolding tokens_from
-tokens_none zero from place = refl
-tokens_none (suc n) from place = refl
-
 -- the end of a text
 pub IsCut-nil : IsCut [] []
-IsCut-nil = record { ascii = tt; cut = λ bytes before from n place is at room. ([], tokens_none n from place, tt) }
+IsCut-nil = record { ascii = tt; cut = λ bytes before from n place is at room. ([], tokens_from-nil n from place, tt) }
 
 slice_there : (bytes before w t : List ℕ) (from : ℕ) → bytes ≡ before ++ (w ++ t) → from ≡ length before → slice_of bytes from (from + length w) ≡ w
 slice_there bytes before w t from is at =

@@ -11,6 +11,7 @@ use Rattle.path_words.specs.declared.policy.FromSet.TheVariants as from_set
 use Rattle.path_words.specs.declared.policy.Origin.{Origin}
 use Rattle.path_words.specs.Policies.{Ranking, call, calls, prefer, either, both, negated, PlainStatement, PlainPolicy, IsPolicy}
 use Rattle.policy_text.specs.PolicyText.{has_sets, clause_word}
+use Rattle.net_base.specs.declared.limits.TheConstants.{BRACKETS}
 
 -- the set holds no location that fails the test
 abbrev pub HoldsOnly : (ℕ → Bool) → LocSet → Type 0
@@ -96,7 +97,7 @@ IsWritableFrom net (from_set.Named s) = HoldsOnly (is_location net) s × HoldsSo
 pub record IsPrintableStatement (net : PlainNet) (s : PlainStatement) : Type 0 where
   pub patterns : s.patterns ≢ []
   pub ranked : IsWritable net s.ranked
-  pub brackets : open_brackets 1 s.ranked ≤ 64
+  pub brackets : open_brackets 1 s.ranked ≤ BRACKETS
   pub calls : call_count s.ranked ≤ 256
   pub from : IsWritableFrom net s.from
 

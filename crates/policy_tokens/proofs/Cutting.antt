@@ -18,6 +18,12 @@ regroup : (front new : List Token) (read : Result (List Token) PolicyFault) → 
 regroup front new (Ok ts) = ap Ok (sym (append_assoc front new ts))
 regroup front new (Err e) = refl
 
+-- nothing has no tokens
+pub tokens_from-nil : (n from : ℕ) (place : Place) → tokens_from n from place [] ≡ Ok []
+unfolding tokens_from
+tokens_from-nil zero from place = refl
+tokens_from-nil (suc n) from place = refl
+
 -- one piece more
 pub goes_on : (front : List Token) (n from k : ℕ) (place : Place) (bytes : List ℕ) (total : Result (List Token) PolicyFault)
     → 0 < length bytes → length bytes ≤ n → piece_taken place (piece_at bytes) ≡ Ok k → with_front front (tokens_from n from place bytes) ≡ total

@@ -25,6 +25,7 @@ use Rattle.policy_text.specs.Values.{HasLocSets}
 use Rattle.printing_law.proofs.Forms.{Tree, steps_of, has_brackets, brackets_of, AllCalls, HasArgs, IsCallForm}
 use Rattle.printing_law.proofs.Names.{NamesStand}
 use Rattle.printing_law.proofs.Calls.{HasGoodSets, IsGoodCall, call_sets, call_good}
+use Rattle.policy_rules.proofs.CallSums.{calls_of_sides}
 
 -- ---- what the steps of a tree do
 
@@ -61,15 +62,12 @@ calls_in (Tree.or a b) = calls_in a + calls_in b
 calls_in (Tree.and a b) = calls_in a + calls_in b
 calls_in (Tree.not a) = calls_in a
 
-two_counted : (xs ys : List Step) (s : Step) (m n : ℕ) → sum_by call_amount xs ≡ m → sum_by call_amount ys ≡ n → call_amount s ≡ 0 → sum_by call_amount (xs ++ ys ++ s ∷ []) ≡ m + n
-two_counted xs ys s m n a b none = omega (arith, sum_by-append call_amount (xs ++ ys) (s ∷ []), sum_by-append call_amount xs ys, sum_by-cons call_amount s [], a, b, none)
-
 calls_counted : (t : Tree) → sum_by call_amount (steps_of t) ≡ calls_in t
 unfolding calls_in
 calls_counted (Tree.leaf c) = omega (arith, sum_by-cons call_amount (step.Call c) [])
-calls_counted (Tree.above p a b) = two_counted (steps_of a) (steps_of b) (step.Above p) (calls_in a) (calls_in b) (calls_counted a) (calls_counted b) refl
-calls_counted (Tree.or a b) = two_counted (steps_of a) (steps_of b) step.Or (calls_in a) (calls_in b) (calls_counted a) (calls_counted b) refl
-calls_counted (Tree.and a b) = two_counted (steps_of a) (steps_of b) step.And (calls_in a) (calls_in b) (calls_counted a) (calls_counted b) refl
+calls_counted (Tree.above p a b) = calls_of_sides (steps_of a) (steps_of b) (step.Above p) (calls_in a) (calls_in b) (calls_counted a) (calls_counted b) refl
+calls_counted (Tree.or a b) = calls_of_sides (steps_of a) (steps_of b) step.Or (calls_in a) (calls_in b) (calls_counted a) (calls_counted b) refl
+calls_counted (Tree.and a b) = calls_of_sides (steps_of a) (steps_of b) step.And (calls_in a) (calls_in b) (calls_counted a) (calls_counted b) refl
 calls_counted (Tree.not a) = omega (arith, sum_by-append call_amount (steps_of a) (step.Not ∷ []), sum_by-cons call_amount step.Not [], calls_counted a)
 
 each_parts : (check : Step → Result ⊤ PolicyFault) (xs ys : List Step) (x : ⊤) → each check (xs ++ ys) ≡ Ok x → (each check xs ≡ Ok tt) × (each check ys ≡ Ok x)

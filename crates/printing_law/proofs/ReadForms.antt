@@ -1,12 +1,11 @@
 -- What is read of a text has its form: the grammar says so, and no bracket of the text is too deep.
 use Rattle.std.proofs.Common.{◌≡◌, ℕ, suc, ◌+◌, ◌≤◌, Bool, true, false, List, [], ◌∷◌, ◌++◌, length, Some, None, Option, Ok, refl, sym, ap, ◌∙◌, subst, arith, append_assoc, inl, inr, ltb-true, leb-false}
-use Rattle.std.specs.Prelude.{⊤, ◌-◌, ◌<◌, nat_lt, nat_le, if◌then◌else◌}
+use Rattle.std.specs.Prelude.{◌-◌, ◌<◌, nat_lt, nat_le, if◌then◌else◌}
 use Rattle.std.specs.List.{AllByRecursion}
 use Rattle.std.proofs.lemmas.Bool.{cases_lt, lt-ltb}
 use Rattle.net_base.specs.declared.place.Place.{Place}
 use Rattle.net_base.specs.Steps.{◌>>=◌}
 use Rattle.net_base.proofs.StepLemmas.{bind_ok}
-use Rattle.policy_tokens.specs.declared.fault.PolicyFault.{PolicyFault}
 use Rattle.policy_tokens.specs.declared.fault.PolicyFault.TheVariants.{Deep}
 use Rattle.policy_tokens.specs.Places.{place_of}
 use Rattle.policy_tokens.specs.Tokens.{tokens_of}
@@ -27,6 +26,7 @@ use Rattle.policy_parser.specs.Spelled.{none_at, items_spelled}
 use Rattle.grammar_laws.specs.Grammar.{Is, Rule, IsMore, IsList, IsName, IsNames, IsGroup, IsSet, IsOne, StandsAlone, TakesSets, IsCall, front_place, IsRanked, IsChoice, IsJoint, IsUnit, IsAtom, IsPattern, IsPredicate, IsFrom, IsItem, IsPolicy}
 use Rattle.grammar_laws.proofs.TextLaws.{read-policy}
 use Rattle.printing_law.proofs.Forms.{Tree, steps_of, has_brackets, one_if, brackets_of, AllCalls, IsNamed, IsArg, HasArgs, IsCallForm, HasForm}
+use Rattle.policy_parser.proofs.Steps.{none_at_ok}
 
 -- ---- room for brackets
 
@@ -322,10 +322,6 @@ policy_forms (IsPolicy.more {ts = ts} {us = us} i p) ms fits =
     let first : Fits 0 (ts ++ (us ++ ms)) = subst (Fits 0) (append_assoc ts us ms) fits in
     (item_form i (us ++ ms) first, policy_forms p ms (item_leaves i 0 (us ++ ms) first))
 
-none_is : (fault : Place → PolicyFault) (o : Option Place) (x : ⊤) → none_at fault o ≡ Ok x → o ≡ None
-none_is fault (Some p) x h = absurd cc
-none_is fault None x h = refl
-
 -- each item of a text has its form
 pub items_have_forms : (bytes : List ℕ) (items : List Item) → items_spelled bytes ≡ Ok items → AllByRecursion HasForm items
 unfolding items_spelled
@@ -333,4 +329,4 @@ items_have_forms bytes items h =
     let end : Place = place_of bytes (length bytes) in
     let a = bind_ok (tokens_of bytes) (λ ts. none_at Deep (first_deep 0 (lexemes_of bytes ts end)) >>= λ _. items_of (lexemes_of bytes ts end)) items h in
     let b = bind_ok (none_at Deep (first_deep 0 (lexemes_of bytes a.0 end))) (λ _. items_of (lexemes_of bytes a.0 end)) items a.2 in
-    policy_forms (read-policy bytes a.0 end items b.2) (end_of end ∷ []) (none_is Deep (first_deep 0 (lexemes_of bytes a.0 end)) b.0 b.1)
+    policy_forms (read-policy bytes a.0 end items b.2) (end_of end ∷ []) (none_at_ok Deep (first_deep 0 (lexemes_of bytes a.0 end)) b.0 b.1)
