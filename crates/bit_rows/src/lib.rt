@@ -4,8 +4,6 @@
 mod kernels;
 mod members;
 mod rows;
-#[cfg(test)]
-mod tests;
 
 pub use kernels::{
     add_row, clear_row, count_bits, count_outside, is_set, keep_row, outside_is_empty, set_bit,

@@ -3,76 +3,54 @@ use crate::rows::{NO_CONFIG, Row, Sample};
 use evidence_rules::CheckRule::{
     Cases, ConfigDiffers, PrefListener, PrefRank, PrefStep, Ranks, Tags, Walks,
 };
-use samples::{RING_WITH_A_PEER, TWO_EXITS};
+use samples::{RING_WITH_A_PEER, TWO_EXITS, TWO_EXITS_CONFIG};
 
-const EXITS_CONFIG: &[u8] = b"propane-config 1
-class 1 0.0.0.0/0 le 32
-router R1 asn 64512 id 10.255.0.1
-session R2 asn 64513
-import 1 tag 64513:1 set 64512:2 pref 100
-import 1 tag 64513:2 set 64512:1 pref 101
-export 1 tag 64512:1
-export 1 tag 64512:2
-peer P1 asn 1001
-import 1 set 64512:1 pref 101
-end
-router R2 asn 64513 id 10.255.0.2
-session R1 asn 64512
-import 1 tag 64512:1 set 64513:2 pref 101
-import 1 tag 64512:2 set 64513:1 pref 100
-export 1 tag 64513:1
-export 1 tag 64513:2
-peer P2 asn 1002
-import 1 set 64513:1 pref 100
-end
-";
-
-const EXITS_EVIDENCE: &[u8] = br#"{"cases":[{"external":true,"nodes":[[2,0,0,0,0,0],[3,0,0,0,0,0],
+const EXITS_EVIDENCE: &str = r#"{"cases":[{"external":true,"nodes":[[2,0,0,0,0,0],[3,0,0,0,0,0],
 [0,0,1,101,64512,1],[1,0,2,100,64513,1],[1,0,1,101,64513,2],[0,0,2,100,64512,2]],"origins":[2,3],"prefixes":[],
 "starts":[0,1],"statement":1,"steps":[[0,2],[1,3],[2,4],[3,5],[4,2],[5,3]]}],"version":1}"#;
 
-const NUMBERS_OF_PEERS: &[u8] =
-    br#"{"cases":[{"external":true,"nodes":[[2,0,0,7,0,0],[3,0,0,4294967295,0,0],
+const NUMBERS_OF_PEERS: &str =
+    r#"{"cases":[{"external":true,"nodes":[[2,0,0,7,0,0],[3,0,0,4294967295,0,0],
 [0,0,1,101,64512,1],[1,0,2,100,64513,1],[1,0,1,101,64513,2],[0,0,2,100,64512,2]],"origins":[2,3],"prefixes":[],
 "starts":[0,1],"statement":1,"steps":[[0,2],[1,3],[2,4],[3,5],[4,2],[5,3]]}],"version":1}"#;
 
-const NO_CASES: &[u8] = br#"{"cases":[],"version":1}"#;
+const NO_CASES: &str = r#"{"cases":[],"version":1}"#;
 
-const A_CASE_TOO_MANY: &[u8] = br#"{"cases":[{"external":true,"nodes":[[2,0,0,0,0,0],[3,0,0,0,0,0],
+const A_CASE_TOO_MANY: &str = r#"{"cases":[{"external":true,"nodes":[[2,0,0,0,0,0],[3,0,0,0,0,0],
 [0,0,1,101,64512,1],[1,0,2,100,64513,1],[1,0,1,101,64513,2],[0,0,2,100,64512,2]],"origins":[2,3],"prefixes":[],
 "starts":[0,1],"statement":1,"steps":[[0,2],[1,3],[2,4],[3,5],[4,2],[5,3]]},
 {"external":true,"nodes":[],"origins":[2,3],"prefixes":[],"starts":[],"statement":1,"steps":[]}],"version":1}"#;
 
 // Without the step from R1 to R2 over which the second exit is used.
-const STEP_LEFT_OUT: &[u8] = br#"{"cases":[{"external":true,"nodes":[[2,0,0,0,0,0],[3,0,0,0,0,0],
+const STEP_LEFT_OUT: &str = r#"{"cases":[{"external":true,"nodes":[[2,0,0,0,0,0],[3,0,0,0,0,0],
 [0,0,1,101,64512,1],[1,0,2,100,64513,1],[1,0,1,101,64513,2],[0,0,2,100,64512,2]],"origins":[2,3],"prefixes":[],
 "starts":[0,1],"statement":1,"steps":[[0,2],[1,3],[2,4],[3,5],[4,2]]}],"version":1}"#;
 
 // The second exit has the first rank too.
-const RANKS_ALIKE: &[u8] = br#"{"cases":[{"external":true,"nodes":[[2,0,0,0,0,0],[3,0,0,0,0,0],
+const RANKS_ALIKE: &str = r#"{"cases":[{"external":true,"nodes":[[2,0,0,0,0,0],[3,0,0,0,0,0],
 [0,0,1,101,64512,1],[1,0,1,100,64513,1],[1,0,1,101,64513,2],[0,0,1,100,64512,2]],"origins":[2,3],"prefixes":[],
 "starts":[0,1],"statement":1,"steps":[[0,2],[1,3],[2,4],[3,5],[4,2],[5,3]]}],"version":1}"#;
 
-const EXCHANGED: &[u8] = br#"{"cases":[{"external":true,"nodes":[[2,0,0,0,0,0],[3,0,0,0,0,0],
+const EXCHANGED: &str = r#"{"cases":[{"external":true,"nodes":[[2,0,0,0,0,0],[3,0,0,0,0,0],
 [0,0,1,100,64512,1],[1,0,2,100,64513,1],[1,0,1,101,64513,2],[0,0,2,101,64512,2]],"origins":[2,3],"prefixes":[],
 "starts":[0,1],"statement":1,"steps":[[0,2],[1,3],[2,4],[3,5],[4,2],[5,3]]}],"version":1}"#;
 
-const TAG_TWICE: &[u8] = br#"{"cases":[{"external":true,"nodes":[[2,0,0,0,0,0],[3,0,0,0,0,0],
+const TAG_TWICE: &str = r#"{"cases":[{"external":true,"nodes":[[2,0,0,0,0,0],[3,0,0,0,0,0],
 [0,0,1,101,64512,1],[1,0,2,100,64513,1],[1,0,1,101,64513,1],[0,0,2,100,64512,2]],"origins":[2,3],"prefixes":[],
 "starts":[0,1],"statement":1,"steps":[[0,2],[1,3],[2,4],[3,5],[4,2],[5,3]]}],"version":1}"#;
 
-const TAG_AT_A_PEER: &[u8] = br#"{"cases":[{"external":true,"nodes":[[2,0,0,0,0,0],[3,0,0,0,1002,1],
+const TAG_AT_A_PEER: &str = r#"{"cases":[{"external":true,"nodes":[[2,0,0,0,0,0],[3,0,0,0,1002,1],
 [0,0,1,101,64512,1],[1,0,2,100,64513,1],[1,0,1,101,64513,2],[0,0,2,100,64512,2]],"origins":[2,3],"prefixes":[],
 "starts":[0,1],"statement":1,"steps":[[0,2],[1,3],[2,4],[3,5],[4,2],[5,3]]}],"version":1}"#;
 
 // R2, which is no source, stands by the second exit where R1 stands by the first one.
-const EXCHANGED_BEHIND: &[u8] = br#"{"cases":[{"external":true,"nodes":[[2,0,0,0,0,0],[3,0,0,0,0,0],
+const EXCHANGED_BEHIND: &str = r#"{"cases":[{"external":true,"nodes":[[2,0,0,0,0,0],[3,0,0,0,0,0],
 [0,0,1,101,64512,1],[1,0,0,101,64513,1],[1,0,0,100,64513,2],[0,0,2,100,64512,2]],"origins":[2,3],"prefixes":[],
 "starts":[0,1],"statement":1,"steps":[[0,2],[1,3],[2,4],[3,5],[4,2],[5,3]]}],"version":1}"#;
 
 // P hears two nodes of D, that over X with the second rank, and both have one number.
-const HEARD_ALIKE: &[u8] =
-    br#"{"cases":[{"external":false,"nodes":[[2,0,0,100,64514,1],[1,0,0,100,64513,1],
+const HEARD_ALIKE: &str =
+    r#"{"cases":[{"external":false,"nodes":[[2,0,0,100,64514,1],[1,0,0,100,64513,1],
 [3,0,0,100,64515,1],[0,0,0,100,64512,1],[0,0,0,100,64512,2],[3,0,0,100,64515,2],[4,1,2,0,0,0],[4,1,1,0,0,0]],
 "origins":[2],"prefixes":["10.0.1.0/24"],"starts":[0],"statement":1,
 "steps":[[0,1],[0,2],[1,3],[2,4],[3,1],[3,5],[3,6],[4,1],[4,2],[4,7],[5,3]]}],"version":1}"#;
@@ -87,13 +65,13 @@ pub const EXITS: Sample = Sample {
 const EXITS_ROWS: [Row; 10] = [
     Row {
         name: "as compiled",
-        config: EXITS_CONFIG,
+        config: TWO_EXITS_CONFIG,
         evidence: EXITS_EVIDENCE,
         found: None,
     },
     Row {
         name: "numbers of peers",
-        config: EXITS_CONFIG,
+        config: TWO_EXITS_CONFIG,
         evidence: NUMBERS_OF_PEERS,
         found: None,
     },

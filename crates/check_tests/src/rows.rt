@@ -7,8 +7,8 @@ pub type Place = (CheckRule, u32, u32, u32, u64);
 /// The texts of a configuration and of its evidence, and where a rule fails or, where there is none, that all hold.
 pub struct Row {
     pub name: &'static str,
-    pub config: &'static [u8],
-    pub evidence: &'static [u8],
+    pub config: &'static str,
+    pub evidence: &'static str,
     pub found: Option<Place>,
 }
 
@@ -20,4 +20,4 @@ pub struct Sample {
 }
 
 /// The configuration of no router. Only the last rule asks for another one.
-pub const NO_CONFIG: &[u8] = b"propane-config 1\n";
+pub const NO_CONFIG: &str = "propane-config 1\n";

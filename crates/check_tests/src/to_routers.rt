@@ -1,22 +1,12 @@
 //! Evidence for prefixes that a router originates.
 use crate::rows::{NO_CONFIG, Row, Sample};
 use evidence_rules::CheckRule::{ConfigDiffers, Mixed, PrefLoop, PrefRank, Tags};
-use samples::{CHAIN, TRIANGLE, TWO_ROUTERS, WAYPOINT_RING};
+use samples::{
+    CHAIN, TRIANGLE, TRIANGLE_CONFIG, TWO_ROUTERS, TWO_ROUTERS_CONFIG, TWO_ROUTERS_EVIDENCE,
+    WAYPOINT_RING,
+};
 
-const TWO_CONFIG: &[u8] = b"propane-config 1
-class 1 10.0.1.0/24
-router A asn 64512 id 10.255.0.1
-originate 1 10.0.1.0/24 tag 64512:1
-session B asn 64513
-export 1 tag 64512:1
-end
-router B asn 64513 id 10.255.0.2
-session A asn 64512
-import 1 tag 64512:1 set 64513:1 pref 100
-end
-";
-
-const A_ROUTER_TOO_MANY: &[u8] = b"propane-config 1
+const A_ROUTER_TOO_MANY: &str = "propane-config 1
 class 1 10.0.1.0/24
 router A asn 64512 id 10.255.0.1
 originate 1 10.0.1.0/24 tag 64512:1
@@ -31,29 +21,24 @@ router C asn 64514 id 10.255.0.3
 end
 ";
 
-const TWO_EVIDENCE: &[u8] =
-    br#"{"cases":[{"external":false,"nodes":[[0,0,0,100,64512,1],[1,0,1,100,64513,1]],
+const NUMBER_OF_B: &str =
+    r#"{"cases":[{"external":false,"nodes":[[0,0,0,100,64512,1],[1,0,1,101,64513,1]],
 "origins":[0],"prefixes":["10.0.1.0/24"],"starts":[0],"statement":1,"steps":[[0,1]]}],"version":1}"#;
 
-const NUMBER_OF_B: &[u8] =
-    br#"{"cases":[{"external":false,"nodes":[[0,0,0,100,64512,1],[1,0,1,101,64513,1]],
+const NUMBER_OF_A: &str =
+    r#"{"cases":[{"external":false,"nodes":[[0,0,0,7,64512,1],[1,0,1,100,64513,1]],
 "origins":[0],"prefixes":["10.0.1.0/24"],"starts":[0],"statement":1,"steps":[[0,1]]}],"version":1}"#;
 
-const NUMBER_OF_A: &[u8] =
-    br#"{"cases":[{"external":false,"nodes":[[0,0,0,7,64512,1],[1,0,1,100,64513,1]],
-"origins":[0],"prefixes":["10.0.1.0/24"],"starts":[0],"statement":1,"steps":[[0,1]]}],"version":1}"#;
-
-const TAG_OF_A: &[u8] =
-    br#"{"cases":[{"external":false,"nodes":[[0,0,0,100,64512,1],[1,0,1,100,64512,2]],
+const TAG_OF_A: &str =
+    r#"{"cases":[{"external":false,"nodes":[[0,0,0,100,64512,1],[1,0,1,100,64512,2]],
 "origins":[0],"prefixes":["10.0.1.0/24"],"starts":[0],"statement":1,"steps":[[0,1]]}],"version":1}"#;
 
 // Two nodes at B and at C, by whether a walk has come straight from A.
-const FINER: &[u8] =
-    br#"{"cases":[{"external":false,"nodes":[[0,0,0,100,64512,1],[1,0,1,100,64513,1],
+const FINER: &str = r#"{"cases":[{"external":false,"nodes":[[0,0,0,100,64512,1],[1,0,1,100,64513,1],
 [2,0,1,100,64514,1],[1,0,1,100,64513,2],[2,0,1,100,64514,2]],"origins":[0],"prefixes":["10.0.1.0/24"],
 "starts":[0],"statement":1,"steps":[[0,1],[0,2],[1,4],[2,3],[3,4],[4,3]]}],"version":1}"#;
 
-const FINER_CONFIG: &[u8] = b"propane-config 1
+const FINER_CONFIG: &str = "propane-config 1
 class 1 10.0.1.0/24
 router A asn 64512 id 10.255.0.1
 originate 1 10.0.1.0/24 tag 64512:1
@@ -82,39 +67,13 @@ export 1 tag 64514:2
 end
 ";
 
-// As the compiler writes it, with one node a router.
-const PLAIN_CONFIG: &[u8] = b"propane-config 1
-class 1 10.0.1.0/24
-router A asn 64512 id 10.255.0.1
-originate 1 10.0.1.0/24 tag 64512:1
-session B asn 64513
-export 1 tag 64512:1
-session C asn 64514
-export 1 tag 64512:1
-end
-router B asn 64513 id 10.255.0.2
-session A asn 64512
-import 1 tag 64512:1 set 64513:1 pref 100
-session C asn 64514
-import 1 tag 64514:1 set 64513:1 pref 100
-export 1 tag 64513:1
-end
-router C asn 64514 id 10.255.0.3
-session A asn 64512
-import 1 tag 64512:1 set 64514:1 pref 100
-session B asn 64513
-import 1 tag 64513:1 set 64514:1 pref 100
-export 1 tag 64514:1
-end
-";
-
 // One node for X, before W was passed and after.
-const COARSER: &[u8] =
-    br#"{"cases":[{"external":false,"nodes":[[0,0,0,100,64512,1],[1,0,1,100,64513,1],
+const COARSER: &str =
+    r#"{"cases":[{"external":false,"nodes":[[0,0,0,100,64512,1],[1,0,1,100,64513,1],
 [2,0,1,100,64514,1]],"origins":[0],"prefixes":["10.0.1.0/24"],"starts":[0],"statement":1,
 "steps":[[0,1],[1,2],[2,1]]}],"version":1}"#;
 
-const COARSER_CONFIG: &[u8] = b"propane-config 1
+const COARSER_CONFIG: &str = "propane-config 1
 class 1 10.0.1.0/24
 router D asn 64512 id 10.255.0.1
 originate 1 10.0.1.0/24 tag 64512:1
@@ -136,19 +95,19 @@ end
 ";
 
 // X has a rank only where W was passed.
-const UNRANKED: &[u8] =
-    br#"{"cases":[{"external":false,"nodes":[[0,0,0,100,64512,1],[1,0,0,100,64513,1],
+const UNRANKED: &str =
+    r#"{"cases":[{"external":false,"nodes":[[0,0,0,100,64512,1],[1,0,0,100,64513,1],
 [2,0,1,100,64514,1],[1,0,1,100,64513,2]],"origins":[0],"prefixes":["10.0.1.0/24"],"starts":[0],"statement":1,
 "steps":[[0,1],[1,2],[2,3],[3,2]]}],"version":1}"#;
 
-const ONE_NUMBER: &[u8] =
-    br#"{"cases":[{"external":false,"nodes":[[0,0,0,100,64512,1],[1,0,2,100,64513,1],
+const ONE_NUMBER: &str =
+    r#"{"cases":[{"external":false,"nodes":[[0,0,0,100,64512,1],[1,0,2,100,64513,1],
 [3,0,2,100,64515,1],[2,0,1,100,64514,1],[1,0,1,100,64513,2],[3,0,1,100,64515,2]],"origins":[0],
 "prefixes":["10.0.1.0/24"],"starts":[0],"statement":1,
 "steps":[[0,1],[0,2],[1,3],[2,3],[3,4],[3,5],[4,3],[5,3]]}],"version":1}"#;
 
-const NUMBERS_BY_RANK: &[u8] =
-    br#"{"cases":[{"external":false,"nodes":[[0,0,0,100,64512,1],[1,0,2,100,64513,1],
+const NUMBERS_BY_RANK: &str =
+    r#"{"cases":[{"external":false,"nodes":[[0,0,0,100,64512,1],[1,0,2,100,64513,1],
 [3,0,2,100,64515,1],[2,0,1,101,64514,1],[1,0,1,101,64513,2],[3,0,1,101,64515,2]],"origins":[0],
 "prefixes":["10.0.1.0/24"],"starts":[0],"statement":1,
 "steps":[[0,1],[0,2],[1,3],[2,3],[3,4],[3,5],[4,3],[5,3]]}],"version":1}"#;
@@ -163,13 +122,13 @@ pub const TWO: Sample = Sample {
 const TWO_ROWS: [Row; 5] = [
     Row {
         name: "as compiled",
-        config: TWO_CONFIG,
-        evidence: TWO_EVIDENCE,
+        config: TWO_ROUTERS_CONFIG,
+        evidence: TWO_ROUTERS_EVIDENCE,
         found: None,
     },
     Row {
         name: "the number of a start",
-        config: TWO_CONFIG,
+        config: TWO_ROUTERS_CONFIG,
         evidence: NUMBER_OF_A,
         found: None,
     },
@@ -181,14 +140,14 @@ const TWO_ROWS: [Row; 5] = [
     },
     Row {
         name: "a number that the configuration has not",
-        config: TWO_CONFIG,
+        config: TWO_ROUTERS_CONFIG,
         evidence: NUMBER_OF_B,
         found: Some((ConfigDiffers, 0, 1, 0, 10)),
     },
     Row {
         name: "a router too many",
         config: A_ROUTER_TOO_MANY,
-        evidence: TWO_EVIDENCE,
+        evidence: TWO_ROUTERS_EVIDENCE,
         found: Some((ConfigDiffers, 0, 0, 0, 12)),
     },
 ];
@@ -209,7 +168,7 @@ const THREE_ROWS: [Row; 2] = [
     },
     Row {
         name: "finer than the configuration",
-        config: PLAIN_CONFIG,
+        config: TRIANGLE_CONFIG,
         evidence: FINER,
         found: Some((ConfigDiffers, 0, 1, 0, 14)),
     },

@@ -3,7 +3,7 @@ use crate::rows::{NO_CONFIG, Row, Sample};
 use evidence_rules::CheckRule::{Cases, Ranks, Tags, Walks};
 use samples::TWO_ROUTERS;
 
-const CONFIG: &[u8] = b"propane-config 1
+const CONFIG: &str = "propane-config 1
 class 1 10.0.1.0/24
 class 2 10.0.2.0/24
 router A asn 64512 id 10.255.0.1
@@ -20,39 +20,39 @@ export 2 tag 64513:2
 end
 ";
 
-const EVIDENCE: &[u8] =
-    br#"{"cases":[{"external":false,"nodes":[[0,0,0,100,64512,1],[1,0,1,100,64513,1]],"origins":[0],"prefixes":["10.0.1.0/24"],
+const EVIDENCE: &str =
+    r#"{"cases":[{"external":false,"nodes":[[0,0,0,100,64512,1],[1,0,1,100,64513,1]],"origins":[0],"prefixes":["10.0.1.0/24"],
 "starts":[0],"statement":1,"steps":[[0,1]]},
 {"external":false,"nodes":[[1,0,0,100,64513,2],[0,0,1,100,64512,2]],"origins":[1],"prefixes":["10.0.2.0/24"],
 "starts":[0],"statement":1,"steps":[[0,1]]}],"version":1}"#;
 
 // The second rank in the first case, no step in the second one.
-const RANK_THEN_STEP: &[u8] =
-    br#"{"cases":[{"external":false,"nodes":[[0,0,0,100,64512,1],[1,0,2,100,64513,1]],"origins":[0],"prefixes":["10.0.1.0/24"],
+const RANK_THEN_STEP: &str =
+    r#"{"cases":[{"external":false,"nodes":[[0,0,0,100,64512,1],[1,0,2,100,64513,1]],"origins":[0],"prefixes":["10.0.1.0/24"],
 "starts":[0],"statement":1,"steps":[[0,1]]},
 {"external":false,"nodes":[[1,0,0,100,64513,2],[0,0,1,100,64512,2]],"origins":[1],"prefixes":["10.0.2.0/24"],
 "starts":[0],"statement":1,"steps":[]}],"version":1}"#;
 
-const RANKS_OF_BOTH: &[u8] =
-    br#"{"cases":[{"external":false,"nodes":[[0,0,0,100,64512,1],[1,0,2,100,64513,1]],"origins":[0],"prefixes":["10.0.1.0/24"],
+const RANKS_OF_BOTH: &str =
+    r#"{"cases":[{"external":false,"nodes":[[0,0,0,100,64512,1],[1,0,2,100,64513,1]],"origins":[0],"prefixes":["10.0.1.0/24"],
 "starts":[0],"statement":1,"steps":[[0,1]]},
 {"external":false,"nodes":[[1,0,0,100,64513,2],[0,0,2,100,64512,2]],"origins":[1],"prefixes":["10.0.2.0/24"],
 "starts":[0],"statement":1,"steps":[[0,1]]}],"version":1}"#;
 
-const RANK_OF_THE_SECOND: &[u8] =
-    br#"{"cases":[{"external":false,"nodes":[[0,0,0,100,64512,1],[1,0,1,100,64513,1]],"origins":[0],"prefixes":["10.0.1.0/24"],
+const RANK_OF_THE_SECOND: &str =
+    r#"{"cases":[{"external":false,"nodes":[[0,0,0,100,64512,1],[1,0,1,100,64513,1]],"origins":[0],"prefixes":["10.0.1.0/24"],
 "starts":[0],"statement":1,"steps":[[0,1]]},
 {"external":false,"nodes":[[1,0,0,100,64513,2],[0,0,2,100,64512,2]],"origins":[1],"prefixes":["10.0.2.0/24"],
 "starts":[0],"statement":1,"steps":[[0,1]]}],"version":1}"#;
 
-const TAG_OF_THE_FIRST: &[u8] =
-    br#"{"cases":[{"external":false,"nodes":[[0,0,0,100,64512,1],[1,0,1,100,64513,1]],"origins":[0],"prefixes":["10.0.1.0/24"],
+const TAG_OF_THE_FIRST: &str =
+    r#"{"cases":[{"external":false,"nodes":[[0,0,0,100,64512,1],[1,0,1,100,64513,1]],"origins":[0],"prefixes":["10.0.1.0/24"],
 "starts":[0],"statement":1,"steps":[[0,1]]},
 {"external":false,"nodes":[[1,0,0,100,64513,2],[0,0,1,100,64512,1]],"origins":[1],"prefixes":["10.0.2.0/24"],
 "starts":[0],"statement":1,"steps":[[0,1]]}],"version":1}"#;
 
-const EXCHANGED: &[u8] =
-    br#"{"cases":[{"external":false,"nodes":[[1,0,0,100,64513,2],[0,0,1,100,64512,2]],"origins":[1],"prefixes":["10.0.2.0/24"],
+const EXCHANGED: &str =
+    r#"{"cases":[{"external":false,"nodes":[[1,0,0,100,64513,2],[0,0,1,100,64512,2]],"origins":[1],"prefixes":["10.0.2.0/24"],
 "starts":[0],"statement":1,"steps":[[0,1]]},
 {"external":false,"nodes":[[0,0,0,100,64512,1],[1,0,1,100,64513,1]],"origins":[0],"prefixes":["10.0.1.0/24"],
 "starts":[0],"statement":1,"steps":[[0,1]]}],"version":1}"#;

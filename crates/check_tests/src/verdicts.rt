@@ -21,8 +21,8 @@ fn verdict(alloc: Global, net: &Net, policy: &Policy, row: &Row) -> Option<Verdi
     if row.config.len() > 65536 {
         return None;
     }
-    let config = read_config(alloc, row.config).ok()?;
-    let evidence = read_evidence(alloc, row.evidence).ok()?;
+    let config = read_config(alloc, row.config.as_bytes()).ok()?;
+    let evidence = read_evidence(alloc, row.evidence.as_bytes()).ok()?;
     check(alloc, net, policy, &config, &evidence).ok()
 }
 

@@ -4,8 +4,6 @@
 mod assign;
 mod fault;
 mod law;
-#[cfg(test)]
-mod tests;
 
 pub use assign::tags;
 pub use fault::TagFault;

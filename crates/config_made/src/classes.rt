@@ -9,8 +9,8 @@ use net_base::{List, Pattern, Prefix};
 use path_words::{Case, Policy, Statement};
 use std::alloc::{AllocError, Global};
 
-// The statement with a number, from 1.
-fn statement_at(policy: &Policy, number: u32) -> Option<&Statement>
+/// The statement with a number, from 1.
+pub fn statement_at(policy: &Policy, number: u32) -> Option<&Statement>
     ensures { option_map (λ s. plain_statement s.now) result ≡ plain_statement_at (policy_of policy.now) number }
 {
     let statements = policy.statements();

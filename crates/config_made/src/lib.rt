@@ -9,5 +9,6 @@ mod hop;
 mod law;
 mod make;
 
+pub use classes::statement_at;
 pub use law::{case_lists_are_classes, made_configurations_are_one};
 pub use make::config_of;

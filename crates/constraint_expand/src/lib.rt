@@ -4,8 +4,6 @@
 mod calls;
 mod fault;
 mod ranked;
-#[cfg(test)]
-mod tests;
 
 pub use fault::ExpandFault;
 pub use ranked::expand;

@@ -4,6 +4,6 @@ pub mod Faults
 pub mod Fold
 pub mod Limits
 pub mod Live
-pub mod Parts
 pub mod SeenTags
 pub mod Texts
+pub mod Truth

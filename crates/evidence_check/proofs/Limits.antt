@@ -1,27 +1,19 @@
 -- How many steps are counted where walks of a case come to.
-use Rattle.std.proofs.Common.{◌≡◌, ℕ, ◌+◌, ◌-◌, ◌≤◌, List, [], ◌∷◌, ◌++◌, length, map, refl, sym, ap, ap₂, subst, ◌∙◌, arith, length-append}
-use Rattle.std.specs.List.{flat_map}
+use Rattle.std.proofs.Common.{◌≡◌, ℕ, ◌-◌, List, [], ◌∷◌, ◌++◌, length, refl, sym, ap, subst, ◌∙◌, arith}
 use Rattle.std.proofs.lemmas.List.{length-map}
 use Rattle.std.proofs.lemmas.Option.{same_Some}
 use Rattle.net_base.specs.declared.limits.TheConstants.{NODES}
 use Rattle.net_base.specs.Network.{PlainNet}
 use Rattle.path_words.specs.declared.case.Case.{Case}
 use Rattle.path_words.specs.Policies.{PlainPolicy, PlainStatement}
-use Rattle.path_exprs.specs.Standings.{IsWalked, PassesStates, Plan, Standing, plan_for, targets}
+use Rattle.path_exprs.specs.Standings.{IsWalked, PassesStates, Plan, plan_for}
 use Rattle.graph_base.specs.Graphs.{PlainGraph}
-use Rattle.standings.specs.Built.{IsBuilt, graph_over, node_of, place_in, steps_from}
+use Rattle.standings.specs.Built.{IsBuilt, graph_over, node_of}
 use Rattle.standings.proofs.OneGraph.{no_more_states, one-graph}
 use Rattle.graph_law.specs.Limits.{IsBuiltWithin}
+use Rattle.graph_law.proofs.Counted.{built_walked, count_steps}
 use Rattle.regret_law.specs.Passes.{AreWithin}
 use Rattle.evidence_check.specs.Listed.{AreWithinTo, IsWithin, IsWithinRoom}
-
--- as many steps are built as the standings have targets
-count_steps : (net : PlainNet) (plan : Plan) (all : List Standing) (k : ℕ) (xs : List Standing) → length (steps_from net plan all k xs) ≡ length (flat_map (targets net plan) xs)
-count_steps net plan all k [] = refl
-count_steps net plan all k (x ∷ xs) =
-    length-append (map (λ t. (k, place_in all t)) (targets net plan x)) (steps_from net plan all (k + 1) xs)
-    ∙ ap₂ (λ a b. a + b) (length-map (targets net plan x) (λ t. (k, place_in all t))) (count_steps net plan all (k + 1) xs)
-    ∙ sym (length-append (targets net plan x) (flat_map (targets net plan) xs))
 
 -- what is counted is what is built
 pub walked_steps : (net : PlainNet) (plan : Plan) (g : PlainGraph) (steps : ℕ) → IsBuilt net plan g → IsWalked net plan steps → steps ≡ length g.steps
@@ -42,19 +34,7 @@ not_too_many net plan steps many walked =
 
 -- what is built within the limits is within them
 pub built_within : (net : PlainNet) (room : ℕ) (s : PlainStatement) (c : Case) (g : PlainGraph) → IsBuiltWithin net room s c g → IsWithin net s c room (length g.steps)
-built_within net room s c g within =
-    let built = within.built in
-    let xs = built.0 in
-    record {
-      ranks = within.ranks;
-      walked = record {
-        standings = xs;
-        are = built.1;
-        few = subst (λ n. n ≤ NODES) (ap (λ (h : PlainGraph). length h.nodes) built.2 ∙ length-map xs _) within.states;
-        count = ap (λ (h : PlainGraph). length h.steps) built.2 ∙ count_steps net (plan_for net s c) xs 0 xs;
-      };
-      fits = within.steps;
-    }
+built_within net room s c g within = record { ranks = within.ranks; walked = built_walked net room s c g within; fits = within.steps }
 
 -- ---- cases one after the other
 

@@ -1,9 +1,9 @@
 //! The rules of cases, over all of them.
-ghost use Rattle.std.specs.Prelude.{◌≡◌, ◌+◌, ℕ, List, IfNone, IfOk, IfSome, Some, option_map};
+ghost use Rattle.std.specs.Prelude.{◌≡◌, ◌+◌, ℕ, List, IfNone, IfOk, IfSome, Some};
 ghost use Rattle.list_laws.specs.Members.{IsIn};
 ghost use Rattle.path_words.specs.Cases.{case_list};
-ghost use Rattle.path_words.specs.Policies.{plain_statement, policy_of};
-ghost use Rattle.evidence_base.specs.Made.{PlainCaseEvidence, case_at, statement_at};
+ghost use Rattle.path_words.specs.Policies.{policy_of};
+ghost use Rattle.evidence_base.specs.Made.{PlainCaseEvidence, case_at};
 ghost use Rattle.case_law.specs.Cases.{OriginsAreRouters};
 ghost use Rattle.evidence_rules.specs.declared.rule.CheckRule.TheVariants as rule;
 ghost use Rattle.evidence_check.specs.CaseFaults.{IsFaultFrom, IsLeastOrNone, least_with, lesser_of};
@@ -14,12 +14,13 @@ use crate::known::known_net;
 use crate::listed::within_limits;
 use crate::same::is_same_case;
 use crate::tags::case_number;
+use config_made::statement_at;
 use evidence_base::CaseEvidence;
 use evidence_rules::CheckRule;
 use net_base::Net;
 use net_base::limits::STEPS;
 use outside::NoMemory;
-use path_words::{Case, Policy, Statement};
+use path_words::{Case, Policy};
 use reach_prune::trim;
 use std::alloc::Global;
 
@@ -55,18 +56,6 @@ pub struct Judged {
     pub fault: Option<Fault>,
 }
 
-/// The statement with a number, from 1.
-fn statement_of(policy: &Policy, number: u32) -> Option<&Statement>
-    ensures { option_map (λ s. plain_statement s.now) result ≡ statement_at (policy_of policy.now) number }
-{
-    let statements = policy.statements();
-    let number = number as usize;
-    if number == 0 || number > statements.len() {
-        return None;
-    }
-    Some(&statements[number - 1])
-}
-
 /// Judges a case of the policy with its evidence, or None where that is for another case or a limit is passed.
 fn judge(
     alloc: Global,
@@ -87,7 +76,7 @@ fn judge(
     if !is_same_case(evidence.case(), case) {
         return Ok(None);
     }
-    let Some(statement) = statement_of(policy, case.statement) else {
+    let Some(statement) = statement_at(policy, case.statement) else {
         return Ok(None);
     };
     let Some(built) = within_limits(alloc, net, case, statement, room)? else {

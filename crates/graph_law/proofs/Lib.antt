@@ -14,3 +14,4 @@ pub mod Ranks
 pub mod Faith
 pub mod OneTrimmed
 pub mod Claimed
+pub mod Counted

@@ -1,6 +1,9 @@
-//! Graphs of cases, relations, numbers and refutations against small networks worked by hand.
+//! Graphs of cases, their states, relations, numbers, tags and refutations against small networks worked by hand, and
+//! rows of bits.
 #![tactic(auto)]
 
+#[cfg(test)]
+mod bits;
 #[cfg(test)]
 mod building;
 #[cfg(test)]
@@ -13,3 +16,7 @@ mod refutations;
 mod relations;
 #[cfg(test)]
 mod rows;
+#[cfg(test)]
+mod states;
+#[cfg(test)]
+mod tagging;

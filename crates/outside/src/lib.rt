@@ -11,8 +11,6 @@ mod no_memory;
 mod real;
 mod sink;
 mod sure_inputs;
-#[cfg(test)]
-mod tests;
 
 pub use count_sink::CountSink;
 pub use inputs::{InputFail, Inputs};

@@ -9,7 +9,5 @@ mod memo;
 mod reversal;
 mod shortcuts;
 mod states;
-#[cfg(test)]
-mod tests;
 
 pub use states::{Automata, State};

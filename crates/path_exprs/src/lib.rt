@@ -6,8 +6,6 @@ mod equality;
 mod expr;
 mod order;
 mod ranked_expr;
-#[cfg(test)]
-mod tests;
 
 pub use copy::copy_of;
 pub use expr::Expr;

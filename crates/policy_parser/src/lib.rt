@@ -8,6 +8,3 @@ mod statements;
 
 pub use policy_tokens::{PolicyFault, Token, TokenKind, tokens};
 pub use read::read_policy;
-
-#[cfg(test)]
-mod tests;

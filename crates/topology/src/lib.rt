@@ -42,24 +42,3 @@ pub fn read_topology(alloc: Global, bytes: &[u8]) -> Result<Net, TopoFault>
     let raw = shape::shape(alloc, &value)?;
     rules::judge(alloc, &raw)
 }
-
-#[cfg(test)]
-mod tests {
-    use super::*;
-    use net_base::Loc;
-
-    #[test]
-    fn two_linked_routers_are_read(rt: HostRuntime) {
-        let text =
-            b"{\"links\":[[\"B\",\"A\"]],\"peers\":[],\"routers\":[{\"asn\":64512,\"id\":\"10.255.0.1\",\"name\":\"A\"},{\"asn\":64513,\"id\":\"10.255.0.2\",\"name\":\"B\"}]}";
-        match read_topology(rt.alloc(), text) {
-            Ok(net) => {
-                assert_eq!(rt; net.routers().len(), 2);
-                assert_eq!(rt; net.peers().len(), 0);
-                assert_eq!(rt; net.links(), [(Loc::new(0), Loc::new(1))].as_slice());
-                assert_eq!(rt; net.name_of(Loc::new(1)).as_bytes(), b"B".as_slice());
-            }
-            Err(fault) => panic!(rt; "fault {}", fault.number()),
-        }
-    }
-}

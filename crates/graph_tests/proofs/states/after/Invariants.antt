@@ -1,6 +1,6 @@
 use Rattle.std.proofs.Common.{◌<◌, length}
 use Rattle.path_automata.specs.States.{states_of}
-use Rattle.path_automata.proofs.tests.after.Given as goal
+use Rattle.graph_tests.proofs.states.after.Given as goal
 
 abbrev pub invariant-loop-at : goal.invariant-loop-at
 invariant-loop-at l = l.state < length (states_of l.automata)
