@@ -62,7 +62,7 @@ module _ (net : PlainNet) (number room : ℕ) (s : PlainStatement) (c : Case) wh
   not_refused given (TooManySteps k) is paths unmixed h = absurd (few_steps is.0 is.1.within h.2)
   not_refused given (SourceWithoutPath k r) is paths unmixed h = absurd (h.2.0.1 (paths r h.2.0.0))
   not_refused given (MixedSource k r with without) is paths unmixed h = absurd (unmixed r h.2.3.first.0)
-  not_refused given (NoEvidence k g) is paths unmixed h = absurd h
+  not_refused given (NoEvidence k g r) is paths unmixed h = absurd h
   not_refused given (TooManyTags r) is paths unmixed h = absurd h
   not_refused given NoMemory is paths unmixed h = refl
 
@@ -85,22 +85,22 @@ module _ (net : PlainNet) (number room : ℕ) (s : PlainStatement) (c : Case) wh
 
   pub one_cause : (e f : CompileRefusal) → IsCause net number room s c e → IsCause net number room s c f → (e ≡ NoMemory) ⊎ (f ≡ NoMemory) ⊎ (e ≡ f)
   one_cause NoMemory f a b = inl refl
-  one_cause (NoEvidence k g) f a b = absurd a
+  one_cause (NoEvidence k g r) f a b = absurd a
   one_cause (TooManyTags r) f a b = absurd a
   one_cause (TooManyRanks k n) NoMemory a b = inr (inl refl)
-  one_cause (TooManyRanks k n) (NoEvidence j g) a b = absurd b
+  one_cause (TooManyRanks k n) (NoEvidence j g lines) a b = absurd b
   one_cause (TooManyRanks k n) (TooManyTags q) a b = absurd b
   one_cause (TooManyStates k) NoMemory a b = inr (inl refl)
-  one_cause (TooManyStates k) (NoEvidence j g) a b = absurd b
+  one_cause (TooManyStates k) (NoEvidence j g lines) a b = absurd b
   one_cause (TooManyStates k) (TooManyTags q) a b = absurd b
   one_cause (TooManySteps k) NoMemory a b = inr (inl refl)
-  one_cause (TooManySteps k) (NoEvidence j g) a b = absurd b
+  one_cause (TooManySteps k) (NoEvidence j g lines) a b = absurd b
   one_cause (TooManySteps k) (TooManyTags q) a b = absurd b
   one_cause (SourceWithoutPath k r) NoMemory a b = inr (inl refl)
-  one_cause (SourceWithoutPath k r) (NoEvidence j g) a b = absurd b
+  one_cause (SourceWithoutPath k r) (NoEvidence j g lines) a b = absurd b
   one_cause (SourceWithoutPath k r) (TooManyTags q) a b = absurd b
   one_cause (MixedSource k r v w) NoMemory a b = inr (inl refl)
-  one_cause (MixedSource k r v w) (NoEvidence j g) a b = absurd b
+  one_cause (MixedSource k r v w) (NoEvidence j g lines) a b = absurd b
   one_cause (MixedSource k r v w) (TooManyTags q) a b = absurd b
   one_cause (TooManyRanks k n) (TooManyRanks j m) a b = inr (inr (ap₂ TooManyRanks (a.0 ∙ sym b.0) (a.2 ∙ sym b.2)))
   one_cause (TooManyRanks k n) (TooManyStates j) a b = absurd (few_ranks a.1 b.1)

@@ -69,6 +69,6 @@ IsCause net number room s c (SourceWithoutPath k r) =
     (k ≡ number) × ((built : PlainGraph) × IsBuiltWithin net room s c built) × IsLeast (IsWithoutPath net s c) r
 IsCause net number room s c (MixedSource k r with without) =
     (k ≡ number) × HavePaths net s c × ((built made : PlainGraph) × IsMade net room s c built made × ShowsMixed net s c made r with without)
-IsCause net number room s c (NoEvidence k g) = ⊥
+IsCause net number room s c (NoEvidence k g r) = ⊥
 IsCause net number room s c (TooManyTags r) = ⊥
 IsCause net number room s c NoMemory = Unit {0}

@@ -2,7 +2,7 @@
 ghost use Rattle.std.specs.Prelude.{◌≡◌};
 ghost use Rattle.case_core.specs.declared.refusal.CompileRefusal.TheVariants.{NoMemory as no_memory};
 
-use graph_base::Graph;
+use graph_base::{Graph, Refutation};
 use net_base::{List, Loc};
 use outside::NoMemory;
 use std::alloc::AllocError;
@@ -30,9 +30,10 @@ pub enum CompileRefusal {
     /// others need, the second one.
     #[error("case {0}: a source with a rank and without one")]
     MixedSource(u32, Loc, List<Loc>, List<Loc>),
-    /// No preference numbers meet the rules of evidence on this graph, which is that of the case.
+    /// No preference numbers meet the rules of evidence on this graph, which is that of the case, nor on any other
+    /// one that is faithful to it. The lines show it.
     #[error("case {0}: no evidence")]
-    NoEvidence(u32, Graph),
+    NoEvidence(u32, Graph, Refutation),
     /// Over all cases more than 65,535 nodes stand at this router.
     #[error("too many nodes at a router")]
     TooManyTags(Loc),

@@ -1,19 +1,25 @@
 -- What numbers on the graph of a case say of the case.
-use Rattle.std.proofs.Common.{◌≡◌, ℕ, zero, suc, ◌<◌, Bool, true, List, [], ◌∷◌, length, refl, sym, subst, ◌∙◌}
+use Rattle.std.proofs.Common.{◌≡◌, ℕ, zero, suc, ◌<◌, Bool, true, not, List, [], ◌∷◌, length, inl, inr, refl, sym, subst, ◌∙◌}
 use Rattle.std.specs.Prelude.{◌↔◌}
+use Rattle.std.proofs.lemmas.Bool.{and_parts, not-true, true≢false}
 use Rattle.net_base.specs.Network.{PlainNet}
 use Rattle.net_base.specs.Sets.{holds}
 use Rattle.path_words.specs.declared.case.Case.{Case}
 use Rattle.path_words.specs.Policies.{PlainStatement}
 use Rattle.graph_base.specs.Graphs.{PlainGraph, IsGraph}
 use Rattle.graph_base.specs.Rules.{MeetsRules}
-use Rattle.graph_base.specs.Runs.{place_of}
-use Rattle.relation_law.specs.Views.{view_of}
+use Rattle.relation_law.specs.Rounds.{gone_after, is_pair, left_after}
+use Rattle.relation_law.specs.Views.{View, view_of}
 use Rattle.relation_law.proofs.Bridge.{rules_give_numbers}
-use Rattle.relation_law.proofs.Counts.{by_number, by_number-closed, by_number-total}
+use Rattle.refutation_law.specs.Choosing.{IsRefutationOf}
+use Rattle.faithful_law.specs.Alike.{EndBoth}
+use Rattle.faithful_law.proofs.Carried.{total_there}
+use Rattle.faithful_law.proofs.Listeners.{rules_claimed}
+use Rattle.faithful_law.proofs.Tied.{are_alike}
+use Rattle.graph_base.specs.declared.refutation.Refutation.{Refutation}
+use Rattle.graph_base.specs.Refuting.{Refutes}
 use Rattle.state_simulation.specs.Held.{HasEach, IsRelationOf, PlainRelation, has}
 use Rattle.state_simulation.proofs.Holding.{total_where_each}
-use Rattle.case_evidence.specs.Claimed.{HasNoTotal}
 use Rattle.net_base.specs.declared.loc.LocSet.{LocSet}
 use Rattle.pref_inference.specs.Inferred as found
 use Rattle.regret_law.specs.Faithful.{IsFaithful}
@@ -24,34 +30,34 @@ use Rattle.case_evidence.specs.declared.accepted.AcceptedCase.{AcceptedCase}
 use Rattle.case_evidence.specs.Accepted.{HasNoNumbers, IsAccepted, IsCaseCause, IsGivenGraph, IsNumbered, number_in}
 use Rattle.graph_base.specs.Ranked.{IsRankedRouter}
 
--- the rules ask for ranks at claimed routers alone
-rules_claimed : (net : PlainNet) (One Other : ℕ → Type 0) (external : Bool) (g : PlainGraph) (number : ℕ → ℕ) → ((l : ℕ) → Other l → One l) → MeetsRules net One external g number → MeetsRules net Other external g number
-rules_claimed net One Other external g number to rules = record {
-  rank = λ m n i over claimed. rules.rank m n i over (to (place_of g n) claimed);
-  step = rules.step;
-  loop = rules.loop;
-  listener = rules.listener;
-}
-
 -- a number is read from the list one way or the other
 pub number_read : (numbers : List ℕ) (n : ℕ) → found.number_in numbers n ≡ number_in numbers n
 number_read [] n = refl
 number_read (x ∷ xs) zero = refl
 number_read (x ∷ xs) (suc n) = number_read xs n
 
+-- a pair that is left hasn't gone
+gone_or_left : (v : View) (reach : ℕ → ℕ → Bool) (rounds m n : ℕ) → left_after v reach rounds m n ≡ true → gone_after v reach rounds m n ≡ true → ⊥
+gone_or_left v reach rounds m n kept gone = true≢false (sym gone ∙ not-true _ (and_parts (is_pair v m n) (not (gone_after v reach rounds m n)) kept).1)
+
 module _ (net : PlainNet) (s : PlainStatement) (c : Case) (g : PlainGraph) (graph_rules : IsGraph g) (faithful : IsFaithful net s (holds c.origins) c.external g) where
   module _ (claimed : LocSet) (ranked : (l : ℕ) → (holds claimed l ≡ true) ↔ IsRankedRouter net g l) where
     claims : (l : ℕ) → (holds claimed l ≡ true) ↔ IsClaimed net s c l
     claims l = (λ h. (claimed_where_ranked net s c g graph_rules faithful l).0 ((ranked l).0 h), λ h. (ranked l).1 ((claimed_where_ranked net s c g graph_rules faithful l).1 h))
 
-  -- numbers that meet the rules put the nodes in an order that keeps the rules of a relation
-  pub no_numbers : HasNoTotal net g → HasNoNumbers net s c g
-  no_numbers partial number rules =
-      let claimed = partial.claimed in
-      let claims = claims claimed partial.claims in
-      let held : MeetsRules net (λ l. holds claimed l ≡ true) c.external g number = rules_claimed net (IsClaimed net s c) (λ l. holds claimed l ≡ true) c.external g number (λ l h. (claims l).0 h) rules in
-      let numbers = rules_give_numbers net (holds c.origins) c.external g faithful.formed graph_rules claimed (λ l h. ((claims l).0 h).at_router) (listeners_ranked net s c g graph_rules faithful) number held in
-      partial.none (by_number (view_of g claimed) number) (by_number-closed (view_of g claimed) number numbers) (by_number-total (view_of g claimed) number)
+  -- where a pair has gone in both directions, no numbers meet the rules on a graph of the case, since they would keep one
+  pub no_numbers : (claimed : LocSet) → ((l : ℕ) → (holds claimed l ≡ true) ↔ IsRankedRouter net g l) → (r : Refutation) → IsRefutationOf g claimed r → HasNoNumbers net s c
+  no_numbers claimed ranked r is other number other_rules also rules =
+      let claims = claims claimed ranked in
+      let held : MeetsRules net (λ l. holds claimed l ≡ true) c.external other number = rules_claimed net (IsClaimed net s c) (λ l. holds claimed l ≡ true) c.external other number (λ l h. (claims l).0 h) rules in
+      let numbers = rules_give_numbers net (holds c.origins) c.external other also.formed other_rules claimed (λ l h. ((claims l).0 h).at_router) (listeners_ranked net s c other other_rules also) number held in
+      let v = view_of g claimed in
+      let open_pair = is.chosen.pair.is_open in
+      let alike = are_alike net s (holds c.origins) c.external other g other_rules graph_rules also faithful claimed in
+      elim (total_there (view_of other claimed) v (EndBoth other g) alike is.reach is.exact number numbers is.chosen.round r.first r.second open_pair.pair) [
+        | inl kept ↦ gone_or_left v is.reach is.chosen.round r.first r.second kept open_pair.later.0
+        | inr kept ↦ gone_or_left v is.reach is.chosen.round r.second r.first kept open_pair.later.1
+      ]
 
   module _ (r : PlainRelation) (is : IsRelationOf g r) (ranked : (l : ℕ) → (holds r.claimed l ≡ true) ↔ IsRankedRouter net g l) where
     -- where it is, the numbers are those of the case
@@ -85,7 +91,13 @@ module _ (net : PlainNet) (room : ℕ) (s : PlainStatement) (c : Case) (given : 
         rules = numbers_meet net s c given.graph fits.graph fits.faithful r relation ranked given.prefs.of (rules c.external);
       }
 
-pub is_refused : (net : PlainNet) (number room : ℕ) (s : PlainStatement) (c : Case) (g : PlainGraph) (used : ℕ) → IsGivenGraph net room s c g used → HasNoTotal net g → IsCaseCause net number room s c (NoEvidence number g)
-is_refused net number room s c g used is partial =
-    let fits = is.fits [] [] in
-    (refl, (used, is), no_numbers net s c g fits.graph fits.faithful partial)
+pub is_refused : (net : PlainNet) (number room : ℕ) (s : PlainStatement) (c : Case) (g : PlainGraph) (used : ℕ) → IsGivenGraph net room s c g used
+    → (claimed : LocSet) → ((l : ℕ) → (holds claimed l ≡ true) ↔ IsRankedRouter net g l) → (r : Refutation) → IsRefutationOf g claimed r → Refutes g (holds claimed) r.first r.second r.lines
+    → IsCaseCause net number room s c (NoEvidence number g r)
+is_refused net number room s c g used is claimed ranked r chosen refutes =
+    let fits = is.fits [] [] in (
+      refl,
+      (used, is),
+      record { claimed = claimed; claims = claims net s c g fits.graph fits.faithful claimed ranked; chosen = chosen; refutes = refutes },
+      no_numbers net s c g fits.graph fits.faithful claimed ranked r chosen,
+    )

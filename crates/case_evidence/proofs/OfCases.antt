@@ -39,6 +39,6 @@ case_cause net number room s c (TooManyStates k) why = why
 case_cause net number room s c (TooManySteps k) why = why
 case_cause net number room s c (SourceWithoutPath k r) why = why
 case_cause net number room s c (MixedSource k r with without) why = why
-case_cause net number room s c (NoEvidence k g) why = absurd why
+case_cause net number room s c (NoEvidence k g r) why = absurd why
 case_cause net number room s c (TooManyTags r) why = why
 case_cause net number room s c NoMemory why = why

@@ -5,12 +5,16 @@ use Rattle.net_base.specs.Network.{PlainNet}
 use Rattle.net_base.specs.Sets.{holds}
 use Rattle.path_words.specs.declared.case.Case.{Case}
 use Rattle.path_words.specs.Policies.{PlainStatement}
-use Rattle.graph_base.specs.Graphs.{PlainGraph}
+use Rattle.graph_base.specs.declared.refutation.Refutation.{Refutation}
+use Rattle.graph_base.specs.Graphs.{IsGraph, PlainGraph}
+use Rattle.graph_base.specs.Refuting.{Refutes}
 use Rattle.graph_base.specs.Rules.{MeetsRules}
 use Rattle.relation_law.specs.Evidence.{at_routers}
 use Rattle.relation_law.specs.Numbers.{number_of}
 use Rattle.relation_law.specs.Relations.{IsGreatest, IsTotal}
 use Rattle.relation_law.specs.Views.{view_of}
+use Rattle.refutation_law.specs.Choosing.{IsRefutationOf}
+use Rattle.regret_law.specs.Faithful.{IsFaithful}
 use Rattle.regret_law.specs.Passes.{IsClaimed}
 use Rattle.case_core.specs.declared.refusal.CompileRefusal.{CompileRefusal}
 use Rattle.case_core.specs.declared.refusal.CompileRefusal.TheVariants.{NoEvidence}
@@ -32,9 +36,17 @@ pub record IsNumbered (net : PlainNet) (s : PlainStatement) (c : Case) (g : Plai
   pub size : length numbers ≡ length g.nodes
   pub counts : (n : ℕ) → n < length g.nodes → number_in numbers n ≡ at_routers net g (number_of (length g.nodes) relation) n
 
--- no numbers meet the rules of evidence on the graph
-abbrev pub HasNoNumbers : PlainNet → PlainStatement → Case → PlainGraph → Type 0
-HasNoNumbers net s c g = (number : ℕ → ℕ) → ¬ MeetsRules net (IsClaimed net s c) c.external g number
+-- no numbers meet the rules of evidence on a graph that says of walks what the statement says of them, whichever it is
+abbrev pub HasNoNumbers : PlainNet → PlainStatement → Case → Type 0
+HasNoNumbers net s c = (g : PlainGraph) (number : ℕ → ℕ) → IsGraph g → IsFaithful net s (holds c.origins) c.external g → ¬ MeetsRules net (IsClaimed net s c) c.external g number
+
+-- The lines show of the first two nodes at one location of which neither may stand as high as the other, for the routers
+-- that the statement claims, that this is so.
+pub record IsRefuted (net : PlainNet) (s : PlainStatement) (c : Case) (g : PlainGraph) (r : Refutation) : Type 0 where
+  pub claimed : LocSet
+  pub claims : (l : ℕ) → IsTrue (holds claimed l) ↔ IsClaimed net s c l
+  pub chosen : IsRefutationOf g claimed r
+  pub refutes : Refutes g (holds claimed) r.first r.second r.lines
 
 -- the graph that is given for a case, of which nothing is to be refused
 pub record IsGivenGraph (net : PlainNet) (room : ℕ) (s : PlainStatement) (c : Case) (g : PlainGraph) (used : ℕ) : Type 0 where
@@ -49,7 +61,8 @@ pub record IsAccepted (net : PlainNet) (room : ℕ) (s : PlainStatement) (c : Ca
   pub numbers : IsNumbered net s c given.graph given.prefs.of
   pub rules : MeetsRules net (IsClaimed net s c) c.external given.graph (number_in given.prefs.of)
 
--- What a refusal says of the case with this number: what refuses its graph, or that no numbers meet the rules on it.
+-- What a refusal says of the case with this number: what refuses its graph; or that no numbers meet the rules, which the
+-- lines show on the graph that is given for it.
 abbrev pub IsCaseCause : PlainNet → ℕ → ℕ → PlainStatement → Case → CompileRefusal → Type 0
-IsCaseCause net number room s c (NoEvidence k g) = (k ≡ number) × ((used : ℕ) × IsGivenGraph net room s c g used) × HasNoNumbers net s c g
+IsCaseCause net number room s c (NoEvidence k g r) = (k ≡ number) × ((used : ℕ) × IsGivenGraph net room s c g used) × IsRefuted net s c g r × HasNoNumbers net s c
 IsCaseCause net number room s c e = IsCause net number room s c e

@@ -3,16 +3,18 @@ ghost use Rattle.std.specs.Prelude.{◌≡◌, ◌≤◌, ℕ, IfErr, IfOk, IfSo
 ghost use Rattle.path_words.specs.declared.case.Case.{Case};
 ghost use Rattle.path_words.specs.Cases.{case_list};
 ghost use Rattle.path_words.specs.Policies.{PlainStatement, policy_of};
+ghost use Rattle.graph_base.specs.Refuting.{HasSingleSteps};
 ghost use Rattle.case_law.specs.Cases.{OfCase, OriginsAreRouters};
 ghost use Rattle.case_core.specs.Automata.{FitsNumber};
 ghost use Rattle.case_evidence.specs.Accepted.{IsAccepted, IsCaseCause, IsGivenGraph};
 
-use crate::claimed::claimed_relation;
 use case_core::{CaseGraph, CompileRefusal, StatementAutomata, case_graph_over};
-use graph_base::{Graph, Prefs};
+use graph_base::{Graph, Prefs, ranked_routers};
 use net_base::Net;
 use path_words::{CaseList, Policy};
 use pref_inference::infer;
+use relation_refute::refutation;
+use state_simulation::total_relation;
 use std::alloc::Global;
 
 /// A case that is accepted: its graph, how many steps that had before it was trimmed, and a preference number for
@@ -25,20 +27,23 @@ pub struct AcceptedCase {
 }
 
 /// The graph of the case with this number, and numbers for its nodes that meet the rules of evidence, or the
-/// refusal that there are none.
+/// refusal that there are none, with the lines that show it.
 fn numbered(
     alloc: Global,
     net: &Net,
     number: u32,
     given: CaseGraph,
 ) -> Result<AcceptedCase, CompileRefusal>
+    requires { HasSingleSteps given.graph }
     ensures accepted { (room : ℕ) (s : PlainStatement) (c : Case) → IsGivenGraph net.now room s c given.graph given.used → IfOk result (λ made. IsAccepted net.now room s c made) }
     ensures refused { (room : ℕ) (s : PlainStatement) (c : Case) → IsGivenGraph net.now room s c given.graph given.used → IfErr result (λ e. IsCaseCause net.now number room s c e) }
     ensures used { IfOk result (λ made. made.used ≡ given.used) }
     ensures sized { IfOk result (λ made. length made.prefs.of ≡ length made.graph.nodes) }
 {
-    let Some(relation) = claimed_relation(alloc, net, &given.graph)? else {
-        return Err(CompileRefusal::NoEvidence(number, given.graph));
+    let claimed = ranked_routers(net, &given.graph);
+    let Some(relation) = total_relation(alloc, &given.graph, &claimed)? else {
+        let refutation = refutation(alloc, &given.graph, &claimed)?;
+        return Err(CompileRefusal::NoEvidence(number, given.graph, refutation));
     };
     let prefs = infer(alloc, net, &given.graph, &relation)?;
     Ok(AcceptedCase {

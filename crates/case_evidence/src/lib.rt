@@ -2,7 +2,6 @@
 #![tactic(auto)]
 
 mod accepted;
-mod claimed;
 mod laws;
 
 pub use accepted::{AcceptedCase, accepted_case};

@@ -7,3 +7,4 @@ pub mod Known
 pub mod Whole
 pub mod Agreement
 pub mod OneRefusal
+pub mod NoEvidence

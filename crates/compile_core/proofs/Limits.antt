@@ -1,39 +1,14 @@
 -- Cases that are accepted one after the other are within the limits.
-use Rattle.std.proofs.Common.{◌≡◌, ℕ, suc, ◌+◌, ◌-◌, ◌≤◌, List, [], ◌∷◌, length, map, Some, slice_get, refl, sym, ap, ap₂, subst, ◌∙◌, arith, length-append}
-use Rattle.std.specs.List.{flat_map}
-use Rattle.std.proofs.lemmas.List.{length-map}
+use Rattle.std.proofs.Common.{◌≡◌, ℕ, suc, ◌+◌, ◌-◌, List, [], ◌∷◌, length, Some, slice_get, refl, subst, arith}
 use Rattle.net_base.specs.Network.{PlainNet}
 use Rattle.path_words.specs.declared.case.Case.{Case}
 use Rattle.path_words.specs.Cases.{case_list}
 use Rattle.path_words.specs.Policies.{PlainPolicy, PlainStatement}
-use Rattle.graph_base.specs.Graphs.{PlainGraph}
-use Rattle.path_exprs.specs.Standings.{Plan, Standing, IsWalked, plan_for, targets}
-use Rattle.standings.specs.Built.{steps_from, place_in}
 use Rattle.regret_law.specs.Passes.{AreWithin, all_steps}
-use Rattle.graph_law.specs.Limits.{IsBuiltWithin}
+use Rattle.graph_law.proofs.Counted.{built_walked}
 use Rattle.case_law.proofs.Origins.{case_known}
 use Rattle.case_evidence.specs.declared.accepted.AcceptedCase.{AcceptedCase}
 use Rattle.compile_core.specs.Compiling.{AreAccepted, AreAcceptedFrom}
-
--- as many steps are built as the standings have targets
-count_steps : (net : PlainNet) (plan : Plan) (all : List Standing) (k : ℕ) (xs : List Standing) → length (steps_from net plan all k xs) ≡ length (flat_map (targets net plan) xs)
-count_steps net plan all k [] = refl
-count_steps net plan all k (x ∷ xs) =
-    length-append (map (λ t. (k, place_in all t)) (targets net plan x)) (steps_from net plan all (k + 1) xs)
-    ∙ ap₂ (λ a b. a + b) (length-map (targets net plan x) (λ t. (k, place_in all t))) (count_steps net plan all (k + 1) xs)
-    ∙ sym (length-append (targets net plan x) (flat_map (targets net plan) xs))
-
--- what is built of a case is what its walks come to
-walked : (net : PlainNet) (room : ℕ) (s : PlainStatement) (c : Case) (g : PlainGraph) → IsBuiltWithin net room s c g → IsWalked net (plan_for net s c) (length g.steps)
-walked net room s c g within =
-    let built = within.built in
-    let xs = built.0 in
-    record {
-      standings = xs;
-      are = built.1;
-      few = subst (λ n. n ≤ 4096) (ap (λ (h : PlainGraph). length h.nodes) built.2 ∙ length-map xs _) within.states;
-      count = ap (λ (h : PlainGraph). length h.steps) built.2 ∙ count_steps net (plan_for net s c) xs 0 xs;
-    }
 
 module _ (net : PlainNet) (policy : PlainPolicy) where
   from_accepted : (k room : ℕ) (accepted : List AcceptedCase) (cs : List Case) → length accepted ≡ length cs → ((i : ℕ) (c : Case) → slice_get cs i ≡ Some c → slice_get (case_list net policy) (k + i) ≡ Some c)
@@ -56,7 +31,7 @@ module _ (net : PlainNet) (policy : PlainPolicy) where
       = subst (λ n. AreAcceptedFrom net policy n (room - steps) later) next (subst (λ u. AreAcceptedFrom net policy (suc k + 1) (room - u) later) used each.1) in
       let later_places : (i : ℕ) (d : Case) → slice_get cs i ≡ Some d → slice_get (case_list net policy) (suc k + i) ≡ Some d
       = λ i d e. let shift : k + suc i ≡ suc k + i = omega arith in subst (λ n. slice_get (case_list net policy) n ≡ Some d) shift (places (suc i) d e) in
-      (s, steps, known.statement.1, within.ranks, walked net room s c given.0 within, within.steps, from_accepted (suc k) (room - steps) later cs (omega (arith, len)) later_places later_each)
+      (s, steps, known.statement.1, within.ranks, built_walked net room s c given.0 within, within.steps, from_accepted (suc k) (room - steps) later cs (omega (arith, len)) later_places later_each)
 
 pub made_within : (net : PlainNet) (policy : PlainPolicy) (accepted : List AcceptedCase) → length accepted ≡ length (case_list net policy)
     → AreAccepted net policy accepted → AreWithin net policy all_steps (case_list net policy)

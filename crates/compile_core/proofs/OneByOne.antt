@@ -76,7 +76,7 @@ module _ (net : PlainNet) (policy : PlainPolicy) where
   refusal_of before (TooManySteps k) each within cause = (before, each, (within, cause))
   refusal_of before (SourceWithoutPath k r) each within cause = (before, each, (within, cause))
   refusal_of before (MixedSource k r with without) each within cause = (before, each, (within, cause))
-  refusal_of before (NoEvidence k g) each within cause = (before, each, (within, cause))
+  refusal_of before (NoEvidence k g r) each within cause = (before, each, (within, cause))
   refusal_of before (TooManyTags r) each within cause = let case = there net policy (length before) (length before + 1) within refl in absurd (cause case.0 case.1 case.2)
   refusal_of before NoMemory each within cause = tt
 

@@ -60,7 +60,7 @@ module _ (net : PlainNet) (policy : PlainPolicy) where
   kinds (TooManySteps k) h = inr (inl (record { before = h.0; each = h.1; within = h.2.0; cause = h.2.1 }))
   kinds (SourceWithoutPath k r) h = inr (inl (record { before = h.0; each = h.1; within = h.2.0; cause = h.2.1 }))
   kinds (MixedSource k r v w) h = inr (inl (record { before = h.0; each = h.1; within = h.2.0; cause = h.2.1 }))
-  kinds (NoEvidence k g) h = inr (inl (record { before = h.0; each = h.1; within = h.2.0; cause = h.2.1 }))
+  kinds (NoEvidence k g r) h = inr (inl (record { before = h.0; each = h.1; within = h.2.0; cause = h.2.1 }))
 
   -- no case is refused where all are accepted
   case_or_all : (e : CompileRefusal) (all : List AcceptedCase) → IsOfCase net policy e → AreAccepted net policy all → length all ≡ length (case_list net policy) → e ≡ NoMemory

@@ -1,13 +1,15 @@
 //! Laws of the compiler, each the contract of a function without a body.
-ghost use Rattle.std.specs.Prelude.{◌≡◌, ◌⊎◌, List};
+ghost use Rattle.std.specs.Prelude.{◌≡◌, ◌⊎◌, ℕ, List};
 ghost use Rattle.net_base.specs.Network.{IsNet, PlainNet};
 ghost use Rattle.path_words.specs.Policies.{PlainPolicy};
+ghost use Rattle.graph_base.specs.declared.refutation.Refutation.{Refutation};
+ghost use Rattle.graph_base.specs.Graphs.{PlainGraph};
 ghost use Rattle.config_base.specs.Configs.{PlainConfig};
 ghost use Rattle.evidence_base.specs.Made.{PlainCaseEvidence};
 ghost use Rattle.regret_law.specs.Passes.{Passes};
 ghost use Rattle.case_law.specs.Cases.{OriginsAreRouters};
 ghost use Rattle.case_core.specs.declared.refusal.CompileRefusal.{CompileRefusal};
-ghost use Rattle.case_core.specs.declared.refusal.CompileRefusal.TheVariants.{NoMemory};
+ghost use Rattle.case_core.specs.declared.refusal.CompileRefusal.TheVariants.{NoEvidence, NoMemory};
 ghost use Rattle.compile_core.specs.Compiling.{IsMade, IsRefusal};
 
 /// What is made of a policy passes: so the configuration is right.
@@ -20,6 +22,12 @@ pub fn made_evidence_passes()
 pub fn made_policies_are_not_refused()
     ensures { (net : PlainNet) (policy : PlainPolicy) (config : PlainConfig) (cs : List PlainCaseEvidence) (e : CompileRefusal) → IsMade net policy config cs
         → IsRefusal net policy e → e ≡ NoMemory }
+{}
+
+/// Where a policy is refused since no numbers meet the rules for a case, no evidence passes for it, over whatever graphs.
+pub fn policies_without_numbers_have_no_evidence()
+    ensures { (net : PlainNet) (policy : PlainPolicy) (config : PlainConfig) (cs : List PlainCaseEvidence) (number : ℕ) (g : PlainGraph) (r : Refutation)
+        → IsRefusal net policy (NoEvidence number g r) → ¬ Passes net policy config cs }
 {}
 
 /// A policy is refused for one cause, if memory is not refused.

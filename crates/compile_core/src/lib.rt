@@ -12,5 +12,5 @@ pub use compiled::Compiled;
 pub use compiler::compile;
 pub use laws::{
     made_evidence_passes, made_pairs_are_one, made_policies_are_not_refused,
-    refusals_of_policies_exclude_one_another,
+    policies_without_numbers_have_no_evidence, refusals_of_policies_exclude_one_another,
 };
