@@ -1,0 +1,4 @@
+pub mod Best
+pub mod Grounds
+pub mod Offers
+pub mod Rounds

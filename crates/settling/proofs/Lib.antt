@@ -1,0 +1,4 @@
+pub mod Grounds
+pub mod PairTables
+pub mod Routes
+pub mod Surviving

@@ -1,0 +1,3 @@
+pub mod Outcomes
+pub mod Pairs
+pub mod Surviving

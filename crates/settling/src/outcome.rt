@@ -1,0 +1,199 @@
+//! The settled outcome.
+ghost use Rattle.std.specs.Prelude.{◌≡◌, ◌<◌, ◌≤◌, ℕ, Some, None, IfOk, IsTrue, length, option_map, if◌then◌else◌};
+ghost use Rattle.config_base.specs.Lines.{own_route};
+ghost use Rattle.evidence_base.specs.Made.{number_at, tag_at};
+ghost use Rattle.graph_base.specs.Runs.{is_start, place_of};
+ghost use Rattle.graph_settling.specs.Best.{entry_at};
+ghost use Rattle.net_base.specs.Sets.{holds};
+ghost use Rattle.path_words.specs.Governing.{is_origin};
+ghost use Rattle.path_words.specs.Policies.{IsPolicyOf, policy_of};
+ghost use Rattle.regret_law.specs.Passes.{Passes};
+ghost use Rattle.settled_law.specs.Settled.{IsFullyStable};
+ghost use Rattle.settling.specs.Outcomes.{AreSettled, case_of as case_of_class, held_by, tagged as with_tag};
+ghost use Rattle.stable_paths.specs.Scenarios.{failures_of};
+
+use crate::known::{known_net, known_prefix};
+use crate::survivors::Survivors;
+use config_base::{Config, NO_TAG, Route, class_of, own_tag};
+use evidence_base::{CaseEvidence, Evidence};
+use graph_settling::{Settled, settle_graph};
+use net_base::{List, Loc, LocSet, Net, Prefix, Tag};
+use outside::NoMemory;
+use path_words::{Policy, origins_of};
+use stable_paths::{Outcome, Scenario};
+use std::alloc::{AllocError, Global};
+
+/// The origins of a prefix.
+fn origins_at(net: &Net, policy: &Policy, prefix: Prefix) -> LocSet
+    ensures { (l : ℕ) → holds result l ≡ is_origin net.now (policy_of policy.now) prefix l }
+{
+    known_net(net);
+    match origins_of(policy, prefix) {
+        None => net.peer_set(),
+        Some(routers) => routers,
+    }
+}
+
+/// The evidence of the case of a prefix's class.
+fn case_of<'a>(config: &Config, evidence: &'a Evidence, prefix: Prefix) -> Option<&'a CaseEvidence>
+    ensures { option_map (λ c. c.now) result ≡ case_of_class config.now evidence.now.cases prefix }
+{
+    let place = class_of(config, prefix)?.checked_sub(1)?;
+    evidence.cases.as_slice().get(place as usize)
+}
+
+/// The tag of a node.
+fn tag_of(case: &CaseEvidence, node: u32) -> Tag
+    ensures { result ≡ tag_at case.now node }
+{
+    case.tags().get(node as usize).copied().unwrap_or(NO_TAG)
+}
+
+/// The preference number of a node.
+fn number_of(case: &CaseEvidence, node: u32) -> u32
+    ensures { result ≡ number_at case.now node }
+{
+    case.prefs().get(node as usize).copied().unwrap_or(0)
+}
+
+/// The route of a path, with the tag and the number of its node.
+fn tagged(alloc: Global, case: &CaseEvidence, settled: &Settled) -> Result<Route, AllocError>
+    ensures { IfOk result (λ route. route ≡ with_tag case.now settled.now) }
+{
+    Ok(Route {
+        path: settled.path.copy(alloc)?,
+        tag: tag_of(case, settled.node),
+        pref: number_of(case, settled.node),
+    })
+}
+
+/// The routes of the routers where a graph is settled.
+fn tagged_each(
+    alloc: Global,
+    count: usize,
+    case: &CaseEvidence,
+    settled: &[Option<Settled>],
+) -> Result<Vec<Option<Route>>, AllocError>
+    requires { count ≤ length settled.now }
+    ensures size { IfOk result (λ routes. length routes.items ≡ count) }
+    ensures routes { IfOk result (λ routes. (r : ℕ) → r < count → entry_at routes.items r ≡ option_map (with_tag case.now) (entry_at settled.now r)) }
+{
+    let mut routes = Vec::new(alloc);
+    for router in 0..count {
+        match &settled[router] {
+            None => routes.push(None)?,
+            Some(settled) => routes.push(Some(tagged(alloc, case, settled)?))?,
+        }
+    }
+    Ok(routes)
+}
+
+/// The routes of the routers in the graph of a case, where its live origins announce the prefix.
+fn case_routes(
+    alloc: Global,
+    net: &Net,
+    case: &CaseEvidence,
+    survivors: &Survivors,
+    origins: &LocSet,
+) -> Result<Vec<Option<Route>>, NoMemory>
+    requires { (s : ℕ) → IsTrue (is_start case.now.graph s) → IsTrue (holds origins.now (place_of case.now.graph s)) }
+    ensures size { IfOk result (λ routes. length routes.items ≡ length net.now.routers) }
+    ensures settled { IfOk result (λ routes. AreSettled net.now survivors.now origins.now case.now routes.items) }
+{
+    let open = survivors.open_graph(alloc, net, case.graph())?;
+    let choosers = survivors.choosers(net, origins);
+    let settled = settle_graph(alloc, net, &open, case.prefs(), &choosers)?;
+    let routes = tagged_each(alloc, net.routers().len(), case, &settled)?;
+    Ok(routes)
+}
+
+/// So many routers without a route.
+fn no_routes(alloc: Global, count: usize) -> Result<Vec<Option<Route>>, AllocError>
+    ensures size { IfOk result (λ routes. length routes.items ≡ count) }
+    ensures routes { IfOk result (λ routes. (r : ℕ) → entry_at routes.items r ≡ None) }
+{
+    let mut routes = Vec::new(alloc);
+    for _ in 0..count {
+        routes.push(None)?;
+    }
+    Ok(routes)
+}
+
+/// An origin's own route, where it is live.
+fn own(
+    alloc: Global,
+    net: &Net,
+    config: &Config,
+    survivors: &Survivors,
+    prefix: Prefix,
+    at: Loc,
+) -> Result<Option<Route>, AllocError>
+    ensures { IfOk result (λ route. route ≡ (if holds survivors.now.dead at then None else Some (own_route net.now config.now prefix at))) }
+{
+    if survivors.is_dead(at) {
+        return Ok(None);
+    }
+    let mut path = List::new(alloc);
+    path.push(at)?;
+    Ok(Some(Route {
+        path,
+        tag: own_tag(net, config, prefix, at),
+        pref: 0,
+    }))
+}
+
+/// Gives each origin its own route, where it is live, and none where it is dead.
+fn with_origins(
+    alloc: Global,
+    net: &Net,
+    config: &Config,
+    survivors: &Survivors,
+    origins: &LocSet,
+    prefix: Prefix,
+    others: Vec<Option<Route>>,
+) -> Result<Vec<Option<Route>>, AllocError>
+    requires { length others.items ≡ length net.now.routers }
+    ensures size { IfOk result (λ routes. length routes.items ≡ length net.now.routers) }
+    ensures routes { IfOk result (λ routes. (r : ℕ) → r < length net.now.routers
+        → entry_at routes.items r ≡ held_by net.now config.now survivors.now origins.now prefix (entry_at others.items) r) }
+{
+    let mut routes = others;
+    for place in 0..net.routers().len() {
+        let router = Loc::new(place as u16);
+        if origins.holds(router) {
+            routes[place] = own(alloc, net, config, survivors, prefix, router)?;
+        }
+    }
+    Ok(routes)
+}
+
+/// The settled outcome of a scenario: it is stable, and each router that isn't an origin holds the first of all routes that it is given,
+/// by preference, then by the fewest AS numbers, then by the lowest identifier of the neighbour (RFC 4271, 9.1.2.2). There is one such
+/// outcome: `settled_law::settled_outcomes_are_one`.
+pub fn settle(
+    alloc: Global,
+    net: &Net,
+    policy: &Policy,
+    config: &Config,
+    evidence: &Evidence,
+    scenario: &Scenario,
+) -> Result<Outcome, NoMemory>
+    requires fits { IsPolicyOf net.now (policy_of policy.now) }
+    requires passes { Passes net.now (policy_of policy.now) config.now evidence.now.cases }
+    ensures size { IfOk result (λ outcome. length outcome.routes ≡ length net.now.routers) }
+    ensures settled { IfOk result (λ outcome. IsFullyStable net.now (policy_of policy.now) config.now (failures_of scenario.now) scenario.now.prefix outcome.routes) }
+{
+    let prefix = scenario.prefix;
+    known_net(net);
+    known_prefix(prefix);
+    let survivors = Survivors::new(alloc, scenario)?;
+    let origins = origins_at(net, policy, prefix);
+    let others = match case_of(config, evidence, prefix) {
+        None => no_routes(alloc, net.routers().len())?,
+        Some(case) => case_routes(alloc, net, case, &survivors, &origins)?,
+    };
+    let routes = with_origins(alloc, net, config, &survivors, &origins, prefix, others)?;
+    Ok(Outcome {
+        routes: List::from_vec(routes),
+    })
+}
