@@ -1,0 +1,14 @@
+use Rattle.std.proofs.Common.{◌≡◌, ◌++◌}
+use Rattle.std.specs.List.{flat_map}
+use Rattle.net_base.specs.Locations.{numbers_below}
+use Rattle.path_words.specs.Policies.{policy_of}
+use Rattle.report_lines.specs.Claims.{sources_of, statement_in}
+use Rattle.report_lines.specs.Lines.{router_line}
+use Rattle.report_lines.specs.Situations.{shown_in}
+use Rattle.report_lines.proofs.reporting.push_routers.Given as goal
+
+abbrev pub invariant-loop-place : goal.invariant-loop-place
+invariant-loop-place l =
+    l.text.items
+    ≡ l.initial.text.items
+    ++ flat_map (router_line l.situation.net.now (policy_of l.situation.policy.now) l.situation.scenario.now.prefix (statement_in l.claims) (sources_of l.claims) (shown_in l.situation)) (numbers_below l.place)

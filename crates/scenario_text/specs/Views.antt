@@ -1,0 +1,16 @@
+-- What borrowed parts of a text say.
+use Rattle.std.specs.Prelude.{ℕ, List, map}
+use Rattle.std.proofs.Common.{Bor}
+use Rattle.scenario_text.specs.declared.shape.RawEnds.{RawEnds}
+use Rattle.scenario_text.specs.declared.shape.RawScenario.{RawScenario}
+use Rattle.scenario_text.specs.Shape.{Ends, Said}
+
+-- what borrowed texts say
+abbrev pub texts : List (Bor (List ℕ)) → List (List ℕ)
+texts ks = map (λ k. k.now) ks
+
+abbrev pub raw_ends : RawEnds → Ends
+raw_ends r = record { from = r.from.now; to = r.to.now }
+
+abbrev pub raw_scenario : RawScenario → Said
+raw_scenario r = record { prefix = r.prefix.now; dead = texts r.dead.items; dead_links = map raw_ends r.dead_links.items; silent = map raw_ends r.silent.items }
