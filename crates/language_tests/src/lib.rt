@@ -5,3 +5,5 @@
 mod meaning;
 #[cfg(test)]
 mod printing;
+#[cfg(test)]
+mod sampled;
