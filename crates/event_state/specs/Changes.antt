@@ -1,0 +1,28 @@
+-- A world in which one thing has changed.
+use Rattle.std.specs.Prelude.{ℕ, Bool, List, [], Option, None, if◌then◌else◌}
+use Rattle.config_base.specs.declared.route.Route.{Route}
+use Rattle.event_base.specs.World.{World, at, is}
+
+-- what waits from a to b
+abbrev pub with_queue : ℕ → ℕ → List (Option Route) → World Route → World Route
+with_queue a b ms w = record { down = w.down; cut = w.cut; silent = w.silent; queue = λ x y. if is a b x y then ms else w.queue x y; heard = w.heard; queued = w.queued; route = w.route }
+
+-- what b has heard from a
+abbrev pub with_heard : ℕ → ℕ → Option Route → World Route → World Route
+with_heard a b m w = record { down = w.down; cut = w.cut; silent = w.silent; queue = w.queue; heard = λ x y. if is a b x y then m else w.heard x y; queued = w.queued; route = w.route }
+
+-- what a last queued to b
+abbrev pub with_queued : ℕ → ℕ → Option Route → World Route → World Route
+with_queued a b m w = record { down = w.down; cut = w.cut; silent = w.silent; queue = w.queue; heard = w.heard; queued = λ x y. if is a b x y then m else w.queued x y; route = w.route }
+
+-- nothing waits from a to b, and nothing was heard or queued there
+abbrev pub forgotten : ℕ → ℕ → World Route → World Route
+forgotten a b w = with_queue a b [] (with_heard a b None (with_queued a b None w))
+
+-- what r holds
+abbrev pub with_route : ℕ → Option Route → World Route → World Route
+with_route r h w = record { down = w.down; cut = w.cut; silent = w.silent; queue = w.queue; heard = w.heard; queued = w.queued; route = λ x. if at r x then h else w.route x }
+
+-- whether r is down
+abbrev pub with_mark : ℕ → Bool → World Route → World Route
+with_mark r v w = record { down = λ x. if at r x then v else w.down x; cut = w.cut; silent = w.silent; queue = w.queue; heard = w.heard; queued = w.queued; route = w.route }

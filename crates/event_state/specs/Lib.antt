@@ -1,0 +1,6 @@
+pub mod Changes
+pub mod Directions
+pub mod Idle
+pub mod Readings
+pub mod Sizes
+pub mod States
