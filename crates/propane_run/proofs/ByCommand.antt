@@ -2,3 +2,6 @@
 pub mod Check
 pub mod Compile
 pub mod Evidence
+pub mod Explain
+pub mod Replay
+pub mod Sample

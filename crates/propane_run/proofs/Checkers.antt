@@ -7,7 +7,7 @@ use Rattle.config_base.specs.Configs.{PlainConfig}
 use Rattle.evidence_base.specs.Made.{PlainCaseEvidence}
 use Rattle.regret_law.specs.Passes.{Passes}
 use Rattle.propane_run.specs.declared.command.Command.{Command}
-use Rattle.propane_run.specs.declared.command.Command.TheVariants.{Compile, Evidence, Check}
+use Rattle.propane_run.specs.declared.command.Command.TheVariants.{Compile, Evidence, Check, Explain, Replay, Sample}
 use Rattle.propane_run.specs.declared.outcome.Status.{Status}
 use Rattle.propane_run.specs.declared.outcome.Status.TheVariants.{Done, NoMemory, CheckFails}
 use Rattle.propane_run.specs.Checking.{Checks, AsksOf, TellsFault}
@@ -23,6 +23,9 @@ pub fails : {S : Type 0} (holds : Holds) (words : List (List ℕ)) (taken : S �
     → (c : Command) → Checks c → Comes holds words c (failing b) → TellsFault holds taken words c before now
 fails holds words taken before now b written (Compile t p) is comes = absurd is
 fails holds words taken before now b written (Evidence t p) is comes = absurd is
+fails holds words taken before now b written (Explain t p) is comes = absurd is
+fails holds words taken before now b written (Replay t p s) is comes = absurd is
+fails holds words taken before now b written (Sample n) is comes = absurd is
 fails holds words taken before now b written (Check t p x y) is comes = check.fails holds words (Check t p x y) (λ bs what h. h) taken before now b written comes
 
 module _ {O E : Type 0} (ot : O → Option (List ℕ)) (of : O → ℕ) (et : E → Option (List ℕ)) (ef : E → ℕ) (out out' : O) (err err' : E) (ended : Status)
@@ -31,6 +34,9 @@ module _ {O E : Type 0} (ot : O → Option (List ℕ)) (of : O → ℕ) (et : E 
       → Gives ot of et ef out out' err err' ended (SaidOfTold holds (names_read words c) (Job c)) → (ended ≡ NoMemory) ⊎ (ended ≡ Done)
   holds_where (Compile t p) is asks calm passes gives = absurd is
   holds_where (Evidence t p) is asks calm passes gives = absurd is
+  holds_where (Explain t p) is asks calm passes gives = absurd is
+  holds_where (Replay t p s) is asks calm passes gives = absurd is
+  holds_where (Sample n) is asks calm passes gives = absurd is
   holds_where (Check t p x y) is asks calm passes gives =
       check.holds_where ot of et ef out out' err err' ended net policy config evidence calm passes
       (along ot of et ef out out' err err' ended _ _ (check.told_says holds words (Check t p x y) (λ bs what h. h) net policy config evidence asks) gives)
@@ -39,6 +45,9 @@ module _ {O E : Type 0} (ot : O → Option (List ℕ)) (of : O → ℕ) (et : E 
       → Gives ot of et ef out out' err err' ended (SaidOfTold holds (names_read words c) (Job c)) → (ended ≡ NoMemory) ⊎ (ended ≡ CheckFails)
   fails_where (Compile t p) is asks calm fails gives = absurd is
   fails_where (Evidence t p) is asks calm fails gives = absurd is
+  fails_where (Explain t p) is asks calm fails gives = absurd is
+  fails_where (Replay t p s) is asks calm fails gives = absurd is
+  fails_where (Sample n) is asks calm fails gives = absurd is
   fails_where (Check t p x y) is asks calm fails gives =
       check.fails_where ot of et ef out out' err err' ended net policy config evidence calm fails
       (along ot of et ef out out' err err' ended _ _ (check.told_says holds words (Check t p x y) (λ bs what h. h) net policy config evidence asks) gives)

@@ -1,5 +1,5 @@
 -- What a command says that compiles a policy: a text of what is compiled, or the line of a refusal that applies.
-use Rattle.std.proofs.Common.{◌≡◌, ◌≢◌, ◌⊎◌, ℕ, List, [], ◌∷◌, Option, Some, inl, inr, sym, ap, ◌∙◌, subst}
+use Rattle.std.proofs.Common.{◌≡◌, ◌⊎◌, ℕ, List, Option, inl, inr, sym, ap, ◌∙◌, subst}
 use Rattle.net_base.specs.Network.{PlainNet}
 use Rattle.outside.specs.Outside.{Rose}
 use Rattle.path_words.specs.Policies.{PlainPolicy}
@@ -9,112 +9,73 @@ use Rattle.case_core.specs.declared.refusal.CompileRefusal.{CompileRefusal}
 use Rattle.compile_core.proofs.OneRefusal.{not_refused, one_pair, one_refusal}
 use Rattle.propane_run.specs.declared.command.Command.{Command}
 use Rattle.propane_run.specs.declared.outcome.Status.{Status}
-use Rattle.propane_run.specs.declared.outcome.Status.TheVariants.{BadInput, Done, Refused, NoMemory}
-use Rattle.propane_run.specs.Asked.{AsksFor}
-use Rattle.propane_run.specs.Compiled.{IsRefusedFor}
+use Rattle.propane_run.specs.declared.outcome.Status.TheVariants.{Done, Refused, NoMemory}
+use Rattle.propane_run.specs.Asked.{AsksFor, IsFor}
+use Rattle.propane_run.specs.Compiled.{IsCompiled, IsRefusedFor}
 use Rattle.propane_run.specs.Compiling.{Compiles, SaysOfCompiled}
-use Rattle.propane_run.specs.Reading.{Holds, AllHeld, SaidOfTold}
+use Rattle.propane_run.specs.Reading.{Holds}
 use Rattle.propane_run.specs.RefusalLines.{refusal_line}
 use Rattle.propane_run.specs.Refusing.{RefusesRight}
 use Rattle.propane_run.specs.Run.{Job, Comes}
 use Rattle.propane_run.specs.Said.{Said, text, line, Whole, Delivered}
-use Rattle.propane_run.specs.Texts.{OfTexts, OfTwoTexts}
-use Rattle.propane_run.specs.Words.{words_are, names_read}
+use Rattle.propane_run.specs.Texts.{OfTwoTexts}
 use Rattle.propane_run.proofs.Jobs.{IsJobSaid, in_text, in_refusal, status_is, err_is}
 use Rattle.propane_run.proofs.Sent.{Gives, line_sent, text_sent}
-use Rattle.propane_run.proofs.Spelling.{OfSpelled, at_spelled, form_of, of_spelled, one_of_texts}
-use Rattle.propane_run.proofs.Told.{told_is}
+use Rattle.propane_run.proofs.TwoTexts as two
 
 -- a policy is refused for one cause
-only : (net : PlainNet) (policy : PlainPolicy) (e f : CompileRefusal) → IsRefusedFor net policy e → IsRefusedFor net policy f → e ≡ f
+pub only : (net : PlainNet) (policy : PlainPolicy) (e f : CompileRefusal) → IsRefusedFor net policy e → IsRefusedFor net policy f → e ≡ f
 only net policy e f left right = elim (one_refusal net policy e f left.0 right.0) [ inl m ↦ absurd (left.1 m) | inr rest ↦ elim rest [ inl m ↦ absurd (right.1 m) | inr same ↦ same ] ]
 
 module _ (Writes : PlainConfig → List PlainCaseEvidence → List ℕ → Type 0) where
   -- ---- the form of what is said
 
-  policy_form : (c : Command) → Compiles c → (net : PlainNet) (policy : PlainPolicy) (what : Said) → SaysOfCompiled Writes net policy what → IsJobSaid c what
+  pub policy_form : (c : Command) → Compiles c → (net : PlainNet) (policy : PlainPolicy) (what : Said) → SaysOfCompiled Writes net policy what → IsJobSaid c what
   policy_form c compiles net policy what (inl h) = in_text _ h.5
   policy_form c compiles net policy what (inr h) = in_refusal compiles _ h.2
 
   pub job_form : (c : Command) → Compiles c → (bs : List (List ℕ)) (what : Said) → OfTwoTexts (SaysOfCompiled Writes) bs what → IsJobSaid c what
-  job_form c compiles [] what h = absurd h
-  job_form c compiles (x ∷ []) what h = absurd h
-  job_form c compiles (x ∷ y ∷ []) what h = form_of (SaysOfCompiled Writes) c (policy_form c compiles) x y what h
-  job_form c compiles (x ∷ y ∷ z ∷ more) what h = absurd h
+  job_form c compiles = two.job_form (SaysOfCompiled Writes) c (policy_form c compiles)
 
-  -- where the first two texts spell a network and a policy, it is what is said of them
-  job_says : (a b : List ℕ) (more : List (List ℕ)) (what : Said) → OfTwoTexts (SaysOfCompiled Writes) (a ∷ b ∷ more) what → OfTexts (SaysOfCompiled Writes) a b what
-  job_says a b [] what h = h
-  job_says a b (c ∷ more) what h = absurd h
+  -- ---- one thing is said, where one text is written of what is compiled
 
-  -- ---- one thing is said, where one text is written of a configuration and its evidence
-
-  module _ (each : (config : PlainConfig) (evidence : List PlainCaseEvidence) (one other : List ℕ) → Writes config evidence one → Writes config evidence other → one ≡ other) where
-    pub one_of_policy : (net : PlainNet) (policy : PlainPolicy) (one other : Said) → SaysOfCompiled Writes net policy one → SaysOfCompiled Writes net policy other → one ≡ other
-    one_of_policy net policy one other (inl a) (inl b) =
+  module _ (net : PlainNet) (policy : PlainPolicy)
+      (each : (config : PlainConfig) (evidence : List PlainCaseEvidence) → IsCompiled net policy config evidence → (one other : List ℕ) → Writes config evidence one → Writes config evidence other → one ≡ other) where
+    pub one_of_compiled : (one other : Said) → SaysOfCompiled Writes net policy one → SaysOfCompiled Writes net policy other → one ≡ other
+    one_of_compiled one other (inl a) (inl b) =
         let pair = one_pair net policy a.0 b.0 a.1 b.1 a.3.0 b.3.0 in
         let P : PlainConfig → Type 0 = λ x. Writes x b.1 b.2 in
         let Q : List PlainCaseEvidence → Type 0 = λ x. Writes a.0 x b.2 in
-        a.5 ∙ ap text (each a.0 a.1 a.2 b.2 a.4 (subst Q (sym pair.0) (subst P (sym pair.1) b.4))) ∙ sym b.5
-    one_of_policy net policy one other (inl a) (inr b) = absurd (b.1.1 (not_refused net policy a.0 a.1 b.0 a.3.0 b.1.0))
-    one_of_policy net policy one other (inr a) (inl b) = absurd (a.1.1 (not_refused net policy b.0 b.1 a.0 b.3.0 a.1.0))
-    one_of_policy net policy one other (inr a) (inr b) = a.2 ∙ ap (λ f. line Refused (refusal_line net f)) (only net policy a.0 b.0 a.1 b.1) ∙ sym b.2
+        a.5 ∙ ap text (each a.0 a.1 a.3 a.2 b.2 a.4 (subst Q (sym pair.0) (subst P (sym pair.1) b.4))) ∙ sym b.5
+    one_of_compiled one other (inl a) (inr b) = absurd (b.1.1 (not_refused net policy a.0 a.1 b.0 a.3.0 b.1.0))
+    one_of_compiled one other (inr a) (inl b) = absurd (a.1.1 (not_refused net policy b.0 b.1 a.0 b.3.0 a.1.0))
+    one_of_compiled one other (inr a) (inr b) = a.2 ∙ ap (λ f. line Refused (refusal_line net f)) (only net policy a.0 b.0 a.1 b.1) ∙ sym b.2
+
+  module _ (each : (config : PlainConfig) (evidence : List PlainCaseEvidence) (one other : List ℕ) → Writes config evidence one → Writes config evidence other → one ≡ other) where
+    pub one_of_policy : (net : PlainNet) (policy : PlainPolicy) (one other : Said) → SaysOfCompiled Writes net policy one → SaysOfCompiled Writes net policy other → one ≡ other
+    one_of_policy net policy = one_of_compiled net policy (λ config evidence compiled. each config evidence)
 
     pub one_job : (bs : List (List ℕ)) (one other : Said) → OfTwoTexts (SaysOfCompiled Writes) bs one → OfTwoTexts (SaysOfCompiled Writes) bs other → one ≡ other
-    one_job [] one other a b = absurd a
-    one_job (x ∷ []) one other a b = absurd a
-    one_job (x ∷ y ∷ []) one other a b = one_of_texts (SaysOfCompiled Writes) one_of_policy x y one other a b
-    one_job (x ∷ y ∷ z ∷ more) one other a b = absurd a
+    one_job = two.one_job (SaysOfCompiled Writes) one_of_policy
 
   -- ---- a command of which this is the job
 
   module _ (holds : Holds) (words : List (List ℕ)) (c : Command) (job : (bs : List (List ℕ)) (what : Said) → Job c bs what → OfTwoTexts (SaysOfCompiled Writes) bs what) where
-    -- for which network and policy a thing is said
-    pub record SaidFor (what : Said) : Type 0 where
-      pub net : PlainNet
-      pub policy : PlainPolicy
-      pub asked : AsksFor holds words c net policy
-      pub says : SaysOfCompiled Writes net policy what
-
-    said_of : (what : Said) (a b : List ℕ) → words_are words ≡ Some c → AllHeld holds (names_read words c) (a ∷ b ∷ []) → OfSpelled (SaysOfCompiled Writes) a b what → SaidFor what
-    said_of what a b asks held of = record {
-      net = of.net;
-      policy = of.policy;
-      asked = record { asked = asks; topology = a; policy_text = b; more = []; held = held; net_spelled = of.net_spelled; policy_spelled = of.policy_spelled };
-      says = of.says;
-    }
-
-    said_at : (what : Said) → what.status ≢ BadInput → (bs : List (List ℕ)) → words_are words ≡ Some c → AllHeld holds (names_read words c) bs → OfTwoTexts (SaysOfCompiled Writes) bs what → SaidFor what
-    said_at what lawful [] asks held says = absurd says
-    said_at what lawful (a ∷ []) asks held says = absurd says
-    said_at what lawful (a ∷ b ∷ []) asks held says = said_of what a b asks held (of_spelled (SaysOfCompiled Writes) a b what lawful says)
-    said_at what lawful (a ∷ b ∷ x ∷ more) asks held says = absurd says
-
-    pub said_for : (what : Said) → what.status ≢ BadInput → Comes holds words c what → SaidFor what
-    said_for what lawful comes = said_at what lawful comes.bytes comes.is comes.held (job comes.bytes what comes.says)
-
     -- a refusal that is told applies
-    module _ {S : Type 0} (taken : S → Option (List ℕ)) (before now : S) (b : List ℕ) (written : Whole taken b before now) where
+    module _ (wants : (net : PlainNet) (policy : PlainPolicy) → AsksFor holds words c net policy → IsFor holds words c net policy) {S : Type 0} (taken : S → Option (List ℕ)) (before now : S) (b : List ℕ) (written : Whole taken b before now) where
       refusal_of : (net : PlainNet) (policy : PlainPolicy) → AsksFor holds words c net policy → SaysOfCompiled Writes net policy (line Refused b) → RefusesRight holds taken words c before now
       refusal_of net policy asks (inl h) = absurd (let s = status_is _ _ h.5 in cc)
       refusal_of net policy asks (inr h) = record {
         net = net;
         policy = policy;
-        asked = asks;
+        asked = wants net policy asks;
         refusal = h.0;
         refused = h.1;
         written = rw (err_is _ _ h.2) at written;
       }
 
       pub refused : Comes holds words c (line Refused b) → RefusesRight holds taken words c before now
-      refused comes = let f = said_for (line Refused b) (λ x. cc) comes in refusal_of f.net f.policy f.asked f.says
-
-    -- what is said of the policy that was asked for, where the inputs are told
-    pub told_says : (net : PlainNet) (policy : PlainPolicy) (wanted : Said) → AsksFor holds words c net policy → SaidOfTold holds (names_read words c) (Job c) wanted → SaysOfCompiled Writes net policy wanted
-    told_says net policy wanted asks said =
-        let says = told_is holds (names_read words c) (Job c) (asks.topology ∷ asks.policy_text ∷ asks.more) wanted asks.held said in
-        at_spelled (SaysOfCompiled Writes) asks.topology asks.policy_text net policy wanted asks.net_spelled asks.policy_spelled
-        (job_says asks.topology asks.policy_text asks.more wanted (job _ wanted says))
+      refused comes = let f = two.said_for (SaysOfCompiled Writes) holds words c job (line Refused b) (λ x. cc) comes in refusal_of f.net f.policy f.asked f.says
 
 -- ---- what is delivered, where the inputs are told
 

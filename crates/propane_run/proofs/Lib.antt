@@ -7,8 +7,11 @@ pub mod Dispatch
 pub mod Jobs
 pub mod OnlyRead
 pub mod RunLaws
+pub mod Scenarios
 pub mod Sending
 pub mod Sent
+pub mod Showing
 pub mod Spelling
 pub mod Told
+pub mod TwoTexts
 pub mod Wording

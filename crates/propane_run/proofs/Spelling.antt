@@ -19,12 +19,12 @@ use Rattle.propane_run.proofs.Jobs.{IsJobSaid, in_line, status_is}
 
 module _ {Y F : Type 0} (line_of : F → List ℕ) (read : Result Y F) (Next : Y → Said → Type 0) where
   -- its form, where what follows has one
-  read_form : (c : Command) → ((y : Y) (what : Said) → Next y what → IsJobSaid c what) → (what : Said) → OfRead line_of read Next what → IsJobSaid c what
+  pub read_form : (c : Command) → ((y : Y) (what : Said) → Next y what → IsJobSaid c what) → (what : Said) → OfRead line_of read Next what → IsJobSaid c what
   read_form c each what (inl h) = in_line _ h.2
   read_form c each what (inr h) = each h.0 what h.2
 
   -- where it is known what the text spells, what follows is said
-  at_read : (y : Y) (what : Said) → read ≡ Ok y → OfRead line_of read Next what → Next y what
+  pub at_read : (y : Y) (what : Said) → read ≡ Ok y → OfRead line_of read Next what → Next y what
   at_read y what is (inl h) = absurd (let e = h.1 in cc)
   at_read y what is (inr h) =
       let e = h.1 in
@@ -33,19 +33,19 @@ module _ {Y F : Type 0} (line_of : F → List ℕ) (read : Result Y F) (Next : Y
       subst P same h.2
 
   -- a thing that is said, and isn't about the text, follows from what it spells
-  of_read : (what : Said) → what.status ≢ BadInput → OfRead line_of read Next what → (y : Y) × (read ≡ Ok y) × Next y what
+  pub of_read : (what : Said) → what.status ≢ BadInput → OfRead line_of read Next what → (y : Y) × (read ≡ Ok y) × Next y what
   of_read what lawful (inl h) = absurd (lawful (status_is _ _ h.2))
   of_read what lawful (inr h) = h
 
   -- one thing is said, where one thing follows
-  one_of_read : ((y : Y) (one other : Said) → Next y one → Next y other → one ≡ other) → (one other : Said) → OfRead line_of read Next one → OfRead line_of read Next other → one ≡ other
+  pub one_of_read : ((y : Y) → read ≡ Ok y → (one other : Said) → Next y one → Next y other → one ≡ other) → (one other : Said) → OfRead line_of read Next one → OfRead line_of read Next other → one ≡ other
   one_of_read each one other (inl a) (inl b) =
       let e = a.1 in
       let f = b.1 in
       let same : a.0 ≡ b.0 = cc in
       a.2 ∙ ap (λ (f : F). line BadInput (line_of f)) same ∙ sym b.2
   one_of_read each one other (inl a) (inr b) = absurd (let e = a.1 in let f = b.1 in cc)
-  one_of_read each one other (inr a) b = each a.0 one other a.2 (at_read a.0 other a.1 b)
+  one_of_read each one other (inr a) b = each a.0 a.1 one other a.2 (at_read a.0 other a.1 b)
 
 -- ---- a topology and a policy
 
@@ -78,11 +78,18 @@ module _ (Next : PlainNet → PlainPolicy → Said → Type 0) where
       let p = of_read policy_line (policy_spelled n.0 policy_text) (Next n.0) what lawful n.2 in
       record { net = n.0; policy = p.0; net_spelled = n.1; policy_spelled = p.1; says = p.2 }
 
+  -- where what follows is one thing for the network and the policy that the texts spell, so is what is said of the texts
+  pub one_of_spelled : (topology policy_text : List ℕ)
+      → ((net : PlainNet) (policy : PlainPolicy) → spelled topology ≡ Ok net → policy_spelled net policy_text ≡ Ok policy → (one other : Said) → Next net policy one → Next net policy other → one ≡ other)
+      → (one other : Said) → OfTexts Next topology policy_text one → OfTexts Next topology policy_text other → one ≡ other
+  unfolding OfTexts
+  one_of_spelled topology policy_text each one other a b =
+      one_of_read topology_line (spelled topology) (λ net. OfPolicyText Next net policy_text)
+      (λ net net_is. one_of_read policy_line (policy_spelled net policy_text) (Next net) (λ policy policy_is. each net policy net_is policy_is)) one other a b
+
   pub one_of_texts : ((net : PlainNet) (policy : PlainPolicy) (one other : Said) → Next net policy one → Next net policy other → one ≡ other)
       → (topology policy_text : List ℕ) (one other : Said) → OfTexts Next topology policy_text one → OfTexts Next topology policy_text other → one ≡ other
-  unfolding OfTexts
-  one_of_texts each topology policy_text one other a b =
-      one_of_read topology_line (spelled topology) (λ net. OfPolicyText Next net policy_text) (λ net. one_of_read policy_line (policy_spelled net policy_text) (Next net) (each net)) one other a b
+  one_of_texts each topology policy_text = one_of_spelled topology policy_text (λ net policy net_is policy_is. each net policy)
 
 -- ---- a configuration and its evidence
 
@@ -121,4 +128,4 @@ module _ (Next : PlainConfig → List PlainCaseEvidence → Said → Type 0) whe
   unfolding OfPairTexts
   one_of_pair each config_text evidence_text one other a b =
       one_of_read config_line (config_spelled config_text) (λ config. OfEvidenceText Next config evidence_text)
-      (λ config. one_of_read evidence_line (evidence_spelled evidence_text) (Next config) (each config)) one other a b
+      (λ config config_is. one_of_read evidence_line (evidence_spelled evidence_text) (Next config) (λ evidence evidence_is. each config evidence)) one other a b

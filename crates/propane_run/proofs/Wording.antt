@@ -1,6 +1,14 @@
 -- Which words are a command, by how many there are.
-use Rattle.std.proofs.Common.{◌≡◌, ℕ, List, [], ◌∷◌, length, refl, arith}
-use Rattle.propane_run.specs.Words.{words_are, with_two_names, with_four_names, word_at}
+use Rattle.std.proofs.Common.{◌≡◌, ℕ, ◌<◌, List, [], ◌∷◌, map, length, get_or, refl, sym, ap, ◌∙◌, arith}
+use Rattle.std.specs.Prelude.{option_map, unwrap_or}
+use Rattle.std.proofs.lemmas.Option.{slice_get-map, slice_get_read}
+use Rattle.propane_run.specs.Words.{words_are, with_number, with_two_names, with_three_names, with_four_names, word_at}
+
+pub two_words : (words : List (List ℕ)) → length words ≡ 2 → words_are words ≡ with_number (word_at words 0) (word_at words 1)
+two_words [] h = absurd (omega (arith, h))
+two_words (a ∷ []) h = absurd (omega (arith, h))
+two_words (a ∷ b ∷ []) h = refl
+two_words (a ∷ b ∷ c ∷ more) h = absurd (omega (arith, h))
 
 pub three_words : (words : List (List ℕ)) → length words ≡ 3 → words_are words ≡ with_two_names (word_at words 0)
 three_words [] h = absurd (omega (arith, h))
@@ -8,6 +16,14 @@ three_words (a ∷ []) h = absurd (omega (arith, h))
 three_words (a ∷ b ∷ []) h = absurd (omega (arith, h))
 three_words (a ∷ b ∷ c ∷ []) h = refl
 three_words (a ∷ b ∷ c ∷ d ∷ more) h = absurd (omega (arith, h))
+
+pub four_words : (words : List (List ℕ)) → length words ≡ 4 → words_are words ≡ with_three_names (word_at words 0)
+four_words [] h = absurd (omega (arith, h))
+four_words (a ∷ []) h = absurd (omega (arith, h))
+four_words (a ∷ b ∷ []) h = absurd (omega (arith, h))
+four_words (a ∷ b ∷ c ∷ []) h = absurd (omega (arith, h))
+four_words (a ∷ b ∷ c ∷ d ∷ []) h = refl
+four_words (a ∷ b ∷ c ∷ d ∷ e ∷ more) h = absurd (omega (arith, h))
 
 pub five_words : (words : List (List ℕ)) → length words ≡ 5 → words_are words ≡ with_four_names (word_at words 0)
 five_words [] h = absurd (omega (arith, h))
@@ -17,3 +33,8 @@ five_words (a ∷ b ∷ c ∷ []) h = absurd (omega (arith, h))
 five_words (a ∷ b ∷ c ∷ d ∷ []) h = absurd (omega (arith, h))
 five_words (a ∷ b ∷ c ∷ d ∷ e ∷ []) h = refl
 five_words (a ∷ b ∷ c ∷ d ∷ e ∷ f ∷ more) h = absurd (omega (arith, h))
+
+-- the bytes of the word that was read at a place
+pub word_read : {X : Type 0} (bytes_of : X → List ℕ) (words : List X) (k : ℕ) (word : X) (bytes : List ℕ) → k < length words → word ≡ get_or words k word → bytes ≡ bytes_of word → bytes ≡ word_at (map bytes_of words) k
+word_read bytes_of words k word bytes low read is =
+    is ∙ sym (ap (λ o. unwrap_or o []) (slice_get-map bytes_of words k ∙ ap (option_map bytes_of) (slice_get_read words (length words) k word refl low read)))

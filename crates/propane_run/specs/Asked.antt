@@ -1,10 +1,15 @@
--- Which network and which policy a run is asked about.
-use Rattle.std.specs.Prelude.{◌≡◌, ℕ, List, ◌∷◌, Some, Ok}
+-- Which network and which policy a run is asked about, and under which scenario.
+use Rattle.std.specs.Prelude.{◌≡◌, ℕ, List, [], ◌∷◌, Some, Ok}
 use Rattle.net_base.specs.Network.{PlainNet}
 use Rattle.path_words.specs.Policies.{PlainPolicy}
 use Rattle.topology.specs.Topology.{spelled as net_spelled_by}
 use Rattle.policy_parser.specs.Spelled.{spelled as policy_spelled_by}
+use Rattle.stable_paths.specs.declared.scenario.Scenario.{Scenario}
+use Rattle.scenario_text.specs.Spelled.{spelled as scenario_spelled_by}
+use Rattle.net_sample.specs.Network.{sample_net}
+use Rattle.net_sample.specs.SamplePolicy.{sample_policy}
 use Rattle.propane_run.specs.declared.command.Command.{Command}
+use Rattle.propane_run.specs.declared.command.Command.TheVariants.{Compile, Evidence, Check, Explain, Replay, Sample}
 use Rattle.propane_run.specs.Words.{words_are, names_read}
 use Rattle.propane_run.specs.Reading.{Holds, AllHeld}
 
@@ -17,3 +22,26 @@ pub record AsksFor (holds : Holds) (words : List (List ℕ)) (c : Command) (net 
   pub held : AllHeld holds (names_read words c) (topology ∷ policy_text ∷ more)
   pub net_spelled : net_spelled_by topology ≡ Ok net
   pub policy_spelled : policy_spelled_by net policy_text ≡ Ok policy
+
+-- And the bytes of the third and last name spell this scenario for the network.
+pub record AsksUnder (holds : Holds) (words : List (List ℕ)) (c : Command) (net : PlainNet) (policy : PlainPolicy) (scenario : Scenario) : Type 0 where
+  pub asked : AsksFor holds words c net policy
+  pub scenario_text : List ℕ
+  pub more : asked.more ≡ scenario_text ∷ []
+  pub scenario_spelled : scenario_spelled_by net scenario_text ≡ Ok scenario
+
+-- The words are `sample` with this number, and these are its network and its policy.
+pub record IsSampled (words : List (List ℕ)) (n : ℕ) (net : PlainNet) (policy : PlainPolicy) : Type 0 where
+  pub asked : words_are words ≡ Some (Sample n)
+  pub net_is : net ≡ sample_net n
+  pub policy_is : policy ≡ sample_policy n
+
+-- The network and the policy that a command is to compile: those that its inputs spell, or those of the sample of its number.
+-- Where a scenario is read, too, the inputs spell one.
+abbrev pub IsFor : Holds → List (List ℕ) → Command → PlainNet → PlainPolicy → Type 0
+IsFor holds words (Compile t p) net policy = AsksFor holds words (Compile t p) net policy
+IsFor holds words (Evidence t p) net policy = AsksFor holds words (Evidence t p) net policy
+IsFor holds words (Check t p c e) net policy = AsksFor holds words (Check t p c e) net policy
+IsFor holds words (Explain t p) net policy = AsksFor holds words (Explain t p) net policy
+IsFor holds words (Replay t p s) net policy = (scenario : Scenario) × AsksUnder holds words (Replay t p s) net policy scenario
+IsFor holds words (Sample n) net policy = IsSampled words n net policy

@@ -13,7 +13,7 @@ use Rattle.evidence_rules.specs.Verdicts.{IsVerdict}
 use Rattle.outcome_base.specs.Right.{IsRight}
 use Rattle.regret_law.specs.Passes.{Passes}
 use Rattle.propane_run.specs.declared.command.Command.{Command}
-use Rattle.propane_run.specs.declared.command.Command.TheVariants.{Compile, Evidence, Check}
+use Rattle.propane_run.specs.declared.command.Command.TheVariants.{Compile, Evidence, Check, Explain, Replay, Sample}
 use Rattle.propane_run.specs.Asked.{AsksFor}
 use Rattle.propane_run.specs.Headline.{HasOutcomes}
 use Rattle.propane_run.specs.Reading.{Holds}
@@ -25,6 +25,9 @@ abbrev pub Checks : Command → Type 0
 Checks (Compile _ _) = ⊥
 Checks (Evidence _ _) = ⊥
 Checks (Check _ _ _ _) = Unit {0}
+Checks (Explain _ _) = ⊥
+Checks (Replay _ _ _) = ⊥
+Checks (Sample _) = ⊥
 
 -- The words are this command, and the bytes of the four names that it reads spell this network, this policy for it, this
 -- configuration and this evidence.

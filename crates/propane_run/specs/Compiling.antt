@@ -10,15 +10,18 @@ use Rattle.propane_run.specs.Compiled.{IsCompiled, IsRefusedFor}
 use Rattle.propane_run.specs.Said.{Said, text, line, stop_said, no_memory}
 use Rattle.propane_run.specs.RefusalLines.{refusal_line}
 use Rattle.propane_run.specs.declared.command.Command.{Command}
-use Rattle.propane_run.specs.declared.command.Command.TheVariants.{Compile, Evidence, Check}
+use Rattle.propane_run.specs.declared.command.Command.TheVariants.{Compile, Evidence, Check, Explain, Replay, Sample}
 use Rattle.propane_run.specs.declared.outcome.Status.TheVariants.{Refused}
 use Rattle.propane_run.specs.declared.outcome.Stop.{Stop}
 
--- the command writes a part of what is compiled from a policy
+-- the command writes a part of what is compiled from a policy, or what comes of it
 abbrev pub Compiles : Command → Type 0
 Compiles (Compile _ _) = Unit {0}
 Compiles (Evidence _ _) = Unit {0}
 Compiles (Check _ _ _ _) = ⊥
+Compiles (Explain _ _) = ⊥
+Compiles (Replay _ _ _) = Unit {0}
+Compiles (Sample _) = Unit {0}
 
 -- The line of a refusal that applies to the policy.
 abbrev pub SaysRefusal : PlainNet → PlainPolicy → Said → Type 0

@@ -9,6 +9,8 @@ use Rattle.config_reader.specs.declared.fault.ConfigFault.{ConfigFault}
 use Rattle.config_reader.specs.Faults as config
 use Rattle.evidence_text.specs.declared.fault.EvidenceFault.{EvidenceFault}
 use Rattle.evidence_text.specs.Faults as evidence
+use Rattle.scenario_text.specs.declared.fault.ScenarioFault.{ScenarioFault}
+use Rattle.scenario_text.specs.Faults as scenario
 
 -- the kind of text, the number of the rule, its word, and its values
 abbrev pub fault_line : List ℕ → ℕ → List ℕ → List ℕ → List ℕ
@@ -25,3 +27,6 @@ config_line f = fault_line (codes "config") (config.number_of f) (config.word_of
 
 unfoldable pub evidence_line : EvidenceFault → List ℕ
 evidence_line f = fault_line (codes "evidence") (evidence.number_of f) (evidence.word_of f) (evidence.values_of f)
+
+unfoldable pub scenario_line : ScenarioFault → List ℕ
+scenario_line f = fault_line (codes "scenario") (scenario.number_of f) (scenario.word_of f) (scenario.values_of f)

@@ -4,7 +4,7 @@ use Rattle.net_base.specs.Network.{PlainNet}
 use Rattle.path_words.specs.Policies.{PlainPolicy}
 use Rattle.case_core.specs.declared.refusal.CompileRefusal.{CompileRefusal}
 use Rattle.propane_run.specs.declared.command.Command.{Command}
-use Rattle.propane_run.specs.Asked.{AsksFor}
+use Rattle.propane_run.specs.Asked.{IsFor}
 use Rattle.propane_run.specs.Compiled.{IsRefusedFor}
 use Rattle.propane_run.specs.Reading.{Holds}
 use Rattle.propane_run.specs.RefusalLines.{refusal_line}
@@ -14,7 +14,7 @@ use Rattle.propane_run.specs.Said.{Whole}
 pub record RefusesRight {E : Type 0} (holds : Holds) (taken : E → Option (List ℕ)) (words : List (List ℕ)) (c : Command) (err err' : E) : Type 0 where
   pub net : PlainNet
   pub policy : PlainPolicy
-  pub asked : AsksFor holds words c net policy
+  pub asked : IsFor holds words c net policy
   pub refusal : CompileRefusal
   pub refused : IsRefusedFor net policy refusal
   pub written : Whole taken (refusal_line net refusal) err err'

@@ -26,7 +26,7 @@ abbrev pub no_memory : Said
 no_memory = record { status = NoMemory; to_out = []; to_err = [] }
 
 abbrev pub usage : Said
-usage = line Usage (codes "propane: usage: compile TOPO POLICY, evidence TOPO POLICY, check TOPO POLICY CONFIG EVIDENCE\n")
+usage = line Usage (codes "propane: usage: compile TOPO POLICY, evidence TOPO POLICY, check TOPO POLICY CONFIG EVIDENCE, explain TOPO POLICY, replay TOPO POLICY SCENARIO, sample N\n")
 
 abbrev pub stop_said : Stop → Said
 stop_said (stop.Line status l) = line status l.items

@@ -13,10 +13,13 @@ use Rattle.evidence_base.specs.Made.{PlainCaseEvidence}
 use Rattle.evidence_base.specs.declared.evidence.Evidence.{Evidence}
 use Rattle.evidence_text.specs.declared.fault.EvidenceFault.{EvidenceFault}
 use Rattle.evidence_text.specs.Spelled.{spelled as evidence_spelled}
+use Rattle.stable_paths.specs.declared.scenario.Scenario.{Scenario}
+use Rattle.scenario_text.specs.declared.fault.ScenarioFault.{ScenarioFault}
+use Rattle.scenario_text.specs.Spelled.{spelled as scenario_spelled}
 use Rattle.propane_run.specs.declared.outcome.Stop.{Stop}
 use Rattle.propane_run.specs.declared.outcome.Status.TheVariants.{BadInput}
 use Rattle.propane_run.specs.Said.{Said, stop_said, no_memory, line}
-use Rattle.propane_run.specs.FaultLines.{topology_line, policy_line, config_line, evidence_line}
+use Rattle.propane_run.specs.FaultLines.{topology_line, policy_line, config_line, evidence_line, scenario_line}
 
 -- ---- one text
 
@@ -36,6 +39,9 @@ IsConfigOr = IsReadOr (λ config. config) config_line
 
 abbrev pub IsEvidenceOr : Result (List PlainCaseEvidence) EvidenceFault → Result Evidence Stop → Type 0
 IsEvidenceOr = IsReadOr (λ (evidence : Evidence). evidence.cases) evidence_line
+
+abbrev pub IsScenarioOr : Result Scenario ScenarioFault → Result Scenario Stop → Type 0
+IsScenarioOr = IsReadOr (λ scenario. scenario) scenario_line
 
 -- the line of the fault of a text, or what follows from what it spells
 abbrev pub OfRead : {Y F : Type 0} → (F → List ℕ) → Result Y F → (Y → Said → Type 0) → Said → Type 0
@@ -65,3 +71,7 @@ OfEvidenceText Next config evidence_text = OfRead evidence_line (evidence_spelle
 -- The configuration is read, and then its evidence.
 unfoldable pub OfPairTexts : (PlainConfig → List PlainCaseEvidence → Said → Type 0) → List ℕ → List ℕ → Said → Type 0
 OfPairTexts Next config_text evidence_text what = OfRead config_line (config_spelled config_text) (λ config. OfEvidenceText Next config evidence_text) what
+
+-- The scenario for a network is read.
+abbrev pub OfScenarioText : (Scenario → Said → Type 0) → PlainNet → List ℕ → Said → Type 0
+OfScenarioText Next net scenario_text = OfRead scenario_line (scenario_spelled net scenario_text) Next

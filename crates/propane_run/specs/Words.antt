@@ -1,19 +1,38 @@
 -- Which words are a command.
-use Rattle.std.specs.Prelude.{ℕ, ◌<◌, List, [], ◌∷◌, Option, Some, None, if◌then◌else◌, codes, map, slice_get, unwrap_or}
+use Rattle.std.specs.Prelude.{ℕ, ◌<◌, ◌&&◌, nat_le, List, [], ◌∷◌, Option, Some, None, if◌then◌else◌, codes, map, option_and_then, option_map, slice_get, unwrap_or}
 use Rattle.std.specs.List.{AllByRecursion}
 use Rattle.std.specs.Str.{bytes_eq}
+use Rattle.net_base.specs.PrefixText.{length_number}
+use Rattle.net_sample.specs.Network.{IsSampleNumber}
 use Rattle.propane_run.specs.declared.command.Command.{Command}
-use Rattle.propane_run.specs.declared.command.Command.TheVariants.{Compile, Evidence, Check}
+use Rattle.propane_run.specs.declared.command.Command.TheVariants.{Compile, Evidence, Check, Explain, Replay, Sample}
 
--- the command of a word with two names after it, or with four
+-- a number from 2 to 96, of at most two digits, without a leading zero
+abbrev pub sample_number : List ℕ → Option ℕ
+sample_number digits = option_and_then (λ n. if nat_le 2 n && nat_le n 96 then Some n else None) (length_number digits)
+
+-- the command of a word with a number after it
+abbrev pub with_number : List ℕ → List ℕ → Option Command
+with_number word digits = if bytes_eq word (codes "sample") then option_map (λ n. Sample n) (sample_number digits) else None
+
+-- the command of a word with two names after it, with three, or with four
 abbrev pub with_two_names : List ℕ → Option Command
-with_two_names word = if bytes_eq word (codes "compile") then Some (Compile 1 2) else if bytes_eq word (codes "evidence") then Some (Evidence 1 2) else None
+with_two_names word =
+    if bytes_eq word (codes "compile") then Some (Compile 1 2)
+    else if bytes_eq word (codes "evidence") then Some (Evidence 1 2)
+    else if bytes_eq word (codes "explain") then Some (Explain 1 2)
+    else None
+
+abbrev pub with_three_names : List ℕ → Option Command
+with_three_names word = if bytes_eq word (codes "replay") then Some (Replay 1 2 3) else None
 
 abbrev pub with_four_names : List ℕ → Option Command
 with_four_names word = if bytes_eq word (codes "check") then Some (Check 1 2 3 4) else None
 
 abbrev pub words_are : List (List ℕ) → Option Command
+words_are (word ∷ digits ∷ []) = with_number word digits
 words_are (word ∷ a ∷ b ∷ []) = with_two_names word
+words_are (word ∷ a ∷ b ∷ c ∷ []) = with_three_names word
 words_are (word ∷ a ∷ b ∷ c ∷ d ∷ []) = with_four_names word
 words_are _ = None
 
@@ -21,11 +40,23 @@ words_are _ = None
 abbrev pub places_of : Command → List ℕ
 places_of (Compile topology policy) = topology ∷ policy ∷ []
 places_of (Evidence topology policy) = topology ∷ policy ∷ []
+places_of (Explain topology policy) = topology ∷ policy ∷ []
+places_of (Replay topology policy scenario) = topology ∷ policy ∷ scenario ∷ []
 places_of (Check topology policy config evidence) = topology ∷ policy ∷ config ∷ evidence ∷ []
+places_of (Sample leaves) = []
 
--- they are places of the words
+-- where it has a number, it is that of a sample
+abbrev pub HasNumber : Command → Type 0
+HasNumber (Compile _ _) = Unit {0}
+HasNumber (Evidence _ _) = Unit {0}
+HasNumber (Check _ _ _ _) = Unit {0}
+HasNumber (Explain _ _) = Unit {0}
+HasNumber (Replay _ _ _) = Unit {0}
+HasNumber (Sample leaves) = IsSampleNumber leaves
+
+-- the places are places of the words, and the number is that of a sample
 abbrev pub IsWithin : ℕ → Command → Type 0
-IsWithin count c = AllByRecursion (λ place. place < count) (places_of c)
+IsWithin count c = AllByRecursion (λ place. place < count) (places_of c) × HasNumber c
 
 -- the word at a place
 abbrev pub word_at : List (List ℕ) → ℕ → List ℕ

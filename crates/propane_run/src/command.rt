@@ -1,8 +1,10 @@
 //! Which command the words are.
 ghost use Rattle.std.specs.Prelude.{◌≡◌, IfSome, length, map, string_bytes};
-ghost use Rattle.propane_run.specs.Words.{words_are, with_two_names, with_four_names, IsWithin};
+ghost use Rattle.propane_run.specs.Words.{words_are, sample_number, with_number, with_two_names, with_three_names, with_four_names, IsWithin};
 
-/// A command. The numbers are the places of its names in the words, counted from 0.
+use net_base::read_length;
+
+/// A command. The numbers are the places of its names in the words, counted from 0, but for that of `sample`.
 #[derive(Clone, Copy, Debug, PartialEq, Eq)]
 pub enum Command {
     /// `compile TOPO POLICY`.
@@ -11,6 +13,36 @@ pub enum Command {
     Evidence(u32, u32),
     /// `check TOPO POLICY CONFIG EVIDENCE`.
     Check(u32, u32, u32, u32),
+    /// `explain TOPO POLICY`.
+    Explain(u32, u32),
+    /// `replay TOPO POLICY SCENARIO`.
+    Replay(u32, u32, u32),
+    /// `sample N`: the number of leaves, from 2 to 96, without leading zeros.
+    Sample(u16),
+}
+
+// The number of a sample.
+fn number_of(digits: &str) -> Option<u16>
+    ensures { result ≡ sample_number digits.now }
+{
+    let number = read_length(digits.as_bytes())?;
+    if number >= 2 && number <= 96 {
+        Some(number)
+    } else {
+        None
+    }
+}
+
+// The command of this word with a number after it.
+fn of_number(word: &str, digits: &str) -> Option<Command>
+    ensures is { result ≡ with_number word.now digits.now }
+    ensures within { IfSome result (λ c. IsWithin 2 c) }
+{
+    if word == "sample" {
+        Some(Command::Sample(number_of(digits)?))
+    } else {
+        None
+    }
 }
 
 // The command of this word with two names after it.
@@ -22,6 +54,20 @@ fn of_two_names(word: &str) -> Option<Command>
         Some(Command::Compile(1, 2))
     } else if word == "evidence" {
         Some(Command::Evidence(1, 2))
+    } else if word == "explain" {
+        Some(Command::Explain(1, 2))
+    } else {
+        None
+    }
+}
+
+// The command of this word with three names after it.
+fn of_three_names(word: &str) -> Option<Command>
+    ensures is { result ≡ with_three_names word.now }
+    ensures within { IfSome result (λ c. IsWithin 4 c) }
+{
+    if word == "replay" {
+        Some(Command::Replay(1, 2, 3))
     } else {
         None
     }
@@ -40,13 +86,14 @@ fn of_four_names(word: &str) -> Option<Command>
 }
 
 /// The command that the words are, or None exactly where they are none. It takes no memory.
-#[tactic(auto, using(crate::proofs::Wording::three_words, crate::proofs::Wording::five_words))]
 pub fn words_of(words: &[String]) -> Option<Command>
     ensures is { result ≡ words_are (map string_bytes words.now) }
     ensures within { IfSome result (λ c. IsWithin (length words.now) c) }
 {
     match words {
+        [word, digits] => of_number(word.as_str(), digits.as_str()),
         [word, _, _] => of_two_names(word.as_str()),
+        [word, _, _, _] => of_three_names(word.as_str()),
         [word, _, _, _, _] => of_four_names(word.as_str()),
         _ => None,
     }

@@ -2,3 +2,6 @@
 pub mod check;
 pub mod compile;
 pub mod evidence;
+pub mod explain;
+pub mod replay;
+pub mod sample;

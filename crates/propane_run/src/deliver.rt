@@ -7,7 +7,7 @@ use outside::{Sink, write_whole};
 
 /// What is said of words that are no command.
 pub const USAGE: &[u8] =
-    b"propane: usage: compile TOPO POLICY, evidence TOPO POLICY, check TOPO POLICY CONFIG EVIDENCE\n";
+    b"propane: usage: compile TOPO POLICY, evidence TOPO POLICY, check TOPO POLICY CONFIG EVIDENCE, explain TOPO POLICY, replay TOPO POLICY SCENARIO, sample N\n";
 
 // Writes the bytes, and gives the status, or `WriteFault`.
 fn send<S: Sink>(sink: &mut S, bytes: &[u8], status: Status) -> Status

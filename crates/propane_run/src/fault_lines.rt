@@ -1,12 +1,13 @@
 //! What is said of a text that breaks a rule.
 ghost use Rattle.std.specs.Prelude.{◌≡◌, ◌++◌, OnOk, IfOk, codes};
 ghost use Rattle.std.specs.Fmt.{decimal};
-ghost use Rattle.propane_run.specs.FaultLines.{topology_line, policy_line, config_line, evidence_line};
+ghost use Rattle.propane_run.specs.FaultLines.{topology_line, policy_line, config_line, evidence_line, scenario_line};
 
 use config_reader::ConfigFault;
 use evidence_text::EvidenceFault;
 use outside::NoMemory;
 use policy_parser::PolicyFault;
+use scenario_text::ScenarioFault;
 use std::alloc::Global;
 use text_words::{push_bytes, push_number, push_word};
 use topology::TopoFault;
@@ -65,6 +66,18 @@ pub fn evidence_fault_line(alloc: Global, fault: &EvidenceFault) -> Result<Vec<u
 {
     let mut line = Vec::new(alloc);
     push_fault(&mut line, b"evidence", fault.number(), fault.word())?;
+    fault.push_values(&mut line)?;
+    push_bytes(&mut line, b"\n")?;
+    Ok(line)
+}
+
+/// The line that tells a fault of a scenario: the number of the rule, its word and its values.
+#[tactic(auto, unfolding(crate::specs::FaultLines::scenario_line))]
+pub fn scenario_fault_line(alloc: Global, fault: &ScenarioFault) -> Result<Vec<u8>, NoMemory>
+    ensures { IfOk result (λ v. v.items ≡ scenario_line fault.now) }
+{
+    let mut line = Vec::new(alloc);
+    push_fault(&mut line, b"scenario", fault.number(), fault.word())?;
     fault.push_values(&mut line)?;
     push_bytes(&mut line, b"\n")?;
     Ok(line)

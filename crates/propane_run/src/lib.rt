@@ -7,24 +7,28 @@ ghost use Rattle.outside.specs.Outside.{Rose};
 ghost use Rattle.path_words.specs.Policies.{PlainPolicy};
 ghost use Rattle.evidence_base.specs.Made.{PlainCaseEvidence};
 ghost use Rattle.case_core.specs.declared.refusal.CompileRefusal.{CompileRefusal};
-ghost use Rattle.propane_run.specs.Asked.{AsksFor};
+ghost use Rattle.propane_run.specs.Asked.{AsksFor, IsFor};
 ghost use Rattle.config_base.specs.Configs.{PlainConfig};
 ghost use Rattle.regret_law.specs.Passes.{Passes};
 ghost use Rattle.propane_run.specs.Checking.{Checks, AsksOf, ChecksRight, TellsFault};
 ghost use Rattle.propane_run.specs.Clauses.{FaultFound, ReadsSmoothly};
 ghost use Rattle.propane_run.specs.Compiled.{IsCompiled, IsRefusedFor};
 ghost use Rattle.propane_run.specs.Compiling.{Compiles};
+ghost use Rattle.propane_run.specs.Explaining.{ExplainsRight};
 ghost use Rattle.propane_run.specs.Headline.{CompilesRight, GivesEvidence};
 ghost use Rattle.propane_run.specs.Reading.{AreOnlyRead, RoseOf, SaidOfTold, unread};
 ghost use Rattle.propane_run.specs.RefusalLines.{refusal_line as line_of_refusal};
 ghost use Rattle.propane_run.specs.Refusing.{RefusesRight};
+ghost use Rattle.propane_run.specs.Replaying.{ReplaysRight};
 ghost use Rattle.propane_run.specs.Run.{IsAnswer, IsAmong, Comes, Job};
+ghost use Rattle.propane_run.specs.Sampling.{Samples};
 ghost use Rattle.propane_run.specs.Said.{Said, said, text, usage, Delivered, Whole, Part};
 ghost use Rattle.propane_run.specs.Words.{words_are, names_read, word_at};
 
 mod command;
 mod commands;
 mod deliver;
+mod explanations;
 mod fault_lines;
 mod laws;
 mod outcome;
@@ -69,6 +73,17 @@ fn answer<I: Inputs>(alloc: Global, words: &[String], inputs: &mut I) -> Result<
             word(words, config),
             word(words, evidence),
         ),
+        Some(Command::Explain(topology, policy)) => {
+            commands::explain::explain(alloc, inputs, word(words, topology), word(words, policy))
+        }
+        Some(Command::Replay(topology, policy, scenario)) => commands::replay::replay(
+            alloc,
+            inputs,
+            word(words, topology),
+            word(words, policy),
+            word(words, scenario),
+        ),
+        Some(Command::Sample(leaves)) => commands::sample::sample(alloc, leaves),
         None => Err(Stop::Usage),
     }
 }
@@ -123,13 +138,28 @@ pub fn run<I: Inputs, O: Sink, E: Sink>(
     ensures checks_right { (topology policy config evidence : ℕ) → let c = Command.Check topology policy config evidence in words_are (map string_bytes words.now) ≡ Some c
         → result ≡ Status.Done → ChecksRight (I.holds inputs.old) O.taken (map string_bytes words.now) c out.old out.new }
 
+    // Where `explain` ends with Done, `out` says that the policy which the inputs spell is accepted, and no refusal applies to it;
+    // or it tells the refusal that applies, with the lines that show it.
+    ensures explains_right { (topology policy : ℕ) → let c = Command.Explain topology policy in words_are (map string_bytes words.now) ≡ Some c
+        → result ≡ Status.Done → ExplainsRight (I.holds inputs.old) O.taken (map string_bytes words.now) c out.old out.new }
+
+    // Where `replay` ends with Done, `out` grew by the report of the one outcome that is stable with ties broken, under the failures
+    // that the inputs spell, for the configuration that is compiled, which is right.
+    ensures replays_right { (topology policy scenario : ℕ) → let c = Command.Replay topology policy scenario in words_are (map string_bytes words.now) ≡ Some c
+        → result ≡ Status.Done → ReplaysRight (I.holds inputs.old) O.taken (map string_bytes words.now) c out.old out.new }
+
+    // Where `sample` ends with Done, `out` grew by the summary of its network and of the evidence that is compiled from its
+    // policy.
+    ensures sampled { (leaves : ℕ) → words_are (map string_bytes words.now) ≡ Some (Command.Sample leaves)
+        → result ≡ Status.Done → Samples O.taken leaves out.old out.new }
+
     // It ends with CheckFails only where the command checks, and the inputs spell evidence of which a rule fails: the first
     // one, which `out` tells.
     ensures check_fails { result ≡ Status.CheckFails → (c : Command) × Checks c
         × TellsFault (I.holds inputs.old) O.taken (map string_bytes words.now) c out.old out.new × (err.new ≡ err.old) }
 
-    // It ends with Refused only where the command compiles, and the inputs spell a network and a policy to which the refusal
-    // applies that the line tells.
+    // It ends with Refused only where the command compiles, and its inputs spell a network and a policy, or it has those of the
+    // sample, to which the refusal applies that the line tells.
     ensures refused { result ≡ Status.Refused → (c : Command) × Compiles c
         × RefusesRight (I.holds inputs.old) E.taken (map string_bytes words.now) c err.old err.new × (out.new ≡ out.old) }
 
@@ -182,7 +212,7 @@ pub fn run<I: Inputs, O: Sink, E: Sink>(
     ensures refused_where { (c : Command) → Compiles c → (net : PlainNet) (asked : PlainPolicy) (e : CompileRefusal)
         → ReadsSmoothly (I.holds inputs.old) (RoseOf (I.faults inputs.old) (I.faults inputs.new)) (map string_bytes words.now) c
         → ¬ Rose (E.faults err.old) (E.faults err.new)
-        → AsksFor (I.holds inputs.old) (map string_bytes words.now) c net asked → IsRefusedFor net asked e
+        → IsFor (I.holds inputs.old) (map string_bytes words.now) c net asked → IsRefusedFor net asked e
         → (result ≡ Status.NoMemory)
         ⊎ (result ≡ Status.Refused) × Whole E.taken (line_of_refusal net e) err.old err.new × (out.new ≡ out.old) }
 
@@ -190,7 +220,14 @@ pub fn run<I: Inputs, O: Sink, E: Sink>(
     ensures compiled_where { (c : Command) → Compiles c → (net : PlainNet) (asked : PlainPolicy)
         → ReadsSmoothly (I.holds inputs.old) (RoseOf (I.faults inputs.old) (I.faults inputs.new)) (map string_bytes words.now) c
         → ¬ Rose (O.faults out.old) (O.faults out.new)
-        → AsksFor (I.holds inputs.old) (map string_bytes words.now) c net asked → ((e : CompileRefusal) → ¬ IsRefusedFor net asked e)
+        → IsFor (I.holds inputs.old) (map string_bytes words.now) c net asked → ((e : CompileRefusal) → ¬ IsRefusedFor net asked e)
+        → (result ≡ Status.NoMemory) ⊎ (result ≡ Status.Done) }
+
+    // There `explain` ends so, whether a refusal applies or none, if no count of `out` rises; or memory ran out.
+    ensures explained_where { (topology policy : ℕ) → let c = Command.Explain topology policy in (net : PlainNet) (asked : PlainPolicy)
+        → ReadsSmoothly (I.holds inputs.old) (RoseOf (I.faults inputs.old) (I.faults inputs.new)) (map string_bytes words.now) c
+        → ¬ Rose (O.faults out.old) (O.faults out.new)
+        → AsksFor (I.holds inputs.old) (map string_bytes words.now) c net asked
         → (result ≡ Status.NoMemory) ⊎ (result ≡ Status.Done) }
 
     // There `check` says that evidence which passes holds, and that other evidence fails, if no count of `out` rises; or memory

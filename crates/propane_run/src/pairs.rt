@@ -11,6 +11,7 @@ use path_words::Policy;
 use std::alloc::Global;
 
 /// The configuration that is compiled from the policy, with its evidence, or why the run stops.
+#[tactic(auto, using(crate::proofs::Showing::refusals_are_showable))]
 pub fn compiled_for(alloc: Global, net: &Net, policy: &Policy) -> Result<Compiled, Stop>
     requires { OriginsAreRouters net.now policy.now.origins }
     ensures { IsCompiledOr net.now (policy_of policy.now) result }

@@ -1,10 +1,12 @@
 //! What is said of a policy that is refused.
-ghost use Rattle.std.specs.Prelude.{◌≡◌, ◌++◌, OnOk, IfOk, codes};
+ghost use Rattle.std.specs.Prelude.{◌≡◌, ◌++◌, ◌<◌, OnOk, IfOk, codes, length};
 ghost use Rattle.std.specs.List.{flat_map};
+ghost use Rattle.graph_base.specs.Walks.{IsEnteredFromBefore};
 ghost use Rattle.config_made.specs.Writing.{name_of};
-ghost use Rattle.propane_run.specs.RefusalLines.{refusal_number as number_of, refusal_word as refusal_text, case_text, router_text, next_name, walk_text, walks_text, refusal_values, refusal_line as line_of};
+ghost use Rattle.propane_run.specs.RefusalLines.{refusal_number as number_of, refusal_word as word_of, case_text, router_text, next_name, walk_text, walks_text, shown_text, pair_text, refusal_values, refusal_text, refusal_line as line_of, IsShowable};
 
 use case_core::CompileRefusal;
+use graph_base::{Graph, walk_of};
 use net_base::{Loc, Net};
 use outside::NoMemory;
 use std::alloc::Global;
@@ -20,7 +22,7 @@ fn refusal_number(refusal: &CompileRefusal) -> u8
         CompileRefusal::TooManySteps(_) => 3,
         CompileRefusal::SourceWithoutPath(_, _) => 4,
         CompileRefusal::MixedSource(_, _, _, _) => 5,
-        CompileRefusal::NoEvidence(_, _) => 6,
+        CompileRefusal::NoEvidence(_, _, _) => 6,
         CompileRefusal::TooManyTags(_) => 7,
         CompileRefusal::NoMemory => 0,
     }
@@ -28,7 +30,7 @@ fn refusal_number(refusal: &CompileRefusal) -> u8
 
 // The word of a refusal.
 fn refusal_word(refusal: &CompileRefusal) -> &'static [u8]
-    ensures { result.now ≡ refusal_text refusal.now }
+    ensures { result.now ≡ word_of refusal.now }
 {
     match refusal {
         CompileRefusal::TooManyRanks(_, _) => b"too-many-ranks",
@@ -36,7 +38,7 @@ fn refusal_word(refusal: &CompileRefusal) -> &'static [u8]
         CompileRefusal::TooManySteps(_) => b"too-many-steps",
         CompileRefusal::SourceWithoutPath(_, _) => b"source-without-path",
         CompileRefusal::MixedSource(_, _, _, _) => b"mixed-source",
-        CompileRefusal::NoEvidence(_, _) => b"no-evidence",
+        CompileRefusal::NoEvidence(_, _, _) => b"no-evidence",
         CompileRefusal::TooManyTags(_) => b"too-many-tags",
         CompileRefusal::NoMemory => b"no-memory",
     }
@@ -61,16 +63,16 @@ fn push_case(line: &mut Vec<u8>, number: u32) -> Result<(), NoMemory>
     push_number(line, u64::from(number))
 }
 
-// Adds the name of a router.
-fn push_router(line: &mut Vec<u8>, net: &Net, at: Loc) -> Result<(), NoMemory>
+/// Adds the name of a router.
+pub fn push_router(line: &mut Vec<u8>, net: &Net, at: Loc) -> Result<(), NoMemory>
     ensures { OnOk result (line.new.items ≡ line.old.items ++ router_text net.now at) }
 {
     push_bytes(line, b" router ")?;
     push_location(line, net, at)
 }
 
-// Adds a location's name after a space.
-fn push_next(line: &mut Vec<u8>, net: &Net, at: Loc) -> Result<(), NoMemory>
+/// Adds a location's name after a space.
+pub fn push_next(line: &mut Vec<u8>, net: &Net, at: Loc) -> Result<(), NoMemory>
     ensures { OnOk result (line.new.items ≡ line.old.items ++ next_name net.now at) }
 {
     push_bytes(line, b" ")?;
@@ -97,8 +99,50 @@ fn push_walks(line: &mut Vec<u8>, net: &Net, with: &[Loc], without: &[Loc]) -> R
     push_walk(line, net, without)
 }
 
+/// Adds the walk by which a node is shown.
+pub fn push_shown(
+    alloc: Global,
+    line: &mut Vec<u8>,
+    net: &Net,
+    graph: &Graph,
+    node: u32,
+) -> Result<(), NoMemory>
+    requires node { node < length graph.now.nodes }
+    requires entered { IsEnteredFromBefore graph.now }
+    ensures { OnOk result (line.new.items ≡ line.old.items ++ shown_text net.now graph.now node) }
+{
+    let walk = walk_of(alloc, graph, node)?;
+    push_walk(line, net, walk.as_slice())
+}
+
+/// Adds the walks by which two nodes are shown.
+pub fn push_pair(
+    alloc: Global,
+    line: &mut Vec<u8>,
+    net: &Net,
+    graph: &Graph,
+    first: u32,
+    second: u32,
+) -> Result<(), NoMemory>
+    requires first { first < length graph.now.nodes }
+    requires second { second < length graph.now.nodes }
+    requires entered { IsEnteredFromBefore graph.now }
+    ensures { OnOk result (line.new.items ≡ line.old.items ++ pair_text net.now graph.now first second) }
+{
+    push_bytes(line, b" first")?;
+    push_shown(alloc, line, net, graph, first)?;
+    push_bytes(line, b" second")?;
+    push_shown(alloc, line, net, graph, second)
+}
+
 // Adds the values of a refusal.
-fn push_values(line: &mut Vec<u8>, net: &Net, refusal: &CompileRefusal) -> Result<(), NoMemory>
+fn push_values(
+    alloc: Global,
+    line: &mut Vec<u8>,
+    net: &Net,
+    refusal: &CompileRefusal,
+) -> Result<(), NoMemory>
+    requires { IsShowable refusal.now }
     ensures { OnOk result (line.new.items ≡ line.old.items ++ refusal_values net.now refusal.now) }
 {
     match refusal {
@@ -107,9 +151,9 @@ fn push_values(line: &mut Vec<u8>, net: &Net, refusal: &CompileRefusal) -> Resul
             push_bytes(line, b" number ")?;
             push_number(line, *count)
         }
-        CompileRefusal::TooManyStates(case)
-        | CompileRefusal::TooManySteps(case)
-        | CompileRefusal::NoEvidence(case, _) => push_case(line, *case),
+        CompileRefusal::TooManyStates(case) | CompileRefusal::TooManySteps(case) => {
+            push_case(line, *case)
+        }
         CompileRefusal::SourceWithoutPath(case, router) => {
             push_case(line, *case)?;
             push_router(line, net, *router)
@@ -119,22 +163,42 @@ fn push_values(line: &mut Vec<u8>, net: &Net, refusal: &CompileRefusal) -> Resul
             push_router(line, net, *router)?;
             push_walks(line, net, with.as_slice(), without.as_slice())
         }
+        CompileRefusal::NoEvidence(case, graph, refutation) => {
+            push_case(line, *case)?;
+            push_router(line, net, refutation.router)?;
+            push_pair(alloc, line, net, graph, refutation.first, refutation.second)
+        }
         CompileRefusal::TooManyTags(router) => push_router(line, net, *router),
         CompileRefusal::NoMemory => Ok(()),
     }
 }
 
-/// The line that tells a refusal: its number, its word and its values. Locations are told by their names in the network.
-#[tactic(auto, unfolding(crate::specs::RefusalLines::refusal_line))]
+/// Adds a refusal: its number, its word and its values. Locations are told by their names in the network.
+#[tactic(auto, unfolding(crate::specs::RefusalLines::refusal_text))]
+pub fn push_refusal(
+    alloc: Global,
+    line: &mut Vec<u8>,
+    net: &Net,
+    refusal: &CompileRefusal,
+) -> Result<(), NoMemory>
+    requires { IsShowable refusal.now }
+    ensures { OnOk result (line.new.items ≡ line.old.items ++ refusal_text net.now refusal.now) }
+{
+    push_bytes(line, b"refused ")?;
+    push_number(line, u64::from(refusal_number(refusal)))?;
+    push_bytes(line, b" ")?;
+    push_bytes(line, refusal_word(refusal))?;
+    push_values(alloc, line, net, refusal)?;
+    push_bytes(line, b"\n")
+}
+
+/// The line that tells a refusal.
 pub fn refusal_line(alloc: Global, net: &Net, refusal: &CompileRefusal) -> Result<Vec<u8>, NoMemory>
+    requires { IsShowable refusal.now }
     ensures { IfOk result (λ v. v.items ≡ line_of net.now refusal.now) }
 {
     let mut line = Vec::new(alloc);
-    push_bytes(&mut line, b"propane: refused ")?;
-    push_number(&mut line, u64::from(refusal_number(refusal)))?;
-    push_bytes(&mut line, b" ")?;
-    push_bytes(&mut line, refusal_word(refusal))?;
-    push_values(&mut line, net, refusal)?;
-    push_bytes(&mut line, b"\n")?;
+    push_bytes(&mut line, b"propane: ")?;
+    push_refusal(alloc, &mut line, net, refusal)?;
     Ok(line)
 }

@@ -1,14 +1,17 @@
-//! The texts that are read: of a topology, of a policy for its network, of a configuration and of evidence.
+//! The texts that are read: of a topology, of a policy or a scenario for its network, of a configuration and of evidence.
 ghost use Rattle.std.specs.Prelude.{◌<◌, length, IfOk};
+ghost use Rattle.path_words.specs.Policies.{IsPolicyOf, policy_of};
 ghost use Rattle.policy_parser.specs.Spelled.{spelled as policy_spelled};
 ghost use Rattle.case_law.specs.Cases.{OriginsAreRouters};
 ghost use Rattle.config_reader.specs.Text.{spelled as config_spelled};
 ghost use Rattle.evidence_text.specs.Spelled.{spelled as evidence_spelled};
-ghost use Rattle.propane_run.specs.Texts.{IsNetOr, IsPolicyOr, IsConfigOr, IsEvidenceOr};
+ghost use Rattle.scenario_text.specs.Spelled.{spelled as scenario_spelled};
+ghost use Rattle.propane_run.specs.Texts.{IsNetOr, IsPolicyOr, IsConfigOr, IsEvidenceOr, IsScenarioOr};
 ghost use Rattle.topology.specs.Topology.{spelled};
 
 use crate::fault_lines::{
-    config_fault_line, evidence_fault_line, policy_fault_line, topology_fault_line,
+    config_fault_line, evidence_fault_line, policy_fault_line, scenario_fault_line,
+    topology_fault_line,
 };
 use crate::outcome::{Status, Stop};
 use config_base::Config;
@@ -18,6 +21,8 @@ use evidence_text::{EvidenceFault, read_evidence};
 use net_base::Net;
 use path_words::Policy;
 use policy_parser::{PolicyFault, read_policy};
+use scenario_text::{ScenarioFault, read_scenario};
+use stable_paths::Scenario;
 use std::alloc::Global;
 use topology::{TopoFault, read_topology};
 
@@ -40,6 +45,7 @@ pub fn policy_for(alloc: Global, net: &Net, policy: &[u8]) -> Result<Policy, Sto
     requires { length policy.now < 4294967295 }
     ensures spells { IsPolicyOr (policy_spelled net.now policy.now) result }
     ensures routers { IfOk result (λ policy. OriginsAreRouters net.now policy.origins) }
+    ensures fits { IfOk result (λ policy. IsPolicyOf net.now (policy_of policy)) }
 {
     match read_policy(alloc, policy, net) {
         Ok(policy) => Ok(policy),
@@ -75,6 +81,20 @@ pub fn evidence_for(alloc: Global, evidence: &[u8]) -> Result<Evidence, Stop>
         Err(EvidenceFault::NoMemory) => Err(Stop::NoMemory),
         Err(fault) => {
             let line = evidence_fault_line(alloc, &fault)?;
+            Err(Stop::Line(Status::BadInput, line))
+        }
+    }
+}
+
+/// The scenario that the bytes spell for the net, or why the run stops.
+pub fn scenario_for(alloc: Global, net: &Net, scenario: &[u8]) -> Result<Scenario, Stop>
+    ensures { IsScenarioOr (scenario_spelled net.now scenario.now) result }
+{
+    match read_scenario(alloc, scenario, net) {
+        Ok(scenario) => Ok(scenario),
+        Err(ScenarioFault::NoMemory) => Err(Stop::NoMemory),
+        Err(fault) => {
+            let line = scenario_fault_line(alloc, &fault)?;
             Err(Stop::Line(Status::BadInput, line))
         }
     }

@@ -1,9 +1,13 @@
 mod checked;
 mod compiled;
+mod explained;
+mod files;
 mod limits;
 mod memory;
 mod policies;
 mod refused;
+mod replayed;
+mod sampled;
 mod topologies;
 
 use outside::{CountSink, MemInputs, MemSink, NoMemory};
@@ -91,7 +95,7 @@ fn tells(alloc: Global, topology: &[u8], policy: &[u8], line: &str) -> Result<bo
 const COMPILE: &[&str] = &["compile", "t.json", "p.propane"];
 
 const USAGE: &str =
-    "propane: usage: compile TOPO POLICY, evidence TOPO POLICY, check TOPO POLICY CONFIG EVIDENCE
+    "propane: usage: compile TOPO POLICY, evidence TOPO POLICY, check TOPO POLICY CONFIG EVIDENCE, explain TOPO POLICY, replay TOPO POLICY SCENARIO, sample N
 ";
 
 // One run: its words, the calls that fail, the status, and what `out` and `err` took.

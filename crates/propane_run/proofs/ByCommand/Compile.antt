@@ -17,7 +17,7 @@ use Rattle.propane_run.specs.Reading.{Holds}
 use Rattle.propane_run.specs.Run.{Comes}
 use Rattle.propane_run.specs.Said.{text, Whole}
 use Rattle.propane_run.specs.commands.Compile.{SaysOfPolicy, WritesConfig}
-use Rattle.propane_run.proofs.Compiling.{said_for}
+use Rattle.propane_run.proofs.TwoTexts.{said_for}
 use Rattle.propane_run.proofs.Jobs.{status_is, out_is}
 
 -- a configuration has one text
@@ -50,4 +50,4 @@ module _ {S : Type 0} (holds : Holds) (words : List (List ℕ)) (taken : S → O
       )
 
   pub compiled : (t p : ℕ) → Comes holds words (Compile t p) (text b) → Claimed (Compile t p)
-  compiled t p comes = let f = said_for WritesConfig holds words (Compile t p) (λ bs what h. h) (text b) (λ x. cc) comes in claim_of (Compile t p) f.net f.policy f.asked f.says
+  compiled t p comes = let f = said_for SaysOfPolicy holds words (Compile t p) (λ bs what h. h) (text b) (λ x. cc) comes in claim_of (Compile t p) f.net f.policy f.asked f.says

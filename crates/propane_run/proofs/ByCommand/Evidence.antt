@@ -23,7 +23,7 @@ use Rattle.propane_run.specs.Said.{text, Whole}
 use Rattle.propane_run.specs.Texts.{OfTexts}
 use Rattle.propane_run.specs.commands.Compile as compile
 use Rattle.propane_run.specs.commands.Evidence.{SaysOfPolicy, WritesEvidence}
-use Rattle.propane_run.proofs.Compiling.{said_for}
+use Rattle.propane_run.proofs.TwoTexts.{said_for}
 use Rattle.propane_run.proofs.Jobs.{status_is, out_is}
 use Rattle.propane_run.proofs.Spelling.{at_spelled, of_spelled}
 
@@ -50,7 +50,7 @@ module _ {S : Type 0} (holds : Holds) (words : List (List ℕ)) (taken : S → O
       }
 
   pub given : (t p : ℕ) → Comes holds words (Evidence t p) (text b) → GivesEvidence holds taken words (Evidence t p) before now
-  given t p comes = let f = said_for WritesEvidence holds words (Evidence t p) (λ bs what h. h) (text b) (λ x. cc) comes in claim_of (Evidence t p) f.net f.policy f.asked f.says
+  given t p comes = let f = said_for SaysOfPolicy holds words (Evidence t p) (λ bs what h. h) (text b) (λ x. cc) comes in claim_of (Evidence t p) f.net f.policy f.asked f.says
 
 -- ---- with what `compile` writes
 

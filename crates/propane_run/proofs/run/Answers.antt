@@ -4,6 +4,9 @@ use Rattle.propane_run.proofs.RunLaws as law
 use Rattle.propane_run.proofs.ByCommand.Check as check
 use Rattle.propane_run.proofs.ByCommand.Compile as compile
 use Rattle.propane_run.proofs.ByCommand.Evidence as evidence
+use Rattle.propane_run.proofs.ByCommand.Explain as explain
+use Rattle.propane_run.proofs.ByCommand.Replay as replay
+use Rattle.propane_run.proofs.ByCommand.Sample as sample
 use Rattle.propane_run.proofs.Checkers as checkers
 use Rattle.propane_run.proofs.Compilers as compilers
 use Rattle.propane_run.proofs.run.Goals as goal
@@ -31,6 +34,24 @@ returns-clause-checks_right g c = λ x y z w asks is.
     let h = c.run_whole.ensures.whole in
     let d = law.done_for _ _ _ _ (g.I.Inputs.holds c.args.inputs.now) (RoseOf (g.I.Inputs.faults c.args.inputs.now) (g.I.Inputs.faults c.run_whole.new.inputs)) (map string_bytes c.args.words.now) _ _ _ _ h.0 _ h.1 h.2 _ asks is in
     check.right _ _ _ (λ bs what says. says) _ _ _ d.0 d.2 d.1
+
+pub returns-clause-explains_right : goal.returns-clause-explains_right
+returns-clause-explains_right g c = λ t p asks is.
+    let h = c.run_whole.ensures.whole in
+    let d = law.done_for _ _ _ _ (g.I.Inputs.holds c.args.inputs.now) (RoseOf (g.I.Inputs.faults c.args.inputs.now) (g.I.Inputs.faults c.run_whole.new.inputs)) (map string_bytes c.args.words.now) _ _ _ _ h.0 _ h.1 h.2 _ asks is in
+    explain.right _ _ _ _ _ d.0 d.2 t p d.1
+
+pub returns-clause-replays_right : goal.returns-clause-replays_right
+returns-clause-replays_right g c = λ t p s asks is.
+    let h = c.run_whole.ensures.whole in
+    let d = law.done_for _ _ _ _ (g.I.Inputs.holds c.args.inputs.now) (RoseOf (g.I.Inputs.faults c.args.inputs.now) (g.I.Inputs.faults c.run_whole.new.inputs)) (map string_bytes c.args.words.now) _ _ _ _ h.0 _ h.1 h.2 _ asks is in
+    replay.right _ _ _ (λ bs what says. says) _ _ _ d.0 d.2 d.1
+
+pub returns-clause-sampled : goal.returns-clause-sampled
+returns-clause-sampled g c = λ n asks is.
+    let h = c.run_whole.ensures.whole in
+    let d = law.done_for _ _ _ _ (g.I.Inputs.holds c.args.inputs.now) (RoseOf (g.I.Inputs.faults c.args.inputs.now) (g.I.Inputs.faults c.run_whole.new.inputs)) (map string_bytes c.args.words.now) _ _ _ _ h.0 _ h.1 h.2 _ asks is in
+    sample.sampled _ _ n _ _ _ d.0 d.2 d.1
 
 pub returns-clause-check_fails : goal.returns-clause-check_fails
 returns-clause-check_fails g c = λ is.
@@ -77,6 +98,11 @@ pub returns-clause-compiled_where : goal.returns-clause-compiled_where
 returns-clause-compiled_where g c = λ command compiles net policy smooth calm asks none.
     let h = c.run_whole.ensures.whole in
     compilers.compiled_where _ _ _ _ _ _ _ _ _ _ _ net policy command compiles asks none calm (law.complete _ _ _ _ (g.I.Inputs.holds c.args.inputs.now) (RoseOf (g.I.Inputs.faults c.args.inputs.now) (g.I.Inputs.faults c.run_whole.new.inputs)) (map string_bytes c.args.words.now) _ _ _ _ h.0 _ h.1 h.2 _ smooth)
+
+pub returns-clause-explained_where : goal.returns-clause-explained_where
+returns-clause-explained_where g c = λ t p net policy smooth calm asks.
+    let h = c.run_whole.ensures.whole in
+    explain.explained_where _ _ _ _ _ _ _ _ _ _ _ net policy t p asks calm (law.complete _ _ _ _ (g.I.Inputs.holds c.args.inputs.now) (RoseOf (g.I.Inputs.faults c.args.inputs.now) (g.I.Inputs.faults c.run_whole.new.inputs)) (map string_bytes c.args.words.now) _ _ _ _ h.0 _ h.1 h.2 _ smooth)
 
 pub returns-clause-holds_where : goal.returns-clause-holds_where
 returns-clause-holds_where g c = λ command checks net policy config evidence smooth calm asks passes.

@@ -2,9 +2,7 @@
 use super::words_of;
 use outside::{MemInputs, MemSink, NoMemory};
 use propane_run::{Status, run};
-use samples::{
-    TRIANGLE, TRIANGLE_CONFIG, TWO_EXITS, TWO_ROUTERS, TWO_ROUTERS_CONFIG, TWO_ROUTERS_EVIDENCE,
-};
+use samples::{TWO_EXITS, TWO_ROUTERS, TWO_ROUTERS_CONFIG, TWO_ROUTERS_EVIDENCE};
 use std::alloc::Global;
 use std::test::Fail;
 
@@ -56,38 +54,6 @@ end
 const EXCHANGED: &str =
     "{\"cases\":[{\"external\":true,\"nodes\":[[2,0,0,0,0,0],[3,0,0,0,0,0],[0,0,1,100,64512,1],[1,0,2,100,64513,1],[1,0,1,101,64513,2],[0,0,2,101,64512,2]],\"origins\":[2,3],\"prefixes\":[],\"starts\":[0,1],\"statement\":1,\"steps\":[[0,2],[1,3],[2,4],[3,5],[4,2],[5,3]]}],\"version\":1}\n";
 
-const FINER: &str =
-    "{\"cases\":[{\"external\":false,\"nodes\":[[0,0,0,100,64512,1],[1,0,1,100,64513,1],[2,0,1,100,64514,1],[1,0,1,100,64513,2],[2,0,1,100,64514,2]],\"origins\":[0],\"prefixes\":[\"10.0.1.0/24\"],\"starts\":[0],\"statement\":1,\"steps\":[[0,1],[0,2],[1,4],[2,3],[3,4],[4,3]]}],\"version\":1}\n";
-
-const FINER_CONFIG: &str = "propane-config 1
-class 1 10.0.1.0/24
-router A asn 64512 id 10.255.0.1
-originate 1 10.0.1.0/24 tag 64512:1
-session B asn 64513
-export 1 tag 64512:1
-session C asn 64514
-export 1 tag 64512:1
-end
-router B asn 64513 id 10.255.0.2
-session A asn 64512
-import 1 tag 64512:1 set 64513:1 pref 100
-session C asn 64514
-import 1 tag 64514:1 set 64513:2 pref 100
-import 1 tag 64514:2 set 64513:2 pref 100
-export 1 tag 64513:1
-export 1 tag 64513:2
-end
-router C asn 64514 id 10.255.0.3
-session A asn 64512
-import 1 tag 64512:1 set 64514:1 pref 100
-session B asn 64513
-import 1 tag 64513:1 set 64514:2 pref 100
-import 1 tag 64513:2 set 64514:2 pref 100
-export 1 tag 64514:1
-export 1 tag 64514:2
-end
-";
-
 // A network and a policy, a configuration and its evidence, the status, and what `out` and `err` took.
 type Row = (
     &'static str,
@@ -97,7 +63,7 @@ type Row = (
     (&'static str, &'static str),
 );
 
-const ROWS: [Row; 7] = [
+const ROWS: [Row; 5] = [
     (
         "what is compiled holds",
         (TWO_ROUTERS, ANY_PATH),
@@ -133,23 +99,6 @@ const ROWS: [Row; 7] = [
         Status::CheckFails,
         (
             "fails 10 config-differs case 0 first 1 second 0 line 10\n",
-            "",
-        ),
-    ),
-    (
-        "evidence over a finer graph",
-        (TRIANGLE, ANY_PATH),
-        (FINER_CONFIG, FINER),
-        Status::Done,
-        ("holds\n", ""),
-    ),
-    (
-        "evidence over a finer graph, with the configuration of the coarser one",
-        (TRIANGLE, ANY_PATH),
-        (TRIANGLE_CONFIG, FINER),
-        Status::CheckFails,
-        (
-            "fails 10 config-differs case 0 first 1 second 0 line 14\n",
             "",
         ),
     ),

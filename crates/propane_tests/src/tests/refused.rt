@@ -32,13 +32,13 @@ const ROWS: [Row; 5] = [
         "whoever waits for the waypoint waits for the other",
         WAYPOINT_RING,
         "originate 10.0.1.0/24 at D; 10.0.1.0/24 => through(W) >> any;",
-        "propane: refused 6 no-evidence case 1\n",
+        "propane: refused 6 no-evidence case 1 router W first W X D second W X D\n",
     ),
     (
         "the way to the waypoint leads through the one that would use it",
         CHAIN,
         "originate 10.0.1.0/24 at D; 10.0.1.0/24 => through(W) >> any;",
-        "propane: refused 6 no-evidence case 1\n",
+        "propane: refused 6 no-evidence case 1 router W first W X D second W X D\n",
     ),
 ];
 

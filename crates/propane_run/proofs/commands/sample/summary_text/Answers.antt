@@ -1,0 +1,13 @@
+use Rattle.std.proofs.Common.{rules}
+use Rattle.path_words.specs.Policies.{policy_of}
+use Rattle.propane_run.specs.Compiling.{SaysOfCompiled}
+use Rattle.propane_run.specs.Run.{IsGiven}
+use Rattle.propane_run.specs.Said.{said}
+use Rattle.propane_run.specs.commands.Sample.{WritesSummary}
+use Rattle.propane_run.proofs.ByCommand.Sample.{given_for}
+use Rattle.propane_run.proofs.commands.sample.summary_text.Goals as goal
+
+pub returns-in_err-compiled : goal.returns-in_err-compiled
+returns-in_err-compiled c =
+    let given : IsGiven (SaysOfCompiled (WritesSummary c.args.leaves) c.args.net.now (policy_of c.args.policy.now)) (said c.from_residual.result) = search rules in
+    given_for c.args.leaves c.args.net.now (policy_of c.args.policy.now) c.requires.net c.requires.policy (said c.from_residual.result) given

@@ -1,0 +1,27 @@
+//! The real outside: a file, and a writer.
+use outside::{FileInputs, InputFail, Inputs, OutSink, write_whole};
+use std::fs;
+use std::test::Fail;
+
+#[test]
+fn a_file_is_read_whole(rt: HostRuntime) -> Result<(), Fail> {
+    let path = "outside-input.txt";
+    fs::write(&rt, path, "bytes of a file")?;
+    let mut inputs = FileInputs::new(&rt);
+    let whole = inputs.read(rt.alloc(), path, 15)?;
+    let long = inputs.read(rt.alloc(), path, 14).err();
+    let none = inputs.read(rt.alloc(), "outside-absent.txt", 15).err();
+    fs::remove_file(&rt, path)?;
+    assert!(rt; whole.as_slice() == b"bytes of a file".as_slice());
+    assert_eq!(rt; long, Some(InputFail::TooLong));
+    assert_eq!(rt; none, Some(InputFail::Failed));
+    Ok(())
+}
+
+#[test]
+fn a_writer_gets_all(rt: HostRuntime) {
+    let mut written = Vec::new(rt.alloc());
+    let mut sink = OutSink::new(&mut written);
+    assert!(rt; write_whole(&mut sink, b"propane").is_ok());
+    assert!(rt; written.as_slice() == b"propane".as_slice());
+}
