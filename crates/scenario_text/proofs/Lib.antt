@@ -1,2 +1,3 @@
-pub mod Each
-pub mod SiteNames
+pub mod RulesKept
+pub mod ShapeFaults
+pub mod TextLaws

@@ -4,21 +4,17 @@ use Rattle.std.specs.List.{position}
 use Rattle.std.specs.Result.{result_ok}
 use Rattle.std.specs.Str.{bytes_eq}
 use Rattle.net_base.specs.declared.loc.LocSet.{LocSet}
-use Rattle.net_base.specs.declared.net.Site.{Site}
 use Rattle.net_base.specs.declared.place.Field.{Field}
 use Rattle.net_base.specs.declared.place.Field.TheVariants as field
-use Rattle.net_base.specs.Network.{PlainNet, is_peer, linked, sites}
+use Rattle.net_base.specs.Network.{PlainNet, is_peer, linked}
 use Rattle.net_base.specs.PrefixText.{prefix_spelled}
 use Rattle.net_base.specs.SetOperations.{no_location, with_location}
 use Rattle.net_base.specs.Steps.{◌>>=◌, or_fault}
+use Rattle.net_index.specs.Names.{names_of}
 use Rattle.stable_paths.specs.declared.scenario.Scenario.{Scenario}
 use Rattle.scenario_text.specs.declared.fault.ScenarioFault.{ScenarioFault}
 use Rattle.scenario_text.specs.declared.fault.ScenarioFault.TheVariants.{Unknown, NoLink, NotPeerLink, BadPrefix}
 use Rattle.scenario_text.specs.Shape.{each, Ends, Said}
-
--- the names of the locations, in order
-abbrev pub names_of : PlainNet → List (List ℕ)
-names_of net = map (λ (s : Site). s.name) (sites net)
 
 -- the location of a name
 unfoldable pub located : List (List ℕ) → Field → List ℕ → Result ℕ ScenarioFault

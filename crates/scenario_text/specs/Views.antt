@@ -1,13 +1,9 @@
 -- What borrowed parts of a text say.
-use Rattle.std.specs.Prelude.{ℕ, List, map}
-use Rattle.std.proofs.Common.{Bor}
+use Rattle.std.specs.Prelude.{map}
+use Rattle.net_index.specs.Names.{texts}
 use Rattle.scenario_text.specs.declared.shape.RawEnds.{RawEnds}
 use Rattle.scenario_text.specs.declared.shape.RawScenario.{RawScenario}
 use Rattle.scenario_text.specs.Shape.{Ends, Said}
-
--- what borrowed texts say
-abbrev pub texts : List (Bor (List ℕ)) → List (List ℕ)
-texts ks = map (λ k. k.now) ks
 
 abbrev pub raw_ends : RawEnds → Ends
 raw_ends r = record { from = r.from.now; to = r.to.now }

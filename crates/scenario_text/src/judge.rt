@@ -1,8 +1,7 @@
 //! The rules of a scenario.
-ghost use Rattle.std.specs.Prelude.{◌≡◌, ◌≤◌, ◌<◌, IfOk, All, map, not};
+ghost use Rattle.std.specs.Prelude.{◌≡◌, ◌<◌, IfOk, All, map, not};
 ghost use Rattle.std.specs.List.{position};
 ghost use Rattle.std.specs.Result.{result_ok};
-ghost use Rattle.indexmap.specs.IndexSet.{index_set_len};
 ghost use Rattle.net_base.specs.declared.limits.TheConstants.{LOCATIONS};
 ghost use Rattle.net_base.specs.Network.{linked};
 ghost use Rattle.net_base.specs.PrefixText.{prefix_spelled};
@@ -10,24 +9,23 @@ ghost use Rattle.net_base.specs.Steps.{or_fault};
 ghost use Rattle.scenario_text.specs.Gives.{Gives};
 ghost use Rattle.scenario_text.specs.Rules.{both_located, is_session, judged, links_known, located, sessions_known, set_of_all, turned as with_router_first};
 ghost use Rattle.scenario_text.specs.Shape.{each};
-ghost use Rattle.scenario_text.specs.Views.{raw_ends, raw_scenario, texts};
+ghost use Rattle.net_index.specs.Names.{texts};
+ghost use Rattle.scenario_text.specs.Views.{raw_ends, raw_scenario};
 
 use crate::fault::ScenarioFault;
-use crate::names::{location, names};
 use crate::shape::{RawEnds, RawScenario};
-use indexmap::IndexSet;
 use net_base::{Field, List, Loc, LocSet, Net, Prefix, read_prefix};
+use net_index::LocationNames;
 use stable_paths::Scenario;
 use std::alloc::{AllocError, Global};
 
 /// The location of a name that a field has.
 #[tactic(auto, unfolding(crate::specs::Rules::located))]
-fn locate(names: &IndexSet<&[u8]>, field: Field, name: &str) -> Result<Loc, ScenarioFault>
-    requires { index_set_len names.now ≤ LOCATIONS }
-    ensures location { Gives (λ l. l) result (located (texts names.now.keys) field name.now) }
+fn locate(names: &LocationNames<'_>, field: Field, name: &str) -> Result<Loc, ScenarioFault>
+    ensures location { Gives (λ l. l) result (located names.now field name.now) }
     ensures within { IfOk result (λ l. l < LOCATIONS) }
 {
-    match location(names, name) {
+    match names.location(name) {
         Some(at) => Ok(at),
         None => Err(ScenarioFault::Unknown(field)),
     }
@@ -36,12 +34,11 @@ fn locate(names: &IndexSet<&[u8]>, field: Field, name: &str) -> Result<Loc, Scen
 /// The locations of names.
 fn locate_each(
     alloc: Global,
-    names: &IndexSet<&[u8]>,
+    names: &LocationNames<'_>,
     field: Field,
     raw: &[&str],
 ) -> Result<Vec<Loc>, ScenarioFault>
-    requires { index_set_len names.now ≤ LOCATIONS }
-    ensures locations { Gives (λ v. v.items) result (each (located (texts names.now.keys) field) (texts raw.now)) }
+    ensures locations { Gives (λ v. v.items) result (each (located names.now field) (texts raw.now)) }
     ensures within { IfOk result (λ v. All (λ l. l < LOCATIONS) v.items) }
 {
     let mut all = Vec::new(alloc);
@@ -55,17 +52,16 @@ fn locate_each(
 /// The locations of a pair of names.
 #[tactic(auto, unfolding(crate::specs::Rules::both_located))]
 fn locate_both(
-    names: &IndexSet<&[u8]>,
+    names: &LocationNames<'_>,
     field: Field,
     ends: &RawEnds<'_>,
 ) -> Result<(Loc, Loc), ScenarioFault>
-    requires { index_set_len names.now ≤ LOCATIONS }
-    ensures { Gives (λ p. p) result (both_located (texts names.now.keys) field (raw_ends ends.now)) }
+    ensures { Gives (λ p. p) result (both_located names.now field (raw_ends ends.now)) }
 {
-    let Some(a) = location(names, ends.from) else {
+    let Some(a) = names.location(ends.from) else {
         return Err(ScenarioFault::Unknown(field));
     };
-    let Some(b) = location(names, ends.to) else {
+    let Some(b) = names.location(ends.to) else {
         return Err(ScenarioFault::Unknown(field));
     };
     Ok((a, b))
@@ -74,12 +70,11 @@ fn locate_both(
 /// The locations of pairs of names.
 fn locate_pairs(
     alloc: Global,
-    names: &IndexSet<&[u8]>,
+    names: &LocationNames<'_>,
     field: Field,
     raw: &[RawEnds<'_>],
 ) -> Result<Vec<(Loc, Loc)>, ScenarioFault>
-    requires { index_set_len names.now ≤ LOCATIONS }
-    ensures { Gives (λ v. v.items) result (each (both_located (texts names.now.keys) field) (map raw_ends raw.now)) }
+    ensures { Gives (λ v. v.items) result (each (both_located names.now field) (map raw_ends raw.now)) }
 {
     let mut all = Vec::new(alloc);
     for ends in raw {
@@ -185,7 +180,7 @@ fn prefix_of(text: &str) -> Result<Prefix, ScenarioFault>
 pub fn judge(alloc: Global, net: &Net, raw: &RawScenario<'_>) -> Result<Scenario, ScenarioFault>
     ensures { Gives (λ scenario. scenario) result (judged net.now (raw_scenario raw.now)) }
 {
-    let names = names(alloc, net)?;
+    let names = LocationNames::of(alloc, net)?;
     let dead = locate_each(alloc, &names, Field::Dead, &raw.dead)?;
     let links = locate_pairs(alloc, &names, Field::DeadLinks, &raw.dead_links)?;
     let pairs = locate_pairs(alloc, &names, Field::Silent, &raw.silent)?;

@@ -9,7 +9,7 @@ ghost use Rattle.scenario_text.specs.Spelled.{spelled};
 
 mod fault;
 mod judge;
-mod names;
+pub mod laws;
 mod shape;
 
 pub use fault::ScenarioFault;

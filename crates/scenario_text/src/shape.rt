@@ -3,7 +3,8 @@ ghost use Rattle.std.specs.Prelude.{◌≡◌, map};
 ghost use Rattle.serde_json.specs.View.{view};
 ghost use Rattle.scenario_text.specs.Gives.{Gives};
 ghost use Rattle.scenario_text.specs.Shape.{each, ends_of, shape_of, text_of};
-ghost use Rattle.scenario_text.specs.Views.{raw_ends, raw_scenario, texts as said};
+ghost use Rattle.net_index.specs.Names.{texts as said};
+ghost use Rattle.scenario_text.specs.Views.{raw_ends, raw_scenario};
 
 use crate::fault::ScenarioFault;
 use json_words::{list, member_count};

@@ -1,8 +1,8 @@
 use Rattle.std.proofs.Common.{◌≡◌, ◌∙◌, sym, Some}
 use Rattle.std.specs.Prelude.{slice_get}
 use Rattle.net_base.specs.Network.{sites}
-use Rattle.scenario_text.proofs.SiteNames.{next_name}
-use Rattle.scenario_text.proofs.names.names.Goals as goal
+use Rattle.net_index.proofs.SiteNames.{next_name}
+use Rattle.net_index.proofs.names.names.Goals as goal
 
 pub loop-place-preserved : goal.loop-place-preserved
 loop-place-preserved c =
