@@ -20,12 +20,13 @@ use Rattle.regret_law.specs.Passes.{Passes}
 use Rattle.settled_law.proofs.Fully.{names_differ}
 use Rattle.settled_law.proofs.SettledLaw.{CaseFound}
 use Rattle.graph_settling.specs.Grounds.{IsGround}
-use Rattle.settling.specs.Surviving.{AreSurvivors, carries, chooses_by, left_by}
-use Rattle.settling.specs.declared.survivors.Survivors.{Survivors}
+use Rattle.stable_paths.specs.Surviving.{AreSurvivors, carries}
+use Rattle.stable_paths.specs.declared.survivors.Survivors.{Survivors}
+use Rattle.settling.specs.Surviving.{chooses_by, left_by}
 use Rattle.settling.proofs.Surviving.{starts_are, steps_are}
 
 module _ (net : PlainNet) (policy : PlainPolicy) (config : PlainConfig) (cs : List PlainCaseEvidence) (rules : IsNet net) (kept : IsPolicyOf net policy) (passes : Passes net policy config cs) (f : Failures) (p : PlainPrefix)
-    (c : CaseFound net policy config cs rules kept passes f p) (s : Survivors) (are : AreSurvivors f s) (origins choosers : LocSet)
+    (c : CaseFound net policy config cs rules kept passes f p) (s : Survivors) (are : AreSurvivors net f s) (origins choosers : LocSet)
     (same : (l : ℕ) → holds origins l ≡ is_origin net policy p l) (choose : (l : ℕ) → holds choosers l ≡ chooses_by net s origins l) where
   abbrev g : PlainGraph
   g = c.d.graph
@@ -48,14 +49,14 @@ module _ (net : PlainNet) (policy : PlainPolicy) (config : PlainConfig) (cs : Li
     ends = λ u v h. (and_parts (linked net u v && not (is_dead_link f u v) && not (is_dead f u)) (not (is_dead f v)) (and_parts (is_live net f u v) _ h).0).1;
     starts = λ n. (
       λ h.
-          let parts = and_parts (is_start g n) (not (is_dead f (place_of g n))) (sym (starts_are net rules f s are g n) ∙ h) in
+          let parts = and_parts (is_start g n) (not (is_dead f (place_of g n))) (sym (starts_are net f s are g n) ∙ h) in
           (parts.1, start_at-of net (holds c.d.case.origins) c.d.case.external g c.on.faithful.formed n parts.0),
-      λ h. starts_are net rules f s are g n ∙ and_from (is_start g n) (not (is_dead f (place_of g n))) (start_at-is g (place_of g n) n h.1).0 h.0,
+      λ h. starts_are net f s are g n ∙ and_from (is_start g n) (not (is_dead f (place_of g n))) (start_at-is g (place_of g n) n h.1).0 h.0,
     );
     steps = λ m n. (
       λ h.
-          let parts = and_parts (has_step g m n) (carries net f (place_of g m) (place_of g n)) (sym (steps_are net rules f s are g m n) ∙ h) in
+          let parts = and_parts (has_step g m n) (carries net f (place_of g m) (place_of g n)) (sym (steps_are net f s are g m n) ∙ h) in
           (parts.1, step_at-of net (holds c.d.case.origins) c.d.case.external g c.on.faithful.formed m n parts.0),
-      λ h. steps_are net rules f s are g m n ∙ and_from (has_step g m n) (carries net f (place_of g m) (place_of g n)) (step_at-is g m (place_of g n) n h.1).0 h.0,
+      λ h. steps_are net f s are g m n ∙ and_from (has_step g m n) (carries net f (place_of g m) (place_of g n)) (step_at-is g m (place_of g n) n h.1).0 h.0,
     );
   }

@@ -1,4 +1,3 @@
 pub mod Grounds
-pub mod PairTables
 pub mod Routes
 pub mod Surviving

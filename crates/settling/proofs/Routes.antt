@@ -29,8 +29,8 @@ use Rattle.settled_law.specs.Settled.{IsFullyStable}
 use Rattle.settled_law.proofs.Fully.{same_list}
 use Rattle.settled_law.proofs.SettledLaw.{CaseFound, bare_fully, case_or_bare, from_graph}
 use Rattle.settling.specs.Outcomes.{AreSettled, case_of, held_by, tagged}
-use Rattle.settling.specs.Surviving.{AreSurvivors}
-use Rattle.settling.specs.declared.survivors.Survivors.{Survivors}
+use Rattle.stable_paths.specs.Surviving.{AreSurvivors}
+use Rattle.stable_paths.specs.declared.survivors.Survivors.{Survivors}
 use Rattle.settling.proofs.Grounds.{is_ground}
 
 -- an outcome is told by what its routers hold
@@ -67,7 +67,7 @@ module _ (net : PlainNet) (policy : PlainPolicy) (config : PlainConfig) (cs : Li
       let origin = sym (ap (λ (o : ℕ → Bool). o (place_of found.0.d.graph n)) found.0.same) ∙ found.0.on.faithful.formed.starts n at in
       subst (λ (e : PlainCaseEvidence). IsTrue (is_origin net policy p (place_of e.graph n))) found.1 origin
 
-  module _ (s : Survivors) (are : AreSurvivors f s) (origins : LocSet) (same : (l : ℕ) → holds origins l ≡ is_origin net policy p l) where
+  module _ (s : Survivors) (are : AreSurvivors net f s) (origins : LocSet) (same : (l : ℕ) → holds origins l ≡ is_origin net policy p l) where
     -- ---- without a class
 
     module _ (free : class_of config p ≡ None) where

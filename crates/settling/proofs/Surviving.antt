@@ -1,69 +1,22 @@
--- The tables say what the failures do.
+-- What is left of a graph by the tables is what the failures leave.
 use Rattle.std.proofs.Common.{◌≡◌, ℕ, ◌+◌, ◌<◌, Bool, true, false, List, [], ◌∷◌, length, refl, sym, ap, ◌∙◌, inl, inr, arith, ltb-true}
 use Rattle.std.specs.Prelude.{◌&&◌, ◌||◌, ◌==◌, not, filter, IsTrue}
 use Rattle.std.specs.List.{list_any, AllByRecursion}
 use Rattle.std.proofs.lemmas.Bool.{and_parts, cases_Bool, eqb-true}
 use Rattle.std.proofs.lemmas.Map.Views.{any-filter_same}
 use Rattle.net_base.specs.declared.loc.LocSet.{LocSet}
-use Rattle.net_base.specs.Network.{PlainNet, IsNet, is_location, is_peer, is_router, linked}
+use Rattle.net_base.specs.Network.{PlainNet, is_location, is_peer, is_router}
 use Rattle.net_base.specs.Sets.{holds}
-use Rattle.net_base.proofs.Links.{linked_known}
 use Rattle.net_base.proofs.RoutersAndPeers.{router_known, router_no_peer, router_or_peer}
 use Rattle.graph_base.specs.Graphs.{PlainGraph, IsGraph}
 use Rattle.graph_base.specs.Runs.{place_of, is_start, has_step}
-use Rattle.outcome_base.specs.Outcomes.{Failures, is_dead, is_dead_link, is_live, is_silent}
-use Rattle.settling.specs.declared.survivors.Survivors.{Survivors}
-use Rattle.settling.specs.Pairs.{has}
-use Rattle.settling.specs.Surviving.{AreSurvivors, carries, carries_by, chooses_by, left_by, live_by, lives_by, steps_by}
+use Rattle.outcome_base.specs.Outcomes.{Failures, is_dead}
+use Rattle.stable_paths.specs.Surviving.{AreSurvivors, carries, carries_by}
+use Rattle.stable_paths.specs.declared.survivors.Survivors.{Survivors}
+use Rattle.stable_paths.proofs.Survived.{carries_is}
+use Rattle.settling.specs.Surviving.{chooses_by, left_by, lives_by, steps_by}
 
-any_either : {A : Type 0} (f h : A → Bool) (xs : List A) → list_any (λ x. f x || h x) xs ≡ (list_any f xs || list_any h xs)
-any_either f h [] = refl
-any_either f h (x ∷ xs) = ap (λ o. f x || h x || o) (any_either f h xs) ∙ regroup (f x) (h x) (list_any f xs) (list_any h xs)
-  where
-    regroup : (a b c d : Bool) → ((a || b) || (c || d)) ≡ ((a || c) || (b || d))
-    regroup true b c d = refl
-    regroup false true true d = refl
-    regroup false true false d = refl
-    regroup false false c d = refl
-
-module _ (net : PlainNet) (rules : IsNet net) (f : Failures) (s : Survivors) (are : AreSurvivors f s) where
-  -- ends of links are below 768
-  ends_below : (a b : ℕ) → linked net a b ≡ true → (a < 768) × (b < 768)
-  ends_below a b on = let known = linked_known net a b rules on in (below a known.0, below b known.1)
-    where
-      below : (l : ℕ) → is_location net l ≡ true → l < 768
-      below l h = omega (arith, ltb-true l (length net.routers + length net.peers) h, rules.routers, rules.peers)
-
-  cut_is : (a b : ℕ) → a < 768 → b < 768 → (has s.cut a b || has s.cut b a) ≡ is_dead_link f a b
-  cut_is a b low high =
-      ap (λ o. o || has s.cut b a) (are.cut a b low high)
-      ∙ ap (λ o. list_any (λ (p : ℕ × ℕ). p.0 == a && p.1 == b) f.dead_links || o) (are.cut b a high low)
-      ∙ sym (any_either (λ (p : ℕ × ℕ). p.0 == a && p.1 == b) (λ (p : ℕ × ℕ). p.0 == b && p.1 == a) f.dead_links)
-
-  pub live_is : (a b : ℕ) → live_by net s a b ≡ is_live net f a b
-  live_is a b = elim (cases_Bool (linked net a b)) [
-    | inr off ↦
-        ap (λ o. o && not (has s.cut a b || has s.cut b a) && not (holds s.dead a) && not (holds s.dead b)) off
-        ∙ sym (ap (λ o. o && not (is_dead_link f a b) && not (is_dead f a) && not (is_dead f b)) off)
-    | inl on ↦ (
-        let low = ends_below a b on in
-        ap (λ o. linked net a b && not o && not (holds s.dead a) && not (holds s.dead b)) (cut_is a b low.0 low.1)
-        ∙ ap (λ o. linked net a b && not (is_dead_link f a b) && not o && not (holds s.dead b)) (are.dead a)
-        ∙ ap (λ o. linked net a b && not (is_dead_link f a b) && not (is_dead f a) && not o) (are.dead b))
-  ]
-
-  pub carries_is : (a b : ℕ) → carries_by net s a b ≡ carries net f a b
-  carries_is a b = elim (cases_Bool (linked net a b)) [
-    | inr off ↦
-        ap (λ o. o && not (has s.cut a b || has s.cut b a) && not (holds s.dead a) && not (holds s.dead b) && not (is_peer net a && has s.silent b a)) off
-        ∙ sym (ap (λ o. o && not (is_dead_link f a b) && not (is_dead f a) && not (is_dead f b) && not (is_peer net a && is_silent f b a)) off)
-    | inl on ↦ (
-        let low = ends_below a b on in
-        ap (λ o. o && not (is_peer net a && has s.silent b a)) (live_is a b) ∙ ap (λ o. is_live net f a b && not (is_peer net a && o)) (are.silent b a low.1 low.0))
-  ]
-
-  -- ---- graphs
-
+module _ (net : PlainNet) (f : Failures) (s : Survivors) (are : AreSurvivors net f s) where
   flipped : (b c : Bool) → (b && c) ≡ (c && b)
   flipped true true = refl
   flipped true false = refl
@@ -83,7 +36,7 @@ module _ (net : PlainNet) (rules : IsNet net) (f : Failures) (s : Survivors) (ar
       same : (e : ℕ × ℕ) → (e.0 == m && e.1 == n) ≡ true → steps_by net s g e ≡ carries net f (place_of g m) (place_of g n)
       same e h =
           let parts = and_parts (e.0 == m) (e.1 == n) h in
-          ap (λ k. carries_by net s (place_of g k) (place_of g e.1)) (eqb-true e.0 m parts.0) ∙ ap (λ k. carries_by net s (place_of g m) (place_of g k)) (eqb-true e.1 n parts.1) ∙ carries_is (place_of g m) (place_of g n)
+          ap (λ k. carries_by net s (place_of g k) (place_of g e.1)) (eqb-true e.0 m parts.0) ∙ ap (λ k. carries_by net s (place_of g m) (place_of g k)) (eqb-true e.1 n parts.1) ∙ carries_is net f s are (place_of g m) (place_of g n)
 
 -- a start that is left was one
 start_was : (net : PlainNet) (s : Survivors) (g : PlainGraph) (n : ℕ) → is_start (left_by net s g) n ≡ true → is_start g n ≡ true

@@ -12,8 +12,8 @@ use Rattle.graph_settling.specs.Best.{entry_at}
 use Rattle.graph_settling.specs.Grounds.{IsGround, held_in}
 use Rattle.graph_settling.specs.declared.settled.Settled.{Settled}
 use Rattle.routing_law.specs.Outcome.{FullyStable, Setup}
+use Rattle.stable_paths.specs.declared.survivors.Survivors.{Survivors}
 use Rattle.settling.specs.Surviving.{chooses_by, left_by}
-use Rattle.settling.specs.declared.survivors.Survivors.{Survivors}
 
 -- the case of a prefix's class
 abbrev pub case_of : PlainConfig → List PlainCaseEvidence → PlainPrefix → Option PlainCaseEvidence

@@ -2,9 +2,7 @@
 #![tactic(auto)]
 
 mod known;
+mod left;
 mod outcome;
-mod pairs;
-mod survivors;
 
 pub use outcome::settle;
-pub use survivors::Survivors;

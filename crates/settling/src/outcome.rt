@@ -5,7 +5,6 @@ ghost use Rattle.evidence_base.specs.Made.{number_at, tag_at};
 ghost use Rattle.graph_base.specs.Runs.{is_start, place_of};
 ghost use Rattle.graph_settling.specs.Best.{entry_at};
 ghost use Rattle.net_base.specs.Sets.{holds};
-ghost use Rattle.path_words.specs.Governing.{is_origin};
 ghost use Rattle.path_words.specs.Policies.{IsPolicyOf, policy_of};
 ghost use Rattle.regret_law.specs.Passes.{Passes};
 ghost use Rattle.settled_law.specs.Settled.{IsFullyStable};
@@ -13,26 +12,15 @@ ghost use Rattle.settling.specs.Outcomes.{AreSettled, case_of as case_of_class, 
 ghost use Rattle.stable_paths.specs.Scenarios.{failures_of};
 
 use crate::known::{known_net, known_prefix};
-use crate::survivors::Survivors;
+use crate::left::{choosers, open_graph};
 use config_base::{Config, NO_TAG, Route, class_of, own_tag};
 use evidence_base::{CaseEvidence, Evidence};
 use graph_settling::{Settled, settle_graph};
 use net_base::{List, Loc, LocSet, Net, Prefix, Tag};
 use outside::NoMemory;
-use path_words::{Policy, origins_of};
-use stable_paths::{Outcome, Scenario};
+use path_words::Policy;
+use stable_paths::{Outcome, Scenario, Survivors, origins_at};
 use std::alloc::{AllocError, Global};
-
-/// The origins of a prefix.
-fn origins_at(net: &Net, policy: &Policy, prefix: Prefix) -> LocSet
-    ensures { (l : ℕ) → holds result l ≡ is_origin net.now (policy_of policy.now) prefix l }
-{
-    known_net(net);
-    match origins_of(policy, prefix) {
-        None => net.peer_set(),
-        Some(routers) => routers,
-    }
-}
 
 /// The evidence of the case of a prefix's class.
 fn case_of<'a>(config: &Config, evidence: &'a Evidence, prefix: Prefix) -> Option<&'a CaseEvidence>
@@ -100,8 +88,8 @@ fn case_routes(
     ensures size { IfOk result (λ routes. length routes.items ≡ length net.now.routers) }
     ensures settled { IfOk result (λ routes. AreSettled net.now survivors.now origins.now case.now routes.items) }
 {
-    let open = survivors.open_graph(alloc, net, case.graph())?;
-    let choosers = survivors.choosers(net, origins);
+    let open = open_graph(alloc, net, survivors, case.graph())?;
+    let choosers = choosers(net, survivors, origins);
     let settled = settle_graph(alloc, net, &open, case.prefs(), &choosers)?;
     let routes = tagged_each(alloc, net.routers().len(), case, &settled)?;
     Ok(routes)
@@ -186,7 +174,7 @@ pub fn settle(
     let prefix = scenario.prefix;
     known_net(net);
     known_prefix(prefix);
-    let survivors = Survivors::new(alloc, scenario)?;
+    let survivors = Survivors::new(net, scenario);
     let origins = origins_at(net, policy, prefix);
     let others = match case_of(config, evidence, prefix) {
         None => no_routes(alloc, net.routers().len())?,

@@ -1,5 +1,9 @@
-pub mod Choices
+pub mod Choosing
+pub mod Chosen
+pub mod Deciding
+pub mod LinkMarks
 pub mod Members
 pub mod Paths
 pub mod RouteTests
 pub mod Settled
+pub mod Survived

@@ -1,7 +1,6 @@
 -- What makes an outcome stable, as tests over routers and links.
 use Rattle.std.specs.Prelude.{◌≡◌, ℕ, Bool, true, false, not, ◌&&◌, ◌==◌, nat_lt, IsTrue, List, ◌∷◌, Option, Some, None, if◌then◌else◌}
 use Rattle.std.specs.List.{list_any}
-use Rattle.std.specs.Option.{option_map_or}
 use Rattle.std.specs.Str.{bytes_eq}
 use Rattle.net_base.specs.Network.{PlainNet}
 use Rattle.net_base.specs.Prefixes.{PlainPrefix}
@@ -10,7 +9,7 @@ use Rattle.path_words.specs.Governing.{is_origin}
 use Rattle.config_base.specs.declared.route.Route.{Route}
 use Rattle.config_base.specs.Configs.{PlainConfig}
 use Rattle.config_base.specs.Lines.{same_tag, own_route}
-use Rattle.outcome_base.specs.Outcomes.{Failures, Outcome, is_dead, route_at, given, Chooses}
+use Rattle.outcome_base.specs.Outcomes.{Failures, Outcome, is_dead, route_at, Chooses}
 
 abbrev pub same_route : Route → Route → Bool
 same_route g h = bytes_eq h.path g.path && (same_tag h.tag g.tag && h.pref == g.pref)
@@ -42,14 +41,6 @@ is_higher (Some g) best = exceeds g.pref best
 -- the other end of a link of a location
 abbrev pub far_end : ℕ → ℕ × ℕ → Option ℕ
 far_end at link = if link.0 == at then Some link.1 else (if link.1 == at then Some link.0 else None)
-
--- over the link a neighbour gives a router this route
-unfoldable pub gives : PlainNet → PlainPolicy → PlainConfig → Failures → PlainPrefix → Outcome → ℕ → Route → ℕ × ℕ → Bool
-gives net policy config f p outcome at h link = option_map_or (λ z. is_route (given net policy config f p outcome z at) h) (far_end at link) false
-
--- over the link a neighbour gives a router a route of a higher preference
-unfoldable pub outdoes : PlainNet → PlainPolicy → PlainConfig → Failures → PlainPrefix → Outcome → ℕ → Option ℕ → ℕ × ℕ → Bool
-outdoes net policy config f p outcome at best link = option_map_or (λ z. is_higher (given net policy config f p outcome z at) best) (far_end at link) false
 
 -- what a stable outcome says of one router
 pub record IsSettled (net : PlainNet) (policy : PlainPolicy) (config : PlainConfig) (f : Failures) (p : PlainPrefix) (outcome : Outcome) (r : ℕ) : Type 0 where

@@ -1,137 +1,86 @@
-//! Whether a router's route is the one that it would choose.
-ghost use Rattle.std.specs.Prelude.{◌≡◌, ◌↔◌, IsTrue};
-ghost use Rattle.std.specs.List.{list_any};
-ghost use Rattle.path_words.specs.Policies.{policy_of};
-ghost use Rattle.outcome_base.specs.Outcomes.{Chooses};
-ghost use Rattle.stable_paths.specs.Scenarios.{failures_of};
-ghost use Rattle.stable_paths.specs.Tests.{far_end as other_end, gives, exceeds as higher_than, outdoes};
+//! What routers are given, beside what they hold.
+ghost use Rattle.std.specs.Prelude.{◌≡◌, ◌<◌, ◌&&◌, ◌||◌, ◌==◌, ℕ, false, option_map};
+ghost use Rattle.std.specs.Option.{option_map_or};
+ghost use Rattle.net_base.specs.declared.limits.TheConstants.{LOCATIONS};
+ghost use Rattle.net_base.specs.Sets.{holds};
+ghost use Rattle.stable_paths.specs.Readings.{route_of};
+ghost use Rattle.stable_paths.specs.Situations.{AreChoices, IsSituation, held_from, outdone_from};
+ghost use Rattle.stable_paths.specs.Tests.{exceeds as higher_than, same_route};
 
-use crate::gifts::{given, gives_route};
-use crate::outcome::Outcome;
-use crate::scenario::Scenario;
-use config_base::{Config, Route};
-use net_base::{Loc, Net};
-use path_words::Policy;
+use crate::gifts::{Imported, is_made};
+use crate::situation::Situation;
+use config_base::Route;
+use net_base::{Loc, LocSet};
 
-// The other end of a link of a location.
-fn far_end(at: Loc, link: (Loc, Loc)) -> Option<Loc>
-    ensures { result ≡ other_end at link }
-{
-    if link.0 == at {
-        Some(link.1)
-    } else if link.1 == at {
-        Some(link.0)
-    } else {
-        None
-    }
+/// The routers that some neighbour gives the very route that they hold, and those that some neighbour gives a route of a higher
+/// preference than it, or any where they hold none.
+#[derive(Clone, Copy)]
+pub struct Choices {
+    pub given: LocSet,
+    pub outdone: LocSet,
 }
 
-// Whether a neighbour gives a router this route over a link.
-#[tactic(auto, unfolding(crate::specs::Tests::gives))]
-fn is_given_over(
-    net: &Net,
-    policy: &Policy,
-    config: &Config,
-    scenario: &Scenario,
-    outcome: &Outcome,
-    at: Loc,
-    route: &Route,
-    link: (Loc, Loc),
-) -> bool
-    ensures { result ≡ gives net.now (policy_of policy.now) config.now (failures_of scenario.now) scenario.now.prefix outcome.now.routes at route.now link }
+// Whether a preference is higher than that of the route that is held; any is, where none is held.
+fn exceeds(pref: u32, held: Option<&Route>) -> bool
+    ensures { result ≡ higher_than pref (option_map (λ h. h.now.pref) held.entry) }
 {
-    match far_end(at, link) {
-        None => false,
-        Some(from) => gives_route(net, policy, config, scenario, outcome, from, at, route),
-    }
-}
-
-/// Whether some neighbour gives a router this route.
-pub fn has_giver(
-    net: &Net,
-    policy: &Policy,
-    config: &Config,
-    scenario: &Scenario,
-    outcome: &Outcome,
-    at: Loc,
-    route: &Route,
-) -> bool
-    ensures { result ≡ list_any (gives net.now (policy_of policy.now) config.now (failures_of scenario.now) scenario.now.prefix outcome.now.routes at route.now) net.now.links }
-{
-    net.links().iter().any(|link| is_given_over(
-        net, policy, config, scenario, outcome, at, route, *link,
-    ))
-}
-
-// Whether a preference is higher than the best one; any is, where there is no best one.
-fn exceeds(pref: u32, best: Option<u32>) -> bool
-    ensures { result ≡ higher_than pref best }
-{
-    match best {
+    match held {
         None => true,
-        Some(best) => best < pref,
+        Some(route) => route.pref < pref,
     }
 }
 
-// Whether a neighbour gives a router a route of a higher preference over a link.
-#[tactic(auto, unfolding(crate::specs::Tests::outdoes))]
-fn is_outdone_over(
-    net: &Net,
-    policy: &Policy,
-    config: &Config,
-    scenario: &Scenario,
-    outcome: &Outcome,
-    at: Loc,
-    best: Option<u32>,
-    link: (Loc, Loc),
-) -> bool
-    ensures { result ≡ outdoes net.now (policy_of policy.now) config.now (failures_of scenario.now) scenario.now.prefix outcome.now.routes at best link }
+// Whether the route that a router holds is what it makes of what a neighbour gives.
+fn is_held(imported: &Imported<'_>, at: Loc, held: Option<&Route>) -> bool
+    ensures { result ≡ option_map_or (λ h. same_route (route_of at imported.now) h.now) held.entry false }
 {
-    match far_end(at, link) {
+    match held {
         None => false,
-        Some(from) => match given(net, policy, config, scenario, outcome, &from, at) {
-            None => false,
-            Some(imported) => exceeds(imported.pref, best),
-        },
+        Some(route) => is_made(imported, at, route),
     }
 }
 
-// Whether some neighbour gives a router a route of a higher preference.
-fn is_outdone(
-    net: &Net,
-    policy: &Policy,
-    config: &Config,
-    scenario: &Scenario,
-    outcome: &Outcome,
-    at: Loc,
-    best: Option<u32>,
-) -> bool
-    ensures { result ≡ list_any (outdoes net.now (policy_of policy.now) config.now (failures_of scenario.now) scenario.now.prefix outcome.now.routes at best) net.now.links }
+// The set, with one location more where it belongs to it.
+fn with_if(set: LocSet, at: Loc, belongs: bool) -> LocSet
+    requires { at < LOCATIONS }
+    ensures { (r : ℕ) → holds result r ≡ (holds set r || (r == at && belongs)) }
 {
-    net.links().iter().any(|link| is_outdone_over(
-        net, policy, config, scenario, outcome, at, best, *link,
-    ))
+    if belongs { set.with(at) } else { set }
 }
 
-// Whether a router's route is among what it is given, with no higher preference given, and none only where
-// nothing is.
-pub(crate) fn chooses(
-    net: &Net,
-    policy: &Policy,
-    config: &Config,
-    scenario: &Scenario,
-    outcome: &Outcome,
-    at: Loc,
-) -> bool
-    ensures { IsTrue result ↔ Chooses net.now (policy_of policy.now) config.now (failures_of scenario.now) scenario.now.prefix outcome.now.routes at }
-{
-    match outcome.route_at(at) {
-        None => !is_outdone(net, policy, config, scenario, outcome, at, None),
-        Some(route) => {
-            if !has_giver(net, policy, config, scenario, outcome, at, route) {
-                return false;
+impl<'a> Situation<'a> {
+    // What is known of choices, with what one neighbour gives one router.
+    fn with_gift(&self, choices: Choices, from: Loc, at: Loc) -> Choices
+        requires situation { IsSituation self.now }
+        requires place { at < LOCATIONS }
+        ensures given { (r : ℕ) → holds result.given r ≡ (holds choices.given r || (r == at && held_from self.now from at)) }
+        ensures outdone { (r : ℕ) → holds result.outdone r ≡ (holds choices.outdone r || (r == at && outdone_from self.now from at)) }
+    {
+        match self.given(&from, at) {
+            None => choices,
+            Some(imported) => {
+                let held = self.outcome.route_at(at);
+                Choices {
+                    given: with_if(choices.given, at, is_held(&imported, at, held)),
+                    outdone: with_if(choices.outdone, at, exceeds(imported.pref, held)),
+                }
             }
-            !is_outdone(net, policy, config, scenario, outcome, at, Some(route.pref))
         }
+    }
+
+    /// What the routers are given, beside what they hold: each link is looked at once.
+    pub fn choices(&self) -> Choices
+        requires { IsSituation self.now }
+        ensures { AreChoices self.now result }
+    {
+        let mut choices = Choices {
+            given: LocSet::new(),
+            outdone: LocSet::new(),
+        };
+        for link in self.net.links() {
+            choices = self.with_gift(choices, link.1, link.0);
+            choices = self.with_gift(choices, link.0, link.1);
+        }
+        choices
     }
 }

@@ -3,14 +3,22 @@
 
 mod choice;
 mod gifts;
+mod known;
+mod links;
 mod offers;
+mod origins;
 mod outcome;
 mod scenario;
+mod situation;
 mod stable;
+mod survivors;
 
-pub use choice::has_giver;
-pub use gifts::{Imported, given, is_given};
-pub use offers::is_offered;
+pub use choice::Choices;
+pub use gifts::Imported;
+pub use links::LinkSet;
+pub use origins::origins_at;
 pub use outcome::Outcome;
-pub use scenario::{Scenario, is_live, survives};
-pub use stable::{holds_own, is_settled, is_stable};
+pub use scenario::{Scenario, survives};
+pub use situation::Situation;
+pub use stable::is_stable;
+pub use survivors::Survivors;

@@ -3,7 +3,7 @@ ghost use Rattle.std.specs.Prelude.{◌≡◌, ◌&&◌};
 ghost use Rattle.std.specs.List.{list_any};
 ghost use Rattle.net_base.specs.Network.{is_peer};
 ghost use Rattle.path_words.specs.Meaning.{some_step};
-ghost use Rattle.outcome_base.specs.Outcomes.{is_dead as dead, is_dead_link as dead_link, is_silent as silent, is_live as live, passes_live as all_live, ends_heard as heard, survives as surviving};
+ghost use Rattle.outcome_base.specs.Outcomes.{is_dead as dead, is_dead_link as dead_link, is_silent as silent, passes_live as all_live, ends_heard as heard, survives as surviving};
 ghost use Rattle.stable_paths.specs.Scenarios.{failures_of};
 
 use net_base::{List, Loc, LocSet, Net, Prefix};
@@ -43,13 +43,6 @@ impl Scenario {
             .iter()
             .any(|session| session.0 == router && session.1 == peer)
     }
-}
-
-/// Whether two locations are linked, and they and their link live.
-pub fn is_live(net: &Net, scenario: &Scenario, a: Loc, b: Loc) -> bool
-    ensures { result ≡ live net.now (failures_of scenario.now) a b }
-{
-    net.linked(a, b) && !scenario.is_dead_link(a, b) && !scenario.is_dead(a) && !scenario.is_dead(b)
 }
 
 // Whether a location of the path is dead.

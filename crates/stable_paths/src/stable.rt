@@ -2,17 +2,19 @@
 ghost use Rattle.std.specs.Prelude.{◌≡◌, ◌↔◌, Some, IsTrue, length};
 ghost use Rattle.path_words.specs.Policies.{policy_of};
 ghost use Rattle.config_base.specs.Lines.{own_route};
-ghost use Rattle.outcome_base.specs.Outcomes.{IsStable, route_at};
+ghost use Rattle.outcome_base.specs.Outcomes.{Chooses, IsStable};
 ghost use Rattle.stable_paths.specs.Scenarios.{failures_of};
-ghost use Rattle.stable_paths.specs.Tests.{IsSettled, same_route};
+ghost use Rattle.stable_paths.specs.Situations.{AreChoices, IsSettledIn, IsSituation, held_in};
+ghost use Rattle.stable_paths.specs.Tests.{same_route};
 
-use crate::choice::chooses;
+use crate::choice::Choices;
 use crate::gifts::is_in_front;
 use crate::outcome::Outcome;
 use crate::scenario::Scenario;
+use crate::situation::Situation;
 use config_base::{Config, Route, own_tag};
 use net_base::{Loc, Net, Prefix};
-use path_words::{Policy, is_origin};
+use path_words::Policy;
 
 // Whether a route is an origin's own one.
 fn is_own_route(net: &Net, config: &Config, prefix: Prefix, at: Loc, route: &Route) -> bool
@@ -23,39 +25,63 @@ fn is_own_route(net: &Net, config: &Config, prefix: Prefix, at: Loc, route: &Rou
         && route.pref == 0
 }
 
-/// Whether a location holds an origin's own route.
-pub fn holds_own(net: &Net, config: &Config, prefix: Prefix, outcome: &Outcome, at: Loc) -> bool
-    ensures { IsTrue result ↔ (route_at outcome.now.routes at ≡ Some (own_route net.now config.now prefix at)) }
-{
-    match outcome.route_at(at) {
-        None => false,
-        Some(route) => is_own_route(net, config, prefix, at, route),
+impl<'a> Situation<'a> {
+    /// Whether a location holds an origin's own route.
+    pub fn holds_own(&self, at: Loc) -> bool
+        ensures { IsTrue result ↔ (held_in self.now at ≡ Some (own_route self.now.net.now self.now.config.now self.now.scenario.now.prefix at)) }
+    {
+        match self.outcome.route_at(at) {
+            None => false,
+            Some(route) => is_own_route(self.net, self.config, self.scenario.prefix, at, route),
+        }
     }
-}
 
-/// Whether a router holds what a stable outcome gives it.
-pub fn is_settled(
-    net: &Net,
-    policy: &Policy,
-    config: &Config,
-    scenario: &Scenario,
-    outcome: &Outcome,
-    at: Loc,
-) -> bool
-    ensures { IsTrue result ↔ IsSettled net.now (policy_of policy.now) config.now (failures_of scenario.now) scenario.now.prefix outcome.now.routes at }
-{
-    if scenario.is_dead(at) {
-        return outcome.route_at(at).is_none();
+    // Whether a router's route is among what it is given, with no higher preference given, and none only where nothing is.
+    fn chooses(&self, choices: &Choices, at: Loc) -> bool
+        requires { AreChoices self.now choices.now }
+        ensures { IsTrue result ↔ Chooses self.now.net.now (policy_of self.now.policy.now) self.now.config.now (failures_of self.now.scenario.now) self.now.scenario.now.prefix self.now.outcome.now.routes at }
+    {
+        match self.outcome.route_at(at) {
+            None => !choices.outdone.holds(at),
+            Some(_) => choices.given.holds(at) && !choices.outdone.holds(at),
+        }
     }
-    if is_origin(net, policy, scenario.prefix, at) {
-        return holds_own(net, config, scenario.prefix, outcome, at);
+
+    /// Whether a router holds what a stable outcome gives it.
+    pub fn is_settled(&self, choices: &Choices, at: Loc) -> bool
+        requires situation { IsSituation self.now }
+        requires choices { AreChoices self.now choices.now }
+        ensures { IsTrue result ↔ IsSettledIn self.now at }
+    {
+        if self.is_dead(at) {
+            return self.outcome.route_at(at).is_none();
+        }
+        if self.is_origin(at) {
+            return self.holds_own(at);
+        }
+        self.chooses(choices, at)
     }
-    chooses(net, policy, config, scenario, outcome, at)
+
+    // Whether each router holds what a stable outcome gives it.
+    fn are_settled(&self) -> bool
+        requires situation { IsSituation self.now }
+        requires size { length self.now.outcome.now.routes ≡ length self.now.net.now.routers }
+        ensures { IsTrue result ↔ IsStable self.now.net.now (policy_of self.now.policy.now) self.now.config.now (failures_of self.now.scenario.now) self.now.scenario.now.prefix self.now.outcome.now.routes }
+    {
+        let choices = self.choices();
+        for at in 0..self.net.routers().len() {
+            if !self.is_settled(&choices, Loc::new(at as u16)) {
+                return false;
+            }
+        }
+        true
+    }
 }
 
 /// Whether an outcome has one entry per router and is stable: a dead router has no route, a live origin its
 /// own, and every other router one of the highest preference among what its live neighbours' routes give it,
-/// and none only where they give none (RFC 4271, 9.1.1 and 9.1.2). Ties are free.
+/// and none only where they give none (RFC 4271, 9.1.1 and 9.1.2). Ties are free. Each link is looked at once, and no memory is
+/// taken.
 pub fn is_stable(
     net: &Net,
     policy: &Policy,
@@ -65,14 +91,9 @@ pub fn is_stable(
 ) -> bool
     ensures { IsTrue result ↔ ((length outcome.now.routes ≡ length net.now.routers) × IsStable net.now (policy_of policy.now) config.now (failures_of scenario.now) scenario.now.prefix outcome.now.routes) }
 {
-    let count = net.routers().len();
-    if outcome.routes.as_slice().len() != count {
+    if outcome.routes.as_slice().len() != net.routers().len() {
         return false;
     }
-    for at in 0..count {
-        if !is_settled(net, policy, config, scenario, outcome, Loc::new(at as u16)) {
-            return false;
-        }
-    }
-    true
+    let situation = Situation::new(net, policy, config, scenario, outcome);
+    situation.are_settled()
 }

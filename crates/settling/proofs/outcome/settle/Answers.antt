@@ -27,7 +27,7 @@ returns-clause-settled c =
     let cs = c.args.evidence.now.cases in
     let f = failures_of c.args.scenario.now in
     let p = c.args.scenario.now.prefix in
-    let s = c.in_ok-survivors.survivors in
+    let s = c.new-survivors.result in
     let origins = c.origins_at-origins.result in
     let others = c.match-case_of.others.items in
     let size : length c.from_vec.result ≡ length net.routers = ap length c.from_vec.ensures ∙ c.in_ok-routes.ensures.size in
@@ -36,12 +36,12 @@ returns-clause-settled c =
     elim c.match-case_of.branch [
       | in-None+in_ok-others-in-None w ↦ (
           let none : (r : ℕ) → entry_at others r ≡ None = λ r. ap (λ (v : Vec (Option Route) Global). entry_at v.items r) w.others-is ∙ w.in_ok-others-in-None.ensures.routes r in
-          bare_settles net policy config cs c.known_net.ensures c.requires.fits c.requires.passes f p c.known_prefix.ensures s c.in_ok-survivors.ensures origins c.origins_at-origins.ensures
+          bare_settles net policy config cs c.known_net.ensures c.requires.fits c.requires.passes f p c.known_prefix.ensures s c.new-survivors.ensures origins c.origins_at-origins.ensures
           c.from_vec.result (sym w.in-None.ensures) size
           (λ r low. each r low ∙ ap (λ o. if holds origins r then (if holds s.dead r then None else Some (own_route net config p r)) else o) (none r)))
       | in-Some+in_ok-others-in-Some w ↦ (
           let case = w.in-Some.case.now in
           let settled = subst (λ (v : Vec (Option Route) Global). AreSettled net s origins case v.items) (sym w.others-is) w.in_ok-others-in-Some.ensures.settled in
-          case_settles net policy config cs c.known_net.ensures c.requires.fits c.requires.passes f p c.known_prefix.ensures s c.in_ok-survivors.ensures origins c.origins_at-origins.ensures
+          case_settles net policy config cs c.known_net.ensures c.requires.fits c.requires.passes f p c.known_prefix.ensures s c.new-survivors.ensures origins c.origins_at-origins.ensures
           case others c.from_vec.result (sym w.in-Some.ensures) settled size each)
     ]
