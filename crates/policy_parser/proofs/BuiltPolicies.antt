@@ -1,6 +1,6 @@
 -- What is built of items that keep the rules is a policy.
-use Rattle.std.proofs.Common.{◌≡◌, ℕ, ◌+◌, ◌≤◌, ◌<◌, List, [], ◌∷◌, ◌++◌, length, map, Result, Ok, Err, Bool, true, leb-true, refl, sym, ap, ◌∙◌, subst, arith, length-append}
-use Rattle.std.specs.Prelude.{⊤, sum_by, not, min, nat_le}
+use Rattle.std.proofs.Common.{◌≡◌, ℕ, ◌+◌, ◌≤◌, ◌<◌, List, [], ◌∷◌, ◌++◌, length, map, Ok, leb-true, sym, ap, ◌∙◌, arith, length-append}
+use Rattle.std.specs.Prelude.{⊤, sum_by, not}
 use Rattle.std.specs.List.{IsDistinct, list_any}
 use Rattle.std.proofs.lemmas.List.{map_push}
 use Rattle.std.proofs.lemmas.List.Sums.{sum_by-cons, sum_by-append}
@@ -11,7 +11,6 @@ use Rattle.net_base.specs.declared.place.Kind.{Kind}
 use Rattle.net_base.specs.declared.place.Kind.TheVariants as kind
 use Rattle.net_base.specs.Prefixes.{PlainPrefix, PlainPattern, same_prefix}
 use Rattle.net_base.specs.Steps.{◌>>=◌, unless}
-use Rattle.policy_tokens.specs.declared.fault.PolicyFault.{PolicyFault}
 use Rattle.policy_tokens.specs.declared.fault.PolicyFault.TheVariants.{OriginTwice, TooMany}
 use Rattle.policy_grammar.specs.declared.lexeme.Lexeme.{Lexeme}
 use Rattle.policy_grammar.specs.declared.item.RawPattern.{RawPattern}
@@ -25,8 +24,7 @@ use Rattle.policy_rules.specs.Ranks.{ranks_fine}
 use Rattle.policy_rules.specs.Origins.{once_from, origins_fine}
 use Rattle.policy_rules.specs.Counts.{amount, counted, capped, within, items_within}
 use Rattle.path_words.specs.declared.policy.Origin.{Origin}
-use Rattle.net_base.specs.SetOperations.{size_of}
-use Rattle.path_words.specs.Policies.{PlainStatement, PlainPolicy, IsPolicy}
+use Rattle.path_words.specs.Policies.{PlainStatement, IsPolicy}
 use Rattle.policy_parser.specs.Built.{patterns_of, ranking_of_steps, from_of, statement_of, statements_of, origin_of, origins_of}
 use Rattle.policy_parser.specs.Spelled.{rules_kept, origins_spelled, pairs}
 use Rattle.net_base.proofs.StepLemmas.{bind_ok, unless_ok}
@@ -111,7 +109,7 @@ statements_count bytes net known so_far (State s ∷ items) ts e =
     rw (sum_by-cons (amount kind.Statements) (State s) items, sum_by-cons (amount kind.Patterns) (State s) items) (omega (arith, h.0, length-append so_far (b.0 ∷ [])), omega (arith, h.1, sums, size))
 
 -- a count within its limit
-within_most : (k : Kind) (most n : ℕ) (x : ⊤) → within k most (capped n) ≡ Ok x → most < 18446744073709551615 → n ≤ most
+pub within_most : (k : Kind) (most n : ℕ) (x : ⊤) → within k most (capped n) ≡ Ok x → most < 18446744073709551615 → n ≤ most
 within_most k most n x e small = omega (arith, leb-true (capped n) most (unless_ok (TooMany k (capped n)) _ x e))
 
 -- What is built of items that keep the rules is a policy.

@@ -1,5 +1,5 @@
 -- The values that the items of a policy stand for.
-use Rattle.std.specs.Prelude.{ℕ, ◌+◌, List, [], ◌∷◌, ◌++◌, map, length, Result, Ok}
+use Rattle.std.specs.Prelude.{ℕ, List, [], ◌∷◌, ◌++◌, map, Result, Ok}
 use Rattle.net_base.specs.declared.loc.LocSet.{LocSet}
 use Rattle.net_base.specs.Network.{PlainNet}
 use Rattle.net_base.specs.Prefixes.{PlainPattern}
@@ -10,7 +10,6 @@ use Rattle.policy_grammar.specs.declared.item.Arg.{Arg}
 use Rattle.policy_grammar.specs.declared.item.Arg.TheVariants as arg
 use Rattle.policy_grammar.specs.declared.item.CallWord.{CallWord}
 use Rattle.policy_grammar.specs.declared.item.CallWord.TheVariants as word
-use Rattle.policy_grammar.specs.declared.item.RawCall.{RawCall}
 use Rattle.policy_grammar.specs.declared.item.RawPattern.{RawPattern}
 use Rattle.policy_grammar.specs.declared.item.RawStatement.{RawStatement}
 use Rattle.policy_grammar.specs.declared.item.Step.{Step}

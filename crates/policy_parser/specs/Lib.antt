@@ -1,3 +1,4 @@
 pub mod Built
+pub mod Depth
 pub mod Spelled
 pub mod Views

@@ -9,7 +9,6 @@ use Rattle.policy_tokens.specs.declared.fault.PolicyFault.{PolicyFault}
 use Rattle.policy_tokens.specs.declared.fault.PolicyFault.TheVariants.{Deep, Twice}
 use Rattle.policy_tokens.specs.Places.{place_of}
 use Rattle.policy_tokens.specs.Tokens.{tokens_of}
-use Rattle.policy_grammar.specs.declared.lexeme.Lexeme.{Lexeme}
 use Rattle.policy_grammar.specs.declared.item.Item.{Item}
 use Rattle.policy_grammar.specs.Lexemes.{lexemes_of}
 use Rattle.policy_grammar.specs.Deep.{first_deep}

@@ -1,8 +1,9 @@
 //! Reading policies.
-ghost use Rattle.std.specs.Prelude.{◌≡◌, ◌<◌, ⊤, length, Ok};
+ghost use Rattle.std.specs.Prelude.{◌≡◌, ◌<◌, ⊤, length, IfOk, Ok};
 ghost use Rattle.policy_tokens.specs.Gives.{Gives};
 ghost use Rattle.policy_rules.specs.KnownView.{plain_names};
 ghost use Rattle.path_words.specs.Policies.{policy_of};
+ghost use Rattle.policy_parser.specs.Depth.{IsAtMostDeep};
 ghost use Rattle.policy_parser.specs.Spelled.{items_spelled, names_spelled, rules_kept, policy_built, spelled};
 
 use crate::origins::origins_within;
@@ -87,10 +88,15 @@ fn build(
 }
 
 /// The policy that a text spells for a net, or the first rule that it breaks, at the first token that does.
+///
+/// Brackets are counted over the tokens, calls and places over the parts of each statement, before any tree of an expression
+/// is made, so no deep tree is ever made or dropped: of the 321 levels at most 255 are operators with two sides, 65 are `not`
+/// and one is a call.
 #[tactic(auto, unfolding(crate::specs::Spelled::spelled))]
 pub fn read_policy(alloc: Global, bytes: &[u8], net: &Net) -> Result<Policy, PolicyFault>
     requires { length bytes.now < 4294967295 }
-    ensures { Gives policy_of result (spelled net.now bytes.now) }
+    ensures read { Gives policy_of result (spelled net.now bytes.now) }
+    ensures depth { IfOk result (λ policy. IsAtMostDeep 321 (policy_of policy)) }
 {
     let items = items_of(alloc, bytes)?;
     let known = names_of(alloc, bytes, net, &items)?;

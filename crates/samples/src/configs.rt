@@ -166,18 +166,15 @@ router A1 asn 64513 id 10.255.0.2
 session T1 asn 64512
 import 1 tag 64512:1 set 64513:1 pref 100
 session S1 asn 64514
-import 1 tag 64514:1 set 64513:2 pref 100
+import 1 tag 64514:1 set 64513:1 pref 100
 export 1 tag 64513:1
-export 1 tag 64513:2
 session S2 asn 64515
-import 1 tag 64515:1 set 64513:2 pref 100
+import 1 tag 64515:1 set 64513:1 pref 100
 export 1 tag 64513:1
-export 1 tag 64513:2
 end
 router S1 asn 64514 id 10.255.0.3
 session A1 asn 64513
 import 1 tag 64513:1 set 64514:1 pref 100
-import 1 tag 64513:2 set 64514:1 pref 100
 export 1 tag 64514:1
 session A2 asn 64516
 import 1 tag 64516:1 set 64514:1 pref 100
@@ -186,7 +183,6 @@ end
 router S2 asn 64515 id 10.255.0.4
 session A1 asn 64513
 import 1 tag 64513:1 set 64515:1 pref 100
-import 1 tag 64513:2 set 64515:1 pref 100
 export 1 tag 64515:1
 session A2 asn 64516
 import 1 tag 64516:1 set 64515:1 pref 100

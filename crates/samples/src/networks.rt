@@ -28,6 +28,14 @@ pub const RING: &[u8] = br#"{"routers":[{"name":"D","asn":64512,"id":"10.255.0.1
 "peers":[],
 "links":[["D","B"],["B","X"],["X","C"],["C","D"]]}"#;
 
+/// The ring of D, B, X and C, where C has the lower identifier of X's neighbours.
+pub const RING_TURNED: &[u8] = br#"{"routers":[{"name":"D","asn":64512,"id":"10.255.0.1"},
+{"name":"B","asn":64513,"id":"10.255.0.4"},
+{"name":"X","asn":64514,"id":"10.255.0.3"},
+{"name":"C","asn":64515,"id":"10.255.0.2"}],
+"peers":[],
+"links":[["D","B"],["B","X"],["X","C"],["C","D"]]}"#;
+
 /// Routers D, X, W and Y in a ring.
 pub const WAYPOINT_RING: &[u8] = br#"{"routers":[{"name":"D","asn":64512,"id":"10.255.0.1"},
 {"name":"X","asn":64513,"id":"10.255.0.2"},

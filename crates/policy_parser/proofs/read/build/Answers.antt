@@ -1,4 +1,3 @@
-use Rattle.std.proofs.Common.{◌≡◌, rules}
 use Rattle.policy_rules.specs.KnownView.{plain_names}
 use Rattle.policy_parser.proofs.BuiltPolicies.{is_policy}
 use Rattle.policy_parser.proofs.read.build.Goals as goal
