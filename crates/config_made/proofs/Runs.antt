@@ -1,10 +1,13 @@
 -- In a list in order what stands at one place is a run.
-use Rattle.std.proofs.Common.{◌≡◌, ℕ, ◌-◌, ◌<◌, ◌≤◌, Bool, true, false, List, length, take, drop, sym, ◌∙◌, arith, inl, inr}
+use Rattle.std.proofs.Common.{◌≡◌, ℕ, ◌+◌, ◌-◌, ◌<◌, ◌≤◌, Bool, true, false, List, length, take, drop, get_or, ap, subst, sym, ◌∙◌, arith, inl, inr}
 use Rattle.std.specs.Prelude.{◌⊎◌, ◌==◌, nat_lt, nat_le, filter}
+use Rattle.std.specs.List.{prefix_len}
 use Rattle.std.specs.List.Sorted.{IsStrictlySortedBy, IsPartitionedBy, IsPartitionPoint}
 use Rattle.std.specs.Ordering.{nat_cmp}
 use Rattle.std.specs.declared.cmp.Ordering.TheVariants.{Less}
 use Rattle.std.proofs.lemmas.Bool.{cases_lt, and_parts, and_from, or_cases, or_left, or_right, ltb-true, ltb-false, leb-true, leb-false, lt-ltb, le-leb, eqb-true, eq-eqb, true≢false, false_from_ne_true}
+use Rattle.std.proofs.lemmas.List.{get_or-drop, length-drop}
+use Rattle.std.proofs.lemmas.List.Sums.{prefix_len_passes, prefix_len_stops}
 use Rattle.list_laws.proofs.SortedRuns.{IsPartitionedBy-from_sorted, points_ordered, run_between}
 use Rattle.list_laws.proofs.Orders.{nat_cmp-Equal, nat_cmp-Less, ordering_then-Less}
 use Rattle.config_made.specs.declared.hop.Hop.{Hop}
@@ -97,6 +100,30 @@ module _ (from to : ℕ) (hops : List Hop) (i j : ℕ) (short : i ≤ length hop
 
   pub hops_run : take (j - i) (drop i hops) ≡ filter (goes from to) hops
   hops_run = run_between (is_before from to) (is_upto from to) (goes from to) (more_hops from to) (early_hop from to) (late_hop from to) (within_hop from to) hops i j short start end hops_ordered
+
+-- where the hops at the front of the rest come to an end
+module _ (from to : ℕ) (hops : List Hop) (i : ℕ) (short : i ≤ length hops) (start : IsPartitionPoint (λ x. is_before from to x ≡ true) (λ x. is_before from to x ≡ false) hops i) where
+  abbrev pub run : ℕ
+  run = prefix_len (goes from to) (drop i hops)
+
+  in_run : (k : ℕ) (d : Hop) → i ≤ k → k < i + run → is_upto from to (get_or hops k d) ≡ true
+  in_run k d le l =
+      let at : goes from to (get_or (drop i hops) (k - i) d) ≡ true = prefix_len_passes (goes from to) (drop i hops) (k - i) d (omega (arith, le, l)) in
+      let here : get_or (drop i hops) (k - i) d ≡ get_or hops k d = get_or-drop i hops (k - i) d ∙ ap (λ n. get_or hops n d) (omega (arith, le)) in
+      let ends = goes_parts from to (get_or hops k d) (subst (λ h. goes from to h ≡ true) here at) in
+      upto-from from to (get_or hops k d) (inr (ends.0, omega (arith, ends.1)))
+
+  at_end : (d : Hop) → i + run < length hops → is_upto from to (get_or hops (i + run) d) ≡ false
+  at_end d l =
+      let off : goes from to (get_or (drop i hops) run d) ≡ false = prefix_len_stops (goes from to) (drop i hops) d (omega (arith, l, length-drop i hops)) in
+      let here : goes from to (get_or hops (i + run) d) ≡ false = subst (λ h. goes from to h ≡ false) (get_or-drop i hops run d) off in
+      false_from_ne_true _ (λ u. true≢false (sym (within_hop from to (get_or hops (i + run) d) (start.1 (i + run) d (omega arith) l) u) ∙ here))
+
+  pub run_ends : IsPartitionedBy (is_upto from to) hops → IsPartitionPoint (λ x. is_upto from to x ≡ true) (λ x. is_upto from to x ≡ false) hops (i + run)
+  run_ends parts = (
+    λ k d le l. elim (cases_lt k i) [ inl t ↦ more_hops from to (get_or hops k d) (start.0 k d le t) | inr t ↦ in_run k d t l ],
+    λ k d le l. false_from_ne_true _ (λ u. true≢false (sym (parts (i + run) k d le l u) ∙ at_end d (omega (arith, le, l)))),
+  )
 
 -- ---- the same for what is announced
 

@@ -18,8 +18,9 @@ fn imports(alloc: Global, hops: &[Hop], from: Loc, to: Loc) -> Result<List<Rule>
     requires { IsStrictlySortedBy hop_order hops.now }
     ensures { IfOk result (λ lines. lines ≡ map import_line (filter (goes from to) hops.now)) }
 {
-    let mut lines = List::new(alloc);
-    for hop in hops_between(hops, from, to) {
+    let taken = hops_between(hops, from, to);
+    let mut lines = Vec::with_capacity(alloc, taken.len())?;
+    for hop in taken {
         lines.push(Rule {
             class: hop.class,
             tag: hop.tag,
@@ -27,7 +28,7 @@ fn imports(alloc: Global, hops: &[Hop], from: Loc, to: Loc) -> Result<List<Rule>
             pref: hop.pref,
         })?;
     }
-    Ok(lines)
+    Ok(List::from_vec(lines))
 }
 
 // The lines by which routes are sent over a link.
@@ -35,14 +36,15 @@ fn exports(alloc: Global, hops: &[Hop], from: Loc, to: Loc) -> Result<List<Expor
     requires { IsStrictlySortedBy hop_order hops.now }
     ensures { IfOk result (λ lines. lines ≡ map export_line (filter (goes from to) hops.now)) }
 {
-    let mut lines = List::new(alloc);
-    for hop in hops_between(hops, from, to) {
+    let sent = hops_between(hops, from, to);
+    let mut lines = Vec::with_capacity(alloc, sent.len())?;
+    for hop in sent {
         lines.push(Export {
             class: hop.class,
             tag: hop.tag,
         })?;
     }
-    Ok(lines)
+    Ok(List::from_vec(lines))
 }
 
 // The lines by which a router announces its own routes.

@@ -1,7 +1,8 @@
 //! Runs of what is in order.
 ghost use Rattle.std.specs.Prelude.{◌≡◌, ◌≤◌, ◌-◌, length, take, drop, filter};
+ghost use Rattle.std.specs.List.{prefix_len};
 ghost use Rattle.std.specs.List.Sorted.{IsStrictlySortedBy};
-ghost use Rattle.config_made.specs.Hops.{goes, stands, hop_order, announced_order, is_before, is_upto};
+ghost use Rattle.config_made.specs.Hops.{goes, stands, hop_order, announced_order, is_before};
 
 use crate::hop::{Announced, Hop};
 use net_base::Loc;
@@ -13,11 +14,14 @@ fn is_before(hop: &Hop, from: Loc, to: Loc) -> bool
     hop.from < from || (hop.from == from && hop.to < to)
 }
 
-// Whether the hop's ends are two others or come before them.
-fn is_upto(hop: &Hop, from: Loc, to: Loc) -> bool
-    ensures { result ≡ is_upto from to hop.now }
+// How many hops at the front go from one location to another.
+fn run_len(hops: &[Hop], from: Loc, to: Loc) -> usize
+    ensures len { result ≡ prefix_len (goes from to) hops.now }
+    ensures within { result ≤ length hops.now }
 {
-    hop.from < from || (hop.from == from && hop.to <= to)
+    hops.iter()
+        .take_while(|hop| hop.from == from && hop.to == to)
+        .count()
 }
 
 // Where the hops from one location to another begin and end.
@@ -28,8 +32,8 @@ fn ends_of(hops: &[Hop], from: Loc, to: Loc) -> (usize, usize)
     ensures run { take (result.1 - result.0) (drop result.0 hops.now) ≡ filter (goes from to) hops.now }
 {
     let start = hops.partition_point(|hop| is_before(hop, from, to));
-    let end = hops.partition_point(|hop| is_upto(hop, from, to));
-    (start, end)
+    let len = run_len(&hops[start..], from, to);
+    (start, start + len)
 }
 
 /// The hops from one location to another.

@@ -1,6 +1,7 @@
 //! The pairs that the rule of ranks leaves.
-ghost use Rattle.std.specs.Prelude.{◌≡◌, ◌<◌, ◌&&◌, ◌||◌, ◌==◌, ℕ, IfOk, length, not};
+ghost use Rattle.std.specs.Prelude.{◌≡◌, ◌<◌, ◌&&◌, ◌||◌, ◌==◌, ℕ, IfOk, IfSome, length, not};
 ghost use Rattle.bit_rows.specs.Tables.{IsSameSize, has_at};
+ghost use Rattle.graph_base.specs.Runs.{place_of, rank_at};
 ghost use Rattle.relation_law.specs.Relations.{no_worse};
 ghost use Rattle.relation_law.specs.Rounds.{same_place};
 ghost use Rattle.relation_law.specs.Views.{view_of};
@@ -28,8 +29,39 @@ pub fn ranked_pairs(alloc: Global, maps: &Maps, claimed: &LocSet) -> Result<Rows
     Ok(rows)
 }
 
-/// Sets who of the nodes at the location of n doesn't have a worse rank, where that is claimed.
+/// Sets who of the nodes at the location of n doesn't have a worse rank, where that is claimed. The rows of the nodes before n
+/// are made, and the row of one that has the location and the rank of n is that of n too.
 fn add_above(rows: &mut Rows, maps: &Maps, claimed: &LocSet, n: u32)
+    requires rows { AreNodeRows maps.now.graph.now rows.old }
+    requires n { n < length maps.now.graph.now.nodes }
+    requires before { (r b : ℕ) → r < n → b < length maps.now.graph.now.nodes → has_at rows.old r b
+        ≡ (same_place (view_of maps.now.graph.now claimed.now) b r && not (is_outranked_in (view_of maps.now.graph.now claimed.now) b r)) }
+    ensures size { IsSameSize rows.new rows.old }
+    ensures bits { (r b : ℕ) → r < length maps.now.graph.now.nodes → b < length maps.now.graph.now.nodes → has_at rows.new r b
+        ≡ (has_at rows.old r b || (r == n && (same_place (view_of maps.now.graph.now claimed.now) b n && not (is_outranked_in (view_of maps.now.graph.now claimed.now) b n)))) }
+{
+    match alike_before(maps, n) {
+        Some(m) => rows.or_row(n, m),
+        None => add_each(rows, maps, claimed, n),
+    }
+}
+
+/// The first node with the location and the rank of n, where it stands before n.
+fn alike_before(maps: &Maps, n: u32) -> Option<u32>
+    requires { n < length maps.now.graph.now.nodes }
+    ensures { IfSome result (λ m. (m < n) × (place_of maps.now.graph.now m ≡ place_of maps.now.graph.now n) × (rank_at maps.now.graph.now m ≡ rank_at maps.now.graph.now n)) }
+{
+    let rank = maps.graph().rank(n);
+    for m in maps.peers(n) {
+        if *m < n && maps.graph().rank(*m) == rank {
+            return Some(*m);
+        }
+    }
+    None
+}
+
+/// Sets, one by one, who of the nodes at the location of n doesn't have a worse rank, where that is claimed.
+fn add_each(rows: &mut Rows, maps: &Maps, claimed: &LocSet, n: u32)
     requires rows { AreNodeRows maps.now.graph.now rows.old }
     requires n { n < length maps.now.graph.now.nodes }
     ensures size { IsSameSize rows.new rows.old }

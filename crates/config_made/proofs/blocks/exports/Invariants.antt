@@ -3,4 +3,4 @@ use Rattle.config_made.specs.Writing.{export_line}
 use Rattle.config_made.proofs.blocks.exports.Given as goal
 
 abbrev pub invariant-loop-hop : goal.invariant-loop-hop
-invariant-loop-hop l = l.lines ≡ map export_line (take l.hop-index l.hop-items)
+invariant-loop-hop l = l.lines.items ≡ map export_line (take l.hop-index l.sent)

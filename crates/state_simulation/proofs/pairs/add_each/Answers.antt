@@ -3,8 +3,8 @@ use Rattle.bit_rows.specs.Tables.{PlainRows, has_at}
 use Rattle.relation_law.specs.Views.{view_of}
 use Rattle.state_simulation.specs.Targets.{is_outranked}
 use Rattle.state_simulation.proofs.Masking.{above_more, above_same}
-use Rattle.state_simulation.proofs.pairs.add_above.Goals as goal
-use Rattle.state_simulation.proofs.pairs.add_above.Goals.{then-not-is_outranked, else-not-is_outranked}
+use Rattle.state_simulation.proofs.pairs.add_each.Goals as goal
+use Rattle.state_simulation.proofs.pairs.add_each.Goals.{then-not-is_outranked, else-not-is_outranked}
 
 pub loop-m-preserved : goal.loop-m-preserved
 loop-m-preserved c =

@@ -3,7 +3,7 @@ use Rattle.bit_rows.specs.Tables.{IsSameSize, has_at}
 use Rattle.reach_prune.specs.Searches.{is_among}
 use Rattle.relation_law.specs.Views.{view_of}
 use Rattle.state_simulation.specs.Targets.{is_outranked}
-use Rattle.state_simulation.proofs.pairs.add_above.Given as goal
+use Rattle.state_simulation.proofs.pairs.add_each.Given as goal
 
 abbrev pub invariant-loop-m : goal.invariant-loop-m
 invariant-loop-m l = record {
