@@ -27,6 +27,7 @@ use Rattle.regret_law.specs.Passes.{IsClaimed}
 use Rattle.case_core.specs.declared.refusal.CompileRefusal.TheVariants.{NoEvidence}
 use Rattle.graph_law.proofs.Claimed.{claimed_where_ranked, listeners_ranked}
 use Rattle.case_evidence.specs.declared.accepted.AcceptedCase.{AcceptedCase}
+use Rattle.case_evidence.proofs.Joined.{given_fits}
 use Rattle.case_evidence.specs.Accepted.{HasNoNumbers, IsAccepted, IsCaseCause, IsGivenGraph, IsNumbered, number_in}
 use Rattle.graph_base.specs.Ranked.{IsRankedRouter}
 
@@ -84,7 +85,7 @@ module _ (net : PlainNet) (room : ℕ) (s : PlainStatement) (c : Case) (given : 
   pub is_accepted : HasEach r → length given.prefs.of ≡ length given.graph.nodes → ((n : ℕ) → n < length given.graph.nodes → found.number_in given.prefs.of n ≡ found.inferred net given.graph r n)
       → ((external : Bool) → MeetsRules net (λ l. holds r.claimed l ≡ true) external given.graph (found.number_in given.prefs.of)) → IsAccepted net room s c given
   is_accepted each size counts rules =
-      let fits = is.fits [] [] in
+      let fits = given_fits net room s c given.graph given.used is [] [] in
       record {
         graph = is;
         numbers = are_numbers net s c given.graph fits.graph fits.faithful r relation ranked given.prefs.of each size counts;
@@ -95,7 +96,7 @@ pub is_refused : (net : PlainNet) (number room : ℕ) (s : PlainStatement) (c : 
     → (claimed : LocSet) → ((l : ℕ) → (holds claimed l ≡ true) ↔ IsRankedRouter net g l) → (r : Refutation) → IsRefutationOf g claimed r → Refutes g (holds claimed) r.first r.second r.lines
     → IsCaseCause net number room s c (NoEvidence number g r)
 is_refused net number room s c g used is claimed ranked r chosen refutes =
-    let fits = is.fits [] [] in (
+    let fits = given_fits net room s c g used is [] [] in (
       refl,
       (used, is),
       record { claimed = claimed; claims = claims net s c g fits.graph fits.faithful claimed ranked; chosen = chosen; refutes = refutes },

@@ -1,3 +1,4 @@
+pub mod Joined
 pub mod Judged
 pub mod OfCases
 pub mod OneVerdict

@@ -27,6 +27,7 @@ use Rattle.case_core.specs.Refusals.{IsCause}
 use Rattle.regret_law.specs.Passes.{IsClaimed}
 use Rattle.case_core.proofs.OneCause as graphs
 use Rattle.case_evidence.specs.declared.accepted.AcceptedCase.{AcceptedCase}
+use Rattle.case_evidence.proofs.Joined.{given_fits, one_given}
 use Rattle.case_evidence.proofs.Judged.{number_read}
 use Rattle.case_evidence.specs.Accepted.{HasNoNumbers, IsAccepted, IsCaseCause, IsGivenGraph, IsNumbered, IsRefuted, number_in}
 
@@ -52,7 +53,7 @@ one_list net s c g xs ys a b =
 module _ (net : PlainNet) (room : ℕ) (s : PlainStatement) (c : Case) where
   pub one_accepted : (given other : AcceptedCase) → IsAccepted net room s c given → IsAccepted net room s c other → given ≡ other
   one_accepted given other a b =
-      let same = graphs.one_given net room s c (record { graph = given.graph; used = given.used }) (record { graph = other.graph; used = other.used }) a.graph.graph b.graph.graph in
+      let same = one_given net room s c given.graph other.graph given.used other.used a.graph b.graph in
       let numbers = one_list net s c other.graph given.prefs.of other.prefs.of (subst (λ (g : PlainGraph). IsNumbered net s c g given.prefs.of) same.0 a.numbers) b.numbers in
       λ i. record { graph = same.0 i; used = same.1 i; prefs = record { of = numbers i } }
 
@@ -91,23 +92,23 @@ module _ (net : PlainNet) (number room : ℕ) (s : PlainStatement) (c : Case) wh
 
   -- the graph of a case isn't refused where it is given
   given_not_refused : (g : PlainGraph) (used : ℕ) (e : CompileRefusal) → IsGivenGraph net room s c g used → IsCause net number room s c e → e ≡ NoMemory
-  given_not_refused g used e is cause = graphs.not_refused net number room s c (record { graph = g; used = used }) e is.graph is.paths is.unmixed cause
+  given_not_refused g used e is cause = graphs.not_refused net number room s c (record { graph = is.trimmed; used = used }) e is.graph is.paths is.unmixed cause
 
   one_graph : (g h : PlainGraph) (m n : ℕ) → IsGivenGraph net room s c g m → IsGivenGraph net room s c h n → g ≡ h
-  one_graph g h m n a b = (graphs.one_given net room s c (record { graph = g; used = m }) (record { graph = h; used = n }) a.graph b.graph).0
+  one_graph g h m n a b = (one_given net room s c g h m n a b).0
 
   same_evidence : (g h : PlainGraph) (m n : ℕ) (p q : Refutation) → IsGivenGraph net room s c g m → IsGivenGraph net room s c h n → IsRefuted net s c g p → IsRefuted net s c h q
       → NoEvidence number g p ≡ NoEvidence number h q
   same_evidence g h m n p q a b one other =
       let same = one_graph g h m n a b in
-      let fits = b.fits [] [] in
+      let fits = given_fits net room s c h n b [] [] in
       let single = single_of net (holds c.origins) c.external h fits.faithful.formed in
       ap₂ (NoEvidence number) same (one_refutation net s c h p q fits.graph single (subst (λ x. IsRefuted net s c x p) same one) other)
 
   pub not_refused : (given : AcceptedCase) (e : CompileRefusal) → IsAccepted net room s c given → IsCaseCause net number room s c e → e ≡ NoMemory
   not_refused given e is cause = elim (kinds e cause) [
     | inl of_graph ↦ given_not_refused given.graph given.used e is.graph of_graph
-    | inr of_numbers ↦ let fits = is.graph.fits [] [] in absurd (of_numbers.none given.graph (number_in given.prefs.of) fits.graph fits.faithful is.rules)
+    | inr of_numbers ↦ let fits = given_fits net room s c given.graph given.used is.graph [] [] in absurd (of_numbers.none given.graph (number_in given.prefs.of) fits.graph fits.faithful is.rules)
   ]
 
   pub one_cause : (e f : CompileRefusal) → IsCaseCause net number room s c e → IsCaseCause net number room s c f → (e ≡ NoMemory) ⊎ (f ≡ NoMemory) ⊎ (e ≡ f)

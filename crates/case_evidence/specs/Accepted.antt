@@ -14,6 +14,7 @@ use Rattle.relation_law.specs.Numbers.{number_of}
 use Rattle.relation_law.specs.Relations.{IsGreatest, IsTotal}
 use Rattle.relation_law.specs.Views.{view_of}
 use Rattle.refutation_law.specs.Choosing.{IsRefutationOf}
+use Rattle.node_quotient.specs.Quotient.{IsQuotient}
 use Rattle.regret_law.specs.Faithful.{IsFaithful}
 use Rattle.regret_law.specs.Passes.{IsClaimed}
 use Rattle.case_core.specs.declared.refusal.CompileRefusal.{CompileRefusal}
@@ -48,10 +49,13 @@ pub record IsRefuted (net : PlainNet) (s : PlainStatement) (c : Case) (g : Plain
   pub chosen : IsRefutationOf g claimed r
   pub refutes : Refutes g (holds claimed) r.first r.second r.lines
 
--- the graph that is given for a case, of which nothing is to be refused
+-- The graph that is given for a case of which nothing is to be refused: the quotient of what is left of the one that is built,
+-- which has so many steps.
 pub record IsGivenGraph (net : PlainNet) (room : ℕ) (s : PlainStatement) (c : Case) (g : PlainGraph) (used : ℕ) : Type 0 where
-  pub graph : IsGraphOf net room s c (record { graph = g; used = used })
-  pub fits : FitsCase net s c g
+  pub trimmed : PlainGraph
+  pub graph : IsGraphOf net room s c (record { graph = trimmed; used = used })
+  pub fits : FitsCase net s c trimmed
+  pub quotient : IsQuotient trimmed g
   pub paths : HavePaths net s c
   pub unmixed : NoneMixed net s c
 

@@ -11,14 +11,15 @@ ghost use Rattle.case_evidence.specs.Accepted.{IsAccepted, IsCaseCause, IsGivenG
 use case_core::{CaseGraph, CompileRefusal, StatementAutomata, case_graph_over};
 use graph_base::{Graph, Prefs, ranked_routers};
 use net_base::Net;
+use node_quotient::quotient;
 use path_words::{CaseList, Policy};
 use pref_inference::infer;
 use relation_refute::refutation;
 use state_simulation::total_relation;
 use std::alloc::Global;
 
-/// A case that is accepted: its graph, how many steps that had before it was trimmed, and a preference number for
-/// each of its nodes.
+/// A case that is accepted: its graph, in which nodes are one that nothing onward tells apart, how many steps that had
+/// before it was trimmed and joined, and a preference number for each of its nodes.
 #[derive(Drop)]
 pub struct AcceptedCase {
     pub graph: Graph,
@@ -78,6 +79,8 @@ pub fn accepted_case(
     ensures kept { IfOk result (λ given. FitsNumber net.now (policy_of policy.now) given.1) }
 {
     let (given, kept) = case_graph_over(alloc, net, policy, cases, number, room, kept)?;
-    let accepted = numbered(alloc, net, number, given)?;
+    let graph = quotient(alloc, &given.graph)?;
+    let used = given.used;
+    let accepted = numbered(alloc, net, number, CaseGraph { graph, used })?;
     Ok((accepted, kept))
 }

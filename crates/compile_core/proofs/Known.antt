@@ -25,6 +25,7 @@ use Rattle.case_law.specs.Cases.{OriginsAreRouters}
 use Rattle.case_law.proofs.Origins.{case_known, known_origins}
 use Rattle.case_evidence.specs.declared.accepted.AcceptedCase.{AcceptedCase}
 use Rattle.case_evidence.specs.Accepted.{IsAccepted, number_in}
+use Rattle.case_evidence.proofs.Joined.{given_fits}
 use Rattle.compile_core.specs.Compiling.{evidence_of, AreAccepted, graphs_of, prefs_of}
 use Rattle.compile_core.proofs.Limits.{made_within}
 use Rattle.compile_core.proofs.Parts.{parts, all_parts, as_many_tags, tag_each, accepted_at}
@@ -48,7 +49,7 @@ module _ (net : PlainNet) (policy : PlainPolicy) (e : PlainCaseEvidence) (known 
   case_graph s at =
       let same = same_Some known.statement s (sym known.of ∙ at) in
       subst (λ (t : PlainStatement). IsCaseGraph net t e) same
-      (subst (λ (g : PlainGraph). IsCaseGraph net known.statement (record { case = e.case; graph = g; numbers = e.numbers; tags = e.tags })) known.graph (known.is.graph.fits e.numbers e.tags))
+      (subst (λ (g : PlainGraph). IsCaseGraph net known.statement (record { case = e.case; graph = g; numbers = e.numbers; tags = e.tags })) known.graph (given_fits net known.room known.statement e.case known.given.graph known.given.used known.is.graph e.numbers e.tags))
 
   pub meets : (s : PlainStatement) → statement_at policy e.case.statement ≡ Some s → MeetsRules net (IsClaimed net s e.case) e.case.external e.graph (number_at e)
   meets s at =

@@ -1,3 +1,4 @@
+pub mod Agreeing
 pub mod Keeping
 pub mod Listing
 pub mod Renumbering

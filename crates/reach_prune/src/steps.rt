@@ -56,7 +56,7 @@ pub fn neighbours(alloc: Global, graph: &Graph, way: Way) -> Result<Vec<List<u32
 }
 
 /// So many lists without items.
-fn empty_lists(alloc: Global, size: usize) -> Result<Vec<List<u32>>, AllocError>
+pub fn empty_lists(alloc: Global, size: usize) -> Result<Vec<List<u32>>, AllocError>
     ensures { IfOk result (λ lists. lists.items ≡ replicate size []) }
 {
     let mut lists = Vec::new(alloc);

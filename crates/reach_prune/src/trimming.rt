@@ -4,7 +4,7 @@ ghost use Rattle.std.specs.List.{filter_map};
 ghost use Rattle.graph_base.specs.Runs.{rank_at};
 ghost use Rattle.reach_prune.specs.Numbers.{number_in, number_kept, step_in};
 ghost use Rattle.reach_prune.specs.Searches.{is_among, is_marked};
-ghost use Rattle.reach_prune.specs.Trimmed.{CanBeRanked, IsTrimmed, nodes_kept as nodes_kept_of};
+ghost use Rattle.reach_prune.specs.Trimmed.{CanBeRanked, IsTrimmed, graph_kept, nodes_kept as nodes_kept_of};
 
 use crate::marking::marked;
 use crate::steps::Way;
@@ -18,9 +18,17 @@ use std::alloc::{AllocError, Global};
 pub fn trim(alloc: Global, graph: &Graph) -> Result<Graph, NoMemory>
     ensures { IfOk result (λ trimmed. IsTrimmed graph.now trimmed) }
 {
-    let kept = can_be_ranked(alloc, graph)?;
-    let nodes = nodes_kept(alloc, graph.nodes(), &kept)?;
-    let numbers = new_numbers(alloc, &kept)?;
+    let marks = can_be_ranked(alloc, graph)?;
+    kept(alloc, graph, &marks)
+}
+
+/// The graph of the nodes that are marked and of the steps between them. Their numbers close up in order.
+pub fn kept(alloc: Global, graph: &Graph, marks: &[bool]) -> Result<Graph, NoMemory>
+    requires { length marks.now ≡ length graph.now.nodes }
+    ensures { IfOk result (λ g. g ≡ graph_kept (is_marked marks.now) graph.now) }
+{
+    let nodes = nodes_kept(alloc, graph.nodes(), marks)?;
+    let numbers = new_numbers(alloc, marks)?;
     let starts = starts_kept(alloc, graph.starts(), &numbers)?;
     let steps = steps_kept(alloc, graph.steps(), &numbers)?;
     Ok(Graph::new(nodes, starts, steps))
@@ -28,12 +36,12 @@ pub fn trim(alloc: Global, graph: &Graph) -> Result<Graph, NoMemory>
 
 /// Marks the nodes from which a node with a rank can be reached.
 fn can_be_ranked(alloc: Global, graph: &Graph) -> Result<Vec<bool>, NoMemory>
-    ensures size { IfOk result (λ kept. length kept.items ≡ length graph.now.nodes) }
-    ensures kept { IfOk result (λ kept. (n : ℕ) → n < length graph.now.nodes → IsTrue (is_marked kept.items n) ↔ CanBeRanked graph.now n) }
+    ensures size { IfOk result (λ marks. length marks.items ≡ length graph.now.nodes) }
+    ensures kept { IfOk result (λ marks. (n : ℕ) → n < length graph.now.nodes → IsTrue (is_marked marks.items n) ↔ CanBeRanked graph.now n) }
 {
     let ranked = ranked_nodes(alloc, graph)?;
-    let kept = marked(alloc, graph, Way::Backward, &ranked)?;
-    Ok(kept)
+    let marks = marked(alloc, graph, Way::Backward, &ranked)?;
+    Ok(marks)
 }
 
 /// The nodes with a rank.

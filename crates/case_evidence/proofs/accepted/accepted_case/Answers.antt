@@ -3,26 +3,34 @@ use Rattle.std.proofs.lemmas.Result.{err_from_is_err_and}
 use Rattle.net_base.specs.Sets.{holds}
 use Rattle.path_words.specs.Policies.{policy_of}
 use Rattle.refutation_law.proofs.Refuted.{single_of}
+use Rattle.case_evidence.proofs.Joined.{quotient_fits}
 use Rattle.case_evidence.proofs.OfCases.{case_there, used_within}
 use Rattle.case_evidence.proofs.accepted.accepted_case.Goals as goal
 
-pub numbered-requires : goal.numbered-requires
-numbered-requires c =
+pub quotient-requires : goal.quotient-requires
+quotient-requires c =
     let net = c.args.net.now in
     let there = case_there net (policy_of c.args.policy.now) c.args.number c.requires.from_one (omega (arith, c.requires.within, ap length c.requires.cases)) in
     let fits = c.in_ok-given.ensures.fits there.0 there.1 there.2 [] [] in
     single_of net (holds there.1.origins) there.1.external c.in_ok-given.given.graph fits.faithful.formed
 
+pub numbered-requires : goal.numbered-requires
+numbered-requires c =
+    let net = c.args.net.now in
+    let there = case_there net (policy_of c.args.policy.now) c.args.number c.requires.from_one (omega (arith, c.requires.within, ap length c.requires.cases)) in
+    let fits = quotient_fits net there.0 there.1 c.in_ok-given.given.graph c.in_ok-graph.graph (c.in_ok-given.ensures.fits there.0 there.1 there.2) c.in_ok-graph.ensures [] [] in
+    single_of net (holds there.1.origins) there.1.external c.in_ok-graph.graph fits.faithful.formed
+
 pub returns-in_err-accepted-clause-refused : goal.returns-in_err-accepted-clause-refused
 returns-in_err-accepted-clause-refused c =
     let is = c.in_ok-given.ensures in
     let p = err_from_is_err_and c.from_residual-in_err-accepted.result c.from_residual-in_err-accepted.ensures.1 in
-    rw (p.1, p.2) (λ s case at. c.in_err-accepted.ensures.refused c.args.room s case (record { graph = is.graph s case at; fits = is.fits s case at; paths = is.paths s case at; unmixed = is.unmixed s case at }))
+    rw (p.1, p.2) (λ s case at. c.in_err-accepted.ensures.refused c.args.room s case (record { trimmed = c.in_ok-given.given.graph; graph = is.graph s case at; fits = is.fits s case at; quotient = c.in_ok-graph.ensures; paths = is.paths s case at; unmixed = is.unmixed s case at }))
 
 pub returns-clause-accepted : goal.returns-clause-accepted
 returns-clause-accepted c = λ s case at.
     let is = c.in_ok-given.ensures in
-    c.in_ok-accepted.ensures.accepted c.args.room s case (record { graph = is.graph s case at; fits = is.fits s case at; paths = is.paths s case at; unmixed = is.unmixed s case at })
+    c.in_ok-accepted.ensures.accepted c.args.room s case (record { trimmed = c.in_ok-given.given.graph; graph = is.graph s case at; fits = is.fits s case at; quotient = c.in_ok-graph.ensures; paths = is.paths s case at; unmixed = is.unmixed s case at })
 
 pub returns-clause-room : goal.returns-clause-room
 returns-clause-room c =

@@ -1,0 +1,67 @@
+-- What the test of two nodes says.
+use Rattle.std.proofs.Common.{◌≡◌, ℕ, Bool, true, false, not, ◌==◌, List, [], ◌∷◌, refl, sym, ap, ◌∙◌, inl, inr}
+use Rattle.std.specs.List.{list_any}
+use Rattle.std.proofs.lemmas.Bool.{and_parts, and_from, cases_Bool, or_cases, or_left, or_right, not-true, not_from_false, both_ways, eq-eqb, eqb-true, false_from_ne_true}
+use Rattle.reach_prune.specs.Searches.{is_among}
+use Rattle.node_quotient.specs.Alike.{class_in, list_of, has_class, lacks_class, are_alike}
+
+any_parts : (p : ℕ → Bool) (xs : List ℕ) → list_any p xs ≡ true → (x : ℕ) × (is_among xs x ≡ true) × (p x ≡ true)
+any_parts p [] h = absurd (cc)
+any_parts p (y ∷ ys) h = elim (or_cases (p y) (list_any p ys) h) [
+  | inl t ↦ (y, or_left (y == y) (list_any (λ z. z == y) ys) (eq-eqb y y refl), t)
+  | inr t ↦ let r = any_parts p ys t in (r.0, or_right (y == r.0) (list_any (λ z. z == r.0) ys) r.1, r.2)
+]
+
+any_of : (p : ℕ → Bool) (xs : List ℕ) (x : ℕ) → is_among xs x ≡ true → p x ≡ true → list_any p xs ≡ true
+any_of p [] x h t = absurd (cc)
+any_of p (y ∷ ys) x h t = elim (or_cases (y == x) (list_any (λ z. z == x) ys) h) [
+  | inl e ↦ or_left (p y) (list_any p ys) (ap p (eqb-true y x e) ∙ t)
+  | inr r ↦ or_right (p y) (list_any p ys) (any_of p ys x r t)
+]
+
+-- of one class, and each steps to the classes to which the other does
+pub record Like (lists : List (List ℕ)) (least : List ℕ) (m n : ℕ) : Type 0 where
+  pub class : class_in least m ≡ class_in least n
+  pub forth : (a : ℕ) → is_among (list_of lists m) a ≡ true → (b : ℕ) × (is_among (list_of lists n) b ≡ true) × (class_in least a ≡ class_in least b)
+  pub back : (b : ℕ) → is_among (list_of lists n) b ≡ true → (a : ℕ) × (is_among (list_of lists m) a ≡ true) × (class_in least a ≡ class_in least b)
+
+none_lacked : (least xs ys : List ℕ) → lacks_class least xs ys ≡ false → (a : ℕ) → is_among xs a ≡ true → (b : ℕ) × (is_among ys b ≡ true) × (class_in least a ≡ class_in least b)
+none_lacked least xs ys h a there = elim (cases_Bool (has_class least ys (class_in least a))) [
+  | inl t ↦ let r = any_parts (λ n. class_in least n == class_in least a) ys t in (r.0, r.1, sym (eqb-true _ _ r.2))
+  | inr f ↦ absurd (both_ways _ h (any_of (λ n. not (has_class least ys (class_in least n))) xs a there (not_from_false _ f)))
+]
+
+lacked_none : (least xs ys : List ℕ) → ((a : ℕ) → is_among xs a ≡ true → (b : ℕ) × (is_among ys b ≡ true) × (class_in least a ≡ class_in least b)) → lacks_class least xs ys ≡ false
+lacked_none least xs ys h = false_from_ne_true _ (λ t.
+    let r = any_parts (λ n. not (has_class least ys (class_in least n))) xs t in
+    let b = h r.0 r.1 in
+    both_ways _ (not-true _ r.2) (any_of (λ n. class_in least n == class_in least r.0) ys b.0 b.1 (eq-eqb _ _ (sym b.2))))
+
+pub like_from : (lists : List (List ℕ)) (least : List ℕ) (m n : ℕ) → are_alike lists least m n ≡ true → Like lists least m n
+like_from lists least m n h =
+    let p = and_parts (class_in least m == class_in least n) _ h in
+    let q = and_parts (not (lacks_class least (list_of lists m) (list_of lists n))) _ p.1 in
+    record {
+      class = eqb-true _ _ p.0;
+      forth = none_lacked least (list_of lists m) (list_of lists n) (not-true _ q.0);
+      back = λ b there. let r = none_lacked least (list_of lists n) (list_of lists m) (not-true _ q.1) b there in (r.0, r.1, sym r.2);
+    }
+
+pub like_to : (lists : List (List ℕ)) (least : List ℕ) (m n : ℕ) → Like lists least m n → are_alike lists least m n ≡ true
+like_to lists least m n h =
+    and_from (class_in least m == class_in least n) _ (eq-eqb _ _ h.class)
+    (and_from (not (lacks_class least (list_of lists m) (list_of lists n))) _ (not_from_false _ (lacked_none least (list_of lists m) (list_of lists n) h.forth))
+    (not_from_false _ (lacked_none least (list_of lists n) (list_of lists m) (λ b there. let r = h.back b there in (r.0, r.1, sym r.2)))))
+
+pub like_trans : (lists : List (List ℕ)) (least : List ℕ) (a b c : ℕ) → Like lists least a b → Like lists least b c → Like lists least a c
+like_trans lists least a b c h k = record {
+  class = h.class ∙ k.class;
+  forth = λ x st. let f = h.forth x st in let e = k.forth f.0 f.1 in (e.0, e.1, f.2 ∙ e.2);
+  back = λ x st. let f = k.back x st in let e = h.back f.0 f.1 in (e.0, e.1, e.2 ∙ f.2);
+}
+
+pub alike_trans : (lists : List (List ℕ)) (least : List ℕ) (a b c : ℕ) → are_alike lists least a b ≡ true → are_alike lists least b c ≡ true → are_alike lists least a c ≡ true
+alike_trans lists least a b c h k = like_to lists least a c (like_trans lists least a b c (like_from lists least a b h) (like_from lists least b c k))
+
+pub alike_refl : (lists : List (List ℕ)) (least : List ℕ) (n : ℕ) → are_alike lists least n n ≡ true
+alike_refl lists least n = like_to lists least n n (record { class = refl; forth = λ x st. (x, st, refl); back = λ x st. (x, st, refl) })

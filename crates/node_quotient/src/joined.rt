@@ -1,0 +1,60 @@
+//! The search for nodes that nothing tells apart.
+ghost use Rattle.std.specs.Prelude.{◌≡◌, ◌≤◌, ◌<◌, ℕ, IfOk, length};
+ghost use Rattle.graph_base.specs.Refuting.{HasSingleSteps};
+ghost use Rattle.graph_base.specs.Graphs.{IsGraph, PlainGraph};
+ghost use Rattle.graph_base.specs.Runs.{has_step};
+ghost use Rattle.reach_prune.specs.Searches.{is_listed};
+ghost use Rattle.node_quotient.specs.Alike.{AreInside, class_in};
+ghost use Rattle.node_quotient.specs.Quotient.{AreLeast};
+ghost use Rattle.node_quotient.specs.Rounds.{AreClasses};
+
+use crate::first::first_classes;
+use crate::round::next_round;
+use graph_base::Graph;
+use net_base::List;
+use std::alloc::{AllocError, Global};
+
+/// For each node the least one that nothing tells apart from it, where `classes` are the first ones.
+pub fn settled_classes(
+    alloc: Global,
+    graph: &Graph,
+    lists: &[List<u32>],
+    classes: Vec<u32>,
+) -> Result<Vec<u32>, AllocError>
+    requires graph { IsGraph graph.now }
+    requires single { HasSingleSteps graph.now }
+    requires size { length lists.now ≡ length graph.now.nodes }
+    requires inside { AreInside lists.now (length graph.now.nodes) }
+    requires steps { (a b : ℕ) → is_listed lists.now a b ≡ has_step graph.now a b }
+    requires given { length classes.items ≡ length graph.now.nodes }
+    requires classes { AreClasses graph.now (class_in classes.items) }
+    ensures size { IfOk result (λ least. length least.items ≡ length graph.now.nodes) }
+    ensures least { IfOk result (λ least. AreLeast graph.now (class_in least.items)) }
+{
+    let mut least = classes;
+    let mut settled = false;
+    'rounds: while !settled {
+        let next = next_round(alloc, lists, &least)?;
+        settled = next == least;
+        least = next;
+    }
+    Ok(least)
+}
+
+/// For each node the least one that nothing tells apart from it; `lists` are its steps.
+pub fn least_joined(
+    alloc: Global,
+    graph: &Graph,
+    lists: &[List<u32>],
+) -> Result<Vec<u32>, AllocError>
+    requires graph { IsGraph graph.now }
+    requires single { HasSingleSteps graph.now }
+    requires size { length lists.now ≡ length graph.now.nodes }
+    requires inside { AreInside lists.now (length graph.now.nodes) }
+    requires steps { (a b : ℕ) → is_listed lists.now a b ≡ has_step graph.now a b }
+    ensures size { IfOk result (λ least. length least.items ≡ length graph.now.nodes) }
+    ensures least { IfOk result (λ least. AreLeast graph.now (class_in least.items)) }
+{
+    let classes = first_classes(alloc, graph)?;
+    settled_classes(alloc, graph, lists, classes)
+}

@@ -1,0 +1,31 @@
+//! One round of the search for nodes that nothing tells apart.
+ghost use Rattle.std.specs.Prelude.{◌≡◌, ◌<◌, ◌≤◌, ℕ, IfOk, length};
+ghost use Rattle.node_quotient.specs.Alike.{AreFirst, AreInside, class_in};
+
+use crate::alike::first_alike;
+use net_base::List;
+use reach_prune::empty_lists;
+use std::alloc::{AllocError, Global};
+
+/// For each node the first one that is alike.
+pub fn next_round(alloc: Global, lists: &[List<u32>], least: &[u32]) -> Result<Vec<u32>, AllocError>
+    requires size { length lists.now ≡ length least.now }
+    requires few { length least.now ≤ 4294967000 }
+    requires lists { AreInside lists.now (length least.now) }
+    requires classes { (n : ℕ) → n < length least.now → class_in least.now n < length least.now }
+    ensures { IfOk result (λ next. AreFirst lists.now least.now next.items) }
+{
+    let mut founders = empty_lists(alloc, least.len())?;
+    let mut next = Vec::new(alloc);
+    for node in 0..least.len() {
+        let class = least[node] as usize;
+        match first_alike(founders[class].as_slice(), lists, least, node as u32) {
+            Some(first) => next.push(first)?,
+            None => {
+                founders[class].push(node as u32)?;
+                next.push(node as u32)?;
+            }
+        }
+    }
+    Ok(next)
+}

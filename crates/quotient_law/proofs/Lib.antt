@@ -1,0 +1,5 @@
+pub mod Faith
+pub mod Led
+pub mod One
+pub mod Onto
+pub mod Reduced

@@ -1,0 +1,41 @@
+//! What the quotient of a graph says of walks, each law the contract of a function without a body.
+#![tactic(auto)]
+
+ghost use Rattle.std.specs.Prelude.{◌≡◌, ◌<◌, ℕ, Bool, length};
+ghost use Rattle.net_base.specs.Network.{PlainNet};
+ghost use Rattle.path_words.specs.Policies.{PlainStatement};
+ghost use Rattle.graph_base.specs.Graphs.{IsGraph, PlainGraph};
+ghost use Rattle.graph_base.specs.Rules.{IsWellFormed};
+ghost use Rattle.graph_base.specs.Walks.{IsEnteredFromBefore};
+ghost use Rattle.regret_law.specs.Faithful.{IsFaithful};
+ghost use Rattle.faithful_law.specs.Alike.{EndBoth};
+ghost use Rattle.node_quotient.specs.Quotient.{IsQuotient, IsReduced};
+
+/// The quotient of a faithful graph is faithful; and where each node that isn't a start is entered from one with a
+/// lesser number, that is so in the quotient.
+pub fn quotients_are_faithful()
+    ensures faithful { (net : PlainNet) (s : PlainStatement) (origin : ℕ → Bool) (external : Bool) (g q : PlainGraph) → IsGraph g → IsFaithful net s origin external g
+        → IsQuotient g q → IsFaithful net s origin external q }
+    ensures entered { (net : PlainNet) (s : PlainStatement) (origin : ℕ → Bool) (external : Bool) (g q : PlainGraph) → IsGraph g → IsFaithful net s origin external g
+        → IsQuotient g q → IsEnteredFromBefore g → IsEnteredFromBefore q }
+{}
+
+/// Any two nodes of one location in a quotient are told apart.
+pub fn quotients_are_reduced()
+    ensures { (net : PlainNet) (origin : ℕ → Bool) (external : Bool) (g q : PlainGraph) → IsGraph g → IsWellFormed net origin external g → IsQuotient g q → IsReduced q }
+{}
+
+/// A graph has one quotient, whose starts and steps name nodes.
+pub fn quotients_are_one()
+    ensures one { (g q p : PlainGraph) → IsGraph g → IsQuotient g q → IsQuotient g p → q ≡ p }
+    ensures graph { (g q : PlainGraph) → IsGraph g → IsQuotient g q → IsGraph q }
+{}
+
+/// Each faithful graph of a statement maps onto a faithful graph whose nodes are told apart: each of its nodes becomes
+/// one node there, by any path that ends in it.
+pub fn faithful_graphs_map_onto_reduced_ones()
+    ensures some { (net : PlainNet) (s : PlainStatement) (origin : ℕ → Bool) (external : Bool) (g q : PlainGraph) (a : ℕ) → IsGraph g → IsGraph q
+        → IsFaithful net s origin external g → IsFaithful net s origin external q → a < length g.nodes → (m : ℕ) × EndBoth g q a m }
+    ensures one { (net : PlainNet) (s : PlainStatement) (origin : ℕ → Bool) (external : Bool) (g q : PlainGraph) (a m n : ℕ) → IsGraph g → IsGraph q
+        → IsFaithful net s origin external g → IsFaithful net s origin external q → IsReduced q → EndBoth g q a m → EndBoth g q a n → m ≡ n }
+{}
