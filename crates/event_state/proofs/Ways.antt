@@ -22,7 +22,7 @@ place_link a b ls l h =
     let there : slice_get ls l ≡ Some one.0 = sym (find-position (joins a b) ls l h) ∙ one.1 in
     (one.0, there, (find_parts (joins a b) ls one.0 one.1).2, slice_get_within ls l one.0 there)
 
-ends : (a b : ℕ) (k : ℕ × ℕ) → joins a b k ≡ true → ((k.0 ≡ a) × (k.1 ≡ b)) ⊎ ((k.0 ≡ b) × (k.1 ≡ a))
+pub ends : (a b : ℕ) (k : ℕ × ℕ) → joins a b k ≡ true → ((k.0 ≡ a) × (k.1 ≡ b)) ⊎ ((k.0 ≡ b) × (k.1 ≡ a))
 ends a b k h = elim (or_cases (eqb k.0 a && eqb k.1 b) (eqb k.0 b && eqb k.1 a) h) [
   | inl e ↦ (let p = and_parts (eqb k.0 a) (eqb k.1 b) e in inl (eqb-true _ _ p.0, eqb-true _ _ p.1))
   | inr e ↦ (let p = and_parts (eqb k.0 b) (eqb k.1 a) e in inr (eqb-true _ _ p.0, eqb-true _ _ p.1))

@@ -6,8 +6,8 @@ use Rattle.std.specs.Option.{option_map_or}
 use Rattle.std.proofs.lemmas.List.{get_or_default, length-set}
 use Rattle.net_base.specs.Network.{PlainNet, IsNet}
 use Rattle.config_base.specs.declared.route.Route.{Route}
-use Rattle.event_base.specs.World.{Speakers, World, at, is, joins, with_cut, with_silent}
-use Rattle.event_state.specs.Changes.{forgotten, with_heard, with_mark, with_queue, with_queued, with_route}
+use Rattle.event_base.specs.World.{World, at, is}
+use Rattle.event_state.specs.Changes.{with_cut_way, with_heard, with_mark, with_queue, with_queued, with_route, with_silence}
 use Rattle.event_state.specs.Directions.{at_direction, direction}
 use Rattle.event_state.specs.States.{state_of}
 use Rattle.event_state.proofs.Ways.{set_other, set_same, written}
@@ -29,8 +29,8 @@ module _ (net : PlainNet) (rules : IsNet net) (down : List Bool) (routes : List 
   pub route_written : (r : ℕ) (h : Option Route) → r < length routes → state_of net down (slice_set routes r h) cut silent queues heard queued ≡ with_route r h before
   route_written r h less = λ i. record { down = before.down; cut = before.cut; silent = before.silent; queue = before.queue; heard = before.heard; queued = before.queued; route = λ x. at_place routes r h None less x i }
 
-  pub silent_written : (S : Speakers Route) (a b d : ℕ) (v : Bool) → direction net a b ≡ Some d → d < length silent → state_of net down routes cut (slice_set silent d v) queues heard queued ≡ with_silent S a b v before
-  silent_written S a b d v at less = λ i. record { down = before.down; cut = before.cut; silent = λ x y. written net rules silent false v a b d at less x y i; queue = before.queue; heard = before.heard; queued = before.queued; route = before.route }
+  pub silent_written : (a b d : ℕ) (v : Bool) → direction net a b ≡ Some d → d < length silent → state_of net down routes cut (slice_set silent d v) queues heard queued ≡ with_silence a b v before
+  silent_written a b d v at less = λ i. record { down = before.down; cut = before.cut; silent = λ x y. written net rules silent false v a b d at less x y i; queue = before.queue; heard = before.heard; queued = before.queued; route = before.route }
 
   pub queue_written : (a b d : ℕ) (ms : List (Option Route)) → direction net a b ≡ Some d → d < length queues → state_of net down routes cut silent (slice_set queues d ms) heard queued ≡ with_queue a b ms before
   queue_written a b d ms at less = λ i. record { down = before.down; cut = before.cut; silent = before.silent; queue = λ x y. written net rules queues [] ms a b d at less x y i; heard = before.heard; queued = before.queued; route = before.route }
@@ -41,26 +41,8 @@ module _ (net : PlainNet) (rules : IsNet net) (down : List Bool) (routes : List 
   pub queued_written : (a b d : ℕ) (m : Option Route) → direction net a b ≡ Some d → d < length queued → state_of net down routes cut silent queues heard (slice_set queued d m) ≡ with_queued a b m before
   queued_written a b d m at less = λ i. record { down = before.down; cut = before.cut; silent = before.silent; queue = before.queue; heard = before.heard; queued = λ x y. written net rules queued None m a b d at less x y i; route = before.route }
 
-  -- a mark is written both ways
-  either_way : (v old : Bool) (c d : Bool) → (if d then v else (if c then v else old)) ≡ (if c || d then v else old)
-  either_way v old true true = refl
-  either_way v old true false = refl
-  either_way v old false true = refl
-  either_way v old false false = refl
-
-  pub cut_written : (S : Speakers Route) (a b d e : ℕ) (v : Bool) → direction net a b ≡ Some d → direction net b a ≡ Some e → d < length cut → e < length cut
-      → state_of net down routes (slice_set (slice_set cut d v) e v) silent queues heard queued ≡ with_cut S a b v before
-  cut_written S a b d e v there back less below = λ i. record { down = before.down; cut = λ x y. both x y i; silent = before.silent; queue = before.queue; heard = before.heard; queued = before.queued; route = before.route }
-    where
-      both : (x y : ℕ) → at_direction net (slice_set (slice_set cut d v) e v) false x y ≡ (if joins a b x y then v else at_direction net cut false x y)
-      both x y =
-          written net rules (slice_set cut d v) false v b a e back (let long = length-set cut d v in omega (arith, below, long)) x y
-          ∙ ap (λ z. if is b a x y then v else z) (written net rules cut false v a b d there less x y)
-          ∙ either_way v (at_direction net cut false x y) (is a b x y) (is b a x y)
-
-  pub forgotten_written : (a b d : ℕ) → direction net a b ≡ Some d → d < length queues → d < length heard → d < length queued
-      → state_of net down routes cut silent (slice_set queues d []) (slice_set heard d None) (slice_set queued d None) ≡ forgotten a b before
-  forgotten_written a b d at one two three = λ i. record { down = before.down; cut = before.cut; silent = before.silent; queue = λ x y. written net rules queues [] [] a b d at one x y i; heard = λ x y. written net rules heard None None a b d at two x y i; queued = λ x y. written net rules queued None None a b d at three x y i; route = before.route }
+  pub cut_written : (a b d : ℕ) (v : Bool) → direction net a b ≡ Some d → d < length cut → state_of net down routes (slice_set cut d v) silent queues heard queued ≡ with_cut_way a b v before
+  cut_written a b d v at less = λ i. record { down = before.down; cut = λ x y. written net rules cut false v a b d at less x y i; silent = before.silent; queue = before.queue; heard = before.heard; queued = before.queued; route = before.route }
 
 -- what stands for the direction from a to b, by its number
 pub at_way : {A : Type 0} (net : PlainNet) (xs : List A) (nothing held : A) (a b d : ℕ) → direction net a b ≡ Some d → d < length xs → held ≡ get_or xs d held → held ≡ at_direction net xs nothing a b

@@ -15,10 +15,6 @@ with_heard a b m w = record { down = w.down; cut = w.cut; silent = w.silent; que
 abbrev pub with_queued : ℕ → ℕ → Option Route → World Route → World Route
 with_queued a b m w = record { down = w.down; cut = w.cut; silent = w.silent; queue = w.queue; heard = w.heard; queued = λ x y. if is a b x y then m else w.queued x y; route = w.route }
 
--- nothing waits from a to b, and nothing was heard or queued there
-abbrev pub forgotten : ℕ → ℕ → World Route → World Route
-forgotten a b w = with_queue a b [] (with_heard a b None (with_queued a b None w))
-
 -- what r holds
 abbrev pub with_route : ℕ → Option Route → World Route → World Route
 with_route r h w = record { down = w.down; cut = w.cut; silent = w.silent; queue = w.queue; heard = w.heard; queued = w.queued; route = λ x. if at r x then h else w.route x }
@@ -26,3 +22,11 @@ with_route r h w = record { down = w.down; cut = w.cut; silent = w.silent; queue
 -- whether r is down
 abbrev pub with_mark : ℕ → Bool → World Route → World Route
 with_mark r v w = record { down = λ x. if at r x then v else w.down x; cut = w.cut; silent = w.silent; queue = w.queue; heard = w.heard; queued = w.queued; route = w.route }
+
+-- whether the direction from a to b is down
+abbrev pub with_cut_way : ℕ → ℕ → Bool → World Route → World Route
+with_cut_way a b v w = record { down = w.down; cut = λ x y. if is a b x y then v else w.cut x y; silent = w.silent; queue = w.queue; heard = w.heard; queued = w.queued; route = w.route }
+
+-- whether the peer p is silent towards r
+abbrev pub with_silence : ℕ → ℕ → Bool → World Route → World Route
+with_silence r p v w = record { down = w.down; cut = w.cut; silent = λ x y. if is r p x y then v else w.silent x y; queue = w.queue; heard = w.heard; queued = w.queued; route = w.route }

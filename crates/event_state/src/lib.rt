@@ -1,10 +1,13 @@
 //! The world of the events on a configured network, kept by the directions of its links: what is asked of it.
 #![tactic(auto)]
 
+mod choosing;
 mod directions;
 mod faults;
 mod making;
+mod near;
 mod queue;
+mod quiet;
 mod sending;
 mod world;
 mod writes;

@@ -1,9 +1,9 @@
 //! The world before any event.
 ghost use Rattle.std.specs.Prelude.{◌≡◌, IfOk, None, [], false, replicate};
 ghost use Rattle.path_words.specs.Policies.{policy_of};
-ghost use Rattle.event_base.specs.Speaking.{speakers_of};
-ghost use Rattle.event_state.specs.States.{blank, speakers, state};
+ghost use Rattle.event_state.specs.States.{blank, setting, state};
 
+use crate::near::all_neighbours;
 use crate::queue::Queue;
 use crate::world::World;
 use config_base::{Config, Route, class_of};
@@ -51,7 +51,7 @@ impl<'a> World<'a> {
         prefix: Prefix,
     ) -> Result<World<'a>, AllocError>
         ensures state { IfOk result (λ world. state world ≡ blank) }
-        ensures speakers { IfOk result (λ world. speakers world ≡ speakers_of net.now (policy_of policy.now) config.now prefix) }
+        ensures setting { IfOk result (λ world. setting world ≡ (net.now, policy_of policy.now, config.now, prefix)) }
     {
         let locations = net.routers().len() + net.peers().len();
         let directions = net.links().len() + net.links().len();
@@ -61,6 +61,7 @@ impl<'a> World<'a> {
             config,
             prefix,
             class: class_of(config, prefix),
+            near: all_neighbours(alloc, net)?,
             down: marks(alloc, locations)?,
             routes: no_routes(alloc, locations)?,
             cut: marks(alloc, directions)?,

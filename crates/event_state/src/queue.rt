@@ -1,7 +1,7 @@
 //! Messages that wait.
 ghost use Rattle.std.specs.Prelude.{◌≡◌, ◌↔◌, ◌++◌, ◌∷◌, [], List, Option, None, IfOk, IsTrue, OnOk, OnErr, drop, slice_index_or};
 ghost use Rattle.config_base.specs.declared.route.Route.{Route as PlainRoute};
-ghost use Rattle.event_state.specs.Idle.{is_idle};
+ghost use Rattle.event_state.specs.Idle.{is_idle, without_last};
 ghost use Rattle.event_base.specs.Steps.{unless_waiting};
 
 use config_base::Route;
@@ -76,18 +76,11 @@ impl Queue {
         }
     }
 
-    /// Takes the last message back.
+    /// Takes the last message back, if one waits.
     pub fn take_back(&mut self)
-        ensures { (m : Option PlainRoute) (first : List (Option PlainRoute)) → self.old ≡ first ++ m ∷ [] → self.new ≡ first }
+        ensures { self.new ≡ without_last self.old }
     {
         self.messages.pop_back();
-    }
-
-    /// Takes all messages out.
-    pub fn clear(&mut self)
-        ensures { self.new ≡ [] }
-    {
-        self.messages.clear();
     }
 
     /// Whether nothing waits.

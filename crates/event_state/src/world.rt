@@ -1,5 +1,7 @@
 //! The world of the events on a configured network.
-ghost use Rattle.std.specs.Prelude.{◌≡◌, ◌↔◌, ◌&&◌, not, option_map, slice_index_or, IsTrue, []};
+ghost use Rattle.std.specs.Prelude.{◌≡◌, ◌↔◌, ◌&&◌, not, map, option_map, slice_index_or, IsTrue, []};
+ghost use Rattle.net_base.specs.Locations.{in_order, neighbours};
+ghost use Rattle.net_base.specs.Network.{is_location};
 ghost use Rattle.config_base.specs.Lines.{class_of};
 ghost use Rattle.event_state.specs.Idle.{is_idle as is_idle_queue};
 ghost use Rattle.event_state.specs.Sizes.{IsByDirection, IsByLocation};
@@ -7,7 +9,7 @@ ghost use Rattle.event_state.specs.Sizes.{IsByDirection, IsByLocation};
 use crate::directions::{direction, mark, mark_at, route, route_at};
 use crate::queue::Queue;
 use config_base::{Config, Route};
-use net_base::{Loc, Net, Prefix};
+use net_base::{List, Loc, Net, Prefix};
 use path_words::Policy;
 
 /// A network under a policy's configuration, for one prefix, and how it stands: what is down, cut and silent, which
@@ -19,6 +21,7 @@ pub struct World<'a> {
     pub(crate) config: &'a Config,
     pub(crate) prefix: Prefix,
     pub(crate) class: Option<u32>,
+    pub(crate) near: Vec<List<Loc>>,
     pub(crate) down: Vec<bool>,
     pub(crate) routes: Vec<Option<Route>>,
     pub(crate) cut: Vec<bool>,
@@ -27,6 +30,7 @@ pub struct World<'a> {
     pub(crate) heard: Vec<Option<Route>>,
     pub(crate) queued: Vec<Option<Route>>,
     ghost of_class: { class ≡ class_of config.now prefix },
+    ghost of_near: { near.items ≡ map (neighbours net.now) (in_order net.now) },
     ghost by_location: { IsByLocation net.now down.items × IsByLocation net.now routes.items },
     ghost by_direction: { IsByDirection net.now cut.items × IsByDirection net.now silent.items × IsByDirection net.now queues.items × IsByDirection net.now heard.items × IsByDirection net.now queued.items },
 }
@@ -117,6 +121,14 @@ impl<'a> World<'a> {
             None => true,
             Some(place) => is_idle_at(self.queues.as_slice(), place),
         }
+    }
+
+    /// The locations to which a location is linked, in order.
+    pub fn neighbours(&self, at: Loc) -> &[Loc]
+        requires { IsTrue (is_location self.now.net.now at) }
+        ensures { result.now ≡ neighbours self.now.net.now at }
+    {
+        self.near[at.number() as usize].as_slice()
     }
 
     /// The network.

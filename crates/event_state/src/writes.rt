@@ -2,11 +2,12 @@
 ghost use Rattle.std.specs.Prelude.{◌≡◌, ◌++◌, ◌∷◌, [], List, Option, IfOk, OnOk, OnErr, IsTrue, drop};
 ghost use Rattle.net_base.specs.Network.{is_location, linked};
 ghost use Rattle.config_base.specs.declared.route.Route.{Route as PlainRoute};
-ghost use Rattle.event_base.specs.World.{with_cut, with_silent};
-ghost use Rattle.event_state.specs.Changes.{forgotten, with_heard, with_mark, with_queue, with_queued, with_route};
-ghost use Rattle.event_state.specs.States.{setting, speakers, state};
+ghost use Rattle.event_state.specs.Changes.{with_cut_way, with_heard, with_mark, with_queue, with_queued, with_route, with_silence};
+ghost use Rattle.event_state.specs.Idle.{without_last};
+ghost use Rattle.event_state.specs.States.{setting, state};
 
 use crate::directions::{direction, way};
+use crate::queue::Queue;
 use crate::world::World;
 use config_base::Route;
 use net_base::Loc;
@@ -33,23 +34,20 @@ impl<'a> World<'a> {
         swap(&mut self.routes[at.number() as usize], route);
     }
 
-    /// Sets whether the link of two locations is down.
-    #[tactic(auto, using(crate::proofs::Ways::linked_back))]
-    pub fn set_cut(&mut self, a: Loc, b: Loc, cut: bool)
-        requires { IsTrue (linked self.old.net.now a b) }
-        ensures world { state self.new ≡ (with_cut (speakers self.old) a b cut (state self.old)) }
+    /// Sets whether a link is down from one end to the other. Both directions of a link are set in one event.
+    pub fn set_cut(&mut self, from: Loc, to: Loc, cut: bool)
+        requires { IsTrue (linked self.old.net.now from to) }
+        ensures world { state self.new ≡ (with_cut_way from to cut (state self.old)) }
         ensures setting { setting self.new ≡ setting self.old }
     {
-        let there = way(self.net, a, b);
-        let back = way(self.net, b, a);
-        self.cut[there] = cut;
-        self.cut[back] = cut;
+        let place = way(self.net, from, to);
+        self.cut[place] = cut;
     }
 
     /// Sets whether the session of a router and a peer is silent.
     pub fn set_silent(&mut self, router: Loc, peer: Loc, silent: bool)
         requires { IsTrue (linked self.old.net.now router peer) }
-        ensures world { state self.new ≡ (with_silent (speakers self.old) router peer silent (state self.old)) }
+        ensures world { state self.new ≡ (with_silence router peer silent (state self.old)) }
         ensures setting { setting self.new ≡ setting self.old }
     {
         let place = way(self.net, router, peer);
@@ -67,14 +65,26 @@ impl<'a> World<'a> {
         swap(&mut self.heard[place], message);
     }
 
-    /// Notes what one end of a session last queued to the other.
-    pub fn note(&mut self, from: Loc, to: Loc, message: Option<Route>)
+    /// Exchanges what one end of a session last queued to the other with something else.
+    pub fn swap_queued(&mut self, from: Loc, to: Loc, message: &mut Option<Route>)
         requires { IsTrue (linked self.old.net.now from to) }
-        ensures world { state self.new ≡ (with_queued from to message (state self.old)) }
+        ensures world { state self.new ≡ (with_queued from to message.old (state self.old)) }
         ensures setting { setting self.new ≡ setting self.old }
+        ensures message { message.new ≡ (state self.old).queued from to }
     {
         let place = way(self.net, from, to);
-        self.queued[place] = message;
+        swap(&mut self.queued[place], message);
+    }
+
+    /// Exchanges what waits from one end of a session to the other with other messages.
+    pub fn swap_queue(&mut self, from: Loc, to: Loc, queue: &mut Queue)
+        requires { IsTrue (linked self.old.net.now from to) }
+        ensures world { state self.new ≡ (with_queue from to queue.old (state self.old)) }
+        ensures setting { setting self.new ≡ setting self.old }
+        ensures queue { queue.new ≡ (state self.old).queue from to }
+    {
+        let place = way(self.net, from, to);
+        swap(&mut self.queues[place], queue);
     }
 
     /// A copy of the first message of a queue in which something waits.
@@ -108,25 +118,13 @@ impl<'a> World<'a> {
         self.queues[place].pop();
     }
 
-    /// Takes the last message out of a queue in which something waits.
+    /// Takes the last message out of a queue, if one waits.
     pub fn take_back(&mut self, from: Loc, to: Loc)
         requires { IsTrue (linked self.old.net.now from to) }
-        ensures world { (m : Option PlainRoute) (first : List (Option PlainRoute)) → (state self.old).queue from to ≡ first ++ m ∷ [] → state self.new ≡ (with_queue from to first (state self.old)) }
+        ensures world { state self.new ≡ (with_queue from to (without_last ((state self.old).queue from to)) (state self.old)) }
         ensures setting { setting self.new ≡ setting self.old }
     {
         let place = way(self.net, from, to);
         self.queues[place].take_back();
-    }
-
-    /// Empties a queue, and forgets what was heard and last queued there.
-    pub fn forget(&mut self, from: Loc, to: Loc)
-        requires { IsTrue (linked self.old.net.now from to) }
-        ensures world { state self.new ≡ (forgotten from to (state self.old)) }
-        ensures setting { setting self.new ≡ setting self.old }
-    {
-        let place = way(self.net, from, to);
-        self.queues[place].clear();
-        self.heard[place] = None;
-        self.queued[place] = None;
     }
 }

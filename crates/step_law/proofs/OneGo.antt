@@ -19,7 +19,7 @@ module _ {R : Type 0} (net : Speakers R) where
   never false = refl
 
   -- at once, and nothing further
-  settled_alone : (p : ℕ → Bool) (w : World R) → at_once net p w ≡ settled net p (nowhere net) w
+  pub settled_alone : (p : ℕ → Bool) (w : World R) → at_once net p w ≡ settled net p (nowhere net) w
   settled_alone p w = ap (λ (q : ℕ → ℕ → Bool). tell net q (with_choices net p w)) (λ i a b. or_nothing (p a) i)
 
   -- ---- what is forgotten on dead sessions might as well be forgotten in the end
@@ -105,7 +105,7 @@ module _ {R : Type 0} (net : Speakers R) where
     noted_once c d true true o s h = rw (never c) (rw h (rw (never d) (rw (never (c || d)) refl)))
     noted_once false d true false o s h = rw h refl
 
-    told_once : tell net q (tell net p w) ≡ tell net (λ a b. p a b || q a b) w
+    pub told_once : tell net q (tell net p w) ≡ tell net (λ a b. p a b || q a b) w
     told_once = λ i. record {
       down = w.down;
       cut = w.cut;

@@ -1,0 +1,25 @@
+use Rattle.std.proofs.Common.{◌≡◌, true, length, ap, ◌∙◌, arith, rules, tests}
+use Rattle.std.proofs.lemmas.Bool.{lt-ltb}
+use Rattle.net_base.specs.Network.{is_router}
+use Rattle.event_base.specs.World.{with_choice}
+use Rattle.event_state.specs.States.{speakers, state}
+use Rattle.event_core.proofs.Loops.{same_speakers}
+use Rattle.event_core.proofs.Opened.{opened_next}
+use Rattle.event_core.proofs.start.choose_all.Goals as goal
+
+pub loop-number-preserved : goal.loop-number-preserved
+loop-number-preserved c =
+    let w = c.args.world.now in
+    let n = c.loop-number.number in
+    let same = c.loop-number.invariant.setting in
+    let long : length c.routers-number-end.result.now ≡ length w.net.now.routers = ap length c.routers-number-end.ensures.routers ∙ ap (λ net. length net.routers) c.net.ensures in
+    let up : is_router w.net.now n ≡ true = lt-ltb n (length w.net.now.routers) (omega (arith, long, c.loop-number-test.true)) in
+    record {
+      setting = c.choose.ensures.follows.setting ∙ same;
+      done =
+          c.in_ok-choose.ensures.ok
+          ∙ ap (λ T. with_choice T c.new.result (state c.loop-number.world)) (same_speakers c.loop-number.world w same)
+          ∙ ap (λ k. with_choice (speakers w) k (state c.loop-number.world)) (search (rules, tests))
+          ∙ ap (with_choice (speakers w) n) c.loop-number.invariant.done
+          ∙ opened_next (speakers w) n up;
+    }

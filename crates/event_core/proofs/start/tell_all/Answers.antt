@@ -1,0 +1,32 @@
+use Rattle.std.proofs.Common.{◌≡◌, ◌+◌, ◌<◌, length, ap, ◌∙◌, arith, rules, tests}
+use Rattle.std.proofs.lemmas.Bool.{lt-ltb, ltb-true}
+use Rattle.event_base.specs.World.{at, tell}
+use Rattle.event_state.specs.States.{speakers, state}
+use Rattle.event_core.proofs.Loops.{same_speakers}
+use Rattle.event_core.proofs.Opened.{told_below_next, told_everywhere}
+use Rattle.event_core.proofs.Steps.{same_as_itself}
+use Rattle.event_core.proofs.start.tell_all.Goals as goal
+
+pub loop-number-preserved : goal.loop-number-preserved
+loop-number-preserved c =
+    let w = c.args.world.now in
+    let n = c.loop-number.number in
+    let same = c.loop-number.invariant.setting in
+    record {
+      setting = c.tell_out.ensures.follows.setting ∙ same;
+      done =
+          c.in_ok-tell_out.ensures.ok
+          ∙ ap (λ T. tell T (λ a b. at c.new.result a) (state c.loop-number.world)) (same_speakers c.loop-number.world w same)
+          ∙ ap (λ k. tell (speakers w) (λ a b. at k a) (state c.loop-number.world)) (search (rules, tests))
+          ∙ ap (tell (speakers w) (λ a b. at n a)) c.loop-number.invariant.done
+          ∙ told_below_next (speakers w) same_as_itself n (state w);
+    }
+
+pub returns-clause-ok : goal.returns-clause-ok
+returns-clause-ok c =
+    let w = c.args.world.now in
+    let n = c.loop-number.number in
+    let routers : length c.routers.result.now ≡ length w.net.now.routers = ap length c.routers.ensures.routers ∙ ap (λ net. length net.routers) c.net.ensures in
+    let peers : length c.peers.result.now ≡ length w.net.now.peers = ap length c.peers.ensures.peers ∙ ap (λ net. length net.peers) c.net-2.ensures in
+    c.loop-number.invariant.done
+    ∙ told_everywhere w c.known_net.ensures n (λ a h. let below : a < length w.net.now.routers + length w.net.now.peers = ltb-true a (length w.net.now.routers + length w.net.now.peers) h in lt-ltb a n (omega (arith, routers, peers, below, c.loop-number-test.false))) (state w)
