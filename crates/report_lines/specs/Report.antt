@@ -1,5 +1,5 @@
 -- The report of an outcome.
-use Rattle.std.specs.Prelude.{◌≡◌, ℕ, List, option_map}
+use Rattle.std.specs.Prelude.{◌≡◌, ◌++◌, ℕ, List, option_map}
 use Rattle.net_base.specs.Network.{PlainNet}
 use Rattle.net_base.specs.Prefixes.{PlainPrefix}
 use Rattle.path_words.specs.Policies.{PlainPolicy}
@@ -22,6 +22,10 @@ pub record IsReport (net : PlainNet) (policy : PlainPolicy) (config : PlainConfi
   pub sources : Sources
   pub claimed : AreClaimed net policy p sources
   pub spelled : text ≡ report_text net policy config p sources shown
+
+-- What was written before, and then a report.
+abbrev pub AddsReport : PlainNet → PlainPolicy → PlainConfig → PlainPrefix → Shown → List ℕ → List ℕ → Type 0
+AddsReport net policy config p shown old new = (text : List ℕ) × IsReport net policy config p shown text × (new ≡ old ++ text)
 
 -- The text is the report of an outcome.
 abbrev pub IsReportOf : PlainNet → PlainPolicy → PlainConfig → Failures → PlainPrefix → Outcome → List ℕ → Type 0

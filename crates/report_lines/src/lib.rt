@@ -7,8 +7,12 @@ pub mod laws;
 mod lines;
 mod marks;
 mod reporting;
+mod scene;
+mod shown;
 mod situation;
 
 pub use claims::{Claims, claims_of};
 pub use lines::{push_head, push_held, push_next, push_offer};
-pub use reporting::report;
+pub use reporting::{push_report, report};
+pub use scene::Scene;
+pub use shown::with_front;

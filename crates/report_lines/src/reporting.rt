@@ -10,88 +10,96 @@ ghost use Rattle.regret_law.specs.Passes.{Passes};
 ghost use Rattle.stable_paths.specs.Scenarios.{failures_of};
 ghost use Rattle.report_lines.specs.Claims.{sources_of, statement_in};
 ghost use Rattle.report_lines.specs.Lines.{offer_text, router_line, session_line, state_text};
-ghost use Rattle.report_lines.specs.Report.{IsReportOf};
-ghost use Rattle.report_lines.specs.Situations.{IsSituation, shown_in};
+ghost use Rattle.report_lines.specs.Report.{AddsReport, IsReportOf};
 
 use crate::claims::{Claims, claims_of};
 use crate::lines::{push_head, push_held, push_next, push_offer};
+use crate::scene::Scene;
 use crate::situation::Situation;
-use config_base::Config;
+use config_base::{Config, class_of};
 use evidence_base::Evidence;
-use net_base::{Loc, Net};
+use net_base::{Loc, Net, Prefix};
 use outside::NoMemory;
 use path_words::{Policy, is_origin};
 use stable_paths::{Outcome, Scenario};
 use std::alloc::Global;
 use text_words::push_bytes;
 
+/// Of what a report is: a prefix on a network under a policy, and the sources that are claimed for it.
+#[derive(Drop)]
+struct Subject<'a> {
+    net: &'a Net,
+    policy: &'a Policy,
+    prefix: Prefix,
+    claims: Claims<'a>,
+}
+
 /// Adds what a router has: that it is dead, an origin, without a route, or its path.
-fn push_state(
+fn push_state<S: Scene>(
     text: &mut Vec<u8>,
-    claims: &Claims<'_>,
-    situation: &Situation<'_>,
+    subject: &Subject<'_>,
+    scene: &S,
     at: Loc,
 ) -> Result<(), NoMemory>
-    requires { ForSome (statement_in claims.now) (λ s. alternative_count s.ranked ≤ ALTERNATIVES) }
-    ensures { OnOk result (text.new.items ≡ text.old.items ++ state_text situation.now.net.now (policy_of situation.now.policy.now) situation.now.scenario.now.prefix (statement_in claims.now) (sources_of claims.now) (shown_in situation.now) at) }
+    requires { ForSome (statement_in subject.now.claims) (λ s. alternative_count s.ranked ≤ ALTERNATIVES) }
+    ensures { OnOk result (text.new.items ≡ text.old.items ++ state_text subject.now.net.now (policy_of subject.now.policy.now) subject.now.prefix (statement_in subject.now.claims) (sources_of subject.now.claims) (S.shown scene.now) at) }
 {
-    let scenario = situation.scenario;
-    if scenario.is_dead(at) {
+    if scene.is_dead(at) {
         return push_bytes(text, b" dead");
     }
-    if is_origin(situation.net, situation.policy, scenario.prefix, at) {
+    if is_origin(subject.net, subject.policy, subject.prefix, at) {
         return push_bytes(text, b" origin");
     }
-    match situation.outcome.route_at(at) {
+    match scene.path(at) {
         None => push_bytes(text, b" none"),
-        Some(route) => push_held(text, situation.net, claims, at, route.path.as_slice()),
+        Some(path) => push_held(text, subject.net, &subject.claims, at, path),
     }
 }
 
 /// Adds the line of a router.
 #[tactic(auto, unfolding(crate::specs::Lines::router_line))]
-fn push_router(
+fn push_router<S: Scene>(
     text: &mut Vec<u8>,
-    claims: &Claims<'_>,
-    situation: &Situation<'_>,
+    subject: &Subject<'_>,
+    scene: &S,
     at: Loc,
 ) -> Result<(), NoMemory>
-    requires { ForSome (statement_in claims.now) (λ s. alternative_count s.ranked ≤ ALTERNATIVES) }
-    ensures { OnOk result (text.new.items ≡ text.old.items ++ router_line situation.now.net.now (policy_of situation.now.policy.now) situation.now.scenario.now.prefix (statement_in claims.now) (sources_of claims.now) (shown_in situation.now) at) }
+    requires { ForSome (statement_in subject.now.claims) (λ s. alternative_count s.ranked ≤ ALTERNATIVES) }
+    ensures { OnOk result (text.new.items ≡ text.old.items ++ router_line subject.now.net.now (policy_of subject.now.policy.now) subject.now.prefix (statement_in subject.now.claims) (sources_of subject.now.claims) (S.shown scene.now) at) }
 {
     push_bytes(text, b"router")?;
-    push_next(text, situation.net, at)?;
-    push_state(text, claims, situation, at)?;
+    push_next(text, subject.net, at)?;
+    push_state(text, subject, scene, at)?;
     push_bytes(text, b"\n")
 }
 
 /// Adds the lines of the routers.
-fn push_routers(
+fn push_routers<S: Scene>(
     text: &mut Vec<u8>,
-    claims: &Claims<'_>,
-    situation: &Situation<'_>,
+    subject: &Subject<'_>,
+    scene: &S,
 ) -> Result<(), NoMemory>
-    requires { ForSome (statement_in claims.now) (λ s. alternative_count s.ranked ≤ ALTERNATIVES) }
+    requires { ForSome (statement_in subject.now.claims) (λ s. alternative_count s.ranked ≤ ALTERNATIVES) }
     ensures { OnOk result (text.new.items ≡ text.old.items
-        ++ flat_map (router_line situation.now.net.now (policy_of situation.now.policy.now) situation.now.scenario.now.prefix (statement_in claims.now) (sources_of claims.now) (shown_in situation.now)) (numbers_below (length situation.now.net.now.routers))) }
+        ++ flat_map (router_line subject.now.net.now (policy_of subject.now.policy.now) subject.now.prefix (statement_in subject.now.claims) (sources_of subject.now.claims) (S.shown scene.now)) (numbers_below (length subject.now.net.now.routers))) }
 {
-    for place in 0..situation.net.routers().len() {
-        push_router(text, claims, situation, Loc::new(place as u16))?;
+    for place in 0..subject.net.routers().len() {
+        push_router(text, subject, scene, Loc::new(place as u16))?;
     }
     Ok(())
 }
 
-/// Adds what a peer is offered.
-fn push_offered(
+/// Adds the path that is told of a session.
+fn push_told(
     text: &mut Vec<u8>,
     net: &Net,
     claims: &Claims<'_>,
-    offer: &Option<Vec<Loc>>,
+    path: &Option<Vec<Loc>>,
 ) -> Result<(), NoMemory>
     requires { ForSome (statement_in claims.now) (λ s. alternative_count s.ranked ≤ ALTERNATIVES) }
-    ensures { OnOk result (text.new.items ≡ text.old.items ++ offer_text net.now (statement_in claims.now) (option_map (λ v. v.items) offer.now)) }
+    ensures { OnOk result (text.new.items ≡ text.old.items ++ offer_text net.now (statement_in claims.now) (option_map (λ v. v.items) path.now)) }
 {
-    match offer {
+    match path {
         None => push_bytes(text, b" none"),
         Some(path) => push_offer(text, net, claims, path),
     }
@@ -99,47 +107,73 @@ fn push_offered(
 
 /// Adds the line of a session of a router and a peer.
 #[tactic(auto, unfolding(crate::specs::Lines::session_line))]
-fn push_session(
+fn push_session<S: Scene>(
     alloc: Global,
     text: &mut Vec<u8>,
-    claims: &Claims<'_>,
-    situation: &Situation<'_>,
+    subject: &Subject<'_>,
+    scene: &S,
     session: (Loc, Loc),
 ) -> Result<(), NoMemory>
-    requires limits { ForSome (statement_in claims.now) (λ s. alternative_count s.ranked ≤ ALTERNATIVES) }
-    requires situation { IsSituation situation.now }
-    ensures { OnOk result (text.new.items ≡ text.old.items ++ session_line situation.now.net.now (statement_in claims.now) (shown_in situation.now) session) }
+    requires { ForSome (statement_in subject.now.claims) (λ s. alternative_count s.ranked ≤ ALTERNATIVES) }
+    ensures { OnOk result (text.new.items ≡ text.old.items ++ session_line subject.now.net.now (statement_in subject.now.claims) (S.shown scene.now) session) }
 {
     let (router, peer) = session;
-    let offer = situation.offer(alloc, router, peer)?;
+    let path = scene.offer(alloc, router, peer)?;
     push_bytes(text, b"session")?;
-    push_next(text, situation.net, router)?;
-    push_next(text, situation.net, peer)?;
-    push_offered(text, situation.net, claims, &offer)?;
+    push_next(text, subject.net, router)?;
+    push_next(text, subject.net, peer)?;
+    push_told(text, subject.net, &subject.claims, &path)?;
     push_bytes(text, b"\n")
 }
 
 /// Adds the lines of the claimed sessions.
-fn push_sessions(
+fn push_sessions<S: Scene>(
     alloc: Global,
     text: &mut Vec<u8>,
-    claims: &Claims<'_>,
-    situation: &Situation<'_>,
+    subject: &Subject<'_>,
+    scene: &S,
 ) -> Result<(), NoMemory>
-    requires limits { ForSome (statement_in claims.now) (λ s. alternative_count s.ranked ≤ ALTERNATIVES) }
-    requires situation { IsSituation situation.now }
-    ensures { OnOk result (text.new.items ≡ text.old.items ++ flat_map (session_line situation.now.net.now (statement_in claims.now) (shown_in situation.now)) claims.now.sessions) }
+    requires { ForSome (statement_in subject.now.claims) (λ s. alternative_count s.ranked ≤ ALTERNATIVES) }
+    ensures { OnOk result (text.new.items ≡ text.old.items ++ flat_map (session_line subject.now.net.now (statement_in subject.now.claims) (S.shown scene.now)) subject.now.claims.sessions) }
 {
-    for session in claims.sessions.as_slice() {
-        push_session(alloc, text, claims, situation, *session)?;
+    for session in subject.claims.sessions.as_slice() {
+        push_session(alloc, text, subject, scene, *session)?;
     }
     Ok(())
 }
 
-/// The report of an outcome for the prefix of a scenario: the prefix, its class in the configuration, a line for each router in order
-/// of location, and a line for each session that the policy claims, by router and then by peer. A router is told as dead, else as an
-/// origin, else by its path: with its rank where the policy claims the router and the path has one, and else as transit. A session is
-/// told with the path that its peer is offered, where that has a rank.
+/// Adds the report of a scene for a prefix: the prefix, its class in the configuration, a line for each router in order of location, and
+/// a line for each session that the policy claims, by router and then by peer. A router is told as dead, else as an origin, else by its
+/// path: with its rank where the policy claims the router and the path has one, and else as transit. A session is told with its path,
+/// where that has a rank.
+pub fn push_report<S: Scene>(
+    alloc: Global,
+    text: &mut Vec<u8>,
+    net: &Net,
+    policy: &Policy,
+    config: &Config,
+    evidence: &Evidence,
+    prefix: Prefix,
+    scene: &S,
+) -> Result<(), NoMemory>
+    requires fits { IsPolicyOf net.now (policy_of policy.now) }
+    requires passes { Passes net.now (policy_of policy.now) config.now evidence.now.cases }
+    ensures { OnOk result (AddsReport net.now (policy_of policy.now) config.now prefix (S.shown scene.now) text.old.items text.new.items) }
+{
+    let claims = claims_of(alloc, net, policy, config, evidence, prefix)?;
+    let subject = Subject {
+        net,
+        policy,
+        prefix,
+        claims,
+    };
+    push_head(text, prefix, class_of(config, prefix))?;
+    push_routers(text, &subject, scene)?;
+    push_sessions(alloc, text, &subject, scene)?;
+    Ok(())
+}
+
+/// The report of an outcome for the prefix of a scenario. Of a session it tells the path that its peer is offered.
 pub fn report(
     alloc: Global,
     net: &Net,
@@ -153,11 +187,11 @@ pub fn report(
     requires passes { Passes net.now (policy_of policy.now) config.now evidence.now.cases }
     ensures { IfOk result (λ text. IsReportOf net.now (policy_of policy.now) config.now (failures_of scenario.now) scenario.now.prefix outcome.now.routes text.items) }
 {
-    let claims = claims_of(alloc, net, policy, config, evidence, scenario.prefix)?;
     let situation = Situation::new(alloc, net, policy, config, scenario, outcome)?;
     let mut text = Vec::new(alloc);
-    push_head(&mut text, scenario.prefix, situation.class)?;
-    push_routers(&mut text, &claims, &situation)?;
-    push_sessions(alloc, &mut text, &claims, &situation)?;
+    let prefix = scenario.prefix;
+    push_report(
+        alloc, &mut text, net, policy, config, evidence, prefix, &situation,
+    )?;
     Ok(text)
 }

@@ -1,11 +1,11 @@
 //! An outcome with what it is of, and what peers are offered in it.
-ghost use Rattle.std.specs.Prelude.{◌≡◌, ◌&&◌, ◌∷◌, IfOk, IsTrue, not, option_map};
+ghost use Rattle.std.specs.Prelude.{◌≡◌, ◌&&◌, IfOk, IsTrue, not, option_map};
 ghost use Rattle.net_base.specs.Network.{is_peer, is_router, linked};
+ghost use Rattle.config_base.specs.Lines.{class_of as class_in};
 ghost use Rattle.outcome_base.specs.Outcomes.{is_dead_link, is_live as live, sent};
 ghost use Rattle.path_words.specs.Policies.{policy_of};
 ghost use Rattle.stable_paths.specs.Scenarios.{failures_of};
-ghost use Rattle.stable_paths.specs.Tests.{unlooped};
-ghost use Rattle.report_lines.specs.Situations.{IsSituation, shown_in};
+ghost use Rattle.report_lines.specs.Marks.{AreMarks};
 
 use crate::marks::marks_of;
 use config_base::{Config, class_of, export_of};
@@ -17,34 +17,15 @@ use std::alloc::{AllocError, Global};
 /// An outcome of a configured network under failures, for one prefix. The class of the prefix and the marks of dead links are found once.
 #[derive(Drop)]
 pub struct Situation<'a> {
-    pub net: &'a Net,
-    pub policy: &'a Policy,
-    pub config: &'a Config,
-    pub scenario: &'a Scenario,
-    pub outcome: &'a Outcome,
-    pub class: Option<u32>,
-    pub cut: Vec<bool>,
-}
-
-/// A path with a location in front.
-fn with_front(alloc: Global, first: Loc, rest: &[Loc]) -> Result<Vec<Loc>, AllocError>
-    ensures { IfOk result (λ path. path.items ≡ first ∷ rest.now) }
-{
-    let mut path = Vec::new(alloc);
-    path.push(first)?;
-    path.extend_from_slice(rest)?;
-    Ok(path)
-}
-
-/// A path with a peer in front, which isn't on it.
-fn offer_of(alloc: Global, peer: Loc, path: &[Loc]) -> Result<Option<Vec<Loc>>, AllocError>
-    ensures { IfOk result (λ offer. option_map (λ v. v.items) offer ≡ unlooped peer path.now) }
-{
-    if path.contains(&peer) {
-        Ok(None)
-    } else {
-        Ok(Some(with_front(alloc, peer, path)?))
-    }
+    pub(crate) net: &'a Net,
+    pub(crate) policy: &'a Policy,
+    pub(crate) config: &'a Config,
+    pub(crate) scenario: &'a Scenario,
+    pub(crate) outcome: &'a Outcome,
+    class: Option<u32>,
+    cut: Vec<bool>,
+    ghost of_prefix: { class ≡ class_in config.now scenario.now.prefix },
+    ghost of_links: { AreMarks net.now scenario.now.dead_links cut.items },
 }
 
 impl<'a> Situation<'a> {
@@ -57,7 +38,6 @@ impl<'a> Situation<'a> {
         scenario: &'a Scenario,
         outcome: &'a Outcome,
     ) -> Result<Situation<'a>, AllocError>
-        ensures rules { IfOk result IsSituation }
         ensures net { IfOk result (λ s. s.net.now ≡ net.now) }
         ensures policy { IfOk result (λ s. s.policy.now ≡ policy.now) }
         ensures config { IfOk result (λ s. s.config.now ≡ config.now) }
@@ -77,7 +57,6 @@ impl<'a> Situation<'a> {
 
     /// Whether a link joins two locations, and it lives.
     fn is_joined(&self, a: Loc, b: Loc) -> bool
-        requires { IsSituation self.now }
         ensures { result ≡ (linked self.now.net.now a b && not (is_dead_link (failures_of self.now.scenario.now) a b)) }
     {
         match self.net.link_place(a, b) {
@@ -88,15 +67,13 @@ impl<'a> Situation<'a> {
 
     /// Whether two locations are linked, and they and their link live.
     fn is_live(&self, a: Loc, b: Loc) -> bool
-        requires { IsSituation self.now }
         ensures { result ≡ live self.now.net.now (failures_of self.now.scenario.now) a b }
     {
         self.is_joined(a, b) && !self.scenario.is_dead(a) && !self.scenario.is_dead(b)
     }
 
     /// The path that a router sends to a neighbour.
-    fn path_sent(&self, router: Loc, to: Loc) -> Option<&[Loc]>
-        requires { IsSituation self.now }
+    pub fn path_sent(&self, router: Loc, to: Loc) -> Option<&[Loc]>
         ensures { IsTrue (is_router self.now.net.now router)
             → option_map (λ path. path.now) result ≡ option_map (λ s. s.0) (sent self.now.net.now (policy_of self.now.policy.now) self.now.config.now (failures_of self.now.scenario.now) self.now.scenario.now.prefix self.now.outcome.now.routes router to) }
     {
@@ -107,29 +84,9 @@ impl<'a> Situation<'a> {
     }
 
     /// Whether the two are a router and a peer over a live link.
-    fn is_live_session(&self, router: Loc, peer: Loc) -> bool
-        requires { IsSituation self.now }
+    pub fn is_live_session(&self, router: Loc, peer: Loc) -> bool
         ensures { result ≡ (live self.now.net.now (failures_of self.now.scenario.now) router peer && is_router self.now.net.now router && is_peer self.now.net.now peer) }
     {
         self.is_live(router, peer) && self.net.is_router(router) && self.net.is_peer(peer)
-    }
-
-    /// The path that a peer is offered over the session of a router.
-    pub fn offer(
-        &self,
-        alloc: Global,
-        router: Loc,
-        peer: Loc,
-    ) -> Result<Option<Vec<Loc>>, AllocError>
-        requires { IsSituation self.now }
-        ensures { IfOk result (λ offer. option_map (λ v. v.items) offer ≡ (shown_in self.now).offer router peer) }
-    {
-        if !self.is_live_session(router, peer) {
-            return Ok(None);
-        }
-        match self.path_sent(router, peer) {
-            None => Ok(None),
-            Some(path) => offer_of(alloc, peer, path),
-        }
     }
 }

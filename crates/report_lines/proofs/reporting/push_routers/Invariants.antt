@@ -4,11 +4,10 @@ use Rattle.net_base.specs.Locations.{numbers_below}
 use Rattle.path_words.specs.Policies.{policy_of}
 use Rattle.report_lines.specs.Claims.{sources_of, statement_in}
 use Rattle.report_lines.specs.Lines.{router_line}
-use Rattle.report_lines.specs.Situations.{shown_in}
 use Rattle.report_lines.proofs.reporting.push_routers.Given as goal
 
 abbrev pub invariant-loop-place : goal.invariant-loop-place
-invariant-loop-place l =
+invariant-loop-place g l =
     l.text.items
     ≡ l.initial.text.items
-    ++ flat_map (router_line l.situation.net.now (policy_of l.situation.policy.now) l.situation.scenario.now.prefix (statement_in l.claims) (sources_of l.claims) (shown_in l.situation)) (numbers_below l.place)
+    ++ flat_map (router_line l.subject.net.now (policy_of l.subject.policy.now) l.subject.prefix (statement_in l.subject.claims) (sources_of l.subject.claims) (g.S.Scene.shown l.scene)) (numbers_below l.place)

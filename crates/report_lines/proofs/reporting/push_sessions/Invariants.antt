@@ -2,8 +2,7 @@ use Rattle.std.proofs.Common.{◌≡◌, ◌++◌, take}
 use Rattle.std.specs.List.{flat_map}
 use Rattle.report_lines.specs.Claims.{statement_in}
 use Rattle.report_lines.specs.Lines.{session_line}
-use Rattle.report_lines.specs.Situations.{shown_in}
 use Rattle.report_lines.proofs.reporting.push_sessions.Given as goal
 
 abbrev pub invariant-loop-session : goal.invariant-loop-session
-invariant-loop-session l = l.text.items ≡ l.initial.text.items ++ flat_map (session_line l.situation.net.now (statement_in l.claims) (shown_in l.situation)) (take l.session-index l.claims.sessions)
+invariant-loop-session g l = l.text.items ≡ l.initial.text.items ++ flat_map (session_line l.subject.net.now (statement_in l.subject.claims) (g.S.Scene.shown l.scene)) (take l.session-index l.subject.claims.sessions)

@@ -1,0 +1,10 @@
+//! Events for a prefix.
+use event_base::Event;
+use net_base::{List, Prefix};
+
+/// What happens on a network, in order, and the prefix of which routes are asked.
+#[derive(Drop)]
+pub struct Events {
+    pub prefix: Prefix,
+    pub events: List<Event>,
+}
