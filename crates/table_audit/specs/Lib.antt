@@ -1,0 +1,2 @@
+pub mod Situated
+pub mod Tops
