@@ -5,15 +5,16 @@ use Rattle.net_base.specs.Network.{PlainNet}
 use Rattle.topology.specs.Topology.{spelled}
 use Rattle.path_words.specs.Policies.{PlainPolicy}
 use Rattle.propane_run.specs.declared.command.Command.TheVariants.{Compile}
-use Rattle.propane_run.specs.declared.outcome.Status.TheVariants.{BadInput}
+use Rattle.run_base.specs.declared.outcome.Status.TheVariants.{BadInput}
 use Rattle.propane_run.specs.Asked.{AsksFor}
 use Rattle.propane_run.specs.Clauses.{FaultFound, ReadsSmoothly}
-use Rattle.propane_run.specs.Reading.{Holds, IsHeld, AllHeld, most, too_long}
+use Rattle.run_base.specs.Reading.{Holds, IsHeld, AllHeld, most, too_long}
 use Rattle.propane_run.specs.Run.{Job}
-use Rattle.propane_run.specs.Said.{Said, line}
-use Rattle.propane_run.specs.Texts.{OfTexts, OfPolicyText}
+use Rattle.run_base.specs.Said.{Said, line}
+use Rattle.input_texts.specs.Texts.{OfTexts, OfPolicyText}
 use Rattle.propane_run.specs.Words.{words_are}
-use Rattle.propane_run.specs.commands.Compile.{SaysOfPolicy}
+use Rattle.compile_jobs.specs.declared.written.Part.TheVariants.{Config}
+use Rattle.compile_jobs.specs.Written.{SaysOfPart}
 use Rattle.memory_run.specs.Texts.{compile_words, topology_name, policy_name, Spell, IsFaultLine}
 
 -- the words are `compile`, with the two names
@@ -72,15 +73,15 @@ module _ (holds : Holds) (topology policy_text : List ℕ) (topology_is : holds 
 
   -- ---- what is wrong with the texts
 
-  not_of_policy : (net : PlainNet) (policy : PlainPolicy) (l : List ℕ) → SaysOfPolicy net policy (line BadInput l) → ⊥
+  not_of_policy : (net : PlainNet) (policy : PlainPolicy) (l : List ℕ) → SaysOfPart Config net policy (line BadInput l) → ⊥
   not_of_policy net policy l (inl h) = let s = ap (λ (w : Said). w.status) h.5 in cc
   not_of_policy net policy l (inr h) = let s = ap (λ (w : Said). w.status) h.2 in cc
 
-  policy_fault : (net : PlainNet) (l : List ℕ) → spelled topology ≡ Ok net → OfPolicyText SaysOfPolicy net policy_text (line BadInput l) → IsFaultLine topology policy_text l
+  policy_fault : (net : PlainNet) (l : List ℕ) → spelled topology ≡ Ok net → OfPolicyText (SaysOfPart Config) net policy_text (line BadInput l) → IsFaultLine topology policy_text l
   policy_fault net l net_is (inl h) = inr (inr (inr (net, h.0, net_is, h.1, ap (λ (w : Said). w.to_err) h.2)))
   policy_fault net l net_is (inr h) = absurd (not_of_policy net h.0 l h.2)
 
-  texts_fault : (l : List ℕ) → OfTexts SaysOfPolicy topology policy_text (line BadInput l) → IsFaultLine topology policy_text l
+  texts_fault : (l : List ℕ) → OfTexts (SaysOfPart Config) topology policy_text (line BadInput l) → IsFaultLine topology policy_text l
   unfolding OfTexts
   texts_fault l (inl h) = inr (inr (inl (h.0, h.1, ap (λ (w : Said). w.to_err) h.2)))
   texts_fault l (inr h) = policy_fault h.0 l h.1 h.2
@@ -91,10 +92,10 @@ module _ (holds : Holds) (topology policy_text : List ℕ) (topology_is : holds 
   job_fault l (a ∷ b ∷ []) held says =
       let t : a ≡ topology = held_topology a held.0 in
       let p : b ≡ policy_text = held_policy b held.1.0 in
-      let P : List ℕ → Type 0 = λ x. OfTexts SaysOfPolicy x b (line BadInput l) in
-      let Q : List ℕ → Type 0 = λ x. OfTexts SaysOfPolicy topology x (line BadInput l) in
+      let P : List ℕ → Type 0 = λ x. OfTexts (SaysOfPart Config) x b (line BadInput l) in
+      let Q : List ℕ → Type 0 = λ x. OfTexts (SaysOfPart Config) topology x (line BadInput l) in
       texts_fault l (subst Q p (subst P t says))
-  job_fault l (a ∷ b ∷ c ∷ bs) held says = absurd says
+  job_fault l (a ∷ b ∷ c ∷ bs) held says = absurd held.1.1
 
   too_long_topology : (name l : List ℕ) → name ≡ topology_name → IfSome (holds name) (λ held. most < length held) → l ≡ (too_long name).to_err → IsFaultLine topology policy_text l
   too_long_topology name l is over told =

@@ -4,12 +4,12 @@ use Rattle.outside.specs.declared.mem_inputs.MemInputs.{MemInputs}
 use Rattle.outside.specs.MemInputs.{told, count, IsSure}
 use Rattle.propane_run.specs.declared.command.Command.{Command}
 use Rattle.propane_run.specs.declared.command.Command.TheVariants.{Compile}
-use Rattle.propane_run.specs.declared.outcome.Status.{Status}
-use Rattle.propane_run.specs.declared.outcome.Status.TheVariants.{WriteFault, NoMemory}
+use Rattle.run_base.specs.declared.outcome.Status.{Status}
+use Rattle.run_base.specs.declared.outcome.Status.TheVariants.{WriteFault, NoMemory}
 use Rattle.propane_run.specs.Clauses.{ReadsSmoothly}
-use Rattle.propane_run.specs.Reading.{Holds, RoseOf, SaidOfTold}
+use Rattle.run_base.specs.Reading.{Holds, RoseOf, SaidOfTold}
 use Rattle.propane_run.specs.Run.{Job}
-use Rattle.propane_run.specs.Said.{Said, Whole, Delivered}
+use Rattle.run_base.specs.Said.{Said, Whole, Delivered}
 use Rattle.propane_run.specs.Words.{names_read}
 use Rattle.memory_run.specs.declared.came.Came.{Came}
 use Rattle.memory_run.specs.declared.came.Came.TheVariants.{Compiled, Refused, Faulty, NoRoom}

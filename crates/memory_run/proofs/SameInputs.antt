@@ -2,9 +2,9 @@
 use Rattle.std.proofs.Common.{◌≡◌, ℕ, List, [], ◌∷◌, inl, inr, sym, subst, ◌∙◌}
 use Rattle.std.specs.Prelude.{Option, IfSome}
 use Rattle.propane_run.specs.declared.command.Command.{Command}
-use Rattle.propane_run.specs.Reading.{Holds, IsHeld, AllHeld, SaidOfTold}
+use Rattle.run_base.specs.Reading.{Holds, IsHeld, AllHeld, SaidOfTold}
 use Rattle.propane_run.specs.Run.{Comes}
-use Rattle.propane_run.specs.Said.{Said}
+use Rattle.run_base.specs.Said.{Said}
 use Rattle.propane_run.specs.Words.{names_read}
 
 module _ (before now : Holds) (same : (name : List ℕ) → now name ≡ before name) where

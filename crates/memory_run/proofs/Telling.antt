@@ -8,15 +8,15 @@ use Rattle.policy_parser.specs.Spelled.{spelled as policy_spelled}
 use Rattle.case_core.specs.declared.refusal.CompileRefusal.{CompileRefusal}
 use Rattle.compile_core.proofs.OneRefusal.{not_refused, one_refusal}
 use Rattle.propane_run.specs.declared.command.Command.{Command}
-use Rattle.propane_run.specs.declared.command.Command.TheVariants.{Compile, Evidence, Check, Explain, Replay, Sample}
-use Rattle.propane_run.specs.Asked.{IsFor}
+use Rattle.propane_run.specs.declared.command.Command.TheVariants.{Compile}
 use Rattle.propane_run.specs.Clauses.{FaultFound}
-use Rattle.propane_run.specs.Compiled.{IsCompiled, IsRefusedFor}
+use Rattle.compile_jobs.specs.Compiled.{IsCompiled, IsRefusedFor}
 use Rattle.propane_run.specs.Headline.{CompilesRight}
-use Rattle.propane_run.specs.Reading.{Holds}
-use Rattle.propane_run.specs.RefusalLines.{refusal_line}
+use Rattle.run_base.specs.Reading.{Holds}
+use Rattle.refusal_lines.specs.RefusalLines.{refusal_line}
 use Rattle.propane_run.specs.Refusing.{RefusesRight}
 use Rattle.propane_run.specs.Words.{words_are}
+use Rattle.propane_run.proofs.Asking.{asked_by}
 use Rattle.memory_run.specs.Texts.{compile_words, topology_name, policy_name, Spell, IsRightText, IsRefusalLine, IsFaultLine}
 use Rattle.memory_run.proofs.Asking.{spelled_by}
 
@@ -46,21 +46,12 @@ fault_of_compile holds words is c asks l found =
     let Q : Command → Type 0 = λ d. FaultFound holds words d l in
     subst Q (sym (command_is c (subst P is asks))) found
 
--- what is asked of a command is asked by its words
-words_of : (holds : Holds) (words : List (List ℕ)) (c : Command) (net : PlainNet) (policy : PlainPolicy) → IsFor holds words c net policy → words_are words ≡ Some c
-words_of holds words (Compile t p) net policy is = is.asked
-words_of holds words (Evidence t p) net policy is = is.asked
-words_of holds words (Check t p c e) net policy is = is.asked
-words_of holds words (Explain t p) net policy is = is.asked
-words_of holds words (Replay t p s) net policy is = is.1.asked.asked
-words_of holds words (Sample n) net policy is = is.asked
-
 pub refusal_of_compile : {E : Type 0} (holds : Holds) (words : List (List ℕ)) → words ≡ compile_words → (taken : E → Option (List ℕ)) (err err' : E) (c : Command)
     → RefusesRight holds taken words c err err' → RefusesRight holds taken words (Compile 1 2) err err'
 refusal_of_compile holds words is taken err err' c claim =
     let P : List (List ℕ) → Type 0 = λ ws. words_are ws ≡ Some c in
     let Q : Command → Type 0 = λ d. RefusesRight holds taken words d err err' in
-    subst Q (sym (command_is c (subst P is (words_of holds words c claim.net claim.policy claim.asked)))) claim
+    subst Q (sym (command_is c (subst P is (asked_by holds words c claim.net claim.policy claim.asked)))) claim
 
 module _ (words : List (List ℕ)) (is : words ≡ compile_words) (holds : Holds) (topology policy_text : List ℕ)
     (topology_is : holds topology_name ≡ Some topology) (policy_is : holds policy_name ≡ Some policy_text) where

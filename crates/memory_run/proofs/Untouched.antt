@@ -1,7 +1,7 @@
 -- A run that ends neither with Done nor with CheckFails.
 use Rattle.std.proofs.Common.{◌≡◌, ◌≢◌, refl}
-use Rattle.propane_run.specs.declared.outcome.Status.{Status}
-use Rattle.propane_run.specs.declared.outcome.Status.TheVariants.{Done, Refused, Usage, BadInput, ReadFault, WriteFault, NoMemory, CheckFails}
+use Rattle.run_base.specs.declared.outcome.Status.{Status}
+use Rattle.run_base.specs.declared.outcome.Status.TheVariants.{Done, Refused, Usage, BadInput, ReadFault, WriteFault, NoMemory, CheckFails}
 
 -- what holds at every other status holds
 pub unless_text : (P : Type 0) (ended : Status) → ended ≢ Done → ended ≢ CheckFails → (ended ≡ Refused → P) → (ended ≡ Usage → P) → (ended ≡ BadInput → P)

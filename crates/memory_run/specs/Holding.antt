@@ -3,10 +3,10 @@ use Rattle.std.specs.Prelude.{◌≡◌, ℕ, List}
 use Rattle.outside.specs.declared.mem_inputs.MemInputs.{MemInputs}
 use Rattle.outside.specs.MemInputs.{told, count, IsSure}
 use Rattle.propane_run.specs.declared.command.Command.TheVariants.{Compile}
-use Rattle.propane_run.specs.declared.outcome.Status.TheVariants as status
-use Rattle.propane_run.specs.Reading.{SaidOfTold}
+use Rattle.run_base.specs.declared.outcome.Status.TheVariants as status
+use Rattle.run_base.specs.Reading.{SaidOfTold}
 use Rattle.propane_run.specs.Run.{Job}
-use Rattle.propane_run.specs.Said.{Said}
+use Rattle.run_base.specs.Said.{Said}
 use Rattle.propane_run.specs.Words.{names_read}
 use Rattle.memory_run.specs.declared.came.Came.{Came}
 use Rattle.memory_run.specs.declared.came.Came.TheVariants.{Compiled, Refused, Faulty, NoRoom}

@@ -11,11 +11,11 @@ use Rattle.topology.specs.Topology.{spelled}
 use Rattle.policy_tokens.specs.declared.fault.PolicyFault.{PolicyFault}
 use Rattle.policy_parser.specs.Spelled.{spelled as policy_spelled}
 use Rattle.case_core.specs.declared.refusal.CompileRefusal.{CompileRefusal}
-use Rattle.propane_run.specs.Compiled.{IsCompiled, IsRefusedFor}
-use Rattle.propane_run.specs.FaultLines.{topology_line, policy_line}
+use Rattle.compile_jobs.specs.Compiled.{IsCompiled, IsRefusedFor}
+use Rattle.input_texts.specs.FaultLines.{topology_line, policy_line}
 use Rattle.propane_run.specs.Headline.{HasOutcomes}
-use Rattle.propane_run.specs.Reading.{most, too_long}
-use Rattle.propane_run.specs.RefusalLines.{refusal_line}
+use Rattle.run_base.specs.Reading.{most, too_long}
+use Rattle.refusal_lines.specs.RefusalLines.{refusal_line}
 
 -- the names under which the texts are held, and the words that compile them
 abbrev pub topology_name : List ℕ

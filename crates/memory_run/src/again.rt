@@ -1,9 +1,9 @@
 //! A run, and another where a read failed.
 ghost use Rattle.std.specs.Prelude.{◌≡◌, ◌⊎◌, ◌≤◌, ℕ, List, ◌++◌, map, string_bytes};
 ghost use Rattle.outside.specs.MemInputs.{told, count};
-ghost use Rattle.propane_run.specs.Reading.{unread};
+ghost use Rattle.run_base.specs.Reading.{unread};
 ghost use Rattle.propane_run.specs.Run.{Comes};
-ghost use Rattle.propane_run.specs.Said.{text};
+ghost use Rattle.run_base.specs.Said.{text};
 ghost use Rattle.propane_run.specs.declared.command.Command.{Command};
 
 use outside::{MemInputs, MemSink};

@@ -4,7 +4,7 @@ ghost use Rattle.net_base.specs.Network.{PlainNet};
 ghost use Rattle.path_words.specs.Policies.{PlainPolicy};
 ghost use Rattle.case_core.specs.declared.refusal.CompileRefusal.{CompileRefusal};
 ghost use Rattle.outside.specs.SureInputs.{bytes_of};
-ghost use Rattle.propane_run.specs.Compiled.{IsRefusedFor};
+ghost use Rattle.compile_jobs.specs.Compiled.{IsRefusedFor};
 ghost use Rattle.propane_run.specs.Words.{words_are};
 ghost use Rattle.memory_run.specs.Texts.{IsRightText, Spell, topology_name, policy_name};
 

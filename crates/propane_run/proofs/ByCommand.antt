@@ -1,7 +1,8 @@
--- The laws of each command.
+-- What a run of each command has written.
+pub mod Audit
 pub mod Check
-pub mod Compile
-pub mod Evidence
 pub mod Explain
 pub mod Replay
 pub mod Sample
+pub mod Trace
+pub mod Written

@@ -1,18 +1,18 @@
 -- Why a run says what it says.
 use Rattle.std.proofs.Common.{◌≡◌, inl, inr, ℕ, List, Option, Some, None, refl, sym, subst}
 use Rattle.propane_run.specs.declared.command.Command.{Command}
-use Rattle.propane_run.specs.declared.outcome.Status.{Status}
-use Rattle.propane_run.specs.declared.outcome.Status.TheVariants.{Done, Refused, Usage, BadInput, ReadFault, NoMemory, CheckFails}
-use Rattle.propane_run.specs.Checking.{Checks}
+use Rattle.run_base.specs.declared.outcome.Status.{Status}
+use Rattle.run_base.specs.declared.outcome.Status.TheVariants.{Done, Refused, Usage, BadInput, ReadFault, NoMemory, CheckFails}
+use Rattle.propane_run.specs.Failing.{Judges}
 use Rattle.propane_run.specs.Clauses.{FaultFound}
-use Rattle.propane_run.specs.Compiling.{Compiles}
-use Rattle.propane_run.specs.Words.{words_are, names_read}
-use Rattle.propane_run.specs.Reading.{Holds, IsStop, AllHeld, unread, too_long}
-use Rattle.propane_run.specs.Run.{IsAnswerOf, IsGiven, IsAmong, Comes, Job}
-use Rattle.propane_run.specs.Said.{Said, text, line, failing, no_memory, usage}
-use Rattle.propane_run.proofs.Dispatch.{job-is}
-use Rattle.propane_run.proofs.Jobs.{IsJobSaid, in_text, in_line, in_refusal, in_failing, status_is}
-use Rattle.propane_run.proofs.Told.{reads_all}
+use Rattle.propane_run.specs.Refusing.{Compiles}
+use Rattle.propane_run.specs.Words.{words_are, names_read, usage}
+use Rattle.run_base.specs.Reading.{Holds, IsAmong, IsStop, AllHeld, unread, too_long}
+use Rattle.propane_run.specs.Run.{IsAnswerOf, Comes, Job}
+use Rattle.run_base.specs.Said.{IsGiven, Said, text, line, failing, no_memory}
+use Rattle.propane_run.proofs.Dispatch.{job_is}
+use Rattle.run_base.proofs.Jobs.{IsJobSaid, in_text, in_line, in_refusal, in_failing, status_is}
+use Rattle.run_base.proofs.Told.{reads_all}
 
 module _ (holds : Holds) (rose : List ℕ → Type 0) (words : List (List ℕ)) where
   -- why a command says a thing, by the status that goes with it
@@ -22,7 +22,7 @@ module _ (holds : Holds) (rose : List ℕ → Type 0) (words : List (List ℕ)) 
   Cause c what BadInput = (l : List ℕ) × FaultFound holds words c l × (what ≡ line BadInput l)
   Cause c what ReadFault = (name : List ℕ) × IsAmong (names_read words c) name × rose name × (what ≡ unread name)
   Cause c what NoMemory = what ≡ no_memory
-  Cause c what CheckFails = (l : List ℕ) × Checks c × Comes holds words c (failing l) × (what ≡ failing l)
+  Cause c what CheckFails = (l : List ℕ) × Judges c × Comes holds words c (failing l) × (what ≡ failing l)
   Cause c what _ = ⊥
 
   -- why a run does
@@ -43,15 +43,15 @@ module _ (holds : Holds) (rose : List ℕ → Type 0) (words : List (List ℕ)) 
       comes_to : (said : Said) → what ≡ said → Comes holds words c said
       comes_to said is = let P : Said → Type 0 = λ w. Job c bs w in record { is = asks; bytes = bs; held = held; says = subst P is says }
 
-      came : IsJobSaid c what → Cause c what what.status
+      came : IsJobSaid (Compiles c) (Judges c) what → Cause c what what.status
       came (in_text b is) = by (text b) is (b, comes_to _ is, is)
       came (in_line l is) = by (line BadInput l) is (l, inr (comes_to _ is), is)
       came (in_refusal compiles l is) = by (line Refused l) is (l, compiles, comes_to _ is, is)
-      came (in_failing checks l is) = by (failing l) is (l, checks, comes_to _ is, is)
+      came (in_failing judges l is) = by (failing l) is (l, judges, comes_to _ is, is)
 
     given : (bs : List (List ℕ)) → AllHeld holds (names_read words c) bs → IsGiven (Job c bs) what → Cause c what what.status
     given bs held (inl m) = by no_memory m m
-    given bs held (inr says) = came bs held says (job-is c bs what says)
+    given bs held (inr says) = came bs held says ((job_is c).form bs what says)
 
   why_said : (o : Option Command) (what : Said) → words_are words ≡ o → IsAnswerOf holds rose words o what → Why o what what.status
   why_said None what asks answer = (status_is what usage answer, answer)

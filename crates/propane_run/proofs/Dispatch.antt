@@ -1,37 +1,52 @@
--- What the job of each command says. A line for each command.
-use Rattle.std.proofs.Common.{◌≡◌, ℕ, List}
+-- What is known of the job of each command. A line for each command, and one more where it compiles.
+use Rattle.std.proofs.Common.{◌≡◌, ℕ, List, Some}
+use Rattle.run_base.specs.Reading.{Holds}
+use Rattle.run_base.proofs.Jobs.{IsJob}
+use Rattle.input_texts.specs.Asked.{SpellFor}
+use Rattle.compile_jobs.specs.declared.written.Part.TheVariants as part
+use Rattle.compile_jobs.specs.Written.{WritesPart}
+use Rattle.compile_jobs.proofs.Compiling.{IsCompiler, compiler_of_two, in_words}
+use Rattle.compile_jobs.proofs.ExplainLaws.{explain_job}
+use Rattle.compile_jobs.proofs.SampleLaws.{sample_compiler, sample_job}
+use Rattle.compile_jobs.proofs.WrittenLaws.{written_job}
+use Rattle.audit_job.proofs.AuditLaws.{audit_job}
+use Rattle.check_job.proofs.CheckLaws.{check_job}
+use Rattle.replay_job.proofs.ReplayLaws.{replay_compiler, replay_job}
+use Rattle.trace_job.proofs.TraceLaws.{trace_compiler, trace_job}
 use Rattle.propane_run.specs.declared.command.Command.{Command}
-use Rattle.propane_run.specs.declared.command.Command.TheVariants.{Compile, Evidence, Check, Explain, Replay, Sample}
-use Rattle.propane_run.specs.Said.{Said}
+use Rattle.propane_run.specs.declared.command.Command.TheVariants.{Compile, Evidence, Check, Explain, Replay, Trace, Audit, Sample}
+use Rattle.propane_run.specs.Asked.{AsksFor, IsFor}
+use Rattle.propane_run.specs.Failing.{Judges}
+use Rattle.propane_run.specs.Refusing.{Compiles}
 use Rattle.propane_run.specs.Run.{Job}
-use Rattle.propane_run.specs.commands.Compile.{WritesConfig}
-use Rattle.propane_run.specs.commands.Evidence.{WritesEvidence}
-use Rattle.propane_run.specs.commands.Explain.{SaysOfPolicy as Explains}
-use Rattle.propane_run.specs.commands.Sample.{WritesSummary}
-use Rattle.propane_run.proofs.Compiling as compiling
-use Rattle.propane_run.proofs.Jobs.{IsJobSaid}
-use Rattle.propane_run.proofs.ByCommand.Check as check
-use Rattle.propane_run.proofs.ByCommand.Compile as compile
-use Rattle.propane_run.proofs.ByCommand.Evidence as evidence
-use Rattle.propane_run.proofs.ByCommand.Explain as explain
-use Rattle.propane_run.proofs.ByCommand.Replay as replay
-use Rattle.propane_run.proofs.TwoTexts as two
-use Rattle.propane_run.proofs.ByCommand.Sample as sample
+use Rattle.propane_run.specs.Words.{names_read, words_are}
+use Rattle.propane_run.proofs.Asking.{asks_for, asks_of_events, asks_under, spells, spells_events, spells_under}
 
--- it has a form
-pub job-is : (c : Command) (bs : List (List ℕ)) (what : Said) → Job c bs what → IsJobSaid c what
-job-is (Compile t p) bs what h = compiling.job_form WritesConfig (Compile t p) tt bs what h
-job-is (Evidence t p) bs what h = compiling.job_form WritesEvidence (Evidence t p) tt bs what h
-job-is (Check t p c e) bs what h = check.job_form (Check t p c e) tt bs what h
-job-is (Explain t p) bs what h = two.job_form Explains (Explain t p) (explain.policy_form (Explain t p)) bs what h
-job-is (Replay t p s) bs what h = replay.job_form (Replay t p s) tt bs what h
-job-is (Sample n) bs what h = compiling.policy_form (WritesSummary n) (Sample n) tt _ _ what h
+-- what it says has a form, and is one thing
+pub job_is : (c : Command) → IsJob (Compiles c) (Judges c) (Job c)
+job_is (Compile t p) = written_job part.Config (Unit {0}) ⊥ tt
+job_is (Evidence t p) = written_job part.Evidence (Unit {0}) ⊥ tt
+job_is (Check t p c e) = check_job ⊥ (Unit {0}) tt
+job_is (Explain t p) = explain_job ⊥ ⊥
+job_is (Replay t p s) = replay_job (Unit {0}) ⊥ tt
+job_is (Trace t p e) = trace_job (Unit {0}) ⊥ tt
+job_is (Sample n) = sample_job n (Unit {0}) ⊥ tt
+job_is (Audit t p c e s r) = audit_job ⊥ (Unit {0}) tt
 
--- and is one thing
-pub one_job : (c : Command) (bs : List (List ℕ)) (one other : Said) → Job c bs one → Job c bs other → one ≡ other
-one_job (Compile t p) bs one other a b = compiling.one_job WritesConfig compile.one_text bs one other a b
-one_job (Evidence t p) bs one other a b = compiling.one_job WritesEvidence evidence.one_text bs one other a b
-one_job (Check t p c e) bs one other a b = check.one_job bs one other a b
-one_job (Explain t p) bs one other a b = two.one_job Explains explain.one_of_policy bs one other a b
-one_job (Replay t p s) bs one other a b = replay.one_job bs one other a b
-one_job (Sample n) bs one other a b = compiling.one_of_policy (WritesSummary n) (sample.one_text n) _ _ one other a b
+module _ (holds : Holds) (words : List (List ℕ)) where
+  -- of two texts
+  of_two : (c : Command) → words_are words ≡ Some c → IsCompiler holds (names_read words c) (Job c) (SpellFor holds (names_read words c)) → IsCompiler holds (names_read words c) (Job c) (AsksFor holds words c)
+  of_two c is compiler = in_words compiler (λ net policy. asks_for holds words c net policy is) (λ net policy. spells holds words c net policy)
+
+  -- of a command that compiles, for which network and policy
+  pub compiler : (c : Command) → Compiles c → words_are words ≡ Some c → IsCompiler holds (names_read words c) (Job c) (IsFor holds words c)
+  compiler (Compile t p) compiles is = of_two (Compile t p) is (compiler_of_two (WritesPart part.Config) holds (names_read words (Compile t p)))
+  compiler (Evidence t p) compiles is = of_two (Evidence t p) is (compiler_of_two (WritesPart part.Evidence) holds (names_read words (Evidence t p)))
+  compiler (Replay t p s) compiles is =
+      in_words (replay_compiler holds (names_read words (Replay t p s))) (λ net policy asked. (asked.0, asks_under holds words (Replay t p s) net policy is asked.0 asked.1))
+      (λ net policy asks. (asks.0, spells_under holds words (Replay t p s) net policy asks.0 asks.1))
+  compiler (Trace t p e) compiles is =
+      in_words (trace_compiler holds (names_read words (Trace t p e))) (λ net policy asked. (asked.0, asks_of_events holds words (Trace t p e) net policy is asked.0 asked.1))
+      (λ net policy asks. (asks.0, spells_events holds words (Trace t p e) net policy asks.0 asks.1))
+  compiler (Sample n) compiles is = in_words (sample_compiler holds n) (λ net policy are. record { asked = is; net_is = are.0; policy_is = are.1 }) (λ net policy asks. (asks.net_is, asks.policy_is))
+  compiler c compiles is = absurd compiles

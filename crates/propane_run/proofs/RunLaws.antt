@@ -1,18 +1,18 @@
 -- What follows for a run whose answer was delivered, whatever its command.
 use Rattle.std.proofs.Common.{◌≡◌, ◌≢◌, ◌⊎◌, inl, inr, ℕ, List, Option, Some, None, refl, sym, ◌∙◌, subst}
 use Rattle.propane_run.specs.declared.command.Command.{Command}
-use Rattle.propane_run.specs.declared.outcome.Status.{Status}
-use Rattle.propane_run.specs.declared.outcome.Status.TheVariants.{Done, Refused, Usage, BadInput, ReadFault, WriteFault, NoMemory, CheckFails}
-use Rattle.propane_run.specs.Said.{Said, text, line, failing, no_memory, usage, Whole, Part, Delivered}
-use Rattle.propane_run.specs.Words.{words_are, names_read}
-use Rattle.propane_run.specs.Reading.{Holds, unread, SaidOfTold}
-use Rattle.propane_run.specs.Run.{IsAnswer, IsAnswerOf, IsAmong, Comes, Job}
-use Rattle.propane_run.specs.Checking.{Checks}
+use Rattle.run_base.specs.declared.outcome.Status.{Status}
+use Rattle.run_base.specs.declared.outcome.Status.TheVariants.{Done, Refused, Usage, BadInput, ReadFault, WriteFault, NoMemory, CheckFails}
+use Rattle.run_base.specs.Said.{Said, text, line, failing, no_memory, Whole, Part, Delivered}
+use Rattle.propane_run.specs.Words.{words_are, names_read, usage}
+use Rattle.run_base.specs.Reading.{Holds, IsAmong, unread, SaidOfTold}
+use Rattle.propane_run.specs.Run.{IsAnswer, IsAnswerOf, Comes, Job}
+use Rattle.propane_run.specs.Failing.{Judges}
 use Rattle.propane_run.specs.Clauses.{FaultFound, ReadsSmoothly}
-use Rattle.propane_run.specs.Compiling.{Compiles}
+use Rattle.propane_run.specs.Refusing.{Compiles}
 use Rattle.propane_run.proofs.Causes.{Why, why}
-use Rattle.propane_run.proofs.Jobs.{status_is}
-use Rattle.propane_run.proofs.Told.{reads_told}
+use Rattle.run_base.proofs.Jobs.{status_is}
+use Rattle.run_base.proofs.Told.{reads_told}
 
 module _ {O E : Type 0} (ot : O → Option (List ℕ)) (of : O → ℕ) (et : E → Option (List ℕ)) (ef : E → ℕ)
     (holds : Holds) (rose : List ℕ → Type 0) (words : List (List ℕ)) (out out' : O) (err err' : E) (what : Said) (ended : Status)
@@ -90,11 +90,11 @@ module _ {O E : Type 0} (ot : O → Option (List ℕ)) (of : O → ℕ) (et : E 
 
   -- ---- evidence that fails
 
-  failing_at : (o : Option Command) → Came o CheckFails → (c : Command) × (l : List ℕ) × Checks c × Comes holds words c (failing l) × Whole ot l out out' × (err' ≡ err)
+  failing_at : (o : Option Command) → Came o CheckFails → (c : Command) × (l : List ℕ) × Judges c × Comes holds words c (failing l) × Whole ot l out out' × (err' ≡ err)
   failing_at None r = absurd (let e = r.cause.0 in cc)
   failing_at (Some c) r = let e = r.cause.3 in (c, r.cause.0, r.cause.1, r.cause.2, rw e at r.to_out, (rw e at r.to_err).idle refl)
 
-  pub fails : ended ≡ CheckFails → (c : Command) × (l : List ℕ) × Checks c × Comes holds words c (failing l) × Whole ot l out out' × (err' ≡ err)
+  pub fails : ended ≡ CheckFails → (c : Command) × (l : List ℕ) × Judges c × Comes holds words c (failing l) × Whole ot l out out' × (err' ≡ err)
   fails is = failing_at (words_are words) (came (words_are words) refl CheckFails (λ x. cc) is)
 
   -- ---- writes that failed

@@ -2,7 +2,8 @@
 use Rattle.std.proofs.Common.{◌≡◌, ℕ, ◌<◌, List, [], ◌∷◌, map, length, get_or, refl, sym, ap, ◌∙◌, arith}
 use Rattle.std.specs.Prelude.{option_map, unwrap_or}
 use Rattle.std.proofs.lemmas.Option.{slice_get-map, slice_get_read}
-use Rattle.propane_run.specs.Words.{words_are, with_number, with_two_names, with_three_names, with_four_names, word_at}
+use Rattle.run_base.specs.Reading.{word_at}
+use Rattle.propane_run.specs.Words.{words_are, with_number, with_two_names, with_three_names, with_four_names, with_six_names}
 
 pub two_words : (words : List (List ℕ)) → length words ≡ 2 → words_are words ≡ with_number (word_at words 0) (word_at words 1)
 two_words [] h = absurd (omega (arith, h))
@@ -33,6 +34,17 @@ five_words (a ∷ b ∷ c ∷ []) h = absurd (omega (arith, h))
 five_words (a ∷ b ∷ c ∷ d ∷ []) h = absurd (omega (arith, h))
 five_words (a ∷ b ∷ c ∷ d ∷ e ∷ []) h = refl
 five_words (a ∷ b ∷ c ∷ d ∷ e ∷ f ∷ more) h = absurd (omega (arith, h))
+
+pub seven_words : (words : List (List ℕ)) → length words ≡ 7 → words_are words ≡ with_six_names (word_at words 0)
+seven_words [] h = absurd (omega (arith, h))
+seven_words (a ∷ []) h = absurd (omega (arith, h))
+seven_words (a ∷ b ∷ []) h = absurd (omega (arith, h))
+seven_words (a ∷ b ∷ c ∷ []) h = absurd (omega (arith, h))
+seven_words (a ∷ b ∷ c ∷ d ∷ []) h = absurd (omega (arith, h))
+seven_words (a ∷ b ∷ c ∷ d ∷ e ∷ []) h = absurd (omega (arith, h))
+seven_words (a ∷ b ∷ c ∷ d ∷ e ∷ f ∷ []) h = absurd (omega (arith, h))
+seven_words (a ∷ b ∷ c ∷ d ∷ e ∷ f ∷ g ∷ []) h = refl
+seven_words (a ∷ b ∷ c ∷ d ∷ e ∷ f ∷ g ∷ k ∷ more) h = absurd (omega (arith, h))
 
 -- the bytes of the word that was read at a place
 pub word_read : {X : Type 0} (bytes_of : X → List ℕ) (words : List X) (k : ℕ) (word : X) (bytes : List ℕ) → k < length words → word ≡ get_or words k word → bytes ≡ bytes_of word → bytes ≡ word_at (map bytes_of words) k

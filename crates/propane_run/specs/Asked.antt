@@ -1,4 +1,4 @@
--- Which network and which policy a run is asked about, and under which scenario.
+-- Which network and which policy a run is asked about, under which scenario, and for which events.
 use Rattle.std.specs.Prelude.{◌≡◌, ℕ, List, [], ◌∷◌, Some, Ok}
 use Rattle.net_base.specs.Network.{PlainNet}
 use Rattle.path_words.specs.Policies.{PlainPolicy}
@@ -6,12 +6,14 @@ use Rattle.topology.specs.Topology.{spelled as net_spelled_by}
 use Rattle.policy_parser.specs.Spelled.{spelled as policy_spelled_by}
 use Rattle.stable_paths.specs.declared.scenario.Scenario.{Scenario}
 use Rattle.scenario_text.specs.Spelled.{spelled as scenario_spelled_by}
+use Rattle.event_text.specs.declared.events.Events.{Events}
+use Rattle.event_text.specs.Spelled.{spelled as events_spelled_by}
 use Rattle.net_sample.specs.Network.{sample_net}
 use Rattle.net_sample.specs.SamplePolicy.{sample_policy}
 use Rattle.propane_run.specs.declared.command.Command.{Command}
-use Rattle.propane_run.specs.declared.command.Command.TheVariants.{Compile, Evidence, Check, Explain, Replay, Sample}
+use Rattle.propane_run.specs.declared.command.Command.TheVariants.{Replay, Trace, Sample}
 use Rattle.propane_run.specs.Words.{words_are, names_read}
-use Rattle.propane_run.specs.Reading.{Holds, AllHeld}
+use Rattle.run_base.specs.Reading.{Holds, AllHeld}
 
 -- The words are this command, and the bytes of the first two names that it reads spell this network and this policy for it.
 pub record AsksFor (holds : Holds) (words : List (List ℕ)) (c : Command) (net : PlainNet) (policy : PlainPolicy) : Type 0 where
@@ -30,6 +32,13 @@ pub record AsksUnder (holds : Holds) (words : List (List ℕ)) (c : Command) (ne
   pub more : asked.more ≡ scenario_text ∷ []
   pub scenario_spelled : scenario_spelled_by net scenario_text ≡ Ok scenario
 
+-- Or the bytes of the third and last name spell these events for the network.
+pub record AsksOfEvents (holds : Holds) (words : List (List ℕ)) (c : Command) (net : PlainNet) (policy : PlainPolicy) (events : Events) : Type 0 where
+  pub asked : AsksFor holds words c net policy
+  pub events_text : List ℕ
+  pub more : asked.more ≡ events_text ∷ []
+  pub events_spelled : events_spelled_by net events_text ≡ Ok events
+
 -- The words are `sample` with this number, and these are its network and its policy.
 pub record IsSampled (words : List (List ℕ)) (n : ℕ) (net : PlainNet) (policy : PlainPolicy) : Type 0 where
   pub asked : words_are words ≡ Some (Sample n)
@@ -37,11 +46,9 @@ pub record IsSampled (words : List (List ℕ)) (n : ℕ) (net : PlainNet) (polic
   pub policy_is : policy ≡ sample_policy n
 
 -- The network and the policy that a command is to compile: those that its inputs spell, or those of the sample of its number.
--- Where a scenario is read, too, the inputs spell one.
+-- Where a scenario is read, too, or events, the inputs spell them.
 abbrev pub IsFor : Holds → List (List ℕ) → Command → PlainNet → PlainPolicy → Type 0
-IsFor holds words (Compile t p) net policy = AsksFor holds words (Compile t p) net policy
-IsFor holds words (Evidence t p) net policy = AsksFor holds words (Evidence t p) net policy
-IsFor holds words (Check t p c e) net policy = AsksFor holds words (Check t p c e) net policy
-IsFor holds words (Explain t p) net policy = AsksFor holds words (Explain t p) net policy
 IsFor holds words (Replay t p s) net policy = (scenario : Scenario) × AsksUnder holds words (Replay t p s) net policy scenario
+IsFor holds words (Trace t p e) net policy = (events : Events) × AsksOfEvents holds words (Trace t p e) net policy events
 IsFor holds words (Sample n) net policy = IsSampled words n net policy
+IsFor holds words c net policy = AsksFor holds words c net policy

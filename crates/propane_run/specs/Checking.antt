@@ -13,21 +13,17 @@ use Rattle.evidence_rules.specs.Verdicts.{IsVerdict}
 use Rattle.outcome_base.specs.Right.{IsRight}
 use Rattle.regret_law.specs.Passes.{Passes}
 use Rattle.propane_run.specs.declared.command.Command.{Command}
-use Rattle.propane_run.specs.declared.command.Command.TheVariants.{Compile, Evidence, Check, Explain, Replay, Sample}
+use Rattle.propane_run.specs.declared.command.Command.TheVariants.{Check}
 use Rattle.propane_run.specs.Asked.{AsksFor}
 use Rattle.propane_run.specs.Headline.{HasOutcomes}
-use Rattle.propane_run.specs.Reading.{Holds}
-use Rattle.propane_run.specs.Said.{Whole}
-use Rattle.propane_run.specs.VerdictLines.{holds_line, fails_line}
+use Rattle.run_base.specs.Reading.{Holds}
+use Rattle.run_base.specs.Said.{Whole}
+use Rattle.check_job.specs.VerdictLines.{holds_line, fails_line}
 
 -- the command checks evidence
 abbrev pub Checks : Command → Type 0
-Checks (Compile _ _) = ⊥
-Checks (Evidence _ _) = ⊥
 Checks (Check _ _ _ _) = Unit {0}
-Checks (Explain _ _) = ⊥
-Checks (Replay _ _ _) = ⊥
-Checks (Sample _) = ⊥
+Checks _ = ⊥
 
 -- The words are this command, and the bytes of the four names that it reads spell this network, this policy for it, this
 -- configuration and this evidence.

@@ -1,11 +1,11 @@
 -- What the clauses of a run say.
 use Rattle.std.specs.Prelude.{◌≡◌, ◌⊎◌, ℕ, ◌<◌, List, length, Some, IfSome}
 use Rattle.propane_run.specs.declared.command.Command.{Command}
-use Rattle.propane_run.specs.declared.outcome.Status.TheVariants.{BadInput}
-use Rattle.propane_run.specs.Said.{line}
+use Rattle.run_base.specs.declared.outcome.Status.TheVariants.{BadInput}
+use Rattle.run_base.specs.Said.{line}
 use Rattle.propane_run.specs.Words.{words_are, names_read}
-use Rattle.propane_run.specs.Reading.{Holds, AreTold, most, too_long}
-use Rattle.propane_run.specs.Run.{IsAmong, Comes}
+use Rattle.run_base.specs.Reading.{Holds, IsAmong, AreTold, most, too_long}
+use Rattle.propane_run.specs.Run.{Comes}
 
 -- The line tells that a name which the command reads holds too many bytes, or a fault of the texts.
 abbrev pub FaultFound : Holds → List (List ℕ) → Command → List ℕ → Type 0

@@ -11,9 +11,9 @@ use Rattle.outcome_base.specs.Outcomes.{Failures, Outcome, IsStable}
 use Rattle.outcome_base.specs.Right.{IsRight}
 use Rattle.propane_run.specs.declared.command.Command.{Command}
 use Rattle.propane_run.specs.Asked.{AsksFor}
-use Rattle.propane_run.specs.Compiled.{IsCompiled}
-use Rattle.propane_run.specs.Reading.{Holds}
-use Rattle.propane_run.specs.Said.{Whole}
+use Rattle.compile_jobs.specs.Compiled.{IsCompiled}
+use Rattle.run_base.specs.Reading.{Holds}
+use Rattle.run_base.specs.Said.{Whole}
 
 -- whatever fails, there is a stable outcome for every prefix
 abbrev pub HasOutcomes : PlainNet → PlainPolicy → PlainConfig → Type 0

@@ -1,14 +1,24 @@
--- What a run that ends with Refused has written, and for what.
+-- Which commands refuse a policy, and what a run that ends with Refused has written.
 use Rattle.std.specs.Prelude.{ℕ, List, Option}
 use Rattle.net_base.specs.Network.{PlainNet}
 use Rattle.path_words.specs.Policies.{PlainPolicy}
 use Rattle.case_core.specs.declared.refusal.CompileRefusal.{CompileRefusal}
 use Rattle.propane_run.specs.declared.command.Command.{Command}
+use Rattle.propane_run.specs.declared.command.Command.TheVariants.{Compile, Evidence, Replay, Trace, Sample}
 use Rattle.propane_run.specs.Asked.{IsFor}
-use Rattle.propane_run.specs.Compiled.{IsRefusedFor}
-use Rattle.propane_run.specs.Reading.{Holds}
-use Rattle.propane_run.specs.RefusalLines.{refusal_line}
-use Rattle.propane_run.specs.Said.{Whole}
+use Rattle.compile_jobs.specs.Compiled.{IsRefusedFor}
+use Rattle.run_base.specs.Reading.{Holds}
+use Rattle.refusal_lines.specs.RefusalLines.{refusal_line}
+use Rattle.run_base.specs.Said.{Whole}
+
+-- the command writes a part of what is compiled from a policy, or what comes of it
+abbrev pub Compiles : Command → Type 0
+Compiles (Compile _ _) = Unit {0}
+Compiles (Evidence _ _) = Unit {0}
+Compiles (Replay _ _ _) = Unit {0}
+Compiles (Trace _ _ _) = Unit {0}
+Compiles (Sample _) = Unit {0}
+Compiles _ = ⊥
 
 -- `err` grew by exactly the line of a refusal, which applies to the network and the policy that were asked for.
 pub record RefusesRight {E : Type 0} (holds : Holds) (taken : E → Option (List ℕ)) (words : List (List ℕ)) (c : Command) (err err' : E) : Type 0 where

@@ -11,10 +11,10 @@ use Rattle.stable_paths.specs.declared.scenario.Scenario.{Scenario}
 use Rattle.stable_paths.specs.Scenarios.{failures_of}
 use Rattle.propane_run.specs.declared.command.Command.{Command}
 use Rattle.propane_run.specs.Asked.{AsksUnder}
-use Rattle.propane_run.specs.Compiled.{IsCompiled}
-use Rattle.propane_run.specs.Reading.{Holds}
-use Rattle.propane_run.specs.Said.{Whole}
-use Rattle.propane_run.specs.commands.Replay.{IsReplayed}
+use Rattle.compile_jobs.specs.Compiled.{IsCompiled}
+use Rattle.run_base.specs.Reading.{Holds}
+use Rattle.run_base.specs.Said.{Whole}
+use Rattle.replay_job.specs.Replayed.{IsReplayed}
 
 -- `out` grew by exactly the report of an outcome, which is stable with ties broken for the configuration that is compiled from the
 -- policy, under the failures of the scenario that was asked for and for its prefix. There is no other such outcome, and the

@@ -5,8 +5,8 @@ use Rattle.evidence_base.specs.Made.{PlainCaseEvidence}
 use Rattle.evidence_summary.specs.Summary.{summary_text}
 use Rattle.net_sample.specs.Network.{sample_net}
 use Rattle.net_sample.specs.SamplePolicy.{sample_policy}
-use Rattle.propane_run.specs.Compiled.{IsCompiled}
-use Rattle.propane_run.specs.Said.{Whole}
+use Rattle.compile_jobs.specs.Compiled.{IsCompiled}
+use Rattle.run_base.specs.Said.{Whole}
 
 -- `out` grew by exactly the summary of the sample's network and of evidence that passes with the configuration which is compiled
 -- from its policy.

@@ -1,11 +1,14 @@
 -- Which words are a command.
-use Rattle.std.specs.Prelude.{ℕ, ◌<◌, ◌&&◌, nat_le, List, [], ◌∷◌, Option, Some, None, if◌then◌else◌, codes, map, option_and_then, option_map, slice_get, unwrap_or}
+use Rattle.std.specs.Prelude.{ℕ, ◌<◌, ◌&&◌, nat_le, List, [], ◌∷◌, Option, Some, None, if◌then◌else◌, codes, option_and_then, option_map}
 use Rattle.std.specs.List.{AllByRecursion}
 use Rattle.std.specs.Str.{bytes_eq}
 use Rattle.net_base.specs.PrefixText.{length_number}
 use Rattle.net_sample.specs.Network.{IsSampleNumber}
+use Rattle.run_base.specs.declared.outcome.Status.TheVariants.{Usage}
+use Rattle.run_base.specs.Reading.{names_at}
+use Rattle.run_base.specs.Said.{Said, line}
 use Rattle.propane_run.specs.declared.command.Command.{Command}
-use Rattle.propane_run.specs.declared.command.Command.TheVariants.{Compile, Evidence, Check, Explain, Replay, Sample}
+use Rattle.propane_run.specs.declared.command.Command.TheVariants.{Compile, Evidence, Check, Explain, Replay, Trace, Audit, Sample}
 
 -- a number from 2 to 96, of at most two digits, without a leading zero
 abbrev pub sample_number : List ℕ → Option ℕ
@@ -24,16 +27,24 @@ with_two_names word =
     else None
 
 abbrev pub with_three_names : List ℕ → Option Command
-with_three_names word = if bytes_eq word (codes "replay") then Some (Replay 1 2 3) else None
+with_three_names word =
+    if bytes_eq word (codes "replay") then Some (Replay 1 2 3)
+    else if bytes_eq word (codes "trace") then Some (Trace 1 2 3)
+    else None
 
 abbrev pub with_four_names : List ℕ → Option Command
 with_four_names word = if bytes_eq word (codes "check") then Some (Check 1 2 3 4) else None
+
+-- or with six
+abbrev pub with_six_names : List ℕ → Option Command
+with_six_names word = if bytes_eq word (codes "audit") then Some (Audit 1 2 3 4 5 6) else None
 
 abbrev pub words_are : List (List ℕ) → Option Command
 words_are (word ∷ digits ∷ []) = with_number word digits
 words_are (word ∷ a ∷ b ∷ []) = with_two_names word
 words_are (word ∷ a ∷ b ∷ c ∷ []) = with_three_names word
 words_are (word ∷ a ∷ b ∷ c ∷ d ∷ []) = with_four_names word
+words_are (word ∷ a ∷ b ∷ c ∷ d ∷ e ∷ f ∷ []) = with_six_names word
 words_are _ = None
 
 -- the places of the names that a command reads, in order
@@ -42,26 +53,24 @@ places_of (Compile topology policy) = topology ∷ policy ∷ []
 places_of (Evidence topology policy) = topology ∷ policy ∷ []
 places_of (Explain topology policy) = topology ∷ policy ∷ []
 places_of (Replay topology policy scenario) = topology ∷ policy ∷ scenario ∷ []
+places_of (Trace topology policy events) = topology ∷ policy ∷ events ∷ []
 places_of (Check topology policy config evidence) = topology ∷ policy ∷ config ∷ evidence ∷ []
 places_of (Sample leaves) = []
+places_of (Audit topology policy config evidence scenario tables) = topology ∷ policy ∷ config ∷ evidence ∷ scenario ∷ tables ∷ []
 
 -- where it has a number, it is that of a sample
 abbrev pub HasNumber : Command → Type 0
-HasNumber (Compile _ _) = Unit {0}
-HasNumber (Evidence _ _) = Unit {0}
-HasNumber (Check _ _ _ _) = Unit {0}
-HasNumber (Explain _ _) = Unit {0}
-HasNumber (Replay _ _ _) = Unit {0}
 HasNumber (Sample leaves) = IsSampleNumber leaves
+HasNumber _ = Unit {0}
 
 -- the places are places of the words, and the number is that of a sample
 abbrev pub IsWithin : ℕ → Command → Type 0
 IsWithin count c = AllByRecursion (λ place. place < count) (places_of c) × HasNumber c
 
--- the word at a place
-abbrev pub word_at : List (List ℕ) → ℕ → List ℕ
-word_at words k = unwrap_or (slice_get words k) []
-
 -- the names that a command reads, in order
 abbrev pub names_read : List (List ℕ) → Command → List (List ℕ)
-names_read words c = map (word_at words) (places_of c)
+names_read words c = names_at words (places_of c)
+
+-- what is said of words that are no command
+abbrev pub usage : Said
+usage = line Usage (codes "propane: usage: compile TOPO POLICY, evidence TOPO POLICY, check TOPO POLICY CONFIG EVIDENCE, explain TOPO POLICY, replay TOPO POLICY SCENARIO, trace TOPO POLICY EVENTS, sample N, audit TOPO POLICY CONFIG EVIDENCE SCENARIO TABLES\n")

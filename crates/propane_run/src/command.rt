@@ -1,8 +1,14 @@
 //! Which command the words are.
-ghost use Rattle.std.specs.Prelude.{◌≡◌, IfSome, length, map, string_bytes};
-ghost use Rattle.propane_run.specs.Words.{words_are, sample_number, with_number, with_two_names, with_three_names, with_four_names, IsWithin};
+ghost use Rattle.std.specs.Prelude.{◌≡◌, IfOk, IfSome, length, map, string_bytes};
+ghost use Rattle.propane_run.specs.Words.{words_are, sample_number, with_number, with_two_names, with_three_names, with_four_names, with_six_names, places_of, IsWithin};
 
 use net_base::read_length;
+use outside::NoMemory;
+use std::alloc::Global;
+
+/// What is said of words that are no command.
+pub const USAGE: &[u8] =
+    b"propane: usage: compile TOPO POLICY, evidence TOPO POLICY, check TOPO POLICY CONFIG EVIDENCE, explain TOPO POLICY, replay TOPO POLICY SCENARIO, trace TOPO POLICY EVENTS, sample N, audit TOPO POLICY CONFIG EVIDENCE SCENARIO TABLES\n";
 
 /// A command. The numbers are the places of its names in the words, counted from 0, but for that of `sample`.
 #[derive(Clone, Copy, Debug, PartialEq, Eq)]
@@ -17,8 +23,35 @@ pub enum Command {
     Explain(u32, u32),
     /// `replay TOPO POLICY SCENARIO`.
     Replay(u32, u32, u32),
+    /// `trace TOPO POLICY EVENTS`.
+    Trace(u32, u32, u32),
     /// `sample N`: the number of leaves, from 2 to 96, without leading zeros.
     Sample(u16),
+    /// `audit TOPO POLICY CONFIG EVIDENCE SCENARIO TABLES`.
+    Audit(u32, u32, u32, u32, u32, u32),
+}
+
+impl Command {
+    /// The places of the names that the command reads, in order.
+    pub fn places(self, alloc: Global) -> Result<Vec<u32>, NoMemory>
+        ensures { IfOk result (λ places. places.items ≡ places_of self) }
+    {
+        match self {
+            Command::Compile(topology, policy)
+            | Command::Evidence(topology, policy)
+            | Command::Explain(topology, policy) => Ok(vec![in alloc; topology, policy]?),
+            Command::Replay(topology, policy, third) | Command::Trace(topology, policy, third) => {
+                Ok(vec![in alloc; topology, policy, third]?)
+            }
+            Command::Check(topology, policy, config, evidence) => {
+                Ok(vec![in alloc; topology, policy, config, evidence]?)
+            }
+            Command::Sample(_) => Ok(Vec::new(alloc)),
+            Command::Audit(topology, policy, config, evidence, scenario, tables) => {
+                Ok(vec![in alloc; topology, policy, config, evidence, scenario, tables]?)
+            }
+        }
+    }
 }
 
 // The number of a sample.
@@ -68,6 +101,8 @@ fn of_three_names(word: &str) -> Option<Command>
 {
     if word == "replay" {
         Some(Command::Replay(1, 2, 3))
+    } else if word == "trace" {
+        Some(Command::Trace(1, 2, 3))
     } else {
         None
     }
@@ -85,6 +120,18 @@ fn of_four_names(word: &str) -> Option<Command>
     }
 }
 
+// The command of this word with six names after it.
+fn of_six_names(word: &str) -> Option<Command>
+    ensures is { result ≡ with_six_names word.now }
+    ensures within { IfSome result (λ c. IsWithin 7 c) }
+{
+    if word == "audit" {
+        Some(Command::Audit(1, 2, 3, 4, 5, 6))
+    } else {
+        None
+    }
+}
+
 /// The command that the words are, or None exactly where they are none. It takes no memory.
 pub fn words_of(words: &[String]) -> Option<Command>
     ensures is { result ≡ words_are (map string_bytes words.now) }
@@ -95,6 +142,7 @@ pub fn words_of(words: &[String]) -> Option<Command>
         [word, _, _] => of_two_names(word.as_str()),
         [word, _, _, _] => of_three_names(word.as_str()),
         [word, _, _, _, _] => of_four_names(word.as_str()),
+        [word, _, _, _, _, _, _] => of_six_names(word.as_str()),
         _ => None,
     }
 }

@@ -1,9 +1,9 @@
 //! Laws of the commands, each the contract of a function without a body.
 ghost use Rattle.std.specs.Prelude.{◌≡◌, ℕ, List, [], ◌∷◌};
 ghost use Rattle.propane_run.specs.Pairs.{ArePair};
-ghost use Rattle.propane_run.specs.Reading.{Holds, SaidOfTold};
+ghost use Rattle.run_base.specs.Reading.{Holds, SaidOfTold};
 ghost use Rattle.propane_run.specs.Run.{Job};
-ghost use Rattle.propane_run.specs.Said.{Said, text};
+ghost use Rattle.run_base.specs.Said.{Said, text};
 ghost use Rattle.propane_run.specs.Words.{names_read};
 ghost use Rattle.propane_run.specs.declared.command.Command.{Command};
 

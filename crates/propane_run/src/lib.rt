@@ -5,87 +5,57 @@ ghost use Rattle.std.specs.Prelude.{◌≡◌, ◌⊎◌, ◌<◌, ◌≤◌, �
 ghost use Rattle.net_base.specs.Network.{PlainNet};
 ghost use Rattle.outside.specs.Outside.{Rose};
 ghost use Rattle.path_words.specs.Policies.{PlainPolicy};
+ghost use Rattle.outcome_base.specs.Outcomes.{IsStable};
+ghost use Rattle.stable_paths.specs.Scenarios.{failures_of};
+ghost use Rattle.audit_job.specs.Asked.{Audited};
 ghost use Rattle.evidence_base.specs.Made.{PlainCaseEvidence};
 ghost use Rattle.case_core.specs.declared.refusal.CompileRefusal.{CompileRefusal};
 ghost use Rattle.propane_run.specs.Asked.{AsksFor, IsFor};
 ghost use Rattle.config_base.specs.Configs.{PlainConfig};
 ghost use Rattle.regret_law.specs.Passes.{Passes};
-ghost use Rattle.propane_run.specs.Checking.{Checks, AsksOf, ChecksRight, TellsFault};
+ghost use Rattle.propane_run.specs.Auditing.{AsksAudit, AuditsRight};
+ghost use Rattle.propane_run.specs.Checking.{Checks, AsksOf, ChecksRight};
 ghost use Rattle.propane_run.specs.Clauses.{FaultFound, ReadsSmoothly};
-ghost use Rattle.propane_run.specs.Compiled.{IsCompiled, IsRefusedFor};
-ghost use Rattle.propane_run.specs.Compiling.{Compiles};
+ghost use Rattle.compile_jobs.specs.Compiled.{IsCompiled, IsRefusedFor};
 ghost use Rattle.propane_run.specs.Explaining.{ExplainsRight};
+ghost use Rattle.propane_run.specs.Failing.{Judges, TellsFailure};
 ghost use Rattle.propane_run.specs.Headline.{CompilesRight, GivesEvidence};
-ghost use Rattle.propane_run.specs.Reading.{AreOnlyRead, RoseOf, SaidOfTold, unread};
-ghost use Rattle.propane_run.specs.RefusalLines.{refusal_line as line_of_refusal};
-ghost use Rattle.propane_run.specs.Refusing.{RefusesRight};
+ghost use Rattle.run_base.specs.Reading.{AreOnlyRead, IsAmong, RoseOf, SaidOfTold, unread};
+ghost use Rattle.refusal_lines.specs.RefusalLines.{refusal_line as line_of_refusal};
+ghost use Rattle.propane_run.specs.Refusing.{Compiles, RefusesRight};
 ghost use Rattle.propane_run.specs.Replaying.{ReplaysRight};
-ghost use Rattle.propane_run.specs.Run.{IsAnswer, IsAmong, Comes, Job};
+ghost use Rattle.propane_run.specs.Run.{IsAnswer, IsAnswerOf, Comes, Job};
 ghost use Rattle.propane_run.specs.Sampling.{Samples};
-ghost use Rattle.propane_run.specs.Said.{Said, said, text, usage, Delivered, Whole, Part};
-ghost use Rattle.propane_run.specs.Words.{words_are, names_read, word_at};
+ghost use Rattle.run_base.specs.Said.{Said, said, text, Delivered, Whole, Part};
+ghost use Rattle.propane_run.specs.Tracing.{TracesRight};
+ghost use Rattle.propane_run.specs.Words.{words_are, names_read, usage, IsWithin};
 
 mod command;
-mod commands;
-mod deliver;
-mod explanations;
-mod fault_lines;
+mod jobs;
 mod laws;
-mod outcome;
-mod pairs;
-mod reading;
-mod refusal_lines;
-mod texts;
-mod verdict_lines;
 
+use command::USAGE;
 pub use command::{Command, words_of};
 pub use laws::{commands_say_one_thing, told_texts_come_to_one_thing, written_pairs_pass};
-pub use outcome::Status;
-use outcome::Stop;
 use outside::{Inputs, Sink};
+pub use run_base::Status;
+use run_base::{Stop, deliver, read_all, send};
 use std::alloc::Global;
 
-// The word at a place.
-fn word(words: &[String], place: u32) -> &str
-    requires { place < length words.now }
-    ensures { result.now ≡ word_at (map string_bytes words.now) place }
-{
-    words[place as usize].as_str()
-}
-
-// What the words and the inputs come to, before anything is written.
-fn answer<I: Inputs>(alloc: Global, words: &[String], inputs: &mut I) -> Result<Vec<u8>, Stop>
-    ensures says { IsAnswer (I.holds inputs.old) (RoseOf (I.faults inputs.old) (I.faults inputs.new)) (map string_bytes words.now) (said result) }
+// What a command comes to, before anything is written: its names are read in order, and its job is done on their bytes.
+fn answer<I: Inputs>(
+    alloc: Global,
+    words: &[String],
+    inputs: &mut I,
+    command: Command,
+) -> Result<Vec<u8>, Stop>
+    requires { IsWithin (length words.now) command }
+    ensures says { IsAnswerOf (I.holds inputs.old) (RoseOf (I.faults inputs.old) (I.faults inputs.new)) (map string_bytes words.now) (Some command) (said result) }
     ensures read { AreOnlyRead (I.holds inputs.old) (I.holds inputs.new) (I.faults inputs.old) (I.faults inputs.new) (I.sure inputs.old) (I.sure inputs.new) }
 {
-    match words_of(words) {
-        Some(Command::Compile(topology, policy)) => {
-            commands::compile::compile(alloc, inputs, word(words, topology), word(words, policy))
-        }
-        Some(Command::Evidence(topology, policy)) => {
-            commands::evidence::evidence(alloc, inputs, word(words, topology), word(words, policy))
-        }
-        Some(Command::Check(topology, policy, config, evidence)) => commands::check::check(
-            alloc,
-            inputs,
-            word(words, topology),
-            word(words, policy),
-            word(words, config),
-            word(words, evidence),
-        ),
-        Some(Command::Explain(topology, policy)) => {
-            commands::explain::explain(alloc, inputs, word(words, topology), word(words, policy))
-        }
-        Some(Command::Replay(topology, policy, scenario)) => commands::replay::replay(
-            alloc,
-            inputs,
-            word(words, topology),
-            word(words, policy),
-            word(words, scenario),
-        ),
-        Some(Command::Sample(leaves)) => commands::sample::sample(alloc, leaves),
-        None => Err(Stop::Usage),
-    }
+    let places = command.places(alloc)?;
+    let texts = read_all(alloc, inputs, words, &places)?;
+    jobs::job(alloc, command, texts.as_slice())
 }
 
 // The words are judged, the inputs are read, the job runs, and what it comes to is written.
@@ -103,8 +73,13 @@ fn run_whole<I: Inputs, O: Sink, E: Sink>(
     ensures out_counts { O.faults out.old ≤ O.faults out.new }
     ensures err_counts { E.faults err.old ≤ E.faults err.new }
 {
-    let came = answer(alloc, words, inputs);
-    deliver::deliver(&came, out, err)
+    match words_of(words) {
+        Some(command) => {
+            let came = answer(alloc, words, inputs, command);
+            deliver(&came, out, err)
+        }
+        None => send(err, USAGE, Status::Usage),
+    }
 }
 
 /// The run of a command: the words after the program's name, the named inputs, and the two sinks.
@@ -148,15 +123,25 @@ pub fn run<I: Inputs, O: Sink, E: Sink>(
     ensures replays_right { (topology policy scenario : ℕ) → let c = Command.Replay topology policy scenario in words_are (map string_bytes words.now) ≡ Some c
         → result ≡ Status.Done → ReplaysRight (I.holds inputs.old) O.taken (map string_bytes words.now) c out.old out.new }
 
+    // Where `trace` ends with Done, `out` grew by the trace of the events that the inputs spell, for the configuration that is
+    // compiled, which is right. Where no message waits after them, what it tells of the routes is a replay.
+    ensures traces_right { (topology policy events : ℕ) → let c = Command.Trace topology policy events in words_are (map string_bytes words.now) ≡ Some c
+        → result ≡ Status.Done → TracesRight (I.holds inputs.old) O.taken (map string_bytes words.now) c out.old out.new }
+
     // Where `sample` ends with Done, `out` grew by the summary of its network and of the evidence that is compiled from its
     // policy.
     ensures sampled { (leaves : ℕ) → words_are (map string_bytes words.now) ≡ Some (Command.Sample leaves)
         → result ≡ Status.Done → Samples O.taken leaves out.old out.new }
 
-    // It ends with CheckFails only where the command checks, and the inputs spell evidence of which a rule fails: the first
-    // one, which `out` tells.
-    ensures check_fails { result ≡ Status.CheckFails → (c : Command) × Checks c
-        × TellsFault (I.holds inputs.old) O.taken (map string_bytes words.now) c out.old out.new × (err.new ≡ err.old) }
+    // Where `audit` ends with Done, the evidence that the inputs spell passes, and the tables that they spell are stable and right; `out`
+    // says so, and goes on with their report.
+    ensures audits_right { (topology policy config evidence scenario tables : ℕ) → let c = Command.Audit topology policy config evidence scenario tables in words_are (map string_bytes words.now) ≡ Some c
+        → result ≡ Status.Done → AuditsRight (I.holds inputs.old) O.taken (map string_bytes words.now) c out.old out.new }
+
+    // It ends with CheckFails only where the command judges what it is given, and that fails: of evidence the first rule that fails, or of
+    // tables the first router that isn't stable, which `out` tells.
+    ensures check_fails { result ≡ Status.CheckFails → (c : Command) × Judges c
+        × TellsFailure (I.holds inputs.old) O.taken (map string_bytes words.now) c out.old out.new × (err.new ≡ err.old) }
 
     // It ends with Refused only where the command compiles, and its inputs spell a network and a policy, or it has those of the
     // sample, to which the refusal applies that the line tells.
@@ -241,6 +226,21 @@ pub fn run<I: Inputs, O: Sink, E: Sink>(
         → ReadsSmoothly (I.holds inputs.old) (RoseOf (I.faults inputs.old) (I.faults inputs.new)) (map string_bytes words.now) c
         → ¬ Rose (O.faults out.old) (O.faults out.new)
         → AsksOf (I.holds inputs.old) (map string_bytes words.now) c net policy config evidence → ¬ Passes net policy config evidence
+        → (result ≡ Status.NoMemory) ⊎ (result ≡ Status.CheckFails) }
+
+    // There `audit` says that tables are stable where the evidence passes and they are, and else fails, if no count of `out` rises; or
+    // memory ran out.
+    ensures stable_where { (topology policy config evidence scenario tables : ℕ) → let c = Command.Audit topology policy config evidence scenario tables in (net : PlainNet) (asked : PlainPolicy) (audited : Audited)
+        → ReadsSmoothly (I.holds inputs.old) (RoseOf (I.faults inputs.old) (I.faults inputs.new)) (map string_bytes words.now) c
+        → ¬ Rose (O.faults out.old) (O.faults out.new)
+        → AsksAudit (I.holds inputs.old) (map string_bytes words.now) c net asked audited
+        → Passes net asked audited.config audited.evidence → IsStable net asked audited.config (failures_of audited.scenario) audited.scenario.prefix audited.routes
+        → (result ≡ Status.NoMemory) ⊎ (result ≡ Status.Done) }
+    ensures unstable_where { (topology policy config evidence scenario tables : ℕ) → let c = Command.Audit topology policy config evidence scenario tables in (net : PlainNet) (asked : PlainPolicy) (audited : Audited)
+        → ReadsSmoothly (I.holds inputs.old) (RoseOf (I.faults inputs.old) (I.faults inputs.new)) (map string_bytes words.now) c
+        → ¬ Rose (O.faults out.old) (O.faults out.new)
+        → AsksAudit (I.holds inputs.old) (map string_bytes words.now) c net asked audited
+        → ¬ (Passes net asked audited.config audited.evidence × IsStable net asked audited.config (failures_of audited.scenario) audited.scenario.prefix audited.routes)
         → (result ≡ Status.NoMemory) ⊎ (result ≡ Status.CheckFails) }
 
     // Another run may follow: no read changed what a name holds, no count fell, and a name that is sure stays so.

@@ -1,21 +1,26 @@
-use Rattle.std.proofs.Common.{map, string_bytes, Some, ap, sym, ◌∙◌}
-use Rattle.propane_run.specs.Reading.{RoseOf}
-use Rattle.propane_run.proofs.ByCommand.Check as check
-use Rattle.propane_run.proofs.ByCommand.Replay as replay
+use Rattle.std.proofs.Common.{◌≡◌, ℕ, List, map, string_bytes, subst, ◌∙◌}
+use Rattle.std.proofs.lemmas.Result.{err_from_is_err_and}
+use Rattle.run_base.specs.Reading.{AllHeld, RoseOf, names_at}
+use Rattle.run_base.specs.Said.{IsGiven, said}
+use Rattle.run_base.proofs.Readings.{all_read, nothing_follows}
+use Rattle.propane_run.specs.Run.{Job}
+use Rattle.propane_run.specs.Words.{names_read, places_of}
 use Rattle.propane_run.proofs.answer.Goals as goal
 
-pub returns-in-Some-Check-clause-says : goal.returns-in-Some-Check-clause-says
-returns-in-Some-Check-clause-says g c =
-    let words = map string_bytes c.args.words.now in
-    let rose = RoseOf (g.I.Inputs.faults c.args.inputs.now) (g.I.Inputs.faults c.check.new.inputs) in
-    check.answered (g.I.Inputs.holds c.args.inputs.now) rose words _ c.in-Some-Check.topology c.in-Some-Check.policy c.in-Some-Check.config c.in-Some-Check.evidence _ _ _ _
-    (ap Some (sym c.in-Some-Check.field-0-is) ∙ c.in-Some-Check.ensures.is)
-    c.word-in-Some-Check.ensures c.word-in-Some-Check-2.ensures c.word-in-Some-Check-3.ensures c.word-in-Some-Check-4.ensures c.check.ensures.says
+pub returns-in_err-texts-clause-says : goal.returns-in_err-texts-clause-says
+returns-in_err-texts-clause-says g c =
+    let rose = RoseOf (g.I.Inputs.faults c.args.inputs.now) (g.I.Inputs.faults c.read_all.new.inputs) in
+    let names = names_read (map string_bytes c.args.words.now) c.args.command in
+    let same : c.deref.result.now ≡ places_of c.args.command = c.deref.ensures.value ∙ c.in_ok-places.ensures in
+    let stop = err_from_is_err_and c.from_residual-in_err-texts.result c.from_residual-in_err-texts.ensures.1 in
+    rw (stop.1, stop.2) (nothing_follows (g.I.Inputs.holds c.args.inputs.now) rose _ names (λ bs. IsGiven (Job c.args.command bs)) (rw same at c.in_err-texts.ensures.read))
 
-pub returns-in-Some-Replay-clause-says : goal.returns-in-Some-Replay-clause-says
-returns-in-Some-Replay-clause-says g c =
+pub returns-clause-says : goal.returns-clause-says
+returns-clause-says g c =
     let words = map string_bytes c.args.words.now in
-    let rose = RoseOf (g.I.Inputs.faults c.args.inputs.now) (g.I.Inputs.faults c.replay.new.inputs) in
-    replay.answered (g.I.Inputs.holds c.args.inputs.now) rose words _ c.in-Some-Replay.topology c.in-Some-Replay.policy c.in-Some-Replay.scenario _ _ _
-    (ap Some (sym c.in-Some-Replay.field-0-is) ∙ c.in-Some-Replay.ensures.is)
-    c.word-in-Some-Replay.ensures c.word-in-Some-Replay-2.ensures c.word-in-Some-Replay-3.ensures c.replay.ensures.says
+    let rose = RoseOf (g.I.Inputs.faults c.args.inputs.now) (g.I.Inputs.faults c.read_all.new.inputs) in
+    let same : c.deref.result.now ≡ places_of c.args.command = c.deref.ensures.value ∙ c.in_ok-places.ensures in
+    let Held : List ℕ → Type 0 = λ places. AllHeld (g.I.Inputs.holds c.args.inputs.now) (names_at words places) c.in_ok-texts.texts in
+    let Says : List (List ℕ) → Type 0 = λ bs. IsGiven (Job c.args.command bs) (said c.job.result) in
+    all_read (g.I.Inputs.holds c.args.inputs.now) rose (said c.job.result) (names_read words c.args.command) c.in_ok-texts.texts (λ bs. IsGiven (Job c.args.command bs))
+    (subst Held same c.in_ok-texts.ensures.read) (subst Says c.as_slice.ensures c.job.ensures)

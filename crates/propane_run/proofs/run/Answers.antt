@@ -1,12 +1,13 @@
 use Rattle.std.proofs.Common.{map, string_bytes}
-use Rattle.propane_run.specs.Reading.{RoseOf}
+use Rattle.run_base.specs.Reading.{RoseOf}
 use Rattle.propane_run.proofs.RunLaws as law
+use Rattle.propane_run.proofs.ByCommand.Audit as audit
 use Rattle.propane_run.proofs.ByCommand.Check as check
-use Rattle.propane_run.proofs.ByCommand.Compile as compile
-use Rattle.propane_run.proofs.ByCommand.Evidence as evidence
 use Rattle.propane_run.proofs.ByCommand.Explain as explain
 use Rattle.propane_run.proofs.ByCommand.Replay as replay
 use Rattle.propane_run.proofs.ByCommand.Sample as sample
+use Rattle.propane_run.proofs.ByCommand.Trace as trace
+use Rattle.propane_run.proofs.ByCommand.Written as written
 use Rattle.propane_run.proofs.Checkers as checkers
 use Rattle.propane_run.proofs.Compilers as compilers
 use Rattle.propane_run.proofs.run.Goals as goal
@@ -15,25 +16,25 @@ pub returns-clause-right : goal.returns-clause-right
 returns-clause-right g c = λ t p asks is.
     let h = c.run_whole.ensures.whole in
     let d = law.done_for _ _ _ _ (g.I.Inputs.holds c.args.inputs.now) (RoseOf (g.I.Inputs.faults c.args.inputs.now) (g.I.Inputs.faults c.run_whole.new.inputs)) (map string_bytes c.args.words.now) _ _ _ _ h.0 _ h.1 h.2 _ asks is in
-    (compile.compiled _ _ _ _ _ d.0 d.2 t p d.1).0
+    (written.compiled _ _ _ _ _ d.0 d.2 t p d.1).0
 
 pub returns-clause-compiled : goal.returns-clause-compiled
 returns-clause-compiled g c = λ t p asks is.
     let h = c.run_whole.ensures.whole in
     let d = law.done_for _ _ _ _ (g.I.Inputs.holds c.args.inputs.now) (RoseOf (g.I.Inputs.faults c.args.inputs.now) (g.I.Inputs.faults c.run_whole.new.inputs)) (map string_bytes c.args.words.now) _ _ _ _ h.0 _ h.1 h.2 _ asks is in
-    compile.compiled _ _ _ _ _ d.0 d.2 t p d.1
+    written.compiled _ _ _ _ _ d.0 d.2 t p d.1
 
 pub returns-clause-gives_evidence : goal.returns-clause-gives_evidence
 returns-clause-gives_evidence g c = λ t p asks is.
     let h = c.run_whole.ensures.whole in
     let d = law.done_for _ _ _ _ (g.I.Inputs.holds c.args.inputs.now) (RoseOf (g.I.Inputs.faults c.args.inputs.now) (g.I.Inputs.faults c.run_whole.new.inputs)) (map string_bytes c.args.words.now) _ _ _ _ h.0 _ h.1 h.2 _ asks is in
-    evidence.given _ _ _ _ _ d.0 d.2 t p d.1
+    written.given _ _ _ _ _ d.0 d.2 t p d.1
 
 pub returns-clause-checks_right : goal.returns-clause-checks_right
 returns-clause-checks_right g c = λ x y z w asks is.
     let h = c.run_whole.ensures.whole in
     let d = law.done_for _ _ _ _ (g.I.Inputs.holds c.args.inputs.now) (RoseOf (g.I.Inputs.faults c.args.inputs.now) (g.I.Inputs.faults c.run_whole.new.inputs)) (map string_bytes c.args.words.now) _ _ _ _ h.0 _ h.1 h.2 _ asks is in
-    check.right _ _ _ (λ bs what says. says) _ _ _ d.0 d.2 d.1
+    check.right _ _ x y z w _ _ _ d.0 d.2 d.1
 
 pub returns-clause-explains_right : goal.returns-clause-explains_right
 returns-clause-explains_right g c = λ t p asks is.
@@ -45,7 +46,13 @@ pub returns-clause-replays_right : goal.returns-clause-replays_right
 returns-clause-replays_right g c = λ t p s asks is.
     let h = c.run_whole.ensures.whole in
     let d = law.done_for _ _ _ _ (g.I.Inputs.holds c.args.inputs.now) (RoseOf (g.I.Inputs.faults c.args.inputs.now) (g.I.Inputs.faults c.run_whole.new.inputs)) (map string_bytes c.args.words.now) _ _ _ _ h.0 _ h.1 h.2 _ asks is in
-    replay.right _ _ _ (λ bs what says. says) _ _ _ d.0 d.2 d.1
+    replay.right _ _ _ _ _ d.0 d.2 t p s d.1
+
+pub returns-clause-traces_right : goal.returns-clause-traces_right
+returns-clause-traces_right g c = λ t p e asks is.
+    let h = c.run_whole.ensures.whole in
+    let d = law.done_for _ _ _ _ (g.I.Inputs.holds c.args.inputs.now) (RoseOf (g.I.Inputs.faults c.args.inputs.now) (g.I.Inputs.faults c.run_whole.new.inputs)) (map string_bytes c.args.words.now) _ _ _ _ h.0 _ h.1 h.2 _ asks is in
+    trace.right _ _ _ _ _ d.0 d.2 t p e d.1
 
 pub returns-clause-sampled : goal.returns-clause-sampled
 returns-clause-sampled g c = λ n asks is.
@@ -113,3 +120,19 @@ pub returns-clause-fails_where : goal.returns-clause-fails_where
 returns-clause-fails_where g c = λ command checks net policy config evidence smooth calm asks fails.
     let h = c.run_whole.ensures.whole in
     checkers.fails_where _ _ _ _ _ _ _ _ _ _ _ net policy config evidence command checks asks calm fails (law.complete _ _ _ _ (g.I.Inputs.holds c.args.inputs.now) (RoseOf (g.I.Inputs.faults c.args.inputs.now) (g.I.Inputs.faults c.run_whole.new.inputs)) (map string_bytes c.args.words.now) _ _ _ _ h.0 _ h.1 h.2 _ smooth)
+
+pub returns-clause-audits_right : goal.returns-clause-audits_right
+returns-clause-audits_right g c = λ t p x y s r asks is.
+    let h = c.run_whole.ensures.whole in
+    let d = law.done_for _ _ _ _ (g.I.Inputs.holds c.args.inputs.now) (RoseOf (g.I.Inputs.faults c.args.inputs.now) (g.I.Inputs.faults c.run_whole.new.inputs)) (map string_bytes c.args.words.now) _ _ _ _ h.0 _ h.1 h.2 _ asks is in
+    audit.right _ _ t p x y s r _ _ _ d.0 d.2 d.1
+
+pub returns-clause-stable_where : goal.returns-clause-stable_where
+returns-clause-stable_where g c = λ t p x y s r net policy audited smooth calm asks passes stable.
+    let h = c.run_whole.ensures.whole in
+    audit.audits_where _ _ t p x y s r net policy audited asks _ _ _ _ _ _ _ _ _ calm passes stable (law.complete _ _ _ _ (g.I.Inputs.holds c.args.inputs.now) (RoseOf (g.I.Inputs.faults c.args.inputs.now) (g.I.Inputs.faults c.run_whole.new.inputs)) (map string_bytes c.args.words.now) _ _ _ _ h.0 _ h.1 h.2 _ smooth)
+
+pub returns-clause-unstable_where : goal.returns-clause-unstable_where
+returns-clause-unstable_where g c = λ t p x y s r net policy audited smooth calm asks never.
+    let h = c.run_whole.ensures.whole in
+    audit.fails_where _ _ t p x y s r net policy audited asks _ _ _ _ _ _ _ _ _ calm never (law.complete _ _ _ _ (g.I.Inputs.holds c.args.inputs.now) (RoseOf (g.I.Inputs.faults c.args.inputs.now) (g.I.Inputs.faults c.run_whole.new.inputs)) (map string_bytes c.args.words.now) _ _ _ _ h.0 _ h.1 h.2 _ smooth)

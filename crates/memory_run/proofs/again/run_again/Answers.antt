@@ -1,7 +1,7 @@
 use Rattle.std.proofs.Common.{◌++◌, ap, ◌∙◌}
 use Rattle.outside.specs.MemInputs.{told}
 use Rattle.outside.specs.MemSink.{Taking}
-use Rattle.propane_run.specs.Said.{text}
+use Rattle.run_base.specs.Said.{text}
 use Rattle.memory_run.proofs.SameInputs.{comes_before}
 use Rattle.memory_run.proofs.Telling.{grown}
 use Rattle.memory_run.proofs.again.run_again.Goals as goal

@@ -1,7 +1,7 @@
 use Rattle.std.proofs.Common.{sym, ap, subst, ◌∙◌}
 use Rattle.outside.specs.MemInputs.{told, count}
 use Rattle.outside.specs.MemSink.{Taking}
-use Rattle.propane_run.specs.Reading.{RoseOf}
+use Rattle.run_base.specs.Reading.{RoseOf}
 use Rattle.memory_run.specs.Texts.{IsFaultLine}
 use Rattle.memory_run.proofs.Asking.{asked, fault_told}
 use Rattle.memory_run.proofs.Coming.{ready_smoothly, to_say, written}

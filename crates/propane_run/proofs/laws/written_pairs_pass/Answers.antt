@@ -1,4 +1,4 @@
-use Rattle.propane_run.proofs.ByCommand.Evidence.{pair}
+use Rattle.propane_run.proofs.ByCommand.Written.{pair}
 use Rattle.propane_run.proofs.laws.written_pairs_pass.Goals as goal
 
 pub returns : goal.returns

@@ -1,0 +1,5 @@
+pub mod Asked
+pub mod Audited
+pub mod Audits
+pub mod Texts
+pub mod VerdictLines

@@ -1,0 +1,72 @@
+//! The command `check`.
+ghost use Rattle.std.specs.Prelude.{◌<◌, length};
+ghost use Rattle.path_words.specs.Policies.{policy_of};
+ghost use Rattle.case_law.specs.Cases.{OriginsAreRouters};
+ghost use Rattle.run_base.specs.Said.{IsGiven, said};
+ghost use Rattle.input_texts.specs.Texts.{OfTexts, OfPairTexts};
+ghost use Rattle.check_job.specs.Checked.{SaysOfPair, SaysOfPolicy};
+
+use crate::verdict_lines::{fails_line, holds_line};
+use config_base::Config;
+use evidence_base::Evidence;
+use evidence_check::check as check_evidence;
+use evidence_rules::Verdict;
+use input_texts::{config_for, evidence_for, net_of, policy_for};
+use net_base::Net;
+use path_words::Policy;
+use run_base::Stop;
+use std::alloc::Global;
+
+// What the configuration and its evidence come to.
+fn verdict_text(
+    alloc: Global,
+    net: &Net,
+    policy: &Policy,
+    config: &Config,
+    evidence: &Evidence,
+) -> Result<Vec<u8>, Stop>
+    requires { OriginsAreRouters net.now policy.now.origins }
+    ensures { IsGiven (SaysOfPair net.now (policy_of policy.now) config.now evidence.now.cases) (said result) }
+{
+    match check_evidence(alloc, net, policy, config, evidence)? {
+        Verdict::Holds => Ok(holds_line(alloc)?),
+        Verdict::Fails(rule, shown) => Err(Stop::Failing(fails_line(alloc, rule, shown)?)),
+    }
+}
+
+// What the texts of a configuration and of evidence come to.
+#[tactic(auto, unfolding(input_texts::specs::Texts::OfPairTexts))]
+fn pair_text(
+    alloc: Global,
+    net: &Net,
+    policy: &Policy,
+    config: &[u8],
+    evidence: &[u8],
+) -> Result<Vec<u8>, Stop>
+    requires routers { OriginsAreRouters net.now policy.now.origins }
+    requires short { length config.now < 4294967295 }
+    ensures { IsGiven (OfPairTexts (SaysOfPair net.now (policy_of policy.now)) config.now evidence.now) (said result) }
+{
+    let config = config_for(alloc, config)?;
+    let evidence = evidence_for(alloc, evidence)?;
+    verdict_text(alloc, net, policy, &config, &evidence)
+}
+
+/// What the texts of a topology, of a policy, of a configuration and of evidence come to: that the evidence holds, or why the run
+/// stops. Evidence that fails stops it.
+#[tactic(auto, unfolding(input_texts::specs::Texts::OfTexts))]
+pub fn check_texts(
+    alloc: Global,
+    topology: &[u8],
+    policy: &[u8],
+    config: &[u8],
+    evidence: &[u8],
+) -> Result<Vec<u8>, Stop>
+    requires policy { length policy.now < 4294967295 }
+    requires config { length config.now < 4294967295 }
+    ensures { IsGiven (OfTexts (SaysOfPolicy config.now evidence.now) topology.now policy.now) (said result) }
+{
+    let net = net_of(alloc, topology)?;
+    let policy = policy_for(alloc, &net, policy)?;
+    pair_text(alloc, &net, &policy, config, evidence)
+}

@@ -1,0 +1,29 @@
+-- What a job says that compiles a policy.
+use Rattle.std.specs.Prelude.{◌≡◌, ◌⊎◌, ℕ, List, Result, Ok, Err}
+use Rattle.net_base.specs.Network.{PlainNet}
+use Rattle.path_words.specs.Policies.{PlainPolicy}
+use Rattle.config_base.specs.Configs.{PlainConfig}
+use Rattle.evidence_base.specs.Made.{PlainCaseEvidence}
+use Rattle.case_core.specs.declared.refusal.CompileRefusal.{CompileRefusal}
+use Rattle.compile_core.specs.declared.compiled.Compiled.{Compiled}
+use Rattle.compile_jobs.specs.Compiled.{IsCompiled, IsRefusedFor}
+use Rattle.run_base.specs.Said.{Said, text, line, stop_said, no_memory}
+use Rattle.refusal_lines.specs.RefusalLines.{refusal_line}
+use Rattle.run_base.specs.declared.outcome.Status.TheVariants.{Refused}
+use Rattle.run_base.specs.declared.outcome.Stop.{Stop}
+
+-- The line of a refusal that applies to the policy.
+abbrev pub SaysRefusal : PlainNet → PlainPolicy → Said → Type 0
+SaysRefusal net policy what = (e : CompileRefusal) × IsRefusedFor net policy e × (what ≡ line Refused (refusal_line net e))
+
+-- What was compiled from the policy; or a refusal is said that applies to it, or that memory ran out.
+abbrev pub IsCompiledOr : PlainNet → PlainPolicy → Result Compiled Stop → Type 0
+IsCompiledOr net policy (Ok compiled) = IsCompiled net policy compiled.config compiled.evidence.cases
+IsCompiledOr net policy (Err s) = (stop_said s ≡ no_memory) ⊎ SaysRefusal net policy (stop_said s)
+
+-- A text that is to be written of a configuration which is compiled from the policy, and of its evidence, or the line of a
+-- refusal that applies to it.
+abbrev pub SaysOfCompiled : (PlainConfig → List PlainCaseEvidence → List ℕ → Type 0) → PlainNet → PlainPolicy → Said → Type 0
+SaysOfCompiled Writes net policy what =
+    ((config : PlainConfig) × (evidence : List PlainCaseEvidence) × (bytes : List ℕ) × IsCompiled net policy config evidence × Writes config evidence bytes × (what ≡ text bytes))
+    ⊎ SaysRefusal net policy what

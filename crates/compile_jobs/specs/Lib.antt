@@ -1,0 +1,5 @@
+pub mod Compiled
+pub mod Compiling
+pub mod Explained
+pub mod Sampled
+pub mod Written

@@ -1,0 +1,44 @@
+//! The command `sample`.
+ghost use Rattle.std.specs.Prelude.{◌≡◌};
+ghost use Rattle.case_law.specs.Cases.{OriginsAreRouters};
+ghost use Rattle.path_words.specs.Policies.{policy_of};
+ghost use Rattle.net_sample.specs.Network.{IsSampleNumber, sample_net};
+ghost use Rattle.net_sample.specs.SamplePolicy.{sample_policy};
+ghost use Rattle.compile_jobs.specs.Sampled.{SaysOfNumber};
+ghost use Rattle.run_base.specs.Said.{IsGiven, said};
+
+use crate::pairs::compiled_for;
+use evidence_summary::summary;
+use input_texts::{net_of, policy_for};
+use net_base::Net;
+use net_sample::{SampleFault, sample};
+use path_words::Policy;
+use run_base::Stop;
+use std::alloc::Global;
+
+// The summary of what is compiled from the policy, or why the policy is refused.
+fn summary_text(alloc: Global, leaves: u16, net: &Net, policy: &Policy) -> Result<Vec<u8>, Stop>
+    requires net { net.now ≡ sample_net leaves }
+    requires policy { policy_of policy.now ≡ sample_policy leaves }
+    requires routers { OriginsAreRouters net.now policy.now.origins }
+    ensures { IsGiven (SaysOfNumber leaves) (said result) }
+{
+    let compiled = compiled_for(alloc, net, policy)?;
+    Ok(summary(alloc, leaves, net, compiled.evidence.cases.as_slice())?)
+}
+
+/// What the number of a sample comes to: both texts are made and read, and what is compiled is told in numbers.
+pub fn sample_summary(alloc: Global, leaves: u16) -> Result<Vec<u8>, Stop>
+    requires { IsSampleNumber leaves }
+    ensures { IsGiven (SaysOfNumber leaves) (said result) }
+{
+    let (topology, policy) = match sample(alloc, leaves) {
+        Ok(texts) => texts,
+        Err(SampleFault::NoMemory) => return Err(Stop::NoMemory),
+        // The number is one of a sample.
+        Err(SampleFault::Range) => unreachable!(),
+    };
+    let net = net_of(alloc, &topology)?;
+    let policy = policy_for(alloc, &net, &policy)?;
+    summary_text(alloc, leaves, &net, &policy)
+}

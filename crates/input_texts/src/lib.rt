@@ -1,0 +1,8 @@
+//! The texts of named inputs: each is read, or the line of its fault is said.
+#![tactic(auto)]
+
+mod fault_lines;
+mod texts;
+
+pub use fault_lines::push_fault;
+pub use texts::{config_for, evidence_for, net_of, policy_for, scenario_for};

@@ -1,0 +1,51 @@
+-- What a run of `trace` has written: the trace of the events, whose quiet end is a replay.
+use Rattle.std.proofs.Common.{ℕ, List, Option, inl, inr}
+use Rattle.net_base.specs.Network.{PlainNet}
+use Rattle.path_words.specs.Policies.{PlainPolicy}
+use Rattle.regret_law.proofs.RightLaw.{passing_evidence_is_right}
+use Rattle.event_text.specs.declared.events.Events.{Events}
+use Rattle.world_law.proofs.Scenario.{worlds_have_scenarios}
+use Rattle.run_base.specs.Reading.{Holds}
+use Rattle.run_base.specs.Said.{text, Whole}
+use Rattle.run_base.proofs.Jobs.{status_is, out_is}
+use Rattle.input_texts.proofs.Asking.{net_of_spelled, policy_of_spelled}
+use Rattle.trace_job.specs.Asked.{SpellEvents}
+use Rattle.trace_job.specs.Traced.{SaysOfEvents}
+use Rattle.trace_job.proofs.EventPrefixes.{spelled_prefix}
+use Rattle.trace_job.proofs.Replays.{quiet_replays}
+use Rattle.trace_job.proofs.TraceLaws.{said_for}
+use Rattle.propane_run.specs.declared.command.Command.TheVariants.{Trace}
+use Rattle.propane_run.specs.Run.{Comes}
+use Rattle.propane_run.specs.Tracing.{TracesRight}
+use Rattle.propane_run.specs.Words.{names_read}
+use Rattle.propane_run.proofs.Asking.{asks_of_events}
+
+module _ {S : Type 0} (holds : Holds) (words : List (List ℕ)) (taken : S → Option (List ℕ)) (before now : S) (b : List ℕ) (written : Whole taken b before now) (t p e : ℕ) where
+  traces_of : Comes holds words (Trace t p e) (text b) → (net : PlainNet) (policy : PlainPolicy) (events : Events) → SpellEvents holds (names_read words (Trace t p e)) net policy events
+      → SaysOfEvents net policy events (text b) → TracesRight holds taken words (Trace t p e) before now
+  traces_of comes net policy events spell (inr h) = absurd (let s = status_is _ _ h.2 in cc)
+  traces_of comes net policy events spell (inl h) =
+      let rules = net_of_spelled spell.spell in
+      let fits = policy_of_spelled spell.spell in
+      let prefix = spelled_prefix net spell.events_text events spell.events_spelled in
+      record {
+        net = net;
+        policy = policy;
+        events = events;
+        asked = asks_of_events holds words (Trace t p e) net policy comes.is events spell;
+        config = h.0;
+        evidence = h.1;
+        compiled = h.3;
+        right = passing_evidence_is_right net policy h.0 h.1 rules fits h.3.1;
+        bytes = h.2;
+        written = rw (out_is _ _ h.5) at written;
+        traced = h.4;
+        failed = worlds_have_scenarios net policy h.0 events.prefix events.events rules;
+        replayed = quiet_replays net policy h.0 h.1 rules fits h.3.1 events prefix h.2 h.4;
+      }
+
+  -- what it writes is the trace
+  pub right : Comes holds words (Trace t p e) (text b) → TracesRight holds taken words (Trace t p e) before now
+  right comes =
+      let f = said_for holds (names_read words (Trace t p e)) (text b) (λ x. cc) comes.bytes comes.held comes.says in
+      traces_of comes f.net f.policy f.events f.asked f.says

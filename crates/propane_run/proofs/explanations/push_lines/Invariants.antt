@@ -1,7 +1,0 @@
-use Rattle.std.proofs.Common.{◌≡◌, ◌++◌, take}
-use Rattle.std.specs.List.{flat_map}
-use Rattle.propane_run.specs.Explaining.{removed_line}
-use Rattle.propane_run.proofs.explanations.push_lines.Given as goal
-
-abbrev pub invariant-loop-line : goal.invariant-loop-line
-invariant-loop-line l = l.text.items ≡ l.initial.text.items ++ flat_map (removed_line l.net l.graph) (take l.line-index l.lines)

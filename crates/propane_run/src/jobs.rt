@@ -1,0 +1,66 @@
+//! The job of each command: what the bytes of its names come to.
+ghost use Rattle.std.specs.Prelude.{◌≡◌, ◌<◌, ◌≤◌, length};
+ghost use Rattle.std.specs.List.{AllByRecursion};
+ghost use Rattle.run_base.specs.Reading.{most, word_at};
+ghost use Rattle.run_base.specs.Said.{IsGiven, said};
+ghost use Rattle.propane_run.specs.Run.{Job};
+ghost use Rattle.propane_run.specs.Words.{places_of, HasNumber};
+
+use crate::command::Command;
+use audit_job::audit_texts;
+use check_job::check_texts;
+use compile_jobs::{Part, explain_texts, sample_summary, written_texts};
+use net_base::List;
+use replay_job::replay_texts;
+use run_base::Stop;
+use std::alloc::Global;
+use trace_job::trace_texts;
+
+// The text at a place.
+fn text(texts: &[List<u8>], place: usize) -> &[u8]
+    requires within { place < length texts.now }
+    requires short { AllByRecursion (λ bytes. length bytes ≤ most) texts.now }
+    ensures is { result.now ≡ word_at texts.now place }
+    ensures short { length result.now ≤ most }
+{
+    texts[place].as_slice()
+}
+
+/// What a command comes to, from the bytes of its names.
+pub fn job(alloc: Global, command: Command, texts: &[List<u8>]) -> Result<Vec<u8>, Stop>
+    requires count { length texts.now ≡ length (places_of command) }
+    requires short { AllByRecursion (λ bytes. length bytes ≤ most) texts.now }
+    requires number { HasNumber command }
+    ensures { IsGiven (Job command texts.now) (said result) }
+{
+    match command {
+        Command::Compile(..) => {
+            written_texts(alloc, Part::Config, text(texts, 0), text(texts, 1))
+        }
+        Command::Evidence(..) => {
+            written_texts(alloc, Part::Evidence, text(texts, 0), text(texts, 1))
+        }
+        Command::Check(..) => check_texts(
+            alloc,
+            text(texts, 0),
+            text(texts, 1),
+            text(texts, 2),
+            text(texts, 3),
+        ),
+        Command::Explain(..) => explain_texts(alloc, text(texts, 0), text(texts, 1)),
+        Command::Replay(..) => {
+            replay_texts(alloc, text(texts, 0), text(texts, 1), text(texts, 2))
+        }
+        Command::Trace(..) => { trace_texts(alloc, text(texts, 0), text(texts, 1), text(texts, 2)) }
+        Command::Sample(leaves) => sample_summary(alloc, leaves),
+        Command::Audit(..) => audit_texts(
+            alloc,
+            text(texts, 0),
+            text(texts, 1),
+            text(texts, 2),
+            text(texts, 3),
+            text(texts, 4),
+            text(texts, 5),
+        ),
+    }
+}

@@ -1,0 +1,42 @@
+-- What `replay` says of a network, a policy and a scenario.
+use Rattle.std.specs.Prelude.{◌≡◌, ℕ, List, [], ◌∷◌, length}
+use Rattle.net_base.specs.Network.{PlainNet}
+use Rattle.path_words.specs.Policies.{PlainPolicy}
+use Rattle.config_base.specs.Configs.{PlainConfig}
+use Rattle.evidence_base.specs.Made.{PlainCaseEvidence}
+use Rattle.outcome_base.specs.Outcomes.{Outcome}
+use Rattle.report_lines.specs.Report.{IsReportOf}
+use Rattle.settled_law.specs.Settled.{IsFullyStable}
+use Rattle.stable_paths.specs.declared.scenario.Scenario.{Scenario}
+use Rattle.stable_paths.specs.Scenarios.{failures_of}
+use Rattle.compile_jobs.specs.Compiling.{SaysOfCompiled}
+use Rattle.run_base.specs.Said.{Said}
+use Rattle.input_texts.specs.Texts.{OfAllTexts, OfScenarioText}
+
+-- The text is the report of an outcome of the scenario's prefix, which is stable under its failures, with ties broken.
+pub record IsReplayed (net : PlainNet) (policy : PlainPolicy) (config : PlainConfig) (scenario : Scenario) (bytes : List ℕ) : Type 0 where
+  pub outcome : Outcome
+  pub size : length outcome ≡ length net.routers
+  pub settled : IsFullyStable net policy config (failures_of scenario) scenario.prefix outcome
+  pub report : IsReportOf net policy config (failures_of scenario) scenario.prefix outcome bytes
+
+-- that report for the configuration
+abbrev pub WritesReport : PlainNet → PlainPolicy → Scenario → PlainConfig → List PlainCaseEvidence → List ℕ → Type 0
+WritesReport net policy scenario config evidence bytes = IsReplayed net policy config scenario bytes
+
+-- the report for the configuration that is compiled from the policy, or the line of a refusal that applies to it
+abbrev pub SaysOfScenario : PlainNet → PlainPolicy → Scenario → Said → Type 0
+SaysOfScenario net policy scenario = SaysOfCompiled (WritesReport net policy scenario) net policy
+
+-- what is said of the text of a scenario, for a network and a policy
+abbrev pub SaysOfPolicy : List ℕ → PlainNet → PlainPolicy → Said → Type 0
+SaysOfPolicy scenario_text net policy what = OfScenarioText (SaysOfScenario net policy) net scenario_text what
+
+-- where these are the texts after the first two
+abbrev pub SaysOfMore : List (List ℕ) → PlainNet → PlainPolicy → Said → Type 0
+SaysOfMore (scenario_text ∷ []) = SaysOfPolicy scenario_text
+SaysOfMore _ = λ net policy what. ⊥
+
+-- and of three texts
+abbrev pub SaysOfTexts : List (List ℕ) → Said → Type 0
+SaysOfTexts = OfAllTexts SaysOfMore

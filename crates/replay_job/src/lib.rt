@@ -1,0 +1,6 @@
+//! The job that replays failures.
+#![tactic(auto)]
+
+mod replay;
+
+pub use replay::replay_texts;

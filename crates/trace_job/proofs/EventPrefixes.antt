@@ -1,0 +1,39 @@
+-- The prefix of events that a text spells.
+use Rattle.std.proofs.Common.{◌≡◌, ℕ, ◌≤◌, List, length, Result, Ok, Err, subst}
+use Rattle.std.specs.Prelude.{nat_le}
+use Rattle.std.specs.Result.{result_ok}
+use Rattle.json_words.specs.Json.{json_of}
+use Rattle.net_base.proofs.PrefixLemmas.{prefix_spelled-IsPrefix}
+use Rattle.net_base.proofs.StepLemmas.{bind_ok}
+use Rattle.net_base.specs.declared.limits.TheConstants.{EVENTS}
+use Rattle.net_base.specs.Network.{PlainNet}
+use Rattle.net_base.specs.Prefixes.{PlainPrefix, IsPrefix}
+use Rattle.net_base.specs.PrefixText.{prefix_spelled}
+use Rattle.net_base.specs.Steps.{or_fault, unless, each_from}
+use Rattle.net_index.specs.Names.{names_of}
+use Rattle.event_text.specs.declared.events.Events.{Events}
+use Rattle.event_text.specs.declared.fault.EventsFault.TheVariants.{NotJson, TooMany, BadPrefix}
+use Rattle.event_text.specs.Rules.{judged, placed}
+use Rattle.event_text.specs.Shape.{Said, shape_of}
+use Rattle.event_text.specs.Spelled.{spelled}
+
+found_prefix : {E : Type 0} (r : Result PlainPrefix E) (p : PlainPrefix) → or_fault BadPrefix (result_ok r) ≡ Ok p → r ≡ Ok p
+found_prefix (Ok q) p h = cc
+found_prefix (Err e) p h = absurd cc
+
+judged_prefix : (net : PlainNet) (said : Said) (es : Events) → judged net said ≡ Ok es → IsPrefix es.prefix
+unfolding judged
+judged_prefix net said es h =
+    let few = bind_ok (unless (TooMany (length said.events)) (nat_le (length said.events) EVENTS)) _ es h in
+    let events = bind_ok (each_from (placed (names_of net)) 1 said.events) _ es few.2 in
+    let prefix = bind_ok (or_fault BadPrefix (result_ok (prefix_spelled said.prefix))) _ es events.2 in
+    let made = prefix.2 in
+    let same : prefix.0 ≡ es.prefix = cc in
+    subst IsPrefix same (prefix_spelled-IsPrefix said.prefix prefix.0 (found_prefix (prefix_spelled said.prefix) prefix.0 prefix.1))
+
+pub spelled_prefix : (net : PlainNet) (bytes : List ℕ) (es : Events) → spelled net bytes ≡ Ok es → IsPrefix es.prefix
+unfolding spelled
+spelled_prefix net bytes es h =
+    let value = bind_ok (or_fault NotJson (json_of bytes)) _ es h in
+    let said = bind_ok (shape_of value.0) _ es value.2 in
+    judged_prefix net said.0 es said.2

@@ -1,0 +1,3 @@
+pub mod EventPrefixes
+pub mod Replays
+pub mod TraceLaws
