@@ -2,6 +2,7 @@
 use config_reader::{ConfigFault, read_config};
 use config_text::print_config;
 use outside::NoMemory;
+use samples::TWO_ROUTERS_CONFIG;
 use std::alloc::Global;
 use std::test::Fail;
 use text_words::{push_number, push_word};
@@ -192,5 +193,39 @@ fn faults_are_told_by_their_lines(rt: HostRuntime) -> Result<(), Fail> {
 fn a_text_is_printed_as_it_was_read(rt: HostRuntime) -> Result<(), Fail> {
     let again = told(rt.alloc(), TWO_ROUTERS.as_bytes())?;
     assert!(rt; again.as_slice() == TWO_ROUTERS.as_bytes());
+    Ok(())
+}
+
+// What is told of the front of the text of two routers that has so many bytes: nothing where it is read.
+fn told_of_front(length: usize) -> &'static str {
+    match length {
+        0..=16 => "1 version",
+        17 | 37 | 151 | 250 => "",
+        _ => "6 unfinished",
+    }
+}
+
+// The length of the first front of which something else is told.
+fn wrong_front(alloc: Global, text: &[u8]) -> Result<Option<usize>, NoMemory> {
+    for length in 0..=text.len() {
+        let front = &text[..length];
+        let told_of_it = told_of_front(length);
+        let wanted = if told_of_it.is_empty() {
+            front
+        } else {
+            told_of_it.as_bytes()
+        };
+        if told(alloc, front)?.as_slice() != wanted {
+            return Ok(Some(length));
+        }
+    }
+    Ok(None)
+}
+
+#[test]
+fn each_front_of_a_text(rt: HostRuntime) -> Result<(), Fail> {
+    let text = TWO_ROUTERS_CONFIG.as_bytes();
+    assert_eq!(rt; wrong_front(rt.alloc(), text)?, None);
+    assert_eq!(rt; text.len(), 250);
     Ok(())
 }

@@ -11,6 +11,8 @@ mod drawing;
 #[cfg(test)]
 mod graphs;
 #[cfg(test)]
+mod joined;
+#[cfg(test)]
 mod refutations;
 #[cfg(test)]
 mod relations;

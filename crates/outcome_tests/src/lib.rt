@@ -2,6 +2,8 @@
 #![tactic(auto)]
 
 #[cfg(test)]
+mod audit_tests;
+#[cfg(test)]
 mod exit_rows;
 #[cfg(test)]
 mod line_tests;

@@ -5,7 +5,7 @@ use crate::values::{Held, outcome, path, route, scenario, tag};
 use config_base::{Config, Route, class_of, export_of, import_of, own_tag};
 use net_base::{List, Loc, Prefix, read_prefix};
 use outside::NoMemory;
-use stable_paths::{Outcome, Scenario, is_given, is_live, is_offered, survives};
+use stable_paths::{Outcome, Scenario, Situation, Survivors, survives};
 use std::alloc::Global;
 
 const TWO_CLASSES: &str = "propane-config 1
@@ -138,6 +138,14 @@ fn imports_by_hand(rt: HostRuntime) {
     assert!(rt; wrong.is_none());
 }
 
+// Whether a path is another one with a location in front, where there is another one.
+fn is_behind(path: &[Loc], first: Loc, other: Option<&[Loc]>) -> bool {
+    match (path, other) {
+        ([place, places @ ..], Some(other)) => *place == first && places == other,
+        _ => false,
+    }
+}
+
 // A router, a peer and a path, and whether it is offered.
 type Offer = (u16, u16, &'static [u16], bool);
 
@@ -148,12 +156,13 @@ fn wrong_offer(
     outcome: &Outcome,
     offers: &[Offer],
 ) -> Result<Option<usize>, NoMemory> {
+    let (net, policy, config) = (&setting.net, &setting.policy, &setting.config);
+    let situation = Situation::new(net, policy, config, scenario, outcome);
     for i in 0..offers.len() {
         let (router, peer, numbers, wanted) = offers[i];
         let path = path(alloc, numbers)?;
-        let (net, policy, config) = (&setting.net, &setting.policy, &setting.config);
-        let (router, peer) = (Loc::new(router), Loc::new(peer));
-        if is_offered(net, policy, config, scenario, outcome, router, peer, &path) != wanted {
+        let offered = situation.offered(Loc::new(router), Loc::new(peer));
+        if is_behind(&path, Loc::new(peer), offered) != wanted {
             return Ok(Some(i));
         }
     }
@@ -230,15 +239,14 @@ fn wrong_given(
     outcome: &Outcome,
     rows: &[Gift],
 ) -> Result<Option<usize>, NoMemory> {
+    let (net, policy, config) = (&setting.net, &setting.policy, &setting.config);
+    let situation = Situation::new(net, policy, config, &setting.scenario, outcome);
     for i in 0..rows.len() {
         let (from, to, held, wanted) = rows[i];
         let Some(route) = route(alloc, to, held)? else {
             return Ok(Some(i));
         };
-        let (net, policy, config) = (&setting.net, &setting.policy, &setting.config);
-        let (from, to) = (Loc::new(from), Loc::new(to));
-        let scenario = &setting.scenario;
-        if is_given(net, policy, config, scenario, outcome, from, to, &route) != wanted {
+        if situation.is_given(Loc::new(from), Loc::new(to), &route) != wanted {
             return Ok(Some(i));
         }
     }
@@ -286,9 +294,12 @@ const LIVE: [(u16, u16, bool, bool); 4] = [
 ];
 
 fn wrong_live(setting: &Setting, cut: &Scenario, dead: &Scenario) -> Option<usize> {
+    let net = &setting.net;
+    let after_cut = Survivors::new(net, cut);
+    let after_death = Survivors::new(net, dead);
     LIVE.iter().position(|row| {
         let (a, b) = (Loc::new(row.0), Loc::new(row.1));
-        is_live(&setting.net, cut, a, b) != row.2 || is_live(&setting.net, dead, a, b) != row.3
+        after_cut.is_live(net, a, b) != row.2 || after_death.is_live(net, a, b) != row.3
     })
 }
 

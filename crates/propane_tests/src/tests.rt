@@ -1,14 +1,18 @@
+mod audited;
 mod checked;
 mod compiled;
+mod devices;
 mod explained;
 mod files;
 mod limits;
 mod memory;
+mod plays;
 mod policies;
 mod refused;
 mod replayed;
 mod sampled;
 mod topologies;
+mod traced;
 
 use outside::{CountSink, MemInputs, MemSink, NoMemory};
 use propane_run::{Status, run};
@@ -95,8 +99,7 @@ fn tells(alloc: Global, topology: &[u8], policy: &[u8], line: &str) -> Result<bo
 const COMPILE: &[&str] = &["compile", "t.json", "p.propane"];
 
 const USAGE: &str =
-    "propane: usage: compile TOPO POLICY, evidence TOPO POLICY, check TOPO POLICY CONFIG EVIDENCE, explain TOPO POLICY, replay TOPO POLICY SCENARIO, sample N
-";
+    "propane: usage: compile TOPO POLICY, evidence TOPO POLICY, check TOPO POLICY CONFIG EVIDENCE, explain TOPO POLICY, replay TOPO POLICY SCENARIO, trace TOPO POLICY EVENTS, sample N, audit TOPO POLICY CONFIG EVIDENCE SCENARIO TABLES";
 
 // One run: its words, the calls that fail, the status, and what `out` and `err` took.
 type Row = (

@@ -1,5 +1,5 @@
 //! Policies and failures, with the paths of the routes on which the routers settle.
-use samples::{RING, TRIANGLE, TWO_EXITS, TWO_ROUTERS};
+use samples::{RING, RING_TURNED, TRIANGLE, TWO_EXITS, TWO_ROUTERS, TWO_SPINES, TWO_WAYS};
 
 /// A network with a policy and failures, and the path of each router's route, empty where it has none. Locations go by their numbers.
 pub(crate) struct Row {
@@ -17,6 +17,9 @@ pub(crate) struct Row {
 const ANY_FROM_A: &str = "originate 10.0.1.0/24 at A; 10.0.1.0/24 => any;";
 
 const ANY_FROM_D: &str = "originate 10.0.1.0/24 at D; 10.0.1.0/24 => any;";
+
+const A_PATH_AND_ITS_FALLBACK: &str =
+    "originate 10.0.1.0/24 at D; 10.0.1.0/24 => path(A, B, C, D) >> path(A, E, D) from A;";
 
 const TO_EXITS: &str = "true => exit(P1 >> P2);";
 
@@ -101,6 +104,64 @@ pub(crate) const ROWS: &[Row] = &[
         dead_links: &[(0, 1)],
         silent: &[],
         paths: &[&[0], &[1, 2, 3, 0], &[2, 3, 0], &[3, 0]],
+    },
+    Row {
+        name: "of two routes that tie the one from the lower identifier, which has the greater location",
+        topology: RING_TURNED,
+        policy: ANY_FROM_D,
+        prefix: "10.0.1.0/24",
+        dead: 0,
+        dead_links: &[],
+        silent: &[],
+        paths: &[&[0], &[1, 0], &[2, 3, 0], &[3, 0]],
+    },
+    Row {
+        name: "a path that is asked for, and its fallback",
+        topology: TWO_WAYS,
+        policy: A_PATH_AND_ITS_FALLBACK,
+        prefix: "10.0.1.0/24",
+        dead: 0,
+        dead_links: &[],
+        silent: &[],
+        paths: &[&[0, 1, 2, 3], &[1, 2, 3], &[2, 3], &[3], &[4, 3]],
+    },
+    Row {
+        name: "the fallback, and a router that is given nothing",
+        topology: TWO_WAYS,
+        policy: A_PATH_AND_ITS_FALLBACK,
+        prefix: "10.0.1.0/24",
+        dead: 0,
+        dead_links: &[(1, 2)],
+        silent: &[],
+        paths: &[&[0, 4, 3], &[], &[2, 3], &[3], &[4, 3]],
+    },
+    Row {
+        name: "a dead spine",
+        topology: TWO_SPINES,
+        policy: "originate 10.0.1.0/24 at T1; 10.0.1.0/24 => through(S1, S2) and notransit(T1, T3, T4) from T3, T4;",
+        prefix: "10.0.1.0/24",
+        dead: 0b100,
+        dead_links: &[],
+        silent: &[],
+        paths: &[
+            &[0],
+            &[1, 0],
+            &[],
+            &[3, 1, 0],
+            &[4, 3, 1, 0],
+            &[5, 4, 3, 1, 0],
+            &[6, 4, 3, 1, 0],
+        ],
+    },
+    Row {
+        name: "a peer that may enter",
+        topology: TWO_EXITS,
+        policy: "originate 10.0.1.0/24 at R2; 10.0.1.0/24 => enter(R1);",
+        prefix: "10.0.1.0/24",
+        dead: 0,
+        dead_links: &[],
+        silent: &[],
+        paths: &[&[0, 1], &[1]],
     },
     Row {
         name: "a prefix that nothing governs",

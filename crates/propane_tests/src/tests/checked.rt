@@ -27,6 +27,12 @@ const CUT: &str =
 const ANOTHER_PREFERENCE: &str =
     "{\"cases\":[{\"external\":false,\"nodes\":[[0,0,0,100,64512,1],[1,0,1,101,64513,1]],\"origins\":[0],\"prefixes\":[\"10.0.1.0/24\"],\"starts\":[0],\"statement\":1,\"steps\":[[0,1]]}],\"version\":1}\n";
 
+const START_PAST_THE_LIST: &str =
+    "{\"cases\":[{\"external\":false,\"nodes\":[[0,0,0,100,64512,1],[1,0,1,100,64513,1]],\"origins\":[0],\"prefixes\":[\"10.0.1.0/24\"],\"starts\":[4294967295],\"statement\":1,\"steps\":[[0,1]]}],\"version\":1}\n";
+
+const START_OF_33_BITS: &str =
+    "{\"cases\":[{\"external\":false,\"nodes\":[[0,0,0,100,64512,1],[1,0,1,100,64513,1]],\"origins\":[0],\"prefixes\":[\"10.0.1.0/24\"],\"starts\":[4294967296],\"statement\":1,\"steps\":[[0,1]]}],\"version\":1}\n";
+
 const RANKED_EXITS: &str = "true => exit(P1 >> P2);";
 
 const EXCHANGED_CONFIG: &str = "propane-config 1
@@ -63,7 +69,7 @@ type Row = (
     (&'static str, &'static str),
 );
 
-const ROWS: [Row; 5] = [
+const ROWS: [Row; 8] = [
     (
         "what is compiled holds",
         (TWO_ROUTERS, ANY_PATH),
@@ -91,6 +97,27 @@ const ROWS: [Row; 5] = [
         (TWO_ROUTERS_CONFIG, CUT),
         Status::BadInput,
         ("", "propane: evidence 1 not-json\n"),
+    ),
+    (
+        "the greatest start",
+        (TWO_ROUTERS, ANY_PATH),
+        (TWO_ROUTERS_CONFIG, START_PAST_THE_LIST),
+        Status::BadInput,
+        ("", "propane: evidence 4 place\n"),
+    ),
+    (
+        "a start that is greater than that",
+        (TWO_ROUTERS, ANY_PATH),
+        (TWO_ROUTERS_CONFIG, START_OF_33_BITS),
+        Status::BadInput,
+        ("", "propane: evidence 3 number starts\n"),
+    ),
+    (
+        "evidence of another version",
+        (TWO_ROUTERS, ANY_PATH),
+        (TWO_ROUTERS_CONFIG, "{\"cases\":[],\"version\":2}"),
+        Status::BadInput,
+        ("", "propane: evidence 5 version\n"),
     ),
     (
         "another preference in the evidence alone",

@@ -17,7 +17,7 @@ enum Part {
 // A text: its parts, how often each stands, and its line. A text without a line is read.
 type Row = (&'static str, &'static [(Part, u64)], &'static str);
 
-const ROWS: [Row; 16] = [
+const ROWS: [Row; 17] = [
     ("256 definitions", &[(Part::Definition, 256)], ""),
     (
         "257 definitions",
@@ -82,13 +82,13 @@ const ROWS: [Row; 16] = [
         "",
     ),
     (
-        "1000 calls",
+        "a million calls",
         &[
             (Part::Text("true => any"), 1),
-            (Part::Text(" or any"), 999),
+            (Part::Text(" or any"), 999_999),
             (Part::Text(";"), 1),
         ],
-        "propane: policy 11 too-many calls 1000\n",
+        "propane: policy 11 too-many calls 1000000\n",
     ),
     (
         "256 places",
@@ -114,6 +114,18 @@ const ROWS: [Row; 16] = [
             (Part::Text("true => "), 1),
             (Part::Text("("), 64),
             (Part::Text("any"), 1),
+            (Part::Text(")"), 64),
+            (Part::Text(";"), 1),
+        ],
+        "",
+    ),
+    (
+        "the deepest expression: 65 times `not`, 255 times `or`, and a call",
+        &[
+            (Part::Text("originate 10.0.1.0/24 at R1; true => "), 1),
+            (Part::Text("not ("), 64),
+            (Part::Text("not any"), 1),
+            (Part::Text(" or any"), 255),
             (Part::Text(")"), 64),
             (Part::Text(";"), 1),
         ],

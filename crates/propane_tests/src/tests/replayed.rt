@@ -2,11 +2,13 @@
 use super::words_of;
 use outside::{MemInputs, MemSink, NoMemory};
 use propane_run::{Status, run};
-use samples::{RING, TRIANGLE, TWO_EXITS, TWO_ROUTERS, TWO_SPINES, TWO_WAYS};
+use samples::{RING, RING_TURNED, TRIANGLE, TWO_EXITS, TWO_ROUTERS, TWO_SPINES, TWO_WAYS};
 use std::alloc::Global;
 use std::test::Fail;
 
 const ANY_PATH: &str = "originate 10.0.1.0/24 at A; 10.0.1.0/24 => any;";
+
+const ANY_PATH_TO_D: &str = "originate 10.0.1.0/24 at D; 10.0.1.0/24 => any;";
 
 const A_PATH_AND_ITS_FALLBACK: &str =
     "originate 10.0.1.0/24 at D; 10.0.1.0/24 => path(A, B, C, D) >> path(A, E, D) from A;";
@@ -20,7 +22,7 @@ type Row = (
     (&'static str, &'static str),
 );
 
-const ROWS: [Row; 11] = [
+const ROWS: [Row; 17] = [
     (
         "a dead link, and a way around it",
         (TRIANGLE, ANY_PATH),
@@ -139,6 +141,96 @@ class 1
 router R1 transit path R1 R2
 router R2 origin
 session R1 P1 rank 1 path P1 R1 R2
+",
+            "",
+        ),
+    ),
+    (
+        "a dead link that is named three times, twice turned",
+        (TRIANGLE, ANY_PATH),
+        "{\"prefix\":\"10.0.1.0/24\",\"dead\":[],\"dead_links\":[[\"C\",\"A\"],[\"A\",\"C\"],[\"C\",\"A\"]],\"silent\":[]}",
+        Status::Done,
+        (
+            "prefix 10.0.1.0/24
+class 1
+router A origin
+router B rank 1 path B A
+router C rank 1 path C B A
+",
+            "",
+        ),
+    ),
+    (
+        "a dead origin",
+        (TRIANGLE, ANY_PATH),
+        "{\"prefix\":\"10.0.1.0/24\",\"dead\":[\"A\"],\"dead_links\":[],\"silent\":[]}",
+        Status::Done,
+        (
+            "prefix 10.0.1.0/24
+class 1
+router A dead
+router B none
+router C none
+",
+            "",
+        ),
+    ),
+    (
+        "a dead peer",
+        (TWO_EXITS, "true => exit(P1 >> P2);"),
+        "{\"prefix\":\"198.51.100.0/24\",\"dead\":[\"P1\"],\"dead_links\":[],\"silent\":[]}",
+        Status::Done,
+        (
+            "prefix 198.51.100.0/24
+class 1
+router R1 rank 2 path R1 R2 P2
+router R2 rank 2 path R2 P2
+",
+            "",
+        ),
+    ),
+    (
+        "a silent session with its peer first",
+        (TWO_EXITS, "true => exit(P1 >> P2);"),
+        "{\"prefix\":\"198.51.100.0/24\",\"dead\":[],\"dead_links\":[],\"silent\":[[\"P1\",\"R1\"]]}",
+        Status::Done,
+        (
+            "prefix 198.51.100.0/24
+class 1
+router R1 rank 2 path R1 R2 P2
+router R2 rank 2 path R2 P2
+",
+            "",
+        ),
+    ),
+    (
+        "two ways that tie",
+        (RING, ANY_PATH_TO_D),
+        "{\"prefix\":\"10.0.1.0/24\",\"dead\":[],\"dead_links\":[],\"silent\":[]}",
+        Status::Done,
+        (
+            "prefix 10.0.1.0/24
+class 1
+router D origin
+router B rank 1 path B D
+router X rank 1 path X B D
+router C rank 1 path C D
+",
+            "",
+        ),
+    ),
+    (
+        "two ways that tie, where the other neighbour has the lower identifier",
+        (RING_TURNED, ANY_PATH_TO_D),
+        "{\"prefix\":\"10.0.1.0/24\",\"dead\":[],\"dead_links\":[],\"silent\":[]}",
+        Status::Done,
+        (
+            "prefix 10.0.1.0/24
+class 1
+router D origin
+router B rank 1 path B D
+router X rank 1 path X C D
+router C rank 1 path C D
 ",
             "",
         ),
