@@ -99,7 +99,8 @@ fn tells(alloc: Global, topology: &[u8], policy: &[u8], line: &str) -> Result<bo
 const COMPILE: &[&str] = &["compile", "t.json", "p.propane"];
 
 const USAGE: &str =
-    "propane: usage: compile TOPO POLICY, evidence TOPO POLICY, check TOPO POLICY CONFIG EVIDENCE, explain TOPO POLICY, replay TOPO POLICY SCENARIO, trace TOPO POLICY EVENTS, sample N, audit TOPO POLICY CONFIG EVIDENCE SCENARIO TABLES";
+    "propane: usage: compile TOPO POLICY, evidence TOPO POLICY, check TOPO POLICY CONFIG EVIDENCE, explain TOPO POLICY, replay TOPO POLICY SCENARIO, trace TOPO POLICY EVENTS, sample N, audit TOPO POLICY CONFIG EVIDENCE SCENARIO TABLES
+";
 
 // One run: its words, the calls that fail, the status, and what `out` and `err` took.
 type Row = (
