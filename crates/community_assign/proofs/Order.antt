@@ -1,20 +1,21 @@
 -- Of two nodes at one location the later one has the greater count.
-use Rattle.std.proofs.Common.{◌≡◌, ℕ, zero, suc, ◌+◌, ◌<◌, ◌≤◌, true, false, cond, List, [], ◌∷◌, ◌++◌, length, map, Option, Some, refl, sym, ap, ◌∙◌, subst, arith, append_assoc, append-nil, inl, inr, take}
+use Rattle.std.proofs.Common.{◌≡◌, ℕ, zero, suc, ◌+◌, ◌<◌, ◌≤◌, ◌^◌, true, false, cond, List, [], ◌∷◌, ◌++◌, length, map, Option, Some, refl, sym, ap, ◌∙◌, subst, arith, append_assoc, append-nil, inl, inr, take}
 use Rattle.std.specs.Prelude.{◌==◌, ◌⊎◌, IsTrue, nat_le, option_map, unwrap_or, slice_get}
 use Rattle.std.specs.List.{AllByRecursion}
 use Rattle.std.specs.Option.{option_map_or}
 use Rattle.std.proofs.lemmas.Bool.{cases_lt, cases_order, eq-eqb, ltb-true, leb-true, le-leb, le-ltb, lt-ltb, and_parts, and_from, true≢false}
-use Rattle.std.proofs.lemmas.List.Sums.{sum_by-append, sum_by-cons}
+use Rattle.std.proofs.lemmas.List.Sums.{sum_by-append, sum_by-cons, count_by-le-length}
 use Rattle.std.proofs.lemmas.Option.{slice_get_cases}
 use Rattle.net_base.specs.declared.net.Site.{Site}
 use Rattle.net_base.specs.declared.numbers.Tag.{Tag}
 use Rattle.net_base.specs.Numbers.{is_tag, no_tag, is_router_as}
+use Rattle.net_base.proofs.NumberRanges.{tag-made}
 use Rattle.net_base.specs.Network.{PlainNet, IsNet, is_router, is_peer, is_location, asn_of}
 use Rattle.graph_base.specs.declared.graph.Node.{Node}
 use Rattle.graph_base.specs.Graphs.{PlainGraph}
 use Rattle.graph_base.specs.Runs.{place_of}
 use Rattle.evidence_base.specs.Made.{PlainCaseEvidence, AreTags, tag_at}
-use Rattle.community_assign.specs.Tagging.{count_at, tag_for, tags_after, graph_tags_after, tags_of, all_nodes, IsRoomy}
+use Rattle.community_assign.specs.Tagging.{count_at, tag_for, tags_after, graph_tags_after, tags_of, all_nodes}
 use Rattle.community_assign.specs.Law.{graphs_of, AreAtLocations, TagsKeepTheirRule}
 
 -- all nodes that stand before the n-th one of a case
@@ -109,7 +110,7 @@ kept_at P [] ys i all within = absurd (omega arith)
 kept_at P (x ∷ xs) ys zero all within = (x, refl, all.0)
 kept_at P (x ∷ xs) ys (suc i) all within = kept_at P xs ys i all.1 (omega arith)
 
-module _ (net : PlainNet) (cs : List PlainCaseEvidence) (rules : IsNet net) (placed : AreAtLocations net cs) (room : IsRoomy net (nodes_of cs))
+module _ (net : PlainNet) (cs : List PlainCaseEvidence) (rules : IsNet net) (placed : AreAtLocations net cs) (fewer : length (nodes_of cs) < 2 ^ 32)
     (are : map (λ (c : PlainCaseEvidence). c.tags) cs ≡ tags_of net (graphs_of cs)) where
   tag-is : (k n : ℕ) (c : PlainCaseEvidence) → slice_get cs k ≡ Some c → n < length c.graph.nodes
       → tag_at c n ≡ tag_for net (place_of c.graph n) (count_at (place_of c.graph n) (nodes_before cs k c n) + 1)
@@ -131,11 +132,13 @@ module _ (net : PlainNet) (cs : List PlainCaseEvidence) (rules : IsNet net) (pla
       → tag_at c n ≡ record { asn = asn_of net (place_of c.graph n); value = count_at (place_of c.graph n) (nodes_before cs k c n) + 1 }
   router_tag k n c at within no_peer = tag-is k n c at within ∙ (rw (router_at k n c at within no_peer) refl)
 
-  few : (k n : ℕ) (c : PlainCaseEvidence) → slice_get cs k ≡ Some c → n < length c.graph.nodes → is_peer net (place_of c.graph n) ≡ false → count_at (place_of c.graph n) (nodes_before cs k c n) + 1 ≤ 65535
-  few k n c at within no_peer =
+  few : (k n : ℕ) (c : PlainCaseEvidence) → slice_get cs k ≡ Some c → n < length c.graph.nodes → count_at (place_of c.graph n) (nodes_before cs k c n) + 1 < 2 ^ 32
+  few k n c at within =
       let l = place_of c.graph n in
       let node = node_at c.graph n within in
-      omega (arith, room l (router_at k n c at within no_peer), joined l (nodes_of (take k cs)) (take n c.graph.nodes), counted-all l c.graph.nodes n node.0 node.1 (sym node.2), counted-whole l cs k c at)
+      let all : count_at l (nodes_before cs k c n) + 1 ≤ count_at l (nodes_of cs)
+      = omega (arith, joined l (nodes_of (take k cs)) (take n c.graph.nodes), counted-all l c.graph.nodes n node.0 node.1 (sym node.2), counted-whole l cs k c at) in
+      omega (arith, all, count_by-le-length (λ (m : Node). m.loc == l) (nodes_of cs), fewer)
 
   asn_fits : (l : ℕ) → is_router net l ≡ true → is_router_as (asn_of net l) ≡ true
   asn_fits l router =
@@ -186,8 +189,7 @@ module _ (net : PlainNet) (cs : List PlainCaseEvidence) (rules : IsNet net) (pla
         let l = place_of c.graph n in
         let is = router_tag k n c at within no_peer in
         let value = count_at l (nodes_before cs k c n) + 1 in
-        let fits : is_tag (record { asn = asn_of net l; value = value }) ≡ true =
-        and_from _ _ (asn_fits l (router_at k n c at within no_peer)) (and_from _ _ (le-leb 1 value (omega arith)) (le-leb value 65535 (few k n c at within no_peer))) in
+        let fits = tag-made (record { asn = asn_of net l; value = value }) (asn_fits l (router_at k n c at within no_peer)) (omega arith) (few k n c at within) in
         (ap is_tag is ∙ fits, ap (λ (t : Tag). t.asn) is);
     at_peers = λ k n c at within peer.
         let past = and_parts (nat_le (length net.routers) (place_of c.graph n)) (is_location net (place_of c.graph n)) peer in
@@ -203,4 +205,4 @@ module _ (net : PlainNet) (cs : List PlainCaseEvidence) (rules : IsNet net) (pla
   }
 
 pub tagging : TagsKeepTheirRule
-tagging net cs rules placed room are = are_tags net cs rules placed room are
+tagging net cs rules placed fewer are = are_tags net cs rules placed fewer are

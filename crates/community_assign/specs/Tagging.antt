@@ -1,7 +1,6 @@
 -- The tags of nodes: a router's AS number, and a count of its nodes.
-use Rattle.std.specs.Prelude.{ℕ, ◌+◌, ◌<◌, ◌≤◌, ◌==◌, IsTrue, List, [], ◌∷◌, ◌++◌, if◌then◌else◌}
+use Rattle.std.specs.Prelude.{ℕ, ◌+◌, ◌==◌, List, [], ◌∷◌, ◌++◌, if◌then◌else◌}
 use Rattle.std.specs.List.{count_by, flat_map}
-use Rattle.net_base.specs.declared.limits.TheConstants.{TAGS}
 use Rattle.net_base.specs.declared.numbers.Tag.{Tag}
 use Rattle.net_base.specs.Numbers.{no_tag}
 use Rattle.net_base.specs.Network.{PlainNet, is_router, asn_of}
@@ -29,15 +28,6 @@ graph_tags_after net before (g ∷ gs) = tags_after net before g.nodes ∷ graph
 abbrev pub tags_of : PlainNet → List PlainGraph → List (List Tag)
 tags_of net graphs = graph_tags_after net [] graphs
 
+-- the nodes of all graphs
 abbrev pub all_nodes : List PlainGraph → List Node
 all_nodes graphs = flat_map (λ (g : PlainGraph). g.nodes) graphs
-
--- no router has more nodes than there are values of a tag
-abbrev pub IsRoomy : PlainNet → List Node → Type 0
-IsRoomy net nodes = (r : ℕ) → IsTrue (is_router net r) → count_at r nodes ≤ TAGS
-
--- the least router that has more
-pub record IsFirstCrowded (net : PlainNet) (nodes : List Node) (r : ℕ) : Type 0 where
-  pub router : IsTrue (is_router net r)
-  pub crowded : TAGS < count_at r nodes
-  pub least : (l : ℕ) → l < r → count_at l nodes ≤ TAGS

@@ -2,9 +2,7 @@
 #![tactic(auto)]
 
 mod assign;
-mod fault;
 mod law;
 
 pub use assign::tags;
-pub use fault::TagFault;
 pub use law::tags_keep_their_rule;

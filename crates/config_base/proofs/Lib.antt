@@ -1,3 +1,4 @@
 pub mod LineLemmas
 pub mod LineSearch
 pub mod SameTags
+mod NamedBlocks

@@ -1,8 +1,8 @@
 -- Configurations without where they lie in memory, and the rules that each keeps.
-use Rattle.std.specs.Prelude.{◌≡◌, ◌≢◌, ℕ, ◌<◌, ◌≤◌, ◌^◌, ◌⊎◌, IsTrue, nat_eq, List, [], ◌∷◌, length, map, if◌then◌else◌, MatchBool}
+use Rattle.std.specs.Prelude.{◌≡◌, ◌≢◌, ℕ, ◌<◌, ◌≤◌, ◌^◌, IsTrue, nat_eq, List, [], ◌∷◌, length, map, MatchBool}
 use Rattle.std.specs.List.{AllByRecursion, IsDistinct}
 use Rattle.std.specs.Str.{bytes_eq}
-use Rattle.net_base.specs.Prefixes.{PlainPattern, PlainPrefix}
+use Rattle.net_base.specs.Prefixes.{PlainPattern}
 use Rattle.net_base.specs.Numbers.{is_router_as, is_peer_as, is_tag, no_tag}
 use Rattle.net_base.specs.declared.numbers.Tag.{Tag}
 use Rattle.config_base.specs.declared.config.RouterConfig.{RouterConfig}

@@ -1,5 +1,6 @@
 //! The class of a prefix, and the blocks of routers and of their neighbours.
-ghost use Rattle.std.specs.Prelude.{◌≡◌, ◌&&◌, not, if◌then◌else◌, IfSome, length, option_map};
+ghost use Rattle.std.specs.Prelude.{◌≡◌, ◌&&◌, not, if◌then◌else◌, Some, IfSome, length, option_map};
+ghost use Rattle.std.specs.List.{find};
 ghost use Rattle.net_base.specs.Network.{is_named as named, is_peer, is_router};
 ghost use Rattle.path_words.specs.Governing.{some_contains};
 ghost use Rattle.config_base.specs.Configs.{IsRouter, IsSession};
@@ -35,6 +36,32 @@ fn is_named(net: &Net, name: Name, at: Loc) -> bool
     (net.is_router(at) || net.is_peer(at)) && net.name_of(at) == name
 }
 
+// The block in the router's own place, where it has its name: blocks of a compiled configuration stand as the routers do.
+fn block_in_place<'a>(net: &Net, config: &'a Config, router: Loc) -> Option<&'a RouterConfig>
+    ensures named { IfSome result (λ c. find (λ b. named net.now b.name router) config.now.routers ≡ Some c.now) }
+    ensures rules { IfSome result (λ c. IsRouter (length config.now.classes) c.now) }
+{
+    let block = config.routers().get(router.number() as usize)?;
+    if is_named(net, block.name, router) {
+        Some(block)
+    } else {
+        None
+    }
+}
+
+// The first block with the router's name.
+fn named_block<'a>(net: &Net, config: &'a Config, router: Loc) -> Option<&'a RouterConfig>
+    ensures block { option_map (λ c. c.now) result ≡ find (λ b. named net.now b.name router) config.now.routers }
+    ensures rules { IfSome result (λ c. IsRouter (length config.now.classes) c.now) }
+{
+    for block in config.routers() {
+        if is_named(net, block.name, router) {
+            return Some(block);
+        }
+    }
+    None
+}
+
 /// The block of a router, found by its name.
 pub fn router_block<'a>(net: &Net, config: &'a Config, router: Loc) -> Option<&'a RouterConfig>
     ensures block { option_map (λ c. c.now) result ≡ router_at net.now config.now router }
@@ -43,12 +70,10 @@ pub fn router_block<'a>(net: &Net, config: &'a Config, router: Loc) -> Option<&'
     if !net.is_router(router) {
         return None;
     }
-    for block in config.routers() {
-        if is_named(net, block.name, router) {
-            return Some(block);
-        }
+    match block_in_place(net, config, router) {
+        Some(block) => Some(block),
+        None => named_block(net, config, router),
     }
-    None
 }
 
 // Whether the block is that of the neighbour. A `peer` block is for a peer alone.

@@ -1,34 +1,28 @@
 -- The parts of lines: what is read of them is their text, and their text is read.
-use Rattle.std.proofs.Common.{◌≡◌, ℕ, ◌<◌, ◌^◌, List, [], ◌∷◌, ◌++◌, Bool, true, false, Option, Some, None, Ok, refl, sym, ◌∙◌, ap, ap₂, subst, arith, append_assoc}
-use Rattle.std.specs.Prelude.{◌≢◌, ◌&&◌, ◌==◌, nat_le, IsTrue, Result, Err, codes, if◌then◌else◌, ⊤}
-use Rattle.std.specs.List.{slice_split, join_with_byte}
+use Rattle.std.proofs.Common.{◌≡◌, ℕ, ◌<◌, ◌^◌, List, Bool, true, false, Option, Some, None, Ok, refl, ◌∙◌, ap, subst, arith}
+use Rattle.std.specs.Prelude.{◌≢◌, ◌&&◌, ◌==◌, nat_le, IsTrue, Result, Err, if◌then◌else◌, ⊤}
 use Rattle.std.specs.Fmt.{decimal}
 use Rattle.std.specs.Str.{bytes_eq}
 use Rattle.std.proofs.lemmas.Bool.{and_parts, leb-true, le-leb, eqb-false}
 use Rattle.std.proofs.lemmas.Slice.Eq.{bytes_eq-Decides}
-use Rattle.std.proofs.lemmas.List.Splits.{join_with_byte-slice_split}
 use Rattle.net_base.specs.Addresses.{address_of}
 use Rattle.net_base.specs.NameRule.{is_name}
-use Rattle.net_base.specs.Numbers.{is_router_as, is_tag}
 use Rattle.net_base.specs.Prefixes.{PlainPrefix, IsPrefix}
 use Rattle.net_base.specs.PrefixText.{prefix_spelled}
 use Rattle.net_base.specs.Steps.{unless}
-use Rattle.net_base.specs.declared.numbers.Tag.{Tag}
 use Rattle.net_base.specs.declared.prefix_text.PrefixFault.{PrefixFault}
 use Rattle.net_base.proofs.PrefixLemmas.{prefix_spelled-IsPrefix}
 use Rattle.net_base.proofs.StepLemmas.{bind_ok, unless_ok, ok_same}
-use Rattle.text_words.specs.Texts.{address_text, prefix_text, tag_text}
+use Rattle.text_words.specs.Texts.{address_text, prefix_text}
 use Rattle.config_base.specs.Configs.{IsClass}
 use Rattle.config_lines.specs.declared.line.LineFault.TheVariants.{Form, Number}
 use Rattle.config_lines.specs.declared.number.Figure.{Figure}
 use Rattle.config_lines.specs.declared.number.Figure.TheVariants.{LeadingZero, Large, Value}
-use Rattle.config_lines.specs.declared.number.RawTag.{RawTag}
-use Rattle.config_lines.specs.Numbers.{number_of, in_range, class_in, tag_in_range}
-use Rattle.config_lines.specs.Words.{is_word, name_of, identifier_of, as_prefix, halves, tag_of}
+use Rattle.config_lines.specs.Numbers.{number_of, in_range, class_in}
+use Rattle.config_lines.specs.Words.{is_word, name_of, identifier_of, as_prefix}
 use Rattle.config_lines.proofs.Addresses.{address_back}
 use Rattle.config_lines.proofs.Addresses.{prefix_back}
-use Rattle.config_lines.proofs.Digits.{number_back, number_there}
-use Rattle.config_lines.proofs.Solid.{split_word, split_last, no_colon}
+use Rattle.config_lines.proofs.Digits.{number_back}
 
 -- ---- numbers
 
@@ -90,51 +84,3 @@ as_prefix_back w p h = by (prefix_spelled w) refl h
     by : (r : Result PlainPrefix PrefixFault) → prefix_spelled w ≡ r → as_prefix r ≡ Ok p → (w ≡ prefix_text p) × IsPrefix p
     by (Ok q) e k = let same : prefix_spelled w ≡ Ok p = e ∙ ap Ok (ok_same q p k) in (prefix_back w p same, prefix_spelled-IsPrefix w p same)
     by (Err f) e k = absurd cc
-
--- ---- tags
-
-pub tag_parts : (t : Tag) → IsTrue (is_tag t) → (t.asn < 2 ^ 32) × (t.value < 2 ^ 32)
-tag_parts t is =
-    let a = and_parts (is_router_as t.asn) (nat_le 1 t.value && nat_le t.value 65535) is in
-    let b = and_parts (nat_le 64512 t.asn) (nat_le t.asn 65534) a.0 in
-    let c = and_parts (nat_le 1 t.value) (nat_le t.value 65535) a.1 in
-    (omega (arith, leb-true t.asn 65534 b.1), omega (arith, leb-true t.value 65535 c.1))
-
-pub tag_back : (w : List ℕ) (raw : RawTag) (t : Tag) → tag_of w ≡ Ok raw → tag_in_range raw ≡ Ok t → (w ≡ tag_text t) × IsTrue (is_tag t)
-unfolding halves tag_in_range
-tag_back w raw t h r =
-    let joined = sym (join_with_byte-slice_split 58 w) in
-    let made = by (slice_split (λ b. b == 58) w) h in
-    (joined ∙ made.0, made.1)
-  where
-    by : (ws : List (List ℕ)) → halves ws ≡ Ok raw → (join_with_byte 58 ws ≡ tag_text t) × IsTrue (is_tag t)
-    by [] k = absurd cc
-    by (a ∷ []) k = absurd cc
-    by (a ∷ v ∷ x ∷ ws) k = absurd cc
-    by (a ∷ v ∷ []) k =
-        let fa = bind_ok (number_of a) _ raw k in
-        let fv = bind_ok (number_of v) _ raw fa.2 in
-        let one : (let q : RawTag = record { asn = fa.0; value = fv.0 } in q) ≡ raw = ok_same _ raw fv.2 in
-        let na = bind_ok (in_range raw.asn) _ t r in
-        let nv = bind_ok (in_range raw.value) _ t na.2 in
-        let u = bind_ok (unless Number (is_tag (record { asn = na.0; value = nv.0 }))) _ t nv.2 in
-        let same : (let q : Tag = record { asn = na.0; value = nv.0 } in q) ≡ t = ok_same _ t u.2 in
-        let ea = (ranged_back a fa.0 na.0 fa.1 (ap (λ (q : RawTag). in_range q.asn) one ∙ na.1)).0 in
-        let ev = (ranged_back v fv.0 nv.0 fv.1 (ap (λ (q : RawTag). in_range q.value) one ∙ nv.1)).0 in
-        let is : is_tag (record { asn = na.0; value = nv.0 }) ≡ true = unless_ok Number _ u.0 u.1 in
-        let text : a ++ 58 ∷ v ≡ tag_text (record { asn = na.0; value = nv.0 }) = ap₂ (λ (x y : List ℕ). x ++ 58 ∷ y) ea ev ∙ sym (append_assoc (decimal na.0) (codes ":") (decimal nv.0)) in
-        (text ∙ ap tag_text same, subst (λ (q : Tag). IsTrue (is_tag q)) same is)
-
-abbrev pub raw_tag : Tag → RawTag
-raw_tag t = record { asn = Value t.asn; value = Value t.value }
-
-pub tag_there : (t : Tag) → IsTrue (is_tag t) → (tag_of (tag_text t) ≡ Ok (raw_tag t)) × (tag_in_range (raw_tag t) ≡ Ok t)
-unfolding halves tag_in_range
-tag_there t is =
-    let low = tag_parts t is in
-    let e : is_tag t ≡ true = is in
-    let cut : slice_split (λ b. b == 58) (tag_text t) ≡ decimal t.asn ∷ decimal t.value ∷ [] =
-    ap (slice_split (λ b. b == 58)) (append_assoc (decimal t.asn) (codes ":") (decimal t.value))
-    ∙ split_word 58 (decimal t.asn) (decimal t.value) (no_colon t.asn (omega (arith, low.0)))
-    ∙ ap (λ (vs : List (List ℕ)). decimal t.asn ∷ vs) (split_last 58 (decimal t.value) (no_colon t.value (omega (arith, low.1)))) in
-    (rw (cut, number_there t.asn low.0, number_there t.value low.1) refl, rw e refl)

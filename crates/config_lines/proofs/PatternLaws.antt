@@ -11,7 +11,7 @@ use Rattle.net_base.specs.PrefixText.{prefix_spelled, length_number}
 use Rattle.net_base.specs.Steps.{or_fault, unless}
 use Rattle.net_base.proofs.StepLemmas.{bind_ok, unless_ok, or_fault_ok, ok_same}
 use Rattle.text_words.specs.Texts.{prefix_text, pattern_text}
-use Rattle.text_words.proofs.PrefixTexts.{prefix_spelled-prefix_text, length_number-decimal}
+use Rattle.text_words.proofs.PrefixTexts.{prefix_spelled-prefix_text, length_number-decimal, have_no}
 use Rattle.config_lines.specs.declared.line.LineFault.{LineFault}
 use Rattle.config_lines.specs.declared.line.LineFault.TheVariants.{Form}
 use Rattle.config_lines.specs.LineText.{next_pattern}
@@ -19,7 +19,7 @@ use Rattle.config_lines.specs.Patterns.{up_to, pattern_of, behind_space, later_p
 use Rattle.config_lines.specs.Words.{is_word, as_prefix}
 use Rattle.config_lines.proofs.Addresses.{length_back}
 use Rattle.config_lines.proofs.PartLaws.{as_prefix_back, word_back}
-use Rattle.config_lines.proofs.Solid.{solid, solid_prefix, solid_number, have_no, split_word, split_last, split_joined, solid_words, joined_no_comma, joined_no_feed}
+use Rattle.config_lines.proofs.Solid.{solid, solid_prefix, solid_number, split_word, split_last, split_joined, solid_words, joined_no_comma, joined_no_feed}
 
 -- the words of a pattern
 abbrev words_by : Bool → PlainPattern → List (List ℕ)

@@ -9,21 +9,23 @@ use Rattle.std.proofs.lemmas.Slice.Eq.{bytes_eq-Decides}
 use Rattle.std.proofs.lemmas.List.Splits.{join_with_byte-slice_split}
 use Rattle.net_base.specs.Addresses.{address_of}
 use Rattle.net_base.specs.NameRule.{is_name}
-use Rattle.net_base.specs.Numbers.{is_router_as, is_peer_as, no_tag}
+use Rattle.net_base.specs.Numbers.{no_tag}
 use Rattle.net_base.specs.Prefixes.{PlainPattern, IsPattern}
 use Rattle.net_base.specs.PrefixText.{prefix_spelled}
 use Rattle.net_base.specs.Steps.{unless}
 use Rattle.net_base.proofs.StepLemmas.{bind_ok, unless_ok, ok_same}
-use Rattle.text_words.specs.Texts.{address_text, prefix_text, tag_text, pattern_text}
+use Rattle.text_words.specs.Texts.{address_text, prefix_text, pattern_text}
 use Rattle.config_base.specs.declared.config.Rule.{Rule}
 use Rattle.config_base.specs.declared.config.Own.{Own}
 use Rattle.config_base.specs.declared.config.Export.{Export}
+use Rattle.config_lines.specs.declared.edition.Edition.{Edition}
 use Rattle.config_lines.specs.declared.line.Line.{Line}
 use Rattle.config_lines.specs.declared.line.Line.TheVariants as line
 use Rattle.config_lines.specs.declared.line.LineFault.TheVariants.{Form, Number}
 use Rattle.config_lines.specs.declared.number.Figure.{Figure}
 use Rattle.config_lines.specs.declared.number.Figure.TheVariants.{LeadingZero, Large, Value}
 use Rattle.config_lines.specs.declared.number.Setting.{Setting}
+use Rattle.config_lines.specs.Editions.{tag_text, fits_router, fits_peer}
 use Rattle.config_lines.specs.LineText.{line_text, IsLine, IsNumbered, next_pattern}
 use Rattle.config_lines.specs.Lines.{class_line, router_line, own_line, neighbour, session_line, peer_line, setting, tagged_line, untagged_line, import_line, export_line, end_line, form_line, words_line, pieces_line, line_of}
 use Rattle.config_lines.specs.Numbers.{number_of, in_range, class_in, class_number, tag_in_range}
@@ -31,57 +33,58 @@ use Rattle.config_lines.specs.Patterns.{pattern_of, later_patterns}
 use Rattle.config_lines.specs.Words.{is_word, name_of, identifier_of, as_prefix, tag_of}
 use Rattle.config_lines.proofs.Digits.{number_back}
 use Rattle.config_lines.proofs.JoinedLines.{router_joined, own_joined, session_joined, peer_joined, export_joined, tagged_joined, untagged_joined}
-use Rattle.config_lines.proofs.PartLaws.{ranged_back, class_back, word_back, name_back, identifier_back, as_prefix_back, tag_back}
+use Rattle.config_lines.proofs.PartLaws.{ranged_back, class_back, word_back, name_back, identifier_back, as_prefix_back}
+use Rattle.config_lines.proofs.Tags.{tag_back}
 use Rattle.config_lines.proofs.PatternLaws.{no_words, pattern_back, patterns_back, join_pieces}
 
 -- the words are the line's, which keeps its rules
-abbrev Says : ℕ → List (List ℕ) → Line → Type 0
-Says count words l = (join_with_byte 32 words ≡ line_text l) × IsLine count l
+abbrev Says : Edition → ℕ → List (List ℕ) → Line → Type 0
+Says edition count words l = (join_with_byte 32 words ≡ line_text edition l) × IsLine edition count l
 
-router_back : (count : ℕ) (ws : List (List ℕ)) (l : Line) → router_line ws ≡ Ok l → Says count (codes "router" ∷ ws) l
+router_back : (edition : Edition) (count : ℕ) (ws : List (List ℕ)) (l : Line) → router_line edition ws ≡ Ok l → Says edition count (codes "router" ∷ ws) l
 unfolding router_line
-router_back count [] l h = absurd cc
-router_back count (a ∷ []) l h = absurd cc
-router_back count (a ∷ b ∷ []) l h = absurd cc
-router_back count (a ∷ b ∷ c ∷ []) l h = absurd cc
-router_back count (a ∷ b ∷ c ∷ d ∷ []) l h = absurd cc
-router_back count (a ∷ b ∷ c ∷ d ∷ e ∷ f ∷ ws) l h = absurd cc
-router_back count (name ∷ asn ∷ n ∷ id ∷ address ∷ []) l h =
+router_back edition count [] l h = absurd cc
+router_back edition count (a ∷ []) l h = absurd cc
+router_back edition count (a ∷ b ∷ []) l h = absurd cc
+router_back edition count (a ∷ b ∷ c ∷ []) l h = absurd cc
+router_back edition count (a ∷ b ∷ c ∷ d ∷ []) l h = absurd cc
+router_back edition count (a ∷ b ∷ c ∷ d ∷ e ∷ f ∷ ws) l h = absurd cc
+router_back edition count (name ∷ asn ∷ n ∷ id ∷ address ∷ []) l h =
     let a = bind_ok (is_word (codes "asn") asn) _ l h in
     let b = bind_ok (is_word (codes "id") id) _ l a.2 in
     let f = bind_ok (number_of n) _ l b.2 in
     let i = bind_ok (identifier_of (address_of address)) _ l f.2 in
     let m = bind_ok (name_of name) _ l i.2 in
     let v = bind_ok (in_range f.0) _ l m.2 in
-    let u = bind_ok (unless Number (is_router_as v.0)) _ l v.2 in
+    let u = bind_ok (unless Number (fits_router edition v.0)) _ l v.2 in
     let named = name_back name m.0 m.1 in
     let number = ranged_back n f.0 v.0 f.1 v.1 in
     let at = identifier_back address i.0 i.1 in
-    subst (Says count (codes "router" ∷ name ∷ asn ∷ n ∷ id ∷ address ∷ [])) (ok_same (line.Router m.0 v.0 i.0) l u.2) (
+    subst (Says edition count (codes "router" ∷ name ∷ asn ∷ n ∷ id ∷ address ∷ [])) (ok_same (line.Router m.0 v.0 i.0) l u.2) (
       router_joined name asn n id address m.0 (decimal v.0) (address_text i.0) (word_back (codes "asn") asn a.0 a.1) (word_back (codes "id") id b.0 b.1) named.0 number.0 at.0,
-      (named.1, unless_ok Number (is_router_as v.0) u.0 u.1, at.1, at.2),
+      (named.1, unless_ok Number (fits_router edition v.0) u.0 u.1, at.1, at.2),
     )
 
-own_back : (count : ℕ) (ws : List (List ℕ)) (l : Line) → own_line count ws ≡ Ok l → Says count (codes "originate" ∷ ws) l
+own_back : (edition : Edition) (count : ℕ) (ws : List (List ℕ)) (l : Line) → own_line edition count ws ≡ Ok l → Says edition count (codes "originate" ∷ ws) l
 unfolding own_line
-own_back count [] l h = absurd cc
-own_back count (a ∷ []) l h = absurd cc
-own_back count (a ∷ b ∷ []) l h = absurd cc
-own_back count (a ∷ b ∷ c ∷ []) l h = absurd cc
-own_back count (a ∷ b ∷ c ∷ d ∷ e ∷ ws) l h = absurd cc
-own_back count (n ∷ prefix ∷ tag ∷ t ∷ []) l h =
+own_back edition count [] l h = absurd cc
+own_back edition count (a ∷ []) l h = absurd cc
+own_back edition count (a ∷ b ∷ []) l h = absurd cc
+own_back edition count (a ∷ b ∷ c ∷ []) l h = absurd cc
+own_back edition count (a ∷ b ∷ c ∷ d ∷ e ∷ ws) l h = absurd cc
+own_back edition count (n ∷ prefix ∷ tag ∷ t ∷ []) l h =
     let f = bind_ok (number_of n) _ l h in
     let p = bind_ok (as_prefix (prefix_spelled prefix)) _ l f.2 in
     let w = bind_ok (is_word (codes "tag") tag) _ l p.2 in
-    let r = bind_ok (tag_of t) _ l w.2 in
+    let r = bind_ok (tag_of edition t) _ l w.2 in
     let c = bind_ok (class_in count f.0) _ l r.2 in
-    let g = bind_ok (tag_in_range r.0) _ l c.2 in
+    let g = bind_ok (tag_in_range edition r.0) _ l c.2 in
     let made : Own = record { class = c.0; prefix = p.0; tag = g.0 } in
     let class = class_back count n f.0 c.0 f.1 c.1 in
     let base = as_prefix_back prefix p.0 p.1 in
-    let tagged = tag_back t r.0 g.0 r.1 g.1 in
-    subst (Says count (codes "originate" ∷ n ∷ prefix ∷ tag ∷ t ∷ [])) (ok_same (line.Own made) l g.2) (
-      own_joined n prefix tag t (decimal c.0) (prefix_text p.0) (tag_text g.0) (word_back (codes "tag") tag w.0 w.1) class.0 base.0 tagged.0,
+    let tagged = tag_back edition t r.0 g.0 r.1 g.1 in
+    subst (Says edition count (codes "originate" ∷ n ∷ prefix ∷ tag ∷ t ∷ [])) (ok_same (line.Own made) l g.2) (
+      own_joined n prefix tag t (decimal c.0) (prefix_text p.0) (tag_text edition g.0) (word_back (codes "tag") tag w.0 w.1) class.0 base.0 tagged.0,
       ((class.1, tagged.1), base.1),
     )
 
@@ -112,24 +115,24 @@ neighbour_back (name ∷ asn ∷ n ∷ []) x h =
       named = named.1;
     })
 
-session_back : (count : ℕ) (ws : List (List ℕ)) (l : Line) → session_line ws ≡ Ok l → Says count (codes "session" ∷ ws) l
+session_back : (edition : Edition) (count : ℕ) (ws : List (List ℕ)) (l : Line) → session_line edition ws ≡ Ok l → Says edition count (codes "session" ∷ ws) l
 unfolding session_line
-session_back count ws l h =
+session_back edition count ws l h =
     let x = bind_ok (neighbour ws) _ l h in
-    let u = bind_ok (unless Number (is_router_as x.0.1)) _ l x.2 in
+    let u = bind_ok (unless Number (fits_router edition x.0.1)) _ l x.2 in
     let says = neighbour_back ws x.0 x.1 in
-    subst (Says count (codes "session" ∷ ws)) (ok_same (line.Session x.0.0 x.0.1) l u.2) (says.session, (says.named, unless_ok Number (is_router_as x.0.1) u.0 u.1))
+    subst (Says edition count (codes "session" ∷ ws)) (ok_same (line.Session x.0.0 x.0.1) l u.2) (says.session, (says.named, unless_ok Number (fits_router edition x.0.1) u.0 u.1))
 
-peer_back : (count : ℕ) (ws : List (List ℕ)) (l : Line) → peer_line ws ≡ Ok l → Says count (codes "peer" ∷ ws) l
+peer_back : (edition : Edition) (count : ℕ) (ws : List (List ℕ)) (l : Line) → peer_line edition ws ≡ Ok l → Says edition count (codes "peer" ∷ ws) l
 unfolding peer_line
-peer_back count ws l h =
+peer_back edition count ws l h =
     let x = bind_ok (neighbour ws) _ l h in
-    let u = bind_ok (unless Number (is_peer_as x.0.1)) _ l x.2 in
+    let u = bind_ok (unless Number (fits_peer edition x.0.1)) _ l x.2 in
     let says = neighbour_back ws x.0 x.1 in
-    subst (Says count (codes "peer" ∷ ws)) (ok_same (line.Peer x.0.0 x.0.1) l u.2) (says.peer, (says.named, unless_ok Number (is_peer_as x.0.1) u.0 u.1))
+    subst (Says edition count (codes "peer" ∷ ws)) (ok_same (line.Peer x.0.0 x.0.1) l u.2) (says.peer, (says.named, unless_ok Number (fits_peer edition x.0.1) u.0 u.1))
 
 -- the words of a setting
-pub record SaysSetting (ws : List (List ℕ)) (s : Setting) : Type 0 where
+pub record SaysSetting (edition : Edition) (ws : List (List ℕ)) (s : Setting) : Type 0 where
   pub set : List ℕ
   pub tag : List ℕ
   pub pref : List ℕ
@@ -137,19 +140,19 @@ pub record SaysSetting (ws : List (List ℕ)) (s : Setting) : Type 0 where
   pub words : ws ≡ set ∷ tag ∷ pref ∷ number ∷ []
   pub is_set : set ≡ codes "set"
   pub is_pref : pref ≡ codes "pref"
-  pub is_tag_text : tag_of tag ≡ Ok s.set
+  pub is_tag_text : tag_of edition tag ≡ Ok s.set
   pub is_number_text : number_of number ≡ Ok s.pref
 
-setting_back : (ws : List (List ℕ)) (s : Setting) → setting ws ≡ Ok s → SaysSetting ws s
+setting_back : (edition : Edition) (ws : List (List ℕ)) (s : Setting) → setting edition ws ≡ Ok s → SaysSetting edition ws s
 unfolding setting
-setting_back [] s h = absurd cc
-setting_back (a ∷ []) s h = absurd cc
-setting_back (a ∷ b ∷ []) s h = absurd cc
-setting_back (a ∷ b ∷ c ∷ []) s h = absurd cc
-setting_back (a ∷ b ∷ c ∷ d ∷ e ∷ ws) s h = absurd cc
-setting_back (set ∷ t ∷ pref ∷ n ∷ []) s h =
+setting_back edition [] s h = absurd cc
+setting_back edition (a ∷ []) s h = absurd cc
+setting_back edition (a ∷ b ∷ []) s h = absurd cc
+setting_back edition (a ∷ b ∷ c ∷ []) s h = absurd cc
+setting_back edition (a ∷ b ∷ c ∷ d ∷ e ∷ ws) s h = absurd cc
+setting_back edition (set ∷ t ∷ pref ∷ n ∷ []) s h =
     let a = bind_ok (is_word (codes "set") set) _ s h in
-    let r = bind_ok (tag_of t) _ s a.2 in
+    let r = bind_ok (tag_of edition t) _ s a.2 in
     let b = bind_ok (is_word (codes "pref") pref) _ s r.2 in
     let f = bind_ok (number_of n) _ s b.2 in
     let same : (let q : Setting = record { set = r.0; pref = f.0 } in q) ≡ s = ok_same _ s f.2 in
@@ -165,119 +168,119 @@ setting_back (set ∷ t ∷ pref ∷ n ∷ []) s h =
       is_number_text = f.1 ∙ ap (λ (q : Setting). Ok q.pref) same;
     }
 
-tagged_back : (count : ℕ) (ws : List (List ℕ)) (l : Line) → tagged_line count ws ≡ Ok l → Says count (codes "import" ∷ ws) l
+tagged_back : (edition : Edition) (count : ℕ) (ws : List (List ℕ)) (l : Line) → tagged_line edition count ws ≡ Ok l → Says edition count (codes "import" ∷ ws) l
 unfolding tagged_line
-tagged_back count [] l h = absurd cc
-tagged_back count (a ∷ []) l h = absurd cc
-tagged_back count (a ∷ b ∷ []) l h = absurd cc
-tagged_back count (n ∷ tag ∷ t ∷ words) l h =
+tagged_back edition count [] l h = absurd cc
+tagged_back edition count (a ∷ []) l h = absurd cc
+tagged_back edition count (a ∷ b ∷ []) l h = absurd cc
+tagged_back edition count (n ∷ tag ∷ t ∷ words) l h =
     let f = bind_ok (number_of n) _ l h in
     let w = bind_ok (is_word (codes "tag") tag) _ l f.2 in
-    let r = bind_ok (tag_of t) _ l w.2 in
-    let s = bind_ok (setting words) _ l r.2 in
+    let r = bind_ok (tag_of edition t) _ l w.2 in
+    let s = bind_ok (setting edition words) _ l r.2 in
     let c = bind_ok (class_in count f.0) _ l s.2 in
-    let g = bind_ok (tag_in_range r.0) _ l c.2 in
-    let k = bind_ok (tag_in_range s.0.set) _ l g.2 in
+    let g = bind_ok (tag_in_range edition r.0) _ l c.2 in
+    let k = bind_ok (tag_in_range edition s.0.set) _ l g.2 in
     let p = bind_ok (in_range s.0.pref) _ l k.2 in
     let made : Rule = record { class = c.0; tag = g.0; set = k.0; pref = p.0 } in
-    let says = setting_back words s.0 s.1 in
+    let says = setting_back edition words s.0 s.1 in
     let class = class_back count n f.0 c.0 f.1 c.1 in
-    let own = tag_back t r.0 g.0 r.1 g.1 in
-    let set = tag_back says.tag s.0.set k.0 says.is_tag_text k.1 in
+    let own = tag_back edition t r.0 g.0 r.1 g.1 in
+    let set = tag_back edition says.tag s.0.set k.0 says.is_tag_text k.1 in
     let pref = ranged_back says.number s.0.pref p.0 says.is_number_text p.1 in
-    let text : join_with_byte 32 (codes "import" ∷ n ∷ tag ∷ t ∷ words) ≡ line_text (line.Import made) =
+    let text : join_with_byte 32 (codes "import" ∷ n ∷ tag ∷ t ∷ words) ≡ line_text edition (line.Import made) =
     ap (λ (v : List (List ℕ)). join_with_byte 32 (codes "import" ∷ n ∷ tag ∷ t ∷ v)) says.words
-    ∙ tagged_joined n tag t says.set says.tag says.pref says.number made (word_back (codes "tag") tag w.0 w.1) says.is_set says.is_pref class.0 own.0 set.0 pref.0 in
-    subst (Says count (codes "import" ∷ n ∷ tag ∷ t ∷ words)) (ok_same (line.Import made) l p.2) (text, (own.1, (class.1, set.1, pref.1)))
+    ∙ tagged_joined edition n tag t says.set says.tag says.pref says.number made (word_back (codes "tag") tag w.0 w.1) says.is_set says.is_pref class.0 own.0 set.0 pref.0 in
+    subst (Says edition count (codes "import" ∷ n ∷ tag ∷ t ∷ words)) (ok_same (line.Import made) l p.2) (text, (own.1, (class.1, set.1, pref.1)))
 
-untagged_back : (count : ℕ) (ws : List (List ℕ)) (l : Line) → untagged_line count ws ≡ Ok l → Says count (codes "import" ∷ ws) l
+untagged_back : (edition : Edition) (count : ℕ) (ws : List (List ℕ)) (l : Line) → untagged_line edition count ws ≡ Ok l → Says edition count (codes "import" ∷ ws) l
 unfolding untagged_line
-untagged_back count [] l h = absurd cc
-untagged_back count (n ∷ words) l h =
+untagged_back edition count [] l h = absurd cc
+untagged_back edition count (n ∷ words) l h =
     let f = bind_ok (number_of n) _ l h in
-    let s = bind_ok (setting words) _ l f.2 in
+    let s = bind_ok (setting edition words) _ l f.2 in
     let c = bind_ok (class_in count f.0) _ l s.2 in
-    let k = bind_ok (tag_in_range s.0.set) _ l c.2 in
+    let k = bind_ok (tag_in_range edition s.0.set) _ l c.2 in
     let p = bind_ok (in_range s.0.pref) _ l k.2 in
     let made : Rule = record { class = c.0; tag = no_tag; set = k.0; pref = p.0 } in
-    let says = setting_back words s.0 s.1 in
+    let says = setting_back edition words s.0 s.1 in
     let class = class_back count n f.0 c.0 f.1 c.1 in
-    let set = tag_back says.tag s.0.set k.0 says.is_tag_text k.1 in
+    let set = tag_back edition says.tag s.0.set k.0 says.is_tag_text k.1 in
     let pref = ranged_back says.number s.0.pref p.0 says.is_number_text p.1 in
-    let text : join_with_byte 32 (codes "import" ∷ n ∷ words) ≡ line_text (line.PeerImport made) =
+    let text : join_with_byte 32 (codes "import" ∷ n ∷ words) ≡ line_text edition (line.PeerImport made) =
     ap (λ (v : List (List ℕ)). join_with_byte 32 (codes "import" ∷ n ∷ v)) says.words
-    ∙ untagged_joined n says.set says.tag says.pref says.number made says.is_set says.is_pref class.0 set.0 pref.0 in
-    subst (Says count (codes "import" ∷ n ∷ words)) (ok_same (line.PeerImport made) l p.2) (text, (refl, (class.1, set.1, pref.1)))
+    ∙ untagged_joined edition n says.set says.tag says.pref says.number made says.is_set says.is_pref class.0 set.0 pref.0 in
+    subst (Says edition count (codes "import" ∷ n ∷ words)) (ok_same (line.PeerImport made) l p.2) (text, (refl, (class.1, set.1, pref.1)))
 
-import_back : (count : ℕ) (ws : List (List ℕ)) (l : Line) → import_line count ws ≡ Ok l → Says count (codes "import" ∷ ws) l
+import_back : (edition : Edition) (count : ℕ) (ws : List (List ℕ)) (l : Line) → import_line edition count ws ≡ Ok l → Says edition count (codes "import" ∷ ws) l
 unfolding import_line
-import_back count ws l h = by (length ws == 7) h
+import_back edition count ws l h = by (length ws == 7) h
   where
-    by : (b : Bool) → (if b then tagged_line count ws else untagged_line count ws) ≡ Ok l → Says count (codes "import" ∷ ws) l
-    by true k = tagged_back count ws l k
-    by false k = untagged_back count ws l k
+    by : (b : Bool) → (if b then tagged_line edition count ws else untagged_line edition count ws) ≡ Ok l → Says edition count (codes "import" ∷ ws) l
+    by true k = tagged_back edition count ws l k
+    by false k = untagged_back edition count ws l k
 
-export_back : (count : ℕ) (ws : List (List ℕ)) (l : Line) → export_line count ws ≡ Ok l → Says count (codes "export" ∷ ws) l
+export_back : (edition : Edition) (count : ℕ) (ws : List (List ℕ)) (l : Line) → export_line edition count ws ≡ Ok l → Says edition count (codes "export" ∷ ws) l
 unfolding export_line
-export_back count [] l h = absurd cc
-export_back count (a ∷ []) l h = absurd cc
-export_back count (a ∷ b ∷ []) l h = absurd cc
-export_back count (a ∷ b ∷ c ∷ d ∷ ws) l h = absurd cc
-export_back count (n ∷ tag ∷ t ∷ []) l h =
+export_back edition count [] l h = absurd cc
+export_back edition count (a ∷ []) l h = absurd cc
+export_back edition count (a ∷ b ∷ []) l h = absurd cc
+export_back edition count (a ∷ b ∷ c ∷ d ∷ ws) l h = absurd cc
+export_back edition count (n ∷ tag ∷ t ∷ []) l h =
     let f = bind_ok (number_of n) _ l h in
     let w = bind_ok (is_word (codes "tag") tag) _ l f.2 in
-    let r = bind_ok (tag_of t) _ l w.2 in
+    let r = bind_ok (tag_of edition t) _ l w.2 in
     let c = bind_ok (class_in count f.0) _ l r.2 in
-    let g = bind_ok (tag_in_range r.0) _ l c.2 in
+    let g = bind_ok (tag_in_range edition r.0) _ l c.2 in
     let made : Export = record { class = c.0; tag = g.0 } in
     let class = class_back count n f.0 c.0 f.1 c.1 in
-    let tagged = tag_back t r.0 g.0 r.1 g.1 in
-    subst (Says count (codes "export" ∷ n ∷ tag ∷ t ∷ [])) (ok_same (line.Export made) l g.2)
-    (export_joined n tag t (decimal c.0) (tag_text g.0) (word_back (codes "tag") tag w.0 w.1) class.0 tagged.0, (class.1, tagged.1))
+    let tagged = tag_back edition t r.0 g.0 r.1 g.1 in
+    subst (Says edition count (codes "export" ∷ n ∷ tag ∷ t ∷ [])) (ok_same (line.Export made) l g.2)
+    (export_joined n tag t (decimal c.0) (tag_text edition g.0) (word_back (codes "tag") tag w.0 w.1) class.0 tagged.0, (class.1, tagged.1))
 
-end_back : (count : ℕ) (ws : List (List ℕ)) (l : Line) → end_line ws ≡ Ok l → Says count (codes "end" ∷ ws) l
+end_back : (edition : Edition) (count : ℕ) (ws : List (List ℕ)) (l : Line) → end_line ws ≡ Ok l → Says edition count (codes "end" ∷ ws) l
 unfolding end_line
-end_back count [] l h = subst (Says count (codes "end" ∷ [])) (ok_same line.End l h) (refl, tt)
-end_back count (a ∷ ws) l h = absurd cc
+end_back edition count [] l h = subst (Says edition count (codes "end" ∷ [])) (ok_same line.End l h) (refl, tt)
+end_back edition count (a ∷ ws) l h = absurd cc
 
 -- by the first word
 word_is : (fixed word : List ℕ) → bytes_eq word fixed ≡ true → word ≡ fixed
 word_is fixed word h = (bytes_eq-Decides word fixed).0 h
 
-form_back : (count : ℕ) (word : List ℕ) (ws : List (List ℕ)) (l : Line) → form_line count word ws ≡ Ok l → Says count (word ∷ ws) l
+form_back : (edition : Edition) (count : ℕ) (word : List ℕ) (ws : List (List ℕ)) (l : Line) → form_line edition count word ws ≡ Ok l → Says edition count (word ∷ ws) l
 unfolding form_line
-form_back count word ws l h =
+form_back edition count word ws l h =
     router (bytes_eq word (codes "router")) refl h
   where
-    said : (fixed : List ℕ) → bytes_eq word fixed ≡ true → Says count (fixed ∷ ws) l → Says count (word ∷ ws) l
-    said fixed e s = subst (λ (w : List ℕ). Says count (w ∷ ws) l) (sym (word_is fixed word e)) s
+    said : (fixed : List ℕ) → bytes_eq word fixed ≡ true → Says edition count (fixed ∷ ws) l → Says edition count (word ∷ ws) l
+    said fixed e s = subst (λ (w : List ℕ). Says edition count (w ∷ ws) l) (sym (word_is fixed word e)) s
 
-    last : (b : Bool) → bytes_eq word (codes "end") ≡ b → (if b then end_line ws else Err Form) ≡ Ok l → Says count (word ∷ ws) l
-    last true e k = said (codes "end") e (end_back count ws l k)
+    last : (b : Bool) → bytes_eq word (codes "end") ≡ b → (if b then end_line ws else Err Form) ≡ Ok l → Says edition count (word ∷ ws) l
+    last true e k = said (codes "end") e (end_back edition count ws l k)
     last false e k = absurd cc
 
-    export : (b : Bool) → bytes_eq word (codes "export") ≡ b → (if b then export_line count ws else (if bytes_eq word (codes "end") then end_line ws else Err Form)) ≡ Ok l → Says count (word ∷ ws) l
-    export true e k = said (codes "export") e (export_back count ws l k)
+    export : (b : Bool) → bytes_eq word (codes "export") ≡ b → (if b then export_line edition count ws else (if bytes_eq word (codes "end") then end_line ws else Err Form)) ≡ Ok l → Says edition count (word ∷ ws) l
+    export true e k = said (codes "export") e (export_back edition count ws l k)
     export false e k = last (bytes_eq word (codes "end")) refl k
 
-    import : (b : Bool) → bytes_eq word (codes "import") ≡ b → (if b then import_line count ws else (if bytes_eq word (codes "export") then export_line count ws else (if bytes_eq word (codes "end") then end_line ws else Err Form))) ≡ Ok l → Says count (word ∷ ws) l
-    import true e k = said (codes "import") e (import_back count ws l k)
+    import : (b : Bool) → bytes_eq word (codes "import") ≡ b → (if b then import_line edition count ws else (if bytes_eq word (codes "export") then export_line edition count ws else (if bytes_eq word (codes "end") then end_line ws else Err Form))) ≡ Ok l → Says edition count (word ∷ ws) l
+    import true e k = said (codes "import") e (import_back edition count ws l k)
     import false e k = export (bytes_eq word (codes "export")) refl k
 
-    peer : (b : Bool) → bytes_eq word (codes "peer") ≡ b → (if b then peer_line ws else (if bytes_eq word (codes "import") then import_line count ws else (if bytes_eq word (codes "export") then export_line count ws else (if bytes_eq word (codes "end") then end_line ws else Err Form)))) ≡ Ok l → Says count (word ∷ ws) l
-    peer true e k = said (codes "peer") e (peer_back count ws l k)
+    peer : (b : Bool) → bytes_eq word (codes "peer") ≡ b → (if b then peer_line edition ws else (if bytes_eq word (codes "import") then import_line edition count ws else (if bytes_eq word (codes "export") then export_line edition count ws else (if bytes_eq word (codes "end") then end_line ws else Err Form)))) ≡ Ok l → Says edition count (word ∷ ws) l
+    peer true e k = said (codes "peer") e (peer_back edition count ws l k)
     peer false e k = import (bytes_eq word (codes "import")) refl k
 
-    session : (b : Bool) → bytes_eq word (codes "session") ≡ b → (if b then session_line ws else (if bytes_eq word (codes "peer") then peer_line ws else (if bytes_eq word (codes "import") then import_line count ws else (if bytes_eq word (codes "export") then export_line count ws else (if bytes_eq word (codes "end") then end_line ws else Err Form))))) ≡ Ok l → Says count (word ∷ ws) l
-    session true e k = said (codes "session") e (session_back count ws l k)
+    session : (b : Bool) → bytes_eq word (codes "session") ≡ b → (if b then session_line edition ws else (if bytes_eq word (codes "peer") then peer_line edition ws else (if bytes_eq word (codes "import") then import_line edition count ws else (if bytes_eq word (codes "export") then export_line edition count ws else (if bytes_eq word (codes "end") then end_line ws else Err Form))))) ≡ Ok l → Says edition count (word ∷ ws) l
+    session true e k = said (codes "session") e (session_back edition count ws l k)
     session false e k = peer (bytes_eq word (codes "peer")) refl k
 
-    own : (b : Bool) → bytes_eq word (codes "originate") ≡ b → (if b then own_line count ws else (if bytes_eq word (codes "session") then session_line ws else (if bytes_eq word (codes "peer") then peer_line ws else (if bytes_eq word (codes "import") then import_line count ws else (if bytes_eq word (codes "export") then export_line count ws else (if bytes_eq word (codes "end") then end_line ws else Err Form)))))) ≡ Ok l → Says count (word ∷ ws) l
-    own true e k = said (codes "originate") e (own_back count ws l k)
+    own : (b : Bool) → bytes_eq word (codes "originate") ≡ b → (if b then own_line edition count ws else (if bytes_eq word (codes "session") then session_line edition ws else (if bytes_eq word (codes "peer") then peer_line edition ws else (if bytes_eq word (codes "import") then import_line edition count ws else (if bytes_eq word (codes "export") then export_line edition count ws else (if bytes_eq word (codes "end") then end_line ws else Err Form)))))) ≡ Ok l → Says edition count (word ∷ ws) l
+    own true e k = said (codes "originate") e (own_back edition count ws l k)
     own false e k = session (bytes_eq word (codes "session")) refl k
 
-    router : (b : Bool) → bytes_eq word (codes "router") ≡ b → (if b then router_line ws else (if bytes_eq word (codes "originate") then own_line count ws else (if bytes_eq word (codes "session") then session_line ws else (if bytes_eq word (codes "peer") then peer_line ws else (if bytes_eq word (codes "import") then import_line count ws else (if bytes_eq word (codes "export") then export_line count ws else (if bytes_eq word (codes "end") then end_line ws else Err Form))))))) ≡ Ok l → Says count (word ∷ ws) l
-    router true e k = said (codes "router") e (router_back count ws l k)
+    router : (b : Bool) → bytes_eq word (codes "router") ≡ b → (if b then router_line edition ws else (if bytes_eq word (codes "originate") then own_line edition count ws else (if bytes_eq word (codes "session") then session_line edition ws else (if bytes_eq word (codes "peer") then peer_line edition ws else (if bytes_eq word (codes "import") then import_line edition count ws else (if bytes_eq word (codes "export") then export_line edition count ws else (if bytes_eq word (codes "end") then end_line ws else Err Form))))))) ≡ Ok l → Says edition count (word ∷ ws) l
+    router true e k = said (codes "router") e (router_back edition count ws l k)
     router false e k = own (bytes_eq word (codes "originate")) refl k
 
 -- ---- the line of a class
@@ -286,14 +289,14 @@ no_number : (pieces : List (List ℕ)) (l : Line) → class_line [] pieces ≡ O
 unfolding class_line
 no_number pieces l e = cc
 
-class_text : (count : ℕ) (number : List ℕ) (pattern pieces : List (List ℕ)) (l : Line) → class_line (number ∷ pattern) pieces ≡ Ok l → IsNumbered l
-    → (join_with_byte 44 (join_with_byte 32 (codes "class" ∷ number ∷ pattern) ∷ pieces) ≡ line_text l) × IsLine count l
+class_text : (edition : Edition) (count : ℕ) (number : List ℕ) (pattern pieces : List (List ℕ)) (l : Line) → class_line (number ∷ pattern) pieces ≡ Ok l → IsNumbered l
+    → (join_with_byte 44 (join_with_byte 32 (codes "class" ∷ number ∷ pattern) ∷ pieces) ≡ line_text edition l) × IsLine edition count l
 unfolding class_line
-class_text count number [] pieces l h is =
+class_text edition count number [] pieces l h is =
     let n = bind_ok (number_of number) _ l h in
     let t = bind_ok (pattern_of []) _ l n.2 in
     absurd (no_words t.0 t.1)
-class_text count number (w ∷ ws) pieces l h is =
+class_text edition count number (w ∷ ws) pieces l h is =
     let n = bind_ok (number_of number) _ l h in
     let t = bind_ok (pattern_of (w ∷ ws)) _ l n.2 in
     let ps = bind_ok (later_patterns (t.0 ∷ []) pieces) _ l t.2 in
@@ -304,7 +307,7 @@ class_text count number (w ∷ ws) pieces l h is =
   where
     numbered : (f : Figure) → number_of number ≡ Ok f → (k : Option ℕ) → class_number f ≡ Ok k → (t : PlainPattern) → (join_with_byte 32 (w ∷ ws) ≡ pattern_text t) × IsPattern t
         → (ps more : List PlainPattern) → ps ≡ (t ∷ []) ++ more → flat_map (λ (p : List ℕ). 44 ∷ p) pieces ≡ flat_map next_pattern more → AllByRecursion IsPattern more
-        → line.Class k ps ≡ l → (join_with_byte 44 (join_with_byte 32 (codes "class" ∷ number ∷ w ∷ ws) ∷ pieces) ≡ line_text l) × IsLine count l
+        → line.Class k ps ≡ l → (join_with_byte 44 (join_with_byte 32 (codes "class" ∷ number ∷ w ∷ ws) ∷ pieces) ≡ line_text edition l) × IsLine edition count l
     numbered LeadingZero e k c t first ps more whole text are same = absurd cc
     numbered Large e k c t first ps more whole text are same =
         let none : k ≡ None = sym (ok_same None k c) in
@@ -313,47 +316,47 @@ class_text count number (w ∷ ws) pieces l h is =
     numbered (Value m) e k c t first ps more whole text are same =
         let some : Some m ≡ k = ok_same (Some m) k c in
         let back = number_back number m e in
-        let joined : join_with_byte 44 (join_with_byte 32 (codes "class" ∷ number ∷ w ∷ ws) ∷ pieces) ≡ line_text (line.Class (Some m) (t ∷ more)) =
+        let joined : join_with_byte 44 (join_with_byte 32 (codes "class" ∷ number ∷ w ∷ ws) ∷ pieces) ≡ line_text edition (line.Class (Some m) (t ∷ more)) =
         join_pieces (join_with_byte 32 (codes "class" ∷ number ∷ w ∷ ws)) pieces ∙ parts_by number (decimal m) (join_with_byte 32 (w ∷ ws)) (pattern_text t) (flat_map (λ (p : List ℕ). 44 ∷ p) pieces) (flat_map next_pattern more) back.0 first.0 text in
         let made : line.Class (Some m) (t ∷ more) ≡ l = ap₂ (λ (o : Option ℕ) (qs : List PlainPattern). line.Class o qs) some (sym whole) ∙ same in
-        subst (λ (x : Line). (join_with_byte 44 (join_with_byte 32 (codes "class" ∷ number ∷ w ∷ ws) ∷ pieces) ≡ line_text x) × IsLine count x) made
+        subst (λ (x : Line). (join_with_byte 44 (join_with_byte 32 (codes "class" ∷ number ∷ w ∷ ws) ∷ pieces) ≡ line_text edition x) × IsLine edition count x) made
         (joined, (back.1, (λ (none : t ∷ more ≡ []). let gone : ⊥ = cc in gone), (first.1, are)))
       where
         parts_by : (number a joined b more c : List ℕ) → number ≡ a → joined ≡ b → more ≡ c
             → (codes "class" ++ (32 ∷ (number ++ (32 ∷ joined)))) ++ more ≡ codes "class " ++ a ++ codes " " ++ (b ++ c)
         parts_by number a joined b more c e f g = rw (e, f, g, append_assoc a (32 ∷ b) c, append_assoc a (codes " ") (b ++ c)) refl
 
-words_back : (count : ℕ) (ws pieces : List (List ℕ)) (l : Line) → words_line count ws pieces ≡ Ok l → IsNumbered l
-    → (join_with_byte 44 (join_with_byte 32 ws ∷ pieces) ≡ line_text l) × IsLine count l
+words_back : (edition : Edition) (count : ℕ) (ws pieces : List (List ℕ)) (l : Line) → words_line edition count ws pieces ≡ Ok l → IsNumbered l
+    → (join_with_byte 44 (join_with_byte 32 ws ∷ pieces) ≡ line_text edition l) × IsLine edition count l
 unfolding words_line
-words_back count [] pieces l h is = absurd cc
-words_back count (word ∷ ws) pieces l h is = class (bytes_eq word (codes "class")) refl h
+words_back edition count [] pieces l h is = absurd cc
+words_back edition count (word ∷ ws) pieces l h is = class (bytes_eq word (codes "class")) refl h
   where
-    apart : (b : Bool) → b ≡ false → (if b then form_line count word ws else Err Form) ≡ Ok l → ⊥
+    apart : (b : Bool) → b ≡ false → (if b then form_line edition count word ws else Err Form) ≡ Ok l → ⊥
     apart false e k = cc
     apart true e k = cc
 
-    alone : (ps : List (List ℕ)) → (if length ps == 0 then form_line count word ws else Err Form) ≡ Ok l → (join_with_byte 44 (join_with_byte 32 (word ∷ ws) ∷ ps) ≡ line_text l) × IsLine count l
-    alone [] k = form_back count word ws l k
+    alone : (ps : List (List ℕ)) → (if length ps == 0 then form_line edition count word ws else Err Form) ≡ Ok l → (join_with_byte 44 (join_with_byte 32 (word ∷ ws) ∷ ps) ≡ line_text edition l) × IsLine edition count l
+    alone [] k = form_back edition count word ws l k
     alone (p ∷ ps) k = absurd (apart (length (p ∷ ps) == 0) (ne_eqb (length (p ∷ ps)) 0 (λ e. omega (arith, e))) k)
 
-    of_class : (ws : List (List ℕ)) → class_line ws pieces ≡ Ok l → (join_with_byte 44 (join_with_byte 32 (codes "class" ∷ ws) ∷ pieces) ≡ line_text l) × IsLine count l
+    of_class : (ws : List (List ℕ)) → class_line ws pieces ≡ Ok l → (join_with_byte 44 (join_with_byte 32 (codes "class" ∷ ws) ∷ pieces) ≡ line_text edition l) × IsLine edition count l
     of_class [] k = absurd (no_number pieces l k)
-    of_class (number ∷ pattern) k = class_text count number pattern pieces l k is
+    of_class (number ∷ pattern) k = class_text edition count number pattern pieces l k is
 
-    class : (b : Bool) → bytes_eq word (codes "class") ≡ b → (if b then class_line ws pieces else (if length pieces == 0 then form_line count word ws else Err Form)) ≡ Ok l
-        → (join_with_byte 44 (join_with_byte 32 (word ∷ ws) ∷ pieces) ≡ line_text l) × IsLine count l
-    class true e k = subst (λ (w : List ℕ). (join_with_byte 44 (join_with_byte 32 (w ∷ ws) ∷ pieces) ≡ line_text l) × IsLine count l) (sym (word_is (codes "class") word e)) (of_class ws k)
+    class : (b : Bool) → bytes_eq word (codes "class") ≡ b → (if b then class_line ws pieces else (if length pieces == 0 then form_line edition count word ws else Err Form)) ≡ Ok l
+        → (join_with_byte 44 (join_with_byte 32 (word ∷ ws) ∷ pieces) ≡ line_text edition l) × IsLine edition count l
+    class true e k = subst (λ (w : List ℕ). (join_with_byte 44 (join_with_byte 32 (w ∷ ws) ∷ pieces) ≡ line_text edition l) × IsLine edition count l) (sym (word_is (codes "class") word e)) (of_class ws k)
     class false e k = alone pieces k
 
 -- a line that is read is written so, and keeps its rules
-pub lines_written : (bytes : List ℕ) (count : ℕ) (l : Line) → line_of bytes count ≡ Ok l → IsNumbered l → (bytes ≡ line_text l) × IsLine count l
+pub lines_written : (edition : Edition) (bytes : List ℕ) (count : ℕ) (l : Line) → line_of edition bytes count ≡ Ok l → IsNumbered l → (bytes ≡ line_text edition l) × IsLine edition count l
 unfolding line_of
-lines_written bytes count l h is = by (slice_split (λ b. b == 44) bytes) refl h
+lines_written edition bytes count l h is = by (slice_split (λ b. b == 44) bytes) refl h
   where
-    by : (pieces : List (List ℕ)) → slice_split (λ b. b == 44) bytes ≡ pieces → pieces_line count pieces ≡ Ok l → (bytes ≡ line_text l) × IsLine count l
+    by : (pieces : List (List ℕ)) → slice_split (λ b. b == 44) bytes ≡ pieces → pieces_line edition count pieces ≡ Ok l → (bytes ≡ line_text edition l) × IsLine edition count l
     by [] e k = absurd cc
     by (piece ∷ pieces) e k =
-        let back = words_back count (slice_split (λ b. b == 32) piece) pieces l k is in
+        let back = words_back edition count (slice_split (λ b. b == 32) piece) pieces l k is in
         let whole : bytes ≡ join_with_byte 44 (piece ∷ pieces) = sym (join_with_byte-slice_split 44 bytes) ∙ ap (join_with_byte 44) e in
         (whole ∙ ap (λ (p : List ℕ). join_with_byte 44 (p ∷ pieces)) (sym (join_with_byte-slice_split 32 piece)) ∙ back.0, back.1)

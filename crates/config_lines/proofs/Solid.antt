@@ -9,9 +9,9 @@ use Rattle.std.proofs.lemmas.List.Splits.{slice_split-cons_yes, slice_split-cons
 use Rattle.net_base.specs.Addresses.{is_figure}
 use Rattle.net_base.specs.NameRule.{is_name, is_name_byte, is_letter, is_reserved}
 use Rattle.net_base.specs.Prefixes.{PlainPrefix, IsPrefix}
-use Rattle.net_base.specs.declared.numbers.Tag.{Tag}
-use Rattle.text_words.specs.Texts.{address_text, prefix_text, tag_text}
+use Rattle.text_words.specs.Texts.{address_text, prefix_text}
 use Rattle.text_words.proofs.Numbers.{figure_range}
+use Rattle.text_words.proofs.PrefixTexts.{have_no}
 use Rattle.text_words.proofs.Words.{figures}
 
 -- each byte is above a space and a comma
@@ -61,14 +61,7 @@ solid_address n wide =
 pub solid_prefix : (p : PlainPrefix) → IsPrefix p → solid (prefix_text p) ≡ true
 solid_prefix p is = solid_append (address_text p.bits ++ codes "/") (decimal p.len) (solid_append (address_text p.bits) (codes "/") (solid_address p.bits is.wide) refl) (solid_number p.len (omega (arith, is.within)))
 
-pub solid_tag : (t : Tag) → t.asn < 2 ^ 32 → t.value < 2 ^ 32 → solid (tag_text t) ≡ true
-solid_tag t a v = solid_append (decimal t.asn ++ codes ":") (decimal t.value) (solid_append (decimal t.asn) (codes ":") (solid_number t.asn (omega (arith, a))) refl) (solid_number t.value (omega (arith, v)))
-
 -- ---- cutting
-
--- none of these bytes is the sign
-abbrev pub have_no : ℕ → List ℕ → Bool
-have_no sign bs = list_all (λ b. not (b == sign)) bs
 
 pub solid-have_no : (sign : ℕ) (bs : List ℕ) → sign ≤ 44 → solid bs ≡ true → have_no sign bs ≡ true
 solid-have_no sign [] low all = refl

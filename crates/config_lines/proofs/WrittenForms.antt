@@ -1,70 +1,67 @@
 -- Lines that are written are read again.
 use Rattle.std.proofs.Common.{◌≡◌, ℕ, ◌<◌, ◌^◌, List, [], ◌∷◌, ◌++◌, map, true, Some, None, Ok, refl, sym, ◌∙◌, ap, arith, append_assoc}
-use Rattle.std.specs.Prelude.{◌≢◌, ◌==◌, nat_le, not, IsTrue, codes}
+use Rattle.std.specs.Prelude.{◌≢◌, ◌==◌, not, IsTrue, codes}
 use Rattle.std.specs.List.{slice_split, join_with_byte, list_all, flat_map, AllByRecursion}
 use Rattle.std.specs.Fmt.{decimal}
-use Rattle.std.proofs.lemmas.Bool.{and_parts, leb-true, ne_eqb}
+use Rattle.std.proofs.lemmas.Bool.{ne_eqb}
 use Rattle.std.proofs.lemmas.List.Folds.{list_all-append}
 use Rattle.net_base.specs.NameRule.{is_name}
-use Rattle.net_base.specs.Numbers.{is_router_as, is_peer_as}
 use Rattle.net_base.specs.Prefixes.{PlainPattern, IsPattern}
-use Rattle.text_words.specs.Texts.{address_text, prefix_text, tag_text, pattern_text}
-use Rattle.text_words.proofs.PrefixTexts.{prefix_spelled-prefix_text}
+use Rattle.text_words.specs.Texts.{address_text, prefix_text, pattern_text}
+use Rattle.text_words.proofs.PrefixTexts.{prefix_spelled-prefix_text, have_no}
 use Rattle.config_base.specs.declared.config.Rule.{Rule}
 use Rattle.config_base.specs.declared.config.Own.{Own}
 use Rattle.config_base.specs.declared.config.Export.{Export}
-use Rattle.config_base.specs.Configs.{IsClass, IsExport}
+use Rattle.config_base.specs.Configs.{IsClass}
+use Rattle.config_lines.specs.declared.edition.Edition.{Edition}
 use Rattle.config_lines.specs.declared.line.Line.{Line}
 use Rattle.config_lines.specs.declared.line.Line.TheVariants as line
+use Rattle.config_lines.specs.Editions.{tag_text, fits_router, fits_peer}
 use Rattle.config_lines.specs.LineText.{line_text, IsLine, next_pattern}
 use Rattle.config_lines.specs.Lines.{class_line, router_line, own_line, neighbour, session_line, peer_line, setting, tagged_line, untagged_line, import_line, export_line, end_line, form_line, words_line, pieces_line, line_of}
 use Rattle.config_lines.proofs.Addresses.{address_there}
 use Rattle.config_lines.proofs.Digits.{number_there}
 use Rattle.config_lines.proofs.JoinedLines.{router_joined, own_joined, session_joined, peer_joined, export_joined, tagged_joined, untagged_joined}
-use Rattle.config_lines.proofs.PartLaws.{class_there, name_there, tag_parts, tag_there}
+use Rattle.config_lines.proofs.PartLaws.{class_there, name_there}
 use Rattle.config_lines.proofs.PatternLaws.{pattern_words, pattern_words-some, joined_pattern, solid_pattern, pattern_there, behind, split_pieces, patterns_there, patterns_no_feed}
-use Rattle.config_lines.proofs.Solid.{solid, solid_name, solid_number, solid_address, solid_prefix, solid_tag, have_no, split_last, split_joined, solid_words, joined_no_comma, joined_no_feed}
+use Rattle.config_lines.proofs.Ranges.{router_low, peer_low, tag_low}
+use Rattle.config_lines.proofs.Solid.{solid, solid_name, solid_number, solid_address, solid_prefix, split_last, split_joined, solid_words, joined_no_comma, joined_no_feed}
+use Rattle.config_lines.proofs.Tags.{tag_there, solid_tag}
 
 -- a line without commas is read by its words
-words_read : (count : ℕ) (w : List ℕ) (ws : List (List ℕ)) → list_all solid (w ∷ ws) ≡ true → line_of (join_with_byte 32 (w ∷ ws)) count ≡ words_line count (w ∷ ws) []
+words_read : (edition : Edition) (count : ℕ) (w : List ℕ) (ws : List (List ℕ)) → list_all solid (w ∷ ws) ≡ true → line_of edition (join_with_byte 32 (w ∷ ws)) count ≡ words_line edition count (w ∷ ws) []
 unfolding line_of
-words_read count w ws all =
+words_read edition count w ws all =
     rw (split_last 44 (join_with_byte 32 (w ∷ ws)) (joined_no_comma (w ∷ ws) all), split_joined 32 w ws (solid_words 32 (w ∷ ws) (omega arith) all)) refl
 
-pub router_low : (n : ℕ) → IsTrue (is_router_as n) → n < 2 ^ 32
-router_low n is = omega (arith, leb-true n 65534 (and_parts (nat_le 64512 n) (nat_le n 65534) is).1)
-
-pub peer_low : (n : ℕ) → IsTrue (is_peer_as n) → n < 2 ^ 32
-peer_low n is = omega (arith, leb-true n 65534 (and_parts (nat_le 1 n) (nat_le n 65534) is).1)
-
 -- its text is read as the line, and has no line feed
-abbrev pub IsReadAgain : ℕ → Line → Type 0
-IsReadAgain count l = (line_of (line_text l) count ≡ Ok l) × (have_no 10 (line_text l) ≡ true)
+abbrev pub IsReadAgain : Edition → ℕ → Line → Type 0
+IsReadAgain edition count l = (line_of edition (line_text edition l) count ≡ Ok l) × (have_no 10 (line_text edition l) ≡ true)
 
 -- a line whose words are read is read
-by_words : (count : ℕ) (l : Line) (w : List ℕ) (ws : List (List ℕ)) → join_with_byte 32 (w ∷ ws) ≡ line_text l → list_all solid (w ∷ ws) ≡ true → words_line count (w ∷ ws) [] ≡ Ok l → IsReadAgain count l
-by_words count l w ws text all read = (ap (λ (bs : List ℕ). line_of bs count) (sym text) ∙ words_read count w ws all ∙ read, ap (have_no 10) (sym text) ∙ joined_no_feed (w ∷ ws) all)
+by_words : (edition : Edition) (count : ℕ) (l : Line) (w : List ℕ) (ws : List (List ℕ)) → join_with_byte 32 (w ∷ ws) ≡ line_text edition l → list_all solid (w ∷ ws) ≡ true → words_line edition count (w ∷ ws) [] ≡ Ok l → IsReadAgain edition count l
+by_words edition count l w ws text all read = (ap (λ (bs : List ℕ). line_of edition bs count) (sym text) ∙ words_read edition count w ws all ∙ read, ap (have_no 10) (sym text) ∙ joined_no_feed (w ∷ ws) all)
 
-router_there : (count : ℕ) (name : List ℕ) (asn id : ℕ) → IsTrue (is_name name) → IsTrue (is_router_as asn) → id ≢ 0 → id < 2 ^ 32 → IsReadAgain count (line.Router name asn id)
+router_there : (edition : Edition) (count : ℕ) (name : List ℕ) (asn id : ℕ) → IsTrue (is_name name) → IsTrue (fits_router edition asn) → id ≢ 0 → id < 2 ^ 32 → IsReadAgain edition count (line.Router name asn id)
 unfolding words_line form_line router_line
-router_there count name asn id named number apart wide =
-    let low = router_low asn number in
-    let is : is_router_as asn ≡ true = number in
-    by_words count (line.Router name asn id) (codes "router") (name ∷ codes "asn" ∷ decimal asn ∷ codes "id" ∷ address_text id ∷ [])
+router_there edition count name asn id named number apart wide =
+    let low = router_low edition asn number in
+    let is : fits_router edition asn ≡ true = number in
+    by_words edition count (line.Router name asn id) (codes "router") (name ∷ codes "asn" ∷ decimal asn ∷ codes "id" ∷ address_text id ∷ [])
     (router_joined name (codes "asn") (decimal asn) (codes "id") (address_text id) name (decimal asn) (address_text id) refl refl refl refl refl)
     (rw (solid_name name named, solid_number asn (omega (arith, low)), solid_address id wide) refl)
     (rw (number_there asn low, address_there id wide, ne_eqb id 0 apart, name_there name named, is) refl)
 
-own_there : (count : ℕ) (o : Own) → count < 2 ^ 32 → IsLine count (line.Own o) → IsReadAgain count (line.Own o)
+own_there : (edition : Edition) (count : ℕ) (o : Own) → count < 2 ^ 32 → IsLine edition count (line.Own o) → IsReadAgain edition count (line.Own o)
 unfolding words_line form_line own_line
-own_there count o few is =
+own_there edition count o few is =
     let class : IsClass count o.class = is.0.0 in
     let low : o.class < 2 ^ 32 = omega (arith, class.1, few) in
-    let parts = tag_parts o.tag is.0.1 in
-    let tag = tag_there o.tag is.0.1 in
-    by_words count (line.Own o) (codes "originate") (decimal o.class ∷ prefix_text o.prefix ∷ codes "tag" ∷ tag_text o.tag ∷ [])
-    (own_joined (decimal o.class) (prefix_text o.prefix) (codes "tag") (tag_text o.tag) (decimal o.class) (prefix_text o.prefix) (tag_text o.tag) refl refl refl refl)
-    (rw (solid_number o.class (omega (arith, low)), solid_prefix o.prefix is.1, solid_tag o.tag parts.0 parts.1) refl)
+    let parts = tag_low edition o.tag is.0.1 in
+    let tag = tag_there edition o.tag is.0.1 in
+    by_words edition count (line.Own o) (codes "originate") (decimal o.class ∷ prefix_text o.prefix ∷ codes "tag" ∷ tag_text edition o.tag ∷ [])
+    (own_joined (decimal o.class) (prefix_text o.prefix) (codes "tag") (tag_text edition o.tag) (decimal o.class) (prefix_text o.prefix) (tag_text edition o.tag) refl refl refl refl)
+    (rw (solid_number o.class (omega (arith, low)), solid_prefix o.prefix is.1, solid_tag edition o.tag parts.0 parts.1) refl)
     (rw (number_there o.class low, prefix_spelled-prefix_text o.prefix is.1, tag.0, class_there count o.class class, tag.1) refl)
 
 neighbour_there : (name : List ℕ) (asn : ℕ) → IsTrue (is_name name) → asn < 2 ^ 32 → neighbour (name ∷ codes "asn" ∷ decimal asn ∷ []) ≡ Ok (name, asn)
@@ -74,67 +71,67 @@ neighbour_there name asn named low = rw (name_there name named, number_there asn
 neighbour_solid : (name : List ℕ) (asn : ℕ) → IsTrue (is_name name) → asn < 2 ^ 32 → list_all solid (name ∷ codes "asn" ∷ decimal asn ∷ []) ≡ true
 neighbour_solid name asn named low = rw (solid_name name named, solid_number asn (omega (arith, low))) refl
 
-session_there : (count : ℕ) (name : List ℕ) (asn : ℕ) → IsTrue (is_name name) → IsTrue (is_router_as asn) → IsReadAgain count (line.Session name asn)
+session_there : (edition : Edition) (count : ℕ) (name : List ℕ) (asn : ℕ) → IsTrue (is_name name) → IsTrue (fits_router edition asn) → IsReadAgain edition count (line.Session name asn)
 unfolding words_line form_line session_line
-session_there count name asn named number =
-    let low = router_low asn number in
-    let is : is_router_as asn ≡ true = number in
-    by_words count (line.Session name asn) (codes "session") (name ∷ codes "asn" ∷ decimal asn ∷ [])
+session_there edition count name asn named number =
+    let low = router_low edition asn number in
+    let is : fits_router edition asn ≡ true = number in
+    by_words edition count (line.Session name asn) (codes "session") (name ∷ codes "asn" ∷ decimal asn ∷ [])
     (session_joined name (codes "asn") (decimal asn) name (decimal asn) refl refl refl)
     (neighbour_solid name asn named low)
     (rw (neighbour_there name asn named low, is) refl)
 
-peer_there : (count : ℕ) (name : List ℕ) (asn : ℕ) → IsTrue (is_name name) → IsTrue (is_peer_as asn) → IsReadAgain count (line.Peer name asn)
+peer_there : (edition : Edition) (count : ℕ) (name : List ℕ) (asn : ℕ) → IsTrue (is_name name) → IsTrue (fits_peer edition asn) → IsReadAgain edition count (line.Peer name asn)
 unfolding words_line form_line peer_line
-peer_there count name asn named number =
-    let low = peer_low asn number in
-    let is : is_peer_as asn ≡ true = number in
-    by_words count (line.Peer name asn) (codes "peer") (name ∷ codes "asn" ∷ decimal asn ∷ [])
+peer_there edition count name asn named number =
+    let low = peer_low edition asn number in
+    let is : fits_peer edition asn ≡ true = number in
+    by_words edition count (line.Peer name asn) (codes "peer") (name ∷ codes "asn" ∷ decimal asn ∷ [])
     (peer_joined name (codes "asn") (decimal asn) name (decimal asn) refl refl refl)
     (neighbour_solid name asn named low)
     (rw (neighbour_there name asn named low, is) refl)
 
-tagged_there : (count : ℕ) (r : Rule) → count < 2 ^ 32 → IsLine count (line.Import r) → IsReadAgain count (line.Import r)
+tagged_there : (edition : Edition) (count : ℕ) (r : Rule) → count < 2 ^ 32 → IsLine edition count (line.Import r) → IsReadAgain edition count (line.Import r)
 unfolding words_line form_line import_line tagged_line setting
-tagged_there count r few is =
+tagged_there edition count r few is =
     let class : IsClass count r.class = is.1.0 in
     let low : r.class < 2 ^ 32 = omega (arith, class.1, few) in
-    let own = tag_parts r.tag is.0 in
-    let given = tag_parts r.set is.1.1 in
-    let tag = tag_there r.tag is.0 in
-    let set = tag_there r.set is.1.1 in
-    by_words count (line.Import r) (codes "import") (decimal r.class ∷ codes "tag" ∷ tag_text r.tag ∷ codes "set" ∷ tag_text r.set ∷ codes "pref" ∷ decimal r.pref ∷ [])
-    (tagged_joined (decimal r.class) (codes "tag") (tag_text r.tag) (codes "set") (tag_text r.set) (codes "pref") (decimal r.pref) r refl refl refl refl refl refl refl)
-    (rw (solid_number r.class (omega (arith, low)), solid_tag r.tag own.0 own.1, solid_tag r.set given.0 given.1, solid_number r.pref (omega (arith, is.1.2))) refl)
+    let own = tag_low edition r.tag is.0 in
+    let given = tag_low edition r.set is.1.1 in
+    let tag = tag_there edition r.tag is.0 in
+    let set = tag_there edition r.set is.1.1 in
+    by_words edition count (line.Import r) (codes "import") (decimal r.class ∷ codes "tag" ∷ tag_text edition r.tag ∷ codes "set" ∷ tag_text edition r.set ∷ codes "pref" ∷ decimal r.pref ∷ [])
+    (tagged_joined edition (decimal r.class) (codes "tag") (tag_text edition r.tag) (codes "set") (tag_text edition r.set) (codes "pref") (decimal r.pref) r refl refl refl refl refl refl refl)
+    (rw (solid_number r.class (omega (arith, low)), solid_tag edition r.tag own.0 own.1, solid_tag edition r.set given.0 given.1, solid_number r.pref (omega (arith, is.1.2))) refl)
     (rw (number_there r.class low, tag.0, set.0, number_there r.pref is.1.2, class_there count r.class class, tag.1, set.1) refl)
 
-untagged_there : (count : ℕ) (r : Rule) → count < 2 ^ 32 → IsLine count (line.PeerImport r) → IsReadAgain count (line.PeerImport r)
+untagged_there : (edition : Edition) (count : ℕ) (r : Rule) → count < 2 ^ 32 → IsLine edition count (line.PeerImport r) → IsReadAgain edition count (line.PeerImport r)
 unfolding words_line form_line import_line untagged_line setting
-untagged_there count r few is =
+untagged_there edition count r few is =
     let class : IsClass count r.class = is.1.0 in
     let low : r.class < 2 ^ 32 = omega (arith, class.1, few) in
-    let given = tag_parts r.set is.1.1 in
-    let set = tag_there r.set is.1.1 in
-    by_words count (line.PeerImport r) (codes "import") (decimal r.class ∷ codes "set" ∷ tag_text r.set ∷ codes "pref" ∷ decimal r.pref ∷ [])
-    (untagged_joined (decimal r.class) (codes "set") (tag_text r.set) (codes "pref") (decimal r.pref) r refl refl refl refl refl)
-    (rw (solid_number r.class (omega (arith, low)), solid_tag r.set given.0 given.1, solid_number r.pref (omega (arith, is.1.2))) refl)
+    let given = tag_low edition r.set is.1.1 in
+    let set = tag_there edition r.set is.1.1 in
+    by_words edition count (line.PeerImport r) (codes "import") (decimal r.class ∷ codes "set" ∷ tag_text edition r.set ∷ codes "pref" ∷ decimal r.pref ∷ [])
+    (untagged_joined edition (decimal r.class) (codes "set") (tag_text edition r.set) (codes "pref") (decimal r.pref) r refl refl refl refl refl)
+    (rw (solid_number r.class (omega (arith, low)), solid_tag edition r.set given.0 given.1, solid_number r.pref (omega (arith, is.1.2))) refl)
     (rw (number_there r.class low, set.0, number_there r.pref is.1.2, class_there count r.class class, set.1, sym is.0) refl)
 
-export_there : (count : ℕ) (e : Export) → count < 2 ^ 32 → IsExport count e → IsReadAgain count (line.Export e)
+export_there : (edition : Edition) (count : ℕ) (e : Export) → count < 2 ^ 32 → IsLine edition count (line.Export e) → IsReadAgain edition count (line.Export e)
 unfolding words_line form_line export_line
-export_there count e few is =
+export_there edition count e few is =
     let class : IsClass count e.class = is.0 in
     let low : e.class < 2 ^ 32 = omega (arith, class.1, few) in
-    let parts = tag_parts e.tag is.1 in
-    let tag = tag_there e.tag is.1 in
-    by_words count (line.Export e) (codes "export") (decimal e.class ∷ codes "tag" ∷ tag_text e.tag ∷ [])
-    (export_joined (decimal e.class) (codes "tag") (tag_text e.tag) (decimal e.class) (tag_text e.tag) refl refl refl)
-    (rw (solid_number e.class (omega (arith, low)), solid_tag e.tag parts.0 parts.1) refl)
+    let parts = tag_low edition e.tag is.1 in
+    let tag = tag_there edition e.tag is.1 in
+    by_words edition count (line.Export e) (codes "export") (decimal e.class ∷ codes "tag" ∷ tag_text edition e.tag ∷ [])
+    (export_joined (decimal e.class) (codes "tag") (tag_text edition e.tag) (decimal e.class) (tag_text edition e.tag) refl refl refl)
+    (rw (solid_number e.class (omega (arith, low)), solid_tag edition e.tag parts.0 parts.1) refl)
     (rw (number_there e.class low, tag.0, class_there count e.class class, tag.1) refl)
 
-end_there : (count : ℕ) → IsReadAgain count line.End
+end_there : (edition : Edition) (count : ℕ) → IsReadAgain edition count line.End
 unfolding words_line form_line end_line
-end_there count = by_words count line.End (codes "end") [] refl refl refl
+end_there edition count = by_words edition count line.End (codes "end") [] refl refl refl
 
 -- the first piece of a class's line
 class_head : (n : ℕ) (t : PlainPattern) → join_with_byte 32 (codes "class" ∷ decimal n ∷ pattern_words t) ≡ codes "class " ++ decimal n ++ codes " " ++ pattern_text t
@@ -147,33 +144,33 @@ class_head n t =
     parts_by : (a b : List ℕ) → codes "class" ++ (32 ∷ (a ++ (32 ∷ b))) ≡ codes "class " ++ a ++ codes " " ++ b
     parts_by a b = rw (append_assoc a (codes " ") b) refl
 
-pub class_there_by : (count n : ℕ) (t : PlainPattern) (ts : List PlainPattern) → n < 2 ^ 32 → IsPattern t → AllByRecursion IsPattern ts
-    → IsReadAgain count (line.Class (Some n) (t ∷ ts))
+pub class_there_by : (edition : Edition) (count n : ℕ) (t : PlainPattern) (ts : List PlainPattern) → n < 2 ^ 32 → IsPattern t → AllByRecursion IsPattern ts
+    → IsReadAgain edition count (line.Class (Some n) (t ∷ ts))
 unfolding line_of words_line class_line
-class_there_by count n t ts low is all =
+class_there_by edition count n t ts low is all =
     let head : List (List ℕ) = codes "class" ∷ decimal n ∷ pattern_words t in
     let sound : list_all solid head ≡ true = rw (solid_number n (omega (arith, low)), solid_pattern t is) refl in
-    let text : line_text (line.Class (Some n) (t ∷ ts)) ≡ join_with_byte 32 head ++ flat_map next_pattern ts =
+    let text : line_text edition (line.Class (Some n) (t ∷ ts)) ≡ join_with_byte 32 head ++ flat_map next_pattern ts =
     sym (append_assoc (codes "class " ++ decimal n ++ codes " ") (pattern_text t) (flat_map next_pattern ts)) ∙ ap (λ (x : List ℕ). x ++ flat_map next_pattern ts) (sym (class_head n t)) in
-    let cut : slice_split (λ b. b == 44) (line_text (line.Class (Some n) (t ∷ ts))) ≡ join_with_byte 32 head ∷ map behind ts =
+    let cut : slice_split (λ b. b == 44) (line_text edition (line.Class (Some n) (t ∷ ts))) ≡ join_with_byte 32 head ∷ map behind ts =
     ap (slice_split (λ b. b == 44)) text ∙ split_pieces (join_with_byte 32 head) ts (joined_no_comma head sound) all in
     let words : slice_split (λ b. b == 32) (join_with_byte 32 head) ≡ head = split_joined 32 (codes "class") (decimal n ∷ pattern_words t) (solid_words 32 head (omega arith) sound) in
-    let read : line_of (line_text (line.Class (Some n) (t ∷ ts))) count ≡ Ok (line.Class (Some n) (t ∷ ts)) =
-    ap (pieces_line count) cut
-    ∙ ap (λ (ws : List (List ℕ)). words_line count ws (map behind ts)) words
+    let read : line_of edition (line_text edition (line.Class (Some n) (t ∷ ts))) count ≡ Ok (line.Class (Some n) (t ∷ ts)) =
+    ap (pieces_line edition count) cut
+    ∙ ap (λ (ws : List (List ℕ)). words_line edition count ws (map behind ts)) words
     ∙ rw (number_there n low, pattern_there t is, patterns_there (t ∷ []) ts all) refl in
     (read, ap (have_no 10) text ∙ list_all-append (λ b. not (b == 10)) (join_with_byte 32 head) (flat_map next_pattern ts) ∙ rw (joined_no_feed head sound, patterns_no_feed ts all) refl)
 
 -- a line that keeps its rules is read from its text
-pub lines_read : (count : ℕ) (l : Line) → count < 2 ^ 32 → IsLine count l → IsReadAgain count l
-lines_read count (line.Class (Some n) (t ∷ ts)) few is = class_there_by count n t ts is.0 is.2.0 is.2.1
-lines_read count (line.Class (Some n) []) few is = absurd (is.1 refl)
-lines_read count (line.Class None ts) few is = absurd is.0
-lines_read count (line.Router name asn id) few is = router_there count name asn id is.0 is.1 is.2 is.3
-lines_read count (line.Own o) few is = own_there count o few is
-lines_read count (line.Session name asn) few is = session_there count name asn is.0 is.1
-lines_read count (line.Peer name asn) few is = peer_there count name asn is.0 is.1
-lines_read count (line.Import r) few is = tagged_there count r few is
-lines_read count (line.PeerImport r) few is = untagged_there count r few is
-lines_read count (line.Export e) few is = export_there count e few is
-lines_read count line.End few is = end_there count
+pub lines_read : (edition : Edition) (count : ℕ) (l : Line) → count < 2 ^ 32 → IsLine edition count l → IsReadAgain edition count l
+lines_read edition count (line.Class (Some n) (t ∷ ts)) few is = class_there_by edition count n t ts is.0 is.2.0 is.2.1
+lines_read edition count (line.Class (Some n) []) few is = absurd (is.1 refl)
+lines_read edition count (line.Class None ts) few is = absurd is.0
+lines_read edition count (line.Router name asn id) few is = router_there edition count name asn id is.0 is.1 is.2 is.3
+lines_read edition count (line.Own o) few is = own_there edition count o few is
+lines_read edition count (line.Session name asn) few is = session_there edition count name asn is.0 is.1
+lines_read edition count (line.Peer name asn) few is = peer_there edition count name asn is.0 is.1
+lines_read edition count (line.Import r) few is = tagged_there edition count r few is
+lines_read edition count (line.PeerImport r) few is = untagged_there edition count r few is
+lines_read edition count (line.Export e) few is = export_there edition count e few is
+lines_read edition count line.End few is = end_there edition count

@@ -2,14 +2,15 @@
 use Rattle.std.specs.Prelude.{ℕ, ◌+◌, ◌-◌, ◌*◌, ◌^◌, ◌&&◌, ◌==◌, nat_le, nat_lt, not, Bool, List, length, slice_index, fold, Option, Some, None, Result, Ok, Err, if◌then◌else◌}
 use Rattle.std.specs.List.{list_all}
 use Rattle.net_base.specs.Addresses.{is_figure}
-use Rattle.net_base.specs.Numbers.{is_tag}
 use Rattle.net_base.specs.Steps.{◌>>=◌, unless}
 use Rattle.net_base.specs.declared.numbers.Tag.{Tag}
+use Rattle.config_lines.specs.declared.edition.Edition.{Edition}
 use Rattle.config_lines.specs.declared.line.LineFault.{LineFault}
 use Rattle.config_lines.specs.declared.line.LineFault.TheVariants.{Form, Number}
 use Rattle.config_lines.specs.declared.number.Figure.{Figure}
 use Rattle.config_lines.specs.declared.number.Figure.TheVariants.{LeadingZero, Large, Value}
 use Rattle.config_lines.specs.declared.number.RawTag.{RawTag}
+use Rattle.config_lines.specs.Editions.{fits_tag}
 
 -- one or more digits
 abbrev pub is_number : List ℕ → Bool
@@ -57,9 +58,11 @@ class_number LeadingZero = Err Number
 class_number Large = Ok None
 class_number (Value n) = Ok (Some n)
 
-unfoldable pub tag_in_range : RawTag → Result Tag LineFault
-tag_in_range raw = do
+-- the number in the middle of a tag is 0
+unfoldable pub tag_in_range : Edition → RawTag → Result Tag LineFault
+tag_in_range edition raw = do
   asn ← in_range raw.asn
+  middle ← in_range raw.middle
   value ← in_range raw.value
-  _ ← unless Number (is_tag (record { asn = asn; value = value }))
+  _ ← unless Number (middle == 0 && fits_tag edition (record { asn = asn; value = value }))
   Ok (record { asn = asn; value = value })

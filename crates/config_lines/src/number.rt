@@ -4,8 +4,9 @@ ghost use Rattle.std.specs.List.{list_all};
 ghost use Rattle.net_base.specs.Addresses.{is_figure as figure};
 ghost use Rattle.config_lines.specs.Numbers.{value_of, is_number as are_digits, is_padded as padded, figure_of, number_of, in_range as ranged, class_in, class_number as numbered, tag_in_range};
 
+use crate::edition::Edition;
 use crate::line::LineFault;
-use net_base::{Tag, tag_fits};
+use net_base::Tag;
 
 /// A number as it stands in a line.
 #[derive(Clone, Copy, Debug, PartialEq, Eq)]
@@ -18,10 +19,12 @@ pub enum Figure {
     Value(u32),
 }
 
-/// The two numbers of a tag as they stand in a line.
+/// The numbers of a tag as they stand in a line.
 #[derive(Clone, Copy, Debug, PartialEq, Eq)]
 pub struct RawTag {
     pub asn: Figure,
+    /// What stands between the others: 0 in the first edition, where nothing does.
+    pub middle: Figure,
     pub value: Figure,
 }
 
@@ -131,15 +134,16 @@ pub fn class_number(number: Figure) -> Result<Option<u32>, LineFault>
     }
 }
 
-/// The tag of two numbers, which are in their ranges.
+/// The tag of its numbers, which are in their ranges, that of the middle one being 0 alone.
 #[tactic(auto, unfolding(crate::specs::Numbers::tag_in_range))]
-pub fn fitting_tag(raw: RawTag) -> Result<Tag, LineFault>
-    ensures { result ≡ tag_in_range raw }
+pub fn fitting_tag(edition: Edition, raw: RawTag) -> Result<Tag, LineFault>
+    ensures { result ≡ tag_in_range edition raw }
 {
     let asn = in_range(raw.asn)?;
+    let middle = in_range(raw.middle)?;
     let value = in_range(raw.value)?;
     let tag = Tag { asn, value };
-    if !tag_fits(tag) {
+    if middle != 0 || !edition.tag_fits(tag) {
         return Err(LineFault::Number);
     }
     Ok(tag)

@@ -1,14 +1,14 @@
 //! The words of a line.
-ghost use Rattle.std.specs.Prelude.{◌≡◌, ◌==◌, map, IfOk, IfErr, Ok, Err};
-ghost use Rattle.std.specs.List.{slice_split};
+ghost use Rattle.std.specs.Prelude.{◌≡◌, ◌≤◌, ◌==◌, map, length, option_map, IfOk};
+ghost use Rattle.std.specs.List.{slice_split, position_or_len};
 ghost use Rattle.std.specs.Str.{bytes_eq};
-ghost use Rattle.net_base.specs.Addresses.{address_of};
+ghost use Rattle.net_base.specs.Addresses.{address_of, cut_at};
 ghost use Rattle.net_base.specs.PrefixText.{prefix_spelled};
-ghost use Rattle.config_lines.specs.Gives.{Gives};
-ghost use Rattle.config_lines.specs.Words.{is_word as fixed_word, name_of, identifier_of, as_prefix, tag_of, halves};
+ghost use Rattle.config_lines.specs.Words.{is_word as fixed_word, name_of, identifier_of, as_prefix, pair_of, triple_of, tag_of};
 
+use crate::edition::Edition;
 use crate::line::LineFault;
-use crate::number::{RawTag, read_number};
+use crate::number::{Figure, RawTag, read_number};
 use net_base::{Name, Prefix, read_address, read_prefix};
 use std::alloc::{AllocError, Global};
 
@@ -67,24 +67,72 @@ pub fn prefix(word: &[u8]) -> Result<Prefix, LineFault>
     }
 }
 
-// The tag of two words.
-#[tactic(auto, unfolding(crate::specs::Words::halves))]
-fn tag_of_halves(words: &[&[u8]]) -> Result<RawTag, LineFault>
-    ensures { result ≡ halves (map (λ w. w.now) words.now) }
+// How many bytes stand before the first colon: all of them where there is none.
+fn length_before_colon(bytes: &[u8]) -> usize
+    ensures place { result ≡ position_or_len (λ b. b == 58) bytes.now }
+    ensures within { result ≤ length bytes.now }
 {
-    let [asn, value] = words else {
+    let mut i = 0;
+    while i < bytes.len() {
+        if bytes[i] == b':' {
+            return i;
+        }
+        i += 1;
+    }
+    i
+}
+
+// What stands before and after the first colon.
+fn halves(bytes: &[u8]) -> Option<(&[u8], &[u8])>
+    ensures { option_map (λ h. (h.0.now, h.1.now)) result ≡ cut_at 58 bytes.now }
+{
+    let i = length_before_colon(bytes);
+    if i == bytes.len() {
+        return None;
+    }
+    Some((&bytes[..i], &bytes[i + 1..]))
+}
+
+// Two numbers joined by a colon.
+#[tactic(auto, unfolding(crate::specs::Words::pair_of))]
+fn read_pair(word: &[u8]) -> Result<RawTag, LineFault>
+    ensures { result ≡ pair_of word.now }
+{
+    let Some((asn, value)) = halves(word) else {
         return Err(LineFault::Form);
     };
     Ok(RawTag {
         asn: read_number(asn)?,
+        middle: Figure::Value(0),
         value: read_number(value)?,
     })
 }
 
-/// The tag that a word is, with its numbers as they stand: an AS number, `:` and a value (RFC 1997).
-pub fn read_tag(alloc: Global, word: &[u8]) -> Result<RawTag, LineFault>
-    ensures { Gives (λ t. t) result (tag_of word.now) }
+// Three numbers joined by colons.
+#[tactic(auto, unfolding(crate::specs::Words::triple_of))]
+fn read_triple(word: &[u8]) -> Result<RawTag, LineFault>
+    ensures { result ≡ triple_of word.now }
 {
-    let words = cut_parts(alloc, b':', word)?;
-    tag_of_halves(&words)
+    let Some((asn, rest)) = halves(word) else {
+        return Err(LineFault::Form);
+    };
+    let Some((middle, value)) = halves(rest) else {
+        return Err(LineFault::Form);
+    };
+    Ok(RawTag {
+        asn: read_number(asn)?,
+        middle: read_number(middle)?,
+        value: read_number(value)?,
+    })
+}
+
+/// The tag that a word is, with its numbers as they stand: an AS number, `:` and a value (RFC 1997), in the second
+/// edition with another number and `:` between them (RFC 8092).
+pub fn read_tag(edition: Edition, word: &[u8]) -> Result<RawTag, LineFault>
+    ensures { result ≡ tag_of edition word.now }
+{
+    match edition {
+        Edition::First => read_pair(word),
+        Edition::Second => read_triple(word),
+    }
 }

@@ -3,12 +3,13 @@ ghost use Rattle.std.specs.Prelude.{◌≡◌, map};
 ghost use Rattle.config_lines.specs.Gives.{Gives};
 ghost use Rattle.config_lines.specs.Lines.{class_line, router_line, own_line, neighbour, session_line, peer_line, setting, tagged_line, untagged_line, import_line, export_line, end_line, form_line, words_line, pieces_line, line_of};
 
+use crate::edition::Edition;
 use crate::line::{Line, LineFault};
 use crate::number::{Setting, class_number, fitting_tag, in_range, read_class, read_number};
 use crate::parts::{cut_parts, expect, is_word, prefix, read_identifier, read_name, read_tag};
 use crate::pattern::{read_pattern, read_patterns};
 use config_base::{Export, NO_TAG, Own, Rule};
-use net_base::{Name, Tag, peer_as, router_as};
+use net_base::Name;
 use std::alloc::Global;
 
 // A `class` line, by what follows its first word up to the first comma, and its other pieces.
@@ -27,8 +28,8 @@ fn read_class_line(alloc: Global, words: &[&[u8]], pieces: &[&[u8]]) -> Result<L
 
 // A `router` line, by what follows its first word.
 #[tactic(auto, unfolding(crate::specs::Lines::router_line))]
-fn read_router_line(words: &[&[u8]]) -> Result<Line, LineFault>
-    ensures { result ≡ router_line (map (λ w. w.now) words.now) }
+fn read_router_line(edition: Edition, words: &[&[u8]]) -> Result<Line, LineFault>
+    ensures { result ≡ router_line edition (map (λ w. w.now) words.now) }
 {
     let [name, asn_word, asn, id_word, id] = words else {
         return Err(LineFault::Form);
@@ -39,7 +40,7 @@ fn read_router_line(words: &[&[u8]]) -> Result<Line, LineFault>
     let id = read_identifier(id)?;
     let name = read_name(name)?;
     let asn = in_range(asn)?;
-    if !router_as(asn) {
+    if !edition.router_as(asn) {
         return Err(LineFault::Number);
     }
     Ok(Line::Router(name, asn, id))
@@ -47,8 +48,8 @@ fn read_router_line(words: &[&[u8]]) -> Result<Line, LineFault>
 
 // An `originate` line, by what follows its first word.
 #[tactic(auto, unfolding(crate::specs::Lines::own_line))]
-fn read_own_line(alloc: Global, classes: u32, words: &[&[u8]]) -> Result<Line, LineFault>
-    ensures { Gives (λ l. l) result (own_line classes (map (λ w. w.now) words.now)) }
+fn read_own_line(edition: Edition, classes: u32, words: &[&[u8]]) -> Result<Line, LineFault>
+    ensures { result ≡ own_line edition classes (map (λ w. w.now) words.now) }
 {
     let [class, base, tag_word, tag] = words else {
         return Err(LineFault::Form);
@@ -56,9 +57,9 @@ fn read_own_line(alloc: Global, classes: u32, words: &[&[u8]]) -> Result<Line, L
     let class = read_number(class)?;
     let prefix = prefix(base)?;
     expect("tag", tag_word)?;
-    let tag = read_tag(alloc, tag)?;
+    let tag = read_tag(edition, tag)?;
     let class = read_class(classes, class)?;
-    let tag = fitting_tag(tag)?;
+    let tag = fitting_tag(edition, tag)?;
     Ok(Line::Own(Own { class, prefix, tag }))
 }
 
@@ -79,11 +80,11 @@ fn read_neighbour(words: &[&[u8]]) -> Result<(Name, u32), LineFault>
 
 // A `session` line, by what follows its first word.
 #[tactic(auto, unfolding(crate::specs::Lines::session_line))]
-fn read_session_line(words: &[&[u8]]) -> Result<Line, LineFault>
-    ensures { result ≡ session_line (map (λ w. w.now) words.now) }
+fn read_session_line(edition: Edition, words: &[&[u8]]) -> Result<Line, LineFault>
+    ensures { result ≡ session_line edition (map (λ w. w.now) words.now) }
 {
     let (name, asn) = read_neighbour(words)?;
-    if !router_as(asn) {
+    if !edition.router_as(asn) {
         return Err(LineFault::Number);
     }
     Ok(Line::Session(name, asn))
@@ -91,11 +92,11 @@ fn read_session_line(words: &[&[u8]]) -> Result<Line, LineFault>
 
 // A `peer` line, by what follows its first word.
 #[tactic(auto, unfolding(crate::specs::Lines::peer_line))]
-fn read_peer_line(words: &[&[u8]]) -> Result<Line, LineFault>
-    ensures { result ≡ peer_line (map (λ w. w.now) words.now) }
+fn read_peer_line(edition: Edition, words: &[&[u8]]) -> Result<Line, LineFault>
+    ensures { result ≡ peer_line edition (map (λ w. w.now) words.now) }
 {
     let (name, asn) = read_neighbour(words)?;
-    if !peer_as(asn) {
+    if !edition.peer_as(asn) {
         return Err(LineFault::Number);
     }
     Ok(Line::Peer(name, asn))
@@ -103,14 +104,14 @@ fn read_peer_line(words: &[&[u8]]) -> Result<Line, LineFault>
 
 // The tag and the preference of an import are named: the words behind its class and its own tag.
 #[tactic(auto, unfolding(crate::specs::Lines::setting))]
-fn read_setting(alloc: Global, words: &[&[u8]]) -> Result<Setting, LineFault>
-    ensures { Gives (λ s. s) result (setting (map (λ w. w.now) words.now)) }
+fn read_setting(edition: Edition, words: &[&[u8]]) -> Result<Setting, LineFault>
+    ensures { result ≡ setting edition (map (λ w. w.now) words.now) }
 {
     let [set_word, set, pref_word, pref] = words else {
         return Err(LineFault::Form);
     };
     expect("set", set_word)?;
-    let set = read_tag(alloc, set)?;
+    let set = read_tag(edition, set)?;
     expect("pref", pref_word)?;
     let pref = read_number(pref)?;
     Ok(Setting { set, pref })
@@ -118,67 +119,67 @@ fn read_setting(alloc: Global, words: &[&[u8]]) -> Result<Setting, LineFault>
 
 // An `import` line in the block of a router, by what follows its first word.
 #[tactic(auto, unfolding(crate::specs::Lines::tagged_line))]
-fn read_tagged_line(alloc: Global, classes: u32, words: &[&[u8]]) -> Result<Line, LineFault>
-    ensures { Gives (λ l. l) result (tagged_line classes (map (λ w. w.now) words.now)) }
+fn read_tagged_line(edition: Edition, classes: u32, words: &[&[u8]]) -> Result<Line, LineFault>
+    ensures { result ≡ tagged_line edition classes (map (λ w. w.now) words.now) }
 {
     let [class, tag_word, tag, setting @ ..] = words else {
         return Err(LineFault::Form);
     };
     let class = read_number(class)?;
     expect("tag", tag_word)?;
-    let tag = read_tag(alloc, tag)?;
-    let setting = read_setting(alloc, setting)?;
+    let tag = read_tag(edition, tag)?;
+    let setting = read_setting(edition, setting)?;
     Ok(Line::Import(Rule {
         class: read_class(classes, class)?,
-        tag: fitting_tag(tag)?,
-        set: fitting_tag(setting.set)?,
+        tag: fitting_tag(edition, tag)?,
+        set: fitting_tag(edition, setting.set)?,
         pref: in_range(setting.pref)?,
     }))
 }
 
 // An `import` line in the block of a peer, by what follows its first word.
 #[tactic(auto, unfolding(crate::specs::Lines::untagged_line))]
-fn read_untagged_line(alloc: Global, classes: u32, words: &[&[u8]]) -> Result<Line, LineFault>
-    ensures { Gives (λ l. l) result (untagged_line classes (map (λ w. w.now) words.now)) }
+fn read_untagged_line(edition: Edition, classes: u32, words: &[&[u8]]) -> Result<Line, LineFault>
+    ensures { result ≡ untagged_line edition classes (map (λ w. w.now) words.now) }
 {
     let [class, setting @ ..] = words else {
         return Err(LineFault::Form);
     };
     let class = read_number(class)?;
-    let setting = read_setting(alloc, setting)?;
+    let setting = read_setting(edition, setting)?;
     Ok(Line::PeerImport(Rule {
         class: read_class(classes, class)?,
         tag: NO_TAG,
-        set: fitting_tag(setting.set)?,
+        set: fitting_tag(edition, setting.set)?,
         pref: in_range(setting.pref)?,
     }))
 }
 
 // An `import` line, by what follows its first word.
 #[tactic(auto, unfolding(crate::specs::Lines::import_line))]
-fn read_import_line(alloc: Global, classes: u32, words: &[&[u8]]) -> Result<Line, LineFault>
-    ensures { Gives (λ l. l) result (import_line classes (map (λ w. w.now) words.now)) }
+fn read_import_line(edition: Edition, classes: u32, words: &[&[u8]]) -> Result<Line, LineFault>
+    ensures { result ≡ import_line edition classes (map (λ w. w.now) words.now) }
 {
     if words.len() == 7 {
-        read_tagged_line(alloc, classes, words)
+        read_tagged_line(edition, classes, words)
     } else {
-        read_untagged_line(alloc, classes, words)
+        read_untagged_line(edition, classes, words)
     }
 }
 
 // An `export` line, by what follows its first word.
 #[tactic(auto, unfolding(crate::specs::Lines::export_line))]
-fn read_export_line(alloc: Global, classes: u32, words: &[&[u8]]) -> Result<Line, LineFault>
-    ensures { Gives (λ l. l) result (export_line classes (map (λ w. w.now) words.now)) }
+fn read_export_line(edition: Edition, classes: u32, words: &[&[u8]]) -> Result<Line, LineFault>
+    ensures { result ≡ export_line edition classes (map (λ w. w.now) words.now) }
 {
     let [class, tag_word, tag] = words else {
         return Err(LineFault::Form);
     };
     let class = read_number(class)?;
     expect("tag", tag_word)?;
-    let tag = read_tag(alloc, tag)?;
+    let tag = read_tag(edition, tag)?;
     let class = read_class(classes, class)?;
-    let tag = fitting_tag(tag)?;
+    let tag = fitting_tag(edition, tag)?;
     Ok(Line::Export(Export { class, tag }))
 }
 
@@ -196,25 +197,25 @@ fn read_end_line(words: &[&[u8]]) -> Result<Line, LineFault>
 // A line other than that of a class, by its first word and what follows it.
 #[tactic(auto, unfolding(crate::specs::Lines::form_line))]
 fn read_form_line(
-    alloc: Global,
+    edition: Edition,
     classes: u32,
     word: &[u8],
     words: &[&[u8]],
 ) -> Result<Line, LineFault>
-    ensures { Gives (λ l. l) result (form_line classes word.now (map (λ w. w.now) words.now)) }
+    ensures { result ≡ form_line edition classes word.now (map (λ w. w.now) words.now) }
 {
     if is_word("router", word) {
-        read_router_line(words)
+        read_router_line(edition, words)
     } else if is_word("originate", word) {
-        read_own_line(alloc, classes, words)
+        read_own_line(edition, classes, words)
     } else if is_word("session", word) {
-        read_session_line(words)
+        read_session_line(edition, words)
     } else if is_word("peer", word) {
-        read_peer_line(words)
+        read_peer_line(edition, words)
     } else if is_word("import", word) {
-        read_import_line(alloc, classes, words)
+        read_import_line(edition, classes, words)
     } else if is_word("export", word) {
-        read_export_line(alloc, classes, words)
+        read_export_line(edition, classes, words)
     } else if is_word("end", word) {
         read_end_line(words)
     } else {
@@ -226,11 +227,12 @@ fn read_form_line(
 #[tactic(auto, unfolding(crate::specs::Lines::words_line))]
 fn read_words_line(
     alloc: Global,
+    edition: Edition,
     classes: u32,
     words: &[&[u8]],
     pieces: &[&[u8]],
 ) -> Result<Line, LineFault>
-    ensures { Gives (λ l. l) result (words_line classes (map (λ w. w.now) words.now) (map (λ p. p.now) pieces.now)) }
+    ensures { Gives (λ l. l) result (words_line edition classes (map (λ w. w.now) words.now) (map (λ p. p.now) pieces.now)) }
 {
     let [word, words @ ..] = words else {
         return Err(LineFault::Form);
@@ -241,27 +243,37 @@ fn read_words_line(
     if !pieces.is_empty() {
         return Err(LineFault::Form);
     }
-    read_form_line(alloc, classes, word, words)
+    read_form_line(edition, classes, word, words)
 }
 
 // A line, by its pieces.
-fn read_pieces_line(alloc: Global, classes: u32, pieces: &[&[u8]]) -> Result<Line, LineFault>
-    ensures { Gives (λ l. l) result (pieces_line classes (map (λ p. p.now) pieces.now)) }
+fn read_pieces_line(
+    alloc: Global,
+    edition: Edition,
+    classes: u32,
+    pieces: &[&[u8]],
+) -> Result<Line, LineFault>
+    ensures { Gives (λ l. l) result (pieces_line edition classes (map (λ p. p.now) pieces.now)) }
 {
     let [piece, pieces @ ..] = pieces else {
         return Err(LineFault::Form);
     };
     let words = cut_parts(alloc, b' ', piece)?;
-    read_words_line(alloc, classes, &words, pieces)
+    read_words_line(alloc, edition, classes, &words, pieces)
 }
 
-/// The line that the bytes spell, where there are so many classes above it, or why they spell none: its form is
-/// judged before its numbers. The numbers of classes are from 1 to `classes`, but for that of a `class` line,
-/// which has no range. It takes memory in proportion to the words of the line.
+/// The line of this edition that the bytes spell, where there are so many classes above it, or why they spell none:
+/// its form is judged before its numbers. The numbers of classes are from 1 to `classes`, but for that of a `class`
+/// line, which has no range. It takes memory in proportion to the words of the line.
 #[tactic(auto, unfolding(crate::specs::Lines::line_of))]
-pub fn read_line(alloc: Global, bytes: &[u8], classes: u32) -> Result<Line, LineFault>
-    ensures { Gives (λ l. l) result (line_of bytes.now classes) }
+pub fn read_line(
+    alloc: Global,
+    edition: Edition,
+    bytes: &[u8],
+    classes: u32,
+) -> Result<Line, LineFault>
+    ensures { Gives (λ l. l) result (line_of edition bytes.now classes) }
 {
     let pieces = cut_parts(alloc, b',', bytes)?;
-    read_pieces_line(alloc, classes, &pieces)
+    read_pieces_line(alloc, edition, classes, &pieces)
 }

@@ -11,7 +11,7 @@ use Rattle.path_words.specs.declared.case.Case.{Case}
 use Rattle.path_words.specs.declared.policy.Origin.{Origin}
 use Rattle.path_words.specs.Policies.{PlainPolicy, PlainStatement}
 use Rattle.path_words.specs.Governing.{governing}
-use Rattle.path_words.specs.Cases.{with_prefix, with_governed, originated_cases, is_originated, external_case, external_cases}
+use Rattle.path_words.specs.Cases.{with_prefix, with_governed, originated_cases, is_originated, external_case, external_cases, case_list}
 use Rattle.evidence_base.specs.Made.{patterns_of, statement_at}
 use Rattle.config_made.specs.Law.{CaseListsAreClasses}
 
@@ -124,12 +124,19 @@ outer_count : (net : PlainNet) (policy : PlainPolicy) (none : Bool) → length (
 outer_count net policy true = omega arith
 outer_count net policy false = externals_count net policy 1 policy.statements
 
+-- there is at most a case for each prefix that is originated and one for each statement
+pub case_count : (net : PlainNet) (policy : PlainPolicy) → length (case_list net policy) ≤ length policy.origins + length policy.statements
+case_count net policy =
+    let inner = originated_cases policy policy.origins [] in
+    let external = outer net policy (length net.peers == 0) in
+    omega (arith, length-append inner external, originated_count policy policy.origins [], outer_count net policy (length net.peers == 0))
+
 pub case_lists : CaseListsAreClasses
 case_lists net policy rules =
     let inner = originated_cases policy policy.origins [] in
     let external = outer net policy (length net.peers == 0) in
     record {
-      count = omega (arith, length-append inner external, originated_count policy policy.origins [], outer_count net policy (length net.peers == 0), rules.statements, rules.prefixes);
+      count = omega (arith, case_count net policy, rules.statements, rules.prefixes);
       patterns = AllByRecursion-append (λ (c : Case). patterns_of policy c ≢ []) inner external
           (AllByRecursion-weaker HasPrefix (λ (c : Case). patterns_of policy c ≢ []) inner (of_prefixes policy) (originated_kept policy policy.origins [] tt))
           (AllByRecursion-weaker (HasStatement policy) (λ (c : Case). patterns_of policy c ≢ []) external (of_statement policy) (outer_kept net policy (length net.peers == 0)));

@@ -1,25 +1,24 @@
 -- What was read so far keeps the rules of configurations, were each open block closed.
-use Rattle.std.proofs.Common.{◌≡◌, ℕ, ◌+◌, ◌<◌, ◌≤◌, ◌^◌, List, [], ◌∷◌, ◌++◌, length, map, Bool, true, false, Option, Some, None, Ok, refl, sym, ◌∙◌, ap, subst, arith, append-nil}
-use Rattle.std.specs.Prelude.{◌≢◌, ◌&&◌, ◌||◌, ◌==◌, not, is_none, nat_eq, IsTrue, MatchBool}
+use Rattle.std.proofs.Common.{◌≡◌, ℕ, ◌<◌, ◌^◌, List, [], ◌∷◌, ◌++◌, length, map, Bool, true, false, Option, Some, None, Ok, refl, sym, ◌∙◌, ap, subst, arith, append-nil}
+use Rattle.std.specs.Prelude.{◌≢◌, ◌||◌, ◌==◌, not, is_none, nat_eq, IsTrue, MatchBool}
 use Rattle.std.specs.List.{list_any, AllByRecursion, IsDistinct}
 use Rattle.std.specs.Str.{bytes_eq}
 use Rattle.std.proofs.lemmas.Bool.{and_parts, not-true, eqb-true}
-use Rattle.std.proofs.lemmas.Option.{same_Some}
 use Rattle.std.proofs.lemmas.List.{map-append}
-use Rattle.list_laws.proofs.Each.{AllByRecursion-push, AllByRecursion-weaker, AllByRecursion-append, AllByRecursion-append_parts, AllByRecursion-from_list_any}
-use Rattle.list_laws.proofs.Numbers.{nat_eq_apart}
+use Rattle.list_laws.proofs.Each.{AllByRecursion-push, AllByRecursion-weaker, AllByRecursion-append_parts, AllByRecursion-from_list_any}
 use Rattle.list_laws.proofs.Options.{is_none_parts}
 use Rattle.list_laws.proofs.Texts.{bytes_eq_apart}
 use Rattle.net_base.specs.NameRule.{is_name}
 use Rattle.net_base.specs.Numbers.{is_router_as, is_peer_as, is_tag, no_tag}
-use Rattle.net_base.specs.Prefixes.{PlainPattern, IsPrefix}
+use Rattle.net_base.specs.Prefixes.{PlainPattern}
 use Rattle.config_base.specs.declared.config.RouterConfig.{RouterConfig}
 use Rattle.config_base.specs.declared.config.Session.{Session}
 use Rattle.config_base.specs.declared.config.Rule.{Rule}
 use Rattle.config_base.specs.declared.config.Export.{Export}
 use Rattle.config_base.specs.declared.config.Own.{Own}
-use Rattle.config_base.specs.Configs.{PlainConfig, IsClass, HasTag, IsImport, IsExport, IsOwn, IsSession, IsRouter, IsConfig, own_key, tag_key}
+use Rattle.config_base.specs.Configs.{IsClass, HasTag, IsImport, IsExport, IsOwn, IsSession, IsRouter, own_key}
 use Rattle.config_text.specs.Spelled.{ArePatterns, HasPrefix, IsNamed, HasLawfulParts, IsLawful}
+use Rattle.config_lines.specs.declared.edition.Edition.TheVariants.{Second}
 use Rattle.config_lines.specs.declared.line.Line.{Line}
 use Rattle.config_lines.specs.declared.line.Line.TheVariants as line
 use Rattle.config_lines.specs.LineText.{IsLine}
@@ -130,7 +129,7 @@ class_keeps r s number patterns is some are h =
     nothing [] e = refl
     nothing (x ∷ xs) e = absurd (omega (arith, e))
 
-router_keeps : (r s : Reading) (name : List ℕ) (asn id : ℕ) → IsReading r → IsLine (length r.classes) (line.Router name asn id) → after r (line.Router name asn id) ≡ Ok s → IsReading s
+router_keeps : (r s : Reading) (name : List ℕ) (asn id : ℕ) → IsReading r → IsLine Second (length r.classes) (line.Router name asn id) → after r (line.Router name asn id) ≡ Ok s → IsReading s
 unfolding IsDistinct
 router_keeps r s name asn id is l h =
     let k = router_ok r s name asn id h in
@@ -145,7 +144,7 @@ router_keeps r s name asn id is l h =
       known = (refl, (λ _. refl));
     })
 
-own_keeps : (r s : Reading) (own : Own) → IsReading r → IsLine (length r.classes) (line.Own own) → after r (line.Own own) ≡ Ok s → IsReading s
+own_keeps : (r s : Reading) (own : Own) → IsReading r → IsLine Second (length r.classes) (line.Own own) → after r (line.Own own) ≡ Ok s → IsReading s
 own_keeps r s own is l h =
     let k = own_ok r s own h in
     let o : OpenRouter = k.0 in
@@ -271,7 +270,7 @@ end_keeps r s is h =
     subst IsReading k.2 (record { filled = is.filled; are = is.are; routers = subst (AreRouters (length r.classes)) (sym (append-nil (r.routers ++ closed o.router o.block ∷ []))) before; known = tt })
 
 -- what was read keeps the rules with a line more that keeps its own
-pub after_keeps : (r s : Reading) (l : Line) → IsReading r → IsLine (length r.classes) l → after r l ≡ Ok s → IsReading s
+pub after_keeps : (r s : Reading) (l : Line) → IsReading r → IsLine Second (length r.classes) l → after r l ≡ Ok s → IsReading s
 after_keeps r s (line.Class number patterns) is l h = class_keeps r s number patterns is l.1 l.2 h
 after_keeps r s (line.Router name asn id) is l h = router_keeps r s name asn id is l h
 after_keeps r s (line.Own own) is l h = own_keeps r s own is l h

@@ -1,8 +1,9 @@
 mod Ascending
 mod FaultLaws
+mod KnownRouters
 mod Lawful
-mod ReadTexts
+pub mod ReadTexts
 mod Runs
 mod SoFar
 mod Steps
-mod TakenTexts
+pub mod TakenTexts

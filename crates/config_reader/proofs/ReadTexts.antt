@@ -1,7 +1,7 @@
 -- A text that is read is that of its configuration, which is lawful.
-use Rattle.std.proofs.Common.{Bor, ◌≡◌, ℕ, ◌+◌, ◌-◌, ◌<◌, ◌≤◌, ◌^◌, suc, List, [], ◌∷◌, ◌++◌, length, map, min, take, Bool, true, false, Option, Some, None, Ok, refl, sym, ◌∙◌, ap, ap₂, subst, arith, append-nil, append_assoc}
-use Rattle.std.specs.Prelude.{◌≢◌, ◌&&◌, ◌==◌, not, is_none, slice_index_or, codes, count_by, Result, Err, IfOk}
-use Rattle.std.specs.List.{slice_split, join_with_byte, flat_map}
+use Rattle.std.proofs.Common.{Bor, ◌≡◌, ℕ, ◌+◌, ◌-◌, ◌<◌, ◌≤◌, suc, List, [], ◌∷◌, ◌++◌, length, map, min, take, true, false, Option, Some, None, Ok, refl, sym, ◌∙◌, ap, ap₂, subst, arith, append-nil, append_assoc}
+use Rattle.std.specs.Prelude.{◌≢◌, ◌&&◌, ◌==◌, not, is_none, slice_index_or, count_by, Result, Err, IfOk}
+use Rattle.std.specs.List.{slice_split, join_with_byte, flat_map, AllByRecursion}
 use Rattle.std.specs.Str.{bytes_eq}
 use Rattle.std.proofs.lemmas.Bool.{and_parts, eqb-true, eqb-false, not-true}
 use Rattle.std.proofs.lemmas.List.Splits.{join_with_byte-slice_split, length-slice_split}
@@ -9,25 +9,27 @@ use Rattle.std.proofs.lemmas.List.{length-map, length-take, take-map}
 use Rattle.std.proofs.lemmas.List.Sums.{count_by-le-length}
 use Rattle.std.proofs.lemmas.Slice.Eq.{bytes_eq-Decides}
 use Rattle.list_laws.proofs.Options.{is_none_parts}
-use Rattle.net_base.specs.Prefixes.{PlainPattern}
-use Rattle.net_base.specs.Steps.{◌>>=◌, unless}
+use Rattle.net_base.specs.Steps.{unless}
 use Rattle.net_base.proofs.StepLemmas.{bind_ok, unless_ok, ok_same}
-use Rattle.config_base.specs.Configs.{PlainConfig, IsConfig}
+use Rattle.config_base.specs.Configs.{PlainConfig}
+use Rattle.config_lines.specs.declared.edition.Edition.{Edition}
 use Rattle.config_lines.specs.declared.line.Line.{Line}
 use Rattle.config_lines.specs.declared.line.Line.TheVariants as line
+use Rattle.config_lines.specs.Editions.{first_line}
 use Rattle.config_lines.specs.LineText.{line_text, IsLine, IsNumbered}
+use Rattle.config_lines.proofs.Ranges.{line_wide}
 use Rattle.config_lines.proofs.ReadForms.{lines_written}
 use Rattle.config_text.specs.ConfigLines.{fed, lines, lines_of_classes, lines_of_router}
-use Rattle.config_text.specs.ConfigText.{config_text}
-use Rattle.config_text.specs.Spelled.{IsLawful, Spells}
+use Rattle.config_text.specs.ConfigText.{text_in}
+use Rattle.config_text.specs.Spelled.{IsLawful, HasLinesOf, SpellsIn}
 use Rattle.config_text.proofs.TextLines.{text_of_lines}
 use Rattle.config_reader.specs.declared.fault.ConfigFault.{ConfigFault}
 use Rattle.config_reader.specs.declared.fault.ConfigFault.TheVariants as fault
 use Rattle.config_reader.specs.Faults.{Gives}
 use Rattle.config_reader.specs.declared.reading.OpenRouter.{OpenRouter}
 use Rattle.config_reader.specs.declared.reading.Reading.{Reading}
-use Rattle.config_reader.specs.Reading.{opening, after, is_next}
-use Rattle.config_reader.specs.Text.{with_line, with_lines, finished, heading, whole_lines, behind_heading, in_lines, spelled}
+use Rattle.config_reader.specs.Reading.{opening, after}
+use Rattle.config_reader.specs.Text.{with_line, with_lines, finished, whole_lines, behind_heading, in_lines, spelled_in}
 use Rattle.config_reader.proofs.Lawful.{IsReading, after_keeps, opening_keeps, reading_lawful}
 use Rattle.config_reader.proofs.SoFar.{so_far, open_lines, after_adds}
 use Rattle.config_reader.proofs.Steps.{with_line_ok, with_line-classes, class_ok}
@@ -48,29 +50,56 @@ numbered r s (line.PeerImport rule) h = tt
 numbered r s (line.Export export) h = tt
 numbered r s line.End h = tt
 
+-- a line keeps its rules below more classes
+line_below : (edition : Edition) (k m : ℕ) (l : Line) → k ≤ m → IsLine edition k l → IsLine edition m l
+line_below edition k m (line.Class number patterns) le is = is
+line_below edition k m (line.Router name asn id) le is = is
+line_below edition k m (line.Own o) le is = (((is.0.0.0, omega (arith, is.0.0.1, le)), is.0.1), is.1)
+line_below edition k m (line.Session name asn) le is = is
+line_below edition k m (line.Peer name asn) le is = is
+line_below edition k m (line.Import r) le is = (is.0, ((is.1.0.0, omega (arith, is.1.0.1, le)), is.1.1, is.1.2))
+line_below edition k m (line.PeerImport r) le is = (is.0, ((is.1.0.0, omega (arith, is.1.0.1, le)), is.1.1, is.1.2))
+line_below edition k m (line.Export e) le is = ((is.0.0, omega (arith, is.0.1, le)), is.1)
+line_below edition k m line.End le is = is
+
 -- the lines that were read, one after another
-pub record AreRead (r s : Reading) (texts : List (List ℕ)) : Type 0 where
+pub record AreRead (edition : Edition) (r s : Reading) (texts : List (List ℕ)) : Type 0 where
   pub ls : List Line
-  pub written : map line_text ls ≡ texts
+  pub written : map (line_text edition) ls ≡ texts
   pub more : so_far s ≡ so_far r ++ ls
   pub keeps : IsReading s
+  pub fits : AllByRecursion (IsLine edition (length s.classes)) ls
+  pub least : length r.classes ≤ length s.classes
   pub few : length s.classes ≤ length r.classes + length texts
 
-pub lines_back : (n : ℕ) (r s : Reading) (texts : List (List ℕ)) → IsReading r → with_lines n r texts ≡ Ok s → AreRead r s texts
-lines_back n r s [] is h =
+pub lines_back : (edition : Edition) (n : ℕ) (r s : Reading) (texts : List (List ℕ)) → IsReading r → with_lines edition n r texts ≡ Ok s → AreRead edition r s texts
+lines_back edition n r s [] is h =
     let same : r ≡ s = ok_same r s h in
-    record { ls = []; written = refl; more = ap so_far (sym same) ∙ sym (append-nil (so_far r)); keeps = subst IsReading same is; few = rw (← same) (omega arith) }
-lines_back n r s (t ∷ ts) is h =
-    let b = bind_ok (with_line n r t) _ s h in
-    let k = with_line_ok n r b.0 t b.1 in
-    let w = lines_written t (length r.classes) k.0 k.1 (numbered r b.0 k.0 k.2) in
-    let rest = lines_back (n + 1) b.0 s ts (after_keeps r b.0 k.0 is w.1 k.2) b.2 in
+    record {
+      ls = [];
+      written = refl;
+      more = ap so_far (sym same) ∙ sym (append-nil (so_far r));
+      keeps = subst IsReading same is;
+      fits = tt;
+      least = rw (← same) (omega arith);
+      few = rw (← same) (omega arith);
+    }
+lines_back edition n r s (t ∷ ts) is h =
+    let b = bind_ok (with_line edition n r t) _ s h in
+    let k = with_line_ok edition n r b.0 t b.1 in
+    let w = lines_written edition t (length r.classes) k.0 k.1 (numbered r b.0 k.0 k.2) in
+    let wide = line_wide edition (length r.classes) k.0 w.1 in
+    let count = with_line-classes edition n r b.0 t b.1 in
+    let rest = lines_back edition (n + 1) b.0 s ts (after_keeps r b.0 k.0 is wide k.2) b.2 in
+    let least : length r.classes ≤ length s.classes = omega (arith, rest.least, count.0) in
     record {
       ls = k.0 ∷ rest.ls;
       written = ap₂ (λ (x : List ℕ) (xs : List (List ℕ)). x ∷ xs) (sym w.0) rest.written;
-      more = rest.more ∙ ap (λ (x : List Line). x ++ rest.ls) (after_adds r b.0 k.0 is w.1 k.2) ∙ append_assoc (so_far r) (k.0 ∷ []) rest.ls;
+      more = rest.more ∙ ap (λ (x : List Line). x ++ rest.ls) (after_adds r b.0 k.0 is k.2) ∙ append_assoc (so_far r) (k.0 ∷ []) rest.ls;
       keeps = rest.keeps;
-      few = omega (arith, rest.few, with_line-classes n r b.0 t b.1);
+      fits = (line_below edition (length r.classes) (length s.classes) k.0 least w.1, rest.fits);
+      least = least;
+      few = omega (arith, rest.few, count.1);
     }
 
 pub finished_ok : (r : Reading) (rest : List ℕ) (c : PlainConfig) → finished r rest ≡ Ok c → (r.opened ≡ None) × (rest ≡ []) × ((let d : PlainConfig = record { classes = r.classes; routers = r.routers } in d) ≡ c)
@@ -98,43 +127,52 @@ fed_lines [] = refl
 fed_lines (t ∷ []) = sym (append-nil (t ++ 10 ∷ []))
 fed_lines (t ∷ u ∷ ts) = ap (λ (x : List ℕ). t ++ (10 ∷ x)) (fed_lines (u ∷ ts)) ∙ sym (append_assoc t (10 ∷ []) (flat_map (λ (t : List ℕ). t ++ 10 ∷ []) (u ∷ ts)))
 
-fed_texts : (ls : List Line) → flat_map fed ls ≡ flat_map (λ (t : List ℕ). t ++ 10 ∷ []) (map line_text ls)
-fed_texts [] = refl
-fed_texts (l ∷ ls) = ap (λ (x : List ℕ). fed l ++ x) (fed_texts ls)
+fed_texts : (edition : Edition) (ls : List Line) → flat_map (fed edition) ls ≡ flat_map (λ (t : List ℕ). t ++ 10 ∷ []) (map (line_text edition) ls)
+fed_texts edition [] = refl
+fed_texts edition (l ∷ ls) = ap (λ (x : List ℕ). fed edition l ++ x) (fed_texts edition ls)
 
 join_front : (w v : List ℕ) (ts : List (List ℕ)) → join_with_byte 10 (w ∷ (ts ++ v ∷ [])) ≡ w ++ (10 ∷ join_with_byte 10 (ts ++ v ∷ []))
 join_front w v [] = refl
 join_front w v (t ∷ ts) = refl
 
 -- behind the first line
-record IsBehind (more : List (List ℕ)) (c : PlainConfig) : Type 0 where
+record IsBehind (edition : Edition) (more : List (List ℕ)) (c : PlainConfig) : Type 0 where
   s : Reading
-  read : AreRead opening s (take (length more - 1) more)
+  read : AreRead edition opening s (take (length more - 1) more)
   none : s.opened ≡ None
   rest : slice_index_or more (length more - 1) [] ≡ []
   made : (let d : PlainConfig = record { classes = s.classes; routers = s.routers } in d) ≡ c
 
-behind_back : (more : List (List ℕ)) (c : PlainConfig) → behind_heading more ≡ Ok c → IsBehind more c
+behind_back : (edition : Edition) (more : List (List ℕ)) (c : PlainConfig) → behind_heading edition more ≡ Ok c → IsBehind edition more c
 unfolding behind_heading
-behind_back more c h =
-    let s = bind_ok (with_lines 2 opening (take (length more - 1) more)) _ c h in
+behind_back edition more c h =
+    let s = bind_ok (with_lines edition 2 opening (take (length more - 1) more)) _ c h in
     let f = finished_ok s.0 (slice_index_or more (length more - 1) []) c s.2 in
-    record { s = s.0; read = lines_back 2 opening s.0 (take (length more - 1) more) opening_keeps s.1; none = f.0; rest = f.1; made = f.2 }
+    record { s = s.0; read = lines_back edition 2 opening s.0 (take (length more - 1) more) opening_keeps s.1; none = f.0; rest = f.1; made = f.2 }
+
+-- the lines that were read are those of the configuration
+behind_lines : (edition : Edition) (more : List (List ℕ)) (c : PlainConfig) (b : IsBehind edition more c) → b.read.ls ≡ lines (record { classes = b.s.classes; routers = b.s.routers })
+behind_lines edition more c b =
+    sym b.read.more ∙ ap (λ (x : Option OpenRouter). lines_of_classes 1 b.s.classes ++ (flat_map lines_of_router b.s.routers ++ open_lines x)) b.none
+    ∙ ap (λ (x : List Line). lines_of_classes 1 b.s.classes ++ x) (append-nil (flat_map lines_of_router b.s.routers))
+
+behind_fits : (edition : Edition) (more : List (List ℕ)) (c : PlainConfig) → IsBehind edition more c → HasLinesOf edition c
+behind_fits edition more c b =
+    subst (HasLinesOf edition) b.made (subst (AllByRecursion (IsLine edition (length b.s.classes))) (behind_lines edition more c b) b.read.fits)
 
 -- the text behind the first line
-behind_text : (more : List (List ℕ)) (c : PlainConfig) → length more ≢ 0 → IsBehind more c → join_with_byte 10 (heading ∷ more) ≡ config_text c
-behind_text more c some b =
+behind_text : (edition : Edition) (more : List (List ℕ)) (c : PlainConfig) → length more ≢ 0 → IsBehind edition more c → join_with_byte 10 (first_line edition ∷ more) ≡ text_in edition c
+behind_text edition more c some b =
     let ts : List (List ℕ) = take (length more - 1) more in
     let split : more ≡ ts ++ [] ∷ [] = last_split more some ∙ ap (λ (x : List ℕ). ts ++ x ∷ []) b.rest in
     let d : PlainConfig = record { classes = b.s.classes; routers = b.s.routers } in
-    let all : b.read.ls ≡ lines d =
-    sym b.read.more ∙ ap (λ (x : Option OpenRouter). lines_of_classes 1 b.s.classes ++ (flat_map lines_of_router b.s.routers ++ open_lines x)) b.none
-    ∙ ap (λ (x : List Line). lines_of_classes 1 b.s.classes ++ x) (append-nil (flat_map lines_of_router b.s.routers)) in
-    ap (λ (x : List (List ℕ)). join_with_byte 10 (heading ∷ x)) split
-    ∙ join_front heading [] ts
-    ∙ ap (λ (x : List ℕ). heading ++ (10 ∷ x)) (fed_lines ts ∙ ap (flat_map (λ (t : List ℕ). t ++ 10 ∷ [])) (sym b.read.written) ∙ sym (fed_texts b.read.ls) ∙ ap (flat_map fed) all)
-    ∙ sym (text_of_lines d)
-    ∙ ap config_text b.made
+    let feeds : List (List ℕ) → List ℕ = flat_map (λ (t : List ℕ). t ++ 10 ∷ []) in
+    ap (λ (x : List (List ℕ)). join_with_byte 10 (first_line edition ∷ x)) split
+    ∙ join_front (first_line edition) [] ts
+    ∙ ap (λ (x : List ℕ). first_line edition ++ (10 ∷ x)) (fed_lines ts ∙ ap feeds (sym b.read.written) ∙ sym (fed_texts edition b.read.ls) ∙ ap (flat_map (fed edition)) (behind_lines edition more c b))
+    ∙ sym (append_assoc (first_line edition) (10 ∷ []) (flat_map (fed edition) (lines d)))
+    ∙ sym (text_of_lines edition d)
+    ∙ ap (text_in edition) b.made
 
 -- a text has few lines
 few_lines : (bytes first : List ℕ) (more : List (List ℕ)) → slice_split (λ b. b == 10) bytes ≡ first ∷ more → length bytes < 4294967295 → length more < 4294967295
@@ -142,44 +180,45 @@ few_lines bytes first more e short =
     let count : length (first ∷ more) ≡ count_by (λ b. b == 10) bytes + 1 = ap length (sym e) ∙ length-slice_split (λ b. b == 10) bytes in
     omega (arith, count, count_by-le-length (λ (b : ℕ). b == 10) bytes, short)
 
-pub behind_lawful : (more : List (List ℕ)) (s : Reading) → length more < 4294967295 → with_lines 2 opening (take (length more - 1) more) ≡ Ok s → s.opened ≡ None → IsLawful (record { classes = s.classes; routers = s.routers })
-behind_lawful more s short h none =
-    let read = lines_back 2 opening s (take (length more - 1) more) opening_keeps h in
+pub behind_lawful : (edition : Edition) (more : List (List ℕ)) (s : Reading) → length more < 4294967295 → with_lines edition 2 opening (take (length more - 1) more) ≡ Ok s → s.opened ≡ None → IsLawful (record { classes = s.classes; routers = s.routers })
+behind_lawful edition more s short h none =
+    let read = lines_back edition 2 opening s (take (length more - 1) more) opening_keeps h in
     let long : length (take (length more - 1) more) ≡ min (length more - 1) (length more) = length-take (length more - 1) more in
     reading_lawful s read.keeps none (omega (arith, read.few, long, short))
 
-lines_spell : (first : List ℕ) (more : List (List ℕ)) (c : PlainConfig) → length more < 4294967295 → in_lines (first ∷ more) ≡ Ok c → (join_with_byte 10 (first ∷ more) ≡ config_text c) × IsLawful c
+lines_spell : (edition : Edition) (first : List ℕ) (more : List (List ℕ)) (c : PlainConfig) → length more < 4294967295 → in_lines edition (first ∷ more) ≡ Ok c
+    → (join_with_byte 10 (first ∷ more) ≡ text_in edition c) × IsLawful c × HasLinesOf edition c
 unfolding in_lines
-lines_spell first more c short h =
-    let a = bind_ok (unless fault.Version (not (length more == 0) && bytes_eq first heading)) _ c h in
-    let both = and_parts (not (length more == 0)) (bytes_eq first heading) (unless_ok fault.Version _ a.0 a.1) in
+lines_spell edition first more c short h =
+    let a = bind_ok (unless fault.Version (not (length more == 0) && bytes_eq first (first_line edition))) _ c h in
+    let both = and_parts (not (length more == 0)) (bytes_eq first (first_line edition)) (unless_ok fault.Version _ a.0 a.1) in
     let some = eqb-false (length more) 0 (not-true (length more == 0) both.0) in
-    let head : first ≡ heading = (bytes_eq-Decides first heading).0 both.1 in
-    let b = behind_back more c a.2 in
+    let head : first ≡ first_line edition = (bytes_eq-Decides first (first_line edition)).0 both.1 in
+    let b = behind_back edition more c a.2 in
     let k = lawful b in
-    (ap (λ (x : List ℕ). join_with_byte 10 (x ∷ more)) head ∙ behind_text more c some b, k)
+    (ap (λ (x : List ℕ). join_with_byte 10 (x ∷ more)) head ∙ behind_text edition more c some b, k, behind_fits edition more c b)
   where
-    lawful : IsBehind more c → IsLawful c
+    lawful : IsBehind edition more c → IsLawful c
     lawful b = subst IsLawful b.made (by b.read)
       where
-        by : AreRead opening b.s (take (length more - 1) more) → IsLawful (record { classes = b.s.classes; routers = b.s.routers })
+        by : AreRead edition opening b.s (take (length more - 1) more) → IsLawful (record { classes = b.s.classes; routers = b.s.routers })
         by read =
             let long : length (take (length more - 1) more) ≡ min (length more - 1) (length more) = length-take (length more - 1) more in
             reading_lawful b.s read.keeps b.none (omega (arith, read.few, long, short))
 
-no_lines : (c : PlainConfig) → in_lines [] ≡ Ok c → ⊥
+no_lines : (edition : Edition) (c : PlainConfig) → in_lines edition [] ≡ Ok c → ⊥
 unfolding in_lines
-no_lines c h = cc
+no_lines edition c h = cc
 
 -- what is read is spelled so
-pub read_is_spelled : (bytes : List ℕ) (c : PlainConfig) → length bytes < 4294967295 → spelled bytes ≡ Ok c → Spells bytes c
-read_is_spelled bytes c short h = by (slice_split (λ b. b == 10) bytes) refl h
+pub read_is_spelled : (edition : Edition) (bytes : List ℕ) (c : PlainConfig) → length bytes < 4294967295 → spelled_in edition bytes ≡ Ok c → SpellsIn edition bytes c
+read_is_spelled edition bytes c short h = by (slice_split (λ b. b == 10) bytes) refl h
   where
-    by : (ps : List (List ℕ)) → slice_split (λ b. b == 10) bytes ≡ ps → in_lines ps ≡ Ok c → Spells bytes c
-    by [] e k = absurd (no_lines c k)
+    by : (ps : List (List ℕ)) → slice_split (λ b. b == 10) bytes ≡ ps → in_lines edition ps ≡ Ok c → SpellsIn edition bytes c
+    by [] e k = absurd (no_lines edition c k)
     by (first ∷ more) e k =
-        let back = lines_spell first more c (few_lines bytes first more e short) k in
-        record { lawful = back.1; written = sym (join_with_byte-slice_split 10 bytes) ∙ ap (join_with_byte 10) e ∙ back.0 }
+        let back = lines_spell edition first more c (few_lines bytes first more e short) k in
+        record { lawful = back.1; fits = back.2; written = sym (join_with_byte-slice_split 10 bytes) ∙ ap (join_with_byte 10) e ∙ back.0 }
 
 -- ---- as the reader has them
 
@@ -194,6 +233,6 @@ few_parts bytes ps e short =
     omega (arith, count, count_by-le-length (λ (b : ℕ). b == 10) bytes, short)
 
 -- what comes back is spelled so
-pub what_is_read : (bytes : List ℕ) (r : Result PlainConfig ConfigFault) → length bytes < 4294967295 → Gives (λ c. c) r (spelled bytes) → IfOk r (λ c. Spells bytes c)
-what_is_read bytes (Ok c) short h = read_is_spelled bytes c short h
-what_is_read bytes (Err e) short h = tt
+pub what_is_read : (edition : Edition) (bytes : List ℕ) (r : Result PlainConfig ConfigFault) → length bytes < 4294967295 → Gives (λ c. c) r (spelled_in edition bytes) → IfOk r (λ c. SpellsIn edition bytes c)
+what_is_read edition bytes (Ok c) short h = read_is_spelled edition bytes c short h
+what_is_read edition bytes (Err e) short h = tt

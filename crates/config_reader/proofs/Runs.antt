@@ -1,32 +1,31 @@
 -- The lines of a configuration are taken one after another.
-use Rattle.std.proofs.Common.{◌≡◌, ℕ, ◌+◌, ◌-◌, ◌<◌, ◌≤◌, ◌^◌, List, [], ◌∷◌, ◌++◌, length, map, Bool, true, false, Option, Some, None, Result, Ok, refl, sym, ◌∙◌, ap, subst, arith, inl, inr, append-nil, append_assoc, length-append}
-use Rattle.std.specs.Prelude.{◌≢◌, ◌&&◌, ◌||◌, ◌==◌, not, is_none, nat_eq, nat_lt, IsTrue, if◌then◌else◌}
+use Rattle.std.proofs.Common.{◌≡◌, ℕ, ◌+◌, ◌<◌, ◌≤◌, List, [], ◌∷◌, ◌++◌, length, map, Bool, true, false, Option, Some, None, Result, Ok, refl, sym, ◌∙◌, ap, subst, arith, inl, inr, append-nil, append_assoc, length-append}
+use Rattle.std.specs.Prelude.{◌&&◌, ◌||◌, ◌==◌, nat_eq, nat_lt, if◌then◌else◌}
 use Rattle.std.specs.List.{list_any, flat_map, AllByRecursion, IsDistinct}
 use Rattle.std.specs.Option.{option_map}
 use Rattle.std.specs.Str.{bytes_eq}
 use Rattle.std.proofs.lemmas.Bool.{cases_lt, eq-eqb, lt-ltb, le-ltb}
 use Rattle.std.proofs.lemmas.List.{map-append}
-use Rattle.list_laws.proofs.Each.{AllByRecursion-from_list_any}
 use Rattle.list_laws.proofs.Keys.{others_before}
 use Rattle.list_laws.proofs.Numbers.{nat_eq_apart}
 use Rattle.list_laws.proofs.Texts.{bytes_eq_apart}
 use Rattle.net_base.specs.Prefixes.{PlainPattern}
-use Rattle.net_base.specs.Steps.{◌>>=◌, or_fault, unless}
+use Rattle.net_base.specs.Steps.{◌>>=◌}
 use Rattle.net_base.proofs.StepLemmas.{bind_ok, ok_same}
 use Rattle.config_base.specs.declared.config.RouterConfig.{RouterConfig}
 use Rattle.config_base.specs.declared.config.Session.{Session}
 use Rattle.config_base.specs.declared.config.Rule.{Rule}
 use Rattle.config_base.specs.declared.config.Export.{Export}
 use Rattle.config_base.specs.declared.config.Own.{Own}
-use Rattle.config_base.specs.Configs.{PlainConfig, Key, IsBelow, Ascend, IsSession, IsRouter, IsConfig, own_key}
+use Rattle.config_base.specs.Configs.{Key, IsBelow, Ascend, IsSession, IsRouter, own_key}
 use Rattle.config_lines.specs.declared.line.Line.{Line}
 use Rattle.config_lines.specs.declared.line.Line.TheVariants as line
-use Rattle.config_text.specs.ConfigLines.{lines_of_classes, head_of, import_of, lines_of_session, lines_before_end, lines_of_router, lines}
-use Rattle.config_reader.specs.Order.{is_below, is_above, last_of, ascends, rule_key, export_key}
+use Rattle.config_text.specs.ConfigLines.{lines_of_classes, head_of, import_of, lines_of_session, lines_before_end, lines_of_router}
+use Rattle.config_reader.specs.Order.{is_below, is_above, ascends, rule_key, export_key}
 use Rattle.config_reader.specs.declared.reading.OpenRouter.{OpenRouter}
 use Rattle.config_reader.specs.declared.reading.Reading.{Reading}
 use Rattle.config_reader.specs.declared.reading.Misplaced.{Misplaced}
-use Rattle.config_reader.specs.Reading.{opening, after, with_class, with_router, with_own, with_neighbour, with_import, import_into, with_export, export_into, with_end, closed, same_router, stood_before}
+use Rattle.config_reader.specs.Reading.{after, with_class, with_router, with_own, with_neighbour, with_import, import_into, with_export, export_into, with_end, closed, stood_before}
 use Rattle.config_reader.proofs.Ascending.{last_later}
 use Rattle.config_reader.proofs.Steps.{with_block}
 

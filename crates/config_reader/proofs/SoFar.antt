@@ -1,6 +1,6 @@
 -- The lines that were read so far.
 use Rattle.std.proofs.Common.{◌≡◌, ℕ, ◌+◌, List, [], ◌∷◌, ◌++◌, length, map, Bool, true, false, Option, Some, None, Ok, refl, sym, ◌∙◌, ap, ap₂, arith, append-nil, append_assoc}
-use Rattle.std.specs.Prelude.{◌&&◌, ◌==◌, is_none, if◌then◌else◌}
+use Rattle.std.specs.Prelude.{◌&&◌, ◌==◌, is_none}
 use Rattle.std.specs.List.{flat_map}
 use Rattle.std.proofs.lemmas.Bool.{and_parts, eqb-true}
 use Rattle.std.proofs.lemmas.List.{map-append}
@@ -13,13 +13,12 @@ use Rattle.config_base.specs.declared.config.Export.{Export}
 use Rattle.config_base.specs.declared.config.Own.{Own}
 use Rattle.config_lines.specs.declared.line.Line.{Line}
 use Rattle.config_lines.specs.declared.line.Line.TheVariants as line
-use Rattle.config_lines.specs.LineText.{IsLine}
 use Rattle.config_text.specs.ConfigLines.{lines_of_classes, head_of, import_of, lines_of_session, lines_before_end, lines_of_router}
 use Rattle.config_reader.specs.declared.reading.OpenRouter.{OpenRouter}
 use Rattle.config_reader.specs.declared.reading.Reading.{Reading}
 use Rattle.config_reader.specs.Reading.{after, closed, is_next, same_kind}
 use Rattle.config_reader.proofs.Lawful.{IsReading, open_good, kind_same}
-use Rattle.config_reader.proofs.Steps.{class_ok, router_ok, own_ok, neighbour_ok, import_ok, export_ok, end_ok, new_router, with_open, router_with_own, new_session, with_session, with_block, session_with_import, session_with_export}
+use Rattle.config_reader.proofs.Steps.{class_ok, router_ok, own_ok, neighbour_ok, import_ok, export_ok, end_ok, with_open, router_with_own, new_session, with_session, with_block, session_with_import, session_with_export}
 
 -- those of the open router, without its end
 abbrev pub open_lines : Option OpenRouter → List Line
@@ -158,16 +157,16 @@ end_adds r s h =
     ∙ ap (λ (x : Option OpenRouter). (cs ++ (rs ++ open_lines x)) ++ line.End ∷ []) (sym k.1)
 
 -- a line more was read
-pub after_adds : (r s : Reading) (l : Line) → IsReading r → IsLine (length r.classes) l → after r l ≡ Ok s → so_far s ≡ so_far r ++ l ∷ []
-after_adds r s (line.Class number patterns) is k h = class_adds r s number patterns h
-after_adds r s (line.Router name asn id) is k h = router_adds r s name asn id h
-after_adds r s (line.Own own) is k h =
+pub after_adds : (r s : Reading) (l : Line) → IsReading r → after r l ≡ Ok s → so_far s ≡ so_far r ++ l ∷ []
+after_adds r s (line.Class number patterns) is h = class_adds r s number patterns h
+after_adds r s (line.Router name asn id) is h = router_adds r s name asn id h
+after_adds r s (line.Own own) is h =
     let m = own_ok r s own h in
     let none = is_none_parts m.0.block (and_parts (is_none m.0.block) _ m.2).0 in
     own_adds r s own m.0 m.1 ((open_good r m.0 is m.1).1.1 none) none m.3
-after_adds r s (line.Session name asn) is k h = let m = neighbour_ok false r s name asn h in neighbour_adds false r s name asn (line.Session name asn) refl m.0 m.1 m.3
-after_adds r s (line.Peer name asn) is k h = let m = neighbour_ok true r s name asn h in neighbour_adds true r s name asn (line.Peer name asn) refl m.0 m.1 m.3
-after_adds r s (line.Import rule) is k h = let m = import_ok false r s rule h in import_adds false r s rule (line.Import rule) refl m.0 m.1 m.2 m.3 m.4 m.6
-after_adds r s (line.PeerImport rule) is k h = let m = import_ok true r s rule h in import_adds true r s rule (line.PeerImport rule) refl m.0 m.1 m.2 m.3 m.4 m.6
-after_adds r s (line.Export export) is k h = let m = export_ok r s export h in block_adds r s (line.Export export) m.0 m.1 (session_with_export m.1 export) m.2 m.3 m.5 (export_lines m.1 export)
-after_adds r s line.End is k h = end_adds r s h
+after_adds r s (line.Session name asn) is h = let m = neighbour_ok false r s name asn h in neighbour_adds false r s name asn (line.Session name asn) refl m.0 m.1 m.3
+after_adds r s (line.Peer name asn) is h = let m = neighbour_ok true r s name asn h in neighbour_adds true r s name asn (line.Peer name asn) refl m.0 m.1 m.3
+after_adds r s (line.Import rule) is h = let m = import_ok false r s rule h in import_adds false r s rule (line.Import rule) refl m.0 m.1 m.2 m.3 m.4 m.6
+after_adds r s (line.PeerImport rule) is h = let m = import_ok true r s rule h in import_adds true r s rule (line.PeerImport rule) refl m.0 m.1 m.2 m.3 m.4 m.6
+after_adds r s (line.Export export) is h = let m = export_ok r s export h in block_adds r s (line.Export export) m.0 m.1 (session_with_export m.1 export) m.2 m.3 m.5 (export_lines m.1 export)
+after_adds r s line.End is h = end_adds r s h

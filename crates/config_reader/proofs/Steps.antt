@@ -1,10 +1,10 @@
 -- What was read with one line more.
-use Rattle.std.proofs.Common.{◌≡◌, ℕ, ◌+◌, ◌<◌, ◌≤◌, get_or, map, drop, drop-cons, add-one, Bor, List, [], ◌∷◌, ◌++◌, length, Bool, true, false, Option, Some, None, Result, Ok, Err, refl, sym, ◌∙◌, ap, arith, length-append}
-use Rattle.std.specs.Prelude.{◌&&◌, ◌==◌, not, is_none, ⊤}
+use Rattle.std.proofs.Common.{◌≡◌, ℕ, ◌+◌, ◌<◌, ◌≤◌, get_or, map, drop, drop-cons, add-one, Bor, List, [], ◌∷◌, ◌++◌, length, Bool, true, false, Option, Some, None, Result, Ok, Err, refl, ◌∙◌, ap, arith, length-append}
+use Rattle.std.specs.Prelude.{◌&&◌, ◌==◌, not, is_none}
 use Rattle.std.specs.List.{list_any}
 use Rattle.std.specs.Str.{bytes_eq}
 use Rattle.net_base.specs.Prefixes.{PlainPattern}
-use Rattle.net_base.specs.Steps.{◌>>=◌, or_fault, unless}
+use Rattle.net_base.specs.Steps.{or_fault, unless}
 use Rattle.net_base.proofs.StepLemmas.{bind_ok, unless_ok, or_fault_ok, ok_same}
 use Rattle.config_base.specs.Configs.{own_key}
 use Rattle.config_base.specs.declared.config.RouterConfig.{RouterConfig}
@@ -12,6 +12,7 @@ use Rattle.config_base.specs.declared.config.Session.{Session}
 use Rattle.config_base.specs.declared.config.Rule.{Rule}
 use Rattle.config_base.specs.declared.config.Export.{Export}
 use Rattle.config_base.specs.declared.config.Own.{Own}
+use Rattle.config_lines.specs.declared.edition.Edition.{Edition}
 use Rattle.config_lines.specs.declared.line.Line.{Line}
 use Rattle.config_lines.specs.declared.line.Line.TheVariants as line
 use Rattle.config_lines.specs.declared.line.LineFault.{LineFault}
@@ -39,16 +40,16 @@ placed_at_ok n (Err misplaced.Twice) s h = absurd cc
 placed_at_ok n (Err misplaced.NoMemory) s h = absurd cc
 
 -- the line that was read, and what it made
-pub with_line_ok : (n : ℕ) (r s : Reading) (bytes : List ℕ) → with_line n r bytes ≡ Ok s → (l : Line) × (line_of bytes (length r.classes) ≡ Ok l) × (after r l ≡ Ok s)
+pub with_line_ok : (edition : Edition) (n : ℕ) (r s : Reading) (bytes : List ℕ) → with_line edition n r bytes ≡ Ok s → (l : Line) × (line_of edition bytes (length r.classes) ≡ Ok l) × (after r l ≡ Ok s)
 unfolding with_line
-with_line_ok n r s bytes h =
-    let l = bind_ok (read_at n (line_of bytes (length r.classes))) _ s h in
+with_line_ok edition n r s bytes h =
+    let l = bind_ok (read_at n (line_of edition bytes (length r.classes))) _ s h in
     (l.0, read_at_ok n _ l.0 l.1, placed_at_ok n _ s l.2)
 
 -- a line more, and the lines behind it
-pub with_lines_next : (n : ℕ) (r s : Reading) (bytes : List ℕ) (more : List (List ℕ)) (whole : Result Reading ConfigFault) → with_line n r bytes ≡ Ok s
-    → with_lines n r (bytes ∷ more) ≡ whole → with_lines (n + 1) s more ≡ whole
-with_lines_next n r s bytes more whole here h = rw here at h
+pub with_lines_next : (edition : Edition) (n : ℕ) (r s : Reading) (bytes : List ℕ) (more : List (List ℕ)) (whole : Result Reading ConfigFault) → with_line edition n r bytes ≡ Ok s
+    → with_lines edition n r (bytes ∷ more) ≡ whole → with_lines edition (n + 1) s more ≡ whole
+with_lines_next edition n r s bytes more whole here h = rw here at h
 
 -- ---- what each line wanted, and what it made
 
@@ -151,15 +152,18 @@ end_ok r s h =
     let a = bind_ok (or_fault misplaced.Order r.opened) _ s h in
     (a.0, or_fault_ok misplaced.Order r.opened a.0 a.1, ok_same _ s a.2)
 
--- ---- at most one class more
+-- ---- no class less, and at most one more
 
-same_count : (r s q : Reading) → q.classes ≡ r.classes → q ≡ s → length s.classes ≤ length r.classes + 1
-same_count r s q er es = rw (← es, er) (omega arith)
+abbrev pub OneMore : Reading → Reading → Type 0
+OneMore r s = (length r.classes ≤ length s.classes) × (length s.classes ≤ length r.classes + 1)
 
-pub after-classes : (r s : Reading) (l : Line) → after r l ≡ Ok s → length s.classes ≤ length r.classes + 1
+same_count : (r s q : Reading) → q.classes ≡ r.classes → q ≡ s → OneMore r s
+same_count r s q er es = rw (← es, er) (omega arith, omega arith)
+
+pub after-classes : (r s : Reading) (l : Line) → after r l ≡ Ok s → OneMore r s
 after-classes r s (line.Class number patterns) h =
     let k = class_ok r s number patterns h in
-    rw (← k.2, length-append r.classes (patterns ∷ [])) (omega arith)
+    rw (← k.2, length-append r.classes (patterns ∷ [])) (omega arith, omega arith)
 after-classes r s (line.Router name asn id) h = same_count r s _ refl (router_ok r s name asn id h).2
 after-classes r s (line.Own own) h = same_count r s _ refl (own_ok r s own h).3
 after-classes r s (line.Session name asn) h = same_count r s _ refl (neighbour_ok false r s name asn h).3
@@ -169,13 +173,13 @@ after-classes r s (line.PeerImport rule) h = same_count r s _ refl (import_ok tr
 after-classes r s (line.Export export) h = same_count r s _ refl (export_ok r s export h).5
 after-classes r s line.End h = same_count r s _ refl (end_ok r s h).2
 
-pub with_line-classes : (n : ℕ) (r s : Reading) (bytes : List ℕ) → with_line n r bytes ≡ Ok s → length s.classes ≤ length r.classes + 1
-with_line-classes n r s bytes h = let l = with_line_ok n r s bytes h in after-classes r s l.0 l.2
+pub with_line-classes : (edition : Edition) (n : ℕ) (r s : Reading) (bytes : List ℕ) → with_line edition n r bytes ≡ Ok s → OneMore r s
+with_line-classes edition n r s bytes h = let l = with_line_ok edition n r s bytes h in after-classes r s l.0 l.2
 
 -- the same in a loop over the lines
-pub loop_step : (lines : List (Bor (List ℕ))) (i : ℕ) (d : Bor (List ℕ)) (n : ℕ) (r s : Reading) (whole : Result Reading ConfigFault) → i < length lines
-    → with_line n r (get_or lines i d).now ≡ Ok s
-    → with_lines n r (map (λ l. l.now) (drop i lines)) ≡ whole → with_lines (n + 1) s (map (λ l. l.now) (drop (i + 1) lines)) ≡ whole
-loop_step lines i d n r s whole within here before =
+pub loop_step : (edition : Edition) (lines : List (Bor (List ℕ))) (i : ℕ) (d : Bor (List ℕ)) (n : ℕ) (r s : Reading) (whole : Result Reading ConfigFault) → i < length lines
+    → with_line edition n r (get_or lines i d).now ≡ Ok s
+    → with_lines edition n r (map (λ l. l.now) (drop i lines)) ≡ whole → with_lines edition (n + 1) s (map (λ l. l.now) (drop (i + 1) lines)) ≡ whole
+loop_step edition lines i d n r s whole within here before =
     let at : drop i lines ≡ get_or lines i d ∷ drop (i + 1) lines = drop-cons lines i d within ∙ rw add-one refl in
-    with_lines_next n r s (get_or lines i d).now (map (λ l. l.now) (drop (i + 1) lines)) whole here (rw at at before)
+    with_lines_next edition n r s (get_or lines i d).now (map (λ l. l.now) (drop (i + 1) lines)) whole here (rw at at before)

@@ -1,60 +1,59 @@
 -- The text of a lawful configuration is read.
-use Rattle.std.proofs.Common.{◌≡◌, ℕ, suc, ◌+◌, ◌-◌, ◌<◌, ◌≤◌, ◌^◌, List, [], ◌∷◌, ◌++◌, length, map, take, Bool, true, false, Option, Some, None, Result, Ok, refl, sym, ◌∙◌, ap, ap₂, subst, arith, append-nil, append_assoc, length-append}
-use Rattle.std.specs.Prelude.{◌≢◌, ◌&&◌, ◌==◌, not, is_none, slice_index_or, MatchBool, IsTrue, codes, if◌then◌else◌}
-use Rattle.std.specs.List.{slice_split, flat_map, list_all, AllByRecursion}
+use Rattle.std.proofs.Common.{◌≡◌, ℕ, suc, ◌+◌, ◌-◌, ◌<◌, ◌^◌, List, [], ◌∷◌, ◌++◌, length, map, Bool, true, false, Some, None, Result, Ok, refl, sym, ◌∙◌, ap, subst, arith, append_assoc, length-append}
+use Rattle.std.specs.Prelude.{◌==◌, slice_index_or, codes, if◌then◌else◌}
+use Rattle.std.specs.List.{slice_split, flat_map, AllByRecursion}
 use Rattle.std.specs.Str.{bytes_eq}
 use Rattle.std.proofs.lemmas.Bool.{ne_eqb}
+use Rattle.std.proofs.lemmas.Slice.Eq.{bytes_eq-Decides}
 use Rattle.std.proofs.lemmas.List.{map-append}
-use Rattle.list_laws.proofs.Each.{AllByRecursion-append, AllByRecursion-map, AllByRecursion-weaker, AllByRecursion-both}
-use Rattle.net_base.specs.Numbers.{no_tag, is_tag, is_peer_as, is_router_as}
-use Rattle.net_base.specs.Prefixes.{PlainPattern, IsPattern}
-use Rattle.net_base.specs.Steps.{◌>>=◌, unless}
+use Rattle.list_laws.proofs.Each.{AllByRecursion-append, AllByRecursion-append_parts, AllByRecursion-weaker, AllByRecursion-both}
+use Rattle.net_base.specs.Prefixes.{PlainPattern}
+use Rattle.net_base.specs.Steps.{◌>>=◌}
 use Rattle.net_base.proofs.StepLemmas.{bind_ok, ok_same}
 use Rattle.config_base.specs.declared.config.RouterConfig.{RouterConfig}
 use Rattle.config_base.specs.declared.config.Session.{Session}
 use Rattle.config_base.specs.declared.config.Rule.{Rule}
-use Rattle.config_base.specs.declared.config.Export.{Export}
-use Rattle.config_base.specs.declared.config.Own.{Own}
-use Rattle.config_base.specs.Configs.{PlainConfig, IsImport, IsExport, IsOwn, IsSession, IsRouter, HasTag}
+use Rattle.config_base.specs.Configs.{PlainConfig}
+use Rattle.config_lines.specs.declared.edition.Edition.{Edition}
+use Rattle.config_lines.specs.declared.edition.Edition.TheVariants.{First, Second}
 use Rattle.config_lines.specs.declared.line.Line.{Line}
 use Rattle.config_lines.specs.declared.line.Line.TheVariants as line
+use Rattle.config_lines.specs.Editions.{first_line}
 use Rattle.config_lines.specs.LineText.{line_text, IsLine}
 use Rattle.config_lines.specs.Lines.{line_of}
-use Rattle.config_lines.proofs.Solid.{have_no, split_word, split_last}
+use Rattle.text_words.proofs.PrefixTexts.{have_no}
+use Rattle.config_lines.proofs.Solid.{split_word}
 use Rattle.config_lines.proofs.WrittenForms.{IsReadAgain, class_there_by, lines_read}
 use Rattle.config_text.specs.ConfigLines.{fed, lines, lines_of_classes, head_of, import_of, lines_of_session, lines_before_end, lines_of_router}
-use Rattle.config_text.specs.ConfigText.{config_text}
-use Rattle.config_text.specs.Spelled.{ArePatterns, HasPrefix, IsNamed, HasLawfulParts, IsLawful, Spells}
+use Rattle.config_text.specs.Spelled.{IsLawful, HasLinesOf, SpellsIn}
 use Rattle.config_text.proofs.TextLines.{text_of_lines}
 use Rattle.config_reader.specs.declared.fault.ConfigFault.{ConfigFault}
-use Rattle.config_reader.specs.declared.fault.ConfigFault.TheVariants as fault
 use Rattle.config_reader.specs.Faults.{Gives}
 use Rattle.config_reader.specs.declared.reading.Reading.{Reading}
-use Rattle.config_reader.specs.declared.reading.Misplaced.{Misplaced}
 use Rattle.config_reader.specs.Reading.{opening, after}
-use Rattle.config_reader.specs.Text.{with_line, with_lines, finished, heading, whole_lines, behind_heading, in_lines, spelled}
-use Rattle.config_reader.proofs.Runs.{run, at, run_classes, run_routers, AreApart}
+use Rattle.config_reader.specs.Text.{with_line, with_lines, finished, whole_lines, behind_heading, in_lines, spelled_in}
+use Rattle.config_reader.proofs.Runs.{run, at, run_classes, run_routers}
 use Rattle.config_reader.proofs.Steps.{router_ok, own_ok, neighbour_ok, import_ok, export_ok, end_ok}
 
-line_taken : (n : ℕ) (r s : Reading) (l : Line) → line_of (line_text l) (length r.classes) ≡ Ok l → after r l ≡ Ok s → with_line n r (line_text l) ≡ Ok s
+line_taken : (edition : Edition) (n : ℕ) (r s : Reading) (l : Line) → line_of edition (line_text edition l) (length r.classes) ≡ Ok l → after r l ≡ Ok s → with_line edition n r (line_text edition l) ≡ Ok s
 unfolding with_line
-line_taken n r s l h k = rw (h, k) refl
+line_taken edition n r s l h k = rw (h, k) refl
 
-with_lines_append : (n : ℕ) (r s t : Reading) (xs ys : List (List ℕ)) → with_lines n r xs ≡ Ok s → ((m : ℕ) → with_lines m s ys ≡ Ok t) → with_lines n r (xs ++ ys) ≡ Ok t
-with_lines_append n r s t [] ys h k = let same : r ≡ s = ok_same r s h in ap (λ (q : Reading). with_lines n q ys) same ∙ k n
-with_lines_append n r s t (x ∷ xs) ys h k =
-    let b = bind_ok (with_line n r x) _ s h in
-    ap (λ (o : Result Reading ConfigFault). o >>= (λ q. with_lines (n + 1) q (xs ++ ys))) b.1 ∙ with_lines_append (n + 1) b.0 s t xs ys b.2 k
+with_lines_append : (edition : Edition) (n : ℕ) (r s t : Reading) (xs ys : List (List ℕ)) → with_lines edition n r xs ≡ Ok s → ((m : ℕ) → with_lines edition m s ys ≡ Ok t) → with_lines edition n r (xs ++ ys) ≡ Ok t
+with_lines_append edition n r s t [] ys h k = let same : r ≡ s = ok_same r s h in ap (λ (q : Reading). with_lines edition n q ys) same ∙ k n
+with_lines_append edition n r s t (x ∷ xs) ys h k =
+    let b = bind_ok (with_line edition n r x) _ s h in
+    ap (λ (o : Result Reading ConfigFault). o >>= (λ q. with_lines edition (n + 1) q (xs ++ ys))) b.1 ∙ with_lines_append edition (n + 1) b.0 s t xs ys b.2 k
 
 -- the texts of lines that are read where they stand, and are taken
-module _ (P : Reading → Type 0) (Q : Line → Type 0)
-    (reads : (r : Reading) (l : Line) → P r → Q l → line_of (line_text l) (length r.classes) ≡ Ok l)
+module _ (edition : Edition) (P : Reading → Type 0) (Q : Line → Type 0)
+    (reads : (r : Reading) (l : Line) → P r → Q l → line_of edition (line_text edition l) (length r.classes) ≡ Ok l)
     (keeps : (r s : Reading) (l : Line) → P r → Q l → after r l ≡ Ok s → P s) where
-  taken : (n : ℕ) (r s : Reading) (ls : List Line) → P r → AllByRecursion Q ls → run r ls ≡ Ok s → with_lines n r (map line_text ls) ≡ Ok s
+  taken : (n : ℕ) (r s : Reading) (ls : List Line) → P r → AllByRecursion Q ls → run r ls ≡ Ok s → with_lines edition n r (map (line_text edition) ls) ≡ Ok s
   taken n r s [] p all h = let same : r ≡ s = ok_same r s h in ap (λ (q : Reading). let o : Result Reading ConfigFault = Ok q in o) same
   taken n r s (l ∷ ls) p all h =
       let b = bind_ok (after r l) _ s h in
-      ap (λ (o : Result Reading ConfigFault). o >>= (λ q. with_lines (n + 1) q (map line_text ls))) (line_taken n r b.0 l (reads r l p all.0) b.1)
+      ap (λ (o : Result Reading ConfigFault). o >>= (λ q. with_lines edition (n + 1) q (map (line_text edition) ls))) (line_taken edition n r b.0 l (reads r l p all.0) b.1)
       ∙ taken (n + 1) b.0 s ls (keeps r b.0 l p all.0 b.1) all.1 b.2
 
 -- ---- lines of routers
@@ -81,69 +80,77 @@ same_classes r s (line.PeerImport rule) o h = sym (ap (λ (q : Reading). q.class
 same_classes r s (line.Export export) o h = sym (ap (λ (q : Reading). q.classes) (export_ok r s export h).5)
 same_classes r s line.End o h = sym (ap (λ (q : Reading). q.classes) (end_ok r s h).2)
 
+each_other : {A : Type 0} (f : A → Line) → ((x : A) → IsOther (f x)) → (xs : List A) → AllByRecursion IsOther (map f xs)
+each_other f is [] = tt
+each_other f is (x ∷ xs) = (is x, each_other f is xs)
+
+flat_other : {A : Type 0} (f : A → List Line) → ((x : A) → AllByRecursion IsOther (f x)) → (xs : List A) → AllByRecursion IsOther (flat_map f xs)
+flat_other f is [] = tt
+flat_other f is (x ∷ xs) = AllByRecursion-append IsOther (f x) (flat_map f xs) (is x) (flat_other f is xs)
+
+import_other : (b : Bool) (r : Rule) → IsOther (import_of b r)
+import_other true r = tt
+import_other false r = tt
+
+head_other : (s : Session) → IsOther (head_of s)
+head_other s = by s.peer
+  where
+    by : (b : Bool) → IsOther (if b then line.Peer s.name s.asn else line.Session s.name s.asn)
+    by true = tt
+    by false = tt
+
+session_other : (s : Session) → AllByRecursion IsOther (lines_of_session s)
+session_other s =
+    (head_other s, AllByRecursion-append IsOther (map (import_of s.peer) s.imports) (map line.Export s.exports) (each_other (import_of s.peer) (import_other s.peer) s.imports) (each_other line.Export (λ e. tt) s.exports))
+
+router_other : (r : RouterConfig) → AllByRecursion IsOther (lines_of_router r)
+router_other r =
+    AllByRecursion-append IsOther (lines_before_end r) (line.End ∷ [])
+    (tt, AllByRecursion-append IsOther (map line.Own r.own) (flat_map lines_of_session r.sessions) (each_other line.Own (λ o. tt) r.own) (flat_other lines_of_session session_other r.sessions))
+    (tt, tt)
+
 -- a line of a router's block
-abbrev IsOne : ℕ → Line → Type 0
-IsOne count l = IsLine count l × IsOther l
-
-import_one : (count : ℕ) (s : Session) (r : Rule) → IsImport count s r → IsOne count (import_of s.peer r)
-import_one count s r is = by s.peer is.1
-  where
-    by : (b : Bool) → MatchBool b (r.tag ≡ no_tag) (IsTrue (is_tag r.tag)) → IsOne count (import_of b r)
-    by true t = ((t, (is.0, is.2, is.3)), tt)
-    by false t = ((t, (is.0, is.2, is.3)), tt)
-
-head_one : (count : ℕ) (s : Session) → IsSession count s → IsNamed s → IsOne count (head_of s)
-head_one count s is named = by s.peer is.number
-  where
-    by : (b : Bool) → MatchBool b (IsTrue (is_peer_as s.asn)) (IsTrue (is_router_as s.asn)) → IsOne count (if b then line.Peer s.name s.asn else line.Session s.name s.asn)
-    by true n = ((named, n), tt)
-    by false n = ((named, n), tt)
-
-session_ones : (count : ℕ) (s : Session) → IsSession count s → IsNamed s → AllByRecursion (IsOne count) (lines_of_session s)
-session_ones count s is named = (
-  head_one count s is named,
-  AllByRecursion-append (IsOne count) (map (import_of s.peer) s.imports) (map line.Export s.exports)
-      (AllByRecursion-map (import_of s.peer) (IsOne count) s.imports (AllByRecursion-weaker (IsImport count s) (λ (r : Rule). IsOne count (import_of s.peer r)) s.imports (import_one count s) is.imports))
-      (AllByRecursion-map line.Export (IsOne count) s.exports (AllByRecursion-weaker (IsExport count) (λ (e : Export). IsOne count (line.Export e)) s.exports (λ e k. (k, tt)) is.exports)),
-)
-
-flat_all : {A : Type 0} (P : Line → Type 0) (f : A → List Line) (xs : List A) → AllByRecursion (λ (x : A). AllByRecursion P (f x)) xs → AllByRecursion P (flat_map f xs)
-flat_all P f [] all = tt
-flat_all P f (x ∷ xs) all = AllByRecursion-append P (f x) (flat_map f xs) all.0 (flat_all P f xs all.1)
-
-router_ones : (count : ℕ) (r : RouterConfig) → IsRouter count r → HasLawfulParts r → AllByRecursion (IsOne count) (lines_of_router r)
-router_ones count r is parts =
-    AllByRecursion-append (IsOne count) (lines_before_end r) (line.End ∷ []) (
-      ((parts.name, is.number, is.identifier.0, is.identifier.1), tt),
-      AllByRecursion-append (IsOne count) (map line.Own r.own) (flat_map lines_of_session r.sessions)
-          (AllByRecursion-map line.Own (IsOne count) r.own (AllByRecursion-both (IsOwn count) HasPrefix (λ (o : Own). IsOne count (line.Own o)) (λ o k p. ((k, p), tt)) r.own is.own parts.prefixes))
-          (flat_all (IsOne count) lines_of_session r.sessions (AllByRecursion-both (IsSession count) IsNamed (λ (s : Session). AllByRecursion (IsOne count) (lines_of_session s)) (session_ones count) r.sessions is.sessions parts.names)),
-    )
-    ((tt, tt), tt)
+abbrev IsOne : Edition → ℕ → Line → Type 0
+IsOne edition count l = IsLine edition count l × IsOther l
 
 -- ---- lines of classes
 
 -- whatever stands above it
-abbrev IsClassLine : Line → Type 0
-IsClassLine l = (k : ℕ) → IsReadAgain k l
+abbrev IsClassLine : Edition → Line → Type 0
+IsClassLine edition l = (k : ℕ) → IsReadAgain edition k l
 
-class_one : (n : ℕ) (ps : List PlainPattern) → n < 2 ^ 32 → ps ≢ [] → ArePatterns ps → IsClassLine (line.Class (Some n) ps)
-class_one n [] low some are k = absurd (some refl)
-class_one n (p ∷ ps) low some are k = class_there_by k n p ps low are.0 are.1
+class_one : (edition : Edition) (count n : ℕ) (ps : List PlainPattern) → IsLine edition count (line.Class (Some n) ps) → IsClassLine edition (line.Class (Some n) ps)
+class_one edition count n [] is k = absurd (is.1 refl)
+class_one edition count n (p ∷ ps) is k = class_there_by edition k n p ps is.0 is.2.0 is.2.1
 
-class_ones : (n : ℕ) (cs : List (List PlainPattern)) → n + length cs ≤ 2 ^ 32 → AllByRecursion (λ (ps : List PlainPattern). ps ≢ []) cs → AllByRecursion ArePatterns cs → AllByRecursion IsClassLine (lines_of_classes n cs)
-class_ones n [] few some are = tt
-class_ones n (c ∷ cs) few some are = (class_one n c (omega (arith, few)) some.0 are.0, class_ones (n + 1) cs (omega (arith, few)) some.1 are.1)
+class_ones : (edition : Edition) (count n : ℕ) (cs : List (List PlainPattern)) → AllByRecursion (IsLine edition count) (lines_of_classes n cs) → AllByRecursion (IsClassLine edition) (lines_of_classes n cs)
+class_ones edition count n [] fits = tt
+class_ones edition count n (c ∷ cs) fits = (class_one edition count n c fits.0, class_ones edition count (n + 1) cs fits.1)
+
+-- ---- lines of both kinds
+
+record AreLines (edition : Edition) (c : PlainConfig) : Type 0 where
+  classes : AllByRecursion (IsClassLine edition) (lines_of_classes 1 c.classes)
+  routers : AllByRecursion (IsOne edition (length c.classes)) (flat_map lines_of_router c.routers)
+
+are_lines : (edition : Edition) (c : PlainConfig) → HasLinesOf edition c → AreLines edition c
+are_lines edition c fits =
+    let count : ℕ = length c.classes in
+    let parts = AllByRecursion-append_parts (IsLine edition count) (lines_of_classes 1 c.classes) (flat_map lines_of_router c.routers) fits in
+    record {
+      classes = class_ones edition count 1 c.classes parts.0;
+      routers = AllByRecursion-both (IsLine edition count) IsOther (IsOne edition count) (λ l is other. (is, other)) (flat_map lines_of_router c.routers) parts.1 (flat_other lines_of_router router_other c.routers);
+    }
 
 -- ---- the whole text
 
 -- a text whose lines have no line feed is cut into them
-cut_lines : (first : List ℕ) (ls : List Line) → have_no 10 first ≡ true → AllByRecursion (λ (l : Line). have_no 10 (line_text l) ≡ true) ls
-    → slice_split (λ b. b == 10) (first ++ (10 ∷ flat_map fed ls)) ≡ first ∷ (map line_text ls ++ [] ∷ [])
-cut_lines first [] none all = split_word 10 first [] none
-cut_lines first (l ∷ ls) none all =
-    split_word 10 first (fed l ++ flat_map fed ls) none
-    ∙ ap (λ (ps : List (List ℕ)). first ∷ ps) (ap (slice_split (λ b. b == 10)) (append_assoc (line_text l) (codes "\n") (flat_map fed ls)) ∙ cut_lines (line_text l) ls all.0 all.1)
+cut_lines : (edition : Edition) (first : List ℕ) (ls : List Line) → have_no 10 first ≡ true → AllByRecursion (λ (l : Line). have_no 10 (line_text edition l) ≡ true) ls
+    → slice_split (λ b. b == 10) (first ++ (10 ∷ flat_map (fed edition) ls)) ≡ first ∷ (map (line_text edition) ls ++ [] ∷ [])
+cut_lines edition first [] none all = split_word 10 first [] none
+cut_lines edition first (l ∷ ls) none all =
+    split_word 10 first (fed edition l ++ flat_map (fed edition) ls) none
+    ∙ ap (λ (ps : List (List ℕ)). first ∷ ps) (ap (slice_split (λ b. b == 10)) (append_assoc (line_text edition l) (codes "\n") (flat_map (fed edition) ls)) ∙ cut_lines edition (line_text edition l) ls all.0 all.1)
 
 -- all but the last of some and one more
 whole_push : (ts : List (List ℕ)) (x : List ℕ) → (whole_lines (ts ++ x ∷ []) ≡ ts) × (slice_index_or (ts ++ x ∷ []) (length (ts ++ x ∷ []) - 1) [] ≡ x)
@@ -154,46 +161,55 @@ whole_push (t ∷ ts) x =
     let rest = whole_push ts x in
     (rw k (ap (λ (xs : List (List ℕ)). t ∷ xs) rest.0), rw k rest.1)
 
-config_taken : (c : PlainConfig) → IsLawful c → with_lines 2 opening (map line_text (lines c)) ≡ Ok (at c.classes c.routers None)
-config_taken c is =
+config_taken : (edition : Edition) (c : PlainConfig) → IsLawful c → HasLinesOf edition c → with_lines edition 2 opening (map (line_text edition) (lines c)) ≡ Ok (at c.classes c.routers None)
+config_taken edition c is fits =
     let classes : List Line = lines_of_classes 1 c.classes in
     let routers : List Line = flat_map lines_of_router c.routers in
     let count : ℕ = length c.classes in
     let few : length c.classes < 2 ^ 32 = is.rules.count in
-    let ones = flat_all (IsOne count) lines_of_router c.routers (AllByRecursion-both (IsRouter count) HasLawfulParts (λ (r : RouterConfig). AllByRecursion (IsOne count) (lines_of_router r)) (router_ones count) c.routers is.rules.routers is.routers) in
+    let are = are_lines edition c fits in
     map_texts classes routers
-    ∙ with_lines_append 2 opening (at c.classes [] None) (at c.classes c.routers None) (map line_text classes) (map line_text routers)
-    (taken (λ _. Unit {0}) IsClassLine (λ r l p q. (q (length r.classes)).0) (λ r s l p q h. tt) 2 opening (at c.classes [] None) classes tt (class_ones 1 c.classes (omega (arith, few)) is.rules.patterns is.patterns) (run_classes [] c.classes))
-    (λ m. taken (λ (r : Reading). r.classes ≡ c.classes) (IsOne count)
-    (λ r l p q. ap (λ (k : ℕ). line_of (line_text l) k) (ap length p) ∙ (lines_read count l few q.0).0)
+    ∙ with_lines_append edition 2 opening (at c.classes [] None) (at c.classes c.routers None) (map (line_text edition) classes) (map (line_text edition) routers)
+    (taken edition (λ _. Unit {0}) (IsClassLine edition) (λ r l p q. (q (length r.classes)).0) (λ r s l p q h. tt) 2 opening (at c.classes [] None) classes tt are.classes (run_classes [] c.classes))
+    (λ m. taken edition (λ (r : Reading). r.classes ≡ c.classes) (IsOne edition count)
+    (λ r l p q. ap (λ (k : ℕ). line_of edition (line_text edition l) k) (ap length p) ∙ (lines_read edition count l few q.0).0)
     (λ r s l p q h. same_classes r s l q.1 h ∙ p)
-    m (at c.classes [] None) (at c.classes c.routers None) routers refl ones
+    m (at c.classes [] None) (at c.classes c.routers None) routers refl are.routers
     (run_routers count c.classes [] c.routers (record { names = is.rules.names; asns = is.rules.asns; ids = is.rules.ids }) is.rules.routers))
   where
-    map_texts : (xs ys : List Line) → with_lines 2 opening (map line_text (xs ++ ys)) ≡ with_lines 2 opening (map line_text xs ++ map line_text ys)
-    map_texts xs ys = ap (with_lines 2 opening) (map-append line_text xs ys)
+    map_texts : (xs ys : List Line) → with_lines edition 2 opening (map (line_text edition) (xs ++ ys)) ≡ with_lines edition 2 opening (map (line_text edition) xs ++ map (line_text edition) ys)
+    map_texts xs ys = ap (with_lines edition 2 opening) (map-append (line_text edition) xs ys)
 
-no_feeds : (c : PlainConfig) → IsLawful c → AllByRecursion (λ (l : Line). have_no 10 (line_text l) ≡ true) (lines c)
-no_feeds c is =
+-- no line feed stands in a line
+abbrev HasNoFeed : Edition → Line → Type 0
+HasNoFeed edition l = have_no 10 (line_text edition l) ≡ true
+
+no_feeds : (edition : Edition) (c : PlainConfig) → IsLawful c → HasLinesOf edition c → AllByRecursion (HasNoFeed edition) (lines c)
+no_feeds edition c is fits =
     let count : ℕ = length c.classes in
     let few : length c.classes < 2 ^ 32 = is.rules.count in
-    let ones = flat_all (IsOne count) lines_of_router c.routers (AllByRecursion-both (IsRouter count) HasLawfulParts (λ (r : RouterConfig). AllByRecursion (IsOne count) (lines_of_router r)) (router_ones count) c.routers is.rules.routers is.routers) in
-    AllByRecursion-append (λ (l : Line). have_no 10 (line_text l) ≡ true) (lines_of_classes 1 c.classes) (flat_map lines_of_router c.routers)
-    (AllByRecursion-weaker IsClassLine (λ (l : Line). have_no 10 (line_text l) ≡ true) (lines_of_classes 1 c.classes) (λ l q. (q 0).1) (class_ones 1 c.classes (omega (arith, few)) is.rules.patterns is.patterns))
-    (AllByRecursion-weaker (IsOne count) (λ (l : Line). have_no 10 (line_text l) ≡ true) (flat_map lines_of_router c.routers) (λ l q. (lines_read count l few q.0).1) ones)
+    let are = are_lines edition c fits in
+    AllByRecursion-append (HasNoFeed edition) (lines_of_classes 1 c.classes) (flat_map lines_of_router c.routers)
+    (AllByRecursion-weaker (IsClassLine edition) (HasNoFeed edition) (lines_of_classes 1 c.classes) (λ l q. (q 0).1) are.classes)
+    (AllByRecursion-weaker (IsOne edition count) (HasNoFeed edition) (flat_map lines_of_router c.routers) (λ l q. (lines_read edition count l few q.0).1) are.routers)
+
+first_no_feed : (edition : Edition) → have_no 10 (first_line edition) ≡ true
+first_no_feed First = refl
+first_no_feed Second = refl
 
 -- a text that a lawful configuration has is read
-pub spelled_is_read : (bytes : List ℕ) (c : PlainConfig) → Spells bytes c → spelled bytes ≡ Ok c
+pub spelled_is_read : (edition : Edition) (bytes : List ℕ) (c : PlainConfig) → SpellsIn edition bytes c → spelled_in edition bytes ≡ Ok c
 unfolding in_lines behind_heading finished
-spelled_is_read bytes c s =
-    let ts : List (List ℕ) = map line_text (lines c) in
+spelled_is_read edition bytes c s =
+    let ts : List (List ℕ) = map (line_text edition) (lines c) in
     let whole = whole_push ts [] in
-    let cut : slice_split (λ b. b == 10) bytes ≡ heading ∷ (ts ++ [] ∷ []) =
-    ap (slice_split (λ b. b == 10)) (s.written ∙ text_of_lines c) ∙ cut_lines heading (lines c) refl (no_feeds c s.lawful) in
+    let cut : slice_split (λ b. b == 10) bytes ≡ first_line edition ∷ (ts ++ [] ∷ []) =
+    ap (slice_split (λ b. b == 10)) (s.written ∙ text_of_lines edition c ∙ append_assoc (first_line edition) (codes "\n") (flat_map (fed edition) (lines c))) ∙ cut_lines edition (first_line edition) (lines c) (first_no_feed edition) (no_feeds edition c s.lawful s.fits) in
     let long : length (ts ++ [] ∷ []) ≡ length ts + 1 = length-append ts ([] ∷ []) in
     let some : (length (ts ++ [] ∷ []) == 0) ≡ false = ne_eqb (length (ts ++ [] ∷ [])) 0 (λ e. omega (arith, e, long)) in
-    ap in_lines cut ∙ rw (some, whole.0, whole.1, config_taken c s.lawful) refl
+    let same : bytes_eq (first_line edition) (first_line edition) ≡ true = (bytes_eq-Decides (first_line edition) (first_line edition)).1 refl in
+    ap (in_lines edition) cut ∙ rw (some, same, whole.0, whole.1, config_taken edition c s.lawful s.fits) refl
 
 -- what comes back of such a text
-pub what_is_spelled : (bytes : List ℕ) (c : PlainConfig) (r : Result PlainConfig ConfigFault) → Spells bytes c → Gives (λ d. d) r (spelled bytes) → Gives (λ d. d) r (Ok c)
-what_is_spelled bytes c r s h = subst (λ (o : Result PlainConfig ConfigFault). Gives (λ d. d) r o) (spelled_is_read bytes c s) h
+pub what_is_spelled : (edition : Edition) (bytes : List ℕ) (c : PlainConfig) (r : Result PlainConfig ConfigFault) → SpellsIn edition bytes c → Gives (λ d. d) r (spelled_in edition bytes) → Gives (λ d. d) r (Ok c)
+what_is_spelled edition bytes c r s h = subst (λ (o : Result PlainConfig ConfigFault). Gives (λ d. d) r o) (spelled_is_read edition bytes c s) h

@@ -1,5 +1,6 @@
 pub mod Faults
 pub mod FirstFault
+pub mod Known
 pub mod Order
 pub mod Reading
 pub mod Text

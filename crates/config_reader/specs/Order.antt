@@ -1,10 +1,9 @@
 -- The order of a configuration's lines: each entry of a list stands above the last one before it.
-use Rattle.std.specs.Prelude.{ℕ, ◌-◌, ◌&&◌, ◌||◌, ◌==◌, nat_lt, Bool, true, List, length, slice_get, Option, Some, None}
+use Rattle.std.specs.Prelude.{◌-◌, ◌&&◌, ◌||◌, ◌==◌, nat_lt, Bool, true, List, length, slice_get, Option, Some, None}
 use Rattle.std.specs.Option.{option_map}
 use Rattle.config_base.specs.declared.config.Rule.{Rule}
 use Rattle.config_base.specs.declared.config.Export.{Export}
-use Rattle.config_base.specs.declared.config.Own.{Own}
-use Rattle.config_base.specs.Configs.{Key, tag_key, own_key}
+use Rattle.config_base.specs.Configs.{Key, tag_key}
 
 -- by the first numbers, then by the second ones, then by the third ones
 abbrev pub is_below : Key → Key → Bool

@@ -1,5 +1,5 @@
 -- What was read so far, and what the next line makes of it.
-use Rattle.std.specs.Prelude.{ℕ, ◌+◌, ◌&&◌, ◌||◌, ◌==◌, not, Bool, true, false, List, [], ◌∷◌, ◌++◌, length, is_none, Option, Some, None, Result, Ok, Err}
+use Rattle.std.specs.Prelude.{ℕ, ◌+◌, ◌&&◌, ◌||◌, ◌==◌, not, Bool, true, false, List, [], ◌∷◌, ◌++◌, length, is_none, Option, Some, None, Result, Ok}
 use Rattle.std.specs.List.{list_any}
 use Rattle.std.specs.Str.{bytes_eq}
 use Rattle.net_base.specs.Gives.{GivesUnless}
@@ -13,7 +13,6 @@ use Rattle.config_base.specs.declared.config.Own.{Own}
 use Rattle.config_base.specs.Configs.{own_key}
 use Rattle.config_lines.specs.declared.line.Line.{Line}
 use Rattle.config_lines.specs.declared.line.Line.TheVariants as line
-use Rattle.config_reader.specs.declared.reading.OpenRouter.{OpenRouter}
 use Rattle.config_reader.specs.declared.reading.Reading.{Reading}
 use Rattle.config_reader.specs.declared.reading.Misplaced.{Misplaced}
 use Rattle.config_reader.specs.declared.reading.Misplaced.TheVariants.{Order, Twice, NoMemory}

@@ -1,12 +1,15 @@
--- Which configuration a text spells, or its first fault.
-use Rattle.std.specs.Prelude.{ℕ, ◌+◌, ◌-◌, ◌==◌, ◌&&◌, not, is_none, take, slice_index_or, List, [], ◌∷◌, length, Result, Ok, Err, codes}
+-- Which configuration a text of an edition spells, or its first fault.
+use Rattle.std.specs.Prelude.{ℕ, ◌+◌, ◌-◌, ◌==◌, ◌&&◌, not, is_none, take, slice_index_or, List, [], ◌∷◌, length, Result, Ok, Err}
 use Rattle.std.specs.List.{slice_split}
 use Rattle.std.specs.Str.{bytes_eq}
 use Rattle.net_base.specs.Steps.{◌>>=◌, unless}
 use Rattle.config_base.specs.Configs.{PlainConfig}
+use Rattle.config_lines.specs.declared.edition.Edition.{Edition}
+use Rattle.config_lines.specs.declared.edition.Edition.TheVariants.{Second}
 use Rattle.config_lines.specs.declared.line.Line.{Line}
 use Rattle.config_lines.specs.declared.line.LineFault.{LineFault}
 use Rattle.config_lines.specs.declared.line.LineFault.TheVariants as line
+use Rattle.config_lines.specs.Editions.{first_line}
 use Rattle.config_lines.specs.Lines.{line_of}
 use Rattle.config_reader.specs.declared.fault.ConfigFault.{ConfigFault}
 use Rattle.config_reader.specs.declared.fault.ConfigFault.TheVariants as fault
@@ -30,17 +33,17 @@ placed_at n (Err misplaced.Twice) = Err (fault.Twice n)
 placed_at n (Err misplaced.NoMemory) = Err fault.NoMemory
 
 -- what was read with one line more, which has this number
-unfoldable pub with_line : ℕ → Reading → List ℕ → Result Reading ConfigFault
-with_line n r bytes = do
-  l ← read_at n (line_of bytes (length r.classes))
+unfoldable pub with_line : Edition → ℕ → Reading → List ℕ → Result Reading ConfigFault
+with_line edition n r bytes = do
+  l ← read_at n (line_of edition bytes (length r.classes))
   placed_at n (after r l)
 
 -- line by line, of which the first one has this number
-abbrev pub with_lines : ℕ → Reading → List (List ℕ) → Result Reading ConfigFault
-with_lines n r [] = Ok r
-with_lines n r (bytes ∷ more) = do
-  next ← with_line n r bytes
-  with_lines (n + 1) next more
+abbrev pub with_lines : Edition → ℕ → Reading → List (List ℕ) → Result Reading ConfigFault
+with_lines edition n r [] = Ok r
+with_lines edition n r (bytes ∷ more) = do
+  next ← with_line edition n r bytes
+  with_lines edition (n + 1) next more
 
 -- no block is open, and nothing follows the last line feed
 unfoldable pub finished : Reading → List ℕ → Result PlainConfig ConfigFault
@@ -48,26 +51,27 @@ finished r rest = do
   _ ← unless fault.Unfinished (is_none r.opened && length rest == 0)
   Ok (record { classes = r.classes; routers = r.routers })
 
-abbrev pub heading : List ℕ
-heading = codes "propane-config 1"
-
 -- all but the last
 abbrev pub whole_lines : List (List ℕ) → List (List ℕ)
 whole_lines more = take (length more - 1) more
 
 -- behind the first line: whole lines, and then what follows the last line feed
-unfoldable pub behind_heading : List (List ℕ) → Result PlainConfig ConfigFault
-behind_heading more = do
-  r ← with_lines 2 opening (whole_lines more)
+unfoldable pub behind_heading : Edition → List (List ℕ) → Result PlainConfig ConfigFault
+behind_heading edition more = do
+  r ← with_lines edition 2 opening (whole_lines more)
   finished r (slice_index_or more (length more - 1) [])
 
 -- the first line, and what stands between and behind the line feeds
-unfoldable pub in_lines : List (List ℕ) → Result PlainConfig ConfigFault
-in_lines [] = Err fault.Version
-in_lines (first ∷ more) = do
-  _ ← unless fault.Version (not (length more == 0) && bytes_eq first heading)
-  behind_heading more
+unfoldable pub in_lines : Edition → List (List ℕ) → Result PlainConfig ConfigFault
+in_lines edition [] = Err fault.Version
+in_lines edition (first ∷ more) = do
+  _ ← unless fault.Version (not (length more == 0) && bytes_eq first (first_line edition))
+  behind_heading edition more
 
 -- the text is cut at each line feed
+abbrev pub spelled_in : Edition → List ℕ → Result PlainConfig ConfigFault
+spelled_in edition bytes = in_lines edition (slice_split (λ b. b == 10) bytes)
+
+-- as texts are written: in the second edition
 abbrev pub spelled : List ℕ → Result PlainConfig ConfigFault
-spelled bytes = in_lines (slice_split (λ b. b == 10) bytes)
+spelled bytes = spelled_in Second bytes

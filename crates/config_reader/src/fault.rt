@@ -11,7 +11,7 @@ use text_words::{push_bytes, push_number};
 /// are numbered from 1.
 #[derive(Clone, Copy, Debug, PartialEq, Eq)]
 pub enum ConfigFault {
-    /// The text doesn't begin with the line `propane-config 1`.
+    /// The text doesn't begin with the first line of its edition, `propane-config 2` or `propane-config 1`.
     Version,
     /// The line has none of the forms.
     Line(u32),

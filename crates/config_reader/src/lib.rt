@@ -7,6 +7,7 @@ mod names;
 mod order;
 mod read;
 mod reading;
+mod routers;
 
 pub use fault::ConfigFault;
-pub use read::read_config;
+pub use read::{read_config, read_config_1};

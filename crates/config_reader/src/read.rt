@@ -2,23 +2,31 @@
 ghost use Rattle.std.specs.Prelude.{◌≡◌, ◌<◌, ◌≤◌, ◌+◌, ◌^◌, None, Ok, IfOk, length, map};
 ghost use Rattle.config_reader.specs.Faults.{Gives};
 ghost use Rattle.config_reader.specs.Reading.{opening, after as after_line};
-ghost use Rattle.config_reader.specs.Text.{read_at, placed_at, with_line, with_lines, finished, heading, whole_lines, behind_heading, in_lines, spelled};
+ghost use Rattle.config_reader.specs.Text.{read_at, placed_at, with_line, with_lines, finished, whole_lines, behind_heading, in_lines, spelled_in, spelled};
 ghost use Rattle.std.specs.Str.{bytes_eq};
 ghost use Rattle.config_base.specs.Configs.{PlainConfig, IsConfig};
-ghost use Rattle.config_text.specs.Spelled.{Spells};
+ghost use Rattle.config_text.specs.Spelled.{SpellsIn, Spells};
+ghost use Rattle.config_lines.specs.Editions.{first_line};
 ghost use Rattle.config_lines.specs.Lines.{line_of};
+ghost use Rattle.config_lines.specs.declared.edition.Edition.TheVariants.{First};
 
 use crate::fault::ConfigFault;
 use crate::reading::{Misplaced, Reading, after, nothing_read};
 use config_base::Config;
-use config_lines::{Line, LineFault, cut_parts, read_line};
+use config_lines::{Edition, Line, LineFault, cut_parts, read_line};
 use std::alloc::Global;
 
 // The line with this number.
-fn line_at(alloc: Global, number: u32, bytes: &[u8], classes: u32) -> Result<Line, ConfigFault>
-    ensures { Gives (λ l. l) result (read_at number (line_of bytes.now classes)) }
+fn line_at(
+    alloc: Global,
+    edition: Edition,
+    number: u32,
+    bytes: &[u8],
+    classes: u32,
+) -> Result<Line, ConfigFault>
+    ensures { Gives (λ l. l) result (read_at number (line_of edition bytes.now classes)) }
 {
-    match read_line(alloc, bytes, classes) {
+    match read_line(alloc, edition, bytes, classes) {
         Ok(line) => Ok(line),
         Err(LineFault::Form) => Err(ConfigFault::Line(number)),
         Err(LineFault::Number) => Err(ConfigFault::Number(number)),
@@ -47,27 +55,28 @@ fn after_at(
 #[tactic(auto, unfolding(crate::specs::Text::with_line))]
 fn take_line(
     alloc: Global,
+    edition: Edition,
     number: u32,
     reading: Reading,
     bytes: &[u8],
 ) -> Result<Reading, ConfigFault>
     requires { length reading.classes < 2 ^ 32 }
-    ensures { Gives (λ r. r) result (with_line number reading bytes.now) }
+    ensures { Gives (λ r. r) result (with_line edition number reading bytes.now) }
 {
     let classes = reading.classes.as_slice().len() as u32;
-    let line = line_at(alloc, number, bytes, classes)?;
+    let line = line_at(alloc, edition, number, bytes, classes)?;
     after_at(alloc, number, reading, line)
 }
 
 // What is read of the lines, of which the first one has the number 2.
-fn read_lines(alloc: Global, lines: &[&[u8]]) -> Result<Reading, ConfigFault>
+fn read_lines(alloc: Global, edition: Edition, lines: &[&[u8]]) -> Result<Reading, ConfigFault>
     requires { length lines.now + 2 < 2 ^ 32 }
-    ensures { Gives (λ r. r) result (with_lines 2 opening (map (λ l. l.now) lines.now)) }
+    ensures { Gives (λ r. r) result (with_lines edition 2 opening (map (λ l. l.now) lines.now)) }
 {
     let mut reading = nothing_read(alloc);
     let mut number = 2;
     for bytes in lines {
-        reading = take_line(alloc, number, reading, bytes)?;
+        reading = take_line(alloc, edition, number, reading, bytes)?;
         number += 1;
     }
     Ok(reading)
@@ -87,62 +96,87 @@ fn finish(reading: Reading, rest: &[u8]) -> Result<Config, ConfigFault>
     if opened.is_some() || !rest.is_empty() {
         return Err(ConfigFault::Unfinished);
     }
-    Ok(Config::new(classes, routers))
+    Ok(Config::new(classes, routers.into_list()))
 }
 
 // What is read of the lines but the last one. The first one has the number 2.
-fn read_whole_lines(alloc: Global, more: &[&[u8]]) -> Result<Reading, ConfigFault>
+fn read_whole_lines(alloc: Global, edition: Edition, more: &[&[u8]]) -> Result<Reading, ConfigFault>
     requires some { 0 < length more.now }
     requires few { length more.now < 4294967295 }
-    ensures { Gives (λ r. r) result (with_lines 2 opening (whole_lines (map (λ l. l.now) more.now))) }
+    ensures { Gives (λ r. r) result (with_lines edition 2 opening (whole_lines (map (λ l. l.now) more.now))) }
 {
     let end = more.len() - 1;
-    read_lines(alloc, &more[..end])
+    read_lines(alloc, edition, &more[..end])
 }
 
 // The configuration of the lines behind the first one. The last of them is what follows the last line feed.
 #[tactic(auto, unfolding(crate::specs::Text::behind_heading))]
-fn read_behind_heading(alloc: Global, more: &[&[u8]]) -> Result<Config, ConfigFault>
+fn read_behind_heading(
+    alloc: Global,
+    edition: Edition,
+    more: &[&[u8]],
+) -> Result<Config, ConfigFault>
     requires some { 0 < length more.now }
     requires few { length more.now < 4294967295 }
-    ensures { Gives (λ c. c) result (behind_heading (map (λ l. l.now) more.now)) }
+    ensures { Gives (λ c. c) result (behind_heading edition (map (λ l. l.now) more.now)) }
 {
     let end = more.len() - 1;
-    let reading = read_whole_lines(alloc, more)?;
+    let reading = read_whole_lines(alloc, edition, more)?;
     finish(reading, more[end])
 }
 
-// Whether a line is the first one of every text.
-fn is_heading(line: &[u8]) -> bool
-    ensures { result ≡ bytes_eq line.now heading }
+// Whether a line is the first one of every text of this edition.
+fn is_heading(edition: Edition, line: &[u8]) -> bool
+    ensures { result ≡ bytes_eq line.now (first_line edition) }
 {
-    line == b"propane-config 1".as_slice()
+    line == edition.first_line()
 }
 
 // The configuration of the lines, the last of which is what follows the last line feed.
 #[tactic(auto, unfolding(crate::specs::Text::in_lines))]
-fn read_all(alloc: Global, lines: &[&[u8]]) -> Result<Config, ConfigFault>
+fn read_all(alloc: Global, edition: Edition, lines: &[&[u8]]) -> Result<Config, ConfigFault>
     requires { length lines.now ≤ 4294967295 }
-    ensures { Gives (λ c. c) result (in_lines (map (λ l. l.now) lines.now)) }
+    ensures { Gives (λ c. c) result (in_lines edition (map (λ l. l.now) lines.now)) }
 {
     let [first, more @ ..] = lines else {
         return Err(ConfigFault::Version);
     };
-    if more.is_empty() || !is_heading(first) {
+    if more.is_empty() || !is_heading(edition, first) {
         return Err(ConfigFault::Version);
     }
-    read_behind_heading(alloc, more)
+    read_behind_heading(alloc, edition, more)
+}
+
+// The configuration that the bytes spell in this edition, or the first fault of the text.
+fn read_edition(alloc: Global, edition: Edition, bytes: &[u8]) -> Result<Config, ConfigFault>
+    requires { length bytes.now < 4294967295 }
+    ensures exact { Gives (λ c. c) result (spelled_in edition bytes.now) }
+    ensures spells { IfOk result (λ c. SpellsIn edition bytes.now c) }
+    ensures only { (c : PlainConfig) → SpellsIn edition bytes.now c → Gives (λ d. d) result (Ok c) }
+{
+    let lines = cut_parts(alloc, b'\n', bytes)?;
+    read_all(alloc, edition, &lines)
 }
 
 /// The configuration that the bytes spell, or the first fault of the text: version first; then line by line, in
 /// each line its form, its numbers, its order and what stands twice; last whether the text is finished. It takes
-/// one pass, and memory in proportion to the text.
+/// one pass, and memory in proportion to the text. A text of the first edition is refused by its version.
 pub fn read_config(alloc: Global, bytes: &[u8]) -> Result<Config, ConfigFault>
     requires { length bytes.now < 4294967295 }
     ensures exact { Gives (λ c. c) result (spelled bytes.now) }
     ensures spells { IfOk result (λ c. Spells bytes.now c) }
     ensures only { (c : PlainConfig) → Spells bytes.now c → Gives (λ d. d) result (Ok c) }
 {
-    let lines = cut_parts(alloc, b'\n', bytes)?;
-    read_all(alloc, &lines)
+    read_edition(alloc, Edition::Second, bytes)
+}
+
+/// The configuration that the bytes spell as a text of the first edition, or the first fault of the text, judged in
+/// the order of `read_config`.
+pub fn read_config_1(alloc: Global, bytes: &[u8]) -> Result<Config, ConfigFault>
+    requires { length bytes.now < 4294967295 }
+    ensures exact { Gives (λ c. c) result (spelled_in First bytes.now) }
+    ensures spells { IfOk result (λ c. SpellsIn First bytes.now c) }
+    ensures only { (c : PlainConfig) → SpellsIn First bytes.now c → Gives (λ d. d) result (Ok c) }
+{
+    read_edition(alloc, Edition::First, bytes)
 }

@@ -1,11 +1,10 @@
 //! What was read so far, and what the next line makes of it.
-ghost use Rattle.std.specs.Prelude.{◌≡◌, ◌||◌, ◌==◌, nat_eq};
-ghost use Rattle.std.specs.List.{list_any};
-ghost use Rattle.std.specs.Str.{bytes_eq};
-ghost use Rattle.config_reader.specs.Reading.{Gives, opening, is_next as next, same_router, stood_before, closed, with_class, with_router, with_own, with_neighbour, import_into, export_into, with_import, with_export, with_end, after as after_line};
+ghost use Rattle.std.specs.Prelude.{◌≡◌, ◌==◌};
+ghost use Rattle.config_reader.specs.Reading.{Gives, opening, is_next as next, closed, with_class, with_router, with_own, with_neighbour, import_into, export_into, with_import, with_export, with_end, after as after_line};
 
 use crate::names::Names;
 use crate::order::{export_ascends, own_ascends, rule_ascends};
+use crate::routers::Routers;
 use config_base::{Export, Own, RouterConfig, Rule, Session};
 use config_lines::Line;
 use net_base::{List, Name, Pattern};
@@ -27,7 +26,7 @@ pub struct OpenRouter {
 pub struct Reading {
     pub classes: List<List<Pattern>>,
     /// The routers whose blocks are read.
-    pub routers: List<RouterConfig>,
+    pub routers: Routers,
     /// The router whose block is being read.
     pub opened: Option<OpenRouter>,
 }
@@ -71,7 +70,7 @@ pub fn nothing_read(alloc: Global) -> Reading
 {
     Reading {
         classes: List::new(alloc),
-        routers: List::new(alloc),
+        routers: Routers::new(alloc),
         opened: None,
     }
 }
@@ -100,7 +99,7 @@ fn add_class(
         routers,
         opened,
     } = reading;
-    let is_before = opened.is_none() && routers.as_slice().is_empty();
+    let is_before = opened.is_none() && routers.is_empty();
     if !is_before || !is_next(number, classes.as_slice().len()) {
         return Err(Misplaced::Order);
     }
@@ -110,33 +109,6 @@ fn add_class(
         routers,
         opened,
     })
-}
-
-fn is_name_of(router: &RouterConfig, name: Name) -> bool
-    ensures { result ≡ bytes_eq router.now.name name }
-{
-    router.name.as_bytes() == name.as_bytes()
-}
-
-// Whether the name, the AS number or the identifier is that of the router.
-fn is_like(router: &RouterConfig, name: Name, asn: u32, id: u32) -> bool
-    ensures { result ≡ same_router name asn id router.now }
-{
-    if router.asn == asn {
-        return true;
-    }
-    if router.id == id {
-        return true;
-    }
-    is_name_of(router, name)
-}
-
-// Whether the name, the AS number or the identifier is that of one of the routers. Lawful AS numbers differ, and
-// there are 1,023 of them, so there are never more routers to look at.
-fn is_known(routers: &[RouterConfig], name: Name, asn: u32, id: u32) -> bool
-    ensures { result ≡ stood_before name asn id routers.now }
-{
-    routers.iter().any(|router| is_like(router, name, asn, id))
 }
 
 // The head line of a router.
@@ -158,7 +130,7 @@ fn begin_router(
     if opened.is_some() {
         return Err(Misplaced::Order);
     }
-    if is_known(routers.as_slice(), name, asn, id) {
+    if routers.are_like(&name, asn, id) {
         return Err(Misplaced::Twice);
     }
     let router = RouterConfig {
@@ -378,12 +350,12 @@ fn export(reading: Reading, line: Export) -> Result<Reading, Misplaced>
 
 // The end of a router's block.
 #[tactic(auto, unfolding(crate::specs::Reading::with_end))]
-fn end_router(reading: Reading) -> Result<Reading, Misplaced>
+fn end_router(alloc: Global, reading: Reading) -> Result<Reading, Misplaced>
     ensures { Gives (λ r. r) result (with_end reading) }
 {
     let Reading {
         classes,
-        mut routers,
+        routers,
         opened,
     } = reading;
     let Some(
@@ -397,10 +369,9 @@ fn end_router(reading: Reading) -> Result<Reading, Misplaced>
         return Err(Misplaced::Order);
     };
     let router = close(router, block)?;
-    routers.push(router)?;
     Ok(Reading {
         classes,
-        routers,
+        routers: routers.with(alloc, router)?,
         opened: None,
     })
 }
@@ -418,6 +389,6 @@ pub fn after(alloc: Global, reading: Reading, line: Line) -> Result<Reading, Mis
         Line::Import(rule) => import(reading, false, rule),
         Line::PeerImport(rule) => import(reading, true, rule),
         Line::Export(line) => export(reading, line),
-        Line::End => end_router(reading),
+        Line::End => end_router(alloc, reading),
     }
 }

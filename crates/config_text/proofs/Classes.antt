@@ -6,6 +6,7 @@ use Rattle.std.specs.Fmt.{decimal}
 use Rattle.std.proofs.lemmas.List.{append_cancel_left}
 use Rattle.net_base.specs.Prefixes.{PlainPattern, IsPattern}
 use Rattle.text_words.specs.Texts.{pattern_text}
+use Rattle.config_lines.specs.declared.edition.Edition.{Edition}
 use Rattle.config_text.specs.ConfigText.{class_line, class_lines}
 use Rattle.config_lines.specs.LineText.{next_pattern, joined_patterns}
 use Rattle.text_words.proofs.Words.{after}
@@ -42,8 +43,8 @@ patterns_cut (t ∷ ts) (u ∷ us) rest more st su ht hu e =
 
 -- ---- classes: the number says nothing, it's the place
 
-class_parts : (k : ℕ) (ts : List PlainPattern) (rest : List ℕ) → class_line k ts ++ rest ≡ codes "class " ++ (decimal k ++ (32 ∷ (joined_patterns ts ++ (10 ∷ rest))))
-class_parts k ts rest = parts_by (decimal k) (joined_patterns ts)
+class_parts : (edition : Edition) (k : ℕ) (ts : List PlainPattern) (rest : List ℕ) → class_line edition k ts ++ rest ≡ codes "class " ++ (decimal k ++ (32 ∷ (joined_patterns ts ++ (10 ∷ rest))))
+class_parts edition k ts rest = parts_by (decimal k) (joined_patterns ts)
   where
     parts_by : (a b : List ℕ) → (codes "class " ++ a ++ codes " " ++ b ++ codes "\n") ++ rest ≡ codes "class " ++ (a ++ (32 ∷ (b ++ (10 ∷ rest))))
     parts_by a b = simp append_assoc refl
@@ -53,15 +54,15 @@ pub record IsFullClass (ts : List PlainPattern) : Type 0 where
   pub some : ts ≢ []
   pub all : AllByRecursion IsPattern ts
 
-pub classes_cut : (k : ℕ) (cs ds : List (List PlainPattern)) (rest more : List ℕ) → AllByRecursion IsFullClass cs → AllByRecursion IsFullClass ds
-    → begins 99 rest ≡ false → begins 99 more ≡ false → class_lines k cs ++ rest ≡ class_lines k ds ++ more → (cs ≡ ds) × (rest ≡ more)
-classes_cut k [] [] rest more hc hd sr sm e = (refl, e)
-classes_cut k [] (d ∷ ds) rest more hc hd sr sm e = let clash : false ≡ true = sym sr ∙ ap (begins 99) e in absurd (cc)
-classes_cut k (c ∷ cs) [] rest more hc hd sr sm e = let clash : false ≡ true = sym sm ∙ ap (begins 99) (sym e) in absurd (cc)
-classes_cut k (c ∷ cs) (d ∷ ds) rest more hc hd sr sm e =
-    let parts = sym (class_parts k c (class_lines (k + 1) cs ++ rest)) ∙ sym (append_assoc (class_line k c) (class_lines (k + 1) cs) rest) ∙ e ∙ append_assoc (class_line k d) (class_lines (k + 1) ds) more ∙ class_parts k d (class_lines (k + 1) ds ++ more) in
+pub classes_cut : (edition : Edition) (k : ℕ) (cs ds : List (List PlainPattern)) (rest more : List ℕ) → AllByRecursion IsFullClass cs → AllByRecursion IsFullClass ds
+    → begins 99 rest ≡ false → begins 99 more ≡ false → class_lines edition k cs ++ rest ≡ class_lines edition k ds ++ more → (cs ≡ ds) × (rest ≡ more)
+classes_cut edition k [] [] rest more hc hd sr sm e = (refl, e)
+classes_cut edition k [] (d ∷ ds) rest more hc hd sr sm e = let clash : false ≡ true = sym sr ∙ ap (begins 99) e in absurd (cc)
+classes_cut edition k (c ∷ cs) [] rest more hc hd sr sm e = let clash : false ≡ true = sym sm ∙ ap (begins 99) (sym e) in absurd (cc)
+classes_cut edition k (c ∷ cs) (d ∷ ds) rest more hc hd sr sm e =
+    let parts = sym (class_parts edition k c (class_lines edition (k + 1) cs ++ rest)) ∙ sym (append_assoc (class_line edition k c) (class_lines edition (k + 1) cs) rest) ∙ e ∙ append_assoc (class_line edition k d) (class_lines edition (k + 1) ds) more ∙ class_parts edition k d (class_lines edition (k + 1) ds ++ more) in
     let numbered = append_cancel_left (codes "class ") _ _ parts in
     let spaced = append_cancel_left (decimal k) _ _ numbered in
-    let head = patterns_cut c d (class_lines (k + 1) cs ++ rest) (class_lines (k + 1) ds ++ more) hc.0.some hd.0.some hc.0.all hd.0.all (after 32 _ _ spaced) in
-    let tail = classes_cut (k + 1) cs ds rest more hc.1 hd.1 sr sm head.1 in
+    let head = patterns_cut c d (class_lines edition (k + 1) cs ++ rest) (class_lines edition (k + 1) ds ++ more) hc.0.some hd.0.some hc.0.all hd.0.all (after 32 _ _ spaced) in
+    let tail = classes_cut edition (k + 1) cs ds rest more hc.1 hd.1 sr sm head.1 in
     (cc (head.0, tail.0), tail.1)

@@ -1,7 +1,6 @@
 -- A lawful configuration's numbers are short, so its text is read in one way only.
 use Rattle.std.proofs.Common.{◌≡◌, ℕ, ◌^◌, ◌<◌, List, [], length, Bool, true, false, sym, ◌∙◌, arith}
-use Rattle.std.specs.Prelude.{◌&&◌, ◌≢◌, nat_le, IsTrue, MatchBool}
-use Rattle.std.proofs.lemmas.Bool.{and_parts, leb-true}
+use Rattle.std.specs.Prelude.{◌≢◌, IsTrue, MatchBool}
 use Rattle.list_laws.proofs.Each.{AllByRecursion-both, AllByRecursion-weaker}
 use Rattle.net_base.specs.declared.numbers.Tag.{Tag}
 use Rattle.net_base.specs.Numbers.{is_router_as, is_peer_as, is_tag, no_tag}
@@ -12,18 +11,17 @@ use Rattle.config_base.specs.declared.config.Rule.{Rule}
 use Rattle.config_base.specs.declared.config.Export.{Export}
 use Rattle.config_base.specs.declared.config.Own.{Own}
 use Rattle.config_base.specs.Configs.{PlainConfig, IsImport, IsExport, IsOwn, IsSession, IsRouter}
-use Rattle.config_lines.proofs.WrittenForms.{router_low, peer_low}
-use Rattle.config_text.specs.Spelled.{ArePatterns, HasPrefix, IsNamed, HasLawfulParts, IsLawful, Spells}
-use Rattle.text_words.specs.Ends.{IsShort}
+use Rattle.config_lines.specs.declared.edition.Edition.{Edition}
+use Rattle.config_lines.specs.declared.edition.Edition.TheVariants.{Second}
+use Rattle.config_lines.proofs.Ranges.{router_low, peer_low, tag_low}
+use Rattle.config_lines.proofs.Tags.{IsShort}
+use Rattle.config_text.specs.Spelled.{ArePatterns, HasPrefix, IsNamed, HasLawfulParts, IsLawful, SpellsIn}
 use Rattle.config_text.proofs.Classes.{IsFullClass}
 use Rattle.config_text.proofs.Lines.{IsShortOwn, IsShortRule, IsShortExport}
 use Rattle.config_text.proofs.Blocks.{IsReadableSession, IsReadableRouter, IsReadable, config_cut}
 
 short_tag : (t : Tag) → IsTrue (is_tag t) → IsShort t
-short_tag t is =
-    let p = and_parts (is_router_as t.asn) (nat_le 1 t.value && nat_le t.value 65535) is in
-    let q = and_parts (nat_le 1 t.value) (nat_le t.value 65535) p.1 in
-    record { asn = router_low t.asn p.0; value = omega (arith, leb-true t.value 65535 q.1) }
+short_tag t is = let low = tag_low Second t is in record { asn = low.0; value = low.1 }
 
 module _ (count : ℕ) (low : count < 2 ^ 32) where
   short_own : (o : Own) → IsOwn count o → HasPrefix o → IsShortOwn o
@@ -40,8 +38,8 @@ module _ (count : ℕ) (low : count < 2 ^ 32) where
   short_export e is = record { class = omega (arith, low, is.0.1); tag = short_tag e.tag is.1 }
 
   session_number : (peer : Bool) (n : ℕ) → MatchBool peer (IsTrue (is_peer_as n)) (IsTrue (is_router_as n)) → n < 2 ^ 32
-  session_number true n h = peer_low n h
-  session_number false n h = router_low n h
+  session_number true n h = peer_low Second n h
+  session_number false n h = router_low Second n h
 
   readable_session : (s : Session) → IsSession count s → IsNamed s → IsReadableSession s
   readable_session s is named = record {
@@ -54,7 +52,7 @@ module _ (count : ℕ) (low : count < 2 ^ 32) where
   readable_router : (r : RouterConfig) → IsRouter count r → HasLawfulParts r → IsReadableRouter r
   readable_router r is parts = record {
     name = parts.name;
-    asn = router_low r.asn is.number;
+    asn = router_low Second r.asn is.number;
     id = is.identifier.1;
     own = AllByRecursion-both (IsOwn count) HasPrefix IsShortOwn short_own r.own is.own parts.prefixes;
     sessions = AllByRecursion-both (IsSession count) IsNamed IsReadableSession readable_session r.sessions is.sessions parts.names;
@@ -70,5 +68,5 @@ readable c is = record {
 }
 
 -- a text is that of one configuration only
-pub one_configuration : (bytes : List ℕ) (c d : PlainConfig) → Spells bytes c → Spells bytes d → c ≡ d
-one_configuration bytes c d hc hd = config_cut c d (readable c hc.lawful) (readable d hd.lawful) (sym hc.written ∙ hd.written)
+pub one_configuration : (edition : Edition) (bytes : List ℕ) (c d : PlainConfig) → SpellsIn edition bytes c → SpellsIn edition bytes d → c ≡ d
+one_configuration edition bytes c d hc hd = config_cut edition c d (readable c hc.lawful) (readable d hd.lawful) (sym hc.written ∙ hd.written)

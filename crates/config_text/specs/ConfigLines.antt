@@ -6,13 +6,14 @@ use Rattle.config_base.specs.declared.config.RouterConfig.{RouterConfig}
 use Rattle.config_base.specs.declared.config.Session.{Session}
 use Rattle.config_base.specs.declared.config.Rule.{Rule}
 use Rattle.config_base.specs.Configs.{PlainConfig}
+use Rattle.config_lines.specs.declared.edition.Edition.{Edition}
 use Rattle.config_lines.specs.declared.line.Line.{Line}
 use Rattle.config_lines.specs.declared.line.Line.TheVariants as line
 use Rattle.config_lines.specs.LineText.{line_text}
 
--- a line and its line feed
-abbrev pub fed : Line → List ℕ
-fed l = line_text l ++ codes "\n"
+-- a line in an edition, and its line feed
+abbrev pub fed : Edition → Line → List ℕ
+fed edition l = line_text edition l ++ codes "\n"
 
 -- numbered from k
 abbrev pub lines_of_classes : ℕ → List (List PlainPattern) → List Line

@@ -1,5 +1,5 @@
 -- Which configuration a text spells.
-use Rattle.std.specs.Prelude.{◌≡◌, ℕ, IsTrue, List}
+use Rattle.std.specs.Prelude.{◌≡◌, ℕ, IsTrue, List, length}
 use Rattle.std.specs.List.{AllByRecursion}
 use Rattle.net_base.specs.NameRule.{is_name}
 use Rattle.net_base.specs.Prefixes.{PlainPattern, IsPrefix, IsPattern}
@@ -7,7 +7,11 @@ use Rattle.config_base.specs.declared.config.RouterConfig.{RouterConfig}
 use Rattle.config_base.specs.declared.config.Session.{Session}
 use Rattle.config_base.specs.declared.config.Own.{Own}
 use Rattle.config_base.specs.Configs.{PlainConfig, IsConfig}
-use Rattle.config_text.specs.ConfigText.{config_text}
+use Rattle.config_lines.specs.declared.edition.Edition.{Edition}
+use Rattle.config_lines.specs.declared.edition.Edition.TheVariants.{Second}
+use Rattle.config_lines.specs.LineText.{IsLine}
+use Rattle.config_text.specs.ConfigLines.{lines}
+use Rattle.config_text.specs.ConfigText.{text_in}
 
 -- a class whose patterns are patterns
 abbrev pub ArePatterns : List PlainPattern → Type 0
@@ -31,7 +35,16 @@ pub record IsLawful (c : PlainConfig) : Type 0 where
   pub patterns : AllByRecursion ArePatterns c.classes
   pub routers : AllByRecursion HasLawfulParts c.routers
 
--- the text is that of this lawful configuration
-pub record Spells (bytes : List ℕ) (c : PlainConfig) : Type 0 where
+-- Each of its lines is one of the edition: its numbers are in the edition's ranges.
+abbrev pub HasLinesOf : Edition → PlainConfig → Type 0
+HasLinesOf edition c = AllByRecursion (IsLine edition (length c.classes)) (lines c)
+
+-- the text is that of this lawful configuration in the edition
+pub record SpellsIn (edition : Edition) (bytes : List ℕ) (c : PlainConfig) : Type 0 where
   pub lawful : IsLawful c
-  pub written : bytes ≡ config_text c
+  pub fits : HasLinesOf edition c
+  pub written : bytes ≡ text_in edition c
+
+-- as texts are written: in the second edition
+abbrev pub Spells : List ℕ → PlainConfig → Type 0
+Spells bytes c = SpellsIn Second bytes c

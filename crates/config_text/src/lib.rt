@@ -1,23 +1,24 @@
-//! The text of configurations.
+//! The texts of configurations: which one spells which configuration, and how they are written.
 #![tactic(auto)]
 
 ghost use Rattle.std.specs.Prelude.{◌≡◌, ◌++◌, ◌+◌, OnOk, IfOk};
 ghost use Rattle.std.specs.List.{flat_map, AllByRecursion};
 ghost use Rattle.config_text.specs.ConfigText.{class_line, class_lines, router_line, own_line, session_line, import_line, export_line, session_text, router_text, config_text};
+ghost use Rattle.config_lines.specs.Editions.{tag_text};
 ghost use Rattle.config_lines.specs.LineText.{read_tag, set_text, next_pattern, joined_patterns};
+ghost use Rattle.config_lines.specs.declared.edition.Edition.TheVariants.{Second};
 ghost use Rattle.config_text.specs.Spelled.{ArePatterns, HasPrefix, IsNamed, HasLawfulParts, Spells};
 
 use config_base::{Config, Export, Own, RouterConfig, Rule, Session};
+use config_lines::Edition;
 use net_base::{List, Pattern, Tag};
 use outside::NoMemory;
 use std::alloc::Global;
-use text_words::{
-    push_address, push_bytes, push_name, push_number, push_pattern, push_prefix, push_tag,
-};
+use text_words::{push_address, push_bytes, push_name, push_number, push_pattern, push_prefix};
 
 mod law;
 
-pub use law::{texts_are_lines, texts_spell_one_configuration};
+pub use law::{configurations_have_texts, texts_are_lines, texts_spell_one_configuration};
 
 /// As many bytes as most lines have.
 const LINE_BYTES: usize = 48;
@@ -50,7 +51,7 @@ fn push_patterns(text: &mut Vec<u8>, patterns: &[Pattern]) -> Result<(), NoMemor
 
 // Adds the line of a class.
 fn push_class(text: &mut Vec<u8>, number: u64, patterns: &[Pattern]) -> Result<(), NoMemory>
-    ensures text { OnOk result (text.new.items ≡ text.old.items ++ class_line number patterns.now) }
+    ensures text { OnOk result (text.new.items ≡ text.old.items ++ class_line Second number patterns.now) }
     ensures rules { OnOk result (ArePatterns patterns.now) }
 {
     push_bytes(text, b"class ")?;
@@ -62,7 +63,7 @@ fn push_class(text: &mut Vec<u8>, number: u64, patterns: &[Pattern]) -> Result<(
 
 // Adds the lines of the classes, numbered from 1.
 fn push_classes(text: &mut Vec<u8>, classes: &[List<Pattern>]) -> Result<(), NoMemory>
-    ensures text { OnOk result (text.new.items ≡ text.old.items ++ class_lines 1 classes.now) }
+    ensures text { OnOk result (text.new.items ≡ text.old.items ++ class_lines Second 1 classes.now) }
     ensures rules { OnOk result (AllByRecursion ArePatterns classes.now) }
 {
     let mut number = 1;
@@ -73,9 +74,18 @@ fn push_classes(text: &mut Vec<u8>, classes: &[List<Pattern>]) -> Result<(), NoM
     Ok(())
 }
 
+// Adds a tag: its AS number, `:0:` and its value, as large communities are written (RFC 8092).
+fn push_tag(text: &mut Vec<u8>, tag: Tag) -> Result<(), NoMemory>
+    ensures { OnOk result (text.new.items ≡ text.old.items ++ tag_text Second tag) }
+{
+    push_number(text, u64::from(tag.asn))?;
+    push_bytes(text, b":0:")?;
+    push_number(text, u64::from(tag.value))
+}
+
 // Adds an originate line.
 fn push_own(text: &mut Vec<u8>, own: &Own) -> Result<(), NoMemory>
-    ensures text { OnOk result (text.new.items ≡ text.old.items ++ own_line own.now) }
+    ensures text { OnOk result (text.new.items ≡ text.old.items ++ own_line Second own.now) }
     ensures rules { OnOk result (HasPrefix own.now) }
 {
     push_bytes(text, b"originate ")?;
@@ -90,7 +100,7 @@ fn push_own(text: &mut Vec<u8>, own: &Own) -> Result<(), NoMemory>
 // Adds the tag that an import reads: none in the block of a peer.
 #[tactic(auto, unfolding(config_lines::specs::LineText::read_tag))]
 fn push_read_tag(text: &mut Vec<u8>, peer: bool, tag: Tag) -> Result<(), NoMemory>
-    ensures { OnOk result (text.new.items ≡ text.old.items ++ read_tag peer tag) }
+    ensures { OnOk result (text.new.items ≡ text.old.items ++ read_tag Second peer tag) }
 {
     if peer {
         return Ok(());
@@ -101,7 +111,7 @@ fn push_read_tag(text: &mut Vec<u8>, peer: bool, tag: Tag) -> Result<(), NoMemor
 
 // Adds what an import gives a route.
 fn push_set(text: &mut Vec<u8>, rule: &Rule) -> Result<(), NoMemory>
-    ensures { OnOk result (text.new.items ≡ text.old.items ++ set_text rule.now) }
+    ensures { OnOk result (text.new.items ≡ text.old.items ++ set_text Second rule.now) }
 {
     push_bytes(text, b" set ")?;
     push_tag(text, rule.set)?;
@@ -112,7 +122,7 @@ fn push_set(text: &mut Vec<u8>, rule: &Rule) -> Result<(), NoMemory>
 // Adds an import line.
 #[tactic(auto, unfolding(crate::specs::ConfigText::import_line, config_lines::specs::LineText::import_text))]
 fn push_import(text: &mut Vec<u8>, peer: bool, rule: &Rule) -> Result<(), NoMemory>
-    ensures { OnOk result (text.new.items ≡ text.old.items ++ import_line peer rule.now) }
+    ensures { OnOk result (text.new.items ≡ text.old.items ++ import_line Second peer rule.now) }
 {
     push_bytes(text, b"import ")?;
     push_number(text, u64::from(rule.class))?;
@@ -123,7 +133,7 @@ fn push_import(text: &mut Vec<u8>, peer: bool, rule: &Rule) -> Result<(), NoMemo
 
 // Adds an export line.
 fn push_export(text: &mut Vec<u8>, export: &Export) -> Result<(), NoMemory>
-    ensures { OnOk result (text.new.items ≡ text.old.items ++ export_line export.now) }
+    ensures { OnOk result (text.new.items ≡ text.old.items ++ export_line Second export.now) }
 {
     push_bytes(text, b"export ")?;
     push_number(text, u64::from(export.class))?;
@@ -150,7 +160,7 @@ fn push_head(text: &mut Vec<u8>, session: &Session) -> Result<(), NoMemory>
 
 // Adds the import lines.
 fn push_imports(text: &mut Vec<u8>, peer: bool, rules: &[Rule]) -> Result<(), NoMemory>
-    ensures { OnOk result (text.new.items ≡ text.old.items ++ flat_map (import_line peer) rules.now) }
+    ensures { OnOk result (text.new.items ≡ text.old.items ++ flat_map (import_line Second peer) rules.now) }
 {
     for rule in rules {
         push_import(text, peer, rule)?;
@@ -160,7 +170,7 @@ fn push_imports(text: &mut Vec<u8>, peer: bool, rules: &[Rule]) -> Result<(), No
 
 // Adds the export lines.
 fn push_exports(text: &mut Vec<u8>, exports: &[Export]) -> Result<(), NoMemory>
-    ensures { OnOk result (text.new.items ≡ text.old.items ++ flat_map export_line exports.now) }
+    ensures { OnOk result (text.new.items ≡ text.old.items ++ flat_map (export_line Second) exports.now) }
 {
     for export in exports {
         push_export(text, export)?;
@@ -170,7 +180,7 @@ fn push_exports(text: &mut Vec<u8>, exports: &[Export]) -> Result<(), NoMemory>
 
 // Adds the originate lines.
 fn push_owns(text: &mut Vec<u8>, owns: &[Own]) -> Result<(), NoMemory>
-    ensures text { OnOk result (text.new.items ≡ text.old.items ++ flat_map own_line owns.now) }
+    ensures text { OnOk result (text.new.items ≡ text.old.items ++ flat_map (own_line Second) owns.now) }
     ensures rules { OnOk result (AllByRecursion HasPrefix owns.now) }
 {
     for own in owns {
@@ -181,7 +191,7 @@ fn push_owns(text: &mut Vec<u8>, owns: &[Own]) -> Result<(), NoMemory>
 
 // Adds the block of a neighbour.
 fn push_session(text: &mut Vec<u8>, session: &Session) -> Result<(), NoMemory>
-    ensures text { OnOk result (text.new.items ≡ text.old.items ++ session_text session.now) }
+    ensures text { OnOk result (text.new.items ≡ text.old.items ++ session_text Second session.now) }
     ensures rules { OnOk result (IsNamed session.now) }
 {
     push_head(text, session)?;
@@ -191,7 +201,7 @@ fn push_session(text: &mut Vec<u8>, session: &Session) -> Result<(), NoMemory>
 
 // Adds the blocks of the neighbours.
 fn push_sessions(text: &mut Vec<u8>, sessions: &[Session]) -> Result<(), NoMemory>
-    ensures text { OnOk result (text.new.items ≡ text.old.items ++ flat_map session_text sessions.now) }
+    ensures text { OnOk result (text.new.items ≡ text.old.items ++ flat_map (session_text Second) sessions.now) }
     ensures rules { OnOk result (AllByRecursion IsNamed sessions.now) }
 {
     for session in sessions {
@@ -202,7 +212,7 @@ fn push_sessions(text: &mut Vec<u8>, sessions: &[Session]) -> Result<(), NoMemor
 
 // Adds the block of a router.
 fn push_router(text: &mut Vec<u8>, router: &RouterConfig) -> Result<(), NoMemory>
-    ensures text { OnOk result (text.new.items ≡ text.old.items ++ router_text router.now) }
+    ensures text { OnOk result (text.new.items ≡ text.old.items ++ router_text Second router.now) }
     ensures rules { OnOk result (HasLawfulParts router.now) }
 {
     push_bytes(text, b"router ")?;
@@ -219,7 +229,7 @@ fn push_router(text: &mut Vec<u8>, router: &RouterConfig) -> Result<(), NoMemory
 
 // Adds the blocks of the routers.
 fn push_routers(text: &mut Vec<u8>, routers: &[RouterConfig]) -> Result<(), NoMemory>
-    ensures text { OnOk result (text.new.items ≡ text.old.items ++ flat_map router_text routers.now) }
+    ensures text { OnOk result (text.new.items ≡ text.old.items ++ flat_map (router_text Second) routers.now) }
     ensures rules { OnOk result (AllByRecursion HasLawfulParts routers.now) }
 {
     for router in routers {
@@ -247,13 +257,14 @@ fn room_for(routers: &[RouterConfig]) -> usize {
     lines.saturating_mul(LINE_BYTES)
 }
 
-/// The text of a configuration. It spells this configuration, and no text spells two.
+/// The text of a configuration, in the second edition. It spells this configuration, and no text spells two.
 pub fn print_config(alloc: Global, config: &Config) -> Result<Vec<u8>, NoMemory>
     ensures text { IfOk result (λ v. v.items ≡ config_text config.now) }
     ensures spells { IfOk result (λ v. Spells v.items config.now) }
 {
     let mut text = Vec::with_capacity(alloc, room_for(config.routers()))?;
-    push_bytes(&mut text, b"propane-config 1\n")?;
+    push_bytes(&mut text, Edition::Second.first_line())?;
+    push_bytes(&mut text, b"\n")?;
     push_classes(&mut text, config.classes())?;
     push_routers(&mut text, config.routers())?;
     Ok(text)

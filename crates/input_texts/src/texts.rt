@@ -3,7 +3,8 @@ ghost use Rattle.std.specs.Prelude.{◌<◌, length, IfOk};
 ghost use Rattle.path_words.specs.Policies.{IsPolicyOf, policy_of};
 ghost use Rattle.policy_parser.specs.Spelled.{spelled as policy_spelled};
 ghost use Rattle.case_law.specs.Cases.{OriginsAreRouters};
-ghost use Rattle.config_reader.specs.Text.{spelled as config_spelled};
+ghost use Rattle.config_lines.specs.declared.edition.Edition.TheVariants.{First};
+ghost use Rattle.config_reader.specs.Text.{spelled_in, spelled as config_spelled};
 ghost use Rattle.evidence_text.specs.Spelled.{spelled as evidence_spelled};
 ghost use Rattle.scenario_text.specs.Spelled.{spelled as scenario_spelled};
 ghost use Rattle.input_texts.specs.Texts.{IsNetOr, IsPolicyOr, IsConfigOr, IsEvidenceOr, IsScenarioOr};
@@ -14,7 +15,7 @@ use crate::fault_lines::{
     topology_fault_line,
 };
 use config_base::Config;
-use config_reader::{ConfigFault, read_config};
+use config_reader::{ConfigFault, read_config, read_config_1};
 use evidence_base::Evidence;
 use evidence_text::{EvidenceFault, read_evidence};
 use net_base::Net;
@@ -63,6 +64,21 @@ pub fn config_for(alloc: Global, config: &[u8]) -> Result<Config, Stop>
     ensures { IsConfigOr (config_spelled config.now) result }
 {
     match read_config(alloc, config) {
+        Ok(config) => Ok(config),
+        Err(ConfigFault::NoMemory) => Err(Stop::NoMemory),
+        Err(fault) => {
+            let line = config_fault_line(alloc, &fault)?;
+            Err(Stop::Line(Status::BadInput, line))
+        }
+    }
+}
+
+/// The configuration that the bytes spell as a text of the first edition, or why the run stops.
+pub fn config_1_for(alloc: Global, config: &[u8]) -> Result<Config, Stop>
+    requires { length config.now < 4294967295 }
+    ensures { IsConfigOr (spelled_in First config.now) result }
+{
+    match read_config_1(alloc, config) {
         Ok(config) => Ok(config),
         Err(ConfigFault::NoMemory) => Err(Stop::NoMemory),
         Err(fault) => {

@@ -16,3 +16,4 @@ pub mod Sites
 pub mod Links
 pub mod Neighbours
 pub mod SiteNumbers
+pub mod NumberRanges

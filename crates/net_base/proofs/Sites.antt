@@ -12,6 +12,7 @@ use Rattle.list_laws.proofs.Each.{AllByRecursion_at}
 use Rattle.list_laws.proofs.Tests.{list_any_parts}
 use Rattle.net_base.specs.declared.net.Site.{Site}
 use Rattle.net_base.specs.Numbers.{is_router_as, is_peer_as}
+use Rattle.net_base.proofs.NumberRanges.{router_as-range, peer_as-range}
 use Rattle.net_base.specs.Network.{PlainNet, IsNet, sites, site_of, asn_of, is_location, is_peer}
 
 -- ---- numbers
@@ -32,12 +33,11 @@ asn_positive : (net : PlainNet) (l : ℕ) (s : Site) → IsNet net → site_of n
 asn_positive net l s rules at = elim (cases_lt l (length net.routers)) [
   | inl t ↦
       let range = AllByRecursion_at (λ (r : Site). IsTrue (is_router_as r.asn)) net.routers l s rules.router_asns (from_front net.routers net.peers l s at t) in
-      let least = leb-true 64512 s.asn (and_parts (nat_le 64512 s.asn) (nat_le s.asn 65534) range).0 in
-      omega (arith, least)
+      omega (arith, (router_as-range s.asn range).0)
   | inr t ↦
       let there = from_behind net.routers net.peers l s at t in
       let range = AllByRecursion_at (λ (r : Site). IsTrue (is_peer_as r.asn)) net.peers there.0 s rules.peer_asns there.1 in
-      leb-true 1 s.asn (and_parts (nat_le 1 s.asn) (nat_le s.asn 65534) range).0
+      (peer_as-range s.asn range).0
 ]
 
 -- a location is told by its number, also from what is no location

@@ -34,7 +34,5 @@ pub const ALTERNATIVES: u64 = 64;
 pub const NODES: u64 = 4_096;
 /// Steps over all cases before pruning.
 pub const STEPS: u64 = 131_072;
-/// Nodes of a router over all cases.
-pub const TAGS: u64 = 65_535;
 /// Events of an event list.
 pub const EVENTS: u64 = 65_536;

@@ -12,6 +12,7 @@ use Rattle.net_base.specs.Locations.{numbers_below}
 use Rattle.net_base.specs.NameRule.{is_name}
 use Rattle.net_base.specs.Network.{sites}
 use Rattle.net_base.specs.Numbers.{is_router_as, is_peer_as}
+use Rattle.net_base.proofs.NumberRanges.{router_as-two_octets, peer_as-two_octets}
 use Rattle.net_base.specs.declared.net.Site.{Site}
 use Rattle.net_sample.specs.Network.{leaf, peer, sample_net, spine}
 use Rattle.net_sample.proofs.Below.{across_below, distinct_append, distinct_below, each_below}
@@ -81,18 +82,15 @@ routers_named n few =
 pub peers_named : AllByRecursion IsNamed (map peer (numbers_below 2))
 peers_named = each_below IsNamed peer 2 peer_named
 
-within : (least most a : ℕ) → least ≤ a → a ≤ most → (nat_le least a && nat_le a most) ≡ true
-within least most a low high = rw (le-leb least a low, le-leb a most high) refl
-
 pub router_numbers : (n : ℕ) → n ≤ 96 → AllByRecursion (λ (s : Site). IsTrue (is_router_as s.asn)) (map leaf (numbers_below n) ++ map (spine n) (numbers_below 4))
 router_numbers n few =
     let P = λ (s : Site). IsTrue (is_router_as s.asn) in
     AllByRecursion-append P (map leaf (numbers_below n)) (map (spine n) (numbers_below 4))
-    (each_below P leaf n (λ k low. within 64512 65534 (64512 + k) (omega arith) (omega (arith, few, low))))
-    (each_below P (spine n) 4 (λ k low. within 64512 65534 (64512 + n + k) (omega arith) (omega (arith, few, low))))
+    (each_below P leaf n (λ k low. router_as-two_octets (64512 + k) (omega arith) (omega (arith, few, low))))
+    (each_below P (spine n) 4 (λ k low. router_as-two_octets (64512 + n + k) (omega arith) (omega (arith, few, low))))
 
 pub peer_numbers : AllByRecursion (λ (s : Site). IsTrue (is_peer_as s.asn)) (map peer (numbers_below 2))
-peer_numbers = each_below (λ (s : Site). IsTrue (is_peer_as s.asn)) peer 2 (λ k low. within 1 65534 (1001 + k) (omega arith) (omega (arith, low)))
+peer_numbers = each_below (λ (s : Site). IsTrue (is_peer_as s.asn)) peer 2 (λ k low. peer_as-two_octets (1001 + k) (omega arith) (omega (arith, low)))
 
 abbrev HasId : Site → Type 0
 HasId s = (s.id ≢ 0) × (s.id < 2 ^ 32)

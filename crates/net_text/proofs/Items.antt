@@ -1,9 +1,7 @@
 -- Items that are written one after another.
-use Rattle.std.proofs.Common.{◌≡◌, ℕ, zero, suc, ◌+◌, ◌<◌, ◌≤◌, true, List, [], ◌∷◌, ◌++◌, length, map, take, drop, subst, get_or, Result, Ok, Err, refl, sym, ap, ◌∙◌, append-nil, append_assoc, add-one, drop-cons, arith}
+use Rattle.std.proofs.Common.{◌≡◌, ℕ, List, [], ◌∷◌, ◌++◌, map, Result, Ok, Err, refl, sym, ap, ◌∙◌, append-nil, append_assoc}
 use Rattle.std.specs.Prelude.{codes, nat_lt, OnOk, ⊤}
 use Rattle.std.specs.Fmt.{decimal}
-use Rattle.std.proofs.lemmas.Bool.{lt-ltb}
-use Rattle.std.proofs.lemmas.List.{drop_all}
 use Rattle.json.specs.Print.{escape_byte}
 use Rattle.json_words.specs.Json.{array_of}
 use Rattle.net_base.specs.Network.{PlainNet}
@@ -12,7 +10,7 @@ use Rattle.text_words.specs.Texts.{address_text}
 use Rattle.net_text.specs.NetText.{link_data, name_at, net_data, net_text, site_data}
 use Rattle.serde_json.specs.Data.{Data, string}
 use Rattle.serde_json.specs.View.{items_of}
-use Rattle.serde_json.specs.Written.{comma_if, compact_text, items_text}
+use Rattle.serde_json.specs.Written.{compact_text, items_text}
 
 -- the items from a place on, with a comma before each but the first of all
 abbrev pub rest_text : ℕ → List Data → List ℕ

@@ -1,28 +1,27 @@
 -- What is written of a network keeps the rules of topologies, and is that network.
-use Rattle.std.proofs.Common.{◌≡◌, ℕ, ◌+◌, ◌<◌, ◌≤◌, List, [], ◌∷◌, ◌++◌, length, map, take, drop, Option, Some, None, Result, Ok, Err, Bool, true, false, ◌||◌, ◌&&◌, refl, sym, ap, ◌∙◌, arith, map-id, append-nil, append_assoc, length-append, length-take-le, true≢false, eq-eqb, subst}
+use Rattle.std.proofs.Common.{◌≡◌, ℕ, ◌+◌, ◌<◌, List, [], ◌∷◌, ◌++◌, length, map, take, drop, Option, Some, None, Result, Ok, Err, Bool, true, false, ◌||◌, ◌&&◌, refl, sym, ap, ◌∙◌, arith, map-id, append-nil, append_assoc, length-append, length-take-le, true≢false, eq-eqb, subst}
 use Rattle.std.specs.Prelude.{⊤, IsTrue, ◌==◌, nat_eq, nat_lt, nat_le, fold, option_map, position, slice_get}
-use Rattle.std.specs.List.{list_any, AllByRecursion, IsDistinct}
+use Rattle.std.specs.List.{AllByRecursion, IsDistinct}
 use Rattle.std.specs.Str.{bytes_eq}
 use Rattle.std.proofs.lemmas.Bool.{le-leb, lt-ltb, ltb-true, lt-leb, eqb-true, and_parts}
 use Rattle.std.proofs.lemmas.List.{map-append, length-map, take-append-drop}
 use Rattle.std.proofs.lemmas.Option.{slice_get-map}
 use Rattle.list_laws.proofs.Changed.{map-map}
-use Rattle.list_laws.proofs.Each.{AllByRecursion-append, AllByRecursion-push, list_any_breaks, AllByRecursion_at}
+use Rattle.list_laws.proofs.Each.{AllByRecursion-push, list_any_breaks}
 use Rattle.list_laws.proofs.Items.{slice_get_inside, drop_from}
 use Rattle.list_laws.proofs.Keys.{others_before}
 use Rattle.list_laws.proofs.Positions.{position-there, list_any-at_position}
 use Rattle.list_laws.proofs.Texts.{bytes_eq_self, bytes_eq_apart}
-use Rattle.net_base.specs.NameRule.{is_name}
-use Rattle.net_base.specs.Network.{PlainNet, IsNet, IsLink, IsBefore, Ascend, is_before, ordered, same_ends, sites}
-use Rattle.net_base.specs.Steps.{◌>>=◌, or_fault, each_from}
+use Rattle.net_base.specs.Network.{PlainNet, IsNet, IsLink, IsBefore, Ascend, is_before, same_ends, sites}
+use Rattle.net_base.specs.Steps.{each_from}
 use Rattle.net_base.specs.declared.net.Site.{Site}
 use Rattle.net_base.specs.declared.place.Kind.{Kind}
 use Rattle.net_base.specs.declared.place.Kind.TheVariants as kind
 use Rattle.topology.specs.declared.fault.TopoFault.{TopoFault}
 use Rattle.topology.specs.declared.fault.TopoFault.TheVariants.{LinkTwice, SelfLink, PeerLink}
 use Rattle.topology.specs.declared.sites.Number.TheVariants as which
-use Rattle.topology.specs.Rules.{all_unlike, no_fault, named, site_of, is_lawful_as, joined, put, ascending, links_differ, ends_differ, routers_linked, links_of, counted, names_differ, numbers_differ, names_of, judged}
-use Rattle.topology.specs.Shape.{each, Entry, Topology}
+use Rattle.topology.specs.Rules.{no_fault, named, site_of, is_lawful_as, joined, put, ascending, links_differ, ends_differ, routers_linked, links_of, counted, names_differ, numbers_differ, names_of, judged}
+use Rattle.topology.specs.Shape.{each, Entry}
 use Rattle.topology.proofs.EntryFaults.{names_break, asns_break, ids_break}
 use Rattle.topology.proofs.Networks.{judged-links}
 use Rattle.topology.proofs.Outcomes.{all_unlike-breaks, all_nothing}

@@ -1,6 +1,6 @@
 -- The value of a network's text has the shape of a topology.
-use Rattle.std.proofs.Common.{◌≡◌, ℕ, ◌+◌, ◌<◌, ◌≤◌, ◌^◌, List, [], ◌∷◌, ◌++◌, length, map, Some, Result, Ok, refl, sym, ap, ◌∙◌, arith}
-use Rattle.std.specs.Prelude.{IsTrue, ◌==◌, ◌≢◌, codes}
+use Rattle.std.proofs.Common.{◌≡◌, ℕ, ◌+◌, ◌<◌, ◌≤◌, ◌^◌, List, [], ◌∷◌, map, Result, Ok, refl, ap, arith}
+use Rattle.std.specs.Prelude.{IsTrue, ◌≢◌}
 use Rattle.std.specs.List.{AllByRecursion}
 use Rattle.std.proofs.lemmas.Bool.{ne_eqb}
 use Rattle.json.proofs.Printed.Utf8.{IsUtf8-are_ascii}
@@ -9,14 +9,13 @@ use Rattle.json_words.specs.Plain.{IsPlain, ArePlain}
 use Rattle.serde_json.specs.Data.{Data, items_depth, depth}
 use Rattle.serde_json.specs.View.{items_of}
 use Rattle.serde_json.proofs.OnLiterals.{serde_json_on_literals}
-use Rattle.list_laws.proofs.Each.{AllByRecursion-both}
 use Rattle.net_base.specs.NameRule.{is_name}
 use Rattle.net_base.specs.Network.{PlainNet}
 use Rattle.net_base.specs.Steps.{each_from}
 use Rattle.net_base.specs.declared.net.Site.{Site}
 use Rattle.topology.specs.declared.fault.TopoFault.{TopoFault}
 use Rattle.topology.specs.Shape.{each, Entry, Ends, Topology, entry_of, ends_of, shape_of}
-use Rattle.net_text.specs.NetText.{HaveNames, name_at, site_data, link_data, net_data}
+use Rattle.net_text.specs.NetText.{name_at, site_data, link_data, net_data}
 use Rattle.net_text.proofs.Identifiers.{address_there}
 use Rattle.net_text.proofs.Letters.{simple_name, simple_address, utf8_simple}
 
@@ -34,7 +33,7 @@ topology_of net = record { routers = map site_entry net.routers; peers = map sit
 -- a site whose text is read again
 pub record IsWritten (s : Site) : Type 0 where
   pub name : IsTrue (is_name s.name)
-  pub asn : s.asn < 65536
+  pub asn : s.asn < 2 ^ 32
   pub id : (s.id ≢ 0) × (s.id < 2 ^ 32)
 
 -- ---- the shape

@@ -1,16 +1,15 @@
--- Prefixes, patterns, tags and names at the front of a text are read in one way only.
+-- Prefixes, patterns and names at the front of a text are read in one way only.
 use Rattle.std.proofs.Common.{◌≡◌, ℕ, ◌^◌, ◌<◌, List, [], ◌∷◌, ◌++◌, length, Bool, true, false, refl, sym, ap, ap₂, ◌∙◌, arith, append_assoc}
 use Rattle.std.specs.Prelude.{◌&&◌, ◌==◌, not, nat_le, slice_index, IsTrue, codes, if◌then◌else◌}
 use Rattle.std.specs.List.{list_all}
 use Rattle.std.specs.Fmt.{decimal}
 use Rattle.std.proofs.lemmas.Bool.{and_parts, eqb-true}
 use Rattle.std.proofs.lemmas.List.{append_cancel_left}
-use Rattle.net_base.specs.declared.numbers.Tag.{Tag}
 use Rattle.net_base.specs.Addresses.{is_figure}
 use Rattle.net_base.specs.NameRule.{is_name, is_name_byte, is_letter, is_reserved}
 use Rattle.net_base.specs.Prefixes.{PlainPrefix, PlainPattern, IsPrefix, IsPattern}
-use Rattle.text_words.specs.Ends.{stops, ends_pattern, IsShort}
-use Rattle.text_words.specs.Texts.{address_text, prefix_text, pattern_text, tag_text}
+use Rattle.text_words.specs.Ends.{stops, ends_pattern}
+use Rattle.text_words.specs.Texts.{address_text, prefix_text, pattern_text}
 use Rattle.text_words.proofs.Words.{word_cut, number_cut, address_cut, after}
 
 -- a name's bytes are name bytes
@@ -79,14 +78,3 @@ pattern_cut t u rest more ht hu hr hm e =
     let last = upto_cut b c t.upto u.upto rest more (omega (arith, ht.most)) (omega (arith, hu.most)) hr hm base.1 in
     let same : t.upto ≡ u.upto = same_upto b t.upto u.upto t.base.len refl (ap (λ (p : PlainPrefix). u.upto == p.len) base.0 ∙ sym last.0) last.1.0 in
     (ap₂ (λ (p : PlainPrefix) (n : ℕ). let r : PlainPattern = record { base = p; upto = n } in r) base.0 same, last.1.1)
-
-tag_parts : (t : Tag) (rest : List ℕ) → tag_text t ++ rest ≡ decimal t.asn ++ (58 ∷ (decimal t.value ++ rest))
-tag_parts t rest = simp append_assoc refl
-
-pub tag_cut : (t u : Tag) (rest more : List ℕ) → IsShort t → IsShort u → stops is_figure rest ≡ true → stops is_figure more ≡ true
-    → tag_text t ++ rest ≡ tag_text u ++ more → (t ≡ u) × (rest ≡ more)
-tag_cut t u rest more ht hu hr hm e =
-    let parts = sym (tag_parts t rest) ∙ e ∙ tag_parts u more in
-    let a = number_cut t.asn u.asn _ _ (omega (arith, ht.asn)) (omega (arith, hu.asn)) refl refl parts in
-    let b = number_cut t.value u.value rest more (omega (arith, ht.value)) (omega (arith, hu.value)) hr hm (after 58 _ _ a.1) in
-    (ap₂ (λ (m n : ℕ). let r : Tag = record { asn = m; value = n } in r) a.0 b.0, b.1)

@@ -14,14 +14,14 @@ use Rattle.text_words.specs.Texts.{prefix_text}
 use Rattle.text_words.proofs.Numbers.{all_pass, figure_range, small_number-decimal, list_all-is_figure}
 
 -- no byte of these is the other
-abbrev have_no : ℕ → List ℕ → Bool
+abbrev pub have_no : ℕ → List ℕ → Bool
 have_no sign bs = list_all (λ b. not (b == sign)) bs
 
 drop_past : (a b : List ℕ) (sign : ℕ) → drop (length a + 1) (a ++ sign ∷ b) ≡ b
 drop_past [] b sign = refl
 drop_past (x ∷ a) b sign = let next : length (x ∷ a) + 1 ≡ suc (length a + 1) = omega arith in rw next (drop_past a b sign)
 
-cut_at-there : (sign : ℕ) (a b : List ℕ) → have_no sign a ≡ true → cut_at sign (a ++ sign ∷ b) ≡ Some (a, b)
+pub cut_at-there : (sign : ℕ) (a b : List ℕ) → have_no sign a ≡ true → cut_at sign (a ++ sign ∷ b) ≡ Some (a, b)
 cut_at-there sign a b none =
     let stop : prefix_len (λ x. not (x == sign)) (sign ∷ b) ≡ 0 = rw (eq-eqb sign sign refl) refl in
     let place : position_or_len (λ x. x == sign) (a ++ sign ∷ b) ≡ length a = all_pass (λ x. not (x == sign)) a (sign ∷ b) none stop in

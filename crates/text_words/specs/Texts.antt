@@ -1,8 +1,7 @@
--- How addresses, prefixes, patterns and tags are written.
+-- How addresses, prefixes and patterns are written.
 use Rattle.std.specs.Prelude.{ℕ, ◌/◌, ◌%◌, ◌==◌, List, ◌++◌, codes, if◌then◌else◌}
 use Rattle.std.specs.Fmt.{decimal}
 use Rattle.net_base.specs.Prefixes.{PlainPrefix, PlainPattern}
-use Rattle.net_base.specs.declared.numbers.Tag.{Tag}
 use Rattle.net_base.specs.declared.place.Place.{Place}
 
 -- four decimal numbers joined by dots, the highest byte first
@@ -16,9 +15,6 @@ prefix_text p = address_text p.bits ++ codes "/" ++ decimal p.len
 -- with the greatest length after it where that isn't its base's own
 abbrev pub pattern_text : PlainPattern → List ℕ
 pattern_text t = if t.upto == t.base.len then prefix_text t.base else prefix_text t.base ++ codes " le " ++ decimal t.upto
-
-abbrev pub tag_text : Tag → List ℕ
-tag_text t = decimal t.asn ++ codes ":" ++ decimal t.value
 
 -- a word after a space
 abbrev pub word_text : List ℕ → List ℕ

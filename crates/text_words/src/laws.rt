@@ -4,9 +4,8 @@ ghost use Rattle.std.specs.Fmt.{decimal};
 ghost use Rattle.net_base.specs.Addresses.{is_figure};
 ghost use Rattle.net_base.specs.Prefixes.{PlainPrefix, PlainPattern, IsPrefix, IsPattern};
 ghost use Rattle.net_base.specs.PrefixText.{prefix_spelled};
-ghost use Rattle.net_base.specs.declared.numbers.Tag.{Tag};
-ghost use Rattle.text_words.specs.Ends.{stops, ends_pattern, IsShort};
-ghost use Rattle.text_words.specs.Texts.{address_text, prefix_text, pattern_text, tag_text};
+ghost use Rattle.text_words.specs.Ends.{stops, ends_pattern};
+ghost use Rattle.text_words.specs.Texts.{address_text, prefix_text, pattern_text};
 
 /// The text of a prefix spells that prefix.
 pub fn prefixes_are_read_again()
@@ -24,6 +23,4 @@ pub fn texts_are_cut_one_way()
         → prefix_text p ++ rest ≡ prefix_text q ++ more → (p ≡ q) × (rest ≡ more) }
     ensures patterns { (t u : PlainPattern) (rest more : List ℕ) → IsPattern t → IsPattern u → ends_pattern rest ≡ true → ends_pattern more ≡ true
         → pattern_text t ++ rest ≡ pattern_text u ++ more → (t ≡ u) × (rest ≡ more) }
-    ensures tags { (t u : Tag) (rest more : List ℕ) → IsShort t → IsShort u → stops is_figure rest ≡ true → stops is_figure more ≡ true
-        → tag_text t ++ rest ≡ tag_text u ++ more → (t ≡ u) × (rest ≡ more) }
 {}

@@ -1,15 +1,15 @@
-//! How numbers, addresses, prefixes and tags are written. Each `push_` function adds a text to the end of another.
+//! How numbers, addresses and prefixes are written. Each `push_` function adds a text to the end of another.
 #![tactic(auto)]
 
 ghost use Rattle.std.specs.Prelude.{◌≡◌, ◌++◌, ◌^◌, ◌<◌, IsTrue, OnOk};
 ghost use Rattle.std.specs.Fmt.{decimal};
 ghost use Rattle.net_base.specs.NameRule.{is_name};
 ghost use Rattle.net_base.specs.Prefixes.{IsPrefix, IsPattern};
-ghost use Rattle.text_words.specs.Texts.{address_text, prefix_text, pattern_text, tag_text, word_text, place_text, at_place};
+ghost use Rattle.text_words.specs.Texts.{address_text, prefix_text, pattern_text, word_text, place_text, at_place};
 
 pub mod laws;
 
-use net_base::{Name, Pattern, Place, Prefix, Tag};
+use net_base::{Name, Pattern, Place, Prefix};
 use outside::NoMemory;
 
 /// Adds bytes.
@@ -71,15 +71,6 @@ pub fn push_pattern(text: &mut Vec<u8>, pattern: Pattern) -> Result<(), NoMemory
     }
     push_bytes(text, b" le ")?;
     push_number(text, u64::from(pattern.upto()))
-}
-
-/// Adds a tag: its AS number, `:` and its value, as communities are written (RFC 1997).
-pub fn push_tag(text: &mut Vec<u8>, tag: Tag) -> Result<(), NoMemory>
-    ensures { OnOk result (text.new.items ≡ text.old.items ++ tag_text tag) }
-{
-    push_number(text, u64::from(tag.asn))?;
-    push_bytes(text, b":")?;
-    push_number(text, u64::from(tag.value))
 }
 
 /// Adds a word after a space.

@@ -18,7 +18,8 @@ pub enum TopoFault {
     BadName(Kind, u32),
     /// The name stands twice over routers and peers.
     Twice(Name),
-    /// The AS number is out of range: from 64512 to 65534 for a router (RFC 6996), from 1 to 65534 for a peer.
+    /// The AS number is out of range: from 64512 to 65534 or from 4200000000 to 4294967294 for a router (RFC 6996), from 1
+    /// to 65534 or from 65536 to 4294967294 for a peer.
     AsRange(Name),
     /// Both have the same AS number. The earlier one stands first.
     AsTwice(Name, Name),

@@ -1,10 +1,16 @@
-use Rattle.std.proofs.Common.{◌≡◌, ◌++◌, ◌∷◌, [], ◌+◌, ◌∙◌, take, sym, ap, subst, rules}
+use Rattle.std.proofs.Common.{◌≡◌, List, ◌++◌, ◌∷◌, [], ◌+◌, ◌∙◌, length, take, sym, ap, subst, rules}
 use Rattle.std.proofs.lemmas.List.{take_more, take_all}
+use Rattle.graph_base.specs.declared.graph.Node.{Node}
 use Rattle.graph_base.specs.Graphs.{PlainGraph}
-use Rattle.community_assign.specs.Counts.{HasCounts}
-use Rattle.community_assign.specs.Tagging.{tags_after, tags_of, all_nodes, IsRoomy}
-use Rattle.community_assign.proofs.Tallies.{nodes-snoc, graph_tags-step, roomy-graphs}
+use Rattle.community_assign.specs.Counts.{HasCounts, HaveRoom}
+use Rattle.community_assign.specs.Tagging.{tags_after, tags_of, all_nodes}
+use Rattle.community_assign.proofs.Tallies.{nodes-snoc, graph_tags-step, room-graphs}
 use Rattle.community_assign.proofs.assign.graph_tags.Goals as goal
+
+pub node_tags-requires-clause-room : goal.node_tags-requires-clause-room
+node_tags-requires-clause-room c =
+    subst (λ (ns : List Node). HaveRoom c.loop-graph.counts (length ns)) (sym c.nodes.ensures.nodes)
+    (room-graphs c.loop-graph.counts c.args.graphs.now c.loop-graph.graph-index c.graph-item.result c.loop-graph-test.true c.graph-item.is c.loop-graph.invariant.counts c.requires.few)
 
 pub loop-graph-preserved : goal.loop-graph-preserved
 loop-graph-preserved c =
@@ -16,14 +22,11 @@ loop-graph-preserved c =
     record {
       counters = search rules;
       counts = subst (HasCounts c.node_tags.new.counts) (sym nodes_more) (c.in_ok-node_tags.ensures.counts (all_nodes graphs) c.loop-graph.invariant.counts);
-      tags = λ room.
+      tags =
           c.in_ok-push.ensures.ok
-          ∙ graph_tags-step c.args.net.now graphs more c.graph-item.result c.loop-graph.tags c.in_ok-node_tags.field-0 is_more
-          (c.loop-graph.invariant.tags (roomy-graphs c.args.net.now graphs more c.graph-item.result is_more room))
-          (c.in_ok-node_tags.ensures.tags (all_nodes graphs) c.loop-graph.invariant.counts (subst (IsRoomy c.args.net.now) nodes_more room) ∙ ap (tags_after c.args.net.now (all_nodes graphs)) nodes_are);
+          ∙ graph_tags-step c.args.net.now graphs more c.graph-item.result c.loop-graph.tags c.in_ok-node_tags.field-0 is_more c.loop-graph.invariant.tags
+          (c.in_ok-node_tags.ensures.tags (all_nodes graphs) c.loop-graph.invariant.counts ∙ ap (tags_after c.args.net.now (all_nodes graphs)) nodes_are);
     }
 
-pub returns-clause-tags : goal.returns-clause-tags
-returns-clause-tags c =
-    let all : take c.loop-graph.graph-index c.args.graphs.now ≡ c.args.graphs.now = take_all c.loop-graph.graph-index c.args.graphs.now c.loop-graph-test.false in
-    λ room. c.loop-graph.invariant.tags (subst (λ gs. IsRoomy c.args.net.now (all_nodes gs)) (sym all) room) ∙ ap (tags_of c.args.net.now) all
+pub returns : goal.returns
+returns c = c.loop-graph.invariant.tags ∙ ap (tags_of c.args.net.now) (take_all c.loop-graph.graph-index c.args.graphs.now c.loop-graph-test.false)

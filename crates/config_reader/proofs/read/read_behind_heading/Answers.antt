@@ -1,4 +1,4 @@
-use Rattle.std.proofs.Common.{◌<◌, arith, length, map}
+use Rattle.std.proofs.Common.{◌<◌, length, map}
 use Rattle.std.proofs.lemmas.List.{length-map}
 use Rattle.config_reader.proofs.ReadTexts.{behind_lawful}
 use Rattle.config_reader.proofs.read.read_behind_heading.Goals as goal
@@ -6,4 +6,4 @@ use Rattle.config_reader.proofs.read.read_behind_heading.Goals as goal
 pub finish-requires : goal.finish-requires
 finish-requires c = λ none.
     let few : length (map (λ l. l.now) c.args.more.now) < 4294967295 = rw (length-map c.args.more.now (λ l. l.now)) c.requires.few in
-    (behind_lawful (map (λ l. l.now) c.args.more.now) c.in_ok-reading.reading few c.in_ok-reading.ensures none).rules
+    (behind_lawful c.args.edition (map (λ l. l.now) c.args.more.now) c.in_ok-reading.reading few c.in_ok-reading.ensures none).rules

@@ -5,9 +5,9 @@ use Rattle.config_reader.proofs.read.read_lines.Goals as goal
 pub loop-bytes-preserved : goal.loop-bytes-preserved
 loop-bytes-preserved c =
     let before = c.loop-bytes.invariant in
-    let more = with_line-classes c.loop-bytes.number c.loop-bytes.reading c.in_ok-reading.reading _ c.in_ok-reading.ensures in
-    let few : length c.in_ok-reading.reading.classes ≤ c.loop-bytes.bytes-index + 1 = omega (arith, before.1, more) in (
+    let more = with_line-classes c.args.edition c.loop-bytes.number c.loop-bytes.reading c.in_ok-reading.reading _ c.in_ok-reading.ensures in
+    let few : length c.in_ok-reading.reading.classes ≤ c.loop-bytes.bytes-index + 1 = omega (arith, before.1, more.1) in (
       omega (arith, before.0),
       few,
-      loop_step c.args.lines.now c.loop-bytes.bytes-index _ c.loop-bytes.number c.loop-bytes.reading c.in_ok-reading.reading _ c.loop-bytes-test.true c.in_ok-reading.ensures before.2,
+      loop_step c.args.edition c.args.lines.now c.loop-bytes.bytes-index _ c.loop-bytes.number c.loop-bytes.reading c.in_ok-reading.reading _ c.loop-bytes-test.true c.in_ok-reading.ensures before.2,
     )

@@ -1,5 +1,5 @@
 use Rattle.text_words.proofs.Words.{number_cut, address_cut}
-use Rattle.text_words.proofs.Pieces.{prefix_cut, pattern_cut, tag_cut}
+use Rattle.text_words.proofs.Pieces.{prefix_cut, pattern_cut}
 use Rattle.text_words.proofs.laws.texts_are_cut_one_way.Goals as goal
 
 pub returns-clause-numbers : goal.returns-clause-numbers
@@ -13,6 +13,3 @@ returns-clause-prefixes c = prefix_cut
 
 pub returns-clause-patterns : goal.returns-clause-patterns
 returns-clause-patterns c = pattern_cut
-
-pub returns-clause-tags : goal.returns-clause-tags
-returns-clause-tags c = tag_cut

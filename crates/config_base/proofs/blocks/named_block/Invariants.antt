@@ -3,7 +3,7 @@ use Rattle.std.specs.List.{find, AllByRecursion}
 use Rattle.net_base.specs.Network.{is_named}
 use Rattle.config_base.specs.declared.config.RouterConfig.{RouterConfig}
 use Rattle.config_base.specs.Configs.{IsRouter}
-use Rattle.config_base.proofs.blocks.router_block.Given as goal
+use Rattle.config_base.proofs.blocks.named_block.Given as goal
 
 abbrev pub invariant-loop-block : goal.invariant-loop-block
 invariant-loop-block l = record {
