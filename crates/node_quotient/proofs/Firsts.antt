@@ -1,11 +1,92 @@
 -- The classes with which the search begins.
-use Rattle.std.proofs.Common.{◌≡◌, ℕ, ◌+◌, ◌<◌, ◌≤◌, List, [], ◌∷◌, ◌++◌, length, sym, ap, ◌∙◌, subst, inl, inr, arith}
-use Rattle.std.proofs.lemmas.Bool.{cases_eq}
+use Rattle.std.proofs.Common.{◌≡◌, ℕ, zero, suc, ◌+◌, ◌<◌, ◌≤◌, true, nat_eq, List, [], ◌∷◌, ◌++◌, Option, None, Some, option_map, length, map, refl, sym, ap, ◌∙◌, subst, inl, inr, arith}
+use Rattle.std.specs.Prelude.{All, slice_get, slice_index_or, unwrap_or}
+use Rattle.std.specs.List.{find}
+use Rattle.std.specs.Option.{option_eq}
+use Rattle.std.proofs.lemmas.List.{get_or_default, length-map}
+use Rattle.std.proofs.lemmas.Bool.{cases_eq, cases_lt, eq-eqb, eqb-true}
+use Rattle.graph_base.specs.declared.graph.Node.{Node}
 use Rattle.graph_base.specs.Graphs.{PlainGraph}
-use Rattle.node_quotient.specs.Alike.{AreFirstSame, AreSame, class_in}
+use Rattle.graph_base.specs.Runs.{place_of, rank_at}
+use Rattle.reach_prune.specs.Searches.{is_listed}
+use Rattle.node_quotient.specs.Alike.{AreFirstSame, AreNodesAt, AreSame, class_in, has_rank, list_of}
 use Rattle.node_quotient.specs.Rounds.{AreClasses}
+use Rattle.node_quotient.specs.Splits.{AreGroups}
 use Rattle.node_quotient.proofs.Least.{joined_rank}
-use Rattle.node_quotient.proofs.Stages.{class_in-at, class_in-left, length-more}
+use Rattle.node_quotient.proofs.Stages.{class_in-at, class_in-left, found_first, found_none, length-more}
+use Rattle.node_quotient.proofs.Turns.{among_get}
+
+-- each of so many is below the bound
+pub bound_more : (numbers : List ℕ) (i before after : ℕ) → ((k : ℕ) → k < i → slice_index_or numbers k 0 < before) → before ≤ after → slice_index_or numbers i 0 < after → (k : ℕ) → k < i + 1 → slice_index_or numbers k 0 < after
+bound_more numbers i before after h le there k lt = elim (cases_eq k i) [
+  | inl e ↦ subst (λ j. slice_index_or numbers j 0 < after) (sym e) there
+  | inr a ↦ let old = h k (omega (arith, lt, a)) in omega (arith, old, le)
+]
+
+pub bound_all : (numbers : List ℕ) (i bound : ℕ) → length numbers ≤ i → ((k : ℕ) → k < i → slice_index_or numbers k 0 < bound) → All (λ n. n < bound) numbers
+bound_all numbers i bound done h k d lt = let e = get_or_default numbers k d 0 lt in let below = h k (omega (arith, lt, done)) in omega (arith, e, below)
+
+-- the number of a node's location among those of all
+pub place_in : (g : PlainGraph) (n : ℕ) → class_in (map (λ (node : Node). node.loc) g.nodes) n ≡ place_of g n
+place_in g n = go g.nodes n
+  where
+    go : (nodes : List Node) (n : ℕ) → class_in (map (λ (node : Node). node.loc) nodes) n ≡ unwrap_or (option_map (λ (node : Node). node.loc) (slice_get nodes n)) 0
+    go [] n = refl
+    go (x ∷ xs) zero = refl
+    go (x ∷ xs) (suc n) = go xs n
+
+pub place_below : (g : PlainGraph) (places list : List ℕ) (bound : ℕ) → places ≡ map (λ (node : Node). node.loc) g.nodes → list ≡ places → All (λ k. k < bound) list → (n : ℕ) → n < length g.nodes → place_of g n < bound
+place_below g places list bound is e below n lt =
+    let here : list ≡ map (λ (node : Node). node.loc) g.nodes = e ∙ is in
+    let long : length list ≡ length g.nodes = ap length here ∙ length-map g.nodes (λ (node : Node). node.loc) in
+    let at : class_in list n ≡ place_of g n = ap (λ xs. class_in xs n) here ∙ place_in g n in
+    let less = below n 0 (omega (arith, lt, long)) in
+    omega (arith, at, less)
+
+pub located_nodes : (g : PlainGraph) (places list : List ℕ) (lists : List (List ℕ)) → places ≡ map (λ (node : Node). node.loc) g.nodes → list ≡ places → AreGroups (length list) list lists → (l : ℕ) → AreNodesAt g l (list_of lists l)
+located_nodes g places list lists is e are l =
+    let here : list ≡ map (λ (node : Node). node.loc) g.nodes = e ∙ is in
+    let long : length list ≡ length g.nodes = ap length here ∙ length-map g.nodes (λ (node : Node). node.loc) in
+    let at : (n : ℕ) → class_in list n ≡ place_of g n = λ n. ap (λ xs. class_in xs n) here ∙ place_in g n in
+    record {
+      listed = λ n lt place. subst (λ k. is_listed lists k n ≡ true) (at n ∙ place) (are.listed n (omega (arith, lt, long)));
+      only = λ n h. let p = are.only l n h in let less = p.0 in (omega (arith, less, long), sym (at n) ∙ p.1);
+      ascend = are.ascend l;
+    }
+
+same_rank : (a b : Option ℕ) → option_eq nat_eq a b ≡ true → a ≡ b
+same_rank None None h = refl
+same_rank None (Some y) h = absurd (cc)
+same_rank (Some x) None h = absurd (cc)
+same_rank (Some x) (Some y) h = ap Some (eqb-true x y h)
+
+rank_itself : (a b : Option ℕ) → a ≡ b → option_eq nat_eq a b ≡ true
+rank_itself None None h = refl
+rank_itself None (Some y) h = absurd (cc)
+rank_itself (Some x) None h = absurd (cc)
+rank_itself (Some x) (Some y) h = eq-eqb x y (cc)
+
+module _ (g : PlainGraph) (nodes : List ℕ) (node : ℕ) (rank : Option ℕ) (inside : node < length g.nodes) (are : AreNodesAt g (place_of g node) nodes) (is : rank ≡ rank_at g node) where
+  pub nodes_inside : All (λ n. n < length g.nodes) nodes
+  nodes_inside k d lt = (are.only (slice_index_or nodes k d) (among_get nodes k d lt)).0
+
+  itself : has_rank g rank node ≡ true
+  itself = rank_itself (rank_at g node) rank (sym is)
+
+  pub found_same : (f : ℕ) → find (has_rank g rank) nodes ≡ Some f → (f ≤ node) × AreSame g f node × ((m : ℕ) → AreSame g m node → f ≤ m)
+  found_same f h =
+      let r = found_first (has_rank g rank) nodes f are.ascend h in
+      let le = r.2 node (are.listed node inside refl) itself in (
+        le,
+        record { place = (are.only f r.0).1; rank = same_rank (rank_at g f) rank r.1 ∙ is },
+        λ m same. elim (cases_lt m (length g.nodes)) [
+          | inl less ↦ r.2 m (are.listed m less same.place) (rank_itself (rank_at g m) rank (same.rank ∙ sym is))
+          | inr ge ↦ omega (arith, le, inside, ge)
+        ],
+      )
+
+  pub none_same : find (has_rank g rank) nodes ≡ None → ⊥
+  none_same h = found_none (has_rank g rank) nodes h node (are.listed node inside refl) itself
 
 pub same_trans : (g : PlainGraph) (a b c : ℕ) → AreSame g a b → AreSame g b c → AreSame g a c
 same_trans g a b c h k = record { place = h.place ∙ k.place; rank = h.rank ∙ k.rank }

@@ -1,18 +1,18 @@
 -- What the test of two nodes says.
-use Rattle.std.proofs.Common.{◌≡◌, ℕ, Bool, true, false, not, ◌==◌, List, [], ◌∷◌, refl, sym, ap, ◌∙◌, inl, inr}
+use Rattle.std.proofs.Common.{◌≡◌, ℕ, suc, Bool, true, false, not, ◌&&◌, ◌==◌, List, [], ◌∷◌, length, refl, sym, ap, ◌∙◌, inl, inr}
 use Rattle.std.specs.List.{list_any}
 use Rattle.std.proofs.lemmas.Bool.{and_parts, and_from, cases_Bool, or_cases, or_left, or_right, not-true, not_from_false, both_ways, eq-eqb, eqb-true, false_from_ne_true}
 use Rattle.reach_prune.specs.Searches.{is_among}
-use Rattle.node_quotient.specs.Alike.{class_in, list_of, has_class, lacks_class, are_alike}
+use Rattle.node_quotient.specs.Alike.{class_in, list_of, has_class, lacks_class, are_alike, are_in_step}
 
-any_parts : (p : ℕ → Bool) (xs : List ℕ) → list_any p xs ≡ true → (x : ℕ) × (is_among xs x ≡ true) × (p x ≡ true)
+pub any_parts : (p : ℕ → Bool) (xs : List ℕ) → list_any p xs ≡ true → (x : ℕ) × (is_among xs x ≡ true) × (p x ≡ true)
 any_parts p [] h = absurd (cc)
 any_parts p (y ∷ ys) h = elim (or_cases (p y) (list_any p ys) h) [
   | inl t ↦ (y, or_left (y == y) (list_any (λ z. z == y) ys) (eq-eqb y y refl), t)
   | inr t ↦ let r = any_parts p ys t in (r.0, or_right (y == r.0) (list_any (λ z. z == r.0) ys) r.1, r.2)
 ]
 
-any_of : (p : ℕ → Bool) (xs : List ℕ) (x : ℕ) → is_among xs x ≡ true → p x ≡ true → list_any p xs ≡ true
+pub any_of : (p : ℕ → Bool) (xs : List ℕ) (x : ℕ) → is_among xs x ≡ true → p x ≡ true → list_any p xs ≡ true
 any_of p [] x h t = absurd (cc)
 any_of p (y ∷ ys) x h t = elim (or_cases (y == x) (list_any (λ z. z == x) ys) h) [
   | inl e ↦ or_left (p y) (list_any p ys) (ap p (eqb-true y x e) ∙ t)
@@ -65,3 +65,36 @@ alike_trans lists least a b c h k = like_to lists least a c (like_trans lists le
 
 pub alike_refl : (lists : List (List ℕ)) (least : List ℕ) (n : ℕ) → are_alike lists least n n ≡ true
 alike_refl lists least n = like_to lists least n n (record { class = refl; forth = λ x st. (x, st, refl); back = λ x st. (x, st, refl) })
+
+in_step_length : (least ms ns : List ℕ) → are_in_step least ms ns ≡ true → length ms ≡ length ns
+in_step_length least [] [] h = refl
+in_step_length least [] (n ∷ ns) h = absurd (cc)
+in_step_length least (m ∷ ms) [] h = absurd (cc)
+in_step_length least (m ∷ ms) (n ∷ ns) h = ap suc (in_step_length least ms ns (and_parts (class_in least m == class_in least n) _ h).1)
+
+pub lengths_apart : (least ms ns : List ℕ) → (length ms ≡ length ns → ⊥) → are_in_step least ms ns ≡ false
+lengths_apart least ms ns h = false_from_ne_true _ (λ t. h (in_step_length least ms ns t))
+
+in_step_forth : (least ms ns : List ℕ) → are_in_step least ms ns ≡ true → (a : ℕ) → is_among ms a ≡ true → (b : ℕ) × (is_among ns b ≡ true) × (class_in least a ≡ class_in least b)
+in_step_forth least [] ns h a there = absurd (cc)
+in_step_forth least (m ∷ ms) [] h a there = absurd (cc)
+in_step_forth least (m ∷ ms) (n ∷ ns) h a there =
+    let p = and_parts (class_in least m == class_in least n) _ h in
+    elim (or_cases (m == a) (list_any (λ z. z == a) ms) there) [
+      | inl e ↦ (n, or_left (n == n) (list_any (λ z. z == n) ns) (eq-eqb n n refl), ap (class_in least) (sym (eqb-true m a e)) ∙ eqb-true _ _ p.0)
+      | inr r ↦ let f = in_step_forth least ms ns p.1 a r in (f.0, or_right (n == f.0) (list_any (λ z. z == f.0) ns) f.1, f.2)
+    ]
+
+in_step_sym : (least ms ns : List ℕ) → are_in_step least ms ns ≡ true → are_in_step least ns ms ≡ true
+in_step_sym least [] [] h = refl
+in_step_sym least [] (n ∷ ns) h = absurd (cc)
+in_step_sym least (m ∷ ms) [] h = absurd (cc)
+in_step_sym least (m ∷ ms) (n ∷ ns) h =
+    let p = and_parts (class_in least m == class_in least n) _ h in
+    and_from (class_in least n == class_in least m) _ (eq-eqb _ _ (sym (eqb-true _ _ p.0))) (in_step_sym least ms ns p.1)
+
+-- the nodes of lists that are in step are of the same classes
+pub in_step_alike : (least ms ns : List ℕ) → are_in_step least ms ns ≡ true → (not (lacks_class least ms ns) && not (lacks_class least ns ms)) ≡ true
+in_step_alike least ms ns h = and_from (not (lacks_class least ms ns)) _
+    (not_from_false _ (lacked_none least ms ns (in_step_forth least ms ns h)))
+    (not_from_false _ (lacked_none least ns ms (in_step_forth least ns ms (in_step_sym least ms ns h))))

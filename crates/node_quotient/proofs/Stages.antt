@@ -1,24 +1,14 @@
 -- A round that has come some way.
-use Rattle.std.proofs.Common.{◌≡◌, ◌⊎◌, ℕ, zero, suc, ◌<◌, ◌≤◌, Bool, true, false, ◌==◌, List, [], ◌∷◌, ◌++◌, length, find, Some, None, refl, sym, ap, ◌∙◌, subst, inl, inr, arith}
-use Rattle.std.specs.List.{list_any, AllByRecursion}
+use Rattle.std.proofs.Common.{◌≡◌, ◌⊎◌, ℕ, zero, suc, ◌<◌, ◌≤◌, Bool, true, ◌==◌, List, [], ◌∷◌, ◌++◌, length, find, Some, None, refl, sym, ap, ◌∙◌, subst, inl, inr, arith}
+use Rattle.std.specs.List.{list_any}
 use Rattle.std.proofs.lemmas.Bool.{cases_Bool, cases_eq, cases_lt, or_cases, or_left, or_right, cond-true, cond-false, eq-eqb, eqb-true, both_ways, and_parts}
 use Rattle.reach_prune.specs.Searches.{is_among}
-use Rattle.node_quotient.specs.Alike.{class_in, list_of, are_alike, AreFirst}
+use Rattle.node_quotient.specs.Alike.{Ascends, class_in, list_of, are_alike, AreFirst}
+use Rattle.node_quotient.proofs.Ascending.{above_in, among_more, among_new, among_old, ascends_more}
 use Rattle.node_quotient.proofs.Like.{alike_refl, alike_trans}
 
-abbrev pub Ascends : List ℕ → Type 0
-Ascends [] = Unit {0}
-Ascends (x ∷ xs) = AllByRecursion (λ y. x < y) xs × Ascends xs
-
-above_in : (x y : ℕ) (xs : List ℕ) → AllByRecursion (λ z. x < z) xs → is_among xs y ≡ true → x < y
-above_in x y [] all h = absurd (cc)
-above_in x y (z ∷ zs) all h = elim (or_cases (z == y) (list_any (λ w. w == y) zs) h) [
-  | inl e ↦ let is = eqb-true z y e in let lt = all.0 in omega (arith, is, lt)
-  | inr r ↦ above_in x y zs all.1 r
-]
-
 -- what is found first of an ascending list
-found_first : (p : ℕ → Bool) (xs : List ℕ) (f : ℕ) → Ascends xs → find p xs ≡ Some f → (is_among xs f ≡ true) × (p f ≡ true) × ((x : ℕ) → is_among xs x ≡ true → p x ≡ true → f ≤ x)
+pub found_first : (p : ℕ → Bool) (xs : List ℕ) (f : ℕ) → Ascends xs → find p xs ≡ Some f → (is_among xs f ≡ true) × (p f ≡ true) × ((x : ℕ) → is_among xs x ≡ true → p x ≡ true → f ≤ x)
 found_first p [] f asc h = absurd (cc)
 found_first p (y ∷ ys) f asc h = elim (cases_Bool (p y)) [
   | inl t ↦
@@ -44,7 +34,7 @@ found_first p (y ∷ ys) f asc h = elim (cases_Bool (p y)) [
       )
 ]
 
-found_none : (p : ℕ → Bool) (xs : List ℕ) → find p xs ≡ None → (x : ℕ) → is_among xs x ≡ true → p x ≡ true → ⊥
+pub found_none : (p : ℕ → Bool) (xs : List ℕ) → find p xs ≡ None → (x : ℕ) → is_among xs x ≡ true → p x ≡ true → ⊥
 found_none p [] h x there px = absurd (cc)
 found_none p (y ∷ ys) h x there px = elim (cases_Bool (p y)) [
   | inl t ↦
@@ -159,41 +149,6 @@ module _ (lists : List (List ℕ)) (least : List ℕ) (node : ℕ) (founders : L
           ];
           ascends = s.ascends;
         }
-
-  among_more : (xs : List ℕ) (x m : ℕ) → is_among (xs ++ x ∷ []) m ≡ true → (is_among xs m ≡ true) ⊎ (x ≡ m)
-  among_more [] x m h = elim (or_cases (x == m) false h) [
-    | inl e ↦ inr (eqb-true x m e)
-    | inr n ↦ absurd (cc)
-  ]
-  among_more (y ∷ ys) x m h = elim (or_cases (y == m) (list_any (λ w. w == m) (ys ++ x ∷ [])) h) [
-    | inl e ↦ inl (or_left (y == m) (list_any (λ w. w == m) ys) e)
-    | inr r ↦ elim (among_more ys x m r) [
-      | inl t ↦ inl (or_right (y == m) (list_any (λ w. w == m) ys) t)
-      | inr e ↦ inr e
-    ]
-  ]
-
-  among_old : (xs : List ℕ) (x m : ℕ) → is_among xs m ≡ true → is_among (xs ++ x ∷ []) m ≡ true
-  among_old [] x m h = absurd (cc)
-  among_old (y ∷ ys) x m h = elim (or_cases (y == m) (list_any (λ w. w == m) ys) h) [
-    | inl e ↦ or_left (y == m) (list_any (λ w. w == m) (ys ++ x ∷ [])) e
-    | inr r ↦ or_right (y == m) (list_any (λ w. w == m) (ys ++ x ∷ [])) (among_old ys x m r)
-  ]
-
-  among_new : (xs : List ℕ) (x : ℕ) → is_among (xs ++ x ∷ []) x ≡ true
-  among_new [] x = or_left (x == x) false (eq-eqb x x refl)
-  among_new (y ∷ ys) x = or_right (y == x) (list_any (λ w. w == x) (ys ++ x ∷ [])) (among_new ys x)
-
-  all_more : (x y : ℕ) (xs : List ℕ) → AllByRecursion (λ z. x < z) xs → x < y → AllByRecursion (λ z. x < z) (xs ++ y ∷ [])
-  all_more x y [] all l = (l, tt)
-  all_more x y (z ∷ zs) all l = (all.0, all_more x y zs all.1 l)
-
-  ascends_more : (xs : List ℕ) (x : ℕ) → Ascends xs → ((m : ℕ) → is_among xs m ≡ true → m < x) → Ascends (xs ++ x ∷ [])
-  ascends_more [] x asc h = (tt, tt)
-  ascends_more (y ∷ ys) x asc h = (
-    all_more y x ys asc.0 (h y (or_left (y == y) (list_any (λ w. w == y) ys) (eq-eqb y y refl))),
-    ascends_more ys x asc.1 (λ m there. h m (or_right (y == m) (list_any (λ w. w == m) ys) there)),
-  )
 
   module _ (after : List (List ℕ)) (rows : length after ≡ length founders) (same : list_of after (class_in least node) ≡ list_of founders (class_in least node) ++ node ∷ [])
       (others : (c : ℕ) → (c ≡ class_in least node → ⊥) → list_of after c ≡ list_of founders c)

@@ -1,7 +1,7 @@
 //! Nodes that step to the same classes.
-ghost use Rattle.std.specs.Prelude.{◌≡◌, ◌<◌, All, length};
+ghost use Rattle.std.specs.Prelude.{◌≡◌, ◌<◌, ◌&&◌, All, length, not};
 ghost use Rattle.std.specs.List.{find};
-ghost use Rattle.node_quotient.specs.Alike.{AreInside, are_alike, has_class as is_class_in, lacks_class as is_class_lacked};
+ghost use Rattle.node_quotient.specs.Alike.{AreInside, are_alike, are_in_step, has_class as is_class_in, lacks_class as is_class_lacked};
 
 use net_base::List;
 
@@ -32,6 +32,33 @@ fn lacks_class(list: &[u32], other: &[u32], least: &[u32]) -> bool
     false
 }
 
+/// Whether the nodes of two lists are of the same classes one after another.
+fn is_in_step(list: &[u32], other: &[u32], least: &[u32]) -> bool
+    requires list { All (λ n. n < length least.now) list.now }
+    requires other { All (λ n. n < length least.now) other.now }
+    ensures { result ≡ are_in_step least.now list.now other.now }
+{
+    if list.len() != other.len() {
+        return false;
+    }
+    for i in 0..list.len() {
+        if least[list[i] as usize] != least[other[i] as usize] {
+            return false;
+        }
+    }
+    true
+}
+
+/// Whether the nodes of two lists are of the same classes. Where they are so one after another, that is seen at once.
+fn is_same_classes(list: &[u32], other: &[u32], least: &[u32]) -> bool
+    requires list { All (λ n. n < length least.now) list.now }
+    requires other { All (λ n. n < length least.now) other.now }
+    ensures { result ≡ (not (is_class_lacked least.now list.now other.now) && not (is_class_lacked least.now other.now list.now)) }
+{
+    is_in_step(list, other, least)
+        || (!lacks_class(list, other, least) && !lacks_class(other, list, least))
+}
+
 /// Whether two nodes are of one class and step to the same classes.
 fn is_alike(lists: &[List<u32>], least: &[u32], m: u32, n: u32) -> bool
     requires size { length lists.now ≡ length least.now }
@@ -41,14 +68,9 @@ fn is_alike(lists: &[List<u32>], least: &[u32], m: u32, n: u32) -> bool
     ensures { result ≡ are_alike lists.now least.now m n }
 {
     least[m as usize] == least[n as usize]
-        && !lacks_class(
+        && is_same_classes(
             lists[m as usize].as_slice(),
             lists[n as usize].as_slice(),
-            least,
-        )
-        && !lacks_class(
-            lists[n as usize].as_slice(),
-            lists[m as usize].as_slice(),
             least,
         )
 }

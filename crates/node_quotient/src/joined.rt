@@ -3,12 +3,13 @@ ghost use Rattle.std.specs.Prelude.{◌≡◌, ◌≤◌, ◌<◌, ℕ, IfOk, le
 ghost use Rattle.graph_base.specs.Refuting.{HasSingleSteps};
 ghost use Rattle.graph_base.specs.Graphs.{IsGraph, PlainGraph};
 ghost use Rattle.graph_base.specs.Runs.{has_step};
-ghost use Rattle.reach_prune.specs.Searches.{is_listed};
+ghost use Rattle.reach_prune.specs.Searches.{AreLists, is_listed};
 ghost use Rattle.node_quotient.specs.Alike.{AreInside, class_in};
 ghost use Rattle.node_quotient.specs.Quotient.{AreLeast};
 ghost use Rattle.node_quotient.specs.Rounds.{AreClasses};
 
 use crate::first::first_classes;
+use crate::partition::split_classes;
 use crate::round::next_round;
 use graph_base::Graph;
 use net_base::List;
@@ -41,20 +42,25 @@ pub fn settled_classes(
     Ok(least)
 }
 
-/// For each node the least one that nothing tells apart from it; `lists` are its steps.
+/// For each node the least one that nothing tells apart from it; `lists` are its steps, and `before` the nodes that step to it.
 pub fn least_joined(
     alloc: Global,
     graph: &Graph,
     lists: &[List<u32>],
+    before: &[List<u32>],
 ) -> Result<Vec<u32>, AllocError>
     requires graph { IsGraph graph.now }
     requires single { HasSingleSteps graph.now }
     requires size { length lists.now ≡ length graph.now.nodes }
     requires inside { AreInside lists.now (length graph.now.nodes) }
     requires steps { (a b : ℕ) → is_listed lists.now a b ≡ has_step graph.now a b }
+    requires rows { length before.now ≡ length graph.now.nodes }
+    requires nodes { AreLists before.now }
+    requires before { (a b : ℕ) → is_listed before.now a b ≡ has_step graph.now b a }
     ensures size { IfOk result (λ least. length least.items ≡ length graph.now.nodes) }
     ensures least { IfOk result (λ least. AreLeast graph.now (class_in least.items)) }
 {
-    let classes = first_classes(alloc, graph)?;
+    let first = first_classes(alloc, graph)?;
+    let classes = split_classes(alloc, graph, before, first)?;
     settled_classes(alloc, graph, lists, classes)
 }

@@ -3,7 +3,9 @@
 
 mod alike;
 mod first;
+mod grouping;
 mod joined;
+mod partition;
 mod quotients;
 mod round;
 

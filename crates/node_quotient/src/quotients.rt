@@ -50,7 +50,8 @@ pub fn quotient(alloc: Global, graph: &Graph) -> Result<Graph, NoMemory>
     let nodes = List::from_vec(Vec::from_slice(alloc, graph.nodes())?);
     let starts = List::from_vec(Vec::from_slice(alloc, graph.starts())?);
     let lists = neighbours(alloc, graph, Way::Forward)?;
-    let least = least_joined(alloc, graph, &lists)?;
+    let before = neighbours(alloc, graph, Way::Backward)?;
+    let least = least_joined(alloc, graph, &lists, &before)?;
     let marks = are_least(alloc, &least)?;
     let steps = steps_led(alloc, graph.steps(), &least)?;
     let led = Graph::new(nodes, starts, steps);

@@ -20,16 +20,16 @@ pub new-led-requires : goal.new-led-requires
 new-led-requires c =
     let least = c.in_ok-least.least.items in
     subst IsGraph (sym (led c.args.graph.now least _ _ _ (c.from_vec-nodes.ensures ∙ c.in_ok-from_slice.ensures.items ∙ c.nodes.ensures.nodes) (c.from_vec-starts.ensures ∙ c.in_ok-from_slice-2.ensures.items ∙ c.starts.ensures.starts)
-    (c.in_ok-steps.ensures ∙ rw (c.deref-3.ensures.value, c.steps.ensures.steps) refl)))
+    (c.in_ok-steps.ensures ∙ rw (c.deref-4.ensures.value, c.steps.ensures.steps) refl)))
     (led_is_graph c.args.graph.now c.nodes.ensures.rules least c.in_ok-least.ensures.least)
 
 pub returns : goal.returns
 returns c =
     let least = c.in_ok-least.least.items in
     let led_is = led c.args.graph.now least _ _ _ (c.from_vec-nodes.ensures ∙ c.in_ok-from_slice.ensures.items ∙ c.nodes.ensures.nodes) (c.from_vec-starts.ensures ∙ c.in_ok-from_slice-2.ensures.items ∙ c.starts.ensures.starts)
-    (c.in_ok-steps.ensures ∙ rw (c.deref-3.ensures.value, c.steps.ensures.steps) refl) in
+    (c.in_ok-steps.ensures ∙ rw (c.deref-4.ensures.value, c.steps.ensures.steps) refl) in
     let size = c.in_ok-least.ensures.size in
-    let value = c.deref-2.ensures.value in
+    let value = c.deref-3.ensures.value in
     kept_is_quotient c.args.graph.now c.nodes.ensures.rules least c.in_ok-least.ensures.least c.in_ok-marks.marks.items c.in_ok-joined.joined
     (λ n lt. (rw value at c.in_ok-marks.ensures.marks) n (omega (arith, size, lt)))
-    (c.in_ok-joined.ensures ∙ rw (c.deref-4.ensures.value) refl ∙ ap (graph_kept (is_marked c.in_ok-marks.marks.items)) (c.new-led.ensures ∙ led_is))
+    (c.in_ok-joined.ensures ∙ rw (c.deref-5.ensures.value) refl ∙ ap (graph_kept (is_marked c.in_ok-marks.marks.items)) (c.new-led.ensures ∙ led_is))
