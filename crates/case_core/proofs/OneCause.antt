@@ -15,7 +15,7 @@ use Rattle.reach_prune.specs.Trimmed.{IsTrimmed}
 use Rattle.graph_law.proofs.OneTrimmed.{same_trimmed_graphs}
 use Rattle.case_core.specs.declared.cases.CaseGraph.{CaseGraph}
 use Rattle.case_core.specs.declared.refusal.CompileRefusal.{CompileRefusal}
-use Rattle.case_core.specs.declared.refusal.CompileRefusal.TheVariants.{TooManyRanks, TooManyStates, TooManySteps, SourceWithoutPath, MixedSource, NoEvidence, TooManyTags, NoMemory}
+use Rattle.case_core.specs.declared.refusal.CompileRefusal.TheVariants.{TooManyRanks, TooManyStates, TooManySteps, SourceWithoutPath, MixedSource, NoEvidence, NoMemory}
 use Rattle.graph_base.specs.Ranked.{IsRankedAt, IsUnrankedAt}
 use Rattle.graph_law.specs.Limits.{IsBuiltWithin}
 use Rattle.case_core.specs.Refusals.{IsCause, IsGraphOf, IsMade, IsWalkOfLeast, ShowsMixed}
@@ -48,10 +48,10 @@ module _ (net : PlainNet) (room : ℕ) (s : PlainStatement) (c : Case) where
 
 module _ (net : PlainNet) (number room : ℕ) (s : PlainStatement) (c : Case) where
   -- a graph that is built within the limits passes none of them
-  few_states : (g : PlainGraph) → IsBuiltWithin net room s c g → PassesStates net (plan_for net s c) 4096 → ⊥
+  pub few_states : (g : PlainGraph) → IsBuiltWithin net room s c g → PassesStates net (plan_for net s c) 4096 → ⊥
   few_states g is many = no_more_states net (plan_for net s c) g 4096 is.built is.states many
 
-  few_steps : (g : PlainGraph) → IsBuiltWithin net room s c g → PassesSteps net (plan_for net s c) 4096 room → ⊥
+  pub few_steps : (g : PlainGraph) → IsBuiltWithin net room s c g → PassesSteps net (plan_for net s c) 4096 room → ⊥
   few_steps g is many =
       let same = one-graph net (plan_for net s c) g many.0 is.built many.1 in
       absurd (omega (arith, is.steps, many.3, ap (λ (h : PlainGraph). length h.steps) same))
@@ -63,7 +63,6 @@ module _ (net : PlainNet) (number room : ℕ) (s : PlainStatement) (c : Case) wh
   not_refused given (SourceWithoutPath k r) is paths unmixed h = absurd (h.2.0.1 (paths r h.2.0.0))
   not_refused given (MixedSource k r with without) is paths unmixed h = absurd (unmixed r h.2.3.first.0)
   not_refused given (NoEvidence k g r) is paths unmixed h = absurd h
-  not_refused given (TooManyTags r) is paths unmixed h = absurd h
   not_refused given NoMemory is paths unmixed h = refl
 
   -- ---- refusals of different kinds
@@ -86,22 +85,16 @@ module _ (net : PlainNet) (number room : ℕ) (s : PlainStatement) (c : Case) wh
   pub one_cause : (e f : CompileRefusal) → IsCause net number room s c e → IsCause net number room s c f → (e ≡ NoMemory) ⊎ (f ≡ NoMemory) ⊎ (e ≡ f)
   one_cause NoMemory f a b = inl refl
   one_cause (NoEvidence k g r) f a b = absurd a
-  one_cause (TooManyTags r) f a b = absurd a
   one_cause (TooManyRanks k n) NoMemory a b = inr (inl refl)
   one_cause (TooManyRanks k n) (NoEvidence j g lines) a b = absurd b
-  one_cause (TooManyRanks k n) (TooManyTags q) a b = absurd b
   one_cause (TooManyStates k) NoMemory a b = inr (inl refl)
   one_cause (TooManyStates k) (NoEvidence j g lines) a b = absurd b
-  one_cause (TooManyStates k) (TooManyTags q) a b = absurd b
   one_cause (TooManySteps k) NoMemory a b = inr (inl refl)
   one_cause (TooManySteps k) (NoEvidence j g lines) a b = absurd b
-  one_cause (TooManySteps k) (TooManyTags q) a b = absurd b
   one_cause (SourceWithoutPath k r) NoMemory a b = inr (inl refl)
   one_cause (SourceWithoutPath k r) (NoEvidence j g lines) a b = absurd b
-  one_cause (SourceWithoutPath k r) (TooManyTags q) a b = absurd b
   one_cause (MixedSource k r v w) NoMemory a b = inr (inl refl)
   one_cause (MixedSource k r v w) (NoEvidence j g lines) a b = absurd b
-  one_cause (MixedSource k r v w) (TooManyTags q) a b = absurd b
   one_cause (TooManyRanks k n) (TooManyRanks j m) a b = inr (inr (ap₂ TooManyRanks (a.0 ∙ sym b.0) (a.2 ∙ sym b.2)))
   one_cause (TooManyRanks k n) (TooManyStates j) a b = absurd (few_ranks a.1 b.1)
   one_cause (TooManyRanks k n) (TooManySteps j) a b = absurd (few_ranks a.1 b.1)

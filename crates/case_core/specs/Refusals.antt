@@ -18,7 +18,7 @@ use Rattle.graph_law.specs.Limits.{IsBuiltWithin}
 use Rattle.reach_prune.specs.Trimmed.{IsTrimmed}
 use Rattle.case_core.specs.declared.cases.CaseGraph.{CaseGraph}
 use Rattle.case_core.specs.declared.refusal.CompileRefusal.{CompileRefusal}
-use Rattle.case_core.specs.declared.refusal.CompileRefusal.TheVariants.{TooManyRanks, TooManyStates, TooManySteps, SourceWithoutPath, MixedSource, NoEvidence, TooManyTags, NoMemory}
+use Rattle.case_core.specs.declared.refusal.CompileRefusal.TheVariants.{TooManyRanks, TooManyStates, TooManySteps, SourceWithoutPath, MixedSource, NoEvidence, NoMemory}
 use Rattle.case_core.specs.declared.sources.Mixed.{Mixed}
 use Rattle.case_core.specs.Sources.{IsLeast, HavePaths, IsMixed, IsUnranked, IsWithoutPath}
 
@@ -57,6 +57,14 @@ abbrev pub ShowsWalks : PlainGraph → ℕ → Mixed → CompileRefusal → Type
 ShowsWalks g number mixed e =
     (with without : List ℕ) × IsShownWalk g mixed.ranked with × IsShownWalk g mixed.unranked without × (e ≡ MixedSource number mixed.router with without)
 
+-- the case passes one of the limits, on alternatives, nodes or steps; or memory ran out
+abbrev pub IsPastLimit : CompileRefusal → Type 0
+IsPastLimit (TooManyRanks k count) = Unit {0}
+IsPastLimit (TooManyStates k) = Unit {0}
+IsPastLimit (TooManySteps k) = Unit {0}
+IsPastLimit NoMemory = Unit {0}
+IsPastLimit _ = ⊥
+
 -- What a refusal of a case's graph says of the case with this number. Each one says too that none before it applies.
 abbrev pub IsCause : PlainNet → ℕ → ℕ → PlainStatement → Case → CompileRefusal → Type 0
 IsCause net number room s c (TooManyRanks k count) =
@@ -70,5 +78,4 @@ IsCause net number room s c (SourceWithoutPath k r) =
 IsCause net number room s c (MixedSource k r with without) =
     (k ≡ number) × HavePaths net s c × ((built made : PlainGraph) × IsMade net room s c built made × ShowsMixed net s c made r with without)
 IsCause net number room s c (NoEvidence k g r) = ⊥
-IsCause net number room s c (TooManyTags r) = ⊥
 IsCause net number room s c NoMemory = Unit {0}

@@ -7,7 +7,7 @@ ghost use Rattle.path_words.specs.Policies.{plain_statement, ranking_of};
 ghost use Rattle.path_exprs.specs.View.{views};
 ghost use Rattle.path_exprs.specs.Forward.{expressions};
 ghost use Rattle.case_core.specs.Automata.{FitsStatement, IsAutomatonOf};
-ghost use Rattle.case_core.specs.Refusals.{IsCause};
+ghost use Rattle.case_core.specs.Refusals.{IsCause, IsPastLimit};
 
 use crate::refusal::CompileRefusal;
 use constraint_expand::{ExpandFault, expand};
@@ -37,6 +37,7 @@ fn expressions_of(
 ) -> Result<RankedExpr, CompileRefusal>
     ensures ranks { OnOk result (alternative_count (ranking_of statement.now.ranked) ≤ ALTERNATIVES) }
     ensures expressions { IfOk result (λ r. views r ≡ expressions net.now (ranking_of statement.now.ranked)) }
+    ensures limits { IfErr result IsPastLimit }
     ensures refused { (room : ℕ) (c : PlainCase) → IfErr result (λ e. IsCause net.now number room (plain_statement statement.now) c e) }
 {
     match expand(alloc, &statement.ranked, net) {
@@ -54,6 +55,7 @@ fn new_automata(
     statement: &Statement,
 ) -> Result<Automata, CompileRefusal>
     ensures made { IfOk result (IsAutomatonOf net.now (plain_statement statement.now)) }
+    ensures limits { IfErr result IsPastLimit }
     ensures refused { (room : ℕ) (c : PlainCase) → IfErr result (λ e. IsCause net.now number room (plain_statement statement.now) c e) }
 {
     let ranked = expressions_of(alloc, net, number, statement)?;
@@ -73,6 +75,7 @@ pub fn automata_for(
     requires kept { IfSome kept (FitsStatement net.now case.now.statement (plain_statement statement.now)) }
     ensures automata { IfOk result (λ made. IsAutomatonOf net.now (plain_statement statement.now) made.automata) }
     ensures statement { IfOk result (λ made. made.statement ≡ case.now.statement) }
+    ensures limits { IfErr result IsPastLimit }
     ensures refused { (room : ℕ) (c : PlainCase) → IfErr result (λ e. IsCause net.now number room (plain_statement statement.now) c e) }
 {
     if let Some(kept) = kept {

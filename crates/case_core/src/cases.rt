@@ -8,7 +8,7 @@ ghost use Rattle.graph_base.specs.Walks.{IsEnteredFromBefore};
 ghost use Rattle.case_law.specs.Cases.{FitsOrigins, OfCase, OriginsAreRouters};
 ghost use Rattle.graph_law.specs.Limits.{IsBuiltWithin};
 ghost use Rattle.case_core.specs.Automata.{FitsNumber, FitsStatement, IsAutomatonOf};
-ghost use Rattle.case_core.specs.Refusals.{FitsCase, IsCause, IsGraphOf, IsMade, ShowsWalks};
+ghost use Rattle.case_core.specs.Refusals.{FitsCase, IsCause, IsGraphOf, IsMade, IsPastLimit, ShowsWalks};
 ghost use Rattle.case_core.specs.Sources.{HavePaths, NoneMixed};
 
 use crate::automata::{StatementAutomata, automata_for};
@@ -45,6 +45,7 @@ fn built(
     requires { IsAutomatonOf net.now (plain_statement statement.now) automata }
     ensures built { IfOk result (λ r. IsBuiltWithin net.now room (plain_statement statement.now) case.now r.0) }
     ensures automata { IfOk result (λ r. IsAutomatonOf net.now (plain_statement statement.now) r.1) }
+    ensures limits { IfErr result IsPastLimit }
     ensures refused { IfErr result (λ e. IsCause net.now number room (plain_statement statement.now) case.now e) }
 {
     match build_over(alloc, net, case, &statement.from, automata, room) {
@@ -101,6 +102,36 @@ fn judged(
     Ok(())
 }
 
+/// The graph of a case with its statement, its sources not judged, and the automaton for the statement's next case, or which
+/// limit the case passes.
+fn trimmed_of(
+    alloc: Global,
+    net: &Net,
+    number: u32,
+    case: &Case,
+    statement: &Statement,
+    kept: Option<StatementAutomata>,
+    room: u32,
+) -> Result<(CaseGraph, StatementAutomata), CompileRefusal>
+    requires { IfSome kept (FitsStatement net.now case.now.statement (plain_statement statement.now)) }
+    ensures graph { IfOk result (λ given. IsGraphOf net.now room (plain_statement statement.now) case.now given.0) }
+    ensures automata { IfOk result (λ given. IsAutomatonOf net.now (plain_statement statement.now) given.1.automata) }
+    ensures statement { IfOk result (λ given. given.1.statement ≡ case.now.statement) }
+    ensures limits { IfErr result IsPastLimit }
+    ensures refused { IfErr result (λ e. IsCause net.now number room (plain_statement statement.now) case.now e) }
+{
+    let kept = automata_for(alloc, net, number, case, statement, kept)?;
+    let (all, automata) = built(alloc, net, number, case, statement, kept.automata, room)?;
+    let graph = trim(alloc, &all)?;
+    let used = all.steps().len() as u32;
+    let next = StatementAutomata {
+        statement: kept.statement,
+        automata,
+        nodes: kept.nodes.saturating_sub(all.nodes().len()),
+    };
+    Ok((CaseGraph { graph, used }, next))
+}
+
 /// The graph of a case with its statement, and the automaton for the statement's next case, or why the case is refused.
 fn graph_of(
     alloc: Global,
@@ -121,17 +152,35 @@ fn graph_of(
     ensures statement { IfOk result (λ given. given.1.statement ≡ case.now.statement) }
     ensures refused { IfErr result (λ e. IsCause net.now number room (plain_statement statement.now) case.now e) }
 {
-    let kept = automata_for(alloc, net, number, case, statement, kept)?;
-    let (all, automata) = built(alloc, net, number, case, statement, kept.automata, room)?;
-    let graph = trim(alloc, &all)?;
-    judged(alloc, net, number, case, statement, &graph)?;
-    let used = all.steps().len() as u32;
-    let next = StatementAutomata {
-        statement: kept.statement,
-        automata,
-        nodes: kept.nodes.saturating_sub(all.nodes().len()),
-    };
-    Ok((CaseGraph { graph, used }, next))
+    let (given, next) = trimmed_of(alloc, net, number, case, statement, kept, room)?;
+    judged(alloc, net, number, case, statement, &given.graph)?;
+    Ok((given, next))
+}
+
+/// The graph of the case with this number, from 1, whose sources are not judged, or which of the limits on alternatives, nodes and
+/// steps it passes. What is kept of an earlier case serves this one, where they have one statement, and what is given back serves
+/// the next one.
+pub fn graph_within_limits(
+    alloc: Global,
+    net: &Net,
+    policy: &Policy,
+    cases: &CaseList,
+    number: u32,
+    room: u32,
+    kept: Option<StatementAutomata>,
+) -> Result<(CaseGraph, StatementAutomata), CompileRefusal>
+    requires cases { cases.now.cases ≡ case_list net.now (policy_of policy.now) }
+    requires from_one { 1 ≤ number }
+    requires within { number ≤ length cases.now.cases }
+    requires kept { IfSome kept (FitsNumber net.now (policy_of policy.now)) }
+    ensures graph { IfOk result (λ given. OfCase net.now (policy_of policy.now) number (λ s c. IsGraphOf net.now room s c given.0)) }
+    ensures kept { IfOk result (λ given. FitsNumber net.now (policy_of policy.now) given.1) }
+    ensures limits { IfErr result IsPastLimit }
+    ensures refused { IfErr result (λ e. OfCase net.now (policy_of policy.now) number (λ s c. IsCause net.now number room s c e)) }
+{
+    let case = &cases.cases.as_slice()[number as usize - 1];
+    let statement = &policy.statements()[case.statement as usize - 1];
+    trimmed_of(alloc, net, number, case, statement, kept, room)
 }
 
 /// The graph of the case with this number, from 1, or why the case is refused, as `case_graph` says. What is kept of an

@@ -9,6 +9,6 @@ mod refusal;
 mod sources;
 
 pub use automata::StatementAutomata;
-pub use cases::{CaseGraph, case_graph, case_graph_over};
+pub use cases::{CaseGraph, case_graph, case_graph_over, graph_within_limits};
 pub use laws::{given_cases_are_not_refused, refusals_exclude_one_another};
 pub use refusal::CompileRefusal;

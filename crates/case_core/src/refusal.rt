@@ -9,8 +9,8 @@ use std::alloc::AllocError;
 use std::fmt;
 use thiserror::Error;
 
-/// Why a policy is not compiled. The first field is the number of the case, from 1; too many tags are those of all
-/// cases together. A case is judged in the order of these variants.
+/// Why a policy is not compiled. The first field is the number of the case, from 1. A case is judged in the order of
+/// these variants.
 #[derive(Drop, Error)]
 pub enum CompileRefusal {
     /// The statement has more than 64 alternatives: this many, or 18,446,744,073,709,551,615 where there
@@ -34,9 +34,6 @@ pub enum CompileRefusal {
     /// one that is faithful to it. The lines show it.
     #[error("case {0}: no evidence")]
     NoEvidence(u32, Graph, Refutation),
-    /// Over all cases more than 65,535 nodes stand at this router.
-    #[error("too many nodes at a router")]
-    TooManyTags(Loc),
     /// Memory was refused.
     #[error("out of memory")]
     NoMemory,

@@ -9,7 +9,7 @@ use Rattle.path_words.specs.Policies.{PlainPolicy, PlainStatement}
 use Rattle.case_law.specs.Cases.{IsCase, OfCase}
 use Rattle.case_core.specs.Refusals.{IsCause, IsGraphOf}
 use Rattle.case_core.specs.declared.refusal.CompileRefusal.{CompileRefusal}
-use Rattle.case_core.specs.declared.refusal.CompileRefusal.TheVariants.{TooManyRanks, TooManyStates, TooManySteps, SourceWithoutPath, MixedSource, NoEvidence, TooManyTags, NoMemory}
+use Rattle.case_core.specs.declared.refusal.CompileRefusal.TheVariants.{TooManyRanks, TooManyStates, TooManySteps, SourceWithoutPath, MixedSource, NoEvidence, NoMemory}
 use Rattle.case_evidence.specs.Accepted.{IsCaseCause}
 use Rattle.case_core.specs.declared.cases.CaseGraph.{CaseGraph}
 use Rattle.case_law.proofs.Origins.{case_known}
@@ -40,5 +40,4 @@ case_cause net number room s c (TooManySteps k) why = why
 case_cause net number room s c (SourceWithoutPath k r) why = why
 case_cause net number room s c (MixedSource k r with without) why = why
 case_cause net number room s c (NoEvidence k g r) why = absurd why
-case_cause net number room s c (TooManyTags r) why = why
 case_cause net number room s c NoMemory why = why

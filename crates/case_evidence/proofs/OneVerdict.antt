@@ -22,7 +22,7 @@ use Rattle.relation_law.specs.Relations.{IsGreatest}
 use Rattle.relation_law.specs.Views.{view_of, view_with}
 use Rattle.relation_law.proofs.Counts.{one_greatest}
 use Rattle.case_core.specs.declared.refusal.CompileRefusal.{CompileRefusal}
-use Rattle.case_core.specs.declared.refusal.CompileRefusal.TheVariants.{TooManyRanks, TooManyStates, TooManySteps, SourceWithoutPath, MixedSource, NoEvidence, TooManyTags, NoMemory}
+use Rattle.case_core.specs.declared.refusal.CompileRefusal.TheVariants.{TooManyRanks, TooManyStates, TooManySteps, SourceWithoutPath, MixedSource, NoEvidence, NoMemory}
 use Rattle.case_core.specs.Refusals.{IsCause}
 use Rattle.regret_law.specs.Passes.{IsClaimed}
 use Rattle.case_core.proofs.OneCause as graphs
@@ -87,7 +87,6 @@ module _ (net : PlainNet) (number room : ℕ) (s : PlainStatement) (c : Case) wh
   kinds (SourceWithoutPath k r) h = inl h
   kinds (MixedSource k r v w) h = inl h
   kinds (NoEvidence k g r) h = inr (record { graph = g; used = h.1.0; refutation = r; is = ap (λ n. NoEvidence n g r) h.0; given = h.1.1; refuted = h.2; none = h.3 })
-  kinds (TooManyTags r) h = inl h
   kinds NoMemory h = inl h
 
   -- the graph of a case isn't refused where it is given

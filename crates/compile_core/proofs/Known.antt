@@ -1,5 +1,5 @@
 -- What is known of the evidence of each case.
-use Rattle.std.proofs.Common.{◌≡◌, ℕ, zero, suc, ◌≤◌, List, [], length, Some, sym, ap, subst, ◌∙◌, arith}
+use Rattle.std.proofs.Common.{◌≡◌, ℕ, zero, suc, ◌<◌, ◌≤◌, ◌^◌, List, [], length, Some, sym, ap, subst, ◌∙◌, arith}
 use Rattle.std.specs.Prelude.{slice_get}
 use Rattle.std.specs.Option.{option_map}
 use Rattle.std.proofs.lemmas.List.{length-map}
@@ -8,7 +8,7 @@ use Rattle.list_laws.proofs.Items.{slice_get_inside}
 use Rattle.net_base.specs.Network.{PlainNet, IsNet}
 use Rattle.net_base.specs.Sets.{holds}
 use Rattle.path_words.specs.Cases.{case_list}
-use Rattle.path_words.specs.Policies.{PlainPolicy, PlainStatement}
+use Rattle.path_words.specs.Policies.{IsPolicy, PlainPolicy, PlainStatement}
 use Rattle.graph_base.specs.declared.graph.Prefs.{Prefs}
 use Rattle.graph_base.specs.Graphs.{PlainGraph}
 use Rattle.graph_base.specs.Rules.{MeetsRules}
@@ -18,7 +18,7 @@ use Rattle.evidence_base.specs.Made.{PlainCaseEvidence, AreTags, IsConfigOf, num
 use Rattle.config_base.specs.Configs.{PlainConfig}
 use Rattle.config_made.specs.Conditions.{IsSingle}
 use Rattle.community_assign.specs.Law.{AreAtLocations}
-use Rattle.community_assign.specs.Tagging.{tags_of, all_nodes, IsRoomy}
+use Rattle.community_assign.specs.Tagging.{tags_of, all_nodes}
 use Rattle.community_assign.proofs.Order.{tagging}
 use Rattle.regret_law.specs.Passes.{IsCaseGraph, IsClaimed, Passes, all_steps}
 use Rattle.case_law.specs.Cases.{OriginsAreRouters}
@@ -27,7 +27,7 @@ use Rattle.case_evidence.specs.declared.accepted.AcceptedCase.{AcceptedCase}
 use Rattle.case_evidence.specs.Accepted.{IsAccepted, number_in}
 use Rattle.case_evidence.proofs.Joined.{given_fits}
 use Rattle.compile_core.specs.Compiling.{evidence_of, AreAccepted, graphs_of, prefs_of}
-use Rattle.compile_core.proofs.Limits.{made_within}
+use Rattle.compile_core.proofs.Limits.{few_nodes, made_within}
 use Rattle.compile_core.proofs.Parts.{parts, all_parts, as_many_tags, tag_each, accepted_at}
 use Rattle.compile_core.proofs.Places.{node_located, places, ranks}
 use Rattle.graph_base.proofs.WellFormed.{heard_at_peers}
@@ -120,20 +120,21 @@ module _ (net : PlainNet) (rules : IsNet net) (policy : PlainPolicy) (routers : 
       let on = case_graph net policy e known known.statement known.of in
       node_located net rules known.statement (holds e.case.origins) e.case.external known.origins e.graph on.graph on.faithful n within
 
-  pub are_tags : IsRoomy net (all_nodes (graphs_of accepted)) → AreTags net evidence
-  are_tags roomy =
+  pub are_tags : IsPolicy policy → AreTags net evidence
+  are_tags kept =
       let are = all_parts (case_list net policy) (graphs_of accepted) (prefs_of accepted) (tags_of net (graphs_of accepted)) as_many_graphs as_many_prefs (as_many_tags net (graphs_of accepted) ∙ as_many_graphs) in
-      tagging net evidence rules located (subst (λ (gs : List PlainGraph). IsRoomy net (all_nodes gs)) (sym are.graphs) roomy) (are.tags ∙ ap (tags_of net) (sym are.graphs))
+      let few = subst (λ (gs : List PlainGraph). length (all_nodes gs) < 2 ^ 32) (sym are.graphs) (few_nodes net policy kept accepted all each) in
+      tagging net evidence rules located few (are.tags ∙ ap (tags_of net) (sym are.graphs))
 
-  pub passing : (config : PlainConfig) → IsRoomy net (all_nodes (graphs_of accepted)) → IsConfigOf net policy evidence config → Passes net policy config evidence
-  passing config roomy lines =
+  pub passing : (config : PlainConfig) → IsPolicy policy → IsConfigOf net policy evidence config → Passes net policy config evidence
+  passing config kept lines =
       let are = all_parts (case_list net policy) (graphs_of accepted) (prefs_of accepted) (tags_of net (graphs_of accepted)) as_many_graphs as_many_prefs (as_many_tags net (graphs_of accepted) ∙ as_many_graphs) in
       record {
         limits = made_within net policy accepted all each;
         made = record {
           cases = are.cases;
           graphs = λ k e s at of. case_graph net policy e (known_at k e at) s of;
-          tags = are_tags roomy;
+          tags = are_tags kept;
           lines = lines;
         };
         rules = λ k e s at of. meets net policy e (known_at k e at) s of;

@@ -12,14 +12,11 @@ use Rattle.graph_base.specs.Graphs.{PlainGraph}
 use Rattle.graph_base.specs.declared.graph.Prefs.{Prefs}
 use Rattle.case_law.specs.Cases.{OfCase, IsCase}
 use Rattle.case_core.specs.declared.refusal.CompileRefusal.{CompileRefusal}
-use Rattle.case_core.specs.declared.refusal.CompileRefusal.TheVariants.{TooManyRanks, TooManyStates, TooManySteps, SourceWithoutPath, MixedSource, NoEvidence, TooManyTags, NoMemory}
+use Rattle.case_core.specs.declared.refusal.CompileRefusal.TheVariants.{TooManyRanks, TooManyStates, TooManySteps, SourceWithoutPath, MixedSource, NoEvidence, NoMemory}
 use Rattle.case_law.proofs.Origins.{case_known}
 use Rattle.case_evidence.specs.declared.accepted.AcceptedCase.{AcceptedCase}
 use Rattle.case_evidence.specs.Accepted.{IsAccepted, IsCaseCause}
-use Rattle.community_assign.specs.declared.fault.TagFault.{TagFault}
-use Rattle.community_assign.specs.declared.fault.TagFault.TheVariants as fault
-use Rattle.community_assign.specs.Tagging.{all_nodes, IsFirstCrowded}
-use Rattle.compile_core.specs.Accepting.{AreAllGiven, AreGiven, refusal_of as tag_refusal}
+use Rattle.compile_core.specs.Accepting.{AreGiven}
 use Rattle.regret_law.specs.Passes.{all_steps}
 use Rattle.compile_core.specs.Compiling.{AreAccepted, AreAcceptedFrom, IsRefusal, room_after}
 
@@ -77,7 +74,6 @@ module _ (net : PlainNet) (policy : PlainPolicy) where
   refusal_of before (SourceWithoutPath k r) each within cause = (before, each, (within, cause))
   refusal_of before (MixedSource k r with without) each within cause = (before, each, (within, cause))
   refusal_of before (NoEvidence k g r) each within cause = (before, each, (within, cause))
-  refusal_of before (TooManyTags r) each within cause = let case = there net policy (length before) (length before + 1) within refl in absurd (cause case.0 case.1 case.2)
   refusal_of before NoMemory each within cause = tt
 
   pub refused_next : (k number room : ℕ) (gs : List PlainGraph) (ps : List Prefs) (e : CompileRefusal) → AreGiven net policy k room gs ps → k < length (case_list net policy) → number ≡ k + 1
@@ -87,10 +83,3 @@ module _ (net : PlainNet) (policy : PlainPolicy) where
       refusal_of before.accepted e before.each (omega (arith, within, before.count))
       (subst (λ r. OfCase net policy (length before.accepted + 1) (λ s c. IsCaseCause net (length before.accepted + 1) r s c e)) before.left
       (subst (λ n. OfCase net policy n (λ s c. IsCaseCause net n room s c e)) same cause))
-
-  -- what refuses the tags refuses the policy
-  pub refused_tags : (gs : List PlainGraph) (ps : List Prefs) (f : TagFault) → AreAllGiven net policy gs ps → ((r : ℕ) → f ≡ fault.TooManyTags r → IsFirstCrowded net (all_nodes gs) r)
-      → IsRefusal net policy (tag_refusal f)
-  refused_tags gs ps (fault.TooManyTags r) given crowded =
-      (given.1.accepted, given.1.each, (given.1.count, subst (λ (xs : List PlainGraph). IsFirstCrowded net (all_nodes xs) r) given.1.graphs (crowded r refl)))
-  refused_tags gs ps fault.NoMemory given crowded = tt

@@ -13,18 +13,24 @@ use Rattle.evidence_base.specs.Evidence.{IsCaseEvidence}
 use Rattle.evidence_base.specs.Made.{PlainCaseEvidence, AreTags, IsConfigOf}
 use Rattle.config_made.specs.Conditions.{AreClasses, IsSingle}
 use Rattle.config_made.proofs.CaseClasses.{case_lists}
-use Rattle.community_assign.specs.Tagging.{tags_of, all_nodes, IsRoomy}
+use Rattle.community_assign.specs.Tagging.{tags_of, all_nodes}
 use Rattle.regret_law.specs.Passes.{Passes}
 use Rattle.case_law.specs.Cases.{OriginsAreRouters}
 use Rattle.case_evidence.specs.declared.accepted.AcceptedCase.{AcceptedCase}
 use Rattle.compile_core.specs.Accepting.{AreAllGiven}
 use Rattle.compile_core.specs.Compiling.{evidence_of, IsMade, graphs_of}
 use Rattle.compile_core.proofs.Known.{are_tags, as_many_graphs, as_many_prefs, case_evidence, evidence_for, known_at, passing, single}
+use Rattle.compile_core.proofs.Limits.{few_nodes}
 use Rattle.compile_core.proofs.Parts.{all_parts, as_many_tags}
 
 -- there are few cases
 pub few_cases : (net : PlainNet) (policy : PlainPolicy) (cs : List Case) → IsPolicy policy → cs ≡ case_list net policy → length cs < 2 ^ 32
 few_cases net policy cs kept are = subst (λ (xs : List Case). length xs < 2 ^ 32) (sym are) (case_lists net policy kept).count
+
+-- and few nodes
+pub few_tags : (net : PlainNet) (policy : PlainPolicy) (gs graphs : List PlainGraph) (prefs : List Prefs) → IsPolicy policy → gs ≡ graphs → AreAllGiven net policy graphs prefs → length (all_nodes gs) < 2 ^ 32
+few_tags net policy gs graphs prefs kept same given =
+    subst (λ (xs : List PlainGraph). length (all_nodes xs) < 2 ^ 32) (sym (same ∙ given.1.graphs)) (few_nodes net policy kept given.1.accepted given.1.count given.1.each)
 
 module _ (net : PlainNet) (rules : IsNet net) (policy : PlainPolicy) (kept : IsPolicy policy) (routers : OriginsAreRouters net policy.origins) (cs : List Case) (gs graphs : List PlainGraph) (ps prefs : List Prefs)
     (ts : List (List Tag)) (cases : cs ≡ case_list net policy) (same_g : gs ≡ graphs) (same_p : ps ≡ prefs) (tags : ts ≡ tags_of net graphs) (given : AreAllGiven net policy graphs prefs) where
@@ -62,24 +68,19 @@ module _ (net : PlainNet) (rules : IsNet net) (policy : PlainPolicy) (kept : IsP
   pub each_kept : (k : ℕ) (e : PlainCaseEvidence) → slice_get (evidence_of cs gs ps ts) k ≡ Some e → IsCaseEvidence e
   each_kept k e at = case_evidence net policy e (known_at net rules policy routers accepted given.1.count given.1.each k e (there k e at)) rules
 
-  module _ (roomy : IsRoomy net (all_nodes graphs)) where
-    has_room : IsRoomy net (all_nodes (graphs_of accepted))
-    has_room = subst (λ (xs : List PlainGraph). IsRoomy net (all_nodes xs)) given.1.graphs roomy
+  pub differ : AreTags net (evidence_of cs gs ps ts)
+  differ = subst (AreTags net) (sym same) (are_tags net rules policy routers accepted given.1.count given.1.each kept)
 
-    pub differ : AreTags net (evidence_of cs gs ps ts)
-    differ = subst (AreTags net) (sym same) (are_tags net rules policy routers accepted given.1.count given.1.each has_room)
+  pub made : (config : PlainConfig) → IsConfigOf net policy (evidence_of cs gs ps ts) config → IsMade net policy config (evidence_of cs gs ps ts)
+  made config lines = record {
+    accepted = accepted;
+    all = given.1.count;
+    each = given.1.each;
+    evidence = same;
+    lines = lines;
+  }
 
-    pub made : (config : PlainConfig) → IsConfigOf net policy (evidence_of cs gs ps ts) config → IsMade net policy config (evidence_of cs gs ps ts)
-    made config lines = record {
-      accepted = accepted;
-      all = given.1.count;
-      each = given.1.each;
-      room = has_room;
-      evidence = same;
-      lines = lines;
-    }
-
-    pub passes : (config : PlainConfig) → IsConfigOf net policy (evidence_of cs gs ps ts) config → Passes net policy config (evidence_of cs gs ps ts)
-    passes config lines =
-        subst (Passes net policy config) (sym same)
-        (passing net rules policy routers accepted given.1.count given.1.each config has_room (subst (λ es. IsConfigOf net policy es config) same lines))
+  pub passes : (config : PlainConfig) → IsConfigOf net policy (evidence_of cs gs ps ts) config → Passes net policy config (evidence_of cs gs ps ts)
+  passes config lines =
+      subst (Passes net policy config) (sym same)
+      (passing net rules policy routers accepted given.1.count given.1.each config kept (subst (λ es. IsConfigOf net policy es config) same lines))

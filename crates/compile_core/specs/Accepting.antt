@@ -5,10 +5,6 @@ use Rattle.path_words.specs.Cases.{case_list}
 use Rattle.path_words.specs.Policies.{PlainPolicy}
 use Rattle.graph_base.specs.Graphs.{PlainGraph}
 use Rattle.graph_base.specs.declared.graph.Prefs.{Prefs}
-use Rattle.community_assign.specs.declared.fault.TagFault.{TagFault}
-use Rattle.community_assign.specs.declared.fault.TagFault.TheVariants as fault
-use Rattle.case_core.specs.declared.refusal.CompileRefusal.{CompileRefusal}
-use Rattle.case_core.specs.declared.refusal.CompileRefusal.TheVariants.{TooManyTags, NoMemory}
 use Rattle.case_evidence.specs.declared.accepted.AcceptedCase.{AcceptedCase}
 use Rattle.compile_core.specs.Compiling.{AreAccepted, graphs_of, prefs_of, room_after}
 
@@ -24,8 +20,3 @@ pub record AreGiven (net : PlainNet) (policy : PlainPolicy) (k room : ℕ) (gs :
 -- all cases are
 abbrev pub AreAllGiven : PlainNet → PlainPolicy → List PlainGraph → List Prefs → Type 0
 AreAllGiven net policy gs ps = (room : ℕ) × AreGiven net policy (length (case_list net policy)) room gs ps
-
--- the refusal for want of tags
-abbrev pub refusal_of : TagFault → CompileRefusal
-refusal_of (fault.TooManyTags r) = TooManyTags r
-refusal_of fault.NoMemory = NoMemory

@@ -10,10 +10,10 @@ use Rattle.graph_base.specs.declared.graph.Prefs.{Prefs}
 use Rattle.config_base.specs.Configs.{PlainConfig}
 use Rattle.evidence_base.specs.Made.{PlainCaseEvidence, IsConfigOf}
 use Rattle.regret_law.specs.Passes.{all_steps}
-use Rattle.community_assign.specs.Tagging.{tags_of, all_nodes, IsRoomy, IsFirstCrowded}
+use Rattle.community_assign.specs.Tagging.{tags_of}
 use Rattle.case_law.specs.Cases.{OfCase}
 use Rattle.case_core.specs.declared.refusal.CompileRefusal.{CompileRefusal}
-use Rattle.case_core.specs.declared.refusal.CompileRefusal.TheVariants.{TooManyTags, NoMemory}
+use Rattle.case_core.specs.declared.refusal.CompileRefusal.TheVariants.{NoMemory}
 use Rattle.case_evidence.specs.declared.accepted.AcceptedCase.{AcceptedCase}
 use Rattle.case_evidence.specs.Accepted.{IsAccepted, IsCaseCause}
 
@@ -41,25 +41,23 @@ AreAcceptedFrom net policy k room (a ∷ later) = OfCase net policy k (λ s c. I
 abbrev pub AreAccepted : PlainNet → PlainPolicy → List AcceptedCase → Type 0
 AreAccepted net policy accepted = AreAcceptedFrom net policy 1 all_steps accepted
 
--- What is made of a policy: each case is accepted, with the compiler's own graph and numbers; no router has more nodes than
--- there are tags; and the configuration is made of the cases with these graphs, numbers and tags.
+-- What is made of a policy: each case is accepted, with the compiler's own graph and numbers; and the configuration is made
+-- of the cases with these graphs, numbers and tags.
 pub record IsMade (net : PlainNet) (policy : PlainPolicy) (config : PlainConfig) (cs : List PlainCaseEvidence) : Type 0 where
   pub accepted : List AcceptedCase
   pub all : length accepted ≡ length (case_list net policy)
   pub each : AreAccepted net policy accepted
-  pub room : IsRoomy net (all_nodes (graphs_of accepted))
   pub evidence : cs ≡ evidence_of (case_list net policy) (graphs_of accepted) (prefs_of accepted) (tags_of net (graphs_of accepted))
   pub lines : IsConfigOf net policy cs config
 
 -- what a refusal says of the policy, where these cases are accepted before
 abbrev pub IsRefusalAfter : PlainNet → PlainPolicy → List AcceptedCase → CompileRefusal → Type 0
-IsRefusalAfter net policy accepted (TooManyTags r) = (length accepted ≡ length (case_list net policy)) × IsFirstCrowded net (all_nodes (graphs_of accepted)) r
 IsRefusalAfter net policy accepted e =
     (length accepted < length (case_list net policy))
     × OfCase net policy (length accepted + 1) (λ s c. IsCaseCause net (length accepted + 1) (room_after accepted) s c e)
 
--- Why a policy is refused: the cases before are accepted, and the next one isn't, for its first cause; or all are, and
--- some router has more nodes than there are tags. Want of memory says nothing.
+-- Why a policy is refused: the cases before are accepted, and the next one isn't, for its first cause. Want of memory says
+-- nothing.
 abbrev pub IsRefusal : PlainNet → PlainPolicy → CompileRefusal → Type 0
 IsRefusal net policy NoMemory = Unit {0}
 IsRefusal net policy e = (accepted : List AcceptedCase) × AreAccepted net policy accepted × IsRefusalAfter net policy accepted e

@@ -1,22 +1,21 @@
 //! The compiler.
-ghost use Rattle.std.specs.Prelude.{◌≡◌, ℕ, IfErr, IfOk, List, OnOk};
+ghost use Rattle.std.specs.Prelude.{◌≡◌, IfErr, IfOk};
 ghost use Rattle.net_base.specs.Network.{IsNet};
-ghost use Rattle.graph_base.specs.declared.graph.Prefs.{Prefs as PlainPrefs};
 ghost use Rattle.path_words.specs.Cases.{case_list};
-ghost use Rattle.path_words.specs.Policies.{IsPolicy, PlainPolicy, policy_of};
-ghost use Rattle.community_assign.specs.Tagging.{tags_of, all_nodes, IsRoomy};
+ghost use Rattle.path_words.specs.Policies.{IsPolicy, policy_of};
+ghost use Rattle.community_assign.specs.Tagging.{tags_of};
 ghost use Rattle.regret_law.specs.Passes.{Passes};
 ghost use Rattle.case_law.specs.Cases.{OriginsAreRouters};
-ghost use Rattle.compile_core.specs.Accepting.{AreAllGiven, refusal_of as plain_refusal_of};
+ghost use Rattle.compile_core.specs.Accepting.{AreAllGiven};
 ghost use Rattle.compile_core.specs.Compiling.{IsMade, IsRefusal};
 
 use crate::accept::{Accepted, accepted_cases};
 use crate::compiled::Compiled;
 use crate::evidence::evidence_of;
 use case_core::CompileRefusal;
-use community_assign::{TagFault, tags};
+use community_assign::tags;
 use config_made::config_of;
-use graph_base::{Graph, Tags};
+use graph_base::Tags;
 use net_base::Net;
 use path_words::{Case, Policy, cases};
 use std::alloc::Global;
@@ -28,28 +27,6 @@ fn known_rules(net: &Net, policy: &Policy)
 {
     let _routers = net.routers();
     let _origins = policy.origins();
-}
-
-/// The refusal for want of tags.
-fn refusal_of(fault: &TagFault) -> CompileRefusal
-    ensures { result ≡ plain_refusal_of fault.now }
-{
-    match fault {
-        TagFault::TooManyTags(router) => CompileRefusal::TooManyTags(*router),
-        TagFault::NoMemory => CompileRefusal::NoMemory,
-    }
-}
-
-/// The tags of all cases' nodes, or the refusal that a router has too many.
-fn tags_for(alloc: Global, net: &Net, graphs: &[Graph]) -> Result<Tags, CompileRefusal>
-    ensures tags { IfOk result (λ tags. tags.of ≡ tags_of net.now graphs.now) }
-    ensures room { OnOk result (IsRoomy net.now (all_nodes graphs.now)) }
-    ensures refused { (policy : PlainPolicy) (prefs : List PlainPrefs) → AreAllGiven net.now policy graphs.now prefs → IfErr result (λ e. IsRefusal net.now policy e) }
-{
-    match tags(alloc, net, graphs) {
-        Ok(tags) => Ok(tags),
-        Err(fault) => Err(refusal_of(&fault)),
-    }
 }
 
 /// The configuration and the evidence of all cases.
@@ -67,7 +44,6 @@ fn compiled(
     requires routers { OriginsAreRouters net.now policy.now.origins }
     requires given { AreAllGiven net.now (policy_of policy.now) all.graphs.items all.prefs.items }
     requires tags { tags.now.of ≡ tags_of net.now all.graphs.items }
-    requires room { IsRoomy net.now (all_nodes all.graphs.items) }
     ensures made { IfOk result (λ given. IsMade net.now (policy_of policy.now) given.config given.evidence.cases) }
     ensures passes { IfOk result (λ given. Passes net.now (policy_of policy.now) given.config given.evidence.cases) }
     ensures refused { IfErr result (λ e. IsRefusal net.now (policy_of policy.now) e) }
@@ -80,8 +56,7 @@ fn compiled(
 /// Compiles a policy, whose origins are routers, for a network: the configuration of its cases, each with its own
 /// graph, numbers and tags, and the evidence that this configuration is right, or why the policy is refused. The
 /// cases are judged in order, with room for 131,072 steps over all of them, and the first one that isn't accepted
-/// is refused; tags are counted after that. If memory is not refused, a policy is compiled exactly where nothing
-/// of this refuses it.
+/// is refused. If memory is not refused, a policy is compiled exactly where none of them is.
 pub fn compile(alloc: Global, net: &Net, policy: &Policy) -> Result<Compiled, CompileRefusal>
     requires { OriginsAreRouters net.now policy.now.origins }
     ensures made { IfOk result (λ given. IsMade net.now (policy_of policy.now) given.config given.evidence.cases) }
@@ -91,6 +66,6 @@ pub fn compile(alloc: Global, net: &Net, policy: &Policy) -> Result<Compiled, Co
     known_rules(net, policy);
     let list = cases(alloc, net, policy)?;
     let all = accepted_cases(alloc, net, policy, &list)?;
-    let tags = tags_for(alloc, net, &all.graphs)?;
+    let tags = tags(alloc, net, &all.graphs)?;
     compiled(alloc, net, policy, list.cases.as_slice(), all, &tags)
 }

@@ -1,7 +1,7 @@
 //! Laws of the compiler, each the contract of a function without a body.
 ghost use Rattle.std.specs.Prelude.{◌≡◌, ◌⊎◌, ℕ, List};
 ghost use Rattle.net_base.specs.Network.{IsNet, PlainNet};
-ghost use Rattle.path_words.specs.Policies.{PlainPolicy};
+ghost use Rattle.path_words.specs.Policies.{IsPolicy, PlainPolicy};
 ghost use Rattle.graph_base.specs.declared.refutation.Refutation.{Refutation};
 ghost use Rattle.graph_base.specs.Graphs.{PlainGraph};
 ghost use Rattle.config_base.specs.Configs.{PlainConfig};
@@ -12,9 +12,9 @@ ghost use Rattle.case_core.specs.declared.refusal.CompileRefusal.{CompileRefusal
 ghost use Rattle.case_core.specs.declared.refusal.CompileRefusal.TheVariants.{NoEvidence, NoMemory};
 ghost use Rattle.compile_core.specs.Compiling.{IsMade, IsRefusal};
 
-/// What is made of a policy passes: so the configuration is right.
+/// What is made of a policy, which is within the limits, passes: so the configuration is right.
 pub fn made_evidence_passes()
-    ensures { (net : PlainNet) (policy : PlainPolicy) (config : PlainConfig) (cs : List PlainCaseEvidence) → IsNet net → OriginsAreRouters net policy.origins
+    ensures { (net : PlainNet) (policy : PlainPolicy) (config : PlainConfig) (cs : List PlainCaseEvidence) → IsNet net → IsPolicy policy → OriginsAreRouters net policy.origins
         → IsMade net policy config cs → Passes net policy config cs }
 {}
 

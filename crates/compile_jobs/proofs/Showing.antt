@@ -12,7 +12,7 @@ use Rattle.graph_base.specs.Graphs.{PlainGraph}
 use Rattle.graph_base.specs.Refuting.{Refutes, Says}
 use Rattle.graph_base.specs.Walks.{IsEnteredFromBefore}
 use Rattle.case_core.specs.declared.refusal.CompileRefusal.{CompileRefusal}
-use Rattle.case_core.specs.declared.refusal.CompileRefusal.TheVariants.{TooManyRanks, TooManyStates, TooManySteps, SourceWithoutPath, MixedSource, NoEvidence, TooManyTags, NoMemory}
+use Rattle.case_core.specs.declared.refusal.CompileRefusal.TheVariants.{TooManyRanks, TooManyStates, TooManySteps, SourceWithoutPath, MixedSource, NoEvidence, NoMemory}
 use Rattle.case_evidence.specs.Accepted.{IsCaseCause}
 use Rattle.case_evidence.proofs.Joined.{given_entered}
 use Rattle.compile_core.specs.Compiling.{IsRefusal, room_after}
@@ -55,5 +55,4 @@ refusals_are_showable net policy (NoEvidence number g r) is =
     let k = length is.0 in
     let case = there net policy k (k + 1) is.2.0 refl in
     shows_cause net (k + 1) (room_after is.0) case.0 case.1 number g r (is.2.1 case.0 case.1 case.2)
-refusals_are_showable net policy (TooManyTags r) is = tt
 refusals_are_showable net policy NoMemory is = tt

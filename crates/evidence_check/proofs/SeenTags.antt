@@ -7,7 +7,8 @@ use Rattle.std.proofs.lemmas.Option.{same_Some, slice_get_within}
 use Rattle.list_laws.proofs.Members.{IsIn-push_cases, list_any_member, list_any-from_IsIn, IsIn-append_left, IsIn-push}
 use Rattle.net_base.specs.declared.numbers.Tag.{Tag}
 use Rattle.net_base.specs.Network.{PlainNet, IsNet, asn_of, is_location, is_peer}
-use Rattle.net_base.specs.Numbers.{is_router_as, is_tag, no_tag}
+use Rattle.net_base.specs.Numbers.{is_tag, no_tag}
+use Rattle.net_base.proofs.NumberRanges.{tag-range}
 use Rattle.net_base.proofs.Sites.{asn_tells, no_asn}
 use Rattle.graph_base.specs.Runs.{place_of}
 use Rattle.config_base.specs.Lines.{same_tag}
@@ -218,9 +219,7 @@ module _ (net : PlainNet) (cs : List PlainCaseEvidence) where
           known fits asn = elim (cases_Bool (is_location net place)) [
             | inl t ↦ t
             | inr f ↦
-                let range = and_parts (is_router_as tag.asn) (nat_le 1 tag.value && nat_le tag.value 65535) fits in
-                let least = leb-true 64512 tag.asn (and_parts (nat_le 64512 tag.asn) (nat_le tag.asn 65534) range.0).0 in
-                absurd (omega (arith, least, asn, no_asn net place f))
+                absurd (omega (arith, (tag-range tag fits).0, asn, no_asn net place f))
           ]
 
           seen_before : IsNet net → is_peer net place ≡ false → IsTrue (is_tag tag) × (tag.asn ≡ asn_of net place) → list_any (same_tag tag) seen ≡ true → KeepsTag net cs k n → ⊥

@@ -14,9 +14,9 @@ use Rattle.compile_jobs.specs.Compiled.{IsCompiled, IsRefusedFor}
 use Rattle.propane_run.specs.Headline.{CompilesRight}
 use Rattle.run_base.specs.Reading.{Holds}
 use Rattle.refusal_lines.specs.RefusalLines.{refusal_line}
-use Rattle.propane_run.specs.Refusing.{RefusesRight}
+use Rattle.propane_run.specs.Refusing.{Refuses, RefusesRight, TellsRefusal}
 use Rattle.propane_run.specs.Words.{words_are}
-use Rattle.propane_run.proofs.Asking.{asked_by}
+use Rattle.propane_run.proofs.Refusers.{command_of}
 use Rattle.memory_run.specs.Texts.{compile_words, topology_name, policy_name, Spell, IsRightText, IsRefusalLine, IsFaultLine}
 use Rattle.memory_run.proofs.Asking.{spelled_by}
 
@@ -47,11 +47,11 @@ fault_of_compile holds words is c asks l found =
     subst Q (sym (command_is c (subst P is asks))) found
 
 pub refusal_of_compile : {E : Type 0} (holds : Holds) (words : List (List ℕ)) → words ≡ compile_words → (taken : E → Option (List ℕ)) (err err' : E) (c : Command)
-    → RefusesRight holds taken words c err err' → RefusesRight holds taken words (Compile 1 2) err err'
-refusal_of_compile holds words is taken err err' c claim =
+    → Refuses c → TellsRefusal holds taken words c err err' → RefusesRight holds taken words (Compile 1 2) err err'
+refusal_of_compile holds words is taken err err' c refuses claim =
     let P : List (List ℕ) → Type 0 = λ ws. words_are ws ≡ Some c in
-    let Q : Command → Type 0 = λ d. RefusesRight holds taken words d err err' in
-    subst Q (sym (command_is c (subst P is (asked_by holds words c claim.net claim.policy claim.asked)))) claim
+    let Q : Command → Type 0 = λ d. TellsRefusal holds taken words d err err' in
+    subst Q (sym (command_is c (subst P is (command_of holds words taken err err' c refuses claim)))) claim
 
 module _ (words : List (List ℕ)) (is : words ≡ compile_words) (holds : Holds) (topology policy_text : List ℕ)
     (topology_is : holds topology_name ≡ Some topology) (policy_is : holds policy_name ≡ Some policy_text) where

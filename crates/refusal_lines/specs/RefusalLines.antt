@@ -12,7 +12,7 @@ use Rattle.graph_base.specs.Refuting.{IsLine}
 use Rattle.graph_base.specs.Walks.{IsEnteredFromBefore, shown_walk}
 use Rattle.config_made.specs.Writing.{name_of}
 use Rattle.case_core.specs.declared.refusal.CompileRefusal.{CompileRefusal}
-use Rattle.case_core.specs.declared.refusal.CompileRefusal.TheVariants.{TooManyRanks, TooManyStates, TooManySteps, SourceWithoutPath, MixedSource, NoEvidence, TooManyTags, NoMemory}
+use Rattle.case_core.specs.declared.refusal.CompileRefusal.TheVariants.{TooManyRanks, TooManyStates, TooManySteps, SourceWithoutPath, MixedSource, NoEvidence, NoMemory}
 
 -- the number of a refusal: a case is judged in this order
 abbrev pub refusal_number : CompileRefusal → ℕ
@@ -22,7 +22,6 @@ refusal_number (TooManySteps k) = 3
 refusal_number (SourceWithoutPath k r) = 4
 refusal_number (MixedSource k r with without) = 5
 refusal_number (NoEvidence k g r) = 6
-refusal_number (TooManyTags r) = 7
 refusal_number NoMemory = 0
 
 -- its word
@@ -33,7 +32,6 @@ refusal_word (TooManySteps k) = codes "too-many-steps"
 refusal_word (SourceWithoutPath k r) = codes "source-without-path"
 refusal_word (MixedSource k r with without) = codes "mixed-source"
 refusal_word (NoEvidence k g r) = codes "no-evidence"
-refusal_word (TooManyTags r) = codes "too-many-tags"
 refusal_word NoMemory = codes "no-memory"
 
 abbrev pub case_text : ℕ → List ℕ
@@ -69,7 +67,6 @@ refusal_values net (TooManySteps k) = case_text k
 refusal_values net (SourceWithoutPath k r) = case_text k ++ router_text net r
 refusal_values net (MixedSource k r with without) = case_text k ++ router_text net r ++ walks_text net with without
 refusal_values net (NoEvidence k g r) = case_text k ++ router_text net r.router ++ pair_text net g r.first r.second
-refusal_values net (TooManyTags r) = router_text net r
 refusal_values net NoMemory = []
 
 -- A refusal: its number, its word and its values. Locations are told by their names in the network.

@@ -23,7 +23,6 @@ fn refusal_number(refusal: &CompileRefusal) -> u8
         CompileRefusal::SourceWithoutPath(_, _) => 4,
         CompileRefusal::MixedSource(_, _, _, _) => 5,
         CompileRefusal::NoEvidence(_, _, _) => 6,
-        CompileRefusal::TooManyTags(_) => 7,
         CompileRefusal::NoMemory => 0,
     }
 }
@@ -39,7 +38,6 @@ fn refusal_word(refusal: &CompileRefusal) -> &'static [u8]
         CompileRefusal::SourceWithoutPath(_, _) => b"source-without-path",
         CompileRefusal::MixedSource(_, _, _, _) => b"mixed-source",
         CompileRefusal::NoEvidence(_, _, _) => b"no-evidence",
-        CompileRefusal::TooManyTags(_) => b"too-many-tags",
         CompileRefusal::NoMemory => b"no-memory",
     }
 }
@@ -168,7 +166,6 @@ fn push_values(
             push_router(line, net, refutation.router)?;
             push_pair(alloc, line, net, graph, refutation.first, refutation.second)
         }
-        CompileRefusal::TooManyTags(router) => push_router(line, net, *router),
         CompileRefusal::NoMemory => Ok(()),
     }
 }

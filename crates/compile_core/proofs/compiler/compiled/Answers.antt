@@ -34,18 +34,18 @@ pub config_of-requires-clause-differ : goal.config_of-requires-clause-differ
 config_of-requires-clause-differ c =
     subst (AreTags c.args.net.now) (sym (c.as_slice-2.ensures ∙ c.in_ok-evidence.ensures))
     (differ c.args.net.now c.requires.net (policy_of c.args.policy.now) c.requires.policy c.requires.routers c.args.cases.now c.args.all.graphs.items c.args.all.graphs.items c.args.all.prefs.items c.args.all.prefs.items c.as_slice.result.now
-    c.requires.cases refl refl (c.as_slice.ensures ∙ c.requires.tags) c.requires.given c.requires.room)
+    c.requires.cases refl refl (c.as_slice.ensures ∙ c.requires.tags) c.requires.given)
 
 pub returns-clause-made : goal.returns-clause-made
 returns-clause-made c =
     subst (IsMade c.args.net.now (policy_of c.args.policy.now) c.in_ok-config.config) (sym c.in_ok-evidence.ensures)
     (made c.args.net.now c.requires.net (policy_of c.args.policy.now) c.requires.policy c.requires.routers c.args.cases.now c.args.all.graphs.items c.args.all.graphs.items c.args.all.prefs.items c.args.all.prefs.items c.as_slice.result.now
-    c.requires.cases refl refl (c.as_slice.ensures ∙ c.requires.tags) c.requires.given c.requires.room c.in_ok-config.config
+    c.requires.cases refl refl (c.as_slice.ensures ∙ c.requires.tags) c.requires.given c.in_ok-config.config
     (subst (λ (es : List PlainCaseEvidence). IsConfigOf c.args.net.now (policy_of c.args.policy.now) es c.in_ok-config.config) (c.as_slice-2.ensures ∙ c.in_ok-evidence.ensures) c.in_ok-config.ensures))
 
 pub returns-clause-passes : goal.returns-clause-passes
 returns-clause-passes c =
     subst (Passes c.args.net.now (policy_of c.args.policy.now) c.in_ok-config.config) (sym c.in_ok-evidence.ensures)
     (passes c.args.net.now c.requires.net (policy_of c.args.policy.now) c.requires.policy c.requires.routers c.args.cases.now c.args.all.graphs.items c.args.all.graphs.items c.args.all.prefs.items c.args.all.prefs.items c.as_slice.result.now
-    c.requires.cases refl refl (c.as_slice.ensures ∙ c.requires.tags) c.requires.given c.requires.room c.in_ok-config.config
+    c.requires.cases refl refl (c.as_slice.ensures ∙ c.requires.tags) c.requires.given c.in_ok-config.config
     (subst (λ (es : List PlainCaseEvidence). IsConfigOf c.args.net.now (policy_of c.args.policy.now) es c.in_ok-config.config) (c.as_slice-2.ensures ∙ c.in_ok-evidence.ensures) c.in_ok-config.ensures))

@@ -25,7 +25,7 @@ returns-in-Done-clause-refused_where c = λ topology policy t p net asked e spel
 pub returns-in-Refused-clause-right : goal.returns-in-Refused-clause-right
 returns-in-Refused-clause-right c = λ topology policy t p.
     let refused = c.run.ensures.refused c.in-Refused.is in
-    let claim = refusal_of_compile (told c.args.inputs.now) _ c.requires.words _ _ _ refused.0 refused.2 in
+    let claim = refusal_of_compile (told c.args.inputs.now) _ c.requires.words _ _ _ refused.0 refused.1 refused.2 in
     refusal_told _ c.requires.words (told c.args.inputs.now) _ _ t p _ _ _ claim _
     (from_nothing _ _ _ (ap (λ (s : Taking). s.bytes) c.in_ok-err.ensures) claim.written.grew ∙ sym c.in_ok-copy_of-in-Refused.ensures)
 
