@@ -1,0 +1,4 @@
+mod Visits
+mod Visiting
+mod Reaching
+mod Choosing

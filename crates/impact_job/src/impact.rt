@@ -1,0 +1,46 @@
+//! The command `impact`.
+ghost use Rattle.std.specs.Prelude.{◌<◌, length};
+ghost use Rattle.path_words.specs.Policies.{IsPolicyOf, policy_of};
+ghost use Rattle.case_law.specs.Cases.{OriginsAreRouters};
+ghost use Rattle.impact_job.specs.Impacts.{SaysOfPolicy};
+ghost use Rattle.input_texts.specs.Texts.{OfTexts};
+ghost use Rattle.run_base.specs.Said.{IsGiven, said};
+
+use compile_jobs::compiled_for;
+use impact_report::impact;
+use impact_text::impact_text;
+use input_texts::{net_of, policy_for};
+use net_base::{Net, Prefix};
+use path_words::Policy;
+use run_base::Stop;
+use std::alloc::Global;
+
+// What single cuts change for a prefix, by the evidence for what is compiled from the policy, or why the policy is refused.
+fn cuts_text(alloc: Global, net: &Net, policy: &Policy, prefix: Prefix) -> Result<Vec<u8>, Stop>
+    requires routers { OriginsAreRouters net.now policy.now.origins }
+    requires fits { IsPolicyOf net.now (policy_of policy.now) }
+    ensures { IsGiven (SaysOfPolicy prefix net.now (policy_of policy.now)) (said result) }
+{
+    let compiled = compiled_for(alloc, net, policy)?;
+    let config = &compiled.config;
+    let evidence = &compiled.evidence;
+    let impact = impact(alloc, net, policy, config, evidence, prefix)?;
+    Ok(impact_text(alloc, net, policy, prefix, &impact)?)
+}
+
+/// What the texts of a topology and of a policy come to for a prefix: the impact of single cuts on the sources that the policy claims for
+/// it, or why the run stops.
+#[tactic(auto, unfolding(input_texts::specs::Texts::OfTexts))]
+pub fn impact_texts(
+    alloc: Global,
+    topology: &[u8],
+    policy: &[u8],
+    prefix: Prefix,
+) -> Result<Vec<u8>, Stop>
+    requires { length policy.now < 4294967295 }
+    ensures { IsGiven (OfTexts (SaysOfPolicy prefix) topology.now policy.now) (said result) }
+{
+    let net = net_of(alloc, topology)?;
+    let policy = policy_for(alloc, &net, policy)?;
+    cuts_text(alloc, &net, &policy, prefix)
+}

@@ -1,0 +1,93 @@
+-- What single cuts change of the best ranks of claimed sources.
+use Rattle.std.specs.Prelude.{◌≡◌, ℕ, ◌+◌, ◌<◌, ◌≤◌, Bool, true, false, ◌==◌, List, [], ◌∷◌, ◌++◌, length, map, Option, Some, None, slice_get, if◌then◌else◌}
+use Rattle.std.specs.List.{flat_map}
+use Rattle.net_base.specs.Network.{PlainNet}
+use Rattle.net_base.specs.Prefixes.{PlainPrefix}
+use Rattle.path_words.specs.Policies.{PlainPolicy, PlainStatement}
+use Rattle.path_words.specs.Governing.{statement_of}
+use Rattle.path_words.specs.Permitted.{IsClaimedRouter, IsClaimedSession}
+use Rattle.net_base.specs.Locations.{numbers_below}
+use Rattle.list_laws.specs.Members.{IsIn}
+use Rattle.outcome_base.specs.Outcomes.{Failures}
+use Rattle.impact_law.specs.declared.impact.SourceRank.{SourceRank}
+use Rattle.impact_law.specs.declared.impact.Cut.{Cut}
+use Rattle.impact_law.specs.declared.impact.Cut.TheVariants.{Link, Router}
+use Rattle.impact_law.specs.declared.impact.CutRow.{CutRow}
+use Rattle.impact_law.specs.declared.impact.Impact.{Impact}
+use Rattle.impact_law.specs.BestRanks.{IsBestRank}
+use Rattle.impact_law.specs.Support.{no_failures, link_dead, router_dead}
+
+-- how the paths of a source begin
+abbrev pub begin_at : ℕ → Option ℕ → List ℕ
+begin_at r None = r ∷ []
+begin_at r (Some peer) = peer ∷ r ∷ []
+
+abbrev pub IsSource : PlainNet → PlainPolicy → PlainPrefix → PlainStatement → ℕ → Option ℕ → Type 0
+IsSource net policy p s r None = IsClaimedRouter net policy p s r
+IsSource net policy p s r (Some peer) = IsClaimedSession net policy p s r peer
+
+-- routers by location, then sessions by router and peer
+abbrev pub Precedes : ℕ → Option ℕ → ℕ → Option ℕ → Type 0
+Precedes r None t None = r < t
+Precedes r None t (Some q) = Unit {0}
+Precedes r (Some p) t None = ⊥
+Precedes r (Some p) t (Some q) = (r ≤ t) × (r ≡ t → p < q)
+
+-- the claimed sources in order, each with its best rank under some failures
+pub record IsRanking (net : PlainNet) (policy : PlainPolicy) (f : Failures) (p : PlainPrefix) (s : PlainStatement) (xs : List SourceRank) : Type 0 where
+  pub each : (x : SourceRank) → IsIn xs x → IsSource net policy p s x.router x.peer × IsBestRank net policy f p s (begin_at x.router x.peer) x.rank
+  pub all : (r : ℕ) (peer : Option ℕ) → IsSource net policy p s r peer → (x : SourceRank) × IsIn xs x × (x.router ≡ r) × (x.peer ≡ peer)
+  pub order : (i j : ℕ) (x y : SourceRank) → i < j → slice_get xs i ≡ Some x → slice_get xs j ≡ Some y → Precedes x.router x.peer y.router y.peer
+
+abbrev pub same_rank : Option ℕ → Option ℕ → Bool
+same_rank None None = true
+same_rank None (Some j) = false
+same_rank (Some i) None = false
+same_rank (Some i) (Some j) = i == j
+
+-- the entries after that differ from those before
+abbrev pub changed : List SourceRank → List SourceRank → List SourceRank
+changed [] after = []
+changed (b ∷ before) [] = []
+changed (b ∷ before) (a ∷ after) = if same_rank b.rank a.rank then changed before after else a ∷ changed before after
+
+-- one row where something differs, none where nothing does
+abbrev pub row_of : Cut → List SourceRank → List CutRow
+row_of cut [] = []
+row_of cut (x ∷ xs) = record { cut = cut; changed = x ∷ xs } ∷ []
+
+-- links in the network's order, then routers by location
+abbrev pub cuts_of : PlainNet → List Cut
+cuts_of net = map (λ (link : ℕ × ℕ). Link link.0 link.1) net.links ++ map Router (numbers_below (length net.routers))
+
+abbrev pub failures_by : Cut → Failures
+failures_by (Link a b) = link_dead (a, b)
+failures_by (Router r) = router_dead r
+
+-- where a statement governs the prefix
+pub record IsImpactBy (net : PlainNet) (policy : PlainPolicy) (p : PlainPrefix) (s : PlainStatement) (impact : Impact) : Type 0 where
+  pub base : IsRanking net policy no_failures p s impact.base
+  pub after : Cut → List SourceRank
+  pub ranked : (cut : Cut) → IsRanking net policy (failures_by cut) p s (after cut)
+  pub rows : impact.rows ≡ flat_map (λ (cut : Cut). row_of cut (changed impact.base (after cut))) (cuts_of net)
+  pub cuts : impact.cuts ≡ length net.links + length net.routers
+
+-- where none does nothing is claimed
+pub record IsBareImpact (net : PlainNet) (impact : Impact) : Type 0 where
+  pub base : impact.base ≡ []
+  pub rows : impact.rows ≡ []
+  pub cuts : impact.cuts ≡ length net.links + length net.routers
+
+abbrev pub IsImpact : PlainNet → PlainPolicy → PlainPrefix → Impact → Type 0
+IsImpact net policy p impact = by_statement (statement_of policy p)
+  where
+    by_statement : Option PlainStatement → Type 0
+    by_statement None = IsBareImpact net impact
+    by_statement (Some s) = IsImpactBy net policy p s impact
+
+-- two rankings have the same sources in the same order, and one rank for each
+abbrev pub RankingsAreOne : Type 0
+RankingsAreOne = (net : PlainNet) (policy : PlainPolicy) (f : Failures) (p : PlainPrefix) (s : PlainStatement) (xs ys : List SourceRank) → IsRanking net policy f p s xs → IsRanking net policy f p s ys → xs ≡ ys
+
+abbrev pub ImpactsAreOne : Type 0
+ImpactsAreOne = (net : PlainNet) (policy : PlainPolicy) (p : PlainPrefix) (a b : Impact) → IsImpact net policy p a → IsImpact net policy p b → a ≡ b

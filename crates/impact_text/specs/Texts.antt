@@ -1,0 +1,63 @@
+-- The text of an impact.
+use Rattle.std.specs.Prelude.{ℕ, List, [], ◌++◌, length, map, codes, Option, Some, None}
+use Rattle.std.specs.Fmt.{decimal}
+use Rattle.std.specs.List.{flat_map}
+use Rattle.net_base.specs.Network.{PlainNet}
+use Rattle.net_base.specs.Prefixes.{PlainPrefix, PlainPattern}
+use Rattle.path_words.specs.Cases.{case_list}
+use Rattle.path_words.specs.Policies.{PlainPolicy}
+use Rattle.config_base.specs.Configs.{PlainConfig}
+use Rattle.evidence_base.specs.Made.{patterns_of}
+use Rattle.report_lines.specs.Lines.{head_lines, next_name}
+use Rattle.impact_law.specs.declared.impact.Cut.{Cut}
+use Rattle.impact_law.specs.declared.impact.Cut.TheVariants.{Link, Router}
+use Rattle.impact_law.specs.declared.impact.CutRow.{CutRow}
+use Rattle.impact_law.specs.declared.impact.Impact.{Impact}
+use Rattle.impact_law.specs.declared.impact.SourceRank.{SourceRank}
+
+-- the classes of a configuration that is made for a policy: one for each case
+abbrev pub classes_for : PlainNet → PlainPolicy → List (List PlainPattern)
+classes_for net policy = map (patterns_of policy) (case_list net policy)
+
+-- these alone
+abbrev pub classes_alone : PlainNet → PlainPolicy → PlainConfig
+classes_alone net policy = record { classes = classes_for net policy; routers = [] }
+
+-- ---- parts of a line
+
+abbrev pub source_text : PlainNet → ℕ → Option ℕ → List ℕ
+source_text net r None = codes "router" ++ next_name net r
+source_text net r (Some peer) = codes "session" ++ next_name net r ++ next_name net peer
+
+abbrev pub rank_text : Option ℕ → List ℕ
+rank_text None = codes " none"
+rank_text (Some n) = codes " rank " ++ decimal n
+
+-- ---- lines
+
+-- a source with its best rank
+unfoldable pub entry_line : PlainNet → SourceRank → List ℕ
+entry_line net x = source_text net x.router x.peer ++ rank_text x.rank ++ codes "\n"
+
+abbrev pub base_line : PlainNet → SourceRank → List ℕ
+base_line net x = codes "base " ++ entry_line net x
+
+abbrev pub cut_text : PlainNet → Cut → List ℕ
+cut_text net (Link a b) = codes "cut link" ++ next_name net a ++ next_name net b
+cut_text net (Router r) = codes "cut router" ++ next_name net r
+
+-- a cut and what it changes
+unfoldable pub row_text : PlainNet → CutRow → List ℕ
+row_text net row = cut_text net row.cut ++ codes "\n" ++ flat_map (entry_line net) row.changed
+
+unfoldable pub count_line : ℕ → ℕ → List ℕ
+count_line cuts changed = codes "cuts " ++ decimal cuts ++ codes " changed " ++ decimal changed ++ codes "\n"
+
+-- The prefix and its class, a line for each claimed source, each cut that changes something with the sources that it changes, and how many
+-- cuts there are and how many change something.
+abbrev pub impact_text : PlainNet → PlainPolicy → PlainPrefix → Impact → List ℕ
+impact_text net policy p impact =
+    head_lines (classes_alone net policy) p
+    ++ flat_map (base_line net) impact.base
+    ++ flat_map (row_text net) impact.rows
+    ++ count_line impact.cuts (length impact.rows)

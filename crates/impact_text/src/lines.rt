@@ -1,0 +1,132 @@
+//! The lines of an impact. Each `push_` function adds a text to the end of another.
+ghost use Rattle.std.specs.Prelude.{◌≡◌, ◌++◌, OnOk};
+ghost use Rattle.std.specs.List.{flat_map};
+ghost use Rattle.impact_text.specs.Texts.{base_line, count_line, cut_text, entry_line, rank_text, row_text, source_text};
+
+use impact_law::{Cut, CutRow, SourceRank};
+use net_base::{Loc, Net};
+use outside::NoMemory;
+use report_lines::push_next;
+use text_words::{push_bytes, push_number};
+
+/// Adds what a source is: a router, or its session to a peer.
+fn push_source(
+    text: &mut Vec<u8>,
+    net: &Net,
+    router: Loc,
+    peer: Option<Loc>,
+) -> Result<(), NoMemory>
+    ensures { OnOk result (text.new.items ≡ text.old.items ++ source_text net.now router peer) }
+{
+    match peer {
+        None => {
+            push_bytes(text, b"router")?;
+            push_next(text, net, router)
+        }
+        Some(peer) => {
+            push_bytes(text, b"session")?;
+            push_next(text, net, router)?;
+            push_next(text, net, peer)
+        }
+    }
+}
+
+/// Adds a rank, or that there is none.
+fn push_rank(text: &mut Vec<u8>, rank: Option<u32>) -> Result<(), NoMemory>
+    ensures { OnOk result (text.new.items ≡ text.old.items ++ rank_text rank) }
+{
+    match rank {
+        None => push_bytes(text, b" none"),
+        Some(rank) => {
+            push_bytes(text, b" rank ")?;
+            push_number(text, u64::from(rank))
+        }
+    }
+}
+
+/// Adds the line of a source with its best rank.
+#[tactic(auto, unfolding(crate::specs::Texts::entry_line))]
+fn push_entry(text: &mut Vec<u8>, net: &Net, entry: &SourceRank) -> Result<(), NoMemory>
+    ensures { OnOk result (text.new.items ≡ text.old.items ++ entry_line net.now entry.now) }
+{
+    push_source(text, net, entry.router, entry.peer)?;
+    push_rank(text, entry.rank)?;
+    push_bytes(text, b"\n")
+}
+
+/// Adds the lines of sources.
+fn push_entries(text: &mut Vec<u8>, net: &Net, entries: &[SourceRank]) -> Result<(), NoMemory>
+    ensures { OnOk result (text.new.items ≡ text.old.items ++ flat_map (entry_line net.now) entries.now) }
+{
+    for entry in entries {
+        push_entry(text, net, entry)?;
+    }
+    Ok(())
+}
+
+/// Adds the line of a source with its best rank where nothing is cut.
+fn push_base_entry(text: &mut Vec<u8>, net: &Net, entry: &SourceRank) -> Result<(), NoMemory>
+    ensures { OnOk result (text.new.items ≡ text.old.items ++ base_line net.now entry.now) }
+{
+    push_bytes(text, b"base ")?;
+    push_entry(text, net, entry)
+}
+
+/// Adds the lines of sources where nothing is cut.
+pub fn push_base(text: &mut Vec<u8>, net: &Net, base: &[SourceRank]) -> Result<(), NoMemory>
+    ensures { OnOk result (text.new.items ≡ text.old.items ++ flat_map (base_line net.now) base.now) }
+{
+    for entry in base {
+        push_base_entry(text, net, entry)?;
+    }
+    Ok(())
+}
+
+/// Adds what is cut.
+fn push_cut(text: &mut Vec<u8>, net: &Net, cut: Cut) -> Result<(), NoMemory>
+    ensures { OnOk result (text.new.items ≡ text.old.items ++ cut_text net.now cut) }
+{
+    match cut {
+        Cut::Link(a, b) => {
+            push_bytes(text, b"cut link")?;
+            push_next(text, net, a)?;
+            push_next(text, net, b)
+        }
+        Cut::Router(router) => {
+            push_bytes(text, b"cut router")?;
+            push_next(text, net, router)
+        }
+    }
+}
+
+/// Adds the lines of a cut and of what it changes.
+#[tactic(auto, unfolding(crate::specs::Texts::row_text))]
+fn push_row(text: &mut Vec<u8>, net: &Net, row: &CutRow) -> Result<(), NoMemory>
+    ensures { OnOk result (text.new.items ≡ text.old.items ++ row_text net.now row.now) }
+{
+    push_cut(text, net, row.cut)?;
+    push_bytes(text, b"\n")?;
+    push_entries(text, net, row.changed.as_slice())
+}
+
+/// Adds the lines of rows.
+pub fn push_rows(text: &mut Vec<u8>, net: &Net, rows: &[CutRow]) -> Result<(), NoMemory>
+    ensures { OnOk result (text.new.items ≡ text.old.items ++ flat_map (row_text net.now) rows.now) }
+{
+    for row in rows {
+        push_row(text, net, row)?;
+    }
+    Ok(())
+}
+
+/// Adds the line that counts cuts, and those that change something.
+#[tactic(auto, unfolding(crate::specs::Texts::count_line))]
+pub fn push_counts(text: &mut Vec<u8>, cuts: u32, changed: usize) -> Result<(), NoMemory>
+    ensures { OnOk result (text.new.items ≡ text.old.items ++ count_line cuts changed) }
+{
+    push_bytes(text, b"cuts ")?;
+    push_number(text, u64::from(cuts))?;
+    push_bytes(text, b" changed ")?;
+    push_number(text, changed as u64)?;
+    push_bytes(text, b"\n")
+}
