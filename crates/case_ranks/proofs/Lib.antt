@@ -1,0 +1,4 @@
+pub mod Marked
+pub mod NodeRanks
+pub mod Placed
+pub mod Within

@@ -1,0 +1,84 @@
+//! The cases one after the other, with the ranks that their walks have.
+ghost use Rattle.std.specs.Prelude.{◌≡◌, ◌+◌, ◌<◌, ◌≤◌, ◌^◌, IfErr, IfOk, IfSome, OnOk, length};
+ghost use Rattle.net_base.specs.Network.{IsNet};
+ghost use Rattle.net_base.specs.declared.limits.TheConstants.{ALTERNATIVES};
+ghost use Rattle.path_words.specs.Cases.{case_list};
+ghost use Rattle.path_words.specs.Policies.{policy_of};
+ghost use Rattle.case_law.specs.Cases.{OfCase, OriginsAreRouters};
+ghost use Rattle.case_core.specs.Automata.{FitsNumber};
+ghost use Rattle.case_core.specs.Refusals.{IsCause, IsGraphOf};
+ghost use Rattle.case_ranks.specs.Limits.{AreAllWithin, IsRefused, compile_refusal as refusal_of};
+ghost use Rattle.case_ranks.specs.Marks.{AreReached};
+
+use crate::marks::mark_ranks;
+use crate::refusal::{LintRefusal, lint_refusal};
+use bit_rows::Rows;
+use case_core::{CaseGraph, StatementAutomata, graph_within_limits};
+use net_base::Net;
+use net_base::limits::{ALTERNATIVES, STEPS};
+use path_words::{CaseList, Policy};
+use std::alloc::Global;
+
+/// What every network keeps.
+fn known_net(net: &Net)
+    ensures { IsNet net.now }
+{
+    let _routers = net.routers();
+}
+
+/// The graph of a case, or which limit the case passes.
+fn case_within(
+    alloc: Global,
+    net: &Net,
+    policy: &Policy,
+    cases: &CaseList,
+    number: u32,
+    room: u32,
+    kept: Option<StatementAutomata>,
+) -> Result<(CaseGraph, StatementAutomata), LintRefusal>
+    requires cases { cases.now.cases ≡ case_list net.now (policy_of policy.now) }
+    requires from_one { 1 ≤ number }
+    requires within { number ≤ length cases.now.cases }
+    requires kept { IfSome kept (FitsNumber net.now (policy_of policy.now)) }
+    ensures graph { IfOk result (λ given. OfCase net.now (policy_of policy.now) number (λ s c. IsGraphOf net.now room s c given.0)) }
+    ensures kept { IfOk result (λ given. FitsNumber net.now (policy_of policy.now) given.1) }
+    ensures refused { IfErr result (λ e. OfCase net.now (policy_of policy.now) number (λ s c. IsCause net.now number room s c (refusal_of e))) }
+{
+    match graph_within_limits(alloc, net, policy, cases, number, room, kept) {
+        Ok(given) => Ok(given),
+        Err(refusal) => Err(lint_refusal(&refusal)),
+    }
+}
+
+/// For each statement, by its number from 1, the ranks that permitted walks of its cases have, as the bits of a row; or which
+/// limit the first case passes that passes one. Row 0 and bit 0 stay clear.
+pub fn reached_ranks(
+    alloc: Global,
+    net: &Net,
+    policy: &Policy,
+    cases: &CaseList,
+) -> Result<Rows, LintRefusal>
+    requires cases { cases.now.cases ≡ case_list net.now (policy_of policy.now) }
+    requires few { length cases.now.cases < 2 ^ 32 }
+    requires routers { OriginsAreRouters net.now policy.now.origins }
+    ensures rows { IfOk result (λ ranks. ranks.count ≡ length policy.now.statements + 1) }
+    ensures bits { IfOk result (λ ranks. ranks.bits ≡ ALTERNATIVES + 1) }
+    ensures reached { IfOk result (AreReached net.now (policy_of policy.now)) }
+    ensures within { OnOk result (AreAllWithin net.now (policy_of policy.now)) }
+    ensures refused { IfErr result (IsRefused net.now (policy_of policy.now)) }
+{
+    known_net(net);
+    let rows = policy.statements().len() as u32 + 1;
+    let mut ranks = Rows::new(alloc, rows, ALTERNATIVES as u32 + 1)?;
+    let mut room = STEPS as u32;
+    let mut kept = None;
+    let list = cases.cases.as_slice();
+    for place in 0..list.len() {
+        let number = place as u32 + 1;
+        let (given, automata) = case_within(alloc, net, policy, cases, number, room, kept)?;
+        room -= given.used;
+        mark_ranks(&mut ranks, list[place].statement, given.graph.nodes());
+        kept = Some(automata);
+    }
+    Ok(ranks)
+}

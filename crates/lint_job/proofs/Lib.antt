@@ -1,0 +1,2 @@
+pub mod LintLaws
+pub mod Showing

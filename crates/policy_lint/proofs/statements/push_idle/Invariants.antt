@@ -1,0 +1,6 @@
+use Rattle.std.proofs.Common.{◌≡◌, ◌++◌}
+use Rattle.policy_lint.specs.Told.{told_idle}
+use Rattle.policy_lint.proofs.statements.push_idle.Given as goal
+
+abbrev pub invariant-loop-place : goal.invariant-loop-place
+invariant-loop-place l = l.findings.items ≡ l.fn.findings.items ++ told_idle l.have l.place

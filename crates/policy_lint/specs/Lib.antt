@@ -1,0 +1,4 @@
+pub mod Findings
+pub mod Groups
+pub mod Selected
+pub mod Told
