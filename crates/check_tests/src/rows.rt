@@ -20,4 +20,4 @@ pub struct Sample {
 }
 
 /// The configuration of no router. Only the last rule asks for another one.
-pub const NO_CONFIG: &str = "propane-config 1\n";
+pub const NO_CONFIG: &str = "propane-config 2\n";

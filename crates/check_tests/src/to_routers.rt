@@ -6,16 +6,16 @@ use samples::{
     WAYPOINT_RING,
 };
 
-const A_ROUTER_TOO_MANY: &str = "propane-config 1
+const A_ROUTER_TOO_MANY: &str = "propane-config 2
 class 1 10.0.1.0/24
 router A asn 64512 id 10.255.0.1
-originate 1 10.0.1.0/24 tag 64512:1
+originate 1 10.0.1.0/24 tag 64512:0:1
 session B asn 64513
-export 1 tag 64512:1
+export 1 tag 64512:0:1
 end
 router B asn 64513 id 10.255.0.2
 session A asn 64512
-import 1 tag 64512:1 set 64513:1 pref 100
+import 1 tag 64512:0:1 set 64513:0:1 pref 100
 end
 router C asn 64514 id 10.255.0.3
 end
@@ -29,6 +29,27 @@ const NUMBER_OF_A: &str =
     r#"{"cases":[{"external":false,"nodes":[[0,0,0,7,64512,1],[1,0,1,100,64513,1]],
 "origins":[0],"prefixes":["10.0.1.0/24"],"starts":[0],"statement":1,"steps":[[0,1]]}],"version":1}"#;
 
+const LAST_TAGS: &str =
+    r#"{"cases":[{"external":false,"nodes":[[0,0,0,100,64512,65536],[1,0,1,100,64513,4294967295]],
+"origins":[0],"prefixes":["10.0.1.0/24"],"starts":[0],"statement":1,"steps":[[0,1]]}],"version":1}"#;
+
+const LAST_TAGS_CONFIG: &str = "propane-config 2
+class 1 10.0.1.0/24
+router A asn 64512 id 10.255.0.1
+originate 1 10.0.1.0/24 tag 64512:0:65536
+session B asn 64513
+export 1 tag 64512:0:65536
+end
+router B asn 64513 id 10.255.0.2
+session A asn 64512
+import 1 tag 64512:0:65536 set 64513:0:4294967295 pref 100
+end
+";
+
+const TAG_OF_NO_VALUE: &str =
+    r#"{"cases":[{"external":false,"nodes":[[0,0,0,100,64512,1],[1,0,1,100,64513,0]],
+"origins":[0],"prefixes":["10.0.1.0/24"],"starts":[0],"statement":1,"steps":[[0,1]]}],"version":1}"#;
+
 const TAG_OF_A: &str =
     r#"{"cases":[{"external":false,"nodes":[[0,0,0,100,64512,1],[1,0,1,100,64512,2]],
 "origins":[0],"prefixes":["10.0.1.0/24"],"starts":[0],"statement":1,"steps":[[0,1]]}],"version":1}"#;
@@ -38,32 +59,32 @@ const FINER: &str = r#"{"cases":[{"external":false,"nodes":[[0,0,0,100,64512,1],
 [2,0,1,100,64514,1],[1,0,1,100,64513,2],[2,0,1,100,64514,2]],"origins":[0],"prefixes":["10.0.1.0/24"],
 "starts":[0],"statement":1,"steps":[[0,1],[0,2],[1,4],[2,3],[3,4],[4,3]]}],"version":1}"#;
 
-const FINER_CONFIG: &str = "propane-config 1
+const FINER_CONFIG: &str = "propane-config 2
 class 1 10.0.1.0/24
 router A asn 64512 id 10.255.0.1
-originate 1 10.0.1.0/24 tag 64512:1
+originate 1 10.0.1.0/24 tag 64512:0:1
 session B asn 64513
-export 1 tag 64512:1
+export 1 tag 64512:0:1
 session C asn 64514
-export 1 tag 64512:1
+export 1 tag 64512:0:1
 end
 router B asn 64513 id 10.255.0.2
 session A asn 64512
-import 1 tag 64512:1 set 64513:1 pref 100
+import 1 tag 64512:0:1 set 64513:0:1 pref 100
 session C asn 64514
-import 1 tag 64514:1 set 64513:2 pref 100
-import 1 tag 64514:2 set 64513:2 pref 100
-export 1 tag 64513:1
-export 1 tag 64513:2
+import 1 tag 64514:0:1 set 64513:0:2 pref 100
+import 1 tag 64514:0:2 set 64513:0:2 pref 100
+export 1 tag 64513:0:1
+export 1 tag 64513:0:2
 end
 router C asn 64514 id 10.255.0.3
 session A asn 64512
-import 1 tag 64512:1 set 64514:1 pref 100
+import 1 tag 64512:0:1 set 64514:0:1 pref 100
 session B asn 64513
-import 1 tag 64513:1 set 64514:2 pref 100
-import 1 tag 64513:2 set 64514:2 pref 100
-export 1 tag 64514:1
-export 1 tag 64514:2
+import 1 tag 64513:0:1 set 64514:0:2 pref 100
+import 1 tag 64513:0:2 set 64514:0:2 pref 100
+export 1 tag 64514:0:1
+export 1 tag 64514:0:2
 end
 ";
 
@@ -73,24 +94,24 @@ const COARSER: &str =
 [2,0,1,100,64514,1]],"origins":[0],"prefixes":["10.0.1.0/24"],"starts":[0],"statement":1,
 "steps":[[0,1],[1,2],[2,1]]}],"version":1}"#;
 
-const COARSER_CONFIG: &str = "propane-config 1
+const COARSER_CONFIG: &str = "propane-config 2
 class 1 10.0.1.0/24
 router D asn 64512 id 10.255.0.1
-originate 1 10.0.1.0/24 tag 64512:1
+originate 1 10.0.1.0/24 tag 64512:0:1
 session X asn 64513
-export 1 tag 64512:1
+export 1 tag 64512:0:1
 end
 router X asn 64513 id 10.255.0.2
 session D asn 64512
-import 1 tag 64512:1 set 64513:1 pref 100
+import 1 tag 64512:0:1 set 64513:0:1 pref 100
 session W asn 64514
-import 1 tag 64514:1 set 64513:1 pref 100
-export 1 tag 64513:1
+import 1 tag 64514:0:1 set 64513:0:1 pref 100
+export 1 tag 64513:0:1
 end
 router W asn 64514 id 10.255.0.3
 session X asn 64513
-import 1 tag 64513:1 set 64514:1 pref 100
-export 1 tag 64514:1
+import 1 tag 64513:0:1 set 64514:0:1 pref 100
+export 1 tag 64514:0:1
 end
 ";
 
@@ -119,7 +140,7 @@ pub const TWO: Sample = Sample {
     rows: &TWO_ROWS,
 };
 
-const TWO_ROWS: [Row; 5] = [
+const TWO_ROWS: [Row; 7] = [
     Row {
         name: "as compiled",
         config: TWO_ROUTERS_CONFIG,
@@ -131,6 +152,18 @@ const TWO_ROWS: [Row; 5] = [
         config: TWO_ROUTERS_CONFIG,
         evidence: NUMBER_OF_A,
         found: None,
+    },
+    Row {
+        name: "tags of more than two octets",
+        config: LAST_TAGS_CONFIG,
+        evidence: LAST_TAGS,
+        found: None,
+    },
+    Row {
+        name: "a tag without a value",
+        config: NO_CONFIG,
+        evidence: TAG_OF_NO_VALUE,
+        found: Some((Tags, 1, 1, 0, 0)),
     },
     Row {
         name: "the tag of another router",

@@ -3,20 +3,20 @@ use crate::rows::{NO_CONFIG, Row, Sample};
 use evidence_rules::CheckRule::{Cases, Ranks, Tags, Walks};
 use samples::TWO_ROUTERS;
 
-const CONFIG: &str = "propane-config 1
+const CONFIG: &str = "propane-config 2
 class 1 10.0.1.0/24
 class 2 10.0.2.0/24
 router A asn 64512 id 10.255.0.1
-originate 1 10.0.1.0/24 tag 64512:1
+originate 1 10.0.1.0/24 tag 64512:0:1
 session B asn 64513
-import 2 tag 64513:2 set 64512:2 pref 100
-export 1 tag 64512:1
+import 2 tag 64513:0:2 set 64512:0:2 pref 100
+export 1 tag 64512:0:1
 end
 router B asn 64513 id 10.255.0.2
-originate 2 10.0.2.0/24 tag 64513:2
+originate 2 10.0.2.0/24 tag 64513:0:2
 session A asn 64512
-import 1 tag 64512:1 set 64513:1 pref 100
-export 2 tag 64513:2
+import 1 tag 64512:0:1 set 64513:0:1 pref 100
+export 2 tag 64513:0:2
 end
 ";
 

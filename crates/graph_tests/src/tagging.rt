@@ -1,9 +1,9 @@
-//! How many nodes a router may have.
-ghost use Rattle.std.specs.Prelude.{◌≤◌};
+//! The tags of many nodes at a router.
+ghost use Rattle.std.specs.Prelude.{◌≡◌, ◌≤◌, IfOk, length};
 
-use community_assign::{TagFault, tags};
+use community_assign::tags;
 use graph_base::{Graph, Node};
-use net_base::{List, Loc};
+use net_base::{List, Loc, Tag};
 use outside::NoMemory;
 use samples::{TWO_ROUTERS, net_of};
 use std::alloc::Global;
@@ -12,6 +12,7 @@ use std::test::Fail;
 // A graph of so many nodes at the second router.
 fn graph_of(alloc: Global, count: usize) -> Result<Graph, NoMemory>
     requires { count ≤ 65536 }
+    ensures { IfOk result (λ g. length g.nodes ≡ count) }
 {
     let node = Node {
         loc: Loc::new(1),
@@ -22,21 +23,23 @@ fn graph_of(alloc: Global, count: usize) -> Result<Graph, NoMemory>
     Ok(Graph::new(List::from_vec(nodes), List::new(alloc), List::new(alloc)))
 }
 
-// What is wrong with the tags of two graphs, the first with 65,534 nodes and the second with so many.
-fn fault_of(alloc: Global, more: usize) -> Result<Option<TagFault>, NoMemory>
-    requires { more ≤ 65536 }
-{
+// The tag of the last node of two graphs, the first with 65,534 nodes and the second with two.
+fn last_tag(alloc: Global) -> Result<Option<Tag>, NoMemory> {
     let Some(net) = net_of(alloc, TWO_ROUTERS) else {
-        return Ok(Some(TagFault::NoMemory));
+        return Ok(None);
     };
-    let graphs = vec![in alloc; graph_of(alloc, 65534)?, graph_of(alloc, more)?]?;
-    Ok(tags(alloc, &net, &graphs).err())
+    let graphs = vec![in alloc; graph_of(alloc, 65534)?, graph_of(alloc, 2)?]?;
+    let tags = tags(alloc, &net, &graphs)?;
+    let last = tags.of.as_slice().last();
+    Ok(last.and_then(|tags| tags.as_slice().last().copied()))
 }
 
 #[test]
-fn a_router_has_65535_tags(rt: HostRuntime) -> Result<(), Fail> {
-    assert_eq!(rt; fault_of(rt.alloc(), 1)?, None);
-    let crowded = TagFault::TooManyTags(Loc::new(1));
-    assert_eq!(rt; fault_of(rt.alloc(), 2)?, Some(crowded));
+fn a_router_has_more_tags_than_two_octets_count(rt: HostRuntime) -> Result<(), Fail> {
+    let tag = Tag {
+        asn: 64513,
+        value: 65536,
+    };
+    assert_eq!(rt; last_tag(rt.alloc())?, Some(tag));
     Ok(())
 }

@@ -3,27 +3,27 @@ use crate::rows::Row;
 use samples::{ENTERED_CONFIG, TWO_EXITS, TWO_EXITS_CONFIG};
 
 // Two exits, where each router also exports to its peer what came from P1.
-const EXPORTED_CONFIG: &str = "propane-config 1
+const EXPORTED_CONFIG: &str = "propane-config 2
 class 1 0.0.0.0/0 le 32
 router R1 asn 64512 id 10.255.0.1
 session R2 asn 64513
-import 1 tag 64513:1 set 64512:2 pref 100
-import 1 tag 64513:2 set 64512:1 pref 101
-export 1 tag 64512:1
-export 1 tag 64512:2
+import 1 tag 64513:0:1 set 64512:0:2 pref 100
+import 1 tag 64513:0:2 set 64512:0:1 pref 101
+export 1 tag 64512:0:1
+export 1 tag 64512:0:2
 peer P1 asn 1001
-import 1 set 64512:1 pref 101
-export 1 tag 64512:1
+import 1 set 64512:0:1 pref 101
+export 1 tag 64512:0:1
 end
 router R2 asn 64513 id 10.255.0.2
 session R1 asn 64512
-import 1 tag 64512:1 set 64513:2 pref 101
-import 1 tag 64512:2 set 64513:1 pref 100
-export 1 tag 64513:1
-export 1 tag 64513:2
+import 1 tag 64512:0:1 set 64513:0:2 pref 101
+import 1 tag 64512:0:2 set 64513:0:1 pref 100
+export 1 tag 64513:0:1
+export 1 tag 64513:0:2
 peer P2 asn 1002
-import 1 set 64513:1 pref 100
-export 1 tag 64513:2
+import 1 set 64513:0:1 pref 100
+export 1 tag 64513:0:2
 end
 ";
 

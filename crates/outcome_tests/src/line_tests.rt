@@ -8,7 +8,7 @@ use outside::NoMemory;
 use stable_paths::{Outcome, Scenario, Situation, Survivors, survives};
 use std::alloc::Global;
 
-const TWO_CLASSES: &str = "propane-config 1
+const TWO_CLASSES: &str = "propane-config 2
 class 1 10.0.0.0/8 le 16
 class 2 10.0.0.0/8 le 16, 10.0.0.0/8 le 24
 ";

@@ -2,6 +2,9 @@
 pub mod Audit
 pub mod Check
 pub mod Explain
+pub mod Impact
+pub mod Lint
+pub mod Migrate
 pub mod Replay
 pub mod Sample
 pub mod Trace

@@ -5,7 +5,7 @@ use Rattle.run_base.specs.declared.outcome.Status.{Status}
 use Rattle.run_base.specs.declared.outcome.Status.TheVariants.{Done, Refused, Usage, BadInput, ReadFault, NoMemory, CheckFails}
 use Rattle.propane_run.specs.Failing.{Judges}
 use Rattle.propane_run.specs.Clauses.{FaultFound}
-use Rattle.propane_run.specs.Refusing.{Compiles}
+use Rattle.propane_run.specs.Refusing.{Refuses}
 use Rattle.propane_run.specs.Words.{words_are, names_read, usage}
 use Rattle.run_base.specs.Reading.{Holds, IsAmong, IsStop, AllHeld, unread, too_long}
 use Rattle.propane_run.specs.Run.{IsAnswerOf, Comes, Job}
@@ -18,7 +18,7 @@ module _ (holds : Holds) (rose : List ℕ → Type 0) (words : List (List ℕ)) 
   -- why a command says a thing, by the status that goes with it
   abbrev pub Cause : Command → Said → Status → Type 0
   Cause c what Done = (b : List ℕ) × Comes holds words c (text b) × (what ≡ text b)
-  Cause c what Refused = (l : List ℕ) × Compiles c × Comes holds words c (line Refused l) × (what ≡ line Refused l)
+  Cause c what Refused = (l : List ℕ) × Refuses c × Comes holds words c (line Refused l) × (what ≡ line Refused l)
   Cause c what BadInput = (l : List ℕ) × FaultFound holds words c l × (what ≡ line BadInput l)
   Cause c what ReadFault = (name : List ℕ) × IsAmong (names_read words c) name × rose name × (what ≡ unread name)
   Cause c what NoMemory = what ≡ no_memory
@@ -43,7 +43,7 @@ module _ (holds : Holds) (rose : List ℕ → Type 0) (words : List (List ℕ)) 
       comes_to : (said : Said) → what ≡ said → Comes holds words c said
       comes_to said is = let P : Said → Type 0 = λ w. Job c bs w in record { is = asks; bytes = bs; held = held; says = subst P is says }
 
-      came : IsJobSaid (Compiles c) (Judges c) what → Cause c what what.status
+      came : IsJobSaid (Refuses c) (Judges c) what → Cause c what what.status
       came (in_text b is) = by (text b) is (b, comes_to _ is, is)
       came (in_line l is) = by (line BadInput l) is (l, inr (comes_to _ is), is)
       came (in_refusal compiles l is) = by (line Refused l) is (l, compiles, comes_to _ is, is)

@@ -11,19 +11,22 @@ use Rattle.compile_jobs.proofs.SampleLaws.{sample_compiler, sample_job}
 use Rattle.compile_jobs.proofs.WrittenLaws.{written_job}
 use Rattle.audit_job.proofs.AuditLaws.{audit_job}
 use Rattle.check_job.proofs.CheckLaws.{check_job}
+use Rattle.impact_job.proofs.ImpactLaws.{impact_compiler, impact_job}
+use Rattle.lint_job.proofs.LintLaws.{lint_job}
+use Rattle.migrate_job.proofs.MigrateLaws.{migrate_job}
 use Rattle.replay_job.proofs.ReplayLaws.{replay_compiler, replay_job}
 use Rattle.trace_job.proofs.TraceLaws.{trace_compiler, trace_job}
 use Rattle.propane_run.specs.declared.command.Command.{Command}
-use Rattle.propane_run.specs.declared.command.Command.TheVariants.{Compile, Evidence, Check, Explain, Replay, Trace, Audit, Sample}
+use Rattle.propane_run.specs.declared.command.Command.TheVariants.{Compile, Evidence, Check, Explain, Replay, Trace, Impact, Lint, Audit, Migrate, Sample}
 use Rattle.propane_run.specs.Asked.{AsksFor, IsFor}
 use Rattle.propane_run.specs.Failing.{Judges}
-use Rattle.propane_run.specs.Refusing.{Compiles}
+use Rattle.propane_run.specs.Refusing.{Compiles, Refuses}
 use Rattle.propane_run.specs.Run.{Job}
 use Rattle.propane_run.specs.Words.{names_read, words_are}
 use Rattle.propane_run.proofs.Asking.{asks_for, asks_of_events, asks_under, spells, spells_events, spells_under}
 
 -- what it says has a form, and is one thing
-pub job_is : (c : Command) → IsJob (Compiles c) (Judges c) (Job c)
+pub job_is : (c : Command) → IsJob (Refuses c) (Judges c) (Job c)
 job_is (Compile t p) = written_job part.Config (Unit {0}) ⊥ tt
 job_is (Evidence t p) = written_job part.Evidence (Unit {0}) ⊥ tt
 job_is (Check t p c e) = check_job ⊥ (Unit {0}) tt
@@ -31,6 +34,9 @@ job_is (Explain t p) = explain_job ⊥ ⊥
 job_is (Replay t p s) = replay_job (Unit {0}) ⊥ tt
 job_is (Trace t p e) = trace_job (Unit {0}) ⊥ tt
 job_is (Sample n) = sample_job n (Unit {0}) ⊥ tt
+job_is (Migrate k) = migrate_job ⊥ ⊥
+job_is (Impact t p x) = impact_job x (Unit {0}) ⊥ tt
+job_is (Lint t p) = lint_job (Unit {0}) ⊥ tt
 job_is (Audit t p c e s r) = audit_job ⊥ (Unit {0}) tt
 
 module _ (holds : Holds) (words : List (List ℕ)) where
@@ -42,6 +48,7 @@ module _ (holds : Holds) (words : List (List ℕ)) where
   pub compiler : (c : Command) → Compiles c → words_are words ≡ Some c → IsCompiler holds (names_read words c) (Job c) (IsFor holds words c)
   compiler (Compile t p) compiles is = of_two (Compile t p) is (compiler_of_two (WritesPart part.Config) holds (names_read words (Compile t p)))
   compiler (Evidence t p) compiles is = of_two (Evidence t p) is (compiler_of_two (WritesPart part.Evidence) holds (names_read words (Evidence t p)))
+  compiler (Impact t p x) compiles is = of_two (Impact t p x) is (impact_compiler x holds (names_read words (Impact t p x)))
   compiler (Replay t p s) compiles is =
       in_words (replay_compiler holds (names_read words (Replay t p s))) (λ net policy asked. (asked.0, asks_under holds words (Replay t p s) net policy is asked.0 asked.1))
       (λ net policy asks. (asks.0, spells_under holds words (Replay t p s) net policy asks.0 asks.1))

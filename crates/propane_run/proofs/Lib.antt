@@ -4,5 +4,6 @@ pub mod Causes
 pub mod Checkers
 pub mod Compilers
 pub mod Dispatch
+pub mod Refusers
 pub mod RunLaws
 pub mod Wording

@@ -9,7 +9,7 @@ use Rattle.run_base.specs.Reading.{Holds, IsAmong, unread, SaidOfTold}
 use Rattle.propane_run.specs.Run.{IsAnswer, IsAnswerOf, Comes, Job}
 use Rattle.propane_run.specs.Failing.{Judges}
 use Rattle.propane_run.specs.Clauses.{FaultFound, ReadsSmoothly}
-use Rattle.propane_run.specs.Refusing.{Compiles}
+use Rattle.propane_run.specs.Refusing.{Refuses}
 use Rattle.propane_run.proofs.Causes.{Why, why}
 use Rattle.run_base.proofs.Jobs.{status_is}
 use Rattle.run_base.proofs.Told.{reads_told}
@@ -81,11 +81,11 @@ module _ {O E : Type 0} (ot : O → Option (List ℕ)) (of : O → ℕ) (et : E 
   pub done : ended ≡ Done → (c : Command) × (b : List ℕ) × Comes holds words c (text b) × Whole ot b out out' × (err' ≡ err)
   done = done_at (words_are words) refl
 
-  refused_at : (o : Option Command) → Came o Refused → (c : Command) × (l : List ℕ) × Compiles c × Comes holds words c (line Refused l) × Whole et l err err' × (out' ≡ out)
+  refused_at : (o : Option Command) → Came o Refused → (c : Command) × (l : List ℕ) × Refuses c × Comes holds words c (line Refused l) × Whole et l err err' × (out' ≡ out)
   refused_at None r = absurd (let e = r.cause.0 in cc)
   refused_at (Some c) r = let e = r.cause.3 in (c, r.cause.0, r.cause.1, r.cause.2, rw e at r.to_err, (rw e at r.to_out).idle refl)
 
-  pub refused : ended ≡ Refused → (c : Command) × (l : List ℕ) × Compiles c × Comes holds words c (line Refused l) × Whole et l err err' × (out' ≡ out)
+  pub refused : ended ≡ Refused → (c : Command) × (l : List ℕ) × Refuses c × Comes holds words c (line Refused l) × Whole et l err err' × (out' ≡ out)
   refused is = refused_at (words_are words) (came (words_are words) refl Refused (λ x. cc) is)
 
   -- ---- evidence that fails

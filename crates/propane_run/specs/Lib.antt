@@ -5,6 +5,9 @@ pub mod Clauses
 pub mod Explaining
 pub mod Failing
 pub mod Headline
+pub mod Impacting
+pub mod Linting
+pub mod Migrating
 pub mod Pairs
 pub mod Refusing
 pub mod Replaying

@@ -1,7 +1,7 @@
 -- What the words and the inputs come to.
 use Rattle.std.specs.Prelude.{◌≡◌, ℕ, List, Option, Some, None}
 use Rattle.propane_run.specs.declared.command.Command.{Command}
-use Rattle.propane_run.specs.declared.command.Command.TheVariants.{Compile, Evidence, Check, Explain, Replay, Trace, Audit, Sample}
+use Rattle.propane_run.specs.declared.command.Command.TheVariants.{Compile, Evidence, Check, Explain, Replay, Trace, Impact, Lint, Audit, Migrate, Sample}
 use Rattle.propane_run.specs.Words.{names_read, usage, words_are}
 use Rattle.run_base.specs.Reading.{Holds, ReadsAll, AllHeld}
 use Rattle.input_texts.specs.Texts.{OfTwoTexts}
@@ -9,6 +9,9 @@ use Rattle.audit_job.specs.Audited as audit
 use Rattle.check_job.specs.Checked as check
 use Rattle.compile_jobs.specs.declared.written.Part.TheVariants as part
 use Rattle.compile_jobs.specs.Explained as explain
+use Rattle.impact_job.specs.Impacts as impact
+use Rattle.lint_job.specs.Linted as lint
+use Rattle.migrate_job.specs.Migrated as migrate
 use Rattle.replay_job.specs.Replayed as replay
 use Rattle.compile_jobs.specs.Sampled.{SaysOfNumber}
 use Rattle.compile_jobs.specs.Written.{SaysOfPart}
@@ -24,6 +27,9 @@ Job (Explain _ _) = OfTwoTexts explain.SaysOfPolicy
 Job (Replay _ _ _) = replay.SaysOfTexts
 Job (Trace _ _ _) = trace.SaysOfTexts
 Job (Sample n) = λ bs. SaysOfNumber n
+Job (Migrate _) = migrate.SaysOfTexts
+Job (Impact _ _ p) = impact.SaysOfTexts p
+Job (Lint _ _) = lint.SaysOfTexts
 Job (Audit _ _ _ _ _ _) = audit.SaysOfTexts
 
 abbrev pub IsAnswerOf : Holds → (List ℕ → Type 0) → List (List ℕ) → Option Command → Said → Type 0

@@ -1,16 +1,17 @@
 //! Which command the words are.
 ghost use Rattle.std.specs.Prelude.{◌≡◌, IfOk, IfSome, length, map, string_bytes};
-ghost use Rattle.propane_run.specs.Words.{words_are, sample_number, with_number, with_two_names, with_three_names, with_four_names, with_six_names, places_of, IsWithin};
+ghost use Rattle.propane_run.specs.Words.{words_are, sample_number, with_one_word, with_two_names, prefix_word, with_three_words, with_four_names, with_six_names, places_of, IsWithin};
 
-use net_base::read_length;
+use net_base::{Prefix, read_length, read_prefix};
 use outside::NoMemory;
 use std::alloc::Global;
 
 /// What is said of words that are no command.
 pub const USAGE: &[u8] =
-    b"propane: usage: compile TOPO POLICY, evidence TOPO POLICY, check TOPO POLICY CONFIG EVIDENCE, explain TOPO POLICY, replay TOPO POLICY SCENARIO, trace TOPO POLICY EVENTS, sample N, audit TOPO POLICY CONFIG EVIDENCE SCENARIO TABLES\n";
+    b"propane: usage: compile TOPO POLICY, evidence TOPO POLICY, check TOPO POLICY CONFIG EVIDENCE, explain TOPO POLICY, replay TOPO POLICY SCENARIO, trace TOPO POLICY EVENTS, sample N, migrate CONFIG, impact TOPO POLICY PREFIX, lint TOPO POLICY, audit TOPO POLICY CONFIG EVIDENCE SCENARIO TABLES\n";
 
-/// A command. The numbers are the places of its names in the words, counted from 0, but for that of `sample`.
+/// A command. The numbers are the places of its names in the words, counted from 0, but for that of `sample`
+/// and the prefix of `impact`.
 #[derive(Clone, Copy, Debug, PartialEq, Eq)]
 pub enum Command {
     /// `compile TOPO POLICY`.
@@ -27,19 +28,27 @@ pub enum Command {
     Trace(u32, u32, u32),
     /// `sample N`: the number of leaves, from 2 to 96, without leading zeros.
     Sample(u16),
+    /// `migrate CONFIG`.
+    Migrate(u32),
+    /// `impact TOPO POLICY PREFIX`.
+    Impact(u32, u32, Prefix),
+    /// `lint TOPO POLICY`.
+    Lint(u32, u32),
     /// `audit TOPO POLICY CONFIG EVIDENCE SCENARIO TABLES`.
     Audit(u32, u32, u32, u32, u32, u32),
 }
 
 impl Command {
     /// The places of the names that the command reads, in order.
-    pub fn places(self, alloc: Global) -> Result<Vec<u32>, NoMemory>
-        ensures { IfOk result (λ places. places.items ≡ places_of self) }
+    pub fn places(&self, alloc: Global) -> Result<Vec<u32>, NoMemory>
+        ensures { IfOk result (λ places. places.items ≡ places_of self.now) }
     {
-        match self {
+        match *self {
             Command::Compile(topology, policy)
             | Command::Evidence(topology, policy)
-            | Command::Explain(topology, policy) => Ok(vec![in alloc; topology, policy]?),
+            | Command::Explain(topology, policy)
+            | Command::Impact(topology, policy, _)
+            | Command::Lint(topology, policy) => Ok(vec![in alloc; topology, policy]?),
             Command::Replay(topology, policy, third) | Command::Trace(topology, policy, third) => {
                 Ok(vec![in alloc; topology, policy, third]?)
             }
@@ -47,6 +56,7 @@ impl Command {
                 Ok(vec![in alloc; topology, policy, config, evidence]?)
             }
             Command::Sample(_) => Ok(Vec::new(alloc)),
+            Command::Migrate(config) => Ok(vec![in alloc; config]?),
             Command::Audit(topology, policy, config, evidence, scenario, tables) => {
                 Ok(vec![in alloc; topology, policy, config, evidence, scenario, tables]?)
             }
@@ -66,13 +76,15 @@ fn number_of(digits: &str) -> Option<u16>
     }
 }
 
-// The command of this word with a number after it.
-fn of_number(word: &str, digits: &str) -> Option<Command>
-    ensures is { result ≡ with_number word.now digits.now }
+// The command of this word with one more after it, a number or a name.
+fn of_one_word(word: &str, next: &str) -> Option<Command>
+    ensures is { result ≡ with_one_word word.now next.now }
     ensures within { IfSome result (λ c. IsWithin 2 c) }
 {
     if word == "sample" {
-        Some(Command::Sample(number_of(digits)?))
+        Some(Command::Sample(number_of(next)?))
+    } else if word == "migrate" {
+        Some(Command::Migrate(1))
     } else {
         None
     }
@@ -89,20 +101,31 @@ fn of_two_names(word: &str) -> Option<Command>
         Some(Command::Evidence(1, 2))
     } else if word == "explain" {
         Some(Command::Explain(1, 2))
+    } else if word == "lint" {
+        Some(Command::Lint(1, 2))
     } else {
         None
     }
 }
 
-// The command of this word with three names after it.
-fn of_three_names(word: &str) -> Option<Command>
-    ensures is { result ≡ with_three_names word.now }
+// The prefix that a word is.
+fn prefix_of(word: &str) -> Option<Prefix>
+    ensures { result ≡ prefix_word word.now }
+{
+    read_prefix(word.as_bytes()).ok()
+}
+
+// The command of this word with three more after it, of which the last may be a prefix.
+fn of_three_words(word: &str, last: &str) -> Option<Command>
+    ensures is { result ≡ with_three_words word.now last.now }
     ensures within { IfSome result (λ c. IsWithin 4 c) }
 {
     if word == "replay" {
         Some(Command::Replay(1, 2, 3))
     } else if word == "trace" {
         Some(Command::Trace(1, 2, 3))
+    } else if word == "impact" {
+        Some(Command::Impact(1, 2, prefix_of(last)?))
     } else {
         None
     }
@@ -138,9 +161,9 @@ pub fn words_of(words: &[String]) -> Option<Command>
     ensures within { IfSome result (λ c. IsWithin (length words.now) c) }
 {
     match words {
-        [word, digits] => of_number(word.as_str(), digits.as_str()),
+        [word, next] => of_one_word(word.as_str(), next.as_str()),
         [word, _, _] => of_two_names(word.as_str()),
-        [word, _, _, _] => of_three_names(word.as_str()),
+        [word, _, _, last] => of_three_words(word.as_str(), last.as_str()),
         [word, _, _, _, _] => of_four_names(word.as_str()),
         [word, _, _, _, _, _, _] => of_six_names(word.as_str()),
         _ => None,

@@ -10,6 +10,9 @@ use crate::command::Command;
 use audit_job::audit_texts;
 use check_job::check_texts;
 use compile_jobs::{Part, explain_texts, sample_summary, written_texts};
+use impact_job::impact_texts;
+use lint_job::lint_texts;
+use migrate_job::migrate_text;
 use net_base::List;
 use replay_job::replay_texts;
 use run_base::Stop;
@@ -27,13 +30,13 @@ fn text(texts: &[List<u8>], place: usize) -> &[u8]
 }
 
 /// What a command comes to, from the bytes of its names.
-pub fn job(alloc: Global, command: Command, texts: &[List<u8>]) -> Result<Vec<u8>, Stop>
-    requires count { length texts.now ≡ length (places_of command) }
+pub fn job(alloc: Global, command: &Command, texts: &[List<u8>]) -> Result<Vec<u8>, Stop>
+    requires count { length texts.now ≡ length (places_of command.now) }
     requires short { AllByRecursion (λ bytes. length bytes ≤ most) texts.now }
-    requires number { HasNumber command }
-    ensures { IsGiven (Job command texts.now) (said result) }
+    requires number { HasNumber command.now }
+    ensures { IsGiven (Job command.now texts.now) (said result) }
 {
-    match command {
+    match *command {
         Command::Compile(..) => {
             written_texts(alloc, Part::Config, text(texts, 0), text(texts, 1))
         }
@@ -53,6 +56,11 @@ pub fn job(alloc: Global, command: Command, texts: &[List<u8>]) -> Result<Vec<u8
         }
         Command::Trace(..) => { trace_texts(alloc, text(texts, 0), text(texts, 1), text(texts, 2)) }
         Command::Sample(leaves) => sample_summary(alloc, leaves),
+        Command::Migrate(..) => migrate_text(alloc, text(texts, 0)),
+        Command::Impact(_, _, prefix) => {
+            impact_texts(alloc, text(texts, 0), text(texts, 1), prefix)
+        }
+        Command::Lint(..) => lint_texts(alloc, text(texts, 0), text(texts, 1)),
         Command::Audit(..) => audit_texts(
             alloc,
             text(texts, 0),

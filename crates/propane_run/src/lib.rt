@@ -20,9 +20,16 @@ ghost use Rattle.compile_jobs.specs.Compiled.{IsCompiled, IsRefusedFor};
 ghost use Rattle.propane_run.specs.Explaining.{ExplainsRight};
 ghost use Rattle.propane_run.specs.Failing.{Judges, TellsFailure};
 ghost use Rattle.propane_run.specs.Headline.{CompilesRight, GivesEvidence};
+ghost use Rattle.case_ranks.specs.Limits.{AreAllWithin, compile_refusal};
+ghost use Rattle.case_ranks.specs.declared.refusal.LintRefusal.{LintRefusal};
+ghost use Rattle.lint_job.specs.Linted.{IsRefusedFor as IsPastLimit};
+ghost use Rattle.net_base.specs.Prefixes.{PlainPrefix};
+ghost use Rattle.propane_run.specs.Impacting.{ImpactsRight};
+ghost use Rattle.propane_run.specs.Linting.{LintsRight};
+ghost use Rattle.propane_run.specs.Migrating.{AsksOfOld, MigratesRight};
 ghost use Rattle.run_base.specs.Reading.{AreOnlyRead, IsAmong, RoseOf, SaidOfTold, unread};
 ghost use Rattle.refusal_lines.specs.RefusalLines.{refusal_line as line_of_refusal};
-ghost use Rattle.propane_run.specs.Refusing.{Compiles, RefusesRight};
+ghost use Rattle.propane_run.specs.Refusing.{Compiles, Refuses, TellsRefusal};
 ghost use Rattle.propane_run.specs.Replaying.{ReplaysRight};
 ghost use Rattle.propane_run.specs.Run.{IsAnswer, IsAnswerOf, Comes, Job};
 ghost use Rattle.propane_run.specs.Sampling.{Samples};
@@ -55,7 +62,7 @@ fn answer<I: Inputs>(
 {
     let places = command.places(alloc)?;
     let texts = read_all(alloc, inputs, words, &places)?;
-    jobs::job(alloc, command, texts.as_slice())
+    jobs::job(alloc, &command, texts.as_slice())
 }
 
 // The words are judged, the inputs are read, the job runs, and what it comes to is written.
@@ -133,6 +140,20 @@ pub fn run<I: Inputs, O: Sink, E: Sink>(
     ensures sampled { (leaves : ℕ) → words_are (map string_bytes words.now) ≡ Some (Command.Sample leaves)
         → result ≡ Status.Done → Samples O.taken leaves out.old out.new }
 
+    // Where `migrate` ends with Done, the text that was read spells a configuration in the first edition, and `out` grew by a text
+    // that spells the same configuration in the second. So evidence that passed with it passes with it still.
+    ensures migrates_right { (config : ℕ) → let c = Command.Migrate config in words_are (map string_bytes words.now) ≡ Some c
+        → result ≡ Status.Done → MigratesRight (I.holds inputs.old) O.taken (map string_bytes words.now) c out.old out.new }
+
+    // Where `impact` ends with Done, `out` grew by the text of what single cuts change for the prefix: the best ranks that the policy
+    // leaves, without failures and with each link or router dead alone.
+    ensures impacts_right { (topology policy : ℕ) (prefix : PlainPrefix) → let c = Command.Impact topology policy prefix in words_are (map string_bytes words.now) ≡ Some c
+        → result ≡ Status.Done → ImpactsRight (I.holds inputs.old) O.taken (map string_bytes words.now) c prefix out.old out.new }
+
+    // Where `lint` ends with Done, `out` grew by the lines of exactly the findings for the policy that the inputs spell.
+    ensures lints_right { (topology policy : ℕ) → let c = Command.Lint topology policy in words_are (map string_bytes words.now) ≡ Some c
+        → result ≡ Status.Done → LintsRight (I.holds inputs.old) O.taken (map string_bytes words.now) c out.old out.new }
+
     // Where `audit` ends with Done, the evidence that the inputs spell passes, and the tables that they spell are stable and right; `out`
     // says so, and goes on with their report.
     ensures audits_right { (topology policy config evidence scenario tables : ℕ) → let c = Command.Audit topology policy config evidence scenario tables in words_are (map string_bytes words.now) ≡ Some c
@@ -143,10 +164,10 @@ pub fn run<I: Inputs, O: Sink, E: Sink>(
     ensures check_fails { result ≡ Status.CheckFails → (c : Command) × Judges c
         × TellsFailure (I.holds inputs.old) O.taken (map string_bytes words.now) c out.old out.new × (err.new ≡ err.old) }
 
-    // It ends with Refused only where the command compiles, and its inputs spell a network and a policy, or it has those of the
+    // It ends with Refused only where the command may refuse, and its inputs spell a network and a policy, or it has those of the
     // sample, to which the refusal applies that the line tells.
-    ensures refused { result ≡ Status.Refused → (c : Command) × Compiles c
-        × RefusesRight (I.holds inputs.old) E.taken (map string_bytes words.now) c err.old err.new × (out.new ≡ out.old) }
+    ensures refused { result ≡ Status.Refused → (c : Command) × Refuses c
+        × TellsRefusal (I.holds inputs.old) E.taken (map string_bytes words.now) c err.old err.new × (out.new ≡ out.old) }
 
     // All that a run may do: an answer of the words and the inputs, delivered. The other clauses on what is written follow.
     ensures whole { (what : Said)
@@ -214,6 +235,28 @@ pub fn run<I: Inputs, O: Sink, E: Sink>(
         → ¬ Rose (O.faults out.old) (O.faults out.new)
         → AsksFor (I.holds inputs.old) (map string_bytes words.now) c net asked
         → (result ≡ Status.NoMemory) ⊎ (result ≡ Status.Done) }
+
+    // There `migrate` ends so where the text that it reads spells a configuration in the first edition, if no count of `out` rises; or
+    // memory ran out.
+    ensures migrated_where { (place : ℕ) → let c = Command.Migrate place in (config : PlainConfig)
+        → ReadsSmoothly (I.holds inputs.old) (RoseOf (I.faults inputs.old) (I.faults inputs.new)) (map string_bytes words.now) c
+        → ¬ Rose (O.faults out.old) (O.faults out.new)
+        → AsksOfOld (I.holds inputs.old) (map string_bytes words.now) c config
+        → (result ≡ Status.NoMemory) ⊎ (result ≡ Status.Done) }
+
+    // There `lint` ends so where each case of the policy is within the limits, if no count of `out` rises; and where one isn't it
+    // refuses it, and tells why, if no count of `err` rises; or memory ran out.
+    ensures linted_where { (topology policy : ℕ) → let c = Command.Lint topology policy in (net : PlainNet) (asked : PlainPolicy)
+        → ReadsSmoothly (I.holds inputs.old) (RoseOf (I.faults inputs.old) (I.faults inputs.new)) (map string_bytes words.now) c
+        → ¬ Rose (O.faults out.old) (O.faults out.new)
+        → AsksFor (I.holds inputs.old) (map string_bytes words.now) c net asked → AreAllWithin net asked
+        → (result ≡ Status.NoMemory) ⊎ (result ≡ Status.Done) }
+    ensures limited_where { (topology policy : ℕ) → let c = Command.Lint topology policy in (net : PlainNet) (asked : PlainPolicy) (e : LintRefusal)
+        → ReadsSmoothly (I.holds inputs.old) (RoseOf (I.faults inputs.old) (I.faults inputs.new)) (map string_bytes words.now) c
+        → ¬ Rose (E.faults err.old) (E.faults err.new)
+        → AsksFor (I.holds inputs.old) (map string_bytes words.now) c net asked → IsPastLimit net asked e
+        → (result ≡ Status.NoMemory)
+        ⊎ (result ≡ Status.Refused) × Whole E.taken (line_of_refusal net (compile_refusal e)) err.old err.new × (out.new ≡ out.old) }
 
     // There `check` says that evidence which passes holds, and that other evidence fails, if no count of `out` rises; or memory
     // ran out.

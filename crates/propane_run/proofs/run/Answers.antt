@@ -4,12 +4,16 @@ use Rattle.propane_run.proofs.RunLaws as law
 use Rattle.propane_run.proofs.ByCommand.Audit as audit
 use Rattle.propane_run.proofs.ByCommand.Check as check
 use Rattle.propane_run.proofs.ByCommand.Explain as explain
+use Rattle.propane_run.proofs.ByCommand.Impact as impact
+use Rattle.propane_run.proofs.ByCommand.Lint as lint
+use Rattle.propane_run.proofs.ByCommand.Migrate as migrate
 use Rattle.propane_run.proofs.ByCommand.Replay as replay
 use Rattle.propane_run.proofs.ByCommand.Sample as sample
 use Rattle.propane_run.proofs.ByCommand.Trace as trace
 use Rattle.propane_run.proofs.ByCommand.Written as written
 use Rattle.propane_run.proofs.Checkers as checkers
 use Rattle.propane_run.proofs.Compilers as compilers
+use Rattle.propane_run.proofs.Refusers as refusers
 use Rattle.propane_run.proofs.run.Goals as goal
 
 pub returns-clause-right : goal.returns-clause-right
@@ -70,7 +74,7 @@ pub returns-clause-refused : goal.returns-clause-refused
 returns-clause-refused g c = λ is.
     let h = c.run_whole.ensures.whole in
     let d = law.refused _ _ _ _ (g.I.Inputs.holds c.args.inputs.now) (RoseOf (g.I.Inputs.faults c.args.inputs.now) (g.I.Inputs.faults c.run_whole.new.inputs)) (map string_bytes c.args.words.now) _ _ _ _ h.0 _ h.1 h.2 is in
-    (d.0, d.2, compilers.refused _ _ _ _ _ d.1 d.4 d.0 d.2 d.3, d.5)
+    (d.0, d.2, refusers.refused _ _ _ _ _ d.1 d.4 d.0 d.2 d.3, d.5)
 
 pub returns-clause-done : goal.returns-clause-done
 returns-clause-done g c = let h = c.run_whole.ensures.whole in law.done _ _ _ _ (g.I.Inputs.holds c.args.inputs.now) (RoseOf (g.I.Inputs.faults c.args.inputs.now) (g.I.Inputs.faults c.run_whole.new.inputs)) (map string_bytes c.args.words.now) _ _ _ _ h.0 _ h.1 h.2
@@ -136,3 +140,36 @@ pub returns-clause-unstable_where : goal.returns-clause-unstable_where
 returns-clause-unstable_where g c = λ t p x y s r net policy audited smooth calm asks never.
     let h = c.run_whole.ensures.whole in
     audit.fails_where _ _ t p x y s r net policy audited asks _ _ _ _ _ _ _ _ _ calm never (law.complete _ _ _ _ (g.I.Inputs.holds c.args.inputs.now) (RoseOf (g.I.Inputs.faults c.args.inputs.now) (g.I.Inputs.faults c.run_whole.new.inputs)) (map string_bytes c.args.words.now) _ _ _ _ h.0 _ h.1 h.2 _ smooth)
+
+pub returns-clause-migrates_right : goal.returns-clause-migrates_right
+returns-clause-migrates_right g c = λ k asks is.
+    let h = c.run_whole.ensures.whole in
+    let d = law.done_for _ _ _ _ (g.I.Inputs.holds c.args.inputs.now) (RoseOf (g.I.Inputs.faults c.args.inputs.now) (g.I.Inputs.faults c.run_whole.new.inputs)) (map string_bytes c.args.words.now) _ _ _ _ h.0 _ h.1 h.2 _ asks is in
+    migrate.right _ _ k _ _ _ d.0 d.2 d.1
+
+pub returns-clause-migrated_where : goal.returns-clause-migrated_where
+returns-clause-migrated_where g c = λ k config smooth calm asks.
+    let h = c.run_whole.ensures.whole in
+    migrate.migrated_where _ _ k config asks _ _ _ _ _ _ _ _ _ calm (law.complete _ _ _ _ (g.I.Inputs.holds c.args.inputs.now) (RoseOf (g.I.Inputs.faults c.args.inputs.now) (g.I.Inputs.faults c.run_whole.new.inputs)) (map string_bytes c.args.words.now) _ _ _ _ h.0 _ h.1 h.2 _ smooth)
+
+pub returns-clause-impacts_right : goal.returns-clause-impacts_right
+returns-clause-impacts_right g c = λ t p x asks is.
+    let h = c.run_whole.ensures.whole in
+    let d = law.done_for _ _ _ _ (g.I.Inputs.holds c.args.inputs.now) (RoseOf (g.I.Inputs.faults c.args.inputs.now) (g.I.Inputs.faults c.run_whole.new.inputs)) (map string_bytes c.args.words.now) _ _ _ _ h.0 _ h.1 h.2 _ asks is in
+    impact.right _ _ _ _ _ d.0 d.2 t p x d.1
+
+pub returns-clause-lints_right : goal.returns-clause-lints_right
+returns-clause-lints_right g c = λ t p asks is.
+    let h = c.run_whole.ensures.whole in
+    let d = law.done_for _ _ _ _ (g.I.Inputs.holds c.args.inputs.now) (RoseOf (g.I.Inputs.faults c.args.inputs.now) (g.I.Inputs.faults c.run_whole.new.inputs)) (map string_bytes c.args.words.now) _ _ _ _ h.0 _ h.1 h.2 _ asks is in
+    lint.right _ _ t p _ _ _ d.0 d.2 d.1
+
+pub returns-clause-linted_where : goal.returns-clause-linted_where
+returns-clause-linted_where g c = λ t p net policy smooth calm asks within.
+    let h = c.run_whole.ensures.whole in
+    lint.linted_where _ _ t p net policy asks _ _ _ _ _ _ _ _ _ within calm (law.complete _ _ _ _ (g.I.Inputs.holds c.args.inputs.now) (RoseOf (g.I.Inputs.faults c.args.inputs.now) (g.I.Inputs.faults c.run_whole.new.inputs)) (map string_bytes c.args.words.now) _ _ _ _ h.0 _ h.1 h.2 _ smooth)
+
+pub returns-clause-limited_where : goal.returns-clause-limited_where
+returns-clause-limited_where g c = λ t p net policy e smooth calm asks applies.
+    let h = c.run_whole.ensures.whole in
+    lint.limited_where _ _ t p net policy asks _ _ _ _ _ _ _ _ _ e calm applies (law.complete _ _ _ _ (g.I.Inputs.holds c.args.inputs.now) (RoseOf (g.I.Inputs.faults c.args.inputs.now) (g.I.Inputs.faults c.run_whole.new.inputs)) (map string_bytes c.args.words.now) _ _ _ _ h.0 _ h.1 h.2 _ smooth)

@@ -8,16 +8,16 @@ use std::test::Fail;
 
 const ANY_PATH: &str = "originate 10.0.1.0/24 at A; 10.0.1.0/24 => any;";
 
-const LEADING_ZERO: &str = "propane-config 1
+const LEADING_ZERO: &str = "propane-config 2
 class 1 10.0.1.0/24
 router A asn 64512 id 10.255.0.1
-originate 1 10.0.1.0/24 tag 64512:1
+originate 1 10.0.1.0/24 tag 64512:0:1
 session B asn 64513
-export 1 tag 64512:1
+export 1 tag 64512:0:1
 end
 router B asn 64513 id 10.255.0.2
 session A asn 64512
-import 1 tag 64512:1 set 64513:1 pref 0100
+import 1 tag 64512:0:1 set 64513:0:1 pref 0100
 end
 ";
 
@@ -35,25 +35,25 @@ const START_OF_33_BITS: &str =
 
 const RANKED_EXITS: &str = "true => exit(P1 >> P2);";
 
-const EXCHANGED_CONFIG: &str = "propane-config 1
+const EXCHANGED_CONFIG: &str = "propane-config 2
 class 1 0.0.0.0/0 le 32
 router R1 asn 64512 id 10.255.0.1
 session R2 asn 64513
-import 1 tag 64513:1 set 64512:2 pref 101
-import 1 tag 64513:2 set 64512:1 pref 100
-export 1 tag 64512:1
-export 1 tag 64512:2
+import 1 tag 64513:0:1 set 64512:0:2 pref 101
+import 1 tag 64513:0:2 set 64512:0:1 pref 100
+export 1 tag 64512:0:1
+export 1 tag 64512:0:2
 peer P1 asn 1001
-import 1 set 64512:1 pref 100
+import 1 set 64512:0:1 pref 100
 end
 router R2 asn 64513 id 10.255.0.2
 session R1 asn 64512
-import 1 tag 64512:1 set 64513:2 pref 101
-import 1 tag 64512:2 set 64513:1 pref 100
-export 1 tag 64513:1
-export 1 tag 64513:2
+import 1 tag 64512:0:1 set 64513:0:2 pref 101
+import 1 tag 64512:0:2 set 64513:0:1 pref 100
+export 1 tag 64513:0:1
+export 1 tag 64513:0:2
 peer P2 asn 1002
-import 1 set 64513:1 pref 100
+import 1 set 64513:0:1 pref 100
 end
 ";
 

@@ -9,7 +9,7 @@ use samples::{
 use std::alloc::Global;
 use std::test::Fail;
 
-const DROP_CONFIG: &str = "propane-config 1
+const DROP_CONFIG: &str = "propane-config 2
 class 1 10.0.1.0/24
 router A asn 64512 id 10.255.0.1
 session B asn 64513
@@ -19,10 +19,37 @@ session A asn 64512
 end
 ";
 
+// Numbers of four octets: a router with a private one, and a peer with one.
+const WIDE: &[u8] = br#"{"routers":[{"name":"A","asn":4200000000,"id":"10.255.0.1"},
+{"name":"B","asn":4294967294,"id":"10.255.0.2"}],
+"peers":[{"name":"P","asn":65536,"id":"192.0.2.1"}],
+"links":[["A","B"],["B","P"]]}"#;
+
+const WIDE_CONFIG: &str = "propane-config 2
+class 1 10.0.1.0/24
+class 2 0.0.0.0/0 le 32
+router A asn 4200000000 id 10.255.0.1
+originate 1 10.0.1.0/24 tag 4200000000:0:1
+session B asn 4294967294
+import 2 tag 4294967294:0:2 set 4200000000:0:2 pref 100
+export 1 tag 4200000000:0:1
+export 2 tag 4200000000:0:2
+end
+router B asn 4294967294 id 10.255.0.2
+session A asn 4200000000
+import 1 tag 4200000000:0:1 set 4294967294:0:1 pref 100
+import 2 tag 4200000000:0:2 set 4294967294:0:2 pref 100
+export 2 tag 4294967294:0:2
+peer P asn 65536
+import 2 set 4294967294:0:2 pref 100
+export 1 tag 4294967294:0:1
+end
+";
+
 // A network with its policy and their configuration.
 type Row = (&'static str, &'static [u8], &'static str, &'static str);
 
-const ROWS: [Row; 10] = [
+const ROWS: [Row; 11] = [
     (
         "any path",
         TWO_ROUTERS,
@@ -60,7 +87,7 @@ const ROWS: [Row; 10] = [
         TWO_ROUTERS_CONFIG,
     ),
     (
-        "no way through the leaves: A1 has two tags",
+        "no way through the leaves: A1 has one tag, whichever way a route came",
         TWO_SPINES,
         "originate 10.0.1.0/24 at T1; 10.0.1.0/24 => through(S1, S2) and notransit(T1, T3, T4) from T3, T4;",
         TWO_SPINES_CONFIG,
@@ -78,10 +105,16 @@ const ROWS: [Row; 10] = [
         ENTERED_CONFIG,
     ),
     (
+        "numbers of four octets",
+        WIDE,
+        "originate 10.0.1.0/24 at A; 10.0.1.0/24 => any; true => any;",
+        WIDE_CONFIG,
+    ),
+    (
         "no network and no policy",
         b"{\"links\":[],\"peers\":[],\"routers\":[]}",
         "",
-        "propane-config 1\n",
+        "propane-config 2\n",
     ),
 ];
 

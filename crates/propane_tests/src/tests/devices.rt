@@ -62,7 +62,7 @@ const ROWS: [Row; 12] = [
         &[
             ("t.json", Held::Bytes(TWO_ROUTERS)),
             ("p.propane", Held::Bytes(ANY_PATH)),
-            ("config", Held::Bytes(b"propane-config 1\n")),
+            ("config", Held::Bytes(b"propane-config 2\n")),
             ("e.json", Held::Text(TWO_ROUTERS_EVIDENCE)),
         ],
         Status::CheckFails,
@@ -258,6 +258,6 @@ fn each_call_fails_in_turn(rt: HostRuntime) -> Result<(), Fail> {
 fn two_routers_three_bytes_at_a_time(rt: HostRuntime) -> Result<(), Fail> {
     let end = end_of(rt.alloc(), &ROWS[0], Failing::Nothing)?;
     assert!(rt; end.status == Status::Done && end.out.as_slice() == TWO_ROUTERS_CONFIG.as_bytes());
-    assert_eq!(rt; end.out.len().div_ceil(TAKEN), 84);
+    assert_eq!(rt; end.out.len().div_ceil(TAKEN), 86);
     Ok(())
 }

@@ -29,11 +29,11 @@ const ROWS: [Row; 5] = [
     (
         "just enough room",
         ANY_PATH,
-        250,
+        258,
         "compiled",
         TWO_ROUTERS_CONFIG,
     ),
-    ("too little room", ANY_PATH, 249, "no room", ""),
+    ("too little room", ANY_PATH, 257, "no room", ""),
     ("no path", NO_PATH, 4096, "refused", REFUSAL),
     ("no policy", b"=>", 4096, "faulty", FAULT),
 ];
@@ -68,7 +68,7 @@ fn two_routers_in_memory(rt: HostRuntime) -> Result<(), Fail> {
 #[test]
 fn two_routers_counted(rt: HostRuntime) -> Result<(), Fail> {
     let alloc = rt.alloc();
-    assert!(rt; count_compiled(alloc, TWO_ROUTERS, ANY_PATH)? == Some(250));
+    assert!(rt; count_compiled(alloc, TWO_ROUTERS, ANY_PATH)? == Some(258));
     assert!(rt; count_compiled(alloc, TWO_ROUTERS, NO_PATH)? == None);
     Ok(())
 }

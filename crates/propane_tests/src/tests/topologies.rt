@@ -10,7 +10,7 @@ use text_words::{push_address, push_bytes, push_number};
 // A text with its line: the first rule that it breaks. A text without a line is read.
 type Row = (&'static str, &'static str, &'static str);
 
-const ROWS: [Row; 30] = [
+const ROWS: [Row; 38] = [
     ("not JSON", r#""#, "propane: topology 1 not-json\n"),
     ("two values", r#"{} {}"#, "propane: topology 1 not-json\n"),
     ("no keys", r#"{}"#, "propane: topology 2 shape top\n"),
@@ -97,6 +97,46 @@ const ROWS: [Row; 30] = [
     (
         "a number that is merely too large",
         r#"{"links":[],"peers":[],"routers":[{"asn":18446744073709551615,"id":"10.255.0.1","name":"A"}]}"#,
+        "propane: topology 6 as-range A\n",
+    ),
+    (
+        "the last number of two octets at a router",
+        r#"{"links":[],"peers":[],"routers":[{"asn":65535,"id":"10.255.0.1","name":"A"}]}"#,
+        "propane: topology 6 as-range A\n",
+    ),
+    (
+        "the last number before the private ones of four octets",
+        r#"{"links":[],"peers":[],"routers":[{"asn":4199999999,"id":"10.255.0.1","name":"A"}]}"#,
+        "propane: topology 6 as-range A\n",
+    ),
+    (
+        "the last number of four octets at a router",
+        r#"{"links":[],"peers":[],"routers":[{"asn":4294967295,"id":"10.255.0.1","name":"A"}]}"#,
+        "propane: topology 6 as-range A\n",
+    ),
+    (
+        "the private numbers, the first and the last of two octets and of four",
+        r#"{"links":[],"peers":[],"routers":[{"asn":64512,"id":"10.255.0.1","name":"A"},{"asn":65534,"id":"10.255.0.2","name":"B"},{"asn":4200000000,"id":"10.255.0.3","name":"C"},{"asn":4294967294,"id":"10.255.0.4","name":"D"}]}"#,
+        "",
+    ),
+    (
+        "the last number of two octets at a peer",
+        r#"{"links":[],"peers":[{"asn":65535,"id":"192.0.2.1","name":"P"}],"routers":[]}"#,
+        "propane: topology 6 as-range P\n",
+    ),
+    (
+        "the last number of four octets at a peer",
+        r#"{"links":[],"peers":[{"asn":4294967295,"id":"192.0.2.1","name":"P"}],"routers":[]}"#,
+        "propane: topology 6 as-range P\n",
+    ),
+    (
+        "the numbers of peers, the first and the last of two octets and of four",
+        r#"{"links":[],"peers":[{"asn":1,"id":"192.0.2.1","name":"P"},{"asn":65534,"id":"192.0.2.2","name":"Q"},{"asn":65536,"id":"192.0.2.3","name":"S"},{"asn":4294967294,"id":"192.0.2.4","name":"T"}],"routers":[]}"#,
+        "",
+    ),
+    (
+        "a number of 33 bits that ends as a private one",
+        r#"{"links":[],"peers":[],"routers":[{"asn":4295031808,"id":"10.255.0.1","name":"A"}]}"#,
         "propane: topology 6 as-range A\n",
     ),
     (
