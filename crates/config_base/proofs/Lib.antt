@@ -2,3 +2,4 @@ pub mod LineLemmas
 pub mod LineSearch
 pub mod SameTags
 mod NamedBlocks
+mod SessionBlocks

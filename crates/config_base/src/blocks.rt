@@ -1,6 +1,7 @@
 //! The class of a prefix, and the blocks of routers and of their neighbours.
 ghost use Rattle.std.specs.Prelude.{◌≡◌, ◌&&◌, not, if◌then◌else◌, Some, IfSome, length, option_map};
 ghost use Rattle.std.specs.List.{find};
+ghost use Rattle.std.specs.Str.{bytes_eq};
 ghost use Rattle.net_base.specs.Network.{is_named as named, is_peer, is_router};
 ghost use Rattle.path_words.specs.Governing.{some_contains};
 ghost use Rattle.config_base.specs.Configs.{IsRouter, IsSession};
@@ -76,14 +77,32 @@ pub fn router_block<'a>(net: &Net, config: &'a Config, router: Loc) -> Option<&'
     }
 }
 
-// Whether the block is that of the neighbour. A `peer` block is for a peer alone.
-fn is_block_of(net: &Net, block: &Session, neighbour: Loc) -> bool
-    ensures { result ≡ (named net.now block.now.name neighbour && (if block.now.peer then is_peer net.now neighbour else not (is_peer net.now neighbour))) }
+fn is_same(name: Name, other: Name) -> bool
+    ensures { result ≡ bytes_eq name other }
 {
-    is_named(net, block.name, neighbour) && block.peer == net.is_peer(neighbour)
+    name == other
 }
 
-/// The block that a router has of a neighbour, found by its name.
+// Whether the block has this name and is a peer's or a router's, as is asked for.
+fn is_wanted(block: &Session, name: Name, peer: bool) -> bool
+    ensures { result ≡ (bytes_eq name block.now.name && (if block.now.peer then peer else not peer)) }
+{
+    is_same(name, block.name) && block.peer == peer
+}
+
+// The block with this name that is a peer's or a router's, as is asked for.
+fn block_named(sessions: &[Session], name: Name, peer: bool) -> Option<&Session>
+    ensures { option_map (λ b. b.now) result ≡ find (λ b. bytes_eq name b.name && (if b.peer then peer else not peer)) sessions.now }
+{
+    for session in sessions {
+        if is_wanted(session, name, peer) {
+            return Some(session);
+        }
+    }
+    None
+}
+
+/// The block that a router has of a neighbour, found by its name. A `peer` block is for a peer alone.
 pub fn session_block<'a>(
     net: &Net,
     config: &'a Config,
@@ -95,10 +114,9 @@ pub fn session_block<'a>(
     ensures kind { IfSome result (λ b. b.now.peer ≡ is_peer net.now neighbour) }
 {
     let block = router_block(net, config, router)?;
-    for session in block.sessions.as_slice() {
-        if is_block_of(net, session, neighbour) {
-            return Some(session);
-        }
+    let peer = net.is_peer(neighbour);
+    if !peer && !net.is_router(neighbour) {
+        return None;
     }
-    None
+    block_named(block.sessions.as_slice(), net.name_of(neighbour), peer)
 }

@@ -3,7 +3,7 @@ use Rattle.std.specs.Prelude.{ℕ, ◌≡◌, ◌≤◌, Bool, true, false, ◌&
 use Rattle.std.specs.Option.{option_map, option_and_then}
 use Rattle.routing_law.specs.Network.{Alive, Network, chooses, giver, stands_on}
 
--- the two numbers of a community (RFC 1997)
+-- the last two numbers of a large community (RFC 8092)
 abbrev pub Tag : Type 0
 Tag = ℕ × ℕ
 
