@@ -1,9 +1,9 @@
-mod Addresses
-mod Chains
-mod Digits
-mod JoinedLines
-mod PartLaws
-mod PatternLaws
+pub mod Addresses
+pub mod Chains
+pub mod Digits
+pub mod JoinedLines
+pub mod PartLaws
+pub mod PatternLaws
 pub mod Ranges
 pub mod ReadForms
 pub mod Solid

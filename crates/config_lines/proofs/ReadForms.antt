@@ -38,10 +38,10 @@ use Rattle.config_lines.proofs.Tags.{tag_back}
 use Rattle.config_lines.proofs.PatternLaws.{no_words, pattern_back, patterns_back, join_pieces}
 
 -- the words are the line's, which keeps its rules
-abbrev Says : Edition → ℕ → List (List ℕ) → Line → Type 0
+abbrev pub Says : Edition → ℕ → List (List ℕ) → Line → Type 0
 Says edition count words l = (join_with_byte 32 words ≡ line_text edition l) × IsLine edition count l
 
-router_back : (edition : Edition) (count : ℕ) (ws : List (List ℕ)) (l : Line) → router_line edition ws ≡ Ok l → Says edition count (codes "router" ∷ ws) l
+pub router_back : (edition : Edition) (count : ℕ) (ws : List (List ℕ)) (l : Line) → router_line edition ws ≡ Ok l → Says edition count (codes "router" ∷ ws) l
 unfolding router_line
 router_back edition count [] l h = absurd cc
 router_back edition count (a ∷ []) l h = absurd cc
@@ -94,7 +94,7 @@ pub record SaysNeighbour (ws : List (List ℕ)) (name : List ℕ) (asn : ℕ) : 
   pub peer : join_with_byte 32 (codes "peer" ∷ ws) ≡ codes "peer " ++ name ++ codes " asn " ++ decimal asn
   pub named : IsTrue (is_name name)
 
-neighbour_back : (ws : List (List ℕ)) (x : List ℕ × ℕ) → neighbour ws ≡ Ok x → SaysNeighbour ws x.0 x.1
+pub neighbour_back : (ws : List (List ℕ)) (x : List ℕ × ℕ) → neighbour ws ≡ Ok x → SaysNeighbour ws x.0 x.1
 unfolding neighbour
 neighbour_back [] x h = absurd cc
 neighbour_back (a ∷ []) x h = absurd cc
@@ -123,7 +123,7 @@ session_back edition count ws l h =
     let says = neighbour_back ws x.0 x.1 in
     subst (Says edition count (codes "session" ∷ ws)) (ok_same (line.Session x.0.0 x.0.1) l u.2) (says.session, (says.named, unless_ok Number (fits_router edition x.0.1) u.0 u.1))
 
-peer_back : (edition : Edition) (count : ℕ) (ws : List (List ℕ)) (l : Line) → peer_line edition ws ≡ Ok l → Says edition count (codes "peer" ∷ ws) l
+pub peer_back : (edition : Edition) (count : ℕ) (ws : List (List ℕ)) (l : Line) → peer_line edition ws ≡ Ok l → Says edition count (codes "peer" ∷ ws) l
 unfolding peer_line
 peer_back edition count ws l h =
     let x = bind_ok (neighbour ws) _ l h in
@@ -143,7 +143,7 @@ pub record SaysSetting (edition : Edition) (ws : List (List ℕ)) (s : Setting) 
   pub is_tag_text : tag_of edition tag ≡ Ok s.set
   pub is_number_text : number_of number ≡ Ok s.pref
 
-setting_back : (edition : Edition) (ws : List (List ℕ)) (s : Setting) → setting edition ws ≡ Ok s → SaysSetting edition ws s
+pub setting_back : (edition : Edition) (ws : List (List ℕ)) (s : Setting) → setting edition ws ≡ Ok s → SaysSetting edition ws s
 unfolding setting
 setting_back edition [] s h = absurd cc
 setting_back edition (a ∷ []) s h = absurd cc
@@ -238,13 +238,13 @@ export_back edition count (n ∷ tag ∷ t ∷ []) l h =
     subst (Says edition count (codes "export" ∷ n ∷ tag ∷ t ∷ [])) (ok_same (line.Export made) l g.2)
     (export_joined n tag t (decimal c.0) (tag_text edition g.0) (word_back (codes "tag") tag w.0 w.1) class.0 tagged.0, (class.1, tagged.1))
 
-end_back : (edition : Edition) (count : ℕ) (ws : List (List ℕ)) (l : Line) → end_line ws ≡ Ok l → Says edition count (codes "end" ∷ ws) l
+pub end_back : (edition : Edition) (count : ℕ) (ws : List (List ℕ)) (l : Line) → end_line ws ≡ Ok l → Says edition count (codes "end" ∷ ws) l
 unfolding end_line
 end_back edition count [] l h = subst (Says edition count (codes "end" ∷ [])) (ok_same line.End l h) (refl, tt)
 end_back edition count (a ∷ ws) l h = absurd cc
 
 -- by the first word
-word_is : (fixed word : List ℕ) → bytes_eq word fixed ≡ true → word ≡ fixed
+pub word_is : (fixed word : List ℕ) → bytes_eq word fixed ≡ true → word ≡ fixed
 word_is fixed word h = (bytes_eq-Decides word fixed).0 h
 
 form_back : (edition : Edition) (count : ℕ) (word : List ℕ) (ws : List (List ℕ)) (l : Line) → form_line edition count word ws ≡ Ok l → Says edition count (word ∷ ws) l

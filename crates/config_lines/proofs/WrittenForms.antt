@@ -64,11 +64,11 @@ own_there edition count o few is =
     (rw (solid_number o.class (omega (arith, low)), solid_prefix o.prefix is.1, solid_tag edition o.tag parts.0 parts.1) refl)
     (rw (number_there o.class low, prefix_spelled-prefix_text o.prefix is.1, tag.0, class_there count o.class class, tag.1) refl)
 
-neighbour_there : (name : List ℕ) (asn : ℕ) → IsTrue (is_name name) → asn < 2 ^ 32 → neighbour (name ∷ codes "asn" ∷ decimal asn ∷ []) ≡ Ok (name, asn)
+pub neighbour_there : (name : List ℕ) (asn : ℕ) → IsTrue (is_name name) → asn < 2 ^ 32 → neighbour (name ∷ codes "asn" ∷ decimal asn ∷ []) ≡ Ok (name, asn)
 unfolding neighbour
 neighbour_there name asn named low = rw (name_there name named, number_there asn low) refl
 
-neighbour_solid : (name : List ℕ) (asn : ℕ) → IsTrue (is_name name) → asn < 2 ^ 32 → list_all solid (name ∷ codes "asn" ∷ decimal asn ∷ []) ≡ true
+pub neighbour_solid : (name : List ℕ) (asn : ℕ) → IsTrue (is_name name) → asn < 2 ^ 32 → list_all solid (name ∷ codes "asn" ∷ decimal asn ∷ []) ≡ true
 neighbour_solid name asn named low = rw (solid_name name named, solid_number asn (omega (arith, low))) refl
 
 session_there : (edition : Edition) (count : ℕ) (name : List ℕ) (asn : ℕ) → IsTrue (is_name name) → IsTrue (fits_router edition asn) → IsReadAgain edition count (line.Session name asn)

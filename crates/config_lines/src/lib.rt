@@ -11,5 +11,11 @@ mod read;
 
 pub use edition::Edition;
 pub use line::{Line, LineFault};
-pub use parts::cut_parts;
-pub use read::read_line;
+pub use number::{
+    Figure, RawTag, Setting, class_number, fitting_tag, in_range, read_class, read_number,
+};
+pub use parts::{cut_parts, expect, is_word, prefix, read_tag};
+pub use pattern::read_pattern;
+pub use read::{
+    read_end_line, read_line, read_peer_line, read_router_line, read_session_line, read_setting,
+};

@@ -26,9 +26,9 @@ fn read_class_line(alloc: Global, words: &[&[u8]], pieces: &[&[u8]]) -> Result<L
     Ok(Line::Class(class_number(number)?, patterns))
 }
 
-// A `router` line, by what follows its first word.
+/// A `router` line, by what follows its first word.
 #[tactic(auto, unfolding(crate::specs::Lines::router_line))]
-fn read_router_line(edition: Edition, words: &[&[u8]]) -> Result<Line, LineFault>
+pub fn read_router_line(edition: Edition, words: &[&[u8]]) -> Result<Line, LineFault>
     ensures { result ≡ router_line edition (map (λ w. w.now) words.now) }
 {
     let [name, asn_word, asn, id_word, id] = words else {
@@ -78,9 +78,9 @@ fn read_neighbour(words: &[&[u8]]) -> Result<(Name, u32), LineFault>
     Ok((name, asn))
 }
 
-// A `session` line, by what follows its first word.
+/// A `session` line, by what follows its first word.
 #[tactic(auto, unfolding(crate::specs::Lines::session_line))]
-fn read_session_line(edition: Edition, words: &[&[u8]]) -> Result<Line, LineFault>
+pub fn read_session_line(edition: Edition, words: &[&[u8]]) -> Result<Line, LineFault>
     ensures { result ≡ session_line edition (map (λ w. w.now) words.now) }
 {
     let (name, asn) = read_neighbour(words)?;
@@ -90,9 +90,9 @@ fn read_session_line(edition: Edition, words: &[&[u8]]) -> Result<Line, LineFaul
     Ok(Line::Session(name, asn))
 }
 
-// A `peer` line, by what follows its first word.
+/// A `peer` line, by what follows its first word.
 #[tactic(auto, unfolding(crate::specs::Lines::peer_line))]
-fn read_peer_line(edition: Edition, words: &[&[u8]]) -> Result<Line, LineFault>
+pub fn read_peer_line(edition: Edition, words: &[&[u8]]) -> Result<Line, LineFault>
     ensures { result ≡ peer_line edition (map (λ w. w.now) words.now) }
 {
     let (name, asn) = read_neighbour(words)?;
@@ -102,9 +102,9 @@ fn read_peer_line(edition: Edition, words: &[&[u8]]) -> Result<Line, LineFault>
     Ok(Line::Peer(name, asn))
 }
 
-// The tag and the preference of an import are named: the words behind its class and its own tag.
+/// The tag and the preference of an import are named: the words behind its class and its own tag.
 #[tactic(auto, unfolding(crate::specs::Lines::setting))]
-fn read_setting(edition: Edition, words: &[&[u8]]) -> Result<Setting, LineFault>
+pub fn read_setting(edition: Edition, words: &[&[u8]]) -> Result<Setting, LineFault>
     ensures { result ≡ setting edition (map (λ w. w.now) words.now) }
 {
     let [set_word, set, pref_word, pref] = words else {
@@ -183,9 +183,9 @@ fn read_export_line(edition: Edition, classes: u32, words: &[&[u8]]) -> Result<L
     Ok(Line::Export(Export { class, tag }))
 }
 
-// The `end` line, behind whose word nothing stands.
+/// The `end` line, behind whose word nothing stands.
 #[tactic(auto, unfolding(crate::specs::Lines::end_line))]
-fn read_end_line(words: &[&[u8]]) -> Result<Line, LineFault>
+pub fn read_end_line(words: &[&[u8]]) -> Result<Line, LineFault>
     ensures { result ≡ end_line (map (λ w. w.now) words.now) }
 {
     match words {

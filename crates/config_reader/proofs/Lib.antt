@@ -1,9 +1,9 @@
-mod Ascending
-mod FaultLaws
+pub mod Ascending
+pub mod FaultLaws
 mod KnownRouters
-mod Lawful
+pub mod Lawful
 pub mod ReadTexts
-mod Runs
-mod SoFar
-mod Steps
+pub mod Runs
+pub mod SoFar
+pub mod Steps
 pub mod TakenTexts

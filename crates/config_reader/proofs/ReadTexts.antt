@@ -38,7 +38,7 @@ false_not_true : false ≡ true → ⊥
 false_not_true e = cc
 
 -- the number of a class that was read is one
-numbered : (r s : Reading) (l : Line) → after r l ≡ Ok s → IsNumbered l
+pub numbered : (r s : Reading) (l : Line) → after r l ≡ Ok s → IsNumbered l
 numbered r s (line.Class None patterns) h = false_not_true (class_ok r s None patterns h).1
 numbered r s (line.Class (Some n) patterns) h = tt
 numbered r s (line.Router name asn id) h = tt
@@ -114,7 +114,7 @@ finished_ok r rest c h =
     nothing (x ∷ xs) e = absurd (omega (arith, e))
 
 -- all but the last, and the last
-last_split : (more : List (List ℕ)) → length more ≢ 0 → more ≡ take (length more - 1) more ++ slice_index_or more (length more - 1) [] ∷ []
+pub last_split : (more : List (List ℕ)) → length more ≢ 0 → more ≡ take (length more - 1) more ++ slice_index_or more (length more - 1) [] ∷ []
 last_split [] some = absurd (some refl)
 last_split (x ∷ []) some = refl
 last_split (x ∷ y ∷ more) some =
@@ -122,7 +122,7 @@ last_split (x ∷ y ∷ more) some =
     rw k (ap (λ (xs : List (List ℕ)). x ∷ xs) (last_split (y ∷ more) (λ e. omega (arith, e))))
 
 -- lines that end with their line feeds, and nothing behind them
-fed_lines : (ts : List (List ℕ)) → join_with_byte 10 (ts ++ [] ∷ []) ≡ flat_map (λ (t : List ℕ). t ++ 10 ∷ []) ts
+pub fed_lines : (ts : List (List ℕ)) → join_with_byte 10 (ts ++ [] ∷ []) ≡ flat_map (λ (t : List ℕ). t ++ 10 ∷ []) ts
 fed_lines [] = refl
 fed_lines (t ∷ []) = sym (append-nil (t ++ 10 ∷ []))
 fed_lines (t ∷ u ∷ ts) = ap (λ (x : List ℕ). t ++ (10 ∷ x)) (fed_lines (u ∷ ts)) ∙ sym (append_assoc t (10 ∷ []) (flat_map (λ (t : List ℕ). t ++ 10 ∷ []) (u ∷ ts)))
@@ -131,7 +131,7 @@ fed_texts : (edition : Edition) (ls : List Line) → flat_map (fed edition) ls �
 fed_texts edition [] = refl
 fed_texts edition (l ∷ ls) = ap (λ (x : List ℕ). fed edition l ++ x) (fed_texts edition ls)
 
-join_front : (w v : List ℕ) (ts : List (List ℕ)) → join_with_byte 10 (w ∷ (ts ++ v ∷ [])) ≡ w ++ (10 ∷ join_with_byte 10 (ts ++ v ∷ []))
+pub join_front : (w v : List ℕ) (ts : List (List ℕ)) → join_with_byte 10 (w ∷ (ts ++ v ∷ [])) ≡ w ++ (10 ∷ join_with_byte 10 (ts ++ v ∷ []))
 join_front w v [] = refl
 join_front w v (t ∷ ts) = refl
 
@@ -175,7 +175,7 @@ behind_text edition more c some b =
     ∙ ap (text_in edition) b.made
 
 -- a text has few lines
-few_lines : (bytes first : List ℕ) (more : List (List ℕ)) → slice_split (λ b. b == 10) bytes ≡ first ∷ more → length bytes < 4294967295 → length more < 4294967295
+pub few_lines : (bytes first : List ℕ) (more : List (List ℕ)) → slice_split (λ b. b == 10) bytes ≡ first ∷ more → length bytes < 4294967295 → length more < 4294967295
 few_lines bytes first more e short =
     let count : length (first ∷ more) ≡ count_by (λ b. b == 10) bytes + 1 = ap length (sym e) ∙ length-slice_split (λ b. b == 10) bytes in
     omega (arith, count, count_by-le-length (λ (b : ℕ). b == 10) bytes, short)

@@ -47,7 +47,7 @@ at cs rs o = record { classes = cs; routers = rs; opened = o }
 
 -- ---- classes
 
-class_step : (cs : List (List PlainPattern)) (ps : List PlainPattern) → after (at cs [] None) (line.Class (Some (length cs + 1)) ps) ≡ Ok (at (cs ++ ps ∷ []) [] None)
+pub class_step : (cs : List (List PlainPattern)) (ps : List PlainPattern) → after (at cs [] None) (line.Class (Some (length cs + 1)) ps) ≡ Ok (at (cs ++ ps ∷ []) [] None)
 unfolding with_class
 class_step cs ps = rw (eq-eqb (length cs + 1) (length cs + 1) refl) refl
 

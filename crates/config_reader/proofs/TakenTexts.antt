@@ -58,7 +58,7 @@ module _ (edition : Edition) (P : Reading → Type 0) (Q : Line → Type 0)
 
 -- ---- lines of routers
 
-abbrev IsOther : Line → Type 0
+abbrev pub IsOther : Line → Type 0
 IsOther (line.Class number patterns) = ⊥
 IsOther (line.Router name asn id) = Unit {0}
 IsOther (line.Own o) = Unit {0}
@@ -69,7 +69,7 @@ IsOther (line.PeerImport r) = Unit {0}
 IsOther (line.Export e) = Unit {0}
 IsOther line.End = Unit {0}
 
-same_classes : (r s : Reading) (l : Line) → IsOther l → after r l ≡ Ok s → s.classes ≡ r.classes
+pub same_classes : (r s : Reading) (l : Line) → IsOther l → after r l ≡ Ok s → s.classes ≡ r.classes
 same_classes r s (line.Class number patterns) o h = absurd o
 same_classes r s (line.Router name asn id) o h = sym (ap (λ (q : Reading). q.classes) (router_ok r s name asn id h).2)
 same_classes r s (line.Own own) o h = sym (ap (λ (q : Reading). q.classes) (own_ok r s own h).3)
@@ -84,7 +84,7 @@ each_other : {A : Type 0} (f : A → Line) → ((x : A) → IsOther (f x)) → (
 each_other f is [] = tt
 each_other f is (x ∷ xs) = (is x, each_other f is xs)
 
-flat_other : {A : Type 0} (f : A → List Line) → ((x : A) → AllByRecursion IsOther (f x)) → (xs : List A) → AllByRecursion IsOther (flat_map f xs)
+pub flat_other : {A : Type 0} (f : A → List Line) → ((x : A) → AllByRecursion IsOther (f x)) → (xs : List A) → AllByRecursion IsOther (flat_map f xs)
 flat_other f is [] = tt
 flat_other f is (x ∷ xs) = AllByRecursion-append IsOther (f x) (flat_map f xs) (is x) (flat_other f is xs)
 
@@ -103,7 +103,7 @@ session_other : (s : Session) → AllByRecursion IsOther (lines_of_session s)
 session_other s =
     (head_other s, AllByRecursion-append IsOther (map (import_of s.peer) s.imports) (map line.Export s.exports) (each_other (import_of s.peer) (import_other s.peer) s.imports) (each_other line.Export (λ e. tt) s.exports))
 
-router_other : (r : RouterConfig) → AllByRecursion IsOther (lines_of_router r)
+pub router_other : (r : RouterConfig) → AllByRecursion IsOther (lines_of_router r)
 router_other r =
     AllByRecursion-append IsOther (lines_before_end r) (line.End ∷ [])
     (tt, AllByRecursion-append IsOther (map line.Own r.own) (flat_map lines_of_session r.sessions) (each_other line.Own (λ o. tt) r.own) (flat_other lines_of_session session_other r.sessions))
@@ -153,7 +153,7 @@ cut_lines edition first (l ∷ ls) none all =
     ∙ ap (λ (ps : List (List ℕ)). first ∷ ps) (ap (slice_split (λ b. b == 10)) (append_assoc (line_text edition l) (codes "\n") (flat_map (fed edition) ls)) ∙ cut_lines edition (line_text edition l) ls all.0 all.1)
 
 -- all but the last of some and one more
-whole_push : (ts : List (List ℕ)) (x : List ℕ) → (whole_lines (ts ++ x ∷ []) ≡ ts) × (slice_index_or (ts ++ x ∷ []) (length (ts ++ x ∷ []) - 1) [] ≡ x)
+pub whole_push : (ts : List (List ℕ)) (x : List ℕ) → (whole_lines (ts ++ x ∷ []) ≡ ts) × (slice_index_or (ts ++ x ∷ []) (length (ts ++ x ∷ []) - 1) [] ≡ x)
 whole_push [] x = (refl, refl)
 whole_push (t ∷ ts) x =
     let long : length (ts ++ x ∷ []) ≡ length ts + 1 = length-append ts (x ∷ []) in

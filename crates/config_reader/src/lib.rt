@@ -11,3 +11,5 @@ mod routers;
 
 pub use fault::ConfigFault;
 pub use read::{read_config, read_config_1};
+pub use reading::{Misplaced, OpenRouter, Reading, after, nothing_read};
+pub use routers::Routers;
