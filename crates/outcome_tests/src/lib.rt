@@ -1,8 +1,11 @@
-//! What lines say and which outcomes are stable, against cases that were worked by hand.
+//! What lines say, which outcomes are stable, what compiled policies settle to, and verdicts on configurations with their evidence,
+//! against cases that were worked by hand.
 #![tactic(auto)]
 
 #[cfg(test)]
 mod audit_tests;
+#[cfg(test)]
+mod checked;
 #[cfg(test)]
 mod exit_rows;
 #[cfg(test)]
@@ -11,6 +14,8 @@ mod line_tests;
 mod rows;
 #[cfg(test)]
 mod setting;
+#[cfg(test)]
+mod settled;
 #[cfg(test)]
 mod tests;
 #[cfg(test)]

@@ -2,7 +2,7 @@
 ghost use Rattle.std.specs.Prelude.{IfSome};
 ghost use Rattle.path_words.specs.Policies.{IsPolicyOf, policy_of};
 
-use crate::rows::{ROWS, Row};
+use super::rows::{ROWS, Row};
 use compile_core::compile;
 use config_base::Route;
 use net_base::{List, Loc, LocSet, Net, read_prefix};

@@ -1,5 +1,5 @@
 //! Evidence for two cases: which rule is told first, and of which case.
-use crate::rows::{NO_CONFIG, Row, Sample};
+use super::rows::{NO_CONFIG, Row, Sample};
 use evidence_rules::CheckRule::{Cases, Ranks, Tags, Walks};
 use samples::TWO_ROUTERS;
 

@@ -1,5 +1,5 @@
 //! Evidence for prefixes that a router originates.
-use crate::rows::{NO_CONFIG, Row, Sample};
+use super::rows::{NO_CONFIG, Row, Sample};
 use evidence_rules::CheckRule::{ConfigDiffers, Mixed, PrefLoop, PrefRank, Tags};
 use samples::{
     CHAIN, TRIANGLE, TRIANGLE_CONFIG, TWO_ROUTERS, TWO_ROUTERS_CONFIG, TWO_ROUTERS_EVIDENCE,

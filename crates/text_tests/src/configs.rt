@@ -395,6 +395,15 @@ fn printed_of_front(edition: Edition, length: usize) -> Option<usize> {
     }
 }
 
+// The first bytes of a text, so many of them, or all where it is shorter.
+fn front_of(text: &[u8], bytes: usize) -> &[u8] {
+    if bytes <= text.len() {
+        &text[..bytes]
+    } else {
+        text
+    }
+}
+
 // The length of the first front of which something else is told.
 fn wrong_front(
     alloc: Global,
@@ -404,7 +413,7 @@ fn wrong_front(
 ) -> Result<Option<usize>, NoMemory> {
     for length in 0..=text.len() {
         let wanted = match printed_of_front(edition, length) {
-            Some(bytes) => &printed[..bytes],
+            Some(bytes) => front_of(printed, bytes),
             None if length < 17 => b"1 version".as_slice(),
             None => b"6 unfinished".as_slice(),
         };

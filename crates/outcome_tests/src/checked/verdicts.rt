@@ -1,10 +1,10 @@
 //! The verdict of each row.
 ghost use Rattle.case_law.specs.Cases.{OriginsAreRouters};
 
-use crate::between_peers::{EXITS, LISTENING, ONE_SOURCE};
-use crate::rows::{Place, Row, Sample};
-use crate::to_routers::{DETOUR, LOOPING, MIXED, THREE, TWO};
-use crate::two_cases::TWO_CASES;
+use super::between_peers::{EXITS, LISTENING, ONE_SOURCE};
+use super::rows::{Place, Row, Sample};
+use super::to_routers::{DETOUR, LOOPING, MIXED, THREE, TWO};
+use super::two_cases::TWO_CASES;
 use config_reader::read_config;
 use evidence_check::check;
 use evidence_rules::{Shown, Verdict};

@@ -1,5 +1,5 @@
 //! Evidence for prefixes that peers announce, and for one that a peer hears.
-use crate::rows::{NO_CONFIG, Row, Sample};
+use super::rows::{NO_CONFIG, Row, Sample};
 use evidence_rules::CheckRule::{
     Cases, ConfigDiffers, PrefListener, PrefRank, PrefStep, Ranks, Tags, Walks,
 };

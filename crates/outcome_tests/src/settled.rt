@@ -1,0 +1,3 @@
+//! Settled outcomes of compiled policies.
+mod rows;
+mod tests;
