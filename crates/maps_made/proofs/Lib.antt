@@ -1,0 +1,5 @@
+mod EarlierLaws
+mod ListsLaws
+mod PlaceLaws
+mod SpanLaws
+mod SpanSets

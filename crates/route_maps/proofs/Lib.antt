@@ -1,0 +1,5 @@
+pub mod Bits
+pub mod EntryLemmas
+pub mod ListLaws
+pub mod Means
+pub mod OverlapLaws
