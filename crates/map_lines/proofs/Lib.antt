@@ -1,0 +1,3 @@
+pub mod MapForms
+pub mod MapJoined
+pub mod MapWritten

@@ -1,0 +1,40 @@
+-- The texts of lines are their words, joined by spaces.
+use Rattle.std.proofs.Common.{◌≡◌, ℕ, Bool, true, false, List, [], ◌∷◌, ◌++◌, refl, append_assoc, append-nil}
+use Rattle.std.specs.Prelude.{codes}
+use Rattle.std.specs.List.{join_with_byte}
+use Rattle.map_lines.specs.MapLineText.{kind_text}
+
+abbrev pub kind_word : Bool → List ℕ
+kind_word true = codes "permit"
+kind_word false = codes "deny"
+
+pub list_joined : (number kind a joined b : List ℕ) (permit : Bool) → number ≡ a → kind ≡ kind_word permit → joined ≡ b
+    → codes "list" ++ (32 ∷ (number ++ (32 ∷ (kind ++ (32 ∷ joined))))) ≡ codes "list " ++ a ++ kind_text permit ++ b
+list_joined number kind a joined b true e1 e2 e3 = rw (e1, e2, e3) (simp append_assoc refl)
+list_joined number kind a joined b false e1 e2 e3 = rw (e1, e2, e3) (simp append_assoc refl)
+
+pub network_joined : (prefix list n set t a b c : List ℕ) → list ≡ codes "list" → set ≡ codes "set" → prefix ≡ a → n ≡ b → t ≡ c
+    → join_with_byte 32 (codes "network" ∷ prefix ∷ list ∷ n ∷ set ∷ t ∷ []) ≡ codes "network " ++ a ++ codes " list " ++ b ++ codes " set " ++ c
+network_joined prefix list n set t a b c e1 e2 e3 e4 e5 = rw (e1, e2, e3, e4, e5) (simp append_assoc refl)
+
+pub neighbor_joined : (name asn n v a : List ℕ) → asn ≡ codes "asn" → name ≡ v → n ≡ a
+    → join_with_byte 32 (codes "neighbor" ∷ name ∷ asn ∷ n ∷ []) ≡ codes "neighbor " ++ v ++ codes " asn " ++ a
+neighbor_joined name asn n v a e1 e2 e3 = rw (e1, e2, e3) (simp append_assoc refl)
+
+matched_by : (a b c d e : List ℕ) → join_with_byte 32 (codes "in" ∷ a ∷ codes "list" ∷ b ∷ codes "match" ∷ c ∷ codes "set" ∷ d ∷ codes "pref" ∷ e ∷ [])
+    ≡ codes "in " ++ a ++ (codes " list " ++ b ++ codes " match " ++ c ++ (codes " set " ++ d ++ codes " pref " ++ e))
+matched_by a b c d e =
+    rw (append_assoc (b ++ codes " match ") c (codes " set " ++ d ++ codes " pref " ++ e), append_assoc b (codes " match ") (c ++ (codes " set " ++ d ++ codes " pref " ++ e)), append_assoc d (codes " pref ") e) refl
+
+pub matched_joined : (k list n match' t set u pref m a b c d e : List ℕ) → list ≡ codes "list" → match' ≡ codes "match" → set ≡ codes "set" → pref ≡ codes "pref" → k ≡ a → n ≡ b → t ≡ c → u ≡ d → m ≡ e
+    → join_with_byte 32 (codes "in" ∷ k ∷ list ∷ n ∷ match' ∷ t ∷ set ∷ u ∷ pref ∷ m ∷ [])
+    ≡ codes "in " ++ a ++ (codes " list " ++ b ++ codes " match " ++ c ++ (codes " set " ++ d ++ codes " pref " ++ e))
+matched_joined k list n match' t set u pref m a b c d e e1 e2 e3 e4 e5 e6 e7 e8 e9 = rw (e1, e2, e3, e4, e5, e6, e7, e8, e9) (matched_by a b c d e)
+
+pub unmatched_joined : (k list n set u pref m a b d e : List ℕ) → list ≡ codes "list" → set ≡ codes "set" → pref ≡ codes "pref" → k ≡ a → n ≡ b → u ≡ d → m ≡ e
+    → join_with_byte 32 (codes "in" ∷ k ∷ list ∷ n ∷ set ∷ u ∷ pref ∷ m ∷ []) ≡ codes "in " ++ a ++ (codes " list " ++ b ++ (codes " set " ++ d ++ codes " pref " ++ e))
+unmatched_joined k list n set u pref m a b d e e1 e2 e3 e4 e5 e6 e7 = rw (e1, e2, e3, e4, e5, e6, e7) (simp append_assoc refl)
+
+pub out_joined : (k list n match' t a b c : List ℕ) → list ≡ codes "list" → match' ≡ codes "match" → k ≡ a → n ≡ b → t ≡ c
+    → join_with_byte 32 (codes "out" ∷ k ∷ list ∷ n ∷ match' ∷ t ∷ []) ≡ codes "out " ++ a ++ (codes " list " ++ b ++ codes " match " ++ c)
+out_joined k list n match' t a b c e1 e2 e3 e4 e5 = rw (e1, e2, e3, e4, e5) (simp append_assoc refl)

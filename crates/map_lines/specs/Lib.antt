@@ -1,0 +1,2 @@
+pub mod MapLineText
+pub mod MapLines

@@ -1,0 +1,7 @@
+mod Bounds
+mod MapFaults
+pub mod MapReadTexts
+mod MapSoFar
+mod MapSteps
+pub mod MapTaken
+mod Numbering

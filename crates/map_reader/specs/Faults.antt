@@ -1,0 +1,43 @@
+-- The numbers of the faults, their words and their values.
+use Rattle.std.specs.Prelude.{ℕ, List, [], ◌++◌, Result, codes}
+use Rattle.std.specs.Fmt.{decimal}
+use Rattle.net_base.specs.Gives.{GivesUnless}
+use Rattle.map_reader.specs.declared.fault.MapsFault.{MapsFault}
+use Rattle.map_reader.specs.declared.fault.MapsFault.TheVariants.{Version, Line, Order, Twice, Number, Unfinished, NoMemory}
+
+-- the number under which a fault is printed
+abbrev pub number_of : MapsFault → ℕ
+number_of Version = 1
+number_of (Line n) = 2
+number_of (Order n) = 3
+number_of (Twice n) = 4
+number_of (Number n) = 5
+number_of Unfinished = 6
+number_of NoMemory = 0
+
+-- the word of a fault
+abbrev pub word_of : MapsFault → List ℕ
+word_of Version = codes "version"
+word_of (Line n) = codes "line"
+word_of (Order n) = codes "order"
+word_of (Twice n) = codes "twice"
+word_of (Number n) = codes "number"
+word_of Unfinished = codes "unfinished"
+word_of NoMemory = codes "no-memory"
+
+abbrev pub line_number_text : ℕ → List ℕ
+line_number_text n = codes " line " ++ decimal n
+
+-- the line where it has one
+abbrev pub values_of : MapsFault → List ℕ
+values_of Version = []
+values_of (Line n) = line_number_text n
+values_of (Order n) = line_number_text n
+values_of (Twice n) = line_number_text n
+values_of (Number n) = line_number_text n
+values_of Unfinished = []
+values_of NoMemory = []
+
+-- what came back, seen by view, is what reading gives, unless memory ran out
+abbrev pub Gives : {X Y : Type 0} → (X → Y) → Result X MapsFault → Result Y MapsFault → Type 0
+Gives view result read = GivesUnless NoMemory view result read

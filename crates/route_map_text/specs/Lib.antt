@@ -1,0 +1,2 @@
+pub mod MapsLines
+pub mod MapsSpelled
