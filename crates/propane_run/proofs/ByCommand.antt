@@ -1,11 +1,13 @@
 -- What a run of each command has written.
 pub mod Audit
 pub mod Check
+pub mod CheckMap
 pub mod Explain
 pub mod Impact
 pub mod Lint
 pub mod Migrate
 pub mod Replay
+pub mod RouteMap
 pub mod Sample
 pub mod Trace
 pub mod Written

@@ -12,18 +12,20 @@ use Rattle.run_base.specs.Reading.{Holds, SaidOfTold}
 use Rattle.run_base.specs.Said.{failing, Whole}
 use Rattle.run_base.proofs.Sent.{Gives}
 use Rattle.propane_run.specs.declared.command.Command.{Command}
-use Rattle.propane_run.specs.declared.command.Command.TheVariants.{Check, Audit}
+use Rattle.propane_run.specs.declared.command.Command.TheVariants.{Check, CheckMap, Audit}
 use Rattle.propane_run.specs.Checking.{Checks, AsksOf}
 use Rattle.propane_run.specs.Failing.{Judges, TellsFailure}
 use Rattle.propane_run.specs.Run.{Job, Comes}
 use Rattle.propane_run.specs.Words.{names_read}
 use Rattle.propane_run.proofs.ByCommand.Audit as audit
 use Rattle.propane_run.proofs.ByCommand.Check as check
+use Rattle.propane_run.proofs.ByCommand.CheckMap as check_map
 
 -- what is told to fail does
 pub fails : {S : Type 0} (holds : Holds) (words : List (List ℕ)) (taken : S → Option (List ℕ)) (before now : S) (b : List ℕ) → Whole taken b before now
     → (c : Command) → Judges c → Comes holds words c (failing b) → TellsFailure holds taken words c before now
 fails holds words taken before now b written (Check t p x y) is comes = check.fails holds words t p x y taken before now b written comes
+fails holds words taken before now b written (CheckMap k m) is comes = check_map.fails holds words k m taken before now b written comes
 fails holds words taken before now b written (Audit t p x y s r) is comes = audit.fails holds words t p x y s r taken before now b written comes
 fails holds words taken before now b written c is comes = absurd is
 

@@ -13,11 +13,13 @@ use Rattle.audit_job.proofs.AuditLaws.{audit_job}
 use Rattle.check_job.proofs.CheckLaws.{check_job}
 use Rattle.impact_job.proofs.ImpactLaws.{impact_compiler, impact_job}
 use Rattle.lint_job.proofs.LintLaws.{lint_job}
+use Rattle.map_jobs.proofs.CheckMapLaws.{check_map_job}
+use Rattle.map_jobs.proofs.RouteMapLaws.{route_map_job}
 use Rattle.migrate_job.proofs.MigrateLaws.{migrate_job}
 use Rattle.replay_job.proofs.ReplayLaws.{replay_compiler, replay_job}
 use Rattle.trace_job.proofs.TraceLaws.{trace_compiler, trace_job}
 use Rattle.propane_run.specs.declared.command.Command.{Command}
-use Rattle.propane_run.specs.declared.command.Command.TheVariants.{Compile, Evidence, Check, Explain, Replay, Trace, Impact, Lint, Audit, Migrate, Sample}
+use Rattle.propane_run.specs.declared.command.Command.TheVariants.{Compile, Evidence, Check, Explain, Replay, Trace, Impact, RouteMap, CheckMap, Lint, Audit, Migrate, Sample}
 use Rattle.propane_run.specs.Asked.{AsksFor, IsFor}
 use Rattle.propane_run.specs.Failing.{Judges}
 use Rattle.propane_run.specs.Refusing.{Compiles, Refuses}
@@ -36,6 +38,8 @@ job_is (Trace t p e) = trace_job (Unit {0}) ⊥ tt
 job_is (Sample n) = sample_job n (Unit {0}) ⊥ tt
 job_is (Migrate k) = migrate_job ⊥ ⊥
 job_is (Impact t p x) = impact_job x (Unit {0}) ⊥ tt
+job_is (RouteMap t p) = route_map_job (Unit {0}) ⊥ tt
+job_is (CheckMap k m) = check_map_job (Unit {0}) (Unit {0}) tt tt
 job_is (Lint t p) = lint_job (Unit {0}) ⊥ tt
 job_is (Audit t p c e s r) = audit_job ⊥ (Unit {0}) tt
 

@@ -4,6 +4,7 @@ pub mod Causes
 pub mod Checkers
 pub mod Compilers
 pub mod Dispatch
+pub mod Mappers
 pub mod Refusers
 pub mod RunLaws
 pub mod Wording

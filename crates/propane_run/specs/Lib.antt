@@ -7,6 +7,7 @@ pub mod Failing
 pub mod Headline
 pub mod Impacting
 pub mod Linting
+pub mod Mapping
 pub mod Migrating
 pub mod Pairs
 pub mod Refusing

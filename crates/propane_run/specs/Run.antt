@@ -1,7 +1,7 @@
 -- What the words and the inputs come to.
 use Rattle.std.specs.Prelude.{◌≡◌, ℕ, List, Option, Some, None}
 use Rattle.propane_run.specs.declared.command.Command.{Command}
-use Rattle.propane_run.specs.declared.command.Command.TheVariants.{Compile, Evidence, Check, Explain, Replay, Trace, Impact, Lint, Audit, Migrate, Sample}
+use Rattle.propane_run.specs.declared.command.Command.TheVariants.{Compile, Evidence, Check, Explain, Replay, Trace, Impact, RouteMap, CheckMap, Lint, Audit, Migrate, Sample}
 use Rattle.propane_run.specs.Words.{names_read, usage, words_are}
 use Rattle.run_base.specs.Reading.{Holds, ReadsAll, AllHeld}
 use Rattle.input_texts.specs.Texts.{OfTwoTexts}
@@ -11,6 +11,7 @@ use Rattle.compile_jobs.specs.declared.written.Part.TheVariants as part
 use Rattle.compile_jobs.specs.Explained as explain
 use Rattle.impact_job.specs.Impacts as impact
 use Rattle.lint_job.specs.Linted as lint
+use Rattle.map_jobs.specs.MapsJobs as maps
 use Rattle.migrate_job.specs.Migrated as migrate
 use Rattle.replay_job.specs.Replayed as replay
 use Rattle.compile_jobs.specs.Sampled.{SaysOfNumber}
@@ -29,6 +30,8 @@ Job (Trace _ _ _) = trace.SaysOfTexts
 Job (Sample n) = λ bs. SaysOfNumber n
 Job (Migrate _) = migrate.SaysOfTexts
 Job (Impact _ _ p) = impact.SaysOfTexts p
+Job (RouteMap _ _) = OfTwoTexts maps.SaysOfPolicy
+Job (CheckMap _ _) = maps.SaysOfTexts
 Job (Lint _ _) = lint.SaysOfTexts
 Job (Audit _ _ _ _ _ _) = audit.SaysOfTexts
 

@@ -10,7 +10,7 @@ use Rattle.run_base.specs.declared.outcome.Status.TheVariants.{Usage}
 use Rattle.run_base.specs.Reading.{names_at}
 use Rattle.run_base.specs.Said.{Said, line}
 use Rattle.propane_run.specs.declared.command.Command.{Command}
-use Rattle.propane_run.specs.declared.command.Command.TheVariants.{Compile, Evidence, Check, Explain, Replay, Trace, Impact, Lint, Audit, Migrate, Sample}
+use Rattle.propane_run.specs.declared.command.Command.TheVariants.{Compile, Evidence, Check, Explain, Replay, Trace, Impact, RouteMap, CheckMap, Lint, Audit, Migrate, Sample}
 
 -- a number from 2 to 96, of at most two digits, without a leading zero
 abbrev pub sample_number : List ℕ → Option ℕ
@@ -33,6 +33,8 @@ with_two_names word =
     if bytes_eq word (codes "compile") then Some (Compile 1 2)
     else if bytes_eq word (codes "evidence") then Some (Evidence 1 2)
     else if bytes_eq word (codes "explain") then Some (Explain 1 2)
+    else if bytes_eq word (codes "routemap") then Some (RouteMap 1 2)
+    else if bytes_eq word (codes "checkmap") then Some (CheckMap 1 2)
     else if bytes_eq word (codes "lint") then Some (Lint 1 2)
     else None
 
@@ -66,6 +68,8 @@ places_of (Compile topology policy) = topology ∷ policy ∷ []
 places_of (Evidence topology policy) = topology ∷ policy ∷ []
 places_of (Explain topology policy) = topology ∷ policy ∷ []
 places_of (Impact topology policy prefix) = topology ∷ policy ∷ []
+places_of (RouteMap topology policy) = topology ∷ policy ∷ []
+places_of (CheckMap config maps) = config ∷ maps ∷ []
 places_of (Lint topology policy) = topology ∷ policy ∷ []
 places_of (Replay topology policy scenario) = topology ∷ policy ∷ scenario ∷ []
 places_of (Trace topology policy events) = topology ∷ policy ∷ events ∷ []
@@ -89,4 +93,4 @@ names_read words c = names_at words (places_of c)
 
 -- what is said of words that are no command
 abbrev pub usage : Said
-usage = line Usage (codes "propane: usage: compile TOPO POLICY, evidence TOPO POLICY, check TOPO POLICY CONFIG EVIDENCE, explain TOPO POLICY, replay TOPO POLICY SCENARIO, trace TOPO POLICY EVENTS, sample N, migrate CONFIG, impact TOPO POLICY PREFIX, lint TOPO POLICY, audit TOPO POLICY CONFIG EVIDENCE SCENARIO TABLES\n")
+usage = line Usage (codes "propane: usage: compile TOPO POLICY, evidence TOPO POLICY, check TOPO POLICY CONFIG EVIDENCE, explain TOPO POLICY, replay TOPO POLICY SCENARIO, trace TOPO POLICY EVENTS, sample N, migrate CONFIG, impact TOPO POLICY PREFIX, routemap TOPO POLICY, checkmap CONFIG MAPS, lint TOPO POLICY, audit TOPO POLICY CONFIG EVIDENCE SCENARIO TABLES\n")

@@ -8,7 +8,7 @@ use std::alloc::Global;
 
 /// What is said of words that are no command.
 pub const USAGE: &[u8] =
-    b"propane: usage: compile TOPO POLICY, evidence TOPO POLICY, check TOPO POLICY CONFIG EVIDENCE, explain TOPO POLICY, replay TOPO POLICY SCENARIO, trace TOPO POLICY EVENTS, sample N, migrate CONFIG, impact TOPO POLICY PREFIX, lint TOPO POLICY, audit TOPO POLICY CONFIG EVIDENCE SCENARIO TABLES\n";
+    b"propane: usage: compile TOPO POLICY, evidence TOPO POLICY, check TOPO POLICY CONFIG EVIDENCE, explain TOPO POLICY, replay TOPO POLICY SCENARIO, trace TOPO POLICY EVENTS, sample N, migrate CONFIG, impact TOPO POLICY PREFIX, routemap TOPO POLICY, checkmap CONFIG MAPS, lint TOPO POLICY, audit TOPO POLICY CONFIG EVIDENCE SCENARIO TABLES\n";
 
 /// A command. The numbers are the places of its names in the words, counted from 0, but for that of `sample`
 /// and the prefix of `impact`.
@@ -32,6 +32,10 @@ pub enum Command {
     Migrate(u32),
     /// `impact TOPO POLICY PREFIX`.
     Impact(u32, u32, Prefix),
+    /// `routemap TOPO POLICY`.
+    RouteMap(u32, u32),
+    /// `checkmap CONFIG MAPS`.
+    CheckMap(u32, u32),
     /// `lint TOPO POLICY`.
     Lint(u32, u32),
     /// `audit TOPO POLICY CONFIG EVIDENCE SCENARIO TABLES`.
@@ -48,6 +52,7 @@ impl Command {
             | Command::Evidence(topology, policy)
             | Command::Explain(topology, policy)
             | Command::Impact(topology, policy, _)
+            | Command::RouteMap(topology, policy)
             | Command::Lint(topology, policy) => Ok(vec![in alloc; topology, policy]?),
             Command::Replay(topology, policy, third) | Command::Trace(topology, policy, third) => {
                 Ok(vec![in alloc; topology, policy, third]?)
@@ -55,6 +60,7 @@ impl Command {
             Command::Check(topology, policy, config, evidence) => {
                 Ok(vec![in alloc; topology, policy, config, evidence]?)
             }
+            Command::CheckMap(config, maps) => Ok(vec![in alloc; config, maps]?),
             Command::Sample(_) => Ok(Vec::new(alloc)),
             Command::Migrate(config) => Ok(vec![in alloc; config]?),
             Command::Audit(topology, policy, config, evidence, scenario, tables) => {
@@ -101,6 +107,10 @@ fn of_two_names(word: &str) -> Option<Command>
         Some(Command::Evidence(1, 2))
     } else if word == "explain" {
         Some(Command::Explain(1, 2))
+    } else if word == "routemap" {
+        Some(Command::RouteMap(1, 2))
+    } else if word == "checkmap" {
+        Some(Command::CheckMap(1, 2))
     } else if word == "lint" {
         Some(Command::Lint(1, 2))
     } else {

@@ -12,6 +12,7 @@ use check_job::check_texts;
 use compile_jobs::{Part, explain_texts, sample_summary, written_texts};
 use impact_job::impact_texts;
 use lint_job::lint_texts;
+use map_jobs::{check_map_texts, route_map_texts};
 use migrate_job::migrate_text;
 use net_base::List;
 use replay_job::replay_texts;
@@ -60,6 +61,8 @@ pub fn job(alloc: Global, command: &Command, texts: &[List<u8>]) -> Result<Vec<u
         Command::Impact(_, _, prefix) => {
             impact_texts(alloc, text(texts, 0), text(texts, 1), prefix)
         }
+        Command::RouteMap(..) => route_map_texts(alloc, text(texts, 0), text(texts, 1)),
+        Command::CheckMap(..) => check_map_texts(alloc, text(texts, 0), text(texts, 1)),
         Command::Lint(..) => lint_texts(alloc, text(texts, 0), text(texts, 1)),
         Command::Audit(..) => audit_texts(
             alloc,

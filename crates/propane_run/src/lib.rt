@@ -1,7 +1,7 @@
 //! The top call.
 #![tactic(auto)]
 
-ghost use Rattle.std.specs.Prelude.{◌≡◌, ◌⊎◌, ◌<◌, ◌≤◌, ℕ, List, Some, None, length, map, string_bytes};
+ghost use Rattle.std.specs.Prelude.{◌≡◌, ◌≢◌, ◌⊎◌, ◌<◌, ◌≤◌, ℕ, List, Some, None, length, map, min, string_bytes};
 ghost use Rattle.net_base.specs.Network.{PlainNet};
 ghost use Rattle.outside.specs.Outside.{Rose};
 ghost use Rattle.path_words.specs.Policies.{PlainPolicy};
@@ -26,7 +26,13 @@ ghost use Rattle.lint_job.specs.Linted.{IsRefusedFor as IsPastLimit};
 ghost use Rattle.net_base.specs.Prefixes.{PlainPrefix};
 ghost use Rattle.propane_run.specs.Impacting.{ImpactsRight};
 ghost use Rattle.propane_run.specs.Linting.{LintsRight};
+ghost use Rattle.propane_run.specs.Mapping.{AsksMapsOf, AsksOfMaps, MapsAgree, MapsRight};
 ghost use Rattle.propane_run.specs.Migrating.{AsksOfOld, MigratesRight};
+ghost use Rattle.map_jobs.specs.MapsSaid.{too_many_lines};
+ghost use Rattle.maps_made.specs.Counts.{line_count};
+ghost use Rattle.maps_made.specs.Earlier.{top};
+ghost use Rattle.route_maps.specs.Maps.{PlainMaps};
+ghost use Rattle.route_maps.specs.OfConfig.{maps_of};
 ghost use Rattle.run_base.specs.Reading.{AreOnlyRead, IsAmong, RoseOf, SaidOfTold, unread};
 ghost use Rattle.refusal_lines.specs.RefusalLines.{refusal_line as line_of_refusal};
 ghost use Rattle.propane_run.specs.Refusing.{Compiles, Refuses, TellsRefusal};
@@ -150,6 +156,15 @@ pub fn run<I: Inputs, O: Sink, E: Sink>(
     ensures impacts_right { (topology policy : ℕ) (prefix : PlainPrefix) → let c = Command.Impact topology policy prefix in words_are (map string_bytes words.now) ≡ Some c
         → result ≡ Status.Done → ImpactsRight (I.holds inputs.old) O.taken (map string_bytes words.now) c prefix out.old out.new }
 
+    // Where `routemap` ends with Done, `out` grew by the text of the maps of the configuration that is compiled, which is right, and the
+    // maps mean what its lines mean.
+    ensures maps_right { (topology policy : ℕ) → let c = Command.RouteMap topology policy in words_are (map string_bytes words.now) ≡ Some c
+        → result ≡ Status.Done → MapsRight (I.holds inputs.old) O.taken (map string_bytes words.now) c out.old out.new }
+
+    // Where `checkmap` ends with Done, the maps that the inputs spell are those of the configuration that they spell; `out` says so.
+    ensures maps_agree { (config maps : ℕ) → let c = Command.CheckMap config maps in words_are (map string_bytes words.now) ≡ Some c
+        → result ≡ Status.Done → MapsAgree (I.holds inputs.old) O.taken (map string_bytes words.now) c out.old out.new }
+
     // Where `lint` ends with Done, `out` grew by the lines of exactly the findings for the policy that the inputs spell.
     ensures lints_right { (topology policy : ℕ) → let c = Command.Lint topology policy in words_are (map string_bytes words.now) ≡ Some c
         → result ≡ Status.Done → LintsRight (I.holds inputs.old) O.taken (map string_bytes words.now) c out.old out.new }
@@ -159,13 +174,13 @@ pub fn run<I: Inputs, O: Sink, E: Sink>(
     ensures audits_right { (topology policy config evidence scenario tables : ℕ) → let c = Command.Audit topology policy config evidence scenario tables in words_are (map string_bytes words.now) ≡ Some c
         → result ≡ Status.Done → AuditsRight (I.holds inputs.old) O.taken (map string_bytes words.now) c out.old out.new }
 
-    // It ends with CheckFails only where the command judges what it is given, and that fails: of evidence the first rule that fails, or of
-    // tables the first router that isn't stable, which `out` tells.
+    // It ends with CheckFails only where the command judges what it is given, and that fails: of evidence the first rule that fails, of
+    // maps the first line that differs, or of tables the first router that isn't stable, which `out` tells.
     ensures check_fails { result ≡ Status.CheckFails → (c : Command) × Judges c
         × TellsFailure (I.holds inputs.old) O.taken (map string_bytes words.now) c out.old out.new × (err.new ≡ err.old) }
 
     // It ends with Refused only where the command may refuse, and its inputs spell a network and a policy, or it has those of the
-    // sample, to which the refusal applies that the line tells.
+    // sample, to which the refusal applies that the line tells; or the maps of its configuration would have too many lines.
     ensures refused { result ≡ Status.Refused → (c : Command) × Refuses c
         × TellsRefusal (I.holds inputs.old) E.taken (map string_bytes words.now) c err.old err.new × (out.new ≡ out.old) }
 
@@ -257,6 +272,43 @@ pub fn run<I: Inputs, O: Sink, E: Sink>(
         → AsksFor (I.holds inputs.old) (map string_bytes words.now) c net asked → IsPastLimit net asked e
         → (result ≡ Status.NoMemory)
         ⊎ (result ≡ Status.Refused) × Whole E.taken (line_of_refusal net (compile_refusal e)) err.old err.new × (out.new ≡ out.old) }
+
+    // There `routemap` ends so where no refusal of the compiler applies, and the maps of what is compiled don't have too many lines, if no
+    // count of `out` rises; and where one applies it tells it, if no count of `err` rises; or memory ran out.
+    ensures mapped_where { (topology policy : ℕ) → let c = Command.RouteMap topology policy in (net : PlainNet) (asked : PlainPolicy)
+        → ReadsSmoothly (I.holds inputs.old) (RoseOf (I.faults inputs.old) (I.faults inputs.new)) (map string_bytes words.now) c
+        → ¬ Rose (O.faults out.old) (O.faults out.new)
+        → AsksFor (I.holds inputs.old) (map string_bytes words.now) c net asked → ((e : CompileRefusal) → ¬ IsRefusedFor net asked e)
+        → ((config : PlainConfig) (evidence : List PlainCaseEvidence) → IsCompiled net asked config evidence → line_count (maps_of config) ≤ 1000000)
+        → (result ≡ Status.NoMemory) ⊎ (result ≡ Status.Done) }
+    ensures unmapped_where { (topology policy : ℕ) → let c = Command.RouteMap topology policy in (net : PlainNet) (asked : PlainPolicy) (e : CompileRefusal)
+        → ReadsSmoothly (I.holds inputs.old) (RoseOf (I.faults inputs.old) (I.faults inputs.new)) (map string_bytes words.now) c
+        → ¬ Rose (E.faults err.old) (E.faults err.new)
+        → AsksFor (I.holds inputs.old) (map string_bytes words.now) c net asked → IsRefusedFor net asked e
+        → (result ≡ Status.NoMemory)
+        ⊎ (result ≡ Status.Refused) × Whole E.taken (line_of_refusal net e) err.old err.new × (out.new ≡ out.old) }
+
+    // There `checkmap` ends so where the maps are those of the configuration, and these don't have too many lines, and fails where they
+    // are others, if no count of `out` rises; or memory ran out.
+    ensures same_where { (place other : ℕ) → let c = Command.CheckMap place other in (config : PlainConfig) (maps : PlainMaps)
+        → ReadsSmoothly (I.holds inputs.old) (RoseOf (I.faults inputs.old) (I.faults inputs.new)) (map string_bytes words.now) c
+        → ¬ Rose (O.faults out.old) (O.faults out.new)
+        → AsksOfMaps (I.holds inputs.old) (map string_bytes words.now) c config maps → line_count (maps_of config) ≤ 1000000 → maps ≡ maps_of config
+        → (result ≡ Status.NoMemory) ⊎ (result ≡ Status.Done) }
+    ensures differ_where { (place other : ℕ) → let c = Command.CheckMap place other in (config : PlainConfig) (maps : PlainMaps)
+        → ReadsSmoothly (I.holds inputs.old) (RoseOf (I.faults inputs.old) (I.faults inputs.new)) (map string_bytes words.now) c
+        → ¬ Rose (O.faults out.old) (O.faults out.new)
+        → AsksOfMaps (I.holds inputs.old) (map string_bytes words.now) c config maps → line_count (maps_of config) ≤ 1000000 → maps ≢ maps_of config
+        → (result ≡ Status.NoMemory) ⊎ (result ≡ Status.CheckFails) }
+
+    // And both refuse a configuration whose maps would have more lines than a text of maps may have, and tell how many, if no count of
+    // `err` rises; or memory ran out.
+    ensures too_many_where { (c : Command) (config : PlainConfig)
+        → ReadsSmoothly (I.holds inputs.old) (RoseOf (I.faults inputs.old) (I.faults inputs.new)) (map string_bytes words.now) c
+        → ¬ Rose (E.faults err.old) (E.faults err.new)
+        → AsksMapsOf (I.holds inputs.old) (map string_bytes words.now) c config → 1000000 < line_count (maps_of config)
+        → (result ≡ Status.NoMemory)
+        ⊎ (result ≡ Status.Refused) × Whole E.taken (too_many_lines (min (line_count (maps_of config)) top)) err.old err.new × (out.new ≡ out.old) }
 
     // There `check` says that evidence which passes holds, and that other evidence fails, if no count of `out` rises; or memory
     // ran out.

@@ -7,6 +7,7 @@ mod files;
 mod impacts;
 mod limits;
 mod linted;
+mod mapped;
 mod memory;
 mod migrated;
 mod plays;
@@ -102,7 +103,7 @@ fn tells(alloc: Global, topology: &[u8], policy: &[u8], line: &str) -> Result<bo
 const COMPILE: &[&str] = &["compile", "t.json", "p.propane"];
 
 const USAGE: &str =
-    "propane: usage: compile TOPO POLICY, evidence TOPO POLICY, check TOPO POLICY CONFIG EVIDENCE, explain TOPO POLICY, replay TOPO POLICY SCENARIO, trace TOPO POLICY EVENTS, sample N, migrate CONFIG, impact TOPO POLICY PREFIX, lint TOPO POLICY, audit TOPO POLICY CONFIG EVIDENCE SCENARIO TABLES
+    "propane: usage: compile TOPO POLICY, evidence TOPO POLICY, check TOPO POLICY CONFIG EVIDENCE, explain TOPO POLICY, replay TOPO POLICY SCENARIO, trace TOPO POLICY EVENTS, sample N, migrate CONFIG, impact TOPO POLICY PREFIX, routemap TOPO POLICY, checkmap CONFIG MAPS, lint TOPO POLICY, audit TOPO POLICY CONFIG EVIDENCE SCENARIO TABLES
 ";
 
 // One run: its words, the calls that fail, the status, and what `out` and `err` took.

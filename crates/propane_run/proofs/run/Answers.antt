@@ -3,16 +3,19 @@ use Rattle.run_base.specs.Reading.{RoseOf}
 use Rattle.propane_run.proofs.RunLaws as law
 use Rattle.propane_run.proofs.ByCommand.Audit as audit
 use Rattle.propane_run.proofs.ByCommand.Check as check
+use Rattle.propane_run.proofs.ByCommand.CheckMap as check_map
 use Rattle.propane_run.proofs.ByCommand.Explain as explain
 use Rattle.propane_run.proofs.ByCommand.Impact as impact
 use Rattle.propane_run.proofs.ByCommand.Lint as lint
 use Rattle.propane_run.proofs.ByCommand.Migrate as migrate
 use Rattle.propane_run.proofs.ByCommand.Replay as replay
+use Rattle.propane_run.proofs.ByCommand.RouteMap as route_map
 use Rattle.propane_run.proofs.ByCommand.Sample as sample
 use Rattle.propane_run.proofs.ByCommand.Trace as trace
 use Rattle.propane_run.proofs.ByCommand.Written as written
 use Rattle.propane_run.proofs.Checkers as checkers
 use Rattle.propane_run.proofs.Compilers as compilers
+use Rattle.propane_run.proofs.Mappers as mappers
 use Rattle.propane_run.proofs.Refusers as refusers
 use Rattle.propane_run.proofs.run.Goals as goal
 
@@ -173,3 +176,40 @@ pub returns-clause-limited_where : goal.returns-clause-limited_where
 returns-clause-limited_where g c = λ t p net policy e smooth calm asks applies.
     let h = c.run_whole.ensures.whole in
     lint.limited_where _ _ t p net policy asks _ _ _ _ _ _ _ _ _ e calm applies (law.complete _ _ _ _ (g.I.Inputs.holds c.args.inputs.now) (RoseOf (g.I.Inputs.faults c.args.inputs.now) (g.I.Inputs.faults c.run_whole.new.inputs)) (map string_bytes c.args.words.now) _ _ _ _ h.0 _ h.1 h.2 _ smooth)
+
+pub returns-clause-maps_right : goal.returns-clause-maps_right
+returns-clause-maps_right g c = λ t p asks is.
+    let h = c.run_whole.ensures.whole in
+    let d = law.done_for _ _ _ _ (g.I.Inputs.holds c.args.inputs.now) (RoseOf (g.I.Inputs.faults c.args.inputs.now) (g.I.Inputs.faults c.run_whole.new.inputs)) (map string_bytes c.args.words.now) _ _ _ _ h.0 _ h.1 h.2 _ asks is in
+    route_map.right _ _ t p _ _ _ d.0 d.2 d.1
+
+pub returns-clause-mapped_where : goal.returns-clause-mapped_where
+returns-clause-mapped_where g c = λ t p net policy smooth calm asks none few.
+    let h = c.run_whole.ensures.whole in
+    route_map.mapped_where _ _ t p net policy asks _ _ _ _ _ _ _ _ _ none few calm (law.complete _ _ _ _ (g.I.Inputs.holds c.args.inputs.now) (RoseOf (g.I.Inputs.faults c.args.inputs.now) (g.I.Inputs.faults c.run_whole.new.inputs)) (map string_bytes c.args.words.now) _ _ _ _ h.0 _ h.1 h.2 _ smooth)
+
+pub returns-clause-unmapped_where : goal.returns-clause-unmapped_where
+returns-clause-unmapped_where g c = λ t p net policy e smooth calm asks applies.
+    let h = c.run_whole.ensures.whole in
+    route_map.unmapped_where _ _ t p net policy asks _ _ _ _ _ _ _ _ _ e calm applies (law.complete _ _ _ _ (g.I.Inputs.holds c.args.inputs.now) (RoseOf (g.I.Inputs.faults c.args.inputs.now) (g.I.Inputs.faults c.run_whole.new.inputs)) (map string_bytes c.args.words.now) _ _ _ _ h.0 _ h.1 h.2 _ smooth)
+
+pub returns-clause-maps_agree : goal.returns-clause-maps_agree
+returns-clause-maps_agree g c = λ k m asks is.
+    let h = c.run_whole.ensures.whole in
+    let d = law.done_for _ _ _ _ (g.I.Inputs.holds c.args.inputs.now) (RoseOf (g.I.Inputs.faults c.args.inputs.now) (g.I.Inputs.faults c.run_whole.new.inputs)) (map string_bytes c.args.words.now) _ _ _ _ h.0 _ h.1 h.2 _ asks is in
+    check_map.right _ _ k m _ _ _ d.0 d.2 d.1
+
+pub returns-clause-same_where : goal.returns-clause-same_where
+returns-clause-same_where g c = λ k m config maps smooth calm asks few same.
+    let h = c.run_whole.ensures.whole in
+    check_map.same_where _ _ k m config maps asks _ _ _ _ _ _ _ _ _ few calm same (law.complete _ _ _ _ (g.I.Inputs.holds c.args.inputs.now) (RoseOf (g.I.Inputs.faults c.args.inputs.now) (g.I.Inputs.faults c.run_whole.new.inputs)) (map string_bytes c.args.words.now) _ _ _ _ h.0 _ h.1 h.2 _ smooth)
+
+pub returns-clause-differ_where : goal.returns-clause-differ_where
+returns-clause-differ_where g c = λ k m config maps smooth calm asks few apart.
+    let h = c.run_whole.ensures.whole in
+    check_map.differ_where _ _ k m config maps asks _ _ _ _ _ _ _ _ _ few calm apart (law.complete _ _ _ _ (g.I.Inputs.holds c.args.inputs.now) (RoseOf (g.I.Inputs.faults c.args.inputs.now) (g.I.Inputs.faults c.run_whole.new.inputs)) (map string_bytes c.args.words.now) _ _ _ _ h.0 _ h.1 h.2 _ smooth)
+
+pub returns-clause-too_many_where : goal.returns-clause-too_many_where
+returns-clause-too_many_where g c = λ command config smooth calm asks many.
+    let h = c.run_whole.ensures.whole in
+    mappers.too_many_where _ _ _ _ _ _ _ _ _ _ _ config command asks many calm (law.complete _ _ _ _ (g.I.Inputs.holds c.args.inputs.now) (RoseOf (g.I.Inputs.faults c.args.inputs.now) (g.I.Inputs.faults c.run_whole.new.inputs)) (map string_bytes c.args.words.now) _ _ _ _ h.0 _ h.1 h.2 _ smooth)

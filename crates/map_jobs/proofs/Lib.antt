@@ -1,0 +1,3 @@
+mod MapJobLaws
+pub mod CheckMapLaws
+pub mod RouteMapLaws

@@ -1,0 +1,51 @@
+-- What follows from what was read and made.
+use Rattle.std.proofs.Common.{◌≡◌, ℕ, zero, suc, ◌+◌, ◌<◌, ◌≤◌, List, [], ◌∷◌, length, drop, get_or, min, Bool, true, false, Ok, Err, inl, inr, refl, sym, ◌∙◌, ap, ap₂, subst, arith}
+use Rattle.std.specs.Prelude.{◌≢◌, ◌⊎◌, Result, map}
+use Rattle.std.proofs.Math.ListN.{drop_of_length-le}
+use Rattle.std.specs.Str.{bytes_eq}
+use Rattle.net_base.proofs.StepLemmas.{ok_same}
+use Rattle.config_base.specs.Configs.{PlainConfig}
+use Rattle.run_base.specs.Said.{Said, text, failing}
+use Rattle.route_maps.specs.Maps.{PlainMaps}
+use Rattle.route_maps.specs.OfConfig.{maps_of}
+use Rattle.maps_made.specs.Counts.{line_count}
+use Rattle.route_map_text.specs.MapsLines.{maps_text}
+use Rattle.route_map_text.specs.MapsSpelled.{IsLawful, Spells}
+use Rattle.map_reader.specs.MapsRead.{spelled}
+use Rattle.map_reader.specs.declared.fault.MapsFault.{MapsFault}
+use Rattle.map_reader.proofs.MapTaken.{spelled_is_read}
+use Rattle.map_jobs.specs.Difference.{first_apart, first_difference}
+use Rattle.map_jobs.specs.MapsSaid.{same_line, differs_line}
+use Rattle.map_jobs.specs.MapsJobs.{SaysOfConfig, SaysOfBoth, SaysOfBytes, SaysOfMaps}
+
+pub config_said : (config : PlainConfig) (maps : PlainMaps) (bytes : List ℕ) → maps ≡ maps_of config → line_count (maps_of config) ≤ 1000000 → Spells bytes maps → SaysOfConfig config (text bytes)
+config_said config maps bytes same few s = inl (few, subst IsLawful same s.lawful, ap text (s.written ∙ ap maps_text same))
+
+-- what is said of a text of maps is said of the maps that it spells
+pub maps_said : (config : PlainConfig) (m : PlainMaps) (bytes : List ℕ) (what : Said) → length bytes < 4294967295 → spelled bytes ≡ Ok m → Spells bytes m → SaysOfBytes config bytes what → SaysOfMaps config m what
+maps_said config m bytes what short h s (inr many) = inr many
+maps_said config m bytes what short h s (inl (few, lawful, inl (same, w))) =
+    let other : Spells bytes (maps_of config) = record { lawful = lawful; written = same } in
+    inl (few, inl (ok_same m (maps_of config) (sym h ∙ spelled_is_read bytes (maps_of config) short other), w))
+maps_said config m bytes what short h s (inl (few, lawful, inr (apart, w))) =
+    inl (few, inr (λ e. apart (s.written ∙ ap maps_text e), w ∙ ap (λ t. failing (differs_line (first_difference t (maps_text (maps_of config))))) s.written))
+
+-- what is said beside the wanted text
+pub bytes_said : (config : PlainConfig) (maps : PlainMaps) (bytes wanted : List ℕ) (what : Said) → maps ≡ maps_of config → line_count (maps_of config) ≤ 1000000 → Spells wanted maps → SaysOfBoth bytes wanted what → SaysOfBytes config bytes what
+bytes_said config maps bytes wanted what same few s both =
+    let lawful : IsLawful (maps_of config) = subst IsLawful same s.lawful in
+    let is : wanted ≡ maps_text (maps_of config) = s.written ∙ ap maps_text same in
+    inl (few, lawful, subst (λ t. SaysOfBoth bytes t what) is both)
+
+-- ---- the first lines that differ
+
+none_left : (xs : List (List ℕ)) → first_apart xs [] ≡ 1
+none_left [] = refl
+none_left (x ∷ xs) = refl
+
+-- where the second text has no line more at a place up to which all are alike
+pub at_an_end : {X : Type 0} (now : X → List ℕ) (xs ys : List X) (i : ℕ) → length ys ≤ i → first_apart (map now xs) (map now ys) ≡ i + first_apart (map now (drop i xs)) (map now (drop i ys))
+    → i + 1 ≡ first_apart (map now xs) (map now ys)
+at_an_end {X} now xs ys i past alike =
+    let rest = ap (λ (zs : List X). i + first_apart (map now (drop i xs)) (map now zs)) (drop_of_length-le ys past) in
+    sym (alike ∙ rest ∙ ap (λ n. i + n) (none_left (map now (drop i xs))))
