@@ -27,8 +27,31 @@ fn add_row(alloc: Global, e: &Expr, fs: &[Expr], all: &mut Vec<Expr>) -> Result<
     Ok(())
 }
 
-/// Each of the first with each of the second.
-fn pairs_of(alloc: Global, es: &[Expr], fs: &[Expr]) -> Result<Vec<Expr>, AllocError>
+/// Each of the first with each of the second. Where the second is one, as a call mostly is, the first aren't copied: in a chain
+/// of `and`s they hold all that stands before.
+fn pairs_of(alloc: Global, es: Vec<Expr>, fs: Vec<Expr>) -> Result<Vec<Expr>, AllocError>
+    ensures { IfOk result (λ r. views r.items ≡ flat_map (λ e. map (both_of_two e) (views fs.items)) (views es.items)) }
+{
+    match fs.as_slice() {
+        [f] => each_with(alloc, es, f),
+        _ => rows_of(alloc, &es, &fs),
+    }
+}
+
+/// Each of them with one other.
+fn each_with(alloc: Global, es: Vec<Expr>, f: &Expr) -> Result<Vec<Expr>, AllocError>
+    ensures { IfOk result (λ r. views r.items ≡ map (λ e. both_of_two e (view f.now)) (views es.items)) }
+{
+    let mut all = Vec::new(alloc);
+    for e in es {
+        let other = copy_of(alloc, f)?;
+        all.push(both(alloc, e, other)?)?;
+    }
+    Ok(all)
+}
+
+/// Each of the first with each of the second, which are copied.
+fn rows_of(alloc: Global, es: &[Expr], fs: &[Expr]) -> Result<Vec<Expr>, AllocError>
     ensures { IfOk result (λ r. views r.items ≡ flat_map (λ e. map (both_of_two e) (views fs.now)) (views es.now)) }
 {
     let mut all = Vec::new(alloc);
@@ -63,7 +86,7 @@ fn expressions_in_order(alloc: Global, ranked: &Ranked, net: &Net) -> Result<Vec
         Ranked::And(a, b) => {
             let first = expressions_in_order(alloc, a, net)?;
             let second = expressions_in_order(alloc, b, net)?;
-            Ok(pairs_of(alloc, &first, &second)?)
+            Ok(pairs_of(alloc, first, second)?)
         }
         Ranked::Not(a) => {
             let inner = Expr::Either(expressions_in_order(alloc, a, net)?);

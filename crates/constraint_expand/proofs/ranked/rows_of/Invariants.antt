@@ -2,7 +2,7 @@ use Rattle.std.proofs.Common.{◌≡◌, ◌++◌, map, drop}
 use Rattle.std.specs.List.{flat_map}
 use Rattle.path_exprs.specs.View.{views}
 use Rattle.path_exprs.specs.Forward.{both_of_two}
-use Rattle.constraint_expand.proofs.ranked.pairs_of.Given as goal
+use Rattle.constraint_expand.proofs.ranked.rows_of.Given as goal
 
 abbrev pub invariant-loop-e : goal.invariant-loop-e
 invariant-loop-e l =
