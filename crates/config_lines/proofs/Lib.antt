@@ -1,7 +1,10 @@
 pub mod Addresses
 pub mod Chains
+pub mod CutParts
 pub mod Digits
 pub mod JoinedLines
+pub mod KeptWords
+pub mod LongLines
 pub mod PartLaws
 pub mod PatternLaws
 pub mod Ranges

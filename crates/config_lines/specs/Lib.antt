@@ -3,5 +3,6 @@ pub mod Gives
 pub mod LineText
 pub mod Lines
 pub mod Numbers
+pub mod Parts
 pub mod Patterns
 pub mod Words

@@ -1,12 +1,15 @@
 //! The numbers of a line, first as they stand and then in their ranges.
-ghost use Rattle.std.specs.Prelude.{◌≡◌, ◌==◌, ◌<◌, ◌^◌, nat_lt, false, IfSome, IfNone};
+ghost use Rattle.std.specs.Prelude.{◌≡◌, ◌^◌, nat_lt, Ok, Err, Some, None, if◌then◌else◌};
 ghost use Rattle.std.specs.List.{list_all};
 ghost use Rattle.net_base.specs.Addresses.{is_figure as figure};
-ghost use Rattle.config_lines.specs.Numbers.{value_of, is_number as are_digits, is_padded as padded, figure_of, number_of, in_range as ranged, class_in, class_number as numbered, tag_in_range};
+ghost use Rattle.config_lines.specs.Numbers.{value_of, is_padded as padded, number_of, in_range as ranged, class_in, class_number as numbered, tag_in_range};
 
 use crate::edition::Edition;
 use crate::line::LineFault;
 use net_base::Tag;
+
+// The least number that doesn't have 32 bits.
+const TOO_LARGE: u64 = 1 << 32;
 
 /// A number as it stands in a line.
 #[derive(Clone, Copy, Debug, PartialEq, Eq)]
@@ -41,19 +44,6 @@ fn is_figure(byte: u8) -> bool
     byte.is_ascii_digit()
 }
 
-fn are_figures(bytes: &[u8]) -> bool
-    ensures { result ≡ list_all figure bytes.now }
-{
-    bytes.iter().all(|byte| is_figure(*byte))
-}
-
-// Whether the bytes are one or more digits.
-fn is_number(bytes: &[u8]) -> bool
-    ensures { result ≡ are_digits bytes.now }
-{
-    !bytes.is_empty() && are_figures(bytes)
-}
-
 // Whether the digits are more than one, of which the first is 0.
 fn is_padded(digits: &[u8]) -> bool
     ensures { result ≡ padded digits.now }
@@ -61,33 +51,21 @@ fn is_padded(digits: &[u8]) -> bool
     digits.len() >= 2 && digits[0] == b'0'
 }
 
-// The number that digits make, None where it is over 4294967295.
-fn value(digits: &[u8]) -> Option<u32>
-    ensures some { IfSome result (λ n. n ≡ value_of digits.now) }
-    ensures none { IfNone result (nat_lt (value_of digits.now) (2 ^ 32) ≡ false) }
+// The number that digits make, None where it is over 4294967295. A byte that is no digit is not of the form.
+fn value(bytes: &[u8]) -> Result<Option<u32>, LineFault>
+    ensures { result ≡ (if list_all figure bytes.now then Ok (if nat_lt (value_of bytes.now) (2 ^ 32) then Some (value_of bytes.now) else None) else Err LineFault.Form) }
 {
-    let mut value: u32 = 0;
-    for digit in digits {
-        let next = 10 * u64::from(value) + u64::from(digit.saturating_sub(b'0'));
-        if next > u64::from(u32::MAX) {
-            return None;
+    let mut value: u64 = 0;
+    for byte in bytes {
+        if !is_figure(*byte) {
+            return Err(LineFault::Form);
         }
-        value = next as u32;
+        value = (10 * value + u64::from(byte.saturating_sub(b'0'))).min(TOO_LARGE);
     }
-    Some(value)
-}
-
-// The number of digits as it stands.
-fn as_it_stands(digits: &[u8]) -> Figure
-    ensures { result ≡ figure_of digits.now }
-{
-    if is_padded(digits) {
-        return Figure::LeadingZero;
+    if value == TOO_LARGE {
+        return Ok(None);
     }
-    match value(digits) {
-        Some(n) => Figure::Value(n),
-        None => Figure::Large,
-    }
+    Ok(Some(value as u32))
 }
 
 /// The number that a word is, as it stands. A word that isn't one or more digits is not of its form.
@@ -95,10 +73,17 @@ fn as_it_stands(digits: &[u8]) -> Figure
 pub fn read_number(word: &[u8]) -> Result<Figure, LineFault>
     ensures { result ≡ number_of word.now }
 {
-    if !is_number(word) {
+    if word.is_empty() {
         return Err(LineFault::Form);
     }
-    Ok(as_it_stands(word))
+    let value = value(word)?;
+    if is_padded(word) {
+        return Ok(Figure::LeadingZero);
+    }
+    match value {
+        Some(n) => Ok(Figure::Value(n)),
+        None => Ok(Figure::Large),
+    }
 }
 
 /// The number, which has no leading zero and at most 32 bits.

@@ -1,23 +1,15 @@
-//! The words of a line.
-ghost use Rattle.std.specs.Prelude.{◌≡◌, ◌≤◌, ◌==◌, map, length, option_map, IfOk};
-ghost use Rattle.std.specs.List.{slice_split, position_or_len};
+//! What a word of a line is.
+ghost use Rattle.std.specs.Prelude.{◌≡◌};
 ghost use Rattle.std.specs.Str.{bytes_eq};
-ghost use Rattle.net_base.specs.Addresses.{address_of, cut_at};
+ghost use Rattle.net_base.specs.Addresses.{address_of};
 ghost use Rattle.net_base.specs.PrefixText.{prefix_spelled};
 ghost use Rattle.config_lines.specs.Words.{is_word as fixed_word, name_of, identifier_of, as_prefix, pair_of, triple_of, tag_of};
 
+use crate::cut::halves;
 use crate::edition::Edition;
 use crate::line::LineFault;
 use crate::number::{Figure, RawTag, read_number};
 use net_base::{Name, Prefix, read_address, read_prefix};
-use std::alloc::{AllocError, Global};
-
-/// The parts of the bytes before, between and behind those that are the sign.
-pub fn cut_parts(alloc: Global, sign: u8, bytes: &[u8]) -> Result<Vec<&[u8]>, AllocError>
-    ensures { IfOk result (λ v. map (λ p. p.now) v.items ≡ slice_split (λ b. b == sign) bytes.now) }
-{
-    bytes.split(|byte| *byte == sign).collect(alloc)
-}
 
 /// Whether the word is this one.
 pub fn is_word(fixed: &str, word: &[u8]) -> bool
@@ -67,38 +59,12 @@ pub fn prefix(word: &[u8]) -> Result<Prefix, LineFault>
     }
 }
 
-// How many bytes stand before the first colon: all of them where there is none.
-fn length_before_colon(bytes: &[u8]) -> usize
-    ensures place { result ≡ position_or_len (λ b. b == 58) bytes.now }
-    ensures within { result ≤ length bytes.now }
-{
-    let mut i = 0;
-    while i < bytes.len() {
-        if bytes[i] == b':' {
-            return i;
-        }
-        i += 1;
-    }
-    i
-}
-
-// What stands before and after the first colon.
-fn halves(bytes: &[u8]) -> Option<(&[u8], &[u8])>
-    ensures { option_map (λ h. (h.0.now, h.1.now)) result ≡ cut_at 58 bytes.now }
-{
-    let i = length_before_colon(bytes);
-    if i == bytes.len() {
-        return None;
-    }
-    Some((&bytes[..i], &bytes[i + 1..]))
-}
-
 // Two numbers joined by a colon.
 #[tactic(auto, unfolding(crate::specs::Words::pair_of))]
 fn read_pair(word: &[u8]) -> Result<RawTag, LineFault>
     ensures { result ≡ pair_of word.now }
 {
-    let Some((asn, value)) = halves(word) else {
+    let Some((asn, value)) = halves(b':', word) else {
         return Err(LineFault::Form);
     };
     Ok(RawTag {
@@ -113,10 +79,10 @@ fn read_pair(word: &[u8]) -> Result<RawTag, LineFault>
 fn read_triple(word: &[u8]) -> Result<RawTag, LineFault>
     ensures { result ≡ triple_of word.now }
 {
-    let Some((asn, rest)) = halves(word) else {
+    let Some((asn, rest)) = halves(b':', word) else {
         return Err(LineFault::Form);
     };
-    let Some((middle, value)) = halves(rest) else {
+    let Some((middle, value)) = halves(b':', rest) else {
         return Err(LineFault::Form);
     };
     Ok(RawTag {

@@ -1,11 +1,13 @@
 //! The patterns of a `class` line.
-ghost use Rattle.std.specs.Prelude.{◌≡◌, ◌==◌, ◌∷◌, [], map};
-ghost use Rattle.std.specs.List.{slice_split};
+ghost use Rattle.std.specs.Prelude.{◌≡◌, ◌∷◌, [], map, option_map};
 ghost use Rattle.config_lines.specs.Gives.{Gives};
+ghost use Rattle.config_lines.specs.Parts.{parts_left};
 ghost use Rattle.config_lines.specs.Patterns.{up_to, pattern_of, behind_space, later_pattern, later_patterns};
 
+use crate::cut::first_part;
 use crate::line::LineFault;
-use crate::parts::{cut_parts, expect, prefix};
+use crate::parts::{expect, prefix};
+use crate::words::Words;
 use net_base::{List, Pattern, Prefix, read_length};
 use std::alloc::Global;
 
@@ -54,26 +56,31 @@ fn pattern_behind_space(words: &[&[u8]]) -> Result<Pattern, LineFault>
 }
 
 // The pattern between two commas, which stands behind a space.
-fn read_later_pattern(alloc: Global, piece: &[u8]) -> Result<Pattern, LineFault>
-    ensures { Gives (λ p. p) result (later_pattern piece.now) }
+fn read_later_pattern(piece: &[u8]) -> Result<Pattern, LineFault>
+    ensures { result ≡ later_pattern piece.now }
 {
-    let words = cut_parts(alloc, b' ', piece)?;
-    pattern_behind_space(&words)
+    match Words::of(piece) {
+        Some(words) => pattern_behind_space(words.as_slice()),
+        None => Err(LineFault::Form),
+    }
 }
 
-/// The patterns of a line: the first one, and those of its other pieces.
+/// The patterns of a line: the first one, and those of its other pieces, which are what stands behind the first comma.
 pub fn read_patterns(
     alloc: Global,
     first: Pattern,
-    pieces: &[&[u8]],
+    pieces: Option<&[u8]>,
 ) -> Result<List<Pattern>, LineFault>
-    ensures { Gives (λ v. v) result (later_patterns (first ∷ []) (map (λ p. p.now) pieces.now)) }
+    ensures { Gives (λ v. v) result (later_patterns (first ∷ []) (parts_left 44 (option_map (λ p. p.now) pieces.entry))) }
 {
-    let mut all = Vec::new(alloc);
+    let mut all = Vec::with_capacity(alloc, 1)?;
     all.push(first)?;
-    for piece in pieces {
-        let pattern = read_later_pattern(alloc, piece)?;
+    let mut left = pieces;
+    while let Some(bytes) = left {
+        let (piece, more) = first_part(b',', bytes);
+        let pattern = read_later_pattern(piece)?;
         all.push(pattern)?;
+        left = more;
     }
     Ok(List::from_vec(all))
 }

@@ -1,21 +1,24 @@
 //! Lines are read.
-ghost use Rattle.std.specs.Prelude.{◌≡◌, map};
+ghost use Rattle.std.specs.Prelude.{◌≡◌, map, option_map};
 ghost use Rattle.config_lines.specs.Gives.{Gives};
-ghost use Rattle.config_lines.specs.Lines.{class_line, router_line, own_line, neighbour, session_line, peer_line, setting, tagged_line, untagged_line, import_line, export_line, end_line, form_line, words_line, pieces_line, line_of};
+ghost use Rattle.config_lines.specs.Lines.{class_line, router_line, own_line, neighbour, session_line, peer_line, setting, tagged_line, untagged_line, import_line, export_line, end_line, form_line, words_line, line_of};
+ghost use Rattle.config_lines.specs.Parts.{parts_left};
 
+use crate::cut::first_part;
 use crate::edition::Edition;
 use crate::line::{Line, LineFault};
 use crate::number::{Setting, class_number, fitting_tag, in_range, read_class, read_number};
-use crate::parts::{cut_parts, expect, is_word, prefix, read_identifier, read_name, read_tag};
+use crate::parts::{expect, is_word, prefix, read_identifier, read_name, read_tag};
 use crate::pattern::{read_pattern, read_patterns};
+use crate::words::Words;
 use config_base::{Export, NO_TAG, Own, Rule};
 use net_base::Name;
 use std::alloc::Global;
 
-// A `class` line, by what follows its first word up to the first comma, and its other pieces.
+// A `class` line, by what follows its first word up to the first comma, and what stands behind that.
 #[tactic(auto, unfolding(crate::specs::Lines::class_line))]
-fn read_class_line(alloc: Global, words: &[&[u8]], pieces: &[&[u8]]) -> Result<Line, LineFault>
-    ensures { Gives (λ l. l) result (class_line (map (λ w. w.now) words.now) (map (λ p. p.now) pieces.now)) }
+fn read_class_line(alloc: Global, words: &[&[u8]], pieces: Option<&[u8]>) -> Result<Line, LineFault>
+    ensures { Gives (λ l. l) result (class_line (map (λ w. w.now) words.now) (parts_left 44 (option_map (λ p. p.now) pieces.entry))) }
 {
     let [number, pattern @ ..] = words else {
         return Err(LineFault::Form);
@@ -223,16 +226,16 @@ fn read_form_line(
     }
 }
 
-// A line, by the words of its first piece and its other pieces.
+// A line, by the words of its first piece and what stands behind the first comma.
 #[tactic(auto, unfolding(crate::specs::Lines::words_line))]
 fn read_words_line(
     alloc: Global,
     edition: Edition,
     classes: u32,
     words: &[&[u8]],
-    pieces: &[&[u8]],
+    pieces: Option<&[u8]>,
 ) -> Result<Line, LineFault>
-    ensures { Gives (λ l. l) result (words_line edition classes (map (λ w. w.now) words.now) (map (λ p. p.now) pieces.now)) }
+    ensures { Gives (λ l. l) result (words_line edition classes (map (λ w. w.now) words.now) (parts_left 44 (option_map (λ p. p.now) pieces.entry))) }
 {
     let [word, words @ ..] = words else {
         return Err(LineFault::Form);
@@ -240,31 +243,15 @@ fn read_words_line(
     if is_word("class", word) {
         return read_class_line(alloc, words, pieces);
     }
-    if !pieces.is_empty() {
-        return Err(LineFault::Form);
+    match pieces {
+        Some(_) => Err(LineFault::Form),
+        None => read_form_line(edition, classes, word, words),
     }
-    read_form_line(edition, classes, word, words)
-}
-
-// A line, by its pieces.
-fn read_pieces_line(
-    alloc: Global,
-    edition: Edition,
-    classes: u32,
-    pieces: &[&[u8]],
-) -> Result<Line, LineFault>
-    ensures { Gives (λ l. l) result (pieces_line edition classes (map (λ p. p.now) pieces.now)) }
-{
-    let [piece, pieces @ ..] = pieces else {
-        return Err(LineFault::Form);
-    };
-    let words = cut_parts(alloc, b' ', piece)?;
-    read_words_line(alloc, edition, classes, &words, pieces)
 }
 
 /// The line of this edition that the bytes spell, where there are so many classes above it, or why they spell none:
 /// its form is judged before its numbers. The numbers of classes are from 1 to `classes`, but for that of a `class`
-/// line, which has no range. It takes memory in proportion to the words of the line.
+/// line, which has no range. It takes memory for the patterns of a `class` line alone.
 #[tactic(auto, unfolding(crate::specs::Lines::line_of))]
 pub fn read_line(
     alloc: Global,
@@ -274,6 +261,9 @@ pub fn read_line(
 ) -> Result<Line, LineFault>
     ensures { Gives (λ l. l) result (line_of edition bytes.now classes) }
 {
-    let pieces = cut_parts(alloc, b',', bytes)?;
-    read_pieces_line(alloc, edition, classes, &pieces)
+    let (piece, pieces) = first_part(b',', bytes);
+    match Words::of(piece) {
+        Some(words) => read_words_line(alloc, edition, classes, words.as_slice(), pieces),
+        None => Err(LineFault::Form),
+    }
 }

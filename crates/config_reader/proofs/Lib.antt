@@ -1,4 +1,5 @@
 pub mod Ascending
+pub mod CutLines
 pub mod FaultLaws
 mod KnownRouters
 pub mod Lawful

@@ -1,11 +1,11 @@
 -- A text that is read is that of its configuration, which is lawful.
-use Rattle.std.proofs.Common.{Bor, ◌≡◌, ℕ, ◌+◌, ◌-◌, ◌<◌, ◌≤◌, suc, List, [], ◌∷◌, ◌++◌, length, map, min, take, true, false, Option, Some, None, Ok, refl, sym, ◌∙◌, ap, ap₂, subst, arith, append-nil, append_assoc}
+use Rattle.std.proofs.Common.{◌≡◌, ℕ, ◌+◌, ◌-◌, ◌<◌, ◌≤◌, suc, List, [], ◌∷◌, ◌++◌, length, map, min, take, true, false, Option, Some, None, Ok, refl, sym, ◌∙◌, ap, ap₂, subst, arith, append-nil, append_assoc}
 use Rattle.std.specs.Prelude.{◌≢◌, ◌&&◌, ◌==◌, not, is_none, slice_index_or, count_by, Result, Err, IfOk}
 use Rattle.std.specs.List.{slice_split, join_with_byte, flat_map, AllByRecursion}
 use Rattle.std.specs.Str.{bytes_eq}
 use Rattle.std.proofs.lemmas.Bool.{and_parts, eqb-true, eqb-false, not-true}
 use Rattle.std.proofs.lemmas.List.Splits.{join_with_byte-slice_split, length-slice_split}
-use Rattle.std.proofs.lemmas.List.{length-map, length-take, take-map}
+use Rattle.std.proofs.lemmas.List.{length-take}
 use Rattle.std.proofs.lemmas.List.Sums.{count_by-le-length}
 use Rattle.std.proofs.lemmas.Slice.Eq.{bytes_eq-Decides}
 use Rattle.list_laws.proofs.Options.{is_none_parts}
@@ -29,7 +29,7 @@ use Rattle.config_reader.specs.Faults.{Gives}
 use Rattle.config_reader.specs.declared.reading.OpenRouter.{OpenRouter}
 use Rattle.config_reader.specs.declared.reading.Reading.{Reading}
 use Rattle.config_reader.specs.Reading.{opening, after}
-use Rattle.config_reader.specs.Text.{with_line, with_lines, finished, whole_lines, behind_heading, in_lines, spelled_in}
+use Rattle.config_reader.specs.Text.{with_line, with_lines, finished, behind_heading, in_lines, spelled_in}
 use Rattle.config_reader.proofs.Lawful.{IsReading, after_keeps, opening_keeps, reading_lawful}
 use Rattle.config_reader.proofs.SoFar.{so_far, open_lines, after_adds}
 use Rattle.config_reader.proofs.Steps.{with_line_ok, with_line-classes, class_ok}
@@ -219,18 +219,6 @@ read_is_spelled edition bytes c short h = by (slice_split (λ b. b == 10) bytes)
     by (first ∷ more) e k =
         let back = lines_spell edition first more c (few_lines bytes first more e short) k in
         record { lawful = back.1; fits = back.2; written = sym (join_with_byte-slice_split 10 bytes) ∙ ap (join_with_byte 10) e ∙ back.0 }
-
--- ---- as the reader has them
-
--- the whole lines of parts of a text
-pub whole_parts : (more : List (Bor (List ℕ))) → map (λ l. l.now) (take (length more - 1) more) ≡ whole_lines (map (λ l. l.now) more)
-whole_parts more = sym (take-map (λ (l : Bor (List ℕ)). l.now) (length more - 1) more) ∙ ap (λ (n : ℕ). take (n - 1) (map (λ l. l.now) more)) (sym (length-map more (λ (l : Bor (List ℕ)). l.now)))
-
--- a text has few parts
-pub few_parts : (bytes : List ℕ) (ps : List (Bor (List ℕ))) → map (λ p. p.now) ps ≡ slice_split (λ b. b == 10) bytes → length bytes < 4294967295 → length ps ≤ 4294967295
-few_parts bytes ps e short =
-    let count : length ps ≡ count_by (λ b. b == 10) bytes + 1 = sym (length-map ps (λ (p : Bor (List ℕ)). p.now)) ∙ ap length e ∙ length-slice_split (λ b. b == 10) bytes in
-    omega (arith, count, count_by-le-length (λ (b : ℕ). b == 10) bytes, short)
 
 -- what comes back is spelled so
 pub what_is_read : (edition : Edition) (bytes : List ℕ) (r : Result PlainConfig ConfigFault) → length bytes < 4294967295 → Gives (λ c. c) r (spelled_in edition bytes) → IfOk r (λ c. SpellsIn edition bytes c)

@@ -25,7 +25,7 @@ use Rattle.config_reader.specs.Order.{is_below, is_above, ascends, rule_key, exp
 use Rattle.config_reader.specs.declared.reading.OpenRouter.{OpenRouter}
 use Rattle.config_reader.specs.declared.reading.Reading.{Reading}
 use Rattle.config_reader.specs.declared.reading.Misplaced.{Misplaced}
-use Rattle.config_reader.specs.Reading.{after, with_class, with_router, with_own, with_neighbour, with_import, import_into, with_export, export_into, with_end, closed, stood_before}
+use Rattle.config_reader.specs.Reading.{after, with_class, with_router, with_own, own_into, with_neighbour, neighbour_into, with_import, import_in_block, import_into, with_export, export_in_block, export_into, with_end, closed, stood_before}
 use Rattle.config_reader.proofs.Ascending.{last_later}
 use Rattle.config_reader.proofs.Steps.{with_block}
 
@@ -108,7 +108,7 @@ ended o s = record { router = closed o.router o.block; names = o.names ++ s.name
 
 module _ (cs : List (List PlainPattern)) (rs : List RouterConfig) where
   head_step : (o : OpenRouter) (s : Session) → list_any (bytes_eq s.name) o.names ≡ false → after (at cs rs (Some o)) (head_of s) ≡ Ok (at cs rs (Some (begun o s)))
-  unfolding with_neighbour
+  unfolding with_neighbour neighbour_into
   head_step o s fresh = by s.peer
     where
       by : (b : Bool) → after (at cs rs (Some o)) (if b then line.Peer s.name s.asn else line.Session s.name s.asn)
@@ -118,7 +118,7 @@ module _ (cs : List (List PlainPattern)) (rs : List RouterConfig) where
 
   import_step : (o : OpenRouter) (s : Session) (done : List Rule) (x : Rule) → ascends rule_key done (rule_key x) ≡ true
       → after (at cs rs (Some (with_block o (block_of s done [])))) (import_of s.peer x) ≡ Ok (at cs rs (Some (with_block o (block_of s (done ++ x ∷ []) []))))
-  unfolding with_import import_into
+  unfolding with_import import_in_block import_into
   import_step o s done x up = by s.peer
     where
       by : (b : Bool) → after (at cs rs (Some (with_block o (block_by b s done)))) (import_of b x) ≡ Ok (at cs rs (Some (with_block o (block_by b s (done ++ x ∷ [])))))
@@ -127,7 +127,7 @@ module _ (cs : List (List PlainPattern)) (rs : List RouterConfig) where
 
   export_step : (o : OpenRouter) (s : Session) (imports : List Rule) (done : List Export) (x : Export) → ascends export_key done (export_key x) ≡ true
       → after (at cs rs (Some (with_block o (block_of s imports done)))) (line.Export x) ≡ Ok (at cs rs (Some (with_block o (block_of s imports (done ++ x ∷ [])))))
-  unfolding with_export export_into
+  unfolding with_export export_in_block export_into
   export_step o s imports done x up = rw up refl
 
   run_session : (count : ℕ) (o : OpenRouter) (s : Session) → list_any (bytes_eq s.name) o.names ≡ false → IsSession count s → run (at cs rs (Some o)) (lines_of_session s) ≡ Ok (at cs rs (Some (ended o s)))
@@ -177,7 +177,7 @@ module _ (cs : List (List PlainPattern)) (rs : List RouterConfig) where
   router_step r fresh = rw fresh refl
 
   own_step : (r : RouterConfig) (done : List Own) (x : Own) → ascends own_key done (own_key x) ≡ true → after (at cs rs (Some (headed r done))) (line.Own x) ≡ Ok (at cs rs (Some (headed r (done ++ x ∷ []))))
-  unfolding with_own
+  unfolding with_own own_into
   own_step r done x up = rw up refl
 
   end_step : (q : OpenRouter) → after (at cs rs (Some q)) line.End ≡ Ok (at cs (rs ++ closed q.router q.block ∷ []) None)

@@ -1,5 +1,5 @@
 -- What was read with one line more.
-use Rattle.std.proofs.Common.{◌≡◌, ℕ, ◌+◌, ◌<◌, ◌≤◌, get_or, map, drop, drop-cons, add-one, Bor, List, [], ◌∷◌, ◌++◌, length, Bool, true, false, Option, Some, None, Result, Ok, Err, refl, ◌∙◌, ap, arith, length-append}
+use Rattle.std.proofs.Common.{◌≡◌, ℕ, ◌+◌, ◌≤◌, List, [], ◌∷◌, ◌++◌, length, Bool, true, false, Option, Some, None, Result, Ok, Err, refl, ◌∙◌, ap, arith, length-append}
 use Rattle.std.specs.Prelude.{◌&&◌, ◌==◌, not, is_none}
 use Rattle.std.specs.List.{list_any}
 use Rattle.std.specs.Str.{bytes_eq}
@@ -24,7 +24,7 @@ use Rattle.config_reader.specs.declared.reading.OpenRouter.{OpenRouter}
 use Rattle.config_reader.specs.declared.reading.Reading.{Reading}
 use Rattle.config_reader.specs.declared.reading.Misplaced.{Misplaced}
 use Rattle.config_reader.specs.declared.reading.Misplaced.TheVariants as misplaced
-use Rattle.config_reader.specs.Reading.{with_class, with_router, with_own, with_neighbour, with_import, with_export, with_end, after, is_next, stood_before, closed, same_kind, import_into, export_into}
+use Rattle.config_reader.specs.Reading.{with_class, with_router, with_own, own_into, with_neighbour, neighbour_into, with_import, import_in_block, with_export, export_in_block, with_end, after, is_next, stood_before, closed, same_kind, import_into, export_into}
 use Rattle.config_reader.specs.Text.{read_at, placed_at, with_line, with_lines}
 
 pub read_at_ok : (n : ℕ) (r : Result Line LineFault) (l : Line) → read_at n r ≡ Ok l → r ≡ Ok l
@@ -80,11 +80,13 @@ router_with_own o own = record { router = record { name = o.router.name; asn = o
 
 pub own_ok : (r s : Reading) (own : Own) → with_own r own ≡ Ok s
     → (o : OpenRouter) × (r.opened ≡ Some o) × ((is_none o.block && ascends own_key o.router.own (own_key own)) ≡ true) × (with_open r (router_with_own o own) ≡ s)
-unfolding with_own
+unfolding with_own own_into
 own_ok r s own h =
     let a = bind_ok (or_fault misplaced.Order r.opened) _ s h in
-    let b = bind_ok (unless misplaced.Order (is_none a.0.block && ascends own_key a.0.router.own (own_key own))) _ s a.2 in
-    (a.0, or_fault_ok misplaced.Order r.opened a.0 a.1, unless_ok misplaced.Order _ b.0 b.1, ok_same _ s b.2)
+    let o = bind_ok (own_into a.0 own) _ s a.2 in
+    let b = bind_ok (unless misplaced.Order (is_none a.0.block && ascends own_key a.0.router.own (own_key own))) _ o.0 o.1 in
+    let made : router_with_own a.0 own ≡ o.0 = ok_same _ o.0 b.2 in
+    (a.0, or_fault_ok misplaced.Order r.opened a.0 a.1, unless_ok misplaced.Order _ b.0 b.1, ap (with_open r) made ∙ ok_same _ s o.2)
 
 abbrev pub new_session : List ℕ → ℕ → Bool → Session
 new_session name asn peer = record { name = name; asn = asn; peer = peer; imports = []; exports = [] }
@@ -94,11 +96,13 @@ with_session o peer name asn = record { router = closed o.router o.block; names 
 
 pub neighbour_ok : (peer : Bool) (r s : Reading) (name : List ℕ) (asn : ℕ) → with_neighbour peer r name asn ≡ Ok s
     → (o : OpenRouter) × (r.opened ≡ Some o) × (not (list_any (bytes_eq name) o.names) ≡ true) × (with_open r (with_session o peer name asn) ≡ s)
-unfolding with_neighbour
+unfolding with_neighbour neighbour_into
 neighbour_ok peer r s name asn h =
     let a = bind_ok (or_fault misplaced.Order r.opened) _ s h in
-    let b = bind_ok (unless misplaced.Twice (not (list_any (bytes_eq name) a.0.names))) _ s a.2 in
-    (a.0, or_fault_ok misplaced.Order r.opened a.0 a.1, unless_ok misplaced.Twice _ b.0 b.1, ok_same _ s b.2)
+    let o = bind_ok (neighbour_into peer a.0 name asn) _ s a.2 in
+    let b = bind_ok (unless misplaced.Twice (not (list_any (bytes_eq name) a.0.names))) _ o.0 o.1 in
+    let made : with_session a.0 peer name asn ≡ o.0 = ok_same _ o.0 b.2 in
+    (a.0, or_fault_ok misplaced.Order r.opened a.0 a.1, unless_ok misplaced.Twice _ b.0 b.1, ap (with_open r) made ∙ ok_same _ s o.2)
 
 abbrev pub with_block : OpenRouter → Session → OpenRouter
 with_block o b = record { router = o.router; names = o.names; block = Some b }
@@ -108,21 +112,23 @@ session_with_import b rule = record { name = b.name; asn = b.asn; peer = b.peer;
 
 pub import_ok : (peer : Bool) (r s : Reading) (rule : Rule) → with_import peer r rule ≡ Ok s
     → (o : OpenRouter) × (b : Session) × (r.opened ≡ Some o) × (o.block ≡ Some b) × ((same_kind b.peer peer && length b.exports == 0) ≡ true) × (ascends rule_key b.imports (rule_key rule) ≡ true) × (with_open r (with_block o (session_with_import b rule)) ≡ s)
-unfolding with_import import_into
+unfolding with_import import_in_block import_into
 import_ok peer r s rule h =
     let a = bind_ok (or_fault misplaced.Order r.opened) _ s h in
-    let b = bind_ok (or_fault misplaced.Order a.0.block) _ s a.2 in
-    let c = bind_ok (import_into peer b.0 rule) _ s b.2 in
+    let o = bind_ok (import_in_block peer a.0 rule) _ s a.2 in
+    let b = bind_ok (or_fault misplaced.Order a.0.block) _ o.0 o.1 in
+    let c = bind_ok (import_into peer b.0 rule) _ o.0 b.2 in
     let d = bind_ok (unless misplaced.Order (same_kind b.0.peer peer && length b.0.exports == 0)) _ c.0 c.1 in
     let e = bind_ok (unless misplaced.Order (ascends rule_key b.0.imports (rule_key rule))) _ c.0 d.2 in
-    let made : session_with_import b.0 rule ≡ c.0 = ok_same _ c.0 e.2 in (
+    let made : session_with_import b.0 rule ≡ c.0 = ok_same _ c.0 e.2 in
+    let whole : with_block a.0 c.0 ≡ o.0 = ok_same _ o.0 c.2 in (
       a.0,
       b.0,
       or_fault_ok misplaced.Order r.opened a.0 a.1,
       or_fault_ok misplaced.Order a.0.block b.0 b.1,
       unless_ok misplaced.Order _ d.0 d.1,
       unless_ok misplaced.Order _ e.0 e.1,
-      ap (λ (q : Session). with_open r (with_block a.0 q)) made ∙ ok_same _ s c.2,
+      ap (λ (q : Session). with_open r (with_block a.0 q)) made ∙ ap (with_open r) whole ∙ ok_same _ s o.2,
     )
 
 abbrev pub session_with_export : Session → Export → Session
@@ -130,19 +136,21 @@ session_with_export b export = record { name = b.name; asn = b.asn; peer = b.pee
 
 pub export_ok : (r s : Reading) (export : Export) → with_export r export ≡ Ok s
     → (o : OpenRouter) × (b : Session) × (r.opened ≡ Some o) × (o.block ≡ Some b) × (ascends export_key b.exports (export_key export) ≡ true) × (with_open r (with_block o (session_with_export b export)) ≡ s)
-unfolding with_export export_into
+unfolding with_export export_in_block export_into
 export_ok r s export h =
     let a = bind_ok (or_fault misplaced.Order r.opened) _ s h in
-    let b = bind_ok (or_fault misplaced.Order a.0.block) _ s a.2 in
-    let c = bind_ok (export_into b.0 export) _ s b.2 in
+    let o = bind_ok (export_in_block a.0 export) _ s a.2 in
+    let b = bind_ok (or_fault misplaced.Order a.0.block) _ o.0 o.1 in
+    let c = bind_ok (export_into b.0 export) _ o.0 b.2 in
     let e = bind_ok (unless misplaced.Order (ascends export_key b.0.exports (export_key export))) _ c.0 c.1 in
-    let made : session_with_export b.0 export ≡ c.0 = ok_same _ c.0 e.2 in (
+    let made : session_with_export b.0 export ≡ c.0 = ok_same _ c.0 e.2 in
+    let whole : with_block a.0 c.0 ≡ o.0 = ok_same _ o.0 c.2 in (
       a.0,
       b.0,
       or_fault_ok misplaced.Order r.opened a.0 a.1,
       or_fault_ok misplaced.Order a.0.block b.0 b.1,
       unless_ok misplaced.Order _ e.0 e.1,
-      ap (λ (q : Session). with_open r (with_block a.0 q)) made ∙ ok_same _ s c.2,
+      ap (λ (q : Session). with_open r (with_block a.0 q)) made ∙ ap (with_open r) whole ∙ ok_same _ s o.2,
     )
 
 pub end_ok : (r s : Reading) → with_end r ≡ Ok s
@@ -175,11 +183,3 @@ after-classes r s line.End h = same_count r s _ refl (end_ok r s h).2
 
 pub with_line-classes : (edition : Edition) (n : ℕ) (r s : Reading) (bytes : List ℕ) → with_line edition n r bytes ≡ Ok s → OneMore r s
 with_line-classes edition n r s bytes h = let l = with_line_ok edition n r s bytes h in after-classes r s l.0 l.2
-
--- the same in a loop over the lines
-pub loop_step : (edition : Edition) (lines : List (Bor (List ℕ))) (i : ℕ) (d : Bor (List ℕ)) (n : ℕ) (r s : Reading) (whole : Result Reading ConfigFault) → i < length lines
-    → with_line edition n r (get_or lines i d).now ≡ Ok s
-    → with_lines edition n r (map (λ l. l.now) (drop i lines)) ≡ whole → with_lines edition (n + 1) s (map (λ l. l.now) (drop (i + 1) lines)) ≡ whole
-loop_step edition lines i d n r s whole within here before =
-    let at : drop i lines ≡ get_or lines i d ∷ drop (i + 1) lines = drop-cons lines i d within ∙ rw add-one refl in
-    with_lines_next edition n r s (get_or lines i d).now (map (λ l. l.now) (drop (i + 1) lines)) whole here (rw at at before)

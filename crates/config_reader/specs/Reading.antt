@@ -13,6 +13,7 @@ use Rattle.config_base.specs.declared.config.Own.{Own}
 use Rattle.config_base.specs.Configs.{own_key}
 use Rattle.config_lines.specs.declared.line.Line.{Line}
 use Rattle.config_lines.specs.declared.line.Line.TheVariants as line
+use Rattle.config_reader.specs.declared.reading.OpenRouter.{OpenRouter}
 use Rattle.config_reader.specs.declared.reading.Reading.{Reading}
 use Rattle.config_reader.specs.declared.reading.Misplaced.{Misplaced}
 use Rattle.config_reader.specs.declared.reading.Misplaced.TheVariants.{Order, Twice, NoMemory}
@@ -54,11 +55,17 @@ with_router r name asn id = do
   Ok (record { classes = r.classes; routers = r.routers; opened = Some (record { router = record { name = name; asn = asn; id = id; own = []; sessions = [] }; names = []; block = None }) })
 
 -- the originate lines come before the neighbours, and ascend
+unfoldable pub own_into : OpenRouter → Own → Result OpenRouter Misplaced
+own_into now own = do
+  _ ← unless Order (is_none now.block && ascends own_key now.router.own (own_key own))
+  Ok (record { router = record now.router { own = now.router.own ++ own ∷ [] }; names = now.names; block = now.block })
+
+-- into the router's block that is open
 unfoldable pub with_own : Reading → Own → Result Reading Misplaced
 with_own r own = do
   now ← or_fault Order r.opened
-  _ ← unless Order (is_none now.block && ascends own_key now.router.own (own_key own))
-  Ok (record { classes = r.classes; routers = r.routers; opened = Some (record { router = record now.router { own = now.router.own ++ own ∷ [] }; names = now.names; block = now.block }) })
+  now ← own_into now own
+  Ok (record { classes = r.classes; routers = r.routers; opened = Some now })
 
 -- with the block that was open
 abbrev pub closed : RouterConfig → Option Session → RouterConfig
@@ -66,11 +73,17 @@ closed router None = router
 closed router (Some s) = record router { sessions = router.sessions ++ s ∷ [] }
 
 -- a neighbour's block begins, and the one before it ends
+unfoldable pub neighbour_into : Bool → OpenRouter → List ℕ → ℕ → Result OpenRouter Misplaced
+neighbour_into peer now name asn = do
+  _ ← unless Twice (not (list_any (bytes_eq name) now.names))
+  Ok (record { router = closed now.router now.block; names = now.names ++ name ∷ []; block = Some (record { name = name; asn = asn; peer = peer; imports = []; exports = [] }) })
+
+-- in the router's block that is open
 unfoldable pub with_neighbour : Bool → Reading → List ℕ → ℕ → Result Reading Misplaced
 with_neighbour peer r name asn = do
   now ← or_fault Order r.opened
-  _ ← unless Twice (not (list_any (bytes_eq name) now.names))
-  Ok (record { classes = r.classes; routers = r.routers; opened = Some (record { router = closed now.router now.block; names = now.names ++ name ∷ []; block = Some (record { name = name; asn = asn; peer = peer; imports = []; exports = [] }) }) })
+  now ← neighbour_into peer now name asn
+  Ok (record { classes = r.classes; routers = r.routers; opened = Some now })
 
 abbrev pub same_kind : Bool → Bool → Bool
 same_kind true b = b
@@ -90,19 +103,30 @@ export_into s export = do
   Ok (record s { exports = s.exports ++ export ∷ [] })
 
 -- into the neighbour's block that is open
+unfoldable pub import_in_block : Bool → OpenRouter → Rule → Result OpenRouter Misplaced
+import_in_block peer now rule = do
+  s ← or_fault Order now.block
+  s ← import_into peer s rule
+  Ok (record { router = now.router; names = now.names; block = Some s })
+
+unfoldable pub export_in_block : OpenRouter → Export → Result OpenRouter Misplaced
+export_in_block now export = do
+  s ← or_fault Order now.block
+  s ← export_into s export
+  Ok (record { router = now.router; names = now.names; block = Some s })
+
+-- in the router's block that is open
 unfoldable pub with_import : Bool → Reading → Rule → Result Reading Misplaced
 with_import peer r rule = do
   now ← or_fault Order r.opened
-  s ← or_fault Order now.block
-  s ← import_into peer s rule
-  Ok (record { classes = r.classes; routers = r.routers; opened = Some (record { router = now.router; names = now.names; block = Some s }) })
+  now ← import_in_block peer now rule
+  Ok (record { classes = r.classes; routers = r.routers; opened = Some now })
 
 unfoldable pub with_export : Reading → Export → Result Reading Misplaced
 with_export r export = do
   now ← or_fault Order r.opened
-  s ← or_fault Order now.block
-  s ← export_into s export
-  Ok (record { classes = r.classes; routers = r.routers; opened = Some (record { router = now.router; names = now.names; block = Some s }) })
+  now ← export_in_block now export
+  Ok (record { classes = r.classes; routers = r.routers; opened = Some now })
 
 -- the router's block that is open ends
 unfoldable pub with_end : Reading → Result Reading Misplaced

@@ -1,6 +1,7 @@
 //! Configuration texts are read: the configuration that bytes spell, or the first fault of the text.
 #![tactic(auto)]
 
+mod block;
 mod fault;
 pub mod laws;
 mod names;

@@ -1,8 +1,9 @@
 //! A text is read line by line.
-ghost use Rattle.std.specs.Prelude.{◌≡◌, ◌<◌, ◌≤◌, ◌+◌, ◌^◌, None, Ok, IfOk, length, map};
+ghost use Rattle.std.specs.Prelude.{◌≡◌, ◌==◌, ◌<◌, ◌^◌, None, Ok, IfOk, length};
+ghost use Rattle.std.specs.List.{slice_split};
 ghost use Rattle.config_reader.specs.Faults.{Gives};
-ghost use Rattle.config_reader.specs.Reading.{opening, after as after_line};
-ghost use Rattle.config_reader.specs.Text.{read_at, placed_at, with_line, with_lines, finished, whole_lines, behind_heading, in_lines, spelled_in, spelled};
+ghost use Rattle.config_reader.specs.Reading.{after as after_line};
+ghost use Rattle.config_reader.specs.Text.{read_at, placed_at, with_line, finished, behind_heading, in_lines, spelled_in, spelled};
 ghost use Rattle.std.specs.Str.{bytes_eq};
 ghost use Rattle.config_base.specs.Configs.{PlainConfig, IsConfig};
 ghost use Rattle.config_text.specs.Spelled.{SpellsIn, Spells};
@@ -13,7 +14,7 @@ ghost use Rattle.config_lines.specs.declared.edition.Edition.TheVariants.{First}
 use crate::fault::ConfigFault;
 use crate::reading::{Misplaced, Reading, after, nothing_read};
 use config_base::Config;
-use config_lines::{Edition, Line, LineFault, cut_parts, read_line};
+use config_lines::{Edition, Line, LineFault, halves, read_line};
 use std::alloc::Global;
 
 // The line with this number.
@@ -68,20 +69,6 @@ fn take_line(
     after_at(alloc, number, reading, line)
 }
 
-// What is read of the lines, of which the first one has the number 2.
-fn read_lines(alloc: Global, edition: Edition, lines: &[&[u8]]) -> Result<Reading, ConfigFault>
-    requires { length lines.now + 2 < 2 ^ 32 }
-    ensures { Gives (λ r. r) result (with_lines edition 2 opening (map (λ l. l.now) lines.now)) }
-{
-    let mut reading = nothing_read(alloc);
-    let mut number = 2;
-    for bytes in lines {
-        reading = take_line(alloc, edition, number, reading, bytes)?;
-        number += 1;
-    }
-    Ok(reading)
-}
-
 // The configuration that was read, where nothing is open and nothing follows the last line feed.
 #[tactic(auto, unfolding(crate::specs::Text::finished))]
 fn finish(reading: Reading, rest: &[u8]) -> Result<Config, ConfigFault>
@@ -99,30 +86,20 @@ fn finish(reading: Reading, rest: &[u8]) -> Result<Config, ConfigFault>
     Ok(Config::new(classes, routers.into_list()))
 }
 
-// What is read of the lines but the last one. The first one has the number 2.
-fn read_whole_lines(alloc: Global, edition: Edition, more: &[&[u8]]) -> Result<Reading, ConfigFault>
-    requires some { 0 < length more.now }
-    requires few { length more.now < 4294967295 }
-    ensures { Gives (λ r. r) result (with_lines edition 2 opening (whole_lines (map (λ l. l.now) more.now))) }
+// The configuration of the bytes behind the first line, which has the number 1.
+fn read_behind_heading(alloc: Global, edition: Edition, bytes: &[u8]) -> Result<Config, ConfigFault>
+    requires { length bytes.now < 4294967294 }
+    ensures { Gives (λ c. c) result (behind_heading edition (slice_split (λ b. b == 10) bytes.now)) }
 {
-    let end = more.len() - 1;
-    read_lines(alloc, edition, &more[..end])
-}
-
-// The configuration of the lines behind the first one. The last of them is what follows the last line feed.
-#[tactic(auto, unfolding(crate::specs::Text::behind_heading))]
-fn read_behind_heading(
-    alloc: Global,
-    edition: Edition,
-    more: &[&[u8]],
-) -> Result<Config, ConfigFault>
-    requires some { 0 < length more.now }
-    requires few { length more.now < 4294967295 }
-    ensures { Gives (λ c. c) result (behind_heading edition (map (λ l. l.now) more.now)) }
-{
-    let end = more.len() - 1;
-    let reading = read_whole_lines(alloc, edition, more)?;
-    finish(reading, more[end])
+    let mut reading = nothing_read(alloc);
+    let mut number = 2;
+    let mut rest = bytes;
+    while let Some((line, more)) = halves(b'\n', rest) {
+        reading = take_line(alloc, edition, number, reading, line)?;
+        number += 1;
+        rest = more;
+    }
+    finish(reading, rest)
 }
 
 // Whether a line is the first one of every text of this edition.
@@ -132,16 +109,15 @@ fn is_heading(edition: Edition, line: &[u8]) -> bool
     line == edition.first_line()
 }
 
-// The configuration of the lines, the last of which is what follows the last line feed.
-#[tactic(auto, unfolding(crate::specs::Text::in_lines))]
-fn read_all(alloc: Global, edition: Edition, lines: &[&[u8]]) -> Result<Config, ConfigFault>
-    requires { length lines.now ≤ 4294967295 }
-    ensures { Gives (λ c. c) result (in_lines edition (map (λ l. l.now) lines.now)) }
+// The configuration of the bytes as a text of this edition, or its first fault.
+fn read_text(alloc: Global, edition: Edition, bytes: &[u8]) -> Result<Config, ConfigFault>
+    requires { length bytes.now < 4294967295 }
+    ensures { Gives (λ c. c) result (spelled_in edition bytes.now) }
 {
-    let [first, more @ ..] = lines else {
+    let Some((first, more)) = halves(b'\n', bytes) else {
         return Err(ConfigFault::Version);
     };
-    if more.is_empty() || !is_heading(edition, first) {
+    if !is_heading(edition, first) {
         return Err(ConfigFault::Version);
     }
     read_behind_heading(alloc, edition, more)
@@ -154,13 +130,12 @@ fn read_edition(alloc: Global, edition: Edition, bytes: &[u8]) -> Result<Config,
     ensures spells { IfOk result (λ c. SpellsIn edition bytes.now c) }
     ensures only { (c : PlainConfig) → SpellsIn edition bytes.now c → Gives (λ d. d) result (Ok c) }
 {
-    let lines = cut_parts(alloc, b'\n', bytes)?;
-    read_all(alloc, edition, &lines)
+    read_text(alloc, edition, bytes)
 }
 
 /// The configuration that the bytes spell, or the first fault of the text: version first; then line by line, in
-/// each line its form, its numbers, its order and what stands twice; last whether the text is finished. It takes
-/// one pass, and memory in proportion to the text. A text of the first edition is refused by its version.
+/// each line its form, its numbers, its order and what stands twice; last whether the text is finished. It goes from
+/// line to line, and takes memory for what was read alone. A text of the first edition is refused by its version.
 pub fn read_config(alloc: Global, bytes: &[u8]) -> Result<Config, ConfigFault>
     requires { length bytes.now < 4294967295 }
     ensures exact { Gives (λ c. c) result (spelled bytes.now) }

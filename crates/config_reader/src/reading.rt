@@ -1,9 +1,9 @@
 //! What was read so far, and what the next line makes of it.
-ghost use Rattle.std.specs.Prelude.{◌≡◌, ◌==◌};
-ghost use Rattle.config_reader.specs.Reading.{Gives, opening, is_next as next, closed, with_class, with_router, with_own, with_neighbour, import_into, export_into, with_import, with_export, with_end, after as after_line};
+ghost use Rattle.std.specs.Prelude.{◌≡◌, ◌==◌, ◌&&◌, is_none, length};
+ghost use Rattle.config_reader.specs.Reading.{Gives, opening, is_next as next, with_class, with_router, with_own, with_neighbour, with_import, with_export, with_end, after as after_line};
 
+use crate::block::{begin_block, closed_router, push_export, push_import, push_own};
 use crate::names::Names;
-use crate::order::{export_ascends, own_ascends, rule_ascends};
 use crate::routers::Routers;
 use config_base::{Export, Own, RouterConfig, Rule, Session};
 use config_lines::Line;
@@ -85,30 +85,30 @@ fn is_next(number: Option<u32>, classes: usize) -> bool
     }
 }
 
+// Whether the line of a class may follow: no router's block stands before it.
+fn is_before_routers(reading: &Reading) -> bool
+    ensures { result ≡ (is_none reading.now.opened && length reading.now.routers == 0) }
+{
+    reading.opened.is_none() && reading.routers.is_empty()
+}
+
 // The line of a class.
 #[tactic(auto, unfolding(crate::specs::Reading::with_class))]
 fn add_class(
-    reading: Reading,
+    mut reading: Reading,
     number: Option<u32>,
     patterns: List<Pattern>,
 ) -> Result<Reading, Misplaced>
     ensures { Gives (λ r. r) result (with_class reading number patterns) }
 {
-    let Reading {
-        mut classes,
-        routers,
-        opened,
-    } = reading;
-    let is_before = opened.is_none() && routers.is_empty();
-    if !is_before || !is_next(number, classes.as_slice().len()) {
+    if !is_before_routers(&reading) {
         return Err(Misplaced::Order);
     }
-    classes.push(patterns)?;
-    Ok(Reading {
-        classes,
-        routers,
-        opened,
-    })
+    if !is_next(number, reading.classes.as_slice().len()) {
+        return Err(Misplaced::Order);
+    }
+    reading.classes.push(patterns)?;
+    Ok(reading)
 }
 
 // The head line of a router.
@@ -140,7 +140,7 @@ fn begin_router(
         own: List::new(alloc),
         sessions: List::new(alloc),
     };
-    let open = OpenRouter {
+    let current = OpenRouter {
         router,
         names: Names::new(alloc),
         block: None,
@@ -148,7 +148,7 @@ fn begin_router(
     Ok(Reading {
         classes,
         routers,
-        opened: Some(open),
+        opened: Some(current),
     })
 }
 
@@ -162,43 +162,15 @@ fn add_own(reading: Reading, line: Own) -> Result<Reading, Misplaced>
         routers,
         opened,
     } = reading;
-    let Some(
-        OpenRouter {
-            mut router,
-            names,
-            block,
-        },
-    ) = opened
-    else {
+    let Some(current) = opened else {
         return Err(Misplaced::Order);
     };
-    if block.is_some() || !own_ascends(router.own.as_slice(), &line) {
-        return Err(Misplaced::Order);
-    }
-    router.own.push(line)?;
-    let open = OpenRouter {
-        router,
-        names,
-        block,
-    };
+    let current = push_own(current, line)?;
     Ok(Reading {
         classes,
         routers,
-        opened: Some(open),
+        opened: Some(current),
     })
-}
-
-// The router, with the block of a neighbour that was open.
-fn close(mut router: RouterConfig, block: Option<Session>) -> Result<RouterConfig, Misplaced>
-    ensures { Gives (λ r. r) result (Ok (closed router block)) }
-{
-    match block {
-        Some(session) => {
-            router.sessions.push(session)?;
-            Ok(router)
-        }
-        None => Ok(router),
-    }
 }
 
 // The head line of a neighbour.
@@ -217,63 +189,15 @@ fn begin_neighbour(
         routers,
         opened,
     } = reading;
-    let Some(
-        OpenRouter {
-            router,
-            mut names,
-            block,
-        },
-    ) = opened
-    else {
+    let Some(current) = opened else {
         return Err(Misplaced::Order);
     };
-    if !names.insert(alloc, &name)? {
-        return Err(Misplaced::Twice);
-    }
-    let session = Session {
-        name,
-        asn,
-        peer,
-        imports: List::new(alloc),
-        exports: List::new(alloc),
-    };
-    let open = OpenRouter {
-        router: close(router, block)?,
-        names,
-        block: Some(session),
-    };
+    let current = begin_block(alloc, current, peer, name, asn)?;
     Ok(Reading {
         classes,
         routers,
-        opened: Some(open),
+        opened: Some(current),
     })
-}
-
-// The block of a neighbour with one more import.
-#[tactic(auto, unfolding(crate::specs::Reading::import_into))]
-fn add_import(mut session: Session, peer: bool, line: Rule) -> Result<Session, Misplaced>
-    ensures { Gives (λ s. s) result (import_into peer session line) }
-{
-    if session.peer != peer || !session.exports.as_slice().is_empty() {
-        return Err(Misplaced::Order);
-    }
-    if !rule_ascends(session.imports.as_slice(), &line) {
-        return Err(Misplaced::Order);
-    }
-    session.imports.push(line)?;
-    Ok(session)
-}
-
-// The block of a neighbour with one more export.
-#[tactic(auto, unfolding(crate::specs::Reading::export_into))]
-fn add_export(mut session: Session, line: Export) -> Result<Session, Misplaced>
-    ensures { Gives (λ s. s) result (export_into session line) }
-{
-    if !export_ascends(session.exports.as_slice(), &line) {
-        return Err(Misplaced::Order);
-    }
-    session.exports.push(line)?;
-    Ok(session)
 }
 
 // An import line, in the block of a peer or of a router.
@@ -286,29 +210,14 @@ fn import(reading: Reading, peer: bool, line: Rule) -> Result<Reading, Misplaced
         routers,
         opened,
     } = reading;
-    let Some(
-        OpenRouter {
-            router,
-            names,
-            block,
-        },
-    ) = opened
-    else {
+    let Some(current) = opened else {
         return Err(Misplaced::Order);
     };
-    let Some(session) = block else {
-        return Err(Misplaced::Order);
-    };
-    let session = add_import(session, peer, line)?;
-    let open = OpenRouter {
-        router,
-        names,
-        block: Some(session),
-    };
+    let current = push_import(current, peer, line)?;
     Ok(Reading {
         classes,
         routers,
-        opened: Some(open),
+        opened: Some(current),
     })
 }
 
@@ -322,29 +231,14 @@ fn export(reading: Reading, line: Export) -> Result<Reading, Misplaced>
         routers,
         opened,
     } = reading;
-    let Some(
-        OpenRouter {
-            router,
-            names,
-            block,
-        },
-    ) = opened
-    else {
+    let Some(current) = opened else {
         return Err(Misplaced::Order);
     };
-    let Some(session) = block else {
-        return Err(Misplaced::Order);
-    };
-    let session = add_export(session, line)?;
-    let open = OpenRouter {
-        router,
-        names,
-        block: Some(session),
-    };
+    let current = push_export(current, line)?;
     Ok(Reading {
         classes,
         routers,
-        opened: Some(open),
+        opened: Some(current),
     })
 }
 
@@ -358,17 +252,10 @@ fn end_router(alloc: Global, reading: Reading) -> Result<Reading, Misplaced>
         routers,
         opened,
     } = reading;
-    let Some(
-        OpenRouter {
-            router,
-            names: _,
-            block,
-        },
-    ) = opened
-    else {
+    let Some(current) = opened else {
         return Err(Misplaced::Order);
     };
-    let router = close(router, block)?;
+    let router = closed_router(current)?;
     Ok(Reading {
         classes,
         routers: routers.with(alloc, router)?,

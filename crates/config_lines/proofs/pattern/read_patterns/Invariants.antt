@@ -1,6 +1,10 @@
-use Rattle.std.proofs.Common.{◌≡◌, ◌∷◌, [], map, drop}
+use Rattle.std.proofs.Common.{◌≡◌, ◌∷◌, [], length}
 use Rattle.config_lines.specs.Patterns.{later_patterns}
+use Rattle.config_lines.proofs.KeptWords.{left_over}
 use Rattle.config_lines.proofs.pattern.read_patterns.Given as goal
 
-abbrev pub invariant-loop-piece : goal.invariant-loop-piece
-invariant-loop-piece l = later_patterns l.all.items (map (λ p. p.now) (drop l.piece-index l.pieces)) ≡ later_patterns (l.fn.first ∷ []) (map (λ p. p.now) l.pieces)
+abbrev pub invariant-loop-left : goal.invariant-loop-left
+invariant-loop-left l = later_patterns l.all.items (left_over 44 l.left) ≡ later_patterns (l.fn.first ∷ []) (left_over 44 l.fn.pieces)
+
+abbrev pub decreases-loop-left : goal.decreases-loop-left
+decreases-loop-left l = length (left_over 44 l.left)

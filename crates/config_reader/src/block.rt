@@ -1,0 +1,160 @@
+//! The block of a router that is being read, and what the next line makes of it.
+ghost use Rattle.std.specs.Prelude.{◌≡◌};
+ghost use Rattle.config_reader.specs.Reading.{Gives, closed, own_into, neighbour_into, import_into, export_into, import_in_block, export_in_block};
+
+use crate::order::{export_ascends, own_ascends, rule_ascends};
+use crate::reading::{Misplaced, OpenRouter};
+use config_base::{Export, Own, RouterConfig, Rule, Session};
+use net_base::{List, Name};
+use std::alloc::Global;
+
+/// The block of a router with one more route of its own.
+#[tactic(auto, unfolding(crate::specs::Reading::own_into))]
+pub fn push_own(current: OpenRouter, line: Own) -> Result<OpenRouter, Misplaced>
+    ensures { Gives (λ o. o) result (own_into current line) }
+{
+    let OpenRouter {
+        mut router,
+        names,
+        block,
+    } = current;
+    if block.is_some() {
+        return Err(Misplaced::Order);
+    }
+    if !own_ascends(router.own.as_slice(), &line) {
+        return Err(Misplaced::Order);
+    }
+    router.own.push(line)?;
+    Ok(OpenRouter {
+        router,
+        names,
+        block,
+    })
+}
+
+// The router, with the block of a neighbour that was open.
+fn close(mut router: RouterConfig, block: Option<Session>) -> Result<RouterConfig, Misplaced>
+    ensures { Gives (λ r. r) result (Ok (closed router block)) }
+{
+    match block {
+        Some(session) => {
+            router.sessions.push(session)?;
+            Ok(router)
+        }
+        None => Ok(router),
+    }
+}
+
+/// The block of a router, in which that of a neighbour begins.
+#[tactic(auto, unfolding(crate::specs::Reading::neighbour_into))]
+pub fn begin_block(
+    alloc: Global,
+    current: OpenRouter,
+    peer: bool,
+    name: Name,
+    asn: u32,
+) -> Result<OpenRouter, Misplaced>
+    ensures { Gives (λ o. o) result (neighbour_into peer current name asn) }
+{
+    let OpenRouter {
+        router,
+        mut names,
+        block,
+    } = current;
+    if !names.insert(alloc, &name)? {
+        return Err(Misplaced::Twice);
+    }
+    let session = Session {
+        name,
+        asn,
+        peer,
+        imports: List::new(alloc),
+        exports: List::new(alloc),
+    };
+    Ok(OpenRouter {
+        router: close(router, block)?,
+        names,
+        block: Some(session),
+    })
+}
+
+// The block of a neighbour with one more import.
+#[tactic(auto, unfolding(crate::specs::Reading::import_into))]
+fn add_import(mut session: Session, peer: bool, line: Rule) -> Result<Session, Misplaced>
+    ensures { Gives (λ s. s) result (import_into peer session line) }
+{
+    if session.peer != peer || !session.exports.as_slice().is_empty() {
+        return Err(Misplaced::Order);
+    }
+    if !rule_ascends(session.imports.as_slice(), &line) {
+        return Err(Misplaced::Order);
+    }
+    session.imports.push(line)?;
+    Ok(session)
+}
+
+// The block of a neighbour with one more export.
+#[tactic(auto, unfolding(crate::specs::Reading::export_into))]
+fn add_export(mut session: Session, line: Export) -> Result<Session, Misplaced>
+    ensures { Gives (λ s. s) result (export_into session line) }
+{
+    if !export_ascends(session.exports.as_slice(), &line) {
+        return Err(Misplaced::Order);
+    }
+    session.exports.push(line)?;
+    Ok(session)
+}
+
+/// The block of a router with one more import in that of a neighbour.
+#[tactic(auto, unfolding(crate::specs::Reading::import_in_block))]
+pub fn push_import(current: OpenRouter, peer: bool, line: Rule) -> Result<OpenRouter, Misplaced>
+    ensures { Gives (λ o. o) result (import_in_block peer current line) }
+{
+    let OpenRouter {
+        router,
+        names,
+        block,
+    } = current;
+    let Some(session) = block else {
+        return Err(Misplaced::Order);
+    };
+    let session = add_import(session, peer, line)?;
+    Ok(OpenRouter {
+        router,
+        names,
+        block: Some(session),
+    })
+}
+
+/// The block of a router with one more export in that of a neighbour.
+#[tactic(auto, unfolding(crate::specs::Reading::export_in_block))]
+pub fn push_export(current: OpenRouter, line: Export) -> Result<OpenRouter, Misplaced>
+    ensures { Gives (λ o. o) result (export_in_block current line) }
+{
+    let OpenRouter {
+        router,
+        names,
+        block,
+    } = current;
+    let Some(session) = block else {
+        return Err(Misplaced::Order);
+    };
+    let session = add_export(session, line)?;
+    Ok(OpenRouter {
+        router,
+        names,
+        block: Some(session),
+    })
+}
+
+/// The router whose block ends.
+pub fn closed_router(current: OpenRouter) -> Result<RouterConfig, Misplaced>
+    ensures { Gives (λ r. r) result (Ok (closed current.router current.block)) }
+{
+    let OpenRouter {
+        router,
+        names: _,
+        block,
+    } = current;
+    close(router, block)
+}
