@@ -1,8 +1,5 @@
 -- What follows from what was read and made.
-use Rattle.std.proofs.Common.{◌≡◌, ℕ, zero, suc, ◌+◌, ◌<◌, ◌≤◌, List, [], ◌∷◌, length, drop, get_or, min, Bool, true, false, Ok, Err, inl, inr, refl, sym, ◌∙◌, ap, ap₂, subst, arith}
-use Rattle.std.specs.Prelude.{◌≢◌, ◌⊎◌, Result, map}
-use Rattle.std.proofs.Math.ListN.{drop_of_length-le}
-use Rattle.std.specs.Str.{bytes_eq}
+use Rattle.std.proofs.Common.{◌≡◌, ℕ, ◌<◌, ◌≤◌, List, [], ◌∷◌, length, Ok, inl, inr, refl, sym, ◌∙◌, ap, subst}
 use Rattle.net_base.proofs.StepLemmas.{ok_same}
 use Rattle.config_base.specs.Configs.{PlainConfig}
 use Rattle.run_base.specs.Said.{Said, text, failing}
@@ -12,10 +9,9 @@ use Rattle.maps_made.specs.Counts.{line_count}
 use Rattle.route_map_text.specs.MapsLines.{maps_text}
 use Rattle.route_map_text.specs.MapsSpelled.{IsLawful, Spells}
 use Rattle.map_reader.specs.MapsRead.{spelled}
-use Rattle.map_reader.specs.declared.fault.MapsFault.{MapsFault}
 use Rattle.map_reader.proofs.MapTaken.{spelled_is_read}
 use Rattle.map_jobs.specs.Difference.{first_apart, first_difference}
-use Rattle.map_jobs.specs.MapsSaid.{same_line, differs_line}
+use Rattle.map_jobs.specs.MapsSaid.{differs_line}
 use Rattle.map_jobs.specs.MapsJobs.{SaysOfConfig, SaysOfBoth, SaysOfBytes, SaysOfMaps}
 
 pub config_said : (config : PlainConfig) (maps : PlainMaps) (bytes : List ℕ) → maps ≡ maps_of config → line_count (maps_of config) ≤ 1000000 → Spells bytes maps → SaysOfConfig config (text bytes)
@@ -43,9 +39,6 @@ none_left : (xs : List (List ℕ)) → first_apart xs [] ≡ 1
 none_left [] = refl
 none_left (x ∷ xs) = refl
 
--- where the second text has no line more at a place up to which all are alike
-pub at_an_end : {X : Type 0} (now : X → List ℕ) (xs ys : List X) (i : ℕ) → length ys ≤ i → first_apart (map now xs) (map now ys) ≡ i + first_apart (map now (drop i xs)) (map now (drop i ys))
-    → i + 1 ≡ first_apart (map now xs) (map now ys)
-at_an_end {X} now xs ys i past alike =
-    let rest = ap (λ (zs : List X). i + first_apart (map now (drop i xs)) (map now zs)) (drop_of_length-le ys past) in
-    sym (alike ∙ rest ∙ ap (λ n. i + n) (none_left (map now (drop i xs))))
+-- where the second text has no line more
+pub second_ended : (xs ys : List (List ℕ)) → ys ≡ [] → first_apart xs ys ≡ 1
+second_ended xs ys is = ap (first_apart xs) is ∙ none_left xs

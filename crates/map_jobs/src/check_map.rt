@@ -1,46 +1,44 @@
 //! The command `checkmap`.
-ghost use Rattle.std.specs.Prelude.{◌≡◌, ◌≤◌, ◌<◌, IfOk, length, map};
-ghost use Rattle.std.specs.Str.{bytes_eq};
+ghost use Rattle.std.specs.Prelude.{◌≡◌, ◌<◌, length};
 ghost use Rattle.route_maps.specs.OfConfig.{maps_of};
 ghost use Rattle.maps_made.specs.Counts.{line_count};
 ghost use Rattle.route_map_text.specs.MapsLines.{maps_text};
 ghost use Rattle.route_map_text.specs.MapsSpelled.{Spells};
 ghost use Rattle.run_base.specs.Said.{IsGiven, said};
-ghost use Rattle.map_jobs.specs.Difference.{first_apart, first_difference};
+ghost use Rattle.map_jobs.specs.Difference.{first_difference};
 ghost use Rattle.map_jobs.specs.MapsJobs.{SaysOfBoth, SaysOfBytes, SaysOfPair};
 
 use crate::lines::{differs_line, same_line};
 use crate::maps::{maps_for, maps_read};
 use config_base::Config;
-use config_lines::cut_parts;
+use config_lines::first_part;
 use input_texts::config_for;
 use route_map_text::print_maps;
 use route_maps::Maps;
 use run_base::Stop;
-use std::alloc::{AllocError, Global};
+use std::alloc::Global;
 
-// The number of the first line that differs, the next one where a text ends.
-fn apart(xs: &[&[u8]], ys: &[&[u8]]) -> u64
-    ensures { result ≡ first_apart (map (λ l. l.now) xs.now) (map (λ l. l.now) ys.now) }
+// The number of the first line in which two texts differ, the next one where a text ends.
+fn difference(first: &[u8], second: &[u8]) -> u64
+    ensures { result ≡ first_difference first.now second.now }
 {
-    for i in 0..xs.len() {
-        if i >= ys.len() {
-            return i as u64 + 1;
+    let mut number = 1;
+    let mut xs = Some(first);
+    let mut ys = Some(second);
+    while let Some(x_bytes) = xs {
+        let Some(y_bytes) = ys else {
+            return number;
+        };
+        let (x, more_xs) = first_part(b'\n', x_bytes);
+        let (y, more_ys) = first_part(b'\n', y_bytes);
+        if x != y {
+            return number;
         }
-        if xs[i] != ys[i] {
-            return i as u64 + 1;
-        }
+        number += 1;
+        xs = more_xs;
+        ys = more_ys;
     }
-    xs.len() as u64 + 1
-}
-
-// The number of the first line in which two texts differ.
-fn difference(alloc: Global, xs: &[u8], ys: &[u8]) -> Result<u64, AllocError>
-    ensures { IfOk result (λ n. n ≡ first_difference xs.now ys.now) }
-{
-    let xs = cut_parts(alloc, b'\n', xs)?;
-    let ys = cut_parts(alloc, b'\n', ys)?;
-    Ok(apart(&xs, &ys))
+    number
 }
 
 // What the text of maps and the wanted text come to.
@@ -50,7 +48,7 @@ fn compared(alloc: Global, bytes: &[u8], wanted: &[u8]) -> Result<Vec<u8>, Stop>
     if bytes == wanted {
         return Ok(same_line(alloc)?);
     }
-    let number = difference(alloc, bytes, wanted)?;
+    let number = difference(bytes, wanted);
     Err(Stop::Failing(differs_line(alloc, number)?))
 }
 

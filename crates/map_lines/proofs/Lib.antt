@@ -1,3 +1,4 @@
+pub mod LongMapLines
 pub mod MapForms
 pub mod MapJoined
 pub mod MapWritten

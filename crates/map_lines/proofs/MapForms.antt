@@ -1,16 +1,14 @@
 -- Lines of maps texts that are read are written so.
-use Rattle.std.proofs.Common.{◌≡◌, ℕ, ◌<◌, ◌^◌, List, [], ◌∷◌, ◌++◌, length, Bool, true, false, Option, Some, None, Ok, Err, refl, sym, ◌∙◌, ap, ap₂, subst, arith}
+use Rattle.std.proofs.Common.{◌≡◌, ℕ, List, [], ◌∷◌, ◌++◌, length, Bool, true, false, Option, Some, None, Ok, Err, refl, sym, ◌∙◌, ap, subst}
 use Rattle.std.specs.Prelude.{◌==◌, IsTrue, Result, codes, if◌then◌else◌}
 use Rattle.std.specs.List.{slice_split, join_with_byte}
 use Rattle.std.specs.Fmt.{decimal}
 use Rattle.std.specs.Str.{bytes_eq}
-use Rattle.std.proofs.lemmas.Slice.Eq.{bytes_eq-Decides}
 use Rattle.std.proofs.lemmas.List.Splits.{join_with_byte-slice_split}
 use Rattle.net_base.specs.NameRule.{is_name}
 use Rattle.net_base.specs.Numbers.{no_tag}
-use Rattle.net_base.specs.Prefixes.{PlainPattern, IsPattern}
 use Rattle.net_base.specs.PrefixText.{prefix_spelled}
-use Rattle.net_base.specs.Steps.{◌>>=◌, unless}
+use Rattle.net_base.specs.Steps.{unless}
 use Rattle.net_base.proofs.StepLemmas.{bind_ok, unless_ok, ok_same}
 use Rattle.text_words.specs.Texts.{prefix_text, pattern_text}
 use Rattle.config_base.specs.declared.config.Rule.{Rule}
@@ -25,7 +23,7 @@ use Rattle.config_lines.specs.declared.line.LineFault.TheVariants.{Form, Number}
 use Rattle.config_lines.specs.declared.number.Figure.{Figure}
 use Rattle.config_lines.specs.declared.number.Figure.TheVariants.{LeadingZero, Large, Value}
 use Rattle.config_lines.specs.Editions.{tag_text, fits_router, fits_peer}
-use Rattle.config_lines.specs.LineText.{class_number_text, set_text, line_text, IsClassNumber, IsLine}
+use Rattle.config_lines.specs.LineText.{class_number_text, line_text, IsClassNumber, IsLine}
 use Rattle.config_lines.specs.Lines.{router_line, neighbour, session_line, peer_line, setting, end_line}
 use Rattle.config_lines.specs.Numbers.{number_of, in_range, class_in, class_number, tag_in_range}
 use Rattle.config_lines.specs.Patterns.{pattern_of}
@@ -39,7 +37,7 @@ use Rattle.config_lines.proofs.Tags.{tag_back}
 use Rattle.map_lines.specs.declared.line.MapLine.{MapLine}
 use Rattle.map_lines.specs.declared.line.MapLine.TheVariants.{List as ListOf, Entry, Block}
 use Rattle.map_lines.specs.MapLines.{kind_of, list_line, network_line, matched, unmatched, in_line, exported, out_line, as_block, form_line, words_line, map_line_of}
-use Rattle.map_lines.specs.MapLineText.{kind_text, entry_word, entry_text, block_text, map_line_text, IsEntry, IsBlock, IsMapLine, IsNumbered}
+use Rattle.map_lines.specs.MapLineText.{block_text, map_line_text, IsBlock, IsMapLine, IsNumbered}
 use Rattle.map_lines.proofs.MapJoined.{kind_word, list_joined, network_joined, neighbor_joined, matched_joined, unmatched_joined, out_joined}
 
 -- the words are the line's, which keeps its rules

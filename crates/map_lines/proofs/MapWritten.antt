@@ -1,11 +1,11 @@
 -- Lines of maps texts that are written are read again.
-use Rattle.std.proofs.Common.{◌≡◌, ℕ, ◌<◌, ◌^◌, List, [], ◌∷◌, ◌++◌, Bool, true, false, Option, Some, None, Ok, refl, sym, ◌∙◌, ap, arith}
-use Rattle.std.specs.Prelude.{◌≢◌, ◌==◌, IsTrue, codes}
-use Rattle.std.specs.List.{slice_split, join_with_byte, list_all}
+use Rattle.std.proofs.Common.{◌≡◌, ℕ, ◌<◌, ◌^◌, List, [], ◌∷◌, Bool, true, false, Some, None, Ok, refl, sym, ◌∙◌, ap, arith}
+use Rattle.std.specs.Prelude.{◌≢◌, IsTrue, codes}
+use Rattle.std.specs.List.{join_with_byte, list_all}
 use Rattle.std.specs.Fmt.{decimal}
 use Rattle.std.proofs.lemmas.Bool.{ne_eqb}
 use Rattle.net_base.specs.NameRule.{is_name}
-use Rattle.net_base.specs.Prefixes.{PlainPattern, IsPattern, IsPrefix}
+use Rattle.net_base.specs.Prefixes.{PlainPattern, IsPattern}
 use Rattle.text_words.specs.Texts.{address_text, prefix_text, pattern_text}
 use Rattle.text_words.proofs.PrefixTexts.{prefix_spelled-prefix_text, have_no}
 use Rattle.config_base.specs.declared.config.Rule.{Rule}
@@ -14,11 +14,10 @@ use Rattle.config_base.specs.declared.config.Export.{Export}
 use Rattle.config_base.specs.Configs.{IsClass}
 use Rattle.route_maps.specs.declared.maps.ListLine.{ListLine}
 use Rattle.config_lines.specs.declared.edition.Edition.TheVariants.{Second}
-use Rattle.config_lines.specs.declared.line.Line.{Line}
 use Rattle.config_lines.specs.declared.line.Line.TheVariants as line
 use Rattle.config_lines.specs.Editions.{tag_text, fits_router, fits_peer}
-use Rattle.config_lines.specs.LineText.{class_number_text, IsClassNumber, IsLine}
-use Rattle.config_lines.specs.Lines.{router_line, neighbour, session_line, peer_line, setting, end_line}
+use Rattle.config_lines.specs.LineText.{IsLine}
+use Rattle.config_lines.specs.Lines.{router_line, session_line, peer_line, setting, end_line}
 use Rattle.config_lines.proofs.Addresses.{address_there}
 use Rattle.config_lines.proofs.Digits.{number_there}
 use Rattle.config_lines.proofs.JoinedLines.{router_joined, peer_joined}
@@ -30,8 +29,8 @@ use Rattle.config_lines.proofs.Tags.{tag_there, solid_tag}
 use Rattle.config_lines.proofs.WrittenForms.{neighbour_there, neighbour_solid}
 use Rattle.map_lines.specs.declared.line.MapLine.{MapLine}
 use Rattle.map_lines.specs.declared.line.MapLine.TheVariants.{List as ListOf, Entry, Block}
-use Rattle.map_lines.specs.MapLines.{kind_of, list_line, network_line, matched, unmatched, in_line, exported, out_line, as_block, form_line, words_line, map_line_of}
-use Rattle.map_lines.specs.MapLineText.{kind_text, map_line_text, IsMapLine}
+use Rattle.map_lines.specs.MapLines.{kind_of, list_line, network_line, matched, unmatched, in_line, exported, out_line, form_line, words_line, map_line_of}
+use Rattle.map_lines.specs.MapLineText.{map_line_text, IsMapLine}
 use Rattle.map_lines.proofs.MapJoined.{kind_word, list_joined, network_joined, neighbor_joined, matched_joined, unmatched_joined, out_joined}
 
 -- its text is read as the line, and has no line feed

@@ -1,5 +1,5 @@
 -- How lines of maps texts are written, each without its line feed, and what each keeps.
-use Rattle.std.specs.Prelude.{◌≡◌, ℕ, Bool, List, [], ◌++◌, Option, Some, None, ⊤, codes, if◌then◌else◌}
+use Rattle.std.specs.Prelude.{ℕ, Bool, List, [], ◌++◌, None, ⊤, codes, if◌then◌else◌}
 use Rattle.std.specs.Fmt.{decimal}
 use Rattle.net_base.specs.Prefixes.{IsPattern}
 use Rattle.text_words.specs.Texts.{prefix_text, pattern_text}

@@ -1,17 +1,15 @@
 //! Lines of maps texts are read.
 ghost use Rattle.std.specs.Prelude.{◌≡◌, ◌==◌, if◌then◌else◌, length, map};
-ghost use Rattle.config_lines.specs.Gives.{Gives};
 ghost use Rattle.map_lines.specs.MapLines.{kind_of, list_line, network_line, matched, unmatched, in_line, exported, out_line, as_block, form_line, words_line, map_line_of};
 
 use crate::line::MapLine;
 use config_base::{Export, NO_TAG, Own, Rule};
 use config_lines::{
-    Edition, Figure, Line, LineFault, class_number, cut_parts, expect, fitting_tag, in_range,
-    is_word, prefix, read_class, read_end_line, read_number, read_pattern, read_peer_line,
-    read_router_line, read_session_line, read_setting, read_tag,
+    Edition, Figure, Line, LineFault, Words, class_number, expect, fitting_tag, in_range, is_word,
+    prefix, read_class, read_end_line, read_number, read_pattern, read_peer_line, read_router_line,
+    read_session_line, read_setting, read_tag,
 };
 use route_maps::ListLine;
-use std::alloc::Global;
 
 // Whether a word says that a line permits.
 #[tactic(auto, unfolding(crate::specs::MapLines::kind_of))]
@@ -199,10 +197,12 @@ fn read_words(lists: u32, words: &[&[u8]]) -> Result<MapLine, LineFault>
 
 /// The line of a maps text that the bytes spell, where there are so many lists above it, or why they spell none: its
 /// form is judged before its numbers. The numbers of lists are from 1 to `lists`, but for that of a `list` line, which
-/// has no range, as that of an entry has none. It takes memory in proportion to the words of the line.
-pub fn read_map_line(alloc: Global, bytes: &[u8], lists: u32) -> Result<MapLine, LineFault>
-    ensures { Gives (λ l. l) result (map_line_of bytes.now lists) }
+/// has no range, as that of an entry has none. It takes no memory.
+pub fn read_map_line(bytes: &[u8], lists: u32) -> Result<MapLine, LineFault>
+    ensures { result ≡ map_line_of bytes.now lists }
 {
-    let words = cut_parts(alloc, b' ', bytes)?;
-    read_words(lists, &words)
+    match Words::of(bytes) {
+        Some(words) => read_words(lists, words.as_slice()),
+        None => Err(LineFault::Form),
+    }
 }

@@ -1,4 +1,5 @@
 mod Bounds
+mod MapCuts
 mod MapFaults
 pub mod MapReadTexts
 mod MapSoFar

@@ -22,10 +22,10 @@ use Rattle.map_lines.specs.MapLineText.{map_line_text}
 use Rattle.map_lines.proofs.MapForms.{map_lines_written}
 use Rattle.route_map_text.specs.MapsLines.{lines_of_lists, map_lines, fed, first_line, maps_text}
 use Rattle.route_map_text.specs.MapsSpelled.{IsLawful, Spells}
-use Rattle.map_reader.specs.declared.fault.MapsFault.{MapsFault}
-use Rattle.map_reader.specs.declared.fault.MapsFault.TheVariants as fault
+use Rattle.config_reader.specs.declared.fault.ConfigFault.{ConfigFault}
+use Rattle.config_reader.specs.declared.fault.ConfigFault.TheVariants as fault
 use Rattle.map_reader.specs.declared.reading.MapsReading.{MapsReading}
-use Rattle.map_reader.specs.Faults.{Gives}
+use Rattle.config_reader.specs.Faults.{Gives}
 use Rattle.map_reader.specs.MapsReading.{opening}
 use Rattle.map_reader.specs.MapsRead.{with_line, with_lines, finished, behind_heading, in_lines, spelled}
 use Rattle.map_reader.proofs.MapSteps.{with_line_ok, with_line-lists}
@@ -158,6 +158,6 @@ read_is_spelled bytes m short h = by (slice_split (λ b. b == 10) bytes) refl h
         record { lawful = back.1; written = sym (join_with_byte-slice_split 10 bytes) ∙ ap (join_with_byte 10) e ∙ back.0 }
 
 -- what comes back is spelled so
-pub what_is_read : (bytes : List ℕ) (r : Result PlainMaps MapsFault) → length bytes < 4294967295 → Gives (λ m. m) r (spelled bytes) → IfOk r (λ m. Spells bytes m)
+pub what_is_read : (bytes : List ℕ) (r : Result PlainMaps ConfigFault) → length bytes < 4294967295 → Gives (λ m. m) r (spelled bytes) → IfOk r (λ m. Spells bytes m)
 what_is_read bytes (Ok m) short h = read_is_spelled bytes m short h
 what_is_read bytes (Err e) short h = tt

@@ -1,5 +1,5 @@
 -- What was read with one line more.
-use Rattle.std.proofs.Common.{Bor, ◌≡◌, ℕ, ◌+◌, ◌<◌, ◌≤◌, List, [], ◌∷◌, ◌++◌, length, map, get_or, drop, drop-cons, add-one, Bool, true, false, Option, Result, Ok, Err, inl, inr, refl, sym, ◌∙◌, ap, arith, length-append}
+use Rattle.std.proofs.Common.{◌≡◌, ℕ, ◌+◌, ◌≤◌, List, [], ◌∷◌, ◌++◌, length, Bool, true, false, Option, Result, Ok, Err, inl, inr, refl, sym, ◌∙◌, ap, arith, length-append}
 use Rattle.std.specs.Prelude.{◌⊎◌, if◌then◌else◌}
 use Rattle.net_base.specs.Steps.{◌>>=◌, unless}
 use Rattle.net_base.proofs.StepLemmas.{bind_ok, unless_ok, ok_same}
@@ -15,7 +15,7 @@ use Rattle.route_maps.specs.declared.maps.ListLine.{ListLine}
 use Rattle.map_lines.specs.declared.line.MapLine.{MapLine}
 use Rattle.map_lines.specs.declared.line.MapLine.TheVariants as written
 use Rattle.map_lines.specs.MapLines.{map_line_of}
-use Rattle.map_reader.specs.declared.fault.MapsFault.{MapsFault}
+use Rattle.config_reader.specs.declared.fault.ConfigFault.{ConfigFault}
 use Rattle.map_reader.specs.declared.reading.MapsReading.{MapsReading}
 use Rattle.map_reader.specs.MapsReading.{continues, on_last, with_list, in_blocks, is_out, entries_of, is_number_of, with_entry, after_map}
 use Rattle.map_reader.specs.MapsRead.{read_at, placed_at, with_line, with_lines}
@@ -104,13 +104,6 @@ pub with_line-lists : (n : ℕ) (r s : MapsReading) (bytes : List ℕ) → with_
 with_line-lists n r s bytes h = let l = with_line_ok n r s bytes h in after-lists r s l.0 l.2
 
 -- a line more in a loop over the lines
-with_lines_next : (n : ℕ) (r s : MapsReading) (bytes : List ℕ) (more : List (List ℕ)) (whole : Result MapsReading MapsFault) → with_line n r bytes ≡ Ok s
+pub with_lines_next : (n : ℕ) (r s : MapsReading) (bytes : List ℕ) (more : List (List ℕ)) (whole : Result MapsReading ConfigFault) → with_line n r bytes ≡ Ok s
     → with_lines n r (bytes ∷ more) ≡ whole → with_lines (n + 1) s more ≡ whole
 with_lines_next n r s bytes more whole here h = rw here at h
-
-pub loop_step : (lines : List (Bor (List ℕ))) (i : ℕ) (d : Bor (List ℕ)) (n : ℕ) (r s : MapsReading) (whole : Result MapsReading MapsFault) → i < length lines
-    → with_line n r (get_or lines i d).now ≡ Ok s
-    → with_lines n r (map (λ l. l.now) (drop i lines)) ≡ whole → with_lines (n + 1) s (map (λ l. l.now) (drop (i + 1) lines)) ≡ whole
-loop_step lines i d n r s whole within here before =
-    let at : drop i lines ≡ get_or lines i d ∷ drop (i + 1) lines = drop-cons lines i d within ∙ rw add-one refl in
-    with_lines_next n r s (get_or lines i d).now (map (λ l. l.now) (drop (i + 1) lines)) whole here (rw at at before)

@@ -35,9 +35,9 @@ use Rattle.map_lines.proofs.MapWritten.{IsMapReadAgain, list_there, map_lines_re
 use Rattle.route_map_text.specs.MapsLines.{lines_of_list, lines_of_lists, map_lines, fed, first_line, maps_text}
 use Rattle.route_map_text.specs.MapsLines.{lines_of_router as map_lines_of_router}
 use Rattle.route_map_text.specs.MapsSpelled.{HavePatterns, IsLawful, Spells}
-use Rattle.map_reader.specs.declared.fault.MapsFault.{MapsFault}
+use Rattle.config_reader.specs.declared.fault.ConfigFault.{ConfigFault}
 use Rattle.map_reader.specs.declared.reading.MapsReading.{MapsReading}
-use Rattle.map_reader.specs.Faults.{Gives}
+use Rattle.config_reader.specs.Faults.{Gives}
 use Rattle.map_reader.specs.MapsReading.{opening, on_last, with_list, in_blocks, with_entry, is_out, entries_of, is_number_of, after_map}
 use Rattle.map_reader.specs.MapsRead.{with_line, with_lines, finished, behind_heading, in_lines, spelled}
 use Rattle.map_reader.proofs.Bounds.{weight, weight_below, numbered_are}
@@ -164,16 +164,16 @@ with_lines_append : (n : ℕ) (r s t : MapsReading) (xs ys : List (List ℕ)) �
 with_lines_append n r s t [] ys h k = let same : r ≡ s = ok_same r s h in ap (λ (q : MapsReading). with_lines n q ys) same ∙ k n
 with_lines_append n r s t (x ∷ xs) ys h k =
     let b = bind_ok (with_line n r x) _ s h in
-    ap (λ (o : Result MapsReading MapsFault). o >>= (λ q. with_lines (n + 1) q (xs ++ ys))) b.1 ∙ with_lines_append (n + 1) b.0 s t xs ys b.2 k
+    ap (λ (o : Result MapsReading ConfigFault). o >>= (λ q. with_lines (n + 1) q (xs ++ ys))) b.1 ∙ with_lines_append (n + 1) b.0 s t xs ys b.2 k
 
 module _ (P : MapsReading → Type 0) (Q : MapLine → Type 0)
     (reads : (r : MapsReading) (l : MapLine) → P r → Q l → map_line_of (map_line_text l) (length r.lists) ≡ Ok l)
     (keeps : (r s : MapsReading) (l : MapLine) → P r → Q l → after_map r l ≡ Ok s → P s) where
   taken : (n : ℕ) (r s : MapsReading) (ls : List MapLine) → P r → AllByRecursion Q ls → run_map r ls ≡ Ok s → with_lines n r (map map_line_text ls) ≡ Ok s
-  taken n r s [] p all h = let same : r ≡ s = ok_same r s h in ap (λ (q : MapsReading). let o : Result MapsReading MapsFault = Ok q in o) same
+  taken n r s [] p all h = let same : r ≡ s = ok_same r s h in ap (λ (q : MapsReading). let o : Result MapsReading ConfigFault = Ok q in o) same
   taken n r s (l ∷ ls) p all h =
       let b = bind_ok (after_map r l) _ s h in
-      ap (λ (o : Result MapsReading MapsFault). o >>= (λ q. with_lines (n + 1) q (map map_line_text ls))) (line_taken n r b.0 l (reads r l p all.0) b.1)
+      ap (λ (o : Result MapsReading ConfigFault). o >>= (λ q. with_lines (n + 1) q (map map_line_text ls))) (line_taken n r b.0 l (reads r l p all.0) b.1)
       ∙ taken (n + 1) b.0 s ls (keeps r b.0 l p all.0 b.1) all.1 b.2
 
 -- ---- what the lines keep
@@ -324,5 +324,5 @@ spelled_is_read bytes m short s =
     ap in_lines cut ∙ rw (some, whole.0, whole.1, maps_taken m s.lawful few) refl
 
 -- what comes back of such a text
-pub what_is_spelled : (bytes : List ℕ) (m : PlainMaps) (r : Result PlainMaps MapsFault) → length bytes < 4294967295 → Spells bytes m → Gives (λ n. n) r (spelled bytes) → Gives (λ n. n) r (Ok m)
-what_is_spelled bytes m r short s h = subst (λ (o : Result PlainMaps MapsFault). Gives (λ n. n) r o) (spelled_is_read bytes m short s) h
+pub what_is_spelled : (bytes : List ℕ) (m : PlainMaps) (r : Result PlainMaps ConfigFault) → length bytes < 4294967295 → Spells bytes m → Gives (λ n. n) r (spelled bytes) → Gives (λ n. n) r (Ok m)
+what_is_spelled bytes m r short s h = subst (λ (o : Result PlainMaps ConfigFault). Gives (λ n. n) r o) (spelled_is_read bytes m short s) h

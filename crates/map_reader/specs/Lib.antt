@@ -1,4 +1,3 @@
-pub mod Faults
 pub mod FirstFault
 pub mod MapsRead
 pub mod MapsReading

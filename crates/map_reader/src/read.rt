@@ -1,28 +1,28 @@
 //! A text is read line by line.
-ghost use Rattle.std.specs.Prelude.{◌≡◌, ◌<◌, ◌≤◌, ◌+◌, ◌^◌, None, Ok, IfOk, length, map};
+ghost use Rattle.std.specs.Prelude.{◌≡◌, ◌==◌, ◌<◌, ◌^◌, None, Ok, IfOk, length};
+ghost use Rattle.std.specs.List.{slice_split};
 ghost use Rattle.std.specs.Str.{bytes_eq};
-ghost use Rattle.config_reader.specs.Text.{whole_lines};
 ghost use Rattle.route_maps.specs.Maps.{PlainMaps, IsMaps};
 ghost use Rattle.map_lines.specs.MapLines.{map_line_of};
 ghost use Rattle.route_map_text.specs.MapsLines.{first_line};
 ghost use Rattle.route_map_text.specs.MapsSpelled.{Spells};
-ghost use Rattle.map_reader.specs.Faults.{Gives};
-ghost use Rattle.map_reader.specs.MapsReading.{opening, after_map};
-ghost use Rattle.map_reader.specs.MapsRead.{read_at, placed_at, with_line, with_lines, finished, behind_heading, in_lines, spelled};
+ghost use Rattle.config_reader.specs.Faults.{Gives};
+ghost use Rattle.map_reader.specs.MapsReading.{after_map};
+ghost use Rattle.map_reader.specs.MapsRead.{read_at, placed_at, with_line, finished, behind_heading, in_lines, spelled};
 
-use crate::fault::MapsFault;
+use crate::MapsFault;
 use crate::reading::{MapsReading, after_line, no_line};
-use config_lines::{LineFault, cut_parts};
+use config_lines::{LineFault, halves};
 use config_reader::Misplaced;
 use map_lines::{MapLine, read_map_line};
 use route_maps::Maps;
 use std::alloc::Global;
 
 // The line with this number.
-fn line_at(alloc: Global, number: u32, bytes: &[u8], lists: u32) -> Result<MapLine, MapsFault>
-    ensures { Gives (λ l. l) result (read_at number (map_line_of bytes.now lists)) }
+fn line_at(number: u32, bytes: &[u8], lists: u32) -> Result<MapLine, MapsFault>
+    ensures { result ≡ read_at number (map_line_of bytes.now lists) }
 {
-    match read_map_line(alloc, bytes, lists) {
+    match read_map_line(bytes, lists) {
         Ok(line) => Ok(line),
         Err(LineFault::Form) => Err(MapsFault::Line(number)),
         Err(LineFault::Number) => Err(MapsFault::Number(number)),
@@ -59,22 +59,8 @@ fn take_line(
     ensures { Gives (λ r. r) result (with_line number reading bytes.now) }
 {
     let lists = reading.lists.as_slice().len() as u32;
-    let line = line_at(alloc, number, bytes, lists)?;
+    let line = line_at(number, bytes, lists)?;
     after_at(alloc, number, reading, line)
-}
-
-// What is read of the lines, of which the first one has the number 2.
-fn read_lines(alloc: Global, lines: &[&[u8]]) -> Result<MapsReading, MapsFault>
-    requires { length lines.now + 2 < 2 ^ 32 }
-    ensures { Gives (λ r. r) result (with_lines 2 opening (map (λ l. l.now) lines.now)) }
-{
-    let mut reading = no_line(alloc);
-    let mut number = 2;
-    for bytes in lines {
-        reading = take_line(alloc, number, reading, bytes)?;
-        number += 1;
-    }
-    Ok(reading)
 }
 
 // The maps that were read, where nothing is open and nothing follows the last line feed.
@@ -90,26 +76,20 @@ fn finish(reading: MapsReading, rest: &[u8]) -> Result<Maps, MapsFault>
     Ok(Maps::new(lists, blocks.routers.into_list()))
 }
 
-// What is read of the lines but the last one. The first one has the number 2.
-fn read_whole_lines(alloc: Global, more: &[&[u8]]) -> Result<MapsReading, MapsFault>
-    requires some { 0 < length more.now }
-    requires few { length more.now < 4294967295 }
-    ensures { Gives (λ r. r) result (with_lines 2 opening (whole_lines (map (λ l. l.now) more.now))) }
+// The maps of the bytes behind the first line, which has the number 1.
+fn read_behind_heading(alloc: Global, bytes: &[u8]) -> Result<Maps, MapsFault>
+    requires { length bytes.now < 4294967294 }
+    ensures { Gives (λ m. m) result (behind_heading (slice_split (λ b. b == 10) bytes.now)) }
 {
-    let end = more.len() - 1;
-    read_lines(alloc, &more[..end])
-}
-
-// The maps of the lines behind the first one. The last of them is what follows the last line feed.
-#[tactic(auto, unfolding(crate::specs::MapsRead::behind_heading))]
-fn read_behind_heading(alloc: Global, more: &[&[u8]]) -> Result<Maps, MapsFault>
-    requires some { 0 < length more.now }
-    requires few { length more.now < 4294967295 }
-    ensures { Gives (λ m. m) result (behind_heading (map (λ l. l.now) more.now)) }
-{
-    let end = more.len() - 1;
-    let reading = read_whole_lines(alloc, more)?;
-    finish(reading, more[end])
+    let mut reading = no_line(alloc);
+    let mut number = 2;
+    let mut rest = bytes;
+    while let Some((line, more)) = halves(b'\n', rest) {
+        reading = take_line(alloc, number, reading, line)?;
+        number += 1;
+        rest = more;
+    }
+    finish(reading, rest)
 }
 
 // Whether a line is the first one of every text.
@@ -119,30 +99,28 @@ fn is_heading(line: &[u8]) -> bool
     line == b"propane-maps 1".as_slice()
 }
 
-// The maps of the lines, the last of which is what follows the last line feed.
-#[tactic(auto, unfolding(crate::specs::MapsRead::in_lines))]
-fn read_all(alloc: Global, lines: &[&[u8]]) -> Result<Maps, MapsFault>
-    requires { length lines.now ≤ 4294967295 }
-    ensures { Gives (λ m. m) result (in_lines (map (λ l. l.now) lines.now)) }
+// The maps of the bytes, or the first fault of the text.
+fn read_text(alloc: Global, bytes: &[u8]) -> Result<Maps, MapsFault>
+    requires { length bytes.now < 4294967295 }
+    ensures { Gives (λ m. m) result (spelled bytes.now) }
 {
-    let [first, more @ ..] = lines else {
+    let Some((first, more)) = halves(b'\n', bytes) else {
         return Err(MapsFault::Version);
     };
-    if more.is_empty() || !is_heading(first) {
+    if !is_heading(first) {
         return Err(MapsFault::Version);
     }
     read_behind_heading(alloc, more)
 }
 
 /// The maps that the bytes spell, or the first fault of the text: version first; then line by line, in each line its
-/// form, its numbers, its order and what stands twice; last whether the text is finished. It takes one pass, and memory
-/// in proportion to the text.
+/// form, its numbers, its order and what stands twice; last whether the text is finished. It goes from line to line,
+/// and takes memory for what was read alone.
 pub fn read_maps(alloc: Global, bytes: &[u8]) -> Result<Maps, MapsFault>
     requires { length bytes.now < 4294967295 }
     ensures exact { Gives (λ m. m) result (spelled bytes.now) }
     ensures spells { IfOk result (λ m. Spells bytes.now m) }
     ensures only { (m : PlainMaps) → Spells bytes.now m → Gives (λ n. n) result (Ok m) }
 {
-    let lines = cut_parts(alloc, b'\n', bytes)?;
-    read_all(alloc, &lines)
+    read_text(alloc, bytes)
 }
