@@ -42,7 +42,9 @@ fn is_first_of_class(relation: &Relation, p: u32, higher: &mut Vec<u32>) -> Resu
 
 /// Whether q has a lesser number than p and stands as high.
 fn is_earlier_equal(relation: &Relation, q: u32, p: u32) -> bool
+    requires { p < length relation.now.places }
     ensures { result ≡ (nat_lt q p && (has relation.now p q && has relation.now q p)) }
 {
-    q < p && relation.has(p, q) && relation.has(q, p)
+    // The bit alone tells most pairs apart.
+    q < p && relation.rows().get(q, p) && relation.has(p, q) && relation.has(q, p)
 }

@@ -165,6 +165,10 @@ either_same true true x h = refl
 either_same true false x h = sym h
 either_same false a x h = refl
 
+either_way : (b : Bool) (x y : ℕ) → x ≡ y → cond b x y ≡ y
+either_way true x y e = e
+either_way false x y e = refl
+
 module _ (g : PlainGraph) (c : Cells) (are : AreCells g c) (init now nodes : List ℕ) (i n round value : ℕ) (left : ℕ → ℕ → Bool) (lt : i < length nodes) where
   abbrev Old : ℕ → ℕ → ℕ
   Old m k = get_or init (cell_at c m k) 0
@@ -192,6 +196,20 @@ module _ (g : PlainGraph) (c : Cells) (are : AreCells g c) (init now nodes : Lis
             ] in
             get_or-set_other now (cell_at c s n) (cell_at c m k) value 0 ne ∙ before m k p
             ∙ ap (λ z. cond z (Marked m k) (Old m k)) (either_same (eqb k n) (is_among (take i nodes) m) (eqb m s) other ∙ ap (λ z. eqb k n && z) (sym (among_more nodes i m lt))))
+      ]
+
+  pub row_kept : left n (get_or nodes i 0) ≡ true →
+      ((m k : ℕ) → Pair (shown g) m k → get_or now (cell_at c m k) 0 ≡ cond (eqb k n && is_among (take i nodes) m) (Marked m k) (Old m k)) →
+      (m k : ℕ) → Pair (shown g) m k → get_or now (cell_at c m k) 0 ≡ cond (eqb k n && is_among (take (i + 1) nodes) m) (Marked m k) (Old m k)
+  row_kept is before m k p =
+      let s : ℕ = get_or nodes i 0 in
+      before m k p ∙ elim (cases_Bool (eqb k n && eqb m s)) [
+        | inl e ↦ (
+            let both = and_parts (eqb k n) (eqb m s) e in
+            let there : left k m ≡ true = ap (λ z. left z m) (eqb-true k n both.0) ∙ ap (left n) (eqb-true m s both.1) ∙ is in
+            let stays : Marked m k ≡ Old m k = cond-false (eqb (Old m k) 0 && not (left k m)) round (Old m k) (and_right (eqb (Old m k) 0) (not (left k m)) (ap not there)) in
+            either_way (eqb k n && is_among (take i nodes) m) (Marked m k) (Old m k) stays ∙ sym (either_way (eqb k n && is_among (take (i + 1) nodes) m) (Marked m k) (Old m k) stays))
+        | inr e ↦ ap (λ z. cond z (Marked m k) (Old m k)) (either_same (eqb k n) (is_among (take i nodes) m) (eqb m s) e ∙ ap (λ z. eqb k n && z) (sym (among_more nodes i m lt)))
       ]
 
 -- a node that is listed and the one at whose location

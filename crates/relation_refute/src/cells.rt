@@ -1,5 +1,5 @@
 //! The rounds in which pairs go.
-ghost use Rattle.std.specs.Prelude.{◌≡◌, ◌<◌, ◌==◌, ℕ, IfOk, OnOk, length, slice_index_or, if◌then◌else◌};
+ghost use Rattle.std.specs.Prelude.{◌≡◌, ◌<◌, ◌==◌, ℕ, IfOk, OnOk, false, length, slice_index_or, if◌then◌else◌};
 ghost use Rattle.bit_rows.specs.Tables.{has_at};
 ghost use Rattle.graph_base.specs.Runs.{place_of};
 ghost use Rattle.relation_law.specs.Relations.{Pair};
@@ -7,7 +7,7 @@ ghost use Rattle.relation_refute.specs.Cells.{AreCells, cell_at, marked_round, r
 ghost use Rattle.state_simulation.specs.Looked.{shown};
 ghost use Rattle.state_simulation.specs.Targets.{AreNodeRows, is_touched};
 
-use bit_rows::Rows;
+use bit_rows::{Rows, is_set};
 use graph_base::Graph;
 use outside::NoMemory;
 use state_simulation::{Maps, location_count};
@@ -70,18 +70,21 @@ impl Cells {
         ensures rounds { (m k : ℕ) → Pair (shown maps.now.graph.now) m k → round_in self.new m k
             ≡ (if k == n then marked_round (round_in self.old m k) (has_at left.now k m) round else round_in self.old m k) }
     {
+        let row = left.row(n);
         for m in maps.peers(n) {
-            let cell = self.spots[*m as usize] as usize + self.bases[n as usize];
-            self.rounds[cell] = marked(self.rounds[cell], left.get(n, *m), round);
+            if !is_set(row, *m) {
+                let cell = self.spots[*m as usize] as usize + self.bases[n as usize];
+                self.rounds[cell] = marked(self.rounds[cell], round);
+            }
         }
     }
 }
 
-/// The round of a pair: a pair without one that isn't left gets this one.
-fn marked(old: u32, is_left: bool, round: u32) -> u32
-    ensures { result ≡ marked_round old is_left round }
+/// The round of a pair that isn't left: a pair without one gets this one.
+fn marked(old: u32, round: u32) -> u32
+    ensures { result ≡ marked_round old false round }
 {
-    if old == 0 && !is_left { round } else { old }
+    if old == 0 { round } else { old }
 }
 
 /// For each node how many nodes with lesser numbers stand at its location. Counts how many stand at each.

@@ -1,7 +1,7 @@
 -- From the first round to the last.
-use Rattle.std.proofs.Common.{◌≡◌, ℕ, ◌<◌, Bool, true, false, not, ◌&&◌, ◌||◌, List, length, Option, Some, refl, sym, ap, subst, ◌∙◌, inl, inr}
+use Rattle.std.proofs.Common.{◌≡◌, ℕ, ◌<◌, Bool, true, false, ltb, not, ◌&&◌, ◌||◌, List, length, Option, Some, arith, refl, sym, ap, subst, ◌∙◌, inl, inr}
 use Rattle.std.specs.Option.{IfSome}
-use Rattle.std.proofs.lemmas.Bool.{cases_Bool, and_left, not-false, or_cases, or_left, or_parts, or_right}
+use Rattle.std.proofs.lemmas.Bool.{cases_Bool, and_left, and_parts, le-ltb, ltb-true, not-false, or_cases, or_left, or_parts, or_right}
 use Rattle.std.specs.Cmp as cmp
 use Rattle.bit_rows.specs.Tables.{PlainRows, has_at}
 use Rattle.graph_base.specs.Graphs.{PlainGraph}
@@ -12,7 +12,7 @@ use Rattle.relation_law.specs.Rounds.{IsReach, IsSettled, gone_after, is_pair, l
 use Rattle.relation_law.specs.Views.{view_of}
 use Rattle.relation_law.proofs.Rounds.{IsSound, greatest_between, open_pair, pair_from, pair_to, settled_is_greatest}
 use Rattle.state_simulation.specs.declared.rounds.Rounds.{Rounds}
-use Rattle.state_simulation.specs.Stages.{AreBound, AreSized, IsOpen, Knows, above_in, has_either}
+use Rattle.state_simulation.specs.Stages.{AreBound, AreSized, IsOpen, Knows, above_in, asks_later, has_either}
 use Rattle.state_simulation.specs.Targets.{AreLeft, AreTold, AtRound, is_touched}
 
 -- ---- what is known of what can be reached
@@ -45,6 +45,24 @@ module _ (g : PlainGraph) (claimed : LocSet) (reach : ℕ → ℕ → Bool) (k :
       let back : Pair (view_of g claimed) n m = record { left = are.other; right = are.one; place = sym are.place } in
       let clear = or_parts (has_at left n m) (has_at left m n) are.neither in
       open_pair (view_of g claimed) reach r k m n sound closed pair (gone_where_clear m n pair clear.0) (gone_where_clear n m back clear.1) total
+
+-- where each touched row was asked of the nodes that don't ask later themselves, it was asked of all
+pub bound_each : (g : PlainGraph) (left : PlainRows) (touched : List Bool) →
+    ((n m : ℕ) → n < length g.nodes → m < length g.nodes → is_touched touched n ≡ true → place_of g m ≡ place_of g n → asks_later touched m n ≡ false → has_either left m n ≡ true) →
+    (n m : ℕ) → n < length g.nodes → m < length g.nodes → is_touched touched n ≡ true → place_of g m ≡ place_of g n → has_either left m n ≡ true
+bound_each g left touched each n m ln lm e place = elim (cases_Bool (asks_later touched m n)) [
+  | inl later ↦ (
+      let both = and_parts (ltb n m) (is_touched touched m) later in
+      let none : asks_later touched n m ≡ false = and_left (ltb m n) (is_touched touched n) (le-ltb m n (omega (arith, ltb-true _ _ both.0))) in
+      swapped left n m (each m n lm ln both.1 (sym place) none))
+  | inr first ↦ each n m ln lm e place first
+]
+  where
+    swapped : (left : PlainRows) (n m : ℕ) → has_either left n m ≡ true → has_either left m n ≡ true
+    swapped left n m h = elim (or_cases (has_at left m n) (has_at left n m) h) [
+      | inl one ↦ or_right _ _ one
+      | inr other ↦ or_left _ _ other
+    ]
 
 pub bound_first : (g : PlainGraph) (claimed : LocSet) (left next : PlainRows) (touched : ℕ → Bool) → AtRound (view_of g claimed) (λ a b. false) 0 left next touched → AreBound g left
 bound_first g claimed left next touched at m n lm ln place =

@@ -1,5 +1,5 @@
 -- How far the rounds have come.
-use Rattle.std.specs.Prelude.{◌≡◌, ℕ, ◌*◌, ◌/◌, ◌%◌, ◌<◌, Bool, false, ◌&&◌, ◌||◌, IfSome, IsTrue, Option, None, Some, length}
+use Rattle.std.specs.Prelude.{◌≡◌, ℕ, ◌*◌, ◌/◌, ◌%◌, ◌<◌, Bool, false, ◌&&◌, ◌||◌, IfSome, IsTrue, List, Option, None, Some, length, nat_lt}
 use Rattle.bit_rows.specs.Tables.{IsSameSize, PlainRows, has_at}
 use Rattle.graph_base.specs.Graphs.{PlainGraph}
 use Rattle.graph_base.specs.Runs.{place_of}
@@ -41,6 +41,10 @@ above_in v left m n = is_pair v m n && has_at left n m
 -- of two nodes one is in the row of the other
 abbrev pub has_either : PlainRows → ℕ → ℕ → Bool
 has_either left m n = has_at left n m || has_at left m n
+
+-- m stands behind n in a touched row, so that n is looked for in that row and m not in that of n
+abbrev pub asks_later : List Bool → ℕ → ℕ → Bool
+asks_later touched m n = nat_lt n m && is_touched touched m
 
 -- of each two nodes at one location it is
 abbrev pub AreBound : PlainGraph → PlainRows → Type 0

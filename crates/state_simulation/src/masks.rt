@@ -93,8 +93,9 @@ fn add_answers(mask: &mut [u64], maps: &Maps, left: &Rows, t: u32)
     ensures len { length mask.new ≡ length mask.old }
     ensures bits { (m : ℕ) → has mask.new m ≡ (has mask.old m || has_answer (shown maps.now.graph.now) (gone_in left.now) m t) }
 {
+    let row = left.row(t);
     for s in maps.peers(t) {
-        if left.get(t, *s) && !maps.graph().hears(*s) {
+        if is_set(row, *s) && !maps.graph().hears(*s) {
             set_each(mask, maps.before(*s));
         }
     }
@@ -133,9 +134,10 @@ fn add_loops(looped: &mut [u64], maps: &Maps, onwards: &Rows, left: &Rows, t: u3
     ensures len { length looped.new ≡ length looped.old }
     ensures bits { (m : ℕ) → has looped.new m ≡ is_looped (shown maps.now.graph.now) (has_at onwards.now) (gone_in left.now) m t }
 {
+    let row = left.row(t);
     for k in maps.peers(t) {
         // What can be reached from a node that is set already is set too.
-        if !left.get(t, *k) && !is_set(looped, *k) {
+        if !is_set(row, *k) && !is_set(looped, *k) {
             add_row(looped, onwards.row(*k));
         }
     }

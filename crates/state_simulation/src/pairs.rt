@@ -30,7 +30,7 @@ pub fn ranked_pairs(alloc: Global, maps: &Maps, claimed: &LocSet) -> Result<Rows
 }
 
 /// Sets who of the nodes at the location of n doesn't have a worse rank, where that is claimed. The rows of the nodes before n
-/// are made, and the row of one that has the location and the rank of n is that of n too.
+/// are made, and the row of one of them may be that of n too.
 fn add_above(rows: &mut Rows, maps: &Maps, claimed: &LocSet, n: u32)
     requires rows { AreNodeRows maps.now.graph.now rows.old }
     requires n { n < length maps.now.graph.now.nodes }
@@ -40,10 +40,36 @@ fn add_above(rows: &mut Rows, maps: &Maps, claimed: &LocSet, n: u32)
     ensures bits { (r b : ℕ) → r < length maps.now.graph.now.nodes → b < length maps.now.graph.now.nodes → has_at rows.new r b
         ≡ (has_at rows.old r b || (r == n && (same_place (view_of maps.now.graph.now claimed.now) b n && not (is_outranked_in (view_of maps.now.graph.now claimed.now) b n)))) }
 {
-    match alike_before(maps, n) {
+    match row_before(maps, claimed, n) {
         Some(m) => rows.or_row(n, m),
         None => add_each(rows, maps, claimed, n),
     }
+}
+
+/// A node before n that has the row of n: one at its location, and with its rank where that is claimed.
+fn row_before(maps: &Maps, claimed: &LocSet, n: u32) -> Option<u32>
+    requires { n < length maps.now.graph.now.nodes }
+    ensures { IfSome result (λ m. (m < n) × (place_of maps.now.graph.now m ≡ place_of maps.now.graph.now n)
+        × ((b : ℕ) → is_outranked_in (view_of maps.now.graph.now claimed.now) b m ≡ is_outranked_in (view_of maps.now.graph.now claimed.now) b n)) }
+{
+    if claimed.holds(maps.graph().location(n)) {
+        alike_before(maps, n)
+    } else {
+        peer_before(maps, n)
+    }
+}
+
+/// The first node with the location of n, where it stands before n.
+fn peer_before(maps: &Maps, n: u32) -> Option<u32>
+    requires { n < length maps.now.graph.now.nodes }
+    ensures { IfSome result (λ m. (m < n) × (place_of maps.now.graph.now m ≡ place_of maps.now.graph.now n)) }
+{
+    for m in maps.peers(n) {
+        if *m < n {
+            return Some(*m);
+        }
+    }
+    None
 }
 
 /// The first node with the location and the rank of n, where it stands before n.

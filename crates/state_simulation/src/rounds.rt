@@ -6,13 +6,13 @@ ghost use Rattle.net_base.specs.declared.loc.LocSet.{LocSet as Claimed};
 ghost use Rattle.relation_law.specs.Relations.{IsClosed, IsGreatest, IsTotal};
 ghost use Rattle.relation_law.specs.Rounds.{IsReach, IsSettled};
 ghost use Rattle.relation_law.specs.Views.{view_of};
-ghost use Rattle.state_simulation.specs.Stages.{AreAt, AreBound, AreSized, IsOpen, Knows, above_in, bits_set, has_either};
+ghost use Rattle.state_simulation.specs.Stages.{AreAt, AreBound, AreSized, IsOpen, Knows, above_in, asks_later as asks_later_in, bits_set, has_either};
 ghost use Rattle.state_simulation.specs.Targets.{AreLeft, AreNodeRows, is_touched};
 
 use crate::maps::Maps;
 use crate::pairs::ranked_pairs;
 use crate::taking::{put_each, take_each};
-use bit_rows::Rows;
+use bit_rows::{Rows, is_set};
 use net_base::LocSet;
 use outside::NoMemory;
 use reach_prune::{Way, rows_along};
@@ -95,7 +95,7 @@ impl Rounds {
             → place_of maps.now.graph.now m ≡ place_of maps.now.graph.now n → IsTrue (has_either self.now.left m n) }
     {
         for n in 0..self.touched.len() as u32 {
-            if self.touched[n as usize] && has_open(maps, &self.left, n) {
+            if self.touched[n as usize] && has_open(maps, &self.left, &self.touched, n) {
                 return true;
             }
         }
@@ -103,19 +103,30 @@ impl Rounds {
     }
 }
 
-/// Whether n and some node at its location are each not in the row of the other.
-fn has_open(maps: &Maps, left: &Rows, n: u32) -> bool
+/// Whether n and some node at its location are each not in the row of the other. Of a touched node behind n that isn't asked:
+/// n is asked of it.
+fn has_open(maps: &Maps, left: &Rows, touched: &[bool], n: u32) -> bool
     requires left { AreNodeRows maps.now.graph.now left.now }
+    requires touched { length touched.now ≡ length maps.now.graph.now.nodes }
     requires n { n < length maps.now.graph.now.nodes }
     ensures open { IsTrue result → (m : ℕ) × IsOpen maps.now.graph.now left.now m n }
-    ensures bound { result ≡ false → (m : ℕ) → m < length maps.now.graph.now.nodes → place_of maps.now.graph.now m ≡ place_of maps.now.graph.now n → IsTrue (has_either left.now m n) }
+    ensures bound { result ≡ false → (m : ℕ) → m < length maps.now.graph.now.nodes → place_of maps.now.graph.now m ≡ place_of maps.now.graph.now n → asks_later_in touched.now m n ≡ false → IsTrue (has_either left.now m n) }
 {
+    let row = left.row(n);
     for m in maps.peers(n) {
-        if !left.get(n, *m) && !left.get(*m, n) {
+        if !asks_later(touched, *m, n) && !is_set(row, *m) && !left.get(*m, n) {
             return true;
         }
     }
     false
+}
+
+/// Whether m stands behind n in a touched row.
+fn asks_later(touched: &[bool], m: u32, n: u32) -> bool
+    requires { m < length touched.now }
+    ensures { result ≡ asks_later_in touched.now m n }
+{
+    n < m && touched[m as usize]
 }
 
 /// For each node the nodes that are left above it, after the round in which nothing more goes.

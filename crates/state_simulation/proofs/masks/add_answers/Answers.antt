@@ -8,7 +8,7 @@ use Rattle.graph_base.specs.Graphs.{PlainGraph}
 use Rattle.graph_base.specs.Runs.{has_step, is_listener, place_of}
 use Rattle.state_simulation.proofs.Masking.{located_any, same_more, set_more}
 use Rattle.state_simulation.proofs.masks.add_answers.Goals as goal
-use Rattle.state_simulation.proofs.masks.add_answers.Goals.{then-get+then-not-hears, else-get, else-get-via-then-get+else-not-hears, else-get-via-else-get}
+use Rattle.state_simulation.proofs.masks.add_answers.Goals.{then-is_set+then-not-hears, else-is_set, else-is_set-via-then-is_set+else-not-hears, else-is_set-via-else-is_set}
 
 moved : (f l h st : Bool) → (f && ((l && not h) && st)) ≡ ((st && not h) && (f && not (not l)))
 moved true true true true = refl
@@ -32,22 +32,23 @@ loop-s-preserved c =
     let i = c.loop-s.s-index in
     let s = get_or nodes i 0 in
     let p : ℕ → ℕ → Bool = λ m x. (has_at c.args.left.now c.args.t x && not (is_listener g x)) && has_step g m x in
-    elim c.if-get.branch [
-      | then-get+then-not-hears w ↦ (
+    let in_row : has_at c.args.left.now c.args.t s ≡ has c.row-row.result.now s = ap (λ z. has z s) (sym c.row-row.ensures.words) in
+    elim c.if-is_set.branch [
+      | then-is_set+then-not-hears w ↦ (
           let hears : w.hears.result ≡ is_listener g s = rw w.graph.ensures at w.hears.ensures in
-          let is : (has_at c.args.left.now c.args.t s && not (is_listener g s)) ≡ true = ap (λ z. z && not (is_listener g s)) (sym c.get.ensures ∙ w.if-get.true) ∙ ap not (sym hears) ∙ ap not w.if-not-hears.true in
+          let is : (has_at c.args.left.now c.args.t s && not (is_listener g s)) ≡ true = ap (λ z. z && not (is_listener g s)) (in_row ∙ sym c.is_set.ensures ∙ w.if-is_set.true) ∙ ap not (sym hears) ∙ ap not w.if-not-hears.true in
           record {
             len = ap length w.mask-is ∙ w.set_each.ensures.len ∙ inv.len;
             bits = λ m. ap (λ l. has l m) w.mask-is
                 ∙ set_more (p m) nodes i (has c.args.mask.now m) (has c.loop-s.mask m) (has w.set_each.new.mask m) c.loop-s-test.true (inv.bits m)
                 (w.set_each.ensures.bits m ∙ ap (λ z. has c.loop-s.mask m || z) (w.before-then-not-hears.ensures.members m ∙ sym (ap (λ z. z && has_step g m s) is)));
           })
-      | else-get w ↦ (
-          let none : (has_at c.args.left.now c.args.t s && not (is_listener g s)) ≡ false = elim w.else-get.branch [
-            | else-get-via-then-get+else-not-hears u ↦ (
+      | else-is_set w ↦ (
+          let none : (has_at c.args.left.now c.args.t s && not (is_listener g s)) ≡ false = elim w.else-is_set.branch [
+            | else-is_set-via-then-is_set+else-not-hears u ↦ (
                 let hears : u.hears.result ≡ is_listener g s = rw u.graph.ensures at u.hears.ensures in
-                ap (λ z. z && not (is_listener g s)) (sym c.get.ensures ∙ u.if-get.true) ∙ ap not (sym hears) ∙ ap not u.if-not-hears.false)
-            | else-get-via-else-get u ↦ and_left _ _ (sym c.get.ensures ∙ u.if-get.false)
+                ap (λ z. z && not (is_listener g s)) (in_row ∙ sym c.is_set.ensures ∙ u.if-is_set.true) ∙ ap not (sym hears) ∙ ap not u.if-not-hears.false)
+            | else-is_set-via-else-is_set u ↦ and_left _ _ (in_row ∙ sym c.is_set.ensures ∙ u.if-is_set.false)
           ] in
           record {
             len = ap length w.mask-is ∙ inv.len;
