@@ -1,4 +1,5 @@
 //! Texts of events for two routers with a peer each, and their faults.
+use super::faults::{Row, TextKind, answer, wrong_row};
 use event_base::Event;
 use event_text::{Events, read_events};
 use net_base::{Loc, Prefix};
@@ -7,9 +8,6 @@ use samples::{TWO_EXITS, net_of};
 use std::alloc::Global;
 use std::test::Fail;
 use text_words::push_bytes;
-
-// The name of each row, its text, and what is wrong with it.
-type Row = (&'static str, &'static str, &'static str);
 
 const ROWS: [Row; 23] = [
     (
@@ -125,35 +123,9 @@ const ROWS: [Row; 23] = [
     ),
 ];
 
-// What is wrong with a text: the fault's word and its values.
-fn answer(alloc: Global, text: &[u8]) -> Result<Vec<u8>, NoMemory> {
-    let mut told = Vec::new(alloc);
-    let Some(net) = net_of(alloc, TWO_EXITS) else {
-        return Ok(told);
-    };
-    match read_events(alloc, text, &net) {
-        Ok(_) => push_bytes(&mut told, b"read")?,
-        Err(fault) => {
-            push_bytes(&mut told, fault.word())?;
-            fault.push_values(&mut told)?;
-        }
-    }
-    Ok(told)
-}
-
-// The name of the first row that has another answer.
-fn wrong_row(alloc: Global, rows: &[Row]) -> Result<Option<&'static str>, NoMemory> {
-    for row in rows {
-        if answer(alloc, row.1.as_bytes())?.as_slice() != row.2.as_bytes() {
-            return Ok(Some(row.0));
-        }
-    }
-    Ok(None)
-}
-
 #[test]
 fn events_have_their_faults(rt: HostRuntime) -> Result<(), Fail> {
-    assert_eq!(rt; wrong_row(rt.alloc(), &ROWS)?, None);
+    assert_eq!(rt; wrong_row(rt.alloc(), TextKind::Events, &ROWS)?, None);
     Ok(())
 }
 
@@ -198,7 +170,7 @@ fn answer_of_more(alloc: Global, more: u32) -> Result<Vec<u8>, NoMemory> {
         push_bytes(&mut text, b",[\"router_up\",\"R1\"]")?;
     }
     push_bytes(&mut text, b"]}")?;
-    answer(alloc, &text)
+    answer(alloc, TextKind::Events, &text)
 }
 
 #[test]

@@ -9,6 +9,8 @@ mod events;
 #[cfg(test)]
 mod evidence;
 #[cfg(test)]
+mod faults;
+#[cfg(test)]
 mod meaning;
 #[cfg(test)]
 mod printing;

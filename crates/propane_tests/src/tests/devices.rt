@@ -1,8 +1,12 @@
 //! Every command with each read and each write failing in turn, and an output that takes little at a time.
+use super::mapped::TWO_ROUTERS_MAPS;
 use super::{ANY_PATH, words_of};
 use outside::{MemInputs, MemSink, NoMemory};
 use propane_run::{Status, run};
-use samples::{TWO_ROUTERS, TWO_ROUTERS_CONFIG, TWO_ROUTERS_EVIDENCE, TWO_SPINES, WAYPOINT_RING};
+use samples::{
+    TWO_ROUTERS, TWO_ROUTERS_CONFIG, TWO_ROUTERS_CONFIG_1, TWO_ROUTERS_EVIDENCE, TWO_SPINES,
+    WAYPOINT_RING,
+};
 use std::alloc::Global;
 use std::test::Fail;
 use text_words::push_bytes;
@@ -14,23 +18,37 @@ const REFUSED: &[u8] = b"originate 10.0.1.0/24 at D; 10.0.1.0/24 => through(W) >
 
 const MIXED: &[u8] = b"originate 10.0.1.0/24 at T1; 10.0.1.0/24 => through(S1, S2);";
 
-// What a name holds.
+const EVENTS: &str =
+    "{\"events\":[[\"deliver\",\"A\",\"B\"],[\"link_down\",\"A\",\"B\"]],\"prefix\":\"10.0.1.0/24\"}";
+
+const TABLES: &str =
+    "{\"routes\":[{\"path\":[\"A\"],\"pref\":0,\"tag\":[64512,1]},{\"path\":[\"B\",\"A\"],\"pref\":100,\"tag\":[64513,1]}]}";
+
+const ONE_TABLE: &str = "{\"routes\":[{\"path\":[\"A\"],\"pref\":0,\"tag\":[64512,1]},null]}";
+
+// What a word behind the command is.
 enum Held {
+    /// A name that holds these bytes.
     Bytes(&'static [u8]),
+    /// A name that holds this text.
     Text(&'static str),
+    /// No name: nothing is read.
+    Nothing,
 }
 
-fn bytes_of(held: &Held) -> &'static [u8] {
+// The bytes that a name holds.
+fn bytes_of(held: &Held) -> Option<&'static [u8]> {
     match held {
-        Held::Bytes(bytes) => bytes,
-        Held::Text(text) => text.as_bytes(),
+        Held::Bytes(bytes) => Some(bytes),
+        Held::Text(text) => Some(text.as_bytes()),
+        Held::Nothing => None,
     }
 }
 
-// A command, the names that it reads with what they hold, and the status with which it ends where nothing fails.
+// A command, the words behind it with what they hold, and the status with which it ends where nothing fails.
 type Row = (&'static str, &'static [(&'static str, Held)], Status);
 
-const ROWS: [Row; 12] = [
+const ROWS: [Row; 23] = [
     (
         "compile",
         &[
@@ -111,7 +129,7 @@ const ROWS: [Row; 12] = [
         ],
         Status::BadInput,
     ),
-    ("sample", &[("2", Held::Bytes(b""))], Status::Done),
+    ("sample", &[("2", Held::Nothing)], Status::Done),
     (
         "compile",
         &[
@@ -127,6 +145,98 @@ const ROWS: [Row; 12] = [
             ("p.propane", Held::Bytes(MIXED)),
         ],
         Status::Refused,
+    ),
+    (
+        "trace",
+        &[
+            ("t.json", Held::Bytes(TWO_ROUTERS)),
+            ("p.propane", Held::Bytes(ANY_PATH)),
+            ("events.json", Held::Text(EVENTS)),
+        ],
+        Status::Done,
+    ),
+    (
+        "audit",
+        &[
+            ("t.json", Held::Bytes(TWO_ROUTERS)),
+            ("p.propane", Held::Bytes(ANY_PATH)),
+            ("config", Held::Text(TWO_ROUTERS_CONFIG)),
+            ("e.json", Held::Text(TWO_ROUTERS_EVIDENCE)),
+            ("s.json", Held::Bytes(NO_FAILURES)),
+            ("tables.json", Held::Text(TABLES)),
+        ],
+        Status::Done,
+    ),
+    (
+        "audit",
+        &[
+            ("t.json", Held::Bytes(TWO_ROUTERS)),
+            ("p.propane", Held::Bytes(ANY_PATH)),
+            ("config", Held::Text(TWO_ROUTERS_CONFIG)),
+            ("e.json", Held::Text(TWO_ROUTERS_EVIDENCE)),
+            ("s.json", Held::Bytes(NO_FAILURES)),
+            ("tables.json", Held::Text(ONE_TABLE)),
+        ],
+        Status::CheckFails,
+    ),
+    (
+        "migrate",
+        &[("config", Held::Text(TWO_ROUTERS_CONFIG_1))],
+        Status::Done,
+    ),
+    (
+        "migrate",
+        &[("config", Held::Text(TWO_ROUTERS_CONFIG))],
+        Status::BadInput,
+    ),
+    (
+        "impact",
+        &[
+            ("t.json", Held::Bytes(TWO_ROUTERS)),
+            ("p.propane", Held::Bytes(ANY_PATH)),
+            ("10.0.1.0/24", Held::Nothing),
+        ],
+        Status::Done,
+    ),
+    (
+        "lint",
+        &[
+            ("t.json", Held::Bytes(TWO_ROUTERS)),
+            ("p.propane", Held::Bytes(ANY_PATH)),
+        ],
+        Status::Done,
+    ),
+    (
+        "routemap",
+        &[
+            ("t.json", Held::Bytes(TWO_ROUTERS)),
+            ("p.propane", Held::Bytes(ANY_PATH)),
+        ],
+        Status::Done,
+    ),
+    (
+        "routemap",
+        &[
+            ("t.json", Held::Bytes(WAYPOINT_RING)),
+            ("p.propane", Held::Bytes(REFUSED)),
+        ],
+        Status::Refused,
+    ),
+    (
+        "checkmap",
+        &[
+            ("config", Held::Text(TWO_ROUTERS_CONFIG)),
+            ("maps", Held::Text(TWO_ROUTERS_MAPS)),
+        ],
+        Status::Done,
+    ),
+    (
+        "checkmap",
+        &[
+            ("config", Held::Text(TWO_ROUTERS_CONFIG)),
+            ("maps", Held::Bytes(b"propane-maps 1\n")),
+        ],
+        Status::CheckFails,
     ),
 ];
 
@@ -156,7 +266,9 @@ fn end_of(alloc: Global, row: &Row, failing: Failing) -> Result<End, NoMemory> {
     let mut inputs = MemInputs::new(alloc);
     for (name, held) in row.1 {
         words.push(String::from_str(alloc, name)?)?;
-        inputs.hold(name, bytes_of(held))?;
+        if let Some(bytes) = bytes_of(held) {
+            inputs.hold(name, bytes)?;
+        }
     }
     let mut out = MemSink::new(alloc, 4096, TAKEN)?;
     let mut err = MemSink::new(alloc, 4096, TAKEN)?;
@@ -183,11 +295,11 @@ fn front(bytes: &[u8], call: usize) -> &[u8] {
 
 // Whether each read of a row that fails is told with its name, and writes nothing else.
 fn reads_are_told(alloc: Global, row: &Row) -> Result<bool, NoMemory> {
-    if row.0 == "sample" {
-        return Ok(true);
-    }
     let mut call = 1u64;
-    for (name, _) in row.1 {
+    for (name, held) in row.1 {
+        if bytes_of(held).is_none() {
+            continue;
+        }
         let end = end_of(alloc, row, Failing::Read(call))?;
         let mut line = Vec::new(alloc);
         push_bytes(&mut line, b"propane: cannot read ")?;
@@ -224,7 +336,7 @@ fn writes_are_told(alloc: Global, row: &Row, whole: &End) -> Result<bool, NoMemo
 fn calls_are_few(alloc: Global, row: &Row, whole: &End) -> Result<bool, NoMemory> {
     let out = (whole.out.len().div_ceil(TAKEN) as u64).saturating_add(1);
     let err = (whole.err.len().div_ceil(TAKEN) as u64).saturating_add(1);
-    for failing in [Failing::Read(5), Failing::Out(out), Failing::Err(err)] {
+    for failing in [Failing::Read(7), Failing::Out(out), Failing::Err(err)] {
         let end = end_of(alloc, row, failing)?;
         if end.status != whole.status || end.out != whole.out || end.err != whole.err {
             return Ok(false);

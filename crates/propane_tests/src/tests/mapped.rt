@@ -9,7 +9,7 @@ use std::alloc::Global;
 use std::test::Fail;
 use text_words::{push_bytes, push_number};
 
-const TWO_ROUTERS_MAPS: &str = "propane-maps 1
+pub const TWO_ROUTERS_MAPS: &str = "propane-maps 1
 list 1 permit 10.0.1.0/24
 router A asn 64512 id 10.255.0.1
 network 10.0.1.0/24 list 1 set 64512:0:1
