@@ -5,6 +5,7 @@ mod origins;
 mod ranked;
 mod read;
 mod statements;
+mod whole;
 
 pub use policy_tokens::{PolicyFault, Token, TokenKind, tokens};
 pub use read::read_policy;

@@ -6,7 +6,8 @@ ghost use Rattle.path_words.specs.Policies.{ranking_of, prefer, either as choice
 ghost use Rattle.policy_parser.specs.Built.{set_of_arg, sets_of as sets_read, one_clause as clause, ranked_sets as sets_ranked, link_of as link_clause, call_of as call_ranked, top, under_top, behind as behind_step, all_behind, ranking_of_steps};
 ghost use Rattle.policy_parser.specs.Views.{rankings};
 
-use net_base::{List, LocSet, Net};
+use crate::whole::Whole;
+use net_base::{List, LocSet};
 use path_words::{Clause, Ranked};
 use policy_grammar::{Arg, CallWord, RawCall, Step};
 use policy_rules::{Known, set_of};
@@ -14,11 +15,16 @@ use policy_tokens::PolicyFault;
 use std::alloc::Global;
 
 // The set that an argument names.
-fn arg_set(bytes: &[u8], net: &Net, known: &Known<'_>, arg: &Arg) -> Result<LocSet, PolicyFault>
-    ensures { Gives (λ s. s) result (set_of_arg bytes.now net.now (plain_names known.now) arg.now) }
+fn arg_set(
+    bytes: &[u8],
+    whole: &Whole<'_>,
+    known: &Known<'_>,
+    arg: &Arg,
+) -> Result<LocSet, PolicyFault>
+    ensures { Gives (λ s. s) result (set_of_arg bytes.now whole.now.net.now (plain_names known.now) arg.now) }
 {
     match arg {
-        Arg::Any => Ok(net.locations()),
+        Arg::Any => Ok(whole.all),
         Arg::Names(names) => set_of(bytes, known, names.as_slice()),
     }
 }
@@ -27,15 +33,15 @@ fn arg_set(bytes: &[u8], net: &Net, known: &Known<'_>, arg: &Arg) -> Result<LocS
 fn arg_sets(
     alloc: Global,
     bytes: &[u8],
-    net: &Net,
+    whole: &Whole<'_>,
     known: &Known<'_>,
     args: &[Arg],
 ) -> Result<Vec<LocSet>, PolicyFault>
-    ensures { Gives (λ v. v.items) result (sets_read bytes.now net.now (plain_names known.now) [] args.now) }
+    ensures { Gives (λ v. v.items) result (sets_read bytes.now whole.now.net.now (plain_names known.now) [] args.now) }
 {
     let mut sets = Vec::new(alloc);
     for arg in args {
-        sets.push(arg_set(bytes, net, known, arg)?)?;
+        sets.push(arg_set(bytes, whole, known, arg)?)?;
     }
     Ok(sets)
 }
@@ -125,16 +131,16 @@ fn push(stack: &mut Vec<Ranked>, ranked: Ranked) -> Result<(), PolicyFault>
 fn take_step(
     alloc: Global,
     bytes: &[u8],
-    net: &Net,
+    whole: &Whole<'_>,
     known: &Known<'_>,
     step: &Step,
     stack: &mut Vec<Ranked>,
 ) -> Result<(), PolicyFault>
-    ensures { Gives (λ _. rankings stack.new.items) result (behind_step bytes.now net.now (plain_names known.now) step.now (rankings stack.old.items)) }
+    ensures { Gives (λ _. rankings stack.new.items) result (behind_step bytes.now whole.now.net.now (plain_names known.now) step.now (rankings stack.old.items)) }
 {
     match step {
         Step::Call(call) => {
-            let sets = arg_sets(alloc, bytes, net, known, call.args.as_slice())?;
+            let sets = arg_sets(alloc, bytes, whole, known, call.args.as_slice())?;
             let ranked = call_of(alloc, call.word, sets)?;
             push(stack, ranked)
         }
@@ -167,15 +173,15 @@ fn take_step(
 fn stack_of(
     alloc: Global,
     bytes: &[u8],
-    net: &Net,
+    whole: &Whole<'_>,
     known: &Known<'_>,
     steps: &[Step],
 ) -> Result<Vec<Ranked>, PolicyFault>
-    ensures { Gives (λ v. rankings v.items) result (all_behind bytes.now net.now (plain_names known.now) [] steps.now) }
+    ensures { Gives (λ v. rankings v.items) result (all_behind bytes.now whole.now.net.now (plain_names known.now) [] steps.now) }
 {
     let mut stack = Vec::new(alloc);
     for step in steps {
-        take_step(alloc, bytes, net, known, step, &mut stack)?;
+        take_step(alloc, bytes, whole, known, step, &mut stack)?;
     }
     Ok(stack)
 }
@@ -185,12 +191,12 @@ fn stack_of(
 pub(crate) fn ranked_of(
     alloc: Global,
     bytes: &[u8],
-    net: &Net,
+    whole: &Whole<'_>,
     known: &Known<'_>,
     steps: &[Step],
 ) -> Result<Ranked, PolicyFault>
-    ensures { Gives ranking_of result (ranking_of_steps bytes.now net.now (plain_names known.now) steps.now) }
+    ensures { Gives ranking_of result (ranking_of_steps bytes.now whole.now.net.now (plain_names known.now) steps.now) }
 {
-    let mut stack = stack_of(alloc, bytes, net, known, steps)?;
+    let mut stack = stack_of(alloc, bytes, whole, known, steps)?;
     Ok(pop(&mut stack))
 }

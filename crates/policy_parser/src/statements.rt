@@ -6,6 +6,7 @@ ghost use Rattle.path_words.specs.Policies.{plain_statement};
 ghost use Rattle.policy_parser.specs.Built.{patterns_of as patterns_read, from_of, statement_of as statement_read, statements_of as statements_read};
 
 use crate::ranked::ranked_of;
+use crate::whole::Whole;
 use net_base::{List, Net, Pattern};
 use path_words::{FromSet, Statement};
 use policy_grammar::{Arg, Item, RawPattern, RawStatement};
@@ -43,14 +44,14 @@ fn from_set(bytes: &[u8], known: &Known<'_>, from: &Arg) -> Result<FromSet, Poli
 fn statement_of(
     alloc: Global,
     bytes: &[u8],
-    net: &Net,
+    whole: &Whole<'_>,
     known: &Known<'_>,
     raw: &RawStatement,
 ) -> Result<Statement, PolicyFault>
-    ensures { Gives plain_statement result (statement_read bytes.now net.now (plain_names known.now) raw.now) }
+    ensures { Gives plain_statement result (statement_read bytes.now whole.now.net.now (plain_names known.now) raw.now) }
 {
     let patterns = patterns_of(alloc, bytes, raw.patterns.as_slice())?;
-    let ranked = ranked_of(alloc, bytes, net, known, raw.ranked.as_slice())?;
+    let ranked = ranked_of(alloc, bytes, whole, known, raw.ranked.as_slice())?;
     let from = from_set(bytes, known, &raw.from)?;
     Ok(Statement {
         patterns,
@@ -69,12 +70,13 @@ pub(crate) fn statements_of(
 ) -> Result<Vec<Statement>, PolicyFault>
     ensures { Gives (λ v. map plain_statement v.items) result (statements_read bytes.now net.now (plain_names known.now) [] items.now) }
 {
+    let whole = Whole::of(net);
     let mut statements = Vec::new(alloc);
     for item in items {
         let Item::State(raw) = item else {
             continue;
         };
-        statements.push(statement_of(alloc, bytes, net, known, raw)?)?;
+        statements.push(statement_of(alloc, bytes, &whole, known, raw)?)?;
     }
     Ok(statements)
 }
