@@ -9,7 +9,8 @@ ghost use Rattle.cut_search.specs.Left.{IsLeft, spares as is_spared};
 use crate::cuts::{spares, spares_at};
 use graph_base::Graph;
 use impact_law::Cut;
-use net_base::{List, Loc};
+use net_base::Loc;
+use node_list::NodeList;
 use std::alloc::{AllocError, Global};
 
 /// A search that has come some way: the nodes that are marked, and those of them whose steps it has not followed yet.
@@ -82,7 +83,7 @@ impl Search {
 pub(crate) fn nodes_left(
     alloc: Global,
     graph: &Graph,
-    lists: &[List<u32>],
+    lists: &[NodeList],
     cut: &Cut,
 ) -> Result<Vec<bool>, AllocError>
     requires size { length lists.now ≡ length graph.now.nodes }

@@ -13,7 +13,8 @@ use crate::best::{all_best, best_marked};
 use crate::search::nodes_left;
 use evidence_base::CaseEvidence;
 use impact_law::Cut;
-use net_base::{List, Net};
+use net_base::Net;
+use node_list::NodeList;
 use std::alloc::{AllocError, Global};
 
 /// At each router the node with the greatest number of those that are reached there where nothing fails.
@@ -35,7 +36,7 @@ pub fn cut_tops(
     alloc: Global,
     net: &Net,
     case: &CaseEvidence,
-    lists: &[List<u32>],
+    lists: &[NodeList],
     cut: &Cut,
 ) -> Result<Vec<Option<u32>>, AllocError>
     requires size { length lists.now ≡ length case.now.graph.nodes }

@@ -10,7 +10,8 @@ ghost use Rattle.graph_settling.specs.Offers.{AreLowest, AreOfNodes, is_lower};
 
 use graph_base::Graph;
 use net_base::limits::LOCATIONS;
-use net_base::{List, Loc, Net};
+use net_base::{Loc, Net};
+use node_list::NodeList;
 use outside::NoMemory;
 use std::alloc::{AllocError, Global};
 
@@ -119,7 +120,7 @@ pub fn lowest_offers(
     net: &Net,
     graph: &Graph,
     numbers: &[u32],
-    lists: &[List<u32>],
+    lists: &[NodeList],
     wanted: &[Option<u32>],
     front: &[u32],
 ) -> Result<Vec<Option<Offer>>, NoMemory>

@@ -7,13 +7,14 @@ ghost use Rattle.impact_report.specs.Paths.{leaves as is_left};
 use cut_search::spares;
 use evidence_base::CaseEvidence;
 use impact_law::Cut;
-use net_base::{List, Loc};
+use net_base::Loc;
+use node_list::NodeList;
 
 /// The graph of a case, with the nodes to which a step leads from each.
 #[derive(Drop)]
 pub struct Paths<'a> {
     pub case: &'a CaseEvidence,
-    pub lists: Vec<List<u32>>,
+    pub lists: Vec<NodeList>,
 }
 
 impl Paths<'_> {

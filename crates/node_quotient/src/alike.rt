@@ -3,7 +3,7 @@ ghost use Rattle.std.specs.Prelude.{◌≡◌, ◌<◌, ◌&&◌, All, length, n
 ghost use Rattle.std.specs.List.{find};
 ghost use Rattle.node_quotient.specs.Alike.{AreInside, are_alike, are_in_step, has_class as is_class_in, lacks_class as is_class_lacked};
 
-use net_base::List;
+use node_list::NodeList;
 
 /// Whether a node of the list is of this class.
 fn has_class(list: &[u32], least: &[u32], class: u32) -> bool
@@ -60,7 +60,7 @@ fn is_same_classes(list: &[u32], other: &[u32], least: &[u32]) -> bool
 }
 
 /// Whether two nodes are of one class and step to the same classes.
-fn is_alike(lists: &[List<u32>], least: &[u32], m: u32, n: u32) -> bool
+fn is_alike(lists: &[NodeList], least: &[u32], m: u32, n: u32) -> bool
     requires size { length lists.now ≡ length least.now }
     requires lists { AreInside lists.now (length least.now) }
     requires m { m < length least.now }
@@ -76,7 +76,7 @@ fn is_alike(lists: &[List<u32>], least: &[u32], m: u32, n: u32) -> bool
 }
 
 /// The first of these nodes that is alike.
-pub fn first_alike(nodes: &[u32], lists: &[List<u32>], least: &[u32], node: u32) -> Option<u32>
+pub fn first_alike(nodes: &[u32], lists: &[NodeList], least: &[u32], node: u32) -> Option<u32>
     requires size { length lists.now ≡ length least.now }
     requires lists { AreInside lists.now (length least.now) }
     requires nodes { All (λ m. m < length least.now) nodes.now }

@@ -2,12 +2,11 @@
 ghost use Rattle.std.specs.Prelude.{◌≡◌, ◌<◌, ◌≤◌, All, IfOk, length};
 ghost use Rattle.node_quotient.specs.Splits.{AreGroups};
 
-use net_base::List;
-use reach_prune::empty_lists;
+use node_list::{NodeList, empty_lists};
 use std::alloc::{AllocError, Global};
 
 /// For each number below a bound the nodes that have it as their key, in ascending order.
-pub fn grouped(alloc: Global, keys: &[u32], bound: usize) -> Result<Vec<List<u32>>, AllocError>
+pub fn grouped(alloc: Global, keys: &[u32], bound: usize) -> Result<Vec<NodeList>, AllocError>
     requires few { length keys.now ≤ 4294967000 }
     requires keys { All (λ k. k < bound) keys.now }
     ensures size { IfOk result (λ groups. length groups.items ≡ bound) }

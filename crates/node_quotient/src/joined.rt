@@ -12,14 +12,14 @@ use crate::first::first_classes;
 use crate::partition::split_classes;
 use crate::round::next_round;
 use graph_base::Graph;
-use net_base::List;
+use node_list::NodeList;
 use std::alloc::{AllocError, Global};
 
 /// For each node the least one that nothing tells apart from it, where `classes` are the first ones.
 pub fn settled_classes(
     alloc: Global,
     graph: &Graph,
-    lists: &[List<u32>],
+    lists: &[NodeList],
     classes: Vec<u32>,
 ) -> Result<Vec<u32>, AllocError>
     requires graph { IsGraph graph.now }
@@ -46,8 +46,8 @@ pub fn settled_classes(
 pub fn least_joined(
     alloc: Global,
     graph: &Graph,
-    lists: &[List<u32>],
-    before: &[List<u32>],
+    lists: &[NodeList],
+    before: &[NodeList],
 ) -> Result<Vec<u32>, AllocError>
     requires graph { IsGraph graph.now }
     requires single { HasSingleSteps graph.now }

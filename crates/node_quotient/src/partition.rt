@@ -11,14 +11,14 @@ ghost use Rattle.node_quotient.specs.Splits.{AreSplit, has_mark, is_hit};
 
 use crate::grouping::grouped;
 use graph_base::Graph;
-use net_base::List;
+use node_list::NodeList;
 use std::alloc::{AllocError, Global};
 
 /// Nodes in classes that bear the numbers of their least nodes, and the classes by which others are still to be split.
 #[derive(Drop)]
 struct Partition {
     classes: Vec<u32>,
-    members: Vec<List<u32>>,
+    members: Vec<NodeList>,
     waiting: Vec<u32>,
     waits: Vec<bool>,
     /// The last turn in which a class was looked at.
@@ -26,16 +26,11 @@ struct Partition {
 }
 
 /// The nodes of the list that are marked, or those that aren't.
-fn chosen(
-    alloc: Global,
-    list: &[u32],
-    marks: &[bool],
-    marked: bool,
-) -> Result<List<u32>, AllocError>
+fn chosen(alloc: Global, list: &[u32], marks: &[bool], marked: bool) -> Result<NodeList, AllocError>
     requires { All (λ n. n < length marks.now) list.now }
     ensures { IfOk result (λ chosen. chosen ≡ filter (has_mark marks.now marked) list.now) }
 {
-    let mut chosen = List::new(alloc);
+    let mut chosen = NodeList::new(alloc);
     for node in list {
         if marks[*node as usize] == marked {
             chosen.push(*node)?;
@@ -56,7 +51,7 @@ fn put(classes: &mut Vec<u32>, list: &[u32], class: u32)
 }
 
 /// The nodes that are listed for one of these.
-fn all_listed(alloc: Global, lists: &[List<u32>], nodes: &[u32]) -> Result<Vec<u32>, AllocError>
+fn all_listed(alloc: Global, lists: &[NodeList], nodes: &[u32]) -> Result<Vec<u32>, AllocError>
     requires { All (λ n. n < length lists.now) nodes.now }
     ensures { IfOk result (λ all. (m : ℕ) → is_among all.items m ≡ is_hit lists.now nodes.now m) }
 {
@@ -159,7 +154,7 @@ impl Partition {
     fn split_by(
         &mut self,
         alloc: Global,
-        before: &[List<u32>],
+        before: &[NodeList],
         marks: &mut Vec<bool>,
         class: u32,
         turn: u32,
@@ -194,7 +189,7 @@ impl Partition {
 pub fn split_classes(
     alloc: Global,
     graph: &Graph,
-    before: &[List<u32>],
+    before: &[NodeList],
     classes: Vec<u32>,
 ) -> Result<Vec<u32>, AllocError>
     requires graph { IsGraph graph.now }

@@ -3,12 +3,11 @@ ghost use Rattle.std.specs.Prelude.{◌≡◌, ◌<◌, ◌≤◌, ℕ, IfOk, le
 ghost use Rattle.node_quotient.specs.Alike.{AreFirst, AreInside, class_in};
 
 use crate::alike::first_alike;
-use net_base::List;
-use reach_prune::empty_lists;
+use node_list::{NodeList, empty_lists};
 use std::alloc::{AllocError, Global};
 
 /// For each node the first one that is alike.
-pub fn next_round(alloc: Global, lists: &[List<u32>], least: &[u32]) -> Result<Vec<u32>, AllocError>
+pub fn next_round(alloc: Global, lists: &[NodeList], least: &[u32]) -> Result<Vec<u32>, AllocError>
     requires size { length lists.now ≡ length least.now }
     requires few { length least.now ≤ 4294967000 }
     requires lists { AreInside lists.now (length least.now) }

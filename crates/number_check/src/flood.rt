@@ -3,7 +3,7 @@ ghost use Rattle.std.specs.Prelude.{◌≡◌, ◌==◌, ◌<◌, ◌≤◌, All
 ghost use Rattle.reach_prune.specs.Searches.{AreLists};
 ghost use Rattle.number_check.specs.Rows.{has_upto};
 
-use net_base::List;
+use node_list::NodeList;
 use std::alloc::{AllocError, Global};
 
 /// The numbers of the nodes that were come to, and those of these nodes whose neighbours weren't come to yet.
@@ -52,7 +52,7 @@ impl Flood {
     }
 
     /// Marks with a number what lists of neighbours lead to from a node and what has no mark yet.
-    pub fn spread(&mut self, lists: &[List<u32>], from: u32, number: u32) -> Result<(), AllocError>
+    pub fn spread(&mut self, lists: &[NodeList], from: u32, number: u32) -> Result<(), AllocError>
         requires lists { AreLists lists.now }
         requires from { from < length lists.now }
         requires settled { IsSettled lists.now number self.old }

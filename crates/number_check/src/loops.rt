@@ -15,6 +15,7 @@ use crate::low_row::LowRow;
 use crate::runs::{Numbered, in_order, nodes_of_routers};
 use graph_base::Graph;
 use net_base::{List, Net};
+use node_list::NodeList;
 use outside::NoMemory;
 use reach_prune::{Way, marked, neighbours};
 use std::alloc::{AllocError, Global};
@@ -30,11 +31,7 @@ fn is_less(low: Option<u32>, number: u32) -> bool
 }
 
 /// For each node the least number in a run of a node from which it is reached, or one that is less.
-fn lows(
-    alloc: Global,
-    lists: &[List<u32>],
-    run: &[Numbered],
-) -> Result<Vec<Option<u32>>, AllocError>
+fn lows(alloc: Global, lists: &[NodeList], run: &[Numbered]) -> Result<Vec<Option<u32>>, AllocError>
     requires lists { AreLists lists.now }
     requires nodes { All (λ x. x.node < length lists.now) run.now }
     requires order { IsAscending run.now }
@@ -102,7 +99,7 @@ fn mark_suspects_at(
     alloc: Global,
     graph: &Graph,
     numbers: &[u32],
-    lists: &[List<u32>],
+    lists: &[NodeList],
     at: usize,
     nodes: List<Numbered>,
     suspects: &mut Vec<bool>,
@@ -130,7 +127,7 @@ fn loop_suspects(
     net: &Net,
     graph: &Graph,
     numbers: &[u32],
-    lists: &[List<u32>],
+    lists: &[NodeList],
 ) -> Result<Vec<bool>, NoMemory>
     requires numbers { length numbers.now ≡ length graph.now.nodes }
     requires lists { AreNeighbours graph.now lists.now }
@@ -218,7 +215,7 @@ fn first_looped(
     net: &Net,
     graph: &Graph,
     numbers: &[u32],
-    lists: &[List<u32>],
+    lists: &[NodeList],
     node: u32,
 ) -> Result<Option<u32>, NoMemory>
     requires numbers { length numbers.now ≡ length graph.now.nodes }

@@ -11,6 +11,6 @@ mod trimming;
 
 pub use marking::marked;
 pub use reachable::{reach, rows_along};
-pub use steps::{Way, empty_lists, neighbours};
+pub use steps::{Way, neighbours};
 pub use table::Reach;
 pub use trimming::{kept, trim};

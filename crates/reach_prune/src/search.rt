@@ -2,7 +2,7 @@
 ghost use Rattle.std.specs.Prelude.{◌≡◌, ◌<◌, ◌==◌, ◌↔◌, All, ℕ, false, [], IfOk, OnOk, IsTrue, length, replicate, vec_len};
 ghost use Rattle.reach_prune.specs.Searches.{AreLists, IsReached, is_marked};
 
-use net_base::List;
+use node_list::NodeList;
 use std::alloc::{AllocError, Global};
 
 /// A search that has come some way: the nodes that are marked, and those of them whose neighbours it
@@ -52,7 +52,7 @@ impl Search {
 }
 
 /// Marks the nodes to which lists of neighbours lead from the first nodes, which are marked too.
-pub fn reached(alloc: Global, lists: &[List<u32>], first: &[u32]) -> Result<Vec<bool>, AllocError>
+pub fn reached(alloc: Global, lists: &[NodeList], first: &[u32]) -> Result<Vec<bool>, AllocError>
     requires lists { AreLists lists.now }
     requires first { All (λ n. n < length lists.now) first.now }
     ensures size { IfOk result (λ marks. vec_len marks ≡ length lists.now) }

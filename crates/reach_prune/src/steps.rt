@@ -1,12 +1,12 @@
 //! The neighbours of each node.
-ghost use Rattle.std.specs.Prelude.{◌≡◌, ◌<◌, ℕ, [], IfOk, length, replicate, vec_len};
+ghost use Rattle.std.specs.Prelude.{◌≡◌, ◌<◌, ℕ, IfOk, length};
 ghost use Rattle.reach_prune.specs.Searches.{AreLists, is_listed};
 ghost use Rattle.reach_prune.specs.Ways.{ends, nth, step_along};
 
 use graph_base::Graph;
-use net_base::List;
+use node_list::{NodeList, empty_lists};
 use outside::NoMemory;
-use std::alloc::{AllocError, Global};
+use std::alloc::Global;
 
 /// Which way steps are followed.
 #[derive(Clone, Copy)]
@@ -42,7 +42,7 @@ impl Way {
 }
 
 /// For each node those to which one step leads, forward or backward.
-pub fn neighbours(alloc: Global, graph: &Graph, way: Way) -> Result<Vec<List<u32>>, NoMemory>
+pub fn neighbours(alloc: Global, graph: &Graph, way: Way) -> Result<Vec<NodeList>, NoMemory>
     ensures size { IfOk result (λ lists. length lists.items ≡ length graph.now.nodes) }
     ensures lists { IfOk result (λ lists. AreLists lists.items) }
     ensures steps { IfOk result (λ lists. (a b : ℕ) → is_listed lists.items a b ≡ step_along way graph.now a b) }
@@ -51,17 +51,6 @@ pub fn neighbours(alloc: Global, graph: &Graph, way: Way) -> Result<Vec<List<u32
     for step in graph.steps() {
         let (node, neighbour) = way.ends(*step);
         lists[node as usize].push(neighbour)?;
-    }
-    Ok(lists)
-}
-
-/// So many lists without items.
-pub fn empty_lists(alloc: Global, size: usize) -> Result<Vec<List<u32>>, AllocError>
-    ensures { IfOk result (λ lists. lists.items ≡ replicate size []) }
-{
-    let mut lists = Vec::new(alloc);
-    for _ in 0..size {
-        lists.push(List::new(alloc))?;
     }
     Ok(lists)
 }

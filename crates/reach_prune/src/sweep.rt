@@ -6,7 +6,7 @@ ghost use Rattle.reach_prune.specs.Sweeps.{Comes, Swept};
 
 use crate::steps::Way;
 use bit_rows::Rows;
-use net_base::List;
+use node_list::NodeList;
 use outside::NoMemory;
 use std::alloc::{AllocError, Global};
 
@@ -19,7 +19,7 @@ pub struct Sweep {
 
 impl Sweep {
     /// A sweep of so many nodes, before the first search.
-    pub fn new(alloc: Global, lists: &[List<u32>]) -> Result<Sweep, NoMemory>
+    pub fn new(alloc: Global, lists: &[NodeList]) -> Result<Sweep, NoMemory>
         requires { length lists.now ≤ 4294967000 }
         ensures { IfOk result (λ s. (way : Way) → Swept way lists.now 0 s) }
     {
@@ -50,7 +50,7 @@ impl Sweep {
     }
 
     /// Searches from the next node of the order.
-    pub fn search(&mut self, way: Way, lists: &[List<u32>], place: u32) -> Result<(), AllocError>
+    pub fn search(&mut self, way: Way, lists: &[NodeList], place: u32) -> Result<(), AllocError>
         requires lists { AreLists lists.now }
         requires few { length lists.now ≤ 4294967000 }
         requires place { place < length lists.now }

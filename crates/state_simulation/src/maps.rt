@@ -7,16 +7,16 @@ ghost use Rattle.state_simulation.specs.Looked.{AreMaps, IsOrder};
 use crate::grouping::grouped;
 use crate::ordering::by_location;
 use graph_base::Graph;
-use net_base::List;
+use node_list::NodeList;
 use std::alloc::{AllocError, Global};
 
 /// A graph, with the nodes to which each node steps, those that step to it, and those of each location.
 #[derive(Drop)]
 pub struct Maps<'a> {
     graph: &'a Graph,
-    successors: Vec<List<u32>>,
-    before: Vec<List<u32>>,
-    peers: Vec<List<u32>>,
+    successors: Vec<NodeList>,
+    before: Vec<NodeList>,
+    peers: Vec<NodeList>,
     order: Vec<u32>,
     ghost are: { AreMaps graph.now successors.items before.items peers.items },
     ghost ordered: { IsOrder graph.now order.items },
