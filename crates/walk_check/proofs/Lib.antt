@@ -4,6 +4,7 @@ pub mod Followed
 pub mod Unions
 pub mod FormedParts
 pub mod KeysSeen
+pub mod KeysAscend
 pub mod ReachedNodes
 pub mod AlikeWalks
 pub mod RankWalks

@@ -4,6 +4,7 @@ ghost use Rattle.std.specs.List.{IsDistinct, list_any};
 ghost use Rattle.graph_base.specs.Rules.{same_pair};
 ghost use Rattle.graph_base.specs.Runs.{place_of};
 ghost use Rattle.walk_check.specs.Alike.{IsSingleStepped};
+ghost use Rattle.walk_check.specs.Keys.{is_before};
 
 use graph_base::Graph;
 use indexmap::IndexSet;
@@ -41,8 +42,27 @@ fn note(seen: &mut IndexSet<(u32, Loc)>, key: (u32, Loc)) -> Result<bool, NoMemo
     Ok(seen.insert(key)?)
 }
 
-/// Whether no key stands twice.
-fn are_distinct(alloc: Global, keys: &[(u32, Loc)]) -> Result<bool, NoMemory>
+/// Whether one key comes before another.
+fn comes_before(one: (u32, Loc), other: (u32, Loc)) -> bool
+    ensures { result ≡ is_before one other }
+{
+    one.0 < other.0 || (one.0 == other.0 && one.1 < other.1)
+}
+
+/// Whether each key comes before the next one, as those of a graph do whose steps are in order. Then none stands twice.
+fn ascend(keys: &[(u32, Loc)]) -> bool
+    ensures { IsTrue result → IsDistinct same_pair keys.now }
+{
+    for place in 1..keys.len() {
+        if !comes_before(keys[place - 1], keys[place]) {
+            return false;
+        }
+    }
+    true
+}
+
+/// Whether no key stands twice, by looking each one up among those before it.
+fn are_all_new(alloc: Global, keys: &[(u32, Loc)]) -> Result<bool, NoMemory>
     ensures { IfOk result (λ b. IsTrue b ↔ IsDistinct same_pair keys.now) }
 {
     let mut seen = IndexSet::new(alloc);
@@ -52,6 +72,16 @@ fn are_distinct(alloc: Global, keys: &[(u32, Loc)]) -> Result<bool, NoMemory>
         }
     }
     Ok(true)
+}
+
+/// Whether no key stands twice. Where they are in order none is looked up.
+fn are_distinct(alloc: Global, keys: &[(u32, Loc)]) -> Result<bool, NoMemory>
+    ensures { IfOk result (λ b. IsTrue b ↔ IsDistinct same_pair keys.now) }
+{
+    if ascend(keys) {
+        return Ok(true);
+    }
+    are_all_new(alloc, keys)
 }
 
 /// Whether there is at most one start at a location, and at most one step from a node to a location, as `alike` and `walks` ask.

@@ -3,7 +3,7 @@ use Rattle.std.specs.List.{list_any}
 use Rattle.std.proofs.lemmas.Bool.{false≢true, not-false, not-true}
 use Rattle.graph_base.specs.Rules.{same_pair}
 use Rattle.walk_check.proofs.KeysSeen.{apart_next, next_keys, stands_twice}
-use Rattle.walk_check.proofs.distinct.are_distinct.Goals as goal
+use Rattle.walk_check.proofs.distinct.are_all_new.Goals as goal
 
 pub returns-then-not-branch : goal.returns-then-not-branch
 returns-then-not-branch c =

@@ -1,7 +1,7 @@
 use Rattle.std.proofs.Common.{◌≡◌, take}
 use Rattle.std.specs.List.{IsDistinct}
 use Rattle.graph_base.specs.Rules.{same_pair}
-use Rattle.walk_check.proofs.distinct.are_distinct.Given as goal
+use Rattle.walk_check.proofs.distinct.are_all_new.Given as goal
 
 abbrev pub invariant-loop-key : goal.invariant-loop-key
 invariant-loop-key l = record {
