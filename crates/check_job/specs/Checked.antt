@@ -7,12 +7,18 @@ use Rattle.evidence_base.specs.Made.{PlainCaseEvidence}
 use Rattle.evidence_rules.specs.declared.verdict.Verdict.{Verdict}
 use Rattle.evidence_rules.specs.Verdicts.{IsVerdict}
 use Rattle.run_base.specs.Said.{Said}
-use Rattle.input_texts.specs.Texts.{OfAllTexts, OfPairTexts}
+use Rattle.config_reader.specs.Text.{spelled as config_spelled}
+use Rattle.input_texts.specs.FaultLines.{config_line}
+use Rattle.input_texts.specs.Texts.{OfAllTexts, OfPairTexts, OfRead}
 use Rattle.check_job.specs.VerdictLines.{verdict_said}
 
 -- that the evidence holds, or the first rule that fails
 abbrev pub SaysOfPair : PlainNet → PlainPolicy → PlainConfig → List PlainCaseEvidence → Said → Type 0
 SaysOfPair net policy config evidence what = (verdict : Verdict) × IsVerdict net policy config evidence verdict × (what ≡ verdict_said verdict)
+
+-- The configuration is read; and what follows from it with evidence is said, or its fault.
+abbrev pub OfConfigText : (PlainConfig → List PlainCaseEvidence → Said → Type 0) → List ℕ → List PlainCaseEvidence → Said → Type 0
+OfConfigText Next config_text evidence what = OfRead config_line (config_spelled config_text) (λ config. Next config evidence) what
 
 -- what is said of the texts of a configuration and of evidence, for a network and a policy
 abbrev pub SaysOfPolicy : List ℕ → List ℕ → PlainNet → PlainPolicy → Said → Type 0

@@ -1,40 +1,80 @@
 //! The command `check`.
-ghost use Rattle.std.specs.Prelude.{◌<◌, length};
+ghost use Rattle.std.specs.Prelude.{◌≡◌, ◌<◌, length};
 ghost use Rattle.path_words.specs.Policies.{policy_of};
 ghost use Rattle.case_law.specs.Cases.{OriginsAreRouters};
 ghost use Rattle.run_base.specs.Said.{IsGiven, said};
 ghost use Rattle.input_texts.specs.Texts.{OfTexts, OfPairTexts};
-ghost use Rattle.check_job.specs.Checked.{SaysOfPair, SaysOfPolicy};
+ghost use Rattle.evidence_rules.specs.declared.rule.CheckRule.TheVariants.{ConfigDiffers};
+ghost use Rattle.evidence_rules.specs.Verdicts.{KeepsBefore};
+ghost use Rattle.check_job.specs.Checked.{OfConfigText, SaysOfPair, SaysOfPolicy};
+ghost use Rattle.check_job.specs.VerdictLines.{verdict_said};
 
 use crate::verdict_lines::{fails_line, holds_line};
-use config_base::Config;
-use evidence_base::Evidence;
-use evidence_check::check as check_evidence;
-use evidence_rules::Verdict;
+use evidence_base::CaseEvidence;
+use evidence_check::{config_fault, evidence_fault, is_made_text};
+use evidence_rules::{CheckRule, Verdict};
 use input_texts::{config_for, evidence_for, net_of, policy_for};
 use net_base::Net;
 use path_words::Policy;
 use run_base::Stop;
 use std::alloc::Global;
 
-// What the configuration and its evidence come to.
-fn verdict_text(
-    alloc: Global,
-    net: &Net,
-    policy: &Policy,
-    config: &Config,
-    evidence: &Evidence,
-) -> Result<Vec<u8>, Stop>
-    requires { OriginsAreRouters net.now policy.now.origins }
-    ensures { IsGiven (SaysOfPair net.now (policy_of policy.now) config.now evidence.now.cases) (said result) }
+// What a verdict comes to.
+fn verdict_text(alloc: Global, verdict: Verdict) -> Result<Vec<u8>, Stop>
+    ensures { IsGiven (λ what. what ≡ verdict_said verdict) (said result) }
 {
-    match check_evidence(alloc, net, policy, config, evidence)? {
+    match verdict {
         Verdict::Holds => Ok(holds_line(alloc)?),
         Verdict::Fails(rule, shown) => Err(Stop::Failing(fails_line(alloc, rule, shown)?)),
     }
 }
 
-// What the texts of a configuration and of evidence come to.
+// What the text of a configuration comes to with evidence that keeps all rules on it alone. Nearly always it is the text of the
+// configuration that is made of the evidence; then it isn't read.
+fn config_verdict(
+    alloc: Global,
+    net: &Net,
+    policy: &Policy,
+    config: &[u8],
+    evidence: &[CaseEvidence],
+) -> Result<Vec<u8>, Stop>
+    requires kept { KeepsBefore ConfigDiffers net.now (policy_of policy.now) evidence.now }
+    requires short { length config.now < 4294967295 }
+    ensures { IsGiven (OfConfigText (SaysOfPair net.now (policy_of policy.now)) config.now evidence.now) (said result) }
+{
+    if is_made_text(alloc, net, policy, config, evidence)? {
+        return verdict_text(alloc, Verdict::Holds);
+    }
+    let config = config_for(alloc, config)?;
+    match config_fault(alloc, net, policy, &config, evidence)? {
+        Some(shown) => verdict_text(alloc, Verdict::Fails(CheckRule::ConfigDiffers, shown)),
+        None => verdict_text(alloc, Verdict::Holds),
+    }
+}
+
+// What the text of a configuration comes to with evidence.
+fn judged_text(
+    alloc: Global,
+    net: &Net,
+    policy: &Policy,
+    config: &[u8],
+    evidence: &[CaseEvidence],
+) -> Result<Vec<u8>, Stop>
+    requires routers { OriginsAreRouters net.now policy.now.origins }
+    requires short { length config.now < 4294967295 }
+    ensures { IsGiven (OfConfigText (SaysOfPair net.now (policy_of policy.now)) config.now evidence.now) (said result) }
+{
+    match evidence_fault(alloc, net, policy, evidence)? {
+        Some(verdict) => {
+            let _config = config_for(alloc, config)?;
+            verdict_text(alloc, verdict)
+        }
+        None => config_verdict(alloc, net, policy, config, evidence),
+    }
+}
+
+// What the texts of a configuration and of evidence come to. The evidence is read first, since the configuration mostly needn't
+// be read; but a fault of the configuration is told before one of the evidence.
 #[tactic(auto, unfolding(input_texts::specs::Texts::OfPairTexts))]
 fn pair_text(
     alloc: Global,
@@ -47,9 +87,13 @@ fn pair_text(
     requires short { length config.now < 4294967295 }
     ensures { IsGiven (OfPairTexts (SaysOfPair net.now (policy_of policy.now)) config.now evidence.now) (said result) }
 {
-    let config = config_for(alloc, config)?;
-    let evidence = evidence_for(alloc, evidence)?;
-    verdict_text(alloc, net, policy, &config, &evidence)
+    match evidence_for(alloc, evidence) {
+        Ok(evidence) => judged_text(alloc, net, policy, config, evidence.cases.as_slice()),
+        Err(stop) => {
+            let _config = config_for(alloc, config)?;
+            Err(stop)
+        }
+    }
 }
 
 /// What the texts of a topology, of a policy, of a configuration and of evidence come to: that the evidence holds, or why the run

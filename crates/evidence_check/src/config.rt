@@ -1,6 +1,8 @@
 //! The rule of the configuration.
-ghost use Rattle.std.specs.Prelude.{◌<◌, IfOk, MatchOption};
+ghost use Rattle.std.specs.Prelude.{◌≡◌, ◌<◌, ◌↔◌, IfOk, IsTrue, MatchOption};
 ghost use Rattle.path_words.specs.Policies.{policy_of};
+ghost use Rattle.config_base.specs.Configs.{PlainConfig};
+ghost use Rattle.config_text.specs.Spelled.{Spells};
 ghost use Rattle.evidence_base.specs.Made.{IsConfigOf};
 ghost use Rattle.evidence_rules.specs.declared.rule.CheckRule.TheVariants.{ConfigDiffers};
 ghost use Rattle.evidence_rules.specs.Verdicts.{IsConfigFault, KeepsBefore};
@@ -45,4 +47,29 @@ pub fn config_fault(
         second: 0,
         line,
     }))
+}
+
+// Whether two texts are the same.
+fn is_same_text(one: &[u8], other: &[u8]) -> bool
+    ensures { IsTrue result ↔ one.now ≡ other.now }
+{
+    one == other
+}
+
+/// Whether the text is that of the configuration that is made of the evidence, which keeps all other rules. Nothing of the text
+/// is read for it: the configuration is made and printed, and the texts are compared.
+pub fn is_made_text(
+    alloc: Global,
+    net: &Net,
+    policy: &Policy,
+    text: &[u8],
+    evidence: &[CaseEvidence],
+) -> Result<bool, NoMemory>
+    requires { KeepsBefore ConfigDiffers net.now (policy_of policy.now) evidence.now }
+    ensures { IfOk result (λ made. IsTrue made ↔ (config : PlainConfig) × Spells text.now config × IsConfigOf net.now (policy_of policy.now) evidence.now config) }
+{
+    known_policy(policy);
+    let made = config_of(alloc, net, policy, evidence)?;
+    let wanted = print_config(alloc, &made)?;
+    Ok(is_same_text(&wanted, text))
 }

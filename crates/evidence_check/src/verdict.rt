@@ -1,10 +1,11 @@
 //! The verdict.
-ghost use Rattle.std.specs.Prelude.{◌≡◌, IfOk};
+ghost use Rattle.std.specs.Prelude.{◌≡◌, IfOk, MatchOption};
+ghost use Rattle.config_base.specs.Configs.{PlainConfig};
 ghost use Rattle.path_words.specs.Policies.{policy_of};
 ghost use Rattle.case_law.specs.Cases.{OriginsAreRouters};
-ghost use Rattle.evidence_rules.specs.declared.rule.CheckRule.TheVariants.{Tags};
+ghost use Rattle.evidence_rules.specs.declared.rule.CheckRule.TheVariants.{ConfigDiffers, Tags};
 ghost use Rattle.evidence_rules.specs.declared.verdict.Verdict.TheVariants.{Fails};
-ghost use Rattle.evidence_rules.specs.Verdicts.{IsVerdict};
+ghost use Rattle.evidence_rules.specs.Verdicts.{IsVerdict, KeepsBefore};
 
 use crate::cases::{CaseFault, cases_fault};
 use crate::config::config_fault;
@@ -45,6 +46,28 @@ fn of_tag(at: CaseNode) -> Verdict
     )
 }
 
+/// The first rule that fails of those that are asked of the evidence alone, which are all but that of the configuration, and
+/// where it does: that is the verdict with every configuration. None where they all hold.
+pub fn evidence_fault(
+    alloc: Global,
+    net: &Net,
+    policy: &Policy,
+    evidence: &[CaseEvidence],
+) -> Result<Option<Verdict>, NoMemory>
+    requires { OriginsAreRouters net.now policy.now.origins }
+    ensures { IfOk result (λ o. MatchOption o (KeepsBefore ConfigDiffers net.now (policy_of policy.now) evidence.now)
+        (λ verdict. (config : PlainConfig) → IsVerdict net.now (policy_of policy.now) config evidence.now verdict)) }
+{
+    let list = cases(alloc, net, policy)?;
+    if let Some(found) = cases_fault(alloc, net, policy, list.cases.as_slice(), evidence)? {
+        return Ok(Some(of_case(found)));
+    }
+    if let Some(at) = tag_fault(alloc, net, evidence)? {
+        return Ok(Some(of_tag(at)));
+    }
+    Ok(None)
+}
+
 /// The verdict on a configuration with the evidence of these cases.
 fn verdict_on(
     alloc: Global,
@@ -56,12 +79,8 @@ fn verdict_on(
     requires { OriginsAreRouters net.now policy.now.origins }
     ensures { IfOk result (IsVerdict net.now (policy_of policy.now) config.now evidence.now) }
 {
-    let list = cases(alloc, net, policy)?;
-    if let Some(found) = cases_fault(alloc, net, policy, list.cases.as_slice(), evidence)? {
-        return Ok(of_case(found));
-    }
-    if let Some(at) = tag_fault(alloc, net, evidence)? {
-        return Ok(of_tag(at));
+    if let Some(verdict) = evidence_fault(alloc, net, policy, evidence)? {
+        return Ok(verdict);
     }
     if let Some(shown) = config_fault(alloc, net, policy, config, evidence)? {
         return Ok(Verdict::Fails(CheckRule::ConfigDiffers, shown));
