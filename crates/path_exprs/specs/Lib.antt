@@ -12,3 +12,5 @@ pub mod Total
 pub mod Alike
 pub mod Forward
 pub mod Standings
+pub mod Parts
+pub mod Shared

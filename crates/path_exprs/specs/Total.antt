@@ -2,12 +2,15 @@
 use Rattle.std.proofs.Common.{◌≡◌, ℕ, List, [], ◌∷◌, refl, sym, ap, subst, ◌∙◌}
 use Rattle.std.specs.Cmp.{IsTotalOrder}
 use Rattle.std.specs.declared.cmp.Ordering.TheVariants.{Equal}
+use Rattle.std.specs.Coded.{Coded, coded_list, coded_ℕ}
+use base.Stored.{coded_via}
 use Rattle.std.specs.Ordering.{nat_cmp, ordering_then, on}
 use Rattle.std.specs.Cmp.Lexicographic.{slice_cmp}
 use Rattle.std.proofs.lemmas.Cmp.{nat_list_cmp_total, on_total, tied_itself}
 use Rattle.list_laws.proofs.Orders.{ordering_then-last, ordering_then_assoc}
 use Rattle.path_exprs.specs.Expression.{Expression, never, empty, set, seq, either, both, complement, star, Expressions, none, more}
 use Rattle.path_exprs.specs.Order.{compare, compare_lists}
+use Rattle.path_exprs.specs.Ordered.{compare-equal}
 
 abbrev spell_words : List ℕ → List ℕ → List ℕ
 spell_words [] t = 0 ∷ t
@@ -66,3 +69,11 @@ compare_total =
 
 pub compare_itself : (e : Expression) → compare e e ≡ Equal
 compare_itself e = tied_itself compare_total e
+
+-- expressions with one spelling are equal
+pub spell_same : (e f : Expression) → spell e [] ≡ spell f [] → e ≡ f
+spell_same e f same = compare-equal e f (sym (spelling-cmp e f) ∙ ap (λ s. slice_cmp nat_cmp s (spell f [])) same ∙ spelling-cmp f f ∙ compare_itself f)
+
+-- the code of an expression is that of its spelling
+abbrev pub coded_expression : Coded Expression
+coded_expression = coded_via (coded_list coded_ℕ) (λ e. spell e []) spell_same
