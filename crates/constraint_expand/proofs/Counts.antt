@@ -7,9 +7,8 @@ use Rattle.net_base.specs.Network.{PlainNet}
 use Rattle.path_words.specs.Meaning.{alternative_count}
 use Rattle.path_words.specs.Policies.{Ranking, call, calls, prefer, either, both, negated}
 use Rattle.path_exprs.specs.Expression.{Expression}
-use Rattle.path_exprs.specs.View.{view, views}
-use Rattle.path_exprs.specs.declared.expr.Expr.{Expr}
 use Rattle.path_exprs.specs.Forward.{both_of_two, expressions, forward}
+use Rattle.path_exprs.specs.Parts.{at}
 
 length-rows : (es fs : List Expression) → length (flat_map (λ e. map (both_of_two e) fs) es) ≡ length es * length fs
 length-rows [] fs = omega arith
@@ -25,6 +24,6 @@ length-expressions net (both a b) = length-rows (expressions net a) (expressions
 length-expressions net (either a b) = refl
 length-expressions net (negated a) = refl
 
--- as many values as expressions, where there are few
-pub few : (net : PlainNet) (r : Ranking) (es : List Expr) (count : ℕ) → views es ≡ expressions net r → count ≡ min (alternative_count r) (2 ^ 64 - 1) → count ≤ 64 → length es ≤ 64
-few net r es count is counted small = omega (arith, sym (length-map es view) ∙ ap length is ∙ length-expressions net r, counted)
+-- as many numbers as expressions, where there are few
+pub few : (net : PlainNet) (r : Ranking) (vs : List Expression) (ns : List ℕ) (count : ℕ) → map (at vs) ns ≡ expressions net r → count ≡ min (alternative_count r) (2 ^ 64 - 1) → count ≤ 64 → length ns ≤ 64
+few net r vs ns count is counted small = omega (arith, sym (length-map ns (at vs)) ∙ ap length is ∙ length-expressions net r, counted)

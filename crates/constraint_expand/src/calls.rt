@@ -1,10 +1,10 @@
 //! The expressions of calls.
-ghost use Rattle.std.specs.Prelude.{◌≡◌, IfOk, map};
+ghost use Rattle.std.specs.Prelude.{◌≡◌, IfOk};
 ghost use Rattle.path_exprs.specs.Expression.{Expression};
 ghost use Rattle.path_exprs.specs.Normal.{all};
-ghost use Rattle.path_exprs.specs.View.{view, views};
+ghost use Rattle.path_exprs.specs.View.{view};
 ghost use Rattle.path_words.specs.declared.clause.Clause.TheVariants.{Avoid, Exit, Enter};
-ghost use Rattle.path_exprs.specs.Forward.{forward as forward_of, in_turn as in_turn_of, either_of_two as either_of, both_of_two as both_of};
+ghost use Rattle.path_exprs.specs.Forward.{forward as forward_of, in_turn as in_turn_of, either_of_two as either_of};
 
 use net_base::{LocSet, Net};
 use path_exprs::Expr;
@@ -30,13 +30,6 @@ fn either(alloc: Global, a: Expr, b: Expr) -> Result<Expr, AllocError>
     ensures { IfOk result (λ r. view r ≡ either_of (view a) (view b)) }
 {
     Ok(Expr::Either(vec![in alloc; a, b]?))
-}
-
-/// Both of two.
-pub fn both(alloc: Global, a: Expr, b: Expr) -> Result<Expr, AllocError>
-    ensures { IfOk result (λ r. view r ≡ both_of (view a) (view b)) }
-{
-    Ok(Expr::Both(vec![in alloc; a, b]?))
 }
 
 /// Any number of locations of the net outside the set.
@@ -115,15 +108,4 @@ fn in_turn(alloc: Global, sets: &[LocSet]) -> Result<Expr, AllocError>
             Ok(seq(alloc, Expr::Set(*first), back)?)
         }
     }
-}
-
-/// The expressions of calls.
-pub fn forward_each(alloc: Global, net: &Net, calls: &[Clause]) -> Result<Vec<Expr>, AllocError>
-    ensures { IfOk result (λ r. views r.items ≡ map (forward_of net.now) calls.now) }
-{
-    let mut all = Vec::new(alloc);
-    for call in calls {
-        all.push(forward(alloc, net, call)?)?;
-    }
-    Ok(all)
 }

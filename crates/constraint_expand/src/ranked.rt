@@ -1,97 +1,121 @@
 //! The expressions of ranked expressions.
-ghost use Rattle.std.specs.Prelude.{◌≡◌, ◌<◌, ◌≤◌, ◌-◌, ◌^◌, ◌++◌, min, map, Err, IfOk, OnOk, MatchResult};
+ghost use Rattle.std.specs.Prelude.{◌≡◌, ◌<◌, ◌≤◌, ◌-◌, ◌^◌, ◌∷◌, [], length, min, map, true, Err, IfOk, MatchResult};
 ghost use Rattle.std.specs.List.{flat_map};
 ghost use Rattle.path_words.specs.Meaning.{alternative_count};
 ghost use Rattle.path_words.specs.Policies.{ranking_of};
-ghost use Rattle.path_exprs.specs.View.{view, views};
-ghost use Rattle.path_exprs.specs.Forward.{both_of_two, expressions};
+ghost use Rattle.path_exprs.specs.Forward.{both_of_two, expressions, forward as forward_of};
+ghost use Rattle.path_exprs.specs.Parts.{are_known, at, expression_of, is_earlier, Puts};
+ghost use Rattle.path_exprs.specs.Shared.{values};
 ghost use Rattle.constraint_expand.specs.declared.fault.ExpandFault.TheVariants.{NoMemory, TooManyRanks};
 
-use crate::calls::{both, forward, forward_each};
+use crate::calls::forward;
 use crate::fault::ExpandFault;
+use net_base::Net;
 use net_base::limits::ALTERNATIVES;
-use net_base::{List, Net};
-use path_exprs::{Expr, RankedExpr, copy_of};
-use path_words::{Ranked, alternatives};
+use path_exprs::{Part, Parts, RankedExpr};
+use path_words::{Clause, Ranked, alternatives};
 use std::alloc::{AllocError, Global};
 
+/// The number of a part that is put behind the others, alone.
+fn alone(alloc: Global, parts: &mut Parts, part: Part) -> Result<Vec<usize>, AllocError>
+    requires earlier { is_earlier (length (values parts.old)) part ≡ true }
+    ensures { IfOk result (λ r. Puts (values parts.old) (values parts.new) r.items (expression_of (values parts.old) part ∷ [])) }
+{
+    let number = parts.add(part)?;
+    Ok(vec![in alloc; number]?)
+}
+
+/// The expressions of calls.
+fn forward_each(
+    alloc: Global,
+    parts: &mut Parts,
+    net: &Net,
+    calls: &[Clause],
+) -> Result<Vec<usize>, AllocError>
+    ensures { IfOk result (λ r. Puts (values parts.old) (values parts.new) r.items (map (forward_of net.now) calls.now)) }
+{
+    let mut all = Vec::new(alloc);
+    for i in 0..calls.len() {
+        let call = forward(alloc, net, &calls[i])?;
+        all.push(parts.add(Part::Own(call))?)?;
+    }
+    Ok(all)
+}
+
 /// The first with each of the second.
-fn add_row(alloc: Global, e: &Expr, fs: &[Expr], all: &mut Vec<Expr>) -> Result<(), AllocError>
-    ensures { OnOk result (views all.new.items ≡ views all.old.items ++ map (both_of_two (view e.now)) (views fs.now)) }
-{
-    for f in fs {
-        let first = copy_of(alloc, e)?;
-        let second = copy_of(alloc, f)?;
-        all.push(both(alloc, first, second)?)?;
-    }
-    Ok(())
-}
-
-/// Each of the first with each of the second. Where the second is one, as a call mostly is, the first aren't copied: in a chain
-/// of `and`s they hold all that stands before.
-fn pairs_of(alloc: Global, es: Vec<Expr>, fs: Vec<Expr>) -> Result<Vec<Expr>, AllocError>
-    ensures { IfOk result (λ r. views r.items ≡ flat_map (λ e. map (both_of_two e) (views fs.items)) (views es.items)) }
-{
-    match fs.as_slice() {
-        [f] => each_with(alloc, es, f),
-        _ => rows_of(alloc, &es, &fs),
-    }
-}
-
-/// Each of them with one other.
-fn each_with(alloc: Global, es: Vec<Expr>, f: &Expr) -> Result<Vec<Expr>, AllocError>
-    ensures { IfOk result (λ r. views r.items ≡ map (λ e. both_of_two e (view f.now)) (views es.items)) }
+fn row_of(
+    alloc: Global,
+    parts: &mut Parts,
+    e: usize,
+    fs: &[usize],
+) -> Result<Vec<usize>, AllocError>
+    requires first { e < length (values parts.old) }
+    requires second { are_known (length (values parts.old)) fs.now ≡ true }
+    ensures { IfOk result (λ r. Puts (values parts.old) (values parts.new) r.items (map (both_of_two (at (values parts.old) e)) (map (at (values parts.old)) fs.now))) }
 {
     let mut all = Vec::new(alloc);
-    for e in es {
-        let other = copy_of(alloc, f)?;
-        all.push(both(alloc, e, other)?)?;
+    for i in 0..fs.len() {
+        all.push(parts.add(Part::Both(e, fs[i]))?)?;
     }
     Ok(all)
 }
 
-/// Each of the first with each of the second, which are copied.
-fn rows_of(alloc: Global, es: &[Expr], fs: &[Expr]) -> Result<Vec<Expr>, AllocError>
-    ensures { IfOk result (λ r. views r.items ≡ flat_map (λ e. map (both_of_two e) (views fs.now)) (views es.now)) }
+/// Each of the first with each of the second.
+fn pairs_of(
+    alloc: Global,
+    parts: &mut Parts,
+    es: &[usize],
+    fs: &[usize],
+) -> Result<Vec<usize>, AllocError>
+    requires first { are_known (length (values parts.old)) es.now ≡ true }
+    requires second { are_known (length (values parts.old)) fs.now ≡ true }
+    ensures { IfOk result (λ r. Puts (values parts.old) (values parts.new) r.items
+        (flat_map (λ e. map (both_of_two e) (map (at (values parts.old)) fs.now)) (map (at (values parts.old)) es.now))) }
 {
     let mut all = Vec::new(alloc);
-    for e in es {
-        add_row(alloc, e, fs, &mut all)?;
+    for i in 0..es.len() {
+        let mut row = row_of(alloc, parts, es[i], fs)?;
+        all.append(&mut row)?;
     }
     Ok(all)
 }
 
-/// The expressions of the alternatives.
-fn expressions_in_order(alloc: Global, ranked: &Ranked, net: &Net) -> Result<Vec<Expr>, AllocError>
-    ensures { IfOk result (λ r. views r.items ≡ expressions net.now (ranking_of ranked.now)) }
+/// The expressions of the alternatives, by their numbers among the parts.
+fn expressions_in_order(
+    alloc: Global,
+    parts: &mut Parts,
+    ranked: &Ranked,
+    net: &Net,
+) -> Result<Vec<usize>, AllocError>
+    ensures { IfOk result (λ r. Puts (values parts.old) (values parts.new) r.items (expressions net.now (ranking_of ranked.now))) }
 {
     match ranked {
         Ranked::Call(call) => {
             let only = forward(alloc, net, call)?;
-            Ok(vec![in alloc; only]?)
+            alone(alloc, parts, Part::Own(only))
         }
-        Ranked::Calls(calls) => Ok(forward_each(alloc, net, calls.as_slice())?),
+        Ranked::Calls(calls) => forward_each(alloc, parts, net, calls.as_slice()),
         Ranked::Prefer(a, b) => {
-            let mut first = expressions_in_order(alloc, a, net)?;
-            let mut second = expressions_in_order(alloc, b, net)?;
+            let mut first = expressions_in_order(alloc, parts, a, net)?;
+            let mut second = expressions_in_order(alloc, parts, b, net)?;
             first.append(&mut second)?;
             Ok(first)
         }
         Ranked::Or(a, b) => {
-            let mut first = expressions_in_order(alloc, a, net)?;
-            let mut second = expressions_in_order(alloc, b, net)?;
+            let mut first = expressions_in_order(alloc, parts, a, net)?;
+            let mut second = expressions_in_order(alloc, parts, b, net)?;
             first.append(&mut second)?;
-            Ok(vec![in alloc; Expr::Either(first)]?)
+            alone(alloc, parts, Part::Either(first))
         }
         Ranked::And(a, b) => {
-            let first = expressions_in_order(alloc, a, net)?;
-            let second = expressions_in_order(alloc, b, net)?;
-            Ok(pairs_of(alloc, first, second)?)
+            let first = expressions_in_order(alloc, parts, a, net)?;
+            let second = expressions_in_order(alloc, parts, b, net)?;
+            pairs_of(alloc, parts, &first, &second)
         }
         Ranked::Not(a) => {
-            let inner = Expr::Either(expressions_in_order(alloc, a, net)?);
-            let only = Expr::Not(Box::new(alloc, inner)?);
-            Ok(vec![in alloc; only]?)
+            let all = expressions_in_order(alloc, parts, a, net)?;
+            let some = parts.add(Part::Either(all))?;
+            alone(alloc, parts, Part::Not(some))
         }
     }
 }
@@ -103,12 +127,13 @@ pub fn expand(alloc: Global, ranked: &Ranked, net: &Net) -> Result<RankedExpr, E
     ensures too_many { ALTERNATIVES < alternative_count (ranking_of ranked.now)
         → result ≡ Err (TooManyRanks (min (alternative_count (ranking_of ranked.now)) (2 ^ 64 - 1))) }
     ensures expanded { alternative_count (ranking_of ranked.now) ≤ ALTERNATIVES
-        → MatchResult result (λ r. views r ≡ expressions net.now (ranking_of ranked.now)) (λ e. e ≡ NoMemory) }
+        → MatchResult result (λ r. r ≡ expressions net.now (ranking_of ranked.now)) (λ e. e ≡ NoMemory) }
 {
     let count = alternatives(ranked);
     if count > ALTERNATIVES {
         return Err(ExpandFault::TooManyRanks(count));
     }
-    let all = expressions_in_order(alloc, ranked, net)?;
-    Ok(RankedExpr::new(List::from_vec(all)))
+    let mut parts = Parts::new(alloc);
+    let all = expressions_in_order(alloc, &mut parts, ranked, net)?;
+    Ok(RankedExpr::new(parts, all))
 }
