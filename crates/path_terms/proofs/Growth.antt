@@ -10,6 +10,7 @@ use Rattle.std.proofs.lemmas.Map.Keys.{any_passes_from_place}
 use Rattle.path_exprs.specs.Expression.{Expression, set, seq, either, both, complement, star, expressions_of, list_of}
 use Rattle.path_exprs.specs.Normal.{sorted}
 use Rattle.path_exprs.proofs.Lists.{list_of-expressions_of}
+use Rattle.path_exprs.proofs.Numbers.{at-extends, at-last, at-left, length-push}
 use Rattle.std.specs.Result.{IfOk, OnErr}
 use Rattle.std.specs.Prelude.{Result, Ok, Err}
 use Rattle.path_law.proofs.Sorting.{In}
@@ -22,15 +23,6 @@ use Rattle.list_laws.proofs.Texts.{bytes_eq_self}
 use Rattle.path_terms.proofs.Same.{same, itself}
 use Rattle.path_terms.proofs.Numbers.{lt_from, among-all, same_numbers, In-map, map-In, In-sorted, sorted-In}
 
-pub at-left : (es fs : List Expression) (n : ℕ) → n < length es → at (es ++ fs) n ≡ at es n
-at-left [] fs n lt = absurd (omega (arith, lt))
-at-left (e ∷ es) fs zero lt = refl
-at-left (e ∷ es) fs (suc n) lt = at-left es fs n (omega (arith, lt))
-
-pub at-last : (es : List Expression) (e : Expression) → at (es ++ e ∷ []) (length es) ≡ e
-at-last [] e = refl
-at-last (x ∷ es) e = at-last es e
-
 pub grow-append : (es : List Expression) (ts us : List Term) → grow es (ts ++ us) ≡ grow (grow es ts) us
 grow-append es [] us = refl
 grow-append es (t ∷ ts) us = grow-append (es ++ node es t ∷ []) ts us
@@ -40,10 +32,6 @@ grow-extends es [] = ([], sym (append-nil es))
 grow-extends es (t ∷ ts) =
     let r = grow-extends (es ++ node es t ∷ []) ts in
     (node es t ∷ r.0, r.1 ∙ append_assoc es (node es t ∷ []) r.0)
-
-length-push : (es : List Expression) (e : Expression) → length (es ++ e ∷ []) ≡ suc (length es)
-length-push [] e = refl
-length-push (x ∷ es) e = ap suc (length-push es e)
 
 pub length-grow : (es : List Expression) (ts : List Term) → length (grow es ts) ≡ length es + length ts
 length-grow es [] = omega arith
@@ -77,9 +65,6 @@ node-kept es more k (Star a) le h = ap star (child-kept es more k a le h)
 
 pub node-extends : (old new : List Expression) (t : Term) → Extends old new → is_sound (length old) t ≡ true → node new t ≡ node old t
 node-extends old new t x h = ap (λ l. node l t) x.1 ∙ node-kept old x.0 (length old) t (omega arith) h
-
-pub at-extends : (old new : List Expression) (n : ℕ) → Extends old new → n < length old → at new n ≡ at old n
-at-extends old new n x lt = ap (λ l. at l n) x.1 ∙ at-left old x.0 n lt
 
 below-more : (k m : ℕ) (ns : List ℕ) → k ≤ m → list_all (λ n. nat_lt n k) ns ≡ true → list_all (λ n. nat_lt n m) ns ≡ true
 below-more k m [] le h = refl

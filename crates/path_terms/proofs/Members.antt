@@ -76,20 +76,6 @@ add-one vs ns n t q h k =
     ap sorted (map-append (at vs) ns (n ∷ []))
     ∙ ap (λ l. sorted (map (at vs) ns ++ l)) (ap (λ e. e ∷ []) q ∙ sym (parts-default vs t h k) ∙ ap either_parts (sym q))
 
-pub known-append : (k : ℕ) (ns ms : List ℕ) → are_known k ns ≡ true → are_known k ms ≡ true → are_known k (ns ++ ms) ≡ true
-known-append k [] ms h g = g
-known-append k (n ∷ ns) ms h g = let u = and_parts (nat_lt n k) (are_known k ns) h in and_from (nat_lt n k) (are_known k (ns ++ ms)) u.0 (known-append k ns ms u.1 g)
-
-pub known-one : (k n : ℕ) → n < k → are_known k (n ∷ []) ≡ true
-known-one k n lt = and_from (nat_lt n k) true (lt-ltb n k lt) refl
-
-pub known-more : (k m : ℕ) (ns : List ℕ) → k ≤ m → are_known k ns ≡ true → are_known m ns ≡ true
-known-more k m [] le h = refl
-known-more k m (n ∷ ns) le h =
-    let u = and_parts (nat_lt n k) (are_known k ns) h in
-    let lt = lt_from n k u.0 in
-    and_from (nat_lt n m) (are_known m ns) (lt-ltb n m (omega (arith, lt, le))) (known-more k m ns le u.1)
-
 pub flat-step : (es fs parts rest : List Expression) → sorted fs ≡ sorted (es ++ parts) → sorted (es ++ (parts ++ rest)) ≡ sorted (fs ++ rest)
 flat-step es fs parts rest q =
     ap sorted (sym (append_assoc es parts rest)) ∙ sorted-append (es ++ parts) fs rest rest (sym q) refl
@@ -210,11 +196,6 @@ pub either-long : (vs : List Expression) (ns : List ℕ) → AreApart vs → 2 �
 either-long vs [] apart g h s = absurd (omega (arith, g))
 either-long vs (n ∷ []) apart g h s = absurd (omega (arith, g))
 either-long vs (n ∷ m ∷ ns) apart g h s = either-many vs n m ns apart h s
-
-pub known-at : (k : ℕ) (ns : List ℕ) (i : ℕ) (d : ℕ) → i < length ns → are_known k ns ≡ true → get_or ns i d < k
-known-at k [] i d lt h = absurd (omega (arith, lt))
-known-at k (n ∷ ns) zero d lt h = lt_from n k (and_parts (nat_lt n k) (are_known k ns) h).0
-known-at k (n ∷ ns) (suc i) d lt h = known-at k ns i d (omega (arith, lt)) (and_parts (nat_lt n k) (are_known k ns) h).1
 
 pub flat-turn : (vs : List Expression) (ns ms new : List ℕ) (i d : ℕ) (whole : List Expression) → i < length ms
     → whole ≡ sorted (map (at vs) ns ++ flat_map either_parts (map (at vs) (drop i ms)))

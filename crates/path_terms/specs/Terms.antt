@@ -1,14 +1,11 @@
 -- The expressions that terms stand for.
-use Rattle.std.specs.Prelude.{◌≡◌, ◌⊎◌, ℕ, suc, ◌<◌, Bool, true, false, ◌&&◌, nat_lt, List, [], ◌∷◌, ◌++◌, map, length, get_or}
+use Rattle.std.specs.Prelude.{◌≡◌, ◌⊎◌, ℕ, suc, ◌<◌, Bool, true, false, ◌&&◌, nat_lt, List, [], ◌∷◌, ◌++◌, map, length}
 use Rattle.std.specs.List.{list_all}
 use Rattle.path_exprs.specs.Expression.{Expression, never, empty, set, seq, either, both, complement, star, expressions_of}
 use Rattle.path_exprs.specs.Normal.{sorted}
+pub use Rattle.path_exprs.specs.Parts.{at, are_known, Extends}
 use Rattle.path_terms.specs.declared.term.Term.{Term}
 use Rattle.path_terms.specs.declared.term.Term.TheVariants.{Never, Empty, Set, Seq, Either, Both, Not, Star}
-
--- the expression of a number
-abbrev pub at : List Expression → ℕ → Expression
-at es n = get_or es n never
 
 -- One node, with the expression of each child in its place. Members stand in the order of their numbers, and their expressions in the order of expressions.
 abbrev pub node : List Expression → Term → Expression
@@ -34,9 +31,6 @@ abbrev pub ascending : List ℕ → Bool
 ascending [] = true
 ascending (n ∷ ns) = list_all (λ m. nat_lt n m) ns && ascending ns
 
-abbrev pub are_known : ℕ → List ℕ → Bool
-are_known k ns = list_all (λ n. nat_lt n k) ns
-
 abbrev pub are_members : ℕ → List ℕ → Bool
 are_members k ns = list_all (λ n. nat_lt n k) ns && ascending ns
 
@@ -59,10 +53,6 @@ each_sound k (t ∷ ts) = is_sound k t && each_sound (suc k) ts
 -- no expression has two numbers
 abbrev pub AreApart : List Expression → Type 0
 AreApart es = (i j : ℕ) → i < length es → j < length es → at es i ≡ at es j → i ≡ j
-
--- each expression keeps its number, and others may follow
-abbrev pub Extends : List Expression → List Expression → Type 0
-Extends old new = (more : List Expression) × (new ≡ old ++ more)
 
 abbrev pub is_empty : Expression → Bool
 is_empty empty = true

@@ -1,9 +1,10 @@
 use Rattle.std.proofs.Common.{arith, ap, sym, ◌∙◌, ◌≡◌, true, ◌++◌, map, subst, length}
 use Rattle.std.proofs.lemmas.Bool.{and_parts}
 use Rattle.path_exprs.specs.Normal.{sorted}
+use Rattle.path_exprs.proofs.Numbers.{known-append, known-more}
 use Rattle.path_terms.specs.Terms.{are_known, at, node, is_sound, ascending}
 use Rattle.path_terms.specs.Values.{values}
-use Rattle.path_terms.proofs.Members.{add-members, known-append, known-more}
+use Rattle.path_terms.proofs.Members.{add-members}
 use Rattle.path_terms.proofs.alternation.add_parts.Goals as goal
 
 pub returns-in_ok-extend_from_slice-in-Either-clause-added : goal.returns-in_ok-extend_from_slice-in-Either-clause-added

@@ -1,9 +1,9 @@
 use Rattle.std.proofs.Common.{arith, ap, sym, ◌∙◌, ◌≡◌, true, ◌++◌, map, subst, length}
 use Rattle.std.proofs.lemmas.Bool.{and_parts}
 use Rattle.path_exprs.specs.Normal.{sorted}
+use Rattle.path_exprs.proofs.Numbers.{known-append, known-more}
 use Rattle.path_terms.specs.Terms.{are_known, at, node, is_sound, ascending}
 use Rattle.path_terms.specs.Values.{values}
-use Rattle.path_terms.proofs.Members.{known-append, known-more}
 use Rattle.path_terms.proofs.Intersections.{add-members}
 use Rattle.path_terms.proofs.intersection.add_parts.Goals as goal
 
