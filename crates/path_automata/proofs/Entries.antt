@@ -1,8 +1,7 @@
 -- Entries of the memo stay right as terms come, and serve each location of a class.
-use Rattle.std.proofs.Common.{◌≡◌, ℕ, ◌<◌, Bool, true, false, cond, List, [], ◌∷◌, ◌++◌, append_assoc, length, Some, None, Option, refl, sym, ap, subst, ◌∙◌, arith}
+use Rattle.std.proofs.Common.{◌≡◌, ℕ, ◌<◌, Bool, true, false, cond, List, [], ◌∷◌, length, Some, None, Option, refl, sym, ap, subst, ◌∙◌}
 use Rattle.std.specs.Prelude.{IfSome, slice_get, ◌==◌}
 use Rattle.std.proofs.lemmas.Bool.{and_parts, eqb-true}
-use Rattle.std.proofs.lemmas.List.{length-append}
 use Rattle.std.specs.Ordering.{is_eq}
 use Rattle.list_laws.proofs.Orders.{is_eq-Equal}
 use Rattle.path_exprs.specs.Order.{compare}
@@ -19,14 +18,11 @@ use Rattle.path_terms.specs.declared.term.Term.TheVariants.{Seq, Not, Star}
 use Rattle.path_terms.specs.Terms.{is_sound}
 use Rattle.path_terms.proofs.Numbers.{lt_from}
 use Rattle.path_exprs.specs.Derivative.{derivative}
+use Rattle.path_exprs.proofs.Numbers.{at-extends, longer}
 use Rattle.path_automata.proofs.Kept.{same}
 use Rattle.path_terms.specs.Terms.{at, Extends}
 use Rattle.path_automata.specs.Classes.{IsClassed}
 use Rattle.path_automata.specs.Derived.{same_key, AreDerivatives, IsDerivative}
-use Rattle.path_terms.proofs.Growth.{at-extends}
-
-pub longer : (old new : List Expression) (n : ℕ) → Extends old new → n < length old → n < length new
-longer old new n x lt = let l = ap length x.1 ∙ length-append old x.0 in omega (arith, lt, l)
 
 -- expressions that compare as equal are equal
 
@@ -99,9 +95,6 @@ classed-second cs e a b q h = λ x y c. (and_parts (sets_pass (agrees x y) a) (s
 
 pub classed-same : (cs : List ℕ) (e f : Expression) → f ≡ e → IsClassed cs e → IsClassed cs f
 classed-same cs e f q h = λ x y c. subst (λ e. sets_pass (agrees x y) e ≡ true) (sym q) (h x y c)
-
-pub extends-trans : (a b c : List Expression) → Extends a b → Extends b c → Extends a c
-extends-trans a b c x y = (x.0 ++ y.0, y.1 ∙ ap (λ l. l ++ y.0) x.1 ∙ append_assoc a x.0 y.0)
 
 pub star-made : (x : ℕ) (e va da e' r : Expression) → e ≡ star va → da ≡ derivative x va → e' ≡ e → r ≡ seq_of da e' → r ≡ derivative x e
 star-made x e va da e' r q1 q2 q3 q4 = q4 ∙ ap (λ d. seq_of d e') q2 ∙ ap (seq_of (derivative x va)) (q3 ∙ q1) ∙ sym (ap (derivative x) q1)

@@ -6,6 +6,7 @@ use Rattle.std.proofs.lemmas.List.{map-append, take_more}
 use Rattle.path_exprs.specs.Expression.{Expression, never, either, both, expressions_of}
 use Rattle.path_exprs.specs.Normal.{sorted, all, is_all, is_never, either_parts, either_from, either_of, both_parts, both_from, both_of}
 use Rattle.path_exprs.specs.Derivative.{derivative, derivative_each}
+use Rattle.path_exprs.proofs.Numbers.{at-extends, map-extends}
 use Rattle.net_base.specs.declared.loc.LocSet.{LocSet}
 use Rattle.path_law.proofs.Sorting.{In}
 use Rattle.path_automata.specs.Sets.{agrees, sets_pass, each_pass}
@@ -13,7 +14,6 @@ use Rattle.path_terms.specs.Terms.{at, are_known, Extends}
 use Rattle.path_automata.specs.Classes.{AreSorted, IsClassed}
 use Rattle.path_terms.proofs.Numbers.{In-sorted, sorted-In}
 use Rattle.path_terms.proofs.Members.{sorted-same, In-append, append-In}
-use Rattle.path_terms.proofs.Growth.{map-kept, at-extends}
 
 flat-In : (f : Expression → List Expression) (g : Expression) (es : List Expression) → In g (flat_map f es) → (e : Expression) × In e es × In g (f e)
 flat-In f g [] i = absurd i
@@ -86,9 +86,6 @@ at-passes p vs (n ∷ ns) (suc i) d lt h = at-passes p vs ns i d (omega (arith, 
 
 pub classed-at : (cs : List ℕ) (vs : List Expression) (ns : List ℕ) (i d : ℕ) → i < length ns → AreSorted cs (map (at vs) ns) → IsClassed cs (at vs (get_or ns i d))
 classed-at cs vs ns i d lt h x y c = at-passes (agrees x y) vs ns i d lt (h x y c)
-
-pub map-extends : (old new : List Expression) (ns : List ℕ) → Extends old new → are_known (length old) ns ≡ true → map (at new) ns ≡ map (at old) ns
-map-extends old new ns x h = ap (λ l. map (at l) ns) x.1 ∙ map-kept old x.0 (length old) ns (omega arith) h
 
 pub each-turn : (old cur new : List Expression) (ms ns : List ℕ) (i d r x : ℕ) → Extends old cur → Extends cur new → are_known (length cur) ms ≡ true → get_or ns i d < length old → i < length ns
     → map (at cur) ms ≡ map (derivative x) (map (at old) (take i ns)) → at new r ≡ derivative x (at cur (get_or ns i d))

@@ -10,6 +10,7 @@ use Rattle.std.proofs.lemmas.Map.Keys.{apart_from_distinct}
 use lib.Pointwise.{pointwise}
 use Rattle.indexmap.specs.IndexSet.{insert_key}
 use Rattle.path_exprs.specs.Expression.{Expression}
+use Rattle.path_exprs.proofs.Numbers.{map-extends}
 use Rattle.path_terms.specs.Terms.{are_known, at}
 use Rattle.path_terms.specs.Terms as terms
 use Rattle.path_automata.specs.declared.facts.Facts.{Facts}
@@ -17,7 +18,6 @@ use Rattle.path_automata.specs.Found.{states_in, facts_of, AreFacts}
 use Rattle.path_automata.specs.Memo.{NoTwice}
 use Rattle.path_automata.specs.States.{Extends}
 use Rattle.path_automata.proofs.ClassLemmas.{get-push, mapped-inserted, words_same}
-use Rattle.path_automata.proofs.Lists.{map-extends}
 use Rattle.path_automata.proofs.MemoLemmas.{Grown, only}
 
 abbrev pub Key : Type 0

@@ -8,6 +8,7 @@ mod facts;
 mod memo;
 mod reversal;
 mod shortcuts;
+mod starts;
 mod states;
 
 pub use states::{Automata, State};

@@ -63,9 +63,9 @@ pub fn reversed_onto(
     }
 }
 
-/// The normal form of each reversed expression: where walks begin.
+/// The normal form of each reversed expression.
 #[cycle(reversal)]
-pub fn starts(
+fn starts(
     terms: &mut Terms,
     alloc: Global,
     full: &LocSet,

@@ -8,7 +8,6 @@ ghost use Rattle.path_exprs.specs.Derivative.{derivative as derivative_of};
 ghost use Rattle.path_exprs.specs.Expression.{Expression};
 ghost use Rattle.path_exprs.specs.Normal.{is_never as is_never_test};
 ghost use Rattle.path_exprs.specs.Runs.{first_with, start_of};
-ghost use Rattle.path_exprs.specs.View.{views};
 ghost use Rattle.path_terms.specs.Terms.{are_known, Extends as Grows};
 ghost use Rattle.path_terms.specs.Values.{values, value};
 ghost use Rattle.path_automata.specs.Classes.{AreSorted};
@@ -19,7 +18,7 @@ ghost use Rattle.path_automata.specs.Memo.{AreAlike, IsRight, NoTwice};
 use crate::derive::derivative;
 use crate::facts::{Facts, facts_of};
 use crate::memo::Memo;
-use crate::reversal::starts;
+use crate::starts::starts_of;
 use indexmap::{IndexMap, IndexSet};
 use net_base::{Loc, Net};
 use outside::NoMemory;
@@ -72,11 +71,11 @@ impl Automata {
 
     /// The automaton of the expressions: its first state has the normal form of each reversed expression.
     pub fn new(alloc: Global, ranked: &RankedExpr, net: &Net) -> Result<Automata, NoMemory>
-        ensures { IfOk result (λ a. states_of a ≡ start_of (all_locations net.now) (views ranked.now) ∷ []) }
+        ensures { IfOk result (λ a. states_of a ≡ start_of (all_locations net.now) ranked.now ∷ []) }
     {
         let mut terms = Terms::new(alloc);
         let full = net.locations();
-        let first = starts(&mut terms, alloc, &full, ranked.alternatives())?;
+        let first = starts_of(&mut terms, alloc, &full, ranked)?;
         let locations = net.routers().len() + net.peers().len();
         let memo = Memo::new(alloc, &terms, locations as u16)?;
         let facts = vec![in alloc; facts_of(&terms, &first)]?;

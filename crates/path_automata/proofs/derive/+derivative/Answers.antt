@@ -7,10 +7,9 @@ use Rattle.std.proofs.lemmas.List.{append-nil, length-append}
 use Rattle.path_exprs.specs.Membership.{member}
 use Rattle.path_exprs.specs.Normal.{either_of, both_of}
 use Rattle.path_exprs.specs.Derivative.{derivative}
-use Rattle.path_terms.proofs.Growth.{at-extends}
-use Rattle.path_automata.proofs.Entries.{derived_extends, longer, classed-same, extends-trans, star-made, seq-front, seq-both, not-below, star-below, seq-below, classed-not, classed-star, classed-first, classed-second}
+use Rattle.path_exprs.proofs.Numbers.{at-extends, extends-trans, known-append, known-at, known-more, known-one, longer}
+use Rattle.path_automata.proofs.Entries.{derived_extends, classed-same, star-made, seq-front, seq-both, not-below, star-below, seq-below, classed-not, classed-star, classed-first, classed-second}
 use Rattle.path_automata.proofs.Lists.{either-made, both-made, classed-either, classed-both, classed-at, each-turn}
-use Rattle.path_terms.proofs.Members.{known-at, known-append, known-one, known-more}
 use Rattle.std.proofs.Common.{length, map, ◌≤◌}
 use Rattle.std.proofs.lemmas.Bool.{and_parts}
 use Rattle.path_terms.specs.Terms.{are_known, ascending, is_sound, at}

@@ -4,12 +4,10 @@ use Rattle.std.proofs.lemmas.Result.{IfOk-weaker}
 use Rattle.path_exprs.specs.Normal.{both_of, complement_of, either_of, normal, reversed, seq_of, star_of}
 use Rattle.path_exprs.specs.Runs.{start_of}
 use Rattle.path_exprs.specs.View.{view, views}
+use Rattle.path_exprs.proofs.Numbers.{at-extends, extends-trans, known-append, known-more, known-one, longer}
 use Rattle.path_terms.specs.Terms.{at, are_known}
 use Rattle.path_terms.specs.Values.{values}
-use Rattle.path_terms.proofs.Growth.{at-extends}
-use Rattle.path_terms.proofs.Members.{known-append, known-more, known-one}
 use Rattle.path_terms.proofs.Sequences.{seq-seq}
-use Rattle.path_automata.proofs.Entries.{extends-trans, longer}
 use Rattle.path_automata.proofs.Reversals.{onto-nothing, start-each, start-turn}
 use Rattle.path_automata.proofs.Views.{view-Seq, view-Either, view-Both, view-Not, view-Star}
 use Rattle.path_automata.proofs.reversal.+reversal.Goals as goal

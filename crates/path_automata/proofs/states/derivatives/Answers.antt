@@ -1,10 +1,9 @@
 use Rattle.std.proofs.Common.{◌≡◌, ◌≤◌, arith, ap, sym, ◌∙◌, length, map, subst, true}
 use Rattle.std.proofs.lemmas.List.{length-append}
+use Rattle.path_exprs.proofs.Numbers.{at-extends, extends-trans, known-append, known-at, known-more, known-one, longer}
 use Rattle.path_terms.specs.Terms.{are_known, at}
 use Rattle.path_terms.specs.Values.{values}
-use Rattle.path_terms.proofs.Growth.{at-extends}
-use Rattle.path_terms.proofs.Members.{known-at, known-append, known-one, known-more}
-use Rattle.path_automata.proofs.Entries.{classed-same, extends-trans, longer}
+use Rattle.path_automata.proofs.Entries.{classed-same}
 use Rattle.path_automata.proofs.Lists.{classed-at, each-turn}
 use Rattle.path_automata.proofs.states.derivatives.Goals as goal
 

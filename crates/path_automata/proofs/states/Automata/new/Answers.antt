@@ -15,16 +15,15 @@ use Rattle.path_automata.proofs.states.Automata.new.Goals as goal
 
 pub invariant_of-result : goal.invariant_of-result
 invariant_of-result c =
-    let vs = values c.starts.new.terms in
+    let vs = values c.starts_of.new.terms in
     let ks = c.insert.new.self.keys in
     let first = c.in_ok-first.first in
     let memo = c.in_ok-memo.memo in
     let s = map (at vs) first.items in
     let is = c.in_ok-insert.ensures.keys ∙ ap (λ ks. insert_key same ks first) c.new-found.ensures.empty in
     let one = ap (states_in vs) is in
-    let size = ap length c.alternatives.ensures.alternatives in
     record {
-      few = all-inserted (λ v. vec_len v ≤ ALTERNATIVES) [] ks first is (λ i d h. absurd (omega (arith, h))) (omega (arith, c.in_ok-first.ensures.len, c.alternatives.ensures.few, size));
+      few = all-inserted (λ v. vec_len v ≤ ALTERNATIVES) [] ks first is (λ i d h. absurd (omega (arith, h))) c.in_ok-first.ensures.few;
       begun = subst (λ ks. 0 < length ks) (sym is) (omega arith);
       known = all-inserted (IsKnown vs) [] ks first is (λ i d h. absurd (omega (arith, h))) c.in_ok-first.ensures.known;
       kept = λ key. subst (λ es. IfSome (lookup (same_key key) es) (λ d. IsDerivative memo.classes.items vs key d)) (sym c.new-2.ensures.empty) tt;

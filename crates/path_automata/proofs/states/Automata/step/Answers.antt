@@ -5,10 +5,10 @@ use Rattle.std.proofs.lemmas.Option.{get_or_from_slice_get, same_Some, slice_get
 use Rattle.net_base.specs.declared.limits.TheConstants.{ALTERNATIVES}
 use Rattle.path_exprs.specs.Derivative.{derivative}
 use Rattle.path_exprs.specs.Expression.{Expression}
+use Rattle.path_exprs.proofs.Numbers.{known-more}
 use Rattle.path_terms.specs.Terms.{are_known, at}
 use Rattle.path_terms.specs.Terms as terms
 use Rattle.path_terms.specs.Values.{values}
-use Rattle.path_terms.proofs.Members.{known-more}
 use Rattle.path_automata.specs.Classes.{InSameSets, SameClass}
 use Rattle.path_automata.specs.Derived.{AreDerivatives}
 use Rattle.path_automata.specs.Found.{states_in, facts_of, AreFacts}
