@@ -5,7 +5,6 @@ ghost use Rattle.net_base.specs.declared.limits.TheConstants.{NODES};
 ghost use Rattle.path_automata.specs.States.{Begins, Extends, states_of};
 ghost use Rattle.path_exprs.specs.Expression.{Expression};
 ghost use Rattle.path_exprs.specs.Standings.{PassesStates, plan_of};
-ghost use Rattle.path_exprs.specs.View.{views};
 ghost use Rattle.product_graph.specs.Outcomes.{PassesSteps};
 ghost use Rattle.standings.specs.Built.{IsBuilt};
 
@@ -55,11 +54,11 @@ pub fn build(
     ranked: &RankedExpr,
     room: u32,
 ) -> Result<Graph, BuildFault>
-    ensures built { IfOk result (λ g. IsBuilt net.now (plan_of (views ranked.now) from.now case.now) g) }
+    ensures built { IfOk result (λ g. IsBuilt net.now (plan_of ranked.now from.now case.now) g) }
     ensures nodes { IfOk result (λ g. length g.nodes ≤ NODES) }
     ensures steps { IfOk result (λ g. length g.steps ≤ room) }
-    ensures many_states { IsErrOf result BuildFault.TooManyStates → PassesStates net.now (plan_of (views ranked.now) from.now case.now) NODES }
-    ensures many_steps { IsErrOf result BuildFault.TooManySteps → PassesSteps net.now (plan_of (views ranked.now) from.now case.now) NODES room }
+    ensures many_states { IsErrOf result BuildFault.TooManyStates → PassesStates net.now (plan_of ranked.now from.now case.now) NODES }
+    ensures many_steps { IsErrOf result BuildFault.TooManySteps → PassesSteps net.now (plan_of ranked.now from.now case.now) NODES room }
 {
     let automata = Automata::new(alloc, ranked, net)?;
     let (graph, _) = build_over(alloc, net, case, from, automata, room)?;
