@@ -26,13 +26,13 @@ ends_up a b h = elim (ordering_then-Less (nat_cmp a.from b.from) _ h) [
   ]
 ]
 
-before-by : (from to : ℕ) (h : Hop) → is_before from to h ≡ true → (h.from < from) ⊎ ((h.from ≡ from) × (h.to < to))
+pub before-by : (from to : ℕ) (h : Hop) → is_before from to h ≡ true → (h.from < from) ⊎ ((h.from ≡ from) × (h.to < to))
 before-by from to h e = elim (or_cases (nat_lt h.from from) _ e) [
   | inl t ↦ inl (ltb-true _ _ t)
   | inr t ↦ let parts = and_parts (h.from == from) (nat_lt h.to to) t in inr (eqb-true _ _ parts.0, ltb-true _ _ parts.1)
 ]
 
-before-from : (from to : ℕ) (h : Hop) → (h.from < from) ⊎ ((h.from ≡ from) × (h.to < to)) → is_before from to h ≡ true
+pub before-from : (from to : ℕ) (h : Hop) → (h.from < from) ⊎ ((h.from ≡ from) × (h.to < to)) → is_before from to h ≡ true
 before-from from to h e = elim e [
   | inl t ↦ or_left _ _ (lt-ltb _ _ t)
   | inr t ↦ or_right _ _ (and_from _ _ (eq-eqb _ _ t.0) (lt-ltb _ _ t.1))

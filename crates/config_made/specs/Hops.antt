@@ -1,5 +1,5 @@
 -- Steps and starts of graphs, as lines say them.
-use Rattle.std.specs.Prelude.{ℕ, ◌+◌, ◌<◌, ◌^◌, Bool, ◌&&◌, ◌||◌, ◌==◌, nat_lt, nat_le, List, [], ◌∷◌, ◌++◌, map, unwrap_or, slice_get}
+use Rattle.std.specs.Prelude.{◌≡◌, ℕ, ◌+◌, ◌<◌, ◌≤◌, ◌^◌, Bool, ◌&&◌, ◌||◌, ◌==◌, nat_lt, nat_le, IsTrue, List, [], ◌∷◌, ◌++◌, length, map, Some, unwrap_or, slice_get}
 use Rattle.std.specs.List.{flat_map}
 use Rattle.std.specs.Ordering.{nat_cmp, ordering_then}
 use Rattle.std.specs.declared.cmp.Ordering.{Ordering}
@@ -90,3 +90,11 @@ is_before from to hop = nat_lt hop.from from || (hop.from == from && nat_lt hop.
 
 abbrev pub is_upto : ℕ → ℕ → Hop → Bool
 is_upto from to hop = nat_lt hop.from from || (hop.from == from && nat_le hop.to to)
+
+-- each hop in front of a place stands before those from one location to another
+abbrev pub IsReached : List Hop → ℕ → ℕ → ℕ → Type 0
+IsReached hops place from to = (place ≤ length hops) × ((k : ℕ) (h : Hop) → k < place → slice_get hops k ≡ Some h → IsTrue (is_before from to h))
+
+-- so for the place that stands for each location, and the hops from there to one
+abbrev pub AreReached : List Hop → List ℕ → ℕ → Type 0
+AreReached hops places to = (from place : ℕ) → slice_get places from ≡ Some place → IsReached hops place from to

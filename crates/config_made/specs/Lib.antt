@@ -1,4 +1,5 @@
 pub mod Conditions
 pub mod Hops
 pub mod Law
+pub mod Neighbours
 pub mod Writing

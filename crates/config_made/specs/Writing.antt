@@ -25,15 +25,19 @@ own_line a = record { class = a.class; prefix = a.prefix; tag = a.tag }
 abbrev pub name_of : PlainNet → ℕ → List ℕ
 name_of net l = option_map_or (λ (s : Site). s.name) (site_of net l) []
 
--- the block of z in the block of x
-abbrev pub session_of : PlainNet → List Hop → ℕ → ℕ → Session
-session_of net hops x z = record {
+-- the block of z, by the hops that come from there and those that go there
+abbrev pub session_with : PlainNet → List Hop → List Hop → ℕ → Session
+session_with net taken sent z = record {
   name = name_of net z;
   asn = asn_of net z;
   peer = is_peer net z;
-  imports = map import_line (filter (goes z x) hops);
-  exports = map export_line (filter (goes x z) hops);
+  imports = map import_line taken;
+  exports = map export_line sent;
 }
+
+-- the block of z in the block of x
+abbrev pub session_of : PlainNet → List Hop → ℕ → ℕ → Session
+session_of net hops x z = session_with net (filter (goes z x) hops) (filter (goes x z) hops) z
 
 abbrev pub router_of : PlainNet → List Hop → List Announced → ℕ → RouterConfig
 router_of net hops announced x = record {

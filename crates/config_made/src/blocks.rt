@@ -1,24 +1,23 @@
 //! The blocks of routers.
-ghost use Rattle.std.specs.Prelude.{◌≡◌, ◌<◌, ℕ, IsTrue, IfOk, length, map, filter};
+ghost use Rattle.std.specs.Prelude.{◌≡◌, ◌<◌, ◌+◌, ℕ, IsTrue, IfOk, length, map, filter};
 ghost use Rattle.std.specs.List.Sorted.{IsStrictlySortedBy};
 ghost use Rattle.net_base.specs.Network.{IsNet, is_location, is_router, linked};
 ghost use Rattle.net_base.specs.Sets.{holds};
 ghost use Rattle.net_base.specs.Locations.{neighbours};
-ghost use Rattle.config_made.specs.Hops.{goes, stands, hop_order, announced_order};
-ghost use Rattle.config_made.specs.Writing.{import_line, export_line, own_line, session_of as plain_session_of, router_of as plain_router_of, routers_of as plain_routers_of};
+ghost use Rattle.config_made.specs.Hops.{stands, hop_order, announced_order, AreReached};
+ghost use Rattle.config_made.specs.Writing.{import_line, export_line, own_line, session_with as plain_session_with, session_of as plain_session_of, router_of as plain_router_of, routers_of as plain_routers_of};
 
-use crate::find::{announced_at, hops_between};
+use crate::find::{announced_at, first_from, first_places, next_hops};
 use crate::hop::{Announced, Hop};
+use crate::neighbours::neighbour_sets;
 use config_base::{Export, Own, RouterConfig, Rule, Session};
 use net_base::{List, Loc, LocSet, Net};
 use std::alloc::{AllocError, Global};
 
 // The lines by which routes are taken over a link.
-fn imports(alloc: Global, hops: &[Hop], from: Loc, to: Loc) -> Result<List<Rule>, AllocError>
-    requires { IsStrictlySortedBy hop_order hops.now }
-    ensures { IfOk result (λ lines. lines ≡ map import_line (filter (goes from to) hops.now)) }
+fn imports(alloc: Global, taken: &[Hop]) -> Result<List<Rule>, AllocError>
+    ensures { IfOk result (λ lines. lines ≡ map import_line taken.now) }
 {
-    let taken = hops_between(hops, from, to);
     let mut lines = Vec::with_capacity(alloc, taken.len())?;
     for hop in taken {
         lines.push(Rule {
@@ -32,11 +31,9 @@ fn imports(alloc: Global, hops: &[Hop], from: Loc, to: Loc) -> Result<List<Rule>
 }
 
 // The lines by which routes are sent over a link.
-fn exports(alloc: Global, hops: &[Hop], from: Loc, to: Loc) -> Result<List<Export>, AllocError>
-    requires { IsStrictlySortedBy hop_order hops.now }
-    ensures { IfOk result (λ lines. lines ≡ map export_line (filter (goes from to) hops.now)) }
+fn exports(alloc: Global, sent: &[Hop]) -> Result<List<Export>, AllocError>
+    ensures { IfOk result (λ lines. lines ≡ map export_line sent.now) }
 {
-    let sent = hops_between(hops, from, to);
     let mut lines = Vec::with_capacity(alloc, sent.len())?;
     for hop in sent {
         lines.push(Export {
@@ -63,55 +60,53 @@ fn own(alloc: Global, announced: &[Announced], at: Loc) -> Result<List<Own>, All
     Ok(lines)
 }
 
-// The block of a neighbour.
+// The block of a neighbour, by the hops that come from there and those that go there.
 fn session_of(
     alloc: Global,
     net: &Net,
-    hops: &[Hop],
-    at: Loc,
+    taken: &[Hop],
+    sent: &[Hop],
     neighbour: Loc,
 ) -> Result<Session, AllocError>
-    requires order { IsStrictlySortedBy hop_order hops.now }
-    requires known { IsTrue (is_location net.now neighbour) }
-    ensures { IfOk result (λ session. session ≡ plain_session_of net.now hops.now at neighbour) }
+    requires { IsTrue (is_location net.now neighbour) }
+    ensures { IfOk result (λ session. session ≡ plain_session_with net.now taken.now sent.now neighbour) }
 {
     let site = net.site(neighbour);
     Ok(Session {
         name: site.name,
         asn: site.asn,
         peer: net.is_peer(neighbour),
-        imports: imports(alloc, hops, neighbour, at)?,
-        exports: exports(alloc, hops, at, neighbour)?,
+        imports: imports(alloc, taken)?,
+        exports: exports(alloc, sent)?,
     })
 }
 
-// The locations to which a location is linked.
-fn neighbours_of(net: &Net, at: Loc) -> LocSet
-    ensures { (l : ℕ) → holds result l ≡ linked net.now at l }
+// The blocks of a router's neighbours, in order of location. The hops that come from a neighbour are looked for from the place
+// on that stands for it.
+fn sessions_of(
+    alloc: Global,
+    net: &Net,
+    hops: &[Hop],
+    near: &LocSet,
+    places: &mut [usize],
+    at: Loc,
+) -> Result<List<Session>, AllocError>
+    requires order { IsStrictlySortedBy hop_order hops.now }
+    requires near { (l : ℕ) → holds near.now l ≡ linked net.now at l }
+    requires places { length places.old ≡ length net.now.routers + length net.now.peers }
+    requires reached { AreReached hops.now places.old at }
+    ensures sessions { IfOk result (λ sessions. sessions ≡ map (plain_session_of net.now hops.now at) (neighbours net.now at)) }
+    ensures places { length places.new ≡ length places.old }
+    ensures reached { AreReached hops.now places.new at }
 {
-    let mut found = LocSet::new();
-    for link in net.links() {
-        if link.0 == at {
-            found.insert(link.1);
-        }
-        if link.1 == at {
-            found.insert(link.0);
-        }
-    }
-    found
-}
-
-// The blocks of a router's neighbours, in order of location.
-fn sessions_of(alloc: Global, net: &Net, hops: &[Hop], at: Loc) -> Result<List<Session>, AllocError>
-    requires { IsStrictlySortedBy hop_order hops.now }
-    ensures { IfOk result (λ sessions. sessions ≡ map (plain_session_of net.now hops.now at) (neighbours net.now at)) }
-{
-    let neighbours = neighbours_of(net, at);
+    let mut departure = first_from(hops, at);
     let mut sessions = List::new(alloc);
     for number in 0..net.routers().len() + net.peers().len() {
         let neighbour = Loc::new(number as u16);
-        if neighbours.holds(neighbour) {
-            sessions.push(session_of(alloc, net, hops, at, neighbour)?)?;
+        if near.holds(neighbour) {
+            let taken = next_hops(hops, &mut places[number], neighbour, at);
+            let sent = next_hops(hops, &mut departure, at, neighbour);
+            sessions.push(session_of(alloc, net, taken, sent, neighbour)?)?;
         }
     }
     Ok(sessions)
@@ -123,12 +118,19 @@ fn router_of(
     net: &Net,
     hops: &[Hop],
     announced: &[Announced],
+    near: &LocSet,
+    places: &mut [usize],
     at: Loc,
 ) -> Result<RouterConfig, AllocError>
     requires hops { IsStrictlySortedBy hop_order hops.now }
     requires announced { IsStrictlySortedBy announced_order announced.now }
     requires known { IsTrue (is_location net.now at) }
-    ensures { IfOk result (λ router. router ≡ plain_router_of net.now hops.now announced.now at) }
+    requires near { (l : ℕ) → holds near.now l ≡ linked net.now at l }
+    requires places { length places.old ≡ length net.now.routers + length net.now.peers }
+    requires reached { AreReached hops.now places.old at }
+    ensures router { IfOk result (λ router. router ≡ plain_router_of net.now hops.now announced.now at) }
+    ensures places { length places.new ≡ length places.old }
+    ensures reached { AreReached hops.now places.new at }
 {
     let site = net.site(at);
     Ok(RouterConfig {
@@ -136,7 +138,7 @@ fn router_of(
         asn: site.asn,
         id: site.id,
         own: own(alloc, announced, at)?,
-        sessions: sessions_of(alloc, net, hops, at)?,
+        sessions: sessions_of(alloc, net, hops, near, places, at)?,
     })
 }
 
@@ -152,9 +154,14 @@ pub fn routers_of(
     ensures routers { IfOk result (λ routers. routers ≡ plain_routers_of net.now hops.now announced.now) }
     ensures net { IsNet net.now }
 {
+    let count = net.routers().len();
+    let neighbours = neighbour_sets(alloc, net)?;
+    let mut places = first_places(alloc, hops, neighbours.len())?;
     let mut routers = List::new(alloc);
-    for number in 0..net.routers().len() {
-        routers.push(router_of(alloc, net, hops, announced, Loc::new(number as u16))?)?;
+    for number in 0..count {
+        let at = Loc::new(number as u16);
+        let near = &neighbours[number];
+        routers.push(router_of(alloc, net, hops, announced, near, &mut places, at)?)?;
     }
     Ok(routers)
 }

@@ -29,7 +29,7 @@ pub fn config_of(
     ensures { IfOk result (λ config. IsConfigOf net.now (policy_of policy.now) evidence.now config) }
 {
     let mut hops = all_hops(alloc, evidence)?;
-    settle_hops(&mut hops);
+    settle_hops(alloc, &mut hops)?;
     let mut announced = all_announced(alloc, evidence)?;
     settle_announced(&mut announced);
     let classes = classes_of(alloc, policy, evidence)?;
