@@ -11,8 +11,8 @@ ghost use Rattle.check_job.specs.VerdictLines.{verdict_said};
 
 use crate::verdict_lines::{fails_line, holds_line};
 use evidence_base::CaseEvidence;
-use evidence_check::{config_fault, evidence_fault, is_made_text};
-use evidence_rules::{CheckRule, Verdict};
+use evidence_check::{config_verdict, evidence_fault, holds_with_text};
+use evidence_rules::Verdict;
 use input_texts::{config_for, evidence_for, net_of, policy_for};
 use net_base::Net;
 use path_words::Policy;
@@ -31,7 +31,7 @@ fn verdict_text(alloc: Global, verdict: Verdict) -> Result<Vec<u8>, Stop>
 
 // What the text of a configuration comes to with evidence that keeps all rules on it alone. Nearly always it is the text of the
 // configuration that is made of the evidence; then it isn't read.
-fn config_verdict(
+fn text_of_config(
     alloc: Global,
     net: &Net,
     policy: &Policy,
@@ -42,18 +42,16 @@ fn config_verdict(
     requires short { length config.now < 4294967295 }
     ensures { IsGiven (OfConfigText (SaysOfPair net.now (policy_of policy.now)) config.now evidence.now) (said result) }
 {
-    if is_made_text(alloc, net, policy, config, evidence)? {
+    if holds_with_text(alloc, net, policy, config, evidence)? {
         return verdict_text(alloc, Verdict::Holds);
     }
     let config = config_for(alloc, config)?;
-    match config_fault(alloc, net, policy, &config, evidence)? {
-        Some(shown) => verdict_text(alloc, Verdict::Fails(CheckRule::ConfigDiffers, shown)),
-        None => verdict_text(alloc, Verdict::Holds),
-    }
+    let verdict = config_verdict(alloc, net, policy, &config, evidence)?;
+    verdict_text(alloc, verdict)
 }
 
 // What the text of a configuration comes to with evidence.
-fn judged_text(
+fn text_of_evidence(
     alloc: Global,
     net: &Net,
     policy: &Policy,
@@ -69,7 +67,7 @@ fn judged_text(
             let _config = config_for(alloc, config)?;
             verdict_text(alloc, verdict)
         }
-        None => config_verdict(alloc, net, policy, config, evidence),
+        None => text_of_config(alloc, net, policy, config, evidence),
     }
 }
 
@@ -88,7 +86,7 @@ fn pair_text(
     ensures { IsGiven (OfPairTexts (SaysOfPair net.now (policy_of policy.now)) config.now evidence.now) (said result) }
 {
     match evidence_for(alloc, evidence) {
-        Ok(evidence) => judged_text(alloc, net, policy, config, evidence.cases.as_slice()),
+        Ok(evidence) => text_of_evidence(alloc, net, policy, config, evidence.cases.as_slice()),
         Err(stop) => {
             let _config = config_for(alloc, config)?;
             Err(stop)

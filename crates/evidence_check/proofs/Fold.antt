@@ -246,6 +246,18 @@ module _ (net : PlainNet) (policy : PlainPolicy) (cs : List PlainCaseEvidence) w
 
   -- ---- verdicts
 
+  pub before_config : ((r : CheckRule) → rule_number r < 9 → Keeps r net policy cs) → ((k n : ℕ) → KeepsTag net cs k n) → KeepsBefore ConfigDiffers net policy cs
+  before_config kept tags Cases lt = kept Cases (omega arith)
+  before_config kept tags Walks lt = kept Walks (omega arith)
+  before_config kept tags Ranks lt = kept Ranks (omega arith)
+  before_config kept tags Mixed lt = kept Mixed (omega arith)
+  before_config kept tags PrefRank lt = kept PrefRank (omega arith)
+  before_config kept tags PrefStep lt = kept PrefStep (omega arith)
+  before_config kept tags PrefLoop lt = kept PrefLoop (omega arith)
+  before_config kept tags PrefListener lt = kept PrefListener (omega arith)
+  before_config kept tags Tags lt = λ k m n. tags k m
+  before_config kept tags ConfigDiffers lt = absurd (omega (arith, lt))
+
   module _ (config : PlainConfig) where
     pub case_verdict : (r : CheckRule) (shown : Shown) → rule_number r < 9 → IsFault net policy cs r shown → IsVerdict net policy config cs (Fails r shown)
     case_verdict Cases shown lt h = h
@@ -258,18 +270,6 @@ module _ (net : PlainNet) (policy : PlainPolicy) (cs : List PlainCaseEvidence) w
     case_verdict PrefListener shown lt h = h
     case_verdict Tags shown lt h = h
     case_verdict ConfigDiffers shown lt h = absurd (omega (arith, lt))
-
-    pub before_config : ((r : CheckRule) → rule_number r < 9 → Keeps r net policy cs) → ((k n : ℕ) → KeepsTag net cs k n) → KeepsBefore ConfigDiffers net policy cs
-    before_config kept tags Cases lt = kept Cases (omega arith)
-    before_config kept tags Walks lt = kept Walks (omega arith)
-    before_config kept tags Ranks lt = kept Ranks (omega arith)
-    before_config kept tags Mixed lt = kept Mixed (omega arith)
-    before_config kept tags PrefRank lt = kept PrefRank (omega arith)
-    before_config kept tags PrefStep lt = kept PrefStep (omega arith)
-    before_config kept tags PrefLoop lt = kept PrefLoop (omega arith)
-    before_config kept tags PrefListener lt = kept PrefListener (omega arith)
-    before_config kept tags Tags lt = λ k m n. tags k m
-    before_config kept tags ConfigDiffers lt = absurd (omega (arith, lt))
 
     pub holds : KeepsBefore ConfigDiffers net policy cs → IsConfigOf net policy cs config → IsVerdict net policy config cs Holds
     holds before lines = (passing net policy config cs).1 (all_rules net policy cs before, lines)

@@ -5,7 +5,8 @@ ghost use Rattle.config_base.specs.Configs.{PlainConfig};
 ghost use Rattle.config_text.specs.Spelled.{Spells};
 ghost use Rattle.evidence_base.specs.Made.{IsConfigOf};
 ghost use Rattle.evidence_rules.specs.declared.rule.CheckRule.TheVariants.{ConfigDiffers};
-ghost use Rattle.evidence_rules.specs.Verdicts.{IsConfigFault, KeepsBefore};
+ghost use Rattle.evidence_rules.specs.declared.verdict.Verdict.TheVariants.{Holds};
+ghost use Rattle.evidence_rules.specs.Verdicts.{IsConfigFault, IsVerdict, KeepsBefore};
 
 use crate::difference::{block_of, first_difference};
 use crate::known::{known_net, known_policy};
@@ -56,9 +57,9 @@ fn is_same_text(one: &[u8], other: &[u8]) -> bool
     one == other
 }
 
-/// Whether the text is that of the configuration that is made of the evidence, which keeps all other rules. Nothing of the text
-/// is read for it: the configuration is made and printed, and the texts are compared.
-pub fn is_made_text(
+/// Whether the evidence, which keeps all other rules, holds with the configuration that a text spells. The text isn't read for
+/// it: the configuration that is made of the evidence is printed, and the texts are compared.
+pub fn holds_with_text(
     alloc: Global,
     net: &Net,
     policy: &Policy,
@@ -66,7 +67,7 @@ pub fn is_made_text(
     evidence: &[CaseEvidence],
 ) -> Result<bool, NoMemory>
     requires { KeepsBefore ConfigDiffers net.now (policy_of policy.now) evidence.now }
-    ensures { IfOk result (λ made. IsTrue made ↔ (config : PlainConfig) × Spells text.now config × IsConfigOf net.now (policy_of policy.now) evidence.now config) }
+    ensures { IfOk result (λ yes. IsTrue yes ↔ (config : PlainConfig) × Spells text.now config × IsVerdict net.now (policy_of policy.now) config evidence.now Holds) }
 {
     known_policy(policy);
     let made = config_of(alloc, net, policy, evidence)?;

@@ -68,6 +68,23 @@ pub fn evidence_fault(
     Ok(None)
 }
 
+/// The verdict on a configuration with evidence that keeps all rules but perhaps that of the configuration.
+pub fn config_verdict(
+    alloc: Global,
+    net: &Net,
+    policy: &Policy,
+    config: &Config,
+    evidence: &[CaseEvidence],
+) -> Result<Verdict, NoMemory>
+    requires { KeepsBefore ConfigDiffers net.now (policy_of policy.now) evidence.now }
+    ensures { IfOk result (IsVerdict net.now (policy_of policy.now) config.now evidence.now) }
+{
+    match config_fault(alloc, net, policy, config, evidence)? {
+        Some(shown) => Ok(Verdict::Fails(CheckRule::ConfigDiffers, shown)),
+        None => Ok(Verdict::Holds),
+    }
+}
+
 /// The verdict on a configuration with the evidence of these cases.
 fn verdict_on(
     alloc: Global,
@@ -79,13 +96,10 @@ fn verdict_on(
     requires { OriginsAreRouters net.now policy.now.origins }
     ensures { IfOk result (IsVerdict net.now (policy_of policy.now) config.now evidence.now) }
 {
-    if let Some(verdict) = evidence_fault(alloc, net, policy, evidence)? {
-        return Ok(verdict);
+    match evidence_fault(alloc, net, policy, evidence)? {
+        Some(verdict) => Ok(verdict),
+        None => config_verdict(alloc, net, policy, config, evidence),
     }
-    if let Some(shown) = config_fault(alloc, net, policy, config, evidence)? {
-        return Ok(Verdict::Fails(CheckRule::ConfigDiffers, shown));
-    }
-    Ok(Verdict::Holds)
 }
 
 /// Judges a configuration with its evidence by the ten rules, each over all cases, in their order: all hold, or the first one
