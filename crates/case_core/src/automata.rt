@@ -4,7 +4,6 @@ ghost use Rattle.net_base.specs.declared.limits.TheConstants.{ALTERNATIVES};
 ghost use Rattle.path_words.specs.declared.case.Case.{Case as PlainCase};
 ghost use Rattle.path_words.specs.Meaning.{alternative_count};
 ghost use Rattle.path_words.specs.Policies.{plain_statement, ranking_of};
-ghost use Rattle.path_exprs.specs.View.{views};
 ghost use Rattle.path_exprs.specs.Forward.{expressions};
 ghost use Rattle.case_core.specs.Automata.{FitsStatement, IsAutomatonOf};
 ghost use Rattle.case_core.specs.Refusals.{IsCause, IsPastLimit};
@@ -36,7 +35,7 @@ fn expressions_of(
     statement: &Statement,
 ) -> Result<RankedExpr, CompileRefusal>
     ensures ranks { OnOk result (alternative_count (ranking_of statement.now.ranked) ≤ ALTERNATIVES) }
-    ensures expressions { IfOk result (λ r. views r ≡ expressions net.now (ranking_of statement.now.ranked)) }
+    ensures expressions { IfOk result (λ r. r ≡ expressions net.now (ranking_of statement.now.ranked)) }
     ensures limits { IfErr result IsPastLimit }
     ensures refused { (room : ℕ) (c : PlainCase) → IfErr result (λ e. IsCause net.now number room (plain_statement statement.now) c e) }
 {
