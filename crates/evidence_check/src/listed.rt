@@ -7,7 +7,6 @@ ghost use Rattle.path_words.specs.Meaning.{alternative_count};
 ghost use Rattle.path_words.specs.Policies.{plain_statement, policy_of, ranking_of};
 ghost use Rattle.path_exprs.specs.Forward.{expressions};
 ghost use Rattle.path_exprs.specs.Standings.{PassesStates, plan_of};
-ghost use Rattle.path_exprs.specs.View.{views};
 ghost use Rattle.standings.specs.Built.{IsBuilt};
 ghost use Rattle.graph_law.specs.Limits.{IsBuiltWithin};
 ghost use Rattle.evidence_check.specs.Listed.{IsWithin};
@@ -26,7 +25,7 @@ use std::alloc::Global;
 /// The expressions of a statement's alternatives, or None where there are too many.
 fn expanded(alloc: Global, net: &Net, statement: &Statement) -> Result<Option<RankedExpr>, NoMemory>
     ensures ranks { IfOk result (λ o. IfSome o (λ _. alternative_count (ranking_of statement.now.ranked) ≤ ALTERNATIVES)) }
-    ensures expressions { IfOk result (λ o. IfSome o (λ r. views r ≡ expressions net.now (ranking_of statement.now.ranked))) }
+    ensures expressions { IfOk result (λ o. IfSome o (λ r. r ≡ expressions net.now (ranking_of statement.now.ranked))) }
     ensures many { IfOk result (λ o. IfNone o (ALTERNATIVES < alternative_count (ranking_of statement.now.ranked))) }
 {
     match expand(alloc, &statement.ranked, net) {
@@ -44,9 +43,9 @@ fn gathered(
     from: &FromSet,
     ranked: &RankedExpr,
 ) -> Result<Graph, StandingsFault>
-    ensures built { IfOk result (λ g. IsBuilt net.now (plan_of (views ranked.now) from.now case.now) g) }
+    ensures built { IfOk result (λ g. IsBuilt net.now (plan_of ranked.now from.now case.now) g) }
     ensures few { IfOk result (λ g. length g.nodes ≤ NODES) }
-    ensures many { IsErrOf result StandingsFault.TooMany → PassesStates net.now (plan_of (views ranked.now) from.now case.now) NODES }
+    ensures many { IsErrOf result StandingsFault.TooMany → PassesStates net.now (plan_of ranked.now from.now case.now) NODES }
 {
     let automata = Automata::new(alloc, ranked, net)?;
     let (graph, _) = standings(alloc, net, case, from, automata)?;
@@ -63,7 +62,7 @@ fn walked(
     room: u32,
 ) -> Result<Option<Graph>, NoMemory>
     requires ranks { alternative_count (ranking_of statement.now.ranked) ≤ ALTERNATIVES }
-    requires expressions { views ranked.now ≡ expressions net.now (ranking_of statement.now.ranked) }
+    requires expressions { ranked.now ≡ expressions net.now (ranking_of statement.now.ranked) }
     ensures built { IfOk result (λ o. IfSome o (λ g. IsBuiltWithin net.now room (plain_statement statement.now) case.now g)) }
     ensures past { IfOk result (λ o. IfNone o ((steps : ℕ) → ¬ IsWithin net.now (plain_statement statement.now) case.now room steps)) }
 {
