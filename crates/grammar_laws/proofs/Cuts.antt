@@ -10,8 +10,9 @@ use Rattle.policy_tokens.specs.declared.token.Token.{Token}
 use Rattle.policy_tokens.specs.Places.{place_after, place_of}
 use Rattle.policy_tokens.specs.Tokens.{is_blank, in_line, piece_at, piece_taken, token_in, tokens_from, tokens_of}
 use Rattle.grammar_laws.specs.Spans.{SpansAscend, StandsIn, IsGap, IsLastGap, GapsBetween, IsCut}
-use Rattle.grammar_laws.proofs.Pieces.{FrontIsGap, piece_parts}
-use Rattle.grammar_laws.proofs.SpanLaws.{place_after-append, place_of-add, spans_within}
+use Rattle.policy_tokens.proofs.Places.{place_after-append}
+use Rattle.policy_tokens.proofs.Pieces.{FrontIsGap, piece_parts}
+use Rattle.grammar_laws.proofs.SpanLaws.{place_of-add, spans_within}
 use Rattle.policy_tokens.proofs.Cutting.{tokens_from-nil}
 
 -- ---- gaps are passed over

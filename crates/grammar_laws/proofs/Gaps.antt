@@ -6,7 +6,7 @@ use Rattle.policy_tokens.specs.declared.token.Token.{Token}
 use Rattle.policy_tokens.specs.Places.{place_of}
 use Rattle.policy_tokens.specs.Tokens.{in_line, piece_at, token_in}
 use Rattle.grammar_laws.specs.Spans.{StandsIn, IsGap, IsLastGap}
-use Rattle.grammar_laws.proofs.Pieces.{LineEnds, FrontIsGap}
+use Rattle.policy_tokens.proofs.Pieces.{LineEnds, FrontIsGap}
 
 abbrev AllInLine : List ℕ → Type 0
 AllInLine line = AllByRecursion (λ b. in_line b ≡ true) line

@@ -11,7 +11,6 @@ mod Lists
 mod Lookups
 mod NameReaders
 mod Nesting
-mod Pieces
 mod Policies
 mod Readers
 mod Repeats

@@ -15,12 +15,9 @@ use Rattle.policy_tokens.specs.Places.{place_after, first_place, place_of, next_
 use Rattle.policy_tokens.specs.Tokens.{piece_at, piece_taken, token_in, tokens_from, tokens_of}
 use Rattle.policy_grammar.specs.Lexemes.{slice_of}
 use Rattle.grammar_laws.specs.Spans.{SpansAscend, StandsIn, IsGap, IsLastGap, GapsBetween, IsCut, HasItsBytes, ComesBefore, PlacesAscend}
-use Rattle.grammar_laws.proofs.Pieces.{piece_parts, FrontIsGap}
+use Rattle.policy_tokens.proofs.Places.{place_after-append}
+use Rattle.policy_tokens.proofs.Pieces.{piece_parts, FrontIsGap}
 use Rattle.grammar_laws.proofs.Gaps.{last_more, gap_before}
-
-pub place_after-append : (p : Place) (xs ys : List ℕ) → place_after p (xs ++ ys) ≡ place_after (place_after p xs) ys
-place_after-append p [] ys = refl
-place_after-append p (x ∷ xs) ys = place_after-append (next_place p x) xs ys
 
 pub place_of-add : (text : List ℕ) (i k : ℕ) → place_of text (i + k) ≡ place_after (place_of text i) (take k (drop i text))
 place_of-add text i k = ap (place_after first_place) (take-add i k text) ∙ place_after-append first_place (take i text) (take k (drop i text))

@@ -1,1 +1,4 @@
 pub mod Cutting
+pub mod Onward
+pub mod Pieces
+pub mod Places

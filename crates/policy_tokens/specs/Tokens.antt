@@ -11,8 +11,8 @@ use Rattle.policy_tokens.specs.declared.fault.PolicyFault.TheVariants as fault
 use Rattle.policy_tokens.specs.declared.token.Token.{Token}
 use Rattle.policy_tokens.specs.declared.token.TokenKind.{TokenKind}
 use Rattle.policy_tokens.specs.declared.token.TokenKind.TheVariants.{Word, Figure, Arrow, Above, Equals, BraceOpen, BraceClose, RoundOpen, RoundClose, Comma, Semicolon}
-use Rattle.policy_tokens.specs.declared.cut.Piece.{Piece}
-use Rattle.policy_tokens.specs.declared.cut.Piece.TheVariants as piece
+use Rattle.policy_tokens.specs.declared.piece.Piece.{Piece}
+use Rattle.policy_tokens.specs.declared.piece.Piece.TheVariants as piece
 use Rattle.policy_tokens.specs.Places.{place_after, first_place}
 
 -- space, tab, carriage return and line feed

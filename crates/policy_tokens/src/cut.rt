@@ -1,179 +1,16 @@
 //! Cutting a text into tokens.
-ghost use Rattle.std.specs.Prelude.{◌≡◌, ◌≤◌, ◌<◌, ◌+◌, ◌++◌, ℕ, length, IfOk, OnOk};
-ghost use Rattle.std.specs.List.{prefix_len};
+ghost use Rattle.std.specs.Prelude.{◌≡◌, ◌<◌, length};
 ghost use Rattle.std.specs.Str.{is_utf8};
-ghost use Rattle.net_base.specs.NameRule.{is_letter as letter, is_name_byte as word_byte};
+ghost use Rattle.policy_tokens.specs.Ahead.{behind_token, IsToken};
 ghost use Rattle.policy_tokens.specs.Gives.{Gives};
 ghost use Rattle.policy_tokens.specs.Places.{first_place};
-ghost use Rattle.policy_tokens.specs.Tokens.{is_blank as blank, in_line as line_byte, is_figure_byte as figure_byte, two_signs as pair, one_sign as single, word_piece as word, sign_at, piece_at, IsWithin, piece_taken, token_in, tokens_from, tokens_of};
+ghost use Rattle.policy_tokens.specs.Tokens.{tokens_from, tokens_of};
 
 use crate::fault::PolicyFault;
-use crate::place::behind_all;
-use crate::token::{Token, TokenKind};
+use crate::next::{Next, next_token};
+use crate::token::Token;
 use net_base::Place;
-use std::alloc::{AllocError, Global};
-
-/// What stands at the front of a text, with its number of bytes.
-#[derive(Clone, Copy)]
-pub(crate) enum Piece {
-    /// A blank or a comment.
-    Gap(usize),
-    Token(TokenKind, usize),
-    /// Nothing that may stand in a policy.
-    Stray,
-}
-
-fn is_letter(b: u8) -> bool
-    ensures { result ≡ letter b }
-{
-    b.is_ascii_alphabetic()
-}
-
-fn is_word_byte(b: u8) -> bool
-    ensures { result ≡ word_byte b }
-{
-    matches!(b, b'a'..=b'z' | b'A'..=b'Z' | b'0'..=b'9' | b'_' | b'-' | b'.')
-}
-
-fn is_figure_byte(b: u8) -> bool
-    ensures { result ≡ figure_byte b }
-{
-    matches!(b, b'0'..=b'9' | b'.' | b'/')
-}
-
-fn is_blank(b: u8) -> bool
-    ensures { result ≡ blank b }
-{
-    matches!(b, b' ' | b'\t' | b'\r' | b'\n')
-}
-
-fn word_len(bytes: &[u8]) -> usize
-    ensures len { result ≡ prefix_len word_byte bytes.now }
-    ensures within { result ≤ length bytes.now }
-{
-    bytes.iter().take_while(|b| is_word_byte(**b)).count()
-}
-
-fn figure_len(bytes: &[u8]) -> usize
-    ensures len { result ≡ prefix_len figure_byte bytes.now }
-    ensures within { result ≤ length bytes.now }
-{
-    bytes.iter().take_while(|b| is_figure_byte(**b)).count()
-}
-
-fn line_len(bytes: &[u8]) -> usize
-    ensures len { result ≡ prefix_len line_byte bytes.now }
-    ensures within { result ≤ length bytes.now }
-{
-    bytes.iter().take_while(|b| **b != b'\n').count()
-}
-
-fn two_signs(a: u8, b: u8) -> Option<TokenKind>
-    ensures { result ≡ pair a b }
-{
-    match (a, b) {
-        (b'=', b'>') => Some(TokenKind::Arrow),
-        (b'>', b'>') => Some(TokenKind::Above),
-        _ => None,
-    }
-}
-
-fn one_sign(a: u8) -> Option<TokenKind>
-    ensures { result ≡ single a }
-{
-    match a {
-        b'=' => Some(TokenKind::Equals),
-        b'{' => Some(TokenKind::BraceOpen),
-        b'}' => Some(TokenKind::BraceClose),
-        b'(' => Some(TokenKind::RoundOpen),
-        b')' => Some(TokenKind::RoundClose),
-        b',' => Some(TokenKind::Comma),
-        b';' => Some(TokenKind::Semicolon),
-        _ => None,
-    }
-}
-
-fn word_piece(n: usize) -> Piece
-    ensures rule { result ≡ word n }
-    ensures within { (m : ℕ) → 0 < n → n ≤ m → IsWithin result m }
-{
-    if n <= 32 {
-        Piece::Token(TokenKind::Word, n)
-    } else {
-        Piece::Stray
-    }
-}
-
-// A sign at the front, the longer one where it fits.
-fn sign_front(first: u8, rest: &[u8]) -> Piece
-    ensures rule { result ≡ sign_at first rest.now }
-    ensures within { IsWithin result (1 + length rest.now) }
-{
-    if !rest.is_empty() {
-        if let Some(kind) = two_signs(first, rest[0]) {
-            return Piece::Token(kind, 2);
-        }
-    }
-    match one_sign(first) {
-        Some(kind) => Piece::Token(kind, 1),
-        None => Piece::Stray,
-    }
-}
-
-// What stands at the front.
-#[tactic(auto, unfolding(crate::specs::Tokens::piece_at))]
-fn front(bytes: &[u8]) -> Piece
-    ensures rule { result ≡ piece_at bytes.now }
-    ensures within { IsWithin result (length bytes.now) }
-{
-    let [first, rest @ ..] = bytes else {
-        return Piece::Stray;
-    };
-    if is_blank(*first) {
-        Piece::Gap(1)
-    } else if *first == b'#' {
-        Piece::Gap(1 + line_len(rest))
-    } else if is_letter(*first) {
-        word_piece(1 + word_len(rest))
-    } else if first.is_ascii_digit() {
-        Piece::Token(TokenKind::Figure, 1 + figure_len(rest))
-    } else {
-        sign_front(*first, rest)
-    }
-}
-
-// How many bytes the piece at this place has.
-fn taken(piece: Piece, place: Place) -> Result<usize, PolicyFault>
-    ensures { Gives (λ n. n) result (piece_taken place piece) }
-{
-    match piece {
-        Piece::Gap(len) => Ok(len),
-        Piece::Token(_, len) => Ok(len),
-        Piece::Stray => Err(PolicyFault::Token(place)),
-    }
-}
-
-// Puts the piece at the end of the tokens, if it is one.
-fn push_token(
-    found: &mut Vec<Token>,
-    piece: Piece,
-    from: u32,
-    place: Place,
-) -> Result<(), AllocError>
-    requires { IfOk (piece_taken place piece) (λ n. from + n < 4294967295) }
-    ensures { OnOk result (found.new.items ≡ found.old.items ++ token_in from place piece) }
-{
-    if let Piece::Token(kind, len) = piece {
-        let to = from + len as u32;
-        found.push(Token {
-            kind,
-            from,
-            to,
-            place,
-        })?;
-    }
-    Ok(())
-}
+use std::alloc::Global;
 
 // The tokens of bytes that are text.
 fn cut(alloc: Global, bytes: &[u8]) -> Result<Vec<Token>, PolicyFault>
@@ -181,22 +18,19 @@ fn cut(alloc: Global, bytes: &[u8]) -> Result<Vec<Token>, PolicyFault>
     ensures { Gives (λ v. v.items) result (tokens_from (length bytes.now) 0 first_place bytes.now) }
 {
     let mut found = Vec::new(alloc);
-    let mut rest = bytes;
-    let mut from = 0;
-    let mut place = Place { line: 1, column: 1 };
-    while !rest.is_empty() {
-        let piece = front(rest);
-        let len = taken(piece, place)?;
-        push_token(&mut found, piece, from, place)?;
-        let (gone, after) = rest.split_at(len);
-        place = behind_all(place, gone);
-        from += len as u32;
-        rest = after;
+    let mut next = next_token(bytes, 0, Place { line: 1, column: 1 });
+    while let Next::Token(token) = next {
+        found.push(token)?;
+        next = next_token(bytes, token.to, token.behind());
     }
-    Ok(found)
+    match next {
+        Next::Stray(place) => Err(PolicyFault::Token(place)),
+        _ => Ok(found),
+    }
 }
 
-fn is_text(bytes: &[u8]) -> bool
+/// Whether the bytes are UTF-8.
+pub fn is_text(bytes: &[u8]) -> bool
     ensures { result ≡ is_utf8 bytes.now }
 {
     match std::str::from_utf8(bytes) {

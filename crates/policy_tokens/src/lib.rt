@@ -3,10 +3,11 @@
 
 mod cut;
 mod fault;
-mod place;
+mod next;
+mod piece;
 mod token;
 
-pub use cut::tokens;
+pub use cut::{is_text, tokens};
 pub use fault::PolicyFault;
-pub use place::end_place;
+pub use next::{Next, next_token};
 pub use token::{Token, TokenKind};

@@ -1,4 +1,7 @@
 //! Tokens.
+ghost use Rattle.std.specs.Prelude.{◌≡◌, ◌≤◌, ◌+◌, ◌-◌};
+ghost use Rattle.policy_tokens.specs.Ahead.{behind_token};
+
 use net_base::Place;
 
 /// What a token is.
@@ -36,4 +39,18 @@ pub struct Token {
     pub to: u32,
     /// Where its first byte stands.
     pub place: Place,
+}
+
+impl Token {
+    /// The place behind its last byte.
+    pub fn behind(&self) -> Place
+        requires order { self.now.from ≤ self.now.to }
+        requires column { self.now.place.column + (self.now.to - self.now.from) ≤ 4294967295 }
+        ensures { result ≡ behind_token self.now }
+    {
+        Place {
+            line: self.place.line,
+            column: self.place.column + (self.to - self.from),
+        }
+    }
 }
