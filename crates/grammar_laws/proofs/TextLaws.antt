@@ -10,7 +10,7 @@ use Rattle.policy_grammar.specs.declared.lexeme.Lexeme.{Lexeme}
 use Rattle.policy_grammar.specs.declared.symbol.Symbol.{Symbol}
 use Rattle.policy_grammar.specs.declared.symbol.Symbol.TheVariants.{Define, Originate, At, From, True, Le, Or, And, Not, Any, Drop, Internal, Avoid, Through, NoTransit, Start, End, Link, Path, Exit, Enter, Name, EndOfText}
 use Rattle.policy_grammar.specs.declared.item.Item.{Item}
-use Rattle.policy_grammar.specs.Symbols.{item_word, operator, path_call, place_call, word_symbol, symbol_of}
+use Rattle.policy_grammar.proofs.Symbols.{symbol_of-inner}
 use Rattle.policy_grammar.specs.Lexemes.{slice_of, lexeme_of, end_of, lexemes_of}
 use Rattle.policy_grammar.specs.Deep.{first_deep}
 use Rattle.policy_grammar.specs.Items.{items_of}
@@ -23,67 +23,6 @@ use Rattle.grammar_laws.proofs.Nesting.{brackets, room_for, room_where_shallow}
 use Rattle.grammar_laws.proofs.Policies.{items_up, same_items, reads_policy, policy_was_read, policy_stops}
 
 -- ---- no token stands for the end of the text
-
-abbrev Inner : Option Symbol → Type 0
-Inner None = Unit {0}
-Inner (Some s) = Differ s EndOfText
-
-either_inner : (b : Bool) (o p : Option Symbol) → Inner o → Inner p → Inner (if b then o else p)
-either_inner true o p a c = a
-either_inner false o p a c = c
-
-word_or : (s : Symbol) (bs word : List ℕ) (o : Option Symbol) → Differ s EndOfText → Inner o → Inner (if bytes_eq bs word then Some s else o)
-word_or s bs word o d i = either_inner (bytes_eq bs word) (Some s) o d i
-
-item_word-inner : (bs : List ℕ) → Inner (item_word bs)
-unfolding item_word
-item_word-inner bs =
-    word_or Define bs (codes "define") _ refl (word_or Originate bs (codes "originate") _ refl (word_or At bs (codes "at") _ refl
-    (word_or From bs (codes "from") _ refl (word_or True bs (codes "true") _ refl (word_or Le bs (codes "le") None refl tt)))))
-
-operator-inner : (bs : List ℕ) → Inner (operator bs)
-unfolding operator
-operator-inner bs = word_or Or bs (codes "or") _ refl (word_or And bs (codes "and") _ refl (word_or Not bs (codes "not") None refl tt))
-
-path_call-inner : (bs : List ℕ) → Inner (path_call bs)
-unfolding path_call
-path_call-inner bs =
-    word_or Any bs (codes "any") _ refl (word_or Drop bs (codes "drop") _ refl (word_or Internal bs (codes "internal") _ refl
-    (word_or Avoid bs (codes "avoid") _ refl (word_or Through bs (codes "through") _ refl (word_or NoTransit bs (codes "notransit") None refl tt)))))
-
-place_call-inner : (bs : List ℕ) → Inner (place_call bs)
-unfolding place_call
-place_call-inner bs =
-    word_or Start bs (codes "start") _ refl (word_or End bs (codes "end") _ refl (word_or Link bs (codes "link") _ refl
-    (word_or Path bs (codes "path") _ refl (word_or Exit bs (codes "exit") _ refl (word_or Enter bs (codes "enter") None refl tt)))))
-
-word_symbol-inner : (bs : List ℕ) → Differ (word_symbol bs) EndOfText
-unfolding word_symbol
-word_symbol-inner bs = first (item_word bs) (operator bs) (path_call bs) (place_call bs) (item_word-inner bs) (operator-inner bs) (path_call-inner bs) (place_call-inner bs)
-  where
-    or_else : Option Symbol → Symbol → Symbol
-    or_else (Some s) other = s
-    or_else None other = other
-
-    one : (o : Option Symbol) (s : Symbol) → Inner o → Differ s EndOfText → Differ (or_else o s) EndOfText
-    one (Some t) s i d = i
-    one None s i d = d
-
-    first : (a b c e : Option Symbol) → Inner a → Inner b → Inner c → Inner e → Differ (or_else a (or_else b (or_else c (or_else e Name)))) EndOfText
-    first a b c e i j k l = one a (or_else b (or_else c (or_else e Name))) i (one b (or_else c (or_else e Name)) j (one c (or_else e Name) k (one e Name l refl)))
-
-symbol_of-inner : (k : TokenKind) (bs : List ℕ) → Differ (symbol_of k bs) EndOfText
-symbol_of-inner kind.Word bs = word_symbol-inner bs
-symbol_of-inner kind.Figure bs = refl
-symbol_of-inner kind.Arrow bs = refl
-symbol_of-inner kind.Above bs = refl
-symbol_of-inner kind.Equals bs = refl
-symbol_of-inner kind.BraceOpen bs = refl
-symbol_of-inner kind.BraceClose bs = refl
-symbol_of-inner kind.RoundOpen bs = refl
-symbol_of-inner kind.RoundClose bs = refl
-symbol_of-inner kind.Comma bs = refl
-symbol_of-inner kind.Semicolon bs = refl
 
 abbrev NoEnd : List Lexeme → Type 0
 NoEnd [] = Unit {0}

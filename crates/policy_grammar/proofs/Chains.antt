@@ -1,40 +1,38 @@
 -- A chain that is read link by link, as a loop does.
-use Rattle.std.proofs.Common.{◌≡◌, ℕ, zero, suc, ◌-◌, ◌+◌, ◌≤◌, ◌<◌, List, Ok, Err, Some, None, refl, sym, ◌∙◌, arith}
+use Rattle.std.proofs.Common.{◌≡◌, ℕ, zero, suc, ◌-◌, ◌+◌, ◌≤◌, ◌<◌, List, [], ◌∷◌, length, Ok, Err, Some, None, refl, sym, ◌∙◌, arith}
 use Rattle.policy_tokens.specs.declared.fault.PolicyFault.{PolicyFault}
 use Rattle.policy_grammar.specs.declared.lexeme.Lexeme.{Lexeme}
 use Rattle.policy_grammar.specs.declared.symbol.Symbol.{Symbol}
 use Rattle.policy_grammar.specs.Reading.{Read, past, chain}
 
+-- What was read so far leads to the whole chain, as long as the number is at least that of the lexemes that are left.
+abbrev pub LeadsTo : {A : Type 0} → Symbol → (Lexeme → A → List Lexeme → Read A) → A → List Lexeme → Read A → Type 0
+LeadsTo joint link so_far ls total = (n : ℕ) × (length ls ≤ n) × (chain joint link n so_far ls ≡ total)
+
+pub begins : {A : Type 0} (joint : Symbol) (link : Lexeme → A → List Lexeme → Read A) (so_far : A) (ls : List Lexeme) → LeadsTo joint link so_far ls (chain joint link (length ls) so_far ls)
+begins joint link so_far ls = (length ls, omega arith, refl)
+
 -- one link more
-pub goes_on : {A : Type 0} (joint : Symbol) (link : Lexeme → A → List Lexeme → Read A) (count i : ℕ) (so_far : A) (ls : List Lexeme) (l : Lexeme) (rest : List Lexeme) (next : A) (after : List Lexeme) (total : Read A)
-    → i < count → past joint ls ≡ Some (l, rest) → link l so_far rest ≡ Ok (next, after) → chain joint link (count - i) so_far ls ≡ total → chain joint link (count - (i + 1)) next after ≡ total
+pub goes_on : {A : Type 0} (joint : Symbol) (link : Lexeme → A → List Lexeme → Read A) (so_far : A) (ls : List Lexeme) (l : Lexeme) (rest : List Lexeme) (next : A) (after : List Lexeme) (total : Read A)
+    → past joint ls ≡ Some (l, rest) → link l so_far rest ≡ Ok (next, after) → length after < length ls → LeadsTo joint link so_far ls total → LeadsTo joint link next after total
 unfolding chain
-goes_on joint link count i so_far ls l rest next after total lt here read is =
-    let k : count - i ≡ suc (count - (i + 1)) = omega arith in
-    let one : chain joint link (count - i) so_far ls ≡ chain joint link (count - (i + 1)) next after = rw (k, here, read) refl in
-    sym one ∙ is
+goes_on joint link so_far ls l rest next after total here read fewer (zero, le, is) = absurd (omega (arith, le, fewer))
+goes_on joint link so_far ls l rest next after total here read fewer (suc n, le, is) =
+    let one : chain joint link (suc n) so_far ls ≡ chain joint link n next after = rw (here, read) refl in
+    (n, omega (arith, le, fewer), sym one ∙ is)
 
 -- a link that isn't there
-pub stops : {A : Type 0} (joint : Symbol) (link : Lexeme → A → List Lexeme → Read A) (count i : ℕ) (so_far : A) (ls : List Lexeme) (l : Lexeme) (rest : List Lexeme) (e : PolicyFault) (total : Read A)
-    → i < count → past joint ls ≡ Some (l, rest) → link l so_far rest ≡ Err e → chain joint link (count - i) so_far ls ≡ total → total ≡ Err e
+pub stops : {A : Type 0} (joint : Symbol) (link : Lexeme → A → List Lexeme → Read A) (so_far : A) (ls : List Lexeme) (l : Lexeme) (rest : List Lexeme) (e : PolicyFault) (total : Read A)
+    → past joint ls ≡ Some (l, rest) → link l so_far rest ≡ Err e → 0 < length ls → LeadsTo joint link so_far ls total → total ≡ Err e
 unfolding chain
-stops joint link count i so_far ls l rest e total lt here read is =
-    let k : count - i ≡ suc (count - (i + 1)) = omega arith in
-    let one : chain joint link (count - i) so_far ls ≡ Err e = rw (k, here, read) refl in
+stops joint link so_far ls l rest e total here read some (zero, le, is) = absurd (omega (arith, le, some))
+stops joint link so_far ls l rest e total here read some (suc n, le, is) =
+    let one : chain joint link (suc n) so_far ls ≡ Err e = rw (here, read) refl in
     sym is ∙ one
 
 -- no joint comes
-pub ends : {A : Type 0} (joint : Symbol) (link : Lexeme → A → List Lexeme → Read A) (n : ℕ) (so_far : A) (ls : List Lexeme) (total : Read A)
-    → past joint ls ≡ None → chain joint link n so_far ls ≡ total → total ≡ Ok (so_far, ls)
+pub ends : {A : Type 0} (joint : Symbol) (link : Lexeme → A → List Lexeme → Read A) (so_far : A) (ls : List Lexeme) (total : Read A)
+    → past joint ls ≡ None → LeadsTo joint link so_far ls total → total ≡ Ok (so_far, ls)
 unfolding chain
-ends joint link zero so_far ls total none is = sym is
-ends joint link (suc n) so_far ls total none is = sym is ∙ rw none refl
-
--- the count is used up
-pub is_done : {A : Type 0} (joint : Symbol) (link : Lexeme → A → List Lexeme → Read A) (count i : ℕ) (so_far : A) (ls : List Lexeme) (total : Read A)
-    → count ≤ i → chain joint link (count - i) so_far ls ≡ total → total ≡ Ok (so_far, ls)
-unfolding chain
-is_done joint link count i so_far ls total le is =
-    let k : count - i ≡ 0 = omega arith in
-    let one : chain joint link (count - i) so_far ls ≡ Ok (so_far, ls) = rw k refl in
-    sym is ∙ one
+ends joint link so_far ls total none (zero, le, is) = sym is
+ends joint link so_far ls total none (suc n, le, is) = sym is ∙ rw none refl

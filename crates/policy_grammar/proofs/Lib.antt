@@ -1,3 +1,6 @@
-pub mod Chains
-pub mod Levels
-pub mod ItemLoop
+mod Counting
+mod Chains
+mod ItemLoop
+mod Lefts
+mod Levels
+pub mod Symbols

@@ -1,6 +1,7 @@
 pub mod Calls
 pub mod Deep
 pub mod Items
+pub mod Left
 pub mod Lexemes
 pub mod Names
 pub mod Ranked

@@ -1,11 +1,12 @@
 //! Calls.
-ghost use Rattle.std.specs.Prelude.{◌≡◌, length, option_map, [], ◌∷◌};
+ghost use Rattle.std.specs.Prelude.{◌≡◌, ◌≤◌, ℕ, List as Items, length, [], ◌∷◌};
 ghost use Rattle.policy_tokens.specs.Gives.{Gives};
+ghost use Rattle.policy_grammar.specs.Left.{left, StandsIn};
 ghost use Rattle.policy_grammar.specs.Reading.{chain};
-ghost use Rattle.policy_grammar.specs.Calls.{set_at, one_at, set_link, one_link, above_at, sets_call as call_of_sets, link_call as call_of_link, path_call as call_of_path, word_of as word, call_begins as begins, call_behind as behind, call_at};
+ghost use Rattle.policy_grammar.specs.Calls.{set_at, one_at, set_link, one_link, above_at, sets_call as call_of_sets, link_call as call_of_link, path_call as call_of_path, word_of as word, call_behind as behind_word, call_at};
 
 use crate::item::{Arg, CallWord, RawCall};
-use crate::lexeme::Lexeme;
+use crate::lexeme::{Lexeme, advance};
 use crate::name_list::{braced, names};
 use crate::reading::{begins, first, passed, past, refused};
 use crate::symbol::Symbol;
@@ -15,14 +16,17 @@ use std::alloc::Global;
 
 // A set: all locations, or names.
 #[tactic(auto, unfolding(crate::specs::Calls::set_at))]
-pub(crate) fn set(alloc: Global, lexemes: &[Lexeme]) -> Result<(Arg, &[Lexeme]), PolicyFault>
-    ensures { Gives (λ x. (x.0, x.1.now)) result (set_at lexemes.now) }
+pub(crate) fn set(alloc: Global, text: &[u8], at: &mut Lexeme) -> Result<Arg, PolicyFault>
+    requires stands { StandsIn text.now at.old }
+    ensures read { Gives (λ x. (x, left text.now at.new)) result (set_at (left text.now at.old)) }
+    ensures stands { StandsIn text.now at.new }
+    ensures fewer { length (left text.now at.new) ≤ length (left text.now at.old) }
 {
-    if let Some((_, rest)) = past(Symbol::Any, lexemes) {
-        return Ok((Arg::Any, rest));
+    if past(Symbol::Any, text, at) {
+        return Ok(Arg::Any);
     }
-    let (names, rest) = names(alloc, lexemes)?;
-    Ok((Arg::Names(names), rest))
+    let names = names(alloc, text, at)?;
+    Ok(Arg::Names(names))
 }
 
 // A set of one name, as a list.
@@ -36,66 +40,70 @@ fn alone(alloc: Global, name: Lexeme) -> Result<List<Lexeme>, PolicyFault>
 
 // A place of a `link` or a `path`: all locations, a name, or names in braces.
 #[tactic(auto, unfolding(crate::specs::Calls::one_at))]
-fn one(alloc: Global, lexemes: &[Lexeme]) -> Result<(Arg, &[Lexeme]), PolicyFault>
-    ensures { Gives (λ x. (x.0, x.1.now)) result (one_at lexemes.now) }
+fn one(alloc: Global, text: &[u8], at: &mut Lexeme) -> Result<Arg, PolicyFault>
+    requires stands { StandsIn text.now at.old }
+    ensures read { Gives (λ x. (x, left text.now at.new)) result (one_at (left text.now at.old)) }
+    ensures stands { StandsIn text.now at.new }
+    ensures fewer { length (left text.now at.new) ≤ length (left text.now at.old) }
 {
-    if let Some((_, rest)) = past(Symbol::Any, lexemes) {
-        return Ok((Arg::Any, rest));
+    if past(Symbol::Any, text, at) {
+        return Ok(Arg::Any);
     }
-    if begins(Symbol::BraceOpen, lexemes) {
-        let (names, rest) = braced(alloc, lexemes)?;
-        return Ok((Arg::Names(names), rest));
+    if begins(Symbol::BraceOpen, at) {
+        let names = braced(alloc, text, at)?;
+        return Ok(Arg::Names(names));
     }
-    let (name, rest) = first(Symbol::Name, lexemes)?;
-    Ok((Arg::Names(alone(alloc, name)?), rest))
+    let name = first(Symbol::Name, text, at)?;
+    Ok(Arg::Names(alone(alloc, name)?))
 }
 
 // More sets, as long as a `>>` comes.
-fn more_sets<'a>(
+fn more_sets(
     alloc: Global,
     found: &mut Vec<Arg>,
-    lexemes: &'a [Lexeme],
-) -> Result<&'a [Lexeme], PolicyFault>
-    ensures { Gives (λ rest. (found.new.items, rest.now)) result (chain Symbol.Above set_link (length lexemes.now) found.old.items lexemes.now) }
+    text: &[u8],
+    at: &mut Lexeme,
+) -> Result<(), PolicyFault>
+    requires stands { StandsIn text.now at.old }
+    ensures read { Gives (λ _. (found.new.items, left text.now at.new)) result (chain Symbol.Above set_link (length (left text.now at.old)) found.old.items (left text.now at.old)) }
+    ensures stands { StandsIn text.now at.new }
+    ensures fewer { length (left text.now at.new) ≤ length (left text.now at.old) }
 {
-    let mut rest = lexemes;
-    for _ in 0..lexemes.len() {
-        let Some((_, after)) = past(Symbol::Above, rest) else {
-            return Ok(rest);
-        };
-        let (arg, after) = set(alloc, after)?;
+    while past(Symbol::Above, text, at) {
+        let arg = set(alloc, text, at)?;
         found.push(arg)?;
-        rest = after;
     }
-    Ok(rest)
+    Ok(())
 }
 
 // More places, as long as a comma comes.
-fn more_ones<'a>(
+fn more_ones(
     alloc: Global,
     found: &mut Vec<Arg>,
-    lexemes: &'a [Lexeme],
-) -> Result<&'a [Lexeme], PolicyFault>
-    ensures { Gives (λ rest. (found.new.items, rest.now)) result (chain Symbol.Comma one_link (length lexemes.now) found.old.items lexemes.now) }
+    text: &[u8],
+    at: &mut Lexeme,
+) -> Result<(), PolicyFault>
+    requires stands { StandsIn text.now at.old }
+    ensures read { Gives (λ _. (found.new.items, left text.now at.new)) result (chain Symbol.Comma one_link (length (left text.now at.old)) found.old.items (left text.now at.old)) }
+    ensures stands { StandsIn text.now at.new }
+    ensures fewer { length (left text.now at.new) ≤ length (left text.now at.old) }
 {
-    let mut rest = lexemes;
-    for _ in 0..lexemes.len() {
-        let Some((_, after)) = past(Symbol::Comma, rest) else {
-            return Ok(rest);
-        };
-        let (arg, after) = one(alloc, after)?;
+    while past(Symbol::Comma, text, at) {
+        let arg = one(alloc, text, at)?;
         found.push(arg)?;
-        rest = after;
     }
-    Ok(rest)
+    Ok(())
 }
 
-// Where the `>>` stands that is the first lexeme, if it is one.
-fn above(lexemes: &[Lexeme]) -> Option<Place>
-    ensures { result ≡ above_at lexemes.now }
+// Where the `>>` stands that is this lexeme, if it is one.
+fn above(at: &Lexeme) -> Option<Place>
+    ensures { (text : Items ℕ) → result ≡ above_at (left text at.now) }
 {
-    let (joint, _) = past(Symbol::Above, lexemes)?;
-    Some(joint.place)
+    if begins(Symbol::Above, at) {
+        Some(at.place)
+    } else {
+        None
+    }
 }
 
 // The ranked sets of a call.
@@ -103,62 +111,70 @@ fn above(lexemes: &[Lexeme]) -> Option<Place>
 fn sets_call(
     alloc: Global,
     word: CallWord,
-    lexemes: &[Lexeme],
-) -> Result<(RawCall, &[Lexeme]), PolicyFault>
-    ensures { Gives (λ x. (x.0, x.1.now)) result (call_of_sets word lexemes.now) }
+    text: &[u8],
+    at: &mut Lexeme,
+) -> Result<RawCall, PolicyFault>
+    requires stands { StandsIn text.now at.old }
+    ensures read { Gives (λ x. (x, left text.now at.new)) result (call_of_sets word (left text.now at.old)) }
+    ensures stands { StandsIn text.now at.new }
+    ensures fewer { length (left text.now at.new) ≤ length (left text.now at.old) }
 {
-    let inside = passed(Symbol::RoundOpen, lexemes)?;
-    let (arg, after) = set(alloc, inside)?;
-    let above = above(after);
+    passed(Symbol::RoundOpen, text, at)?;
+    let arg = set(alloc, text, at)?;
+    let above = above(at);
     let mut args = Vec::new(alloc);
     args.push(arg)?;
-    let rest = more_sets(alloc, &mut args, after)?;
-    let rest = passed(Symbol::RoundClose, rest)?;
+    more_sets(alloc, &mut args, text, at)?;
+    passed(Symbol::RoundClose, text, at)?;
     let args = List::from_vec(args);
-    Ok((RawCall { word, args, above }, rest))
+    Ok(RawCall { word, args, above })
 }
 
 // The two places of a `link`.
 #[tactic(auto, unfolding(crate::specs::Calls::link_call))]
-fn link_call(alloc: Global, lexemes: &[Lexeme]) -> Result<(RawCall, &[Lexeme]), PolicyFault>
-    ensures { Gives (λ x. (x.0, x.1.now)) result (call_of_link lexemes.now) }
+fn link_call(alloc: Global, text: &[u8], at: &mut Lexeme) -> Result<RawCall, PolicyFault>
+    requires stands { StandsIn text.now at.old }
+    ensures read { Gives (λ x. (x, left text.now at.new)) result (call_of_link (left text.now at.old)) }
+    ensures stands { StandsIn text.now at.new }
+    ensures fewer { length (left text.now at.new) ≤ length (left text.now at.old) }
 {
-    let inside = passed(Symbol::RoundOpen, lexemes)?;
-    let (a, rest) = one(alloc, inside)?;
-    let rest = passed(Symbol::Comma, rest)?;
-    let (b, rest) = one(alloc, rest)?;
-    let rest = passed(Symbol::RoundClose, rest)?;
+    passed(Symbol::RoundOpen, text, at)?;
+    let a = one(alloc, text, at)?;
+    passed(Symbol::Comma, text, at)?;
+    let b = one(alloc, text, at)?;
+    passed(Symbol::RoundClose, text, at)?;
     let mut args = Vec::new(alloc);
     args.push(a)?;
     args.push(b)?;
-    let call = RawCall {
+    Ok(RawCall {
         word: CallWord::Link,
         args: List::from_vec(args),
         above: None,
-    };
-    Ok((call, rest))
+    })
 }
 
 // The places of a `path`, two at least.
 #[tactic(auto, unfolding(crate::specs::Calls::path_call))]
-fn path_call(alloc: Global, lexemes: &[Lexeme]) -> Result<(RawCall, &[Lexeme]), PolicyFault>
-    ensures { Gives (λ x. (x.0, x.1.now)) result (call_of_path lexemes.now) }
+fn path_call(alloc: Global, text: &[u8], at: &mut Lexeme) -> Result<RawCall, PolicyFault>
+    requires stands { StandsIn text.now at.old }
+    ensures read { Gives (λ x. (x, left text.now at.new)) result (call_of_path (left text.now at.old)) }
+    ensures stands { StandsIn text.now at.new }
+    ensures fewer { length (left text.now at.new) ≤ length (left text.now at.old) }
 {
-    let inside = passed(Symbol::RoundOpen, lexemes)?;
-    let (a, rest) = one(alloc, inside)?;
-    let rest = passed(Symbol::Comma, rest)?;
-    let (b, rest) = one(alloc, rest)?;
+    passed(Symbol::RoundOpen, text, at)?;
+    let a = one(alloc, text, at)?;
+    passed(Symbol::Comma, text, at)?;
+    let b = one(alloc, text, at)?;
     let mut args = Vec::new(alloc);
     args.push(a)?;
     args.push(b)?;
-    let rest = more_ones(alloc, &mut args, rest)?;
-    let rest = passed(Symbol::RoundClose, rest)?;
-    let call = RawCall {
+    more_ones(alloc, &mut args, text, at)?;
+    passed(Symbol::RoundClose, text, at)?;
+    Ok(RawCall {
         word: CallWord::Path,
         args: List::from_vec(args),
         above: None,
-    };
-    Ok((call, rest))
+    })
 }
 
 fn word_of(symbol: Symbol) -> Option<CallWord>
@@ -181,49 +197,41 @@ fn word_of(symbol: Symbol) -> Option<CallWord>
     }
 }
 
-// The word of the call that comes, and what stands behind it.
-fn call_word(lexemes: &[Lexeme]) -> Option<(CallWord, &[Lexeme])>
-    ensures { option_map (λ x. (x.0, x.1.now)) result ≡ begins lexemes.now }
-{
-    match lexemes {
-        [] => None,
-        [first, rest @ ..] => match word_of(first.symbol) {
-            Some(word) => Some((word, rest)),
-            None => None,
-        },
-    }
-}
-
 // What stands behind the word of a call.
 fn call_behind(
     alloc: Global,
     word: CallWord,
-    lexemes: &[Lexeme],
-) -> Result<(RawCall, &[Lexeme]), PolicyFault>
-    ensures { Gives (λ x. (x.0, x.1.now)) result (behind word lexemes.now) }
+    text: &[u8],
+    at: &mut Lexeme,
+) -> Result<RawCall, PolicyFault>
+    requires stands { StandsIn text.now at.old }
+    ensures read { Gives (λ x. (x, left text.now at.new)) result (behind_word word (left text.now at.old)) }
+    ensures stands { StandsIn text.now at.new }
+    ensures fewer { length (left text.now at.new) ≤ length (left text.now at.old) }
 {
     match word {
-        CallWord::Any | CallWord::Drop | CallWord::Internal => {
-            let call = RawCall {
-                word,
-                args: List::new(alloc),
-                above: None,
-            };
-            Ok((call, lexemes))
-        }
-        CallWord::Link => link_call(alloc, lexemes),
-        CallWord::Path => path_call(alloc, lexemes),
-        _ => sets_call(alloc, word, lexemes),
+        CallWord::Any | CallWord::Drop | CallWord::Internal => Ok(RawCall {
+            word,
+            args: List::new(alloc),
+            above: None,
+        }),
+        CallWord::Link => link_call(alloc, text, at),
+        CallWord::Path => path_call(alloc, text, at),
+        _ => sets_call(alloc, word, text, at),
     }
 }
 
 // A call.
 #[tactic(auto, unfolding(crate::specs::Calls::call_at))]
-pub(crate) fn call(alloc: Global, lexemes: &[Lexeme]) -> Result<(RawCall, &[Lexeme]), PolicyFault>
-    ensures { Gives (λ x. (x.0, x.1.now)) result (call_at lexemes.now) }
+pub(crate) fn call(alloc: Global, text: &[u8], at: &mut Lexeme) -> Result<RawCall, PolicyFault>
+    requires stands { StandsIn text.now at.old }
+    ensures read { Gives (λ x. (x, left text.now at.new)) result (call_at (left text.now at.old)) }
+    ensures stands { StandsIn text.now at.new }
+    ensures fewer { length (left text.now at.new) ≤ length (left text.now at.old) }
 {
-    match call_word(lexemes) {
-        Some((word, rest)) => call_behind(alloc, word, rest),
-        None => Err(refused(lexemes)),
-    }
+    let Some(word) = word_of(at.symbol) else {
+        return Err(refused(at));
+    };
+    advance(text, at);
+    call_behind(alloc, word, text, at)
 }

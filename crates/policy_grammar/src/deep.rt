@@ -1,47 +1,68 @@
 //! How many brackets are open at once.
-ghost use Rattle.std.specs.Prelude.{◌≡◌, ◌≤◌, false};
+ghost use Rattle.std.specs.Prelude.{◌≡◌, ◌≤◌, ◌<◌, ◌∷◌, ℕ, List, length};
 ghost use Rattle.net_base.specs.declared.limits.TheConstants.{BRACKETS};
-ghost use Rattle.policy_grammar.specs.Deep.{first_deep as first_too_deep, is_too_deep as too_deep, open_behind as behind};
+ghost use Rattle.policy_tokens.specs.Gives.{Gives};
+ghost use Rattle.policy_tokens.specs.Places.{first_place};
+ghost use Rattle.policy_tokens.specs.Tokens.{tokens_from};
+ghost use Rattle.policy_grammar.specs.Deep.{deep_from, deep_found};
+ghost use Rattle.policy_grammar.specs.declared.lexeme.Lexeme.{Lexeme};
+ghost use Rattle.policy_grammar.specs.Symbols.{symbol_of};
 
-use crate::lexeme::Lexeme;
-use crate::symbol::Symbol;
 use net_base::Place;
 use net_base::limits::BRACKETS;
+use policy_tokens::{Next, PolicyFault, TokenKind, next_token};
 
-// Whether one more bracket opens while 64 are open.
-fn is_too_deep(count: u64, symbol: Symbol) -> bool
-    ensures { result ≡ too_deep count symbol }
+// The brackets of some tokens.
+#[derive(Clone, Copy)]
+struct Brackets {
+    open: u64,
+    // Where the first one opens that is too deep.
+    deep: Option<Place>,
+}
+
+// The brackets with those of one token more, which stands at this place.
+fn with_token(brackets: Brackets, kind: TokenKind, place: Place) -> Brackets
+    requires { brackets.open ≤ BRACKETS }
+    ensures brackets { (bytes : List ℕ) (l : Lexeme) (ls : List Lexeme) → l.symbol ≡ symbol_of kind bytes → l.place ≡ place → deep_from result.deep result.open ls ≡ deep_from brackets.deep brackets.open (l ∷ ls) }
+    ensures fits { result.open ≤ BRACKETS }
 {
-    match symbol {
-        Symbol::RoundOpen => count >= BRACKETS,
-        _ => false,
+    if brackets.deep.is_some() {
+        return brackets;
+    }
+    match kind {
+        TokenKind::RoundOpen if brackets.open >= BRACKETS => Brackets {
+            open: brackets.open,
+            deep: Some(place),
+        },
+        TokenKind::RoundOpen => Brackets {
+            open: brackets.open + 1,
+            deep: None,
+        },
+        TokenKind::RoundClose => Brackets {
+            open: brackets.open.saturating_sub(1),
+            deep: None,
+        },
+        _ => brackets,
     }
 }
 
-// How many brackets are open behind a lexeme.
-fn open_behind(count: u64, symbol: Symbol) -> u64
-    requires fits { count ≤ BRACKETS }
-    requires shallow { too_deep count symbol ≡ false }
-    ensures count { result ≡ behind count symbol }
-    ensures fits { result ≤ BRACKETS }
+/// The place of the first `(` of a text that comes while 64 brackets are open, or the fault of what begins no token.
+/// A `)` closes one where one is open.
+pub fn first_deep(text: &[u8]) -> Result<Option<Place>, PolicyFault>
+    requires { length text.now < 4294967295 }
+    ensures { Gives (λ x. x) result (deep_found text.now (tokens_from (length text.now) 0 first_place text.now)) }
 {
-    match symbol {
-        Symbol::RoundOpen => count + 1,
-        Symbol::RoundClose => count.saturating_sub(1),
-        _ => count,
+    let mut brackets = Brackets {
+        open: 0,
+        deep: None,
+    };
+    let mut next = next_token(text, 0, Place { line: 1, column: 1 });
+    while let Next::Token(token) = next {
+        brackets = with_token(brackets, token.kind, token.place);
+        next = next_token(text, token.to, token.behind());
     }
-}
-
-/// The place of the first `(` that comes while 64 brackets are open. A `)` closes one where one is open.
-pub fn first_deep(lexemes: &[Lexeme]) -> Option<Place>
-    ensures { result ≡ first_too_deep 0 lexemes.now }
-{
-    let mut count = 0;
-    for lexeme in lexemes {
-        if is_too_deep(count, lexeme.symbol) {
-            return Some(lexeme.place);
-        }
-        count = open_behind(count, lexeme.symbol);
+    match next {
+        Next::Stray(place) => Err(PolicyFault::Token(place)),
+        _ => Ok(brackets.deep),
     }
-    None
 }

@@ -1,11 +1,14 @@
 //! Tokens with what they stand for.
-ghost use Rattle.std.specs.Prelude.{◌≡◌, IfOk};
-ghost use Rattle.policy_grammar.specs.Lexemes.{slice_of, lexeme_of as lexeme, lexemes_of};
+ghost use Rattle.std.specs.Prelude.{◌≡◌, ◌<◌, length};
+ghost use Rattle.policy_tokens.specs.Ahead.{ahead_of, IsPlace};
+ghost use Rattle.policy_tokens.specs.Places.{first_place};
+ghost use Rattle.policy_grammar.specs.Symbols.{number_of};
+ghost use Rattle.policy_grammar.specs.Lexemes.{slice_of, lexeme_of as lexeme};
+ghost use Rattle.policy_grammar.specs.Left.{lexemes_ahead, behind, left, StandsIn};
 
 use crate::symbol::{Symbol, symbol_of};
 use net_base::Place;
-use policy_tokens::Token;
-use std::alloc::{AllocError, Global};
+use policy_tokens::{Next, Token, next_token};
 
 /// A token with what it stands for: the bytes of the text from `from` on, before `to`.
 #[derive(Clone, Copy)]
@@ -46,24 +49,43 @@ fn lexeme_of(bytes: &[u8], token: &Token) -> Lexeme
     }
 }
 
-/// The lexemes of a text of these tokens, and behind them one for the end of the text, which stands at `end`.
-pub fn lexemes(
-    alloc: Global,
-    bytes: &[u8],
-    tokens: &[Token],
-    end: Place,
-) -> Result<Vec<Lexeme>, AllocError>
-    ensures { IfOk result (λ v. v.items ≡ lexemes_of bytes.now tokens.now end) }
+// The next lexeme at a place of a text or behind it.
+fn lexeme_from(text: &[u8], from: u32, place: Place) -> Lexeme
+    requires fits { length text.now < 4294967295 }
+    requires place { IsPlace text.now from place }
+    ensures left { left text.now result ≡ lexemes_ahead text.now (ahead_of text.now from place) }
+    ensures stands { StandsIn text.now result }
 {
-    let mut found = Vec::new(alloc);
-    for token in tokens {
-        found.push(lexeme_of(bytes, token))?;
+    match next_token(text, from, place) {
+        Next::Token(token) => lexeme_of(text, &token),
+        Next::End(place) | Next::Stray(place) => Lexeme {
+            symbol: Symbol::EndOfText,
+            from: 0,
+            to: 0,
+            place,
+        },
     }
-    found.push(Lexeme {
-        symbol: Symbol::EndOfText,
-        from: 0,
-        to: 0,
-        place: end,
-    })?;
-    Ok(found)
+}
+
+// The first lexeme of a text.
+pub(crate) fn first_lexeme(text: &[u8]) -> Lexeme
+    requires { length text.now < 4294967295 }
+    ensures left { left text.now result ≡ lexemes_ahead text.now (ahead_of text.now 0 first_place) }
+    ensures stands { StandsIn text.now result }
+{
+    lexeme_from(text, 0, Place { line: 1, column: 1 })
+}
+
+// Goes on to the next lexeme.
+pub(crate) fn advance(text: &[u8], at: &mut Lexeme)
+    requires inside { number_of at.old.symbol < 32 }
+    requires stands { StandsIn text.now at.old }
+    ensures left { behind text.now at.old ≡ left text.now at.new }
+    ensures stands { StandsIn text.now at.new }
+{
+    let place = Place {
+        line: at.place.line,
+        column: at.place.column + (at.to - at.from),
+    };
+    *at = lexeme_from(text, at.to, place);
 }

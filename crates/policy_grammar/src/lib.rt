@@ -15,5 +15,5 @@ mod symbol;
 pub use deep::first_deep;
 pub use item::{Arg, CallWord, Item, RawCall, RawPattern, RawStatement, Step};
 pub use items::read_items;
-pub use lexeme::{Lexeme, lexemes, text_of};
+pub use lexeme::{Lexeme, text_of};
 pub use symbol::Symbol;

@@ -1,6 +1,7 @@
 //! Lists of names.
-ghost use Rattle.std.specs.Prelude.{◌≡◌, length};
+ghost use Rattle.std.specs.Prelude.{◌≡◌, ◌≤◌, length};
 ghost use Rattle.policy_tokens.specs.Gives.{Gives};
+ghost use Rattle.policy_grammar.specs.Left.{left, StandsIn};
 ghost use Rattle.policy_grammar.specs.Reading.{chain};
 ghost use Rattle.policy_grammar.specs.Names.{name_link, names_at, braced_at};
 
@@ -12,49 +13,52 @@ use policy_tokens::PolicyFault;
 use std::alloc::Global;
 
 // More names, as long as a comma comes.
-fn more_names<'a>(
-    found: &mut Vec<Lexeme>,
-    lexemes: &'a [Lexeme],
-) -> Result<&'a [Lexeme], PolicyFault>
-    ensures { Gives (λ rest. (found.new.items, rest.now)) result (chain Symbol.Comma name_link (length lexemes.now) found.old.items lexemes.now) }
+fn more_names(found: &mut Vec<Lexeme>, text: &[u8], at: &mut Lexeme) -> Result<(), PolicyFault>
+    requires stands { StandsIn text.now at.old }
+    ensures read { Gives (λ _. (found.new.items, left text.now at.new)) result (chain Symbol.Comma name_link (length (left text.now at.old)) found.old.items (left text.now at.old)) }
+    ensures stands { StandsIn text.now at.new }
+    ensures fewer { length (left text.now at.new) ≤ length (left text.now at.old) }
 {
-    let mut rest = lexemes;
-    for _ in 0..lexemes.len() {
-        let Some((_, after)) = past(Symbol::Comma, rest) else {
-            return Ok(rest);
-        };
-        let (name, after) = first(Symbol::Name, after)?;
+    while past(Symbol::Comma, text, at) {
+        let name = first(Symbol::Name, text, at)?;
         found.push(name)?;
-        rest = after;
     }
-    Ok(rest)
+    Ok(())
 }
 
 // Names that are joined by commas.
 #[tactic(auto, unfolding(crate::specs::Names::names_at))]
 pub(crate) fn names(
     alloc: Global,
-    lexemes: &[Lexeme],
-) -> Result<(List<Lexeme>, &[Lexeme]), PolicyFault>
-    ensures { Gives (λ x. (x.0, x.1.now)) result (names_at lexemes.now) }
+    text: &[u8],
+    at: &mut Lexeme,
+) -> Result<List<Lexeme>, PolicyFault>
+    requires stands { StandsIn text.now at.old }
+    ensures read { Gives (λ x. (x, left text.now at.new)) result (names_at (left text.now at.old)) }
+    ensures stands { StandsIn text.now at.new }
+    ensures fewer { length (left text.now at.new) ≤ length (left text.now at.old) }
 {
-    let (name, rest) = first(Symbol::Name, lexemes)?;
+    let name = first(Symbol::Name, text, at)?;
     let mut found = Vec::new(alloc);
     found.push(name)?;
-    let rest = more_names(&mut found, rest)?;
-    Ok((List::from_vec(found), rest))
+    more_names(&mut found, text, at)?;
+    Ok(List::from_vec(found))
 }
 
 // Names in braces.
 #[tactic(auto, unfolding(crate::specs::Names::braced_at))]
 pub(crate) fn braced(
     alloc: Global,
-    lexemes: &[Lexeme],
-) -> Result<(List<Lexeme>, &[Lexeme]), PolicyFault>
-    ensures { Gives (λ x. (x.0, x.1.now)) result (braced_at lexemes.now) }
+    text: &[u8],
+    at: &mut Lexeme,
+) -> Result<List<Lexeme>, PolicyFault>
+    requires stands { StandsIn text.now at.old }
+    ensures read { Gives (λ x. (x, left text.now at.new)) result (braced_at (left text.now at.old)) }
+    ensures stands { StandsIn text.now at.new }
+    ensures fewer { length (left text.now at.new) ≤ length (left text.now at.old) }
 {
-    let inside = passed(Symbol::BraceOpen, lexemes)?;
-    let (names, rest) = names(alloc, inside)?;
-    let rest = passed(Symbol::BraceClose, rest)?;
-    Ok((names, rest))
+    passed(Symbol::BraceOpen, text, at)?;
+    let names = names(alloc, text, at)?;
+    passed(Symbol::BraceClose, text, at)?;
+    Ok(names)
 }

@@ -1,7 +1,9 @@
 //! Ranked expressions.
-ghost use Rattle.std.specs.Prelude.{◌≡◌, length};
-ghost use Rattle.policy_grammar.specs.Reading.{chain};
+ghost use Rattle.std.specs.Prelude.{◌≡◌, ◌≤◌, ◌<◌, length};
 ghost use Rattle.policy_tokens.specs.Gives.{Gives};
+ghost use Rattle.policy_grammar.specs.Symbols.{number_of};
+ghost use Rattle.policy_grammar.specs.Left.{left, StandsIn};
+ghost use Rattle.policy_grammar.specs.Reading.{chain};
 ghost use Rattle.policy_grammar.specs.Ranked.{atom_with, unit_with, operator_of as level_operator, step_of as level_step, joined, side_link, side_with, inner_at};
 
 use crate::call::call;
@@ -24,7 +26,8 @@ pub(crate) enum Level {
 }
 
 fn operator_of(level: Level) -> Symbol
-    ensures { result ≡ level_operator level }
+    ensures operator { result ≡ level_operator level }
+    ensures inside { number_of result < 32 }
 {
     match level {
         Level::Ranked => Symbol::Above,
@@ -45,109 +48,130 @@ fn step_of(level: Level, joint: &Lexeme) -> Step
 
 // What a bracket holds, where `depth` brackets more may be open.
 #[cycle(expression)]
-fn inner<'a>(
+fn inner(
     alloc: Global,
     depth: u64,
     out: &mut Vec<Step>,
-    lexemes: &'a [Lexeme],
-) -> Result<&'a [Lexeme], PolicyFault>
-    ensures { Gives (λ rest. (out.new.items, rest.now)) result (inner_at depth out.old.items lexemes.now) }
+    text: &[u8],
+    at: &mut Lexeme,
+) -> Result<(), PolicyFault>
+    requires stands { StandsIn text.now at.old }
+    ensures read { Gives (λ _. (out.new.items, left text.now at.new)) result (inner_at depth out.old.items (left text.now at.old)) }
+    ensures stands { StandsIn text.now at.new }
+    ensures fewer { length (left text.now at.new) ≤ length (left text.now at.old) }
 {
     if depth == 0 {
-        return Err(refused(lexemes));
+        return Err(refused(at));
     }
-    expression(alloc, Level::Ranked, depth - 1, out, lexemes)
+    expression(alloc, Level::Ranked, depth - 1, out, text, at)
 }
 
 // An expression in brackets, or a call.
 #[cycle(expression)]
-fn atom<'a>(
+fn atom(
     alloc: Global,
     depth: u64,
     out: &mut Vec<Step>,
-    lexemes: &'a [Lexeme],
-) -> Result<&'a [Lexeme], PolicyFault>
-    ensures { Gives (λ rest. (out.new.items, rest.now)) result (atom_with (inner_at depth) out.old.items lexemes.now) }
+    text: &[u8],
+    at: &mut Lexeme,
+) -> Result<(), PolicyFault>
+    requires stands { StandsIn text.now at.old }
+    ensures read { Gives (λ _. (out.new.items, left text.now at.new)) result (atom_with (inner_at depth) out.old.items (left text.now at.old)) }
+    ensures stands { StandsIn text.now at.new }
+    ensures fewer { length (left text.now at.new) ≤ length (left text.now at.old) }
 {
-    if let Some((_, inside)) = past(Symbol::RoundOpen, lexemes) {
-        let rest = inner(alloc, depth, out, inside)?;
-        return passed(Symbol::RoundClose, rest);
+    if past(Symbol::RoundOpen, text, at) {
+        inner(alloc, depth, out, text, at)?;
+        return passed(Symbol::RoundClose, text, at);
     }
-    let (call, rest) = call(alloc, lexemes)?;
+    let call = call(alloc, text, at)?;
     out.push(Step::Call(call))?;
-    Ok(rest)
+    Ok(())
 }
 
 // An atom, with a `not` before it or without.
 #[cycle(expression)]
-fn unit<'a>(
+fn unit(
     alloc: Global,
     depth: u64,
     out: &mut Vec<Step>,
-    lexemes: &'a [Lexeme],
-) -> Result<&'a [Lexeme], PolicyFault>
-    ensures { Gives (λ rest. (out.new.items, rest.now)) result (unit_with (inner_at depth) out.old.items lexemes.now) }
+    text: &[u8],
+    at: &mut Lexeme,
+) -> Result<(), PolicyFault>
+    requires stands { StandsIn text.now at.old }
+    ensures read { Gives (λ _. (out.new.items, left text.now at.new)) result (unit_with (inner_at depth) out.old.items (left text.now at.old)) }
+    ensures stands { StandsIn text.now at.new }
+    ensures fewer { length (left text.now at.new) ≤ length (left text.now at.old) }
 {
-    if let Some((_, negated)) = past(Symbol::Not, lexemes) {
-        let rest = atom(alloc, depth, out, negated)?;
+    if past(Symbol::Not, text, at) {
+        atom(alloc, depth, out, text, at)?;
         out.push(Step::Not)?;
-        return Ok(rest);
+        return Ok(());
     }
-    atom(alloc, depth, out, lexemes)
+    atom(alloc, depth, out, text, at)
 }
 
 // A side of an operator of this level.
 #[cycle(expression)]
-fn side<'a>(
+fn side(
     alloc: Global,
     level: Level,
     depth: u64,
     out: &mut Vec<Step>,
-    lexemes: &'a [Lexeme],
-) -> Result<&'a [Lexeme], PolicyFault>
-    ensures { Gives (λ rest. (out.new.items, rest.now)) result (side_with level (inner_at depth) out.old.items lexemes.now) }
+    text: &[u8],
+    at: &mut Lexeme,
+) -> Result<(), PolicyFault>
+    requires stands { StandsIn text.now at.old }
+    ensures read { Gives (λ _. (out.new.items, left text.now at.new)) result (side_with level (inner_at depth) out.old.items (left text.now at.old)) }
+    ensures stands { StandsIn text.now at.new }
+    ensures fewer { length (left text.now at.new) ≤ length (left text.now at.old) }
 {
     match level {
-        Level::Ranked => expression(alloc, Level::Choice, depth, out, lexemes),
-        Level::Choice => expression(alloc, Level::Joint, depth, out, lexemes),
-        Level::Joint => unit(alloc, depth, out, lexemes),
+        Level::Ranked => expression(alloc, Level::Choice, depth, out, text, at),
+        Level::Choice => expression(alloc, Level::Joint, depth, out, text, at),
+        Level::Joint => unit(alloc, depth, out, text, at),
     }
 }
 
 // More sides, as long as the operator of this level comes.
 #[cycle(expression)]
-fn more_sides<'a>(
+fn more_sides(
     alloc: Global,
     level: Level,
     depth: u64,
     out: &mut Vec<Step>,
-    lexemes: &'a [Lexeme],
-) -> Result<&'a [Lexeme], PolicyFault>
-    ensures { Gives (λ rest. (out.new.items, rest.now)) result (chain (level_operator level) (side_link level (side_with level (inner_at depth))) (length lexemes.now) out.old.items lexemes.now) }
+    text: &[u8],
+    at: &mut Lexeme,
+) -> Result<(), PolicyFault>
+    requires stands { StandsIn text.now at.old }
+    ensures read { Gives (λ _. (out.new.items, left text.now at.new)) result (chain (level_operator level) (side_link level (side_with level (inner_at depth))) (length (left text.now at.old)) out.old.items (left text.now at.old)) }
+    ensures stands { StandsIn text.now at.new }
+    ensures fewer { length (left text.now at.new) ≤ length (left text.now at.old) }
 {
-    let mut rest = lexemes;
-    for _ in 0..lexemes.len() {
-        let Some((joint, after)) = past(operator_of(level), rest) else {
-            return Ok(rest);
-        };
-        let after = side(alloc, level, depth, out, after)?;
+    let mut joint = *at;
+    while past(operator_of(level), text, at) {
+        side(alloc, level, depth, out, text, at)?;
         out.push(step_of(level, &joint))?;
-        rest = after;
+        joint = *at;
     }
-    Ok(rest)
+    Ok(())
 }
 
 // Sides that are joined by the operator of this level, where `depth` brackets may be open.
 #[cycle(expression)]
-pub(crate) fn expression<'a>(
+pub(crate) fn expression(
     alloc: Global,
     level: Level,
     depth: u64,
     out: &mut Vec<Step>,
-    lexemes: &'a [Lexeme],
-) -> Result<&'a [Lexeme], PolicyFault>
-    ensures { Gives (λ rest. (out.new.items, rest.now)) result (joined level (side_with level (inner_at depth)) out.old.items lexemes.now) }
+    text: &[u8],
+    at: &mut Lexeme,
+) -> Result<(), PolicyFault>
+    requires stands { StandsIn text.now at.old }
+    ensures read { Gives (λ _. (out.new.items, left text.now at.new)) result (joined level (side_with level (inner_at depth)) out.old.items (left text.now at.old)) }
+    ensures stands { StandsIn text.now at.new }
+    ensures fewer { length (left text.now at.new) ≤ length (left text.now at.old) }
 {
-    let rest = side(alloc, level, depth, out, lexemes)?;
-    more_sides(alloc, level, depth, out, rest)
+    side(alloc, level, depth, out, text, at)?;
+    more_sides(alloc, level, depth, out, text, at)
 }

@@ -1,63 +1,71 @@
-//! The first lexemes of what is left of a text.
-ghost use Rattle.std.specs.Prelude.{◌≡◌, option_map, is_some};
+//! The lexeme at which a text is read.
+ghost use Rattle.std.specs.Prelude.{◌≡◌, ◌==◌, ◌<◌, ◌≤◌, ℕ, List, true, false, Some, None, length, OnOk};
 ghost use Rattle.policy_tokens.specs.Gives.{Gives};
+ghost use Rattle.policy_grammar.specs.Symbols.{number_of};
+ghost use Rattle.policy_grammar.specs.Left.{left, StandsIn};
 ghost use Rattle.policy_grammar.specs.Reading.{refused as refusal, past as past_of, first_of, after};
 
-use crate::lexeme::Lexeme;
+use crate::lexeme::{Lexeme, advance};
 use crate::symbol::Symbol;
-use net_base::Place;
 use policy_tokens::PolicyFault;
 
-// The fault that no policy goes on with the first of these lexemes.
-pub(crate) fn refused(lexemes: &[Lexeme]) -> PolicyFault
-    ensures { result ≡ refusal lexemes.now }
+// The fault that no policy goes on with this lexeme.
+pub(crate) fn refused(at: &Lexeme) -> PolicyFault
+    ensures { (text : List ℕ) → result ≡ refusal (left text at.now) }
 {
-    match lexemes {
-        [] => PolicyFault::Syntax(Place { line: 0, column: 0 }),
-        [first, ..] => PolicyFault::Syntax(first.place),
+    PolicyFault::Syntax(at.place)
+}
+
+// Whether this lexeme has this symbol.
+pub(crate) fn begins(symbol: Symbol, at: &Lexeme) -> bool
+    ensures { result ≡ (number_of at.now.symbol == number_of symbol) }
+{
+    at.symbol.number() == symbol.number()
+}
+
+// Whether this lexeme has this symbol. If so, the next one comes.
+pub(crate) fn past(symbol: Symbol, text: &[u8], at: &mut Lexeme) -> bool
+    requires sign { number_of symbol < 32 }
+    requires stands { StandsIn text.now at.old }
+    ensures here { result ≡ true → past_of symbol (left text.now at.old) ≡ Some (at.old, left text.now at.new) }
+    ensures away { result ≡ false → (past_of symbol (left text.now at.old) ≡ None) × (at.new ≡ at.old) }
+    ensures stands { StandsIn text.now at.new }
+    ensures fewer { length (left text.now at.new) ≤ length (left text.now at.old) }
+    ensures onward { result ≡ true → length (left text.now at.new) < length (left text.now at.old) }
+{
+    let here = begins(symbol, at);
+    if here {
+        advance(text, at);
+    }
+    here
+}
+
+// This lexeme, which is to have this symbol. Then the next one comes.
+pub(crate) fn first(symbol: Symbol, text: &[u8], at: &mut Lexeme) -> Result<Lexeme, PolicyFault>
+    requires sign { number_of symbol < 32 }
+    requires stands { StandsIn text.now at.old }
+    ensures read { Gives (λ x. (x, left text.now at.new)) result (first_of symbol (left text.now at.old)) }
+    ensures stands { StandsIn text.now at.new }
+    ensures fewer { length (left text.now at.new) ≤ length (left text.now at.old) }
+    ensures onward { OnOk result (length (left text.now at.new) < length (left text.now at.old)) }
+{
+    let here = *at;
+    if past(symbol, text, at) {
+        Ok(here)
+    } else {
+        Err(refused(at))
     }
 }
 
-// The first lexeme and those after it, where it has this symbol.
-pub(crate) fn past(symbol: Symbol, lexemes: &[Lexeme]) -> Option<(Lexeme, &[Lexeme])>
-    ensures { option_map (λ x. (x.0, x.1.now)) result ≡ past_of symbol lexemes.now }
+// Goes on behind this lexeme, which is to have this symbol.
+pub(crate) fn passed(symbol: Symbol, text: &[u8], at: &mut Lexeme) -> Result<(), PolicyFault>
+    requires sign { number_of symbol < 32 }
+    requires stands { StandsIn text.now at.old }
+    ensures read { Gives (λ _. left text.now at.new) result (after symbol (left text.now at.old)) }
+    ensures stands { StandsIn text.now at.new }
+    ensures fewer { length (left text.now at.new) ≤ length (left text.now at.old) }
+    ensures onward { OnOk result (length (left text.now at.new) < length (left text.now at.old)) }
 {
-    match lexemes {
-        [] => None,
-        [first, rest @ ..] => {
-            if first.symbol.number() == symbol.number() {
-                Some((*first, rest))
-            } else {
-                None
-            }
-        }
-    }
-}
-
-// Whether the first lexeme has this symbol.
-pub(crate) fn begins(symbol: Symbol, lexemes: &[Lexeme]) -> bool
-    ensures { result ≡ is_some (past_of symbol lexemes.now) }
-{
-    match past(symbol, lexemes) {
-        Some(_) => true,
-        None => false,
-    }
-}
-
-// The first lexeme, which is to have this symbol, and those after it.
-pub(crate) fn first(symbol: Symbol, lexemes: &[Lexeme]) -> Result<(Lexeme, &[Lexeme]), PolicyFault>
-    ensures { Gives (λ x. (x.0, x.1.now)) result (first_of symbol lexemes.now) }
-{
-    match past(symbol, lexemes) {
-        Some((lexeme, rest)) => Ok((lexeme, rest)),
-        None => Err(refused(lexemes)),
-    }
-}
-
-// What stands after the first lexeme, which is to have this symbol.
-pub(crate) fn passed(symbol: Symbol, lexemes: &[Lexeme]) -> Result<&[Lexeme], PolicyFault>
-    ensures { Gives (λ x. x.now) result (after symbol lexemes.now) }
-{
-    let (_, rest) = first(symbol, lexemes)?;
-    Ok(rest)
+    first(symbol, text, at)?;
+    Ok(())
 }

@@ -1,6 +1,7 @@
 //! Statements.
-ghost use Rattle.std.specs.Prelude.{◌≡◌, length};
+ghost use Rattle.std.specs.Prelude.{◌≡◌, ◌≤◌, ◌<◌, length, OnOk};
 ghost use Rattle.policy_tokens.specs.Gives.{Gives};
+ghost use Rattle.policy_grammar.specs.Left.{left, StandsIn};
 ghost use Rattle.policy_grammar.specs.Reading.{chain};
 ghost use Rattle.policy_grammar.specs.Items.{pattern_at, pattern_link, predicate_at, from_at, statement_at};
 
@@ -17,81 +18,90 @@ use std::alloc::Global;
 
 // A prefix, with a greatest length or without.
 #[tactic(auto, unfolding(crate::specs::Items::pattern_at))]
-fn pattern(lexemes: &[Lexeme]) -> Result<(RawPattern, &[Lexeme]), PolicyFault>
-    ensures { Gives (λ x. (x.0, x.1.now)) result (pattern_at lexemes.now) }
+fn pattern(text: &[u8], at: &mut Lexeme) -> Result<RawPattern, PolicyFault>
+    requires stands { StandsIn text.now at.old }
+    ensures read { Gives (λ x. (x, left text.now at.new)) result (pattern_at (left text.now at.old)) }
+    ensures stands { StandsIn text.now at.new }
+    ensures fewer { length (left text.now at.new) ≤ length (left text.now at.old) }
 {
-    let (base, rest) = first(Symbol::Figure, lexemes)?;
-    let Some((_, rest)) = past(Symbol::Le, rest) else {
-        return Ok((RawPattern::Only(base), rest));
-    };
-    let (upto, rest) = first(Symbol::Figure, rest)?;
-    Ok((RawPattern::UpTo(base, upto), rest))
+    let base = first(Symbol::Figure, text, at)?;
+    if !past(Symbol::Le, text, at) {
+        return Ok(RawPattern::Only(base));
+    }
+    let upto = first(Symbol::Figure, text, at)?;
+    Ok(RawPattern::UpTo(base, upto))
 }
 
 // More patterns, as long as an `or` comes.
-fn more_patterns<'a>(
+fn more_patterns(
     found: &mut Vec<RawPattern>,
-    lexemes: &'a [Lexeme],
-) -> Result<&'a [Lexeme], PolicyFault>
-    ensures { Gives (λ rest. (found.new.items, rest.now)) result (chain Symbol.Or pattern_link (length lexemes.now) found.old.items lexemes.now) }
+    text: &[u8],
+    at: &mut Lexeme,
+) -> Result<(), PolicyFault>
+    requires stands { StandsIn text.now at.old }
+    ensures read { Gives (λ _. (found.new.items, left text.now at.new)) result (chain Symbol.Or pattern_link (length (left text.now at.old)) found.old.items (left text.now at.old)) }
+    ensures stands { StandsIn text.now at.new }
+    ensures fewer { length (left text.now at.new) ≤ length (left text.now at.old) }
 {
-    let mut rest = lexemes;
-    for _ in 0..lexemes.len() {
-        let Some((_, after)) = past(Symbol::Or, rest) else {
-            return Ok(rest);
-        };
-        let (next, after) = pattern(after)?;
+    while past(Symbol::Or, text, at) {
+        let next = pattern(text, at)?;
         found.push(next)?;
-        rest = after;
     }
-    Ok(rest)
+    Ok(())
 }
 
 // The prefixes that a statement governs.
 #[tactic(auto, unfolding(crate::specs::Items::predicate_at))]
-fn predicate(
-    alloc: Global,
-    lexemes: &[Lexeme],
-) -> Result<(List<RawPattern>, &[Lexeme]), PolicyFault>
-    ensures { Gives (λ x. (x.0, x.1.now)) result (predicate_at lexemes.now) }
+fn predicate(alloc: Global, text: &[u8], at: &mut Lexeme) -> Result<List<RawPattern>, PolicyFault>
+    requires stands { StandsIn text.now at.old }
+    ensures read { Gives (λ x. (x, left text.now at.new)) result (predicate_at (left text.now at.old)) }
+    ensures stands { StandsIn text.now at.new }
+    ensures fewer { length (left text.now at.new) ≤ length (left text.now at.old) }
 {
     let mut patterns = Vec::new(alloc);
-    if let Some((_, rest)) = past(Symbol::True, lexemes) {
+    if past(Symbol::True, text, at) {
         patterns.push(RawPattern::All)?;
-        return Ok((List::from_vec(patterns), rest));
+        return Ok(List::from_vec(patterns));
     }
-    let (first, rest) = pattern(lexemes)?;
+    let first = pattern(text, at)?;
     patterns.push(first)?;
-    let rest = more_patterns(&mut patterns, rest)?;
-    Ok((List::from_vec(patterns), rest))
+    more_patterns(&mut patterns, text, at)?;
+    Ok(List::from_vec(patterns))
 }
 
 // The sources that a statement claims.
 #[tactic(auto, unfolding(crate::specs::Items::from_at))]
-fn from(alloc: Global, lexemes: &[Lexeme]) -> Result<(Arg, &[Lexeme]), PolicyFault>
-    ensures { Gives (λ x. (x.0, x.1.now)) result (from_at lexemes.now) }
+fn from(alloc: Global, text: &[u8], at: &mut Lexeme) -> Result<Arg, PolicyFault>
+    requires stands { StandsIn text.now at.old }
+    ensures read { Gives (λ x. (x, left text.now at.new)) result (from_at (left text.now at.old)) }
+    ensures stands { StandsIn text.now at.new }
+    ensures fewer { length (left text.now at.new) ≤ length (left text.now at.old) }
 {
-    match past(Symbol::From, lexemes) {
-        Some((_, rest)) => set(alloc, rest),
-        None => Ok((Arg::Any, lexemes)),
+    if past(Symbol::From, text, at) {
+        set(alloc, text, at)
+    } else {
+        Ok(Arg::Any)
     }
 }
 
 // A statement.
 #[tactic(auto, unfolding(crate::specs::Items::statement_at))]
-pub(crate) fn statement(alloc: Global, lexemes: &[Lexeme]) -> Result<(Item, &[Lexeme]), PolicyFault>
-    ensures { Gives (λ x. (x.0, x.1.now)) result (statement_at lexemes.now) }
+pub(crate) fn statement(alloc: Global, text: &[u8], at: &mut Lexeme) -> Result<Item, PolicyFault>
+    requires stands { StandsIn text.now at.old }
+    ensures read { Gives (λ x. (x, left text.now at.new)) result (statement_at (left text.now at.old)) }
+    ensures stands { StandsIn text.now at.new }
+    ensures fewer { length (left text.now at.new) ≤ length (left text.now at.old) }
+    ensures onward { OnOk result (length (left text.now at.new) < length (left text.now at.old)) }
 {
-    let (patterns, rest) = predicate(alloc, lexemes)?;
-    let rest = passed(Symbol::Arrow, rest)?;
+    let patterns = predicate(alloc, text, at)?;
+    passed(Symbol::Arrow, text, at)?;
     let mut steps = Vec::new(alloc);
-    let rest = expression(alloc, Level::Ranked, BRACKETS, &mut steps, rest)?;
-    let (from, rest) = from(alloc, rest)?;
-    let rest = passed(Symbol::Semicolon, rest)?;
-    let statement = RawStatement {
+    expression(alloc, Level::Ranked, BRACKETS, &mut steps, text, at)?;
+    let from = from(alloc, text, at)?;
+    passed(Symbol::Semicolon, text, at)?;
+    Ok(Item::State(RawStatement {
         patterns,
         ranked: List::from_vec(steps),
         from,
-    };
-    Ok((Item::State(statement), rest))
+    }))
 }

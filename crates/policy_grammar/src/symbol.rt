@@ -1,7 +1,7 @@
 //! What a token stands for in the grammar.
-ghost use Rattle.std.specs.Prelude.{◌≡◌};
+ghost use Rattle.std.specs.Prelude.{◌≡◌, ◌∷◌};
 ghost use Rattle.std.specs.Str.{bytes_eq};
-ghost use Rattle.policy_grammar.specs.Symbols.{number_of, item_word as item, operator as operation, path_call as whole_call, place_call as part_call, word_symbol as word, symbol_of as symbol};
+ghost use Rattle.policy_grammar.specs.Symbols.{number_of, word_symbol as word, symbol_of as symbol};
 
 use policy_tokens::TokenKind;
 
@@ -87,108 +87,187 @@ impl Symbol {
     }
 }
 
+#[inline(always)]
 fn spells(bytes: &[u8], word: &str) -> bool
     ensures { result ≡ bytes_eq bytes.now word.now }
 {
-    bytes == word.as_bytes()
+    bytes.len() == word.len() && bytes == word.as_bytes()
 }
 
-#[tactic(auto, unfolding(crate::specs::Symbols::item_word))]
-fn item_word(bytes: &[u8]) -> Option<Symbol>
-    ensures { result ≡ item bytes.now }
+// A word that begins with `a`, from its second byte on.
+#[tactic(auto, unfolding(crate::specs::Symbols::word_symbol, crate::specs::Symbols::item_word, crate::specs::Symbols::operator, crate::specs::Symbols::path_call, crate::specs::Symbols::place_call))]
+fn a_word(rest: &[u8]) -> Symbol
+    ensures { result ≡ word (97 ∷ rest.now) }
 {
-    if spells(bytes, "define") {
-        Some(Symbol::Define)
-    } else if spells(bytes, "originate") {
-        Some(Symbol::Originate)
-    } else if spells(bytes, "at") {
-        Some(Symbol::At)
-    } else if spells(bytes, "from") {
-        Some(Symbol::From)
-    } else if spells(bytes, "true") {
-        Some(Symbol::True)
-    } else if spells(bytes, "le") {
-        Some(Symbol::Le)
+    if spells(rest, "t") {
+        Symbol::At
+    } else if spells(rest, "nd") {
+        Symbol::And
+    } else if spells(rest, "ny") {
+        Symbol::Any
+    } else if spells(rest, "void") {
+        Symbol::Avoid
     } else {
-        None
+        Symbol::Name
     }
 }
 
-#[tactic(auto, unfolding(crate::specs::Symbols::operator))]
-fn operator(bytes: &[u8]) -> Option<Symbol>
-    ensures { result ≡ operation bytes.now }
+// A word that begins with `d`, from its second byte on.
+#[tactic(auto, unfolding(crate::specs::Symbols::word_symbol, crate::specs::Symbols::item_word, crate::specs::Symbols::operator, crate::specs::Symbols::path_call, crate::specs::Symbols::place_call))]
+fn d_word(rest: &[u8]) -> Symbol
+    ensures { result ≡ word (100 ∷ rest.now) }
 {
-    if spells(bytes, "or") {
-        Some(Symbol::Or)
-    } else if spells(bytes, "and") {
-        Some(Symbol::And)
-    } else if spells(bytes, "not") {
-        Some(Symbol::Not)
+    if spells(rest, "efine") {
+        Symbol::Define
+    } else if spells(rest, "rop") {
+        Symbol::Drop
     } else {
-        None
+        Symbol::Name
     }
 }
 
-#[tactic(auto, unfolding(crate::specs::Symbols::path_call))]
-fn path_call(bytes: &[u8]) -> Option<Symbol>
-    ensures { result ≡ whole_call bytes.now }
+// A word that begins with `e`, from its second byte on.
+#[tactic(auto, unfolding(crate::specs::Symbols::word_symbol, crate::specs::Symbols::item_word, crate::specs::Symbols::operator, crate::specs::Symbols::path_call, crate::specs::Symbols::place_call))]
+fn e_word(rest: &[u8]) -> Symbol
+    ensures { result ≡ word (101 ∷ rest.now) }
 {
-    if spells(bytes, "any") {
-        Some(Symbol::Any)
-    } else if spells(bytes, "drop") {
-        Some(Symbol::Drop)
-    } else if spells(bytes, "internal") {
-        Some(Symbol::Internal)
-    } else if spells(bytes, "avoid") {
-        Some(Symbol::Avoid)
-    } else if spells(bytes, "through") {
-        Some(Symbol::Through)
-    } else if spells(bytes, "notransit") {
-        Some(Symbol::NoTransit)
+    if spells(rest, "nd") {
+        Symbol::End
+    } else if spells(rest, "xit") {
+        Symbol::Exit
+    } else if spells(rest, "nter") {
+        Symbol::Enter
     } else {
-        None
+        Symbol::Name
     }
 }
 
-#[tactic(auto, unfolding(crate::specs::Symbols::place_call))]
-fn place_call(bytes: &[u8]) -> Option<Symbol>
-    ensures { result ≡ part_call bytes.now }
+// A word that begins with `l`, from its second byte on.
+#[tactic(auto, unfolding(crate::specs::Symbols::word_symbol, crate::specs::Symbols::item_word, crate::specs::Symbols::operator, crate::specs::Symbols::path_call, crate::specs::Symbols::place_call))]
+fn l_word(rest: &[u8]) -> Symbol
+    ensures { result ≡ word (108 ∷ rest.now) }
 {
-    if spells(bytes, "start") {
-        Some(Symbol::Start)
-    } else if spells(bytes, "end") {
-        Some(Symbol::End)
-    } else if spells(bytes, "link") {
-        Some(Symbol::Link)
-    } else if spells(bytes, "path") {
-        Some(Symbol::Path)
-    } else if spells(bytes, "exit") {
-        Some(Symbol::Exit)
-    } else if spells(bytes, "enter") {
-        Some(Symbol::Enter)
+    if spells(rest, "e") {
+        Symbol::Le
+    } else if spells(rest, "ink") {
+        Symbol::Link
     } else {
-        None
+        Symbol::Name
+    }
+}
+
+// A word that begins with `n`, from its second byte on.
+#[tactic(auto, unfolding(crate::specs::Symbols::word_symbol, crate::specs::Symbols::item_word, crate::specs::Symbols::operator, crate::specs::Symbols::path_call, crate::specs::Symbols::place_call))]
+fn n_word(rest: &[u8]) -> Symbol
+    ensures { result ≡ word (110 ∷ rest.now) }
+{
+    if spells(rest, "ot") {
+        Symbol::Not
+    } else if spells(rest, "otransit") {
+        Symbol::NoTransit
+    } else {
+        Symbol::Name
+    }
+}
+
+// A word that begins with `o`, from its second byte on.
+#[tactic(auto, unfolding(crate::specs::Symbols::word_symbol, crate::specs::Symbols::item_word, crate::specs::Symbols::operator, crate::specs::Symbols::path_call, crate::specs::Symbols::place_call))]
+fn o_word(rest: &[u8]) -> Symbol
+    ensures { result ≡ word (111 ∷ rest.now) }
+{
+    if spells(rest, "riginate") {
+        Symbol::Originate
+    } else if spells(rest, "r") {
+        Symbol::Or
+    } else {
+        Symbol::Name
+    }
+}
+
+// A word that begins with `t`, from its second byte on.
+#[tactic(auto, unfolding(crate::specs::Symbols::word_symbol, crate::specs::Symbols::item_word, crate::specs::Symbols::operator, crate::specs::Symbols::path_call, crate::specs::Symbols::place_call))]
+fn t_word(rest: &[u8]) -> Symbol
+    ensures { result ≡ word (116 ∷ rest.now) }
+{
+    if spells(rest, "rue") {
+        Symbol::True
+    } else if spells(rest, "hrough") {
+        Symbol::Through
+    } else {
+        Symbol::Name
+    }
+}
+
+// A word that begins with `f`, from its second byte on.
+#[tactic(auto, unfolding(crate::specs::Symbols::word_symbol, crate::specs::Symbols::item_word, crate::specs::Symbols::operator, crate::specs::Symbols::path_call, crate::specs::Symbols::place_call))]
+fn f_word(rest: &[u8]) -> Symbol
+    ensures { result ≡ word (102 ∷ rest.now) }
+{
+    if spells(rest, "rom") {
+        Symbol::From
+    } else {
+        Symbol::Name
+    }
+}
+
+// A word that begins with `i`, from its second byte on.
+#[tactic(auto, unfolding(crate::specs::Symbols::word_symbol, crate::specs::Symbols::item_word, crate::specs::Symbols::operator, crate::specs::Symbols::path_call, crate::specs::Symbols::place_call))]
+fn i_word(rest: &[u8]) -> Symbol
+    ensures { result ≡ word (105 ∷ rest.now) }
+{
+    if spells(rest, "nternal") {
+        Symbol::Internal
+    } else {
+        Symbol::Name
+    }
+}
+
+// A word that begins with `p`, from its second byte on.
+#[tactic(auto, unfolding(crate::specs::Symbols::word_symbol, crate::specs::Symbols::item_word, crate::specs::Symbols::operator, crate::specs::Symbols::path_call, crate::specs::Symbols::place_call))]
+fn p_word(rest: &[u8]) -> Symbol
+    ensures { result ≡ word (112 ∷ rest.now) }
+{
+    if spells(rest, "ath") {
+        Symbol::Path
+    } else {
+        Symbol::Name
+    }
+}
+
+// A word that begins with `s`, from its second byte on.
+#[tactic(auto, unfolding(crate::specs::Symbols::word_symbol, crate::specs::Symbols::item_word, crate::specs::Symbols::operator, crate::specs::Symbols::path_call, crate::specs::Symbols::place_call))]
+fn s_word(rest: &[u8]) -> Symbol
+    ensures { result ≡ word (115 ∷ rest.now) }
+{
+    if spells(rest, "tart") {
+        Symbol::Start
+    } else {
+        Symbol::Name
     }
 }
 
 // A word of the language, or a name.
-#[tactic(auto, unfolding(crate::specs::Symbols::word_symbol))]
+#[tactic(auto, unfolding(crate::specs::Symbols::word_symbol, crate::specs::Symbols::item_word, crate::specs::Symbols::operator, crate::specs::Symbols::path_call, crate::specs::Symbols::place_call))]
 fn word_symbol(bytes: &[u8]) -> Symbol
     ensures { result ≡ word bytes.now }
 {
-    if let Some(symbol) = item_word(bytes) {
-        return symbol;
+    let [first, rest @ ..] = bytes else {
+        return Symbol::Name;
+    };
+    match *first {
+        b'a' => a_word(rest),
+        b'd' => d_word(rest),
+        b'e' => e_word(rest),
+        b'f' => f_word(rest),
+        b'i' => i_word(rest),
+        b'l' => l_word(rest),
+        b'n' => n_word(rest),
+        b'o' => o_word(rest),
+        b'p' => p_word(rest),
+        b's' => s_word(rest),
+        b't' => t_word(rest),
+        _ => Symbol::Name,
     }
-    if let Some(symbol) = operator(bytes) {
-        return symbol;
-    }
-    if let Some(symbol) = path_call(bytes) {
-        return symbol;
-    }
-    if let Some(symbol) = place_call(bytes) {
-        return symbol;
-    }
-    Symbol::Name
 }
 
 // What a token of this kind and these bytes stands for.

@@ -1,21 +1,25 @@
-use Rattle.std.proofs.Common.{refl, rules}
+use Rattle.std.proofs.Common.{refl, arith}
 use Rattle.std.proofs.lemmas.Result.{err_from_is_err_and}
 use Rattle.policy_grammar.specs.declared.symbol.Symbol.TheVariants.{Above}
 use Rattle.policy_grammar.specs.Calls.{set_link}
-use Rattle.policy_grammar.proofs.Chains.{goes_on, stops, ends, is_done}
+use Rattle.policy_grammar.proofs.Chains.{goes_on, stops, ends}
 use Rattle.policy_grammar.proofs.call.more_sets.Goals as goal
 
-pub returns-in_default : goal.returns-in_default
-returns-in_default c = ends Above set_link _ c.loop.found.items c.loop.rest.now _ (search rules) c.loop.invariant
-
-pub returns-in_err-arg : goal.returns-in_err-arg
-returns-in_err-arg c =
+pub returns-in_err-arg-clause-read : goal.returns-in_err-arg-clause-read
+returns-in_err-arg-clause-read c =
     let p = err_from_is_err_and c.from_residual.result c.from_residual.ensures.1 in
-    rw (p.1, p.2) (λ memory. stops Above set_link _ c.loop.counter c.loop.found.items c.loop.rest.now c.in-Some.field-0-0 c.in-Some.after.now _ _ c.loop-test.true (search rules) (rw (c.in_err-arg.ensures memory) refl) c.loop.invariant)
+    rw (p.1, p.2) (λ memory. stops Above set_link c.loop-alloc.found.items _ _ _ _ _ (c.loop-alloc-test.ensures.here refl) (rw (c.in_err-arg.ensures.read memory) refl) (omega arith) c.loop-alloc.invariant.so_far)
 
-pub loop-preserved : goal.loop-preserved
-loop-preserved c =
-    rw c.in_ok-push.ensures.items (goes_on Above set_link _ c.loop.counter c.loop.found.items c.loop.rest.now c.in-Some.field-0-0 c.in-Some.after.now _ _ _ c.loop-test.true (search rules) (rw c.in_ok-arg.ensures refl) c.loop.invariant)
+pub loop-alloc-preserved : goal.loop-alloc-preserved
+loop-alloc-preserved c =
+    let onward = c.loop-alloc-test.ensures.onward refl in
+    let fewer = c.set.ensures.fewer in record {
+      so_far = rw c.in_ok-push.ensures.items (goes_on Above set_link c.loop-alloc.found.items _ _ _ _ _ _ (c.loop-alloc-test.ensures.here refl) (rw c.in_ok-arg.ensures.read refl) (omega (arith, onward, fewer)) c.loop-alloc.invariant.so_far);
+      stands = c.set.ensures.stands;
+      fewer = omega (arith, onward, fewer, c.loop-alloc.invariant.fewer);
+    }
 
-pub returns : goal.returns
-returns c = is_done Above set_link _ c.loop.counter c.loop.found.items c.loop.rest.now _ c.loop-test.false c.loop.invariant
+pub returns-clause-read : goal.returns-clause-read
+returns-clause-read c =
+    let away = c.loop-alloc-test.ensures.away refl in
+    rw away.1 (ends Above set_link c.loop-alloc.found.items _ _ away.0 c.loop-alloc.invariant.so_far)
