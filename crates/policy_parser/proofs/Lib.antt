@@ -3,3 +3,4 @@ pub mod BuiltPolicies
 pub mod SpelledPrefixes
 pub mod NestedSteps
 pub mod DeepestPolicies
+mod ReadItems

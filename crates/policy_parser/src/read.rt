@@ -10,27 +10,26 @@ use crate::origins::origins_within;
 use crate::statements::statements_of;
 use net_base::{List, Net};
 use path_words::Policy;
-use policy_grammar::{Item, first_deep, lexemes, read_items};
+use policy_grammar::{Item, first_deep, read_items};
 use policy_rules::{
     Known, all_calls_within, all_paths_within, figures_fine, learn_all, origins_fine, origins_once,
     ranks_fine,
 };
-use policy_tokens::{PolicyFault, end_place, tokens};
+use policy_tokens::{PolicyFault, is_text};
 use std::alloc::Global;
 
 // The items of a text.
-#[tactic(auto, unfolding(crate::specs::Spelled::items_spelled))]
 fn items_of(alloc: Global, bytes: &[u8]) -> Result<Vec<Item>, PolicyFault>
     requires { length bytes.now < 4294967295 }
     ensures { Gives (λ v. v.items) result (items_spelled bytes.now) }
 {
-    let found = tokens(alloc, bytes)?;
-    let lexemes = lexemes(alloc, bytes, &found, end_place(bytes))?;
-    drop(found);
-    if let Some(place) = first_deep(&lexemes) {
+    if !is_text(bytes) {
+        return Err(PolicyFault::NotText);
+    }
+    if let Some(place) = first_deep(bytes)? {
         return Err(PolicyFault::Deep(place));
     }
-    read_items(alloc, &lexemes)
+    read_items(alloc, bytes)
 }
 
 // The names of the net and of the groups.
