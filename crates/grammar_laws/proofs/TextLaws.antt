@@ -1,14 +1,11 @@
 -- The laws of texts.
-use Rattle.std.proofs.Common.{◌≡◌, ℕ, ◌+◌, ◌≤◌, Bool, true, false, inl, inr, List, [], ◌∷◌, ◌++◌, length, map, codes, Option, Some, None, Result, Ok, Err, if◌then◌else◌, refl, sym, ap, ◌∙◌, subst, append_assoc, arith, le_refl, bytes_eq}
+use Rattle.std.proofs.Common.{◌≡◌, ℕ, ◌+◌, ◌≤◌, inl, inr, List, [], ◌∷◌, ◌++◌, length, map, None, Result, Ok, Err, refl, sym, ap, ◌∙◌, subst, append_assoc, arith, le_refl}
 use Rattle.net_base.specs.declared.place.Place.{Place}
 use Rattle.policy_tokens.specs.declared.fault.PolicyFault.{PolicyFault}
 use Rattle.policy_tokens.specs.declared.fault.PolicyFault.TheVariants.{Syntax}
 use Rattle.policy_tokens.specs.declared.token.Token.{Token}
-use Rattle.policy_tokens.specs.declared.token.TokenKind.{TokenKind}
-use Rattle.policy_tokens.specs.declared.token.TokenKind.TheVariants as kind
 use Rattle.policy_grammar.specs.declared.lexeme.Lexeme.{Lexeme}
-use Rattle.policy_grammar.specs.declared.symbol.Symbol.{Symbol}
-use Rattle.policy_grammar.specs.declared.symbol.Symbol.TheVariants.{Define, Originate, At, From, True, Le, Or, And, Not, Any, Drop, Internal, Avoid, Through, NoTransit, Start, End, Link, Path, Exit, Enter, Name, EndOfText}
+use Rattle.policy_grammar.specs.declared.symbol.Symbol.TheVariants.{EndOfText}
 use Rattle.policy_grammar.specs.declared.item.Item.{Item}
 use Rattle.policy_grammar.proofs.Symbols.{symbol_of-inner}
 use Rattle.policy_grammar.specs.Lexemes.{slice_of, lexeme_of, end_of, lexemes_of}
@@ -17,7 +14,7 @@ use Rattle.policy_grammar.specs.Items.{items_of}
 use Rattle.net_base.proofs.StepLemmas.{ok_same, ok_not_err}
 use Rattle.grammar_laws.specs.Grammar.{Is, IsPolicy}
 use Rattle.grammar_laws.specs.Fronts.{IsText, IsFront, FirstWrong}
-use Rattle.grammar_laws.proofs.Lookups.{Differ, Isnt, not_both, a_token, a_token-is}
+use Rattle.grammar_laws.proofs.Lookups.{Isnt, not_both, a_token, a_token-is}
 use Rattle.grammar_laws.proofs.Readers.{Ended}
 use Rattle.grammar_laws.proofs.Nesting.{brackets, room_for, room_where_shallow}
 use Rattle.grammar_laws.proofs.Policies.{items_up, same_items, reads_policy, policy_was_read, policy_stops}

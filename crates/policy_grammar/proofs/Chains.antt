@@ -1,5 +1,5 @@
 -- A chain that is read link by link, as a loop does.
-use Rattle.std.proofs.Common.{◌≡◌, ℕ, zero, suc, ◌-◌, ◌+◌, ◌≤◌, ◌<◌, List, [], ◌∷◌, length, Ok, Err, Some, None, refl, sym, ◌∙◌, arith}
+use Rattle.std.proofs.Common.{◌≡◌, ℕ, zero, suc, ◌≤◌, ◌<◌, List, length, Ok, Err, Some, None, refl, sym, ◌∙◌, arith}
 use Rattle.policy_tokens.specs.declared.fault.PolicyFault.{PolicyFault}
 use Rattle.policy_grammar.specs.declared.lexeme.Lexeme.{Lexeme}
 use Rattle.policy_grammar.specs.declared.symbol.Symbol.{Symbol}
@@ -8,9 +8,6 @@ use Rattle.policy_grammar.specs.Reading.{Read, past, chain}
 -- What was read so far leads to the whole chain, as long as the number is at least that of the lexemes that are left.
 abbrev pub LeadsTo : {A : Type 0} → Symbol → (Lexeme → A → List Lexeme → Read A) → A → List Lexeme → Read A → Type 0
 LeadsTo joint link so_far ls total = (n : ℕ) × (length ls ≤ n) × (chain joint link n so_far ls ≡ total)
-
-pub begins : {A : Type 0} (joint : Symbol) (link : Lexeme → A → List Lexeme → Read A) (so_far : A) (ls : List Lexeme) → LeadsTo joint link so_far ls (chain joint link (length ls) so_far ls)
-begins joint link so_far ls = (length ls, omega arith, refl)
 
 -- one link more
 pub goes_on : {A : Type 0} (joint : Symbol) (link : Lexeme → A → List Lexeme → Read A) (so_far : A) (ls : List Lexeme) (l : Lexeme) (rest : List Lexeme) (next : A) (after : List Lexeme) (total : Read A)

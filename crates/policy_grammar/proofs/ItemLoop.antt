@@ -12,9 +12,6 @@ use Rattle.policy_grammar.specs.Items.{item_at, items_from}
 abbrev pub LeadsTo : List Item → List Lexeme → Result (List Item) PolicyFault → Type 0
 LeadsTo items ls total = (n : ℕ) × (length ls ≤ n) × (items_from n items ls ≡ total)
 
-pub begins : (ls whole : List Lexeme) → ls ≡ whole → LeadsTo [] ls (items_from (length whole) [] whole)
-begins ls whole same = rw same (length whole, omega arith, refl)
-
 -- one item more
 pub goes_on : (items : List Item) (l : Lexeme) (ls : List Lexeme) (item : Item) (rest : List Lexeme) (total : Result (List Item) PolicyFault)
     → (number_of l.symbol == number_of EndOfText) ≡ false → item_at (l ∷ ls) ≡ Ok (item, rest) → length rest < length (l ∷ ls) → LeadsTo items (l ∷ ls) total → LeadsTo (items ++ item ∷ []) rest total

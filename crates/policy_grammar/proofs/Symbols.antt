@@ -1,5 +1,5 @@
 -- What tokens stand for.
-use Rattle.std.proofs.Common.{◌≡◌, ℕ, ◌+◌, ◌-◌, ◌≤◌, ◌<◌, Bool, true, false, List, codes, Option, Some, None, if◌then◌else◌, refl, subst, eqb-true, bytes_eq, arith}
+use Rattle.std.proofs.Common.{◌≡◌, ℕ, ◌≤◌, ◌<◌, Bool, true, false, List, codes, Option, Some, None, if◌then◌else◌, refl, eqb-true, bytes_eq, arith}
 use Rattle.std.specs.Prelude.{◌==◌}
 use Rattle.policy_tokens.specs.declared.token.TokenKind.{TokenKind}
 use Rattle.policy_tokens.specs.declared.token.TokenKind.TheVariants as kind

@@ -3,6 +3,7 @@ ghost use Rattle.std.specs.Prelude.{◌≡◌, ◌<◌, length};
 ghost use Rattle.policy_tokens.specs.Ahead.{ahead_of, IsPlace};
 ghost use Rattle.policy_tokens.specs.Places.{first_place};
 ghost use Rattle.policy_grammar.specs.Symbols.{number_of};
+ghost use Rattle.policy_grammar.specs.declared.symbol.Symbol.TheVariants.{EndOfText};
 ghost use Rattle.policy_grammar.specs.Lexemes.{slice_of, lexeme_of as lexeme};
 ghost use Rattle.policy_grammar.specs.Left.{lexemes_ahead, behind, left, StandsIn};
 
@@ -78,7 +79,7 @@ pub(crate) fn first_lexeme(text: &[u8]) -> Lexeme
 
 // Goes on to the next lexeme.
 pub(crate) fn advance(text: &[u8], at: &mut Lexeme)
-    requires inside { number_of at.old.symbol < 32 }
+    requires inside { number_of at.old.symbol < number_of EndOfText }
     requires stands { StandsIn text.now at.old }
     ensures left { behind text.now at.old ≡ left text.now at.new }
     ensures stands { StandsIn text.now at.new }

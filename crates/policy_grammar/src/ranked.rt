@@ -2,6 +2,7 @@
 ghost use Rattle.std.specs.Prelude.{◌≡◌, ◌≤◌, ◌<◌, length};
 ghost use Rattle.policy_tokens.specs.Gives.{Gives};
 ghost use Rattle.policy_grammar.specs.Symbols.{number_of};
+ghost use Rattle.policy_grammar.specs.declared.symbol.Symbol.TheVariants.{EndOfText};
 ghost use Rattle.policy_grammar.specs.Left.{left, StandsIn};
 ghost use Rattle.policy_grammar.specs.Reading.{chain};
 ghost use Rattle.policy_grammar.specs.Ranked.{atom_with, unit_with, operator_of as level_operator, step_of as level_step, joined, side_link, side_with, inner_at};
@@ -27,7 +28,7 @@ pub(crate) enum Level {
 
 fn operator_of(level: Level) -> Symbol
     ensures operator { result ≡ level_operator level }
-    ensures inside { number_of result < 32 }
+    ensures inside { number_of result < number_of EndOfText }
 {
     match level {
         Level::Ranked => Symbol::Above,

@@ -2,6 +2,7 @@
 ghost use Rattle.std.specs.Prelude.{◌≡◌, ◌==◌, ◌<◌, ◌≤◌, ℕ, List, true, false, Some, None, length, OnOk};
 ghost use Rattle.policy_tokens.specs.Gives.{Gives};
 ghost use Rattle.policy_grammar.specs.Symbols.{number_of};
+ghost use Rattle.policy_grammar.specs.declared.symbol.Symbol.TheVariants.{EndOfText};
 ghost use Rattle.policy_grammar.specs.Left.{left, StandsIn};
 ghost use Rattle.policy_grammar.specs.Reading.{refused as refusal, past as past_of, first_of, after};
 
@@ -25,7 +26,7 @@ pub(crate) fn begins(symbol: Symbol, at: &Lexeme) -> bool
 
 // Whether this lexeme has this symbol. If so, the next one comes.
 pub(crate) fn past(symbol: Symbol, text: &[u8], at: &mut Lexeme) -> bool
-    requires sign { number_of symbol < 32 }
+    requires sign { number_of symbol < number_of EndOfText }
     requires stands { StandsIn text.now at.old }
     ensures here { result ≡ true → past_of symbol (left text.now at.old) ≡ Some (at.old, left text.now at.new) }
     ensures away { result ≡ false → (past_of symbol (left text.now at.old) ≡ None) × (at.new ≡ at.old) }
@@ -42,7 +43,7 @@ pub(crate) fn past(symbol: Symbol, text: &[u8], at: &mut Lexeme) -> bool
 
 // This lexeme, which is to have this symbol. Then the next one comes.
 pub(crate) fn first(symbol: Symbol, text: &[u8], at: &mut Lexeme) -> Result<Lexeme, PolicyFault>
-    requires sign { number_of symbol < 32 }
+    requires sign { number_of symbol < number_of EndOfText }
     requires stands { StandsIn text.now at.old }
     ensures read { Gives (λ x. (x, left text.now at.new)) result (first_of symbol (left text.now at.old)) }
     ensures stands { StandsIn text.now at.new }
@@ -59,7 +60,7 @@ pub(crate) fn first(symbol: Symbol, text: &[u8], at: &mut Lexeme) -> Result<Lexe
 
 // Goes on behind this lexeme, which is to have this symbol.
 pub(crate) fn passed(symbol: Symbol, text: &[u8], at: &mut Lexeme) -> Result<(), PolicyFault>
-    requires sign { number_of symbol < 32 }
+    requires sign { number_of symbol < number_of EndOfText }
     requires stands { StandsIn text.now at.old }
     ensures read { Gives (λ _. left text.now at.new) result (after symbol (left text.now at.old)) }
     ensures stands { StandsIn text.now at.new }

@@ -1,5 +1,5 @@
 -- The items of a text, whose tokens are looked at before they are read.
-use Rattle.std.proofs.Common.{◌≡◌, ℕ, Bool, true, false, List, length, Option, Some, None, Result, Ok, Err, refl, sym, ap, ◌∙◌}
+use Rattle.std.proofs.Common.{◌≡◌, ℕ, true, false, List, length, Some, None, Result, Ok, Err, refl, ap, ◌∙◌}
 use Rattle.std.specs.Str.{is_utf8}
 use Rattle.net_base.specs.Steps.{◌>>=◌}
 use Rattle.net_base.specs.declared.place.Place.{Place}

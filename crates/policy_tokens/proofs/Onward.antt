@@ -1,5 +1,5 @@
 -- One token of a text after another.
-use Rattle.std.proofs.Common.{◌≡◌, ℕ, zero, suc, ◌-◌, ◌+◌, ◌≤◌, ◌<◌, Bool, true, false, List, [], ◌∷◌, ◌++◌, length, take, drop, Result, Ok, Err, refl, sym, ap, ◌∙◌, subst, eqb-true, length-drop, drop-drop, take-append-drop, slice_index_or, append_assoc, arith}
+use Rattle.std.proofs.Common.{◌≡◌, ℕ, zero, suc, ◌-◌, ◌+◌, ◌≤◌, ◌<◌, Bool, true, false, List, [], ◌∷◌, ◌++◌, length, take, drop, Result, Ok, Err, refl, sym, ap, ◌∙◌, subst, eqb-true, length-drop, drop-drop, take-append-drop, slice_index_or, arith}
 use Rattle.std.proofs.lemmas.List.{append-nil, take_all}
 use Rattle.std.specs.Prelude.{◌==◌}
 use Rattle.net_base.specs.declared.place.Place.{Place}
@@ -13,7 +13,7 @@ use Rattle.policy_tokens.specs.declared.piece.Piece.TheVariants as piece
 use Rattle.policy_tokens.specs.declared.next.Next.{Next}
 use Rattle.policy_tokens.specs.declared.next.Next.TheVariants as next
 use Rattle.policy_tokens.specs.Places.{place_after, first_place, place_of}
-use Rattle.policy_tokens.specs.Tokens.{is_blank, piece_at, piece_taken, token_in, tokens_from}
+use Rattle.policy_tokens.specs.Tokens.{piece_at, piece_taken, token_in, tokens_from}
 use Rattle.policy_tokens.specs.Ahead.{Ahead, behind_piece, behind_token, with_piece, ahead, ahead_of, from_next, IsPlace, told}
 use Rattle.policy_tokens.proofs.Pieces.{piece_parts}
 use Rattle.policy_tokens.proofs.Places.{piece_placed, place_after-append}
@@ -144,9 +144,6 @@ tokens_told (suc n) from place (b ∷ bs) =
 -- the tokens that were found before, and what is ahead
 abbrev pub with_found : List Token → Ahead → Ahead
 with_found found a = (found ++ a.0, a.1)
-
-pub found_more : (found : List Token) (t : Token) (a : Ahead) → with_found found (t ∷ a.0, a.1) ≡ with_found (found ++ t ∷ []) a
-found_more found t a = ap (λ ts. let b : Ahead = (ts, a.1) in b) (sym (append_assoc found (t ∷ []) a.0))
 
 found_all : (found : List Token) (p : Place) (a : Ahead) → with_found found ([], next.End p) ≡ a → told a ≡ Ok found
 found_all found p a is = ap told (sym is) ∙ ap Ok (append-nil found)

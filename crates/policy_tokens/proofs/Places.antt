@@ -8,7 +8,6 @@ use Rattle.net_base.specs.declared.place.Place.{Place}
 use Rattle.net_base.proofs.StepLemmas.{ok_same}
 use Rattle.policy_tokens.specs.declared.fault.PolicyFault.{PolicyFault}
 use Rattle.policy_tokens.specs.declared.token.TokenKind.{TokenKind}
-use Rattle.policy_tokens.specs.declared.token.TokenKind.TheVariants.{Word, Figure}
 use Rattle.policy_tokens.specs.Places.{next_place, place_after}
 use Rattle.policy_tokens.specs.Tokens.{is_blank, in_line, is_figure_byte, two_signs, one_sign, sign_at, word_piece, piece_at, piece_taken}
 use Rattle.policy_tokens.specs.Ahead.{behind_piece}

@@ -1,4 +1,4 @@
-use Rattle.std.proofs.Common.{◌≡◌, ◌∙◌, sym}
+use Rattle.std.proofs.Common.{◌∙◌, sym}
 use Rattle.policy_grammar.proofs.Lefts.{no_call}
 use Rattle.policy_grammar.proofs.call.call.Goals as goal
 

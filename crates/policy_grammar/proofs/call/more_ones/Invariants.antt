@@ -1,4 +1,4 @@
-use Rattle.std.proofs.Common.{◌≡◌, ◌≤◌, length}
+use Rattle.std.proofs.Common.{◌≤◌, length}
 use Rattle.policy_grammar.specs.declared.symbol.Symbol.TheVariants.{Comma}
 use Rattle.policy_grammar.specs.Left.{left, StandsIn}
 use Rattle.policy_grammar.specs.Reading.{chain}

@@ -1,4 +1,4 @@
-use Rattle.std.proofs.Common.{◌∙◌, refl, sym}
+use Rattle.std.proofs.Common.{◌∙◌, sym}
 use Rattle.std.proofs.lemmas.Result.{err_from_is_err_and}
 use Rattle.policy_grammar.proofs.ItemLoop.{goes_on, stops, ends}
 use Rattle.policy_grammar.proofs.items.read_items.Goals as goal

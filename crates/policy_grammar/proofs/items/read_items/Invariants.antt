@@ -1,4 +1,4 @@
-use Rattle.std.proofs.Common.{◌≡◌, length}
+use Rattle.std.proofs.Common.{length}
 use Rattle.policy_tokens.specs.Ahead.{ahead_of}
 use Rattle.policy_tokens.specs.Places.{first_place}
 use Rattle.policy_grammar.specs.Left.{lexemes_ahead, left, StandsIn}

@@ -1,4 +1,4 @@
-use Rattle.std.proofs.Common.{◌≡◌, ◌∙◌, sym, arith}
+use Rattle.std.proofs.Common.{◌∙◌, sym, arith}
 use Rattle.policy_grammar.proofs.Lefts.{goes_in, behind_in}
 use Rattle.policy_grammar.proofs.lexeme.advance.Goals as goal
 

@@ -1,4 +1,4 @@
-use Rattle.std.proofs.Common.{◌≡◌, ◌∙◌, sym, ap, length}
+use Rattle.std.proofs.Common.{◌∙◌, sym, ap, length}
 use Rattle.policy_tokens.specs.Places.{first_place}
 use Rattle.policy_tokens.specs.Ahead.{from_next}
 use Rattle.policy_tokens.proofs.Onward.{tokens_told, with_found, found_end, found_stray}

@@ -1,4 +1,4 @@
-use Rattle.std.proofs.Common.{◌≡◌, ◌∙◌, refl, sym, length, arith}
+use Rattle.std.proofs.Common.{◌∙◌, refl, sym}
 use Rattle.policy_tokens.proofs.Onward.{gap_passed, rest_left, place_passed, token_came, stray_came, end_came}
 use Rattle.policy_tokens.proofs.next.next_token.Goals as goal
 
