@@ -3,7 +3,6 @@ use Rattle.std.proofs.Common.{◌≡◌, ◌≢◌, ℕ, List, [], ◌∷◌, re
 use Rattle.net_base.specs.Network.{PlainNet, IsNet}
 use Rattle.path_words.specs.Policies.{IsPolicyOf, PlainPolicy}
 use Rattle.config_base.specs.Configs.{PlainConfig}
-use Rattle.config_reader.specs.Text.{spelled as config_spelled_by}
 use Rattle.evidence_base.specs.Made.{PlainCaseEvidence}
 use Rattle.evidence_rules.specs.declared.verdict.Verdict.{Verdict}
 use Rattle.evidence_rules.specs.declared.verdict.Verdict.TheVariants.{Holds, Fails}

@@ -1,0 +1,13 @@
+use Rattle.std.proofs.Common.{List, subst}
+use Rattle.path_words.specs.Policies.{policy_of}
+use Rattle.evidence_base.specs.Made.{PlainCaseEvidence}
+use Rattle.run_base.specs.Said.{IsGiven, said}
+use Rattle.check_job.specs.Checked.{OfConfigText, SaysOfPair}
+use Rattle.check_job.proofs.Judging.{of_both}
+use Rattle.check_job.proofs.check.pair_text.Goals as goal
+
+pub returns-in-Ok : goal.returns-in-Ok
+returns-in-Ok c =
+    let says = SaysOfPair c.args.net.now (policy_of c.args.policy.now) in
+    of_both says c.args.config.now c.args.evidence.now c.in-Ok.evidence.cases (said c.text_of_evidence.result) c.in-Ok.ensures
+    (subst (λ (cs : List PlainCaseEvidence). IsGiven (OfConfigText says c.args.config.now cs) (said c.text_of_evidence.result)) c.as_slice.ensures c.text_of_evidence.ensures)
