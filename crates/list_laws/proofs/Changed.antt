@@ -1,6 +1,6 @@
 -- Lists whose items are changed, or of which some are left out.
 use Rattle.std.proofs.Common.{◌++◌, ◌+◌, ◌<◌, ◌∙◌, ◌∷◌, ◌≡◌, Bool, List, None, Option, Some, [], add-one, ap, cond, false, get_or, length, map, refl, suc, sym, take, true, ℕ}
-use Rattle.std.specs.List.{cons_option, filter_map}
+use Rattle.std.specs.List.{cons_option, filter_map, flat_map}
 use Rattle.std.specs.Prelude.{◌&&◌, filter, option_map, slice_get}
 use Rattle.std.proofs.Math.Seq.{take-suc}
 use Rattle.std.proofs.lemmas.Bool.{cond-false, cond-true}
@@ -53,3 +53,7 @@ filter_same p q (x ∷ xs) same = λ i. cond (same x (0, refl) i) (x ∷ filter_
 pub map_same : {A B : Type 0} (f g : A → B) (xs : List A) → ((x : A) → IsIn xs x → f x ≡ g x) → map f xs ≡ map g xs
 map_same f g [] same = refl
 map_same f g (x ∷ xs) same = λ i. same x (0, refl) i ∷ map_same f g xs (λ y h. same y (suc h.0, h.1)) i
+
+pub flat_map_same : {A B : Type 0} (f g : A → List B) (xs : List A) → ((x : A) → IsIn xs x → f x ≡ g x) → flat_map f xs ≡ flat_map g xs
+flat_map_same f g [] same = refl
+flat_map_same f g (x ∷ xs) same = λ i. same x (0, refl) i ++ flat_map_same f g xs (λ y h. same y (suc h.0, h.1)) i

@@ -1,8 +1,8 @@
 -- What holds of each item of a list.
-use Rattle.std.proofs.Common.{◌++◌, ◌∷◌, ◌≡◌, Bool, List, Some, [], false, map, subst, suc, true, zero, ℕ}
+use Rattle.std.proofs.Common.{◌++◌, ◌∷◌, ◌≡◌, Bool, List, Some, [], false, map, refl, subst, suc, true, zero, ℕ, IsTrue, not}
 use Rattle.std.specs.List.{AllByRecursion, list_all, list_any}
 use Rattle.std.specs.Prelude.{filter, slice_get}
-use Rattle.std.proofs.lemmas.Bool.{and_parts, cond_both, or_parts}
+use Rattle.std.proofs.lemmas.Bool.{and_parts, cond_both, not-false, or_parts}
 
 pub AllByRecursion-append : {A : Type 0} → (P : A → Type 0) (xs ys : List A) → AllByRecursion P xs → AllByRecursion P ys → AllByRecursion P (xs ++ ys)
 AllByRecursion-append P [] ys p q = q
@@ -54,3 +54,12 @@ AllByRecursion-from_list_all P p each (x ∷ xs) h = let a = and_parts (p x) (li
 pub AllByRecursion-map_from_list_all : {X Y : Type 0} (P : Y → Type 0) (f : X → Y) (p : X → Bool) → ((x : X) → p x ≡ true → P (f x)) → (xs : List X) → list_all p xs ≡ true → AllByRecursion P (map f xs)
 AllByRecursion-map_from_list_all P f p each [] h = tt
 AllByRecursion-map_from_list_all P f p each (x ∷ xs) h = let a = and_parts (p x) (list_all p xs) h in (each x a.0, AllByRecursion-map_from_list_all P f p each xs a.1)
+
+-- a test holds of each where it fails of none
+pub AllByRecursion-not : {A : Type 0} (p : A → Bool) (xs : List A) → AllByRecursion (λ x. IsTrue (p x)) xs → AllByRecursion (λ x. not (p x) ≡ false) xs
+AllByRecursion-not p [] all = tt
+AllByRecursion-not p (x ∷ xs) all = (rw all.0 refl, AllByRecursion-not p xs all.1)
+
+pub AllByRecursion-from_not : {A : Type 0} (p : A → Bool) (xs : List A) → AllByRecursion (λ x. not (p x) ≡ false) xs → AllByRecursion (λ x. IsTrue (p x)) xs
+AllByRecursion-from_not p [] all = tt
+AllByRecursion-from_not p (x ∷ xs) all = (not-false (p x) all.0, AllByRecursion-from_not p xs all.1)

@@ -1,5 +1,5 @@
 -- The items of a list by their places.
-use Rattle.std.proofs.Common.{◌++◌, ◌+◌, ◌<◌, ◌∙◌, ◌∷◌, ◌≡◌, ◌≤◌, List, Some, [], ap, arith, drop, inl, inr, length, refl, suc, sym, zero, ℕ}
+use Rattle.std.proofs.Common.{◌++◌, ◌+◌, ◌<◌, ◌∙◌, ◌∷◌, ◌≡◌, ◌≤◌, List, Some, [], ap, arith, drop, get_or, inl, inr, length, refl, replicate, suc, sym, zero, ℕ}
 use Rattle.std.specs.Prelude.{slice_get}
 use Rattle.std.proofs.lemmas.List.{drop_more}
 use Rattle.std.proofs.lemmas.Option.{get_or_from_slice_get, slice_get_cases, slice_get_within}
@@ -51,3 +51,9 @@ slice_get-there (y ∷ pre) x post = slice_get-there pre x post
 
 pub drop_from : {A : Type 0} (xs : List A) (i : ℕ) (x : A) → slice_get xs i ≡ Some x → drop i xs ≡ x ∷ drop (i + 1) xs
 drop_from xs i x at = drop_more xs i x (slice_get_within xs i x at) ∙ ap (λ y. y ∷ drop (i + 1) xs) (get_or_from_slice_get xs i x x at)
+
+-- where all items are the default, a place past them has it too
+pub get_or-replicate_same : {A : Type 0} (n i : ℕ) (x : A) → get_or (replicate n x) i x ≡ x
+get_or-replicate_same zero i x = refl
+get_or-replicate_same (suc n) zero x = refl
+get_or-replicate_same (suc n) (suc i) x = get_or-replicate_same n i x

@@ -8,6 +8,7 @@ pub mod Members
 pub mod Numbers
 pub mod Options
 pub mod Orders
+pub mod Pieces
 pub mod Positions
 pub mod SortedRuns
 pub mod Sorting

@@ -55,3 +55,6 @@ min-mul (suc a) (suc b) (suc m) = elim (cases_lt (suc m) (suc a)) [
     | inr small ↦ rw (min-eq_left low, min-eq_left small) refl
   ]
 ]
+
+pub nat_lt-zero : (n : ℕ) → nat_lt n 0 ≡ false
+nat_lt-zero n = le-ltb n 0 (omega arith)

@@ -1,11 +1,12 @@
 -- Answers of comparisons, of numbers and of lists of numbers.
 use Rattle.std.proofs.Common.{◌<◌, ◌∙◌, ◌∷◌, ◌≡◌, Bool, List, [], ap, arith, cond, false, inl, inr, refl, sym, true, ℕ}
+use Rattle.std.specs.Cmp.{nat_cmp_is}
 use Rattle.std.specs.Cmp.Lexicographic.{slice_cmp}
 use Rattle.std.specs.Ordering.{is_eq, nat_cmp, ordering_then}
 use Rattle.std.specs.Prelude.{◌&&◌, ◌==◌, ◌⊎◌, nat_lt}
 use Rattle.std.specs.declared.cmp.Ordering.{Ordering}
 use Rattle.std.specs.declared.cmp.Ordering.TheVariants.{Equal, Greater, Less}
-use Rattle.std.proofs.lemmas.Bool.{cases_Bool, false≢true, ltb-true, ne_eqb}
+use Rattle.std.proofs.lemmas.Bool.{and_parts, cases_Bool, eqb-true, false≢true, ltb-true, ne_eqb}
 use Rattle.std.proofs.lemmas.Cmp.{ranked}
 
 pub is_eq-Equal : (o : Ordering) → is_eq o ≡ true → o ≡ Equal
@@ -67,3 +68,12 @@ slice_cmp-Equal (x ∷ xs) [] e = absurd (false≢true (ap is_eq e))
 slice_cmp-Equal (x ∷ xs) (y ∷ ys) e =
     let both = ordering_then-Equal (nat_cmp x y) (slice_cmp nat_cmp xs ys) e in
     ap (λ l. x ∷ l) (slice_cmp-Equal xs ys both.1) ∙ ap (λ z. z ∷ ys) (nat_cmp-Equal x y both.0)
+
+pub is_eq-ordering_then_parts : (o p : Ordering) → is_eq (ordering_then o p) ≡ true → (is_eq o ≡ true) × (is_eq p ≡ true)
+is_eq-ordering_then_parts o p h = and_parts (is_eq o) (is_eq p) (sym (is_eq-ordering_then o p) ∙ h)
+
+pub is_eq-nat_cmp_same : (x y : ℕ) → is_eq (nat_cmp x y) ≡ true → x ≡ y
+is_eq-nat_cmp_same x y h = eqb-true x y (sym (is_eq-nat_cmp x y) ∙ h)
+
+pub nat_cmp-lesser : (x y : ℕ) → x < y → nat_cmp x y ≡ Less
+nat_cmp-lesser x y below = sym (nat_cmp_is x y Less below)

@@ -7,6 +7,7 @@ use Rattle.std.proofs.lemmas.List.{get_or-map, get_or-take, length-map, length-t
 use Rattle.std.proofs.lemmas.List.Folds.{find_at, list_any_at}
 use Rattle.std.proofs.lemmas.List.Quantifiers.{position-Some}
 use Rattle.std.proofs.lemmas.Option.{cond_some, slice_get-get_or, slice_get_past}
+use Rattle.list_laws.proofs.Numbers.{nat_lt-zero}
 use Rattle.list_laws.proofs.Tests.{list_any-not_found}
 use Rattle.list_laws.proofs.Truth.{same_tests}
 
@@ -54,14 +55,7 @@ list_any-no_position p xs h = list_any-not_found p xs (find-no_position p xs h)
 
 -- an item is among the first ones exactly where its place is before theirs end
 pub list_any-position : {A : Type 0} (p : A → Bool) (ns ms : List A) → position_or_len p (ns ++ ms) < length (ns ++ ms) → list_any p ns ≡ nat_lt (position_or_len p (ns ++ ms)) (length ns)
-list_any-position p [] ms within = sym (not_less (position_or_len p ms))
-  where
-    not_less : (n : ℕ) → nat_lt n 0 ≡ false
-    not_less n = by (nat_lt n 0) refl
-      where
-        by : (b : Bool) → nat_lt n 0 ≡ b → b ≡ false
-        by false e = refl
-        by true e = absurd (omega (arith, ltb-true n 0 e))
+list_any-position p [] ms within = sym (nat_lt-zero (position_or_len p ms))
 list_any-position p (n ∷ ns) ms within = by (p n) refl (list_any-position p ns ms)
   where
     place : ℕ

@@ -1,7 +1,7 @@
 -- Whether an item passes a test, and the first that does.
 use Rattle.std.proofs.Common.{◌||◌, ◌∙◌, ◌∷◌, ◌≡◌, All, Bool, List, None, Some, [], ap, false, inl, inr, map, refl, suc, sym, true, zero, ℕ}
 use Rattle.std.specs.List.{find, list_any}
-use Rattle.std.specs.Prelude.{is_some, slice_get}
+use Rattle.std.specs.Prelude.{is_some, slice_get, if◌then◌else◌}
 use Rattle.std.proofs.lemmas.Bool.{cases_Bool, false≢true, or_cases}
 use Rattle.std.proofs.lemmas.List.Elements.{All-head, All-tail}
 
@@ -74,3 +74,21 @@ list_any-find p (x ∷ xs) = at_first (p x) refl (list_any-find p xs)
     at_first : (b : Bool) → p x ≡ b → list_any p xs ≡ is_some (find p xs) → list_any p (x ∷ xs) ≡ is_some (find p (x ∷ xs))
     at_first true is later = rw is refl
     at_first false is later = rw is later
+
+-- ---- tests that agree, and tests that nothing passes
+
+pub list_any-same : {A : Type 0} (p q : A → Bool) → ((x : A) → p x ≡ q x) → (xs : List A) → list_any p xs ≡ list_any q xs
+list_any-same p q same [] = refl
+list_any-same p q same (x ∷ xs) = ap (λ b. b || list_any p xs) (same x) ∙ ap (λ b. q x || b) (list_any-same p q same xs)
+
+pub list_any-never : {A : Type 0} (p : A → Bool) → ((x : A) → p x ≡ false) → (xs : List A) → list_any p xs ≡ false
+list_any-never p never [] = refl
+list_any-never p never (x ∷ xs) = rw (never x) (list_any-never p never xs)
+
+pub find-same : {A : Type 0} (p q : A → Bool) → ((x : A) → p x ≡ q x) → (xs : List A) → find p xs ≡ find q xs
+find-same p q same [] = refl
+find-same p q same (x ∷ xs) = ap (λ b. if b then Some x else find p xs) (same x) ∙ ap (λ o. if q x then Some x else o) (find-same p q same xs)
+
+pub find-never : {A : Type 0} (p : A → Bool) → ((x : A) → p x ≡ false) → (xs : List A) → find p xs ≡ None
+find-never p never [] = refl
+find-never p never (x ∷ xs) = rw (never x) (find-never p never xs)

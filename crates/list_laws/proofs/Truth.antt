@@ -43,3 +43,6 @@ and_by_second whole first second answer is met same = same ∙ sym (is ∙ ap (�
 
 pub and_by_first : (whole first second answer : Bool) → whole ≡ (first && second) → first ≡ false → answer ≡ false → answer ≡ whole
 and_by_first whole first second answer is missed none = none ∙ sym (is ∙ ap (λ b. b && second) missed)
+
+pub and_alike : {a b x y : Bool} → a ≡ b → x ≡ y → (a && x) ≡ (b && y)
+and_alike first second = λ i. first i && second i

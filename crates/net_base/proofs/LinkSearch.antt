@@ -9,6 +9,7 @@ use Rattle.std.proofs.lemmas.Bool.Decides.{nat_tests}
 use Rattle.std.proofs.lemmas.List.Sorted.{IsPartitionPoint-from_clause}
 use Rattle.std.proofs.lemmas.List.Sums.{position_or_len_is}
 use Rattle.net_base.specs.Network.{PlainNet, IsLink, IsBefore, Ascend, joins, ordered, same_ends, is_before}
+use Rattle.list_laws.proofs.Numbers.{eqb_comm}
 use Rattle.list_laws.proofs.Truth.{or_failed}
 
 -- a link that stands before another has a lesser first end, or the same one and a lesser second
@@ -54,12 +55,9 @@ or_other x y off = ap (λ (b : Bool). b || y) off
 -- a link joins two locations where it has them as its ends, the lesser one first
 joins_by_ends : (a b : ℕ) (x : ℕ × ℕ) → x.0 < x.1 → joins a b x ≡ same_ends (ordered a b) x
 joins_by_ends a b x up = elim (cases_lt a b) [
-  | inl low ↦ rw (lt-ltb a b low, flip a x.0, flip b x.1) (or_failed _ _ (turned low))
-  | inr high ↦ rw (le-ltb a b high, flip b x.0, flip a x.1) (or_other _ _ (straight high))
+  | inl low ↦ rw (lt-ltb a b low, eqb_comm a x.0, eqb_comm b x.1) (or_failed _ _ (turned low))
+  | inr high ↦ rw (le-ltb a b high, eqb_comm b x.0, eqb_comm a x.1) (or_other _ _ (straight high))
 ] where
-  flip : (m n : ℕ) → (m == n) ≡ (n == m)
-  flip m n = grind (arith, nat_tests)
-
   turned : a < b → (x.0 == b && x.1 == a) ≡ false
   turned low = grind (arith, nat_tests)
 

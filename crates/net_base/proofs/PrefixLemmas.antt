@@ -1,7 +1,8 @@
 -- What a text spells is a prefix.
-use Rattle.std.proofs.Common.{◌≡◌, ℕ, ◌-◌, ◌%◌, ◌^◌, ◌<◌, List, true, Ok, arith}
+use Rattle.std.proofs.Common.{◌≡◌, ◌∙◌, ℕ, ◌+◌, ◌-◌, ◌/◌, ◌%◌, ◌^◌, ◌<◌, ◌≤◌, List, true, Ok, ap, arith, sym}
 use Rattle.std.specs.Prelude.{◌==◌, nat_le}
 use Rattle.std.proofs.lemmas.Bool.{eqb-true, and_parts}
+use Rattle.std.proofs.lemmas.Nat.{shr-shr}
 use borrow.Author.Tests.{leb-true}
 use Rattle.net_base.specs.Steps.{◌>>=◌, or_fault, unless}
 use Rattle.net_base.specs.Prefixes.{PlainPrefix, IsPrefix}
@@ -40,3 +41,9 @@ prefix_spelled-IsPrefix bs p h =
     let q = bind_ok (or_fault Shape (quad_of halves.0.0)) _ p halves.2 in
     let len = bind_ok (or_fault Shape (length_number halves.0.1)) _ p q.2 in
     after_shape q.0 len.0 p len.2
+
+-- fewer first bits of a number are the first of more
+pub fewer_bits : (n a b : ℕ) → a ≤ b → b ≤ 32 → n / 2 ^ (32 - a) ≡ n / 2 ^ (32 - b) / 2 ^ (b - a)
+fewer_bits n a b less most =
+    let all : (32 - b) + (b - a) ≡ 32 - a = omega arith in
+    sym (shr-shr n (32 - b) (b - a) ∙ ap (λ k. n / 2 ^ k) all)

@@ -1,6 +1,7 @@
 -- What steps that ended well went through.
 use Rattle.std.proofs.Common.{◌≡◌, Bool, true, false, Option, Some, None, Result, Ok, Err, refl}
 use Rattle.std.specs.Prelude.{⊤}
+use Rattle.std.specs.Result.{result_ok}
 use Rattle.net_base.specs.Steps.{◌>>=◌, or_fault, unless}
 
 pub bind_ok : {A B F : Type 0} (r : Result A F) (f : A → Result B F) (y : B) → (r >>= f) ≡ Ok y → (x : A) × (r ≡ Ok x) × (f x ≡ Ok y)
@@ -14,6 +15,10 @@ unless_ok e false x h = absurd (cc)
 pub or_fault_ok : {A F : Type 0} (e : F) (o : Option A) (x : A) → or_fault e o ≡ Ok x → o ≡ Some x
 or_fault_ok e (Some y) x h = cc
 or_fault_ok e None x h = absurd (cc)
+
+pub or_fault_result_ok : {A E F : Type 0} (e : F) (r : Result A E) (x : A) → or_fault e (result_ok r) ≡ Ok x → r ≡ Ok x
+or_fault_result_ok e (Ok y) x h = cc
+or_fault_result_ok e (Err d) x h = absurd cc
 
 pub ok_same : {A F : Type 0} (x y : A) → (let r : Result A F = Ok x in r ≡ Ok y) → x ≡ y
 ok_same x y h = cc
