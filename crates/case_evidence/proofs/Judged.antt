@@ -28,7 +28,8 @@ use Rattle.case_core.specs.declared.refusal.CompileRefusal.TheVariants.{NoEviden
 use Rattle.graph_law.proofs.Claimed.{claimed_where_ranked, listeners_ranked}
 use Rattle.case_evidence.specs.declared.accepted.AcceptedCase.{AcceptedCase}
 use Rattle.case_evidence.proofs.Joined.{given_fits}
-use Rattle.case_evidence.specs.Accepted.{HasNoNumbers, IsAccepted, IsCaseCause, IsGivenGraph, IsNumbered, number_in}
+use Rattle.graph_base.specs.Preferences.{number_in}
+use Rattle.case_evidence.specs.Accepted.{HasNoNumbers, IsAccepted, IsCaseCause, IsGivenGraph, IsNumbered}
 use Rattle.graph_base.specs.Ranked.{IsRankedRouter}
 
 -- a number is read from the list one way or the other

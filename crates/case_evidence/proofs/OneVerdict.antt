@@ -29,7 +29,8 @@ use Rattle.case_core.proofs.OneCause as graphs
 use Rattle.case_evidence.specs.declared.accepted.AcceptedCase.{AcceptedCase}
 use Rattle.case_evidence.proofs.Joined.{given_fits, one_given}
 use Rattle.case_evidence.proofs.Judged.{number_read}
-use Rattle.case_evidence.specs.Accepted.{HasNoNumbers, IsAccepted, IsCaseCause, IsGivenGraph, IsNumbered, IsRefuted, number_in}
+use Rattle.graph_base.specs.Preferences.{number_in}
+use Rattle.case_evidence.specs.Accepted.{HasNoNumbers, IsAccepted, IsCaseCause, IsGivenGraph, IsNumbered, IsRefuted}
 
 -- two sets of the claimed routers have the same members
 same_claims : (net : PlainNet) (s : PlainStatement) (c : Case) (a b : LocSet) → ((l : ℕ) → (holds a l ≡ true) ↔ IsClaimed net s c l) → ((l : ℕ) → (holds b l ≡ true) ↔ IsClaimed net s c l) → (l : ℕ) → holds a l ≡ holds b l

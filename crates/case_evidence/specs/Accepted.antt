@@ -9,6 +9,7 @@ use Rattle.graph_base.specs.declared.refutation.Refutation.{Refutation}
 use Rattle.graph_base.specs.Graphs.{IsGraph, PlainGraph}
 use Rattle.graph_base.specs.Refuting.{Refutes}
 use Rattle.graph_base.specs.Rules.{MeetsRules}
+use Rattle.graph_base.specs.Preferences.{number_in}
 use Rattle.relation_law.specs.Evidence.{at_routers}
 use Rattle.relation_law.specs.Numbers.{number_of}
 use Rattle.relation_law.specs.Relations.{IsGreatest, IsTotal}
@@ -22,9 +23,6 @@ use Rattle.case_core.specs.declared.refusal.CompileRefusal.TheVariants.{NoEviden
 use Rattle.case_core.specs.Refusals.{FitsCase, IsCause, IsGraphOf}
 use Rattle.case_core.specs.Sources.{HavePaths, NoneMixed}
 use Rattle.case_evidence.specs.declared.accepted.AcceptedCase.{AcceptedCase}
-
-abbrev pub number_in : List ℕ → ℕ → ℕ
-number_in numbers n = unwrap_or (slice_get numbers n) 0
 
 -- The numbers of a graph for the claimed routers of its case: the greatest relation is total, and a node at a router has
 -- 100 and one for each class of equal nodes that stands strictly lower.

@@ -1,6 +1,5 @@
 //! The cases one after the other, with the ranks that their walks have.
 ghost use Rattle.std.specs.Prelude.{◌≡◌, ◌+◌, ◌<◌, ◌≤◌, ◌^◌, IfErr, IfOk, IfSome, OnOk, length};
-ghost use Rattle.net_base.specs.Network.{IsNet};
 ghost use Rattle.net_base.specs.declared.limits.TheConstants.{ALTERNATIVES};
 ghost use Rattle.path_words.specs.Cases.{case_list};
 ghost use Rattle.path_words.specs.Policies.{policy_of};
@@ -14,17 +13,10 @@ use crate::marks::mark_ranks;
 use crate::refusal::{LintRefusal, lint_refusal};
 use bit_rows::Rows;
 use case_core::{CaseGraph, StatementAutomata, graph_within_limits};
-use net_base::Net;
+use net_base::{Net, known_net};
 use net_base::limits::{ALTERNATIVES, STEPS};
 use path_words::{CaseList, Policy};
 use std::alloc::Global;
-
-/// What every network keeps.
-fn known_net(net: &Net)
-    ensures { IsNet net.now }
-{
-    let _routers = net.routers();
-}
 
 /// The graph of a case, or which limit the case passes.
 fn case_within(

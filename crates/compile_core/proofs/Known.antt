@@ -24,7 +24,8 @@ use Rattle.regret_law.specs.Passes.{IsCaseGraph, IsClaimed, Passes, all_steps}
 use Rattle.case_law.specs.Cases.{OriginsAreRouters}
 use Rattle.case_law.proofs.Origins.{case_known, known_origins}
 use Rattle.case_evidence.specs.declared.accepted.AcceptedCase.{AcceptedCase}
-use Rattle.case_evidence.specs.Accepted.{IsAccepted, number_in}
+use Rattle.graph_base.specs.Preferences.{number_in}
+use Rattle.case_evidence.specs.Accepted.{IsAccepted}
 use Rattle.case_evidence.proofs.Joined.{given_fits}
 use Rattle.compile_core.specs.Compiling.{evidence_of, AreAccepted, graphs_of, prefs_of}
 use Rattle.compile_core.proofs.Limits.{few_nodes, made_within}

@@ -16,18 +16,9 @@ use case_core::CompileRefusal;
 use community_assign::tags;
 use config_made::config_of;
 use graph_base::Tags;
-use net_base::Net;
-use path_words::{Case, Policy, cases};
+use net_base::{Net, known_net};
+use path_words::{Case, Policy, cases, known_policy};
 use std::alloc::Global;
-
-/// What every network and every policy keeps.
-fn known_rules(net: &Net, policy: &Policy)
-    ensures net { IsNet net.now }
-    ensures policy { IsPolicy (policy_of policy.now) }
-{
-    let _routers = net.routers();
-    let _origins = policy.origins();
-}
 
 /// The configuration and the evidence of all cases.
 fn compiled(
@@ -63,7 +54,8 @@ pub fn compile(alloc: Global, net: &Net, policy: &Policy) -> Result<Compiled, Co
     ensures passes { IfOk result (λ given. Passes net.now (policy_of policy.now) given.config given.evidence.cases) }
     ensures refused { IfErr result (λ e. IsRefusal net.now (policy_of policy.now) e) }
 {
-    known_rules(net, policy);
+    known_net(net);
+    known_policy(policy);
     let list = cases(alloc, net, policy)?;
     let all = accepted_cases(alloc, net, policy, &list)?;
     let tags = tags(alloc, net, &all.graphs)?;

@@ -8,12 +8,10 @@ use Rattle.net_base.specs.Numbers.{no_tag}
 use Rattle.net_base.specs.Prefixes.{PlainPrefix}
 use Rattle.graph_base.specs.Graphs.{PlainGraph}
 use Rattle.graph_base.specs.Runs.{place_of}
+use Rattle.graph_base.specs.Preferences.{number_in}
 use Rattle.evidence_base.specs.Made.{PlainCaseEvidence}
 use Rattle.config_made.specs.declared.hop.Hop.{Hop}
 use Rattle.config_made.specs.declared.hop.Announced.{Announced}
-
-abbrev pub number_in : List ℕ → ℕ → ℕ
-number_in numbers n = unwrap_or (slice_get numbers n) 0
 
 abbrev pub tag_in : List Tag → ℕ → Tag
 tag_in tags n = unwrap_or (slice_get tags n) no_tag

@@ -1,24 +1,10 @@
 -- The neighbours of each location, as far as the numbers go.
-use Rattle.std.proofs.Common.{◌≡◌, ℕ, ◌+◌, ◌<◌, Bool, true, false, List, [], ◌∷◌, ◌++◌, map, length, get_or, Some, sym, ap, ◌∙◌, add-one, arith}
-use Rattle.std.specs.Prelude.{filter, option_map, slice_get}
-use Rattle.std.proofs.lemmas.Bool.{cond-true, cond-false}
-use Rattle.std.proofs.lemmas.List.{append-nil, length-map, map-append}
-use Rattle.std.proofs.lemmas.List.Elements.{filter-append}
+use Rattle.std.proofs.Common.{◌≡◌, ℕ, ◌<◌, List, map, length, get_or, Some, sym, ap, ◌∙◌, arith}
+use Rattle.std.specs.Prelude.{option_map, slice_get}
+use Rattle.std.proofs.lemmas.List.{length-map}
 use Rattle.std.proofs.lemmas.Option.{same_Some, slice_get-get_or, slice_get-map}
 use Rattle.net_base.specs.Locations.{numbers_below}
 use Rattle.net_base.proofs.NumbersBelow.{length-numbers_below, slice_get-numbers_below}
-
-numbers_more : (n : ℕ) → numbers_below (n + 1) ≡ numbers_below n ++ n ∷ []
-numbers_more n = ap numbers_below (add-one n)
-
-pub map_more : (f : ℕ → List ℕ) (n : ℕ) → map f (numbers_below (n + 1)) ≡ map f (numbers_below n) ++ f n ∷ []
-map_more f n = ap (map f) (numbers_more n) ∙ map-append f (numbers_below n) (n ∷ [])
-
-pub filter_kept : (p : ℕ → Bool) (n : ℕ) → p n ≡ true → filter p (numbers_below (n + 1)) ≡ filter p (numbers_below n) ++ n ∷ []
-filter_kept p n h = ap (filter p) (numbers_more n) ∙ filter-append p (numbers_below n) (n ∷ []) ∙ ap (λ ms. filter p (numbers_below n) ++ ms) (cond-true (p n) (n ∷ []) [] h)
-
-pub filter_left : (p : ℕ → Bool) (n : ℕ) → p n ≡ false → filter p (numbers_below (n + 1)) ≡ filter p (numbers_below n)
-filter_left p n h = ap (filter p) (numbers_more n) ∙ filter-append p (numbers_below n) (n ∷ []) ∙ ap (λ ms. filter p (numbers_below n) ++ ms) (cond-false (p n) (n ∷ []) [] h) ∙ append-nil (filter p (numbers_below n))
 
 -- a list that was made for each number
 pub made_length : (all : List (List ℕ)) (f : ℕ → List ℕ) (n : ℕ) → all ≡ map f (numbers_below n) → length all ≡ n

@@ -14,11 +14,11 @@ ghost use Rattle.number_check.specs.FirstPair.{IsFirstPairOrNone};
 ghost use Rattle.evidence_check.specs.CaseFaults.{IsFaultFrom};
 ghost use Rattle.evidence_check.specs.CaseRules.{AreClaimedWhereRanked, IsLive, IsOfCase, LeadsToRouters};
 
-use crate::known::{known_graph, known_net};
+use crate::known::known_graph;
 use evidence_base::CaseEvidence;
 use evidence_rules::CheckRule;
 use graph_base::{Graph, ranked_routers};
-use net_base::{LocSet, Net};
+use net_base::{LocSet, Net, known_net};
 use number_check::{listener_fault, loop_fault, rank_fault, step_fault};
 use outside::NoMemory;
 use std::alloc::Global;

@@ -10,14 +10,13 @@ ghost use Rattle.evidence_check.specs.CaseFaults.{IsFaultFrom, IsLeastOrNone, le
 ghost use Rattle.evidence_check.specs.Listed.{IsWithinRoom};
 
 use crate::case_rules::{Fault, case_fault};
-use crate::known::known_net;
 use crate::listed::within_limits;
 use crate::same::is_same_case;
 use crate::tags::case_number;
 use config_made::statement_at;
 use evidence_base::CaseEvidence;
 use evidence_rules::CheckRule;
-use net_base::Net;
+use net_base::{Net, known_net};
 use net_base::limits::STEPS;
 use outside::NoMemory;
 use path_words::{Case, Policy};

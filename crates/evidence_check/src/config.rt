@@ -9,16 +9,15 @@ ghost use Rattle.evidence_rules.specs.declared.verdict.Verdict.TheVariants.{Hold
 ghost use Rattle.evidence_rules.specs.Verdicts.{IsConfigFault, IsVerdict, KeepsBefore};
 
 use crate::difference::{block_of, first_difference};
-use crate::known::{known_net, known_policy};
 use crate::same::is_same_config;
 use config_base::Config;
 use config_made::config_of;
 use config_text::print_config;
 use evidence_base::CaseEvidence;
 use evidence_rules::Shown;
-use net_base::Net;
+use net_base::{Net, known_net};
 use outside::NoMemory;
-use path_words::Policy;
+use path_words::{Policy, known_policy};
 use std::alloc::Global;
 
 /// Where the configuration differs from the one that is made of the evidence, which keeps all other rules. The parts are

@@ -9,11 +9,10 @@ ghost use Rattle.evidence_rules.specs.Rules.{KeepsTag};
 ghost use Rattle.evidence_rules.specs.Verdicts.{IsFirstAt};
 ghost use Rattle.evidence_check.specs.TagRule.{AreSeen, is_right_tag};
 
-use crate::known::known_net;
 use config_base::NO_TAG;
 use evidence_base::CaseEvidence;
 use indexmap::IndexSet;
-use net_base::{Loc, Net, Tag, tag_fits};
+use net_base::{Loc, Net, Tag, known_net, tag_fits};
 use outside::NoMemory;
 use std::alloc::Global;
 

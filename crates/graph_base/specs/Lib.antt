@@ -1,5 +1,6 @@
 pub mod Graphs
 pub mod Least
+pub mod Preferences
 pub mod Ranked
 pub mod Refuting
 pub mod Rules

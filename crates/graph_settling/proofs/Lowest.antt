@@ -9,7 +9,8 @@ use Rattle.graph_base.specs.Graphs.{PlainGraph}
 use Rattle.graph_base.specs.Runs.{place_of}
 use Rattle.reach_prune.specs.Searches.{is_among, is_listed}
 use Rattle.graph_settling.specs.declared.offers.Offer.{Offer}
-use Rattle.graph_settling.specs.Best.{entry_at, number_in}
+use Rattle.graph_base.specs.Preferences.{number_in}
+use Rattle.graph_settling.specs.Best.{entry_at}
 use Rattle.graph_settling.specs.Offers.{AreLowest, AreOfNodes, IsLowest, IsLowestOrNone, is_lower}
 
 abbrev pub more : (ℕ → ℕ → Bool) → ℕ → ℕ → ℕ → ℕ → Bool

@@ -21,7 +21,8 @@ use Rattle.settling_law.specs.Fronts.{IsFirstOf, gives, is_fresh, next_route, st
 use Rattle.settling_law.proofs.Fronts.{end_of_fronts, next_by_front}
 use Rattle.graph_settling.specs.declared.offers.Offer.{Offer}
 use Rattle.graph_settling.specs.declared.settled.Settled.{Settled}
-use Rattle.graph_settling.specs.Best.{entry_at, number_in}
+use Rattle.graph_base.specs.Preferences.{number_in}
+use Rattle.graph_settling.specs.Best.{entry_at}
 use Rattle.graph_settling.specs.Grounds.{IsGround, held_in, route_of}
 use Rattle.graph_settling.specs.Offers.{AreLowest, IsLowestOrNone}
 use Rattle.graph_settling.specs.Rounds.{AreOpening, IsRound, after_offer}

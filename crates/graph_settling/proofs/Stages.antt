@@ -12,7 +12,8 @@ use Rattle.routing_law.specs.Outcome.{FullyStable, Setup}
 use Rattle.routing_law.specs.Settling.{Tops}
 use Rattle.graph_settling.specs.declared.offers.Offer.{Offer}
 use Rattle.graph_settling.specs.declared.settled.Settled.{Settled}
-use Rattle.graph_settling.specs.Best.{AreGreatest, entry_at, number_in}
+use Rattle.graph_base.specs.Preferences.{number_in}
+use Rattle.graph_settling.specs.Best.{AreGreatest, entry_at}
 use Rattle.graph_settling.specs.Grounds.{IsGround, held_in}
 use Rattle.graph_settling.specs.Offers.{AreLowest, IsLowest, IsLowestOrNone}
 use Rattle.graph_settling.specs.Rounds.{AreFit, AreOpening, IsRound}

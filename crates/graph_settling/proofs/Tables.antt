@@ -10,7 +10,8 @@ use Rattle.net_base.specs.Sets.{holds}
 use Rattle.graph_base.specs.declared.graph.Node.{Node}
 use Rattle.graph_base.specs.Graphs.{PlainGraph}
 use Rattle.graph_base.specs.Runs.{place_of}
-use Rattle.graph_settling.specs.Best.{AreBest, entry_at, is_better, number_in, wanted_by}
+use Rattle.graph_base.specs.Preferences.{number_in}
+use Rattle.graph_settling.specs.Best.{AreBest, entry_at, is_better, wanted_by}
 
 -- what has an entry is within the table
 pub entry_within : {A : Type 0} (table : List (Option A)) (l : ℕ) (x : A) → entry_at table l ≡ Some x → l < length table

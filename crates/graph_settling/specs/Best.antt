@@ -5,12 +5,9 @@ use Rattle.net_base.specs.Sets.{holds}
 use Rattle.net_base.specs.declared.limits.TheConstants.{LOCATIONS}
 use Rattle.graph_base.specs.Graphs.{PlainGraph}
 use Rattle.graph_base.specs.Runs.{place_of}
+use Rattle.graph_base.specs.Preferences.{number_in}
 use Rattle.reach_prune.specs.Ways.{LeadsFrom}
 use Rattle.reach_prune.specs.declared.steps.Way.TheVariants.{Forward}
-
--- the preference number of a node, 0 for what isn't one
-abbrev pub number_in : List ℕ → ℕ → ℕ
-number_in numbers n = unwrap_or (slice_get numbers n) 0
 
 -- what a table has for a location
 abbrev pub entry_at : {A : Type 0} → List (Option A) → ℕ → Option A

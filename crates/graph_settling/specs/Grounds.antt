@@ -10,7 +10,8 @@ use Rattle.routing_law.specs.Graph.{MeetsRules, WellFormed}
 use Rattle.routing_law.specs.Network.{NamesDiffer, chooses}
 use Rattle.routing_law.specs.Outcome.{Route, Setup}
 use Rattle.graph_settling.specs.declared.settled.Settled.{Settled}
-use Rattle.graph_settling.specs.Best.{number_in, entry_at}
+use Rattle.graph_base.specs.Preferences.{number_in}
+use Rattle.graph_settling.specs.Best.{entry_at}
 
 -- The network names the locations; the graph is the part that is alive: the starts at live locations, and the steps over which what one
 -- announces comes to the other; the set has the locations that choose.

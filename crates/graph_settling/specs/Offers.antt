@@ -5,7 +5,8 @@ use Rattle.net_base.specs.declared.limits.TheConstants.{LOCATIONS}
 use Rattle.graph_base.specs.Graphs.{PlainGraph}
 use Rattle.graph_base.specs.Runs.{place_of}
 use Rattle.graph_settling.specs.declared.offers.Offer.{Offer}
-use Rattle.graph_settling.specs.Best.{number_in, entry_at}
+use Rattle.graph_base.specs.Preferences.{number_in}
+use Rattle.graph_settling.specs.Best.{entry_at}
 
 -- a node comes before an offer where the identifier of its location is lower
 abbrev pub is_lower : PlainNet → PlainGraph → ℕ → Option Offer → Bool

@@ -4,7 +4,8 @@ ghost use Rattle.std.specs.List.{AllByRecursion};
 ghost use Rattle.net_base.specs.declared.limits.TheConstants.{LOCATIONS};
 ghost use Rattle.net_base.specs.Sets.{holds};
 ghost use Rattle.reach_prune.specs.Searches.{is_marked};
-ghost use Rattle.graph_settling.specs.Best.{AreBest, AreGreatest, entry_at, is_better, number_in, wanted_by};
+ghost use Rattle.graph_base.specs.Preferences.{number_in};
+ghost use Rattle.graph_settling.specs.Best.{AreBest, AreGreatest, entry_at, is_better, wanted_by};
 
 use graph_base::Graph;
 use net_base::limits::LOCATIONS;

@@ -5,7 +5,8 @@ ghost use Rattle.net_base.specs.declared.limits.TheConstants.{LOCATIONS};
 ghost use Rattle.net_base.specs.Network.{id_of};
 ghost use Rattle.graph_base.specs.Runs.{place_of};
 ghost use Rattle.reach_prune.specs.Searches.{AreLists, is_among, is_listed};
-ghost use Rattle.graph_settling.specs.Best.{entry_at, number_in};
+ghost use Rattle.graph_base.specs.Preferences.{number_in};
+ghost use Rattle.graph_settling.specs.Best.{entry_at};
 ghost use Rattle.graph_settling.specs.Offers.{AreLowest, AreOfNodes, is_lower};
 
 use graph_base::Graph;

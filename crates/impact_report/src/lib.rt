@@ -1,7 +1,6 @@
 //! What single cuts change of the best ranks of claimed sources.
 #![tactic(auto)]
 
-mod known;
 mod paths;
 mod report;
 mod rows;

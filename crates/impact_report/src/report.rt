@@ -13,7 +13,6 @@ ghost use Rattle.impact_report.specs.Paths.{AreStepLists, rank_by};
 ghost use Rattle.impact_report.specs.Found.{IsFound};
 ghost use Rattle.impact_report.specs.Sources.{with_rank};
 
-use crate::known::{known_net, known_prefix};
 use crate::paths::Paths;
 use crate::rows::Base;
 use crate::sources::{Source, claimed_sources};
@@ -21,7 +20,7 @@ use config_base::{Config, class_of};
 use cut_search::base_tops;
 use evidence_base::{CaseEvidence, Evidence};
 use impact_law::{CutRow, Impact, SourceRank};
-use net_base::{List, Net, Prefix};
+use net_base::{List, Net, Prefix, known_net, known_prefix};
 use outside::NoMemory;
 use path_words::Policy;
 use reach_prune::{Way, neighbours};

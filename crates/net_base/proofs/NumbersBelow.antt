@@ -1,10 +1,12 @@
 -- The numbers below a number, in order.
-use Rattle.std.proofs.Common.{◌≡◌, ℕ, zero, suc, ◌+◌, ◌<◌, [], ◌∷◌, length, get_or, Some, inl, inr, refl, sym, ap, ◌∙◌, length-append, arith}
-use Rattle.std.specs.Prelude.{slice_get}
+use Rattle.std.proofs.Common.{◌≡◌, ℕ, zero, suc, ◌+◌, ◌<◌, Bool, true, false, List, [], ◌∷◌, ◌++◌, map, length, get_or, Some, inl, inr, refl, sym, ap, ◌∙◌, add-one, length-append, arith}
+use Rattle.std.specs.Prelude.{filter, slice_get}
 use Rattle.std.specs.List.{AllByRecursion}
 use Rattle.std.specs.List.Sorted.{IsStrictlySortedBy}
 use Rattle.std.specs.Ordering.{nat_cmp}
-use Rattle.std.proofs.lemmas.Bool.{cases_lt}
+use Rattle.std.proofs.lemmas.Bool.{cases_lt, cond-false, cond-true}
+use Rattle.std.proofs.lemmas.List.{append-nil, map-append}
+use Rattle.std.proofs.lemmas.List.Elements.{filter-append}
 use Rattle.std.proofs.lemmas.Map.Keys.{sorted_from_strictly_increasing}
 use Rattle.std.proofs.lemmas.Option.{get_or_from_slice_get, slice_get_within}
 use Rattle.list_laws.specs.Members.{IsIn}
@@ -16,6 +18,27 @@ use Rattle.net_base.specs.Locations.{numbers_below}
 pub length-numbers_below : (n : ℕ) → length (numbers_below n) ≡ n
 length-numbers_below zero = refl
 length-numbers_below (suc n) = omega (arith, length-append (numbers_below n) (n ∷ []), length-numbers_below n)
+
+-- ---- one more
+
+numbers_more : (n : ℕ) → numbers_below (n + 1) ≡ numbers_below n ++ n ∷ []
+numbers_more n = ap numbers_below (add-one n)
+
+pub map_more : {B : Type 0} (f : ℕ → B) (n : ℕ) → map f (numbers_below (n + 1)) ≡ map f (numbers_below n) ++ f n ∷ []
+map_more f n = ap (map f) (numbers_more n) ∙ map-append f (numbers_below n) (n ∷ [])
+
+pub map_next_number : {B : Type 0} (f : ℕ → B) (n : ℕ) (items : List B) (item : B) → items ≡ map f (numbers_below n) → item ≡ f n → items ++ item ∷ [] ≡ map f (numbers_below (n + 1))
+map_next_number f n items item so_far is = ap (λ xs. xs ++ item ∷ []) so_far ∙ ap (λ x. map f (numbers_below n) ++ x ∷ []) is ∙ sym (map_more f n)
+
+module _ (p : ℕ → Bool) (n : ℕ) where
+  filter_more : filter p (numbers_below (n + 1)) ≡ filter p (numbers_below n) ++ filter p (n ∷ [])
+  filter_more = ap (filter p) (numbers_more n) ∙ filter-append p (numbers_below n) (n ∷ [])
+
+  pub filter_kept : p n ≡ true → filter p (numbers_below (n + 1)) ≡ filter p (numbers_below n) ++ n ∷ []
+  filter_kept on = filter_more ∙ ap (λ ns. filter p (numbers_below n) ++ ns) (cond-true (p n) (n ∷ []) [] on)
+
+  pub filter_left : p n ≡ false → filter p (numbers_below (n + 1)) ≡ filter p (numbers_below n)
+  filter_left off = filter_more ∙ ap (λ ns. filter p (numbers_below n) ++ ns) (cond-false (p n) (n ∷ []) [] off) ∙ append-nil (filter p (numbers_below n))
 
 -- ---- each stands at its own place
 

@@ -1,6 +1,7 @@
 //! The words of a network: locations, names, prefixes, tags and numbers, and the limits.
 #![tactic(auto)]
 
+mod known;
 pub mod laws;
 pub mod limits;
 mod list;
@@ -13,6 +14,7 @@ mod prefix;
 mod prefix_text;
 mod words;
 
+pub use known::{known_net, known_prefix};
 pub use list::List;
 pub use loc::{Loc, LocSet};
 pub use name::Name;

@@ -9,7 +9,7 @@ use Rattle.graph_base.specs.Runs.{has_step, is_listener, place_of, IsTrail, Reac
 use Rattle.reach_prune.specs.Searches.{IsChain, Leads, is_among, is_marked}
 use Rattle.reach_prune.specs.Ways.{LeadsFrom}
 use Rattle.reach_prune.specs.declared.steps.Way.TheVariants.{Backward}
-use Rattle.number_check.specs.FirstPair.{number_in}
+use Rattle.graph_base.specs.Preferences.{number_in}
 use Rattle.number_check.specs.Floods.{AreLeast, AreNeighbours, AreNoLess, IsNoGreater, KeepsLoopAt}
 use Rattle.number_check.specs.Rows.{has_upto}
 use Rattle.number_check.specs.Runs.{IsRunAt, has_node}

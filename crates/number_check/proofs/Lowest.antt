@@ -6,7 +6,7 @@ use Rattle.list_laws.proofs.Tests.{list_any_parts}
 use Rattle.graph_base.specs.Graphs.{PlainGraph}
 use Rattle.graph_base.specs.Runs.{place_of}
 use Rattle.reach_prune.specs.Searches.{IsChain, Leads, is_listed, is_marked}
-use Rattle.number_check.specs.FirstPair.{number_in}
+use Rattle.graph_base.specs.Preferences.{number_in}
 use Rattle.number_check.specs.Floods.{AreLeast}
 use Rattle.number_check.specs.Rows.{has_upto}
 use Rattle.number_check.specs.Runs.{IsAscending, has_node, is_entry}

@@ -7,7 +7,7 @@ use Rattle.net_base.specs.Network.{PlainNet}
 use Rattle.graph_base.specs.Graphs.{PlainGraph}
 use Rattle.graph_base.specs.Runs.{place_of}
 use Rattle.reach_prune.specs.Searches.{is_marked}
-use Rattle.number_check.specs.FirstPair.{number_in}
+use Rattle.graph_base.specs.Preferences.{number_in}
 use Rattle.number_check.specs.Offers.{KeepsOffers, is_offered, offers_of}
 use Rattle.number_check.specs.Rows.{has_upto}
 use Rattle.number_check.specs.Runs.{AreTaken, AreUpto, IsMatching, IsRunAt, has_node, is_entry}

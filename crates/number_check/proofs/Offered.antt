@@ -12,7 +12,7 @@ use Rattle.net_base.specs.declared.loc.LocSet.{LocSet}
 use Rattle.graph_base.specs.Graphs.{PlainGraph}
 use Rattle.graph_base.specs.Rules.{KeepsListener, KeepsRank, KeepsStep}
 use Rattle.graph_base.specs.Runs.{has_step, is_listener, place_of, rank_at}
-use Rattle.number_check.specs.FirstPair.{number_in}
+use Rattle.graph_base.specs.Preferences.{number_in}
 use Rattle.number_check.specs.Offers.{KeepsOffers, is_good, is_offered, offer_by_rank, offer_by_step, offer_of_rank, offers_of}
 use Rattle.number_check.specs.declared.offers.Offer.{Offer}
 use Rattle.number_check.specs.declared.offers.Towards.{Towards}

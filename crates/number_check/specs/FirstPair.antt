@@ -1,10 +1,6 @@
 -- The first pair of nodes that breaks a rule.
 use Rattle.std.specs.Prelude.{◌≡◌, ◌⊎◌, ℕ, ◌<◌, List, Option, Some, None, slice_get, unwrap_or}
 
--- the preference number of a node, 0 for what isn't one
-abbrev pub number_in : List ℕ → ℕ → ℕ
-number_in numbers n = unwrap_or (slice_get numbers n) 0
-
 -- the least number that breaks a rule
 pub record IsFirst (Keeps : ℕ → Type 0) (n : ℕ) : Type 0 where
   pub fails : Keeps n → ⊥

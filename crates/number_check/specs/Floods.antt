@@ -5,7 +5,7 @@ use Rattle.graph_base.specs.Graphs.{PlainGraph}
 use Rattle.graph_base.specs.Rules.{steps_on}
 use Rattle.graph_base.specs.Runs.{place_of, is_listener, has_step, Reaches}
 use Rattle.reach_prune.specs.Searches.{AreLists, is_among, is_listed, is_marked}
-use Rattle.number_check.specs.FirstPair.{number_in}
+use Rattle.graph_base.specs.Preferences.{number_in}
 use Rattle.number_check.specs.Rows.{has_upto}
 use Rattle.number_check.specs.declared.flood.Flood.{Flood}
 

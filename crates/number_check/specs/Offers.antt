@@ -7,7 +7,7 @@ use Rattle.net_base.specs.declared.loc.LocSet.{LocSet}
 use Rattle.graph_base.specs.Graphs.{PlainGraph}
 use Rattle.graph_base.specs.Rules.{IsOver}
 use Rattle.graph_base.specs.Runs.{place_of, is_listener, rank_at}
-use Rattle.number_check.specs.FirstPair.{number_in}
+use Rattle.graph_base.specs.Preferences.{number_in}
 use Rattle.number_check.specs.declared.offers.Offer.{Offer}
 use Rattle.number_check.specs.declared.offers.Towards.{Towards}
 use Rattle.number_check.specs.declared.offers.Towards.TheVariants.{Routers, Listeners}

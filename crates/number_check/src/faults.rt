@@ -2,7 +2,8 @@
 ghost use Rattle.std.specs.Prelude.{◌≡◌, ◌↔◌, ◌<◌, ℕ, IfOk, IsTrue, length};
 ghost use Rattle.net_base.specs.Sets.{holds};
 ghost use Rattle.graph_base.specs.Rules.{IsOver, KeepsListener, KeepsRank, KeepsStep};
-ghost use Rattle.number_check.specs.FirstPair.{IsFirstOrNone, IsFirstPairOrNone, number_in};
+ghost use Rattle.graph_base.specs.Preferences.{number_in};
+ghost use Rattle.number_check.specs.FirstPair.{IsFirstOrNone, IsFirstPairOrNone};
 ghost use Rattle.number_check.specs.Offers.{KeepsOffers};
 
 use crate::low_row::LowRow;

@@ -2,7 +2,7 @@
 ghost use Rattle.std.specs.Prelude.{◌≡◌, ◌⊎◌, ◌<◌, ◌≤◌, All, ℕ, true, IfOk, OnOk, IsTrue, length};
 ghost use Rattle.graph_base.specs.Rules.{IsOver};
 ghost use Rattle.reach_prune.specs.Searches.{is_marked};
-ghost use Rattle.number_check.specs.FirstPair.{number_in};
+ghost use Rattle.graph_base.specs.Preferences.{number_in};
 ghost use Rattle.number_check.specs.Offers.{KeepsOffers};
 ghost use Rattle.number_check.specs.Runs.{AreTaken, AreUpto, IsAscending, IsMatching};
 

@@ -1,6 +1,6 @@
 //! The nodes of each router in ascending order of number.
 ghost use Rattle.std.specs.Prelude.{◌≡◌, ◌&&◌, ◌<◌, ℕ, [], nat_lt, IfOk, length, slice_index_or};
-ghost use Rattle.number_check.specs.FirstPair.{number_in};
+ghost use Rattle.graph_base.specs.Preferences.{number_in};
 ghost use Rattle.number_check.specs.Runs.{IsAscending, has_node, is_node_at};
 
 use crate::lists::empty_lists;

@@ -1,7 +1,6 @@
 //! The findings of a policy and its text.
 ghost use Rattle.std.specs.Prelude.{◌≡◌, ◌<◌, List as Items, Ok, IfErr, IfOk, OnOk, length};
-ghost use Rattle.net_base.specs.Network.{IsNet};
-ghost use Rattle.path_words.specs.Policies.{IsPolicy, policy_of};
+ghost use Rattle.path_words.specs.Policies.{policy_of};
 ghost use Rattle.policy_tokens.specs.declared.token.Token.{Token as PlainToken};
 ghost use Rattle.policy_tokens.specs.Tokens.{tokens_of};
 ghost use Rattle.policy_parser.specs.Spelled.{spelled};
@@ -12,9 +11,9 @@ use crate::finding::Finding;
 use crate::groups::push_unused;
 use crate::statements::{push_covered, push_idle, push_unreached, statements_with_cases};
 use case_ranks::{LintRefusal, reached_ranks};
-use net_base::Net;
+use net_base::{Net, known_net};
 use outside::NoMemory;
-use path_words::{Policy, cases};
+use path_words::{Policy, cases, known_policy};
 use pattern_cover::covered_statements;
 use policy_tokens::{PolicyFault, Token, tokens};
 use std::alloc::Global;
@@ -33,15 +32,6 @@ fn tokens_for(alloc: Global, bytes: &[u8]) -> Result<Vec<Token>, NoMemory>
     }
 }
 
-/// What every network and every policy keeps.
-fn known_rules(net: &Net, policy: &Policy)
-    ensures net { IsNet net.now }
-    ensures policy { IsPolicy (policy_of policy.now) }
-{
-    let _routers = net.routers();
-    let _origins = policy.origins();
-}
-
 /// The parts of a policy, which `bytes` spell for the network, that can never matter: groups whose names are used nowhere, in order of
 /// the text; statements whose prefixes earlier ones govern, and then those that no case has, by number; and alternatives that no
 /// permitted walk reaches, by statement and place. Refused is a policy exactly where the limits on alternatives, nodes and steps
@@ -58,7 +48,8 @@ pub fn lint(
     ensures within { OnOk result (AreAllWithin net.now (policy_of policy.now)) }
     ensures refused { IfErr result (IsRefused net.now (policy_of policy.now)) }
 {
-    known_rules(net, policy);
+    known_net(net);
+    known_policy(policy);
     let statements = policy.statements();
     let list = cases(alloc, net, policy)?;
     let ranks = reached_ranks(alloc, net, policy, &list)?;

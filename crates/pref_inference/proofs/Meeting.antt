@@ -6,7 +6,8 @@ use Rattle.graph_base.specs.Rules.{IsOver, MeetsRules, steps_on}
 use Rattle.graph_base.specs.Runs.{has_step, place_of}
 use Rattle.net_base.specs.Network.{PlainNet}
 use Rattle.net_base.specs.Sets.{holds}
-use Rattle.pref_inference.specs.Inferred.{inferred, number_in}
+use Rattle.graph_base.specs.Preferences.{number_in}
+use Rattle.pref_inference.specs.Inferred.{inferred}
 use Rattle.relation_law.specs.Numbers.{number_of}
 use Rattle.relation_law.specs.Views.{view_of}
 use Rattle.graph_base.proofs.StartsAndSteps.{step_nodes}

@@ -7,10 +7,6 @@ use Rattle.relation_law.specs.Evidence.{at_routers}
 use Rattle.relation_law.specs.Numbers.{is_first, number_of}
 use Rattle.state_simulation.specs.Held.{PlainRelation, has}
 
--- the number of a node, in a list of them
-abbrev pub number_in : List ℕ → ℕ → ℕ
-number_in numbers n = slice_index_or numbers n 0
-
 -- one row, which has those of so many nodes that are the first of their classes
 pub record AreFirsts (size : ℕ) (r : PlainRelation) (rows : PlainRows) : Type 0 where
   pub count : rows.count ≡ 1

@@ -2,7 +2,8 @@
 ghost use Rattle.std.specs.Prelude.{◌≡◌, ◌<◌, ℕ, Bool, IfOk, IsTrue, length};
 ghost use Rattle.graph_base.specs.Rules.{MeetsRules};
 ghost use Rattle.net_base.specs.Sets.{holds};
-ghost use Rattle.pref_inference.specs.Inferred.{AreFirsts, inferred, number_in};
+ghost use Rattle.graph_base.specs.Preferences.{number_in};
+ghost use Rattle.pref_inference.specs.Inferred.{AreFirsts, inferred};
 ghost use Rattle.state_simulation.specs.Held.{HasEach, IsRelationOf};
 ghost use Rattle.state_simulation.specs.Looked.{AreLocated};
 

@@ -12,12 +12,11 @@ ghost use Rattle.report_lines.specs.Claims.{AreClaims, statement_in};
 ghost use Rattle.report_lines.specs.Lines.{rank_by};
 ghost use Rattle.report_lines.specs.Marks.{AreMarks, heard_pairs as ends_heard};
 
-use crate::known::{known_net, known_prefix};
 use crate::marks::{heard_pairs, marked_links, marks_of};
 use config_base::{Config, class_of};
 use evidence_base::{CaseEvidence, Evidence};
 use graph_base::{Graph, ranked_routers};
-use net_base::{List, Loc, LocSet, Net, Prefix};
+use net_base::{List, Loc, LocSet, Net, Prefix, known_net, known_prefix};
 use path_words::{Policy, Statement, rank_of, statement_of};
 use std::alloc::{AllocError, Global};
 

@@ -2,7 +2,6 @@
 #![tactic(auto)]
 
 mod claims;
-mod known;
 pub mod laws;
 mod lines;
 mod marks;

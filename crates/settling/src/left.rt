@@ -3,9 +3,8 @@ ghost use Rattle.std.specs.Prelude.{◌≡◌, ℕ, IfOk, filter};
 ghost use Rattle.net_base.specs.Sets.{holds};
 ghost use Rattle.settling.specs.Surviving.{chooses_by, left_by, lives_by, steps_by};
 
-use crate::known::known_net;
 use graph_base::Graph;
-use net_base::{List, LocSet, Net};
+use net_base::{List, LocSet, Net, known_net};
 use stable_paths::Survivors;
 use std::alloc::{AllocError, Global};
 

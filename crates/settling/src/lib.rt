@@ -1,7 +1,6 @@
 //! The settled outcome of a scenario: the one stable outcome of a configured network in which ties are broken by the full order.
 #![tactic(auto)]
 
-mod known;
 mod left;
 mod outcome;
 

@@ -11,12 +11,11 @@ ghost use Rattle.settled_law.specs.Settled.{IsFullyStable};
 ghost use Rattle.settling.specs.Outcomes.{AreSettled, case_of as case_of_class, held_by, tagged as with_tag};
 ghost use Rattle.stable_paths.specs.Scenarios.{failures_of};
 
-use crate::known::{known_net, known_prefix};
 use crate::left::{choosers, open_graph};
 use config_base::{Config, NO_TAG, Route, class_of, own_tag};
 use evidence_base::{CaseEvidence, Evidence};
 use graph_settling::{Settled, settle_graph};
-use net_base::{List, Loc, LocSet, Net, Prefix, Tag};
+use net_base::{List, Loc, LocSet, Net, Prefix, Tag, known_net, known_prefix};
 use outside::NoMemory;
 use path_words::Policy;
 use stable_paths::{Outcome, Scenario, Survivors, origins_at};

@@ -3,7 +3,6 @@
 
 mod choice;
 mod gifts;
-mod known;
 mod links;
 mod offers;
 mod origins;

@@ -4,8 +4,7 @@ ghost use Rattle.std.specs.List.{list_any};
 ghost use Rattle.net_base.specs.Network.{PlainNet, is_peer, joins, linked};
 ghost use Rattle.stable_paths.specs.Links.{has_link};
 
-use crate::known::known_net;
-use net_base::{Loc, Net};
+use net_base::{Loc, Net, known_net};
 
 /// A set of links of a network, by their places. It takes no memory.
 #[derive(Drop)]

@@ -4,8 +4,7 @@ ghost use Rattle.net_base.specs.Sets.{holds};
 ghost use Rattle.path_words.specs.Governing.{is_origin};
 ghost use Rattle.path_words.specs.Policies.{policy_of};
 
-use crate::known::known_net;
-use net_base::{LocSet, Net, Prefix};
+use net_base::{LocSet, Net, Prefix, known_net};
 use path_words::{Policy, origins_of};
 
 /// The origins of a prefix.

@@ -1,7 +1,7 @@
 use Rattle.std.proofs.Common.{◌≡◌, ◌+◌, ap, ◌∙◌, length, arith, subst, sym}
 use Rattle.config_made.specs.Hops.{AreReached}
 use Rattle.config_made.specs.Writing.{router_of}
-use Rattle.config_made.proofs.InOrder.{map_next_number}
+use Rattle.net_base.proofs.NumbersBelow.{map_next_number}
 use Rattle.config_made.proofs.Linked.{written_back}
 use Rattle.config_made.proofs.Reached.{all_later}
 use Rattle.config_made.proofs.blocks.routers_of.Goals as goal

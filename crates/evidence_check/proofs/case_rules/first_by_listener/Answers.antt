@@ -3,7 +3,8 @@ use Rattle.std.specs.Prelude.{IfOk}
 use Rattle.path_words.specs.declared.case.Case.{Case}
 use Rattle.graph_base.specs.Graphs.{PlainGraph}
 use Rattle.graph_base.specs.Rules.{KeepsListener}
-use Rattle.number_check.specs.FirstPair.{IsFirstPairOrNone, number_in}
+use Rattle.graph_base.specs.Preferences.{number_in}
+use Rattle.number_check.specs.FirstPair.{IsFirstPairOrNone}
 use Rattle.evidence_check.proofs.case_rules.first_by_listener.Goals as goal
 
 pub returns : goal.returns

@@ -3,7 +3,8 @@ use Rattle.std.specs.Prelude.{IfOk, IsTrue}
 use Rattle.net_base.specs.Sets.{holds}
 use Rattle.graph_base.specs.Graphs.{PlainGraph}
 use Rattle.graph_base.specs.Rules.{KeepsRank}
-use Rattle.number_check.specs.FirstPair.{IsFirstPairOrNone, number_in}
+use Rattle.graph_base.specs.Preferences.{number_in}
+use Rattle.number_check.specs.FirstPair.{IsFirstPairOrNone}
 use Rattle.evidence_check.proofs.case_rules.first_by_rank.Goals as goal
 
 pub returns : goal.returns

@@ -2,7 +2,8 @@ use Rattle.std.proofs.Common.{ℕ, List, subst}
 use Rattle.std.specs.Prelude.{IfOk}
 use Rattle.graph_base.specs.Graphs.{PlainGraph}
 use Rattle.graph_base.specs.Rules.{KeepsStep}
-use Rattle.number_check.specs.FirstPair.{IsFirstPairOrNone, number_in}
+use Rattle.graph_base.specs.Preferences.{number_in}
+use Rattle.number_check.specs.FirstPair.{IsFirstPairOrNone}
 use Rattle.evidence_check.proofs.case_rules.first_by_step.Goals as goal
 
 pub returns : goal.returns

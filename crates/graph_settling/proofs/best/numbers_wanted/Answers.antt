@@ -1,7 +1,8 @@
 use Rattle.std.proofs.Common.{◌≡◌, cond, None, option_map, ◌+◌, ◌++◌, ◌∷◌, [], length, length-append, sym, ap, ◌∙◌, subst, arith, inl, inr, ℕ, List, Option}
 use Rattle.std.proofs.lemmas.Bool.{cases_lt}
 use Rattle.net_base.specs.Sets.{holds}
-use Rattle.graph_settling.specs.Best.{entry_at, number_in, wanted_by}
+use Rattle.graph_base.specs.Preferences.{number_in}
+use Rattle.graph_settling.specs.Best.{entry_at, wanted_by}
 use Rattle.graph_settling.proofs.Tables.{entry_next, entry_past, unwanted_past}
 use Rattle.graph_settling.proofs.best.numbers_wanted.Goals as goal
 

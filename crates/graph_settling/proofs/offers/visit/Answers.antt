@@ -1,7 +1,8 @@
 use Rattle.std.proofs.Common.{◌≡◌, Some, true, set, sym, ap, ◌∙◌, subst, arith}
 use Rattle.std.proofs.lemmas.Bool.{both_ways}
 use Rattle.graph_base.specs.Runs.{place_of}
-use Rattle.graph_settling.specs.Best.{entry_at, number_in}
+use Rattle.graph_base.specs.Preferences.{number_in}
+use Rattle.graph_settling.specs.Best.{entry_at}
 use Rattle.graph_settling.specs.Offers.{AreLowest, is_lower}
 use Rattle.graph_settling.proofs.Lowest.{lowest_kept, lowest_there, more}
 use Rattle.graph_settling.proofs.Tables.{entry_read, number_read, place_low}

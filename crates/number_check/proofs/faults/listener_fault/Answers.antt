@@ -1,7 +1,7 @@
 use Rattle.std.proofs.Common.{ap, ◌∙◌}
 use Rattle.std.proofs.lemmas.Result.{IfOk-weaker}
 use Rattle.graph_base.specs.Rules.{KeepsListener}
-use Rattle.number_check.specs.FirstPair.{number_in}
+use Rattle.graph_base.specs.Preferences.{number_in}
 use Rattle.number_check.specs.Offers.{KeepsOffers, is_offered, offers_of}
 use Rattle.number_check.proofs.FirstPairs.{first_pair_along}
 use Rattle.number_check.proofs.Offered.{listeners_match}

@@ -2,7 +2,7 @@ use Rattle.std.proofs.Common.{IsTrue, ap, ◌∙◌}
 use Rattle.std.proofs.lemmas.Result.{IfOk-weaker}
 use Rattle.net_base.specs.Sets.{holds}
 use Rattle.graph_base.specs.Rules.{KeepsRank}
-use Rattle.number_check.specs.FirstPair.{number_in}
+use Rattle.graph_base.specs.Preferences.{number_in}
 use Rattle.number_check.specs.Offers.{KeepsOffers, is_offered, offers_of}
 use Rattle.number_check.proofs.FirstPairs.{first_pair_along}
 use Rattle.number_check.proofs.Offered.{ranks_match}

@@ -6,7 +6,7 @@ use Rattle.graph_base.specs.Rules.{KeepsLoop}
 use Rattle.reach_prune.specs.Searches.{is_among, is_marked}
 use Rattle.reach_prune.specs.Ways.{LeadsFrom}
 use Rattle.reach_prune.specs.declared.steps.Way.TheVariants.{Backward}
-use Rattle.number_check.specs.FirstPair.{number_in}
+use Rattle.graph_base.specs.Preferences.{number_in}
 use Rattle.number_check.proofs.Looping.{keeps_loop, no_greater_from}
 use Rattle.number_check.proofs.loops.first_looped.Goals as goal
 use Rattle.number_check.proofs.loops.first_looped.Goals.{else-is_over-via-then-is_over+else-not-are_no_greater, else-is_over-via-else-is_over}

@@ -1,7 +1,8 @@
 use Rattle.std.proofs.Common.{◌<◌, ap, sym, subst, ◌∙◌, arith, length, false}
 use Rattle.std.proofs.lemmas.List.{get_or_read}
 use Rattle.graph_base.specs.Rules.{KeepsLoop}
-use Rattle.number_check.specs.FirstPair.{IsFirstOrNone, number_in}
+use Rattle.graph_base.specs.Preferences.{number_in}
+use Rattle.number_check.specs.FirstPair.{IsFirstOrNone}
 use Rattle.number_check.proofs.FirstPairs.{first_of_both, keeps_more}
 use Rattle.number_check.proofs.Looping.{keeps_all}
 use Rattle.number_check.proofs.loops.loop_fault.Goals as goal

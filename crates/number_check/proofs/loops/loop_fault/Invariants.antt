@@ -1,6 +1,6 @@
 use Rattle.std.proofs.Common.{ℕ, ◌<◌}
 use Rattle.graph_base.specs.Rules.{KeepsLoop}
-use Rattle.number_check.specs.FirstPair.{number_in}
+use Rattle.graph_base.specs.Preferences.{number_in}
 use Rattle.number_check.proofs.loops.loop_fault.Given as goal
 
 abbrev pub invariant-loop-first : goal.invariant-loop-first

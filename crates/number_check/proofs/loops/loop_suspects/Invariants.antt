@@ -1,6 +1,6 @@
 use Rattle.std.proofs.Common.{◌≡◌, ◌≤◌, ◌<◌, ℕ, false, length, vec_len}
 use Rattle.reach_prune.specs.Searches.{is_marked}
-use Rattle.number_check.specs.FirstPair.{number_in}
+use Rattle.graph_base.specs.Preferences.{number_in}
 use Rattle.number_check.specs.Floods.{KeepsLoopAt}
 use Rattle.number_check.proofs.Matching.{AreRuns}
 use Rattle.number_check.proofs.loops.loop_suspects.Given as goal

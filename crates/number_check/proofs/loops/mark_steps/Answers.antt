@@ -7,7 +7,7 @@ use Rattle.std.proofs.lemmas.Option.{slice_get-get_or}
 use Rattle.list_laws.proofs.Each.{AllByRecursion_at}
 use Rattle.graph_base.specs.Runs.{has_step, is_listener, place_of}
 use Rattle.reach_prune.specs.Searches.{is_marked}
-use Rattle.number_check.specs.FirstPair.{number_in}
+use Rattle.graph_base.specs.Preferences.{number_in}
 use Rattle.number_check.specs.Rows.{has_upto}
 use Rattle.number_check.proofs.Looping.{unmarked_set}
 use Rattle.number_check.proofs.loops.mark_steps.Goals as goal

@@ -2,7 +2,7 @@ use Rattle.std.proofs.Common.{◌≡◌, ◌≤◌, ◌&&◌, ℕ, IsTrue, false
 use Rattle.std.specs.List.{list_any}
 use Rattle.graph_base.specs.Runs.{is_listener, place_of}
 use Rattle.reach_prune.specs.Searches.{is_marked}
-use Rattle.number_check.specs.FirstPair.{number_in}
+use Rattle.graph_base.specs.Preferences.{number_in}
 use Rattle.number_check.specs.Rows.{has_upto}
 use Rattle.number_check.proofs.loops.mark_steps.Given as goal
 

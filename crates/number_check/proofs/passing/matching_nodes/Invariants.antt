@@ -1,6 +1,6 @@
 use Rattle.std.proofs.Common.{◌≡◌, ℕ, IsTrue, length, vec_len}
 use Rattle.reach_prune.specs.Searches.{is_marked}
-use Rattle.number_check.specs.FirstPair.{number_in}
+use Rattle.graph_base.specs.Preferences.{number_in}
 use Rattle.number_check.specs.Offers.{KeepsOffers}
 use Rattle.number_check.proofs.Matching.{AreRuns}
 use Rattle.number_check.proofs.passing.matching_nodes.Given as goal

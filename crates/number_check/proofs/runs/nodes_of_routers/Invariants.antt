@@ -1,6 +1,6 @@
 use Rattle.std.proofs.Common.{◌≡◌, ◌&&◌, ◌<◌, ℕ, [], length, get_or, ltb, eqb}
 use Rattle.graph_base.specs.Runs.{place_of}
-use Rattle.number_check.specs.FirstPair.{number_in}
+use Rattle.graph_base.specs.Preferences.{number_in}
 use Rattle.number_check.specs.Runs.{has_node}
 use Rattle.number_check.proofs.runs.nodes_of_routers.Given as goal
 

@@ -23,7 +23,7 @@ use Rattle.policy_lint.proofs.findings.lint.Goals as goal
 
 pub reached_ranks-requires-clause-few : goal.reached_ranks-requires-clause-few
 reached_ranks-requires-clause-few c =
-    subst (λ (xs : List Case). length xs < 2 ^ 32) (sym c.in_ok-list.ensures) (case_lists c.args.net.now (policy_of c.args.policy.now) c.known_rules.ensures.policy).count
+    subst (λ (xs : List Case). length xs < 2 ^ 32) (sym c.in_ok-list.ensures) (case_lists c.args.net.now (policy_of c.args.policy.now) c.known_policy.ensures).count
 
 pub reached_ranks-requires-clause-routers : goal.reached_ranks-requires-clause-routers
 reached_ranks-requires-clause-routers c = (read_policies_fit c.args.net.now c.args.bytes.now (policy_of c.args.policy.now) c.requires.spelled).routers

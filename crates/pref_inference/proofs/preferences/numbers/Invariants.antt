@@ -1,5 +1,6 @@
 use Rattle.std.proofs.Common.{◌≡◌, ◌<◌, ℕ, length}
-use Rattle.pref_inference.specs.Inferred.{inferred, number_in}
+use Rattle.graph_base.specs.Preferences.{number_in}
+use Rattle.pref_inference.specs.Inferred.{inferred}
 use Rattle.pref_inference.proofs.preferences.numbers.Given as goal
 
 abbrev pub invariant-loop-node : goal.invariant-loop-node
