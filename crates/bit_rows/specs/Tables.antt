@@ -1,5 +1,6 @@
 -- Tables of bits, row by row.
 use Rattle.std.specs.Prelude.{◌≡◌, ℕ, ◌+◌, ◌*◌, ◌<◌, ◌≤◌, Bool, false, List, length, take, drop}
+use Rattle.bit_rows.specs.declared.rows.TheConstants.{MAX_BITS}
 use Rattle.bit_rows.specs.Bits.{has}
 
 -- how many rows there are and how many bits in each, how many words a row takes, and the words, row after row
@@ -19,7 +20,7 @@ has_at r row b = has (row_of r row) b
 -- a table of so many rows and bits
 pub record IsTable (r : PlainRows) : Type 0 where
   pub size : length r.words ≡ r.count * r.width
-  pub few : r.bits ≤ 4294967000
+  pub few : r.bits ≤ MAX_BITS
   -- as few words as hold the bits
   pub room : r.bits ≤ 64 * r.width
   pub tight : 64 * r.width < r.bits + 64

@@ -2,11 +2,15 @@
 ghost use Rattle.std.specs.Prelude.{◌≡◌, ℕ, ◌*◌, ◌==◌, ◌<◌, ◌≤◌, ◌&&◌, ◌||◌, not, false, if◌then◌else◌, IfOk, length};
 ghost use Rattle.std.specs.List.{count_by, range_with_len};
 ghost use Rattle.bit_rows.specs.Bits.{has};
+ghost use Rattle.bit_rows.specs.declared.rows.TheConstants.{MAX_BITS};
 
 use crate::kernels::{count_bits, is_set, keep_row, set_bit};
 use outside::NoMemory;
 use std::alloc::Global;
 use std::marker::Model;
+
+/// Bits of a row: their numbers have 32 bits, and some are left over.
+pub const MAX_BITS: u32 = 4_294_967_000;
 
 /// A table of bits, 64 to a word. Each row begins with a word of its own, and bits past its last one are clear.
 #[derive(Drop)]
@@ -32,7 +36,7 @@ impl Rows {
 
     /// So many rows of so many bits, all clear.
     pub fn new(alloc: Global, rows: u32, bits: u32) -> Result<Rows, NoMemory>
-        requires { bits ≤ 4294967000 }
+        requires { bits ≤ MAX_BITS }
         ensures count { IfOk result (λ r. r.count ≡ rows) }
         ensures bits { IfOk result (λ r. r.bits ≡ bits) }
         ensures table { IfOk result IsTable }

@@ -1,31 +1,31 @@
 -- What the texts of a configuration and of evidence come to, where the evidence is read first.
-use Rattle.std.proofs.Common.{◌≡◌, ℕ, List, Ok, inl, inr}
+use Rattle.std.proofs.Common.{◌≡◌, ℕ, ◌<◌, List, length, Ok, inl, inr}
 use Rattle.net_base.specs.Network.{PlainNet}
 use Rattle.path_words.specs.Policies.{PlainPolicy}
 use Rattle.config_base.specs.Configs.{PlainConfig}
 use Rattle.config_lines.specs.declared.edition.Edition.TheVariants.{Second}
 use Rattle.config_text.specs.Spelled.{Spells}
 use Rattle.config_reader.specs.Text.{spelled as config_spelled}
+use Rattle.config_reader.proofs.ReadTexts.{read_is_spelled}
 use Rattle.config_reader.proofs.TakenTexts.{spelled_is_read}
 use Rattle.evidence_base.specs.Made.{PlainCaseEvidence}
 use Rattle.evidence_text.specs.Spelled.{spelled as evidence_spelled}
 use Rattle.evidence_rules.specs.declared.verdict.Verdict.{Verdict}
-use Rattle.evidence_rules.specs.declared.verdict.Verdict.TheVariants.{Holds}
 use Rattle.evidence_rules.specs.Verdicts.{IsVerdict}
 use Rattle.run_base.specs.Said.{IsGiven, Said}
 use Rattle.input_texts.specs.Texts.{OfPairTexts}
 use Rattle.check_job.specs.Checked.{OfConfigText, SaysOfPair}
 use Rattle.check_job.specs.VerdictLines.{verdict_said}
 
-module _ (net : PlainNet) (policy : PlainPolicy) (text : List ℕ) (evidence : List PlainCaseEvidence) where
-  -- a verdict is said of the configuration that was read
-  pub judged : (what : Said) (config : PlainConfig) (v : Verdict) → config_spelled text ≡ Ok config → IsVerdict net policy config evidence v → IsGiven (λ w. w ≡ verdict_said v) what → IsGiven (OfConfigText (SaysOfPair net policy) text evidence) what
-  judged what config v read verdict (inl none) = inl none
-  judged what config v read verdict (inr same) = inr (inr (config, read, (v, verdict, same)))
+module _ (net : PlainNet) (policy : PlainPolicy) (text : List ℕ) (evidence : List PlainCaseEvidence) (verdict : Verdict) (judges : (config : PlainConfig) → Spells text config → IsVerdict net policy config evidence verdict) where
+  -- the evidence holds with the configuration that the text spells
+  pub held : (what : Said) → (config : PlainConfig) × Spells text config → IsGiven (λ w. w ≡ verdict_said verdict) what → IsGiven (OfConfigText (SaysOfPair net policy) text evidence) what
+  held what found (inl none) = inl none
+  held what found (inr same) = inr (inr (found.0, spelled_is_read Second text found.0 found.1, (verdict, judges found.0 found.1, same)))
 
-  -- the evidence holds with the one that the text spells
-  pub held : (what : Said) (config : PlainConfig) → Spells text config → IsVerdict net policy config evidence Holds → IsGiven (λ w. w ≡ verdict_said Holds) what → IsGiven (OfConfigText (SaysOfPair net policy) text evidence) what
-  held what config spells verdict given = judged what config Holds (spelled_is_read Second text config spells) verdict given
+  -- a verdict on the configuration that was read
+  pub judged : (what : Said) (config : PlainConfig) → length text < 4294967295 → config_spelled text ≡ Ok config → IsGiven (λ w. w ≡ verdict_said verdict) what → IsGiven (OfConfigText (SaysOfPair net policy) text evidence) what
+  judged what config short read given = held what (config, read_is_spelled Second text config short read) given
 
 -- the evidence was read before
 pub of_both : (Next : PlainConfig → List PlainCaseEvidence → Said → Type 0) (text evidence_text : List ℕ) (evidence : List PlainCaseEvidence) (what : Said)

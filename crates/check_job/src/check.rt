@@ -4,14 +4,11 @@ ghost use Rattle.path_words.specs.Policies.{policy_of};
 ghost use Rattle.case_law.specs.Cases.{OriginsAreRouters};
 ghost use Rattle.run_base.specs.Said.{IsGiven, said};
 ghost use Rattle.input_texts.specs.Texts.{OfTexts, OfPairTexts};
-ghost use Rattle.evidence_rules.specs.declared.rule.CheckRule.TheVariants.{ConfigDiffers};
-ghost use Rattle.evidence_rules.specs.Verdicts.{KeepsBefore};
 ghost use Rattle.check_job.specs.Checked.{OfConfigText, SaysOfPair, SaysOfPolicy};
-ghost use Rattle.check_job.specs.VerdictLines.{verdict_said};
 
 use crate::verdict_lines::{fails_line, holds_line};
 use evidence_base::CaseEvidence;
-use evidence_check::{config_verdict, evidence_fault, holds_with_text};
+use evidence_check::check_text;
 use evidence_rules::Verdict;
 use input_texts::{config_for, evidence_for, net_of, policy_for};
 use net_base::Net;
@@ -19,39 +16,9 @@ use path_words::Policy;
 use run_base::Stop;
 use std::alloc::Global;
 
-// What a verdict comes to.
-fn verdict_text(alloc: Global, verdict: Verdict) -> Result<Vec<u8>, Stop>
-    ensures { IsGiven (λ what. what ≡ verdict_said verdict) (said result) }
-{
-    match verdict {
-        Verdict::Holds => Ok(holds_line(alloc)?),
-        Verdict::Fails(rule, shown) => Err(Stop::Failing(fails_line(alloc, rule, shown)?)),
-    }
-}
-
-// What the text of a configuration comes to with evidence that keeps all rules on it alone. Nearly always it is the text of the
-// configuration that is made of the evidence; then it isn't read.
-fn text_of_config(
-    alloc: Global,
-    net: &Net,
-    policy: &Policy,
-    config: &[u8],
-    evidence: &[CaseEvidence],
-) -> Result<Vec<u8>, Stop>
-    requires kept { KeepsBefore ConfigDiffers net.now (policy_of policy.now) evidence.now }
-    requires short { length config.now < 4294967295 }
-    ensures { IsGiven (OfConfigText (SaysOfPair net.now (policy_of policy.now)) config.now evidence.now) (said result) }
-{
-    if holds_with_text(alloc, net, policy, config, evidence)? {
-        return verdict_text(alloc, Verdict::Holds);
-    }
-    let config = config_for(alloc, config)?;
-    let verdict = config_verdict(alloc, net, policy, &config, evidence)?;
-    verdict_text(alloc, verdict)
-}
-
-// What the text of a configuration comes to with evidence.
-fn text_of_evidence(
+// What the text of a configuration comes to with evidence. It is read only where the evidence doesn't hold with it, so that a fault
+// of the text is told first.
+fn judged_text(
     alloc: Global,
     net: &Net,
     policy: &Policy,
@@ -62,12 +29,12 @@ fn text_of_evidence(
     requires short { length config.now < 4294967295 }
     ensures { IsGiven (OfConfigText (SaysOfPair net.now (policy_of policy.now)) config.now evidence.now) (said result) }
 {
-    match evidence_fault(alloc, net, policy, evidence)? {
-        Some(verdict) => {
+    match check_text(alloc, net, policy, config, evidence)? {
+        Verdict::Holds => Ok(holds_line(alloc)?),
+        Verdict::Fails(rule, shown) => {
             let _config = config_for(alloc, config)?;
-            verdict_text(alloc, verdict)
+            Err(Stop::Failing(fails_line(alloc, rule, shown)?))
         }
-        None => text_of_config(alloc, net, policy, config, evidence),
     }
 }
 
@@ -86,7 +53,7 @@ fn pair_text(
     ensures { IsGiven (OfPairTexts (SaysOfPair net.now (policy_of policy.now)) config.now evidence.now) (said result) }
 {
     match evidence_for(alloc, evidence) {
-        Ok(evidence) => text_of_evidence(alloc, net, policy, config, evidence.cases.as_slice()),
+        Ok(evidence) => judged_text(alloc, net, policy, config, evidence.cases.as_slice()),
         Err(stop) => {
             let _config = config_for(alloc, config)?;
             Err(stop)

@@ -6,4 +6,3 @@ pub mod Limits
 pub mod Live
 pub mod SeenTags
 pub mod Texts
-pub mod Truth

@@ -1,53 +1,21 @@
 //! The rule of the configuration.
-ghost use Rattle.std.specs.Prelude.{◌≡◌, ◌<◌, ◌↔◌, IfOk, IsTrue, MatchOption};
+ghost use Rattle.std.specs.Prelude.{◌≡◌, ◌<◌, ◌↔◌, IfOk, IsTrue};
 ghost use Rattle.path_words.specs.Policies.{policy_of};
 ghost use Rattle.config_base.specs.Configs.{PlainConfig};
 ghost use Rattle.config_text.specs.Spelled.{Spells};
-ghost use Rattle.evidence_base.specs.Made.{IsConfigOf};
 ghost use Rattle.evidence_rules.specs.declared.rule.CheckRule.TheVariants.{ConfigDiffers};
 ghost use Rattle.evidence_rules.specs.declared.verdict.Verdict.TheVariants.{Holds};
-ghost use Rattle.evidence_rules.specs.Verdicts.{IsConfigFault, IsVerdict, KeepsBefore};
+ghost use Rattle.evidence_rules.specs.Verdicts.{IsVerdict, KeepsBefore};
 
 use crate::difference::{block_of, first_difference};
-use crate::same::is_same_config;
-use config_base::Config;
 use config_made::config_of;
 use config_text::print_config;
 use evidence_base::CaseEvidence;
-use evidence_rules::Shown;
+use evidence_rules::{CheckRule, Shown, Verdict};
 use net_base::{Net, known_net};
 use outside::NoMemory;
 use path_words::{Policy, known_policy};
 use std::alloc::Global;
-
-/// Where the configuration differs from the one that is made of the evidence, which keeps all other rules. The parts are
-/// compared first; the texts are printed only where these differ.
-pub fn config_fault(
-    alloc: Global,
-    net: &Net,
-    policy: &Policy,
-    config: &Config,
-    evidence: &[CaseEvidence],
-) -> Result<Option<Shown>, NoMemory>
-    requires { KeepsBefore ConfigDiffers net.now (policy_of policy.now) evidence.now }
-    ensures { IfOk result (λ o. MatchOption o (IsConfigOf net.now (policy_of policy.now) evidence.now config.now) (IsConfigFault net.now (policy_of policy.now) config.now evidence.now)) }
-{
-    known_net(net);
-    known_policy(policy);
-    let made = config_of(alloc, net, policy, evidence)?;
-    if is_same_config(&made, config) {
-        return Ok(None);
-    }
-    let wanted = print_config(alloc, &made)?;
-    let given = print_config(alloc, config)?;
-    let line = first_difference(&wanted, &given);
-    Ok(Some(Shown {
-        case: 0,
-        first: block_of(&made, line),
-        second: 0,
-        line,
-    }))
-}
 
 // Whether two texts are the same.
 fn is_same_text(one: &[u8], other: &[u8]) -> bool
@@ -56,20 +24,35 @@ fn is_same_text(one: &[u8], other: &[u8]) -> bool
     one == other
 }
 
-/// Whether the evidence, which keeps all other rules, holds with the configuration that a text spells. The text isn't read for
-/// it: the configuration that is made of the evidence is printed, and the texts are compared.
-pub fn holds_with_text(
+/// The verdict on the text of a configuration with evidence that keeps all rules but perhaps that of the configuration: it holds
+/// where this is the text of the configuration that is made of the evidence. The text isn't read for it, so of one that spells no
+/// configuration no more is said than that it doesn't hold.
+pub fn text_verdict(
     alloc: Global,
     net: &Net,
     policy: &Policy,
     text: &[u8],
     evidence: &[CaseEvidence],
-) -> Result<bool, NoMemory>
+) -> Result<Verdict, NoMemory>
     requires { KeepsBefore ConfigDiffers net.now (policy_of policy.now) evidence.now }
-    ensures { IfOk result (λ yes. IsTrue yes ↔ (config : PlainConfig) × Spells text.now config × IsVerdict net.now (policy_of policy.now) config evidence.now Holds) }
+    ensures verdict { IfOk result (λ verdict. (config : PlainConfig) → Spells text.now config → IsVerdict net.now (policy_of policy.now) config evidence.now verdict) }
+    ensures spells { IfOk result (λ verdict. verdict ≡ Holds → (config : PlainConfig) × Spells text.now config) }
 {
+    known_net(net);
     known_policy(policy);
     let made = config_of(alloc, net, policy, evidence)?;
     let wanted = print_config(alloc, &made)?;
-    Ok(is_same_text(&wanted, text))
+    if is_same_text(&wanted, text) {
+        return Ok(Verdict::Holds);
+    }
+    let line = first_difference(&wanted, text);
+    Ok(Verdict::Fails(
+        CheckRule::ConfigDiffers,
+        Shown {
+            case: 0,
+            first: block_of(&made, line),
+            second: 0,
+            line,
+        },
+    ))
 }

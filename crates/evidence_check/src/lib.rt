@@ -16,7 +16,6 @@ mod verdict;
 
 pub use case_rules::{Fault, case_fault};
 pub use cases::{CaseFault, cases_fault};
-pub use config::{config_fault, holds_with_text};
 pub use listed::within_limits;
 pub use tags::{CaseNode, tag_fault};
-pub use verdict::{check, config_verdict, evidence_fault};
+pub use verdict::{check, check_text};

@@ -1,16 +1,18 @@
 //! The verdict.
-ghost use Rattle.std.specs.Prelude.{◌≡◌, IfOk, MatchOption};
+ghost use Rattle.std.specs.Prelude.{◌≡◌, ◌≢◌, IfOk, IfSome, MatchOption};
 ghost use Rattle.config_base.specs.Configs.{PlainConfig};
 ghost use Rattle.path_words.specs.Policies.{policy_of};
 ghost use Rattle.case_law.specs.Cases.{OriginsAreRouters};
+ghost use Rattle.config_text.specs.Spelled.{Spells};
 ghost use Rattle.evidence_rules.specs.declared.rule.CheckRule.TheVariants.{ConfigDiffers, Tags};
-ghost use Rattle.evidence_rules.specs.declared.verdict.Verdict.TheVariants.{Fails};
+ghost use Rattle.evidence_rules.specs.declared.verdict.Verdict.TheVariants.{Fails, Holds};
 ghost use Rattle.evidence_rules.specs.Verdicts.{IsVerdict, KeepsBefore};
 
 use crate::cases::{CaseFault, cases_fault};
-use crate::config::config_fault;
+use crate::config::text_verdict;
 use crate::tags::{CaseNode, tag_fault};
 use config_base::Config;
+use config_text::print_config;
 use evidence_base::{CaseEvidence, Evidence};
 use evidence_rules::{CheckRule, Shown, Verdict};
 use net_base::Net;
@@ -46,17 +48,18 @@ fn of_tag(at: CaseNode) -> Verdict
     )
 }
 
-/// The first rule that fails of those that are asked of the evidence alone, which are all but that of the configuration, and
-/// where it does: that is the verdict with every configuration. None where they all hold.
-pub fn evidence_fault(
+// The first rule that fails of those that are asked of the evidence alone, which are all but that of the configuration, and
+// where it does: that is the verdict with every configuration. None where they all hold.
+fn evidence_fault(
     alloc: Global,
     net: &Net,
     policy: &Policy,
     evidence: &[CaseEvidence],
 ) -> Result<Option<Verdict>, NoMemory>
     requires { OriginsAreRouters net.now policy.now.origins }
-    ensures { IfOk result (λ o. MatchOption o (KeepsBefore ConfigDiffers net.now (policy_of policy.now) evidence.now)
+    ensures verdict { IfOk result (λ o. MatchOption o (KeepsBefore ConfigDiffers net.now (policy_of policy.now) evidence.now)
         (λ verdict. (config : PlainConfig) → IsVerdict net.now (policy_of policy.now) config evidence.now verdict)) }
+    ensures fails { IfOk result (λ o. IfSome o (λ verdict. verdict ≢ Holds)) }
 {
     let list = cases(alloc, net, policy)?;
     if let Some(found) = cases_fault(alloc, net, policy, list.cases.as_slice(), evidence)? {
@@ -68,37 +71,24 @@ pub fn evidence_fault(
     Ok(None)
 }
 
-/// The verdict on a configuration with evidence that keeps all rules but perhaps that of the configuration.
-pub fn config_verdict(
+/// Judges the text of a configuration with the evidence of these cases, as `check` judges the configuration that it spells. The
+/// text isn't read for it: where the evidence keeps the rules that are asked of it alone, the text must be that of the
+/// configuration that is made of the evidence. So of a text that spells no configuration no more is said than that it doesn't
+/// hold. The origins of the policy are routers of the network.
+pub fn check_text(
     alloc: Global,
     net: &Net,
     policy: &Policy,
-    config: &Config,
-    evidence: &[CaseEvidence],
-) -> Result<Verdict, NoMemory>
-    requires { KeepsBefore ConfigDiffers net.now (policy_of policy.now) evidence.now }
-    ensures { IfOk result (IsVerdict net.now (policy_of policy.now) config.now evidence.now) }
-{
-    match config_fault(alloc, net, policy, config, evidence)? {
-        Some(shown) => Ok(Verdict::Fails(CheckRule::ConfigDiffers, shown)),
-        None => Ok(Verdict::Holds),
-    }
-}
-
-/// The verdict on a configuration with the evidence of these cases.
-fn verdict_on(
-    alloc: Global,
-    net: &Net,
-    policy: &Policy,
-    config: &Config,
+    text: &[u8],
     evidence: &[CaseEvidence],
 ) -> Result<Verdict, NoMemory>
     requires { OriginsAreRouters net.now policy.now.origins }
-    ensures { IfOk result (IsVerdict net.now (policy_of policy.now) config.now evidence.now) }
+    ensures verdict { IfOk result (λ verdict. (config : PlainConfig) → Spells text.now config → IsVerdict net.now (policy_of policy.now) config evidence.now verdict) }
+    ensures spells { IfOk result (λ verdict. verdict ≡ Holds → (config : PlainConfig) × Spells text.now config) }
 {
     match evidence_fault(alloc, net, policy, evidence)? {
         Some(verdict) => Ok(verdict),
-        None => config_verdict(alloc, net, policy, config, evidence),
+        None => text_verdict(alloc, net, policy, text, evidence),
     }
 }
 
@@ -114,5 +104,6 @@ pub fn check(
     requires { OriginsAreRouters net.now policy.now.origins }
     ensures { IfOk result (IsVerdict net.now (policy_of policy.now) config.now evidence.now.cases) }
 {
-    verdict_on(alloc, net, policy, config, evidence.cases.as_slice())
+    let text = print_config(alloc, config)?;
+    check_text(alloc, net, policy, &text, evidence.cases.as_slice())
 }

@@ -4,6 +4,7 @@ use Rattle.std.specs.List.{range_with_len}
 use Rattle.serde_json.specs.Data.{Data, unsigned, boolean, number, object, no_members, member}
 use Rattle.serde_json.specs.Written.{compact_text}
 use Rattle.json_words.specs.Json.{array_of, numbers_data, texts_data}
+use Rattle.net_base.specs.declared.limits.TheConstants.{LOCATIONS}
 use Rattle.net_base.specs.declared.loc.LocSet.{LocSet}
 use Rattle.net_base.specs.declared.numbers.Tag.{Tag}
 use Rattle.net_base.specs.Sets.{holds}
@@ -13,7 +14,7 @@ use Rattle.evidence_base.specs.Made.{PlainCaseEvidence}
 
 -- the locations of a set, ascending
 unfoldable pub members : LocSet → List ℕ
-members s = filter (holds s) (range_with_len 0 768)
+members s = filter (holds s) (range_with_len 0 LOCATIONS)
 
 -- a location, 1 for a listener and else 0, a rank or 0 for none, a preference number, and the two numbers of a tag
 abbrev pub node_data : Node → ℕ → Tag → Data

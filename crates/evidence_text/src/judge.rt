@@ -13,7 +13,7 @@ ghost use Rattle.evidence_text.specs.Ranges.{HasRanges, IsReadCase};
 use crate::fault::EvidenceFault;
 use crate::raw::{NodeEntry, RawCase, RawEvidence, ReadCase, ReadText};
 use evidence_base::{CaseEvidence, Evidence};
-use graph_base::{Graph, Node, Prefs};
+use graph_base::{Graph, MAX_NODES, Node, Prefs};
 use net_base::{Field, List, Loc, LocSet, Tag};
 use path_words::Case;
 use std::alloc::Global;
@@ -177,7 +177,7 @@ fn case_evidence(alloc: Global, read: ReadCase) -> Result<CaseEvidence, Evidence
     ensures evidence { IfOk result (λ c. c ≡ evidence_of read) }
     ensures err { IfErr result (λ e. e ≡ EvidenceFault.NoMemory) }
 {
-    if read.nodes.as_slice().len() > 4_294_967_000 {
+    if read.nodes.as_slice().len() > MAX_NODES {
         return Err(EvidenceFault::NoMemory);
     }
     let nodes = nodes_of(alloc, &read.nodes)?;

@@ -5,6 +5,9 @@ use net_base::{List, Loc, Tag};
 use std::alloc::{AllocError, Global};
 use std::marker::Model;
 
+/// Nodes of a graph as it lies in memory: their numbers have 32 bits, and some are left over.
+pub const MAX_NODES: usize = 4_294_967_000;
+
 /// A location with what is known of the walk that led there from an origin.
 #[derive(Clone, Copy, Debug, PartialEq, Eq)]
 pub struct Node {

@@ -19,6 +19,7 @@ ghost use Rattle.path_exprs.specs.Standings.{AreStandings, Plan, Standing};
 ghost use Rattle.reach_prune.specs.Trimmed.{IsTrimmed};
 ghost use Rattle.case_law.specs.Origins.{AreOrigins};
 ghost use Rattle.graph_base.specs.Walks.{IsEnteredFromBefore};
+ghost use Rattle.graph_base.specs.declared.graph.TheConstants.{MAX_NODES};
 ghost use Rattle.graph_law.specs.Ways.{standing_after, stays_alive};
 
 /// The graph that is built is well formed, a node that isn't a start is entered from one with a lesser number, and
@@ -26,7 +27,7 @@ ghost use Rattle.graph_law.specs.Ways.{standing_after, stays_alive};
 pub fn built_graphs_are_well_formed()
     ensures formed { (net : PlainNet) (plan : Plan) (g : PlainGraph) → IsBuilt net plan g → IsWellFormed net plan.origin plan.external g }
     ensures entered { (net : PlainNet) (plan : Plan) (g : PlainGraph) → IsBuilt net plan g → IsEnteredFromBefore g }
-    ensures lists { (net : PlainNet) (plan : Plan) (g : PlainGraph) → IsBuilt net plan g → length g.nodes ≤ 4294967000 → IsGraph g }
+    ensures lists { (net : PlainNet) (plan : Plan) (g : PlainGraph) → IsBuilt net plan g → length g.nodes ≤ MAX_NODES → IsGraph g }
 {}
 
 /// In the graph that is built a walk to an origin, or an origin alone, has a run exactly where some alternative can

@@ -16,6 +16,7 @@ use Rattle.route_maps.specs.Maps.{PlainMaps}
 use Rattle.route_maps.specs.OfConfig.{maps_of}
 use Rattle.maps_made.specs.Counts.{line_count}
 use Rattle.maps_made.specs.Earlier.{top}
+use Rattle.maps_made.specs.declared.lists.TheConstants.{MAX_LINES}
 use Rattle.route_map_text.specs.MapsLines.{maps_text}
 use Rattle.route_map_text.specs.MapsSpelled.{IsLawful}
 use Rattle.map_reader.specs.MapsRead.{spelled}
@@ -24,19 +25,19 @@ use Rattle.map_jobs.specs.MapsSaid.{too_many_lines, maps_line, same_line, differ
 
 -- The maps of the configuration would have more lines than a text of maps may have, and the line of this refusal is said.
 pub record SaysTooMany (config : PlainConfig) (what : Said) : Type 0 where
-  pub many : 1000000 < line_count (maps_of config)
+  pub many : MAX_LINES < line_count (maps_of config)
   pub said : what ≡ line Refused (too_many_lines (min (line_count (maps_of config)) top))
 
 -- The maps of a configuration, or why the run stops.
 abbrev pub AreMapsOr : PlainConfig → Result PlainMaps Stop → Type 0
-AreMapsOr config (Ok maps) = (maps ≡ maps_of config) × (line_count (maps_of config) ≤ 1000000)
+AreMapsOr config (Ok maps) = (maps ≡ maps_of config) × (line_count (maps_of config) ≤ MAX_LINES)
 AreMapsOr config (Err s) = (stop_said s ≡ no_memory) ⊎ SaysTooMany config (stop_said s)
 
 -- ---- routemap
 
 -- the text of a configuration's maps, or that they have too many lines
 abbrev pub SaysOfConfig : PlainConfig → Said → Type 0
-SaysOfConfig config what = ((line_count (maps_of config) ≤ 1000000) × IsLawful (maps_of config) × (what ≡ text (maps_text (maps_of config)))) ⊎ SaysTooMany config what
+SaysOfConfig config what = ((line_count (maps_of config) ≤ MAX_LINES) × IsLawful (maps_of config) × (what ≡ text (maps_text (maps_of config)))) ⊎ SaysTooMany config what
 
 -- the same of a configuration that is compiled from the policy, or the line of a refusal that applies to it
 abbrev pub SaysOfPolicy : PlainNet → PlainPolicy → Said → Type 0
@@ -54,12 +55,12 @@ SaysOfBoth bytes wanted what =
 -- a text of maps, beside that of the maps of the configuration
 abbrev pub SaysOfBytes : PlainConfig → List ℕ → Said → Type 0
 SaysOfBytes config bytes what =
-    ((line_count (maps_of config) ≤ 1000000) × IsLawful (maps_of config) × SaysOfBoth bytes (maps_text (maps_of config)) what) ⊎ SaysTooMany config what
+    ((line_count (maps_of config) ≤ MAX_LINES) × IsLawful (maps_of config) × SaysOfBoth bytes (maps_text (maps_of config)) what) ⊎ SaysTooMany config what
 
 -- maps are those of the configuration, or the first line is told in which the two printed texts differ
 abbrev pub SaysOfMaps : PlainConfig → PlainMaps → Said → Type 0
 SaysOfMaps config maps what =
-    ((line_count (maps_of config) ≤ 1000000)
+    ((line_count (maps_of config) ≤ MAX_LINES)
     × (((maps ≡ maps_of config) × (what ≡ text same_line))
     ⊎ ((maps ≢ maps_of config) × (what ≡ failing (differs_line (first_difference (maps_text maps) (maps_text (maps_of config))))))))
     ⊎ SaysTooMany config what

@@ -4,10 +4,11 @@ use Rattle.config_base.specs.Configs.{PlainConfig}
 use Rattle.route_maps.specs.OfConfig.{maps_of}
 use Rattle.maps_made.specs.Counts.{line_count}
 use Rattle.maps_made.specs.Earlier.{top}
+use Rattle.maps_made.specs.declared.lists.TheConstants.{MAX_LINES}
 use Rattle.maps_made.specs.declared.refusal.MapsRefusal.{MapsRefusal}
 use Rattle.maps_made.specs.declared.refusal.MapsRefusal.TheVariants.{TooManyLines, NoMemory}
 
--- the text of its maps would have more than 1000000 lines, and the number tells how many, kept at the greatest of 64 bits
+-- the text of its maps would have more than 1,000,000 lines, and the number tells how many, kept at the greatest of 64 bits
 abbrev pub IsRefused : PlainConfig → MapsRefusal → Type 0
-IsRefused config (TooManyLines n) = (1000000 < line_count (maps_of config)) × (n ≡ min (line_count (maps_of config)) top)
+IsRefused config (TooManyLines n) = (MAX_LINES < line_count (maps_of config)) × (n ≡ min (line_count (maps_of config)) top)
 IsRefused config NoMemory = ⊤

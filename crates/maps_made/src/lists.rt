@@ -6,6 +6,7 @@ ghost use Rattle.route_maps.specs.OfConfig.{line, list_for, lists_from, meets_so
 ghost use Rattle.maps_made.specs.Keys.{key as key_of, in_some, AreApart};
 ghost use Rattle.maps_made.specs.Earlier.{top};
 ghost use Rattle.maps_made.specs.Lists.{IsIndexed};
+ghost use Rattle.maps_made.specs.declared.lists.TheConstants.{MAX_LINES};
 
 use crate::earlier::{Entry, count, entries_of, found, with_entries};
 use crate::places::{push_denied, settle};
@@ -115,7 +116,7 @@ fn push_list(
 ) -> Result<(), AllocError>
     requires index { IsIndexed earlier.now }
     requires meets { AllByRecursion (λ q. in_some spans.now (key_of q) ≡ meets_some class.now q) earlier.now.patterns }
-    ensures { IfOk result (λ _. total ≤ 1000000 → lists.new ≡ lists.old ++ list_for earlier.now.patterns class.now ∷ []) }
+    ensures { IfOk result (λ _. total ≤ MAX_LINES → lists.new ≡ lists.old ++ list_for earlier.now.patterns class.now ∷ []) }
 {
     if total <= MAX_LINES {
         lists.push(list_of(alloc, earlier, class, spans)?)?;
@@ -131,10 +132,10 @@ pub struct Listed {
     pub total: u64,
 }
 
-/// The lists of the classes, unless a text with this many other lines has more than 1000000 lines with them.
+/// The lists of the classes, unless a text with this many other lines has more than 1,000,000 lines with them.
 pub fn lists_of(alloc: Global, classes: &[List<Pattern>], others: u64) -> Result<Listed, AllocError>
     ensures total { IfOk result (λ l. l.total ≡ min (others + sum_by (λ lines. length lines) (lists_from [] classes.now)) top) }
-    ensures lists { IfOk result (λ l. l.total ≤ 1000000 → l.lists ≡ lists_from [] classes.now) }
+    ensures lists { IfOk result (λ l. l.total ≤ MAX_LINES → l.lists ≡ lists_from [] classes.now) }
 {
     let lengths = lengths_of(alloc, classes)?;
     let mut earlier = no_pattern(alloc);

@@ -4,7 +4,7 @@ use std::alloc::{AllocError, AllocFailed};
 /// Why a configuration has no maps.
 #[derive(Clone, Copy, Debug, PartialEq, Eq)]
 pub enum MapsRefusal {
-    /// The text of its maps would have more than 1000000 lines: this many, kept at 18446744073709551615 where there
+    /// The text of its maps would have more than 1,000,000 lines: this many, kept at 18446744073709551615 where there
     /// are more.
     TooManyLines(u64),
     /// There was not enough memory.

@@ -4,6 +4,7 @@
 ghost use Rattle.std.specs.Prelude.{◌≡◌, ◌↔◌, ◌≤◌, IfOk, IsErrAnd, Ok, length};
 ghost use Rattle.net_sample.specs.Network.{IsSampleNumber, sample_net};
 ghost use Rattle.net_sample.specs.SamplePolicy.{sample_policy};
+ghost use Rattle.net_base.specs.declared.limits.TheConstants.{INPUT_BYTES};
 ghost use Rattle.net_text.specs.NetText.{net_text};
 ghost use Rattle.policy_parser.specs.Spelled.{spelled as policy_spelled};
 ghost use Rattle.policy_text.specs.PolicyText.{policy_text};
@@ -26,7 +27,7 @@ pub fn sample(alloc: Global, leaves: u16) -> Result<(Vec<u8>, Vec<u8>), SampleFa
     ensures policy { IfOk result (λ texts. policy_spelled (sample_net leaves) texts.1.items ≡ Ok (sample_policy leaves)) }
     ensures texts { IfOk result (λ texts. (texts.0.items ≡ net_text (sample_net leaves))
         × (texts.1.items ≡ policy_text (sample_net leaves) (sample_policy leaves))) }
-    ensures short { IfOk result (λ texts. length texts.1.items ≤ 33554432) }
+    ensures short { IfOk result (λ texts. length texts.1.items ≤ INPUT_BYTES) }
 {
     if leaves < 2 || leaves > 96 {
         return Err(SampleFault::Range);

@@ -4,6 +4,7 @@ ghost use Rattle.std.specs.List.{AllByRecursion, list_any};
 ghost use Rattle.graph_base.specs.Graphs.{IsGraph};
 ghost use Rattle.graph_base.specs.Refuting.{HasSingleSteps};
 ghost use Rattle.graph_base.specs.Runs.{has_step};
+ghost use Rattle.graph_base.specs.declared.graph.TheConstants.{MAX_NODES};
 ghost use Rattle.reach_prune.specs.Searches.{AreLists, is_among, is_listed, is_marked};
 ghost use Rattle.node_quotient.specs.Alike.{class_in, list_of};
 ghost use Rattle.node_quotient.specs.Rounds.{AreClasses};
@@ -75,7 +76,7 @@ fn mark(marks: &mut Vec<bool>, nodes: &[u32], marked: bool)
 
 /// The classes, each by its least node.
 fn names(alloc: Global, classes: &[u32]) -> Result<Vec<u32>, AllocError>
-    requires { length classes.now ≤ 4294967000 }
+    requires { length classes.now ≤ MAX_NODES }
     ensures { IfOk result (λ names. AllByRecursion (λ n. n < length classes.now) names.items) }
 {
     let mut names = Vec::new(alloc);
@@ -93,7 +94,7 @@ impl Partition {
 
     /// These classes, which all wait.
     fn new(alloc: Global, classes: Vec<u32>) -> Result<Partition, AllocError>
-        requires few { length classes.items ≤ 4294967000 }
+        requires few { length classes.items ≤ MAX_NODES }
         requires named { AreNamed classes.items }
         ensures partition { IfOk result (IsPartition (length classes.items)) }
         ensures classes { IfOk result (λ p. p.classes.items ≡ classes.items) }

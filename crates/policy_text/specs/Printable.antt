@@ -11,7 +11,7 @@ use Rattle.path_words.specs.declared.policy.FromSet.TheVariants as from_set
 use Rattle.path_words.specs.declared.policy.Origin.{Origin}
 use Rattle.path_words.specs.Policies.{Ranking, call, calls, prefer, either, both, negated, PlainStatement, PlainPolicy, IsPolicy}
 use Rattle.policy_text.specs.PolicyText.{has_sets, clause_word}
-use Rattle.net_base.specs.declared.limits.TheConstants.{BRACKETS}
+use Rattle.net_base.specs.declared.limits.TheConstants.{BRACKETS, CALLS, PLACES}
 
 -- the set holds no location that fails the test
 abbrev pub HoldsOnly : (ℕ → Bool) → LocSet → Type 0
@@ -35,7 +35,7 @@ HasCallSets net (NoTransit s) = IsCallSet net s
 HasCallSets net (Start s) = IsCallSet net s
 HasCallSets net (End s) = IsCallSet net s
 HasCallSets net (Link a b) = IsCallSet net a × IsCallSet net b
-HasCallSets net (Path ps) = AllByRecursion (IsCallSet net) ps × (2 ≤ length ps) × (length ps ≤ 256)
+HasCallSets net (Path ps) = AllByRecursion (IsCallSet net) ps × (2 ≤ length ps) × (length ps ≤ PLACES)
 HasCallSets net (Exit s) = IsCallSet net s
 HasCallSets net (Enter s) = IsCallSet net s
 
@@ -98,7 +98,7 @@ pub record IsPrintableStatement (net : PlainNet) (s : PlainStatement) : Type 0 w
   pub patterns : s.patterns ≢ []
   pub ranked : IsWritable net s.ranked
   pub brackets : open_brackets 1 s.ranked ≤ BRACKETS
-  pub calls : call_count s.ranked ≤ 256
+  pub calls : call_count s.ranked ≤ CALLS
   pub from : IsWritableFrom net s.from
 
 -- routers alone, and at least one

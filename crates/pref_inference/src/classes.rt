@@ -1,5 +1,6 @@
 //! Classes of nodes that stand equally high.
 ghost use Rattle.std.specs.Prelude.{◌≡◌, ◌<◌, ◌≤◌, ◌&&◌, IfOk, length, nat_lt};
+ghost use Rattle.graph_base.specs.declared.graph.TheConstants.{MAX_NODES};
 ghost use Rattle.relation_law.specs.Numbers.{is_first};
 ghost use Rattle.pref_inference.specs.Inferred.{AreFirsts};
 ghost use Rattle.state_simulation.specs.Held.{has};
@@ -12,7 +13,7 @@ use std::alloc::{AllocError, Global};
 /// One row, with a bit for each of so many nodes that is the first of its class.
 pub fn firsts(alloc: Global, relation: &Relation, count: u32) -> Result<Rows, NoMemory>
     requires size { count ≡ length relation.now.places }
-    requires few { count ≤ 4294967000 }
+    requires few { count ≤ MAX_NODES }
     ensures { IfOk result (AreFirsts count relation.now) }
 {
     let mut firsts = Rows::new(alloc, 1, count)?;

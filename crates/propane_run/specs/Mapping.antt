@@ -11,6 +11,7 @@ use Rattle.route_maps.specs.Maps.{PlainMaps}
 use Rattle.route_maps.specs.OfConfig.{maps_of, MeansAs}
 use Rattle.maps_made.specs.Counts.{line_count}
 use Rattle.maps_made.specs.Earlier.{top}
+use Rattle.maps_made.specs.declared.lists.TheConstants.{MAX_LINES}
 use Rattle.route_map_text.specs.MapsLines.{maps_text}
 use Rattle.route_map_text.specs.MapsSpelled.{Spells}
 use Rattle.map_reader.specs.MapsRead.{spelled as maps_spelled_by}
@@ -79,5 +80,5 @@ pub record TellsDifference {O : Type 0} (holds : Holds) (taken : O → Option (L
 pub record TellsTooMany {E : Type 0} (holds : Holds) (taken : E → Option (List ℕ)) (words : List (List ℕ)) (c : Command) (err err' : E) : Type 0 where
   pub config : PlainConfig
   pub asked : AsksMapsOf holds words c config
-  pub many : 1000000 < line_count (maps_of config)
+  pub many : MAX_LINES < line_count (maps_of config)
   pub written : Whole taken (too_many_lines (min (line_count (maps_of config)) top)) err err'

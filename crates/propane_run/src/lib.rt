@@ -31,6 +31,7 @@ ghost use Rattle.propane_run.specs.Migrating.{AsksOfOld, MigratesRight};
 ghost use Rattle.map_jobs.specs.MapsSaid.{too_many_lines};
 ghost use Rattle.maps_made.specs.Counts.{line_count};
 ghost use Rattle.maps_made.specs.Earlier.{top};
+ghost use Rattle.maps_made.specs.declared.lists.TheConstants.{MAX_LINES};
 ghost use Rattle.route_maps.specs.Maps.{PlainMaps};
 ghost use Rattle.route_maps.specs.OfConfig.{maps_of};
 ghost use Rattle.run_base.specs.Reading.{AreOnlyRead, IsAmong, RoseOf, SaidOfTold, unread};
@@ -279,7 +280,7 @@ pub fn run<I: Inputs, O: Sink, E: Sink>(
         → ReadsSmoothly (I.holds inputs.old) (RoseOf (I.faults inputs.old) (I.faults inputs.new)) (map string_bytes words.now) c
         → ¬ Rose (O.faults out.old) (O.faults out.new)
         → AsksFor (I.holds inputs.old) (map string_bytes words.now) c net asked → ((e : CompileRefusal) → ¬ IsRefusedFor net asked e)
-        → ((config : PlainConfig) (evidence : List PlainCaseEvidence) → IsCompiled net asked config evidence → line_count (maps_of config) ≤ 1000000)
+        → ((config : PlainConfig) (evidence : List PlainCaseEvidence) → IsCompiled net asked config evidence → line_count (maps_of config) ≤ MAX_LINES)
         → (result ≡ Status.NoMemory) ⊎ (result ≡ Status.Done) }
     ensures unmapped_where { (topology policy : ℕ) → let c = Command.RouteMap topology policy in (net : PlainNet) (asked : PlainPolicy) (e : CompileRefusal)
         → ReadsSmoothly (I.holds inputs.old) (RoseOf (I.faults inputs.old) (I.faults inputs.new)) (map string_bytes words.now) c
@@ -293,12 +294,12 @@ pub fn run<I: Inputs, O: Sink, E: Sink>(
     ensures same_where { (place other : ℕ) → let c = Command.CheckMap place other in (config : PlainConfig) (maps : PlainMaps)
         → ReadsSmoothly (I.holds inputs.old) (RoseOf (I.faults inputs.old) (I.faults inputs.new)) (map string_bytes words.now) c
         → ¬ Rose (O.faults out.old) (O.faults out.new)
-        → AsksOfMaps (I.holds inputs.old) (map string_bytes words.now) c config maps → line_count (maps_of config) ≤ 1000000 → maps ≡ maps_of config
+        → AsksOfMaps (I.holds inputs.old) (map string_bytes words.now) c config maps → line_count (maps_of config) ≤ MAX_LINES → maps ≡ maps_of config
         → (result ≡ Status.NoMemory) ⊎ (result ≡ Status.Done) }
     ensures differ_where { (place other : ℕ) → let c = Command.CheckMap place other in (config : PlainConfig) (maps : PlainMaps)
         → ReadsSmoothly (I.holds inputs.old) (RoseOf (I.faults inputs.old) (I.faults inputs.new)) (map string_bytes words.now) c
         → ¬ Rose (O.faults out.old) (O.faults out.new)
-        → AsksOfMaps (I.holds inputs.old) (map string_bytes words.now) c config maps → line_count (maps_of config) ≤ 1000000 → maps ≢ maps_of config
+        → AsksOfMaps (I.holds inputs.old) (map string_bytes words.now) c config maps → line_count (maps_of config) ≤ MAX_LINES → maps ≢ maps_of config
         → (result ≡ Status.NoMemory) ⊎ (result ≡ Status.CheckFails) }
 
     // And both refuse a configuration whose maps would have more lines than a text of maps may have, and tell how many, if no count of
@@ -306,7 +307,7 @@ pub fn run<I: Inputs, O: Sink, E: Sink>(
     ensures too_many_where { (c : Command) (config : PlainConfig)
         → ReadsSmoothly (I.holds inputs.old) (RoseOf (I.faults inputs.old) (I.faults inputs.new)) (map string_bytes words.now) c
         → ¬ Rose (E.faults err.old) (E.faults err.new)
-        → AsksMapsOf (I.holds inputs.old) (map string_bytes words.now) c config → 1000000 < line_count (maps_of config)
+        → AsksMapsOf (I.holds inputs.old) (map string_bytes words.now) c config → MAX_LINES < line_count (maps_of config)
         → (result ≡ Status.NoMemory)
         ⊎ (result ≡ Status.Refused) × Whole E.taken (too_many_lines (min (line_count (maps_of config)) top)) err.old err.new × (out.new ≡ out.old) }
 

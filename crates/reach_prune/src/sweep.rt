@@ -1,5 +1,6 @@
 //! One search for each node, which takes over what earlier searches found.
 ghost use Rattle.std.specs.Prelude.{◌≡◌, ◌+◌, ◌<◌, ◌≤◌, [], IfOk, OnOk, length};
+ghost use Rattle.graph_base.specs.declared.graph.TheConstants.{MAX_NODES};
 ghost use Rattle.reach_prune.specs.declared.steps.Way.{Way};
 ghost use Rattle.reach_prune.specs.Searches.{AreLists};
 ghost use Rattle.reach_prune.specs.Sweeps.{Comes, Swept};
@@ -20,7 +21,7 @@ pub struct Sweep {
 impl Sweep {
     /// A sweep of so many nodes, before the first search.
     pub fn new(alloc: Global, lists: &[NodeList]) -> Result<Sweep, NoMemory>
-        requires { length lists.now ≤ 4294967000 }
+        requires { length lists.now ≤ MAX_NODES }
         ensures { IfOk result (λ s. (way : Way) → Swept way lists.now 0 s) }
     {
         let size = lists.len() as u32;
@@ -52,7 +53,7 @@ impl Sweep {
     /// Searches from the next node of the order.
     pub fn search(&mut self, way: Way, lists: &[NodeList], place: u32) -> Result<(), AllocError>
         requires lists { AreLists lists.now }
-        requires few { length lists.now ≤ 4294967000 }
+        requires few { length lists.now ≤ MAX_NODES }
         requires place { place < length lists.now }
         requires swept { Swept way lists.now place self.old }
         ensures { OnOk result (Swept way lists.now (place + 1) self.new) }

@@ -2,6 +2,7 @@
 ghost use Rattle.std.specs.Prelude.{◌≡◌, ◌↔◌, ℕ, ◌<◌, ◌≤◌, All, IfOk, IsTrue, is_some, length};
 ghost use Rattle.std.specs.List.{filter_map};
 ghost use Rattle.graph_base.specs.Runs.{rank_at};
+ghost use Rattle.graph_base.specs.declared.graph.TheConstants.{MAX_NODES};
 ghost use Rattle.reach_prune.specs.Numbers.{number_in, number_kept, step_in};
 ghost use Rattle.reach_prune.specs.Searches.{is_among, is_marked};
 ghost use Rattle.reach_prune.specs.Trimmed.{CanBeRanked, IsTrimmed, graph_kept, nodes_kept as nodes_kept_of};
@@ -61,7 +62,7 @@ fn ranked_nodes(alloc: Global, graph: &Graph) -> Result<Vec<u32>, AllocError>
 
 /// The new number of each node that is kept.
 fn new_numbers(alloc: Global, kept: &[bool]) -> Result<Vec<Option<u32>>, AllocError>
-    requires { length kept.now ≤ 4294967000 }
+    requires { length kept.now ≤ MAX_NODES }
     ensures size { IfOk result (λ numbers. length numbers.items ≡ length kept.now) }
     ensures numbers { IfOk result (λ numbers. (n : ℕ) → number_in numbers.items n ≡ number_kept (is_marked kept.now) n) }
 {

@@ -2,6 +2,7 @@
 use Rattle.std.specs.Prelude.{◌≡◌, ℕ, ◌≤◌, Bool, ◌&&◌, ◌||◌, ◌==◌, IsTrue, List, length, map, nat_lt, slice_index_or}
 use Rattle.bit_rows.specs.Tables.{PlainRows, has_at}
 use Rattle.graph_base.specs.declared.graph.Node.{Node}
+use Rattle.graph_base.specs.declared.graph.TheConstants.{MAX_NODES}
 use Rattle.graph_base.specs.Graphs.{PlainGraph}
 use Rattle.net_base.specs.declared.loc.LocSet.{LocSet}
 use Rattle.relation_law.specs.Relations.{IsGreatest}
@@ -18,7 +19,7 @@ pub record PlainRelation : Type 0 where
 pub record IsSquare (size : ℕ) (rows : PlainRows) : Type 0 where
   pub count : rows.count ≡ size
   pub bits : rows.bits ≡ size
-  pub few : size ≤ 4294967000
+  pub few : size ≤ MAX_NODES
 
 -- two nodes at one location
 abbrev pub are_together : PlainRelation → ℕ → ℕ → Bool

@@ -6,14 +6,11 @@ ghost use Rattle.walk_check.specs.Alike.{AreAlike, AreUnlike, IsSingleStepped};
 ghost use Rattle.walk_check.specs.WaysOf.{both_sizes};
 
 use crate::ways::both_ways;
-use graph_base::Graph;
+use graph_base::{Graph, MAX_NODES};
 use net_base::List;
 use node_classes::classes;
 use outside::NoMemory;
 use std::alloc::{AllocError, Global};
-
-/// The most nodes that two graphs may have together.
-pub(crate) const MOST_NODES: usize = 4_294_967_000;
 
 /// The class of each node of two graphs. A class bears the number of the least of its nodes, those of the first graph
 /// before those of the other; so where a node of the first graph is of a class, such a node bears its number.
@@ -48,7 +45,7 @@ pub fn alike(alloc: Global, live: &Graph, graph: &Graph) -> Result<Option<WalkCl
 {
     let size = live.nodes().len();
     let other = graph.nodes().len();
-    if size + other > MOST_NODES {
+    if size + other > MAX_NODES {
         return Err(NoMemory);
     }
     let ways = both_ways(alloc, live, graph)?;

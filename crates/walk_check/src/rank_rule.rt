@@ -11,9 +11,9 @@ ghost use Rattle.walk_check.specs.Firsts.{IsFirstOrNone, IsMet};
 ghost use Rattle.walk_check.specs.PairRanks.{IsLeastUnlike, lesser_of};
 ghost use Rattle.walk_check.specs.WaysOf.{both_sizes};
 
-use crate::comparing::{MOST_NODES, WalkClasses};
+use crate::comparing::WalkClasses;
 use crate::ways::both_ways;
-use graph_base::Graph;
+use graph_base::{Graph, MAX_NODES};
 use indexmap::IndexSet;
 use node_classes::pairs_met;
 use outside::NoMemory;
@@ -117,7 +117,7 @@ fn first_by_pairs(alloc: Global, live: &Graph, graph: &Graph) -> Result<Option<u
 {
     let size = live.nodes().len();
     let other = graph.nodes().len();
-    if size + other > MOST_NODES {
+    if size + other > MAX_NODES {
         return Err(NoMemory);
     }
     let ways = both_ways(alloc, live, graph)?;

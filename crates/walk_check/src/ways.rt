@@ -1,6 +1,7 @@
 //! The steps of two graphs in one list.
 ghost use Rattle.std.specs.Prelude.{◌≡◌, ◌↔◌, ◌+◌, ◌≤◌, ◌<◌, ◌^◌, ◌++◌, All, IfOk, OnOk, length, map};
 ghost use Rattle.list_laws.specs.Members.{IsIn};
+ghost use Rattle.graph_base.specs.declared.graph.TheConstants.{MAX_NODES};
 ghost use Rattle.node_classes.specs.declared.way.Way.{Way as PlainWay};
 ghost use Rattle.node_classes.specs.Ways.{Ascend};
 ghost use Rattle.walk_check.specs.Alike.{IsSingleStepped};
@@ -54,7 +55,7 @@ fn add_ways(ways: &mut Vec<Way>, graph: &Graph, first: u32, root: u32) -> Result
 pub(crate) fn both_ways(alloc: Global, live: &Graph, graph: &Graph) -> Result<Vec<Way>, AllocError>
     requires live { IsSingleStepped live.now }
     requires graph { IsSingleStepped graph.now }
-    requires room { both_sizes live.now graph.now ≤ 4294967000 }
+    requires room { both_sizes live.now graph.now ≤ MAX_NODES }
     ensures order { IfOk result (λ ways. Ascend ways.items) }
     ensures ends { IfOk result (λ ways. All (λ w. w.to < both_sizes live.now graph.now + 2) ways.items) }
     ensures same { IfOk result (λ ways. (way : PlainWay) → IsIn ways.items way ↔ IsIn (ways_of_both live.now graph.now) way) }

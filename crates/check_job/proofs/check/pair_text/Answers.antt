@@ -9,5 +9,5 @@ use Rattle.check_job.proofs.check.pair_text.Goals as goal
 pub returns-in-Ok : goal.returns-in-Ok
 returns-in-Ok c =
     let says = SaysOfPair c.args.net.now (policy_of c.args.policy.now) in
-    of_both says c.args.config.now c.args.evidence.now c.in-Ok.evidence.cases (said c.text_of_evidence.result) c.in-Ok.ensures
-    (subst (λ (cs : List PlainCaseEvidence). IsGiven (OfConfigText says c.args.config.now cs) (said c.text_of_evidence.result)) c.as_slice.ensures c.text_of_evidence.ensures)
+    of_both says c.args.config.now c.args.evidence.now c.in-Ok.evidence.cases (said c.judged_text.result) c.in-Ok.ensures
+    (subst (λ (cs : List PlainCaseEvidence). IsGiven (OfConfigText says c.args.config.now cs) (said c.judged_text.result)) c.as_slice.ensures c.judged_text.ensures)

@@ -5,8 +5,8 @@ use Rattle.evidence_rules.specs.Verdicts.{IsVerdict}
 use Rattle.evidence_check.proofs.Fold.{before_config, case_verdict}
 use Rattle.evidence_check.proofs.verdict.evidence_fault.Goals as goal
 
-pub returns-in-Some : goal.returns-in-Some
-returns-in-Some c = λ config.
+pub returns-in-Some-clause-verdict : goal.returns-in-Some-clause-verdict
+returns-in-Some-clause-verdict c = λ config.
     let net = c.args.net.now in
     let policy = policy_of c.args.policy.now in
     let cs = c.args.evidence.now in
@@ -16,8 +16,8 @@ returns-in-Some c = λ config.
     subst (IsVerdict net policy config cs) (sym c.of_case.ensures)
     (case_verdict net policy cs config f.fault.rule shown found.most (record { earlier = found.earlier; first = found.first; no_line = refl }))
 
-pub returns-in-Some-2 : goal.returns-in-Some-2
-returns-in-Some-2 c = λ config.
+pub returns-in-Some-2-clause-verdict : goal.returns-in-Some-2-clause-verdict
+returns-in-Some-2-clause-verdict c = λ config.
     let net = c.args.net.now in
     let policy = policy_of c.args.policy.now in
     let cs = c.args.evidence.now in
@@ -25,8 +25,8 @@ returns-in-Some-2 c = λ config.
     let at = rw c.in-Some-2.is at c.in_ok-at.ensures in
     subst (IsVerdict net policy config cs) (sym c.of_tag.ensures) (record { earlier = kept; first = record { fails = at.fails; before = at.before }; no_line = refl })
 
-pub returns : goal.returns
-returns c =
+pub returns-clause-verdict : goal.returns-clause-verdict
+returns-clause-verdict c =
     let net = c.args.net.now in
     let policy = policy_of c.args.policy.now in
     let kept = rw c.in_default.is at c.in_ok-found.ensures in

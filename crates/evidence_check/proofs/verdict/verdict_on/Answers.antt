@@ -1,4 +1,0 @@
-use Rattle.evidence_check.proofs.verdict.verdict_on.Goals as goal
-
-pub returns-in-Some : goal.returns-in-Some
-returns-in-Some c = (rw c.in-Some.is at c.in_ok-verdict.ensures) c.args.config.now
