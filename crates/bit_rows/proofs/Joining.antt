@@ -1,10 +1,11 @@
 -- A row to which another row of its table is added.
-use Rattle.std.proofs.Common.{◌≡◌, ◌≢◌, ◌⊎◌, ℕ, ◌+◌, ◌*◌, ◌<◌, ◌≤◌, Bool, true, false, ◌&&◌, ◌||◌, eqb, List, length, get_or, take, drop, set, get_or-set_same, get_or-set_other, arith, refl, sym, ap, ◌∙◌, inl, inr}
+use Rattle.std.proofs.Common.{◌≡◌, ◌≢◌, ◌⊎◌, ℕ, ◌+◌, ◌*◌, ◌<◌, ◌≤◌, false, ◌&&◌, ◌||◌, eqb, List, length, get_or, take, drop, set, get_or-set_same, get_or-set_other, arith, sym, ap, ◌∙◌, inl, inr}
 use Rattle.std.specs.Prelude.{bit_or, ◌/◌, ◌%◌}
 use Rattle.std.specs.Int.{bit_at}
 use Rattle.std.proofs.lemmas.Bool.{cases_order, cases_eq, cases_lt, eq-eqb, ne_eqb}
 use Rattle.std.proofs.lemmas.List.{get_or-take, get_or-drop, get_or_past, length-take}
 use Rattle.std.proofs.lemmas.Nat.{row_fits}
+use Rattle.std.proofs.Math.Bool.{or-false, and-false}
 use native.Mathlib.Nat.{mul-le-mul_right}
 use Rattle.bit_rows.specs.Bits.{has}
 use Rattle.bit_rows.specs.Tables.{IsTable, PlainRows, has_at, row_of}
@@ -75,12 +76,8 @@ module _ (r : PlainRows) (into from : ℕ) (words : List ℕ) (table : IsTable r
   pub joined_bits : (row b : ℕ) → has_at (with_words r words) row b ≡ (has_at r row b || (eqb row into && has_at r from b))
   joined_bits row b = elim (cases_eq row into) [
     | inl e ↦ ap (λ k. has (take r.width (drop (k * r.width) words)) b) e ∙ joined_here b ∙ ap (λ k. has_at r k b || has_at r from b) (sym e) ∙ sym (ap (λ z. has_at r row b || (z && has_at r from b)) (eq-eqb _ _ e))
-    | inr n ↦ joined_there row b n ∙ or_none (has_at r row b) ∙ sym (ap (λ z. has_at r row b || (z && has_at r from b)) (ne_eqb _ _ n))
+    | inr n ↦ joined_there row b n ∙ sym (or-false (has_at r row b)) ∙ sym (ap (λ z. has_at r row b || (z && has_at r from b)) (ne_eqb _ _ n))
   ]
-    where
-      or_none : (x : Bool) → x ≡ (x || false)
-      or_none true = refl
-      or_none false = refl
 
   pub joined_table : length words ≡ length r.words → from < r.count → IsTable (with_words r words)
   joined_table len lf = record {
@@ -88,9 +85,5 @@ module _ (r : PlainRows) (into from : ℕ) (words : List ℕ) (table : IsTable r
     few = table.few;
     room = table.room;
     tight = table.tight;
-    clear = λ row b lt le. joined_bits row b ∙ ap (λ z. z || (eqb row into && has_at r from b)) (table.clear row b lt le) ∙ ap (λ z. eqb row into && z) (table.clear from b lf le) ∙ none (eqb row into);
+    clear = λ row b lt le. joined_bits row b ∙ ap (λ z. z || (eqb row into && has_at r from b)) (table.clear row b lt le) ∙ ap (λ z. eqb row into && z) (table.clear from b lf le) ∙ and-false (eqb row into);
   }
-    where
-      none : (x : Bool) → (x && false) ≡ false
-      none true = refl
-      none false = refl

@@ -8,7 +8,7 @@ use Rattle.std.proofs.lemmas.List.Folds.{list_any-append}
 use Rattle.std.specs.Prelude.{bit_and, bit_or}
 use Rattle.std.specs.Int.{bit_at, bit_not, trailing_zeros}
 use Rattle.std.specs.List.{list_any}
-use Rattle.std.proofs.Math.Bool.{or-false}
+use Rattle.std.proofs.Math.Bool.{or-false, and_assoc}
 use Rattle.bit_rows.specs.Bits.{has, outside}
 use Rattle.bit_rows.proofs.Counting.{word_bits}
 
@@ -106,11 +106,7 @@ outside_bit x y z i fit li =
     ap (λ w. eqb w 1) (bit_at_and (bit_and x y) (bit_not w64 z) i) ∙ min_tests (bit_at (bit_and x y) i) (bit_at (bit_not w64 z) i) (bit_at-lt _ _) (bit_at-lt _ _)
     ∙ ap (λ w. eqb w 1 && eqb (bit_at (bit_not w64 z) i) 1) (bit_at_and x y i) ∙ ap (λ w. w && eqb (bit_at (bit_not w64 z) i) 1) (min_tests (bit_at x i) (bit_at y i) (bit_at-lt _ _) (bit_at-lt _ _))
     ∙ ap (λ w. (eqb (bit_at x i) 1 && eqb (bit_at y i) 1) && eqb w 1) (bit_at_not w64 z i fit li) ∙ ap (λ w. (eqb (bit_at x i) 1 && eqb (bit_at y i) 1) && w) (other_tests (bit_at z i) (bit_at-lt _ _))
-    ∙ regroup (eqb (bit_at x i) 1) (eqb (bit_at y i) 1) (not (eqb (bit_at z i) 1))
-  where
-    regroup : (a b c : Bool) → ((a && b) && c) ≡ (a && (b && c))
-    regroup true b c = refl
-    regroup false b c = refl
+    ∙ and_assoc (eqb (bit_at x i) 1) (eqb (bit_at y i) 1) (not (eqb (bit_at z i) 1))
 
 pub outside_fits : (a b c : List ℕ) (i : ℕ) → get_or a i 0 < 2 ^ 64 → outside (get_or a i 0) (get_or b i 0) (get_or c i 0) < 2 ^ 64
 outside_fits a b c i fit = omega (arith, fit, and_le_l (bit_and (get_or a i 0) (get_or b i 0)) (bit_not w64 (get_or c i 0)), and_le_l (get_or a i 0) (get_or b i 0))

@@ -1,5 +1,6 @@
 pub mod Automata
 pub mod Firsts
 pub mod Mixed
+pub mod Numbered
 pub mod Refusals
 pub mod Sources

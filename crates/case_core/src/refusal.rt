@@ -39,6 +39,41 @@ pub enum CompileRefusal {
     NoMemory,
 }
 
+impl CompileRefusal {
+    ghost use Rattle.case_core.specs.Numbered.{number_of, word_of};
+
+    /// The number of the refusal, from 1 to 6: of several reasons of a case the one with the least number is told.
+    /// Want of memory has the number 0.
+    pub fn number(&self) -> u8
+        ensures { result ≡ number_of self.now }
+    {
+        match self {
+            CompileRefusal::TooManyRanks(_, _) => 1,
+            CompileRefusal::TooManyStates(_) => 2,
+            CompileRefusal::TooManySteps(_) => 3,
+            CompileRefusal::SourceWithoutPath(_, _) => 4,
+            CompileRefusal::MixedSource(_, _, _, _) => 5,
+            CompileRefusal::NoEvidence(_, _, _) => 6,
+            CompileRefusal::NoMemory => 0,
+        }
+    }
+
+    /// The word of the refusal.
+    pub fn word(&self) -> &'static [u8]
+        ensures { result.now ≡ word_of self.now }
+    {
+        match self {
+            CompileRefusal::TooManyRanks(_, _) => b"too-many-ranks",
+            CompileRefusal::TooManyStates(_) => b"too-many-states",
+            CompileRefusal::TooManySteps(_) => b"too-many-steps",
+            CompileRefusal::SourceWithoutPath(_, _) => b"source-without-path",
+            CompileRefusal::MixedSource(_, _, _, _) => b"mixed-source",
+            CompileRefusal::NoEvidence(_, _, _) => b"no-evidence",
+            CompileRefusal::NoMemory => b"no-memory",
+        }
+    }
+}
+
 impl fmt::Debug for CompileRefusal {
     fn fmt<W: fmt::Write>(&self, f: &mut fmt::Formatter<W>) -> fmt::Result {
         fmt::Display::fmt(self, f)

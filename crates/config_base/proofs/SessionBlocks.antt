@@ -1,5 +1,5 @@
 -- The block of a neighbour is the one with the neighbour's own name.
-use Rattle.std.proofs.Common.{◌≡◌, ℕ, List, [], ◌∷◌, Bool, true, false, not, Option, Some, None, refl, ap, sym, ◌∙◌, subst, length, arith}
+use Rattle.std.proofs.Common.{◌≡◌, ℕ, List, Bool, true, false, not, Option, Some, None, refl, ap, sym, subst, length, arith}
 use Rattle.std.specs.Prelude.{◌&&◌, if◌then◌else◌}
 use Rattle.std.specs.List.{find, AllByRecursion}
 use Rattle.std.specs.Str.{bytes_eq}
@@ -8,7 +8,7 @@ use Rattle.std.proofs.lemmas.Bool.{ltb-false, le-leb}
 use Rattle.std.proofs.lemmas.List.{length-append}
 use Rattle.std.proofs.lemmas.Option.{slice_get_past}
 use Rattle.list_laws.proofs.Each.{AllByRecursion_at}
-use Rattle.list_laws.proofs.Tests.{find_parts}
+use Rattle.list_laws.proofs.Tests.{find_parts, find-same, find-never}
 use Rattle.net_base.specs.declared.net.Site.{Site}
 use Rattle.net_base.specs.Network.{PlainNet, is_named, is_router, is_location, is_peer, site_of, sites}
 use Rattle.config_base.specs.declared.config.RouterConfig.{RouterConfig}
@@ -28,14 +28,6 @@ of_kind : (a b k p : Bool) → a ≡ b → (a && same_kind k p) ≡ (b && (if k 
 of_kind a b true p same = ap (λ t. t && p) same
 of_kind a b false p same = ap (λ t. t && not p) same
 
-find_alike : {A : Type 0} (p q : A → Bool) → ((x : A) → p x ≡ q x) → (xs : List A) → find p xs ≡ find q xs
-find_alike p q same [] = refl
-find_alike p q same (x ∷ xs) = ap (λ b. if b then Some x else find p xs) (same x) ∙ ap (λ o. if q x then Some x else o) (find_alike p q same xs)
-
-nothing_found : {A : Type 0} (p : A → Bool) → ((x : A) → p x ≡ false) → (xs : List A) → find p xs ≡ None
-nothing_found p none [] = refl
-nothing_found p none (x ∷ xs) = rw (none x) (nothing_found p none xs)
-
 named_by : (net : PlainNet) (z : ℕ) (name other : List ℕ) → option_map (λ (s : Site). s.name) (site_of net z) ≡ Some name → is_named net other z ≡ bytes_eq name other
 named_by net z name other h = by (site_of net z) h
   where
@@ -49,11 +41,11 @@ unnamed net z name unknown = ap (λ o. option_map_or (λ (s : Site). bytes_eq s.
 pub block_by_name : (net : PlainNet) (config : PlainConfig) (r z : ℕ) (c : RouterConfig) (name : List ℕ) → Some c ≡ router_at net config r → option_map (λ (s : Site). s.name) (site_of net z) ≡ Some name
     → block_at net config r z ≡ find (is_it name (is_peer net z)) c.sessions
 block_by_name net config r z c name at named =
-    rw (sym at) (find_alike _ (is_it name (is_peer net z)) (λ b. of_kind _ _ b.peer (is_peer net z) (named_by net z name b.name named)) c.sessions)
+    rw (sym at) (find-same _ (is_it name (is_peer net z)) (λ b. of_kind _ _ b.peer (is_peer net z) (named_by net z name b.name named)) c.sessions)
 
 pub no_block : (net : PlainNet) (config : PlainConfig) (r z : ℕ) (c : RouterConfig) → Some c ≡ router_at net config r → is_location net z ≡ false → block_at net config r z ≡ None
 no_block net config r z c at unknown =
-    rw (sym at) (nothing_found _ (λ b. of_kind _ false b.peer (is_peer net z) (unnamed net z b.name unknown)) c.sessions)
+    rw (sym at) (find-never _ (λ b. of_kind _ false b.peer (is_peer net z) (unnamed net z b.name unknown)) c.sessions)
 
 kind_of : (name : List ℕ) (peer : Bool) (b : Session) → is_it name peer b ≡ true → b.peer ≡ peer
 kind_of name peer b h = by (bytes_eq name b.name) b.peer peer h

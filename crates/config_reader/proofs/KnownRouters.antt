@@ -6,16 +6,13 @@ use Rattle.std.specs.Str.{bytes_eq}
 use Rattle.std.proofs.lemmas.Bool.{eqb-true}
 use Rattle.std.proofs.lemmas.List.Folds.{list_any-append}
 use Rattle.std.proofs.lemmas.Slice.Eq.{bytes_eq-Decides}
+use Rattle.std.proofs.Math.Bool.{or-false}
 use Rattle.indexmap.specs.IndexSet.{insert_key}
 use Rattle.list_laws.proofs.Numbers.{eqb_comm}
 use Rattle.list_laws.proofs.Texts.{bytes_eq_apart, bytes_eq_self}
 use Rattle.config_base.specs.declared.config.RouterConfig.{RouterConfig}
 use Rattle.config_reader.specs.Known.{AreKnown}
 use Rattle.config_reader.specs.Reading.{stood_before}
-
-or_off : (b : Bool) → (b || false) ≡ b
-or_off true = refl
-or_off false = refl
 
 -- ---- one key more
 
@@ -25,11 +22,11 @@ module _ {K : Type 0} (eq : K → K → Bool) (sound : (a b : K) → eq a b ≡ 
     where
       there : list_any (eq x) keys ≡ true → (c : Bool) → eq n x ≡ c → list_any (eq n) keys ≡ (list_any (eq n) keys || c)
       there e true f = let all : list_any (eq n) keys ≡ true = subst (λ (k : K). list_any (eq k) keys ≡ true) (sym (sound n x f)) e in rw all refl
-      there e false f = sym (or_off (list_any (eq n) keys))
+      there e false f = sym (or-false (list_any (eq n) keys))
 
       by : (b : Bool) → list_any (eq x) keys ≡ b → list_any (eq n) (if b then keys else keys ++ x ∷ []) ≡ (list_any (eq n) keys || eq n x)
       by true e = there e (eq n x) refl
-      by false e = list_any-append (eq n) keys (x ∷ []) ∙ ap (λ (b : Bool). list_any (eq n) keys || b) (or_off (eq n x))
+      by false e = list_any-append (eq n) keys (x ∷ []) ∙ ap (λ (b : Bool). list_any (eq n) keys || b) (or-false (eq n x))
 
   -- and one router more with that key
   more_alike : (key : RouterConfig → K) (keys : List K) (all : List RouterConfig) (r : RouterConfig) → ((n : K) → list_any (eq n) keys ≡ list_any (λ (q : RouterConfig). eq n (key q)) all)
@@ -37,7 +34,7 @@ module _ {K : Type 0} (eq : K → K → Bool) (sound : (a b : K) → eq a b ≡ 
   more_alike key keys all r alike n =
       any_more keys (key r) n
       ∙ ap (λ (b : Bool). b || eq n (key r)) (alike n)
-      ∙ sym (list_any-append (λ (q : RouterConfig). eq n (key q)) all (r ∷ []) ∙ ap (λ (b : Bool). list_any (λ (q : RouterConfig). eq n (key q)) all || b) (or_off (eq n (key r))))
+      ∙ sym (list_any-append (λ (q : RouterConfig). eq n (key q)) all (r ∷ []) ∙ ap (λ (b : Bool). list_any (λ (q : RouterConfig). eq n (key q)) all || b) (or-false (eq n (key r))))
 
 nat_sound : (a b : ℕ) → nat_eq a b ≡ true → a ≡ b
 nat_sound a b e = eqb-true a b e

@@ -5,7 +5,7 @@ use Rattle.std.specs.List.{slice_split, join_with_byte, flat_map, AllByRecursion
 use Rattle.std.specs.Str.{bytes_eq}
 use Rattle.std.proofs.lemmas.Bool.{and_parts, eqb-true, eqb-false, not-true}
 use Rattle.std.proofs.lemmas.List.Splits.{join_with_byte-slice_split, length-slice_split}
-use Rattle.std.proofs.lemmas.List.{length-take}
+use Rattle.std.proofs.lemmas.List.{length-take, nil_from_length}
 use Rattle.std.proofs.lemmas.List.Sums.{count_by-le-length}
 use Rattle.std.proofs.lemmas.Slice.Eq.{bytes_eq-Decides}
 use Rattle.list_laws.proofs.Options.{is_none_parts}
@@ -107,11 +107,7 @@ unfolding finished
 finished_ok r rest c h =
     let a = bind_ok (unless fault.Unfinished (is_none r.opened && length rest == 0)) _ c h in
     let both = and_parts (is_none r.opened) (length rest == 0) (unless_ok fault.Unfinished _ a.0 a.1) in
-    (is_none_parts r.opened both.0, nothing rest (eqb-true (length rest) 0 both.1), ok_same _ c a.2)
-  where
-    nothing : (bs : List ℕ) → length bs ≡ 0 → bs ≡ []
-    nothing [] e = refl
-    nothing (x ∷ xs) e = absurd (omega (arith, e))
+    (is_none_parts r.opened both.0, nil_from_length rest (eqb-true (length rest) 0 both.1), ok_same _ c a.2)
 
 -- all but the last, and the last
 pub last_split : (more : List (List ℕ)) → length more ≢ 0 → more ≡ take (length more - 1) more ++ slice_index_or more (length more - 1) [] ∷ []

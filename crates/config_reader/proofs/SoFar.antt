@@ -3,7 +3,8 @@ use Rattle.std.proofs.Common.{◌≡◌, ℕ, ◌+◌, List, [], ◌∷◌, ◌+
 use Rattle.std.specs.Prelude.{◌&&◌, ◌==◌, is_none}
 use Rattle.std.specs.List.{flat_map}
 use Rattle.std.proofs.lemmas.Bool.{and_parts, eqb-true}
-use Rattle.std.proofs.lemmas.List.{map-append}
+use Rattle.std.proofs.lemmas.List.{map-append, nil_from_length}
+use Rattle.std.proofs.lemmas.List.Concat.{flat_map-append}
 use Rattle.list_laws.proofs.Options.{is_none_parts}
 use Rattle.net_base.specs.Prefixes.{PlainPattern}
 use Rattle.config_base.specs.declared.config.RouterConfig.{RouterConfig}
@@ -28,12 +29,8 @@ open_lines (Some o) = lines_before_end (closed o.router o.block)
 abbrev pub so_far : Reading → List Line
 so_far r = lines_of_classes 1 r.classes ++ (flat_map lines_of_router r.routers ++ open_lines r.opened)
 
-flat_append : {A B : Type 0} (f : A → List B) (xs ys : List A) → flat_map f (xs ++ ys) ≡ flat_map f xs ++ flat_map f ys
-flat_append f [] ys = refl
-flat_append f (x ∷ xs) ys = ap (λ t. f x ++ t) (flat_append f xs ys) ∙ sym (append_assoc (f x) (flat_map f xs) (flat_map f ys))
-
 flat_push : {A B : Type 0} (f : A → List B) (xs : List A) (x : A) → flat_map f (xs ++ x ∷ []) ≡ flat_map f xs ++ f x
-flat_push f xs x = flat_append f xs (x ∷ []) ∙ ap (λ t. flat_map f xs ++ t) (append-nil (f x))
+flat_push f xs x = flat_map-append f xs (x ∷ []) ∙ ap (λ t. flat_map f xs ++ t) (append-nil (f x))
 
 classes_push : (k : ℕ) (cs : List (List PlainPattern)) (c : List PlainPattern) → lines_of_classes k (cs ++ c ∷ []) ≡ lines_of_classes k cs ++ line.Class (Some (length cs + k)) c ∷ []
 classes_push k [] c = let same : k ≡ 0 + k = omega arith in ap (λ (n : ℕ). line.Class (Some n) c ∷ []) same
@@ -71,11 +68,7 @@ session_grown r b c l e =
     ap (λ (t : List Line). line.Router r.name r.asn r.id ∷ (owns ++ t)) inner
     ∙ ap (λ (t : List Line). line.Router r.name r.asn r.id ∷ t) (sym (append_assoc owns (flat_map lines_of_session (r.sessions ++ b ∷ [])) (l ∷ [])))
 
-nothing : {A : Type 0} (xs : List A) → length xs ≡ 0 → xs ≡ []
-nothing [] e = refl
-nothing (x ∷ xs) e = absurd (omega (arith, e))
-
-next_is : (number : Option ℕ) (k : ℕ) → is_next number k ≡ true → number ≡ Some (k + 1)
+pub next_is : (number : Option ℕ) (k : ℕ) → is_next number k ≡ true → number ≡ Some (k + 1)
 next_is None k h = absurd cc
 next_is (Some n) k h = ap Some (eqb-true n (k + 1) h)
 
@@ -84,7 +77,7 @@ class_adds r s number patterns h =
     let k = class_ok r s number patterns h in
     let both = and_parts (is_none r.opened) (length r.routers == 0) k.0 in
     let none : r.opened ≡ None = is_none_parts r.opened both.0 in
-    let empty : r.routers ≡ [] = nothing r.routers (eqb-true (length r.routers) 0 both.1) in
+    let empty : r.routers ≡ [] = nil_from_length r.routers (eqb-true (length r.routers) 0 both.1) in
     let rest : flat_map lines_of_router r.routers ++ open_lines r.opened ≡ [] = ap₂ (λ (rs : List RouterConfig) (x : Option OpenRouter). flat_map lines_of_router rs ++ open_lines x) empty none in
     ap so_far (sym k.2)
     ∙ ap (λ (t : List Line). lines_of_classes 1 (r.classes ++ patterns ∷ []) ++ t) rest ∙ append-nil (lines_of_classes 1 (r.classes ++ patterns ∷ []))
@@ -142,7 +135,7 @@ import_adds : (peer : Bool) (r s : Reading) (rule : Rule) (l : Line) → import_
 import_adds peer r s rule l e o b at held both made =
     let k = and_parts (same_kind b.peer peer) (length b.exports == 0) both in
     block_adds r s l o b (session_with_import b rule) at held made
-    (import_lines b rule l (ap (λ (p : Bool). import_of p rule) (kind_same b.peer peer k.0) ∙ e) (nothing b.exports (eqb-true (length b.exports) 0 k.1)))
+    (import_lines b rule l (ap (λ (p : Bool). import_of p rule) (kind_same b.peer peer k.0) ∙ e) (nil_from_length b.exports (eqb-true (length b.exports) 0 k.1)))
 
 end_adds : (r s : Reading) → after r line.End ≡ Ok s → so_far s ≡ so_far r ++ line.End ∷ []
 end_adds r s h =

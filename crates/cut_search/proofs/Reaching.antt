@@ -4,7 +4,7 @@ use Rattle.std.specs.Prelude.{◌&&◌, not}
 use Rattle.std.specs.Option.{option_and_then}
 use Rattle.std.proofs.lemmas.Bool.{and_from, and_parts, cases_lt}
 use Rattle.std.proofs.lemmas.List.{get_or_past}
-use Rattle.net_base.specs.Network.{PlainNet, is_router}
+use Rattle.net_base.specs.Network.{PlainNet}
 use Rattle.net_base.specs.Sets.{holds}
 use Rattle.net_base.proofs.Links.{any_flips}
 use Rattle.path_words.specs.Policies.{PlainStatement}
@@ -17,6 +17,7 @@ use Rattle.graph_base.proofs.WellFormed.{start_at-of, step_at-of}
 use Rattle.evidence_base.specs.Made.{PlainCaseEvidence, number_at}
 use Rattle.outcome_base.specs.Outcomes.{Failures, ends_heard, is_dead, is_dead_link, passes_live}
 use Rattle.regret_law.specs.Passes.{IsCaseGraph}
+use Rattle.regret_law.proofs.Surviving.{head_alive}
 use Rattle.settled_law.specs.Greatest.{IsReachedAt}
 use Rattle.impact_law.specs.declared.impact.Cut.{Cut}
 use Rattle.impact_law.specs.declared.impact.Cut.TheVariants.{Link, Router}
@@ -80,12 +81,8 @@ module _ (net : PlainNet) (s : PlainStatement) (c : PlainCaseEvidence) (f : Fail
       let ends = and_parts (not (is_dead f r)) (not (is_dead_link f r u)) first.0 in
       let from : place_of g last.0 ≡ u = run_begins g u last.0 rest last.1 in
       let link : not (is_dead_link f u r) ≡ true = ap not (any_flips u r f.dead_links) ∙ ends.1 in
-      let open_here : spares f u r ≡ true = and_from (not (is_dead_link f u r) && not (is_dead f u)) (not (is_dead f r)) (and_from (not (is_dead_link f u r)) (not (is_dead f u)) link (alive_first u rest first.1)) ends.0 in
+      let open_here : spares f u r ≡ true = and_from (not (is_dead_link f u r) && not (is_dead f u)) (not (is_dead f r)) (and_from (not (is_dead_link f u r)) (not (is_dead f u)) link (head_alive net f u rest first.1)) ends.0 in
       left_more g f last.0 n (left u last.0 rest last.1 first.1) (and_from (has_step g last.0 n) (spares f (place_of g last.0) (place_of g n)) last.2 (ap (λ l. spares f l (place_of g n)) from ∙ ap (spares f u) last.3 ∙ open_here))
-    where
-      alive_first : (l : ℕ) (ls : List ℕ) → passes_live f (l ∷ ls) ≡ true → not (is_dead f l) ≡ true
-      alive_first l [] h = h
-      alive_first l (k ∷ ls) h = (and_parts (not (is_dead f l)) (not (is_dead_link f l k)) (and_parts (not (is_dead f l) && not (is_dead_link f l k)) (passes_live f (k ∷ ls)) h).0).0
 
   stands : (r n : ℕ) → IsReachedAt net f c r n → (place_of g n ≡ r) × (n < length g.nodes) × IsLeft g f n
   stands r n at =

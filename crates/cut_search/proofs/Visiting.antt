@@ -2,11 +2,13 @@
 use Rattle.std.proofs.Common.{◌≡◌, ℕ, ◌<◌, Bool, true, false, not, ◌&&◌, ◌||◌, eqb, List, [], ◌∷◌, ◌++◌, length, get_or, replicate, refl, sym, ap, ◌∙◌, subst, inl, inr, ◌⊎◌, ◌↔◌, arith, vec_len}
 use Rattle.std.proofs.lemmas.Bool.{cases_Bool, or_cases, or_left, or_right, and_from, and_parts, not_from_false, both_ways, eqb-true, eq-eqb, cases_lt}
 use Rattle.std.proofs.lemmas.List.{get_or-replicate, get_or_past, length-replicate}
+use Rattle.std.proofs.Math.Bool.{and-true}
 use Rattle.graph_base.specs.Graphs.{PlainGraph}
-use Rattle.graph_base.specs.Runs.{has_step, is_start, place_of}
-use Rattle.outcome_base.specs.Outcomes.{Failures, is_dead}
+use Rattle.graph_base.specs.Runs.{has_step, place_of}
+use Rattle.outcome_base.specs.Outcomes.{Failures}
 use Rattle.reach_prune.proofs.Trails.{waited}
 use Rattle.reach_prune.specs.Searches.{is_among, is_listed, is_marked}
+use Rattle.reach_prune.proofs.Among.{marked_below}
 use Rattle.cut_search.specs.declared.search.Search.{Search}
 use Rattle.cut_search.specs.Left.{IsLeft, IsOpenTrail, is_open_start, is_open_step, spares}
 use Rattle.cut_search.specs.Searching.{Visits}
@@ -23,9 +25,6 @@ left_more g f b c r l = (r.0, r.1, r.2 ++ c ∷ [], trail_more g f r.0 b c r.2 r
 complete : (g : PlainGraph) (f : Failures) (marked : ℕ → Bool) → ((a b : ℕ) → marked a ≡ true → is_open_step g f a b ≡ true → marked b ≡ true) → (a b : ℕ) (via : List ℕ) → marked a ≡ true → IsOpenTrail g f a via b → marked b ≡ true
 complete g f marked closed a b [] m h = ap marked (sym h) ∙ m
 complete g f marked closed a b (c ∷ cs) m h = complete g f marked closed c b cs (closed a c m h.0) h.1
-
-marked_below : (marks : List Bool) (n : ℕ) → is_marked marks n ≡ true → n < length marks
-marked_below marks n h = elim (cases_lt n (length marks)) [ inl lt ↦ lt | inr past ↦ absurd (both_ways _ (get_or_past marks n false past) h) ]
 
 -- a search that has come some way: what is marked is left, and what an open step leads to is marked where the node doesn't wait
 pub record Stage (g : PlainGraph) (f : Failures) (s : Search) : Type 0 where
@@ -50,11 +49,7 @@ module _ (g : PlainGraph) (f : Failures) where
       marks n = v.marks n ∙ ap (λ b. b || is_open_start g f n) (clear n)
 
       waiting : (n : ℕ) → is_among new.waiting.items n ≡ is_open_start g f n
-      waiting n = v.waiting n ∙ ap (λ xs. is_among xs n || (is_open_start g f n && not (is_marked old.marks.items n))) idle ∙ ap (λ b. is_open_start g f n && not b) (clear n) ∙ and_always (is_open_start g f n)
-        where
-          and_always : (b : Bool) → (b && true) ≡ b
-          and_always true = refl
-          and_always false = refl
+      waiting n = v.waiting n ∙ ap (λ xs. is_among xs n || (is_open_start g f n && not (is_marked old.marks.items n))) idle ∙ ap (λ b. is_open_start g f n && not b) (clear n) ∙ and-true (is_open_start g f n)
 
   waited_marked : (a : ℕ) (s : Search) (rest : List ℕ) → Stage g f s → s.waiting.items ≡ rest ++ a ∷ [] → is_marked s.marks.items a ≡ true
   waited_marked a s rest t pop = t.waits a (waited _ rest a a pop ∙ or_right _ _ (eq-eqb a a refl))

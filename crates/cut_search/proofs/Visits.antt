@@ -3,6 +3,7 @@ use Rattle.std.proofs.Common.{◌≡◌, ℕ, ◌+◌, ◌<◌, Bool, true, fals
 use Rattle.std.specs.Prelude.{◌==◌}
 use Rattle.std.proofs.lemmas.Bool.{cases_Bool, eqb-true}
 use Rattle.std.proofs.lemmas.List.Folds.{list_any_more}
+use Rattle.std.proofs.Math.Bool.{and-false}
 use Rattle.reach_prune.specs.Searches.{is_among, is_marked}
 use Rattle.cut_search.specs.declared.search.Search.{Search}
 use Rattle.cut_search.specs.Searching.{Visits}
@@ -56,13 +57,9 @@ visits_more q nodes i node opens old mid new within is opened v w = record {
     more : (n : ℕ) → is_among (take (i + 1) nodes) n ≡ (is_among (take i nodes) n || node == n)
     more n = list_any_more (λ x. x == n) nodes i 0 within ∙ ap (λ x. is_among (take i nodes) n || x == n) (sym is)
 
-    never : (b : Bool) → (b && false) ≡ false
-    never true = refl
-    never false = refl
-
     -- the way to n is open, where n is the node
     here : (n : ℕ) → (opens && node == n) ≡ (q n && node == n)
     here n = elim (cases_Bool (node == n)) [
       | inl same ↦ rw same (ap (λ b. b && true) (opened ∙ ap q (eqb-true node n same)))
-      | inr other ↦ rw other (never opens ∙ sym (never (q n)))
+      | inr other ↦ rw other (and-false opens ∙ sym (and-false (q n)))
     ]

@@ -1,3 +1,4 @@
 pub mod Speaking
 pub mod Steps
+pub mod Words
 pub mod World

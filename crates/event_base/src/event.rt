@@ -42,6 +42,23 @@ pub enum EventFault {
     NoMemory,
 }
 
+impl EventFault {
+    ghost use Rattle.event_base.specs.Words.{word_of};
+
+    /// The word of the fault.
+    pub fn word(self) -> &'static [u8]
+        ensures { result.now ≡ word_of self }
+    {
+        match self {
+            EventFault::NothingWaits => b"nothing-waits",
+            EventFault::NotUp => b"not-up",
+            EventFault::NotDown => b"not-down",
+            EventFault::NoLink => b"no-link",
+            EventFault::NoMemory => b"no-memory",
+        }
+    }
+}
+
 impl From<AllocError> for EventFault {
     ghost from_gives = { λ _ e. e ≡ no_memory };
 

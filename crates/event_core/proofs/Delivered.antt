@@ -5,6 +5,7 @@ use Rattle.std.proofs.lemmas.Bool.{cases_Bool, cond-true, cond-false, ne_eqb}
 use Rattle.list_laws.proofs.Members.{AllByRecursion-IsIn, list_any_member}
 use Rattle.config_base.specs.declared.route.Route.{Route}
 use Rattle.net_base.specs.Network.{PlainNet, IsLink, IsNet, joins, linked}
+use Rattle.net_base.proofs.Links.{joins_ends}
 use Rattle.event_base.specs.declared.event.Event.TheVariants.{Deliver}
 use Rattle.event_base.specs.declared.event.EventFault.{EventFault}
 use Rattle.event_base.specs.declared.event.EventFault.TheVariants.{NothingWaits}
@@ -13,7 +14,6 @@ use Rattle.event_base.specs.World.{Speakers, World, at, choose_again, exported, 
 use Rattle.event_law.proofs.Together.{order_is_free}
 use Rattle.event_law.specs.Kept.{nowhere}
 use Rattle.event_state.specs.Changes.{with_heard, with_queue}
-use Rattle.event_state.proofs.Ways.{ends}
 use Rattle.step_law.specs.Settling.{settled, up_among}
 use Rattle.step_law.proofs.OneGo.{events_settle_at_once, settled_alone}
 
@@ -22,7 +22,7 @@ pub linked_apart : (net : PlainNet) (a b : ℕ) → IsNet net → linked net a b
 linked_apart net a b rules h same = by (list_any_member (joins a b) net.links h).0 (AllByRecursion-IsIn (IsLink net) net.links (list_any_member (joins a b) net.links h).0 rules.links (list_any_member (joins a b) net.links h).1).0 (list_any_member (joins a b) net.links h).2
   where
     by : (k : ℕ × ℕ) → k.0 < k.1 → joins a b k ≡ true → ⊥
-    by k less j = elim (ends a b k j) [ inl e ↦ omega (arith, less, e.0, e.1, same) | inr e ↦ omega (arith, less, e.0, e.1, same) ]
+    by k less j = elim (joins_ends a b k j) [ inl e ↦ omega (arith, less, e.0, e.1, same) | inr e ↦ omega (arith, less, e.0, e.1, same) ]
 
 module _ (S : Speakers Route) (a b : ℕ) (apart : a ≢ b) where
   -- the receiver queues nothing from the sender to itself

@@ -1,8 +1,8 @@
 -- The opening world, one router and one location after another.
-use Rattle.std.proofs.Common.{◌≡◌, ℕ, ◌+◌, Bool, true, false, ◌||◌, Option, None, refl, sym, ap, ◌∙◌, add-one, arith}
+use Rattle.std.proofs.Common.{◌≡◌, ℕ, ◌+◌, Bool, true, false, ◌||◌, Option, None, refl, sym, ap, ◌∙◌, add-one}
 use Rattle.std.specs.Prelude.{if◌then◌else◌, ◌==◌, nat_lt}
-use Rattle.std.proofs.lemmas.Bool.{and_parts, and_from, cond-true, cond-false, eqb-true, le-ltb}
-use Rattle.list_laws.proofs.Numbers.{nat_lt_more}
+use Rattle.std.proofs.lemmas.Bool.{and_parts, and_from, cond-true, cond-false, eqb-true}
+use Rattle.list_laws.proofs.Numbers.{nat_lt_more, nat_lt-zero}
 use Rattle.config_base.specs.declared.route.Route.{Route}
 use Rattle.net_base.specs.Network.{IsNet, is_location, linked}
 use Rattle.net_base.proofs.Links.{linked_known}
@@ -11,9 +11,6 @@ use Rattle.event_state.specs.declared.world.World.{World as Kept}
 use Rattle.event_state.specs.States.{blank, speakers}
 use Rattle.event_core.proofs.Tellings.{told_alike, told_nothing}
 use Rattle.step_law.proofs.OneGo.{told_once}
-
-never_less : (x : ℕ) → nat_lt x 0 ≡ false
-never_less x = le-ltb x 0 (omega arith)
 
 one_less : (x n : ℕ) → (nat_lt x n || x == n) ≡ nat_lt x (n + 1)
 one_less x n = nat_lt_more x n ∙ ap (nat_lt x) (sym (add-one n))
@@ -24,7 +21,7 @@ module _ (S : Speakers Route) where
   opened n = record blank { route = λ x. if nat_lt x n then S.choose x (λ u. None) else None }
 
   pub opened_first : blank ≡ opened 0
-  opened_first = λ i. record blank { route = λ x. sym (cond-false (nat_lt x 0) (S.choose x (λ u. None)) None (never_less x)) i }
+  opened_first = λ i. record blank { route = λ x. sym (cond-false (nat_lt x 0) (S.choose x (λ u. None)) None (nat_lt-zero x)) i }
 
   silent_offers : (n r : ℕ) → offers S (opened n) r ≡ (λ u. None)
   silent_offers n r = λ i u. same (live S (opened n) u r) i
@@ -52,7 +49,7 @@ module _ (S : Speakers Route) where
 
   -- the first locations have told
   pub told_below_first : (w : World Route) → w ≡ tell S (λ a b. nat_lt a 0) w
-  told_below_first w = told_nothing S (λ a b. nat_lt a 0) w (λ a b t. absurd (no (sym (never_less a) ∙ t)))
+  told_below_first w = told_nothing S (λ a b. nat_lt a 0) w (λ a b t. absurd (no (sym (nat_lt-zero a) ∙ t)))
     where
       no : false ≡ true → ⊥
       no e = cc

@@ -4,6 +4,7 @@ use Rattle.std.specs.Prelude.{if◌then◌else◌, ◌==◌}
 use Rattle.std.specs.List.{list_any}
 use Rattle.std.proofs.lemmas.Bool.{and_parts, and_left, cases_Bool, cond-true, cond-false, eqb-true}
 use Rattle.std.proofs.lemmas.List.Folds.{list_any-append}
+use Rattle.std.proofs.Math.Bool.{or-false}
 use Rattle.event_base.specs.World.{Speakers, World, emptied, exported, is, joins, live, owes, tell}
 use Rattle.step_law.proofs.OneGo.{told_once}
 
@@ -12,11 +13,7 @@ abbrev pub some : {A : Type 0} → (A → ℕ → ℕ → Bool) → List A → �
 some p us x y = list_any (λ u. p u x y) us
 
 one_more : {A : Type 0} (p : A → ℕ → ℕ → Bool) (us : List A) (u : A) (x y : ℕ) → (some p us x y || p u x y) ≡ some p (us ++ u ∷ []) x y
-one_more p us u x y = sym (list_any-append (λ u. p u x y) us (u ∷ []) ∙ ap (λ z. some p us x y || z) (or_nothing (p u x y)))
-  where
-    or_nothing : (b : Bool) → (b || false) ≡ b
-    or_nothing true = refl
-    or_nothing false = refl
+one_more p us u x y = sym (list_any-append (λ u. p u x y) us (u ∷ []) ∙ ap (λ z. some p us x y || z) (or-false (p u x y)))
 
 module _ {R : Type 0} (S : Speakers R) where
   -- two sets of directions that agree where sessions are live

@@ -1,6 +1,7 @@
 -- Each event keeps what is kept.
 use Rattle.std.proofs.Common.{◌≡◌, ℕ, Bool, true, false, cond, not, ◌&&◌, ◌||◌, eqb, ◌⊎◌, List, [], ◌∷◌, ◌++◌, Option, Some, None, refl, sym, ap, ◌∙◌, subst, inl, inr}
 use Rattle.std.proofs.lemmas.Bool.{cases_Bool, and_left, and_right, and_cases, and_parts, and_from, or_cases, or_parts, or_left, or_right, not-false, both_ways, eqb-true, eq-eqb, ne_eqb, true_from_ne_false, false_from_ne_true, cond-true, cond-false}
+use Rattle.std.proofs.Math.Bool.{and_comm, or_comm, and-true}
 use Rattle.event_base.specs.declared.event.Event.{Event}
 use Rattle.event_base.specs.declared.event.Event.TheVariants.{Deliver, LinkDown, LinkUp, RouterDown, RouterUp, PeerSpeak, PeerSilent}
 use Rattle.event_base.specs.declared.event.EventFault.{EventFault}
@@ -14,22 +15,10 @@ same_way : (a b : ℕ) → joins a b a b ≡ true
 same_way a b = or_left (eqb a a && eqb b b) (eqb a b && eqb b a) (and_from _ _ (eq-eqb a a refl) (eq-eqb b b refl))
 
 is-both : (a b x y : ℕ) → is a b x y ≡ is b a y x
-is-both a b x y = swap (eqb x a) (eqb y b)
-  where
-    swap : (p q : Bool) → (p && q) ≡ (q && p)
-    swap true true = refl
-    swap true false = refl
-    swap false true = refl
-    swap false false = refl
+is-both a b x y = and_comm (eqb x a) (eqb y b)
 
 joins-both : (a b x y : ℕ) → joins a b x y ≡ joins a b y x
-joins-both a b x y = ap (λ z. z || is b a x y) (is-both a b x y) ∙ ap (λ z. is b a y x || z) (is-both b a x y) ∙ swap (is b a y x) (is a b y x)
-  where
-    swap : (p q : Bool) → (p || q) ≡ (q || p)
-    swap true true = refl
-    swap true false = refl
-    swap false true = refl
-    swap false false = refl
+joins-both a b x y = ap (λ z. z || is b a x y) (is-both a b x y) ∙ ap (λ z. is b a y x || z) (is-both b a x y) ∙ or_comm (is b a y x) (is a b y x)
 
 is-parts : (a b x y : ℕ) → is a b x y ≡ true → (x ≡ a) × (y ≡ b)
 is-parts a b x y h = let p = and_parts (eqb x a) (eqb y b) h in (eqb-true x a p.0, eqb-true y b p.1)
@@ -381,10 +370,6 @@ module _ {R : Type 0} (net : Speakers R) (n : AreSpeakers net) where
   same_none true = refl
   same_none false = refl
 
-  and_true : (b : Bool) → (b && not false) ≡ b
-  and_true true = refl
-  and_true false = refl
-
   pub opening-keeps : IsKept net (opening net)
   opening-keeps =
       let w : World R = before_all net in
@@ -394,8 +379,8 @@ module _ {R : Type 0} (net : Speakers R) (n : AreSpeakers net) where
         both = λ a b. refl;
         last = λ a b u. refl;
         told = λ a b u f. absurd (both_ways true f refl);
-        chosen = λ r s. sym (ap (λ b. cond b (net.choose r (offers net w r)) None) (and_true (net.is_router r)) ∙ ap (λ (f : ℕ → Option R). cond (net.is_router r) (net.choose r f) None) (λ i u. nothing r u i));
-        idle = λ r h. cond-false (net.is_router r) (net.choose r (λ u. None)) None (sym (and_true (net.is_router r)) ∙ h);
+        chosen = λ r s. sym (ap (λ b. cond b (net.choose r (offers net w r)) None) (and-true (net.is_router r)) ∙ ap (λ (f : ℕ → Option R). cond (net.is_router r) (net.choose r f) None) (λ i u. nothing r u i));
+        idle = λ r h. cond-false (net.is_router r) (net.choose r (λ u. None)) None (sym (and-true (net.is_router r)) ∙ h);
         empty = λ a b u. (refl, refl, refl);
       }))
       (λ r s. s) (λ a b s. refl)

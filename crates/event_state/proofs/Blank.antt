@@ -1,24 +1,20 @@
 -- A world in whose lists nothing stands.
-use Rattle.std.proofs.Common.{◌≡◌, ℕ, zero, suc, Bool, false, List, [], length, Option, None, Some, replicate, refl, ap, ◌∙◌}
+use Rattle.std.proofs.Common.{◌≡◌, ℕ, Bool, false, List, [], length, Option, None, Some, replicate, refl, ap, ◌∙◌}
 use Rattle.std.specs.Prelude.{slice_index_or}
 use Rattle.std.specs.Option.{option_map_or}
 use Rattle.std.proofs.lemmas.List.{length-replicate}
+use Rattle.list_laws.proofs.Items.{get_or-replicate_same}
 use Rattle.net_base.specs.Network.{PlainNet}
 use Rattle.config_base.specs.declared.route.Route.{Route}
 use Rattle.event_state.specs.Directions.{at_direction, direction}
 use Rattle.event_state.specs.States.{blank, state_of}
-
-same_item : {A : Type 0} (n i : ℕ) (x : A) → slice_index_or (replicate n x) i x ≡ x
-same_item zero i x = refl
-same_item (suc n) zero x = refl
-same_item (suc n) (suc i) x = same_item n i x
 
 module _ {A : Type 0} (xs : List A) (n : ℕ) (x : A) (all : xs ≡ replicate n x) where
   pub sized : (m : ℕ) → n ≡ m → length xs ≡ m
   sized m same = ap length all ∙ length-replicate n x ∙ same
 
   here : (r : ℕ) → slice_index_or xs r x ≡ x
-  here r = ap (λ ys. slice_index_or ys r x) all ∙ same_item n r x
+  here r = ap (λ ys. slice_index_or ys r x) all ∙ get_or-replicate_same n r x
 
   between : (net : PlainNet) (a b : ℕ) → at_direction net xs x a b ≡ x
   between net a b = by (direction net a b)

@@ -1,5 +1,5 @@
 -- Where nothing waits on any link, nothing waits anywhere.
-use Rattle.std.proofs.Common.{◌≡◌, ℕ, Bool, true, false, ◌&&◌, List, [], ◌∷◌, Option, Some, None, inl, inr, refl, sym, ap, ◌∙◌}
+use Rattle.std.proofs.Common.{◌≡◌, ℕ, Bool, true, false, ◌&&◌, List, [], ◌∷◌, inl, inr, refl, sym, ap, ◌∙◌}
 use Rattle.std.specs.Prelude.{is_some, option_map, slice_index_or, nat_lt, if◌then◌else◌, ◌+◌, length}
 use Rattle.std.specs.List.{list_all, position}
 use Rattle.std.specs.Option.{option_map_or}
@@ -7,21 +7,18 @@ use Rattle.std.proofs.lemmas.Bool.{and_parts, and_from, cases_Bool}
 use Rattle.list_laws.specs.Members.{IsIn}
 use Rattle.list_laws.proofs.Each.{AllByRecursion-from_list_all}
 use Rattle.list_laws.proofs.Members.{AllByRecursion-IsIn, list_any_member}
+use Rattle.list_laws.proofs.Options.{none_from_not_some}
 use Rattle.net_base.specs.Network.{PlainNet, joins, linked}
 use Rattle.net_base.proofs.LinkSearch.{is_some-position}
-use Rattle.event_state.specs.Directions.{at_direction, direction}
+use Rattle.net_base.proofs.Links.{joins_ends}
+use Rattle.event_state.specs.Directions.{at_direction}
 use Rattle.event_state.specs.Idle.{is_idle}
-use Rattle.event_state.proofs.Ways.{ends}
-
-is_none : {A : Type 0} (o : Option A) → is_some o ≡ false → o ≡ None
-is_none None h = refl
-is_none (Some x) h = cc
 
 -- where there is no link nothing stands
 pub unlinked : {A : Type 0} (net : PlainNet) (xs : List A) (nothing : A) (a b : ℕ) → linked net a b ≡ false → at_direction net xs nothing a b ≡ nothing
 unlinked net xs nothing a b h =
     ap (λ o. option_map_or (λ d. slice_index_or xs d nothing) (option_map (λ place. if nat_lt a b then place else length net.links + place) o) nothing)
-    (is_none (position (joins a b) net.links) (is_some-position (joins a b) net.links ∙ h))
+    (none_from_not_some (position (joins a b) net.links) (is_some-position (joins a b) net.links ∙ h))
 
 empty : {A : Type 0} (ms : List A) → is_idle ms ≡ true → ms ≡ []
 empty [] h = refl
@@ -48,7 +45,7 @@ module _ {A : Type 0} (net : PlainNet) (queues : List (List A)) where
       on_link : (k : ℕ × ℕ) → IsIn net.links k → joins a b k ≡ true → queue a b ≡ []
       on_link k at j =
           let idle = and_parts _ _ (AllByRecursion-IsIn (λ l. is_idle_link queue l ≡ true) net.links k (AllByRecursion-from_list_all (λ l. is_idle_link queue l ≡ true) (is_idle_link queue) (λ l t. t) net.links h) at) in
-          elim (ends a b k j) [
+          elim (joins_ends a b k j) [
             | inl e ↦ ap (λ x. queue x b) (sym e.0) ∙ ap (queue k.0) (sym e.1) ∙ empty (queue k.0 k.1) idle.0
             | inr e ↦ ap (λ x. queue x b) (sym e.1) ∙ ap (queue k.1) (sym e.0) ∙ empty (queue k.1 k.0) idle.1
           ]

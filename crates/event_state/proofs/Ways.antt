@@ -1,17 +1,17 @@
 -- An entry for a direction is one of a pair of locations, and of no other.
-use Rattle.std.proofs.Common.{◌≡◌, ℕ, zero, suc, ◌+◌, ◌<◌, true, false, ◌&&◌, eqb, ltb, ◌⊎◌, List, [], ◌∷◌, length, Option, Some, None, inl, inr, arith, refl, sym, ap, ◌∙◌}
+use Rattle.std.proofs.Common.{◌≡◌, ℕ, zero, suc, ◌+◌, ◌<◌, true, false, eqb, ltb, ◌⊎◌, List, [], ◌∷◌, length, Option, Some, None, inl, inr, arith, refl, sym, ap, ◌∙◌}
 use Rattle.std.specs.Prelude.{is_some, option_map, slice_get, slice_index_or, slice_set, if◌then◌else◌}
 use Rattle.std.specs.List.{position}
 use Rattle.std.specs.Option.{option_map_or}
-use Rattle.std.proofs.lemmas.Bool.{and_parts, and_from, both_ways, cases_Bool, cond-true, cond-false, eq-eqb, eqb-true, false_from_ne_true, lt-ltb, le-ltb, or_cases}
+use Rattle.std.proofs.lemmas.Bool.{and_parts, and_from, both_ways, cases_Bool, cond-true, cond-false, eq-eqb, eqb-true, false_from_ne_true, lt-ltb, le-ltb}
 use Rattle.std.proofs.lemmas.Option.{slice_get_within}
 use Rattle.list_laws.proofs.Each.{AllByRecursion_at}
-use Rattle.list_laws.proofs.Options.{option_map_parts}
+use Rattle.list_laws.proofs.Options.{option_map_parts, is_some-option_map}
 use Rattle.list_laws.proofs.Positions.{find-position, list_any-at_position}
 use Rattle.list_laws.proofs.Tests.{find-any, find_parts}
 use Rattle.net_base.specs.Network.{PlainNet, IsLink, IsNet, joins, linked}
 use Rattle.net_base.proofs.LinkSearch.{is_some-position}
-use Rattle.net_base.proofs.Links.{linked_flips}
+use Rattle.net_base.proofs.Links.{linked_flips, joins_ends}
 use Rattle.event_base.specs.World.{is}
 use Rattle.event_state.specs.Directions.{at_direction, direction}
 
@@ -22,19 +22,9 @@ place_link a b ls l h =
     let there : slice_get ls l ≡ Some one.0 = sym (find-position (joins a b) ls l h) ∙ one.1 in
     (one.0, there, (find_parts (joins a b) ls one.0 one.1).2, slice_get_within ls l one.0 there)
 
-pub ends : (a b : ℕ) (k : ℕ × ℕ) → joins a b k ≡ true → ((k.0 ≡ a) × (k.1 ≡ b)) ⊎ ((k.0 ≡ b) × (k.1 ≡ a))
-ends a b k h = elim (or_cases (eqb k.0 a && eqb k.1 b) (eqb k.0 b && eqb k.1 a) h) [
-  | inl e ↦ (let p = and_parts (eqb k.0 a) (eqb k.1 b) e in inl (eqb-true _ _ p.0, eqb-true _ _ p.1))
-  | inr e ↦ (let p = and_parts (eqb k.0 b) (eqb k.1 a) e in inr (eqb-true _ _ p.0, eqb-true _ _ p.1))
-]
-
 -- linked locations have a direction, each way
-some_mapped : {A B : Type 0} (f : A → B) (o : Option A) → is_some (option_map f o) ≡ is_some o
-some_mapped f None = refl
-some_mapped f (Some x) = refl
-
 pub has_way : (net : PlainNet) (a b : ℕ) → linked net a b ≡ true → is_some (direction net a b) ≡ true
-has_way net a b h = some_mapped (λ place. if ltb a b then place else length net.links + place) (position (joins a b) net.links) ∙ is_some-position (joins a b) net.links ∙ h
+has_way net a b h = is_some-option_map (λ place. if ltb a b then place else length net.links + place) (position (joins a b) net.links) ∙ is_some-position (joins a b) net.links ∙ h
 
 pub linked_back : (net : PlainNet) (a b : ℕ) → linked net a b ≡ true → linked net b a ≡ true
 linked_back net a b h = linked_flips net b a ∙ h
@@ -73,7 +63,7 @@ module _ (net : PlainNet) (rules : IsNet net) where
         at = k.1;
         below = k.3;
         order = order;
-        either = elim (ends a b k.0 k.2) [
+        either = elim (joins_ends a b k.0 k.2) [
           | inl e ↦ (
               let less : ltb a b ≡ true = lt-ltb a b (omega (arith, order, e.0, e.1)) in
               inl (sym e.0, sym e.1, sym p.2 ∙ cond-true (ltb a b) p.0 (length net.links + p.0) less))

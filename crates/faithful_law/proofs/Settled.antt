@@ -6,7 +6,7 @@ use Rattle.relation_law.specs.Relations.{Pair}
 use Rattle.relation_law.specs.Rounds.{gone_after, is_pair, IsSettled, fails}
 use Rattle.relation_law.specs.Views.{View}
 use Rattle.relation_law.proofs.Rounds.{pair_from, pair_to}
-use Rattle.relation_law.proofs.Tests.{any_found, none_at, count_le, count_lt}
+use Rattle.relation_law.proofs.Tests.{any_found, none_at, count_le, count_lt, count_most}
 
 abbrev sum_below : ℕ → (ℕ → ℕ) → ℕ
 sum_below zero f = 0
@@ -35,15 +35,6 @@ sum_lt (suc n) f g at lt less h = elim (cases_order at n) [
   ]
 ]
 
-count_all : (n : ℕ) (p : ℕ → Bool) → count_below n p ≤ n
-count_all zero p = omega arith
-count_all (suc n) p =
-    let rest = count_all n p in
-    elim (cases_Bool (p n)) [
-      | inl e ↦ rw e (omega arith)
-      | inr e ↦ rw e (omega arith)
-    ]
-
 module _ (v : View) (reach : ℕ → ℕ → Bool) where
   weight : ℕ → ℕ
   weight k = sum_below v.size (λ m. count_below v.size (λ n. gone_after v reach k m n))
@@ -53,7 +44,7 @@ module _ (v : View) (reach : ℕ → ℕ → Bool) where
 
   weight_most : (k : ℕ) → weight k ≤ most
   unfolding weight most
-  weight_most k = sum_le v.size _ _ (λ m lt. count_all v.size (λ n. gone_after v reach k m n))
+  weight_most k = sum_le v.size _ _ (λ m lt. count_most v.size (λ n. gone_after v reach k m n))
 
   stays_gone : (k m n : ℕ) → gone_after v reach k m n ≡ true → gone_after v reach (suc k) m n ≡ true
   stays_gone k m n h = or_left (gone_after v reach k m n) (fails v reach (gone_after v reach k) m n) h

@@ -8,6 +8,7 @@ use Rattle.graph_base.specs.Graphs.{PlainGraph}
 use Rattle.graph_base.specs.Runs.{place_of, has_step, IsTrail}
 use Rattle.reach_prune.specs.Ways.{LeadsFrom}
 use Rattle.reach_prune.specs.declared.steps.Way.TheVariants.{Forward}
+use Rattle.reach_prune.proofs.Trails.{trail_more}
 use Rattle.routing_law.specs.Graph.{run}
 use Rattle.routing_law.specs.Network.{survives}
 use Rattle.routing_law.specs.Outcome.{ReachedAt, Setup}
@@ -15,10 +16,6 @@ use Rattle.routing_law.specs.Settling.{Tops}
 use Rattle.routing_law.proofs.Runs.{node_below, run_more, run_place}
 use Rattle.graph_settling.specs.Best.{AreBest, entry_at}
 use Rattle.graph_settling.specs.Grounds.{IsGround}
-
-trail_more : (g : PlainGraph) (a b c : ℕ) (via : List ℕ) → IsTrail g a via b → has_step g b c ≡ true → IsTrail g a (via ++ c ∷ []) c
-trail_more g a b c [] h l = (subst (λ n. has_step g n c ≡ true) (sym h) l, refl)
-trail_more g a b c (d ∷ ds) h l = (h.0, trail_more g d b c ds h.1 l)
 
 module _ (net : PlainNet) (g : PlainGraph) (numbers : List ℕ) (choosers : LocSet) (w : Setup) (ground : IsGround net g numbers choosers w) where
   abbrev Reached : ℕ → Type 0

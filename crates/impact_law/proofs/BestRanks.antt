@@ -29,11 +29,11 @@ use Rattle.regret_law.proofs.CaseOfClass.{governed_case}
 use Rattle.regret_law.proofs.GraphForms.{same_run}
 use Rattle.regret_law.proofs.GraphRanks.{ranks_of, meets_ranks}
 use Rattle.net_base.proofs.RoutersAndPeers.{router_no_peer, peer_no_router}
-use Rattle.regret_law.proofs.RightLaw.{class_is, no_value}
+use Rattle.regret_law.proofs.RightLaw.{class_is}
 use Rattle.regret_law.proofs.RunWalks.{runs_are_walks}
 use Rattle.regret_law.proofs.Setting.{network_of, alive_of, setup_of}
-use Rattle.list_laws.proofs.Options.{is_some_parts, when_parts}
-use Rattle.path_words.proofs.WalkParts.{walk_parts}
+use Rattle.list_laws.proofs.Options.{is_some_parts, when_parts, none_or_some}
+use Rattle.path_words.proofs.WalkParts.{walk_parts, at_last-never}
 use Rattle.regret_law.proofs.PermittedWalks.{permits_parts}
 use Rattle.regret_law.proofs.Surviving.{alive-survives, survives-alive}
 use Rattle.routing_law.specs.Graph as graph
@@ -58,7 +58,7 @@ module _ (net : PlainNet) (policy : PlainPolicy) (config : PlainConfig) (cs : Li
   -- the statement that governs the prefix has the case's number
   numbered : statement_at policy c.d.case.statement ≡ Some c.s
   numbered = elim (governed_case net policy p rules kept prefix c.s c.governs) [
-    | inr nobody ↦ absurd (no_value (class_of config p) (suc c.k) (class_is net policy config cs rules kept passes.made p ∙ nobody.1) c.of_class)
+    | inr nobody ↦ absurd (none_or_some (class_of config p) (suc c.k) (class_is net policy config cs rules kept passes.made p ∙ nobody.1) c.of_class)
     | inl there ↦ (
         let one : Some (suc c.k) ≡ Some (suc there.0) = sym c.of_class ∙ class_is net policy config cs rules kept passes.made p ∙ there.2 in
         let same_k : c.k ≡ there.0 = cc in
@@ -219,17 +219,12 @@ best_ranks_are_one net policy f p s begin (Some m) (Some n) a b =
     let other = b.1 a.0.0 m a.0.1 a.0.2 in
     ap Some (omega (arith, one, other))
 
-nobody_last : (origin : ℕ → Bool) (path : List ℕ) → ((l : ℕ) → origin l ≡ false) → at_last origin path ≡ false
-nobody_last origin [] none = refl
-nobody_last origin (l ∷ []) none = none l
-nobody_last origin (l ∷ k ∷ ls) none = nobody_last origin (k ∷ ls) none
-
 -- where nobody is an origin no walk is permitted
 unclaimed : (net : PlainNet) (policy : PlainPolicy) (p : PlainPrefix) (s : PlainStatement) → ((l : ℕ) → is_origin net policy p l ≡ false) → (path : List ℕ) → is_permitted net policy p s path ≡ true → ⊥
 unclaimed net policy p s none path h =
     let ends = (permits_parts net (is_origin net policy p) s path h).1 in
     let last = (and_parts (at_last (is_origin net policy p) path) _ ends).0 in
-    true≢false (sym last ∙ nobody_last (is_origin net policy p) path none)
+    true≢false (sym last ∙ at_last-never (is_origin net policy p) path none)
 
 pub nothing_is_claimed : NothingIsClaimedWithoutAClass
 nothing_is_claimed net policy config cs rules kept passes p s prefix governs free = elim (governed_case net policy p rules kept prefix s governs) [

@@ -4,6 +4,7 @@ use Rattle.std.specs.Prelude.{◌&&◌, ◌||◌, ◌==◌, not, slice_get, if�
 use Rattle.std.specs.Option.{option_and_then}
 use Rattle.std.specs.List.{list_any}
 use Rattle.std.proofs.lemmas.Bool.{and_from, or_parts, not-true}
+use Rattle.std.proofs.Math.Bool.{and-true}
 use Rattle.net_base.specs.Network.{PlainNet, is_peer, linked}
 use Rattle.net_base.specs.Sets.{holds}
 use Rattle.net_base.specs.Prefixes.{PlainPrefix}
@@ -74,17 +75,13 @@ module _ (net : PlainNet) (f : Failures) (c : PlainCaseEvidence) (origin : ℕ �
   pub top_stays : f.silent ≡ [] → (r n : ℕ) → place_of c.graph n ≡ r → IsTopAt net no_failures c r n → on n ≡ true → IsTopAt net f c r n
   top_stays quiet r n here top at = tops_that_are_reached_stay net no_failures f c r n (λ path h. survives_all net path) top (subst (λ l. IsReachedAt net f c l n) here (still_reached quiet n at))
 
-and_always : (b : Bool) → (b && true) ≡ b
-and_always true = refl
-and_always false = refl
-
 -- a session whose link and ends are spared lives as it did
 live_spared : (net : PlainNet) (f : Failures) (r peer : ℕ) → not (is_dead f r || is_dead f peer || is_dead_link f r peer) ≡ true → is_live net f r peer ≡ is_live net no_failures r peer
 live_spared net f r peer h =
     let all = or_parts (is_dead f r || is_dead f peer) (is_dead_link f r peer) (not-true _ h) in
     let ends = or_parts (is_dead f r) (is_dead f peer) all.0 in
-    let mine : is_live net f r peer ≡ linked net r peer = rw (all.1, ends.0, ends.1) (ap (λ b. b && true && true) (and_always (linked net r peer)) ∙ ap (λ b. b && true) (and_always (linked net r peer)) ∙ and_always (linked net r peer)) in
-    let before : is_live net no_failures r peer ≡ linked net r peer = ap (λ b. b && true && true) (and_always (linked net r peer)) ∙ ap (λ b. b && true) (and_always (linked net r peer)) ∙ and_always (linked net r peer) in
+    let mine : is_live net f r peer ≡ linked net r peer = rw (all.1, ends.0, ends.1) (ap (λ b. b && true && true) (and-true (linked net r peer)) ∙ ap (λ b. b && true) (and-true (linked net r peer)) ∙ and-true (linked net r peer)) in
+    let before : is_live net no_failures r peer ≡ linked net r peer = ap (λ b. b && true && true) (and-true (linked net r peer)) ∙ ap (λ b. b && true) (and-true (linked net r peer)) ∙ and-true (linked net r peer) in
     mine ∙ sym before
 
 module _ (net : PlainNet) (policy : PlainPolicy) (p : PlainPrefix) (f : Failures) (s : PlainStatement) (c : PlainCaseEvidence) (origin : ℕ → Bool) (external : Bool) (graph : IsGraph c.graph) (formed : IsWellFormed net origin external c.graph)

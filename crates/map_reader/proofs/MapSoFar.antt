@@ -3,7 +3,7 @@ use Rattle.std.proofs.Common.{◌≡◌, ℕ, ◌+◌, ◌*◌, ◌<◌, List, [
 use Rattle.std.specs.Prelude.{◌≢◌, ◌&&◌, ◌==◌, nat_lt, is_none}
 use Rattle.std.specs.List.{flat_map, AllByRecursion}
 use Rattle.std.proofs.lemmas.Bool.{and_parts, eqb-true, ltb-true}
-use Rattle.std.proofs.lemmas.List.{append_cancel_left, map-append}
+use Rattle.std.proofs.lemmas.List.{append_cancel_left, map-append, nil_from_length}
 use Rattle.list_laws.proofs.Each.{AllByRecursion-push}
 use Rattle.list_laws.proofs.Options.{is_none_parts}
 use Rattle.net_base.specs.Prefixes.{PlainPattern}
@@ -15,9 +15,9 @@ use Rattle.config_lines.specs.LineText.{IsLine}
 use Rattle.config_text.specs.ConfigLines.{lines_of_classes, lines_of_router}
 use Rattle.config_reader.specs.declared.reading.OpenRouter.{OpenRouter}
 use Rattle.config_reader.specs.declared.reading.Reading.{Reading}
-use Rattle.config_reader.specs.Reading.{after, is_next}
+use Rattle.config_reader.specs.Reading.{after}
 use Rattle.config_reader.proofs.Lawful.{IsReading, after_keeps, opening_keeps}
-use Rattle.config_reader.proofs.SoFar.{open_lines, after_adds}
+use Rattle.config_reader.proofs.SoFar.{open_lines, after_adds, next_is}
 use Rattle.config_reader.proofs.Steps.{class_ok}
 use Rattle.config_reader.proofs.TakenTexts.{IsOther, same_classes}
 use Rattle.route_maps.specs.declared.maps.ListLine.{ListLine}
@@ -28,15 +28,10 @@ use Rattle.route_map_text.specs.MapsLines.{lines_of_list, lines_of_lists}
 use Rattle.route_map_text.specs.MapsSpelled.{HasPattern, HavePatterns}
 use Rattle.map_reader.specs.declared.reading.MapsReading.{MapsReading}
 use Rattle.map_reader.specs.MapsReading.{opening, continues, on_last, is_out, entries_of, is_number_of, after_map}
-use Rattle.map_reader.proofs.MapSteps.{made, IsMore, IsNew, list_ok, block_ok, entry_ok}
+use Rattle.map_reader.proofs.MapSteps.{made, IsMore, IsNew, list_ok, block_ok, entry_ok, on_last_push, length-on_last}
 use Rattle.map_reader.proofs.Numbering.{Counts, none, step, steps, number_line, number_from, steps-append, number_from-append, counts, counts-after}
 
 -- ---- the last list
-
-pub on_last-push : (xs : List (List ListLine)) (x : List ListLine) (l : ListLine) → on_last (xs ++ x ∷ []) l ≡ xs ++ (x ++ l ∷ []) ∷ []
-on_last-push [] x l = refl
-on_last-push (y ∷ []) x l = refl
-on_last-push (y ∷ z ∷ xs) x l = ap (λ (ls : List (List ListLine)). y ∷ ls) (on_last-push (z ∷ xs) x l)
 
 -- lists of which there is one
 record IsLast (xs : List (List ListLine)) : Type 0 where
@@ -64,7 +59,7 @@ last_more xs l some =
     let last = last_of xs some in
     let n : length last.front + 1 ≡ length xs = sym (ap length last.is ∙ length-append last.front (last.last ∷ [])) in
     ap (λ (ls : List (List ListLine)). lines_of_lists 1 (on_last ls l)) last.is
-    ∙ ap (lines_of_lists 1) (on_last-push last.front last.last l)
+    ∙ ap (lines_of_lists 1) (on_last_push last.front last.last l)
     ∙ lines_of_lists-push 1 last.front (last.last ++ l ∷ [])
     ∙ ap (λ (ls : List MapLine). lines_of_lists 1 last.front ++ ls) (map-append (written.List (Some (length last.front + 1))) last.last (l ∷ []))
     ∙ sym (append_assoc (lines_of_lists 1 last.front) (lines_of_list (length last.front + 1) last.last) (written.List (Some (length last.front + 1)) l ∷ []))
@@ -96,18 +91,10 @@ pub record IsAdded (r s : MapsReading) (l : MapLine) : Type 0 where
 
 -- ---- lines of lists
 
-nothing : {A : Type 0} (xs : List A) → length xs ≡ 0 → xs ≡ []
-nothing [] e = refl
-nothing (x ∷ xs) e = absurd (omega (arith, e))
-
 no_blocks : (b : Reading) → (is_none b.opened && length b.routers == 0) ≡ true → blocks_so_far b ≡ []
 no_blocks b h =
     let both = and_parts (is_none b.opened) (length b.routers == 0) h in
-    ap₂ (λ (rs : List RouterConfig) (x : Option OpenRouter). flat_map lines_of_router rs ++ open_lines x) (nothing b.routers (eqb-true (length b.routers) 0 both.1)) (is_none_parts b.opened both.0)
-
-next_is : (number : Option ℕ) (k : ℕ) → is_next number k ≡ true → number ≡ Some (k + 1)
-next_is None k h = absurd cc
-next_is (Some n) k h = ap Some (eqb-true n (k + 1) h)
+    ap₂ (λ (rs : List RouterConfig) (x : Option OpenRouter). flat_map lines_of_router rs ++ open_lines x) (nil_from_length b.routers (eqb-true (length b.routers) 0 both.1)) (is_none_parts b.opened both.0)
 
 -- the number of the last list, and no router yet
 record IsLastNumber (number : Option ℕ) (lists : ℕ) (b : Reading) : Type 0 where
@@ -136,11 +123,6 @@ on_last-patterns : (xs : List (List ListLine)) (l : ListLine) → HasPattern l �
 on_last-patterns [] l is all = tt
 on_last-patterns (x ∷ []) l is all = (AllByRecursion-push HasPattern x l all.0 is, tt)
 on_last-patterns (x ∷ y ∷ xs) l is all = (all.0, on_last-patterns (y ∷ xs) l is all.1)
-
-length-on_last : (xs : List (List ListLine)) (l : ListLine) → length (on_last xs l) ≡ length xs
-length-on_last [] l = refl
-length-on_last (x ∷ []) l = refl
-length-on_last (x ∷ y ∷ xs) l = let h = length-on_last (y ∷ xs) l in omega (arith, h)
 
 more_added : (r s : MapsReading) (number : Option ℕ) (l : ListLine) → AreKept r → HasPattern l → IsMore r s number l → IsAdded r s (written.List number l)
 more_added r s number l k is m =

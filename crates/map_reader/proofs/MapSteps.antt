@@ -81,7 +81,7 @@ on_last_push (y ∷ z ∷ xs) x l = ap (λ (ls : List (List ListLine)). y ∷ ls
 
 -- ---- no list less, and at most one more
 
-length-on_last : (xs : List (List ListLine)) (l : ListLine) → length (on_last xs l) ≡ length xs
+pub length-on_last : (xs : List (List ListLine)) (l : ListLine) → length (on_last xs l) ≡ length xs
 length-on_last [] l = refl
 length-on_last (x ∷ []) l = refl
 length-on_last (x ∷ y ∷ xs) l = let h = length-on_last (y ∷ xs) l in omega (arith, h)

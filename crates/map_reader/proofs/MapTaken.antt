@@ -4,6 +4,7 @@ use Rattle.std.specs.Prelude.{◌≢◌, ◌==◌, nat_lt, codes}
 use Rattle.std.specs.List.{slice_split, flat_map, AllByRecursion}
 use Rattle.std.proofs.lemmas.Bool.{ne_eqb, eq-eqb, lt-ltb}
 use Rattle.std.proofs.lemmas.List.{map-append}
+use Rattle.std.proofs.lemmas.List.Concat.{flat_map-append}
 use Rattle.list_laws.proofs.Each.{AllByRecursion-append, AllByRecursion-append_parts, AllByRecursion-weaker, AllByRecursion-both}
 use Rattle.net_base.specs.Prefixes.{PlainPattern}
 use Rattle.net_base.specs.Steps.{◌>>=◌, unless}
@@ -224,10 +225,6 @@ block_lines m is =
     subst (λ n. AllByRecursion (IsLine Second n) (flat_map lines_of_router m.routers)) (length-firsts m.lists)
     (AllByRecursion-append_parts (IsLine Second (length (firsts m.lists))) (lines_of_classes 1 (firsts m.lists)) (flat_map lines_of_router m.routers) all).1
 
-flat-append : (xs ys : List MapLine) → flat_map fed (xs ++ ys) ≡ flat_map fed xs ++ flat_map fed ys
-flat-append [] ys = refl
-flat-append (x ∷ xs) ys = ap (λ (t : List ℕ). fed x ++ t) (flat-append xs ys) ∙ sym (append_assoc (fed x) (flat_map fed xs) (flat_map fed ys))
-
 behind : (a b : List ℕ) → length b ≤ length (a ++ b)
 behind a b = let e = length-append a b in omega (arith, e)
 
@@ -238,7 +235,7 @@ map_block_lines m is short =
     let w = weight_below none ls in
     let same : number_from none ls ≡ flat_map map_lines_of_router m.routers = routers_numbered none m.routers in
     let inner : length (flat_map fed (flat_map map_lines_of_router m.routers)) ≤ length (flat_map fed (map_lines m)) =
-    subst (λ (t : List ℕ). length (flat_map fed (flat_map map_lines_of_router m.routers)) ≤ length t) (sym (flat-append (lines_of_lists 1 m.lists) (flat_map map_lines_of_router m.routers))) (behind (flat_map fed (lines_of_lists 1 m.lists)) (flat_map fed (flat_map map_lines_of_router m.routers))) in
+    subst (λ (t : List ℕ). length (flat_map fed (flat_map map_lines_of_router m.routers)) ≤ length t) (sym (flat_map-append fed (lines_of_lists 1 m.lists) (flat_map map_lines_of_router m.routers))) (behind (flat_map fed (lines_of_lists 1 m.lists)) (flat_map fed (flat_map map_lines_of_router m.routers))) in
     let outer : length (flat_map fed (map_lines m)) ≤ length (maps_text m) = behind (first_line ++ codes "\n") (flat_map fed (map_lines m)) in
     let low : weight ls < 2 ^ 32 = omega (arith, ap (λ (xs : List MapLine). length (flat_map fed xs)) same, w, inner, outer, short) in
     subst (AllByRecursion (IsMapLine (length m.lists))) same (numbered_are (length m.lists) (weight ls) low none ls (omega arith) (omega arith) (block_lines m is) (flat_other lines_of_router router_other m.routers))

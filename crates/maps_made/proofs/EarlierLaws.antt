@@ -8,6 +8,7 @@ use Rattle.std.proofs.lemmas.Bool.{leb-true, le-leb, ltb-true, lt-ltb, and_parts
 use Rattle.std.proofs.lemmas.List.Folds.{list_any-append}
 use Rattle.std.proofs.lemmas.List.Sums.{sum_by-append}
 use Rattle.std.proofs.lemmas.List.Sorted.{IsPartitionPoint-from_clause, sum_by-IsPermutation}
+use Rattle.std.proofs.Math.Bool.{or_assoc}
 use Rattle.list_laws.proofs.SortedRuns.{points_ordered, run_between}
 use Rattle.maps_made.specs.Keys.{in_span, in_some, AreApart}
 use Rattle.maps_made.specs.Earlier.{IsInOrder, HaveEntries, entries_in, is_at, top}
@@ -158,10 +159,6 @@ put_behind bs b es whole same h p =
 
 -- ---- places
 
-or_assoc : (a b c : Bool) → (a || (b || c)) ≡ ((a || b) || c)
-or_assoc true b c = refl
-or_assoc false b c = refl
-
 pub list_any-filter : {X : Type 0} (p t : X → Bool) (xs : List X) → list_any t (filter p xs) ≡ list_any (λ (x : X). p x && t x) xs
 list_any-filter p t [] = refl
 list_any-filter p t (x ∷ xs) = by (p x) refl (list_any-filter p t xs)
@@ -193,7 +190,7 @@ found_next entries spans i j d all old new h so_far added =
     so_far
     ∙ ap (λ (ss : List Span). old || list_any (λ (e : Entry). in_some ss e.key && is_at j e) entries) (rest_of spans i d h)
     ∙ ap (λ b. old || b) (list_any_or (λ (e : Entry). in_span (get_or spans i d) e.key) (λ (e : Entry). in_some (drop (i + 1) spans) e.key) (is_at j) entries)
-    ∙ or_assoc old _ _
+    ∙ sym (or_assoc old _ _)
     ∙ ap (λ b. b || list_any (λ (e : Entry). in_some (drop (i + 1) spans) e.key && is_at j e) entries)
     (ap (λ b. old || b) (sym (list_any-filter (λ (e : Entry). in_span (get_or spans i d) e.key) (is_at j) entries)) ∙ sym added)
 
@@ -204,7 +201,7 @@ found_in_next t bs i all old new h so_far added =
     so_far
     ∙ ap (λ (es : List Entry). old || list_any t es) (entries_in-next bs i h)
     ∙ ap (λ b. old || b) (list_any-append t (get_or bs i []) (entries_in (drop (i + 1) bs)))
-    ∙ or_assoc old _ _
+    ∙ sym (or_assoc old _ _)
     ∙ ap (λ b. b || list_any t (entries_in (drop (i + 1) bs))) (sym added)
 
 pub list_any-nothing : {X : Type 0} (xs : List X) (t : X → Bool) → list_any (λ (x : X). false && t x) xs ≡ false

@@ -6,6 +6,7 @@ use Rattle.std.specs.List.Sorted.{IsStrictlySortedBy}
 use Rattle.std.specs.Ordering.{nat_cmp}
 use Rattle.std.proofs.lemmas.Bool.{lt-ltb, eq-eqb}
 use Rattle.std.proofs.lemmas.List.Sums.{sum_by-append}
+use Rattle.std.proofs.lemmas.List.{length-map}
 use Rattle.list_laws.proofs.Each.{AllByRecursion-append}
 use Rattle.net_base.specs.Prefixes.{PlainPattern, IsPattern}
 use Rattle.config_base.specs.Configs.{PlainConfig, IsConfig, IsRouter}
@@ -77,15 +78,11 @@ lines_in-cons l ls =
     let e : 0 + length l ≡ length l = omega arith in
     sum_by-append (λ (lines : List ListLine). length lines) (l ∷ []) ls ∙ ap (λ n. n + lines_in ls) e
 
-length-map : {X Y : Type 0} (f : X → Y) (xs : List X) → length (map f xs) ≡ length xs
-length-map f [] = refl
-length-map f (x ∷ xs) = let h = length-map f xs in omega (arith, h)
-
 pub length-list_for : (earlier class : List PlainPattern) → length (list_for earlier class) ≡ length (filter (meets_some class) earlier) + length class
 length-list_for earlier class =
     let a = length-append (map (line false) (filter (meets_some class) earlier)) (map (line true) class) in
-    let b = length-map (line false) (filter (meets_some class) earlier) in
-    let c = length-map (line true) class in
+    let b = length-map (filter (meets_some class) earlier) (line false) in
+    let c = length-map class (line true) in
     omega (arith, a, b, c)
 
 -- the total with one list more

@@ -4,7 +4,6 @@ use Rattle.std.specs.Prelude.{◌⊎◌, ◌&&◌, ◌||◌, ◌==◌, slice_get
 use Rattle.std.specs.List.{list_any, AllByRecursion, dedup}
 use Rattle.std.specs.List.Sorted.{IsPermutation, IsSorted, IsStrictlySortedBy}
 use Rattle.std.specs.declared.cmp.Ordering.TheVariants.{Less}
-use Rattle.std.specs.Cmp.{nat_cmp_is}
 use Rattle.std.specs.Ordering.{nat_cmp}
 use Rattle.list_laws.proofs.Items.{slice_get-there}
 use Rattle.std.proofs.lemmas.Bool.{eqb-true, eq-eqb, ne_eqb, cases_lt, cases_eq, or_left}
@@ -13,7 +12,7 @@ use Rattle.std.proofs.lemmas.List.Sorted.{list_any-IsPermutation}
 use Rattle.std.proofs.lemmas.Map.Keys.{IsStrictlyIncreasing-dedup, sorted_from_strictly_increasing}
 use Rattle.list_laws.specs.Members.{IsIn}
 use Rattle.list_laws.proofs.Members.{Contains-from_IsIn, IsIn-from_Contains, list_any_member, list_any-from_IsIn}
-use Rattle.list_laws.proofs.Orders.{nat_cmp-Less}
+use Rattle.list_laws.proofs.Orders.{nat_cmp-Less, nat_cmp-lesser}
 use Rattle.list_laws.proofs.Truth.{same_tests}
 use Rattle.std.proofs.lemmas.List.{take_more, map-append}
 use Rattle.net_base.specs.Prefixes.{PlainPattern}
@@ -92,15 +91,12 @@ abbrev pub places_from : (PlainPattern → Bool) → ℕ → List PlainPattern �
 places_from t k [] = []
 places_from t k (q ∷ qs) = if t q then k ∷ places_from t (k + 1) qs else places_from t (k + 1) qs
 
-less : (x y : ℕ) → x < y → nat_cmp x y ≡ Less
-less x y h = sym (nat_cmp_is x y Less h)
-
 places_after : (t : PlainPattern → Bool) (x k : ℕ) (qs : List PlainPattern) → x < k → AllByRecursion (λ y. nat_cmp x y ≡ Less) (places_from t k qs)
 places_after t x k [] lt = tt
 places_after t x k (q ∷ qs) lt = by (t q) (places_after t x (k + 1) qs (omega (arith, lt)))
   where
     by : (b : Bool) → AllByRecursion (λ y. nat_cmp x y ≡ Less) (places_from t (k + 1) qs) → AllByRecursion (λ y. nat_cmp x y ≡ Less) (if b then k ∷ places_from t (k + 1) qs else places_from t (k + 1) qs)
-    by true all = (less x k lt, all)
+    by true all = (nat_cmp-lesser x k lt, all)
     by false all = all
 
 pub places_order : (t : PlainPattern → Bool) (k : ℕ) (qs : List PlainPattern) → IsStrictlySortedBy nat_cmp (places_from t k qs)

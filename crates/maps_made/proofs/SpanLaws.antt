@@ -3,6 +3,7 @@ use Rattle.std.proofs.Common.{◌≡◌, ℕ, ◌+◌, ◌-◌, ◌*◌, ◌/◌
 use Rattle.std.specs.Prelude.{◌⊎◌, ◌&&◌, ◌==◌, nat_le, nat_lt}
 use Rattle.std.proofs.lemmas.Bool.{leb-true, le-leb, lt-leb, ltb-true, lt-ltb, le-ltb, eqb-true, eq-eqb, and_parts, and_from, or_cases, or_left, or_right, cases_lt}
 use Rattle.std.proofs.lemmas.Nat.{shr_split, shr_high, mod_below, pow_pos, pow-add, div_below, mul-le}
+use Rattle.std.proofs.Math.Bool.{and-true, and-false}
 use Rattle.list_laws.proofs.Truth.{same_tests}
 use Rattle.net_base.specs.Prefixes.{PlainPattern, IsPattern, contains}
 use Rattle.route_maps.specs.Overlaps.{overlap}
@@ -178,27 +179,19 @@ module _ (p q : PlainPattern) (lp : IsPattern p) (lq : IsPattern q) where
           ∙ at_length _ _ (λ (same : len ≡ q.base.len).
           ap (λ n. q.base.bits == p.base.bits / 2 ^ (32 - n) * 2 ^ (32 - n) && nat_le p.base.len q.upto) same ∙ sym (above_overlap (omega (arith, le, same))))
 
-      and_true : (x : Bool) → (x && true) ≡ x
-      and_true true = refl
-      and_true false = refl
-
-      and_false : (x : Bool) → (x && false) ≡ false
-      and_false true = refl
-      and_false false = refl
-
       long : p.base.len < len → len ≤ p.upto → in_span (inside p len) (key q) ≡ (len == q.base.len && overlap q p)
       long lt le =
           inside_key len
           ∙ at_length _ _ (λ (same : len ≡ q.base.len).
-          sym (inside_overlap (omega (arith, lt, same)) ∙ (let on : nat_le q.base.len p.upto ≡ true = le-leb _ _ (omega (arith, le, same)) in rw on (and_true _))))
+          sym (inside_overlap (omega (arith, lt, same)) ∙ (let on : nat_le q.base.len p.upto ≡ true = le-leb _ _ (omega (arith, le, same)) in rw on (and-true _))))
 
       past : p.base.len < len → p.upto < len → false ≡ (len == q.base.len && overlap q p)
       past lt gt =
           sym (at_length (overlap q p) false (λ (same : len ≡ q.base.len).
-          inside_overlap (omega (arith, lt, same)) ∙ (let off : nat_le q.base.len p.upto ≡ false = lt-leb _ _ (omega (arith, gt, same)) in rw off (and_false _))) ∙ and_false (len == q.base.len))
+          inside_overlap (omega (arith, lt, same)) ∙ (let off : nat_le q.base.len p.upto ≡ false = lt-leb _ _ (omega (arith, gt, same)) in rw off (and-false _))) ∙ and-false (len == q.base.len))
 
       empty : (k : ℕ) → in_span (record { from = 0; to = 0 }) k ≡ false
-      empty k = rw (le-ltb k 0 (omega arith)) (and_false (nat_le 0 k))
+      empty k = rw (le-ltb k 0 (omega arith)) (and-false (nat_le 0 k))
 
       by_end : p.base.len < len → (p.upto < len) ⊎ (len ≤ p.upto) → in_span (span_at p len) (key q) ≡ (len == q.base.len && overlap q p)
       by_end lt (inl gt) = rw (lt-leb len p.base.len lt, lt-leb len p.upto gt) (empty (key q) ∙ past lt gt)

@@ -9,6 +9,7 @@ use Rattle.route_maps.specs.OfConfig.{meets_some}
 use Rattle.std.proofs.lemmas.Bool.{leb-true, le-leb, ltb-true, lt-ltb, and_parts, and_from, or_cases, or_left, or_right, cases_lt, false_from_ne_true}
 use Rattle.std.proofs.lemmas.List.Folds.{list_any-append}
 use Rattle.std.proofs.lemmas.List.{take_more}
+use Rattle.std.proofs.Math.Bool.{or-false}
 use Rattle.list_laws.proofs.Truth.{same_tests}
 use Rattle.net_base.specs.Prefixes.{PlainPattern, IsPattern}
 use Rattle.route_maps.specs.Overlaps.{overlap}
@@ -16,22 +17,18 @@ use Rattle.maps_made.specs.Keys.{key, in_span, in_some, span_at, has, AreApart, 
 use Rattle.maps_made.proofs.SpanLaws.{span_key}
 use Rattle.maps_made.specs.declared.spans.Span.{Span}
 
-or_false : (b : Bool) → (b || false) ≡ b
-or_false true = refl
-or_false false = refl
-
 pub has-push : (xs : List ℕ) (x n : ℕ) → has (xs ++ x ∷ []) n ≡ (has xs n || x == n)
-has-push xs x n = list_any-append (λ y. y == n) xs (x ∷ []) ∙ ap (λ b. has xs n || b) (or_false (x == n))
+has-push xs x n = list_any-append (λ y. y == n) xs (x ∷ []) ∙ ap (λ b. has xs n || b) (or-false (x == n))
 
 pub in_some-push : (spans : List Span) (s : Span) (k : ℕ) → in_some (spans ++ s ∷ []) k ≡ (in_some spans k || in_span s k)
-in_some-push spans s k = list_any-append (λ (s : Span). in_span s k) spans (s ∷ []) ∙ ap (λ b. in_some spans k || b) (or_false (in_span s k))
+in_some-push spans s k = list_any-append (λ (s : Span). in_span s k) spans (s ∷ []) ∙ ap (λ b. in_some spans k || b) (or-false (in_span s k))
 
 -- an empty one has no key
 pub in_span-empty : (s : Span) (k : ℕ) → s.to ≤ s.from → in_span s k ≡ false
 in_span-empty s k le = false_from_ne_true (in_span s k) (λ h. let both = and_parts (nat_le s.from k) (nat_lt k s.to) h in absurd (omega (arith, le, leb-true s.from k both.0, ltb-true k s.to both.1)))
 
 pub without_empty : (spans : List Span) (s : Span) (k : ℕ) → s.to ≤ s.from → in_some spans k ≡ (in_some spans k || in_span s k)
-without_empty spans s k le = sym (ap (λ b. in_some spans k || b) (in_span-empty s k le) ∙ or_false (in_some spans k))
+without_empty spans s k le = sym (ap (λ b. in_some spans k || b) (in_span-empty s k le) ∙ or-false (in_some spans k))
 
 AreApart-push : (spans : List Span) (s : Span) → AreApart spans → ((k : ℕ) → in_span s k ≡ true → in_some spans k ≡ false) → AreApart (spans ++ s ∷ [])
 AreApart-push [] s apart none = (λ k h. refl, tt)

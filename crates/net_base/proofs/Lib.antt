@@ -10,6 +10,7 @@ pub mod SetLaws
 pub mod SetLemmas
 pub mod SetOf
 pub mod StepLemmas
+pub mod StepOutcomes
 mod WordSteps
 pub mod NumbersBelow
 pub mod Sites

@@ -1,5 +1,5 @@
 -- Items that are written one after another.
-use Rattle.std.proofs.Common.{◌≡◌, ℕ, List, [], ◌∷◌, ◌++◌, map, Result, Ok, Err, refl, sym, ap, ◌∙◌, append-nil, append_assoc}
+use Rattle.std.proofs.Common.{◌≡◌, ℕ, List, ◌++◌, map, Result, Ok, Err, refl, sym, ap, ◌∙◌, append_assoc}
 use Rattle.std.specs.Prelude.{codes, nat_lt, OnOk, ⊤}
 use Rattle.std.specs.Fmt.{decimal}
 use Rattle.json.specs.Print.{escape_byte}
@@ -15,23 +15,6 @@ use Rattle.serde_json.specs.Written.{compact_text, items_text}
 -- the items from a place on, with a comma before each but the first of all
 abbrev pub rest_text : ℕ → List Data → List ℕ
 rest_text i ds = items_text (nat_lt 0 i) (items_of ds)
-
--- pieces that are written one after another, each with the text that it leaves
-abbrev pub AreWritten : List ℕ → List (List ℕ × List ℕ) → Type 0
-AreWritten old [] = Unit {0}
-AreWritten old (p ∷ ps) = (p.1 ≡ old ++ p.0) × AreWritten p.1 ps
-
-abbrev pub text_after : List ℕ → List (List ℕ × List ℕ) → List ℕ
-text_after old [] = old
-text_after old (p ∷ ps) = text_after p.1 ps
-
-abbrev pub pieces : List (List ℕ × List ℕ) → List ℕ
-pieces [] = []
-pieces (p ∷ ps) = p.0 ++ pieces ps
-
-pub written : (old : List ℕ) (ps : List (List ℕ × List ℕ)) → AreWritten old ps → text_after old ps ≡ old ++ pieces ps
-written old [] h = sym (append-nil old)
-written old (p ∷ ps) h = written p.1 ps h.1 ∙ ap (λ t. t ++ pieces ps) h.0 ∙ append_assoc old p.0 (pieces ps)
 
 -- what a last call leaves, where it ended well
 pub if_done : {E : Type 0} (P Q : Type 0) (r : Result ⊤ E) → (P → Q) → OnOk r P → OnOk r Q

@@ -1,5 +1,5 @@
 -- What is written of a network keeps the rules of topologies, and is that network.
-use Rattle.std.proofs.Common.{◌≡◌, ℕ, ◌+◌, ◌<◌, List, [], ◌∷◌, ◌++◌, length, map, take, drop, Option, Some, None, Result, Ok, Err, Bool, true, false, ◌||◌, ◌&&◌, refl, sym, ap, ◌∙◌, arith, map-id, append-nil, append_assoc, length-append, length-take-le, true≢false, eq-eqb, subst}
+use Rattle.std.proofs.Common.{◌≡◌, ℕ, ◌+◌, ◌<◌, List, [], ◌∷◌, ◌++◌, length, map, take, drop, Option, Some, None, Result, Ok, Err, Bool, true, false, ◌||◌, ◌&&◌, refl, sym, ap, ◌∙◌, arith, map-id, append-nil, append_assoc, length-append, length-take-le, subst}
 use Rattle.std.specs.Prelude.{⊤, IsTrue, ◌==◌, nat_eq, nat_lt, nat_le, fold, option_map, position, slice_get}
 use Rattle.std.specs.List.{AllByRecursion, IsDistinct}
 use Rattle.std.specs.Str.{bytes_eq}
@@ -17,6 +17,7 @@ use Rattle.net_base.specs.Steps.{each_from}
 use Rattle.net_base.specs.declared.net.Site.{Site}
 use Rattle.net_base.specs.declared.place.Kind.{Kind}
 use Rattle.net_base.specs.declared.place.Kind.TheVariants as kind
+use Rattle.net_base.proofs.Links.{same_ends-swap}
 use Rattle.topology.specs.declared.fault.TopoFault.{TopoFault}
 use Rattle.topology.specs.declared.fault.TopoFault.TheVariants.{LinkTwice, SelfLink, PeerLink}
 use Rattle.topology.specs.declared.sites.Number.TheVariants as which
@@ -112,15 +113,6 @@ module _ (net : PlainNet) (is : IsNet net) where
       rw (name_place l.0 (omega (arith, are.0.0, are.0.1)), name_place l.1 are.0.1, lt-ltb l.0 l.1 are.0.0, joined_again (place + 1) ls are.1) refl
 
 -- ---- the order of links
-
-same_ends-swap : (x y : ℕ × ℕ) → same_ends x y ≡ false → same_ends y x ≡ false
-same_ends-swap x y apart = by (same_ends y x) refl
-  where
-    by : (b : Bool) → same_ends y x ≡ b → b ≡ false
-    by false e = refl
-    by true e =
-        let f = and_parts (y.0 == x.0) (y.1 == x.1) e in
-        absurd (true≢false (sym (rw (eq-eqb x.0 y.0 (sym (eqb-true y.0 x.0 f.0)), eq-eqb x.1 y.1 (sym (eqb-true y.1 x.1 f.1))) refl) ∙ apart))
 
 before_apart : (x y : ℕ × ℕ) → IsBefore x y → same_ends x y ≡ false
 before_apart x y b = by (same_ends x y) refl

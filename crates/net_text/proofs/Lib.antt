@@ -1,4 +1,3 @@
-pub mod Identifiers
 pub mod Letters
 pub mod Items
 pub mod Shaped

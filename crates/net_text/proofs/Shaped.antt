@@ -1,11 +1,12 @@
 -- The value of a network's text has the shape of a topology.
-use Rattle.std.proofs.Common.{◌≡◌, ℕ, ◌+◌, ◌<◌, ◌≤◌, ◌^◌, List, [], ◌∷◌, map, Result, Ok, refl, ap, arith}
+use Rattle.std.proofs.Common.{◌≡◌, ℕ, ◌+◌, ◌<◌, ◌≤◌, ◌^◌, List, [], ◌∷◌, map, Result, Ok, refl, arith}
 use Rattle.std.specs.Prelude.{IsTrue, ◌≢◌}
 use Rattle.std.specs.List.{AllByRecursion}
 use Rattle.std.proofs.lemmas.Bool.{ne_eqb}
+use Rattle.text_words.proofs.PrefixTexts.{address_of-address_text}
 use Rattle.json.proofs.Printed.Utf8.{IsUtf8-are_ascii}
-use Rattle.json_words.specs.Json.{list_of as items_as_list}
 use Rattle.json_words.specs.Plain.{IsPlain, ArePlain}
+use Rattle.json_words.proofs.JsonLists.{list_of-items_of}
 use Rattle.serde_json.specs.Data.{Data, items_depth, depth}
 use Rattle.serde_json.specs.View.{items_of}
 use Rattle.serde_json.proofs.OnLiterals.{serde_json_on_literals}
@@ -16,7 +17,6 @@ use Rattle.net_base.specs.declared.net.Site.{Site}
 use Rattle.topology.specs.declared.fault.TopoFault.{TopoFault}
 use Rattle.topology.specs.Shape.{each, Entry, Ends, Topology, entry_of, ends_of, shape_of}
 use Rattle.net_text.specs.NetText.{name_at, site_data, link_data, net_data}
-use Rattle.net_text.proofs.Identifiers.{address_there}
 use Rattle.net_text.proofs.Letters.{simple_name, simple_address, utf8_simple}
 
 -- ---- what a text says of a network
@@ -38,10 +38,6 @@ pub record IsWritten (s : Site) : Type 0 where
 
 -- ---- the shape
 
-items_as_list-items_of : (ds : List Data) → items_as_list (items_of ds) ≡ ds
-items_as_list-items_of [] = refl
-items_as_list-items_of (d ∷ ds) = ap (λ xs. d ∷ xs) (items_as_list-items_of ds)
-
 -- what is read of items that are written
 each_map : {A B C : Type 0} (P : A → Type 0) (f : B → Result C TopoFault) (g : A → B) (h : A → C) → ((x : A) → P x → f (g x) ≡ Ok (h x)) → (k : ℕ) (xs : List A) → AllByRecursion P xs → each_from (λ _. f) k (map g xs) ≡ Ok (map h xs)
 each_map P f g h one k [] all = refl
@@ -49,7 +45,7 @@ each_map P f g h one k (x ∷ xs) all = rw (one x all.0, each_map P f g h one (k
 
 entry_again : (s : Site) → IsWritten s → entry_of (site_data s) ≡ Ok (site_entry s)
 unfolding entry_of site_data serde_json_on_literals
-entry_again s is = rw (address_there s.id is.id.1, ne_eqb s.id 0 is.id.0) refl
+entry_again s is = rw (address_of-address_text s.id is.id.1, ne_eqb s.id 0 is.id.0) refl
 
 entries_again : (sites : List Site) → AllByRecursion IsWritten sites → each entry_of (map site_data sites) ≡ Ok (map site_entry sites)
 unfolding each
@@ -71,11 +67,11 @@ pub shape_again : (net : PlainNet) → AllByRecursion IsWritten net.routers → 
 unfolding shape_of net_data serde_json_on_literals
 shape_again net routers peers =
     rw (
-      items_as_list-items_of (map site_data net.routers),
+      list_of-items_of (map site_data net.routers),
       entries_again net.routers routers,
-      items_as_list-items_of (map site_data net.peers),
+      list_of-items_of (map site_data net.peers),
       entries_again net.peers peers,
-      items_as_list-items_of (map (link_data net) net.links),
+      list_of-items_of (map (link_data net) net.links),
       links_again net net.links,
     )
     refl

@@ -1,10 +1,11 @@
 -- The classes with which the search begins.
-use Rattle.std.proofs.Common.{◌≡◌, ℕ, zero, suc, ◌+◌, ◌<◌, ◌≤◌, true, nat_eq, List, [], ◌∷◌, ◌++◌, Option, None, Some, option_map, length, map, refl, sym, ap, ◌∙◌, subst, inl, inr, arith}
+use Rattle.std.proofs.Common.{◌≡◌, ℕ, zero, suc, ◌+◌, ◌<◌, ◌≤◌, true, List, [], ◌∷◌, ◌++◌, Option, None, Some, option_map, length, map, refl, sym, ap, ◌∙◌, subst, inl, inr, arith}
 use Rattle.std.specs.Prelude.{All, slice_get, slice_index_or, unwrap_or}
 use Rattle.std.specs.List.{find}
 use Rattle.std.specs.Option.{option_eq}
 use Rattle.std.proofs.lemmas.List.{get_or_default, length-map}
-use Rattle.std.proofs.lemmas.Bool.{cases_eq, cases_lt, eq-eqb, eqb-true}
+use Rattle.std.proofs.lemmas.Bool.{cases_eq, cases_lt}
+use Rattle.list_laws.proofs.Options.{option_eq-is, is-option_eq}
 use Rattle.graph_base.specs.declared.graph.Node.{Node}
 use Rattle.graph_base.specs.Graphs.{PlainGraph}
 use Rattle.graph_base.specs.Runs.{place_of, rank_at}
@@ -54,33 +55,21 @@ located_nodes g places list lists is e are l =
       ascend = are.ascend l;
     }
 
-same_rank : (a b : Option ℕ) → option_eq nat_eq a b ≡ true → a ≡ b
-same_rank None None h = refl
-same_rank None (Some y) h = absurd (cc)
-same_rank (Some x) None h = absurd (cc)
-same_rank (Some x) (Some y) h = ap Some (eqb-true x y h)
-
-rank_itself : (a b : Option ℕ) → a ≡ b → option_eq nat_eq a b ≡ true
-rank_itself None None h = refl
-rank_itself None (Some y) h = absurd (cc)
-rank_itself (Some x) None h = absurd (cc)
-rank_itself (Some x) (Some y) h = eq-eqb x y (cc)
-
 module _ (g : PlainGraph) (nodes : List ℕ) (node : ℕ) (rank : Option ℕ) (inside : node < length g.nodes) (are : AreNodesAt g (place_of g node) nodes) (is : rank ≡ rank_at g node) where
   pub nodes_inside : All (λ n. n < length g.nodes) nodes
   nodes_inside k d lt = (are.only (slice_index_or nodes k d) (among_get nodes k d lt)).0
 
   itself : has_rank g rank node ≡ true
-  itself = rank_itself (rank_at g node) rank (sym is)
+  itself = is-option_eq (rank_at g node) rank (sym is)
 
   pub found_same : (f : ℕ) → find (has_rank g rank) nodes ≡ Some f → (f ≤ node) × AreSame g f node × ((m : ℕ) → AreSame g m node → f ≤ m)
   found_same f h =
       let r = found_first (has_rank g rank) nodes f are.ascend h in
       let le = r.2 node (are.listed node inside refl) itself in (
         le,
-        record { place = (are.only f r.0).1; rank = same_rank (rank_at g f) rank r.1 ∙ is },
+        record { place = (are.only f r.0).1; rank = option_eq-is (rank_at g f) rank r.1 ∙ is },
         λ m same. elim (cases_lt m (length g.nodes)) [
-          | inl less ↦ r.2 m (are.listed m less same.place) (rank_itself (rank_at g m) rank (same.rank ∙ sym is))
+          | inl less ↦ r.2 m (are.listed m less same.place) (is-option_eq (rank_at g m) rank (same.rank ∙ sym is))
           | inr ge ↦ omega (arith, le, inside, ge)
         ],
       )

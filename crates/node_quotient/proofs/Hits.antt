@@ -7,12 +7,12 @@ use Rattle.graph_base.specs.Refuting.{HasSingleSteps}
 use Rattle.graph_base.specs.Runs.{has_step, place_of, rank_at}
 use Rattle.graph_base.proofs.StartsAndSteps.{step_nodes}
 use Rattle.reach_prune.specs.Searches.{AreLists, is_among, is_listed}
+use Rattle.reach_prune.proofs.Among.{member_passes, passing_member}
 use Rattle.node_quotient.specs.Alike.{class_in, list_of}
 use Rattle.node_quotient.specs.Quotient.{AreJoined}
 use Rattle.node_quotient.specs.Rounds.{AreClasses}
 use Rattle.node_quotient.specs.Splits.{AreGroups, AreNamed, AreSplit, is_hit}
 use Rattle.node_quotient.proofs.Least.{joined_steps, joined_sym}
-use Rattle.node_quotient.proofs.Like.{any_of, any_parts}
 use Rattle.node_quotient.proofs.Turns.{among_get}
 
 -- where no other node was marked, those that are marked now are these, and none is once their marks are taken away
@@ -29,19 +29,19 @@ pub hits_below : (before : List (List ℕ)) (nodes all list : List ℕ) → AreL
 hits_below before nodes all list are h e k d lt =
     let x = slice_index_or list k d in
     let there : is_among all x ≡ true = ap (λ xs. is_among xs x) (sym e) ∙ among_get list k d lt in
-    let t = any_parts (λ s. is_listed before s x) nodes (sym (h x) ∙ there) in
+    let t = passing_member (λ s. is_listed before s x) nodes (sym (h x) ∙ there) in
     are t.0 x t.2
 
 module _ (g : PlainGraph) (ok : IsGraph g) (single : HasSingleSteps g) (before : List (List ℕ)) (steps : (a b : ℕ) → is_listed before a b ≡ has_step g b a)
     (classes : List ℕ) (members : List (List ℕ)) (groups : AreGroups (length g.nodes) classes members) (are : AreClasses g (class_in classes)) where
   joined_hit : (c m n : ℕ) → AreJoined g m n → is_hit before (list_of members c) n ≡ true → is_hit before (list_of members c) m ≡ true
   joined_hit c m n h there =
-      let t = any_parts (λ s. is_listed before s n) (list_of members c) there in
+      let t = passing_member (λ s. is_listed before s n) (list_of members c) there in
       let from = groups.only c t.0 t.1 in
       let step = joined_steps g single m n t.0 h (sym (steps t.0 n) ∙ t.2) in
       let node = (step_nodes g m step.0 ok step.1).1 in
       let class : class_in classes step.0 ≡ c = are.coarse step.0 t.0 node from.0 step.2 ∙ from.1 in
-      any_of (λ s. is_listed before s m) (list_of members c) step.0 (subst (λ k. is_listed members k step.0 ≡ true) class (groups.listed step.0 node)) (steps step.0 m ∙ step.1)
+      member_passes (λ s. is_listed before s m) (list_of members c) step.0 (subst (λ k. is_listed members k step.0 ≡ true) class (groups.listed step.0 node)) (steps step.0 m ∙ step.1)
 
   joined_hits : (c m n : ℕ) → AreJoined g m n → is_hit before (list_of members c) m ≡ is_hit before (list_of members c) n
   joined_hits c m n h = same_tests _ _ (joined_hit c n m (joined_sym g m n h)) (joined_hit c m n h)

@@ -1,6 +1,7 @@
 -- Nodes that are joined, and the least ones among them.
 use Rattle.std.proofs.Common.{◌≡◌, ℕ, ◌<◌, ◌≤◌, true, List, [], ◌∷◌, ◌++◌, length, option_map, option_and_then, Option, Some, None, refl, sym, ap, ◌∙◌, arith}
 use Rattle.std.proofs.lemmas.Bool.{eq-eqb, eqb-true}
+use Rattle.std.proofs.lemmas.Option.{same_Some}
 use Rattle.graph_base.specs.Refuting.{HasSingleSteps}
 use Rattle.graph_base.specs.Graphs.{PlainGraph}
 use Rattle.graph_base.specs.Runs.{place_of, rank_at, has_step, step_at}
@@ -18,15 +19,8 @@ module _ (g : PlainGraph) where
   pub joined_trans : (a b c : ℕ) → AreJoined g a b → AreJoined g b c → AreJoined g a c
   joined_trans a b c h k = record { place = h.place ∙ k.place; ends = λ path. h.ends path ∙ k.ends path }
 
-  same_some : (i j : Option ℕ) → Some i ≡ Some j → i ≡ j
-  same_some i j e = ap unwrapped e
-    where
-      unwrapped : Option (Option ℕ) → Option ℕ
-      unwrapped None = None
-      unwrapped (Some o) = o
-
   pub joined_rank : (m n : ℕ) → AreJoined g m n → rank_at g m ≡ rank_at g n
-  joined_rank m n h = same_some (rank_at g m) (rank_at g n) (h.ends [])
+  joined_rank m n h = same_Some (rank_at g m) (rank_at g n) (h.ends [])
 
   -- what is followed from where a step leads is followed from before it
   pub follow_on : (n l b : ℕ) → step_at g n l ≡ Some b → (path : List ℕ) → follow g n (path ++ l ∷ []) ≡ follow g b path

@@ -1,23 +1,10 @@
 -- What the test of two nodes says.
-use Rattle.std.proofs.Common.{◌≡◌, ℕ, suc, Bool, true, false, not, ◌&&◌, ◌==◌, List, [], ◌∷◌, length, refl, sym, ap, ◌∙◌, inl, inr}
+use Rattle.std.proofs.Common.{◌≡◌, ℕ, suc, true, false, not, ◌&&◌, ◌==◌, List, [], ◌∷◌, length, refl, sym, ap, ◌∙◌, inl, inr}
 use Rattle.std.specs.List.{list_any}
 use Rattle.std.proofs.lemmas.Bool.{and_parts, and_from, cases_Bool, or_cases, or_left, or_right, not-true, not_from_false, both_ways, eq-eqb, eqb-true, false_from_ne_true}
 use Rattle.reach_prune.specs.Searches.{is_among}
+use Rattle.reach_prune.proofs.Among.{member_passes, passing_member}
 use Rattle.node_quotient.specs.Alike.{class_in, list_of, has_class, lacks_class, are_alike, are_in_step}
-
-pub any_parts : (p : ℕ → Bool) (xs : List ℕ) → list_any p xs ≡ true → (x : ℕ) × (is_among xs x ≡ true) × (p x ≡ true)
-any_parts p [] h = absurd (cc)
-any_parts p (y ∷ ys) h = elim (or_cases (p y) (list_any p ys) h) [
-  | inl t ↦ (y, or_left (y == y) (list_any (λ z. z == y) ys) (eq-eqb y y refl), t)
-  | inr t ↦ let r = any_parts p ys t in (r.0, or_right (y == r.0) (list_any (λ z. z == r.0) ys) r.1, r.2)
-]
-
-pub any_of : (p : ℕ → Bool) (xs : List ℕ) (x : ℕ) → is_among xs x ≡ true → p x ≡ true → list_any p xs ≡ true
-any_of p [] x h t = absurd (cc)
-any_of p (y ∷ ys) x h t = elim (or_cases (y == x) (list_any (λ z. z == x) ys) h) [
-  | inl e ↦ or_left (p y) (list_any p ys) (ap p (eqb-true y x e) ∙ t)
-  | inr r ↦ or_right (p y) (list_any p ys) (any_of p ys x r t)
-]
 
 -- of one class, and each steps to the classes to which the other does
 pub record Like (lists : List (List ℕ)) (least : List ℕ) (m n : ℕ) : Type 0 where
@@ -27,15 +14,15 @@ pub record Like (lists : List (List ℕ)) (least : List ℕ) (m n : ℕ) : Type 
 
 none_lacked : (least xs ys : List ℕ) → lacks_class least xs ys ≡ false → (a : ℕ) → is_among xs a ≡ true → (b : ℕ) × (is_among ys b ≡ true) × (class_in least a ≡ class_in least b)
 none_lacked least xs ys h a there = elim (cases_Bool (has_class least ys (class_in least a))) [
-  | inl t ↦ let r = any_parts (λ n. class_in least n == class_in least a) ys t in (r.0, r.1, sym (eqb-true _ _ r.2))
-  | inr f ↦ absurd (both_ways _ h (any_of (λ n. not (has_class least ys (class_in least n))) xs a there (not_from_false _ f)))
+  | inl t ↦ let r = passing_member (λ n. class_in least n == class_in least a) ys t in (r.0, r.1, sym (eqb-true _ _ r.2))
+  | inr f ↦ absurd (both_ways _ h (member_passes (λ n. not (has_class least ys (class_in least n))) xs a there (not_from_false _ f)))
 ]
 
 lacked_none : (least xs ys : List ℕ) → ((a : ℕ) → is_among xs a ≡ true → (b : ℕ) × (is_among ys b ≡ true) × (class_in least a ≡ class_in least b)) → lacks_class least xs ys ≡ false
 lacked_none least xs ys h = false_from_ne_true _ (λ t.
-    let r = any_parts (λ n. not (has_class least ys (class_in least n))) xs t in
+    let r = passing_member (λ n. not (has_class least ys (class_in least n))) xs t in
     let b = h r.0 r.1 in
-    both_ways _ (not-true _ r.2) (any_of (λ n. class_in least n == class_in least r.0) ys b.0 b.1 (eq-eqb _ _ (sym b.2))))
+    both_ways _ (not-true _ r.2) (member_passes (λ n. class_in least n == class_in least r.0) ys b.0 b.1 (eq-eqb _ _ (sym b.2))))
 
 pub like_from : (lists : List (List ℕ)) (least : List ℕ) (m n : ℕ) → are_alike lists least m n ≡ true → Like lists least m n
 like_from lists least m n h =

@@ -4,6 +4,7 @@ use Rattle.std.proofs.lemmas.Bool.{cases_eq, eq-eqb, ne_eqb}
 use Rattle.std.proofs.lemmas.Bool.Decides.{nat_tests}
 use Rattle.std.proofs.lemmas.List.{get_or-set_same, get_or-set_other}
 use Rattle.std.proofs.lemmas.List.Folds.{list_any-append}
+use Rattle.std.proofs.Math.Bool.{and-false, or-false}
 use Rattle.graph_base.specs.Graphs.{PlainGraph}
 use Rattle.graph_base.specs.Runs.{place_of}
 use Rattle.graph_base.specs.Preferences.{number_in}
@@ -13,13 +14,9 @@ use Rattle.number_check.specs.declared.runs.Numbered.{Numbered}
 -- a node more that isn't meant
 pub further : (n node : ℕ) (q : Bool) → (n ≡ node → q ≡ false) → (ltb n node && q) ≡ (ltb n (node + 1) && q)
 further n node q apart = elim (cases_eq n node) [
-  | inl e ↦ rw (apart e) (and_false _ ∙ sym (and_false _))
+  | inl e ↦ rw (apart e) (and-false _ ∙ sym (and-false _))
   | inr ne ↦ ap (λ b. b && q) (grind (arith, nat_tests))
 ]
-  where
-    and_false : (b : Bool) → (b && false) ≡ false
-    and_false true = refl
-    and_false false = refl
 
 -- a node more that is meant
 pub one_more : (n node : ℕ) (q e : Bool) → (n ≡ node → q ≡ e) → (n ≢ node → e ≡ false) → ((ltb n node && q) || e) ≡ (ltb n (node + 1) && q)
@@ -30,21 +27,12 @@ one_more n node q e same apart = elim (cases_eq n node) [
       rw (off, on, same t) refl)
   | inr t ↦ (
       let alike : ltb n node ≡ ltb n (node + 1) = grind (arith, nat_tests) in
-      rw (apart t, alike) (or_false _))
+      rw (apart t, alike) (or-false _))
 ]
-  where
-    or_false : (b : Bool) → (b || false) ≡ b
-    or_false true = refl
-    or_false false = refl
 
 -- a list with one node more
 has_node-push : (run : List Numbered) (x : Numbered) (n number : ℕ) → has_node (run ++ x ∷ []) n number ≡ (has_node run n number || is_entry n number x)
-has_node-push run x n number = list_any-append (is_entry n number) run (x ∷ []) ∙ or_last (has_node run n number) (is_entry n number x)
-  where
-    or_last : (a b : Bool) → (a || (b || false)) ≡ (a || b)
-    or_last true b = refl
-    or_last false true = refl
-    or_last false false = refl
+has_node-push run x n number = list_any-append (is_entry n number) run (x ∷ []) ∙ ap (λ b. has_node run n number || b) (or-false (is_entry n number x))
 
 -- the nodes below a bound, by location
 abbrev pub HasNodesBelow : PlainGraph → List ℕ → ℕ → ℕ → List (List Numbered) → Type 0

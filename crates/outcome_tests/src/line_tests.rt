@@ -32,7 +32,7 @@ fn wrong_class(config: &Config) -> Option<usize> {
 #[test]
 fn classes_go_by_first_match(rt: HostRuntime) {
     let config = config_of(&rt, rt.alloc(), TWO_CLASSES);
-    assert!(rt; wrong_class(&config).is_none());
+    assert_eq!(rt; wrong_class(&config), None);
 }
 
 // A class, a router, a neighbour and the value of the router's tag, and the value that goes out.
@@ -125,7 +125,7 @@ fn are_own_tags_right(setting: &Setting, named: Prefix, other: Prefix) -> bool {
 fn own_tags_and_exports_by_hand(rt: HostRuntime) {
     let alloc = rt.alloc();
     let setting = set_up(&rt, alloc, entered_row());
-    assert!(rt; wrong_export(alloc, &setting, &EXPORTS).is_none());
+    assert_eq!(rt; wrong_export(alloc, &setting, &EXPORTS), None);
     let other = prefix_of(&rt, b"10.0.2.0/24");
     assert!(rt; are_own_tags_right(&setting, setting.scenario.prefix, other));
 }
@@ -135,7 +135,7 @@ fn imports_by_hand(rt: HostRuntime) {
     let alloc = rt.alloc();
     let setting = set_up(&rt, alloc, exits_row());
     let wrong = wrong_import(alloc, &setting, &IMPORTS).expect(&rt, "memory");
-    assert!(rt; wrong.is_none());
+    assert_eq!(rt; wrong, None);
 }
 
 // Whether a path is another one with a location in front, where there is another one.
@@ -217,7 +217,7 @@ fn a_peer_on_the_path_is_offered_nothing(rt: HostRuntime) {
     let alloc = rt.alloc();
     let setting = set_up(&rt, alloc, exported_row());
     let wrong = wrong_offer_after(alloc, &setting, 0, &[], &LOOPS).expect(&rt, "memory");
-    assert!(rt; wrong.is_none());
+    assert_eq!(rt; wrong, None);
 }
 
 // A neighbour, a router and a route, and whether the one gives it to the other.
@@ -309,7 +309,7 @@ fn routes_that_are_given_by_hand(rt: HostRuntime) {
     let setting = set_up(&rt, alloc, exits_row());
     let routes = outcome(alloc, setting.row.settled, None).expect(&rt, "memory");
     let wrong = wrong_given(alloc, &setting, &routes, &GIVEN).expect(&rt, "memory");
-    assert!(rt; wrong.is_none());
+    assert_eq!(rt; wrong, None);
 }
 
 // The first path and the first pair of locations that are told wrongly.
@@ -329,6 +329,6 @@ fn survivors_by_hand(rt: HostRuntime) {
     let alloc = rt.alloc();
     let setting = set_up(&rt, alloc, exits_row());
     let (path, link) = wrong_failures(alloc, &setting).expect(&rt, "memory");
-    assert!(rt; path.is_none(), "paths");
-    assert!(rt; link.is_none(), "links");
+    assert_eq!(rt; path, None, "paths");
+    assert_eq!(rt; link, None, "links");
 }

@@ -9,9 +9,10 @@ use Rattle.std.proofs.lemmas.List.{map-append, take_all, get_or-set_same, get_or
 use Rattle.list_laws.proofs.Items.{slice_get_in_front}
 use lib.Pointwise.{pointwise}
 use Rattle.std.proofs.Math.Bool.{beq}
-use Rattle.std.proofs.lemmas.Bool.{eqb-true, ltb-true}
+use Rattle.std.proofs.lemmas.Bool.{ltb-true}
 use Rattle.std.proofs.lemmas.Nat.{div-mul-add}
 use Rattle.std.proofs.Math.ListN.{set, length-set}
+use Rattle.std.proofs.lemmas.Slice.Eq.{bytes_eq-Decides}
 use Rattle.indexmap.specs.IndexSet.{insert_key}
 use Rattle.net_base.specs.declared.loc.LocSet.{LocSet}
 use Rattle.net_base.specs.Sets.{holds}
@@ -116,14 +117,6 @@ or_false : (a b : Bool) → a ≡ false → (a || b) ≡ true → b ≡ true
 or_false true b e h = cc
 or_false false b e h = h
 
-pub words_same : (xs ys : List ℕ) → pointwise eqb xs ys ≡ true → xs ≡ ys
-words_same [] [] h = refl
-words_same [] (y ∷ ys) h = cc
-words_same (x ∷ xs) [] h = cc
-words_same (x ∷ xs) (y ∷ ys) h =
-    let u = and_parts (eqb x y) (pointwise eqb xs ys) h in
-    ap (λ l. x ∷ l) (words_same xs ys u.1) ∙ ap (λ z. z ∷ ys) (eqb-true x y u.0)
-
 abbrev pub same_words : LocSet → LocSet → Bool
 same_words s t = pointwise eqb s.words t.words
 
@@ -135,7 +128,7 @@ passed p s (t ∷ ks) h k = by (same_words s t) refl (λ q. passed p s ks q u.1)
     u = and_parts (p t) (list_all p ks) k
 
     by : (b : Bool) → same_words s t ≡ b → (list_any (same_words s) ks ≡ true → p s ≡ true) → p s ≡ true
-    by true e rest = ap (λ (w : List ℕ). p (record { words = w })) (words_same s.words t.words e) ∙ u.0
+    by true e rest = ap (λ (w : List ℕ). p (record { words = w })) ((bytes_eq-Decides s.words t.words).0 e) ∙ u.0
     by false e rest = rest (or_false (same_words s t) (list_any (same_words s) ks) e h)
 
 pub inserted_passes : (p : LocSet → Bool) (ks new : List LocSet) (s : LocSet) → new ≡ insert_key same_words ks s → list_all p new ≡ true → (list_all p ks ≡ true) × (p s ≡ true)

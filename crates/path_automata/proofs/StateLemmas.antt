@@ -7,6 +7,7 @@ use Rattle.std.proofs.lemmas.Option.{get_or_from_slice_get, slice_get-get_or, sl
 use Rattle.std.proofs.lemmas.List.{append-nil}
 use Rattle.std.proofs.lemmas.List.Elements.{All-append}
 use Rattle.std.proofs.lemmas.Map.Keys.{apart_from_distinct}
+use Rattle.std.proofs.lemmas.Slice.Eq.{bytes_eq-Decides}
 use lib.Pointwise.{pointwise}
 use Rattle.indexmap.specs.IndexSet.{insert_key}
 use Rattle.path_exprs.specs.Expression.{Expression}
@@ -17,7 +18,7 @@ use Rattle.path_automata.specs.declared.facts.Facts.{Facts}
 use Rattle.path_automata.specs.Found.{states_in, facts_of, AreFacts}
 use Rattle.path_automata.specs.Memo.{NoTwice}
 use Rattle.path_automata.specs.States.{Extends}
-use Rattle.path_automata.proofs.ClassLemmas.{get-push, mapped-inserted, words_same}
+use Rattle.path_automata.proofs.ClassLemmas.{get-push, mapped-inserted}
 use Rattle.path_automata.proofs.MemoLemmas.{Grown, only}
 
 abbrev pub Key : Type 0
@@ -72,7 +73,7 @@ pub state-get : (vs : List Expression) (ks : List Key) (i : ℕ) (k : Key) → s
 state-get vs ks i k h = slice_get-map (λ v. map (at vs) v.items) ks i ∙ ap (option_map (λ v. map (at vs) v.items)) h
 
 pub state-stored : (vs : List Expression) (ks : List Key) (i : ℕ) (k v : Key) → slice_get ks i ≡ Some k → same v k ≡ true → slice_get (states_in vs ks) i ≡ Some (map (at vs) v.items)
-state-stored vs ks i k v h e = state-get vs ks i k h ∙ ap (λ l. Some (map (at vs) l)) (sym (words_same v.items k.items e))
+state-stored vs ks i k v h e = state-get vs ks i k h ∙ ap (λ l. Some (map (at vs) l)) (sym ((bytes_eq-Decides v.items k.items).0 e))
 
 -- one more state
 pub grown-insert_key : (old new : List Expression) (ks more : List Key) (k : Key) → terms.Extends old new → All (IsKnown old) ks → more ≡ insert_key same ks k

@@ -4,3 +4,4 @@ pub mod Growth
 pub mod Sequences
 pub mod Members
 pub mod Intersections
+pub mod Joins

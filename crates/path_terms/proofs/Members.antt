@@ -1,26 +1,25 @@
 -- Members of alternations: what they are sorted to depends on which they are alone.
-use Rattle.std.proofs.Common.{◌≡◌, ℕ, zero, suc, ◌<◌, ◌≤◌, Bool, true, false, cond, List, [], ◌∷◌, ◌++◌, ◌⊎◌, inl, inr, ⊎_elim, map, length, get_or, drop, ◌+◌, refl, sym, ap, subst, ◌∙◌, arith, append_assoc, Vec, Global}
+use Rattle.std.proofs.Common.{◌≡◌, ℕ, zero, suc, ◌<◌, ◌≤◌, Bool, true, false, List, [], ◌∷◌, ◌++◌, ◌⊎◌, inl, inr, ⊎_elim, map, length, get_or, ◌+◌, refl, sym, ap, subst, ◌∙◌, arith, append_assoc, Vec, Global}
 use Rattle.std.specs.Prelude.{◌&&◌, ◌||◌, nat_lt, slice_index_or}
 use Rattle.path_exprs.specs.Membership.{member, some_member, each_member}
-use Rattle.std.specs.List.{list_all, list_any, flat_map, Contains, dedup, AllByRecursion}
+use Rattle.std.specs.List.{list_all, list_any, Contains, dedup, AllByRecursion}
 use Rattle.std.specs.List.Sorted.{IsStrictlySortedBy, IsSorted, IsPermutation}
 use Rattle.std.specs.Ordering.{nat_cmp, eq_by_cmp, is_eq}
 use Rattle.std.specs.declared.cmp.Ordering.{Ordering}
 use Rattle.std.specs.declared.cmp.Ordering.TheVariants.{Less, Equal, Greater}
 use Rattle.std.proofs.lemmas.Bool.{and_parts, and_from, lt-ltb, ne_eqb, eq-eqb, false≢true, or_cases, or_left, or_right}
 use Rattle.std.proofs.lemmas.Cmp.{ranked, nat_cmp_total}
-use Rattle.std.proofs.lemmas.List.{append-nil, map-append, drop_more}
+use Rattle.std.proofs.lemmas.List.{append-nil, map-append}
 use Rattle.std.proofs.lemmas.List.Kept.{IsStrictlySortedBy-dedup, Contains-dedup_nat, Contains-from_dedup}
 use Rattle.std.proofs.lemmas.List.Sorted.{Contains-permutation, IsPermutation-sym}
 use Rattle.path_exprs.specs.Expression.{Expression, never, either, both, expressions_of}
-use Rattle.path_exprs.specs.Normal.{sorted, all, is_all, either_parts, either_from, either_of}
+use Rattle.path_exprs.specs.Normal.{sorted, either_parts}
 use Rattle.list_laws.proofs.Truth.{same_tests}
 use Rattle.path_law.proofs.Sorting.{In, same_members, ascends-sorted}
 use Rattle.path_terms.specs.declared.term.Term.{Term}
 use Rattle.path_terms.specs.declared.term.Term.TheVariants.{Never, Empty, Set, Seq, Either, Both, Not, Star}
-use Rattle.path_terms.specs.Terms.{at, node, ascending, are_known, AreApart, Among, IsSettled}
+use Rattle.path_terms.specs.Terms.{at, node, ascending, are_known, Among, IsSettled}
 use Rattle.path_terms.proofs.Numbers.{lt_from, among-all, In-map, map-In, In-sorted, sorted-In}
-use Rattle.path_exprs.proofs.Lists.{list_of-expressions_of}
 use lib.Dec.{eqb}
 
 pub sorted-same : (es fs : List Expression) → ((g : Expression) → In g es → In g fs) → ((g : Expression) → In g fs → In g es) → sorted es ≡ sorted fs
@@ -52,13 +51,6 @@ sorted-append es es' fs fs' p q =
 
 pub add-nothing : (es : List Expression) (e : Expression) → e ≡ never → sorted es ≡ sorted (es ++ either_parts e)
 add-nothing es e q = ap sorted (sym (append-nil es) ∙ ap (λ x. es ++ either_parts x) (sym q))
-
-pub add-members : (vs : List Expression) (ns ms : List ℕ) (e : Expression) → e ≡ either (expressions_of (sorted (map (at vs) ms)))
-    → sorted (map (at vs) (ns ++ ms)) ≡ sorted (map (at vs) ns ++ either_parts e)
-add-members vs ns ms e q =
-    ap sorted (map-append (at vs) ns ms)
-    ∙ sorted-append (map (at vs) ns) (map (at vs) ns) (map (at vs) ms) (sorted (map (at vs) ms)) refl (sym (sorted-sorted (map (at vs) ms)))
-    ∙ ap (λ l. sorted (map (at vs) ns ++ l)) (sym (list_of-expressions_of (sorted (map (at vs) ms))) ∙ ap either_parts (sym q))
 
 parts-default : (vs : List Expression) (t : Term) → (t ≡ Never → ⊥) → ((v : Vec ℕ Global) → t ≡ Either v → ⊥) → either_parts (node vs t) ≡ node vs t ∷ []
 parts-default vs Never h k = absurd (h refl)
@@ -134,7 +126,7 @@ all-among p (m ∷ ms) h = and_from (p m) (list_all p ms) (h m (inl refl)) (all-
 pub known-settled : (k : ℕ) (old new : List ℕ) → IsSettled old new → are_known k old ≡ true → are_known k new ≡ true
 known-settled k old new s h = all-among (λ n. nat_lt n k) new (λ n i. among-all (λ m. nat_lt m k) n old h (s.2 n i))
 
--- one member is All
+-- a member that passes a test
 
 any-In : (p : Expression → Bool) (es : List Expression) → list_any p es ≡ true → (g : Expression) × In g es × (p g ≡ true)
 any-In p [] h = absurd (false≢true h)
@@ -150,60 +142,9 @@ any-sorted p es =
     (λ h. let r = any-In p es h in In-any p r.0 (sorted es) (In-sorted r.0 es r.1) r.2)
     (λ h. let r = any-In p (sorted es) h in In-any p r.0 es (sorted-In r.0 es r.1) r.2)
 
--- the whole
-
-two-members : (es : List Expression) (a b : Expression) → In a es → In b es → (a ≡ b → ⊥) → either_from es ≡ either (expressions_of es)
-two-members [] a b i j h = absurd i
-two-members (e ∷ []) a b i j h = absurd (⊎_elim (λ p. ⊎_elim (λ q. h (p ∙ sym q)) (λ n. n) j) (λ n. n) i)
-two-members (e ∷ f ∷ es) a b i j h = refl
-
-pub either-many : (vs : List Expression) (n m : ℕ) (ns : List ℕ) → AreApart vs → are_known (length vs) (n ∷ m ∷ ns) ≡ true → ascending (n ∷ m ∷ ns) ≡ true
-    → either (expressions_of (sorted (map (at vs) (n ∷ m ∷ ns)))) ≡ either_from (sorted (map (at vs) (n ∷ m ∷ ns)))
-either-many vs n m ns apart h s =
-    let u = and_parts (nat_lt n (length vs)) (are_known (length vs) (m ∷ ns)) h in
-    let v = and_parts (nat_lt m (length vs)) (are_known (length vs) ns) u.1 in
-    let w = and_parts (list_all (λ k. nat_lt n k) (m ∷ ns)) (ascending (m ∷ ns)) s in
-    let x = and_parts (nat_lt n m) (list_all (λ k. nat_lt n k) ns) w.0 in
-    let es = map (at vs) (n ∷ m ∷ ns) in
-    sym (two-members (sorted es) (at vs n) (at vs m) (In-sorted (at vs n) es (inl refl)) (In-sorted (at vs m) es (inr (inl refl)))
-    (λ q. let lt = lt_from n m x.0 in let same = apart n m (lt_from n (length vs) u.0) (lt_from m (length vs) v.0) q in absurd (omega (arith, lt, same))))
-
-pub either-all : (es fs : List Expression) → sorted fs ≡ sorted (flat_map either_parts es) → list_any is_all fs ≡ true → all ≡ either_of es
-either-all es fs q h =
-    let there : list_any is_all (sorted (flat_map either_parts es)) ≡ true = sym (ap (list_any is_all) q) ∙ sym (any-sorted is_all fs) ∙ h in
-    sym (ap (λ b. cond b all (either_from (sorted (flat_map either_parts es)))) there)
-
-pub either-else : (es fs : List Expression) → sorted fs ≡ sorted (flat_map either_parts es) → list_any is_all fs ≡ false → either_from (sorted fs) ≡ either_of es
-either-else es fs q h =
-    let there : list_any is_all (sorted (flat_map either_parts es)) ≡ false = sym (ap (list_any is_all) q) ∙ sym (any-sorted is_all fs) ∙ h in
-    ap either_from q ∙ sym (ap (λ b. cond b all (either_from (sorted (flat_map either_parts es)))) there)
-
-pub either-none : (vs : List Expression) (ns : List ℕ) → length ns < 1 → never ≡ either_from (sorted (map (at vs) ns))
-either-none vs [] h = refl
-either-none vs (n ∷ ns) h = absurd (omega (arith, h))
-
-pub either-one : (vs : List Expression) (ns : List ℕ) → 1 ≤ length ns → length ns < 2 → at vs (slice_index_or ns 0 0) ≡ either_from (sorted (map (at vs) ns))
-either-one vs [] g h = absurd (omega (arith, g))
-either-one vs (n ∷ []) g h = refl
-either-one vs (n ∷ m ∷ ns) g h = absurd (omega (arith, h))
-
 pub known-first : (k : ℕ) (ns : List ℕ) → 1 ≤ length ns → are_known k ns ≡ true → slice_index_or ns 0 0 < k
 known-first k [] g h = absurd (omega (arith, g))
 known-first k (n ∷ ns) g h = lt_from n k (and_parts (nat_lt n k) (are_known k ns) h).0
-
-pub either-long : (vs : List Expression) (ns : List ℕ) → AreApart vs → 2 ≤ length ns → are_known (length vs) ns ≡ true → ascending ns ≡ true
-    → either (expressions_of (sorted (map (at vs) ns))) ≡ either_from (sorted (map (at vs) ns))
-either-long vs [] apart g h s = absurd (omega (arith, g))
-either-long vs (n ∷ []) apart g h s = absurd (omega (arith, g))
-either-long vs (n ∷ m ∷ ns) apart g h s = either-many vs n m ns apart h s
-
-pub flat-turn : (vs : List Expression) (ns ms new : List ℕ) (i d : ℕ) (whole : List Expression) → i < length ms
-    → whole ≡ sorted (map (at vs) ns ++ flat_map either_parts (map (at vs) (drop i ms)))
-    → sorted (map (at vs) new) ≡ sorted (map (at vs) ns ++ either_parts (at vs (get_or ms i d)))
-    → whole ≡ sorted (map (at vs) new ++ flat_map either_parts (map (at vs) (drop (i + 1) ms)))
-flat-turn vs ns ms new i d whole lt q r =
-    q ∙ ap (λ l. sorted (map (at vs) ns ++ flat_map either_parts (map (at vs) l))) (drop_more ms i d lt)
-    ∙ flat-step (map (at vs) ns) (map (at vs) new) (either_parts (at vs (get_or ms i d))) (flat_map either_parts (map (at vs) (drop (i + 1) ms))) r
 
 -- the empty list in an alternation and in an intersection
 

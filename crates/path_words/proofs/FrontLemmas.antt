@@ -6,6 +6,7 @@ use Rattle.std.proofs.lemmas.Bool.{cases_Bool, le-leb, le-ltb, leb-true, eqb-tru
 use Rattle.std.proofs.Math.Bool.{and-true, and-false, and-or_distrib_left}
 use Rattle.list_laws.proofs.Truth.{or_or_or_comm, if_same}
 use Rattle.list_laws.proofs.Numbers.{nat_lt_more, eqb_comm}
+use Rattle.list_laws.proofs.Tests.{list_any-never, list_any-same}
 use Rattle.net_base.specs.Prefixes.{PlainPrefix, PlainPattern, contains}
 use Rattle.path_words.specs.Policies.{PlainStatement}
 use Rattle.path_words.specs.Governing.{some_contains, governing_from}
@@ -85,14 +86,6 @@ list_any-or : {A : Type 0} (p q : A → Bool) (xs : List A) → list_any (λ x. 
 list_any-or p q [] = refl
 list_any-or p q (x ∷ xs) = ap (λ b. (p x || q x) || b) (list_any-or p q xs) ∙ or_or_or_comm (p x) (q x) (list_any p xs) (list_any q xs)
 
-list_any-same : {A : Type 0} (p q : A → Bool) → ((x : A) → p x ≡ q x) → (xs : List A) → list_any p xs ≡ list_any q xs
-list_any-same p q same [] = refl
-list_any-same p q same (x ∷ xs) = ap (λ b. b || list_any p xs) (same x) ∙ ap (λ b. q x || b) (list_any-same p q same xs)
-
-list_any-never : {A : Type 0} (xs : List A) → list_any (λ _. false) xs ≡ false
-list_any-never [] = refl
-list_any-never (x ∷ xs) = list_any-never xs
-
 -- a pattern with a base of less than k bits contains the prefix
 contains_below : ℕ → PlainPrefix → PlainPattern → Bool
 contains_below k p t = contains t p && nat_lt t.base.len k
@@ -147,7 +140,7 @@ least_number-shorter : (numbers : Front → Option ℕ) (ss : List PlainStatemen
     → least_number numbers p k ≡ first_number (λ s. list_any (contains_below k p) s.patterns) ss 1
 least_number-shorter numbers ss p noted zero =
     sym (first_number-alike (λ s. list_any (contains_below zero p) s.patterns) (λ _. false)
-    (λ s. list_any-same (contains_below zero p) (λ _. false) (contains_below-none p) s.patterns ∙ list_any-never s.patterns) ss 1 ∙ first_number-none ss 1)
+    (λ s. list_any-never (contains_below zero p) (contains_below-none p) s.patterns) ss 1 ∙ first_number-none ss 1)
 least_number-shorter numbers ss p noted (suc k) =
     ap (λ o. least o (numbers (front_of p k))) (least_number-shorter numbers ss p noted k)
     ∙ ap (λ o. least (first_number (λ s. list_any (contains_below k p) s.patterns) ss 1) o) (noted (front_of p k) ∙ first_number-front (front_of p k) ss 1)

@@ -5,9 +5,10 @@ use Rattle.std.specs.List.{AllByRecursion}
 use Rattle.std.proofs.lemmas.Nat.{shr_split, shl-shr}
 use Rattle.std.proofs.Math.Nat.{mul-mod_left, div-mul-le_self}
 use Rattle.net_base.specs.Prefixes.{PlainPrefix, PlainPattern, IsPrefix, IsPattern, is_inside}
+use Rattle.net_base.proofs.PrefixLemmas.{fewer_bits}
 use Rattle.pattern_cover.specs.Covered.{depth_at, exact_at}
 use Rattle.pattern_cover.specs.Tables.{cut_at}
-use Rattle.pattern_cover.proofs.Decision.{inside_whole, fewer}
+use Rattle.pattern_cover.proofs.Decision.{inside_whole}
 use Rattle.pattern_cover.proofs.Tables.{depth_at-next}
 
 pub cut_at-IsPrefix : (p : PlainPrefix) (k : ℕ) → p.bits < 2 ^ 32 → k ≤ 32 → IsPrefix (cut_at p k)
@@ -20,9 +21,9 @@ cut_at-IsPrefix p k wide most = record {
 cut_inside : (p : PlainPrefix) (k : ℕ) → k + 1 ≤ 32 → is_inside (cut_at p k) (cut_at p (k + 1)) ≡ true
 cut_inside p k below = inside_whole (cut_at p k) (cut_at p (k + 1)) (record {
   least = omega arith;
-  agree = fewer (p.bits / 2 ^ (32 - (k + 1)) * 2 ^ (32 - (k + 1))) k (k + 1) (omega arith) below
+  agree = fewer_bits (p.bits / 2 ^ (32 - (k + 1)) * 2 ^ (32 - (k + 1))) k (k + 1) (omega arith) below
       ∙ ap (λ n. n / 2 ^ (k + 1 - k)) (shl-shr (p.bits / 2 ^ (32 - (k + 1))) (32 - (k + 1)))
-      ∙ sym (fewer p.bits k (k + 1) (omega arith) below)
+      ∙ sym (fewer_bits p.bits k (k + 1) (omega arith) below)
       ∙ sym (shl-shr (p.bits / 2 ^ (32 - k)) (32 - k));
 })
 

@@ -3,9 +3,9 @@ use Rattle.std.proofs.Common.{◌≡◌, ℕ, zero, suc, ◌+◌, ◌-◌, ◌/�
 use Rattle.std.specs.Prelude.{◌↔◌, ◌⊎◌, IsTrue, ◌&&◌, nat_le, nat_lt, max, if◌then◌else◌}
 use Rattle.std.proofs.lemmas.Bool.{eqb-true, ltb-true, leb-true, le-leb, lt-ltb, eq-eqb, and_parts, and_from, or_cases, or_left, or_right, cases_lt, false≢true}
 use Rattle.net_base.specs.Prefixes.{PlainPrefix, PlainPattern, IsPrefix, IsPattern, is_inside, contains}
+use Rattle.net_base.proofs.PrefixLemmas.{fewer_bits}
 use Rattle.path_words.specs.Governing.{some_contains}
 use Rattle.pattern_cover.specs.Covered.{IsCovered, depth_at, low_half, high_half, covered_below, covered}
-use Rattle.std.proofs.lemmas.Nat.{shr-shr}
 use Rattle.pattern_cover.proofs.Halves.{low_half-IsPrefix, high_half-IsPrefix, half_around, high_agree}
 
 -- inside, in numbers
@@ -22,18 +22,13 @@ inside_whole a r h = and_from (nat_le a.len r.len) _ (le-leb _ _ h.least) (eq-eq
 pub inside_self : (p : PlainPrefix) → is_inside p p ≡ true
 inside_self p = inside_whole p p (record { least = omega arith; agree = refl })
 
-pub fewer : (n a b : ℕ) → a ≤ b → b ≤ 32 → n / 2 ^ (32 - a) ≡ n / 2 ^ (32 - b) / 2 ^ (b - a)
-fewer n a b le most =
-    let e : (32 - b) + (b - a) ≡ 32 - a = omega arith in
-    sym (shr-shr n (32 - b) (b - a) ∙ ap (λ k. n / 2 ^ k) e)
-
 pub inside_inside : (a p r : PlainPrefix) → p.len ≤ 32 → is_inside a p ≡ true → is_inside p r ≡ true → is_inside a r ≡ true
 inside_inside a p r within ha hp =
     let x = inside_parts a p ha in
     let y = inside_parts p r hp in
     inside_whole a r (record {
       least = omega (arith, x.least, y.least);
-      agree = fewer r.bits a.len p.len x.least within ∙ ap (λ n. n / 2 ^ (p.len - a.len)) y.agree ∙ sym (fewer p.bits a.len p.len x.least within) ∙ x.agree;
+      agree = fewer_bits r.bits a.len p.len x.least within ∙ ap (λ n. n / 2 ^ (p.len - a.len)) y.agree ∙ sym (fewer_bits p.bits a.len p.len x.least within) ∙ x.agree;
     })
 
 max_left : (l a b : ℕ) → l < a → l < max a b

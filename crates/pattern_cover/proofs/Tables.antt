@@ -1,12 +1,13 @@
 -- A base around a prefix is that prefix, or is around the one that is one bit shorter.
-use Rattle.std.proofs.Common.{◌≡◌, ℕ, suc, ◌+◌, ◌-◌, ◌*◌, ◌/◌, ◌%◌, ◌^◌, ◌<◌, ◌≤◌, Bool, true, false, List, [], ◌∷◌, inl, inr, refl, ap, sym, subst, ◌∙◌, ⊎_elim, arith}
+use Rattle.std.proofs.Common.{◌≡◌, ℕ, suc, ◌+◌, ◌-◌, ◌/◌, ◌%◌, ◌^◌, ◌<◌, ◌≤◌, Bool, true, false, List, [], ◌∷◌, inl, inr, refl, ap, sym, subst, ◌∙◌, ⊎_elim, arith}
 use Rattle.std.specs.Prelude.{◌⊎◌, ◌||◌, ◌==◌, max, if◌then◌else◌}
 use Rattle.std.specs.List.{AllByRecursion}
 use Rattle.std.proofs.lemmas.Bool.{eqb-true, eq-eqb, and_parts, and_from, cases_lt, true≢false, false_from_ne_true}
 use Rattle.list_laws.proofs.Numbers.{same_multiple}
 use Rattle.net_base.specs.Prefixes.{PlainPrefix, PlainPattern, IsPrefix, IsPattern, is_inside, same_prefix}
+use Rattle.net_base.proofs.PrefixLemmas.{fewer_bits}
 use Rattle.pattern_cover.specs.Covered.{depth_at, exact_at}
-use Rattle.pattern_cover.proofs.Decision.{Inside, inside_parts, inside_whole, inside_inside, fewer}
+use Rattle.pattern_cover.proofs.Decision.{Inside, inside_parts, inside_whole, inside_inside}
 
 same_from : (a r : PlainPrefix) → IsPrefix a → IsPrefix r → a.len ≡ r.len → Inside a r → same_prefix a r ≡ true
 same_from a r la lr e h =
@@ -30,7 +31,7 @@ around a p r la lr next inside h = by_length (cases_lt p.len a.len)
         let within : p.len ≤ 32 = omega (arith, lr.within, next) in
         inl (inside_whole a p (record {
           least = le;
-          agree = fewer p.bits a.len p.len le within ∙ ap (λ n. n / 2 ^ (p.len - a.len)) (sym y.agree) ∙ sym (fewer r.bits a.len p.len le within) ∙ x.agree;
+          agree = fewer_bits p.bits a.len p.len le within ∙ ap (λ n. n / 2 ^ (p.len - a.len)) (sym y.agree) ∙ sym (fewer_bits r.bits a.len p.len le within) ∙ x.agree;
         }))
 
 around_both : (a p r : PlainPrefix) → IsPrefix a → IsPrefix r → r.len ≡ p.len + 1 → is_inside p r ≡ true → is_inside a r ≡ (is_inside a p || same_prefix a r)

@@ -1,9 +1,9 @@
 -- A statement is covered where its prefixes are in patterns of earlier ones.
-use Rattle.std.proofs.Common.{◌≡◌, ℕ, zero, suc, ◌+◌, ◌<◌, ◌≤◌, true, false, List, [], ◌∷◌, ◌++◌, take, Option, Some, sym, ap, ◌∙◌, inl, inr, arith}
+use Rattle.std.proofs.Common.{◌≡◌, ℕ, zero, suc, ◌+◌, ◌<◌, ◌≤◌, true, false, List, [], ◌∷◌, take, Some, sym, ap, ◌∙◌, inl, inr, arith}
 use Rattle.std.specs.Prelude.{◌↔◌, if◌then◌else◌}
 use Rattle.std.specs.List.{flat_map}
 use Rattle.std.proofs.lemmas.Bool.{cases_Bool, false≢true}
-use Rattle.std.proofs.lemmas.Option.{none-some}
+use Rattle.std.proofs.lemmas.Option.{none-some, same_Some}
 use Rattle.net_base.specs.Prefixes.{PlainPrefix, PlainPattern}
 use Rattle.path_words.specs.Governing.{governing_from, some_contains}
 use Rattle.path_words.specs.Policies.{PlainPolicy, PlainStatement}
@@ -17,9 +17,6 @@ patterns_of s = s.patterns
 -- the patterns of the first k statements
 abbrev first_patterns : List PlainStatement → ℕ → List PlainPattern
 first_patterns ss k = flat_map patterns_of (take k ss)
-
-same_some : (a b : ℕ) → (let o : Option ℕ = Some a in o ≡ Some b) → a ≡ b
-same_some a b h = cc
 
 -- the first statement governs what it contains, and the others the rest
 here : (s : PlainStatement) (ss : List PlainStatement) (p : PlainPrefix) (m : ℕ) → some_contains s.patterns p ≡ true → governing_from (s ∷ ss) p m ≡ Some m
@@ -45,7 +42,7 @@ governed (s ∷ ss) p (suc k) m h = elim (cases_Bool (some_contains s.patterns p
 from_first : (ss : List PlainStatement) (p : PlainPrefix) (m j : ℕ) → governing_from ss p m ≡ Some j → m ≤ j
 from_first [] p m j h = absurd (none-some j h)
 from_first (s ∷ ss) p m j h = elim (cases_Bool (some_contains s.patterns p)) [
-  | inl met ↦ let same = same_some m j (sym (here s ss p m met) ∙ h) in omega (arith, same)
+  | inl met ↦ let same = same_Some m j (sym (here s ss p m met) ∙ h) in omega (arith, same)
   | inr missed ↦ let more = from_first ss p (m + 1) j (sym (later s ss p m missed) ∙ h) in omega (arith, more)
 ]
 

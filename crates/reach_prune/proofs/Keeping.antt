@@ -6,6 +6,7 @@ use Rattle.std.proofs.lemmas.List.Folds.{list_any-append, list_any_at}
 use Rattle.std.specs.List.{slice_get}
 use Rattle.std.specs.Option.{is_some, option_and_then}
 use Rattle.std.proofs.lemmas.Option.{slice_get-get_or, slice_get_past}
+use Rattle.std.proofs.Math.Bool.{or-false}
 use Rattle.graph_base.specs.Graphs.{PlainGraph}
 use Rattle.graph_base.specs.Runs.{rank_at}
 use Rattle.graph_base.specs.declared.graph.Node.{Node}
@@ -24,14 +25,10 @@ pub ranked_yes : (ranked : List ℕ) (test : ℕ → Bool) (i n : ℕ) → is_am
 ranked_yes ranked test i n before here = list_any-append (λ x. eqb x n) ranked (i ∷ []) ∙ ap (λ x. x || (eqb i n || false)) before ∙ elim (cases_order n i) [
   | inl same ↦ rw (same, le-ltb i i (omega arith), eq-eqb i i refl, lt-ltb i (i + 1) (omega arith), here) refl
   | inr other ↦ elim other [
-    | inl less ↦ rw (lt-ltb n i less, ne_eqb i n (λ e. omega arith), lt-ltb n (i + 1) (omega arith)) (or_none (test n))
+    | inl less ↦ rw (lt-ltb n i less, ne_eqb i n (λ e. omega arith), lt-ltb n (i + 1) (omega arith)) (or-false (test n))
     | inr more ↦ rw (le-ltb n i (omega arith), ne_eqb i n (λ e. omega arith), le-ltb n (i + 1) (omega arith)) refl
   ]
 ]
-  where
-    or_none : (x : Bool) → (x || false) ≡ x
-    or_none true = refl
-    or_none false = refl
 
 pub ranked_no : (ranked : List ℕ) (test : ℕ → Bool) (i n : ℕ) → is_among ranked n ≡ (ltb n i && test n) → test i ≡ false → is_among ranked n ≡ (ltb n (i + 1) && test n)
 ranked_no ranked test i n before here = before ∙ elim (cases_order n i) [

@@ -1,4 +1,5 @@
 pub mod Agreeing
+pub mod Among
 pub mod Keeping
 pub mod Listing
 pub mod Renumbering

@@ -1,8 +1,9 @@
 -- Lists of neighbours have the steps of the graph.
-use Rattle.std.proofs.Common.{◌≡◌, ℕ, ◌<◌, ◌≤◌, Bool, true, false, ◌&&◌, eqb, List, [], ◌∷◌, length, take, refl, ap, ◌∙◌, inl, inr, arith}
+use Rattle.std.proofs.Common.{◌≡◌, ℕ, ◌<◌, ◌≤◌, Bool, true, ◌&&◌, eqb, List, [], ◌∷◌, length, take, refl, ap, ◌∙◌, inl, inr, arith}
 use Rattle.std.proofs.lemmas.Bool.{or_cases, and_parts, eqb-true}
 use Rattle.std.proofs.lemmas.List.{take_all}
 use Rattle.std.specs.List.{list_any, AllByRecursion}
+use Rattle.std.proofs.Math.Bool.{and_comm}
 use Rattle.graph_base.specs.Graphs.{PlainGraph, IsGraph}
 use Rattle.reach_prune.specs.declared.steps.Way.{Way}
 use Rattle.reach_prune.specs.declared.steps.Way.TheVariants.{Forward, Backward}
@@ -18,12 +19,6 @@ pub listed_steps : (way : Way) (g : PlainGraph) (lists : List (List ℕ)) (steps
     is_listed lists a b ≡ step_along way g a b
 listed_steps way g lists steps i a b whole done listed = listed ∙ ap (list_any (goes way a b)) (take_all i steps done ∙ whole) ∙ goes_any way
   where
-    and_comm : (x y : Bool) → (x && y) ≡ (y && x)
-    and_comm true true = refl
-    and_comm true false = refl
-    and_comm false true = refl
-    and_comm false false = refl
-
     turned : (steps : List (ℕ × ℕ)) → list_any (goes Backward a b) steps ≡ list_any (λ (s : ℕ × ℕ). eqb s.0 b && eqb s.1 a) steps
     turned [] = refl
     turned (s ∷ ss) = rw (and_comm (eqb s.1 a) (eqb s.0 b), turned ss) refl

@@ -2,6 +2,7 @@
 use Rattle.std.proofs.Common.{◌≡◌, ◌≢◌, ℕ, ◌+◌, ◌<◌, Bool, true, false, cond, not, ◌&&◌, ◌||◌, eqb, List, [], ◌∷◌, ◌++◌, length, refl, sym, ap, ◌∙◌, inl, inr, ◌⊎◌, ◌↔◌, arith, ltb, vec_len}
 use Rattle.std.proofs.lemmas.Bool.{cases_Bool, cases_eq, cases_lt, or_cases, or_left, or_right, and_from, and_parts, not_from_false, not-true, both_ways, eqb-true, eq-eqb, cond-true, cond-false, ltb-true, lt-ltb, le-ltb, ne_eqb}
 use Rattle.std.specs.List.{count_by, range_with_len}
+use Rattle.std.proofs.Math.Bool.{or-false, and-false}
 use Rattle.bit_rows.specs.Tables.{IsSameSize, has_at}
 use Rattle.reach_prune.specs.declared.steps.Way.{Way}
 use Rattle.reach_prune.specs.declared.steps.Way.TheVariants.{Forward, Backward}
@@ -190,7 +191,7 @@ swept_begins way lists place old new lp s count bits rows waiting =
     let node : ℕ = nth way (length lists) place in
     let back : nth way (length lists) node ≡ place = nth_twice way (length lists) place lp in
     let ln : node < length lists = nth_below way (length lists) place lp in
-    let apart : (a b : ℕ) → a < length lists → a ≢ node → has_at new.rows a b ≡ has_at old.rows a b = λ a b la ne. rows a b (omega (arith, s.count)) ∙ ap (λ z. has_at old.rows a b || (z && eqb b node)) (ne_eqb _ _ ne) ∙ or_none (has_at old.rows a b) in
+    let apart : (a b : ℕ) → a < length lists → a ≢ node → has_at new.rows a b ≡ has_at old.rows a b = λ a b la ne. rows a b (omega (arith, s.count)) ∙ ap (λ z. has_at old.rows a b || (z && eqb b node)) (ne_eqb _ _ ne) ∙ or-false (has_at old.rows a b) in
     let own : (b : ℕ) → has_at new.rows node b ≡ eqb b node = λ b. rows node b (omega (arith, s.count)) ∙ ap (λ z. z || (eqb node node && eqb b node)) (s.clear node b ln (omega (arith, back))) ∙ ap (λ z. z && eqb b node) (eq-eqb node node refl) in
     let waits : (n : ℕ) → is_among new.waiting.items n ≡ eqb node n = λ n. waited new.waiting.items old.waiting.items node n waiting ∙ ap (λ l. is_among l n || eqb node n) s.idle in
     record {
@@ -206,10 +207,6 @@ swept_begins way lists place old new lp s count bits rows waiting =
       sound = λ n h. rw (eqb-true n node (sym (own n) ∙ h)) ([], refl);
       closed = λ a b h l. inr (inl (waits a ∙ eq-eqb _ _ (sym (eqb-true a node (sym (own a) ∙ h)))));
     }
-  where
-    or_none : (x : Bool) → (x || false) ≡ x
-    or_none true = refl
-    or_none false = refl
 
 -- ---- what a search does as it comes to a node
 
@@ -219,22 +216,10 @@ module _ (node next : ℕ) (finished : Bool) (old new : Sweep) where
   Comes-found h e = rw e (record {
     size = record { count = refl; bits = refl; width = refl };
     others = λ a b la ne. refl;
-    row = λ b. sym (ap (λ z. has_at old.rows node b || (not z && cond finished (has_at old.rows next b) (eqb b next))) h ∙ or_none (has_at old.rows node b));
-    waiting = λ n. sym (ap (λ z. is_among old.waiting.items n || (not z && (not finished && eqb n next))) h ∙ or_none (is_among old.waiting.items n));
+    row = λ b. sym (ap (λ z. has_at old.rows node b || (not z && cond finished (has_at old.rows next b) (eqb b next))) h ∙ or-false (has_at old.rows node b));
+    waiting = λ n. sym (ap (λ z. is_among old.waiting.items n || (not z && (not finished && eqb n next))) h ∙ or-false (is_among old.waiting.items n));
     left = omega arith;
   })
-    where
-      or_none : (x : Bool) → (x || false) ≡ x
-      or_none true = refl
-      or_none false = refl
-
-  or_no : (x : Bool) → (x || false) ≡ x
-  or_no true = refl
-  or_no false = refl
-
-  and_no : (x : Bool) → (x && false) ≡ false
-  and_no true = refl
-  and_no false = refl
 
   module _ (h : has_at old.rows node next ≡ false) (size : IsSameSize new.rows old.rows) (ln : node < old.rows.count) where
     -- its row is taken over
@@ -242,9 +227,9 @@ module _ (node next : ℕ) (finished : Bool) (old new : Sweep) where
         Comes node next finished old new
     Comes-taken f rows same len = record {
       size = size;
-      others = λ a b la ne. rows a b la ∙ ap (λ z. has_at old.rows a b || (z && has_at old.rows next b)) (ne_eqb _ _ ne) ∙ or_no (has_at old.rows a b);
+      others = λ a b la ne. rows a b la ∙ ap (λ z. has_at old.rows a b || (z && has_at old.rows next b)) (ne_eqb _ _ ne) ∙ or-false (has_at old.rows a b);
       row = row;
-      waiting = λ n. ap (λ l. is_among l n) same ∙ sym (ap (λ z. is_among old.waiting.items n || (not (has_at old.rows node next) && (not z && eqb n next))) f ∙ ap (λ z. is_among old.waiting.items n || z) (and_no (not (has_at old.rows node next))) ∙ or_no (is_among old.waiting.items n));
+      waiting = λ n. ap (λ l. is_among l n) same ∙ sym (ap (λ z. is_among old.waiting.items n || (not (has_at old.rows node next) && (not z && eqb n next))) f ∙ ap (λ z. is_among old.waiting.items n || z) (and-false (not (has_at old.rows node next))) ∙ or-false (is_among old.waiting.items n));
       left =
           let fewer = count_le (λ b. not (has_at new.rows node b)) (λ b. not (has_at old.rows node b)) 0 old.rows.bits (λ b n. kept (has_at old.rows node b) _ (sym (ap not (row b)) ∙ n)) in
           let to = ap (λ k. count_by (λ b. not (has_at new.rows node b)) (range_with_len 0 k)) size.bits in
@@ -264,7 +249,7 @@ module _ (node next : ℕ) (finished : Bool) (old new : Sweep) where
         Comes node next finished old new
     Comes-waits f lx rows pushed len = record {
       size = size;
-      others = λ a b la ne. rows a b la ∙ ap (λ z. has_at old.rows a b || (z && eqb b next)) (ne_eqb _ _ ne) ∙ or_no (has_at old.rows a b);
+      others = λ a b la ne. rows a b la ∙ ap (λ z. has_at old.rows a b || (z && eqb b next)) (ne_eqb _ _ ne) ∙ or-false (has_at old.rows a b);
       row = row;
       waiting = λ n. waited new.waiting.items old.waiting.items next n pushed ∙ ap (λ z. is_among old.waiting.items n || z) (turned n)
           ∙ sym (ap (λ z. is_among old.waiting.items n || (not z && (not finished && eqb n next))) h ∙ ap (λ z. is_among old.waiting.items n || (not z && eqb n next)) f);

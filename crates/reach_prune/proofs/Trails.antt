@@ -16,7 +16,7 @@ pub chain_more : (lists : List (List ℕ)) (a b c : ℕ) (via : List ℕ) → Is
 chain_more lists a b c [] h l = (rw h l, refl)
 chain_more lists a b c (d ∷ ds) h l = (h.0, chain_more lists d b c ds h.1 l)
 
-trail_more : (g : PlainGraph) (a b c : ℕ) (via : List ℕ) → IsTrail g a via b → has_step g b c ≡ true → IsTrail g a (via ++ c ∷ []) c
+pub trail_more : (g : PlainGraph) (a b c : ℕ) (via : List ℕ) → IsTrail g a via b → has_step g b c ≡ true → IsTrail g a (via ++ c ∷ []) c
 trail_more g a b c [] h l = (rw h l, refl)
 trail_more g a b c (d ∷ ds) h l = (h.0, trail_more g d b c ds h.1 l)
 

@@ -1,18 +1,15 @@
 -- Each step of a search keeps what makes its marks right.
-use Rattle.std.proofs.Common.{◌≡◌, ℕ, ◌<◌, Bool, true, false, not, ◌&&◌, ◌||◌, eqb, List, [], ◌∷◌, ◌++◌, length, get_or, refl, sym, ap, ◌∙◌, inl, inr, ◌⊎◌, ◌↔◌, arith, vec_len}
-use Rattle.std.proofs.lemmas.Bool.{cases_Bool, or_cases, or_left, or_right, and_from, and_parts, not_from_false, both_ways, eqb-true, eq-eqb, cases_lt}
-use Rattle.std.proofs.lemmas.List.{get_or_past}
+use Rattle.std.proofs.Common.{◌≡◌, ℕ, ◌<◌, true, not, ◌&&◌, ◌||◌, eqb, List, [], ◌∷◌, ◌++◌, length, get_or, refl, sym, ap, ◌∙◌, inl, inr, ◌⊎◌, ◌↔◌, arith, vec_len}
+use Rattle.std.proofs.lemmas.Bool.{cases_Bool, or_cases, or_left, or_right, and_from, and_parts, not_from_false, both_ways, eqb-true, eq-eqb}
 use Rattle.std.proofs.lemmas.List.Folds.{list_any_at}
 use Rattle.reach_prune.specs.declared.search.Search.{Search}
 use Rattle.reach_prune.proofs.Trails.{chain_more, complete, waited}
 use Rattle.reach_prune.specs.Searches.{is_among, is_marked, is_listed, AreLists, IsReached, Visits}
+use Rattle.reach_prune.proofs.Among.{marked_below}
 
 -- what is listed behind a node that is reached is reached
 reached_more : (lists : List (List ℕ)) (first : List ℕ) (b c : ℕ) → IsReached lists first b → is_listed lists b c ≡ true → IsReached lists first c
 reached_more lists first b c r l = (r.0, r.1, (r.2.0 ++ c ∷ [], chain_more lists r.0 b c r.2.0 r.2.1 l))
-
-marked_below : (marks : List Bool) (n : ℕ) → is_marked marks n ≡ true → n < length marks
-marked_below marks n h = elim (cases_lt n (length marks)) [ inl lt ↦ lt | inr past ↦ absurd (both_ways _ (get_or_past marks n false past) h) ]
 
 -- a search that has come some way: what is marked is reached, and what is next to it is marked where it doesn't wait
 pub record Stage (lists : List (List ℕ)) (first : List ℕ) (s : Search) : Type 0 where

@@ -12,27 +12,8 @@ use Rattle.graph_base.specs.Refuting.{IsLine}
 use Rattle.graph_base.specs.Walks.{IsEnteredFromBefore, shown_walk}
 use Rattle.config_made.specs.Writing.{name_of}
 use Rattle.case_core.specs.declared.refusal.CompileRefusal.{CompileRefusal}
+use Rattle.case_core.specs.Numbered.{number_of, word_of}
 use Rattle.case_core.specs.declared.refusal.CompileRefusal.TheVariants.{TooManyRanks, TooManyStates, TooManySteps, SourceWithoutPath, MixedSource, NoEvidence, NoMemory}
-
--- the number of a refusal: a case is judged in this order
-abbrev pub refusal_number : CompileRefusal → ℕ
-refusal_number (TooManyRanks k count) = 1
-refusal_number (TooManyStates k) = 2
-refusal_number (TooManySteps k) = 3
-refusal_number (SourceWithoutPath k r) = 4
-refusal_number (MixedSource k r with without) = 5
-refusal_number (NoEvidence k g r) = 6
-refusal_number NoMemory = 0
-
--- its word
-abbrev pub refusal_word : CompileRefusal → List ℕ
-refusal_word (TooManyRanks k count) = codes "too-many-ranks"
-refusal_word (TooManyStates k) = codes "too-many-states"
-refusal_word (TooManySteps k) = codes "too-many-steps"
-refusal_word (SourceWithoutPath k r) = codes "source-without-path"
-refusal_word (MixedSource k r with without) = codes "mixed-source"
-refusal_word (NoEvidence k g r) = codes "no-evidence"
-refusal_word NoMemory = codes "no-memory"
 
 abbrev pub case_text : ℕ → List ℕ
 case_text k = codes " case " ++ decimal k
@@ -71,7 +52,7 @@ refusal_values net NoMemory = []
 
 -- A refusal: its number, its word and its values. Locations are told by their names in the network.
 unfoldable pub refusal_text : PlainNet → CompileRefusal → List ℕ
-refusal_text net e = codes "refused " ++ decimal (refusal_number e) ++ codes " " ++ refusal_word e ++ refusal_values net e ++ codes "\n"
+refusal_text net e = codes "refused " ++ decimal (number_of e) ++ codes " " ++ word_of e ++ refusal_values net e ++ codes "\n"
 
 -- the line that tells it
 abbrev pub refusal_line : PlainNet → CompileRefusal → List ℕ

@@ -3,7 +3,7 @@ ghost use Rattle.std.specs.Prelude.{◌≡◌, ◌++◌, ◌<◌, OnOk, IfOk, co
 ghost use Rattle.std.specs.List.{flat_map};
 ghost use Rattle.graph_base.specs.Walks.{IsEnteredFromBefore};
 ghost use Rattle.config_made.specs.Writing.{name_of};
-ghost use Rattle.refusal_lines.specs.RefusalLines.{refusal_number as number_of, refusal_word as word_of, case_text, router_text, next_name, walk_text, walks_text, shown_text, pair_text, refusal_values, refusal_text, refusal_line as line_of, IsShowable};
+ghost use Rattle.refusal_lines.specs.RefusalLines.{case_text, router_text, next_name, walk_text, walks_text, shown_text, pair_text, refusal_values, refusal_text, refusal_line as line_of, IsShowable};
 
 use case_core::CompileRefusal;
 use graph_base::{Graph, walk_of};
@@ -11,36 +11,6 @@ use net_base::{Loc, Net};
 use outside::NoMemory;
 use std::alloc::Global;
 use text_words::{push_bytes, push_name, push_number};
-
-// The number of a refusal.
-fn refusal_number(refusal: &CompileRefusal) -> u8
-    ensures { result ≡ number_of refusal.now }
-{
-    match refusal {
-        CompileRefusal::TooManyRanks(_, _) => 1,
-        CompileRefusal::TooManyStates(_) => 2,
-        CompileRefusal::TooManySteps(_) => 3,
-        CompileRefusal::SourceWithoutPath(_, _) => 4,
-        CompileRefusal::MixedSource(_, _, _, _) => 5,
-        CompileRefusal::NoEvidence(_, _, _) => 6,
-        CompileRefusal::NoMemory => 0,
-    }
-}
-
-// The word of a refusal.
-fn refusal_word(refusal: &CompileRefusal) -> &'static [u8]
-    ensures { result.now ≡ word_of refusal.now }
-{
-    match refusal {
-        CompileRefusal::TooManyRanks(_, _) => b"too-many-ranks",
-        CompileRefusal::TooManyStates(_) => b"too-many-states",
-        CompileRefusal::TooManySteps(_) => b"too-many-steps",
-        CompileRefusal::SourceWithoutPath(_, _) => b"source-without-path",
-        CompileRefusal::MixedSource(_, _, _, _) => b"mixed-source",
-        CompileRefusal::NoEvidence(_, _, _) => b"no-evidence",
-        CompileRefusal::NoMemory => b"no-memory",
-    }
-}
 
 // Adds the name of a location, where the network has it.
 fn push_location(line: &mut Vec<u8>, net: &Net, at: Loc) -> Result<(), NoMemory>
@@ -182,9 +152,9 @@ pub fn push_refusal(
     ensures { OnOk result (line.new.items ≡ line.old.items ++ refusal_text net.now refusal.now) }
 {
     push_bytes(line, b"refused ")?;
-    push_number(line, u64::from(refusal_number(refusal)))?;
+    push_number(line, u64::from(refusal.number()))?;
     push_bytes(line, b" ")?;
-    push_bytes(line, refusal_word(refusal))?;
+    push_bytes(line, refusal.word())?;
     push_values(alloc, line, net, refusal)?;
     push_bytes(line, b"\n")
 }

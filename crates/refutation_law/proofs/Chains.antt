@@ -2,6 +2,7 @@
 use Rattle.std.proofs.Common.{◌≡◌, ℕ, zero, suc, ◌<◌, ◌≤◌, Bool, true, false, not, ◌&&◌, ◌||◌, List, [], ◌∷◌, ◌++◌, Option, Some, None, inl, inr, arith, refl, sym, ap, ◌∙◌, subst}
 use Rattle.std.specs.Prelude.{is_some, option_map}
 use Rattle.std.proofs.lemmas.Bool.{and_parts, and_from, and_cases, or_left, both_ways, cases_Bool, cases_lt, cond-true, cond-false, eqb-true, eq-eqb, leb-false, not-true, not-false, not_from_false, not_from_true}
+use Rattle.list_laws.proofs.Options.{option_map_parts}
 use Rattle.net_base.specs.declared.loc.LocSet.{LocSet}
 use Rattle.net_base.specs.Sets.{holds}
 use Rattle.graph_base.specs.declared.refutation.Removed.{Removed}
@@ -77,16 +78,12 @@ module _ (g : PlainGraph) (claimed : LocSet) (ok : IsGraph g) (reach : ℕ → �
             | inl b ↦ (
                 let is : option_map (LoopWorse (place_of g t)) (least_below V.size (λ k. same_place V k t && (reach k m && gone k t))) ≡ Some why =
                 sym (cond-false (V.hears t) _ _ l ∙ cond-false (not (has_answer V none m t)) _ _ (not_from_true _ a) ∙ cond-false (not (has_answer V gone m t)) _ _ (not_from_true _ b)) ∙ h in
-                let k = mapped (LoopWorse (place_of g t)) (least_below V.size (λ k. same_place V k t && (reach k m && gone k t))) why is in
+                let k = option_map_parts (LoopWorse (place_of g t)) (least_below V.size (λ k. same_place V k t && (reach k m && gone k t))) why is in
                 let low = least_passes V.size (λ k. same_place V k t && (reach k m && gone k t)) k.0 k.1 in
                 subst (Tells gone m n t) k.2 (on, refl, low.0, low.1))
           ]
         ])
   ]
-    where
-      mapped : {A B : Type 0} (f : A → B) (o : Option A) (y : B) → option_map f o ≡ Some y → (x : A) × (o ≡ Some x) × (f x ≡ y)
-      mapped f None y h = absurd (cc)
-      mapped f (Some x) y h = (x, refl, cc)
 
   -- ---- chains
 

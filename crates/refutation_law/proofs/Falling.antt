@@ -1,10 +1,10 @@
 -- A pair that goes has a reason, and where some pair has neither direction left there are lines that refute it.
-use Rattle.std.proofs.Common.{◌≡◌, ℕ, zero, suc, ◌<◌, ◌≤◌, Bool, true, false, not, ◌&&◌, ◌||◌, ◌⊎◌, List, [], ◌∷◌, ◌++◌, Option, Some, None, inl, inr, arith, refl, sym, ap, ◌∙◌, subst}
+use Rattle.std.proofs.Common.{◌≡◌, ℕ, zero, suc, ◌<◌, ◌≤◌, Bool, true, false, not, ◌&&◌, ◌||◌, ◌⊎◌, List, [], ◌∷◌, ◌++◌, inl, inr, arith, refl, sym, ap, ◌∙◌, subst}
 use Rattle.std.specs.Prelude.{is_some, option_map}
 use Rattle.std.proofs.lemmas.Bool.{and_parts, and_from, or_cases, both_ways, cases_Bool, cases_lt, cond-true, cond-false, false_from_ne_true, not_from_false, not_from_true}
 use Rattle.net_base.specs.declared.loc.LocSet.{LocSet}
 use Rattle.net_base.specs.Sets.{holds}
-use Rattle.list_laws.proofs.Options.{is_some_parts}
+use Rattle.list_laws.proofs.Options.{is_some_parts, is_some-option_map}
 use Rattle.graph_base.specs.declared.refutation.Removed.{Removed}
 use Rattle.graph_base.specs.declared.refutation.Why.{Why}
 use Rattle.graph_base.specs.declared.refutation.Why.TheVariants.{RankWorse, LoopWorse}
@@ -76,10 +76,6 @@ least_key (suc n) p key k lt h = elim (cases_Bool (any_below n p)) [
   ]
 ]
 
-map-some : {A B : Type 0} (f : A → B) (o : Option A) → is_some (option_map f o) ≡ is_some o
-map-some f None = refl
-map-some f (Some x) = refl
-
 module _ (g : PlainGraph) (claimed : LocSet) (ok : IsGraph g) (reach : ℕ → ℕ → Bool) where
   abbrev V : View
   V = view_of g claimed
@@ -104,7 +100,7 @@ module _ (g : PlainGraph) (claimed : LocSet) (ok : IsGraph g) (reach : ℕ → �
       | inl a ↦ ap is_some (cond-false (not (has_answer V none m t)) _ _ (not_from_true _ a)) ∙ elim (cases_Bool (has_answer V gone m t)) [
         | inr f ↦ ap is_some (cond-true (not (has_answer V gone m t)) _ _ (not_from_false _ f)) ∙ sym (cond-false (V.hears t) _ _ l ∙ ap (λ b. not b || is_looped V reach gone m t) f)
         | inl b ↦ ap is_some (cond-false (not (has_answer V gone m t)) _ _ (not_from_true _ b))
-            ∙ map-some (LoopWorse (place_of g t)) (least_below V.size (λ k. same_place V k t && (reach k m && gone k t))) ∙ least_is_some V.size (λ k. same_place V k t && (reach k m && gone k t))
+            ∙ is_some-option_map (LoopWorse (place_of g t)) (least_below V.size (λ k. same_place V k t && (reach k m && gone k t))) ∙ least_is_some V.size (λ k. same_place V k t && (reach k m && gone k t))
             ∙ sym (cond-false (V.hears t) _ _ l ∙ ap (λ b. not b || is_looped V reach gone m t) b)
       ]
     ]

@@ -20,7 +20,7 @@ use Rattle.evidence_base.specs.Made.{number_at}
 use Rattle.regret_law.proofs.ClassFound.{class_in}
 use Rattle.regret_law.proofs.CaseOfClass.{IsCaseOf, governed_case, ungoverned_class}
 use Rattle.std.proofs.lemmas.Bool.{and_left, and_right, not-true, not_from_true}
-use Rattle.list_laws.proofs.Options.{option_map_parts}
+use Rattle.list_laws.proofs.Options.{option_map_parts, none_or_some}
 use Rattle.net_base.specs.Sets.{holds}
 use Rattle.config_base.specs.Lines.{own_route}
 use Rattle.regret_law.specs.Laws.{StableOutcomesExist}
@@ -28,7 +28,7 @@ use Rattle.regret_law.proofs.Setting.{network_of, alive_of, lines_of, setup_of, 
 use Rattle.regret_law.proofs.GraphForms.{meets_rules}
 use Rattle.regret_law.proofs.ClassLines.{written}
 use Rattle.regret_law.proofs.Existence.{outcome_of, outcome-size, held, unheld, route_of, lines_stable}
-use Rattle.regret_law.proofs.RightLaw.{class_is, no_value, no_gift}
+use Rattle.regret_law.proofs.RightLaw.{class_is, no_gift}
 use Rattle.routing_law.specs.Lines as line
 use Rattle.routing_law.proofs.Back.{lines_exist}
 
@@ -61,8 +61,8 @@ module _ (net : PlainNet) (policy : PlainPolicy) (config : PlainConfig) (f : Fai
         let first = and_parts (is_router net v) (not (is_origin net policy p v)) last.0 in
         let off = at_router v (and_left (is_origin net policy p v) (not (is_dead f v)) (not-true _ first.1)) in
         record {
-          given_by = λ r at. absurd (no_value (route_at (outcome_of net own_alone) v) r off at);
-          best = λ z g at. absurd (no_value (given net policy config f p (outcome_of net own_alone) z v) g (no_gift net policy config f p (outcome_of net own_alone) free z v) at);
+          given_by = λ r at. absurd (none_or_some (route_at (outcome_of net own_alone) v) r off at);
+          best = λ z g at. absurd (none_or_some (given net policy config f p (outcome_of net own_alone) z v) g (no_gift net policy config f p (outcome_of net own_alone) free z v) at);
         };
   }
 

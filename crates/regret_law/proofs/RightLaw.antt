@@ -1,10 +1,10 @@
 -- Evidence that passes makes the configuration right.
-use Rattle.std.proofs.Common.{◌≡◌, ℕ, suc, Bool, true, false, List, [], ◌∷◌, length, Option, Some, None, refl, arith, sym, ap, ◌∙◌, inl, inr, subst, map}
+use Rattle.std.proofs.Common.{◌≡◌, ℕ, suc, true, false, List, ◌∷◌, length, Option, Some, None, refl, arith, sym, ap, ◌∙◌, inl, inr, subst, map}
 use Rattle.std.specs.Prelude.{◌&&◌, ◌⊎◌, not, slice_get}
 use Rattle.std.specs.Option.{option_and_then}
 use Rattle.std.proofs.lemmas.Bool.{and_parts, and_from, cases_Bool, true≢false, not_from_false, lt-ltb}
 use Rattle.std.proofs.lemmas.Option.{slice_get-map, slice_get_within}
-use Rattle.list_laws.proofs.Options.{cases_Option, option_map_parts}
+use Rattle.list_laws.proofs.Options.{cases_Option, option_map_parts, none_or_some}
 use Rattle.list_laws.proofs.Changed.{map-map}
 use Rattle.net_base.specs.Network.{PlainNet, IsNet, is_peer, is_router}
 use Rattle.net_base.specs.Prefixes.{PlainPrefix, IsPrefix}
@@ -22,6 +22,7 @@ use Rattle.outcome_base.specs.Outcomes.{Failures, Outcome, is_dead, is_live, rou
 use Rattle.outcome_base.specs.Right.{IsRight, IsRightBy, IsBare, IsRightOutcome}
 use Rattle.regret_law.specs.Passes.{IsMadeOf, IsClaimed}
 use Rattle.path_words.specs.Policies.{IsPolicyOf}
+use Rattle.path_words.proofs.WalkParts.{at_last-never}
 use Rattle.regret_law.specs.Laws.{IsSoundBy, IsSoundOutcome, IsSound, UsedPathsAreAllowed, PassingEvidenceIsRight}
 use Rattle.graph_base.specs.Rules.{MeetsRules}
 use Rattle.evidence_base.specs.Made.{number_at}
@@ -31,14 +32,6 @@ use Rattle.regret_law.proofs.CaseOfClass.{IsCaseOf, governed_case, ungoverned_cl
 use Rattle.regret_law.proofs.SoundCase.{IsCaseAt, sound_case}
 use Rattle.regret_law.proofs.RightCase.{right_case}
 use Rattle.regret_law.proofs.PermittedWalks.{permits_parts}
-
-pub no_value : {A : Type 0} (o : Option A) (x : A) → o ≡ None → o ≡ Some x → ⊥
-no_value o x none some = let clash : None ≡ Some x = sym none ∙ some in absurd cc
-
-nobody_last : (origin : ℕ → Bool) (path : List ℕ) → ((l : ℕ) → origin l ≡ false) → at_last origin path ≡ false
-nobody_last origin [] none = refl
-nobody_last origin (l ∷ []) none = none l
-nobody_last origin (l ∷ k ∷ ls) none = nobody_last origin (k ∷ ls) none
 
 module _ (net : PlainNet) (policy : PlainPolicy) (config : PlainConfig) (f : Failures) (p : PlainPrefix) (outcome : Outcome) (free : class_of config p ≡ None) where
   -- without a class nobody gives anything
@@ -63,13 +56,13 @@ module _ (net : PlainNet) (policy : PlainPolicy) (config : PlainConfig) (f : Fai
     -- and only live origins have routes
     holder : (r : ℕ) (h : Route) → is_router net r ≡ true → route_at outcome r ≡ Some h → (is_origin net policy p r && not (is_dead f r)) ≡ true
     holder r h router at = elim (cases_Bool (is_dead f r)) [
-      | inl dead ↦ absurd (no_value (route_at outcome r) h (stable.dead r dead) at)
+      | inl dead ↦ absurd (none_or_some (route_at outcome r) h (stable.dead r dead) at)
       | inr live ↦ elim (cases_Bool (is_origin net policy p r)) [
         | inl own ↦ and_from (is_origin net policy p r) (not (is_dead f r)) own (not_from_false _ live)
         | inr other ↦
             let who = and_from (is_router net r && not (is_origin net policy p r)) (not (is_dead f r)) (and_from (is_router net r) (not (is_origin net policy p r)) router (not_from_false _ other)) (not_from_false _ live) in
             let by = (stable.chooses r who).given_by h at in
-            absurd (no_value (given net policy config f p outcome by.0 r) h (no_gift by.0 r) by.1)
+            absurd (none_or_some (given net policy config f p outcome by.0 r) h (no_gift by.0 r) by.1)
       ]
     ]
 
@@ -83,7 +76,7 @@ module _ (net : PlainNet) (policy : PlainPolicy) (config : PlainConfig) (f : Fai
       where
         mapped_value : (r : ℕ) (h : Route) → route_at outcome r ≡ Some h → (o : Option Route) × (slice_get outcome r ≡ Some o)
         mapped_value r h at = elim (cases_Option (slice_get outcome r)) [
-          | inl none ↦ absurd (no_value (route_at outcome r) h (ap (option_and_then (λ (o : Option Route). o)) none) at)
+          | inl none ↦ absurd (none_or_some (route_at outcome r) h (ap (option_and_then (λ (o : Option Route). o)) none) at)
           | inr some ↦ some
         ]
 
@@ -91,7 +84,7 @@ module _ (net : PlainNet) (policy : PlainPolicy) (config : PlainConfig) (f : Fai
     pub empty : (s : PlainStatement) → ((l : ℕ) → is_origin net policy p l ≡ false) → IsRightBy net policy config f p s outcome
     empty s none = record {
       used = λ r h claimed at. absurd (unclaimed (r ∷ claimed.starts.0) claimed.starts.1);
-      offers = λ r peer path at. absurd (no_value (offered net policy config f p outcome r peer) path (no_offer r peer) at);
+      offers = λ r peer path at. absurd (none_or_some (offered net policy config f p outcome r peer) path (no_offer r peer) at);
       sessions = λ r peer path claimed at. absurd (unclaimed (peer ∷ r ∷ claimed.starts.0) claimed.starts.1);
       unrouted = λ r claimed at. absurd (unclaimed (r ∷ claimed.starts.0) claimed.starts.1);
       unoffered = λ r peer claimed at. absurd (unclaimed (peer ∷ r ∷ claimed.starts.0) claimed.starts.1);
@@ -105,7 +98,7 @@ module _ (net : PlainNet) (policy : PlainPolicy) (config : PlainConfig) (f : Fai
         unclaimed path h =
             let ends = (permits_parts net (is_origin net policy p) s path h).1 in
             let last = (and_parts (at_last (is_origin net policy p) path) _ ends).0 in
-            true≢false (sym last ∙ nobody_last (is_origin net policy p) path none)
+            true≢false (sym last ∙ at_last-never (is_origin net policy p) path none)
 
 module _ (net : PlainNet) (policy : PlainPolicy) (config : PlainConfig) (cs : List PlainCaseEvidence) (rules : IsNet net) (kept : IsPolicyOf net policy) (made : IsMadeOf net policy config cs) where
   -- the class of a prefix, by the cases of the policy

@@ -48,7 +48,7 @@ module _ (net : PlainNet) (f : Failures) where
       let first = and_parts (not (is_dead f v)) (not (is_dead_link f v u)) parts.0 in
       (first.0, first.1, parts.1)
 
-  head_alive : (u : ℕ) (p : List ℕ) → passes_live f (u ∷ p) ≡ true → not (is_dead f u) ≡ true
+  pub head_alive : (u : ℕ) (p : List ℕ) → passes_live f (u ∷ p) ≡ true → not (is_dead f u) ≡ true
   head_alive u [] h = h
   head_alive u (w ∷ p) h = (dead_parts u w p h).0
 

@@ -30,6 +30,15 @@ none_below n p h = false_from_ne_true (any_below n p) (λ e. let f : (k : ℕ) �
 
 -- ---- counts
 
+pub count_most : (n : ℕ) (p : ℕ → Bool) → count_below n p ≤ n
+count_most zero p = omega arith
+count_most (suc n) p =
+    let rest = count_most n p in
+    elim (cases_Bool (p n)) [
+      | inl e ↦ rw e (omega arith)
+      | inr e ↦ rw e (omega arith)
+    ]
+
 pub count_le : (n : ℕ) (p q : ℕ → Bool) → ((k : ℕ) → k < n → p k ≡ true → q k ≡ true) → count_below n p ≤ count_below n q
 count_le zero p q h = omega arith
 count_le (suc n) p q h =

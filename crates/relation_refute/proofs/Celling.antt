@@ -15,14 +15,6 @@ use Rattle.state_simulation.proofs.Masking.{among_more}
 
 -- ---- counts
 
-pub count_most : (n : ℕ) (p : ℕ → Bool) → count_below n p ≤ n
-count_most zero p = omega arith
-count_most (suc n) p = by (p n) (count_most n p)
-  where
-    by : (b : Bool) → count_below n p ≤ n → cond b 1 0 + count_below n p ≤ suc n
-    by true le = omega (arith, le)
-    by false le = omega (arith, le)
-
 count_step : (n : ℕ) (p : ℕ → Bool) → p n ≡ true → count_below (n + 1) p ≡ count_below n p + 1
 count_step n p e =
     let one : ◌≡◌ {A = ℕ} (cond (p n) 1 0) 1 = ap (λ z. cond z 1 0) e in

@@ -1,18 +1,18 @@
 -- The order of lines.
 use Rattle.std.proofs.Common.{◌≡◌, ℕ, zero, suc, ◌+◌, ◌<◌, ◌≤◌, Bool, true, List, [], ◌∷◌, ◌++◌, length, Some, arith, sym, ap, ap₂, ◌∙◌, inl, inr}
-use Rattle.std.specs.Prelude.{◌&&◌, slice_get}
+use Rattle.std.specs.Prelude.{slice_get}
 use Rattle.std.specs.Cmp.{IsTotalOrder}
 use Rattle.std.specs.List.Sorted.{IsStrictlySortedBy}
 use Rattle.std.specs.Ordering.{nat_cmp, ordering_then, is_eq, eq_by_cmp}
-use Rattle.std.specs.declared.cmp.Ordering.{Ordering}
 use Rattle.std.specs.declared.cmp.Ordering.TheVariants.{Less}
-use Rattle.std.proofs.lemmas.Bool.{and_parts, cases_lt, eqb-true}
+use Rattle.std.proofs.lemmas.Bool.{cases_lt}
 use Rattle.std.proofs.lemmas.List.{length_push}
 use Rattle.std.proofs.lemmas.Option.{slice_get_within}
 use Rattle.std.proofs.lemmas.Cmp.{nat_cmp_total, on_total, then_total}
-use Rattle.list_laws.proofs.Orders.{is_eq-nat_cmp, is_eq-ordering_then, nat_cmp-Equal, nat_cmp-Less, ordering_then-Less}
+use Rattle.list_laws.proofs.Orders.{is_eq-nat_cmp, is_eq-ordering_then, nat_cmp-Equal, nat_cmp-Less, ordering_then-Less, is_eq-ordering_then_parts, is_eq-nat_cmp_same}
 use Rattle.graph_base.specs.declared.refutation.Removed.{Removed}
 use Rattle.list_laws.proofs.Items.{slice_get-append_left, slice_get-there}
+use Rattle.list_laws.proofs.Truth.{and_alike}
 use Rattle.refutation_law.specs.Choosing.{Goes, IsEarlier}
 use Rattle.relation_law.specs.Views.{View}
 use Rattle.relation_refute.specs.declared.chains.Line.{Line}
@@ -25,32 +25,23 @@ line_total =
     (then_total (on_total (λ (l : Line). l.router) nat_cmp_total)
     (then_total (on_total (λ (l : Line). l.better) nat_cmp_total) (on_total (λ (l : Line). l.worse) nat_cmp_total)))
 
-both : (o p : Ordering) → is_eq (ordering_then o p) ≡ true → (is_eq o ≡ true) × (is_eq p ≡ true)
-both o p h = and_parts (is_eq o) (is_eq p) (sym (is_eq-ordering_then o p) ∙ h)
-
-number : (x y : ℕ) → is_eq (nat_cmp x y) ≡ true → x ≡ y
-number x y h = eqb-true x y (sym (is_eq-nat_cmp x y) ∙ h)
-
 pub line_exact : (a b : Line) → eq_by_cmp line_order a b ≡ true → a ≡ b
 line_exact a b h =
-    let by_round = both (nat_cmp a.round b.round) _ h in
-    let by_router = both (nat_cmp a.router b.router) _ by_round.1 in
-    let by_better = both (nat_cmp a.better b.better) _ by_router.1 in
-    let round = number a.round b.round by_round.0 in
-    let router = number a.router b.router by_router.0 in
-    let better = number a.better b.better by_better.0 in
-    let worse = number a.worse b.worse by_better.1 in
+    let by_round = is_eq-ordering_then_parts (nat_cmp a.round b.round) _ h in
+    let by_router = is_eq-ordering_then_parts (nat_cmp a.router b.router) _ by_round.1 in
+    let by_better = is_eq-ordering_then_parts (nat_cmp a.better b.better) _ by_router.1 in
+    let round = is_eq-nat_cmp_same a.round b.round by_round.0 in
+    let router = is_eq-nat_cmp_same a.router b.router by_router.0 in
+    let better = is_eq-nat_cmp_same a.better b.better by_better.0 in
+    let worse = is_eq-nat_cmp_same a.worse b.worse by_better.1 in
     λ i. record { round = round i; router = router i; better = better i; worse = worse i }
-
-and_is : {x y u v : Bool} → x ≡ y → u ≡ v → (x && u) ≡ (y && v)
-and_is e f = λ i. e i && f i
 
 pub line_ties : (a b : Line) → (LineEq).eq a b ≡ eq_by_cmp line_order a b
 line_ties a b =
     sym
-    (is_eq-ordering_then (nat_cmp a.round b.round) _ ∙ and_is (is_eq-nat_cmp a.round b.round)
-    (is_eq-ordering_then (nat_cmp a.router b.router) _ ∙ and_is (is_eq-nat_cmp a.router b.router)
-    (is_eq-ordering_then (nat_cmp a.better b.better) _ ∙ and_is (is_eq-nat_cmp a.better b.better) (is_eq-nat_cmp a.worse b.worse))))
+    (is_eq-ordering_then (nat_cmp a.round b.round) _ ∙ and_alike (is_eq-nat_cmp a.round b.round)
+    (is_eq-ordering_then (nat_cmp a.router b.router) _ ∙ and_alike (is_eq-nat_cmp a.router b.router)
+    (is_eq-ordering_then (nat_cmp a.better b.better) _ ∙ and_alike (is_eq-nat_cmp a.better b.better) (is_eq-nat_cmp a.worse b.worse))))
 
 pub line_earlier : (a b : Line) → line_order a b ≡ Less → IsEarlier (a.round, a.router, a.better, a.worse) (b.round, b.router, b.better, b.worse)
 line_earlier a b h = elim (ordering_then-Less (nat_cmp a.round b.round) _ h) [

@@ -1,6 +1,7 @@
 -- What the cells tell, round by round.
-use Rattle.std.proofs.Common.{◌≡◌, ℕ, suc, ◌<◌, ◌≤◌, Bool, true, false, cond, not, ◌&&◌, ◌||◌, eqb, ltb, leb, List, length, arith, refl, sym, ap, ◌∙◌, inl, inr}
+use Rattle.std.proofs.Common.{◌≡◌, ℕ, suc, ◌<◌, ◌≤◌, Bool, true, false, cond, not, ◌&&◌, ◌||◌, eqb, ltb, leb, List, length, arith, sym, ap, ◌∙◌, inl, inr}
 use Rattle.std.proofs.lemmas.Bool.{and_from, and_left, and_right, and_parts, both_ways, cases_Bool, cases_eq, cases_lt, cond-true, cond-false, eq-eqb, le-leb, le-ltb, leb-true, lt-ltb, ne_eqb, false_from_ne_true, or_cases, or_left, or_parts}
+use Rattle.std.proofs.Math.Bool.{not-not}
 use Rattle.bit_rows.specs.Tables.{PlainRows, has_at}
 use Rattle.graph_base.specs.Graphs.{PlainGraph}
 use Rattle.net_base.specs.declared.loc.LocSet.{LocSet}
@@ -88,10 +89,6 @@ module _ (v : View) (reach : ℕ → ℕ → Bool) (k : ℕ) (old new : ℕ → 
 
 -- ---- what is noted of a round
 
-twice : (x : Bool) → not (not x) ≡ x
-twice true = refl
-twice false = refl
-
 module _ (g : PlainGraph) (claimed : LocSet) (reach : ℕ → ℕ → Bool) where
   abbrev V : View
   V = view_of g claimed
@@ -106,12 +103,12 @@ module _ (g : PlainGraph) (claimed : LocSet) (reach : ℕ → ℕ → Bool) wher
   marks_next k left new_left old new touched tells before after quiet marked m n p =
       let pair : Pair (shown g) m n = record { left = p.left; right = p.right; place = p.place } in
       let noted : (x : ℕ) → marked_round x (has_at new_left n m) (suc k) ≡ cond (eqb x 0 && gone_after V reach (suc k) m n) (suc k) x = λ x.
-      ap (λ z. cond (eqb x 0 && not z) (suc k) x) (left_is (suc k) new_left after m n p) ∙ ap (λ z. cond (eqb x 0 && z) (suc k) x) (twice (gone_after V reach (suc k) m n)) in
+      ap (λ z. cond (eqb x 0 && not z) (suc k) x) (left_is (suc k) new_left after m n p) ∙ ap (λ z. cond (eqb x 0 && z) (suc k) x) (not-not (gone_after V reach (suc k) m n)) in
       elim (cases_Bool (is_touched touched n)) [
         | inl e ↦ marked m n pair ∙ cond-true (is_touched touched n) _ _ e ∙ noted (old m n)
         | inr e ↦ (
             let same : not (gone_after V reach (suc k) m n) ≡ not (gone_after V reach k m n) = sym (left_is (suc k) new_left after m n p) ∙ quiet n m p.right p.left e ∙ left_is k left before m n p in
-            let went : gone_after V reach (suc k) m n ≡ gone_after V reach k m n = sym (twice _) ∙ ap not same ∙ twice _ in
+            let went : gone_after V reach (suc k) m n ≡ gone_after V reach k m n = sym (not-not _) ∙ ap not same ∙ not-not _ in
             marked m n pair ∙ cond-false (is_touched touched n) _ _ e ∙ elim (cases_eq (old m n) 0) [
               | inl none ↦ (
                   let still : gone_after V reach (suc k) m n ≡ false = went ∙ tells.gone m n k p (omega arith) ∙ and_left (ltb 0 (old m n)) (leb (old m n) k) (le-ltb 0 (old m n) (omega (arith, none))) in

@@ -1,11 +1,11 @@
 -- What every scenario that a text spells keeps.
-use Rattle.std.proofs.Common.{◌≡◌, ℕ, List, Result, Ok, Err, subst}
+use Rattle.std.proofs.Common.{◌≡◌, ℕ, List, Ok, subst}
 use Rattle.std.specs.Result.{result_ok}
 use Rattle.json_words.specs.Json.{json_of}
 use Rattle.net_base.proofs.PrefixLemmas.{prefix_spelled-IsPrefix}
-use Rattle.net_base.proofs.StepLemmas.{bind_ok}
+use Rattle.net_base.proofs.StepLemmas.{bind_ok, or_fault_result_ok}
 use Rattle.net_base.specs.Network.{PlainNet}
-use Rattle.net_base.specs.Prefixes.{PlainPrefix, IsPrefix}
+use Rattle.net_base.specs.Prefixes.{IsPrefix}
 use Rattle.net_base.specs.PrefixText.{prefix_spelled}
 use Rattle.net_base.specs.Steps.{or_fault}
 use Rattle.net_index.specs.Names.{names_of}
@@ -15,10 +15,6 @@ use Rattle.scenario_text.specs.declared.fault.ScenarioFault.TheVariants.{NotJson
 use Rattle.scenario_text.specs.Rules.{judged, located, both_located, links_known, sessions_known}
 use Rattle.scenario_text.specs.Shape.{Said, each, shape_of}
 use Rattle.scenario_text.specs.Spelled.{spelled}
-
-found_prefix : {E : Type 0} (r : Result PlainPrefix E) (p : PlainPrefix) → or_fault BadPrefix (result_ok r) ≡ Ok p → r ≡ Ok p
-found_prefix (Ok q) p h = cc
-found_prefix (Err e) p h = absurd cc
 
 -- it asks for a prefix
 judged_prefix : (net : PlainNet) (said : Said) (s : Scenario) → judged net said ≡ Ok s → IsPrefix s.prefix
@@ -32,7 +28,7 @@ judged_prefix net said s h =
     let prefix = bind_ok (or_fault BadPrefix (result_ok (prefix_spelled said.prefix))) _ s heard.2 in
     let made = prefix.2 in
     let same : prefix.0 ≡ s.prefix = cc in
-    subst IsPrefix same (prefix_spelled-IsPrefix said.prefix prefix.0 (found_prefix (prefix_spelled said.prefix) prefix.0 prefix.1))
+    subst IsPrefix same (prefix_spelled-IsPrefix said.prefix prefix.0 (or_fault_result_ok BadPrefix (prefix_spelled said.prefix) prefix.0 prefix.1))
 
 pub spelled_prefix : (net : PlainNet) (bytes : List ℕ) (s : Scenario) → spelled net bytes ≡ Ok s → IsPrefix s.prefix
 unfolding spelled

@@ -1,9 +1,7 @@
 -- Reports of what shows the same of routers and of sessions.
-use Rattle.std.proofs.Common.{◌≡◌, ℕ, ◌<◌, List, [], ◌∷◌, ◌++◌, length, Option, refl, sym, ap₂, ◌∙◌}
+use Rattle.std.proofs.Common.{◌≡◌, ℕ, ◌<◌, List, ◌++◌, length, Option, refl, sym, ap₂, ◌∙◌}
 use Rattle.std.specs.Prelude.{◌↔◌, IsTrue}
-use Rattle.std.specs.List.{flat_map}
-use Rattle.list_laws.specs.Members.{IsIn}
-use Rattle.list_laws.proofs.Members.{IsIn-later}
+use Rattle.list_laws.proofs.Changed.{flat_map_same}
 use Rattle.net_base.proofs.NumbersBelow.{below_from_In}
 use Rattle.net_base.specs.Locations.{numbers_below}
 use Rattle.net_base.specs.Network.{PlainNet, is_peer, is_router}
@@ -14,11 +12,6 @@ use Rattle.config_base.specs.Configs.{PlainConfig}
 use Rattle.report_lines.specs.Claims.{AreClaimed}
 use Rattle.report_lines.specs.Lines.{Shown, Sources, head_lines, report_text, router_line, session_line}
 use Rattle.report_lines.specs.Report.{IsReport}
-
--- two functions that agree on the items
-pub flat_map_in : {A B : Type 0} (f g : A → List B) (xs : List A) → ((x : A) → IsIn xs x → f x ≡ g x) → flat_map f xs ≡ flat_map g xs
-flat_map_in f g [] same = refl
-flat_map_in f g (x ∷ xs) same = ap₂ (λ (a b : List _). a ++ b) (same x (0, refl)) (flat_map_in f g xs (λ y at. same y (IsIn-later x y xs at)))
 
 -- they show the same of each router, and of each pair of a router and a peer
 pub record ShowAlike (net : PlainNet) (one other : Shown) : Type 0 where
@@ -38,9 +31,9 @@ module _ (net : PlainNet) (policy : PlainPolicy) (config : PlainConfig) (p : Pla
   same_text : (sources : Sources) → AreClaimed net policy p sources → report_text net policy config p sources one ≡ report_text net policy config p sources other
   same_text sources claimed =
       ap₂ (λ (a b : List ℕ). head_lines config p ++ a ++ b)
-      (flat_map_in (router_line net policy p (statement_of policy p) sources one) (router_line net policy p (statement_of policy p) sources other) (numbers_below (length net.routers))
+      (flat_map_same (router_line net policy p (statement_of policy p) sources one) (router_line net policy p (statement_of policy p) sources other) (numbers_below (length net.routers))
       (λ r at. same_router (statement_of policy p) sources r (below_from_In r (length net.routers) at)))
-      (flat_map_in (session_line net (statement_of policy p) one) (session_line net (statement_of policy p) other) sources.sessions
+      (flat_map_same (session_line net (statement_of policy p) one) (session_line net (statement_of policy p) other) sources.sessions
       (λ x at. let session = ((claimed.sessions x.0 x.1).0 at).2 in same_session (statement_of policy p) x (alike.offer x.0 x.1 session.at_router session.at_peer)))
 
   -- they have the same reports

@@ -8,7 +8,7 @@ use Rattle.std.proofs.lemmas.List.Quantifiers.{position-Some}
 use Rattle.std.proofs.lemmas.Option.{get_or_from_slice_get, slice_get-map, slice_get_within}
 use Rattle.list_laws.specs.Members.{IsIn}
 use Rattle.list_laws.proofs.Members.{IsIn-filter, IsIn-filter_parts, IsIn-map, IsIn-map_parts, IsIn-nil, list_any-from_IsIn, list_any_member}
-use Rattle.list_laws.proofs.Options.{option_and_then_parts, option_map_or_equal, option_map_parts}
+use Rattle.list_laws.proofs.Options.{option_and_then_parts, option_map_or_equal, option_map_parts, none_or_some}
 use Rattle.net_base.specs.declared.limits.TheConstants.{ALTERNATIVES}
 use Rattle.net_base.specs.Network.{PlainNet, IsNet, is_peer, joins, linked}
 use Rattle.net_base.specs.Prefixes.{PlainPrefix, IsPrefix}
@@ -19,6 +19,7 @@ use Rattle.path_words.specs.Governing.{is_origin, statement_of}
 use Rattle.path_words.specs.Meaning.{alternative_count, at_last}
 use Rattle.path_words.specs.Permitted.{is_permitted, IsClaimedRouter, IsClaimedSession}
 use Rattle.path_words.specs.Policies.{IsPolicyOf, PlainPolicy, PlainStatement}
+use Rattle.path_words.proofs.WalkParts.{at_last-never}
 use Rattle.graph_base.specs.Ranked.{IsRankedRouter}
 use Rattle.graph_base.specs.Runs.{is_listener, is_start, place_of}
 use Rattle.graph_base.proofs.StartsAndSteps.{in_step, step_in, step_nodes}
@@ -29,7 +30,7 @@ use Rattle.regret_law.specs.Passes.{AreWithin, IsCaseGraph, Passes}
 use Rattle.regret_law.proofs.CaseOfClass.{IsCaseOf, governed_case, ungoverned_class}
 use Rattle.regret_law.proofs.ClassFound.{class_in}
 use Rattle.regret_law.proofs.PermittedWalks.{permits_parts}
-use Rattle.regret_law.proofs.RightLaw.{class_is, no_value}
+use Rattle.regret_law.proofs.RightLaw.{class_is}
 use Rattle.report_lines.specs.Claims.{AreClaimed}
 use Rattle.report_lines.specs.Lines.{Sources}
 use Rattle.report_lines.specs.Marks.{AreMarks, heard_pairs, is_at}
@@ -85,9 +86,9 @@ module _ (net : PlainNet) (policy : PlainPolicy) (config : PlainConfig) (cs : Li
       parts = option_and_then_parts (case_at cs) (class_of config p) d found
 
       go : (o : Option PlainStatement) → statement_of policy p ≡ o → IsGoverned d
-      go None is = absurd (no_value (class_of config p) parts.0 (classed ∙ ungoverned_class net policy p rules kept prefix is) parts.1)
+      go None is = absurd (none_or_some (class_of config p) parts.0 (classed ∙ ungoverned_class net policy p rules kept prefix is) parts.1)
       go (Some s) is = elim (governed_case net policy p rules kept prefix s is) [
-        | inr nobody ↦ absurd (no_value (class_of config p) parts.0 (classed ∙ nobody.1) parts.1)
+        | inr nobody ↦ absurd (none_or_some (class_of config p) parts.0 (classed ∙ nobody.1) parts.1)
         | inl there ↦ (
             let one : Some parts.0 ≡ Some (suc there.0) = sym parts.1 ∙ classed ∙ there.2 in
             let number : parts.0 ≡ suc there.0 = cc in
@@ -99,20 +100,15 @@ module _ (net : PlainNet) (policy : PlainPolicy) (config : PlainConfig) (cs : Li
 
   -- ---- a prefix without a case
 
-  nobody_last : (origin : ℕ → Bool) (path : List ℕ) → ((l : ℕ) → origin l ≡ false) → at_last origin path ≡ false
-  nobody_last origin [] none = refl
-  nobody_last origin (l ∷ []) none = none l
-  nobody_last origin (l ∷ k ∷ ls) none = nobody_last origin (k ∷ ls) none
-
   none_permitted : (s : PlainStatement) → case_found ≡ None → statement_of policy p ≡ Some s → (path : List ℕ) → is_permitted net policy p s path ≡ true → ⊥
   none_permitted s none governs path permitted = elim (governed_case net policy p rules kept prefix s governs) [
     | inr nobody ↦ (
         let ends = (permits_parts net (is_origin net policy p) s path permitted).1 in
-        true≢false (sym (and_parts (at_last (is_origin net policy p) path) _ ends).0 ∙ nobody_last (is_origin net policy p) path nobody.0))
+        true≢false (sym (and_parts (at_last (is_origin net policy p) path) _ ends).0 ∙ at_last-never (is_origin net policy p) path nobody.0))
     | inl there ↦ (
         let mapped = sym (slice_get-map (λ (c : PlainCaseEvidence). c.case) cs there.0) ∙ ap (λ (xs : List Case). slice_get xs there.0) passes.made.cases ∙ there.3.at in
         let d = option_map_parts (λ (c : PlainCaseEvidence). c.case) (slice_get cs there.0) there.1 mapped in
-        no_value case_found d.0 none (ap (option_and_then (case_at cs)) (classed ∙ there.2) ∙ d.1))
+        none_or_some case_found d.0 none (ap (option_and_then (case_at cs)) (classed ∙ there.2) ∙ d.1))
   ]
 
   pub none_claimed : (sources : Sources) → case_found ≡ None → ((r : ℕ) → sources.routers r ≡ false) → sources.sessions ≡ [] → AreClaimed net policy p sources

@@ -1,11 +1,11 @@
 -- Marks of links as far as a loop has come, and the links that are marked.
-use Rattle.std.proofs.Common.{◌≡◌, ℕ, ◌+◌, ◌<◌, zero, suc, Bool, true, false, List, [], ◌∷◌, ◌++◌, length, get_or, set, take, replicate, Some, None, add-one, ◌⊎◌, refl, sym, ap, ap₂, ◌∙◌, arith, inl, inr}
+use Rattle.std.proofs.Common.{◌≡◌, ℕ, ◌+◌, ◌<◌, zero, suc, Bool, true, false, List, [], ◌∷◌, ◌++◌, length, get_or, set, take, replicate, Some, None, add-one, ◌⊎◌, refl, sym, ap, ◌∙◌, arith, inl, inr}
 use Rattle.std.specs.Prelude.{◌&&◌, ◌||◌, ◌==◌, not, slice_get}
 use Rattle.std.specs.List.{items_where_true, list_any, position}
 use Rattle.std.specs.Option.{option_map_or}
-use Rattle.std.proofs.Math.Bool.{or_comm}
-use Rattle.std.proofs.lemmas.Bool.{and_from, and_parts, cases_eq, eq-eqb, eqb-true, false_from_ne_true, or_cases, or_left, or_right}
-use Rattle.std.proofs.lemmas.List.{get_or-set_other, get_or-set_same, get_or_default}
+use Rattle.std.proofs.Math.Bool.{or-true}
+use Rattle.std.proofs.lemmas.Bool.{cases_eq, eq-eqb, eqb-true, false_from_ne_true}
+use Rattle.std.proofs.lemmas.List.{get_or-set_other, get_or-set_same, get_or_default, length-replicate}
 use Rattle.std.proofs.lemmas.List.Folds.{list_any_more}
 use Rattle.std.proofs.lemmas.List.Quantifiers.{position-Some}
 use Rattle.list_laws.specs.Members.{IsIn}
@@ -13,21 +13,15 @@ use Rattle.list_laws.proofs.Members.{IsIn-later}
 use Rattle.list_laws.proofs.Options.{option_map_or_equal}
 use Rattle.list_laws.proofs.Positions.{list_any-at_position}
 use Rattle.list_laws.proofs.Truth.{or_failed, same_tests}
+use Rattle.list_laws.proofs.Items.{get_or-replicate_same}
+use Rattle.list_laws.proofs.Tests.{list_any-same}
 use Rattle.net_base.specs.Network.{PlainNet, joins, linked}
+use Rattle.net_base.proofs.Links.{joins_ends, joins_straight, joins_turned, position-joins_flips}
 use Rattle.report_lines.specs.Marks.{AreMarks, is_at}
-
-unmarked : (n i : ℕ) → get_or (replicate n false) i false ≡ false
-unmarked zero i = refl
-unmarked (suc n) zero = refl
-unmarked (suc n) (suc i) = unmarked n i
-
-size_of : (n : ℕ) → length (replicate n false) ≡ n
-size_of zero = refl
-size_of (suc n) = ap suc (size_of n)
 
 -- before any pair
 pub no_marks : (net : PlainNet) → AreMarks net [] (replicate (length net.links) false)
-no_marks net = record { size = size_of (length net.links); at = λ i within. unmarked (length net.links) i }
+no_marks net = record { size = length-replicate (length net.links) false; at = λ i within. get_or-replicate_same (length net.links) i false }
 
 module _ (net : PlainNet) (pairs : List (ℕ × ℕ)) (i : ℕ) (d : ℕ × ℕ) (within : i < length pairs) (marks : List Bool) (before : AreMarks net (take i pairs) marks) where
   abbrev pair : ℕ × ℕ
@@ -48,16 +42,12 @@ module _ (net : PlainNet) (pairs : List (ℕ × ℕ)) (i : ℕ) (d : ℕ × ℕ)
         | inl here ↦
             ap (λ k. get_or (set marks place true) k false) here
             ∙ get_or-set_same marks place true false (omega (arith, here, inside, before.size))
-            ∙ sym (more j ∙ ap (λ o. list_any (is_at net j) (take i pairs) || o) (is j ∙ eq-eqb place j (sym here)) ∙ or_true (list_any (is_at net j) (take i pairs)))
+            ∙ sym (more j ∙ ap (λ o. list_any (is_at net j) (take i pairs) || o) (is j ∙ eq-eqb place j (sym here)) ∙ or-true (list_any (is_at net j) (take i pairs)))
         | inr there ↦
             get_or-set_other marks place j true false there
             ∙ before.at j inside
             ∙ sym (more j ∙ or_failed (list_any (is_at net j) (take i pairs)) (is_at net j pair) (is j ∙ false_from_ne_true _ (λ t. there (sym (eqb-true place j t)))))
       ]
-        where
-          or_true : (b : Bool) → (b || true) ≡ true
-          or_true true = refl
-          or_true false = refl
 
   -- a pair that is no link is passed over
   pub mark_past : position (joins pair.0 pair.1) net.links ≡ None → AreMarks net (take (i + 1) pairs) marks
@@ -68,14 +58,7 @@ module _ (net : PlainNet) (pairs : List (ℕ × ℕ)) (i : ℕ) (d : ℕ × ℕ)
 
 -- ---- what marks of dead links tell of two locations
 
-any_each : {A : Type 0} (f g : A → Bool) (xs : List A) → ((x : A) → f x ≡ g x) → list_any f xs ≡ list_any g xs
-any_each f g [] same = refl
-any_each f g (x ∷ xs) same = ap₂ (λ (a b : Bool). a || b) (same x) (any_each f g xs same)
-
 module _ (net : PlainNet) (a b : ℕ) where
-  flips : position (joins a b) net.links ≡ position (joins b a) net.links
-  flips = λ i. position (λ link. or_comm (link.0 == a && link.1 == b) (link.0 == b && link.1 == a) i) net.links
-
   -- the pairs whose link is that of the two are those that join them
   module _ (i : ℕ) (found : position (joins a b) net.links ≡ Some i) where
     abbrev link : ℕ × ℕ
@@ -84,39 +67,27 @@ module _ (net : PlainNet) (a b : ℕ) where
     on_link : joins a b link ≡ true
     on_link = (position-Some (joins a b) net.links i (0, 0) found).1
 
-    ends_of : (c d : ℕ) (e : ℕ × ℕ) → joins c d e ≡ true → ((e.0 ≡ c) × (e.1 ≡ d)) ⊎ ((e.0 ≡ d) × (e.1 ≡ c))
-    ends_of c d e h = elim (or_cases (e.0 == c && e.1 == d) (e.0 == d && e.1 == c) h) [
-      | inl t ↦ (let parts = and_parts (e.0 == c) (e.1 == d) t in inl (eqb-true e.0 c parts.0, eqb-true e.1 d parts.1))
-      | inr t ↦ (let parts = and_parts (e.0 == d) (e.1 == c) t in inr (eqb-true e.0 d parts.0, eqb-true e.1 c parts.1))
-    ]
-
-    straight : (c d : ℕ) (e : ℕ × ℕ) → e.0 ≡ c → e.1 ≡ d → joins c d e ≡ true
-    straight c d e one two = or_left (e.0 == c && e.1 == d) _ (and_from (e.0 == c) (e.1 == d) (eq-eqb e.0 c one) (eq-eqb e.1 d two))
-
-    turned : (c d : ℕ) (e : ℕ × ℕ) → e.0 ≡ d → e.1 ≡ c → joins c d e ≡ true
-    turned c d e one two = or_right (e.0 == c && e.1 == d) (e.0 == d && e.1 == c) (and_from (e.0 == d) (e.1 == c) (eq-eqb e.0 d one) (eq-eqb e.1 c two))
-
     joined_at : (e : ℕ × ℕ) → joins a b e ≡ true → is_at net i e ≡ true
-    joined_at e h = ap (λ o. option_map_or (λ k. k == i) o false) (there (ends_of a b e h)) ∙ eq-eqb i i refl
+    joined_at e h = ap (λ o. option_map_or (λ k. k == i) o false) (there (joins_ends a b e h)) ∙ eq-eqb i i refl
       where
         there : ((e.0 ≡ a) × (e.1 ≡ b)) ⊎ ((e.0 ≡ b) × (e.1 ≡ a)) → position (joins e.0 e.1) net.links ≡ Some i
         there (inl same) = (λ k. position (joins (same.0 k) (same.1 k)) net.links) ∙ found
-        there (inr other) = (λ k. position (joins (other.0 k) (other.1 k)) net.links) ∙ sym flips ∙ found
+        there (inr other) = (λ k. position (joins (other.0 k) (other.1 k)) net.links) ∙ sym (position-joins_flips a b net.links) ∙ found
 
     at_joined : (e : ℕ × ℕ) → is_at net i e ≡ true → joins a b e ≡ true
-    at_joined e h = both (ends_of a b link on_link) (ends_of e.0 e.1 link (position-Some (joins e.0 e.1) net.links i (0, 0) (option_map_or_equal (position (joins e.0 e.1) net.links) i h)).1)
+    at_joined e h = both (joins_ends a b link on_link) (joins_ends e.0 e.1 link (position-Some (joins e.0 e.1) net.links i (0, 0) (option_map_or_equal (position (joins e.0 e.1) net.links) i h)).1)
       where
         both : ((link.0 ≡ a) × (link.1 ≡ b)) ⊎ ((link.0 ≡ b) × (link.1 ≡ a)) → ((link.0 ≡ e.0) × (link.1 ≡ e.1)) ⊎ ((link.0 ≡ e.1) × (link.1 ≡ e.0)) → joins a b e ≡ true
-        both (inl x) (inl y) = straight a b e (sym y.0 ∙ x.0) (sym y.1 ∙ x.1)
-        both (inl x) (inr y) = turned a b e (sym y.1 ∙ x.1) (sym y.0 ∙ x.0)
-        both (inr x) (inl y) = turned a b e (sym y.0 ∙ x.0) (sym y.1 ∙ x.1)
-        both (inr x) (inr y) = straight a b e (sym y.1 ∙ x.1) (sym y.0 ∙ x.0)
+        both (inl x) (inl y) = joins_straight a b e (sym y.0 ∙ x.0) (sym y.1 ∙ x.1)
+        both (inl x) (inr y) = joins_turned a b e (sym y.1 ∙ x.1) (sym y.0 ∙ x.0)
+        both (inr x) (inl y) = joins_turned a b e (sym y.0 ∙ x.0) (sym y.1 ∙ x.1)
+        both (inr x) (inr y) = joins_straight a b e (sym y.1 ∙ x.1) (sym y.0 ∙ x.0)
 
     -- so the mark of their link tells whether it is dead
     mark_tells : (pairs : List (ℕ × ℕ)) (marks : List Bool) → AreMarks net pairs marks → not (get_or marks i false) ≡ (linked net a b && not (list_any (joins a b) pairs))
     mark_tells pairs marks are =
         let within = (position-Some (joins a b) net.links i (0, 0) found).0 in
-        let same = any_each (is_at net i) (joins a b) pairs (λ e. same_tests (is_at net i e) (joins a b e) (at_joined e) (joined_at e)) in
+        let same = list_any-same (is_at net i) (joins a b) (λ e. same_tests (is_at net i e) (joins a b e) (at_joined e) (joined_at e)) pairs in
         ap not (are.at i within ∙ same) ∙ sym (ap (λ o. o && not (list_any (joins a b) pairs)) (list_any-at_position (joins a b) net.links i found))
 
     pub mark_read : (pairs : List (ℕ × ℕ)) (marks : List Bool) (d : Bool) → AreMarks net pairs marks → not (get_or marks i d) ≡ (linked net a b && not (list_any (joins a b) pairs))

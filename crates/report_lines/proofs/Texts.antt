@@ -1,7 +1,8 @@
 -- Where nothing is claimed no path is ranked, and what is shown has one report.
-use Rattle.std.proofs.Common.{◌≡◌, ℕ, false, List, [], ◌∷◌, ◌++◌, length, Option, Some, None, refl, sym, ap, ap₂, ◌∙◌, inl, inr}
+use Rattle.std.proofs.Common.{◌≡◌, ℕ, false, List, ◌++◌, length, Option, Some, None, refl, sym, ap, ap₂, ◌∙◌, inl, inr}
 use Rattle.std.specs.List.{flat_map}
 use Rattle.list_laws.proofs.Truth.{same_tests}
+use Rattle.list_laws.proofs.Changed.{flat_map_same}
 use Rattle.net_base.specs.Locations.{numbers_below}
 use Rattle.net_base.specs.Network.{PlainNet}
 use Rattle.net_base.specs.Prefixes.{PlainPrefix}
@@ -13,10 +14,6 @@ use Rattle.report_lines.specs.declared.claims.Claims.{Claims}
 use Rattle.report_lines.specs.Lines.{Shown, Sources, head_lines, held_text, lines_by, report_text, router_line, session_line}
 use Rattle.report_lines.specs.Report.{IsReport}
 use Rattle.report_lines.proofs.Ascending.{one_ascent}
-
-flat_map_each : {A B : Type 0} (f g : A → List B) (xs : List A) → ((x : A) → f x ≡ g x) → flat_map f xs ≡ flat_map g xs
-flat_map_each f g [] same = refl
-flat_map_each f g (x ∷ xs) same = ap₂ (λ (a b : List _). a ++ b) (same x) (flat_map_each f g xs same)
 
 module _ (net : PlainNet) (policy : PlainPolicy) (p : PlainPrefix) (shown : Shown) where
   -- a router that isn't claimed has one line, whatever ranks paths
@@ -36,7 +33,7 @@ module _ (net : PlainNet) (policy : PlainPolicy) (p : PlainPrefix) (shown : Show
   pub lines_none : (config : PlainConfig) (s t : Option PlainStatement) (sources : Sources) → AreNone sources → lines_by net policy config p s sources shown ≡ lines_by net policy config p t sources shown
   lines_none config s t sources none =
       ap₂ (λ (a b : List ℕ). head_lines config p ++ a ++ b)
-      (flat_map_each (router_line net policy p s sources shown) (router_line net policy p t sources shown) (numbers_below (length net.routers)) (λ r. unranked s t sources r (none.routers r)))
+      (flat_map_same (router_line net policy p s sources shown) (router_line net policy p t sources shown) (numbers_below (length net.routers)) (λ r _. unranked s t sources r (none.routers r)))
       (ap (flat_map (session_line net s shown)) none.sessions ∙ sym (ap (flat_map (session_line net t shown)) none.sessions))
 
   pub one_report : (config : PlainConfig) (a b : List ℕ) → IsReport net policy config p shown a → IsReport net policy config p shown b → a ≡ b
@@ -54,7 +51,7 @@ module _ (net : PlainNet) (policy : PlainPolicy) (p : PlainPrefix) (shown : Show
       texts : report_text net policy config p x.sources shown ≡ report_text net policy config p y.sources shown
       texts =
           ap₂ (λ (c d : List ℕ). head_lines config p ++ c ++ d)
-          (flat_map_each (router_line net policy p (statement_of policy p) x.sources shown) (router_line net policy p (statement_of policy p) y.sources shown) (numbers_below (length net.routers)) (λ r. claimed_alike (statement_of policy p) x.sources y.sources r (routers r)))
+          (flat_map_same (router_line net policy p (statement_of policy p) x.sources shown) (router_line net policy p (statement_of policy p) y.sources shown) (numbers_below (length net.routers)) (λ r _. claimed_alike (statement_of policy p) x.sources y.sources r (routers r)))
           (ap (flat_map (session_line net (statement_of policy p) shown)) sessions)
 
 -- lines by the statement of the claims are the report

@@ -3,6 +3,7 @@ use Rattle.std.proofs.Common.{◌≡◌, ℕ, Bool, true, false, List, [], ◌�
 use Rattle.std.specs.Prelude.{◌&&◌, ◌||◌, ◌==◌, option_and_then, if◌then◌else◌}
 use Rattle.std.specs.List.{find}
 use Rattle.std.proofs.lemmas.Bool.{eq-eqb, eqb-true, and_parts}
+use Rattle.std.proofs.Math.Bool.{and-false}
 use Rattle.net_base.specs.declared.numbers.Tag.{Tag}
 use Rattle.net_base.specs.Network.{PlainNet, is_peer}
 use Rattle.net_base.specs.Prefixes.{PlainPrefix}
@@ -12,6 +13,7 @@ use Rattle.config_base.specs.declared.config.Export.{Export}
 use Rattle.config_base.specs.Lines.{block_at, same_tag, is_looped, line_by, import_by, export_by}
 use Rattle.list_laws.proofs.Tests.{list_any-found, list_any-not_found}
 use Rattle.route_maps.specs.Maps.{PlainMaps, list_permits, blocks, out_by, map_out, in_by, map_in}
+use Rattle.route_maps.proofs.ListLaws.{none_either_way}
 
 -- the first that passes a test on its class and another test is the first of its class that passes the other
 find_class : {X : Type 0} (class : X → ℕ) (permitted : ℕ → Bool) (fits : X → Bool) (xs : List X) (x : X)
@@ -30,12 +32,8 @@ find_class class permitted fits (y ∷ ys) x h = by_test (permitted (class y)) (
     by_test : (b c : Bool) → permitted (class y) ≡ b → fits y ≡ c → (find (λ y. permitted (class y) && fits y) ys ≡ Some x → find (λ y. class y == class x && fits y) ys ≡ Some x)
         → find (λ y. class y == class x && fits y) (y ∷ ys) ≡ Some x
     by_test true true is fit later = let same : y ≡ x = let k = rw (is, fit) at h in cc in rw (eq-eqb (class y) (class x) (ap class same), fit) (ap Some same)
-    by_test b false is fit later = let none : (b && false) ≡ false = none_and b in rw fit (skip (class y == class x) (later (rw (is, fit, none) at h)))
+    by_test b false is fit later = let none : (b && false) ≡ false = and-false b in rw fit (skip (class y == class x) (later (rw (is, fit, none) at h)))
       where
-        none_and : (b : Bool) → (b && false) ≡ false
-        none_and true = refl
-        none_and false = refl
-
         skip : (b : Bool) {o p : Option _} → o ≡ p → (if b && false then Some y else o) ≡ p
         skip true e = e
         skip false e = e
@@ -54,10 +52,6 @@ module _ (net : PlainNet) (maps : PlainMaps) (p : PlainPrefix) where
 
   abbrev sent : Tag → Export → Bool
   sent tag e = list_permits maps e.class p && same_tag e.tag tag
-
-  none_either_way : (t : Bool) {o : Option (Tag × ℕ)} → o ≡ None → (if t then None else o) ≡ None
-  none_either_way true e = refl
-  none_either_way false e = e
 
   pub in_nowhere : (at from : ℕ) (path : List ℕ) (tag : Tag) → block_at net (blocks maps) at from ≡ None → map_in net maps p at from path tag ≡ None
   in_nowhere at from path tag none = none_either_way (is_looped net at from path) (ap (option_and_then (in_by net maps p from tag)) none)

@@ -4,6 +4,7 @@ use Rattle.std.specs.Prelude.{◌↔◌, ◌⊎◌, IsTrue, not, ◌&&◌, ◌||
 use Rattle.std.specs.List.{filter}
 use Rattle.std.proofs.lemmas.Bool.{eqb-true, eq-eqb, ne_eqb, false_from_ne_true, or_cases, or_left, or_right, false≢true}
 use Rattle.std.proofs.lemmas.List.Folds.{list_any-append}
+use Rattle.std.proofs.Math.Bool.{and-false}
 use Rattle.net_base.specs.Prefixes.{PlainPrefix, PlainPattern, contains}
 use Rattle.path_words.specs.Governing.{some_contains}
 use Rattle.config_base.specs.Configs.{PlainConfig}
@@ -13,6 +14,11 @@ use Rattle.route_maps.specs.declared.maps.ListLine.{ListLine}
 use Rattle.route_maps.specs.Maps.{permits, list_permits}
 use Rattle.route_maps.specs.OfConfig.{line, meets_some, list_for, lists_from, maps_of}
 use Rattle.route_maps.proofs.OverlapLaws.{overlap-from_both}
+
+-- nothing comes of nothing, whatever a test says
+pub none_either_way : {A : Type 0} (b : Bool) {o : Option A} → o ≡ None → (if b then None else o) ≡ None
+none_either_way true e = refl
+none_either_way false e = e
 
 -- the class is there and has this number
 abbrev pub is_class : Option ℕ → ℕ → Bool
@@ -75,13 +81,9 @@ permits-list_for earlier ps p within = by_class (some_contains ps p) refl
     none true = refl
     none false = refl
 
-    none_and : (x : Bool) → (not x && false) ≡ false
-    none_and true = refl
-    none_and false = refl
-
     by_class : (b : Bool) → some_contains ps p ≡ b → permits (list_for earlier ps) p ≡ (not (some_contains earlier p) && some_contains ps p)
     by_class true is = cut ∙ ap (λ b. if b then false else some_contains ps p) (kept ps earlier p within is) ∙ same (some_contains earlier p) (some_contains ps p)
-    by_class false is = cut ∙ (rw is (none (some_contains (filter (meets_some ps) earlier) p) ∙ sym (none_and (some_contains earlier p))))
+    by_class false is = cut ∙ (rw is (none (some_contains (filter (meets_some ps) earlier) p) ∙ sym (and-false (not (some_contains earlier p)))))
 
 -- after a class that contains the prefix no list permits it
 past : (earlier : List PlainPattern) (classes : List (List PlainPattern)) (p : PlainPrefix) (i : ℕ) → p.len ≤ 32 → some_contains earlier p ≡ true

@@ -1,7 +1,9 @@
 -- Entries over the lists of a configuration's maps decide as the configuration's lines.
-use Rattle.std.proofs.Common.{◌≡◌, ℕ, ◌≤◌, Bool, true, false, List, [], ◌∷◌, Option, Some, None, refl, ap, ◌∙◌}
+use Rattle.std.proofs.Common.{◌≡◌, ℕ, ◌≤◌, List, Option, Some, None, refl, ap, ◌∙◌}
 use Rattle.std.specs.Prelude.{◌&&◌, ◌||◌, ◌==◌, option_and_then, unwrap_or, if◌then◌else◌}
 use Rattle.std.specs.List.{list_any, find}
+use Rattle.list_laws.proofs.Tests.{find-same, list_any-same, find-never, list_any-never}
+use Rattle.list_laws.proofs.Options.{option_and_then-never}
 use Rattle.net_base.specs.declared.numbers.Tag.{Tag}
 use Rattle.net_base.specs.Network.{PlainNet, is_peer}
 use Rattle.net_base.specs.Numbers.{no_tag}
@@ -15,36 +17,12 @@ use Rattle.config_base.specs.Configs.{PlainConfig}
 use Rattle.config_base.specs.Lines.{class_of, export_by, export_of, line_by, import_of, own_tag, same_tag, block_at, router_at, is_looped}
 use Rattle.route_maps.specs.Maps.{list_permits, out_by, map_out, in_by, map_in, map_own}
 use Rattle.route_maps.specs.OfConfig.{maps_of, MeansAs}
-use Rattle.route_maps.proofs.ListLaws.{is_class, list_permits-maps_of, permits_class}
-
-find_agree : {X : Type 0} (f g : X → Bool) → ((x : X) → f x ≡ g x) → (xs : List X) → find f xs ≡ find g xs
-find_agree f g e [] = refl
-find_agree f g e (x ∷ xs) = at_first (g x) refl (find_agree f g e xs)
-  where
-    at_first : (b : Bool) → g x ≡ b → find f xs ≡ find g xs → find f (x ∷ xs) ≡ find g (x ∷ xs)
-    at_first true is later = rw (e x) (rw is refl)
-    at_first false is later = rw (e x) (rw is later)
-
-any_agree : {X : Type 0} (f g : X → Bool) → ((x : X) → f x ≡ g x) → (xs : List X) → list_any f xs ≡ list_any g xs
-any_agree f g e [] = refl
-any_agree f g e (x ∷ xs) = rw (e x) (ap (λ b. g x || b) (any_agree f g e xs))
-
-find_nothing : {X : Type 0} (f : X → Bool) → ((x : X) → f x ≡ false) → (xs : List X) → find f xs ≡ None
-find_nothing f e [] = refl
-find_nothing f e (x ∷ xs) = rw (e x) (find_nothing f e xs)
-
-any_nothing : {X : Type 0} (f : X → Bool) → ((x : X) → f x ≡ false) → (xs : List X) → list_any f xs ≡ false
-any_nothing f e [] = refl
-any_nothing f e (x ∷ xs) = rw (e x) (any_nothing f e xs)
+use Rattle.route_maps.proofs.ListLaws.{is_class, list_permits-maps_of, permits_class, none_either_way}
 
 -- chains that agree at each value
 chain_agree : {X Y : Type 0} (f g : X → Option Y) → ((x : X) → f x ≡ g x) → (o : Option X) → option_and_then f o ≡ option_and_then g o
 chain_agree f g e None = refl
 chain_agree f g e (Some x) = e x
-
-chain_nothing : {X Y : Type 0} (f : X → Option Y) → ((x : X) → f x ≡ None) → (o : Option X) → option_and_then f o ≡ None
-chain_nothing f e None = refl
-chain_nothing f e (Some x) = e x
 
 abbrev values : Option Rule → Option (Tag × ℕ)
 values None = None
@@ -61,33 +39,29 @@ module _ (net : PlainNet) (config : PlainConfig) (p : PlainPrefix) (within : p.l
 
   out_as : (o : Option ℕ) → class_of config p ≡ o → (from to : ℕ) (tag : Tag)
       → map_out net (maps_of config) p from to tag ≡ option_and_then (λ class. export_of net config class from to tag) o
-  out_as None is from to tag = chain_nothing (out_by net (maps_of config) p to tag) none (block_at net config from to)
+  out_as None is from to tag = option_and_then-never (out_by net (maps_of config) p to tag) (block_at net config from to) none
     where
       none : (b : Session) → out_by net (maps_of config) p to tag b ≡ None
-      none b = rw (any_nothing (λ (e : Export). list_permits (maps_of config) e.class p && same_tag e.tag tag) (λ e. ap (λ t. t && same_tag e.tag tag) (permits_as None is e.class)) b.exports) refl
+      none b = rw (list_any-never (λ (e : Export). list_permits (maps_of config) e.class p && same_tag e.tag tag) (λ e. ap (λ t. t && same_tag e.tag tag) (permits_as None is e.class)) b.exports) refl
   out_as (Some class) is from to tag = chain_agree (out_by net (maps_of config) p to tag) (export_by net class to tag) same (block_at net config from to)
     where
       same : (b : Session) → out_by net (maps_of config) p to tag b ≡ export_by net class to tag b
       same b =
           ap (λ t. if t then Some (if is_peer net to then no_tag else tag) else None)
-          (any_agree (λ (e : Export). list_permits (maps_of config) e.class p && same_tag e.tag tag) (λ (e : Export). e.class == class && same_tag e.tag tag)
+          (list_any-same (λ (e : Export). list_permits (maps_of config) e.class p && same_tag e.tag tag) (λ (e : Export). e.class == class && same_tag e.tag tag)
           (λ e. ap (λ t. t && same_tag e.tag tag) (permits_as (Some class) is e.class)) b.exports)
 
   pub map_out-maps_of : (from to : ℕ) (tag : Tag)
       → map_out net (maps_of config) p from to tag ≡ option_and_then (λ class. export_of net config class from to tag) (class_of config p)
   map_out-maps_of from to tag = out_as (class_of config p) refl from to tag
 
-  none_either_way : (t : Bool) {o : Option (Tag × ℕ)} → o ≡ None → (if t then None else o) ≡ None
-  none_either_way true e = refl
-  none_either_way false e = e
-
   in_as : (o : Option ℕ) → class_of config p ≡ o → (at from : ℕ) (path : List ℕ) (tag : Tag)
       → map_in net (maps_of config) p at from path tag ≡ option_and_then (λ class. import_of net config class at from path tag) o
-  in_as None is at from path tag = none_either_way (is_looped net at from path) (chain_nothing (in_by net (maps_of config) p from tag) none (block_at net config at from))
+  in_as None is at from path tag = none_either_way (is_looped net at from path) (option_and_then-never (in_by net (maps_of config) p from tag) (block_at net config at from) none)
     where
       none : (b : Session) → in_by net (maps_of config) p from tag b ≡ None
       none b =
-          ap values (find_nothing (λ (rule : Rule). list_permits (maps_of config) rule.class p && (is_peer net from || same_tag rule.tag tag))
+          ap values (find-never (λ (rule : Rule). list_permits (maps_of config) rule.class p && (is_peer net from || same_tag rule.tag tag))
           (λ rule. ap (λ t. t && (is_peer net from || same_tag rule.tag tag)) (permits_as None is rule.class)) b.imports)
   in_as (Some class) is at from path tag =
       ap (λ (o : Option (Tag × ℕ)). if is_looped net at from path then None else o)
@@ -95,7 +69,7 @@ module _ (net : PlainNet) (config : PlainConfig) (p : PlainPrefix) (within : p.l
     where
       same : (b : Session) → in_by net (maps_of config) p from tag b ≡ line_by net class from tag b
       same b =
-          ap values (find_agree (λ (rule : Rule). list_permits (maps_of config) rule.class p && (is_peer net from || same_tag rule.tag tag))
+          ap values (find-same (λ (rule : Rule). list_permits (maps_of config) rule.class p && (is_peer net from || same_tag rule.tag tag))
           (λ (rule : Rule). rule.class == class && (is_peer net from || same_tag rule.tag tag))
           (λ rule. ap (λ t. t && (is_peer net from || same_tag rule.tag tag)) (permits_as (Some class) is rule.class)) b.imports)
 
@@ -107,10 +81,10 @@ module _ (net : PlainNet) (config : PlainConfig) (p : PlainPrefix) (within : p.l
       → own_value (find (λ (o : Own). list_permits (maps_of config) o.class p && same_prefix o.prefix p) c.own)
       ≡ option_and_then (λ class. own_value (find (λ (o : Own). o.class == class && same_prefix o.prefix p) c.own)) o
   own_as None is c =
-      ap own_value (find_nothing (λ (o : Own). list_permits (maps_of config) o.class p && same_prefix o.prefix p)
+      ap own_value (find-never (λ (o : Own). list_permits (maps_of config) o.class p && same_prefix o.prefix p)
       (λ o. ap (λ t. t && same_prefix o.prefix p) (permits_as None is o.class)) c.own)
   own_as (Some class) is c =
-      ap own_value (find_agree (λ (o : Own). list_permits (maps_of config) o.class p && same_prefix o.prefix p)
+      ap own_value (find-same (λ (o : Own). list_permits (maps_of config) o.class p && same_prefix o.prefix p)
       (λ (o : Own). o.class == class && same_prefix o.prefix p)
       (λ o. ap (λ t. t && same_prefix o.prefix p) (permits_as (Some class) is o.class)) c.own)
 

@@ -1,7 +1,8 @@
 -- Routers are settled in rounds, by the length of their paths.
-use Rattle.std.proofs.Common.{◌≡◌, ℕ, zero, suc, ◌<◌, ◌≤◌, Bool, true, false, cond, ◌&&◌, ◌⊎◌, inl, inr, length, Option, Some, None, refl, sym, ap, ◌∙◌, subst, arith}
+use Rattle.std.proofs.Common.{◌≡◌, ℕ, zero, suc, ◌<◌, ◌≤◌, true, false, cond, ◌⊎◌, inl, inr, length, Option, Some, None, refl, sym, ap, ◌∙◌, subst, arith}
 use Rattle.std.specs.Option.{is_some, option_and_then}
-use Rattle.std.proofs.lemmas.Bool.{false≢true, cases_lt, eqb-true, eq-eqb}
+use Rattle.std.proofs.lemmas.Bool.{false≢true, cases_lt, eqb-true, eq-eqb, and_right}
+use Rattle.std.proofs.Math.Bool.{and-false}
 use Rattle.list_laws.proofs.Options.{when_parts}
 use Rattle.routing_law.specs.Graph.{WellFormed, run}
 use Rattle.routing_law.specs.Laws.{GraphOutcomeExists}
@@ -22,11 +23,6 @@ has_number_from w goal o x h e = rw h (eq-eqb (w.graph.number x.node) goal e)
 has_number_at : (w : Setup) (goal : ℕ) (o : Option Route) → has_number w goal o ≡ true → (x : Route) × (o ≡ Some x) × (w.graph.number x.node ≡ goal)
 has_number_at w goal None h = absurd (false≢true h)
 has_number_at w goal (Some x) h = (x, refl, eqb-true (w.graph.number x.node) goal h)
-
-no_third : (a b : Bool) → (a && (b && false)) ≡ false
-no_third true true = refl
-no_third true false = refl
-no_third false b = refl
 
 -- v was settled after round k
 pub record Fresh (w : Setup) (t : Tops w) (k v : ℕ) (x : Route) : Type 0 where
@@ -116,7 +112,7 @@ module _ (w : Setup) (t : Tops w) where
   at_origin : (j v : ℕ) → w.net.origin v ≡ true → rounds w t.top j v ≡ own_route w v
   at_origin zero v o = rw o
   at_origin (suc j) v o =
-      let c : chooses w.net w.alive v ≡ false = rw o (no_third (w.net.router v) (w.alive.live v)) in
+      let c : chooses w.net w.alive v ≡ false = rw o (and_right (w.net.router v) _ (and-false (w.alive.live v))) in
       let a : kept (rounds w t.top j v) None ≡ rounds w t.top j v = kept_none (rounds w t.top j v) in
       rw c (a ∙ at_origin j v o)
     where

@@ -4,8 +4,8 @@ use Rattle.std.specs.Prelude.{⊤, IsTrue, ◌||◌, ◌==◌, option_map}
 use Rattle.std.specs.List.{list_any, position, AllByRecursion}
 use Rattle.std.specs.Result.{result_ok}
 use Rattle.std.specs.Str.{bytes_eq}
-use Rattle.std.proofs.lemmas.Bool.{and_from, and_parts, eqb-true, eqb-false, not-false}
-use Rattle.list_laws.proofs.Each.{AllByRecursion-from_list_any, list_any_breaks}
+use Rattle.std.proofs.lemmas.Bool.{and_from, and_parts, eqb-true, eqb-false}
+use Rattle.list_laws.proofs.Each.{AllByRecursion-from_list_any, list_any_breaks, AllByRecursion-not, AllByRecursion-from_not}
 use Rattle.list_laws.proofs.Positions.{list_any-at_position, list_any-no_position}
 use Rattle.net_base.specs.Network.{PlainNet, linked}
 use Rattle.net_base.specs.PrefixText.{prefix_spelled}
@@ -13,6 +13,7 @@ use Rattle.net_base.specs.Steps.{◌>>=◌, each_from, or_fault}
 use Rattle.net_base.specs.declared.place.Field.{Field}
 use Rattle.net_base.specs.declared.place.Field.TheVariants as field
 use Rattle.net_base.proofs.StepLemmas.{bind_ok, err_same, ok_not_err, ok_same, or_fault_ok}
+use Rattle.net_base.proofs.StepOutcomes.{bind_case, or_fault_err, each_from-breaks}
 use Rattle.stable_paths.specs.declared.scenario.Scenario.{Scenario}
 use Rattle.scenario_text.specs.declared.fault.ScenarioFault.{ScenarioFault}
 use Rattle.scenario_text.specs.declared.fault.ScenarioFault.TheVariants.{Unknown, NoLink, NotPeerLink, BadPrefix}
@@ -24,15 +25,6 @@ use Rattle.scenario_text.specs.Shape.{each, Ends, Said}
 
 -- ---- which step decided
 
-pub bind_case : {A B : Type 0} (C : Type 0) (r : Result A ScenarioFault) (f : A → Result B ScenarioFault) (y : Result B ScenarioFault) → (r >>= f) ≡ y
-    → ((e : ScenarioFault) → r ≡ Err e → y ≡ Err e → C) → ((x : A) → r ≡ Ok x → f x ≡ y → C) → C
-bind_case C (Ok x) f y h here later = later x refl h
-bind_case C (Err e) f y h here later = here e refl (sym h)
-
-pub or_fault_err : {A : Type 0} (e f : ScenarioFault) (o : Option A) → or_fault e o ≡ Err f → (e ≡ f) × (o ≡ None)
-or_fault_err e f (Some x) h = absurd cc
-or_fault_err e f None h = (cc, refl)
-
 no_fault-ok : {A : Type 0} (told : A → ScenarioFault) (o : Option A) (x : ⊤) → no_fault (option_map told o) ≡ Ok x → o ≡ None
 no_fault-ok told None x h = refl
 no_fault-ok told (Some y) x h = absurd cc
@@ -40,17 +32,6 @@ no_fault-ok told (Some y) x h = absurd cc
 no_fault-err : {A : Type 0} (told : A → ScenarioFault) (o : Option A) (f : ScenarioFault) → no_fault (option_map told o) ≡ Err f → (x : A) × (o ≡ Some x) × (told x ≡ f)
 no_fault-err told None f h = absurd cc
 no_fault-err told (Some x) f h = (x, refl, cc)
-
--- where a step fails only at items without a property, not all items have it
-each_from-breaks : {A B : Type 0} (P : A → Type 0) (Q : ScenarioFault → Type 0) (f : ℕ → A → Result B ScenarioFault) → ((k : ℕ) (x : A) (e : ScenarioFault) → f k x ≡ Err e → (P x → ⊥) × Q e)
-    → (k : ℕ) (xs : List A) (e : ScenarioFault) → each_from f k xs ≡ Err e → (AllByRecursion P xs → ⊥) × Q e
-each_from-breaks P Q f each k [] e h = absurd cc
-each_from-breaks P Q f each k (x ∷ xs) e h =
-    bind_case ((AllByRecursion P (x ∷ xs) → ⊥) × Q e) (f k x) (λ y. each_from f (k + 1) xs >>= (λ ys. Ok (y ∷ ys))) (Err e) h
-    (λ d p same. let q = each k x d p in ((λ a. q.0 a.0), rw (err_same e d same) q.1))
-    (λ y _ g. bind_case ((AllByRecursion P (x ∷ xs) → ⊥) × Q e) (each_from f (k + 1) xs) (λ ys. Ok (y ∷ ys)) (Err e) g
-    (λ d p same. let q = each_from-breaks P Q f each (k + 1) xs d p in ((λ a. q.0 a.1), rw (err_same e d same) q.1))
-    (λ ys _ k. absurd (ok_not_err (y ∷ ys) e k)))
 
 -- what went well at each item holds of each
 each_from-keeps : {A B : Type 0} (P : A → Type 0) (f : ℕ → A → Result B ScenarioFault) → ((k : ℕ) (x : A) (y : B) → f k x ≡ Ok y → P x)
@@ -60,14 +41,6 @@ each_from-keeps P f each k (x ∷ xs) ys h =
     let p = bind_ok (f k x) (λ y. each_from f (k + 1) xs >>= (λ ys. Ok (y ∷ ys))) ys h in
     let q = bind_ok (each_from f (k + 1) xs) (λ ys. Ok (p.0 ∷ ys)) ys p.2 in
     (each k x p.0 p.1, each_from-keeps P f each (k + 1) xs q.0 q.1)
-
-not_all : {A : Type 0} (g : A → Bool) (xs : List A) → AllByRecursion (λ x. not (g x) ≡ false) xs → AllByRecursion (λ x. IsTrue (g x)) xs
-not_all g [] a = tt
-not_all g (x ∷ xs) a = (not-false (g x) a.0, not_all g xs a.1)
-
-all_not : {A : Type 0} (g : A → Bool) (xs : List A) → AllByRecursion (λ x. IsTrue (g x)) xs → AllByRecursion (λ x. not (g x) ≡ false) xs
-all_not g [] a = tt
-all_not g (x ∷ xs) a = (rw a.0 refl, all_not g xs a.1)
 
 module _ (net : PlainNet) where
   -- ---- names
@@ -142,13 +115,13 @@ module _ (net : PlainNet) where
     module _ (told : ℕ → ScenarioFault) (es : List Ends) (ps : List (ℕ × ℕ)) (at : AllAt es ps) where
       told-keeps : no_fault (option_map told (position (λ p. not (test p)) ps)) ≡ Ok tt → AllByRecursion (λ e. IsTrue (passes net test e)) es
       told-keeps h =
-          not_all (passes net test) es
+          AllByRecursion-from_not (passes net test) es
           (AllByRecursion-from_list_any (λ e. not (passes net test e)) es (sym (any_at es ps at) ∙ list_any-no_position (λ p. not (test p)) ps (no_fault-ok told (position (λ p. not (test p)) ps) tt h)))
 
       told-breaks : (e : ScenarioFault) → no_fault (option_map told (position (λ p. not (test p)) ps)) ≡ Err e → (AllByRecursion (λ e. IsTrue (passes net test e)) es → ⊥) × ((i : ℕ) × (told i ≡ e))
       told-breaks e h =
           let q = no_fault-err told (position (λ p. not (test p)) ps) e h in
-          ((λ a. list_any_breaks (λ e. not (passes net test e)) es (sym (any_at es ps at) ∙ list_any-at_position (λ p. not (test p)) ps q.0 q.1) (all_not (passes net test) es a)), (q.0, q.2))
+          ((λ a. list_any_breaks (λ e. not (passes net test e)) es (sym (any_at es ps at) ∙ list_any-at_position (λ p. not (test p)) ps q.0 q.1) (AllByRecursion-not (passes net test) es a)), (q.0, q.2))
 
 -- ---- the prefix
 

@@ -13,6 +13,7 @@ use Rattle.net_base.specs.Network.{PlainNet}
 use Rattle.net_base.specs.Steps.{◌>>=◌, or_fault}
 use Rattle.net_base.specs.declared.place.Field.{Field}
 use Rattle.net_base.proofs.StepLemmas.{bind_ok, err_same, or_fault_ok}
+use Rattle.net_base.proofs.StepOutcomes.{bind_case, or_fault_err}
 use Rattle.stable_paths.specs.declared.scenario.Scenario.{Scenario}
 use Rattle.scenario_text.specs.declared.fault.ScenarioFault.{ScenarioFault}
 use Rattle.scenario_text.specs.declared.fault.ScenarioFault.TheVariants.{NotJson, Shape}
@@ -21,7 +22,7 @@ use Rattle.scenario_text.specs.Laws.{rules, Says, Keeps, KeepsBelow}
 use Rattle.scenario_text.specs.Rules.{judged}
 use Rattle.scenario_text.specs.Shape.{Said, shape_of}
 use Rattle.scenario_text.specs.Spelled.{spelled}
-use Rattle.scenario_text.proofs.RulesKept.{bind_case, judged_outcome, or_fault_err, Outcome}
+use Rattle.scenario_text.proofs.RulesKept.{judged_outcome, Outcome}
 use Rattle.scenario_text.proofs.ShapeFaults.{OnlyShape, shape_only}
 
 -- the JSON value of a text, as a step

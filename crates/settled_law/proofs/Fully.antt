@@ -1,8 +1,9 @@
 -- An outcome with ties broken is one of the lines of a class, and the other way round.
-use Rattle.std.proofs.Common.{◌≡◌, ℕ, ◌+◌, ◌<◌, suc, zero, Bool, List, [], ◌∷◌, ◌++◌, length, Option, Some, refl, arith, sym, ap, ◌∙◌, subst}
+use Rattle.std.proofs.Common.{◌≡◌, ℕ, ◌<◌, suc, Bool, List, [], ◌∷◌, length, Option, Some, refl, arith, sym, ap, ◌∙◌, subst}
 use Rattle.std.specs.Prelude.{nat_eq, option_map, slice_get}
 use Rattle.std.specs.Option.{option_and_then}
 use Rattle.std.proofs.lemmas.Bool.{eq-eqb}
+use Rattle.std.proofs.lemmas.List.{length-append}
 use Rattle.net_base.specs.declared.net.Site.{Site}
 use Rattle.net_base.specs.Network.{PlainNet, IsNet, sites, id_of}
 use Rattle.net_base.specs.Prefixes.{PlainPrefix}
@@ -19,25 +20,17 @@ use Rattle.list_laws.proofs.Options.{option_map_parts}
 use Rattle.regret_law.proofs.Existence as exist
 use Rattle.regret_law.proofs.Existence.{held, outcome_of, route_of}
 use Rattle.list_laws.proofs.Keys.{place_by_key}
+use Rattle.list_laws.proofs.Items.{slice_get_inside}
 use Rattle.routing_law.specs.Lines as line
 use Rattle.routing_law.specs.Network as law
 use Rattle.settled_law.specs.Settled.{IsFullyStable, IsNoLater}
 
 -- identifiers differ over the network
-at_place : {A : Type 0} (xs : List A) (k : ℕ) → k < length xs → (x : A) × (slice_get xs k ≡ Some x)
-at_place [] k less = absurd (omega (arith, less))
-at_place (x ∷ xs) zero less = (x, refl)
-at_place (x ∷ xs) (suc k) less = at_place xs k (omega (arith, less))
-
-both_sides : {A : Type 0} (xs ys : List A) → length (xs ++ ys) ≡ length xs + length ys
-both_sides [] ys = omega arith
-both_sides (x ∷ xs) ys = omega (arith, both_sides xs ys)
-
 pub names_differ : (net : PlainNet) (origin : ℕ → Bool) → IsNet net → law.NamesDiffer (network_of net origin)
 names_differ net origin rules u v below_u below_v same =
-    let all = both_sides net.routers net.peers in
-    let a = at_place (sites net) u (omega (arith, all, below_u)) in
-    let b = at_place (sites net) v (omega (arith, all, below_v)) in
+    let all = length-append net.routers net.peers in
+    let a = slice_get_inside (sites net) u (omega (arith, all, below_u)) in
+    let b = slice_get_inside (sites net) v (omega (arith, all, below_v)) in
     let id_a : id_of net u ≡ a.0.id = rw a.1 refl in
     let id_b : id_of net v ≡ b.0.id = rw b.1 refl in
     let ids : a.0.id ≡ b.0.id = sym id_a ∙ same ∙ id_b in

@@ -18,14 +18,14 @@ use Rattle.outcome_base.specs.Outcomes.{Failures, Outcome, is_dead, route_at, gi
 use Rattle.path_words.specs.Policies.{IsPolicyOf}
 use Rattle.regret_law.specs.Passes.{IsCaseGraph, Passes, IsClaimed}
 use Rattle.regret_law.proofs.Setting.{network_of, alive_of, lines_of, lines_at, line_of, setup_of, pairs_of}
-use Rattle.list_laws.proofs.Options.{cases_Option, option_map_parts}
+use Rattle.list_laws.proofs.Options.{cases_Option, option_map_parts, none_or_some}
 use Rattle.regret_law.proofs.ClassFound.{class_in}
 use Rattle.regret_law.proofs.CaseOfClass.{IsCaseOf, governed_case, ungoverned_class}
 use Rattle.regret_law.proofs.GraphForms.{meets_rules}
 use Rattle.regret_law.proofs.ClassLines.{written}
 use Rattle.regret_law.proofs.Existence.{outcome_of, outcome-size, route_of}
 use Rattle.regret_law.proofs.ExistenceLaw.{lone_stable, own_alone}
-use Rattle.regret_law.proofs.RightLaw.{class_is, no_value, no_gift}
+use Rattle.regret_law.proofs.RightLaw.{class_is, no_gift}
 use Rattle.routing_law.specs.Graph.{MeetsRules}
 use Rattle.routing_law.specs.Lines as line
 use Rattle.routing_law.specs.Outcome as outcomes
@@ -37,7 +37,7 @@ use Rattle.settled_law.proofs.Fully.{fully, fully_lines, names_differ, same_list
 module _ (net : PlainNet) (policy : PlainPolicy) (config : PlainConfig) (f : Failures) (p : PlainPrefix) (free : class_of config p ≡ None) where
   -- without a class nothing is given, so no ties are there to be broken
   pub bare_fully : (outcome : Outcome) → IsStable net policy config f p outcome → IsFullyStable net policy config f p outcome
-  bare_fully outcome stable = record { stable = stable; first = λ r z h g who at by. absurd (no_value (given net policy config f p outcome z r) g (no_gift net policy config f p outcome free z r) by) }
+  bare_fully outcome stable = record { stable = stable; first = λ r z h g who at by. absurd (none_or_some (given net policy config f p outcome z r) g (no_gift net policy config f p outcome free z r) by) }
 
   -- and each router's route is known
   bare_route : (a b : Outcome) → IsStable net policy config f p a → IsStable net policy config f p b → (r : ℕ) → is_router net r ≡ true → route_at a r ≡ route_at b r
@@ -56,7 +56,7 @@ module _ (net : PlainNet) (policy : PlainPolicy) (config : PlainConfig) (f : Fai
       unrouted : (a : Outcome) → IsStable net policy config f p a → (r : ℕ) → (is_router net r && not (is_origin net policy p r) && not (is_dead f r)) ≡ true → route_at a r ≡ None
       unrouted a x r h = elim (cases_Option (route_at a r)) [
         | inl none ↦ none
-        | inr has ↦ (let by = (x.chooses r h).given_by has.0 has.1 in absurd (no_value (given net policy config f p a by.0 r) has.0 (no_gift net policy config f p a free by.0 r) by.1))
+        | inr has ↦ (let by = (x.chooses r h).given_by has.0 has.1 in absurd (none_or_some (given net policy config f p a by.0 r) has.0 (no_gift net policy config f p a free by.0 r) by.1))
       ]
 
 module _ (net : PlainNet) (policy : PlainPolicy) (config : PlainConfig) (cs : List PlainCaseEvidence) (rules : IsNet net) (kept : IsPolicyOf net policy) (passes : Passes net policy config cs) (f : Failures) (p : PlainPrefix) where

@@ -3,7 +3,7 @@ use Rattle.std.proofs.Common.{◌≡◌, ℕ, ◌<◌, zero, suc, Bool, true, fa
 use Rattle.std.specs.Prelude.{◌&&◌, not, option_map, IsTrue}
 use Rattle.std.specs.Option.{option_and_then}
 use Rattle.std.proofs.lemmas.Bool.{and_from, cases_Bool, lt-ltb, not_from_false}
-use Rattle.list_laws.proofs.Options.{cases_Option}
+use Rattle.list_laws.proofs.Options.{cases_Option, none_or_some}
 use Rattle.net_base.specs.declared.loc.LocSet.{LocSet}
 use Rattle.net_base.specs.Network.{PlainNet, IsNet, is_router}
 use Rattle.net_base.specs.Prefixes.{PlainPrefix, IsPrefix}
@@ -18,7 +18,7 @@ use Rattle.evidence_base.specs.Made.{PlainCaseEvidence, case_at}
 use Rattle.outcome_base.specs.Outcomes.{Failures, Outcome, IsStable, given, is_dead, route_at}
 use Rattle.regret_law.proofs.Existence.{held, outcome-size, outcome_of, route_of}
 use Rattle.regret_law.proofs.ExistenceLaw.{lone_stable, own_alone}
-use Rattle.regret_law.proofs.RightLaw.{no_gift, no_value}
+use Rattle.regret_law.proofs.RightLaw.{no_gift}
 use Rattle.regret_law.proofs.Setting.{lines_of, pairs_of, setup_of}
 use Rattle.regret_law.specs.Passes.{Passes}
 use Rattle.routing_law.specs.Outcome.{with_tag, with_tags}
@@ -80,7 +80,7 @@ module _ (net : PlainNet) (policy : PlainPolicy) (config : PlainConfig) (cs : Li
       unrouted : (r : ℕ) → (is_router net r && not (is_origin net policy p r) && not (is_dead f r)) ≡ true → route_at lone r ≡ None
       unrouted r h = elim (cases_Option (route_at lone r)) [
         | inl none ↦ none
-        | inr has ↦ (let by = (stable.chooses r h).given_by has.0 has.1 in absurd (no_value (given net policy config f p lone by.0 r) has.0 (no_gift net policy config f p lone free by.0 r) by.1))
+        | inr has ↦ (let by = (stable.chooses r h).given_by has.0 has.1 in absurd (none_or_some (given net policy config f p lone by.0 r) has.0 (no_gift net policy config f p lone free by.0 r) by.1))
       ]
 
       bare_held : (r : ℕ) → is_router net r ≡ true → held_by net config s origins p (λ k. None) r ≡ route_at lone r

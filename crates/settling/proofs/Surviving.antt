@@ -1,9 +1,10 @@
 -- What is left of a graph by the tables is what the failures leave.
-use Rattle.std.proofs.Common.{◌≡◌, ℕ, ◌+◌, ◌<◌, Bool, true, false, List, [], ◌∷◌, length, refl, sym, ap, ◌∙◌, inl, inr, arith, ltb-true}
-use Rattle.std.specs.Prelude.{◌&&◌, ◌||◌, ◌==◌, not, filter, IsTrue}
-use Rattle.std.specs.List.{list_any, AllByRecursion}
-use Rattle.std.proofs.lemmas.Bool.{and_parts, cases_Bool, eqb-true}
+use Rattle.std.proofs.Common.{◌≡◌, ℕ, ◌<◌, Bool, true, false, List, [], ◌∷◌, length, refl, sym, ap, ◌∙◌, inl, inr}
+use Rattle.std.specs.Prelude.{◌&&◌, ◌==◌, not, filter, IsTrue}
+use Rattle.std.specs.List.{AllByRecursion}
+use Rattle.std.proofs.lemmas.Bool.{and_parts, cases_Bool, eqb-true, and_right}
 use Rattle.std.proofs.lemmas.Map.Views.{any-filter_same}
+use Rattle.std.proofs.Math.Bool.{and_comm, and-false}
 use Rattle.net_base.specs.declared.loc.LocSet.{LocSet}
 use Rattle.net_base.specs.Network.{PlainNet, is_location, is_peer, is_router}
 use Rattle.net_base.specs.Sets.{holds}
@@ -17,21 +18,15 @@ use Rattle.stable_paths.proofs.Survived.{carries_is}
 use Rattle.settling.specs.Surviving.{chooses_by, left_by, lives_by, steps_by}
 
 module _ (net : PlainNet) (f : Failures) (s : Survivors) (are : AreSurvivors net f s) where
-  flipped : (b c : Bool) → (b && c) ≡ (c && b)
-  flipped true true = refl
-  flipped true false = refl
-  flipped false true = refl
-  flipped false false = refl
-
   pub starts_are : (g : PlainGraph) (n : ℕ) → is_start (left_by net s g) n ≡ (is_start g n && not (is_dead f (place_of g n)))
   starts_are g n =
       any-filter_same (λ k. k == n) (lives_by s g) (not (is_dead f (place_of g n))) (λ k e. ap (lives_by s g) (eqb-true k n e) ∙ ap not (are.dead (place_of g n))) g.starts
-      ∙ flipped (not (is_dead f (place_of g n))) (is_start g n)
+      ∙ and_comm (not (is_dead f (place_of g n))) (is_start g n)
 
   pub steps_are : (g : PlainGraph) (m n : ℕ) → has_step (left_by net s g) m n ≡ (has_step g m n && carries net f (place_of g m) (place_of g n))
   steps_are g m n =
       any-filter_same (λ (e : ℕ × ℕ). e.0 == m && e.1 == n) (steps_by net s g) (carries net f (place_of g m) (place_of g n)) same g.steps
-      ∙ flipped (carries net f (place_of g m) (place_of g n)) (has_step g m n)
+      ∙ and_comm (carries net f (place_of g m) (place_of g n)) (has_step g m n)
     where
       same : (e : ℕ × ℕ) → (e.0 == m && e.1 == n) ≡ true → steps_by net s g e ≡ carries net f (place_of g m) (place_of g n)
       same e h =
@@ -47,12 +42,7 @@ start_was net s g n h =
 pub starts_choose_not : (net : PlainNet) (s : Survivors) (g : PlainGraph) (origins : LocSet) → ((n : ℕ) → IsTrue (is_start g n) → IsTrue (holds origins (place_of g n)))
     → (n : ℕ) → IsTrue (is_start (left_by net s g) n) → chooses_by net s origins (place_of g n) ≡ false
 starts_choose_not net s g origins at n start =
-    ap (λ o. is_router net (place_of g n) && (not (holds s.dead (place_of g n)) && not o)) (at n (start_was net s g n start)) ∙ never (is_router net (place_of g n)) (not (holds s.dead (place_of g n)))
-  where
-    never : (a b : Bool) → (a && (b && false)) ≡ false
-    never true true = refl
-    never true false = refl
-    never false b = refl
+    ap (λ o. is_router net (place_of g n) && (not (holds s.dead (place_of g n)) && not o)) (at n (start_was net s g n start)) ∙ and_right (is_router net (place_of g n)) _ (and-false (not (holds s.dead (place_of g n))))
 
 -- what passes a test is what was there
 kept_all : {A : Type 0} (P : A → Type 0) (test : A → Bool) (xs : List A) → AllByRecursion P xs → AllByRecursion P (filter test xs)

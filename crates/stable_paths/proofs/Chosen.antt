@@ -7,15 +7,10 @@ use Rattle.std.proofs.Math.Bool.{or-false}
 use Rattle.std.proofs.lemmas.Bool.{and_parts, cases_eq, eq-eqb, eqb-true, false_from_ne_true}
 use Rattle.std.proofs.lemmas.Option.{slice_get-get_or}
 use Rattle.list_laws.proofs.Each.{AllByRecursion_at}
+use Rattle.list_laws.proofs.Numbers.{eqb_comm}
 use Rattle.net_base.specs.Network.{PlainNet, IsLink, IsNet}
 use Rattle.stable_paths.specs.Tests.{far_end}
 use Rattle.stable_paths.proofs.LinkMarks.{any_next}
-
-flips : (a b : ℕ) → (a == b) ≡ (b == a)
-flips a b = elim (cases_eq a b) [
-  | inl e ↦ eq-eqb a b e ∙ sym (eq-eqb b a (sym e))
-  | inr n ↦ false_from_ne_true _ (λ t. n (eqb-true a b t)) ∙ sym (false_from_ne_true _ (λ t. n (sym (eqb-true b a t))))
-]
 
 -- what both ends of a link are told is what the link tells
 module _ (t : ℕ → ℕ → Bool) (link : ℕ × ℕ) (r : ℕ) where
@@ -29,14 +24,14 @@ module _ (t : ℕ → ℕ → Bool) (link : ℕ × ℕ) (r : ℕ) where
         ∙ ap (λ x. b || x) (sym told)
     | inr n ↦
         let off : (link.0 == r) ≡ false = false_from_ne_true _ (λ h. n (eqb-true link.0 r h)) in
-        ap (λ o. (b || (o && t link.1 link.0)) || (r == link.1 && t link.0 link.1)) (flips r link.0 ∙ off) ∙ elim (cases_eq link.1 r) [
+        ap (λ o. (b || (o && t link.1 link.0)) || (r == link.1 && t link.0 link.1)) (eqb_comm r link.0 ∙ off) ∙ elim (cases_eq link.1 r) [
           | inl e ↦
               let told : option_map_or (λ z. t z r) (far_end r link) false ≡ t link.0 r = rw (off, eq-eqb link.1 r e) refl in
               ap (λ o. (b || false) || (o && t link.0 link.1)) (eq-eqb r link.1 (sym e)) ∙ ap (λ o. o || t link.0 link.1) (or-false b) ∙ ap (λ x. b || t link.0 x) e ∙ ap (λ x. b || x) (sym told)
           | inr m ↦
               let out : (link.1 == r) ≡ false = false_from_ne_true _ (λ h. m (eqb-true link.1 r h)) in
               let told : option_map_or (λ z. t z r) (far_end r link) false ≡ false = rw (off, out) refl in
-              ap (λ o. (b || false) || (o && t link.0 link.1)) (flips r link.1 ∙ out) ∙ or-false (b || false) ∙ ap (λ x. b || x) (sym told)
+              ap (λ o. (b || false) || (o && t link.0 link.1)) (eqb_comm r link.1 ∙ out) ∙ or-false (b || false) ∙ ap (λ x. b || x) (sym told)
         ]
   ]
     where

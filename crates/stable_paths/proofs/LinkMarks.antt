@@ -1,10 +1,10 @@
 -- Which links a set has, as far as a loop has come.
-use Rattle.std.proofs.Common.{◌≡◌, ℕ, zero, suc, ◌+◌, ◌<◌, Bool, true, false, List, length, get_or, set, take, replicate, Option, Some, None, ◌⊎◌, refl, sym, ap, ◌∙◌, inl, inr}
+use Rattle.std.proofs.Common.{◌≡◌, ℕ, ◌+◌, ◌<◌, Bool, true, false, List, length, get_or, set, take, replicate, Option, Some, None, ◌⊎◌, refl, sym, ap, ◌∙◌, inl, inr}
 use Rattle.std.specs.Prelude.{◌&&◌, ◌||◌, ◌==◌}
 use Rattle.std.specs.List.{list_any, position}
 use Rattle.std.specs.Option.{option_map_or}
-use Rattle.std.proofs.Math.Bool.{or_comm}
-use Rattle.std.proofs.lemmas.Bool.{and_from, and_parts, cases_eq, eq-eqb, eqb-true, false_from_ne_true, lt-ltb, or_cases, or_left, or_right, true≢false}
+use Rattle.std.proofs.Math.Bool.{or-true}
+use Rattle.std.proofs.lemmas.Bool.{and_from, and_parts, cases_eq, eq-eqb, eqb-true, false_from_ne_true, lt-ltb, or_left, true≢false}
 use Rattle.std.proofs.lemmas.List.{get_or-set_other, get_or-set_same}
 use Rattle.std.proofs.lemmas.List.Folds.{list_any_more}
 use Rattle.std.proofs.lemmas.List.Quantifiers.{position-Some}
@@ -12,50 +12,32 @@ use Rattle.list_laws.proofs.Each.{AllByRecursion_at}
 use Rattle.list_laws.proofs.Options.{is_some_parts}
 use Rattle.list_laws.proofs.Tests.{list_any_parts}
 use Rattle.list_laws.proofs.Truth.{or_failed, same_tests}
+use Rattle.list_laws.proofs.Items.{get_or-replicate_same}
 use Rattle.net_base.specs.Network.{PlainNet, IsLink, IsNet, is_peer, is_router, joins, linked}
 use Rattle.net_base.proofs.LinkSearch.{is_some-position}
 use Rattle.net_base.proofs.RoutersAndPeers.{peer_no_router}
-
-unmarked : (n i : ℕ) → get_or (replicate n false) i false ≡ false
-unmarked zero i = refl
-unmarked (suc n) zero = refl
-unmarked (suc n) (suc i) = unmarked n i
+use Rattle.net_base.proofs.Links.{joins_ends, joins_straight, joins_turned, position-joins_flips}
 
 -- ---- pairs that join two locations
 
-ends_of : (c d : ℕ) (e : ℕ × ℕ) → joins c d e ≡ true → ((e.0 ≡ c) × (e.1 ≡ d)) ⊎ ((e.0 ≡ d) × (e.1 ≡ c))
-ends_of c d e h = elim (or_cases (e.0 == c && e.1 == d) (e.0 == d && e.1 == c) h) [
-  | inl t ↦ (let parts = and_parts (e.0 == c) (e.1 == d) t in inl (eqb-true e.0 c parts.0, eqb-true e.1 d parts.1))
-  | inr t ↦ (let parts = and_parts (e.0 == d) (e.1 == c) t in inr (eqb-true e.0 d parts.0, eqb-true e.1 c parts.1))
-]
-
-straight : (c d : ℕ) (e : ℕ × ℕ) → e.0 ≡ c → e.1 ≡ d → joins c d e ≡ true
-straight c d e one two = or_left (e.0 == c && e.1 == d) _ (and_from (e.0 == c) (e.1 == d) (eq-eqb e.0 c one) (eq-eqb e.1 d two))
-
-turned : (c d : ℕ) (e : ℕ × ℕ) → e.0 ≡ d → e.1 ≡ c → joins c d e ≡ true
-turned c d e one two = or_right (e.0 == c && e.1 == d) (e.0 == d && e.1 == c) (and_from (e.0 == d) (e.1 == c) (eq-eqb e.0 d one) (eq-eqb e.1 c two))
-
-flips : (net : PlainNet) (a b : ℕ) → position (joins a b) net.links ≡ position (joins b a) net.links
-flips net a b = λ i. position (λ link. or_comm (link.0 == a && link.1 == b) (link.0 == b && link.1 == a) i) net.links
-
 -- what joins the same locations has the same place
 same_place : (net : PlainNet) (c d : ℕ) (e : ℕ × ℕ) → joins c d e ≡ true → position (joins c d) net.links ≡ position (joins e.0 e.1) net.links
-same_place net c d e h = elim (ends_of c d e h) [
+same_place net c d e h = elim (joins_ends c d e h) [
   | inl same ↦ (λ k. position (joins (sym same.0 k) (sym same.1 k)) net.links)
-  | inr other ↦ flips net c d ∙ (λ k. position (joins (sym other.0 k) (sym other.1 k)) net.links)
+  | inr other ↦ position-joins_flips c d net.links ∙ (λ k. position (joins (sym other.0 k) (sym other.1 k)) net.links)
 ]
 
 -- and what has the same place joins the same locations
 join_at : (net : PlainNet) (c d i : ℕ) (e : ℕ × ℕ) → position (joins c d) net.links ≡ Some i → position (joins e.0 e.1) net.links ≡ Some i → joins c d e ≡ true
 join_at net c d i e one two =
     let link = get_or net.links i (0, 0) in
-    both link (ends_of c d link (position-Some (joins c d) net.links i (0, 0) one).1) (ends_of e.0 e.1 link (position-Some (joins e.0 e.1) net.links i (0, 0) two).1)
+    both link (joins_ends c d link (position-Some (joins c d) net.links i (0, 0) one).1) (joins_ends e.0 e.1 link (position-Some (joins e.0 e.1) net.links i (0, 0) two).1)
   where
     both : (link : ℕ × ℕ) → ((link.0 ≡ c) × (link.1 ≡ d)) ⊎ ((link.0 ≡ d) × (link.1 ≡ c)) → ((link.0 ≡ e.0) × (link.1 ≡ e.1)) ⊎ ((link.0 ≡ e.1) × (link.1 ≡ e.0)) → joins c d e ≡ true
-    both link (inl x) (inl y) = straight c d e (sym y.0 ∙ x.0) (sym y.1 ∙ x.1)
-    both link (inl x) (inr y) = turned c d e (sym y.1 ∙ x.1) (sym y.0 ∙ x.0)
-    both link (inr x) (inl y) = turned c d e (sym y.0 ∙ x.0) (sym y.1 ∙ x.1)
-    both link (inr x) (inr y) = straight c d e (sym y.1 ∙ x.1) (sym y.0 ∙ x.0)
+    both link (inl x) (inl y) = joins_straight c d e (sym y.0 ∙ x.0) (sym y.1 ∙ x.1)
+    both link (inl x) (inr y) = joins_turned c d e (sym y.1 ∙ x.1) (sym y.0 ∙ x.0)
+    both link (inr x) (inl y) = joins_turned c d e (sym y.0 ∙ x.0) (sym y.1 ∙ x.1)
+    both link (inr x) (inr y) = joins_straight c d e (sym y.1 ∙ x.1) (sym y.0 ∙ x.0)
 
 -- a place is one of the links
 pub within_links : (net : PlainNet) (a b i : ℕ) → position (joins a b) net.links ≡ Some i → i < length net.links
@@ -75,7 +57,7 @@ none_marked net n a b = at (position (joins a b) net.links)
   where
     at : (o : Option ℕ) → option_map_or (λ place. get_or (replicate n false) place false) o false ≡ false
     at None = refl
-    at (Some i) = unmarked n i
+    at (Some i) = get_or-replicate_same n i false
 
 module _ (net : PlainNet) (marks : List Bool) (a b : ℕ) where
   -- one link more
@@ -87,16 +69,12 @@ module _ (net : PlainNet) (marks : List Bool) (a b : ℕ) where
       ∙ here at.0 at.1
       ∙ sym (ap (λ o. option_map_or (λ place. get_or marks place false) o false || joins c d (a, b)) at.1)
     where
-      or_true : (x : Bool) → (x || true) ≡ true
-      or_true true = refl
-      or_true false = refl
-
       here : (j : ℕ) → position (joins c d) net.links ≡ Some j → get_or (set marks i true) j false ≡ (get_or marks j false || joins c d (a, b))
       here j place = elim (cases_eq j i) [
         | inl same ↦
             ap (λ k. get_or (set marks i true) k false) same
             ∙ get_or-set_same marks i true false within
-            ∙ sym (ap (λ o. get_or marks j false || o) (join_at net c d j (a, b) place (found ∙ ap (λ k. Some k) (sym same))) ∙ or_true (get_or marks j false))
+            ∙ sym (ap (λ o. get_or marks j false || o) (join_at net c d j (a, b) place (found ∙ ap (λ k. Some k) (sym same))) ∙ or-true (get_or marks j false))
         | inr other ↦
             get_or-set_other marks i j true false other
             ∙ sym (or_failed (get_or marks j false) (joins c d (a, b)) (false_from_ne_true _ (λ t. other (apart (sym place ∙ same_place net c d (a, b) t ∙ found)))))
@@ -121,7 +99,7 @@ module _ (net : PlainNet) (rules : IsNet net) (r p : ℕ) (on : linked net r p �
       let found = list_any_parts (joins r p) net.links on in
       let link = found.1 in
       let first = lt-ltb link.0 (length net.routers) (AllByRecursion_at (IsLink net) net.links found.0 found.1 rules.links found.2).2 in
-      elim (ends_of r p link found.3) [
+      elim (joins_ends r p link found.3) [
         | inl same ↦ true≢false (sym first ∙ ap (is_router net) same.0 ∙ peer_no_router net r other)
         | inr turn ↦ true≢false (sym first ∙ ap (is_router net) turn.0 ∙ peer_no_router net p peer)
       ]
@@ -131,7 +109,7 @@ module _ (net : PlainNet) (rules : IsNet net) (r p : ℕ) (on : linked net r p �
   joined_session s kind = same_tests (joins r p s) (s.0 == r && s.1 == p) there back
     where
       there : joins r p s ≡ true → (s.0 == r && s.1 == p) ≡ true
-      there h = elim (ends_of r p s h) [
+      there h = elim (joins_ends r p s h) [
         | inl same ↦ and_from (s.0 == r) (s.1 == p) (eq-eqb s.0 r same.0) (eq-eqb s.1 p same.1)
         | inr turn ↦ absurd (at_router (ap (is_peer net) (sym turn.1) ∙ kind))
       ]

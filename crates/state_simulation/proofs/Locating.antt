@@ -5,7 +5,7 @@ use Rattle.std.proofs.lemmas.List.{get_or_read}
 use Rattle.std.proofs.lemmas.List.Folds.{list_any-append, list_any_at}
 use Rattle.reach_prune.specs.Searches.{is_among, is_listed}
 use Rattle.relation_law.specs.Rounds.{is_in}
-use Rattle.std.proofs.Math.Bool.{and_comm, or-false}
+use Rattle.std.proofs.Math.Bool.{and_comm, or-false, and-true, and-false}
 use Rattle.list_laws.proofs.Numbers.{eqb_comm}
 use Rattle.state_simulation.proofs.Masking.{next_below}
 use Rattle.std.proofs.lemmas.List.Sorted.{list_any-IsPermutation}
@@ -37,31 +37,23 @@ placed_more place pairs new i at p n e is h =
     left true = refl
     left false = refl
 
-    second : (b : Bool) → (b && true) ≡ b
-    second true = refl
-    second false = refl
-
-    none : (b : Bool) → (b && false) ≡ false
-    none true = refl
-    none false = refl
-
     one_more : (n ≡ i) ⊎ ((n < i) ⊎ (i < n)) → ((ltb n i && eqb (place n) p) || (eqb (place i) p && eqb i n)) ≡ (ltb n (i + 1) && eqb (place n) p)
     one_more (inl e) = (
         let a : ltb n i ≡ false = le-ltb _ _ (omega arith) in
         let b : eqb i n ≡ true = eq-eqb _ _ (sym e) in
         let c : ltb n (i + 1) ≡ true = lt-ltb _ _ (omega arith) in
         let d : eqb (place i) p ≡ eqb (place n) p = ap (λ z. eqb (place z) p) (sym e) in
-        rw (a, b, c, d) (second (eqb (place n) p)))
+        rw (a, b, c, d) (and-true (eqb (place n) p)))
     one_more (inr (inl less)) = (
         let a : ltb n i ≡ true = lt-ltb _ _ less in
         let b : eqb i n ≡ false = ne_eqb _ _ (λ e. omega arith) in
         let c : ltb n (i + 1) ≡ true = lt-ltb _ _ (omega arith) in
-        rw (a, b, c) (ap (λ z. eqb (place n) p || z) (none (eqb (place i) p)) ∙ or-false (eqb (place n) p)))
+        rw (a, b, c) (ap (λ z. eqb (place n) p || z) (and-false (eqb (place i) p)) ∙ or-false (eqb (place n) p)))
     one_more (inr (inr more)) = (
         let a : ltb n i ≡ false = le-ltb _ _ (omega arith) in
         let b : eqb i n ≡ false = ne_eqb _ _ (λ e. omega arith) in
         let c : ltb n (i + 1) ≡ false = le-ltb _ _ (omega arith) in
-        rw (a, b, c) (none (eqb (place i) p)))
+        rw (a, b, c) (and-false (eqb (place i) p)))
 
 listed_at : (xs : List (ℕ × ℕ)) (k : ℕ) (d : ℕ × ℕ) → k < length xs → is_in xs (get_or xs k d).0 (get_or xs k d).1 ≡ true
 listed_at [] k d h = absurd (omega arith)

@@ -4,18 +4,15 @@ use Rattle.std.specs.List.{list_any}
 use Rattle.bit_rows.specs.Tables.{PlainRows, has_at}
 use Rattle.std.proofs.lemmas.Bool.{cases_Bool, cases_order, eq-eqb, eqb-true, ne_eqb, lt-ltb, le-ltb, and_parts, and_from, both_ways, false_from_ne_true, or_cases, or_left, or_right}
 use Rattle.std.proofs.lemmas.List.Folds.{list_any_more}
-use Rattle.std.proofs.Math.Bool.{or-false}
+use Rattle.std.proofs.Math.Bool.{or-false, or_assoc}
 use Rattle.list_laws.proofs.Numbers.{eqb_comm}
 use Rattle.graph_base.specs.Graphs.{PlainGraph}
 use Rattle.graph_base.specs.Runs.{IsTrail, Reaches}
 use Rattle.reach_prune.specs.Searches.{is_among}
+use Rattle.reach_prune.proofs.Among.{member_passes, passing_member}
 use Rattle.relation_law.specs.Numbers.{any_below}
 use Rattle.relation_law.proofs.Tests.{any_found, any_at}
-use Rattle.state_simulation.proofs.Answering.{among_below, member_passes, passing_member}
-
-or_assoc : (x y z : Bool) → ((x || y) || z) ≡ (x || (y || z))
-or_assoc true y z = refl
-or_assoc false y z = refl
+use Rattle.state_simulation.proofs.Answering.{among_below}
 
 -- one node more passes or not
 pub set_more : (p : ℕ → Bool) (xs : List ℕ) (i : ℕ) (old now new : Bool) → i < length xs → now ≡ (old || list_any p (take i xs)) → new ≡ (now || p (get_or xs i 0)) → new ≡ (old || list_any p (take (i + 1) xs))

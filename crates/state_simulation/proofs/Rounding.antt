@@ -3,6 +3,7 @@ use Rattle.std.proofs.Common.{◌≡◌, ℕ, zero, suc, ◌+◌, ◌*◌, ◌/�
 use Rattle.std.proofs.lemmas.Bool.{cases_Bool, and_parts, and_from, and_left, and_right, or_left, both_ways, eqb-true, eq-eqb, lt-ltb, not-true, false_from_ne_true}
 use Rattle.std.proofs.Math.Nat.{div-lt_iff_lt-mul}
 use Rattle.std.proofs.lemmas.Nat.{div-mul-add, mod-mul-add, mul-add-lt}
+use Rattle.std.proofs.Math.Bool.{and-true, not-not}
 use Rattle.bit_rows.specs.Tables.{PlainRows, has_at}
 use Rattle.relation_law.specs.Relations.{Pair}
 use Rattle.relation_law.specs.Rounds.{AreTouched, IsSettled, fails, fails_at, gone_after, goes_by, is_pair, left_after, same_place}
@@ -41,23 +42,15 @@ module _ (v : View) (reach : ℕ → ℕ → Bool) (left next : PlainRows) (touc
     (all : (m n : ℕ) → m < v.size → n < v.size → has_at left n m ≡ same_place v m n) (ranked : (m n : ℕ) → m < v.size → n < v.size → has_at next n m ≡ (same_place v m n && not (is_outranked v m n))) where
   pub at_first : AtRound v reach 0 left next touched
   at_first = record {
-    exact = λ m n lm ln. all m n lm ln ∙ sym (ap (λ z. (z && (ltb n v.size && same_place v m n)) && not false) (lt-ltb _ _ lm) ∙ ap (λ z. (z && same_place v m n) && not false) (lt-ltb _ _ ln) ∙ and_all (same_place v m n));
+    exact = λ m n lm ln. all m n lm ln ∙ sym (ap (λ z. (z && (ltb n v.size && same_place v m n)) && not false) (lt-ltb _ _ lm) ∙ ap (λ z. (z && same_place v m n) && not false) (lt-ltb _ _ ln) ∙ and-true (same_place v m n));
     within = λ m n lm ln h. all m n lm ln ∙ (and_parts _ _ (sym (ranked m n lm ln) ∙ h)).0;
     goes = λ m n lm ln h.
         let pair = pair_from v m n (and_parts (is_pair v m n) (not (gone_after v reach 0 m n)) h).0 in
         let same : same_place v m n ≡ true = eq-eqb _ _ pair.place in
         ap (λ z. is_outranked v m n || z) (any_alike v.size (λ t. v.step n t && fails_at v reach (gone_after v reach 0) m t) (λ t. touched t && (v.step n t && fails_at v reach (gone_after v reach 0) m t))
         (λ t lt. sym (ap (λ z. z && (v.step n t && fails_at v reach (gone_after v reach 0) m t)) (each t lt))))
-        ∙ ap (λ z. z || goes_by v reach (gone_after v reach 0) touched m n) (sym (ap not (ranked m n lm ln ∙ ap (λ z. z && not (is_outranked v m n)) same) ∙ twice (is_outranked v m n)));
+        ∙ ap (λ z. z || goes_by v reach (gone_after v reach 0) touched m n) (sym (ap not (ranked m n lm ln ∙ ap (λ z. z && not (is_outranked v m n)) same) ∙ not-not (is_outranked v m n)));
   }
-    where
-      and_all : (x : Bool) → (x && true) ≡ x
-      and_all true = refl
-      and_all false = refl
-
-      twice : (x : Bool) → not (not x) ≡ x
-      twice true = refl
-      twice false = refl
 
 -- ---- a round
 
@@ -78,11 +71,7 @@ kept false b e h = absurd (cc)
 module _ (v : View) (reach : ℕ → ℕ → Bool) (k : ℕ) (left next : PlainRows) (touched : ℕ → Bool) (at : AtRound v reach k left next touched) where
   pub gone_same : (a t : ℕ) → a < v.size → t < v.size → same_place v a t ≡ true → gone_in left a t ≡ gone_after v reach k a t
   gone_same a t la lt same =
-      ap not (at.exact a t la lt ∙ ap (λ z. z && not (gone_after v reach k a t)) (pair_to v a t (record { left = la; right = lt; place = eqb-true _ _ same }))) ∙ twice (gone_after v reach k a t)
-    where
-      twice : (x : Bool) → not (not x) ≡ x
-      twice true = refl
-      twice false = refl
+      ap not (at.exact a t la lt ∙ ap (λ z. z && not (gone_after v reach k a t)) (pair_to v a t (record { left = la; right = lt; place = eqb-true _ _ same }))) ∙ not-not (gone_after v reach k a t)
 
   goes_same : (m n : ℕ) → goes_by v reach (gone_in left) touched m n ≡ goes_by v reach (gone_after v reach k) touched m n
   goes_same m n = any_alike v.size (λ t. touched t && (v.step n t && fails_at v reach (gone_in left) m t)) (λ t. touched t && (v.step n t && fails_at v reach (gone_after v reach k) m t))

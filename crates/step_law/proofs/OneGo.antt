@@ -2,6 +2,7 @@
 use Rattle.std.proofs.Common.{◌≡◌, ◌≢◌, ℕ, Bool, true, false, not, ◌&&◌, ◌||◌, eqb, List, [], ◌∷◌, ◌++◌, Option, None, refl, sym, ap, ◌∙◌, inl, inr}
 use Rattle.std.specs.Prelude.{if◌then◌else◌}
 use Rattle.std.proofs.lemmas.Bool.{and_left, and_parts, cases_Bool, cond-false, eqb-true, ne_eqb}
+use Rattle.std.proofs.Math.Bool.{or-false, and-false}
 use Rattle.event_base.specs.World.{Speakers, World, choice, choose_again, emptied, exported, is, joins, live, offers, owes, received, running, tell, touches, with_cut, with_down}
 use Rattle.event_base.specs.Steps.{delivered}
 use Rattle.event_law.specs.Kept.{among, nowhere}
@@ -10,17 +11,9 @@ use Rattle.event_law.proofs.Together.{order_is_free}
 use Rattle.step_law.specs.Settling.{AreDead, EventsSettleAtOnce, settled, up_among, with_heard, with_queue}
 
 module _ {R : Type 0} (net : Speakers R) where
-  or_nothing : (b : Bool) → b ≡ (b || false)
-  or_nothing true = refl
-  or_nothing false = refl
-
-  never : (b : Bool) → (b && false) ≡ false
-  never true = refl
-  never false = refl
-
   -- at once, and nothing further
   pub settled_alone : (p : ℕ → Bool) (w : World R) → at_once net p w ≡ settled net p (nowhere net) w
-  settled_alone p w = ap (λ (q : ℕ → ℕ → Bool). tell net q (with_choices net p w)) (λ i a b. or_nothing (p a) i)
+  settled_alone p w = ap (λ (q : ℕ → ℕ → Bool). tell net q (with_choices net p w)) (λ i a b. sym (or-false (p a)) i)
 
   -- ---- what is forgotten on dead sessions might as well be forgotten in the end
 
@@ -93,16 +86,16 @@ module _ {R : Type 0} (net : Speakers R) where
         → (if d && (l && not (net.same o (if c && (l && not e) then o else s))) then (if c && (l && not e) then ms ++ o ∷ [] else ms) ++ o ∷ [] else (if c && (l && not e) then ms ++ o ∷ [] else ms)) ≡ (if (c || d) && (l && not e) then ms ++ o ∷ [] else ms)
     once true true true false o s ms h = rw (own o) refl
     once true false true false o s ms h = refl
-    once c d false e o s ms h = rw (never c) (rw (never d) (rw (never (c || d)) refl))
-    once c d true true o s ms h = rw (never c) (rw h (rw (never d) (rw (never (c || d)) refl)))
+    once c d false e o s ms h = rw (and-false c) (rw (and-false d) (rw (and-false (c || d)) refl))
+    once c d true true o s ms h = rw (and-false c) (rw h (rw (and-false d) (rw (and-false (c || d)) refl)))
     once false d true false o s ms h = rw h refl
 
     noted_once : (c d l e : Bool) (o s : Option R) → net.same o s ≡ e
         → (if d && (l && not (net.same o (if c && (l && not e) then o else s))) then o else (if c && (l && not e) then o else s)) ≡ (if (c || d) && (l && not e) then o else s)
     noted_once true true true false o s h = rw (own o) refl
     noted_once true false true false o s h = refl
-    noted_once c d false e o s h = rw (never c) (rw (never d) (rw (never (c || d)) refl))
-    noted_once c d true true o s h = rw (never c) (rw h (rw (never d) (rw (never (c || d)) refl)))
+    noted_once c d false e o s h = rw (and-false c) (rw (and-false d) (rw (and-false (c || d)) refl))
+    noted_once c d true true o s h = rw (and-false c) (rw h (rw (and-false d) (rw (and-false (c || d)) refl)))
     noted_once false d true false o s h = rw h refl
 
     pub told_once : tell net q (tell net p w) ≡ tell net (λ a b. p a b || q a b) w

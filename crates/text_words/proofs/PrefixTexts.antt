@@ -7,10 +7,10 @@ use Rattle.std.specs.Fmt.{decimal}
 use Rattle.std.proofs.lemmas.Bool.{and_parts, eq-eqb, ne_eqb, le-leb}
 use Rattle.std.proofs.lemmas.Fmt.{length-decimal-le}
 use Rattle.std.proofs.lemmas.List.Folds.{list_all-append}
-use Rattle.net_base.specs.Addresses.{is_figure, cut_at, number_and_rest, quad_of, are_octets, bits_of}
+use Rattle.net_base.specs.Addresses.{is_figure, cut_at, number_and_rest, quad_of, are_octets, bits_of, address_of}
 use Rattle.net_base.specs.Prefixes.{PlainPrefix, IsPrefix}
 use Rattle.net_base.specs.PrefixText.{length_number, prefix_spelled}
-use Rattle.text_words.specs.Texts.{prefix_text}
+use Rattle.text_words.specs.Texts.{address_text, prefix_text}
 use Rattle.text_words.proofs.Numbers.{all_pass, figure_range, small_number-decimal, list_all-is_figure}
 
 -- no byte of these is the other
@@ -64,10 +64,26 @@ module _ (a b c d : ℕ) (sa : a < 256) (sb : b < 256) (sc : c < 256) (sd : d < 
   octets : are_octets (record { first = a; second = b; third = c; fourth = d }) ≡ true
   octets = rw (le-leb a 255 (omega (arith, sa)), le-leb b 255 (omega (arith, sb)), le-leb c 255 (omega (arith, sc)), le-leb d 255 (omega (arith, sd))) refl
 
+  addressed : address_of dotted ≡ Some (bits_of (record { first = a; second = b; third = c; fourth = d }))
+  unfolding address_of
+  addressed = rw (quad_there, octets) refl
+
   parsed : (bits len : ℕ) → bits_of (record { first = a; second = b; third = c; fourth = d }) ≡ bits → len ≤ 32 → bits % 2 ^ (32 - len) ≡ 0 → prefix_spelled (dotted ++ 47 ∷ decimal len) ≡ Ok (record { bits = bits; len = len })
   unfolding prefix_spelled
   parsed bits len whole short clean =
       rw (cut_at-there 47 dotted (decimal len) no_slash, quad_there, length_number-decimal len short, octets, le-leb len 32 short, whole, eq-eqb (bits % 2 ^ (32 - len)) 0 clean) refl
+
+-- an address is read from its text
+pub address_of-address_text : (n : ℕ) → n < 2 ^ 32 → address_of (address_text n) ≡ Some n
+address_of-address_text n wide =
+    let fits : n < 4294967296 = wide in
+    let a : ℕ = n / 16777216 in
+    let b : ℕ = n / 65536 % 256 in
+    let c : ℕ = n / 256 % 256 in
+    let d : ℕ = n % 256 in
+    let order : address_text n ≡ decimal a ++ 46 ∷ (decimal b ++ 46 ∷ (decimal c ++ 46 ∷ decimal d)) = simp append_assoc refl in
+    let whole : bits_of (record { first = a; second = b; third = c; fourth = d }) ≡ n = omega arith in
+    ap address_of order ∙ addressed a b c d (omega arith) (omega arith) (omega arith) (omega arith) ∙ ap (λ (m : ℕ). Some m) whole
 
 -- a prefix is read from its text
 pub prefix_spelled-prefix_text : (p : PlainPrefix) → IsPrefix p → prefix_spelled (prefix_text p) ≡ Ok p

@@ -19,8 +19,9 @@ use Rattle.topology.specs.Laws.{Keeps}
 use Rattle.topology.specs.Rules.{named, site_of, counted, names_differ, numbers_differ, names_of, is_lawful_as, shared}
 use Rattle.topology.specs.Shape.{Entry, Topology}
 use Rattle.topology.proofs.Distinct.{all_unlike-distinct}
-use Rattle.topology.proofs.Outcomes.{bind_case, unless_err, all_unlike-breaks, all_nothing}
+use Rattle.topology.proofs.Outcomes.{all_unlike-breaks, all_nothing}
 use Rattle.net_base.proofs.StepLemmas.{bind_ok, err_same, ok_not_err, unless_ok}
+use Rattle.net_base.proofs.StepOutcomes.{bind_case, unless_err}
 
 -- the rule of this number is broken, and the fault has the number
 abbrev pub Breaks : ℕ → Topology → TopoFault → Type 0

@@ -1,11 +1,11 @@
 -- The fault that is told has the least number of a rule that is broken.
-use Rattle.std.proofs.Common.{◌≡◌, ℕ, ◌+◌, List, [], ◌∷◌, ◌++◌, length, map, Result, Ok, Err, Bool, true, false, ◌||◌, ◌&&◌, not, refl, sym, ap, ◌∙◌, arith, zero, suc, true≢false, eq-eqb, map-id}
+use Rattle.std.proofs.Common.{◌≡◌, ℕ, ◌+◌, List, [], ◌++◌, length, map, Result, Ok, Err, Bool, true, false, ◌||◌, ◌&&◌, not, refl, sym, ap, ◌∙◌, arith, zero, suc, map-id}
 use Rattle.std.specs.Prelude.{IsTrue, ◌==◌, nat_le, position}
 use Rattle.std.specs.List.{list_any, AllByRecursion, IsDistinct}
 use Rattle.std.specs.Str.{bytes_eq}
-use Rattle.std.proofs.lemmas.Bool.{eqb-true, eqb-false, and_parts, not-false}
+use Rattle.std.proofs.lemmas.Bool.{eqb-true, eqb-false}
 use Rattle.list_laws.proofs.Positions.{list_any-at_position, list_any-no_position}
-use Rattle.list_laws.proofs.Each.{AllByRecursion-append, AllByRecursion-append_parts, AllByRecursion-from_list_any, list_any_breaks}
+use Rattle.list_laws.proofs.Each.{AllByRecursion-append, AllByRecursion-append_parts, AllByRecursion-from_list_any, list_any_breaks, AllByRecursion-not, AllByRecursion-from_not}
 use Rattle.net_base.specs.NameRule.{is_name}
 use Rattle.net_base.specs.Network.{PlainNet, IsNet, same_ends}
 use Rattle.net_base.specs.Steps.{◌>>=◌, each_from}
@@ -21,28 +21,13 @@ use Rattle.topology.proofs.Distinct.{all_unlike-distinct}
 use Rattle.topology.proofs.EntryFaults.{Breaks, counted_breaks, named_breaks, all_named, site_breaks, all_lawful, names_break, names_keep, asns_break, asns_keep, ids_break, ids_keep}
 use Rattle.topology.proofs.LinkNames.{AllJoin, all_join, distinct_ends, distinct_links, any_join, to_itself, ends_known, joined-breaks, routers_first}
 use Rattle.topology.proofs.Networks.{each_named, counted_holds, kept_IsNet}
-use Rattle.topology.proofs.Outcomes.{bind_case, no_fault-err, each_from-breaks, all_unlike-breaks, all_nothing}
+use Rattle.topology.proofs.Outcomes.{no_fault-err, all_unlike-breaks, all_nothing}
 use Rattle.net_base.proofs.StepLemmas.{bind_ok}
+use Rattle.net_base.proofs.Links.{same_ends-swap}
+use Rattle.net_base.proofs.StepOutcomes.{bind_case, each_from-breaks}
 use Rattle.topology.proofs.Results.{no_fault-ok}
 
 -- ---- rules 10 to 12
-
-same_ends-swap : (x y : ℕ × ℕ) → same_ends x y ≡ false → same_ends y x ≡ false
-same_ends-swap x y apart = by (same_ends y x) refl
-  where
-    by : (b : Bool) → same_ends y x ≡ b → b ≡ false
-    by false e = refl
-    by true e =
-        let f = and_parts (y.0 == x.0) (y.1 == x.1) e in
-        absurd (true≢false (sym (rw (eq-eqb x.0 y.0 (sym (eqb-true y.0 x.0 f.0)), eq-eqb x.1 y.1 (sym (eqb-true y.1 x.1 f.1))) refl) ∙ apart))
-
-all_not : {A : Type 0} (g : A → Bool) (xs : List A) → AllByRecursion (λ x. IsTrue (g x)) xs → AllByRecursion (λ x. not (g x) ≡ false) xs
-all_not g [] a = tt
-all_not g (x ∷ xs) a = (rw a.0 refl, all_not g xs a.1)
-
-not_all : {A : Type 0} (g : A → Bool) (xs : List A) → AllByRecursion (λ x. not (g x) ≡ false) xs → AllByRecursion (λ x. IsTrue (g x)) xs
-not_all g [] a = tt
-not_all g (x ∷ xs) a = (not-false (g x) a.0, not_all g xs a.1)
 
 module _ (names : List (List ℕ)) (es : List Ends) (ps : List (ℕ × ℕ)) (j : AllJoin names es ps) where
   links_break : (e : TopoFault) → links_differ ps ≡ Err e → (IsDistinct same_link es → ⊥) × (number_of e ≡ 10)
@@ -76,12 +61,12 @@ module _ (rs qs : List Entry) (es : List Ends) (ps : List (ℕ × ℕ)) (j : All
   unfolding routers_linked
   routers_break e h =
       let q = no_fault-err (λ i. PeerLink (i + 1)) (position (λ (l : ℕ × ℕ). nat_le (length rs) l.0) ps) e h in
-      ((λ a. list_any_breaks (λ l. not (is_among rs l.from || is_among rs l.to)) es (sym router_ends ∙ list_any-at_position (λ l. nat_le (length rs) l.0) ps q.0 q.1) (all_not (λ l. is_among rs l.from || is_among rs l.to) es a)), ap number_of (sym q.2))
+      ((λ a. list_any_breaks (λ l. not (is_among rs l.from || is_among rs l.to)) es (sym router_ends ∙ list_any-at_position (λ l. nat_le (length rs) l.0) ps q.0 q.1) (AllByRecursion-not (λ l. is_among rs l.from || is_among rs l.to) es a)), ap number_of (sym q.2))
 
   routers_keep : routers_linked (length rs) ps ≡ Ok tt → AllByRecursion (λ l. IsTrue (is_among rs l.from || is_among rs l.to)) es
   unfolding routers_linked
   routers_keep h =
-      not_all (λ l. is_among rs l.from || is_among rs l.to) es
+      AllByRecursion-from_not (λ l. is_among rs l.from || is_among rs l.to) es
       (AllByRecursion-from_list_any (λ l. not (is_among rs l.from || is_among rs l.to)) es (sym router_ends ∙ list_any-no_position (λ (l : ℕ × ℕ). nat_le (length rs) l.0) ps (no_fault-ok _ _ _ h)))
 
 -- ---- one rule after the other

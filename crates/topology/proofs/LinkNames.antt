@@ -1,5 +1,5 @@
 -- What links between names say of links between locations.
-use Rattle.std.proofs.Common.{◌≡◌, ℕ, ◌+◌, ◌≤◌, ◌⊎◌, inl, inr, List, [], ◌∷◌, ◌++◌, length, get_or, Option, Some, Ok, Err, Bool, true, false, ◌||◌, ◌&&◌, not, refl, sym, ap, ◌∙◌, arith, ltb-true, ltb-false, eq-eqb, true≢false}
+use Rattle.std.proofs.Common.{◌≡◌, ℕ, ◌+◌, ◌≤◌, ◌⊎◌, inl, inr, List, [], ◌∷◌, ◌++◌, length, get_or, Some, Ok, Err, Bool, true, false, ◌||◌, ◌&&◌, not, refl, sym, ap, ◌∙◌, arith, ltb-true, ltb-false, eq-eqb, true≢false}
 use Rattle.std.specs.Prelude.{⊤, IsTrue, ◌==◌, nat_lt, nat_le, if◌then◌else◌, position}
 use Rattle.std.specs.List.{list_any, position_or_len, AllByRecursion, IsDistinct}
 use Rattle.std.specs.Str.{bytes_eq}
@@ -8,7 +8,7 @@ use Rattle.std.proofs.lemmas.List.{map-append, length-map}
 use Rattle.std.proofs.lemmas.List.Folds.{list_any_at}
 use Rattle.std.proofs.lemmas.List.Quantifiers.{position-Some}
 use Rattle.std.proofs.lemmas.Slice.Eq.{bytes_eq-Decides}
-use Rattle.std.proofs.lemmas.Option.{cond_some}
+use Rattle.std.proofs.lemmas.Option.{cond_some, same_Some}
 use Rattle.list_laws.proofs.Positions.{list_any-no_position, list_any-position}
 use Rattle.list_laws.proofs.Truth.{same_tests}
 use Rattle.net_base.specs.Steps.{◌>>=◌, or_fault, each_from}
@@ -19,8 +19,8 @@ use Rattle.topology.specs.Laws.{is_among, same_link}
 use Rattle.net_base.specs.Network.{ordered, same_ends}
 use Rattle.topology.specs.Rules.{names_of, joined}
 use Rattle.topology.specs.Shape.{Entry, Ends}
-use Rattle.topology.proofs.Outcomes.{bind_case, or_fault_err}
 use Rattle.net_base.proofs.StepLemmas.{bind_ok, err_same, ok_not_err, ok_same, or_fault_ok}
+use Rattle.net_base.proofs.StepOutcomes.{bind_case, or_fault_err}
 
 -- ---- the ends of a link in order
 
@@ -89,10 +89,7 @@ same_place : (x y : List ℕ) (names : List (List ℕ)) (i j : ℕ) → position
 same_place x y names i j a b = same_tests _ _ there back
   where
     there : bytes_eq x y ≡ true → (i == j) ≡ true
-    there h = eq-eqb i j (some_same i j (sym a ∙ ap (λ z. position (bytes_eq z) names) ((bytes_eq-Decides x y).0 h) ∙ b))
-      where
-        some_same : (i j : ℕ) → (let r : Option ℕ = Some i in r ≡ Some j) → i ≡ j
-        some_same i j h = cc
+    there h = eq-eqb i j (same_Some i j (sym a ∙ ap (λ z. position (bytes_eq z) names) ((bytes_eq-Decides x y).0 h) ∙ b))
 
     back : (i == j) ≡ true → bytes_eq x y ≡ true
     back h =

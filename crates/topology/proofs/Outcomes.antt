@@ -1,44 +1,19 @@
 -- Which step decided, and what a step that failed tells.
-use Rattle.std.proofs.Common.{◌≡◌, ℕ, ◌+◌, List, [], ◌∷◌, ◌++◌, length, map, Option, Some, None, Result, Ok, Err, Bool, true, false, refl, sym, ◌∙◌, true≢false}
+use Rattle.std.proofs.Common.{◌≡◌, ℕ, ◌+◌, List, [], ◌∷◌, ◌++◌, length, map, Option, Some, None, Err, Bool, true, false, refl, sym, ◌∙◌, true≢false}
 use Rattle.std.specs.Prelude.{option_map}
 use Rattle.std.specs.List.{find, AllByRecursion, IsDistinct}
 use Rattle.std.proofs.lemmas.List.{map-append}
 use Rattle.std.proofs.lemmas.List.Folds.{list_any-append}
 use Rattle.list_laws.proofs.Tests.{list_any-found, list_any-map}
-use Rattle.net_base.specs.Steps.{◌>>=◌, or_fault, unless, each_from}
 use Rattle.topology.specs.declared.fault.TopoFault.{TopoFault}
 use Rattle.topology.specs.Rules.{all_unlike, no_fault}
 use Rattle.topology.proofs.Distinct.{NotIn}
-use Rattle.net_base.proofs.StepLemmas.{err_same, ok_not_err}
-
--- either the first step decided, or it went well and the rest did
-pub bind_case : {A B : Type 0} (C : Type 0) (r : Result A TopoFault) (f : A → Result B TopoFault) (y : Result B TopoFault) → (r >>= f) ≡ y
-    → ((e : TopoFault) → r ≡ Err e → y ≡ Err e → C) → ((x : A) → r ≡ Ok x → f x ≡ y → C) → C
-bind_case C (Ok x) f y h here later = later x refl h
-bind_case C (Err e) f y h here later = here e refl (sym h)
-
-pub unless_err : (e f : TopoFault) (b : Bool) → unless e b ≡ Err f → (e ≡ f) × (b ≡ false)
-unless_err e f true h = absurd cc
-unless_err e f false h = (cc, refl)
-
-pub or_fault_err : {A : Type 0} (e f : TopoFault) (o : Option A) → or_fault e o ≡ Err f → (e ≡ f) × (o ≡ None)
-or_fault_err e f (Some x) h = absurd cc
-or_fault_err e f None h = (cc, refl)
+use Rattle.net_base.proofs.StepLemmas.{err_same}
+use Rattle.net_base.proofs.StepOutcomes.{bind_case}
 
 pub no_fault-err : {A : Type 0} (told : A → TopoFault) (o : Option A) (f : TopoFault) → no_fault (option_map told o) ≡ Err f → (x : A) × (o ≡ Some x) × (told x ≡ f)
 no_fault-err told None f h = absurd cc
 no_fault-err told (Some x) f h = (x, refl, cc)
-
--- where a step fails only at items without a property, not all items have it
-pub each_from-breaks : {A B : Type 0} (P : A → Type 0) (Q : TopoFault → Type 0) (f : ℕ → A → Result B TopoFault) → ((k : ℕ) (x : A) (e : TopoFault) → f k x ≡ Err e → (P x → ⊥) × Q e)
-    → (k : ℕ) (xs : List A) (e : TopoFault) → each_from f k xs ≡ Err e → (AllByRecursion P xs → ⊥) × Q e
-each_from-breaks P Q f each k [] e h = absurd cc
-each_from-breaks P Q f each k (x ∷ xs) e h =
-    bind_case ((AllByRecursion P (x ∷ xs) → ⊥) × Q e) (f k x) (λ y. each_from f (k + 1) xs >>= (λ ys. Ok (y ∷ ys))) (Err e) h
-    (λ d p same. let q = each k x d p in ((λ a. q.0 a.0), rw (err_same e d same) q.1))
-    (λ y _ g. bind_case ((AllByRecursion P (x ∷ xs) → ⊥) × Q e) (each_from f (k + 1) xs) (λ ys. Ok (y ∷ ys)) (Err e) g
-    (λ d p same. let q = each_from-breaks P Q f each (k + 1) xs d p in ((λ a. q.0 a.1), rw (err_same e d same) q.1))
-    (λ ys _ k. absurd (ok_not_err (y ∷ ys) e k)))
 
 module _ {A B : Type 0} (key : A → B) (eq : B → B → Bool) (swap : (x y : B) → eq x y ≡ false → eq y x ≡ false) (told : ℕ → A → A → TopoFault) where
   join_it : (seen : List B) (x : B) (ys : List B) → AllByRecursion (NotIn eq seen) ys → AllByRecursion (λ y. eq x y ≡ false) ys → AllByRecursion (NotIn eq (seen ++ x ∷ [])) ys

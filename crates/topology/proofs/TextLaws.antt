@@ -21,8 +21,8 @@ use Rattle.topology.specs.Topology.{spelled}
 use Rattle.topology.proofs.FirstBroken.{judged_outcome, judged_net, Outcome}
 use Rattle.topology.proofs.Identifiers.{shape_ids}
 use Rattle.json_words.proofs.JsonTexts.{json_of-read, json_of-refused, json_of-value}
-use Rattle.topology.proofs.Outcomes.{bind_case, or_fault_err}
 use Rattle.net_base.proofs.StepLemmas.{bind_ok, or_fault_ok}
+use Rattle.net_base.proofs.StepOutcomes.{bind_case, or_fault_err}
 use Rattle.topology.proofs.ShapeFaults.{Only, IsShape, shape_only}
 
 -- the JSON value of a text, as a step

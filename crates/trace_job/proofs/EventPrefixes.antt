@@ -1,13 +1,13 @@
 -- The prefix of events that a text spells.
-use Rattle.std.proofs.Common.{◌≡◌, ℕ, ◌≤◌, List, length, Result, Ok, Err, subst}
+use Rattle.std.proofs.Common.{◌≡◌, ℕ, List, length, Ok, subst}
 use Rattle.std.specs.Prelude.{nat_le}
 use Rattle.std.specs.Result.{result_ok}
 use Rattle.json_words.specs.Json.{json_of}
 use Rattle.net_base.proofs.PrefixLemmas.{prefix_spelled-IsPrefix}
-use Rattle.net_base.proofs.StepLemmas.{bind_ok}
+use Rattle.net_base.proofs.StepLemmas.{bind_ok, or_fault_result_ok}
 use Rattle.net_base.specs.declared.limits.TheConstants.{EVENTS}
 use Rattle.net_base.specs.Network.{PlainNet}
-use Rattle.net_base.specs.Prefixes.{PlainPrefix, IsPrefix}
+use Rattle.net_base.specs.Prefixes.{IsPrefix}
 use Rattle.net_base.specs.PrefixText.{prefix_spelled}
 use Rattle.net_base.specs.Steps.{or_fault, unless, each_from}
 use Rattle.net_index.specs.Names.{names_of}
@@ -17,10 +17,6 @@ use Rattle.event_text.specs.Rules.{judged, placed}
 use Rattle.event_text.specs.Shape.{Said, shape_of}
 use Rattle.event_text.specs.Spelled.{spelled}
 
-found_prefix : {E : Type 0} (r : Result PlainPrefix E) (p : PlainPrefix) → or_fault BadPrefix (result_ok r) ≡ Ok p → r ≡ Ok p
-found_prefix (Ok q) p h = cc
-found_prefix (Err e) p h = absurd cc
-
 judged_prefix : (net : PlainNet) (said : Said) (es : Events) → judged net said ≡ Ok es → IsPrefix es.prefix
 unfolding judged
 judged_prefix net said es h =
@@ -29,7 +25,7 @@ judged_prefix net said es h =
     let prefix = bind_ok (or_fault BadPrefix (result_ok (prefix_spelled said.prefix))) _ es events.2 in
     let made = prefix.2 in
     let same : prefix.0 ≡ es.prefix = cc in
-    subst IsPrefix same (prefix_spelled-IsPrefix said.prefix prefix.0 (found_prefix (prefix_spelled said.prefix) prefix.0 prefix.1))
+    subst IsPrefix same (prefix_spelled-IsPrefix said.prefix prefix.0 (or_fault_result_ok BadPrefix (prefix_spelled said.prefix) prefix.0 prefix.1))
 
 pub spelled_prefix : (net : PlainNet) (bytes : List ℕ) (es : Events) → spelled net bytes ≡ Ok es → IsPrefix es.prefix
 unfolding spelled

@@ -1,7 +1,7 @@
 //! Events that are refused, and their lines.
 ghost use Rattle.std.specs.Prelude.{◌≡◌, ◌++◌, OnOk};
 ghost use Rattle.std.specs.List.{flat_map};
-ghost use Rattle.trace_lines.specs.Lines.{refused_line, word_of};
+ghost use Rattle.trace_lines.specs.Lines.{refused_line};
 
 use event_base::EventFault;
 use outside::NoMemory;
@@ -14,19 +14,6 @@ pub struct Refused {
     pub why: EventFault,
 }
 
-/// The word of a fault.
-fn word(why: EventFault) -> &'static [u8]
-    ensures { result.now ≡ word_of why }
-{
-    match why {
-        EventFault::NothingWaits => b"nothing-waits",
-        EventFault::NotUp => b"not-up",
-        EventFault::NotDown => b"not-down",
-        EventFault::NoLink => b"no-link",
-        EventFault::NoMemory => b"no-memory",
-    }
-}
-
 /// Adds the line of a refused event.
 #[tactic(auto, unfolding(crate::specs::Lines::refused_line))]
 fn push_refused(text: &mut Vec<u8>, refused: Refused) -> Result<(), NoMemory>
@@ -34,7 +21,7 @@ fn push_refused(text: &mut Vec<u8>, refused: Refused) -> Result<(), NoMemory>
 {
     push_bytes(text, b"event ")?;
     push_number(text, refused.number)?;
-    push_word(text, word(refused.why))?;
+    push_word(text, refused.why.word())?;
     push_bytes(text, b"\n")
 }
 

@@ -5,7 +5,7 @@ use Rattle.std.specs.Option.{option_and_then}
 use Rattle.std.proofs.lemmas.Bool.{and_from, and_left, and_parts, and_right, cases_Bool, cond-true, cond-false, eq-eqb, eqb-true, not-true, not_from_true, or_left, or_right}
 use Rattle.std.specs.Str.{bytes_eq}
 use Rattle.std.proofs.lemmas.Slice.Eq.{bytes_eq-Decides}
-use Rattle.net_base.specs.declared.numbers.Tag.{Tag}
+use Rattle.std.proofs.Math.Bool.{and_assoc}
 use Rattle.net_base.specs.Network.{PlainNet, IsNet, is_peer, is_router, linked, id_of}
 use Rattle.net_base.specs.Numbers.{no_tag}
 use Rattle.net_base.specs.Prefixes.{PlainPrefix}
@@ -15,6 +15,7 @@ use Rattle.net_base.specs.Locations.{neighbours}
 use Rattle.config_base.specs.declared.route.Route.{Route}
 use Rattle.config_base.specs.Configs.{PlainConfig}
 use Rattle.config_base.specs.Lines.{class_of, export_of, import_of, own_route, same_tag}
+use Rattle.config_base.proofs.SameTags.{same_tag-is}
 use Rattle.net_base.proofs.Neighbours.{linked_neighbour}
 use Rattle.outcome_base.specs.Outcomes.{Failures, Outcome, Chooses, is_dead, is_dead_link, is_live, is_silent, route_at, sent, given}
 use Rattle.regret_law.proofs.Existence.{held, outcome_of, unheld}
@@ -22,7 +23,7 @@ use Rattle.regret_law.proofs.Heard.{given-refused, given-taken, given-unsent, se
 use Rattle.net_base.proofs.RoutersAndPeers.{peer_no_router, router_or_peer}
 use Rattle.regret_law.proofs.RightLaw.{no_gift}
 use Rattle.net_base.proofs.Links.{linked_flips, linked_known}
-use Rattle.list_laws.proofs.Options.{cases_Option, option_and_then_parts, option_map_parts}
+use Rattle.list_laws.proofs.Options.{cases_Option, option_and_then_parts, option_map_parts, option_and_then-never}
 use Rattle.event_base.specs.declared.event.Event.{Event}
 use Rattle.event_law.specs.Kinds.{AreKinds, Held, IsKind}
 use Rattle.event_base.specs.World.{Speakers, World, exported, live}
@@ -39,18 +40,10 @@ use Rattle.world_law.proofs.First.{NoLater, first_covers}
 use Rattle.world_law.proofs.Running.{first_is_given}
 
 assoc : (l a b c : Bool) → (((l && a) && b) && c) ≡ (l && (a && (b && c)))
-assoc true a b c = inner a b c
-  where
-    inner : (a b c : Bool) → ((a && b) && c) ≡ (a && (b && c))
-    inner true b c = refl
-    inner false b c = refl
+assoc true a b c = and_assoc a b c
 assoc false a b c = refl
 
 -- nothing comes of nothing
-none_of : {A B : Type 0} (f : A → Option B) (o : Option A) → ((a : A) → f a ≡ None) → option_and_then f o ≡ None
-none_of f None h = refl
-none_of f (Some a) h = h a
-
 -- ---- who holds and who sends
 
 -- a path begins with r
@@ -105,13 +98,6 @@ module _ (net : PlainNet) (policy : PlainPolicy) (config : PlainConfig) (p : Pla
   among_at (v ∷ us) zero u h = or_left (u == v) (among us u) (eq-eqb u v (let same : v ≡ u = cc in sym same))
   among_at (v ∷ us) (suc i) u h = or_right (u == v) (among us u) (among_at us i u h)
 
-  one_tag : (s t : Tag) → same_tag s t ≡ true → s ≡ t
-  one_tag s t h =
-      let parts = and_parts (s.asn == t.asn) (s.value == t.value) h in
-      let asn = eqb-true s.asn t.asn parts.0 in
-      let value = eqb-true s.value t.value parts.1 in
-      λ i. record { asn = asn i; value = value i }
-
   one_message : (a b : Option Route) → same_message a b ≡ true → a ≡ b
   one_message None None h = refl
   one_message None (Some h') h = absurd (cc)
@@ -120,7 +106,7 @@ module _ (net : PlainNet) (policy : PlainPolicy) (config : PlainConfig) (p : Pla
       let first = and_parts (bytes_eq g.path k.path) (same_tag g.tag k.tag && g.pref == k.pref) h in
       let last = and_parts (same_tag g.tag k.tag) (g.pref == k.pref) first.1 in
       let path : g.path ≡ k.path = (bytes_eq-Decides g.path k.path).0 first.0 in
-      let tag = one_tag g.tag k.tag last.0 in
+      let tag = same_tag-is g.tag k.tag last.0 in
       let pref = eqb-true g.pref k.pref last.1 in
       λ i. Some (record { path = path i; tag = tag i; pref = pref i })
 
@@ -157,7 +143,7 @@ module _ (net : PlainNet) (policy : PlainPolicy) (config : PlainConfig) (p : Pla
     taken m = ap (option_and_then (λ (k : ℕ). option_map (extended r m) (import_of net config k r u m.path m.tag))) of_class
 
     untaken : taken_by net config p r u None ≡ None
-    untaken = none_of (λ (k : ℕ). option_and_then (λ (m : Route). option_map (extended r m) (import_of net config k r u m.path m.tag)) None) (class_of config p) (λ k. refl)
+    untaken = option_and_then-never (λ (k : ℕ). option_and_then (λ (m : Route). option_map (extended r m) (import_of net config k r u m.path m.tag)) None) (class_of config p) (λ k. refl)
 
     sent_taken : (m : Route) → sent net policy config f p outcome u r ≡ Some (m.path, m.tag) → taken_by net config p r u (Some m) ≡ given net policy config f p outcome u r
     sent_taken m s = taken m ∙ elim (cases_Option (import_of net config class r u m.path m.tag)) [
@@ -170,7 +156,7 @@ module _ (net : PlainNet) (policy : PlainPolicy) (config : PlainConfig) (p : Pla
 
     from_router : is_peer net u ≡ false → is_router net u ≡ true → taken_by net config p r u (exported_by net config p u r (w.route u)) ≡ given net policy config f p outcome u r
     from_router off router = elim (cases_Option (w.route u)) [
-      | inl none ↦ ap (taken_by net config p r u) (ap (exported_by net config p u r) none ∙ none_of (λ (k : ℕ). option_and_then (λ (h : Route). option_map (message h) (export_of net config k u r h.tag)) None) (class_of config p) (λ k. refl))
+      | inl none ↦ ap (taken_by net config p r u) (ap (exported_by net config p u r) none ∙ option_and_then-never (λ (k : ℕ). option_and_then (λ (h : Route). option_map (message h) (export_of net config k u r h.tag)) None) (class_of config p) (λ k. refl))
           ∙ unsent (sent-unrouted net policy config f p outcome class rules of_class u r off (held net w.route u router ∙ none))
       | inr h ↦ elim (cases_Option (export_of net config class u r h.0.tag)) [
         | inl none ↦ ap (taken_by net config p r u) (exports h.0 h.1 ∙ ap (option_map (message h.0)) none) ∙ unsent (sent-refused net policy config f p outcome class rules of_class u r h.0 off (held net w.route u router ∙ h.1) none)
@@ -216,7 +202,7 @@ module _ (net : PlainNet) (policy : PlainPolicy) (config : PlainConfig) (p : Pla
     | inl free ↦ ap (option_and_then (λ (k : ℕ). option_and_then (λ (m : Route). option_map (extended r m) (import_of net config k r u m.path m.tag)) (event.given S w r u))) free ∙ sym (no_gift net policy config f p outcome free u r)
     | inr class ↦ elim (cases_Bool (live S w u r)) [
       | inl on ↦ ap (taken_by net config p r u) (cond-true (live S w u r) (exported S w u r) None on) ∙ given_live class.0 class.1 r u on
-      | inr off ↦ ap (taken_by net config p r u) (cond-false (live S w u r) (exported S w u r) None off) ∙ none_of (λ (k : ℕ). option_and_then (λ (m : Route). option_map (extended r m) (import_of net config k r u m.path m.tag)) None) (class_of config p) (λ k. refl) ∙ sym (ungiven r u (live_same u r ∙ off))
+      | inr off ↦ ap (taken_by net config p r u) (cond-false (live S w u r) (exported S w u r) None off) ∙ option_and_then-never (λ (k : ℕ). option_and_then (λ (m : Route). option_map (extended r m) (import_of net config k r u m.path m.tag)) None) (class_of config p) (λ k. refl) ∙ sym (ungiven r u (live_same u r ∙ off))
     ]
   ]
     where

@@ -1,9 +1,9 @@
 -- Held and waiting routes run in the graph of the case, in the words of the graph.
-use Rattle.std.proofs.Common.{◌≡◌, ℕ, ◌<◌, suc, zero, Bool, true, false, not, ◌&&◌, List, [], ◌∷◌, ◌++◌, length, map, Option, Some, None, refl, arith, sym, ap, ◌∙◌, subst, inl, inr}
+use Rattle.std.proofs.Common.{◌≡◌, ℕ, ◌<◌, suc, Bool, true, false, not, ◌&&◌, List, [], ◌∷◌, ◌++◌, length, map, Option, Some, None, refl, sym, ap, ◌∙◌, subst, inl, inr}
 use Rattle.std.specs.Prelude.{is_some, option_map, slice_get, ◌==◌}
 use Rattle.std.specs.List.{list_any}
 use Rattle.std.specs.Option.{option_and_then}
-use Rattle.std.proofs.lemmas.Bool.{and_from, and_parts, cases_Bool, cases_lt, cond-true, cond-false, lt-ltb, not_from_false, or_left, or_right, true≢false}
+use Rattle.std.proofs.lemmas.Bool.{and_from, and_parts, cases_Bool, cond-true, cond-false, lt-ltb, not_from_false, true≢false}
 use Rattle.std.proofs.lemmas.List.{length-map}
 use Rattle.std.proofs.lemmas.Option.{slice_get-map}
 use Rattle.net_base.specs.Network.{PlainNet, IsNet, is_peer, is_router}
@@ -35,7 +35,7 @@ use Rattle.path_words.proofs.WalkParts.{walk_parts}
 use Rattle.regret_law.proofs.PermittedWalks.{permits_parts}
 use Rattle.routing_law.specs.Graph as laws
 use Rattle.routing_law.specs.Network as law
-use Rattle.list_laws.proofs.Options.{option_map_parts}
+use Rattle.list_laws.proofs.Options.{option_map_parts, none_or_some}
 use Rattle.event_base.specs.declared.event.Event.{Event}
 use Rattle.event_law.specs.Kinds.{AreKinds, Each, IsKind}
 use Rattle.event_base.specs.Steps.{opening, run}
@@ -158,10 +158,10 @@ module _ (net : PlainNet) (policy : PlainPolicy) (config : PlainConfig) (p : Pla
 
   bare_kind : IsKind S IsOwn IsNews
   bare_kind = record {
-    exports = λ a b m router before y e. absurd (nothing (unexported a b m) e);
+    exports = λ a b m router before y e. absurd (none_or_some _ _ (unexported a b m) e);
     announces = λ a b off y e. elim (cases_Bool (is_origin net policy p a)) [
       | inl origin ↦ (off, origin)
-      | inr other ↦ absurd (nothing (cond-false (is_origin net policy p a) _ None other) e)
+      | inr other ↦ absurd (none_or_some _ _ (cond-false (is_origin net policy p a) _ None other) e)
     ];
     chooses = λ r offer router before y e. elim (cases_Bool (is_origin net policy p r)) [
       | inl origin ↦ (
@@ -172,9 +172,6 @@ module _ (net : PlainNet) (policy : PlainPolicy) (config : PlainConfig) (p : Pla
     ];
   }
     where
-      nothing : {A : Type 0} {o : Option A} {y : A} → o ≡ None → o ≡ Some y → ⊥
-      nothing {o = o} {y = y} a b = (let none : None ≡ Some y = sym a ∙ b in cc)
-
       unexported : (a b : ℕ) (m : Option Route) → exported_by net config p a b m ≡ None
       unexported a b m = rw free refl
 
@@ -184,7 +181,7 @@ module _ (net : PlainNet) (policy : PlainPolicy) (config : PlainConfig) (p : Pla
       ungiven : (r : ℕ) (offer : ℕ → Option Route) (y : Route) → option_map (λ (x : ℕ × Route). x.1) (first_of net (gives r offer) (neighbours net r)) ≡ Some y → ⊥
       ungiven r offer y h =
           let x = option_map_parts (λ (x : ℕ × Route). x.1) (first_of net (gives r offer) (neighbours net r)) y h in
-          nothing (untaken r x.0.0 (offer x.0.0)) (first_is_given net (gives r offer) (neighbours net r) x.0 x.1)
+          none_or_some _ _ (untaken r x.0.0 (offer x.0.0)) (first_is_given net (gives r offer) (neighbours net r) x.0 x.1)
 
 pub origins_alone_hold_routes : OriginsAloneHoldRoutes
 origins_alone_hold_routes net policy config p free es =

@@ -1,7 +1,8 @@
-use Rattle.std.proofs.Common.{◌≡◌, ◌∙◌, List, [], drop, ap, sym, arith, Bool, true, false, refl}
+use Rattle.std.proofs.Common.{◌≡◌, ◌∙◌, List, [], drop, ap, sym, arith, true, false}
 use Rattle.std.specs.Prelude.{◌||◌, ◌&&◌}
 use Rattle.std.specs.List.{list_any}
 use Rattle.std.proofs.lemmas.List.{drop_all}
+use Rattle.std.proofs.Math.Bool.{or-false}
 use Rattle.maps_made.specs.Keys.{has, in_some}
 use Rattle.maps_made.specs.Earlier.{is_at}
 use Rattle.maps_made.specs.declared.spans.Span.{Span}
@@ -15,12 +16,8 @@ loop-span-preserved c = λ j.
     found_next c.args.block.now c.args.spans.now c.loop-span.span-index j zero _ (has c.loop-span.places.items j) (has c.push_places.new.places.items j) c.loop-span-test.true (c.loop-span.invariant j)
     (c.in_ok-push_places.ensures j ∙ ap (λ (es : List Entry). has c.loop-span.places.items j || list_any (is_at j) es) c.run.ensures)
 
-or_false : (b : Bool) → (b || false) ≡ b
-or_false true = refl
-or_false false = refl
-
 pub returns : goal.returns
 returns c = λ j.
     let none : drop c.loop-span.span-index c.args.spans.now ≡ [] = drop_all c.loop-span.span-index c.args.spans.now (omega (arith, c.loop-span-test.false)) in
     let nothing : list_any (λ (e : Entry). in_some (drop c.loop-span.span-index c.args.spans.now) e.key && is_at j e) c.args.block.now ≡ false = ap (λ (ss : List Span). list_any (λ (e : Entry). in_some ss e.key && is_at j e) c.args.block.now) none ∙ list_any-nothing c.args.block.now (is_at j) in
-    sym (c.loop-span.invariant j ∙ ap (λ b. has c.loop-span.places.items j || b) nothing ∙ or_false (has c.loop-span.places.items j))
+    sym (c.loop-span.invariant j ∙ ap (λ b. has c.loop-span.places.items j || b) nothing ∙ or-false (has c.loop-span.places.items j))

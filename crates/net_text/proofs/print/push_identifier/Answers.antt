@@ -1,7 +1,8 @@
 use Rattle.std.proofs.Common.{◌++◌, ◌∷◌, [], ◌∙◌, ap, arith}
 use Rattle.std.specs.Prelude.{codes}
+use Rattle.list_laws.proofs.Pieces.{written}
 use Rattle.text_words.specs.Texts.{address_text}
-use Rattle.net_text.proofs.Items.{if_done, written}
+use Rattle.net_text.proofs.Items.{if_done}
 use Rattle.net_text.proofs.Letters.{quoted_simple, simple_address}
 use Rattle.net_text.proofs.print.push_identifier.Goals as goal
 

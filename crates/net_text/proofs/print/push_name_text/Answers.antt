@@ -1,6 +1,7 @@
 use Rattle.std.proofs.Common.{◌++◌, ◌∷◌, [], ◌∙◌, ap}
 use Rattle.std.specs.Prelude.{codes}
-use Rattle.net_text.proofs.Items.{if_done, written}
+use Rattle.list_laws.proofs.Pieces.{written}
+use Rattle.net_text.proofs.Items.{if_done}
 use Rattle.net_text.proofs.Letters.{quoted_simple, simple_name}
 use Rattle.net_text.proofs.print.push_name_text.Goals as goal
 

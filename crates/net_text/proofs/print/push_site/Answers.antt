@@ -1,10 +1,11 @@
 use Rattle.std.proofs.Common.{◌++◌, ◌∷◌, [], ◌∙◌, ap}
 use Rattle.std.specs.Prelude.{codes}
 use Rattle.std.specs.Fmt.{decimal}
+use Rattle.list_laws.proofs.Pieces.{written}
 use Rattle.serde_json.specs.Data.{string}
 use Rattle.serde_json.specs.Written.{compact_text}
 use Rattle.text_words.specs.Texts.{address_text}
-use Rattle.net_text.proofs.Items.{if_done, site_as, written}
+use Rattle.net_text.proofs.Items.{if_done, site_as}
 use Rattle.net_text.proofs.print.push_site.Goals as goal
 
 pub returns-clause-text : goal.returns-clause-text

@@ -1,17 +1,18 @@
-use Rattle.std.proofs.Common.{arith, ap, sym, ◌∙◌, ◌≡◌, true, ◌++◌, map, subst, length}
+use Rattle.std.proofs.Common.{arith, ap, sym, ◌∙◌, ◌≡◌, true, ◌++◌, map, subst, length, refl}
 use Rattle.std.proofs.lemmas.Bool.{and_parts}
-use Rattle.path_exprs.specs.Normal.{sorted}
+use Rattle.path_exprs.specs.Expression.{both}
+use Rattle.path_exprs.specs.Normal.{both_parts, sorted}
 use Rattle.path_exprs.proofs.Numbers.{known-append, known-more}
 use Rattle.path_terms.specs.Terms.{are_known, at, node, is_sound, ascending}
 use Rattle.path_terms.specs.Values.{values}
-use Rattle.path_terms.proofs.Intersections.{add-members}
+use Rattle.path_terms.proofs.Joins.{add-members}
 use Rattle.path_terms.proofs.intersection.add_parts.Goals as goal
 
 pub returns-in_ok-extend_from_slice-in-Both-clause-added : goal.returns-in_ok-extend_from_slice-in-Both-clause-added
 returns-in_ok-extend_from_slice-in-Both-clause-added c =
     let vs = values c.args.terms.now in
     ap (λ l. sorted (map (at vs) l)) (c.in_ok-extend_from_slice-in-Both.ensures.items ∙ ap (λ l. c.args.all.now.items ++ l) c.deref.ensures.value)
-    ∙ add-members vs c.args.all.now.items c.in-Both.members.items (at vs c.args.number) (c.term.ensures.node ∙ ap (node vs) c.in-Both.is)
+    ∙ add-members both_parts both (λ es. refl) vs c.args.all.now.items c.in-Both.members.items (at vs c.args.number) (c.term.ensures.node ∙ ap (node vs) c.in-Both.is)
 
 pub returns-in_ok-extend_from_slice-in-Both-clause-known : goal.returns-in_ok-extend_from_slice-in-Both-clause-known
 returns-in_ok-extend_from_slice-in-Both-clause-known c =

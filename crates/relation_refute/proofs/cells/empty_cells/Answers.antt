@@ -1,10 +1,11 @@
 use Rattle.std.proofs.Common.{rules, ◌≡◌, ◌+◌, ◌<◌, ◌≤◌, ℕ, eqb, get_or, length, arith, ap, ◌∙◌}
 use Rattle.std.proofs.lemmas.List.{length_push}
+use Rattle.relation_law.proofs.Tests.{count_most}
 use Rattle.graph_base.specs.Graphs.{PlainGraph}
 use Rattle.graph_base.specs.Runs.{place_of}
 use Rattle.relation_refute.specs.declared.cells.Cells.{Cells}
 use Rattle.relation_refute.specs.Cells.{room_at}
-use Rattle.relation_refute.proofs.Celling.{blocks_more, cell_within, count_most, one_cell, rooms_more}
+use Rattle.relation_refute.proofs.Celling.{blocks_more, cell_within, one_cell, rooms_more}
 use Rattle.relation_refute.proofs.cells.empty_cells.Goals as goal
 
 pub loop-node-preserved : goal.loop-node-preserved

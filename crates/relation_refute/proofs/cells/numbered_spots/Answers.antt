@@ -3,8 +3,9 @@ use Rattle.graph_base.specs.Graphs.{PlainGraph}
 use Rattle.graph_base.specs.Runs.{place_of}
 use Rattle.std.proofs.lemmas.List.{length_push}
 use Rattle.relation_law.specs.Numbers.{count_below}
+use Rattle.relation_law.proofs.Tests.{count_most}
 use Rattle.relation_refute.specs.Cells.{spot_of}
-use Rattle.relation_refute.proofs.Celling.{count_most, counts_more, spots_more}
+use Rattle.relation_refute.proofs.Celling.{counts_more, spots_more}
 use Rattle.relation_refute.proofs.cells.numbered_spots.Goals as goal
 
 pub loop-node-init : goal.loop-node-init

@@ -1,15 +1,12 @@
-use Rattle.std.proofs.Common.{◌≡◌, ◌≢◌, ℕ, ◌+◌, ◌*◌, ◌-◌, ◌<◌, ◌≤◌, Bool, true, false, ◌&&◌, ◌||◌, eqb, List, length, arith, refl, sym, ap, ◌∙◌, inl, inr}
+use Rattle.std.proofs.Common.{◌≡◌, ◌≢◌, ℕ, ◌+◌, ◌*◌, ◌-◌, ◌<◌, ◌≤◌, true, false, ◌&&◌, ◌||◌, eqb, List, length, arith, sym, ap, ◌∙◌, inl, inr}
 use Rattle.std.proofs.lemmas.Bool.{cases_eq, cond-true, cond-false, eq-eqb, ne_eqb}
 use Rattle.std.proofs.lemmas.List.{with_items_is}
+use Rattle.std.proofs.Math.Bool.{or-false}
 use borrow.Rule.Slice.PartMut.{put_mid}
 use Rattle.bit_rows.specs.Bits.{has}
 use Rattle.bit_rows.specs.Tables.{PlainRows, has_at, row_of}
 use Rattle.bit_rows.proofs.Tables.{length-put_mid, put_bits, put_table, row_ends, row_part, row_wide}
 use Rattle.bit_rows.proofs.rows.Rows.set.Goals as goal
-
-or_same : (x : Bool) → x ≡ (x || false)
-or_same true = refl
-or_same false = refl
 
 pub invariant_of-self : goal.invariant_of-self
 invariant_of-self c =
@@ -43,5 +40,5 @@ returns-clause-bits c = λ other b lo.
     put_bits r c.args.row c.self.invariant lt _ part ys same k wide len (with_items_is c.self.inside.words (put_mid (c.args.row * r.width) k part ys) whole) other b
     ∙ elim (cases_eq other c.args.row) [
       | inl e ↦ cond-true (eqb other c.args.row) (has ys b) (has_at r other b) (eq-eqb _ _ e) ∙ c.set_bit.ensures.bits b ∙ ap (λ l. has l b || eqb b c.args.bit) (row_part r c.args.row part same) ∙ ap (λ (t : PlainRows). has_at t c.args.row b || eqb b c.args.bit) view ∙ ap (λ o. has_at c.args.self.now o b || eqb b c.args.bit) (sym e) ∙ sym (ap (λ z. has_at c.args.self.now other b || (z && eqb b c.args.bit)) (eq-eqb _ _ e))
-      | inr n ↦ cond-false (eqb other c.args.row) (has ys b) (has_at r other b) (ne_eqb _ _ n) ∙ ap (λ (t : PlainRows). has_at t other b) view ∙ or_same (has_at c.args.self.now other b) ∙ sym (ap (λ z. has_at c.args.self.now other b || (z && eqb b c.args.bit)) (ne_eqb _ _ n))
+      | inr n ↦ cond-false (eqb other c.args.row) (has ys b) (has_at r other b) (ne_eqb _ _ n) ∙ ap (λ (t : PlainRows). has_at t other b) view ∙ sym (or-false (has_at c.args.self.now other b)) ∙ sym (ap (λ z. has_at c.args.self.now other b || (z && eqb b c.args.bit)) (ne_eqb _ _ n))
     ]
