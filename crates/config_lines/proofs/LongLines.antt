@@ -3,6 +3,7 @@ use Rattle.std.proofs.Common.{Bor, ◌≡◌, ℕ, ◌<◌, List, [], ◌∷◌,
 use Rattle.std.specs.Prelude.{◌==◌, ◌⊎◌, codes, if◌then◌else◌}
 use Rattle.std.specs.Str.{bytes_eq}
 use Rattle.std.proofs.lemmas.Bool.{ne_eqb}
+use Rattle.list_laws.proofs.Truth.{either_way}
 use Rattle.net_base.specs.Steps.{◌>>=◌, unless}
 use Rattle.config_lines.specs.declared.edition.Edition.{Edition}
 use Rattle.config_lines.specs.declared.line.LineFault.{LineFault}
@@ -99,11 +100,6 @@ pub long_end : (ws : List (List ℕ)) → 9 < length ws → end_line ws ≡ Err 
 unfolding end_line
 long_end [] long = absurd (omega (arith, long))
 long_end (w ∷ ws) long = refl
-
--- both branches give the same
-pub either_way : {A : Type 0} (b : Bool) (x y z : A) → x ≡ z → y ≡ z → (if b then x else y) ≡ z
-either_way true x y z hx hy = hx
-either_way false x y z hx hy = hy
 
 long_form : (edition : Edition) (classes : ℕ) (w : List ℕ) (ws : List (List ℕ)) → 9 < length ws → form_line edition classes w ws ≡ Err Form
 unfolding form_line

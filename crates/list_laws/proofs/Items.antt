@@ -1,5 +1,6 @@
 -- The items of a list by their places.
-use Rattle.std.proofs.Common.{◌++◌, ◌+◌, ◌<◌, ◌∙◌, ◌∷◌, ◌≡◌, ◌≤◌, List, Some, [], ap, arith, drop, get_or, inl, inr, length, refl, replicate, suc, sym, zero, ℕ}
+use Rattle.std.proofs.Common.{◌++◌, ◌+◌, ◌-◌, Bool, Option, drop-cons, ◌<◌, ◌∙◌, ◌∷◌, ◌≡◌, ◌≤◌, List, Some, [], ap, arith, drop, get_or, inl, inr, length, refl, replicate, suc, sym, zero, ℕ}
+use Rattle.std.specs.Option.{option_and_then}
 use Rattle.std.specs.Prelude.{slice_get}
 use Rattle.std.proofs.lemmas.List.{drop_more}
 use Rattle.std.proofs.lemmas.Option.{get_or_from_slice_get, slice_get_cases, slice_get_within}
@@ -57,3 +58,30 @@ pub get_or-replicate_same : {A : Type 0} (n i : ℕ) (x : A) → get_or (replica
 get_or-replicate_same zero i x = refl
 get_or-replicate_same (suc n) zero x = refl
 get_or-replicate_same (suc n) (suc i) x = get_or-replicate_same n i x
+
+-- lists of options that give the same at each place, whether there is an item or not
+pub same_options : {A : Type 0} (a b : List (Option A)) → length a ≡ length b
+    → ((i : ℕ) → i < length a → option_and_then (λ (o : Option A). o) (slice_get a i) ≡ option_and_then (λ (o : Option A). o) (slice_get b i)) → a ≡ b
+same_options [] [] size each = refl
+same_options [] (y ∷ b) size each = absurd (cc)
+same_options (x ∷ a) [] size each = absurd (cc)
+same_options (x ∷ a) (y ∷ b) size each =
+    let head : x ≡ y = each 0 (omega arith) in
+    let less : length a ≡ length b = omega (arith, size) in
+    let tail = same_options a b less (λ i h. each (suc i) (omega (arith, h))) in
+    λ i. head i ∷ tail i
+
+-- a test of each place beside the next one, which goes on where two of them answer `go`
+pub pairs_next : (F : List ℕ → Bool) (p : ℕ → ℕ → Bool) (go : Bool) → ((x y : ℕ) (ys : List ℕ) → p x y ≡ go → F (x ∷ y ∷ ys) ≡ F (y ∷ ys))
+    → (xs : List ℕ) (i k l : ℕ) → 1 ≤ i → i < length xs → k ≡ get_or xs (i - 1) k → l ≡ get_or xs i l → p k l ≡ go
+    → F xs ≡ F (drop (i - 1) xs) → F xs ≡ F (drop (i + 1 - 1) xs)
+pairs_next F p go step xs zero k l some within first second passed before = absurd (omega arith)
+pairs_next F p go step xs (suc i) k l some within first second passed before =
+    let here : suc i - 1 ≡ i = omega arith in
+    let there : suc i + 1 - 1 ≡ suc i = omega arith in
+    let at_k : k ≡ get_or xs i k = first ∙ ap (λ n. get_or xs n k) here in
+    before ∙ ap (λ n. F (drop n xs)) here
+    ∙ ap F (drop-cons xs i k (omega arith) ∙ ap (λ x. x ∷ drop (suc i) xs) (sym at_k) ∙ ap (λ ys. k ∷ ys) (drop-cons xs (suc i) l within ∙ ap (λ x. x ∷ drop (suc (suc i)) xs) (sym second)))
+    ∙ step k l (drop (suc (suc i)) xs) passed
+    ∙ ap F (ap (λ x. x ∷ drop (suc (suc i)) xs) second ∙ sym (drop-cons xs (suc i) l within))
+    ∙ ap (λ n. F (drop n xs)) (sym there)

@@ -1,5 +1,6 @@
 pub mod Apart
 pub mod Changed
+pub mod Counts
 pub mod Each
 pub mod Items
 pub mod Kept

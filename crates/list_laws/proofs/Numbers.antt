@@ -1,8 +1,9 @@
 -- Numbers: bounds, products that are kept at a limit, and tests of two numbers.
-use Rattle.std.proofs.Common.{◌%◌, ◌*◌, ◌+◌, ◌/◌, ◌<◌, ◌∙◌, ◌≡◌, ◌≤◌, ap, arith, eqb, false, inl, inr, min, mul-zero, refl, suc, sym, zero, zero-mul, ℕ}
+use Rattle.std.proofs.Common.{◌%◌, ◌&&◌, ◌*◌, Bool, ltb, true, ◌+◌, ◌/◌, ◌<◌, ◌∙◌, ◌≡◌, ◌≤◌, ap, arith, eqb, false, inl, inr, min, mul-zero, refl, suc, sym, zero, zero-mul, ℕ}
 use Rattle.std.specs.Prelude.{◌==◌, ◌||◌, nat_eq, nat_lt}
 use Rattle.std.proofs.Math.Nat.{div-add-mod, le-mul_of_pos_right, le_of_lt, min-eq_left, min-eq_right, min-zero, mul_comm, zero-min}
-use Rattle.std.proofs.lemmas.Bool.{cases_eq, cases_lt, eq-eqb, eqb-false, eqb-true, false_from_ne_true, le-ltb, lt-ltb, ne_eqb}
+use Rattle.std.proofs.Math.Bool.{or-false}
+use Rattle.std.proofs.lemmas.Bool.{cases_eq, cases_lt, cases_order, eq-eqb, eqb-false, eqb-true, false_from_ne_true, le-ltb, lt-ltb, ne_eqb}
 
 pub nat_eq_apart : (x y : ℕ) → nat_eq x y ≡ false → nat_eq y x ≡ false
 nat_eq_apart x y apart = false_from_ne_true (nat_eq y x) (λ same. eqb-false x y apart (sym (eqb-true y x same)))
@@ -58,3 +59,13 @@ min-mul (suc a) (suc b) (suc m) = elim (cases_lt (suc m) (suc a)) [
 
 pub nat_lt-zero : (n : ℕ) → nat_lt n 0 ≡ false
 nat_lt-zero n = le-ltb n 0 (omega arith)
+
+-- what holds below the next number holds below this one, or of it
+pub next_below : (y i : ℕ) (f : ℕ → Bool) → ((ltb y i && f y) || (eqb y i && f i)) ≡ (ltb y (i + 1) && f y)
+next_below y i f = elim (cases_order y i) [
+  | inl e ↦ (let a : ltb y i ≡ false = le-ltb _ _ (omega arith) in let b : eqb y i ≡ true = eq-eqb _ _ e in let c : ltb y (i + 1) ≡ true = lt-ltb _ _ (omega arith) in let d : f i ≡ f y = ap f (sym e) in rw (a, b, c, d) refl)
+  | inr o ↦ elim o [
+    | inl less ↦ (let a : ltb y i ≡ true = lt-ltb _ _ less in let b : eqb y i ≡ false = ne_eqb _ _ (λ e. omega arith) in let c : ltb y (i + 1) ≡ true = lt-ltb _ _ (omega arith) in rw (a, b, c) (or-false (f y)))
+    | inr more ↦ (let a : ltb y i ≡ false = le-ltb _ _ (omega arith) in let b : eqb y i ≡ false = ne_eqb _ _ (λ e. omega arith) in let c : ltb y (i + 1) ≡ false = le-ltb _ _ (omega arith) in rw (a, b, c) refl)
+  ]
+]

@@ -46,3 +46,8 @@ and_by_first whole first second answer is missed none = none ∙ sym (is ∙ ap 
 
 pub and_alike : {a b x y : Bool} → a ≡ b → x ≡ y → (a && x) ≡ (b && y)
 and_alike first second = λ i. first i && second i
+
+-- both branches give the same
+pub either_way : {A : Type 0} (b : Bool) (x y z : A) → x ≡ z → y ≡ z → (if b then x else y) ≡ z
+either_way true x y z hx hy = hx
+either_way false x y z hx hy = hy

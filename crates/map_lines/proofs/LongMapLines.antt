@@ -10,7 +10,8 @@ use Rattle.config_lines.specs.declared.line.LineFault.TheVariants.{Form}
 use Rattle.config_lines.specs.declared.number.Figure.{Figure}
 use Rattle.config_lines.specs.Numbers.{number_of}
 use Rattle.config_lines.specs.Words.{is_word}
-use Rattle.config_lines.proofs.LongLines.{IsFormal, no_form_behind, number_of-formal, is_word-formal, long_pattern, long_setting, long_router, long_session, long_peer, long_end, either_way}
+use Rattle.config_lines.proofs.LongLines.{IsFormal, no_form_behind, number_of-formal, is_word-formal, long_pattern, long_setting, long_router, long_session, long_peer, long_end}
+use Rattle.list_laws.proofs.Truth.{either_way}
 use Rattle.map_lines.specs.MapLines.{kind_of, list_line, network_line, matched, unmatched, in_line, exported, out_line, as_block, form_line, words_line}
 
 kind_of-formal : (w : List ℕ) → IsFormal (kind_of w)

@@ -1,7 +1,7 @@
 -- Entries of the memo stay right as terms come, and serve each location of a class.
 use Rattle.std.proofs.Common.{◌≡◌, ℕ, ◌<◌, Bool, true, false, cond, List, [], ◌∷◌, length, Some, None, Option, refl, sym, ap, subst, ◌∙◌}
 use Rattle.std.specs.Prelude.{IfSome, slice_get, ◌==◌}
-use Rattle.std.proofs.lemmas.Bool.{and_parts, eqb-true}
+use Rattle.std.proofs.lemmas.Bool.{and_parts, eqb-true, ltb-true}
 use Rattle.std.specs.Ordering.{is_eq}
 use Rattle.list_laws.proofs.Orders.{is_eq-Equal}
 use Rattle.path_exprs.specs.Order.{compare}
@@ -16,7 +16,6 @@ use Rattle.path_automata.specs.Sets.{agrees, sets_pass}
 use Rattle.path_terms.specs.declared.term.Term.{Term}
 use Rattle.path_terms.specs.declared.term.Term.TheVariants.{Seq, Not, Star}
 use Rattle.path_terms.specs.Terms.{is_sound}
-use Rattle.path_terms.proofs.Numbers.{lt_from}
 use Rattle.path_exprs.specs.Derivative.{derivative}
 use Rattle.path_exprs.proofs.Numbers.{at-extends, longer}
 use Rattle.path_automata.proofs.Kept.{same}
@@ -71,15 +70,15 @@ pub derived-read : {S : Type 0} (cs : List ℕ) (vs : List Expression) (m : Inde
 derived-read cs vs m k d h q = subst (λ o. IfSome o (λ d. IsDerivative cs vs k d)) q (h k)
 
 pub not-below : (n : ℕ) (t : Term) (a : ℕ) → t ≡ Not a → is_sound n t ≡ true → a < n
-not-below n t a q h = lt_from a n (subst (λ t. is_sound n t ≡ true) q h)
+not-below n t a q h = ltb-true a n (subst (λ t. is_sound n t ≡ true) q h)
 
 pub star-below : (n : ℕ) (t : Term) (a : ℕ) → t ≡ Star a → is_sound n t ≡ true → a < n
-star-below n t a q h = lt_from a n (subst (λ t. is_sound n t ≡ true) q h)
+star-below n t a q h = ltb-true a n (subst (λ t. is_sound n t ≡ true) q h)
 
 pub seq-below : (n : ℕ) (t : Term) (a b : ℕ) → t ≡ Seq a b → is_sound n t ≡ true → (a < n) × (b < n)
 seq-below n t a b q h =
     let u = and_parts (nat_lt a n) (nat_lt b n) (subst (λ t. is_sound n t ≡ true) q h) in
-    (lt_from a n u.0, lt_from b n u.1)
+    (ltb-true a n u.0, ltb-true b n u.1)
 
 pub classed-not : (cs : List ℕ) (e a : Expression) → e ≡ complement a → IsClassed cs e → IsClassed cs a
 classed-not cs e a q h = λ x y c. subst (λ e. sets_pass (agrees x y) e ≡ true) q (h x y c)

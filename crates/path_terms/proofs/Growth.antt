@@ -2,7 +2,7 @@
 use Rattle.std.proofs.Common.{◌≡◌, ℕ, zero, suc, ◌<◌, ◌≤◌, ◌+◌, Bool, true, false, cond, List, [], ◌∷◌, ◌++◌, ◌⊎◌, inl, inr, ⊎_elim, map, length, get_or, Some, None, refl, sym, ap, subst, ◌∙◌, arith, append_assoc}
 use Rattle.std.specs.Prelude.{◌==◌, nat_lt, slice_get}
 use Rattle.std.specs.List.{list_all, list_any}
-use Rattle.std.proofs.lemmas.Bool.{and_parts, and_from, eqb-true, eq-eqb, lt-ltb, false≢true}
+use Rattle.std.proofs.lemmas.Bool.{and_parts, and_from, eqb-true, eq-eqb, lt-ltb, false≢true, ltb-true}
 use Rattle.std.proofs.lemmas.List.{append-nil}
 use Rattle.std.proofs.lemmas.Option.{slice_get-get_or}
 use Rattle.std.specs.Str.{bytes_eq}
@@ -21,7 +21,7 @@ use Rattle.path_terms.specs.Terms.{at, node, grow, expressions, ascending, are_m
 use Rattle.std.proofs.lemmas.Slice.Eq.{bytes_eq-Decides}
 use Rattle.list_laws.proofs.Texts.{bytes_eq_self}
 use Rattle.path_terms.proofs.Same.{same, itself}
-use Rattle.path_terms.proofs.Numbers.{lt_from, among-all, same_numbers, In-map, map-In, In-sorted, sorted-In}
+use Rattle.path_terms.proofs.Numbers.{among-all, same_numbers, In-map, map-In, In-sorted, sorted-In}
 
 pub grow-append : (es : List Expression) (ts us : List Term) → grow es (ts ++ us) ≡ grow (grow es ts) us
 grow-append es [] us = refl
@@ -43,11 +43,11 @@ pub map-kept : (es more : List Expression) (k : ℕ) (ns : List ℕ) → k ≤ l
 map-kept es more k [] le h = refl
 map-kept es more k (n ∷ ns) le h =
     let u = and_parts (nat_lt n k) (list_all (λ n. nat_lt n k) ns) h in
-    let lt = lt_from n k u.0 in
+    let lt = ltb-true n k u.0 in
     ap (λ l. at (es ++ more) n ∷ l) (map-kept es more k ns le u.1) ∙ ap (λ e. e ∷ map (at es) ns) (at-left es more n (omega (arith, lt, le)))
 
 child-kept : (es more : List Expression) (k n : ℕ) → k ≤ length es → nat_lt n k ≡ true → at (es ++ more) n ≡ at es n
-child-kept es more k n le h = let lt = lt_from n k h in at-left es more n (omega (arith, lt, le))
+child-kept es more k n le h = let lt = ltb-true n k h in at-left es more n (omega (arith, lt, le))
 
 pub node-kept : (es more : List Expression) (k : ℕ) (t : Term) → k ≤ length es → is_sound k t ≡ true → node (es ++ more) t ≡ node es t
 node-kept es more k Never le h = refl
@@ -73,10 +73,10 @@ below-more k m (n ∷ ns) le h =
     and_from (nat_lt n m) (list_all (λ n. nat_lt n m) ns) (one-more k m n le u.0) (below-more k m ns le u.1)
   where
     one-more : (k m n : ℕ) → k ≤ m → nat_lt n k ≡ true → nat_lt n m ≡ true
-    one-more k m n le h = let lt = lt_from n k h in lt-ltb n m (omega (arith, lt, le))
+    one-more k m n le h = let lt = ltb-true n k h in lt-ltb n m (omega (arith, lt, le))
 
 child-more : (k m n : ℕ) → k ≤ m → nat_lt n k ≡ true → nat_lt n m ≡ true
-child-more k m n le h = let lt = lt_from n k h in lt-ltb n m (omega (arith, lt, le))
+child-more k m n le h = let lt = ltb-true n k h in lt-ltb n m (omega (arith, lt, le))
 
 pub sound-more : (k m : ℕ) (t : Term) → k ≤ m → is_sound k t ≡ true → is_sound m t ≡ true
 sound-more k m Never le h = refl
@@ -140,8 +140,8 @@ members-to : (es : List Expression) (ns ms : List ℕ) → AreApart es → list_
 members-to es ns ms apart bn bm q k i =
     let there : In (at es k) (sorted (map (at es) ms)) = subst (In (at es k)) q (In-sorted (at es k) (map (at es) ns) (In-map es k ns i)) in
     let r = map-In es (at es k) ms (sorted-In (at es k) (map (at es) ms) there) in
-    let lk = lt_from k (length es) (among-all (λ n. nat_lt n (length es)) k ns bn i) in
-    let lr = lt_from r.0 (length es) (among-all (λ n. nat_lt n (length es)) r.0 ms bm r.1) in
+    let lk = ltb-true k (length es) (among-all (λ n. nat_lt n (length es)) k ns bn i) in
+    let lr = ltb-true r.0 (length es) (among-all (λ n. nat_lt n (length es)) r.0 ms bm r.1) in
     subst (λ n. Among n ms) (sym (apart k r.0 lk lr r.2)) r.1
 
 members-same : (es : List Expression) (ns ms : List ℕ) → AreApart es → are_members (length es) ns ≡ true → are_members (length es) ms ≡ true
@@ -152,7 +152,7 @@ members-same es ns ms apart hn hm q =
     same_numbers ns ms u.1 v.1 (members-to es ns ms apart u.0 v.0 q) (members-to es ms ns apart v.0 u.0 (sym q))
 
 one : (es : List Expression) (a b : ℕ) → AreApart es → nat_lt a (length es) ≡ true → nat_lt b (length es) ≡ true → at es a ≡ at es b → (a == b) ≡ true
-one es a b apart ha hb q = eq-eqb a b (apart a b (lt_from a (length es) ha) (lt_from b (length es) hb) q)
+one es a b apart ha hb q = eq-eqb a b (apart a b (ltb-true a (length es) ha) (ltb-true b (length es) hb) q)
 
 abbrev first : Expression → Expression
 first (seq a b) = a

@@ -2,14 +2,14 @@
 use Rattle.std.proofs.Common.{◌≡◌, ℕ, ◌<◌, ◌≤◌, Bool, true, false, List, [], ◌∷◌, ◌++◌, inl, inr, ⊎_elim, map, length, get_or, drop, ◌+◌, refl, sym, ap, ◌∙◌, arith}
 use Rattle.std.specs.Prelude.{nat_lt, slice_index_or, if◌then◌else◌}
 use Rattle.std.specs.List.{list_all, list_any, flat_map}
-use Rattle.std.proofs.lemmas.Bool.{and_parts}
+use Rattle.std.proofs.lemmas.Bool.{and_parts, ltb-true}
 use Rattle.std.proofs.lemmas.List.{map-append, drop_more}
 use Rattle.path_exprs.specs.Expression.{Expression, Expressions, expressions_of, list_of}
 use Rattle.path_exprs.specs.Normal.{sorted}
 use Rattle.path_exprs.proofs.Lists.{list_of-expressions_of}
 use Rattle.path_law.proofs.Sorting.{In}
 use Rattle.path_terms.specs.Terms.{at, ascending, are_known, AreApart, IsSettled}
-use Rattle.path_terms.proofs.Numbers.{lt_from, In-sorted}
+use Rattle.path_terms.proofs.Numbers.{In-sorted}
 use Rattle.path_terms.proofs.Members.{any-sorted, flat-step, sorted-append, sorted-settled, sorted-sorted}
 
 -- Each member adds its parts. One part may absorb the others; elsewhere the expression is made from the sorted parts.
@@ -60,7 +60,7 @@ module _ (from : List Expression → Expression) (join : Expressions → Express
       let x = and_parts (nat_lt n m) (list_all (λ k. nat_lt n k) ns) w.0 in
       let es = map (at vs) (n ∷ m ∷ ns) in
       sym (two-members (sorted es) (at vs n) (at vs m) (In-sorted (at vs n) es (inl refl)) (In-sorted (at vs m) es (inr (inl refl)))
-      (λ q. let lt = lt_from n m x.0 in let same = apart n m (lt_from n (length vs) u.0) (lt_from m (length vs) v.0) q in absurd (omega (arith, lt, same))))
+      (λ q. let lt = ltb-true n m x.0 in let same = apart n m (ltb-true n (length vs) u.0) (ltb-true m (length vs) v.0) q in absurd (omega (arith, lt, same))))
 
 -- ---- what members add
 

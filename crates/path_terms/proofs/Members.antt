@@ -7,7 +7,7 @@ use Rattle.std.specs.List.Sorted.{IsStrictlySortedBy, IsSorted, IsPermutation}
 use Rattle.std.specs.Ordering.{nat_cmp, eq_by_cmp, is_eq}
 use Rattle.std.specs.declared.cmp.Ordering.{Ordering}
 use Rattle.std.specs.declared.cmp.Ordering.TheVariants.{Less, Equal, Greater}
-use Rattle.std.proofs.lemmas.Bool.{and_parts, and_from, lt-ltb, ne_eqb, eq-eqb, false≢true, or_cases, or_left, or_right}
+use Rattle.std.proofs.lemmas.Bool.{and_parts, and_from, lt-ltb, ne_eqb, eq-eqb, false≢true, or_cases, or_left, or_right, ltb-true}
 use Rattle.std.proofs.lemmas.Cmp.{ranked, nat_cmp_total}
 use Rattle.std.proofs.lemmas.List.{append-nil, map-append}
 use Rattle.std.proofs.lemmas.List.Kept.{IsStrictlySortedBy-dedup, Contains-dedup_nat, Contains-from_dedup}
@@ -19,7 +19,7 @@ use Rattle.path_law.proofs.Sorting.{In, same_members, ascends-sorted}
 use Rattle.path_terms.specs.declared.term.Term.{Term}
 use Rattle.path_terms.specs.declared.term.Term.TheVariants.{Never, Empty, Set, Seq, Either, Both, Not, Star}
 use Rattle.path_terms.specs.Terms.{at, node, ascending, are_known, Among, IsSettled}
-use Rattle.path_terms.proofs.Numbers.{lt_from, among-all, In-map, map-In, In-sorted, sorted-In}
+use Rattle.path_terms.proofs.Numbers.{among-all, In-map, map-In, In-sorted, sorted-In}
 use lib.Dec.{eqb}
 
 pub sorted-same : (es fs : List Expression) → ((g : Expression) → In g es → In g fs) → ((g : Expression) → In g fs → In g es) → sorted es ≡ sorted fs
@@ -144,7 +144,7 @@ any-sorted p es =
 
 pub known-first : (k : ℕ) (ns : List ℕ) → 1 ≤ length ns → are_known k ns ≡ true → slice_index_or ns 0 0 < k
 known-first k [] g h = absurd (omega (arith, g))
-known-first k (n ∷ ns) g h = lt_from n k (and_parts (nat_lt n k) (are_known k ns) h).0
+known-first k (n ∷ ns) g h = ltb-true n k (and_parts (nat_lt n k) (are_known k ns) h).0
 
 -- the empty list in an alternation and in an intersection
 

@@ -8,9 +8,6 @@ use Rattle.path_exprs.specs.Normal.{sorted}
 use Rattle.path_law.proofs.Sorting.{In, In-insert_each, insert_each-In}
 use Rattle.path_terms.specs.Terms.{at, ascending, Among}
 
-pub lt_from : (m n : ℕ) → nat_lt m n ≡ true → m < n
-lt_from m n h = ltb-true m n h
-
 pub among-all : (p : ℕ → Bool) (n : ℕ) (ms : List ℕ) → list_all p ms ≡ true → Among n ms → p n ≡ true
 among-all p n [] h i = absurd i
 among-all p n (m ∷ ms) h i =
@@ -23,13 +20,13 @@ head-least n m ns ms s t to from =
     let v = and_parts (list_all (λ k. nat_lt m k) ms) (ascending ms) t in
     ⊎_elim (λ q. q)
     (λ i. ⊎_elim sym
-    (λ j. let above = lt_from n m (among-all (λ k. nat_lt n k) m ns u.0 j) in let below = lt_from m n (among-all (λ k. nat_lt m k) n ms v.0 i) in absurd (omega (arith, above, below)))
+    (λ j. let above = ltb-true n m (among-all (λ k. nat_lt n k) m ns u.0 j) in let below = ltb-true m n (among-all (λ k. nat_lt m k) n ms v.0 i) in absurd (omega (arith, above, below)))
     from)
     to
 
 tail-to : (n : ℕ) (ns ms : List ℕ) → list_all (λ k. nat_lt n k) ns ≡ true → ((k : ℕ) → Among k (n ∷ ns) → Among k (n ∷ ms)) → (k : ℕ) → Among k ns → Among k ms
 tail-to n ns ms b to k i =
-    ⊎_elim (λ q. let above = lt_from n k (among-all (λ k. nat_lt n k) k ns b i) in absurd (omega (arith, above, q))) (λ j. j) (to k (inr i))
+    ⊎_elim (λ q. let above = ltb-true n k (among-all (λ k. nat_lt n k) k ns b i) in absurd (omega (arith, above, q))) (λ j. j) (to k (inr i))
 
 pub same_numbers : (ns ms : List ℕ) → ascending ns ≡ true → ascending ms ≡ true → ((k : ℕ) → Among k ns → Among k ms) → ((k : ℕ) → Among k ms → Among k ns) → ns ≡ ms
 same_numbers [] [] s t to from = refl

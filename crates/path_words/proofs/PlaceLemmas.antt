@@ -28,21 +28,6 @@ at_last_some p (x ∷ xs) l some =
     let e : suc (length xs) - 1 ≡ length xs = omega arith in
     last_by p x xs l (ap (slice_get (x ∷ xs)) (sym e) ∙ some)
 
--- a test of each place beside the next one, which goes on where two of them answer `go`
-pub pairs_next : (F : List ℕ → Bool) (p : ℕ → ℕ → Bool) (go : Bool) → ((x y : ℕ) (ys : List ℕ) → p x y ≡ go → F (x ∷ y ∷ ys) ≡ F (y ∷ ys))
-    → (xs : List ℕ) (i k l : ℕ) → 1 ≤ i → i < length xs → k ≡ get_or xs (i - 1) k → l ≡ get_or xs i l → p k l ≡ go
-    → F xs ≡ F (drop (i - 1) xs) → F xs ≡ F (drop (i + 1 - 1) xs)
-pairs_next F p go step xs zero k l some within first second passed before = absurd (omega arith)
-pairs_next F p go step xs (suc i) k l some within first second passed before =
-    let here : suc i - 1 ≡ i = omega arith in
-    let there : suc i + 1 - 1 ≡ suc i = omega arith in
-    let at_k : k ≡ get_or xs i k = first ∙ ap (λ n. get_or xs n k) here in
-    before ∙ ap (λ n. F (drop n xs)) here
-    ∙ ap F (drop-cons xs i k (omega arith) ∙ ap (λ x. x ∷ drop (suc i) xs) (sym at_k) ∙ ap (λ ys. k ∷ ys) (drop-cons xs (suc i) l within ∙ ap (λ x. x ∷ drop (suc (suc i)) xs) (sym second)))
-    ∙ step k l (drop (suc (suc i)) xs) passed
-    ∙ ap F (ap (λ x. x ∷ drop (suc (suc i)) xs) second ∙ sym (drop-cons xs (suc i) l within))
-    ∙ ap (λ n. F (drop n xs)) (sym there)
-
 pub some_step-next : (p : ℕ → ℕ → Bool) (x y : ℕ) (ys : List ℕ) → p x y ≡ false → some_step p (x ∷ y ∷ ys) ≡ some_step p (y ∷ ys)
 some_step-next p x y ys off = ap (λ b. b || some_step p (y ∷ ys)) off
 

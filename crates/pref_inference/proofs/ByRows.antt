@@ -4,7 +4,7 @@ use Rattle.std.specs.List.{count_by, range_with_len}
 use Rattle.std.proofs.lemmas.Bool.{cases_Bool, and_left, and_right, eqb-true, le-ltb, lt-ltb}
 use Rattle.std.proofs.Math.Bool.{and-true, or-false}
 use Rattle.bit_rows.specs.Tables.{PlainRows, has_at}
-use Rattle.bit_rows.proofs.Counting.{count_split, count_to, first_of}
+use Rattle.list_laws.proofs.Counts.{count_first, count_split, count_to}
 use Rattle.graph_base.specs.Graphs.{PlainGraph}
 use Rattle.graph_base.specs.Runs.{place_of}
 use Rattle.relation_law.specs.Numbers.{count_below, is_first, number_of}
@@ -13,7 +13,7 @@ use Rattle.relation_law.proofs.ByRows.{count_alike, number_by_row}
 use Rattle.relation_law.proofs.Rounds.{pair_to}
 use Rattle.state_simulation.specs.Held.{HasEach, IsRelationOf, PlainRelation, are_together, has}
 use Rattle.state_simulation.proofs.Holding.{together, total_where_each}
-use Rattle.state_simulation.proofs.Masking.{next_below}
+use Rattle.list_laws.proofs.Numbers.{next_below}
 use Rattle.state_simulation.specs.Looked.{AreLocated}
 use Rattle.pref_inference.specs.Inferred.{AreFirsts}
 
@@ -23,7 +23,7 @@ count_range p zero = refl
 count_range p (suc n) =
     let longer : suc n ≡ n + 1 = omega arith in
     let at : 0 + n ≡ n = omega arith in
-    let one : ◌≡◌ {A = ℕ} (count_by p (range_with_len (0 + n) 1)) (cond (p n) 1 0 + 0) = ap (λ k. count_by p (range_with_len k 1)) at ∙ first_of p n 0 in
+    let one : ◌≡◌ {A = ℕ} (count_by p (range_with_len (0 + n) 1)) (cond (p n) 1 0 + 0) = ap (λ k. count_by p (range_with_len k 1)) at ∙ count_first p n 0 in
     ap (λ k. count_by p (range_with_len 0 k)) longer ∙ count_split p 0 n 1 ∙ omega (arith, one, count_range p n)
 
 -- one node more is the first of its class, or isn't

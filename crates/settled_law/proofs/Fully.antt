@@ -64,16 +64,3 @@ module _ (net : PlainNet) (policy : PlainPolicy) (config : PlainConfig) (f : Fai
         let n = full.first v u h.0 g.0 who.1 h.1 g.1 in
         subst (λ (z : line.LineRoute). line.LinesNoLater Net z y) h.2 (subst (line.LinesNoLater Net (line_of h.0)) g.2 (record { higher = n.higher; fewer = n.fewer; lower = n.lower }));
   }
-
--- ---- outcomes with one entry a router
-
-pub same_list : {A : Type 0} (a b : List (Option A)) → length a ≡ length b
-    → ((i : ℕ) → i < length a → option_and_then (λ (o : Option A). o) (slice_get a i) ≡ option_and_then (λ (o : Option A). o) (slice_get b i)) → a ≡ b
-same_list [] [] size each = refl
-same_list [] (y ∷ b) size each = absurd (cc)
-same_list (x ∷ a) [] size each = absurd (cc)
-same_list (x ∷ a) (y ∷ b) size each =
-    let head : x ≡ y = each 0 (omega arith) in
-    let less : length a ≡ length b = omega (arith, size) in
-    let tail = same_list a b less (λ i h. each (suc i) (omega (arith, h))) in
-    λ i. head i ∷ tail i

@@ -32,7 +32,8 @@ use Rattle.routing_law.specs.Outcome as outcomes
 use Rattle.routing_law.specs.Spells as spelled
 use Rattle.routing_law.proofs.Back.{graph_is_lines, lines_exist, lines_unique}
 use Rattle.settled_law.specs.Settled.{IsFullyStable, SettledOutcomesAreOne, SettledOutcomesExist}
-use Rattle.settled_law.proofs.Fully.{fully, fully_lines, names_differ, same_list}
+use Rattle.settled_law.proofs.Fully.{fully, fully_lines, names_differ}
+use Rattle.list_laws.proofs.Items.{same_options}
 
 module _ (net : PlainNet) (policy : PlainPolicy) (config : PlainConfig) (f : Failures) (p : PlainPrefix) (free : class_of config p ≡ None) where
   -- without a class nothing is given, so no ties are there to be broken
@@ -157,7 +158,7 @@ module _ (net : PlainNet) (policy : PlainPolicy) (config : PlainConfig) (cs : Li
 
   pub one : IsPrefix p → (a b : Outcome) → length a ≡ length net.routers → length b ≡ length net.routers → IsFullyStable net policy config f p a → IsFullyStable net policy config f p b → a ≡ b
   one prefix a b size_a size_b x y =
-      same_list a b (size_a ∙ sym size_b) (λ r below. one_route prefix a b x y r (lt-ltb r (length net.routers) (subst (λ n. r < n) size_a below)))
+      same_options a b (size_a ∙ sym size_b) (λ r below. one_route prefix a b x y r (lt-ltb r (length net.routers) (subst (λ n. r < n) size_a below)))
 
 pub settled_outcomes_exist : SettledOutcomesExist
 settled_outcomes_exist net policy config cs rules kept passes p f prefix = settles net policy config cs rules kept passes f p prefix

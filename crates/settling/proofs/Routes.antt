@@ -26,7 +26,7 @@ use Rattle.graph_settling.specs.Best.{entry_at}
 use Rattle.graph_settling.specs.Grounds.{held_in}
 use Rattle.graph_settling.specs.declared.settled.Settled.{Settled}
 use Rattle.settled_law.specs.Settled.{IsFullyStable}
-use Rattle.settled_law.proofs.Fully.{same_list}
+use Rattle.list_laws.proofs.Items.{same_options}
 use Rattle.settled_law.proofs.SettledLaw.{CaseFound, bare_fully, case_or_bare, from_graph}
 use Rattle.settling.specs.Outcomes.{AreSettled, case_of, held_by, tagged}
 use Rattle.stable_paths.specs.Surviving.{AreSurvivors}
@@ -36,7 +36,7 @@ use Rattle.settling.proofs.Grounds.{is_ground}
 -- an outcome is told by what its routers hold
 same_outcome : (net : PlainNet) (held_at : ℕ → Option Route) (routes : Outcome) → length routes ≡ length net.routers → ((r : ℕ) → r < length net.routers → route_at routes r ≡ held_at r) → routes ≡ outcome_of net held_at
 same_outcome net held_at routes size each =
-    same_list routes (outcome_of net held_at) (size ∙ sym (outcome-size net held_at)) (λ r low.
+    same_options routes (outcome_of net held_at) (size ∙ sym (outcome-size net held_at)) (λ r low.
     let below : r < length net.routers = omega (arith, low, size) in
     each r below ∙ sym (held net held_at r (lt-ltb r (length net.routers) below)))
 
@@ -103,7 +103,7 @@ module _ (net : PlainNet) (policy : PlainPolicy) (config : PlainConfig) (cs : Li
 
       bare_routes : (routes : Outcome) → length routes ≡ length net.routers → ((r : ℕ) → r < length net.routers → entry_at routes r ≡ held_by net config s origins p (λ k. None) r) → routes ≡ lone
       bare_routes routes size each =
-          same_list routes lone (size ∙ sym (outcome-size net (own_alone net policy config f p free))) (λ r low.
+          same_options routes lone (size ∙ sym (outcome-size net (own_alone net policy config f p free))) (λ r low.
           let below : r < length net.routers = omega (arith, low, size) in
           entry_route routes r ∙ each r below ∙ bare_held r (lt-ltb r (length net.routers) below))
 

@@ -76,15 +76,6 @@ module _ (nodes : List ℕ) (i b n r : ℕ) (hit : ℕ → Bool) (old now : Bool
   pub above_same : hit (get_or nodes i 0) ≡ false → now ≡ (old || (eqb r n && (is_among (take (i + 1) nodes) b && hit b)))
   above_same is = before ∙ skip_hit old (eqb r n) (is_among (take i nodes) b) (eqb b (get_or nodes i 0)) (hit b) (λ e. at_node e ∙ is) ∙ ap (λ z. old || (eqb r n && (z && hit b))) (sym (among_more nodes i b lt))
 
-pub next_below : (y i : ℕ) (f : ℕ → Bool) → ((ltb y i && f y) || (eqb y i && f i)) ≡ (ltb y (i + 1) && f y)
-next_below y i f = elim (cases_order y i) [
-  | inl e ↦ (let a : ltb y i ≡ false = le-ltb _ _ (omega arith) in let b : eqb y i ≡ true = eq-eqb _ _ e in let c : ltb y (i + 1) ≡ true = lt-ltb _ _ (omega arith) in let d : f i ≡ f y = ap f (sym e) in rw (a, b, c, d) refl)
-  | inr o ↦ elim o [
-    | inl less ↦ (let a : ltb y i ≡ true = lt-ltb _ _ less in let b : eqb y i ≡ false = ne_eqb _ _ (λ e. omega arith) in let c : ltb y (i + 1) ≡ true = lt-ltb _ _ (omega arith) in rw (a, b, c) (or-false (f y)))
-    | inr more ↦ (let a : ltb y i ≡ false = le-ltb _ _ (omega arith) in let b : eqb y i ≡ false = ne_eqb _ _ (λ e. omega arith) in let c : ltb y (i + 1) ≡ false = le-ltb _ _ (omega arith) in rw (a, b, c) refl)
-  ]
-]
-
 -- a target more
 pub taken_more : (o a s f : Bool) → ((o && not a) && (not s || not f)) ≡ (o && not (a || (s && f)))
 taken_more false a s f = refl

@@ -8,13 +8,6 @@ use Rattle.std.proofs.lemmas.Bool.{and_parts, leb-true, agree_below, agree_below
 use Rattle.list_laws.proofs.Options.{option_map_or_equal}
 use Rattle.net_base.specs.Addresses.{is_figure, small_number}
 
--- all of these bytes pass, and then none
-pub all_pass : (p : ℕ → Bool) (bs t : List ℕ) → list_all p bs ≡ true → prefix_len p t ≡ 0 → prefix_len p (bs ++ t) ≡ length bs
-all_pass p [] t all stop = stop
-all_pass p (b ∷ bs) t all stop =
-    let h = and_parts (p b) (list_all p bs) all in
-    rw (h.0, all_pass p bs t h.1 stop) (omega arith)
-
 -- a digit
 pub figure_range : (b : ℕ) → is_figure b ≡ true → (48 ≤ b) × (b ≤ 57)
 figure_range b h = let p = and_parts (nat_le 48 b) (nat_le b 57) h in (leb-true 48 b p.0, leb-true b 57 p.1)

@@ -10,8 +10,9 @@ use Rattle.std.proofs.lemmas.List.Folds.{list_all-append}
 use Rattle.net_base.specs.Addresses.{is_figure, cut_at, number_and_rest, quad_of, are_octets, bits_of, address_of}
 use Rattle.net_base.specs.Prefixes.{PlainPrefix, IsPrefix}
 use Rattle.net_base.specs.PrefixText.{length_number, prefix_spelled}
+use Rattle.list_laws.proofs.Texts.{all_pass}
 use Rattle.text_words.specs.Texts.{address_text, prefix_text}
-use Rattle.text_words.proofs.Numbers.{all_pass, figure_range, small_number-decimal, list_all-is_figure}
+use Rattle.text_words.proofs.Numbers.{figure_range, small_number-decimal, list_all-is_figure}
 
 -- no byte of these is the other
 abbrev pub have_no : ℕ → List ℕ → Bool

@@ -41,7 +41,7 @@ use Rattle.event_law.specs.Kinds.{AreKinds, Each, IsKind}
 use Rattle.event_base.specs.Steps.{opening, run}
 use Rattle.event_base.specs.World.{Speakers, World}
 use Rattle.event_law.proofs.KindsKept.{opening-kinds, run-kinds}
-use Rattle.settled_law.proofs.Fully.{same_list}
+use Rattle.list_laws.proofs.Items.{same_options}
 use Rattle.settled_law.proofs.SettledLaw.{CaseFound, case_or_bare}
 use Rattle.settled_law.specs.Settled.{IsFullyStable}
 use Rattle.world_law.specs.Laws.{QuietWorldsAreSettled, QuietWorldsOffer}
@@ -194,7 +194,7 @@ pub same_routes : (net : PlainNet) (w : World Route) → outcome_of net w.route 
 same_routes net w =
     let n = length net.routers in
     let size : length (routes_of net w) ≡ n = length-map (numbers_below n) w.route ∙ length-numbers_below n in
-    same_list (outcome_of net w.route) (routes_of net w) (outcome-size net w.route ∙ sym size) (λ i below.
+    same_options (outcome_of net w.route) (routes_of net w) (outcome-size net w.route ∙ sym size) (λ i below.
     let less : i < n = subst (λ (k : ℕ). i < k) (outcome-size net w.route) below in
     held net w.route i (lt-ltb i n less) ∙ sym (ap (option_and_then (λ (o : Option Route). o)) (slice_get-map w.route (numbers_below n) i ∙ ap (option_map w.route) (slice_get-numbers_below n i less))))
 

@@ -2,7 +2,8 @@ use Rattle.std.proofs.Common.{ℕ, ◌+◌, ◌*◌, ◌<◌, ◌^◌, get_or, a
 use Rattle.std.specs.Prelude.{count_ones}
 use Rattle.std.specs.Int.Count.{ones-le}
 use Rattle.bit_rows.specs.Bits.{has}
-use Rattle.bit_rows.proofs.Counting.{count_word, count_within, word_bits}
+use Rattle.list_laws.proofs.Counts.{count_within}
+use Rattle.bit_rows.proofs.Counting.{count_word, word_bits}
 use Rattle.bit_rows.proofs.kernels.count_bits.Goals as goal
 
 pub overflow_add-count : goal.overflow_add-count

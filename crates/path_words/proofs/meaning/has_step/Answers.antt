@@ -3,7 +3,8 @@ use Rattle.std.proofs.lemmas.List.{get_or_default}
 use Rattle.std.proofs.Math.Bool.{and-false}
 use Rattle.net_base.specs.Sets.{holds}
 use Rattle.path_words.specs.Meaning.{some_step}
-use Rattle.path_words.proofs.PlaceLemmas.{pairs_next, some_step-next, some_step_short}
+use Rattle.path_words.proofs.PlaceLemmas.{some_step-next, some_step_short}
+use Rattle.list_laws.proofs.Items.{pairs_next}
 use Rattle.path_words.proofs.meaning.has_step.Goals as goal
 use Rattle.path_words.proofs.meaning.has_step.Goals.{else-holds-via-then-holds+else-holds-2, else-holds-via-else-holds}
 

@@ -1,7 +1,8 @@
 use Rattle.std.proofs.Common.{◌≡◌, ◌-◌, drop, arith, sym, ◌∙◌, true, length-drop}
 use Rattle.net_base.specs.Network.{linked}
 use Rattle.path_words.specs.Walks.{steps_linked}
-use Rattle.path_words.proofs.PlaceLemmas.{pairs_next, steps_linked-next, steps_linked_short}
+use Rattle.path_words.proofs.PlaceLemmas.{steps_linked-next, steps_linked_short}
+use Rattle.list_laws.proofs.Items.{pairs_next}
 use Rattle.path_words.proofs.walk.is_linked.Goals as goal
 
 pub loop-i-preserved : goal.loop-i-preserved

@@ -5,7 +5,7 @@ use Rattle.std.proofs.lemmas.List.{length-map}
 use Rattle.graph_base.specs.declared.graph.Node.{Node}
 use Rattle.bit_rows.specs.Bits.{has as has_bit}
 use Rattle.bit_rows.specs.Tables.{PlainRows, has_at, row_of}
-use Rattle.bit_rows.proofs.Counting.{count_within}
+use Rattle.list_laws.proofs.Counts.{count_within}
 use Rattle.graph_base.specs.Runs.{place_of}
 use Rattle.net_base.specs.Network.{is_router}
 use Rattle.relation_law.specs.Numbers.{number_of}

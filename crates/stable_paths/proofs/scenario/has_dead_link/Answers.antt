@@ -1,6 +1,7 @@
 use Rattle.std.proofs.Common.{◌-◌, drop, arith, sym, ◌∙◌, false, length-drop}
 use Rattle.path_words.specs.Meaning.{some_step}
-use Rattle.path_words.proofs.PlaceLemmas.{pairs_next, some_step-next, some_step_short}
+use Rattle.path_words.proofs.PlaceLemmas.{some_step-next, some_step_short}
+use Rattle.list_laws.proofs.Items.{pairs_next}
 use Rattle.outcome_base.specs.Outcomes.{is_dead_link}
 use Rattle.stable_paths.specs.Scenarios.{failures_of}
 use Rattle.stable_paths.proofs.scenario.has_dead_link.Goals as goal

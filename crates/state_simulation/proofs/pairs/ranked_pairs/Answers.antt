@@ -2,7 +2,7 @@ use Rattle.std.proofs.Common.{◌&&◌, ◌||◌, not, eqb, arith, ap, ◌∙◌
 use Rattle.relation_law.specs.Rounds.{same_place}
 use Rattle.relation_law.specs.Views.{view_of}
 use Rattle.state_simulation.specs.Targets.{is_outranked}
-use Rattle.state_simulation.proofs.Masking.{next_below}
+use Rattle.list_laws.proofs.Numbers.{next_below}
 use Rattle.state_simulation.proofs.pairs.ranked_pairs.Goals as goal
 
 pub loop-n-preserved : goal.loop-n-preserved
