@@ -108,3 +108,9 @@ fn words_of_rows(rt: HostRuntime) -> Result<(), Fail> {
     }
     Ok(())
 }
+
+#[test]
+fn a_bit_outside_is_found(rt: HostRuntime) {
+    assert!(rt; outside_is_empty(&[12], &[6], &[4]));
+    assert!(rt; !outside_is_empty(&[12], &[6], &[1]));
+}

@@ -8,6 +8,8 @@ use crate::grouping::grouped;
 use crate::ordering::by_location;
 use graph_base::Graph;
 use node_list::NodeList;
+use outside::NoMemory;
+use reach_prune::{Way, neighbours};
 use std::alloc::{AllocError, Global};
 
 /// A graph, with the nodes to which each node steps, those that step to it, and those of each location.
@@ -27,16 +29,14 @@ impl<'a> Maps<'a> {
     ghost use Rattle.reach_prune.specs.Searches.{is_among};
 
     /// The maps of a graph.
-    pub fn new(alloc: Global, graph: &'a Graph) -> Result<Maps<'a>, AllocError>
+    pub fn new(alloc: Global, graph: &'a Graph) -> Result<Maps<'a>, NoMemory>
         ensures { IfOk result (λ maps. maps.graph.now ≡ graph.now) }
     {
-        let size = graph.nodes().len();
-        let turned = turned_steps(alloc, graph)?;
         let placed = placed_nodes(alloc, graph)?;
         Ok(Maps {
             graph,
-            successors: grouped(alloc, size, graph.steps())?,
-            before: grouped(alloc, size, &turned)?,
+            successors: neighbours(alloc, graph, Way::Forward)?,
+            before: neighbours(alloc, graph, Way::Backward)?,
             peers: grouped(alloc, location_count(graph) as usize, &placed)?,
             order: by_location(alloc, graph)?,
         })
@@ -84,18 +84,6 @@ impl<'a> Maps<'a> {
         let at = self.graph.location(node).number() as usize;
         self.peers[at].as_slice()
     }
-}
-
-/// The steps, each from where it leads to where it comes from.
-fn turned_steps(alloc: Global, graph: &Graph) -> Result<Vec<(u32, u32)>, AllocError>
-    ensures within { IfOk result (λ turned. All (λ p. p.0 < length graph.now.nodes) turned.items) }
-    ensures turned { IfOk result (λ turned. (a b : ℕ) → is_in turned.items a b ≡ has_step graph.now b a) }
-{
-    let mut turned = Vec::new(alloc);
-    for (from, to) in graph.steps() {
-        turned.push((*to, *from))?;
-    }
-    Ok(turned)
 }
 
 /// One more than the greatest location of a node.
