@@ -31,6 +31,34 @@ const RANKS_ALIKE: &str = r#"{"cases":[{"external":true,"nodes":[[2,0,0,0,0,0],[
 [0,0,1,101,64512,1],[1,0,1,100,64513,1],[1,0,1,101,64513,2],[0,0,1,100,64512,2]],"origins":[2,3],"prefixes":[],
 "starts":[0,1],"statement":1,"steps":[[0,2],[1,3],[2,4],[3,5],[4,2],[5,3]]}],"version":1}"#;
 
+// The peer P2 begins twice.
+const START_TWICE: &str = r#"{"cases":[{"external":true,"nodes":[[2,0,0,0,0,0],[3,0,0,0,0,0],
+[0,0,1,101,64512,1],[1,0,2,100,64513,1],[1,0,1,101,64513,2],[0,0,2,100,64512,2]],"origins":[2,3],"prefixes":[],
+"starts":[0,1,1],"statement":1,"steps":[[0,2],[1,3],[2,4],[3,5],[4,2],[5,3]]}],"version":1}"#;
+
+const STEP_TWICE: &str = r#"{"cases":[{"external":true,"nodes":[[2,0,0,0,0,0],[3,0,0,0,0,0],
+[0,0,1,101,64512,1],[1,0,2,100,64513,1],[1,0,1,101,64513,2],[0,0,2,100,64512,2]],"origins":[2,3],"prefixes":[],
+"starts":[0,1],"statement":1,"steps":[[0,2],[0,2],[1,3],[2,4],[3,5],[4,2],[5,3]]}],"version":1}"#;
+
+// R2 counts as a peer that hears.
+const ROUTER_THAT_HEARS: &str = r#"{"cases":[{"external":true,"nodes":[[2,0,0,0,0,0],[3,0,0,0,0,0],
+[0,0,1,101,64512,1],[1,0,2,100,64513,1],[1,1,1,101,64513,2],[0,0,2,100,64512,2]],"origins":[2,3],"prefixes":[],
+"starts":[0,1],"statement":1,"steps":[[0,2],[1,3],[2,4],[3,5],[4,2],[5,3]]}],"version":1}"#;
+
+// No step leads to the last node.
+const UNREACHED: &str = r#"{"cases":[{"external":true,"nodes":[[2,0,0,0,0,0],[3,0,0,0,0,0],
+[0,0,1,101,64512,1],[1,0,2,100,64513,1],[1,0,1,101,64513,2],[0,0,2,100,64512,2],[1,0,1,101,64513,3]],"origins":[2,3],
+"prefixes":[],"starts":[0,1],"statement":1,"steps":[[0,2],[1,3],[2,4],[3,5],[4,2],[5,3]]}],"version":1}"#;
+
+const RANK_AT_AN_ORIGIN: &str = r#"{"cases":[{"external":true,"nodes":[[2,0,0,0,0,0],[3,0,2,0,0,0],
+[0,0,1,101,64512,1],[1,0,2,100,64513,1],[1,0,1,101,64513,2],[0,0,2,100,64512,2]],"origins":[2,3],"prefixes":[],
+"starts":[0,1],"statement":1,"steps":[[0,2],[1,3],[2,4],[3,5],[4,2],[5,3]]}],"version":1}"#;
+
+// One node of R1 stands for both exits.
+const JOINED_ACROSS_RANKS: &str = r#"{"cases":[{"external":true,"nodes":[[2,0,0,0,0,0],[3,0,0,0,0,0],
+[0,0,1,101,64512,1],[1,0,2,100,64513,1],[1,0,1,101,64513,2]],"origins":[2,3],"prefixes":[],
+"starts":[0,1],"statement":1,"steps":[[0,2],[1,3],[2,4],[3,2],[4,2]]}],"version":1}"#;
+
 const EXCHANGED: &str = r#"{"cases":[{"external":true,"nodes":[[2,0,0,0,0,0],[3,0,0,0,0,0],
 [0,0,1,100,64512,1],[1,0,2,100,64513,1],[1,0,1,101,64513,2],[0,0,2,101,64512,2]],"origins":[2,3],"prefixes":[],
 "starts":[0,1],"statement":1,"steps":[[0,2],[1,3],[2,4],[3,5],[4,2],[5,3]]}],"version":1}"#;
@@ -62,7 +90,7 @@ pub const EXITS: Sample = Sample {
     rows: &EXITS_ROWS,
 };
 
-const EXITS_ROWS: [Row; 10] = [
+const EXITS_ROWS: [Row; 16] = [
     Row {
         name: "as compiled",
         config: TWO_EXITS_CONFIG,
@@ -92,6 +120,42 @@ const EXITS_ROWS: [Row; 10] = [
         config: NO_CONFIG,
         evidence: STEP_LEFT_OUT,
         found: Some((Walks, 1, 0, 0, 0)),
+    },
+    Row {
+        name: "a start twice",
+        config: NO_CONFIG,
+        evidence: START_TWICE,
+        found: Some((Walks, 1, 0, 0, 0)),
+    },
+    Row {
+        name: "a step twice",
+        config: NO_CONFIG,
+        evidence: STEP_TWICE,
+        found: Some((Walks, 1, 0, 0, 0)),
+    },
+    Row {
+        name: "a router that hears",
+        config: NO_CONFIG,
+        evidence: ROUTER_THAT_HEARS,
+        found: Some((Walks, 1, 0, 0, 0)),
+    },
+    Row {
+        name: "a node that nothing reaches",
+        config: NO_CONFIG,
+        evidence: UNREACHED,
+        found: Some((Walks, 1, 0, 0, 0)),
+    },
+    Row {
+        name: "a rank at an origin",
+        config: NO_CONFIG,
+        evidence: RANK_AT_AN_ORIGIN,
+        found: Some((Ranks, 1, 1, 0, 0)),
+    },
+    Row {
+        name: "joined across ranks",
+        config: NO_CONFIG,
+        evidence: JOINED_ACROSS_RANKS,
+        found: Some((Ranks, 1, 2, 0, 0)),
     },
     Row {
         name: "ranks alike",
