@@ -5,3 +5,5 @@ pub mod Blocks
 pub mod Lawful
 pub mod LawfulLines
 pub mod TextLines
+pub mod ShortNames
+pub mod Tails

@@ -1,12 +1,14 @@
 //! The texts of configurations: which one spells which configuration, and how they are written.
 #![tactic(auto)]
 
-ghost use Rattle.std.specs.Prelude.{◌≡◌, ◌++◌, ◌+◌, OnOk, IfOk};
+ghost use Rattle.std.specs.Prelude.{◌≡◌, ◌++◌, ◌+◌, ◌≤◌, codes, length, if◌then◌else◌, OnOk, IfOk};
 ghost use Rattle.std.specs.List.{flat_map, AllByRecursion};
+ghost use Rattle.std.specs.Fmt.{decimal};
 ghost use Rattle.config_text.specs.ConfigText.{class_line, class_lines, router_line, own_line, session_line, import_line, export_line, session_text, router_text, config_text};
 ghost use Rattle.config_lines.specs.Editions.{tag_text};
 ghost use Rattle.config_lines.specs.LineText.{read_tag, set_text, next_pattern, joined_patterns};
 ghost use Rattle.config_lines.specs.declared.edition.Edition.TheVariants.{Second};
+ghost use Rattle.config_text.specs.declared.tail.TheConstants.{MOST_BYTES};
 ghost use Rattle.config_text.specs.Spelled.{ArePatterns, HasPrefix, IsNamed, HasLawfulParts, Spells};
 
 use config_base::{Config, Export, Own, RouterConfig, Rule, Session};
@@ -14,9 +16,11 @@ use config_lines::Edition;
 use net_base::{List, Pattern, Tag};
 use outside::NoMemory;
 use std::alloc::Global;
+use tail::{Front, Tail};
 use text_words::{push_address, push_bytes, push_name, push_number, push_pattern, push_prefix};
 
 mod law;
+mod tail;
 
 pub use law::{configurations_have_texts, texts_are_lines, texts_spell_one_configuration};
 
@@ -74,17 +78,20 @@ fn push_classes(text: &mut Vec<u8>, classes: &[List<Pattern>]) -> Result<(), NoM
     Ok(())
 }
 
-// Adds a tag: its AS number, `:0:` and its value, as large communities are written (RFC 8092).
-fn push_tag(text: &mut Vec<u8>, tag: Tag) -> Result<(), NoMemory>
-    ensures { OnOk result (text.new.items ≡ text.old.items ++ tag_text Second tag) }
+// The end of a line that names a tag.
+fn tag_end(tag: Tag, front: &Front) -> Tail
+    ensures text { result ≡ codes " tag " ++ tag_text Second tag ++ codes "\n" }
+    ensures len { length result ≤ 32 }
 {
-    push_number(text, u64::from(tag.asn))?;
-    push_bytes(text, b":0:")?;
-    push_number(text, u64::from(tag.value))
+    let mut tail = Tail::new();
+    tail.put(b"\n");
+    tail.put_tag(tag, front);
+    tail.put(b" tag ");
+    tail
 }
 
 // Adds an originate line.
-fn push_own(text: &mut Vec<u8>, own: &Own) -> Result<(), NoMemory>
+fn push_own(text: &mut Vec<u8>, near: &Front, own: &Own) -> Result<(), NoMemory>
     ensures text { OnOk result (text.new.items ≡ text.old.items ++ own_line Second own.now) }
     ensures rules { OnOk result (HasPrefix own.now) }
 {
@@ -92,54 +99,70 @@ fn push_own(text: &mut Vec<u8>, own: &Own) -> Result<(), NoMemory>
     push_number(text, u64::from(own.class))?;
     push_bytes(text, b" ")?;
     push_prefix(text, own.prefix)?;
-    push_bytes(text, b" tag ")?;
-    push_tag(text, own.tag)?;
-    push_bytes(text, b"\n")
+    push_bytes(text, tag_end(own.tag, near).as_slice())
 }
 
-// Adds the tag that an import reads: none in the block of a peer.
+// Puts the tag that an import reads before what the import gives: none in the block of a peer.
 #[tactic(auto, unfolding(config_lines::specs::LineText::read_tag))]
-fn push_read_tag(text: &mut Vec<u8>, peer: bool, tag: Tag) -> Result<(), NoMemory>
-    ensures { OnOk result (text.new.items ≡ text.old.items ++ read_tag Second peer tag) }
+fn put_read_tag(tail: &mut Tail, far: &Front, peer: bool, tag: Tag)
+    requires { 31 + length tail.old ≤ MOST_BYTES }
+    ensures text { tail.new ≡ read_tag Second peer tag ++ tail.old }
+    ensures len { length tail.new ≤ 31 + length tail.old }
 {
     if peer {
-        return Ok(());
+        return;
     }
-    push_bytes(text, b" tag ")?;
-    push_tag(text, tag)
+    tail.put_tag(tag, far);
+    tail.put(b" tag ");
 }
 
-// Adds what an import gives a route.
-fn push_set(text: &mut Vec<u8>, rule: &Rule) -> Result<(), NoMemory>
-    ensures { OnOk result (text.new.items ≡ text.old.items ++ set_text Second rule.now) }
+// What an import gives a route, and the end of its line.
+fn set_end(rule: &Rule, near: &Front) -> Tail
+    ensures text { result ≡ set_text Second rule.now ++ codes "\n" }
+    ensures len { length result ≤ 48 }
 {
-    push_bytes(text, b" set ")?;
-    push_tag(text, rule.set)?;
-    push_bytes(text, b" pref ")?;
-    push_number(text, u64::from(rule.pref))
+    let mut tail = Tail::new();
+    tail.put(b"\n");
+    tail.put_number(rule.pref);
+    tail.put(b" pref ");
+    tail.put_tag(rule.set, near);
+    tail.put(b" set ");
+    tail
 }
 
 // Adds an import line.
 #[tactic(auto, unfolding(crate::specs::ConfigText::import_line, config_lines::specs::LineText::import_text))]
-fn push_import(text: &mut Vec<u8>, peer: bool, rule: &Rule) -> Result<(), NoMemory>
+fn push_import(
+    text: &mut Vec<u8>,
+    near: &Front,
+    far: &Front,
+    peer: bool,
+    rule: &Rule,
+) -> Result<(), NoMemory>
     ensures { OnOk result (text.new.items ≡ text.old.items ++ import_line Second peer rule.now) }
 {
-    push_bytes(text, b"import ")?;
-    push_number(text, u64::from(rule.class))?;
-    push_read_tag(text, peer, rule.tag)?;
-    push_set(text, rule)?;
-    push_bytes(text, b"\n")
+    let mut tail = set_end(rule, near);
+    put_read_tag(&mut tail, far, peer, rule.tag);
+    tail.put_number(rule.class);
+    tail.put(b"import ");
+    push_bytes(text, tail.as_slice())
 }
 
 // Adds an export line.
-fn push_export(text: &mut Vec<u8>, export: &Export) -> Result<(), NoMemory>
+fn push_export(text: &mut Vec<u8>, near: &Front, export: &Export) -> Result<(), NoMemory>
     ensures { OnOk result (text.new.items ≡ text.old.items ++ export_line Second export.now) }
 {
-    push_bytes(text, b"export ")?;
-    push_number(text, u64::from(export.class))?;
-    push_bytes(text, b" tag ")?;
-    push_tag(text, export.tag)?;
-    push_bytes(text, b"\n")
+    let mut tail = tag_end(export.tag, near);
+    tail.put_number(export.class);
+    tail.put(b"export ");
+    push_bytes(text, tail.as_slice())
+}
+
+// The first word of a neighbour's block.
+fn kind_word(session: &Session) -> &'static [u8]
+    ensures { result.now ≡ (if session.now.peer then codes "peer " else codes "session ") }
+{
+    if session.peer { b"peer " } else { b"session " }
 }
 
 // Adds the head line of a neighbour's block.
@@ -147,65 +170,70 @@ fn push_head(text: &mut Vec<u8>, session: &Session) -> Result<(), NoMemory>
     ensures text { OnOk result (text.new.items ≡ text.old.items ++ session_line session.now) }
     ensures rules { OnOk result (IsNamed session.now) }
 {
-    if session.peer {
-        push_bytes(text, b"peer ")?;
-    } else {
-        push_bytes(text, b"session ")?;
-    }
-    push_name(text, &session.name)?;
-    push_bytes(text, b" asn ")?;
-    push_number(text, u64::from(session.asn))?;
-    push_bytes(text, b"\n")
+    let mut tail = Tail::new();
+    tail.put(b"\n");
+    tail.put_number(session.asn);
+    tail.put(b" asn ");
+    tail.put_name(&session.name);
+    tail.put(kind_word(session));
+    push_bytes(text, tail.as_slice())
 }
 
 // Adds the import lines.
-fn push_imports(text: &mut Vec<u8>, peer: bool, rules: &[Rule]) -> Result<(), NoMemory>
+fn push_imports(
+    text: &mut Vec<u8>,
+    near: &Front,
+    far: &Front,
+    peer: bool,
+    rules: &[Rule],
+) -> Result<(), NoMemory>
     ensures { OnOk result (text.new.items ≡ text.old.items ++ flat_map (import_line Second peer) rules.now) }
 {
     for rule in rules {
-        push_import(text, peer, rule)?;
+        push_import(text, near, far, peer, rule)?;
     }
     Ok(())
 }
 
 // Adds the export lines.
-fn push_exports(text: &mut Vec<u8>, exports: &[Export]) -> Result<(), NoMemory>
+fn push_exports(text: &mut Vec<u8>, near: &Front, exports: &[Export]) -> Result<(), NoMemory>
     ensures { OnOk result (text.new.items ≡ text.old.items ++ flat_map (export_line Second) exports.now) }
 {
     for export in exports {
-        push_export(text, export)?;
+        push_export(text, near, export)?;
     }
     Ok(())
 }
 
 // Adds the originate lines.
-fn push_owns(text: &mut Vec<u8>, owns: &[Own]) -> Result<(), NoMemory>
+fn push_owns(text: &mut Vec<u8>, near: &Front, owns: &[Own]) -> Result<(), NoMemory>
     ensures text { OnOk result (text.new.items ≡ text.old.items ++ flat_map (own_line Second) owns.now) }
     ensures rules { OnOk result (AllByRecursion HasPrefix owns.now) }
 {
     for own in owns {
-        push_own(text, own)?;
+        push_own(text, near, own)?;
     }
     Ok(())
 }
 
 // Adds the block of a neighbour.
-fn push_session(text: &mut Vec<u8>, session: &Session) -> Result<(), NoMemory>
+fn push_session(text: &mut Vec<u8>, near: &Front, session: &Session) -> Result<(), NoMemory>
     ensures text { OnOk result (text.new.items ≡ text.old.items ++ session_text Second session.now) }
     ensures rules { OnOk result (IsNamed session.now) }
 {
+    let far = Front::of(session.asn);
     push_head(text, session)?;
-    push_imports(text, session.peer, session.imports.as_slice())?;
-    push_exports(text, session.exports.as_slice())
+    push_imports(text, near, &far, session.peer, session.imports.as_slice())?;
+    push_exports(text, near, session.exports.as_slice())
 }
 
 // Adds the blocks of the neighbours.
-fn push_sessions(text: &mut Vec<u8>, sessions: &[Session]) -> Result<(), NoMemory>
+fn push_sessions(text: &mut Vec<u8>, near: &Front, sessions: &[Session]) -> Result<(), NoMemory>
     ensures text { OnOk result (text.new.items ≡ text.old.items ++ flat_map (session_text Second) sessions.now) }
     ensures rules { OnOk result (AllByRecursion IsNamed sessions.now) }
 {
     for session in sessions {
-        push_session(text, session)?;
+        push_session(text, near, session)?;
     }
     Ok(())
 }
@@ -215,6 +243,7 @@ fn push_router(text: &mut Vec<u8>, router: &RouterConfig) -> Result<(), NoMemory
     ensures text { OnOk result (text.new.items ≡ text.old.items ++ router_text Second router.now) }
     ensures rules { OnOk result (HasLawfulParts router.now) }
 {
+    let near = Front::of(router.asn);
     push_bytes(text, b"router ")?;
     push_name(text, &router.name)?;
     push_bytes(text, b" asn ")?;
@@ -222,8 +251,8 @@ fn push_router(text: &mut Vec<u8>, router: &RouterConfig) -> Result<(), NoMemory
     push_bytes(text, b" id ")?;
     push_address(text, router.id)?;
     push_bytes(text, b"\n")?;
-    push_owns(text, router.own.as_slice())?;
-    push_sessions(text, router.sessions.as_slice())?;
+    push_owns(text, &near, router.own.as_slice())?;
+    push_sessions(text, &near, router.sessions.as_slice())?;
     push_bytes(text, b"end\n")
 }
 
