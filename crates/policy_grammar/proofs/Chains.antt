@@ -1,8 +1,10 @@
 -- A chain that is read link by link, as a loop does.
-use Rattle.std.proofs.Common.{◌≡◌, ℕ, zero, suc, ◌≤◌, ◌<◌, List, length, Ok, Err, Some, None, refl, sym, ◌∙◌, arith}
+use Rattle.std.proofs.Common.{◌≡◌, ℕ, zero, suc, ◌≤◌, ◌<◌, false, List, ◌∷◌, length, Ok, Err, Some, None, refl, sym, ◌∙◌, arith}
+use Rattle.std.specs.Prelude.{◌==◌}
 use Rattle.policy_tokens.specs.declared.fault.PolicyFault.{PolicyFault}
 use Rattle.policy_grammar.specs.declared.lexeme.Lexeme.{Lexeme}
 use Rattle.policy_grammar.specs.declared.symbol.Symbol.{Symbol}
+use Rattle.policy_grammar.specs.Symbols.{number_of}
 use Rattle.policy_grammar.specs.Reading.{Read, past, chain}
 
 -- What was read so far leads to the whole chain, as long as the number is at least that of the lexemes that are left.
@@ -26,6 +28,12 @@ stops joint link so_far ls l rest e total here read some (zero, le, is) = absurd
 stops joint link so_far ls l rest e total here read some (suc n, le, is) =
     let one : chain joint link (suc n) so_far ls ≡ Err e = rw (here, read) refl in
     sym is ∙ one
+
+-- no joint comes at once
+pub unjoined : {A : Type 0} (joint : Symbol) (link : Lexeme → A → List Lexeme → Read A) (n : ℕ) (so_far : A) (l : Lexeme) (ls : List Lexeme) → (number_of l.symbol == number_of joint) ≡ false → chain joint link n so_far (l ∷ ls) ≡ Ok (so_far, l ∷ ls)
+unfolding chain
+unjoined joint link zero so_far l ls none = refl
+unjoined joint link (suc n) so_far l ls none = rw none refl
 
 -- no joint comes
 pub ends : {A : Type 0} (joint : Symbol) (link : Lexeme → A → List Lexeme → Read A) (so_far : A) (ls : List Lexeme) (total : Read A)

@@ -8,7 +8,9 @@ use Rattle.policy_grammar.specs.declared.lexeme.Lexeme.{Lexeme}
 use Rattle.policy_grammar.specs.Symbols.{number_of}
 use Rattle.policy_grammar.specs.Lexemes.{slice_of, lexeme_of, end_of}
 use Rattle.policy_tokens.specs.declared.fault.PolicyFault.TheVariants.{Syntax}
+use Rattle.policy_grammar.specs.declared.item.Step.{Step}
 use Rattle.policy_grammar.specs.Calls.{word_of, call_at}
+use Rattle.policy_grammar.specs.Ranked.{call_step}
 use Rattle.policy_grammar.specs.Left.{lexemes_ahead, place_behind, behind, left, StandsIn}
 use Rattle.policy_grammar.proofs.Symbols.{symbol_of-inner, no_end}
 
@@ -45,6 +47,6 @@ unfolding behind
 behind_in text l inside = rw (no_end (number_of l.symbol) inside) refl
 
 -- no call begins with it
-pub no_call : (l : Lexeme) (ls : List Lexeme) → word_of l.symbol ≡ None → call_at (l ∷ ls) ≡ Err (Syntax l.place)
+pub no_call : (out : List Step) (l : Lexeme) (ls : List Lexeme) → word_of l.symbol ≡ None → call_step out (l ∷ ls) ≡ Err (Syntax l.place)
 unfolding call_at
-no_call l ls is = rw is refl
+no_call out l ls is = rw is refl

@@ -2,5 +2,5 @@ mod Counting
 mod Chains
 mod ItemLoop
 mod Lefts
-mod Levels
+mod Depths
 pub mod Symbols

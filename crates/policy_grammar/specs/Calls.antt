@@ -10,12 +10,18 @@ use Rattle.policy_grammar.specs.declared.item.Arg.TheVariants as arg
 use Rattle.policy_grammar.specs.declared.item.CallWord.{CallWord}
 use Rattle.policy_grammar.specs.declared.item.CallWord.TheVariants.{Any, Drop, Internal, Avoid, Through, NoTransit, Start, End, Link, Path, Exit, Enter}
 use Rattle.policy_grammar.specs.declared.item.RawCall.{RawCall}
+use Rattle.policy_grammar.specs.declared.item.Step.{Step}
+use Rattle.policy_grammar.specs.declared.item.Step.TheVariants as step
 use Rattle.policy_grammar.specs.Reading.{Read, refused, past, first_of, after, either, chain}
 use Rattle.policy_grammar.specs.Names.{names_at, braced_at}
 
+-- names that were read, as a set
+abbrev pub named_with : Read (List Lexeme) → Read Arg
+named_with names = names >>= λ x. Ok (arg.Names x.0, x.1)
+
 -- set = "any" | NAME { "," NAME }
 unfoldable pub set_at : List Lexeme → Read Arg
-set_at ls = either (past symbol.Any ls) (λ l rest. Ok (arg.Any, rest)) (names_at ls >>= λ x. Ok (arg.Names x.0, x.1))
+set_at ls = either (past symbol.Any ls) (λ l rest. Ok (arg.Any, rest)) (named_with (names_at ls))
 
 abbrev one_name : List Lexeme → Read Arg
 one_name ls = do
@@ -101,6 +107,10 @@ call_behind Start ls = sets_call Start ls
 call_behind End ls = sets_call End ls
 call_behind Exit ls = sets_call Exit ls
 call_behind Enter ls = sets_call Enter ls
+
+-- a call that was read, as a part of an expression
+abbrev pub step_read : Read RawCall → Read Step
+step_read call = call >>= λ x. Ok (step.Call x.0, x.1)
 
 abbrev pub call_begins : List Lexeme → Option (CallWord × List Lexeme)
 call_begins [] = None

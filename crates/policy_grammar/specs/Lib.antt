@@ -1,6 +1,8 @@
 pub mod Calls
 pub mod Deep
 pub mod Items
+pub mod KeptArgs
+pub mod KeptSteps
 pub mod Left
 pub mod Lexemes
 pub mod Names

@@ -6,8 +6,6 @@ use Rattle.policy_grammar.specs.declared.symbol.Symbol.{Symbol}
 use Rattle.policy_grammar.specs.declared.symbol.Symbol.TheVariants as symbol
 use Rattle.policy_grammar.specs.declared.item.Step.{Step}
 use Rattle.policy_grammar.specs.declared.item.Step.TheVariants.{Call, Above, Or, And, Not}
-use Rattle.policy_grammar.specs.declared.ranked.Level.{Level}
-use Rattle.policy_grammar.specs.declared.ranked.Level.TheVariants.{Ranked, Choice, Joint}
 use Rattle.policy_grammar.specs.Reading.{Read, refused, past, after, either, chain}
 use Rattle.policy_grammar.specs.Calls.{call_at}
 
@@ -24,7 +22,8 @@ bracket_closed read = do
   rest ← after symbol.RoundClose x.1
   Ok (x.0, rest)
 
-abbrev call_step : Reader
+-- a call
+abbrev pub call_step : Reader
 call_step out ls = do
   x ← call_at ls
   Ok (out ++ Call x.0 ∷ [], x.1)
@@ -36,6 +35,12 @@ atom_with inner out ls = either (past symbol.RoundOpen ls) (λ l rest. bracket_c
 -- unit = [ "not" ] atom
 abbrev pub unit_with : Reader → Reader
 unit_with inner out ls = either (past symbol.Not ls) (λ l rest. with_step Not (atom_with inner out rest)) (atom_with inner out ls)
+
+-- the operators with two sides, from the one that binds most loosely: `>>`, `or` and `and`
+pub data Level : Type 0 where
+  Ranked : Level
+  Choice : Level
+  Joint : Level
 
 -- the operator of a level, and its step
 abbrev pub operator_of : Level → Symbol

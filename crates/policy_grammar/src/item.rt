@@ -1,8 +1,9 @@
 //! The items of a policy as the text has them, with the places of their tokens.
+use crate::kept::{KeptArg, KeptStep};
 use crate::lexeme::Lexeme;
 use net_base::{List, Place};
 
-/// A set that a call or a `from` names.
+/// A set that a call or a `from` names, as contracts see it.
 #[derive(Drop)]
 pub enum Arg {
     /// All locations.
@@ -32,11 +33,11 @@ pub enum CallWord {
 #[derive(Drop)]
 pub struct RawCall {
     pub word: CallWord,
-    pub args: List<Arg>,
+    pub args: List<KeptArg>,
     pub above: Option<Place>,
 }
 
-/// A part of a ranked expression. The parts stand in postfix order: an operator follows its sides.
+/// A part of a ranked expression, as contracts see it. The parts stand in postfix order: an operator follows its sides.
 #[derive(Drop)]
 pub enum Step {
     Call(RawCall),
@@ -62,8 +63,8 @@ pub enum RawPattern {
 #[derive(Drop)]
 pub struct RawStatement {
     pub patterns: List<RawPattern>,
-    pub ranked: List<Step>,
-    pub from: Arg,
+    pub ranked: List<KeptStep>,
+    pub from: KeptArg,
 }
 
 /// An item of a policy.

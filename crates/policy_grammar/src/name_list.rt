@@ -1,5 +1,5 @@
 //! Lists of names.
-ghost use Rattle.std.specs.Prelude.{◌≡◌, ◌≤◌, length};
+ghost use Rattle.std.specs.Prelude.{◌≡◌, ◌≤◌, [], ◌∷◌, length};
 ghost use Rattle.policy_tokens.specs.Gives.{Gives};
 ghost use Rattle.policy_grammar.specs.Left.{left, StandsIn};
 ghost use Rattle.policy_grammar.specs.Reading.{chain};
@@ -26,6 +26,24 @@ fn more_names(found: &mut Vec<Lexeme>, text: &[u8], at: &mut Lexeme) -> Result<(
     Ok(())
 }
 
+// A name that was read, and those that commas join to it. Most lists have one name, so there is room for no more at first.
+pub(crate) fn from_name(
+    alloc: Global,
+    name: Lexeme,
+    text: &[u8],
+    at: &mut Lexeme,
+) -> Result<List<Lexeme>, PolicyFault>
+    requires stands { StandsIn text.now at.old }
+    ensures read { Gives (λ x. (x, left text.now at.new)) result (chain Symbol.Comma name_link (length (left text.now at.old)) (name ∷ []) (left text.now at.old)) }
+    ensures stands { StandsIn text.now at.new }
+    ensures fewer { length (left text.now at.new) ≤ length (left text.now at.old) }
+{
+    let mut found = Vec::with_capacity(alloc, 1)?;
+    found.push(name)?;
+    more_names(&mut found, text, at)?;
+    Ok(List::from_vec(found))
+}
+
 // Names that are joined by commas.
 #[tactic(auto, unfolding(crate::specs::Names::names_at))]
 pub(crate) fn names(
@@ -39,10 +57,7 @@ pub(crate) fn names(
     ensures fewer { length (left text.now at.new) ≤ length (left text.now at.old) }
 {
     let name = first(Symbol::Name, text, at)?;
-    let mut found = Vec::new(alloc);
-    found.push(name)?;
-    more_names(&mut found, text, at)?;
-    Ok(List::from_vec(found))
+    from_name(alloc, name, text, at)
 }
 
 // Names in braces.

@@ -1,58 +1,27 @@
 //! Ranked expressions.
-ghost use Rattle.std.specs.Prelude.{◌≡◌, ◌≤◌, ◌<◌, length};
+ghost use Rattle.std.specs.Prelude.{◌≡◌, ◌≤◌, length};
 ghost use Rattle.policy_tokens.specs.Gives.{Gives};
-ghost use Rattle.policy_grammar.specs.Symbols.{number_of};
-ghost use Rattle.policy_grammar.specs.declared.symbol.Symbol.TheVariants.{EndOfText};
 ghost use Rattle.policy_grammar.specs.Left.{left, StandsIn};
 ghost use Rattle.policy_grammar.specs.Reading.{chain};
-ghost use Rattle.policy_grammar.specs.Ranked.{atom_with, unit_with, operator_of as level_operator, step_of as level_step, joined, side_link, side_with, inner_at};
+ghost use Rattle.policy_grammar.specs.Ranked.{Ranked, Choice, Joint, atom_with, unit_with, joint_with, choice_with, ranked_with, side_link, inner_at};
 
 use crate::call::call;
-use crate::item::Step;
+use crate::kept::{KeptStep, Part};
 use crate::lexeme::Lexeme;
 use crate::reading::{passed, past, refused};
 use crate::symbol::Symbol;
 use policy_tokens::PolicyFault;
 use std::alloc::Global;
 
-/// The operators with two sides, from the one that binds most loosely.
-#[derive(Clone, Copy)]
-pub(crate) enum Level {
-    /// `>>`
-    Ranked,
-    /// `or`
-    Choice,
-    /// `and`
-    Joint,
-}
-
-fn operator_of(level: Level) -> Symbol
-    ensures operator { result ≡ level_operator level }
-    ensures inside { number_of result < number_of EndOfText }
-{
-    match level {
-        Level::Ranked => Symbol::Above,
-        Level::Choice => Symbol::Or,
-        Level::Joint => Symbol::And,
-    }
-}
-
-fn step_of(level: Level, joint: &Lexeme) -> Step
-    ensures { result ≡ level_step level joint.now }
-{
-    match level {
-        Level::Ranked => Step::Above(joint.place),
-        Level::Choice => Step::Or,
-        Level::Joint => Step::And,
-    }
-}
+// Each level of operators has functions of its own, though all read alike: so no call looks up which operator is its own,
+// and what few operators are written costs little.
 
 // What a bracket holds, where `depth` brackets more may be open.
 #[cycle(expression)]
 fn inner(
     alloc: Global,
     depth: u64,
-    out: &mut Vec<Step>,
+    out: &mut Vec<KeptStep>,
     text: &[u8],
     at: &mut Lexeme,
 ) -> Result<(), PolicyFault>
@@ -64,7 +33,7 @@ fn inner(
     if depth == 0 {
         return Err(refused(at));
     }
-    expression(alloc, Level::Ranked, depth - 1, out, text, at)
+    expression(alloc, depth - 1, out, text, at)
 }
 
 // An expression in brackets, or a call.
@@ -72,7 +41,7 @@ fn inner(
 fn atom(
     alloc: Global,
     depth: u64,
-    out: &mut Vec<Step>,
+    out: &mut Vec<KeptStep>,
     text: &[u8],
     at: &mut Lexeme,
 ) -> Result<(), PolicyFault>
@@ -85,9 +54,7 @@ fn atom(
         inner(alloc, depth, out, text, at)?;
         return passed(Symbol::RoundClose, text, at);
     }
-    let call = call(alloc, text, at)?;
-    out.push(Step::Call(call))?;
-    Ok(())
+    call(alloc, out, text, at)
 }
 
 // An atom, with a `not` before it or without.
@@ -95,7 +62,7 @@ fn atom(
 fn unit(
     alloc: Global,
     depth: u64,
-    out: &mut Vec<Step>,
+    out: &mut Vec<KeptStep>,
     text: &[u8],
     at: &mut Lexeme,
 ) -> Result<(), PolicyFault>
@@ -106,73 +73,129 @@ fn unit(
 {
     if past(Symbol::Not, text, at) {
         atom(alloc, depth, out, text, at)?;
-        out.push(Step::Not)?;
+        out.push(KeptStep { part: Part::Not })?;
         return Ok(());
     }
     atom(alloc, depth, out, text, at)
 }
 
-// A side of an operator of this level.
+// More units, as long as an `and` comes.
 #[cycle(expression)]
-fn side(
+fn more_units(
     alloc: Global,
-    level: Level,
     depth: u64,
-    out: &mut Vec<Step>,
+    out: &mut Vec<KeptStep>,
     text: &[u8],
     at: &mut Lexeme,
 ) -> Result<(), PolicyFault>
     requires stands { StandsIn text.now at.old }
-    ensures read { Gives (λ _. (out.new.items, left text.now at.new)) result (side_with level (inner_at depth) out.old.items (left text.now at.old)) }
+    ensures read { Gives (λ _. (out.new.items, left text.now at.new)) result (chain Symbol.And (side_link Joint (unit_with (inner_at depth))) (length (left text.now at.old)) out.old.items (left text.now at.old)) }
     ensures stands { StandsIn text.now at.new }
     ensures fewer { length (left text.now at.new) ≤ length (left text.now at.old) }
 {
-    match level {
-        Level::Ranked => expression(alloc, Level::Choice, depth, out, text, at),
-        Level::Choice => expression(alloc, Level::Joint, depth, out, text, at),
-        Level::Joint => unit(alloc, depth, out, text, at),
-    }
-}
-
-// More sides, as long as the operator of this level comes.
-#[cycle(expression)]
-fn more_sides(
-    alloc: Global,
-    level: Level,
-    depth: u64,
-    out: &mut Vec<Step>,
-    text: &[u8],
-    at: &mut Lexeme,
-) -> Result<(), PolicyFault>
-    requires stands { StandsIn text.now at.old }
-    ensures read { Gives (λ _. (out.new.items, left text.now at.new)) result (chain (level_operator level) (side_link level (side_with level (inner_at depth))) (length (left text.now at.old)) out.old.items (left text.now at.old)) }
-    ensures stands { StandsIn text.now at.new }
-    ensures fewer { length (left text.now at.new) ≤ length (left text.now at.old) }
-{
-    let mut joint = *at;
-    while past(operator_of(level), text, at) {
-        side(alloc, level, depth, out, text, at)?;
-        out.push(step_of(level, &joint))?;
-        joint = *at;
+    while past(Symbol::And, text, at) {
+        unit(alloc, depth, out, text, at)?;
+        out.push(KeptStep { part: Part::And })?;
     }
     Ok(())
 }
 
-// Sides that are joined by the operator of this level, where `depth` brackets may be open.
+// Units that are joined by `and`.
 #[cycle(expression)]
-pub(crate) fn expression(
+fn joint(
     alloc: Global,
-    level: Level,
     depth: u64,
-    out: &mut Vec<Step>,
+    out: &mut Vec<KeptStep>,
     text: &[u8],
     at: &mut Lexeme,
 ) -> Result<(), PolicyFault>
     requires stands { StandsIn text.now at.old }
-    ensures read { Gives (λ _. (out.new.items, left text.now at.new)) result (joined level (side_with level (inner_at depth)) out.old.items (left text.now at.old)) }
+    ensures read { Gives (λ _. (out.new.items, left text.now at.new)) result (joint_with (inner_at depth) out.old.items (left text.now at.old)) }
     ensures stands { StandsIn text.now at.new }
     ensures fewer { length (left text.now at.new) ≤ length (left text.now at.old) }
 {
-    side(alloc, level, depth, out, text, at)?;
-    more_sides(alloc, level, depth, out, text, at)
+    unit(alloc, depth, out, text, at)?;
+    more_units(alloc, depth, out, text, at)
+}
+
+// More sides of `or`, as long as one comes.
+#[cycle(expression)]
+fn more_joints(
+    alloc: Global,
+    depth: u64,
+    out: &mut Vec<KeptStep>,
+    text: &[u8],
+    at: &mut Lexeme,
+) -> Result<(), PolicyFault>
+    requires stands { StandsIn text.now at.old }
+    ensures read { Gives (λ _. (out.new.items, left text.now at.new)) result (chain Symbol.Or (side_link Choice (joint_with (inner_at depth))) (length (left text.now at.old)) out.old.items (left text.now at.old)) }
+    ensures stands { StandsIn text.now at.new }
+    ensures fewer { length (left text.now at.new) ≤ length (left text.now at.old) }
+{
+    while past(Symbol::Or, text, at) {
+        joint(alloc, depth, out, text, at)?;
+        out.push(KeptStep { part: Part::Or })?;
+    }
+    Ok(())
+}
+
+// What is joined by `or`.
+#[cycle(expression)]
+fn choice(
+    alloc: Global,
+    depth: u64,
+    out: &mut Vec<KeptStep>,
+    text: &[u8],
+    at: &mut Lexeme,
+) -> Result<(), PolicyFault>
+    requires stands { StandsIn text.now at.old }
+    ensures read { Gives (λ _. (out.new.items, left text.now at.new)) result (choice_with (inner_at depth) out.old.items (left text.now at.old)) }
+    ensures stands { StandsIn text.now at.new }
+    ensures fewer { length (left text.now at.new) ≤ length (left text.now at.old) }
+{
+    joint(alloc, depth, out, text, at)?;
+    more_joints(alloc, depth, out, text, at)
+}
+
+// More ranks, as long as a `>>` comes.
+#[cycle(expression)]
+fn more_choices(
+    alloc: Global,
+    depth: u64,
+    out: &mut Vec<KeptStep>,
+    text: &[u8],
+    at: &mut Lexeme,
+) -> Result<(), PolicyFault>
+    requires stands { StandsIn text.now at.old }
+    ensures read { Gives (λ _. (out.new.items, left text.now at.new)) result (chain Symbol.Above (side_link Ranked (choice_with (inner_at depth))) (length (left text.now at.old)) out.old.items (left text.now at.old)) }
+    ensures stands { StandsIn text.now at.new }
+    ensures fewer { length (left text.now at.new) ≤ length (left text.now at.old) }
+{
+    let mut place = at.place;
+    while past(Symbol::Above, text, at) {
+        choice(alloc, depth, out, text, at)?;
+        out.push(KeptStep {
+            part: Part::Above(place),
+        })?;
+        place = at.place;
+    }
+    Ok(())
+}
+
+// A ranked expression, where `depth` brackets may be open.
+#[cycle(expression)]
+pub(crate) fn expression(
+    alloc: Global,
+    depth: u64,
+    out: &mut Vec<KeptStep>,
+    text: &[u8],
+    at: &mut Lexeme,
+) -> Result<(), PolicyFault>
+    requires stands { StandsIn text.now at.old }
+    ensures read { Gives (λ _. (out.new.items, left text.now at.new)) result (ranked_with (inner_at depth) out.old.items (left text.now at.old)) }
+    ensures stands { StandsIn text.now at.new }
+    ensures fewer { length (left text.now at.new) ≤ length (left text.now at.old) }
+{
+    choice(alloc, depth, out, text, at)?;
+    more_choices(alloc, depth, out, text, at)
 }

@@ -6,9 +6,10 @@ ghost use Rattle.policy_grammar.specs.Reading.{chain};
 ghost use Rattle.policy_grammar.specs.Items.{pattern_at, pattern_link, predicate_at, from_at, statement_at};
 
 use crate::call::set;
-use crate::item::{Arg, Item, RawPattern, RawStatement};
+use crate::item::{Item, RawPattern, RawStatement};
+use crate::kept::{ArgNames, KeptArg};
 use crate::lexeme::Lexeme;
-use crate::ranked::{Level, expression};
+use crate::ranked::expression;
 use crate::reading::{first, passed, past};
 use crate::symbol::Symbol;
 use net_base::List;
@@ -58,7 +59,7 @@ fn predicate(alloc: Global, text: &[u8], at: &mut Lexeme) -> Result<List<RawPatt
     ensures stands { StandsIn text.now at.new }
     ensures fewer { length (left text.now at.new) ≤ length (left text.now at.old) }
 {
-    let mut patterns = Vec::new(alloc);
+    let mut patterns = Vec::with_capacity(alloc, 1)?;
     if past(Symbol::True, text, at) {
         patterns.push(RawPattern::All)?;
         return Ok(List::from_vec(patterns));
@@ -71,7 +72,7 @@ fn predicate(alloc: Global, text: &[u8], at: &mut Lexeme) -> Result<List<RawPatt
 
 // The sources that a statement claims.
 #[tactic(auto, unfolding(crate::specs::Items::from_at))]
-fn from(alloc: Global, text: &[u8], at: &mut Lexeme) -> Result<Arg, PolicyFault>
+fn from(alloc: Global, text: &[u8], at: &mut Lexeme) -> Result<KeptArg, PolicyFault>
     requires stands { StandsIn text.now at.old }
     ensures read { Gives (λ x. (x, left text.now at.new)) result (from_at (left text.now at.old)) }
     ensures stands { StandsIn text.now at.new }
@@ -80,7 +81,9 @@ fn from(alloc: Global, text: &[u8], at: &mut Lexeme) -> Result<Arg, PolicyFault>
     if past(Symbol::From, text, at) {
         set(alloc, text, at)
     } else {
-        Ok(Arg::Any)
+        Ok(KeptArg {
+            names: ArgNames::Any,
+        })
     }
 }
 
@@ -96,7 +99,7 @@ pub(crate) fn statement(alloc: Global, text: &[u8], at: &mut Lexeme) -> Result<I
     let patterns = predicate(alloc, text, at)?;
     passed(Symbol::Arrow, text, at)?;
     let mut steps = Vec::new(alloc);
-    expression(alloc, Level::Ranked, BRACKETS, &mut steps, text, at)?;
+    expression(alloc, BRACKETS, &mut steps, text, at)?;
     let from = from(alloc, text, at)?;
     passed(Symbol::Semicolon, text, at)?;
     Ok(Item::State(RawStatement {

@@ -87,11 +87,23 @@ impl Symbol {
     }
 }
 
+// Whether the bytes spell the word. This goes letter by letter, so where the word is known the loop becomes a few comparisons.
 #[inline(always)]
 fn spells(bytes: &[u8], word: &str) -> bool
     ensures { result ≡ bytes_eq bytes.now word.now }
 {
-    bytes.len() == word.len() && bytes == word.as_bytes()
+    let (mut rest, mut letters) = (bytes, word.as_bytes());
+    while let [letter, more @ ..] = letters {
+        let [first, behind @ ..] = rest else {
+            return false;
+        };
+        if *first != *letter {
+            return false;
+        }
+        rest = behind;
+        letters = more;
+    }
+    rest.is_empty()
 }
 
 // A word that begins with `a`, from its second byte on.

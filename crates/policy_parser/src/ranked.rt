@@ -9,23 +9,25 @@ ghost use Rattle.policy_parser.specs.Views.{rankings};
 use crate::whole::Whole;
 use net_base::{List, LocSet};
 use path_words::{Clause, Ranked};
-use policy_grammar::{Arg, CallWord, RawCall, Step};
+use policy_grammar::{ArgNames, CallWord, KeptArg, KeptStep, Part};
 use policy_rules::{Known, set_of};
 use policy_tokens::PolicyFault;
 use std::alloc::Global;
+use std::slice;
 
 // The set that an argument names.
 fn arg_set(
     bytes: &[u8],
     whole: &Whole<'_>,
     known: &Known<'_>,
-    arg: &Arg,
+    arg: &KeptArg,
 ) -> Result<LocSet, PolicyFault>
     ensures { Gives (λ s. s) result (set_of_arg bytes.now whole.now.net.now (plain_names known.now) arg.now) }
 {
-    match arg {
-        Arg::Any => Ok(whole.all),
-        Arg::Names(names) => set_of(bytes, known, names.as_slice()),
+    match &arg.names {
+        ArgNames::Any => Ok(whole.all),
+        ArgNames::One(name) => set_of(bytes, known, slice::from_ref(name)),
+        ArgNames::More(names) => set_of(bytes, known, names.as_slice()),
     }
 }
 
@@ -35,7 +37,7 @@ fn arg_sets(
     bytes: &[u8],
     whole: &Whole<'_>,
     known: &Known<'_>,
-    args: &[Arg],
+    args: &[KeptArg],
 ) -> Result<Vec<LocSet>, PolicyFault>
     ensures { Gives (λ v. v.items) result (sets_read bytes.now whole.now.net.now (plain_names known.now) [] args.now) }
 {
@@ -133,18 +135,22 @@ fn take_step(
     bytes: &[u8],
     whole: &Whole<'_>,
     known: &Known<'_>,
-    step: &Step,
+    step: &KeptStep,
     stack: &mut Vec<Ranked>,
 ) -> Result<(), PolicyFault>
     ensures { Gives (λ _. rankings stack.new.items) result (behind_step bytes.now whole.now.net.now (plain_names known.now) step.now (rankings stack.old.items)) }
 {
-    match step {
-        Step::Call(call) => {
+    match &step.part {
+        Part::Word(word) => {
+            let ranked = call_of(alloc, *word, Vec::new(alloc))?;
+            push(stack, ranked)
+        }
+        Part::Call(call) => {
             let sets = arg_sets(alloc, bytes, whole, known, call.args.as_slice())?;
             let ranked = call_of(alloc, call.word, sets)?;
             push(stack, ranked)
         }
-        Step::Above(_) => {
+        Part::Above(_) => {
             let b = pop(stack);
             let a = pop(stack);
             push(
@@ -152,17 +158,17 @@ fn take_step(
                 Ranked::Prefer(Box::new(alloc, a)?, Box::new(alloc, b)?),
             )
         }
-        Step::Or => {
+        Part::Or => {
             let b = pop(stack);
             let a = pop(stack);
             push(stack, Ranked::Or(Box::new(alloc, a)?, Box::new(alloc, b)?))
         }
-        Step::And => {
+        Part::And => {
             let b = pop(stack);
             let a = pop(stack);
             push(stack, Ranked::And(Box::new(alloc, a)?, Box::new(alloc, b)?))
         }
-        Step::Not => {
+        Part::Not => {
             let a = pop(stack);
             push(stack, Ranked::Not(Box::new(alloc, a)?))
         }
@@ -175,7 +181,7 @@ fn stack_of(
     bytes: &[u8],
     whole: &Whole<'_>,
     known: &Known<'_>,
-    steps: &[Step],
+    steps: &[KeptStep],
 ) -> Result<Vec<Ranked>, PolicyFault>
     ensures { Gives (λ v. rankings v.items) result (all_behind bytes.now whole.now.net.now (plain_names known.now) [] steps.now) }
 {
@@ -193,7 +199,7 @@ pub(crate) fn ranked_of(
     bytes: &[u8],
     whole: &Whole<'_>,
     known: &Known<'_>,
-    steps: &[Step],
+    steps: &[KeptStep],
 ) -> Result<Ranked, PolicyFault>
     ensures { Gives ranking_of result (ranking_of_steps bytes.now whole.now.net.now (plain_names known.now) steps.now) }
 {

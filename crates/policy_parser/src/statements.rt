@@ -9,10 +9,11 @@ use crate::ranked::ranked_of;
 use crate::whole::Whole;
 use net_base::{List, Net, Pattern};
 use path_words::{FromSet, Statement};
-use policy_grammar::{Arg, Item, RawPattern, RawStatement};
+use policy_grammar::{ArgNames, Item, KeptArg, RawPattern, RawStatement};
 use policy_rules::{Known, pattern_at, set_of};
 use policy_tokens::PolicyFault;
 use std::alloc::Global;
+use std::slice;
 
 fn patterns_of(
     alloc: Global,
@@ -28,12 +29,16 @@ fn patterns_of(
     Ok(List::from_vec(patterns))
 }
 
-fn from_set(bytes: &[u8], known: &Known<'_>, from: &Arg) -> Result<FromSet, PolicyFault>
+fn from_set(bytes: &[u8], known: &Known<'_>, from: &KeptArg) -> Result<FromSet, PolicyFault>
     ensures { Gives (λ f. f) result (from_of bytes.now (plain_names known.now) from.now) }
 {
-    match from {
-        Arg::Any => Ok(FromSet::Any),
-        Arg::Names(names) => {
+    match &from.names {
+        ArgNames::Any => Ok(FromSet::Any),
+        ArgNames::One(name) => {
+            let set = set_of(bytes, known, slice::from_ref(name))?;
+            Ok(FromSet::Named(set))
+        }
+        ArgNames::More(names) => {
             let set = set_of(bytes, known, names.as_slice())?;
             Ok(FromSet::Named(set))
         }

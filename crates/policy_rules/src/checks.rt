@@ -6,8 +6,9 @@ ghost use Rattle.policy_rules.specs.Checks.{set_at as set_there, set_of_names, e
 
 use crate::known::Known;
 use net_base::LocSet;
-use policy_grammar::{Arg, Item, Lexeme, Step, text_of};
+use policy_grammar::{ArgNames, Item, KeptArg, KeptStep, Lexeme, Part, text_of};
 use policy_tokens::PolicyFault;
+use std::slice;
 
 /// The set that a name of the text stands for.
 #[tactic(auto, unfolding(crate::specs::Checks::set_at))]
@@ -40,16 +41,17 @@ fn names_known(bytes: &[u8], known: &Known<'_>, names: &[Lexeme]) -> Result<(), 
     Ok(())
 }
 
-fn is_arg_known(bytes: &[u8], known: &Known<'_>, arg: &Arg) -> Result<(), PolicyFault>
+fn is_arg_known(bytes: &[u8], known: &Known<'_>, arg: &KeptArg) -> Result<(), PolicyFault>
     ensures { Gives (λ _. tt) result (arg_known bytes.now (plain_names known.now) arg.now) }
 {
-    match arg {
-        Arg::Any => Ok(()),
-        Arg::Names(names) => names_known(bytes, known, names.as_slice()),
+    match &arg.names {
+        ArgNames::Any => Ok(()),
+        ArgNames::One(name) => names_known(bytes, known, slice::from_ref(name)),
+        ArgNames::More(names) => names_known(bytes, known, names.as_slice()),
     }
 }
 
-fn args_known(bytes: &[u8], known: &Known<'_>, args: &[Arg]) -> Result<(), PolicyFault>
+fn args_known(bytes: &[u8], known: &Known<'_>, args: &[KeptArg]) -> Result<(), PolicyFault>
     ensures { Gives (λ _. tt) result (each (arg_known bytes.now (plain_names known.now)) args.now) }
 {
     for arg in args {
@@ -58,16 +60,16 @@ fn args_known(bytes: &[u8], known: &Known<'_>, args: &[Arg]) -> Result<(), Polic
     Ok(())
 }
 
-fn is_step_known(bytes: &[u8], known: &Known<'_>, step: &Step) -> Result<(), PolicyFault>
+fn is_step_known(bytes: &[u8], known: &Known<'_>, step: &KeptStep) -> Result<(), PolicyFault>
     ensures { Gives (λ _. tt) result (step_known bytes.now (plain_names known.now) step.now) }
 {
-    match step {
-        Step::Call(call) => args_known(bytes, known, call.args.as_slice()),
+    match &step.part {
+        Part::Call(call) => args_known(bytes, known, call.args.as_slice()),
         _ => Ok(()),
     }
 }
 
-fn steps_known(bytes: &[u8], known: &Known<'_>, steps: &[Step]) -> Result<(), PolicyFault>
+fn steps_known(bytes: &[u8], known: &Known<'_>, steps: &[KeptStep]) -> Result<(), PolicyFault>
     ensures { Gives (λ _. tt) result (each (step_known bytes.now (plain_names known.now)) steps.now) }
 {
     for step in steps {

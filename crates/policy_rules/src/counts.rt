@@ -6,7 +6,7 @@ ghost use Rattle.policy_rules.specs.Counts.{amount as amount_of, capped, counted
 
 use net_base::Kind;
 use net_base::limits::{CALLS, DEFINITIONS, PATTERNS, PLACES, PREFIXES, STATEMENTS};
-use policy_grammar::{CallWord, Item, Step};
+use policy_grammar::{CallWord, Item, KeptStep, Part};
 use policy_tokens::PolicyFault;
 
 // How many of a kind an item adds.
@@ -61,16 +61,16 @@ pub fn items_within(items: &[Item]) -> Result<(), PolicyFault>
     within(Kind::Prefixes, PREFIXES, counted(Kind::Prefixes, items))
 }
 
-fn is_call(step: &Step) -> u64
+fn is_call(step: &KeptStep) -> u64
     ensures { result ≡ call_amount step.now }
 {
-    match step {
-        Step::Call(_) => 1,
+    match &step.part {
+        Part::Word(_) | Part::Call(_) => 1,
         _ => 0,
     }
 }
 
-fn calls(steps: &[Step]) -> u64
+fn calls(steps: &[KeptStep]) -> u64
     ensures { result ≡ capped (sum_by call_amount steps.now) }
 {
     let mut total = 0u64;
@@ -108,11 +108,12 @@ fn word_places(word: CallWord, places: u64) -> u64
     }
 }
 
-fn are_places_within(step: &Step) -> Result<(), PolicyFault>
+fn are_places_within(step: &KeptStep) -> Result<(), PolicyFault>
     ensures { Gives (λ _. tt) result (places_within step.now) }
 {
-    match step {
-        Step::Call(call) => {
+    match &step.part {
+        Part::Word(word) => within(Kind::Places, PLACES, word_places(*word, 0)),
+        Part::Call(call) => {
             let places = word_places(call.word, call.args.as_slice().len() as u64);
             within(Kind::Places, PLACES, places)
         }
@@ -120,7 +121,7 @@ fn are_places_within(step: &Step) -> Result<(), PolicyFault>
     }
 }
 
-fn steps_within(steps: &[Step]) -> Result<(), PolicyFault>
+fn steps_within(steps: &[KeptStep]) -> Result<(), PolicyFault>
     ensures { Gives (λ _. tt) result (each places_within steps.now) }
 {
     for step in steps {

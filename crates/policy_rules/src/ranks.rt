@@ -5,7 +5,7 @@ ghost use Rattle.policy_rules.specs.Checks.{each};
 ghost use Rattle.policy_rules.specs.Ranks.{earlier as first_of_two, top, under_top, above_mark, or_mark, and_mark, not_mark, marks_behind, marks_of, broken_rank as broken_there, ranks_fine as fine};
 
 use net_base::Place;
-use policy_grammar::{Item, Step};
+use policy_grammar::{Item, KeptStep, Part};
 use policy_tokens::PolicyFault;
 use std::alloc::{AllocError, Global};
 
@@ -48,15 +48,19 @@ fn push(marks: &mut Vec<Mark>, mark: Mark) -> Result<(), AllocError>
 }
 
 // Puts a step's mark onto the stack in the place of those of its sides.
-fn take_step(marks: &mut Vec<Mark>, step: &Step) -> Result<(), AllocError>
+fn take_step(marks: &mut Vec<Mark>, step: &KeptStep) -> Result<(), AllocError>
     ensures { OnOk result (reverse marks.new.items ≡ marks_behind step.now (reverse marks.old.items)) }
 {
-    let mark = match step {
-        Step::Call(call) => Mark {
+    let mark = match &step.part {
+        Part::Word(_) => Mark {
+            first: None,
+            broken: None,
+        },
+        Part::Call(call) => Mark {
             first: call.above,
             broken: None,
         },
-        Step::Above(place) => {
+        Part::Above(place) => {
             let b = pop(marks);
             let a = pop(marks);
             Mark {
@@ -64,7 +68,7 @@ fn take_step(marks: &mut Vec<Mark>, step: &Step) -> Result<(), AllocError>
                 broken: earlier(a.broken, b.broken),
             }
         }
-        Step::Or => {
+        Part::Or => {
             let b = pop(marks);
             let a = pop(marks);
             let first = earlier(a.first, b.first);
@@ -73,7 +77,7 @@ fn take_step(marks: &mut Vec<Mark>, step: &Step) -> Result<(), AllocError>
                 broken: first,
             }
         }
-        Step::And => {
+        Part::And => {
             let b = pop(marks);
             let a = pop(marks);
             Mark {
@@ -81,7 +85,7 @@ fn take_step(marks: &mut Vec<Mark>, step: &Step) -> Result<(), AllocError>
                 broken: earlier(a.broken, b.broken),
             }
         }
-        Step::Not => {
+        Part::Not => {
             let a = pop(marks);
             Mark {
                 first: a.first,
@@ -93,7 +97,7 @@ fn take_step(marks: &mut Vec<Mark>, step: &Step) -> Result<(), AllocError>
 }
 
 // Where the first `>>` stands that is under an `or` or a `not`.
-fn broken_rank(alloc: Global, steps: &[Step]) -> Result<Option<Place>, AllocError>
+fn broken_rank(alloc: Global, steps: &[KeptStep]) -> Result<Option<Place>, AllocError>
     ensures { IfOk result (λ p. p ≡ broken_there steps.now) }
 {
     let mut marks = Vec::new(alloc);

@@ -1,10 +1,10 @@
-use Rattle.std.proofs.Common.{◌∙◌, refl, sym, ap, arith}
+use Rattle.std.proofs.Common.{refl, arith}
 use Rattle.std.proofs.lemmas.Result.{err_from_is_err_and}
+use Rattle.policy_grammar.specs.declared.symbol.Symbol.TheVariants.{And, Or, Above}
 use Rattle.policy_grammar.specs.Left.{left}
-use Rattle.policy_grammar.specs.Reading.{past}
-use Rattle.policy_grammar.specs.Ranked.{operator_of, side_link, side_with, inner_at}
+use Rattle.policy_grammar.specs.Ranked.{Ranked, Choice, Joint, unit_with, joint_with, choice_with, side_link, inner_at}
 use Rattle.policy_grammar.proofs.Chains.{goes_on, stops, ends}
-use Rattle.policy_grammar.proofs.Levels.{inner_at-none, inner_at-some}
+use Rattle.policy_grammar.proofs.Depths.{inner_at-none, inner_at-some}
 use Rattle.policy_grammar.proofs.ranked.+expression.Goals as goal
 
 pub inner-returns-then-depth-eq0-clause-read : goal.inner-returns-then-depth-eq0-clause-read
@@ -13,28 +13,60 @@ inner-returns-then-depth-eq0-clause-read t c = λ memory. rw (c.refused.ensures 
 pub inner-returns-clause-read : goal.inner-returns-clause-read
 inner-returns-clause-read t c = rw (inner_at-some c.args.depth c.args.out.now.items (left c.args.text.now c.args.at.now) c.if-depth-eq0.false) c.expression.ensures.read
 
-pub more_sides-returns-in_err-side-clause-read : goal.more_sides-returns-in_err-side-clause-read
-more_sides-returns-in_err-side-clause-read t c =
-    let level = c.args.level in
+pub more_units-returns-in_err-unit-clause-read : goal.more_units-returns-in_err-unit-clause-read
+more_units-returns-in_err-unit-clause-read t c =
     let p = err_from_is_err_and c.from_residual.result c.from_residual.ensures.1 in
-    let here = ap (λ s. past s (left c.args.text.now c.loop-alloc.at)) (sym c.operator_of.ensures.operator) ∙ c.loop-alloc-test.ensures.here refl in
-    rw (p.1, p.2) (λ memory. stops (operator_of level) (side_link level (side_with level (inner_at c.args.depth))) c.loop-alloc.out.items _ _ _ _ _ here (rw (c.in_err-side.ensures.read memory) refl) (omega arith) c.loop-alloc.invariant.so_far)
+    rw (p.1, p.2) (λ memory. stops And (side_link Joint (unit_with (inner_at c.args.depth))) c.loop-alloc.out.items _ _ _ _ _ (c.loop-alloc-test.ensures.here refl) (rw (c.in_err-unit.ensures.read memory) refl) (omega arith) c.loop-alloc.invariant.so_far)
 
-pub more_sides-loop-alloc-preserved : goal.more_sides-loop-alloc-preserved
-more_sides-loop-alloc-preserved t c =
-    let level = c.args.level in
-    let here = ap (λ s. past s (left c.args.text.now c.loop-alloc.at)) (sym c.operator_of.ensures.operator) ∙ c.loop-alloc-test.ensures.here refl in
+pub more_units-loop-alloc-preserved : goal.more_units-loop-alloc-preserved
+more_units-loop-alloc-preserved t c =
     let onward = c.loop-alloc-test.ensures.onward refl in
-    let fewer = c.side.ensures.fewer in record {
-      so_far = rw (c.in_ok-push.ensures.items, c.step_of.ensures, c.loop-alloc.invariant.joint) (goes_on (operator_of level) (side_link level (side_with level (inner_at c.args.depth))) c.loop-alloc.out.items _ _ _ _ _ _ here (rw c.in_ok-side.ensures.read refl) (omega (arith, onward, fewer)) c.loop-alloc.invariant.so_far);
-      joint = refl;
-      stands = c.side.ensures.stands;
+    let fewer = c.unit.ensures.fewer in record {
+      so_far = rw c.in_ok-push.ensures.items (goes_on And (side_link Joint (unit_with (inner_at c.args.depth))) c.loop-alloc.out.items _ _ _ _ _ _ (c.loop-alloc-test.ensures.here refl) (rw c.in_ok-unit.ensures.read refl) (omega (arith, onward, fewer)) c.loop-alloc.invariant.so_far);
+      stands = c.unit.ensures.stands;
       fewer = omega (arith, onward, fewer, c.loop-alloc.invariant.fewer);
     }
 
-pub more_sides-returns-clause-read : goal.more_sides-returns-clause-read
-more_sides-returns-clause-read t c =
-    let level = c.args.level in
+pub more_units-returns-clause-read : goal.more_units-returns-clause-read
+more_units-returns-clause-read t c =
     let away = c.loop-alloc-test.ensures.away refl in
-    let none = ap (λ s. past s (left c.args.text.now c.loop-alloc.at)) (sym c.operator_of.ensures.operator) ∙ away.0 in
-    rw away.1 (ends (operator_of level) (side_link level (side_with level (inner_at c.args.depth))) c.loop-alloc.out.items _ _ none c.loop-alloc.invariant.so_far)
+    rw away.1 (ends And (side_link Joint (unit_with (inner_at c.args.depth))) c.loop-alloc.out.items _ _ away.0 c.loop-alloc.invariant.so_far)
+
+pub more_joints-returns-in_err-joint-clause-read : goal.more_joints-returns-in_err-joint-clause-read
+more_joints-returns-in_err-joint-clause-read t c =
+    let p = err_from_is_err_and c.from_residual.result c.from_residual.ensures.1 in
+    rw (p.1, p.2) (λ memory. stops Or (side_link Choice (joint_with (inner_at c.args.depth))) c.loop-alloc.out.items _ _ _ _ _ (c.loop-alloc-test.ensures.here refl) (rw (c.in_err-joint.ensures.read memory) refl) (omega arith) c.loop-alloc.invariant.so_far)
+
+pub more_joints-loop-alloc-preserved : goal.more_joints-loop-alloc-preserved
+more_joints-loop-alloc-preserved t c =
+    let onward = c.loop-alloc-test.ensures.onward refl in
+    let fewer = c.joint.ensures.fewer in record {
+      so_far = rw c.in_ok-push.ensures.items (goes_on Or (side_link Choice (joint_with (inner_at c.args.depth))) c.loop-alloc.out.items _ _ _ _ _ _ (c.loop-alloc-test.ensures.here refl) (rw c.in_ok-joint.ensures.read refl) (omega (arith, onward, fewer)) c.loop-alloc.invariant.so_far);
+      stands = c.joint.ensures.stands;
+      fewer = omega (arith, onward, fewer, c.loop-alloc.invariant.fewer);
+    }
+
+pub more_joints-returns-clause-read : goal.more_joints-returns-clause-read
+more_joints-returns-clause-read t c =
+    let away = c.loop-alloc-test.ensures.away refl in
+    rw away.1 (ends Or (side_link Choice (joint_with (inner_at c.args.depth))) c.loop-alloc.out.items _ _ away.0 c.loop-alloc.invariant.so_far)
+
+pub more_choices-returns-in_err-choice-clause-read : goal.more_choices-returns-in_err-choice-clause-read
+more_choices-returns-in_err-choice-clause-read t c =
+    let p = err_from_is_err_and c.from_residual.result c.from_residual.ensures.1 in
+    rw (p.1, p.2) (λ memory. stops Above (side_link Ranked (choice_with (inner_at c.args.depth))) c.loop-alloc.out.items _ _ _ _ _ (c.loop-alloc-test.ensures.here refl) (rw (c.in_err-choice.ensures.read memory) refl) (omega arith) c.loop-alloc.invariant.so_far)
+
+pub more_choices-loop-alloc-preserved : goal.more_choices-loop-alloc-preserved
+more_choices-loop-alloc-preserved t c =
+    let onward = c.loop-alloc-test.ensures.onward refl in
+    let fewer = c.choice.ensures.fewer in record {
+      so_far = rw (c.in_ok-push.ensures.items, c.loop-alloc.invariant.place) (goes_on Above (side_link Ranked (choice_with (inner_at c.args.depth))) c.loop-alloc.out.items _ _ _ _ _ _ (c.loop-alloc-test.ensures.here refl) (rw c.in_ok-choice.ensures.read refl) (omega (arith, onward, fewer)) c.loop-alloc.invariant.so_far);
+      place = refl;
+      stands = c.choice.ensures.stands;
+      fewer = omega (arith, onward, fewer, c.loop-alloc.invariant.fewer);
+    }
+
+pub more_choices-returns-clause-read : goal.more_choices-returns-clause-read
+more_choices-returns-clause-read t c =
+    let away = c.loop-alloc-test.ensures.away refl in
+    rw away.1 (ends Above (side_link Ranked (choice_with (inner_at c.args.depth))) c.loop-alloc.out.items _ _ away.0 c.loop-alloc.invariant.so_far)

@@ -1,36 +1,65 @@
 use Rattle.std.proofs.Common.{◌≡◌, ◌≤◌, ◌+◌, ◌*◌, length}
+use Rattle.policy_grammar.specs.declared.symbol.Symbol.TheVariants.{And, Or, Above}
 use Rattle.policy_grammar.specs.Left.{left, StandsIn}
 use Rattle.policy_grammar.specs.Reading.{chain}
-use Rattle.policy_grammar.specs.Ranked.{operator_of, side_link, side_with, inner_at}
+use Rattle.policy_grammar.specs.Ranked.{Ranked, Choice, Joint, unit_with, joint_with, choice_with, side_link, inner_at}
 use Rattle.policy_grammar.proofs.Chains.{LeadsTo}
-use Rattle.policy_grammar.proofs.Levels.{looseness}
 use Rattle.policy_grammar.proofs.ranked.+expression.Given as goal
 
 abbrev pub decreases-inner : goal.decreases-inner
-decreases-inner l = 13 * l.depth
+decreases-inner l = 10 * l.depth
 
 abbrev pub decreases-atom : goal.decreases-atom
-decreases-atom l = 13 * l.depth + 1
+decreases-atom l = 10 * l.depth + 1
 
 abbrev pub decreases-unit : goal.decreases-unit
-decreases-unit l = 13 * l.depth + 2
+decreases-unit l = 10 * l.depth + 2
 
-abbrev pub decreases-side : goal.decreases-side
-decreases-side l = 13 * l.depth + 1 + 3 * looseness l.level
+abbrev pub decreases-more_units : goal.decreases-more_units
+decreases-more_units l = 10 * l.depth + 3
+
+abbrev pub decreases-joint : goal.decreases-joint
+decreases-joint l = 10 * l.depth + 4
+
+abbrev pub decreases-more_joints : goal.decreases-more_joints
+decreases-more_joints l = 10 * l.depth + 5
+
+abbrev pub decreases-choice : goal.decreases-choice
+decreases-choice l = 10 * l.depth + 6
+
+abbrev pub decreases-more_choices : goal.decreases-more_choices
+decreases-more_choices l = 10 * l.depth + 7
 
 abbrev pub decreases-expression : goal.decreases-expression
-decreases-expression l = 13 * l.depth + 3 + 3 * looseness l.level
+decreases-expression l = 10 * l.depth + 8
 
-abbrev pub decreases-more_sides : goal.decreases-more_sides
-decreases-more_sides l = 13 * l.depth + 2 + 3 * looseness l.level
-
-abbrev pub invariant-more_sides-loop-alloc : goal.invariant-more_sides-loop-alloc
-invariant-more_sides-loop-alloc l = record {
-  so_far : LeadsTo (operator_of l.level) (side_link l.level (side_with l.level (inner_at l.depth))) l.out.items (left l.text l.at) (chain (operator_of l.level) (side_link l.level (side_with l.level (inner_at l.depth))) (length (left l.text l.fn.at)) l.fn.out.items (left l.text l.fn.at));
-  joint : l.joint ≡ l.at;
+abbrev pub invariant-more_units-loop-alloc : goal.invariant-more_units-loop-alloc
+invariant-more_units-loop-alloc l = record {
+  so_far : LeadsTo And (side_link Joint (unit_with (inner_at l.depth))) l.out.items (left l.text l.at) (chain And (side_link Joint (unit_with (inner_at l.depth))) (length (left l.text l.fn.at)) l.fn.out.items (left l.text l.fn.at));
   stands : StandsIn l.text l.at;
   fewer : length (left l.text l.at) ≤ length (left l.text l.fn.at);
 }
 
-abbrev pub decreases-more_sides-loop-alloc : goal.decreases-more_sides-loop-alloc
-decreases-more_sides-loop-alloc l = length (left l.text l.at)
+abbrev pub decreases-more_units-loop-alloc : goal.decreases-more_units-loop-alloc
+decreases-more_units-loop-alloc l = length (left l.text l.at)
+
+abbrev pub invariant-more_joints-loop-alloc : goal.invariant-more_joints-loop-alloc
+invariant-more_joints-loop-alloc l = record {
+  so_far : LeadsTo Or (side_link Choice (joint_with (inner_at l.depth))) l.out.items (left l.text l.at) (chain Or (side_link Choice (joint_with (inner_at l.depth))) (length (left l.text l.fn.at)) l.fn.out.items (left l.text l.fn.at));
+  stands : StandsIn l.text l.at;
+  fewer : length (left l.text l.at) ≤ length (left l.text l.fn.at);
+}
+
+abbrev pub decreases-more_joints-loop-alloc : goal.decreases-more_joints-loop-alloc
+decreases-more_joints-loop-alloc l = length (left l.text l.at)
+
+abbrev pub invariant-more_choices-loop-alloc : goal.invariant-more_choices-loop-alloc
+invariant-more_choices-loop-alloc l = record {
+  so_far : LeadsTo Above (side_link Ranked (choice_with (inner_at l.depth))) l.out.items (left l.text l.at) (chain Above (side_link Ranked (choice_with (inner_at l.depth))) (length (left l.text l.fn.at)) l.fn.out.items (left l.text l.fn.at));
+  place : l.place ≡ l.at.place;
+  stands : StandsIn l.text l.at;
+  fewer : length (left l.text l.at) ≤ length (left l.text l.fn.at);
+}
+
+abbrev pub decreases-more_choices-loop-alloc : goal.decreases-more_choices-loop-alloc
+decreases-more_choices-loop-alloc l = length (left l.text l.at)

@@ -1,17 +1,9 @@
--- How loosely operators bind.
+-- How many brackets more may be open.
 use Rattle.std.proofs.Common.{◌≡◌, ◌≢◌, ℕ, zero, suc, ◌-◌, List, Err, refl, arith}
 use Rattle.policy_grammar.specs.declared.lexeme.Lexeme.{Lexeme}
 use Rattle.policy_grammar.specs.declared.item.Step.{Step}
-use Rattle.policy_grammar.specs.declared.ranked.Level.{Level}
-use Rattle.policy_grammar.specs.declared.ranked.Level.TheVariants.{Ranked, Choice, Joint}
 use Rattle.policy_grammar.specs.Reading.{refused}
 use Rattle.policy_grammar.specs.Ranked.{ranked_with, inner_at}
-
--- 1 for `and`, 2 for `or`, 3 for `>>`
-abbrev pub looseness : Level → ℕ
-looseness Joint = 1
-looseness Choice = 2
-looseness Ranked = 3
 
 -- no bracket may be open
 pub inner_at-none : (depth : ℕ) (out : List Step) (ls : List Lexeme) → depth ≡ 0 → inner_at depth out ls ≡ Err (refused ls)
