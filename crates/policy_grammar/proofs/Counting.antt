@@ -21,7 +21,7 @@ use Rattle.policy_grammar.proofs.Symbols.{word_plain}
 
 -- ---- one token more
 
-uncounted_symbol : (k : TokenKind) (bytes : List ℕ) (n : ℕ) → (k ≡ kind.RoundOpen → ⊥) → (k ≡ kind.RoundClose → ⊥) → (is_too_deep n (symbol_of k bytes) ≡ false) × (open_behind n (symbol_of k bytes) ≡ n)
+pub uncounted_symbol : (k : TokenKind) (bytes : List ℕ) (n : ℕ) → (k ≡ kind.RoundOpen → ⊥) → (k ≡ kind.RoundClose → ⊥) → (is_too_deep n (symbol_of k bytes) ≡ false) × (open_behind n (symbol_of k bytes) ≡ n)
 uncounted_symbol kind.Word bytes n not_open not_close = word_plain bytes n
 uncounted_symbol kind.Figure bytes n not_open not_close = (refl, refl)
 uncounted_symbol kind.Arrow bytes n not_open not_close = (refl, refl)

@@ -3,4 +3,5 @@ mod Chains
 mod ItemLoop
 mod Lefts
 mod Depths
+mod Fine
 pub mod Symbols

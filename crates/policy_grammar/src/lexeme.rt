@@ -69,12 +69,21 @@ fn lexeme_from(text: &[u8], from: u32, place: Place) -> Lexeme
 }
 
 // The first lexeme of a text.
+#[tactic(auto, unfolding(crate::specs::Left::behind, crate::specs::Left::StandsIn))]
 pub(crate) fn first_lexeme(text: &[u8]) -> Lexeme
     requires { length text.now < 4294967295 }
     ensures left { left text.now result ≡ lexemes_ahead text.now (ahead_of text.now 0 first_place) }
     ensures stands { StandsIn text.now result }
 {
-    lexeme_from(text, 0, Place { line: 1, column: 1 })
+    // An empty name stands before the text, and the first lexeme is the one behind it.
+    let mut at = Lexeme {
+        symbol: Symbol::Name,
+        from: 0,
+        to: 0,
+        place: Place { line: 1, column: 1 },
+    };
+    advance(text, &mut at);
+    at
 }
 
 // Goes on to the next lexeme.

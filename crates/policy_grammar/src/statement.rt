@@ -98,7 +98,7 @@ pub(crate) fn statement(alloc: Global, text: &[u8], at: &mut Lexeme) -> Result<I
 {
     let patterns = predicate(alloc, text, at)?;
     passed(Symbol::Arrow, text, at)?;
-    let mut steps = Vec::new(alloc);
+    let mut steps = Vec::with_capacity(alloc, 1)?;
     expression(alloc, BRACKETS, &mut steps, text, at)?;
     let from = from(alloc, text, at)?;
     passed(Symbol::Semicolon, text, at)?;

@@ -10,4 +10,5 @@ mod token;
 pub use cut::{is_text, tokens};
 pub use fault::PolicyFault;
 pub use next::{Next, next_token};
+pub use piece::{Piece, front};
 pub use token::{Token, TokenKind};

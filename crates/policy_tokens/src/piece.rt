@@ -8,7 +8,7 @@ use crate::token::TokenKind;
 
 /// What stands at the front of a text, with its number of bytes.
 #[derive(Clone, Copy)]
-pub(crate) enum Piece {
+pub enum Piece {
     /// A blank or a comment.
     Gap(usize),
     Token(TokenKind, usize),
@@ -113,10 +113,10 @@ fn sign_front(first: u8, rest: &[u8]) -> Piece
     }
 }
 
-// What stands at the front.
+/// What stands at the front.
 #[tactic(auto, unfolding(crate::specs::Tokens::piece_at))]
 #[inline(always)]
-pub(crate) fn front(bytes: &[u8]) -> Piece
+pub fn front(bytes: &[u8]) -> Piece
     ensures rule { result ≡ piece_at bytes.now }
     ensures within { IsWithin result (length bytes.now) }
 {
