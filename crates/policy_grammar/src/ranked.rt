@@ -13,8 +13,8 @@ use crate::symbol::Symbol;
 use policy_tokens::PolicyFault;
 use std::alloc::Global;
 
-// Each level of operators has functions of its own, though all read alike: so no call looks up which operator is its own,
-// and what few operators are written costs little.
+// Each level of operators has functions of its own, though they read alike: no call has to look up which operator it is
+// about, and most expressions have few operators.
 
 // What a bracket holds, where `depth` brackets more may be open.
 #[cycle(expression)]
