@@ -1,12 +1,12 @@
 -- In ascending ways those of one node are a run.
-use Rattle.std.proofs.Common.{◌≡◌, ℕ, zero, suc, ◌-◌, ◌<◌, ◌≤◌, Bool, true, false, List, [], ◌∷◌, length, get_or, take, drop, arith}
+use Rattle.std.proofs.Common.{◌≡◌, ℕ, zero, suc, ◌+◌, ◌-◌, ◌<◌, ◌≤◌, Bool, true, false, List, [], ◌∷◌, length, get_or, take, drop, arith}
 use Rattle.std.specs.Prelude.{nat_lt, nat_le, filter}
 use Rattle.std.specs.List.{AllByRecursion}
 use Rattle.std.specs.List.Sorted.{IsPartitionedBy, IsPartitionPoint}
 use Rattle.std.proofs.lemmas.Bool.{ltb-true, ltb-false, leb-true, leb-false, lt-ltb, le-leb, eqb-true, eq-eqb, false_from_ne_true}
 use Rattle.list_laws.proofs.SortedRuns.{points_ordered, run_between}
 use Rattle.node_classes.specs.declared.way.Way.{Way}
-use Rattle.node_classes.specs.Ways.{IsAbove, Ascend, comes_from}
+use Rattle.node_classes.specs.Ways.{IsAbove, Ascend, BeginsAt, comes_from}
 
 above_at : (v : Way) (ws : List Way) (j : ℕ) (d : Way) → AllByRecursion (IsAbove v) ws → j < length ws → v.from ≤ (get_or ws j d).from
 above_at v [] j d all lt = absurd (omega (arith, lt))
@@ -55,3 +55,26 @@ module _ (n : ℕ) (ws : List Way) (i j : ℕ) (short : i ≤ length ws) (start 
 
   pub ways_run : take (j - i) (drop i ws) ≡ filter (comes_from n) ws
   ways_run = run_between (below_node n) (upto_node n) (comes_from n) (more n) (early n) (late n) (inside n) ws i j short start end ways_ordered
+
+-- ---- runs between two places
+
+module _ (n : ℕ) (ws : List Way) (i j : ℕ) (start : BeginsAt ws n i) (end : BeginsAt ws (n + 1) j) where
+  start_point : IsPartitionPoint (λ x. below_node n x ≡ true) (λ x. below_node n x ≡ false) ws i
+  start_point = (λ k d le lt. lt-ltb _ n (start.before k d lt), λ k d le lt. false_from_ne_true _ (λ h. omega (arith, ltb-true _ n h, start.behind k d le lt)))
+
+  end_point : IsPartitionPoint (λ x. upto_node n x ≡ true) (λ x. upto_node n x ≡ false) ws j
+  end_point = (λ k d le lt. le-leb _ n (omega (arith, end.before k d lt)), λ k d le lt. false_from_ne_true _ (λ h. omega (arith, leb-true _ n h, end.behind k d le lt)))
+
+  pub begins_ordered : i ≤ j
+  begins_ordered = ways_ordered n ws i j start.within start_point end_point
+
+  pub begins_run : take (j - i) (drop i ws) ≡ filter (comes_from n) ws
+  begins_run = ways_run n ws i j start.within start_point end_point
+
+-- where a way comes from no lesser node, the ways of the lesser ones end
+pub begins_next : (ws : List Way) (n i : ℕ) → Ascend ws → i ≤ length ws → ((j : ℕ) (d : Way) → j < i → (get_or ws j d).from < n) → ((d : Way) → i < length ws → n ≤ (get_or ws i d).from) → BeginsAt ws n i
+begins_next ws n i up within before next = record {
+  within = within;
+  before = before;
+  behind = λ j d le lt. omega (arith, next d (omega (arith, le, lt)), from_up ws i j d up le lt);
+}

@@ -1,5 +1,5 @@
 -- Steps of nodes to nodes at places, and the lists of places that can be followed from a node.
-use Rattle.std.specs.Prelude.{◌≡◌, ℕ, ◌<◌, ◌≤◌, Bool, ◌&&◌, ◌==◌, min, List, [], ◌∷◌, Option, Some, None, option_map, option_and_then, if◌then◌else◌}
+use Rattle.std.specs.Prelude.{◌≡◌, ℕ, ◌<◌, ◌≤◌, Bool, ◌&&◌, ◌==◌, min, List, [], ◌∷◌, Option, Some, None, length, option_map, option_and_then, slice_index_or, if◌then◌else◌}
 use Rattle.std.specs.List.{find, AllByRecursion}
 use Rattle.std.specs.Ordering.{nat_cmp, ordering_then}
 use Rattle.std.specs.declared.cmp.Ordering.{Ordering}
@@ -27,6 +27,16 @@ Ascend (w ∷ ws) = AllByRecursion (IsAbove w) ws × Ascend ws
 
 abbrev pub comes_from : ℕ → Way → Bool
 comes_from node w = w.from == node
+
+-- in ascending ways those of lesser nodes lie before a place, and no others
+pub record BeginsAt (ways : List Way) (n i : ℕ) : Type 0 where
+  pub within : i ≤ length ways
+  pub before : (j : ℕ) (d : Way) → j < i → (slice_index_or ways j d).from < n
+  pub behind : (j : ℕ) (d : Way) → i ≤ j → j < length ways → n ≤ (slice_index_or ways j d).from
+
+-- for each of the first nodes the place at which its ways begin
+abbrev pub AreRunStarts : List Way → List ℕ → Type 0
+AreRunStarts ways starts = (n d : ℕ) → n < length starts → BeginsAt ways n (slice_index_or starts n d)
 
 -- where a node steps at a place
 abbrev pub next : List Way → ℕ → ℕ → Option ℕ

@@ -1,12 +1,13 @@
 //! The search for the classes of two nodes.
-ghost use Rattle.std.specs.Prelude.{◌≡◌, ◌≢◌, ◌<◌, ◌≤◌, ◌++◌, [], ◌∷◌, ℕ, All, IfNone, IfOk, IfSome, MatchBool, OnOk, length};
+ghost use Rattle.std.specs.Prelude.{◌≡◌, ◌≢◌, ◌+◌, ◌<◌, ◌≤◌, ◌++◌, [], ◌∷◌, ℕ, All, IfNone, IfOk, IfSome, MatchBool, OnOk, length};
 ghost use Rattle.node_classes.specs.Classes.{AreApart, AreClasses, class_in};
 ghost use Rattle.node_classes.specs.Forest.{IsForest};
 ghost use Rattle.node_classes.specs.Stages.{AreWithin, Stage, targets, work};
-ghost use Rattle.node_classes.specs.Ways.{Ascend};
+ghost use Rattle.node_classes.specs.Ways.{AreRunStarts, Ascend};
 
 use crate::forest::{join, root_of, roots, seeds};
-use crate::way::{Way, place_apart, ways_of};
+use crate::runs::{run_of, run_starts};
+use crate::way::{Way, place_apart};
 use std::alloc::{AllocError, Global};
 
 /// Lets the pairs of targets wait, of ways to the same places.
@@ -25,10 +26,13 @@ fn meet(
     up: &mut Vec<u32>,
     todo: &mut Vec<(u32, u32)>,
     ways: &[Way],
+    starts: &[usize],
     x: u32,
     y: u32,
 ) -> Result<bool, AllocError>
     requires order { Ascend ways.now }
+    requires starts { AreRunStarts ways.now starts.now }
+    requires each { length starts.now ≡ length up.old.items + 1 }
     requires forest { IsForest up.old.items }
     requires ends { All (λ w. w.to < length up.old.items) ways.now }
     requires waiting { AreWithin (length up.old.items) todo.old.items }
@@ -47,8 +51,8 @@ fn meet(
     if one == other {
         return Ok(true);
     }
-    let ways_x = ways_of(ways, x);
-    let ways_y = ways_of(ways, y);
+    let ways_x = run_of(ways, starts, x);
+    let ways_y = run_of(ways, starts, y);
     if place_apart(ways_x, ways_y).is_some() {
         return Ok(false);
     }
@@ -76,11 +80,12 @@ pub fn classes(
     ensures count { IfOk result (λ o. IfSome o (λ classes. length classes.items ≡ count)) }
     ensures apart { IfOk result (λ o. IfNone o (AreApart ways.now a b)) }
 {
+    let starts = run_starts(alloc, count, ways)?;
     let mut up = seeds(alloc, count)?;
     let mut todo = Vec::new(alloc);
     todo.push((a, b))?;
     'search: while let Some((x, y)) = todo.pop() {
-        if !meet(&mut up, &mut todo, ways, x, y)? {
+        if !meet(&mut up, &mut todo, ways, &starts, x, y)? {
             return Ok(None);
         }
     }

@@ -6,6 +6,7 @@ mod joining;
 mod laws;
 mod met;
 mod order;
+mod runs;
 mod way;
 
 pub use joining::classes;

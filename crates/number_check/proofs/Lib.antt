@@ -1,7 +1,9 @@
 pub mod FirstPairs
+pub mod JustOffers
 pub mod Looping
 pub mod Lowest
 pub mod Matching
+pub mod OneNumber
 pub mod Offered
 pub mod RowLemmas
 pub mod RunLemmas

@@ -19,16 +19,15 @@ entry_itself : (x : Numbered) → is_entry x.node x.number x ≡ true
 entry_itself x = and_from (eqb x.node x.node) (eqb x.number x.number) (eq-eqb x.node x.node refl) (eq-eqb x.number x.number refl)
 
 -- a node of a run that offers as well as all that is taken in
-pub matching_entry : (offers : List (List Offer)) (run : List Numbered) (i count : ℕ) (d : Numbered) (owed own : List (Option ℕ)) → i < length run → AreTaken offers run count owed → AreUpto run count (get_or run i d).number
-    → ((at cost : ℕ) → has_upto own at cost ≡ is_offered (offers_of offers (get_or run i d).node) at cost) → ((at cost : ℕ) → IsTrue (has_upto owed at cost) → IsTrue (has_upto own at cost))
-    → IsMatching offers run (get_or run i d).node
-matching_entry offers run i count d owed own lt taken upto same low = record {
+pub matching_entry : (offers : List (List Offer)) (run : List Numbered) (i count : ℕ) (d : Numbered) (owed : List (Option ℕ)) → i < length run → AreTaken offers run count owed → AreUpto run count (get_or run i d).number
+    → ((at cost : ℕ) → IsTrue (has_upto owed at cost) → IsTrue (is_offered (offers_of offers (get_or run i d).node) at cost)) → IsMatching offers run (get_or run i d).node
+matching_entry offers run i count d owed lt taken upto low = record {
   number = entry.number;
   here = list_any_at (is_entry entry.node entry.number) run i d lt (entry_itself entry);
   matches = λ n other there le at cost offered.
       let found = entry_of run n other d there in
       let early : found.0 < count = elim (cases_lt found.0 count) [ inl t ↦ t | inr t ↦ absurd (omega (arith, upto found.0 d t found.1, found.3, le)) ] in
-      sym (same at cost) ∙ low at cost (taken found.0 d early at cost (subst (λ k. IsTrue (is_offered (offers_of offers k) at cost)) (sym found.2) offered));
+      low at cost (taken found.0 d early at cost (subst (λ k. IsTrue (is_offered (offers_of offers k) at cost)) (sym found.2) offered));
 }
   where
     entry : Numbered

@@ -1,5 +1,5 @@
 -- The first pair of nodes that breaks a rule.
-use Rattle.std.specs.Prelude.{◌≡◌, ◌⊎◌, ℕ, ◌<◌, List, Option, Some, None, slice_get, unwrap_or}
+use Rattle.std.specs.Prelude.{◌≡◌, ◌⊎◌, ℕ, ◌<◌, Option, Some, None}
 
 -- the least number that breaks a rule
 pub record IsFirst (Keeps : ℕ → Type 0) (n : ℕ) : Type 0 where

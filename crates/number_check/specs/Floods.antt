@@ -53,3 +53,7 @@ IsNoGreater g numbers row t = is_listener g t ≡ false → (v : ℕ) → IsTrue
 -- the loop rule of a node with itself at one router
 abbrev pub KeepsLoopAt : PlainGraph → (ℕ → ℕ) → ℕ → ℕ → Type 0
 KeepsLoopAt g number l m = (s k : ℕ) → IsTrue (steps_on g m s) → place_of g s ≡ l → k < length g.nodes → place_of g k ≡ l → Reaches g k m → number s ≤ number k
+
+-- of the first nodes those at one location have one number
+abbrev pub HaveOneNumber : PlainGraph → (ℕ → ℕ) → ℕ → Type 0
+HaveOneNumber g number count = (m n : ℕ) → m < count → n < count → place_of g m ≡ place_of g n → number m ≡ number n

@@ -7,10 +7,11 @@ ghost use Rattle.number_check.specs.FirstPair.{IsFirstOrNone, IsFirstPairOrNone}
 ghost use Rattle.number_check.specs.Offers.{KeepsOffers};
 
 use crate::low_row::LowRow;
-use crate::offers::{Offer, Towards, offers_by_rank, offers_by_steps};
+use crate::offer_list::OfferList;
+use crate::offers::{Towards, offers_by_rank, offers_by_steps};
 use crate::passing::matching_nodes;
 use graph_base::Graph;
-use net_base::{List, LocSet, Net};
+use net_base::{LocSet, Net};
 use outside::NoMemory;
 use std::alloc::Global;
 
@@ -33,7 +34,7 @@ fn first_unmatched(
     net: &Net,
     graph: &Graph,
     numbers: &[u32],
-    offers: &[List<Offer>],
+    offers: &[OfferList],
     node: u32,
 ) -> Result<Option<u32>, NoMemory>
     requires numbers { length numbers.now ≡ length graph.now.nodes }
@@ -62,7 +63,7 @@ fn first_pair(
     net: &Net,
     graph: &Graph,
     numbers: &[u32],
-    offers: &[List<Offer>],
+    offers: &[OfferList],
 ) -> Result<Option<(u32, u32)>, NoMemory>
     requires numbers { length numbers.now ≡ length graph.now.nodes }
     requires offers { length offers.now ≡ length graph.now.nodes }

@@ -7,6 +7,7 @@ mod laws;
 mod lists;
 mod loops;
 mod low_row;
+mod offer_list;
 mod offers;
 mod passing;
 mod runs;

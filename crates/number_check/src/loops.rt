@@ -1,12 +1,13 @@
 //! The first pair of nodes that breaks the loop rule.
 ghost use Rattle.std.specs.Prelude.{◌≡◌, ◌↔◌, ◌||◌, ◌&&◌, ◌==◌, ◌<◌, ◌≤◌, All, ℕ, false, nat_le, IfOk, IsTrue, OnOk, length};
 ghost use Rattle.net_base.specs.Network.{is_router};
+ghost use Rattle.graph_base.specs.Graphs.{IsGraph};
 ghost use Rattle.graph_base.specs.Rules.{KeepsLoop, KeepsStep, steps_on};
 ghost use Rattle.graph_base.specs.Runs.{is_listener, place_of};
 ghost use Rattle.reach_prune.specs.Searches.{AreLists, Leads, is_among, is_marked};
 ghost use Rattle.graph_base.specs.Preferences.{number_in};
 ghost use Rattle.number_check.specs.FirstPair.{IsFirstOrNone, IsFirstPairOrNone};
-ghost use Rattle.number_check.specs.Floods.{AreLeast, AreNeighbours, AreNoLess, IsNoGreater, KeepsLoopAt};
+ghost use Rattle.number_check.specs.Floods.{AreLeast, AreNeighbours, AreNoLess, HaveOneNumber, IsNoGreater, KeepsLoopAt};
 ghost use Rattle.number_check.specs.Rows.{has_upto, is_upto};
 ghost use Rattle.number_check.specs.Runs.{IsAscending, IsRunAt, has_node};
 
@@ -239,6 +240,44 @@ fn first_looped(
     Ok(None)
 }
 
+/// Notes the number of a node at its location, and says whether it is the one that is noted there.
+fn note_number(
+    graph: &Graph,
+    numbers: &[u32],
+    node: u32,
+    noted: &mut LowRow,
+) -> Result<bool, AllocError>
+    requires node { node < length graph.now.nodes }
+    requires numbers { length numbers.now ≡ length graph.now.nodes }
+    ensures here { IfOk result (λ same. IsTrue same → (v : ℕ) → has_upto noted.new.least.items (place_of graph.now node) v ≡ nat_le (number_in numbers.now node) v) }
+    ensures kept { OnOk result ((l v w : ℕ) → IsTrue (has_upto noted.old.least.items l w) → has_upto noted.new.least.items l v ≡ has_upto noted.old.least.items l v) }
+{
+    let at = graph.location(node).number() as usize;
+    let number = numbers[node as usize];
+    match noted.at(at) {
+        Some(other) => Ok(other == number),
+        None => {
+            noted.lower(at, number)?;
+            Ok(true)
+        }
+    }
+}
+
+/// Whether the nodes at each location have one number.
+fn have_one_number(alloc: Global, graph: &Graph, numbers: &[u32]) -> Result<bool, AllocError>
+    requires { length numbers.now ≡ length graph.now.nodes }
+    ensures one { IfOk result (λ one. IsTrue one → HaveOneNumber graph.now (number_in numbers.now) (length graph.now.nodes)) }
+    ensures rules { IsGraph graph.now }
+{
+    let mut noted = LowRow::new(alloc);
+    for node in 0..graph.nodes().len() as u32 {
+        if !note_number(graph, numbers, node, &mut noted)? {
+            return Ok(false);
+        }
+    }
+    Ok(true)
+}
+
 /// The first pair of nodes, the first over the second, of which the second steps to a node of a router at which a node
 /// with a lesser number reaches the first.
 pub fn loop_fault(
@@ -252,6 +291,9 @@ pub fn loop_fault(
     requires step { (m n : ℕ) → KeepsStep net.now graph.now (number_in numbers.now) m n }
     ensures { IfOk result (IsFirstPairOrNone (KeepsLoop net.now graph.now (number_in numbers.now))) }
 {
+    if have_one_number(alloc, graph, numbers)? {
+        return Ok(None);
+    }
     let lists = neighbours(alloc, graph, Way::Forward)?;
     let suspects = loop_suspects(alloc, net, graph, numbers, &lists)?;
     for first in 0..graph.nodes().len() as u32 {

@@ -1,5 +1,5 @@
 //! Rows of least numbers.
-ghost use Rattle.std.specs.Prelude.{◌≡◌, ◌↔◌, ◌||◌, ◌&&◌, ◌==◌, ◌<◌, ℕ, IsSome, None, true, false, nat_le, IfOk, OnOk, IsTrue, slice_index_or, vec_len};
+ghost use Rattle.std.specs.Prelude.{◌≡◌, ◌↔◌, ◌||◌, ◌&&◌, ◌==◌, ◌<◌, ℕ, IsSome, None, Some, true, false, nat_le, IfOk, OnOk, IsTrue, slice_index_or, vec_len};
 ghost use Rattle.std.specs.List.{list_any};
 ghost use Rattle.number_check.specs.Rows.{has_upto, is_upto};
 
@@ -22,6 +22,16 @@ fn is_as_low(one: Option<u32>, other: Option<u32>) -> bool
         (_, None) => true,
         (None, Some(_)) => false,
         (Some(low), Some(bound)) => low <= bound,
+    }
+}
+
+/// Whether a number is there and is this one.
+fn is_just(low: Option<u32>, number: u32) -> bool
+    ensures { IsTrue result → low ≡ Some number }
+{
+    match low {
+        Some(low) => low == number,
+        None => false,
     }
 }
 
@@ -50,6 +60,7 @@ fn take_out(least: &mut Vec<Option<u32>>, places: &[usize])
 
 impl LowRow {
     ghost use Rattle.number_check.specs.Offers.{is_offered};
+    ghost use Rattle.number_check.specs.Rows.{IsLevel};
 
     /// A row without numbers.
     pub fn new(alloc: Global) -> LowRow
@@ -95,10 +106,37 @@ impl LowRow {
         Ok(())
     }
 
-    /// Puts in what each offer costs at its location.
+    /// Whether the place that was put in behind so many others is that of an offer, and has what that costs.
+    fn is_level(&self, count: usize, offer: Offer) -> bool
+        requires { count < vec_len self.now.places }
+        ensures { IsTrue result → IsLevel self.now.least.items (slice_index_or self.now.places.items count 0) offer }
+    {
+        let place = offer.at.number() as usize;
+        self.places[count] == place && is_just(self.at(place), offer.cost)
+    }
+
+    /// Whether the row has what these offers cost and no other numbers, in the order in which the places were put in.
+    pub fn has_just(&self, offers: &[Offer]) -> bool
+        ensures { IsTrue result → (p n : ℕ) → has_upto self.now.least.items p n ≡ is_offered offers.now p n }
+    {
+        if offers.len() != self.places.len() {
+            return false;
+        }
+        for i in 0..offers.len() {
+            if !self.is_level(i, offers[i]) {
+                return false;
+            }
+        }
+        true
+    }
+
+    /// Puts in what each offer costs at its location. Where the row has just that already, nothing changes.
     pub fn take_in(&mut self, offers: &[Offer]) -> Result<(), AllocError>
         ensures { OnOk result ((p n : ℕ) → has_upto self.new.least.items p n ≡ (has_upto self.old.least.items p n || is_offered offers.now p n)) }
     {
+        if self.has_just(offers) {
+            return Ok(());
+        }
         for offer in offers {
             self.lower(offer.at.number() as usize, offer.cost)?;
         }

@@ -3,9 +3,9 @@ ghost use Rattle.std.specs.Prelude.{◌≡◌, ◌<◌, ◌&&◌, ◌==◌, ℕ,
 ghost use Rattle.std.specs.List.{list_any};
 ghost use Rattle.number_check.specs.Offers.{is_good, is_offered, offer_by_rank, offer_by_step, offer_of_rank, offers_of};
 
-use crate::lists::empty_lists;
+use crate::offer_list::{OfferList, no_offers};
 use graph_base::Graph;
-use net_base::{List, Loc, LocSet};
+use net_base::{Loc, LocSet};
 use outside::NoMemory;
 use std::alloc::Global;
 
@@ -14,6 +14,16 @@ use std::alloc::Global;
 pub struct Offer {
     pub at: Loc,
     pub cost: u32,
+}
+
+// What lies in the unused places of a short list.
+impl Default for Offer {
+    fn default() -> Offer {
+        Offer {
+            at: Loc::new(0),
+            cost: 0,
+        }
+    }
 }
 
 /// Which steps count.
@@ -60,12 +70,12 @@ pub fn offers_by_steps(
     graph: &Graph,
     numbers: &[u32],
     towards: Towards,
-) -> Result<Vec<List<Offer>>, NoMemory>
+) -> Result<Vec<OfferList>, NoMemory>
     requires { length numbers.now ≡ length graph.now.nodes }
     ensures size { IfOk result (λ offers. length offers.items ≡ length graph.now.nodes) }
     ensures offers { IfOk result (λ offers. (n at cost : ℕ) → is_offered (offers_of offers.items n) at cost ≡ list_any (λ s. s.0 == n && is_good (offer_by_step graph.now numbers.now towards s.1) at cost) graph.now.steps) }
 {
-    let mut offers = empty_lists(alloc, graph.nodes().len())?;
+    let mut offers = no_offers(alloc, graph.nodes().len())?;
     for (from, to) in graph.steps() {
         if let Some(offer) = offer_by_step(graph, numbers, towards, *to) {
             offers[*from as usize].push(offer)?;
@@ -79,11 +89,11 @@ pub fn offers_by_rank(
     alloc: Global,
     graph: &Graph,
     claimed: &LocSet,
-) -> Result<Vec<List<Offer>>, NoMemory>
+) -> Result<Vec<OfferList>, NoMemory>
     ensures size { IfOk result (λ offers. length offers.items ≡ length graph.now.nodes) }
     ensures offers { IfOk result (λ offers. (n at cost : ℕ) → n < length graph.now.nodes → is_offered (offers_of offers.items n) at cost ≡ is_good (offer_by_rank graph.now claimed.now n) at cost) }
 {
-    let mut offers = empty_lists(alloc, graph.nodes().len())?;
+    let mut offers = no_offers(alloc, graph.nodes().len())?;
     for node in 0..graph.nodes().len() as u32 {
         if claimed.holds(graph.location(node)) {
             if let Some(offer) = offer_of_rank(graph, node) {

@@ -3,21 +3,23 @@ ghost use Rattle.std.specs.Prelude.{◌≡◌, ◌⊎◌, ◌<◌, ◌≤◌, Al
 ghost use Rattle.graph_base.specs.Rules.{IsOver};
 ghost use Rattle.reach_prune.specs.Searches.{is_marked};
 ghost use Rattle.graph_base.specs.Preferences.{number_in};
-ghost use Rattle.number_check.specs.Offers.{KeepsOffers};
+ghost use Rattle.number_check.specs.Offers.{KeepsOffers, is_offered};
+ghost use Rattle.number_check.specs.Rows.{has_upto};
 ghost use Rattle.number_check.specs.Runs.{AreTaken, AreUpto, IsAscending, IsMatching};
 
 use crate::low_row::LowRow;
+use crate::offer_list::OfferList;
 use crate::offers::Offer;
 use crate::runs::{Numbered, in_order, nodes_of_routers};
 use graph_base::Graph;
-use net_base::{List, Net};
+use net_base::Net;
 use outside::NoMemory;
 use std::alloc::{AllocError, Global};
 
 /// Takes in what the next nodes of a run offer, as far as their numbers are no greater than a number. How many nodes
 /// are taken in then.
 fn take_in_upto(
-    offers: &[List<Offer>],
+    offers: &[OfferList],
     run: &[Numbered],
     count: usize,
     number: u32,
@@ -43,10 +45,23 @@ fn take_in_upto(
     Ok(next)
 }
 
+/// Whether offers are as low as a row wherever it has numbers. They are put in a row of their own, unless the other one has just
+/// them, as it has where all nodes of a run offer the same.
+fn are_enough(own: &mut LowRow, offers: &[Offer], owed: &LowRow) -> Result<bool, AllocError>
+    ensures { IfOk result (λ enough. IsTrue enough → (p n : ℕ) → IsTrue (has_upto owed.now.least.items p n) → IsTrue (is_offered offers.now p n)) }
+{
+    if owed.has_just(offers) {
+        return Ok(true);
+    }
+    own.clear();
+    own.take_in(offers)?;
+    Ok(own.is_as_low(owed))
+}
+
 /// Marks the nodes of a run that offer at least as well as each of its nodes that has no greater number.
 fn mark_matching(
     alloc: Global,
-    offers: &[List<Offer>],
+    offers: &[OfferList],
     run: &[Numbered],
     marks: &mut Vec<bool>,
 ) -> Result<(), AllocError>
@@ -61,9 +76,7 @@ fn mark_matching(
     let mut count = 0;
     for entry in run {
         count = take_in_upto(offers, run, count, entry.number, &mut owed)?;
-        own.clear();
-        own.take_in(offers[entry.node as usize].as_slice())?;
-        if own.is_as_low(&owed) {
+        if are_enough(&mut own, offers[entry.node as usize].as_slice(), &owed)? {
             marks[entry.node as usize] = true;
         }
     }
@@ -76,7 +89,7 @@ pub fn matching_nodes(
     net: &Net,
     graph: &Graph,
     numbers: &[u32],
-    offers: &[List<Offer>],
+    offers: &[OfferList],
 ) -> Result<Vec<bool>, NoMemory>
     requires numbers { length numbers.now ≡ length graph.now.nodes }
     requires offers { length offers.now ≡ length graph.now.nodes }

@@ -1,5 +1,6 @@
 pub mod Gathered
 pub mod OneWay
+pub mod Laid
 pub mod Followed
 pub mod Unions
 pub mod FormedParts

@@ -1,5 +1,5 @@
 -- No two ways of two graphs stand at one place.
-use Rattle.std.proofs.Common.{◌≡◌, ℕ, ◌+◌, ◌<◌, ◌≤◌, true, List, ◌++◌, map, length, ap, ◌∙◌, inl, inr, arith, eqb-true, eq-eqb}
+use Rattle.std.proofs.Common.{◌≡◌, ℕ, ◌+◌, ◌<◌, ◌≤◌, true, List, map, length, ap, inl, inr, arith, eqb-true, eq-eqb}
 use Rattle.std.specs.Prelude.{◌==◌, nat_eq, All}
 use Rattle.std.specs.List.{IsDistinct}
 use Rattle.std.proofs.lemmas.Bool.{and_from, and_parts}
@@ -78,10 +78,3 @@ module _ (t g : PlainGraph) (live_rules : IsGraph t) (rules : IsGraph g) where
         | inl a ↦ let to = to_range t 0 (both_sizes t g) live_rules w a in omega (arith, to)
         | inr b ↦ let to = to_range g (length t.nodes) (both_sizes t g + 1) rules w b in omega (arith, to)
       ]))
-
--- the ways that are put one behind the other
-pub gathered : (t g : PlainGraph) (one two : List Way) (size root after : ℕ) → one ≡ ways_of t 0 root → two ≡ one ++ ways_of g size after → size ≡ length t.nodes → root ≡ both_sizes t g
-    → after ≡ both_sizes t g + 1 → two ≡ ways_of_both t g
-gathered t g one two size root after first second at_size at_root at_after =
-    let front = first ∙ ap (ways_of t 0) at_root in
-    second ∙ λ i. front i ++ ways_of g (at_size i) (at_after i)

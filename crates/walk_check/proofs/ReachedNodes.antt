@@ -1,12 +1,14 @@
 -- A node can be reached from a start exactly where some run ends in it.
-use Rattle.std.proofs.Common.{◌≡◌, ℕ, zero, suc, ◌<◌, Bool, true, false, List, [], ◌∷◌, length, Some, refl, ap, ◌∙◌, arith}
-use Rattle.std.specs.Prelude.{not, option_and_then}
+use Rattle.std.proofs.Common.{◌≡◌, ℕ, zero, suc, ◌<◌, Bool, true, false, List, [], ◌∷◌, ◌++◌, length, get_or, set, Some, refl, sym, ap, ◌∙◌, inl, inr, arith}
+use Rattle.std.specs.Prelude.{not, option_and_then, ◌&&◌, ◌==◌}
 use Rattle.std.specs.List.{list_any}
 use Rattle.std.proofs.Math.Bool.{beq}
-use Rattle.std.proofs.lemmas.Bool.{false≢true}
+use Rattle.std.proofs.lemmas.Bool.{and_from, cases_eq, eq-eqb, false≢true}
+use Rattle.std.proofs.lemmas.List.{get_or-set_other}
+use Rattle.std.proofs.lemmas.List.Folds.{list_any_at}
 use Rattle.list_laws.proofs.Options.{option_and_then_parts}
 use Rattle.graph_base.specs.Graphs.{PlainGraph}
-use Rattle.graph_base.specs.Runs.{place_of, step_at, run, IsTrail}
+use Rattle.graph_base.specs.Runs.{has_step, place_of, step_at, run, IsTrail}
 use Rattle.graph_base.proofs.Determined.{start_at-start, step_at-step}
 use Rattle.reach_prune.specs.Searches.{is_marked}
 use Rattle.graph_base.proofs.StartsAndSteps.{start_at-is, step_at-is}
@@ -43,3 +45,25 @@ pub none_from_marked : (marks : List Bool) → ((n : ℕ) → n < length marks �
 none_from_marked [] h = refl
 none_from_marked (true ∷ ms) h = none_from_marked ms (λ n lt. h (suc n) (omega (arith, lt)))
 none_from_marked (false ∷ ms) h = absurd (false≢true (h zero (omega arith)))
+
+-- ---- nodes that are marked as steps lead to them
+
+step_after : (g : PlainGraph) (a b c : ℕ) (via : List ℕ) → IsTrail g a via b → has_step g b c ≡ true → IsTrail g a (via ++ c ∷ []) c
+step_after g a b c [] e h = (ap (λ n. has_step g n c) e ∙ h, refl)
+step_after g a b c (d ∷ ds) t h = (t.0, step_after g d b c ds t.1 h)
+
+-- the step at a place of the list
+pub step_here : (g : PlainGraph) (steps : List (ℕ × ℕ)) (i : ℕ) → steps ≡ g.steps → i < length steps → has_step g (get_or steps i (0, 0)).0 (get_or steps i (0, 0)).1 ≡ true
+step_here g steps i all lt =
+    let none : ℕ × ℕ = (0, 0) in
+    let x : ℕ × ℕ = get_or steps i none in
+    let goes : ℕ × ℕ → Bool = λ s. s.0 == x.0 && s.1 == x.1 in
+    ap (list_any goes) (sym all) ∙ list_any_at goes steps i none lt (and_from (x.0 == x.0) (x.1 == x.1) (eq-eqb x.0 x.0 refl) (eq-eqb x.1 x.1 refl))
+
+-- where one that can be reached steps to it, it can be reached too
+pub marked_step : (g : PlainGraph) (marks : List Bool) (from to n : ℕ) → has_step g from to ≡ true → ((k : ℕ) → is_marked marks k ≡ true → CanBeReached g k) → is_marked marks from ≡ true
+    → is_marked (set marks to true) n ≡ true → CanBeReached g n
+marked_step g marks from to n step reached on h = elim (cases_eq to n) [
+  | inl e ↦ let r = reached from on in (r.0, r.1, (r.2.0 ++ n ∷ [], step_after g r.0 from n r.2.0 r.2.1 (ap (has_step g from) (sym e) ∙ step)))
+  | inr ne ↦ reached n (sym (get_or-set_other marks to n true false (λ e. ne (sym e))) ∙ h)
+]

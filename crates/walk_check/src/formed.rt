@@ -14,7 +14,7 @@ use path_words::Case;
 use std::alloc::{AllocError, Global};
 
 /// Marks the starts among the nodes.
-fn start_marks(alloc: Global, graph: &Graph) -> Result<Vec<bool>, AllocError>
+pub(crate) fn start_marks(alloc: Global, graph: &Graph) -> Result<Vec<bool>, AllocError>
     ensures size { IfOk result (λ marks. length marks.items ≡ length graph.now.nodes) }
     ensures marks { IfOk result (λ marks. (n : ℕ) → is_marked marks.items n ≡ is_start graph.now n) }
 {

@@ -5,7 +5,7 @@ ghost use Rattle.graph_base.specs.declared.graph.TheConstants.{MAX_NODES};
 ghost use Rattle.node_classes.specs.declared.way.Way.{Way as PlainWay};
 ghost use Rattle.node_classes.specs.Ways.{Ascend};
 ghost use Rattle.walk_check.specs.Alike.{IsSingleStepped};
-ghost use Rattle.walk_check.specs.WaysOf.{both_sizes, start_way, step_way, ways_of, ways_of_both};
+ghost use Rattle.walk_check.specs.WaysOf.{both_sizes, start_way, step_way, ways_of_both};
 
 use graph_base::Graph;
 use node_classes::{Way, put_in_order};
@@ -41,17 +41,8 @@ fn add_steps(ways: &mut Vec<Way>, graph: &Graph, first: u32) -> Result<(), Alloc
     Ok(())
 }
 
-/// Puts the ways of a graph behind others.
-fn add_ways(ways: &mut Vec<Way>, graph: &Graph, first: u32, root: u32) -> Result<(), AllocError>
-    requires { first + length graph.now.nodes < 2 ^ 32 }
-    ensures { OnOk result (ways.new.items ≡ ways.old.items ++ ways_of graph.now first root) }
-{
-    add_starts(ways, graph, first, root)?;
-    add_steps(ways, graph, first)
-}
-
 /// The ways of both graphs in order: the nodes of the one, behind them those of the other, and then a root of each, which
-/// steps to its starts.
+/// steps to its starts. They are put so that little is left to sort: the steps of a graph are mostly in order.
 pub(crate) fn both_ways(alloc: Global, live: &Graph, graph: &Graph) -> Result<Vec<Way>, AllocError>
     requires live { IsSingleStepped live.now }
     requires graph { IsSingleStepped graph.now }
@@ -63,8 +54,10 @@ pub(crate) fn both_ways(alloc: Global, live: &Graph, graph: &Graph) -> Result<Ve
     let size = live.nodes().len() as u32;
     let root = size + graph.nodes().len() as u32;
     let mut ways = Vec::new(alloc);
-    add_ways(&mut ways, live, 0, root)?;
-    add_ways(&mut ways, graph, size, root + 1)?;
+    add_steps(&mut ways, live, 0)?;
+    add_steps(&mut ways, graph, size)?;
+    add_starts(&mut ways, live, 0, root)?;
+    add_starts(&mut ways, graph, size, root + 1)?;
     put_in_order(&mut ways);
     Ok(ways)
 }

@@ -19,7 +19,7 @@ search-init c =
     }
 
 -- the pair that is taken
-taken : (c : goal.After-todo-in-Some-1) → AreWithin (length c.search.up.items) c.pop.new.self.items × ((c.in-Some.x < length c.search.up.items) × (c.in-Some.y < length c.search.up.items))
+taken : (c : goal.After-deref) → AreWithin (length c.search.up.items) c.pop.new.self.items × ((c.in-Some.x < length c.search.up.items) × (c.in-Some.y < length c.search.up.items))
 taken c = within_front (length c.search.up.items) c.pop.new.self.items (c.in-Some.x, c.in-Some.y) (subst (AreWithin (length c.search.up.items)) c.in-Some.ensures.items c.search.invariant.within)
 
 pub meet-requires-clause-x : goal.meet-requires-clause-x

@@ -22,7 +22,7 @@ returns-then-one-other-clause-stage c = λ a b stage.
 pub returns-then-is_some-clause-stage : goal.returns-then-is_some-clause-stage
 returns-then-is_some-clause-stage c = λ a b stage.
     let apart = is_some_parts c.place_apart.result (sym c.is_some.ensures ∙ c.if-is_some.true) in
-    apart_by c.args.ways.now c.ways_of-ways_x.result.now c.ways_of-ways_y.result.now c.args.x c.args.y c.requires.order c.ways_of-ways_x.ensures c.ways_of-ways_y.ensures
+    apart_by c.args.ways.now c.run_of-ways_x.result.now c.run_of-ways_y.result.now c.args.x c.args.y c.requires.order c.run_of-ways_x.ensures c.run_of-ways_y.ensures
     a b apart.0 c.args.up.now.items c.args.todo.now.items stage (sym c.place_apart.ensures ∙ apart.1)
 
 one_root : (c : goal.After-max) → parent c.root_of-other.new.up.items c.root_of-one.result ≡ c.root_of-one.result
@@ -53,20 +53,20 @@ join-requires-clause-within c =
 
 pub add_targets-requires : goal.add_targets-requires
 add_targets-requires c =
-    let vs = c.ways_of-ways_x.result.now in
-    let ws = c.ways_of-ways_y.result.now in
+    let vs = c.run_of-ways_x.result.now in
+    let ws = c.run_of-ways_y.result.now in
     let none : place_apart_of vs ws ≡ None = sym c.place_apart.ensures ∙ no_place c.place_apart.result (sym c.is_some.ensures ∙ c.if-is_some.false) in
     sym (length-map vs (λ (w : Way). w.at)) ∙ ap length (same_places vs ws none) ∙ length-map ws (λ (w : Way). w.at)
 
 -- what waits at the end
-rest_of : (c : goal.In_ok-add_targets) → c.add_targets.new.todo.items ≡ c.args.todo.now.items ++ targets c.ways_of-ways_x.result.now c.ways_of-ways_y.result.now
+rest_of : (c : goal.In_ok-add_targets) → c.add_targets.new.todo.items ≡ c.args.todo.now.items ++ targets c.run_of-ways_x.result.now c.run_of-ways_y.result.now
 rest_of c = c.in_ok-add_targets.ensures
 
 pub returns-clause-stage : goal.returns-clause-stage
 returns-clause-stage c = λ a b stage.
     let ways = c.args.ways.now in
-    let vs = c.ways_of-ways_x.result.now in
-    let ws = c.ways_of-ways_y.result.now in
+    let vs = c.run_of-ways_x.result.now in
+    let ws = c.run_of-ways_y.result.now in
     let one = c.root_of-one.result in
     let other = c.root_of-other.result in
     let mid = c.root_of-other.new.up.items in
@@ -75,24 +75,24 @@ returns-clause-stage c = λ a b stage.
     = λ z. subst (λ h. leader c.join.new.up.items z ≡ cond (leader mid z == h) (min one other) (leader mid z)) c.max.ensures
     (subst (λ l. leader c.join.new.up.items z ≡ cond (leader mid z == c.max.result) l (leader mid z)) c.min.ensures (c.join.ensures.trees z)) in
     subst (λ ts. Stage ways a b c.join.new.up.items ts) (sym (rest_of c))
-    (joins_at ways vs ws a b c.args.x c.args.y one other c.args.up.now.items mid c.join.new.up.items c.args.todo.now.items c.requires.order c.ways_of-ways_x.ensures c.ways_of-ways_y.ensures
+    (joins_at ways vs ws a b c.args.x c.args.y one other c.args.up.now.items mid c.join.new.up.items c.args.todo.now.items c.requires.order c.run_of-ways_x.ensures c.run_of-ways_y.ensures
     c.root_of-other.ensures.forest (λ z. c.root_of-other.ensures.same z ∙ c.root_of-one.ensures.same z) c.root_of-one.ensures.root
     (c.root_of-other.ensures.root ∙ c.root_of-one.ensures.same c.args.y) c.if-one-other.false c.join.ensures.forest trees none stage)
 
 pub returns-clause-waiting : goal.returns-clause-waiting
 returns-clause-waiting c =
-    let vs = c.ways_of-ways_x.result.now in
-    let ws = c.ways_of-ways_y.result.now in
+    let vs = c.run_of-ways_x.result.now in
+    let ws = c.run_of-ways_y.result.now in
     let count = length c.args.up.now.items in
     let len : count ≡ length c.join.new.up.items = sym (c.join.ensures.len ∙ c.root_of-other.ensures.len ∙ c.root_of-one.ensures.len) in
-    let more = targets_within count c.args.x c.args.y c.args.ways.now vs ws (recursion_from_All (λ (w : Way). w.to < count) c.args.ways.now c.requires.ends) c.ways_of-ways_x.ensures c.ways_of-ways_y.ensures in
+    let more = targets_within count c.args.x c.args.y c.args.ways.now vs ws (recursion_from_All (λ (w : Way). w.to < count) c.args.ways.now c.requires.ends) c.run_of-ways_x.ensures c.run_of-ways_y.ensures in
     let all = within_append count c.args.todo.now.items (targets vs ws) c.requires.waiting more in
     subst (λ ts. AreWithin (length c.join.new.up.items) ts) (sym (rest_of c)) (subst (λ n. AreWithin n (c.args.todo.now.items ++ targets vs ws)) len all)
 
 pub returns-clause-less : goal.returns-clause-less
 returns-clause-less c =
-    let vs = c.ways_of-ways_x.result.now in
-    let ws = c.ways_of-ways_y.result.now in
+    let vs = c.run_of-ways_x.result.now in
+    let ws = c.run_of-ways_y.result.now in
     let lower : sum c.join.new.up.items < sum c.args.up.now.items = omega (arith, c.join.ensures.sum, c.root_of-other.ensures.sum, c.root_of-one.ensures.sum) in
     subst (λ ts. work (length c.args.ways.now) c.join.new.up.items ts < work (length c.args.ways.now) c.args.up.now.items (c.args.todo.now.items ++ (c.args.x, c.args.y) ∷ [])) (sym (rest_of c))
-    (work_joined c.args.ways.now vs ws c.args.x c.args.up.now.items c.join.new.up.items c.args.todo.now.items (c.args.x, c.args.y) lower c.ways_of-ways_x.ensures)
+    (work_joined c.args.ways.now vs ws c.args.x c.args.up.now.items c.join.new.up.items c.args.todo.now.items (c.args.x, c.args.y) lower c.run_of-ways_x.ensures)

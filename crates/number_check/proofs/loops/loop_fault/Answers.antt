@@ -5,8 +5,13 @@ use Rattle.graph_base.specs.Preferences.{number_in}
 use Rattle.number_check.specs.FirstPair.{IsFirstOrNone}
 use Rattle.number_check.proofs.FirstPairs.{first_of_both, keeps_more}
 use Rattle.number_check.proofs.Looping.{keeps_all}
+use Rattle.number_check.proofs.OneNumber.{keeps_with_one_number}
 use Rattle.number_check.proofs.loops.loop_fault.Goals as goal
 use Rattle.number_check.proofs.loops.loop_fault.Goals.{then-index+in_ok-second+in_default, else-index}
+
+pub returns-then-branch : goal.returns-then-branch
+returns-then-branch c =
+    keeps_with_one_number c.args.net.now c.args.graph.now (number_in c.args.numbers.now) c.have_one_number.ensures.rules (c.in_ok-have_one_number.ensures.one c.if-branch.true)
 
 pub returns-in-Some : goal.returns-in-Some
 returns-in-Some c =

@@ -1,4 +1,4 @@
-use Rattle.std.proofs.Common.{◌||◌, ◌<◌, [], IsTrue, ◌∙◌, ap, subst, inl, inr, length, get_or, length-set}
+use Rattle.std.proofs.Common.{◌<◌, [], IsTrue, ◌∙◌, ap, sym, subst, inl, inr, length, get_or, length-set}
 use Rattle.std.proofs.lemmas.List.{get_or_read}
 use Rattle.reach_prune.specs.Searches.{is_marked}
 use Rattle.number_check.specs.Offers.{is_offered}
@@ -6,7 +6,7 @@ use Rattle.number_check.specs.Runs.{IsMatching}
 use Rattle.number_check.specs.declared.runs.Numbered.{Numbered}
 use Rattle.number_check.proofs.Matching.{marked_cases, matching_entry}
 use Rattle.number_check.proofs.passing.mark_matching.Goals as goal
-use Rattle.number_check.proofs.passing.mark_matching.Goals.{then-is_as_low, else-is_as_low}
+use Rattle.number_check.proofs.passing.mark_matching.Goals.{then-branch, else-branch}
 
 pub loop-entry-preserved : goal.loop-entry-preserved
 loop-entry-preserved c =
@@ -15,21 +15,20 @@ loop-entry-preserved c =
     let node = (get_or c.args.run.now i none).node in
     let within : i < length c.args.run.now = c.loop-entry-test.true in
     let offers = c.as_slice.ensures ∙ get_or_read c.args.offers.now node _ (c.requires.nodes i none within) c.index-offers-entry.is [] in
-    elim c.if-is_as_low.branch [
-      | then-is_as_low w ↦
+    elim c.if-branch.branch [
+      | then-branch w ↦
           record {
             bound = c.in_ok-count.ensures.count;
             taken = c.in_ok-count.ensures.taken;
             size = ap (λ v. length v.items) w.marks-is ∙ length-set _ _ _ ∙ c.loop-entry.invariant.size;
             marks = λ m h. elim (marked_cases c.loop-entry.marks.items node m (subst (λ v. IsTrue (is_marked v.items m)) w.marks-is h)) [
               | inl e ↦ inr (subst (IsMatching c.args.offers.now c.args.run.now) e
-                  (matching_entry c.args.offers.now c.args.run.now i c.in_ok-count.count none c.take_in_upto.new.owed.least.items c.take_in.new.self.least.items within c.in_ok-count.ensures.taken c.in_ok-count.ensures.all
-                  (λ at cost. c.in_ok-take_in.ensures at cost ∙ ap (λ b. b || is_offered c.as_slice.result.now at cost) (c.clear.ensures at cost) ∙ ap (λ l. is_offered l at cost) offers)
-                  (c.is_as_low.ensures.0 w.if-is_as_low.true)))
+                  (matching_entry c.args.offers.now c.args.run.now i c.in_ok-count.count none c.take_in_upto.new.owed.least.items within c.in_ok-count.ensures.taken c.in_ok-count.ensures.all
+                  (λ at cost low. ap (λ l. is_offered l at cost) (sym offers) ∙ c.in_ok-are_enough.ensures w.if-branch.true at cost low)))
               | inr before ↦ c.loop-entry.invariant.marks m before
             ];
           }
-      | else-is_as_low w ↦
+      | else-branch w ↦
           record {
             bound = c.in_ok-count.ensures.count;
             taken = c.in_ok-count.ensures.taken;

@@ -12,13 +12,13 @@ pub returns : goal.returns
 returns c =
     let g = c.args.graph.now in
     let size = c.in_ok-marks.ensures.size in
-    let marks = c.deref.ensures.value in
+    let marks = c.deref-2.ensures.value in
     let starts = c.starts.ensures.starts in
-    let len : length c.deref.result.now ≡ length g.nodes = ap length marks ∙ size in (
+    let len : length c.deref-2.result.now ≡ length g.nodes = ap length marks ∙ size in (
       λ h n within.
-          let from = (c.in_ok-marks.ensures.marks n within).0 (ap (λ ms. is_marked ms n) (sym marks) ∙ c.are_marked.ensures.0 h n (omega (arith, len, within))) in
+          let from = (c.in_ok-marks.ensures.marks n within).0 (ap (λ ms. is_marked ms n) (sym marks) ∙ c.are_marked-2.ensures.0 h n (omega (arith, len, within))) in
           (from.0, ap (λ xs. is_among xs from.0) (sym starts) ∙ from.1, from.2),
-      λ all. c.are_marked.ensures.1 (λ n lt.
+      λ all. c.are_marked-2.ensures.1 (λ n lt.
           let within : n < length g.nodes = omega (arith, len, lt) in
           let from = all n within in
           ap (λ ms. is_marked ms n) marks ∙ (c.in_ok-marks.ensures.marks n within).1 (from.0, ap (λ xs. is_among xs from.0) starts ∙ from.1, from.2)),
