@@ -56,23 +56,6 @@ texts-prefixes (p ∷ ps) = ap (λ ds. prefix_data p ∷ ds) (texts-prefixes ps)
 pub and_then : (old here new piece others : List ℕ) → here ≡ old ++ piece → new ≡ here ++ others → new ≡ old ++ (piece ++ others)
 and_then old here new piece others first rest = rest ∙ ap (λ t. t ++ others) first ∙ append_assoc old piece others
 
--- pieces that are written one after another, each with the text that it leaves
-abbrev pub AreWritten : List ℕ → List (List ℕ × List ℕ) → Type 0
-AreWritten old [] = Unit {0}
-AreWritten old (p ∷ ps) = (p.1 ≡ old ++ p.0) × AreWritten p.1 ps
-
-abbrev pub text_after : List ℕ → List (List ℕ × List ℕ) → List ℕ
-text_after old [] = old
-text_after old (p ∷ ps) = text_after p.1 ps
-
-abbrev pub pieces : List (List ℕ × List ℕ) → List ℕ
-pieces [] = []
-pieces (p ∷ ps) = p.0 ++ pieces ps
-
-pub written : (old : List ℕ) (ps : List (List ℕ × List ℕ)) → AreWritten old ps → text_after old ps ≡ old ++ pieces ps
-written old [] h = sym (append-nil old)
-written old (p ∷ ps) h = written p.1 ps h.1 ∙ ap (λ t. t ++ pieces ps) h.0 ∙ append_assoc old p.0 (pieces ps)
-
 -- the pieces of a case
 pub case_as : (c : PlainCaseEvidence) (external : Bool) (nodes : List Node) (numbers : List ℕ) (tags : List Tag) (origins : List ℕ) (prefixes : List PlainPrefix) (starts : List ℕ) (statement : ℕ) (steps : List (ℕ × ℕ))
     → external ≡ c.case.external → nodes ≡ c.graph.nodes → numbers ≡ c.numbers → tags ≡ c.tags → origins ≡ members c.case.origins → prefixes ≡ c.case.prefixes → starts ≡ c.graph.starts → statement ≡ c.case.statement → steps ≡ c.graph.steps

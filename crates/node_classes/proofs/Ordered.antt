@@ -5,8 +5,8 @@ use Rattle.std.specs.List.{IsDistinct, find}
 use Rattle.std.specs.List.Sorted.{IsPermutation, IsSorted}
 use Rattle.std.specs.Cmp.{IsTotalOrder}
 use Rattle.std.specs.Ordering.{nat_cmp, ordering_then, is_lt}
-use Rattle.std.specs.declared.cmp.Ordering.TheVariants.{Less, Equal}
-use Rattle.std.proofs.lemmas.Bool.{and_from, and_parts, cases_lt, lt-ltb, le-ltb, true≢false}
+use Rattle.std.specs.declared.cmp.Ordering.TheVariants.{Equal}
+use Rattle.std.proofs.lemmas.Bool.{and_from, and_parts, cases_lt, le-ltb, true≢false}
 use Rattle.std.proofs.lemmas.Cmp.{nat_cmp_total, on_total, then_total}
 use Rattle.std.proofs.lemmas.List.Sorted.{IsPermutation-map, ranks_by, sorted_far}
 use Rattle.std.proofs.lemmas.Map.Keys.{IsDistinct-IsPermutation}
@@ -16,6 +16,7 @@ use Rattle.list_laws.proofs.Keys.{place_by_key}
 use Rattle.list_laws.proofs.Members.{AllByRecursion-IsIn, AllByRecursion-from_IsIn}
 use Rattle.list_laws.proofs.Numbers.{eqb_comm}
 use Rattle.list_laws.proofs.Options.{option_map_parts}
+use Rattle.list_laws.proofs.Orders.{nat_cmp-lesser}
 use Rattle.list_laws.proofs.Tests.{find_from, find_parts}
 use Rattle.node_classes.specs.declared.way.Way.{Way}
 use Rattle.node_classes.specs.Ways.{Ascend, IsAbove, next, same_pair, stand, way_order}
@@ -26,9 +27,6 @@ way_total : IsTotalOrder way_order
 way_total =
     then_total (on_total (λ (w : Way). w.from) nat_cmp_total) (then_total (on_total (λ (w : Way). w.at) nat_cmp_total) (on_total (λ (w : Way). w.to) nat_cmp_total))
 
-nat_cmp-less : (x y : ℕ) → x < y → nat_cmp x y ≡ Less
-nat_cmp-less x y lt = rw (lt-ltb x y lt) refl
-
 nat_cmp-same : (x y : ℕ) → x ≡ y → nat_cmp x y ≡ Equal
 nat_cmp-same x y e = rw (le-ltb x y (omega (arith, e)), eq-eqb x y e) refl
 
@@ -36,7 +34,7 @@ nat_cmp-same x y e = rw (le-ltb x y (omega (arith, e)), eq-eqb x y e) refl
 above : (v w : Way) → is_lt (way_order w v) ≡ false → (same_pair (stand v) (stand w) ≡ true → ⊥) → IsAbove v w
 above v w up apart = (
   elim (cases_lt w.from v.from) [
-    | inl lt ↦ absurd (true≢false (ap (λ o. is_lt (ordering_then o (ordering_then (nat_cmp w.at v.at) (nat_cmp w.to v.to)))) (sym (nat_cmp-less w.from v.from lt)) ∙ up))
+    | inl lt ↦ absurd (true≢false (ap (λ o. is_lt (ordering_then o (ordering_then (nat_cmp w.at v.at) (nat_cmp w.to v.to)))) (sym (nat_cmp-lesser w.from v.from lt)) ∙ up))
     | inr le ↦ le
   ],
   λ same. elim (cases_lt v.at w.at) [
@@ -44,7 +42,7 @@ above v w up apart = (
     | inr le ↦ elim (cases_lt w.at v.at) [
       | inl lt ↦
           let first = nat_cmp-same w.from v.from (sym same) in
-          let second = nat_cmp-less w.at v.at lt in
+          let second = nat_cmp-lesser w.at v.at lt in
           absurd (true≢false (ap is_lt (λ i. ordering_then (sym first i) (ordering_then (sym second i) (nat_cmp w.to v.to))) ∙ up))
       | inr also ↦
           let at : v.at ≡ w.at = omega (arith, le, also) in

@@ -12,7 +12,8 @@ use Rattle.path_words.specs.declared.case.Case.{Case}
 use Rattle.graph_base.specs.Graphs.{IsGraph, PlainGraph}
 use Rattle.evidence_text.specs.Text.{members, nodes_data, step_data}
 use Rattle.evidence_text.specs.Writable.{HasShortRank, IsShort, IsShortTag}
-use Rattle.evidence_text.proofs.Items.{case_as, if_done, on_ok, written}
+use Rattle.list_laws.proofs.Pieces.{written}
+use Rattle.evidence_text.proofs.Items.{case_as, if_done, on_ok}
 use Rattle.evidence_text.proofs.print.push_case.Goals as goal
 
 pub returns-clause-text : goal.returns-clause-text

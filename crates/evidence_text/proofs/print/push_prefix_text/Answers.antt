@@ -1,7 +1,8 @@
 use Rattle.std.proofs.Common.{◌++◌, ◌∷◌, [], ◌∙◌, ap}
 use Rattle.std.specs.Prelude.{codes}
 use Rattle.text_words.specs.Texts.{prefix_text}
-use Rattle.evidence_text.proofs.Items.{if_done, written}
+use Rattle.list_laws.proofs.Pieces.{written}
+use Rattle.evidence_text.proofs.Items.{if_done}
 use Rattle.evidence_text.proofs.PrefixLetters.{quoted_prefix}
 use Rattle.evidence_text.proofs.print.push_prefix_text.Goals as goal
 
