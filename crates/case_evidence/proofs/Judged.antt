@@ -1,5 +1,5 @@
 -- What numbers on the graph of a case say of the case.
-use Rattle.std.proofs.Common.{◌≡◌, ℕ, zero, suc, ◌<◌, Bool, true, not, List, [], ◌∷◌, length, inl, inr, refl, sym, subst, ◌∙◌}
+use Rattle.std.proofs.Common.{◌≡◌, ℕ, ◌<◌, Bool, true, not, List, [], length, inl, inr, refl, sym, ◌∙◌}
 use Rattle.std.specs.Prelude.{◌↔◌}
 use Rattle.std.proofs.lemmas.Bool.{and_parts, not-true, true≢false}
 use Rattle.net_base.specs.Network.{PlainNet}
@@ -32,12 +32,6 @@ use Rattle.graph_base.specs.Preferences.{number_in}
 use Rattle.case_evidence.specs.Accepted.{HasNoNumbers, IsAccepted, IsCaseCause, IsGivenGraph, IsNumbered}
 use Rattle.graph_base.specs.Ranked.{IsRankedRouter}
 
--- a number is read from the list one way or the other
-pub number_read : (numbers : List ℕ) (n : ℕ) → found.number_in numbers n ≡ number_in numbers n
-number_read [] n = refl
-number_read (x ∷ xs) zero = refl
-number_read (x ∷ xs) (suc n) = number_read xs n
-
 -- a pair that is left hasn't gone
 gone_or_left : (v : View) (reach : ℕ → ℕ → Bool) (rounds m n : ℕ) → left_after v reach rounds m n ≡ true → gone_after v reach rounds m n ≡ true → ⊥
 gone_or_left v reach rounds m n kept gone = true≢false (sym gone ∙ not-true _ (and_parts (is_pair v m n) (not (gone_after v reach rounds m n)) kept).1)
@@ -63,7 +57,7 @@ module _ (net : PlainNet) (s : PlainStatement) (c : Case) (g : PlainGraph) (grap
 
   module _ (r : PlainRelation) (is : IsRelationOf g r) (ranked : (l : ℕ) → (holds r.claimed l ≡ true) ↔ IsRankedRouter net g l) where
     -- where it is, the numbers are those of the case
-    pub are_numbers : (numbers : List ℕ) → HasEach r → length numbers ≡ length g.nodes → ((n : ℕ) → n < length g.nodes → found.number_in numbers n ≡ found.inferred net g r n) → IsNumbered net s c g numbers
+    pub are_numbers : (numbers : List ℕ) → HasEach r → length numbers ≡ length g.nodes → ((n : ℕ) → n < length g.nodes → number_in numbers n ≡ found.inferred net g r n) → IsNumbered net s c g numbers
     are_numbers numbers each size counts = record {
       claimed = r.claimed;
       claims = claims r.claimed ranked;
@@ -71,20 +65,20 @@ module _ (net : PlainNet) (s : PlainStatement) (c : Case) (g : PlainGraph) (grap
       greatest = is.greatest;
       total = total_where_each g r is each;
       size = size;
-      counts = λ n lt. sym (number_read numbers n) ∙ counts n lt;
+      counts = counts;
     }
 
-    pub numbers_meet : (numbers : List ℕ) → MeetsRules net (λ l. holds r.claimed l ≡ true) c.external g (found.number_in numbers) → MeetsRules net (IsClaimed net s c) c.external g (number_in numbers)
+    pub numbers_meet : (numbers : List ℕ) → MeetsRules net (λ l. holds r.claimed l ≡ true) c.external g (number_in numbers) → MeetsRules net (IsClaimed net s c) c.external g (number_in numbers)
     numbers_meet numbers rules =
         rules_claimed net (λ l. holds r.claimed l ≡ true) (IsClaimed net s c) c.external g (number_in numbers) (λ l h. (claims r.claimed ranked l).1 h)
-        (subst (MeetsRules net (λ l. holds r.claimed l ≡ true) c.external g) (λ i n. number_read numbers n i) rules)
+        rules
 
 -- ---- of a graph that is given
 
 module _ (net : PlainNet) (room : ℕ) (s : PlainStatement) (c : Case) (given : AcceptedCase) (is : IsGivenGraph net room s c given.graph given.used) (r : PlainRelation) (relation : IsRelationOf given.graph r)
     (ranked : (l : ℕ) → (holds r.claimed l ≡ true) ↔ IsRankedRouter net given.graph l) where
-  pub is_accepted : HasEach r → length given.prefs.of ≡ length given.graph.nodes → ((n : ℕ) → n < length given.graph.nodes → found.number_in given.prefs.of n ≡ found.inferred net given.graph r n)
-      → ((external : Bool) → MeetsRules net (λ l. holds r.claimed l ≡ true) external given.graph (found.number_in given.prefs.of)) → IsAccepted net room s c given
+  pub is_accepted : HasEach r → length given.prefs.of ≡ length given.graph.nodes → ((n : ℕ) → n < length given.graph.nodes → number_in given.prefs.of n ≡ found.inferred net given.graph r n)
+      → ((external : Bool) → MeetsRules net (λ l. holds r.claimed l ≡ true) external given.graph (number_in given.prefs.of)) → IsAccepted net room s c given
   is_accepted each size counts rules =
       let fits = given_fits net room s c given.graph given.used is [] [] in
       record {

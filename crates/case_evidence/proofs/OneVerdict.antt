@@ -3,6 +3,7 @@ use Rattle.std.proofs.Common.{◌≡◌, ℕ, ◌<◌, List, [], length, Bool, t
 use Rattle.std.specs.Prelude.{◌↔◌, ◌⊎◌}
 use Rattle.std.specs.Cmp.{both_ways}
 use Rattle.std.proofs.lemmas.Grind.{same_number_lists}
+use Rattle.std.proofs.lemmas.Option.{unwrap_or-slice_get}
 use Rattle.net_base.specs.Network.{PlainNet}
 use Rattle.net_base.specs.Sets.{holds}
 use Rattle.path_words.specs.declared.case.Case.{Case}
@@ -28,7 +29,6 @@ use Rattle.regret_law.specs.Passes.{IsClaimed}
 use Rattle.case_core.proofs.OneCause as graphs
 use Rattle.case_evidence.specs.declared.accepted.AcceptedCase.{AcceptedCase}
 use Rattle.case_evidence.proofs.Joined.{given_fits, one_given}
-use Rattle.case_evidence.proofs.Judged.{number_read}
 use Rattle.graph_base.specs.Preferences.{number_in}
 use Rattle.case_evidence.specs.Accepted.{HasNoNumbers, IsAccepted, IsCaseCause, IsGivenGraph, IsNumbered, IsRefuted}
 
@@ -45,11 +45,11 @@ one_list net s c g xs ys a b =
     same_number_lists xs ys (a.size ∙ sym b.size)
     (λ n below.
     let inside : n < length g.nodes = omega (arith, below, a.size) in
-    number_read xs n
+    sym (unwrap_or-slice_get xs n 0)
     ∙ a.counts n inside
     ∙ ap (λ (r : ℕ → ℕ → Bool). at_routers net g (number_of (length g.nodes) r) n) (λ i m k. related m k i)
     ∙ sym (b.counts n inside)
-    ∙ sym (number_read ys n))
+    ∙ unwrap_or-slice_get ys n 0)
 
 module _ (net : PlainNet) (room : ℕ) (s : PlainStatement) (c : Case) where
   pub one_accepted : (given other : AcceptedCase) → IsAccepted net room s c given → IsAccepted net room s c other → given ≡ other

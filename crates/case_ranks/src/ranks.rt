@@ -13,8 +13,8 @@ use crate::marks::mark_ranks;
 use crate::refusal::{LintRefusal, lint_refusal};
 use bit_rows::Rows;
 use case_core::{CaseGraph, StatementAutomata, graph_within_limits};
-use net_base::{Net, known_net};
 use net_base::limits::{ALTERNATIVES, STEPS};
+use net_base::{Net, known_net};
 use path_words::{CaseList, Policy};
 use std::alloc::Global;
 

@@ -42,8 +42,7 @@ use Rattle.config_reader.specs.Faults.{Gives}
 use Rattle.map_reader.specs.MapsReading.{opening, on_last, with_list, in_blocks, with_entry, is_out, entries_of, is_number_of, after_map}
 use Rattle.map_reader.specs.MapsRead.{with_line, with_lines, finished, behind_heading, in_lines, spelled}
 use Rattle.map_reader.proofs.Bounds.{weight, weight_below, numbered_are}
-use Rattle.map_reader.proofs.MapSteps.{made, block_ok, entry_ok}
-use Rattle.map_reader.proofs.MapSoFar.{on_last-push}
+use Rattle.map_reader.proofs.MapSteps.{made, block_ok, entry_ok, on_last_push}
 use Rattle.map_reader.proofs.Numbering.{Counts, none, step, number_line, number_from, routers_numbered, counts, counts-after}
 
 -- ---- the classes that stand for lists
@@ -102,7 +101,7 @@ list_more done x cs l =
     let long : length done + 1 ≡ length (done ++ x ∷ []) = sym (length-append done (x ∷ [])) in
     let on : (length done + 1 == length (done ++ x ∷ [])) ≡ true = eq-eqb (length done + 1) (length (done ++ x ∷ [])) long in
     let some : nat_lt 0 (length done + 1) ≡ true = lt-ltb 0 (length done + 1) (omega arith) in
-    rw (on, some) (ok_map (listed (on_last (done ++ x ∷ []) l) cs) (listed (done ++ (x ++ l ∷ []) ∷ []) cs) (ap (λ (ls : List (List ListLine)). listed ls cs) (on_last-push done x l)))
+    rw (on, some) (ok_map (listed (on_last (done ++ x ∷ []) l) cs) (listed (done ++ (x ++ l ∷ []) ∷ []) cs) (ap (λ (ls : List (List ListLine)). listed ls cs) (on_last_push done x l)))
 
 run_list : (done : List (List ListLine)) (x ls : List ListLine) (cs : List (List PlainPattern))
     → run_map (listed (done ++ x ∷ []) cs) (lines_of_list (length done + 1) ls) ≡ Ok (listed (done ++ (x ++ ls) ∷ []) cs)
