@@ -106,3 +106,16 @@ pub const EIGHT: &[u8] = br#"{"routers":[{"name":"R1","asn":64512,"id":"10.255.0
 {"name":"R8","asn":64519,"id":"10.255.0.8"}],
 "peers":[],
 "links":[]}"#;
+
+/// Numbers of four octets: a router with a private one, and a peer with one.
+pub const WIDE: &[u8] = br#"{"routers":[{"name":"A","asn":4200000000,"id":"10.255.0.1"},
+{"name":"B","asn":4294967294,"id":"10.255.0.2"}],
+"peers":[{"name":"P","asn":65536,"id":"192.0.2.1"}],
+"links":[["A","B"],["B","P"]]}"#;
+
+/// Routers A and B at C, and a peer P1 at C.
+pub const PEER_BETWEEN: &[u8] = br#"{"routers":[{"name":"A","asn":64512,"id":"10.255.0.1"},
+{"name":"B","asn":64513,"id":"10.255.0.2"},
+{"name":"C","asn":64514,"id":"10.255.0.3"}],
+"peers":[{"name":"P1","asn":1001,"id":"192.0.2.1"}],
+"links":[["A","C"],["B","C"],["C","P1"]]}"#;

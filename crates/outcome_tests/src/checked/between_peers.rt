@@ -3,7 +3,7 @@ use super::rows::{NO_CONFIG, Row, Sample};
 use evidence_rules::CheckRule::{
     Cases, ConfigDiffers, PrefListener, PrefRank, PrefStep, Ranks, Tags, Walks,
 };
-use samples::{RING_WITH_A_PEER, TWO_EXITS, TWO_EXITS_CONFIG};
+use samples::{EXCHANGED_EVIDENCE, RING_WITH_A_PEER, TWO_EXITS, TWO_EXITS_CONFIG};
 
 const EXITS_EVIDENCE: &str = r#"{"cases":[{"external":true,"nodes":[[2,0,0,0,0,0],[3,0,0,0,0,0],
 [0,0,1,101,64512,1],[1,0,2,100,64513,1],[1,0,1,101,64513,2],[0,0,2,100,64512,2]],"origins":[2,3],"prefixes":[],
@@ -55,13 +55,10 @@ const RANK_AT_AN_ORIGIN: &str = r#"{"cases":[{"external":true,"nodes":[[2,0,0,0,
 "starts":[0,1],"statement":1,"steps":[[0,2],[1,3],[2,4],[3,5],[4,2],[5,3]]}],"version":1}"#;
 
 // One node of R1 stands for both exits.
-const JOINED_ACROSS_RANKS: &str = r#"{"cases":[{"external":true,"nodes":[[2,0,0,0,0,0],[3,0,0,0,0,0],
+const JOINED_ACROSS_RANKS: &str =
+    r#"{"cases":[{"external":true,"nodes":[[2,0,0,0,0,0],[3,0,0,0,0,0],
 [0,0,1,101,64512,1],[1,0,2,100,64513,1],[1,0,1,101,64513,2]],"origins":[2,3],"prefixes":[],
 "starts":[0,1],"statement":1,"steps":[[0,2],[1,3],[2,4],[3,2],[4,2]]}],"version":1}"#;
-
-const EXCHANGED: &str = r#"{"cases":[{"external":true,"nodes":[[2,0,0,0,0,0],[3,0,0,0,0,0],
-[0,0,1,100,64512,1],[1,0,2,100,64513,1],[1,0,1,101,64513,2],[0,0,2,101,64512,2]],"origins":[2,3],"prefixes":[],
-"starts":[0,1],"statement":1,"steps":[[0,2],[1,3],[2,4],[3,5],[4,2],[5,3]]}],"version":1}"#;
 
 const TAG_TWICE: &str = r#"{"cases":[{"external":true,"nodes":[[2,0,0,0,0,0],[3,0,0,0,0,0],
 [0,0,1,101,64512,1],[1,0,2,100,64513,1],[1,0,1,101,64513,1],[0,0,2,100,64512,2]],"origins":[2,3],"prefixes":[],
@@ -166,7 +163,7 @@ const EXITS_ROWS: [Row; 16] = [
     Row {
         name: "numbers exchanged",
         config: NO_CONFIG,
-        evidence: EXCHANGED,
+        evidence: EXCHANGED_EVIDENCE,
         found: Some((PrefRank, 1, 5, 2, 0)),
     },
     Row {

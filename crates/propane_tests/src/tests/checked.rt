@@ -2,7 +2,9 @@
 use super::words_of;
 use outside::{MemInputs, MemSink, NoMemory};
 use propane_run::{Status, run};
-use samples::{TWO_EXITS, TWO_ROUTERS, TWO_ROUTERS_CONFIG, TWO_ROUTERS_EVIDENCE};
+use samples::{
+    EXCHANGED_EVIDENCE, TWO_EXITS, TWO_ROUTERS, TWO_ROUTERS_CONFIG, TWO_ROUTERS_EVIDENCE,
+};
 use std::alloc::Global;
 use std::test::Fail;
 
@@ -57,9 +59,6 @@ import 1 set 64513:0:1 pref 100
 end
 ";
 
-const EXCHANGED: &str =
-    "{\"cases\":[{\"external\":true,\"nodes\":[[2,0,0,0,0,0],[3,0,0,0,0,0],[0,0,1,100,64512,1],[1,0,2,100,64513,1],[1,0,1,101,64513,2],[0,0,2,101,64512,2]],\"origins\":[2,3],\"prefixes\":[],\"starts\":[0,1],\"statement\":1,\"steps\":[[0,2],[1,3],[2,4],[3,5],[4,2],[5,3]]}],\"version\":1}\n";
-
 // A network and a policy, a configuration and its evidence, the status, and what `out` and `err` took.
 type Row = (
     &'static str,
@@ -80,7 +79,7 @@ const ROWS: [Row; 8] = [
     (
         "exchanged numbers",
         (TWO_EXITS, RANKED_EXITS),
-        (EXCHANGED_CONFIG, EXCHANGED),
+        (EXCHANGED_CONFIG, EXCHANGED_EVIDENCE),
         Status::CheckFails,
         ("fails 5 pref-rank case 1 first 5 second 2 line 0\n", ""),
     ),

@@ -4,7 +4,7 @@ use outside::NoMemory;
 use propane_run::Status;
 use samples::{
     ENTERED_CONFIG, LINE, LINE_CONFIG, RING, RING_CONFIG, TWO_EXITS, TWO_EXITS_CONFIG, TWO_ROUTERS,
-    TWO_ROUTERS_CONFIG, TWO_SPINES, TWO_SPINES_CONFIG, TWO_WAYS, TWO_WAYS_CONFIG,
+    TWO_ROUTERS_CONFIG, TWO_SPINES, TWO_SPINES_CONFIG, TWO_WAYS, TWO_WAYS_CONFIG, WIDE,
 };
 use std::alloc::Global;
 use std::test::Fail;
@@ -18,12 +18,6 @@ router B asn 64513 id 10.255.0.2
 session A asn 64512
 end
 ";
-
-// Numbers of four octets: a router with a private one, and a peer with one.
-const WIDE: &[u8] = br#"{"routers":[{"name":"A","asn":4200000000,"id":"10.255.0.1"},
-{"name":"B","asn":4294967294,"id":"10.255.0.2"}],
-"peers":[{"name":"P","asn":65536,"id":"192.0.2.1"}],
-"links":[["A","B"],["B","P"]]}"#;
 
 const WIDE_CONFIG: &str = "propane-config 2
 class 1 10.0.1.0/24

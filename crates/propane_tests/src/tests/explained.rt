@@ -2,16 +2,9 @@
 use super::ends;
 use outside::NoMemory;
 use propane_run::Status;
-use samples::{CHAIN, TRIANGLE, TWO_ROUTERS, TWO_SPINES, WAYPOINT_RING};
+use samples::{CHAIN, PEER_BETWEEN, TRIANGLE, TWO_ROUTERS, TWO_SPINES, WAYPOINT_RING};
 use std::alloc::Global;
 use std::test::Fail;
-
-// Routers A and B at C, and a peer P1 at C.
-const PEER_BETWEEN: &[u8] = br#"{"routers":[{"name":"A","asn":64512,"id":"10.255.0.1"},
-{"name":"B","asn":64513,"id":"10.255.0.2"},
-{"name":"C","asn":64514,"id":"10.255.0.3"}],
-"peers":[{"name":"P1","asn":1001,"id":"192.0.2.1"}],
-"links":[["A","C"],["B","C"],["C","P1"]]}"#;
 
 // A network with its policy and its explanation.
 type Row = (&'static str, &'static [u8], &'static str, &'static str);
