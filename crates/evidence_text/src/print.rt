@@ -19,6 +19,18 @@ use outside::NoMemory;
 use std::alloc::Global;
 use text_words::{push_bytes, push_number, push_prefix};
 
+/// As many bytes as most cases have beside their prefixes, nodes and steps.
+const CASE_BYTES: usize = 128;
+
+/// As many bytes as most prefixes have.
+const PREFIX_BYTES: usize = 16;
+
+/// As many bytes as most nodes have.
+const NODE_BYTES: usize = 24;
+
+/// As many bytes as most steps have.
+const STEP_BYTES: usize = 12;
+
 // Adds a comma before every item but the first one.
 fn push_comma(text: &mut Vec<u8>, place: usize) -> Result<(), NoMemory>
     ensures { OnOk result (text.new.items ≡ text.old.items ++ comma_if (nat_lt 0 place)) }
@@ -191,15 +203,35 @@ fn push_cases(alloc: Global, text: &mut Vec<u8>, cases: &[CaseEvidence]) -> Resu
     push_bytes(text, b"]")
 }
 
+// Room for the text of a case.
+fn room_for_case(case: &CaseEvidence) -> usize {
+    let prefixes = case.case().prefixes.as_slice().len();
+    let graph = case.graph();
+    CASE_BYTES
+        .saturating_add(prefixes.saturating_mul(PREFIX_BYTES))
+        .saturating_add(graph.nodes().len().saturating_mul(NODE_BYTES))
+        .saturating_add(graph.steps().len().saturating_mul(STEP_BYTES))
+}
+
+// Room for the text of cases, which is asked for once. Where it falls short, the text grows.
+fn room_for(cases: &[CaseEvidence]) -> usize {
+    let mut room = 0usize;
+    for case in cases {
+        room = room.saturating_add(room_for_case(case));
+    }
+    room
+}
+
 /// The text of evidence: one JSON object without spaces, its keys in the order of their bytes, and a line feed. It spells
 /// this evidence.
 pub fn print_evidence(alloc: Global, evidence: &Evidence) -> Result<Vec<u8>, NoMemory>
     ensures text { IfOk result (λ v. v.items ≡ evidence_text evidence.now.cases) }
     ensures read { IfOk result (λ v. spelled v.items ≡ Ok evidence.now.cases) }
 {
-    let mut text = Vec::new(alloc);
+    let cases = evidence.cases.as_slice();
+    let mut text = Vec::with_capacity(alloc, room_for(cases))?;
     push_bytes(&mut text, b"{\"cases\":")?;
-    push_cases(alloc, &mut text, evidence.cases.as_slice())?;
+    push_cases(alloc, &mut text, cases)?;
     push_bytes(&mut text, b",\"version\":1}\n")?;
     Ok(text)
 }

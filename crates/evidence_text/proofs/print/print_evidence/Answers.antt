@@ -14,10 +14,10 @@ use Rattle.evidence_text.proofs.print.print_evidence.Goals as goal
 pub returns : goal.returns
 returns c =
     let text = whole_pushed c.args.evidence.now.cases c.push_bytes.new.text.items c.push_cases.new.text.items c.push_bytes-2.new.text.items
-    (c.in_ok-push_bytes.ensures ∙ ap (λ (t : List ℕ). t ++ codes "{\"cases\":") c.new-text.ensures.items)
-    (c.in_ok-push_cases.ensures.text ∙ ap (λ (cs : List PlainCaseEvidence). c.push_bytes.new.text.items ++ compact_text (array_of (map case_data cs))) c.as_slice.ensures)
+    (c.in_ok-push_bytes.ensures ∙ ap (λ (t : List ℕ). t ++ codes "{\"cases\":") c.in_ok-text.ensures.items)
+    (c.in_ok-push_cases.ensures.text ∙ ap (λ (cs : List PlainCaseEvidence). c.push_bytes.new.text.items ++ compact_text (array_of (map case_data cs))) c.as_slice-cases.ensures)
     c.in_ok-push_bytes-2.ensures in
     record {
       text = text;
-      read = ap spelled text ∙ read_again c.args.evidence.now.cases (subst (AllByRecursion IsWritable) c.as_slice.ensures c.in_ok-push_cases.ensures.rules);
+      read = ap spelled text ∙ read_again c.args.evidence.now.cases (subst (AllByRecursion IsWritable) c.as_slice-cases.ensures c.in_ok-push_cases.ensures.rules);
     }

@@ -8,8 +8,8 @@ use Rattle.route_map_text.proofs.print.print_maps.Goals as goal
 
 pub returns-clause-text : goal.returns-clause-text
 returns-clause-text c =
-    maps_made c.args.maps.now c.new-text.result.items c.push_bytes.new.text.items c.push_lists.new.text.items c.push_routers.new.text.items
-    c.new-text.ensures.items
+    maps_made c.args.maps.now c.in_ok-text.text.items c.push_bytes.new.text.items c.push_lists.new.text.items c.push_routers.new.text.items
+    c.in_ok-text.ensures.items
     c.in_ok-push_bytes.ensures
     (rw c.lists.ensures.lists at c.in_ok-push_lists.ensures.text)
     (rw c.routers.ensures.routers at c.in_ok-push_routers.ensures.text)
