@@ -1,6 +1,6 @@
 -- What stays of the automaton of a statement that was lent.
-use Rattle.std.proofs.Common.{◌≡◌, ℕ, Option, Some, None, Result, Ok, Err, ap, sym, subst, ◌∙◌}
-use Rattle.std.specs.Prelude.{IfOk, IfSome, slice_get}
+use Rattle.std.proofs.Common.{◌≡◌, ℕ, Option, Some, None, ap, sym, subst, ◌∙◌}
+use Rattle.std.specs.Prelude.{IfSome, slice_get}
 use Rattle.std.proofs.lemmas.Option.{same_Some}
 use Rattle.list_laws.proofs.Items.{slice_get_in_front}
 use Rattle.net_base.specs.Network.{PlainNet}
@@ -28,8 +28,7 @@ kept_fits net policy s number (Some kept) at fits = λ same. fits s (ap (stateme
 kept_fits net policy s number None at fits = tt
 
 -- and of no other statement with this number
-pub number_fits : {X E : Type 0} (r : Result X E) (kept : X → StatementAutomata) (net : PlainNet) (policy : PlainPolicy) (s : PlainStatement) (number : ℕ) → statement_at policy number ≡ Some s
-    → IfOk r (λ x. IsAutomatonOf net s (kept x).automata) → IfOk r (λ x. (kept x).statement ≡ number) → IfOk r (λ x. FitsNumber net policy (kept x))
-number_fits (Ok x) kept net policy s number at is same = λ t there.
-    subst (λ u. IsAutomatonOf net u (kept x).automata) (same_Some s t (sym at ∙ ap (statement_at policy) (sym same) ∙ there)) is
-number_fits (Err e) kept net policy s number at is same = tt
+pub number_fits : (net : PlainNet) (policy : PlainPolicy) (s : PlainStatement) (number : ℕ) (kept : StatementAutomata) → statement_at policy number ≡ Some s
+    → IsAutomatonOf net s kept.automata → kept.statement ≡ number → FitsNumber net policy kept
+number_fits net policy s number kept at is same = λ t there.
+    subst (λ u. IsAutomatonOf net u kept.automata) (same_Some s t (sym at ∙ ap (statement_at policy) (sym same) ∙ there)) is

@@ -6,3 +6,4 @@ pub mod Given
 pub mod Places
 pub mod OneCause
 pub mod LentAutomata
+pub mod KeptPlaces

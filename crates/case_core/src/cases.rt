@@ -7,12 +7,13 @@ ghost use Rattle.graph_base.specs.Graphs.{IsGraph, PlainGraph};
 ghost use Rattle.graph_base.specs.Walks.{IsEnteredFromBefore};
 ghost use Rattle.case_law.specs.Cases.{FitsOrigins, OfCase, OriginsAreRouters};
 ghost use Rattle.graph_law.specs.Limits.{IsBuiltWithin};
-ghost use Rattle.case_core.specs.Automata.{FitsNumber, FitsStatement, IsAutomatonOf};
+ghost use Rattle.case_core.specs.Automata.{AllFit, FitsStatement, IsAutomatonOf};
 ghost use Rattle.case_core.specs.Refusals.{FitsCase, IsCause, IsGraphOf, IsMade, IsPastLimit, ShowsWalks};
 ghost use Rattle.case_core.specs.Sources.{HavePaths, NoneMixed};
 
 use crate::automata::{StatementAutomata, automata_for};
 use crate::firsts::first_nodes;
+use crate::kept::KeptAutomata;
 use crate::refusal::CompileRefusal;
 use crate::sources::{Mixed, first_mixed, without_path};
 use graph_base::{Graph, walk_of};
@@ -158,8 +159,7 @@ fn graph_of(
 }
 
 /// The graph of the case with this number, from 1, whose sources are not judged, or which of the limits on alternatives, nodes and
-/// steps it passes. What is kept of an earlier case serves this one, where they have one statement, and what is given back serves
-/// the next one.
+/// steps it passes. The automaton that is kept for its statement serves this case, and then the later ones.
 pub fn graph_within_limits(
     alloc: Global,
     net: &Net,
@@ -167,24 +167,27 @@ pub fn graph_within_limits(
     cases: &CaseList,
     number: u32,
     room: u32,
-    kept: Option<StatementAutomata>,
-) -> Result<(CaseGraph, StatementAutomata), CompileRefusal>
+    kept: &mut KeptAutomata,
+) -> Result<CaseGraph, CompileRefusal>
     requires cases { cases.now.cases ≡ case_list net.now (policy_of policy.now) }
     requires from_one { 1 ≤ number }
     requires within { number ≤ length cases.now.cases }
-    requires kept { IfSome kept (FitsNumber net.now (policy_of policy.now)) }
-    ensures graph { IfOk result (λ given. OfCase net.now (policy_of policy.now) number (λ s c. IsGraphOf net.now room s c given.0)) }
-    ensures kept { IfOk result (λ given. FitsNumber net.now (policy_of policy.now) given.1) }
+    requires kept { AllFit net.now (policy_of policy.now) kept.old }
+    ensures graph { IfOk result (λ given. OfCase net.now (policy_of policy.now) number (λ s c. IsGraphOf net.now room s c given)) }
+    ensures kept { AllFit net.now (policy_of policy.now) kept.new }
     ensures limits { IfErr result IsPastLimit }
     ensures refused { IfErr result (λ e. OfCase net.now (policy_of policy.now) number (λ s c. IsCause net.now number room s c e)) }
 {
     let case = &cases.cases.as_slice()[number as usize - 1];
     let statement = &policy.statements()[case.statement as usize - 1];
-    trimmed_of(alloc, net, number, case, statement, kept, room)
+    let own = kept.take(case.statement);
+    let (given, next) = trimmed_of(alloc, net, number, case, statement, own, room)?;
+    kept.keep(next);
+    Ok(given)
 }
 
-/// The graph of the case with this number, from 1, or why the case is refused, as `case_graph` says. What is kept of an
-/// earlier case serves this one, where they have one statement, and what is given back serves the next one.
+/// The graph of the case with this number, from 1, or why the case is refused, as `case_graph` says. The automaton that is kept
+/// for its statement serves this case, and then the later ones.
 pub fn case_graph_over(
     alloc: Global,
     net: &Net,
@@ -192,23 +195,26 @@ pub fn case_graph_over(
     cases: &CaseList,
     number: u32,
     room: u32,
-    kept: Option<StatementAutomata>,
-) -> Result<(CaseGraph, StatementAutomata), CompileRefusal>
+    kept: &mut KeptAutomata,
+) -> Result<CaseGraph, CompileRefusal>
     requires cases { cases.now.cases ≡ case_list net.now (policy_of policy.now) }
     requires from_one { 1 ≤ number }
     requires within { number ≤ length cases.now.cases }
     requires routers { OriginsAreRouters net.now policy.now.origins }
-    requires kept { IfSome kept (FitsNumber net.now (policy_of policy.now)) }
-    ensures graph { IfOk result (λ given. OfCase net.now (policy_of policy.now) number (λ s c. IsGraphOf net.now room s c given.0)) }
-    ensures fits { IfOk result (λ given. OfCase net.now (policy_of policy.now) number (λ s c. FitsCase net.now s c given.0.graph)) }
+    requires kept { AllFit net.now (policy_of policy.now) kept.old }
+    ensures graph { IfOk result (λ given. OfCase net.now (policy_of policy.now) number (λ s c. IsGraphOf net.now room s c given)) }
+    ensures fits { IfOk result (λ given. OfCase net.now (policy_of policy.now) number (λ s c. FitsCase net.now s c given.graph)) }
     ensures paths { OnOk result (OfCase net.now (policy_of policy.now) number (HavePaths net.now)) }
     ensures unmixed { OnOk result (OfCase net.now (policy_of policy.now) number (NoneMixed net.now)) }
-    ensures kept { IfOk result (λ given. FitsNumber net.now (policy_of policy.now) given.1) }
+    ensures kept { AllFit net.now (policy_of policy.now) kept.new }
     ensures refused { IfErr result (λ e. OfCase net.now (policy_of policy.now) number (λ s c. IsCause net.now number room s c e)) }
 {
     let case = &cases.cases.as_slice()[number as usize - 1];
     let statement = &policy.statements()[case.statement as usize - 1];
-    graph_of(alloc, net, number, case, statement, kept, room)
+    let own = kept.take(case.statement);
+    let (given, next) = graph_of(alloc, net, number, case, statement, own, room)?;
+    kept.keep(next);
+    Ok(given)
 }
 
 /// The graph of the case with this number, from 1, with at most `room` steps before it is trimmed, or why
@@ -232,6 +238,6 @@ pub fn case_graph(
     ensures unmixed { OnOk result (OfCase net.now (policy_of policy.now) number (NoneMixed net.now)) }
     ensures refused { IfErr result (λ e. OfCase net.now (policy_of policy.now) number (λ s c. IsCause net.now number room s c e)) }
 {
-    let (given, _) = case_graph_over(alloc, net, policy, cases, number, room, None)?;
-    Ok(given)
+    let mut kept = KeptAutomata::new(alloc, policy)?;
+    case_graph_over(alloc, net, policy, cases, number, room, &mut kept)
 }

@@ -4,11 +4,12 @@
 mod automata;
 mod cases;
 mod firsts;
+mod kept;
 mod laws;
 mod refusal;
 mod sources;
 
-pub use automata::StatementAutomata;
 pub use cases::{CaseGraph, case_graph, case_graph_over, graph_within_limits};
+pub use kept::KeptAutomata;
 pub use laws::{given_cases_are_not_refused, refusals_exclude_one_another};
 pub use refusal::CompileRefusal;

@@ -1,14 +1,14 @@
 //! Cases that are accepted.
-ghost use Rattle.std.specs.Prelude.{◌≡◌, ◌≤◌, ℕ, IfErr, IfOk, IfSome, length};
+ghost use Rattle.std.specs.Prelude.{◌≡◌, ◌≤◌, ℕ, IfErr, IfOk, length};
 ghost use Rattle.path_words.specs.declared.case.Case.{Case};
 ghost use Rattle.path_words.specs.Cases.{case_list};
 ghost use Rattle.path_words.specs.Policies.{PlainStatement, policy_of};
 ghost use Rattle.graph_base.specs.Refuting.{HasSingleSteps};
 ghost use Rattle.case_law.specs.Cases.{OfCase, OriginsAreRouters};
-ghost use Rattle.case_core.specs.Automata.{FitsNumber};
+ghost use Rattle.case_core.specs.Automata.{AllFit};
 ghost use Rattle.case_evidence.specs.Accepted.{IsAccepted, IsCaseCause, IsGivenGraph};
 
-use case_core::{CaseGraph, CompileRefusal, StatementAutomata, case_graph_over};
+use case_core::{CaseGraph, CompileRefusal, KeptAutomata, case_graph_over};
 use graph_base::{Graph, Prefs, ranked_routers};
 use net_base::Net;
 use node_quotient::quotient;
@@ -56,8 +56,8 @@ fn numbered(
 
 /// The case with this number, from 1, with numbers for the nodes of its graph, or why the case is refused.
 /// The graph has at most `room` steps before it is trimmed. The refusals are tried in the order of
-/// `CompileRefusal`, and if memory is not refused the case is accepted exactly where none applies. What is
-/// kept of an earlier case serves this one, where they have one statement, and what is given back serves the next one.
+/// `CompileRefusal`, and if memory is not refused the case is accepted exactly where none applies. The automaton
+/// that is kept for its statement serves this case, and then the later ones.
 pub fn accepted_case(
     alloc: Global,
     net: &Net,
@@ -65,22 +65,22 @@ pub fn accepted_case(
     cases: &CaseList,
     number: u32,
     room: u32,
-    kept: Option<StatementAutomata>,
-) -> Result<(AcceptedCase, StatementAutomata), CompileRefusal>
+    kept: &mut KeptAutomata,
+) -> Result<AcceptedCase, CompileRefusal>
     requires cases { cases.now.cases ≡ case_list net.now (policy_of policy.now) }
     requires from_one { 1 ≤ number }
     requires within { number ≤ length cases.now.cases }
     requires routers { OriginsAreRouters net.now policy.now.origins }
-    requires kept { IfSome kept (FitsNumber net.now (policy_of policy.now)) }
-    ensures accepted { IfOk result (λ given. OfCase net.now (policy_of policy.now) number (λ s c. IsAccepted net.now room s c given.0)) }
+    requires kept { AllFit net.now (policy_of policy.now) kept.old }
+    ensures accepted { IfOk result (λ given. OfCase net.now (policy_of policy.now) number (λ s c. IsAccepted net.now room s c given)) }
     ensures refused { IfErr result (λ e. OfCase net.now (policy_of policy.now) number (λ s c. IsCaseCause net.now number room s c e)) }
-    ensures room { IfOk result (λ given. given.0.used ≤ room) }
-    ensures sized { IfOk result (λ given. length given.0.prefs.of ≡ length given.0.graph.nodes) }
-    ensures kept { IfOk result (λ given. FitsNumber net.now (policy_of policy.now) given.1) }
+    ensures room { IfOk result (λ given. given.used ≤ room) }
+    ensures sized { IfOk result (λ given. length given.prefs.of ≡ length given.graph.nodes) }
+    ensures kept { AllFit net.now (policy_of policy.now) kept.new }
 {
-    let (given, kept) = case_graph_over(alloc, net, policy, cases, number, room, kept)?;
+    let given = case_graph_over(alloc, net, policy, cases, number, room, kept)?;
     let graph = quotient(alloc, &given.graph)?;
     let used = given.used;
     let accepted = numbered(alloc, net, number, CaseGraph { graph, used })?;
-    Ok((accepted, kept))
+    Ok(accepted)
 }

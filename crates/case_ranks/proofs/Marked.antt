@@ -1,7 +1,6 @@
 -- The bits that are set are the ranks of permitted walks.
-use Rattle.std.proofs.Common.{◌≡◌, ℕ, zero, suc, ◌+◌, ◌<◌, ◌≤◌, Bool, true, false, List, length, Some, refl, sym, ap, subst, ◌∙◌, inl, inr, ⊎_elim, arith}
+use Rattle.std.proofs.Common.{◌≡◌, ℕ, zero, suc, ◌+◌, ◌<◌, ◌≤◌, true, false, length, Some, refl, sym, ap, subst, ◌∙◌, inl, inr, arith}
 use Rattle.std.specs.Prelude.{◌↔◌, ◌&&◌, ◌||◌, ◌==◌, ◌⊎◌, IsTrue, option_and_then, slice_get}
-use Rattle.std.specs.Option.{option_map_or}
 use Rattle.std.proofs.lemmas.Bool.{and_parts, and_from, cases_order, eq-eqb, eqb-true, false≢true, or_cases, or_left, or_right}
 use Rattle.std.proofs.lemmas.Option.{same_Some, slice_get_within}
 use Rattle.list_laws.proofs.Members.{list_any-from_IsIn}
@@ -14,9 +13,8 @@ use Rattle.path_words.specs.Policies.{PlainPolicy, PlainStatement}
 use Rattle.evidence_base.specs.Made.{statement_at}
 use Rattle.graph_base.specs.declared.graph.Node.{Node}
 use Rattle.graph_base.specs.Graphs.{PlainGraph}
-use Rattle.graph_base.specs.Runs.{rank_at}
 use Rattle.bit_rows.specs.Tables.{PlainRows, has_at}
-use Rattle.case_law.specs.Cases.{IsCase, case_at}
+use Rattle.case_law.specs.Cases.{IsCase}
 use Rattle.case_ranks.specs.Marks.{AreReached, HasRank, is_rank, some_has_rank}
 use Rattle.case_ranks.specs.Reached.{IsRankOfCase, IsReached}
 

@@ -1,5 +1,5 @@
 -- The case at a place of the case list, and what is known of its graph.
-use Rattle.std.proofs.Common.{◌≡◌, ℕ, suc, ◌+◌, ◌-◌, ◌<◌, ◌≤◌, List, length, get_or, Option, Some, None, refl, ap, ◌∙◌, arith}
+use Rattle.std.proofs.Common.{◌≡◌, ℕ, ◌+◌, ◌-◌, ◌<◌, ◌≤◌, List, length, get_or, Option, Some, None, refl, ap, ◌∙◌, arith}
 use Rattle.std.specs.Prelude.{◌↔◌, IfSome, option_and_then}
 use Rattle.std.specs.List.{AllByRecursion}
 use Rattle.std.proofs.lemmas.Option.{slice_get_within}
@@ -11,7 +11,7 @@ use Rattle.path_words.specs.declared.case.Case.{Case}
 use Rattle.path_words.specs.Cases.{case_list}
 use Rattle.path_words.specs.Policies.{PlainStatement, PolicyLists, policy_of}
 use Rattle.graph_base.specs.declared.graph.Node.{Node}
-use Rattle.graph_base.specs.Graphs.{IsGraph, PlainGraph}
+use Rattle.graph_base.specs.Graphs.{IsGraph}
 use Rattle.case_law.specs.Cases.{FitsOrigins, IsCase, OriginsAreRouters}
 use Rattle.case_law.proofs.Origins.{known_origins}
 use Rattle.case_core.specs.declared.cases.CaseGraph.{CaseGraph}

@@ -20,7 +20,6 @@ use Rattle.regret_law.specs.Passes.{all_steps}
 use Rattle.case_law.specs.Cases.{OfCase, IsCase}
 use Rattle.case_law.proofs.Origins.{case_known}
 use Rattle.case_core.specs.declared.cases.CaseGraph.{CaseGraph}
-use Rattle.case_core.specs.declared.refusal.CompileRefusal.{CompileRefusal}
 use Rattle.case_core.specs.declared.refusal.CompileRefusal.TheVariants as compile
 use Rattle.case_core.specs.Refusals.{IsCause, IsGraphOf}
 use Rattle.case_core.proofs.OneCause.{few_states, few_steps, one_cause}

@@ -1,10 +1,10 @@
 //! The cases one after the other, with the ranks that their walks have.
-ghost use Rattle.std.specs.Prelude.{◌≡◌, ◌+◌, ◌<◌, ◌≤◌, ◌^◌, IfErr, IfOk, IfSome, OnOk, length};
+ghost use Rattle.std.specs.Prelude.{◌≡◌, ◌+◌, ◌<◌, ◌≤◌, ◌^◌, IfErr, IfOk, OnOk, length};
 ghost use Rattle.net_base.specs.declared.limits.TheConstants.{ALTERNATIVES};
 ghost use Rattle.path_words.specs.Cases.{case_list};
 ghost use Rattle.path_words.specs.Policies.{policy_of};
 ghost use Rattle.case_law.specs.Cases.{OfCase, OriginsAreRouters};
-ghost use Rattle.case_core.specs.Automata.{FitsNumber};
+ghost use Rattle.case_core.specs.Automata.{AllFit};
 ghost use Rattle.case_core.specs.Refusals.{IsCause, IsGraphOf};
 ghost use Rattle.case_ranks.specs.Limits.{AreAllWithin, IsRefused, compile_refusal as refusal_of};
 ghost use Rattle.case_ranks.specs.Marks.{AreReached};
@@ -12,7 +12,7 @@ ghost use Rattle.case_ranks.specs.Marks.{AreReached};
 use crate::marks::mark_ranks;
 use crate::refusal::{LintRefusal, lint_refusal};
 use bit_rows::Rows;
-use case_core::{CaseGraph, StatementAutomata, graph_within_limits};
+use case_core::{CaseGraph, KeptAutomata, graph_within_limits};
 use net_base::limits::{ALTERNATIVES, STEPS};
 use net_base::{Net, known_net};
 use path_words::{CaseList, Policy};
@@ -26,14 +26,14 @@ fn case_within(
     cases: &CaseList,
     number: u32,
     room: u32,
-    kept: Option<StatementAutomata>,
-) -> Result<(CaseGraph, StatementAutomata), LintRefusal>
+    kept: &mut KeptAutomata,
+) -> Result<CaseGraph, LintRefusal>
     requires cases { cases.now.cases ≡ case_list net.now (policy_of policy.now) }
     requires from_one { 1 ≤ number }
     requires within { number ≤ length cases.now.cases }
-    requires kept { IfSome kept (FitsNumber net.now (policy_of policy.now)) }
-    ensures graph { IfOk result (λ given. OfCase net.now (policy_of policy.now) number (λ s c. IsGraphOf net.now room s c given.0)) }
-    ensures kept { IfOk result (λ given. FitsNumber net.now (policy_of policy.now) given.1) }
+    requires kept { AllFit net.now (policy_of policy.now) kept.old }
+    ensures graph { IfOk result (λ given. OfCase net.now (policy_of policy.now) number (λ s c. IsGraphOf net.now room s c given)) }
+    ensures kept { AllFit net.now (policy_of policy.now) kept.new }
     ensures refused { IfErr result (λ e. OfCase net.now (policy_of policy.now) number (λ s c. IsCause net.now number room s c (refusal_of e))) }
 {
     match graph_within_limits(alloc, net, policy, cases, number, room, kept) {
@@ -63,14 +63,13 @@ pub fn reached_ranks(
     let rows = policy.statements().len() as u32 + 1;
     let mut ranks = Rows::new(alloc, rows, ALTERNATIVES as u32 + 1)?;
     let mut room = STEPS as u32;
-    let mut kept = None;
+    let mut kept = KeptAutomata::new(alloc, policy)?;
     let list = cases.cases.as_slice();
     for place in 0..list.len() {
         let number = place as u32 + 1;
-        let (given, automata) = case_within(alloc, net, policy, cases, number, room, kept)?;
+        let given = case_within(alloc, net, policy, cases, number, room, &mut kept)?;
         room -= given.used;
         mark_ranks(&mut ranks, list[place].statement, given.graph.nodes());
-        kept = Some(automata);
     }
     Ok(ranks)
 }

@@ -6,7 +6,7 @@ ghost use Rattle.case_law.specs.Cases.{OriginsAreRouters};
 ghost use Rattle.compile_core.specs.Accepting.{AreAllGiven};
 ghost use Rattle.compile_core.specs.Compiling.{IsRefusal};
 
-use case_core::CompileRefusal;
+use case_core::{CompileRefusal, KeptAutomata};
 use case_evidence::accepted_case;
 use graph_base::{Graph, Prefs};
 use net_base::Net;
@@ -50,13 +50,12 @@ pub fn accepted_cases(
         prefs: Vec::new(alloc),
     };
     let mut room = STEPS as u32;
-    let mut kept = None;
+    let mut automata = KeptAutomata::new(alloc, policy)?;
     for place in 0..cases.cases.as_slice().len() {
         let number = place as u32 + 1;
-        let (given, automata) = accepted_case(alloc, net, policy, cases, number, room, kept)?;
+        let given = accepted_case(alloc, net, policy, cases, number, room, &mut automata)?;
         room -= given.used;
         keep(&mut all, given.graph, given.prefs)?;
-        kept = Some(automata);
     }
     Ok(all)
 }

@@ -1,6 +1,6 @@
 //! Graphs of small networks in which nodes are one that nothing onward tells apart, worked by hand.
 use crate::drawing::{Drawing, is_drawn};
-use case_core::CompileRefusal;
+use case_core::{CompileRefusal, KeptAutomata};
 use case_evidence::{AcceptedCase, accepted_case};
 use path_words::cases;
 use samples::{RING, TRIANGLE, TWO_SPINES, read};
@@ -89,8 +89,8 @@ fn accepted(rt: &impl Abort, alloc: Global, row: &Row) -> Result<AcceptedCase, C
     let (net, policy) = read(alloc, row.topology, row.policy).expect(rt, "texts that are read");
     let cases = cases(alloc, &net, &policy)?;
     assert!(rt; !cases.cases.as_slice().is_empty());
-    let (accepted, _) = accepted_case(alloc, &net, &policy, &cases, 1, 100, None)?;
-    Ok(accepted)
+    let mut kept = KeptAutomata::new(alloc, &policy)?;
+    accepted_case(alloc, &net, &policy, &cases, 1, 100, &mut kept)
 }
 
 // Whether what is accepted of a row has its graph.

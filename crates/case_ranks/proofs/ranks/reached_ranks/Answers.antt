@@ -1,5 +1,5 @@
-use Rattle.std.proofs.Common.{◌≡◌, ◌+◌, ◌-◌, ◌<◌, ◌≤◌, length, refl, sym, ap, subst, ◌∙◌, arith, List}
-use Rattle.std.specs.Prelude.{◌&&◌, ◌||◌, ◌==◌, IfSome, slice_index_or}
+use Rattle.std.proofs.Common.{rules, ◌≡◌, ◌+◌, ◌-◌, ◌<◌, length, sym, ap, subst, ◌∙◌, arith, List}
+use Rattle.std.specs.Prelude.{◌&&◌, ◌||◌, ◌==◌, IfSome}
 use Rattle.std.specs.List.{AllByRecursion}
 use Rattle.std.proofs.lemmas.List.{length-map}
 use Rattle.std.proofs.lemmas.Result.{err_from_is_err_and}
@@ -22,6 +22,15 @@ returns-in_err-given-clause-refused c =
     let why = refused_next net policy c.loop-place.place c.loop-place.room c.in_err-given.field-0.0 c.loop-place.invariant.gone (omega (arith, c.loop-place-test.true, end)) c.in_err-given.ensures.refused in
     let p = err_from_is_err_and c.from_residual-in_err-given.result c.from_residual-in_err-given.ensures.1 in
     rw (p.1, p.2) why
+
+pub loop-place-init : goal.loop-place-init
+loop-place-init c = record {
+  gone = search rules;
+  kept = c.in_ok-kept.ensures c.args.net.now;
+  rows = search rules;
+  bits = search rules;
+  reached = search rules;
+}
 
 pub overflow_sub-room : goal.overflow_sub-room
 overflow_sub-room c =

@@ -1,8 +1,7 @@
 use Rattle.std.proofs.Common.{◌≡◌, ◌+◌, length}
-use Rattle.std.specs.Prelude.{IfSome}
 use Rattle.net_base.specs.declared.limits.TheConstants.{ALTERNATIVES}
 use Rattle.path_words.specs.Policies.{policy_of}
-use Rattle.case_core.specs.Automata.{FitsNumber}
+use Rattle.case_core.specs.Automata.{AllFit}
 use Rattle.case_ranks.proofs.Marked.{AreReachedTo}
 use Rattle.case_ranks.proofs.Within.{AreGone}
 use Rattle.case_ranks.proofs.ranks.reached_ranks.Given as goal
@@ -10,7 +9,7 @@ use Rattle.case_ranks.proofs.ranks.reached_ranks.Given as goal
 abbrev pub invariant-loop-place : goal.invariant-loop-place
 invariant-loop-place l = record {
   gone : AreGone l.net (policy_of l.policy) l.place l.room;
-  kept : IfSome l.kept (FitsNumber l.net (policy_of l.policy));
+  kept : AllFit l.net (policy_of l.policy) l.kept;
   rows : l.ranks.count ≡ length l.policy.statements + 1;
   bits : l.ranks.bits ≡ ALTERNATIVES + 1;
   reached : AreReachedTo l.net (policy_of l.policy) l.place l.ranks;
