@@ -1,7 +1,8 @@
 //! The first pair of nodes that breaks the rule for ranks, for steps or for listeners.
-ghost use Rattle.std.specs.Prelude.{◌≡◌, ◌↔◌, ◌<◌, ℕ, IfOk, IsTrue, length};
+ghost use Rattle.std.specs.Prelude.{◌≡◌, ◌↔◌, ◌<◌, ℕ, false, IfOk, IsTrue, length};
 ghost use Rattle.net_base.specs.Sets.{holds};
 ghost use Rattle.graph_base.specs.Rules.{IsOver, KeepsListener, KeepsRank, KeepsStep};
+ghost use Rattle.graph_base.specs.Runs.{is_listener};
 ghost use Rattle.graph_base.specs.Preferences.{number_in};
 ghost use Rattle.number_check.specs.FirstPair.{IsFirstOrNone, IsFirstPairOrNone};
 ghost use Rattle.number_check.specs.Offers.{KeepsOffers};
@@ -111,8 +112,21 @@ pub fn step_fault(
     first_pair(alloc, net, graph, numbers, &offers)
 }
 
+/// Whether a node hears.
+fn some_hears(graph: &Graph) -> bool
+    ensures { result ≡ false → (n : ℕ) → is_listener graph.now n ≡ false }
+{
+    for node in graph.nodes() {
+        if node.listener {
+            return true;
+        }
+    }
+    false
+}
+
 /// The first pair of nodes, the first over the second, of which the second is heard at a peer at which the first
-/// isn't, or is only with a worse rank. Where peers are the origins nobody hears, and no pair breaks the rule.
+/// isn't, or is only with a worse rank. Where peers are the origins nobody hears, and no pair breaks the rule; nor does
+/// one where no node hears.
 pub fn listener_fault(
     alloc: Global,
     net: &Net,
@@ -124,6 +138,9 @@ pub fn listener_fault(
     ensures { IfOk result (IsFirstPairOrNone (KeepsListener net.now external graph.now (number_in numbers.now))) }
 {
     if external {
+        return Ok(None);
+    }
+    if !some_hears(graph) {
         return Ok(None);
     }
     let offers = offers_by_steps(alloc, graph, numbers, Towards::Listeners)?;

@@ -35,6 +35,7 @@ impl OfferList {
     }
 
     /// Puts an offer behind the others. After an error the list is as before.
+    #[inline(always)]
     pub fn push(&mut self, offer: Offer) -> Result<(), AllocError>
         ensures ok { OnOk result (self.new ≡ self.old ++ offer ∷ []) }
         ensures err { OnErr result (self.new ≡ self.old) }
@@ -55,7 +56,7 @@ impl OfferList {
 pub fn no_offers(alloc: Global, size: usize) -> Result<Vec<OfferList>, AllocError>
     ensures { IfOk result (λ lists. lists.items ≡ replicate size []) }
 {
-    let mut lists = Vec::new(alloc);
+    let mut lists = Vec::with_capacity(alloc, size)?;
     for _ in 0..size {
         lists.push(OfferList::new(alloc))?;
     }
