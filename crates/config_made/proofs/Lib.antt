@@ -4,7 +4,6 @@ pub mod Buckets
 pub mod CaseClasses
 pub mod Finish
 pub mod Gathering
-pub mod Linked
 pub mod Made
 pub mod Numbered
 pub mod Reached

@@ -1,5 +1,4 @@
 pub mod Conditions
 pub mod Hops
 pub mod Law
-pub mod Neighbours
 pub mod Writing

@@ -9,9 +9,9 @@ ghost use Rattle.config_made.specs.Writing.{import_line, export_line, own_line, 
 
 use crate::find::{announced_at, first_from, first_places, next_hops};
 use crate::hop::{Announced, Hop};
-use crate::neighbours::neighbour_sets;
 use config_base::{Export, Own, RouterConfig, Rule, Session};
 use net_base::{List, Loc, LocSet, Net};
+use net_near::neighbour_sets;
 use std::alloc::{AllocError, Global};
 
 // The lines by which routes are taken over a link.

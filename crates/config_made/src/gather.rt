@@ -45,6 +45,15 @@ fn add_hops(class: u32, case: &CaseEvidence, hops: &mut Vec<Hop>) -> Result<(), 
     Ok(())
 }
 
+// How many steps all cases have. No clause says it: with less room the hops grow.
+fn step_count(evidence: &[CaseEvidence]) -> usize {
+    let mut count = 0usize;
+    for case in evidence {
+        count = count.saturating_add(case.graph().steps().len());
+    }
+    count
+}
+
 /// The steps of all cases.
 pub fn all_hops(alloc: Global, evidence: &[CaseEvidence]) -> Result<Vec<Hop>, AllocError>
     requires { length evidence.now < 2 ^ 32 }
@@ -52,7 +61,7 @@ pub fn all_hops(alloc: Global, evidence: &[CaseEvidence]) -> Result<Vec<Hop>, Al
     ensures fits { IfOk result (λ hops. All HasPref hops.items) }
     ensures graphs { OnOk result ((k : ℕ) (c : PlainCaseEvidence) → slice_get evidence.now k ≡ Some c → IsGraph c.graph) }
 {
-    let mut hops = Vec::new(alloc);
+    let mut hops = Vec::with_capacity(alloc, step_count(evidence))?;
     for place in 0..evidence.len() {
         add_hops(place as u32 + 1, &evidence[place], &mut hops)?;
     }

@@ -9,7 +9,6 @@ mod hop;
 mod law;
 mod lay;
 mod make;
-mod neighbours;
 
 pub use classes::statement_at;
 pub use law::{case_lists_are_classes, made_configurations_are_one};

@@ -29,7 +29,8 @@ pub fn config_of(
     ensures { IfOk result (λ config. IsConfigOf net.now (policy_of policy.now) evidence.now config) }
 {
     let mut hops = all_hops(alloc, evidence)?;
-    settle_hops(alloc, &mut hops)?;
+    let locations = net.routers().len() + net.peers().len();
+    settle_hops(alloc, &mut hops, locations as u16)?;
     let mut announced = all_announced(alloc, evidence)?;
     settle_announced(&mut announced);
     let classes = classes_of(alloc, policy, evidence)?;

@@ -16,7 +16,7 @@ use std::alloc::{AllocError, Global};
 fn start_keys(alloc: Global, graph: &Graph) -> Result<Vec<(u32, Loc)>, AllocError>
     ensures { IfOk result (λ keys. keys.items ≡ map (λ (s : ℕ). (0, place_of graph.now s)) graph.now.starts) }
 {
-    let mut keys = Vec::new(alloc);
+    let mut keys = Vec::with_capacity(alloc, graph.starts().len())?;
     for start in graph.starts() {
         keys.push((0, graph.location(*start)))?;
     }
@@ -27,7 +27,7 @@ fn start_keys(alloc: Global, graph: &Graph) -> Result<Vec<(u32, Loc)>, AllocErro
 fn step_keys(alloc: Global, graph: &Graph) -> Result<Vec<(u32, Loc)>, AllocError>
     ensures { IfOk result (λ keys. keys.items ≡ map (λ (s : ℕ × ℕ). (s.0, place_of graph.now s.1)) graph.now.steps) }
 {
-    let mut keys = Vec::new(alloc);
+    let mut keys = Vec::with_capacity(alloc, graph.steps().len())?;
     for step in graph.steps() {
         keys.push((step.0, graph.location(step.1)))?;
     }

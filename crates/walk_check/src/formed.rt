@@ -1,6 +1,8 @@
 //! Whether a graph is well formed, and whether each of its nodes can be reached.
 ghost use Rattle.std.specs.Prelude.{◌≡◌, ◌↔◌, ◌<◌, ℕ, Bool, IfOk, IsTrue, length};
+ghost use Rattle.net_base.specs.Network.{linked};
 ghost use Rattle.net_base.specs.Sets.{holds};
+ghost use Rattle.net_near.specs.Neighbours.{is_held};
 ghost use Rattle.graph_base.specs.Rules.{IsWellFormed};
 ghost use Rattle.graph_base.specs.Runs.{is_start};
 ghost use Rattle.reach_prune.specs.Searches.{is_marked};
@@ -8,7 +10,8 @@ ghost use Rattle.walk_check.specs.Formed.{NodesFit, StartsFit, StepsFit, node_fi
 
 use crate::distinct::is_single_stepped;
 use graph_base::Graph;
-use net_base::Net;
+use net_base::{LocSet, Net};
+use net_near::{is_near, neighbour_sets};
 use outside::NoMemory;
 use path_words::Case;
 use std::alloc::{AllocError, Global};
@@ -63,9 +66,17 @@ fn nodes_fit(net: &Net, case: &Case, graph: &Graph, starts: &[bool]) -> bool
 }
 
 /// Whether a step goes over a link from a start or a router to what is no start, and to a peer only where routers are the
-/// origins.
+/// origins. Links are looked up among the neighbours of each location.
 #[tactic(auto, unfolding(crate::specs::Formed::step_fits))]
-fn step_fits(net: &Net, case: &Case, graph: &Graph, step: (u32, u32), starts: &[bool]) -> bool
+fn step_fits(
+    net: &Net,
+    near: &[LocSet],
+    case: &Case,
+    graph: &Graph,
+    step: (u32, u32),
+    starts: &[bool],
+) -> bool
+    requires near { (x l : ℕ) → is_held near.now x l ≡ linked net.now x l }
     requires size { length starts.now ≡ length graph.now.nodes }
     requires starts { (n : ℕ) → is_marked starts.now n ≡ is_start graph.now n }
     requires from { step.0 < length graph.now.nodes }
@@ -74,20 +85,21 @@ fn step_fits(net: &Net, case: &Case, graph: &Graph, step: (u32, u32), starts: &[
 {
     let from = graph.location(step.0);
     let to = graph.location(step.1);
-    net.linked(from, to)
+    is_near(near, from, to)
         && !starts[step.1 as usize]
         && (starts[step.0 as usize] || net.is_router(from))
         && !(case.external && net.is_peer(to))
 }
 
 /// Whether each step goes as it should.
-fn steps_fit(net: &Net, case: &Case, graph: &Graph, starts: &[bool]) -> bool
+fn steps_fit(net: &Net, near: &[LocSet], case: &Case, graph: &Graph, starts: &[bool]) -> bool
+    requires near { (x l : ℕ) → is_held near.now x l ≡ linked net.now x l }
     requires size { length starts.now ≡ length graph.now.nodes }
     requires starts { (n : ℕ) → is_marked starts.now n ≡ is_start graph.now n }
     ensures { IsTrue result ↔ StepsFit net.now case.now.external graph.now }
 {
     for step in graph.steps() {
-        if !step_fits(net, case, graph, *step, starts) {
+        if !step_fits(net, near, case, graph, *step, starts) {
             return false;
         }
     }
@@ -95,14 +107,15 @@ fn steps_fit(net: &Net, case: &Case, graph: &Graph, starts: &[bool]) -> bool
 }
 
 /// Whether the starts, the nodes and the steps are as they should be, each by itself.
-fn parts_fit(net: &Net, case: &Case, graph: &Graph, starts: &[bool]) -> bool
+fn parts_fit(net: &Net, near: &[LocSet], case: &Case, graph: &Graph, starts: &[bool]) -> bool
+    requires near { (x l : ℕ) → is_held near.now x l ≡ linked net.now x l }
     requires size { length starts.now ≡ length graph.now.nodes }
     requires starts { (n : ℕ) → is_marked starts.now n ≡ is_start graph.now n }
     ensures { IsTrue result ↔ StartsFit (holds case.now.origins) graph.now × NodesFit net.now (holds case.now.origins) graph.now × StepsFit net.now case.now.external graph.now }
 {
     starts_fit(case, graph)
         && nodes_fit(net, case, graph, starts)
-        && steps_fit(net, case, graph, starts)
+        && steps_fit(net, near, case, graph, starts)
 }
 
 /// Whether the graph is well formed over the network for the origins of the case.
@@ -115,7 +128,8 @@ pub fn is_well_formed(
     ensures { IfOk result (λ b. IsTrue b ↔ IsWellFormed net.now (holds case.now.origins) case.now.external graph.now) }
 {
     let starts = start_marks(alloc, graph)?;
-    if !parts_fit(net, case, graph, &starts) {
+    let near = neighbour_sets(alloc, net)?;
+    if !parts_fit(net, &near, case, graph, &starts) {
         return Ok(false);
     }
     is_single_stepped(alloc, graph)

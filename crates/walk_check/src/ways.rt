@@ -41,6 +41,11 @@ fn add_steps(ways: &mut Vec<Way>, graph: &Graph, first: u32) -> Result<(), Alloc
     Ok(())
 }
 
+/// How many ways a graph gives. No clause says it: with less room the ways grow.
+fn way_count(graph: &Graph) -> usize {
+    graph.starts().len().saturating_add(graph.steps().len())
+}
+
 /// The ways of both graphs in order: the nodes of the one, behind them those of the other, and then a root of each, which
 /// steps to its starts. They are put so that little is left to sort: the steps of a graph are mostly in order.
 pub(crate) fn both_ways(alloc: Global, live: &Graph, graph: &Graph) -> Result<Vec<Way>, AllocError>
@@ -53,7 +58,7 @@ pub(crate) fn both_ways(alloc: Global, live: &Graph, graph: &Graph) -> Result<Ve
 {
     let size = live.nodes().len() as u32;
     let root = size + graph.nodes().len() as u32;
-    let mut ways = Vec::new(alloc);
+    let mut ways = Vec::with_capacity(alloc, way_count(live).saturating_add(way_count(graph)))?;
     add_steps(&mut ways, live, 0)?;
     add_steps(&mut ways, graph, size)?;
     add_starts(&mut ways, live, 0, root)?;

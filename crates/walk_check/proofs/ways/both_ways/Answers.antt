@@ -14,7 +14,7 @@ put_in_order-requires c =
     let g = c.args.graph.now in
     let size = ap length c.nodes.ensures.nodes in
     let other = ap length c.nodes-2.ensures.nodes in
-    let first = c.in_ok-add_steps.ensures ∙ ap (λ (ws : List Way). ws ++ map (step_way t 0) t.steps) c.new-ways.ensures.items in
+    let first = c.in_ok-add_steps.ensures ∙ ap (λ (ws : List Way). ws ++ map (step_way t 0) t.steps) c.in_ok-ways.ensures.items in
     let all : c.add_starts-2.new.ways.items ≡ laid t g =
     gathered t g c.add_steps.new.ways.items c.add_steps-2.new.ways.items c.add_starts.new.ways.items c.add_starts-2.new.ways.items _ _ _ first c.in_ok-add_steps-2.ensures c.in_ok-add_starts.ensures
     c.in_ok-add_starts-2.ensures size (omega (arith, size, other)) (omega (arith, size, other)) in
@@ -26,7 +26,7 @@ returns-clause-same c = λ w.
     let g = c.args.graph.now in
     let size = ap length c.nodes.ensures.nodes in
     let other = ap length c.nodes-2.ensures.nodes in
-    let first = c.in_ok-add_steps.ensures ∙ ap (λ (ws : List Way). ws ++ map (step_way t 0) t.steps) c.new-ways.ensures.items in
+    let first = c.in_ok-add_steps.ensures ∙ ap (λ (ws : List Way). ws ++ map (step_way t 0) t.steps) c.in_ok-ways.ensures.items in
     let all : c.add_starts-2.new.ways.items ≡ laid t g =
     gathered t g c.add_steps.new.ways.items c.add_steps-2.new.ways.items c.add_starts.new.ways.items c.add_starts-2.new.ways.items _ _ _ first c.in_ok-add_steps-2.ensures c.in_ok-add_starts.ensures
     c.in_ok-add_starts-2.ensures size (omega (arith, size, other)) (omega (arith, size, other)) in

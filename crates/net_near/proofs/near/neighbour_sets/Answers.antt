@@ -1,8 +1,8 @@
 use Rattle.std.proofs.Common.{◌≡◌, ◌∙◌, ap, length, arith, take, drop, ◌++◌}
 use Rattle.std.specs.Prelude.{◌==◌, ◌&&◌, ◌||◌}
-use Rattle.config_made.specs.Neighbours.{is_held}
-use Rattle.config_made.proofs.Linked.{link_put, written_back}
-use Rattle.config_made.proofs.neighbours.neighbour_sets.Goals as goal
+use Rattle.net_near.specs.Neighbours.{is_held}
+use Rattle.net_near.proofs.Linked.{link_put, written_back}
+use Rattle.net_near.proofs.near.neighbour_sets.Goals as goal
 
 pub loop-link-preserved : goal.loop-link-preserved
 loop-link-preserved c =

@@ -2,7 +2,7 @@
 ghost use Rattle.std.specs.Prelude.{◌≡◌, ◌<◌, ◌+◌, ◌||◌, ◌&&◌, ◌==◌, ℕ, IfOk, length, vec_len};
 ghost use Rattle.net_base.specs.Network.{linked};
 ghost use Rattle.net_base.specs.declared.limits.TheConstants.{LOCATIONS};
-ghost use Rattle.config_made.specs.Neighbours.{is_held};
+ghost use Rattle.net_near.specs.Neighbours.{is_held};
 
 use net_base::{Loc, LocSet, Net};
 use std::alloc::{AllocError, Global};
@@ -28,4 +28,14 @@ pub fn neighbour_sets(alloc: Global, net: &Net) -> Result<Vec<LocSet>, AllocErro
         put(&mut sets, link.1, link.0);
     }
     Ok(sets)
+}
+
+/// Whether a location's set has another. A location that has no set is linked to none.
+pub fn is_near(sets: &[LocSet], at: Loc, other: Loc) -> bool
+    ensures { result ≡ is_held sets.now at other }
+{
+    match sets.get(at.number() as usize) {
+        Some(near) => near.holds(other),
+        None => false,
+    }
 }

@@ -1,8 +1,8 @@
 use Rattle.std.proofs.Common.{◌≡◌, ℕ, ◌+◌, length, take, vec_len}
 use Rattle.std.specs.List.{list_any}
 use Rattle.net_base.specs.Network.{joins}
-use Rattle.config_made.specs.Neighbours.{is_held}
-use Rattle.config_made.proofs.neighbours.neighbour_sets.Given as goal
+use Rattle.net_near.specs.Neighbours.{is_held}
+use Rattle.net_near.proofs.near.neighbour_sets.Given as goal
 
 abbrev pub invariant-loop-link : goal.invariant-loop-link
 invariant-loop-link l = record {
