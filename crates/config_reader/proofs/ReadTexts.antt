@@ -1,12 +1,11 @@
 -- A text that is read is that of its configuration, which is lawful.
-use Rattle.std.proofs.Common.{◌≡◌, ℕ, ◌+◌, ◌-◌, ◌<◌, ◌≤◌, suc, List, [], ◌∷◌, ◌++◌, length, map, min, take, true, false, Option, Some, None, Ok, refl, sym, ◌∙◌, ap, ap₂, subst, arith, append-nil, append_assoc}
-use Rattle.std.specs.Prelude.{◌≢◌, ◌&&◌, ◌==◌, not, is_none, slice_index_or, count_by, Result, Err, IfOk}
-use Rattle.std.specs.List.{slice_split, join_with_byte, flat_map, AllByRecursion}
+use Rattle.std.proofs.Common.{◌≡◌, ℕ, ◌+◌, ◌-◌, ◌<◌, ◌≤◌, List, [], ◌∷◌, ◌++◌, length, map, min, true, false, Option, Some, None, Ok, refl, sym, ◌∙◌, ap, ap₂, subst, arith, append-nil, append_assoc}
+use Rattle.std.specs.Prelude.{◌≢◌, ◌&&◌, ◌==◌, not, is_none, Result, Err, IfOk}
+use Rattle.std.specs.List.{join_with_byte, flat_map, AllByRecursion}
 use Rattle.std.specs.Str.{bytes_eq}
 use Rattle.std.proofs.lemmas.Bool.{and_parts, eqb-true, eqb-false, not-true}
-use Rattle.std.proofs.lemmas.List.Splits.{join_with_byte-slice_split, length-slice_split}
+use Rattle.std.proofs.lemmas.List.Splits.{join_with_byte-slice_split}
 use Rattle.std.proofs.lemmas.List.{length-take, nil_from_length}
-use Rattle.std.proofs.lemmas.List.Sums.{count_by-le-length}
 use Rattle.std.proofs.lemmas.Slice.Eq.{bytes_eq-Decides}
 use Rattle.list_laws.proofs.Options.{is_none_parts}
 use Rattle.net_base.specs.Steps.{unless}
@@ -29,6 +28,10 @@ use Rattle.config_reader.specs.Faults.{Gives}
 use Rattle.config_reader.specs.declared.reading.OpenRouter.{OpenRouter}
 use Rattle.config_reader.specs.declared.reading.Reading.{Reading}
 use Rattle.config_reader.specs.Reading.{opening, after}
+use Rattle.line_laws.specs.Lines.{lines_of, whole_lines, last_line}
+use Rattle.line_laws.proofs.CutLines.{few_lines}
+use Rattle.line_laws.proofs.FedLines.{fed_lines, fed_texts, join_front}
+use Rattle.line_laws.proofs.WholeLines.{last_split}
 use Rattle.config_reader.specs.Text.{with_line, with_lines, finished, behind_heading, in_lines, spelled_in}
 use Rattle.config_reader.proofs.Lawful.{IsReading, after_keeps, opening_keeps, reading_lawful}
 use Rattle.config_reader.proofs.SoFar.{so_far, open_lines, after_adds}
@@ -109,42 +112,20 @@ finished_ok r rest c h =
     let both = and_parts (is_none r.opened) (length rest == 0) (unless_ok fault.Unfinished _ a.0 a.1) in
     (is_none_parts r.opened both.0, nil_from_length rest (eqb-true (length rest) 0 both.1), ok_same _ c a.2)
 
--- all but the last, and the last
-pub last_split : (more : List (List ℕ)) → length more ≢ 0 → more ≡ take (length more - 1) more ++ slice_index_or more (length more - 1) [] ∷ []
-last_split [] some = absurd (some refl)
-last_split (x ∷ []) some = refl
-last_split (x ∷ y ∷ more) some =
-    let k : length (x ∷ y ∷ more) - 1 ≡ suc (length (y ∷ more) - 1) = omega arith in
-    rw k (ap (λ (xs : List (List ℕ)). x ∷ xs) (last_split (y ∷ more) (λ e. omega (arith, e))))
-
--- lines that end with their line feeds, and nothing behind them
-pub fed_lines : (ts : List (List ℕ)) → join_with_byte 10 (ts ++ [] ∷ []) ≡ flat_map (λ (t : List ℕ). t ++ 10 ∷ []) ts
-fed_lines [] = refl
-fed_lines (t ∷ []) = sym (append-nil (t ++ 10 ∷ []))
-fed_lines (t ∷ u ∷ ts) = ap (λ (x : List ℕ). t ++ (10 ∷ x)) (fed_lines (u ∷ ts)) ∙ sym (append_assoc t (10 ∷ []) (flat_map (λ (t : List ℕ). t ++ 10 ∷ []) (u ∷ ts)))
-
-fed_texts : (edition : Edition) (ls : List Line) → flat_map (fed edition) ls ≡ flat_map (λ (t : List ℕ). t ++ 10 ∷ []) (map (line_text edition) ls)
-fed_texts edition [] = refl
-fed_texts edition (l ∷ ls) = ap (λ (x : List ℕ). fed edition l ++ x) (fed_texts edition ls)
-
-pub join_front : (w v : List ℕ) (ts : List (List ℕ)) → join_with_byte 10 (w ∷ (ts ++ v ∷ [])) ≡ w ++ (10 ∷ join_with_byte 10 (ts ++ v ∷ []))
-join_front w v [] = refl
-join_front w v (t ∷ ts) = refl
-
 -- behind the first line
 record IsBehind (edition : Edition) (more : List (List ℕ)) (c : PlainConfig) : Type 0 where
   s : Reading
-  read : AreRead edition opening s (take (length more - 1) more)
+  read : AreRead edition opening s (whole_lines more)
   none : s.opened ≡ None
-  rest : slice_index_or more (length more - 1) [] ≡ []
+  rest : last_line more ≡ []
   made : (let d : PlainConfig = record { classes = s.classes; routers = s.routers } in d) ≡ c
 
 behind_back : (edition : Edition) (more : List (List ℕ)) (c : PlainConfig) → behind_heading edition more ≡ Ok c → IsBehind edition more c
 unfolding behind_heading
 behind_back edition more c h =
-    let s = bind_ok (with_lines edition 2 opening (take (length more - 1) more)) _ c h in
-    let f = finished_ok s.0 (slice_index_or more (length more - 1) []) c s.2 in
-    record { s = s.0; read = lines_back edition 2 opening s.0 (take (length more - 1) more) opening_keeps s.1; none = f.0; rest = f.1; made = f.2 }
+    let s = bind_ok (with_lines edition 2 opening (whole_lines more)) _ c h in
+    let f = finished_ok s.0 (last_line more) c s.2 in
+    record { s = s.0; read = lines_back edition 2 opening s.0 (whole_lines more) opening_keeps s.1; none = f.0; rest = f.1; made = f.2 }
 
 -- the lines that were read are those of the configuration
 behind_lines : (edition : Edition) (more : List (List ℕ)) (c : PlainConfig) (b : IsBehind edition more c) → b.read.ls ≡ lines (record { classes = b.s.classes; routers = b.s.routers })
@@ -159,27 +140,21 @@ behind_fits edition more c b =
 -- the text behind the first line
 behind_text : (edition : Edition) (more : List (List ℕ)) (c : PlainConfig) → length more ≢ 0 → IsBehind edition more c → join_with_byte 10 (first_line edition ∷ more) ≡ text_in edition c
 behind_text edition more c some b =
-    let ts : List (List ℕ) = take (length more - 1) more in
+    let ts : List (List ℕ) = whole_lines more in
     let split : more ≡ ts ++ [] ∷ [] = last_split more some ∙ ap (λ (x : List ℕ). ts ++ x ∷ []) b.rest in
     let d : PlainConfig = record { classes = b.s.classes; routers = b.s.routers } in
     let feeds : List (List ℕ) → List ℕ = flat_map (λ (t : List ℕ). t ++ 10 ∷ []) in
     ap (λ (x : List (List ℕ)). join_with_byte 10 (first_line edition ∷ x)) split
     ∙ join_front (first_line edition) [] ts
-    ∙ ap (λ (x : List ℕ). first_line edition ++ (10 ∷ x)) (fed_lines ts ∙ ap feeds (sym b.read.written) ∙ sym (fed_texts edition b.read.ls) ∙ ap (flat_map (fed edition)) (behind_lines edition more c b))
+    ∙ ap (λ (x : List ℕ). first_line edition ++ (10 ∷ x)) (fed_lines ts ∙ ap feeds (sym b.read.written) ∙ sym (fed_texts (line_text edition) b.read.ls) ∙ ap (flat_map (fed edition)) (behind_lines edition more c b))
     ∙ sym (append_assoc (first_line edition) (10 ∷ []) (flat_map (fed edition) (lines d)))
     ∙ sym (text_of_lines edition d)
     ∙ ap (text_in edition) b.made
 
--- a text has few lines
-pub few_lines : (bytes first : List ℕ) (more : List (List ℕ)) → slice_split (λ b. b == 10) bytes ≡ first ∷ more → length bytes < 4294967295 → length more < 4294967295
-few_lines bytes first more e short =
-    let count : length (first ∷ more) ≡ count_by (λ b. b == 10) bytes + 1 = ap length (sym e) ∙ length-slice_split (λ b. b == 10) bytes in
-    omega (arith, count, count_by-le-length (λ (b : ℕ). b == 10) bytes, short)
-
-pub behind_lawful : (edition : Edition) (more : List (List ℕ)) (s : Reading) → length more < 4294967295 → with_lines edition 2 opening (take (length more - 1) more) ≡ Ok s → s.opened ≡ None → IsLawful (record { classes = s.classes; routers = s.routers })
+pub behind_lawful : (edition : Edition) (more : List (List ℕ)) (s : Reading) → length more < 4294967295 → with_lines edition 2 opening (whole_lines more) ≡ Ok s → s.opened ≡ None → IsLawful (record { classes = s.classes; routers = s.routers })
 behind_lawful edition more s short h none =
-    let read = lines_back edition 2 opening s (take (length more - 1) more) opening_keeps h in
-    let long : length (take (length more - 1) more) ≡ min (length more - 1) (length more) = length-take (length more - 1) more in
+    let read = lines_back edition 2 opening s (whole_lines more) opening_keeps h in
+    let long : length (whole_lines more) ≡ min (length more - 1) (length more) = length-take (length more - 1) more in
     reading_lawful s read.keeps none (omega (arith, read.few, long, short))
 
 lines_spell : (edition : Edition) (first : List ℕ) (more : List (List ℕ)) (c : PlainConfig) → length more < 4294967295 → in_lines edition (first ∷ more) ≡ Ok c
@@ -197,9 +172,9 @@ lines_spell edition first more c short h =
     lawful : IsBehind edition more c → IsLawful c
     lawful b = subst IsLawful b.made (by b.read)
       where
-        by : AreRead edition opening b.s (take (length more - 1) more) → IsLawful (record { classes = b.s.classes; routers = b.s.routers })
+        by : AreRead edition opening b.s (whole_lines more) → IsLawful (record { classes = b.s.classes; routers = b.s.routers })
         by read =
-            let long : length (take (length more - 1) more) ≡ min (length more - 1) (length more) = length-take (length more - 1) more in
+            let long : length (whole_lines more) ≡ min (length more - 1) (length more) = length-take (length more - 1) more in
             reading_lawful b.s read.keeps b.none (omega (arith, read.few, long, short))
 
 no_lines : (edition : Edition) (c : PlainConfig) → in_lines edition [] ≡ Ok c → ⊥
@@ -208,12 +183,12 @@ no_lines edition c h = cc
 
 -- what is read is spelled so
 pub read_is_spelled : (edition : Edition) (bytes : List ℕ) (c : PlainConfig) → length bytes < 4294967295 → spelled_in edition bytes ≡ Ok c → SpellsIn edition bytes c
-read_is_spelled edition bytes c short h = by (slice_split (λ b. b == 10) bytes) refl h
+read_is_spelled edition bytes c short h = by (lines_of bytes) refl h
   where
-    by : (ps : List (List ℕ)) → slice_split (λ b. b == 10) bytes ≡ ps → in_lines edition ps ≡ Ok c → SpellsIn edition bytes c
+    by : (ps : List (List ℕ)) → lines_of bytes ≡ ps → in_lines edition ps ≡ Ok c → SpellsIn edition bytes c
     by [] e k = absurd (no_lines edition c k)
     by (first ∷ more) e k =
-        let back = lines_spell edition first more c (few_lines bytes first more e short) k in
+        let back = lines_spell edition first more c (few_lines bytes first more 4294967295 e short) k in
         record { lawful = back.1; fits = back.2; written = sym (join_with_byte-slice_split 10 bytes) ∙ ap (join_with_byte 10) e ∙ back.0 }
 
 -- what comes back is spelled so

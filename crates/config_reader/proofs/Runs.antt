@@ -10,8 +10,6 @@ use Rattle.list_laws.proofs.Keys.{others_before}
 use Rattle.list_laws.proofs.Numbers.{nat_eq_apart}
 use Rattle.list_laws.proofs.Texts.{bytes_eq_apart}
 use Rattle.net_base.specs.Prefixes.{PlainPattern}
-use Rattle.net_base.specs.Steps.{◌>>=◌}
-use Rattle.net_base.proofs.StepLemmas.{bind_ok, ok_same}
 use Rattle.config_base.specs.declared.config.RouterConfig.{RouterConfig}
 use Rattle.config_base.specs.declared.config.Session.{Session}
 use Rattle.config_base.specs.declared.config.Rule.{Rule}
@@ -26,21 +24,12 @@ use Rattle.config_reader.specs.declared.reading.OpenRouter.{OpenRouter}
 use Rattle.config_reader.specs.declared.reading.Reading.{Reading}
 use Rattle.config_reader.specs.declared.reading.Misplaced.{Misplaced}
 use Rattle.config_reader.specs.Reading.{after, with_class, with_router, with_own, own_into, with_neighbour, neighbour_into, with_import, import_in_block, import_into, with_export, export_in_block, export_into, with_end, closed, stood_before}
+use Rattle.line_laws.proofs.Runs.{run as run_by, run_step, run_append}
 use Rattle.config_reader.proofs.Ascending.{last_later}
 use Rattle.config_reader.proofs.Steps.{with_block}
 
 abbrev pub run : Reading → List Line → Result Reading Misplaced
-run r [] = Ok r
-run r (l ∷ ls) = after r l >>= (λ s. run s ls)
-
-run_step : (r s t : Reading) (l : Line) (ls : List Line) → after r l ≡ Ok s → run s ls ≡ Ok t → run r (l ∷ ls) ≡ Ok t
-run_step r s t l ls h k = ap (λ (o : Result Reading Misplaced). o >>= (λ q. run q ls)) h ∙ k
-
-run_append : (r s t : Reading) (xs ys : List Line) → run r xs ≡ Ok s → run s ys ≡ Ok t → run r (xs ++ ys) ≡ Ok t
-run_append r s t [] ys h k = let same : r ≡ s = ok_same r s h in ap (λ (q : Reading). run q ys) same ∙ k
-run_append r s t (x ∷ xs) ys h k =
-    let b = bind_ok (after r x) (λ q. run q xs) s h in
-    run_step r b.0 t x (xs ++ ys) b.1 (run_append b.0 s t xs ys b.2 k)
+run = run_by after
 
 abbrev pub at : List (List PlainPattern) → List RouterConfig → Option OpenRouter → Reading
 at cs rs o = record { classes = cs; routers = rs; opened = o }
@@ -55,7 +44,7 @@ pub run_classes : (done cs : List (List PlainPattern)) → run (at done [] None)
 run_classes done [] = ap (λ (x : List (List PlainPattern)). let q : Result Reading Misplaced = Ok (at x [] None) in q) (sym (append-nil done))
 run_classes done (c ∷ cs) =
     let same : length done + 1 + 1 ≡ length (done ++ c ∷ []) + 1 = rw (length-append done (c ∷ [])) (omega arith) in
-    run_step (at done [] None) (at (done ++ c ∷ []) [] None) (at (done ++ c ∷ cs) [] None) (line.Class (Some (length done + 1)) c) (lines_of_classes (length done + 1 + 1) cs) (class_step done c)
+    run_step after (at done [] None) (at (done ++ c ∷ []) [] None) (at (done ++ c ∷ cs) [] None) (line.Class (Some (length done + 1)) c) (lines_of_classes (length done + 1 + 1) cs) (class_step done c)
     (ap (λ (k : ℕ). run (at (done ++ c ∷ []) [] None) (lines_of_classes k cs)) same
     ∙ run_classes (done ++ c ∷ []) cs
     ∙ ap (λ (x : List (List PlainPattern)). let q : Result Reading Misplaced = Ok (at x [] None) in q) (append_assoc done (c ∷ []) cs))
@@ -89,7 +78,7 @@ module _ {A : Type 0} (f : A → Line) (key : A → Key) (state : List A → Rea
   run_each done [] up = ap (λ (x : List A). let q : Result Reading Misplaced = Ok (state x) in q) (sym (append-nil done))
   run_each done (x ∷ xs) up =
       let later : Ascend (map key ((done ++ x ∷ []) ++ xs)) = subst (λ (l : List A). Ascend (map key l)) (sym (append_assoc done (x ∷ []) xs)) up in
-      run_step (state done) (state (done ++ x ∷ [])) (state (done ++ x ∷ xs)) (f x) (map f xs) (step done x (ascends_there key done x xs up))
+      run_step after (state done) (state (done ++ x ∷ [])) (state (done ++ x ∷ xs)) (f x) (map f xs) (step done x (ascends_there key done x xs up))
       (run_each (done ++ x ∷ []) xs later ∙ ap (λ (l : List A). let q : Result Reading Misplaced = Ok (state l) in q) (append_assoc done (x ∷ []) xs))
 
 -- ---- a neighbour
@@ -133,8 +122,8 @@ module _ (cs : List (List PlainPattern)) (rs : List RouterConfig) where
   run_session : (count : ℕ) (o : OpenRouter) (s : Session) → list_any (bytes_eq s.name) o.names ≡ false → IsSession count s → run (at cs rs (Some o)) (lines_of_session s) ≡ Ok (at cs rs (Some (ended o s)))
   run_session count o s fresh is =
       let imported : Reading = at cs rs (Some (with_block (begun o s) (block_of s s.imports []))) in
-      run_step (at cs rs (Some o)) (at cs rs (Some (begun o s))) (at cs rs (Some (ended o s))) (head_of s) (map (import_of s.peer) s.imports ++ map line.Export s.exports) (head_step o s fresh)
-      (run_append (at cs rs (Some (begun o s))) imported (at cs rs (Some (ended o s))) (map (import_of s.peer) s.imports) (map line.Export s.exports)
+      run_step after (at cs rs (Some o)) (at cs rs (Some (begun o s))) (at cs rs (Some (ended o s))) (head_of s) (map (import_of s.peer) s.imports ++ map line.Export s.exports) (head_step o s fresh)
+      (run_append after (at cs rs (Some (begun o s))) imported (at cs rs (Some (ended o s))) (map (import_of s.peer) s.imports) (map line.Export s.exports)
       (run_each (import_of s.peer) rule_key (λ (done : List Rule). at cs rs (Some (with_block (begun o s) (block_of s done [])))) (import_step (begun o s) s) [] s.imports is.import_order)
       (run_each line.Export export_key (λ (done : List Export). at cs rs (Some (with_block (begun o s) (block_of s s.imports done)))) (export_step (begun o s) s s.imports) [] s.exports is.export_order))
 
@@ -163,7 +152,7 @@ module _ (cs : List (List PlainPattern)) (rs : List RouterConfig) where
       let rest = run_sessions count (ended o s) ss next_names next_apart all.1 in
       record {
         q = rest.q;
-        ran = run_append (at cs rs (Some o)) (at cs rs (Some (ended o s))) (at cs rs (Some rest.q)) (lines_of_session s) (flat_map lines_of_session ss) (run_session count o s fresh all.0) rest.ran;
+        ran = run_append after (at cs rs (Some o)) (at cs rs (Some (ended o s))) (at cs rs (Some rest.q)) (lines_of_session s) (flat_map lines_of_session ss) (run_session count o s fresh all.0) rest.ran;
         made = rest.made ∙ ap (with_sessions p) (append_assoc p.sessions (s ∷ []) ss);
       }
 
@@ -189,11 +178,11 @@ module _ (cs : List (List PlainPattern)) (rs : List RouterConfig) where
       let o : OpenRouter = headed r r.own in
       let b = run_sessions count o r.sessions refl is.names is.sessions in
       let whole : closed b.q.router b.q.block ≡ r = b.made in
-      run_append (at cs rs None) (at cs rs (Some b.q)) (at cs (rs ++ r ∷ []) None) (lines_before_end r) (line.End ∷ [])
-      (run_step (at cs rs None) (at cs rs (Some (headed r []))) (at cs rs (Some b.q)) (line.Router r.name r.asn r.id) (map line.Own r.own ++ flat_map lines_of_session r.sessions) (router_step r fresh)
-      (run_append (at cs rs (Some (headed r []))) (at cs rs (Some o)) (at cs rs (Some b.q)) (map line.Own r.own) (flat_map lines_of_session r.sessions)
+      run_append after (at cs rs None) (at cs rs (Some b.q)) (at cs (rs ++ r ∷ []) None) (lines_before_end r) (line.End ∷ [])
+      (run_step after (at cs rs None) (at cs rs (Some (headed r []))) (at cs rs (Some b.q)) (line.Router r.name r.asn r.id) (map line.Own r.own ++ flat_map lines_of_session r.sessions) (router_step r fresh)
+      (run_append after (at cs rs (Some (headed r []))) (at cs rs (Some o)) (at cs rs (Some b.q)) (map line.Own r.own) (flat_map lines_of_session r.sessions)
       (run_each line.Own own_key (λ (done : List Own). at cs rs (Some (headed r done))) (own_step r) [] r.own is.own_order) b.ran))
-      (run_step (at cs rs (Some b.q)) (at cs (rs ++ closed b.q.router b.q.block ∷ []) None) (at cs (rs ++ r ∷ []) None) line.End [] (end_step b.q)
+      (run_step after (at cs rs (Some b.q)) (at cs (rs ++ closed b.q.router b.q.block ∷ []) None) (at cs (rs ++ r ∷ []) None) line.End [] (end_step b.q)
       (ap (λ (x : RouterConfig). let q : Result Reading Misplaced = Ok (at cs (rs ++ x ∷ []) None) in q) whole))
 
 -- none is like it
@@ -225,5 +214,5 @@ run_routers count cs done (r ∷ rs) apart all =
     (others_before nat_eq nat_eq_apart (map (λ (r : RouterConfig). r.asn) done) r.asn (map (λ (r : RouterConfig). r.asn) rs) (subst (IsDistinct nat_eq) (map-append (λ (r : RouterConfig). r.asn) done (r ∷ rs)) apart.asns))
     (others_before nat_eq nat_eq_apart (map (λ (r : RouterConfig). r.id) done) r.id (map (λ (r : RouterConfig). r.id) rs) (subst (IsDistinct nat_eq) (map-append (λ (r : RouterConfig). r.id) done (r ∷ rs)) apart.ids)) in
     let later : AreApart ((done ++ r ∷ []) ++ rs) = subst AreApart (sym (append_assoc done (r ∷ []) rs)) apart in
-    run_append (at cs done None) (at cs (done ++ r ∷ []) None) (at cs (done ++ r ∷ rs) None) (lines_of_router r) (flat_map lines_of_router rs) (run_router cs done count r fresh all.0)
+    run_append after (at cs done None) (at cs (done ++ r ∷ []) None) (at cs (done ++ r ∷ rs) None) (lines_of_router r) (flat_map lines_of_router rs) (run_router cs done count r fresh all.0)
     (run_routers count cs (done ++ r ∷ []) rs later all.1 ∙ ap (λ (x : List RouterConfig). let q : Result Reading Misplaced = Ok (at cs x None) in q) (append_assoc done (r ∷ []) rs))

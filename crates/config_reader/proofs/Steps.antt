@@ -18,14 +18,13 @@ use Rattle.config_lines.specs.declared.line.Line.TheVariants as line
 use Rattle.config_lines.specs.declared.line.LineFault.{LineFault}
 use Rattle.config_lines.specs.declared.line.LineFault.TheVariants as linefault
 use Rattle.config_lines.specs.Lines.{line_of}
-use Rattle.config_reader.specs.declared.fault.ConfigFault.{ConfigFault}
 use Rattle.config_reader.specs.Order.{ascends, rule_key, export_key}
 use Rattle.config_reader.specs.declared.reading.OpenRouter.{OpenRouter}
 use Rattle.config_reader.specs.declared.reading.Reading.{Reading}
 use Rattle.config_reader.specs.declared.reading.Misplaced.{Misplaced}
 use Rattle.config_reader.specs.declared.reading.Misplaced.TheVariants as misplaced
 use Rattle.config_reader.specs.Reading.{with_class, with_router, with_own, own_into, with_neighbour, neighbour_into, with_import, import_in_block, with_export, export_in_block, with_end, after, is_next, stood_before, closed, same_kind, import_into, export_into}
-use Rattle.config_reader.specs.Text.{read_at, placed_at, with_line, with_lines}
+use Rattle.config_reader.specs.Text.{read_at, placed_at, with_line}
 
 pub read_at_ok : (n : ℕ) (r : Result Line LineFault) (l : Line) → read_at n r ≡ Ok l → r ≡ Ok l
 read_at_ok n (Ok m) l h = ap Ok (ok_same m l h)
@@ -45,11 +44,6 @@ unfolding with_line
 with_line_ok edition n r s bytes h =
     let l = bind_ok (read_at n (line_of edition bytes (length r.classes))) _ s h in
     (l.0, read_at_ok n _ l.0 l.1, placed_at_ok n _ s l.2)
-
--- a line more, and the lines behind it
-pub with_lines_next : (edition : Edition) (n : ℕ) (r s : Reading) (bytes : List ℕ) (more : List (List ℕ)) (whole : Result Reading ConfigFault) → with_line edition n r bytes ≡ Ok s
-    → with_lines edition n r (bytes ∷ more) ≡ whole → with_lines edition (n + 1) s more ≡ whole
-with_lines_next edition n r s bytes more whole here h = rw here at h
 
 -- ---- what each line wanted, and what it made
 

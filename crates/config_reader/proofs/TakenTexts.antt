@@ -1,15 +1,13 @@
 -- The text of a lawful configuration is read.
-use Rattle.std.proofs.Common.{◌≡◌, ℕ, suc, ◌+◌, ◌-◌, ◌<◌, ◌^◌, List, [], ◌∷◌, ◌++◌, length, map, Bool, true, false, Some, None, Result, Ok, refl, sym, ◌∙◌, ap, subst, arith, append_assoc, length-append}
-use Rattle.std.specs.Prelude.{◌==◌, slice_index_or, codes, if◌then◌else◌}
-use Rattle.std.specs.List.{slice_split, flat_map, AllByRecursion}
+use Rattle.std.proofs.Common.{◌≡◌, ℕ, ◌+◌, ◌<◌, ◌^◌, List, [], ◌∷◌, ◌++◌, length, map, Bool, true, false, Some, None, Result, Ok, refl, sym, ◌∙◌, ap, subst, arith, append_assoc, length-append}
+use Rattle.std.specs.Prelude.{◌==◌, codes, if◌then◌else◌}
+use Rattle.std.specs.List.{flat_map, AllByRecursion}
 use Rattle.std.specs.Str.{bytes_eq}
 use Rattle.std.proofs.lemmas.Bool.{ne_eqb}
 use Rattle.std.proofs.lemmas.Slice.Eq.{bytes_eq-Decides}
 use Rattle.std.proofs.lemmas.List.{map-append}
 use Rattle.list_laws.proofs.Each.{AllByRecursion-append, AllByRecursion-append_parts, AllByRecursion-weaker, AllByRecursion-both}
 use Rattle.net_base.specs.Prefixes.{PlainPattern}
-use Rattle.net_base.specs.Steps.{◌>>=◌}
-use Rattle.net_base.proofs.StepLemmas.{bind_ok, ok_same}
 use Rattle.config_base.specs.declared.config.RouterConfig.{RouterConfig}
 use Rattle.config_base.specs.declared.config.Session.{Session}
 use Rattle.config_base.specs.declared.config.Rule.{Rule}
@@ -22,7 +20,6 @@ use Rattle.config_lines.specs.Editions.{first_line}
 use Rattle.config_lines.specs.LineText.{line_text, IsLine}
 use Rattle.config_lines.specs.Lines.{line_of}
 use Rattle.text_words.proofs.PrefixTexts.{have_no}
-use Rattle.config_lines.proofs.Solid.{split_word}
 use Rattle.config_lines.proofs.WrittenForms.{IsReadAgain, class_there_by, lines_read}
 use Rattle.config_text.specs.ConfigLines.{fed, lines, lines_of_classes, head_of, import_of, lines_of_session, lines_before_end, lines_of_router}
 use Rattle.config_text.specs.Spelled.{IsLawful, HasLinesOf, SpellsIn}
@@ -31,30 +28,18 @@ use Rattle.config_reader.specs.declared.fault.ConfigFault.{ConfigFault}
 use Rattle.config_reader.specs.Faults.{Gives}
 use Rattle.config_reader.specs.declared.reading.Reading.{Reading}
 use Rattle.config_reader.specs.Reading.{opening, after}
-use Rattle.config_reader.specs.Text.{with_line, with_lines, finished, whole_lines, behind_heading, in_lines, spelled_in}
-use Rattle.config_reader.proofs.Runs.{run, at, run_classes, run_routers}
+use Rattle.line_laws.specs.Lines.{lines_of}
+use Rattle.line_laws.proofs.FedLines.{cut_lines}
+use Rattle.line_laws.proofs.LineByLine.{line_by_line-append}
+use Rattle.line_laws.proofs.Runs.{run_taken}
+use Rattle.line_laws.proofs.WholeLines.{whole_push}
+use Rattle.config_reader.specs.Text.{with_line, with_lines, finished, behind_heading, in_lines, spelled_in}
+use Rattle.config_reader.proofs.Runs.{at, run_classes, run_routers}
 use Rattle.config_reader.proofs.Steps.{router_ok, own_ok, neighbour_ok, import_ok, export_ok, end_ok}
 
 line_taken : (edition : Edition) (n : ℕ) (r s : Reading) (l : Line) → line_of edition (line_text edition l) (length r.classes) ≡ Ok l → after r l ≡ Ok s → with_line edition n r (line_text edition l) ≡ Ok s
 unfolding with_line
 line_taken edition n r s l h k = rw (h, k) refl
-
-with_lines_append : (edition : Edition) (n : ℕ) (r s t : Reading) (xs ys : List (List ℕ)) → with_lines edition n r xs ≡ Ok s → ((m : ℕ) → with_lines edition m s ys ≡ Ok t) → with_lines edition n r (xs ++ ys) ≡ Ok t
-with_lines_append edition n r s t [] ys h k = let same : r ≡ s = ok_same r s h in ap (λ (q : Reading). with_lines edition n q ys) same ∙ k n
-with_lines_append edition n r s t (x ∷ xs) ys h k =
-    let b = bind_ok (with_line edition n r x) _ s h in
-    ap (λ (o : Result Reading ConfigFault). o >>= (λ q. with_lines edition (n + 1) q (xs ++ ys))) b.1 ∙ with_lines_append edition (n + 1) b.0 s t xs ys b.2 k
-
--- the texts of lines that are read where they stand, and are taken
-module _ (edition : Edition) (P : Reading → Type 0) (Q : Line → Type 0)
-    (reads : (r : Reading) (l : Line) → P r → Q l → line_of edition (line_text edition l) (length r.classes) ≡ Ok l)
-    (keeps : (r s : Reading) (l : Line) → P r → Q l → after r l ≡ Ok s → P s) where
-  taken : (n : ℕ) (r s : Reading) (ls : List Line) → P r → AllByRecursion Q ls → run r ls ≡ Ok s → with_lines edition n r (map (line_text edition) ls) ≡ Ok s
-  taken n r s [] p all h = let same : r ≡ s = ok_same r s h in ap (λ (q : Reading). let o : Result Reading ConfigFault = Ok q in o) same
-  taken n r s (l ∷ ls) p all h =
-      let b = bind_ok (after r l) _ s h in
-      ap (λ (o : Result Reading ConfigFault). o >>= (λ q. with_lines edition (n + 1) q (map (line_text edition) ls))) (line_taken edition n r b.0 l (reads r l p all.0) b.1)
-      ∙ taken (n + 1) b.0 s ls (keeps r b.0 l p all.0 b.1) all.1 b.2
 
 -- ---- lines of routers
 
@@ -144,23 +129,6 @@ are_lines edition c fits =
 
 -- ---- the whole text
 
--- a text whose lines have no line feed is cut into them
-cut_lines : (edition : Edition) (first : List ℕ) (ls : List Line) → have_no 10 first ≡ true → AllByRecursion (λ (l : Line). have_no 10 (line_text edition l) ≡ true) ls
-    → slice_split (λ b. b == 10) (first ++ (10 ∷ flat_map (fed edition) ls)) ≡ first ∷ (map (line_text edition) ls ++ [] ∷ [])
-cut_lines edition first [] none all = split_word 10 first [] none
-cut_lines edition first (l ∷ ls) none all =
-    split_word 10 first (fed edition l ++ flat_map (fed edition) ls) none
-    ∙ ap (λ (ps : List (List ℕ)). first ∷ ps) (ap (slice_split (λ b. b == 10)) (append_assoc (line_text edition l) (codes "\n") (flat_map (fed edition) ls)) ∙ cut_lines edition (line_text edition l) ls all.0 all.1)
-
--- all but the last of some and one more
-pub whole_push : (ts : List (List ℕ)) (x : List ℕ) → (whole_lines (ts ++ x ∷ []) ≡ ts) × (slice_index_or (ts ++ x ∷ []) (length (ts ++ x ∷ []) - 1) [] ≡ x)
-whole_push [] x = (refl, refl)
-whole_push (t ∷ ts) x =
-    let long : length (ts ++ x ∷ []) ≡ length ts + 1 = length-append ts (x ∷ []) in
-    let k : length ((t ∷ ts) ++ x ∷ []) - 1 ≡ suc (length (ts ++ x ∷ []) - 1) = omega (arith, long) in
-    let rest = whole_push ts x in
-    (rw k (ap (λ (xs : List (List ℕ)). t ∷ xs) rest.0), rw k rest.1)
-
 config_taken : (edition : Edition) (c : PlainConfig) → IsLawful c → HasLinesOf edition c → with_lines edition 2 opening (map (line_text edition) (lines c)) ≡ Ok (at c.classes c.routers None)
 config_taken edition c is fits =
     let classes : List Line = lines_of_classes 1 c.classes in
@@ -169,10 +137,10 @@ config_taken edition c is fits =
     let few : length c.classes < 2 ^ 32 = is.rules.count in
     let are = are_lines edition c fits in
     map_texts classes routers
-    ∙ with_lines_append edition 2 opening (at c.classes [] None) (at c.classes c.routers None) (map (line_text edition) classes) (map (line_text edition) routers)
-    (taken edition (λ _. Unit {0}) (IsClassLine edition) (λ r l p q. (q (length r.classes)).0) (λ r s l p q h. tt) 2 opening (at c.classes [] None) classes tt are.classes (run_classes [] c.classes))
-    (λ m. taken edition (λ (r : Reading). r.classes ≡ c.classes) (IsOne edition count)
-    (λ r l p q. ap (λ (k : ℕ). line_of edition (line_text edition l) k) (ap length p) ∙ (lines_read edition count l few q.0).0)
+    ∙ line_by_line-append (with_line edition) 2 opening (at c.classes [] None) (at c.classes c.routers None) (map (line_text edition) classes) (map (line_text edition) routers)
+    (run_taken after (with_line edition) (line_text edition) (λ _. Unit {0}) (IsClassLine edition) (λ n r s l p q. line_taken edition n r s l (q (length r.classes)).0) (λ r s l p q h. tt) 2 opening (at c.classes [] None) classes tt are.classes (run_classes [] c.classes))
+    (λ m. run_taken after (with_line edition) (line_text edition) (λ (r : Reading). r.classes ≡ c.classes) (IsOne edition count)
+    (λ n r s l p q. line_taken edition n r s l (ap (λ (k : ℕ). line_of edition (line_text edition l) k) (ap length p) ∙ (lines_read edition count l few q.0).0))
     (λ r s l p q h. same_classes r s l q.1 h ∙ p)
     m (at c.classes [] None) (at c.classes c.routers None) routers refl are.routers
     (run_routers count c.classes [] c.routers (record { names = is.rules.names; asns = is.rules.asns; ids = is.rules.ids }) is.rules.routers))
@@ -203,8 +171,8 @@ unfolding in_lines behind_heading finished
 spelled_is_read edition bytes c s =
     let ts : List (List ℕ) = map (line_text edition) (lines c) in
     let whole = whole_push ts [] in
-    let cut : slice_split (λ b. b == 10) bytes ≡ first_line edition ∷ (ts ++ [] ∷ []) =
-    ap (slice_split (λ b. b == 10)) (s.written ∙ text_of_lines edition c ∙ append_assoc (first_line edition) (codes "\n") (flat_map (fed edition) (lines c))) ∙ cut_lines edition (first_line edition) (lines c) (first_no_feed edition) (no_feeds edition c s.lawful s.fits) in
+    let cut : lines_of bytes ≡ first_line edition ∷ (ts ++ [] ∷ []) =
+    ap lines_of (s.written ∙ text_of_lines edition c ∙ append_assoc (first_line edition) (codes "\n") (flat_map (fed edition) (lines c))) ∙ cut_lines (line_text edition) (first_line edition) (lines c) (first_no_feed edition) (no_feeds edition c s.lawful s.fits) in
     let long : length (ts ++ [] ∷ []) ≡ length ts + 1 = length-append ts ([] ∷ []) in
     let some : (length (ts ++ [] ∷ []) == 0) ≡ false = ne_eqb (length (ts ++ [] ∷ [])) 0 (λ e. omega (arith, e, long)) in
     let same : bytes_eq (first_line edition) (first_line edition) ≡ true = (bytes_eq-Decides (first_line edition) (first_line edition)).1 refl in

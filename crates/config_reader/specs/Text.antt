@@ -1,6 +1,5 @@
 -- Which configuration a text of an edition spells, or its first fault.
-use Rattle.std.specs.Prelude.{ℕ, ◌+◌, ◌-◌, ◌==◌, ◌&&◌, not, is_none, take, slice_index_or, List, [], ◌∷◌, length, Result, Ok, Err}
-use Rattle.std.specs.List.{slice_split}
+use Rattle.std.specs.Prelude.{ℕ, ◌==◌, ◌&&◌, not, is_none, List, [], ◌∷◌, length, Result, Ok, Err}
 use Rattle.std.specs.Str.{bytes_eq}
 use Rattle.net_base.specs.Steps.{◌>>=◌, unless}
 use Rattle.config_base.specs.Configs.{PlainConfig}
@@ -11,6 +10,7 @@ use Rattle.config_lines.specs.declared.line.LineFault.{LineFault}
 use Rattle.config_lines.specs.declared.line.LineFault.TheVariants as line
 use Rattle.config_lines.specs.Editions.{first_line}
 use Rattle.config_lines.specs.Lines.{line_of}
+use Rattle.line_laws.specs.Lines.{lines_of, whole_lines, last_line, line_by_line}
 use Rattle.config_reader.specs.declared.fault.ConfigFault.{ConfigFault}
 use Rattle.config_reader.specs.declared.fault.ConfigFault.TheVariants as fault
 use Rattle.config_reader.specs.declared.reading.Reading.{Reading}
@@ -40,10 +40,7 @@ with_line edition n r bytes = do
 
 -- line by line, of which the first one has this number
 abbrev pub with_lines : Edition → ℕ → Reading → List (List ℕ) → Result Reading ConfigFault
-with_lines edition n r [] = Ok r
-with_lines edition n r (bytes ∷ more) = do
-  next ← with_line edition n r bytes
-  with_lines edition (n + 1) next more
+with_lines edition = line_by_line (with_line edition)
 
 -- no block is open, and nothing follows the last line feed
 unfoldable pub finished : Reading → List ℕ → Result PlainConfig ConfigFault
@@ -51,15 +48,11 @@ finished r rest = do
   _ ← unless fault.Unfinished (is_none r.opened && length rest == 0)
   Ok (record { classes = r.classes; routers = r.routers })
 
--- all but the last
-abbrev pub whole_lines : List (List ℕ) → List (List ℕ)
-whole_lines more = take (length more - 1) more
-
 -- behind the first line: whole lines, and then what follows the last line feed
 unfoldable pub behind_heading : Edition → List (List ℕ) → Result PlainConfig ConfigFault
 behind_heading edition more = do
   r ← with_lines edition 2 opening (whole_lines more)
-  finished r (slice_index_or more (length more - 1) [])
+  finished r (last_line more)
 
 -- the first line, and what stands between and behind the line feeds
 unfoldable pub in_lines : Edition → List (List ℕ) → Result PlainConfig ConfigFault
@@ -70,7 +63,7 @@ in_lines edition (first ∷ more) = do
 
 -- the text is cut at each line feed
 abbrev pub spelled_in : Edition → List ℕ → Result PlainConfig ConfigFault
-spelled_in edition bytes = in_lines edition (slice_split (λ b. b == 10) bytes)
+spelled_in edition bytes = in_lines edition (lines_of bytes)
 
 -- as texts are written: in the second edition
 abbrev pub spelled : List ℕ → Result PlainConfig ConfigFault

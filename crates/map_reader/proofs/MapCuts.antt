@@ -1,42 +1,33 @@
--- A maps text is taken line by line, up to what stands behind the last line feed.
-use Rattle.std.proofs.Common.{◌≡◌, ℕ, ◌+◌, List, length, true, false, Result, Ok, Err, refl, sym, ◌∙◌, ap, arith}
+-- The answer at the first fault of a maps text, and where all its lines are taken.
+use Rattle.std.proofs.Common.{◌≡◌, ℕ, List, length, true, false, Err, refl, sym, ◌∙◌, ap, arith}
 use Rattle.std.specs.Str.{bytes_eq}
 use Rattle.std.proofs.lemmas.Bool.{ne_eqb}
 use Rattle.net_base.specs.Addresses.{cut_at}
 use Rattle.config_lines.proofs.CutParts.{halves, no_halves, split_there, split_nowhere}
-use Rattle.config_reader.specs.Text.{whole_lines}
-use Rattle.config_reader.proofs.CutLines.{lines_of, lines_of-some, last_line, last_line_nowhere, whole_lines_there, whole_lines_nowhere}
+use Rattle.line_laws.specs.Lines.{lines_of, whole_lines, last_line}
+use Rattle.line_laws.proofs.CutLines.{lines_of-some, last_line_nowhere}
+use Rattle.line_laws.proofs.LineByLine.{fault_stops, all_taken}
 use Rattle.route_map_text.specs.MapsLines.{first_line}
 use Rattle.config_reader.specs.declared.fault.ConfigFault.{ConfigFault}
 use Rattle.config_reader.specs.declared.fault.ConfigFault.TheVariants as fault
 use Rattle.map_reader.specs.declared.reading.MapsReading.{MapsReading}
 use Rattle.map_reader.specs.MapsReading.{opening}
 use Rattle.map_reader.specs.MapsRead.{with_line, with_lines, finished, behind_heading, in_lines, spelled}
-use Rattle.map_reader.proofs.MapSteps.{with_lines_next}
-
--- the line makes what was read more
-pub taken : (n : ℕ) (r s : MapsReading) (bytes line rest : List ℕ) (whole : Result MapsReading ConfigFault) → halves line rest ≡ cut_at 10 bytes → with_line n r line ≡ Ok s
-    → with_lines n r (whole_lines (lines_of bytes)) ≡ whole → with_lines (n + 1) s (whole_lines (lines_of rest)) ≡ whole
-taken n r s bytes line rest whole cut here before = with_lines_next n r s line (whole_lines (lines_of rest)) whole here (sym (ap (with_lines n r) (whole_lines_there bytes line rest cut)) ∙ before)
 
 -- the line has a fault
 pub faulty : (n : ℕ) (r : MapsReading) (bytes line rest all : List ℕ) (e : ConfigFault) → halves line rest ≡ cut_at 10 bytes → with_line n r line ≡ Err e
     → with_lines n r (whole_lines (lines_of bytes)) ≡ with_lines 2 opening (whole_lines (lines_of all)) → behind_heading (lines_of all) ≡ Err e
 unfolding behind_heading
 faulty n r bytes line rest all e cut here before =
-    let stops : with_lines 2 opening (whole_lines (lines_of all)) ≡ Err e = sym before ∙ ap (with_lines n r) (whole_lines_there bytes line rest cut) ∙ rw here refl in
+    let stops = fault_stops with_line n r bytes line rest (with_lines 2 opening (whole_lines (lines_of all))) e cut here before in
     rw stops refl
 
 -- all whole lines are read
-pub all_taken : (n : ℕ) (r : MapsReading) (bytes all : List ℕ) → no_halves ≡ cut_at 10 bytes
-    → with_lines n r (whole_lines (lines_of bytes)) ≡ with_lines 2 opening (whole_lines (lines_of all)) → with_lines 2 opening (whole_lines (lines_of all)) ≡ Ok r
-all_taken n r bytes all cut before = sym before ∙ ap (with_lines n r) (whole_lines_nowhere bytes cut)
-
 pub finished_behind : (n : ℕ) (r : MapsReading) (bytes all : List ℕ) → no_halves ≡ cut_at 10 bytes
     → with_lines n r (whole_lines (lines_of bytes)) ≡ with_lines 2 opening (whole_lines (lines_of all)) → last_line (lines_of bytes) ≡ last_line (lines_of all) → behind_heading (lines_of all) ≡ finished r bytes
 unfolding behind_heading
 finished_behind n r bytes all cut before last =
-    let read = all_taken n r bytes all cut before in
+    let read = all_taken with_line n r bytes (with_lines 2 opening (whole_lines (lines_of all))) cut before in
     let rest : last_line (lines_of all) ≡ bytes = sym last ∙ last_line_nowhere bytes cut in
     rw read (ap (finished r) rest)
 

@@ -1,7 +1,7 @@
 -- A maps text that is read is that of its maps, which are lawful.
-use Rattle.std.proofs.Common.{◌≡◌, ℕ, ◌+◌, ◌-◌, ◌<◌, ◌≤◌, ◌^◌, List, [], ◌∷◌, ◌++◌, length, map, min, take, Option, None, Ok, refl, sym, ◌∙◌, ap, ap₂, subst, arith, append-nil, append_assoc}
-use Rattle.std.specs.Prelude.{◌≢◌, ◌&&◌, ◌==◌, not, is_none, slice_index_or, Result, Err, IfOk}
-use Rattle.std.specs.List.{slice_split, join_with_byte, flat_map, AllByRecursion}
+use Rattle.std.proofs.Common.{◌≡◌, ℕ, ◌+◌, ◌-◌, ◌<◌, ◌≤◌, ◌^◌, List, [], ◌∷◌, ◌++◌, length, map, min, Option, None, Ok, refl, sym, ◌∙◌, ap, ap₂, subst, arith, append-nil, append_assoc}
+use Rattle.std.specs.Prelude.{◌≢◌, ◌&&◌, ◌==◌, not, is_none, Result, Err, IfOk}
+use Rattle.std.specs.List.{join_with_byte, flat_map, AllByRecursion}
 use Rattle.std.specs.Str.{bytes_eq}
 use Rattle.std.proofs.lemmas.Bool.{and_parts, eqb-true, eqb-false, not-true}
 use Rattle.std.proofs.lemmas.List.Splits.{join_with_byte-slice_split}
@@ -15,7 +15,10 @@ use Rattle.config_text.specs.ConfigLines.{lines_of_router}
 use Rattle.config_reader.specs.declared.reading.OpenRouter.{OpenRouter}
 use Rattle.config_reader.proofs.Lawful.{reading_lawful}
 use Rattle.config_reader.proofs.SoFar.{open_lines}
-use Rattle.config_reader.proofs.ReadTexts.{last_split, fed_lines, join_front, few_lines}
+use Rattle.line_laws.specs.Lines.{lines_of, whole_lines, last_line}
+use Rattle.line_laws.proofs.CutLines.{few_lines}
+use Rattle.line_laws.proofs.FedLines.{fed_lines, fed_texts, join_front}
+use Rattle.line_laws.proofs.WholeLines.{last_split}
 use Rattle.route_maps.specs.Maps.{PlainMaps}
 use Rattle.map_lines.specs.declared.line.MapLine.{MapLine}
 use Rattle.map_lines.specs.MapLineText.{map_line_text}
@@ -66,24 +69,20 @@ finished_ok r rest m h =
     let both = and_parts (is_none r.blocks.opened) (length rest == 0) (unless_ok fault.Unfinished _ a.0 a.1) in
     (is_none_parts r.blocks.opened both.0, nil_from_length rest (eqb-true (length rest) 0 both.1), ok_same _ m a.2)
 
-fed_texts : (ls : List MapLine) → flat_map fed ls ≡ flat_map (λ (t : List ℕ). t ++ 10 ∷ []) (map map_line_text ls)
-fed_texts [] = refl
-fed_texts (l ∷ ls) = ap (λ (x : List ℕ). fed l ++ x) (fed_texts ls)
-
 -- behind the first line
 record IsBehind (more : List (List ℕ)) (m : PlainMaps) : Type 0 where
   s : MapsReading
-  read : AreRead opening s (take (length more - 1) more)
+  read : AreRead opening s (whole_lines more)
   none_open : s.blocks.opened ≡ None
-  rest : slice_index_or more (length more - 1) [] ≡ []
+  rest : last_line more ≡ []
   made : (let d : PlainMaps = record { lists = s.lists; routers = s.blocks.routers } in d) ≡ m
 
 behind_back : (more : List (List ℕ)) (m : PlainMaps) → behind_heading more ≡ Ok m → IsBehind more m
 unfolding behind_heading
 behind_back more m h =
-    let s = bind_ok (with_lines 2 opening (take (length more - 1) more)) _ m h in
-    let f = finished_ok s.0 (slice_index_or more (length more - 1) []) m s.2 in
-    record { s = s.0; read = lines_back 2 opening s.0 (take (length more - 1) more) opening_kept s.1; none_open = f.0; rest = f.1; made = f.2 }
+    let s = bind_ok (with_lines 2 opening (whole_lines more)) _ m h in
+    let f = finished_ok s.0 (last_line more) m s.2 in
+    record { s = s.0; read = lines_back 2 opening s.0 (whole_lines more) opening_kept s.1; none_open = f.0; rest = f.1; made = f.2 }
 
 -- the lines that were read are those of the maps
 behind_lines : (more : List (List ℕ)) (m : PlainMaps) (b : IsBehind more m) → b.read.ls ≡ map_lines (record { lists = b.s.lists; routers = b.s.blocks.routers })
@@ -96,13 +95,13 @@ behind_lines more m b =
 -- the text behind the first line
 behind_text : (more : List (List ℕ)) (m : PlainMaps) → length more ≢ 0 → IsBehind more m → join_with_byte 10 (first_line ∷ more) ≡ maps_text m
 behind_text more m some b =
-    let ts : List (List ℕ) = take (length more - 1) more in
+    let ts : List (List ℕ) = whole_lines more in
     let split : more ≡ ts ++ [] ∷ [] = last_split more some ∙ ap (λ (x : List ℕ). ts ++ x ∷ []) b.rest in
     let feeds : List (List ℕ) → List ℕ = flat_map (λ (t : List ℕ). t ++ 10 ∷ []) in
     let d : PlainMaps = record { lists = b.s.lists; routers = b.s.blocks.routers } in
     ap (λ (x : List (List ℕ)). join_with_byte 10 (first_line ∷ x)) split
     ∙ join_front first_line [] ts
-    ∙ ap (λ (x : List ℕ). first_line ++ (10 ∷ x)) (fed_lines ts ∙ ap feeds (sym b.read.written) ∙ sym (fed_texts b.read.ls) ∙ ap (flat_map fed) (behind_lines more m b))
+    ∙ ap (λ (x : List ℕ). first_line ++ (10 ∷ x)) (fed_lines ts ∙ ap feeds (sym b.read.written) ∙ sym (fed_texts map_line_text b.read.ls) ∙ ap (flat_map fed) (behind_lines more m b))
     ∙ sym (append_assoc first_line (10 ∷ []) (flat_map fed (map_lines d)))
     ∙ ap maps_text b.made
 
@@ -122,10 +121,10 @@ maps_lawful s k none_open few =
       routers = c.routers;
     }
 
-pub behind_lawful : (more : List (List ℕ)) (s : MapsReading) → length more < 4294967295 → with_lines 2 opening (take (length more - 1) more) ≡ Ok s → s.blocks.opened ≡ None → IsLawful (record { lists = s.lists; routers = s.blocks.routers })
+pub behind_lawful : (more : List (List ℕ)) (s : MapsReading) → length more < 4294967295 → with_lines 2 opening (whole_lines more) ≡ Ok s → s.blocks.opened ≡ None → IsLawful (record { lists = s.lists; routers = s.blocks.routers })
 behind_lawful more s short h none_open =
-    let read = lines_back 2 opening s (take (length more - 1) more) opening_kept h in
-    let long : length (take (length more - 1) more) ≡ min (length more - 1) (length more) = length-take (length more - 1) more in
+    let read = lines_back 2 opening s (whole_lines more) opening_kept h in
+    let long : length (whole_lines more) ≡ min (length more - 1) (length more) = length-take (length more - 1) more in
     maps_lawful s read.kept none_open (omega (arith, read.few, long, short))
 
 lines_spell : (first : List ℕ) (more : List (List ℕ)) (m : PlainMaps) → length more < 4294967295 → in_lines (first ∷ more) ≡ Ok m → (join_with_byte 10 (first ∷ more) ≡ maps_text m) × IsLawful m
@@ -136,7 +135,7 @@ lines_spell first more m short h =
     let some = eqb-false (length more) 0 (not-true (length more == 0) both.0) in
     let head : first ≡ first_line = (bytes_eq-Decides first first_line).0 both.1 in
     let b = behind_back more m a.2 in
-    let long : length (take (length more - 1) more) ≡ min (length more - 1) (length more) = length-take (length more - 1) more in
+    let long : length (whole_lines more) ≡ min (length more - 1) (length more) = length-take (length more - 1) more in
     (ap (λ (x : List ℕ). join_with_byte 10 (x ∷ more)) head ∙ behind_text more m some b, subst IsLawful b.made (maps_lawful b.s b.read.kept b.none_open (omega (arith, b.read.few, long, short))))
 
 no_lines : (m : PlainMaps) → in_lines [] ≡ Ok m → ⊥
@@ -145,12 +144,12 @@ no_lines m h = cc
 
 -- what is read is spelled so
 pub read_is_spelled : (bytes : List ℕ) (m : PlainMaps) → length bytes < 4294967295 → spelled bytes ≡ Ok m → Spells bytes m
-read_is_spelled bytes m short h = by (slice_split (λ b. b == 10) bytes) refl h
+read_is_spelled bytes m short h = by (lines_of bytes) refl h
   where
-    by : (ps : List (List ℕ)) → slice_split (λ b. b == 10) bytes ≡ ps → in_lines ps ≡ Ok m → Spells bytes m
+    by : (ps : List (List ℕ)) → lines_of bytes ≡ ps → in_lines ps ≡ Ok m → Spells bytes m
     by [] e k = absurd (no_lines m k)
     by (first ∷ more) e k =
-        let back = lines_spell first more m (few_lines bytes first more e short) k in
+        let back = lines_spell first more m (few_lines bytes first more 4294967295 e short) k in
         record { lawful = back.1; written = sym (join_with_byte-slice_split 10 bytes) ∙ ap (join_with_byte 10) e ∙ back.0 }
 
 -- what comes back is spelled so

@@ -15,10 +15,9 @@ use Rattle.route_maps.specs.declared.maps.ListLine.{ListLine}
 use Rattle.map_lines.specs.declared.line.MapLine.{MapLine}
 use Rattle.map_lines.specs.declared.line.MapLine.TheVariants as written
 use Rattle.map_lines.specs.MapLines.{map_line_of}
-use Rattle.config_reader.specs.declared.fault.ConfigFault.{ConfigFault}
 use Rattle.map_reader.specs.declared.reading.MapsReading.{MapsReading}
 use Rattle.map_reader.specs.MapsReading.{continues, on_last, with_list, in_blocks, is_out, entries_of, is_number_of, with_entry, after_map}
-use Rattle.map_reader.specs.MapsRead.{read_at, placed_at, with_line, with_lines}
+use Rattle.map_reader.specs.MapsRead.{read_at, placed_at, with_line}
 
 read_at_ok : (n : ℕ) (r : Result MapLine LineFault) (l : MapLine) → read_at n r ≡ Ok l → r ≡ Ok l
 read_at_ok n (Ok m) l h = ap Ok (ok_same m l h)
@@ -102,8 +101,3 @@ after-lists r s (written.Block l) h = let b = block_ok r s l h in same_count r s
 
 pub with_line-lists : (n : ℕ) (r s : MapsReading) (bytes : List ℕ) → with_line n r bytes ≡ Ok s → OneMore r s
 with_line-lists n r s bytes h = let l = with_line_ok n r s bytes h in after-lists r s l.0 l.2
-
--- a line more in a loop over the lines
-pub with_lines_next : (n : ℕ) (r s : MapsReading) (bytes : List ℕ) (more : List (List ℕ)) (whole : Result MapsReading ConfigFault) → with_line n r bytes ≡ Ok s
-    → with_lines n r (bytes ∷ more) ≡ whole → with_lines (n + 1) s more ≡ whole
-with_lines_next n r s bytes more whole here h = rw here at h

@@ -1,7 +1,7 @@
 -- The text of lawful maps is read.
 use Rattle.std.proofs.Common.{◌≡◌, ℕ, ◌+◌, ◌*◌, ◌<◌, ◌≤◌, ◌^◌, List, [], ◌∷◌, ◌++◌, length, map, true, false, Some, None, Result, Ok, refl, sym, ◌∙◌, ap, subst, arith, append-nil, append_assoc, length-append}
 use Rattle.std.specs.Prelude.{◌≢◌, ◌==◌, nat_lt, codes}
-use Rattle.std.specs.List.{slice_split, flat_map, AllByRecursion}
+use Rattle.std.specs.List.{flat_map, AllByRecursion}
 use Rattle.std.proofs.lemmas.Bool.{ne_eqb, eq-eqb, lt-ltb}
 use Rattle.std.proofs.lemmas.List.{map-append}
 use Rattle.std.proofs.lemmas.List.Concat.{flat_map-append}
@@ -15,7 +15,6 @@ use Rattle.config_lines.specs.declared.edition.Edition.TheVariants.{Second}
 use Rattle.config_lines.specs.declared.line.Line.{Line}
 use Rattle.config_lines.specs.declared.line.Line.TheVariants as line
 use Rattle.config_lines.specs.LineText.{IsLine}
-use Rattle.config_lines.proofs.Solid.{split_word}
 use Rattle.config_text.specs.ConfigLines.{lines_of_classes, lines_of_router}
 use Rattle.config_text.specs.Spelled.{ArePatterns}
 use Rattle.config_text.specs.Spelled.{IsLawful as IsLawfulConfig}
@@ -25,7 +24,12 @@ use Rattle.config_reader.specs.declared.reading.Misplaced.{Misplaced}
 use Rattle.config_reader.specs.declared.reading.Misplaced.TheVariants.{Order}
 use Rattle.config_reader.specs.Reading.{after}
 use Rattle.config_reader.proofs.Runs.{run, at, class_step, run_routers}
-use Rattle.config_reader.proofs.TakenTexts.{IsOther, flat_other, router_other, whole_push}
+use Rattle.config_reader.proofs.TakenTexts.{IsOther, flat_other, router_other}
+use Rattle.line_laws.specs.Lines.{lines_of}
+use Rattle.line_laws.proofs.FedLines.{cut_lines}
+use Rattle.line_laws.proofs.LineByLine.{line_by_line-append}
+use Rattle.line_laws.proofs.Runs.{run as run_by, run_step, run_append, run_taken}
+use Rattle.line_laws.proofs.WholeLines.{whole_push}
 use Rattle.route_maps.specs.declared.maps.ListLine.{ListLine}
 use Rattle.route_maps.specs.Maps.{PlainMaps}
 use Rattle.map_lines.specs.declared.line.MapLine.{MapLine}
@@ -66,17 +70,7 @@ firsts-append (x ∷ xs) ys = ap (λ (ps : List (List PlainPattern)). first_patt
 -- ---- lines one after another
 
 abbrev run_map : MapsReading → List MapLine → Result MapsReading Misplaced
-run_map r [] = Ok r
-run_map r (l ∷ ls) = after_map r l >>= (λ s. run_map s ls)
-
-run_step : (r s t : MapsReading) (l : MapLine) (ls : List MapLine) → after_map r l ≡ Ok s → run_map s ls ≡ Ok t → run_map r (l ∷ ls) ≡ Ok t
-run_step r s t l ls h k = ap (λ (o : Result MapsReading Misplaced). o >>= (λ q. run_map q ls)) h ∙ k
-
-run_append : (r s t : MapsReading) (xs ys : List MapLine) → run_map r xs ≡ Ok s → run_map s ys ≡ Ok t → run_map r (xs ++ ys) ≡ Ok t
-run_append r s t [] ys h k = let same : r ≡ s = ok_same r s h in ap (λ (q : MapsReading). run_map q ys) same ∙ k
-run_append r s t (x ∷ xs) ys h k =
-    let b = bind_ok (after_map r x) (λ q. run_map q xs) s h in
-    run_step r b.0 t x (xs ++ ys) b.1 (run_append b.0 s t xs ys b.2 k)
+run_map = run_by after_map
 
 ok_map : (r s : MapsReading) → r ≡ s → (let o : Result MapsReading Misplaced = Ok r in o) ≡ Ok s
 ok_map r s e = ap (λ (q : MapsReading). let o : Result MapsReading Misplaced = Ok q in o) e
@@ -107,7 +101,7 @@ run_list : (done : List (List ListLine)) (x ls : List ListLine) (cs : List (List
     → run_map (listed (done ++ x ∷ []) cs) (lines_of_list (length done + 1) ls) ≡ Ok (listed (done ++ (x ++ ls) ∷ []) cs)
 run_list done x [] cs = ok_map (listed (done ++ x ∷ []) cs) (listed (done ++ (x ++ []) ∷ []) cs) (ap (λ (y : List ListLine). listed (done ++ y ∷ []) cs) (sym (append-nil x)))
 run_list done x (l ∷ ls) cs =
-    run_step (listed (done ++ x ∷ []) cs) (listed (done ++ (x ++ l ∷ []) ∷ []) cs) (listed (done ++ (x ++ l ∷ ls) ∷ []) cs) (written.List (Some (length done + 1)) l) (lines_of_list (length done + 1) ls) (list_more done x cs l)
+    run_step after_map (listed (done ++ x ∷ []) cs) (listed (done ++ (x ++ l ∷ []) ∷ []) cs) (listed (done ++ (x ++ l ∷ ls) ∷ []) cs) (written.List (Some (length done + 1)) l) (lines_of_list (length done + 1) ls) (list_more done x cs l)
     (run_list done (x ++ l ∷ []) ls cs ∙ ok_map (listed (done ++ ((x ++ l ∷ []) ++ ls) ∷ []) cs) (listed (done ++ (x ++ l ∷ ls) ∷ []) cs) (ap (λ (y : List ListLine). listed (done ++ y ∷ []) cs) (append_assoc x (l ∷ []) ls)))
 
 run_lists : (done lists : List (List ListLine)) → AllByRecursion (λ (ls : List ListLine). ls ≢ []) lists → run_map (listed done (firsts done)) (lines_of_lists (length done + 1) lists) ≡ Ok (listed (done ++ lists) (firsts (done ++ lists)))
@@ -117,8 +111,8 @@ run_lists done ((l ∷ ls) ∷ lists) all =
     let next : List (List ListLine) = done ++ (l ∷ ls) ∷ [] in
     let cs : firsts done ++ (l.pattern ∷ []) ∷ [] ≡ firsts next = sym (firsts-append done ((l ∷ ls) ∷ [])) in
     let number : length done + 1 + 1 ≡ length next + 1 = omega (arith, length-append done ((l ∷ ls) ∷ [])) in
-    run_append (listed done (firsts done)) (listed next (firsts next)) (listed (done ++ (l ∷ ls) ∷ lists) (firsts (done ++ (l ∷ ls) ∷ lists))) (lines_of_list (length done + 1) (l ∷ ls)) (lines_of_lists (length done + 1 + 1) lists)
-    (run_step (listed done (firsts done)) (listed (done ++ (l ∷ []) ∷ []) (firsts done ++ (l.pattern ∷ []) ∷ [])) (listed next (firsts next)) (written.List (Some (length done + 1)) l) (lines_of_list (length done + 1) ls) (list_first done l)
+    run_append after_map (listed done (firsts done)) (listed next (firsts next)) (listed (done ++ (l ∷ ls) ∷ lists) (firsts (done ++ (l ∷ ls) ∷ lists))) (lines_of_list (length done + 1) (l ∷ ls)) (lines_of_lists (length done + 1 + 1) lists)
+    (run_step after_map (listed done (firsts done)) (listed (done ++ (l ∷ []) ∷ []) (firsts done ++ (l.pattern ∷ []) ∷ [])) (listed next (firsts next)) (written.List (Some (length done + 1)) l) (lines_of_list (length done + 1) ls) (list_first done l)
     (run_list done (l ∷ []) ls (firsts done ++ (l.pattern ∷ []) ∷ []) ∙ ok_map (listed next (firsts done ++ (l.pattern ∷ []) ∷ [])) (listed next (firsts next)) (ap (listed next) cs)))
     (ap (λ n. run_map (listed next (firsts next)) (lines_of_lists n lists)) number
     ∙ run_lists next lists all.1
@@ -151,30 +145,14 @@ run_numbered : (lists : List (List ListLine)) (b t : Reading) (ls : List Line) �
 run_numbered lists b t [] other h = ok_map (made lists b) (made lists t) (ap (made lists) (ok_same b t h))
 run_numbered lists b t (l ∷ ls) other h =
     let d = bind_ok (after b l) (λ q. run q ls) t h in
-    run_step (made lists b) (made lists d.0) (made lists t) (number_line (counts b) l) (number_from (step (counts b) l) ls) (numbered_taken lists b d.0 l other.0 d.1)
+    run_step after_map (made lists b) (made lists d.0) (made lists t) (number_line (counts b) l) (number_from (step (counts b) l) ls) (numbered_taken lists b d.0 l other.0 d.1)
     (ap (λ (c : Counts). run_map (made lists d.0) (number_from c ls)) (sym (counts-after b d.0 l other.0 d.1)) ∙ run_numbered lists d.0 t ls other.1 d.2)
 
--- ---- the texts of lines that are read where they stand, and are taken
+-- ---- the text of a line that is read where it stands, and is taken
 
 line_taken : (n : ℕ) (r s : MapsReading) (l : MapLine) → map_line_of (map_line_text l) (length r.lists) ≡ Ok l → after_map r l ≡ Ok s → with_line n r (map_line_text l) ≡ Ok s
 unfolding with_line
 line_taken n r s l h k = rw (h, k) refl
-
-with_lines_append : (n : ℕ) (r s t : MapsReading) (xs ys : List (List ℕ)) → with_lines n r xs ≡ Ok s → ((m : ℕ) → with_lines m s ys ≡ Ok t) → with_lines n r (xs ++ ys) ≡ Ok t
-with_lines_append n r s t [] ys h k = let same : r ≡ s = ok_same r s h in ap (λ (q : MapsReading). with_lines n q ys) same ∙ k n
-with_lines_append n r s t (x ∷ xs) ys h k =
-    let b = bind_ok (with_line n r x) _ s h in
-    ap (λ (o : Result MapsReading ConfigFault). o >>= (λ q. with_lines (n + 1) q (xs ++ ys))) b.1 ∙ with_lines_append (n + 1) b.0 s t xs ys b.2 k
-
-module _ (P : MapsReading → Type 0) (Q : MapLine → Type 0)
-    (reads : (r : MapsReading) (l : MapLine) → P r → Q l → map_line_of (map_line_text l) (length r.lists) ≡ Ok l)
-    (keeps : (r s : MapsReading) (l : MapLine) → P r → Q l → after_map r l ≡ Ok s → P s) where
-  taken : (n : ℕ) (r s : MapsReading) (ls : List MapLine) → P r → AllByRecursion Q ls → run_map r ls ≡ Ok s → with_lines n r (map map_line_text ls) ≡ Ok s
-  taken n r s [] p all h = let same : r ≡ s = ok_same r s h in ap (λ (q : MapsReading). let o : Result MapsReading ConfigFault = Ok q in o) same
-  taken n r s (l ∷ ls) p all h =
-      let b = bind_ok (after_map r l) _ s h in
-      ap (λ (o : Result MapsReading ConfigFault). o >>= (λ q. with_lines (n + 1) q (map map_line_text ls))) (line_taken n r b.0 l (reads r l p all.0) b.1)
-      ∙ taken (n + 1) b.0 s ls (keeps r b.0 l p all.0 b.1) all.1 b.2
 
 -- ---- what the lines keep
 
@@ -281,10 +259,10 @@ maps_taken m is short =
     ∙ run_numbered m.lists (at (firsts m.lists) [] None) (at (firsts m.lists) m.routers None) ls (flat_other lines_of_router router_other m.routers)
     (run_routers count (firsts m.lists) [] m.routers (record { names = is.rules.names; asns = is.rules.asns; ids = is.rules.ids }) is.rules.routers) in
     ap (with_lines 2 opening) (map-append map_line_text lists blocks)
-    ∙ with_lines_append 2 opening (listed m.lists (firsts m.lists)) (made m.lists (at (firsts m.lists) m.routers None)) (map map_line_text lists) (map map_line_text blocks)
-    (taken (λ _. Unit {0}) IsListRead (λ r l p q. (q (length r.lists)).0) (λ r s l p q h. tt) 2 opening (listed m.lists (firsts m.lists)) lists tt (lists_reads 1 m.lists (omega (arith, is.rules.count)) is.patterns) (run_lists [] m.lists is.rules.lines))
-    (λ n. taken (λ (r : MapsReading). r.lists ≡ m.lists) (λ l. IsMapLine count l × IsNoList l)
-    (λ r l p q. ap (λ (k : ℕ). map_line_of (map_line_text l) k) (ap length p) ∙ (map_lines_read count l is.rules.count q.0).0)
+    ∙ line_by_line-append with_line 2 opening (listed m.lists (firsts m.lists)) (made m.lists (at (firsts m.lists) m.routers None)) (map map_line_text lists) (map map_line_text blocks)
+    (run_taken after_map with_line map_line_text (λ _. Unit {0}) IsListRead (λ n r s l p q. line_taken n r s l (q (length r.lists)).0) (λ r s l p q h. tt) 2 opening (listed m.lists (firsts m.lists)) lists tt (lists_reads 1 m.lists (omega (arith, is.rules.count)) is.patterns) (run_lists [] m.lists is.rules.lines))
+    (λ n. run_taken after_map with_line map_line_text (λ (r : MapsReading). r.lists ≡ m.lists) (λ l. IsMapLine count l × IsNoList l)
+    (λ n r s l p q. line_taken n r s l (ap (λ (k : ℕ). map_line_of (map_line_text l) k) (ap length p) ∙ (map_lines_read count l is.rules.count q.0).0))
     (λ r s l p q h. kept_lists r s l m.lists p q.1 h)
     n (listed m.lists (firsts m.lists)) (made m.lists (at (firsts m.lists) m.routers None)) blocks refl (AllByRecursion-both (IsMapLine count) IsNoList (λ l. IsMapLine count l × IsNoList l) (λ l a b. (a, b)) blocks are none_lists) ran)
 
@@ -298,14 +276,6 @@ no_feeds m is short =
     (AllByRecursion-weaker IsListRead HasNoFeed (lines_of_lists 1 m.lists) (λ l q. (q 0).1) (lists_reads 1 m.lists (omega (arith, is.rules.count)) is.patterns))
     (AllByRecursion-weaker (IsMapLine (length m.lists)) HasNoFeed (flat_map map_lines_of_router m.routers) (λ l q. (map_lines_read (length m.lists) l is.rules.count q).1) (map_block_lines m is short))
 
--- a text whose lines have no line feed is cut into them
-cut_lines : (first : List ℕ) (ls : List MapLine) → have_no 10 first ≡ true → AllByRecursion HasNoFeed ls
-    → slice_split (λ b. b == 10) (first ++ (10 ∷ flat_map fed ls)) ≡ first ∷ (map map_line_text ls ++ [] ∷ [])
-cut_lines first [] no_feed all = split_word 10 first [] no_feed
-cut_lines first (l ∷ ls) no_feed all =
-    split_word 10 first (fed l ++ flat_map fed ls) no_feed
-    ∙ ap (λ (ps : List (List ℕ)). first ∷ ps) (ap (slice_split (λ b. b == 10)) (append_assoc (map_line_text l) (codes "\n") (flat_map fed ls)) ∙ cut_lines (map_line_text l) ls all.0 all.1)
-
 -- a text that lawful maps have is read
 pub spelled_is_read : (bytes : List ℕ) (m : PlainMaps) → length bytes < 4294967295 → Spells bytes m → spelled bytes ≡ Ok m
 unfolding in_lines behind_heading finished
@@ -313,8 +283,8 @@ spelled_is_read bytes m short s =
     let ts : List (List ℕ) = map map_line_text (map_lines m) in
     let few : length (maps_text m) < 2 ^ 32 = omega (arith, short, ap length s.written) in
     let whole = whole_push ts [] in
-    let cut : slice_split (λ b. b == 10) bytes ≡ first_line ∷ (ts ++ [] ∷ []) =
-    ap (slice_split (λ b. b == 10)) (s.written ∙ append_assoc first_line (codes "\n") (flat_map fed (map_lines m))) ∙ cut_lines first_line (map_lines m) refl (no_feeds m s.lawful few) in
+    let cut : lines_of bytes ≡ first_line ∷ (ts ++ [] ∷ []) =
+    ap lines_of (s.written ∙ append_assoc first_line (codes "\n") (flat_map fed (map_lines m))) ∙ cut_lines map_line_text first_line (map_lines m) refl (no_feeds m s.lawful few) in
     let long : length (ts ++ [] ∷ []) ≡ length ts + 1 = length-append ts ([] ∷ []) in
     let some : (length (ts ++ [] ∷ []) == 0) ≡ false = ne_eqb (length (ts ++ [] ∷ [])) 0 (λ e. omega (arith, e, long)) in
     ap in_lines cut ∙ rw (some, whole.0, whole.1, maps_taken m s.lawful few) refl

@@ -1,13 +1,12 @@
 -- Which maps a text spells, or its first fault.
-use Rattle.std.specs.Prelude.{ℕ, ◌+◌, ◌-◌, ◌==◌, ◌&&◌, not, is_none, slice_index_or, List, [], ◌∷◌, length, Result, Ok, Err}
-use Rattle.std.specs.List.{slice_split}
+use Rattle.std.specs.Prelude.{ℕ, ◌==◌, ◌&&◌, not, is_none, List, [], ◌∷◌, length, Result, Ok, Err}
 use Rattle.std.specs.Str.{bytes_eq}
 use Rattle.net_base.specs.Steps.{◌>>=◌, unless}
 use Rattle.config_lines.specs.declared.line.LineFault.{LineFault}
 use Rattle.config_lines.specs.declared.line.LineFault.TheVariants as line
 use Rattle.config_reader.specs.declared.reading.Misplaced.{Misplaced}
 use Rattle.config_reader.specs.declared.reading.Misplaced.TheVariants as misplaced
-use Rattle.config_reader.specs.Text.{whole_lines}
+use Rattle.line_laws.specs.Lines.{lines_of, whole_lines, last_line, line_by_line}
 use Rattle.route_maps.specs.Maps.{PlainMaps}
 use Rattle.map_lines.specs.declared.line.MapLine.{MapLine}
 use Rattle.map_lines.specs.MapLines.{map_line_of}
@@ -39,10 +38,7 @@ with_line n r bytes = do
 
 -- line by line, of which the first one has this number
 abbrev pub with_lines : ℕ → MapsReading → List (List ℕ) → Result MapsReading ConfigFault
-with_lines n r [] = Ok r
-with_lines n r (bytes ∷ more) = do
-  next ← with_line n r bytes
-  with_lines (n + 1) next more
+with_lines = line_by_line with_line
 
 -- no block is open, and nothing follows the last line feed
 unfoldable pub finished : MapsReading → List ℕ → Result PlainMaps ConfigFault
@@ -54,7 +50,7 @@ finished r rest = do
 unfoldable pub behind_heading : List (List ℕ) → Result PlainMaps ConfigFault
 behind_heading more = do
   r ← with_lines 2 opening (whole_lines more)
-  finished r (slice_index_or more (length more - 1) [])
+  finished r (last_line more)
 
 -- the first line, and what stands between and behind the line feeds
 unfoldable pub in_lines : List (List ℕ) → Result PlainMaps ConfigFault
@@ -65,4 +61,4 @@ in_lines (first ∷ more) = do
 
 -- the text is cut at each line feed
 abbrev pub spelled : List ℕ → Result PlainMaps ConfigFault
-spelled bytes = in_lines (slice_split (λ b. b == 10) bytes)
+spelled bytes = in_lines (lines_of bytes)

@@ -14,6 +14,7 @@ use Rattle.net_base.specs.declared.place.Field.{Field}
 use Rattle.net_base.specs.declared.place.Field.TheVariants as field
 use Rattle.net_base.proofs.StepLemmas.{bind_ok, err_same, ok_not_err, ok_same, or_fault_ok}
 use Rattle.net_base.proofs.StepOutcomes.{bind_case, or_fault_err, each_from-breaks}
+use Rattle.item_laws.proofs.EachStep.{each_from-keeps}
 use Rattle.stable_paths.specs.declared.scenario.Scenario.{Scenario}
 use Rattle.scenario_text.specs.declared.fault.ScenarioFault.{ScenarioFault}
 use Rattle.scenario_text.specs.declared.fault.ScenarioFault.TheVariants.{Unknown, NoLink, NotPeerLink, BadPrefix}
@@ -32,15 +33,6 @@ no_fault-ok told (Some y) x h = absurd cc
 no_fault-err : {A : Type 0} (told : A → ScenarioFault) (o : Option A) (f : ScenarioFault) → no_fault (option_map told o) ≡ Err f → (x : A) × (o ≡ Some x) × (told x ≡ f)
 no_fault-err told None f h = absurd cc
 no_fault-err told (Some x) f h = (x, refl, cc)
-
--- what went well at each item holds of each
-each_from-keeps : {A B : Type 0} (P : A → Type 0) (f : ℕ → A → Result B ScenarioFault) → ((k : ℕ) (x : A) (y : B) → f k x ≡ Ok y → P x)
-    → (k : ℕ) (xs : List A) (ys : List B) → each_from f k xs ≡ Ok ys → AllByRecursion P xs
-each_from-keeps P f each k [] ys h = tt
-each_from-keeps P f each k (x ∷ xs) ys h =
-    let p = bind_ok (f k x) (λ y. each_from f (k + 1) xs >>= (λ ys. Ok (y ∷ ys))) ys h in
-    let q = bind_ok (each_from f (k + 1) xs) (λ ys. Ok (p.0 ∷ ys)) ys p.2 in
-    (each k x p.0 p.1, each_from-keeps P f each (k + 1) xs q.0 q.1)
 
 module _ (net : PlainNet) where
   -- ---- names

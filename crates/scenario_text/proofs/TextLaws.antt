@@ -1,5 +1,5 @@
 -- What a text's answer says of it.
-use Rattle.std.proofs.Common.{◌≡◌, ℕ, ◌<◌, List, Some, None, Result, Ok, Err, Bool, true, false, refl, sym, ap, ◌∙◌, arith, ltb-true, ltb-false, ◌∷◌}
+use Rattle.std.proofs.Common.{◌≡◌, ℕ, ◌<◌, List, Option, Some, Result, Ok, Err, Bool, true, false, refl, sym, ap, ◌∙◌, arith, ltb-true, ltb-false, ◌∷◌}
 use Rattle.std.specs.Prelude.{⊤, ◌==◌, nat_lt}
 use Rattle.std.specs.Str.{IsUtf8}
 use Rattle.std.proofs.Math.ListN.{get_or-eq_default}
@@ -23,37 +23,21 @@ use Rattle.scenario_text.specs.Rules.{judged}
 use Rattle.scenario_text.specs.Shape.{Said, shape_of}
 use Rattle.scenario_text.specs.Spelled.{spelled}
 use Rattle.scenario_text.proofs.RulesKept.{judged_outcome, Outcome}
-use Rattle.scenario_text.proofs.ShapeFaults.{OnlyShape, shape_only}
-
--- the JSON value of a text, as a step
-abbrev value_in : List ℕ → Result Data ScenarioFault
-value_in bytes = or_fault NotJson (json_of bytes)
-
-value_in-read : (bytes : List ℕ) (d : Data) → IsUtf8 bytes → read bytes ≡ Some d → value_in bytes ≡ Ok d
-value_in-read bytes d text is = ap (or_fault NotJson) (json_of-read bytes d text is)
-
-value_in-refused : (bytes : List ℕ) → (IsUtf8 bytes → read bytes ≡ None) → value_in bytes ≡ Err NotJson
-value_in-refused bytes none = ap (or_fault NotJson) (json_of-refused bytes none)
-
-value_in-value : (bytes : List ℕ) (d : Data) → value_in bytes ≡ Ok d → IsUtf8 bytes × (read bytes ≡ Some d)
-value_in-value bytes d h = json_of-value bytes d (or_fault_ok NotJson (json_of bytes) d h)
-
-shape_fault : (r : Result Said ScenarioFault) (e : ScenarioFault) → OnlyShape r → r ≡ Err e → (f : Field) × (e ≡ Shape f)
-shape_fault (Ok t) e only h = absurd cc
-shape_fault (Err g) e only h = (only.0, sym (err_same g e h) ∙ only.1)
+use Rattle.item_laws.proofs.OnlyFaults.{only_err}
+use Rattle.scenario_text.proofs.ShapeFaults.{IsShape, shape_only}
 
 module _ (net : PlainNet) where
   -- a text with the shape of a scenario is judged as that
   spelled-says : (bytes : List ℕ) (said : Said) → Says bytes said → spelled net bytes ≡ judged net said
   unfolding spelled
-  spelled-says bytes said s = rw (value_in-read bytes s.0 s.1 s.2, s.3) refl
+  spelled-says bytes said s = rw (json_of-read bytes s.0 s.1 s.2, s.3) refl
 
   pub says_read : (bytes : List ℕ) (scenario : Scenario) → spelled net bytes ≡ Ok scenario → (said : Said) × Says bytes said × KeepsBelow net 7 said
   unfolding spelled
   says_read bytes scenario h =
-      let p = bind_ok (value_in bytes) (λ d. shape_of d >>= (λ t. judged net t)) scenario h in
+      let p = bind_ok (or_fault NotJson (json_of bytes)) (λ d. shape_of d >>= (λ t. judged net t)) scenario h in
       let q = bind_ok (shape_of p.0) (λ t. judged net t) scenario p.2 in
-      let v = value_in-value bytes p.0 p.1 in
+      let v = json_of-value bytes p.0 (or_fault_ok NotJson (json_of bytes) p.0 p.1) in
       (q.0, (p.0, v.0, v.1, q.1), judged_outcome net q.0 (Ok scenario) q.2)
 
   -- the rule of the fault's number is the first that is broken
@@ -98,8 +82,8 @@ module _ (net : PlainNet) where
   pub not_json-only : (bytes : List ℕ) → spelled net bytes ≡ Err NotJson → (d : Data) → IsUtf8 bytes → read bytes ≡ Some d → ⊥
   unfolding spelled
   not_json-only bytes h d text is =
-      bind_case ⊥ (shape_of d) (λ t. judged net t) (Err NotJson) (sym (ap (λ (r : Result Data ScenarioFault). r >>= (λ v. shape_of v >>= (λ t. judged net t))) (value_in-read bytes d text is)) ∙ h)
-      (λ e p same. let q = shape_fault (shape_of d) e (shape_only d) p in apart e q.0 q.1 same)
+      bind_case ⊥ (shape_of d) (λ t. judged net t) (Err NotJson) (sym (ap (λ (o : Option Data). or_fault NotJson o >>= (λ v. shape_of v >>= (λ t. judged net t))) (json_of-read bytes d text is)) ∙ h)
+      (λ e p same. let q = only_err IsShape (shape_of d) e (shape_only d) p in apart e q.0 q.1 same)
       (λ t p g. (judged_outcome net t (Err NotJson) g).1 tt)
     where
       apart : (e : ScenarioFault) (f : Field) → e ≡ Shape f → (let r : Result Scenario ScenarioFault = Err NotJson in r ≡ Err e) → ⊥
@@ -107,14 +91,14 @@ module _ (net : PlainNet) where
 
   pub not_json-all : (bytes : List ℕ) → ((d : Data) → IsUtf8 bytes → read bytes ≡ Some d → ⊥) → spelled net bytes ≡ Err NotJson
   unfolding spelled
-  not_json-all bytes never = rw (value_in-refused bytes (λ text. none_from (read bytes) (λ d is. never d text is))) refl
+  not_json-all bytes never = rw (json_of-refused bytes (λ text. none_from (read bytes) (λ d is. never d text is))) refl
 
   pub shape-only : (bytes : List ℕ) (f : Field) → spelled net bytes ≡ Err (Shape f) → (d : Data) × IsUtf8 bytes × (read bytes ≡ Some d) × (shape_of d ≡ Err (Shape f))
   unfolding spelled
   shape-only bytes f h =
-      bind_case ((d : Data) × IsUtf8 bytes × (read bytes ≡ Some d) × (shape_of d ≡ Err (Shape f))) (value_in bytes) (λ d. shape_of d >>= (λ t. judged net t)) (Err (Shape f)) h
+      bind_case ((d : Data) × IsUtf8 bytes × (read bytes ≡ Some d) × (shape_of d ≡ Err (Shape f))) (or_fault NotJson (json_of bytes)) (λ d. shape_of d >>= (λ t. judged net t)) (Err (Shape f)) h
       (λ e p same. absurd (apart e (or_fault_err NotJson e (json_of bytes) p).0 same))
-      (λ d p g. let v = value_in-value bytes d p in
+      (λ d p g. let v = json_of-value bytes d (or_fault_ok NotJson (json_of bytes) d p) in
       bind_case ((d : Data) × IsUtf8 bytes × (read bytes ≡ Some d) × (shape_of d ≡ Err (Shape f))) (shape_of d) (λ t. judged net t) (Err (Shape f)) g
       (λ e p same. (d, v.0, v.1, p ∙ ap (λ x. Err x) (sym (err_same (Shape f) e same))))
       (λ t p g. absurd ((judged_outcome net t (Err (Shape f)) g).1 tt)))
@@ -124,4 +108,4 @@ module _ (net : PlainNet) where
 
   pub shape-all : (bytes : List ℕ) (f : Field) (d : Data) → IsUtf8 bytes → read bytes ≡ Some d → shape_of d ≡ Err (Shape f) → spelled net bytes ≡ Err (Shape f)
   unfolding spelled
-  shape-all bytes f d text is shaped = rw (value_in-read bytes d text is, shaped) refl
+  shape-all bytes f d text is shaped = rw (json_of-read bytes d text is, shaped) refl

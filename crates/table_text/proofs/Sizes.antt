@@ -1,8 +1,9 @@
 -- Tables that are read have an entry for each router.
-use Rattle.std.proofs.Common.{◌≡◌, ℕ, ◌+◌, suc, List, [], ◌∷◌, length, Option, Result, Ok, sym, ap, ◌∙◌}
+use Rattle.std.proofs.Common.{◌≡◌, ℕ, List, length, Option, Ok, sym, ap, ◌∙◌}
 use Rattle.std.specs.Prelude.{◌==◌}
 use Rattle.std.proofs.lemmas.Bool.{eqb-true}
 use Rattle.json_words.specs.Json.{json_of}
+use Rattle.item_laws.proofs.EachStep.{each_from-length}
 use Rattle.net_base.proofs.StepLemmas.{bind_ok, ok_same, unless_ok}
 use Rattle.net_base.specs.Network.{PlainNet}
 use Rattle.net_base.specs.Steps.{each_from, or_fault, unless}
@@ -12,13 +13,6 @@ use Rattle.table_text.specs.declared.fault.TablesFault.TheVariants.{Count, NotJs
 use Rattle.table_text.specs.Rules.{at_holders, held_by, judged}
 use Rattle.table_text.specs.Shape.{Said, shape_of}
 use Rattle.table_text.specs.Spelled.{spelled}
-
-each_from-length : {A B F : Type 0} (f : ℕ → A → Result B F) (k : ℕ) (xs : List A) (ys : List B) → each_from f k xs ≡ Ok ys → length ys ≡ length xs
-each_from-length f k [] ys h = ap length (sym (ok_same [] ys h))
-each_from-length f k (x ∷ xs) ys h =
-    let first = bind_ok (f k x) _ ys h in
-    let more = bind_ok (each_from f (k + 1) xs) _ ys first.2 in
-    ap length (sym (ok_same (first.0 ∷ more.0) ys more.2)) ∙ ap suc (each_from-length f (k + 1) xs more.0 more.1)
 
 pub judged_size : (net : PlainNet) (said : List (Option Said)) (routes : List (Option Route)) → judged net said ≡ Ok routes → length routes ≡ length net.routers
 unfolding judged

@@ -1,4 +1,3 @@
-pub mod Each
 pub mod Unlike
 pub mod Ascending
 pub mod Networks

@@ -23,7 +23,8 @@ use Rattle.topology.proofs.Identifiers.{shape_ids}
 use Rattle.json_words.proofs.JsonTexts.{json_of-read, json_of-refused, json_of-value}
 use Rattle.net_base.proofs.StepLemmas.{bind_ok, or_fault_ok}
 use Rattle.net_base.proofs.StepOutcomes.{bind_case, or_fault_err}
-use Rattle.topology.proofs.ShapeFaults.{Only, IsShape, shape_only}
+use Rattle.item_laws.proofs.OnlyFaults.{only_err}
+use Rattle.topology.proofs.ShapeFaults.{IsShape, shape_only}
 
 -- the JSON value of a text, as a step
 abbrev value_in : List ℕ → Result Data TopoFault
@@ -40,13 +41,6 @@ value_in-value bytes d h = json_of-value bytes d (or_fault_ok NotJson (json_of b
 
 value_in-fault : (bytes : List ℕ) (e : TopoFault) → value_in bytes ≡ Err e → NotJson ≡ e
 value_in-fault bytes e h = (or_fault_err NotJson e (json_of bytes) h).0
-
-shape_fault : (r : Result Topology TopoFault) (e : TopoFault) → Only IsShape r → r ≡ Err e → IsShape e
-shape_fault (Ok t) e only h = absurd cc
-shape_fault (Err f) e only h = rw (same f e h) at only
-  where
-    same : (f e : TopoFault) → (let r : Result Topology TopoFault = Err f in r ≡ Err e) → f ≡ e
-    same f e h = cc
 
 -- a text with the shape of a topology is judged as that
 spelled-says : (bytes : List ℕ) (t : Topology) → Says bytes t → spelled bytes ≡ judged t
@@ -112,7 +106,7 @@ pub not_json-only : (bytes : List ℕ) → spelled bytes ≡ Err NotJson → (d 
 unfolding spelled
 not_json-only bytes h d text is =
     bind_case ⊥ (shape_of d) (λ t. judged t) (Err NotJson) (sym (ap (λ (r : Result Data TopoFault). r >>= (λ v. shape_of v >>= (λ t. judged t))) (value_in-read bytes d text is)) ∙ h)
-    (λ e p same. let q = shape_fault (shape_of d) e (shape_only d) p in apart e q.0 q.1 same)
+    (λ e p same. let q = only_err IsShape (shape_of d) e (shape_only d) p in apart e q.0 q.1 same)
     (λ t p g. (judged_outcome t (Err NotJson) g).1 tt)
   where
     apart : (e : TopoFault) (f : Field) → e ≡ Shape f → (let r : Result PlainNet TopoFault = Err NotJson in r ≡ Err e) → ⊥

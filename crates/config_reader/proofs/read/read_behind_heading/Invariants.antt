@@ -1,7 +1,7 @@
 use Rattle.std.proofs.Common.{◌≡◌, ◌+◌, ◌≤◌, length}
 use Rattle.config_reader.specs.Reading.{opening}
-use Rattle.config_reader.specs.Text.{with_lines, whole_lines}
-use Rattle.config_reader.proofs.CutLines.{lines_of, last_line}
+use Rattle.line_laws.specs.Lines.{lines_of, whole_lines, last_line}
+use Rattle.config_reader.specs.Text.{with_lines}
 use Rattle.config_reader.proofs.read.read_behind_heading.Given as goal
 
 abbrev pub invariant-loop-line : goal.invariant-loop-line

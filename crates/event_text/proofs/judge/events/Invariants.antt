@@ -1,6 +1,6 @@
 use Rattle.std.proofs.Common.{◌≡◌, ◌+◌, length, map, drop}
 use Rattle.net_base.specs.Steps.{each_from}
-use Rattle.net_index.proofs.Each.{with_front}
+use Rattle.item_laws.proofs.ItemsRead.{with_front}
 use Rattle.event_text.specs.Rules.{placed}
 use Rattle.event_text.specs.Views.{raw_event}
 use Rattle.event_text.proofs.judge.events.Given as goal

@@ -1,7 +1,7 @@
 use Rattle.std.proofs.Common.{◌≡◌, ◌+◌, length, map, drop}
 use Rattle.net_base.specs.Steps.{each_from}
 use Rattle.serde_json.specs.View.{view}
-use Rattle.net_index.proofs.Each.{with_front}
+use Rattle.item_laws.proofs.ItemsRead.{with_front}
 use Rattle.event_text.specs.Shape.{event_of}
 use Rattle.event_text.specs.Views.{raw_event}
 use Rattle.event_text.proofs.shape.events.Given as goal

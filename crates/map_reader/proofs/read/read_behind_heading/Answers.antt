@@ -1,8 +1,11 @@
 use Rattle.std.proofs.Common.{◌<◌, length, arith, sym, ◌∙◌}
 use Rattle.std.proofs.lemmas.Result.{err_from_is_err_and}
 use Rattle.config_lines.proofs.CutParts.{cut_shorter}
-use Rattle.config_reader.proofs.CutLines.{lines_of, lines_of-few, last_line_there}
-use Rattle.map_reader.proofs.MapCuts.{taken, faulty, all_taken, finished_behind}
+use Rattle.line_laws.specs.Lines.{lines_of}
+use Rattle.line_laws.proofs.CutLines.{lines_of-few, last_line_there}
+use Rattle.line_laws.proofs.LineByLine.{taken, all_taken}
+use Rattle.map_reader.specs.MapsRead.{with_line}
+use Rattle.map_reader.proofs.MapCuts.{faulty, finished_behind}
 use Rattle.map_reader.proofs.MapReadTexts.{behind_lawful}
 use Rattle.map_reader.proofs.MapSteps.{with_line-lists}
 use Rattle.map_reader.proofs.read.read_behind_heading.Goals as goal
@@ -33,14 +36,14 @@ loop-line-preserved c =
     record {
       feeds = omega (arith, l.invariant.feeds, shorter);
       lists = omega (arith, l.invariant.lists, more.1);
-      read = taken l.number l.reading s l.rest.now c.in-Some.line.now c.in-Some.more.now _ c.in-Some.ensures c.in_ok-reading.ensures l.invariant.read;
+      read = taken with_line l.number l.reading s l.rest.now c.in-Some.line.now c.in-Some.more.now _ c.in-Some.ensures c.in_ok-reading.ensures l.invariant.read;
       last = sym (last_line_there l.rest.now c.in-Some.line.now c.in-Some.more.now c.in-Some.ensures) ∙ l.invariant.last;
     }
 
 pub finish-requires : goal.finish-requires
 finish-requires c = λ none.
     let l = c.loop-line in
-    let read = all_taken l.number l.reading l.rest.now c.args.bytes.now c.in_default.ensures l.invariant.read in
+    let read = all_taken with_line l.number l.reading l.rest.now _ c.in_default.ensures l.invariant.read in
     let few : length (lines_of c.args.bytes.now) < 4294967295 = omega (arith, lines_of-few c.args.bytes.now, c.requires) in
     (behind_lawful (lines_of c.args.bytes.now) l.reading few read none).rules
 

@@ -1,6 +1,5 @@
 use Rattle.std.proofs.Common.{◌≡◌, ◌+◌, ◌≤◌, length}
-use Rattle.config_reader.specs.Text.{whole_lines}
-use Rattle.config_reader.proofs.CutLines.{lines_of, last_line}
+use Rattle.line_laws.specs.Lines.{lines_of, whole_lines, last_line}
 use Rattle.map_reader.specs.MapsReading.{opening}
 use Rattle.map_reader.specs.MapsRead.{with_lines}
 use Rattle.map_reader.proofs.read.read_behind_heading.Given as goal

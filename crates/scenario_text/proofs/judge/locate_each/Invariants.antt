@@ -4,7 +4,7 @@ use Rattle.net_base.specs.Steps.{each_from}
 use Rattle.net_base.specs.declared.limits.TheConstants.{LOCATIONS}
 use Rattle.scenario_text.specs.Rules.{located}
 use Rattle.net_index.specs.Names.{texts}
-use Rattle.net_index.proofs.Each.{with_front}
+use Rattle.item_laws.proofs.ItemsRead.{with_front}
 use Rattle.scenario_text.proofs.judge.locate_each.Given as goal
 
 abbrev pub invariant-loop-name : goal.invariant-loop-name

@@ -1,9 +1,8 @@
 use Rattle.std.proofs.Common.{◌≡◌, ◌+◌, map, drop}
 use Rattle.net_base.specs.Steps.{each_from}
 use Rattle.scenario_text.specs.Rules.{both_located}
-use Rattle.net_index.specs.Names.{texts}
 use Rattle.scenario_text.specs.Views.{raw_ends}
-use Rattle.net_index.proofs.Each.{with_front}
+use Rattle.item_laws.proofs.ItemsRead.{with_front}
 use Rattle.scenario_text.proofs.judge.locate_pairs.Given as goal
 
 abbrev pub invariant-loop-ends : goal.invariant-loop-ends

@@ -1,7 +1,7 @@
 use Rattle.serde_json.specs.View.{view}
 use Rattle.scenario_text.specs.Shape.{ends_of}
 use Rattle.scenario_text.specs.Views.{raw_ends}
-use Rattle.net_index.proofs.Each.{each_from-ok}
+use Rattle.item_laws.proofs.ItemsRead.{each_from-ok}
 use Rattle.scenario_text.proofs.shape.each_ends.Goals as goal
 
 pub loop-value-preserved : goal.loop-value-preserved

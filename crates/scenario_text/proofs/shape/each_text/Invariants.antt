@@ -3,7 +3,7 @@ use Rattle.serde_json.specs.View.{view}
 use Rattle.net_base.specs.Steps.{each_from}
 use Rattle.scenario_text.specs.Shape.{text_of}
 use Rattle.net_index.specs.Names.{texts}
-use Rattle.net_index.proofs.Each.{with_front}
+use Rattle.item_laws.proofs.ItemsRead.{with_front}
 use Rattle.scenario_text.proofs.shape.each_text.Given as goal
 
 abbrev pub invariant-loop-value : goal.invariant-loop-value

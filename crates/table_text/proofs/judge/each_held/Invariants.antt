@@ -1,6 +1,6 @@
 use Rattle.std.proofs.Common.{◌≡◌, ◌+◌, map, drop}
 use Rattle.net_base.specs.Steps.{each_from}
-use Rattle.net_index.proofs.Each.{with_front}
+use Rattle.item_laws.proofs.ItemsRead.{with_front}
 use Rattle.table_text.specs.Rules.{held_by}
 use Rattle.table_text.specs.Views.{raw_entry}
 use Rattle.table_text.proofs.judge.each_held.Given as goal

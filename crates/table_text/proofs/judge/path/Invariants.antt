@@ -1,7 +1,7 @@
 use Rattle.std.proofs.Common.{◌≡◌, ◌+◌, drop}
 use Rattle.net_base.specs.Steps.{each_from}
 use Rattle.net_index.specs.Names.{texts}
-use Rattle.net_index.proofs.Each.{with_front}
+use Rattle.item_laws.proofs.ItemsRead.{with_front}
 use Rattle.table_text.specs.Rules.{located}
 use Rattle.table_text.proofs.judge.path.Given as goal
 

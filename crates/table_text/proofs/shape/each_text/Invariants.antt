@@ -2,7 +2,7 @@ use Rattle.std.proofs.Common.{◌≡◌, ◌+◌, map, drop}
 use Rattle.serde_json.specs.View.{view}
 use Rattle.net_base.specs.Steps.{each_from}
 use Rattle.net_index.specs.Names.{texts}
-use Rattle.net_index.proofs.Each.{with_front}
+use Rattle.item_laws.proofs.ItemsRead.{with_front}
 use Rattle.table_text.specs.Shape.{text_of}
 use Rattle.table_text.proofs.shape.each_text.Given as goal
 

@@ -2,7 +2,7 @@ use Rattle.std.proofs.Common.{arith, length-append, refl, ◌∙◌}
 use Rattle.std.proofs.lemmas.List.{get_or_default}
 use Rattle.topology.specs.Rules.{joined}
 use Rattle.topology.specs.Views.{raw_ends, texts}
-use Rattle.topology.proofs.Each.{each_from-next}
+use Rattle.item_laws.proofs.ItemsRead.{each_from-next}
 use Rattle.topology.proofs.links.join_all.Goals as goal
 
 pub loop-entry-preserved : goal.loop-entry-preserved

@@ -1,7 +1,7 @@
 use Rattle.serde_json.specs.View.{view}
 use Rattle.topology.specs.Shape.{entry_of}
 use Rattle.topology.specs.Views.{raw_entry}
-use Rattle.topology.proofs.Each.{each_from-ok}
+use Rattle.item_laws.proofs.ItemsRead.{each_from-ok}
 use Rattle.topology.proofs.shape.entries.Goals as goal
 
 pub loop-value-preserved : goal.loop-value-preserved

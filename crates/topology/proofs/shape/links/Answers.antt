@@ -1,7 +1,7 @@
 use Rattle.serde_json.specs.View.{view}
 use Rattle.topology.specs.Shape.{ends_of}
 use Rattle.topology.specs.Views.{raw_ends}
-use Rattle.topology.proofs.Each.{each_from-ok}
+use Rattle.item_laws.proofs.ItemsRead.{each_from-ok}
 use Rattle.topology.proofs.shape.links.Goals as goal
 
 pub loop-value-preserved : goal.loop-value-preserved

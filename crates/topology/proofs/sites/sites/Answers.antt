@@ -1,6 +1,6 @@
 use Rattle.topology.specs.Rules.{site_of}
 use Rattle.topology.specs.Views.{named_entry}
-use Rattle.topology.proofs.Each.{each_from-next}
+use Rattle.item_laws.proofs.ItemsRead.{each_from-next}
 use Rattle.topology.proofs.sites.sites.Goals as goal
 
 pub loop-entry-preserved : goal.loop-entry-preserved

@@ -2,7 +2,7 @@ use Rattle.std.proofs.Common.{arith, length-append, refl, ◌∙◌}
 use Rattle.std.proofs.lemmas.List.{get_or_default}
 use Rattle.topology.specs.Rules.{named}
 use Rattle.topology.specs.Views.{raw_entry, named_entry}
-use Rattle.topology.proofs.Each.{each_from-ok}
+use Rattle.item_laws.proofs.ItemsRead.{each_from-ok}
 use Rattle.topology.proofs.sites.with_names.Goals as goal
 
 pub loop-entry-preserved : goal.loop-entry-preserved

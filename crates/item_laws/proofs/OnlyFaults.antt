@@ -1,0 +1,32 @@
+-- Steps that tell faults of one kind alone.
+use Rattle.std.proofs.Common.{◌≡◌, ℕ, ◌+◌, List, [], ◌∷◌, Option, Some, None, Result, Ok, Err, Bool, true, false, subst}
+use Rattle.net_base.specs.Steps.{◌>>=◌, or_fault, unless, each_from}
+use Rattle.net_base.proofs.StepLemmas.{err_same}
+
+-- the result is no fault but one of these
+abbrev pub Only : {A F : Type 0} → (F → Type 0) → Result A F → Type 0
+Only P (Ok x) = Unit {0}
+Only P (Err e) = P e
+
+pub only_bind : {A B F : Type 0} (P : F → Type 0) (r : Result A F) (f : A → Result B F) → Only P r → ((x : A) → Only P (f x)) → Only P (r >>= f)
+only_bind P (Ok x) f here later = later x
+only_bind P (Err e) f here later = here
+
+pub only_or : {A F : Type 0} (P : F → Type 0) (e : F) (o : Option A) → P e → Only P (or_fault e o)
+only_or P e (Some x) is = tt
+only_or P e None is = is
+
+pub only_unless : {F : Type 0} (P : F → Type 0) (e : F) (b : Bool) → P e → Only P (unless e b)
+only_unless P e true is = tt
+only_unless P e false is = is
+
+pub only_each : {A B F : Type 0} (P : F → Type 0) (f : A → Result B F) → ((x : A) → Only P (f x)) → (k : ℕ) (xs : List A) → Only P (each_from (λ _. f) k xs)
+only_each P f one k [] = tt
+only_each P f one k (x ∷ xs) =
+    only_bind P (f x) (λ y. each_from (λ _. f) (k + 1) xs >>= (λ ys. Ok (y ∷ ys))) (one x)
+    (λ y. only_bind P (each_from (λ _. f) (k + 1) xs) (λ ys. Ok (y ∷ ys)) (only_each P f one (k + 1) xs) (λ ys. tt))
+
+-- the fault that was told
+pub only_err : {A F : Type 0} (P : F → Type 0) (r : Result A F) (e : F) → Only P r → r ≡ Err e → P e
+only_err P (Ok x) e only h = absurd cc
+only_err P (Err d) e only h = subst P (err_same d e h) only
