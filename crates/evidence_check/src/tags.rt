@@ -120,6 +120,15 @@ pub(crate) fn case_number(place: usize) -> Result<u32, NoMemory>
     Ok(place as u32 + 1)
 }
 
+/// How many nodes all cases have. No clause says it: with less room the tags that were seen grow.
+fn all_nodes(evidence: &[CaseEvidence]) -> usize {
+    let mut count = 0usize;
+    for case in evidence {
+        count = count.saturating_add(case.graph().nodes().len());
+    }
+    count
+}
+
 /// The first node, in order of the cases, that has no tag of its router alone, or has one at a peer.
 pub fn tag_fault(
     alloc: Global,
@@ -129,7 +138,7 @@ pub fn tag_fault(
     ensures { IfOk result (λ o. MatchOption o ((k n : ℕ) → KeepsTag net.now evidence.now k n) (λ at. IsFirstAt (λ k n _. KeepsTag net.now evidence.now k n) at.case at.node 0)) }
 {
     known_net(net);
-    let mut seen = IndexSet::new(alloc);
+    let mut seen = IndexSet::with_capacity(alloc, all_nodes(evidence))?;
     for place in 0..evidence.len() {
         if let Some(node) = node_fault(net, &evidence[place], &mut seen)? {
             let case = case_number(place)?;
