@@ -133,31 +133,6 @@ fn trimmed_of(
     Ok((CaseGraph { graph, used }, next))
 }
 
-/// The graph of a case with its statement, and the automaton for the statement's next case, or why the case is refused.
-fn graph_of(
-    alloc: Global,
-    net: &Net,
-    number: u32,
-    case: &Case,
-    statement: &Statement,
-    kept: Option<StatementAutomata>,
-    room: u32,
-) -> Result<(CaseGraph, StatementAutomata), CompileRefusal>
-    requires origins { FitsOrigins net.now case.now }
-    requires kept { IfSome kept (FitsStatement net.now case.now.statement (plain_statement statement.now)) }
-    ensures graph { IfOk result (λ given. IsGraphOf net.now room (plain_statement statement.now) case.now given.0) }
-    ensures fits { IfOk result (λ given. FitsCase net.now (plain_statement statement.now) case.now given.0.graph) }
-    ensures paths { OnOk result (HavePaths net.now (plain_statement statement.now) case.now) }
-    ensures unmixed { OnOk result (NoneMixed net.now (plain_statement statement.now) case.now) }
-    ensures automata { IfOk result (λ given. IsAutomatonOf net.now (plain_statement statement.now) given.1.automata) }
-    ensures statement { IfOk result (λ given. given.1.statement ≡ case.now.statement) }
-    ensures refused { IfErr result (λ e. IsCause net.now number room (plain_statement statement.now) case.now e) }
-{
-    let (given, next) = trimmed_of(alloc, net, number, case, statement, kept, room)?;
-    judged(alloc, net, number, case, statement, &given.graph)?;
-    Ok((given, next))
-}
-
 /// The graph of the case with this number, from 1, whose sources are not judged, or which of the limits on alternatives, nodes and
 /// steps it passes. The automaton that is kept for its statement serves this case, and then the later ones.
 pub fn graph_within_limits(
@@ -209,11 +184,10 @@ pub fn case_graph_over(
     ensures kept { AllFit net.now (policy_of policy.now) kept.new }
     ensures refused { IfErr result (λ e. OfCase net.now (policy_of policy.now) number (λ s c. IsCause net.now number room s c e)) }
 {
+    let given = graph_within_limits(alloc, net, policy, cases, number, room, kept)?;
     let case = &cases.cases.as_slice()[number as usize - 1];
     let statement = &policy.statements()[case.statement as usize - 1];
-    let own = kept.take(case.statement);
-    let (given, next) = graph_of(alloc, net, number, case, statement, own, room)?;
-    kept.keep(next);
+    judged(alloc, net, number, case, statement, &given.graph)?;
     Ok(given)
 }
 

@@ -10,9 +10,10 @@ use std::alloc::{AllocError, Global};
 
 /// The automata of a policy's statements: each is made for the first case of its statement, and there for the later ones.
 ///
-/// However many statements there are, few states are held. Each state of an automaton but the first and the dead one is that
-/// of a node, and a node is where a walk starts or a step ends: so all automata together hold no more states than the cases
-/// have starts and steps, of which no more than 131,072 are accepted, and two for each statement.
+/// However many statements there are, few states are held, as is reckoned by hand and said by no clause. Each state of an
+/// automaton but the first and the dead one is that of a node, and a node is where a walk starts or a step ends: so all automata
+/// together hold no more states than the cases have starts and steps, and two for each statement. Of the steps no more than
+/// 131,072 are accepted.
 #[derive(Drop)]
 pub struct KeptAutomata {
     /// A place for each statement.

@@ -1,12 +1,9 @@
-use Rattle.std.proofs.Common.{◌-◌, length, length-set, Some, None, ap, arith, ◌∙◌}
-use Rattle.std.proofs.lemmas.List.{length-map}
+use Rattle.std.proofs.Common.{length, ap, arith}
 use Rattle.std.proofs.lemmas.Result.{err_from_is_err_and}
 use Rattle.path_words.specs.Policies.{plain_statement, policy_of}
-use Rattle.case_core.specs.Refusals.{FitsCase, IsCause, IsGraphOf}
+use Rattle.case_core.specs.Refusals.{FitsCase, IsCause}
 use Rattle.case_core.specs.Sources.{HavePaths, NoneMixed}
 use Rattle.case_law.proofs.Origins.{known_origins}
-use Rattle.case_core.proofs.KeptPlaces.{set_fits, taken_fits}
-use Rattle.case_core.proofs.LentAutomata.{kept_fits, number_fits}
 use Rattle.case_core.proofs.Places.{case_read, of_case, statement_at-read}
 use Rattle.case_core.proofs.cases.case_graph_over.Goals as goal
 
@@ -24,81 +21,35 @@ bounds-statements-case c =
     let case_is = case_read net c.args.policy.now c.as_slice.result.now c.args.cases.now.cases c.args.number case c.as_slice.ensures c.requires.cases c.requires.from_one c.requires.within c.index-as_slice-number.is in
     omega (arith, case_is.from_one, case_is.within, ap length c.statements.ensures.statements)
 
-pub take-own-requires-clause-from_one : goal.take-own-requires-clause-from_one
-take-own-requires-clause-from_one c =
-    let net = c.args.net.now in
-    let case = c.index-as_slice-number.result in
-    let case_is = case_read net c.args.policy.now c.as_slice.result.now c.args.cases.now.cases c.args.number case c.as_slice.ensures c.requires.cases c.requires.from_one c.requires.within c.index-as_slice-number.is in
-    case_is.from_one
-
-pub take-own-requires-clause-within : goal.take-own-requires-clause-within
-take-own-requires-clause-within c =
-    let net = c.args.net.now in
-    let case = c.index-as_slice-number.result in
-    let case_is = case_read net c.args.policy.now c.as_slice.result.now c.args.cases.now.cases c.args.number case c.as_slice.ensures c.requires.cases c.requires.from_one c.requires.within c.index-as_slice-number.is in
-    omega (arith, case_is.within, c.requires.kept.size, length-map c.args.policy.now.statements plain_statement)
-
-pub graph_of-requires-clause-origins : goal.graph_of-requires-clause-origins
-graph_of-requires-clause-origins c = λ rules.
+pub judged-requires-clause-origins : goal.judged-requires-clause-origins
+judged-requires-clause-origins c = λ rules.
     let net = c.args.net.now in
     let policy = policy_of c.args.policy.now in
     let case = c.index-as_slice-number.result in
     let case_is = case_read net c.args.policy.now c.as_slice.result.now c.args.cases.now.cases c.args.number case c.as_slice.ensures c.requires.cases c.requires.from_one c.requires.within c.index-as_slice-number.is in
     known_origins net policy case rules c.requires.routers case_is.known
 
-pub graph_of-requires-clause-kept : goal.graph_of-requires-clause-kept
-graph_of-requires-clause-kept c =
+pub judged-requires-clause-made : goal.judged-requires-clause-made
+judged-requires-clause-made c =
+    let net = c.args.net.now in
+    let case = c.index-as_slice-number.result in
+    let s = plain_statement c.index-statements-case.result in
+    let case_is = case_read net c.args.policy.now c.as_slice.result.now c.args.cases.now.cases c.args.number case c.as_slice.ensures c.requires.cases c.requires.from_one c.requires.within c.index-as_slice-number.is in
+    let of = statement_at-read c.statements.result.now c.args.policy.now case.statement c.index-statements-case.result c.statements.ensures.statements case_is.from_one case_is.within c.index-statements-case.is in
+    let made = c.in_ok-given.ensures.graph s case (record { case = case_is.at; statement = of }) in
+    (c.args.room, made.0, made.1)
+
+pub returns-in_err-judged-clause-refused : goal.returns-in_err-judged-clause-refused
+returns-in_err-judged-clause-refused c =
     let net = c.args.net.now in
     let policy = policy_of c.args.policy.now in
     let case = c.index-as_slice-number.result in
     let s = plain_statement c.index-statements-case.result in
     let case_is = case_read net c.args.policy.now c.as_slice.result.now c.args.cases.now.cases c.args.number case c.as_slice.ensures c.requires.cases c.requires.from_one c.requires.within c.index-as_slice-number.is in
     let of = statement_at-read c.statements.result.now c.args.policy.now case.statement c.index-statements-case.result c.statements.ensures.statements case_is.from_one case_is.within c.index-statements-case.is in
-    let own = taken_fits net policy c.args.kept.now (case.statement - 1) c.take-own.result c.requires.kept c.take-own.ensures.taken in
-    kept_fits net policy s case.statement c.take-own.result of own
-
-pub keep-requires-clause-from_one : goal.keep-requires-clause-from_one
-keep-requires-clause-from_one c =
-    let net = c.args.net.now in
-    let case = c.index-as_slice-number.result in
-    let case_is = case_read net c.args.policy.now c.as_slice.result.now c.args.cases.now.cases c.args.number case c.as_slice.ensures c.requires.cases c.requires.from_one c.requires.within c.index-as_slice-number.is in
-    omega (arith, case_is.from_one, c.in_ok-given.ensures.statement)
-
-pub keep-requires-clause-within : goal.keep-requires-clause-within
-keep-requires-clause-within c =
-    let net = c.args.net.now in
-    let case = c.index-as_slice-number.result in
-    let case_is = case_read net c.args.policy.now c.as_slice.result.now c.args.cases.now.cases c.args.number case c.as_slice.ensures c.requires.cases c.requires.from_one c.requires.within c.index-as_slice-number.is in
-    let taken = ap length c.take-own.ensures.gone ∙ length-set c.args.kept.now.of.items (case.statement - 1) None in
-    omega (arith, case_is.within, c.in_ok-given.ensures.statement, taken, c.requires.kept.size, length-map c.args.policy.now.statements plain_statement)
-
-pub returns-in_err-given-clause-kept : goal.returns-in_err-given-clause-kept
-returns-in_err-given-clause-kept c =
-    let net = c.args.net.now in
-    let policy = policy_of c.args.policy.now in
-    let case = c.index-as_slice-number.result in
-    set_fits net policy c.args.kept.now c.take-own.new.self (case.statement - 1) None c.requires.kept c.take-own.ensures.gone tt
-
-pub returns-in_err-given-clause-refused : goal.returns-in_err-given-clause-refused
-returns-in_err-given-clause-refused c =
-    let net = c.args.net.now in
-    let policy = policy_of c.args.policy.now in
-    let case = c.index-as_slice-number.result in
-    let s = plain_statement c.index-statements-case.result in
-    let case_is = case_read net c.args.policy.now c.as_slice.result.now c.args.cases.now.cases c.args.number case c.as_slice.ensures c.requires.cases c.requires.from_one c.requires.within c.index-as_slice-number.is in
-    let of = statement_at-read c.statements.result.now c.args.policy.now case.statement c.index-statements-case.result c.statements.ensures.statements case_is.from_one case_is.within c.index-statements-case.is in
-    let p = err_from_is_err_and c.from_residual.result c.from_residual.ensures.1 in
-    rw (p.1, p.2) (of_case net policy c.args.number s case (λ t d. IsCause net c.args.number c.args.room t d c.in_err-given.field-0.0) case_is.at of c.in_err-given.ensures.refused)
-
-pub returns-clause-graph : goal.returns-clause-graph
-returns-clause-graph c =
-    let net = c.args.net.now in
-    let policy = policy_of c.args.policy.now in
-    let case = c.index-as_slice-number.result in
-    let s = plain_statement c.index-statements-case.result in
-    let case_is = case_read net c.args.policy.now c.as_slice.result.now c.args.cases.now.cases c.args.number case c.as_slice.ensures c.requires.cases c.requires.from_one c.requires.within c.index-as_slice-number.is in
-    let of = statement_at-read c.statements.result.now c.args.policy.now case.statement c.index-statements-case.result c.statements.ensures.statements case_is.from_one case_is.within c.index-statements-case.is in
-    of_case net policy c.args.number s case (λ t d. IsGraphOf net c.args.room t d c.in_ok-given.given) case_is.at of c.in_ok-given.ensures.graph
+    let made = c.in_ok-given.ensures.graph s case (record { case = case_is.at; statement = of }) in
+    let p = err_from_is_err_and c.from_residual-in_err-judged.result c.from_residual-in_err-judged.ensures.1 in
+    rw (p.1, p.2) (of_case net policy c.args.number s case (λ t d. IsCause net c.args.number c.args.room t d c.in_err-judged.field-0.0) case_is.at of (c.in_err-judged.ensures.refused c.args.room made.0 made.1))
 
 pub returns-clause-fits : goal.returns-clause-fits
 returns-clause-fits c =
@@ -108,7 +59,7 @@ returns-clause-fits c =
     let s = plain_statement c.index-statements-case.result in
     let case_is = case_read net c.args.policy.now c.as_slice.result.now c.args.cases.now.cases c.args.number case c.as_slice.ensures c.requires.cases c.requires.from_one c.requires.within c.index-as_slice-number.is in
     let of = statement_at-read c.statements.result.now c.args.policy.now case.statement c.index-statements-case.result c.statements.ensures.statements case_is.from_one case_is.within c.index-statements-case.is in
-    of_case net policy c.args.number s case (λ t d. FitsCase net t d c.in_ok-given.given.graph) case_is.at of c.in_ok-given.ensures.fits
+    of_case net policy c.args.number s case (λ t d. FitsCase net t d c.in_ok-given.given.graph) case_is.at of c.in_ok-judged.ensures.fits
 
 pub returns-clause-paths : goal.returns-clause-paths
 returns-clause-paths c =
@@ -118,7 +69,7 @@ returns-clause-paths c =
     let s = plain_statement c.index-statements-case.result in
     let case_is = case_read net c.args.policy.now c.as_slice.result.now c.args.cases.now.cases c.args.number case c.as_slice.ensures c.requires.cases c.requires.from_one c.requires.within c.index-as_slice-number.is in
     let of = statement_at-read c.statements.result.now c.args.policy.now case.statement c.index-statements-case.result c.statements.ensures.statements case_is.from_one case_is.within c.index-statements-case.is in
-    of_case net policy c.args.number s case (HavePaths net) case_is.at of c.in_ok-given.ensures.paths
+    of_case net policy c.args.number s case (HavePaths net) case_is.at of c.in_ok-judged.ensures.paths
 
 pub returns-clause-unmixed : goal.returns-clause-unmixed
 returns-clause-unmixed c =
@@ -128,17 +79,4 @@ returns-clause-unmixed c =
     let s = plain_statement c.index-statements-case.result in
     let case_is = case_read net c.args.policy.now c.as_slice.result.now c.args.cases.now.cases c.args.number case c.as_slice.ensures c.requires.cases c.requires.from_one c.requires.within c.index-as_slice-number.is in
     let of = statement_at-read c.statements.result.now c.args.policy.now case.statement c.index-statements-case.result c.statements.ensures.statements case_is.from_one case_is.within c.index-statements-case.is in
-    of_case net policy c.args.number s case (NoneMixed net) case_is.at of c.in_ok-given.ensures.unmixed
-
-pub returns-clause-kept : goal.returns-clause-kept
-returns-clause-kept c =
-    let net = c.args.net.now in
-    let policy = policy_of c.args.policy.now in
-    let case = c.index-as_slice-number.result in
-    let s = plain_statement c.index-statements-case.result in
-    let case_is = case_read net c.args.policy.now c.as_slice.result.now c.args.cases.now.cases c.args.number case c.as_slice.ensures c.requires.cases c.requires.from_one c.requires.within c.index-as_slice-number.is in
-    let of = statement_at-read c.statements.result.now c.args.policy.now case.statement c.index-statements-case.result c.statements.ensures.statements case_is.from_one case_is.within c.index-statements-case.is in
-    let gone = set_fits net policy c.args.kept.now c.take-own.new.self (case.statement - 1) None c.requires.kept c.take-own.ensures.gone tt in
-    let next = c.in_ok-given.next in
-    let fits = number_fits net policy s case.statement next of c.in_ok-given.ensures.automata c.in_ok-given.ensures.statement in
-    set_fits net policy c.take-own.new.self c.keep.new.self (next.statement - 1) (Some next) gone c.keep.ensures fits
+    of_case net policy c.args.number s case (NoneMixed net) case_is.at of c.in_ok-judged.ensures.unmixed
