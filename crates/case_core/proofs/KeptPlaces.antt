@@ -1,29 +1,13 @@
 -- The places at which automata are kept.
-use Rattle.std.proofs.Common.{◌≡◌, ◌⊎◌, ℕ, zero, suc, List, [], ◌∷◌, length, set, replicate, Option, Some, None, inl, inr, ap, sym, subst, ◌∙◌}
+use Rattle.std.proofs.Common.{◌≡◌, ℕ, List, length, set, replicate, Option, Some, None, inl, inr, ap, sym, subst, ◌∙◌}
 use Rattle.std.specs.Prelude.{IfSome, slice_get}
 use Rattle.std.proofs.lemmas.List.{length-replicate, length-set}
-use Rattle.std.proofs.lemmas.Option.{same_Some}
+use Rattle.list_laws.proofs.Items.{set_item, none_there}
 use Rattle.net_base.specs.Network.{PlainNet}
 use Rattle.path_words.specs.Policies.{PlainPolicy}
 use Rattle.case_core.specs.declared.automata.StatementAutomata.{StatementAutomata}
 use Rattle.case_core.specs.declared.kept.KeptAutomata.{KeptAutomata}
 use Rattle.case_core.specs.Automata.{AllFit, FitsNumber}
-
--- ---- lists
-
-set_item : {X : Type 0} (xs : List X) (k : ℕ) (x : X) (i : ℕ) (y : X) → slice_get (set xs k x) i ≡ Some y → (y ≡ x) ⊎ (slice_get xs i ≡ Some y)
-set_item [] k x i y at = inr at
-set_item (z ∷ xs) zero x zero y at = inl (sym (same_Some x y at))
-set_item (z ∷ xs) zero x (suc i) y at = inr at
-set_item (z ∷ xs) (suc k) x zero y at = inr at
-set_item (z ∷ xs) (suc k) x (suc i) y at = set_item xs k x i y at
-
-none_there : {X : Type 0} (n i : ℕ) (x : X) → slice_get (replicate n None) i ≡ Some (Some x) → ⊥
-none_there zero i x at = absurd cc
-none_there (suc n) zero x at = absurd cc
-none_there (suc n) (suc i) x at = none_there n i x at
-
--- ---- automata
 
 module _ (net : PlainNet) (policy : PlainPolicy) where
   -- at first there are none

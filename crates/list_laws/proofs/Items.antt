@@ -1,9 +1,10 @@
 -- The items of a list by their places.
-use Rattle.std.proofs.Common.{◌++◌, ◌+◌, ◌-◌, Bool, Option, drop-cons, ◌<◌, ◌∙◌, ◌∷◌, ◌≡◌, ◌≤◌, List, Some, [], ap, arith, drop, get_or, inl, inr, length, refl, replicate, suc, sym, zero, ℕ}
+use Rattle.std.proofs.Common.{◌++◌, ◌+◌, ◌-◌, Bool, Option, drop-cons, ◌<◌, ◌∙◌, ◌∷◌, ◌≡◌, ◌≤◌, ◌⊎◌, List, None, Some, [], ap, arith, drop, get_or, inl, inr, length, refl, replicate, set, suc, sym, zero, ℕ}
 use Rattle.std.specs.Option.{option_and_then}
-use Rattle.std.specs.Prelude.{slice_get}
+use Rattle.std.specs.List.{AllByRecursion}
+use Rattle.std.specs.Prelude.{slice_get, slice_index}
 use Rattle.std.proofs.lemmas.List.{drop_more}
-use Rattle.std.proofs.lemmas.Option.{get_or_from_slice_get, slice_get_cases, slice_get_within}
+use Rattle.std.proofs.lemmas.Option.{get_or_from_slice_get, same_Some, slice_get_cases, slice_get_within}
 
 pub slice_get_inside : {A : Type 0} (xs : List A) (i : ℕ) → i < length xs → (x : A) × (slice_get xs i ≡ Some x)
 slice_get_inside xs i within = elim (slice_get_cases xs i).1 [ inl t ↦ (t.0, t.2) | inr t ↦ absurd (omega arith) ]
@@ -85,3 +86,22 @@ pairs_next F p go step xs (suc i) k l some within first second passed before =
     ∙ step k l (drop (suc (suc i)) xs) passed
     ∙ ap F (ap (λ x. x ∷ drop (suc (suc i)) xs) second ∙ sym (drop-cons xs (suc i) l within))
     ∙ ap (λ n. F (drop n xs)) (sym there)
+
+-- where one item of a list is set, what stands at a place is that item or what stood there
+pub set_item : {A : Type 0} (xs : List A) (k : ℕ) (x : A) (i : ℕ) (y : A) → slice_get (set xs k x) i ≡ Some y → (y ≡ x) ⊎ (slice_get xs i ≡ Some y)
+set_item [] k x i y at = inr at
+set_item (z ∷ xs) zero x zero y at = inl (sym (same_Some x y at))
+set_item (z ∷ xs) zero x (suc i) y at = inr at
+set_item (z ∷ xs) (suc k) x zero y at = inr at
+set_item (z ∷ xs) (suc k) x (suc i) y at = set_item xs k x i y at
+
+-- a list of nothing has nothing
+pub none_there : {A : Type 0} (n i : ℕ) (x : A) → slice_get (replicate n None) i ≡ Some (Some x) → ⊥
+none_there zero i x at = absurd cc
+none_there (suc n) zero x at = absurd cc
+none_there (suc n) (suc i) x at = none_there n i x at
+
+-- numbers that are below one at each place are all below it
+pub all_below : (m : ℕ) (xs : List ℕ) → ((i : ℕ) → slice_index xs i < m) → AllByRecursion (λ x. x < m) xs
+all_below m [] low = tt
+all_below m (x ∷ xs) low = (low 0, all_below m xs (λ i. low (suc i)))

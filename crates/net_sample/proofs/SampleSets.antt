@@ -7,6 +7,7 @@ use Rattle.std.proofs.lemmas.Bool.{and_parts, cases_lt, lt-ltb}
 use Rattle.std.proofs.lemmas.List.Folds.{sum_by-replicate}
 use Rattle.std.proofs.lemmas.List.Sums.{sum_by-set}
 use Rattle.std.proofs.lemmas.Nat.{or_lt, ones-le, ones_le_self}
+use Rattle.list_laws.proofs.Items.{all_below}
 use Rattle.net_base.specs.declared.loc.LocSet.{LocSet}
 use Rattle.net_base.specs.SetOperations.{no_location, size_of}
 use Rattle.net_base.specs.Sets.{IsWords}
@@ -17,12 +18,8 @@ use Rattle.policy_text.specs.Printable.{HoldsOnly, HoldsSome}
 use Rattle.policy_text.specs.Values.{IsLocSet}
 use Rattle.net_sample.specs.SamplePolicy.{alone, leaves}
 
-all_fit : (ws : List ℕ) → ((i : ℕ) → slice_index ws i < 2 ^ 64) → AllByRecursion (λ w. w < 2 ^ 64) ws
-all_fit [] fit = tt
-all_fit (w ∷ ws) fit = (fit 0, all_fit ws (λ i. fit (suc i)))
-
 set_of_words : (s : LocSet) → IsWords s → IsLocSet s
-set_of_words s is = (is.size, all_fit s.words is.fit)
+set_of_words s is = (is.size, all_below (2 ^ 64) s.words is.fit)
 
 -- ---- one location
 

@@ -3,6 +3,7 @@ use Rattle.std.proofs.Common.{◌≡◌, ℕ, suc, ◌+◌, ◌^◌, ◌<◌, �
 use Rattle.std.specs.Prelude.{◌⊎◌, ◌==◌, slice_index}
 use Rattle.std.specs.List.{AllByRecursion}
 use Rattle.std.proofs.lemmas.Bool.{eq-eqb, cases_lt, or_right, lt-ltb}
+use Rattle.list_laws.proofs.Items.{all_below}
 use Rattle.net_base.specs.declared.loc.LocSet.{LocSet}
 use Rattle.net_base.specs.Network.{PlainNet, IsNet, is_location}
 use Rattle.net_base.specs.NetSets.{locations}
@@ -43,12 +44,8 @@ both_some n s t a b = record {
 
 -- ---- in the words of what can be printed
 
-all_fit : (ws : List ℕ) → ((i : ℕ) → slice_index ws i < 2 ^ 64) → AllByRecursion (λ w. w < 2 ^ 64) ws
-all_fit [] fit = tt
-all_fit (w ∷ ws) fit = (fit 0, all_fit ws (λ i. fit (suc i)))
-
 words_set : (s : LocSet) → IsWords s → IsLocSet s
-words_set s is = (is.size, all_fit s.words is.fit)
+words_set s is = (is.size, all_below (2 ^ 64) s.words is.fit)
 
 pub part_set : (n : ℕ) (s : LocSet) → IsPart n s → IsLocSet s
 part_set n s is = words_set s is.words
