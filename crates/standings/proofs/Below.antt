@@ -1,5 +1,5 @@
 -- The numbers below a number.
-use Rattle.std.proofs.Common.{◌≡◌, ℕ, zero, suc, ◌+◌, ◌<◌, ◌≤◌, Bool, true, false, cond, List, [], ◌∷◌, ◌++◌, map, length, get_or, Some, inl, inr, refl, sym, ap, ◌∙◌, add-one, arith}
+use Rattle.std.proofs.Common.{◌≡◌, ℕ, zero, suc, ◌<◌, ◌≤◌, Bool, true, false, cond, List, [], ◌∷◌, ◌++◌, map, length, get_or, Some, inl, inr, refl, sym, ap, ◌∙◌, arith}
 use Rattle.std.specs.Prelude.{filter, option_map, slice_get, ◌==◌, ◌||◌}
 use Rattle.std.proofs.lemmas.Bool.{cases_Bool, cases_eq, cond-true, cond-false, eq-eqb, ne_eqb, or_left}
 use Rattle.std.proofs.lemmas.List.{length-map}
@@ -7,12 +7,6 @@ use Rattle.std.proofs.lemmas.List.Elements.{filter-append}
 use Rattle.std.proofs.lemmas.Option.{same_Some, slice_get-get_or, slice_get-map}
 use Rattle.net_base.specs.Locations.{numbers_below}
 use Rattle.net_base.proofs.NumbersBelow.{length-numbers_below, slice_get-numbers_below}
-
-pub numbers_below-more : (n : ℕ) → numbers_below (n + 1) ≡ numbers_below n ++ n ∷ []
-numbers_below-more n = ap numbers_below (add-one n)
-
-pub filter-below-more : (p : ℕ → Bool) (n : ℕ) → filter p (numbers_below (n + 1)) ≡ filter p (numbers_below n) ++ filter p (n ∷ [])
-filter-below-more p n = ap (filter p) (numbers_below-more n) ∙ filter-append p (numbers_below n) (n ∷ [])
 
 -- what stands at a place of a list of lists that were made for the numbers below n
 pub made-at : {V : Type 0} → (items : V → List ℕ) (all : List V) (f : ℕ → List ℕ) (n k : ℕ) (v d : V) → map items all ≡ map f (numbers_below n) → k < n → v ≡ get_or all k d → items v ≡ f k

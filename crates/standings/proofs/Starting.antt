@@ -8,8 +8,8 @@ use Rattle.net_base.specs.Network.{PlainNet}
 use Rattle.path_exprs.specs.Expression.{Expression}
 use Rattle.path_exprs.specs.Standings.{Standing, moved, same_standing}
 use Rattle.net_base.specs.Locations.{numbers_below}
+use Rattle.net_base.proofs.NumbersBelow.{filter_kept, filter_left}
 use Rattle.standings.specs.Growth.{AreWithin, gathered, with_standing}
-use Rattle.standings.proofs.Below.{filter-below-more}
 use Rattle.standings.proofs.SameStandings.{Among, among-head}
 use Rattle.standings.proofs.Gathering.{among-append, gathered-append, gathered-distinct, with-cases}
 use Rattle.standings.proofs.Stepping.{gathered-nil, gathered-one}
@@ -20,12 +20,10 @@ starts_below es p n = map (moved es) (filter p (numbers_below n))
 
 pub starts_below-origin : (es : List Expression) (p : ℕ → Bool) (n : ℕ) → p n ≡ true → starts_below es p (n + 1) ≡ starts_below es p n ++ moved es n ∷ []
 starts_below-origin es p n h =
-    ap (map (moved es)) (filter-below-more p n ∙ ap (λ l. filter p (numbers_below n) ++ l) (cond-true (p n) (n ∷ []) [] h))
-    ∙ map-append (moved es) (filter p (numbers_below n)) (n ∷ [])
+    ap (map (moved es)) (filter_kept p n h) ∙ map-append (moved es) (filter p (numbers_below n)) (n ∷ [])
 
 pub starts_below-other : (es : List Expression) (p : ℕ → Bool) (n : ℕ) → p n ≡ false → starts_below es p (n + 1) ≡ starts_below es p n
-starts_below-other es p n h =
-    ap (map (moved es)) (filter-below-more p n ∙ ap (λ l. filter p (numbers_below n) ++ l) (cond-false (p n) (n ∷ []) [] h) ∙ append-nil (filter p (numbers_below n)))
+starts_below-other es p n h = ap (map (moved es)) (filter_left p n h)
 
 -- a standing at one of these is at a location below n that passes
 pub starts_below-at : (es : List Expression) (p : ℕ → Bool) (n : ℕ) (x : Standing) → Among (starts_below es p n) x → (x.at < n) × (p x.at ≡ true)
