@@ -215,12 +215,3 @@ pub prefix_back : (bs : List ℕ) (p : PlainPrefix) → prefix_spelled bs ≡ Ok
 prefix_back bs p h =
     let halves = prefix_halves bs p h in
     halves.1 ∙ ap (λ (a : List ℕ). a ++ 47 ∷ decimal p.len) (address_back halves.0 p.bits halves.2).0 ∙ sym (prefix_parts p)
-
--- an address is read from its text
-pub address_there : (n : ℕ) → n < 2 ^ 32 → address_of (address_text n) ≡ Some n
-address_there n wide =
-    let p : PlainPrefix = record { bits = n; len = 32 } in
-    let is : IsPrefix p = record { wide = wide; within = omega arith; clean = omega arith } in
-    let halves = prefix_halves (prefix_text p) p (prefix_spelled-prefix_text p is) in
-    let same : halves.0 ≡ address_text n = append_cancel_right halves.0 (address_text n) (47 ∷ decimal 32) (sym halves.1 ∙ prefix_parts p) in
-    ap address_of (sym same) ∙ halves.2

@@ -1,17 +1,18 @@
 -- Words: none of their bytes is a space or a comma, so they are cut where they were joined.
 use Rattle.std.proofs.Common.{◌≡◌, ℕ, ◌/◌, ◌%◌, ◌≤◌, ◌<◌, ◌^◌, List, [], ◌∷◌, ◌++◌, length, Bool, true, false, refl, ◌∙◌, ap, arith, inl, inr}
-use Rattle.std.specs.Prelude.{◌&&◌, ◌==◌, not, nat_lt, nat_le, slice_index, IsTrue, codes}
+use Rattle.std.specs.Prelude.{◌&&◌, ◌==◌, not, nat_lt, IsTrue, codes}
 use Rattle.std.specs.List.{list_all, slice_split, onto_first, join_with_byte}
 use Rattle.std.specs.Fmt.{decimal}
 use Rattle.std.proofs.lemmas.Bool.{and_parts, cases_lt, lt-ltb, lt-leb, ne_eqb, ltb-true, eq-eqb, not-true}
 use Rattle.std.proofs.lemmas.List.Folds.{list_all-append}
 use Rattle.std.proofs.lemmas.List.Splits.{slice_split-cons_yes, slice_split-cons_no}
 use Rattle.net_base.specs.Addresses.{is_figure}
-use Rattle.net_base.specs.NameRule.{is_name, is_name_byte, is_letter, is_reserved}
+use Rattle.net_base.specs.NameRule.{is_name, is_name_byte}
 use Rattle.net_base.specs.Prefixes.{PlainPrefix, IsPrefix}
 use Rattle.text_words.specs.Texts.{address_text, prefix_text}
+use Rattle.text_words.proofs.NameBytes.{name_bytes}
 use Rattle.text_words.proofs.Numbers.{figure_range}
-use Rattle.text_words.proofs.PrefixTexts.{have_no}
+use Rattle.text_words.proofs.PrefixTexts.{have_no, digits_only}
 use Rattle.text_words.proofs.Words.{figures}
 
 -- each byte is above a space and a comma
@@ -38,10 +39,7 @@ name_byte_solid b h = elim (cases_lt 44 b) [
 ]
 
 pub solid_name : (name : List ℕ) → IsTrue (is_name name) → solid name ≡ true
-unfolding is_name
-solid_name name is =
-    let all = and_parts (not (length name == 0) && nat_le (length name) 32 && is_letter (slice_index name 0) && list_all is_name_byte name) (not (is_reserved name)) is in
-    solid_all is_name_byte name_byte_solid name (and_parts (not (length name == 0) && nat_le (length name) 32 && is_letter (slice_index name 0)) (list_all is_name_byte name) all.0).1
+solid_name name is = solid_all is_name_byte name_byte_solid name (name_bytes name is)
 
 pub solid_number : (n : ℕ) → n < 2 ^ 64 → solid (decimal n) ≡ true
 solid_number n wide = solid_all is_figure figure_solid (decimal n) (figures n wide)
@@ -112,10 +110,4 @@ joined_no_feed ws all = joined_has_no 10 ws (omega arith) refl all
 
 -- digits have no colon
 pub no_colon : (n : ℕ) → n < 2 ^ 64 → have_no 58 (decimal n) ≡ true
-no_colon n wide = digits (decimal n) (figures n wide)
-  where
-    digits : (ds : List ℕ) → list_all is_figure ds ≡ true → have_no 58 ds ≡ true
-    digits [] all = refl
-    digits (d ∷ ds) all =
-        let h = and_parts (is_figure d) (list_all is_figure ds) all in
-        rw (ne_eqb d 58 (λ e. omega (arith, e, (figure_range d h.0).1)), digits ds h.1) refl
+no_colon n wide = digits_only 58 refl (decimal n) (figures n wide)

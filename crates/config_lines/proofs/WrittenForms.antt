@@ -19,7 +19,6 @@ use Rattle.config_lines.specs.declared.line.Line.TheVariants as line
 use Rattle.config_lines.specs.Editions.{tag_text, fits_router, fits_peer}
 use Rattle.config_lines.specs.LineText.{line_text, IsLine, next_pattern}
 use Rattle.config_lines.specs.Lines.{class_line, router_line, own_line, neighbour, session_line, peer_line, setting, tagged_line, untagged_line, import_line, export_line, end_line, form_line, words_line, pieces_line, line_of}
-use Rattle.config_lines.proofs.Addresses.{address_there}
 use Rattle.config_lines.proofs.Digits.{number_there}
 use Rattle.config_lines.proofs.JoinedLines.{router_joined, own_joined, session_joined, peer_joined, export_joined, tagged_joined, untagged_joined}
 use Rattle.config_lines.proofs.PartLaws.{class_there, name_there}
@@ -50,7 +49,7 @@ router_there edition count name asn id named number apart wide =
     by_words edition count (line.Router name asn id) (codes "router") (name ∷ codes "asn" ∷ decimal asn ∷ codes "id" ∷ address_text id ∷ [])
     (router_joined name (codes "asn") (decimal asn) (codes "id") (address_text id) name (decimal asn) (address_text id) refl refl refl refl refl)
     (rw (solid_name name named, solid_number asn (omega (arith, low)), solid_address id wide) refl)
-    (rw (number_there asn low, address_there id wide, ne_eqb id 0 apart, name_there name named, is) refl)
+    (rw (number_there asn low, address_of-address_text id wide, ne_eqb id 0 apart, name_there name named, is) refl)
 
 own_there : (edition : Edition) (count : ℕ) (o : Own) → count < 2 ^ 32 → IsLine edition count (line.Own o) → IsReadAgain edition count (line.Own o)
 unfolding words_line form_line own_line

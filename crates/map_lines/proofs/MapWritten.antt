@@ -7,7 +7,7 @@ use Rattle.std.proofs.lemmas.Bool.{ne_eqb}
 use Rattle.net_base.specs.NameRule.{is_name}
 use Rattle.net_base.specs.Prefixes.{PlainPattern, IsPattern}
 use Rattle.text_words.specs.Texts.{address_text, prefix_text, pattern_text}
-use Rattle.text_words.proofs.PrefixTexts.{prefix_spelled-prefix_text, have_no}
+use Rattle.text_words.proofs.PrefixTexts.{address_of-address_text, prefix_spelled-prefix_text, have_no}
 use Rattle.config_base.specs.declared.config.Rule.{Rule}
 use Rattle.config_base.specs.declared.config.Own.{Own}
 use Rattle.config_base.specs.declared.config.Export.{Export}
@@ -18,7 +18,6 @@ use Rattle.config_lines.specs.declared.line.Line.TheVariants as line
 use Rattle.config_lines.specs.Editions.{tag_text, fits_router, fits_peer}
 use Rattle.config_lines.specs.LineText.{IsLine}
 use Rattle.config_lines.specs.Lines.{router_line, session_line, peer_line, setting, end_line}
-use Rattle.config_lines.proofs.Addresses.{address_there}
 use Rattle.config_lines.proofs.Digits.{number_there}
 use Rattle.config_lines.proofs.JoinedLines.{router_joined, peer_joined}
 use Rattle.config_lines.proofs.PartLaws.{class_there, name_there}
@@ -72,7 +71,7 @@ router_there count name asn id named number apart wide =
     by_words count (Block (line.Router name asn id)) (codes "router") (name ∷ codes "asn" ∷ decimal asn ∷ codes "id" ∷ address_text id ∷ [])
     (router_joined name (codes "asn") (decimal asn) (codes "id") (address_text id) name (decimal asn) (address_text id) refl refl refl refl refl)
     (rw (solid_name name named, solid_number asn (omega (arith, low)), solid_address id wide) refl)
-    (rw (number_there asn low, address_there id wide, ne_eqb id 0 apart, name_there name named, is) refl)
+    (rw (number_there asn low, address_of-address_text id wide, ne_eqb id 0 apart, name_there name named, is) refl)
 
 network_there : (count : ℕ) (o : Own) → count < 2 ^ 32 → IsLine Second count (line.Own o) → IsMapReadAgain count (Block (line.Own o))
 unfolding form_line network_line

@@ -10,8 +10,9 @@ use Rattle.json.proofs.Printed.Strings.{escape_byte_plain}
 use Rattle.json.proofs.Printed.Utf8.{IsUtf8-are_ascii, are_ascii}
 use Rattle.list_laws.proofs.Each.{AllByRecursion-append, AllByRecursion-from_list_all}
 use Rattle.net_base.specs.Addresses.{is_figure}
-use Rattle.net_base.specs.NameRule.{is_name, is_name_byte, is_letter, is_reserved}
+use Rattle.net_base.specs.NameRule.{is_name, is_name_byte}
 use Rattle.text_words.specs.Texts.{address_text}
+use Rattle.text_words.proofs.NameBytes.{name_bytes}
 use Rattle.text_words.proofs.Numbers.{figure_range, list_all-is_figure}
 
 -- a byte that JSON writes as it is
@@ -55,10 +56,7 @@ simple_name_byte x h = by (nat_le 97 x && nat_le x 122) (nat_le 65 x && nat_le x
     by false false false false false false p q r s t u h = absurd cc
 
 pub simple_name : (name : List ℕ) → IsTrue (is_name name) → AllByRecursion IsSimple name
-unfolding is_name
-simple_name name is =
-    let all = and_parts (not (length name == 0) && nat_le (length name) 32 && is_letter (slice_index name 0) && list_all is_name_byte name) (not (is_reserved name)) is in
-    AllByRecursion-from_list_all IsSimple is_name_byte simple_name_byte name (and_parts (not (length name == 0) && nat_le (length name) 32 && is_letter (slice_index name 0)) (list_all is_name_byte name) all.0).1
+simple_name name is = AllByRecursion-from_list_all IsSimple is_name_byte simple_name_byte name (name_bytes name is)
 
 -- ---- identifiers
 

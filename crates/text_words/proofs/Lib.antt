@@ -1,3 +1,4 @@
+pub mod NameBytes
 pub mod Numbers
 pub mod Pieces
 pub mod PrefixTexts

@@ -6,18 +6,12 @@ use Rattle.std.specs.Fmt.{decimal}
 use Rattle.std.proofs.lemmas.Bool.{and_parts, eqb-true}
 use Rattle.std.proofs.lemmas.List.{append_cancel_left}
 use Rattle.net_base.specs.Addresses.{is_figure}
-use Rattle.net_base.specs.NameRule.{is_name, is_name_byte, is_letter, is_reserved}
+use Rattle.net_base.specs.NameRule.{is_name, is_name_byte}
 use Rattle.net_base.specs.Prefixes.{PlainPrefix, PlainPattern, IsPrefix, IsPattern}
 use Rattle.text_words.specs.Ends.{stops, ends_pattern}
 use Rattle.text_words.specs.Texts.{address_text, prefix_text, pattern_text}
+use Rattle.text_words.proofs.NameBytes.{name_bytes}
 use Rattle.text_words.proofs.Words.{word_cut, number_cut, address_cut, after}
-
--- a name's bytes are name bytes
-name_bytes : (name : List ℕ) → IsTrue (is_name name) → list_all is_name_byte name ≡ true
-unfolding is_name
-name_bytes name is =
-    let all = and_parts (not (length name == 0) && nat_le (length name) 32 && is_letter (slice_index name 0) && list_all is_name_byte name) (not (is_reserved name)) is in
-    (and_parts (not (length name == 0) && nat_le (length name) 32 && is_letter (slice_index name 0)) (list_all is_name_byte name) all.0).1
 
 -- a name and a space
 pub name_cut : (a b rest more : List ℕ) → IsTrue (is_name a) → IsTrue (is_name b) → a ++ 32 ∷ rest ≡ b ++ 32 ∷ more → (a ≡ b) × (rest ≡ more)

@@ -1,10 +1,10 @@
 -- A prefix is read from its text.
-use Rattle.std.proofs.Common.{◌≡◌, ℕ, suc, ◌+◌, ◌-◌, ◌/◌, ◌%◌, ◌^◌, ◌<◌, ◌≤◌, List, [], ◌∷◌, ◌++◌, length, drop, Bool, true, Some, Ok, refl, ap, ap₂, ◌∙◌, arith, append_assoc, length-append}
+use Rattle.std.proofs.Common.{◌≡◌, ℕ, suc, ◌+◌, ◌-◌, ◌/◌, ◌%◌, ◌^◌, ◌<◌, ◌≤◌, List, [], ◌∷◌, ◌++◌, length, drop, Bool, true, false, Some, Ok, refl, sym, ap, ap₂, ◌∙◌, arith, append_assoc, length-append}
 use Rattle.std.proofs.Math.Seq.{take-append_seam}
 use Rattle.std.specs.Prelude.{◌&&◌, ◌==◌, not}
 use Rattle.std.specs.List.{list_all, prefix_len, position_or_len}
 use Rattle.std.specs.Fmt.{decimal}
-use Rattle.std.proofs.lemmas.Bool.{and_parts, eq-eqb, ne_eqb, le-leb}
+use Rattle.std.proofs.lemmas.Bool.{and_parts, eq-eqb, false≢true, ne_eqb, le-leb}
 use Rattle.std.proofs.lemmas.Fmt.{length-decimal-le}
 use Rattle.std.proofs.lemmas.List.Folds.{list_all-append}
 use Rattle.net_base.specs.Addresses.{is_figure, cut_at, number_and_rest, quad_of, are_octets, bits_of, address_of}
@@ -12,7 +12,7 @@ use Rattle.net_base.specs.Prefixes.{PlainPrefix, IsPrefix}
 use Rattle.net_base.specs.PrefixText.{length_number, prefix_spelled}
 use Rattle.list_laws.proofs.Texts.{all_pass}
 use Rattle.text_words.specs.Texts.{address_text, prefix_text}
-use Rattle.text_words.proofs.Numbers.{figure_range, small_number-decimal, list_all-is_figure}
+use Rattle.text_words.proofs.Numbers.{small_number-decimal, list_all-is_figure}
 
 -- no byte of these is the other
 abbrev pub have_no : ℕ → List ℕ → Bool
@@ -28,19 +28,19 @@ cut_at-there sign a b none =
     let place : position_or_len (λ x. x == sign) (a ++ sign ∷ b) ≡ length a = all_pass (λ x. not (x == sign)) a (sign ∷ b) none stop in
     rw (place, ne_eqb (length a) (length (a ++ sign ∷ b)) (λ e. omega (arith, e, length-append a (sign ∷ b))), take-append_seam a (sign ∷ b), drop_past a b sign) refl
 
-digits_only : (sign : ℕ) → sign < 48 → (ds : List ℕ) → list_all is_figure ds ≡ true → have_no sign ds ≡ true
-digits_only sign low [] all = refl
-digits_only sign low (d ∷ ds) all =
+-- digits have no byte that is no digit
+pub digits_only : (sign : ℕ) → is_figure sign ≡ false → (ds : List ℕ) → list_all is_figure ds ≡ true → have_no sign ds ≡ true
+digits_only sign other [] all = refl
+digits_only sign other (d ∷ ds) all =
     let h = and_parts (is_figure d) (list_all is_figure ds) all in
-    let range = figure_range d h.0 in
-    rw (ne_eqb d sign (λ e. omega (arith, e, low, range.0)), digits_only sign low ds h.1) refl
+    rw (ne_eqb d sign (λ e. false≢true (sym other ∙ ap is_figure (sym e) ∙ h.0)), digits_only sign other ds h.1) refl
 
-number_has_no : (sign n : ℕ) → sign < 48 → n < 256 → have_no sign (decimal n) ≡ true
-number_has_no sign n low small = digits_only sign low (decimal n) (list_all-is_figure n small)
+number_has_no : (sign n : ℕ) → is_figure sign ≡ false → n < 256 → have_no sign (decimal n) ≡ true
+number_has_no sign n other small = digits_only sign other (decimal n) (list_all-is_figure n small)
 
 -- a number, then a dot
 number_there : (n : ℕ) (rest : List ℕ) → n < 256 → number_and_rest (decimal n ++ 46 ∷ rest) ≡ Some (n, rest)
-number_there n rest small = rw (cut_at-there 46 (decimal n) rest (number_has_no 46 n (omega arith) small), small_number-decimal n small) refl
+number_there n rest small = rw (cut_at-there 46 (decimal n) rest (number_has_no 46 n refl small), small_number-decimal n small) refl
 
 -- a length is read from its text
 pub length_number-decimal : (n : ℕ) → n ≤ 32 → length_number (decimal n) ≡ Some n
@@ -57,10 +57,10 @@ module _ (a b c d : ℕ) (sa : a < 256) (sb : b < 256) (sc : c < 256) (sd : d < 
   quad_there = rw (number_there a (decimal b ++ 46 ∷ (decimal c ++ 46 ∷ decimal d)) sa, number_there b (decimal c ++ 46 ∷ decimal d) sb, number_there c (decimal d) sc, small_number-decimal d sd) refl
 
   after_dot : (n : ℕ) (bs : List ℕ) → n < 256 → have_no 47 bs ≡ true → have_no 47 (decimal n ++ 46 ∷ bs) ≡ true
-  after_dot n bs small none = list_all-append (λ x. not (x == 47)) (decimal n) (46 ∷ bs) ∙ ap₂ (λ (x y : Bool). x && y) (number_has_no 47 n (omega arith) small) none
+  after_dot n bs small none = list_all-append (λ x. not (x == 47)) (decimal n) (46 ∷ bs) ∙ ap₂ (λ (x y : Bool). x && y) (number_has_no 47 n refl small) none
 
   no_slash : have_no 47 dotted ≡ true
-  no_slash = after_dot a _ sa (after_dot b _ sb (after_dot c _ sc (number_has_no 47 d (omega arith) sd)))
+  no_slash = after_dot a _ sa (after_dot b _ sb (after_dot c _ sc (number_has_no 47 d refl sd)))
 
   octets : are_octets (record { first = a; second = b; third = c; fourth = d }) ≡ true
   octets = rw (le-leb a 255 (omega (arith, sa)), le-leb b 255 (omega (arith, sb)), le-leb c 255 (omega (arith, sc)), le-leb d 255 (omega (arith, sd))) refl
