@@ -5,8 +5,9 @@ use Rattle.std.proofs.lemmas.List.{get_or-set_same, get_or-set_other}
 use Rattle.net_base.specs.Network.{PlainNet, is_router}
 use Rattle.graph_base.specs.Graphs.{PlainGraph}
 use Rattle.graph_base.specs.Rules.{IsOver, KeepsLoop, KeepsStep, steps_on}
-use Rattle.graph_base.specs.Runs.{has_step, is_listener, place_of, IsTrail, Reaches}
-use Rattle.reach_prune.specs.Searches.{IsChain, Leads, is_among, is_marked}
+use Rattle.graph_base.specs.Runs.{has_step, is_listener, place_of, Reaches}
+use Rattle.reach_prune.specs.Searches.{Leads, is_among, is_marked}
+use Rattle.reach_prune.proofs.Trails.{leads_forward}
 use Rattle.reach_prune.specs.Ways.{LeadsFrom}
 use Rattle.reach_prune.specs.declared.steps.Way.TheVariants.{Backward}
 use Rattle.graph_base.specs.Preferences.{number_in}
@@ -33,14 +34,6 @@ unmarked_set marks at m lt h = (
   ],
 )
 
--- what is reached by steps is led to by lists with these steps
-leads_from : (g : PlainGraph) (lists : List (List ℕ)) (a b : ℕ) → AreNeighbours g lists → Reaches g a b → Leads lists a b
-leads_from g lists a b are r = (r.0, chain a r.0 r.1)
-  where
-    chain : (a : ℕ) (via : List ℕ) → IsTrail g a via b → IsChain lists a via b
-    chain a [] h = h
-    chain a (c ∷ cs) h = (are.steps a c ∙ h.0, chain c cs h.1)
-
 module _ (g : PlainGraph) (numbers : List ℕ) (lists : List (List ℕ)) (l : ℕ) (run : List Numbered) (are : AreNeighbours g lists) (is : IsRunAt g numbers l run) where
   in_run : (n : ℕ) → n < length g.nodes → place_of g n ≡ l → has_node run n (number_in numbers n) ≡ true
   in_run n lt place = is n (number_in numbers n) ∙ and_from (ltb n (length g.nodes)) _ (lt-ltb _ _ lt) (and_from (eqb (place_of g n) l) _ (eq-eqb _ _ place) (eq-eqb _ _ refl))
@@ -55,7 +48,7 @@ module _ (g : PlainGraph) (numbers : List ℕ) (lists : List (List ℕ)) (l : �
   -- one whose nodes have several
   pub keeps_by_lows : (lows : List (Option ℕ)) → ((k number n : ℕ) → IsTrue (has_node run k number) → Leads lists k n → IsTrue (has_upto lows n number)) → (m : ℕ) → AreNoLess g (number_in numbers) l lows m → KeepsLoopAt g (number_in numbers) l m
   keeps_by_lows lows low m no_less s k on at_s node at_k reach =
-      no_less s (number_in numbers k) on at_s (low k (number_in numbers k) m (in_run k node at_k) (leads_from g lists k m are reach))
+      no_less s (number_in numbers k) on at_s (low k (number_in numbers k) m (in_run k node at_k) ((leads_forward g lists k m are.steps).1 reach))
 
 -- with no greater numbers than the least of the nodes that reach it a node keeps the rule with another
 module _ (net : PlainNet) (g : PlainGraph) (numbers : List ℕ) (lists : List (List ℕ)) (before : List Bool) (row : List (Option ℕ)) (m n : ℕ) (nodes : List ℕ) (are : AreNeighbours g lists)

@@ -1,16 +1,16 @@
 -- The least node that is paired with one of another rank, pair by pair; and which pairs are met.
 use Rattle.std.proofs.Common.{◌≡◌, ◌↔◌, ℕ, ◌+◌, ◌-◌, ◌<◌, ◌≤◌, List, [], ◌∷◌, ◌++◌, length, take, min, Option, Some, None, refl, sym, ap, ◌∙◌, subst, inl, inr, arith, slice_get}
-use Rattle.std.specs.Prelude.{is_some, option_map, option_and_then}
+use Rattle.std.specs.Prelude.{is_some, option_map}
 use Rattle.std.proofs.lemmas.Bool.{cases_lt}
 use Rattle.std.proofs.lemmas.List.{take_more}
-use Rattle.std.proofs.lemmas.Option.{get_or_from_slice_get, same_Some, slice_get_past, slice_get_within}
+use Rattle.std.proofs.lemmas.Option.{get_or_from_slice_get, same_Some, slice_get_within}
 use Rattle.list_laws.specs.Members.{IsIn}
 use Rattle.list_laws.proofs.Members.{IsIn-append_left, IsIn-push, IsIn-push_cases, IsIn-nil}
 use Rattle.list_laws.proofs.Options.{option_map_parts}
-use Rattle.graph_base.specs.declared.graph.Node.{Node}
 use Rattle.graph_base.specs.Graphs.{PlainGraph, IsGraph}
 use Rattle.graph_base.specs.Runs.{rank_at, run}
 use Rattle.graph_base.proofs.RunSteps.{run_inside}
+use Rattle.reach_prune.proofs.Keeping.{rank_past}
 use Rattle.node_classes.specs.declared.way.Way.{Way}
 use Rattle.node_classes.specs.Meets.{AreMet}
 use Rattle.node_classes.specs.Ways.{follow}
@@ -88,9 +88,6 @@ module _ (t g : PlainGraph) (live_rules : IsGraph t) (rules : IsGraph g) (live_s
       go (l ∷ ls) h k =
           let none : 0 + p ≡ p = omega arith in
           (l ∷ ls, live_run l ls ∙ ap (option_map (λ m. 0 + m)) h ∙ ap Some none, graph_run l ls ∙ ap (option_map (λ m. length t.nodes + m)) k)
-
-  rank_past : (h : PlainGraph) (n : ℕ) → length h.nodes ≤ n → rank_at h n ≡ None
-  rank_past h n past = ap (option_and_then (λ (node : Node). node.rank)) (slice_get_past h.nodes n past)
 
   -- a pair of unlike ranks that is met is of nodes
   pub unlike_met : (x y : ℕ) → AreMet ways (both_sizes t g) (both_sizes t g + 1) x y → (SameRank t g (x, y) → ⊥) → (n : ℕ) × IsMet t g x n × (y ≡ length t.nodes + n)

@@ -11,6 +11,7 @@ use Rattle.graph_base.specs.Graphs.{PlainGraph}
 use Rattle.graph_base.specs.Runs.{has_step, place_of, step_at, run, IsTrail}
 use Rattle.graph_base.proofs.Determined.{start_at-start, step_at-step}
 use Rattle.reach_prune.specs.Searches.{is_marked}
+use Rattle.reach_prune.proofs.Trails.{trail_more}
 use Rattle.graph_base.proofs.StartsAndSteps.{start_at-is, step_at-is}
 use Rattle.walk_check.specs.Alike.{IsSingleStepped}
 use Rattle.walk_check.specs.Formed.{CanBeReached}
@@ -48,10 +49,6 @@ none_from_marked (false ∷ ms) h = absurd (false≢true (h zero (omega arith)))
 
 -- ---- nodes that are marked as steps lead to them
 
-step_after : (g : PlainGraph) (a b c : ℕ) (via : List ℕ) → IsTrail g a via b → has_step g b c ≡ true → IsTrail g a (via ++ c ∷ []) c
-step_after g a b c [] e h = (ap (λ n. has_step g n c) e ∙ h, refl)
-step_after g a b c (d ∷ ds) t h = (t.0, step_after g d b c ds t.1 h)
-
 -- the step at a place of the list
 pub step_here : (g : PlainGraph) (steps : List (ℕ × ℕ)) (i : ℕ) → steps ≡ g.steps → i < length steps → has_step g (get_or steps i (0, 0)).0 (get_or steps i (0, 0)).1 ≡ true
 step_here g steps i all lt =
@@ -64,6 +61,6 @@ step_here g steps i all lt =
 pub marked_step : (g : PlainGraph) (marks : List Bool) (from to n : ℕ) → has_step g from to ≡ true → ((k : ℕ) → is_marked marks k ≡ true → CanBeReached g k) → is_marked marks from ≡ true
     → is_marked (set marks to true) n ≡ true → CanBeReached g n
 marked_step g marks from to n step reached on h = elim (cases_eq to n) [
-  | inl e ↦ let r = reached from on in (r.0, r.1, (r.2.0 ++ n ∷ [], step_after g r.0 from n r.2.0 r.2.1 (ap (has_step g from) (sym e) ∙ step)))
+  | inl e ↦ let r = reached from on in (r.0, r.1, (r.2.0 ++ n ∷ [], trail_more g r.0 from n r.2.0 r.2.1 (ap (has_step g from) (sym e) ∙ step)))
   | inr ne ↦ reached n (sym (get_or-set_other marks to n true false (λ e. ne (sym e))) ∙ h)
 ]
