@@ -15,7 +15,7 @@ use Rattle.graph_base.specs.Runs.{place_of}
 use Rattle.net_base.specs.declared.loc.LocSet.{LocSet}
 use Rattle.refutation_law.specs.Choosing.{IsRefutation}
 use Rattle.refutation_law.proofs.OneRefutation.{refutation_is_one}
-use Rattle.refutation_law.proofs.Refuted.{single_of}
+use Rattle.graph_base.proofs.WellFormed.{one_step}
 use Rattle.relation_law.specs.Rounds.{IsReach}
 use Rattle.relation_law.specs.Evidence.{at_routers}
 use Rattle.relation_law.specs.Numbers.{number_of}
@@ -102,7 +102,7 @@ module _ (net : PlainNet) (number room : ℕ) (s : PlainStatement) (c : Case) wh
   same_evidence g h m n p q a b one other =
       let same = one_graph g h m n a b in
       let fits = given_fits net room s c h n b [] [] in
-      let single = single_of net (holds c.origins) c.external h fits.faithful.formed in
+      let single = one_step net (holds c.origins) c.external h fits.faithful.formed in
       ap₂ (NoEvidence number) same (one_refutation net s c h p q fits.graph single (subst (λ x. IsRefuted net s c x p) same one) other)
 
   pub not_refused : (given : AcceptedCase) (e : CompileRefusal) → IsAccepted net room s c given → IsCaseCause net number room s c e → e ≡ NoMemory

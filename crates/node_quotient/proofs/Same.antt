@@ -4,21 +4,13 @@ use Rattle.std.specs.List.{AllByRecursion}
 use Rattle.std.specs.Prelude.{slice_index_or}
 use Rattle.std.proofs.lemmas.List.{get_or_default}
 use Rattle.graph_base.specs.Graphs.{PlainGraph, IsGraph}
-use Rattle.graph_base.proofs.RunSteps.{IsInside}
-use Rattle.graph_base.proofs.StartsAndSteps.{start_node, step_nodes}
 use Rattle.reach_prune.specs.Searches.{AreLists, is_among, is_listed, is_marked}
 use Rattle.reach_prune.specs.Trimmed.{graph_kept}
 use Rattle.reach_prune.proofs.Agreeing.{graph_kept_same}
 use Rattle.node_quotient.specs.Alike.{AreInside, class_in}
 use Rattle.node_quotient.specs.Quotient.{AreLeast, IsQuotient, is_least, led_to}
+use Rattle.node_quotient.proofs.Inside.{inside_of}
 use Rattle.node_quotient.proofs.Turns.{among_get}
-
-inside : (g : PlainGraph) → IsGraph g → IsInside g
-inside g ok = record {
-  starts = λ n h. start_node g n ok h;
-  sources = λ m n h. (step_nodes g m n ok h).0;
-  steps = λ m n h. (step_nodes g m n ok h).1;
-}
 
 -- the lists of a graph's steps name its nodes
 pub lists_inside : (lists : List (List ℕ)) (size : ℕ) → length lists ≡ size → AreLists lists → AreInside lists size
@@ -42,4 +34,4 @@ module _ (g : PlainGraph) (ok : IsGraph g) (least : List ℕ) (is : AreLeast g (
       led_steps (s ∷ ss) all = ((all.0.0, is.within s.1 all.0.1), led_steps ss all.1)
 
   pub kept_is_quotient : (marks : List Bool) (q : PlainGraph) → ((n : ℕ) → n < length g.nodes → is_marked marks n ≡ (class_in least n == n)) → q ≡ graph_kept (is_marked marks) (led_to (class_in least) g) → IsQuotient g q
-  kept_is_quotient marks q marked e = (class_in least, is, e ∙ graph_kept_same (is_marked marks) (is_least (class_in least)) (led_to (class_in least) g) (inside (led_to (class_in least) g) led_is_graph) marked)
+  kept_is_quotient marks q marked e = (class_in least, is, e ∙ graph_kept_same (is_marked marks) (is_least (class_in least)) (led_to (class_in least) g) (inside_of (led_to (class_in least) g) led_is_graph) marked)

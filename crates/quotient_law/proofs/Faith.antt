@@ -8,24 +8,21 @@ use Rattle.graph_base.specs.Runs.{place_of, rank_at, is_start, has_step, run}
 use Rattle.graph_base.specs.Rules.{IsWellFormed}
 use Rattle.graph_base.specs.Walks.{IsEnteredFromBefore}
 use Rattle.regret_law.specs.Faithful.{IsFaithful, may_start}
-use Rattle.graph_base.proofs.StartsAndSteps.{start_node, step_nodes}
 use Rattle.list_laws.specs.Counts.{kept_below}
 use Rattle.reach_prune.specs.Trimmed.{graph_kept}
-use Rattle.graph_base.proofs.RunSteps.{IsInside, RunsTo, runs_from_run, run_from_runs, run_inside}
+use Rattle.graph_base.proofs.RunSteps.{RunsTo, runs_from_run, run_from_runs, run_inside}
 use Rattle.list_laws.proofs.Kept.{kept_below-less}
 use Rattle.graph_law.proofs.Kept.{place_kept, rank_kept, node_from_kept, start_kept, step_kept}
 use Rattle.graph_law.proofs.KeptFormed.{kept_well_formed}
 use Rattle.graph_law.proofs.KeptRuns.{run_from_kept}
 use Rattle.node_quotient.specs.Quotient.{AreLeast, is_least, led_to}
+use Rattle.node_quotient.proofs.Inside.{inside_of}
 use Rattle.node_quotient.proofs.Least.{joined_rank, least_kept, kept_least}
 use Rattle.quotient_law.proofs.Led.{led_formed, run_led, run_from_led, led_entered}
 
 is_some_at : (o : Option ℕ) → is_some o ≡ true → (i : ℕ) × (o ≡ Some i)
 is_some_at None h = absurd (cc)
 is_some_at (Some i) h = (i, refl)
-
-pub inside_of : (g : PlainGraph) → IsGraph g → IsInside g
-inside_of g ok = record { starts = λ n h. start_node g n ok h; sources = λ m n h. (step_nodes g m n ok h).0; steps = λ m n h. (step_nodes g m n ok h).1 }
 
 module _ (net : PlainNet) (origin : ℕ → Bool) (external : Bool) (least : ℕ → ℕ) (g : PlainGraph) (ok : IsGraph g) (wf : IsWellFormed net origin external g) (are : AreLeast g least) where
   abbrev l : PlainGraph

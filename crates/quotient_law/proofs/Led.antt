@@ -13,12 +13,8 @@ use Rattle.list_laws.proofs.Apart.{Apart-from_distinct, Apart-map, IsDistinct-fr
 use Rattle.graph_base.proofs.StartsAndSteps.{in_step, step_in}
 use Rattle.graph_base.proofs.RunSteps.{IsInside, RunsTo}
 use Rattle.graph_base.proofs.WellFormed.{one_start, one_step}
-use Rattle.graph_base.specs.Refuting.{HasSingleSteps}
 use Rattle.node_quotient.specs.Quotient.{AreLeast, is_least, led_to}
 use Rattle.node_quotient.proofs.Least.{joined_steps, joined_sym, least_kept, least_le, least_same}
-
-pub single_of : (net : PlainNet) (origin : ℕ → Bool) (external : Bool) (g : PlainGraph) → IsWellFormed net origin external g → HasSingleSteps g
-single_of net origin external g formed m s t h k e = one_step net origin external g formed m s t h k e
 
 module _ (least : ℕ → ℕ) (g : PlainGraph) where
   pub step_led : (m n : ℕ) → has_step g m n ≡ true → has_step (led_to least g) m (least n) ≡ true
@@ -95,7 +91,7 @@ module _ (least : ℕ → ℕ) (g : PlainGraph) where
         (ap (is_start g) is ∙ r.0, place_least n lt ∙ r.1)
     run_led (l ∷ k ∷ ls) n r lt =
         let lm = inside.sources r.0 n r.2 in
-        let on = joined_steps g (single_of net origin external g formed) (least r.0) r.0 n (are.joined r.0 lm) r.2 in
+        let on = joined_steps g (one_step net origin external g formed) (least r.0) r.0 n (are.joined r.0 lm) r.2 in
         let la = inside.steps (least r.0) on.0 on.1 in
         let same : least on.0 ≡ least n = least_same g least are on.0 n la lt on.2 in
         (least r.0, run_led (k ∷ ls) r.0 r.1 lm, ap (has_step (led_to least g) (least r.0)) (sym same) ∙ step_led (least r.0) on.0 on.1, place_least n lt ∙ r.3)
@@ -107,7 +103,7 @@ module _ (least : ℕ → ℕ) (g : PlainGraph) where
         let before = run_from_led (k ∷ ls) r.0 r.1 in
         let p = step_from_led r.0 i r.2 in
         let here : has_step g (least before.0) p.0 ≡ true = ap (λ m. has_step g m p.0) before.3 ∙ p.1 in
-        let on = joined_steps g (single_of net origin external g formed) before.0 (least before.0) p.0 (joined_sym g (least before.0) before.0 (are.joined before.0 before.2)) here in
+        let on = joined_steps g (one_step net origin external g formed) before.0 (least before.0) p.0 (joined_sym g (least before.0) before.0 (are.joined before.0 before.2)) here in
         let lp = inside.steps r.0 p.0 p.1 in
         let la = inside.steps before.0 on.0 on.1 in
         (on.0, (before.0, before.1, on.1, on.2.place ∙ sym (place_least p.0 lp) ∙ ap (place_of g) (sym p.2) ∙ r.3), la, least_same g least are on.0 p.0 la lp on.2 ∙ sym p.2)
@@ -119,7 +115,7 @@ module _ (least : ℕ → ℕ) (g : PlainGraph) where
       | inl start ↦ absurd (false≢true (sym late ∙ start))
       | inr e ↦
           let lm = inside.sources e.0 n e.2 in
-          let on = joined_steps g (single_of net origin external g formed) (least e.0) e.0 n (are.joined e.0 lm) e.2 in
+          let on = joined_steps g (one_step net origin external g formed) (least e.0) e.0 n (are.joined e.0 lm) e.2 in
           let la = inside.steps (least e.0) on.0 on.1 in
           let same : least on.0 ≡ n = least_same g least are on.0 n la lt on.2 ∙ eqb-true (least n) n kept in
           let le = least_le g least are e.0 lm in

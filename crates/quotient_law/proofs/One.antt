@@ -9,7 +9,7 @@ use Rattle.reach_prune.specs.Trimmed.{graph_kept}
 use Rattle.reach_prune.proofs.Agreeing.{graph_kept_same}
 use Rattle.reach_prune.proofs.Renumbering.{graph_kept_is_graph}
 use Rattle.node_quotient.specs.Quotient.{AreLeast, IsQuotient, is_least, led_to}
-use Rattle.quotient_law.proofs.Faith.{inside_of}
+use Rattle.node_quotient.proofs.Inside.{inside_of}
 use Rattle.quotient_law.proofs.Led.{step_from_led}
 use Rattle.std.specs.Prelude.{length}
 

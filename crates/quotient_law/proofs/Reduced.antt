@@ -9,12 +9,14 @@ use Rattle.graph_base.proofs.WellFormed.{step_at-of}
 use Rattle.list_laws.specs.Counts.{kept_below}
 use Rattle.reach_prune.specs.Trimmed.{graph_kept}
 use Rattle.graph_base.proofs.RunSteps.{IsInside}
+use Rattle.graph_base.proofs.WellFormed.{one_step}
+use Rattle.node_quotient.proofs.Inside.{inside_of}
 use Rattle.list_laws.proofs.Kept.{kept_below-same}
 use Rattle.graph_law.proofs.Kept.{step_kept, step_from_kept}
 use Rattle.node_quotient.specs.Quotient.{follow, end_of, AreLeast, IsReduced, is_least, led_to}
 use Rattle.node_quotient.proofs.Least.{joined_steps, joined_sym, least_kept, least_same}
-use Rattle.quotient_law.proofs.Led.{single_of, step_led, step_from_led}
-use Rattle.quotient_law.proofs.Faith.{inside_of, joined_place, joined_ranks, node_before, quotient_formed}
+use Rattle.quotient_law.proofs.Led.{step_led, step_from_led}
+use Rattle.quotient_law.proofs.Faith.{joined_place, joined_ranks, node_before, quotient_formed}
 
 module _ (net : PlainNet) (origin : ℕ → Bool) (external : Bool) (least : ℕ → ℕ) (g : PlainGraph) (ok : IsGraph g) (wf : IsWellFormed net origin external g) (are : AreLeast g least) where
   abbrev q : PlainGraph
@@ -52,7 +54,7 @@ module _ (net : PlainNet) (origin : ℕ → Bool) (external : Bool) (least : ℕ
       by (Some a) h p k =
           let s = step_at-is g n l a h in
           let la = (inside_of g ok).steps n a s.0 in
-          let f = joined_steps g (single_of net origin external g wf) (least n) n a (are.joined n lt) s.0 in
+          let f = joined_steps g (one_step net origin external g wf) (least n) n a (are.joined n lt) s.0 in
           let lf = (inside_of g ok).steps (least n) f.0 f.1 in
           let same : least f.0 ≡ least a = least_same g least are f.0 a lf la f.2 in
           let st : has_step q (new (least n)) (new (least a)) ≡ true = ap (λ x. has_step q (new (least n)) (new x)) (sym same) ∙ step_new (least n) f.0 (least_kept g least are n lt) f.1 in
@@ -62,7 +64,7 @@ module _ (net : PlainNet) (origin : ℕ → Bool) (external : Bool) (least : ℕ
           let s = step_at-is q (new (least n)) l j k in
           let b = step_old (least n) j (least_kept g least are n lt) s.0 in
           let lb = (inside_of g ok).steps (least n) b.0 b.1 in
-          let f = joined_steps g (single_of net origin external g wf) n (least n) b.0 (joined_sym g (least n) n (are.joined n lt)) b.1 in
+          let f = joined_steps g (one_step net origin external g wf) n (least n) b.0 (joined_sym g (least n) n (are.joined n lt)) b.1 in
           let lf = (inside_of g ok).steps n f.0 f.1 in
           let same : least f.0 ≡ least b.0 = least_same g least are f.0 b.0 lf lb f.2 in
           let place : place_of g f.0 ≡ l = f.2.place ∙ sym (place_new b.0 lb) ∙ ap (place_of q) (sym b.2) ∙ s.1 in

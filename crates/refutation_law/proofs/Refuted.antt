@@ -2,16 +2,13 @@
 use Rattle.std.proofs.Common.{◌≡◌, ℕ, zero, suc, ◌<◌, ◌≤◌, Bool, true, false, List, Option, Some, inl, inr, arith, sym, ap, ◌∙◌, subst}
 use Rattle.std.proofs.lemmas.Bool.{and_parts, both_ways, false_from_ne_true}
 use Rattle.net_base.specs.declared.loc.LocSet.{LocSet}
-use Rattle.net_base.specs.Network.{PlainNet}
 use Rattle.net_base.specs.Sets.{holds}
 use Rattle.graph_base.specs.declared.refutation.Removed.{Removed}
 use Rattle.graph_base.specs.declared.refutation.Why.{Why}
 use Rattle.graph_base.specs.declared.refutation.Why.TheVariants.{RankWorse, NoStep, StepWorse, LoopWorse, ListenerWorse}
 use Rattle.graph_base.specs.Graphs.{PlainGraph, IsGraph}
 use Rattle.graph_base.specs.Refuting.{HasSingleSteps, IsJustified, IsLine, IsWorse, Refutes, Says, WasRemoved}
-use Rattle.graph_base.specs.Rules.{IsWellFormed}
-use Rattle.graph_base.specs.Runs.{rank_at, has_step, step_at}
-use Rattle.graph_base.proofs.Determined.{step_at-step}
+use Rattle.graph_base.specs.Runs.{rank_at, has_step}
 use Rattle.relation_law.specs.Numbers.{AreNumbers}
 use Rattle.relation_law.specs.Relations.{IsClosed, Meets, Pair, no_worse}
 use Rattle.relation_law.specs.Views.{View, view_of}
@@ -84,10 +81,3 @@ no_numbers g claimed first second lines of ok single r are =
       | inl e ↦ both_ways _ none.0 e
       | inr e ↦ both_ways _ none.1 e
     ]
-
--- ---- the rules of evidence
-
-pub single_of : (net : PlainNet) (origin : ℕ → Bool) (external : Bool) (g : PlainGraph) → IsWellFormed net origin external g → HasSingleSteps g
-single_of net origin external g formed m s t a b same =
-    let at : Some s ≡ Some t = sym (step_at-step g m s formed.one_step a) ∙ ap (step_at g m) same ∙ step_at-step g m t formed.one_step b in
-    cc

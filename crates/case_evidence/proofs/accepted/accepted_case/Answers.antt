@@ -2,7 +2,7 @@ use Rattle.std.proofs.Common.{[], length, ap, arith}
 use Rattle.std.proofs.lemmas.Result.{err_from_is_err_and}
 use Rattle.net_base.specs.Sets.{holds}
 use Rattle.path_words.specs.Policies.{policy_of}
-use Rattle.refutation_law.proofs.Refuted.{single_of}
+use Rattle.graph_base.proofs.WellFormed.{one_step}
 use Rattle.case_evidence.proofs.Joined.{quotient_fits}
 use Rattle.case_evidence.proofs.OfCases.{case_there, used_within}
 use Rattle.case_evidence.proofs.accepted.accepted_case.Goals as goal
@@ -12,14 +12,14 @@ quotient-requires c =
     let net = c.args.net.now in
     let there = case_there net (policy_of c.args.policy.now) c.args.number c.requires.from_one (omega (arith, c.requires.within, ap length c.requires.cases)) in
     let fits = c.in_ok-given.ensures.fits there.0 there.1 there.2 [] [] in
-    single_of net (holds there.1.origins) there.1.external c.in_ok-given.given.graph fits.faithful.formed
+    one_step net (holds there.1.origins) there.1.external c.in_ok-given.given.graph fits.faithful.formed
 
 pub numbered-requires : goal.numbered-requires
 numbered-requires c =
     let net = c.args.net.now in
     let there = case_there net (policy_of c.args.policy.now) c.args.number c.requires.from_one (omega (arith, c.requires.within, ap length c.requires.cases)) in
     let fits = quotient_fits net there.0 there.1 c.in_ok-given.given.graph c.in_ok-graph.graph (c.in_ok-given.ensures.fits there.0 there.1 there.2) c.in_ok-graph.ensures [] [] in
-    single_of net (holds there.1.origins) there.1.external c.in_ok-graph.graph fits.faithful.formed
+    one_step net (holds there.1.origins) there.1.external c.in_ok-graph.graph fits.faithful.formed
 
 pub returns-in_err-accepted-clause-refused : goal.returns-in_err-accepted-clause-refused
 returns-in_err-accepted-clause-refused c =
