@@ -2,8 +2,8 @@
 use Rattle.std.proofs.Common.{◌≡◌, ℕ, zero, suc, ◌+◌, ◌<◌, ◌≤◌, Bool, true, false, List, [], ◌∷◌, ◌++◌, map, length, inl, inr, sym, ap, subst, ◌∙◌, add-one, length-append, arith}
 use Rattle.std.specs.Prelude.{filter}
 use Rattle.std.specs.List.{IsDistinct}
-use Rattle.std.proofs.lemmas.Bool.{cases_Bool, cond-true, cond-false, false≢true}
-use Rattle.std.proofs.lemmas.List.{append-nil, map-append}
+use Rattle.std.proofs.lemmas.Bool.{cases_Bool, false≢true}
+use Rattle.std.proofs.lemmas.List.{map-append}
 use Rattle.net_base.specs.Network.{PlainNet}
 use Rattle.path_exprs.specs.Expression.{Expression}
 use Rattle.path_exprs.specs.Standings.{Standing, moved, same_standing}
