@@ -23,6 +23,7 @@ use Rattle.config_lines.specs.Numbers.{number_of, in_range, tag_in_range}
 use Rattle.config_lines.specs.Words.{pair_of, triple_of, tag_of}
 use Rattle.config_lines.proofs.Addresses.{cut_back}
 use Rattle.config_lines.proofs.Digits.{number_back, number_there}
+use Rattle.config_lines.proofs.PartLaws.{in_range_back}
 use Rattle.config_lines.proofs.Ranges.{tag_low}
 use Rattle.config_lines.proofs.Solid.{solid, solid_append, solid_number, no_colon}
 
@@ -88,10 +89,6 @@ reads_back : (e : Edition) (word : List ℕ) (raw : RawTag) → tag_of e word �
 reads_back First word raw h = pair_back word raw h
 reads_back Second word raw h = triple_back word raw h
 
-in_range_value : (f : Figure) (n : ℕ) → in_range f ≡ Ok n → f ≡ Value n
-in_range_value (Value m) n h = ap Value (ok_same m n h)
-in_range_value _ n h = absurd cc
-
 pub tag_back : (e : Edition) (w : List ℕ) (raw : RawTag) (t : Tag) → tag_of e w ≡ Ok raw → tag_in_range e raw ≡ Ok t → (w ≡ tag_text e t) × IsTrue (fits_tag e t)
 unfolding tag_in_range
 tag_back e w raw t h r =
@@ -102,9 +99,9 @@ tag_back e w raw t h r =
     let u = bind_ok (unless Number (m.0 == 0 && fits_tag e (tag_of_numbers a.0 v.0))) _ t v.2 in
     let same : tag_of_numbers a.0 v.0 ≡ t = ok_same _ t u.2 in
     let both = and_parts (m.0 == 0) (fits_tag e (tag_of_numbers a.0 v.0)) (unless_ok Number _ u.0 u.1) in
-    let asn = (number_back reads.asn a.0 (reads.asn_is ∙ ap Ok (in_range_value raw.asn a.0 a.1))).0 in
-    let value = (number_back reads.value v.0 (reads.value_is ∙ ap Ok (in_range_value raw.value v.0 v.1))).0 in
-    let zero : raw.middle ≡ Value 0 = in_range_value raw.middle m.0 m.1 ∙ ap Value (eqb-true m.0 0 both.0) in
+    let asn = (number_back reads.asn a.0 (reads.asn_is ∙ ap Ok (in_range_back raw.asn a.0 a.1))).0 in
+    let value = (number_back reads.value v.0 (reads.value_is ∙ ap Ok (in_range_back raw.value v.0 v.1))).0 in
+    let zero : raw.middle ≡ Value 0 = in_range_back raw.middle m.0 m.1 ∙ ap Value (eqb-true m.0 0 both.0) in
     (reads.text (tag_of_numbers a.0 v.0) asn value zero ∙ ap (tag_text e) same, subst (λ (q : Tag). IsTrue (fits_tag e q)) same both.1)
 
 -- ---- what is written
