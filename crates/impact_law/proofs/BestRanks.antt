@@ -1,10 +1,10 @@
 -- Best ranks over the real types.
 use Rattle.std.proofs.Common.{◌≡◌, ℕ, ◌≤◌, suc, Bool, true, false, List, [], ◌∷◌, ◌++◌, Option, Some, None, refl, sym, ap, ◌∙◌, inl, inr, subst, arith}
-use Rattle.std.specs.Prelude.{◌&&◌, ◌==◌, not, option_map, slice_get}
+use Rattle.std.specs.Prelude.{◌&&◌, not, option_map, slice_get}
 use Rattle.std.proofs.lemmas.Option.{slice_get-map}
 use Rattle.std.specs.Option.{option_and_then}
 use Rattle.std.specs.List.{list_any}
-use Rattle.std.proofs.lemmas.Bool.{and_parts, and_from, or_cases, or_parts, cases_Bool, not-true, not_from_false, true≢false, false≢true}
+use Rattle.std.proofs.lemmas.Bool.{and_parts, and_from, or_parts, cases_Bool, not-true, not_from_false, true≢false}
 use Rattle.net_base.specs.Network.{PlainNet, IsNet, is_peer, is_router, linked}
 use Rattle.net_base.specs.Sets.{holds}
 use Rattle.net_base.specs.Prefixes.{PlainPrefix, IsPrefix}
@@ -12,30 +12,29 @@ use Rattle.path_words.specs.declared.case.Case.{Case}
 use Rattle.path_words.specs.Cases.{case_list}
 use Rattle.path_words.specs.Policies.{PlainPolicy, PlainStatement}
 use Rattle.path_words.specs.Meaning.{at_last, front, rank_of}
-use Rattle.path_words.specs.Walks.{is_walk, is_loop_free}
 use Rattle.path_words.specs.Governing.{is_origin}
-use Rattle.path_words.specs.Permitted.{ends_at_origin, from_holds, is_allowed, is_permitted, IsClaimedRouter, IsClaimedSession}
+use Rattle.path_words.specs.Permitted.{from_holds, is_permitted, IsClaimedRouter, IsClaimedSession}
 use Rattle.graph_base.specs.Runs as plain
 use Rattle.graph_base.specs.Runs.{rank_at, step_at}
 use Rattle.config_base.specs.Configs.{PlainConfig}
 use Rattle.config_base.specs.Lines.{class_of}
 use Rattle.evidence_base.specs.Made.{PlainCaseEvidence, number_at, statement_at}
-use Rattle.regret_law.specs.Faithful.{is_walk_to, may_start, permits}
-use Rattle.outcome_base.specs.Outcomes.{Failures, is_dead, is_dead_link, is_live, is_silent, survives}
+use Rattle.regret_law.specs.Faithful.{may_start, permits}
+use Rattle.outcome_base.specs.Outcomes.{Failures, is_dead, is_dead_link, is_live, is_silent}
 use Rattle.path_words.specs.Policies.{IsPolicyOf}
 use Rattle.regret_law.specs.Passes.{Passes}
-use Rattle.outcome_base.specs.Right.{IsGood, NoneSurvives}
+use Rattle.outcome_base.specs.Right.{NoneSurvives}
+use Rattle.regret_law.proofs.CaseOrigins.{case_permits, good, good_parts}
 use Rattle.regret_law.proofs.CaseOfClass.{governed_case}
 use Rattle.regret_law.proofs.GraphForms.{same_run}
 use Rattle.regret_law.proofs.GraphRanks.{ranks_of, meets_ranks}
 use Rattle.net_base.proofs.RoutersAndPeers.{router_no_peer, peer_no_router}
 use Rattle.regret_law.proofs.RightLaw.{class_is}
-use Rattle.regret_law.proofs.RunWalks.{runs_are_walks}
 use Rattle.regret_law.proofs.Setting.{network_of, alive_of, setup_of}
 use Rattle.list_laws.proofs.Options.{is_some_parts, when_parts, none_or_some}
-use Rattle.path_words.proofs.WalkParts.{walk_parts, at_last-never}
+use Rattle.path_words.proofs.WalkParts.{at_last-never}
 use Rattle.regret_law.proofs.PermittedWalks.{permits_parts}
-use Rattle.regret_law.proofs.Surviving.{alive-survives, survives-alive}
+use Rattle.regret_law.proofs.Surviving.{run-survives, survives-alive}
 use Rattle.routing_law.specs.Graph as graph
 use Rattle.routing_law.specs.Network as law
 use Rattle.routing_law.specs.Outcome as outcomes
@@ -45,10 +44,6 @@ use Rattle.settled_law.proofs.SettledLaw.{CaseFound, case_or_bare}
 use Rattle.impact_law.specs.Nodes.{IsTop, IsLeast}
 use Rattle.impact_law.specs.BestRanks.{AreToldByTops, BestRanksAreOne, IsBestRank, IsTopAt, NothingIsClaimedWithoutAClass, TopsTellBestRanks, TopsThatAreReachedStay, rank_over}
 use Rattle.impact_law.proofs.Tops.{routers, sessions}
-
-same_free : (path : List ℕ) → law.loop_free path ≡ is_loop_free path
-same_free [] = refl
-same_free (l ∷ ls) = ap (λ b. not (list_any (λ k. k == l) ls) && b) (same_free ls)
 
 module _ (net : PlainNet) (policy : PlainPolicy) (config : PlainConfig) (cs : List PlainCaseEvidence) (rules : IsNet net) (kept : IsPolicyOf net policy) (passes : Passes net policy config cs) (f : Failures) (p : PlainPrefix)
     (prefix : IsPrefix p) (c : CaseFound net policy config cs rules kept passes f p) where
@@ -76,40 +71,21 @@ module _ (net : PlainNet) (policy : PlainPolicy) (config : PlainConfig) (cs : Li
   ranked : graph.MeetsRanks (network_of net Origin) (setup_of net f c.d).graph Ranks
   ranked = meets_ranks net c.s c.d.case c.d.graph (number_at c.d) rules c.on.graph c.on.faithful (passes.rules c.k c.d c.s c.at numbered)
 
-  here : (path : List ℕ) → is_permitted net policy p c.s path ≡ true → permits net Origin c.s path ≡ true
-  here path h = subst (λ (o : ℕ → Bool). permits net o c.s path ≡ true) (sym c.same) h
-
-  there : (path : List ℕ) → permits net Origin c.s path ≡ true → is_permitted net policy p c.s path ≡ true
-  there path h = subst (λ (o : ℕ → Bool). permits net o c.s path ≡ true) c.same h
-
-  -- ---- between paths that are good and what the laws see
-
-  good : (path : List ℕ) → permits net Origin c.s path ≡ true → law.loop_free path ≡ true → law.survives (alive_of net f) path ≡ true → IsGood net policy f p c.s path
-  good path permitted free lives =
-      and_from (is_allowed net policy p c.s path) (survives net f path) (and_from (is_permitted net policy p c.s path) (is_loop_free path) (there path permitted) (sym (same_free path) ∙ free)) (survives-alive net f path lives)
-
-  good_parts : (l : ℕ) (rest : List ℕ) → IsGood net policy f p c.s (l ∷ rest) → (permits net Origin c.s (l ∷ rest) ≡ true) × (law.survives (alive_of net f) (l ∷ rest) ≡ true)
-  good_parts l rest h =
-      let first = and_parts (is_allowed net policy p c.s (l ∷ rest)) (survives net f (l ∷ rest)) h in
-      let permitted = here (l ∷ rest) (and_parts (is_permitted net policy p c.s (l ∷ rest)) (is_loop_free (l ∷ rest)) first.0).0 in
-      let walk = walk_parts net (l ∷ rest) (permits_parts net Origin c.s (l ∷ rest) permitted).0 in
-      (permitted, alive-survives net f l rest walk.0 walk.1 first.1)
-
   ranked_path : (path : List ℕ) (i : ℕ) → permits net Origin c.s path ≡ true → rank_of net c.s.ranked path ≡ Some i → Ranks.of_path path ≡ Some i
   ranked_path path i permitted rank = rw permitted rank
 
   best : (l : ℕ) (ls : List ℕ) (o : Option ℕ) → IsLeast (setup_of net f c.d) Ranks (λ rest. l ∷ ls ++ rest) o → IsBestRank net policy f p c.s (l ∷ ls) o
   best l ls None x = λ rest fine.
-      let parts = good_parts l (ls ++ rest) fine in
+      let parts = good_parts net policy p c.s c.same f l (ls ++ rest) fine in
       let rank = is_some_parts (rank_of net c.s.ranked (l ∷ ls ++ rest)) (permits_parts net Origin c.s (l ∷ ls ++ rest) parts.0).3 in
       let b = x.least rest rank.0 (ranked_path (l ∷ ls ++ rest) rank.0 parts.0 rank.1) parts.1 in
       absurd (cc (b.1))
   best l ls (Some n) x =
       let m = x.met n refl in
       let parts = when_parts (permits net Origin c.s (l ∷ ls ++ m.0)) (rank_of net c.s.ranked (l ∷ ls ++ m.0)) n m.1 in (
-        (m.0, good (l ∷ ls ++ m.0) parts.0 m.2 m.3, parts.1),
+        (m.0, good net policy p c.s c.same f (l ∷ ls ++ m.0) parts.0 m.2 m.3, parts.1),
         λ rest i fine rank.
-            let both = good_parts l (ls ++ rest) fine in
+            let both = good_parts net policy p c.s c.same f l (ls ++ rest) fine in
             let b = x.least rest i (ranked_path (l ∷ ls ++ rest) i both.0 rank) both.1 in
             let one : Some n ≡ Some b.0 = b.1 in
             let same : b.0 ≡ n = cc in
@@ -118,16 +94,8 @@ module _ (net : PlainNet) (policy : PlainPolicy) (config : PlainConfig) (cs : Li
 
   -- ---- what is reached
 
-  lives : (r n : ℕ) (rest : List ℕ) → plain.run c.d.graph (r ∷ rest) ≡ Some n → survives net f (r ∷ rest) ≡ true → law.survives (alive_of net f) (r ∷ rest) ≡ true
-  lives r n [] runs h = alive-survives net f r [] refl refl h
-  lives r n (u ∷ rest) runs h =
-      let path = runs_are_walks net Origin c.d.case.external c.d.graph c.on.graph c.on.faithful.formed (r ∷ u ∷ rest) n runs in
-      let walk : is_walk_to net Origin (r ∷ u ∷ rest) ≡ true = elim (or_cases (is_walk_to net Origin (r ∷ u ∷ rest)) false path) [ inl t ↦ t | inr t ↦ absurd (false≢true t) ] in
-      let parts = walk_parts net (r ∷ u ∷ rest) (and_parts (is_walk net (r ∷ u ∷ rest)) (ends_at_origin Origin (r ∷ u ∷ rest)) walk).0 in
-      alive-survives net f r (u ∷ rest) parts.0 parts.1 h
-
   pub to_law : (r n : ℕ) → IsReachedAt net f c.d r n → outcomes.ReachedAt (setup_of net f c.d) r n
-  to_law r n at = record { rest = at.0; runs = same_run c.d.graph (number_at c.d) (r ∷ at.0) ∙ at.1; lives = lives r n at.0 at.1 at.2 }
+  to_law r n at = record { rest = at.0; runs = same_run c.d.graph (number_at c.d) (r ∷ at.0) ∙ at.1; lives = run-survives net f Origin c.d.case.external c.d.graph c.on.graph c.on.faithful.formed r n at.0 at.1 at.2 }
 
   pub from_law : (r n : ℕ) → outcomes.ReachedAt (setup_of net f c.d) r n → IsReachedAt net f c.d r n
   from_law r n at = (at.rest, sym (same_run c.d.graph (number_at c.d) (r ∷ at.rest)) ∙ at.runs, survives-alive net f (r ∷ at.rest) at.lives)
@@ -142,7 +110,7 @@ module _ (net : PlainNet) (policy : PlainPolicy) (config : PlainConfig) (cs : Li
 
   session_may : (r peer : ℕ) → IsClaimedSession net policy p c.s r peer → may_start Origin c.s peer ≡ true
   session_may r peer claimed =
-      let walk = permits_parts net Origin c.s (peer ∷ r ∷ claimed.starts.0) (here (peer ∷ r ∷ claimed.starts.0) claimed.starts.1) in
+      let walk = permits_parts net Origin c.s (peer ∷ r ∷ claimed.starts.0) (case_permits net policy p c.s c.same (peer ∷ r ∷ claimed.starts.0) claimed.starts.1) in
       let ends = and_parts _ (not (list_any Origin (front (peer ∷ r ∷ claimed.starts.0)))) walk.1 in
       let none = or_parts (Origin peer) (list_any Origin (front (r ∷ claimed.starts.0))) (not-true _ ends.1) in
       and_from (from_holds c.s.from peer) (not (Origin peer)) claimed.from (not_from_false _ none.0)
@@ -153,7 +121,7 @@ module _ (net : PlainNet) (policy : PlainPolicy) (config : PlainConfig) (cs : Li
 
   no_router : (r : ℕ) → IsClaimedRouter net policy p c.s r → ((n : ℕ) → ¬ IsReachedAt net f c.d r n) → NoneSurvives net policy f p c.s (r ∷ [])
   no_router r claimed none rest fine =
-      let parts = good_parts r rest fine in
+      let parts = good_parts net policy p c.s c.same f r rest fine in
       let rank = is_some_parts (rank_of net c.s.ranked (r ∷ rest)) (permits_parts net Origin c.s (r ∷ rest) parts.0).3 in
       let a = ranked.has_run (r ∷ rest) rank.0 (ranked_path (r ∷ rest) rank.0 parts.0 rank.1) in
       none a.0 (from_law r a.0 (record { rest = rest; runs = a.1; lives = parts.1 }))
@@ -179,12 +147,12 @@ module _ (net : PlainNet) (policy : PlainPolicy) (config : PlainConfig) (cs : Li
         let off = not-true _ (and_parts (from_holds c.s.from peer) (not (Origin peer)) start).1 in
         rw live (best peer (r ∷ []) (option_and_then (rank_at c.d.graph) (step_at c.d.graph n peer))
         (sessions (setup_of net f c.d) Ranks c.lines.formed c.numbers ranked r peer n claimed.at_router (peer_no_router net peer claimed.at_peer) off start over.1 over.0 (top_law r n top))))
-    | inr dead ↦ rw dead (λ rest fine. absurd (true≢false (sym (over_live r peer rest (good_parts peer (r ∷ rest) fine).1) ∙ dead)))
+    | inr dead ↦ rw dead (λ rest fine. absurd (true≢false (sym (over_live r peer rest (good_parts net policy p c.s c.same f peer (r ∷ rest) fine).1) ∙ dead)))
   ]
 
   no_session : (r peer : ℕ) → IsClaimedSession net policy p c.s r peer → ((n : ℕ) → ¬ IsReachedAt net f c.d r n) → NoneSurvives net policy f p c.s (peer ∷ r ∷ [])
   no_session r peer claimed none rest fine =
-      let parts = good_parts peer (r ∷ rest) fine in
+      let parts = good_parts net policy p c.s c.same f peer (r ∷ rest) fine in
       let rank = is_some_parts (rank_of net c.s.ranked (peer ∷ r ∷ rest)) (permits_parts net Origin c.s (peer ∷ r ∷ rest) parts.0).3 in
       let a = ranked.has_run (peer ∷ r ∷ rest) rank.0 (ranked_path (peer ∷ r ∷ rest) rank.0 parts.0 rank.1) in
       let b = run_more (setup_of net f c.d).graph peer r rest a.0 a.1 in

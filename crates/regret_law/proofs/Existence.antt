@@ -56,6 +56,13 @@ unfolding outcome_of
 unheld net g v off =
     ap (option_and_then (λ (o : Option Route). o)) (slice_get_past (row g 0 (length net.routers)) v (omega (arith, ltb-false _ _ off, length-row g 0 (length net.routers))))
 
+-- and none, where a router is said to hold none
+pub held_none : (net : PlainNet) (g : ℕ → Option Route) (v : ℕ) → (is_router net v ≡ true → g v ≡ None) → route_at (outcome_of net g) v ≡ None
+held_none net g v none = elim (cases_Bool (is_router net v)) [
+  | inl router ↦ held net g v router ∙ none router
+  | inr other ↦ unheld net g v other
+]
+
 -- ---- routes of the laws
 
 abbrev pub route_of : line.LineRoute → Route
@@ -103,10 +110,7 @@ module _ (net : PlainNet) (policy : PlainPolicy) (config : PlainConfig) (f : Fai
         (first.0, and_from (is_router net v) _ first.0 (and_from (not (is_dead f v)) (not (is_origin net policy p v)) last.1 first.1))
 
     dead_none : (v : ℕ) → is_dead f v ≡ true → route_at outcome v ≡ None
-    dead_none v dead = elim (cases_Bool (is_router net v)) [
-      | inl router ↦ held net (λ u. option_map route_of (r u)) v router ∙ ap (option_map route_of) (stable.dead v router (not_from_true _ dead))
-      | inr other ↦ unheld net (λ u. option_map route_of (r u)) v other
-    ]
+    dead_none v dead = held_none net (λ u. option_map route_of (r u)) v (λ router. ap (option_map route_of) (stable.dead v router (not_from_true _ dead)))
 
     own_held : (v : ℕ) → (is_router net v && is_origin net policy p v && not (is_dead f v)) ≡ true → route_at outcome v ≡ Some (own_route net config p v)
     own_held v h =

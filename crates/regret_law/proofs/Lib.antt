@@ -2,14 +2,16 @@ pub mod Setting
 pub mod Loops
 pub mod Heard
 pub mod Stability
+pub mod RunWalks
 pub mod Surviving
 pub mod GraphForms
 pub mod FaithfulParts
-pub mod RunWalks
 pub mod GraphRanks
 pub mod Blocks
 pub mod Spelled
 pub mod ClassLines
+pub mod CaseOrigins
+pub mod PeerWalks
 pub mod SoundCase
 pub mod RightCase
 pub mod CaseLists

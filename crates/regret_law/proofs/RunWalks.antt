@@ -18,7 +18,7 @@ use Rattle.graph_base.proofs.RunSteps.{inner_router, last_step, late_no_origin, 
 use Rattle.regret_law.specs.Laws.{RunsAreWalks}
 
 module _ (net : PlainNet) (origin : ℕ → Bool) (external : Bool) (g : PlainGraph) (graph_rules : IsGraph g) (formed : IsWellFormed net origin external g) where
-  run_linked : (path : List ℕ) (n : ℕ) → run g path ≡ Some n → steps_linked net path ≡ true
+  pub run_linked : (path : List ℕ) (n : ℕ) → run g path ≡ Some n → steps_linked net path ≡ true
   run_linked [] n h = refl
   run_linked (l ∷ []) n h = refl
   run_linked (l ∷ k ∷ ls) n h =
@@ -27,7 +27,7 @@ module _ (net : PlainNet) (origin : ℕ → Bool) (external : Bool) (g : PlainGr
       let there : linked net l k ≡ true = ap₂ (linked net) (sym s.3) (sym (run_begins g k s.0 ls s.1)) ∙ linked_flips net (place_of g n) (place_of g s.0) ∙ link in
       and_from (linked net l k) (steps_linked net (k ∷ ls)) there (run_linked (k ∷ ls) s.0 s.1)
 
-  run_inner : (l n : ℕ) (ls : List ℕ) → run g (l ∷ ls) ≡ Some n → list_any (is_peer net) (front ls) ≡ false
+  pub run_inner : (l n : ℕ) (ls : List ℕ) → run g (l ∷ ls) ≡ Some n → list_any (is_peer net) (front ls) ≡ false
   run_inner l n [] h = refl
   run_inner l n (k ∷ []) h = refl
   run_inner l n (k ∷ j ∷ ls) h =

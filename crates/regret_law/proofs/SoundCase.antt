@@ -1,31 +1,28 @@
 -- An outcome for a prefix of a case, of a configuration that is made of graphs: whatever the numbers are, paths are allowed.
-use Rattle.std.proofs.Common.{◌≡◌, ℕ, suc, Bool, true, false, List, [], ◌∷◌, ◌++◌, Some, None, refl, sym, ap, ◌∙◌, inl, inr, subst}
-use Rattle.std.specs.Prelude.{◌&&◌, not, is_some, option_map, slice_get, ◌==◌}
-use Rattle.std.specs.List.{list_any}
-use Rattle.std.proofs.lemmas.Bool.{and_parts, and_from, cases_Bool, not-true, not_from_false, true≢false}
+use Rattle.std.proofs.Common.{◌≡◌, ℕ, suc, Bool, true, List, ◌∷◌, ◌++◌, Some, None, refl, sym, ap, ◌∙◌, inl, inr, subst}
+use Rattle.std.specs.Prelude.{◌&&◌, not, is_some, option_map, slice_get}
+use Rattle.std.proofs.lemmas.Bool.{and_parts, and_from, cases_Bool, not_from_false}
 use Rattle.net_base.specs.Network.{PlainNet, IsNet, is_location, is_peer, is_router}
 use Rattle.net_base.specs.Sets.{holds}
 use Rattle.net_base.specs.Prefixes.{PlainPrefix}
 use Rattle.path_words.specs.Policies.{PlainPolicy, PlainStatement}
 use Rattle.path_words.specs.Meaning.{rank_of}
-use Rattle.path_words.specs.Walks.{is_walk, is_loop_free}
 use Rattle.path_words.specs.Governing.{is_origin}
-use Rattle.path_words.specs.Permitted.{from_holds, is_permitted, is_allowed, IsClaimedRouter}
-use Rattle.path_words.proofs.Peers.{peer_inside}
+use Rattle.path_words.specs.Permitted.{from_holds, is_permitted, IsClaimedRouter}
 use Rattle.graph_base.specs.Runs.{run}
 use Rattle.config_base.specs.declared.route.Route.{Route}
 use Rattle.config_base.specs.Configs.{PlainConfig}
 use Rattle.config_base.specs.Lines.{class_of}
 use Rattle.evidence_base.specs.Made.{PlainCaseEvidence, IsConfigOf, AreTags, number_at}
 use Rattle.list_laws.specs.Members.{IsIn}
-use Rattle.outcome_base.specs.Outcomes.{Failures, Outcome, is_dead, is_live, survives, route_at, offered, IsStable}
-use Rattle.outcome_base.specs.Right.{IsGood}
+use Rattle.outcome_base.specs.Outcomes.{Failures, Outcome, is_dead, is_live, route_at, offered, IsStable}
 use Rattle.regret_law.specs.Faithful.{is_walk_to, may_start, permits}
 use Rattle.regret_law.specs.Laws.{IsSoundBy}
 use Rattle.regret_law.specs.Passes.{IsClaimed, IsCaseGraph}
 use Rattle.regret_law.proofs.Setting.{network_of, alive_of, graph_of, lines_of, lines_at, line_of, setup_of, pairs_of}
 use Rattle.regret_law.proofs.Stability.{stable_lines, offered_lines}
-use Rattle.regret_law.proofs.Surviving.{survives-alive}
+use Rattle.regret_law.proofs.CaseOrigins.{case_permits, good, no_case_origin, prefix_permits}
+use Rattle.regret_law.proofs.PeerWalks.{peer_permits}
 use Rattle.regret_law.proofs.GraphForms.{same_run}
 use Rattle.regret_law.proofs.GraphRanks.{rank_of_run}
 use Rattle.regret_law.proofs.RunWalks.{runs_are_walks}
@@ -36,12 +33,6 @@ use Rattle.routing_law.specs.Spells as spelled
 use Rattle.routing_law.specs.Laws as laws
 use Rattle.routing_law.proofs.Used.{used_paths_are_sound}
 use Rattle.graph_base.proofs.RunSteps.{run_begins, run_inside}
-use Rattle.path_words.proofs.WalkParts.{walk_parts}
-use Rattle.regret_law.proofs.PermittedWalks.{permits_parts}
-
-same_free : (path : List ℕ) → law.loop_free path ≡ is_loop_free path
-same_free [] = refl
-same_free (l ∷ ls) = ap (λ b. not (list_any (λ k. k == l) ls) && b) (same_free ls)
 
 -- a prefix of a case, with a stable outcome for it
 pub record IsCaseAt (net : PlainNet) (policy : PlainPolicy) (config : PlainConfig) (f : Failures) (p : PlainPrefix) (outcome : Outcome) (s : PlainStatement) (cs : List PlainCaseEvidence) (k : ℕ) (c : PlainCaseEvidence) : Type 0 where
@@ -69,27 +60,12 @@ module _ {net : PlainNet} {policy : PlainPolicy} {config : PlainConfig} {f : Fai
   pub used : laws.UsedPaths (setup_of net f c) (pairs_of c) (lines_of net config p (suc k)) (lines_at outcome)
   used = used_paths_are_sound (setup_of net f c) (pairs_of c) (lines_of net config p (suc k)) (lines_at outcome) as_written as_lines
 
-  -- ---- between the case's origins and those of the prefix
-
-  pub here : (path : List ℕ) → permits net (is_origin net policy p) s path ≡ true → permits net Origin s path ≡ true
-  here path h = subst (λ (o : ℕ → Bool). permits net o s path ≡ true) (sym inst.same) h
-
-  pub there : (path : List ℕ) → permits net Origin s path ≡ true → is_permitted net policy p s path ≡ true
-  there path h = subst (λ (o : ℕ → Bool). permits net o s path ≡ true) inst.same h
-
-  pub not_origin : (l : ℕ) → not (is_origin net policy p l) ≡ true → Origin l ≡ false
-  not_origin l h = ap (λ (o : ℕ → Bool). o l) inst.same ∙ not-true _ h
-
-  pub good : (path : List ℕ) → permits net Origin s path ≡ true → law.loop_free path ≡ true → law.survives (alive_of net f) path ≡ true → IsGood net policy f p s path
-  good path permitted free lives =
-      and_from (is_allowed net policy p s path) (survives net f path) (and_from (is_permitted net policy p s path) (is_loop_free path) (there path permitted) (sym (same_free path) ∙ free)) (survives-alive net f path lives)
-
   -- ---- the run of a route or an offer
 
   pub claimed_here : (r : ℕ) → IsClaimedRouter net policy p s r → (may_start Origin s r ≡ true) × IsClaimed net s c.case r
   claimed_here r claimed =
-      let may = and_from (from_holds s.from r) (not (Origin r)) claimed.from (not_from_false _ (not_origin r claimed.no_origin)) in
-      (may, record { at_router = claimed.at_router; may = may; starts = (claimed.starts.0, here (r ∷ claimed.starts.0) claimed.starts.1) })
+      let may = and_from (from_holds s.from r) (not (Origin r)) claimed.from (not_from_false _ (no_case_origin inst.same r claimed.no_origin)) in
+      (may, record { at_router = claimed.at_router; may = may; starts = (claimed.starts.0, case_permits net policy p s inst.same (r ∷ claimed.starts.0) claimed.starts.1) })
 
   -- the run of a claimed router's path says that it's permitted
   claimed_permits : (r n : ℕ) (rest : List ℕ) → IsClaimedRouter net policy p s r → run c.graph (r ∷ rest) ≡ Some n → permits net Origin s (r ∷ rest) ≡ true
@@ -108,7 +84,7 @@ module _ {net : PlainNet} {policy : PlainPolicy} {config : PlainConfig} {f : Fai
   pub route_good : (r : ℕ) (h : Route) → IsClaimedRouter net policy p s r → route_at outcome r ≡ Some h
       → (permits net Origin s h.path ≡ true) × (law.loop_free h.path ≡ true) × (law.survives (alive_of net f) h.path ≡ true)
   route_good r h claimed at =
-      let x = used.routes r (line_of h) claimed.at_router (not_origin r claimed.no_origin) (route_line r h at) in
+      let x = used.routes r (line_of h) claimed.at_router (no_case_origin inst.same r claimed.no_origin) (route_line r h at) in
       let runs : run c.graph (r ∷ x.rest) ≡ Some x.node = ap (run c.graph) (sym x.begins) ∙ sym (same_run c.graph (number_at c) h.path) ∙ x.runs in
       let permitted = claimed_permits r x.node x.rest claimed runs in
       (subst (λ path. permits net Origin s path ≡ true) (sym x.begins) permitted, x.free, x.lives)
@@ -116,11 +92,11 @@ module _ {net : PlainNet} {policy : PlainPolicy} {config : PlainConfig} {f : Fai
   pub transit_router : (r : ℕ) (h : Route) → (is_router net r && not (is_origin net policy p r)) ≡ true → route_at outcome r ≡ Some h → (above : List ℕ) × (is_permitted net policy p s (above ++ h.path) ≡ true)
   transit_router r h who at =
       let parts = and_parts (is_router net r) (not (is_origin net policy p r)) who in
-      let x = used.routes r (line_of h) parts.0 (not_origin r parts.1) (route_line r h at) in
+      let x = used.routes r (line_of h) parts.0 (no_case_origin inst.same r parts.1) (route_line r h at) in
       let runs : run c.graph h.path ≡ Some x.node = sym (same_run c.graph (number_at c) h.path) ∙ x.runs in
       let path = runs_are_walks net Origin c.case.external c.graph inst.on.graph inst.on.faithful.formed h.path x.node runs in
       let above = inst.on.faithful.has_no_other h.path path (ap is_some runs) in
-      (above.0, there (above.0 ++ h.path) above.1)
+      (above.0, prefix_permits net policy p s inst.same (above.0 ++ h.path) above.1)
 
   -- ---- offers
 
@@ -137,30 +113,17 @@ module _ {net : PlainNet} {policy : PlainPolicy} {config : PlainConfig} {f : Fai
   pub offer_line : (r peer : ℕ) → is_router net r ≡ true → is_peer net peer ≡ true → offered net policy config f p outcome r peer ≡ line.offered (alive_of net f) (lines_of net config p (suc k)) (lines_at outcome) r peer
   offer_line r peer router at_peer = offered_lines net policy config f p outcome (suc k) inst.rules inst.of_class r peer router at_peer
 
-  -- a walk with a peer in front of others has nothing before the peer
-  nothing_above : (above : List ℕ) (peer u : ℕ) (rest : List ℕ) → is_peer net peer ≡ true → is_walk net (above ++ peer ∷ u ∷ rest) ≡ true → above ≡ []
-  nothing_above [] peer u rest at walk = refl
-  nothing_above (a ∷ more) peer u rest at walk =
-      absurd (true≢false (sym (peer_inside net more peer u rest at) ∙ (walk_parts net (a ∷ more ++ peer ∷ u ∷ rest) walk).1))
-
-  offer_permits : (peer u n : ℕ) (rest : List ℕ) → is_peer net peer ≡ true → run c.graph (peer ∷ u ∷ rest) ≡ Some n → permits net Origin s (peer ∷ u ∷ rest) ≡ true
-  offer_permits peer u n rest at runs =
-      let path = runs_are_walks net Origin c.case.external c.graph inst.on.graph inst.on.faithful.formed (peer ∷ u ∷ rest) n runs in
-      let above = inst.on.faithful.has_no_other (peer ∷ u ∷ rest) path (ap is_some runs) in
-      let none = nothing_above above.0 peer u rest at (permits_parts net Origin s (above.0 ++ peer ∷ u ∷ rest) above.1).0 in
-      subst (λ (a : List ℕ). permits net Origin s (a ++ peer ∷ u ∷ rest) ≡ true) none above.1
-
   pub offer_good : (r peer : ℕ) (path : List ℕ) → offered net policy config f p outcome r peer ≡ Some path
       → (permits net Origin s path ≡ true) × (law.loop_free path ≡ true) × (law.survives (alive_of net f) path ≡ true)
   offer_good r peer path h =
       let parts = offer_parts r peer path h in
       let x = used.offers r peer path parts.0 parts.2 (sym (offer_line r peer parts.0 parts.1) ∙ h) in
       let runs : run c.graph (peer ∷ r ∷ x.rest) ≡ Some x.node = ap (run c.graph) (sym x.begins) ∙ sym (same_run c.graph (number_at c) path) ∙ x.runs in
-      (subst (λ q. permits net Origin s q ≡ true) (sym x.begins) (offer_permits peer r x.node x.rest parts.1 runs), x.free, x.lives)
+      (subst (λ q. permits net Origin s q ≡ true) (sym x.begins) (peer_permits net s c inst.on peer r x.node x.rest parts.1 runs), x.free, x.lives)
 
   pub sound_case : IsSoundBy net policy config f p s outcome
   sound_case = record {
-    used = λ r h claimed at. let ok = route_good r h claimed at in good h.path ok.0 ok.1 ok.2;
-    offers = λ r peer path at. let ok = offer_good r peer path at in good path ok.0 ok.1 ok.2;
+    used = λ r h claimed at. let ok = route_good r h claimed at in good net policy p s inst.same f h.path ok.0 ok.1 ok.2;
+    offers = λ r peer path at. let ok = offer_good r peer path at in good net policy p s inst.same f path ok.0 ok.1 ok.2;
     transit = λ r h who at. transit_router r h who at;
   }

@@ -1,12 +1,16 @@
 -- A walk survives by the failures exactly where it survives by what they leave alive.
-use Rattle.std.proofs.Common.{◌≡◌, ℕ, Bool, true, false, List, [], ◌∷◌, refl, ap, ◌∙◌}
+use Rattle.std.proofs.Common.{◌≡◌, ℕ, Bool, true, false, List, [], ◌∷◌, Some, refl, ap, ◌∙◌}
 use Rattle.std.specs.Prelude.{◌&&◌, not}
 use Rattle.std.specs.List.{list_any}
 use Rattle.std.proofs.lemmas.Bool.{and_parts, and_from, or_parts, not-true, not_from_false}
 use Rattle.net_base.specs.Network.{PlainNet, is_peer, linked}
 use Rattle.path_words.specs.Meaning.{front}
 use Rattle.path_words.specs.Walks.{steps_linked}
+use Rattle.graph_base.specs.Graphs.{PlainGraph, IsGraph}
+use Rattle.graph_base.specs.Rules.{IsWellFormed}
+use Rattle.graph_base.specs.Runs.{run}
 use Rattle.outcome_base.specs.Outcomes.{Failures, is_dead, is_dead_link, is_silent, is_live, passes_live, ends_heard, survives}
+use Rattle.regret_law.proofs.RunWalks.{run_inner, run_linked}
 use Rattle.regret_law.proofs.Setting.{alive_of}
 use Rattle.routing_law.specs.Network as law
 use Rattle.net_base.proofs.Links.{any_flips, linked_flips}
@@ -85,3 +89,8 @@ module _ (net : PlainNet) (f : Failures) where
   alive-survives v rest linked_all peers h =
       let parts = and_parts (passes_live f (v ∷ rest)) (ends_heard net f (v ∷ rest)) h in
       alive_walk v rest linked_all peers parts.0 parts.1
+
+  -- a path that has a run is a walk
+  pub run-survives : (origin : ℕ → Bool) (external : Bool) (g : PlainGraph) → IsGraph g → IsWellFormed net origin external g → (r n : ℕ) (rest : List ℕ) → run g (r ∷ rest) ≡ Some n → survives net f (r ∷ rest) ≡ true
+      → law.survives (alive_of net f) (r ∷ rest) ≡ true
+  run-survives origin external g ok formed r n rest runs h = alive-survives r rest (run_linked net origin external g ok formed (r ∷ rest) n runs) (run_inner net origin external g ok formed r n rest runs) h

@@ -20,8 +20,9 @@ use Rattle.graph_base.proofs.RunSteps.{last_step, run_begins}
 use Rattle.graph_base.proofs.StartsAndSteps.{step_in, step_nodes}
 use Rattle.evidence_base.specs.Made.{PlainCaseEvidence}
 use Rattle.graph_law.proofs.Claimed.{claimed_where_ranked, listeners_ranked, ranked_may, ranked_permits}
-use Rattle.regret_law.specs.Faithful.{is_walk_to, permits}
+use Rattle.regret_law.specs.Faithful.{is_walk_to}
 use Rattle.regret_law.specs.Passes.{IsCaseGraph}
+use Rattle.regret_law.proofs.CaseOrigins.{case_permits, prefix_permits}
 use Rattle.report_lines.proofs.Sessions.{router_of_peer}
 
 -- a node at the router has a step to one at the peer, which hears
@@ -43,12 +44,6 @@ module _ (net : PlainNet) (policy : PlainPolicy) (p : PlainPrefix) (s : PlainSta
   formed : IsWellFormed net Origin d.case.external g
   formed = on.faithful.formed
 
-  here : (path : List ℕ) → is_permitted net policy p s path ≡ true → permits net Origin s path ≡ true
-  here path h = subst (λ (o : ℕ → Bool). permits net o s path ≡ true) (sym same) h
-
-  there : (path : List ℕ) → permits net Origin s path ≡ true → is_permitted net policy p s path ≡ true
-  there path h = subst (λ (o : ℕ → Bool). permits net o s path ≡ true) same h
-
   -- ---- routers
 
   pub router_claims : (r : ℕ) → IsRankedRouter net g r → IsClaimedRouter net policy p s r
@@ -59,7 +54,7 @@ module _ (net : PlainNet) (policy : PlainPolicy) (p : PlainPrefix) (s : PlainSta
         at_router = claimed.at_router;
         no_origin = ap (λ (o : ℕ → Bool). not (o r)) (sym same) ∙ may.1;
         from = may.0;
-        starts = (claimed.starts.0, there (r ∷ claimed.starts.0) claimed.starts.1);
+        starts = (claimed.starts.0, prefix_permits net policy p s same (r ∷ claimed.starts.0) claimed.starts.1);
       }
 
   pub claimed_ranks : (r : ℕ) → IsClaimedRouter net policy p s r → IsRankedRouter net g r
@@ -68,14 +63,14 @@ module _ (net : PlainNet) (policy : PlainPolicy) (p : PlainPrefix) (s : PlainSta
       (record {
         at_router = claimed.at_router;
         may = and_from (from_holds s.from r) (not (Origin r)) claimed.from (ap (λ (o : ℕ → Bool). not (o r)) same ∙ claimed.no_origin);
-        starts = (claimed.starts.0, here (r ∷ claimed.starts.0) claimed.starts.1);
+        starts = (claimed.starts.0, case_permits net policy p s same (r ∷ claimed.starts.0) claimed.starts.1);
       })
 
   -- ---- sessions
 
   pub heard : (r peer : ℕ) → IsClaimedSession net policy p s r peer → IsHeard g r peer
   heard r peer claimed =
-      let permitted = here (peer ∷ r ∷ claimed.starts.0) claimed.starts.1 in
+      let permitted = case_permits net policy p s same (peer ∷ r ∷ claimed.starts.0) claimed.starts.1 in
       let walk = (and_parts (is_walk_to net Origin (peer ∷ r ∷ claimed.starts.0)) (from_holds s.from peer) (and_parts _ (is_some (rank_of net s.ranked (peer ∷ r ∷ claimed.starts.0))) permitted).0).0 in
       let ends = is_some_parts (run g (peer ∷ r ∷ claimed.starts.0)) (on.faithful.has_run [] (peer ∷ r ∷ claimed.starts.0) (or_left (is_walk_to net Origin (peer ∷ r ∷ claimed.starts.0)) _ walk) permitted) in
       let last = last_step g peer r ends.0 claimed.starts.0 ends.1 in
@@ -126,7 +121,7 @@ module _ (net : PlainNet) (policy : PlainPolicy) (p : PlainPrefix) (s : PlainSta
       let names : place_of g over.2 ≡ peer = over.5 ∙ h.at in
       let linked = (and_parts _ (not (is_start g h.to)) (formed.links h.from h.to h.step)).0 in
       let is_r : over.0 ≡ r = sym begins ∙ h.router in
-      let path = there (place_of g h.to ∷ over.0 ∷ over.1) permitted in
+      let path = prefix_permits net policy p s same (place_of g h.to ∷ over.0 ∷ over.1) permitted in
       record {
         at_router = ap (is_router net) (sym h.router) ∙ router_of_peer net rules (place_of g h.from) (place_of g h.to) linked kind.0;
         at_peer = ap (is_peer net) (sym h.at) ∙ kind.0;

@@ -18,7 +18,7 @@ use Rattle.config_base.specs.Lines.{class_of, export_of, import_of, own_route, s
 use Rattle.config_base.proofs.SameTags.{same_tag-is}
 use Rattle.net_base.proofs.Neighbours.{linked_neighbour}
 use Rattle.outcome_base.specs.Outcomes.{Failures, Outcome, Chooses, is_dead, is_dead_link, is_live, is_silent, route_at, sent, given}
-use Rattle.regret_law.proofs.Existence.{held, outcome_of, unheld}
+use Rattle.regret_law.proofs.Existence.{held, held_none, outcome_of}
 use Rattle.regret_law.proofs.Heard.{given-refused, given-taken, given-unsent, sent-permitted, sent-refused, sent-unrouted}
 use Rattle.net_base.proofs.RoutersAndPeers.{peer_no_router, router_or_peer}
 use Rattle.regret_law.proofs.RightLaw.{no_gift}
@@ -220,12 +220,6 @@ module _ (net : PlainNet) (policy : PlainPolicy) (config : PlainConfig) (p : Pla
     choice_is : (r : ℕ) → is_router net r ≡ true → not (is_dead f r) ≡ true → w.route r ≡ chosen_by net policy config p r (event.given S w r)
     choice_is r router lives = quiet_stable S speak w kept quiet r (and_from (is_router net r) (not (w.down r)) router (alive r lives))
 
-    dead_route : (r : ℕ) → is_dead f r ≡ true → route_at outcome r ≡ None
-    dead_route r dead = elim (cases_Bool (is_router net r)) [
-      | inl router ↦ held net w.route r router ∙ kept.idle r (and_right (is_router net r) (not (w.down r)) (not_from_true (w.down r) (sym (scenario.dead r) ∙ dead)))
-      | inr off ↦ unheld net w.route r off
-    ]
-
     own_held : (r : ℕ) → (is_router net r && is_origin net policy p r && not (is_dead f r)) ≡ true → route_at outcome r ≡ Some (own_route net config p r)
     own_held r h =
         let last = and_parts (is_router net r && is_origin net policy p r) (not (is_dead f r)) h in
@@ -307,7 +301,7 @@ module _ (net : PlainNet) (policy : PlainPolicy) (config : PlainConfig) (p : Pla
 
     pub settled : IsFullyStable net policy config f p outcome
     settled = record {
-      stable = record { dead = dead_route; own = own_held; chooses = chooses_first };
+      stable = record { dead = λ r down. held_none net w.route r (λ _. kept.idle r (and_right (is_router net r) (not (w.down r)) (not_from_true (w.down r) (sym (scenario.dead r) ∙ down)))); own = own_held; chooses = chooses_first };
       first = no_later;
     }
 

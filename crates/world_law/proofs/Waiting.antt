@@ -1,38 +1,32 @@
 -- Held and waiting routes run in the graph of the case, in the words of the graph.
-use Rattle.std.proofs.Common.{◌≡◌, ℕ, ◌<◌, suc, Bool, true, false, not, ◌&&◌, List, [], ◌∷◌, ◌++◌, length, map, Option, Some, None, refl, sym, ap, ◌∙◌, subst, inl, inr}
-use Rattle.std.specs.Prelude.{is_some, option_map, slice_get, ◌==◌}
-use Rattle.std.specs.List.{list_any}
+use Rattle.std.proofs.Common.{◌≡◌, ℕ, ◌<◌, suc, true, false, not, List, [], ◌∷◌, length, Option, Some, None, refl, sym, ap, ◌∙◌, subst, inl, inr}
+use Rattle.std.specs.Prelude.{option_map, slice_get}
 use Rattle.std.specs.Option.{option_and_then}
-use Rattle.std.proofs.lemmas.Bool.{and_from, and_parts, cases_Bool, cond-true, cond-false, lt-ltb, not_from_false, true≢false}
+use Rattle.std.proofs.lemmas.Bool.{and_from, and_parts, cases_Bool, cond-true, cond-false, lt-ltb, not_from_false}
 use Rattle.std.proofs.lemmas.List.{length-map}
 use Rattle.std.proofs.lemmas.Option.{slice_get-map}
 use Rattle.net_base.specs.Network.{PlainNet, IsNet, is_peer, is_router}
 use Rattle.net_base.specs.Prefixes.{PlainPrefix}
-use Rattle.net_base.specs.Sets.{holds}
 use Rattle.path_words.specs.Policies.{PlainPolicy, PlainStatement}
 use Rattle.path_words.specs.Governing.{is_origin}
-use Rattle.path_words.specs.Meaning.{front}
 use Rattle.path_words.specs.Permitted.{is_permitted}
-use Rattle.path_words.specs.Walks.{is_loop_free, is_walk}
+use Rattle.path_words.specs.Walks.{is_loop_free}
 use Rattle.net_base.specs.Locations.{neighbours, numbers_below}
 use Rattle.graph_base.specs.Runs as plain
 use Rattle.config_base.specs.declared.route.Route.{Route}
 use Rattle.config_base.specs.Configs.{PlainConfig}
 use Rattle.config_base.specs.Lines.{class_of, own_route}
 use Rattle.evidence_base.specs.Made.{PlainCaseEvidence, number_at}
-use Rattle.regret_law.specs.Faithful.{permits}
 use Rattle.outcome_base.specs.Outcomes.{Failures, Outcome, offered}
 use Rattle.path_words.specs.Policies.{IsPolicyOf}
 use Rattle.regret_law.specs.Passes.{Passes}
+use Rattle.regret_law.proofs.CaseOrigins.{prefix_permits, same_free}
 use Rattle.regret_law.proofs.Existence.{held, outcome_of, outcome-size}
 use Rattle.regret_law.proofs.GraphForms.{same_run}
 use Rattle.net_base.proofs.RoutersAndPeers.{peer_no_router}
-use Rattle.regret_law.proofs.RunWalks.{runs_are_walks}
+use Rattle.regret_law.proofs.PeerWalks.{peer_permits}
 use Rattle.regret_law.proofs.Setting.{graph_of, network_of, tag_of}
 use Rattle.net_base.proofs.NumbersBelow.{length-numbers_below, slice_get-numbers_below}
-use Rattle.path_words.proofs.Peers.{peer_inside}
-use Rattle.path_words.proofs.WalkParts.{walk_parts}
-use Rattle.regret_law.proofs.PermittedWalks.{permits_parts}
 use Rattle.routing_law.specs.Graph as laws
 use Rattle.routing_law.specs.Network as law
 use Rattle.list_laws.proofs.Options.{option_map_parts, none_or_some}
@@ -68,27 +62,8 @@ module _ {R : Type 0} (at at' : ℕ → R → Type 0) (on on' : ℕ → ℕ → 
     route = λ r y h. f r y (k.route r y h);
   }
 
-same_free : (path : List ℕ) → law.loop_free path ≡ is_loop_free path
-same_free [] = refl
-same_free (l ∷ ls) = ap (λ b. not (list_any (λ k. k == l) ls) && b) (same_free ls)
-
--- a peer in front of a walk's later places is its first place
-nothing_above : (net : PlainNet) (above : List ℕ) (peer u : ℕ) (rest : List ℕ) → is_peer net peer ≡ true → is_walk net (above ++ peer ∷ u ∷ rest) ≡ true → above ≡ []
-nothing_above net [] peer u rest at walk = refl
-nothing_above net (a ∷ more) peer u rest at walk =
-    absurd (true≢false (sym (peer_inside net more peer u rest at) ∙ (walk_parts net (a ∷ more ++ peer ∷ u ∷ rest) walk).1))
-
 module _ (net : PlainNet) (policy : PlainPolicy) (config : PlainConfig) (cs : List PlainCaseEvidence) (rules : IsNet net) (kept : IsPolicyOf net policy) (passes : Passes net policy config cs) (p : PlainPrefix) (f : Failures)
     (c : CaseFound net policy config cs rules kept passes f p) where
-  -- a path with a peer in front that has a run is permitted
-  peer_permits : (peer u n : ℕ) (rest : List ℕ) → is_peer net peer ≡ true → plain.run c.d.graph (peer ∷ u ∷ rest) ≡ Some n → is_permitted net policy p c.s (peer ∷ u ∷ rest) ≡ true
-  peer_permits peer u n rest at runs =
-      let path = runs_are_walks net (holds c.d.case.origins) c.d.case.external c.d.graph c.on.graph c.on.faithful.formed (peer ∷ u ∷ rest) n runs in
-      let above = c.on.faithful.has_no_other (peer ∷ u ∷ rest) path (ap is_some runs) in
-      let none = nothing_above net above.0 peer u rest at (permits_parts net (holds c.d.case.origins) c.s (above.0 ++ peer ∷ u ∷ rest) above.1).0 in
-      let here : permits net (holds c.d.case.origins) c.s (peer ∷ u ∷ rest) ≡ true = subst (λ (a : List ℕ). permits net (holds c.d.case.origins) c.s (a ++ peer ∷ u ∷ rest) ≡ true) none above.1 in
-      subst (λ (o : ℕ → Bool). permits net o c.s (peer ∷ u ∷ rest) ≡ true) c.same here
-
   has_run : (r : ℕ) (path rest : List ℕ) (n : ℕ) → path ≡ r ∷ rest → law.loop_free path ≡ true → plain.run c.d.graph path ≡ Some n → HasRun c.d r path n
   has_run r path rest n begins free runs = record { rest = rest; begins = begins; free = sym (same_free path) ∙ free; runs = runs }
 
@@ -111,7 +86,7 @@ module _ (net : PlainNet) (policy : PlainPolicy) (config : PlainConfig) (cs : Li
         let off = peer_off (network_of net (is_origin net policy p)) (graph_of c.d.graph (number_at c.d)) (way.lines_here net policy config cs rules kept passes p f c).formed m.path y.rest a b y.node y.next y.begins y.runs y.step who.0
         (peer_no_router net b who.1) in
         let runs : plain.run c.d.graph (b ∷ a ∷ y.rest) ≡ Some y.next = ap (option_and_then (λ n. plain.step_at c.d.graph n b)) (ap (plain.run c.d.graph) (sym y.begins) ∙ run_is y.node y.runs) ∙ y.step in
-        let permitted = subst (λ (q : List ℕ). is_permitted net policy p c.s (b ∷ q) ≡ true) (sym y.begins) (peer_permits b a y.next y.rest who.1 runs) in
+        let permitted = subst (λ (q : List ℕ). is_permitted net policy p c.s (b ∷ q) ≡ true) (sym y.begins) (prefix_permits net policy p c.s c.same (b ∷ a ∷ y.rest) (peer_permits net c.s c.d c.on b a y.next y.rest who.1 runs)) in
         and_from (is_permitted net policy p c.s (b ∷ m.path)) (is_loop_free (b ∷ m.path)) permitted (and_from (not (law.stands_on b m.path)) (is_loop_free m.path) (not_from_false _ off) (sym (same_free m.path) ∙ y.free));
     peer = λ o. (let y = x.peer o in (y.0, y.1));
   }
