@@ -7,6 +7,7 @@ use Rattle.std.specs.Str.{IsUtf8}
 use Rattle.std.proofs.lemmas.List.{length-map}
 use Rattle.json.proofs.Printed.Utf8.{IsUtf8-are_ascii, are_ascii}
 use Rattle.json_words.specs.Plain.{IsPlain, ArePlain}
+use Rattle.json_words.proofs.PlainItems.{plain_map}
 use Rattle.json_words.proofs.ReadAgain.{json_of-line}
 use Rattle.serde_json.specs.Data.{Data, number, string, unsigned, depth, items_depth}
 use Rattle.serde_json.specs.View.{items_of}
@@ -262,10 +263,6 @@ all_made (c ∷ cs) are = λ i. made_again c are.0 i ∷ all_made cs are.1 i
 plain_items : (ds : List Data) → AllByRecursion IsPlain ds → ArePlain (items_of ds)
 plain_items [] are = tt
 plain_items (d ∷ ds) are = (are.0, plain_items ds are.1)
-
-plain_map : {A : Type 0} (P : A → Type 0) (f : A → Data) → ((x : A) → P x → IsPlain (f x)) → (xs : List A) → AllByRecursion P xs → ArePlain (items_of (map f xs))
-plain_map P f one [] are = tt
-plain_map P f one (x ∷ xs) are = (one x are.0, plain_map P f one xs are.1)
 
 plain_numbers : (ns : List ℕ) → AllByRecursion (λ n. n < 4294967296) ns → ArePlain (items_of (map (λ n. number (unsigned n)) ns))
 plain_numbers ns are = plain_map (λ n. n < 4294967296) (λ n. number (unsigned n)) (λ n low. omega (arith, low)) ns are

@@ -5,9 +5,10 @@ use Rattle.std.specs.List.{AllByRecursion}
 use Rattle.std.proofs.lemmas.Bool.{ne_eqb}
 use Rattle.text_words.proofs.PrefixTexts.{address_of-address_text}
 use Rattle.json.proofs.Printed.Utf8.{IsUtf8-are_ascii}
-use Rattle.json_words.specs.Plain.{IsPlain, ArePlain}
+use Rattle.json_words.specs.Plain.{IsPlain}
 use Rattle.json_words.proofs.JsonLists.{list_of-items_of}
-use Rattle.serde_json.specs.Data.{Data, items_depth, depth}
+use Rattle.json_words.proofs.PlainItems.{plain_map}
+use Rattle.serde_json.specs.Data.{items_depth, depth}
 use Rattle.serde_json.specs.View.{items_of}
 use Rattle.serde_json.proofs.OnLiterals.{serde_json_on_literals}
 use Rattle.net_base.specs.NameRule.{is_name}
@@ -77,10 +78,6 @@ shape_again net routers peers =
     refl
 
 -- ---- the JSON value
-
-plain_map : {A : Type 0} (P : A → Type 0) (f : A → Data) → ((x : A) → P x → IsPlain (f x)) → (xs : List A) → AllByRecursion P xs → ArePlain (items_of (map f xs))
-plain_map P f one [] are = tt
-plain_map P f one (x ∷ xs) are = (one x are.0, plain_map P f one xs are.1)
 
 plain_site : (s : Site) → IsWritten s → IsPlain (site_data s)
 unfolding site_data serde_json_on_literals
