@@ -1,5 +1,5 @@
 -- Items that are written one after another.
-use Rattle.std.proofs.Common.{◌≡◌, ℕ, zero, suc, ◌+◌, ◌^◌, ◌<◌, ◌≤◌, Bool, true, List, [], ◌∷◌, ◌++◌, length, map, take, drop, subst, get_or, Result, Ok, Err, refl, sym, ap, ◌∙◌, append-nil, append_assoc, add-one, drop-cons, arith}
+use Rattle.std.proofs.Common.{◌≡◌, ℕ, zero, suc, ◌+◌, ◌^◌, ◌<◌, ◌≤◌, Bool, true, List, [], ◌∷◌, ◌++◌, length, map, take, drop, subst, get_or, Result, Ok, Err, refl, sym, ap, ◌∙◌, append_assoc, add-one, drop-cons, arith}
 use Rattle.std.specs.Prelude.{nat_lt, codes, OnOk, ⊤}
 use Rattle.std.proofs.lemmas.Bool.{lt-ltb}
 use Rattle.std.proofs.lemmas.List.{drop_all}
@@ -114,8 +114,3 @@ all_short (n ∷ ns) fit = (fit 0, all_short ns (λ i. fit (suc i)))
 pub on_ok : {E : Type 0} (P : Type 0) (r : Result ⊤ E) → P → OnOk r P
 on_ok P (Ok x) h = h
 on_ok P (Err e) h = tt
-
--- what a last call leaves, where it ended well
-pub if_done : {E : Type 0} (P Q : Type 0) (r : Result ⊤ E) → (P → Q) → OnOk r P → OnOk r Q
-if_done P Q (Ok x) f h = f h
-if_done P Q (Err e) f h = tt

@@ -1,6 +1,6 @@
 -- Items that are written one after another.
-use Rattle.std.proofs.Common.{◌≡◌, ℕ, List, ◌++◌, map, Result, Ok, Err, refl, sym, ap, ◌∙◌, append_assoc}
-use Rattle.std.specs.Prelude.{codes, nat_lt, OnOk, ⊤}
+use Rattle.std.proofs.Common.{◌≡◌, ℕ, List, ◌++◌, map, refl, sym, ap, ◌∙◌, append_assoc}
+use Rattle.std.specs.Prelude.{codes, nat_lt}
 use Rattle.std.specs.Fmt.{decimal}
 use Rattle.json.specs.Print.{escape_byte}
 use Rattle.json_words.specs.Json.{array_of}
@@ -15,11 +15,6 @@ use Rattle.serde_json.specs.Written.{compact_text, items_text}
 -- the items from a place on, with a comma before each but the first of all
 abbrev pub rest_text : ℕ → List Data → List ℕ
 rest_text i ds = items_text (nat_lt 0 i) (items_of ds)
-
--- what a last call leaves, where it ended well
-pub if_done : {E : Type 0} (P Q : Type 0) (r : Result ⊤ E) → (P → Q) → OnOk r P → OnOk r Q
-if_done P Q (Ok x) f h = f h
-if_done P Q (Err e) f h = tt
 
 -- ---- the pieces of a site, of a link and of a network
 

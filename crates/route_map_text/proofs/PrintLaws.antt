@@ -1,6 +1,6 @@
 -- The text of lines, one after another.
-use Rattle.std.proofs.Common.{◌≡◌, ℕ, zero, suc, ◌+◌, ◌*◌, ◌<◌, List, [], ◌∷◌, ◌++◌, length, map, take, drop, drop-cons, add-one, get_or, Some, Result, Ok, Err, refl, sym, ◌∙◌, ap, ap₂, arith, append-nil, append_assoc}
-use Rattle.std.specs.Prelude.{codes, OnOk, ⊤}
+use Rattle.std.proofs.Common.{◌≡◌, ℕ, zero, suc, ◌+◌, ◌*◌, ◌<◌, List, [], ◌∷◌, ◌++◌, length, map, take, drop, drop-cons, add-one, get_or, Some, refl, sym, ◌∙◌, ap, ap₂, arith, append-nil, append_assoc}
+use Rattle.std.specs.Prelude.{codes}
 use Rattle.std.specs.List.{flat_map, AllByRecursion}
 use Rattle.std.proofs.lemmas.List.{take_more, map-append, length-map, length-take-le}
 use Rattle.std.proofs.lemmas.List.Concat.{flat_map-append}
@@ -92,11 +92,6 @@ maps_made m none first lists routers z a b c =
     ∙ ap₂ (λ (x y : List ℕ). x ++ y) (b ∙ ap (λ (t : List ℕ). t ++ flat_map fed (lines_of_lists 1 m.lists)) (a ∙ ap (λ (t : List ℕ). t ++ codes "propane-maps 1\n") z)) (sym (fed-flat_map lines_of_router m.routers))
     ∙ append_assoc (codes "propane-maps 1\n") (flat_map fed (lines_of_lists 1 m.lists)) (flat_map fed (flat_map lines_of_router m.routers))
     ∙ ap (λ (t : List ℕ). codes "propane-maps 1\n" ++ t) (sym (flat_map-append fed (lines_of_lists 1 m.lists) (flat_map lines_of_router m.routers)))
-
--- what a last call leaves, where it ended well
-pub if_done : {E : Type 0} (P Q : Type 0) (r : Result ⊤ E) → (P → Q) → OnOk r P → OnOk r Q
-if_done P Q (Ok x) f h = f h
-if_done P Q (Err e) f h = tt
 
 -- what holds of the first ones and of the next
 pub all_next : {X : Type 0} (P : X → Type 0) (i : ℕ) (xs : List X) (d : X) → i < length xs → AllByRecursion P (take i xs) → P (get_or xs i d) → AllByRecursion P (take (suc i) xs)

@@ -4,6 +4,7 @@ use Rattle.net_base.specs.Prefixes.{IsPrefix}
 use Rattle.net_base.specs.Sets.{IsWords}
 use Rattle.std.specs.Prelude.{codes}
 use Rattle.std.specs.Fmt.{decimal}
+use Rattle.std.proofs.lemmas.Result.{on_ok_weaker}
 use Rattle.serde_json.specs.Data.{boolean}
 use Rattle.serde_json.specs.Written.{compact_text}
 use Rattle.json_words.specs.Json.{array_of, numbers_data, texts_data}
@@ -13,7 +14,7 @@ use Rattle.graph_base.specs.Graphs.{IsGraph, PlainGraph}
 use Rattle.evidence_text.specs.Text.{members, nodes_data, step_data}
 use Rattle.evidence_text.specs.Writable.{HasShortRank, IsShort, IsShortTag}
 use Rattle.list_laws.proofs.Pieces.{written}
-use Rattle.evidence_text.proofs.Items.{case_as, if_done, on_ok}
+use Rattle.evidence_text.proofs.Items.{case_as, on_ok}
 use Rattle.evidence_text.proofs.print.push_case.Goals as goal
 
 pub returns-clause-text : goal.returns-clause-text
@@ -29,7 +30,7 @@ returns-clause-text c =
     let starts = c.starts.result.now in
     let statement = c.case-of.result.now.statement in
     let steps = c.steps.result.now in
-    if_done _ _ c.push_bytes-8.result
+    on_ok_weaker c.push_bytes-8.result
     (λ last.
     written c.args.text.now.items
     ((codes "{\"external\":", c.push_bytes.new.text.items) ∷

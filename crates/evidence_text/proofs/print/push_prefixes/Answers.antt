@@ -1,13 +1,14 @@
 use Rattle.std.proofs.Common.{◌++◌, ◌∷◌, [], ◌∙◌, ap, map, arith, append_assoc, sym, false}
+use Rattle.std.proofs.lemmas.Result.{on_ok_weaker}
 use Rattle.serde_json.specs.View.{items_of}
 use Rattle.serde_json.specs.Written.{items_text}
-use Rattle.evidence_text.proofs.Items.{all_written, if_done, prefix_data, rest_text, texts-prefixes}
+use Rattle.evidence_text.proofs.Items.{all_written, prefix_data, rest_text, texts-prefixes}
 use Rattle.evidence_text.proofs.print.push_prefixes.Goals as goal
 
 pub returns-clause-text : goal.returns-clause-text
 returns-clause-text c =
     let prefixes = c.args.prefixes.now in
-    if_done _ _ c.push_bytes-2.result
+    on_ok_weaker c.push_bytes-2.result
     (λ last.
     last
     ∙ all_written prefix_data prefixes c.loop-i.i (omega arith) c.loop-i.text.items (c.push_bytes.new.text.items ++ rest_text 0 (map prefix_data prefixes)) c.loop-i.invariant.0

@@ -1,17 +1,18 @@
 use Rattle.std.proofs.Common.{◌++◌, ◌∷◌, [], ◌∙◌, ap}
 use Rattle.std.specs.Prelude.{codes}
 use Rattle.std.specs.Fmt.{decimal}
+use Rattle.std.proofs.lemmas.Result.{on_ok_weaker}
 use Rattle.list_laws.proofs.Pieces.{written}
 use Rattle.serde_json.specs.Data.{string}
 use Rattle.serde_json.specs.Written.{compact_text}
 use Rattle.text_words.specs.Texts.{address_text}
-use Rattle.net_text.proofs.Items.{if_done, site_as}
+use Rattle.net_text.proofs.Items.{site_as}
 use Rattle.net_text.proofs.print.push_site.Goals as goal
 
 pub returns-clause-text : goal.returns-clause-text
 returns-clause-text c =
     let s = c.args.site.now in
-    if_done _ _ c.push_bytes-4.result
+    on_ok_weaker c.push_bytes-4.result
     (λ last.
     written c.args.text.now.items
     ((codes "{\"asn\":", c.push_bytes.new.text.items) ∷

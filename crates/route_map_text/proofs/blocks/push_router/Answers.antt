@@ -1,7 +1,5 @@
-use Rattle.std.specs.Prelude.{◌≡◌, ◌++◌, codes}
-use Rattle.std.specs.List.{flat_map}
-use Rattle.route_map_text.specs.MapsLines.{fed, lines_of_router}
-use Rattle.route_map_text.proofs.PrintLaws.{if_done, router_made}
+use Rattle.std.proofs.lemmas.Result.{on_ok_weaker}
+use Rattle.route_map_text.proofs.PrintLaws.{router_made}
 use Rattle.route_map_text.proofs.blocks.push_router.Goals as goal
 
 pub returns-clause-text : goal.returns-clause-text
@@ -12,6 +10,6 @@ returns-clause-text c =
     let owns = c.push_networks.new.text.items in
     let sessions = c.push_sessions.new.text.items in
     let end = c.push_bytes.new.text.items in
-    if_done (end ≡ sessions ++ codes "end\n") (end ≡ old ++ flat_map fed (lines_of_router r)) c.push_bytes.result
+    on_ok_weaker c.push_bytes.result
     (router_made r old head owns sessions end c.in_ok-push_router_line.ensures.text (rw c.as_slice.ensures at c.in_ok-push_networks.ensures.text) (rw c.as_slice-2.ensures at c.in_ok-push_sessions.ensures.text))
     c.push_bytes.ensures
