@@ -1,30 +1,24 @@
 -- The sets of the sample's policy.
-use Rattle.std.proofs.Common.{◌≡◌, ℕ, ◌/◌, ◌%◌, suc, ◌≤◌, ◌<◌, ◌^◌, Bool, true, ◌||◌, ◌&&◌, List, [], ◌∷◌, refl, sym, ap, ◌∙◌, arith, inl, inr, eq-eqb, true≢false}
+use Rattle.std.proofs.Common.{◌≡◌, ℕ, ◌/◌, ◌%◌, ◌≤◌, ◌<◌, ◌^◌, Bool, true, ◌||◌, ◌&&◌, List, refl, sym, ap, ◌∙◌, arith, inl, inr, eq-eqb, true≢false}
 use Rattle.std.specs.Prelude.{◌==◌, bit_or, count_ones, nat_le, nat_lt, replicate, slice_index}
-use Rattle.std.specs.List.{AllByRecursion}
 use Rattle.std.proofs.Math.Pow.{pow-lt}
 use Rattle.std.proofs.lemmas.Bool.{and_parts, cases_lt, lt-ltb}
 use Rattle.std.proofs.lemmas.List.Folds.{sum_by-replicate}
 use Rattle.std.proofs.lemmas.List.Sums.{sum_by-set}
 use Rattle.std.proofs.lemmas.Nat.{or_lt, ones-le, ones_le_self}
-use Rattle.list_laws.proofs.Items.{all_below}
-use Rattle.net_base.specs.declared.loc.LocSet.{LocSet}
 use Rattle.net_base.specs.SetOperations.{no_location, size_of}
-use Rattle.net_base.specs.Sets.{IsWords}
 use Rattle.net_base.proofs.HeldSets.{one_held}
 use Rattle.net_base.proofs.SetLaws.{IsWords-none, IsWords-set_of, IsWords-with, holds-none, holds-with}
 use Rattle.net_base.proofs.SetOf.{holds-set_of, holds-set_of_past}
 use Rattle.policy_text.specs.Printable.{HoldsOnly, HoldsSome}
 use Rattle.policy_text.specs.Values.{IsLocSet}
+use Rattle.policy_text.proofs.LocSets.{words_set}
 use Rattle.net_sample.specs.SamplePolicy.{alone, leaves}
-
-set_of_words : (s : LocSet) → IsWords s → IsLocSet s
-set_of_words s is = (is.size, all_below (2 ^ 64) s.words is.fit)
 
 -- ---- one location
 
 pub alone_words : (l : ℕ) → l < 768 → IsLocSet (alone l)
-alone_words l low = set_of_words (alone l) (IsWords-with no_location l low IsWords-none)
+alone_words l low = words_set (alone l) (IsWords-with no_location l low IsWords-none)
 
 pub alone_only : (test : ℕ → Bool) (l : ℕ) → test l ≡ true → HoldsOnly test (alone l)
 alone_only test l is m on = ap test (one_held l m on) ∙ is
@@ -46,7 +40,7 @@ alone_size l low =
 -- ---- the leaves
 
 pub leaves_words : (n : ℕ) → IsLocSet (leaves n)
-leaves_words n = set_of_words (leaves n) (IsWords-set_of (λ l. nat_le 0 l && nat_lt l n))
+leaves_words n = words_set (leaves n) (IsWords-set_of (λ l. nat_le 0 l && nat_lt l n))
 
 pub leaves_only : (test : ℕ → Bool) (n : ℕ) → ((l : ℕ) → nat_lt l n ≡ true → test l ≡ true) → HoldsOnly test (leaves n)
 leaves_only test n is l on = elim (cases_lt l 768) [

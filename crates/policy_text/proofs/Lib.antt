@@ -22,5 +22,6 @@ pub mod BuildRanks
 pub mod BuildOrigins
 pub mod BuildItems
 pub mod BuildPolicies
+pub mod LocSets
 pub mod Premises
 pub mod PrintedPolicies

@@ -1,9 +1,8 @@
 -- A printable policy can be read and built.
-use Rattle.std.proofs.Common.{◌≡◌, ℕ, zero, suc, ◌+◌, ◌^◌, ◌<◌, ◌≤◌, List, [], ◌∷◌, length, Some, refl, sym, ap, ◌∙◌, arith, length-append}
-use Rattle.std.specs.Prelude.{IsTrue, slice_index}
+use Rattle.std.proofs.Common.{◌≡◌, ℕ, ◌+◌, ◌≤◌, List, [], ◌∷◌, length, Some, refl, sym, ap, ◌∙◌, arith, length-append}
+use Rattle.std.specs.Prelude.{IsTrue}
 use Rattle.std.specs.List.{AllByRecursion, IsDistinct}
 use Rattle.std.specs.Str.{bytes_eq}
-use Rattle.net_base.specs.Sets.{IsWords}
 use Rattle.net_base.specs.declared.loc.LocSet.{LocSet}
 use Rattle.net_base.specs.Network.{PlainNet, IsNet, sites}
 use Rattle.policy_grammar.specs.Symbols.{word_symbol, item_word, operator, path_call, place_call}
@@ -24,18 +23,11 @@ use Rattle.list_laws.proofs.Each.{AllByRecursion-both}
 use Rattle.policy_text.proofs.ReadCalls.{IsFilled, set_in, call_word, IsReadable, HasOne}
 use Rattle.policy_text.proofs.ReadLevels.{IsReadableRanking}
 use Rattle.policy_text.proofs.ReadItems.{IsNamed, HasSources as HasNamed, IsReadableStatement}
+use Rattle.policy_text.proofs.LocSets.{is_words}
 use Rattle.policy_text.proofs.Lookups.{site_names}
 use Rattle.policy_text.proofs.BuildSets.{IsSet, named, filled}
 use Rattle.policy_text.proofs.BuildRankings.{IsFineCall, IsLike, IsFine}
 use Rattle.policy_text.proofs.BuildItems.{IsFineFrom, IsFineStatement, IsFineOrigin}
-
-all_at : (ws : List ℕ) → AllByRecursion (λ w. w < 2 ^ 64) ws → (i : ℕ) → slice_index ws i < 2 ^ 64
-all_at [] all i = omega arith
-all_at (w ∷ ws) all zero = all.0
-all_at (w ∷ ws) all (suc i) = all_at ws all.1 i
-
-is_words : (s : LocSet) → IsLocSet s → IsWords s
-is_words s is = record { size = is.0; fit = all_at s.words is.1 }
 
 word_there : (c : Clause) → word_of (word_symbol (clause_word c)) ≡ Some (call_word c)
 unfolding word_symbol item_word operator path_call place_call

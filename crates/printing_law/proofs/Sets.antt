@@ -1,9 +1,7 @@
 -- Sets of a network's locations.
-use Rattle.std.proofs.Common.{◌≡◌, ℕ, suc, ◌+◌, ◌^◌, ◌<◌, ◌≤◌, List, [], ◌∷◌, length, refl, sym, ap, ◌∙◌, arith, inl, inr}
-use Rattle.std.specs.Prelude.{◌⊎◌, ◌==◌, slice_index}
-use Rattle.std.specs.List.{AllByRecursion}
+use Rattle.std.proofs.Common.{◌≡◌, ℕ, ◌+◌, ◌<◌, ◌≤◌, length, refl, sym, ap, ◌∙◌, arith, inl, inr}
+use Rattle.std.specs.Prelude.{◌⊎◌, ◌==◌}
 use Rattle.std.proofs.lemmas.Bool.{eq-eqb, cases_lt, or_right, lt-ltb}
-use Rattle.list_laws.proofs.Items.{all_below}
 use Rattle.net_base.specs.declared.loc.LocSet.{LocSet}
 use Rattle.net_base.specs.Network.{PlainNet, IsNet, is_location}
 use Rattle.net_base.specs.NetSets.{locations}
@@ -14,6 +12,7 @@ use Rattle.net_base.proofs.NetSetLaws.{holds-locations}
 use Rattle.net_base.proofs.SetLaws.{IsWords-none, IsWords-with, IsWords-union, IsWords-set_of, holds-with, holds-either}
 use Rattle.policy_text.specs.Printable.{HoldsSome, HoldsOnly, IsCallSet}
 use Rattle.policy_text.specs.Values.{IsLocSet}
+use Rattle.policy_text.proofs.LocSets.{words_set}
 
 -- twelve words, and locations below a number alone
 pub record IsPart (n : ℕ) (s : LocSet) : Type 0 where
@@ -43,9 +42,6 @@ both_some n s t a b = record {
 }
 
 -- ---- in the words of what can be printed
-
-words_set : (s : LocSet) → IsWords s → IsLocSet s
-words_set s is = (is.size, all_below (2 ^ 64) s.words is.fit)
 
 pub part_set : (n : ℕ) (s : LocSet) → IsPart n s → IsLocSet s
 part_set n s is = words_set s is.words
