@@ -73,8 +73,17 @@ module _ (net : PlainNet) (cs : List PlainCaseEvidence) where
       | inr e ↦ absurd (omega (arith, e.1))
     ]
 
+    -- a tag that was seen is one of a node before each node that comes later
+    from_before : (i o : ℕ) → ((j m : ℕ) → IsEarlierNode j m k n → IsEarlierNode j m i o) → (t : Tag) → IsTrue (list_any (same_tag t) seen)
+        → (j m : ℕ) × (d : PlainCaseEvidence) × IsNodeOf cs j m d × IsEarlierNode j m i o × (is_peer net (place_of d.graph m) ≡ false) × (tag_at d m ≡ t)
+    from_before i o later t there = let f = are.from t there in (f.0, f.1, f.2, f.3, later f.0 f.1 f.4, f.5, f.6)
+
     pub case_seen : length c.graph.nodes ≤ n → AreSeen net cs (k + 1) 0 seen
-    case_seen past = record { kept = kept; has = has; from = from }
+    case_seen past = record {
+      kept = kept;
+      has = has;
+      from = from_before (k + 1) 0 (λ j m earlier. elim earlier [ inl lt ↦ inl (omega (arith, lt)) | inr e ↦ inl (omega (arith, e.0)) ]);
+    }
       where
         within : (j m : ℕ) (d : PlainCaseEvidence) → IsNodeOf cs j m d → j ≡ k → m < n
         within j m d at e =
@@ -95,12 +104,6 @@ module _ (net : PlainNet) (cs : List PlainCaseEvidence) where
           | inl lt ↦ are.has j m d at (inl lt) r
           | inr e ↦ are.has j m d at (inr (e, within j m d at e)) r
         ]
-
-        from : (t : Tag) → IsTrue (list_any (same_tag t) seen)
-            → (j m : ℕ) × (d : PlainCaseEvidence) × IsNodeOf cs j m d × IsEarlierNode j m (k + 1) 0 × (is_peer net (place_of d.graph m) ≡ false) × (tag_at d m ≡ t)
-        from t there =
-            let f = are.from t there in
-            (f.0, f.1, f.2, f.3, elim f.4 [ inl lt ↦ inl (omega (arith, lt)) | inr e ↦ inl (omega (arith, e.0)) ], f.5, f.6)
 
     -- ---- a node
 
@@ -152,7 +155,7 @@ module _ (net : PlainNet) (cs : List PlainCaseEvidence) where
       this j m d at e = same_case j k d c at.0 is e.0
 
       pub next_at_peer : KeepsTag net cs k n → is_peer net place ≡ true → AreSeen net cs k (n + 1) seen
-      next_at_peer keeps peer = record { kept = kept_next keeps; has = has; from = from }
+      next_at_peer keeps peer = record { kept = kept_next keeps; has = has; from = from_before k (n + 1) later }
         where
           has : (j m : ℕ) (d : PlainCaseEvidence) → IsNodeOf cs j m d → IsEarlierNode j m k (n + 1) → is_peer net (place_of d.graph m) ≡ false → IsTrue (list_any (same_tag (tag_at d m)) seen)
           has j m d at earlier r = elim (earlier_or_this j m earlier) [
@@ -161,10 +164,6 @@ module _ (net : PlainNet) (cs : List PlainCaseEvidence) where
                 let same : is_peer net (place_of d.graph m) ≡ is_peer net place = ap (λ (x : PlainCaseEvidence). is_peer net (place_of x.graph m)) (this j m d at e) ∙ ap (λ i. is_peer net (place_of c.graph i)) e.1 in
                 absurd (both_ways _ r (same ∙ peer))
           ]
-
-          from : (t : Tag) → IsTrue (list_any (same_tag t) seen)
-              → (j m : ℕ) × (d : PlainCaseEvidence) × IsNodeOf cs j m d × IsEarlierNode j m k (n + 1) × (is_peer net (place_of d.graph m) ≡ false) × (tag_at d m ≡ t)
-          from t there = let f = are.from t there in (f.0, f.1, f.2, f.3, later f.0 f.1 f.4, f.5, f.6)
 
       pub next_at_router : KeepsTag net cs k n → is_peer net place ≡ false → AreSeen net cs k (n + 1) (seen ++ tag ∷ [])
       next_at_router keeps router = record { kept = kept_next keeps; has = has; from = from }
@@ -184,9 +183,7 @@ module _ (net : PlainNet) (cs : List PlainCaseEvidence) where
           from t there =
               let member = list_any_member (same_tag t) (seen ++ tag ∷ []) there in
               elim (IsIn-push_cases seen tag member.0 member.1) [
-                | inl old ↦
-                    let f = are.from t (list_any-from_IsIn (same_tag t) seen member.0 old member.2) in
-                    (f.0, f.1, f.2, f.3, later f.0 f.1 f.4, f.5, f.6)
+                | inl old ↦ from_before k (n + 1) later t (list_any-from_IsIn (same_tag t) seen member.0 old member.2)
                 | inr e ↦ (k, n, c, (is, inside), inr (refl, omega arith), router, e ∙ sym (same_tag-is t member.0 member.2))
               ]
 

@@ -1,6 +1,6 @@
 -- A search that takes finished rows over finds what the lists lead to.
 use Rattle.std.proofs.Common.{◌≡◌, ◌≢◌, ℕ, ◌+◌, ◌<◌, Bool, true, false, cond, not, ◌&&◌, ◌||◌, eqb, List, [], ◌∷◌, ◌++◌, length, refl, sym, ap, ◌∙◌, inl, inr, ◌⊎◌, ◌↔◌, arith, ltb, vec_len}
-use Rattle.std.proofs.lemmas.Bool.{cases_Bool, cases_eq, cases_lt, or_cases, or_left, or_right, and_from, and_parts, not_from_false, not-true, both_ways, eqb-true, eq-eqb, cond-true, cond-false, ltb-true, lt-ltb, le-ltb, ne_eqb}
+use Rattle.std.proofs.lemmas.Bool.{cases_Bool, cases_eq, cases_lt, or_cases, or_left, or_parts, or_right, and_from, and_parts, not_from_false, not-true, both_ways, eqb-true, eq-eqb, cond-true, cond-false, ltb-true, lt-ltb, le-ltb, ne_eqb}
 use Rattle.std.specs.List.{count_by, range_with_len}
 use Rattle.std.proofs.Math.Bool.{or-false, and-false}
 use Rattle.bit_rows.specs.Tables.{IsSameSize, has_at}
@@ -222,32 +222,31 @@ module _ (node next : ℕ) (finished : Bool) (old new : Sweep) where
   })
 
   module _ (h : has_at old.rows node next ≡ false) (size : IsSameSize new.rows old.rows) (ln : node < old.rows.count) where
+    -- what is new in the row of the node
+    row_with : (fresh : ℕ → Bool) → ((r b : ℕ) → r < old.rows.count → has_at new.rows r b ≡ (has_at old.rows r b || (eqb r node && fresh b))) → ((b : ℕ) → cond finished (has_at old.rows next b) (eqb b next) ≡ fresh b) →
+        (b : ℕ) → has_at new.rows node b ≡ (has_at old.rows node b || (not (has_at old.rows node next) && cond finished (has_at old.rows next b) (eqb b next)))
+    row_with fresh rows is b =
+        rows node b ln ∙ ap (λ z. has_at old.rows node b || (z && fresh b)) (eq-eqb node node refl)
+        ∙ sym (ap (λ z. has_at old.rows node b || (not z && cond finished (has_at old.rows next b) (eqb b next))) h ∙ ap (λ z. has_at old.rows node b || z) (is b))
+
     -- its row is taken over
     pub Comes-taken : finished ≡ true → ((r b : ℕ) → r < old.rows.count → has_at new.rows r b ≡ (has_at old.rows r b || (eqb r node && has_at old.rows next b))) → new.waiting.items ≡ old.waiting.items → vec_len new.waiting ≡ vec_len old.waiting →
         Comes node next finished old new
-    Comes-taken f rows same len = record {
+    Comes-taken f rows same len = let row = row_with (has_at old.rows next) rows (λ b. cond-true finished _ _ f) in record {
       size = size;
       others = λ a b la ne. rows a b la ∙ ap (λ z. has_at old.rows a b || (z && has_at old.rows next b)) (ne_eqb _ _ ne) ∙ or-false (has_at old.rows a b);
       row = row;
       waiting = λ n. ap (λ l. is_among l n) same ∙ sym (ap (λ z. is_among old.waiting.items n || (not (has_at old.rows node next) && (not z && eqb n next))) f ∙ ap (λ z. is_among old.waiting.items n || z) (and-false (not (has_at old.rows node next))) ∙ or-false (is_among old.waiting.items n));
       left =
-          let fewer = count_le (λ b. not (has_at new.rows node b)) (λ b. not (has_at old.rows node b)) 0 old.rows.bits (λ b n. kept (has_at old.rows node b) _ (sym (ap not (row b)) ∙ n)) in
+          let fewer = count_le (λ b. not (has_at new.rows node b)) (λ b. not (has_at old.rows node b)) 0 old.rows.bits (λ b n. not_from_false _ (or_parts (has_at old.rows node b) _ (sym (row b) ∙ not-true _ n)).0) in
           let to = ap (λ k. count_by (λ b. not (has_at new.rows node b)) (range_with_len 0 k)) size.bits in
           omega (arith, fewer, to, len);
     }
-      where
-        row : (b : ℕ) → has_at new.rows node b ≡ (has_at old.rows node b || (not (has_at old.rows node next) && cond finished (has_at old.rows next b) (eqb b next)))
-        row b = rows node b ln ∙ ap (λ z. has_at old.rows node b || (z && has_at old.rows next b)) (eq-eqb node node refl)
-            ∙ sym (ap (λ z. has_at old.rows node b || (not z && cond finished (has_at old.rows next b) (eqb b next))) h ∙ ap (λ z. has_at old.rows node b || z) (cond-true finished _ _ f))
-
-        kept : (x y : Bool) → not (x || y) ≡ true → not x ≡ true
-        kept true y n = n
-        kept false y n = refl
 
     -- it is found, and waits
     pub Comes-waits : finished ≡ false → next < old.rows.bits → ((r b : ℕ) → r < old.rows.count → has_at new.rows r b ≡ (has_at old.rows r b || (eqb r node && eqb b next))) → new.waiting.items ≡ old.waiting.items ++ next ∷ [] → vec_len new.waiting ≡ vec_len old.waiting + 1 →
         Comes node next finished old new
-    Comes-waits f lx rows pushed len = record {
+    Comes-waits f lx rows pushed len = let row = row_with (λ b. eqb b next) rows (λ b. cond-false finished _ _ f) in record {
       size = size;
       others = λ a b la ne. rows a b la ∙ ap (λ z. has_at old.rows a b || (z && eqb b next)) (ne_eqb _ _ ne) ∙ or-false (has_at old.rows a b);
       row = row;
@@ -255,18 +254,10 @@ module _ (node next : ℕ) (finished : Bool) (old new : Sweep) where
           ∙ sym (ap (λ z. is_among old.waiting.items n || (not z && (not finished && eqb n next))) h ∙ ap (λ z. is_among old.waiting.items n || (not z && eqb n next)) f);
       left =
           let out : not (has_at new.rows node next) ≡ false = ap not (row next ∙ or_right (has_at old.rows node next) _ (and_from _ _ (not_from_false _ h) (cond-false finished _ _ f ∙ eq-eqb next next refl))) in
-          let fewer = count_lt (λ b. not (has_at new.rows node b)) (λ b. not (has_at old.rows node b)) 0 old.rows.bits next (omega arith) (omega arith) out (not_from_false _ h) (λ b n. kept (has_at old.rows node b) _ (sym (ap not (row b)) ∙ n)) in
+          let fewer = count_lt (λ b. not (has_at new.rows node b)) (λ b. not (has_at old.rows node b)) 0 old.rows.bits next (omega arith) (omega arith) out (not_from_false _ h) (λ b n. not_from_false _ (or_parts (has_at old.rows node b) _ (sym (row b) ∙ not-true _ n)).0) in
           let to = ap (λ k. count_by (λ b. not (has_at new.rows node b)) (range_with_len 0 k)) size.bits in
           omega (arith, fewer, to, len);
     }
       where
-        row : (b : ℕ) → has_at new.rows node b ≡ (has_at old.rows node b || (not (has_at old.rows node next) && cond finished (has_at old.rows next b) (eqb b next)))
-        row b = rows node b ln ∙ ap (λ z. has_at old.rows node b || (z && eqb b next)) (eq-eqb node node refl)
-            ∙ sym (ap (λ z. has_at old.rows node b || (not z && cond finished (has_at old.rows next b) (eqb b next))) h ∙ ap (λ z. has_at old.rows node b || z) (cond-false finished _ _ f))
-
-        kept : (x y : Bool) → not (x || y) ≡ true → not x ≡ true
-        kept true y n = n
-        kept false y n = refl
-
         turned : (n : ℕ) → eqb next n ≡ eqb n next
         turned n = elim (cases_eq n next) [ inl e ↦ eq-eqb _ _ (sym e) ∙ sym (eq-eqb _ _ e) | inr ne ↦ ne_eqb _ _ (λ e. ne (sym e)) ∙ sym (ne_eqb _ _ ne) ]
