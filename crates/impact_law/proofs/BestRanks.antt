@@ -14,7 +14,6 @@ use Rattle.path_words.specs.Policies.{PlainPolicy, PlainStatement}
 use Rattle.path_words.specs.Meaning.{at_last, front, rank_of}
 use Rattle.path_words.specs.Governing.{is_origin}
 use Rattle.path_words.specs.Permitted.{from_holds, is_permitted, IsClaimedRouter, IsClaimedSession}
-use Rattle.graph_base.specs.Runs as plain
 use Rattle.graph_base.specs.Runs.{rank_at, step_at}
 use Rattle.config_base.specs.Configs.{PlainConfig}
 use Rattle.config_base.specs.Lines.{class_of}

@@ -4,7 +4,6 @@ use Rattle.std.specs.Prelude.{◌↔◌}
 use Rattle.net_base.specs.Network.{PlainNet}
 use Rattle.path_words.specs.Policies.{PlainStatement}
 use Rattle.graph_base.specs.Graphs.{PlainGraph, IsGraph}
-use Rattle.graph_base.specs.Runs.{run}
 use Rattle.regret_law.specs.Faithful.{IsFaithful, HasWalks, HasRank}
 use Rattle.graph_base.proofs.RunSteps.{run_inside}
 

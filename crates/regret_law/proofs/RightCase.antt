@@ -24,7 +24,6 @@ use Rattle.net_base.proofs.RoutersAndPeers.{peer_no_router}
 use Rattle.regret_law.proofs.CaseOrigins.{case_permits, good, good_parts, no_case_origin}
 use Rattle.regret_law.proofs.GraphForms.{meets_rules}
 use Rattle.regret_law.proofs.GraphRanks.{ranks_of, meets_ranks}
-use Rattle.routing_law.specs.Network as law
 use Rattle.routing_law.specs.Lines as line
 use Rattle.routing_law.specs.Laws as laws
 use Rattle.routing_law.proofs.Used.{lines_are_right}

@@ -1,7 +1,6 @@
 -- An outcome with ties broken is one of the lines of a class, and the other way round.
-use Rattle.std.proofs.Common.{◌≡◌, ℕ, ◌<◌, suc, Bool, List, [], ◌∷◌, length, Option, Some, refl, arith, sym, ap, ◌∙◌, subst}
-use Rattle.std.specs.Prelude.{nat_eq, option_map, slice_get}
-use Rattle.std.specs.Option.{option_and_then}
+use Rattle.std.proofs.Common.{◌≡◌, ℕ, Bool, Some, refl, arith, sym, ap, ◌∙◌, subst}
+use Rattle.std.specs.Prelude.{nat_eq, option_map}
 use Rattle.std.proofs.lemmas.Bool.{eq-eqb}
 use Rattle.std.proofs.lemmas.List.{length-append}
 use Rattle.net_base.specs.declared.net.Site.{Site}
