@@ -4,11 +4,9 @@ use Rattle.policy_tokens.specs.declared.fault.PolicyFault.{PolicyFault}
 use Rattle.policy_grammar.specs.declared.lexeme.Lexeme.{Lexeme}
 use Rattle.policy_grammar.specs.declared.symbol.Symbol.{Symbol}
 use Rattle.policy_grammar.specs.declared.symbol.Symbol.TheVariants as symbol
-use Rattle.policy_grammar.specs.declared.item.CallWord.{CallWord}
-use Rattle.policy_grammar.specs.declared.item.CallWord.TheVariants.{Any, Drop, Internal, Avoid, Through, NoTransit, Start, End, Link, Path, Exit, Enter}
-use Rattle.policy_grammar.specs.declared.item.RawCall.{RawCall}
-use Rattle.policy_grammar.specs.declared.item.Step.{Step}
-use Rattle.policy_grammar.specs.declared.item.Step.TheVariants as step
+use Rattle.policy_grammar.specs.declared.call_word.CallWord.{CallWord}
+use Rattle.policy_grammar.specs.declared.call_word.CallWord.TheVariants.{Any, Drop, Internal, Avoid, Through, NoTransit, Start, End, Link, Path, Exit, Enter}
+use Rattle.policy_grammar.specs.Raw.{RawCall, Step, Step as step}
 use Rattle.policy_grammar.specs.Reading.{Read, refused, after}
 use Rattle.policy_grammar.specs.Calls.{call_at}
 use Rattle.policy_grammar.specs.Ranked.{Reader, atom_with, ranked_with, inner_at}

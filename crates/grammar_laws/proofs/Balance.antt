@@ -3,10 +3,9 @@ use Rattle.std.proofs.Common.{◌≡◌, ℕ, suc, List, [], ◌∷◌, ◌++◌
 use Rattle.policy_grammar.specs.declared.lexeme.Lexeme.{Lexeme}
 use Rattle.policy_grammar.specs.declared.symbol.Symbol.{Symbol}
 use Rattle.policy_grammar.specs.declared.symbol.Symbol.TheVariants as symbol
-use Rattle.policy_grammar.specs.declared.item.CallWord.{CallWord}
-use Rattle.policy_grammar.specs.declared.item.CallWord.TheVariants.{Any, Drop, Internal, Avoid, Through, NoTransit, Start, End, Link, Path, Exit, Enter}
-use Rattle.policy_grammar.specs.declared.item.RawCall.{RawCall}
-use Rattle.policy_grammar.specs.declared.item.Step.{Step}
+use Rattle.policy_grammar.specs.declared.call_word.CallWord.{CallWord}
+use Rattle.policy_grammar.specs.declared.call_word.CallWord.TheVariants.{Any, Drop, Internal, Avoid, Through, NoTransit, Start, End, Link, Path, Exit, Enter}
+use Rattle.policy_grammar.specs.Raw.{RawCall, Step}
 use Rattle.policy_grammar.specs.Calls.{one_at}
 use Rattle.grammar_laws.specs.Grammar.{Is, IsOne, IsRanked, IsChoice, IsJoint, IsUnit, IsAtom}
 use Rattle.grammar_laws.proofs.Lookups.{a_token}

@@ -2,8 +2,7 @@
 use Rattle.std.proofs.Common.{◌≡◌, ℕ, zero, suc, inl, inr, List, [], ◌∷◌, ◌++◌, refl, sym, ap, ◌∙◌, subst, append_assoc, append-nil}
 use Rattle.policy_grammar.specs.declared.lexeme.Lexeme.{Lexeme}
 use Rattle.policy_grammar.specs.declared.symbol.Symbol.TheVariants as symbol
-use Rattle.policy_grammar.specs.declared.item.Step.{Step}
-use Rattle.policy_grammar.specs.declared.item.Step.TheVariants as step
+use Rattle.policy_grammar.specs.Raw.{Step, Step as step}
 use Rattle.policy_grammar.specs.Ranked.{Reader, atom_with, unit_with, joint_with, choice_with, ranked_with, inner_at}
 use Rattle.grammar_laws.specs.Grammar.{Rule, IsRanked, IsChoice, IsJoint, IsUnit, IsAtom}
 use Rattle.grammar_laws.proofs.Lookups.{Isnt, is_other}

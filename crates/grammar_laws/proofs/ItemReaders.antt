@@ -2,11 +2,8 @@
 use Rattle.std.proofs.Common.{◌≡◌, ◌⊎◌, inl, inr, List, [], ◌∷◌, ◌++◌, Option, Some, None, Ok, refl, sym, ap, ◌∙◌, subst}
 use Rattle.policy_grammar.specs.declared.lexeme.Lexeme.{Lexeme}
 use Rattle.policy_grammar.specs.declared.symbol.Symbol.TheVariants as symbol
-use Rattle.policy_grammar.specs.declared.item.Arg.{Arg}
-use Rattle.policy_grammar.specs.declared.item.Arg.TheVariants as arg
-use Rattle.policy_grammar.specs.declared.item.Item.{Item}
-use Rattle.policy_grammar.specs.declared.item.RawPattern.{RawPattern}
-use Rattle.policy_grammar.specs.declared.item.RawPattern.TheVariants.{All, Only, UpTo}
+use Rattle.policy_grammar.specs.Raw.{Arg, Arg as arg, Item, RawPattern}
+use Rattle.policy_grammar.specs.Raw.RawPattern.{All, Only, UpTo}
 use Rattle.policy_grammar.specs.Reading.{Read, past, first_of, after, either}
 use Rattle.policy_grammar.specs.Calls.{set_at}
 use Rattle.policy_grammar.specs.Items.{pattern_at, predicate_at, from_at}

@@ -3,7 +3,7 @@ use Rattle.std.proofs.Common.{◌≡◌, ℕ, List, [], ◌∷◌, ◌++◌, ref
 use Rattle.policy_grammar.specs.declared.lexeme.Lexeme.{Lexeme}
 use Rattle.policy_grammar.specs.declared.symbol.Symbol.{Symbol}
 use Rattle.policy_grammar.specs.declared.symbol.Symbol.TheVariants as symbol
-use Rattle.policy_grammar.specs.declared.item.Step.{Step}
+use Rattle.policy_grammar.specs.Raw.{Step}
 use Rattle.policy_grammar.specs.Ranked.{Reader}
 use Rattle.grammar_laws.specs.Grammar.{Is, Rule}
 use Rattle.grammar_laws.proofs.Lookups.{Differ, Isnt}

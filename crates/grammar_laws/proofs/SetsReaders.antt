@@ -5,9 +5,8 @@ use Rattle.net_base.specs.declared.place.Place.{Place}
 use Rattle.policy_grammar.specs.declared.lexeme.Lexeme.{Lexeme}
 use Rattle.policy_grammar.specs.declared.symbol.Symbol.{Symbol}
 use Rattle.policy_grammar.specs.declared.symbol.Symbol.TheVariants.{Above, Comma, RoundOpen, RoundClose}
-use Rattle.policy_grammar.specs.declared.item.Arg.{Arg}
-use Rattle.policy_grammar.specs.declared.item.CallWord.{CallWord}
-use Rattle.policy_grammar.specs.declared.item.RawCall.{RawCall}
+use Rattle.policy_grammar.specs.Raw.{Arg, RawCall}
+use Rattle.policy_grammar.specs.declared.call_word.CallWord.{CallWord}
 use Rattle.policy_grammar.specs.Reading.{Read, past, after, either, chain}
 use Rattle.policy_grammar.specs.Calls.{set_at, set_link, above_at, sets_call}
 use Rattle.net_base.specs.Steps.{◌>>=◌}

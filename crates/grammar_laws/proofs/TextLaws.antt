@@ -6,7 +6,7 @@ use Rattle.policy_tokens.specs.declared.fault.PolicyFault.TheVariants.{Syntax}
 use Rattle.policy_tokens.specs.declared.token.Token.{Token}
 use Rattle.policy_grammar.specs.declared.lexeme.Lexeme.{Lexeme}
 use Rattle.policy_grammar.specs.declared.symbol.Symbol.TheVariants.{EndOfText}
-use Rattle.policy_grammar.specs.declared.item.Item.{Item}
+use Rattle.policy_grammar.specs.Raw.{Item}
 use Rattle.policy_grammar.proofs.Symbols.{symbol_of-inner}
 use Rattle.policy_grammar.specs.Lexemes.{slice_of, lexeme_of, end_of, lexemes_of}
 use Rattle.policy_grammar.specs.Deep.{first_deep}

@@ -4,11 +4,8 @@ use Rattle.std.proofs.Math.Path.{fun_ext}
 use Rattle.policy_grammar.specs.declared.lexeme.Lexeme.{Lexeme}
 use Rattle.policy_grammar.specs.declared.symbol.Symbol.{Symbol}
 use Rattle.policy_grammar.specs.declared.symbol.Symbol.TheVariants as symbol
-use Rattle.policy_grammar.specs.declared.item.Arg.{Arg}
-use Rattle.policy_grammar.specs.declared.item.Item.{Item}
-use Rattle.policy_grammar.specs.declared.item.Item.TheVariants.{Define, Originate, State}
-use Rattle.policy_grammar.specs.declared.item.RawPattern.{RawPattern}
-use Rattle.policy_grammar.specs.declared.item.Step.{Step}
+use Rattle.policy_grammar.specs.Raw.{Arg, Item, RawPattern, Step}
+use Rattle.policy_grammar.specs.Raw.Item.{Define, Originate, State}
 use Rattle.policy_grammar.specs.Reading.{Read, first_of, after}
 use Rattle.policy_grammar.specs.Names.{names_at, braced_at}
 use Rattle.policy_grammar.specs.Ranked.{ranked_with, inner_at}

@@ -3,7 +3,7 @@ use Rattle.std.specs.Prelude.{◌≡◌, List, [], ◌∷◌, ◌++◌}
 use Rattle.net_base.specs.declared.place.Place.{Place}
 use Rattle.policy_grammar.specs.declared.lexeme.Lexeme.{Lexeme}
 use Rattle.policy_grammar.specs.declared.symbol.Symbol.TheVariants.{EndOfText}
-use Rattle.policy_grammar.specs.declared.item.Item.{Item}
+use Rattle.policy_grammar.specs.Raw.{Item}
 use Rattle.grammar_laws.specs.Grammar.{Is, IsPolicy}
 
 -- a whole text: a policy, and the end

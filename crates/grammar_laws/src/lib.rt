@@ -20,7 +20,7 @@ ghost use Rattle.std.specs.List.{AllByRecursion};
 ghost use Rattle.std.specs.Prelude.{◌≡◌, ℕ, List, length, map, None, Ok, Err, IsUtf8};
 ghost use Rattle.net_base.specs.declared.place.Place.{Place};
 ghost use Rattle.policy_grammar.specs.declared.lexeme.Lexeme.{Lexeme};
-ghost use Rattle.policy_grammar.specs.declared.item.Item.{Item};
+ghost use Rattle.policy_grammar.specs.Raw.{Item};
 ghost use Rattle.policy_grammar.specs.Deep.{first_deep};
 ghost use Rattle.policy_grammar.specs.Items.{items_of};
 ghost use Rattle.policy_grammar.specs.Lexemes.{lexeme_of, lexemes_of};

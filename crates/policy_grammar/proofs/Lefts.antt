@@ -8,7 +8,7 @@ use Rattle.policy_grammar.specs.declared.lexeme.Lexeme.{Lexeme}
 use Rattle.policy_grammar.specs.Symbols.{number_of}
 use Rattle.policy_grammar.specs.Lexemes.{slice_of, lexeme_of, end_of}
 use Rattle.policy_tokens.specs.declared.fault.PolicyFault.TheVariants.{Syntax}
-use Rattle.policy_grammar.specs.declared.item.Step.{Step}
+use Rattle.policy_grammar.specs.Raw.{Step}
 use Rattle.policy_grammar.specs.Calls.{word_of, call_at}
 use Rattle.policy_grammar.specs.Ranked.{call_step}
 use Rattle.policy_grammar.specs.Left.{lexemes_ahead, place_behind, behind, left, StandsIn}

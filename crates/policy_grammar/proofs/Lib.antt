@@ -1,7 +1,4 @@
 mod Counting
-mod Chains
-mod ItemLoop
 mod Lefts
-mod Depths
 mod Fine
 pub mod Symbols

@@ -5,13 +5,9 @@ use Rattle.net_base.specs.Steps.{◌>>=◌}
 use Rattle.policy_grammar.specs.declared.lexeme.Lexeme.{Lexeme}
 use Rattle.policy_grammar.specs.declared.symbol.Symbol.{Symbol}
 use Rattle.policy_grammar.specs.declared.symbol.Symbol.TheVariants as symbol
-use Rattle.policy_grammar.specs.declared.item.Arg.{Arg}
-use Rattle.policy_grammar.specs.declared.item.Arg.TheVariants as arg
-use Rattle.policy_grammar.specs.declared.item.CallWord.{CallWord}
-use Rattle.policy_grammar.specs.declared.item.CallWord.TheVariants.{Any, Drop, Internal, Avoid, Through, NoTransit, Start, End, Link, Path, Exit, Enter}
-use Rattle.policy_grammar.specs.declared.item.RawCall.{RawCall}
-use Rattle.policy_grammar.specs.declared.item.Step.{Step}
-use Rattle.policy_grammar.specs.declared.item.Step.TheVariants as step
+use Rattle.policy_grammar.specs.Raw.{Arg, Arg as arg, RawCall, Step, Step as step}
+use Rattle.policy_grammar.specs.declared.call_word.CallWord.{CallWord}
+use Rattle.policy_grammar.specs.declared.call_word.CallWord.TheVariants.{Any, Drop, Internal, Avoid, Through, NoTransit, Start, End, Link, Path, Exit, Enter}
 use Rattle.policy_grammar.specs.Reading.{Read, refused, past, first_of, after, either, chain}
 use Rattle.policy_grammar.specs.Names.{names_at, braced_at}
 

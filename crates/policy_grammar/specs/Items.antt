@@ -5,12 +5,9 @@ use Rattle.net_base.specs.Steps.{◌>>=◌}
 use Rattle.policy_tokens.specs.declared.fault.PolicyFault.{PolicyFault}
 use Rattle.policy_grammar.specs.declared.lexeme.Lexeme.{Lexeme}
 use Rattle.policy_grammar.specs.declared.symbol.Symbol.TheVariants as symbol
-use Rattle.policy_grammar.specs.declared.item.Arg.{Arg}
-use Rattle.policy_grammar.specs.declared.item.Arg.TheVariants as arg
-use Rattle.policy_grammar.specs.declared.item.Item.{Item}
-use Rattle.policy_grammar.specs.declared.item.Item.TheVariants.{Define, Originate, State}
-use Rattle.policy_grammar.specs.declared.item.RawPattern.{RawPattern}
-use Rattle.policy_grammar.specs.declared.item.RawPattern.TheVariants.{All, Only, UpTo}
+use Rattle.policy_grammar.specs.Raw.{Arg, Arg as arg, Item, RawPattern}
+use Rattle.policy_grammar.specs.Raw.Item.{Define, Originate, State}
+use Rattle.policy_grammar.specs.Raw.RawPattern.{All, Only, UpTo}
 use Rattle.policy_grammar.specs.Reading.{Read, refused, past, first_of, after, either, chain}
 use Rattle.policy_grammar.specs.Names.{names_at, braced_at}
 use Rattle.policy_grammar.specs.Calls.{set_at}

@@ -1,11 +1,10 @@
 pub mod Calls
 pub mod Deep
 pub mod Items
-pub mod KeptArgs
-pub mod KeptSteps
 pub mod Left
 pub mod Lexemes
 pub mod Names
 pub mod Ranked
+pub mod Raw
 pub mod Reading
 pub mod Symbols

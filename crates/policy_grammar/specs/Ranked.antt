@@ -4,8 +4,8 @@ use Rattle.net_base.specs.Steps.{◌>>=◌}
 use Rattle.policy_grammar.specs.declared.lexeme.Lexeme.{Lexeme}
 use Rattle.policy_grammar.specs.declared.symbol.Symbol.{Symbol}
 use Rattle.policy_grammar.specs.declared.symbol.Symbol.TheVariants as symbol
-use Rattle.policy_grammar.specs.declared.item.Step.{Step}
-use Rattle.policy_grammar.specs.declared.item.Step.TheVariants.{Call, Above, Or, And, Not}
+use Rattle.policy_grammar.specs.Raw.{Step}
+use Rattle.policy_grammar.specs.Raw.Step.{Call, Above, Or, And, Not}
 use Rattle.policy_grammar.specs.Reading.{Read, refused, past, after, either, chain}
 use Rattle.policy_grammar.specs.Calls.{call_at}
 

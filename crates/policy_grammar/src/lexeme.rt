@@ -68,9 +68,9 @@ fn lexeme_from(text: &[u8], from: u32, place: Place) -> Lexeme
     }
 }
 
-// The first lexeme of a text.
+/// The first lexeme of a text, whose bytes are fewer than 2^32 - 1.
 #[tactic(auto, unfolding(crate::specs::Left::behind, crate::specs::Left::StandsIn))]
-pub(crate) fn first_lexeme(text: &[u8]) -> Lexeme
+pub fn first_lexeme(text: &[u8]) -> Lexeme
     requires { length text.now < 4294967295 }
     ensures left { left text.now result ≡ lexemes_ahead text.now (ahead_of text.now 0 first_place) }
     ensures stands { StandsIn text.now result }
@@ -86,8 +86,8 @@ pub(crate) fn first_lexeme(text: &[u8]) -> Lexeme
     at
 }
 
-// Goes on to the next lexeme.
-pub(crate) fn advance(text: &[u8], at: &mut Lexeme)
+/// Goes on to the next lexeme. There is none behind the end of the text.
+pub fn advance(text: &[u8], at: &mut Lexeme)
     requires inside { number_of at.old.symbol < number_of EndOfText }
     requires stands { StandsIn text.now at.old }
     ensures left { behind text.now at.old ≡ left text.now at.new }

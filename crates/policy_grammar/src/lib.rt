@@ -1,21 +1,14 @@
-//! The grammar of policies: from tokens to items.
+//! The grammar of policies: what tokens stand for, and a text read lexeme by lexeme.
 #![tactic(auto)]
 
-mod call;
+mod call_word;
 mod deep;
-mod item;
-mod items;
-mod kept;
 mod lexeme;
-mod name_list;
-mod ranked;
 mod reading;
-mod statement;
 mod symbol;
 
+pub use call_word::CallWord;
 pub use deep::first_deep;
-pub use item::{Arg, CallWord, Item, RawCall, RawPattern, RawStatement, Step};
-pub use items::read_items;
-pub use kept::{ArgNames, KeptArg, KeptStep, Part};
-pub use lexeme::{Lexeme, text_of};
+pub use lexeme::{Lexeme, advance, first_lexeme, text_of};
+pub use reading::{begins, first, passed, past, refused};
 pub use symbol::Symbol;

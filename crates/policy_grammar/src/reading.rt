@@ -10,22 +10,22 @@ use crate::lexeme::{Lexeme, advance};
 use crate::symbol::Symbol;
 use policy_tokens::PolicyFault;
 
-// The fault that no policy goes on with this lexeme.
-pub(crate) fn refused(at: &Lexeme) -> PolicyFault
+/// The fault that no policy goes on with this lexeme.
+pub fn refused(at: &Lexeme) -> PolicyFault
     ensures { (text : List ℕ) → result ≡ refusal (left text at.now) }
 {
     PolicyFault::Syntax(at.place)
 }
 
-// Whether this lexeme has this symbol.
-pub(crate) fn begins(symbol: Symbol, at: &Lexeme) -> bool
+/// Whether this lexeme has this symbol.
+pub fn begins(symbol: Symbol, at: &Lexeme) -> bool
     ensures { result ≡ (number_of at.now.symbol == number_of symbol) }
 {
     at.symbol.number() == symbol.number()
 }
 
-// Whether this lexeme has this symbol. If so, the next one comes.
-pub(crate) fn past(symbol: Symbol, text: &[u8], at: &mut Lexeme) -> bool
+/// Whether this lexeme has this symbol, which isn't the end of the text. If so, the next one comes.
+pub fn past(symbol: Symbol, text: &[u8], at: &mut Lexeme) -> bool
     requires sign { number_of symbol < number_of EndOfText }
     requires stands { StandsIn text.now at.old }
     ensures here { result ≡ true → past_of symbol (left text.now at.old) ≡ Some (at.old, left text.now at.new) }
@@ -41,8 +41,8 @@ pub(crate) fn past(symbol: Symbol, text: &[u8], at: &mut Lexeme) -> bool
     here
 }
 
-// This lexeme, which is to have this symbol. Then the next one comes.
-pub(crate) fn first(symbol: Symbol, text: &[u8], at: &mut Lexeme) -> Result<Lexeme, PolicyFault>
+/// This lexeme, which is to have this symbol and not to be the end of the text. Then the next one comes. Another one is refused.
+pub fn first(symbol: Symbol, text: &[u8], at: &mut Lexeme) -> Result<Lexeme, PolicyFault>
     requires sign { number_of symbol < number_of EndOfText }
     requires stands { StandsIn text.now at.old }
     ensures read { Gives (λ x. (x, left text.now at.new)) result (first_of symbol (left text.now at.old)) }
@@ -58,8 +58,8 @@ pub(crate) fn first(symbol: Symbol, text: &[u8], at: &mut Lexeme) -> Result<Lexe
     }
 }
 
-// Goes on behind this lexeme, which is to have this symbol.
-pub(crate) fn passed(symbol: Symbol, text: &[u8], at: &mut Lexeme) -> Result<(), PolicyFault>
+/// Goes on behind this lexeme, which is to have this symbol and not to be the end of the text. Another one is refused.
+pub fn passed(symbol: Symbol, text: &[u8], at: &mut Lexeme) -> Result<(), PolicyFault>
     requires sign { number_of symbol < number_of EndOfText }
     requires stands { StandsIn text.now at.old }
     ensures read { Gives (λ _. left text.now at.new) result (after symbol (left text.now at.old)) }

@@ -13,8 +13,8 @@ use Rattle.net_base.specs.Steps.{◌>>=◌}
 use Rattle.net_base.proofs.StepLemmas.{bind_ok, or_fault_ok}
 use Rattle.policy_tokens.specs.declared.fault.PolicyFault.TheVariants.{Unknown, Twice}
 use Rattle.policy_grammar.specs.declared.lexeme.Lexeme.{Lexeme}
-use Rattle.policy_grammar.specs.declared.item.Item.{Item}
-use Rattle.policy_grammar.specs.declared.item.Item.TheVariants.{Define, Originate, State}
+use Rattle.policy_grammar.specs.Raw.{Item}
+use Rattle.policy_grammar.specs.Raw.Item.{Define, Originate, State}
 use Rattle.net_base.specs.SetOperations.{no_location, with_location, union_of}
 use Rattle.policy_rules.specs.KnownNames.{Names, set_named, is_known, with_name, with_new_name, with_sites, net_names, with_group, first_place}
 use Rattle.policy_rules.specs.Checks.{text, set_at, joined, set_of_names, each, name_known, arg_known, step_known, learnt, all_learnt}

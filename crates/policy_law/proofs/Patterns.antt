@@ -13,17 +13,15 @@ use Rattle.net_base.proofs.PrefixLemmas.{prefix_spelled-IsPrefix}
 use Rattle.net_base.proofs.StepLemmas.{bind_ok, unless_ok}
 use Rattle.policy_tokens.specs.declared.fault.PolicyFault.TheVariants.{PrefixBad}
 use Rattle.policy_grammar.specs.declared.lexeme.Lexeme.{Lexeme}
-use Rattle.policy_grammar.specs.declared.item.RawPattern.{RawPattern}
-use Rattle.policy_grammar.specs.declared.item.RawPattern.TheVariants.{All, Only, UpTo}
-use Rattle.policy_grammar.specs.declared.item.RawStatement.{RawStatement}
-use Rattle.policy_grammar.specs.declared.item.Item.{Item}
-use Rattle.policy_grammar.specs.declared.item.Item.TheVariants.{Define, Originate, State}
+use Rattle.policy_grammar.specs.Raw.{RawPattern, RawStatement, Item}
+use Rattle.policy_grammar.specs.Raw.RawPattern.{All, Only, UpTo}
+use Rattle.policy_grammar.specs.Raw.Item.{Define, Originate, State}
 use Rattle.policy_rules.specs.Checks.{text}
 use Rattle.policy_rules.specs.Figures.{prefix_at, upto_at, pattern_at}
 use Rattle.policy_rules.specs.KnownNames.{Names}
 use Rattle.path_words.specs.Policies.{PlainStatement}
 use Rattle.policy_parser.proofs.SpelledPrefixes.{or_bad_ok}
-use Rattle.policy_parser.specs.Built.{patterns_of, ranking_of_steps, from_of, statement_of, statements_of}
+use Rattle.policy_values.specs.Built.{patterns_of, ranking_of_steps, from_of, statement_of, statements_of}
 
 prefix_is : (bytes : List ℕ) (l : Lexeme) (p : PlainPrefix) → prefix_at bytes l ≡ Ok p → IsPrefix p
 prefix_is bytes l p e = prefix_spelled-IsPrefix (text bytes l) p (or_bad_ok l (prefix_spelled (text bytes l)) p e)

@@ -9,7 +9,7 @@ use Rattle.net_base.specs.Prefixes.{PlainPattern, IsPrefix, IsPattern}
 use Rattle.net_base.specs.Sets.{holds}
 use Rattle.net_base.specs.Steps.{◌>>=◌}
 use Rattle.net_base.proofs.StepLemmas.{bind_ok}
-use Rattle.policy_grammar.specs.declared.item.Item.{Item}
+use Rattle.policy_grammar.specs.Raw.{Item}
 use Rattle.policy_rules.specs.Checks.{each}
 use Rattle.policy_rules.specs.Counts.{within, items_within, calls_within, paths_within}
 use Rattle.policy_rules.specs.Figures.{figures_fine}
@@ -18,7 +18,7 @@ use Rattle.policy_rules.specs.Origins.{origins_fine, once_from}
 use Rattle.policy_rules.specs.Ranks.{ranks_fine}
 use Rattle.path_words.specs.declared.policy.Origin.{Origin}
 use Rattle.path_words.specs.Policies.{PlainPolicy, PlainStatement, IsPolicy}
-use Rattle.policy_parser.specs.Built.{origins_of, statements_of}
+use Rattle.policy_values.specs.Built.{origins_of, statements_of}
 use Rattle.policy_parser.specs.Spelled.{items_spelled, names_spelled, rules_kept, origins_spelled, policy_built, pairs, spelled}
 use Rattle.policy_parser.proofs.BuiltPolicies.{is_policy}
 use Rattle.policy_parser.proofs.SpelledPrefixes.{spelled-HavePrefixes}

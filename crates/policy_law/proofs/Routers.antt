@@ -11,14 +11,14 @@ use Rattle.net_base.specs.Steps.{◌>>=◌, unless}
 use Rattle.net_base.proofs.StepLemmas.{bind_ok, unless_ok}
 use Rattle.policy_tokens.specs.declared.fault.PolicyFault.TheVariants.{OriginPeer}
 use Rattle.policy_grammar.specs.declared.lexeme.Lexeme.{Lexeme}
-use Rattle.policy_grammar.specs.declared.item.Item.{Item}
-use Rattle.policy_grammar.specs.declared.item.Item.TheVariants.{Define, Originate, State}
+use Rattle.policy_grammar.specs.Raw.{Item}
+use Rattle.policy_grammar.specs.Raw.Item.{Define, Originate, State}
 use Rattle.policy_rules.specs.KnownNames.{Names}
 use Rattle.policy_rules.specs.Checks.{set_at, set_of_names, each}
 use Rattle.policy_rules.specs.Figures.{prefix_at}
 use Rattle.policy_rules.specs.Origins.{has_some, has_peer, routers_alone, origins_fine}
 use Rattle.path_words.specs.declared.policy.Origin.{Origin}
-use Rattle.policy_parser.specs.Built.{origin_of, origins_of}
+use Rattle.policy_values.specs.Built.{origin_of, origins_of}
 use Rattle.net_base.proofs.HeldSets.{AreBelow}
 use Rattle.policy_law.proofs.Known.{NamesBelow, StandsBelow, set_at_below, set_below}
 

@@ -11,9 +11,7 @@ use Rattle.net_base.specs.Steps.{◌>>=◌}
 use Rattle.policy_tokens.specs.declared.fault.PolicyFault.{PolicyFault}
 use Rattle.policy_tokens.specs.declared.fault.PolicyFault.TheVariants.{Unknown, PrefixBad}
 use Rattle.policy_grammar.specs.declared.lexeme.Lexeme.{Lexeme}
-use Rattle.policy_grammar.specs.declared.item.Arg.{Arg}
-use Rattle.policy_grammar.specs.declared.item.Arg.TheVariants as arg
-use Rattle.policy_grammar.specs.declared.item.RawPattern.{RawPattern}
+use Rattle.policy_grammar.specs.Raw.{Arg, Arg as arg, RawPattern}
 use Rattle.policy_rules.specs.KnownNames.{Names}
 use Rattle.policy_rules.specs.Checks.{each, set_of_names as set_read}
 use Rattle.policy_rules.specs.Counts.{within, calls_within, paths_within}
@@ -22,7 +20,7 @@ use Rattle.path_words.specs.declared.policy.FromSet.{FromSet}
 use Rattle.path_words.specs.declared.policy.FromSet.TheVariants as from_set
 use Rattle.path_words.specs.declared.policy.Origin.{Origin}
 use Rattle.path_words.specs.Policies.{Ranking, PlainStatement, PlainPolicy}
-use Rattle.policy_parser.specs.Built.{patterns_of, ranking_of_steps, from_of, statement_of, statements_of, origin_of, origins_of}
+use Rattle.policy_values.specs.Built.{patterns_of, ranking_of_steps, from_of, statement_of, statements_of, origin_of, origins_of}
 use Rattle.policy_parser.specs.Spelled.{pairs as pairs_read, origins_spelled, policy_built}
 use Rattle.policy_meaning.specs.Told.{told}
 use Rattle.policy_meaning.specs.Trees.{Expression, Written, define, originate, state, postfix, item_of}

@@ -10,11 +10,11 @@ use Rattle.net_base.specs.Steps.{◌>>=◌, or_fault, unless}
 use Rattle.policy_tokens.specs.declared.fault.PolicyFault.{PolicyFault}
 use Rattle.policy_tokens.specs.declared.fault.PolicyFault.TheVariants.{PrefixBad}
 use Rattle.policy_grammar.specs.declared.lexeme.Lexeme.{Lexeme}
-use Rattle.policy_grammar.specs.declared.item.RawPattern.{RawPattern}
-use Rattle.policy_grammar.specs.declared.item.RawPattern.TheVariants.{All, Only, UpTo}
+use Rattle.policy_grammar.specs.Raw.{RawPattern}
+use Rattle.policy_grammar.specs.Raw.RawPattern.{All, Only, UpTo}
 use Rattle.policy_rules.specs.Checks.{text}
 use Rattle.policy_rules.specs.Figures.{or_bad, prefix_at, upto_at, pattern_at, pattern_fine, figures_fine}
-use Rattle.policy_parser.specs.Built.{patterns_of}
+use Rattle.policy_values.specs.Built.{patterns_of}
 use Rattle.policy_meaning.specs.Told.{told}
 use Rattle.policy_meaning.specs.Trees.{Written, define, originate, state, item_of}
 use Rattle.policy_meaning.specs.Figures.{prefix_in, prefix_of, length_in, length_of, pattern_of, if_err, no_prefix, unless_true, unless_within, no_length, wrong_in_pattern, wrong_figures}

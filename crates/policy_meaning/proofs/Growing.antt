@@ -5,8 +5,7 @@ use Rattle.net_base.specs.declared.loc.LocSet.{LocSet}
 use Rattle.net_base.specs.declared.place.Place.{Place}
 use Rattle.net_base.specs.Network.{PlainNet}
 use Rattle.policy_grammar.specs.declared.lexeme.Lexeme.{Lexeme}
-use Rattle.policy_grammar.specs.declared.item.Arg.{Arg}
-use Rattle.policy_grammar.specs.declared.item.Arg.TheVariants as arg
+use Rattle.policy_grammar.specs.Raw.{Arg, Arg as arg}
 use Rattle.policy_rules.specs.Checks.{text}
 use Rattle.policy_meaning.specs.Trees.{Expression, call, above, either, both, negated, Written, define, originate, state}
 use Rattle.policy_meaning.specs.Senses.{or_else, Sense, stands_for, below, sense_of, unless_some, unknown, unknown_in_set, unknown_in, unknown_in_item}

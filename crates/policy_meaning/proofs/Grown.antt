@@ -1,10 +1,7 @@
 -- The tree that the grammar finds is written as the grammar says.
 use Rattle.std.proofs.Common.{◌≡◌, List, [], ◌∷◌, ◌++◌, map, refl, ap, ap₂}
 use Rattle.policy_grammar.specs.declared.lexeme.Lexeme.{Lexeme}
-use Rattle.policy_grammar.specs.declared.item.Step.{Step}
-use Rattle.policy_grammar.specs.declared.item.Step.TheVariants as step
-use Rattle.policy_grammar.specs.declared.item.Item.{Item}
-use Rattle.policy_grammar.specs.declared.item.Item.TheVariants as item
+use Rattle.policy_grammar.specs.Raw.{Step, Step as step, Item, Item as item}
 use Rattle.grammar_laws.specs.Grammar.{IsRanked, IsChoice, IsJoint, IsUnit, IsAtom, IsItem, IsPolicy}
 use Rattle.policy_meaning.specs.Trees.{ranked_tree, choice_tree, joint_tree, unit_tree, atom_tree, item_tree, policy_tree, postfix, item_of}
 

@@ -10,10 +10,7 @@ use Rattle.net_base.specs.Prefixes.{PlainPrefix}
 use Rattle.net_base.specs.PrefixText.{prefix_spelled, length_number}
 use Rattle.policy_grammar.specs.declared.lexeme.Lexeme.{Lexeme}
 use Rattle.policy_grammar.specs.declared.symbol.Symbol.TheVariants as symbol
-use Rattle.policy_grammar.specs.declared.item.Item.{Item}
-use Rattle.policy_grammar.specs.declared.item.RawCall.{RawCall}
-use Rattle.policy_grammar.specs.declared.item.RawPattern.{RawPattern}
-use Rattle.policy_grammar.specs.declared.item.Step.{Step}
+use Rattle.policy_grammar.specs.Raw.{Item, RawCall, RawPattern, Step}
 use Rattle.grammar_laws.specs.Grammar.{IsName, IsNames, IsGroup, IsSet, IsOne, front_place, IsCall, IsRanked, IsChoice, IsJoint, IsUnit, IsAtom, IsPattern, IsPredicate, IsFrom, IsItem, IsPolicy}
 use Rattle.policy_rules.specs.Checks.{text}
 use Rattle.policy_meaning.specs.InOrder.{StandIn, PlacesInOrder}

@@ -2,11 +2,7 @@
 use Rattle.std.proofs.Common.{◌≡◌, List, [], ◌∷◌, ◌++◌, Option, Some, None, refl, ap, sym, ◌∙◌, append_assoc, append-nil}
 use Rattle.net_base.specs.declared.place.Place.{Place}
 use Rattle.policy_tokens.specs.declared.fault.PolicyFault.TheVariants.{RankUnder}
-use Rattle.policy_grammar.specs.declared.item.Arg.{Arg}
-use Rattle.policy_grammar.specs.declared.item.Item.TheVariants as item
-use Rattle.policy_grammar.specs.declared.item.RawPattern.{RawPattern}
-use Rattle.policy_grammar.specs.declared.item.Step.{Step}
-use Rattle.policy_grammar.specs.declared.item.Step.TheVariants as step
+use Rattle.policy_grammar.specs.Raw.{Arg, Item as item, RawPattern, Step, Step as step}
 use Rattle.policy_rules.specs.declared.ranks.Mark.{Mark}
 use Rattle.policy_rules.specs.Ranks.{earlier, top, marks_of, broken_rank, ranks_fine}
 use Rattle.policy_meaning.specs.Told.{first, told}

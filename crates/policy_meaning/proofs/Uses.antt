@@ -9,16 +9,12 @@ use Rattle.net_base.specs.Steps.{◌>>=◌, or_fault}
 use Rattle.policy_tokens.specs.declared.fault.PolicyFault.{PolicyFault}
 use Rattle.policy_tokens.specs.declared.fault.PolicyFault.TheVariants.{Unknown}
 use Rattle.policy_grammar.specs.declared.lexeme.Lexeme.{Lexeme}
-use Rattle.policy_grammar.specs.declared.item.Arg.{Arg}
-use Rattle.policy_grammar.specs.declared.item.Arg.TheVariants as arg
-use Rattle.policy_grammar.specs.declared.item.RawCall.{RawCall}
-use Rattle.policy_grammar.specs.declared.item.Step.{Step}
-use Rattle.policy_grammar.specs.declared.item.Step.TheVariants as step
+use Rattle.policy_grammar.specs.Raw.{Arg, Arg as arg, RawCall, Step, Step as step}
 use Rattle.net_base.specs.SetOperations.{union_of}
 use Rattle.policy_rules.specs.KnownNames.{Names, set_named}
 use Rattle.policy_rules.specs.Checks.{text, set_at, joined, set_of_names as set_read, each, name_known, arg_known, step_known}
 use Rattle.path_words.specs.Policies.{Ranking}
-use Rattle.policy_parser.specs.Built.{set_of_arg, sets_of, call_of, top, all_behind, ranking_of_steps}
+use Rattle.policy_values.specs.Built.{set_of_arg, sets_of, call_of, top, all_behind, ranking_of_steps}
 use Rattle.policy_meaning.specs.Told.{told}
 use Rattle.policy_meaning.specs.Trees.{Expression, call, above, either, both, negated, postfix}
 use Rattle.policy_meaning.specs.Senses.{Sense, located, set_of_names, unless_some, unknown, unknown_in_set, unknown_in}

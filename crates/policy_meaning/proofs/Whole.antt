@@ -11,7 +11,7 @@ use Rattle.policy_tokens.specs.declared.fault.PolicyFault.TheVariants.{Unknown, 
 use Rattle.policy_tokens.specs.declared.token.Token.{Token}
 use Rattle.policy_tokens.specs.Places.{place_of}
 use Rattle.policy_tokens.specs.Tokens.{tokens_of}
-use Rattle.policy_grammar.specs.declared.item.Item.{Item}
+use Rattle.policy_grammar.specs.Raw.{Item}
 use Rattle.policy_grammar.specs.Lexemes.{lexeme_of, lexemes_of}
 use Rattle.policy_grammar.specs.Deep.{first_deep}
 use Rattle.policy_grammar.specs.Items.{items_of}

@@ -6,8 +6,8 @@ use Rattle.net_base.specs.declared.prefix_text.PrefixFault.{PrefixFault}
 use Rattle.net_base.specs.Prefixes.{PlainPrefix, PlainPattern, only}
 use Rattle.net_base.specs.PrefixText.{prefix_spelled, length_number}
 use Rattle.policy_grammar.specs.declared.lexeme.Lexeme.{Lexeme}
-use Rattle.policy_grammar.specs.declared.item.RawPattern.{RawPattern}
-use Rattle.policy_grammar.specs.declared.item.RawPattern.TheVariants.{All, Only, UpTo}
+use Rattle.policy_grammar.specs.Raw.{RawPattern}
+use Rattle.policy_grammar.specs.Raw.RawPattern.{All, Only, UpTo}
 use Rattle.policy_rules.specs.Checks.{text}
 use Rattle.policy_meaning.specs.Trees.{Written, define, originate, state}
 

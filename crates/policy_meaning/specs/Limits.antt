@@ -6,8 +6,8 @@ use Rattle.net_base.specs.declared.place.Kind.{Kind}
 use Rattle.net_base.specs.declared.place.Kind.TheVariants as kind
 use Rattle.policy_tokens.specs.declared.fault.PolicyFault.{PolicyFault}
 use Rattle.policy_tokens.specs.declared.fault.PolicyFault.TheVariants.{TooMany}
-use Rattle.policy_grammar.specs.declared.item.CallWord.{CallWord}
-use Rattle.policy_grammar.specs.declared.item.CallWord.TheVariants.{Path}
+use Rattle.policy_grammar.specs.declared.call_word.CallWord.{CallWord}
+use Rattle.policy_grammar.specs.declared.call_word.CallWord.TheVariants.{Path}
 use Rattle.policy_rules.specs.Counts.{capped}
 use Rattle.path_words.specs.declared.policy.Origin.{Origin}
 use Rattle.net_base.specs.SetOperations.{size_of}

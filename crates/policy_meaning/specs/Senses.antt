@@ -7,8 +7,7 @@ use Rattle.net_base.specs.declared.net.Site.{Site}
 use Rattle.net_base.specs.declared.place.Place.{Place}
 use Rattle.net_base.specs.Network.{PlainNet, sites}
 use Rattle.policy_grammar.specs.declared.lexeme.Lexeme.{Lexeme}
-use Rattle.policy_grammar.specs.declared.item.Arg.{Arg}
-use Rattle.policy_grammar.specs.declared.item.Arg.TheVariants as arg
+use Rattle.policy_grammar.specs.Raw.{Arg, Arg as arg}
 use Rattle.policy_rules.specs.Checks.{text}
 use Rattle.net_base.specs.SetOperations.{no_location, with_location, union_of}
 use Rattle.policy_meaning.specs.Trees.{Expression, call, above, either, both, negated, Written, define, originate, state}

@@ -2,13 +2,7 @@
 use Rattle.std.specs.Prelude.{List, [], ◌∷◌, ◌++◌}
 use Rattle.net_base.specs.declared.place.Place.{Place}
 use Rattle.policy_grammar.specs.declared.lexeme.Lexeme.{Lexeme}
-use Rattle.policy_grammar.specs.declared.item.Arg.{Arg}
-use Rattle.policy_grammar.specs.declared.item.RawCall.{RawCall}
-use Rattle.policy_grammar.specs.declared.item.RawPattern.{RawPattern}
-use Rattle.policy_grammar.specs.declared.item.Step.{Step}
-use Rattle.policy_grammar.specs.declared.item.Step.TheVariants as step
-use Rattle.policy_grammar.specs.declared.item.Item.{Item}
-use Rattle.policy_grammar.specs.declared.item.Item.TheVariants as item
+use Rattle.policy_grammar.specs.Raw.{Arg, RawCall, RawPattern, Step, Step as step, Item, Item as item}
 use Rattle.grammar_laws.specs.Grammar.{IsRanked, IsChoice, IsJoint, IsUnit, IsAtom, IsItem, IsPolicy}
 
 -- An expression: a call, `a >> b` with the place of its `>>`, `a or b`, `a and b`, `not a`.

@@ -17,7 +17,7 @@
 ghost use Rattle.std.specs.Prelude.{◌≡◌, ℕ, List, [], ◌∷◌, ◌++◌, Err};
 ghost use Rattle.net_base.specs.declared.place.Place.{Place};
 ghost use Rattle.net_base.specs.Network.{PlainNet};
-ghost use Rattle.policy_grammar.specs.declared.item.RawCall.{RawCall};
+ghost use Rattle.policy_grammar.specs.Raw.{RawCall};
 ghost use Rattle.policy_meaning.specs.Trees.{Expression, Written};
 ghost use Rattle.policy_meaning.specs.Ranks.{ranks, ranks_under};
 ghost use Rattle.policy_meaning.specs.Meaning.{unknown_names, meaning};

@@ -13,10 +13,8 @@ use Rattle.net_base.specs.Prefixes.{PlainPrefix, PlainPattern, same_prefix}
 use Rattle.net_base.specs.Steps.{◌>>=◌, unless}
 use Rattle.policy_tokens.specs.declared.fault.PolicyFault.TheVariants.{OriginTwice, TooMany}
 use Rattle.policy_grammar.specs.declared.lexeme.Lexeme.{Lexeme}
-use Rattle.policy_grammar.specs.declared.item.RawPattern.{RawPattern}
-use Rattle.policy_grammar.specs.declared.item.RawStatement.{RawStatement}
-use Rattle.policy_grammar.specs.declared.item.Item.{Item}
-use Rattle.policy_grammar.specs.declared.item.Item.TheVariants.{Define, Originate, State}
+use Rattle.policy_grammar.specs.Raw.{RawPattern, RawStatement, Item}
+use Rattle.policy_grammar.specs.Raw.Item.{Define, Originate, State}
 use Rattle.policy_rules.specs.KnownNames.{Names}
 use Rattle.policy_rules.specs.Checks.{set_of_names, each}
 use Rattle.policy_rules.specs.Figures.{prefix_at, pattern_at, figures_fine}
@@ -25,7 +23,7 @@ use Rattle.policy_rules.specs.Origins.{once_from, origins_fine}
 use Rattle.policy_rules.specs.Counts.{amount, counted, capped, within, items_within}
 use Rattle.path_words.specs.declared.policy.Origin.{Origin}
 use Rattle.path_words.specs.Policies.{PlainStatement, IsPolicy}
-use Rattle.policy_parser.specs.Built.{patterns_of, ranking_of_steps, from_of, statement_of, statements_of, origin_of, origins_of}
+use Rattle.policy_values.specs.Built.{patterns_of, ranking_of_steps, from_of, statement_of, statements_of, origin_of, origins_of}
 use Rattle.policy_parser.specs.Spelled.{rules_kept, origins_spelled, pairs}
 use Rattle.net_base.proofs.StepLemmas.{bind_ok, unless_ok}
 use Rattle.policy_parser.proofs.Steps.{same_prefix_equiv}

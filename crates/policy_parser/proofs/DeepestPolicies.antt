@@ -14,20 +14,17 @@ use Rattle.policy_tokens.specs.declared.fault.PolicyFault.TheVariants.{Deep}
 use Rattle.policy_tokens.specs.Gives.{Gives}
 use Rattle.policy_tokens.specs.Places.{place_of}
 use Rattle.policy_tokens.specs.Tokens.{tokens_of}
-use Rattle.policy_grammar.specs.declared.item.CallWord.{CallWord}
-use Rattle.policy_grammar.specs.declared.item.CallWord.TheVariants as word
-use Rattle.policy_grammar.specs.declared.item.RawStatement.{RawStatement}
-use Rattle.policy_grammar.specs.declared.item.Step.{Step}
-use Rattle.policy_grammar.specs.declared.item.Step.TheVariants as step
-use Rattle.policy_grammar.specs.declared.item.Item.{Item}
-use Rattle.policy_grammar.specs.declared.item.Item.TheVariants.{Define, Originate, State}
+use Rattle.policy_grammar.specs.declared.call_word.CallWord.{CallWord}
+use Rattle.policy_grammar.specs.declared.call_word.CallWord.TheVariants as word
+use Rattle.policy_grammar.specs.Raw.{RawStatement, Step, Step as step, Item}
+use Rattle.policy_grammar.specs.Raw.Item.{Define, Originate, State}
 use Rattle.policy_grammar.specs.Deep.{first_deep}
 use Rattle.policy_grammar.specs.Lexemes.{lexemes_of}
 use Rattle.policy_rules.specs.Checks.{each}
 use Rattle.policy_rules.specs.Counts.{call_amount, calls_within, paths_within}
 use Rattle.policy_rules.specs.KnownNames.{Names}
 use Rattle.path_words.specs.Policies.{Ranking, prefer, either, both, negated, PlainStatement, PlainPolicy}
-use Rattle.policy_parser.specs.Built.{sets_of, ranked_sets, call_of, top, behind, all_behind, ranking_of_steps, patterns_of, from_of, statement_of, statements_of}
+use Rattle.policy_values.specs.Built.{sets_of, ranked_sets, call_of, top, behind, all_behind, ranking_of_steps, patterns_of, from_of, statement_of, statements_of}
 use Rattle.policy_parser.specs.Spelled.{none_at, items_spelled, origins_spelled, policy_built}
 use Rattle.policy_parser.specs.Depth.{depth, IsAtMostDeep}
 use Rattle.policy_parser.proofs.BuiltPolicies.{within_most}

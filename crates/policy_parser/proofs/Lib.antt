@@ -4,3 +4,17 @@ pub mod SpelledPrefixes
 pub mod NestedSteps
 pub mod DeepestPolicies
 mod ReadItems
+pub mod StatementValues
+pub mod ReadItemValues
+pub mod KeptNames
+pub mod LikeNames
+pub mod KeptItems
+pub mod TakenItems
+pub mod WholeTold
+pub mod ToldItems
+pub mod KeptPolicies
+pub mod ToldFaults
+pub mod SoFarItems
+pub mod ItemLoop
+pub mod TakenTexts
+pub mod ItemKinds

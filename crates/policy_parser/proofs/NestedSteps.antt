@@ -8,11 +8,8 @@ use Rattle.net_base.proofs.StepLemmas.{bind_ok, ok_same}
 use Rattle.policy_grammar.specs.declared.lexeme.Lexeme.{Lexeme}
 use Rattle.policy_grammar.specs.declared.symbol.Symbol.{Symbol}
 use Rattle.policy_grammar.specs.declared.symbol.Symbol.TheVariants as symbol
-use Rattle.policy_grammar.specs.declared.item.RawCall.{RawCall}
-use Rattle.policy_grammar.specs.declared.item.Step.{Step}
-use Rattle.policy_grammar.specs.declared.item.Step.TheVariants as step
-use Rattle.policy_grammar.specs.declared.item.Item.{Item}
-use Rattle.policy_grammar.specs.declared.item.Item.TheVariants.{Define, Originate, State}
+use Rattle.policy_grammar.specs.Raw.{RawCall, Step, Step as step, Item}
+use Rattle.policy_grammar.specs.Raw.Item.{Define, Originate, State}
 use Rattle.policy_grammar.specs.Reading.{past, first_of, after, either, chain}
 use Rattle.policy_grammar.specs.Names.{names_at, braced_at}
 use Rattle.policy_grammar.specs.Calls.{call_at}

@@ -11,7 +11,7 @@ use Rattle.policy_tokens.specs.Places.{first_place, place_of}
 use Rattle.policy_tokens.specs.Tokens.{tokens_from, tokens_of}
 use Rattle.policy_tokens.specs.Ahead.{ahead_of}
 use Rattle.policy_tokens.proofs.Onward.{tokens_ahead}
-use Rattle.policy_grammar.specs.declared.item.Item.{Item}
+use Rattle.policy_grammar.specs.Raw.{Item}
 use Rattle.policy_grammar.specs.Lexemes.{lexemes_of}
 use Rattle.policy_grammar.specs.Left.{lexemes_ahead}
 use Rattle.policy_grammar.specs.Deep.{first_deep, deep_found}

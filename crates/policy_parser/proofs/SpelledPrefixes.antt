@@ -9,15 +9,15 @@ use Rattle.net_base.specs.declared.prefix_text.PrefixFault.{PrefixFault}
 use Rattle.net_base.specs.declared.place.Kind.TheVariants as kind
 use Rattle.net_base.proofs.PrefixLemmas.{prefix_spelled-IsPrefix}
 use Rattle.policy_grammar.specs.declared.lexeme.Lexeme.{Lexeme}
-use Rattle.policy_grammar.specs.declared.item.Item.{Item}
-use Rattle.policy_grammar.specs.declared.item.Item.TheVariants.{Define, Originate, State}
+use Rattle.policy_grammar.specs.Raw.{Item}
+use Rattle.policy_grammar.specs.Raw.Item.{Define, Originate, State}
 use Rattle.policy_rules.specs.Checks.{text, each}
 use Rattle.policy_rules.specs.Counts.{within, items_within, calls_within, paths_within}
 use Rattle.policy_rules.specs.Figures.{or_bad}
 use Rattle.policy_rules.specs.KnownNames.{Names}
 use Rattle.path_words.specs.declared.policy.Origin.{Origin}
 use Rattle.path_words.specs.Policies.{PlainPolicy}
-use Rattle.policy_parser.specs.Built.{origin_of, origins_of, statements_of}
+use Rattle.policy_values.specs.Built.{origin_of, origins_of, statements_of}
 use Rattle.policy_parser.specs.Spelled.{items_spelled, names_spelled, rules_kept, origins_spelled, policy_built, pairs, spelled}
 use Rattle.net_base.proofs.StepLemmas.{bind_ok}
 use Rattle.policy_parser.proofs.BuiltPolicies.{origin_prefix}

@@ -1,4 +1,6 @@
-pub mod Built
 pub mod Depth
+pub mod ItemValues
+pub mod ItemReads
+pub mod SoFar
 pub mod Spelled
-pub mod Views
+pub mod Told

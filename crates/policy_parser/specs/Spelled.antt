@@ -9,7 +9,7 @@ use Rattle.policy_tokens.specs.declared.fault.PolicyFault.{PolicyFault}
 use Rattle.policy_tokens.specs.declared.fault.PolicyFault.TheVariants.{Deep, Twice}
 use Rattle.policy_tokens.specs.Places.{place_of}
 use Rattle.policy_tokens.specs.Tokens.{tokens_of}
-use Rattle.policy_grammar.specs.declared.item.Item.{Item}
+use Rattle.policy_grammar.specs.Raw.{Item}
 use Rattle.policy_grammar.specs.Lexemes.{lexemes_of}
 use Rattle.policy_grammar.specs.Deep.{first_deep}
 use Rattle.policy_grammar.specs.Items.{items_of}
@@ -22,7 +22,7 @@ use Rattle.policy_rules.specs.Counts.{capped, within, items_within, calls_within
 use Rattle.path_words.specs.declared.policy.Origin.{Origin}
 use Rattle.net_base.specs.SetOperations.{size_of}
 use Rattle.path_words.specs.Policies.{PlainPolicy}
-use Rattle.policy_parser.specs.Built.{origins_of, statements_of}
+use Rattle.policy_values.specs.Built.{origins_of, statements_of}
 
 -- this fault at the place, if there is one
 abbrev pub none_at : (Place → PolicyFault) → Option Place → Result ⊤ PolicyFault

@@ -1,2 +1,4 @@
 pub mod SomeFrom
 pub mod CallSums
+pub mod NoPeers
+pub mod Verdicts

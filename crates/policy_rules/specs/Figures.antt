@@ -7,10 +7,9 @@ use Rattle.net_base.specs.Steps.{◌>>=◌, or_fault, unless}
 use Rattle.policy_tokens.specs.declared.fault.PolicyFault.{PolicyFault}
 use Rattle.policy_tokens.specs.declared.fault.PolicyFault.TheVariants.{PrefixBad}
 use Rattle.policy_grammar.specs.declared.lexeme.Lexeme.{Lexeme}
-use Rattle.policy_grammar.specs.declared.item.RawPattern.{RawPattern}
-use Rattle.policy_grammar.specs.declared.item.RawPattern.TheVariants.{All, Only, UpTo}
-use Rattle.policy_grammar.specs.declared.item.Item.{Item}
-use Rattle.policy_grammar.specs.declared.item.Item.TheVariants.{Define, Originate, State}
+use Rattle.policy_grammar.specs.Raw.{RawPattern, Item}
+use Rattle.policy_grammar.specs.Raw.RawPattern.{All, Only, UpTo}
+use Rattle.policy_grammar.specs.Raw.Item.{Define, Originate, State}
 use Rattle.policy_rules.specs.Checks.{text, each}
 
 abbrev pub or_bad : Lexeme → Result PlainPrefix PrefixFault → Result PlainPrefix PolicyFault

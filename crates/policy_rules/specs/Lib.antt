@@ -1,6 +1,7 @@
 pub mod Checks
 pub mod Counts
 pub mod Figures
+pub mod KeptNames
 pub mod KnownNames
 pub mod KnownView
 pub mod Origins

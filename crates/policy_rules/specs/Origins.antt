@@ -9,8 +9,8 @@ use Rattle.net_base.specs.Steps.{◌>>=◌, unless}
 use Rattle.policy_tokens.specs.declared.fault.PolicyFault.{PolicyFault}
 use Rattle.policy_tokens.specs.declared.fault.PolicyFault.TheVariants.{OriginPeer, OriginTwice}
 use Rattle.policy_grammar.specs.declared.lexeme.Lexeme.{Lexeme}
-use Rattle.policy_grammar.specs.declared.item.Item.{Item}
-use Rattle.policy_grammar.specs.declared.item.Item.TheVariants.{Define, Originate, State}
+use Rattle.policy_grammar.specs.Raw.{Item}
+use Rattle.policy_grammar.specs.Raw.Item.{Define, Originate, State}
 use Rattle.policy_rules.specs.KnownNames.{Names}
 use Rattle.policy_rules.specs.Checks.{set_at, each}
 use Rattle.policy_rules.specs.Figures.{prefix_at}

@@ -3,10 +3,9 @@ use Rattle.std.specs.Prelude.{List, [], ◌∷◌, Option, Some, None, Result, O
 use Rattle.net_base.specs.declared.place.Place.{Place}
 use Rattle.policy_tokens.specs.declared.fault.PolicyFault.{PolicyFault}
 use Rattle.policy_tokens.specs.declared.fault.PolicyFault.TheVariants.{RankUnder}
-use Rattle.policy_grammar.specs.declared.item.Step.{Step}
-use Rattle.policy_grammar.specs.declared.item.Step.TheVariants.{Call, Above, Or, And, Not}
-use Rattle.policy_grammar.specs.declared.item.Item.{Item}
-use Rattle.policy_grammar.specs.declared.item.Item.TheVariants.{Define, Originate, State}
+use Rattle.policy_grammar.specs.Raw.{Step, Item}
+use Rattle.policy_grammar.specs.Raw.Step.{Call, Above, Or, And, Not}
+use Rattle.policy_grammar.specs.Raw.Item.{Define, Originate, State}
 use Rattle.policy_rules.specs.declared.ranks.Mark.{Mark}
 
 -- the first of two places, of which the left one stands further ahead
@@ -58,7 +57,8 @@ marks_of ms (s ∷ ss) = marks_of (marks_behind s ms) ss
 abbrev pub broken_rank : List Step → Option Place
 broken_rank steps = (top (marks_of [] steps)).broken
 
-abbrev or_broken : Option Place → Result ⊤ PolicyFault
+-- the fault at this place, if there is one
+abbrev pub or_broken : Option Place → Result ⊤ PolicyFault
 or_broken (Some p) = Err (RankUnder p)
 or_broken None = Ok tt
 

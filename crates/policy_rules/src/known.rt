@@ -1,24 +1,33 @@
 //! The names that stand for locations.
-ghost use Rattle.std.specs.Prelude.{◌≡◌, ◌≤◌, ◌+◌, ◌++◌, ◌∷◌, [], None, Ok, IfOk, IfErr, IsTrue, not, false, length};
+ghost use Rattle.std.specs.Prelude.{◌≡◌, ◌≤◌, ◌<◌, ◌+◌, ◌++◌, ◌∷◌, [], None, Ok, IfOk, IfErr, IsTrue, not, false, length, slice_get};
 ghost use Rattle.std.specs.List.{list_any, position};
 ghost use Rattle.std.specs.Str.{bytes_eq};
-ghost use Rattle.net_base.specs.declared.limits.TheConstants.{LOCATIONS};
-ghost use Rattle.policy_rules.specs.KnownNames.{set_named, is_known as knows, with_name, with_new_name, with_sites, net_names, first_place as first_of_two, with_group};
-ghost use Rattle.policy_rules.specs.KnownView.{texts, plain_names};
+ghost use Rattle.net_base.specs.declared.limits.TheConstants.{DEFINITIONS, LOCATIONS};
+ghost use Rattle.net_base.specs.Network.{IsNet};
+ghost use Rattle.policy_rules.specs.KnownNames.{set_named, is_known as knows, with_new_name, with_sites, net_names, first_place as first_of_two};
+ghost use Rattle.policy_rules.specs.KeptNames.{texts, stand_in as stands_for, kept_set, with_set, with_kept_group};
 ghost use Rattle.policy_tokens.specs.Gives.{Gives};
 
+use crate::origins::has_peer;
 use indexmap::IndexSet;
+use net_base::limits::{DEFINITIONS, LOCATIONS};
 use net_base::{Loc, LocSet, Net, Place, Site};
 use policy_tokens::PolicyFault;
 use std::alloc::Global;
 
-/// The names that stand for locations, each with its set: those of the network, and the groups so far.
+/// The names that stand for locations, each with its set: those of the network, and the groups so far. Of more names than
+/// a policy may have, the later ones keep of their sets only whether there is a peer in them.
 #[derive(Drop)]
 pub struct Known<'a> {
+    net: &'a Net,
     names: IndexSet<&'a [u8]>,
+    /// The sets of the first names, which are as many as a policy may have.
     sets: Vec<LocSet>,
+    /// For each later name whether its set has a peer.
+    peers: Vec<bool>,
     /// Where the first name stands that was defined again.
     twice: Option<Place>,
+    ghost first: { length sets.items < LOCATIONS + DEFINITIONS → peers.items ≡ [] },
 }
 
 fn place_in(names: &IndexSet<&[u8]>, name: &[u8]) -> Option<usize>
@@ -50,13 +59,37 @@ fn first_place(earlier: Option<Place>, place: Place) -> Option<Place>
     }
 }
 
+// A set with a peer, or one with none.
+fn stand_in(net: &Net, peer: bool) -> LocSet
+    ensures { result ≡ stands_for net.now peer }
+{
+    if peer {
+        LocSet::new().with(Loc::new(net.routers().len() as u16))
+    } else {
+        LocSet::new()
+    }
+}
+
 impl<'a> Known<'a> {
+    ghost use Rattle.policy_rules.specs.KnownView.{plain_names};
+
+    // The set that is shown for the name at this place.
+    fn shown_at(&self, place: usize) -> Option<LocSet>
+        ensures { result ≡ slice_get (plain_names self.now).sets place }
+    {
+        if place < self.sets.len() {
+            return self.sets.get(place).copied();
+        }
+        let peer = self.peers.get(place - self.sets.len()).copied()?;
+        Some(stand_in(self.net, peer))
+    }
+
     /// The set that a name stands for.
     pub fn set_named(&self, name: &[u8]) -> Option<LocSet>
         ensures { result ≡ set_named (plain_names self.now) name.now }
     {
         let place = place_in(&self.names, name)?;
-        self.sets.get(place).copied()
+        self.shown_at(place)
     }
 
     /// Where the first name stands that was defined again.
@@ -66,21 +99,36 @@ impl<'a> Known<'a> {
         self.twice
     }
 
+    // The set of one name more: the set itself, as long as there are no more names than a policy may have.
+    fn keep(&mut self, set: LocSet) -> Result<(), PolicyFault>
+        ensures known { Gives (λ _. plain_names self.new) result (Ok (with_set (plain_names self.old) (kept_set self.old.net.now (plain_names self.old) set))) }
+        ensures net { self.new.net.now ≡ self.old.net.now }
+    {
+        if (self.sets.len() as u64) < LOCATIONS + DEFINITIONS {
+            self.sets.push(set)?;
+        } else {
+            self.peers.push(has_peer(self.net, &set))?;
+        }
+        Ok(())
+    }
+
     // One name more, unless it is there; says whether it is new.
     fn add(&mut self, name: &'a [u8], set: LocSet) -> Result<bool, PolicyFault>
-        ensures known { Gives (λ _. plain_names self.new) result (Ok (with_new_name (plain_names self.old) name.now set)) }
+        ensures known { Gives (λ _. plain_names self.new) result (Ok (with_new_name (plain_names self.old) name.now (kept_set self.old.net.now (plain_names self.old) set))) }
         ensures fresh { IfOk result (λ new. new ≡ not (knows (plain_names self.old) name.now)) }
+        ensures net { self.new.net.now ≡ self.old.net.now }
     {
         if !note(&mut self.names, name)? {
             return Ok(false);
         }
-        self.sets.push(set)?;
+        self.keep(set)?;
         Ok(true)
     }
 
     /// The name of a group that is defined at this place. One that is known keeps its set.
     pub fn define(&mut self, place: Place, name: &'a [u8], set: LocSet) -> Result<(), PolicyFault>
-        ensures { Gives (λ _. plain_names self.new) result (Ok (with_group (plain_names self.old) place name.now set)) }
+        ensures known { Gives (λ _. plain_names self.new) result (Ok (with_kept_group self.old.net.now (plain_names self.old) place name.now set)) }
+        ensures net { self.new.net.now ≡ self.old.net.now }
     {
         if !self.add(name, set)? {
             self.twice = first_place(self.twice, place);
@@ -90,8 +138,11 @@ impl<'a> Known<'a> {
 
     // The names of locations from `first` on.
     fn add_sites(&mut self, first: u16, sites: &'a [Site]) -> Result<(), PolicyFault>
-        requires { first + length sites.now ≤ LOCATIONS }
-        ensures { Gives (λ _. plain_names self.new) result (Ok (with_sites first sites.now (plain_names self.old))) }
+        requires few { length (plain_names self.old).sets ≤ first }
+        requires fit { first + length sites.now ≤ LOCATIONS }
+        ensures known { Gives (λ _. plain_names self.new) result (Ok (with_sites first sites.now (plain_names self.old))) }
+        ensures few { IfOk result (λ _. length (plain_names self.new).sets ≤ first + length sites.now) }
+        ensures net { self.new.net.now ≡ self.old.net.now }
     {
         let mut number = first;
         for site in sites {
@@ -104,11 +155,16 @@ impl<'a> Known<'a> {
 
     /// The names of a network.
     pub fn of(alloc: Global, net: &'a Net) -> Result<Known<'a>, PolicyFault>
-        ensures { Gives plain_names result (Ok (net_names net.now)) }
+        ensures known { Gives plain_names result (Ok (net_names net.now)) }
+        ensures few { IfOk result (λ _. length (net_names net.now).sets ≤ LOCATIONS) }
+        ensures net { IfOk result (λ known. known.net.now ≡ net.now) }
+        ensures rules { IsNet net.now }
     {
         let mut known = Known {
+            net,
             names: IndexSet::new(alloc),
             sets: Vec::new(alloc),
+            peers: Vec::new(alloc),
             twice: None,
         };
         let routers = net.routers();

@@ -1,4 +1,4 @@
-//! The rules that the items of a policy keep.
+//! The rules that the parts of a policy keep.
 #![tactic(auto)]
 
 mod checks;
@@ -8,9 +8,9 @@ mod known;
 mod origins;
 mod ranks;
 
-pub use checks::{learn_all, set_at, set_of};
-pub use counts::{all_calls_within, all_paths_within, items_within, within};
-pub use figures::{figures_fine, pattern_at, prefix_at};
+pub use checks::set_at;
+pub use counts::within;
+pub use figures::{all_prefixes, inside_at, only_at, prefix_at};
 pub use known::Known;
-pub use origins::{origins_fine, origins_once};
-pub use ranks::ranks_fine;
+pub use origins::has_peer;
+pub use ranks::{Mark, mark_above, mark_and, mark_call, mark_not, mark_or, ranks_fine};

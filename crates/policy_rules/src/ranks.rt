@@ -1,13 +1,11 @@
-//! Where ranks may stand.
-ghost use Rattle.std.specs.Prelude.{◌≡◌, ◌∷◌, [], reverse, OnOk, IfOk};
+//! Where ranks may stand: the marks of the expressions on a stack.
+ghost use Rattle.std.specs.Prelude.{◌≡◌, ◌∷◌, reverse, None, Ok};
 ghost use Rattle.policy_tokens.specs.Gives.{Gives};
-ghost use Rattle.policy_rules.specs.Checks.{each};
-ghost use Rattle.policy_rules.specs.Ranks.{earlier as first_of_two, top, under_top, above_mark, or_mark, and_mark, not_mark, marks_behind, marks_of, broken_rank as broken_there, ranks_fine as fine};
+ghost use Rattle.policy_rules.specs.Ranks.{earlier as first_of_two, top, under_top, marks_behind, or_broken};
+ghost use Rattle.policy_grammar.specs.Raw.{Step as step};
 
 use net_base::Place;
-use policy_grammar::{Item, KeptStep, Part};
 use policy_tokens::PolicyFault;
-use std::alloc::{AllocError, Global};
 
 /// What matters of an expression: where its first `>>` stands, and the first one that stands under an `or` or
 /// a `not` of the expression.
@@ -40,91 +38,95 @@ fn pop(marks: &mut Vec<Mark>) -> Mark
     }
 }
 
-fn push(marks: &mut Vec<Mark>, mark: Mark) -> Result<(), AllocError>
-    ensures { OnOk result (reverse marks.new.items ≡ mark ∷ reverse marks.old.items) }
+fn push(marks: &mut Vec<Mark>, mark: Mark) -> Result<(), PolicyFault>
+    ensures { Gives (λ _. reverse marks.new.items) result (Ok (mark ∷ reverse marks.old.items)) }
 {
     marks.push(mark)?;
     Ok(())
 }
 
-// Puts a step's mark onto the stack in the place of those of its sides.
-fn take_step(marks: &mut Vec<Mark>, step: &KeptStep) -> Result<(), AllocError>
-    ensures { OnOk result (reverse marks.new.items ≡ marks_behind step.now (reverse marks.old.items)) }
+/// The mark of a call whose first `>>` stands at this place.
+pub fn mark_call(marks: &mut Vec<Mark>, above: Option<Place>) -> Result<(), PolicyFault>
+    ensures { Gives (λ _. reverse marks.new.items) result (Ok (record { first = above; broken = None } ∷ reverse marks.old.items)) }
 {
-    let mark = match &step.part {
-        Part::Word(_) => Mark {
-            first: None,
+    push(
+        marks,
+        Mark {
+            first: above,
             broken: None,
         },
-        Part::Call(call) => Mark {
-            first: call.above,
-            broken: None,
+    )
+}
+
+/// The mark of `a >> b` in the place of those of its sides.
+pub fn mark_above(marks: &mut Vec<Mark>, place: Place) -> Result<(), PolicyFault>
+    ensures { Gives (λ _. reverse marks.new.items) result (Ok (marks_behind (step.Above place) (reverse marks.old.items))) }
+{
+    let b = pop(marks);
+    let a = pop(marks);
+    push(
+        marks,
+        Mark {
+            first: earlier(a.first, Some(place)),
+            broken: earlier(a.broken, b.broken),
         },
-        Part::Above(place) => {
-            let b = pop(marks);
-            let a = pop(marks);
-            Mark {
-                first: earlier(a.first, Some(*place)),
-                broken: earlier(a.broken, b.broken),
-            }
-        }
-        Part::Or => {
-            let b = pop(marks);
-            let a = pop(marks);
-            let first = earlier(a.first, b.first);
-            Mark {
-                first,
-                broken: first,
-            }
-        }
-        Part::And => {
-            let b = pop(marks);
-            let a = pop(marks);
-            Mark {
-                first: earlier(a.first, b.first),
-                broken: earlier(a.broken, b.broken),
-            }
-        }
-        Part::Not => {
-            let a = pop(marks);
-            Mark {
-                first: a.first,
-                broken: a.first,
-            }
-        }
-    };
-    push(marks, mark)
+    )
 }
 
-// Where the first `>>` stands that is under an `or` or a `not`.
-fn broken_rank(alloc: Global, steps: &[KeptStep]) -> Result<Option<Place>, AllocError>
-    ensures { IfOk result (λ p. p ≡ broken_there steps.now) }
+/// The mark of `a or b` in the place of those of its sides.
+pub fn mark_or(marks: &mut Vec<Mark>) -> Result<(), PolicyFault>
+    ensures { Gives (λ _. reverse marks.new.items) result (Ok (marks_behind step.Or (reverse marks.old.items))) }
 {
-    let mut marks = Vec::new(alloc);
-    for step in steps {
-        take_step(&mut marks, step)?;
-    }
-    Ok(pop(&mut marks).broken)
+    let b = pop(marks);
+    let a = pop(marks);
+    let first = earlier(a.first, b.first);
+    push(
+        marks,
+        Mark {
+            first,
+            broken: first,
+        },
+    )
 }
 
-fn is_rank_fine(alloc: Global, item: &Item) -> Result<(), PolicyFault>
-    ensures { Gives (λ _. tt) result (fine item.now) }
+/// The mark of `a and b` in the place of those of its sides.
+pub fn mark_and(marks: &mut Vec<Mark>) -> Result<(), PolicyFault>
+    ensures { Gives (λ _. reverse marks.new.items) result (Ok (marks_behind step.And (reverse marks.old.items))) }
 {
-    let Item::State(statement) = item else {
-        return Ok(());
-    };
-    match broken_rank(alloc, statement.ranked.as_slice())? {
-        Some(place) => Err(PolicyFault::RankUnder(place)),
+    let b = pop(marks);
+    let a = pop(marks);
+    push(
+        marks,
+        Mark {
+            first: earlier(a.first, b.first),
+            broken: earlier(a.broken, b.broken),
+        },
+    )
+}
+
+/// The mark of `not a` in the place of that of its side.
+pub fn mark_not(marks: &mut Vec<Mark>) -> Result<(), PolicyFault>
+    ensures { Gives (λ _. reverse marks.new.items) result (Ok (marks_behind step.Not (reverse marks.old.items))) }
+{
+    let a = pop(marks);
+    push(
+        marks,
+        Mark {
+            first: a.first,
+            broken: a.first,
+        },
+    )
+}
+
+/// Whether a `>>` stands under an `or` or a `not` in the expression on top of the stack, by its mark.
+pub fn ranks_fine(marks: &[Mark]) -> Result<(), PolicyFault>
+    ensures { result ≡ or_broken (top (reverse marks.now)).broken }
+{
+    match marks.last() {
+        Some(mark) => match mark.broken {
+            Some(place) => Err(PolicyFault::RankUnder(place)),
+            None => Ok(()),
+        },
         None => Ok(()),
     }
-}
-
-/// Tests that no `>>` stands under an `or` or a `not`.
-pub fn ranks_fine(alloc: Global, items: &[Item]) -> Result<(), PolicyFault>
-    ensures { Gives (λ _. tt) result (each fine items.now) }
-{
-    for item in items {
-        is_rank_fine(alloc, item)?;
-    }
-    Ok(())
 }

@@ -8,11 +8,9 @@ use Rattle.text_words.specs.Texts.{prefix_text}
 use Rattle.net_base.specs.Network.{PlainNet, sites, is_router}
 use Rattle.net_base.specs.Prefixes.{PlainPrefix, PlainPattern, IsPrefix, IsPattern, only}
 use Rattle.policy_grammar.specs.declared.lexeme.Lexeme.{Lexeme}
-use Rattle.policy_grammar.specs.declared.item.Arg.{Arg}
-use Rattle.policy_grammar.specs.declared.item.RawPattern.{RawPattern}
-use Rattle.policy_grammar.specs.declared.item.RawPattern.TheVariants.{All, Only, UpTo}
-use Rattle.policy_grammar.specs.declared.item.RawStatement.{RawStatement}
-use Rattle.policy_grammar.specs.declared.item.Item.TheVariants.{Originate, State}
+use Rattle.policy_grammar.specs.Raw.{Arg, RawPattern, RawStatement}
+use Rattle.policy_grammar.specs.Raw.RawPattern.{All, Only, UpTo}
+use Rattle.policy_grammar.specs.Raw.Item.{Originate, State}
 use Rattle.policy_rules.specs.KnownNames.{Names}
 use Rattle.policy_rules.specs.Checks.{text, each, learnt, arg_known}
 use Rattle.policy_rules.specs.Figures.{prefix_at, pattern_at, pattern_fine, figures_fine}
@@ -23,7 +21,7 @@ use Rattle.path_words.specs.declared.policy.FromSet.{FromSet}
 use Rattle.path_words.specs.declared.policy.FromSet.TheVariants as from_set
 use Rattle.path_words.specs.declared.policy.Origin.{Origin}
 use Rattle.path_words.specs.Policies.{PlainStatement}
-use Rattle.policy_parser.specs.Built.{patterns_of, from_of, statement_of, origin_of}
+use Rattle.policy_values.specs.Built.{patterns_of, from_of, statement_of, origin_of}
 use Rattle.policy_text.specs.PolicyText.{names_in, is_everything}
 use Rattle.policy_text.specs.Printable.{HoldsOnly, call_count}
 use Rattle.policy_text.proofs.Readings.{Pairs}

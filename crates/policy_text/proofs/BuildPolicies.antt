@@ -12,8 +12,8 @@ use Rattle.net_base.specs.Network.{PlainNet, sites}
 use Rattle.net_base.specs.Prefixes.{PlainPrefix, same_prefix}
 use Rattle.policy_tokens.specs.declared.fault.PolicyFault.{PolicyFault}
 use Rattle.policy_grammar.specs.declared.lexeme.Lexeme.{Lexeme}
-use Rattle.policy_grammar.specs.declared.item.Item.{Item}
-use Rattle.policy_grammar.specs.declared.item.Item.TheVariants.{Originate}
+use Rattle.policy_grammar.specs.Raw.{Item}
+use Rattle.policy_grammar.specs.Raw.Item.{Originate}
 use Rattle.policy_rules.specs.KnownNames.{Names}
 use Rattle.policy_rules.specs.Checks.{each, learnt, all_learnt}
 use Rattle.policy_rules.specs.Figures.{figures_fine, prefix_at}
@@ -23,7 +23,7 @@ use Rattle.policy_rules.specs.Counts.{amount, capped, within, items_within, call
 use Rattle.path_words.specs.declared.policy.Origin.{Origin}
 use Rattle.net_base.specs.SetOperations.{size_of}
 use Rattle.path_words.specs.Policies.{PlainStatement, PlainPolicy, IsPolicy}
-use Rattle.policy_parser.specs.Built.{statements_of, origins_of}
+use Rattle.policy_values.specs.Built.{statements_of, origins_of}
 use Rattle.policy_parser.specs.Spelled.{rules_kept, origins_spelled, policy_built}
 use Rattle.policy_parser.proofs.Steps.{same_prefix_equiv}
 use Rattle.policy_text.proofs.Readings.{Pairs}

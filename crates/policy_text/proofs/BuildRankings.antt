@@ -10,17 +10,15 @@ use Rattle.net_base.specs.declared.place.Place.{Place}
 use Rattle.net_base.specs.Network.{PlainNet, sites}
 use Rattle.net_base.proofs.StepLemmas.{bind_ok}
 use Rattle.policy_tokens.specs.declared.fault.PolicyFault.{PolicyFault}
-use Rattle.policy_grammar.specs.declared.item.CallWord.{CallWord}
-use Rattle.policy_grammar.specs.declared.item.RawCall.{RawCall}
-use Rattle.policy_grammar.specs.declared.item.Step.{Step}
-use Rattle.policy_grammar.specs.declared.item.Step.TheVariants as step
+use Rattle.policy_grammar.specs.declared.call_word.CallWord.{CallWord}
+use Rattle.policy_grammar.specs.Raw.{RawCall, Step, Step as step}
 use Rattle.policy_rules.specs.KnownNames.{Names}
 use Rattle.policy_rules.specs.Checks.{each, step_known}
 use Rattle.policy_rules.specs.Counts.{call_amount, places_within, word_places}
 use Rattle.path_words.specs.declared.clause.Clause.{Clause}
 use Rattle.path_words.specs.declared.clause.Clause.TheVariants.{Any, Drop, Internal, Avoid, Through, NoTransit, Start, End, Link, Path, Exit, Enter}
 use Rattle.path_words.specs.Policies.{Ranking, call, calls, prefer, either, both, negated}
-use Rattle.policy_parser.specs.Built.{one_clause, call_of, behind, all_behind, ranking_of_steps}
+use Rattle.policy_values.specs.Built.{one_clause, call_of, behind, all_behind, ranking_of_steps}
 use Rattle.policy_text.specs.Printable.{has_one_set, HasNoRank, call_count}
 use Rattle.policy_text.specs.Values.{clause_sets}
 use Rattle.policy_text.proofs.Readings.{Pairs}

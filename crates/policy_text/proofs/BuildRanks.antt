@@ -3,10 +3,8 @@ use Rattle.std.proofs.Common.{◌≡◌, ℕ, ◌≤◌, List, [], ◌∷◌, �
 use Rattle.std.specs.List.{IsDistinct}
 use Rattle.std.specs.Str.{bytes_eq}
 use Rattle.net_base.specs.Network.{PlainNet, sites}
-use Rattle.policy_grammar.specs.declared.item.RawStatement.{RawStatement}
-use Rattle.policy_grammar.specs.declared.item.Item.TheVariants.{State}
-use Rattle.policy_grammar.specs.declared.item.Step.{Step}
-use Rattle.policy_grammar.specs.declared.item.Step.TheVariants as step
+use Rattle.policy_grammar.specs.Raw.{RawStatement, Step, Step as step}
+use Rattle.policy_grammar.specs.Raw.Item.{State}
 use Rattle.policy_rules.specs.declared.ranks.Mark.{Mark}
 use Rattle.policy_rules.specs.Ranks.{top, above_mark, or_mark, and_mark, not_mark, marks_of, broken_rank, ranks_fine}
 use Rattle.path_words.specs.Policies.{Ranking, call, calls, prefer, either, both, negated}

@@ -10,13 +10,12 @@ use Rattle.net_base.specs.Sets.{holds, IsWords}
 use Rattle.net_base.specs.Network.{PlainNet, sites, is_location}
 use Rattle.net_base.proofs.StepLemmas.{bind_ok}
 use Rattle.policy_grammar.specs.declared.lexeme.Lexeme.{Lexeme}
-use Rattle.policy_grammar.specs.declared.item.Arg.{Arg}
-use Rattle.policy_grammar.specs.declared.item.Arg.TheVariants as arg
+use Rattle.policy_grammar.specs.Raw.{Arg, Arg as arg}
 use Rattle.net_base.specs.NetSets.{locations}
 use Rattle.net_base.specs.SetOperations.{no_location, union_of}
 use Rattle.policy_rules.specs.KnownNames.{Names}
 use Rattle.policy_rules.specs.Checks.{set_at, joined, set_of_names, each, name_known, arg_known}
-use Rattle.policy_parser.specs.Built.{set_of_arg, sets_of}
+use Rattle.policy_values.specs.Built.{set_of_arg, sets_of}
 use Rattle.policy_text.specs.PolicyText.{names_from, names_in, are_all}
 use Rattle.policy_text.specs.Printable.{HoldsOnly, HoldsSome}
 use Rattle.policy_text.proofs.Readings.{Pairs}

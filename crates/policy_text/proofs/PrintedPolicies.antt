@@ -8,7 +8,7 @@ use Rattle.net_base.specs.Prefixes.{IsPrefix, IsPattern}
 use Rattle.policy_tokens.specs.declared.token.Token.{Token}
 use Rattle.policy_tokens.specs.Places.{place_of}
 use Rattle.policy_tokens.specs.Tokens.{tokens_of}
-use Rattle.policy_grammar.specs.declared.item.Item.{Item}
+use Rattle.policy_grammar.specs.Raw.{Item}
 use Rattle.policy_grammar.specs.Lexemes.{lexemes_of}
 use Rattle.policy_grammar.specs.Deep.{first_deep}
 use Rattle.policy_grammar.specs.Items.{items_of}

@@ -6,10 +6,9 @@ use Rattle.net_base.specs.declared.loc.LocSet.{LocSet}
 use Rattle.net_base.specs.Network.{PlainNet}
 use Rattle.policy_grammar.specs.declared.lexeme.Lexeme.{Lexeme}
 use Rattle.policy_grammar.specs.declared.symbol.Symbol.TheVariants as symbol
-use Rattle.policy_grammar.specs.declared.item.Arg.{Arg}
-use Rattle.policy_grammar.specs.declared.item.CallWord.{CallWord}
-use Rattle.policy_grammar.specs.declared.item.CallWord.TheVariants as word
-use Rattle.policy_grammar.specs.declared.item.RawCall.{RawCall}
+use Rattle.policy_grammar.specs.Raw.{Arg, RawCall}
+use Rattle.policy_grammar.specs.declared.call_word.CallWord.{CallWord}
+use Rattle.policy_grammar.specs.declared.call_word.CallWord.TheVariants as word
 use Rattle.policy_grammar.specs.Reading.{Read}
 use Rattle.policy_grammar.specs.Calls.{set_at, one_at, above_at, sets_call, link_call, path_call, word_of, call_behind, call_at}
 use Rattle.path_words.specs.declared.clause.Clause.{Clause}

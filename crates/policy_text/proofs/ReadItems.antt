@@ -9,14 +9,9 @@ use Rattle.net_base.specs.Network.{PlainNet}
 use Rattle.net_base.specs.Prefixes.{PlainPattern}
 use Rattle.policy_grammar.specs.declared.lexeme.Lexeme.{Lexeme}
 use Rattle.policy_grammar.specs.declared.symbol.Symbol.TheVariants as symbol
-use Rattle.policy_grammar.specs.declared.item.Arg.{Arg}
-use Rattle.policy_grammar.specs.declared.item.Arg.TheVariants as arg
-use Rattle.policy_grammar.specs.declared.item.RawPattern.{RawPattern}
-use Rattle.policy_grammar.specs.declared.item.RawPattern.TheVariants.{All, Only, UpTo}
-use Rattle.policy_grammar.specs.declared.item.RawStatement.{RawStatement}
-use Rattle.policy_grammar.specs.declared.item.Item.{Item}
-use Rattle.policy_grammar.specs.declared.item.Item.TheVariants.{Originate, State}
-use Rattle.policy_grammar.specs.declared.item.Step.{Step}
+use Rattle.policy_grammar.specs.Raw.{Arg, Arg as arg, RawPattern, RawStatement, Item, Step}
+use Rattle.policy_grammar.specs.Raw.RawPattern.{All, Only, UpTo}
+use Rattle.policy_grammar.specs.Raw.Item.{Originate, State}
 use Rattle.policy_grammar.specs.Ranked.{ranked_with, inner_at}
 use Rattle.policy_grammar.specs.Reading.{first_of, after}
 use Rattle.policy_grammar.specs.Calls.{set_at}

@@ -5,8 +5,7 @@ use Rattle.std.specs.List.{AllByRecursion}
 use Rattle.net_base.specs.Network.{PlainNet}
 use Rattle.policy_grammar.specs.declared.lexeme.Lexeme.{Lexeme}
 use Rattle.policy_grammar.specs.declared.symbol.Symbol.TheVariants as symbol
-use Rattle.policy_grammar.specs.declared.item.Step.{Step}
-use Rattle.policy_grammar.specs.declared.item.Step.TheVariants as step
+use Rattle.policy_grammar.specs.Raw.{Step, Step as step}
 use Rattle.policy_grammar.specs.Symbols.{number_of}
 use Rattle.policy_grammar.specs.Ranked.{Reader, ranked_with, inner_at, atom_with, unit_with}
 use Rattle.path_words.specs.declared.clause.Clause.{Clause}

@@ -8,7 +8,7 @@ use Rattle.net_base.specs.Network.{PlainNet}
 use Rattle.net_base.specs.Prefixes.{PlainPattern}
 use Rattle.policy_grammar.specs.declared.lexeme.Lexeme.{Lexeme}
 use Rattle.policy_grammar.specs.declared.symbol.Symbol.TheVariants as symbol
-use Rattle.policy_grammar.specs.declared.item.Item.{Item}
+use Rattle.policy_grammar.specs.Raw.{Item}
 use Rattle.policy_grammar.specs.Reading.{past}
 use Rattle.policy_grammar.specs.Items.{item_at, items_from, items_of}
 use Rattle.path_words.specs.declared.policy.Origin.{Origin}

@@ -5,9 +5,7 @@ use Rattle.net_base.specs.Network.{PlainNet}
 use Rattle.net_base.specs.Steps.{◌>>=◌}
 use Rattle.policy_grammar.specs.declared.lexeme.Lexeme.{Lexeme}
 use Rattle.policy_grammar.specs.declared.symbol.Symbol.{Symbol}
-use Rattle.policy_grammar.specs.declared.item.RawCall.{RawCall}
-use Rattle.policy_grammar.specs.declared.item.Step.{Step}
-use Rattle.policy_grammar.specs.declared.item.Step.TheVariants as step
+use Rattle.policy_grammar.specs.Raw.{RawCall, Step, Step as step}
 use Rattle.policy_grammar.specs.Reading.{Read, chain}
 use Rattle.policy_grammar.specs.Ranked.{Reader, with_step}
 use Rattle.path_words.specs.Policies.{Ranking, call, calls, prefer, either as choice, both, negated}

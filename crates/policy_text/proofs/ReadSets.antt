@@ -5,8 +5,7 @@ use Rattle.std.specs.List.{AllByRecursion}
 use Rattle.net_base.specs.Network.{PlainNet}
 use Rattle.policy_grammar.specs.declared.lexeme.Lexeme.{Lexeme}
 use Rattle.policy_grammar.specs.declared.symbol.Symbol.TheVariants as symbol
-use Rattle.policy_grammar.specs.declared.item.Arg.{Arg}
-use Rattle.policy_grammar.specs.declared.item.Arg.TheVariants as arg
+use Rattle.policy_grammar.specs.Raw.{Arg, Arg as arg}
 use Rattle.policy_grammar.specs.Reading.{first_of}
 use Rattle.policy_grammar.specs.Names.{names_at, braced_at}
 use Rattle.policy_grammar.specs.Calls.{set_at, one_at}

@@ -7,14 +7,13 @@ use Rattle.net_base.specs.declared.place.Place.{Place}
 use Rattle.net_base.specs.Network.{PlainNet, IsNet}
 use Rattle.net_base.specs.NetSets.{locations}
 use Rattle.net_base.proofs.StepLemmas.{bind_ok}
-use Rattle.policy_grammar.specs.declared.item.Arg.{Arg}
-use Rattle.policy_grammar.specs.declared.item.Arg.TheVariants as arg
-use Rattle.policy_grammar.specs.declared.item.CallWord.{CallWord}
-use Rattle.policy_grammar.specs.declared.item.CallWord.TheVariants as word
+use Rattle.policy_grammar.specs.Raw.{Arg, Arg as arg}
+use Rattle.policy_grammar.specs.declared.call_word.CallWord.{CallWord}
+use Rattle.policy_grammar.specs.declared.call_word.CallWord.TheVariants as word
 use Rattle.policy_rules.specs.Counts.{word_places}
 use Rattle.policy_rules.specs.KnownNames.{Names}
 use Rattle.path_words.specs.Policies.{Ranking, call, calls, prefer, either, both, negated}
-use Rattle.policy_parser.specs.Built.{set_of_arg, sets_of, one_clause, ranked_sets, link_of, call_of}
+use Rattle.policy_values.specs.Built.{set_of_arg, sets_of, one_clause, ranked_sets, link_of, call_of}
 use Rattle.policy_text.specs.PolicyText.{has_sets, clause_word}
 use Rattle.policy_text.specs.Printable.{IsCallSet, HasCallSets, has_one_set, AreRanked, IsWritable, HasNoRank, call_count, open_brackets}
 use Rattle.policy_text.specs.Values.{IsLocSet, clause_sets, HasLocSets}

@@ -10,16 +10,14 @@ use Rattle.net_base.specs.Steps.{unless}
 use Rattle.net_base.proofs.StepLemmas.{bind_ok, unless_ok}
 use Rattle.policy_tokens.specs.declared.fault.PolicyFault.{PolicyFault}
 use Rattle.policy_tokens.specs.declared.fault.PolicyFault.TheVariants.{TooMany}
-use Rattle.policy_grammar.specs.declared.item.RawCall.{RawCall}
-use Rattle.policy_grammar.specs.declared.item.Step.{Step}
-use Rattle.policy_grammar.specs.declared.item.Step.TheVariants as step
+use Rattle.policy_grammar.specs.Raw.{RawCall, Step, Step as step}
 use Rattle.policy_rules.specs.declared.ranks.Mark.{Mark}
 use Rattle.policy_rules.specs.Checks.{each}
 use Rattle.policy_rules.specs.Counts.{call_amount, places_within, word_places}
 use Rattle.policy_rules.specs.KnownNames.{Names}
 use Rattle.policy_rules.specs.Ranks.{earlier, top as top_mark, above_mark, or_mark, and_mark, not_mark, marks_of}
 use Rattle.path_words.specs.Policies.{Ranking, call, calls, prefer, either, both, negated}
-use Rattle.policy_parser.specs.Built.{sets_of, call_of, top, behind, all_behind, ranking_of_steps}
+use Rattle.policy_values.specs.Built.{sets_of, call_of, top, behind, all_behind, ranking_of_steps}
 use Rattle.policy_text.specs.Printable.{IsWritable, HasNoRank, call_count, open_brackets}
 use Rattle.policy_text.specs.Values.{HasLocSets}
 use Rattle.printing_law.proofs.Forms.{Tree, steps_of, has_brackets, brackets_of, AllCalls, HasArgs, IsCallForm}

@@ -12,13 +12,8 @@ use Rattle.policy_tokens.specs.Tokens.{tokens_of}
 use Rattle.policy_grammar.specs.declared.lexeme.Lexeme.{Lexeme}
 use Rattle.policy_grammar.specs.declared.symbol.Symbol.{Symbol}
 use Rattle.policy_grammar.specs.declared.symbol.Symbol.TheVariants as symbol
-use Rattle.policy_grammar.specs.declared.item.Arg.{Arg}
-use Rattle.policy_grammar.specs.declared.item.CallWord.{CallWord}
-use Rattle.policy_grammar.specs.declared.item.RawCall.{RawCall}
-use Rattle.policy_grammar.specs.declared.item.RawPattern.{RawPattern}
-use Rattle.policy_grammar.specs.declared.item.Step.{Step}
-use Rattle.policy_grammar.specs.declared.item.Step.TheVariants as step
-use Rattle.policy_grammar.specs.declared.item.Item.{Item}
+use Rattle.policy_grammar.specs.Raw.{Arg, RawCall, RawPattern, Step, Step as step, Item}
+use Rattle.policy_grammar.specs.declared.call_word.CallWord.{CallWord}
 use Rattle.policy_grammar.specs.Deep.{open_behind, is_too_deep, first_deep}
 use Rattle.policy_grammar.specs.Items.{items_of}
 use Rattle.policy_grammar.specs.Lexemes.{lexemes_of, end_of}

@@ -11,12 +11,8 @@ use Rattle.net_base.proofs.StepLemmas.{bind_ok, unless_ok}
 use Rattle.policy_tokens.specs.declared.fault.PolicyFault.{PolicyFault}
 use Rattle.policy_tokens.specs.declared.fault.PolicyFault.TheVariants.{RankUnder, TooMany}
 use Rattle.policy_grammar.specs.declared.lexeme.Lexeme.{Lexeme}
-use Rattle.policy_grammar.specs.declared.item.Arg.{Arg}
-use Rattle.policy_grammar.specs.declared.item.Arg.TheVariants as arg
-use Rattle.policy_grammar.specs.declared.item.RawPattern.{RawPattern}
-use Rattle.policy_grammar.specs.declared.item.RawStatement.{RawStatement}
-use Rattle.policy_grammar.specs.declared.item.Item.{Item}
-use Rattle.policy_grammar.specs.declared.item.Item.TheVariants.{Define, Originate, State}
+use Rattle.policy_grammar.specs.Raw.{Arg, Arg as arg, RawPattern, RawStatement, Item}
+use Rattle.policy_grammar.specs.Raw.Item.{Define, Originate, State}
 use Rattle.policy_rules.specs.Checks.{set_of_names, each}
 use Rattle.policy_rules.specs.Counts.{capped, call_amount, calls_within, paths_within}
 use Rattle.policy_rules.specs.Figures.{prefix_at, pattern_at}
@@ -26,7 +22,7 @@ use Rattle.path_words.specs.declared.policy.FromSet.{FromSet}
 use Rattle.path_words.specs.declared.policy.FromSet.TheVariants as from_set
 use Rattle.path_words.specs.declared.policy.Origin.{Origin}
 use Rattle.path_words.specs.Policies.{PlainStatement}
-use Rattle.policy_parser.specs.Built.{patterns_of, ranking_of_steps, from_of, statement_of, statements_of, origin_of, origins_of}
+use Rattle.policy_values.specs.Built.{patterns_of, ranking_of_steps, from_of, statement_of, statements_of, origin_of, origins_of}
 use Rattle.policy_text.specs.Printable.{HoldsSome, IsWritableFrom, IsPrintableStatement}
 use Rattle.policy_text.specs.Values.{IsLocSet, HasSources, IsStatementValue}
 use Rattle.list_laws.proofs.Each.{AllByRecursion-push}

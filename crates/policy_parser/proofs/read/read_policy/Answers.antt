@@ -1,9 +1,20 @@
-use Rattle.policy_rules.specs.KnownView.{plain_names}
+use Rattle.std.proofs.lemmas.Result.{err_from_is_err_and}
 use Rattle.path_words.specs.Policies.{policy_of}
-use Rattle.policy_parser.proofs.DeepestPolicies.{read-IsAtMostDeep}
+use Rattle.policy_parser.proofs.TakenTexts.{unread}
+use Rattle.policy_parser.proofs.ToldFaults.{spelled-IsAtMostDeep}
 use Rattle.policy_parser.proofs.read.read_policy.Goals as goal
+
+pub returns-in_err-verdicts-clause-read : goal.returns-in_err-verdicts-clause-read
+returns-in_err-verdicts-clause-read c =
+    let p = err_from_is_err_and c.from_residual.result c.from_residual.ensures.1 in
+    rw (p.1, p.2) (λ memory. unread c.args.bytes.now c.args.net.now _ (c.in_err-verdicts.ensures memory))
+
+pub returns-clause-read : goal.returns-clause-read
+returns-clause-read c =
+    let read = c.in_ok-verdicts.ensures in
+    c.policy.ensures c.args.bytes.now c.args.net.now read.0 read.1 read.2
 
 pub returns-clause-depth : goal.returns-clause-depth
 returns-clause-depth c =
-    read-IsAtMostDeep policy_of c.args.bytes.now c.args.net.now (plain_names c.in_ok-known.known) c.in_ok-items.items.items c.build.result c.in_ok-items.ensures
-    (rw (c.deref-3.ensures.value) at c.build.ensures)
+    let read = c.in_ok-verdicts.ensures in
+    spelled-IsAtMostDeep policy_of c.args.bytes.now c.args.net.now c.policy.result (c.policy.ensures c.args.bytes.now c.args.net.now read.0 read.1 read.2)

@@ -1,0 +1,13 @@
+pub mod CallLaws
+pub mod Chains
+pub mod Depths
+pub mod JoinedSets
+pub mod KnownCalls
+pub mod LevelLaws
+pub mod LexemeCounts
+pub mod PartLaws
+pub mod PathSets
+pub mod PatternsBehind
+pub mod ReadsOver
+pub mod SetLists
+pub mod Sides

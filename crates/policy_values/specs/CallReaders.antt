@@ -1,0 +1,124 @@
+-- Calls that are read straight to what they come to, part by part.
+use Rattle.std.specs.Prelude.{ℕ, ◌+◌, nat_le, List, [], ◌∷◌, ◌++◌, length, Option, None, Result, Ok, if◌then◌else◌}
+use Rattle.net_base.specs.declared.limits.TheConstants.{PLACES}
+use Rattle.net_base.specs.declared.loc.LocSet.{LocSet}
+use Rattle.net_base.specs.declared.place.Kind.TheVariants as kind
+use Rattle.net_base.specs.declared.place.Place.{Place}
+use Rattle.net_base.specs.Network.{PlainNet}
+use Rattle.net_base.specs.Steps.{◌>>=◌}
+use Rattle.path_words.specs.declared.clause.Clause.{Clause}
+use Rattle.path_words.specs.declared.clause.Clause.TheVariants.{Any, Drop, Internal, Link, Path}
+use Rattle.path_words.specs.Policies.{Ranking, call, calls}
+use Rattle.policy_tokens.specs.declared.fault.PolicyFault.{PolicyFault}
+use Rattle.policy_grammar.specs.declared.lexeme.Lexeme.{Lexeme}
+use Rattle.policy_grammar.specs.declared.symbol.Symbol.TheVariants as symbol
+use Rattle.policy_grammar.specs.declared.call_word.CallWord.{CallWord}
+use Rattle.policy_grammar.specs.declared.call_word.CallWord.TheVariants as word
+use Rattle.policy_grammar.specs.Reading.{Read, after, chain}
+use Rattle.policy_grammar.specs.Calls.{set_at, one_at, above_at}
+use Rattle.policy_rules.specs.KnownNames.{Names}
+use Rattle.policy_rules.specs.Counts.{within}
+use Rattle.policy_values.specs.declared.path_calls.PathPlaces.{PathPlaces}
+use Rattle.policy_values.specs.Built.{set_of_arg, one_clause}
+use Rattle.policy_values.specs.CallValues.{CallValue}
+use Rattle.policy_values.specs.Reads.{over}
+
+-- the clauses of the sets so far, with that of one set more: the first unknown name stays
+abbrev pub with_clause : CallWord → Result (List Clause) PolicyFault → Result LocSet PolicyFault → Result (List Clause) PolicyFault
+with_clause w clauses set = do
+  cs ← clauses
+  s ← set
+  Ok (cs ++ one_clause w s ∷ [])
+
+-- a call with ranked sets, by the clauses of its sets: one clause is that call
+abbrev pub of_clauses : List Clause → Ranking
+of_clauses (c ∷ []) = call c
+of_clauses cs = calls cs
+
+-- a call without places, with this value
+abbrev pub placeless : Option Place → Result Ranking PolicyFault → CallValue
+placeless above value = record { above = above; places = Ok tt; value = value }
+
+-- a `link` of two sets
+abbrev pub linked : Result LocSet PolicyFault → Result LocSet PolicyFault → Result Ranking PolicyFault
+linked a b = do
+  x ← a
+  y ← b
+  Ok (call (Link x y))
+
+-- no place was read so far
+abbrev pub no_places : PathPlaces
+no_places = record { count = 0; sets = Ok [] }
+
+-- the sets of so many places that were read before, with that of one place more, if a `path` may have it
+abbrev pub kept_within : ℕ → ℕ → Result (List LocSet) PolicyFault → Result LocSet PolicyFault → Result (List LocSet) PolicyFault
+kept_within most n sets set = do
+  ss ← sets
+  s ← set
+  Ok (if nat_le most n then ss else ss ++ s ∷ [])
+
+abbrev pub with_place : PathPlaces → Result LocSet PolicyFault → PathPlaces
+with_place so_far set = record { count = so_far.count + 1; sets = kept_within PLACES so_far.count so_far.sets set }
+
+-- the value of a `path` with so many places
+abbrev pub path_ranking : ℕ → List LocSet → Ranking
+path_ranking n sets = if nat_le n PLACES then call (Path sets) else call Drop
+
+abbrev pub path_value : PathPlaces → CallValue
+path_value p = record { above = None; places = within kind.Places PLACES p.count; value = p.sets >>= λ sets. Ok (path_ranking p.count sets) }
+
+module _ (bytes : List ℕ) (net : PlainNet) (known : Names) where
+  abbrev pub clause_link : CallWord → Lexeme → Result (List Clause) PolicyFault → List Lexeme → Read (Result (List Clause) PolicyFault)
+  clause_link w joint clauses ls = do
+    x ← over (set_of_arg bytes net known) (set_at ls)
+    Ok (with_clause w clauses x.0, x.1)
+
+  abbrev pub place_link : Lexeme → PathPlaces → List Lexeme → Read PathPlaces
+  place_link joint places ls = do
+    x ← over (set_of_arg bytes net known) (one_at ls)
+    Ok (with_place places x.0, x.1)
+
+  -- "(" set { ">>" set } ")"
+  unfoldable pub sets_read : CallWord → List Lexeme → Read CallValue
+  sets_read w ls = do
+    inside ← after symbol.RoundOpen ls
+    x ← over (set_of_arg bytes net known) (set_at inside)
+    clauses ← chain symbol.Above (clause_link w) (length x.1) (with_clause w (Ok []) x.0) x.1
+    rest ← after symbol.RoundClose clauses.1
+    Ok (placeless (above_at x.1) (clauses.0 >>= λ cs. Ok (of_clauses cs)), rest)
+
+  -- "(" one "," one ")"
+  unfoldable pub link_read : List Lexeme → Read CallValue
+  link_read ls = do
+    inside ← after symbol.RoundOpen ls
+    a ← over (set_of_arg bytes net known) (one_at inside)
+    second ← after symbol.Comma a.1
+    b ← over (set_of_arg bytes net known) (one_at second)
+    rest ← after symbol.RoundClose b.1
+    Ok (placeless None (linked a.0 b.0), rest)
+
+  -- "(" one "," one { "," one } ")"
+  unfoldable pub path_read : List Lexeme → Read CallValue
+  path_read ls = do
+    inside ← after symbol.RoundOpen ls
+    a ← over (set_of_arg bytes net known) (one_at inside)
+    second ← after symbol.Comma a.1
+    b ← over (set_of_arg bytes net known) (one_at second)
+    places ← chain symbol.Comma place_link (length b.1) (with_place (with_place no_places a.0) b.0) b.1
+    rest ← after symbol.RoundClose places.1
+    Ok (path_value places.0, rest)
+
+  -- what stands behind the word of a call
+  abbrev pub behind_read : CallWord → List Lexeme → Read CallValue
+  behind_read word.Any ls = Ok (placeless None (Ok (call Any)), ls)
+  behind_read word.Drop ls = Ok (placeless None (Ok (call Drop)), ls)
+  behind_read word.Internal ls = Ok (placeless None (Ok (call Internal)), ls)
+  behind_read word.Link ls = link_read ls
+  behind_read word.Path ls = path_read ls
+  behind_read word.Avoid ls = sets_read word.Avoid ls
+  behind_read word.Through ls = sets_read word.Through ls
+  behind_read word.NoTransit ls = sets_read word.NoTransit ls
+  behind_read word.Start ls = sets_read word.Start ls
+  behind_read word.End ls = sets_read word.End ls
+  behind_read word.Exit ls = sets_read word.Exit ls
+  behind_read word.Enter ls = sets_read word.Enter ls

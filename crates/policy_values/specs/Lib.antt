@@ -1,0 +1,10 @@
+pub mod Built
+pub mod CallReaders
+pub mod CallValues
+pub mod Levels
+pub mod NameSets
+pub mod OriginNames
+pub mod Parts
+pub mod PatternValues
+pub mod Reads
+pub mod Views

@@ -1,0 +1,200 @@
+//! What the parts of an expression come to.
+ghost use Rattle.std.specs.Prelude.{◌≡◌, ◌∷◌, Ok};
+ghost use Rattle.policy_tokens.specs.Gives.{Gives};
+ghost use Rattle.policy_grammar.specs.Raw.{Step as step};
+ghost use Rattle.path_words.specs.Policies.{ranking_of, prefer, either, both};
+ghost use Rattle.policy_rules.specs.Ranks.{top as top_mark, or_broken};
+ghost use Rattle.policy_values.specs.Built.{top, under_top};
+ghost use Rattle.policy_values.specs.Views.{rankings};
+ghost use Rattle.policy_values.specs.CallValues.{plain_call, plain_value};
+ghost use Rattle.policy_values.specs.Parts.{parts_value, no_parts, first_fault, names_of as names_in, is_kept as are_kept, settled, call_onto, sides_onto, not_onto};
+
+use crate::call_values::CallRead;
+use net_base::Place;
+use net_base::limits::CALLS;
+use path_words::{Clause, FromSet, Ranked};
+use policy_rules::{Mark, mark_above, mark_and, mark_call, mark_not, mark_or, ranks_fine};
+use policy_tokens::PolicyFault;
+use std::alloc::Global;
+
+/// What the parts of an expression come to that were read so far.
+#[derive(Drop)]
+pub struct Parts {
+    /// The first name that is unknown.
+    pub names: Result<(), PolicyFault>,
+    /// How many calls there are, kept at the greatest number.
+    pub calls: u64,
+    /// The first `path` with too many places.
+    pub places: Result<(), PolicyFault>,
+    /// The marks of the expressions on the stack, the last one on top.
+    pub marks: Vec<Mark>,
+    /// The expressions on the stack, the last one on top; none once a rule is broken.
+    pub stack: Vec<Ranked>,
+}
+
+// A verdict behind another one: the first fault stays.
+fn behind(
+    first: Result<(), PolicyFault>,
+    second: Result<(), PolicyFault>,
+) -> Result<(), PolicyFault>
+    ensures { result ≡ first_fault first second }
+{
+    match first {
+        Ok(()) => second,
+        Err(fault) => Err(fault),
+    }
+}
+
+// Whether the names of a call are known.
+fn known(value: &Result<Ranked, PolicyFault>) -> Result<(), PolicyFault>
+    ensures { result ≡ names_in (plain_value value.now) }
+{
+    match value {
+        Ok(_) => Ok(()),
+        Err(fault) => Err(*fault),
+    }
+}
+
+// The expression on top of the stack, which leaves it.
+fn pop(stack: &mut Vec<Ranked>) -> Ranked
+    ensures value { ranking_of result ≡ top (rankings stack.old.items) }
+    ensures rest { rankings stack.new.items ≡ under_top (rankings stack.old.items) }
+{
+    match stack.pop() {
+        Some(ranked) => ranked,
+        None => Ranked::Call(Clause::Drop),
+    }
+}
+
+fn push(stack: &mut Vec<Ranked>, ranked: Ranked) -> Result<(), PolicyFault>
+    ensures { Gives (λ _. rankings stack.new.items) result (Ok (ranking_of ranked ∷ rankings stack.old.items)) }
+{
+    stack.push(ranked)?;
+    Ok(())
+}
+
+impl Parts {
+    /// No part.
+    pub(crate) fn of(alloc: Global) -> Parts
+        ensures { parts_value result ≡ no_parts }
+    {
+        Parts {
+            names: Ok(()),
+            calls: 0,
+            places: Ok(()),
+            marks: Vec::new(alloc),
+            stack: Vec::new(alloc),
+        }
+    }
+
+    // Whether no rule is broken that forbids to keep the expressions.
+    fn is_kept(&self) -> bool
+        ensures { result ≡ are_kept (parts_value self.now) }
+    {
+        self.names.is_ok() && self.places.is_ok() && self.calls <= CALLS
+    }
+
+    // Whether the expressions are kept. Once a rule is broken they go.
+    fn settle(&mut self) -> bool
+        ensures kept { result ≡ are_kept (parts_value self.old) }
+        ensures settled { parts_value self.new ≡ settled (parts_value self.old) }
+    {
+        let kept = self.is_kept();
+        if !kept {
+            self.stack.clear();
+        }
+        kept
+    }
+
+    /// One call more.
+    pub(crate) fn take_call(&mut self, call: CallRead) -> Result<(), PolicyFault>
+        ensures { Gives (λ _. parts_value self.new) result (Ok (call_onto (plain_call call) (parts_value self.old))) }
+    {
+        self.calls = self.calls.saturating_add(1);
+        self.places = behind(self.places, call.places);
+        self.names = behind(self.names, known(&call.value));
+        mark_call(&mut self.marks, call.above)?;
+        if self.settle()
+            && let Ok(ranked) = call.value
+        {
+            push(&mut self.stack, ranked)?;
+        }
+        Ok(())
+    }
+
+    /// `a >> b` of the two on top; the `>>` stands at this place.
+    pub(crate) fn take_above(&mut self, alloc: Global, place: Place) -> Result<(), PolicyFault>
+        ensures { Gives (λ _. parts_value self.new) result (Ok (sides_onto (step.Above place) prefer (parts_value self.old))) }
+    {
+        mark_above(&mut self.marks, place)?;
+        if !self.settle() {
+            return Ok(());
+        }
+        let b = Box::new(alloc, pop(&mut self.stack))?;
+        let a = Box::new(alloc, pop(&mut self.stack))?;
+        push(&mut self.stack, Ranked::Prefer(a, b))
+    }
+
+    /// `a or b` of the two on top.
+    pub(crate) fn take_or(&mut self, alloc: Global) -> Result<(), PolicyFault>
+        ensures { Gives (λ _. parts_value self.new) result (Ok (sides_onto step.Or either (parts_value self.old))) }
+    {
+        mark_or(&mut self.marks)?;
+        if !self.settle() {
+            return Ok(());
+        }
+        let b = Box::new(alloc, pop(&mut self.stack))?;
+        let a = Box::new(alloc, pop(&mut self.stack))?;
+        push(&mut self.stack, Ranked::Or(a, b))
+    }
+
+    /// `a and b` of the two on top.
+    pub(crate) fn take_and(&mut self, alloc: Global) -> Result<(), PolicyFault>
+        ensures { Gives (λ _. parts_value self.new) result (Ok (sides_onto step.And both (parts_value self.old))) }
+    {
+        mark_and(&mut self.marks)?;
+        if !self.settle() {
+            return Ok(());
+        }
+        let b = Box::new(alloc, pop(&mut self.stack))?;
+        let a = Box::new(alloc, pop(&mut self.stack))?;
+        push(&mut self.stack, Ranked::And(a, b))
+    }
+
+    /// `not a` of the one on top.
+    pub(crate) fn take_not(&mut self, alloc: Global) -> Result<(), PolicyFault>
+        ensures { Gives (λ _. parts_value self.new) result (Ok (not_onto (parts_value self.old))) }
+    {
+        mark_not(&mut self.marks)?;
+        if !self.settle() {
+            return Ok(());
+        }
+        let a = Box::new(alloc, pop(&mut self.stack))?;
+        push(&mut self.stack, Ranked::Not(a))
+    }
+
+    /// The first unknown name of the expression, or else that of a value behind it.
+    pub fn names_and(&self, from: &Result<FromSet, PolicyFault>) -> Result<(), PolicyFault>
+        ensures { result ≡ first_fault (parts_value self.now).names (names_in from.now) }
+    {
+        self.names?;
+        match from {
+            Ok(_) => Ok(()),
+            Err(fault) => Err(*fault),
+        }
+    }
+
+    /// Whether a `>>` stands under an `or` or a `not` of the expression.
+    pub fn ranks(&self) -> Result<(), PolicyFault>
+        ensures { result ≡ or_broken (top_mark (parts_value self.now).marks).broken }
+    {
+        ranks_fine(&self.marks)
+    }
+
+    /// The expression, which leaves the stack.
+    pub fn ranked(&mut self) -> Ranked
+        ensures { ranking_of result ≡ top (parts_value self.old).stack }
+    {
+        pop(&mut self.stack)
+    }
+}

@@ -1,0 +1,176 @@
+//! Calls with places, place by place.
+ghost use Rattle.std.specs.Prelude.{◌≡◌, ◌≤◌, ◌<◌, ◌+◌, length, Ok};
+ghost use Rattle.net_base.specs.declared.limits.TheConstants.{PLACES};
+ghost use Rattle.net_base.specs.declared.place.Kind.TheVariants as kind;
+ghost use Rattle.policy_tokens.specs.Gives.{Gives};
+ghost use Rattle.path_words.specs.Policies.{ranking_of};
+ghost use Rattle.policy_grammar.specs.Left.{left, StandsIn};
+ghost use Rattle.policy_grammar.specs.Reading.{chain};
+ghost use Rattle.policy_rules.specs.KnownView.{plain_names};
+ghost use Rattle.policy_values.specs.CallValues.{plain_value, plain_call};
+ghost use Rattle.policy_values.specs.CallReaders.{linked as link_of_two, kept_within, with_place as places_with, path_ranking, path_value, place_link, link_read, path_read};
+
+use crate::call_values::CallRead;
+use crate::name_sets::one;
+use crate::whole::Whole;
+use net_base::limits::PLACES;
+use net_base::{Kind, List, LocSet};
+use path_words::{Clause, Ranked};
+use policy_grammar::{Lexeme, Symbol, passed, past};
+use policy_rules::{Known, within};
+use policy_tokens::PolicyFault;
+use std::alloc::Global;
+
+/// The places of a `path` that were read so far.
+#[derive(Drop)]
+pub(crate) struct PathPlaces {
+    /// How many there are.
+    pub count: u64,
+    /// Their sets, of which no more are kept than a `path` may have, or the first unknown name.
+    pub sets: Result<List<LocSet>, PolicyFault>,
+}
+
+// A `link` of two sets.
+fn linked(
+    a: Result<LocSet, PolicyFault>,
+    b: Result<LocSet, PolicyFault>,
+) -> Result<Ranked, PolicyFault>
+    ensures { plain_value result ≡ link_of_two a b }
+{
+    Ok(Ranked::Call(Clause::Link(a?, b?)))
+}
+
+/// The two places of a `link`.
+#[tactic(auto, unfolding(crate::specs::CallReaders::link_read))]
+pub(crate) fn link_call(
+    text: &[u8],
+    whole: &Whole<'_>,
+    known: &Known<'_>,
+    at: &mut Lexeme,
+) -> Result<CallRead, PolicyFault>
+    requires stands { StandsIn text.now at.old }
+    ensures read { Gives (λ x. (plain_call x, left text.now at.new)) result (link_read text.now whole.now.net.now (plain_names known.now) (left text.now at.old)) }
+    ensures stands { StandsIn text.now at.new }
+    ensures fewer { length (left text.now at.new) ≤ length (left text.now at.old) }
+{
+    passed(Symbol::RoundOpen, text, at)?;
+    let a = one(text, whole, known, at)?;
+    passed(Symbol::Comma, text, at)?;
+    let b = one(text, whole, known, at)?;
+    passed(Symbol::RoundClose, text, at)?;
+    Ok(CallRead {
+        above: None,
+        places: Ok(()),
+        value: linked(a, b),
+    })
+}
+
+// The sets of so many places that were read before, with that of one place more, if a `path` may have it.
+fn kept(
+    count: u64,
+    sets: Result<List<LocSet>, PolicyFault>,
+    set: Result<LocSet, PolicyFault>,
+) -> Result<Result<List<LocSet>, PolicyFault>, PolicyFault>
+    ensures { Gives (λ x. x) result (Ok (kept_within PLACES count sets set)) }
+{
+    match (sets, set) {
+        (Ok(mut found), Ok(set)) => {
+            if count < PLACES {
+                found.push(set)?;
+            }
+            Ok(Ok(found))
+        }
+        (Err(fault), _) | (Ok(_), Err(fault)) => Ok(Err(fault)),
+    }
+}
+
+// One place more.
+fn with_place(
+    places: PathPlaces,
+    set: Result<LocSet, PolicyFault>,
+) -> Result<PathPlaces, PolicyFault>
+    requires { places.count < 18446744073709551615 }
+    ensures { Gives (λ x. x) result (Ok (places_with places set)) }
+{
+    Ok(PathPlaces {
+        count: places.count + 1,
+        sets: kept(places.count, places.sets, set)?,
+    })
+}
+
+// More places, as long as a comma comes.
+fn more_places(
+    places: PathPlaces,
+    text: &[u8],
+    whole: &Whole<'_>,
+    known: &Known<'_>,
+    at: &mut Lexeme,
+) -> Result<PathPlaces, PolicyFault>
+    requires stands { StandsIn text.now at.old }
+    requires room { places.count + length (left text.now at.old) ≤ 18446744073709551615 }
+    ensures read { Gives (λ x. (x, left text.now at.new)) result (chain Symbol.Comma (place_link text.now whole.now.net.now (plain_names known.now)) (length (left text.now at.old)) places (left text.now at.old)) }
+    ensures stands { StandsIn text.now at.new }
+    ensures fewer { length (left text.now at.new) ≤ length (left text.now at.old) }
+{
+    let mut found = places;
+    while past(Symbol::Comma, text, at) {
+        let set = one(text, whole, known, at)?;
+        found = with_place(found, set)?;
+    }
+    Ok(found)
+}
+
+// The value of a `path` with so many places.
+fn ranked(count: u64, sets: List<LocSet>) -> Ranked
+    ensures { ranking_of result ≡ path_ranking count sets }
+{
+    if count > PLACES {
+        Ranked::Call(Clause::Drop)
+    } else {
+        Ranked::Call(Clause::Path(sets))
+    }
+}
+
+// The `path` with these places.
+fn of_places(places: PathPlaces) -> CallRead
+    ensures { plain_call result ≡ path_value places }
+{
+    let PathPlaces { count, sets } = places;
+    let value = match sets {
+        Ok(sets) => Ok(ranked(count, sets)),
+        Err(fault) => Err(fault),
+    };
+    CallRead {
+        above: None,
+        places: within(Kind::Places, PLACES, count),
+        value,
+    }
+}
+
+/// The places of a `path`, two at least.
+#[tactic(auto, unfolding(crate::specs::CallReaders::path_read))]
+pub(crate) fn path_call(
+    alloc: Global,
+    text: &[u8],
+    whole: &Whole<'_>,
+    known: &Known<'_>,
+    at: &mut Lexeme,
+) -> Result<CallRead, PolicyFault>
+    requires stands { StandsIn text.now at.old }
+    ensures read { Gives (λ x. (plain_call x, left text.now at.new)) result (path_read text.now whole.now.net.now (plain_names known.now) (left text.now at.old)) }
+    ensures stands { StandsIn text.now at.new }
+    ensures fewer { length (left text.now at.new) ≤ length (left text.now at.old) }
+{
+    passed(Symbol::RoundOpen, text, at)?;
+    let a = one(text, whole, known, at)?;
+    passed(Symbol::Comma, text, at)?;
+    let b = one(text, whole, known, at)?;
+    let none = PathPlaces {
+        count: 0,
+        sets: Ok(List::new(alloc)),
+    };
+    let two = with_place(with_place(none, a)?, b)?;
+    let places = more_places(two, text, whole, known, at)?;
+    passed(Symbol::RoundClose, text, at)?;
+    Ok(of_places(places))
+}
