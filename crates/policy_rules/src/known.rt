@@ -107,7 +107,8 @@ impl<'a> Known<'a> {
         if (self.sets.len() as u64) < LOCATIONS + DEFINITIONS {
             self.sets.push(set)?;
         } else {
-            self.peers.push(has_peer(self.net, &set))?;
+            let peer = has_peer(self.net, &self.net.peer_set(), &set);
+            self.peers.push(peer)?;
         }
         Ok(())
     }

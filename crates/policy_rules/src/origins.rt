@@ -1,6 +1,7 @@
 //! Which routers originate which prefixes.
 ghost use Rattle.std.specs.Prelude.{◌≡◌, ◌≤◌, ◌+◌};
 ghost use Rattle.net_base.specs.declared.limits.TheConstants.{LOCATIONS};
+ghost use Rattle.net_base.specs.NetSets.{peers as all_peers};
 ghost use Rattle.policy_rules.specs.Origins.{has_some as some_from, has_peer as peer_in};
 
 use net_base::{Loc, LocSet, Net};
@@ -18,15 +19,16 @@ fn has_some(set: &LocSet, first: u16, count: u16) -> bool
     false
 }
 
-/// Whether a set of locations of a network has a peer.
-pub fn has_peer(net: &Net, set: &LocSet) -> bool
+/// Whether a set of locations of a network, which has these peers, has a peer.
+pub fn has_peer(net: &Net, peers: &LocSet, set: &LocSet) -> bool
+    requires { peers.now ≡ all_peers net.now }
     ensures { result ≡ peer_in net.now set.now }
 {
-    let routers = net.routers().len() as u16;
-    let peers = net.peers().len() as u16;
+    let first = net.routers().len() as u16;
+    let count = net.peers().len() as u16;
     // Most sets have none, which is seen from their words at once.
-    if set.common(&net.peer_set()).is_empty() {
+    if set.common(peers).is_empty() {
         return false;
     }
-    has_some(set, routers, peers)
+    has_some(set, first, count)
 }

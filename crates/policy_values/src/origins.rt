@@ -11,7 +11,7 @@ ghost use Rattle.policy_values.specs.Reads.{over};
 
 use crate::name_sets::with_named;
 use crate::whole::Whole;
-use net_base::{LocSet, Net};
+use net_base::LocSet;
 use policy_grammar::{Lexeme, Symbol, first, past};
 use policy_rules::{Known, has_peer, set_at};
 use policy_tokens::PolicyFault;
@@ -28,16 +28,16 @@ pub struct OriginNames {
 // Tests that the names so far and this one stand for routers alone.
 fn routers_alone(
     text: &[u8],
-    net: &Net,
+    whole: &Whole<'_>,
     known: &Known<'_>,
     so_far: Result<(), PolicyFault>,
     name: &Lexeme,
 ) -> Result<(), PolicyFault>
-    ensures { result ≡ with_alone text.now net.now (plain_names known.now) so_far name.now }
+    ensures { result ≡ with_alone text.now whole.now.net.now (plain_names known.now) so_far name.now }
 {
     so_far?;
     let set = set_at(text, known, name)?;
-    if has_peer(net, &set) {
+    if has_peer(whole.net, &whole.peers, &set) {
         return Err(PolicyFault::OriginPeer(name.place));
     }
     Ok(())
@@ -55,7 +55,7 @@ fn with_origin(
 {
     OriginNames {
         at: with_named(text, known, so_far.at, name),
-        routers: routers_alone(text, whole.net, known, so_far.routers, name),
+        routers: routers_alone(text, whole, known, so_far.routers, name),
     }
 }
 
