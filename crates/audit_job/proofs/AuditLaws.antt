@@ -1,7 +1,7 @@
 -- The job that audits.
 use Rattle.std.proofs.Common.{◌≡◌, ◌≢◌, ℕ, List, [], ◌∷◌, ◌++◌, Option, Some, None, refl, sym, ap, subst, ◌∙◌}
 use Rattle.net_base.specs.Network.{PlainNet, IsNet}
-use Rattle.path_words.specs.Policies.{IsPolicyOf, PlainPolicy}
+use Rattle.policy_base.specs.Policies.{IsPolicyOf, PlainPolicy}
 use Rattle.config_base.specs.Configs.{PlainConfig}
 use Rattle.evidence_base.specs.Made.{PlainCaseEvidence}
 use Rattle.evidence_rules.specs.declared.verdict.Verdict.{Verdict}
@@ -10,10 +10,10 @@ use Rattle.evidence_rules.proofs.OneVerdict.{one_verdict}
 use Rattle.outcome_base.specs.Outcomes.{Outcome}
 use Rattle.report_lines.proofs.Texts.{one_report}
 use Rattle.report_lines.specs.Report.{shown_of}
-use Rattle.scenario_text.specs.Spelled.{spelled as scenario_spelled_by}
+use Rattle.scenario_reader.specs.Spelled.{spelled as scenario_spelled_by}
 use Rattle.stable_paths.specs.declared.scenario.Scenario.{Scenario}
 use Rattle.stable_paths.specs.Scenarios.{failures_of}
-use Rattle.table_text.specs.Spelled.{spelled as tables_spelled_by}
+use Rattle.table_reader.specs.Spelled.{spelled as tables_spelled_by}
 use Rattle.audit_law.specs.declared.verdict.AuditVerdict.{AuditVerdict}
 use Rattle.audit_law.proofs.Telling.{verdicts_are_one}
 use Rattle.run_base.specs.declared.outcome.Status.TheVariants.{BadInput}
@@ -21,13 +21,13 @@ use Rattle.run_base.specs.Reading.{Holds as HeldBy, AllHeld, SaidOfTold}
 use Rattle.run_base.specs.Said.{Said, text}
 use Rattle.run_base.proofs.Jobs.{IsJob, IsJobSaid, in_text, in_failing}
 use Rattle.input_texts.specs.Asked.{SpellFor}
-use Rattle.input_texts.specs.FaultLines.{scenario_line}
+use Rattle.input_texts.specs.FaultLines.{scenario_line, tables_line}
+use Rattle.input_texts.specs.Texts.{OfTablesText}
 use Rattle.input_texts.proofs.Asking.{job_of, said_for as texts_said_for, told_says as texts_told}
 use Rattle.input_texts.proofs.Spelling.{OfPair, at_pair, at_read, of_pair, of_read, one_of_pair, one_of_read, pair_form, read_form}
 use Rattle.check_job.specs.VerdictLines.{fails_line}
 use Rattle.audit_job.specs.Asked.{Audited, SpellAudit}
 use Rattle.audit_job.specs.Audited.{SaysOfChecked, SaysOfLine, SaysOfMore, SaysOfPassing, SaysOfRoutes, SaysOfTexts, SaysUnder}
-use Rattle.audit_job.specs.Texts.{OfTablesText, tables_line}
 use Rattle.audit_job.specs.VerdictLines.{stable_line, unstable_line}
 
 -- ---- the form of what is said
@@ -43,8 +43,8 @@ module _ (Refuses Checks : Type 0) (checks : Checks) where
   checked_form net policy config scenario routes Holds what h = line_form net policy config scenario routes (unstable_line net h.verdict) what h.says
   checked_form net policy config scenario routes (Fails rule shown) what h = in_failing checks (fails_line rule shown) h
 
-  under_form : (scenario_text tables_text : List ℕ) (net : PlainNet) (policy : PlainPolicy) (config : PlainConfig) (evidence : List PlainCaseEvidence) (what : Said)
-      → SaysUnder scenario_text tables_text net policy config evidence what → IsJobSaid Refuses Checks what
+  under_form : (scenario_reader tables_text : List ℕ) (net : PlainNet) (policy : PlainPolicy) (config : PlainConfig) (evidence : List PlainCaseEvidence) (what : Said)
+      → SaysUnder scenario_reader tables_text net policy config evidence what → IsJobSaid Refuses Checks what
   under_form s t net policy config evidence what h =
       read_form scenario_line (scenario_spelled_by net s) (λ scenario. OfTablesText (SaysOfRoutes net policy config evidence scenario) net t) Refuses Checks
       (λ scenario. read_form tables_line (tables_spelled_by net t) (SaysOfRoutes net policy config evidence scenario) Refuses Checks
@@ -128,7 +128,7 @@ module _ (holds : HeldBy) (names : List (List ℕ)) where
           spell = spell;
           config_text = z;
           evidence_text = w;
-          scenario_text = v;
+          scenario_reader = v;
           tables_text = u;
           more = is;
           config_spelled = pair.config_spelled;
@@ -158,7 +158,7 @@ module _ (holds : HeldBy) (names : List (List ℕ)) where
       → SaysOfRoutes net policy a.config a.evidence a.scenario a.routes what
   told_of net policy a what asked said =
       let P : List (List ℕ) → Type 0 = λ more. SaysOfMore more net policy what in
-      let pair = at_pair (SaysUnder asked.scenario_text asked.tables_text net policy) asked.config_text asked.evidence_text a.config a.evidence what asked.config_spelled asked.evidence_spelled
+      let pair = at_pair (SaysUnder asked.scenario_reader asked.tables_text net policy) asked.config_text asked.evidence_text a.config a.evidence what asked.config_spelled asked.evidence_spelled
       (subst P asked.more (texts_told SaysOfMore holds names net policy what asked.spell said)) in
       at_read tables_line (tables_spelled_by net asked.tables_text) (SaysOfRoutes net policy a.config a.evidence a.scenario) a.routes what asked.tables_spelled
-      (at_read scenario_line (scenario_spelled_by net asked.scenario_text) (λ scenario. OfTablesText (SaysOfRoutes net policy a.config a.evidence scenario) net asked.tables_text) a.scenario what asked.scenario_spelled pair)
+      (at_read scenario_line (scenario_spelled_by net asked.scenario_reader) (λ scenario. OfTablesText (SaysOfRoutes net policy a.config a.evidence scenario) net asked.tables_text) a.scenario what asked.scenario_spelled pair)

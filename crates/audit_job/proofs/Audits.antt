@@ -2,13 +2,13 @@
 use Rattle.std.proofs.Common.{◌≡◌, ℕ, List, Option, Some, None, inl, inr, length, refl, sym, ap, subst, ◌∙◌}
 use Rattle.net_base.specs.Network.{PlainNet, IsNet}
 use Rattle.net_base.specs.Prefixes.{IsPrefix}
-use Rattle.path_words.specs.Policies.{IsPolicyOf, PlainPolicy}
+use Rattle.policy_base.specs.Policies.{IsPolicyOf, PlainPolicy}
 use Rattle.evidence_rules.proofs.OneVerdict.{one_verdict}
 use Rattle.evidence_rules.specs.declared.verdict.Verdict.{Verdict}
 use Rattle.evidence_rules.specs.declared.verdict.Verdict.TheVariants.{Holds, Fails}
 use Rattle.evidence_rules.specs.Verdicts.{IsVerdict as IsVerdictOnEvidence}
 use Rattle.outcome_base.specs.Outcomes.{IsStable}
-use Rattle.regret_law.specs.Passes.{Passes}
+use Rattle.evidence_law.specs.Passes.{Passes}
 use Rattle.stable_paths.specs.Scenarios.{failures_of}
 use Rattle.audit_law.proofs.Telling.{stable_is_told, stable_tables_are_right}
 use Rattle.audit_law.specs.declared.verdict.AuditVerdict.{AuditVerdict}

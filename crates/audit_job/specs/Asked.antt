@@ -1,15 +1,15 @@
 -- Of which configuration, evidence, scenario and routes the texts under names ask.
 use Rattle.std.specs.Prelude.{◌≡◌, ℕ, List, [], ◌∷◌, Ok}
 use Rattle.net_base.specs.Network.{PlainNet}
-use Rattle.path_words.specs.Policies.{PlainPolicy}
+use Rattle.policy_base.specs.Policies.{PlainPolicy}
 use Rattle.config_base.specs.Configs.{PlainConfig}
 use Rattle.config_reader.specs.Text.{spelled as config_spelled_by}
 use Rattle.evidence_base.specs.Made.{PlainCaseEvidence}
 use Rattle.evidence_text.specs.Spelled.{spelled as evidence_spelled_by}
 use Rattle.outcome_base.specs.Outcomes.{Outcome}
-use Rattle.scenario_text.specs.Spelled.{spelled as scenario_spelled_by}
+use Rattle.scenario_reader.specs.Spelled.{spelled as scenario_spelled_by}
 use Rattle.stable_paths.specs.declared.scenario.Scenario.{Scenario}
-use Rattle.table_text.specs.Spelled.{spelled as tables_spelled_by}
+use Rattle.table_reader.specs.Spelled.{spelled as tables_spelled_by}
 use Rattle.run_base.specs.Reading.{Holds}
 use Rattle.input_texts.specs.Asked.{SpellFor}
 
@@ -26,10 +26,10 @@ pub record SpellAudit (holds : Holds) (names : List (List ℕ)) (net : PlainNet)
   pub spell : SpellFor holds names net policy
   pub config_text : List ℕ
   pub evidence_text : List ℕ
-  pub scenario_text : List ℕ
+  pub scenario_reader : List ℕ
   pub tables_text : List ℕ
-  pub more : spell.more ≡ config_text ∷ evidence_text ∷ scenario_text ∷ tables_text ∷ []
+  pub more : spell.more ≡ config_text ∷ evidence_text ∷ scenario_reader ∷ tables_text ∷ []
   pub config_spelled : config_spelled_by config_text ≡ Ok a.config
   pub evidence_spelled : evidence_spelled_by evidence_text ≡ Ok a.evidence
-  pub scenario_spelled : scenario_spelled_by net scenario_text ≡ Ok a.scenario
+  pub scenario_spelled : scenario_spelled_by net scenario_reader ≡ Ok a.scenario
   pub tables_spelled : tables_spelled_by net tables_text ≡ Ok a.routes

@@ -1,7 +1,7 @@
 -- What `audit` says of a network, a policy, a configuration, evidence, a scenario and tables.
 use Rattle.std.specs.Prelude.{◌≡◌, ℕ, List, [], ◌∷◌, ◌++◌, Option, Some, None}
 use Rattle.net_base.specs.Network.{PlainNet}
-use Rattle.path_words.specs.Policies.{PlainPolicy}
+use Rattle.policy_base.specs.Policies.{PlainPolicy}
 use Rattle.config_base.specs.Configs.{PlainConfig}
 use Rattle.evidence_base.specs.Made.{PlainCaseEvidence}
 use Rattle.evidence_rules.specs.declared.verdict.Verdict.{Verdict}
@@ -14,9 +14,8 @@ use Rattle.stable_paths.specs.Scenarios.{failures_of}
 use Rattle.audit_law.specs.declared.verdict.AuditVerdict.{AuditVerdict}
 use Rattle.audit_law.specs.Verdicts.{IsVerdict}
 use Rattle.run_base.specs.Said.{Said, text, failing}
-use Rattle.input_texts.specs.Texts.{OfAllTexts, OfPairTexts, OfScenarioText}
+use Rattle.input_texts.specs.Texts.{OfAllTexts, OfPairTexts, OfScenarioText, OfTablesText}
 use Rattle.check_job.specs.VerdictLines.{fails_line}
-use Rattle.audit_job.specs.Texts.{OfTablesText}
 use Rattle.audit_job.specs.VerdictLines.{stable_line, unstable_line}
 
 -- that the routes are stable, and their report
@@ -49,14 +48,14 @@ pub record SaysOfRoutes (net : PlainNet) (policy : PlainPolicy) (config : PlainC
 
 -- what is said of the texts of a scenario and of tables
 abbrev pub SaysUnder : List ℕ → List ℕ → PlainNet → PlainPolicy → PlainConfig → List PlainCaseEvidence → Said → Type 0
-SaysUnder scenario_text tables_text net policy config evidence = OfScenarioText (λ scenario. OfTablesText (SaysOfRoutes net policy config evidence scenario) net tables_text) net scenario_text
+SaysUnder scenario_reader tables_text net policy config evidence = OfScenarioText (λ scenario. OfTablesText (SaysOfRoutes net policy config evidence scenario) net tables_text) net scenario_reader
 
 -- of those after the topology's and the policy's
 abbrev pub SaysOfPolicy : List ℕ → List ℕ → List ℕ → List ℕ → PlainNet → PlainPolicy → Said → Type 0
-SaysOfPolicy config_text evidence_text scenario_text tables_text net policy what = OfPairTexts (SaysUnder scenario_text tables_text net policy) config_text evidence_text what
+SaysOfPolicy config_text evidence_text scenario_reader tables_text net policy what = OfPairTexts (SaysUnder scenario_reader tables_text net policy) config_text evidence_text what
 
 abbrev pub SaysOfMore : List (List ℕ) → PlainNet → PlainPolicy → Said → Type 0
-SaysOfMore (config_text ∷ evidence_text ∷ scenario_text ∷ tables_text ∷ []) = SaysOfPolicy config_text evidence_text scenario_text tables_text
+SaysOfMore (config_text ∷ evidence_text ∷ scenario_reader ∷ tables_text ∷ []) = SaysOfPolicy config_text evidence_text scenario_reader tables_text
 SaysOfMore _ = λ net policy what. ⊥
 
 -- and of six texts

@@ -1,14 +1,14 @@
 -- What it means that an audit ends well, and why it doesn't.
 use Rattle.std.specs.Prelude.{◌≡◌, ◌⊎◌, ℕ, List, ◌++◌, Some}
 use Rattle.net_base.specs.Network.{PlainNet}
-use Rattle.path_words.specs.Policies.{PlainPolicy}
+use Rattle.policy_base.specs.Policies.{PlainPolicy}
 use Rattle.evidence_rules.specs.declared.rule.CheckRule.{CheckRule}
 use Rattle.evidence_rules.specs.declared.verdict.Shown.{Shown}
 use Rattle.evidence_rules.specs.declared.verdict.Verdict.TheVariants.{Fails}
 use Rattle.evidence_rules.specs.Verdicts.{IsVerdict as IsVerdictOnEvidence}
 use Rattle.outcome_base.specs.Outcomes.{IsStable}
 use Rattle.outcome_base.specs.Right.{IsRightOutcome}
-use Rattle.regret_law.specs.Passes.{Passes}
+use Rattle.evidence_law.specs.Passes.{Passes}
 use Rattle.report_lines.specs.Report.{IsReportOf}
 use Rattle.stable_paths.specs.Scenarios.{failures_of}
 use Rattle.audit_law.specs.declared.verdict.AuditVerdict.{AuditVerdict}

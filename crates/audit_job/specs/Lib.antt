@@ -1,5 +1,4 @@
 pub mod Asked
 pub mod Audited
 pub mod Audits
-pub mod Texts
 pub mod VerdictLines

@@ -1,23 +1,21 @@
 //! The command `audit`.
 ghost use Rattle.std.specs.Prelude.{◌≡◌, ◌<◌, length};
-ghost use Rattle.path_words.specs.Policies.{IsPolicyOf, policy_of};
-ghost use Rattle.case_law.specs.Cases.{OriginsAreRouters};
-ghost use Rattle.regret_law.specs.Passes.{Passes};
+ghost use Rattle.policy_base.specs.Policies.{IsPolicyOf, policy_of};
+ghost use Rattle.policy_base.specs.CaseNumbers.{OriginsAreRouters};
+ghost use Rattle.evidence_law.specs.Passes.{Passes};
 ghost use Rattle.run_base.specs.Said.{IsGiven, said};
-ghost use Rattle.input_texts.specs.Texts.{OfScenarioText, OfTexts};
+ghost use Rattle.input_texts.specs.Texts.{OfScenarioText, OfTablesText, OfTexts};
 ghost use Rattle.audit_job.specs.Audited.{SaysOfPassing, SaysOfPolicy, SaysOfRoutes, SaysUnder};
-ghost use Rattle.audit_job.specs.Texts.{OfTablesText};
 
-use crate::tables::tables_for;
 use crate::verdict_lines::{stable_line, unstable_line};
 use check_job::fails_line;
 use config_base::Config;
 use evidence_base::Evidence;
 use evidence_check::check;
 use evidence_rules::Verdict;
-use input_texts::{config_for, evidence_for, net_of, policy_for, scenario_for};
+use input_texts::{config_for, evidence_for, net_of, policy_for, scenario_for, tables_for};
 use net_base::Net;
-use path_words::Policy;
+use policy_base::Policy;
 use report_lines::report;
 use run_base::Stop;
 use stable_paths::{Outcome, Scenario};

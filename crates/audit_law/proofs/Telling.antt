@@ -4,13 +4,13 @@ use Rattle.std.specs.Prelude.{◌&&◌, ◌↔◌, not}
 use Rattle.std.proofs.lemmas.Bool.{and_parts, and_from, cases_lt, lt-ltb, not-true, true≢false}
 use Rattle.net_base.specs.Network.{PlainNet, is_router}
 use Rattle.net_base.specs.Prefixes.{PlainPrefix}
-use Rattle.path_words.specs.Policies.{PlainPolicy}
-use Rattle.path_words.specs.Governing.{is_origin}
+use Rattle.policy_base.specs.Policies.{PlainPolicy}
+use Rattle.policy_base.specs.Governing.{is_origin}
 use Rattle.config_base.specs.declared.route.Route.{Route}
 use Rattle.config_base.specs.Configs.{PlainConfig}
 use Rattle.config_base.specs.Lines.{own_route}
 use Rattle.outcome_base.specs.Outcomes.{Failures, Outcome, is_dead, route_at, given, IsStable}
-use Rattle.regret_law.proofs.RightLaw.{passing_evidence_is_right}
+use Rattle.evidence_law.proofs.RightLaw.{passing_evidence_is_right}
 use Rattle.stable_paths.specs.Tests.{IsSettled}
 use Rattle.stable_paths.proofs.Settled.{stable-from_settled}
 use Rattle.audit_law.specs.declared.verdict.AuditVerdict.{AuditVerdict}
@@ -27,8 +27,11 @@ module _ (net : PlainNet) (policy : PlainPolicy) (config : PlainConfig) (f : Fai
   -- a router that fails isn't settled
   pub unsettled : (v : AuditVerdict) (r : ℕ) → router_of v ≡ Some r → Failing v → Settled r → ⊥
   unsettled Stable r named fails settled = fails
-  unsettled (Dead q) r named fails settled = let same : q ≡ r = cc in fails.1 (subst (λ (l : ℕ). route_at outcome l ≡ None) (sym same) (settled.dead (subst (λ (l : ℕ). is_dead f l ≡ true) same fails.0)))
-  unsettled (Own q) r named fails settled = let same : q ≡ r = cc in fails.1 (subst (λ (l : ℕ). route_at outcome l ≡ Some (own_route net config p l)) (sym same) (settled.own (subst (λ (l : ℕ). is_live_origin net policy f p l ≡ true) same fails.0)))
+  unsettled (Dead q) r named fails settled = let same : q ≡ r = cc in
+      fails.1 (subst (λ (l : ℕ). route_at outcome l ≡ None) (sym same) (settled.dead (subst (λ (l : ℕ). is_dead f l ≡ true) same fails.0)))
+  unsettled (Own q) r named fails settled = let same : q ≡ r = cc in
+      fails.1 (subst (λ (l : ℕ). route_at outcome l ≡ Some (own_route net config p l)) (sym same)
+      (settled.own (subst (λ (l : ℕ). is_live_origin net policy f p l ≡ true) same fails.0)))
   unsettled (NotGiven q) r named fails settled =
       let same : q ≡ r = cc in
       let here = subst Settled (sym same) settled in
@@ -124,13 +127,22 @@ module _ (net : PlainNet) (policy : PlainPolicy) (config : PlainConfig) (f : Fai
   fails_one (NotGiven q) (Dead l) r e d x w = let same : q ≡ l = cc (e, d) in absurd (live_not_dead l q (sym same) w.0 (not (is_origin net policy p q)) x.0)
   fails_one (NotGiven q) (Own l) r e d x w = let same : q ≡ l = cc (e, d) in absurd (origin_not_choosing l q (sym same) w.0 x.0)
   fails_one (NotGiven q) (NotGiven l) r e d x w = let same : q ≡ l = cc (e, d) in ap (λ (k : ℕ). NotGiven k) same
-  fails_one (NotGiven q) (Better l y' high) r e d x w = let same : q ≡ l = cc (e, d) in let held : Some x.1 ≡ Some w.1 = sym x.2 ∙ ap (route_at outcome) same ∙ w.4 in let one : x.1 ≡ w.1 = cc in absurd (x.3 w.3 (ap (given net policy config f p outcome w.3) same ∙ w.5 ∙ ap Some (sym one)))
+  fails_one (NotGiven q) (Better l y' high) r e d x w = let same : q ≡ l = cc (e, d) in
+      let held : Some x.1 ≡ Some w.1 = sym x.2 ∙ ap (route_at outcome) same ∙ w.4 in
+      let one : x.1 ≡ w.1 = cc in
+      absurd (x.3 w.3 (ap (given net policy config f p outcome w.3) same ∙ w.5 ∙ ap Some (sym one)))
   fails_one (NotGiven q) (Missing l y') r e d x w = let same : q ≡ l = cc (e, d) in absurd (held_not_none q l same x.1 x.2 w.1)
   fails_one (Better q z pref) Stable r e d x w = absurd w
   fails_one (Better q z pref) (Dead l) r e d x w = let same : q ≡ l = cc (e, d) in absurd (live_not_dead l q (sym same) w.0 (not (is_origin net policy p q)) x.0)
   fails_one (Better q z pref) (Own l) r e d x w = let same : q ≡ l = cc (e, d) in absurd (origin_not_choosing l q (sym same) w.0 x.0)
-  fails_one (Better q z pref) (NotGiven l) r e d x w = let same : q ≡ l = cc (e, d) in let held : Some w.1 ≡ Some x.1 = sym w.2 ∙ ap (route_at outcome) (sym same) ∙ x.4 in let one : w.1 ≡ x.1 = cc in absurd (w.3 x.3 (ap (given net policy config f p outcome x.3) (sym same) ∙ x.5 ∙ ap Some (sym one)))
-  fails_one (Better q z pref) (Better l y' high) r e d x w = let same : q ≡ l = cc (e, d) in let top = top_one q l z y' x.2 w.2 same x.6 w.6 in let pref_is : pref ≡ high = sym x.7 ∙ top.1 ∙ w.7 in λ i. Better (same i) (top.0 i) (pref_is i)
+  fails_one (Better q z pref) (NotGiven l) r e d x w = let same : q ≡ l = cc (e, d) in
+      let held : Some w.1 ≡ Some x.1 = sym w.2 ∙ ap (route_at outcome) (sym same) ∙ x.4 in
+      let one : w.1 ≡ x.1 = cc in
+      absurd (w.3 x.3 (ap (given net policy config f p outcome x.3) (sym same) ∙ x.5 ∙ ap Some (sym one)))
+  fails_one (Better q z pref) (Better l y' high) r e d x w = let same : q ≡ l = cc (e, d) in
+      let top = top_one q l z y' x.2 w.2 same x.6 w.6 in
+      let pref_is : pref ≡ high = sym x.7 ∙ top.1 ∙ w.7 in
+      λ i. Better (same i) (top.0 i) (pref_is i)
   fails_one (Better q z pref) (Missing l y') r e d x w = let same : q ≡ l = cc (e, d) in absurd (held_not_none q l same x.1 x.4 w.1)
   fails_one (Missing q z) Stable r e d x w = absurd w
   fails_one (Missing q z) (Dead l) r e d x w = let same : q ≡ l = cc (e, d) in absurd (live_not_dead l q (sym same) w.0 (not (is_origin net policy p q)) x.0)

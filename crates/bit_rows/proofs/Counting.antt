@@ -15,11 +15,14 @@ pub ones_bits : (k w : ℕ) → w < 2 ^ k → count_ones w ≡ count_by (λ i. e
 ones_bits zero w lt = omega (arith, ones-le 0 w lt)
 ones_bits (suc k) w lt =
     let half : w / 2 < 2 ^ k = omega (arith, pow-suc 2 k) in
-    let rest : count_by (λ i. eqb (bit_at w i) 1) (range_with_len (0 + 1) k) ≡ count_by (λ i. eqb (bit_at (w / 2) i) 1) (range_with_len 0 k) = count_alike (λ i. eqb (bit_at w i) 1) (λ i. eqb (bit_at (w / 2) i) 1) (0 + 1) 0 k (λ j lj.
+    let rest : count_by (λ i. eqb (bit_at w i) 1) (range_with_len (0 + 1) k) ≡ count_by (λ i. eqb (bit_at (w / 2) i) 1) (range_with_len 0 k) =
+    count_alike (λ i. eqb (bit_at w i) 1) (λ i. eqb (bit_at (w / 2) i) 1) (0 + 1) 0 k (λ j lj.
     let up : (0 + 1) + j ≡ suc j = omega arith in
     let down : j ≡ 0 + j = omega arith in
     ap (λ i. eqb (bit_at w i) 1) up ∙ ap (λ z. eqb z 1) (bit_at-suc w j) ∙ ap (λ i. eqb (bit_at (w / 2) i) 1) down) in
-    ones_step w ∙ ap (λ z. w % 2 + z) (ones_bits k (w / 2) half ∙ sym rest) ∙ ap (λ z. z + count_by (λ i. eqb (bit_at w i) 1) (range_with_len (0 + 1) k)) (lowest (w % 2) (omega arith) ∙ ap (λ z. cond (eqb z 1) 1 0) (sym (bit_at_lowest w)))
+    ones_step w ∙ ap (λ z. w % 2 + z) (ones_bits k (w / 2) half ∙ sym rest)
+    ∙ ap (λ z. z + count_by (λ i. eqb (bit_at w i) 1) (range_with_len (0 + 1) k))
+    (lowest (w % 2) (omega arith) ∙ ap (λ z. cond (eqb z 1) 1 0) (sym (bit_at_lowest w)))
     ∙ sym (count_first (λ i. eqb (bit_at w i) 1) 0 k)
   where
     lowest : (d : ℕ) → d < 2 → ◌≡◌ {A = ℕ} d (cond (eqb d 1) 1 0)
@@ -29,7 +32,8 @@ ones_bits (suc k) w lt =
     ]
 
 -- one word more, whose bits are the tests of its place
-pub count_word : (p : ℕ → Bool) (i w : ℕ) → ((k : ℕ) → k < 64 → p (64 * i + k) ≡ eqb (bit_at w k) 1) → w < 2 ^ 64 → count_by p (range_with_len 0 (64 * i)) + count_ones w ≡ count_by p (range_with_len 0 (64 * (i + 1)))
+pub count_word : (p : ℕ → Bool) (i w : ℕ) → ((k : ℕ) → k < 64 → p (64 * i + k) ≡ eqb (bit_at w k) 1) → w < 2 ^ 64
+    → count_by p (range_with_len 0 (64 * i)) + count_ones w ≡ count_by p (range_with_len 0 (64 * (i + 1)))
 count_word p i w same lt =
     let more : 64 * (i + 1) ≡ 64 * i + 64 = omega arith in
     let word : count_by p (range_with_len (0 + 64 * i) 64) ≡ count_by (λ b. eqb (bit_at w b) 1) (range_with_len 0 64) = count_alike p (λ b. eqb (bit_at w b) 1) (0 + 64 * i) 0 64 (λ k lk.

@@ -22,7 +22,8 @@ same_bits : (one other : List ℕ) (b : ℕ) → ((j : ℕ) → get_or one j 0 �
 same_bits one other b same = ap (λ w. eqb (bit_at w (b % 64)) 1) (same (b / 64))
 
 -- one word more is joined
-module _ (old now : List ℕ) (to at width i x y : ℕ) (inside : to + i < length now) (in_row : i < width) (apart : (at + width ≤ to) ⊎ (to ≤ at)) (is : x ≡ get_or now (to + i) 0) (other : y ≡ get_or now (at + i) 0)
+module _ (old now : List ℕ) (to at width i x y : ℕ) (inside : to + i < length now) (in_row : i < width) (apart : (at + width ≤ to) ⊎ (to ≤ at))
+    (is : x ≡ get_or now (to + i) 0) (other : y ≡ get_or now (at + i) 0)
     (done : (j : ℕ) → j < i → get_or now (to + j) 0 ≡ bit_or (get_or old (to + j) 0) (get_or old (at + j) 0)) (rest : (k : ℕ) → (k < to) ⊎ (to + i ≤ k) → get_or now k 0 ≡ get_or old k 0) where
   unread : (at + i < to) ⊎ (to + i ≤ at + i)
   unread = elim apart [ inl before ↦ inl (omega arith) | inr behind ↦ inr (omega arith) ]
@@ -54,8 +55,14 @@ module _ (r : PlainRows) (into from : ℕ) (words : List ℕ) (table : IsTable r
     (rest : (k : ℕ) → (k < into * r.width) ⊎ (into * r.width + r.width ≤ k) → get_or words k 0 ≡ get_or r.words k 0) where
   joined_here : (b : ℕ) → has (take r.width (drop (into * r.width) words)) b ≡ (has_at r into b || has_at r from b)
   joined_here b = has_or (row_of r into) (take r.width (drop (into * r.width) words)) (row_of r from) (λ j. elim (cases_lt j r.width) [
-    | inl lt ↦ cell_in r.width (into * r.width) words j lt ∙ done j lt ∙ ap (λ z. bit_or z (get_or r.words (from * r.width + j) 0)) (sym (cell_in r.width (into * r.width) r.words j lt)) ∙ ap (bit_or (get_or (row_of r into) j 0)) (sym (cell_in r.width (from * r.width) r.words j lt))
-    | inr past ↦ cell_past r.width (into * r.width) words j past ∙ sym (ap (λ z. bit_or z (get_or (row_of r from) j 0)) (cell_past r.width (into * r.width) r.words j past) ∙ ap (bit_or 0) (cell_past r.width (from * r.width) r.words j past))
+    | inl lt ↦
+        cell_in r.width (into * r.width) words j lt ∙ done j lt
+        ∙ ap (λ z. bit_or z (get_or r.words (from * r.width + j) 0)) (sym (cell_in r.width (into * r.width) r.words j lt))
+        ∙ ap (bit_or (get_or (row_of r into) j 0)) (sym (cell_in r.width (from * r.width) r.words j lt))
+    | inr past ↦
+        cell_past r.width (into * r.width) words j past
+        ∙ sym (ap (λ z. bit_or z (get_or (row_of r from) j 0)) (cell_past r.width (into * r.width) r.words j past)
+        ∙ ap (bit_or 0) (cell_past r.width (from * r.width) r.words j past))
   ]) b
 
   joined_there : (row b : ℕ) → row ≢ into → has (take r.width (drop (row * r.width) words)) b ≡ has_at r row b
@@ -75,7 +82,9 @@ module _ (r : PlainRows) (into from : ℕ) (words : List ℕ) (table : IsTable r
 
   pub joined_bits : (row b : ℕ) → has_at (with_words r words) row b ≡ (has_at r row b || (eqb row into && has_at r from b))
   joined_bits row b = elim (cases_eq row into) [
-    | inl e ↦ ap (λ k. has (take r.width (drop (k * r.width) words)) b) e ∙ joined_here b ∙ ap (λ k. has_at r k b || has_at r from b) (sym e) ∙ sym (ap (λ z. has_at r row b || (z && has_at r from b)) (eq-eqb _ _ e))
+    | inl e ↦
+        ap (λ k. has (take r.width (drop (k * r.width) words)) b) e ∙ joined_here b ∙ ap (λ k. has_at r k b || has_at r from b) (sym e)
+        ∙ sym (ap (λ z. has_at r row b || (z && has_at r from b)) (eq-eqb _ _ e))
     | inr n ↦ joined_there row b n ∙ sym (or-false (has_at r row b)) ∙ sym (ap (λ z. has_at r row b || (z && has_at r from b)) (ne_eqb _ _ n))
   ]
 
@@ -85,5 +94,7 @@ module _ (r : PlainRows) (into from : ℕ) (words : List ℕ) (table : IsTable r
     few = table.few;
     room = table.room;
     tight = table.tight;
-    clear = λ row b lt le. joined_bits row b ∙ ap (λ z. z || (eqb row into && has_at r from b)) (table.clear row b lt le) ∙ ap (λ z. eqb row into && z) (table.clear from b lf le) ∙ and-false (eqb row into);
+    clear =
+        λ row b lt le. joined_bits row b ∙ ap (λ z. z || (eqb row into && has_at r from b)) (table.clear row b lt le)
+        ∙ ap (λ z. eqb row into && z) (table.clear from b lf le) ∙ and-false (eqb row into);
   }

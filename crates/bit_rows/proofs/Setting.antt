@@ -18,7 +18,8 @@ bit_set row bit b lt =
           elim (cases_eq (b % 64) (bit % 64)) [
             | inl same ↦ (
                 let is : eqb b bit ≡ true = eq-eqb b bit (omega arith) in
-                ap (λ z. eqb (bit_at z (b % 64)) 1) read ∙ ap (λ i. eqb (bit_at word i) 1) same ∙ eq-eqb _ _ (bit_at_set_same w64 (get_or row (bit / 64) 0) (bit % 64) low) ∙ sym (or_right (has row b) (eqb b bit) is))
+                ap (λ z. eqb (bit_at z (b % 64)) 1) read ∙ ap (λ i. eqb (bit_at word i) 1) same
+                ∙ eq-eqb _ _ (bit_at_set_same w64 (get_or row (bit / 64) 0) (bit % 64) low) ∙ sym (or_right (has row b) (eqb b bit) is))
             | inr other ↦ (
                 let is : eqb b bit ≡ false = ne_eqb b bit (λ e. other (ap (λ z. z % 64) e)) in
                 ap (λ z. eqb (bit_at z (b % 64)) 1) read ∙ ap (λ z. eqb z 1) (bit_at_set_other w64 (get_or row (bit / 64) 0) (bit % 64) low (b % 64) other)

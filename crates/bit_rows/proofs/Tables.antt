@@ -22,13 +22,15 @@ row_wide r row table lt = let ends = row_ends r row table lt in omega (arith, le
 
 -- a part of the words that is a row
 pub row_part : (r : PlainRows) (row : ℕ) (words : List ℕ) → words ≡ r.words → take ((row * r.width + r.width) - row * r.width) (drop (row * r.width) words) ≡ row_of r row
-row_part r row words same = let e : (row * r.width + r.width) - row * r.width ≡ r.width = omega arith in ap (λ w. take w (drop (row * r.width) words)) e ∙ ap (λ l. take r.width (drop (row * r.width) l)) same
+row_part r row words same = let e : (row * r.width + r.width) - row * r.width ≡ r.width = omega arith in
+    ap (λ w. take w (drop (row * r.width) words)) e ∙ ap (λ l. take r.width (drop (row * r.width) l)) same
 
 -- the table with other words
 abbrev pub with_words : PlainRows → List ℕ → PlainRows
 with_words r words = record { count = r.count; bits = r.bits; width = r.width; words = words }
 
-module _ (r : PlainRows) (row : ℕ) (table : IsTable r) (lt : row < r.count) (words part ys : List ℕ) (same : part ≡ r.words) (k : ℕ) (wide : k ≡ r.width) (len : length ys ≡ r.width) (cut : words ≡ put_mid (row * r.width) k part ys) where
+module _ (r : PlainRows) (row : ℕ) (table : IsTable r) (lt : row < r.count) (words part ys : List ℕ) (same : part ≡ r.words) (k : ℕ)
+    (wide : k ≡ r.width) (len : length ys ≡ r.width) (cut : words ≡ put_mid (row * r.width) k part ys) where
   is : words ≡ put_mid (row * r.width) k r.words ys
   is = cut ∙ ap (λ l. put_mid (row * r.width) k l ys) same
 

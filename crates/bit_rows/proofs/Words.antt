@@ -40,7 +40,8 @@ has_and old new other each b =
     ap (λ w. eqb (bit_at w (b % 64)) 1) (each (b / 64)) ∙ ap (λ x. eqb x 1) (bit_at_and (get_or old (b / 64) 0) (get_or other (b / 64) 0) (b % 64))
     ∙ min_tests (bit_at (get_or old (b / 64) 0) (b % 64)) (bit_at (get_or other (b / 64) 0) (b % 64)) (bit_at-lt _ _) (bit_at-lt _ _)
 
-pub has_and_not : (old new other : List ℕ) → ((j : ℕ) → get_or other j 0 < 2 ^ 64) → ((j : ℕ) → get_or new j 0 ≡ bit_and (get_or old j 0) (bit_not w64 (get_or other j 0))) → (b : ℕ) → has new b ≡ (has old b && not (has other b))
+pub has_and_not : (old new other : List ℕ) → ((j : ℕ) → get_or other j 0 < 2 ^ 64)
+    → ((j : ℕ) → get_or new j 0 ≡ bit_and (get_or old j 0) (bit_not w64 (get_or other j 0))) → (b : ℕ) → has new b ≡ (has old b && not (has other b))
 has_and_not old new other fit each b =
     let x : ℕ = get_or old (b / 64) 0 in
     let y : ℕ = get_or other (b / 64) 0 in
@@ -80,7 +81,8 @@ pub listed_next : (word left place b : ℕ) (xs : List ℕ) (k : ℕ) (o : Bool)
     list_any (λ x. eqb x k) xs ≡ (o || (eqb (k / 64) place && (eqb (bit_at word (k % 64)) 1 && not (eqb (bit_at left (k % 64)) 1)))) →
     list_any (λ x. eqb x k) (xs ++ (64 * place + b) ∷ []) ≡ (o || (eqb (k / 64) place && (eqb (bit_at word (k % 64)) 1 && not (eqb (bit_at (rest_of left b) (k % 64)) 1))))
 listed_next word left place b xs k o lb set in_word before =
-    list_any-append (λ x. eqb x k) xs ((64 * place + b) ∷ []) ∙ ap (λ z. z || (eqb (64 * place + b) k || false)) before ∙ ap (λ z. (o || old) || z) (or-false (eqb (64 * place + b) k)) ∙ elim (cases_eq k (64 * place + b)) [
+    list_any-append (λ x. eqb x k) xs ((64 * place + b) ∷ []) ∙ ap (λ z. z || (eqb (64 * place + b) k || false)) before
+    ∙ ap (λ z. (o || old) || z) (or-false (eqb (64 * place + b) k)) ∙ elim (cases_eq k (64 * place + b)) [
       | inl e ↦ (
           let word_is : k / 64 ≡ place = omega arith in
           let bit_is : k % 64 ≡ b = omega arith in
@@ -112,18 +114,24 @@ pub outside_fits : (a b c : List ℕ) (i : ℕ) → get_or a i 0 < 2 ^ 64 → ou
 outside_fits a b c i fit = omega (arith, fit, and_le_l (bit_and (get_or a i 0) (get_or b i 0)) (bit_not w64 (get_or c i 0)), and_le_l (get_or a i 0) (get_or b i 0))
 
 -- the bits of three rows that stand in one word
-pub outside_bits : (a b c : List ℕ) (i : ℕ) → get_or c i 0 < 2 ^ 64 → (k : ℕ) → k < 64 → (has a (64 * i + k) && (has b (64 * i + k) && not (has c (64 * i + k)))) ≡ eqb (bit_at (outside (get_or a i 0) (get_or b i 0) (get_or c i 0)) k) 1
+pub outside_bits : (a b c : List ℕ) (i : ℕ) → get_or c i 0 < 2 ^ 64 → (k : ℕ) → k < 64
+    → (has a (64 * i + k) && (has b (64 * i + k) && not (has c (64 * i + k))))
+    ≡ eqb (bit_at (outside (get_or a i 0) (get_or b i 0) (get_or c i 0)) k) 1
 outside_bits a b c i fit k lk =
     ap (λ z. z && (has b (64 * i + k) && not (has c (64 * i + k)))) (word_bits a i k lk) ∙ ap (λ z. eqb (bit_at (get_or a i 0) k) 1 && (z && not (has c (64 * i + k)))) (word_bits b i k lk)
     ∙ ap (λ z. eqb (bit_at (get_or a i 0) k) 1 && (eqb (bit_at (get_or b i 0) k) 1 && not z)) (word_bits c i k lk) ∙ sym (outside_bit (get_or a i 0) (get_or b i 0) (get_or c i 0) k fit lk)
 
-pub none_outside : (a b c : List ℕ) (i : ℕ) → length a ≤ i → ((j : ℕ) → get_or c j 0 < 2 ^ 64) → ((j : ℕ) → j < i → outside (get_or a j 0) (get_or b j 0) (get_or c j 0) ≡ 0) → (k : ℕ) → (has a k && (has b k && not (has c k))) ≡ false
+pub none_outside : (a b c : List ℕ) (i : ℕ) → length a ≤ i → ((j : ℕ) → get_or c j 0 < 2 ^ 64)
+    → ((j : ℕ) → j < i → outside (get_or a j 0) (get_or b j 0) (get_or c j 0) ≡ 0) → (k : ℕ) → (has a k && (has b k && not (has c k))) ≡ false
 none_outside a b c i le fit none k = elim (cases_lt (k / 64) i) [
-  | inl lt ↦ sym (outside_bit (get_or a (k / 64) 0) (get_or b (k / 64) 0) (get_or c (k / 64) 0) (k % 64) (fit (k / 64)) (omega arith)) ∙ ap (λ w. eqb (bit_at w (k % 64)) 1) (none (k / 64) lt) ∙ ap (λ x. eqb x 1) (bit_at-zero (k % 64))
+  | inl lt ↦
+      sym (outside_bit (get_or a (k / 64) 0) (get_or b (k / 64) 0) (get_or c (k / 64) 0) (k % 64) (fit (k / 64)) (omega arith))
+      ∙ ap (λ w. eqb (bit_at w (k % 64)) 1) (none (k / 64) lt) ∙ ap (λ x. eqb x 1) (bit_at-zero (k % 64))
   | inr over ↦ and_left _ _ (ap (λ w. eqb (bit_at w (k % 64)) 1) (get_or_past a (k / 64) 0 (omega arith)) ∙ ap (λ x. eqb x 1) (bit_at-zero (k % 64)))
 ]
 
-pub some_outside : (a b c : List ℕ) (i : ℕ) → ((j : ℕ) → get_or a j 0 < 2 ^ 64) → ((j : ℕ) → get_or c j 0 < 2 ^ 64) → 0 < outside (get_or a i 0) (get_or b i 0) (get_or c i 0) → ((k : ℕ) → (has a k && (has b k && not (has c k))) ≡ false) → ⊥
+pub some_outside : (a b c : List ℕ) (i : ℕ) → ((j : ℕ) → get_or a j 0 < 2 ^ 64) → ((j : ℕ) → get_or c j 0 < 2 ^ 64)
+    → 0 < outside (get_or a i 0) (get_or b i 0) (get_or c i 0) → ((k : ℕ) → (has a k && (has b k && not (has c k))) ≡ false) → ⊥
 some_outside a b c i fita fit pos h =
     let w : ℕ = outside (get_or a i 0) (get_or b i 0) (get_or c i 0) in
     let less : w < 2 ^ 64 = omega (arith, fita i, and_le_l (bit_and (get_or a i 0) (get_or b i 0)) (bit_not w64 (get_or c i 0)), and_le_l (get_or a i 0) (get_or b i 0)) in
@@ -139,7 +147,8 @@ some_outside a b c i fita fit pos h =
     both_ways _ (h k) here
 
 -- no bit outside, no word
-pub clear_word : (a b c : List ℕ) (i : ℕ) → ((j : ℕ) → get_or a j 0 < 2 ^ 64) → ((j : ℕ) → get_or c j 0 < 2 ^ 64) → ((k : ℕ) → (has a k && (has b k && not (has c k))) ≡ false) → outside (get_or a i 0) (get_or b i 0) (get_or c i 0) ≡ 0
+pub clear_word : (a b c : List ℕ) (i : ℕ) → ((j : ℕ) → get_or a j 0 < 2 ^ 64) → ((j : ℕ) → get_or c j 0 < 2 ^ 64)
+    → ((k : ℕ) → (has a k && (has b k && not (has c k))) ≡ false) → outside (get_or a i 0) (get_or b i 0) (get_or c i 0) ≡ 0
 clear_word a b c i fita fit h = elim (cases_eq (outside (get_or a i 0) (get_or b i 0) (get_or c i 0)) 0) [
   | inl none ↦ none
   | inr some ↦ absurd (some_outside a b c i fita fit (omega (arith, some)) h)

@@ -1,4 +1,5 @@
-//! What is done with rows as wholes, four words at a time, with a plain loop for the rest.
+//! What is done with rows as wholes, four words at a time, with a plain loop for the rest. Functions that differ in the sign between
+//! two words alone are each written out: so a clause names the sign, and no closure stands between it and the lanes.
 ghost use Rattle.std.specs.Prelude.{◌≡◌, ◌↔◌, ℕ, ◌+◌, ◌*◌, ◌==◌, ◌<◌, ◌≤◌, ◌&&◌, ◌||◌, not, false, IsTrue, length, slice_index, bit_and, bit_or};
 ghost use Rattle.std.specs.Int.{bit_not, w64};
 ghost use Rattle.std.specs.List.{count_by, range_with_len};

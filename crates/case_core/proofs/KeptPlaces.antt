@@ -4,7 +4,7 @@ use Rattle.std.specs.Prelude.{IfSome, slice_get}
 use Rattle.std.proofs.lemmas.List.{length-replicate, length-set}
 use Rattle.list_laws.proofs.Items.{set_item, none_there}
 use Rattle.net_base.specs.Network.{PlainNet}
-use Rattle.path_words.specs.Policies.{PlainPolicy}
+use Rattle.policy_base.specs.Policies.{PlainPolicy}
 use Rattle.case_core.specs.declared.automata.StatementAutomata.{StatementAutomata}
 use Rattle.case_core.specs.declared.kept.KeptAutomata.{KeptAutomata}
 use Rattle.case_core.specs.Automata.{AllFit, FitsNumber}
@@ -23,7 +23,8 @@ module _ (net : PlainNet) (policy : PlainPolicy) where
   taken_fits kept k None are at = tt
 
   -- and so do all where one that fits comes to a place, or none
-  pub set_fits : (old new : KeptAutomata) (k : ℕ) (own : Option StatementAutomata) → AllFit net policy old → new.of.items ≡ set old.of.items k own → IfSome own (FitsNumber net policy) → AllFit net policy new
+  pub set_fits : (old new : KeptAutomata) (k : ℕ) (own : Option StatementAutomata) → AllFit net policy old → new.of.items ≡ set old.of.items k own
+      → IfSome own (FitsNumber net policy) → AllFit net policy new
   set_fits old new k own are is fits = record {
     size = ap length is ∙ length-set old.of.items k own ∙ are.size;
     fits = λ i a at. elim (set_item old.of.items k own i (Some a) (ap (λ (xs : List (Option StatementAutomata)). slice_get xs i) (sym is) ∙ at)) [

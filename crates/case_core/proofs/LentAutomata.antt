@@ -5,12 +5,11 @@ use Rattle.std.proofs.lemmas.Option.{same_Some}
 use Rattle.list_laws.proofs.Items.{slice_get_in_front}
 use Rattle.net_base.specs.Network.{PlainNet}
 use Rattle.net_base.specs.NetSets.{locations}
-use Rattle.path_words.specs.Policies.{PlainPolicy, PlainStatement}
+use Rattle.policy_base.specs.Policies.{PlainPolicy, PlainStatement, statement_at}
 use Rattle.path_exprs.specs.Forward.{expressions}
 use Rattle.path_exprs.specs.Runs.{start_of}
 use Rattle.path_automata.specs.declared.states.Automata.{Automata}
 use Rattle.path_automata.specs.States.{Extends, states_of}
-use Rattle.evidence_base.specs.Made.{statement_at}
 use Rattle.case_core.specs.declared.automata.StatementAutomata.{StatementAutomata}
 use Rattle.case_core.specs.Automata.{FitsNumber, FitsStatement, IsAutomatonOf}
 

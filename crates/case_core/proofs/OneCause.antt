@@ -2,13 +2,13 @@
 use Rattle.std.proofs.Common.{◌≡◌, ℕ, ◌<◌, ◌≤◌, List, length, refl, arith, sym, ap, ap₂, subst, ◌∙◌, inl, inr}
 use Rattle.std.specs.Prelude.{◌⊎◌}
 use Rattle.net_base.specs.Network.{PlainNet}
-use Rattle.path_words.specs.declared.case.Case.{Case}
-use Rattle.path_words.specs.Meaning.{alternative_count}
-use Rattle.path_words.specs.Policies.{PlainStatement}
+use Rattle.policy_base.specs.declared.case.Case.{Case}
+use Rattle.policy_base.specs.Meaning.{alternative_count}
+use Rattle.policy_base.specs.Policies.{PlainStatement}
 use Rattle.graph_base.specs.Graphs.{PlainGraph}
 use Rattle.graph_base.specs.Walks.{IsShownWalk}
 use Rattle.graph_base.proofs.ShownWalks.{shown_walk_same}
-use Rattle.product_graph.specs.Outcomes.{PassesSteps}
+use Rattle.case_core.specs.BuildOutcomes.{PassesSteps}
 use Rattle.path_exprs.specs.Standings.{PassesStates, plan_for}
 use Rattle.standings.proofs.OneGraph.{no_more_states, one-graph}
 use Rattle.reach_prune.specs.Trimmed.{IsTrimmed}
@@ -75,11 +75,14 @@ module _ (net : PlainNet) (number room : ℕ) (s : PlainStatement) (c : Case) wh
 
   -- ---- and of the same kind
 
-  same_mixed : (g h : PlainGraph) (r q : ℕ) (with without more less : List ℕ) → g ≡ h → ShowsMixed net s c g r with without → ShowsMixed net s c h q more less → (r ≡ q) × (with ≡ more) × (without ≡ less)
+  same_mixed : (g h : PlainGraph) (r q : ℕ) (with without more less : List ℕ) → g ≡ h → ShowsMixed net s c g r with without
+      → ShowsMixed net s c h q more less → (r ≡ q) × (with ≡ more) × (without ≡ less)
   same_mixed g h r q with without more less same a b =
       let router : r ≡ q = one_least (IsMixed net s c) r q a.first b.first in
-      let first : IsWalkOfLeast h (IsRankedAt h q) with = subst (λ (x : PlainGraph). IsWalkOfLeast x (IsRankedAt x q) with) same (subst (λ n. IsWalkOfLeast g (IsRankedAt g n) with) router a.with_least) in
-      let second : IsWalkOfLeast h (IsUnrankedAt h q) without = subst (λ (x : PlainGraph). IsWalkOfLeast x (IsUnrankedAt x q) without) same (subst (λ n. IsWalkOfLeast g (IsUnrankedAt g n) without) router a.without_least) in
+      let first : IsWalkOfLeast h (IsRankedAt h q) with = subst (λ (x : PlainGraph). IsWalkOfLeast x (IsRankedAt x q) with) same
+      (subst (λ n. IsWalkOfLeast g (IsRankedAt g n) with) router a.with_least) in
+      let second : IsWalkOfLeast h (IsUnrankedAt h q) without = subst (λ (x : PlainGraph). IsWalkOfLeast x (IsUnrankedAt x q) without) same
+      (subst (λ n. IsWalkOfLeast g (IsUnrankedAt g n) without) router a.without_least) in
       (router, one_walk h (IsRankedAt h q) with more first b.with_least, one_walk h (IsUnrankedAt h q) without less second b.without_least)
 
   pub one_cause : (e f : CompileRefusal) → IsCause net number room s c e → IsCause net number room s c f → (e ≡ NoMemory) ⊎ (f ≡ NoMemory) ⊎ (e ≡ f)

@@ -5,13 +5,12 @@ use Rattle.std.proofs.lemmas.Option.{same_Some, slice_get-get_or, slice_get-map,
 use Rattle.std.proofs.lemmas.List.{length-map}
 use Rattle.std.specs.Option.{option_map}
 use Rattle.net_base.specs.Network.{PlainNet}
-use Rattle.path_words.specs.declared.case.Case.{Case}
-use Rattle.path_words.specs.declared.policy.Statement.{Statement}
-use Rattle.path_words.specs.Cases.{case_list}
-use Rattle.path_words.specs.Policies.{PlainPolicy, PlainStatement, PolicyLists, plain_statement, policy_of}
-use Rattle.evidence_base.specs.Made.{statement_at}
-use Rattle.case_law.specs.Cases.{OfCase, case_at}
-use Rattle.case_law.proofs.Origins.{IsKnown, case_known}
+use Rattle.policy_base.specs.declared.case.Case.{Case}
+use Rattle.policy_base.specs.declared.policy.Statement.{Statement}
+use Rattle.policy_base.specs.Cases.{case_list}
+use Rattle.policy_base.specs.Policies.{PlainPolicy, PlainStatement, PolicyLists, plain_statement, policy_of, statement_at}
+use Rattle.policy_base.specs.CaseNumbers.{OfCase, case_at}
+use Rattle.policy_base.proofs.KnownCases.{IsKnown, case_known}
 
 case_at-read : (items all cs : List Case) (number : ℕ) (c : Case) → items ≡ all → all ≡ cs → 1 ≤ number → number ≤ length all → c ≡ get_or items (number - 1) c → case_at cs number ≡ Some c
 case_at-read items all cs zero c same are from within read = absurd (omega (arith, from))
@@ -32,7 +31,8 @@ statement_place lists (suc k) s at =
     let within = slice_get_within (map plain_statement lists.statements) k s at in
     (omega arith, omega (arith, within, length-map lists.statements plain_statement))
 
-pub statement_at-read : (items : List Statement) (lists : PolicyLists) (number : ℕ) (statement : Statement) → items ≡ lists.statements → 1 ≤ number → number ≤ length lists.statements → statement ≡ get_or items (number - 1) statement
+pub statement_at-read : (items : List Statement) (lists : PolicyLists) (number : ℕ) (statement : Statement) → items ≡ lists.statements → 1 ≤ number
+    → number ≤ length lists.statements → statement ≡ get_or items (number - 1) statement
     → statement_at (policy_of lists) number ≡ Some (plain_statement statement)
 statement_at-read items lists zero statement same from within read = absurd (omega (arith, from))
 statement_at-read items lists (suc k) statement same from within read =
@@ -47,7 +47,8 @@ pub record IsReadAt (net : PlainNet) (lists : PolicyLists) (number : ℕ) (c : C
   pub from_one : 1 ≤ c.statement
   pub within : c.statement ≤ length lists.statements
 
-pub case_read : (net : PlainNet) (lists : PolicyLists) (items all : List Case) (number : ℕ) (c : Case) → items ≡ all → all ≡ case_list net (policy_of lists) → 1 ≤ number → number ≤ length all → c ≡ get_or items (number - 1) c → IsReadAt net lists number c
+pub case_read : (net : PlainNet) (lists : PolicyLists) (items all : List Case) (number : ℕ) (c : Case) → items ≡ all
+    → all ≡ case_list net (policy_of lists) → 1 ≤ number → number ≤ length all → c ≡ get_or items (number - 1) c → IsReadAt net lists number c
 case_read net lists items all number c same are from within read =
     let at = case_at-read items all (case_list net (policy_of lists)) number c same are from within read in
     let known = case_known net (policy_of lists) (number - 1) c (case_at-place (case_list net (policy_of lists)) number c at) in
@@ -55,7 +56,8 @@ case_read net lists items all number c same are from within read =
     record { at = at; known = known; from_one = place.0; within = place.1 }
 
 -- what holds of the one case with a number and of its statement is what holds of that case
-pub of_case : (net : PlainNet) (policy : PlainPolicy) (number : ℕ) (s : PlainStatement) (c : Case) (Says : PlainStatement → Case → Type 0) → case_at (case_list net policy) number ≡ Some c → statement_at policy c.statement ≡ Some s → Says s c → OfCase net policy number Says
+pub of_case : (net : PlainNet) (policy : PlainPolicy) (number : ℕ) (s : PlainStatement) (c : Case) (Says : PlainStatement → Case → Type 0)
+    → case_at (case_list net policy) number ≡ Some c → statement_at policy c.statement ≡ Some s → Says s c → OfCase net policy number Says
 of_case net policy number s c Says at of says other d is =
     let one : c ≡ d = same_Some c d (sym at ∙ is.case) in
     let statement : s ≡ other = same_Some s other (sym of ∙ ap (λ (x : Case). statement_at policy x.statement) one ∙ is.statement) in

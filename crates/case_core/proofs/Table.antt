@@ -6,7 +6,7 @@ use Rattle.std.proofs.lemmas.List.{get_or-replicate, get_or_read, get_or-set_oth
 use Rattle.std.proofs.lemmas.Grind.{get_or-set_at}
 use Rattle.net_base.specs.declared.loc.LocSet.{LocSet}
 use Rattle.net_base.specs.Sets.{holds}
-use Rattle.path_words.specs.declared.policy.FromSet.{FromSet}
+use Rattle.policy_base.specs.declared.policy.FromSet.{FromSet}
 use Rattle.graph_base.specs.declared.graph.Node.{Node}
 use Rattle.graph_base.specs.Graphs.{PlainGraph}
 use Rattle.graph_base.specs.Runs.{place_of, rank_at}
@@ -66,14 +66,16 @@ row_set routers g n table node old are place rank inside read = record {
 }
 
 -- a node at a peer changes no row
-row_kept : (routers : ℕ) (g : PlainGraph) (n : ℕ) (table : List Firsts) (node : Node) → AreFirsts routers g n table → place_of g n ≡ node.loc → length table ≤ node.loc → AreFirsts routers g (suc n) table
+row_kept : (routers : ℕ) (g : PlainGraph) (n : ℕ) (table : List Firsts) (node : Node) → AreFirsts routers g n table → place_of g n ≡ node.loc
+    → length table ≤ node.loc → AreFirsts routers g (suc n) table
 row_kept routers g n table node are place past = record {
   size = are.size;
   rows = λ r lt. are.rows r lt ∙ other_row g n node place r (λ same. absurd (omega (arith, same, past, lt, are.size)));
 }
 
 -- one turn of the loop, for a node at a router
-pub row_next : (routers : ℕ) (g : PlainGraph) (nodes : List Node) (i place : ℕ) (node : Node) (old new : Firsts) (table after : List Firsts) → AreFirsts routers g i table → nodes ≡ g.nodes → i < length nodes → node ≡ get_or nodes i node →
+pub row_next : (routers : ℕ) (g : PlainGraph) (nodes : List Node) (i place : ℕ) (node : Node) (old new : Firsts) (table after : List Firsts)
+    → AreFirsts routers g i table → nodes ≡ g.nodes → i < length nodes → node ≡ get_or nodes i node →
     place ≡ node.loc → place < length table → old ≡ get_or table place old → new ≡ row_with old node i → after ≡ set table place new → AreFirsts routers g (i + 1) after
 row_next routers g nodes i place node old new table after are same lt read at inside before row_is after_is =
     let place_rank = node_read g nodes i node same lt read in
@@ -84,7 +86,8 @@ row_next routers g nodes i place node old new table after are same lt read at in
     (subst (AreFirsts routers g (suc i)) whole (row_set routers g i table node old are place_rank.0 place_rank.1 (omega (arith, inside, at)) here))
 
 -- and at a peer
-pub row_same : (routers : ℕ) (g : PlainGraph) (nodes : List Node) (i place : ℕ) (node : Node) (table after : List Firsts) → AreFirsts routers g i table → nodes ≡ g.nodes → i < length nodes → node ≡ get_or nodes i node →
+pub row_same : (routers : ℕ) (g : PlainGraph) (nodes : List Node) (i place : ℕ) (node : Node) (table after : List Firsts)
+    → AreFirsts routers g i table → nodes ≡ g.nodes → i < length nodes → node ≡ get_or nodes i node →
     place ≡ node.loc → length table ≤ place → after ≡ table → AreFirsts routers g (i + 1) after
 row_same routers g nodes i place node table after are same lt read at past after_is =
     let place_rank = node_read g nodes i node same lt read in
@@ -93,7 +96,8 @@ row_same routers g nodes i place node table after are same lt read at past after
 
 -- ---- what is found in it
 
-pub lacks_here : (from : FromSet) (origins : LocSet) (table : List Firsts) (i : ℕ) → names from i ≡ true → holds origins i ≡ false → is_some (row table i).ranked ≡ false → lacks_path from origins table i ≡ true
+pub lacks_here : (from : FromSet) (origins : LocSet) (table : List Firsts) (i : ℕ) → names from i ≡ true → holds origins i ≡ false
+    → is_some (row table i).ranked ≡ false → lacks_path from origins table i ≡ true
 lacks_here from origins table i named outside none = rw (named, outside) (none_here (row table i).ranked none)
   where
     none_here : (o : Option ℕ) → is_some o ≡ false → is_none o ≡ true

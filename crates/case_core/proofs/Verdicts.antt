@@ -5,14 +5,14 @@ use Rattle.std.proofs.lemmas.Bool.{and_parts, and_from, eqb-true, eq-eqb, lt-ltb
 use Rattle.list_laws.proofs.Options.{cases_Option, is_none_from, is_none_parts}
 use Rattle.net_base.specs.Network.{PlainNet, is_router}
 use Rattle.net_base.specs.Sets.{holds}
-use Rattle.path_words.specs.declared.case.Case.{Case}
-use Rattle.path_words.specs.Policies.{PlainStatement}
-use Rattle.path_words.specs.Permitted.{from_holds}
+use Rattle.policy_base.specs.declared.case.Case.{Case}
+use Rattle.policy_base.specs.Policies.{PlainStatement}
+use Rattle.policy_base.specs.Permitted.{from_holds}
 use Rattle.graph_base.specs.Graphs.{PlainGraph, IsGraph}
 use Rattle.graph_base.specs.Runs.{place_of, rank_at}
 use Rattle.graph_base.specs.Walks.{IsShownWalk}
 use Rattle.graph_base.proofs.ShownWalks.{shown_walk_run}
-use Rattle.regret_law.specs.Faithful.{IsFaithful, may_start}
+use Rattle.evidence_law.specs.Faithful.{IsFaithful, may_start}
 use Rattle.case_core.specs.declared.firsts.Firsts.{Firsts}
 use Rattle.case_core.specs.declared.sources.Mixed.{Mixed}
 use Rattle.graph_base.specs.Least.{least_below}
@@ -97,7 +97,8 @@ module _ (net : PlainNet) (s : PlainStatement) (c : Case) (g : PlainGraph) (grap
       elim (cases_Option (row table r).ranked) [
         | inr n ↦ has_path r n.0 source.at_router lt n.1
         | inl none ↦
-            let yes = and_from (names s.from r && not (holds c.origins r)) (is_none (row table r).ranked) (and_from (names s.from r) (not (holds c.origins r)) source.named source.no_origin) (is_none_from _ none) in
+            let yes = and_from (names s.from r && not (holds c.origins r)) (is_none (row table r).ranked)
+            (and_from (names s.from r) (not (holds c.origins r)) source.named source.no_origin) (is_none_from _ none) in
             absurd (true≢false (sym yes ∙ least_none (length table) (lacks_path s.from c.origins table) h r lt))
       ]
 

@@ -4,21 +4,21 @@ use Rattle.std.specs.Prelude.{is_some}
 use Rattle.std.proofs.lemmas.Bool.{or_left, true≢false}
 use Rattle.net_base.specs.Network.{PlainNet}
 use Rattle.net_base.specs.Sets.{holds}
-use Rattle.path_words.specs.declared.case.Case.{Case}
-use Rattle.path_words.specs.declared.policy.FromSet.{FromSet}
-use Rattle.path_words.specs.declared.policy.FromSet.TheVariants.{Any, Named}
-use Rattle.path_words.specs.Policies.{PlainStatement}
-use Rattle.path_words.specs.Permitted.{from_holds}
+use Rattle.policy_base.specs.declared.case.Case.{Case}
+use Rattle.policy_base.specs.declared.policy.FromSet.{FromSet}
+use Rattle.policy_base.specs.declared.policy.FromSet.TheVariants.{Any, Named}
+use Rattle.policy_base.specs.Policies.{PlainStatement}
+use Rattle.policy_base.specs.Permitted.{from_holds}
 use Rattle.graph_base.specs.Graphs.{PlainGraph, IsGraph}
 use Rattle.graph_base.specs.Ranked.{IsUnrankedAt}
 use Rattle.graph_base.specs.Runs.{place_of, rank_at, run}
-use Rattle.regret_law.specs.Faithful.{IsFaithful, is_walk_to, may_start}
-use Rattle.regret_law.specs.Passes.{IsClaimed}
+use Rattle.evidence_law.specs.Faithful.{IsFaithful, is_walk_to, may_start}
+use Rattle.evidence_law.specs.Passes.{IsClaimed}
 use Rattle.list_laws.proofs.Options.{cases_Option, is_some_parts}
 use Rattle.graph_law.proofs.Claimed.{run_from}
 use Rattle.case_core.specs.Sources.{IsMixed, IsUnranked, names}
 use Rattle.graph_base.proofs.RunSteps.{run_begins, run_inside}
-use Rattle.regret_law.proofs.RunWalks.{runs_are_walks}
+use Rattle.evidence_law.proofs.RunWalks.{runs_are_walks}
 
 pub named_from : (from : FromSet) (r : ℕ) → names from r ≡ true → from_holds from r ≡ true
 named_from Any r h = absurd (true≢false (sym h))

@@ -2,13 +2,12 @@
 use Rattle.std.specs.Prelude.{◌≡◌, ◌≤◌, ℕ, Some, length, slice_get}
 use Rattle.net_base.specs.Network.{PlainNet}
 use Rattle.net_base.specs.NetSets.{locations}
-use Rattle.net_base.specs.declared.limits.TheConstants.{ALTERNATIVES}
-use Rattle.path_words.specs.Meaning.{alternative_count}
-use Rattle.path_words.specs.Policies.{PlainPolicy, PlainStatement}
+use Rattle.policy_base.specs.declared.limits.TheConstants.{ALTERNATIVES}
+use Rattle.policy_base.specs.Meaning.{alternative_count}
+use Rattle.policy_base.specs.Policies.{PlainPolicy, PlainStatement, statement_at}
 use Rattle.path_exprs.specs.Forward.{expressions}
 use Rattle.path_automata.specs.declared.states.Automata.{Automata}
 use Rattle.path_automata.specs.States.{Begins}
-use Rattle.evidence_base.specs.Made.{statement_at}
 use Rattle.case_core.specs.declared.automata.StatementAutomata.{StatementAutomata}
 use Rattle.case_core.specs.declared.kept.KeptAutomata.{KeptAutomata}
 

@@ -4,3 +4,5 @@ pub mod Mixed
 pub mod Numbered
 pub mod Refusals
 pub mod Sources
+pub mod BuildFaults
+pub mod BuildOutcomes

@@ -1,19 +1,20 @@
 -- What is made of a case, and why a case is refused.
 use Rattle.std.specs.Prelude.{◌≡◌, ℕ, ◌-◌, ◌^◌, ◌<◌, ◌≤◌, min, IsTrue, List, ◌∷◌, length}
-use Rattle.net_base.specs.declared.limits.TheConstants.{ALTERNATIVES, NODES}
+use Rattle.policy_base.specs.declared.limits.TheConstants.{ALTERNATIVES}
+use Rattle.path_exprs.specs.declared.limits.TheConstants.{NODES}
 use Rattle.net_base.specs.declared.numbers.Tag.{Tag}
 use Rattle.net_base.specs.Network.{PlainNet}
 use Rattle.net_base.specs.Sets.{holds}
-use Rattle.path_words.specs.declared.case.Case.{Case}
-use Rattle.path_words.specs.Meaning.{alternative_count}
-use Rattle.path_words.specs.Policies.{PlainStatement}
+use Rattle.policy_base.specs.declared.case.Case.{Case}
+use Rattle.policy_base.specs.Meaning.{alternative_count}
+use Rattle.policy_base.specs.Policies.{PlainStatement}
 use Rattle.graph_base.specs.Graphs.{PlainGraph}
 use Rattle.graph_base.specs.Ranked.{IsRankedAt, IsUnrankedAt}
 use Rattle.graph_base.specs.Walks.{IsShownWalk}
-use Rattle.regret_law.specs.Faithful.{permits}
-use Rattle.regret_law.specs.Passes.{IsCaseGraph}
+use Rattle.evidence_law.specs.Faithful.{permits}
+use Rattle.evidence_law.specs.Passes.{IsCaseGraph}
 use Rattle.path_exprs.specs.Standings.{PassesStates, plan_for}
-use Rattle.product_graph.specs.Outcomes.{PassesSteps}
+use Rattle.case_core.specs.BuildOutcomes.{PassesSteps}
 use Rattle.graph_law.specs.Limits.{IsBuiltWithin}
 use Rattle.reach_prune.specs.Trimmed.{IsTrimmed}
 use Rattle.case_core.specs.declared.cases.CaseGraph.{CaseGraph}

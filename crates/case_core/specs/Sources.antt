@@ -2,13 +2,13 @@
 use Rattle.std.specs.Prelude.{◌≡◌, ℕ, ◌≤◌, Bool, false, not, IsTrue, List, ◌∷◌, ◌++◌, None}
 use Rattle.net_base.specs.Network.{PlainNet, is_router}
 use Rattle.net_base.specs.Sets.{holds}
-use Rattle.path_words.specs.declared.case.Case.{Case}
-use Rattle.path_words.specs.declared.policy.FromSet.{FromSet}
-use Rattle.path_words.specs.declared.policy.FromSet.TheVariants.{Any, Named}
-use Rattle.path_words.specs.Meaning.{rank_of}
-use Rattle.path_words.specs.Policies.{PlainStatement}
-use Rattle.regret_law.specs.Faithful.{is_walk_to, permits}
-use Rattle.regret_law.specs.Passes.{IsClaimed}
+use Rattle.policy_base.specs.declared.case.Case.{Case}
+use Rattle.policy_base.specs.declared.policy.FromSet.{FromSet}
+use Rattle.policy_base.specs.declared.policy.FromSet.TheVariants.{Any, Named}
+use Rattle.policy_base.specs.Meaning.{rank_of}
+use Rattle.policy_base.specs.Policies.{PlainStatement}
+use Rattle.evidence_law.specs.Faithful.{is_walk_to, permits}
+use Rattle.evidence_law.specs.Passes.{IsClaimed}
 
 -- the least number of which something holds
 abbrev pub IsLeast : (ℕ → Type 0) → ℕ → Type 0

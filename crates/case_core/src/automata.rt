@@ -1,9 +1,9 @@
 //! The automaton of a statement, which all its cases share.
 ghost use Rattle.std.specs.Prelude.{◌≡◌, ◌≤◌, ℕ, IfErr, IfOk, IfSome, OnOk};
-ghost use Rattle.net_base.specs.declared.limits.TheConstants.{ALTERNATIVES};
-ghost use Rattle.path_words.specs.declared.case.Case.{Case as PlainCase};
-ghost use Rattle.path_words.specs.Meaning.{alternative_count};
-ghost use Rattle.path_words.specs.Policies.{plain_statement, ranking_of};
+ghost use Rattle.policy_base.specs.declared.limits.TheConstants.{ALTERNATIVES};
+ghost use Rattle.policy_base.specs.declared.case.Case.{Case as PlainCase};
+ghost use Rattle.policy_base.specs.Meaning.{alternative_count};
+ghost use Rattle.policy_base.specs.Policies.{plain_statement, ranking_of};
 ghost use Rattle.path_exprs.specs.Forward.{expressions};
 ghost use Rattle.case_core.specs.Automata.{FitsStatement, IsAutomatonOf};
 ghost use Rattle.case_core.specs.Refusals.{IsCause, IsPastLimit};
@@ -11,10 +11,10 @@ ghost use Rattle.case_core.specs.Refusals.{IsCause, IsPastLimit};
 use crate::refusal::CompileRefusal;
 use constraint_expand::{ExpandFault, expand};
 use net_base::Net;
-use net_base::limits::NODES;
 use path_automata::Automata;
 use path_exprs::RankedExpr;
-use path_words::{Case, Statement};
+use path_exprs::limits::NODES;
+use policy_base::{Case, Statement};
 use std::alloc::Global;
 
 /// The automaton of the statement with this number, from 1, with the states that its cases found so far.

@@ -1,11 +1,11 @@
 //! The graph of a case.
 ghost use Rattle.std.specs.Prelude.{◌≡◌, ◌<◌, ◌≤◌, ℕ, IfErr, IfOk, IfSome, OnOk, length};
-ghost use Rattle.path_words.specs.declared.case.Case.{Case as PlainCase};
-ghost use Rattle.path_words.specs.Cases.{case_list};
-ghost use Rattle.path_words.specs.Policies.{plain_statement, policy_of};
+ghost use Rattle.policy_base.specs.declared.case.Case.{Case as PlainCase};
+ghost use Rattle.policy_base.specs.Cases.{case_list};
+ghost use Rattle.policy_base.specs.Policies.{plain_statement, policy_of};
 ghost use Rattle.graph_base.specs.Graphs.{IsGraph, PlainGraph};
 ghost use Rattle.graph_base.specs.Walks.{IsEnteredFromBefore};
-ghost use Rattle.case_law.specs.Cases.{FitsOrigins, OfCase, OriginsAreRouters};
+ghost use Rattle.policy_base.specs.CaseNumbers.{FitsOrigins, OfCase, OriginsAreRouters};
 ghost use Rattle.graph_law.specs.Limits.{IsBuiltWithin};
 ghost use Rattle.case_core.specs.Automata.{AllFit, FitsStatement, IsAutomatonOf};
 ghost use Rattle.case_core.specs.Refusals.{FitsCase, IsCause, IsGraphOf, IsMade, IsPastLimit, ShowsWalks};
@@ -16,12 +16,12 @@ use crate::firsts::first_nodes;
 use crate::kept::KeptAutomata;
 use crate::refusal::CompileRefusal;
 use crate::sources::{Mixed, first_mixed, without_path};
+use crate::{BuildFault, build_over};
 use graph_base::{Graph, walk_of};
 use net_base::Net;
 use outside::NoMemory;
 use path_automata::Automata;
-use path_words::{Case, CaseList, Policy, Statement};
-use product_graph::{BuildFault, build_over};
+use policy_base::{Case, CaseList, Policy, Statement};
 use reach_prune::trim;
 use std::alloc::Global;
 

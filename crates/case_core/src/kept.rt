@@ -1,11 +1,11 @@
 //! The automata that are kept for the statements of a policy.
 ghost use Rattle.std.specs.Prelude.{◌≡◌, ◌-◌, ◌≤◌, IfOk, None, Some, length, replicate, slice_get, slice_set};
 ghost use Rattle.net_base.specs.Network.{PlainNet};
-ghost use Rattle.path_words.specs.Policies.{policy_of};
+ghost use Rattle.policy_base.specs.Policies.{policy_of};
 ghost use Rattle.case_core.specs.Automata.{AllFit};
 
 use crate::automata::StatementAutomata;
-use path_words::Policy;
+use policy_base::Policy;
 use std::alloc::{AllocError, Global};
 
 /// The automata of a policy's statements: each is made for the first case of its statement, and there for the later ones.

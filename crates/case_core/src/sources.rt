@@ -8,7 +8,7 @@ ghost use Rattle.case_core.specs.Sources.{names as names_of};
 
 use crate::firsts::Firsts;
 use net_base::{Loc, LocSet};
-use path_words::FromSet;
+use policy_base::FromSet;
 
 /// Whether a `from` set names the location, and not by `any`.
 fn names(from: &FromSet, at: Loc) -> bool

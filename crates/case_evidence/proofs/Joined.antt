@@ -3,13 +3,13 @@ use Rattle.std.proofs.Common.{◌≡◌, ℕ, ◌<◌, [], length, sym, subst}
 use Rattle.std.specs.Prelude.{IsSome}
 use Rattle.net_base.specs.Network.{PlainNet}
 use Rattle.net_base.specs.Sets.{holds}
-use Rattle.path_words.specs.declared.case.Case.{Case}
-use Rattle.path_words.specs.Policies.{PlainStatement}
+use Rattle.policy_base.specs.declared.case.Case.{Case}
+use Rattle.policy_base.specs.Policies.{PlainStatement}
 use Rattle.graph_base.specs.Graphs.{IsGraph, PlainGraph}
 use Rattle.graph_base.specs.Runs.{place_of, rank_at}
 use Rattle.graph_base.specs.Walks.{IsEnteredFromBefore}
-use Rattle.regret_law.specs.Faithful.{IsFaithful}
-use Rattle.regret_law.specs.Passes.{IsClaimed}
+use Rattle.evidence_law.specs.Faithful.{IsFaithful}
+use Rattle.evidence_law.specs.Passes.{IsClaimed}
 use Rattle.node_quotient.specs.Quotient.{IsQuotient}
 use Rattle.quotient_law.proofs.Faith.{quotient_entered, quotient_is_faithful, quotient_ranked}
 use Rattle.quotient_law.proofs.One.{one_quotient, quotient_is_graph}

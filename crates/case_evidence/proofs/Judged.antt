@@ -4,8 +4,8 @@ use Rattle.std.specs.Prelude.{◌↔◌}
 use Rattle.std.proofs.lemmas.Bool.{and_parts, not-true, true≢false}
 use Rattle.net_base.specs.Network.{PlainNet}
 use Rattle.net_base.specs.Sets.{holds}
-use Rattle.path_words.specs.declared.case.Case.{Case}
-use Rattle.path_words.specs.Policies.{PlainStatement}
+use Rattle.policy_base.specs.declared.case.Case.{Case}
+use Rattle.policy_base.specs.Policies.{PlainStatement}
 use Rattle.graph_base.specs.Graphs.{PlainGraph, IsGraph}
 use Rattle.graph_base.specs.Rules.{MeetsRules}
 use Rattle.relation_law.specs.Rounds.{gone_after, is_pair, left_after}
@@ -22,8 +22,8 @@ use Rattle.state_simulation.specs.Held.{HasEach, IsRelationOf, PlainRelation, ha
 use Rattle.state_simulation.proofs.Holding.{total_where_each}
 use Rattle.net_base.specs.declared.loc.LocSet.{LocSet}
 use Rattle.pref_inference.specs.Inferred as found
-use Rattle.regret_law.specs.Faithful.{IsFaithful}
-use Rattle.regret_law.specs.Passes.{IsClaimed}
+use Rattle.evidence_law.specs.Faithful.{IsFaithful}
+use Rattle.evidence_law.specs.Passes.{IsClaimed}
 use Rattle.case_core.specs.declared.refusal.CompileRefusal.TheVariants.{NoEvidence}
 use Rattle.graph_law.proofs.Claimed.{claimed_where_ranked, listeners_ranked}
 use Rattle.case_evidence.specs.declared.accepted.AcceptedCase.{AcceptedCase}
@@ -45,8 +45,10 @@ module _ (net : PlainNet) (s : PlainStatement) (c : Case) (g : PlainGraph) (grap
   pub no_numbers : (claimed : LocSet) → ((l : ℕ) → (holds claimed l ≡ true) ↔ IsRankedRouter net g l) → (r : Refutation) → IsRefutationOf g claimed r → HasNoNumbers net s c
   no_numbers claimed ranked r is other number other_rules also rules =
       let claims = claims claimed ranked in
-      let held : MeetsRules net (λ l. holds claimed l ≡ true) c.external other number = rules_claimed net (IsClaimed net s c) (λ l. holds claimed l ≡ true) c.external other number (λ l h. (claims l).0 h) rules in
-      let numbers = rules_give_numbers net (holds c.origins) c.external other also.formed other_rules claimed (λ l h. ((claims l).0 h).at_router) (listeners_ranked net s c other other_rules also) number held in
+      let held : MeetsRules net (λ l. holds claimed l ≡ true) c.external other number = rules_claimed net (IsClaimed net s c)
+      (λ l. holds claimed l ≡ true) c.external other number (λ l h. (claims l).0 h) rules in
+      let numbers = rules_give_numbers net (holds c.origins) c.external other also.formed other_rules claimed (λ l h. ((claims l).0 h).at_router)
+      (listeners_ranked net s c other other_rules also) number held in
       let v = view_of g claimed in
       let open_pair = is.chosen.pair.is_open in
       let alike = are_alike net s (holds c.origins) c.external other g other_rules graph_rules also faithful claimed in
@@ -75,7 +77,8 @@ module _ (net : PlainNet) (s : PlainStatement) (c : Case) (g : PlainGraph) (grap
 
 -- ---- of a graph that is given
 
-module _ (net : PlainNet) (room : ℕ) (s : PlainStatement) (c : Case) (given : AcceptedCase) (is : IsGivenGraph net room s c given.graph given.used) (r : PlainRelation) (relation : IsRelationOf given.graph r)
+module _ (net : PlainNet) (room : ℕ) (s : PlainStatement) (c : Case) (given : AcceptedCase) (is : IsGivenGraph net room s c given.graph given.used)
+    (r : PlainRelation) (relation : IsRelationOf given.graph r)
     (ranked : (l : ℕ) → (holds r.claimed l ≡ true) ↔ IsRankedRouter net given.graph l) where
   pub is_accepted : HasEach r → length given.prefs.of ≡ length given.graph.nodes → ((n : ℕ) → n < length given.graph.nodes → number_in given.prefs.of n ≡ found.inferred net given.graph r n)
       → ((external : Bool) → MeetsRules net (λ l. holds r.claimed l ≡ true) external given.graph (number_in given.prefs.of)) → IsAccepted net room s c given

@@ -3,16 +3,16 @@ use Rattle.std.proofs.Common.{◌≡◌, ℕ, zero, suc, ◌≤◌, length, Some
 use Rattle.std.specs.Prelude.{slice_get}
 use Rattle.std.proofs.lemmas.Option.{slice_get_cases}
 use Rattle.net_base.specs.Network.{PlainNet}
-use Rattle.path_words.specs.declared.case.Case.{Case}
-use Rattle.path_words.specs.Cases.{case_list}
-use Rattle.path_words.specs.Policies.{PlainPolicy, PlainStatement}
-use Rattle.case_law.specs.Cases.{IsCase, OfCase}
+use Rattle.policy_base.specs.declared.case.Case.{Case}
+use Rattle.policy_base.specs.Cases.{case_list}
+use Rattle.policy_base.specs.Policies.{PlainPolicy, PlainStatement}
+use Rattle.policy_base.specs.CaseNumbers.{IsCase, OfCase}
 use Rattle.case_core.specs.Refusals.{IsCause, IsGraphOf}
 use Rattle.case_core.specs.declared.refusal.CompileRefusal.{CompileRefusal}
 use Rattle.case_core.specs.declared.refusal.CompileRefusal.TheVariants.{TooManyRanks, TooManyStates, TooManySteps, SourceWithoutPath, MixedSource, NoEvidence, NoMemory}
 use Rattle.case_evidence.specs.Accepted.{IsCaseCause}
 use Rattle.case_core.specs.declared.cases.CaseGraph.{CaseGraph}
-use Rattle.case_law.proofs.Origins.{case_known}
+use Rattle.policy_base.proofs.KnownCases.{case_known}
 
 -- there is a case with each number of the list, from 1
 pub case_there : (net : PlainNet) (policy : PlainPolicy) (number : ℕ) → 1 ≤ number → number ≤ length (case_list net policy) → (s : PlainStatement) × (c : Case) × IsCase net policy number s c
@@ -26,7 +26,8 @@ case_there net policy (suc k) from within =
     (known.statement.0, at.0, record { case = at.1; statement = known.statement.1 })
 
 -- so a graph that is given for it was built with no more steps than there is room for
-pub used_within : (net : PlainNet) (policy : PlainPolicy) (number room : ℕ) (given : CaseGraph) → 1 ≤ number → number ≤ length (case_list net policy) → OfCase net policy number (λ s c. IsGraphOf net room s c given) → given.used ≤ room
+pub used_within : (net : PlainNet) (policy : PlainPolicy) (number room : ℕ) (given : CaseGraph) → 1 ≤ number → number ≤ length (case_list net policy)
+    → OfCase net policy number (λ s c. IsGraphOf net room s c given) → given.used ≤ room
 used_within net policy number room given from within of =
     let case = case_there net policy number from within in
     let graph = of case.0 case.1 case.2 in

@@ -6,8 +6,8 @@ use Rattle.std.proofs.lemmas.Grind.{same_number_lists}
 use Rattle.std.proofs.lemmas.Option.{unwrap_or-slice_get}
 use Rattle.net_base.specs.Network.{PlainNet}
 use Rattle.net_base.specs.Sets.{holds}
-use Rattle.path_words.specs.declared.case.Case.{Case}
-use Rattle.path_words.specs.Policies.{PlainStatement}
+use Rattle.policy_base.specs.declared.case.Case.{Case}
+use Rattle.policy_base.specs.Policies.{PlainStatement}
 use Rattle.graph_base.specs.declared.refutation.Refutation.{Refutation}
 use Rattle.graph_base.specs.Graphs.{IsGraph, PlainGraph}
 use Rattle.graph_base.specs.Refuting.{HasSingleSteps}
@@ -25,7 +25,7 @@ use Rattle.relation_law.proofs.Counts.{one_greatest}
 use Rattle.case_core.specs.declared.refusal.CompileRefusal.{CompileRefusal}
 use Rattle.case_core.specs.declared.refusal.CompileRefusal.TheVariants.{TooManyRanks, TooManyStates, TooManySteps, SourceWithoutPath, MixedSource, NoEvidence, NoMemory}
 use Rattle.case_core.specs.Refusals.{IsCause}
-use Rattle.regret_law.specs.Passes.{IsClaimed}
+use Rattle.evidence_law.specs.Passes.{IsClaimed}
 use Rattle.case_core.proofs.OneCause as graphs
 use Rattle.case_evidence.specs.declared.accepted.AcceptedCase.{AcceptedCase}
 use Rattle.case_evidence.proofs.Joined.{given_fits, one_given}
@@ -33,7 +33,8 @@ use Rattle.graph_base.specs.Preferences.{number_in}
 use Rattle.case_evidence.specs.Accepted.{HasNoNumbers, IsAccepted, IsCaseCause, IsGivenGraph, IsNumbered, IsRefuted}
 
 -- two sets of the claimed routers have the same members
-same_claims : (net : PlainNet) (s : PlainStatement) (c : Case) (a b : LocSet) → ((l : ℕ) → (holds a l ≡ true) ↔ IsClaimed net s c l) → ((l : ℕ) → (holds b l ≡ true) ↔ IsClaimed net s c l) → (l : ℕ) → holds a l ≡ holds b l
+same_claims : (net : PlainNet) (s : PlainStatement) (c : Case) (a b : LocSet) → ((l : ℕ) → (holds a l ≡ true) ↔ IsClaimed net s c l)
+    → ((l : ℕ) → (holds b l ≡ true) ↔ IsClaimed net s c l) → (l : ℕ) → holds a l ≡ holds b l
 same_claims net s c a b of_a of_b l = both_ways (holds a l) (holds b l) (λ h. (of_b l).1 ((of_a l).0 h)) (λ h. (of_a l).1 ((of_b l).0 h))
 
 -- the numbers of a graph for the claimed routers are one list
@@ -119,6 +120,9 @@ module _ (net : PlainNet) (number room : ℕ) (s : PlainStatement) (c : Case) wh
     ]
     | inr of_numbers ↦ elim (kinds f b) [
       | inl other ↦ inr (inl (given_not_refused of_numbers.graph of_numbers.used f of_numbers.given other))
-      | inr other ↦ inr (inr (of_numbers.is ∙ same_evidence of_numbers.graph other.graph of_numbers.used other.used of_numbers.refutation other.refutation of_numbers.given other.given of_numbers.refuted other.refuted ∙ sym other.is))
+      | inr other ↦
+          inr (inr (of_numbers.is
+          ∙ same_evidence of_numbers.graph other.graph of_numbers.used other.used of_numbers.refutation other.refutation of_numbers.given
+          other.given of_numbers.refuted other.refuted ∙ sym other.is))
     ]
   ]

@@ -3,8 +3,8 @@ use Rattle.std.specs.Prelude.{◌≡◌, ◌↔◌, ℕ, ◌<◌, Bool, IsTrue, 
 use Rattle.net_base.specs.declared.loc.LocSet.{LocSet}
 use Rattle.net_base.specs.Network.{PlainNet}
 use Rattle.net_base.specs.Sets.{holds}
-use Rattle.path_words.specs.declared.case.Case.{Case}
-use Rattle.path_words.specs.Policies.{PlainStatement}
+use Rattle.policy_base.specs.declared.case.Case.{Case}
+use Rattle.policy_base.specs.Policies.{PlainStatement}
 use Rattle.graph_base.specs.declared.refutation.Refutation.{Refutation}
 use Rattle.graph_base.specs.Graphs.{IsGraph, PlainGraph}
 use Rattle.graph_base.specs.Refuting.{Refutes}
@@ -16,8 +16,8 @@ use Rattle.relation_law.specs.Relations.{IsGreatest, IsTotal}
 use Rattle.relation_law.specs.Views.{view_of}
 use Rattle.refutation_law.specs.Choosing.{IsRefutationOf}
 use Rattle.node_quotient.specs.Quotient.{IsQuotient}
-use Rattle.regret_law.specs.Faithful.{IsFaithful}
-use Rattle.regret_law.specs.Passes.{IsClaimed}
+use Rattle.evidence_law.specs.Faithful.{IsFaithful}
+use Rattle.evidence_law.specs.Passes.{IsClaimed}
 use Rattle.case_core.specs.declared.refusal.CompileRefusal.{CompileRefusal}
 use Rattle.case_core.specs.declared.refusal.CompileRefusal.TheVariants.{NoEvidence}
 use Rattle.case_core.specs.Refusals.{FitsCase, IsCause, IsGraphOf}

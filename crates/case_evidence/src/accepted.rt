@@ -1,10 +1,10 @@
 //! Cases that are accepted.
 ghost use Rattle.std.specs.Prelude.{◌≡◌, ◌≤◌, ℕ, IfErr, IfOk, length};
-ghost use Rattle.path_words.specs.declared.case.Case.{Case};
-ghost use Rattle.path_words.specs.Cases.{case_list};
-ghost use Rattle.path_words.specs.Policies.{PlainStatement, policy_of};
+ghost use Rattle.policy_base.specs.declared.case.Case.{Case};
+ghost use Rattle.policy_base.specs.Cases.{case_list};
+ghost use Rattle.policy_base.specs.Policies.{PlainStatement, policy_of};
 ghost use Rattle.graph_base.specs.Refuting.{HasSingleSteps};
-ghost use Rattle.case_law.specs.Cases.{OfCase, OriginsAreRouters};
+ghost use Rattle.policy_base.specs.CaseNumbers.{OfCase, OriginsAreRouters};
 ghost use Rattle.case_core.specs.Automata.{AllFit};
 ghost use Rattle.case_evidence.specs.Accepted.{IsAccepted, IsCaseCause, IsGivenGraph};
 
@@ -12,7 +12,7 @@ use case_core::{CaseGraph, CompileRefusal, KeptAutomata, case_graph_over};
 use graph_base::{Graph, Prefs, ranked_routers};
 use net_base::Net;
 use node_quotient::quotient;
-use path_words::{CaseList, Policy};
+use policy_base::{CaseList, Policy};
 use pref_inference::infer;
 use relation_refute::refutation;
 use state_simulation::total_relation;

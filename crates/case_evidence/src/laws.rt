@@ -1,8 +1,8 @@
 //! Laws of accepted cases, each the contract of a function without a body.
 ghost use Rattle.std.specs.Prelude.{◌≡◌, ◌⊎◌, ℕ};
 ghost use Rattle.net_base.specs.Network.{PlainNet};
-ghost use Rattle.path_words.specs.declared.case.Case.{Case};
-ghost use Rattle.path_words.specs.Policies.{PlainStatement};
+ghost use Rattle.policy_base.specs.declared.case.Case.{Case};
+ghost use Rattle.policy_base.specs.Policies.{PlainStatement};
 ghost use Rattle.case_core.specs.declared.refusal.CompileRefusal.{CompileRefusal};
 ghost use Rattle.case_core.specs.declared.refusal.CompileRefusal.TheVariants.{NoMemory};
 ghost use Rattle.case_evidence.specs.declared.accepted.AcceptedCase.{AcceptedCase};

@@ -7,14 +7,13 @@ use Rattle.list_laws.proofs.Members.{list_any-from_IsIn}
 use Rattle.list_laws.proofs.Options.{option_and_then_parts, option_map_or_equal}
 use Rattle.list_laws.proofs.Tests.{list_any_parts}
 use Rattle.net_base.specs.Network.{PlainNet}
-use Rattle.path_words.specs.declared.case.Case.{Case}
-use Rattle.path_words.specs.Cases.{case_list}
-use Rattle.path_words.specs.Policies.{PlainPolicy, PlainStatement}
-use Rattle.evidence_base.specs.Made.{statement_at}
+use Rattle.policy_base.specs.declared.case.Case.{Case}
+use Rattle.policy_base.specs.Cases.{case_list}
+use Rattle.policy_base.specs.Policies.{PlainPolicy, PlainStatement, statement_at}
 use Rattle.graph_base.specs.declared.graph.Node.{Node}
 use Rattle.graph_base.specs.Graphs.{PlainGraph}
 use Rattle.bit_rows.specs.Tables.{PlainRows, has_at}
-use Rattle.case_law.specs.Cases.{IsCase}
+use Rattle.policy_base.specs.CaseNumbers.{IsCase}
 use Rattle.case_ranks.specs.Marks.{AreReached, HasRank, is_rank, some_has_rank}
 use Rattle.case_ranks.specs.Reached.{IsRankOfCase, IsReached}
 

@@ -5,17 +5,17 @@ use Rattle.std.specs.List.{list_any}
 use Rattle.std.proofs.lemmas.Bool.{and_parts, and_from, or_left, or_parts, not-true, not_from_false, false≢true}
 use Rattle.net_base.specs.Network.{PlainNet}
 use Rattle.net_base.specs.Sets.{holds}
-use Rattle.path_words.specs.declared.case.Case.{Case}
-use Rattle.path_words.specs.Policies.{PlainStatement}
-use Rattle.path_words.specs.Meaning.{alternative_count, alternatives, at_last, front, rank_of}
-use Rattle.path_words.proofs.RankPlaces.{length-alternatives, place_of-within}
-use Rattle.path_words.specs.Permitted.{ends_at_origin, from_holds}
-use Rattle.path_words.specs.Walks.{is_walk}
+use Rattle.policy_base.specs.declared.case.Case.{Case}
+use Rattle.policy_base.specs.Policies.{PlainStatement}
+use Rattle.policy_base.specs.Meaning.{alternative_count, alternatives, at_last, front, rank_of}
+use Rattle.policy_base.proofs.RankPlaces.{length-alternatives, place_of-within}
+use Rattle.policy_base.specs.Permitted.{ends_at_origin, from_holds}
+use Rattle.policy_base.specs.Walks.{is_walk}
 use Rattle.graph_base.specs.Graphs.{PlainGraph, IsGraph}
 use Rattle.graph_base.specs.Runs.{place_of, rank_at, run}
 use Rattle.graph_base.proofs.RunSteps.{run_begins, run_inside}
-use Rattle.regret_law.specs.Faithful.{IsFaithful, is_walk_to, may_start, permits}
-use Rattle.regret_law.proofs.PermittedWalks.{permits_parts}
+use Rattle.evidence_law.specs.Faithful.{IsFaithful, is_walk_to, may_start, permits}
+use Rattle.evidence_law.proofs.PermittedWalks.{permits_parts}
 use Rattle.list_laws.proofs.Options.{is_some_parts}
 use Rattle.graph_law.proofs.Claimed.{ranked_may, run_from, ranked_permits}
 use Rattle.case_ranks.specs.Marks.{HasRank}

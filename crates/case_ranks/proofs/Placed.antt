@@ -5,15 +5,15 @@ use Rattle.std.specs.List.{AllByRecursion}
 use Rattle.std.proofs.lemmas.Option.{slice_get_within}
 use Rattle.list_laws.specs.Members.{IsIn}
 use Rattle.list_laws.proofs.Members.{AllByRecursion-from_IsIn}
-use Rattle.net_base.specs.declared.limits.TheConstants.{ALTERNATIVES}
+use Rattle.policy_base.specs.declared.limits.TheConstants.{ALTERNATIVES}
 use Rattle.net_base.specs.Network.{PlainNet, IsNet}
-use Rattle.path_words.specs.declared.case.Case.{Case}
-use Rattle.path_words.specs.Cases.{case_list}
-use Rattle.path_words.specs.Policies.{PlainStatement, PolicyLists, policy_of}
+use Rattle.policy_base.specs.declared.case.Case.{Case}
+use Rattle.policy_base.specs.Cases.{case_list}
+use Rattle.policy_base.specs.Policies.{PlainStatement, PolicyLists, policy_of}
 use Rattle.graph_base.specs.declared.graph.Node.{Node}
 use Rattle.graph_base.specs.Graphs.{IsGraph}
-use Rattle.case_law.specs.Cases.{FitsOrigins, IsCase, OriginsAreRouters}
-use Rattle.case_law.proofs.Origins.{known_origins}
+use Rattle.policy_base.specs.CaseNumbers.{FitsOrigins, IsCase, OriginsAreRouters}
+use Rattle.policy_base.proofs.KnownCases.{known_origins}
 use Rattle.case_core.specs.declared.cases.CaseGraph.{CaseGraph}
 use Rattle.case_core.specs.Refusals.{IsGraphOf}
 use Rattle.case_core.proofs.Given.{made_is_faithful}
@@ -29,7 +29,8 @@ pub record IsPlaced (net : PlainNet) (lists : PolicyLists) (place : ℕ) (c : Ca
   pub origins : FitsOrigins net c
   pub within : c.statement ≤ length lists.statements
 
-pub placed : (net : PlainNet) (lists : PolicyLists) (items all : List Case) (place : ℕ) (c : Case) → OriginsAreRouters net lists.origins → items ≡ all → all ≡ case_list net (policy_of lists) → place < length items
+pub placed : (net : PlainNet) (lists : PolicyLists) (items all : List Case) (place : ℕ) (c : Case) → OriginsAreRouters net lists.origins → items ≡ all
+    → all ≡ case_list net (policy_of lists) → place < length items
     → c ≡ get_or items place c → IsPlaced net lists place c
 placed net lists items all place c routers same are within read =
     let before : place ≡ place + 1 - 1 = omega arith in
@@ -42,7 +43,8 @@ placed net lists items all place c routers same are within read =
     }
 
 -- the ranks of its graph are those of its walks
-module _ (net : PlainNet) (rules : IsNet net) (room : ℕ) (s : PlainStatement) (c : Case) (origins : FitsOrigins net c) (given : CaseGraph) (graph : IsGraph given.graph) (is : IsGraphOf net room s c given) where
+module _ (net : PlainNet) (rules : IsNet net) (room : ℕ) (s : PlainStatement) (c : Case) (origins : FitsOrigins net c) (given : CaseGraph)
+    (graph : IsGraph given.graph) (is : IsGraphOf net room s c given) where
   pub ranks_are : (k : ℕ) → HasRank given.graph k ↔ IsRankOfCase net s c k
   ranks_are k = both net s c given.graph k graph (made_is_faithful net room s c is.0 given.graph rules origins is.1)
 

@@ -6,19 +6,19 @@ use Rattle.std.proofs.lemmas.List.{length_push}
 use Rattle.std.proofs.lemmas.List.Sums.{sum_by-append, sum_by-cons}
 use Rattle.std.proofs.lemmas.Option.{slice_get_within}
 use Rattle.list_laws.proofs.Items.{slice_get_inside}
-use Rattle.net_base.specs.declared.limits.TheConstants.{ALTERNATIVES}
+use Rattle.policy_base.specs.declared.limits.TheConstants.{ALTERNATIVES}
 use Rattle.net_base.specs.Network.{PlainNet}
-use Rattle.path_words.specs.declared.case.Case.{Case}
-use Rattle.path_words.specs.Cases.{case_list}
-use Rattle.path_words.specs.Meaning.{alternative_count}
-use Rattle.path_words.specs.Policies.{PlainPolicy, PlainStatement}
+use Rattle.policy_base.specs.declared.case.Case.{Case}
+use Rattle.policy_base.specs.Cases.{case_list}
+use Rattle.policy_base.specs.Meaning.{alternative_count}
+use Rattle.policy_base.specs.Policies.{PlainPolicy, PlainStatement}
 use Rattle.path_exprs.specs.Standings.{plan_for}
 use Rattle.standings.proofs.OneGraph.{one-graph}
 use Rattle.graph_base.specs.Graphs.{PlainGraph}
 use Rattle.graph_law.specs.Limits.{IsBuiltWithin}
-use Rattle.regret_law.specs.Passes.{all_steps}
-use Rattle.case_law.specs.Cases.{OfCase, IsCase}
-use Rattle.case_law.proofs.Origins.{case_known}
+use Rattle.evidence_law.specs.Passes.{all_steps}
+use Rattle.policy_base.specs.CaseNumbers.{OfCase, IsCase}
+use Rattle.policy_base.proofs.KnownCases.{case_known}
 use Rattle.case_core.specs.declared.cases.CaseGraph.{CaseGraph}
 use Rattle.case_core.specs.declared.refusal.CompileRefusal.TheVariants as compile
 use Rattle.case_core.specs.Refusals.{IsCause, IsGraphOf}
@@ -135,7 +135,8 @@ module _ (net : PlainNet) (policy : PlainPolicy) where
       (front.0, λ i. sym same i ∷ front.1 i)
 
   -- the case behind some others is within the limits with the room that they leave
-  behind : (k room number left : ℕ) (before later : List PlainGraph) (g : PlainGraph) → AreWithinFrom net policy k room (before ++ g ∷ later) → number ≡ k + length before → left ≡ room - steps_of before
+  behind : (k room number left : ℕ) (before later : List PlainGraph) (g : PlainGraph) → AreWithinFrom net policy k room (before ++ g ∷ later)
+      → number ≡ k + length before → left ≡ room - steps_of before
       → IsBuiltAt net policy number left g
   behind k room number left [] later g each at rest =
       let first : k ≡ number = omega (arith, at) in
@@ -151,7 +152,8 @@ module _ (net : PlainNet) (policy : PlainPolicy) where
   not_past number room s c g (TooManySteps k) is h = absurd (few_steps net number room s c g is h.2)
   not_past number room s c g NoMemory is h = refl
 
-  refused_behind : (before rest more : List PlainGraph) (e : LintRefusal) → more ≡ before ++ rest → length before < length more → length before < length (case_list net policy) → AreWithin net policy more
+  refused_behind : (before rest more : List PlainGraph) (e : LintRefusal) → more ≡ before ++ rest → length before < length more
+      → length before < length (case_list net policy) → AreWithin net policy more
       → OfCase net policy (length before + 1) (λ s c. IsCause net (length before + 1) (steps_left before) s c (compile_refusal e)) → e ≡ NoMemory
   refused_behind before [] more e is fewer within each cause = absurd (omega (arith, fewer, ap length (is ∙ append-nil before)))
   refused_behind before (g ∷ later) more e is fewer within each cause =
@@ -213,7 +215,9 @@ module _ (net : PlainNet) (policy : PlainPolicy) where
   same_refusal NoMemory (TooManySteps j) h = absurd cc
   same_refusal NoMemory NoMemory h = refl
 
-  as_limits : (e f : LintRefusal) → (compile_refusal e ≡ compile.NoMemory) ⊎ (compile_refusal f ≡ compile.NoMemory) ⊎ (compile_refusal e ≡ compile_refusal f) → (e ≡ NoMemory) ⊎ (f ≡ NoMemory) ⊎ (e ≡ f)
+  as_limits : (e f : LintRefusal)
+      → (compile_refusal e ≡ compile.NoMemory) ⊎ (compile_refusal f ≡ compile.NoMemory) ⊎ (compile_refusal e ≡ compile_refusal f)
+      → (e ≡ NoMemory) ⊎ (f ≡ NoMemory) ⊎ (e ≡ f)
   as_limits e f (inl h) = inl (same_refusal e NoMemory h)
   as_limits e f (inr (inl h)) = inr (inl (same_refusal f NoMemory h))
   as_limits e f (inr (inr h)) = inr (inr (same_refusal e f h))

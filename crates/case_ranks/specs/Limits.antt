@@ -1,12 +1,12 @@
 -- When the cases of a policy are within the limits, and why they are not.
 use Rattle.std.specs.Prelude.{◌≡◌, ℕ, ◌+◌, ◌-◌, ◌<◌, List, [], ◌∷◌, length, sum_by}
 use Rattle.net_base.specs.Network.{PlainNet}
-use Rattle.path_words.specs.Cases.{case_list}
-use Rattle.path_words.specs.Policies.{PlainPolicy}
+use Rattle.policy_base.specs.Cases.{case_list}
+use Rattle.policy_base.specs.Policies.{PlainPolicy}
 use Rattle.graph_base.specs.Graphs.{PlainGraph}
 use Rattle.graph_law.specs.Limits.{IsBuiltWithin}
-use Rattle.regret_law.specs.Passes.{all_steps}
-use Rattle.case_law.specs.Cases.{OfCase}
+use Rattle.evidence_law.specs.Passes.{all_steps}
+use Rattle.policy_base.specs.CaseNumbers.{OfCase}
 use Rattle.case_core.specs.declared.refusal.CompileRefusal.{CompileRefusal}
 use Rattle.case_core.specs.declared.refusal.CompileRefusal.TheVariants as compile
 use Rattle.case_core.specs.Refusals.{IsCause}

@@ -3,7 +3,7 @@ use Rattle.std.specs.Prelude.{◌≡◌, ◌↔◌, ℕ, ◌<◌, ◌≤◌, ◌
 use Rattle.std.specs.List.{list_any}
 use Rattle.std.specs.Option.{option_map_or}
 use Rattle.net_base.specs.Network.{PlainNet}
-use Rattle.path_words.specs.Policies.{PlainPolicy}
+use Rattle.policy_base.specs.Policies.{PlainPolicy}
 use Rattle.graph_base.specs.declared.graph.Node.{Node}
 use Rattle.graph_base.specs.Graphs.{PlainGraph}
 use Rattle.graph_base.specs.Runs.{rank_at}

@@ -2,11 +2,11 @@
 use Rattle.std.specs.Prelude.{◌≡◌, ℕ, IsTrue, List, Some}
 use Rattle.net_base.specs.Network.{PlainNet}
 use Rattle.net_base.specs.Sets.{holds}
-use Rattle.path_words.specs.declared.case.Case.{Case}
-use Rattle.path_words.specs.Policies.{PlainPolicy, PlainStatement}
-use Rattle.path_words.specs.Meaning.{rank_of}
-use Rattle.regret_law.specs.Faithful.{permits}
-use Rattle.case_law.specs.Cases.{IsCase}
+use Rattle.policy_base.specs.declared.case.Case.{Case}
+use Rattle.policy_base.specs.Policies.{PlainPolicy, PlainStatement}
+use Rattle.policy_base.specs.Meaning.{rank_of}
+use Rattle.evidence_law.specs.Faithful.{permits}
+use Rattle.policy_base.specs.CaseNumbers.{IsCase}
 
 -- some permitted walk of the case has this rank
 abbrev pub IsRankOfCase : PlainNet → PlainStatement → Case → ℕ → Type 0

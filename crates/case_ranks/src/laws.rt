@@ -2,10 +2,10 @@
 ghost use Rattle.std.specs.Prelude.{◌≡◌, ◌↔◌, ◌⊎◌, ℕ};
 ghost use Rattle.net_base.specs.Network.{PlainNet};
 ghost use Rattle.net_base.specs.Sets.{holds};
-ghost use Rattle.path_words.specs.declared.case.Case.{Case};
-ghost use Rattle.path_words.specs.Policies.{PlainPolicy, PlainStatement};
+ghost use Rattle.policy_base.specs.declared.case.Case.{Case};
+ghost use Rattle.policy_base.specs.Policies.{PlainPolicy, PlainStatement};
 ghost use Rattle.graph_base.specs.Graphs.{IsGraph, PlainGraph};
-ghost use Rattle.regret_law.specs.Faithful.{IsFaithful};
+ghost use Rattle.evidence_law.specs.Faithful.{IsFaithful};
 ghost use Rattle.case_ranks.specs.declared.refusal.LintRefusal.{LintRefusal as PlainRefusal};
 ghost use Rattle.case_ranks.specs.declared.refusal.LintRefusal.TheVariants.{NoMemory};
 ghost use Rattle.case_ranks.specs.Limits.{AreAllWithin, IsRefused};

@@ -1,9 +1,9 @@
 //! The cases one after the other, with the ranks that their walks have.
 ghost use Rattle.std.specs.Prelude.{◌≡◌, ◌+◌, ◌<◌, ◌≤◌, ◌^◌, IfErr, IfOk, OnOk, length};
-ghost use Rattle.net_base.specs.declared.limits.TheConstants.{ALTERNATIVES};
-ghost use Rattle.path_words.specs.Cases.{case_list};
-ghost use Rattle.path_words.specs.Policies.{policy_of};
-ghost use Rattle.case_law.specs.Cases.{OfCase, OriginsAreRouters};
+ghost use Rattle.policy_base.specs.declared.limits.TheConstants.{ALTERNATIVES};
+ghost use Rattle.policy_base.specs.Cases.{case_list};
+ghost use Rattle.policy_base.specs.Policies.{policy_of};
+ghost use Rattle.policy_base.specs.CaseNumbers.{OfCase, OriginsAreRouters};
 ghost use Rattle.case_core.specs.Automata.{AllFit};
 ghost use Rattle.case_core.specs.Refusals.{IsCause, IsGraphOf};
 ghost use Rattle.case_ranks.specs.Limits.{AreAllWithin, IsRefused, compile_refusal as refusal_of};
@@ -13,9 +13,10 @@ use crate::marks::mark_ranks;
 use crate::refusal::{LintRefusal, lint_refusal};
 use bit_rows::Rows;
 use case_core::{CaseGraph, KeptAutomata, graph_within_limits};
-use net_base::limits::{ALTERNATIVES, STEPS};
+use evidence_law::limits::STEPS;
 use net_base::{Net, known_net};
-use path_words::{CaseList, Policy};
+use policy_base::limits::ALTERNATIVES;
+use policy_base::{CaseList, Policy};
 use std::alloc::Global;
 
 /// The graph of a case, or which limit the case passes.
@@ -42,6 +43,7 @@ fn case_within(
     }
 }
 
+// The cases take of one room in turn, as they do for the compiler: its loop keeps graphs and numbers, this one ranks alone.
 /// For each statement, by its number from 1, the ranks that permitted walks of its cases have, as the bits of a row; or which
 /// limit the first case passes that passes one. Row 0 and bit 0 stay clear.
 pub fn reached_ranks(

@@ -1,7 +1,7 @@
 -- The job that checks.
 use Rattle.std.proofs.Common.{◌≡◌, ◌≢◌, ℕ, List, [], ◌∷◌, refl, sym, ap, ◌∙◌}
 use Rattle.net_base.specs.Network.{PlainNet, IsNet}
-use Rattle.path_words.specs.Policies.{IsPolicyOf, PlainPolicy}
+use Rattle.policy_base.specs.Policies.{IsPolicyOf, PlainPolicy}
 use Rattle.config_base.specs.Configs.{PlainConfig}
 use Rattle.evidence_base.specs.Made.{PlainCaseEvidence}
 use Rattle.evidence_rules.specs.declared.verdict.Verdict.{Verdict}

@@ -1,7 +1,7 @@
 //! The command `check`.
 ghost use Rattle.std.specs.Prelude.{◌≡◌, ◌<◌, length};
-ghost use Rattle.path_words.specs.Policies.{policy_of};
-ghost use Rattle.case_law.specs.Cases.{OriginsAreRouters};
+ghost use Rattle.policy_base.specs.Policies.{policy_of};
+ghost use Rattle.policy_base.specs.CaseNumbers.{OriginsAreRouters};
 ghost use Rattle.run_base.specs.Said.{IsGiven, said};
 ghost use Rattle.input_texts.specs.Texts.{OfTexts, OfPairTexts};
 ghost use Rattle.check_job.specs.Checked.{OfConfigText, SaysOfPair, SaysOfPolicy};
@@ -12,7 +12,7 @@ use evidence_check::check_text;
 use evidence_rules::Verdict;
 use input_texts::{config_for, evidence_for, net_of, policy_for};
 use net_base::Net;
-use path_words::Policy;
+use policy_base::Policy;
 use run_base::Stop;
 use std::alloc::Global;
 

@@ -2,15 +2,15 @@
 use Rattle.std.proofs.Common.{◌≡◌, ℕ, ◌+◌, ◌-◌, ◌<◌, ◌≤◌, List, [], ◌∷◌, ◌++◌, length, refl, sym, ap, subst, ◌∙◌, arith, append-nil, length-append}
 use Rattle.std.proofs.lemmas.List.Sums.{sum_by-cons}
 use Rattle.net_base.specs.Network.{PlainNet}
-use Rattle.path_words.specs.Cases.{case_list}
-use Rattle.path_words.specs.Policies.{PlainPolicy}
-use Rattle.case_law.specs.Cases.{OfCase}
+use Rattle.policy_base.specs.Cases.{case_list}
+use Rattle.policy_base.specs.Policies.{PlainPolicy}
+use Rattle.policy_base.specs.CaseNumbers.{OfCase}
 use Rattle.case_core.specs.declared.refusal.CompileRefusal.{CompileRefusal}
 use Rattle.case_core.specs.declared.refusal.CompileRefusal.TheVariants.{NoMemory}
 use Rattle.case_evidence.specs.declared.accepted.AcceptedCase.{AcceptedCase}
 use Rattle.case_evidence.specs.Accepted.{IsCaseCause}
 use Rattle.case_evidence.proofs.OneVerdict.{not_refused, one_accepted}
-use Rattle.regret_law.specs.Passes.{all_steps}
+use Rattle.evidence_law.specs.Passes.{all_steps}
 use Rattle.compile_core.specs.Compiling.{AreAccepted, AreAcceptedFrom, room_after}
 use Rattle.compile_core.proofs.OneByOne.{IsAcceptedAt, there, used_by}
 
@@ -28,7 +28,8 @@ module _ (net : PlainNet) (policy : PlainPolicy) where
       (front.0, λ i. sym same i ∷ front.1 i)
 
   -- the case behind some others is accepted with the room that they leave
-  behind : (k room number left : ℕ) (before later : List AcceptedCase) (a : AcceptedCase) → AreAcceptedFrom net policy k room (before ++ a ∷ later) → number ≡ k + length before → left ≡ room - used_by before
+  behind : (k room number left : ℕ) (before later : List AcceptedCase) (a : AcceptedCase) → AreAcceptedFrom net policy k room (before ++ a ∷ later)
+      → number ≡ k + length before → left ≡ room - used_by before
       → IsAcceptedAt net policy number left a
   behind k room number left [] later a each at rest =
       let first : k ≡ number = omega (arith, at) in
@@ -37,7 +38,8 @@ module _ (net : PlainNet) (policy : PlainPolicy) where
   behind k room number left (b ∷ before) later a each at rest =
       behind (k + 1) (room - b.used) number left before later a each.1 (omega (arith, at)) (omega (arith, rest, sum_by-cons (λ (x : AcceptedCase). x.used) b before))
 
-  refused_behind : (before rest more : List AcceptedCase) (e : CompileRefusal) → more ≡ before ++ rest → length before < length more → length before < length (case_list net policy) → AreAccepted net policy more
+  refused_behind : (before rest more : List AcceptedCase) (e : CompileRefusal) → more ≡ before ++ rest → length before < length more
+      → length before < length (case_list net policy) → AreAccepted net policy more
       → OfCase net policy (length before + 1) (λ s c. IsCaseCause net (length before + 1) (room_after before) s c e) → e ≡ NoMemory
   refused_behind before [] more e is fewer within each cause = absurd (omega (arith, fewer, ap length (is ∙ append-nil before)))
   refused_behind before (a ∷ later) more e is fewer within each cause =
@@ -57,7 +59,8 @@ module _ (net : PlainNet) (policy : PlainPolicy) where
   nothing_more some (x ∷ rest) more is long = absurd (omega (arith, long, ap length is, length-append some (x ∷ rest)))
 
   -- two lists of as many cases are one
-  pub as_many_are_one : (some more : List AcceptedCase) → AreAccepted net policy some → AreAccepted net policy more → length some ≡ length more → length some ≤ length (case_list net policy) → some ≡ more
+  pub as_many_are_one : (some more : List AcceptedCase) → AreAccepted net policy some → AreAccepted net policy more → length some ≡ length more
+      → length some ≤ length (case_list net policy) → some ≡ more
   as_many_are_one some more a b long within =
       let front = agree 0 all_steps some more a b (omega (arith, long)) (omega (arith, within)) in
       nothing_more some front.0 more front.1 long

@@ -7,22 +7,22 @@ use Rattle.std.proofs.lemmas.Option.{slice_get-map, slice_get_within, same_Some}
 use Rattle.list_laws.proofs.Items.{slice_get_inside}
 use Rattle.net_base.specs.Network.{PlainNet, IsNet}
 use Rattle.net_base.specs.Sets.{holds}
-use Rattle.path_words.specs.Cases.{case_list}
-use Rattle.path_words.specs.Policies.{IsPolicy, PlainPolicy, PlainStatement}
+use Rattle.policy_base.specs.Cases.{case_list}
+use Rattle.policy_base.specs.Policies.{IsPolicy, PlainPolicy, PlainStatement, statement_at}
 use Rattle.graph_base.specs.declared.graph.Prefs.{Prefs}
 use Rattle.graph_base.specs.Graphs.{PlainGraph}
 use Rattle.graph_base.specs.Rules.{MeetsRules}
-use Rattle.case_law.specs.Origins.{AreOrigins}
+use Rattle.policy_base.specs.CaseOrigins.{AreOrigins}
 use Rattle.evidence_base.specs.Evidence.{IsCaseEvidence}
-use Rattle.evidence_base.specs.Made.{PlainCaseEvidence, AreTags, IsConfigOf, number_at, statement_at}
+use Rattle.evidence_base.specs.Made.{PlainCaseEvidence, AreTags, IsConfigOf, number_at}
 use Rattle.config_base.specs.Configs.{PlainConfig}
 use Rattle.config_made.specs.Conditions.{IsSingle}
-use Rattle.community_assign.specs.Law.{AreAtLocations}
-use Rattle.community_assign.specs.Tagging.{tags_of, all_nodes}
-use Rattle.community_assign.proofs.Order.{tagging}
-use Rattle.regret_law.specs.Passes.{IsCaseGraph, IsClaimed, Passes, all_steps}
-use Rattle.case_law.specs.Cases.{OriginsAreRouters}
-use Rattle.case_law.proofs.Origins.{case_known, known_origins}
+use Rattle.tag_assign.specs.Law.{AreAtLocations}
+use Rattle.tag_assign.specs.Tagging.{tags_of, all_nodes}
+use Rattle.tag_assign.proofs.Order.{tagging}
+use Rattle.evidence_law.specs.Passes.{IsCaseGraph, IsClaimed, Passes, all_steps}
+use Rattle.policy_base.specs.CaseNumbers.{OriginsAreRouters}
+use Rattle.policy_base.proofs.KnownCases.{case_known, known_origins}
 use Rattle.case_evidence.specs.declared.accepted.AcceptedCase.{AcceptedCase}
 use Rattle.graph_base.specs.Preferences.{number_in}
 use Rattle.case_evidence.specs.Accepted.{IsAccepted}
@@ -50,7 +50,8 @@ module _ (net : PlainNet) (policy : PlainPolicy) (e : PlainCaseEvidence) (known 
   case_graph s at =
       let same = same_Some known.statement s (sym known.of ∙ at) in
       subst (λ (t : PlainStatement). IsCaseGraph net t e) same
-      (subst (λ (g : PlainGraph). IsCaseGraph net known.statement (record { case = e.case; graph = g; numbers = e.numbers; tags = e.tags })) known.graph (given_fits net known.room known.statement e.case known.given.graph known.given.used known.is.graph e.numbers e.tags))
+      (subst (λ (g : PlainGraph). IsCaseGraph net known.statement (record { case = e.case; graph = g; numbers = e.numbers; tags = e.tags }))
+      known.graph (given_fits net known.room known.statement e.case known.given.graph known.given.used known.is.graph e.numbers e.tags))
 
   pub meets : (s : PlainStatement) → statement_at policy e.case.statement ≡ Some s → MeetsRules net (IsClaimed net s e.case) e.case.external e.graph (number_at e)
   meets s at =
@@ -84,7 +85,8 @@ module _ (net : PlainNet) (policy : PlainPolicy) (e : PlainCaseEvidence) (known 
 abbrev pub evidence_for : PlainNet → PlainPolicy → List AcceptedCase → List PlainCaseEvidence
 evidence_for net policy accepted = evidence_of (case_list net policy) (graphs_of accepted) (prefs_of accepted) (tags_of net (graphs_of accepted))
 
-module _ (net : PlainNet) (rules : IsNet net) (policy : PlainPolicy) (routers : OriginsAreRouters net policy.origins) (accepted : List AcceptedCase) (all : length accepted ≡ length (case_list net policy))
+module _ (net : PlainNet) (rules : IsNet net) (policy : PlainPolicy) (routers : OriginsAreRouters net policy.origins) (accepted : List AcceptedCase)
+    (all : length accepted ≡ length (case_list net policy))
     (each : AreAccepted net policy accepted) where
   abbrev evidence : List PlainCaseEvidence
   evidence = evidence_for net policy accepted
@@ -123,13 +125,15 @@ module _ (net : PlainNet) (rules : IsNet net) (policy : PlainPolicy) (routers : 
 
   pub are_tags : IsPolicy policy → AreTags net evidence
   are_tags kept =
-      let are = all_parts (case_list net policy) (graphs_of accepted) (prefs_of accepted) (tags_of net (graphs_of accepted)) as_many_graphs as_many_prefs (as_many_tags net (graphs_of accepted) ∙ as_many_graphs) in
+      let are = all_parts (case_list net policy) (graphs_of accepted) (prefs_of accepted) (tags_of net (graphs_of accepted)) as_many_graphs
+      as_many_prefs (as_many_tags net (graphs_of accepted) ∙ as_many_graphs) in
       let few = subst (λ (gs : List PlainGraph). length (all_nodes gs) < 2 ^ 32) (sym are.graphs) (few_nodes net policy kept accepted all each) in
       tagging net evidence rules located few (are.tags ∙ ap (tags_of net) (sym are.graphs))
 
   pub passing : (config : PlainConfig) → IsPolicy policy → IsConfigOf net policy evidence config → Passes net policy config evidence
   passing config kept lines =
-      let are = all_parts (case_list net policy) (graphs_of accepted) (prefs_of accepted) (tags_of net (graphs_of accepted)) as_many_graphs as_many_prefs (as_many_tags net (graphs_of accepted) ∙ as_many_graphs) in
+      let are = all_parts (case_list net policy) (graphs_of accepted) (prefs_of accepted) (tags_of net (graphs_of accepted)) as_many_graphs
+      as_many_prefs (as_many_tags net (graphs_of accepted) ∙ as_many_graphs) in
       record {
         limits = made_within net policy accepted all each;
         made = record {

@@ -3,25 +3,26 @@ use Rattle.std.proofs.Common.{◌≡◌, ℕ, suc, ◌+◌, ◌-◌, ◌*◌, �
 use Rattle.std.proofs.lemmas.Bool.{cases_Bool}
 use Rattle.std.proofs.lemmas.List.Concat.{flat_map-cons}
 use Rattle.net_base.specs.Network.{PlainNet}
-use Rattle.path_words.specs.declared.case.Case.{Case}
-use Rattle.path_words.specs.Cases.{case_list}
-use Rattle.path_words.specs.Policies.{IsPolicy, PlainPolicy, PlainStatement}
+use Rattle.policy_base.specs.declared.case.Case.{Case}
+use Rattle.policy_base.specs.Cases.{case_list}
+use Rattle.policy_base.specs.Policies.{IsPolicy, PlainPolicy, PlainStatement}
 use Rattle.graph_base.specs.declared.graph.Node.{Node}
 use Rattle.graph_base.specs.Graphs.{PlainGraph}
 use Rattle.reach_prune.specs.Trimmed.{nodes_kept}
 use Rattle.node_quotient.specs.Quotient.{is_least}
 use Rattle.config_made.proofs.CaseClasses.{case_count}
-use Rattle.community_assign.specs.Tagging.{all_nodes}
-use Rattle.regret_law.specs.Passes.{AreWithin, all_steps}
+use Rattle.tag_assign.specs.Tagging.{all_nodes}
+use Rattle.evidence_law.specs.Passes.{AreWithin, all_steps}
 use Rattle.graph_law.proofs.Counted.{built_walked}
-use Rattle.case_law.proofs.Origins.{case_known}
+use Rattle.policy_base.proofs.KnownCases.{case_known}
 use Rattle.case_evidence.specs.declared.accepted.AcceptedCase.{AcceptedCase}
 use Rattle.case_evidence.specs.Accepted.{IsAccepted}
 use Rattle.compile_core.specs.Compiling.{AreAccepted, AreAcceptedFrom, graphs_of}
 use Rattle.compile_core.proofs.OneByOne.{there}
 
 module _ (net : PlainNet) (policy : PlainPolicy) where
-  from_accepted : (k room : ℕ) (accepted : List AcceptedCase) (cs : List Case) → length accepted ≡ length cs → ((i : ℕ) (c : Case) → slice_get cs i ≡ Some c → slice_get (case_list net policy) (k + i) ≡ Some c)
+  from_accepted : (k room : ℕ) (accepted : List AcceptedCase) (cs : List Case) → length accepted ≡ length cs
+      → ((i : ℕ) (c : Case) → slice_get cs i ≡ Some c → slice_get (case_list net policy) (k + i) ≡ Some c)
       → AreAcceptedFrom net policy (suc k) room accepted → AreWithin net policy room cs
   from_accepted k room [] [] len places each = tt
   from_accepted k room [] (c ∷ cs) len places each = absurd (omega (arith, len))
@@ -45,7 +46,9 @@ module _ (net : PlainNet) (policy : PlainPolicy) where
 
 pub made_within : (net : PlainNet) (policy : PlainPolicy) (accepted : List AcceptedCase) → length accepted ≡ length (case_list net policy)
     → AreAccepted net policy accepted → AreWithin net policy all_steps (case_list net policy)
-made_within net policy accepted len each = from_accepted net policy 0 all_steps accepted (case_list net policy) len (λ i c e. let same : i ≡ 0 + i = omega arith in subst (λ n. slice_get (case_list net policy) n ≡ Some c) same e) each
+made_within net policy accepted len each =
+    from_accepted net policy 0 all_steps accepted (case_list net policy) len
+    (λ i c e. let same : i ≡ 0 + i = omega arith in subst (λ n. slice_get (case_list net policy) n ≡ Some c) same e) each
 
 -- ---- nodes
 
@@ -67,7 +70,8 @@ accepted_nodes net room s c a is =
     let joined : length a.graph.nodes ≡ length (nodes_kept first 0 is.graph.trimmed.nodes) = ap (λ (g : PlainGraph). length g.nodes) is.graph.quotient.2 in
     omega (arith, made.within.states, kept_nodes keep 0 built.nodes, trimmed, kept_nodes first 0 is.graph.trimmed.nodes, joined)
 
-nodes_from : (net : PlainNet) (policy : PlainPolicy) (j room : ℕ) (accepted : List AcceptedCase) → AreAcceptedFrom net policy (j + 1) room accepted → j + length accepted ≤ length (case_list net policy)
+nodes_from : (net : PlainNet) (policy : PlainPolicy) (j room : ℕ) (accepted : List AcceptedCase) → AreAcceptedFrom net policy (j + 1) room accepted
+    → j + length accepted ≤ length (case_list net policy)
     → length (all_nodes (graphs_of accepted)) ≤ length accepted * 4096
 nodes_from net policy j room [] each within = omega arith
 nodes_from net policy j room (a ∷ later) each within =

@@ -4,14 +4,14 @@ use Rattle.std.specs.Prelude.{slice_get}
 use Rattle.std.proofs.lemmas.Option.{slice_get-map}
 use Rattle.list_laws.proofs.Options.{option_map_parts}
 use Rattle.net_base.specs.Network.{PlainNet}
-use Rattle.path_words.specs.declared.case.Case.{Case}
-use Rattle.path_words.specs.Policies.{PlainPolicy, PlainStatement}
+use Rattle.policy_base.specs.declared.case.Case.{Case}
+use Rattle.policy_base.specs.Policies.{PlainPolicy, PlainStatement, statement_at}
 use Rattle.graph_base.specs.declared.refutation.Refutation.{Refutation}
 use Rattle.graph_base.specs.Graphs.{PlainGraph}
 use Rattle.config_base.specs.Configs.{PlainConfig}
-use Rattle.evidence_base.specs.Made.{PlainCaseEvidence, number_at, statement_at}
-use Rattle.regret_law.specs.Passes.{Passes}
-use Rattle.case_law.specs.Cases.{IsCase}
+use Rattle.evidence_base.specs.Made.{PlainCaseEvidence, number_at}
+use Rattle.evidence_law.specs.Passes.{Passes}
+use Rattle.policy_base.specs.CaseNumbers.{IsCase}
 use Rattle.case_core.specs.declared.refusal.CompileRefusal.TheVariants.{NoEvidence}
 use Rattle.case_evidence.specs.Accepted.{HasNoNumbers}
 use Rattle.compile_core.specs.Compiling.{IsRefusal}

@@ -5,19 +5,19 @@ use Rattle.std.proofs.lemmas.List.{length_push, map-append}
 use Rattle.std.proofs.lemmas.List.Sums.{sum_by-append, sum_by-cons}
 use Rattle.list_laws.proofs.Items.{slice_get_inside}
 use Rattle.net_base.specs.Network.{PlainNet}
-use Rattle.path_words.specs.declared.case.Case.{Case}
-use Rattle.path_words.specs.Cases.{case_list}
-use Rattle.path_words.specs.Policies.{PlainPolicy, PlainStatement}
+use Rattle.policy_base.specs.declared.case.Case.{Case}
+use Rattle.policy_base.specs.Cases.{case_list}
+use Rattle.policy_base.specs.Policies.{PlainPolicy, PlainStatement}
 use Rattle.graph_base.specs.Graphs.{PlainGraph}
 use Rattle.graph_base.specs.declared.graph.Prefs.{Prefs}
-use Rattle.case_law.specs.Cases.{OfCase, IsCase}
+use Rattle.policy_base.specs.CaseNumbers.{OfCase, IsCase}
 use Rattle.case_core.specs.declared.refusal.CompileRefusal.{CompileRefusal}
 use Rattle.case_core.specs.declared.refusal.CompileRefusal.TheVariants.{TooManyRanks, TooManyStates, TooManySteps, SourceWithoutPath, MixedSource, NoEvidence, NoMemory}
-use Rattle.case_law.proofs.Origins.{case_known}
+use Rattle.policy_base.proofs.KnownCases.{case_known}
 use Rattle.case_evidence.specs.declared.accepted.AcceptedCase.{AcceptedCase}
 use Rattle.case_evidence.specs.Accepted.{IsAccepted, IsCaseCause}
 use Rattle.compile_core.specs.Accepting.{AreGiven}
-use Rattle.regret_law.specs.Passes.{all_steps}
+use Rattle.evidence_law.specs.Passes.{all_steps}
 use Rattle.compile_core.specs.Compiling.{AreAccepted, AreAcceptedFrom, IsRefusal, room_after}
 
 -- how many steps these cases took

@@ -3,13 +3,13 @@ use Rattle.std.proofs.Common.{◌≡◌, ◌+◌, ◌<◌, List, length, refl, s
 use Rattle.std.specs.Prelude.{◌⊎◌}
 use Rattle.std.proofs.lemmas.Bool.{cases_order}
 use Rattle.net_base.specs.Network.{PlainNet, IsNet}
-use Rattle.path_words.specs.Cases.{case_list}
-use Rattle.path_words.specs.Policies.{IsPolicy, PlainPolicy}
+use Rattle.policy_base.specs.Cases.{case_list}
+use Rattle.policy_base.specs.Policies.{IsPolicy, PlainPolicy}
 use Rattle.config_base.specs.Configs.{PlainConfig}
 use Rattle.evidence_base.specs.Made.{PlainCaseEvidence, IsConfigOf}
 use Rattle.config_made.proofs.OneConfiguration.{one_configuration}
-use Rattle.regret_law.specs.Passes.{Passes}
-use Rattle.case_law.specs.Cases.{OfCase, OriginsAreRouters}
+use Rattle.evidence_law.specs.Passes.{Passes}
+use Rattle.policy_base.specs.CaseNumbers.{OfCase, OriginsAreRouters}
 use Rattle.case_core.specs.declared.refusal.CompileRefusal.{CompileRefusal}
 use Rattle.case_core.specs.declared.refusal.CompileRefusal.TheVariants.{TooManyRanks, TooManyStates, TooManySteps, SourceWithoutPath, MixedSource, NoEvidence, NoMemory}
 use Rattle.case_evidence.specs.declared.accepted.AcceptedCase.{AcceptedCase}
@@ -20,7 +20,8 @@ use Rattle.compile_core.proofs.Agreement.{as_many_are_one, not_refused_before}
 use Rattle.compile_core.proofs.Known.{evidence_for, passing}
 use Rattle.compile_core.proofs.OneByOne.{there}
 
-pub made_passes : (net : PlainNet) (policy : PlainPolicy) (config : PlainConfig) (cs : List PlainCaseEvidence) → IsNet net → IsPolicy policy → OriginsAreRouters net policy.origins → IsMade net policy config cs → Passes net policy config cs
+pub made_passes : (net : PlainNet) (policy : PlainPolicy) (config : PlainConfig) (cs : List PlainCaseEvidence) → IsNet net → IsPolicy policy
+    → OriginsAreRouters net policy.origins → IsMade net policy config cs → Passes net policy config cs
 made_passes net policy config cs rules kept routers is =
     subst (Passes net policy config) (sym is.evidence)
     (passing net rules policy routers is.accepted is.all is.each config kept (subst (λ es. IsConfigOf net policy es config) is.evidence is.lines))
@@ -71,7 +72,8 @@ module _ (net : PlainNet) (policy : PlainPolicy) where
   ]
 
 -- what is made has one evidence, and one configuration where both keep their rules
-pub one_pair : (net : PlainNet) (policy : PlainPolicy) (config other : PlainConfig) (cs ds : List PlainCaseEvidence) → IsMade net policy config cs → IsMade net policy other ds → (cs ≡ ds) × (config ≡ other)
+pub one_pair : (net : PlainNet) (policy : PlainPolicy) (config other : PlainConfig) (cs ds : List PlainCaseEvidence) → IsMade net policy config cs
+    → IsMade net policy other ds → (cs ≡ ds) × (config ≡ other)
 one_pair net policy config other cs ds a b =
     let accepted = as_many_are_one net policy a.accepted b.accepted a.each b.each (a.all ∙ sym b.all) (omega (arith, a.all)) in
     let same : cs ≡ ds = a.evidence ∙ ap (evidence_for net policy) accepted ∙ sym b.evidence in

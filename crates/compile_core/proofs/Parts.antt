@@ -3,13 +3,13 @@ use Rattle.std.proofs.Common.{◌≡◌, ℕ, zero, suc, ◌+◌, ◌-◌, List,
 use Rattle.std.specs.Prelude.{slice_get}
 use Rattle.net_base.specs.declared.numbers.Tag.{Tag}
 use Rattle.net_base.specs.Network.{PlainNet}
-use Rattle.path_words.specs.declared.case.Case.{Case}
-use Rattle.path_words.specs.Policies.{PlainPolicy}
+use Rattle.policy_base.specs.declared.case.Case.{Case}
+use Rattle.policy_base.specs.Policies.{PlainPolicy}
 use Rattle.graph_base.specs.declared.graph.Node.{Node}
 use Rattle.graph_base.specs.declared.graph.Prefs.{Prefs}
 use Rattle.graph_base.specs.Graphs.{PlainGraph}
 use Rattle.evidence_base.specs.Made.{PlainCaseEvidence}
-use Rattle.community_assign.specs.Tagging.{graph_tags_after, tags_after, tags_of}
+use Rattle.tag_assign.specs.Tagging.{graph_tags_after, tags_after, tags_of}
 use Rattle.case_evidence.specs.declared.accepted.AcceptedCase.{AcceptedCase}
 use Rattle.compile_core.specs.Compiling.{evidence_of, AreAcceptedFrom}
 use Rattle.compile_core.proofs.OneByOne.{IsAcceptedAt}
@@ -49,7 +49,8 @@ pub record AreParts (cs : List Case) (gs : List PlainGraph) (ts : List (List Tag
   pub graphs : map (λ (e : PlainCaseEvidence). e.graph) es ≡ gs
   pub tags : map (λ (e : PlainCaseEvidence). e.tags) es ≡ ts
 
-pub all_parts : (cs : List Case) (gs : List PlainGraph) (ps : List Prefs) (ts : List (List Tag)) → length gs ≡ length cs → length ps ≡ length cs → length ts ≡ length cs → AreParts cs gs ts (evidence_of cs gs ps ts)
+pub all_parts : (cs : List Case) (gs : List PlainGraph) (ps : List Prefs) (ts : List (List Tag)) → length gs ≡ length cs → length ps ≡ length cs
+    → length ts ≡ length cs → AreParts cs gs ts (evidence_of cs gs ps ts)
 all_parts [] [] ps [] a b d = record { cases = refl; graphs = refl; tags = refl }
 all_parts [] (g ∷ gs) ps ts a b d = absurd (omega (arith, a))
 all_parts [] [] ps (t ∷ ts) a b d = absurd (omega (arith, d))

@@ -6,18 +6,18 @@ use Rattle.std.proofs.lemmas.Bool.{cases_Bool, ltb-true, not_from_false}
 use Rattle.std.proofs.lemmas.Option.{slice_get_within}
 use Rattle.list_laws.proofs.Members.{AllByRecursion-from_IsIn}
 use Rattle.net_base.specs.Network.{PlainNet, IsNet, is_location}
-use Rattle.path_words.specs.Meaning.{PathTest, alternatives, place_of as first_place, rank_of}
-use Rattle.path_words.specs.Policies.{PlainStatement, Ranking}
+use Rattle.policy_base.specs.Meaning.{PathTest, alternatives, place_of as first_place, rank_of}
+use Rattle.policy_base.specs.Policies.{PlainStatement, Ranking}
 use Rattle.graph_base.specs.declared.graph.Node.{Node}
 use Rattle.graph_base.specs.Graphs.{PlainGraph, IsGraph}
 use Rattle.graph_base.specs.Runs.{place_of, rank_at, run}
-use Rattle.case_law.specs.Origins.{AreOrigins}
-use Rattle.regret_law.specs.Faithful.{IsFaithful, may_start}
+use Rattle.policy_base.specs.CaseOrigins.{AreOrigins}
+use Rattle.evidence_law.specs.Faithful.{IsFaithful, may_start}
 use Rattle.graph_base.proofs.StartsAndSteps.{start_at-is}
 use Rattle.graph_base.proofs.RunSteps.{last_step}
 use Rattle.graph_base.proofs.WellFormed.{linked_parts}
 use Rattle.net_base.proofs.Links.{linked_known}
-use Rattle.case_law.proofs.Origins.{origins_known}
+use Rattle.policy_base.proofs.KnownCases.{origins_known}
 
 -- a place is counted from k
 place_counts : (tests : List PathTest) (path : List ℕ) (k m : ℕ) → first_place tests path k ≡ Some m → k ≤ m

@@ -3,9 +3,9 @@ use Rattle.std.proofs.Common.{◌≡◌, ℕ, ◌<◌, ◌^◌, List, length, ma
 use Rattle.std.specs.Prelude.{slice_get}
 use Rattle.net_base.specs.declared.numbers.Tag.{Tag}
 use Rattle.net_base.specs.Network.{PlainNet, IsNet}
-use Rattle.path_words.specs.declared.case.Case.{Case}
-use Rattle.path_words.specs.Cases.{case_list}
-use Rattle.path_words.specs.Policies.{IsPolicy, PlainPolicy}
+use Rattle.policy_base.specs.declared.case.Case.{Case}
+use Rattle.policy_base.specs.Cases.{case_list}
+use Rattle.policy_base.specs.Policies.{IsPolicy, PlainPolicy}
 use Rattle.graph_base.specs.declared.graph.Prefs.{Prefs}
 use Rattle.graph_base.specs.Graphs.{PlainGraph}
 use Rattle.config_base.specs.Configs.{PlainConfig}
@@ -13,9 +13,9 @@ use Rattle.evidence_base.specs.Evidence.{IsCaseEvidence}
 use Rattle.evidence_base.specs.Made.{PlainCaseEvidence, AreTags, IsConfigOf}
 use Rattle.config_made.specs.Conditions.{AreClasses, IsSingle}
 use Rattle.config_made.proofs.CaseClasses.{case_lists}
-use Rattle.community_assign.specs.Tagging.{tags_of, all_nodes}
-use Rattle.regret_law.specs.Passes.{Passes}
-use Rattle.case_law.specs.Cases.{OriginsAreRouters}
+use Rattle.tag_assign.specs.Tagging.{tags_of, all_nodes}
+use Rattle.evidence_law.specs.Passes.{Passes}
+use Rattle.policy_base.specs.CaseNumbers.{OriginsAreRouters}
 use Rattle.case_evidence.specs.declared.accepted.AcceptedCase.{AcceptedCase}
 use Rattle.compile_core.specs.Accepting.{AreAllGiven}
 use Rattle.compile_core.specs.Compiling.{evidence_of, IsMade, graphs_of}
@@ -28,11 +28,13 @@ pub few_cases : (net : PlainNet) (policy : PlainPolicy) (cs : List Case) → IsP
 few_cases net policy cs kept are = subst (λ (xs : List Case). length xs < 2 ^ 32) (sym are) (case_lists net policy kept).count
 
 -- and few nodes
-pub few_tags : (net : PlainNet) (policy : PlainPolicy) (gs graphs : List PlainGraph) (prefs : List Prefs) → IsPolicy policy → gs ≡ graphs → AreAllGiven net policy graphs prefs → length (all_nodes gs) < 2 ^ 32
+pub few_tags : (net : PlainNet) (policy : PlainPolicy) (gs graphs : List PlainGraph) (prefs : List Prefs) → IsPolicy policy → gs ≡ graphs
+    → AreAllGiven net policy graphs prefs → length (all_nodes gs) < 2 ^ 32
 few_tags net policy gs graphs prefs kept same given =
     subst (λ (xs : List PlainGraph). length (all_nodes xs) < 2 ^ 32) (sym (same ∙ given.1.graphs)) (few_nodes net policy kept given.1.accepted given.1.count given.1.each)
 
-module _ (net : PlainNet) (rules : IsNet net) (policy : PlainPolicy) (kept : IsPolicy policy) (routers : OriginsAreRouters net policy.origins) (cs : List Case) (gs graphs : List PlainGraph) (ps prefs : List Prefs)
+module _ (net : PlainNet) (rules : IsNet net) (policy : PlainPolicy) (kept : IsPolicy policy) (routers : OriginsAreRouters net policy.origins)
+    (cs : List Case) (gs graphs : List PlainGraph) (ps prefs : List Prefs)
     (ts : List (List Tag)) (cases : cs ≡ case_list net policy) (same_g : gs ≡ graphs) (same_p : ps ≡ prefs) (tags : ts ≡ tags_of net graphs) (given : AreAllGiven net policy graphs prefs) where
   abbrev accepted : List AcceptedCase
   accepted = given.1.accepted

@@ -1,8 +1,8 @@
 -- The graphs and numbers of cases that are accepted.
 use Rattle.std.specs.Prelude.{◌≡◌, ℕ, List, length}
 use Rattle.net_base.specs.Network.{PlainNet}
-use Rattle.path_words.specs.Cases.{case_list}
-use Rattle.path_words.specs.Policies.{PlainPolicy}
+use Rattle.policy_base.specs.Cases.{case_list}
+use Rattle.policy_base.specs.Policies.{PlainPolicy}
 use Rattle.graph_base.specs.Graphs.{PlainGraph}
 use Rattle.graph_base.specs.declared.graph.Prefs.{Prefs}
 use Rattle.case_evidence.specs.declared.accepted.AcceptedCase.{AcceptedCase}

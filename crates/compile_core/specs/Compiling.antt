@@ -2,16 +2,16 @@
 use Rattle.std.specs.Prelude.{◌≡◌, ℕ, ◌+◌, ◌-◌, ◌<◌, List, [], ◌∷◌, length, map, sum_by}
 use Rattle.net_base.specs.declared.numbers.Tag.{Tag}
 use Rattle.net_base.specs.Network.{PlainNet}
-use Rattle.path_words.specs.declared.case.Case.{Case}
-use Rattle.path_words.specs.Cases.{case_list}
-use Rattle.path_words.specs.Policies.{PlainPolicy}
+use Rattle.policy_base.specs.declared.case.Case.{Case}
+use Rattle.policy_base.specs.Cases.{case_list}
+use Rattle.policy_base.specs.Policies.{PlainPolicy}
 use Rattle.graph_base.specs.Graphs.{PlainGraph}
 use Rattle.graph_base.specs.declared.graph.Prefs.{Prefs}
 use Rattle.config_base.specs.Configs.{PlainConfig}
 use Rattle.evidence_base.specs.Made.{PlainCaseEvidence, IsConfigOf}
-use Rattle.regret_law.specs.Passes.{all_steps}
-use Rattle.community_assign.specs.Tagging.{tags_of}
-use Rattle.case_law.specs.Cases.{OfCase}
+use Rattle.evidence_law.specs.Passes.{all_steps}
+use Rattle.tag_assign.specs.Tagging.{tags_of}
+use Rattle.policy_base.specs.CaseNumbers.{OfCase}
 use Rattle.case_core.specs.declared.refusal.CompileRefusal.{CompileRefusal}
 use Rattle.case_core.specs.declared.refusal.CompileRefusal.TheVariants.{NoMemory}
 use Rattle.case_evidence.specs.declared.accepted.AcceptedCase.{AcceptedCase}

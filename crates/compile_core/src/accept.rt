@@ -1,17 +1,17 @@
 //! The cases one after the other.
 ghost use Rattle.std.specs.Prelude.{◌≡◌, ◌<◌, ◌^◌, [], ◌∷◌, ◌++◌, IfErr, IfOk, OnOk, length};
-ghost use Rattle.path_words.specs.Cases.{case_list};
-ghost use Rattle.path_words.specs.Policies.{policy_of};
-ghost use Rattle.case_law.specs.Cases.{OriginsAreRouters};
+ghost use Rattle.policy_base.specs.Cases.{case_list};
+ghost use Rattle.policy_base.specs.Policies.{policy_of};
+ghost use Rattle.policy_base.specs.CaseNumbers.{OriginsAreRouters};
 ghost use Rattle.compile_core.specs.Accepting.{AreAllGiven};
 ghost use Rattle.compile_core.specs.Compiling.{IsRefusal};
 
 use case_core::{CompileRefusal, KeptAutomata};
 use case_evidence::accepted_case;
+use evidence_law::limits::STEPS;
 use graph_base::{Graph, Prefs};
 use net_base::Net;
-use net_base::limits::STEPS;
-use path_words::{CaseList, Policy};
+use policy_base::{CaseList, Policy};
 use std::alloc::{AllocError, Global};
 
 /// The graphs of cases that are accepted, and the preference numbers of their nodes.

@@ -1,11 +1,11 @@
 //! The compiler.
 ghost use Rattle.std.specs.Prelude.{◌≡◌, IfErr, IfOk};
 ghost use Rattle.net_base.specs.Network.{IsNet};
-ghost use Rattle.path_words.specs.Cases.{case_list};
-ghost use Rattle.path_words.specs.Policies.{IsPolicy, policy_of};
-ghost use Rattle.community_assign.specs.Tagging.{tags_of};
-ghost use Rattle.regret_law.specs.Passes.{Passes};
-ghost use Rattle.case_law.specs.Cases.{OriginsAreRouters};
+ghost use Rattle.policy_base.specs.Cases.{case_list};
+ghost use Rattle.policy_base.specs.Policies.{IsPolicy, policy_of};
+ghost use Rattle.tag_assign.specs.Tagging.{tags_of};
+ghost use Rattle.evidence_law.specs.Passes.{Passes};
+ghost use Rattle.policy_base.specs.CaseNumbers.{OriginsAreRouters};
 ghost use Rattle.compile_core.specs.Accepting.{AreAllGiven};
 ghost use Rattle.compile_core.specs.Compiling.{IsMade, IsRefusal};
 
@@ -13,12 +13,12 @@ use crate::accept::{Accepted, accepted_cases};
 use crate::compiled::Compiled;
 use crate::evidence::evidence_of;
 use case_core::CompileRefusal;
-use community_assign::tags;
 use config_made::config_of;
 use graph_base::Tags;
 use net_base::{Net, known_net};
-use path_words::{Case, Policy, cases, known_policy};
+use policy_base::{Case, Policy, cases, known_policy};
 use std::alloc::Global;
+use tag_assign::tags;
 
 /// The configuration and the evidence of all cases.
 fn compiled(

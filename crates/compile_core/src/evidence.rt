@@ -7,7 +7,7 @@ ghost use Rattle.compile_core.specs.Compiling.{evidence_of as plain_evidence_of}
 use evidence_base::{CaseEvidence, Evidence, case_copy};
 use graph_base::{Graph, Prefs};
 use net_base::{List, Tag};
-use path_words::Case;
+use policy_base::Case;
 use std::alloc::{AllocError, Global};
 
 /// The evidence of cases: each with its graph, numbers and tags. Graphs and numbers are moved.

@@ -1,13 +1,13 @@
 //! Laws of the compiler, each the contract of a function without a body.
 ghost use Rattle.std.specs.Prelude.{◌≡◌, ◌⊎◌, ℕ, List};
 ghost use Rattle.net_base.specs.Network.{IsNet, PlainNet};
-ghost use Rattle.path_words.specs.Policies.{IsPolicy, PlainPolicy};
+ghost use Rattle.policy_base.specs.Policies.{IsPolicy, PlainPolicy};
 ghost use Rattle.graph_base.specs.declared.refutation.Refutation.{Refutation};
 ghost use Rattle.graph_base.specs.Graphs.{PlainGraph};
 ghost use Rattle.config_base.specs.Configs.{PlainConfig};
 ghost use Rattle.evidence_base.specs.Made.{PlainCaseEvidence};
-ghost use Rattle.regret_law.specs.Passes.{Passes};
-ghost use Rattle.case_law.specs.Cases.{OriginsAreRouters};
+ghost use Rattle.evidence_law.specs.Passes.{Passes};
+ghost use Rattle.policy_base.specs.CaseNumbers.{OriginsAreRouters};
 ghost use Rattle.case_core.specs.declared.refusal.CompileRefusal.{CompileRefusal};
 ghost use Rattle.case_core.specs.declared.refusal.CompileRefusal.TheVariants.{NoEvidence, NoMemory};
 ghost use Rattle.compile_core.specs.Compiling.{IsMade, IsRefusal};

@@ -1,7 +1,7 @@
 -- What a job says that compiles a policy: a text of what is compiled, or the line of a refusal that applies.
 use Rattle.std.proofs.Common.{◌≡◌, ℕ, List, inl, inr, sym, ap, ◌∙◌, subst}
 use Rattle.net_base.specs.Network.{PlainNet}
-use Rattle.path_words.specs.Policies.{PlainPolicy}
+use Rattle.policy_base.specs.Policies.{PlainPolicy}
 use Rattle.config_base.specs.Configs.{PlainConfig}
 use Rattle.evidence_base.specs.Made.{PlainCaseEvidence}
 use Rattle.case_core.specs.declared.refusal.CompileRefusal.{CompileRefusal}

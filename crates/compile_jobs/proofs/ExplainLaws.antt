@@ -1,7 +1,7 @@
 -- The job that explains.
 use Rattle.std.proofs.Common.{◌≡◌, inl, inr, sym, ap, ◌∙◌}
 use Rattle.net_base.specs.Network.{PlainNet}
-use Rattle.path_words.specs.Policies.{PlainPolicy}
+use Rattle.policy_base.specs.Policies.{PlainPolicy}
 use Rattle.refusal_lines.specs.Explanations.{explanation}
 use Rattle.run_base.specs.Said.{Said, text}
 use Rattle.run_base.proofs.Jobs.{IsJob, IsJobSaid, in_text}

@@ -1,11 +1,11 @@
 -- The job of a sample.
 use Rattle.std.proofs.Common.{◌≡◌, ℕ, List, [], sym, ◌∙◌, refl, subst}
 use Rattle.net_base.specs.Network.{PlainNet}
-use Rattle.path_words.specs.Policies.{PlainPolicy}
+use Rattle.policy_base.specs.Policies.{PlainPolicy}
 use Rattle.config_base.specs.Configs.{PlainConfig}
 use Rattle.evidence_base.specs.Made.{PlainCaseEvidence}
-use Rattle.net_sample.specs.Network.{sample_net}
-use Rattle.net_sample.specs.SamplePolicy.{sample_policy}
+use Rattle.sample_network.specs.Network.{sample_net}
+use Rattle.sample_network.specs.SamplePolicy.{sample_policy}
 use Rattle.run_base.specs.Reading.{Holds}
 use Rattle.run_base.specs.Said.{IsGiven, Said}
 use Rattle.run_base.proofs.Jobs.{IsJob, err_is}

@@ -2,8 +2,8 @@
 use Rattle.std.proofs.Common.{ℕ, ◌+◌, ◌<◌, Bool, List, length, refl, subst}
 use Rattle.net_base.specs.Network.{PlainNet}
 use Rattle.net_base.specs.Sets.{holds}
-use Rattle.path_words.specs.declared.case.Case.{Case}
-use Rattle.path_words.specs.Policies.{PlainPolicy, PlainStatement}
+use Rattle.policy_base.specs.declared.case.Case.{Case}
+use Rattle.policy_base.specs.Policies.{PlainPolicy, PlainStatement}
 use Rattle.graph_base.specs.declared.refutation.Refutation.{Refutation}
 use Rattle.graph_base.specs.declared.refutation.Removed.{Removed}
 use Rattle.graph_base.specs.declared.refutation.Why.{Why}

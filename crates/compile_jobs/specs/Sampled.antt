@@ -3,8 +3,8 @@ use Rattle.std.specs.Prelude.{◌≡◌, ℕ, List}
 use Rattle.config_base.specs.Configs.{PlainConfig}
 use Rattle.evidence_base.specs.Made.{PlainCaseEvidence}
 use Rattle.evidence_summary.specs.Summary.{summary_text}
-use Rattle.net_sample.specs.Network.{sample_net}
-use Rattle.net_sample.specs.SamplePolicy.{sample_policy}
+use Rattle.sample_network.specs.Network.{sample_net}
+use Rattle.sample_network.specs.SamplePolicy.{sample_policy}
 use Rattle.compile_jobs.specs.Compiling.{SaysOfCompiled}
 use Rattle.run_base.specs.Said.{Said}
 

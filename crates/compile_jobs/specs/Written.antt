@@ -1,7 +1,7 @@
 -- What is said of a network and a policy, where a part of what is compiled is written.
 use Rattle.std.specs.Prelude.{◌≡◌, ℕ, List}
 use Rattle.net_base.specs.Network.{PlainNet}
-use Rattle.path_words.specs.Policies.{PlainPolicy}
+use Rattle.policy_base.specs.Policies.{PlainPolicy}
 use Rattle.config_base.specs.Configs.{PlainConfig}
 use Rattle.config_text.specs.Spelled.{Spells}
 use Rattle.evidence_base.specs.Made.{PlainCaseEvidence}

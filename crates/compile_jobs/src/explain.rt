@@ -1,7 +1,7 @@
 //! The command `explain`.
 ghost use Rattle.std.specs.Prelude.{◌<◌, length};
-ghost use Rattle.path_words.specs.Policies.{policy_of};
-ghost use Rattle.case_law.specs.Cases.{OriginsAreRouters};
+ghost use Rattle.policy_base.specs.Policies.{policy_of};
+ghost use Rattle.policy_base.specs.CaseNumbers.{OriginsAreRouters};
 ghost use Rattle.compile_jobs.specs.Explained.{SaysOfPolicy};
 ghost use Rattle.input_texts.specs.Texts.{OfTexts};
 ghost use Rattle.run_base.specs.Said.{IsGiven, said};
@@ -9,7 +9,7 @@ ghost use Rattle.run_base.specs.Said.{IsGiven, said};
 use compile_core::{CompileRefusal, compile};
 use input_texts::{net_of, policy_for};
 use net_base::Net;
-use path_words::Policy;
+use policy_base::Policy;
 use refusal_lines::{accepted_line, explanation};
 use run_base::Stop;
 use std::alloc::Global;

@@ -1,11 +1,11 @@
 //! What is compiled from a policy: a configuration, and the evidence that it is right.
-ghost use Rattle.path_words.specs.Policies.{policy_of};
-ghost use Rattle.case_law.specs.Cases.{OriginsAreRouters};
+ghost use Rattle.policy_base.specs.Policies.{policy_of};
+ghost use Rattle.policy_base.specs.CaseNumbers.{OriginsAreRouters};
 ghost use Rattle.compile_jobs.specs.Compiling.{IsCompiledOr};
 
 use compile_core::{CompileRefusal, Compiled, compile};
 use net_base::Net;
-use path_words::Policy;
+use policy_base::Policy;
 use refusal_lines::refusal_line;
 use run_base::{Status, Stop};
 use std::alloc::Global;

@@ -1,9 +1,9 @@
 //! The command `sample`.
 ghost use Rattle.std.specs.Prelude.{◌≡◌};
-ghost use Rattle.case_law.specs.Cases.{OriginsAreRouters};
-ghost use Rattle.path_words.specs.Policies.{policy_of};
-ghost use Rattle.net_sample.specs.Network.{IsSampleNumber, sample_net};
-ghost use Rattle.net_sample.specs.SamplePolicy.{sample_policy};
+ghost use Rattle.policy_base.specs.CaseNumbers.{OriginsAreRouters};
+ghost use Rattle.policy_base.specs.Policies.{policy_of};
+ghost use Rattle.sample_network.specs.Network.{IsSampleNumber, sample_net};
+ghost use Rattle.sample_network.specs.SamplePolicy.{sample_policy};
 ghost use Rattle.compile_jobs.specs.Sampled.{SaysOfNumber};
 ghost use Rattle.run_base.specs.Said.{IsGiven, said};
 
@@ -11,9 +11,9 @@ use crate::pairs::compiled_for;
 use evidence_summary::summary;
 use input_texts::{net_of, policy_for};
 use net_base::Net;
-use net_sample::{SampleFault, sample};
-use path_words::Policy;
+use policy_base::Policy;
 use run_base::Stop;
+use sample_network::{SampleFault, sample};
 use std::alloc::Global;
 
 // The summary of what is compiled from the policy, or why the policy is refused.

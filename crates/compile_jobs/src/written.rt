@@ -1,7 +1,7 @@
 //! The commands `compile` and `evidence`: a part of what is compiled is written.
 ghost use Rattle.std.specs.Prelude.{◌<◌, length};
-ghost use Rattle.path_words.specs.Policies.{policy_of};
-ghost use Rattle.case_law.specs.Cases.{OriginsAreRouters};
+ghost use Rattle.policy_base.specs.Policies.{policy_of};
+ghost use Rattle.policy_base.specs.CaseNumbers.{OriginsAreRouters};
 ghost use Rattle.compile_jobs.specs.Written.{SaysOfPart};
 ghost use Rattle.input_texts.specs.Texts.{OfTexts};
 ghost use Rattle.run_base.specs.Said.{IsGiven, said};
@@ -11,7 +11,7 @@ use config_text::print_config;
 use evidence_text::print_evidence;
 use input_texts::{net_of, policy_for};
 use net_base::Net;
-use path_words::Policy;
+use policy_base::Policy;
 use run_base::Stop;
 use std::alloc::Global;
 

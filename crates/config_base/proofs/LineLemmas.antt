@@ -7,22 +7,22 @@ use Rattle.net_base.specs.Numbers.{no_tag, is_tag}
 use Rattle.net_base.specs.Network.{PlainNet}
 use Rattle.net_base.specs.Prefixes.{PlainPrefix, same_prefix}
 use Rattle.config_base.specs.declared.config.RouterConfig.{RouterConfig}
-use Rattle.config_base.specs.declared.config.Rule.{Rule}
-use Rattle.config_base.specs.declared.config.Own.{Own}
+use Rattle.config_base.specs.declared.config.Import.{Import}
+use Rattle.config_base.specs.declared.config.Origination.{Origination}
 use Rattle.config_base.specs.Configs.{PlainConfig}
 use Rattle.config_base.specs.Lines.{same_tag, router_at, class_of, own_tag}
 
 -- in the block of a peer no import names a tag, so the one without a tag is the one of the class
-pub line_wanted : (class : ℕ) (tag wanted : Tag) (peer : Bool) (rules : List Rule)
-    → AllByRecursion (λ (r : Rule). MatchBool peer (r.tag ≡ no_tag) (IsTrue (is_tag r.tag))) rules → wanted ≡ (if peer then no_tag else tag)
-    → find (λ (r : Rule). r.class == class && same_tag r.tag wanted) rules ≡ find (λ (r : Rule). r.class == class && (peer || same_tag r.tag tag)) rules
+pub line_wanted : (class : ℕ) (tag wanted : Tag) (peer : Bool) (rules : List Import)
+    → AllByRecursion (λ (r : Import). MatchBool peer (r.tag ≡ no_tag) (IsTrue (is_tag r.tag))) rules → wanted ≡ (if peer then no_tag else tag)
+    → find (λ (r : Import). r.class == class && same_tag r.tag wanted) rules ≡ find (λ (r : Import). r.class == class && (peer || same_tag r.tag tag)) rules
 line_wanted class tag wanted true [] tags is = refl
 line_wanted class tag wanted true (r ∷ rules) tags is =
     let same : same_tag r.tag wanted ≡ true = rw (tags.0, is) refl in
     rw same (ap (λ o. if r.class == class && true then Some r else o) (line_wanted class tag wanted true rules tags.1 is))
 line_wanted class tag wanted false rules tags is = rw is refl
 
-pub own_tag_is : (net : PlainNet) (config : PlainConfig) (p : PlainPrefix) (r : ℕ) (c : RouterConfig) (class : ℕ) (o : Own)
-    → router_at net config r ≡ Some c → class_of config p ≡ Some class → find (λ (o : Own). o.class == class && same_prefix o.prefix p) c.own ≡ Some o
+pub own_tag_is : (net : PlainNet) (config : PlainConfig) (p : PlainPrefix) (r : ℕ) (c : RouterConfig) (class : ℕ) (o : Origination)
+    → router_at net config r ≡ Some c → class_of config p ≡ Some class → find (λ (o : Origination). o.class == class && same_prefix o.prefix p) c.own ≡ Some o
     → own_tag net config p r ≡ o.tag
 own_tag_is net config p r c class o block number line = rw (block, number, line) refl

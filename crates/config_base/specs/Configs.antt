@@ -7,9 +7,9 @@ use Rattle.net_base.specs.Numbers.{is_router_as, is_peer_as, is_tag, no_tag}
 use Rattle.net_base.specs.declared.numbers.Tag.{Tag}
 use Rattle.config_base.specs.declared.config.RouterConfig.{RouterConfig}
 use Rattle.config_base.specs.declared.config.Session.{Session}
-use Rattle.config_base.specs.declared.config.Rule.{Rule}
+use Rattle.config_base.specs.declared.config.Import.{Import}
 use Rattle.config_base.specs.declared.config.Export.{Export}
-use Rattle.config_base.specs.declared.config.Own.{Own}
+use Rattle.config_base.specs.declared.config.Origination.{Origination}
 
 pub record PlainConfig : Type 0 where
   pub classes : List (List PlainPattern)
@@ -35,8 +35,8 @@ abbrev pub tag_key : ℕ → Tag → Key
 tag_key class tag = record { first = class; second = tag.asn; third = tag.value }
 
 -- by class, and then by the prefix's bits and its length
-abbrev pub own_key : Own → Key
-own_key o = record { first = o.class; second = o.prefix.bits; third = o.prefix.len }
+abbrev pub origination_key : Origination → Key
+origination_key o = record { first = o.class; second = o.prefix.bits; third = o.prefix.len }
 
 -- ---- what the lines keep, where there are `count` classes
 
@@ -47,20 +47,20 @@ IsClass count class = (1 ≤ class) × (class ≤ count)
 abbrev pub HasTag : Session → Tag → Type 0
 HasTag s tag = MatchBool s.peer (tag ≡ no_tag) (IsTrue (is_tag tag))
 
-abbrev pub IsImport : ℕ → Session → Rule → Type 0
+abbrev pub IsImport : ℕ → Session → Import → Type 0
 IsImport count s r = IsClass count r.class × HasTag s r.tag × IsTrue (is_tag r.set) × (r.pref < 2 ^ 32)
 
 abbrev pub IsExport : ℕ → Export → Type 0
 IsExport count e = IsClass count e.class × IsTrue (is_tag e.tag)
 
-abbrev pub IsOwn : ℕ → Own → Type 0
-IsOwn count o = IsClass count o.class × IsTrue (is_tag o.tag)
+abbrev pub IsOrigination : ℕ → Origination → Type 0
+IsOrigination count o = IsClass count o.class × IsTrue (is_tag o.tag)
 
 -- a block of a neighbour
 pub record IsSession (count : ℕ) (s : Session) : Type 0 where
   pub number : MatchBool s.peer (IsTrue (is_peer_as s.asn)) (IsTrue (is_router_as s.asn))
   pub imports : AllByRecursion (IsImport count s) s.imports
-  pub import_order : Ascend (map (λ (r : Rule). tag_key r.class r.tag) s.imports)
+  pub import_order : Ascend (map (λ (r : Import). tag_key r.class r.tag) s.imports)
   pub exports : AllByRecursion (IsExport count) s.exports
   pub export_order : Ascend (map (λ (e : Export). tag_key e.class e.tag) s.exports)
 
@@ -68,8 +68,8 @@ pub record IsSession (count : ℕ) (s : Session) : Type 0 where
 pub record IsRouter (count : ℕ) (r : RouterConfig) : Type 0 where
   pub number : IsTrue (is_router_as r.asn)
   pub identifier : (r.id ≢ 0) × (r.id < 2 ^ 32)
-  pub own : AllByRecursion (IsOwn count) r.own
-  pub own_order : Ascend (map own_key r.own)
+  pub own : AllByRecursion (IsOrigination count) r.own
+  pub own_order : Ascend (map origination_key r.own)
   pub sessions : AllByRecursion (IsSession count) r.sessions
   pub names : IsDistinct bytes_eq (map (λ (s : Session). s.name) r.sessions)
 

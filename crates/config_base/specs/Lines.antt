@@ -8,9 +8,9 @@ use Rattle.net_base.specs.Numbers.{no_tag}
 use Rattle.net_base.specs.Prefixes.{PlainPrefix, PlainPattern, contains, same_prefix}
 use Rattle.config_base.specs.declared.config.RouterConfig.{RouterConfig}
 use Rattle.config_base.specs.declared.config.Session.{Session}
-use Rattle.config_base.specs.declared.config.Rule.{Rule}
+use Rattle.config_base.specs.declared.config.Import.{Import}
 use Rattle.config_base.specs.declared.config.Export.{Export}
-use Rattle.config_base.specs.declared.config.Own.{Own}
+use Rattle.config_base.specs.declared.config.Origination.{Origination}
 use Rattle.config_base.specs.declared.route.Route.{Route}
 use Rattle.config_base.specs.Configs.{PlainConfig}
 
@@ -63,10 +63,10 @@ is_looped net at from path =
 abbrev pub line_by : PlainNet → ℕ → ℕ → Tag → Session → Option (Tag × ℕ)
 line_by net class from tag b = found (find applies b.imports)
   where
-    applies : Rule → Bool
+    applies : Import → Bool
     applies rule = rule.class == class && (is_peer net from || same_tag rule.tag tag)
 
-    found : Option Rule → Option (Tag × ℕ)
+    found : Option Import → Option (Tag × ℕ)
     found None = None
     found (Some rule) = Some (rule.set, rule.pref)
 
@@ -82,10 +82,10 @@ abbrev pub own_tag : PlainNet → PlainConfig → PlainPrefix → ℕ → Tag
 own_tag net config p r =
     unwrap_or (option_and_then (λ (c : RouterConfig). option_and_then (λ class. tag_of (find (names class) c.own)) (class_of config p)) (router_at net config r)) no_tag
   where
-    names : ℕ → Own → Bool
+    names : ℕ → Origination → Bool
     names class o = o.class == class && same_prefix o.prefix p
 
-    tag_of : Option Own → Option Tag
+    tag_of : Option Origination → Option Tag
     tag_of None = None
     tag_of (Some o) = Some o.tag
 

@@ -3,7 +3,7 @@ ghost use Rattle.std.specs.Prelude.{◌≡◌, ◌&&◌, not, if◌then◌else�
 ghost use Rattle.std.specs.List.{find};
 ghost use Rattle.std.specs.Str.{bytes_eq};
 ghost use Rattle.net_base.specs.Network.{is_named as named, is_peer, is_router};
-ghost use Rattle.path_words.specs.Governing.{some_contains};
+ghost use Rattle.policy_base.specs.Governing.{some_contains};
 ghost use Rattle.config_base.specs.Configs.{IsRouter, IsSession};
 ghost use Rattle.config_base.specs.Lines.{class_of as class, router_at, block_at};
 

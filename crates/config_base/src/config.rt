@@ -7,7 +7,7 @@ use std::marker::Model;
 /// An import line: routes of this class with this tag are taken, with another tag and a preference
 /// (LOCAL_PREF, RFC 4271, 5.1.5). In the block of a peer the tag is none.
 #[derive(Clone, Copy, Debug, PartialEq, Eq)]
-pub struct Rule {
+pub struct Import {
     pub class: u32,
     pub tag: Tag,
     pub set: Tag,
@@ -27,13 +27,13 @@ pub struct Session {
     pub name: Name,
     pub asn: u32,
     pub peer: bool,
-    pub imports: List<Rule>,
+    pub imports: List<Import>,
     pub exports: List<Export>,
 }
 
 /// An originate line: the router's own route for a prefix.
 #[derive(Clone, Copy, Debug, PartialEq, Eq)]
-pub struct Own {
+pub struct Origination {
     pub class: u32,
     pub prefix: Prefix,
     pub tag: Tag,
@@ -45,7 +45,7 @@ pub struct RouterConfig {
     pub name: Name,
     pub asn: u32,
     pub id: u32,
-    pub own: List<Own>,
+    pub own: List<Origination>,
     pub sessions: List<Session>,
 }
 

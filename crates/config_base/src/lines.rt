@@ -8,7 +8,7 @@ ghost use Rattle.config_base.specs.Configs.{Ascend, HasTag, tag_key};
 ghost use Rattle.config_base.specs.Lines.{same_tag, is_looped as looped, export_by as exported_by, export_of as exported, import_by as imported_by, import_of as imported, own_tag as tag_of_own};
 
 use crate::blocks::{class_of, router_block, session_block};
-use crate::config::{Config, Own, Rule, Session};
+use crate::config::{Config, Import, Origination, Session};
 use crate::route::{NO_TAG, Route};
 use crate::search::{has_export, import_line};
 use net_base::{Loc, Net, Prefix, Tag};
@@ -93,7 +93,7 @@ fn is_looped(net: &Net, at: Loc, from: Loc, path: &[Loc]) -> bool
 }
 
 // The line that a block has for a class and the tag of a neighbour's route. A peer's communities are ignored.
-fn line_for(net: &Net, block: &Session, class: u32, from: Loc, tag: Tag) -> Option<Rule>
+fn line_for(net: &Net, block: &Session, class: u32, from: Loc, tag: Tag) -> Option<Import>
     requires order { Ascend (map (λ r. tag_key r.class r.tag) block.now.imports) }
     requires tags { AllByRecursion (λ r. HasTag block.now r.tag) block.now.imports }
     requires kind { block.now.peer ≡ is_peer net.now from }
@@ -144,7 +144,7 @@ pub fn import_of(
 }
 
 // The `originate` line of a class and a prefix.
-fn own_line(lines: &[Own], class: u32, prefix: Prefix) -> Option<Own>
+fn own_line(lines: &[Origination], class: u32, prefix: Prefix) -> Option<Origination>
     ensures { result ≡ find (λ o. o.class == class && same_prefix o.prefix prefix) lines.now }
 {
     for line in lines {

@@ -4,7 +4,7 @@ ghost use Rattle.std.specs.List.{find, list_any};
 ghost use Rattle.config_base.specs.Configs.{Ascend, tag_key};
 ghost use Rattle.config_base.specs.Lines.{same_tag};
 
-use crate::config::{Export, Rule};
+use crate::config::{Export, Import};
 use net_base::Tag;
 
 // Whether a line of the first class and tag stands above a line of the second ones: by class, and then by
@@ -16,7 +16,7 @@ fn stands_above(class: u32, tag: Tag, other_class: u32, other_tag: Tag) -> bool
 }
 
 // The line, where it has this class and this tag.
-fn import_if(rule: Rule, class: u32, tag: Tag) -> Option<Rule>
+fn import_if(rule: Import, class: u32, tag: Tag) -> Option<Import>
     ensures { result ≡ (if rule.class == class && same_tag rule.tag tag then Some rule else None) }
 {
     if rule.class == class && rule.tag == tag {
@@ -27,7 +27,7 @@ fn import_if(rule: Rule, class: u32, tag: Tag) -> Option<Rule>
 }
 
 // The import line of a class and a tag, among lines that ascend.
-pub(crate) fn import_line(imports: &[Rule], class: u32, tag: Tag) -> Option<Rule>
+pub(crate) fn import_line(imports: &[Import], class: u32, tag: Tag) -> Option<Import>
     requires { Ascend (map (λ r. tag_key r.class r.tag) imports.now) }
     ensures { result ≡ find (λ r. r.class == class && same_tag r.tag tag) imports.now }
 {

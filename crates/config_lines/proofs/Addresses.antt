@@ -99,7 +99,8 @@ small_back (a ∷ b ∷ []) n h = by (is_leading a) (is_figure b) refl refl h
     by false t e f k = absurd cc
 small_back (a ∷ b ∷ c ∷ []) n h = by (is_leading a) (is_figure b) (is_figure c) refl refl refl h
   where
-    by : (s t u : Bool) → is_leading a ≡ s → is_figure b ≡ t → is_figure c ≡ u → (if s && (t && u) then Some (100 * (a - 48) + 10 * (b - 48) + (c - 48)) else None) ≡ Some n → a ∷ b ∷ c ∷ [] ≡ decimal n
+    by : (s t u : Bool) → is_leading a ≡ s → is_figure b ≡ t → is_figure c ≡ u
+        → (if s && (t && u) then Some (100 * (a - 48) + 10 * (b - 48) + (c - 48)) else None) ≡ Some n → a ∷ b ∷ c ∷ [] ≡ decimal n
     by true true true e f g k = let same : 100 * (a - 48) + 10 * (b - 48) + (c - 48) ≡ n = cc in sym (three_digits a b c e f g) ∙ ap decimal same
     by true true false e f g k = absurd cc
     by true false u e f g k = absurd cc

@@ -3,7 +3,7 @@ use Rattle.std.proofs.Common.{◌≡◌, ℕ, List, [], ◌∷◌, ◌++◌, tru
 use Rattle.std.specs.Prelude.{codes}
 use Rattle.std.specs.List.{join_with_byte}
 use Rattle.std.specs.Fmt.{decimal}
-use Rattle.config_base.specs.declared.config.Rule.{Rule}
+use Rattle.config_base.specs.declared.config.Import.{Import}
 use Rattle.config_lines.specs.declared.edition.Edition.{Edition}
 use Rattle.config_lines.specs.Editions.{tag_text}
 use Rattle.config_lines.specs.LineText.{import_text, read_tag}
@@ -32,7 +32,8 @@ tagged_by : (a b c d : List ℕ) → join_with_byte 32 (codes "import" ∷ a ∷
     ≡ codes "import " ++ a ++ (codes " tag " ++ b) ++ (codes " set " ++ c ++ codes " pref " ++ d)
 tagged_by a b c d = rw (append_assoc a (codes " tag " ++ b) (codes " set " ++ c ++ codes " pref " ++ d), append_assoc c (codes " pref ") d) refl
 
-pub tagged_joined : (e : Edition) (n tag t set u pref m : List ℕ) (r : Rule) → tag ≡ codes "tag" → set ≡ codes "set" → pref ≡ codes "pref" → n ≡ decimal r.class → t ≡ tag_text e r.tag → u ≡ tag_text e r.set → m ≡ decimal r.pref
+pub tagged_joined : (e : Edition) (n tag t set u pref m : List ℕ) (r : Import) → tag ≡ codes "tag" → set ≡ codes "set" → pref ≡ codes "pref"
+    → n ≡ decimal r.class → t ≡ tag_text e r.tag → u ≡ tag_text e r.set → m ≡ decimal r.pref
     → join_with_byte 32 (codes "import" ∷ n ∷ tag ∷ t ∷ set ∷ u ∷ pref ∷ m ∷ []) ≡ import_text e false r
 unfolding import_text read_tag
 tagged_joined e n tag t set u pref m r e1 e2 e3 e4 e5 e6 e7 = rw (e1, e2, e3, e4, e5, e6, e7) (tagged_by (decimal r.class) (tag_text e r.tag) (tag_text e r.set) (decimal r.pref))
@@ -41,7 +42,7 @@ untagged_by : (a c d : List ℕ) → join_with_byte 32 (codes "import" ∷ a ∷
     ≡ codes "import " ++ a ++ [] ++ (codes " set " ++ c ++ codes " pref " ++ d)
 untagged_by a c d = rw (append-nil a, append_assoc c (codes " pref ") d) refl
 
-pub untagged_joined : (e : Edition) (n set u pref m : List ℕ) (r : Rule) → set ≡ codes "set" → pref ≡ codes "pref" → n ≡ decimal r.class → u ≡ tag_text e r.set → m ≡ decimal r.pref
+pub untagged_joined : (e : Edition) (n set u pref m : List ℕ) (r : Import) → set ≡ codes "set" → pref ≡ codes "pref" → n ≡ decimal r.class → u ≡ tag_text e r.set → m ≡ decimal r.pref
     → join_with_byte 32 (codes "import" ∷ n ∷ set ∷ u ∷ pref ∷ m ∷ []) ≡ import_text e true r
 unfolding import_text read_tag
 untagged_joined e n set u pref m r e1 e2 e3 e4 e5 = rw (e1, e2, e3, e4, e5) (untagged_by (decimal r.class) (tag_text e r.set) (decimal r.pref))

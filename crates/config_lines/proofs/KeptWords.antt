@@ -14,7 +14,8 @@ abbrev pub left_over : ℕ → Option (Bor (List ℕ)) → List (List ℕ)
 left_over sign left = parts_left sign (option_map (λ p. p.now) left)
 
 -- what is left is cut once more
-pub cut_once : (sign : ℕ) (left : Option (Bor (List ℕ))) (bytes part : Bor (List ℕ)) (more : Option (Bor (List ℕ))) → left ≡ Some bytes → slice_split (λ b. b == sign) bytes.now ≡ part.now ∷ left_over sign more
+pub cut_once : (sign : ℕ) (left : Option (Bor (List ℕ))) (bytes part : Bor (List ℕ)) (more : Option (Bor (List ℕ))) → left ≡ Some bytes
+    → slice_split (λ b. b == sign) bytes.now ≡ part.now ∷ left_over sign more
     → left_over sign left ≡ part.now ∷ left_over sign more
 cut_once sign left bytes part more is cut = ap (left_over sign) is ∙ cut
 
@@ -27,5 +28,6 @@ kept places n part before more all within cut whole =
     ap (λ (x : List (List ℕ)). x ++ more) parts ∙ append_assoc (texts (take n places)) (part.now ∷ []) more ∙ ap (λ (x : List (List ℕ)). texts (take n places) ++ x) (sym cut) ∙ whole
 
 -- all parts are kept
-pub all_kept : (sign : ℕ) (places : List (Bor (List ℕ))) (n : ℕ) (left : Option (Bor (List ℕ))) (all : List (List ℕ)) → left ≡ None → texts (take n places) ++ left_over sign left ≡ all → texts (take n places) ≡ all
+pub all_kept : (sign : ℕ) (places : List (Bor (List ℕ))) (n : ℕ) (left : Option (Bor (List ℕ))) (all : List (List ℕ)) → left ≡ None
+    → texts (take n places) ++ left_over sign left ≡ all → texts (take n places) ≡ all
 all_kept sign places n left all is whole = sym (append-nil (texts (take n places))) ∙ ap (λ (o : Option (Bor (List ℕ))). texts (take n places) ++ left_over sign o) (sym is) ∙ whole

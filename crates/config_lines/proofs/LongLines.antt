@@ -122,7 +122,8 @@ long_line edition classes (w ∷ ws) ps long =
 
 -- ---- a comma behind another word than `class`
 
-pub comma_misplaced : (edition : Edition) (classes : ℕ) (ws : List (Bor (List ℕ))) (d : Bor (List ℕ)) (ps : List (List ℕ)) → bytes_eq (get_or ws 0 d).now (codes "class") ≡ false → (length ps == 0) ≡ false
+pub comma_misplaced : (edition : Edition) (classes : ℕ) (ws : List (Bor (List ℕ))) (d : Bor (List ℕ)) (ps : List (List ℕ))
+    → bytes_eq (get_or ws 0 d).now (codes "class") ≡ false → (length ps == 0) ≡ false
     → words_line edition classes (map (λ w. w.now) ws) ps ≡ Err Form
 unfolding words_line
 comma_misplaced edition classes [] d ps other some = refl

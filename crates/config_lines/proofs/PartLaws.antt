@@ -20,8 +20,7 @@ use Rattle.config_lines.specs.declared.number.Figure.{Figure}
 use Rattle.config_lines.specs.declared.number.Figure.TheVariants.{LeadingZero, Large, Value}
 use Rattle.config_lines.specs.Numbers.{number_of, in_range, class_in}
 use Rattle.config_lines.specs.Words.{is_word, name_of, identifier_of, as_prefix}
-use Rattle.config_lines.proofs.Addresses.{address_back}
-use Rattle.config_lines.proofs.Addresses.{prefix_back}
+use Rattle.config_lines.proofs.Addresses.{address_back, prefix_back}
 use Rattle.config_lines.proofs.Digits.{number_back}
 
 -- ---- numbers

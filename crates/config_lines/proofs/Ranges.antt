@@ -46,7 +46,7 @@ tag_low e t is = let has = tag-range t (tag_wide e t is) in (has.1, has.3)
 pub line_wide : (e : Edition) (count : ℕ) (l : Line) → IsLine e count l → IsLine Second count l
 line_wide e count (line.Class number patterns) is = is
 line_wide e count (line.Router name asn id) is = (is.0, router_wide e asn is.1, is.2, is.3)
-line_wide e count (line.Own o) is = ((is.0.0, tag_wide e o.tag is.0.1), is.1)
+line_wide e count (line.Origination o) is = ((is.0.0, tag_wide e o.tag is.0.1), is.1)
 line_wide e count (line.Session name asn) is = (is.0, router_wide e asn is.1)
 line_wide e count (line.Peer name asn) is = (is.0, peer_wide e asn is.1)
 line_wide e count (line.Import r) is = (tag_wide e r.tag is.0, (is.1.0, tag_wide e r.set is.1.1, is.1.2))

@@ -15,8 +15,8 @@ use Rattle.net_base.specs.PrefixText.{prefix_spelled}
 use Rattle.net_base.specs.Steps.{unless}
 use Rattle.net_base.proofs.StepLemmas.{bind_ok, unless_ok, ok_same}
 use Rattle.text_words.specs.Texts.{address_text, prefix_text, pattern_text}
-use Rattle.config_base.specs.declared.config.Rule.{Rule}
-use Rattle.config_base.specs.declared.config.Own.{Own}
+use Rattle.config_base.specs.declared.config.Import.{Import}
+use Rattle.config_base.specs.declared.config.Origination.{Origination}
 use Rattle.config_base.specs.declared.config.Export.{Export}
 use Rattle.config_lines.specs.declared.edition.Edition.{Edition}
 use Rattle.config_lines.specs.declared.line.Line.{Line}
@@ -79,11 +79,11 @@ own_back edition count (n ∷ prefix ∷ tag ∷ t ∷ []) l h =
     let r = bind_ok (tag_of edition t) _ l w.2 in
     let c = bind_ok (class_in count f.0) _ l r.2 in
     let g = bind_ok (tag_in_range edition r.0) _ l c.2 in
-    let made : Own = record { class = c.0; prefix = p.0; tag = g.0 } in
+    let made : Origination = record { class = c.0; prefix = p.0; tag = g.0 } in
     let class = class_back count n f.0 c.0 f.1 c.1 in
     let base = as_prefix_back prefix p.0 p.1 in
     let tagged = tag_back edition t r.0 g.0 r.1 g.1 in
-    subst (Says edition count (codes "originate" ∷ n ∷ prefix ∷ tag ∷ t ∷ [])) (ok_same (line.Own made) l g.2) (
+    subst (Says edition count (codes "originate" ∷ n ∷ prefix ∷ tag ∷ t ∷ [])) (ok_same (line.Origination made) l g.2) (
       own_joined n prefix tag t (decimal c.0) (prefix_text p.0) (tag_text edition g.0) (word_back (codes "tag") tag w.0 w.1) class.0 base.0 tagged.0,
       ((class.1, tagged.1), base.1),
     )
@@ -182,7 +182,7 @@ tagged_back edition count (n ∷ tag ∷ t ∷ words) l h =
     let g = bind_ok (tag_in_range edition r.0) _ l c.2 in
     let k = bind_ok (tag_in_range edition s.0.set) _ l g.2 in
     let p = bind_ok (in_range s.0.pref) _ l k.2 in
-    let made : Rule = record { class = c.0; tag = g.0; set = k.0; pref = p.0 } in
+    let made : Import = record { class = c.0; tag = g.0; set = k.0; pref = p.0 } in
     let says = setting_back edition words s.0 s.1 in
     let class = class_back count n f.0 c.0 f.1 c.1 in
     let own = tag_back edition t r.0 g.0 r.1 g.1 in
@@ -202,7 +202,7 @@ untagged_back edition count (n ∷ words) l h =
     let c = bind_ok (class_in count f.0) _ l s.2 in
     let k = bind_ok (tag_in_range edition s.0.set) _ l c.2 in
     let p = bind_ok (in_range s.0.pref) _ l k.2 in
-    let made : Rule = record { class = c.0; tag = no_tag; set = k.0; pref = p.0 } in
+    let made : Import = record { class = c.0; tag = no_tag; set = k.0; pref = p.0 } in
     let says = setting_back edition words s.0 s.1 in
     let class = class_back count n f.0 c.0 f.1 c.1 in
     let set = tag_back edition says.tag s.0.set k.0 says.is_tag_text k.1 in
@@ -259,27 +259,46 @@ form_back edition count word ws l h =
     last true e k = said (codes "end") e (end_back edition count ws l k)
     last false e k = absurd cc
 
-    export : (b : Bool) → bytes_eq word (codes "export") ≡ b → (if b then export_line edition count ws else (if bytes_eq word (codes "end") then end_line ws else Err Form)) ≡ Ok l → Says edition count (word ∷ ws) l
+    export : (b : Bool) → bytes_eq word (codes "export") ≡ b
+        → (if b then export_line edition count ws else (if bytes_eq word (codes "end") then end_line ws else Err Form)) ≡ Ok l
+        → Says edition count (word ∷ ws) l
     export true e k = said (codes "export") e (export_back edition count ws l k)
     export false e k = last (bytes_eq word (codes "end")) refl k
 
-    import : (b : Bool) → bytes_eq word (codes "import") ≡ b → (if b then import_line edition count ws else (if bytes_eq word (codes "export") then export_line edition count ws else (if bytes_eq word (codes "end") then end_line ws else Err Form))) ≡ Ok l → Says edition count (word ∷ ws) l
+    import : (b : Bool) → bytes_eq word (codes "import") ≡ b
+        → (if b then import_line edition count ws else (if bytes_eq word (codes "export") then export_line edition count ws else
+        (if bytes_eq word (codes "end") then end_line ws else Err Form))) ≡ Ok l → Says edition count (word ∷ ws) l
     import true e k = said (codes "import") e (import_back edition count ws l k)
     import false e k = export (bytes_eq word (codes "export")) refl k
 
-    peer : (b : Bool) → bytes_eq word (codes "peer") ≡ b → (if b then peer_line edition ws else (if bytes_eq word (codes "import") then import_line edition count ws else (if bytes_eq word (codes "export") then export_line edition count ws else (if bytes_eq word (codes "end") then end_line ws else Err Form)))) ≡ Ok l → Says edition count (word ∷ ws) l
+    peer : (b : Bool) → bytes_eq word (codes "peer") ≡ b
+        → (if b then peer_line edition ws else (if bytes_eq word (codes "import") then import_line edition count ws else (if bytes_eq word
+        (codes "export") then export_line edition count ws else (if bytes_eq word (codes "end") then end_line ws else Err Form))))
+        ≡ Ok l → Says edition count (word ∷ ws) l
     peer true e k = said (codes "peer") e (peer_back edition count ws l k)
     peer false e k = import (bytes_eq word (codes "import")) refl k
 
-    session : (b : Bool) → bytes_eq word (codes "session") ≡ b → (if b then session_line edition ws else (if bytes_eq word (codes "peer") then peer_line edition ws else (if bytes_eq word (codes "import") then import_line edition count ws else (if bytes_eq word (codes "export") then export_line edition count ws else (if bytes_eq word (codes "end") then end_line ws else Err Form))))) ≡ Ok l → Says edition count (word ∷ ws) l
+    session : (b : Bool) → bytes_eq word (codes "session") ≡ b
+        → (if b then session_line edition ws else (if bytes_eq word (codes "peer") then peer_line edition ws else (if bytes_eq word (codes "import")
+        then import_line edition count ws else (if bytes_eq word (codes "export") then export_line edition count ws else
+        (if bytes_eq word (codes "end") then end_line ws else Err Form))))) ≡ Ok l → Says edition count (word ∷ ws) l
     session true e k = said (codes "session") e (session_back edition count ws l k)
     session false e k = peer (bytes_eq word (codes "peer")) refl k
 
-    own : (b : Bool) → bytes_eq word (codes "originate") ≡ b → (if b then own_line edition count ws else (if bytes_eq word (codes "session") then session_line edition ws else (if bytes_eq word (codes "peer") then peer_line edition ws else (if bytes_eq word (codes "import") then import_line edition count ws else (if bytes_eq word (codes "export") then export_line edition count ws else (if bytes_eq word (codes "end") then end_line ws else Err Form)))))) ≡ Ok l → Says edition count (word ∷ ws) l
+    own : (b : Bool) → bytes_eq word (codes "originate") ≡ b
+        → (if b then own_line edition count ws else (if bytes_eq word (codes "session") then session_line edition ws else (if bytes_eq word
+        (codes "peer") then peer_line edition ws else (if bytes_eq word (codes "import") then import_line edition count ws else (if
+        bytes_eq word (codes "export") then export_line edition count ws else
+        (if bytes_eq word (codes "end") then end_line ws else Err Form)))))) ≡ Ok l → Says edition count (word ∷ ws) l
     own true e k = said (codes "originate") e (own_back edition count ws l k)
     own false e k = session (bytes_eq word (codes "session")) refl k
 
-    router : (b : Bool) → bytes_eq word (codes "router") ≡ b → (if b then router_line edition ws else (if bytes_eq word (codes "originate") then own_line edition count ws else (if bytes_eq word (codes "session") then session_line edition ws else (if bytes_eq word (codes "peer") then peer_line edition ws else (if bytes_eq word (codes "import") then import_line edition count ws else (if bytes_eq word (codes "export") then export_line edition count ws else (if bytes_eq word (codes "end") then end_line ws else Err Form))))))) ≡ Ok l → Says edition count (word ∷ ws) l
+    router : (b : Bool) → bytes_eq word (codes "router") ≡ b
+        → (if b then router_line edition ws else (if bytes_eq word (codes "originate") then own_line edition count ws else (if bytes_eq word
+        (codes "session") then session_line edition ws else (if bytes_eq word (codes "peer") then peer_line edition ws else (if
+        bytes_eq word (codes "import") then import_line edition count ws else (if bytes_eq word (codes "export") then
+        export_line edition count ws else (if bytes_eq word (codes "end") then end_line ws else Err Form))))))) ≡ Ok l
+        → Says edition count (word ∷ ws) l
     router true e k = said (codes "router") e (router_back edition count ws l k)
     router false e k = own (bytes_eq word (codes "originate")) refl k
 
@@ -317,7 +336,9 @@ class_text edition count number (w ∷ ws) pieces l h is =
         let some : Some m ≡ k = ok_same (Some m) k c in
         let back = number_back number m e in
         let joined : join_with_byte 44 (join_with_byte 32 (codes "class" ∷ number ∷ w ∷ ws) ∷ pieces) ≡ line_text edition (line.Class (Some m) (t ∷ more)) =
-        join_pieces (join_with_byte 32 (codes "class" ∷ number ∷ w ∷ ws)) pieces ∙ parts_by number (decimal m) (join_with_byte 32 (w ∷ ws)) (pattern_text t) (flat_map (λ (p : List ℕ). 44 ∷ p) pieces) (flat_map next_pattern more) back.0 first.0 text in
+        join_pieces (join_with_byte 32 (codes "class" ∷ number ∷ w ∷ ws)) pieces
+        ∙ parts_by number (decimal m) (join_with_byte 32 (w ∷ ws)) (pattern_text t) (flat_map (λ (p : List ℕ). 44 ∷ p) pieces)
+        (flat_map next_pattern more) back.0 first.0 text in
         let made : line.Class (Some m) (t ∷ more) ≡ l = ap₂ (λ (o : Option ℕ) (qs : List PlainPattern). line.Class o qs) some (sym whole) ∙ same in
         subst (λ (x : Line). (join_with_byte 44 (join_with_byte 32 (codes "class" ∷ number ∷ w ∷ ws) ∷ pieces) ≡ line_text edition x) × IsLine edition count x) made
         (joined, (back.1, (λ (none : t ∷ more ≡ []). let gone : ⊥ = cc in gone), (first.1, are)))
@@ -336,7 +357,8 @@ words_back edition count (word ∷ ws) pieces l h is = class (bytes_eq word (cod
     apart false e k = cc
     apart true e k = cc
 
-    alone : (ps : List (List ℕ)) → (if length ps == 0 then form_line edition count word ws else Err Form) ≡ Ok l → (join_with_byte 44 (join_with_byte 32 (word ∷ ws) ∷ ps) ≡ line_text edition l) × IsLine edition count l
+    alone : (ps : List (List ℕ)) → (if length ps == 0 then form_line edition count word ws else Err Form) ≡ Ok l
+        → (join_with_byte 44 (join_with_byte 32 (word ∷ ws) ∷ ps) ≡ line_text edition l) × IsLine edition count l
     alone [] k = form_back edition count word ws l k
     alone (p ∷ ps) k = absurd (apart (length (p ∷ ps) == 0) (ne_eqb (length (p ∷ ps)) 0 (λ e. omega (arith, e))) k)
 
@@ -346,7 +368,9 @@ words_back edition count (word ∷ ws) pieces l h is = class (bytes_eq word (cod
 
     class : (b : Bool) → bytes_eq word (codes "class") ≡ b → (if b then class_line ws pieces else (if length pieces == 0 then form_line edition count word ws else Err Form)) ≡ Ok l
         → (join_with_byte 44 (join_with_byte 32 (word ∷ ws) ∷ pieces) ≡ line_text edition l) × IsLine edition count l
-    class true e k = subst (λ (w : List ℕ). (join_with_byte 44 (join_with_byte 32 (w ∷ ws) ∷ pieces) ≡ line_text edition l) × IsLine edition count l) (sym (word_is (codes "class") word e)) (of_class ws k)
+    class true e k =
+        subst (λ (w : List ℕ). (join_with_byte 44 (join_with_byte 32 (w ∷ ws) ∷ pieces) ≡ line_text edition l) × IsLine edition count l)
+        (sym (word_is (codes "class") word e)) (of_class ws k)
     class false e k = alone pieces k
 
 -- a line that is read is written so, and keeps its rules

@@ -34,7 +34,14 @@ name_byte_solid b h = elim (cases_lt 44 b) [
   | inl t ↦ lt-ltb 44 b t
   | inr t ↦
       let none : is_name_byte b ≡ false =
-      rw (lt-leb 97 b (omega (arith, t)), lt-leb 65 b (omega (arith, t)), lt-leb 48 b (omega (arith, t)), ne_eqb b 95 (λ e. omega (arith, e, t)), ne_eqb b 45 (λ e. omega (arith, e, t)), ne_eqb b 46 (λ e. omega (arith, e, t))) refl in
+      rw (
+        lt-leb 97 b (omega (arith, t)),
+        lt-leb 65 b (omega (arith, t)),
+        lt-leb 48 b (omega (arith, t)),
+        ne_eqb b 95 (λ e. omega (arith, e, t)),
+        ne_eqb b 45 (λ e. omega (arith, e, t)),
+        ne_eqb b 46 (λ e. omega (arith, e, t)),
+      ) refl in
       absurd cc
 ]
 
@@ -54,10 +61,13 @@ dots_solid a b c d ha hb hc hd =
 pub solid_address : (n : ℕ) → n < 2 ^ 32 → solid (address_text n) ≡ true
 solid_address n wide =
     dots_solid (decimal (n / 16777216)) (decimal (n / 65536 % 256)) (decimal (n / 256 % 256)) (decimal (n % 256))
-    (solid_number (n / 16777216) (omega (arith, wide))) (solid_number (n / 65536 % 256) (omega (arith, wide))) (solid_number (n / 256 % 256) (omega (arith, wide))) (solid_number (n % 256) (omega (arith, wide)))
+    (solid_number (n / 16777216) (omega (arith, wide))) (solid_number (n / 65536 % 256) (omega (arith, wide)))
+    (solid_number (n / 256 % 256) (omega (arith, wide))) (solid_number (n % 256) (omega (arith, wide)))
 
 pub solid_prefix : (p : PlainPrefix) → IsPrefix p → solid (prefix_text p) ≡ true
-solid_prefix p is = solid_append (address_text p.bits ++ codes "/") (decimal p.len) (solid_append (address_text p.bits) (codes "/") (solid_address p.bits is.wide) refl) (solid_number p.len (omega (arith, is.within)))
+solid_prefix p is =
+    solid_append (address_text p.bits ++ codes "/") (decimal p.len)
+    (solid_append (address_text p.bits) (codes "/") (solid_address p.bits is.wide) refl) (solid_number p.len (omega (arith, is.within)))
 
 -- ---- cutting
 

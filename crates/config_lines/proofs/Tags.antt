@@ -131,8 +131,12 @@ tag_there e t is =
     (tag_read e t low.0 low.1, rw fits refl)
 
 pub solid_tag : (e : Edition) (t : Tag) → t.asn < 2 ^ 32 → t.value < 2 ^ 32 → solid (tag_text e t) ≡ true
-solid_tag First t a v = solid_append (decimal t.asn ++ codes ":") (decimal t.value) (solid_append (decimal t.asn) (codes ":") (solid_number t.asn (omega (arith, a))) refl) (solid_number t.value (omega (arith, v)))
-solid_tag Second t a v = solid_append (decimal t.asn ++ codes ":0:") (decimal t.value) (solid_append (decimal t.asn) (codes ":0:") (solid_number t.asn (omega (arith, a))) refl) (solid_number t.value (omega (arith, v)))
+solid_tag First t a v =
+    solid_append (decimal t.asn ++ codes ":") (decimal t.value)
+    (solid_append (decimal t.asn) (codes ":") (solid_number t.asn (omega (arith, a))) refl) (solid_number t.value (omega (arith, v)))
+solid_tag Second t a v =
+    solid_append (decimal t.asn ++ codes ":0:") (decimal t.value)
+    (solid_append (decimal t.asn) (codes ":0:") (solid_number t.asn (omega (arith, a))) refl) (solid_number t.value (omega (arith, v)))
 
 -- ---- at the front of a text
 

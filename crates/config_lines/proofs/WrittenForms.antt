@@ -9,8 +9,8 @@ use Rattle.net_base.specs.NameRule.{is_name}
 use Rattle.net_base.specs.Prefixes.{PlainPattern, IsPattern}
 use Rattle.text_words.specs.Texts.{address_text, prefix_text, pattern_text}
 use Rattle.text_words.proofs.PrefixTexts.{address_of-address_text, prefix_spelled-prefix_text, have_no}
-use Rattle.config_base.specs.declared.config.Rule.{Rule}
-use Rattle.config_base.specs.declared.config.Own.{Own}
+use Rattle.config_base.specs.declared.config.Import.{Import}
+use Rattle.config_base.specs.declared.config.Origination.{Origination}
 use Rattle.config_base.specs.declared.config.Export.{Export}
 use Rattle.config_base.specs.Configs.{IsClass}
 use Rattle.config_lines.specs.declared.edition.Edition.{Edition}
@@ -28,7 +28,8 @@ use Rattle.config_lines.proofs.Solid.{solid, solid_name, solid_number, solid_add
 use Rattle.config_lines.proofs.Tags.{tag_there, solid_tag}
 
 -- a line without commas is read by its words
-words_read : (edition : Edition) (count : ℕ) (w : List ℕ) (ws : List (List ℕ)) → list_all solid (w ∷ ws) ≡ true → line_of edition (join_with_byte 32 (w ∷ ws)) count ≡ words_line edition count (w ∷ ws) []
+words_read : (edition : Edition) (count : ℕ) (w : List ℕ) (ws : List (List ℕ)) → list_all solid (w ∷ ws) ≡ true
+    → line_of edition (join_with_byte 32 (w ∷ ws)) count ≡ words_line edition count (w ∷ ws) []
 unfolding line_of
 words_read edition count w ws all =
     rw (split_last 44 (join_with_byte 32 (w ∷ ws)) (joined_no_comma (w ∷ ws) all), split_joined 32 w ws (solid_words 32 (w ∷ ws) (omega arith) all)) refl
@@ -38,10 +39,15 @@ abbrev pub IsReadAgain : Edition → ℕ → Line → Type 0
 IsReadAgain edition count l = (line_of edition (line_text edition l) count ≡ Ok l) × (have_no 10 (line_text edition l) ≡ true)
 
 -- a line whose words are read is read
-by_words : (edition : Edition) (count : ℕ) (l : Line) (w : List ℕ) (ws : List (List ℕ)) → join_with_byte 32 (w ∷ ws) ≡ line_text edition l → list_all solid (w ∷ ws) ≡ true → words_line edition count (w ∷ ws) [] ≡ Ok l → IsReadAgain edition count l
-by_words edition count l w ws text all read = (ap (λ (bs : List ℕ). line_of edition bs count) (sym text) ∙ words_read edition count w ws all ∙ read, ap (have_no 10) (sym text) ∙ joined_no_feed (w ∷ ws) all)
+by_words : (edition : Edition) (count : ℕ) (l : Line) (w : List ℕ) (ws : List (List ℕ)) → join_with_byte 32 (w ∷ ws) ≡ line_text edition l
+    → list_all solid (w ∷ ws) ≡ true → words_line edition count (w ∷ ws) [] ≡ Ok l → IsReadAgain edition count l
+by_words edition count l w ws text all read = (
+  ap (λ (bs : List ℕ). line_of edition bs count) (sym text) ∙ words_read edition count w ws all ∙ read,
+  ap (have_no 10) (sym text) ∙ joined_no_feed (w ∷ ws) all,
+)
 
-router_there : (edition : Edition) (count : ℕ) (name : List ℕ) (asn id : ℕ) → IsTrue (is_name name) → IsTrue (fits_router edition asn) → id ≢ 0 → id < 2 ^ 32 → IsReadAgain edition count (line.Router name asn id)
+router_there : (edition : Edition) (count : ℕ) (name : List ℕ) (asn id : ℕ) → IsTrue (is_name name) → IsTrue (fits_router edition asn) → id ≢ 0
+    → id < 2 ^ 32 → IsReadAgain edition count (line.Router name asn id)
 unfolding words_line form_line router_line
 router_there edition count name asn id named number apart wide =
     let low = router_low edition asn number in
@@ -51,14 +57,14 @@ router_there edition count name asn id named number apart wide =
     (rw (solid_name name named, solid_number asn (omega (arith, low)), solid_address id wide) refl)
     (rw (number_there asn low, address_of-address_text id wide, ne_eqb id 0 apart, name_there name named, is) refl)
 
-own_there : (edition : Edition) (count : ℕ) (o : Own) → count < 2 ^ 32 → IsLine edition count (line.Own o) → IsReadAgain edition count (line.Own o)
+own_there : (edition : Edition) (count : ℕ) (o : Origination) → count < 2 ^ 32 → IsLine edition count (line.Origination o) → IsReadAgain edition count (line.Origination o)
 unfolding words_line form_line own_line
 own_there edition count o few is =
     let class : IsClass count o.class = is.0.0 in
     let low : o.class < 2 ^ 32 = omega (arith, class.1, few) in
     let parts = tag_low edition o.tag is.0.1 in
     let tag = tag_there edition o.tag is.0.1 in
-    by_words edition count (line.Own o) (codes "originate") (decimal o.class ∷ prefix_text o.prefix ∷ codes "tag" ∷ tag_text edition o.tag ∷ [])
+    by_words edition count (line.Origination o) (codes "originate") (decimal o.class ∷ prefix_text o.prefix ∷ codes "tag" ∷ tag_text edition o.tag ∷ [])
     (own_joined (decimal o.class) (prefix_text o.prefix) (codes "tag") (tag_text edition o.tag) (decimal o.class) (prefix_text o.prefix) (tag_text edition o.tag) refl refl refl refl)
     (rw (solid_number o.class (omega (arith, low)), solid_prefix o.prefix is.1, solid_tag edition o.tag parts.0 parts.1) refl)
     (rw (number_there o.class low, prefix_spelled-prefix_text o.prefix is.1, tag.0, class_there count o.class class, tag.1) refl)
@@ -90,7 +96,7 @@ peer_there edition count name asn named number =
     (neighbour_solid name asn named low)
     (rw (neighbour_there name asn named low, is) refl)
 
-tagged_there : (edition : Edition) (count : ℕ) (r : Rule) → count < 2 ^ 32 → IsLine edition count (line.Import r) → IsReadAgain edition count (line.Import r)
+tagged_there : (edition : Edition) (count : ℕ) (r : Import) → count < 2 ^ 32 → IsLine edition count (line.Import r) → IsReadAgain edition count (line.Import r)
 unfolding words_line form_line import_line tagged_line setting
 tagged_there edition count r few is =
     let class : IsClass count r.class = is.1.0 in
@@ -104,7 +110,7 @@ tagged_there edition count r few is =
     (rw (solid_number r.class (omega (arith, low)), solid_tag edition r.tag own.0 own.1, solid_tag edition r.set given.0 given.1, solid_number r.pref (omega (arith, is.1.2))) refl)
     (rw (number_there r.class low, tag.0, set.0, number_there r.pref is.1.2, class_there count r.class class, tag.1, set.1) refl)
 
-untagged_there : (edition : Edition) (count : ℕ) (r : Rule) → count < 2 ^ 32 → IsLine edition count (line.PeerImport r) → IsReadAgain edition count (line.PeerImport r)
+untagged_there : (edition : Edition) (count : ℕ) (r : Import) → count < 2 ^ 32 → IsLine edition count (line.PeerImport r) → IsReadAgain edition count (line.PeerImport r)
 unfolding words_line form_line import_line untagged_line setting
 untagged_there edition count r few is =
     let class : IsClass count r.class = is.1.0 in
@@ -166,7 +172,7 @@ lines_read edition count (line.Class (Some n) (t ∷ ts)) few is = class_there_b
 lines_read edition count (line.Class (Some n) []) few is = absurd (is.1 refl)
 lines_read edition count (line.Class None ts) few is = absurd is.0
 lines_read edition count (line.Router name asn id) few is = router_there edition count name asn id is.0 is.1 is.2 is.3
-lines_read edition count (line.Own o) few is = own_there edition count o few is
+lines_read edition count (line.Origination o) few is = own_there edition count o few is
 lines_read edition count (line.Session name asn) few is = session_there edition count name asn is.0 is.1
 lines_read edition count (line.Peer name asn) few is = peer_there edition count name asn is.0 is.1
 lines_read edition count (line.Import r) few is = tagged_there edition count r few is

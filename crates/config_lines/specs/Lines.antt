@@ -51,7 +51,7 @@ own_line edition classes (n ∷ prefix ∷ tag ∷ t ∷ []) = do
   t ← tag_of edition t
   class ← class_in classes n
   tag ← tag_in_range edition t
-  Ok (line.Own (record { class = class; prefix = p; tag = tag }))
+  Ok (line.Origination (record { class = class; prefix = p; tag = tag }))
 own_line edition classes _ = Err Form
 
 -- NAME asn N

@@ -1,5 +1,5 @@
 //! What a line says.
-use config_base::{Export, Own, Rule};
+use config_base::{Export, Import, Origination};
 use net_base::{List, Name, Pattern};
 use std::alloc::{AllocError, AllocFailed};
 
@@ -11,15 +11,15 @@ pub enum Line {
     /// `router`: the name of a router, its AS number and its BGP identifier (RFC 4271, 1.1).
     Router(Name, u32, u32),
     /// `originate`: a route of the router's own.
-    Own(Own),
+    Origination(Origination),
     /// `session`: the name and the AS number of a router to which the router speaks.
     Session(Name, u32),
     /// `peer`: the name and the AS number of a peer to which the router speaks.
     Peer(Name, u32),
     /// `import` in the block of a router.
-    Import(Rule),
+    Import(Import),
     /// `import` in the block of a peer. Its own tag is none.
-    PeerImport(Rule),
+    PeerImport(Import),
     /// `export`.
     Export(Export),
     /// `end`: the end of a router's block.

@@ -11,7 +11,7 @@ use crate::number::{Setting, class_number, fitting_tag, in_range, read_class, re
 use crate::parts::{expect, is_word, prefix, read_identifier, read_name, read_tag};
 use crate::pattern::{read_pattern, read_patterns};
 use crate::words::Words;
-use config_base::{Export, NO_TAG, Own, Rule};
+use config_base::{Export, Import, NO_TAG, Origination};
 use net_base::Name;
 use std::alloc::Global;
 
@@ -51,7 +51,7 @@ pub fn read_router_line(edition: Edition, words: &[&[u8]]) -> Result<Line, LineF
 
 // An `originate` line, by what follows its first word.
 #[tactic(auto, unfolding(crate::specs::Lines::own_line))]
-fn read_own_line(edition: Edition, classes: u32, words: &[&[u8]]) -> Result<Line, LineFault>
+fn read_originate_line(edition: Edition, classes: u32, words: &[&[u8]]) -> Result<Line, LineFault>
     ensures { result ≡ own_line edition classes (map (λ w. w.now) words.now) }
 {
     let [class, base, tag_word, tag] = words else {
@@ -63,7 +63,7 @@ fn read_own_line(edition: Edition, classes: u32, words: &[&[u8]]) -> Result<Line
     let tag = read_tag(edition, tag)?;
     let class = read_class(classes, class)?;
     let tag = fitting_tag(edition, tag)?;
-    Ok(Line::Own(Own { class, prefix, tag }))
+    Ok(Line::Origination(Origination { class, prefix, tag }))
 }
 
 // The name and the AS number of a neighbour, by what follows the first word of its line.
@@ -132,7 +132,7 @@ fn read_tagged_line(edition: Edition, classes: u32, words: &[&[u8]]) -> Result<L
     expect("tag", tag_word)?;
     let tag = read_tag(edition, tag)?;
     let setting = read_setting(edition, setting)?;
-    Ok(Line::Import(Rule {
+    Ok(Line::Import(Import {
         class: read_class(classes, class)?,
         tag: fitting_tag(edition, tag)?,
         set: fitting_tag(edition, setting.set)?,
@@ -150,7 +150,7 @@ fn read_untagged_line(edition: Edition, classes: u32, words: &[&[u8]]) -> Result
     };
     let class = read_number(class)?;
     let setting = read_setting(edition, setting)?;
-    Ok(Line::PeerImport(Rule {
+    Ok(Line::PeerImport(Import {
         class: read_class(classes, class)?,
         tag: NO_TAG,
         set: fitting_tag(edition, setting.set)?,
@@ -210,7 +210,7 @@ fn read_form_line(
     if is_word("router", word) {
         read_router_line(edition, words)
     } else if is_word("originate", word) {
-        read_own_line(edition, classes, words)
+        read_originate_line(edition, classes, words)
     } else if is_word("session", word) {
         read_session_line(edition, words)
     } else if is_word("peer", word) {

@@ -60,7 +60,9 @@ below_by_tag a b h apart = elim (ordering_then-Less (nat_cmp a.class b.class) _ 
 ]
 
 below_by_prefix : (a b : Announced) → ordering_then (nat_cmp a.class b.class) (ordering_then (prefix_order a.prefix b.prefix) (tag_order a.tag b.tag)) ≡ Less
-    → (a.class ≡ b.class → a.prefix ≡ b.prefix → ⊥) → IsBelow (record { first = a.class; second = a.prefix.bits; third = a.prefix.len }) (record { first = b.class; second = b.prefix.bits; third = b.prefix.len })
+    → (a.class ≡ b.class → a.prefix ≡ b.prefix → ⊥)
+    → IsBelow (record { first = a.class; second = a.prefix.bits; third = a.prefix.len })
+    (record { first = b.class; second = b.prefix.bits; third = b.prefix.len })
 below_by_prefix a b h apart = elim (ordering_then-Less (nat_cmp a.class b.class) _ h) [
   | inl t ↦ let low : a.class < b.class = nat_cmp-Less a.class b.class t in (omega (arith, low), λ e. absurd (omega (arith, low, e)))
   | inr t ↦
@@ -104,7 +106,8 @@ module _ (net : PlainNet) (cs : List PlainCaseEvidence) (graphs : (k : ℕ) (c :
     | inl t ↦ one_start k c at n n' (start_of_peer k c at n m step t) (start_of_peer k c at n' m' step' (ap (is_peer net) (sym same) ∙ t)) same
   ]
 
-  one_next : (k : ℕ) (c : PlainCaseEvidence) → slice_get cs k ≡ Some c → (n m n' m' : ℕ) → has_step c.graph n m ≡ true → has_step c.graph n' m' ≡ true → n ≡ n' → place_of c.graph m ≡ place_of c.graph m' → m ≡ m'
+  one_next : (k : ℕ) (c : PlainCaseEvidence) → slice_get cs k ≡ Some c → (n m n' m' : ℕ) → has_step c.graph n m ≡ true → has_step c.graph n' m' ≡ true
+      → n ≡ n' → place_of c.graph m ≡ place_of c.graph m' → m ≡ m'
   one_next k c at n m n' m' step step' node same =
       let key : ℕ × ℕ → ℕ × ℕ = λ s. (s.0, place_of c.graph s.1) in
       let one = one_by_key same_pair key c.graph.steps (n, m) (n', m') (single k c at).one_step (step_in c.graph n m step) (step_in c.graph n' m' step')

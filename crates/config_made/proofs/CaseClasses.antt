@@ -7,12 +7,12 @@ use Rattle.list_laws.proofs.Each.{AllByRecursion-append, AllByRecursion-weaker}
 use Rattle.net_base.specs.Network.{PlainNet}
 use Rattle.net_base.specs.Sets.{same_set}
 use Rattle.net_base.specs.Prefixes.{PlainPattern, PlainPrefix, only}
-use Rattle.path_words.specs.declared.case.Case.{Case}
-use Rattle.path_words.specs.declared.policy.Origin.{Origin}
-use Rattle.path_words.specs.Policies.{PlainPolicy, PlainStatement}
-use Rattle.path_words.specs.Governing.{governing}
-use Rattle.path_words.specs.Cases.{with_prefix, with_governed, originated_cases, is_originated, external_case, external_cases, case_list}
-use Rattle.evidence_base.specs.Made.{patterns_of, statement_at}
+use Rattle.policy_base.specs.declared.case.Case.{Case}
+use Rattle.policy_base.specs.declared.policy.Origin.{Origin}
+use Rattle.policy_base.specs.Policies.{PlainPolicy, PlainStatement, statement_at}
+use Rattle.policy_base.specs.Governing.{governing}
+use Rattle.policy_base.specs.Cases.{with_prefix, with_governed, originated_cases, is_originated, external_case, external_cases, case_list}
+use Rattle.evidence_base.specs.Made.{patterns_of}
 use Rattle.config_made.specs.Law.{CaseListsAreClasses}
 
 -- ---- cases of originated prefixes

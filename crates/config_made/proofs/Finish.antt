@@ -6,8 +6,8 @@ use Rattle.std.specs.List.Sorted.{IsStrictlySortedBy}
 use Rattle.std.proofs.lemmas.List.{length-map}
 use Rattle.net_base.specs.Prefixes.{PlainPattern}
 use Rattle.net_base.specs.Network.{PlainNet, IsNet}
-use Rattle.path_words.specs.declared.case.Case.{Case}
-use Rattle.path_words.specs.Policies.{PlainPolicy}
+use Rattle.policy_base.specs.declared.case.Case.{Case}
+use Rattle.policy_base.specs.Policies.{PlainPolicy}
 use Rattle.graph_base.specs.Graphs.{IsGraph}
 use Rattle.config_base.specs.declared.config.RouterConfig.{RouterConfig}
 use Rattle.config_base.specs.Configs.{IsConfig}
@@ -52,7 +52,8 @@ module _ (net : PlainNet) (rules : IsNet net) (policy : PlainPolicy) (evidence :
       let patterns : AllByRecursion (λ (qs : List PlainPattern). qs ≢ []) classes =
       subst (AllByRecursion (λ (qs : List PlainPattern). qs ≢ [])) (sym each) (AllByRecursion-map (patterns_of policy) (λ (qs : List PlainPattern). qs ≢ []) (cases_of evidence) fit.patterns) in
       subst (λ rs. IsConfig (record { classes = classes; routers = rs })) (sym of_hops)
-      (config_kept net rules evidence (length evidence) short graphs single tags hops hops_are hops_up (subst (All HasPref) gathered fits) all all_are all_up classes long (few_cases policy evidence fit) patterns)
+      (config_kept net rules evidence (length evidence) short graphs single tags hops hops_are hops_up (subst (All HasPref) gathered fits) all all_are
+      all_up classes long (few_cases policy evidence fit) patterns)
 
   pub made_of_cases : IsConfigOf net policy evidence (record { classes = classes; routers = routers })
   made_of_cases =

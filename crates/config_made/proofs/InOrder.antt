@@ -11,7 +11,8 @@ use Rattle.config_made.specs.Writing.{session_with, session_of}
 
 module _ (net : PlainNet) (hops : List Hop) (at n : ℕ) (blocks : List Session) (so_far : blocks ≡ map (session_of net hops at) (filter (linked net at) (numbers_below n))) where
   -- the next location is a neighbour
-  pub sessions_next : linked net at n ≡ true → (taken sent : List Hop) (z : ℕ) (block : Session) → z ≡ n → taken ≡ filter (goes z at) hops → sent ≡ filter (goes at z) hops → block ≡ session_with net taken sent z
+  pub sessions_next : linked net at n ≡ true → (taken sent : List Hop) (z : ℕ) (block : Session) → z ≡ n → taken ≡ filter (goes z at) hops
+      → sent ≡ filter (goes at z) hops → block ≡ session_with net taken sent z
       → blocks ++ block ∷ [] ≡ map (session_of net hops at) (filter (linked net at) (numbers_below (n + 1)))
   sessions_next on taken sent z block is came went made =
       let whole : block ≡ session_of net hops at n =

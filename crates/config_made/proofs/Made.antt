@@ -7,10 +7,10 @@ use Rattle.net_base.specs.Network.{PlainNet, is_peer}
 use Rattle.net_base.specs.Prefixes.{PlainPrefix}
 use Rattle.graph_base.specs.Graphs.{IsGraph}
 use Rattle.graph_base.specs.Runs.{place_of, is_listener, is_start}
-use Rattle.config_base.specs.declared.config.Rule.{Rule}
+use Rattle.config_base.specs.declared.config.Import.{Import}
 use Rattle.config_base.specs.declared.config.Export.{Export}
-use Rattle.config_base.specs.declared.config.Own.{Own}
-use Rattle.evidence_base.specs.Made.{PlainCaseEvidence, number_at, tag_at, case_at, IsStep, IsExportTo, IsImportFrom, IsOwnAt, AreTags}
+use Rattle.config_base.specs.declared.config.Origination.{Origination}
+use Rattle.evidence_base.specs.Made.{PlainCaseEvidence, number_at, tag_at, case_at, IsStep, IsExportTo, IsImportFrom, IsOriginationAt, AreTags}
 use Rattle.list_laws.specs.Members.{IsIn}
 use Rattle.list_laws.proofs.Members.{AllByRecursion-IsIn, IsIn-append_cases, IsIn-append_left, IsIn-append_right, IsIn-filter, IsIn-filter_parts, IsIn-flat_map, IsIn-flat_map_parts, IsIn-map, IsIn-map_parts}
 use Rattle.config_made.specs.declared.hop.Hop.{Hop}
@@ -201,13 +201,14 @@ module _ (cs : List PlainCaseEvidence) (hops : List Hop) (are : (h : Hop) → Is
     bare class x z n m c step = elim (cases_Bool (is_peer net x)) [
       | inl t ↦
           let place = class_place cs class c step.at_class in
-          let within = (AllByRecursion-IsIn (λ (s : ℕ × ℕ). (s.0 < length c.graph.nodes) × (s.1 < length c.graph.nodes)) c.graph.steps (n, m) (graphs place.0 c place.2).steps (step_in c.graph n m step.step)).0 in
+          let within = (AllByRecursion-IsIn (λ (s : ℕ × ℕ). (s.0 < length c.graph.nodes) × (s.1 < length c.graph.nodes)) c.graph.steps (n, m)
+          (graphs place.0 c place.2).steps (step_in c.graph n m step.step)).0 in
           let none = tags.at_peers place.0 n c place.2 within (ap (is_peer net) step.from ∙ t) in
           rw t none
       | inr t ↦ rw t refl
     ]
 
-    pub imports_are : (x z : ℕ) (rule : Rule) → IsIn (map import_line (filter (goes z x) hops)) rule ↔ IsImportFrom net cs z x rule
+    pub imports_are : (x z : ℕ) (rule : Import) → IsIn (map import_line (filter (goes z x) hops)) rule ↔ IsImportFrom net cs z x rule
     imports_are x z rule = (to, from)
       where
         to : IsIn (map import_line (filter (goes z x) hops)) rule → IsImportFrom net cs z x rule
@@ -229,17 +230,25 @@ module _ (cs : List PlainCaseEvidence) (all : List Announced) (are : (a : Announ
   pub is_announced : (a : Announced) → IsIn all a → IsAnnounced cs a
   is_announced a at = announced_made cs a ((are a).0 at)
 
-  pub own_are : (x : ℕ) (o : Own) → IsIn (map own_line (filter (stands x) all)) o ↔ IsOwnAt cs x o
+  pub own_are : (x : ℕ) (o : Origination) → IsIn (map own_line (filter (stands x) all)) o ↔ IsOriginationAt cs x o
   own_are x o = (to, from)
     where
-      to : IsIn (map own_line (filter (stands x) all)) o → IsOwnAt cs x o
+      to : IsIn (map own_line (filter (stands x) all)) o → IsOriginationAt cs x o
       to at =
           let line = IsIn-map_parts own_line (filter (stands x) all) o at in
           let found = IsIn-filter_parts (stands x) all line.0 line.1 in
           let is = is_announced line.0 found.0 in
-          subst (IsOwnAt cs x) line.2 (record { case = is.case; node = is.node; at_class = is.at_class; start = is.start; at = is.place ∙ eqb-true line.0.at x found.1; prefix = is.prefix; tag = is.tag })
+          subst (IsOriginationAt cs x) line.2 (record {
+            case = is.case;
+            node = is.node;
+            at_class = is.at_class;
+            start = is.start;
+            at = is.place ∙ eqb-true line.0.at x found.1;
+            prefix = is.prefix;
+            tag = is.tag;
+          })
 
-      from : IsOwnAt cs x o → IsIn (map own_line (filter (stands x) all)) o
+      from : IsOriginationAt cs x o → IsIn (map own_line (filter (stands x) all)) o
       from is =
           let a : Announced = record { at = x; class = o.class; prefix = o.prefix; tag = o.tag } in
           let here = made_announced cs a (record { case = is.case; node = is.node; at_class = is.at_class; start = is.start; place = is.at; prefix = is.prefix; tag = is.tag }) in

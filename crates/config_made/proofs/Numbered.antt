@@ -2,9 +2,8 @@
 use Rattle.std.proofs.Common.{◌≡◌, ℕ, zero, suc, ◌-◌, ◌<◌, ◌≤◌, List, length, map, get_or, Some, None, refl, sym, ap, ◌∙◌, arith}
 use Rattle.std.specs.Prelude.{slice_get, option_map}
 use Rattle.std.proofs.lemmas.Option.{slice_get_past, slice_get_read, slice_get-map}
-use Rattle.path_words.specs.Policies.{PlainPolicy, PlainStatement, PolicyLists, policy_of, plain_statement}
-use Rattle.path_words.specs.declared.policy.Statement.{Statement}
-use Rattle.evidence_base.specs.Made.{statement_at}
+use Rattle.policy_base.specs.Policies.{PlainPolicy, PlainStatement, PolicyLists, policy_of, plain_statement, statement_at}
+use Rattle.policy_base.specs.declared.policy.Statement.{Statement}
 
 pub statement-none : (policy : PlainPolicy) (n : ℕ) → length policy.statements < n → statement_at policy n ≡ None
 statement-none policy zero past = absurd (omega arith)

@@ -5,13 +5,13 @@ use Rattle.std.specs.List.{AllByRecursion}
 use Rattle.std.proofs.lemmas.Option.{same_Some}
 use Rattle.net_base.specs.declared.net.Site.{Site}
 use Rattle.net_base.specs.Network.{PlainNet}
-use Rattle.path_words.specs.Policies.{PlainPolicy}
+use Rattle.policy_base.specs.Policies.{PlainPolicy}
 use Rattle.net_base.specs.Locations.{neighbours}
 use Rattle.config_base.specs.declared.config.RouterConfig.{RouterConfig}
 use Rattle.config_base.specs.declared.config.Session.{Session}
-use Rattle.config_base.specs.declared.config.Rule.{Rule}
+use Rattle.config_base.specs.declared.config.Import.{Import}
 use Rattle.config_base.specs.declared.config.Export.{Export}
-use Rattle.config_base.specs.Configs.{PlainConfig, Key, IsBelow, Ascend, tag_key, own_key}
+use Rattle.config_base.specs.Configs.{PlainConfig, Key, IsBelow, Ascend, tag_key, origination_key}
 use Rattle.evidence_base.specs.Made.{PlainCaseEvidence, IsBlock, AreBlocks, IsRouterBlock, IsConfigOf}
 use Rattle.list_laws.specs.Members.{IsIn}
 use Rattle.list_laws.proofs.Items.{same_by_places}
@@ -72,7 +72,7 @@ module _ (net : PlainNet) (cs : List PlainCaseEvidence) (x : ℕ) where
       let name = same_Some b.name c.name (sym one.name ∙ other.name) in
       let asn = one.asn ∙ sym other.asn in
       let peer = one.peer ∙ sym other.peer in
-      let imports = one_meaning (λ (r : Rule). tag_key r.class r.tag) _ b.imports c.imports one.import_order other.import_order one.imports other.imports in
+      let imports = one_meaning (λ (r : Import). tag_key r.class r.tag) _ b.imports c.imports one.import_order other.import_order one.imports other.imports in
       let exports = one_meaning (λ (e : Export). tag_key e.class e.tag) _ b.exports c.exports one.export_order other.export_order one.exports other.exports in
       λ i. record { name = name i; asn = asn i; peer = peer i; imports = imports i; exports = exports i }
 
@@ -92,7 +92,7 @@ module _ (net : PlainNet) (cs : List PlainCaseEvidence) (x : ℕ) where
       let here : Site = record { name = r.name; asn = r.asn; id = r.id } in
       let there : Site = record { name = q.name; asn = q.asn; id = q.id } in
       let site : here ≡ there = same_Some here there (sym one.site ∙ other.site) in
-      let own = one_meaning own_key _ r.own q.own one.own_order other.own_order one.own other.own in
+      let own = one_meaning origination_key _ r.own q.own one.own_order other.own_order one.own other.own in
       let sessions = one_blocks (neighbours net x) r.sessions q.sessions one.sessions other.sessions in
       λ i. record { name = (site i).name; asn = (site i).asn; id = (site i).id; own = own i; sessions = sessions i }
 

@@ -44,7 +44,8 @@ all_set hops places at place to all one from p here = elim (cases_eq at from) [
     off_set (p ∷ ps) (suc i) x (suc j) y ne h = off_set ps i x j y (λ e. ne (omega (arith, e))) h
 
 -- where the hops from a location begin
-pub first_reached : (hops : List Hop) (place from : ℕ) → place ≤ length hops → IsPartitionPoint (λ (x : Hop). nat_lt x.from from ≡ true) (λ (x : Hop). nat_lt x.from from ≡ false) hops place → IsReached hops place from 0
+pub first_reached : (hops : List Hop) (place from : ℕ) → place ≤ length hops
+    → IsPartitionPoint (λ (x : Hop). nat_lt x.from from ≡ true) (λ (x : Hop). nat_lt x.from from ≡ false) hops place → IsReached hops place from 0
 first_reached hops place from short point = (
   short,
   λ k x l at. before-from from 0 x (inl (ltb-true x.from from (subst (λ (y : Hop). nat_lt y.from from ≡ true) (get_or_from_slice_get hops k x x at) (point.0 k x (omega arith) l)))),

@@ -14,15 +14,15 @@ use Rattle.net_base.specs.declared.net.Site.{Site}
 use Rattle.net_base.specs.Numbers.{is_tag, no_tag}
 use Rattle.net_base.specs.Prefixes.{PlainPattern}
 use Rattle.net_base.specs.Network.{PlainNet, IsNet, is_peer, asn_of, id_of}
-use Rattle.path_words.specs.Policies.{PlainPolicy}
+use Rattle.policy_base.specs.Policies.{PlainPolicy}
 use Rattle.graph_base.specs.Graphs.{IsGraph}
 use Rattle.net_base.specs.Locations.{numbers_below, neighbours}
 use Rattle.graph_base.specs.Runs.{place_of}
 use Rattle.config_base.specs.declared.config.RouterConfig.{RouterConfig}
 use Rattle.config_base.specs.declared.config.Session.{Session}
-use Rattle.config_base.specs.declared.config.Rule.{Rule}
+use Rattle.config_base.specs.declared.config.Import.{Import}
 use Rattle.config_base.specs.declared.config.Export.{Export}
-use Rattle.config_base.specs.Configs.{Ascend, tag_key, own_key, IsClass, HasTag, IsImport, IsExport, IsOwn, IsSession, IsRouter, IsConfig}
+use Rattle.config_base.specs.Configs.{Ascend, tag_key, origination_key, IsClass, HasTag, IsImport, IsExport, IsOrigination, IsSession, IsRouter, IsConfig}
 use Rattle.evidence_base.specs.Made.{PlainCaseEvidence, tag_at, case_at, patterns_of, AreBlocks, IsBlock, IsRouterBlock, IsConfigOf, AreTags}
 use Rattle.list_laws.specs.Members.{IsIn}
 use Rattle.list_laws.proofs.Members.{AllByRecursion-from_IsIn, Contains-from_IsIn, IsIn-filter_parts, IsIn-map_parts}
@@ -43,7 +43,8 @@ use Rattle.net_base.proofs.Sites.{site_at}
 use Rattle.config_made.proofs.Runs.{goes_parts}
 
 module _ (net : PlainNet) (rules : IsNet net) (cs : List PlainCaseEvidence) (count : ℕ) (few : length cs ≤ count)
-    (graphs : (k : ℕ) (c : PlainCaseEvidence) → slice_get cs k ≡ Some c → IsGraph c.graph) (single : (k : ℕ) (c : PlainCaseEvidence) → slice_get cs k ≡ Some c → IsSingle net c.graph) (tags : AreTags net cs)
+    (graphs : (k : ℕ) (c : PlainCaseEvidence) → slice_get cs k ≡ Some c → IsGraph c.graph)
+    (single : (k : ℕ) (c : PlainCaseEvidence) → slice_get cs k ≡ Some c → IsSingle net c.graph) (tags : AreTags net cs)
     (hops : List Hop) (hops_are : (h : Hop) → IsIn hops h ↔ IsIn (hops_from 1 cs) h) (hops_up : IsStrictlySortedBy hop_order hops) (fits : All HasPref (hops_from 1 cs))
     (all : List Announced) (all_are : (a : Announced) → IsIn all a ↔ IsIn (announced_from 1 cs) a) (all_up : IsStrictlySortedBy announced_order all) where
   abbrev total : ℕ
@@ -61,15 +62,17 @@ module _ (net : PlainNet) (rules : IsNet net) (cs : List PlainCaseEvidence) (cou
   -- ---- the lines between two locations
 
   between : (x z : ℕ) → AllByRecursion (IsBetween net cs graphs single tags x z) (filter (goes x z) hops)
-  between x z = AllByRecursion-from_IsIn (IsBetween net cs graphs single tags x z) (filter (goes x z) hops) (λ h at. let found = IsIn-filter_parts (goes x z) hops h at in (is_hop cs hops hops_are h found.0, found.1))
+  between x z =
+      AllByRecursion-from_IsIn (IsBetween net cs graphs single tags x z) (filter (goes x z) hops)
+      (λ h at. let found = IsIn-filter_parts (goes x z) hops h at in (is_hop cs hops hops_are h found.0, found.1))
 
   hops_ascend : (x z : ℕ) → Ascend (map (λ (h : Hop). tag_key h.class h.tag) (filter (goes x z) hops))
   hops_ascend x z =
       ascends (λ (h : Hop). tag_key h.class h.tag) (IsBetween net cs graphs single tags x z) hop_order (hop_up net cs graphs single tags x z) (filter (goes x z) hops) (between x z)
       (IsStrictlySortedBy-filter hop_order (goes x z) hops hops_up)
 
-  imports_ascend : (x z : ℕ) → Ascend (map (λ (r : Rule). tag_key r.class r.tag) (map import_line (filter (goes x z) hops)))
-  imports_ascend x z = subst Ascend (sym (map-map (λ (r : Rule). tag_key r.class r.tag) import_line (filter (goes x z) hops))) (hops_ascend x z)
+  imports_ascend : (x z : ℕ) → Ascend (map (λ (r : Import). tag_key r.class r.tag) (map import_line (filter (goes x z) hops)))
+  imports_ascend x z = subst Ascend (sym (map-map (λ (r : Import). tag_key r.class r.tag) import_line (filter (goes x z) hops))) (hops_ascend x z)
 
   exports_ascend : (x z : ℕ) → Ascend (map (λ (e : Export). tag_key e.class e.tag) (map export_line (filter (goes x z) hops)))
   exports_ascend x z = subst Ascend (sym (map-map (λ (e : Export). tag_key e.class e.tag) export_line (filter (goes x z) hops))) (hops_ascend x z)
@@ -96,16 +99,25 @@ module _ (net : PlainNet) (rules : IsNet net) (cs : List PlainCaseEvidence) (cou
       let tag : HasTag (session_of net hops x z) h.tag = elim (cases_Bool (is_peer net z)) [
         | inl t ↦ rw t (is.tag ∙ tag_none z h.class is.node is.case is.step.at_class within.0 from t)
         | inr t ↦ rw t (ap is_tag is.tag ∙ tag_fits z h.class is.node is.case is.step.at_class within.0 from t)
-      ] in
-      (class_fits h.class is.case is.step.at_class, tag, ap is_tag is.set ∙ tag_fits x h.class is.next is.case is.step.at_class within.1 to (router_no_peer net x (lt-ltb x (length net.routers) at_router)), pref)
+      ] in (
+        class_fits h.class is.case is.step.at_class,
+        tag,
+        ap is_tag is.set
+            ∙ tag_fits x h.class is.next is.case is.step.at_class within.1 to (router_no_peer net x (lt-ltb x (length net.routers) at_router)),
+        pref,
+      )
 
   export_fits : (x z : ℕ) → x < routers → (h : Hop) → IsBetween net cs graphs single tags x z h → IsExport count (export_line h)
   export_fits x z at_router h of_h =
       let is = of_h.0 in
       let ends = goes_parts x z h of_h.1 in
       let place = class_place cs h.class is.case is.step.at_class in
-      let within = step_within net cs graphs single tags place.0 is.case place.2 is.node is.next is.step.step in
-      (class_fits h.class is.case is.step.at_class, ap is_tag is.tag ∙ tag_fits x h.class is.node is.case is.step.at_class within.0 (is.step.from ∙ ends.0) (router_no_peer net x (lt-ltb x (length net.routers) at_router)))
+      let within = step_within net cs graphs single tags place.0 is.case place.2 is.node is.next is.step.step in (
+        class_fits h.class is.case is.step.at_class,
+        ap is_tag is.tag
+            ∙ tag_fits x h.class is.node is.case is.step.at_class within.0 (is.step.from ∙ ends.0)
+            (router_no_peer net x (lt-ltb x (length net.routers) at_router)),
+      )
 
   pref_fits : (h : Hop) → IsIn hops h → HasPref h
   pref_fits h at = All-contains HasPref (hops_from 1 cs) h fits (Contains-from_IsIn (hops_from 1 cs) h ((hops_are h).0 at))
@@ -127,11 +139,15 @@ module _ (net : PlainNet) (rules : IsNet net) (cs : List PlainCaseEvidence) (cou
 
   -- ---- the block of a router
 
-  own_fits : (x : ℕ) → x < routers → (a : Announced) → IsAnnounced cs a → a.at ≡ x → IsOwn count (own_line a)
+  own_fits : (x : ℕ) → x < routers → (a : Announced) → IsAnnounced cs a → a.at ≡ x → IsOrigination count (own_line a)
   own_fits x at_router a is here =
       let place = class_place cs a.class is.case is.at_class in
-      let within = start_within net cs graphs single tags place.0 is.case place.2 is.node is.start in
-      (class_fits a.class is.case is.at_class, ap is_tag is.tag ∙ tag_fits x a.class is.node is.case is.at_class within (is.place ∙ here) (router_no_peer net x (lt-ltb x (length net.routers) at_router)))
+      let within = start_within net cs graphs single tags place.0 is.case place.2 is.node is.start in (
+        class_fits a.class is.case is.at_class,
+        ap is_tag is.tag
+            ∙ tag_fits x a.class is.node is.case is.at_class within (is.place ∙ here)
+            (router_no_peer net x (lt-ltb x (length net.routers) at_router)),
+      )
 
   abbrev Stands : ℕ → Announced → Type 0
   Stands x a = IsAnnounced cs a × (stands x a ≡ true)
@@ -139,9 +155,9 @@ module _ (net : PlainNet) (rules : IsNet net) (cs : List PlainCaseEvidence) (cou
   standing : (x : ℕ) → AllByRecursion (Stands x) (filter (stands x) all)
   standing x = AllByRecursion-from_IsIn (Stands x) (filter (stands x) all) (λ a at. let found = IsIn-filter_parts (stands x) all a at in (is_announced cs all all_are a found.0, found.1))
 
-  own_ascend : (x : ℕ) → Ascend (map own_key (map own_line (filter (stands x) all)))
+  own_ascend : (x : ℕ) → Ascend (map origination_key (map own_line (filter (stands x) all)))
   own_ascend x =
-      subst Ascend (sym (map-map own_key own_line (filter (stands x) all)))
+      subst Ascend (sym (map-map origination_key own_line (filter (stands x) all)))
       (ascends (λ (a : Announced). record { first = a.class; second = a.prefix.bits; third = a.prefix.len }) (Stands x) announced_order (announced_up net cs graphs single tags x) (filter (stands x) all) (standing x)
       (IsStrictlySortedBy-filter announced_order (stands x) all all_up))
 
@@ -152,16 +168,17 @@ module _ (net : PlainNet) (rules : IsNet net) (cs : List PlainCaseEvidence) (cou
   router_kept x at_router = record {
     number = router_number net rules x at_router;
     identifier = identifier_fits net rules x (omega (arith, at_router));
-    own = AllByRecursion-from_IsIn (IsOwn count) (map own_line (filter (stands x) all)) (λ o at.
+    own = AllByRecursion-from_IsIn (IsOrigination count) (map own_line (filter (stands x) all)) (λ o at.
         let line = IsIn-map_parts own_line (filter (stands x) all) o at in
         let found = IsIn-filter_parts (stands x) all line.0 line.1 in
-        subst (IsOwn count) line.2 (own_fits x at_router line.0 (is_announced cs all all_are line.0 found.0) (eqb-true line.0.at x found.1)));
+        subst (IsOrigination count) line.2 (own_fits x at_router line.0 (is_announced cs all all_are line.0 found.0) (eqb-true line.0.at x found.1)));
     own_order = own_ascend x;
     sessions = AllByRecursion-from_IsIn (IsSession count) (map (session_of net hops x) (neighbours net x)) (λ b at.
         let found = IsIn-map_parts (session_of net hops x) (neighbours net x) b at in
         subst (IsSession count) found.2 (session_kept x found.0 at_router (neighbour_known net x found.0 found.1)));
     names = subst (IsDistinct bytes_eq) (sym (map-map (λ (s : Session). s.name) (session_of net hops x) (neighbours net x)))
-        (IsDistinct-sorted_keys bytes_eq (name_of net) total (neighbours net x) (sorted_neighbours net x) (AllByRecursion-from_IsIn (λ z. z < total) (neighbours net x) (neighbour_known net x)) names_apart);
+        (IsDistinct-sorted_keys bytes_eq (name_of net) total (neighbours net x) (sorted_neighbours net x)
+        (AllByRecursion-from_IsIn (λ z. z < total) (neighbours net x) (neighbour_known net x)) names_apart);
   }
 
   -- ---- all blocks
@@ -179,7 +196,8 @@ module _ (net : PlainNet) (rules : IsNet net) (cs : List PlainCaseEvidence) (cou
     patterns = patterns;
     routers = subst (λ n. AllByRecursion (IsRouter n) (routers_of net hops all)) (sym long) (AllByRecursion-from_IsIn (IsRouter count) (routers_of net hops all) each_router);
     names = subst (IsDistinct bytes_eq) (sym (map-map (λ (r : RouterConfig). r.name) (router_of net hops all) (numbers_below routers)))
-        (IsDistinct-sorted_keys bytes_eq (name_of net) routers (numbers_below routers) (sorted_numbers routers) (numbers-below routers) (λ a b less within. names_apart a b less (omega (arith, within))));
+        (IsDistinct-sorted_keys bytes_eq (name_of net) routers (numbers_below routers) (sorted_numbers routers) (numbers-below routers)
+        (λ a b less within. names_apart a b less (omega (arith, within))));
     asns = subst (IsDistinct nat_eq) (sym (map-map (λ (r : RouterConfig). r.asn) (router_of net hops all) (numbers_below routers)))
         (IsDistinct-sorted_keys nat_eq (asn_of net) routers (numbers_below routers) (sorted_numbers routers) (numbers-below routers)
         (λ a b less within. apart_sites net nat_eq (λ (s : Site). s.asn) 0 rules.asns a b less (omega (arith, within))));

@@ -2,8 +2,8 @@
 use Rattle.std.specs.Prelude.{◌≢◌, ℕ, ◌<◌, ◌^◌, ◌||◌, IsTrue, nat_eq, List, [], length, map}
 use Rattle.std.specs.List.{AllByRecursion, IsDistinct}
 use Rattle.net_base.specs.Network.{PlainNet, is_peer, is_router}
-use Rattle.path_words.specs.declared.case.Case.{Case}
-use Rattle.path_words.specs.Policies.{PlainPolicy}
+use Rattle.policy_base.specs.declared.case.Case.{Case}
+use Rattle.policy_base.specs.Policies.{PlainPolicy}
 use Rattle.graph_base.specs.Graphs.{PlainGraph}
 use Rattle.graph_base.specs.Runs.{place_of, is_listener, is_start, has_step}
 use Rattle.graph_base.specs.Rules.{same_pair}

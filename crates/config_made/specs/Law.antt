@@ -1,8 +1,8 @@
 -- Case lists can be made into configurations, each into one.
 use Rattle.std.specs.Prelude.{◌≡◌, List}
 use Rattle.net_base.specs.Network.{PlainNet}
-use Rattle.path_words.specs.Policies.{PlainPolicy, IsPolicy}
-use Rattle.path_words.specs.Cases.{case_list}
+use Rattle.policy_base.specs.Policies.{PlainPolicy, IsPolicy}
+use Rattle.policy_base.specs.Cases.{case_list}
 use Rattle.config_base.specs.Configs.{PlainConfig}
 use Rattle.evidence_base.specs.Made.{PlainCaseEvidence, IsConfigOf}
 use Rattle.config_made.specs.Conditions.{AreClasses}

@@ -6,9 +6,9 @@ use Rattle.net_base.specs.Network.{PlainNet, is_peer, asn_of, id_of, site_of}
 use Rattle.net_base.specs.Locations.{numbers_below, neighbours}
 use Rattle.config_base.specs.declared.config.RouterConfig.{RouterConfig}
 use Rattle.config_base.specs.declared.config.Session.{Session}
-use Rattle.config_base.specs.declared.config.Rule.{Rule}
+use Rattle.config_base.specs.declared.config.Import.{Import}
 use Rattle.config_base.specs.declared.config.Export.{Export}
-use Rattle.config_base.specs.declared.config.Own.{Own}
+use Rattle.config_base.specs.declared.config.Origination.{Origination}
 use Rattle.config_made.specs.declared.hop.Hop.{Hop}
 use Rattle.config_made.specs.declared.hop.Announced.{Announced}
 use Rattle.config_made.specs.Hops.{goes, stands}
@@ -16,10 +16,10 @@ use Rattle.config_made.specs.Hops.{goes, stands}
 abbrev pub export_line : Hop → Export
 export_line hop = record { class = hop.class; tag = hop.tag }
 
-abbrev pub import_line : Hop → Rule
+abbrev pub import_line : Hop → Import
 import_line hop = record { class = hop.class; tag = hop.tag; set = hop.set; pref = hop.pref }
 
-abbrev pub own_line : Announced → Own
+abbrev pub own_line : Announced → Origination
 own_line a = record { class = a.class; prefix = a.prefix; tag = a.tag }
 
 abbrev pub name_of : PlainNet → ℕ → List ℕ

@@ -9,18 +9,18 @@ ghost use Rattle.config_made.specs.Writing.{import_line, export_line, own_line, 
 
 use crate::find::{announced_at, first_from, first_places, next_hops};
 use crate::hop::{Announced, Hop};
-use config_base::{Export, Own, RouterConfig, Rule, Session};
+use config_base::{Export, Import, Origination, RouterConfig, Session};
 use net_base::{List, Loc, LocSet, Net};
-use net_near::neighbour_sets;
+use net_index::neighbour_sets;
 use std::alloc::{AllocError, Global};
 
 // The lines by which routes are taken over a link.
-fn imports(alloc: Global, taken: &[Hop]) -> Result<List<Rule>, AllocError>
+fn imports(alloc: Global, taken: &[Hop]) -> Result<List<Import>, AllocError>
     ensures { IfOk result (λ lines. lines ≡ map import_line taken.now) }
 {
     let mut lines = Vec::with_capacity(alloc, taken.len())?;
     for hop in taken {
-        lines.push(Rule {
+        lines.push(Import {
             class: hop.class,
             tag: hop.tag,
             set: hop.set,
@@ -45,13 +45,13 @@ fn exports(alloc: Global, sent: &[Hop]) -> Result<List<Export>, AllocError>
 }
 
 // The lines by which a router announces its own routes.
-fn own(alloc: Global, announced: &[Announced], at: Loc) -> Result<List<Own>, AllocError>
+fn own(alloc: Global, announced: &[Announced], at: Loc) -> Result<List<Origination>, AllocError>
     requires { IsStrictlySortedBy announced_order announced.now }
     ensures { IfOk result (λ lines. lines ≡ map own_line (filter (stands at) announced.now)) }
 {
     let mut lines = List::new(alloc);
     for own in announced_at(announced, at) {
-        lines.push(Own {
+        lines.push(Origination {
             class: own.class,
             prefix: own.prefix,
             tag: own.tag,

@@ -1,12 +1,12 @@
 //! The patterns of the classes.
 ghost use Rattle.std.specs.Prelude.{◌≡◌, IfOk, map, option_map};
 ghost use Rattle.net_base.specs.Prefixes.{only};
-ghost use Rattle.path_words.specs.Policies.{policy_of, plain_statement};
-ghost use Rattle.evidence_base.specs.Made.{PlainCaseEvidence, statement_at as plain_statement_at, patterns_of as plain_patterns_of};
+ghost use Rattle.policy_base.specs.Policies.{policy_of, plain_statement, statement_at as plain_statement_at};
+ghost use Rattle.evidence_base.specs.Made.{PlainCaseEvidence, patterns_of as plain_patterns_of};
 
 use evidence_base::CaseEvidence;
 use net_base::{List, Pattern, Prefix};
-use path_words::{Case, Policy, Statement};
+use policy_base::{Case, Policy, Statement};
 use std::alloc::{AllocError, Global};
 
 /// The statement with a number, from 1.

@@ -84,7 +84,8 @@ pub fn first_places(alloc: Global, hops: &[Hop], locations: usize) -> Result<Vec
     Ok(places)
 }
 
-// Where that which is announced at a location begins and ends.
+// Where that which is announced at a location begins and ends. It is what `node_classes` asks of the steps of a node: the law of such a
+// part of a list is `run_between` for both, and what ascends there is of another type.
 fn ends_at(announced: &[Announced], at: Loc) -> (usize, usize)
     requires { IsStrictlySortedBy announced_order announced.now }
     ensures order { result.0 ≤ result.1 }

@@ -1,6 +1,6 @@
 //! Configurations.
 ghost use Rattle.std.specs.Prelude.{◌≡◌, ℕ, IfOk, Some, map, slice_get};
-ghost use Rattle.path_words.specs.Policies.{policy_of};
+ghost use Rattle.policy_base.specs.Policies.{policy_of};
 ghost use Rattle.evidence_base.specs.Made.{PlainCaseEvidence, AreTags, IsConfigOf};
 ghost use Rattle.config_made.specs.Conditions.{AreClasses, IsSingle};
 
@@ -12,7 +12,7 @@ use config_base::Config;
 use evidence_base::CaseEvidence;
 use net_base::Net;
 use outside::NoMemory;
-use path_words::Policy;
+use policy_base::Policy;
 use std::alloc::Global;
 
 /// The configuration of cases, each with its graph and a number and a tag for each node: one class for each case, and one

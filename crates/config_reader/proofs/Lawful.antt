@@ -13,16 +13,16 @@ use Rattle.net_base.specs.Numbers.{is_router_as, is_peer_as, is_tag, no_tag}
 use Rattle.net_base.specs.Prefixes.{PlainPattern}
 use Rattle.config_base.specs.declared.config.RouterConfig.{RouterConfig}
 use Rattle.config_base.specs.declared.config.Session.{Session}
-use Rattle.config_base.specs.declared.config.Rule.{Rule}
+use Rattle.config_base.specs.declared.config.Import.{Import}
 use Rattle.config_base.specs.declared.config.Export.{Export}
-use Rattle.config_base.specs.declared.config.Own.{Own}
-use Rattle.config_base.specs.Configs.{IsClass, HasTag, IsImport, IsExport, IsOwn, IsSession, IsRouter, own_key}
+use Rattle.config_base.specs.declared.config.Origination.{Origination}
+use Rattle.config_base.specs.Configs.{IsClass, HasTag, IsImport, IsExport, IsOrigination, IsSession, IsRouter, origination_key}
 use Rattle.config_text.specs.Spelled.{ArePatterns, HasPrefix, IsNamed, HasLawfulParts, IsLawful}
 use Rattle.config_lines.specs.declared.edition.Edition.TheVariants.{Second}
 use Rattle.config_lines.specs.declared.line.Line.{Line}
 use Rattle.config_lines.specs.declared.line.Line.TheVariants as line
 use Rattle.config_lines.specs.LineText.{IsLine}
-use Rattle.config_reader.specs.Order.{ascends, rule_key, export_key}
+use Rattle.config_reader.specs.Order.{ascends, import_key, export_key}
 use Rattle.config_reader.specs.declared.reading.OpenRouter.{OpenRouter}
 use Rattle.config_reader.specs.declared.reading.Reading.{Reading}
 use Rattle.config_reader.specs.Reading.{after, closed, same_router, stood_before, same_kind}
@@ -144,7 +144,7 @@ router_keeps r s name asn id is l h =
       known = (refl, (λ _. refl));
     })
 
-own_keeps : (r s : Reading) (own : Own) → IsReading r → IsLine Second (length r.classes) (line.Own own) → after r (line.Own own) ≡ Ok s → IsReading s
+own_keeps : (r s : Reading) (own : Origination) → IsReading r → IsLine Second (length r.classes) (line.Origination own) → after r (line.Origination own) ≡ Ok s → IsReading s
 own_keeps r s own is l h =
     let k = own_ok r s own h in
     let o : OpenRouter = k.0 in
@@ -158,8 +158,8 @@ own_keeps r s own is l h =
     let rules : IsRouter (length r.classes) q.router = record {
       number = good.rules.number;
       identifier = good.rules.identifier;
-      own = AllByRecursion-push (IsOwn (length r.classes)) o.router.own own good.rules.own l.0;
-      own_order = ascend_push own_key o.router.own own good.rules.own_order both.1;
+      own = AllByRecursion-push (IsOrigination (length r.classes)) o.router.own own good.rules.own l.0;
+      own_order = ascend_push origination_key o.router.own own good.rules.own_order both.1;
       sessions = good.rules.sessions;
       names = good.rules.names;
     } in
@@ -239,14 +239,14 @@ kind_same true false h = absurd cc
 kind_same false true h = absurd cc
 kind_same false false h = refl
 
-import_keeps : (peer : Bool) (r s : Reading) (rule : Rule) → IsReading r → MatchBool peer (rule.tag ≡ no_tag) (IsTrue (is_tag rule.tag)) → IsClass (length r.classes) rule.class → IsTrue (is_tag rule.set) → rule.pref < 2 ^ 32
-    → (o : OpenRouter) (b : Session) → r.opened ≡ Some o → o.block ≡ Some b → same_kind b.peer peer ≡ true → ascends rule_key b.imports (rule_key rule) ≡ true → with_open r (with_block o (session_with_import b rule)) ≡ s → IsReading s
+import_keeps : (peer : Bool) (r s : Reading) (rule : Import) → IsReading r → MatchBool peer (rule.tag ≡ no_tag) (IsTrue (is_tag rule.tag)) → IsClass (length r.classes) rule.class → IsTrue (is_tag rule.set) → rule.pref < 2 ^ 32
+    → (o : OpenRouter) (b : Session) → r.opened ≡ Some o → o.block ≡ Some b → same_kind b.peer peer ≡ true → ascends import_key b.imports (import_key rule) ≡ true → with_open r (with_block o (session_with_import b rule)) ≡ s → IsReading s
 import_keeps peer r s rule is tagged class set pref o b at held kind up made =
     let tag : HasTag b rule.tag = subst (λ (p : Bool). MatchBool p (rule.tag ≡ no_tag) (IsTrue (is_tag rule.tag))) (sym (kind_same b.peer peer kind)) tagged in
     block_as r s o b (session_with_import b rule) is at held made refl (λ (k : IsSession (length r.classes) b). record {
       number = k.number;
       imports = AllByRecursion-push (IsImport (length r.classes) b) b.imports rule k.imports (class, tag, set, pref);
-      import_order = ascend_push rule_key b.imports rule k.import_order up;
+      import_order = ascend_push import_key b.imports rule k.import_order up;
       exports = k.exports;
       export_order = k.export_order;
     })
@@ -273,7 +273,7 @@ end_keeps r s is h =
 pub after_keeps : (r s : Reading) (l : Line) → IsReading r → IsLine Second (length r.classes) l → after r l ≡ Ok s → IsReading s
 after_keeps r s (line.Class number patterns) is l h = class_keeps r s number patterns is l.1 l.2 h
 after_keeps r s (line.Router name asn id) is l h = router_keeps r s name asn id is l h
-after_keeps r s (line.Own own) is l h = own_keeps r s own is l h
+after_keeps r s (line.Origination own) is l h = own_keeps r s own is l h
 after_keeps r s (line.Session name asn) is l h = let k = neighbour_ok false r s name asn h in neighbour_keeps false r s name asn is l.0 l.1 k.0 k.1 k.2 k.3
 after_keeps r s (line.Peer name asn) is l h = let k = neighbour_ok true r s name asn h in neighbour_keeps true r s name asn is l.0 l.1 k.0 k.1 k.2 k.3
 after_keeps r s (line.Import rule) is l h = let k = import_ok false r s rule h in import_keeps false r s rule is l.0 l.1.0 l.1.1 l.1.2 k.0 k.1 k.2 k.3 (and_parts (same_kind k.1.peer false) _ k.4).0 k.5 k.6

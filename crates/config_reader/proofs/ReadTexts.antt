@@ -45,7 +45,7 @@ pub numbered : (r s : Reading) (l : Line) → after r l ≡ Ok s → IsNumbered 
 numbered r s (line.Class None patterns) h = false_not_true (class_ok r s None patterns h).1
 numbered r s (line.Class (Some n) patterns) h = tt
 numbered r s (line.Router name asn id) h = tt
-numbered r s (line.Own own) h = tt
+numbered r s (line.Origination own) h = tt
 numbered r s (line.Session name asn) h = tt
 numbered r s (line.Peer name asn) h = tt
 numbered r s (line.Import rule) h = tt
@@ -57,7 +57,7 @@ numbered r s line.End h = tt
 line_below : (edition : Edition) (k m : ℕ) (l : Line) → k ≤ m → IsLine edition k l → IsLine edition m l
 line_below edition k m (line.Class number patterns) le is = is
 line_below edition k m (line.Router name asn id) le is = is
-line_below edition k m (line.Own o) le is = (((is.0.0.0, omega (arith, is.0.0.1, le)), is.0.1), is.1)
+line_below edition k m (line.Origination o) le is = (((is.0.0.0, omega (arith, is.0.0.1, le)), is.0.1), is.1)
 line_below edition k m (line.Session name asn) le is = is
 line_below edition k m (line.Peer name asn) le is = is
 line_below edition k m (line.Import r) le is = (is.0, ((is.1.0.0, omega (arith, is.1.0.1, le)), is.1.1, is.1.2))

@@ -12,14 +12,14 @@ use Rattle.list_laws.proofs.Texts.{bytes_eq_apart}
 use Rattle.net_base.specs.Prefixes.{PlainPattern}
 use Rattle.config_base.specs.declared.config.RouterConfig.{RouterConfig}
 use Rattle.config_base.specs.declared.config.Session.{Session}
-use Rattle.config_base.specs.declared.config.Rule.{Rule}
+use Rattle.config_base.specs.declared.config.Import.{Import}
 use Rattle.config_base.specs.declared.config.Export.{Export}
-use Rattle.config_base.specs.declared.config.Own.{Own}
-use Rattle.config_base.specs.Configs.{Key, IsBelow, Ascend, IsSession, IsRouter, own_key}
+use Rattle.config_base.specs.declared.config.Origination.{Origination}
+use Rattle.config_base.specs.Configs.{Key, IsBelow, Ascend, IsSession, IsRouter, origination_key}
 use Rattle.config_lines.specs.declared.line.Line.{Line}
 use Rattle.config_lines.specs.declared.line.Line.TheVariants as line
 use Rattle.config_text.specs.ConfigLines.{lines_of_classes, head_of, import_of, lines_of_session, lines_before_end, lines_of_router}
-use Rattle.config_reader.specs.Order.{is_below, is_above, ascends, rule_key, export_key}
+use Rattle.config_reader.specs.Order.{is_below, is_above, ascends, import_key, export_key}
 use Rattle.config_reader.specs.declared.reading.OpenRouter.{OpenRouter}
 use Rattle.config_reader.specs.declared.reading.Reading.{Reading}
 use Rattle.config_reader.specs.declared.reading.Misplaced.{Misplaced}
@@ -83,10 +83,10 @@ module _ {A : Type 0} (f : A → Line) (key : A → Key) (state : List A → Rea
 
 -- ---- a neighbour
 
-abbrev block_of : Session → List Rule → List Export → Session
+abbrev block_of : Session → List Import → List Export → Session
 block_of s imports exports = record { name = s.name; asn = s.asn; peer = s.peer; imports = imports; exports = exports }
 
-abbrev block_by : Bool → Session → List Rule → Session
+abbrev block_by : Bool → Session → List Import → Session
 block_by b s imports = record { name = s.name; asn = s.asn; peer = b; imports = imports; exports = [] }
 
 abbrev begun : OpenRouter → Session → OpenRouter
@@ -105,7 +105,7 @@ module _ (cs : List (List PlainPattern)) (rs : List RouterConfig) where
       by true = rw fresh refl
       by false = rw fresh refl
 
-  import_step : (o : OpenRouter) (s : Session) (done : List Rule) (x : Rule) → ascends rule_key done (rule_key x) ≡ true
+  import_step : (o : OpenRouter) (s : Session) (done : List Import) (x : Import) → ascends import_key done (import_key x) ≡ true
       → after (at cs rs (Some (with_block o (block_of s done [])))) (import_of s.peer x) ≡ Ok (at cs rs (Some (with_block o (block_of s (done ++ x ∷ []) []))))
   unfolding with_import import_in_block import_into
   import_step o s done x up = by s.peer
@@ -114,7 +114,7 @@ module _ (cs : List (List PlainPattern)) (rs : List RouterConfig) where
       by true = rw up refl
       by false = rw up refl
 
-  export_step : (o : OpenRouter) (s : Session) (imports : List Rule) (done : List Export) (x : Export) → ascends export_key done (export_key x) ≡ true
+  export_step : (o : OpenRouter) (s : Session) (imports : List Import) (done : List Export) (x : Export) → ascends export_key done (export_key x) ≡ true
       → after (at cs rs (Some (with_block o (block_of s imports done)))) (line.Export x) ≡ Ok (at cs rs (Some (with_block o (block_of s imports (done ++ x ∷ [])))))
   unfolding with_export export_in_block export_into
   export_step o s imports done x up = rw up refl
@@ -124,7 +124,7 @@ module _ (cs : List (List PlainPattern)) (rs : List RouterConfig) where
       let imported : Reading = at cs rs (Some (with_block (begun o s) (block_of s s.imports []))) in
       run_step after (at cs rs (Some o)) (at cs rs (Some (begun o s))) (at cs rs (Some (ended o s))) (head_of s) (map (import_of s.peer) s.imports ++ map line.Export s.exports) (head_step o s fresh)
       (run_append after (at cs rs (Some (begun o s))) imported (at cs rs (Some (ended o s))) (map (import_of s.peer) s.imports) (map line.Export s.exports)
-      (run_each (import_of s.peer) rule_key (λ (done : List Rule). at cs rs (Some (with_block (begun o s) (block_of s done [])))) (import_step (begun o s) s) [] s.imports is.import_order)
+      (run_each (import_of s.peer) import_key (λ (done : List Import). at cs rs (Some (with_block (begun o s) (block_of s done [])))) (import_step (begun o s) s) [] s.imports is.import_order)
       (run_each line.Export export_key (λ (done : List Export). at cs rs (Some (with_block (begun o s) (block_of s s.imports done)))) (export_step (begun o s) s s.imports) [] s.exports is.export_order))
 
   abbrev with_sessions : RouterConfig → List Session → RouterConfig
@@ -158,14 +158,14 @@ module _ (cs : List (List PlainPattern)) (rs : List RouterConfig) where
 
   -- ---- a router
 
-  abbrev headed : RouterConfig → List Own → OpenRouter
+  abbrev headed : RouterConfig → List Origination → OpenRouter
   headed r owns = record { router = record { name = r.name; asn = r.asn; id = r.id; own = owns; sessions = [] }; names = []; block = None }
 
   router_step : (r : RouterConfig) → stood_before r.name r.asn r.id rs ≡ false → after (at cs rs None) (line.Router r.name r.asn r.id) ≡ Ok (at cs rs (Some (headed r [])))
   unfolding with_router
   router_step r fresh = rw fresh refl
 
-  own_step : (r : RouterConfig) (done : List Own) (x : Own) → ascends own_key done (own_key x) ≡ true → after (at cs rs (Some (headed r done))) (line.Own x) ≡ Ok (at cs rs (Some (headed r (done ++ x ∷ []))))
+  own_step : (r : RouterConfig) (done : List Origination) (x : Origination) → ascends origination_key done (origination_key x) ≡ true → after (at cs rs (Some (headed r done))) (line.Origination x) ≡ Ok (at cs rs (Some (headed r (done ++ x ∷ []))))
   unfolding with_own own_into
   own_step r done x up = rw up refl
 
@@ -179,9 +179,9 @@ module _ (cs : List (List PlainPattern)) (rs : List RouterConfig) where
       let b = run_sessions count o r.sessions refl is.names is.sessions in
       let whole : closed b.q.router b.q.block ≡ r = b.made in
       run_append after (at cs rs None) (at cs rs (Some b.q)) (at cs (rs ++ r ∷ []) None) (lines_before_end r) (line.End ∷ [])
-      (run_step after (at cs rs None) (at cs rs (Some (headed r []))) (at cs rs (Some b.q)) (line.Router r.name r.asn r.id) (map line.Own r.own ++ flat_map lines_of_session r.sessions) (router_step r fresh)
-      (run_append after (at cs rs (Some (headed r []))) (at cs rs (Some o)) (at cs rs (Some b.q)) (map line.Own r.own) (flat_map lines_of_session r.sessions)
-      (run_each line.Own own_key (λ (done : List Own). at cs rs (Some (headed r done))) (own_step r) [] r.own is.own_order) b.ran))
+      (run_step after (at cs rs None) (at cs rs (Some (headed r []))) (at cs rs (Some b.q)) (line.Router r.name r.asn r.id) (map line.Origination r.own ++ flat_map lines_of_session r.sessions) (router_step r fresh)
+      (run_append after (at cs rs (Some (headed r []))) (at cs rs (Some o)) (at cs rs (Some b.q)) (map line.Origination r.own) (flat_map lines_of_session r.sessions)
+      (run_each line.Origination origination_key (λ (done : List Origination). at cs rs (Some (headed r done))) (own_step r) [] r.own is.own_order) b.ran))
       (run_step after (at cs rs (Some b.q)) (at cs (rs ++ closed b.q.router b.q.block ∷ []) None) (at cs (rs ++ r ∷ []) None) line.End [] (end_step b.q)
       (ap (λ (x : RouterConfig). let q : Result Reading Misplaced = Ok (at cs (rs ++ x ∷ []) None) in q) whole))
 

@@ -9,9 +9,9 @@ use Rattle.list_laws.proofs.Options.{is_none_parts}
 use Rattle.net_base.specs.Prefixes.{PlainPattern}
 use Rattle.config_base.specs.declared.config.RouterConfig.{RouterConfig}
 use Rattle.config_base.specs.declared.config.Session.{Session}
-use Rattle.config_base.specs.declared.config.Rule.{Rule}
+use Rattle.config_base.specs.declared.config.Import.{Import}
 use Rattle.config_base.specs.declared.config.Export.{Export}
-use Rattle.config_base.specs.declared.config.Own.{Own}
+use Rattle.config_base.specs.declared.config.Origination.{Origination}
 use Rattle.config_lines.specs.declared.line.Line.{Line}
 use Rattle.config_lines.specs.declared.line.Line.TheVariants as line
 use Rattle.config_text.specs.ConfigLines.{lines_of_classes, head_of, import_of, lines_of_session, lines_before_end, lines_of_router}
@@ -53,7 +53,7 @@ module _ (r : Reading) (o q : OpenRouter) (at : r.opened ≡ Some o) where
 session_line_more : (r : RouterConfig) (s : Session) (l : Line) → lines_of_session s ≡ l ∷ []
     → lines_before_end (closed r (Some s)) ≡ lines_before_end r ++ l ∷ []
 session_line_more r s l e =
-    let owns : List Line = map line.Own r.own in
+    let owns : List Line = map line.Origination r.own in
     ap (λ (t : List Line). line.Router r.name r.asn r.id ∷ (owns ++ t)) (flat_push lines_of_session r.sessions s ∙ ap (λ (t : List Line). flat_map lines_of_session r.sessions ++ t) e)
     ∙ ap (λ (t : List Line). line.Router r.name r.asn r.id ∷ t) (sym (append_assoc owns (flat_map lines_of_session r.sessions) (l ∷ [])))
 
@@ -61,7 +61,7 @@ session_line_more r s l e =
 session_grown : (r : RouterConfig) (b c : Session) (l : Line) → lines_of_session c ≡ lines_of_session b ++ l ∷ []
     → lines_before_end (closed r (Some c)) ≡ lines_before_end (closed r (Some b)) ++ l ∷ []
 session_grown r b c l e =
-    let owns : List Line = map line.Own r.own in
+    let owns : List Line = map line.Origination r.own in
     let before : List Line = flat_map lines_of_session r.sessions in
     let inner : flat_map lines_of_session (r.sessions ++ c ∷ []) ≡ flat_map lines_of_session (r.sessions ++ b ∷ []) ++ l ∷ [] =
     flat_push lines_of_session r.sessions c ∙ ap (λ (t : List Line). before ++ t) e ∙ sym (append_assoc before (lines_of_session b) (l ∷ [])) ∙ ap (λ (t : List Line). t ++ l ∷ []) (sym (flat_push lines_of_session r.sessions b)) in
@@ -95,20 +95,20 @@ router_adds r s name asn id h =
     ∙ sym (append_assoc cs rs (line.Router name asn id ∷ []))
     ∙ ap (λ (t : List Line). (cs ++ t) ++ line.Router name asn id ∷ []) (sym (append-nil rs) ∙ ap (λ (x : Option OpenRouter). rs ++ open_lines x) (sym none))
 
-own_adds : (r s : Reading) (own : Own) → (o : OpenRouter) → r.opened ≡ Some o → o.router.sessions ≡ [] → o.block ≡ None → with_open r (router_with_own o own) ≡ s → so_far s ≡ so_far r ++ line.Own own ∷ []
+own_adds : (r s : Reading) (own : Origination) → (o : OpenRouter) → r.opened ≡ Some o → o.router.sessions ≡ [] → o.block ≡ None → with_open r (router_with_own o own) ≡ s → so_far s ≡ so_far r ++ line.Origination own ∷ []
 own_adds r s own o at alone none made =
-    ap so_far (sym made) ∙ grown r o (router_with_own o own) at (line.Own own)
+    ap so_far (sym made) ∙ grown r o (router_with_own o own) at (line.Origination own)
     (ap (λ (b : Option Session). lines_before_end (closed (router_with_own o own).router b)) none
     ∙ lines
-    ∙ ap (λ (b : Option Session). lines_before_end (closed o.router b) ++ line.Own own ∷ []) (sym none))
+    ∙ ap (λ (b : Option Session). lines_before_end (closed o.router b) ++ line.Origination own ∷ []) (sym none))
   where
-    lines : lines_before_end (router_with_own o own).router ≡ lines_before_end o.router ++ line.Own own ∷ []
+    lines : lines_before_end (router_with_own o own).router ≡ lines_before_end o.router ++ line.Origination own ∷ []
     lines =
         let first : Line = line.Router o.router.name o.router.asn o.router.id in
-        let owns : List Line = map line.Own o.router.own in
-        ap (λ (ss : List Session). first ∷ (map line.Own (o.router.own ++ own ∷ []) ++ flat_map lines_of_session ss)) alone
-        ∙ ap (λ (t : List Line). first ∷ t) (append-nil (map line.Own (o.router.own ++ own ∷ [])) ∙ map-append line.Own o.router.own (own ∷ []))
-        ∙ ap (λ (t : List Line). first ∷ (t ++ line.Own own ∷ [])) (sym (append-nil owns) ∙ ap (λ (ss : List Session). owns ++ flat_map lines_of_session ss) (sym alone))
+        let owns : List Line = map line.Origination o.router.own in
+        ap (λ (ss : List Session). first ∷ (map line.Origination (o.router.own ++ own ∷ []) ++ flat_map lines_of_session ss)) alone
+        ∙ ap (λ (t : List Line). first ∷ t) (append-nil (map line.Origination (o.router.own ++ own ∷ [])) ∙ map-append line.Origination o.router.own (own ∷ []))
+        ∙ ap (λ (t : List Line). first ∷ (t ++ line.Origination own ∷ [])) (sym (append-nil owns) ∙ ap (λ (ss : List Session). owns ++ flat_map lines_of_session ss) (sym alone))
 
 neighbour_adds : (peer : Bool) (r s : Reading) (name : List ℕ) (asn : ℕ) (l : Line) → head_of (new_session name asn peer) ≡ l → (o : OpenRouter) → r.opened ≡ Some o → with_open r (with_session o peer name asn) ≡ s → so_far s ≡ so_far r ++ l ∷ []
 neighbour_adds peer r s name asn l e o at made =
@@ -118,7 +118,7 @@ block_adds : (r s : Reading) (l : Line) (o : OpenRouter) (b c : Session) → r.o
 block_adds r s l o b c at held made e =
     ap so_far (sym made) ∙ grown r o (with_block o c) at l (session_grown o.router b c l e ∙ ap (λ (x : Option Session). lines_before_end (closed o.router x) ++ l ∷ []) (sym held))
 
-import_lines : (b : Session) (rule : Rule) (l : Line) → import_of b.peer rule ≡ l → b.exports ≡ [] → lines_of_session (session_with_import b rule) ≡ lines_of_session b ++ l ∷ []
+import_lines : (b : Session) (rule : Import) (l : Line) → import_of b.peer rule ≡ l → b.exports ≡ [] → lines_of_session (session_with_import b rule) ≡ lines_of_session b ++ l ∷ []
 import_lines b rule l e none =
     let is : List Line = map (import_of b.peer) b.imports in
     ap (λ (es : List Export). head_of b ∷ (map (import_of b.peer) (b.imports ++ rule ∷ []) ++ map line.Export es)) none
@@ -131,7 +131,7 @@ export_lines b export =
     ap (λ (t : List Line). head_of b ∷ (is ++ t)) (map-append line.Export b.exports (export ∷ []))
     ∙ ap (λ (t : List Line). head_of b ∷ t) (sym (append_assoc is (map line.Export b.exports) (line.Export export ∷ [])))
 
-import_adds : (peer : Bool) (r s : Reading) (rule : Rule) (l : Line) → import_of peer rule ≡ l → (o : OpenRouter) (b : Session) → r.opened ≡ Some o → o.block ≡ Some b → (same_kind b.peer peer && length b.exports == 0) ≡ true → with_open r (with_block o (session_with_import b rule)) ≡ s → so_far s ≡ so_far r ++ l ∷ []
+import_adds : (peer : Bool) (r s : Reading) (rule : Import) (l : Line) → import_of peer rule ≡ l → (o : OpenRouter) (b : Session) → r.opened ≡ Some o → o.block ≡ Some b → (same_kind b.peer peer && length b.exports == 0) ≡ true → with_open r (with_block o (session_with_import b rule)) ≡ s → so_far s ≡ so_far r ++ l ∷ []
 import_adds peer r s rule l e o b at held both made =
     let k = and_parts (same_kind b.peer peer) (length b.exports == 0) both in
     block_adds r s l o b (session_with_import b rule) at held made
@@ -153,7 +153,7 @@ end_adds r s h =
 pub after_adds : (r s : Reading) (l : Line) → IsReading r → after r l ≡ Ok s → so_far s ≡ so_far r ++ l ∷ []
 after_adds r s (line.Class number patterns) is h = class_adds r s number patterns h
 after_adds r s (line.Router name asn id) is h = router_adds r s name asn id h
-after_adds r s (line.Own own) is h =
+after_adds r s (line.Origination own) is h =
     let m = own_ok r s own h in
     let none = is_none_parts m.0.block (and_parts (is_none m.0.block) _ m.2).0 in
     own_adds r s own m.0 m.1 ((open_good r m.0 is m.1).1.1 none) none m.3

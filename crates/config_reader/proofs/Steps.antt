@@ -6,19 +6,19 @@ use Rattle.std.specs.Str.{bytes_eq}
 use Rattle.net_base.specs.Prefixes.{PlainPattern}
 use Rattle.net_base.specs.Steps.{or_fault, unless}
 use Rattle.net_base.proofs.StepLemmas.{bind_ok, unless_ok, or_fault_ok, ok_same}
-use Rattle.config_base.specs.Configs.{own_key}
+use Rattle.config_base.specs.Configs.{origination_key}
 use Rattle.config_base.specs.declared.config.RouterConfig.{RouterConfig}
 use Rattle.config_base.specs.declared.config.Session.{Session}
-use Rattle.config_base.specs.declared.config.Rule.{Rule}
+use Rattle.config_base.specs.declared.config.Import.{Import}
 use Rattle.config_base.specs.declared.config.Export.{Export}
-use Rattle.config_base.specs.declared.config.Own.{Own}
+use Rattle.config_base.specs.declared.config.Origination.{Origination}
 use Rattle.config_lines.specs.declared.edition.Edition.{Edition}
 use Rattle.config_lines.specs.declared.line.Line.{Line}
 use Rattle.config_lines.specs.declared.line.Line.TheVariants as line
 use Rattle.config_lines.specs.declared.line.LineFault.{LineFault}
 use Rattle.config_lines.specs.declared.line.LineFault.TheVariants as linefault
 use Rattle.config_lines.specs.Lines.{line_of}
-use Rattle.config_reader.specs.Order.{ascends, rule_key, export_key}
+use Rattle.config_reader.specs.Order.{ascends, import_key, export_key}
 use Rattle.config_reader.specs.declared.reading.OpenRouter.{OpenRouter}
 use Rattle.config_reader.specs.declared.reading.Reading.{Reading}
 use Rattle.config_reader.specs.declared.reading.Misplaced.{Misplaced}
@@ -69,16 +69,16 @@ router_ok r s name asn id h =
     let b = bind_ok (unless misplaced.Twice (not (stood_before name asn id r.routers))) _ s a.2 in
     (unless_ok misplaced.Order _ a.0 a.1, unless_ok misplaced.Twice _ b.0 b.1, ok_same _ s b.2)
 
-abbrev pub router_with_own : OpenRouter → Own → OpenRouter
+abbrev pub router_with_own : OpenRouter → Origination → OpenRouter
 router_with_own o own = record { router = record { name = o.router.name; asn = o.router.asn; id = o.router.id; own = o.router.own ++ own ∷ []; sessions = o.router.sessions }; names = o.names; block = o.block }
 
-pub own_ok : (r s : Reading) (own : Own) → with_own r own ≡ Ok s
-    → (o : OpenRouter) × (r.opened ≡ Some o) × ((is_none o.block && ascends own_key o.router.own (own_key own)) ≡ true) × (with_open r (router_with_own o own) ≡ s)
+pub own_ok : (r s : Reading) (own : Origination) → with_own r own ≡ Ok s
+    → (o : OpenRouter) × (r.opened ≡ Some o) × ((is_none o.block && ascends origination_key o.router.own (origination_key own)) ≡ true) × (with_open r (router_with_own o own) ≡ s)
 unfolding with_own own_into
 own_ok r s own h =
     let a = bind_ok (or_fault misplaced.Order r.opened) _ s h in
     let o = bind_ok (own_into a.0 own) _ s a.2 in
-    let b = bind_ok (unless misplaced.Order (is_none a.0.block && ascends own_key a.0.router.own (own_key own))) _ o.0 o.1 in
+    let b = bind_ok (unless misplaced.Order (is_none a.0.block && ascends origination_key a.0.router.own (origination_key own))) _ o.0 o.1 in
     let made : router_with_own a.0 own ≡ o.0 = ok_same _ o.0 b.2 in
     (a.0, or_fault_ok misplaced.Order r.opened a.0 a.1, unless_ok misplaced.Order _ b.0 b.1, ap (with_open r) made ∙ ok_same _ s o.2)
 
@@ -101,11 +101,11 @@ neighbour_ok peer r s name asn h =
 abbrev pub with_block : OpenRouter → Session → OpenRouter
 with_block o b = record { router = o.router; names = o.names; block = Some b }
 
-abbrev pub session_with_import : Session → Rule → Session
+abbrev pub session_with_import : Session → Import → Session
 session_with_import b rule = record { name = b.name; asn = b.asn; peer = b.peer; imports = b.imports ++ rule ∷ []; exports = b.exports }
 
-pub import_ok : (peer : Bool) (r s : Reading) (rule : Rule) → with_import peer r rule ≡ Ok s
-    → (o : OpenRouter) × (b : Session) × (r.opened ≡ Some o) × (o.block ≡ Some b) × ((same_kind b.peer peer && length b.exports == 0) ≡ true) × (ascends rule_key b.imports (rule_key rule) ≡ true) × (with_open r (with_block o (session_with_import b rule)) ≡ s)
+pub import_ok : (peer : Bool) (r s : Reading) (rule : Import) → with_import peer r rule ≡ Ok s
+    → (o : OpenRouter) × (b : Session) × (r.opened ≡ Some o) × (o.block ≡ Some b) × ((same_kind b.peer peer && length b.exports == 0) ≡ true) × (ascends import_key b.imports (import_key rule) ≡ true) × (with_open r (with_block o (session_with_import b rule)) ≡ s)
 unfolding with_import import_in_block import_into
 import_ok peer r s rule h =
     let a = bind_ok (or_fault misplaced.Order r.opened) _ s h in
@@ -113,7 +113,7 @@ import_ok peer r s rule h =
     let b = bind_ok (or_fault misplaced.Order a.0.block) _ o.0 o.1 in
     let c = bind_ok (import_into peer b.0 rule) _ o.0 b.2 in
     let d = bind_ok (unless misplaced.Order (same_kind b.0.peer peer && length b.0.exports == 0)) _ c.0 c.1 in
-    let e = bind_ok (unless misplaced.Order (ascends rule_key b.0.imports (rule_key rule))) _ c.0 d.2 in
+    let e = bind_ok (unless misplaced.Order (ascends import_key b.0.imports (import_key rule))) _ c.0 d.2 in
     let made : session_with_import b.0 rule ≡ c.0 = ok_same _ c.0 e.2 in
     let whole : with_block a.0 c.0 ≡ o.0 = ok_same _ o.0 c.2 in (
       a.0,
@@ -167,7 +167,7 @@ after-classes r s (line.Class number patterns) h =
     let k = class_ok r s number patterns h in
     rw (← k.2, length-append r.classes (patterns ∷ [])) (omega arith, omega arith)
 after-classes r s (line.Router name asn id) h = same_count r s _ refl (router_ok r s name asn id h).2
-after-classes r s (line.Own own) h = same_count r s _ refl (own_ok r s own h).3
+after-classes r s (line.Origination own) h = same_count r s _ refl (own_ok r s own h).3
 after-classes r s (line.Session name asn) h = same_count r s _ refl (neighbour_ok false r s name asn h).3
 after-classes r s (line.Peer name asn) h = same_count r s _ refl (neighbour_ok true r s name asn h).3
 after-classes r s (line.Import rule) h = same_count r s _ refl (import_ok false r s rule h).6

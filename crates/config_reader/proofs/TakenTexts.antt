@@ -10,7 +10,7 @@ use Rattle.list_laws.proofs.Each.{AllByRecursion-append, AllByRecursion-append_p
 use Rattle.net_base.specs.Prefixes.{PlainPattern}
 use Rattle.config_base.specs.declared.config.RouterConfig.{RouterConfig}
 use Rattle.config_base.specs.declared.config.Session.{Session}
-use Rattle.config_base.specs.declared.config.Rule.{Rule}
+use Rattle.config_base.specs.declared.config.Import.{Import}
 use Rattle.config_base.specs.Configs.{PlainConfig}
 use Rattle.config_lines.specs.declared.edition.Edition.{Edition}
 use Rattle.config_lines.specs.declared.edition.Edition.TheVariants.{First, Second}
@@ -46,7 +46,7 @@ line_taken edition n r s l h k = rw (h, k) refl
 abbrev pub IsOther : Line → Type 0
 IsOther (line.Class number patterns) = ⊥
 IsOther (line.Router name asn id) = Unit {0}
-IsOther (line.Own o) = Unit {0}
+IsOther (line.Origination o) = Unit {0}
 IsOther (line.Session name asn) = Unit {0}
 IsOther (line.Peer name asn) = Unit {0}
 IsOther (line.Import r) = Unit {0}
@@ -57,7 +57,7 @@ IsOther line.End = Unit {0}
 pub same_classes : (r s : Reading) (l : Line) → IsOther l → after r l ≡ Ok s → s.classes ≡ r.classes
 same_classes r s (line.Class number patterns) o h = absurd o
 same_classes r s (line.Router name asn id) o h = sym (ap (λ (q : Reading). q.classes) (router_ok r s name asn id h).2)
-same_classes r s (line.Own own) o h = sym (ap (λ (q : Reading). q.classes) (own_ok r s own h).3)
+same_classes r s (line.Origination own) o h = sym (ap (λ (q : Reading). q.classes) (own_ok r s own h).3)
 same_classes r s (line.Session name asn) o h = sym (ap (λ (q : Reading). q.classes) (neighbour_ok false r s name asn h).3)
 same_classes r s (line.Peer name asn) o h = sym (ap (λ (q : Reading). q.classes) (neighbour_ok true r s name asn h).3)
 same_classes r s (line.Import rule) o h = sym (ap (λ (q : Reading). q.classes) (import_ok false r s rule h).6)
@@ -73,7 +73,7 @@ pub flat_other : {A : Type 0} (f : A → List Line) → ((x : A) → AllByRecurs
 flat_other f is [] = tt
 flat_other f is (x ∷ xs) = AllByRecursion-append IsOther (f x) (flat_map f xs) (is x) (flat_other f is xs)
 
-import_other : (b : Bool) (r : Rule) → IsOther (import_of b r)
+import_other : (b : Bool) (r : Import) → IsOther (import_of b r)
 import_other true r = tt
 import_other false r = tt
 
@@ -91,7 +91,7 @@ session_other s =
 pub router_other : (r : RouterConfig) → AllByRecursion IsOther (lines_of_router r)
 router_other r =
     AllByRecursion-append IsOther (lines_before_end r) (line.End ∷ [])
-    (tt, AllByRecursion-append IsOther (map line.Own r.own) (flat_map lines_of_session r.sessions) (each_other line.Own (λ o. tt) r.own) (flat_other lines_of_session session_other r.sessions))
+    (tt, AllByRecursion-append IsOther (map line.Origination r.own) (flat_map lines_of_session r.sessions) (each_other line.Origination (λ o. tt) r.own) (flat_other lines_of_session session_other r.sessions))
     (tt, tt)
 
 -- a line of a router's block

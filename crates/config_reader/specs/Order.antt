@@ -1,7 +1,7 @@
 -- The order of a configuration's lines: each entry of a list stands above the last one before it.
 use Rattle.std.specs.Prelude.{◌-◌, ◌&&◌, ◌||◌, ◌==◌, nat_lt, Bool, true, List, length, slice_get, Option, Some, None}
 use Rattle.std.specs.Option.{option_map}
-use Rattle.config_base.specs.declared.config.Rule.{Rule}
+use Rattle.config_base.specs.declared.config.Import.{Import}
 use Rattle.config_base.specs.declared.config.Export.{Export}
 use Rattle.config_base.specs.Configs.{Key, tag_key}
 
@@ -16,8 +16,8 @@ is_above (Some last) key = is_below last key
 abbrev pub last_of : {A : Type 0} → List A → Option A
 last_of xs = slice_get xs (length xs - 1)
 
-abbrev pub rule_key : Rule → Key
-rule_key r = tag_key r.class r.tag
+abbrev pub import_key : Import → Key
+import_key r = tag_key r.class r.tag
 
 abbrev pub export_key : Export → Key
 export_key e = tag_key e.class e.tag

@@ -7,17 +7,17 @@ use Rattle.net_base.specs.Prefixes.{PlainPattern}
 use Rattle.net_base.specs.Steps.{◌>>=◌, or_fault, unless}
 use Rattle.config_base.specs.declared.config.RouterConfig.{RouterConfig}
 use Rattle.config_base.specs.declared.config.Session.{Session}
-use Rattle.config_base.specs.declared.config.Rule.{Rule}
+use Rattle.config_base.specs.declared.config.Import.{Import}
 use Rattle.config_base.specs.declared.config.Export.{Export}
-use Rattle.config_base.specs.declared.config.Own.{Own}
-use Rattle.config_base.specs.Configs.{own_key}
+use Rattle.config_base.specs.declared.config.Origination.{Origination}
+use Rattle.config_base.specs.Configs.{origination_key}
 use Rattle.config_lines.specs.declared.line.Line.{Line}
 use Rattle.config_lines.specs.declared.line.Line.TheVariants as line
 use Rattle.config_reader.specs.declared.reading.OpenRouter.{OpenRouter}
 use Rattle.config_reader.specs.declared.reading.Reading.{Reading}
 use Rattle.config_reader.specs.declared.reading.Misplaced.{Misplaced}
 use Rattle.config_reader.specs.declared.reading.Misplaced.TheVariants.{Order, Twice, NoMemory}
-use Rattle.config_reader.specs.Order.{ascends, rule_key, export_key}
+use Rattle.config_reader.specs.Order.{ascends, import_key, export_key}
 
 -- what came back, seen by view, is what the rules give, unless memory ran out
 abbrev pub Gives : {X Y : Type 0} → (X → Y) → Result X Misplaced → Result Y Misplaced → Type 0
@@ -55,13 +55,13 @@ with_router r name asn id = do
   Ok (record { classes = r.classes; routers = r.routers; opened = Some (record { router = record { name = name; asn = asn; id = id; own = []; sessions = [] }; names = []; block = None }) })
 
 -- the originate lines come before the neighbours, and ascend
-unfoldable pub own_into : OpenRouter → Own → Result OpenRouter Misplaced
+unfoldable pub own_into : OpenRouter → Origination → Result OpenRouter Misplaced
 own_into now own = do
-  _ ← unless Order (is_none now.block && ascends own_key now.router.own (own_key own))
+  _ ← unless Order (is_none now.block && ascends origination_key now.router.own (origination_key own))
   Ok (record { router = record now.router { own = now.router.own ++ own ∷ [] }; names = now.names; block = now.block })
 
 -- into the router's block that is open
-unfoldable pub with_own : Reading → Own → Result Reading Misplaced
+unfoldable pub with_own : Reading → Origination → Result Reading Misplaced
 with_own r own = do
   now ← or_fault Order r.opened
   now ← own_into now own
@@ -90,10 +90,10 @@ same_kind true b = b
 same_kind false b = not b
 
 -- imports come before exports, in the form of their block, and ascend
-unfoldable pub import_into : Bool → Session → Rule → Result Session Misplaced
+unfoldable pub import_into : Bool → Session → Import → Result Session Misplaced
 import_into peer s rule = do
   _ ← unless Order (same_kind s.peer peer && length s.exports == 0)
-  _ ← unless Order (ascends rule_key s.imports (rule_key rule))
+  _ ← unless Order (ascends import_key s.imports (import_key rule))
   Ok (record s { imports = s.imports ++ rule ∷ [] })
 
 -- exports ascend
@@ -103,7 +103,7 @@ export_into s export = do
   Ok (record s { exports = s.exports ++ export ∷ [] })
 
 -- into the neighbour's block that is open
-unfoldable pub import_in_block : Bool → OpenRouter → Rule → Result OpenRouter Misplaced
+unfoldable pub import_in_block : Bool → OpenRouter → Import → Result OpenRouter Misplaced
 import_in_block peer now rule = do
   s ← or_fault Order now.block
   s ← import_into peer s rule
@@ -116,7 +116,7 @@ export_in_block now export = do
   Ok (record { router = now.router; names = now.names; block = Some s })
 
 -- in the router's block that is open
-unfoldable pub with_import : Bool → Reading → Rule → Result Reading Misplaced
+unfoldable pub with_import : Bool → Reading → Import → Result Reading Misplaced
 with_import peer r rule = do
   now ← or_fault Order r.opened
   now ← import_in_block peer now rule
@@ -138,7 +138,7 @@ with_end r = do
 abbrev pub after : Reading → Line → Result Reading Misplaced
 after r (line.Class number patterns) = with_class r number patterns
 after r (line.Router name asn id) = with_router r name asn id
-after r (line.Own own) = with_own r own
+after r (line.Origination own) = with_own r own
 after r (line.Session name asn) = with_neighbour false r name asn
 after r (line.Peer name asn) = with_neighbour true r name asn
 after r (line.Import rule) = with_import false r rule

@@ -2,15 +2,15 @@
 ghost use Rattle.std.specs.Prelude.{◌≡◌};
 ghost use Rattle.config_reader.specs.Reading.{Gives, closed, own_into, neighbour_into, import_into, export_into, import_in_block, export_in_block};
 
-use crate::order::{export_ascends, own_ascends, rule_ascends};
+use crate::order::{export_ascends, import_ascends, origination_ascends};
 use crate::reading::{Misplaced, OpenRouter};
-use config_base::{Export, Own, RouterConfig, Rule, Session};
+use config_base::{Export, Import, Origination, RouterConfig, Session};
 use net_base::{List, Name};
 use std::alloc::Global;
 
 /// The block of a router with one more route of its own.
 #[tactic(auto, unfolding(crate::specs::Reading::own_into))]
-pub fn push_own(current: OpenRouter, line: Own) -> Result<OpenRouter, Misplaced>
+pub fn push_origination(current: OpenRouter, line: Origination) -> Result<OpenRouter, Misplaced>
     ensures { Gives (λ o. o) result (own_into current line) }
 {
     let OpenRouter {
@@ -21,7 +21,7 @@ pub fn push_own(current: OpenRouter, line: Own) -> Result<OpenRouter, Misplaced>
     if block.is_some() {
         return Err(Misplaced::Order);
     }
-    if !own_ascends(router.own.as_slice(), &line) {
+    if !origination_ascends(router.own.as_slice(), &line) {
         return Err(Misplaced::Order);
     }
     router.own.push(line)?;
@@ -80,13 +80,13 @@ pub fn begin_block(
 
 // The block of a neighbour with one more import.
 #[tactic(auto, unfolding(crate::specs::Reading::import_into))]
-fn add_import(mut session: Session, peer: bool, line: Rule) -> Result<Session, Misplaced>
+fn add_import(mut session: Session, peer: bool, line: Import) -> Result<Session, Misplaced>
     ensures { Gives (λ s. s) result (import_into peer session line) }
 {
     if session.peer != peer || !session.exports.as_slice().is_empty() {
         return Err(Misplaced::Order);
     }
-    if !rule_ascends(session.imports.as_slice(), &line) {
+    if !import_ascends(session.imports.as_slice(), &line) {
         return Err(Misplaced::Order);
     }
     session.imports.push(line)?;
@@ -107,7 +107,7 @@ fn add_export(mut session: Session, line: Export) -> Result<Session, Misplaced>
 
 /// The block of a router with one more import in that of a neighbour.
 #[tactic(auto, unfolding(crate::specs::Reading::import_in_block))]
-pub fn push_import(current: OpenRouter, peer: bool, line: Rule) -> Result<OpenRouter, Misplaced>
+pub fn push_import(current: OpenRouter, peer: bool, line: Import) -> Result<OpenRouter, Misplaced>
     ensures { Gives (λ o. o) result (import_in_block peer current line) }
 {
     let OpenRouter {

@@ -4,6 +4,7 @@ ghost use Rattle.config_reader.specs.Faults.{line_number_text};
 
 use outside::NoMemory;
 use std::alloc::{AllocError, AllocFailed};
+use text_faults::TextFault;
 use text_words::{push_bytes, push_number};
 
 /// Why a text is no configuration. Version is judged first, then each line from the second on, and last whether
@@ -36,14 +37,12 @@ fn push_line(text: &mut Vec<u8>, line: u32) -> Result<(), NoMemory>
     push_number(text, u64::from(line))
 }
 
-impl ConfigFault {
-    ghost use Rattle.std.specs.Prelude.{◌≡◌, ◌++◌, OnOk};
-    ghost use Rattle.config_reader.specs.Faults.{number_of, word_of, values_of};
+impl TextFault for ConfigFault {
+    ghost use Rattle.config_reader.specs.Faults.{told};
 
-    /// The number of the fault, from 1 to 6. Want of memory has the number 0.
-    pub fn number(&self) -> u8
-        ensures { result ≡ number_of self.now }
-    {
+    ghost telling = { told };
+
+    fn number(&self) -> u8 {
         match self {
             ConfigFault::Version => 1,
             ConfigFault::Line(_) => 2,
@@ -55,10 +54,7 @@ impl ConfigFault {
         }
     }
 
-    /// The word of the fault.
-    pub fn word(&self) -> &'static [u8]
-        ensures { result.now ≡ word_of self.now }
-    {
+    fn word(&self) -> &'static [u8] {
         match self {
             ConfigFault::Version => b"version",
             ConfigFault::Line(_) => b"line",
@@ -70,10 +66,7 @@ impl ConfigFault {
         }
     }
 
-    /// Adds the values of the fault: ` line ` and the number of the line, where it has one.
-    pub fn push_values(&self, text: &mut Vec<u8>) -> Result<(), NoMemory>
-        ensures { OnOk result (text.new.items ≡ text.old.items ++ values_of self.now) }
-    {
+    fn push_values(&self, text: &mut Vec<u8>) -> Result<(), NoMemory> {
         match self {
             ConfigFault::Version | ConfigFault::Unfinished | ConfigFault::NoMemory => Ok(()),
             ConfigFault::Line(line)
@@ -81,6 +74,10 @@ impl ConfigFault {
             | ConfigFault::Twice(line)
             | ConfigFault::Number(line) => push_line(text, *line),
         }
+    }
+
+    fn is_no_memory(&self) -> bool {
+        matches!(self, ConfigFault::NoMemory)
     }
 }
 

@@ -1,10 +1,10 @@
 //! The order of a configuration's lines.
 ghost use Rattle.std.specs.Prelude.{◌≡◌};
-ghost use Rattle.config_base.specs.Configs.{own_key as key_of_own, tag_key as key_of_tag};
-ghost use Rattle.config_reader.specs.Order.{is_below as below, ascends, rule_key as key_of_rule, export_key as key_of_export};
+ghost use Rattle.config_base.specs.Configs.{origination_key as key_of_origination, tag_key as key_of_tag};
+ghost use Rattle.config_reader.specs.Order.{is_below as below, ascends, import_key as key_of_import, export_key as key_of_export};
 ghost use Rattle.config_reader.specs.Views.{key};
 
-use config_base::{Export, Own, Rule};
+use config_base::{Export, Import, Origination};
 use net_base::Tag;
 
 /// The three numbers by which a line stands in its list, the first one first.
@@ -36,8 +36,8 @@ fn tag_numbers(class: u32, tag: Tag) -> Numbers
 }
 
 // The numbers of an originate line.
-fn own_numbers(own: &Own) -> Numbers
-    ensures { key result ≡ key_of_own own.now }
+fn own_numbers(own: &Origination) -> Numbers
+    ensures { key result ≡ key_of_origination own.now }
 {
     Numbers {
         first: own.class,
@@ -47,8 +47,8 @@ fn own_numbers(own: &Own) -> Numbers
 }
 
 /// Whether an originate line may stand behind these.
-pub fn own_ascends(owns: &[Own], next: &Own) -> bool
-    ensures { result ≡ ascends key_of_own owns.now (key_of_own next.now) }
+pub fn origination_ascends(owns: &[Origination], next: &Origination) -> bool
+    ensures { result ≡ ascends key_of_origination owns.now (key_of_origination next.now) }
 {
     match owns.last() {
         None => true,
@@ -57,8 +57,8 @@ pub fn own_ascends(owns: &[Own], next: &Own) -> bool
 }
 
 /// Whether an import line may stand behind these.
-pub fn rule_ascends(rules: &[Rule], next: &Rule) -> bool
-    ensures { result ≡ ascends key_of_rule rules.now (key_of_rule next.now) }
+pub fn import_ascends(rules: &[Import], next: &Import) -> bool
+    ensures { result ≡ ascends key_of_import rules.now (key_of_import next.now) }
 {
     match rules.last() {
         None => true,

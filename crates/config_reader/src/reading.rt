@@ -2,10 +2,10 @@
 ghost use Rattle.std.specs.Prelude.{◌≡◌, ◌==◌, ◌&&◌, is_none, length};
 ghost use Rattle.config_reader.specs.Reading.{Gives, opening, is_next as next, with_class, with_router, with_own, with_neighbour, with_import, with_export, with_end, after as after_line};
 
-use crate::block::{begin_block, closed_router, push_export, push_import, push_own};
+use crate::block::{begin_block, closed_router, push_export, push_import, push_origination};
 use crate::names::Names;
 use crate::routers::Routers;
-use config_base::{Export, Own, RouterConfig, Rule, Session};
+use config_base::{Export, Import, Origination, RouterConfig, Session};
 use config_lines::Line;
 use net_base::{List, Name, Pattern};
 use std::alloc::{AllocError, AllocFailed, Global};
@@ -154,7 +154,7 @@ fn begin_router(
 
 // An originate line.
 #[tactic(auto, unfolding(crate::specs::Reading::with_own))]
-fn add_own(reading: Reading, line: Own) -> Result<Reading, Misplaced>
+fn add_origination(reading: Reading, line: Origination) -> Result<Reading, Misplaced>
     ensures { Gives (λ r. r) result (with_own reading line) }
 {
     let Reading {
@@ -165,7 +165,7 @@ fn add_own(reading: Reading, line: Own) -> Result<Reading, Misplaced>
     let Some(current) = opened else {
         return Err(Misplaced::Order);
     };
-    let current = push_own(current, line)?;
+    let current = push_origination(current, line)?;
     Ok(Reading {
         classes,
         routers,
@@ -202,7 +202,7 @@ fn begin_neighbour(
 
 // An import line, in the block of a peer or of a router.
 #[tactic(auto, unfolding(crate::specs::Reading::with_import))]
-fn import(reading: Reading, peer: bool, line: Rule) -> Result<Reading, Misplaced>
+fn import(reading: Reading, peer: bool, line: Import) -> Result<Reading, Misplaced>
     ensures { Gives (λ r. r) result (with_import peer reading line) }
 {
     let Reading {
@@ -270,7 +270,7 @@ pub fn after(alloc: Global, reading: Reading, line: Line) -> Result<Reading, Mis
     match line {
         Line::Class(number, patterns) => add_class(reading, number, patterns),
         Line::Router(name, asn, id) => begin_router(alloc, reading, name, asn, id),
-        Line::Own(own) => add_own(reading, own),
+        Line::Origination(own) => add_origination(reading, own),
         Line::Session(name, asn) => begin_neighbour(alloc, reading, false, name, asn),
         Line::Peer(name, asn) => begin_neighbour(alloc, reading, true, name, asn),
         Line::Import(rule) => import(reading, false, rule),

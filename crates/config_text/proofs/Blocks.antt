@@ -10,9 +10,9 @@ use Rattle.net_base.specs.Prefixes.{PlainPattern}
 use Rattle.text_words.specs.Texts.{address_text}
 use Rattle.config_base.specs.declared.config.RouterConfig.{RouterConfig}
 use Rattle.config_base.specs.declared.config.Session.{Session}
-use Rattle.config_base.specs.declared.config.Rule.{Rule}
+use Rattle.config_base.specs.declared.config.Import.{Import}
 use Rattle.config_base.specs.declared.config.Export.{Export}
-use Rattle.config_base.specs.declared.config.Own.{Own}
+use Rattle.config_base.specs.declared.config.Origination.{Origination}
 use Rattle.config_base.specs.Configs.{PlainConfig}
 use Rattle.config_lines.specs.declared.edition.Edition.{Edition}
 use Rattle.config_lines.specs.Editions.{first_line}
@@ -21,14 +21,14 @@ use Rattle.text_words.proofs.Words.{number_cut, address_cut, after}
 use Rattle.text_words.proofs.Pieces.{name_cut}
 use Rattle.config_text.proofs.Repeats.{list_cut, begins, any_text}
 use Rattle.config_text.proofs.Classes.{IsFullClass, classes_cut}
-use Rattle.config_text.proofs.Lines.{IsShortOwn, owns_cut, IsShortRule, imports_cut, IsShortExport, begins_export, exports_cut}
+use Rattle.config_text.proofs.Lines.{IsShortOrigination, owns_cut, IsShortImport, imports_cut, IsShortExport, begins_export, exports_cut}
 
 -- ---- the block of a neighbour
 
 pub record IsReadableSession (s : Session) : Type 0 where
   pub name : IsTrue (is_name s.name)
   pub asn : s.asn < 2 ^ 32
-  pub imports : AllByRecursion (IsShortRule s.peer) s.imports
+  pub imports : AllByRecursion (IsShortImport s.peer) s.imports
   pub exports : AllByRecursion IsShortExport s.exports
 
 abbrev kind_word : Bool → List ℕ
@@ -55,7 +55,9 @@ head_cut s t rest more hs ht e =
     let c = number_cut s.asn t.asn _ _ (omega (arith, hs.asn)) (omega (arith, ht.asn)) refl refl (append_cancel_left (codes "asn ") _ _ b.1) in
     (a.0, b.0, c.0, after 10 rest more c.1)
 
-session_parts : (edition : Edition) (s : Session) (rest : List ℕ) → session_text edition s ++ rest ≡ session_line s ++ (flat_map (import_line edition s.peer) s.imports ++ (flat_map (export_line edition) s.exports ++ rest))
+session_parts : (edition : Edition) (s : Session) (rest : List ℕ)
+    → session_text edition s ++ rest
+    ≡ session_line s ++ (flat_map (import_line edition s.peer) s.imports ++ (flat_map (export_line edition) s.exports ++ rest))
 session_parts edition s rest = parts_by (session_line s) (flat_map (import_line edition s.peer) s.imports) (flat_map (export_line edition) s.exports)
   where
     parts_by : (a b c : List ℕ) → (a ++ b ++ c) ++ rest ≡ a ++ (b ++ (c ++ rest))
@@ -69,23 +71,27 @@ exports_follow : (edition : Edition) (xs : List Export) (rest : List ℕ) → be
 exports_follow edition [] rest h = h
 exports_follow edition (x ∷ xs) rest h = refl
 
-abbrev session_of : List ℕ → ℕ → Bool → List Rule → List Export → Session
+abbrev session_of : List ℕ → ℕ → Bool → List Import → List Export → Session
 session_of name asn peer imports exports = record { name = name; asn = asn; peer = peer; imports = imports; exports = exports }
 
 same_session : (s t : Session) → s.name ≡ t.name → s.asn ≡ t.asn → s.peer ≡ t.peer → s.imports ≡ t.imports → s.exports ≡ t.exports → s ≡ t
 same_session s t i j k l m = let e : session_of s.name s.asn s.peer s.imports s.exports ≡ session_of t.name t.asn t.peer t.imports t.exports = cc in e
 
-lists_cut : (edition : Edition) (peer : Bool) (s t : Session) (rest more : List ℕ) → s.peer ≡ peer → t.peer ≡ peer → IsReadableSession s → IsReadableSession t → ends_session rest ≡ true → ends_session more ≡ true
-    → flat_map (import_line edition s.peer) s.imports ++ (flat_map (export_line edition) s.exports ++ rest) ≡ flat_map (import_line edition t.peer) t.imports ++ (flat_map (export_line edition) t.exports ++ more)
+lists_cut : (edition : Edition) (peer : Bool) (s t : Session) (rest more : List ℕ) → s.peer ≡ peer → t.peer ≡ peer → IsReadableSession s
+    → IsReadableSession t → ends_session rest ≡ true → ends_session more ≡ true
+    → flat_map (import_line edition s.peer) s.imports ++ (flat_map (export_line edition) s.exports ++ rest)
+    ≡ flat_map (import_line edition t.peer) t.imports ++ (flat_map (export_line edition) t.exports ++ more)
     → (s.imports ≡ t.imports) × (s.exports ≡ t.exports) × (rest ≡ more)
 lists_cut edition peer s t rest more ps pt hs ht fr fm e =
     let r = and_parts (not (begins 105 rest)) (not (begins_export rest)) fr in
     let m = and_parts (not (begins 105 more)) (not (begins_export more)) fm in
-    let is : AllByRecursion (IsShortRule peer) s.imports = subst (λ (p : Bool). AllByRecursion (IsShortRule p) s.imports) ps hs.imports in
-    let it : AllByRecursion (IsShortRule peer) t.imports = subst (λ (p : Bool). AllByRecursion (IsShortRule p) t.imports) pt ht.imports in
+    let is : AllByRecursion (IsShortImport peer) s.imports = subst (λ (p : Bool). AllByRecursion (IsShortImport p) s.imports) ps hs.imports in
+    let it : AllByRecursion (IsShortImport peer) t.imports = subst (λ (p : Bool). AllByRecursion (IsShortImport p) t.imports) pt ht.imports in
     let e1 : flat_map (import_line edition peer) s.imports ++ (flat_map (export_line edition) s.exports ++ rest) ≡ flat_map (import_line edition peer) t.imports ++ (flat_map (export_line edition) t.exports ++ more) =
-    ap (λ (p : Bool). flat_map (import_line edition p) s.imports ++ (flat_map (export_line edition) s.exports ++ rest)) (sym ps) ∙ e ∙ ap (λ (p : Bool). flat_map (import_line edition p) t.imports ++ (flat_map (export_line edition) t.exports ++ more)) pt in
-    let a = imports_cut edition peer s.imports t.imports _ _ is it (exports_follow edition s.exports rest (not-true (begins 105 rest) r.0)) (exports_follow edition t.exports more (not-true (begins 105 more) m.0)) e1 in
+    ap (λ (p : Bool). flat_map (import_line edition p) s.imports ++ (flat_map (export_line edition) s.exports ++ rest)) (sym ps) ∙ e
+    ∙ ap (λ (p : Bool). flat_map (import_line edition p) t.imports ++ (flat_map (export_line edition) t.exports ++ more)) pt in
+    let a = imports_cut edition peer s.imports t.imports _ _ is it (exports_follow edition s.exports rest (not-true (begins 105 rest) r.0))
+    (exports_follow edition t.exports more (not-true (begins 105 more) m.0)) e1 in
     let b = exports_cut edition s.exports t.exports rest more hs.exports ht.exports (not-true (begins_export rest) r.1) (not-true (begins_export more) m.1) a.1 in
     (a.0, b.0, b.1)
 
@@ -99,7 +105,9 @@ one_session edition s t rest more hs ht fr fm e =
 
 -- a test of what a block begins with
 session_front : (edition : Edition) (p : List ℕ → Bool) (v : Bool) → ((b : Bool) (t : List ℕ) → p (kind_word b ++ t) ≡ v) → (s : Session) (rest : List ℕ) → p (session_text edition s ++ rest) ≡ v
-session_front edition p v front s rest = ap p (session_parts edition s rest ∙ head_parts s (flat_map (import_line edition s.peer) s.imports ++ (flat_map (export_line edition) s.exports ++ rest))) ∙ front s.peer _
+session_front edition p v front s rest =
+    ap p (session_parts edition s rest
+    ∙ head_parts s (flat_map (import_line edition s.peer) s.imports ++ (flat_map (export_line edition) s.exports ++ rest))) ∙ front s.peer _
 
 abbrev pub begins_session : List ℕ → Bool
 begins_session bs = begins 112 bs || begins 115 bs
@@ -119,13 +127,16 @@ kind_apart false t = refl
 sessions_cut : (edition : Edition) (ss ts : List Session) (rest more : List ℕ) → AllByRecursion IsReadableSession ss → AllByRecursion IsReadableSession ts
     → flat_map (session_text edition) ss ++ (codes "end\n" ++ rest) ≡ flat_map (session_text edition) ts ++ (codes "end\n" ++ more) → (ss ≡ ts) × (rest ≡ more)
 sessions_cut edition ss ts rest more hs ht e =
-    let cut = list_cut Session (session_text edition) IsReadableSession begins_session ends_session (session_front edition begins_session true kind_begins) (session_front edition ends_session true kind_ends) (one_session edition)
+    let cut = list_cut Session (session_text edition) IsReadableSession begins_session ends_session
+    (session_front edition begins_session true kind_begins) (session_front edition ends_session true kind_ends) (one_session edition)
     ss ts (codes "end\n" ++ rest) (codes "end\n" ++ more) hs ht refl refl refl refl e in
     (cut.0, append_cancel_left (codes "end\n") rest more cut.1)
 
 sessions_follow : (edition : Edition) (ss : List Session) (rest : List ℕ) → begins 111 (flat_map (session_text edition) ss ++ (codes "end\n" ++ rest)) ≡ false
 sessions_follow edition [] rest = refl
-sessions_follow edition (s ∷ ss) rest = ap (begins 111) (append_assoc (session_text edition s) (flat_map (session_text edition) ss) (codes "end\n" ++ rest)) ∙ session_front edition (begins 111) false kind_apart s (flat_map (session_text edition) ss ++ (codes "end\n" ++ rest))
+sessions_follow edition (s ∷ ss) rest =
+    ap (begins 111) (append_assoc (session_text edition s) (flat_map (session_text edition) ss) (codes "end\n" ++ rest))
+    ∙ session_front edition (begins 111) false kind_apart s (flat_map (session_text edition) ss ++ (codes "end\n" ++ rest))
 
 -- ---- the block of a router
 
@@ -133,7 +144,7 @@ pub record IsReadableRouter (r : RouterConfig) : Type 0 where
   pub name : IsTrue (is_name r.name)
   pub asn : r.asn < 2 ^ 32
   pub id : r.id < 2 ^ 32
-  pub own : AllByRecursion IsShortOwn r.own
+  pub own : AllByRecursion IsShortOrigination r.own
   pub sessions : AllByRecursion IsReadableSession r.sessions
 
 -- what follows the head line
@@ -148,7 +159,7 @@ router_parts edition r rest = parts_by r.name (decimal r.asn) (address_text r.id
         ≡ codes "router " ++ (a ++ (32 ∷ (codes "asn " ++ (b ++ (codes " id " ++ (c ++ (10 ∷ (d ++ (f ++ (codes "end\n" ++ rest))))))))))
     parts_by a b c d f = simp append_assoc refl
 
-abbrev router_of : List ℕ → ℕ → ℕ → List Own → List Session → RouterConfig
+abbrev router_of : List ℕ → ℕ → ℕ → List Origination → List Session → RouterConfig
 router_of name asn id own sessions = record { name = name; asn = asn; id = id; own = own; sessions = sessions }
 
 same_router : (r q : RouterConfig) → r.name ≡ q.name → r.asn ≡ q.asn → r.id ≡ q.id → r.own ≡ q.own → r.sessions ≡ q.sessions → r ≡ q
@@ -171,7 +182,8 @@ pub record IsReadable (c : PlainConfig) : Type 0 where
   pub classes : AllByRecursion IsFullClass c.classes
   pub routers : AllByRecursion IsReadableRouter c.routers
 
-routers_cut : (edition : Edition) (rs qs : List RouterConfig) → AllByRecursion IsReadableRouter rs → AllByRecursion IsReadableRouter qs → flat_map (router_text edition) rs ≡ flat_map (router_text edition) qs → rs ≡ qs
+routers_cut : (edition : Edition) (rs qs : List RouterConfig) → AllByRecursion IsReadableRouter rs → AllByRecursion IsReadableRouter qs
+    → flat_map (router_text edition) rs ≡ flat_map (router_text edition) qs → rs ≡ qs
 routers_cut edition rs qs hr hq e =
     (list_cut RouterConfig (router_text edition) IsReadableRouter (begins 114) any_text (λ r t. refl) (λ r t. refl) (one_router edition) rs qs [] [] hr hq refl refl refl refl
     (append-nil (flat_map (router_text edition) rs) ∙ e ∙ sym (append-nil (flat_map (router_text edition) qs)))).0

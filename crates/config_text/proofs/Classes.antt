@@ -60,7 +60,10 @@ classes_cut edition k [] [] rest more hc hd sr sm e = (refl, e)
 classes_cut edition k [] (d ∷ ds) rest more hc hd sr sm e = let clash : false ≡ true = sym sr ∙ ap (begins 99) e in absurd (cc)
 classes_cut edition k (c ∷ cs) [] rest more hc hd sr sm e = let clash : false ≡ true = sym sm ∙ ap (begins 99) (sym e) in absurd (cc)
 classes_cut edition k (c ∷ cs) (d ∷ ds) rest more hc hd sr sm e =
-    let parts = sym (class_parts edition k c (class_lines edition (k + 1) cs ++ rest)) ∙ sym (append_assoc (class_line edition k c) (class_lines edition (k + 1) cs) rest) ∙ e ∙ append_assoc (class_line edition k d) (class_lines edition (k + 1) ds) more ∙ class_parts edition k d (class_lines edition (k + 1) ds ++ more) in
+    let parts = sym (class_parts edition k c (class_lines edition (k + 1) cs ++ rest))
+    ∙ sym (append_assoc (class_line edition k c) (class_lines edition (k + 1) cs) rest) ∙ e
+    ∙ append_assoc (class_line edition k d) (class_lines edition (k + 1) ds) more
+    ∙ class_parts edition k d (class_lines edition (k + 1) ds ++ more) in
     let numbered = append_cancel_left (codes "class ") _ _ parts in
     let spaced = append_cancel_left (decimal k) _ _ numbered in
     let head = patterns_cut c d (class_lines edition (k + 1) cs ++ rest) (class_lines edition (k + 1) ds ++ more) hc.0.some hd.0.some hc.0.all hd.0.all (after 32 _ _ spaced) in

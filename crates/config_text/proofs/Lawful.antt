@@ -7,32 +7,32 @@ use Rattle.net_base.specs.Numbers.{is_router_as, is_peer_as, is_tag, no_tag}
 use Rattle.net_base.specs.Prefixes.{PlainPattern}
 use Rattle.config_base.specs.declared.config.RouterConfig.{RouterConfig}
 use Rattle.config_base.specs.declared.config.Session.{Session}
-use Rattle.config_base.specs.declared.config.Rule.{Rule}
+use Rattle.config_base.specs.declared.config.Import.{Import}
 use Rattle.config_base.specs.declared.config.Export.{Export}
-use Rattle.config_base.specs.declared.config.Own.{Own}
-use Rattle.config_base.specs.Configs.{PlainConfig, IsImport, IsExport, IsOwn, IsSession, IsRouter}
+use Rattle.config_base.specs.declared.config.Origination.{Origination}
+use Rattle.config_base.specs.Configs.{PlainConfig, IsImport, IsExport, IsOrigination, IsSession, IsRouter}
 use Rattle.config_lines.specs.declared.edition.Edition.{Edition}
 use Rattle.config_lines.specs.declared.edition.Edition.TheVariants.{Second}
 use Rattle.config_lines.proofs.Ranges.{router_low, peer_low, tag_low}
 use Rattle.config_lines.proofs.Tags.{IsShort}
 use Rattle.config_text.specs.Spelled.{ArePatterns, HasPrefix, IsNamed, HasLawfulParts, IsLawful, SpellsIn}
 use Rattle.config_text.proofs.Classes.{IsFullClass}
-use Rattle.config_text.proofs.Lines.{IsShortOwn, IsShortRule, IsShortExport}
+use Rattle.config_text.proofs.Lines.{IsShortOrigination, IsShortImport, IsShortExport}
 use Rattle.config_text.proofs.Blocks.{IsReadableSession, IsReadableRouter, IsReadable, config_cut}
 
 short_tag : (t : Tag) → IsTrue (is_tag t) → IsShort t
 short_tag t is = let low = tag_low Second t is in record { asn = low.0; value = low.1 }
 
 module _ (count : ℕ) (low : count < 2 ^ 32) where
-  short_own : (o : Own) → IsOwn count o → HasPrefix o → IsShortOwn o
-  short_own o is prefix = record { class = omega (arith, low, is.0.1); prefix = prefix; tag = short_tag o.tag is.1 }
+  short_origination : (o : Origination) → IsOrigination count o → HasPrefix o → IsShortOrigination o
+  short_origination o is prefix = record { class = omega (arith, low, is.0.1); prefix = prefix; tag = short_tag o.tag is.1 }
 
   read_tag_short : (peer : Bool) (t : Tag) → MatchBool peer (t ≡ no_tag) (IsTrue (is_tag t)) → MatchBool peer (t ≡ no_tag) (IsShort t)
   read_tag_short true t h = h
   read_tag_short false t h = short_tag t h
 
-  short_rule : (s : Session) (r : Rule) → IsImport count s r → IsShortRule s.peer r
-  short_rule s r is = record { class = omega (arith, low, is.0.1); tag = read_tag_short s.peer r.tag is.1; set = short_tag r.set is.2; pref = is.3 }
+  short_import : (s : Session) (r : Import) → IsImport count s r → IsShortImport s.peer r
+  short_import s r is = record { class = omega (arith, low, is.0.1); tag = read_tag_short s.peer r.tag is.1; set = short_tag r.set is.2; pref = is.3 }
 
   short_export : (e : Export) → IsExport count e → IsShortExport e
   short_export e is = record { class = omega (arith, low, is.0.1); tag = short_tag e.tag is.1 }
@@ -45,7 +45,7 @@ module _ (count : ℕ) (low : count < 2 ^ 32) where
   readable_session s is named = record {
     name = named;
     asn = session_number s.peer s.asn is.number;
-    imports = AllByRecursion-weaker (IsImport count s) (IsShortRule s.peer) s.imports (short_rule s) is.imports;
+    imports = AllByRecursion-weaker (IsImport count s) (IsShortImport s.peer) s.imports (short_import s) is.imports;
     exports = AllByRecursion-weaker (IsExport count) IsShortExport s.exports short_export is.exports;
   }
 
@@ -54,7 +54,7 @@ module _ (count : ℕ) (low : count < 2 ^ 32) where
     name = parts.name;
     asn = router_low Second r.asn is.number;
     id = is.identifier.1;
-    own = AllByRecursion-both (IsOwn count) HasPrefix IsShortOwn short_own r.own is.own parts.prefixes;
+    own = AllByRecursion-both (IsOrigination count) HasPrefix IsShortOrigination short_origination r.own is.own parts.prefixes;
     sessions = AllByRecursion-both (IsSession count) IsNamed IsReadableSession readable_session r.sessions is.sessions parts.names;
   }
 

@@ -7,9 +7,9 @@ use Rattle.net_base.specs.Numbers.{no_tag, is_tag, is_peer_as, is_router_as}
 use Rattle.net_base.specs.Prefixes.{PlainPattern}
 use Rattle.config_base.specs.declared.config.RouterConfig.{RouterConfig}
 use Rattle.config_base.specs.declared.config.Session.{Session}
-use Rattle.config_base.specs.declared.config.Rule.{Rule}
-use Rattle.config_base.specs.declared.config.Own.{Own}
-use Rattle.config_base.specs.Configs.{PlainConfig, IsImport, IsOwn, IsSession, IsRouter}
+use Rattle.config_base.specs.declared.config.Import.{Import}
+use Rattle.config_base.specs.declared.config.Origination.{Origination}
+use Rattle.config_base.specs.Configs.{PlainConfig, IsImport, IsOrigination, IsSession, IsRouter}
 use Rattle.config_lines.specs.declared.edition.Edition.TheVariants.{Second}
 use Rattle.config_lines.specs.declared.line.Line.{Line}
 use Rattle.config_lines.specs.declared.line.Line.TheVariants as line
@@ -18,7 +18,7 @@ use Rattle.config_text.specs.ConfigLines.{lines_of_classes, head_of, import_of, 
 use Rattle.config_text.specs.ConfigText.{config_text}
 use Rattle.config_text.specs.Spelled.{ArePatterns, HasPrefix, IsNamed, HasLawfulParts, IsLawful, HasLinesOf, Spells}
 
-import_line : (count : ℕ) (s : Session) (r : Rule) → IsImport count s r → IsLine Second count (import_of s.peer r)
+import_line : (count : ℕ) (s : Session) (r : Import) → IsImport count s r → IsLine Second count (import_of s.peer r)
 import_line count s r is = by s.peer is.1
   where
     by : (b : Bool) → MatchBool b (r.tag ≡ no_tag) (IsTrue (is_tag r.tag)) → IsLine Second count (import_of b r)
@@ -36,7 +36,8 @@ session_lines : (count : ℕ) (s : Session) → IsSession count s → IsNamed s 
 session_lines count s is named = (
   head_line count s is named,
   AllByRecursion-append (IsLine Second count) (map (import_of s.peer) s.imports) (map line.Export s.exports)
-      (AllByRecursion-map (import_of s.peer) (IsLine Second count) s.imports (AllByRecursion-weaker (IsImport count s) (λ (r : Rule). IsLine Second count (import_of s.peer r)) s.imports (import_line count s) is.imports))
+      (AllByRecursion-map (import_of s.peer) (IsLine Second count) s.imports (AllByRecursion-weaker (IsImport count s)
+      (λ (r : Import). IsLine Second count (import_of s.peer r)) s.imports (import_line count s) is.imports))
       (AllByRecursion-map line.Export (IsLine Second count) s.exports is.exports),
 )
 
@@ -49,13 +50,17 @@ router_lines : (count : ℕ) (r : RouterConfig) → IsRouter count r → HasLawf
 router_lines count r is parts =
     AllByRecursion-append (IsLine Second count) (lines_before_end r) (line.End ∷ []) (
       (parts.name, is.number, is.identifier.0, is.identifier.1),
-      AllByRecursion-append (IsLine Second count) (map line.Own r.own) (flat_map lines_of_session r.sessions)
-          (AllByRecursion-map line.Own (IsLine Second count) r.own (AllByRecursion-both (IsOwn count) HasPrefix (λ (o : Own). IsLine Second count (line.Own o)) (λ o k p. (k, p)) r.own is.own parts.prefixes))
-          (flat_all (IsLine Second count) lines_of_session r.sessions (AllByRecursion-both (IsSession count) IsNamed (λ (s : Session). AllByRecursion (IsLine Second count) (lines_of_session s)) (session_lines count) r.sessions is.sessions parts.names)),
+      AllByRecursion-append (IsLine Second count) (map line.Origination r.own) (flat_map lines_of_session r.sessions)
+          (AllByRecursion-map line.Origination (IsLine Second count) r.own (AllByRecursion-both (IsOrigination count) HasPrefix
+          (λ (o : Origination). IsLine Second count (line.Origination o)) (λ o k p. (k, p)) r.own is.own parts.prefixes))
+          (flat_all (IsLine Second count) lines_of_session r.sessions (AllByRecursion-both (IsSession count) IsNamed
+          (λ (s : Session). AllByRecursion (IsLine Second count) (lines_of_session s)) (session_lines count) r.sessions is.sessions
+          parts.names)),
     )
     (tt, tt)
 
-class_lines : (count n : ℕ) (cs : List (List PlainPattern)) → n + length cs ≤ 2 ^ 32 → AllByRecursion (λ (ps : List PlainPattern). ps ≢ []) cs → AllByRecursion ArePatterns cs → AllByRecursion (IsLine Second count) (lines_of_classes n cs)
+class_lines : (count n : ℕ) (cs : List (List PlainPattern)) → n + length cs ≤ 2 ^ 32 → AllByRecursion (λ (ps : List PlainPattern). ps ≢ []) cs
+    → AllByRecursion ArePatterns cs → AllByRecursion (IsLine Second count) (lines_of_classes n cs)
 class_lines count n [] few some are = tt
 class_lines count n (c ∷ cs) few some are = ((omega (arith, few), some.0, are.0), class_lines count (n + 1) cs (omega (arith, few)) some.1 are.1)
 
@@ -64,7 +69,9 @@ lawful_lines c is =
     let count : ℕ = length c.classes in
     AllByRecursion-append (IsLine Second count) (lines_of_classes 1 c.classes) (flat_map lines_of_router c.routers)
     (class_lines count 1 c.classes (omega (arith, is.rules.count)) is.rules.patterns is.patterns)
-    (flat_all (IsLine Second count) lines_of_router c.routers (AllByRecursion-both (IsRouter count) HasLawfulParts (λ (r : RouterConfig). AllByRecursion (IsLine Second count) (lines_of_router r)) (router_lines count) c.routers is.rules.routers is.routers))
+    (flat_all (IsLine Second count) lines_of_router c.routers (AllByRecursion-both (IsRouter count) HasLawfulParts
+    (λ (r : RouterConfig). AllByRecursion (IsLine Second count) (lines_of_router r)) (router_lines count) c.routers is.rules.routers
+    is.routers))
 
 pub lawful_text : (c : PlainConfig) → IsLawful c → Spells (config_text c) c
 lawful_text c is = record { lawful = is; fits = lawful_lines c is; written = refl }

@@ -6,7 +6,7 @@ use Rattle.std.specs.List.{flat_map}
 use Rattle.net_base.specs.Prefixes.{PlainPattern}
 use Rattle.config_base.specs.declared.config.RouterConfig.{RouterConfig}
 use Rattle.config_base.specs.declared.config.Session.{Session}
-use Rattle.config_base.specs.declared.config.Rule.{Rule}
+use Rattle.config_base.specs.declared.config.Import.{Import}
 use Rattle.config_base.specs.Configs.{PlainConfig}
 use Rattle.config_lines.specs.declared.edition.Edition.{Edition}
 use Rattle.config_lines.specs.declared.line.Line.{Line}
@@ -24,11 +24,12 @@ fed_map : {A : Type 0} (edition : Edition) (f : A → List ℕ) (g : A → Line)
 fed_map edition f g same [] = refl
 fed_map edition f g same (x ∷ xs) = ap₂ (λ (a b : List ℕ). a ++ b) (same x) (fed_map edition f g same xs)
 
-fed_flat : {A : Type 0} (edition : Edition) (f : A → List ℕ) (g : A → List Line) → ((x : A) → f x ≡ flat_map (fed edition) (g x)) → (xs : List A) → flat_map f xs ≡ flat_map (fed edition) (flat_map g xs)
+fed_flat : {A : Type 0} (edition : Edition) (f : A → List ℕ) (g : A → List Line) → ((x : A) → f x ≡ flat_map (fed edition) (g x)) → (xs : List A)
+    → flat_map f xs ≡ flat_map (fed edition) (flat_map g xs)
 fed_flat edition f g same [] = refl
 fed_flat edition f g same (x ∷ xs) = ap₂ (λ (a b : List ℕ). a ++ b) (same x) (fed_flat edition f g same xs) ∙ sym (fed_append edition (g x) (flat_map g xs))
 
-fed_import : (edition : Edition) (peer : Bool) (r : Rule) → import_line edition peer r ≡ fed edition (import_of peer r)
+fed_import : (edition : Edition) (peer : Bool) (r : Import) → import_line edition peer r ≡ fed edition (import_of peer r)
 unfolding import_line
 fed_import edition true r = refl
 fed_import edition false r = refl
@@ -36,7 +37,9 @@ fed_import edition false r = refl
 fed_head : (edition : Edition) (s : Session) → session_line s ≡ fed edition (head_of s)
 fed_head edition s = by s.peer
   where
-    by : (b : Bool) → (if b then codes "peer " else codes "session ") ++ s.name ++ codes " asn " ++ decimal s.asn ++ codes "\n" ≡ fed edition (if b then line.Peer s.name s.asn else line.Session s.name s.asn)
+    by : (b : Bool)
+        → (if b then codes "peer " else codes "session ") ++ s.name ++ codes " asn " ++ decimal s.asn ++ codes "\n"
+        ≡ fed edition (if b then line.Peer s.name s.asn else line.Session s.name s.asn)
     by true = refl
     by false = refl
 
@@ -52,8 +55,8 @@ fed_router edition r =
     ap (λ (t : List ℕ). t ++ codes "end\n")
     (append_assoc (fed edition (line.Router r.name r.asn r.id)) (flat_map (own_line edition) r.own) (flat_map (session_text edition) r.sessions)
     ∙ ap (λ (t : List ℕ). fed edition (line.Router r.name r.asn r.id) ++ t)
-    (ap₂ (λ (a b : List ℕ). a ++ b) (fed_map edition (own_line edition) line.Own (λ o. refl) r.own) (fed_flat edition (session_text edition) lines_of_session (fed_session edition) r.sessions)
-    ∙ sym (fed_append edition (map line.Own r.own) (flat_map lines_of_session r.sessions))))
+    (ap₂ (λ (a b : List ℕ). a ++ b) (fed_map edition (own_line edition) line.Origination (λ o. refl) r.own) (fed_flat edition (session_text edition) lines_of_session (fed_session edition) r.sessions)
+    ∙ sym (fed_append edition (map line.Origination r.own) (flat_map lines_of_session r.sessions))))
     ∙ sym (fed_append edition (lines_before_end r) (line.End ∷ []))
 
 fed_classes : (edition : Edition) (k : ℕ) (cs : List (List PlainPattern)) → class_lines edition k cs ≡ flat_map (fed edition) (lines_of_classes k cs)

@@ -4,7 +4,7 @@ use Rattle.std.specs.List.{flat_map}
 use Rattle.net_base.specs.Prefixes.{PlainPattern}
 use Rattle.config_base.specs.declared.config.RouterConfig.{RouterConfig}
 use Rattle.config_base.specs.declared.config.Session.{Session}
-use Rattle.config_base.specs.declared.config.Rule.{Rule}
+use Rattle.config_base.specs.declared.config.Import.{Import}
 use Rattle.config_base.specs.Configs.{PlainConfig}
 use Rattle.config_lines.specs.declared.edition.Edition.{Edition}
 use Rattle.config_lines.specs.declared.line.Line.{Line}
@@ -23,7 +23,7 @@ lines_of_classes k (c ∷ cs) = line.Class (Some k) c ∷ lines_of_classes (k + 
 abbrev pub head_of : Session → Line
 head_of s = if s.peer then line.Peer s.name s.asn else line.Session s.name s.asn
 
-abbrev pub import_of : Bool → Rule → Line
+abbrev pub import_of : Bool → Import → Line
 import_of peer r = if peer then line.PeerImport r else line.Import r
 
 -- the head line of a neighbour, its imports, its exports
@@ -32,7 +32,7 @@ lines_of_session s = head_of s ∷ (map (import_of s.peer) s.imports ++ map line
 
 -- the head line of a router, its originate lines, the blocks of its neighbours
 abbrev pub lines_before_end : RouterConfig → List Line
-lines_before_end r = line.Router r.name r.asn r.id ∷ (map line.Own r.own ++ flat_map lines_of_session r.sessions)
+lines_before_end r = line.Router r.name r.asn r.id ∷ (map line.Origination r.own ++ flat_map lines_of_session r.sessions)
 
 -- and `end`
 abbrev pub lines_of_router : RouterConfig → List Line

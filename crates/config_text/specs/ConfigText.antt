@@ -5,9 +5,9 @@ use Rattle.std.specs.Fmt.{decimal}
 use Rattle.net_base.specs.Prefixes.{PlainPattern}
 use Rattle.config_base.specs.declared.config.RouterConfig.{RouterConfig}
 use Rattle.config_base.specs.declared.config.Session.{Session}
-use Rattle.config_base.specs.declared.config.Rule.{Rule}
+use Rattle.config_base.specs.declared.config.Import.{Import}
 use Rattle.config_base.specs.declared.config.Export.{Export}
-use Rattle.config_base.specs.declared.config.Own.{Own}
+use Rattle.config_base.specs.declared.config.Origination.{Origination}
 use Rattle.config_base.specs.Configs.{PlainConfig}
 use Rattle.config_lines.specs.declared.edition.Edition.{Edition}
 use Rattle.config_lines.specs.declared.edition.Edition.TheVariants.{Second}
@@ -23,11 +23,11 @@ abbrev pub class_lines : Edition → ℕ → List (List PlainPattern) → List �
 class_lines edition k [] = []
 class_lines edition k (c ∷ cs) = class_line edition k c ++ class_lines edition (k + 1) cs
 
-abbrev pub own_line : Edition → Own → List ℕ
-own_line edition o = line_text edition (line.Own o) ++ codes "\n"
+abbrev pub own_line : Edition → Origination → List ℕ
+own_line edition o = line_text edition (line.Origination o) ++ codes "\n"
 
 -- an import, in the block of a peer or of a router
-unfoldable pub import_line : Edition → Bool → Rule → List ℕ
+unfoldable pub import_line : Edition → Bool → Import → List ℕ
 import_line edition peer r = import_text edition peer r ++ codes "\n"
 
 abbrev pub export_line : Edition → Export → List ℕ

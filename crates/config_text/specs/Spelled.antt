@@ -5,7 +5,7 @@ use Rattle.net_base.specs.NameRule.{is_name}
 use Rattle.net_base.specs.Prefixes.{PlainPattern, IsPrefix, IsPattern}
 use Rattle.config_base.specs.declared.config.RouterConfig.{RouterConfig}
 use Rattle.config_base.specs.declared.config.Session.{Session}
-use Rattle.config_base.specs.declared.config.Own.{Own}
+use Rattle.config_base.specs.declared.config.Origination.{Origination}
 use Rattle.config_base.specs.Configs.{PlainConfig, IsConfig}
 use Rattle.config_lines.specs.declared.edition.Edition.{Edition}
 use Rattle.config_lines.specs.declared.edition.Edition.TheVariants.{Second}
@@ -17,7 +17,7 @@ use Rattle.config_text.specs.ConfigText.{text_in}
 abbrev pub ArePatterns : List PlainPattern → Type 0
 ArePatterns patterns = AllByRecursion IsPattern patterns
 
-abbrev pub HasPrefix : Own → Type 0
+abbrev pub HasPrefix : Origination → Type 0
 HasPrefix o = IsPrefix o.prefix
 
 abbrev pub IsNamed : Session → Type 0

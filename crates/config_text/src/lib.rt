@@ -11,7 +11,7 @@ ghost use Rattle.config_lines.specs.declared.edition.Edition.TheVariants.{Second
 ghost use Rattle.config_text.specs.declared.tail.TheConstants.{MOST_BYTES};
 ghost use Rattle.config_text.specs.Spelled.{ArePatterns, HasPrefix, IsNamed, HasLawfulParts, Spells};
 
-use config_base::{Config, Export, Own, RouterConfig, Rule, Session};
+use config_base::{Config, Export, Import, Origination, RouterConfig, Session};
 use config_lines::Edition;
 use net_base::{List, Pattern, Tag};
 use outside::NoMemory;
@@ -91,7 +91,7 @@ fn tag_end(tag: Tag, front: &Front) -> Tail
 }
 
 // Adds an originate line.
-fn push_own(text: &mut Vec<u8>, near: &Front, own: &Own) -> Result<(), NoMemory>
+fn push_origination(text: &mut Vec<u8>, near: &Front, own: &Origination) -> Result<(), NoMemory>
     ensures text { OnOk result (text.new.items ≡ text.old.items ++ own_line Second own.now) }
     ensures rules { OnOk result (HasPrefix own.now) }
 {
@@ -117,7 +117,7 @@ fn put_read_tag(tail: &mut Tail, far: &Front, peer: bool, tag: Tag)
 }
 
 // What an import gives a route, and the end of its line.
-fn set_end(rule: &Rule, near: &Front) -> Tail
+fn set_end(rule: &Import, near: &Front) -> Tail
     ensures text { result ≡ set_text Second rule.now ++ codes "\n" }
     ensures len { length result ≤ 48 }
 {
@@ -137,7 +137,7 @@ fn push_import(
     near: &Front,
     far: &Front,
     peer: bool,
-    rule: &Rule,
+    rule: &Import,
 ) -> Result<(), NoMemory>
     ensures { OnOk result (text.new.items ≡ text.old.items ++ import_line Second peer rule.now) }
 {
@@ -185,7 +185,7 @@ fn push_imports(
     near: &Front,
     far: &Front,
     peer: bool,
-    rules: &[Rule],
+    rules: &[Import],
 ) -> Result<(), NoMemory>
     ensures { OnOk result (text.new.items ≡ text.old.items ++ flat_map (import_line Second peer) rules.now) }
 {
@@ -206,12 +206,12 @@ fn push_exports(text: &mut Vec<u8>, near: &Front, exports: &[Export]) -> Result<
 }
 
 // Adds the originate lines.
-fn push_owns(text: &mut Vec<u8>, near: &Front, owns: &[Own]) -> Result<(), NoMemory>
+fn push_originations(text: &mut Vec<u8>, near: &Front, owns: &[Origination]) -> Result<(), NoMemory>
     ensures text { OnOk result (text.new.items ≡ text.old.items ++ flat_map (own_line Second) owns.now) }
     ensures rules { OnOk result (AllByRecursion HasPrefix owns.now) }
 {
     for own in owns {
-        push_own(text, near, own)?;
+        push_origination(text, near, own)?;
     }
     Ok(())
 }
@@ -251,7 +251,7 @@ fn push_router(text: &mut Vec<u8>, router: &RouterConfig) -> Result<(), NoMemory
     push_bytes(text, b" id ")?;
     push_address(text, router.id)?;
     push_bytes(text, b"\n")?;
-    push_owns(text, &near, router.own.as_slice())?;
+    push_originations(text, &near, router.own.as_slice())?;
     push_sessions(text, &near, router.sessions.as_slice())?;
     push_bytes(text, b"end\n")
 }

@@ -4,8 +4,8 @@ use Rattle.std.specs.List.{flat_map}
 use Rattle.std.proofs.lemmas.List.{length-map, length-append}
 use Rattle.std.proofs.Math.Nat.{suc-mul}
 use Rattle.net_base.specs.Network.{PlainNet}
-use Rattle.path_words.specs.Meaning.{alternative_count}
-use Rattle.path_words.specs.Policies.{Ranking, call, calls, prefer, either, both, negated}
+use Rattle.policy_base.specs.Meaning.{alternative_count}
+use Rattle.policy_base.specs.Policies.{Ranking, call, calls, prefer, either, both, negated}
 use Rattle.path_exprs.specs.Expression.{Expression}
 use Rattle.path_exprs.specs.Forward.{both_of_two, expressions, forward}
 use Rattle.path_exprs.specs.Parts.{at}

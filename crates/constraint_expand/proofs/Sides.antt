@@ -1,8 +1,8 @@
 -- Both sides of a ranked expression, put one after the other.
 use Rattle.std.proofs.Common.{◌≡◌, ℕ, true, List, [], ◌∷◌, ◌++◌, map, length, sym, ap, subst, ◌∙◌}
 use Rattle.net_base.specs.Network.{PlainNet}
-use Rattle.path_words.specs.Policies.{ranking_of}
-use Rattle.path_words.specs.declared.ranked.Ranked.{Ranked}
+use Rattle.policy_base.specs.Policies.{ranking_of}
+use Rattle.policy_base.specs.declared.ranked.Ranked.{Ranked}
 use Rattle.path_exprs.specs.Expression.{Expression, either, complement, expressions_of}
 use Rattle.path_exprs.specs.Forward.{expressions}
 use Rattle.path_exprs.specs.Parts.{at, are_known, Puts}

@@ -4,7 +4,7 @@ use Rattle.std.specs.List.{flat_map}
 use Rattle.std.proofs.lemmas.List.{append-nil, map-append, take_more}
 use Rattle.std.proofs.lemmas.Grind.{flat_map-append}
 use Rattle.net_base.specs.Network.{PlainNet}
-use Rattle.path_words.specs.declared.clause.Clause.{Clause}
+use Rattle.policy_base.specs.declared.call.Call.{Call}
 use Rattle.path_exprs.specs.Expression.{Expression}
 use Rattle.path_exprs.specs.Forward.{both_of_two, forward}
 use Rattle.path_exprs.specs.Parts.{at, are_known, Puts}
@@ -13,7 +13,7 @@ use Rattle.path_exprs.proofs.Numbers.{at-extends, known-at, map-extends, puts-ap
 map-turn : {A B : Type 0} (f : A → B) (xs : List A) (i : ℕ) (d : A) → i < length xs → map f (take (i + 1) xs) ≡ map f (take i xs) ++ f (get_or xs i d) ∷ []
 map-turn f xs i d lt = ap (map f) (take_more xs i d lt) ∙ map-append f (take i xs) (get_or xs i d ∷ [])
 
-pub call-turn : (net : PlainNet) (old cur new : List Expression) (ns : List ℕ) (cs : List Clause) (i n : ℕ) (c : Clause) (e : Expression) → Puts old cur ns (map (forward net) (take i cs)) → i < length cs
+pub call-turn : (net : PlainNet) (old cur new : List Expression) (ns : List ℕ) (cs : List Call) (i n : ℕ) (c : Call) (e : Expression) → Puts old cur ns (map (forward net) (take i cs)) → i < length cs
     → c ≡ get_or cs i c → e ≡ forward net c → new ≡ cur ++ e ∷ [] → n ≡ length cur → Puts old new (ns ++ n ∷ []) (map (forward net) (take (i + 1) cs))
 call-turn net old cur new ns cs i n c e put lt this call is number =
     subst (Puts old new (ns ++ n ∷ [])) (sym (map-turn (forward net) cs i c lt))

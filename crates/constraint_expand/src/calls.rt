@@ -3,12 +3,12 @@ ghost use Rattle.std.specs.Prelude.{◌≡◌, IfOk};
 ghost use Rattle.path_exprs.specs.Expression.{Expression};
 ghost use Rattle.path_exprs.specs.Normal.{all};
 ghost use Rattle.path_exprs.specs.View.{view};
-ghost use Rattle.path_words.specs.declared.clause.Clause.TheVariants.{Avoid, Exit, Enter};
-ghost use Rattle.path_exprs.specs.Forward.{forward as forward_of, in_turn as in_turn_of, either_of_two as either_of};
+ghost use Rattle.policy_base.specs.declared.call.SetCall.TheVariants.{Avoid, Exit, Enter};
+ghost use Rattle.path_exprs.specs.Forward.{forward as forward_of, forward_set as forward_set_of, in_turn as in_turn_of, either_of_two as either_of};
 
 use net_base::{LocSet, Net};
 use path_exprs::Expr;
-use path_words::Clause;
+use policy_base::{Call, SetCall};
 use std::alloc::{AllocError, Global};
 
 /// The expression that holds every list.
@@ -34,49 +34,58 @@ fn either(alloc: Global, a: Expr, b: Expr) -> Result<Expr, AllocError>
 
 /// Any number of locations of the net outside the set.
 fn outside_only(alloc: Global, net: &Net, set: &LocSet) -> Result<Expr, AllocError>
-    ensures { IfOk result (λ r. view r ≡ forward_of net.now (Avoid set.now)) }
+    ensures { IfOk result (λ r. view r ≡ forward_set_of net.now Avoid set.now) }
 {
     let others = net.locations().without(set);
     Ok(Expr::Star(Box::new(alloc, Expr::Set(others))?))
 }
 
-/// The expression of a call.
-pub fn forward(alloc: Global, net: &Net, call: &Clause) -> Result<Expr, AllocError>
-    ensures { IfOk result (λ r. view r ≡ forward_of net.now call.now) }
+/// The expression of a call of one set.
+fn forward_set(alloc: Global, net: &Net, call: SetCall, set: &LocSet) -> Result<Expr, AllocError>
+    ensures { IfOk result (λ r. view r ≡ forward_set_of net.now call set.now) }
 {
     match call {
-        Clause::Any => Ok(everything(alloc)?),
-        Clause::Drop => Ok(Expr::Never),
-        Clause::Internal => Ok(outside_only(alloc, net, &net.peer_set())?),
-        Clause::Avoid(s) => Ok(outside_only(alloc, net, s)?),
-        Clause::Through(s) => {
-            let back = seq(alloc, Expr::Set(*s), everything(alloc)?)?;
+        SetCall::Avoid => Ok(outside_only(alloc, net, set)?),
+        SetCall::Through => {
+            let back = seq(alloc, Expr::Set(*set), everything(alloc)?)?;
             Ok(seq(alloc, everything(alloc)?, back)?)
         }
-        Clause::NoTransit(s) => {
+        SetCall::NoTransit => {
             let back = seq(
                 alloc,
-                outside_only(alloc, net, s)?,
+                outside_only(alloc, net, set)?,
                 Expr::Set(net.locations()),
             )?;
             Ok(seq(alloc, Expr::Set(net.locations()), back)?)
         }
-        Clause::Start(s) => Ok(seq(alloc, Expr::Set(*s), everything(alloc)?)?),
-        Clause::End(s) => Ok(seq(alloc, everything(alloc)?, Expr::Set(*s))?),
-        Clause::Link(s, t) => {
+        SetCall::Start => Ok(seq(alloc, Expr::Set(*set), everything(alloc)?)?),
+        SetCall::End => Ok(seq(alloc, everything(alloc)?, Expr::Set(*set))?),
+        SetCall::Exit => Ok(exit(alloc, net, set)?),
+        SetCall::Enter => Ok(enter(alloc, net, set)?),
+    }
+}
+
+/// The expression of a call.
+pub fn forward(alloc: Global, net: &Net, call: &Call) -> Result<Expr, AllocError>
+    ensures { IfOk result (λ r. view r ≡ forward_of net.now call.now) }
+{
+    match call {
+        Call::Any => Ok(everything(alloc)?),
+        Call::Drop => Ok(Expr::Never),
+        Call::Internal => Ok(outside_only(alloc, net, &net.peer_set())?),
+        Call::Link(s, t) => {
             let last = seq(alloc, Expr::Set(*t), everything(alloc)?)?;
             let back = seq(alloc, Expr::Set(*s), last)?;
             Ok(seq(alloc, everything(alloc)?, back)?)
         }
-        Clause::Path(sets) => Ok(in_turn(alloc, sets.as_slice())?),
-        Clause::Exit(s) => Ok(exit(alloc, net, s)?),
-        Clause::Enter(s) => Ok(enter(alloc, net, s)?),
+        Call::Path(sets) => Ok(in_turn(alloc, sets.as_slice())?),
+        Call::Of(call, set) => Ok(forward_set(alloc, net, *call, set)?),
     }
 }
 
 /// The last location is a peer, and it or the one before it is in the set.
 fn exit(alloc: Global, net: &Net, set: &LocSet) -> Result<Expr, AllocError>
-    ensures { IfOk result (λ r. view r ≡ forward_of net.now (Exit set.now)) }
+    ensures { IfOk result (λ r. view r ≡ forward_set_of net.now Exit set.now) }
 {
     let ends = net.peer_set();
     let first = seq(alloc, everything(alloc)?, Expr::Set(set.common(&ends)))?;
@@ -87,7 +96,7 @@ fn exit(alloc: Global, net: &Net, set: &LocSet) -> Result<Expr, AllocError>
 
 /// The first location is a peer, and it or the one after it is in the set.
 fn enter(alloc: Global, net: &Net, set: &LocSet) -> Result<Expr, AllocError>
-    ensures { IfOk result (λ r. view r ≡ forward_of net.now (Enter set.now)) }
+    ensures { IfOk result (λ r. view r ≡ forward_set_of net.now Enter set.now) }
 {
     let ends = net.peer_set();
     let first = seq(alloc, Expr::Set(set.common(&ends)), everything(alloc)?)?;

@@ -1,8 +1,8 @@
 //! The expressions of ranked expressions.
 ghost use Rattle.std.specs.Prelude.{◌≡◌, ◌<◌, ◌≤◌, ◌-◌, ◌^◌, ◌∷◌, [], length, min, map, true, Err, IfOk, MatchResult};
 ghost use Rattle.std.specs.List.{flat_map};
-ghost use Rattle.path_words.specs.Meaning.{alternative_count};
-ghost use Rattle.path_words.specs.Policies.{ranking_of};
+ghost use Rattle.policy_base.specs.Meaning.{alternative_count};
+ghost use Rattle.policy_base.specs.Policies.{ranking_of};
 ghost use Rattle.path_exprs.specs.Forward.{both_of_two, expressions, forward as forward_of};
 ghost use Rattle.path_exprs.specs.Parts.{are_known, at, expression_of, is_earlier, Puts};
 ghost use Rattle.path_exprs.specs.Shared.{values};
@@ -11,9 +11,9 @@ ghost use Rattle.constraint_expand.specs.declared.fault.ExpandFault.TheVariants.
 use crate::calls::forward;
 use crate::fault::ExpandFault;
 use net_base::Net;
-use net_base::limits::ALTERNATIVES;
 use path_exprs::{Part, Parts, RankedExpr};
-use path_words::{Clause, Ranked, alternatives};
+use policy_base::limits::ALTERNATIVES;
+use policy_base::{Call, Ranked, alternatives};
 use std::alloc::{AllocError, Global};
 
 /// The number of a part that is put behind the others, alone.
@@ -30,7 +30,7 @@ fn forward_each(
     alloc: Global,
     parts: &mut Parts,
     net: &Net,
-    calls: &[Clause],
+    calls: &[Call],
 ) -> Result<Vec<usize>, AllocError>
     ensures { IfOk result (λ r. Puts (values parts.old) (values parts.new) r.items (map (forward_of net.now) calls.now)) }
 {

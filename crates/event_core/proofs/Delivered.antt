@@ -14,12 +14,14 @@ use Rattle.event_base.specs.World.{Speakers, World, at, choose_again, exported, 
 use Rattle.event_law.proofs.Together.{order_is_free}
 use Rattle.event_law.specs.Kept.{nowhere}
 use Rattle.event_state.specs.Changes.{with_heard, with_queue}
-use Rattle.step_law.specs.Settling.{settled, up_among}
-use Rattle.step_law.proofs.OneGo.{events_settle_at_once, settled_alone}
+use Rattle.event_core.specs.AtOnce.{settled, up_among}
+use Rattle.event_core.proofs.OneGo.{events_settle_at_once, settled_alone}
 
 -- linked locations differ
 pub linked_apart : (net : PlainNet) (a b : ℕ) → IsNet net → linked net a b ≡ true → a ≢ b
-linked_apart net a b rules h same = by (list_any_member (joins a b) net.links h).0 (AllByRecursion-IsIn (IsLink net) net.links (list_any_member (joins a b) net.links h).0 rules.links (list_any_member (joins a b) net.links h).1).0 (list_any_member (joins a b) net.links h).2
+linked_apart net a b rules h same =
+    by (list_any_member (joins a b) net.links h).0 (AllByRecursion-IsIn (IsLink net) net.links (list_any_member (joins a b) net.links h).0 rules.links
+    (list_any_member (joins a b) net.links h).1).0 (list_any_member (joins a b) net.links h).2
   where
     by : (k : ℕ × ℕ) → k.0 < k.1 → joins a b k ≡ true → ⊥
     by k less j = elim (joins_ends a b k j) [ inl e ↦ omega (arith, less, e.0, e.1, same) | inr e ↦ omega (arith, less, e.0, e.1, same) ]

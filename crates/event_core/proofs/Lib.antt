@@ -5,3 +5,4 @@ pub mod Restoring
 pub mod Steps
 pub mod Tellings
 pub mod Undoing
+pub mod OneGo

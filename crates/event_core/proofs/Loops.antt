@@ -16,7 +16,8 @@ pub item_more : (us xs : List ℕ) (i u : ℕ) → xs ≡ us → i < length us �
 item_more us xs i u same less item = take_more us i u less ∙ ap (λ v. take i us ++ v ∷ []) (sym (item ∙ ap (λ ys. get_or ys i u) same))
 
 module _ (before mid after : World) (same : setting mid ≡ setting before) (us more : List ℕ) (u : ℕ) (one : more ≡ us ++ u ∷ []) where
-  pub tell_step : (p : ℕ → ℕ → ℕ → Bool) → state mid ≡ tell (speakers before) (some p us) (state before) → state after ≡ tell (speakers mid) (p u) (state mid) → state after ≡ tell (speakers before) (some p more) (state before)
+  pub tell_step : (p : ℕ → ℕ → ℕ → Bool) → state mid ≡ tell (speakers before) (some p us) (state before)
+      → state after ≡ tell (speakers mid) (p u) (state mid) → state after ≡ tell (speakers before) (some p more) (state before)
   tell_step p so_far e =
       e
       ∙ ap (λ S. tell S (p u) (state mid)) (same_speakers mid before same)
@@ -24,14 +25,16 @@ module _ (before mid after : World) (same : setting mid ≡ setting before) (us 
       ∙ told_next (speakers before) same_as_itself p us u (state before)
       ∙ ap (λ xs. tell (speakers before) (some p xs) (state before)) (sym one)
 
-  pub empty_step : (p : ℕ → ℕ → ℕ → Bool) → state mid ≡ emptied (speakers before) (some p us) (state before) → state after ≡ emptied (speakers mid) (p u) (state mid) → state after ≡ emptied (speakers before) (some p more) (state before)
+  pub empty_step : (p : ℕ → ℕ → ℕ → Bool) → state mid ≡ emptied (speakers before) (some p us) (state before)
+      → state after ≡ emptied (speakers mid) (p u) (state mid) → state after ≡ emptied (speakers before) (some p more) (state before)
   empty_step p so_far e =
       e
       ∙ ap (emptied (speakers before) (p u)) so_far
       ∙ emptied_next (speakers before) p us u (state before)
       ∙ ap (λ xs. emptied (speakers before) (some p xs) (state before)) (sym one)
 
-  pub choose_step : state mid ≡ each_again (speakers before) us (state before) → state after ≡ choose_again (speakers mid) u (state mid) → state after ≡ each_again (speakers before) more (state before)
+  pub choose_step : state mid ≡ each_again (speakers before) us (state before) → state after ≡ choose_again (speakers mid) u (state mid)
+      → state after ≡ each_again (speakers before) more (state before)
   choose_step so_far e =
       e
       ∙ ap (λ S. choose_again S u (state mid)) (same_speakers mid before same)

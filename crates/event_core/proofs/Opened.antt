@@ -10,7 +10,7 @@ use Rattle.event_base.specs.World.{Speakers, World, at, choice, live, offers, ru
 use Rattle.event_state.specs.declared.world.World.{World as Kept}
 use Rattle.event_state.specs.States.{blank, speakers}
 use Rattle.event_core.proofs.Tellings.{told_alike, told_nothing}
-use Rattle.step_law.proofs.OneGo.{told_once}
+use Rattle.event_core.proofs.OneGo.{told_once}
 
 one_less : (x n : ℕ) → (nat_lt x n || x == n) ≡ nat_lt x (n + 1)
 one_less x n = nat_lt_more x n ∙ ap (nat_lt x) (sym (add-one n))
@@ -58,5 +58,6 @@ module _ (S : Speakers Route) where
   told_below_next own n w = told_once S own (λ a b. nat_lt a n) (λ a b. at n a) w ∙ ap (λ (q : ℕ → ℕ → Bool). tell S q w) (λ i a b. one_less a n i)
 
 -- in the end all have
-pub told_everywhere : (kept : Kept) → IsNet kept.net.now → (n : ℕ) → ((a : ℕ) → is_location kept.net.now a ≡ true → nat_lt a n ≡ true) → (w : World Route) → tell (speakers kept) (λ a b. nat_lt a n) w ≡ tell (speakers kept) (λ a b. true) w
+pub told_everywhere : (kept : Kept) → IsNet kept.net.now → (n : ℕ) → ((a : ℕ) → is_location kept.net.now a ≡ true → nat_lt a n ≡ true)
+    → (w : World Route) → tell (speakers kept) (λ a b. nat_lt a n) w ≡ tell (speakers kept) (λ a b. true) w
 told_everywhere kept rules n all w = told_alike (speakers kept) (λ a b. nat_lt a n) (λ a b. true) w (λ a b h. all a (linked_known kept.net.now a b rules (and_parts (linked kept.net.now a b) _ h).0).0)

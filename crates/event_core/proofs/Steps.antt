@@ -51,8 +51,13 @@ module _ (net : PlainNet) (rules : IsNet net) where
 
       back : touches r x y ≡ true → list_any (λ u. joins r u x y) (neighbours net r) ≡ true
       back t = elim (or_cases (x == r) (y == r) t) [
-        | inl e ↦ list_any-from_IsIn (λ u. joins r u x y) (neighbours net r) y (near r y (ap (λ z. linked net z y) (sym (eqb-true x r e)) ∙ h)) (or_left (is r y x y) (is y r x y) (and_from (x == r) (y == y) e (eq-eqb y y refl)))
-        | inr e ↦ list_any-from_IsIn (λ u. joins r u x y) (neighbours net r) x (near r x (linked_flips net r x ∙ ap (linked net x) (sym (eqb-true y r e)) ∙ h)) (or_right (is r x x y) (is x r x y) (and_from (x == x) (y == r) (eq-eqb x x refl) e))
+        | inl e ↦
+            list_any-from_IsIn (λ u. joins r u x y) (neighbours net r) y (near r y (ap (λ z. linked net z y) (sym (eqb-true x r e)) ∙ h))
+            (or_left (is r y x y) (is y r x y) (and_from (x == r) (y == y) e (eq-eqb y y refl)))
+        | inr e ↦
+            list_any-from_IsIn (λ u. joins r u x y) (neighbours net r) x
+            (near r x (linked_flips net r x ∙ ap (linked net x) (sym (eqb-true y r e)) ∙ h))
+            (or_right (is r x x y) (is x r x y) (and_from (x == x) (y == r) (eq-eqb x x refl) e))
       ]
 
 module _ (kept : Kept) (rules : IsNet kept.net.now) where

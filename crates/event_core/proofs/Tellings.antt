@@ -6,7 +6,7 @@ use Rattle.std.proofs.lemmas.Bool.{and_parts, and_left, cases_Bool, cond-true, c
 use Rattle.std.proofs.lemmas.List.Folds.{list_any-append}
 use Rattle.std.proofs.Math.Bool.{or-false}
 use Rattle.event_base.specs.World.{Speakers, World, emptied, exported, is, joins, live, owes, tell}
-use Rattle.step_law.proofs.OneGo.{told_once}
+use Rattle.event_core.proofs.OneGo.{told_once}
 
 -- what some of these have
 abbrev pub some : {A : Type 0} → (A → ℕ → ℕ → Bool) → List A → ℕ → ℕ → Bool
@@ -80,7 +80,8 @@ module _ {R : Type 0} (S : Speakers R) where
   pub told_first : {A : Type 0} (p : A → ℕ → ℕ → Bool) (w : World R) → w ≡ tell S (some p []) w
   told_first p w = refl
 
-  pub told_next : (own : (m : Option R) → S.same m m ≡ true) {A : Type 0} (p : A → ℕ → ℕ → Bool) (us : List A) (u : A) (w : World R) → tell S (p u) (tell S (some p us) w) ≡ tell S (some p (us ++ u ∷ [])) w
+  pub told_next : (own : (m : Option R) → S.same m m ≡ true) {A : Type 0} (p : A → ℕ → ℕ → Bool) (us : List A) (u : A) (w : World R)
+      → tell S (p u) (tell S (some p us) w) ≡ tell S (some p (us ++ u ∷ [])) w
   told_next own p us u w = told_once S own (some p us) (p u) w ∙ ap (λ (q : ℕ → ℕ → Bool). tell S q w) (λ i x y. one_more p us u x y i)
 
   emptied_once : (p q : ℕ → ℕ → Bool) (w : World R) → emptied S q (emptied S p w) ≡ emptied S (λ x y. p x y || q x y) w

@@ -15,7 +15,8 @@ undone_last net [] c w = refl
 undone_last net (d ∷ cs) c w = ap (changed net d) (undone_last net cs c w)
 
 -- one more change, and what undoes it
-pub follows_made : (log longer : List Change) (w v : World) (back : Change) → setting v ≡ setting w → longer ≡ log ++ back ∷ [] → is_on w.net.now back ≡ true → with_change back (state v) ≡ state w → Follows log w longer v
+pub follows_made : (log longer : List Change) (w v : World) (back : Change) → setting v ≡ setting w → longer ≡ log ++ back ∷ []
+    → is_on w.net.now back ≡ true → with_change back (state v) ≡ state w → Follows log w longer v
 follows_made log longer w v back same more on e = record {
   setting = same;
   back =

@@ -4,6 +4,7 @@
 //! and the world is as before.
 #![tactic(auto)]
 
+mod at_once;
 mod change;
 mod choosing;
 mod events;
@@ -12,5 +13,6 @@ mod machine;
 mod start;
 mod telling;
 
+pub use at_once::events_settle_at_once;
 pub use machine::apply;
 pub use start::opening;

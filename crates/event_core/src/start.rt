@@ -1,6 +1,6 @@
 //! The world before any event has happened.
 ghost use Rattle.std.specs.Prelude.{◌≡◌, IfOk, OnOk, true};
-ghost use Rattle.path_words.specs.Policies.{policy_of};
+ghost use Rattle.policy_base.specs.Policies.{policy_of};
 ghost use Rattle.event_base.specs.Steps.{before_all, opening as opening_of};
 ghost use Rattle.event_base.specs.World.{tell};
 ghost use Rattle.event_state.specs.States.{blank, setting, speakers, state};
@@ -11,7 +11,7 @@ use crate::telling::tell_out;
 use config_base::Config;
 use event_state::World;
 use net_base::{Loc, Net, Prefix};
-use path_words::Policy;
+use policy_base::Policy;
 use std::alloc::{AllocError, Global};
 
 // Each router takes its choice over nothing.

@@ -40,7 +40,9 @@ module _ {R : Type 0} (net : Speakers R) where
   step-down (LinkDown a b) w d h =
       subst AreDown (sym (choose_again-down b (choose_again net a (emptied net (joins a b) (with_cut net a b true w))) ∙ choose_again-down a (emptied net (joins a b) (with_cut net a b true w)))) d
   step-down (LinkUp a b) w d h = d
-  step-down (RouterDown r) w d h = subst AreDown (sym (each_again-down (net.neighbours r) (emptied net (touches r) (with_down net r true w)))) (marked r true w (there (net.is_router r) (unless_up (w.down r)) h) d)
+  step-down (RouterDown r) w d h =
+      subst AreDown (sym (each_again-down (net.neighbours r) (emptied net (touches r) (with_down net r true w))))
+      (marked r true w (there (net.is_router r) (unless_up (w.down r)) h) d)
   step-down (RouterUp r) w d h = subst AreDown (sym (choose_again-down r (with_down net r false w))) (marked r false w (there (net.is_router r) (unless_down (w.down r)) h) d)
   step-down (PeerSpeak r p) w d h = d
   step-down (PeerSilent r p) w d h = d

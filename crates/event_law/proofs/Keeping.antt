@@ -41,7 +41,8 @@ module _ {R : Type 0} (net : Speakers R) (n : AreSpeakers net) where
   last-push [] m h = refl
   last-push (x ∷ xs) m h = last-push xs m x
 
-  fewer : (skip skip' : ℕ → Bool) (due due' : ℕ → ℕ → Bool) (w : World R) → Keeps net skip due w → ((r : ℕ) → skip' r ≡ false → skip r ≡ false) → ((a b : ℕ) → due' a b ≡ false → due a b ≡ false) → Keeps net skip' due' w
+  fewer : (skip skip' : ℕ → Bool) (due due' : ℕ → ℕ → Bool) (w : World R) → Keeps net skip due w → ((r : ℕ) → skip' r ≡ false → skip r ≡ false)
+      → ((a b : ℕ) → due' a b ≡ false → due a b ≡ false) → Keeps net skip' due' w
   fewer skip skip' due due' w k f g = record { both = k.both; last = k.last; told = λ a b u nd. k.told a b u (g a b nd); chosen = λ r s. k.chosen r (f r s); idle = k.idle; empty = k.empty }
 
   tell-keeps : (p : ℕ → ℕ → Bool) (skip : ℕ → Bool) (due : ℕ → ℕ → Bool) (w : World R) → Keeps net skip due w → Keeps net skip (λ a b. due a b && not (p a b)) (tell net p w)
@@ -56,7 +57,9 @@ module _ {R : Type 0} (net : Speakers R) (n : AreSpeakers net) where
       | inr e ↦ cond-false _ (exported net w a b) (w.queued a b) e ∙ elim (cases_Bool (p a b)) [
         | inl pd ↦ (
             let no : owes net w a b ≡ false = elim (and_cases (p a b) (owes net w a b) e) [ inl f ↦ absurd (both_ways _ f pd) | inr f ↦ f ] in
-            let same : net.same (exported net w a b) (w.queued a b) ≡ true = elim (and_cases (live net w a b) (not (net.same (exported net w a b) (w.queued a b))) no) [ inl f ↦ absurd (both_ways _ f u) | inr f ↦ not-false _ f ] in
+            let same : net.same (exported net w a b) (w.queued a b) ≡ true =
+            elim (and_cases (live net w a b) (not (net.same (exported net w a b) (w.queued a b))) no)
+            [ inl f ↦ absurd (both_ways _ f u) | inr f ↦ not-false _ f ] in
             sym (n.apart _ _ same))
         | inr pd ↦ k.told a b u (elim (and_cases (due a b) (not (p a b)) nd) [ inl f ↦ f | inr f ↦ absurd (both_ways _ pd (not-false _ f)) ])
       ]
@@ -68,7 +71,8 @@ module _ {R : Type 0} (net : Speakers R) (n : AreSpeakers net) where
         rw no (k.empty a b u);
   }
 
-  with_choice-keeps : (r : ℕ) (skip : ℕ → Bool) (due : ℕ → ℕ → Bool) (w : World R) → Keeps net skip due w → running net w r ≡ true → Keeps net (λ x. skip x && not (at r x)) (λ a b. due a b || at r a) (with_choice net r w)
+  with_choice-keeps : (r : ℕ) (skip : ℕ → Bool) (due : ℕ → ℕ → Bool) (w : World R) → Keeps net skip due w → running net w r ≡ true
+      → Keeps net (λ x. skip x && not (at r x)) (λ a b. due a b || at r a) (with_choice net r w)
   with_choice-keeps r skip due w k runs = record {
     both = k.both;
     last = k.last;
@@ -156,9 +160,12 @@ module _ {R : Type 0} (net : Speakers R) (n : AreSpeakers net) where
 
   -- ---- directions go, and come
 
-  lost-keeps : (w v : World R) (p : ℕ → ℕ → Bool) (skip : ℕ → Bool) → IsKept net w → ((x y : ℕ) → v.cut x y ≡ v.cut y x) → ((x y : ℕ) → v.queue x y ≡ w.queue x y) → ((x y : ℕ) → v.heard x y ≡ w.heard x y) → ((x y : ℕ) → v.queued x y ≡ w.queued x y) →
+  lost-keeps : (w v : World R) (p : ℕ → ℕ → Bool) (skip : ℕ → Bool) → IsKept net w → ((x y : ℕ) → v.cut x y ≡ v.cut y x)
+      → ((x y : ℕ) → v.queue x y ≡ w.queue x y) → ((x y : ℕ) → v.heard x y ≡ w.heard x y) → ((x y : ℕ) → v.queued x y ≡ w.queued x y) →
       ((x y : ℕ) → p x y ≡ true → live net v x y ≡ false) → ((x y : ℕ) → p x y ≡ false → live net v x y ≡ live net w x y) → ((x y : ℕ) → p x y ≡ false → exported net w x y ≡ exported net v x y) →
-      ((x y : ℕ) → p x y ≡ true → live net w x y ≡ true → skip y ≡ true) → ((r : ℕ) → skip r ≡ false → (v.route r ≡ w.route r) × (running net w r ≡ running net v r)) → ((r : ℕ) → running net v r ≡ false → v.route r ≡ None) →
+      ((x y : ℕ) → p x y ≡ true → live net w x y ≡ true → skip y ≡ true)
+      → ((r : ℕ) → skip r ≡ false → (v.route r ≡ w.route r) × (running net w r ≡ running net v r))
+      → ((r : ℕ) → running net v r ≡ false → v.route r ≡ None) →
       Keeps net skip (nowhere net) (emptied net p v)
   lost-keeps w v p skip k both qs hs ss gone same ex near route idle =
       let off : (x y : ℕ) → live net v x y ≡ true → p x y ≡ false = λ x y u. false_from_ne_true _ (λ t. both_ways _ (gone x y t) u) in
@@ -185,7 +192,8 @@ module _ {R : Type 0} (net : Speakers R) (n : AreSpeakers net) where
   alike false true = refl
   alike false false = refl
 
-  gained-keeps : (w v : World R) (p : ℕ → ℕ → Bool) (skip : ℕ → Bool) → IsKept net w → ((x y : ℕ) → v.cut x y ≡ v.cut y x) → ((x y : ℕ) → v.queue x y ≡ w.queue x y) → ((x y : ℕ) → v.heard x y ≡ w.heard x y) → ((x y : ℕ) → v.queued x y ≡ w.queued x y) →
+  gained-keeps : (w v : World R) (p : ℕ → ℕ → Bool) (skip : ℕ → Bool) → IsKept net w → ((x y : ℕ) → v.cut x y ≡ v.cut y x)
+      → ((x y : ℕ) → v.queue x y ≡ w.queue x y) → ((x y : ℕ) → v.heard x y ≡ w.heard x y) → ((x y : ℕ) → v.queued x y ≡ w.queued x y) →
       ((x y : ℕ) → p x y ≡ true → live net w x y ≡ false) → ((x y : ℕ) → p x y ≡ false → live net v x y ≡ live net w x y) → ((x y : ℕ) → p x y ≡ false → exported net w x y ≡ exported net v x y) →
       ((r : ℕ) → skip r ≡ false → (v.route r ≡ w.route r) × (running net w r ≡ running net v r)) → ((r : ℕ) → running net v r ≡ false → v.route r ≡ None) →
       Keeps net skip p v
@@ -256,7 +264,8 @@ module _ {R : Type 0} (net : Speakers R) (n : AreSpeakers net) where
       let was : (x y : ℕ) → joins a b x y ≡ true → live net w x y ≡ false = λ x y t. and_right (net.linked x y) _ (and_left (not (w.cut x y)) _ (ap not (cut x y t))) in
       fewer _ _ _ _ _
       (tell-keeps (joins a b) (nobody net) (joins a b) (with_cut net a b false w)
-      (gained-keeps w (with_cut net a b false w) (joins a b) (nobody net) k (cut_both a b false w k) (λ x y. refl) (λ x y. refl) (λ x y. refl) was (λ x y f. live_same_cut a b x y false w f) (λ x y f. refl) (λ r s. (refl, refl)) k.idle))
+      (gained-keeps w (with_cut net a b false w) (joins a b) (nobody net) k (cut_both a b false w k) (λ x y. refl) (λ x y. refl) (λ x y. refl) was
+      (λ x y f. live_same_cut a b x y false w f) (λ x y f. refl) (λ r s. (refl, refl)) k.idle))
       (λ r s. s) (λ x y s. none_left (joins a b x y))
 
   -- ---- a router goes down, and comes up
@@ -379,7 +388,9 @@ module _ {R : Type 0} (net : Speakers R) (n : AreSpeakers net) where
         both = λ a b. refl;
         last = λ a b u. refl;
         told = λ a b u f. absurd (both_ways true f refl);
-        chosen = λ r s. sym (ap (λ b. cond b (net.choose r (offers net w r)) None) (and-true (net.is_router r)) ∙ ap (λ (f : ℕ → Option R). cond (net.is_router r) (net.choose r f) None) (λ i u. nothing r u i));
+        chosen =
+            λ r s. sym (ap (λ b. cond b (net.choose r (offers net w r)) None) (and-true (net.is_router r))
+            ∙ ap (λ (f : ℕ → Option R). cond (net.is_router r) (net.choose r f) None) (λ i u. nothing r u i));
         idle = λ r h. cond-false (net.is_router r) (net.choose r (λ u. None)) None (sym (and-true (net.is_router r)) ∙ h);
         empty = λ a b u. (refl, refl, refl);
       }))

@@ -57,7 +57,9 @@ module _ {R : Type 0} (net : Speakers R) (on_hold : ℕ → R → Type 0) (on : 
 
   choose_again-kinds : (r : ℕ) (w : World R) → AreKinds on_hold on w → AreKinds on_hold on (choose_again net r w)
   choose_again-kinds r w k = elim (cases_Bool (running net w r)) [
-    | inl e ↦ subst (AreKinds on_hold on) (sym (cond-true (running net w r) (tell net (λ a b. at r a) (with_choice net r w)) w e)) (tell-kinds (λ a b. at r a) (with_choice net r w) (with_choice-kinds r w k))
+    | inl e ↦
+        subst (AreKinds on_hold on) (sym (cond-true (running net w r) (tell net (λ a b. at r a) (with_choice net r w)) w e))
+        (tell-kinds (λ a b. at r a) (with_choice net r w) (with_choice-kinds r w k))
     | inr e ↦ subst (AreKinds on_hold on) (sym (cond-false (running net w r) (tell net (λ a b. at r a) (with_choice net r w)) w e)) k
   ]
 

@@ -35,7 +35,8 @@ module _ {R : Type 0} (net : Speakers R) where
     said c o s q = if c && owed o s then q ++ out o ∷ [] else q
 
     -- either the first one tells, and then nobody, or the second one alone
-    twice_said : (first second both : Bool) (o o' o'' s : Option R) (q : List (Option R)) → (first ≡ true → (second ≡ false) × (both ≡ true) × (o'' ≡ o)) → (first ≡ false → (both ≡ second) × (o' ≡ o''))
+    twice_said : (first second both : Bool) (o o' o'' s : Option R) (q : List (Option R))
+        → (first ≡ true → (second ≡ false) × (both ≡ true) × (o'' ≡ o)) → (first ≡ false → (both ≡ second) × (o' ≡ o''))
         → said second o' (noted first o s) (said first o s q) ≡ said both o'' s q
     twice_said true second both o o' o'' s q h g = (let k = h refl in rw (k.0, k.1, k.2) refl)
     twice_said false second both o o' o'' s q h g = (let k = g refl in rw (k.0, k.1) refl)
@@ -80,7 +81,8 @@ module _ {R : Type 0} (net : Speakers R) where
 
     together : at_once net others after ≡ at_once net all w
     together = same_world (at_once net others after) (at_once net all w) (λ x. refl) (λ a b. refl) (λ a b. refl)
-        (λ a b. twice_said w a b (at r a) (others a) (all a) (held a) (if others a then choice net w a else held a) (if all a then choice net w a else w.route a) (w.queued a b) (w.queue a b) (first a) (later a))
+        (λ a b. twice_said w a b (at r a) (others a) (all a) (held a) (if others a then choice net w a else held a)
+        (if all a then choice net w a else w.route a) (w.queued a b) (w.queue a b) (first a) (later a))
         (λ a b. refl)
         (λ a b. twice_noted w a b (at r a) (others a) (all a) (held a) (if others a then choice net w a else held a) (if all a then choice net w a else w.route a) (w.queued a b) (first a) (later a))
         routes

@@ -44,7 +44,8 @@ module _ {A : Type 0} (net : PlainNet) (queues : List (List A)) where
     where
       on_link : (k : ℕ × ℕ) → IsIn net.links k → joins a b k ≡ true → queue a b ≡ []
       on_link k at j =
-          let idle = and_parts _ _ (AllByRecursion-IsIn (λ l. is_idle_link queue l ≡ true) net.links k (AllByRecursion-from_list_all (λ l. is_idle_link queue l ≡ true) (is_idle_link queue) (λ l t. t) net.links h) at) in
+          let idle = and_parts _ _ (AllByRecursion-IsIn (λ l. is_idle_link queue l ≡ true) net.links k
+          (AllByRecursion-from_list_all (λ l. is_idle_link queue l ≡ true) (is_idle_link queue) (λ l t. t) net.links h) at) in
           elim (joins_ends a b k j) [
             | inl e ↦ ap (λ x. queue x b) (sym e.0) ∙ ap (queue k.0) (sym e.1) ∙ empty (queue k.0 k.1) idle.0
             | inr e ↦ ap (λ x. queue x b) (sym e.1) ∙ ap (queue k.1) (sym e.0) ∙ empty (queue k.1 k.0) idle.1

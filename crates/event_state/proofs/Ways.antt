@@ -107,15 +107,19 @@ module _ (net : PlainNet) (rules : IsNet net) where
           let same : direction net x y ≡ Some d = ap (λ z. direction net z y) (eqb-true x a p.0) ∙ ap (direction net a) (eqb-true y b p.1) ∙ at in
           no_way (sym e ∙ same))
 
-      by : (o : Option ℕ) → direction net x y ≡ o → option_map_or (λ e. slice_index_or (slice_set xs d v) e nothing) (direction net x y) nothing ≡ (if is a b x y then v else option_map_or (λ e. slice_index_or xs e nothing) (direction net x y) nothing)
+      by : (o : Option ℕ) → direction net x y ≡ o
+          → option_map_or (λ e. slice_index_or (slice_set xs d v) e nothing) (direction net x y) nothing
+          ≡ (if is a b x y then v else option_map_or (λ e. slice_index_or xs e nothing) (direction net x y) nothing)
       by None e = ap (λ o. option_map_or (λ e. slice_index_or (slice_set xs d v) e nothing) o nothing) e
-          ∙ sym (cond-false (is a b x y) v (option_map_or (λ e. slice_index_or xs e nothing) (direction net x y) nothing) (apart None e (λ h. cc)) ∙ ap (λ o. option_map_or (λ e. slice_index_or xs e nothing) o nothing) e)
+          ∙ sym (cond-false (is a b x y) v (option_map_or (λ e. slice_index_or xs e nothing) (direction net x y) nothing) (apart None e (λ h. cc))
+          ∙ ap (λ o. option_map_or (λ e. slice_index_or xs e nothing) o nothing) e)
       by (Some c) e = ap (λ o. option_map_or (λ e. slice_index_or (slice_set xs d v) e nothing) o nothing) e ∙ elim (cases_Bool (eqb d c)) [
         | inl t ↦ (
             let same = eqb-true d c t in
             let ends_same = one_direction a b x y d at (e ∙ ap Some (sym same)) in
             let here : is a b x y ≡ true = and_from (eqb x a) (eqb y b) (eq-eqb x a ends_same.0) (eq-eqb y b ends_same.1) in
-            ap (λ k. slice_index_or (slice_set xs d v) k nothing) (sym same) ∙ set_same xs d v nothing less ∙ sym (cond-true (is a b x y) v (option_map_or (λ e. slice_index_or xs e nothing) (direction net x y) nothing) here))
+            ap (λ k. slice_index_or (slice_set xs d v) k nothing) (sym same) ∙ set_same xs d v nothing less
+            ∙ sym (cond-true (is a b x y) v (option_map_or (λ e. slice_index_or xs e nothing) (direction net x y) nothing) here))
         | inr f ↦ (
             let other : d ≡ c → ⊥ = λ h. both_ways (eqb d c) f (eq-eqb d c h) in
             set_other xs d c v nothing other

@@ -1,7 +1,7 @@
 -- A world that is kept by lists: routers and peers by their number, sessions by the directions of their links.
 use Rattle.std.specs.Prelude.{Bool, false, List, [], Option, None, slice_index_or}
 use Rattle.net_base.specs.Network.{PlainNet}
-use Rattle.path_words.specs.Policies.{PlainPolicy, policy_of}
+use Rattle.policy_base.specs.Policies.{PlainPolicy, policy_of}
 use Rattle.net_base.specs.Prefixes.{PlainPrefix}
 use Rattle.config_base.specs.Configs.{PlainConfig}
 use Rattle.config_base.specs.declared.route.Route.{Route}

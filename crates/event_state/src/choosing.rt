@@ -11,7 +11,7 @@ ghost use Rattle.event_state.specs.States.{speakers, state};
 use crate::world::World;
 use config_base::{Config, Route, import_of, own_tag};
 use net_base::{List, Loc, Net, Prefix, Tag};
-use path_words::is_origin;
+use policy_base::is_origin;
 use std::alloc::{AllocError, Global};
 
 /// What a router makes of what a neighbour was heard to say: the neighbour's path, and what the import line gives it.

@@ -1,6 +1,6 @@
 //! The world before any event.
 ghost use Rattle.std.specs.Prelude.{◌≡◌, IfOk, None, [], false, replicate};
-ghost use Rattle.path_words.specs.Policies.{policy_of};
+ghost use Rattle.policy_base.specs.Policies.{policy_of};
 ghost use Rattle.event_state.specs.States.{blank, setting, state};
 
 use crate::near::all_neighbours;
@@ -8,7 +8,7 @@ use crate::queue::Queue;
 use crate::world::World;
 use config_base::{Config, Route, class_of};
 use net_base::{Net, Prefix};
-use path_words::Policy;
+use policy_base::Policy;
 use std::alloc::{AllocError, Global};
 
 // So many marks that aren't set.

@@ -1,6 +1,6 @@
 //! What is to be sent.
 ghost use Rattle.std.specs.Prelude.{◌≡◌, ◌&&◌, ◌∷◌, [], not, Some, None, IfOk, option_map, option_and_then, if◌then◌else◌};
-ghost use Rattle.path_words.specs.Policies.{policy_of};
+ghost use Rattle.policy_base.specs.Policies.{policy_of};
 ghost use Rattle.event_base.specs.World.{exported, owes as owes_by};
 ghost use Rattle.event_base.specs.Speaking.{announced_by, exported_by, same_message};
 ghost use Rattle.event_state.specs.Readings.{message_of};
@@ -9,7 +9,7 @@ ghost use Rattle.event_state.specs.States.{speakers, state};
 use crate::world::World;
 use config_base::{NO_TAG, Route, export_of};
 use net_base::{List, Loc, Tag};
-use path_words::is_origin;
+use policy_base::is_origin;
 use std::alloc::{AllocError, Global};
 use std::slice;
 

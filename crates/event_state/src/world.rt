@@ -10,7 +10,7 @@ use crate::directions::{direction, mark, mark_at, route, route_at};
 use crate::queue::Queue;
 use config_base::{Config, Route};
 use net_base::{List, Loc, Net, Prefix};
-use path_words::Policy;
+use policy_base::Policy;
 
 /// A network under a policy's configuration, for one prefix, and how it stands: what is down, cut and silent, which
 /// messages wait, what was last queued and heard, and what each router holds.

@@ -1,4 +1,5 @@
-//! What changes in a world, one thing at a time.
+//! What changes in a world, one thing at a time. The writes have one form, each over a table of its own: what is put there, and that
+//! the setting stays.
 ghost use Rattle.std.specs.Prelude.{◌≡◌, ◌++◌, ◌∷◌, [], List, Option, IfOk, OnOk, OnErr, IsTrue, drop};
 ghost use Rattle.net_base.specs.Network.{is_location, linked};
 ghost use Rattle.config_base.specs.declared.route.Route.{Route as PlainRoute};

@@ -6,17 +6,17 @@ use Rattle.net_base.specs.declared.numbers.Tag.{Tag}
 use Rattle.net_base.specs.Network.{PlainNet, is_peer, asn_of, site_of}
 use Rattle.net_base.specs.Numbers.{is_tag, no_tag}
 use Rattle.net_base.specs.Prefixes.{PlainPattern, only}
-use Rattle.path_words.specs.declared.case.Case.{Case}
-use Rattle.path_words.specs.Policies.{PlainPolicy, PlainStatement}
+use Rattle.policy_base.specs.declared.case.Case.{Case}
+use Rattle.policy_base.specs.Policies.{PlainPolicy, PlainStatement, statement_at}
 use Rattle.graph_base.specs.Graphs.{PlainGraph}
 use Rattle.net_base.specs.Locations.{neighbours}
 use Rattle.graph_base.specs.Runs.{place_of, is_listener, is_start, has_step}
 use Rattle.config_base.specs.declared.config.RouterConfig.{RouterConfig}
 use Rattle.config_base.specs.declared.config.Session.{Session}
-use Rattle.config_base.specs.declared.config.Rule.{Rule}
+use Rattle.config_base.specs.declared.config.Import.{Import}
 use Rattle.config_base.specs.declared.config.Export.{Export}
-use Rattle.config_base.specs.declared.config.Own.{Own}
-use Rattle.config_base.specs.Configs.{PlainConfig, Ascend, tag_key, own_key}
+use Rattle.config_base.specs.declared.config.Origination.{Origination}
+use Rattle.config_base.specs.Configs.{PlainConfig, Ascend, tag_key, origination_key}
 
 -- a case with its graph, and a preference number and a tag for each node
 pub record PlainCaseEvidence : Type 0 where
@@ -35,11 +35,6 @@ tag_at c n = unwrap_or (slice_get c.tags n) no_tag
 abbrev pub case_at : List PlainCaseEvidence → ℕ → Option PlainCaseEvidence
 case_at cs zero = None
 case_at cs (suc k) = slice_get cs k
-
--- the statement with a number, from 1
-abbrev pub statement_at : PlainPolicy → ℕ → Option PlainStatement
-statement_at policy zero = None
-statement_at policy (suc k) = slice_get policy.statements k
 
 -- ---- one line for each step
 
@@ -60,7 +55,7 @@ pub record IsExportTo (net : PlainNet) (cs : List PlainCaseEvidence) (x z : ℕ)
   pub tag : e.tag ≡ tag_at case node
 
 -- z takes it from x, with the tag and the number of its own node; what a peer sends has no tag
-pub record IsImportFrom (net : PlainNet) (cs : List PlainCaseEvidence) (x z : ℕ) (rule : Rule) : Type 0 where
+pub record IsImportFrom (net : PlainNet) (cs : List PlainCaseEvidence) (x z : ℕ) (rule : Import) : Type 0 where
   pub case : PlainCaseEvidence
   pub node : ℕ
   pub next : ℕ
@@ -70,7 +65,7 @@ pub record IsImportFrom (net : PlainNet) (cs : List PlainCaseEvidence) (x z : �
   pub pref : rule.pref ≡ number_at case next
 
 -- a start at x announces each prefix of its case
-pub record IsOwnAt (cs : List PlainCaseEvidence) (x : ℕ) (o : Own) : Type 0 where
+pub record IsOriginationAt (cs : List PlainCaseEvidence) (x : ℕ) (o : Origination) : Type 0 where
   pub case : PlainCaseEvidence
   pub node : ℕ
   pub at_class : case_at cs o.class ≡ Some case
@@ -86,8 +81,8 @@ pub record IsBlock (net : PlainNet) (cs : List PlainCaseEvidence) (x z : ℕ) (b
   pub name : option_map (λ (s : Site). s.name) (site_of net z) ≡ Some b.name
   pub asn : b.asn ≡ asn_of net z
   pub peer : b.peer ≡ is_peer net z
-  pub imports : (rule : Rule) → IsIn b.imports rule ↔ IsImportFrom net cs z x rule
-  pub import_order : Ascend (map (λ (r : Rule). tag_key r.class r.tag) b.imports)
+  pub imports : (rule : Import) → IsIn b.imports rule ↔ IsImportFrom net cs z x rule
+  pub import_order : Ascend (map (λ (r : Import). tag_key r.class r.tag) b.imports)
   pub exports : (e : Export) → IsIn b.exports e ↔ IsExportTo net cs x z e
   pub export_order : Ascend (map (λ (e : Export). tag_key e.class e.tag) b.exports)
 
@@ -101,8 +96,8 @@ AreBlocks net cs x (z ∷ zs) (b ∷ bs) = IsBlock net cs x z b × AreBlocks net
 -- the block of the router x, with one block for each location to which it's linked, in order
 pub record IsRouterBlock (net : PlainNet) (cs : List PlainCaseEvidence) (x : ℕ) (r : RouterConfig) : Type 0 where
   pub site : site_of net x ≡ Some (record { name = r.name; asn = r.asn; id = r.id })
-  pub own : (o : Own) → IsIn r.own o ↔ IsOwnAt cs x o
-  pub own_order : Ascend (map own_key r.own)
+  pub own : (o : Origination) → IsIn r.own o ↔ IsOriginationAt cs x o
+  pub own_order : Ascend (map origination_key r.own)
   pub sessions : AreBlocks net cs x (neighbours net x) r.sessions
 
 -- the patterns of a case: its prefixes, or those of its statement where it's external

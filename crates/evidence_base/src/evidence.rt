@@ -3,7 +3,7 @@ ghost use Rattle.std.specs.Prelude.{◌≡◌, IfOk};
 
 use graph_base::{Graph, Prefs};
 use net_base::{List, Tag};
-use path_words::Case;
+use policy_base::Case;
 use std::alloc::{AllocError, Global};
 use std::marker::Model;
 

@@ -4,14 +4,14 @@ use Rattle.std.specs.Prelude.{slice_get}
 use Rattle.std.proofs.lemmas.Option.{slice_get-map}
 use Rattle.net_base.specs.Network.{PlainNet}
 use Rattle.net_base.specs.Sets.{holds}
-use Rattle.path_words.specs.Cases.{case_list}
-use Rattle.path_words.specs.Policies.{IsPolicy, PlainPolicy}
-use Rattle.path_words.specs.declared.case.Case.{Case}
+use Rattle.policy_base.specs.Cases.{case_list}
+use Rattle.policy_base.specs.Policies.{IsPolicy, PlainPolicy}
+use Rattle.policy_base.specs.declared.case.Case.{Case}
 use Rattle.graph_base.proofs.WellFormed.{heard_at_peers}
 use Rattle.evidence_base.specs.Made.{AreTags, PlainCaseEvidence}
 use Rattle.config_made.specs.Conditions.{AreClasses, IsSingle}
 use Rattle.config_made.proofs.CaseClasses.{case_lists}
-use Rattle.case_law.proofs.Origins.{case_known}
+use Rattle.policy_base.proofs.KnownCases.{case_known}
 use Rattle.evidence_rules.specs.declared.rule.CheckRule.{CheckRule}
 use Rattle.evidence_rules.specs.declared.rule.CheckRule.TheVariants.{Cases, Walks, Ranks, Mixed, PrefRank, PrefStep, PrefLoop, PrefListener, Tags, ConfigDiffers}
 use Rattle.evidence_rules.specs.Rules.{Keeps}
@@ -39,7 +39,9 @@ module _ (net : PlainNet) (policy : PlainPolicy) (cs : List PlainCaseEvidence) (
 
   pub are_single : (k : ℕ) (c : PlainCaseEvidence) → slice_get cs k ≡ Some c → IsSingle net c.graph
   are_single k c at =
-      let listed : slice_get (case_list net policy) k ≡ Some c.case = ap (λ (list : List Case). slice_get list k) (sym (all_cases net policy cs all_rules)) ∙ slice_get-map (λ (d : PlainCaseEvidence). d.case) cs k ∙ ap (option_map (λ (d : PlainCaseEvidence). d.case)) at in
+      let listed : slice_get (case_list net policy) k ≡ Some c.case = ap (λ (list : List Case). slice_get list k)
+      (sym (all_cases net policy cs all_rules)) ∙ slice_get-map (λ (d : PlainCaseEvidence). d.case) cs k
+      ∙ ap (option_map (λ (d : PlainCaseEvidence). d.case)) at in
       let known = case_known net policy k c.case listed in
       let walks = before Walks (omega arith) (suc k) 0 0 c known.statement.0 at known.statement.1 in
       let formed = walks.1.formed in

@@ -7,16 +7,16 @@ use Rattle.net_base.specs.Network.{PlainNet, IsNet, is_peer}
 use Rattle.net_base.specs.Sets.{holds}
 use Rattle.net_base.proofs.Links.{linked_known}
 use Rattle.net_base.proofs.RoutersAndPeers.{router_or_peer}
-use Rattle.path_words.specs.Policies.{PlainPolicy, PlainStatement}
+use Rattle.policy_base.specs.Policies.{PlainPolicy, PlainStatement, statement_at}
 use Rattle.graph_base.specs.Graphs.{IsGraph, PlainGraph}
 use Rattle.graph_base.specs.Rules.{IsWellFormed, KeepsListener, KeepsLoop, KeepsRank, KeepsStep}
 use Rattle.graph_base.specs.Runs.{has_step, is_listener, place_of, rank_at}
 use Rattle.graph_base.proofs.WellFormed.{heard_at_peers, linked_parts}
-use Rattle.evidence_base.specs.Made.{PlainCaseEvidence, number_at, statement_at}
-use Rattle.regret_law.specs.Faithful.{HasRank, HasWalks}
-use Rattle.regret_law.specs.Passes.{IsClaimed}
+use Rattle.evidence_base.specs.Made.{PlainCaseEvidence, number_at}
+use Rattle.evidence_law.specs.Faithful.{HasRank, HasWalks}
+use Rattle.evidence_law.specs.Passes.{IsClaimed}
 use Rattle.walk_check.specs.Firsts.{IsFirstOrNone}
-use Rattle.number_check.specs.FirstPair.{IsFirstPair, IsFirstPairOrNone}
+use Rattle.preference_check.specs.FirstPair.{IsFirstPair, IsFirstPairOrNone}
 use Rattle.evidence_rules.specs.declared.rule.CheckRule.{CheckRule}
 use Rattle.evidence_rules.specs.declared.rule.CheckRule.TheVariants.{Mixed, PrefListener, PrefLoop, PrefRank, PrefStep, Ranks, Walks}
 use Rattle.evidence_rules.specs.Rules.{AtCase, KeepsAt, rule_number}
@@ -44,7 +44,8 @@ module _ (net : PlainNet) (policy : PlainPolicy) (cs : List PlainCaseEvidence) (
       → IsFirstFault (rule_number q) net policy cs k (record { rule = q; first = pair.0; second = pair.1 })
   stops q pair most first = record { least = omega arith; most = most; earlier = λ r least less. absurd (omega (arith, least, less)); first = record { fails = first.fails; before = first.before } }
 
-  kept_or_later : (q : CheckRule) → KeepsIn q net policy cs k → (r : CheckRule) → rule_number q ≤ rule_number r → (rule_number q + 1 ≤ rule_number r → KeepsIn r net policy cs k) → KeepsIn r net policy cs k
+  kept_or_later : (q : CheckRule) → KeepsIn q net policy cs k → (r : CheckRule) → rule_number q ≤ rule_number r
+      → (rule_number q + 1 ≤ rule_number r → KeepsIn r net policy cs k) → KeepsIn r net policy cs k
   kept_or_later q kept r least later = elim (cases_lt (rule_number q) (rule_number r)) [
     | inl lt ↦ later (omega (arith, lt))
     | inr le ↦ subst (λ p. KeepsIn p net policy cs k) (same_rule q r (omega (arith, least, le))) kept
@@ -91,11 +92,14 @@ module _ (net : PlainNet) (policy : PlainPolicy) (cs : List PlainCaseEvidence) (
       before = λ m n e. elim e [ inl lt ↦ absurd (omega (arith, lt)) | inr same ↦ absurd (let none = same.1 in omega (arith, none)) ];
     }
 
-    pub ranks_first : (o : Option ℕ) → IsFirstOrNone (HasRank net s (holds c.case.origins) c.graph) (length c.graph.nodes) o → IsFirstPairOrNone (KeepsAt Ranks net policy cs k) (option_map (λ n. (n, 0)) o)
+    pub ranks_first : (o : Option ℕ) → IsFirstOrNone (HasRank net s (holds c.case.origins) c.graph) (length c.graph.nodes) o
+        → IsFirstPairOrNone (KeepsAt Ranks net policy cs k) (option_map (λ n. (n, 0)) o)
     ranks_first = by_nodes Ranks (HasRank net s (holds c.case.origins) c.graph) (length c.graph.nodes)
         (λ m n h. at_case (λ t d. m < length d.graph.nodes → HasRank net t (holds d.case.origins) d.graph m) h) (λ m n keeps. keeps c s of.at of.statement)
 
-    pub mixed_first : (o : Option ℕ) → IsFirstOrNone (λ n. IsClaimed net s c.case (place_of c.graph n) → IsSome (rank_at c.graph n)) (length c.graph.nodes) o → IsFirstPairOrNone (KeepsAt Mixed net policy cs k) (option_map (λ n. (n, 0)) o)
+    pub mixed_first : (o : Option ℕ)
+        → IsFirstOrNone (λ n. IsClaimed net s c.case (place_of c.graph n) → IsSome (rank_at c.graph n)) (length c.graph.nodes) o
+        → IsFirstPairOrNone (KeepsAt Mixed net policy cs k) (option_map (λ n. (n, 0)) o)
     mixed_first = by_nodes Mixed (λ n. IsClaimed net s c.case (place_of c.graph n) → IsSome (rank_at c.graph n)) (length c.graph.nodes)
         (λ m n h. at_case (λ t d. m < length d.graph.nodes → IsClaimed net t d.case (place_of d.graph m) → IsSome (rank_at d.graph m)) h) (λ m n keeps. keeps c s of.at of.statement)
 
@@ -112,4 +116,6 @@ module _ (net : PlainNet) (policy : PlainPolicy) (cs : List PlainCaseEvidence) (
     loop_first = by_pairs PrefLoop (KeepsLoop net c.graph (number_at c)) (λ m n h. at_case (λ t d. KeepsLoop net d.graph (number_at d) m n) h) (λ m n keeps. keeps c s of.at of.statement)
 
     pub listener_first : (o : Option (ℕ × ℕ)) → IsFirstPairOrNone (KeepsListener net c.case.external c.graph (number_at c)) o → IsFirstPairOrNone (KeepsAt PrefListener net policy cs k) o
-    listener_first = by_pairs PrefListener (KeepsListener net c.case.external c.graph (number_at c)) (λ m n h. at_case (λ t d. KeepsListener net d.case.external d.graph (number_at d) m n) h) (λ m n keeps. keeps c s of.at of.statement)
+    listener_first =
+        by_pairs PrefListener (KeepsListener net c.case.external c.graph (number_at c))
+        (λ m n h. at_case (λ t d. KeepsListener net d.case.external d.graph (number_at d) m n) h) (λ m n keeps. keeps c s of.at of.statement)

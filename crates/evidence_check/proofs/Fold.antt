@@ -5,13 +5,13 @@ use Rattle.std.proofs.lemmas.Bool.{cases_lt}
 use Rattle.std.proofs.lemmas.Bool.Decides.{leb_tells}
 use Rattle.std.proofs.lemmas.Option.{same_Some, slice_get_past}
 use Rattle.net_base.specs.Network.{PlainNet}
-use Rattle.path_words.specs.declared.case.Case.{Case}
-use Rattle.path_words.specs.Cases.{case_list}
-use Rattle.path_words.specs.Policies.{PlainPolicy}
+use Rattle.policy_base.specs.declared.case.Case.{Case}
+use Rattle.policy_base.specs.Cases.{case_list}
+use Rattle.policy_base.specs.Policies.{PlainPolicy}
 use Rattle.config_base.specs.Configs.{IsBelow, PlainConfig}
 use Rattle.evidence_base.specs.Made.{IsConfigOf, PlainCaseEvidence, case_at}
-use Rattle.regret_law.specs.Passes.{AreWithin, all_steps}
-use Rattle.number_check.specs.FirstPair.{IsEarlier, IsFirstPair}
+use Rattle.evidence_law.specs.Passes.{AreWithin, all_steps}
+use Rattle.preference_check.specs.FirstPair.{IsEarlier, IsFirstPair}
 use Rattle.evidence_rules.specs.declared.rule.CheckRule.{CheckRule}
 use Rattle.evidence_rules.specs.declared.rule.CheckRule.TheVariants.{Cases, ConfigDiffers, Mixed, PrefListener, PrefLoop, PrefRank, PrefStep, Ranks, Tags, Walks}
 use Rattle.evidence_rules.specs.declared.verdict.Shown.{Shown}
@@ -104,7 +104,8 @@ module _ (net : PlainNet) (policy : PlainPolicy) (cs : List PlainCaseEvidence) w
       first = least.first;
     }
 
-    new_least : (g : Fault) → ((r : CheckRule) → rule_number r ≤ rule_number g.rule → KeepsUpTo r net policy cs j) → IsFirstFault 2 net policy cs k g → IsLeastUpTo net policy cs k (record { case = k; fault = g })
+    new_least : (g : Fault) → ((r : CheckRule) → rule_number r ≤ rule_number g.rule → KeepsUpTo r net policy cs j) → IsFirstFault 2 net policy cs k g
+        → IsLeastUpTo net policy cs k (record { case = k; fault = g })
     new_least g before fault = record {
       most = fault.most;
       earlier = λ r less. upto_next r (before r (omega (arith, less))) (in_case k listed r (λ two. fault.earlier r two less));
@@ -114,7 +115,8 @@ module _ (net : PlainNet) (policy : PlainPolicy) (cs : List PlainCaseEvidence) w
     pub first_least : (g : Fault) → IsLeast net policy cs j None → IsFirstFault 2 net policy cs k g → IsLeastUpTo net policy cs k (record { case = k; fault = g })
     first_least g least fault = new_least g (λ r le. least r (let most = fault.most in omega (arith, le, most))) fault
 
-    pub lesser_least : (f : CaseFault) (g : Fault) → IsLeastUpTo net policy cs j f → IsFirstFault 2 net policy cs k g → rule_number g.rule < rule_number f.fault.rule → IsLeastUpTo net policy cs k (record { case = k; fault = g })
+    pub lesser_least : (f : CaseFault) (g : Fault) → IsLeastUpTo net policy cs j f → IsFirstFault 2 net policy cs k g
+        → rule_number g.rule < rule_number f.fault.rule → IsLeastUpTo net policy cs k (record { case = k; fault = g })
     lesser_least f g least fault lt = new_least g (λ r le. least.earlier r (omega (arith, le, lt))) fault
 
     pub next_least : (o : Option CaseFault) (g : Option Fault) → IsLeast net policy cs j o → IsFaultFrom 2 net policy cs k g → IsLeast net policy cs k (least_with o k g)

@@ -2,17 +2,17 @@
 use Rattle.std.proofs.Common.{◌≡◌, ℕ, ◌-◌, List, [], ◌∷◌, ◌++◌, length, refl, sym, ap, subst, ◌∙◌, arith}
 use Rattle.std.proofs.lemmas.List.{length-map}
 use Rattle.std.proofs.lemmas.Option.{same_Some}
-use Rattle.net_base.specs.declared.limits.TheConstants.{NODES}
+use Rattle.path_exprs.specs.declared.limits.TheConstants.{NODES}
 use Rattle.net_base.specs.Network.{PlainNet}
-use Rattle.path_words.specs.declared.case.Case.{Case}
-use Rattle.path_words.specs.Policies.{PlainPolicy, PlainStatement}
+use Rattle.policy_base.specs.declared.case.Case.{Case}
+use Rattle.policy_base.specs.Policies.{PlainPolicy, PlainStatement}
 use Rattle.path_exprs.specs.Standings.{IsWalked, PassesStates, Plan, plan_for}
 use Rattle.graph_base.specs.Graphs.{PlainGraph}
 use Rattle.standings.specs.Built.{IsBuilt, graph_over, node_of}
 use Rattle.standings.proofs.OneGraph.{no_more_states, one-graph}
 use Rattle.graph_law.specs.Limits.{IsBuiltWithin}
 use Rattle.graph_law.proofs.Counted.{built_walked, count_steps}
-use Rattle.regret_law.specs.Passes.{AreWithin}
+use Rattle.evidence_law.specs.Passes.{AreWithin}
 use Rattle.evidence_check.specs.Listed.{AreWithinTo, IsWithin, IsWithinRoom}
 
 -- what is counted is what is built
@@ -45,7 +45,8 @@ module _ (net : PlainNet) (policy : PlainPolicy) where
       let here = h.1 in
       (here.0, h.0, here.1, here.2.ranks, here.2.walked, here.2.fits, within_to (room - h.0) left cs h.2)
 
-  pub within_more : (room left steps : ℕ) (cs : List Case) (c : Case) → AreWithinTo net policy room cs left → IsWithinRoom net policy c left steps → AreWithinTo net policy room (cs ++ c ∷ []) (left - steps)
+  pub within_more : (room left steps : ℕ) (cs : List Case) (c : Case) → AreWithinTo net policy room cs left → IsWithinRoom net policy c left steps
+      → AreWithinTo net policy room (cs ++ c ∷ []) (left - steps)
   within_more room left steps [] c h here = (steps, subst (λ r. IsWithinRoom net policy c r steps) h here, ap (λ r. r - steps) h)
   within_more room left steps (d ∷ cs) c h here = (h.0, h.1, within_more (room - h.0) left steps cs c h.2 here)
 

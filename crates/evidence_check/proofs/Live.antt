@@ -3,16 +3,16 @@ use Rattle.std.proofs.Common.{refl}
 use Rattle.list_laws.specs.Members.{IsIn}
 use Rattle.net_base.specs.Network.{IsNet, PlainNet}
 use Rattle.net_base.specs.Sets.{holds}
-use Rattle.path_words.specs.declared.case.Case.{Case}
-use Rattle.path_words.specs.Cases.{case_list}
-use Rattle.path_words.specs.Policies.{PlainPolicy, PlainStatement}
+use Rattle.policy_base.specs.declared.case.Case.{Case}
+use Rattle.policy_base.specs.Cases.{case_list}
+use Rattle.policy_base.specs.Policies.{PlainPolicy, PlainStatement}
 use Rattle.path_exprs.specs.Standings.{plan_for}
 use Rattle.graph_base.specs.Graphs.{PlainGraph}
 use Rattle.standings.specs.Built.{IsBuilt}
 use Rattle.reach_prune.specs.Trimmed.{IsTrimmed}
-use Rattle.regret_law.specs.Faithful.{IsFaithful}
-use Rattle.case_law.specs.Cases.{OriginsAreRouters}
-use Rattle.case_law.proofs.Origins.{case_known, known_origins}
+use Rattle.evidence_law.specs.Faithful.{IsFaithful}
+use Rattle.policy_base.specs.CaseNumbers.{OriginsAreRouters}
+use Rattle.policy_base.proofs.KnownCases.{case_known, known_origins}
 use Rattle.graph_law.proofs.Faith.{built_is_faithful}
 
 pub case_is_live : (net : PlainNet) (policy : PlainPolicy) (c : Case) (s : PlainStatement) (built live : PlainGraph) → IsNet net → OriginsAreRouters net policy.origins → IsIn (case_list net policy) c

@@ -119,9 +119,13 @@ module _ (net : PlainNet) (cs : List PlainCaseEvidence) where
 
       pub node_keeps : is_right_tag net place tag ≡ true → (is_peer net place ≡ false → list_any (same_tag tag) seen ≡ false) → KeepsTag net cs k n
       node_keeps right fresh = record {
-        at_router = λ d at. subst (λ (x : PlainCaseEvidence). is_peer net (place_of x.graph n) ≡ false → IsTrue (is_tag (tag_at x n)) × ((tag_at x n).asn ≡ asn_of net (place_of x.graph n))) (sym (here d at)) at_router;
+        at_router =
+            λ d at. subst (λ (x : PlainCaseEvidence). is_peer net (place_of x.graph n) ≡ false
+            → IsTrue (is_tag (tag_at x n)) × ((tag_at x n).asn ≡ asn_of net (place_of x.graph n))) (sym (here d at)) at_router;
         at_peer = λ d at. subst (λ (x : PlainCaseEvidence). IsTrue (is_peer net (place_of x.graph n)) → tag_at x n ≡ no_tag) (sym (here d at)) at_peer;
-        new = λ j m e d before at order. subst (λ (x : PlainCaseEvidence). is_peer net (place_of e.graph m) ≡ false → place_of e.graph m ≡ place_of x.graph n → tag_at e m ≡ tag_at x n → ⊥) (sym (here d at)) (new j m e before order);
+        new =
+            λ j m e d before at order. subst (λ (x : PlainCaseEvidence). is_peer net (place_of e.graph m) ≡ false
+            → place_of e.graph m ≡ place_of x.graph n → tag_at e m ≡ tag_at x n → ⊥) (sym (here d at)) (new j m e before order);
       }
         where
           at_router : is_peer net place ≡ false → IsTrue (is_tag tag) × (tag.asn ≡ asn_of net place)
@@ -161,14 +165,16 @@ module _ (net : PlainNet) (cs : List PlainCaseEvidence) where
           has j m d at earlier r = elim (earlier_or_this j m earlier) [
             | inl before ↦ are.has j m d at before r
             | inr e ↦
-                let same : is_peer net (place_of d.graph m) ≡ is_peer net place = ap (λ (x : PlainCaseEvidence). is_peer net (place_of x.graph m)) (this j m d at e) ∙ ap (λ i. is_peer net (place_of c.graph i)) e.1 in
+                let same : is_peer net (place_of d.graph m) ≡ is_peer net place = ap (λ (x : PlainCaseEvidence). is_peer net (place_of x.graph m))
+                (this j m d at e) ∙ ap (λ i. is_peer net (place_of c.graph i)) e.1 in
                 absurd (both_ways _ r (same ∙ peer))
           ]
 
       pub next_at_router : KeepsTag net cs k n → is_peer net place ≡ false → AreSeen net cs k (n + 1) (seen ++ tag ∷ [])
       next_at_router keeps router = record { kept = kept_next keeps; has = has; from = from }
         where
-          has : (j m : ℕ) (d : PlainCaseEvidence) → IsNodeOf cs j m d → IsEarlierNode j m k (n + 1) → is_peer net (place_of d.graph m) ≡ false → IsTrue (list_any (same_tag (tag_at d m)) (seen ++ tag ∷ []))
+          has : (j m : ℕ) (d : PlainCaseEvidence) → IsNodeOf cs j m d → IsEarlierNode j m k (n + 1) → is_peer net (place_of d.graph m) ≡ false
+              → IsTrue (list_any (same_tag (tag_at d m)) (seen ++ tag ∷ []))
           has j m d at earlier r = elim (earlier_or_this j m earlier) [
             | inl before ↦
                 let member = list_any_member (same_tag (tag_at d m)) seen (are.has j m d at before r) in
@@ -187,7 +193,8 @@ module _ (net : PlainNet) (cs : List PlainCaseEvidence) where
                 | inr e ↦ (k, n, c, (is, inside), inr (refl, omega arith), router, e ∙ sym (same_tag-is t member.0 member.2))
               ]
 
-      pub node_next : (is_right_tag net place tag && (is_peer net place || not (list_any (same_tag tag) seen))) ≡ true → (more : List Tag) → (IsTrue (is_peer net place) → more ≡ seen) → (IsTrue (not (is_peer net place)) → more ≡ seen ++ tag ∷ []) → AreSeen net cs k (n + 1) more
+      pub node_next : (is_right_tag net place tag && (is_peer net place || not (list_any (same_tag tag) seen))) ≡ true → (more : List Tag)
+          → (IsTrue (is_peer net place) → more ≡ seen) → (IsTrue (not (is_peer net place)) → more ≡ seen ++ tag ∷ []) → AreSeen net cs k (n + 1) more
       node_next kept more at_peer at_router =
           let parts = and_parts (is_right_tag net place tag) (is_peer net place || not (list_any (same_tag tag) seen)) kept in
           elim (cases_Bool (is_peer net place)) [
@@ -205,7 +212,8 @@ module _ (net : PlainNet) (cs : List PlainCaseEvidence) where
             false≢true (sym off ∙ and_from (is_right_tag net place tag) (is_peer net place || not (list_any (same_tag tag) seen)) right (rw peer refl))
         | inr router ↦
             let has = keeps.at_router c (is, inside) router in
-            let right : is_right_tag net place tag ≡ true = right_at_router net place tag router ∙ and_from (is_tag tag) (tag.asn == asn_of net place) has.0 (eq-eqb tag.asn (asn_of net place) has.1) in
+            let right : is_right_tag net place tag ≡ true = right_at_router net place tag router
+            ∙ and_from (is_tag tag) (tag.asn == asn_of net place) has.0 (eq-eqb tag.asn (asn_of net place) has.1) in
             elim (cases_Bool (list_any (same_tag tag) seen)) [
               | inl there ↦ seen_before rules router has there keeps
               | inr fresh ↦ false≢true (sym off ∙ and_from (is_right_tag net place tag) (is_peer net place || not (list_any (same_tag tag) seen)) right (rw (router, fresh) refl))

@@ -1,11 +1,11 @@
 -- The first rule that fails in one case, and in the cases so far.
 use Rattle.std.specs.Prelude.{ℕ, ◌<◌, ◌≤◌, List, nat_le, Option, Some, None, take, if◌then◌else◌}
 use Rattle.net_base.specs.Network.{PlainNet}
-use Rattle.path_words.specs.Cases.{case_list}
-use Rattle.path_words.specs.Policies.{PlainPolicy}
+use Rattle.policy_base.specs.Cases.{case_list}
+use Rattle.policy_base.specs.Policies.{PlainPolicy}
 use Rattle.evidence_base.specs.Made.{PlainCaseEvidence}
-use Rattle.regret_law.specs.Passes.{all_steps}
-use Rattle.number_check.specs.FirstPair.{IsFirstPair}
+use Rattle.evidence_law.specs.Passes.{all_steps}
+use Rattle.preference_check.specs.FirstPair.{IsFirstPair}
 use Rattle.evidence_rules.specs.declared.rule.CheckRule.{CheckRule}
 use Rattle.evidence_rules.specs.Rules.{IsListed, KeepsAt, Keeps, rule_number}
 use Rattle.evidence_rules.specs.Verdicts.{IsFirstAt, KeepsBefore}

@@ -2,14 +2,14 @@
 use Rattle.std.specs.Prelude.{◌≡◌, ◌↔◌, ℕ, IsTrue, List, Some}
 use Rattle.net_base.specs.Network.{PlainNet, is_router}
 use Rattle.net_base.specs.Sets.{holds}
-use Rattle.path_words.specs.Policies.{PlainPolicy, PlainStatement}
+use Rattle.policy_base.specs.Policies.{PlainPolicy, PlainStatement, statement_at}
 use Rattle.graph_base.specs.Graphs.{PlainGraph}
 use Rattle.graph_base.specs.Ranked.{IsRankedRouter}
 use Rattle.graph_base.specs.Rules.{steps_on}
 use Rattle.graph_base.specs.Runs.{place_of}
-use Rattle.evidence_base.specs.Made.{PlainCaseEvidence, case_at, statement_at}
-use Rattle.regret_law.specs.Faithful.{IsFaithful}
-use Rattle.regret_law.specs.Passes.{IsClaimed}
+use Rattle.evidence_base.specs.Made.{PlainCaseEvidence, case_at}
+use Rattle.evidence_law.specs.Faithful.{IsFaithful}
+use Rattle.evidence_law.specs.Passes.{IsClaimed}
 
 -- the case with a number, and its statement
 pub record IsOfCase (policy : PlainPolicy) (cs : List PlainCaseEvidence) (k : ℕ) (s : PlainStatement) (c : PlainCaseEvidence) : Type 0 where

@@ -1,12 +1,11 @@
 -- The limits on one case.
 use Rattle.std.specs.Prelude.{◌≡◌, ℕ, ◌-◌, ◌≤◌, List, [], ◌∷◌, Some}
-use Rattle.net_base.specs.declared.limits.TheConstants.{ALTERNATIVES}
+use Rattle.policy_base.specs.declared.limits.TheConstants.{ALTERNATIVES}
 use Rattle.net_base.specs.Network.{PlainNet}
-use Rattle.path_words.specs.declared.case.Case.{Case}
-use Rattle.path_words.specs.Meaning.{alternative_count}
-use Rattle.path_words.specs.Policies.{PlainPolicy, PlainStatement}
+use Rattle.policy_base.specs.declared.case.Case.{Case}
+use Rattle.policy_base.specs.Meaning.{alternative_count}
+use Rattle.policy_base.specs.Policies.{PlainPolicy, PlainStatement, statement_at}
 use Rattle.path_exprs.specs.Standings.{IsWalked, plan_for}
-use Rattle.evidence_base.specs.Made.{statement_at}
 
 -- a case of a statement is within the limits, with room for so many steps, of which it takes these
 pub record IsWithin (net : PlainNet) (s : PlainStatement) (c : Case) (room steps : ℕ) : Type 0 where

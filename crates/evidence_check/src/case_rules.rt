@@ -2,15 +2,15 @@
 ghost use Rattle.std.specs.Prelude.{◌≡◌, ℕ, IfNone, IfOk, IfSome, IsSome, IsTrue, List, length};
 ghost use Rattle.net_base.specs.Network.{PlainNet};
 ghost use Rattle.net_base.specs.Sets.{holds};
-ghost use Rattle.path_words.specs.Policies.{PlainPolicy, PlainStatement};
+ghost use Rattle.policy_base.specs.Policies.{PlainPolicy, PlainStatement};
 ghost use Rattle.graph_base.specs.Rules.{KeepsListener, KeepsLoop, KeepsRank, KeepsStep};
 ghost use Rattle.graph_base.specs.Runs.{place_of, rank_at};
 ghost use Rattle.evidence_base.specs.Made.{PlainCaseEvidence, number_at};
-ghost use Rattle.regret_law.specs.Faithful.{HasRank, HasWalks, IsFaithful};
-ghost use Rattle.regret_law.specs.Passes.{IsClaimed};
+ghost use Rattle.evidence_law.specs.Faithful.{HasRank, HasWalks, IsFaithful};
+ghost use Rattle.evidence_law.specs.Passes.{IsClaimed};
 ghost use Rattle.walk_check.specs.Alike.{AreAlike, IsSingleStepped};
 ghost use Rattle.walk_check.specs.Firsts.{IsFirstOrNone};
-ghost use Rattle.number_check.specs.FirstPair.{IsFirstPairOrNone};
+ghost use Rattle.preference_check.specs.FirstPair.{IsFirstPairOrNone};
 ghost use Rattle.evidence_check.specs.CaseFaults.{IsFaultFrom};
 ghost use Rattle.evidence_check.specs.CaseRules.{AreClaimedWhereRanked, IsLive, IsOfCase, LeadsToRouters};
 
@@ -19,8 +19,8 @@ use evidence_base::CaseEvidence;
 use evidence_rules::CheckRule;
 use graph_base::{Graph, ranked_routers};
 use net_base::{LocSet, Net, known_net};
-use number_check::{listener_fault, loop_fault, rank_fault, step_fault};
 use outside::NoMemory;
+use preference_check::{listener_fault, loop_fault, rank_fault, step_fault};
 use std::alloc::Global;
 use walk_check::{WalkClasses, mixed_fault, walks};
 
@@ -56,6 +56,7 @@ impl Fault {
     }
 }
 
+// The four rules of numbers are asked for alike; each names its own rule, and hands on what that rule speaks of.
 /// The first pair of nodes that breaks the rule on ranks, at these routers.
 fn first_by_rank(
     alloc: Global,

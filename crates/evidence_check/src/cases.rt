@@ -1,10 +1,10 @@
 //! The rules of cases, over all of them.
 ghost use Rattle.std.specs.Prelude.{◌≡◌, ◌+◌, ℕ, List, IfNone, IfOk, IfSome, Some};
 ghost use Rattle.list_laws.specs.Members.{IsIn};
-ghost use Rattle.path_words.specs.Cases.{case_list};
-ghost use Rattle.path_words.specs.Policies.{policy_of};
+ghost use Rattle.policy_base.specs.Cases.{case_list};
+ghost use Rattle.policy_base.specs.Policies.{policy_of};
 ghost use Rattle.evidence_base.specs.Made.{PlainCaseEvidence, case_at};
-ghost use Rattle.case_law.specs.Cases.{OriginsAreRouters};
+ghost use Rattle.policy_base.specs.CaseNumbers.{OriginsAreRouters};
 ghost use Rattle.evidence_rules.specs.declared.rule.CheckRule.TheVariants as rule;
 ghost use Rattle.evidence_check.specs.CaseFaults.{IsFaultFrom, IsLeastOrNone, least_with, lesser_of};
 ghost use Rattle.evidence_check.specs.Listed.{IsWithinRoom};
@@ -15,11 +15,11 @@ use crate::same::is_same_case;
 use crate::tags::case_number;
 use config_made::statement_at;
 use evidence_base::CaseEvidence;
+use evidence_law::limits::STEPS;
 use evidence_rules::CheckRule;
-use net_base::limits::STEPS;
 use net_base::{Net, known_net};
 use outside::NoMemory;
-use path_words::{Case, Policy};
+use policy_base::{Case, Policy};
 use reach_prune::trim;
 use std::alloc::Global;
 

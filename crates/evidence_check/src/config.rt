@@ -1,6 +1,6 @@
 //! The rule of the configuration.
 ghost use Rattle.std.specs.Prelude.{◌≡◌, ◌<◌, ◌↔◌, IfOk, IsTrue};
-ghost use Rattle.path_words.specs.Policies.{policy_of};
+ghost use Rattle.policy_base.specs.Policies.{policy_of};
 ghost use Rattle.config_base.specs.Configs.{PlainConfig};
 ghost use Rattle.config_text.specs.Spelled.{Spells};
 ghost use Rattle.evidence_rules.specs.declared.rule.CheckRule.TheVariants.{ConfigDiffers};
@@ -14,7 +14,7 @@ use evidence_base::CaseEvidence;
 use evidence_rules::{CheckRule, Shown, Verdict};
 use net_base::{Net, known_net};
 use outside::NoMemory;
-use path_words::{Policy, known_policy};
+use policy_base::{Policy, known_policy};
 use std::alloc::Global;
 
 // Whether two texts are the same.

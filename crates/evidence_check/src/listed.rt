@@ -1,10 +1,11 @@
 //! The rule of cases, for one case at a time.
 ghost use Rattle.std.specs.Prelude.{◌≡◌, ◌<◌, ◌≤◌, ℕ, IfNone, IfOk, IfSome, IsErrOf, length};
-ghost use Rattle.net_base.specs.declared.limits.TheConstants.{ALTERNATIVES, NODES};
+ghost use Rattle.policy_base.specs.declared.limits.TheConstants.{ALTERNATIVES};
+ghost use Rattle.path_exprs.specs.declared.limits.TheConstants.{NODES};
 ghost use Rattle.list_laws.specs.Members.{IsIn};
-ghost use Rattle.path_words.specs.Cases.{case_list};
-ghost use Rattle.path_words.specs.Meaning.{alternative_count};
-ghost use Rattle.path_words.specs.Policies.{plain_statement, policy_of, ranking_of};
+ghost use Rattle.policy_base.specs.Cases.{case_list};
+ghost use Rattle.policy_base.specs.Meaning.{alternative_count};
+ghost use Rattle.policy_base.specs.Policies.{plain_statement, policy_of, ranking_of};
 ghost use Rattle.path_exprs.specs.Forward.{expressions};
 ghost use Rattle.path_exprs.specs.Standings.{PassesStates, plan_of};
 ghost use Rattle.standings.specs.Built.{IsBuilt};
@@ -18,7 +19,7 @@ use net_base::Net;
 use outside::NoMemory;
 use path_automata::Automata;
 use path_exprs::RankedExpr;
-use path_words::{Case, FromSet, Statement};
+use policy_base::{Case, FromSet, Statement};
 use standings::{StandingsFault, standings};
 use std::alloc::Global;
 

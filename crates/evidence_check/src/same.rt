@@ -2,7 +2,7 @@
 ghost use Rattle.std.specs.Prelude.{◌≡◌, ◌↔◌, IsTrue};
 
 use net_base::Prefix;
-use path_words::Case;
+use policy_base::Case;
 
 fn are_same_prefixes(one: &[Prefix], other: &[Prefix]) -> bool
     ensures { IsTrue result ↔ one.now ≡ other.now }

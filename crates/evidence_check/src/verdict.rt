@@ -1,8 +1,8 @@
 //! The verdict.
 ghost use Rattle.std.specs.Prelude.{◌≡◌, ◌≢◌, IfOk, IfSome, MatchOption};
 ghost use Rattle.config_base.specs.Configs.{PlainConfig};
-ghost use Rattle.path_words.specs.Policies.{policy_of};
-ghost use Rattle.case_law.specs.Cases.{OriginsAreRouters};
+ghost use Rattle.policy_base.specs.Policies.{policy_of};
+ghost use Rattle.policy_base.specs.CaseNumbers.{OriginsAreRouters};
 ghost use Rattle.config_text.specs.Spelled.{Spells};
 ghost use Rattle.evidence_rules.specs.declared.rule.CheckRule.TheVariants.{ConfigDiffers, Tags};
 ghost use Rattle.evidence_rules.specs.declared.verdict.Verdict.TheVariants.{Fails, Holds};
@@ -17,7 +17,7 @@ use evidence_base::{CaseEvidence, Evidence};
 use evidence_rules::{CheckRule, Shown, Verdict};
 use net_base::Net;
 use outside::NoMemory;
-use path_words::{Policy, cases};
+use policy_base::{Policy, cases};
 use std::alloc::Global;
 
 fn of_case(found: CaseFault) -> Verdict

@@ -3,13 +3,13 @@ use Rattle.std.proofs.Common.{◌≡◌, cond, ◌⊎◌, ℕ, ◌<◌, List, re
 use Rattle.std.specs.Prelude.{◌==◌}
 use Rattle.std.proofs.lemmas.Bool.{cases_lt}
 use Rattle.net_base.specs.Network.{PlainNet}
-use Rattle.path_words.specs.Policies.{PlainPolicy}
+use Rattle.policy_base.specs.Policies.{PlainPolicy}
 use Rattle.config_made.proofs.OneConfiguration.{one_configuration}
 use Rattle.config_text.specs.ConfigText.{config_text}
 use Rattle.evidence_rules.specs.Laws.{VerdictsAreOne}
 use Rattle.config_base.specs.Configs.{PlainConfig, Key, IsBelow}
 use Rattle.evidence_base.specs.Made.{PlainCaseEvidence}
-use Rattle.regret_law.specs.Passes.{Passes}
+use Rattle.evidence_law.specs.Passes.{Passes}
 use Rattle.evidence_rules.specs.declared.rule.CheckRule.{CheckRule}
 use Rattle.evidence_rules.specs.declared.rule.CheckRule.TheVariants.{Cases, Walks, Ranks, Mixed, PrefRank, PrefStep, PrefLoop, PrefListener, Tags, ConfigDiffers}
 use Rattle.evidence_rules.specs.Rules.{rule_number, KeepsAt}
@@ -20,7 +20,9 @@ use Rattle.evidence_rules.specs.Verdicts.{at_place, IsFault, first_difference, b
 use Rattle.evidence_rules.proofs.TenRules.{passing}
 
 abbrev pub rule_of : ℕ → CheckRule
-rule_of n = cond (n == 1) Cases (cond (n == 2) Walks (cond (n == 3) Ranks (cond (n == 4) Mixed (cond (n == 5) PrefRank (cond (n == 6) PrefStep (cond (n == 7) PrefLoop (cond (n == 8) PrefListener (cond (n == 9) Tags (ConfigDiffers)))))))))
+rule_of n =
+    cond (n == 1) Cases (cond (n == 2) Walks (cond (n == 3) Ranks (cond (n == 4) Mixed (cond (n == 5) PrefRank
+    (cond (n == 6) PrefStep (cond (n == 7) PrefLoop (cond (n == 8) PrefListener (cond (n == 9) Tags (ConfigDiffers)))))))))
 
 pub rule_of-number : (r : CheckRule) → rule_of (rule_number r) ≡ r
 rule_of-number Cases = refl

@@ -5,15 +5,15 @@ use Rattle.std.proofs.lemmas.Bool.{cases_lt}
 use Rattle.std.proofs.Math.Seq.{take-length}
 use Rattle.net_base.specs.Network.{PlainNet, is_peer}
 use Rattle.net_base.specs.Sets.{holds}
-use Rattle.path_words.specs.declared.case.Case.{Case}
-use Rattle.path_words.specs.Cases.{case_list}
-use Rattle.path_words.specs.Policies.{PlainPolicy, PlainStatement}
+use Rattle.policy_base.specs.declared.case.Case.{Case}
+use Rattle.policy_base.specs.Cases.{case_list}
+use Rattle.policy_base.specs.Policies.{PlainPolicy, PlainStatement, statement_at}
 use Rattle.graph_base.specs.Runs.{place_of}
-use Rattle.regret_law.proofs.FaithfulParts.{faithful_parts}
+use Rattle.evidence_law.proofs.FaithfulParts.{faithful_parts}
 use Rattle.config_base.specs.Configs.{PlainConfig}
-use Rattle.evidence_base.specs.Made.{PlainCaseEvidence, case_at, statement_at, tag_at, IsConfigOf, AreTags}
-use Rattle.regret_law.specs.Faithful.{HasWalks, HasRank}
-use Rattle.regret_law.specs.Passes.{IsCaseGraph, AreWithin, all_steps, Passes}
+use Rattle.evidence_base.specs.Made.{PlainCaseEvidence, case_at, tag_at, IsConfigOf, AreTags}
+use Rattle.evidence_law.specs.Faithful.{HasWalks, HasRank}
+use Rattle.evidence_law.specs.Passes.{IsCaseGraph, AreWithin, all_steps, Passes}
 use Rattle.evidence_rules.specs.declared.rule.CheckRule.{CheckRule}
 use Rattle.evidence_rules.specs.declared.rule.CheckRule.TheVariants.{Cases, Walks, Ranks, Mixed, PrefRank, PrefStep, PrefLoop, PrefListener, Tags, ConfigDiffers}
 use Rattle.evidence_rules.specs.Rules.{AtCase, listed_at, IsNodeOf, KeepsTag, Keeps}
@@ -49,7 +49,8 @@ module _ (net : PlainNet) (policy : PlainPolicy) (config : PlainConfig) (cs : Li
 
   module _ (passes : Passes net policy config cs) where
     -- what is said of each case
-    at_each : (Says : PlainStatement → PlainCaseEvidence → Type 0) → ((k : ℕ) (c : PlainCaseEvidence) (s : PlainStatement) → slice_get cs k ≡ Some c → statement_at policy c.case.statement ≡ Some s → Says s c)
+    at_each : (Says : PlainStatement → PlainCaseEvidence → Type 0)
+        → ((k : ℕ) (c : PlainCaseEvidence) (s : PlainStatement) → slice_get cs k ≡ Some c → statement_at policy c.case.statement ≡ Some s → Says s c)
         → (k : ℕ) → AtCase policy cs k Says
     at_each Says all zero = λ c s at of_statement. absurd cc
     at_each Says all (suc k) = λ c s at of_statement. all k c s at of_statement
@@ -137,5 +138,6 @@ module _ (net : PlainNet) (policy : PlainPolicy) (cs : List PlainCaseEvidence) (
     };
   }
 
-pub passing : (net : PlainNet) (policy : PlainPolicy) (config : PlainConfig) (cs : List PlainCaseEvidence) → Passes net policy config cs ↔ ((r : CheckRule) → Keeps r net policy cs) × IsConfigOf net policy cs config
+pub passing : (net : PlainNet) (policy : PlainPolicy) (config : PlainConfig) (cs : List PlainCaseEvidence)
+    → Passes net policy config cs ↔ ((r : CheckRule) → Keeps r net policy cs) × IsConfigOf net policy cs config
 passing net policy config cs = (λ p. (keeps net policy config cs p, p.made.lines), λ h. passes_back net policy cs h.0 config h.1)

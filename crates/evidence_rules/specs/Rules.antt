@@ -3,15 +3,15 @@ use Rattle.std.specs.Prelude.{◌≡◌, ◌⊎◌, ℕ, zero, suc, ◌<◌, IsT
 use Rattle.net_base.specs.Network.{PlainNet, is_peer, asn_of}
 use Rattle.net_base.specs.Numbers.{is_tag, no_tag}
 use Rattle.net_base.specs.Sets.{holds}
-use Rattle.path_words.specs.declared.case.Case.{Case}
-use Rattle.path_words.specs.Cases.{case_list}
-use Rattle.path_words.specs.Policies.{PlainPolicy, PlainStatement}
+use Rattle.policy_base.specs.declared.case.Case.{Case}
+use Rattle.policy_base.specs.Cases.{case_list}
+use Rattle.policy_base.specs.Policies.{PlainPolicy, PlainStatement, statement_at}
 use Rattle.graph_base.specs.Graphs.{IsGraph}
 use Rattle.graph_base.specs.Runs.{place_of, rank_at}
 use Rattle.graph_base.specs.Rules.{KeepsRank, KeepsStep, KeepsLoop, KeepsListener}
-use Rattle.evidence_base.specs.Made.{PlainCaseEvidence, case_at, statement_at, number_at, tag_at}
-use Rattle.regret_law.specs.Faithful.{HasWalks, HasRank}
-use Rattle.regret_law.specs.Passes.{IsClaimed, AreWithin, all_steps}
+use Rattle.evidence_base.specs.Made.{PlainCaseEvidence, case_at, number_at, tag_at}
+use Rattle.evidence_law.specs.Faithful.{HasWalks, HasRank}
+use Rattle.evidence_law.specs.Passes.{IsClaimed, AreWithin, all_steps}
 use Rattle.evidence_rules.specs.declared.rule.CheckRule.{CheckRule}
 use Rattle.evidence_rules.specs.declared.rule.CheckRule.TheVariants.{Cases, Walks, Ranks, Mixed, PrefRank, PrefStep, PrefLoop, PrefListener, Tags, ConfigDiffers}
 

@@ -1,13 +1,13 @@
 -- What is answered about evidence: it holds, or the first rule that fails, and where.
 use Rattle.std.specs.Prelude.{◌≡◌, ◌≢◌, ℕ, suc, ◌+◌, ◌-◌, ◌<◌, ◌==◌, nat_lt, List, [], ◌∷◌, length, if◌then◌else◌}
 use Rattle.net_base.specs.Network.{PlainNet}
-use Rattle.path_words.specs.Policies.{PlainPolicy}
+use Rattle.policy_base.specs.Policies.{PlainPolicy}
 use Rattle.config_base.specs.declared.config.RouterConfig.{RouterConfig}
 use Rattle.config_base.specs.declared.config.Session.{Session}
 use Rattle.config_base.specs.Configs.{PlainConfig, Key, IsBelow}
 use Rattle.config_text.specs.ConfigText.{config_text}
 use Rattle.evidence_base.specs.Made.{PlainCaseEvidence, IsConfigOf}
-use Rattle.regret_law.specs.Passes.{Passes}
+use Rattle.evidence_law.specs.Passes.{Passes}
 use Rattle.evidence_rules.specs.declared.rule.CheckRule.{CheckRule}
 use Rattle.evidence_rules.specs.declared.rule.CheckRule.TheVariants.{Cases, Walks, Ranks, Mixed, PrefRank, PrefStep, PrefLoop, PrefListener, Tags, ConfigDiffers}
 use Rattle.evidence_rules.specs.declared.verdict.Shown.{Shown}

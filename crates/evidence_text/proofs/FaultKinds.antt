@@ -8,8 +8,8 @@ use Rattle.net_base.specs.Prefixes.{PlainPrefix}
 use Rattle.net_base.specs.PrefixText.{prefix_spelled}
 use Rattle.net_base.specs.declared.prefix_text.PrefixFault.{PrefixFault}
 use Rattle.net_base.specs.Steps.{◌>>=◌, or_fault, unless}
-use Rattle.net_base.specs.declared.place.Field.{Field}
-use Rattle.net_base.specs.declared.place.Field.TheVariants as field
+use Rattle.evidence_text.specs.declared.parts.Field.{Field}
+use Rattle.evidence_text.specs.declared.parts.Field.TheVariants as field
 use Rattle.evidence_text.specs.declared.fault.EvidenceFault.{EvidenceFault}
 use Rattle.evidence_text.specs.declared.fault.EvidenceFault.TheVariants.{Shape, Number}
 use Rattle.evidence_text.specs.declared.raw.RawCase.{RawCase}

@@ -11,8 +11,8 @@ use Rattle.serde_json.specs.Data.{Data}
 use Rattle.serde_json.specs.Find.{as_number, as_bool, as_u64}
 use Rattle.json_words.specs.Json.{json_of}
 use Rattle.net_base.specs.Steps.{◌>>=◌, or_fault, unless}
-use Rattle.net_base.specs.declared.place.Field.{Field}
-use Rattle.net_base.specs.declared.place.Field.TheVariants as field
+use Rattle.evidence_text.specs.declared.parts.Field.{Field}
+use Rattle.evidence_text.specs.declared.parts.Field.TheVariants as field
 use Rattle.graph_base.specs.Graphs.{IsGraph}
 use Rattle.evidence_base.specs.Evidence.{IsCaseEvidence}
 use Rattle.evidence_text.specs.declared.fault.EvidenceFault.{EvidenceFault}

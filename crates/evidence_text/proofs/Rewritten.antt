@@ -15,8 +15,8 @@ use Rattle.serde_json.proofs.OnLiterals.{serde_json_on_literals}
 use Rattle.list_laws.proofs.Each.{AllByRecursion-weaker}
 use Rattle.net_base.specs.declared.loc.LocSet.{LocSet}
 use Rattle.json_words.specs.Json.{list_of as items_as_list}
-use Rattle.net_base.specs.declared.place.Field.{Field}
-use Rattle.net_base.specs.declared.place.Field.TheVariants as field
+use Rattle.evidence_text.specs.declared.parts.Field.{Field}
+use Rattle.evidence_text.specs.declared.parts.Field.TheVariants as field
 use Rattle.net_base.specs.declared.numbers.Tag.{Tag}
 use Rattle.net_base.specs.Prefixes.{PlainPrefix, IsPrefix}
 use Rattle.net_base.specs.Steps.{or_fault}

@@ -6,7 +6,7 @@ use Rattle.list_laws.proofs.Each.{AllByRecursion-map, AllByRecursion-weaker}
 use Rattle.serde_json.specs.Data.{Data}
 use Rattle.json_words.specs.Json.{json_of}
 use Rattle.net_base.specs.Steps.{◌>>=◌, or_fault, unless}
-use Rattle.net_base.specs.declared.place.Field.{Field}
+use Rattle.evidence_text.specs.declared.parts.Field.{Field}
 use Rattle.evidence_base.specs.Evidence.{IsCaseEvidence}
 use Rattle.evidence_base.specs.Made.{PlainCaseEvidence}
 use Rattle.evidence_text.specs.declared.fault.EvidenceFault.{EvidenceFault}

@@ -1,7 +1,8 @@
 -- The numbers of the faults, their words and their values.
 use Rattle.std.specs.Prelude.{ℕ, List, [], codes}
-use Rattle.net_base.specs.PlaceWords.{field_word}
 use Rattle.text_words.specs.Texts.{word_text}
+use Rattle.text_faults.specs.Telling.{Telling}
+use Rattle.evidence_text.specs.Parts.{field_word}
 use Rattle.evidence_text.specs.declared.fault.EvidenceFault.{EvidenceFault}
 use Rattle.evidence_text.specs.declared.fault.EvidenceFault.TheVariants.{NotJson, Shape, Number, Place, Version, NoMemory}
 
@@ -31,3 +32,7 @@ values_of (Number f) = word_text (field_word f)
 values_of Place = []
 values_of Version = []
 values_of NoMemory = []
+
+-- how each fault is told, and which one is want of memory
+abbrev pub told : Telling EvidenceFault
+told = record { number_of = number_of; word_of = word_of; values_of = values_of; no_memory = NoMemory }

@@ -3,7 +3,7 @@ use Rattle.std.specs.Prelude.{◌≡◌, ◌==◌, ℕ, true, false, map, List, 
 use Rattle.std.specs.List.{list_all}
 use Rattle.serde_json.specs.Data.{Data}
 use Rattle.json_words.specs.Json.{json_of}
-use Rattle.net_base.specs.declared.place.Field.{Field}
+use Rattle.evidence_text.specs.declared.parts.Field.{Field}
 use Rattle.evidence_base.specs.Made.{PlainCaseEvidence}
 use Rattle.evidence_text.specs.declared.fault.EvidenceFault.TheVariants.{Shape, Number}
 use Rattle.evidence_text.specs.declared.raw.RawEvidence.{RawEvidence}

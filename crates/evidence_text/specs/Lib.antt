@@ -2,6 +2,7 @@ pub mod Entries
 pub mod Faults
 pub mod Gives
 pub mod Laws
+pub mod Parts
 pub mod Ranges
 pub mod Shape
 pub mod Spelled

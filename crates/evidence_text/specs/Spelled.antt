@@ -2,7 +2,7 @@
 use Rattle.std.specs.Prelude.{ℕ, ◌==◌, ◌&&◌, nat_eq, nat_lt, Bool, length, map, List, Result, Ok}
 use Rattle.std.specs.List.{list_all, list_any}
 use Rattle.json_words.specs.Json.{json_of}
-use Rattle.net_base.specs.declared.place.Field.TheVariants as field
+use Rattle.evidence_text.specs.declared.parts.Field.TheVariants as field
 use Rattle.net_base.specs.Sets.{set_of}
 use Rattle.net_base.specs.Steps.{◌>>=◌, or_fault, unless}
 use Rattle.evidence_base.specs.Made.{PlainCaseEvidence}

@@ -1,7 +1,8 @@
 //! What is wrong with an evidence text.
-use net_base::Field;
+use crate::parts::Field;
 use outside::NoMemory;
 use std::alloc::{AllocError, AllocFailed};
+use text_faults::TextFault;
 use text_words::push_word;
 
 /// The rule that an evidence text breaks: of several the one that stands first here.
@@ -21,15 +22,12 @@ pub enum EvidenceFault {
     NoMemory,
 }
 
-impl EvidenceFault {
-    ghost use Rattle.std.specs.Prelude.{◌≡◌, ◌++◌, OnOk};
-    ghost use Rattle.evidence_text.specs.Faults.{number_of, word_of, values_of};
+impl TextFault for EvidenceFault {
+    ghost use Rattle.evidence_text.specs.Faults.{told};
 
-    /// The number of the fault, from 1 to 5: of several broken rules the one with the least number is told.
-    /// Want of memory has the number 0.
-    pub fn number(&self) -> u8
-        ensures { result ≡ number_of self.now }
-    {
+    ghost telling = { told };
+
+    fn number(&self) -> u8 {
         match self {
             EvidenceFault::NotJson => 1,
             EvidenceFault::Shape(_) => 2,
@@ -40,10 +38,7 @@ impl EvidenceFault {
         }
     }
 
-    /// The word of the fault.
-    pub fn word(&self) -> &'static [u8]
-        ensures { result.now ≡ word_of self.now }
-    {
+    fn word(&self) -> &'static [u8] {
         match self {
             EvidenceFault::NotJson => b"not-json",
             EvidenceFault::Shape(_) => b"shape",
@@ -54,10 +49,7 @@ impl EvidenceFault {
         }
     }
 
-    /// Adds the values of the fault, each after a space: the part of the text, where the fault names one.
-    pub fn push_values(&self, text: &mut Vec<u8>) -> Result<(), NoMemory>
-        ensures { OnOk result (text.new.items ≡ text.old.items ++ values_of self.now) }
-    {
+    fn push_values(&self, text: &mut Vec<u8>) -> Result<(), NoMemory> {
         match self {
             EvidenceFault::Shape(field) | EvidenceFault::Number(field) => {
                 push_word(text, field.word())
@@ -67,6 +59,10 @@ impl EvidenceFault {
             | EvidenceFault::Version
             | EvidenceFault::NoMemory => Ok(()),
         }
+    }
+
+    fn is_no_memory(&self) -> bool {
+        matches!(self, EvidenceFault::NoMemory)
     }
 }
 

@@ -11,11 +11,12 @@ ghost use Rattle.evidence_text.specs.Spelled.{evidence_of, is_placed as is_place
 ghost use Rattle.evidence_text.specs.Ranges.{HasRanges, IsReadCase};
 
 use crate::fault::EvidenceFault;
+use crate::parts::Field;
 use crate::raw::{NodeEntry, RawCase, RawEvidence, ReadCase, ReadText};
 use evidence_base::{CaseEvidence, Evidence};
 use graph_base::{Graph, MAX_NODES, Node, Prefs};
-use net_base::{Field, List, Loc, LocSet, Tag};
-use path_words::Case;
+use net_base::{List, Loc, LocSet, Tag};
+use policy_base::Case;
 use std::alloc::Global;
 
 // All of these, where none of them is out of its range.

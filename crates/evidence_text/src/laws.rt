@@ -10,7 +10,7 @@ ghost use Rattle.evidence_text.specs.Text.{evidence_text};
 ghost use Rattle.evidence_text.specs.Writable.{IsWritable};
 
 use crate::fault::EvidenceFault;
-use net_base::Field;
+use crate::parts::Field;
 
 /// A text is read exactly where it has the shape of evidence, its numbers are in their ranges, its starts and steps name
 /// nodes and its version is 1. What it spells keeps the rules of evidence.

@@ -5,11 +5,13 @@ mod fault;
 mod judge;
 pub mod laws;
 mod numbers;
+mod parts;
 mod print;
 mod raw;
 mod read;
 mod shape;
 
 pub use fault::EvidenceFault;
+pub use parts::Field;
 pub use print::print_evidence;
 pub use read::read_evidence;

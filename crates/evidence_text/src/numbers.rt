@@ -9,9 +9,10 @@ ghost use Rattle.evidence_text.specs.Gives.{Gives};
 ghost use Rattle.evidence_text.specs.Shape.{number_at as number_at_place, number_of};
 
 use crate::fault::EvidenceFault;
+use crate::parts::Field;
 use crate::raw::NodeEntry;
 use graph_base::Node;
-use net_base::{Field, Loc, Tag};
+use net_base::{Loc, Tag};
 use serde_json::Value;
 
 // The whole number that a JSON number is, where it is in the range.

@@ -1,7 +1,7 @@
 //! What an evidence text says, before it is judged.
 use graph_base::Node;
 use net_base::{List, Prefix, Tag};
-use path_words::Case;
+use policy_base::Case;
 
 /// A node with its preference number and its tag.
 #[derive(Clone, Copy)]

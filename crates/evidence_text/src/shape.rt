@@ -8,9 +8,10 @@ ghost use Rattle.evidence_text.specs.Shape.{are_in_order as in_order, ascend_fro
 
 use crate::fault::EvidenceFault;
 use crate::numbers::{Numbers, number, pair};
+use crate::parts::Field;
 use crate::raw::{NodeEntry, RawCase, RawEvidence};
 use json_words::{has, list, member_count};
-use net_base::{Field, List, Prefix, read_prefix};
+use net_base::{List, Prefix, read_prefix};
 use serde_json::Value;
 use std::alloc::Global;
 

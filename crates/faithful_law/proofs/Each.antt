@@ -2,9 +2,9 @@
 use Rattle.std.proofs.Common.{ℕ, Bool, inl, inr, ◌∙◌}
 use Rattle.net_base.specs.declared.loc.LocSet.{LocSet}
 use Rattle.net_base.specs.Network.{PlainNet}
-use Rattle.path_words.specs.Policies.{PlainStatement}
+use Rattle.policy_base.specs.Policies.{PlainStatement}
 use Rattle.graph_base.specs.Graphs.{PlainGraph, IsGraph}
-use Rattle.regret_law.specs.Faithful.{IsFaithful}
+use Rattle.evidence_law.specs.Faithful.{IsFaithful}
 use Rattle.relation_law.specs.Numbers.{AreNumbers}
 use Rattle.relation_law.specs.Relations.{IsGreatest, IsTotal}
 use Rattle.relation_law.specs.Rounds.{IsReach, left_after}

@@ -3,21 +3,22 @@ use Rattle.std.proofs.Common.{◌≡◌, ℕ, Bool, true, false, List, [], ◌�
 use Rattle.std.specs.Prelude.{not, is_some}
 use Rattle.std.proofs.lemmas.Bool.{and_from, and_parts, not-true, true≢false}
 use Rattle.net_base.specs.Network.{PlainNet, is_peer}
-use Rattle.path_words.specs.Policies.{PlainStatement}
-use Rattle.path_words.specs.Permitted.{from_holds}
+use Rattle.policy_base.specs.Policies.{PlainStatement}
+use Rattle.policy_base.specs.Permitted.{from_holds}
 use Rattle.graph_base.specs.Graphs.{PlainGraph, IsGraph}
 use Rattle.graph_base.specs.Rules.{MeetsRules}
 use Rattle.graph_base.specs.Runs.{is_start, place_of, rank_at, run}
 use Rattle.relation_law.specs.Evidence.{AreRanked}
-use Rattle.regret_law.specs.Faithful.{IsFaithful, may_start, permits}
+use Rattle.evidence_law.specs.Faithful.{IsFaithful, may_start, permits}
 use Rattle.graph_base.proofs.StartsAndSteps.{start_at-is}
 use Rattle.graph_base.proofs.RunSteps.{late_no_origin, run_begins}
-use Rattle.path_words.proofs.Peers.{peer_inside}
-use Rattle.path_words.proofs.WalkParts.{walk_parts}
-use Rattle.regret_law.proofs.PermittedWalks.{permits_parts}
+use Rattle.policy_base.proofs.Peers.{peer_inside}
+use Rattle.policy_base.proofs.WalkParts.{walk_parts}
+use Rattle.evidence_law.proofs.PermittedWalks.{permits_parts}
 
 -- the rules ask for ranks at claimed routers alone
-pub rules_claimed : (net : PlainNet) (One Other : ℕ → Type 0) (external : Bool) (g : PlainGraph) (number : ℕ → ℕ) → ((l : ℕ) → Other l → One l) → MeetsRules net One external g number → MeetsRules net Other external g number
+pub rules_claimed : (net : PlainNet) (One Other : ℕ → Type 0) (external : Bool) (g : PlainGraph) (number : ℕ → ℕ) → ((l : ℕ) → Other l → One l)
+    → MeetsRules net One external g number → MeetsRules net Other external g number
 rules_claimed net One Other external g number to rules = record {
   rank = λ m n i over claimed. rules.rank m n i over (to (place_of g n) claimed);
   step = rules.step;
@@ -27,7 +28,8 @@ rules_claimed net One Other external g number to rules = record {
 
 module _ (net : PlainNet) (s : PlainStatement) (origin : ℕ → Bool) (external : Bool) (g : PlainGraph) (graph_rules : IsGraph g) (faithful : IsFaithful net s origin external g) where
   -- a node at a peer at which a walk ends has the rank of that walk, since nothing stands in front of a peer
-  peer_ranked : (n : ℕ) → is_peer net (place_of g n) ≡ true → is_start g n ≡ false → (path above : List ℕ) → run g path ≡ Some n → permits net origin s (above ++ path) ≡ true → is_some (rank_at g n) ≡ true
+  peer_ranked : (n : ℕ) → is_peer net (place_of g n) ≡ true → is_start g n ≡ false → (path above : List ℕ) → run g path ≡ Some n
+      → permits net origin s (above ++ path) ≡ true → is_some (rank_at g n) ≡ true
   peer_ranked n peer late [] above h permitted = absurd cc
   peer_ranked n peer late (l ∷ []) above h permitted = absurd (true≢false (sym (start_at-is g l n h).0 ∙ late))
   peer_ranked n peer late (l ∷ k ∷ ls) [] h permitted =

@@ -4,17 +4,17 @@ use Rattle.std.specs.Prelude.{◌&&◌, not, is_some, option_and_then}
 use Rattle.std.proofs.lemmas.Bool.{cases_Bool, both_ways}
 use Rattle.net_base.specs.declared.loc.LocSet.{LocSet}
 use Rattle.net_base.specs.Network.{PlainNet, is_peer}
-use Rattle.path_words.specs.Policies.{PlainStatement}
+use Rattle.policy_base.specs.Policies.{PlainStatement}
 use Rattle.graph_base.specs.Graphs.{PlainGraph, IsGraph}
 use Rattle.graph_base.specs.Rules.{IsWellFormed}
 use Rattle.graph_base.specs.Runs.{place_of, is_listener, rank_at, is_start, has_step, step_at, run, IsTrail, Reaches}
 use Rattle.relation_law.specs.Views.{view_of}
-use Rattle.regret_law.specs.Faithful.{IsFaithful, may_start}
+use Rattle.evidence_law.specs.Faithful.{IsFaithful, may_start}
 use Rattle.graph_base.proofs.RunSteps.{run_begins, run_inside}
 use Rattle.graph_base.proofs.StartsAndSteps.{step_at-is}
 use Rattle.graph_base.proofs.WellFormed.{step_at-of}
 use Rattle.list_laws.proofs.Options.{is_some_parts, option_and_then_parts}
-use Rattle.regret_law.proofs.RunWalks.{runs_are_walks}
+use Rattle.evidence_law.proofs.RunWalks.{runs_are_walks}
 use Rattle.faithful_law.specs.Alike.{IsAlike, EndBoth}
 
 pub turned : (g q : PlainGraph) (a m : ℕ) → EndBoth g q a m → EndBoth q g m a

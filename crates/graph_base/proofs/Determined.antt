@@ -31,7 +31,8 @@ start_at-start g n one h = found g.starts one h
 abbrev pub landing : PlainGraph → ℕ × ℕ → ℕ × ℕ
 landing g s = (s.0, place_of g s.1)
 
-step_apart : (g : PlainGraph) (p : ℕ × ℕ) (m n : ℕ) (steps : List (ℕ × ℕ)) → AllByRecursion (λ q. same_pair p q ≡ false) (map (landing g) steps) → list_any (λ (s : ℕ × ℕ). eqb s.0 m && eqb s.1 n) steps ≡ true →
+step_apart : (g : PlainGraph) (p : ℕ × ℕ) (m n : ℕ) (steps : List (ℕ × ℕ)) → AllByRecursion (λ q. same_pair p q ≡ false) (map (landing g) steps)
+    → list_any (λ (s : ℕ × ℕ). eqb s.0 m && eqb s.1 n) steps ≡ true →
     (eqb p.0 m && eqb p.1 (place_of g n)) ≡ false
 step_apart g p m n [] all h = absurd (cc)
 step_apart g p m n (s ∷ ss) all h = elim (or_cases (eqb s.0 m && eqb s.1 n) _ h) [

@@ -28,7 +28,8 @@ pub least_is_least : (n : ℕ) (p : ℕ → Bool) (k j : ℕ) → least_below n 
 least_is_least zero p k j h lt e = absurd (omega (arith, lt))
 least_is_least (suc n) p k j h lt e = by (least_below n p) (least_is_least n p) (least_passes n p) (least_exists n p j) (p n) h
   where
-    by : (o : Option ℕ) → ((k j : ℕ) → o ≡ Some k → j < n → p j ≡ true → k ≤ j) → ((k : ℕ) → o ≡ Some k → (k < n) × (p k ≡ true)) → (j < n → p j ≡ true → (i : ℕ) × (o ≡ Some i)) → (b : Bool) → or_else o b n ≡ Some k → k ≤ j
+    by : (o : Option ℕ) → ((k j : ℕ) → o ≡ Some k → j < n → p j ≡ true → k ≤ j) → ((k : ℕ) → o ≡ Some k → (k < n) × (p k ≡ true))
+        → (j < n → p j ≡ true → (i : ℕ) × (o ≡ Some i)) → (b : Bool) → or_else o b n ≡ Some k → k ≤ j
     by (Some i) low passes some b h = elim (cases_lt j n) [
       | inl t ↦ low k j h t e
       | inr t ↦ (let under = (passes k h).0 in omega (arith, under, t))

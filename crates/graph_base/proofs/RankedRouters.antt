@@ -25,7 +25,8 @@ module _ (net : PlainNet) (g : PlainGraph) (i : ℕ) (node : Node) (place : plac
   later : (x : ℕ) → IsTrue (is_router net x) × ((n : ℕ) × IsRankedBelow g i x n) → IsTrue (is_router net x) × ((n : ℕ) × IsRankedBelow g (suc i) x n)
   later x h = (h.0, (h.1.0, (omega (arith, h.1.1.0), h.1.1.1, h.1.1.2)))
 
-  pub with_ranked : (before after : LocSet) → (is_router net node.loc && is_some node.rank) ≡ true → AreRankedBelow net g i before → ((x : ℕ) → holds after x ≡ (holds before x || eqb x node.loc)) → AreRankedBelow net g (suc i) after
+  pub with_ranked : (before after : LocSet) → (is_router net node.loc && is_some node.rank) ≡ true → AreRankedBelow net g i before
+      → ((x : ℕ) → holds after x ≡ (holds before x || eqb x node.loc)) → AreRankedBelow net g (suc i) after
   with_ranked before after met are more x = (there, back)
     where
       there : IsTrue (holds after x) → IsTrue (is_router net x) × ((n : ℕ) × IsRankedBelow g (suc i) x n)

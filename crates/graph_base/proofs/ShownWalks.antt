@@ -50,7 +50,9 @@ module _ (g : PlainGraph) (entered : IsEnteredFromBefore g) where
   walk_shown : (fuel n : ℕ) → n < length g.nodes → n < fuel → IsShownWalk g n (walk_within g fuel n)
   walk_shown zero n lt less = absurd (omega (arith, less))
   walk_shown (suc fuel) n lt less = elim (cases_Bool (is_start g n)) [
-    | inl start ↦ subst (IsShownWalk g n) (sym (cond-true (is_start g n) (place_of g n ∷ []) (place_of g n ∷ option_map_or (walk_within g fuel) (least_below n (λ m. has_step g m n)) []) start)) (start, refl)
+    | inl start ↦
+        subst (IsShownWalk g n) (sym (cond-true (is_start g n) (place_of g n ∷ [])
+        (place_of g n ∷ option_map_or (walk_within g fuel) (least_below n (λ m. has_step g m n)) []) start)) (start, refl)
     | inr off ↦ (
         let there = before_inner g n entered lt off in
         let some = least_exists n (λ m. has_step g m n) there.0 there.1 there.2 in

@@ -18,7 +18,8 @@ pub record IsLeast (steps : List (ℕ × ℕ)) (n first : ℕ) : Type 0 where
   pub least : (m : ℕ) → leads steps m n ≡ true → first ≤ m
 
 -- where a node with a lesser number steps to n, that is the first node before n
-pub least_first : (g : PlainGraph) (steps : List (ℕ × ℕ)) (i n first : ℕ) → steps ≡ g.steps → length steps ≤ i → IsLeast (take i g.steps) n first → (m : ℕ) × (m < n) × (has_step g m n ≡ true) → (first < n) × IsFirstBefore g first n
+pub least_first : (g : PlainGraph) (steps : List (ℕ × ℕ)) (i n first : ℕ) → steps ≡ g.steps → length steps ≤ i → IsLeast (take i g.steps) n first
+    → (m : ℕ) × (m < n) × (has_step g m n ≡ true) → (first < n) × IsFirstBefore g first n
 least_first g steps i n first whole done part lesser =
     let l : IsLeast g.steps n first = rw (take_all i g.steps (omega (arith, ap length whole, done))) at part in
     let below : first < n = omega (arith, l.least lesser.0 lesser.2, lesser.1) in

@@ -14,7 +14,8 @@ pub linked_parts : (net : PlainNet) (g : PlainGraph) (m n : ℕ) → (linked net
 linked_parts net g m n h = let parts = and_parts (linked net (place_of g m) (place_of g n)) (not (is_start g n)) h in (parts.0, not-true _ parts.1)
 
 -- a step into a peer is one to a node that hears
-pub heard_at_peers : (net : PlainNet) (origin : ℕ → Bool) (external : Bool) (g : PlainGraph) → IsGraph g → IsWellFormed net origin external g → (m n : ℕ) → has_step g m n ≡ true → is_peer net (place_of g n) ≡ true
+pub heard_at_peers : (net : PlainNet) (origin : ℕ → Bool) (external : Bool) (g : PlainGraph) → IsGraph g → IsWellFormed net origin external g
+    → (m n : ℕ) → has_step g m n ≡ true → is_peer net (place_of g n) ≡ true
     → is_listener g n ≡ true
 heard_at_peers net origin external g rules formed m n step peer =
     let no_start = (linked_parts net g m n (formed.links m n step)).1 in

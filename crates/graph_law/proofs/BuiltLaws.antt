@@ -5,10 +5,10 @@ use Rattle.list_laws.proofs.Options.{is_some_parts}
 use Rattle.list_laws.proofs.Truth.{same_tests}
 use Rattle.net_base.specs.Network.{PlainNet, IsNet}
 use Rattle.graph_base.specs.Runs.{run}
-use Rattle.regret_law.specs.Faithful.{is_run_path}
+use Rattle.evidence_law.specs.Faithful.{is_run_path}
 use Rattle.standings.specs.Built.{node_of, graph_over}
 use Rattle.path_exprs.specs.Standings.{Plan, Standing, AreStandings}
-use Rattle.case_law.specs.Origins.{AreOrigins}
+use Rattle.policy_base.specs.CaseOrigins.{AreOrigins}
 use Rattle.graph_law.specs.Ways.{standing_after, stays_alive}
 use Rattle.graph_law.proofs.RunPaths.{goes_from_run_path, run_path_from_places}
 use Rattle.graph_law.proofs.WellBuilt.{well_formed}

@@ -9,7 +9,7 @@ use Rattle.path_exprs.specs.Runs.{start_of}
 use Rattle.graph_base.specs.Runs.{place_of, is_start, has_step}
 use Rattle.standings.specs.Built.{graph_over}
 use Rattle.path_exprs.specs.Standings.{Plan, Standing, AreStandings, starts, moved, may_go, is_dead}
-use Rattle.case_law.specs.Origins.{AreOrigins}
+use Rattle.policy_base.specs.CaseOrigins.{AreOrigins}
 use Rattle.graph_law.specs.Ways.{left_after, standing_after, stays_alive}
 use Rattle.graph_law.proofs.Left.{left_after-more}
 use Rattle.graph_law.proofs.Targets.{next_from_In, In-starts, In-targets}
@@ -19,7 +19,7 @@ use Rattle.graph_law.proofs.Nodes.{place_at, start_at_front, start_below, start_
 use Rattle.graph_law.proofs.WellBuilt.{goes_parts, start_at_origin, entered}
 use Rattle.graph_base.proofs.RunSteps.{RunsTo, IsInside}
 use Rattle.net_base.proofs.Links.{linked_flips, linked_known}
-use Rattle.case_law.proofs.Origins.{origins_known}
+use Rattle.policy_base.proofs.KnownCases.{origins_known}
 
 -- a standing that is moved to l is what is left there after the path
 moved-after : (net : PlainNet) (plan : Plan) (l : ℕ) (ls : List ℕ) → moved (left_after net plan ls) l ≡ standing_after net plan l ls

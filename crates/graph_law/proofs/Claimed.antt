@@ -4,23 +4,23 @@ use Rattle.std.specs.Prelude.{◌↔◌, ◌&&◌, not, is_some}
 use Rattle.std.proofs.lemmas.Bool.{and_parts, and_from, cases_Bool, not-true, or_left, true≢false}
 use Rattle.net_base.specs.Network.{PlainNet, is_peer, is_router}
 use Rattle.net_base.specs.Sets.{holds}
-use Rattle.path_words.specs.declared.case.Case.{Case}
-use Rattle.path_words.specs.Policies.{PlainStatement}
-use Rattle.path_words.specs.Meaning.{at_first, rank_of}
-use Rattle.path_words.specs.Permitted.{from_holds}
+use Rattle.policy_base.specs.declared.case.Case.{Case}
+use Rattle.policy_base.specs.Policies.{PlainStatement}
+use Rattle.policy_base.specs.Meaning.{at_first, rank_of}
+use Rattle.policy_base.specs.Permitted.{from_holds}
 use Rattle.graph_base.specs.Graphs.{PlainGraph, IsGraph}
 use Rattle.graph_base.specs.Ranked.{IsRankedAt, IsRankedRouter}
 use Rattle.graph_base.specs.Runs.{is_listener, is_start, place_of, rank_at, run}
-use Rattle.regret_law.specs.Faithful.{IsFaithful, is_walk_to, may_start, permits}
-use Rattle.regret_law.specs.Passes.{IsClaimed}
-use Rattle.path_words.proofs.Peers.{peer_inside}
+use Rattle.evidence_law.specs.Faithful.{IsFaithful, is_walk_to, may_start, permits}
+use Rattle.evidence_law.specs.Passes.{IsClaimed}
+use Rattle.policy_base.proofs.Peers.{peer_inside}
 use Rattle.list_laws.proofs.Options.{is_some_parts}
 use Rattle.graph_base.proofs.RunSteps.{late_no_origin, run_begins, run_inside}
 use Rattle.graph_base.proofs.StartsAndSteps.{start_at-is}
-use Rattle.regret_law.proofs.RunWalks.{runs_are_walks}
+use Rattle.evidence_law.proofs.RunWalks.{runs_are_walks}
 use Rattle.graph_law.proofs.RunPaths.{walk-from_run_path}
-use Rattle.path_words.proofs.WalkParts.{walk_parts}
-use Rattle.regret_law.proofs.PermittedWalks.{permits_parts}
+use Rattle.policy_base.proofs.WalkParts.{walk_parts}
+use Rattle.evidence_law.proofs.PermittedWalks.{permits_parts}
 
 module _ (net : PlainNet) (s : PlainStatement) (c : Case) (g : PlainGraph) (graph_rules : IsGraph g) (faithful : IsFaithful net s (holds c.origins) c.external g) where
   abbrev Origin : ℕ → Bool
@@ -86,7 +86,8 @@ module _ (net : PlainNet) (s : PlainStatement) (c : Case) (g : PlainGraph) (grap
   )
 
   -- a node at a peer at which a walk ends has the rank of that walk, since nothing stands in front of a peer
-  peer_ranked : (n : ℕ) → is_peer net (place_of g n) ≡ true → is_start g n ≡ false → (path above : List ℕ) → run g path ≡ Some n → permits net Origin s (above ++ path) ≡ true → is_some (rank_at g n) ≡ true
+  peer_ranked : (n : ℕ) → is_peer net (place_of g n) ≡ true → is_start g n ≡ false → (path above : List ℕ) → run g path ≡ Some n
+      → permits net Origin s (above ++ path) ≡ true → is_some (rank_at g n) ≡ true
   peer_ranked n peer late [] above h permitted = absurd cc
   peer_ranked n peer late (l ∷ []) above h permitted = absurd (true≢false (sym (start_at-is g l n h).0 ∙ late))
   peer_ranked n peer late (l ∷ k ∷ ls) [] h permitted =

@@ -2,10 +2,10 @@
 use Rattle.std.proofs.Common.{◌≡◌, ℕ, ◌+◌, ◌≤◌, List, [], ◌∷◌, length, map, refl, sym, ap, ap₂, subst, ◌∙◌, length-append}
 use Rattle.std.specs.List.{flat_map}
 use Rattle.std.proofs.lemmas.List.{length-map}
-use Rattle.net_base.specs.declared.limits.TheConstants.{NODES}
+use Rattle.path_exprs.specs.declared.limits.TheConstants.{NODES}
 use Rattle.net_base.specs.Network.{PlainNet}
-use Rattle.path_words.specs.declared.case.Case.{Case}
-use Rattle.path_words.specs.Policies.{PlainStatement}
+use Rattle.policy_base.specs.declared.case.Case.{Case}
+use Rattle.policy_base.specs.Policies.{PlainStatement}
 use Rattle.path_exprs.specs.Standings.{IsWalked, Plan, Standing, plan_for, targets}
 use Rattle.graph_base.specs.Graphs.{PlainGraph}
 use Rattle.standings.specs.Built.{place_in, steps_from}

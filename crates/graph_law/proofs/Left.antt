@@ -5,7 +5,7 @@ use Rattle.std.proofs.lemmas.Bool.{and_parts, and_from, false_from_ne_true}
 use Rattle.std.proofs.lemmas.List.{reverse-append}
 use Rattle.std.proofs.lemmas.Option.{none-some}
 use Rattle.net_base.specs.Network.{PlainNet}
-use Rattle.path_words.specs.Meaning.{place_of}
+use Rattle.policy_base.specs.Meaning.{place_of}
 use Rattle.path_exprs.specs.Expression.{Expression, never}
 use Rattle.path_exprs.specs.Membership.{member}
 use Rattle.path_exprs.specs.Derivative.{derivative}

@@ -4,9 +4,9 @@ use Rattle.std.specs.List.{list_all}
 use Rattle.std.proofs.lemmas.Bool.{and_parts, and_from, false≢true, not_from_false}
 use Rattle.std.proofs.lemmas.List.{reverse-append, reverse-reverse}
 use Rattle.net_base.specs.Network.{PlainNet, IsNet, is_location}
-use Rattle.path_words.specs.Policies.{Ranking}
-use Rattle.path_words.specs.Meaning.{rank_of}
-use Rattle.path_words.specs.Permitted.{from_holds}
+use Rattle.policy_base.specs.Policies.{Ranking}
+use Rattle.policy_base.specs.Meaning.{rank_of}
+use Rattle.policy_base.specs.Permitted.{from_holds}
 use Rattle.net_base.specs.NetSets.{locations}
 use Rattle.path_exprs.specs.Runs.{first_with}
 use Rattle.net_base.proofs.NetSetLaws.{all_held}

@@ -4,11 +4,11 @@ use Rattle.std.specs.List.{list_any}
 use Rattle.std.proofs.lemmas.Bool.{and_parts, and_from, or_cases, or_parts, or_from, or_left, or_right, not-true, not_from_false, false≢true}
 use Rattle.net_base.specs.Network.{PlainNet, is_location, is_peer, is_router, linked}
 use Rattle.net_base.proofs.RoutersAndPeers.{router_or_peer}
-use Rattle.path_words.specs.Meaning.{at_last, front}
-use Rattle.path_words.specs.Walks.{is_walk, steps_linked}
-use Rattle.path_words.specs.Permitted.{ends_at_origin}
-use Rattle.regret_law.specs.Faithful.{is_walk_to, is_run_path}
-use Rattle.case_law.specs.Origins.{AreOrigins}
+use Rattle.policy_base.specs.Meaning.{at_last, front}
+use Rattle.policy_base.specs.Walks.{is_walk, steps_linked}
+use Rattle.policy_base.specs.Permitted.{ends_at_origin}
+use Rattle.evidence_law.specs.Faithful.{is_walk_to, is_run_path}
+use Rattle.policy_base.specs.CaseOrigins.{AreOrigins}
 
 -- a walk to an origin that no other place is, or an origin alone
 abbrev pub GoesTo : PlainNet → (ℕ → Bool) → List ℕ → Type 0

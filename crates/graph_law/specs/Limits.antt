@@ -1,10 +1,11 @@
 -- When the graph of a case is within the limits.
 use Rattle.std.specs.Prelude.{ℕ, ◌≤◌, length}
-use Rattle.net_base.specs.declared.limits.TheConstants.{ALTERNATIVES, NODES}
+use Rattle.policy_base.specs.declared.limits.TheConstants.{ALTERNATIVES}
+use Rattle.path_exprs.specs.declared.limits.TheConstants.{NODES}
 use Rattle.net_base.specs.Network.{PlainNet}
-use Rattle.path_words.specs.declared.case.Case.{Case}
-use Rattle.path_words.specs.Meaning.{alternative_count}
-use Rattle.path_words.specs.Policies.{PlainStatement}
+use Rattle.policy_base.specs.declared.case.Case.{Case}
+use Rattle.policy_base.specs.Meaning.{alternative_count}
+use Rattle.policy_base.specs.Policies.{PlainStatement}
 use Rattle.path_exprs.specs.Standings.{plan_for}
 use Rattle.graph_base.specs.Graphs.{PlainGraph}
 use Rattle.standings.specs.Built.{IsBuilt}

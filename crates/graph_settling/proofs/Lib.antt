@@ -5,3 +5,4 @@ pub mod Rounds
 pub mod Stages
 pub mod Tables
 pub mod Taking
+pub mod FrontLaws

@@ -37,9 +37,16 @@ module _ (net : PlainNet) (g : PlainGraph) (numbers : List ℕ) (wanted : List (
   Wants l t = entry_at wanted l ≡ Some (number_in numbers t)
 
   -- more steps change nothing at a location to which none of them leads that is wanted
-  pub unmoved : (old new : ℕ → ℕ → Bool) (l : ℕ) (o : Option Offer) → ((f t : ℕ) → old f t ≡ true → new f t ≡ true) → ((f t : ℕ) → new f t ≡ true → place_of g t ≡ l → Wants l t → old f t ≡ true) → Lowest old l o → Lowest new l o
+  pub unmoved : (old new : ℕ → ℕ → Bool) (l : ℕ) (o : Option Offer) → ((f t : ℕ) → old f t ≡ true → new f t ≡ true)
+      → ((f t : ℕ) → new f t ≡ true → place_of g t ≡ l → Wants l t → old f t ≡ true) → Lowest old l o → Lowest new l o
   unmoved old new l None more back none = λ f t step place number. none f t (back f t step place number) place number
-  unmoved old new l (Some o) more back is = record { step = more o.from o.to is.step; place = is.place; number = is.number; least = λ f t step place number. is.least f t (back f t step place number) place number }
+  unmoved old new l (Some o) more back is =
+      record {
+        step = more o.from o.to is.step;
+        place = is.place;
+        number = is.number;
+        least = λ f t step place number. is.least f t (back f t step place number) place number;
+      }
 
   -- tests that say the same
   pub same_lowest : (old new : ℕ → ℕ → Bool) (offers : List (Option Offer)) → ((f t : ℕ) → old f t ≡ new f t) → AreLowest net g numbers wanted old offers → AreLowest net g numbers wanted new offers
@@ -106,11 +113,14 @@ module _ (net : PlainNet) (g : PlainGraph) (numbers : List ℕ) (wanted : List (
       each = λ l less. elim (cases_eq l at) [
         | inl here ↦ subst (λ k. Lowest (more passes from to) k (entry_at (set offers at (Some (record { from = from; to = to }))) k)) (sym here)
             (subst (Lowest (more passes from to) at) (sym (get_or-set_same offers at (Some (record { from = from; to = to })) None (omega (arith, low, are.size)))) taken)
-        | inr there ↦ subst (Lowest (more passes from to) l) (sym (get_or-set_other offers at l (Some (record { from = from; to = to })) None there)) (elsewhere l (entry_at offers l) (inl (λ e. there (sym e))) (are.each l less))
+        | inr there ↦
+            subst (Lowest (more passes from to) l) (sym (get_or-set_other offers at l (Some (record { from = from; to = to })) None there))
+            (elsewhere l (entry_at offers l) (inl (λ e. there (sym e))) (are.each l less))
       ];
     }
       where
-        before : (o : Option Offer) → is_lower net g from o ≡ true → Lowest passes at o → (f t : ℕ) → passes f t ≡ true → place_of g t ≡ at → Wants at t → id_of net (place_of g from) ≤ id_of net (place_of g f)
+        before : (o : Option Offer) → is_lower net g from o ≡ true → Lowest passes at o → (f t : ℕ) → passes f t ≡ true → place_of g t ≡ at
+            → Wants at t → id_of net (place_of g from) ≤ id_of net (place_of g f)
         before None lower none f t step place number = absurd (none f t step place number)
         before (Some o) lower is f t step place number = omega (arith, is.least f t step place number, ltb-true _ _ lower)
 
@@ -148,10 +158,12 @@ module _ (net : PlainNet) (g : PlainGraph) (numbers : List ℕ) (wanted : List (
         }
 
 -- offers come from nodes still
-pub of_nodes_there : (g : PlainGraph) (offers : List (Option Offer)) (at from to : ℕ) → at < length offers → from < length g.nodes → AreOfNodes g offers → AreOfNodes g (set offers at (Some (record { from = from; to = to })))
+pub of_nodes_there : (g : PlainGraph) (offers : List (Option Offer)) (at from to : ℕ) → at < length offers → from < length g.nodes
+    → AreOfNodes g offers → AreOfNodes g (set offers at (Some (record { from = from; to = to })))
 of_nodes_there g offers at from to low node are l o is = elim (cases_eq l at) [
   | inl here ↦ (
-      let e : Some (record { from = from; to = to }) ≡ Some o = sym (get_or-set_same offers at (Some (record { from = from; to = to })) None low) ∙ ap (entry_at (set offers at (Some (record { from = from; to = to })))) (sym here) ∙ is in
+      let e : Some (record { from = from; to = to }) ≡ Some o = sym (get_or-set_same offers at (Some (record { from = from; to = to })) None low)
+      ∙ ap (entry_at (set offers at (Some (record { from = from; to = to })))) (sym here) ∙ is in
       let same : record { from = from; to = to } ≡ o = cc in
       subst (λ (x : Offer). x.from < length g.nodes) same node)
   | inr there ↦ are l o (sym (get_or-set_other offers at l (Some (record { from = from; to = to })) None there) ∙ is)

@@ -62,7 +62,8 @@ module _ (net : PlainNet) (g : PlainGraph) (numbers : List ℕ) (choosers : LocS
 
   -- ---- so the best of what is led to are the best nodes
 
-  pub tops : (marked : ℕ → Bool) (best : List (Option ℕ)) → ((n : ℕ) → n < length g.nodes → (marked n ≡ true) ↔ LeadsFrom Forward g g.starts n) → AreBest g numbers marked (length g.nodes) best → Tops w
+  pub tops : (marked : ℕ → Bool) (best : List (Option ℕ)) → ((n : ℕ) → n < length g.nodes → (marked n ≡ true) ↔ LeadsFrom Forward g g.starts n)
+      → AreBest g numbers marked (length g.nodes) best → Tops w
   tops marked best exact are = record {
     top = entry_at best;
     is_reached = λ v n e.
@@ -76,6 +77,8 @@ module _ (net : PlainNet) (g : PlainGraph) (numbers : List ℕ) (choosers : LocS
         (b.0, ap (entry_at best) (sym at) ∙ b.1, omega (arith, b.2, ground.number m, ground.number b.0));
   }
 
-  pub tops-top : (marked : ℕ → Bool) (best : List (Option ℕ)) (exact : (n : ℕ) → n < length g.nodes → (marked n ≡ true) ↔ LeadsFrom Forward g g.starts n) (are : AreBest g numbers marked (length g.nodes) best) (v : ℕ) → (tops marked best exact are).top v ≡ entry_at best v
+  pub tops-top : (marked : ℕ → Bool) (best : List (Option ℕ))
+      (exact : (n : ℕ) → n < length g.nodes → (marked n ≡ true) ↔ LeadsFrom Forward g g.starts n)
+      (are : AreBest g numbers marked (length g.nodes) best) (v : ℕ) → (tops marked best exact are).top v ≡ entry_at best v
   unfolding tops
   tops-top marked best exact are v = refl

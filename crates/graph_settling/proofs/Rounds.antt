@@ -17,8 +17,8 @@ use Rattle.routing_law.specs.Settling.{Tops, has_number, rounds}
 use Rattle.routing_law.proofs.Rounds.{backed_at, kept_on}
 use Rattle.routing_law.proofs.Runs.{node_below, place_below, run_place}
 use Rattle.routing_law.proofs.Sound.{sound_of}
-use Rattle.settling_law.specs.Fronts.{IsFirstOf, gives, is_fresh, next_route, stepped}
-use Rattle.settling_law.proofs.Fronts.{end_of_fronts, next_by_front}
+use Rattle.graph_settling.specs.ByFronts.{IsFirstOf, gives, is_fresh, next_route, stepped}
+use Rattle.graph_settling.proofs.FrontLaws.{end_of_fronts, next_by_front}
 use Rattle.graph_settling.specs.declared.offers.Offer.{Offer}
 use Rattle.graph_settling.specs.declared.settled.Settled.{Settled}
 use Rattle.graph_base.specs.Preferences.{number_in}
@@ -92,7 +92,9 @@ module _ (net : PlainNet) (g : PlainGraph) (numbers : List ℕ) (choosers : LocS
 
   pub opening_wanted : (v : ℕ) (o : Option ℕ) → o ≡ cond (holds choosers v) (option_map (number_in numbers) (t.top v)) None → o ≡ wanted_in w t zero v
   opening_wanted v o is = is ∙ elim (cases_Bool (holds choosers v)) [
-    | inr off ↦ ap (λ b. cond b (option_map (number_in numbers) (t.top v)) None) off ∙ sym (ap (λ b. cond (b && is_none (rounds w t.top zero v)) (option_map w.graph.number (t.top v)) None) (ground.choice v ∙ off))
+    | inr off ↦
+        ap (λ b. cond b (option_map (number_in numbers) (t.top v)) None) off
+        ∙ sym (ap (λ b. cond (b && is_none (rounds w t.top zero v)) (option_map w.graph.number (t.top v)) None) (ground.choice v ∙ off))
     | inl on ↦ (
         let c = ground.choice v ∙ on in
         let both : (chooses w.net w.alive v && is_none (rounds w t.top zero v)) ≡ true = and_from _ _ c (ap is_none (chooser_starts v c)) in
@@ -183,8 +185,12 @@ module _ (net : PlainNet) (g : PlainGraph) (numbers : List ℕ) (choosers : LocS
         let s = option_map_parts (λ n. record { path = v ∷ x.0.path; node = n }) (w.graph.next x.0.node v) y.0 x.2 in
         let from = (node_there k u x.0 x.1).0 in
         let to : w.graph.place s.0 ≡ v = ground.formed.next_place x.0.node v s.0 s.1 in
-        let among : is_among front x.0.node ≡ true = (are.nodes x.0.node).1 (record { route = x.0; fresh = ap (is_fresh w t.top k) from ∙ parts.0; holds = ap (rounds w t.top k) from ∙ x.1; node = refl }) in
-        let step : has_step g x.0.node s.0 ≡ true = (ground.steps x.0.node s.0).1 (ap (λ l. w.alive.carries l (w.graph.place s.0)) from ∙ ap (w.alive.carries u) to ∙ on.0, ap (w.graph.next x.0.node) to ∙ s.1) in
+        let among : is_among front x.0.node ≡ true =
+        (are.nodes x.0.node).1
+        (record { route = x.0; fresh = ap (is_fresh w t.top k) from ∙ parts.0; holds = ap (rounds w t.top k) from ∙ x.1; node = refl }) in
+        let step : has_step g x.0.node s.0 ≡ true =
+        (ground.steps x.0.node s.0).1
+        (ap (λ l. w.alive.carries l (w.graph.place s.0)) from ∙ ap (w.alive.carries u) to ∙ on.0, ap (w.graph.next x.0.node) to ∙ s.1) in
         let node : s.0 ≡ y.0.node = ap (λ (r : Route). r.node) s.2 in (
           x.0.node,
           s.0,
@@ -232,7 +238,8 @@ module _ (net : PlainNet) (g : PlainGraph) (numbers : List ℕ) (choosers : LocS
                 omega (arith, least, one, other),
           )
 
-      after : (o : Option Offer) → IsLowestOrNone net g numbers wanted passes v o → rounds w t.top (suc k) v ≡ option_and_then (stepped w (rounds w t.top k) v) (option_map (λ (x : Offer). w.graph.place x.from) o)
+      after : (o : Option Offer) → IsLowestOrNone net g numbers wanted passes v o
+          → rounds w t.top (suc k) v ≡ option_and_then (stepped w (rounds w t.top k) v) (option_map (λ (x : Offer). w.graph.place x.from) o)
       after o is = next_by_front w t ground.formed ground.differ k v n c none top (option_map (λ (x : Offer). w.graph.place x.from) o) (first_of o is)
 
     -- a location goes on as it is, or takes its offer
@@ -261,7 +268,12 @@ module _ (net : PlainNet) (g : PlainGraph) (numbers : List ℕ) (choosers : LocS
 
     moved : (v : ℕ) → Stays v ⊎ Takes v
     moved v = elim (cases_Option (rounds w t.top k v)) [
-      | inr x ↦ inl (unoffered v (are.waits v ∙ ap (λ b. cond b (option_map w.graph.number (t.top v)) None) (and_right (chooses w.net w.alive v) _ (ap is_none x.1))), kept_on w t k v x.0 x.1 ∙ sym x.1)
+      | inr x ↦
+          inl (
+            unoffered v (are.waits v
+                ∙ ap (λ b. cond b (option_map w.graph.number (t.top v)) None) (and_right (chooses w.net w.alive v) _ (ap is_none x.1))),
+            kept_on w t k v x.0 x.1 ∙ sym x.1,
+          )
       | inl none ↦ elim (cases_Bool (chooses w.net w.alive v)) [
         | inr off ↦ inl (unoffered v (are.waits v ∙ ap (λ b. cond (b && is_none (rounds w t.top k v)) (option_map w.graph.number (t.top v)) None) off), rw (none, off) refl)
         | inl c ↦ elim (cases_Option (t.top v)) [
@@ -299,8 +311,12 @@ module _ (net : PlainNet) (g : PlainGraph) (numbers : List ℕ) (choosers : LocS
 
       next_wanted : (v : ℕ) → entry_at left v ≡ wanted_in w t (suc k) v
       next_wanted v = round.waits v ∙ elim (moved v) [
-        | inl stays ↦ ap (λ o. cond (is_some o) None (entry_at wanted v)) stays.0 ∙ are.waits v ∙ ap (λ o. cond (chooses w.net w.alive v && is_none o) (option_map w.graph.number (t.top v)) None) (sym stays.1)
-        | inr takes ↦ ap (λ o. cond (is_some o) None (entry_at wanted v)) takes.offer ∙ sym (ap (λ b. cond b (option_map w.graph.number (t.top v)) None) (and_right (chooses w.net w.alive v) _ (ap is_none takes.settled)))
+        | inl stays ↦
+            ap (λ o. cond (is_some o) None (entry_at wanted v)) stays.0 ∙ are.waits v
+            ∙ ap (λ o. cond (chooses w.net w.alive v && is_none o) (option_map w.graph.number (t.top v)) None) (sym stays.1)
+        | inr takes ↦
+            ap (λ o. cond (is_some o) None (entry_at wanted v)) takes.offer
+            ∙ sym (ap (λ b. cond b (option_map w.graph.number (t.top v)) None) (and_right (chooses w.net w.alive v) _ (ap is_none takes.settled)))
       ]
 
       fresh_parts : (v : ℕ) → is_fresh w t.top (suc k) v ≡ true → is_some (rounds w t.top k v) ≡ false
@@ -321,7 +337,12 @@ module _ (net : PlainNet) (g : PlainGraph) (numbers : List ℕ) (choosers : LocS
                   let node : takes.o.to ≡ n = ap (λ (o : Offer). o.to) same ∙ found.3 in
                   let at : w.graph.place n ≡ found.0 = ap w.graph.place (sym node) ∙ takes.place in
                   let fresh : is_fresh w t.top (suc k) found.0 ≡ true = and_from _ _ (ap is_some takes.settled) (ap (λ o. not (is_some o)) takes.left) in
-                  record { route = record { path = found.0 ∷ takes.x.path; node = takes.o.to }; fresh = ap (is_fresh w t.top (suc k)) at ∙ fresh; holds = ap (rounds w t.top (suc k)) at ∙ takes.settled; node = node })
+                  record {
+                    route = record { path = found.0 ∷ takes.x.path; node = takes.o.to };
+                    fresh = ap (is_fresh w t.top (suc k)) at ∙ fresh;
+                    holds = ap (rounds w t.top (suc k)) at ∙ takes.settled;
+                    node = node;
+                  })
             ],
         λ f. elim (moved (w.graph.place n)) [
           | inl stays ↦ (let off = fresh_parts (w.graph.place n) f.fresh in absurd (false≢true (sym off ∙ ap is_some (sym stays.1 ∙ f.holds))))
@@ -345,7 +366,9 @@ module _ (net : PlainNet) (g : PlainGraph) (numbers : List ℕ) (choosers : LocS
           let has = fresh_has k u on in
           let x = is_some_parts (rounds w t.top k u) has in
           let from = (node_there k u x.0 x.1).0 in
-          let among : is_among front x.0.node ≡ true = (are.nodes x.0.node).1 (record { route = x.0; fresh = ap (is_fresh w t.top k) from ∙ on; holds = ap (rounds w t.top k) from ∙ x.1; node = refl }) in
+          let among : is_among front x.0.node ≡ true =
+          (are.nodes x.0.node).1
+          (record { route = x.0; fresh = ap (is_fresh w t.top k) from ∙ on; holds = ap (rounds w t.top k) from ∙ x.1; node = refl }) in
           absurd (false≢true (sym (ap (λ xs. is_among xs x.0.node) empty) ∙ among))
         where
           fresh_has : (k u : ℕ) → is_fresh w t.top k u ≡ true → is_some (rounds w t.top k u) ≡ true

@@ -29,7 +29,8 @@ pub record IsStage (net : PlainNet) (g : PlainGraph) (numbers : List ℕ) (choos
   pub at : (w : Setup) → IsGround net g numbers choosers w → (t : Tops w) × (k : ℕ) × AreAt w t k routes wanted front
 
 module _ (net : PlainNet) (g : PlainGraph) (numbers : List ℕ) (choosers : LocSet) where
-  pub stage_first : (routes : List (Option Settled)) (wanted : List (Option ℕ)) → ((s : ℕ) → is_start g s ≡ true → s < length g.nodes) → ((s : ℕ) → IsTrue (is_start g s) → holds choosers (place_of g s) ≡ false)
+  pub stage_first : (routes : List (Option Settled)) (wanted : List (Option ℕ)) → ((s : ℕ) → is_start g s ≡ true → s < length g.nodes)
+      → ((s : ℕ) → IsTrue (is_start g s) → holds choosers (place_of g s) ≡ false)
       → AreGreatest g numbers choosers wanted → AreOpening g routes → IsStage net g numbers choosers routes wanted g.starts
   stage_first routes wanted below apart greatest opening = record {
     sizes = opening.size;
@@ -42,15 +43,20 @@ module _ (net : PlainNet) (g : PlainGraph) (numbers : List ℕ) (choosers : LocS
           record {
             held = opening_routes net g numbers choosers w ground t routes opening;
             waits = λ v. opening_wanted net g numbers choosers w ground t v (entry_at wanted v)
-                (greatest.each v ∙ ap (λ o. cond (holds choosers v) (option_map (number_in numbers) o) None) (sym (tops-top net g numbers choosers w ground greatest.reached greatest.best greatest.exact greatest.are_best v)));
+                (greatest.each v
+                ∙ ap (λ o. cond (holds choosers v) (option_map (number_in numbers) o) None)
+                (sym (tops-top net g numbers choosers w ground greatest.reached greatest.best greatest.exact greatest.are_best v)));
             nodes = opening_front net g numbers choosers w ground t;
           },
         );
   }
 
-  module _ (lists : List (List ℕ)) (are_lists : AreLists lists) (count : length lists ≡ length g.nodes) (listed : (a b : ℕ) → is_listed lists a b ≡ has_step g a b) (routes : List (Option Settled)) (wanted : List (Option ℕ)) (front : List ℕ) (stage : IsStage net g numbers choosers routes wanted front)
+  module _ (lists : List (List ℕ)) (are_lists : AreLists lists) (count : length lists ≡ length g.nodes)
+      (listed : (a b : ℕ) → is_listed lists a b ≡ has_step g a b) (routes : List (Option Settled)) (wanted : List (Option ℕ)) (front : List ℕ)
+      (stage : IsStage net g numbers choosers routes wanted front)
       (offers : List (Option Offer)) (lowest : AreLowest net g numbers wanted (λ f t. is_among front f && is_listed lists f t) offers) where
-    offered : (l : ℕ) (o : Option Offer) → IsLowestOrNone net g numbers wanted (λ f t. is_among front f && is_listed lists f t) l o → (x : Offer) → o ≡ Some x → IsLowest net g numbers wanted (λ f t. is_among front f && is_listed lists f t) l x
+    offered : (l : ℕ) (o : Option Offer) → IsLowestOrNone net g numbers wanted (λ f t. is_among front f && is_listed lists f t) l o → (x : Offer)
+        → o ≡ Some x → IsLowest net g numbers wanted (λ f t. is_among front f && is_listed lists f t) l x
     offered l None none x e = absurd (cc)
     offered l (Some o) is x e = let same : o ≡ x = cc in subst (IsLowest net g numbers wanted (λ f t. is_among front f && is_listed lists f t) l) same is
 
@@ -68,7 +74,8 @@ module _ (net : PlainNet) (g : PlainGraph) (numbers : List ℕ) (choosers : LocS
         unwanted l none None e = refl
         unwanted l none (Some x) e = let clash : None ≡ Some (number_in numbers x.to) = sym none ∙ (offer_is l x e).number in absurd (cc)
 
-    pub stage_next : (next : List (Option Settled)) (left : List (Option ℕ)) (later : List ℕ) → length next ≡ 768 → length left ≡ 768 → IsRound g offers routes next wanted left later → IsStage net g numbers choosers next left later
+    pub stage_next : (next : List (Option Settled)) (left : List (Option ℕ)) (later : List ℕ) → length next ≡ 768 → length left ≡ 768
+        → IsRound g offers routes next wanted left later → IsStage net g numbers choosers next left later
     stage_next next left later sizes room round = record {
       sizes = sizes;
       room = room;
@@ -83,5 +90,6 @@ module _ (net : PlainNet) (g : PlainGraph) (numbers : List ℕ) (choosers : LocS
           (now.0, suc now.1, round_next net g numbers choosers w ground now.0 now.1 routes wanted front now.2 lists listed offers lowest next left later round);
     }
 
-  pub stage_end : (routes : List (Option Settled)) (wanted : List (Option ℕ)) (front : List ℕ) → IsStage net g numbers choosers routes wanted front → front ≡ [] → (w : Setup) → IsGround net g numbers choosers w → FullyStable w (held_in routes)
+  pub stage_end : (routes : List (Option Settled)) (wanted : List (Option ℕ)) (front : List ℕ) → IsStage net g numbers choosers routes wanted front
+      → front ≡ [] → (w : Setup) → IsGround net g numbers choosers w → FullyStable w (held_in routes)
   stage_end routes wanted front stage empty w ground = let now = stage.at w ground in settled_all net g numbers choosers w ground now.0 now.1 routes wanted front now.2 empty

@@ -58,7 +58,8 @@ best_first g numbers marked count best all empty = record {
 }
 
 -- entries are pushed in order
-pub entry_next : (f : ℕ → Option ℕ) (table : List (Option ℕ)) (next : Option ℕ) (place i : ℕ) → length table ≡ place → ((j : ℕ) → j < place → entry_at table j ≡ f j) → next ≡ f place → i < place + 1 → entry_at (table ++ next ∷ []) i ≡ f i
+pub entry_next : (f : ℕ → Option ℕ) (table : List (Option ℕ)) (next : Option ℕ) (place i : ℕ) → length table ≡ place
+    → ((j : ℕ) → j < place → entry_at table j ≡ f j) → next ≡ f place → i < place + 1 → entry_at (table ++ next ∷ []) i ≡ f i
 entry_next f table next place i size before is less = elim (cases_lt i place) [
   | inl low ↦ get_or-append table (next ∷ []) None i (omega (arith, low, size)) ∙ before i low
   | inr last ↦ (
@@ -76,7 +77,8 @@ unwanted_past numbers choosers best l past = by (holds choosers l)
 
 module _ (g : PlainGraph) (numbers : List ℕ) (marked : ℕ → Bool) (n : ℕ) (best : List (Option ℕ)) where
   -- a node that is marked and better than the best so far
-  pub best_there : marked n ≡ true → is_better numbers n (entry_at best (place_of g n)) ≡ true → place_of g n < 768 → AreBest g numbers marked n best → AreBest g numbers marked (n + 1) (set best (place_of g n) (Some n))
+  pub best_there : marked n ≡ true → is_better numbers n (entry_at best (place_of g n)) ≡ true → place_of g n < 768 → AreBest g numbers marked n best
+      → AreBest g numbers marked (n + 1) (set best (place_of g n) (Some n))
   best_there on better low are = record {
     size = length-set _ _ _ ∙ are.size;
     here = λ l m e. elim (cases_eq l (place_of g n)) [
@@ -115,7 +117,10 @@ module _ (g : PlainGraph) (numbers : List ℕ) (marked : ℕ → Bool) (n : ℕ)
     here = λ l m e. let old = are.here l m e in (omega (arith, old.0), old.1, old.2);
     over = λ m less mark. elim (cases_lt m n) [
       | inl before ↦ are.over m before mark
-      | inr last ↦ (let same : m ≡ n = omega (arith, less, last) in subst (λ k. (b : ℕ) × (entry_at best (place_of g k) ≡ Some b) × (number_in numbers k ≤ number_in numbers b)) (sym same) (here (subst (λ k. marked k ≡ true) same mark) (entry_at best (place_of g n)) refl))
+      | inr last ↦
+          (let same : m ≡ n = omega (arith, less, last) in
+          subst (λ k. (b : ℕ) × (entry_at best (place_of g k) ≡ Some b) × (number_in numbers k ≤ number_in numbers b)) (sym same)
+          (here (subst (λ k. marked k ≡ true) same mark) (entry_at best (place_of g n)) refl))
     ];
   }
     where
@@ -126,7 +131,8 @@ module _ (g : PlainGraph) (numbers : List ℕ) (marked : ℕ → Bool) (n : ℕ)
           (b, e, omega (arith, ltb-false _ _ not_less))
 
   -- what a turn of the loop makes of the table
-  pub best_taken : (at : ℕ) (old : Option ℕ) (next : List (Option ℕ)) → AllByRecursion (λ (node : Node). node.loc < 768) g.nodes → n < length g.nodes → at ≡ place_of g n → old ≡ get_or best at old → next ≡ set best at (Some n)
+  pub best_taken : (at : ℕ) (old : Option ℕ) (next : List (Option ℕ)) → AllByRecursion (λ (node : Node). node.loc < 768) g.nodes → n < length g.nodes
+      → at ≡ place_of g n → old ≡ get_or best at old → next ≡ set best at (Some n)
       → marked n ≡ true → is_better numbers n old ≡ true → AreBest g numbers marked n best → AreBest g numbers marked (n + 1) next
   best_taken at old next places node is read taken on better are =
       let low = place_low g n places node in

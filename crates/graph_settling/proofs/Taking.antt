@@ -16,7 +16,8 @@ use Rattle.graph_settling.specs.Rounds.{AreFit, IsRound, after_offer, taken}
 use Rattle.graph_settling.proofs.Tables.{entry_past, entry_within}
 
 -- what locations before a place have after the round, and the others before it
-pub record IsSoFar (g : PlainGraph) (offers : List (Option Offer)) (routes : List (Option Settled)) (wanted : List (Option ℕ)) (place : ℕ) (next : List (Option Settled)) (left : List (Option ℕ)) (front : List ℕ) : Type 0 where
+pub record IsSoFar (g : PlainGraph) (offers : List (Option Offer)) (routes : List (Option Settled)) (wanted : List (Option ℕ)) (place : ℕ)
+    (next : List (Option Settled)) (left : List (Option ℕ)) (front : List ℕ) : Type 0 where
   pub sizes : length next ≡ 768
   pub room : length left ≡ 768
   pub done : (l : ℕ) → l < place → entry_at next l ≡ after_offer g routes l (entry_at offers l)
@@ -152,7 +153,8 @@ module _ (g : PlainGraph) (offers : List (Option Offer)) (routes : List (Option 
         (subst (SoFar (i + 1) (set next i (taken g next i o)) (set left i None)) (sym front_is) (so_far_some o low is)))
 
   -- after all locations the round is done
-  pub so_far_all : (i : ℕ) (next : List (Option Settled)) (left : List (Option ℕ)) (front : List ℕ) → 768 ≤ i → length routes ≡ 768 → length wanted ≡ 768 → SoFar i next left front → IsRound g offers routes next wanted left front
+  pub so_far_all : (i : ℕ) (next : List (Option Settled)) (left : List (Option ℕ)) (front : List ℕ) → 768 ≤ i → length routes ≡ 768
+      → length wanted ≡ 768 → SoFar i next left front → IsRound g offers routes next wanted left front
   so_far_all i next left front past sizes room all = record {
     held = λ l. elim (cases_lt l i) [
       | inl low ↦ all.done l low

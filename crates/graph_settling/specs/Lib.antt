@@ -2,3 +2,4 @@ pub mod Best
 pub mod Grounds
 pub mod Offers
 pub mod Rounds
+pub mod ByFronts

@@ -3,9 +3,11 @@
 #![tactic(auto)]
 
 mod best;
+mod by_fronts;
 mod fronts;
 mod offers;
 mod settled;
 
+pub use by_fronts::routers_are_settled_by_fronts;
 pub use fronts::settle_graph;
 pub use settled::Settled;

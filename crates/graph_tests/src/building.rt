@@ -1,12 +1,12 @@
 //! What is built before anything is pruned, against graphs that were worked by hand.
 use crate::drawing::{Drawing, is_drawn};
+use case_core::{BuildFault, build};
 use constraint_expand::expand;
 use graph_base::Graph;
 use net_base::{List, LocSet, Net};
-use path_words::{Case, Clause, FromSet, Ranked};
-use product_graph::{BuildFault, build};
-use samples::{TWO_EXITS, net_of};
+use policy_base::{Call, Case, FromSet, Ranked};
 use std::alloc::Global;
+use test_networks::{TWO_EXITS, net_of};
 
 // Any path to a router: peers hear, and sources that aren't named have no rank.
 const NAMED_SOURCES: Drawing = Drawing {
@@ -40,7 +40,7 @@ fn built(
     net: &Net,
     origins: u64,
     external: bool,
-    call: Clause,
+    call: Call,
     from: &FromSet,
 ) -> Result<Graph, BuildFault> {
     let case = Case {
@@ -67,8 +67,8 @@ fn graphs_before_pruning(rt: HostRuntime) {
     let alloc = rt.alloc();
     let net = net_of(alloc, TWO_EXITS).expect(&rt, "a topology");
     let from = FromSet::Named(set(0b1010));
-    let named = built(alloc, &net, 0b0001, false, Clause::Any, &from);
+    let named = built(alloc, &net, 0b0001, false, Call::Any, &from);
     assert!(rt; is_right(&named, &NAMED_SOURCES), "named sources");
-    let dead = built(alloc, &net, 0b1100, true, Clause::Drop, &FromSet::Any);
+    let dead = built(alloc, &net, 0b1100, true, Call::Drop, &FromSet::Any);
     assert!(rt; is_right(&dead, &DEAD_STARTS), "dead starts");
 }

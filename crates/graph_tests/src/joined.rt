@@ -2,10 +2,10 @@
 use crate::drawing::{Drawing, is_drawn};
 use case_core::{CompileRefusal, KeptAutomata};
 use case_evidence::{AcceptedCase, accepted_case};
-use path_words::cases;
-use samples::{RING, TRIANGLE, TWO_SPINES, read};
+use policy_base::cases;
 use std::alloc::Global;
 use std::process::Abort;
+use test_networks::{RING, TRIANGLE, TWO_SPINES, read};
 
 // A network and a policy, and the graph of its first case, in which nodes are joined.
 struct Row {

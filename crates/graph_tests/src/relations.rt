@@ -8,9 +8,9 @@ use net_base::{LocSet, Net};
 use outside::NoMemory;
 use pref_inference::infer;
 use reach_prune::reach;
-use samples::{RING_WITH_A_PEER, net_of};
 use state_simulation::{Relation, relation};
 use std::alloc::Global;
+use test_networks::{RING_WITH_A_PEER, net_of};
 
 // The relation of a graph, where all routers but the origin are claimed.
 fn relation_of(alloc: Global, graph: &Graph) -> Result<Relation, NoMemory>

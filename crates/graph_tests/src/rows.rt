@@ -1,10 +1,10 @@
 //! Graphs of small networks, worked by hand.
 use crate::drawing::{Drawing, is_drawn};
 use case_core::{CaseGraph, CompileRefusal, case_graph};
-use path_words::cases;
-use samples::{CHAIN, RING, TWO_EXITS, TWO_ROUTERS, TWO_SPINES, read};
+use policy_base::cases;
 use std::alloc::Global;
 use std::process::Abort;
+use test_networks::{CHAIN, RING, TWO_EXITS, TWO_ROUTERS, TWO_SPINES, read};
 
 // A network and a policy, how many steps are built of its first case, and the graph of the case.
 struct Row {

@@ -6,9 +6,9 @@ use constraint_expand::expand;
 use net_base::Loc;
 use outside::NoMemory;
 use path_automata::{Automata, State};
-use samples::{ROW_BETWEEN_PEERS, read};
 use std::alloc::Global;
 use std::test::Fail;
+use test_networks::{ROW_BETWEEN_PEERS, read};
 
 // The automaton of the text's first statement.
 fn automata_of(alloc: Global, text: &str) -> Option<Automata> {

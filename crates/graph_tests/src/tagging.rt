@@ -1,13 +1,13 @@
 //! The tags of many nodes at a router.
 ghost use Rattle.std.specs.Prelude.{◌≡◌, ◌≤◌, IfOk, length};
 
-use community_assign::tags;
 use graph_base::{Graph, Node};
 use net_base::{List, Loc, Tag};
 use outside::NoMemory;
-use samples::{TWO_ROUTERS, net_of};
 use std::alloc::Global;
 use std::test::Fail;
+use tag_assign::tags;
+use test_networks::{TWO_ROUTERS, net_of};
 
 // A graph of so many nodes at the second router.
 fn graph_of(alloc: Global, count: usize) -> Result<Graph, NoMemory>

@@ -1,7 +1,7 @@
 //! The command `impact`.
 ghost use Rattle.std.specs.Prelude.{◌<◌, length};
-ghost use Rattle.path_words.specs.Policies.{IsPolicyOf, policy_of};
-ghost use Rattle.case_law.specs.Cases.{OriginsAreRouters};
+ghost use Rattle.policy_base.specs.Policies.{IsPolicyOf, policy_of};
+ghost use Rattle.policy_base.specs.CaseNumbers.{OriginsAreRouters};
 ghost use Rattle.impact_job.specs.Impacts.{SaysOfPolicy};
 ghost use Rattle.input_texts.specs.Texts.{OfTexts};
 ghost use Rattle.run_base.specs.Said.{IsGiven, said};
@@ -11,7 +11,7 @@ use impact_report::impact;
 use impact_text::impact_text;
 use input_texts::{net_of, policy_for};
 use net_base::{Net, Prefix};
-use path_words::Policy;
+use policy_base::Policy;
 use run_base::Stop;
 use std::alloc::Global;
 

@@ -8,32 +8,31 @@ use Rattle.std.proofs.lemmas.Bool.{and_parts, and_from, or_parts, cases_Bool, no
 use Rattle.net_base.specs.Network.{PlainNet, IsNet, is_peer, is_router, linked}
 use Rattle.net_base.specs.Sets.{holds}
 use Rattle.net_base.specs.Prefixes.{PlainPrefix, IsPrefix}
-use Rattle.path_words.specs.declared.case.Case.{Case}
-use Rattle.path_words.specs.Cases.{case_list}
-use Rattle.path_words.specs.Policies.{PlainPolicy, PlainStatement}
-use Rattle.path_words.specs.Meaning.{at_last, front, rank_of}
-use Rattle.path_words.specs.Governing.{is_origin}
-use Rattle.path_words.specs.Permitted.{from_holds, is_permitted, IsClaimedRouter, IsClaimedSession}
+use Rattle.policy_base.specs.declared.case.Case.{Case}
+use Rattle.policy_base.specs.Cases.{case_list}
+use Rattle.policy_base.specs.Policies.{PlainPolicy, PlainStatement, statement_at, IsPolicyOf}
+use Rattle.policy_base.specs.Meaning.{at_last, front, rank_of}
+use Rattle.policy_base.specs.Governing.{is_origin}
+use Rattle.policy_base.specs.Permitted.{from_holds, is_permitted, IsClaimedRouter, IsClaimedSession}
 use Rattle.graph_base.specs.Runs.{rank_at, step_at}
 use Rattle.config_base.specs.Configs.{PlainConfig}
 use Rattle.config_base.specs.Lines.{class_of}
-use Rattle.evidence_base.specs.Made.{PlainCaseEvidence, number_at, statement_at}
-use Rattle.regret_law.specs.Faithful.{may_start, permits}
+use Rattle.evidence_base.specs.Made.{PlainCaseEvidence, number_at}
+use Rattle.evidence_law.specs.Faithful.{may_start, permits}
 use Rattle.outcome_base.specs.Outcomes.{Failures, is_dead, is_dead_link, is_live, is_silent}
-use Rattle.path_words.specs.Policies.{IsPolicyOf}
-use Rattle.regret_law.specs.Passes.{Passes}
+use Rattle.evidence_law.specs.Passes.{Passes}
 use Rattle.outcome_base.specs.Right.{NoneSurvives}
-use Rattle.regret_law.proofs.CaseOrigins.{case_permits, good, good_parts}
-use Rattle.regret_law.proofs.CaseOfClass.{governed_case}
-use Rattle.regret_law.proofs.GraphForms.{same_run}
-use Rattle.regret_law.proofs.GraphRanks.{ranks_of, meets_ranks}
+use Rattle.evidence_law.proofs.CaseOrigins.{case_permits, good, good_parts}
+use Rattle.evidence_law.proofs.CaseOfClass.{governed_case}
+use Rattle.evidence_law.proofs.GraphForms.{same_run}
+use Rattle.evidence_law.proofs.GraphRanks.{ranks_of, meets_ranks}
 use Rattle.net_base.proofs.RoutersAndPeers.{router_no_peer, peer_no_router}
-use Rattle.regret_law.proofs.RightLaw.{class_is}
-use Rattle.regret_law.proofs.Setting.{network_of, alive_of, setup_of}
+use Rattle.evidence_law.proofs.RightLaw.{class_is}
+use Rattle.evidence_law.proofs.Setting.{network_of, alive_of, setup_of}
 use Rattle.list_laws.proofs.Options.{is_some_parts, when_parts, none_or_some}
-use Rattle.path_words.proofs.WalkParts.{at_last-never}
-use Rattle.regret_law.proofs.PermittedWalks.{permits_parts}
-use Rattle.regret_law.proofs.Surviving.{run-survives, survives-alive}
+use Rattle.policy_base.proofs.WalkParts.{at_last-never}
+use Rattle.evidence_law.proofs.PermittedWalks.{permits_parts}
+use Rattle.evidence_law.proofs.Surviving.{run-survives, survives-alive}
 use Rattle.routing_law.specs.Graph as graph
 use Rattle.routing_law.specs.Network as law
 use Rattle.routing_law.specs.Outcome as outcomes
@@ -44,7 +43,8 @@ use Rattle.impact_law.specs.Nodes.{IsTop, IsLeast}
 use Rattle.impact_law.specs.BestRanks.{AreToldByTops, BestRanksAreOne, IsBestRank, IsTopAt, NothingIsClaimedWithoutAClass, TopsTellBestRanks, TopsThatAreReachedStay, rank_over}
 use Rattle.impact_law.proofs.Tops.{routers, sessions}
 
-module _ (net : PlainNet) (policy : PlainPolicy) (config : PlainConfig) (cs : List PlainCaseEvidence) (rules : IsNet net) (kept : IsPolicyOf net policy) (passes : Passes net policy config cs) (f : Failures) (p : PlainPrefix)
+module _ (net : PlainNet) (policy : PlainPolicy) (config : PlainConfig) (cs : List PlainCaseEvidence) (rules : IsNet net)
+    (kept : IsPolicyOf net policy) (passes : Passes net policy config cs) (f : Failures) (p : PlainPrefix)
     (prefix : IsPrefix p) (c : CaseFound net policy config cs rules kept passes f p) where
   of_case : slice_get (case_list net policy) c.k ≡ Some c.d.case
   of_case = ap (λ (xs : List Case). slice_get xs c.k) (sym passes.made.cases) ∙ slice_get-map (λ (d : PlainCaseEvidence). d.case) cs c.k ∙ ap (option_map (λ (d : PlainCaseEvidence). d.case)) c.at
@@ -94,7 +94,12 @@ module _ (net : PlainNet) (policy : PlainPolicy) (config : PlainConfig) (cs : Li
   -- ---- what is reached
 
   pub to_law : (r n : ℕ) → IsReachedAt net f c.d r n → outcomes.ReachedAt (setup_of net f c.d) r n
-  to_law r n at = record { rest = at.0; runs = same_run c.d.graph (number_at c.d) (r ∷ at.0) ∙ at.1; lives = run-survives net f Origin c.d.case.external c.d.graph c.on.graph c.on.faithful.formed r n at.0 at.1 at.2 }
+  to_law r n at =
+      record {
+        rest = at.0;
+        runs = same_run c.d.graph (number_at c.d) (r ∷ at.0) ∙ at.1;
+        lives = run-survives net f Origin c.d.case.external c.d.graph c.on.graph c.on.faithful.formed r n at.0 at.1 at.2;
+      }
 
   pub from_law : (r n : ℕ) → outcomes.ReachedAt (setup_of net f c.d) r n → IsReachedAt net f c.d r n
   from_law r n at = (at.rest, sym (same_run c.d.graph (number_at c.d) (r ∷ at.rest)) ∙ at.runs, survives-alive net f (r ∷ at.rest) at.lives)
@@ -128,8 +133,10 @@ module _ (net : PlainNet) (policy : PlainPolicy) (config : PlainConfig) (cs : Li
   -- what lives of a session
   carried : (r peer : ℕ) → is_router net r ≡ true → is_live net f r peer ≡ true → ((alive_of net f).carries r peer ≡ true) × (not (is_dead f peer) ≡ true)
   carried r peer at live =
-      let quiet : (is_peer net r && is_silent f peer r) ≡ false = ap (λ b. b && is_silent f peer r) (router_no_peer net r at) in
-      (and_from (is_live net f r peer) (not (is_peer net r && is_silent f peer r)) live (not_from_false _ quiet), (and_parts (linked net r peer && not (is_dead_link f r peer) && not (is_dead f r)) (not (is_dead f peer)) live).1)
+      let quiet : (is_peer net r && is_silent f peer r) ≡ false = ap (λ b. b && is_silent f peer r) (router_no_peer net r at) in (
+        and_from (is_live net f r peer) (not (is_peer net r && is_silent f peer r)) live (not_from_false _ quiet),
+        (and_parts (linked net r peer && not (is_dead_link f r peer) && not (is_dead f r)) (not (is_dead f peer)) live).1,
+      )
 
   -- a path over a session that survives has a live link
   over_live : (r peer : ℕ) (rest : List ℕ) → law.survives (alive_of net f) (peer ∷ r ∷ rest) ≡ true → is_live net f r peer ≡ true
@@ -171,7 +178,8 @@ tops_tell_best_ranks net policy config cs rules kept passes p f s k d prefix gov
       let same_d : c.d ≡ d = cc in
       let by : Some c.s ≡ Some s = sym c.governs ∙ governs in
       let same_s : c.s ≡ s = cc in
-      subst (λ (t : PlainStatement). AreToldByTops net policy f p t d) same_s (subst (λ (e : PlainCaseEvidence). AreToldByTops net policy f p c.s e) same_d (told net policy config cs rules kept passes f p prefix c)))
+      subst (λ (t : PlainStatement). AreToldByTops net policy f p t d) same_s
+      (subst (λ (e : PlainCaseEvidence). AreToldByTops net policy f p c.s e) same_d (told net policy config cs rules kept passes f p prefix c)))
 ]
 
 pub tops_that_are_reached_stay : TopsThatAreReachedStay
@@ -187,7 +195,8 @@ best_ranks_are_one net policy f p s begin (Some m) (Some n) a b =
     ap Some (omega (arith, one, other))
 
 -- where nobody is an origin no walk is permitted
-unclaimed : (net : PlainNet) (policy : PlainPolicy) (p : PlainPrefix) (s : PlainStatement) → ((l : ℕ) → is_origin net policy p l ≡ false) → (path : List ℕ) → is_permitted net policy p s path ≡ true → ⊥
+unclaimed : (net : PlainNet) (policy : PlainPolicy) (p : PlainPrefix) (s : PlainStatement) → ((l : ℕ) → is_origin net policy p l ≡ false)
+    → (path : List ℕ) → is_permitted net policy p s path ≡ true → ⊥
 unclaimed net policy p s none path h =
     let ends = (permits_parts net (is_origin net policy p) s path h).1 in
     let last = (and_parts (at_last (is_origin net policy p) path) _ ends).0 in
@@ -195,6 +204,9 @@ unclaimed net policy p s none path h =
 
 pub nothing_is_claimed : NothingIsClaimedWithoutAClass
 nothing_is_claimed net policy config cs rules kept passes p s prefix governs free = elim (governed_case net policy p rules kept prefix s governs) [
-  | inr nobody ↦ (λ r claimed. unclaimed net policy p s nobody.0 (r ∷ claimed.starts.0) claimed.starts.1, λ r peer claimed. unclaimed net policy p s nobody.0 (peer ∷ r ∷ claimed.starts.0) claimed.starts.1)
+  | inr nobody ↦ (
+    λ r claimed. unclaimed net policy p s nobody.0 (r ∷ claimed.starts.0) claimed.starts.1,
+    λ r peer claimed. unclaimed net policy p s nobody.0 (peer ∷ r ∷ claimed.starts.0) claimed.starts.1,
+  )
   | inl found ↦ (let clash : None ≡ Some (suc found.0) = sym free ∙ class_is net policy config cs rules kept passes.made p ∙ found.2 in absurd (cc))
 ]

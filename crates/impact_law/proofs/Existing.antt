@@ -2,16 +2,15 @@
 use Rattle.std.proofs.Common.{◌≡◌, ℕ, ◌≤◌, List, [], ◌∷◌, Option, Some, None, refl, sym, ap, ◌∙◌, inl, inr, subst}
 use Rattle.net_base.specs.Network.{PlainNet, IsNet}
 use Rattle.net_base.specs.Prefixes.{PlainPrefix, IsPrefix}
-use Rattle.path_words.specs.Policies.{PlainPolicy, PlainStatement}
-use Rattle.path_words.specs.Permitted.{IsClaimedRouter, IsClaimedSession}
+use Rattle.policy_base.specs.Policies.{PlainPolicy, PlainStatement, IsPolicyOf}
+use Rattle.policy_base.specs.Permitted.{IsClaimedRouter, IsClaimedSession}
 use Rattle.graph_base.specs.Runs.{place_of, run, rank_at}
 use Rattle.config_base.specs.Configs.{PlainConfig}
 use Rattle.evidence_base.specs.Made.{PlainCaseEvidence, number_at}
 use Rattle.outcome_base.specs.Outcomes.{Failures}
-use Rattle.path_words.specs.Policies.{IsPolicyOf}
-use Rattle.regret_law.specs.Passes.{Passes}
+use Rattle.evidence_law.specs.Passes.{Passes}
 use Rattle.graph_base.proofs.RunSteps.{run_begins, run_inside}
-use Rattle.regret_law.proofs.Setting.{setup_of}
+use Rattle.evidence_law.proofs.Setting.{setup_of}
 use Rattle.routing_law.specs.Settling.{Tops}
 use Rattle.routing_law.proofs.Reach.{tops}
 use Rattle.settled_law.specs.Greatest.{IsReachedAt}
@@ -21,7 +20,8 @@ use Rattle.impact_law.specs.Support.{BestRanksExist, NodesAreReachedWithoutFailu
 use Rattle.impact_law.proofs.BestRanks.{from_law, nothing_is_claimed, to_law, told}
 use Rattle.impact_law.proofs.Support.{survives_all}
 
-module _ (net : PlainNet) (policy : PlainPolicy) (config : PlainConfig) (cs : List PlainCaseEvidence) (rules : IsNet net) (kept : IsPolicyOf net policy) (passes : Passes net policy config cs) (f : Failures) (p : PlainPrefix)
+module _ (net : PlainNet) (policy : PlainPolicy) (config : PlainConfig) (cs : List PlainCaseEvidence) (rules : IsNet net)
+    (kept : IsPolicyOf net policy) (passes : Passes net policy config cs) (f : Failures) (p : PlainPrefix)
     (prefix : IsPrefix p) (c : CaseFound net policy config cs rules kept passes f p) where
   all_tops : Tops (setup_of net f c.d)
   all_tops = tops (setup_of net f c.d) c.lines.formed
@@ -67,7 +67,8 @@ best_ranks_exist net policy config cs rules kept passes p f s prefix governs = e
       let by : Some c.s ≡ Some s = sym c.governs ∙ governs in
       let same : c.s ≡ s = cc in
       subst
-      (λ (t : PlainStatement). ((r : ℕ) → IsClaimedRouter net policy p t r → (rank : Option ℕ) × IsBestRank net policy f p t (r ∷ []) rank) × ((r peer : ℕ) → IsClaimedSession net policy p t r peer → (rank : Option ℕ) × IsBestRank net policy f p t (peer ∷ r ∷ []) rank))
+      (λ (t : PlainStatement). ((r : ℕ) → IsClaimedRouter net policy p t r → (rank : Option ℕ) × IsBestRank net policy f p t (r ∷ []) rank)
+      × ((r peer : ℕ) → IsClaimedSession net policy p t r peer → (rank : Option ℕ) × IsBestRank net policy f p t (peer ∷ r ∷ []) rank))
       same (ranks net policy config cs rules kept passes f p prefix c))
 ]
 

@@ -4,8 +4,8 @@ use Rattle.std.specs.Prelude.{slice_get}
 use Rattle.std.specs.List.{flat_map}
 use Rattle.net_base.specs.Network.{PlainNet}
 use Rattle.net_base.specs.Prefixes.{PlainPrefix}
-use Rattle.path_words.specs.Policies.{PlainPolicy, PlainStatement}
-use Rattle.path_words.specs.Governing.{statement_of}
+use Rattle.policy_base.specs.Policies.{PlainPolicy, PlainStatement}
+use Rattle.policy_base.specs.Governing.{statement_of}
 use Rattle.list_laws.specs.Members.{IsIn}
 use Rattle.outcome_base.specs.Outcomes.{Failures}
 use Rattle.impact_law.specs.declared.impact.SourceRank.{SourceRank}
@@ -35,7 +35,8 @@ module _ {A : Type 0} (Before : A → A → Type 0) (itself : (x : A) → Before
   one_list (x ∷ xs) [] a b to from = absurd (let at = to x (zero, refl) in cc (at.1))
   one_list (x ∷ xs) (y ∷ ys) a b to from =
       let same : x ≡ y = heads (to x (zero, refl)) (from y (zero, refl)) in
-      let rest = one_list xs ys (tail_ordered x xs a) (tail_ordered y ys b) (λ l is. later x xs y ys a (sym same) l is (to l (suc is.0, is.1))) (λ l is. later y ys x xs b same l is (from l (suc is.0, is.1))) in
+      let rest = one_list xs ys (tail_ordered x xs a) (tail_ordered y ys b) (λ l is. later x xs y ys a (sym same) l is (to l (suc is.0, is.1)))
+      (λ l is. later y ys x xs b same l is (from l (suc is.0, is.1))) in
       λ i. same i ∷ rest i
     where
       heads : IsIn (y ∷ ys) x → IsIn (x ∷ xs) y → x ≡ y
@@ -59,7 +60,10 @@ precedes_through r s t None (Some p) None h k = absurd k
 precedes_through r s t None (Some p) (Some q) h k = tt
 precedes_through r s t (Some o) None c h k = absurd h
 precedes_through r s t (Some o) (Some p) None h k = absurd k
-precedes_through r s t (Some o) (Some p) (Some q) h k = (omega (arith, h.0, k.0), λ same. let one = h.1 (omega (arith, h.0, k.0, same)) in let other = k.1 (omega (arith, h.0, k.0, same)) in omega (arith, one, other))
+precedes_through r s t (Some o) (Some p) (Some q) h k = (
+  omega (arith, h.0, k.0),
+  λ same. let one = h.1 (omega (arith, h.0, k.0, same)) in let other = k.1 (omega (arith, h.0, k.0, same)) in omega (arith, one, other),
+)
 
 module _ (net : PlainNet) (policy : PlainPolicy) (f : Failures) (p : PlainPrefix) (s : PlainStatement) where
   members : (xs ys : List SourceRank) → IsRanking net policy f p s xs → IsRanking net policy f p s ys → (x : SourceRank) → IsIn xs x → IsIn ys x
@@ -67,7 +71,8 @@ module _ (net : PlainNet) (policy : PlainPolicy) (f : Failures) (p : PlainPrefix
       let mine = a.each x is in
       let found = b.all x.router x.peer mine.0 in
       let theirs = (b.each found.0 found.1).1 in
-      let there = subst (λ (o : Option ℕ). IsBestRank net policy f p s (begin_at x.router o) found.0.rank) found.3 (subst (λ (r : ℕ). IsBestRank net policy f p s (begin_at r found.0.peer) found.0.rank) found.2 theirs) in
+      let there = subst (λ (o : Option ℕ). IsBestRank net policy f p s (begin_at x.router o) found.0.rank) found.3
+      (subst (λ (r : ℕ). IsBestRank net policy f p s (begin_at r found.0.peer) found.0.rank) found.2 theirs) in
       let rank = best_ranks_are_one net policy f p s (begin_at x.router x.peer) found.0.rank x.rank there mine.1 in
       let same : found.0 ≡ x = λ i. record { router = found.2 i; peer = found.3 i; rank = rank i } in
       (found.1.0, found.1.1 ∙ ap Some same)
@@ -75,13 +80,17 @@ module _ (net : PlainNet) (policy : PlainPolicy) (f : Failures) (p : PlainPrefix
   pub rankings_one : (xs ys : List SourceRank) → IsRanking net policy f p s xs → IsRanking net policy f p s ys → xs ≡ ys
   unfolding before
   rankings_one xs ys a b =
-      one_list before (λ x h. not_itself x.router x.peer h) (λ x y z h k. precedes_through x.router y.router z.router x.peer y.peer z.peer h k) xs ys a.order b.order (members xs ys a b) (members ys xs b a)
+      one_list before (λ x h. not_itself x.router x.peer h) (λ x y z h k. precedes_through x.router y.router z.router x.peer y.peer z.peer h k) xs ys
+      a.order b.order (members xs ys a b) (members ys xs b a)
 
 impact_by : (net : PlainNet) (policy : PlainPolicy) (p : PlainPrefix) (s : PlainStatement) (a b : Impact) → IsImpactBy net policy p s a → IsImpactBy net policy p s b → a ≡ b
 impact_by net policy p s a b x y =
     let base = rankings_one net policy no_failures p s a.base b.base x.base y.base in
     let after : x.after ≡ y.after = λ i. λ cut. rankings_one net policy (failures_by cut) p s (x.after cut) (y.after cut) (x.ranked cut) (y.ranked cut) i in
-    let rows : a.rows ≡ b.rows = x.rows ∙ ap₂ (λ (before : List SourceRank) (after : Cut → List SourceRank). flat_map (λ (cut : Cut). row_of cut (changed before (after cut))) (cuts_of net)) base after ∙ sym y.rows in
+    let rows : a.rows ≡ b.rows =
+    x.rows
+    ∙ ap₂ (λ (before : List SourceRank) (after : Cut → List SourceRank). flat_map (λ (cut : Cut). row_of cut (changed before (after cut)))
+    (cuts_of net)) base after ∙ sym y.rows in
     let cuts : a.cuts ≡ b.cuts = x.cuts ∙ sym y.cuts in
     λ i. record { base = base i; cuts = cuts i; rows = rows i }
 

@@ -8,8 +8,8 @@ use Rattle.std.proofs.Math.Bool.{and-true}
 use Rattle.net_base.specs.Network.{PlainNet, is_peer, linked}
 use Rattle.net_base.specs.Sets.{holds}
 use Rattle.net_base.specs.Prefixes.{PlainPrefix}
-use Rattle.path_words.specs.Policies.{PlainPolicy, PlainStatement}
-use Rattle.path_words.specs.Permitted.{IsClaimedRouter, IsClaimedSession}
+use Rattle.policy_base.specs.Policies.{PlainPolicy, PlainStatement}
+use Rattle.policy_base.specs.Permitted.{IsClaimedRouter, IsClaimedSession}
 use Rattle.graph_base.specs.Graphs.{IsGraph}
 use Rattle.graph_base.specs.Rules.{IsWellFormed}
 use Rattle.graph_base.specs.Runs.{place_of, step_at, run, rank_at}
@@ -80,11 +80,14 @@ live_spared : (net : PlainNet) (f : Failures) (r peer : ℕ) → not (is_dead f 
 live_spared net f r peer h =
     let all = or_parts (is_dead f r || is_dead f peer) (is_dead_link f r peer) (not-true _ h) in
     let ends = or_parts (is_dead f r) (is_dead f peer) all.0 in
-    let mine : is_live net f r peer ≡ linked net r peer = rw (all.1, ends.0, ends.1) (ap (λ b. b && true && true) (and-true (linked net r peer)) ∙ ap (λ b. b && true) (and-true (linked net r peer)) ∙ and-true (linked net r peer)) in
-    let before : is_live net no_failures r peer ≡ linked net r peer = ap (λ b. b && true && true) (and-true (linked net r peer)) ∙ ap (λ b. b && true) (and-true (linked net r peer)) ∙ and-true (linked net r peer) in
+    let mine : is_live net f r peer ≡ linked net r peer = rw (all.1, ends.0, ends.1) (ap (λ b. b && true && true) (and-true (linked net r peer))
+    ∙ ap (λ b. b && true) (and-true (linked net r peer)) ∙ and-true (linked net r peer)) in
+    let before : is_live net no_failures r peer ≡ linked net r peer = ap (λ b. b && true && true) (and-true (linked net r peer))
+    ∙ ap (λ b. b && true) (and-true (linked net r peer)) ∙ and-true (linked net r peer) in
     mine ∙ sym before
 
-module _ (net : PlainNet) (policy : PlainPolicy) (p : PlainPrefix) (f : Failures) (s : PlainStatement) (c : PlainCaseEvidence) (origin : ℕ → Bool) (external : Bool) (graph : IsGraph c.graph) (formed : IsWellFormed net origin external c.graph)
+module _ (net : PlainNet) (policy : PlainPolicy) (p : PlainPrefix) (f : Failures) (s : PlainStatement) (c : PlainCaseEvidence) (origin : ℕ → Bool)
+    (external : Bool) (graph : IsGraph c.graph) (formed : IsWellFormed net origin external c.graph)
     (on : ℕ → Bool) (parent : ℕ → Option ℕ) (time : ℕ → ℕ) (support : IsSupport c.graph on parent time) (spared : IsSpared f c.graph on parent) (quiet : f.silent ≡ [])
     (before : AreToldByTops net policy no_failures p s c) (after : AreToldByTops net policy f p s c) where
   -- a router at which nothing is reached before has nothing after
@@ -94,7 +97,8 @@ module _ (net : PlainNet) (policy : PlainPolicy) (p : PlainPrefix) (f : Failures
   stays : (r n : ℕ) → IsTopAt net no_failures c r n → on n ≡ true → IsTopAt net f c r n
   stays r n top at = top_stays net f c origin external formed on parent time support spared quiet r n (run_begins c.graph r n top.reached.0 top.reached.1) top at
 
-  router : (r : ℕ) (rank : Option ℕ) → IsClaimedRouter net policy p s r → (o : Option ℕ) → IsTopOf net c on r o → IsBestRank net policy no_failures p s (r ∷ []) rank → IsBestRank net policy f p s (r ∷ []) rank
+  router : (r : ℕ) (rank : Option ℕ) → IsClaimedRouter net policy p s r → (o : Option ℕ) → IsTopOf net c on r o
+      → IsBestRank net policy no_failures p s (r ∷ []) rank → IsBestRank net policy f p s (r ∷ []) rank
   router r rank claimed None none h =
       let same = best_ranks_are_one net policy no_failures p s (r ∷ []) rank None h (before.no_router r claimed none) in
       subst (λ (o : Option ℕ). IsBestRank net policy f p s (r ∷ []) o) (sym same) (after.no_router r claimed (nothing r none))
@@ -109,7 +113,8 @@ module _ (net : PlainNet) (policy : PlainPolicy) (p : PlainPrefix) (f : Failures
       subst (λ (o : Option ℕ). IsBestRank net policy f p s (peer ∷ r ∷ []) o) (sym same) (after.no_session r peer claimed (nothing r none))
   session r peer rank claimed live (Some n) top h =
       let was = best_ranks_are_one net policy no_failures p s (peer ∷ r ∷ []) rank (rank_over net no_failures c n r peer) h (before.session r peer n claimed top.0) in
-      let same : rank_over net f c n r peer ≡ rank_over net no_failures c n r peer = ap (λ b. if b then option_and_then (rank_at c.graph) (step_at c.graph n peer) else None) (live_spared net f r peer live) in
+      let same : rank_over net f c n r peer ≡ rank_over net no_failures c n r peer =
+      ap (λ b. if b then option_and_then (rank_at c.graph) (step_at c.graph n peer) else None) (live_spared net f r peer live) in
       subst (λ (o : Option ℕ). IsBestRank net policy f p s (peer ∷ r ∷ []) o) (same ∙ sym was) (after.session r peer n claimed (stays r n top.0 top.1))
 
 pub cuts_off_the_support_change_nothing : CutsOffTheSupportChangeNothing
@@ -126,7 +131,11 @@ cuts_off_the_support_change_nothing net policy config cs rules kept passes p f s
           let graph = subst (λ (e : PlainCaseEvidence). IsGraph e.graph) same_d c.on.graph in
           let formed = subst (λ (e : PlainCaseEvidence). IsWellFormed net (holds e.case.origins) e.case.external e.graph) same_d c.on.faithful.formed in
           record {
-            router = λ r rank claimed h. router net policy p f s d (holds d.case.origins) d.case.external graph formed on parent time support spared quiet before after r rank claimed (top r) (of_routers r claimed) h;
-            session = λ r peer rank claimed live h. session net policy p f s d (holds d.case.origins) d.case.external graph formed on parent time support spared quiet before after r peer rank claimed live (top r) (of_sessions r peer claimed) h;
+            router =
+                λ r rank claimed h. router net policy p f s d (holds d.case.origins) d.case.external graph formed on parent time support spared quiet
+                before after r rank claimed (top r) (of_routers r claimed) h;
+            session =
+                λ r peer rank claimed live h. session net policy p f s d (holds d.case.origins) d.case.external graph formed on parent time support
+                spared quiet before after r peer rank claimed live (top r) (of_sessions r peer claimed) h;
           })
     ]

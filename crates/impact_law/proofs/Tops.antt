@@ -32,7 +32,8 @@ module _ (w : Setup) (k : Ranks) (wf : WellFormed w.net w.graph) (ranked : Meets
       let there : ReachedAt w v a.0 = record { rest = rest; runs = a.1; lives = l } in
       ranked.ranks n a.0 i (ap w.net.router at ∙ ro) (ap k.source at ∙ so) (above v n a.0 top there) (ranked.same_rank v rest a.0 so a.1 ∙ h)
 
-  session_least : (u p n : ℕ) → w.net.router u ≡ true → w.net.router p ≡ false → k.source p ≡ true → IsTop w u n → (rest : List ℕ) (i : ℕ) → k.of_path (p ∷ u ∷ rest) ≡ Some i → survives w.alive (u ∷ rest) ≡ true
+  session_least : (u p n : ℕ) → w.net.router u ≡ true → w.net.router p ≡ false → k.source p ≡ true → IsTop w u n → (rest : List ℕ) (i : ℕ)
+      → k.of_path (p ∷ u ∷ rest) ≡ Some i → survives w.alive (u ∷ rest) ≡ true
       → (h j : ℕ) × (w.graph.next n p ≡ Some h) × (k.of_node h ≡ Some j) × (j ≤ i)
   session_least u p n ru ro so top rest i h l =
       let a = ranked.has_run (p ∷ u ∷ rest) i h in
@@ -57,7 +58,8 @@ module _ (w : Setup) (k : Ranks) (wf : WellFormed w.net w.graph) (ranked : Meets
         let equal : b.1 ≡ j = omega (arith, b.4, back.2, same) in
         (d.rest, path ∙ ap Some equal, subst (λ q. loop_free q ≡ true) d.begins d.free, lives)
 
-    session_met : (u p n h j : ℕ) → w.net.router u ≡ true → w.net.router p ≡ false → w.net.origin p ≡ false → k.source p ≡ true → w.alive.live p ≡ true → w.alive.carries u p ≡ true → IsTop w u n → w.graph.next n p ≡ Some h → k.of_node h ≡ Some j
+    session_met : (u p n h j : ℕ) → w.net.router u ≡ true → w.net.router p ≡ false → w.net.origin p ≡ false → k.source p ≡ true
+        → w.alive.live p ≡ true → w.alive.carries u p ≡ true → IsTop w u n → w.graph.next n p ≡ Some h → k.of_node h ≡ Some j
         → (rest : List ℕ) × (k.of_path (p ∷ u ∷ rest) ≡ Some j) × (loop_free (p ∷ u ∷ rest) ≡ true) × (survives w.alive (p ∷ u ∷ rest) ≡ true)
     session_met u p n h j ru ro o so live carried top step rank =
         let runs : run w.graph (p ∷ u ∷ top.reached.rest) ≡ Some h = ap (option_and_then (λ m. w.graph.next m p)) top.reached.runs ∙ step in

@@ -3,9 +3,9 @@ use Rattle.std.specs.Prelude.{◌≡◌, ℕ, ◌+◌, ◌<◌, ◌≤◌, Bool,
 use Rattle.std.specs.List.{flat_map}
 use Rattle.net_base.specs.Network.{PlainNet}
 use Rattle.net_base.specs.Prefixes.{PlainPrefix}
-use Rattle.path_words.specs.Policies.{PlainPolicy, PlainStatement}
-use Rattle.path_words.specs.Governing.{statement_of}
-use Rattle.path_words.specs.Permitted.{IsClaimedRouter, IsClaimedSession}
+use Rattle.policy_base.specs.Policies.{PlainPolicy, PlainStatement}
+use Rattle.policy_base.specs.Governing.{statement_of}
+use Rattle.policy_base.specs.Permitted.{IsClaimedRouter, IsClaimedSession}
 use Rattle.net_base.specs.Locations.{numbers_below}
 use Rattle.list_laws.specs.Members.{IsIn}
 use Rattle.outcome_base.specs.Outcomes.{Failures}

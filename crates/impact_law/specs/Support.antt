@@ -2,17 +2,16 @@
 use Rattle.std.specs.Prelude.{◌≡◌, ℕ, suc, ◌<◌, Bool, not, ◌||◌, IsTrue, List, [], ◌∷◌, Option, Some, None, slice_get, length}
 use Rattle.net_base.specs.Network.{PlainNet, IsNet}
 use Rattle.net_base.specs.Prefixes.{PlainPrefix, IsPrefix}
-use Rattle.path_words.specs.Policies.{PlainPolicy, PlainStatement}
-use Rattle.path_words.specs.Governing.{statement_of}
-use Rattle.path_words.specs.Permitted.{IsClaimedRouter, IsClaimedSession}
+use Rattle.policy_base.specs.Policies.{PlainPolicy, PlainStatement, IsPolicyOf}
+use Rattle.policy_base.specs.Governing.{statement_of}
+use Rattle.policy_base.specs.Permitted.{IsClaimedRouter, IsClaimedSession}
 use Rattle.graph_base.specs.Graphs.{PlainGraph}
 use Rattle.graph_base.specs.Runs.{place_of, is_start, has_step}
 use Rattle.config_base.specs.Configs.{PlainConfig}
 use Rattle.config_base.specs.Lines.{class_of}
 use Rattle.evidence_base.specs.Made.{PlainCaseEvidence}
 use Rattle.outcome_base.specs.Outcomes.{Failures, is_dead, is_dead_link}
-use Rattle.path_words.specs.Policies.{IsPolicyOf}
-use Rattle.regret_law.specs.Passes.{Passes, IsCaseGraph}
+use Rattle.evidence_law.specs.Passes.{Passes, IsCaseGraph}
 use Rattle.settled_law.specs.Greatest.{IsReachedAt}
 use Rattle.impact_law.specs.BestRanks.{IsBestRank, IsTopAt}
 

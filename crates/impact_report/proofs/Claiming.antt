@@ -9,9 +9,9 @@ use Rattle.net_base.specs.Locations.{numbers_below}
 use Rattle.net_base.specs.Network.{IsBefore, PlainNet}
 use Rattle.net_base.specs.Prefixes.{PlainPrefix}
 use Rattle.net_base.proofs.NumbersBelow.{In-numbers_below}
-use Rattle.path_words.specs.Governing.{statement_of}
-use Rattle.path_words.specs.Permitted.{IsClaimedRouter, IsClaimedSession}
-use Rattle.path_words.specs.Policies.{PlainPolicy, PlainStatement}
+use Rattle.policy_base.specs.Governing.{statement_of}
+use Rattle.policy_base.specs.Permitted.{IsClaimedRouter, IsClaimedSession}
+use Rattle.policy_base.specs.Policies.{PlainPolicy, PlainStatement}
 use Rattle.report_lines.specs.Claims.{AreClaimed}
 use Rattle.report_lines.specs.Lines.{Sources}
 use Rattle.impact_law.specs.Impacts.{IsSource, Precedes}
@@ -49,7 +49,8 @@ module _ (net : PlainNet) (policy : PlainPolicy) (p : PlainPrefix) (s : PlainSta
   all r None claim =
       let test = (are.routers r).1 (s, governs, claim) in
       let low = In-numbers_below r (length net.routers) (ltb-true r (length net.routers) claim.at_router) in
-      IsIn-append_left routers sessions (router_source r) (IsIn-map router_source (filter claimed.routers (numbers_below (length net.routers))) r (IsIn-filter claimed.routers (numbers_below (length net.routers)) r low test))
+      IsIn-append_left routers sessions (router_source r) (IsIn-map router_source (filter claimed.routers (numbers_below (length net.routers))) r
+      (IsIn-filter claimed.routers (numbers_below (length net.routers)) r low test))
   all r (Some peer) claim =
       let there = (are.sessions r peer).1 (s, governs, claim) in
       IsIn-append_right routers sessions (session_source (r, peer)) (IsIn-map session_source claimed.sessions (r, peer) there)
@@ -72,7 +73,8 @@ module _ (net : PlainNet) (policy : PlainPolicy) (p : PlainPrefix) (s : PlainSta
 
 number_next : (claimed : ℕ → Bool) (n : ℕ) → router_sources claimed (n + 1) ≡ router_sources claimed n ++ map router_source (filter claimed (n ∷ []))
 number_next claimed n =
-    ap (map router_source) (ap (λ k. filter claimed (numbers_below k)) (next n) ∙ filter-append claimed (numbers_below n) (n ∷ [])) ∙ map-append router_source (filter claimed (numbers_below n)) (filter claimed (n ∷ []))
+    ap (map router_source) (ap (λ k. filter claimed (numbers_below k)) (next n) ∙ filter-append claimed (numbers_below n) (n ∷ []))
+    ∙ map-append router_source (filter claimed (numbers_below n)) (filter claimed (n ∷ []))
   where
     next : (k : ℕ) → k + 1 ≡ suc k
     next k = omega arith

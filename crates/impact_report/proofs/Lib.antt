@@ -6,3 +6,7 @@ mod Changing
 mod Ranking
 mod Rowing
 mod Whole
+mod Visits
+mod Visiting
+mod Reaching
+mod Choosing

@@ -8,10 +8,10 @@ use Rattle.list_laws.proofs.Members.{IsIn-map, IsIn-map_parts}
 use Rattle.list_laws.proofs.Options.{option_map_parts}
 use Rattle.net_base.specs.Network.{PlainNet}
 use Rattle.net_base.specs.Prefixes.{PlainPrefix}
-use Rattle.path_words.specs.Policies.{PlainPolicy, PlainStatement}
+use Rattle.policy_base.specs.Policies.{PlainPolicy, PlainStatement}
 use Rattle.evidence_base.specs.Made.{PlainCaseEvidence}
 use Rattle.outcome_base.specs.Outcomes.{Failures}
-use Rattle.regret_law.specs.Passes.{IsCaseGraph}
+use Rattle.evidence_law.specs.Passes.{IsCaseGraph}
 use Rattle.impact_law.specs.BestRanks.{AreTops, IsBestRank}
 use Rattle.impact_law.specs.Impacts.{IsRanking, IsSource, Precedes, begin_at, changed, failures_by, row_of}
 use Rattle.impact_law.specs.declared.impact.Cut.{Cut}
@@ -29,7 +29,8 @@ source_in x = record { router = x.router; peer = x.peer }
 
 module _ (net : PlainNet) (policy : PlainPolicy) (p : PlainPrefix) (s : PlainStatement) (f : Failures) where
   -- sources with their best ranks
-  pub ranking : (xs : List Source) (rank : ℕ → Option ℕ → Option ℕ) → AreSources net policy p s xs → ((r : ℕ) (peer : Option ℕ) → IsSource net policy p s r peer → IsBestRank net policy f p s (begin_at r peer) (rank r peer))
+  pub ranking : (xs : List Source) (rank : ℕ → Option ℕ → Option ℕ) → AreSources net policy p s xs
+      → ((r : ℕ) (peer : Option ℕ) → IsSource net policy p s r peer → IsBestRank net policy f p s (begin_at r peer) (rank r peer))
       → IsRanking net policy f p s (map (with_rank rank) xs)
   ranking xs rank are best = record {
     each = λ x at.
@@ -71,7 +72,8 @@ module _ (net : PlainNet) (policy : PlainPolicy) (p : PlainPrefix) (s : PlainSta
 
 -- so a cut's row is told by its tops
 pub row_by_tops : (net : PlainNet) (c : PlainCaseEvidence) (base : List SourceRank) (cut : Cut) (top : ℕ → Option ℕ) (list : List SourceRank)
-    → ((s : PlainStatement) → IsCaseGraph net s c → AreTops net (failures_by cut) c top) → list ≡ changed base (map (reranked (rank_under c.graph (failures_by cut) top)) base) → IsRow net c base cut (row_of cut list)
+    → ((s : PlainStatement) → IsCaseGraph net s c → AreTops net (failures_by cut) c top)
+    → list ≡ changed base (map (reranked (rank_under c.graph (failures_by cut) top)) base) → IsRow net c base cut (row_of cut list)
 row_by_tops net c base cut top list tops is policy p s based after ranked =
     let mine = reranking net policy p s c base based (failures_by cut) top (tops s based.on) in
     ap (row_of cut) (is ∙ ap (changed base) (rankings_one net policy (failures_by cut) p s _ after mine ranked))

@@ -23,11 +23,15 @@ module _ (net : PlainNet) (c : PlainCaseEvidence) (base : List SourceRank) where
       ap₂ (λ (xs ys : List CutRow). xs ++ ys) (are policy p s is after ranked) (one policy p s is (after cut) (ranked cut) ∙ sym (append-nil (Of cut))) ∙ sym (flat_map-append Of cuts (cut ∷ []))
 
   -- one router more behind some cuts
-  pub router_rows : (cuts : List Cut) (n : ℕ) (rows row : List CutRow) → AreRows net c base (cuts ++ map Router (numbers_below n)) rows → IsRow net c base (Router n) row → AreRows net c base (cuts ++ map Router (numbers_below (n + 1))) (rows ++ row)
+  pub router_rows : (cuts : List Cut) (n : ℕ) (rows row : List CutRow) → AreRows net c base (cuts ++ map Router (numbers_below n)) rows
+      → IsRow net c base (Router n) row → AreRows net c base (cuts ++ map Router (numbers_below (n + 1))) (rows ++ row)
   router_rows cuts n rows row are one = subst (λ (ks : List Cut). AreRows net c base ks (rows ++ row)) listed (rows_more (cuts ++ map Router (numbers_below n)) rows row (Router n) are one)
     where
       next : n + 1 ≡ suc n
       next = omega arith
 
       listed : (cuts ++ map Router (numbers_below n)) ++ Router n ∷ [] ≡ cuts ++ map Router (numbers_below (n + 1))
-      listed = append_assoc cuts (map Router (numbers_below n)) (Router n ∷ []) ∙ ap (λ (ks : List Cut). cuts ++ ks) (sym (map-append Router (numbers_below n) (n ∷ []))) ∙ ap (λ (k : ℕ). cuts ++ map Router (numbers_below k)) (sym next)
+      listed =
+          append_assoc cuts (map Router (numbers_below n)) (Router n ∷ [])
+          ∙ ap (λ (ks : List Cut). cuts ++ ks) (sym (map-append Router (numbers_below n) (n ∷ [])))
+          ∙ ap (λ (k : ℕ). cuts ++ map Router (numbers_below k)) (sym next)

@@ -6,15 +6,15 @@ use Rattle.list_laws.proofs.Members.{IsIn-nil}
 use Rattle.list_laws.proofs.Options.{cases_Option}
 use Rattle.net_base.specs.Network.{PlainNet, IsNet}
 use Rattle.net_base.specs.Prefixes.{PlainPrefix, IsPrefix}
-use Rattle.path_words.specs.Governing.{statement_of}
-use Rattle.path_words.specs.Policies.{IsPolicyOf, PlainPolicy, PlainStatement}
+use Rattle.policy_base.specs.Governing.{statement_of}
+use Rattle.policy_base.specs.Policies.{IsPolicyOf, PlainPolicy, PlainStatement}
 use Rattle.graph_base.specs.Rules.{same_pair}
 use Rattle.graph_base.specs.Runs.{place_of}
 use Rattle.config_base.specs.Configs.{PlainConfig}
 use Rattle.config_base.specs.Lines.{class_of}
 use Rattle.evidence_base.specs.Made.{PlainCaseEvidence, case_at}
 use Rattle.outcome_base.specs.Outcomes.{Failures}
-use Rattle.regret_law.specs.Passes.{IsCaseGraph, Passes}
+use Rattle.evidence_law.specs.Passes.{IsCaseGraph, Passes}
 use Rattle.report_lines.specs.Claims.{AreClaimed}
 use Rattle.report_lines.specs.Lines.{Sources}
 use Rattle.settled_law.proofs.SettledLaw.{case_or_bare}
@@ -43,13 +43,15 @@ none_changed [] = refl
 none_changed (cut ∷ cuts) = none_changed cuts
 
 -- an impact by a statement that governs
-governed_impact : (net : PlainNet) (policy : PlainPolicy) (p : PlainPrefix) (s : PlainStatement) (impact : Impact) → statement_of policy p ≡ Some s → IsImpactBy net policy p s impact → IsImpact net policy p impact
+governed_impact : (net : PlainNet) (policy : PlainPolicy) (p : PlainPrefix) (s : PlainStatement) (impact : Impact) → statement_of policy p ≡ Some s
+    → IsImpactBy net policy p s impact → IsImpact net policy p impact
 governed_impact net policy p s impact governs is = rw governs is
 
 bare_impact : (net : PlainNet) (policy : PlainPolicy) (p : PlainPrefix) (impact : Impact) → statement_of policy p ≡ None → IsBareImpact net impact → IsImpact net policy p impact
 bare_impact net policy p impact free is = rw free is
 
-module _ (net : PlainNet) (policy : PlainPolicy) (config : PlainConfig) (cs : List PlainCaseEvidence) (rules : IsNet net) (kept : IsPolicyOf net policy) (passes : Passes net policy config cs) (p : PlainPrefix) (prefix : IsPrefix p) where
+module _ (net : PlainNet) (policy : PlainPolicy) (config : PlainConfig) (cs : List PlainCaseEvidence) (rules : IsNet net)
+    (kept : IsPolicyOf net policy) (passes : Passes net policy config cs) (p : PlainPrefix) (prefix : IsPrefix p) where
   abbrev case_found : Option PlainCaseEvidence
   case_found = option_and_then (case_at cs) (class_of config p)
 
@@ -89,7 +91,8 @@ module _ (net : PlainNet) (policy : PlainPolicy) (config : PlainConfig) (cs : Li
             (t.0, subst (λ (e : PlainCaseEvidence). AreTops net f e t.0) same t.1))
       ]
 
-  pub whole : (d : PlainCaseEvidence) (claimed : Sources) (sources : List Source) (found : Found) (cuts : ℕ) → case_found ≡ Some d → AreClaimed net policy p claimed → sources ≡ sources_in net claimed → IsFound net d sources found
+  pub whole : (d : PlainCaseEvidence) (claimed : Sources) (sources : List Source) (found : Found) (cuts : ℕ) → case_found ≡ Some d
+      → AreClaimed net policy p claimed → sources ≡ sources_in net claimed → IsFound net d sources found
       → cuts ≡ length net.links + length net.routers → IsImpact net policy p (record { base = found.base; cuts = cuts; rows = found.rows })
   whole d claimed sources found cuts at are listed is count = by (of_case d at)
     where
@@ -97,11 +100,14 @@ module _ (net : PlainNet) (policy : PlainPolicy) (config : PlainConfig) (cs : Li
       by of =
           let ordered = are_sources net policy p of.s of.governs claimed are in
           let told = ranks_told net policy p of.s d no_failures (of.told no_failures) is.top (is.tops of.s of.on) in
-          let first : IsRanking net policy no_failures p of.s (map (with_rank (rank_under d.graph no_failures is.top)) (sources_in net claimed)) = ranking net policy p of.s no_failures (sources_in net claimed) (rank_under d.graph no_failures is.top) ordered told in
-          let same : map (with_rank (rank_under d.graph no_failures is.top)) (sources_in net claimed) ≡ found.base = same_ranks ∙ sym (is.base ∙ ap (map (with_rank (rank_by d.graph is.top))) listed) in
+          let first : IsRanking net policy no_failures p of.s (map (with_rank (rank_under d.graph no_failures is.top)) (sources_in net claimed)) =
+          ranking net policy p of.s no_failures (sources_in net claimed) (rank_under d.graph no_failures is.top) ordered told in
+          let same : map (with_rank (rank_under d.graph no_failures is.top)) (sources_in net claimed) ≡ found.base =
+          same_ranks ∙ sym (is.base ∙ ap (map (with_rank (rank_by d.graph is.top))) listed) in
           let based : IsBase net policy p of.s d found.base = record { on = of.on; told = of.told; ranking = subst (IsRanking net policy no_failures p of.s) same first } in
           let after : Cut → List SourceRank = λ (cut : Cut). map (reranked (rank_under d.graph (failures_by cut) (of.top (failures_by cut)))) found.base in
-          let ranked : (cut : Cut) → IsRanking net policy (failures_by cut) p of.s (after cut) = λ cut. reranking net policy p of.s d found.base based (failures_by cut) (of.top (failures_by cut)) (of.tops (failures_by cut)) in
+          let ranked : (cut : Cut) → IsRanking net policy (failures_by cut) p of.s (after cut) = λ cut. reranking net policy p of.s d found.base based
+          (failures_by cut) (of.top (failures_by cut)) (of.tops (failures_by cut)) in
           governed_impact net policy p of.s _ of.governs (record { base = based.ranking; after = after; ranked = ranked; rows = is.rows policy p of.s based after ranked; cuts = count })
         where
           -- where nothing fails no session is dead

@@ -1,9 +1,9 @@
 -- What is found by the graph of a case.
 use Rattle.std.specs.Prelude.{◌≡◌, ℕ, List, Option, map}
 use Rattle.net_base.specs.Network.{PlainNet}
-use Rattle.path_words.specs.Policies.{PlainStatement}
+use Rattle.policy_base.specs.Policies.{PlainStatement}
 use Rattle.evidence_base.specs.Made.{PlainCaseEvidence}
-use Rattle.regret_law.specs.Passes.{IsCaseGraph}
+use Rattle.evidence_law.specs.Passes.{IsCaseGraph}
 use Rattle.impact_law.specs.BestRanks.{AreTops}
 use Rattle.impact_law.specs.Impacts.{cuts_of}
 use Rattle.impact_law.specs.Support.{no_failures}

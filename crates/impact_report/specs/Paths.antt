@@ -6,7 +6,7 @@ use Rattle.graph_base.specs.Rules.{same_pair}
 use Rattle.graph_base.specs.Runs.{has_step, place_of, rank_at, step_at}
 use Rattle.outcome_base.specs.Outcomes.{Failures}
 use Rattle.reach_prune.specs.Searches.{AreLists, is_listed}
-use Rattle.cut_search.specs.Left.{spares}
+use Rattle.impact_report.specs.Left.{spares}
 
 -- The lists have the nodes to which a step leads from each, at most one at a location.
 pub record AreStepLists (g : PlainGraph) (lists : List (List ℕ)) : Type 0 where

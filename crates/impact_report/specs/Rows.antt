@@ -3,10 +3,10 @@ use Rattle.std.specs.Prelude.{◌≡◌, ℕ, List, [], ◌∷◌, Option, Some,
 use Rattle.std.specs.List.{flat_map}
 use Rattle.net_base.specs.Network.{PlainNet}
 use Rattle.net_base.specs.Prefixes.{PlainPrefix}
-use Rattle.path_words.specs.Policies.{PlainPolicy, PlainStatement}
+use Rattle.policy_base.specs.Policies.{PlainPolicy, PlainStatement}
 use Rattle.evidence_base.specs.Made.{PlainCaseEvidence}
 use Rattle.outcome_base.specs.Outcomes.{Failures}
-use Rattle.regret_law.specs.Passes.{IsCaseGraph}
+use Rattle.evidence_law.specs.Passes.{IsCaseGraph}
 use Rattle.impact_law.specs.BestRanks.{AreToldByTops}
 use Rattle.impact_law.specs.Impacts.{IsRanking, changed, failures_by, row_of}
 use Rattle.impact_law.specs.Support.{no_failures}

@@ -4,7 +4,7 @@ use Rattle.list_laws.specs.Members.{IsIn}
 use Rattle.net_base.specs.Locations.{numbers_below}
 use Rattle.net_base.specs.Network.{PlainNet}
 use Rattle.net_base.specs.Prefixes.{PlainPrefix}
-use Rattle.path_words.specs.Policies.{PlainPolicy, PlainStatement}
+use Rattle.policy_base.specs.Policies.{PlainPolicy, PlainStatement}
 use Rattle.report_lines.specs.Lines.{Sources}
 use Rattle.impact_law.specs.Impacts.{IsSource, Precedes}
 use Rattle.impact_law.specs.declared.impact.SourceRank.{SourceRank}

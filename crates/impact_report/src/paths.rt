@@ -1,10 +1,10 @@
 //! The ranks that tops tell.
 ghost use Rattle.std.specs.Prelude.{◌≡◌, ◌<◌};
 ghost use Rattle.impact_law.specs.Impacts.{failures_by};
-ghost use Rattle.cut_search.specs.Tops.{AreNodes, entry_at};
+ghost use Rattle.impact_report.specs.Tops.{AreNodes, entry_at};
 ghost use Rattle.impact_report.specs.Paths.{leaves as is_left};
 
-use cut_search::spares;
+use crate::spares;
 use evidence_base::CaseEvidence;
 use impact_law::Cut;
 use net_base::Loc;

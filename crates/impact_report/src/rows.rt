@@ -1,13 +1,13 @@
 //! The rows of an impact.
 ghost use Rattle.std.specs.Prelude.{◌≡◌, ℕ, length};
-ghost use Rattle.cut_search.specs.Tops.{AreNodes, entry_at};
+ghost use Rattle.impact_report.specs.Tops.{AreNodes, entry_at};
 ghost use Rattle.impact_law.specs.Impacts.{changed, cuts_of, failures_by};
 ghost use Rattle.impact_report.specs.Paths.{AreStepLists};
 ghost use Rattle.impact_report.specs.Rows.{AreRows, IsRow, rows_in};
 ghost use Rattle.impact_report.specs.Sources.{reranked};
 
+use crate::cut_tops;
 use crate::paths::{Paths, leaves};
-use cut_search::cut_tops;
 use impact_law::{Cut, CutRow, SourceRank};
 use net_base::{List, Loc, Net};
 use std::alloc::{AllocError, Global};

@@ -4,8 +4,8 @@ use Rattle.std.specs.Prelude.{if◌then◌else◌}
 use Rattle.std.specs.List.{list_any}
 use Rattle.std.proofs.Math.Seq.{drop-cons}
 use Rattle.net_base.specs.Prefixes.{PlainPrefix, contains}
-use Rattle.path_words.specs.declared.case.Case.{Case}
-use Rattle.path_words.specs.Policies.{PlainPolicy}
+use Rattle.policy_base.specs.declared.case.Case.{Case}
+use Rattle.policy_base.specs.Policies.{PlainPolicy}
 use Rattle.config_base.specs.Lines.{class_from}
 use Rattle.evidence_base.specs.Made.{patterns_of}
 
@@ -20,5 +20,6 @@ module _ (policy : PlainPolicy) (p : PlainPrefix) (cases : List Case) (i : ℕ) 
   pub class_here : list_any (λ pattern. contains pattern p) (patterns_of policy case) ≡ true → class_from (map (patterns_of policy) (drop i cases)) p (i + 1) ≡ Some (i + 1)
   class_here passes = ap (λ cs. class_from cs p (i + 1)) from_here ∙ ap (λ b. if b then Some (i + 1) else class_from (map (patterns_of policy) (drop (i + 1) cases)) p (i + 1 + 1)) passes
 
-  pub class_later : list_any (λ pattern. contains pattern p) (patterns_of policy case) ≡ false → class_from (map (patterns_of policy) (drop i cases)) p (i + 1) ≡ class_from (map (patterns_of policy) (drop (i + 1) cases)) p (i + 1 + 1)
+  pub class_later : list_any (λ pattern. contains pattern p) (patterns_of policy case) ≡ false
+      → class_from (map (patterns_of policy) (drop i cases)) p (i + 1) ≡ class_from (map (patterns_of policy) (drop (i + 1) cases)) p (i + 1 + 1)
   class_later fails = ap (λ cs. class_from cs p (i + 1)) from_here ∙ ap (λ b. if b then Some (i + 1) else class_from (map (patterns_of policy) (drop (i + 1) cases)) p (i + 1 + 1)) fails

@@ -1,8 +1,8 @@
 -- How many cases a policy has.
 use Rattle.std.proofs.Common.{◌<◌, ◌^◌, length, arith}
 use Rattle.net_base.specs.Network.{PlainNet}
-use Rattle.path_words.specs.Cases.{case_list}
-use Rattle.path_words.specs.Policies.{IsPolicy, PlainPolicy}
+use Rattle.policy_base.specs.Cases.{case_list}
+use Rattle.policy_base.specs.Policies.{IsPolicy, PlainPolicy}
 use Rattle.config_made.proofs.CaseClasses.{case_count}
 
 -- a policy has as many cases as prefixes and statements at most

@@ -4,13 +4,13 @@ ghost use Rattle.std.specs.List.{list_any};
 ghost use Rattle.config_base.specs.Lines.{class_from};
 ghost use Rattle.evidence_base.specs.Made.{patterns_of};
 ghost use Rattle.net_base.specs.Prefixes.{contains, only};
-ghost use Rattle.path_words.specs.Policies.{policy_of};
+ghost use Rattle.policy_base.specs.Policies.{policy_of};
 ghost use Rattle.impact_text.specs.Texts.{classes_for};
 
 use config_made::statement_at;
 use net_base::{Net, Pattern, Prefix};
 use outside::NoMemory;
-use path_words::{Case, Policy, cases};
+use policy_base::{Case, Policy, cases};
 use std::alloc::Global;
 
 /// Whether one of some patterns contains a prefix.

@@ -1,6 +1,6 @@
 //! The text of an impact.
 ghost use Rattle.std.specs.Prelude.{◌≡◌, IfOk};
-ghost use Rattle.path_words.specs.Policies.{policy_of};
+ghost use Rattle.policy_base.specs.Policies.{policy_of};
 ghost use Rattle.impact_text.specs.Texts.{impact_text as text_of_impact};
 
 use crate::class::class_for;
@@ -8,7 +8,7 @@ use crate::lines::{push_base, push_counts, push_rows};
 use impact_law::Impact;
 use net_base::{Net, Prefix};
 use outside::NoMemory;
-use path_words::Policy;
+use policy_base::Policy;
 use report_lines::push_head;
 use std::alloc::Global;
 

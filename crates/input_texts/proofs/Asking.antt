@@ -1,8 +1,8 @@
 -- A job that says a thing of texts, of which the first two are a topology and a policy for its network.
 use Rattle.std.proofs.Common.{◌≡◌, ◌≢◌, ℕ, List, [], ◌∷◌}
 use Rattle.net_base.specs.Network.{PlainNet, IsNet}
-use Rattle.path_words.specs.Policies.{IsPolicyOf, PlainPolicy}
-use Rattle.policy_law.proofs.ReadPolicies.{read_policies_fit}
+use Rattle.policy_base.specs.Policies.{IsPolicyOf, PlainPolicy}
+use Rattle.policy_parser.proofs.FittingPolicies.{read_policies_fit}
 use Rattle.topology.proofs.TextLaws.{net_read}
 use Rattle.run_base.specs.declared.outcome.Status.TheVariants.{BadInput}
 use Rattle.run_base.specs.Reading.{Holds, AllHeld, SaidOfTold}

@@ -1,2 +1,4 @@
-pub mod Asking
+mod ReadTexts
+mod ReadPolicies
 pub mod Spelling
+pub mod Asking

@@ -1,7 +1,7 @@
 -- What is said of texts, each of which spells something or has a fault.
 use Rattle.std.proofs.Common.{◌≡◌, ◌≢◌, ℕ, List, Result, Ok, inl, inr, sym, ap, subst, ◌∙◌}
 use Rattle.net_base.specs.Network.{PlainNet}
-use Rattle.path_words.specs.Policies.{PlainPolicy}
+use Rattle.policy_base.specs.Policies.{PlainPolicy}
 use Rattle.policy_parser.specs.Spelled.{spelled as policy_spelled}
 use Rattle.topology.specs.Topology.{spelled}
 use Rattle.config_base.specs.Configs.{PlainConfig}

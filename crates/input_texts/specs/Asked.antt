@@ -1,7 +1,7 @@
 -- Which network and which policy the texts under names spell.
 use Rattle.std.specs.Prelude.{◌≡◌, ℕ, List, ◌∷◌, Ok}
 use Rattle.net_base.specs.Network.{PlainNet}
-use Rattle.path_words.specs.Policies.{PlainPolicy}
+use Rattle.policy_base.specs.Policies.{PlainPolicy}
 use Rattle.topology.specs.Topology.{spelled as net_spelled_by}
 use Rattle.policy_parser.specs.Spelled.{spelled as policy_spelled_by}
 use Rattle.run_base.specs.Reading.{Holds, AllHeld}

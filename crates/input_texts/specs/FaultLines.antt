@@ -1,6 +1,7 @@
 -- What is said of a text that breaks a rule.
 use Rattle.std.specs.Prelude.{ℕ, List, ◌++◌, codes}
 use Rattle.std.specs.Fmt.{decimal}
+use Rattle.text_faults.specs.Telling.{Telling}
 use Rattle.topology.specs.declared.fault.TopoFault.{TopoFault}
 use Rattle.topology.specs.Faults as topology
 use Rattle.policy_tokens.specs.declared.fault.PolicyFault.{PolicyFault}
@@ -9,24 +10,40 @@ use Rattle.config_reader.specs.declared.fault.ConfigFault.{ConfigFault}
 use Rattle.config_reader.specs.Faults as config
 use Rattle.evidence_text.specs.declared.fault.EvidenceFault.{EvidenceFault}
 use Rattle.evidence_text.specs.Faults as evidence
-use Rattle.scenario_text.specs.declared.fault.ScenarioFault.{ScenarioFault}
-use Rattle.scenario_text.specs.Faults as scenario
+use Rattle.scenario_reader.specs.declared.fault.ScenarioFault.{ScenarioFault}
+use Rattle.scenario_reader.specs.Faults as scenario
+use Rattle.event_reader.specs.declared.fault.EventsFault.{EventsFault}
+use Rattle.event_reader.specs.Faults as events
+use Rattle.table_reader.specs.declared.fault.TablesFault.{TablesFault}
+use Rattle.table_reader.specs.Faults as tables
 
 -- the kind of text, the number of the rule, its word, and its values
-abbrev pub fault_line : List ℕ → ℕ → List ℕ → List ℕ → List ℕ
-fault_line text number word values = codes "propane: " ++ text ++ codes " " ++ decimal number ++ codes " " ++ word ++ values ++ codes "\n"
+unfoldable pub fault_line : {F : Type 0} → Telling F → List ℕ → F → List ℕ
+fault_line told text f = codes "propane: " ++ text ++ codes " " ++ decimal (told.number_of f) ++ codes " " ++ told.word_of f ++ told.values_of f ++ codes "\n"
 
-unfoldable pub topology_line : TopoFault → List ℕ
-topology_line f = fault_line (codes "topology") (topology.number_of f) (topology.word_of f) (topology.values_of f)
+-- ---- of each kind of text
 
-unfoldable pub policy_line : PolicyFault → List ℕ
-policy_line f = fault_line (codes "policy") (policy.number_of f) (policy.word_of f) (policy.values_of f)
+abbrev pub topology_line : TopoFault → List ℕ
+topology_line = fault_line topology.told (codes "topology")
 
-unfoldable pub config_line : ConfigFault → List ℕ
-config_line f = fault_line (codes "config") (config.number_of f) (config.word_of f) (config.values_of f)
+abbrev pub policy_line : PolicyFault → List ℕ
+policy_line = fault_line policy.told (codes "policy")
 
-unfoldable pub evidence_line : EvidenceFault → List ℕ
-evidence_line f = fault_line (codes "evidence") (evidence.number_of f) (evidence.word_of f) (evidence.values_of f)
+abbrev pub config_line : ConfigFault → List ℕ
+config_line = fault_line config.told (codes "config")
 
-unfoldable pub scenario_line : ScenarioFault → List ℕ
-scenario_line f = fault_line (codes "scenario") (scenario.number_of f) (scenario.word_of f) (scenario.values_of f)
+abbrev pub evidence_line : EvidenceFault → List ℕ
+evidence_line = fault_line evidence.told (codes "evidence")
+
+abbrev pub scenario_line : ScenarioFault → List ℕ
+scenario_line = fault_line scenario.told (codes "scenario")
+
+abbrev pub events_line : EventsFault → List ℕ
+events_line = fault_line events.told (codes "events")
+
+abbrev pub tables_line : TablesFault → List ℕ
+tables_line = fault_line tables.told (codes "tables")
+
+-- a text of maps has the faults of a configuration's
+abbrev pub maps_line : ConfigFault → List ℕ
+maps_line = fault_line config.told (codes "maps")

@@ -4,5 +4,7 @@
 mod fault_lines;
 mod texts;
 
-pub use fault_lines::push_fault;
-pub use texts::{config_1_for, config_for, evidence_for, net_of, policy_for, scenario_for};
+pub use texts::{
+    config_1_for, config_for, events_for, evidence_for, maps_for, net_of, policy_for, scenario_for,
+    tables_for,
+};

@@ -19,7 +19,8 @@ module _ {R F : Type 0} (with_line : ℕ → R → List ℕ → Result R F) wher
   first_from n r [] e h = absurd cc
   first_from n r (t ∷ ts) e h = by (with_line n r t) refl h (λ s. first_from (n + 1) s ts e)
     where
-      by : (o : Result R F) → with_line n r t ≡ o → (o >>= (λ s. line_by_line with_line (n + 1) s ts)) ≡ Err e → ((s : R) → line_by_line with_line (n + 1) s ts ≡ Err e → FirstFrom (n + 1) s ts e) → FirstFrom n r (t ∷ ts) e
+      by : (o : Result R F) → with_line n r t ≡ o → (o >>= (λ s. line_by_line with_line (n + 1) s ts)) ≡ Err e
+          → ((s : R) → line_by_line with_line (n + 1) s ts ≡ Err e → FirstFrom (n + 1) s ts e) → FirstFrom n r (t ∷ ts) e
       by (Err d) is k later =
           let here : 0 + n ≡ n = omega arith in
           record { taken = []; line = t; more = ts; reading = r; whole = refl; fine = refl; wrong = ap (λ (m : ℕ). with_line m r t) here ∙ is ∙ k }
@@ -36,7 +37,8 @@ module _ {R F : Type 0} (with_line : ℕ → R → List ℕ → Result R F) wher
             wrong = ap (λ (m : ℕ). with_line m rest.reading rest.line) place ∙ rest.wrong;
           }
 
-  pub fault_from : (n : ℕ) (r s : R) (taken more : List (List ℕ)) (line : List ℕ) (e : F) → line_by_line with_line n r taken ≡ Ok s → with_line (length taken + n) s line ≡ Err e → line_by_line with_line n r (taken ++ line ∷ more) ≡ Err e
+  pub fault_from : (n : ℕ) (r s : R) (taken more : List (List ℕ)) (line : List ℕ) (e : F) → line_by_line with_line n r taken ≡ Ok s
+      → with_line (length taken + n) s line ≡ Err e → line_by_line with_line n r (taken ++ line ∷ more) ≡ Err e
   fault_from n r s [] more line e h k =
       let same : r ≡ s = ok_same r s h in
       let here : n ≡ 0 + n = omega arith in

@@ -12,7 +12,8 @@ module _ {R F : Type 0} (with_line : ℕ → R → List ℕ → Result R F) wher
       → line_by_line with_line n r (line ∷ more) ≡ whole → line_by_line with_line (n + 1) s more ≡ whole
   line_by_line-next n r s line more whole here h = rw here at h
 
-  pub line_by_line-append : (n : ℕ) (r s t : R) (xs ys : List (List ℕ)) → line_by_line with_line n r xs ≡ Ok s → ((m : ℕ) → line_by_line with_line m s ys ≡ Ok t) → line_by_line with_line n r (xs ++ ys) ≡ Ok t
+  pub line_by_line-append : (n : ℕ) (r s t : R) (xs ys : List (List ℕ)) → line_by_line with_line n r xs ≡ Ok s
+      → ((m : ℕ) → line_by_line with_line m s ys ≡ Ok t) → line_by_line with_line n r (xs ++ ys) ≡ Ok t
   line_by_line-append n r s t [] ys h k = let same : r ≡ s = ok_same r s h in ap (λ (q : R). line_by_line with_line n q ys) same ∙ k n
   line_by_line-append n r s t (x ∷ xs) ys h k =
       let b = bind_ok (with_line n r x) (λ q. line_by_line with_line (n + 1) q xs) s h in
@@ -21,7 +22,9 @@ module _ {R F : Type 0} (with_line : ℕ → R → List ℕ → Result R F) wher
   -- the line here makes what was read more
   pub taken : (n : ℕ) (r s : R) (bytes line rest : List ℕ) (whole : Result R F) → halves line rest ≡ cut_at 10 bytes → with_line n r line ≡ Ok s
       → line_by_line with_line n r (whole_lines (lines_of bytes)) ≡ whole → line_by_line with_line (n + 1) s (whole_lines (lines_of rest)) ≡ whole
-  taken n r s bytes line rest whole cut here before = line_by_line-next n r s line (whole_lines (lines_of rest)) whole here (sym (ap (line_by_line with_line n r) (whole_lines_there bytes line rest cut)) ∙ before)
+  taken n r s bytes line rest whole cut here before =
+      line_by_line-next n r s line (whole_lines (lines_of rest)) whole here
+      (sym (ap (line_by_line with_line n r) (whole_lines_there bytes line rest cut)) ∙ before)
 
   -- it has a fault
   pub fault_stops : (n : ℕ) (r : R) (bytes line rest : List ℕ) (whole : Result R F) (e : F) → halves line rest ≡ cut_at 10 bytes → with_line n r line ≡ Err e

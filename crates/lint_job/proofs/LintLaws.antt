@@ -2,7 +2,7 @@
 use Rattle.std.proofs.Common.{◌≡◌, ◌≢◌, ℕ, List, [], ◌∷◌, refl, sym, ap, subst, ◌∙◌, inl, inr}
 use Rattle.std.specs.Prelude.{◌⊎◌}
 use Rattle.net_base.specs.Network.{PlainNet}
-use Rattle.path_words.specs.Policies.{PlainPolicy}
+use Rattle.policy_base.specs.Policies.{PlainPolicy}
 use Rattle.run_base.specs.declared.outcome.Status.TheVariants.{BadInput, Done, Refused}
 use Rattle.run_base.specs.Reading.{Holds, AllHeld, SaidOfTold}
 use Rattle.run_base.specs.Said.{Said, text, line}

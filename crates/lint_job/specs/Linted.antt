@@ -1,7 +1,7 @@
 -- What `lint` says of a network and of a policy with its text.
 use Rattle.std.specs.Prelude.{◌≡◌, ◌≢◌, ◌⊎◌, ℕ, List, [], ◌∷◌}
 use Rattle.net_base.specs.Network.{PlainNet}
-use Rattle.path_words.specs.Policies.{PlainPolicy}
+use Rattle.policy_base.specs.Policies.{PlainPolicy}
 use Rattle.run_base.specs.declared.outcome.Status.TheVariants.{Refused}
 use Rattle.run_base.specs.Said.{Said, text, line}
 use Rattle.input_texts.specs.Texts.{OfTexts}

@@ -1,6 +1,6 @@
 //! The command `lint`.
 ghost use Rattle.std.specs.Prelude.{◌≡◌, ◌<◌, Ok, length};
-ghost use Rattle.path_words.specs.Policies.{policy_of};
+ghost use Rattle.policy_base.specs.Policies.{policy_of};
 ghost use Rattle.policy_parser.specs.Spelled.{spelled};
 ghost use Rattle.run_base.specs.Said.{IsGiven, said};
 ghost use Rattle.input_texts.specs.Texts.{OfTexts};
@@ -9,7 +9,7 @@ ghost use Rattle.lint_job.specs.Linted.{SaysOfPolicy};
 use crate::lines::lint_text;
 use input_texts::{net_of, policy_for};
 use net_base::Net;
-use path_words::Policy;
+use policy_base::Policy;
 use policy_lint::{LintRefusal, compile_refusal, lint};
 use refusal_lines::refusal_line;
 use run_base::{Status, Stop};

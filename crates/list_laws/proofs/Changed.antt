@@ -39,11 +39,14 @@ filter-filter p q (x ∷ xs) = at (filter-filter p q xs) (q x) (p x) refl
     at rest true false h = cond-false (p x) _ _ h ∙ rest ∙ sym (cond-false (p x) _ _ h)
     at rest false c h = rest
 
-pub filter_map_yes : {X Y : Type 0} (h : X → Option Y) (xs : List X) (i : ℕ) (d : X) (y : Y) → i < length xs → h (get_or xs i d) ≡ Some y → filter_map h (take (i + 1) xs) ≡ filter_map h (take i xs) ++ y ∷ []
+pub filter_map_yes : {X Y : Type 0} (h : X → Option Y) (xs : List X) (i : ℕ) (d : X) (y : Y) → i < length xs → h (get_or xs i d) ≡ Some y
+    → filter_map h (take (i + 1) xs) ≡ filter_map h (take i xs) ++ y ∷ []
 filter_map_yes h xs i d y lt gives = ap (filter_map h) (take_more xs i d lt) ∙ filter_map-append h (take i xs) (get_or xs i d ∷ []) ∙ ap (λ o. filter_map h (take i xs) ++ cons_option o []) gives
 
 pub filter_map_no : {X Y : Type 0} (h : X → Option Y) (xs : List X) (i : ℕ) (d : X) → i < length xs → h (get_or xs i d) ≡ None → filter_map h (take (i + 1) xs) ≡ filter_map h (take i xs)
-filter_map_no h xs i d lt gives = ap (filter_map h) (take_more xs i d lt) ∙ filter_map-append h (take i xs) (get_or xs i d ∷ []) ∙ ap (λ o. filter_map h (take i xs) ++ cons_option o []) gives ∙ append-nil _
+filter_map_no h xs i d lt gives =
+    ap (filter_map h) (take_more xs i d lt) ∙ filter_map-append h (take i xs) (get_or xs i d ∷ [])
+    ∙ ap (λ o. filter_map h (take i xs) ++ cons_option o []) gives ∙ append-nil _
 
 -- what is the same of each item is the same of all of them
 pub filter_same : {A : Type 0} (p q : A → Bool) (xs : List A) → ((x : A) → IsIn xs x → p x ≡ q x) → filter p xs ≡ filter q xs

@@ -30,8 +30,10 @@ count_split p a zero n =
 count_split p a (suc m) n =
     let longer : suc m + n ≡ suc (m + n) = omega arith in
     let behind : (a + 1) + m ≡ a + suc m = omega arith in
-    let rest : count_by p (range_with_len (a + 1) (m + n)) ≡ count_by p (range_with_len (a + 1) m) + count_by p (range_with_len (a + suc m) n) = count_split p (a + 1) m n ∙ ap (λ z. count_by p (range_with_len (a + 1) m) + count_by p (range_with_len z n)) behind in
-    ap (λ z. count_by p (range_with_len a z)) longer ∙ count_first p a (m + n) ∙ ap (λ (z : ℕ). cond (p a) 1 0 + z) rest ∙ regroup (cond (p a) 1 0) (count_by p (range_with_len (a + 1) m)) (count_by p (range_with_len (a + suc m) n))
+    let rest : count_by p (range_with_len (a + 1) (m + n)) ≡ count_by p (range_with_len (a + 1) m) + count_by p (range_with_len (a + suc m) n) =
+    count_split p (a + 1) m n ∙ ap (λ z. count_by p (range_with_len (a + 1) m) + count_by p (range_with_len z n)) behind in
+    ap (λ z. count_by p (range_with_len a z)) longer ∙ count_first p a (m + n) ∙ ap (λ (z : ℕ). cond (p a) 1 0 + z) rest
+    ∙ regroup (cond (p a) 1 0) (count_by p (range_with_len (a + 1) m)) (count_by p (range_with_len (a + suc m) n))
     ∙ ap (λ (z : ℕ). z + count_by p (range_with_len (a + suc m) n)) (sym (count_first p a m))
   where
     regroup : (x y z : ℕ) → x + (y + z) ≡ (x + y) + z
@@ -43,7 +45,9 @@ count_within p a n = omega (arith, count_by-le-length p (range_with_len a n), le
 -- where none passes there are none
 pub count_none : (p : ℕ → Bool) (a n : ℕ) → ((k : ℕ) → a ≤ k → p k ≡ false) → count_by p (range_with_len a n) ≡ 0
 count_none p a zero h = refl
-count_none p a (suc n) h = count_first p a n ∙ ap (λ (z : Bool). cond z 1 0 + count_by p (range_with_len (a + 1) n)) (h a (omega arith)) ∙ ap (λ (z : ℕ). 0 + z) (count_none p (a + 1) n (λ k le. h k (omega arith)))
+count_none p a (suc n) h =
+    count_first p a n ∙ ap (λ (z : Bool). cond z 1 0 + count_by p (range_with_len (a + 1) n)) (h a (omega arith))
+    ∙ ap (λ (z : ℕ). 0 + z) (count_none p (a + 1) n (λ k le. h k (omega arith)))
 
 pub count_to : (p : ℕ → Bool) (bits all : ℕ) → bits ≤ all → ((k : ℕ) → bits ≤ k → p k ≡ false) → count_by p (range_with_len 0 all) ≡ count_by p (range_with_len 0 bits)
 count_to p bits all le h =

@@ -51,7 +51,8 @@ pub AllByRecursion-from_list_all : {X : Type 0} (P : X → Type 0) (p : X → Bo
 AllByRecursion-from_list_all P p each [] h = tt
 AllByRecursion-from_list_all P p each (x ∷ xs) h = let a = and_parts (p x) (list_all p xs) h in (each x a.0, AllByRecursion-from_list_all P p each xs a.1)
 
-pub AllByRecursion-map_from_list_all : {X Y : Type 0} (P : Y → Type 0) (f : X → Y) (p : X → Bool) → ((x : X) → p x ≡ true → P (f x)) → (xs : List X) → list_all p xs ≡ true → AllByRecursion P (map f xs)
+pub AllByRecursion-map_from_list_all : {X Y : Type 0} (P : Y → Type 0) (f : X → Y) (p : X → Bool) → ((x : X) → p x ≡ true → P (f x)) → (xs : List X)
+    → list_all p xs ≡ true → AllByRecursion P (map f xs)
 AllByRecursion-map_from_list_all P f p each [] h = tt
 AllByRecursion-map_from_list_all P f p each (x ∷ xs) h = let a = and_parts (p x) (list_all p xs) h in (each x a.0, AllByRecursion-map_from_list_all P f p each xs a.1)
 

@@ -40,7 +40,8 @@ pub one_place : {A : Type 0} (key : A → ℕ) (xs : List A) (i j : ℕ) (x y : 
 one_place key xs i j x y apart at_i at_j same = place_by_key nat_eq key xs i j x y apart at_i at_j (eq-eqb _ _ same) (eq-eqb _ _ (sym same))
 
 -- and they are one
-pub one_by_key : {A K : Type 0} (e : K → K → Bool) (key : A → K) (xs : List A) (x y : A) → IsDistinct e (map key xs) → IsIn xs x → IsIn xs y → e (key x) (key y) ≡ true → e (key y) (key x) ≡ true → x ≡ y
+pub one_by_key : {A K : Type 0} (e : K → K → Bool) (key : A → K) (xs : List A) (x y : A) → IsDistinct e (map key xs) → IsIn xs x → IsIn xs y
+    → e (key x) (key y) ≡ true → e (key y) (key x) ≡ true → x ≡ y
 one_by_key e key xs x y apart at_x at_y same back = elim (cases_lt at_x.0 at_y.0) [
   | inl t ↦ absurd (before_apart e key xs at_x.0 at_y.0 x y apart at_x.1 at_y.1 same t)
   | inr t ↦ elim (cases_lt at_y.0 at_x.0) [
@@ -53,7 +54,8 @@ one_by_key e key xs x y apart at_x at_y same back = elim (cases_lt at_x.0 at_y.0
 ]
 
 -- what differs from all before it is not among them
-pub others_before : {A : Type 0} (same : A → A → Bool) → ((a b : A) → same a b ≡ false → same b a ≡ false) → (xs : List A) (x : A) (more : List A) → IsDistinct same (xs ++ x ∷ more) → list_any (same x) xs ≡ false
+pub others_before : {A : Type 0} (same : A → A → Bool) → ((a b : A) → same a b ≡ false → same b a ≡ false) → (xs : List A) (x : A) (more : List A)
+    → IsDistinct same (xs ++ x ∷ more) → list_any (same x) xs ≡ false
 unfolding IsDistinct
 others_before same flip [] x more apart = refl
 others_before {A} same flip (y ∷ xs) x more apart = or_from (same x y) (list_any (same x) xs) (flip y x (of_middle xs apart.0)) (others_before same flip xs x more apart.1) where
@@ -71,4 +73,5 @@ pub IsDistinct-sorted_keys : {K : Type 0} (e : K → K → Bool) (f : ℕ → K)
     → ((a b : ℕ) → a < b → b < n → e (f a) (f b) ≡ false) → IsDistinct e (map f zs)
 unfolding IsDistinct
 IsDistinct-sorted_keys e f n [] sorted low apart = tt
-IsDistinct-sorted_keys e f n (z ∷ zs) sorted low apart = (apart_all e f n z zs (sorted_head nat_cmp z zs sorted) low.1 apart, IsDistinct-sorted_keys e f n zs (sorted_tail nat_cmp z zs sorted) low.1 apart)
+IsDistinct-sorted_keys e f n (z ∷ zs) sorted low apart =
+    (apart_all e f n z zs (sorted_head nat_cmp z zs sorted) low.1 apart, IsDistinct-sorted_keys e f n zs (sorted_tail nat_cmp z zs sorted) low.1 apart)

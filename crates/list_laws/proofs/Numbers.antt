@@ -63,9 +63,22 @@ nat_lt-zero n = le-ltb n 0 (omega arith)
 -- what holds below the next number holds below this one, or of it
 pub next_below : (y i : ℕ) (f : ℕ → Bool) → ((ltb y i && f y) || (eqb y i && f i)) ≡ (ltb y (i + 1) && f y)
 next_below y i f = elim (cases_order y i) [
-  | inl e ↦ (let a : ltb y i ≡ false = le-ltb _ _ (omega arith) in let b : eqb y i ≡ true = eq-eqb _ _ e in let c : ltb y (i + 1) ≡ true = lt-ltb _ _ (omega arith) in let d : f i ≡ f y = ap f (sym e) in rw (a, b, c, d) refl)
+  | inl e ↦
+      (let a : ltb y i ≡ false = le-ltb _ _ (omega arith) in
+      let b : eqb y i ≡ true = eq-eqb _ _ e in
+      let c : ltb y (i + 1) ≡ true = lt-ltb _ _ (omega arith) in
+      let d : f i ≡ f y = ap f (sym e) in
+      rw (a, b, c, d) refl)
   | inr o ↦ elim o [
-    | inl less ↦ (let a : ltb y i ≡ true = lt-ltb _ _ less in let b : eqb y i ≡ false = ne_eqb _ _ (λ e. omega arith) in let c : ltb y (i + 1) ≡ true = lt-ltb _ _ (omega arith) in rw (a, b, c) (or-false (f y)))
-    | inr more ↦ (let a : ltb y i ≡ false = le-ltb _ _ (omega arith) in let b : eqb y i ≡ false = ne_eqb _ _ (λ e. omega arith) in let c : ltb y (i + 1) ≡ false = le-ltb _ _ (omega arith) in rw (a, b, c) refl)
+    | inl less ↦
+        (let a : ltb y i ≡ true = lt-ltb _ _ less in
+        let b : eqb y i ≡ false = ne_eqb _ _ (λ e. omega arith) in
+        let c : ltb y (i + 1) ≡ true = lt-ltb _ _ (omega arith) in
+        rw (a, b, c) (or-false (f y)))
+    | inr more ↦
+        (let a : ltb y i ≡ false = le-ltb _ _ (omega arith) in
+        let b : eqb y i ≡ false = ne_eqb _ _ (λ e. omega arith) in
+        let c : ltb y (i + 1) ≡ false = le-ltb _ _ (omega arith) in
+        rw (a, b, c) refl)
   ]
 ]

@@ -48,7 +48,10 @@ position_none true n h = absurd cc
 position_none false n h = refl
 
 pub find-no_position : {A : Type 0} (p : A → Bool) (xs : List A) → position p xs ≡ None → find p xs ≡ None
-find-no_position p xs h = find_at p xs ∙ slice_get_past xs (position_or_len p xs) (omega (arith, ltb-false (position_or_len p xs) (length xs) (position_none (nat_lt (position_or_len p xs) (length xs)) _ h)))
+find-no_position p xs h =
+    find_at p xs
+    ∙ slice_get_past xs (position_or_len p xs)
+    (omega (arith, ltb-false (position_or_len p xs) (length xs) (position_none (nat_lt (position_or_len p xs) (length xs)) _ h)))
 
 pub list_any-no_position : {A : Type 0} (p : A → Bool) (xs : List A) → position p xs ≡ None → list_any p xs ≡ false
 list_any-no_position p xs h = list_any-not_found p xs (find-no_position p xs h)
@@ -74,7 +77,8 @@ list_any-at_position p [] i h = absurd cc
 list_any-at_position p (x ∷ xs) i h = let found = position-Some p (x ∷ xs) i x h in list_any_at p (x ∷ xs) i x found.0 found.1
 
 -- the item at a place among the first n that passes first
-pub find-earlier : {V A B : Type 0} (p : B → Bool) (key : A → B) (view : V → A) (vs : List V) (n i : ℕ) (y : V) → position p (map key (map view (take n vs))) ≡ Some i → n < length vs → y ≡ get_or vs i y
+pub find-earlier : {V A B : Type 0} (p : B → Bool) (key : A → B) (view : V → A) (vs : List V) (n i : ℕ) (y : V)
+    → position p (map key (map view (take n vs))) ≡ Some i → n < length vs → y ≡ get_or vs i y
     → find (λ a. p (key a)) (map view (take n vs)) ≡ Some (view y)
 find-earlier p key view vs n i y placed some is =
     let at = sym (position-map p key (map view (take n vs))) ∙ placed in

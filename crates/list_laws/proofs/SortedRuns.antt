@@ -16,10 +16,12 @@ filter_run p [] (suc i) zero before inside after = refl
 filter_run p [] (suc i) (suc n) before inside after = refl
 filter_run p (x ∷ xs) (suc i) n before inside after =
     let off : p x ≡ false = before zero x (omega arith) (omega arith) in
-    rw off (filter_run p xs i n (λ k d l w. before (suc k) d (omega arith) (omega arith)) (λ k d l m w. inside (suc k) d (omega arith) (omega arith) (omega arith)) (λ k d l w. after (suc k) d (omega arith) (omega arith)))
+    rw off (filter_run p xs i n (λ k d l w. before (suc k) d (omega arith) (omega arith))
+    (λ k d l m w. inside (suc k) d (omega arith) (omega arith) (omega arith)) (λ k d l w. after (suc k) d (omega arith) (omega arith)))
 filter_run p (x ∷ xs) zero (suc n) before inside after =
     let on : p x ≡ true = inside zero x (omega arith) (omega arith) (omega arith) in
-    rw on (ap (λ ys. x ∷ ys) (filter_run p xs zero n (λ k d l w. absurd (omega arith)) (λ k d l m w. inside (suc k) d (omega arith) (omega arith) (omega arith)) (λ k d l w. after (suc k) d (omega arith) (omega arith))))
+    rw on (ap (λ ys. x ∷ ys) (filter_run p xs zero n (λ k d l w. absurd (omega arith))
+    (λ k d l m w. inside (suc k) d (omega arith) (omega arith) (omega arith)) (λ k d l w. after (suc k) d (omega arith) (omega arith))))
 filter_run p (x ∷ xs) zero zero before inside after =
     let off : p x ≡ false = after zero x (omega arith) (omega arith) in
     rw off (filter_run p xs zero zero (λ k d l w. absurd (omega arith)) (λ k d l m w. absurd (omega arith)) (λ k d l w. after (suc k) d (omega arith) (omega arith)))
@@ -39,7 +41,8 @@ module _ {A : Type 0} (q r p : A → Bool) (more : (x : A) → q x ≡ true → 
       (filter_run p xs i (j - i) (λ k d l w. early _ (start.0 k d (omega arith) l))
       (λ k d l m w. within _ (start.1 k d l w) (end.0 k d (omega arith) (omega arith))) (λ k d l w. late _ (end.1 k d (omega arith) w)))
 
-pub IsPartitionedBy-from_sorted : {A : Type 0} (R : A → A → Ordering) (q : A → Bool) → ((a b : A) → R a b ≡ Less → q b ≡ true → q a ≡ true) → (xs : List A) → IsStrictlySortedBy R xs → IsPartitionedBy q xs
+pub IsPartitionedBy-from_sorted : {A : Type 0} (R : A → A → Ordering) (q : A → Bool) → ((a b : A) → R a b ≡ Less → q b ≡ true → q a ≡ true)
+    → (xs : List A) → IsStrictlySortedBy R xs → IsPartitionedBy q xs
 IsPartitionedBy-from_sorted R q down xs sorted i j d le within holds = elim (cases_eq i j) [
   | inl t ↦ subst (λ k. q (get_or xs k d) ≡ true) (sym t) holds
   | inr t ↦ down _ _ (Less-from_sorted R xs i j d sorted (omega (arith, le, t)) within) holds

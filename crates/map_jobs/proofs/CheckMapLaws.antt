@@ -5,12 +5,11 @@ use Rattle.config_reader.specs.Text.{spelled as config_spelled_by}
 use Rattle.run_base.specs.declared.outcome.Status.TheVariants.{BadInput}
 use Rattle.run_base.specs.Said.{Said}
 use Rattle.run_base.proofs.Jobs.{IsJob, IsJobSaid, in_text, in_refusal, in_failing}
-use Rattle.input_texts.specs.FaultLines.{config_line}
+use Rattle.input_texts.specs.FaultLines.{config_line, maps_line}
 use Rattle.input_texts.specs.Texts.{OfRead}
 use Rattle.input_texts.proofs.Spelling.{at_read, of_read, one_of_read, read_form}
 use Rattle.route_maps.specs.Maps.{PlainMaps}
 use Rattle.map_reader.specs.MapsRead.{spelled}
-use Rattle.map_jobs.specs.MapsSaid.{maps_line}
 use Rattle.map_jobs.specs.MapsJobs.{SaysOfMaps, SaysOfPair, SaysOfTexts}
 
 -- what is said of a text of maps, beside this configuration

@@ -1,13 +1,13 @@
 -- What `routemap` and `checkmap` say.
 use Rattle.std.specs.Prelude.{◌≡◌, ◌≢◌, ◌⊎◌, ℕ, ◌≤◌, ◌<◌, List, [], ◌∷◌, min, Result, Ok, Err}
 use Rattle.net_base.specs.Network.{PlainNet}
-use Rattle.path_words.specs.Policies.{PlainPolicy}
+use Rattle.policy_base.specs.Policies.{PlainPolicy}
 use Rattle.config_base.specs.Configs.{PlainConfig}
 use Rattle.config_reader.specs.Text.{spelled as config_spelled}
 use Rattle.evidence_base.specs.Made.{PlainCaseEvidence}
 use Rattle.compile_jobs.specs.Compiled.{IsCompiled}
 use Rattle.compile_jobs.specs.Compiling.{SaysRefusal}
-use Rattle.input_texts.specs.FaultLines.{config_line}
+use Rattle.input_texts.specs.FaultLines.{config_line, maps_line}
 use Rattle.input_texts.specs.Texts.{OfRead}
 use Rattle.run_base.specs.Said.{Said, text, line, failing, stop_said, no_memory}
 use Rattle.run_base.specs.declared.outcome.Status.TheVariants.{Refused}
@@ -21,7 +21,7 @@ use Rattle.route_map_text.specs.MapsLines.{maps_text}
 use Rattle.route_map_text.specs.MapsSpelled.{IsLawful}
 use Rattle.map_reader.specs.MapsRead.{spelled}
 use Rattle.map_jobs.specs.Difference.{first_difference}
-use Rattle.map_jobs.specs.MapsSaid.{too_many_lines, maps_line, same_line, differs_line}
+use Rattle.map_jobs.specs.MapsSaid.{too_many_lines, same_line, differs_line}
 
 -- The maps of the configuration would have more lines than a text of maps may have, and the line of this refusal is said.
 pub record SaysTooMany (config : PlainConfig) (what : Said) : Type 0 where

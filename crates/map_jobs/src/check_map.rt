@@ -9,10 +9,10 @@ ghost use Rattle.map_jobs.specs.Difference.{first_difference};
 ghost use Rattle.map_jobs.specs.MapsJobs.{SaysOfBoth, SaysOfBytes, SaysOfPair};
 
 use crate::lines::{differs_line, same_line};
-use crate::maps::{maps_for, maps_read};
+use crate::maps::maps_of_config;
 use config_base::Config;
 use config_lines::first_part;
-use input_texts::config_for;
+use input_texts::{config_for, maps_for};
 use route_map_text::print_maps;
 use route_maps::Maps;
 use run_base::Stop;
@@ -56,7 +56,7 @@ fn compared(alloc: Global, bytes: &[u8], wanted: &[u8]) -> Result<Vec<u8>, Stop>
 fn maps_compared(alloc: Global, config: &Config, bytes: &[u8]) -> Result<Vec<u8>, Stop>
     ensures { IsGiven (SaysOfBytes config.now bytes.now) (said result) }
 {
-    let wanted = maps_for(alloc, config)?;
+    let wanted = maps_of_config(alloc, config)?;
     let wanted = print_maps(alloc, &wanted)?;
     compared(alloc, bytes, &wanted)
 }
@@ -69,6 +69,6 @@ pub fn check_map_texts(alloc: Global, config: &[u8], maps: &[u8]) -> Result<Vec<
     ensures { IsGiven (SaysOfPair config.now maps.now) (said result) }
 {
     let config = config_for(alloc, config)?;
-    let _read = maps_read(alloc, maps)?;
+    let _read = maps_for(alloc, maps)?;
     maps_compared(alloc, &config, maps)
 }

@@ -7,5 +7,5 @@ mod maps;
 mod route_map;
 
 pub use check_map::check_map_texts;
-pub use lines::{differs_line, maps_fault_line, same_line, too_many_lines_line};
+pub use lines::{differs_line, same_line, too_many_lines_line};
 pub use route_map::route_map_texts;

@@ -1,9 +1,7 @@
 //! What is said of maps.
 ghost use Rattle.std.specs.Prelude.{◌≡◌, IfOk};
-ghost use Rattle.map_jobs.specs.MapsSaid.{too_many_lines, maps_line, same_line as line_of_same, differs_line as line_of_difference};
+ghost use Rattle.map_jobs.specs.MapsSaid.{too_many_lines, same_line as line_of_same, differs_line as line_of_difference};
 
-use input_texts::push_fault;
-use map_reader::MapsFault;
 use outside::NoMemory;
 use std::alloc::Global;
 use text_words::{push_bytes, push_number};
@@ -15,18 +13,6 @@ pub fn too_many_lines_line(alloc: Global, number: u64) -> Result<Vec<u8>, NoMemo
     let mut line = Vec::new(alloc);
     push_bytes(&mut line, b"propane: refused 8 too-many-lines number ")?;
     push_number(&mut line, number)?;
-    push_bytes(&mut line, b"\n")?;
-    Ok(line)
-}
-
-/// The line that tells a fault of a maps text: the number of the rule, its word and its values.
-#[tactic(auto, unfolding(crate::specs::MapsSaid::maps_line))]
-pub fn maps_fault_line(alloc: Global, fault: &MapsFault) -> Result<Vec<u8>, NoMemory>
-    ensures { IfOk result (λ v. v.items ≡ maps_line fault.now) }
-{
-    let mut line = Vec::new(alloc);
-    push_fault(&mut line, b"maps", fault.number(), fault.word())?;
-    fault.push_values(&mut line)?;
     push_bytes(&mut line, b"\n")?;
     Ok(line)
 }

@@ -1,17 +1,17 @@
 //! The command `routemap`.
 ghost use Rattle.std.specs.Prelude.{◌<◌, length};
-ghost use Rattle.path_words.specs.Policies.{policy_of};
-ghost use Rattle.case_law.specs.Cases.{OriginsAreRouters};
+ghost use Rattle.policy_base.specs.Policies.{policy_of};
+ghost use Rattle.policy_base.specs.CaseNumbers.{OriginsAreRouters};
 ghost use Rattle.run_base.specs.Said.{IsGiven, said};
 ghost use Rattle.input_texts.specs.Texts.{OfTexts};
 ghost use Rattle.map_jobs.specs.MapsJobs.{SaysOfConfig, SaysOfPolicy};
 
-use crate::maps::maps_for;
+use crate::maps::maps_of_config;
 use compile_jobs::compiled_for;
 use config_base::Config;
 use input_texts::{net_of, policy_for};
 use net_base::Net;
-use path_words::Policy;
+use policy_base::Policy;
 use route_map_text::print_maps;
 use run_base::Stop;
 use std::alloc::Global;
@@ -21,7 +21,7 @@ use std::alloc::Global;
 fn config_text(alloc: Global, config: &Config) -> Result<Vec<u8>, Stop>
     ensures { IsGiven (SaysOfConfig config.now) (said result) }
 {
-    let maps = maps_for(alloc, config)?;
+    let maps = maps_of_config(alloc, config)?;
     Ok(print_maps(alloc, &maps)?)
 }
 

@@ -11,8 +11,8 @@ use Rattle.net_base.specs.PrefixText.{prefix_spelled}
 use Rattle.net_base.specs.Steps.{unless}
 use Rattle.net_base.proofs.StepLemmas.{bind_ok, unless_ok, ok_same}
 use Rattle.text_words.specs.Texts.{prefix_text, pattern_text}
-use Rattle.config_base.specs.declared.config.Rule.{Rule}
-use Rattle.config_base.specs.declared.config.Own.{Own}
+use Rattle.config_base.specs.declared.config.Import.{Import}
+use Rattle.config_base.specs.declared.config.Origination.{Origination}
 use Rattle.config_base.specs.declared.config.Export.{Export}
 use Rattle.route_maps.specs.declared.maps.ListLine.{ListLine}
 use Rattle.config_lines.specs.declared.edition.Edition.TheVariants.{Second}
@@ -118,11 +118,11 @@ network_back count (prefix ∷ list ∷ n ∷ set ∷ t ∷ []) l h =
     let r = bind_ok (tag_of Second t) _ l v.2 in
     let c = bind_ok (class_in count f.0) _ l r.2 in
     let g = bind_ok (tag_in_range Second r.0) _ l c.2 in
-    let made : Own = record { class = c.0; prefix = p.0; tag = g.0 } in
+    let made : Origination = record { class = c.0; prefix = p.0; tag = g.0 } in
     let class = class_back count n f.0 c.0 f.1 c.1 in
     let base = as_prefix_back prefix p.0 p.1 in
     let tagged = tag_back Second t r.0 g.0 r.1 g.1 in
-    subst (λ (x : Line). Says count (codes "network" ∷ prefix ∷ list ∷ n ∷ set ∷ t ∷ []) (Block x)) (ok_same (line.Own made) l g.2) (
+    subst (λ (x : Line). Says count (codes "network" ∷ prefix ∷ list ∷ n ∷ set ∷ t ∷ []) (Block x)) (ok_same (line.Origination made) l g.2) (
       network_joined prefix list n set t (prefix_text p.0) (decimal c.0) (tag_text Second g.0) (word_back (codes "list") list w.0 w.1) (word_back (codes "set") set v.0 v.1) base.0 class.0 tagged.0,
       (tt, ((class.1, tagged.1), base.1)),
     )
@@ -168,7 +168,7 @@ as_before (line.Router name asn id) is = (refl, tt)
 as_before (line.Peer name asn) is = (refl, tt)
 as_before line.End is = (refl, tt)
 as_before (line.Class number patterns) is = absurd is
-as_before (line.Own o) is = absurd is
+as_before (line.Origination o) is = absurd is
 as_before (line.Session name asn) is = absurd is
 as_before (line.Import r) is = absurd is
 as_before (line.PeerImport r) is = absurd is
@@ -223,7 +223,7 @@ matched_back count k list n f (match' ∷ t ∷ words) number l is at h said =
     let g = bind_ok (tag_in_range Second r.0) _ l c.2 in
     let v = bind_ok (tag_in_range Second s.0.set) _ l g.2 in
     let p = bind_ok (in_range s.0.pref) _ l v.2 in
-    let made : Rule = record { class = c.0; tag = g.0; set = v.0; pref = p.0 } in
+    let made : Import = record { class = c.0; tag = g.0; set = v.0; pref = p.0 } in
     let says = setting_back Second words s.0 s.1 in
     let class = class_back count n f c.0 at c.1 in
     let own = tag_back Second t r.0 g.0 r.1 g.1 in
@@ -231,7 +231,8 @@ matched_back count k list n f (match' ∷ t ∷ words) number l is at h said =
     let pref = ranged_back says.number s.0.pref p.0 says.is_number_text p.1 in
     let text : join_with_byte 32 (codes "in" ∷ k ∷ list ∷ n ∷ match' ∷ t ∷ words) ≡ map_line_text (Entry number (line.Import made)) =
     ap (λ (v : List (List ℕ)). join_with_byte 32 (codes "in" ∷ k ∷ list ∷ n ∷ match' ∷ t ∷ v)) says.words
-    ∙ matched_joined k list n match' t says.set says.tag says.pref says.number (class_number_text number) (decimal c.0) (tag_text Second g.0) (tag_text Second v.0) (decimal p.0) is (word_back (codes "match") match' w.0 w.1) says.is_set says.is_pref said.0 class.0 own.0 set.0 pref.0 in
+    ∙ matched_joined k list n match' t says.set says.tag says.pref says.number (class_number_text number) (decimal c.0) (tag_text Second g.0)
+    (tag_text Second v.0) (decimal p.0) is (word_back (codes "match") match' w.0 w.1) says.is_set says.is_pref said.0 class.0 own.0 set.0 pref.0 in
     subst (λ (x : Line). Says count (codes "in" ∷ k ∷ list ∷ n ∷ match' ∷ t ∷ words) (Entry number x)) (ok_same (line.Import made) l p.2) (text, (said.1, tt, (own.1, (class.1, set.1, pref.1))))
 
 unmatched_back : (count : ℕ) (k list n : List ℕ) (f : Figure) (words : List (List ℕ)) (number : Option ℕ) (l : Line) → list ≡ codes "list" → number_of n ≡ Ok f → unmatched count f words ≡ Ok l
@@ -242,14 +243,15 @@ unmatched_back count k list n f words number l is at h said =
     let c = bind_ok (class_in count f) _ l s.2 in
     let v = bind_ok (tag_in_range Second s.0.set) _ l c.2 in
     let p = bind_ok (in_range s.0.pref) _ l v.2 in
-    let made : Rule = record { class = c.0; tag = no_tag; set = v.0; pref = p.0 } in
+    let made : Import = record { class = c.0; tag = no_tag; set = v.0; pref = p.0 } in
     let says = setting_back Second words s.0 s.1 in
     let class = class_back count n f c.0 at c.1 in
     let set = tag_back Second says.tag s.0.set v.0 says.is_tag_text v.1 in
     let pref = ranged_back says.number s.0.pref p.0 says.is_number_text p.1 in
     let text : join_with_byte 32 (codes "in" ∷ k ∷ list ∷ n ∷ words) ≡ map_line_text (Entry number (line.PeerImport made)) =
     ap (λ (v : List (List ℕ)). join_with_byte 32 (codes "in" ∷ k ∷ list ∷ n ∷ v)) says.words
-    ∙ unmatched_joined k list n says.set says.tag says.pref says.number (class_number_text number) (decimal c.0) (tag_text Second v.0) (decimal p.0) is says.is_set says.is_pref said.0 class.0 set.0 pref.0 in
+    ∙ unmatched_joined k list n says.set says.tag says.pref says.number (class_number_text number) (decimal c.0) (tag_text Second v.0) (decimal p.0)
+    is says.is_set says.is_pref said.0 class.0 set.0 pref.0 in
     subst (λ (x : Line). Says count (codes "in" ∷ k ∷ list ∷ n ∷ words) (Entry number x)) (ok_same (line.PeerImport made) l p.2) (text, (said.1, tt, (refl, (class.1, set.1, pref.1))))
 
 in_back : (count : ℕ) (ws : List (List ℕ)) (l : MapLine) → in_line count ws ≡ Ok l → IsNumbered l → Says count (codes "in" ∷ ws) l
@@ -356,7 +358,9 @@ form_back count word ws l h is = list (bytes_eq word (codes "list")) refl h
     in' false e k = out (bytes_eq word (codes "out")) refl k
 
     peer : (b : Bool) → bytes_eq word (codes "peer") ≡ b → (if b then as_block (peer_line Second ws) else then_in count word ws) ≡ Ok l → Says count (word ∷ ws) l
-    peer true e k = said (codes "peer") e (block_back count (codes "peer" ∷ ws) (peer_line Second ws) l k (λ x r. same_as_before count (codes "peer" ∷ ws) x (peer_back Second count ws x r) (peer_kind ws x r)))
+    peer true e k =
+        said (codes "peer") e (block_back count (codes "peer" ∷ ws) (peer_line Second ws) l k
+        (λ x r. same_as_before count (codes "peer" ∷ ws) x (peer_back Second count ws x r) (peer_kind ws x r)))
     peer false e k = in' (bytes_eq word (codes "in")) refl k
 
     neighbor : (b : Bool) → bytes_eq word (codes "neighbor") ≡ b → (if b then as_block (session_line Second ws) else then_peer count word ws) ≡ Ok l → Says count (word ∷ ws) l
@@ -368,7 +372,9 @@ form_back count word ws l h is = list (bytes_eq word (codes "list")) refl h
     network false e k = neighbor (bytes_eq word (codes "neighbor")) refl k
 
     router : (b : Bool) → bytes_eq word (codes "router") ≡ b → (if b then as_block (router_line Second ws) else then_network count word ws) ≡ Ok l → Says count (word ∷ ws) l
-    router true e k = said (codes "router") e (block_back count (codes "router" ∷ ws) (router_line Second ws) l k (λ x r. same_as_before count (codes "router" ∷ ws) x (router_back Second count ws x r) (router_kind ws x r)))
+    router true e k =
+        said (codes "router") e (block_back count (codes "router" ∷ ws) (router_line Second ws) l k
+        (λ x r. same_as_before count (codes "router" ∷ ws) x (router_back Second count ws x r) (router_kind ws x r)))
     router false e k = network (bytes_eq word (codes "network")) refl k
 
     list : (b : Bool) → bytes_eq word (codes "list") ≡ b → (if b then list_line ws else then_router count word ws) ≡ Ok l → Says count (word ∷ ws) l

@@ -24,9 +24,14 @@ neighbor_joined name asn n v a e1 e2 e3 = rw (e1, e2, e3) (simp append_assoc ref
 matched_by : (a b c d e : List ℕ) → join_with_byte 32 (codes "in" ∷ a ∷ codes "list" ∷ b ∷ codes "match" ∷ c ∷ codes "set" ∷ d ∷ codes "pref" ∷ e ∷ [])
     ≡ codes "in " ++ a ++ (codes " list " ++ b ++ codes " match " ++ c ++ (codes " set " ++ d ++ codes " pref " ++ e))
 matched_by a b c d e =
-    rw (append_assoc (b ++ codes " match ") c (codes " set " ++ d ++ codes " pref " ++ e), append_assoc b (codes " match ") (c ++ (codes " set " ++ d ++ codes " pref " ++ e)), append_assoc d (codes " pref ") e) refl
+    rw (
+      append_assoc (b ++ codes " match ") c (codes " set " ++ d ++ codes " pref " ++ e),
+      append_assoc b (codes " match ") (c ++ (codes " set " ++ d ++ codes " pref " ++ e)),
+      append_assoc d (codes " pref ") e,
+    ) refl
 
-pub matched_joined : (k list n match' t set u pref m a b c d e : List ℕ) → list ≡ codes "list" → match' ≡ codes "match" → set ≡ codes "set" → pref ≡ codes "pref" → k ≡ a → n ≡ b → t ≡ c → u ≡ d → m ≡ e
+pub matched_joined : (k list n match' t set u pref m a b c d e : List ℕ) → list ≡ codes "list" → match' ≡ codes "match" → set ≡ codes "set"
+    → pref ≡ codes "pref" → k ≡ a → n ≡ b → t ≡ c → u ≡ d → m ≡ e
     → join_with_byte 32 (codes "in" ∷ k ∷ list ∷ n ∷ match' ∷ t ∷ set ∷ u ∷ pref ∷ m ∷ [])
     ≡ codes "in " ++ a ++ (codes " list " ++ b ++ codes " match " ++ c ++ (codes " set " ++ d ++ codes " pref " ++ e))
 matched_joined k list n match' t set u pref m a b c d e e1 e2 e3 e4 e5 e6 e7 e8 e9 = rw (e1, e2, e3, e4, e5, e6, e7, e8, e9) (matched_by a b c d e)

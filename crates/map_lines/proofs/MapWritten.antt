@@ -8,8 +8,8 @@ use Rattle.net_base.specs.NameRule.{is_name}
 use Rattle.net_base.specs.Prefixes.{PlainPattern, IsPattern}
 use Rattle.text_words.specs.Texts.{address_text, prefix_text, pattern_text}
 use Rattle.text_words.proofs.PrefixTexts.{address_of-address_text, prefix_spelled-prefix_text, have_no}
-use Rattle.config_base.specs.declared.config.Rule.{Rule}
-use Rattle.config_base.specs.declared.config.Own.{Own}
+use Rattle.config_base.specs.declared.config.Import.{Import}
+use Rattle.config_base.specs.declared.config.Origination.{Origination}
 use Rattle.config_base.specs.declared.config.Export.{Export}
 use Rattle.config_base.specs.Configs.{IsClass}
 use Rattle.route_maps.specs.declared.maps.ListLine.{ListLine}
@@ -37,9 +37,13 @@ abbrev pub IsMapReadAgain : ℕ → MapLine → Type 0
 IsMapReadAgain count l = (map_line_of (map_line_text l) count ≡ Ok l) × (have_no 10 (map_line_text l) ≡ true)
 
 -- a line whose words are read is read
-by_words : (count : ℕ) (l : MapLine) (w : List ℕ) (ws : List (List ℕ)) → join_with_byte 32 (w ∷ ws) ≡ map_line_text l → list_all solid (w ∷ ws) ≡ true → words_line count (w ∷ ws) ≡ Ok l → IsMapReadAgain count l
-by_words count l w ws text all read =
-    (ap (λ (bs : List ℕ). map_line_of bs count) (sym text) ∙ ap (words_line count) (split_joined 32 w ws (solid_words 32 (w ∷ ws) (omega arith) all)) ∙ read, ap (have_no 10) (sym text) ∙ joined_no_feed (w ∷ ws) all)
+by_words : (count : ℕ) (l : MapLine) (w : List ℕ) (ws : List (List ℕ)) → join_with_byte 32 (w ∷ ws) ≡ map_line_text l → list_all solid (w ∷ ws) ≡ true
+    → words_line count (w ∷ ws) ≡ Ok l → IsMapReadAgain count l
+by_words count l w ws text all read = (
+  ap (λ (bs : List ℕ). map_line_of bs count) (sym text) ∙ ap (words_line count) (split_joined 32 w ws (solid_words 32 (w ∷ ws) (omega arith) all))
+      ∙ read,
+  ap (have_no 10) (sym text) ∙ joined_no_feed (w ∷ ws) all,
+)
 
 abbrev of_kind : Bool → PlainPattern → ListLine
 of_kind b t = record { permit = b; pattern = t }
@@ -56,9 +60,11 @@ list_text n b t =
 list_of_kind : (count n : ℕ) (b : Bool) (t : PlainPattern) → n < 2 ^ 32 → IsPattern t → IsMapReadAgain count (ListOf (Some n) (of_kind b t))
 unfolding form_line list_line kind_of
 list_of_kind count n true t low is =
-    by_words count (ListOf (Some n) (of_kind true t)) (codes "list") (list_words n true t) (list_text n true t) (rw (solid_number n (omega (arith, low)), solid_pattern t is) refl) (rw (number_there n low, pattern_there t is) refl)
+    by_words count (ListOf (Some n) (of_kind true t)) (codes "list") (list_words n true t) (list_text n true t)
+    (rw (solid_number n (omega (arith, low)), solid_pattern t is) refl) (rw (number_there n low, pattern_there t is) refl)
 list_of_kind count n false t low is =
-    by_words count (ListOf (Some n) (of_kind false t)) (codes "list") (list_words n false t) (list_text n false t) (rw (solid_number n (omega (arith, low)), solid_pattern t is) refl) (rw (number_there n low, pattern_there t is) refl)
+    by_words count (ListOf (Some n) (of_kind false t)) (codes "list") (list_words n false t) (list_text n false t)
+    (rw (solid_number n (omega (arith, low)), solid_pattern t is) refl) (rw (number_there n low, pattern_there t is) refl)
 
 pub list_there : (count n : ℕ) (l : ListLine) → n < 2 ^ 32 → IsPattern l.pattern → IsMapReadAgain count (ListOf (Some n) l)
 list_there count n l low is = list_of_kind count n l.permit l.pattern low is
@@ -73,15 +79,16 @@ router_there count name asn id named number apart wide =
     (rw (solid_name name named, solid_number asn (omega (arith, low)), solid_address id wide) refl)
     (rw (number_there asn low, address_of-address_text id wide, ne_eqb id 0 apart, name_there name named, is) refl)
 
-network_there : (count : ℕ) (o : Own) → count < 2 ^ 32 → IsLine Second count (line.Own o) → IsMapReadAgain count (Block (line.Own o))
+network_there : (count : ℕ) (o : Origination) → count < 2 ^ 32 → IsLine Second count (line.Origination o) → IsMapReadAgain count (Block (line.Origination o))
 unfolding form_line network_line
 network_there count o few is =
     let class : IsClass count o.class = is.0.0 in
     let low : o.class < 2 ^ 32 = omega (arith, class.1, few) in
     let parts = tag_low Second o.tag is.0.1 in
     let tag = tag_there Second o.tag is.0.1 in
-    by_words count (Block (line.Own o)) (codes "network") (prefix_text o.prefix ∷ codes "list" ∷ decimal o.class ∷ codes "set" ∷ tag_text Second o.tag ∷ [])
-    (network_joined (prefix_text o.prefix) (codes "list") (decimal o.class) (codes "set") (tag_text Second o.tag) (prefix_text o.prefix) (decimal o.class) (tag_text Second o.tag) refl refl refl refl refl)
+    by_words count (Block (line.Origination o)) (codes "network") (prefix_text o.prefix ∷ codes "list" ∷ decimal o.class ∷ codes "set" ∷ tag_text Second o.tag ∷ [])
+    (network_joined (prefix_text o.prefix) (codes "list") (decimal o.class) (codes "set") (tag_text Second o.tag) (prefix_text o.prefix)
+    (decimal o.class) (tag_text Second o.tag) refl refl refl refl refl)
     (rw (solid_number o.class (omega (arith, low)), solid_prefix o.prefix is.1, solid_tag Second o.tag parts.0 parts.1) refl)
     (rw (number_there o.class low, prefix_spelled-prefix_text o.prefix is.1, tag.0, class_there count o.class class, tag.1) refl)
 
@@ -105,7 +112,7 @@ peer_there count name asn named number =
     (neighbour_solid name asn named low)
     (rw (neighbour_there name asn named low, is) refl)
 
-in_there : (count k : ℕ) (r : Rule) → count < 2 ^ 32 → k < 2 ^ 32 → IsLine Second count (line.Import r) → IsMapReadAgain count (Entry (Some k) (line.Import r))
+in_there : (count k : ℕ) (r : Import) → count < 2 ^ 32 → k < 2 ^ 32 → IsLine Second count (line.Import r) → IsMapReadAgain count (Entry (Some k) (line.Import r))
 unfolding form_line in_line matched setting
 in_there count k r few small is =
     let class : IsClass count r.class = is.1.0 in
@@ -114,12 +121,21 @@ in_there count k r few small is =
     let given = tag_low Second r.set is.1.1 in
     let tag = tag_there Second r.tag is.0 in
     let set = tag_there Second r.set is.1.1 in
-    by_words count (Entry (Some k) (line.Import r)) (codes "in") (decimal k ∷ codes "list" ∷ decimal r.class ∷ codes "match" ∷ tag_text Second r.tag ∷ codes "set" ∷ tag_text Second r.set ∷ codes "pref" ∷ decimal r.pref ∷ [])
-    (matched_joined (decimal k) (codes "list") (decimal r.class) (codes "match") (tag_text Second r.tag) (codes "set") (tag_text Second r.set) (codes "pref") (decimal r.pref) (decimal k) (decimal r.class) (tag_text Second r.tag) (tag_text Second r.set) (decimal r.pref) refl refl refl refl refl refl refl refl refl)
-    (rw (solid_number k (omega (arith, small)), solid_number r.class (omega (arith, low)), solid_tag Second r.tag own.0 own.1, solid_tag Second r.set given.0 given.1, solid_number r.pref (omega (arith, is.1.2))) refl)
+    by_words count (Entry (Some k) (line.Import r)) (codes "in") (decimal k ∷ codes "list" ∷ decimal r.class ∷ codes "match" ∷ tag_text Second r.tag
+    ∷ codes "set" ∷ tag_text Second r.set ∷ codes "pref" ∷ decimal r.pref ∷ [])
+    (matched_joined (decimal k) (codes "list") (decimal r.class) (codes "match") (tag_text Second r.tag) (codes "set") (tag_text Second r.set)
+    (codes "pref") (decimal r.pref) (decimal k) (decimal r.class) (tag_text Second r.tag) (tag_text Second r.set) (decimal r.pref) refl refl
+    refl refl refl refl refl refl refl)
+    (rw (
+      solid_number k (omega (arith, small)),
+      solid_number r.class (omega (arith, low)),
+      solid_tag Second r.tag own.0 own.1,
+      solid_tag Second r.set given.0 given.1,
+      solid_number r.pref (omega (arith, is.1.2)),
+    ) refl)
     (rw (number_there k small, number_there r.class low, tag.0, set.0, number_there r.pref is.1.2, class_there count r.class class, tag.1, set.1) refl)
 
-peer_in_there : (count k : ℕ) (r : Rule) → count < 2 ^ 32 → k < 2 ^ 32 → IsLine Second count (line.PeerImport r) → IsMapReadAgain count (Entry (Some k) (line.PeerImport r))
+peer_in_there : (count k : ℕ) (r : Import) → count < 2 ^ 32 → k < 2 ^ 32 → IsLine Second count (line.PeerImport r) → IsMapReadAgain count (Entry (Some k) (line.PeerImport r))
 unfolding form_line in_line unmatched setting
 peer_in_there count k r few small is =
     let class : IsClass count r.class = is.1.0 in
@@ -127,7 +143,8 @@ peer_in_there count k r few small is =
     let given = tag_low Second r.set is.1.1 in
     let set = tag_there Second r.set is.1.1 in
     by_words count (Entry (Some k) (line.PeerImport r)) (codes "in") (decimal k ∷ codes "list" ∷ decimal r.class ∷ codes "set" ∷ tag_text Second r.set ∷ codes "pref" ∷ decimal r.pref ∷ [])
-    (unmatched_joined (decimal k) (codes "list") (decimal r.class) (codes "set") (tag_text Second r.set) (codes "pref") (decimal r.pref) (decimal k) (decimal r.class) (tag_text Second r.set) (decimal r.pref) refl refl refl refl refl refl refl)
+    (unmatched_joined (decimal k) (codes "list") (decimal r.class) (codes "set") (tag_text Second r.set) (codes "pref") (decimal r.pref) (decimal k)
+    (decimal r.class) (tag_text Second r.set) (decimal r.pref) refl refl refl refl refl refl refl)
     (rw (solid_number k (omega (arith, small)), solid_number r.class (omega (arith, low)), solid_tag Second r.set given.0 given.1, solid_number r.pref (omega (arith, is.1.2))) refl)
     (rw (number_there k small, number_there r.class low, set.0, number_there r.pref is.1.2, class_there count r.class class, set.1, sym is.0) refl)
 
@@ -157,12 +174,12 @@ map_lines_read count (Entry (Some k) (line.PeerImport r)) few is = peer_in_there
 map_lines_read count (Entry (Some k) (line.Export e)) few is = out_there count k e few is.0 is.2
 map_lines_read count (Entry (Some k) (line.Class n ps)) few is = absurd is.1
 map_lines_read count (Entry (Some k) (line.Router name asn id)) few is = absurd is.1
-map_lines_read count (Entry (Some k) (line.Own o)) few is = absurd is.1
+map_lines_read count (Entry (Some k) (line.Origination o)) few is = absurd is.1
 map_lines_read count (Entry (Some k) (line.Session name asn)) few is = absurd is.1
 map_lines_read count (Entry (Some k) (line.Peer name asn)) few is = absurd is.1
 map_lines_read count (Entry (Some k) line.End) few is = absurd is.1
 map_lines_read count (Block (line.Router name asn id)) few is = router_there count name asn id is.1.0 is.1.1 is.1.2 is.1.3
-map_lines_read count (Block (line.Own o)) few is = network_there count o few is.1
+map_lines_read count (Block (line.Origination o)) few is = network_there count o few is.1
 map_lines_read count (Block (line.Session name asn)) few is = neighbor_there count name asn is.1.0 is.1.1
 map_lines_read count (Block (line.Peer name asn)) few is = peer_there count name asn is.1.0 is.1.1
 map_lines_read count (Block line.End) few is = end_there count

@@ -28,7 +28,7 @@ entry_text _ = []
 
 -- a line that is neither of a list nor an entry
 abbrev pub block_text : Line → List ℕ
-block_text (line.Own o) = codes "network " ++ prefix_text o.prefix ++ codes " list " ++ decimal o.class ++ codes " set " ++ tag_text Second o.tag
+block_text (line.Origination o) = codes "network " ++ prefix_text o.prefix ++ codes " list " ++ decimal o.class ++ codes " set " ++ tag_text Second o.tag
 block_text (line.Session name asn) = codes "neighbor " ++ name ++ codes " asn " ++ decimal asn
 block_text l = line_text Second l
 
@@ -47,7 +47,7 @@ IsEntry _ = ⊥
 
 abbrev pub IsBlock : Line → Type 0
 IsBlock (line.Router name asn id) = ⊤
-IsBlock (line.Own o) = ⊤
+IsBlock (line.Origination o) = ⊤
 IsBlock (line.Session name asn) = ⊤
 IsBlock (line.Peer name asn) = ⊤
 IsBlock line.End = ⊤

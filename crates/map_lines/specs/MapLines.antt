@@ -44,7 +44,7 @@ network_line lists (prefix ∷ list ∷ n ∷ set ∷ t ∷ []) = do
   t ← tag_of Second t
   class ← class_in lists n
   tag ← tag_in_range Second t
-  Ok (line.Own (record { class = class; prefix = p; tag = tag }))
+  Ok (line.Origination (record { class = class; prefix = p; tag = tag }))
 network_line lists _ = Err Form
 
 -- match T set T pref N, behind the list

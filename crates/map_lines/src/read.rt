@@ -3,7 +3,7 @@ ghost use Rattle.std.specs.Prelude.{◌≡◌, ◌==◌, if◌then◌else◌, le
 ghost use Rattle.map_lines.specs.MapLines.{kind_of, list_line, network_line, matched, unmatched, in_line, exported, out_line, as_block, form_line, words_line, map_line_of};
 
 use crate::line::MapLine;
-use config_base::{Export, NO_TAG, Own, Rule};
+use config_base::{Export, Import, NO_TAG, Origination};
 use config_lines::{
     Edition, Figure, Line, LineFault, Words, class_number, expect, fitting_tag, in_range, is_word,
     prefix, read_class, read_end_line, read_number, read_pattern, read_peer_line, read_router_line,
@@ -55,7 +55,7 @@ fn read_network_line(lists: u32, words: &[&[u8]]) -> Result<Line, LineFault>
     let tag = read_tag(Edition::Second, tag)?;
     let class = read_class(lists, list)?;
     let tag = fitting_tag(Edition::Second, tag)?;
-    Ok(Line::Own(Own { class, prefix, tag }))
+    Ok(Line::Origination(Origination { class, prefix, tag }))
 }
 
 // What an `in` line says in the block of a router, by what follows its list.
@@ -69,7 +69,7 @@ fn read_matched(lists: u32, list: Figure, words: &[&[u8]]) -> Result<Line, LineF
     expect("match", match_word)?;
     let tag = read_tag(Edition::Second, tag)?;
     let setting = read_setting(Edition::Second, setting)?;
-    Ok(Line::Import(Rule {
+    Ok(Line::Import(Import {
         class: read_class(lists, list)?,
         tag: fitting_tag(Edition::Second, tag)?,
         set: fitting_tag(Edition::Second, setting.set)?,
@@ -83,7 +83,7 @@ fn read_unmatched(lists: u32, list: Figure, words: &[&[u8]]) -> Result<Line, Lin
     ensures { result ≡ unmatched lists list (map (λ w. w.now) words.now) }
 {
     let setting = read_setting(Edition::Second, words)?;
-    Ok(Line::PeerImport(Rule {
+    Ok(Line::PeerImport(Import {
         class: read_class(lists, list)?,
         tag: NO_TAG,
         set: fitting_tag(Edition::Second, setting.set)?,

@@ -62,7 +62,8 @@ lines_back n r s (t ∷ ts) k h =
       few = omega (arith, rest.few, count.1);
     }
 
-finished_ok : (r : MapsReading) (rest : List ℕ) (m : PlainMaps) → finished r rest ≡ Ok m → (r.blocks.opened ≡ None) × (rest ≡ []) × ((let d : PlainMaps = record { lists = r.lists; routers = r.blocks.routers } in d) ≡ m)
+finished_ok : (r : MapsReading) (rest : List ℕ) (m : PlainMaps) → finished r rest ≡ Ok m
+    → (r.blocks.opened ≡ None) × (rest ≡ []) × ((let d : PlainMaps = record { lists = r.lists; routers = r.blocks.routers } in d) ≡ m)
 unfolding finished
 finished_ok r rest m h =
     let a = bind_ok (unless fault.Unfinished (is_none r.blocks.opened && length rest == 0)) _ m h in
@@ -121,7 +122,8 @@ maps_lawful s k none_open few =
       routers = c.routers;
     }
 
-pub behind_lawful : (more : List (List ℕ)) (s : MapsReading) → length more < 4294967295 → with_lines 2 opening (whole_lines more) ≡ Ok s → s.blocks.opened ≡ None → IsLawful (record { lists = s.lists; routers = s.blocks.routers })
+pub behind_lawful : (more : List (List ℕ)) (s : MapsReading) → length more < 4294967295 → with_lines 2 opening (whole_lines more) ≡ Ok s
+    → s.blocks.opened ≡ None → IsLawful (record { lists = s.lists; routers = s.blocks.routers })
 behind_lawful more s short h none_open =
     let read = lines_back 2 opening s (whole_lines more) opening_kept h in
     let long : length (whole_lines more) ≡ min (length more - 1) (length more) = length-take (length more - 1) more in

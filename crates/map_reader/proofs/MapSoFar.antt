@@ -94,7 +94,8 @@ pub record IsAdded (r s : MapsReading) (l : MapLine) : Type 0 where
 no_blocks : (b : Reading) → (is_none b.opened && length b.routers == 0) ≡ true → blocks_so_far b ≡ []
 no_blocks b h =
     let both = and_parts (is_none b.opened) (length b.routers == 0) h in
-    ap₂ (λ (rs : List RouterConfig) (x : Option OpenRouter). flat_map lines_of_router rs ++ open_lines x) (nil_from_length b.routers (eqb-true (length b.routers) 0 both.1)) (is_none_parts b.opened both.0)
+    ap₂ (λ (rs : List RouterConfig) (x : Option OpenRouter). flat_map lines_of_router rs ++ open_lines x)
+    (nil_from_length b.routers (eqb-true (length b.routers) 0 both.1)) (is_none_parts b.opened both.0)
 
 -- the number of the last list, and no router yet
 record IsLastNumber (number : Option ℕ) (lists : ℕ) (b : Reading) : Type 0 where
@@ -141,7 +142,8 @@ more_added r s number l k is m =
           ap (λ (ls : List MapLine). lines_of_lists 1 (on_last r.lists l) ++ ls) rest
           ∙ append-nil (lines_of_lists 1 (on_last r.lists l))
           ∙ last_more r.lists l n.some
-          ∙ ap₂ (λ (ls : List MapLine) (o : Option ℕ). ls ++ written.List o l ∷ []) (sym (ap (λ (ls : List MapLine). lines_of_lists 1 r.lists ++ ls) rest ∙ append-nil (lines_of_lists 1 r.lists))) (sym n.number_is);
+          ∙ ap₂ (λ (ls : List MapLine) (o : Option ℕ). ls ++ written.List o l ∷ [])
+          (sym (ap (λ (ls : List MapLine). lines_of_lists 1 r.lists ++ ls) rest ∙ append-nil (lines_of_lists 1 r.lists))) (sym n.number_is);
     })
 
 new_added : (r s : MapsReading) (number : Option ℕ) (l : ListLine) → AreKept r → IsMapLine (length r.lists) (written.List number l) → IsNew r s number l → IsAdded r s (written.List number l)
@@ -165,7 +167,8 @@ new_added r s number l k is m =
           ap (λ (ls : List MapLine). lines_of_lists 1 (r.lists ++ (l ∷ []) ∷ []) ++ ls) rest
           ∙ append-nil (lines_of_lists 1 (r.lists ++ (l ∷ []) ∷ []))
           ∙ lines_of_lists-push 1 r.lists (l ∷ [])
-          ∙ ap₂ (λ (ls : List MapLine) (o : Option ℕ). ls ++ written.List o l ∷ []) (sym (ap (λ (ls : List MapLine). lines_of_lists 1 r.lists ++ ls) rest_before ∙ append-nil (lines_of_lists 1 r.lists))) (sym number_is);
+          ∙ ap₂ (λ (ls : List MapLine) (o : Option ℕ). ls ++ written.List o l ∷ [])
+          (sym (ap (λ (ls : List MapLine). lines_of_lists 1 r.lists ++ ls) rest_before ∙ append-nil (lines_of_lists 1 r.lists))) (sym number_is);
     })
 
 -- ---- lines of blocks
@@ -176,7 +179,7 @@ entry_other (line.PeerImport r) is = tt
 entry_other (line.Export e) is = tt
 entry_other (line.Class n ps) is = is
 entry_other (line.Router name asn id) is = tt
-entry_other (line.Own o) is = tt
+entry_other (line.Origination o) is = tt
 entry_other (line.Session name asn) is = tt
 entry_other (line.Peer name asn) is = tt
 entry_other line.End is = tt
@@ -187,13 +190,14 @@ block_other (line.PeerImport r) is = tt
 block_other (line.Export e) is = tt
 block_other (line.Class n ps) is = is
 block_other (line.Router name asn id) is = tt
-block_other (line.Own o) is = tt
+block_other (line.Origination o) is = tt
 block_other (line.Session name asn) is = tt
 block_other (line.Peer name asn) is = tt
 block_other line.End is = tt
 
 -- a line of a configuration more, with its number
-taken_added : (r s : MapsReading) (l : Line) (b : Reading) → AreKept r → IsOther l → IsLine Second (length r.lists) l → after r.blocks l ≡ Ok b → made r.lists b ≡ s → IsAdded r s (number_line (counts r.blocks) l)
+taken_added : (r s : MapsReading) (l : Line) (b : Reading) → AreKept r → IsOther l → IsLine Second (length r.lists) l → after r.blocks l ≡ Ok b
+    → made r.lists b ≡ s → IsAdded r s (number_line (counts r.blocks) l)
 taken_added r s l b k other is h e =
     let classes : b.classes ≡ r.blocks.classes = same_classes r.blocks b l other h in
     let whole : lines_of_classes 1 b.classes ++ blocks_so_far b ≡ (lines_of_classes 1 r.blocks.classes ++ blocks_so_far r.blocks) ++ l ∷ [] = after_adds r.blocks b l k.blocks h in
@@ -210,13 +214,15 @@ taken_added r s l b k other is h e =
         patterns = k.patterns;
         counted = ap (steps none) grown ∙ steps-append none (blocks_so_far r.blocks) (l ∷ []) ∙ ap (λ (c : Counts). step c l) k.counted ∙ sym (counts-after r.blocks b l other h);
       };
-      more = ap (λ (ls : List MapLine). lines_of_lists 1 r.lists ++ ls) numbers ∙ sym (append_assoc (lines_of_lists 1 r.lists) (number_from none (blocks_so_far r.blocks)) (number_line (counts r.blocks) l ∷ []));
+      more =
+          ap (λ (ls : List MapLine). lines_of_lists 1 r.lists ++ ls) numbers
+          ∙ sym (append_assoc (lines_of_lists 1 r.lists) (number_from none (blocks_so_far r.blocks)) (number_line (counts r.blocks) l ∷ []));
     })
 
 -- a block's line has no number
 block_line : (k : Counts) (l : Line) → IsBlock l → number_line k l ≡ written.Block l
 block_line k (line.Router name asn id) is = refl
-block_line k (line.Own o) is = refl
+block_line k (line.Origination o) is = refl
 block_line k (line.Session name asn) is = refl
 block_line k (line.Peer name asn) is = refl
 block_line k line.End is = refl
@@ -242,7 +248,7 @@ entry_line r b number (line.Export export) is h n =
     ap (λ (o : Option ℕ). written.Entry o (line.Export export)) (ap (λ m. Some (10 * m)) (sym e) ∙ sym (number_is number (entries_of true b) n))
 entry_line r b number (line.Class m ps) is h n = absurd is
 entry_line r b number (line.Router name asn id) is h n = absurd is
-entry_line r b number (line.Own o) is h n = absurd is
+entry_line r b number (line.Origination o) is h n = absurd is
 entry_line r b number (line.Session name asn) is h n = absurd is
 entry_line r b number (line.Peer name asn) is h n = absurd is
 entry_line r b number line.End is h n = absurd is

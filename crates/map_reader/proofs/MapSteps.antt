@@ -56,7 +56,9 @@ pub list_ok : (r s : MapsReading) (number : Option ℕ) (l : ListLine) → with_
 unfolding with_list
 list_ok r s number l h = by (continues number (length r.lists) r.blocks) refl h
   where
-    by : (b : Bool) → continues number (length r.lists) r.blocks ≡ b → (if b then Ok (made (on_last r.lists l) r.blocks) else (after r.blocks (line.Class number (l.pattern ∷ [])) >>= (λ blocks. Ok (made (r.lists ++ (l ∷ []) ∷ []) blocks)))) ≡ Ok s
+    by : (b : Bool) → continues number (length r.lists) r.blocks ≡ b
+        → (if b then Ok (made (on_last r.lists l) r.blocks) else
+        (after r.blocks (line.Class number (l.pattern ∷ [])) >>= (λ blocks. Ok (made (r.lists ++ (l ∷ []) ∷ []) blocks)))) ≡ Ok s
         → IsMore r s number l ⊎ IsNew r s number l
     by true e k = inl (record { last = e; is = ok_same _ s k })
     by false e k = let b = bind_ok (after r.blocks (line.Class number (l.pattern ∷ []))) _ s k in inr (record { blocks = b.0; taken = b.1; is = ok_same _ s b.2 })

@@ -16,8 +16,7 @@ use Rattle.config_lines.specs.declared.line.Line.{Line}
 use Rattle.config_lines.specs.declared.line.Line.TheVariants as line
 use Rattle.config_lines.specs.LineText.{IsLine}
 use Rattle.config_text.specs.ConfigLines.{lines_of_classes, lines_of_router}
-use Rattle.config_text.specs.Spelled.{ArePatterns}
-use Rattle.config_text.specs.Spelled.{IsLawful as IsLawfulConfig}
+use Rattle.config_text.specs.Spelled.{ArePatterns, IsLawful as IsLawfulConfig}
 use Rattle.config_text.proofs.LawfulLines.{lawful_lines}
 use Rattle.config_reader.specs.declared.reading.Reading.{Reading}
 use Rattle.config_reader.specs.declared.reading.Misplaced.{Misplaced}
@@ -37,8 +36,7 @@ use Rattle.map_lines.specs.declared.line.MapLine.TheVariants as written
 use Rattle.map_lines.specs.MapLines.{map_line_of}
 use Rattle.map_lines.specs.MapLineText.{map_line_text, IsMapLine}
 use Rattle.map_lines.proofs.MapWritten.{IsMapReadAgain, list_there, map_lines_read}
-use Rattle.route_map_text.specs.MapsLines.{lines_of_list, lines_of_lists, map_lines, fed, first_line, maps_text}
-use Rattle.route_map_text.specs.MapsLines.{lines_of_router as map_lines_of_router}
+use Rattle.route_map_text.specs.MapsLines.{lines_of_list, lines_of_lists, map_lines, fed, first_line, maps_text, lines_of_router as map_lines_of_router}
 use Rattle.route_map_text.specs.MapsSpelled.{HavePatterns, IsLawful, Spells}
 use Rattle.config_reader.specs.declared.fault.ConfigFault.{ConfigFault}
 use Rattle.map_reader.specs.declared.reading.MapsReading.{MapsReading}
@@ -136,7 +134,7 @@ numbered_taken lists b d (line.PeerImport r) is h = entry_taken lists b d (line.
 numbered_taken lists b d (line.Export e) is h = entry_taken lists b d (line.Export e) ((counts b).outs + 1) h (ap (λ (c : Counts). c.outs) (counts-after b d (line.Export e) is h))
 numbered_taken lists b d (line.Class n ps) is h = absurd is
 numbered_taken lists b d (line.Router name asn id) is h = block_taken lists b d (line.Router name asn id) h
-numbered_taken lists b d (line.Own o) is h = block_taken lists b d (line.Own o) h
+numbered_taken lists b d (line.Origination o) is h = block_taken lists b d (line.Origination o) h
 numbered_taken lists b d (line.Session name asn) is h = block_taken lists b d (line.Session name asn) h
 numbered_taken lists b d (line.Peer name asn) is h = block_taken lists b d (line.Peer name asn) h
 numbered_taken lists b d line.End is h = block_taken lists b d line.End h
@@ -240,7 +238,7 @@ numbered_no_list k (l ∷ ls) = (by l, numbered_no_list (step k l) ls)
     by (line.Export e) = tt
     by (line.Class n ps) = tt
     by (line.Router name asn id) = tt
-    by (line.Own o) = tt
+    by (line.Origination o) = tt
     by (line.Session name asn) = tt
     by (line.Peer name asn) = tt
     by line.End = tt

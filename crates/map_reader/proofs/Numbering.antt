@@ -1,15 +1,14 @@
 -- Entries are numbered within their blocks, as they come.
 use Rattle.std.proofs.Common.{◌≡◌, ℕ, ◌+◌, ◌*◌, List, [], ◌∷◌, ◌++◌, length, map, Bool, true, false, Option, Some, Ok, refl, sym, ◌∙◌, ap, ap₂, arith, length-append}
-use Rattle.std.specs.Prelude.{option_and_then, if◌then◌else◌}
+use Rattle.std.specs.Prelude.{option_and_then, if◌then◌else◌, is_none}
 use Rattle.std.specs.List.{flat_map}
 use Rattle.std.proofs.lemmas.Bool.{and_parts}
-use Rattle.std.specs.Prelude.{is_none}
 use Rattle.list_laws.proofs.Options.{is_none_parts}
 use Rattle.config_base.specs.declared.config.RouterConfig.{RouterConfig}
 use Rattle.config_base.specs.declared.config.Session.{Session}
-use Rattle.config_base.specs.declared.config.Rule.{Rule}
+use Rattle.config_base.specs.declared.config.Import.{Import}
 use Rattle.config_base.specs.declared.config.Export.{Export}
-use Rattle.config_base.specs.declared.config.Own.{Own}
+use Rattle.config_base.specs.declared.config.Origination.{Origination}
 use Rattle.config_lines.specs.declared.line.Line.{Line}
 use Rattle.config_lines.specs.declared.line.Line.TheVariants as line
 use Rattle.config_text.specs.ConfigLines.{head_of, import_of, lines_of_session, lines_before_end, lines_of_router}
@@ -20,8 +19,7 @@ use Rattle.config_reader.proofs.Steps.{router_ok, own_ok, neighbour_ok, import_o
 use Rattle.config_reader.proofs.TakenTexts.{IsOther}
 use Rattle.map_lines.specs.declared.line.MapLine.{MapLine}
 use Rattle.map_lines.specs.declared.line.MapLine.TheVariants as written
-use Rattle.route_map_text.specs.MapsLines.{numbered, network_of}
-use Rattle.route_map_text.specs.MapsLines.{lines_of_session as map_lines_of_session, lines_before_end as map_lines_before_end, lines_of_router as map_lines_of_router}
+use Rattle.route_map_text.specs.MapsLines.{numbered, network_of, lines_of_session as map_lines_of_session, lines_before_end as map_lines_before_end, lines_of_router as map_lines_of_router}
 use Rattle.map_reader.specs.MapsReading.{entries_in, entries_of}
 
 -- how many `in` and how many `out` entries the open block has
@@ -62,19 +60,25 @@ number_from-append k (x ∷ xs) ys = ap (λ (ls : List MapLine). number_line k x
 
 -- ---- the blocks of routers
 
-ins_numbered : (b : Bool) (i o : ℕ) (rules : List Rule) → (number_from (record { ins = i; outs = o }) (map (import_of b) rules) ≡ numbered (10 * (i + 1)) (map (import_of b) rules))
+ins_numbered : (b : Bool) (i o : ℕ) (rules : List Import) → (number_from (record { ins = i; outs = o }) (map (import_of b) rules) ≡ numbered (10 * (i + 1)) (map (import_of b) rules))
     × (steps (record { ins = i; outs = o }) (map (import_of b) rules) ≡ record { ins = i + length rules; outs = o })
 ins_numbered b i o [] = (refl, let e : i ≡ i + 0 = omega arith in ap (λ n. let k : Counts = record { ins = n; outs = o } in k) e)
 ins_numbered true i o (r ∷ rules) =
     let later = ins_numbered true (i + 1) o rules in
     let e : 10 * (i + 1 + 1) ≡ 10 * (i + 1) + 10 = omega arith in
-    let c : i + 1 + length rules ≡ i + length (r ∷ rules) = omega arith in
-    (ap (λ (ls : List MapLine). written.Entry (Some (10 * (i + 1))) (line.PeerImport r) ∷ ls) (later.0 ∙ ap (λ n. numbered n (map (import_of true) rules)) e), later.1 ∙ ap (λ n. let k : Counts = record { ins = n; outs = o } in k) c)
+    let c : i + 1 + length rules ≡ i + length (r ∷ rules) = omega arith in (
+      ap (λ (ls : List MapLine). written.Entry (Some (10 * (i + 1))) (line.PeerImport r) ∷ ls)
+          (later.0 ∙ ap (λ n. numbered n (map (import_of true) rules)) e),
+      later.1 ∙ ap (λ n. let k : Counts = record { ins = n; outs = o } in k) c,
+    )
 ins_numbered false i o (r ∷ rules) =
     let later = ins_numbered false (i + 1) o rules in
     let e : 10 * (i + 1 + 1) ≡ 10 * (i + 1) + 10 = omega arith in
-    let c : i + 1 + length rules ≡ i + length (r ∷ rules) = omega arith in
-    (ap (λ (ls : List MapLine). written.Entry (Some (10 * (i + 1))) (line.Import r) ∷ ls) (later.0 ∙ ap (λ n. numbered n (map (import_of false) rules)) e), later.1 ∙ ap (λ n. let k : Counts = record { ins = n; outs = o } in k) c)
+    let c : i + 1 + length rules ≡ i + length (r ∷ rules) = omega arith in (
+      ap (λ (ls : List MapLine). written.Entry (Some (10 * (i + 1))) (line.Import r) ∷ ls)
+          (later.0 ∙ ap (λ n. numbered n (map (import_of false) rules)) e),
+      later.1 ∙ ap (λ n. let k : Counts = record { ins = n; outs = o } in k) c,
+    )
 
 outs_numbered : (i o : ℕ) (exports : List Export) → number_from (record { ins = i; outs = o }) (map line.Export exports) ≡ numbered (10 * (o + 1)) (map line.Export exports)
 outs_numbered i o [] = refl
@@ -86,7 +90,10 @@ outs_numbered i o (e ∷ exports) =
 head_numbered : (k : Counts) (s : Session) → (number_line k (head_of s) ≡ written.Block (head_of s)) × (step k (head_of s) ≡ none)
 head_numbered k s = by s.peer
   where
-    by : (b : Bool) → (number_line k (if b then line.Peer s.name s.asn else line.Session s.name s.asn) ≡ written.Block (if b then line.Peer s.name s.asn else line.Session s.name s.asn)) × (step k (if b then line.Peer s.name s.asn else line.Session s.name s.asn) ≡ none)
+    by : (b : Bool)
+        → (number_line k (if b then line.Peer s.name s.asn else line.Session s.name s.asn)
+        ≡ written.Block (if b then line.Peer s.name s.asn else line.Session s.name s.asn))
+        × (step k (if b then line.Peer s.name s.asn else line.Session s.name s.asn) ≡ none)
     by true = (refl, refl)
     by false = (refl, refl)
 
@@ -106,15 +113,15 @@ sessions_numbered k (s ∷ ss) =
     number_from-append k (lines_of_session s) (flat_map lines_of_session ss)
     ∙ ap₂ (λ (xs ys : List MapLine). xs ++ ys) (session_numbered k s) (sessions_numbered (steps k (lines_of_session s)) ss)
 
-owns_numbered : (k : Counts) (owns : List Own) → number_from k (map line.Own owns) ≡ map network_of owns
+owns_numbered : (k : Counts) (owns : List Origination) → number_from k (map line.Origination owns) ≡ map network_of owns
 owns_numbered k [] = refl
 owns_numbered k (o ∷ owns) = ap (λ (ls : List MapLine). network_of o ∷ ls) (owns_numbered none owns)
 
 pub before_end_numbered : (k : Counts) (r : RouterConfig) → number_from k (lines_before_end r) ≡ map_lines_before_end r
 before_end_numbered k r =
     ap (λ (ls : List MapLine). written.Block (line.Router r.name r.asn r.id) ∷ ls)
-    (number_from-append none (map line.Own r.own) (flat_map lines_of_session r.sessions)
-    ∙ ap₂ (λ (xs ys : List MapLine). xs ++ ys) (owns_numbered none r.own) (sessions_numbered (steps none (map line.Own r.own)) r.sessions))
+    (number_from-append none (map line.Origination r.own) (flat_map lines_of_session r.sessions)
+    ∙ ap₂ (λ (xs ys : List MapLine). xs ++ ys) (owns_numbered none r.own) (sessions_numbered (steps none (map line.Origination r.own)) r.sessions))
 
 router_numbered : (k : Counts) (r : RouterConfig) → number_from k (lines_of_router r) ≡ map_lines_of_router r
 router_numbered k r =
@@ -148,7 +155,7 @@ one_longer xs x = length-append xs (x ∷ [])
 pub counts-after : (r s : Reading) (l : Line) → IsOther l → after r l ≡ Ok s → counts s ≡ step (counts r) l
 counts-after r s (line.Class number patterns) is h = absurd is
 counts-after r s (line.Router name asn id) is h = ap counts (sym (router_ok r s name asn id h).2)
-counts-after r s (line.Own own) is h =
+counts-after r s (line.Origination own) is h =
     let m = own_ok r s own h in
     let empty = is_none_parts m.0.block (and_parts (is_none m.0.block) _ m.2).0 in
     ap counts (sym m.3) ∙ ap counts_in empty
@@ -156,11 +163,14 @@ counts-after r s (line.Session name asn) is h = ap counts (sym (neighbour_ok fal
 counts-after r s (line.Peer name asn) is h = ap counts (sym (neighbour_ok true r s name asn h).3)
 counts-after r s (line.Import rule) is h =
     let m = import_ok false r s rule h in
-    ap counts (sym m.6) ∙ ap (λ n. let k : Counts = record { ins = n; outs = length m.1.exports } in k) (one_longer m.1.imports rule) ∙ ap (λ (k : Counts). step k (line.Import rule)) (sym (counts_at r m.0 (Some m.1) m.2 m.3))
+    ap counts (sym m.6) ∙ ap (λ n. let k : Counts = record { ins = n; outs = length m.1.exports } in k) (one_longer m.1.imports rule)
+    ∙ ap (λ (k : Counts). step k (line.Import rule)) (sym (counts_at r m.0 (Some m.1) m.2 m.3))
 counts-after r s (line.PeerImport rule) is h =
     let m = import_ok true r s rule h in
-    ap counts (sym m.6) ∙ ap (λ n. let k : Counts = record { ins = n; outs = length m.1.exports } in k) (one_longer m.1.imports rule) ∙ ap (λ (k : Counts). step k (line.PeerImport rule)) (sym (counts_at r m.0 (Some m.1) m.2 m.3))
+    ap counts (sym m.6) ∙ ap (λ n. let k : Counts = record { ins = n; outs = length m.1.exports } in k) (one_longer m.1.imports rule)
+    ∙ ap (λ (k : Counts). step k (line.PeerImport rule)) (sym (counts_at r m.0 (Some m.1) m.2 m.3))
 counts-after r s (line.Export export) is h =
     let m = export_ok r s export h in
-    ap counts (sym m.5) ∙ ap (λ n. let k : Counts = record { ins = length m.1.imports; outs = n } in k) (one_longer m.1.exports export) ∙ ap (λ (k : Counts). step k (line.Export export)) (sym (counts_at r m.0 (Some m.1) m.2 m.3))
+    ap counts (sym m.5) ∙ ap (λ n. let k : Counts = record { ins = length m.1.imports; outs = n } in k) (one_longer m.1.exports export)
+    ∙ ap (λ (k : Counts). step k (line.Export export)) (sym (counts_at r m.0 (Some m.1) m.2 m.3))
 counts-after r s line.End is h = ap counts (sym (end_ok r s h).2)

@@ -39,7 +39,9 @@ module _ (entries : List Entry) (s : Span) (order : IsInOrder entries) (some : s
   more e h = lt-ltb e.key s.to (omega (arith, some, ltb-true e.key s.from h))
 
   early : (e : Entry) → nat_lt e.key s.from ≡ true → in_span s e.key ≡ false
-  early e h = false_from_ne_true (in_span s e.key) (λ on. let low = leb-true s.from e.key (and_parts (nat_le s.from e.key) (nat_lt e.key s.to) on).0 in absurd (omega (arith, low, ltb-true e.key s.from h)))
+  early e h =
+      false_from_ne_true (in_span s e.key) (λ on. let low = leb-true s.from e.key (and_parts (nat_le s.from e.key) (nat_lt e.key s.to) on).0 in
+      absurd (omega (arith, low, ltb-true e.key s.from h)))
 
   late : (e : Entry) → nat_lt e.key s.to ≡ false → in_span s e.key ≡ false
   late e h = false_from_ne_true (in_span s e.key) (λ on. let t : false ≡ true = sym h ∙ (and_parts (nat_le s.from e.key) (nat_lt e.key s.to) on).1 in absurd cc)
@@ -109,7 +111,8 @@ count_by-or p q apart (x ∷ xs) = by (p x) (q x) refl refl (count_by-or p q apa
 pub rest_of : {X : Type 0} (xs : List X) (i : ℕ) (d : X) → i < length xs → drop i xs ≡ get_or xs i d ∷ drop (i + 1) xs
 rest_of xs i d h = rw (add-one) (drop-cons xs i d h)
 
-pub AreApart-next : (spans : List Span) (i : ℕ) (d : Span) → i < length spans → AreApart (drop i spans) → ((k : ℕ) → in_span (get_or spans i d) k ≡ true → in_some (drop (i + 1) spans) k ≡ false) × AreApart (drop (i + 1) spans)
+pub AreApart-next : (spans : List Span) (i : ℕ) (d : Span) → i < length spans → AreApart (drop i spans)
+    → ((k : ℕ) → in_span (get_or spans i d) k ≡ true → in_some (drop (i + 1) spans) k ≡ false) × AreApart (drop (i + 1) spans)
 AreApart-next spans i d h apart = subst AreApart (rest_of spans i d h) apart
 
 pub counted_next : (entries : List Entry) (spans : List Span) (i : ℕ) (d : Span) → i < length spans → AreApart (drop i spans)

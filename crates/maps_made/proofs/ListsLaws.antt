@@ -28,7 +28,8 @@ pub counted_from : (t : PlainPattern → Bool) (p : ℕ → Bool) (k : ℕ) (qs 
 counted_from t p k [] all = refl
 counted_from t p k (q ∷ qs) all = by (t q) refl (counted_from t p (k + 1) qs all.1)
   where
-    by : (b : Bool) → t q ≡ b → count_by (λ (e : Entry). p e.key) (entries_from (k + 1) qs) ≡ length (filter t qs) → count_by (λ (e : Entry). p e.key) (entries_from k (q ∷ qs)) ≡ length (filter t (q ∷ qs))
+    by : (b : Bool) → t q ≡ b → count_by (λ (e : Entry). p e.key) (entries_from (k + 1) qs) ≡ length (filter t qs)
+        → count_by (λ (e : Entry). p e.key) (entries_from k (q ∷ qs)) ≡ length (filter t (q ∷ qs))
     by true is h = let on : p (key q) ≡ true = all.0 ∙ is in rw (count_by-cons (λ (e : Entry). p e.key) (record { key = key q; place = k }) (entries_from (k + 1) qs), on, is) (omega (arith, h))
     by false is h = let off : p (key q) ≡ false = all.0 ∙ is in rw (count_by-cons (λ (e : Entry). p e.key) (record { key = key q; place = k }) (entries_from (k + 1) qs), off, is) (omega (arith, h))
 
@@ -56,7 +57,8 @@ pub places_are : (class patterns : List PlainPattern) (spans : List Span) (found
     → places ≡ places_from (meets_some class) 0 patterns
 places_are class patterns spans found places entries same meets are settled order =
     same_members places (places_from (meets_some class) 0 patterns) order (places_order (meets_some class) 0 patterns)
-    (λ j. settled j ∙ are j ∙ HaveEntries-any entries (entries_from 0 patterns) same (λ (e : Entry). in_some spans e.key && is_at j e) ∙ sym (places_has (meets_some class) (in_some spans) 0 patterns meets j))
+    (λ j. settled j ∙ are j ∙ HaveEntries-any entries (entries_from 0 patterns) same (λ (e : Entry). in_some spans e.key && is_at j e)
+    ∙ sym (places_has (meets_some class) (in_some spans) 0 patterns meets j))
 
 pub denied_are : (class patterns : List PlainPattern) (places : List ℕ) → places ≡ places_from (meets_some class) 0 patterns → at_places patterns places ≡ filter (meets_some class) patterns
 denied_are class patterns places are = ap (at_places patterns) are ∙ at_places_from (meets_some class) [] patterns 0 refl
@@ -118,7 +120,8 @@ any_later p (x ∷ xs) (suc i) d lt h = by (p x) (any_later p xs i d (omega (ari
     by true e = refl
     by false e = e
 
-class_known : (lengths : List ℕ) (class rest : List PlainPattern) → AllByRecursion IsPattern rest → ((l : ℕ) → l ≤ 32 → list_any (λ (p : PlainPattern). p.base.len == l) rest ≡ true → list_any (λ (p : PlainPattern). p.base.len == l) class ≡ true)
+class_known : (lengths : List ℕ) (class rest : List PlainPattern) → AllByRecursion IsPattern rest
+    → ((l : ℕ) → l ≤ 32 → list_any (λ (p : PlainPattern). p.base.len == l) rest ≡ true → list_any (λ (p : PlainPattern). p.base.len == l) class ≡ true)
     → ((l : ℕ) → l ≤ 32 → list_any (λ (p : PlainPattern). p.base.len == l) class ≡ true → has lengths l ≡ true) → AllByRecursion (IsKnown lengths) rest
 class_known lengths class [] all in_class known = tt
 class_known lengths class (q ∷ qs) all in_class known = (
@@ -153,7 +156,8 @@ length-lists_from : (earlier : List PlainPattern) (classes : List (List PlainPat
 length-lists_from earlier [] = refl
 length-lists_from earlier (c ∷ cs) = let h = length-lists_from (earlier ++ c) cs in omega (arith, h)
 
-lists_from-lines : (earlier : List PlainPattern) (classes : List (List PlainPattern)) → AllByRecursion (λ (ps : List PlainPattern). ps ≢ []) classes → AllByRecursion (λ (ls : List ListLine). ls ≢ []) (lists_from earlier classes)
+lists_from-lines : (earlier : List PlainPattern) (classes : List (List PlainPattern)) → AllByRecursion (λ (ps : List PlainPattern). ps ≢ []) classes
+    → AllByRecursion (λ (ls : List ListLine). ls ≢ []) (lists_from earlier classes)
 lists_from-lines earlier [] all = tt
 lists_from-lines earlier (c ∷ cs) all = ((λ none. some c all.0 (ap length none)), lists_from-lines (earlier ++ c) cs all.1)
   where
@@ -174,7 +178,8 @@ IsMaps-maps_of c is =
     }
 
 -- the lines of a list: those that are denied, and those that are permitted
-pub list_made : (earlier class patterns : List PlainPattern) (places given : List ℕ) (none denied all : List ListLine) → patterns ≡ earlier → given ≡ places → places ≡ places_from (meets_some class) 0 earlier
+pub list_made : (earlier class patterns : List PlainPattern) (places given : List ℕ) (none denied all : List ListLine) → patterns ≡ earlier
+    → given ≡ places → places ≡ places_from (meets_some class) 0 earlier
     → none ≡ [] → denied ≡ none ++ map (line false) (at_places patterns given) → all ≡ denied ++ map (line true) class → all ≡ list_for earlier class
 list_made earlier class patterns places given none denied all ps js are n d a =
     a

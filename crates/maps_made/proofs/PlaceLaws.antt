@@ -95,7 +95,8 @@ places_after : (t : PlainPattern → Bool) (x k : ℕ) (qs : List PlainPattern) 
 places_after t x k [] lt = tt
 places_after t x k (q ∷ qs) lt = by (t q) (places_after t x (k + 1) qs (omega (arith, lt)))
   where
-    by : (b : Bool) → AllByRecursion (λ y. nat_cmp x y ≡ Less) (places_from t (k + 1) qs) → AllByRecursion (λ y. nat_cmp x y ≡ Less) (if b then k ∷ places_from t (k + 1) qs else places_from t (k + 1) qs)
+    by : (b : Bool) → AllByRecursion (λ y. nat_cmp x y ≡ Less) (places_from t (k + 1) qs)
+        → AllByRecursion (λ y. nat_cmp x y ≡ Less) (if b then k ∷ places_from t (k + 1) qs else places_from t (k + 1) qs)
     by true all = (nat_cmp-lesser x k lt, all)
     by false all = all
 

@@ -1,7 +1,6 @@
 -- Spans that are put behind others.
 use Rattle.std.proofs.Common.{◌≡◌, ℕ, ◌+◌, ◌<◌, ◌≤◌, length, take, get_or, zero, suc, Bool, true, false, List, [], ◌∷◌, ◌++◌, inl, inr, refl, ap, sym, ◌∙◌, arith, max}
-use Rattle.std.specs.Prelude.{◌&&◌, ◌||◌, ◌==◌, nat_le, nat_lt}
-use Rattle.std.specs.Prelude.{Result, Ok, Err, IfOk}
+use Rattle.std.specs.Prelude.{◌&&◌, ◌||◌, ◌==◌, nat_le, nat_lt, Result, Ok, Err, IfOk}
 use Rattle.std.specs.List.{AllByRecursion}
 use Rattle.std.specs.List.Sorted.{IsPermutation}
 use Rattle.std.proofs.lemmas.List.Sorted.{list_any-IsPermutation}
@@ -89,7 +88,9 @@ module _ (spans : List Span) (reached : ℕ) (s : Span) (j : AreJoined spans rea
   pub new_joined : max s.from reached < s.to → AreJoined (spans ++ new ∷ []) s.to s.from
   new_joined lt = record {
     apart = AreApart-push spans new j.apart
-        (λ k h. false_from_ne_true (in_some spans k) (λ on. let e = leb-true (max s.from reached) k (and_parts (nat_le (max s.from reached) k) (nat_lt k s.to) h).0 in absurd (omega (arith, e, j.below k on))));
+        (λ k h. false_from_ne_true (in_some spans k) (λ on. let e =
+        leb-true (max s.from reached) k (and_parts (nat_le (max s.from reached) k) (nat_lt k s.to) h).0 in
+        absurd (omega (arith, e, j.below k on))));
     below = λ k h. elim (or_cases (in_some spans k) (in_span s k) (sym (new_span k) ∙ h)) [
       | inl t ↦ omega (arith, lt, j.below k t)
       | inr t ↦ ltb-true k s.to (and_parts (nat_le s.from k) (nat_lt k s.to) t).1

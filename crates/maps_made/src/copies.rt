@@ -5,6 +5,7 @@ use config_base::{RouterConfig, Session};
 use net_base::List;
 use std::alloc::{AllocError, Global};
 
+// What owns memory is copied field by field, since a copy may find none.
 // A copy of a neighbour's block.
 fn session_copy(alloc: Global, session: &Session) -> Result<Session, AllocError>
     ensures { IfOk result (λ copy. copy ≡ session.now) }

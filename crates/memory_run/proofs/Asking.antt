@@ -3,7 +3,7 @@ use Rattle.std.proofs.Common.{◌≡◌, ℕ, ◌<◌, List, [], ◌∷◌, leng
 use Rattle.std.specs.Prelude.{IsSome}
 use Rattle.net_base.specs.Network.{PlainNet}
 use Rattle.topology.specs.Topology.{spelled}
-use Rattle.path_words.specs.Policies.{PlainPolicy}
+use Rattle.policy_base.specs.Policies.{PlainPolicy}
 use Rattle.propane_run.specs.declared.command.Command.TheVariants.{Compile}
 use Rattle.run_base.specs.declared.outcome.Status.TheVariants.{BadInput}
 use Rattle.propane_run.specs.Asked.{AsksFor}
@@ -18,12 +18,12 @@ use Rattle.compile_jobs.specs.Written.{SaysOfPart}
 use Rattle.memory_run.specs.Texts.{compile_words, topology_name, policy_name, Spell, IsFaultLine}
 
 -- the words are `compile`, with the two names
-pub asked : (words : List (List ℕ)) → words ≡ compile_words → words_are words ≡ Some (Compile 1 2)
+pub asked : (words : List (List ℕ)) → words ≡ compile_words → words_are words ≡ Some Compile
 asked words is = rw is refl
 
 -- where both names are told, and no count of theirs rises
 smooth_words : (holds : Holds) → IsSome (holds topology_name) → IsSome (holds policy_name) → (rose : List ℕ → Type 0) → (rose topology_name → ⊥) → (rose policy_name → ⊥)
-    → ReadsSmoothly holds rose compile_words (Compile 1 2)
+    → ReadsSmoothly holds rose compile_words Compile
 smooth_words holds topology_told policy_told rose no_topology no_policy = record {
   is = refl;
   told = (topology_told, (policy_told, tt));
@@ -37,9 +37,9 @@ smooth_words holds topology_told policy_told rose no_topology no_policy = record
 }
 
 pub told_smoothly : (words : List (List ℕ)) → words ≡ compile_words → (holds : Holds) → IsSome (holds topology_name) → IsSome (holds policy_name)
-    → (rose : List ℕ → Type 0) → (rose topology_name → ⊥) → (rose policy_name → ⊥) → ReadsSmoothly holds rose words (Compile 1 2)
+    → (rose : List ℕ → Type 0) → (rose topology_name → ⊥) → (rose policy_name → ⊥) → ReadsSmoothly holds rose words Compile
 told_smoothly words is holds topology_told policy_told rose no_topology no_policy =
-    let P : List (List ℕ) → Type 0 = λ ws. ReadsSmoothly holds rose ws (Compile 1 2) in
+    let P : List (List ℕ) → Type 0 = λ ws. ReadsSmoothly holds rose ws Compile in
     subst P (sym is) (smooth_words holds topology_told policy_told rose no_topology no_policy)
 
 module _ (holds : Holds) (topology policy_text : List ℕ) (topology_is : holds topology_name ≡ Some topology) (policy_is : holds policy_name ≡ Some policy_text) where
@@ -49,7 +49,7 @@ module _ (holds : Holds) (topology policy_text : List ℕ) (topology_is : holds 
   held_policy : (bytes : List ℕ) → IsHeld holds policy_name bytes → bytes ≡ policy_text
   held_policy bytes held = rw policy_is at held.told
 
-  at_words : (net : PlainNet) (policy : PlainPolicy) → AsksFor holds compile_words (Compile 1 2) net policy → Spell topology policy_text net policy
+  at_words : (net : PlainNet) (policy : PlainPolicy) → AsksFor holds compile_words Compile net policy → Spell topology policy_text net policy
   at_words net policy asks =
       let t : asks.topology ≡ topology = held_topology asks.topology asks.held.0 in
       let p : asks.policy_text ≡ policy_text = held_policy asks.policy_text asks.held.1.0 in
@@ -60,7 +60,7 @@ module _ (holds : Holds) (topology policy_text : List ℕ) (topology_is : holds 
         policy_spelled = rw p at asks.policy_spelled;
       }
 
-  of_words : (net : PlainNet) (policy : PlainPolicy) → Spell topology policy_text net policy → AsksFor holds compile_words (Compile 1 2) net policy
+  of_words : (net : PlainNet) (policy : PlainPolicy) → Spell topology policy_text net policy → AsksFor holds compile_words Compile net policy
   of_words net policy spell = record {
     asked = refl;
     topology = topology;
@@ -86,7 +86,7 @@ module _ (holds : Holds) (topology policy_text : List ℕ) (topology_is : holds 
   texts_fault l (inl h) = inr (inr (inl (h.0, h.1, ap (λ (w : Said). w.to_err) h.2)))
   texts_fault l (inr h) = policy_fault h.0 l h.1 h.2
 
-  job_fault : (l : List ℕ) (bs : List (List ℕ)) → AllHeld holds (topology_name ∷ policy_name ∷ []) bs → Job (Compile 1 2) bs (line BadInput l) → IsFaultLine topology policy_text l
+  job_fault : (l : List ℕ) (bs : List (List ℕ)) → AllHeld holds (topology_name ∷ policy_name ∷ []) bs → Job Compile bs (line BadInput l) → IsFaultLine topology policy_text l
   job_fault l [] held says = absurd says
   job_fault l (a ∷ []) held says = absurd says
   job_fault l (a ∷ b ∷ []) held says =
@@ -109,7 +109,7 @@ module _ (holds : Holds) (topology policy_text : List ℕ) (topology_is : holds 
       let more : most < length policy_text = rw policy_is at (subst P is over) in
       inr (inl (more, told ∙ ap (λ n. (too_long n).to_err) is))
 
-  fault_words : (l : List ℕ) → FaultFound holds compile_words (Compile 1 2) l → IsFaultLine topology policy_text l
+  fault_words : (l : List ℕ) → FaultFound holds compile_words Compile l → IsFaultLine topology policy_text l
   fault_words l (inl h) = elim h.1 [
     | inl t ↦ too_long_topology h.0 l t h.2 h.3
     | inr rest ↦ elim rest [ inl p ↦ too_long_policy h.0 l p h.2 h.3 | inr none ↦ absurd none ]
@@ -118,20 +118,20 @@ module _ (holds : Holds) (topology policy_text : List ℕ) (topology_is : holds 
 
 module _ (words : List (List ℕ)) (is : words ≡ compile_words) (holds : Holds) (topology policy_text : List ℕ)
     (topology_is : holds topology_name ≡ Some topology) (policy_is : holds policy_name ≡ Some policy_text) where
-  pub spelled_by : (net : PlainNet) (policy : PlainPolicy) → AsksFor holds words (Compile 1 2) net policy → Spell topology policy_text net policy
+  pub spelled_by : (net : PlainNet) (policy : PlainPolicy) → AsksFor holds words Compile net policy → Spell topology policy_text net policy
   spelled_by net policy asks =
-      let P : List (List ℕ) → Type 0 = λ ws. AsksFor holds ws (Compile 1 2) net policy in
+      let P : List (List ℕ) → Type 0 = λ ws. AsksFor holds ws Compile net policy in
       at_words holds topology policy_text topology_is policy_is net policy (subst P is asks)
 
-  pub asks_for : (net : PlainNet) (policy : PlainPolicy) → Spell topology policy_text net policy → AsksFor holds words (Compile 1 2) net policy
+  pub asks_for : (net : PlainNet) (policy : PlainPolicy) → Spell topology policy_text net policy → AsksFor holds words Compile net policy
   asks_for net policy spell =
-      let P : List (List ℕ) → Type 0 = λ ws. AsksFor holds ws (Compile 1 2) net policy in
+      let P : List (List ℕ) → Type 0 = λ ws. AsksFor holds ws Compile net policy in
       subst P (sym is) (of_words holds topology policy_text topology_is policy_is net policy spell)
 
-  pub reads_smoothly : (rose : List ℕ → Type 0) → (rose topology_name → ⊥) → (rose policy_name → ⊥) → ReadsSmoothly holds rose words (Compile 1 2)
+  pub reads_smoothly : (rose : List ℕ → Type 0) → (rose topology_name → ⊥) → (rose policy_name → ⊥) → ReadsSmoothly holds rose words Compile
   reads_smoothly rose no_topology no_policy = told_smoothly words is holds (rw topology_is refl) (rw policy_is refl) rose no_topology no_policy
 
-  pub fault_told : (l : List ℕ) → FaultFound holds words (Compile 1 2) l → IsFaultLine topology policy_text l
+  pub fault_told : (l : List ℕ) → FaultFound holds words Compile l → IsFaultLine topology policy_text l
   fault_told l found =
-      let P : List (List ℕ) → Type 0 = λ ws. FaultFound holds ws (Compile 1 2) l in
+      let P : List (List ℕ) → Type 0 = λ ws. FaultFound holds ws Compile l in
       fault_words holds topology policy_text topology_is policy_is l (subst P is found)

@@ -22,7 +22,7 @@ use Rattle.memory_run.proofs.Telling.{still}
 -- the reading of both texts is smooth
 pub ready_smoothly : (words : List (List ℕ)) → words ≡ compile_words → (before now : MemInputs) → IsReady before topology_name → IsReady before policy_name
     → ((name : List ℕ) → IsSure before name → (count now name ≡ count before name) × IsSure now name)
-    → ReadsSmoothly (told before) (RoseOf (count before) (count now)) words (Compile 1 2)
+    → ReadsSmoothly (told before) (RoseOf (count before) (count now)) words Compile
 ready_smoothly words is before now topology policy sure =
     told_smoothly words is (told before) topology.0.held policy.0.held (RoseOf (count before) (count now))
     (still _ _ topology.1 (sure topology_name topology.0).0) (still _ _ policy.1 (sure policy_name policy.0).0)
@@ -30,12 +30,12 @@ ready_smoothly words is before now topology policy sure =
 module _ (words : List (List ℕ)) (is : words ≡ compile_words) (holds : Holds) (rose : List ℕ → Type 0) (Sent : Said → Type 0) (ended : Status)
     (complete : (c : Command) → ReadsSmoothly holds rose words c → (ended ≡ NoMemory) ⊎ (wanted : Said) × SaidOfTold holds (names_read words c) (Job c) wanted × Sent wanted) where
   -- what is to be said is sent, unless memory runs out
-  pub to_say : ReadsSmoothly holds rose words (Compile 1 2) → ended ≢ NoMemory
-      → (wanted : Said) × SaidOfTold holds (names_read compile_words (Compile 1 2)) (Job (Compile 1 2)) wanted × Sent wanted
-  to_say smooth other = elim (complete (Compile 1 2) smooth) [
+  pub to_say : ReadsSmoothly holds rose words Compile → ended ≢ NoMemory
+      → (wanted : Said) × SaidOfTold holds (names_read compile_words Compile) (Job Compile) wanted × Sent wanted
+  to_say smooth other = elim (complete Compile smooth) [
     | inl m ↦ absurd (other m)
     | inr w ↦
-        let P : List (List ℕ) → Type 0 = λ ws. SaidOfTold holds (names_read ws (Compile 1 2)) (Job (Compile 1 2)) w.0 in
+        let P : List (List ℕ) → Type 0 = λ ws. SaidOfTold holds (names_read ws Compile) (Job Compile) w.0 in
         (w.0, subst P is w.1, w.2)
   ]
 

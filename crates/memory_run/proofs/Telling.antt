@@ -2,7 +2,7 @@
 use Rattle.std.proofs.Common.{◌≡◌, ℕ, List, [], ◌++◌, Option, Some, Ok, inl, inr, sym, ap, subst, ◌∙◌, arith}
 use Rattle.net_base.specs.Network.{PlainNet}
 use Rattle.outside.specs.Outside.{Grew, Rose}
-use Rattle.path_words.specs.Policies.{PlainPolicy}
+use Rattle.policy_base.specs.Policies.{PlainPolicy}
 use Rattle.evidence_base.specs.Made.{PlainCaseEvidence}
 use Rattle.policy_parser.specs.Spelled.{spelled as policy_spelled}
 use Rattle.case_core.specs.declared.refusal.CompileRefusal.{CompileRefusal}
@@ -12,11 +12,12 @@ use Rattle.propane_run.specs.declared.command.Command.TheVariants.{Compile}
 use Rattle.propane_run.specs.Clauses.{FaultFound}
 use Rattle.compile_jobs.specs.Compiled.{IsCompiled, IsRefusedFor}
 use Rattle.propane_run.specs.Headline.{CompilesRight}
+use Rattle.run_base.specs.declared.outcome.Status.TheVariants.{Refused}
 use Rattle.run_base.specs.Reading.{Holds}
 use Rattle.refusal_lines.specs.RefusalLines.{refusal_line}
-use Rattle.propane_run.specs.Refusing.{Refuses, RefusesRight, TellsRefusal}
+use Rattle.propane_run.specs.Promises.{Promised}
+use Rattle.propane_run.specs.Refusing.{RefusesRight}
 use Rattle.propane_run.specs.Words.{words_are}
-use Rattle.propane_run.proofs.Refusers.{command_of}
 use Rattle.memory_run.specs.Texts.{compile_words, topology_name, policy_name, Spell, IsRightText, IsRefusalLine, IsFaultLine}
 use Rattle.memory_run.proofs.Asking.{spelled_by}
 
@@ -37,25 +38,25 @@ still before now none same (inl more) = omega (arith, same, more)
 still before now none same (inr last) = omega (arith, none, same, last)
 
 -- the names that `compile` reads are the two
-command_is : (c : Command) → words_are compile_words ≡ Some c → Compile 1 2 ≡ c
-command_is c is = let e : Some (Compile 1 2) ≡ Some c = is in cc
+command_is : (c : Command) → words_are compile_words ≡ Some c → Compile ≡ c
+command_is c is = let e : Some Compile ≡ Some c = is in cc
 
-pub fault_of_compile : (holds : Holds) (words : List (List ℕ)) → words ≡ compile_words → (c : Command) → words_are words ≡ Some c → (l : List ℕ) → FaultFound holds words c l → FaultFound holds words (Compile 1 2) l
-fault_of_compile holds words is c asks l found =
+-- so what is told of the command that the words are is told of `compile`
+of_compile : (words : List (List ℕ)) → words ≡ compile_words → (Told : Command → Type 0) (c : Command) → words_are words ≡ Some c → Told c → Told Compile
+of_compile words is Told c asks told =
     let P : List (List ℕ) → Type 0 = λ ws. words_are ws ≡ Some c in
-    let Q : Command → Type 0 = λ d. FaultFound holds words d l in
-    subst Q (sym (command_is c (subst P is asks))) found
+    subst Told (sym (command_is c (subst P is asks))) told
+
+pub fault_of_compile : (holds : Holds) (words : List (List ℕ)) → words ≡ compile_words → (c : Command) → words_are words ≡ Some c → (l : List ℕ) → FaultFound holds words c l → FaultFound holds words Compile l
+fault_of_compile holds words is c asks l found = of_compile words is (λ d. FaultFound holds words d l) c asks found
 
 pub refusal_of_compile : {E : Type 0} (holds : Holds) (words : List (List ℕ)) → words ≡ compile_words → (taken : E → Option (List ℕ)) (err err' : E) (c : Command)
-    → Refuses c → TellsRefusal holds taken words c err err' → RefusesRight holds taken words (Compile 1 2) err err'
-refusal_of_compile holds words is taken err err' c refuses claim =
-    let P : List (List ℕ) → Type 0 = λ ws. words_are ws ≡ Some c in
-    let Q : Command → Type 0 = λ d. TellsRefusal holds taken words d err err' in
-    subst Q (sym (command_is c (subst P is (command_of holds words taken err err' c refuses claim)))) claim
+    → words_are words ≡ Some c → Promised holds taken words c Refused err err' → RefusesRight holds taken words Compile err err'
+refusal_of_compile holds words is taken err err' c asks claim = of_compile words is (λ d. Promised holds taken words d Refused err err') c asks claim
 
 module _ (words : List (List ℕ)) (is : words ≡ compile_words) (holds : Holds) (topology policy_text : List ℕ)
     (topology_is : holds topology_name ≡ Some topology) (policy_is : holds policy_name ≡ Some policy_text) where
-  pub right_text : {O : Type 0} (taken : O → Option (List ℕ)) (out out' : O) (claim : CompilesRight holds taken words (Compile 1 2) out out') (evidence : List PlainCaseEvidence)
+  pub right_text : {O : Type 0} (taken : O → Option (List ℕ)) (out out' : O) (claim : CompilesRight holds taken words out out') (evidence : List PlainCaseEvidence)
       → IsCompiled claim.net claim.policy claim.config evidence → (text : List ℕ) → claim.bytes ≡ text → IsRightText topology policy_text text
   right_text taken out out' claim evidence compiled text same = record {
     net = claim.net;
@@ -65,11 +66,12 @@ module _ (words : List (List ℕ)) (is : words ≡ compile_words) (holds : Holds
     spelled = rw same at claim.spelled;
     right = claim.right;
     outcomes = claim.outcomes;
+    moving = claim.moving;
     evidence = evidence;
     compiled = compiled;
   }
 
-  pub refusal_told : {E : Type 0} (taken : E → Option (List ℕ)) (err err' : E) (claim : RefusesRight holds taken words (Compile 1 2) err err') (line : List ℕ)
+  pub refusal_told : {E : Type 0} (taken : E → Option (List ℕ)) (err err' : E) (claim : RefusesRight holds taken words Compile err err') (line : List ℕ)
       → refusal_line claim.net claim.refusal ≡ line → IsRefusalLine topology policy_text line
   refusal_told taken err err' claim line same = record {
     net = claim.net;

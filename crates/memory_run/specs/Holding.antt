@@ -18,7 +18,7 @@ IsReady inputs name = IsSure inputs name × (count inputs name ≡ 0)
 
 -- this is to be said of the texts that the inputs hold
 abbrev pub IsToSay : MemInputs → Said → Type 0
-IsToSay inputs what = SaidOfTold (told inputs) (names_read compile_words (Compile 1 2)) (Job (Compile 1 2)) what
+IsToSay inputs what = SaidOfTold (told inputs) (names_read compile_words Compile) (Job Compile) what
 
 -- this was said, unless there was no room
 abbrev pub CameOf : Said → Came → Type 0

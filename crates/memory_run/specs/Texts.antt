@@ -1,7 +1,7 @@
 -- Two texts, of a topology and of a policy, and what may be said of them.
 use Rattle.std.specs.Prelude.{◌≡◌, ◌⊎◌, ℕ, ◌<◌, ◌≤◌, List, [], ◌∷◌, length, Ok, Err, codes}
 use Rattle.net_base.specs.Network.{PlainNet}
-use Rattle.path_words.specs.Policies.{PlainPolicy}
+use Rattle.policy_base.specs.Policies.{PlainPolicy}
 use Rattle.config_base.specs.Configs.{PlainConfig}
 use Rattle.evidence_base.specs.Made.{PlainCaseEvidence}
 use Rattle.config_text.specs.Spelled.{Spells}
@@ -13,7 +13,7 @@ use Rattle.policy_parser.specs.Spelled.{spelled as policy_spelled}
 use Rattle.case_core.specs.declared.refusal.CompileRefusal.{CompileRefusal}
 use Rattle.compile_jobs.specs.Compiled.{IsCompiled, IsRefusedFor}
 use Rattle.input_texts.specs.FaultLines.{topology_line, policy_line}
-use Rattle.propane_run.specs.Headline.{HasOutcomes}
+use Rattle.propane_run.specs.Headline.{HasOutcomes, IsKeptInMotion}
 use Rattle.run_base.specs.Reading.{most, too_long}
 use Rattle.refusal_lines.specs.RefusalLines.{refusal_line}
 
@@ -35,7 +35,7 @@ pub record Spell (topology policy_text : List ℕ) (net : PlainNet) (policy : Pl
   pub policy_spelled : policy_spelled net policy_text ≡ Ok policy
 
 -- The text spells a configuration that is right for the network and the policy which the two texts spell: under all failures,
--- in every stable outcome, of which there is one whatever fails. It is compiled from them, with evidence that passes.
+-- in every stable outcome, of which there is one whatever fails; it is kept in motion. It is compiled from them, with evidence that passes.
 pub record IsRightText (topology policy_text text : List ℕ) : Type 0 where
   pub net : PlainNet
   pub policy : PlainPolicy
@@ -44,6 +44,7 @@ pub record IsRightText (topology policy_text text : List ℕ) : Type 0 where
   pub spelled : Spells text config
   pub right : IsRight net policy config
   pub outcomes : HasOutcomes net policy config
+  pub moving : IsKeptInMotion net policy config
   pub evidence : List PlainCaseEvidence
   pub compiled : IsCompiled net policy config evidence
 

@@ -1,7 +1,7 @@
 //! Runs over inputs and sinks that never fail.
 ghost use Rattle.std.specs.Prelude.{◌≡◌, ◌≢◌, ℕ, List, None, IsSome, IfOk, IfSome, map, string_bytes};
 ghost use Rattle.net_base.specs.Network.{PlainNet};
-ghost use Rattle.path_words.specs.Policies.{PlainPolicy};
+ghost use Rattle.policy_base.specs.Policies.{PlainPolicy};
 ghost use Rattle.case_core.specs.declared.refusal.CompileRefusal.{CompileRefusal};
 ghost use Rattle.outside.specs.SureInputs.{bytes_of};
 ghost use Rattle.compile_jobs.specs.Compiled.{IsRefusedFor};

@@ -7,7 +7,6 @@ pub mod NetSets
 pub mod Network
 pub mod Numbers
 pub mod OptionSteps
-pub mod PlaceWords
 pub mod Prefixes
 pub mod PrefixText
 pub mod Quads

@@ -20,6 +20,6 @@ pub use loc::{Loc, LocSet};
 pub use name::Name;
 pub use net::{Net, Site};
 pub use numbers::{Tag, peer_as, router_as, tag_fits};
-pub use place::{Field, Kind, Place};
+pub use place::Place;
 pub use prefix::{Pattern, Prefix};
 pub use prefix_text::{PrefixFault, read_address, read_length, read_prefix};

@@ -1,1 +1,2 @@
 pub mod SiteNames
+pub mod Linked

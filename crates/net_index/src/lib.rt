@@ -2,5 +2,7 @@
 #![tactic(auto)]
 
 mod names;
+mod near;
 
 pub use names::LocationNames;
+pub use near::{is_near, neighbour_sets};

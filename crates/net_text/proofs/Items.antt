@@ -18,14 +18,26 @@ rest_text i ds = items_text (nat_lt 0 i) (items_of ds)
 
 -- ---- the pieces of a site, of a link and of a network
 
-pub site_as : (s : Site) → codes "{\"asn\":" ++ (decimal s.asn ++ (codes ",\"id\":" ++ (compact_text (string (address_text s.id)) ++ (codes ",\"name\":" ++ (compact_text (string s.name) ++ codes "}"))))) ≡ compact_text (site_data s)
+pub site_as : (s : Site)
+    → codes "{\"asn\":"
+    ++ (decimal s.asn
+    ++ (codes ",\"id\":"
+    ++ (compact_text (string (address_text s.id)) ++ (codes ",\"name\":" ++ (compact_text (string s.name) ++ codes "}")))))
+    ≡ compact_text (site_data s)
 unfolding site_data escape_byte
 site_as s = refl
 
-pub link_as : (net : PlainNet) (link : ℕ × ℕ) → codes "[" ++ (compact_text (string (name_at net link.0)) ++ (codes "," ++ (compact_text (string (name_at net link.1)) ++ codes "]"))) ≡ compact_text (link_data net link)
+pub link_as : (net : PlainNet) (link : ℕ × ℕ)
+    → codes "[" ++ (compact_text (string (name_at net link.0)) ++ (codes "," ++ (compact_text (string (name_at net link.1)) ++ codes "]")))
+    ≡ compact_text (link_data net link)
 link_as net link = refl
 
-pub net_as : (net : PlainNet) → codes "{\"links\":" ++ (compact_text (array_of (map (link_data net) net.links)) ++ (codes ",\"peers\":" ++ (compact_text (array_of (map site_data net.peers)) ++ (codes ",\"routers\":" ++ (compact_text (array_of (map site_data net.routers)) ++ codes "}\n"))))) ≡ net_text net
+pub net_as : (net : PlainNet)
+    → codes "{\"links\":"
+    ++ (compact_text (array_of (map (link_data net) net.links))
+    ++ (codes ",\"peers\":"
+    ++ (compact_text (array_of (map site_data net.peers))
+    ++ (codes ",\"routers\":" ++ (compact_text (array_of (map site_data net.routers)) ++ codes "}\n"))))) ≡ net_text net
 unfolding net_data escape_byte
 net_as net =
     let links = compact_text (array_of (map (link_data net) net.links)) in

@@ -15,8 +15,8 @@ use Rattle.list_laws.proofs.Texts.{bytes_eq_self, bytes_eq_apart}
 use Rattle.net_base.specs.Network.{PlainNet, IsNet, IsLink, IsBefore, Ascend, is_before, same_ends, sites}
 use Rattle.net_base.specs.Steps.{each_from}
 use Rattle.net_base.specs.declared.net.Site.{Site}
-use Rattle.net_base.specs.declared.place.Kind.{Kind}
-use Rattle.net_base.specs.declared.place.Kind.TheVariants as kind
+use Rattle.topology.specs.declared.parts.Kind.{Kind}
+use Rattle.topology.specs.declared.parts.Kind.TheVariants as kind
 use Rattle.net_base.proofs.Links.{same_ends-swap}
 use Rattle.topology.specs.declared.fault.TopoFault.{TopoFault}
 use Rattle.topology.specs.declared.fault.TopoFault.TheVariants.{LinkTwice, SelfLink, PeerLink}
@@ -89,7 +89,8 @@ place_found : (names : List (List ℕ)) (i : ℕ) (x : List ℕ) → IsDistinct 
 place_found names i x apart low at =
     let cut : take i names ++ x ∷ drop (i + 1) names ≡ names = ap (λ ds. take i names ++ ds) (sym (drop_from names i x at)) ∙ take-append-drop i names in
     let none = others_before bytes_eq bytes_eq_apart (take i names) x (drop (i + 1) names) (subst (IsDistinct bytes_eq) (sym cut) apart) in
-    ap (position (bytes_eq x)) (sym cut) ∙ position-there (bytes_eq x) (take i names) x (drop (i + 1) names) none (bytes_eq_self x) ∙ ap (λ (n : ℕ). Some n) (length-take-le i names (omega (arith, low)))
+    ap (position (bytes_eq x)) (sym cut) ∙ position-there (bytes_eq x) (take i names) x (drop (i + 1) names) none (bytes_eq_self x)
+    ∙ ap (λ (n : ℕ). Some n) (length-take-le i names (omega (arith, low)))
 
 module _ (net : PlainNet) (is : IsNet net) where
   abbrev names : List (List ℕ)
@@ -182,7 +183,8 @@ fold_put : (xs ls : List (ℕ × ℕ)) → AllByRecursion (λ l. AllByRecursion 
 fold_put xs [] are a = sym (append-nil xs)
 fold_put xs (l ∷ ls) are a = rw (put_last xs l are.0) (fold_put (xs ++ l ∷ []) ls (more xs l ls are.1 a.0) a.1 ∙ append_assoc xs (l ∷ []) ls)
   where
-    more : (xs : List (ℕ × ℕ)) (l : ℕ × ℕ) (ls : List (ℕ × ℕ)) → AllByRecursion (λ m. AllByRecursion (λ x. IsBefore x m) xs) ls → AllByRecursion (IsBefore l) ls → AllByRecursion (λ m. AllByRecursion (λ x. IsBefore x m) (xs ++ l ∷ [])) ls
+    more : (xs : List (ℕ × ℕ)) (l : ℕ × ℕ) (ls : List (ℕ × ℕ)) → AllByRecursion (λ m. AllByRecursion (λ x. IsBefore x m) xs) ls
+        → AllByRecursion (IsBefore l) ls → AllByRecursion (λ m. AllByRecursion (λ x. IsBefore x m) (xs ++ l ∷ [])) ls
     more xs l [] are after = tt
     more xs l (m ∷ ms) are after = (AllByRecursion-push (λ x. IsBefore x m) xs l are.0 after.0, more xs l ms are.1 after.1)
 
@@ -195,7 +197,9 @@ ascending_again links a = fold_put [] links (all links) a
 
 -- ---- the whole
 
-links_again : (net : PlainNet) → IsNet net → links_of (names_of (map site_entry net.routers ++ map site_entry net.peers)) (length (map site_entry net.routers)) (map (ends_at net) net.links) ≡ Ok net.links
+links_again : (net : PlainNet) → IsNet net
+    → links_of (names_of (map site_entry net.routers ++ map site_entry net.peers)) (length (map site_entry net.routers)) (map (ends_at net) net.links)
+    ≡ Ok net.links
 unfolding links_of ends_differ routers_linked
 links_again net is =
     rw (

@@ -2,7 +2,7 @@
 use Rattle.std.proofs.Common.{◌≡◌, ℕ, ◌^◌, ◌<◌, ◌≤◌, ◌/◌, ◌%◌, Bool, true, false, List, [], ◌∷◌, ◌++◌, refl, sym, ap, ap₂, arith}
 use Rattle.std.specs.Prelude.{◌≢◌, ◌&&◌, ◌||◌, ◌==◌, nat_le, IsTrue, codes}
 use Rattle.std.specs.Fmt.{decimal}
-use Rattle.std.specs.List.{list_all, AllByRecursion}
+use Rattle.std.specs.List.{AllByRecursion}
 use Rattle.std.specs.Str.{IsUtf8}
 use Rattle.std.proofs.lemmas.Bool.{and_parts, lt-ltb, leb-true, eqb-true}
 use Rattle.json.specs.Print.{escape}
@@ -46,7 +46,8 @@ simple_between least most x low high apart h =
 simple_name_byte : (x : ℕ) → is_name_byte x ≡ true → IsSimple x
 simple_name_byte x h = by (nat_le 97 x && nat_le x 122) (nat_le 65 x && nat_le x 90) (nat_le 48 x && nat_le x 57) (x == 95) (x == 45) (x == 46) refl refl refl refl refl refl h
   where
-    by : (a b c d e f : Bool) → (nat_le 97 x && nat_le x 122) ≡ a → (nat_le 65 x && nat_le x 90) ≡ b → (nat_le 48 x && nat_le x 57) ≡ c → (x == 95) ≡ d → (x == 45) ≡ e → (x == 46) ≡ f → ((a || b) || c || d || e || f) ≡ true → IsSimple x
+    by : (a b c d e f : Bool) → (nat_le 97 x && nat_le x 122) ≡ a → (nat_le 65 x && nat_le x 90) ≡ b → (nat_le 48 x && nat_le x 57) ≡ c
+        → (x == 95) ≡ d → (x == 45) ≡ e → (x == 46) ≡ f → ((a || b) || c || d || e || f) ≡ true → IsSimple x
     by true b c d e f p q r s t u h = simple_between 97 122 x (omega arith) (omega arith) (λ e. omega (arith, e)) p
     by false true c d e f p q r s t u h = simple_between 65 90 x (omega arith) (omega arith) (λ e. omega arith) q
     by false false true d e f p q r s t u h = simple_between 48 57 x (omega arith) (omega arith) (λ e. omega arith) r
@@ -61,7 +62,10 @@ simple_name name is = AllByRecursion-from_list_all IsSimple is_name_byte simple_
 -- ---- identifiers
 
 simple_figures : (n : ℕ) → n < 256 → AllByRecursion IsSimple (decimal n)
-simple_figures n low = AllByRecursion-from_list_all IsSimple is_figure (λ b h. let r = figure_range b h in (λ e. omega (arith, r.0, e), λ e. omega (arith, r.1, e), omega (arith, r.0), omega (arith, r.1))) (decimal n) (list_all-is_figure n low)
+simple_figures n low =
+    AllByRecursion-from_list_all IsSimple is_figure
+    (λ b h. let r = figure_range b h in (λ e. omega (arith, r.0, e), λ e. omega (arith, r.1, e), omega (arith, r.0), omega (arith, r.1)))
+    (decimal n) (list_all-is_figure n low)
 
 and : (s t : List ℕ) → AllByRecursion IsSimple s → AllByRecursion IsSimple t → AllByRecursion IsSimple (s ++ t)
 and s t a b = AllByRecursion-append IsSimple s t a b
@@ -72,4 +76,6 @@ dot = ((λ e. omega (arith, e), λ e. omega (arith, e), omega arith, omega arith
 pub simple_address : (n : ℕ) → n < 2 ^ 32 → AllByRecursion IsSimple (address_text n)
 simple_address n wide =
     let fits : n < 4294967296 = wide in
-    and _ _ (and _ _ (and _ _ (and _ _ (and _ _ (and _ _ (simple_figures (n / 16777216) (omega arith)) dot) (simple_figures (n / 65536 % 256) (omega arith))) dot) (simple_figures (n / 256 % 256) (omega arith))) dot) (simple_figures (n % 256) (omega arith))
+    and _ _ (and _ _ (and _ _
+    (and _ _ (and _ _ (and _ _ (simple_figures (n / 16777216) (omega arith)) dot) (simple_figures (n / 65536 % 256) (omega arith))) dot)
+    (simple_figures (n / 256 % 256) (omega arith))) dot) (simple_figures (n % 256) (omega arith))

@@ -40,7 +40,8 @@ pub record IsWritten (s : Site) : Type 0 where
 -- ---- the shape
 
 -- what is read of items that are written
-each_map : {A B C : Type 0} (P : A → Type 0) (f : B → Result C TopoFault) (g : A → B) (h : A → C) → ((x : A) → P x → f (g x) ≡ Ok (h x)) → (k : ℕ) (xs : List A) → AllByRecursion P xs → each_from (λ _. f) k (map g xs) ≡ Ok (map h xs)
+each_map : {A B C : Type 0} (P : A → Type 0) (f : B → Result C TopoFault) (g : A → B) (h : A → C) → ((x : A) → P x → f (g x) ≡ Ok (h x))
+    → (k : ℕ) (xs : List A) → AllByRecursion P xs → each_from (λ _. f) k (map g xs) ≡ Ok (map h xs)
 each_map P f g h one k [] all = refl
 each_map P f g h one k (x ∷ xs) all = rw (one x all.0, each_map P f g h one (k + 1) xs all.1) refl
 

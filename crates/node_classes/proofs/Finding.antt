@@ -107,7 +107,9 @@ module _ (ways : List Way) (order : Ascend ways) (a b : ℕ) (alike : (path : Li
   pub met_places : (x y : ℕ) → AreMet ways a b x y → map (λ (w : Way). w.at) (filter (comes_from x) ways) ≡ map (λ (w : Way). w.at) (filter (comes_from y) ways)
   met_places x y met = elim (cases_Option (place_apart_of (filter (comes_from x) ways) (filter (comes_from y) ways))) [
     | inl none ↦ same_places (filter (comes_from x) ways) (filter (comes_from y) ways) none
-    | inr some ↦ absurd (clash (is_some (next ways y some.0)) (sym (same_steps x y some.0 met) ∙ one_steps ways (filter (comes_from x) ways) (filter (comes_from y) ways) x y some.0 order refl refl some.1))
+    | inr some ↦
+        absurd (clash (is_some (next ways y some.0)) (sym (same_steps x y some.0 met)
+        ∙ one_steps ways (filter (comes_from x) ways) (filter (comes_from y) ways) x y some.0 order refl refl some.1))
   ]
     where
       clash : (c : Bool) → c ≡ not c → ⊥
@@ -118,20 +120,26 @@ module _ (ways : List Way) (order : Ascend ways) (a b : ℕ) (alike : (path : Li
   met_lengths x y met =
       sym (length-map (filter (comes_from x) ways) (λ (w : Way). w.at)) ∙ ap length (met_places x y met) ∙ length-map (filter (comes_from y) ways) (λ (w : Way). w.at)
 
-  pub found_next : (pairs new : List (ℕ × ℕ)) (n x y : ℕ) → IsFound ways a b pairs n → slice_get pairs n ≡ Some (x, y) → new ≡ with_pairs pairs (targets (filter (comes_from x) ways) (filter (comes_from y) ways))
+  pub found_next : (pairs new : List (ℕ × ℕ)) (n x y : ℕ) → IsFound ways a b pairs n → slice_get pairs n ≡ Some (x, y)
+      → new ≡ with_pairs pairs (targets (filter (comes_from x) ways) (filter (comes_from y) ways))
       → IsFound ways a b new (n + 1)
   found_next pairs new n x y found at are = record {
     begun = subst (λ (ps : List (ℕ × ℕ)). IsIn ps (a, b)) (sym are) (kept a b found.begun);
     sound = λ u v h. elim (with_pairs-cases pairs (targets (filter (comes_from x) ways) (filter (comes_from y) ways)) u v (subst (λ (ps : List (ℕ × ℕ)). IsIn ps (u, v)) are h)) [
       | inl old ↦ found.sound u v old
-      | inr fresh ↦ let met = found.sound x y (n, at) in met_targets ways (filter (comes_from x) ways) (filter (comes_from y) ways) x y order refl refl a b met.0 met.1 met.2 (met_places x y met) u v fresh
+      | inr fresh ↦ let met = found.sound x y (n, at) in
+          met_targets ways (filter (comes_from x) ways) (filter (comes_from y) ways) x y order refl refl a b met.0 met.1 met.2 (met_places x y met) u
+          v fresh
     ];
     closed = λ k i j u v lt place h. elim (cases_lt k n) [
       | inl below ↦ subst (λ (ps : List (ℕ × ℕ)). IsIn ps (u, v)) (sym are) (kept u v (found.closed k i j u v below (earlier k i j below place) h))
       | inr past ↦
           let here : k ≡ n = omega (arith, lt, past) in
-          let same : (i, j) ≡ (x, y) = same_Some {A = ℕ × ℕ} (i, j) (x, y) (sym place ∙ ap (slice_get new) here ∙ ap (λ ps. slice_get ps n) are ∙ with_pairs-place pairs (targets (filter (comes_from x) ways) (filter (comes_from y) ways)) (x, y) n at) in
-          subst (λ (ps : List (ℕ × ℕ)). IsIn ps (u, v)) (sym are) (with_pairs-has pairs (targets (filter (comes_from x) ways) (filter (comes_from y) ways)) u v (subst (λ (q : ℕ × ℕ). InPairs u v (targets (filter (comes_from q.0) ways) (filter (comes_from q.1) ways))) same h))
+          let same : (i, j) ≡ (x, y) = same_Some {A = ℕ × ℕ} (i, j) (x, y) (sym place ∙ ap (slice_get new) here ∙ ap (λ ps. slice_get ps n) are
+          ∙ with_pairs-place pairs (targets (filter (comes_from x) ways) (filter (comes_from y) ways)) (x, y) n at) in
+          subst (λ (ps : List (ℕ × ℕ)). IsIn ps (u, v)) (sym are) (with_pairs-has pairs
+          (targets (filter (comes_from x) ways) (filter (comes_from y) ways)) u v
+          (subst (λ (q : ℕ × ℕ). InPairs u v (targets (filter (comes_from q.0) ways) (filter (comes_from q.1) ways))) same h))
     ];
   }
     where

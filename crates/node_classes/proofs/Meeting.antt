@@ -149,7 +149,8 @@ within_targets count [] ws a b = tt
 within_targets count (v ∷ vs) [] a b = tt
 within_targets count (v ∷ vs) (w ∷ ws) a b = ((a.0, b.0), within_targets count vs ws a.1 b.1)
 
-pub targets_within : (count x y : ℕ) (ways vs ws : List Way) → AllByRecursion (λ (w : Way). w.to < count) ways → vs ≡ filter (comes_from x) ways → ws ≡ filter (comes_from y) ways → AreWithin count (targets vs ws)
+pub targets_within : (count x y : ℕ) (ways vs ws : List Way) → AllByRecursion (λ (w : Way). w.to < count) ways → vs ≡ filter (comes_from x) ways
+    → ws ≡ filter (comes_from y) ways → AreWithin count (targets vs ws)
 targets_within count x y ways vs ws all of_x of_y =
     within_targets count vs ws (subst (AllByRecursion (λ (w : Way). w.to < count)) (sym of_x) (within_filtered count x ways all))
     (subst (AllByRecursion (λ (w : Way). w.to < count)) (sym of_y) (within_filtered count y ways all))

@@ -59,7 +59,8 @@ begun ways a b up roots = record {
 
 -- ---- a pair whose nodes are of one tree goes
 
-module _ (ways : List Way) (a b : ℕ) (old new : List ℕ) (rest : List (ℕ × ℕ)) (x y : ℕ) (stage : Stage ways a b old (rest ++ (x, y) ∷ [])) (forest : IsForest new) (same : (z : ℕ) → leader new z ≡ leader old z)
+module _ (ways : List Way) (a b : ℕ) (old new : List ℕ) (rest : List (ℕ × ℕ)) (x y : ℕ) (stage : Stage ways a b old (rest ++ (x, y) ∷ []))
+    (forest : IsForest new) (same : (z : ℕ) → leader new z ≡ leader old z)
     (one : leader old x ≡ leader old y) where
   skip_respects : (f : ℕ → ℕ) → Respects new rest f → Respects old (rest ++ (x, y) ∷ []) f
   skip_respects f r = record {
@@ -216,6 +217,7 @@ pub followed_alike : (ways : List Way) (a b : ℕ) (classes : List ℕ) → AreC
 followed_alike ways a b classes are path = tied_some (λ u v. class_in classes u ≡ class_in classes v) (follow ways a path) (follow ways b path) (classes_follow ways a b classes are path)
 
 -- two nodes that were met and don't step alike tell the first two apart
-pub told_apart : (ways : List Way) (a b x y l : ℕ) (path : List ℕ) → follow ways a path ≡ Some x → follow ways b path ≡ Some y → is_some (next ways x l) ≡ not (is_some (next ways y l)) → AreApart ways a b
+pub told_apart : (ways : List Way) (a b x y l : ℕ) (path : List ℕ) → follow ways a path ≡ Some x → follow ways b path ≡ Some y
+    → is_some (next ways x l) ≡ not (is_some (next ways y l)) → AreApart ways a b
 told_apart ways a b x y l path at_x at_y differ =
     (l ∷ path, ap (λ o. is_some (option_and_then (λ m. next ways m l) o)) at_x ∙ differ ∙ ap (λ o. not (is_some (option_and_then (λ m. next ways m l) o))) (sym at_y))

@@ -72,7 +72,8 @@ module _ (n : ℕ) (ws : List Way) (i j : ℕ) (start : BeginsAt ws n i) (end : 
   begins_run = ways_run n ws i j start.within start_point end_point
 
 -- where a way comes from no lesser node, the ways of the lesser ones end
-pub begins_next : (ws : List Way) (n i : ℕ) → Ascend ws → i ≤ length ws → ((j : ℕ) (d : Way) → j < i → (get_or ws j d).from < n) → ((d : Way) → i < length ws → n ≤ (get_or ws i d).from) → BeginsAt ws n i
+pub begins_next : (ws : List Way) (n i : ℕ) → Ascend ws → i ≤ length ws → ((j : ℕ) (d : Way) → j < i → (get_or ws j d).from < n)
+    → ((d : Way) → i < length ws → n ≤ (get_or ws i d).from) → BeginsAt ws n i
 begins_next ws n i up within before next = record {
   within = within;
   before = before;

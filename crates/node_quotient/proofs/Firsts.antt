@@ -18,7 +18,8 @@ use Rattle.node_quotient.proofs.Stages.{class_in-at, class_in-left, found_first,
 use Rattle.node_quotient.proofs.Turns.{among_get}
 
 -- each of so many is below the bound
-pub bound_more : (numbers : List ℕ) (i before after : ℕ) → ((k : ℕ) → k < i → slice_index_or numbers k 0 < before) → before ≤ after → slice_index_or numbers i 0 < after → (k : ℕ) → k < i + 1 → slice_index_or numbers k 0 < after
+pub bound_more : (numbers : List ℕ) (i before after : ℕ) → ((k : ℕ) → k < i → slice_index_or numbers k 0 < before) → before ≤ after
+    → slice_index_or numbers i 0 < after → (k : ℕ) → k < i + 1 → slice_index_or numbers k 0 < after
 bound_more numbers i before after h le there k lt = elim (cases_eq k i) [
   | inl e ↦ subst (λ j. slice_index_or numbers j 0 < after) (sym e) there
   | inr a ↦ let old = h k (omega (arith, lt, a)) in omega (arith, old, le)
@@ -36,7 +37,8 @@ place_in g n = go g.nodes n
     go (x ∷ xs) zero = refl
     go (x ∷ xs) (suc n) = go xs n
 
-pub place_below : (g : PlainGraph) (places list : List ℕ) (bound : ℕ) → places ≡ map (λ (node : Node). node.loc) g.nodes → list ≡ places → All (λ k. k < bound) list → (n : ℕ) → n < length g.nodes → place_of g n < bound
+pub place_below : (g : PlainGraph) (places list : List ℕ) (bound : ℕ) → places ≡ map (λ (node : Node). node.loc) g.nodes → list ≡ places
+    → All (λ k. k < bound) list → (n : ℕ) → n < length g.nodes → place_of g n < bound
 place_below g places list bound is e below n lt =
     let here : list ≡ map (λ (node : Node). node.loc) g.nodes = e ∙ is in
     let long : length list ≡ length g.nodes = ap length here ∙ length-map g.nodes (λ (node : Node). node.loc) in
@@ -44,7 +46,8 @@ place_below g places list bound is e below n lt =
     let less = below n 0 (omega (arith, lt, long)) in
     omega (arith, at, less)
 
-pub located_nodes : (g : PlainGraph) (places list : List ℕ) (lists : List (List ℕ)) → places ≡ map (λ (node : Node). node.loc) g.nodes → list ≡ places → AreGroups (length list) list lists → (l : ℕ) → AreNodesAt g l (list_of lists l)
+pub located_nodes : (g : PlainGraph) (places list : List ℕ) (lists : List (List ℕ)) → places ≡ map (λ (node : Node). node.loc) g.nodes → list ≡ places
+    → AreGroups (length list) list lists → (l : ℕ) → AreNodesAt g l (list_of lists l)
 located_nodes g places list lists is e are l =
     let here : list ≡ map (λ (node : Node). node.loc) g.nodes = e ∙ is in
     let long : length list ≡ length g.nodes = ap length here ∙ length-map g.nodes (λ (node : Node). node.loc) in
@@ -83,7 +86,8 @@ same_trans g a b c h k = record { place = h.place ∙ k.place; rank = h.rank ∙
 pub same_sym : (g : PlainGraph) (a b : ℕ) → AreSame g a b → AreSame g b a
 same_sym g a b h = record { place = sym h.place; rank = sym h.rank }
 
-pub one_more : (g : PlainGraph) (node f : ℕ) (least : List ℕ) → AreFirstSame g node least → f ≤ node → AreSame g f node → ((m : ℕ) → AreSame g m node → f ≤ m) → AreFirstSame g (node + 1) (least ++ f ∷ [])
+pub one_more : (g : PlainGraph) (node f : ℕ) (least : List ℕ) → AreFirstSame g node least → f ≤ node → AreSame g f node
+    → ((m : ℕ) → AreSame g m node → f ≤ m) → AreFirstSame g (node + 1) (least ++ f ∷ [])
 one_more g node f least s le same first =
     let here : class_in (least ++ f ∷ []) node ≡ f = subst (λ n. class_in (least ++ f ∷ []) n ≡ f) s.size (class_in-at least f) in
     let old : (n : ℕ) → n < node → class_in (least ++ f ∷ []) n ≡ class_in least n = λ n l. let e = s.size in class_in-left least f n (omega (arith, e, l)) in

@@ -13,7 +13,8 @@ use Rattle.node_quotient.proofs.Turns.{among_get}
 pub group_below : (count : ℕ) (keys : List ℕ) (groups : List (List ℕ)) (k : ℕ) (list : List ℕ) → AreGroups count keys groups → list ≡ list_of groups k → All (λ n. n < count) list
 group_below count keys groups k list are e i d lt = (are.only k (slice_index_or list i d) (ap (λ xs. is_among xs (slice_index_or list i d)) (sym e) ∙ among_get list i d lt)).0
 
-module _ (keys : List ℕ) (node : ℕ) (groups : List (List ℕ)) (row : List ℕ) (are : AreGroups node keys groups) (lt : class_in keys node < length groups) (is : row ≡ list_of groups (class_in keys node) ++ node ∷ []) where
+module _ (keys : List ℕ) (node : ℕ) (groups : List (List ℕ)) (row : List ℕ) (are : AreGroups node keys groups)
+    (lt : class_in keys node < length groups) (is : row ≡ list_of groups (class_in keys node) ++ node ∷ []) where
   abbrev after : List (List ℕ)
   after = set groups (class_in keys node) row
 
@@ -49,7 +50,9 @@ module _ (keys : List ℕ) (node : ℕ) (groups : List (List ℕ)) (row : List �
       | inr new ↦ let e = new.0 in (omega (arith, e), ap (class_in keys) e ∙ sym new.1)
     ];
     ascend = λ k. elim (cases_eq k (class_in keys node)) [
-      | inl e ↦ subst (λ j. Ascends (list_of after j)) (sym e) (subst Ascends (sym same) (ascends_more (list_of groups (class_in keys node)) node (are.ascend (class_in keys node)) (λ m there. (are.only (class_in keys node) m there).0)))
+      | inl e ↦
+          subst (λ j. Ascends (list_of after j)) (sym e) (subst Ascends (sym same) (ascends_more (list_of groups (class_in keys node)) node
+          (are.ascend (class_in keys node)) (λ m there. (are.only (class_in keys node) m there).0)))
       | inr a ↦ subst Ascends (sym (others k a)) (are.ascend k)
     ];
   }

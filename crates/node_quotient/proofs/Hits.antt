@@ -46,7 +46,8 @@ module _ (g : PlainGraph) (ok : IsGraph g) (single : HasSingleSteps g) (before :
   joined_hits : (c m n : ℕ) → AreJoined g m n → is_hit before (list_of members c) m ≡ is_hit before (list_of members c) n
   joined_hits c m n h = same_tests _ _ (joined_hit c n m (joined_sym g m n h)) (joined_hit c m n h)
 
-  pub split_are_classes : (c : ℕ) (new : List ℕ) → length classes ≡ length g.nodes → length new ≡ length g.nodes → AreNamed new → AreSplit (is_hit before (list_of members c)) classes new → AreClasses g (class_in new)
+  pub split_are_classes : (c : ℕ) (new : List ℕ) → length classes ≡ length g.nodes → length new ≡ length g.nodes → AreNamed new
+      → AreSplit (is_hit before (list_of members c)) classes new → AreClasses g (class_in new)
   split_are_classes c new old_len new_len named split = record {
     le = λ n lt. named.le n (omega (arith, lt, new_len));
     idle = λ n lt. named.idle n (omega (arith, lt, new_len));

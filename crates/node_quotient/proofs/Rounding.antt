@@ -14,7 +14,8 @@ use Rattle.node_quotient.proofs.Bridge.{graph_round, rises, same_or_more, times,
 use Rattle.node_quotient.proofs.Refined.{next_classes, settled_is_least}
 
 module _ (g : PlainGraph) (ok : IsGraph g) (single : HasSingleSteps g) (lists : List (List ℕ)) (steps : (a b : ℕ) → is_listed lists a b ≡ has_step g a b)
-    (least next : List ℕ) (size : length least ≡ length g.nodes) (classes : AreClasses g (class_in least)) (are : AreFirst lists least next) (settled : Bool) (is : settled ≡ pointwise eqb next least) where
+    (least next : List ℕ) (size : length least ≡ length g.nodes) (classes : AreClasses g (class_in least)) (are : AreFirst lists least next)
+    (settled : Bool) (is : settled ≡ pointwise eqb next least) where
   pub kept_classes : AreClasses g (class_in next)
   kept_classes = next_classes g ok single (class_in least) (class_in next) classes (graph_round g lists steps least next size are)
 

@@ -33,5 +33,12 @@ module _ (g : PlainGraph) (ok : IsGraph g) (least : List ℕ) (is : AreLeast g (
       led_steps [] all = tt
       led_steps (s ∷ ss) all = ((all.0.0, is.within s.1 all.0.1), led_steps ss all.1)
 
-  pub kept_is_quotient : (marks : List Bool) (q : PlainGraph) → ((n : ℕ) → n < length g.nodes → is_marked marks n ≡ (class_in least n == n)) → q ≡ graph_kept (is_marked marks) (led_to (class_in least) g) → IsQuotient g q
-  kept_is_quotient marks q marked e = (class_in least, is, e ∙ graph_kept_same (is_marked marks) (is_least (class_in least)) (led_to (class_in least) g) (inside_of (led_to (class_in least) g) led_is_graph) marked)
+  pub kept_is_quotient : (marks : List Bool) (q : PlainGraph) → ((n : ℕ) → n < length g.nodes → is_marked marks n ≡ (class_in least n == n))
+      → q ≡ graph_kept (is_marked marks) (led_to (class_in least) g) → IsQuotient g q
+  kept_is_quotient marks q marked e = (
+    class_in least,
+    is,
+    e
+        ∙ graph_kept_same (is_marked marks) (is_least (class_in least)) (led_to (class_in least) g)
+        (inside_of (led_to (class_in least) g) led_is_graph) marked,
+  )

@@ -183,7 +183,8 @@ module _ (size : ℕ) (classes : List ℕ) (members : List (List ℕ)) (marks : 
 
 -- the same, as the code comes to it: of the members of a class the part without its least node, and the rest
 pub split_off : (p : Partition) (count : ℕ) (marks : List Bool) (c : ℕ) (is : IsPartition count p) (inside : c < count) (all part rest front list new : List ℕ) → all ≡ list_of p.members.items c →
-    part ≡ filter (has_mark marks (not (is_marked marks c))) all → rest ≡ filter (has_mark marks (is_marked marks c)) all → front ≡ part → list ≡ part → 0 < length part → length new ≡ length p.classes.items →
+    part ≡ filter (has_mark marks (not (is_marked marks c))) all → rest ≡ filter (has_mark marks (is_marked marks c)) all → front ≡ part → list ≡ part
+    → 0 < length part → length new ≡ length p.classes.items →
     ((n : ℕ) → class_in new n ≡ (if is_among list n then slice_index_or front 0 0 else class_in p.classes.items n)) →
     AreNamed new × AreSplit (is_marked marks) p.classes.items new × AreGroups count new (set (set p.members.items c rest) (slice_index_or front 0 0) part)
 split_off p count marks c is inside all part rest front list new all_is part_is rest_is front_is list_is filled new_len puts =
@@ -197,8 +198,12 @@ split_off p count marks c is inside all part rest front list new all_is part_is 
     let name_is : name ≡ slice_index_or P 0 0 = ap (λ xs. slice_index_or xs 0 0) (front_is ∙ part_here) in
     let long : length part ≡ length P = ap length part_here in
     let at : is_among P name ≡ true = ap (is_among P) name_is ∙ among_get P 0 0 (omega (arith, long, filled)) in
-    let least : (n : ℕ) → is_among P n ≡ true → name ≤ n = λ n h. let le = least_first P 0 n (part_ascends count classes members marks c is.size is.rows is.named is.groups inside) h in omega (arith, le, name_is) in
-    let puts_here : (n : ℕ) → class_in new n ≡ (if is_among P n then name else class_in classes n) = λ n. puts n ∙ ap (λ xs. if is_among xs n then name else class_in classes n) (list_is ∙ part_here) in (
+    let least : (n : ℕ) → is_among P n ≡ true
+    → name ≤ n = λ n h. let le = least_first P 0 n (part_ascends count classes members marks c is.size is.rows is.named is.groups inside) h in
+    omega (arith, le, name_is) in
+    let puts_here : (n : ℕ)
+    → class_in new n ≡ (if is_among P n then name else class_in classes n) =
+    λ n. puts n ∙ ap (λ xs. if is_among xs n then name else class_in classes n) (list_is ∙ part_here) in (
       new_named count classes members marks c is.size is.rows is.named is.groups inside name at least new new_len puts_here,
       new_split count classes members marks c is.size is.rows is.named is.groups inside name at least new new_len puts_here,
       subst (λ xs. AreGroups count new (set (set members c rest) name xs)) (sym part_here) (subst (λ xs. AreGroups count new (set (set members c xs) name P)) (sym rest_here)
@@ -209,7 +214,8 @@ pub part_inside : (p : Partition) (count : ℕ) (marks : List Bool) (c : ℕ) (i
     part ≡ filter (has_mark marks s) all → list ≡ part → All (λ n. n < count) list
 part_inside p count marks c is inside s all part list all_is part_is list_is k d lt =
     let here : list ≡ filter (has_mark marks s) (list_of p.members.items c) = list_is ∙ part_is ∙ ap (filter (has_mark marks s)) all_is in
-    (chosen_parts count p.classes.items p.members.items marks c is.size is.rows is.named is.groups inside s (slice_index_or list k d) (ap (λ xs. is_among xs (slice_index_or list k d)) (sym here) ∙ among_get list k d lt)).0
+    (chosen_parts count p.classes.items p.members.items marks c is.size is.rows is.named is.groups inside s (slice_index_or list k d)
+    (ap (λ xs. is_among xs (slice_index_or list k d)) (sym here) ∙ among_get list k d lt)).0
 
 -- what is read is the list of the class
 pub members_read : (p : Partition) (count c : ℕ) (all got : List ℕ) → IsPartition count p → c < count → all ≡ got → got ≡ slice_index_or p.members.items c got → all ≡ list_of p.members.items c

@@ -62,7 +62,8 @@ pub record Stage (lists : List (List ℕ)) (least : List ℕ) (node : ℕ) (foun
   pub ascends : (c : ℕ) → Ascends (list_of founders c)
 
 -- after all nodes
-pub ended : (lists : List (List ℕ)) (least : List ℕ) (node : ℕ) (founders : List (List ℕ)) (next : List ℕ) → length least ≤ node → node ≤ length least → Stage lists least node founders next → AreFirst lists least next
+pub ended : (lists : List (List ℕ)) (least : List ℕ) (node : ℕ) (founders : List (List ℕ)) (next : List ℕ) → length least ≤ node → node ≤ length least
+    → Stage lists least node founders next → AreFirst lists least next
 ended lists least node founders next le ge s = record {
   size = let e = s.size in omega (arith, le, ge, e);
   within = λ n lt. let less = s.le n (omega (arith, le, lt)) in omega (arith, less, lt);
@@ -164,7 +165,9 @@ module _ (lists : List (List ℕ)) (least : List ℕ) (node : ℕ) (founders : L
 
     old_listed : (c m : ℕ) → is_among (list_of founders c) m ≡ true → is_among (list_of after c) m ≡ true
     old_listed c m there = elim (cases_eq c (class_in least node)) [
-      | inl e ↦ ap (λ k. is_among (list_of after k) m) e ∙ ap (λ xs. is_among xs m) same ∙ among_old (list_of founders (class_in least node)) node m (ap (λ k. is_among (list_of founders k) m) (sym e) ∙ there)
+      | inl e ↦
+          ap (λ k. is_among (list_of after k) m) e ∙ ap (λ xs. is_among xs m) same
+          ∙ among_old (list_of founders (class_in least node)) node m (ap (λ k. is_among (list_of founders k) m) (sym e) ∙ there)
       | inr a ↦ ap (λ xs. is_among xs m) (others c a) ∙ there
     ]
 

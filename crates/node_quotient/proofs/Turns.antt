@@ -23,13 +23,15 @@ module _ (lists : List (List ℕ)) (least : List ℕ) (node : ℕ) (founders : L
       let there = (s.listed class (slice_index_or list k d) (ap (λ xs. is_among xs (slice_index_or list k d)) (sym e) ∙ among_get list k d l)).0 in
       omega (arith, there, lt)
 
-  pub turn_found : (f : ℕ) (list : List ℕ) (o : Option ℕ) → list ≡ list_of founders (class_in least node) → o ≡ find (λ m. are_alike lists least m node) list → o ≡ Some f → Stage lists least (node + 1) founders (next ++ f ∷ [])
+  pub turn_found : (f : ℕ) (list : List ℕ) (o : Option ℕ) → list ≡ list_of founders (class_in least node)
+      → o ≡ find (λ m. are_alike lists least m node) list → o ≡ Some f → Stage lists least (node + 1) founders (next ++ f ∷ [])
   turn_found f list o e found is =
       let h = ap (find (λ m. are_alike lists least m node)) (sym e) ∙ sym found ∙ is in
       let one : suc node ≡ node + 1 = omega arith in
       subst (λ n. Stage lists least n founders (next ++ f ∷ [])) one (more_found lists least node founders next s lt f h)
 
-  pub turn_founder : class_in least node < length least → (list new : List ℕ) (o : Option ℕ) → list ≡ list_of founders (class_in least node) → o ≡ find (λ m. are_alike lists least m node) list → o ≡ None →
+  pub turn_founder : class_in least node < length least → (list new : List ℕ) (o : Option ℕ) → list ≡ list_of founders (class_in least node)
+      → o ≡ find (λ m. are_alike lists least m node) list → o ≡ None →
       new ≡ list_of founders (class_in least node) ++ node ∷ [] → Stage lists least (node + 1) (set founders (class_in least node) new) (next ++ node ∷ [])
   turn_founder inside list new o e found is added =
       let h = ap (find (λ m. are_alike lists least m node)) (sym e) ∙ sym found ∙ is in

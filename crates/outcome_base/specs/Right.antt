@@ -1,14 +1,14 @@
 -- When a configuration is right for a policy: under all failures, in every stable outcome.
 use Rattle.std.specs.Prelude.{◌≡◌, ℕ, ◌≤◌, not, ◌&&◌, IsTrue, List, [], ◌∷◌, ◌++◌, length, Option, Some, None}
-use Rattle.net_base.specs.Network.{PlainNet, is_router}
+use Rattle.net_base.specs.Network.{PlainNet, is_peer, is_router}
 use Rattle.net_base.specs.Prefixes.{PlainPrefix, IsPrefix}
-use Rattle.path_words.specs.Policies.{PlainPolicy, PlainStatement}
-use Rattle.path_words.specs.Meaning.{rank_of}
-use Rattle.path_words.specs.Governing.{is_origin, statement_of}
-use Rattle.path_words.specs.Permitted.{is_permitted, is_allowed, IsClaimedRouter, IsClaimedSession}
+use Rattle.policy_base.specs.Policies.{PlainPolicy, PlainStatement}
+use Rattle.policy_base.specs.Meaning.{rank_of}
+use Rattle.policy_base.specs.Governing.{is_origin, statement_of}
+use Rattle.policy_base.specs.Permitted.{is_permitted, is_allowed, IsClaimedRouter, IsClaimedSession}
 use Rattle.config_base.specs.declared.route.Route.{Route}
 use Rattle.config_base.specs.Configs.{PlainConfig}
-use Rattle.outcome_base.specs.Outcomes.{Failures, Outcome, is_dead, survives, route_at, IsStable, offered}
+use Rattle.outcome_base.specs.Outcomes.{Failures, Outcome, is_dead, is_live, is_silent, survives, route_at, IsStable, offered}
 
 -- The path is allowed and survives.
 abbrev pub IsGood : PlainNet → PlainPolicy → Failures → PlainPrefix → PlainStatement → List ℕ → Type 0
@@ -24,6 +24,16 @@ IsBest net policy f p s begin path =
 abbrev pub NoneSurvives : PlainNet → PlainPolicy → Failures → PlainPrefix → PlainStatement → List ℕ → Type 0
 NoneSurvives net policy f p s begin = (rest : List ℕ) → IsGood net policy f p s (begin ++ rest) → ⊥
 
+-- Packets that the router r sends for the prefix are passed on along the path: to its next place, over a live link. That is a router
+-- which holds exactly the rest of the path, or a peer that originates the prefix, over a session that isn't silent, and nothing is left.
+pub record IsPassedOn (net : PlainNet) (policy : PlainPolicy) (f : Failures) (p : PlainPrefix) (outcome : Outcome) (r : ℕ) (path : List ℕ) : Type 0 where
+  pub next : ℕ
+  pub rest : List ℕ
+  pub begins : path ≡ r ∷ next ∷ rest
+  pub live : IsTrue (is_live net f r next)
+  pub router : IsTrue (is_router net next) → (h : Route) × (route_at outcome next ≡ Some h) × (h.path ≡ next ∷ rest)
+  pub peer : IsTrue (is_peer net next) → IsTrue (is_origin net policy p next && not (is_silent f r next)) × (rest ≡ [])
+
 -- an outcome that is right where a statement governs the prefix
 pub record IsRightBy (net : PlainNet) (policy : PlainPolicy) (config : PlainConfig) (f : Failures) (p : PlainPrefix) (s : PlainStatement) (outcome : Outcome) : Type 0 where
   pub used : (r : ℕ) (h : Route) → IsClaimedRouter net policy p s r → route_at outcome r ≡ Some h → IsGood net policy f p s h.path × IsBest net policy f p s (r ∷ []) h.path
@@ -33,6 +43,7 @@ pub record IsRightBy (net : PlainNet) (policy : PlainPolicy) (config : PlainConf
   pub unoffered : (r peer : ℕ) → IsClaimedSession net policy p s r peer → offered net policy config f p outcome r peer ≡ None → NoneSurvives net policy f p s (peer ∷ r ∷ [])
   pub transit : (r : ℕ) (h : Route) → IsTrue (is_router net r && not (is_origin net policy p r)) → route_at outcome r ≡ Some h
       → (above : List ℕ) × IsTrue (is_permitted net policy p s (above ++ h.path))
+  pub packets : (r : ℕ) (h : Route) → IsTrue (is_router net r && not (is_origin net policy p r)) → route_at outcome r ≡ Some h → IsPassedOn net policy f p outcome r h.path
 
 -- where no statement governs the prefix only live origins have routes
 pub record IsBare (net : PlainNet) (policy : PlainPolicy) (config : PlainConfig) (f : Failures) (p : PlainPrefix) (outcome : Outcome) : Type 0 where

@@ -1,6 +1,6 @@
 //! Rows over the network of two routers with a peer each.
 use crate::rows::Row;
-use samples::{ENTERED_CONFIG, TWO_EXITS, TWO_EXITS_CONFIG};
+use test_networks::{ENTERED_CONFIG, TWO_EXITS, TWO_EXITS_CONFIG};
 
 // Two exits, where each router also exports to its peer what came from P1.
 const EXPORTED_CONFIG: &str = "propane-config 2

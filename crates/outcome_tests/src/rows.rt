@@ -2,7 +2,7 @@
 //! gives it, so that proofs of what uses it don't read it.
 use crate::exit_rows::{entered_row, exits_row, exported_row, silent_exit_row};
 use crate::values::Held;
-use samples::{
+use test_networks::{
     LINE, LINE_CONFIG, RING, RING_CONFIG, TRIANGLE, TRIANGLE_CONFIG, TWO_ROUTERS,
     TWO_ROUTERS_CONFIG, TWO_SPINES, TWO_SPINES_CONFIG, TWO_WAYS, TWO_WAYS_CONFIG,
 };

@@ -4,11 +4,11 @@ use crate::values::scenario;
 use config_base::Config;
 use config_reader::read_config;
 use net_base::{Net, Prefix, read_prefix};
-use path_words::Policy;
-use samples::read;
+use policy_base::Policy;
 use stable_paths::Scenario;
 use std::alloc::Global;
 use std::process::Abort;
+use test_networks::read;
 
 /// A row with its network, policy, configuration and scenario.
 #[derive(Drop)]

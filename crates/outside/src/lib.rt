@@ -5,6 +5,7 @@ mod count_sink;
 mod counter;
 mod failing;
 mod inputs;
+pub mod limits;
 mod mem_inputs;
 mod mem_sink;
 mod no_memory;

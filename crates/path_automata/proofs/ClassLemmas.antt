@@ -2,14 +2,13 @@
 use Rattle.std.proofs.Common.{◌≡◌, ℕ, zero, suc, ◌+◌, ◌*◌, ◌/◌, ◌<◌, Bool, true, false, cond, ◌||◌, eqb, List, [], ◌∷◌, ◌++◌, length, map, get_or, take, Some, refl, sym, ap, ◌∙◌, ◌⊎◌, inl, inr, arith, ⊎_elim}
 use Rattle.std.specs.Prelude.{nat_lt, slice_get}
 use Rattle.std.specs.List.{list_all, list_any}
-use Rattle.std.proofs.lemmas.Bool.{and_parts, and_from, cases_order}
+use Rattle.std.proofs.lemmas.Bool.{and_parts, and_from, cases_order, ltb-true}
 use Rattle.std.proofs.lemmas.List.Folds.{list_all-append}
 use Rattle.std.proofs.lemmas.Option.{slice_get_within, slice_get_read, get_or_from_slice_get, same_Some}
 use Rattle.std.proofs.lemmas.List.{map-append, take_all, get_or-set_same, get_or-set_other}
 use Rattle.list_laws.proofs.Items.{slice_get_in_front}
 use lib.Pointwise.{pointwise}
 use Rattle.std.proofs.Math.Bool.{beq}
-use Rattle.std.proofs.lemmas.Bool.{ltb-true}
 use Rattle.std.proofs.lemmas.Nat.{div-mul-add}
 use Rattle.std.proofs.Math.ListN.{set, length-set}
 use Rattle.std.proofs.lemmas.Slice.Eq.{bytes_eq-Decides}
@@ -38,7 +37,8 @@ each-passes p vs n (m ∷ ms) below h =
     let u = and_parts (nat_lt m n) (list_all (λ m. nat_lt m n) ms) below in
     and_from _ _ (at-passes p vs n m (ltb-true m n u.0) h) (each-passes p vs n ms u.1 h)
 
-pub known-pass : (p : LocSet → Bool) (vs : List Expression) (ms : List ℕ) → list_all (λ m. nat_lt m (length vs)) ms ≡ true → list_all (sets_pass p) vs ≡ true → list_all (sets_pass p) (map (at vs) ms) ≡ true
+pub known-pass : (p : LocSet → Bool) (vs : List Expression) (ms : List ℕ) → list_all (λ m. nat_lt m (length vs)) ms ≡ true
+    → list_all (sets_pass p) vs ≡ true → list_all (sets_pass p) (map (at vs) ms) ≡ true
 known-pass p vs ms known h = each-passes p vs (length vs) ms known (ap (list_all (sets_pass p)) (take_all (length vs) vs (omega arith)) ∙ h)
 
 pub node-passes : (p : LocSet → Bool) (vs : List Expression) (n : ℕ) (t : Term) → is_sound n t ≡ true → ((s : LocSet) → t ≡ Set s → p s ≡ true)

@@ -1,6 +1,6 @@
 -- Entries of the memo stay right as terms come, and serve each location of a class.
 use Rattle.std.proofs.Common.{◌≡◌, ℕ, ◌<◌, Bool, true, false, cond, List, [], ◌∷◌, length, Some, None, Option, refl, sym, ap, subst, ◌∙◌}
-use Rattle.std.specs.Prelude.{IfSome, slice_get, ◌==◌}
+use Rattle.std.specs.Prelude.{IfSome, slice_get, ◌==◌, nat_lt}
 use Rattle.std.proofs.lemmas.Bool.{and_parts, eqb-true, ltb-true}
 use Rattle.std.specs.Ordering.{is_eq}
 use Rattle.list_laws.proofs.Orders.{is_eq-Equal}
@@ -8,18 +8,16 @@ use Rattle.path_exprs.specs.Order.{compare}
 use Rattle.path_exprs.specs.Ordered.{compare-equal}
 use Rattle.path_exprs.specs.Total.{compare_itself}
 use Rattle.indexmap.specs.IndexMap.{IndexMap, get}
-use Rattle.std.specs.Prelude.{nat_lt}
 use Rattle.path_exprs.specs.Membership.{member}
 use Rattle.path_exprs.specs.Normal.{seq_of, either_of}
 use Rattle.path_exprs.specs.Expression.{Expression, complement, star, seq}
 use Rattle.path_automata.specs.Sets.{agrees, sets_pass}
 use Rattle.path_terms.specs.declared.term.Term.{Term}
 use Rattle.path_terms.specs.declared.term.Term.TheVariants.{Seq, Not, Star}
-use Rattle.path_terms.specs.Terms.{is_sound}
+use Rattle.path_terms.specs.Terms.{is_sound, at, Extends}
 use Rattle.path_exprs.specs.Derivative.{derivative}
 use Rattle.path_exprs.proofs.Numbers.{at-extends, longer}
 use Rattle.path_automata.proofs.Kept.{same}
-use Rattle.path_terms.specs.Terms.{at, Extends}
 use Rattle.path_automata.specs.Classes.{IsClassed}
 use Rattle.path_automata.specs.Derived.{same_key, AreDerivatives, IsDerivative}
 
@@ -47,7 +45,8 @@ derived_extends cs old new m x h k = weaker (get same_key m k) (h k)
     weaker None e = e
 
 -- what is derived by one location serves its class
-pub entry-made : (cs : List ℕ) (vs : List Expression) (e d x c : ℕ) → e < length vs → d < length vs → IsClassed cs (at vs e) → at vs d ≡ derivative x (at vs e) → slice_get cs x ≡ Some c → IsDerivative cs vs (e, c) d
+pub entry-made : (cs : List ℕ) (vs : List Expression) (e d x c : ℕ) → e < length vs → d < length vs → IsClassed cs (at vs e)
+    → at vs d ≡ derivative x (at vs e) → slice_get cs x ≡ Some c → IsDerivative cs vs (e, c) d
 entry-made cs vs e d x c le ld classed q is =
     (le, ld, (λ y r. is-same _ _ (q ∙ same x y (at vs e) (classed x y (c, is, r)))))
 
@@ -63,7 +62,8 @@ derived-insert cs vs old new k d h e m q = subst (λ o. IfSome o (λ d. IsDeriva
         subst (λ q. IsDerivative cs vs q d) is e
     by_key false t = m q
 
-pub derived-same : {S : Type 0} (cs : List ℕ) (vs : List Expression) (old new : IndexMap (ℕ × ℕ) ℕ S) → ((q : ℕ × ℕ) → get same_key new q ≡ get same_key old q) → AreDerivatives cs vs old → AreDerivatives cs vs new
+pub derived-same : {S : Type 0} (cs : List ℕ) (vs : List Expression) (old new : IndexMap (ℕ × ℕ) ℕ S)
+    → ((q : ℕ × ℕ) → get same_key new q ≡ get same_key old q) → AreDerivatives cs vs old → AreDerivatives cs vs new
 derived-same cs vs old new h m q = subst (λ o. IfSome o (λ d. IsDerivative cs vs q d)) (sym (h q)) (m q)
 
 pub derived-read : {S : Type 0} (cs : List ℕ) (vs : List Expression) (m : IndexMap (ℕ × ℕ) ℕ S) (k : ℕ × ℕ) (d : ℕ) → AreDerivatives cs vs m → get same_key m k ≡ Some d → IsDerivative cs vs k d

@@ -60,7 +60,8 @@ module _ (p : LocSet → Bool) where
   seq_pass (complement a) b h k = before_pass (complement a) b h k
   seq_pass (star a) b h k = before_pass (star a) b h k
 
-  insert_by : (o : Ordering) (e f : Expression) (fs rest : List Expression) → sets_pass p e ≡ true → sets_pass p f ≡ true → all_pass p fs ≡ true → all_pass p rest ≡ true → all_pass p (match_ordering o (e ∷ f ∷ fs) (f ∷ fs) (f ∷ rest)) ≡ true
+  insert_by : (o : Ordering) (e f : Expression) (fs rest : List Expression) → sets_pass p e ≡ true → sets_pass p f ≡ true → all_pass p fs ≡ true
+      → all_pass p rest ≡ true → all_pass p (match_ordering o (e ∷ f ∷ fs) (f ∷ fs) (f ∷ rest)) ≡ true
   insert_by Less e f fs rest h k l m = and_from _ _ h (and_from _ _ k l)
   insert_by Equal e f fs rest h k l m = and_from _ _ k l
   insert_by Greater e f fs rest h k l m = and_from _ _ k m
@@ -103,7 +104,8 @@ module _ (p : LocSet → Bool) where
   both_parts_pass (complement (complement a)) h = and_from _ _ h refl
   both_parts_pass (complement (star a)) h = and_from _ _ h refl
 
-  flat_pass : (f : Expression → List Expression) → ((e : Expression) → sets_pass p e ≡ true → all_pass p (f e) ≡ true) → (es : List Expression) → all_pass p es ≡ true → all_pass p (flat_map f es) ≡ true
+  flat_pass : (f : Expression → List Expression) → ((e : Expression) → sets_pass p e ≡ true → all_pass p (f e) ≡ true) → (es : List Expression)
+      → all_pass p es ≡ true → all_pass p (flat_map f es) ≡ true
   flat_pass f each [] h = refl
   flat_pass f each (e ∷ es) h = let u = and_parts (sets_pass p e) (all_pass p es) h in append (f e) (flat_map f es) (each e u.0) (flat_pass f each es u.1)
 

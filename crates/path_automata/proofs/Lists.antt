@@ -51,12 +51,16 @@ each-map x (e ∷ es) = ap (λ l. derivative x e ∷ l) (each-map x es)
 
 pub either-made : (x : ℕ) (es : List Expression) (e r : Expression) → e ≡ either (expressions_of (sorted es)) → r ≡ either_of (map (derivative x) es) → r ≡ derivative x e
 either-made x es e r q p =
-    p ∙ ap (λ l. cond (list_any is_all l) all (either_from l)) (flat-same either_parts (map (derivative x) es) (map (derivative x) (sorted es)) (map-sorted-to (derivative x) es) (map-sorted-from (derivative x) es))
+    p
+    ∙ ap (λ l. cond (list_any is_all l) all (either_from l)) (flat-same either_parts (map (derivative x) es) (map (derivative x) (sorted es))
+    (map-sorted-to (derivative x) es) (map-sorted-from (derivative x) es))
     ∙ sym (ap (derivative x) q ∙ ap either_of (each-map x (sorted es)))
 
 pub both-made : (x : ℕ) (es : List Expression) (e r : Expression) → e ≡ both (expressions_of (sorted es)) → r ≡ both_of (map (derivative x) es) → r ≡ derivative x e
 both-made x es e r q p =
-    p ∙ ap (λ l. cond (list_any is_never l) never (both_from l)) (flat-same both_parts (map (derivative x) es) (map (derivative x) (sorted es)) (map-sorted-to (derivative x) es) (map-sorted-from (derivative x) es))
+    p
+    ∙ ap (λ l. cond (list_any is_never l) never (both_from l)) (flat-same both_parts (map (derivative x) es) (map (derivative x) (sorted es))
+    (map-sorted-to (derivative x) es) (map-sorted-from (derivative x) es))
     ∙ sym (ap (derivative x) q ∙ ap both_of (each-map x (sorted es)))
 
 -- locations of a class are in the same sets of each member

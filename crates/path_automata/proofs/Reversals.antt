@@ -24,7 +24,8 @@ start-each full (e ∷ es) = ap (λ l. normal full (reversed e) ∷ l) (start-ea
 pub onto-nothing : (r e t : Expression) → r ≡ seq_of e t → t ≡ empty → r ≡ e
 onto-nothing r e t q p = q ∙ ap (seq_of e) p ∙ sym (seq-second_empty e empty refl)
 
-pub start-turn : (full : LocSet) (cur new : List Expression) (ms : List ℕ) (es : List Expr) (i r : ℕ) (e : Expr) → Extends cur new → are_known (length cur) ms ≡ true → i < length es → e ≡ get_or es i e
+pub start-turn : (full : LocSet) (cur new : List Expression) (ms : List ℕ) (es : List Expr) (i r : ℕ) (e : Expr) → Extends cur new
+    → are_known (length cur) ms ≡ true → i < length es → e ≡ get_or es i e
     → map (at cur) ms ≡ start_of full (views (take i es)) → at new r ≡ normal full (reversed (view e)) → map (at new) (ms ++ r ∷ []) ≡ start_of full (views (take (i + 1) es))
 start-turn full cur new ms es i r e x known lt is q p =
     map-append (at new) ms (r ∷ [])
@@ -36,7 +37,8 @@ start-turn full cur new ms es i r e x known lt is q p =
 
 -- terms at places
 
-start-at : (full : LocSet) (vs : List Expression) (ns : List ℕ) (es : List Expression) (i d : ℕ) → map (at vs) ns ≡ start_of full es → i < length ns → at vs (get_or ns i d) ≡ normal full (reversed (at es i))
+start-at : (full : LocSet) (vs : List Expression) (ns : List ℕ) (es : List Expression) (i d : ℕ) → map (at vs) ns ≡ start_of full es → i < length ns
+    → at vs (get_or ns i d) ≡ normal full (reversed (at es i))
 start-at full vs [] es i d q lt = absurd (omega (arith, lt))
 start-at full vs (n ∷ ns) [] i d q lt = cc
 start-at full vs (n ∷ ns) (e ∷ es) zero d q lt = cc

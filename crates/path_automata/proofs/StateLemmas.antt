@@ -125,7 +125,8 @@ facts-cover fs ss told =
 pub facts-kept : (fs gs : List Facts) (ss : List (List Expression)) (n : ℕ) → length ss ≤ n → AreFacts fs ss → ((i : ℕ) → i < n → slice_get gs i ≡ slice_get fs i) → AreFacts gs ss
 facts-kept fs gs ss n le told before i s h = let lt = slice_get_within ss i s h in before i (omega (arith, lt, le)) ∙ told i s h
 
-pub facts-grown : (fs gs : List Facts) (ss new : List (List Expression)) (d : List Expression) (n : ℕ) → n ≡ length ss → AreFacts fs ss → Grown ss new d → ((i : ℕ) → i < n → slice_get gs i ≡ slice_get fs i)
+pub facts-grown : (fs gs : List Facts) (ss new : List (List Expression)) (d : List Expression) (n : ℕ) → n ≡ length ss → AreFacts fs ss
+    → Grown ss new d → ((i : ℕ) → i < n → slice_get gs i ≡ slice_get fs i)
     → slice_get gs n ≡ Some (facts_of d) → AreFacts gs new
 facts-grown fs gs ss new d n is told grown before here i s h =
     let old : slice_get ss i ≡ Some s → slice_get gs i ≡ Some (facts_of s) = facts-kept fs gs ss n (omega (arith, is)) told before i s in

@@ -1,7 +1,7 @@
 //! What is asked of a state: its rank, and whether it is dead.
 ghost use Rattle.std.specs.Prelude.{◌≡◌, ◌≤◌, [], length, map, true};
 ghost use Rattle.std.specs.List.{list_all};
-ghost use Rattle.net_base.specs.declared.limits.TheConstants.{ALTERNATIVES};
+ghost use Rattle.policy_base.specs.declared.limits.TheConstants.{ALTERNATIVES};
 ghost use Rattle.path_exprs.specs.Normal.{is_never as is_never_test};
 ghost use Rattle.path_exprs.specs.Runs.{first_with};
 ghost use Rattle.path_terms.specs.Terms.{are_known};

@@ -1,6 +1,6 @@
 //! Where walks begin: the normal forms of reversed ranked expressions.
 ghost use Rattle.std.specs.Prelude.{◌≡◌, ◌≤◌, ◌<◌, List as Items, get_or, length, map, true, vec_len, IfOk};
-ghost use Rattle.net_base.specs.declared.limits.TheConstants.{ALTERNATIVES};
+ghost use Rattle.policy_base.specs.declared.limits.TheConstants.{ALTERNATIVES};
 ghost use Rattle.path_exprs.specs.Expression.{Expression};
 ghost use Rattle.path_exprs.specs.Normal.{normal, reversed};
 ghost use Rattle.path_exprs.specs.Parts.{are_earlier, are_known, expression_of, expressions_of_parts, is_earlier, Extends};

@@ -2,7 +2,7 @@
 ghost use Rattle.std.specs.Prelude.{◌≡◌, ◌≤◌, ◌<◌, ◌∷◌, [], ℕ, Some, All, IfOk, OnErr, OnOk, length, map, slice_get, true, vec_len};
 ghost use Rattle.std.specs.List.{list_all};
 ghost use Rattle.std.proofs.Props.{props};
-ghost use Rattle.net_base.specs.declared.limits.TheConstants.{ALTERNATIVES};
+ghost use Rattle.policy_base.specs.declared.limits.TheConstants.{ALTERNATIVES};
 ghost use Rattle.net_base.specs.NetSets.{locations as all_locations};
 ghost use Rattle.path_exprs.specs.Derivative.{derivative as derivative_of};
 ghost use Rattle.path_exprs.specs.Expression.{Expression};

@@ -1,7 +1,7 @@
 -- What is left of expressions after a list of locations, one derivative after another.
 use Rattle.std.specs.Prelude.{ℕ, List, [], ◌∷◌, map, Option}
 use Rattle.net_base.specs.declared.loc.LocSet.{LocSet}
-use Rattle.path_words.specs.Meaning.{place_of}
+use Rattle.policy_base.specs.Meaning.{place_of}
 use Rattle.path_exprs.specs.Expression.{Expression}
 use Rattle.path_exprs.specs.Membership.{member}
 use Rattle.path_exprs.specs.Normal.{normal, reversed}

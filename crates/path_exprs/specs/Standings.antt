@@ -2,13 +2,13 @@
 use Rattle.std.specs.Prelude.{◌≡◌, ℕ, ◌<◌, ◌≤◌, Bool, not, ◌&&◌, ◌||◌, ◌==◌, IsTrue, List, [], ◌∷◌, ◌++◌, length, map, Some, filter, slice_get, if◌then◌else◌}
 use Rattle.std.specs.List.{list_any, list_all, flat_map, IsDistinct}
 use Rattle.std.specs.Ordering.{is_eq}
-use Rattle.net_base.specs.declared.limits.TheConstants.{NODES}
+use Rattle.path_exprs.specs.declared.limits.TheConstants.{NODES}
 use Rattle.net_base.specs.Locations.{in_order}
 use Rattle.net_base.specs.Network.{PlainNet, is_router, linked}
 use Rattle.net_base.specs.Sets.{holds}
-use Rattle.path_words.specs.declared.case.Case.{Case}
-use Rattle.path_words.specs.declared.policy.FromSet.{FromSet}
-use Rattle.path_words.specs.Policies.{PlainStatement}
+use Rattle.policy_base.specs.declared.case.Case.{Case}
+use Rattle.policy_base.specs.declared.policy.FromSet.{FromSet}
+use Rattle.policy_base.specs.Policies.{PlainStatement}
 use Rattle.path_exprs.specs.Derivative.{derivative}
 use Rattle.path_exprs.specs.Expression.{Expression, expressions_of}
 use Rattle.path_exprs.specs.Forward.{expressions}

@@ -3,6 +3,7 @@
 
 mod equality;
 mod expr;
+pub mod limits;
 mod order;
 mod parts;
 mod ranked_expr;

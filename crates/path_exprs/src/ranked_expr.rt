@@ -1,6 +1,6 @@
 //! Expressions in the order of their ranks.
 ghost use Rattle.std.specs.Prelude.{◌≡◌, ◌≤◌, length, map, true};
-ghost use Rattle.net_base.specs.declared.limits.TheConstants.{ALTERNATIVES};
+ghost use Rattle.policy_base.specs.declared.limits.TheConstants.{ALTERNATIVES};
 ghost use Rattle.path_exprs.specs.Parts.{are_earlier, are_known, at, expressions_of_parts};
 ghost use Rattle.path_exprs.specs.Shared.{values};
 
@@ -18,7 +18,7 @@ pub struct RankedExpr {
 impl Model for RankedExpr {
     ghost use Rattle.std.specs.Prelude.{List as Items, ◌≡◌, ◌≤◌, length, map, true};
     ghost use Rattle.std.specs.Coded.{coded_list};
-    ghost use Rattle.net_base.specs.declared.limits.TheConstants.{ALTERNATIVES};
+    ghost use Rattle.policy_base.specs.declared.limits.TheConstants.{ALTERNATIVES};
     ghost use Rattle.path_exprs.specs.Expression.{Expression};
     ghost use Rattle.path_exprs.specs.Total.{coded_expression};
     ghost use Rattle.path_exprs.specs.Parts.{are_known, at};

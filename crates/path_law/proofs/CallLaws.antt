@@ -7,9 +7,11 @@ use Rattle.list_laws.proofs.Truth.{not_and_not}
 use Rattle.net_base.specs.declared.loc.LocSet.{LocSet}
 use Rattle.net_base.specs.Network.{PlainNet, IsNet, is_location}
 use Rattle.net_base.specs.Sets.{holds}
-use Rattle.path_words.specs.declared.clause.Clause.{Clause}
-use Rattle.path_words.specs.declared.clause.Clause.TheVariants.{Any, Drop, Internal, Avoid, Through, NoTransit, Start, End, Link, Path, Exit, Enter}
-use Rattle.path_words.specs.Meaning.{at_first, at_last, front, some_step, each_in, meets}
+use Rattle.policy_base.specs.declared.call.Call.{Call}
+use Rattle.policy_base.specs.declared.call.Call.TheVariants.{Any, Drop, Internal, Link, Path, Of}
+use Rattle.policy_base.specs.declared.call.SetCall.{SetCall}
+use Rattle.policy_base.specs.declared.call.SetCall.TheVariants.{Avoid, Through, NoTransit, Start, End, Exit, Enter}
+use Rattle.policy_base.specs.Meaning.{at_first, at_last, front, some_step, each_in, meets, meets_set}
 use Rattle.path_exprs.specs.Language.{Language, nothing, one_of, divides, repeats}
 use Rattle.path_exprs.specs.Membership.{member}
 use Rattle.net_base.specs.NetSets.{locations, peers}
@@ -17,10 +19,8 @@ use Rattle.path_law.proofs.Languages.{divides_same, divides-and, divides-nothing
 use Rattle.net_base.proofs.NetSetLaws.{holds-peers, all_held}
 use Rattle.path_law.proofs.Repeats.{goes_on-and}
 use Rattle.net_base.specs.SetOperations.{common, outside}
-use Rattle.path_exprs.specs.Forward.{forward, in_turn}
+use Rattle.path_exprs.specs.Forward.{forward, forward_set, in_turn}
 use Rattle.net_base.proofs.CommonSets.{holds-common, holds-outside}
-use Rattle.std.proofs.Math.Bool.{and-true, and-false, or-false}
-use Rattle.list_laws.proofs.Truth.{not_and_not}
 
 abbrev anything : Language
 anything xs = true
@@ -174,22 +174,27 @@ comes_in s t x xs =
     ∙ ap (λ b. (holds s x && holds t x) || (b || false)) (starts_with_two t s x xs)
     ∙ either_place (holds s x) (holds t x) (at_first (holds s) xs)
 
--- the expression of a call holds a list of at least two locations of the net where the list meets the call
-pub member-forward : (net : PlainNet) → IsNet net → (c : Clause) (x y : ℕ) (ys : List ℕ) → list_all (is_location net) (x ∷ y ∷ ys) ≡ true →
+-- the expression of a call of one set holds a list of at least two locations of the net where the list meets the call
+member-forward_set : (net : PlainNet) → IsNet net → (c : SetCall) (s : LocSet) (x y : ℕ) (ys : List ℕ) → list_all (is_location net) (x ∷ y ∷ ys) ≡ true →
+    member (forward_set net c s) (x ∷ y ∷ ys) ≡ meets_set net c s (x ∷ y ∷ ys)
+member-forward_set net rules Avoid s x y ys h = avoids (locations net) s (x ∷ y ∷ ys) (all_held net rules (x ∷ y ∷ ys) h)
+member-forward_set net rules Through s x y ys h = passes s (x ∷ y ∷ ys)
+member-forward_set net rules NoTransit s x y ys h = stays_out (locations net) s x y ys (all_held net rules (x ∷ y ∷ ys) h)
+member-forward_set net rules Start s x y ys h = starts s (x ∷ y ∷ ys)
+member-forward_set net rules End s x y ys h = ends s (x ∷ y ∷ ys)
+member-forward_set net rules Exit s x y ys h =
+    leaves s (peers net) (x ∷ y ∷ ys)
+    ∙ ap (λ p. at_last p (y ∷ ys) && (at_last (holds s) (y ∷ ys) || at_last (holds s) (front (x ∷ y ∷ ys)))) (holds-peers net rules)
+member-forward_set net rules Enter s x y ys h =
+    comes_in s (peers net) x (y ∷ ys) ∙ ap (λ p. p x && (holds s x || holds s y)) (holds-peers net rules)
+
+-- so does the expression of any call
+pub member-forward : (net : PlainNet) → IsNet net → (c : Call) (x y : ℕ) (ys : List ℕ) → list_all (is_location net) (x ∷ y ∷ ys) ≡ true →
     member (forward net c) (x ∷ y ∷ ys) ≡ meets net c (x ∷ y ∷ ys)
 member-forward net rules Any x y ys h = refl
 member-forward net rules Drop x y ys h = refl
 member-forward net rules Internal x y ys h =
     avoids (locations net) (peers net) (x ∷ y ∷ ys) (all_held net rules (x ∷ y ∷ ys) h) ∙ ap (λ p. not (list_any p (x ∷ y ∷ ys))) (holds-peers net rules)
-member-forward net rules (Avoid s) x y ys h = avoids (locations net) s (x ∷ y ∷ ys) (all_held net rules (x ∷ y ∷ ys) h)
-member-forward net rules (Through s) x y ys h = passes s (x ∷ y ∷ ys)
-member-forward net rules (NoTransit s) x y ys h = stays_out (locations net) s x y ys (all_held net rules (x ∷ y ∷ ys) h)
-member-forward net rules (Start s) x y ys h = starts s (x ∷ y ∷ ys)
-member-forward net rules (End s) x y ys h = ends s (x ∷ y ∷ ys)
 member-forward net rules (Link s t) x y ys h = links s t (x ∷ y ∷ ys)
 member-forward net rules (Path sets) x y ys h = member-in_turn sets (x ∷ y ∷ ys)
-member-forward net rules (Exit s) x y ys h =
-    leaves s (peers net) (x ∷ y ∷ ys)
-    ∙ ap (λ p. at_last p (y ∷ ys) && (at_last (holds s) (y ∷ ys) || at_last (holds s) (front (x ∷ y ∷ ys)))) (holds-peers net rules)
-member-forward net rules (Enter s) x y ys h =
-    comes_in s (peers net) x (y ∷ ys) ∙ ap (λ p. p x && (holds s x || holds s y)) (holds-peers net rules)
+member-forward net rules (Of c s) x y ys h = member-forward_set net rules c s x y ys h

@@ -6,16 +6,15 @@ use Rattle.std.proofs.lemmas.List.{map-append}
 use Rattle.std.proofs.Math.Bool.{and-true}
 use Rattle.std.proofs.lemmas.Simd.{map-map}
 use Rattle.net_base.specs.Network.{PlainNet, IsNet, is_location}
-use Rattle.path_words.specs.declared.clause.Clause.{Clause}
-use Rattle.path_words.specs.Policies.{Ranking, call, calls, prefer, negated}
-use Rattle.path_words.specs.Policies as ranking
-use Rattle.path_words.specs.Meaning.{PathTest, meets, some_test, both_tests, alternatives, place_of, rank_of}
+use Rattle.policy_base.specs.declared.call.Call.{Call}
+use Rattle.policy_base.specs.Policies.{Ranking, call, calls, prefer, negated}
+use Rattle.policy_base.specs.Policies as ranking
+use Rattle.policy_base.specs.Meaning.{PathTest, meets, some_test, both_tests, alternatives, place_of, rank_of}
 use Rattle.path_exprs.specs.Expression.{Expression, expressions_of}
 use Rattle.path_exprs.specs.Membership.{member, some_member}
 use Rattle.path_exprs.specs.Runs.{first_with}
 use Rattle.path_exprs.specs.Forward.{forward, expressions, both_of_two}
 use Rattle.path_law.proofs.CallLaws.{member-forward}
-use Rattle.std.proofs.Math.Bool.{and-true}
 
 -- what the tests say of a path, and which expressions hold it
 abbrev tested : List ℕ → List PathTest → List Bool
@@ -83,7 +82,7 @@ module _ (net : PlainNet) (rules : IsNet net) (x y : ℕ) (ys : List ℕ) (withi
   abbrev path : List ℕ
   path = x ∷ y ∷ ys
 
-  held-calls : (cs : List Clause) → held path (map (forward net) cs) ≡ tested path (map (meets net) cs)
+  held-calls : (cs : List Call) → held path (map (forward net) cs) ≡ tested path (map (meets net) cs)
   held-calls [] = refl
   held-calls (c ∷ cs) =
       ap (λ b. b ∷ held path (map (forward net) cs)) (member-forward net rules c x y ys within)

@@ -5,7 +5,7 @@ use Rattle.std.specs.List.{list_all}
 use Rattle.std.proofs.lemmas.Simd.{map-map}
 use Rattle.net_base.specs.declared.loc.LocSet.{LocSet}
 use Rattle.net_base.specs.Sets.{holds}
-use Rattle.path_words.specs.Meaning.{place_of}
+use Rattle.policy_base.specs.Meaning.{place_of}
 use Rattle.path_exprs.specs.Expression.{Expression}
 use Rattle.path_exprs.specs.Membership.{member}
 use Rattle.path_exprs.specs.Normal.{normal, reversed}

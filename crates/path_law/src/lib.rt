@@ -4,8 +4,8 @@
 ghost use Rattle.std.specs.Prelude.{◌≡◌, ◌≤◌, ◌↔◌, ◌∷◌, [], ℕ, List, length, map, reverse, true};
 ghost use Rattle.std.specs.List.{list_all};
 ghost use Rattle.net_base.specs.Network.{IsNet, PlainNet, is_location};
-ghost use Rattle.path_words.specs.Meaning.{alternatives, rank_of};
-ghost use Rattle.path_words.specs.Policies.{Ranking};
+ghost use Rattle.policy_base.specs.Meaning.{alternatives, rank_of};
+ghost use Rattle.policy_base.specs.Policies.{Ranking};
 ghost use Rattle.path_exprs.specs.Derivative.{derivative};
 ghost use Rattle.path_exprs.specs.Expression.{Expression};
 ghost use Rattle.path_exprs.specs.Forward.{expressions};

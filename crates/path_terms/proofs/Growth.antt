@@ -1,6 +1,6 @@
 -- The expressions of terms as further terms come.
 use Rattle.std.proofs.Common.{◌≡◌, ℕ, zero, suc, ◌<◌, ◌≤◌, ◌+◌, Bool, true, false, cond, List, [], ◌∷◌, ◌++◌, ◌⊎◌, inl, inr, ⊎_elim, map, length, get_or, Some, None, refl, sym, ap, subst, ◌∙◌, arith, append_assoc}
-use Rattle.std.specs.Prelude.{◌==◌, nat_lt, slice_get}
+use Rattle.std.specs.Prelude.{◌==◌, nat_lt, slice_get, Result, Ok, Err}
 use Rattle.std.specs.List.{list_all, list_any}
 use Rattle.std.proofs.lemmas.Bool.{and_parts, and_from, eqb-true, eq-eqb, lt-ltb, false≢true, ltb-true}
 use Rattle.std.proofs.lemmas.List.{append-nil}
@@ -12,7 +12,6 @@ use Rattle.path_exprs.specs.Normal.{sorted}
 use Rattle.path_exprs.proofs.Lists.{list_of-expressions_of}
 use Rattle.path_exprs.proofs.Numbers.{at-extends, at-last, at-left, length-push}
 use Rattle.std.specs.Result.{IfOk, OnErr}
-use Rattle.std.specs.Prelude.{Result, Ok, Err}
 use Rattle.path_law.proofs.Sorting.{In}
 use Rattle.indexmap.specs.IndexSet.{insert_key}
 use Rattle.path_terms.specs.declared.term.Term.{Term}
@@ -246,7 +245,8 @@ new-expression ts t sound apart ht none i lt q =
 pub expressions-push : (ts : List Term) (t : Term) → expressions (ts ++ t ∷ []) ≡ expressions ts ++ node (expressions ts) t ∷ []
 expressions-push ts t = grow-append [] ts (t ∷ [])
 
-pub insert-cases : (ts new : List Term) (t : Term) (P : List Term → Type 0) → new ≡ insert_key same ts t → (list_any (same t) ts ≡ true → P ts) → (list_any (same t) ts ≡ false → P (ts ++ t ∷ [])) → P new
+pub insert-cases : (ts new : List Term) (t : Term) (P : List Term → Type 0) → new ≡ insert_key same ts t → (list_any (same t) ts ≡ true → P ts)
+    → (list_any (same t) ts ≡ false → P (ts ++ t ∷ [])) → P new
 insert-cases ts new t P e there none = at_bool (list_any (same t) ts) refl e
   where
     at_bool : (b : Bool) → list_any (same t) ts ≡ b → new ≡ cond b ts (ts ++ t ∷ []) → P new
@@ -264,7 +264,8 @@ insert-extends ts new t e =
     (λ b. ([], sym (append-nil (expressions ts))))
     (λ b. (node (expressions ts) t ∷ [], expressions-push ts t))
 
-pub insert-apart : (ts new : List Term) (t : Term) → each_sound 0 ts ≡ true → AreApart (expressions ts) → is_sound (length (expressions ts)) t ≡ true → new ≡ insert_key same ts t → AreApart (expressions new)
+pub insert-apart : (ts new : List Term) (t : Term) → each_sound 0 ts ≡ true → AreApart (expressions ts) → is_sound (length (expressions ts)) t ≡ true
+    → new ≡ insert_key same ts t → AreApart (expressions new)
 insert-apart ts new t h apart g e =
     insert-cases ts new t (λ us. AreApart (expressions us)) e (λ b. apart)
     (λ b. subst AreApart (sym (expressions-push ts t)) (apart-push (expressions ts) (node (expressions ts) t) apart (new-expression ts t h apart g b)))

@@ -17,7 +17,8 @@ module _ (parts : Expression → List Expression) (from : List Expression → Ex
   abbrev joined : List Expression → Expression
   joined es = if list_any absorbs (sorted (flat_map parts es)) then whole else from (sorted (flat_map parts es))
 
-  pub joined-absorbed : (vs : List Expression) (old new ms : List ℕ) → IsSettled old new → sorted (map (at vs) old) ≡ sorted (flat_map parts (map (at vs) ms)) → list_any absorbs (map (at vs) new) ≡ true
+  pub joined-absorbed : (vs : List Expression) (old new ms : List ℕ) → IsSettled old new
+      → sorted (map (at vs) old) ≡ sorted (flat_map parts (map (at vs) ms)) → list_any absorbs (map (at vs) new) ≡ true
       → whole ≡ joined (map (at vs) ms)
   joined-absorbed vs old new ms settled same there =
       let all = sorted-settled vs old new settled ∙ same in

@@ -24,6 +24,7 @@ fn is_never_among(terms: &Terms, numbers: &[u32]) -> bool
     false
 }
 
+// As for alternations, with the signs exchanged: here the expression of every list is what adds nothing.
 /// What a member adds to an intersection.
 fn add_parts(terms: &Terms, number: u32, all: &mut Vec<u32>) -> Result<(), NoMemory>
     requires known { number < length (values terms.now) }

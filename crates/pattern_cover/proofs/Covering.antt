@@ -7,8 +7,8 @@ use Rattle.std.proofs.lemmas.Grind.{flat_map-append}
 use Rattle.std.proofs.lemmas.List.{get_or_append_left, get_or_push, length_push, take_more}
 use Rattle.std.proofs.lemmas.Option.{get_or_from_slice_get, same_Some, slice_get_within}
 use Rattle.net_base.specs.Prefixes.{PlainPrefix, PlainPattern, contains}
-use Rattle.path_words.specs.Governing.{some_contains}
-use Rattle.path_words.specs.Policies.{PlainStatement}
+use Rattle.policy_base.specs.Governing.{some_contains}
+use Rattle.policy_base.specs.Policies.{PlainStatement}
 use Rattle.pattern_cover.specs.Covered.{AreCovered, IsCovered}
 use Rattle.pattern_cover.specs.Statements.{IsCoveredAt, patterns_before}
 
@@ -86,7 +86,8 @@ marked_more ss k s old new mark at tells after before = record {
   size = ap length after ∙ length_push old mark ∙ ap (λ n. n + 1) before.size;
   each = λ j within. elim (cases_lt j k) [
     | inl less ↦
-        let same : slice_index_or new j false ≡ slice_index_or old j false = ap (λ (xs : List Bool). slice_index_or xs j false) after ∙ get_or_append_left old (mark ∷ []) false j (omega (arith, less, before.size)) in
+        let same : slice_index_or new j false ≡ slice_index_or old j false = ap (λ (xs : List Bool). slice_index_or xs j false) after
+        ∙ get_or_append_left old (mark ∷ []) false j (omega (arith, less, before.size)) in
         let told = before.each j less in
         (λ h. told.0 (sym same ∙ h), λ h. same ∙ told.1 h)
     | inr past ↦

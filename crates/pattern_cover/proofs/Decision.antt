@@ -4,7 +4,7 @@ use Rattle.std.specs.Prelude.{◌↔◌, ◌⊎◌, IsTrue, ◌&&◌, nat_le, na
 use Rattle.std.proofs.lemmas.Bool.{eqb-true, ltb-true, leb-true, le-leb, lt-ltb, eq-eqb, and_parts, and_from, or_cases, or_left, or_right, cases_lt, false≢true}
 use Rattle.net_base.specs.Prefixes.{PlainPrefix, PlainPattern, IsPrefix, IsPattern, is_inside, contains}
 use Rattle.net_base.proofs.PrefixLemmas.{fewer_bits}
-use Rattle.path_words.specs.Governing.{some_contains}
+use Rattle.policy_base.specs.Governing.{some_contains}
 use Rattle.pattern_cover.specs.Covered.{IsCovered, depth_at, low_half, high_half, covered_below, covered}
 use Rattle.pattern_cover.proofs.Halves.{low_half-IsPrefix, high_half-IsPrefix, half_around, high_agree}
 
@@ -59,7 +59,8 @@ pub in_some : (qs : List PlainPattern) (r : PlainPrefix) → r.len < depth_at qs
 in_some [] r h = absurd (omega arith)
 in_some (q ∷ qs) r h = by_base (is_inside q.base r) refl (in_some qs r) h
   where
-    by_base : (b : Bool) → is_inside q.base r ≡ b → (r.len < depth_at qs r → some_contains qs r ≡ true) → r.len < max (if is_inside q.base r then suc q.upto else 0) (depth_at qs r) → some_contains (q ∷ qs) r ≡ true
+    by_base : (b : Bool) → is_inside q.base r ≡ b → (r.len < depth_at qs r → some_contains qs r ≡ true)
+        → r.len < max (if is_inside q.base r then suc q.upto else 0) (depth_at qs r) → some_contains (q ∷ qs) r ≡ true
     by_base true is rest h =
         let at = rw is at h in
         ⊎_elim (λ x. or_left (contains q r) (some_contains qs r) (and_from (is_inside q.base r) _ is (le-leb _ _ (omega arith))))
@@ -100,7 +101,8 @@ sound qs p (suc more) lawful within h r fine c =
     let le : r.len ≤ p.len + suc more = leb-true _ _ parts.1 in
     by_depth parts.0 deep le
     (λ halves inside. sound qs (low_half p) more (low_half-IsPrefix p lawful (omega arith)) (omega arith) halves r fine (and_from (is_inside (low_half p) r) _ inside (le-leb _ _ (omega (arith, le)))))
-    (λ halves inside. sound qs (high_half p) more (high_half-IsPrefix p lawful (omega arith)) (omega arith) halves r fine (and_from (is_inside (high_half p) r) _ inside (le-leb _ _ (omega (arith, le)))))
+    (λ halves inside. sound qs (high_half p) more (high_half-IsPrefix p lawful (omega arith)) (omega arith) halves r fine
+    (and_from (is_inside (high_half p) r) _ inside (le-leb _ _ (omega (arith, le)))))
     (or_cases (nat_lt (p.len + suc more) (depth_at qs p)) _ both.1)
   where
     by_depth : is_inside p r ≡ true → p.len < depth_at qs p → r.len ≤ p.len + suc more
@@ -135,7 +137,9 @@ in_high : (p r : PlainPrefix) (more : ℕ) → IsPrefix p → p.len + suc more �
 in_high p r more lawful within c =
     let parts = and_parts (is_inside (high_half p) r) (nat_le r.len (p.len + 1 + more)) c in
     let le : r.len ≤ p.len + 1 + more = leb-true _ _ parts.1 in
-    and_from (is_inside p r) _ (inside_inside p (high_half p) r (omega arith) (inside_whole p (high_half p) (record { least = omega arith; agree = high_agree p lawful (omega arith) })) parts.0) (le-leb _ _ (omega (arith, le)))
+    and_from (is_inside p r) _ (inside_inside p (high_half p) r (omega arith)
+    (inside_whole p (high_half p) (record { least = omega arith; agree = high_agree p lawful (omega arith) })) parts.0)
+    (le-leb _ _ (omega (arith, le)))
 
 -- where every prefix is in one of them
 pub complete : (qs : List PlainPattern) (p : PlainPrefix) (more : ℕ) → IsPrefix p → p.len + more ≤ 32 → IsCovered qs (at_most p more) → covered_below qs p more ≡ true

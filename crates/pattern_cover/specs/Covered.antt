@@ -1,7 +1,7 @@
 -- Patterns whose every prefix is in one of several patterns.
 use Rattle.std.specs.Prelude.{ℕ, zero, suc, ◌+◌, ◌-◌, ◌^◌, IsTrue, Bool, ◌&&◌, ◌||◌, nat_lt, List, [], ◌∷◌, max, if◌then◌else◌}
 use Rattle.net_base.specs.Prefixes.{PlainPrefix, PlainPattern, IsPrefix, contains, is_inside, same_prefix}
-use Rattle.path_words.specs.Governing.{some_contains}
+use Rattle.policy_base.specs.Governing.{some_contains}
 
 -- every prefix that the pattern contains is in one of the patterns
 abbrev pub IsCovered : List PlainPattern → PlainPattern → Type 0

@@ -2,7 +2,7 @@
 use Rattle.std.specs.Prelude.{◌≡◌, ◌↔◌, ℕ, ◌<◌, IsTrue, Bool, false, List, length, take, Some, slice_get, slice_index_or}
 use Rattle.std.specs.List.{flat_map}
 use Rattle.net_base.specs.Prefixes.{PlainPattern}
-use Rattle.path_words.specs.Policies.{PlainStatement}
+use Rattle.policy_base.specs.Policies.{PlainStatement}
 use Rattle.pattern_cover.specs.Covered.{AreCovered}
 
 -- the patterns of the first k statements

@@ -1,11 +1,11 @@
 //! Statements whose prefixes are all governed by earlier ones.
 ghost use Rattle.std.specs.Prelude.{IfOk, map};
-ghost use Rattle.path_words.specs.Policies.{plain_statement};
+ghost use Rattle.policy_base.specs.Policies.{plain_statement};
 ghost use Rattle.pattern_cover.specs.Statements.{AreMarked};
 
 use crate::table::PatternTable;
 use outside::NoMemory;
-use path_words::Statement;
+use policy_base::Statement;
 use std::alloc::Global;
 
 /// For each statement whether every prefix that its patterns contain is in a pattern of one before it.

@@ -35,14 +35,14 @@ unfolding StandsIn
 stands_end text p fits = (fits, λ inside. absurd (omega (arith, inside)))
 
 -- where the next lexeme is looked for
-pub goes_in : (text : List ℕ) (l : Lexeme) → number_of l.symbol < 32 → StandsIn text l
+pub goes_in : (text : List ℕ) (l : Lexeme) → number_of l.symbol < 255 → StandsIn text l
     → (length text < 4294967295) × IsPlace text l.to (place_behind l) × (l.from ≤ l.to) × (l.place.column + (l.to - l.from) ≤ 4294967295)
 unfolding StandsIn
 goes_in text l inside stands =
     let is = stands.1 inside in
     (stands.0, (is.2, omega (arith, is.0.1, is.1), omega (arith, is.0.2, is.1)), is.1, omega (arith, is.0.2, is.1, is.2, stands.0))
 
-pub behind_in : (text : List ℕ) (l : Lexeme) → number_of l.symbol < 32 → behind text l ≡ lexemes_ahead text (ahead_of text l.to (place_behind l))
+pub behind_in : (text : List ℕ) (l : Lexeme) → number_of l.symbol < 255 → behind text l ≡ lexemes_ahead text (ahead_of text l.to (place_behind l))
 unfolding behind
 behind_in text l inside = rw (no_end (number_of l.symbol) inside) refl
 

@@ -6,8 +6,9 @@ use Rattle.policy_grammar.specs.declared.lexeme.Lexeme.{Lexeme}
 use Rattle.policy_grammar.specs.declared.symbol.Symbol.{Symbol}
 use Rattle.policy_grammar.specs.declared.symbol.Symbol.TheVariants as symbol
 use Rattle.policy_grammar.specs.Raw.{Arg, Arg as arg, RawCall, Step, Step as step}
-use Rattle.policy_grammar.specs.declared.call_word.CallWord.{CallWord}
-use Rattle.policy_grammar.specs.declared.call_word.CallWord.TheVariants.{Any, Drop, Internal, Avoid, Through, NoTransit, Start, End, Link, Path, Exit, Enter}
+use Rattle.policy_base.specs.declared.call.SetCall.{SetCall}
+use Rattle.policy_base.specs.declared.call.CallWord.{CallWord}
+use Rattle.policy_base.specs.declared.call.CallWord.TheVariants.{Any, Drop, Internal, Link, Path, Of}
 use Rattle.policy_grammar.specs.Reading.{Read, refused, past, first_of, after, either, chain}
 use Rattle.policy_grammar.specs.Names.{names_at, braced_at}
 
@@ -17,7 +18,7 @@ named_with names = names >>= λ x. Ok (arg.Names x.0, x.1)
 
 -- set = "any" | NAME { "," NAME }
 unfoldable pub set_at : List Lexeme → Read Arg
-set_at ls = either (past symbol.Any ls) (λ l rest. Ok (arg.Any, rest)) (named_with (names_at ls))
+set_at ls = either (past (symbol.Call Any) ls) (λ l rest. Ok (arg.Any, rest)) (named_with (names_at ls))
 
 abbrev one_name : List Lexeme → Read Arg
 one_name ls = do
@@ -27,7 +28,7 @@ one_name ls = do
 -- one = "any" | NAME | "{" NAME { "," NAME } "}"
 unfoldable pub one_at : List Lexeme → Read Arg
 one_at ls =
-    either (past symbol.Any ls) (λ l rest. Ok (arg.Any, rest))
+    either (past (symbol.Call Any) ls) (λ l rest. Ok (arg.Any, rest))
     (either (past symbol.BraceOpen ls) (λ l rest. braced_at ls >>= λ x. Ok (arg.Names x.0, x.1)) (one_name ls))
 
 abbrev pub set_link : Lexeme → List Arg → List Lexeme → Read (List Arg)
@@ -45,13 +46,13 @@ abbrev pub above_at : List Lexeme → Option Place
 above_at ls = option_map (λ x. x.0.place) (past symbol.Above ls)
 
 -- "(" set { ">>" set } ")"
-unfoldable pub sets_call : CallWord → List Lexeme → Read RawCall
-sets_call word ls = do
+unfoldable pub sets_call : SetCall → List Lexeme → Read RawCall
+sets_call c ls = do
   inside ← after symbol.RoundOpen ls
   x ← set_at inside
   sets ← chain symbol.Above set_link (length x.1) (x.0 ∷ []) x.1
   rest ← after symbol.RoundClose sets.1
-  Ok (record { word = word; args = sets.0; above = above_at x.1 }, rest)
+  Ok (record { word = Of c; args = sets.0; above = above_at x.1 }, rest)
 
 -- "(" one "," one ")"
 unfoldable pub link_call : List Lexeme → Read RawCall
@@ -75,18 +76,7 @@ path_call ls = do
   Ok (record { word = Path; args = sets.0; above = None }, rest)
 
 abbrev pub word_of : Symbol → Option CallWord
-word_of symbol.Any = Some Any
-word_of symbol.Drop = Some Drop
-word_of symbol.Internal = Some Internal
-word_of symbol.Avoid = Some Avoid
-word_of symbol.Through = Some Through
-word_of symbol.NoTransit = Some NoTransit
-word_of symbol.Start = Some Start
-word_of symbol.End = Some End
-word_of symbol.Link = Some Link
-word_of symbol.Path = Some Path
-word_of symbol.Exit = Some Exit
-word_of symbol.Enter = Some Enter
+word_of (symbol.Call word) = Some word
 word_of _ = None
 
 -- what stands behind the word of a call
@@ -96,13 +86,7 @@ call_behind Drop ls = Ok (record { word = Drop; args = []; above = None }, ls)
 call_behind Internal ls = Ok (record { word = Internal; args = []; above = None }, ls)
 call_behind Link ls = link_call ls
 call_behind Path ls = path_call ls
-call_behind Avoid ls = sets_call Avoid ls
-call_behind Through ls = sets_call Through ls
-call_behind NoTransit ls = sets_call NoTransit ls
-call_behind Start ls = sets_call Start ls
-call_behind End ls = sets_call End ls
-call_behind Exit ls = sets_call Exit ls
-call_behind Enter ls = sets_call Enter ls
+call_behind (Of c) ls = sets_call c ls
 
 -- a call that was read, as a part of an expression
 abbrev pub step_read : Read RawCall → Read Step

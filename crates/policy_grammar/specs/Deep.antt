@@ -1,6 +1,6 @@
 -- How many brackets are open at once.
 use Rattle.std.specs.Prelude.{ℕ, ◌+◌, ◌-◌, nat_le, Bool, false, List, [], ◌∷◌, length, Option, Some, None, Result, Ok, if◌then◌else◌}
-use Rattle.net_base.specs.declared.limits.TheConstants.{BRACKETS}
+use Rattle.policy_tokens.specs.declared.limits.TheConstants.{BRACKETS}
 use Rattle.net_base.specs.declared.place.Place.{Place}
 use Rattle.net_base.specs.Steps.{◌>>=◌}
 use Rattle.policy_tokens.specs.declared.fault.PolicyFault.{PolicyFault}

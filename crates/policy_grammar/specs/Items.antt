@@ -1,6 +1,6 @@
 -- Items.
 use Rattle.std.specs.Prelude.{ℕ, zero, suc, List, [], ◌∷◌, ◌++◌, length, Result, Ok, Err}
-use Rattle.net_base.specs.declared.limits.TheConstants.{BRACKETS}
+use Rattle.policy_tokens.specs.declared.limits.TheConstants.{BRACKETS}
 use Rattle.net_base.specs.Steps.{◌>>=◌}
 use Rattle.policy_tokens.specs.declared.fault.PolicyFault.{PolicyFault}
 use Rattle.policy_grammar.specs.declared.lexeme.Lexeme.{Lexeme}

@@ -1,12 +1,34 @@
 -- What tokens stand for.
-use Rattle.std.specs.Prelude.{ℕ, List, Option, Some, None, codes, if◌then◌else◌}
+use Rattle.std.specs.Prelude.{ℕ, ◌+◌, List, [], ◌∷◌, Option, Some, None, codes, if◌then◌else◌}
 use Rattle.std.specs.Str.{bytes_eq}
+use Rattle.policy_base.specs.declared.call.SetCall.{SetCall}
+use Rattle.policy_base.specs.declared.call.SetCall.TheVariants.{Avoid, Through, NoTransit, Start, End, Exit, Enter}
+use Rattle.policy_base.specs.declared.call.CallWord.{CallWord}
+use Rattle.policy_base.specs.declared.call.CallWord.TheVariants.{Any, Drop, Internal, Link, Path, Of}
+use Rattle.policy_base.specs.CallWords.{call_words, word_text}
 use Rattle.policy_tokens.specs.declared.token.TokenKind.{TokenKind}
 use Rattle.policy_tokens.specs.declared.token.TokenKind.TheVariants as kind
 use Rattle.policy_grammar.specs.declared.symbol.Symbol.{Symbol}
-use Rattle.policy_grammar.specs.declared.symbol.Symbol.TheVariants.{Define, Originate, At, From, True, Le, Or, And, Not, Any, Drop, Internal, Avoid, Through, NoTransit, Start, End, Link, Path, Exit, Enter, Name, Figure, Arrow, Above, Equals, BraceOpen, BraceClose, RoundOpen, RoundClose, Comma, Semicolon, EndOfText}
+use Rattle.policy_grammar.specs.declared.symbol.Symbol.TheVariants.{Define, Originate, At, From, True, Le, Or, And, Not, Call, Name, Figure, Arrow, Above, Equals, BraceOpen, BraceClose, RoundOpen, RoundClose, Comma, Semicolon, EndOfText}
 
--- each symbol has a number of its own
+abbrev pub set_number : SetCall → ℕ
+set_number Avoid = 0
+set_number Through = 1
+set_number NoTransit = 2
+set_number Start = 3
+set_number End = 4
+set_number Exit = 5
+set_number Enter = 6
+
+abbrev pub call_number : CallWord → ℕ
+call_number Any = 0
+call_number Drop = 1
+call_number Internal = 2
+call_number Link = 3
+call_number Path = 4
+call_number (Of c) = 5 + set_number c
+
+-- each symbol has a number of its own, and the end of the text the greatest
 abbrev pub number_of : Symbol → ℕ
 number_of Define = 0
 number_of Originate = 1
@@ -17,30 +39,19 @@ number_of Le = 5
 number_of Or = 6
 number_of And = 7
 number_of Not = 8
-number_of Any = 9
-number_of Drop = 10
-number_of Internal = 11
-number_of Avoid = 12
-number_of Through = 13
-number_of NoTransit = 14
-number_of Start = 15
-number_of End = 16
-number_of Link = 17
-number_of Path = 18
-number_of Exit = 19
-number_of Enter = 20
-number_of Name = 21
-number_of Figure = 22
-number_of Arrow = 23
-number_of Above = 24
-number_of Equals = 25
-number_of BraceOpen = 26
-number_of BraceClose = 27
-number_of RoundOpen = 28
-number_of RoundClose = 29
-number_of Comma = 30
-number_of Semicolon = 31
-number_of EndOfText = 32
+number_of Name = 9
+number_of Figure = 10
+number_of Arrow = 11
+number_of Above = 12
+number_of Equals = 13
+number_of BraceOpen = 14
+number_of BraceClose = 15
+number_of RoundOpen = 16
+number_of RoundClose = 17
+number_of Comma = 18
+number_of Semicolon = 19
+number_of (Call w) = 20 + call_number w
+number_of EndOfText = 255
 
 -- the words that items begin with or have between their parts
 unfoldable pub item_word : List ℕ → Option Symbol
@@ -61,27 +72,14 @@ operator bs =
     else (if bytes_eq bs (codes "not") then Some Not
     else None))
 
--- the calls that speak of a whole path
-unfoldable pub path_call : List ℕ → Option Symbol
-path_call bs =
-    if bytes_eq bs (codes "any") then Some Any
-    else (if bytes_eq bs (codes "drop") then Some Drop
-    else (if bytes_eq bs (codes "internal") then Some Internal
-    else (if bytes_eq bs (codes "avoid") then Some Avoid
-    else (if bytes_eq bs (codes "through") then Some Through
-    else (if bytes_eq bs (codes "notransit") then Some NoTransit
-    else None)))))
+-- the one of some words of calls that the bytes spell
+abbrev pub spelled_of : List CallWord → List ℕ → Option Symbol
+spelled_of [] bs = None
+spelled_of (w ∷ ws) bs = if bytes_eq bs (word_text w) then Some (Call w) else spelled_of ws bs
 
--- the calls that speak of places of a path
-unfoldable pub place_call : List ℕ → Option Symbol
-place_call bs =
-    if bytes_eq bs (codes "start") then Some Start
-    else (if bytes_eq bs (codes "end") then Some End
-    else (if bytes_eq bs (codes "link") then Some Link
-    else (if bytes_eq bs (codes "path") then Some Path
-    else (if bytes_eq bs (codes "exit") then Some Exit
-    else (if bytes_eq bs (codes "enter") then Some Enter
-    else None)))))
+-- the words of calls
+unfoldable pub call_word : List ℕ → Option Symbol
+call_word bs = spelled_of call_words bs
 
 abbrev or_else : Option Symbol → Symbol → Symbol
 or_else (Some s) other = s
@@ -89,7 +87,7 @@ or_else None other = other
 
 -- a word of the language, and otherwise a name
 unfoldable pub word_symbol : List ℕ → Symbol
-word_symbol bs = or_else (item_word bs) (or_else (operator bs) (or_else (path_call bs) (or_else (place_call bs) Name)))
+word_symbol bs = or_else (item_word bs) (or_else (operator bs) (or_else (call_word bs) Name))
 
 -- what a token of this kind and these bytes stands for
 abbrev pub symbol_of : TokenKind → List ℕ → Symbol

@@ -1,6 +1,6 @@
 //! How many brackets are open at once.
 ghost use Rattle.std.specs.Prelude.{◌≡◌, ◌≤◌, ◌<◌, ◌∷◌, ℕ, List, length, Ok, None, false, IfSome, IsTrue};
-ghost use Rattle.net_base.specs.declared.limits.TheConstants.{BRACKETS};
+ghost use Rattle.policy_tokens.specs.declared.limits.TheConstants.{BRACKETS};
 ghost use Rattle.policy_tokens.specs.Gives.{Gives};
 ghost use Rattle.policy_tokens.specs.Places.{first_place};
 ghost use Rattle.policy_tokens.specs.Tokens.{tokens_from};
@@ -9,7 +9,7 @@ ghost use Rattle.policy_grammar.specs.declared.lexeme.Lexeme.{Lexeme};
 ghost use Rattle.policy_grammar.specs.Symbols.{symbol_of};
 
 use net_base::Place;
-use net_base::limits::BRACKETS;
+use policy_tokens::limits::BRACKETS;
 use policy_tokens::{Next, Piece, PolicyFault, TokenKind, front, next_token};
 
 // The brackets of some tokens.

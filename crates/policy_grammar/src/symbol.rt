@@ -1,12 +1,13 @@
 //! What a token stands for in the grammar.
-ghost use Rattle.std.specs.Prelude.{◌≡◌, ◌∷◌};
+ghost use Rattle.std.specs.Prelude.{◌≡◌, ◌<◌, ◌∷◌};
 ghost use Rattle.std.specs.Str.{bytes_eq};
-ghost use Rattle.policy_grammar.specs.Symbols.{number_of, word_symbol as word, symbol_of as symbol};
+ghost use Rattle.policy_grammar.specs.Symbols.{call_number as number_of_call, number_of, set_number as number_of_set, word_symbol as word, symbol_of as symbol};
 
+use policy_base::{CallWord, SetCall};
 use policy_tokens::TokenKind;
 
-/// What a token stands for in the grammar: a word of the language, a name, a figure or a sign. The end of the
-/// text has a symbol of its own.
+/// What a token stands for in the grammar: a word of the language, a name, a figure or a sign. The words of calls
+/// are those of `CallWord`; `any` also stands for a set. The end of the text has a symbol of its own.
 #[derive(Clone, Copy)]
 pub enum Symbol {
     Define,
@@ -18,18 +19,7 @@ pub enum Symbol {
     Or,
     And,
     Not,
-    Any,
-    Drop,
-    Internal,
-    Avoid,
-    Through,
-    NoTransit,
-    Start,
-    End,
-    Link,
-    Path,
-    Exit,
-    Enter,
+    Call(CallWord),
     Name,
     Figure,
     Arrow,
@@ -42,6 +32,37 @@ pub enum Symbol {
     Comma,
     Semicolon,
     EndOfText,
+}
+
+// The number of a call of one set among these calls.
+fn set_number(call: SetCall) -> u8
+    ensures number { result ≡ number_of_set call }
+    ensures small { result < 100 }
+{
+    match call {
+        SetCall::Avoid => 0,
+        SetCall::Through => 1,
+        SetCall::NoTransit => 2,
+        SetCall::Start => 3,
+        SetCall::End => 4,
+        SetCall::Exit => 5,
+        SetCall::Enter => 6,
+    }
+}
+
+// The number of a call among the calls.
+fn call_number(word: CallWord) -> u8
+    ensures number { result ≡ number_of_call word }
+    ensures small { result < 200 }
+{
+    match word {
+        CallWord::Any => 0,
+        CallWord::Drop => 1,
+        CallWord::Internal => 2,
+        CallWord::Link => 3,
+        CallWord::Path => 4,
+        CallWord::Of(call) => 5 + set_number(call),
+    }
 }
 
 impl Symbol {
@@ -59,30 +80,19 @@ impl Symbol {
             Symbol::Or => 6,
             Symbol::And => 7,
             Symbol::Not => 8,
-            Symbol::Any => 9,
-            Symbol::Drop => 10,
-            Symbol::Internal => 11,
-            Symbol::Avoid => 12,
-            Symbol::Through => 13,
-            Symbol::NoTransit => 14,
-            Symbol::Start => 15,
-            Symbol::End => 16,
-            Symbol::Link => 17,
-            Symbol::Path => 18,
-            Symbol::Exit => 19,
-            Symbol::Enter => 20,
-            Symbol::Name => 21,
-            Symbol::Figure => 22,
-            Symbol::Arrow => 23,
-            Symbol::Above => 24,
-            Symbol::Equals => 25,
-            Symbol::BraceOpen => 26,
-            Symbol::BraceClose => 27,
-            Symbol::RoundOpen => 28,
-            Symbol::RoundClose => 29,
-            Symbol::Comma => 30,
-            Symbol::Semicolon => 31,
-            Symbol::EndOfText => 32,
+            Symbol::Name => 9,
+            Symbol::Figure => 10,
+            Symbol::Arrow => 11,
+            Symbol::Above => 12,
+            Symbol::Equals => 13,
+            Symbol::BraceOpen => 14,
+            Symbol::BraceClose => 15,
+            Symbol::RoundOpen => 16,
+            Symbol::RoundClose => 17,
+            Symbol::Comma => 18,
+            Symbol::Semicolon => 19,
+            Symbol::Call(word) => 20 + call_number(word),
+            Symbol::EndOfText => 255,
         }
     }
 }
@@ -107,7 +117,7 @@ fn spells(bytes: &[u8], word: &str) -> bool
 }
 
 // A word that begins with `a`, from its second byte on.
-#[tactic(auto, unfolding(crate::specs::Symbols::word_symbol, crate::specs::Symbols::item_word, crate::specs::Symbols::operator, crate::specs::Symbols::path_call, crate::specs::Symbols::place_call))]
+#[tactic(auto, unfolding(crate::specs::Symbols::word_symbol, crate::specs::Symbols::item_word, crate::specs::Symbols::operator, crate::specs::Symbols::call_word))]
 fn a_word(rest: &[u8]) -> Symbol
     ensures { result ≡ word (97 ∷ rest.now) }
 {
@@ -116,74 +126,74 @@ fn a_word(rest: &[u8]) -> Symbol
     } else if spells(rest, "nd") {
         Symbol::And
     } else if spells(rest, "ny") {
-        Symbol::Any
+        Symbol::Call(CallWord::Any)
     } else if spells(rest, "void") {
-        Symbol::Avoid
+        Symbol::Call(CallWord::Of(SetCall::Avoid))
     } else {
         Symbol::Name
     }
 }
 
 // A word that begins with `d`, from its second byte on.
-#[tactic(auto, unfolding(crate::specs::Symbols::word_symbol, crate::specs::Symbols::item_word, crate::specs::Symbols::operator, crate::specs::Symbols::path_call, crate::specs::Symbols::place_call))]
+#[tactic(auto, unfolding(crate::specs::Symbols::word_symbol, crate::specs::Symbols::item_word, crate::specs::Symbols::operator, crate::specs::Symbols::call_word))]
 fn d_word(rest: &[u8]) -> Symbol
     ensures { result ≡ word (100 ∷ rest.now) }
 {
     if spells(rest, "efine") {
         Symbol::Define
     } else if spells(rest, "rop") {
-        Symbol::Drop
+        Symbol::Call(CallWord::Drop)
     } else {
         Symbol::Name
     }
 }
 
 // A word that begins with `e`, from its second byte on.
-#[tactic(auto, unfolding(crate::specs::Symbols::word_symbol, crate::specs::Symbols::item_word, crate::specs::Symbols::operator, crate::specs::Symbols::path_call, crate::specs::Symbols::place_call))]
+#[tactic(auto, unfolding(crate::specs::Symbols::word_symbol, crate::specs::Symbols::item_word, crate::specs::Symbols::operator, crate::specs::Symbols::call_word))]
 fn e_word(rest: &[u8]) -> Symbol
     ensures { result ≡ word (101 ∷ rest.now) }
 {
     if spells(rest, "nd") {
-        Symbol::End
+        Symbol::Call(CallWord::Of(SetCall::End))
     } else if spells(rest, "xit") {
-        Symbol::Exit
+        Symbol::Call(CallWord::Of(SetCall::Exit))
     } else if spells(rest, "nter") {
-        Symbol::Enter
+        Symbol::Call(CallWord::Of(SetCall::Enter))
     } else {
         Symbol::Name
     }
 }
 
 // A word that begins with `l`, from its second byte on.
-#[tactic(auto, unfolding(crate::specs::Symbols::word_symbol, crate::specs::Symbols::item_word, crate::specs::Symbols::operator, crate::specs::Symbols::path_call, crate::specs::Symbols::place_call))]
+#[tactic(auto, unfolding(crate::specs::Symbols::word_symbol, crate::specs::Symbols::item_word, crate::specs::Symbols::operator, crate::specs::Symbols::call_word))]
 fn l_word(rest: &[u8]) -> Symbol
     ensures { result ≡ word (108 ∷ rest.now) }
 {
     if spells(rest, "e") {
         Symbol::Le
     } else if spells(rest, "ink") {
-        Symbol::Link
+        Symbol::Call(CallWord::Link)
     } else {
         Symbol::Name
     }
 }
 
 // A word that begins with `n`, from its second byte on.
-#[tactic(auto, unfolding(crate::specs::Symbols::word_symbol, crate::specs::Symbols::item_word, crate::specs::Symbols::operator, crate::specs::Symbols::path_call, crate::specs::Symbols::place_call))]
+#[tactic(auto, unfolding(crate::specs::Symbols::word_symbol, crate::specs::Symbols::item_word, crate::specs::Symbols::operator, crate::specs::Symbols::call_word))]
 fn n_word(rest: &[u8]) -> Symbol
     ensures { result ≡ word (110 ∷ rest.now) }
 {
     if spells(rest, "ot") {
         Symbol::Not
     } else if spells(rest, "otransit") {
-        Symbol::NoTransit
+        Symbol::Call(CallWord::Of(SetCall::NoTransit))
     } else {
         Symbol::Name
     }
 }
 
 // A word that begins with `o`, from its second byte on.
-#[tactic(auto, unfolding(crate::specs::Symbols::word_symbol, crate::specs::Symbols::item_word, crate::specs::Symbols::operator, crate::specs::Symbols::path_call, crate::specs::Symbols::place_call))]
+#[tactic(auto, unfolding(crate::specs::Symbols::word_symbol, crate::specs::Symbols::item_word, crate::specs::Symbols::operator, crate::specs::Symbols::call_word))]
 fn o_word(rest: &[u8]) -> Symbol
     ensures { result ≡ word (111 ∷ rest.now) }
 {
@@ -197,21 +207,21 @@ fn o_word(rest: &[u8]) -> Symbol
 }
 
 // A word that begins with `t`, from its second byte on.
-#[tactic(auto, unfolding(crate::specs::Symbols::word_symbol, crate::specs::Symbols::item_word, crate::specs::Symbols::operator, crate::specs::Symbols::path_call, crate::specs::Symbols::place_call))]
+#[tactic(auto, unfolding(crate::specs::Symbols::word_symbol, crate::specs::Symbols::item_word, crate::specs::Symbols::operator, crate::specs::Symbols::call_word))]
 fn t_word(rest: &[u8]) -> Symbol
     ensures { result ≡ word (116 ∷ rest.now) }
 {
     if spells(rest, "rue") {
         Symbol::True
     } else if spells(rest, "hrough") {
-        Symbol::Through
+        Symbol::Call(CallWord::Of(SetCall::Through))
     } else {
         Symbol::Name
     }
 }
 
 // A word that begins with `f`, from its second byte on.
-#[tactic(auto, unfolding(crate::specs::Symbols::word_symbol, crate::specs::Symbols::item_word, crate::specs::Symbols::operator, crate::specs::Symbols::path_call, crate::specs::Symbols::place_call))]
+#[tactic(auto, unfolding(crate::specs::Symbols::word_symbol, crate::specs::Symbols::item_word, crate::specs::Symbols::operator, crate::specs::Symbols::call_word))]
 fn f_word(rest: &[u8]) -> Symbol
     ensures { result ≡ word (102 ∷ rest.now) }
 {
@@ -223,43 +233,43 @@ fn f_word(rest: &[u8]) -> Symbol
 }
 
 // A word that begins with `i`, from its second byte on.
-#[tactic(auto, unfolding(crate::specs::Symbols::word_symbol, crate::specs::Symbols::item_word, crate::specs::Symbols::operator, crate::specs::Symbols::path_call, crate::specs::Symbols::place_call))]
+#[tactic(auto, unfolding(crate::specs::Symbols::word_symbol, crate::specs::Symbols::item_word, crate::specs::Symbols::operator, crate::specs::Symbols::call_word))]
 fn i_word(rest: &[u8]) -> Symbol
     ensures { result ≡ word (105 ∷ rest.now) }
 {
     if spells(rest, "nternal") {
-        Symbol::Internal
+        Symbol::Call(CallWord::Internal)
     } else {
         Symbol::Name
     }
 }
 
 // A word that begins with `p`, from its second byte on.
-#[tactic(auto, unfolding(crate::specs::Symbols::word_symbol, crate::specs::Symbols::item_word, crate::specs::Symbols::operator, crate::specs::Symbols::path_call, crate::specs::Symbols::place_call))]
+#[tactic(auto, unfolding(crate::specs::Symbols::word_symbol, crate::specs::Symbols::item_word, crate::specs::Symbols::operator, crate::specs::Symbols::call_word))]
 fn p_word(rest: &[u8]) -> Symbol
     ensures { result ≡ word (112 ∷ rest.now) }
 {
     if spells(rest, "ath") {
-        Symbol::Path
+        Symbol::Call(CallWord::Path)
     } else {
         Symbol::Name
     }
 }
 
 // A word that begins with `s`, from its second byte on.
-#[tactic(auto, unfolding(crate::specs::Symbols::word_symbol, crate::specs::Symbols::item_word, crate::specs::Symbols::operator, crate::specs::Symbols::path_call, crate::specs::Symbols::place_call))]
+#[tactic(auto, unfolding(crate::specs::Symbols::word_symbol, crate::specs::Symbols::item_word, crate::specs::Symbols::operator, crate::specs::Symbols::call_word))]
 fn s_word(rest: &[u8]) -> Symbol
     ensures { result ≡ word (115 ∷ rest.now) }
 {
     if spells(rest, "tart") {
-        Symbol::Start
+        Symbol::Call(CallWord::Of(SetCall::Start))
     } else {
         Symbol::Name
     }
 }
 
 // A word of the language, or a name.
-#[tactic(auto, unfolding(crate::specs::Symbols::word_symbol, crate::specs::Symbols::item_word, crate::specs::Symbols::operator, crate::specs::Symbols::path_call, crate::specs::Symbols::place_call))]
+#[tactic(auto, unfolding(crate::specs::Symbols::word_symbol, crate::specs::Symbols::item_word, crate::specs::Symbols::operator, crate::specs::Symbols::call_word))]
 fn word_symbol(bytes: &[u8]) -> Symbol
     ensures { result ≡ word bytes.now }
 {

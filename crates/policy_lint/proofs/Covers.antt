@@ -5,8 +5,8 @@ use Rattle.std.specs.List.{flat_map}
 use Rattle.std.proofs.lemmas.Bool.{cases_Bool, false≢true}
 use Rattle.std.proofs.lemmas.Option.{none-some, same_Some}
 use Rattle.net_base.specs.Prefixes.{PlainPrefix, PlainPattern}
-use Rattle.path_words.specs.Governing.{governing_from, some_contains}
-use Rattle.path_words.specs.Policies.{PlainPolicy, PlainStatement}
+use Rattle.policy_base.specs.Governing.{governing_from, some_contains}
+use Rattle.policy_base.specs.Policies.{PlainPolicy, PlainStatement}
 use Rattle.pattern_cover.specs.Statements.{IsCoveredAt}
 use Rattle.pattern_cover.proofs.Covering.{in_either, in_front, in_rest}
 use Rattle.policy_lint.specs.Findings.{IsCoveredStatement}

@@ -5,11 +5,10 @@ use Rattle.std.specs.List.{list_any}
 use Rattle.std.proofs.lemmas.Bool.{eq-eqb, eqb-true, false≢true, not-true, not_from_false, true≢false, false_from_ne_true}
 use Rattle.list_laws.proofs.Members.{list_any-from_IsIn, list_any_member}
 use Rattle.net_base.specs.Network.{PlainNet}
-use Rattle.path_words.specs.declared.case.Case.{Case}
-use Rattle.path_words.specs.Cases.{case_list}
-use Rattle.path_words.specs.Policies.{PlainPolicy, PlainStatement}
-use Rattle.evidence_base.specs.Made.{statement_at}
-use Rattle.case_law.specs.Cases.{IsCase}
+use Rattle.policy_base.specs.declared.case.Case.{Case}
+use Rattle.policy_base.specs.Cases.{case_list}
+use Rattle.policy_base.specs.Policies.{PlainPolicy, PlainStatement, statement_at}
+use Rattle.policy_base.specs.CaseNumbers.{IsCase}
 use Rattle.policy_lint.specs.Findings.{IsIdle}
 
 -- some case has the statement

@@ -3,8 +3,8 @@ use Rattle.std.proofs.Common.{◌≡◌, ℕ, List, Result, Ok, Err, refl, sym, 
 use Rattle.std.specs.Prelude.{◌≢◌}
 use Rattle.net_base.proofs.StepLemmas.{bind_ok, ok_not_err}
 use Rattle.net_base.specs.Network.{PlainNet}
-use Rattle.path_words.specs.Policies.{PlainPolicy}
-use Rattle.policy_law.proofs.ReadPolicies.{is_built}
+use Rattle.policy_base.specs.Policies.{PlainPolicy}
+use Rattle.policy_parser.proofs.FittingPolicies.{is_built}
 use Rattle.policy_parser.specs.Spelled.{items_spelled, spelled}
 use Rattle.policy_tokens.specs.declared.token.Token.{Token}
 use Rattle.policy_tokens.specs.Tokens.{tokens_of}

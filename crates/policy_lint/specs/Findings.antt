@@ -4,12 +4,11 @@ use Rattle.std.specs.List.{range_with_len}
 use Rattle.list_laws.specs.Members.{IsIn}
 use Rattle.net_base.specs.Network.{PlainNet}
 use Rattle.net_base.specs.Prefixes.{PlainPrefix, IsPrefix}
-use Rattle.path_words.specs.declared.case.Case.{Case}
-use Rattle.path_words.specs.Cases.{case_list}
-use Rattle.path_words.specs.Governing.{governing, some_contains}
-use Rattle.path_words.specs.Meaning.{alternative_count}
-use Rattle.path_words.specs.Policies.{PlainPolicy, PlainStatement}
-use Rattle.evidence_base.specs.Made.{statement_at}
+use Rattle.policy_base.specs.declared.case.Case.{Case}
+use Rattle.policy_base.specs.Cases.{case_list}
+use Rattle.policy_base.specs.Governing.{governing, some_contains}
+use Rattle.policy_base.specs.Meaning.{alternative_count}
+use Rattle.policy_base.specs.Policies.{PlainPolicy, PlainStatement, statement_at}
 use Rattle.policy_tokens.specs.declared.token.Token.{Token}
 use Rattle.policy_tokens.specs.Tokens.{tokens_of}
 use Rattle.case_ranks.specs.Reached.{IsReached}

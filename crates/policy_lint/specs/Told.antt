@@ -1,7 +1,7 @@
 -- What is told of statements and alternatives, by marks.
 use Rattle.std.specs.Prelude.{ℕ, ◌+◌, ◌-◌, Bool, false, not, List, [], ◌∷◌, ◌++◌, length, map, filter, slice_index_or, if◌then◌else◌}
-use Rattle.path_words.specs.Meaning.{alternative_count}
-use Rattle.path_words.specs.Policies.{PlainStatement}
+use Rattle.policy_base.specs.Meaning.{alternative_count}
+use Rattle.policy_base.specs.Policies.{PlainStatement}
 use Rattle.bit_rows.specs.Tables.{PlainRows, has_at}
 use Rattle.policy_lint.specs.declared.finding.Finding.{Finding}
 use Rattle.policy_lint.specs.declared.finding.Finding.TheVariants.{Covered, Idle, Unreached}

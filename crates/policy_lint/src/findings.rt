@@ -1,6 +1,6 @@
 //! The findings of a policy and its text.
 ghost use Rattle.std.specs.Prelude.{◌≡◌, ◌<◌, List as Items, Ok, IfErr, IfOk, OnOk, length};
-ghost use Rattle.path_words.specs.Policies.{policy_of};
+ghost use Rattle.policy_base.specs.Policies.{policy_of};
 ghost use Rattle.policy_tokens.specs.declared.token.Token.{Token as PlainToken};
 ghost use Rattle.policy_tokens.specs.Tokens.{tokens_of};
 ghost use Rattle.policy_parser.specs.Spelled.{spelled};
@@ -13,8 +13,8 @@ use crate::statements::{push_covered, push_idle, push_unreached, statements_with
 use case_ranks::{LintRefusal, reached_ranks};
 use net_base::{Net, known_net};
 use outside::NoMemory;
-use path_words::{Policy, cases, known_policy};
 use pattern_cover::covered_statements;
+use policy_base::{Policy, cases, known_policy};
 use policy_tokens::{PolicyFault, Token, tokens};
 use std::alloc::Global;
 

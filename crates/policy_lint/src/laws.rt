@@ -1,7 +1,7 @@
 //! Laws of findings, each the contract of a function without a body.
 ghost use Rattle.std.specs.Prelude.{◌≡◌, ℕ, List};
 ghost use Rattle.net_base.specs.Network.{PlainNet};
-ghost use Rattle.path_words.specs.Policies.{PlainPolicy};
+ghost use Rattle.policy_base.specs.Policies.{PlainPolicy};
 ghost use Rattle.policy_lint.specs.declared.finding.Finding.{Finding};
 ghost use Rattle.policy_lint.specs.Findings.{AreFindings};
 

@@ -1,15 +1,15 @@
 //! What is found of statements and of their alternatives.
 ghost use Rattle.std.specs.Prelude.{◌≡◌, ◌++◌, [], ◌+◌, ◌==◌, ◌<◌, ◌≤◌, ℕ, length, map, Some, true, IsTrue, IfOk, OnOk, slice_get, if◌then◌else◌};
 ghost use Rattle.std.specs.List.{list_any};
-ghost use Rattle.net_base.specs.declared.limits.TheConstants.{ALTERNATIVES};
-ghost use Rattle.path_words.specs.declared.case.Case.{Case as PlainCase};
-ghost use Rattle.path_words.specs.Meaning.{alternative_count};
-ghost use Rattle.path_words.specs.Policies.{PlainStatement, plain_statement, ranking_of};
+ghost use Rattle.policy_base.specs.declared.limits.TheConstants.{ALTERNATIVES};
+ghost use Rattle.policy_base.specs.declared.case.Case.{Case as PlainCase};
+ghost use Rattle.policy_base.specs.Meaning.{alternative_count};
+ghost use Rattle.policy_base.specs.Policies.{PlainStatement, plain_statement, ranking_of};
 ghost use Rattle.policy_lint.specs.Told.{marked, told_covered, told_from, told_idle, told_unreached};
 
 use crate::finding::{Finding, push_if};
 use bit_rows::Rows;
-use path_words::{Case, Ranked, Statement, alternatives};
+use policy_base::{Case, Ranked, Statement, alternatives};
 use std::alloc::{AllocError, Global};
 
 /// For each number of a statement, and for 0, whether a case has it.

@@ -2,7 +2,7 @@
 use Rattle.std.proofs.Common.{◌≡◌, List, [], ◌∷◌, ◌++◌, map, refl, ap, ap₂}
 use Rattle.policy_grammar.specs.declared.lexeme.Lexeme.{Lexeme}
 use Rattle.policy_grammar.specs.Raw.{Step, Step as step, Item, Item as item}
-use Rattle.grammar_laws.specs.Grammar.{IsRanked, IsChoice, IsJoint, IsUnit, IsAtom, IsItem, IsPolicy}
+use Rattle.grammar_law.specs.Grammar.{IsRanked, IsChoice, IsJoint, IsUnit, IsAtom, IsItem, IsPolicy}
 use Rattle.policy_meaning.specs.Trees.{ranked_tree, choice_tree, joint_tree, unit_tree, atom_tree, item_tree, policy_tree, postfix, item_of}
 
 joined : (a xs b ys : List Step) (s : Step) → a ≡ xs → b ≡ ys → a ++ b ++ s ∷ [] ≡ xs ++ ys ++ s ∷ []

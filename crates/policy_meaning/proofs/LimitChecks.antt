@@ -4,13 +4,13 @@ use Rattle.std.specs.Prelude.{⊤, nat_le}
 use Rattle.std.specs.List.{flat_map}
 use Rattle.std.proofs.lemmas.List.Sums.{sum_by-cons, sum_by-append}
 use Rattle.std.proofs.lemmas.List.Concat.{flat_map-append}
-use Rattle.net_base.specs.declared.place.Kind.{Kind}
-use Rattle.net_base.specs.declared.place.Kind.TheVariants as kind
+use Rattle.policy_tokens.specs.declared.kind.Kind.{Kind}
+use Rattle.policy_tokens.specs.declared.kind.Kind.TheVariants as kind
 use Rattle.net_base.specs.Steps.{◌>>=◌, unless}
 use Rattle.policy_tokens.specs.declared.fault.PolicyFault.{PolicyFault}
 use Rattle.policy_tokens.specs.declared.fault.PolicyFault.TheVariants.{TooMany}
-use Rattle.policy_grammar.specs.declared.call_word.CallWord.{CallWord}
-use Rattle.policy_grammar.specs.declared.call_word.CallWord.TheVariants as word
+use Rattle.policy_base.specs.declared.call.CallWord.{CallWord}
+use Rattle.policy_base.specs.declared.call.CallWord.TheVariants as word
 use Rattle.policy_grammar.specs.Raw.{Step, Step as step, Item}
 use Rattle.policy_rules.specs.Checks.{each}
 use Rattle.policy_rules.specs.Counts.{amount as item_amount, capped, within, items_within, call_amount, calls_within, word_places, places_within, paths_within}
@@ -112,15 +112,9 @@ call_places : (w : CallWord) (n : ℕ) → within kind.Places 256 (word_places w
 call_places word.Any n = refl
 call_places word.Drop n = refl
 call_places word.Internal n = refl
-call_places word.Avoid n = refl
-call_places word.Through n = refl
-call_places word.NoTransit n = refl
-call_places word.Start n = refl
-call_places word.End n = refl
 call_places word.Link n = refl
 call_places word.Path n = within_told kind.Places 256 n ∙ sym (told_end self (over kind.Places 256 n)) ∙ told_append self (over kind.Places 256 n) []
-call_places word.Exit n = refl
-call_places word.Enter n = refl
+call_places (word.Of c) n = refl
 
 places_in_turn : (a b : List Step) (s : Step) (xs ys : List ℕ) → places_within s ≡ Ok tt → each places_within a ≡ told self (long xs) → each places_within b ≡ told self (long ys) → each places_within (a ++ b ++ s ∷ []) ≡ told self (long (xs ++ ys))
 places_in_turn a b s xs ys silent p q =

@@ -11,7 +11,7 @@ use Rattle.net_base.specs.PrefixText.{prefix_spelled, length_number}
 use Rattle.policy_grammar.specs.declared.lexeme.Lexeme.{Lexeme}
 use Rattle.policy_grammar.specs.declared.symbol.Symbol.TheVariants as symbol
 use Rattle.policy_grammar.specs.Raw.{Item, RawCall, RawPattern, Step}
-use Rattle.grammar_laws.specs.Grammar.{IsName, IsNames, IsGroup, IsSet, IsOne, front_place, IsCall, IsRanked, IsChoice, IsJoint, IsUnit, IsAtom, IsPattern, IsPredicate, IsFrom, IsItem, IsPolicy}
+use Rattle.grammar_law.specs.Grammar.{IsName, IsNames, IsGroup, IsSet, IsOne, front_place, IsCall, IsRanked, IsChoice, IsJoint, IsUnit, IsAtom, IsPattern, IsPredicate, IsFrom, IsItem, IsPolicy}
 use Rattle.policy_rules.specs.Checks.{text}
 use Rattle.policy_meaning.specs.InOrder.{StandIn, PlacesInOrder}
 use Rattle.policy_meaning.specs.Trees.{Written, ranked_tree, choice_tree, joint_tree, unit_tree, atom_tree, policy_tree}
@@ -96,7 +96,7 @@ two_parts ps qs us vs a b w o c = StandIn.other (StandIn.other (then_none (stand
 
 call_found : (sense : Sense) → Found (λ (c : RawCall). flat_map (unknown_in_set sense) c.args) IsCall
 call_found sense x ts (IsCall.alone s i) = no_place ts
-call_found sense x ts (IsCall.sets {w = w} {o = o} {c = c} {x = y} {xs = ys} {ts = us} {us = vs} t i j a m k) =
+call_found sense x ts (IsCall.sets {w = w} {o = o} {c = c} {x = y} {xs = ys} {ts = us} {us = vs} i j a m k) =
     two_parts (unknown_in_set sense y) (flat_map (unknown_in_set sense) ys) us vs (set_found sense y us a) (more_found (unknown_in_set sense) symbol.Above IsSet (set_found sense) ys vs m) w o c
 call_found sense x ts (IsCall.link {w = w} {o = o} {m = m} {c = c} {x = y} {y = z} {ts = us} {us = vs} i j a k b e) =
     two_parts (unknown_in_set sense y) (unknown_in_set sense z ++ []) us (m ∷ vs) (one_found sense y us a) (StandIn.other (subst (StandIn (unknown_in_set sense z ++ [])) (append-nil vs) (stand_append (one_found sense z vs b) [] [] StandIn.none))) w o c
@@ -112,7 +112,7 @@ front_stands (l ∷ ls) = StandIn.here (no_place ls)
 
 call_ranks : Found (λ (c : RawCall). place_of c.above) IsCall
 call_ranks x ts (IsCall.alone s i) = no_place ts
-call_ranks x ts (IsCall.sets {w = w} {o = o} {c = c} {ts = us} {us = vs} t i j a m k) = two_parts [] (place_of (front_place vs)) us vs (no_place us) (front_stands vs) w o c
+call_ranks x ts (IsCall.sets {w = w} {o = o} {c = c} {ts = us} {us = vs} i j a m k) = two_parts [] (place_of (front_place vs)) us vs (no_place us) (front_stands vs) w o c
 call_ranks x ts (IsCall.link i j a k b e) = no_place ts
 call_ranks x ts (IsCall.path i j a k b others e) = no_place ts
 

@@ -5,7 +5,7 @@ use Rattle.net_base.specs.declared.place.Place.{Place}
 use Rattle.policy_grammar.specs.declared.lexeme.Lexeme.{Lexeme}
 use Rattle.policy_grammar.specs.declared.symbol.Symbol.{Symbol}
 use Rattle.policy_grammar.specs.Raw.{Item}
-use Rattle.grammar_laws.specs.Grammar.{Rule, IsMore, IsList, IsItem, IsPolicy}
+use Rattle.grammar_law.specs.Grammar.{Rule, IsMore, IsList, IsItem, IsPolicy}
 use Rattle.policy_meaning.specs.InOrder.{StandIn}
 use Rattle.policy_meaning.specs.Trees.{Written, item_tree, policy_tree}
 use Rattle.policy_meaning.specs.Senses.{item_by_item}

@@ -13,7 +13,7 @@ use Rattle.policy_grammar.specs.Raw.{Arg, Arg as arg, RawCall, Step, Step as ste
 use Rattle.net_base.specs.SetOperations.{union_of}
 use Rattle.policy_rules.specs.KnownNames.{Names, set_named}
 use Rattle.policy_rules.specs.Checks.{text, set_at, joined, set_of_names as set_read, each, name_known, arg_known, step_known}
-use Rattle.path_words.specs.Policies.{Ranking}
+use Rattle.policy_base.specs.Policies.{Ranking}
 use Rattle.policy_values.specs.Built.{set_of_arg, sets_of, call_of, top, all_behind, ranking_of_steps}
 use Rattle.policy_meaning.specs.Told.{told}
 use Rattle.policy_meaning.specs.Trees.{Expression, call, above, either, both, negated, postfix}

@@ -15,13 +15,13 @@ use Rattle.policy_grammar.specs.Raw.{Item}
 use Rattle.policy_grammar.specs.Lexemes.{lexeme_of, lexemes_of}
 use Rattle.policy_grammar.specs.Deep.{first_deep}
 use Rattle.policy_grammar.specs.Items.{items_of}
-use Rattle.grammar_laws.specs.Grammar.{IsPolicy}
+use Rattle.grammar_law.specs.Grammar.{IsPolicy}
 use Rattle.policy_rules.specs.KnownNames.{Names}
 use Rattle.policy_rules.specs.Checks.{each}
 use Rattle.policy_rules.specs.Figures.{figures_fine}
 use Rattle.policy_rules.specs.Ranks.{ranks_fine}
 use Rattle.policy_rules.specs.Origins.{origins_fine, once_from}
-use Rattle.path_words.specs.Policies.{PlainPolicy}
+use Rattle.policy_base.specs.Policies.{PlainPolicy}
 use Rattle.policy_parser.specs.Spelled.{none_at, items_spelled, names_spelled, rules_kept, policy_built, spelled}
 use Rattle.policy_meaning.specs.Told.{told}
 use Rattle.policy_meaning.specs.Trees.{Written, policy_tree, item_of}

@@ -12,11 +12,11 @@ use Rattle.policy_grammar.specs.declared.lexeme.Lexeme.{Lexeme}
 use Rattle.policy_grammar.specs.Raw.{Step, Item}
 use Rattle.policy_grammar.specs.Lexemes.{lexeme_of, lexemes_of}
 use Rattle.policy_grammar.specs.Deep.{first_deep}
-use Rattle.grammar_laws.specs.Grammar.{IsRanked, IsPolicy}
+use Rattle.grammar_law.specs.Grammar.{IsRanked, IsPolicy}
 use Rattle.policy_rules.specs.Checks.{text, all_learnt}
 use Rattle.policy_rules.specs.KnownNames.{Names, set_named, net_names}
 use Rattle.policy_rules.specs.Ranks.{broken_rank}
-use Rattle.path_words.specs.Policies.{PlainPolicy}
+use Rattle.policy_base.specs.Policies.{PlainPolicy}
 use Rattle.policy_values.specs.Built.{ranking_of_steps}
 use Rattle.policy_parser.specs.Spelled.{spelled}
 use Rattle.policy_meaning.specs.Told.{first, told}

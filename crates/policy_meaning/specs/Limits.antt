@@ -1,15 +1,16 @@
 -- How much a policy may have.
 use Rattle.std.specs.Prelude.{ℕ, ◌+◌, Bool, true, false, nat_le, sum_by, List, [], ◌∷◌, ◌++◌, length}
 use Rattle.std.specs.List.{flat_map}
-use Rattle.net_base.specs.declared.limits.TheConstants.{CALLS, DEFINITIONS, ORIGINS, PATTERNS, PLACES, PREFIXES, STATEMENTS}
-use Rattle.net_base.specs.declared.place.Kind.{Kind}
-use Rattle.net_base.specs.declared.place.Kind.TheVariants as kind
+use Rattle.policy_tokens.specs.declared.limits.TheConstants.{CALLS, DEFINITIONS, PLACES}
+use Rattle.policy_base.specs.declared.limits.TheConstants.{ORIGINS, PATTERNS, PREFIXES, STATEMENTS}
+use Rattle.policy_tokens.specs.declared.kind.Kind.{Kind}
+use Rattle.policy_tokens.specs.declared.kind.Kind.TheVariants as kind
 use Rattle.policy_tokens.specs.declared.fault.PolicyFault.{PolicyFault}
 use Rattle.policy_tokens.specs.declared.fault.PolicyFault.TheVariants.{TooMany}
-use Rattle.policy_grammar.specs.declared.call_word.CallWord.{CallWord}
-use Rattle.policy_grammar.specs.declared.call_word.CallWord.TheVariants.{Path}
+use Rattle.policy_base.specs.declared.call.CallWord.{CallWord}
+use Rattle.policy_base.specs.declared.call.CallWord.TheVariants.{Path}
 use Rattle.policy_rules.specs.Counts.{capped}
-use Rattle.path_words.specs.declared.policy.Origin.{Origin}
+use Rattle.policy_base.specs.declared.policy.Origin.{Origin}
 use Rattle.net_base.specs.SetOperations.{size_of}
 use Rattle.policy_meaning.specs.Trees.{Expression, call, above, either, both, negated, Written, define, originate, state}
 

@@ -6,7 +6,7 @@ use Rattle.net_base.specs.Network.{PlainNet}
 use Rattle.net_base.specs.Steps.{◌>>=◌}
 use Rattle.policy_tokens.specs.declared.fault.PolicyFault.{PolicyFault}
 use Rattle.policy_tokens.specs.declared.fault.PolicyFault.TheVariants.{Unknown, Twice, PrefixBad, RankUnder, OriginPeer, OriginTwice}
-use Rattle.path_words.specs.Policies.{PlainPolicy}
+use Rattle.policy_base.specs.Policies.{PlainPolicy}
 use Rattle.policy_meaning.specs.Told.{told}
 use Rattle.policy_meaning.specs.Trees.{Written}
 use Rattle.policy_meaning.specs.Senses.{below, sense_of, unknown_in_item, named_again, item_by_item}

@@ -3,7 +3,7 @@ use Rattle.std.specs.Prelude.{List, [], ◌∷◌, ◌++◌}
 use Rattle.net_base.specs.declared.place.Place.{Place}
 use Rattle.policy_grammar.specs.declared.lexeme.Lexeme.{Lexeme}
 use Rattle.policy_grammar.specs.Raw.{Arg, RawCall, RawPattern, Step, Step as step, Item, Item as item}
-use Rattle.grammar_laws.specs.Grammar.{IsRanked, IsChoice, IsJoint, IsUnit, IsAtom, IsItem, IsPolicy}
+use Rattle.grammar_law.specs.Grammar.{IsRanked, IsChoice, IsJoint, IsUnit, IsAtom, IsItem, IsPolicy}
 
 -- An expression: a call, `a >> b` with the place of its `>>`, `a or b`, `a and b`, `not a`.
 pub data Expression : Type 0 where

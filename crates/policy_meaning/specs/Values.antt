@@ -5,10 +5,10 @@ use Rattle.net_base.specs.declared.loc.LocSet.{LocSet}
 use Rattle.net_base.specs.Network.{PlainNet}
 use Rattle.net_base.specs.NetSets.{locations}
 use Rattle.policy_grammar.specs.Raw.{Arg, Arg as arg}
-use Rattle.path_words.specs.declared.policy.FromSet.{FromSet}
-use Rattle.path_words.specs.declared.policy.FromSet.TheVariants as from_set
-use Rattle.path_words.specs.declared.policy.Origin.{Origin}
-use Rattle.path_words.specs.Policies.{Ranking, prefer, either as one_of, both as all_of, negated as none_of, PlainStatement, PlainPolicy}
+use Rattle.policy_base.specs.declared.policy.FromSet.{FromSet}
+use Rattle.policy_base.specs.declared.policy.FromSet.TheVariants as from_set
+use Rattle.policy_base.specs.declared.policy.Origin.{Origin}
+use Rattle.policy_base.specs.Policies.{Ranking, prefer, either as one_of, both as all_of, negated as none_of, PlainStatement, PlainPolicy}
 use Rattle.policy_values.specs.Built.{call_of}
 use Rattle.policy_meaning.specs.Trees.{Expression, call, above, either, both, negated, Written, define, originate, state}
 use Rattle.policy_meaning.specs.Senses.{Sense, set_of_names}

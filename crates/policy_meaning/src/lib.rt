@@ -23,7 +23,7 @@ ghost use Rattle.policy_meaning.specs.Ranks.{ranks, ranks_under};
 ghost use Rattle.policy_meaning.specs.Meaning.{unknown_names, meaning};
 ghost use Rattle.policy_meaning.specs.Laws.{StepsAreTrees, ItemsAreTrees, FirstRankIsTold, NamesHaveTheirSense, ListsHoldTheirNames, ExpressionsHaveTheirValue, PlacesAreInOrder, TextsSpellTheirMeaning, SpelledPoliciesAreMeant};
 
-use grammar_laws::{every_policy_is_read, what_is_read_is_a_policy};
+use grammar_law::{every_policy_is_read, what_is_read_is_a_policy};
 use policy_tokens::PolicyFault;
 
 /// The expression that the grammar finds in some tokens is the one whose steps are read of them, and likewise the items.

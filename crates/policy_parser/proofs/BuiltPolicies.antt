@@ -7,8 +7,8 @@ use Rattle.std.proofs.lemmas.List.Sums.{sum_by-cons, sum_by-append}
 use Rattle.std.proofs.lemmas.Map.Keys.{IsDistinct-push}
 use Rattle.std.proofs.lemmas.Bool.{not-true}
 use Rattle.net_base.specs.Network.{PlainNet}
-use Rattle.net_base.specs.declared.place.Kind.{Kind}
-use Rattle.net_base.specs.declared.place.Kind.TheVariants as kind
+use Rattle.policy_tokens.specs.declared.kind.Kind.{Kind}
+use Rattle.policy_tokens.specs.declared.kind.Kind.TheVariants as kind
 use Rattle.net_base.specs.Prefixes.{PlainPrefix, PlainPattern, same_prefix}
 use Rattle.net_base.specs.Steps.{◌>>=◌, unless}
 use Rattle.policy_tokens.specs.declared.fault.PolicyFault.TheVariants.{OriginTwice, TooMany}
@@ -21,8 +21,8 @@ use Rattle.policy_rules.specs.Figures.{prefix_at, pattern_at, figures_fine}
 use Rattle.policy_rules.specs.Ranks.{ranks_fine}
 use Rattle.policy_rules.specs.Origins.{once_from, origins_fine}
 use Rattle.policy_rules.specs.Counts.{amount, counted, capped, within, items_within}
-use Rattle.path_words.specs.declared.policy.Origin.{Origin}
-use Rattle.path_words.specs.Policies.{PlainStatement, IsPolicy}
+use Rattle.policy_base.specs.declared.policy.Origin.{Origin}
+use Rattle.policy_base.specs.Policies.{PlainStatement, IsPolicy}
 use Rattle.policy_values.specs.Built.{patterns_of, ranking_of_steps, from_of, statement_of, statements_of, origin_of, origins_of}
 use Rattle.policy_parser.specs.Spelled.{rules_kept, origins_spelled, pairs}
 use Rattle.net_base.proofs.StepLemmas.{bind_ok, unless_ok}

@@ -5,7 +5,7 @@ use Rattle.std.specs.List.{AllByRecursion}
 use Rattle.std.proofs.lemmas.List.Sums.{sum_by-cons, sum_by-append}
 use Rattle.list_laws.proofs.Each.{AllByRecursion-push}
 use Rattle.net_base.specs.declared.loc.LocSet.{LocSet}
-use Rattle.net_base.specs.declared.place.Kind.TheVariants as kind
+use Rattle.policy_tokens.specs.declared.kind.Kind.TheVariants as kind
 use Rattle.net_base.specs.Network.{PlainNet}
 use Rattle.net_base.specs.Steps.{◌>>=◌}
 use Rattle.net_base.proofs.StepLemmas.{bind_ok, ok_same}
@@ -14,8 +14,9 @@ use Rattle.policy_tokens.specs.declared.fault.PolicyFault.TheVariants.{Deep}
 use Rattle.policy_tokens.specs.Gives.{Gives}
 use Rattle.policy_tokens.specs.Places.{place_of}
 use Rattle.policy_tokens.specs.Tokens.{tokens_of}
-use Rattle.policy_grammar.specs.declared.call_word.CallWord.{CallWord}
-use Rattle.policy_grammar.specs.declared.call_word.CallWord.TheVariants as word
+use Rattle.policy_base.specs.declared.call.SetCall.{SetCall}
+use Rattle.policy_base.specs.declared.call.CallWord.{CallWord}
+use Rattle.policy_base.specs.declared.call.CallWord.TheVariants as word
 use Rattle.policy_grammar.specs.Raw.{RawStatement, Step, Step as step, Item}
 use Rattle.policy_grammar.specs.Raw.Item.{Define, Originate, State}
 use Rattle.policy_grammar.specs.Deep.{first_deep}
@@ -23,7 +24,7 @@ use Rattle.policy_grammar.specs.Lexemes.{lexemes_of}
 use Rattle.policy_rules.specs.Checks.{each}
 use Rattle.policy_rules.specs.Counts.{call_amount, calls_within, paths_within}
 use Rattle.policy_rules.specs.KnownNames.{Names}
-use Rattle.path_words.specs.Policies.{Ranking, prefer, either, both, negated, PlainStatement, PlainPolicy}
+use Rattle.policy_base.specs.Policies.{Ranking, prefer, either, both, negated, PlainStatement, PlainPolicy}
 use Rattle.policy_values.specs.Built.{sets_of, ranked_sets, call_of, top, behind, all_behind, ranking_of_steps, patterns_of, from_of, statement_of, statements_of}
 use Rattle.policy_parser.specs.Spelled.{none_at, items_spelled, origins_spelled, policy_built}
 use Rattle.policy_parser.specs.Depth.{depth, IsAtMostDeep}
@@ -33,10 +34,10 @@ use Rattle.policy_parser.proofs.NestedSteps.{HasTwoSides, IsNested, HasNestedSte
 abbrev calls_in : List Step → ℕ
 calls_in xs = sum_by call_amount xs
 
-sets_depth : (w : CallWord) (sets : List LocSet) → depth (ranked_sets w sets) ≡ 1
-sets_depth w [] = refl
-sets_depth w (s ∷ []) = refl
-sets_depth w (s ∷ t ∷ sets) = refl
+sets_depth : (c : SetCall) (sets : List LocSet) → depth (ranked_sets c sets) ≡ 1
+sets_depth c [] = refl
+sets_depth c (s ∷ []) = refl
+sets_depth c (s ∷ t ∷ sets) = refl
 
 call_depth : (w : CallWord) (sets : List LocSet) → depth (call_of w sets) ≡ 1
 call_depth word.Any sets = refl
@@ -44,13 +45,7 @@ call_depth word.Drop sets = refl
 call_depth word.Internal sets = refl
 call_depth word.Link sets = refl
 call_depth word.Path sets = refl
-call_depth word.Avoid sets = sets_depth word.Avoid sets
-call_depth word.Through sets = sets_depth word.Through sets
-call_depth word.NoTransit sets = sets_depth word.NoTransit sets
-call_depth word.Start sets = sets_depth word.Start sets
-call_depth word.End sets = sets_depth word.End sets
-call_depth word.Exit sets = sets_depth word.Exit sets
-call_depth word.Enter sets = sets_depth word.Enter sets
+call_depth (word.Of c) sets = sets_depth c sets
 
 -- an expression on top of a stack that is no deeper than its calls and so many `not` allow
 pub record IsOnTop (n calls : ℕ) (rs out : List Ranking) : Type 0 where

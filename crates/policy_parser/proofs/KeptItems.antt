@@ -13,8 +13,8 @@ use Rattle.policy_grammar.specs.Raw.Item.{Define, Originate, State}
 use Rattle.policy_rules.specs.KnownNames.{Names}
 use Rattle.policy_rules.specs.Checks.{set_at, joined, each, name_known, arg_known, step_known, learnt, all_learnt}
 use Rattle.policy_rules.specs.Origins.{routers_alone, origins_fine}
-use Rattle.path_words.specs.declared.policy.Origin.{Origin}
-use Rattle.path_words.specs.Policies.{Ranking, PlainStatement}
+use Rattle.policy_base.specs.declared.policy.Origin.{Origin}
+use Rattle.policy_base.specs.Policies.{Ranking, PlainStatement}
 use Rattle.policy_values.specs.Built.{set_of_arg, sets_of, behind, all_behind, ranking_of_steps, from_of, statement_of, statements_of, origin_of, origins_of}
 use Rattle.policy_parser.proofs.KeptNames.{Keeps, keeps_on, keeps_all_learnt, set_at_kept}
 

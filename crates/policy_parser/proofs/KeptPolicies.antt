@@ -11,7 +11,7 @@ use Rattle.policy_grammar.specs.Raw.Item.{Define, Originate, State}
 use Rattle.policy_rules.specs.KeptNames.{kept_set}
 use Rattle.policy_rules.specs.KnownNames.{Names, net_names, with_group}
 use Rattle.policy_rules.specs.Checks.{text}
-use Rattle.path_words.specs.Policies.{PlainPolicy}
+use Rattle.policy_base.specs.Policies.{PlainPolicy}
 use Rattle.policy_parser.specs.declared.values.OriginRead.{OriginRead}
 use Rattle.policy_parser.specs.declared.values.StatementRead.{StatementRead}
 use Rattle.policy_parser.specs.declared.values.ItemRead.{ItemRead}

@@ -18,3 +18,7 @@ pub mod SoFarItems
 pub mod ItemLoop
 pub mod TakenTexts
 pub mod ItemKinds
+pub mod FittingItems
+pub mod FittingRouters
+pub mod FittingPatterns
+pub mod FittingPolicies

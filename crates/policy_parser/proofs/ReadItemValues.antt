@@ -1,10 +1,10 @@
 -- Groups, origins and statements that are read with what they come to.
 use Rattle.std.proofs.Common.{◌≡◌, ℕ, List, [], Result, Ok, Err, refl, sym, ap}
-use Rattle.net_base.specs.declared.limits.TheConstants.{BRACKETS}
+use Rattle.policy_tokens.specs.declared.limits.TheConstants.{BRACKETS}
 use Rattle.net_base.specs.declared.loc.LocSet.{LocSet}
 use Rattle.net_base.specs.Network.{PlainNet}
 use Rattle.net_base.specs.Prefixes.{PlainPrefix}
-use Rattle.path_words.specs.declared.policy.FromSet.{FromSet}
+use Rattle.policy_base.specs.declared.policy.FromSet.{FromSet}
 use Rattle.policy_tokens.specs.declared.fault.PolicyFault.{PolicyFault}
 use Rattle.policy_grammar.specs.declared.lexeme.Lexeme.{Lexeme}
 use Rattle.policy_grammar.specs.declared.symbol.Symbol.TheVariants.{Name, Figure, Equals, At, Arrow, Semicolon}

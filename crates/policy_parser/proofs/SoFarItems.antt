@@ -10,7 +10,7 @@ use Rattle.policy_tokens.specs.Gives.{Gives}
 use Rattle.policy_grammar.specs.Raw.{Item}
 use Rattle.policy_rules.specs.KnownNames.{net_names}
 use Rattle.policy_rules.specs.KnownView.{plain_names}
-use Rattle.path_words.specs.Policies.{IsPolicy}
+use Rattle.policy_base.specs.Policies.{IsPolicy}
 use Rattle.policy_parser.specs.declared.told.Told.{Told}
 use Rattle.policy_parser.specs.declared.values.ItemRead.{ItemRead}
 use Rattle.policy_parser.specs.declared.verdicts.Kept.{Kept}

@@ -6,7 +6,7 @@ use Rattle.net_base.specs.Network.{PlainNet}
 use Rattle.net_base.specs.Prefixes.{PlainPrefix, IsPrefix}
 use Rattle.net_base.specs.PrefixText.{prefix_spelled}
 use Rattle.net_base.specs.declared.prefix_text.PrefixFault.{PrefixFault}
-use Rattle.net_base.specs.declared.place.Kind.TheVariants as kind
+use Rattle.policy_tokens.specs.declared.kind.Kind.TheVariants as kind
 use Rattle.net_base.proofs.PrefixLemmas.{prefix_spelled-IsPrefix}
 use Rattle.policy_grammar.specs.declared.lexeme.Lexeme.{Lexeme}
 use Rattle.policy_grammar.specs.Raw.{Item}
@@ -15,8 +15,8 @@ use Rattle.policy_rules.specs.Checks.{text, each}
 use Rattle.policy_rules.specs.Counts.{within, items_within, calls_within, paths_within}
 use Rattle.policy_rules.specs.Figures.{or_bad}
 use Rattle.policy_rules.specs.KnownNames.{Names}
-use Rattle.path_words.specs.declared.policy.Origin.{Origin}
-use Rattle.path_words.specs.Policies.{PlainPolicy}
+use Rattle.policy_base.specs.declared.policy.Origin.{Origin}
+use Rattle.policy_base.specs.Policies.{PlainPolicy}
 use Rattle.policy_values.specs.Built.{origin_of, origins_of, statements_of}
 use Rattle.policy_parser.specs.Spelled.{items_spelled, names_spelled, rules_kept, origins_spelled, policy_built, pairs, spelled}
 use Rattle.net_base.proofs.StepLemmas.{bind_ok}

@@ -1,14 +1,14 @@
 -- What a statement comes to, by its parts, is what the rules say of it.
 use Rattle.std.proofs.Common.{◌≡◌, ℕ, ◌≤◌, List, [], Result, Ok, refl, sym, ap, ◌∙◌, subst, leb-true, arith}
 use Rattle.std.specs.Prelude.{⊤}
-use Rattle.net_base.specs.declared.limits.TheConstants.{CALLS}
-use Rattle.net_base.specs.declared.place.Kind.TheVariants as kind
+use Rattle.policy_tokens.specs.declared.limits.TheConstants.{CALLS}
+use Rattle.policy_tokens.specs.declared.kind.Kind.TheVariants as kind
 use Rattle.net_base.specs.Network.{PlainNet}
 use Rattle.net_base.specs.Prefixes.{PlainPattern}
 use Rattle.net_base.specs.Steps.{◌>>=◌}
 use Rattle.net_base.proofs.StepLemmas.{bind_ok, unless_ok}
-use Rattle.path_words.specs.declared.policy.FromSet.{FromSet}
-use Rattle.path_words.specs.Policies.{Ranking, plain_statement}
+use Rattle.policy_base.specs.declared.policy.FromSet.{FromSet}
+use Rattle.policy_base.specs.Policies.{Ranking, plain_statement}
 use Rattle.policy_tokens.specs.declared.fault.PolicyFault.{PolicyFault}
 use Rattle.policy_tokens.specs.declared.fault.PolicyFault.TheVariants.{TooMany}
 use Rattle.policy_grammar.specs.Raw.{RawStatement}

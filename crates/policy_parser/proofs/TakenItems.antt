@@ -5,7 +5,7 @@ use Rattle.std.specs.List.{list_any}
 use Rattle.std.proofs.lemmas.List.Sums.{sum_by_push}
 use Rattle.net_base.specs.declared.loc.LocSet.{LocSet}
 use Rattle.net_base.specs.declared.place.Place.{Place}
-use Rattle.net_base.specs.declared.place.Kind.{Kind}
+use Rattle.policy_tokens.specs.declared.kind.Kind.{Kind}
 use Rattle.net_base.specs.Network.{PlainNet}
 use Rattle.net_base.specs.Prefixes.{PlainPrefix, same_prefix}
 use Rattle.net_base.specs.SetOperations.{union_of}
@@ -19,8 +19,8 @@ use Rattle.policy_rules.specs.KnownNames.{Names}
 use Rattle.policy_rules.specs.Checks.{set_at, joined, each, name_known, learnt, all_learnt}
 use Rattle.policy_rules.specs.Counts.{amount, capped, counted}
 use Rattle.policy_rules.specs.Origins.{once_from}
-use Rattle.path_words.specs.declared.policy.Origin.{Origin}
-use Rattle.path_words.specs.Policies.{PlainStatement}
+use Rattle.policy_base.specs.declared.policy.Origin.{Origin}
+use Rattle.policy_base.specs.Policies.{PlainStatement}
 use Rattle.policy_values.specs.Built.{origin_of, origins_of, statement_of, statements_of}
 use Rattle.policy_parser.specs.Told.{PlainOnce, with_one, with_prefix}
 

@@ -3,7 +3,7 @@ use Rattle.std.proofs.Common.{◌≡◌, ℕ, ◌≤◌, List, [], ◌∷◌, �
 use Rattle.std.specs.Prelude.{⊤, IfOk}
 use Rattle.std.proofs.lemmas.List.{append-nil}
 use Rattle.net_base.specs.declared.loc.LocSet.{LocSet}
-use Rattle.net_base.specs.declared.place.Kind.TheVariants as kind
+use Rattle.policy_tokens.specs.declared.kind.Kind.TheVariants as kind
 use Rattle.net_base.specs.Network.{PlainNet}
 use Rattle.net_base.specs.Prefixes.{PlainPrefix}
 use Rattle.net_base.specs.SetOperations.{no_location}
@@ -21,8 +21,8 @@ use Rattle.policy_rules.specs.Counts.{counted, within, items_within, calls_withi
 use Rattle.policy_rules.specs.Figures.{prefix_at, figures_fine}
 use Rattle.policy_rules.specs.Origins.{origins_fine, once_from}
 use Rattle.policy_rules.specs.Ranks.{ranks_fine}
-use Rattle.path_words.specs.declared.policy.Origin.{Origin}
-use Rattle.path_words.specs.Policies.{PlainPolicy, PlainStatement, IsPolicy}
+use Rattle.policy_base.specs.declared.policy.Origin.{Origin}
+use Rattle.policy_base.specs.Policies.{PlainPolicy, PlainStatement, IsPolicy}
 use Rattle.policy_values.specs.Built.{origin_of, origins_of, statements_of}
 use Rattle.policy_parser.specs.Depth.{IsAtMostDeep}
 use Rattle.policy_parser.specs.SoFar.{IsJudged, IsToldOf, IsKept}

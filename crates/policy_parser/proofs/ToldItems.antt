@@ -3,8 +3,8 @@ use Rattle.std.proofs.Common.{◌≡◌, ℕ, ◌+◌, List, [], ◌∷◌, ◌+
 use Rattle.std.specs.Prelude.{⊤}
 use Rattle.std.proofs.lemmas.List.Sums.{sum_by_push}
 use Rattle.net_base.specs.declared.loc.LocSet.{LocSet}
-use Rattle.net_base.specs.declared.place.Kind.{Kind}
-use Rattle.net_base.specs.declared.place.Kind.TheVariants as kind
+use Rattle.policy_tokens.specs.declared.kind.Kind.{Kind}
+use Rattle.policy_tokens.specs.declared.kind.Kind.TheVariants as kind
 use Rattle.net_base.specs.Network.{PlainNet}
 use Rattle.net_base.specs.SetOperations.{no_location, size_of}
 use Rattle.net_base.specs.Steps.{◌>>=◌}
@@ -19,7 +19,7 @@ use Rattle.policy_rules.specs.Counts.{amount, capped, counted, calls_within, pat
 use Rattle.policy_rules.specs.Figures.{prefix_at, figures_fine}
 use Rattle.policy_rules.specs.Origins.{has_peer, origins_fine, once_from}
 use Rattle.policy_rules.specs.Ranks.{ranks_fine}
-use Rattle.path_words.specs.declared.policy.Origin.{Origin}
+use Rattle.policy_base.specs.declared.policy.Origin.{Origin}
 use Rattle.policy_parser.specs.declared.values.OriginRead.{OriginRead}
 use Rattle.policy_parser.specs.declared.values.StatementRead.{StatementRead}
 use Rattle.policy_parser.specs.declared.values.ItemRead.{ItemRead}

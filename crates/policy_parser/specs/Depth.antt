@@ -1,7 +1,7 @@
 -- How deep the expressions of a policy are.
 use Rattle.std.specs.Prelude.{ℕ, ◌+◌, ◌≤◌, max}
 use Rattle.std.specs.List.{AllByRecursion}
-use Rattle.path_words.specs.Policies.{Ranking, call, calls, prefer, either, both, negated, PlainStatement, PlainPolicy}
+use Rattle.policy_base.specs.Policies.{Ranking, call, calls, prefer, either, both, negated, PlainStatement, PlainPolicy}
 
 -- The depth of an expression: a call has depth 1, and an operator stands one above the deeper of its sides.
 abbrev pub depth : Ranking → ℕ

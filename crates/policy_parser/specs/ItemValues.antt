@@ -1,9 +1,9 @@
 -- What is asked of that to which an item comes: each part of it is what one rule says of the item.
 use Rattle.std.specs.Prelude.{◌≡◌, ◌≢◌, ◌≤◌, ℕ, List, length, Result, Ok, Err}
-use Rattle.net_base.specs.declared.limits.TheConstants.{PATTERNS}
+use Rattle.policy_base.specs.declared.limits.TheConstants.{PATTERNS}
 use Rattle.net_base.specs.Network.{PlainNet}
 use Rattle.net_base.specs.Steps.{◌>>=◌}
-use Rattle.path_words.specs.Policies.{plain_statement}
+use Rattle.policy_base.specs.Policies.{plain_statement}
 use Rattle.policy_tokens.specs.declared.fault.PolicyFault.{PolicyFault}
 use Rattle.policy_tokens.specs.declared.fault.PolicyFault.TheVariants.{NoMemory}
 use Rattle.policy_grammar.specs.declared.lexeme.Lexeme.{Lexeme}

@@ -1,7 +1,8 @@
 -- What is asked of that which is told of the items of a text, and of the policy that is kept of them.
 use Rattle.std.specs.Prelude.{◌≡◌, ◌≢◌, ◌≤◌, ◌+◌, ℕ, length, List, [], ◌∷◌, ◌++◌, map, Result, Ok, Err}
-use Rattle.net_base.specs.declared.limits.TheConstants.{DEFINITIONS, LOCATIONS}
-use Rattle.net_base.specs.declared.place.Kind.TheVariants as kind
+use Rattle.policy_tokens.specs.declared.limits.TheConstants.{DEFINITIONS}
+use Rattle.net_base.specs.declared.limits.TheConstants.{LOCATIONS}
+use Rattle.policy_tokens.specs.declared.kind.Kind.TheVariants as kind
 use Rattle.net_base.specs.declared.loc.LocSet.{LocSet}
 use Rattle.net_base.specs.Network.{PlainNet, IsNet}
 use Rattle.net_base.specs.Prefixes.{PlainPrefix}
@@ -15,8 +16,8 @@ use Rattle.policy_rules.specs.Figures.{figures_fine}
 use Rattle.policy_rules.specs.Ranks.{ranks_fine}
 use Rattle.policy_rules.specs.Origins.{has_peer, origins_fine, once_from}
 use Rattle.policy_rules.specs.Counts.{counted, calls_within, paths_within}
-use Rattle.path_words.specs.declared.policy.Origin.{Origin}
-use Rattle.path_words.specs.Policies.{PlainPolicy, plain_statement}
+use Rattle.policy_base.specs.declared.policy.Origin.{Origin}
+use Rattle.policy_base.specs.Policies.{PlainPolicy, plain_statement}
 use Rattle.policy_parser.specs.declared.values.ItemRead.{ItemRead}
 use Rattle.policy_parser.specs.declared.values.ItemRead.TheVariants as read
 use Rattle.policy_parser.specs.declared.verdicts.Kept.{Kept}

@@ -1,8 +1,8 @@
 -- The policy that a text spells, or the rule that it breaks.
 use Rattle.std.specs.Prelude.{ℕ, List, [], length, sum_by, Option, Some, None, Result, Ok, Err, ⊤}
-use Rattle.net_base.specs.declared.limits.TheConstants.{ORIGINS}
+use Rattle.policy_base.specs.declared.limits.TheConstants.{ORIGINS}
 use Rattle.net_base.specs.declared.place.Place.{Place}
-use Rattle.net_base.specs.declared.place.Kind.TheVariants as kind
+use Rattle.policy_tokens.specs.declared.kind.Kind.TheVariants as kind
 use Rattle.net_base.specs.Network.{PlainNet}
 use Rattle.net_base.specs.Steps.{◌>>=◌}
 use Rattle.policy_tokens.specs.declared.fault.PolicyFault.{PolicyFault}
@@ -19,9 +19,9 @@ use Rattle.policy_rules.specs.Figures.{figures_fine}
 use Rattle.policy_rules.specs.Ranks.{ranks_fine}
 use Rattle.policy_rules.specs.Origins.{origins_fine, once_from}
 use Rattle.policy_rules.specs.Counts.{capped, within, items_within, calls_within, paths_within}
-use Rattle.path_words.specs.declared.policy.Origin.{Origin}
+use Rattle.policy_base.specs.declared.policy.Origin.{Origin}
 use Rattle.net_base.specs.SetOperations.{size_of}
-use Rattle.path_words.specs.Policies.{PlainPolicy}
+use Rattle.policy_base.specs.Policies.{PlainPolicy}
 use Rattle.policy_values.specs.Built.{origins_of, statements_of}
 
 -- this fault at the place, if there is one

@@ -1,9 +1,10 @@
 -- What is told of the items of a text that were read up to a place, without where it lies in memory.
 use Rattle.std.specs.Prelude.{ℕ, ◌+◌, Bool, true, false, List, [], ◌∷◌, ◌++◌, Result, Ok, Err, ⊤}
 use Rattle.std.specs.List.{list_any}
-use Rattle.net_base.specs.declared.limits.TheConstants.{DEFINITIONS, ORIGINS, PATTERNS, PREFIXES, STATEMENTS}
+use Rattle.policy_tokens.specs.declared.limits.TheConstants.{DEFINITIONS}
+use Rattle.policy_base.specs.declared.limits.TheConstants.{ORIGINS, PATTERNS, PREFIXES, STATEMENTS}
 use Rattle.net_base.specs.declared.loc.LocSet.{LocSet}
-use Rattle.net_base.specs.declared.place.Kind.TheVariants as kind
+use Rattle.policy_tokens.specs.declared.kind.Kind.TheVariants as kind
 use Rattle.net_base.specs.declared.place.Place.{Place}
 use Rattle.net_base.specs.Network.{PlainNet}
 use Rattle.net_base.specs.Prefixes.{PlainPrefix, same_prefix}

@@ -17,12 +17,12 @@ ghost use Rattle.policy_values.specs.Reads.{over};
 
 use crate::group_items::{define, originate};
 use crate::values::{ItemRead, StatementRead};
-use net_base::limits::CALLS;
-use net_base::{Kind, List, LocSet};
-use path_words::{FromSet, Statement};
+use net_base::{List, LocSet};
+use policy_base::{CallWord, FromSet, Statement};
 use policy_grammar::{Lexeme, Symbol, passed, past};
 use policy_rules::{Known, within};
-use policy_tokens::PolicyFault;
+use policy_tokens::limits::CALLS;
+use policy_tokens::{Kind, PolicyFault};
 use policy_values::{Parts, PatternsRead, Whole, names, predicate, ranked};
 use std::alloc::Global;
 
@@ -45,7 +45,7 @@ fn from(
     ensures stands { StandsIn text.now at.new }
     ensures fewer { length (left text.now at.new) ≤ length (left text.now at.old) }
 {
-    if !past(Symbol::From, text, at) || past(Symbol::Any, text, at) {
+    if !past(Symbol::From, text, at) || past(Symbol::Call(CallWord::Any), text, at) {
         return Ok(Ok(FromSet::Any));
     }
     let set = names(text, known, at)?;

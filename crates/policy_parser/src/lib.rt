@@ -1,6 +1,7 @@
 //! Reading the policy language.
 #![tactic(auto)]
 
+mod fitting;
 mod group_items;
 mod item_values;
 mod once;
@@ -9,5 +10,6 @@ mod told;
 mod values;
 mod verdicts;
 
+pub use fitting::policies_that_are_read_fit;
 pub use policy_tokens::{PolicyFault, Token, TokenKind, tokens};
 pub use read::read_policy;

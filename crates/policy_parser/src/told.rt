@@ -8,11 +8,12 @@ ghost use Rattle.policy_parser.specs.Told.{plain_told, nothing_told, first_told,
 
 use crate::once::Once;
 use crate::values::{GroupRead, ItemRead, OriginRead, StatementRead};
-use net_base::limits::{DEFINITIONS, ORIGINS, PATTERNS, PREFIXES, STATEMENTS};
-use net_base::{Kind, LocSet, Net, Prefix};
+use net_base::{LocSet, Net, Prefix};
+use policy_base::limits::{ORIGINS, PATTERNS, PREFIXES, STATEMENTS};
 use policy_grammar::text_of;
 use policy_rules::{Known, within};
-use policy_tokens::PolicyFault;
+use policy_tokens::limits::DEFINITIONS;
+use policy_tokens::{Kind, PolicyFault};
 use std::alloc::Global;
 
 /// For each rule on an item by itself the first fault.

@@ -1,6 +1,6 @@
 //! What the items of a text come to as they are read, for a network and the names above them.
 use net_base::{LocSet, Place, Prefix};
-use path_words::Statement;
+use policy_base::Statement;
 use policy_grammar::Lexeme;
 use policy_tokens::PolicyFault;
 

@@ -1,13 +1,14 @@
 -- How much a policy may have.
 use Rattle.std.specs.Prelude.{ℕ, nat_le, min, sum_by, List, length, Result, Ok, ⊤}
-use Rattle.net_base.specs.declared.limits.TheConstants.{CALLS, DEFINITIONS, PATTERNS, PLACES, PREFIXES, STATEMENTS}
-use Rattle.net_base.specs.declared.place.Kind.{Kind}
-use Rattle.net_base.specs.declared.place.Kind.TheVariants as kind
+use Rattle.policy_tokens.specs.declared.limits.TheConstants.{CALLS, DEFINITIONS, PLACES}
+use Rattle.policy_base.specs.declared.limits.TheConstants.{PATTERNS, PREFIXES, STATEMENTS}
+use Rattle.policy_tokens.specs.declared.kind.Kind.{Kind}
+use Rattle.policy_tokens.specs.declared.kind.Kind.TheVariants as kind
 use Rattle.net_base.specs.Steps.{◌>>=◌, unless}
 use Rattle.policy_tokens.specs.declared.fault.PolicyFault.{PolicyFault}
 use Rattle.policy_tokens.specs.declared.fault.PolicyFault.TheVariants.{TooMany}
-use Rattle.policy_grammar.specs.declared.call_word.CallWord.{CallWord}
-use Rattle.policy_grammar.specs.declared.call_word.CallWord.TheVariants.{Path}
+use Rattle.policy_base.specs.declared.call.CallWord.{CallWord}
+use Rattle.policy_base.specs.declared.call.CallWord.TheVariants.{Path}
 use Rattle.policy_grammar.specs.Raw.{Step, Step as step, Item}
 use Rattle.policy_grammar.specs.Raw.Item.{Define, Originate, State}
 use Rattle.policy_rules.specs.Checks.{each}

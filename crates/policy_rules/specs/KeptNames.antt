@@ -1,7 +1,8 @@
 -- What is kept of names that stand for locations.
 use Rattle.std.specs.Prelude.{ℕ, ◌+◌, nat_lt, Bool, true, false, List, [], ◌∷◌, ◌++◌, length, map, if◌then◌else◌}
 use Rattle.std.proofs.Common.{Bor}
-use Rattle.net_base.specs.declared.limits.TheConstants.{DEFINITIONS, LOCATIONS}
+use Rattle.policy_tokens.specs.declared.limits.TheConstants.{DEFINITIONS}
+use Rattle.net_base.specs.declared.limits.TheConstants.{LOCATIONS}
 use Rattle.net_base.specs.declared.loc.LocSet.{LocSet}
 use Rattle.net_base.specs.declared.place.Place.{Place}
 use Rattle.net_base.specs.Network.{PlainNet}

@@ -2,8 +2,7 @@
 ghost use Rattle.std.specs.Prelude.{◌≡◌};
 ghost use Rattle.policy_rules.specs.Counts.{within as within_limit};
 
-use net_base::Kind;
-use policy_tokens::PolicyFault;
+use policy_tokens::{Kind, PolicyFault};
 
 /// Tests that there are at most so many of a kind.
 pub fn within(kind: Kind, most: u64, number: u64) -> Result<(), PolicyFault>

@@ -2,7 +2,8 @@
 ghost use Rattle.std.specs.Prelude.{◌≡◌, ◌≤◌, ◌<◌, ◌+◌, ◌++◌, ◌∷◌, [], None, Ok, IfOk, IfErr, IsTrue, not, false, length, slice_get};
 ghost use Rattle.std.specs.List.{list_any, position};
 ghost use Rattle.std.specs.Str.{bytes_eq};
-ghost use Rattle.net_base.specs.declared.limits.TheConstants.{DEFINITIONS, LOCATIONS};
+ghost use Rattle.policy_tokens.specs.declared.limits.TheConstants.{DEFINITIONS};
+ghost use Rattle.net_base.specs.declared.limits.TheConstants.{LOCATIONS};
 ghost use Rattle.net_base.specs.Network.{IsNet};
 ghost use Rattle.policy_rules.specs.KnownNames.{set_named, is_known as knows, with_new_name, with_sites, net_names, first_place as first_of_two};
 ghost use Rattle.policy_rules.specs.KeptNames.{texts, stand_in as stands_for, kept_set, with_set, with_kept_group};
@@ -10,9 +11,10 @@ ghost use Rattle.policy_tokens.specs.Gives.{Gives};
 
 use crate::origins::has_peer;
 use indexmap::IndexSet;
-use net_base::limits::{DEFINITIONS, LOCATIONS};
+use net_base::limits::LOCATIONS;
 use net_base::{Loc, LocSet, Net, Place, Site};
 use policy_tokens::PolicyFault;
+use policy_tokens::limits::DEFINITIONS;
 use std::alloc::Global;
 
 /// The names that stand for locations, each with its set: those of the network, and the groups so far. Of more names than

@@ -17,10 +17,10 @@ use Rattle.policy_rules.specs.Figures.{prefix_at, pattern_at, pattern_fine, figu
 use Rattle.policy_rules.specs.Ranks.{ranks_fine}
 use Rattle.policy_rules.specs.Origins.{origins_fine}
 use Rattle.policy_rules.specs.Counts.{capped, call_amount, calls_within, paths_within}
-use Rattle.path_words.specs.declared.policy.FromSet.{FromSet}
-use Rattle.path_words.specs.declared.policy.FromSet.TheVariants as from_set
-use Rattle.path_words.specs.declared.policy.Origin.{Origin}
-use Rattle.path_words.specs.Policies.{PlainStatement}
+use Rattle.policy_base.specs.declared.policy.FromSet.{FromSet}
+use Rattle.policy_base.specs.declared.policy.FromSet.TheVariants as from_set
+use Rattle.policy_base.specs.declared.policy.Origin.{Origin}
+use Rattle.policy_base.specs.Policies.{PlainStatement}
 use Rattle.policy_values.specs.Built.{patterns_of, from_of, statement_of, origin_of}
 use Rattle.policy_text.specs.PolicyText.{names_in, is_everything}
 use Rattle.policy_text.specs.Printable.{HoldsOnly, call_count}

@@ -6,8 +6,8 @@ use Rattle.std.specs.Str.{bytes_eq}
 use Rattle.std.proofs.lemmas.Bool.{le-leb}
 use Rattle.std.proofs.lemmas.List.Sums.{sum_by-cons, sum_by-append}
 use Rattle.list_laws.proofs.Keys.{others_before}
-use Rattle.net_base.specs.declared.place.Kind.{Kind}
-use Rattle.net_base.specs.declared.place.Kind.TheVariants as kind
+use Rattle.policy_tokens.specs.declared.kind.Kind.{Kind}
+use Rattle.policy_tokens.specs.declared.kind.Kind.TheVariants as kind
 use Rattle.net_base.specs.Network.{PlainNet, sites}
 use Rattle.net_base.specs.Prefixes.{PlainPrefix, same_prefix}
 use Rattle.policy_tokens.specs.declared.fault.PolicyFault.{PolicyFault}
@@ -20,9 +20,9 @@ use Rattle.policy_rules.specs.Figures.{figures_fine, prefix_at}
 use Rattle.policy_rules.specs.Ranks.{ranks_fine}
 use Rattle.policy_rules.specs.Origins.{origins_fine, once_from}
 use Rattle.policy_rules.specs.Counts.{amount, capped, within, items_within, calls_within, paths_within}
-use Rattle.path_words.specs.declared.policy.Origin.{Origin}
+use Rattle.policy_base.specs.declared.policy.Origin.{Origin}
 use Rattle.net_base.specs.SetOperations.{size_of}
-use Rattle.path_words.specs.Policies.{PlainStatement, PlainPolicy, IsPolicy}
+use Rattle.policy_base.specs.Policies.{PlainStatement, PlainPolicy, IsPolicy}
 use Rattle.policy_values.specs.Built.{statements_of, origins_of}
 use Rattle.policy_parser.specs.Spelled.{rules_kept, origins_spelled, policy_built}
 use Rattle.policy_parser.proofs.Steps.{same_prefix_equiv}

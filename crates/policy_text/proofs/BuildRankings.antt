@@ -10,80 +10,52 @@ use Rattle.net_base.specs.declared.place.Place.{Place}
 use Rattle.net_base.specs.Network.{PlainNet, sites}
 use Rattle.net_base.proofs.StepLemmas.{bind_ok}
 use Rattle.policy_tokens.specs.declared.fault.PolicyFault.{PolicyFault}
-use Rattle.policy_grammar.specs.declared.call_word.CallWord.{CallWord}
+use Rattle.policy_base.specs.declared.call.SetCall.{SetCall}
+use Rattle.policy_base.specs.declared.call.CallWord.{CallWord}
+use Rattle.policy_base.specs.declared.call.CallWord.TheVariants as word
 use Rattle.policy_grammar.specs.Raw.{RawCall, Step, Step as step}
 use Rattle.policy_rules.specs.KnownNames.{Names}
 use Rattle.policy_rules.specs.Checks.{each, step_known}
 use Rattle.policy_rules.specs.Counts.{call_amount, places_within, word_places}
-use Rattle.path_words.specs.declared.clause.Clause.{Clause}
-use Rattle.path_words.specs.declared.clause.Clause.TheVariants.{Any, Drop, Internal, Avoid, Through, NoTransit, Start, End, Link, Path, Exit, Enter}
-use Rattle.path_words.specs.Policies.{Ranking, call, calls, prefer, either, both, negated}
-use Rattle.policy_values.specs.Built.{one_clause, call_of, behind, all_behind, ranking_of_steps}
+use Rattle.policy_base.specs.declared.call.Call.{Call}
+use Rattle.policy_base.specs.declared.call.Call.TheVariants.{Any, Drop, Internal, Link, Path, Of}
+use Rattle.policy_base.specs.Policies.{Ranking, call, calls, prefer, either, both, negated}
+use Rattle.policy_base.specs.CallWords.{word_of}
+use Rattle.policy_values.specs.Built.{call_of, behind, all_behind, ranking_of_steps}
 use Rattle.policy_text.specs.Printable.{has_one_set, HasNoRank, call_count}
-use Rattle.policy_text.specs.Values.{clause_sets}
+use Rattle.policy_text.specs.Values.{sets_in}
 use Rattle.policy_text.proofs.Readings.{Pairs}
-use Rattle.policy_text.proofs.ReadCalls.{IsSetArg, IsRawCall, set_in, call_word}
+use Rattle.policy_text.proofs.ReadCalls.{IsSetArg, IsRawCall, set_in}
 use Rattle.policy_text.proofs.ReadRankings.{AreSteps}
 use Rattle.policy_text.proofs.Lookups.{site_names}
 use Rattle.policy_text.proofs.BuildSets.{known, IsSet, sets_stand, args_are_known}
 use Rattle.policy_rules.proofs.CallSums.{calls_of_sides}
 
--- a call with the sets of a clause is that clause
-call_there : (c : Clause) → call_of (call_word c) (clause_sets c) ≡ call c
+-- a call is built of its word and its sets
+call_there : (c : Call) → call_of (word_of c) (sets_in c) ≡ call c
 call_there Any = refl
 call_there Drop = refl
 call_there Internal = refl
-call_there (Avoid s) = refl
-call_there (Through s) = refl
-call_there (NoTransit s) = refl
-call_there (Start s) = refl
-call_there (End s) = refl
+call_there (Of c s) = refl
 call_there (Link a b) = refl
 call_there (Path ps) = refl
-call_there (Exit s) = refl
-call_there (Enter s) = refl
 
-one_there : (c : Clause) → IsTrue (has_one_set c) → one_clause (call_word c) (set_in c) ≡ c
-one_there Any one = absurd (cc)
-one_there Drop one = absurd (cc)
-one_there Internal one = absurd (cc)
-one_there (Link a b) one = absurd (cc)
-one_there (Path ps) one = absurd (cc)
-one_there (Avoid s) one = refl
-one_there (Through s) one = refl
-one_there (NoTransit s) one = refl
-one_there (Start s) one = refl
-one_there (End s) one = refl
-one_there (Exit s) one = refl
-one_there (Enter s) one = refl
+-- a call of one set with this word is that of its set
+one_there : (k : SetCall) (c : Call) → IsTrue (has_one_set c) → word_of c ≡ word.Of k → Of k (set_in c) ≡ c
+one_there k Any one is = absurd (cc)
+one_there k Drop one is = absurd (cc)
+one_there k Internal one is = absurd (cc)
+one_there k (Link a b) one is = absurd (cc)
+one_there k (Path ps) one is = absurd (cc)
+one_there k (Of j s) one is = let same : k ≡ j = cc in ap (λ (i : SetCall). Of i s) same
 
-ranked_there : (c : Clause) → IsTrue (has_one_set c) → (a b : LocSet) (sets : List LocSet) → call_of (call_word c) (a ∷ b ∷ sets) ≡ calls (map (one_clause (call_word c)) (a ∷ b ∷ sets))
-ranked_there Any one a b sets = absurd (cc)
-ranked_there Drop one a b sets = absurd (cc)
-ranked_there Internal one a b sets = absurd (cc)
-ranked_there (Link x y) one a b sets = absurd (cc)
-ranked_there (Path ps) one a b sets = absurd (cc)
-ranked_there (Avoid s) one a b sets = refl
-ranked_there (Through s) one a b sets = refl
-ranked_there (NoTransit s) one a b sets = refl
-ranked_there (Start s) one a b sets = refl
-ranked_there (End s) one a b sets = refl
-ranked_there (Exit s) one a b sets = refl
-ranked_there (Enter s) one a b sets = refl
-
-no_places : (c : Clause) (n : ℕ) → IsTrue (has_one_set c) → word_places (call_word c) n ≡ 0
+no_places : (c : Call) (n : ℕ) → IsTrue (has_one_set c) → word_places (word_of c) n ≡ 0
 no_places Any n one = absurd (cc)
 no_places Drop n one = absurd (cc)
 no_places Internal n one = absurd (cc)
 no_places (Link x y) n one = absurd (cc)
 no_places (Path ps) n one = absurd (cc)
-no_places (Avoid s) n one = refl
-no_places (Through s) n one = refl
-no_places (NoTransit s) n one = refl
-no_places (Start s) n one = refl
-no_places (End s) n one = refl
-no_places (Exit s) n one = refl
-no_places (Enter s) n one = refl
+no_places (Of k s) n one = refl
 
 each-append : {A : Type 0} (check : A → Result ⊤ PolicyFault) (xs ys : List A) → each check xs ≡ Ok tt → each check ys ≡ Ok tt → each check (xs ++ ys) ≡ Ok tt
 each-append check [] ys a b = b
@@ -106,12 +78,12 @@ module _ (bytes : List ℕ) (net : PlainNet) (apart : IsDistinct bytes_eq (site_
   IsFineSet s = IsSet bytes net apart small s
 
   -- the sets of a call, of which a path has 256 at most
-  abbrev pub IsFineCall : Clause → Type 0
-  IsFineCall c = AllByRecursion IsFineSet (clause_sets c) × (word_places (call_word c) (length (clause_sets c)) ≤ 256)
+  abbrev pub IsFineCall : Call → Type 0
+  IsFineCall c = AllByRecursion IsFineSet (sets_in c) × (word_places (word_of c) (length (sets_in c)) ≤ 256)
 
   -- a call with one set, of the same name as the first
-  abbrev pub IsLike : Clause → Clause → Type 0
-  IsLike c d = IsTrue (has_one_set d) × IsFineSet (set_in d) × (call_word d ≡ call_word c)
+  abbrev pub IsLike : Call → Call → Type 0
+  IsLike c d = IsTrue (has_one_set d) × IsFineSet (set_in d) × (word_of d ≡ word_of c)
 
   abbrev pub IsFine : Ranking → Type 0
   IsFine (call c) = IsFineCall c
@@ -122,17 +94,22 @@ module _ (bytes : List ℕ) (net : PlainNet) (apart : IsDistinct bytes_eq (site_
   IsFine (both a b) = IsFine a × IsFine b
   IsFine (negated a) = IsFine a × HasNoRank a
 
-  sets_fine : (c : Clause) (cs : List Clause) → AllByRecursion (IsLike c) cs → AllByRecursion IsFineSet (map set_in cs)
+  sets_fine : (c : Call) (cs : List Call) → AllByRecursion (IsLike c) cs → AllByRecursion IsFineSet (map set_in cs)
   sets_fine c [] all = tt
   sets_fine c (d ∷ cs) all = (all.0.1, sets_fine c cs all.1)
 
-  clauses_there : (c : Clause) (cs : List Clause) → AllByRecursion (IsLike c) cs → map (one_clause (call_word c)) (map set_in cs) ≡ cs
-  clauses_there c [] all = refl
-  clauses_there c (d ∷ cs) all = ap₂ (λ (x : Clause) (xs : List Clause). x ∷ xs) (ap (λ (w : CallWord). one_clause w (set_in d)) (sym all.0.2) ∙ one_there d all.0.0) (clauses_there c cs all.1)
+  each_there : (k : SetCall) (s : LocSet) (cs : List Call) → AllByRecursion (IsLike (Of k s)) cs → map (Of k) (map set_in cs) ≡ cs
+  each_there k s [] all = refl
+  each_there k s (d ∷ cs) all = ap₂ (λ (x : Call) (xs : List Call). x ∷ xs) (one_there k d all.0.0 all.0.2) (each_there k s cs all.1)
 
-  calls_there : (c : Clause) (cs : List Clause) → 1 ≤ length cs → AllByRecursion (IsLike c) (c ∷ cs) → call_of (call_word c) (map set_in (c ∷ cs)) ≡ calls (c ∷ cs)
-  calls_there c [] some all = absurd (omega (arith, some))
-  calls_there c (d ∷ cs) some all = ranked_there c all.0.0 (set_in c) (set_in d) (map set_in cs) ∙ ap calls (clauses_there c (c ∷ d ∷ cs) all)
+  calls_there : (c : Call) (cs : List Call) → 1 ≤ length cs → AllByRecursion (IsLike c) (c ∷ cs) → call_of (word_of c) (map set_in (c ∷ cs)) ≡ calls (c ∷ cs)
+  calls_there Any cs some all = let one = all.0.0 in absurd (cc)
+  calls_there Drop cs some all = let one = all.0.0 in absurd (cc)
+  calls_there Internal cs some all = let one = all.0.0 in absurd (cc)
+  calls_there (Link a b) cs some all = let one = all.0.0 in absurd (cc)
+  calls_there (Path ps) cs some all = let one = all.0.0 in absurd (cc)
+  calls_there (Of k s) [] some all = absurd (omega (arith, some))
+  calls_there (Of k s) (d ∷ cs) some all = ap (λ (ds : List Call). calls (Of k s ∷ ds)) (each_there k s (d ∷ cs) all.1)
 
   -- steps that are taken one after the other
   taken : (s : Step) (ss : List Step) (rs next : List Ranking) → behind bytes net names s rs ≡ Ok next → all_behind bytes net names rs (s ∷ ss) ≡ all_behind bytes net names next ss
@@ -144,10 +121,10 @@ module _ (bytes : List ℕ) (net : PlainNet) (apart : IsDistinct bytes_eq (site_
   -- the steps of an expression put it on the stack
   all_there : (r : Ranking) → IsFine r → (ss : List Step) → AreSteps bytes net r ss → (rs : List Ranking) (more : List Step) → all_behind bytes net names rs (ss ++ more) ≡ all_behind bytes net names (r ∷ rs) more
   all_there (call c) fine ss is rs more =
-      rw is.1 (taken (step.Call is.0) more rs (call_of (call_word c) (clause_sets c) ∷ rs) (call_taken is.0 (call_word c) (clause_sets c) rs is.2.0 fine.0) ∙ ap (λ (r : Ranking). all_behind bytes net names (r ∷ rs) more) (call_there c))
+      rw is.1 (taken (step.Call is.0) more rs (call_of (word_of c) (sets_in c) ∷ rs) (call_taken is.0 (word_of c) (sets_in c) rs is.2.0 fine.0) ∙ ap (λ (r : Ranking). all_behind bytes net names (r ∷ rs) more) (call_there c))
   all_there (calls []) fine ss is rs more = absurd fine
   all_there (calls (c ∷ cs)) fine ss is rs more =
-      rw is.1 (taken (step.Call is.0) more rs (call_of (call_word c) (map set_in (c ∷ cs)) ∷ rs) (call_taken is.0 (call_word c) (map set_in (c ∷ cs)) rs is.2 (sets_fine c (c ∷ cs) fine.1)) ∙ ap (λ (r : Ranking). all_behind bytes net names (r ∷ rs) more) (calls_there c cs fine.0 fine.1))
+      rw is.1 (taken (step.Call is.0) more rs (call_of (word_of c) (map set_in (c ∷ cs)) ∷ rs) (call_taken is.0 (word_of c) (map set_in (c ∷ cs)) rs is.2 (sets_fine c (c ∷ cs) fine.1)) ∙ ap (λ (r : Ranking). all_behind bytes net names (r ∷ rs) more) (calls_there c cs fine.0 fine.1))
   all_there (prefer a b) fine ss is rs more =
       rw (is.3, append_assoc (is.0 ++ is.1) (step.Above is.2 ∷ []) more, append_assoc is.0 is.1 (step.Above is.2 ∷ more))
       (all_there a fine.0 is.0 is.4 rs (is.1 ++ step.Above is.2 ∷ more) ∙ all_there b fine.1 is.1 is.5 (a ∷ rs) (step.Above is.2 ∷ more))
@@ -165,8 +142,8 @@ module _ (bytes : List ℕ) (net : PlainNet) (apart : IsDistinct bytes_eq (site_
 
   -- a test that operators pass, and calls
   module _ (check : Step → Result ⊤ PolicyFault) (above : (p : Place) → check (step.Above p) ≡ Ok tt) (or : check step.Or ≡ Ok tt) (and : check step.And ≡ Ok tt) (not : check step.Not ≡ Ok tt)
-      (one : (raw : RawCall) (c : Clause) → IsRawCall bytes net (call_word c) (clause_sets c) raw → IsFineCall c → check (step.Call raw) ≡ Ok tt)
-      (ranked : (raw : RawCall) (c : Clause) (cs : List Clause) → IsRawCall bytes net (call_word c) (map set_in (c ∷ cs)) raw → AllByRecursion (IsLike c) (c ∷ cs) → check (step.Call raw) ≡ Ok tt) where
+      (one : (raw : RawCall) (c : Call) → IsRawCall bytes net (word_of c) (sets_in c) raw → IsFineCall c → check (step.Call raw) ≡ Ok tt)
+      (ranked : (raw : RawCall) (c : Call) (cs : List Call) → IsRawCall bytes net (word_of c) (map set_in (c ∷ cs)) raw → AllByRecursion (IsLike c) (c ∷ cs) → check (step.Call raw) ≡ Ok tt) where
     alone : (s : Step) → check s ≡ Ok tt → each check (s ∷ []) ≡ Ok tt
     alone s h = rw h refl
 
@@ -182,7 +159,7 @@ module _ (bytes : List ℕ) (net : PlainNet) (apart : IsDistinct bytes_eq (site_
   -- each name in it is known
   pub steps_known : (r : Ranking) → IsFine r → (ss : List Step) → AreSteps bytes net r ss → each (step_known bytes names) ss ≡ Ok tt
   steps_known r fine ss is =
-      passes (step_known bytes names) (λ p. refl) refl refl refl (λ raw c is' fine'. args_are_known bytes net apart small raw.args (clause_sets c) fine'.0 is'.args)
+      passes (step_known bytes names) (λ p. refl) refl refl refl (λ raw c is' fine'. args_are_known bytes net apart small raw.args (sets_in c) fine'.0 is'.args)
       (λ raw c cs is' fine'. args_are_known bytes net apart small raw.args (map set_in (c ∷ cs)) (sets_fine c (c ∷ cs) fine') is'.args) r fine ss is
 
   few_places : (raw : RawCall) (w : CallWord) (sets : List LocSet) → IsRawCall bytes net w sets raw → word_places w (length sets) ≤ 256 → places_within (step.Call raw) ≡ Ok tt
@@ -191,8 +168,8 @@ module _ (bytes : List ℕ) (net : PlainNet) (apart : IsDistinct bytes_eq (site_
   -- no path is too long
   pub paths_fit : (r : Ranking) → IsFine r → (ss : List Step) → AreSteps bytes net r ss → each places_within ss ≡ Ok tt
   paths_fit r fine ss is =
-      passes places_within (λ p. refl) refl refl refl (λ raw c is' fine'. few_places raw (call_word c) (clause_sets c) is' fine'.1)
-      (λ raw c cs is' fine'. few_places raw (call_word c) (map set_in (c ∷ cs)) is' (omega (arith, no_places c (length (map set_in (c ∷ cs))) fine'.0.0))) r fine ss is
+      passes places_within (λ p. refl) refl refl refl (λ raw c is' fine'. few_places raw (word_of c) (sets_in c) is' fine'.1)
+      (λ raw c cs is' fine'. few_places raw (word_of c) (map set_in (c ∷ cs)) is' (omega (arith, no_places c (length (map set_in (c ∷ cs))) fine'.0.0))) r fine ss is
 
   -- it has as many calls as its steps
   pub calls_counted : (r : Ranking) → (ss : List Step) → AreSteps bytes net r ss → sum_by call_amount ss ≡ call_count r

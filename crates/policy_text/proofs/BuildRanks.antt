@@ -7,7 +7,7 @@ use Rattle.policy_grammar.specs.Raw.{RawStatement, Step, Step as step}
 use Rattle.policy_grammar.specs.Raw.Item.{State}
 use Rattle.policy_rules.specs.declared.ranks.Mark.{Mark}
 use Rattle.policy_rules.specs.Ranks.{top, above_mark, or_mark, and_mark, not_mark, marks_of, broken_rank, ranks_fine}
-use Rattle.path_words.specs.Policies.{Ranking, call, calls, prefer, either, both, negated}
+use Rattle.policy_base.specs.Policies.{Ranking, call, calls, prefer, either, both, negated}
 use Rattle.policy_text.specs.Printable.{HasNoRank}
 use Rattle.policy_text.proofs.ReadRankings.{AreSteps}
 use Rattle.policy_text.proofs.Lookups.{site_names}

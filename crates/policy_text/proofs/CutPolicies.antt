@@ -12,8 +12,8 @@ use Rattle.policy_tokens.specs.Tokens.{tokens_from, tokens_of}
 use Rattle.policy_grammar.specs.declared.lexeme.Lexeme.{Lexeme}
 use Rattle.policy_grammar.specs.declared.symbol.Symbol.TheVariants.{EndOfText}
 use Rattle.policy_grammar.specs.Lexemes.{lexeme_of, lexemes_of, end_of}
-use Rattle.path_words.specs.declared.policy.Origin.{Origin}
-use Rattle.path_words.specs.Policies.{PlainStatement, PlainPolicy}
+use Rattle.policy_base.specs.declared.policy.Origin.{Origin}
+use Rattle.policy_base.specs.Policies.{PlainStatement, PlainPolicy}
 use Rattle.policy_text.specs.PolicyText.{policy_text}
 use Rattle.policy_text.proofs.Words.{Word, sign, AreWords, policy_words}
 use Rattle.policy_text.proofs.Cuts.{IsCut, IsCut-nil, AreAscii}

@@ -12,18 +12,19 @@ use Rattle.net_base.specs.Sets.{holds}
 use Rattle.text_words.specs.Texts.{prefix_text, pattern_text}
 use Rattle.policy_grammar.specs.declared.symbol.Symbol.{Symbol}
 use Rattle.policy_grammar.specs.declared.symbol.Symbol.TheVariants as symbol
-use Rattle.path_words.specs.declared.clause.Clause.{Clause}
-use Rattle.path_words.specs.declared.clause.Clause.TheVariants.{Any, Drop, Internal, Avoid, Through, NoTransit, Start, End, Link, Path, Exit, Enter}
-use Rattle.path_words.specs.declared.policy.FromSet.{FromSet}
-use Rattle.path_words.specs.declared.policy.FromSet.TheVariants as from_set
-use Rattle.path_words.specs.declared.policy.Origin.{Origin}
-use Rattle.path_words.specs.Policies.{Ranking, call, calls, prefer, either, both, negated, PlainStatement, PlainPolicy}
+use Rattle.policy_base.specs.declared.call.Call.{Call}
+use Rattle.policy_base.specs.declared.call.Call.TheVariants.{Any, Drop, Internal, Link, Path, Of}
+use Rattle.policy_base.specs.CallWords.{word_of, word_text}
+use Rattle.policy_base.specs.declared.policy.FromSet.{FromSet}
+use Rattle.policy_base.specs.declared.policy.FromSet.TheVariants as from_set
+use Rattle.policy_base.specs.declared.policy.Origin.{Origin}
+use Rattle.policy_base.specs.Policies.{Ranking, call, calls, prefer, either, both, negated, PlainStatement, PlainPolicy}
 use Rattle.policy_text.specs.PolicyText as text
-use Rattle.policy_text.specs.PolicyText.{names_from, names_in, are_all, joined_names, set_text, braced_names, place_text, joined_places, clause_word, has_sets, sets_text, call_text, calls_text, opening, closing, ranking_text, is_everything, patterns_text, from_text, statement_line, origin_line, policy_text}
+use Rattle.policy_text.specs.PolicyText.{names_from, names_in, are_all, joined_names, set_text, braced_names, place_text, joined_places, has_sets, sets_text, call_text, calls_text, opening, closing, ranking_text, is_everything, patterns_text, from_text, statement_line, origin_line, policy_text}
 use Rattle.policy_text.proofs.Words as words
-use Rattle.policy_text.proofs.Words.{Word, sign, name, figure, name_words, set_words, braced_words, place_words, places_words, clause_symbol, sets_words, call_words, calls_words, ranking_words, pattern_words, patterns_words, from_words, statement_words, origin_words, policy_words}
+use Rattle.policy_text.proofs.Words.{Word, sign, name, figure, name_words, set_words, braced_words, place_words, places_words, call_symbol, sets_words, call_words, calls_words, ranking_words, pattern_words, patterns_words, from_words, statement_words, origin_words, policy_words}
 use Rattle.policy_text.proofs.Pieces.{is_free}
-use Rattle.policy_text.proofs.CutWords.{Cuts, CutsBefore, Ends, in_turn, before, ended, both_before, weaker, nothing, chosen, each_before, each_in_turn, CutsBefore-name, Cuts-comma, Cuts-end, Cuts-open, Cuts-close, Cuts-brace_open, Cuts-brace_close, Cuts-arrow, Cuts-above, Cuts-or, Cuts-and, Cuts-not, Cuts-le, Cuts-at, Cuts-from, Cuts-originate, CutsBefore-true, CutsBefore-any, CutsBefore-clause}
+use Rattle.policy_text.proofs.CutWords.{Cuts, CutsBefore, Ends, in_turn, before, ended, both_before, weaker, nothing, chosen, each_before, each_in_turn, CutsBefore-name, Cuts-comma, Cuts-end, Cuts-open, Cuts-close, Cuts-brace_open, Cuts-brace_close, Cuts-arrow, Cuts-above, Cuts-or, Cuts-and, Cuts-not, Cuts-le, Cuts-at, Cuts-from, Cuts-originate, CutsBefore-true, CutsBefore-any, CutsBefore-call}
 use Rattle.policy_text.proofs.Figures.{is_figure_text-prefix, is_figure_text-number, CutsBefore-figure_text}
 
 abbrev pub AreNames : List (List ℕ) → Type 0
@@ -91,42 +92,36 @@ module _ (net : PlainNet) (named : AreNamed (sites net)) where
       let rest = each_before Holds (text.next_place net) (words.next_place net) (λ x h. before Cuts-comma (Cuts-place x)) (λ x t. refl) ss (all_hold ss) in
       both_before (Cuts-place s) rest.0 rest.1
 
-  Cuts-sets : (c : Clause) → CutsBefore (sets_text net c) (sets_words net c)
+  Cuts-sets : (c : Call) → CutsBefore (sets_text net c) (sets_words net c)
   Cuts-sets Any = nothing
   Cuts-sets Drop = nothing
   Cuts-sets Internal = nothing
-  Cuts-sets (Avoid s) = Cuts-set s
-  Cuts-sets (Through s) = Cuts-set s
-  Cuts-sets (NoTransit s) = Cuts-set s
-  Cuts-sets (Start s) = Cuts-set s
-  Cuts-sets (End s) = Cuts-set s
+  Cuts-sets (Of c s) = Cuts-set s
   Cuts-sets (Link a b) = Cuts-places (a ∷ b ∷ [])
   Cuts-sets (Path ps) = Cuts-places ps
-  Cuts-sets (Exit s) = Cuts-set s
-  Cuts-sets (Enter s) = Cuts-set s
 
   -- a word with sets in brackets
-  in_round : (c : Clause) {a : List ℕ} {v : List Word} → CutsBefore a v → CutsBefore (clause_word c ++ codes "(" ++ a ++ codes ")") (sign (clause_symbol c) ∷ sign symbol.RoundOpen ∷ (v ++ sign symbol.RoundClose ∷ []))
-  in_round c inside = weaker (ended (before (ended (CutsBefore-clause c) Cuts-open (λ t. refl)) inside) Cuts-close (λ t. refl))
+  in_round : (c : Call) {a : List ℕ} {v : List Word} → CutsBefore a v → CutsBefore (word_text (word_of c) ++ codes "(" ++ a ++ codes ")") (sign (call_symbol c) ∷ sign symbol.RoundOpen ∷ (v ++ sign symbol.RoundClose ∷ []))
+  in_round c inside = weaker (ended (before (ended (CutsBefore-call c) Cuts-open (λ t. refl)) inside) Cuts-close (λ t. refl))
 
-  by_sets : (c : Clause) (b : Bool)
-      → CutsBefore (clause_word c ++ (if b then codes "(" ++ sets_text net c ++ codes ")" else [])) (sign (clause_symbol c) ∷ (if b then sign symbol.RoundOpen ∷ (sets_words net c ++ sign symbol.RoundClose ∷ []) else []))
+  by_sets : (c : Call) (b : Bool)
+      → CutsBefore (word_text (word_of c) ++ (if b then codes "(" ++ sets_text net c ++ codes ")" else [])) (sign (call_symbol c) ∷ (if b then sign symbol.RoundOpen ∷ (sets_words net c ++ sign symbol.RoundClose ∷ []) else []))
   by_sets c true =
-      let whole : clause_word c ++ codes "(" ++ sets_text net c ++ codes ")" ≡ clause_word c ++ (codes "(" ++ sets_text net c ++ codes ")") = simp append_assoc refl in
-      subst (λ (a : List ℕ). CutsBefore a (sign (clause_symbol c) ∷ sign symbol.RoundOpen ∷ (sets_words net c ++ sign symbol.RoundClose ∷ []))) whole (in_round c (Cuts-sets c))
-  by_sets c false = rw (append-nil (clause_word c)) (CutsBefore-clause c)
+      let whole : word_text (word_of c) ++ codes "(" ++ sets_text net c ++ codes ")" ≡ word_text (word_of c) ++ (codes "(" ++ sets_text net c ++ codes ")") = simp append_assoc refl in
+      subst (λ (a : List ℕ). CutsBefore a (sign (call_symbol c) ∷ sign symbol.RoundOpen ∷ (sets_words net c ++ sign symbol.RoundClose ∷ []))) whole (in_round c (Cuts-sets c))
+  by_sets c false = rw (append-nil (word_text (word_of c))) (CutsBefore-call c)
 
-  Cuts-call : (c : Clause) → CutsBefore (call_text net c) (call_words net c)
+  Cuts-call : (c : Call) → CutsBefore (call_text net c) (call_words net c)
   unfolding call_text
   Cuts-call c = by_sets c (has_sets c)
 
-  Cuts-calls : (cs : List Clause) → CutsBefore (calls_text net cs) (calls_words net cs)
+  Cuts-calls : (cs : List Call) → CutsBefore (calls_text net cs) (calls_words net cs)
   unfolding calls_text
   Cuts-calls [] = nothing
   Cuts-calls (c ∷ cs) =
       let rest = each_before Holds (text.next_sets net) (words.next_sets net) (λ x h. before Cuts-above (Cuts-sets x)) (λ x t. refl) cs (all_hold cs) in
-      let whole : clause_word c ++ codes "(" ++ (sets_text net c ++ flat_map (text.next_sets net) cs) ++ codes ")" ≡ clause_word c ++ codes "(" ++ sets_text net c ++ flat_map (text.next_sets net) cs ++ codes ")" = simp append_assoc refl in
-      subst (λ (b : List ℕ). CutsBefore b (sign (clause_symbol c) ∷ sign symbol.RoundOpen ∷ (sets_words net c ++ flat_map (words.next_sets net) cs ++ sign symbol.RoundClose ∷ []))) whole (in_round c (both_before (Cuts-sets c) rest.0 rest.1))
+      let whole : word_text (word_of c) ++ codes "(" ++ (sets_text net c ++ flat_map (text.next_sets net) cs) ++ codes ")" ≡ word_text (word_of c) ++ codes "(" ++ sets_text net c ++ flat_map (text.next_sets net) cs ++ codes ")" = simp append_assoc refl in
+      subst (λ (b : List ℕ). CutsBefore b (sign (call_symbol c) ∷ sign symbol.RoundOpen ∷ (sets_words net c ++ flat_map (words.next_sets net) cs ++ sign symbol.RoundClose ∷ []))) whole (in_round c (both_before (Cuts-sets c) rest.0 rest.1))
 
   Cuts-ranking : (least : ℕ) (r : Ranking) → CutsBefore (ranking_text net least r) (ranking_words net least r)
   Cuts-ranking least (call c) = Cuts-call c

@@ -1,7 +1,7 @@
 -- Parts of a text, and the words that they are cut into.
 use Rattle.std.proofs.Common.{◌≡◌, ℕ, List, [], ◌∷◌, ◌++◌, length, Bool, true, false, Some, None, refl, arith, append_assoc}
 use Rattle.std.specs.Prelude.{◌&&◌, ◌||◌, ◌==◌, not, codes, nat_le, slice_index, if◌then◌else◌}
-use Rattle.std.specs.List.{list_all, flat_map, AllByRecursion}
+use Rattle.std.specs.List.{list_all, list_any, flat_map, AllByRecursion}
 use Rattle.std.specs.Str.{bytes_eq}
 use Rattle.std.proofs.lemmas.Bool.{and_parts, or_parts, not-true}
 use Rattle.net_base.specs.NameRule.{is_letter, is_name_byte, is_name, is_reserved, is_item_word, is_operator, is_path_call, is_place_call}
@@ -10,11 +10,13 @@ use Rattle.policy_tokens.specs.declared.token.TokenKind.TheVariants as kind
 use Rattle.policy_tokens.specs.Tokens.{is_figure_byte}
 use Rattle.policy_grammar.specs.declared.symbol.Symbol.{Symbol}
 use Rattle.policy_grammar.specs.declared.symbol.Symbol.TheVariants as symbol
-use Rattle.policy_grammar.specs.Symbols.{symbol_of, word_symbol, item_word, operator, path_call, place_call}
-use Rattle.path_words.specs.declared.clause.Clause.{Clause}
-use Rattle.path_words.specs.declared.clause.Clause.TheVariants.{Any, Drop, Internal, Avoid, Through, NoTransit, Start, End, Link, Path, Exit, Enter}
-use Rattle.policy_text.specs.PolicyText.{clause_word}
-use Rattle.policy_text.proofs.Words.{Word, sign, name, figure, clause_symbol}
+use Rattle.policy_base.specs.declared.call.CallWord.TheVariants as word
+use Rattle.policy_base.specs.declared.call.SetCall.TheVariants as set_call
+use Rattle.policy_grammar.specs.Symbols.{symbol_of, word_symbol, item_word, operator, spelled_of, call_word}
+use Rattle.policy_base.specs.declared.call.Call.{Call}
+use Rattle.policy_base.specs.declared.call.CallWord.{CallWord}
+use Rattle.policy_base.specs.CallWords.{call_words, word_of, word_text}
+use Rattle.policy_text.proofs.Words.{Word, sign, name, figure, call_symbol}
 use Rattle.policy_text.proofs.Cuts.{IsCut, IsCut-token, IsCut-blank, AreAscii, Stands}
 use Rattle.policy_text.proofs.Pieces.{is_free, is_word, BeginsWith-word, BeginsWith-figure, BeginsWith-sign, BeginsWith-arrow, BeginsWith-above, BeginsBlank-space, BeginsBlank-line, name_byte_ascii}
 
@@ -110,13 +112,24 @@ no_operator : (bs : List ℕ) → is_operator bs ≡ false → operator bs ≡ N
 unfolding is_operator operator
 no_operator bs h = three (bytes_eq bs (codes "or")) (bytes_eq bs (codes "and")) (bytes_eq bs (codes "not")) symbol.Or symbol.And symbol.Not h
 
-no_path_call : (bs : List ℕ) → is_path_call bs ≡ false → path_call bs ≡ None
-unfolding is_path_call path_call
-no_path_call bs h = six (bytes_eq bs (codes "any")) (bytes_eq bs (codes "drop")) (bytes_eq bs (codes "internal")) (bytes_eq bs (codes "avoid")) (bytes_eq bs (codes "through")) (bytes_eq bs (codes "notransit")) symbol.Any symbol.Drop symbol.Internal symbol.Avoid symbol.Through symbol.NoTransit h
+-- none of the words
+abbrev AreOthers : List ℕ → List (List ℕ) → Type 0
+AreOthers bs words = AllByRecursion (λ w. bytes_eq bs w ≡ false) words
 
-no_place_call : (bs : List ℕ) → is_place_call bs ≡ false → place_call bs ≡ None
-unfolding is_place_call place_call
-no_place_call bs h = six (bytes_eq bs (codes "start")) (bytes_eq bs (codes "end")) (bytes_eq bs (codes "link")) (bytes_eq bs (codes "path")) (bytes_eq bs (codes "exit")) (bytes_eq bs (codes "enter")) symbol.Start symbol.End symbol.Link symbol.Path symbol.Exit symbol.Enter h
+none_of : (bs : List ℕ) (words : List (List ℕ)) → list_any (bytes_eq bs) words ≡ false → AreOthers bs words
+none_of bs [] h = tt
+none_of bs (w ∷ ws) h = let p = or_parts (bytes_eq bs w) (list_any (bytes_eq bs) ws) h in (p.0, none_of bs ws p.1)
+
+none_spelled : (ws : List CallWord) (bs : List ℕ) → AllByRecursion (λ w. bytes_eq bs (word_text w) ≡ false) ws → spelled_of ws bs ≡ None
+none_spelled [] bs h = refl
+none_spelled (w ∷ ws) bs h = rw h.0 (none_spelled ws bs h.1)
+
+no_call_word : (bs : List ℕ) → is_path_call bs ≡ false → is_place_call bs ≡ false → call_word bs ≡ None
+unfolding is_path_call is_place_call call_word
+no_call_word bs h k =
+    let p = none_of bs (codes "any" ∷ codes "drop" ∷ codes "internal" ∷ codes "avoid" ∷ codes "through" ∷ codes "notransit" ∷ []) h in
+    let q = none_of bs (codes "start" ∷ codes "end" ∷ codes "link" ∷ codes "path" ∷ codes "exit" ∷ codes "enter" ∷ []) k in
+    none_spelled call_words bs (p.0, (p.1.0, (p.1.1.0, (q.1.1.0, (q.1.1.1.0, (p.1.1.1.0, (p.1.1.1.1.0, (p.1.1.1.1.1.0, (q.0, (q.1.0, (q.1.1.1.1.0, (q.1.1.1.1.1.0, tt))))))))))))
 
 unreserved : (bs : List ℕ) → is_reserved bs ≡ false → word_symbol bs ≡ symbol.Name
 unfolding is_reserved word_symbol
@@ -124,7 +137,7 @@ unreserved bs h =
     let a = or_parts (is_item_word bs || is_operator bs || is_path_call bs) (is_place_call bs) h in
     let b = or_parts (is_item_word bs || is_operator bs) (is_path_call bs) a.0 in
     let c = or_parts (is_item_word bs) (is_operator bs) b.0 in
-    rw (no_item_word bs c.0, no_operator bs c.1, no_path_call bs b.1, no_place_call bs a.1) refl
+    rw (no_item_word bs c.0, no_operator bs c.1, no_call_word bs b.1 a.1) refl
 
 -- a name
 pub CutsBefore-name : (n : List ℕ) → is_name n ≡ true → CutsBefore n (name n ∷ [])
@@ -226,22 +239,24 @@ pub CutsBefore-true : CutsBefore (codes "true") (sign symbol.True ∷ [])
 unfolding word_symbol item_word
 CutsBefore-true = keyword (codes "true") symbol.True refl refl
 
-pub CutsBefore-any : CutsBefore (codes "any") (sign symbol.Any ∷ [])
-unfolding word_symbol item_word operator path_call
-CutsBefore-any = keyword (codes "any") symbol.Any refl refl
-
 -- the word of a call
-pub CutsBefore-clause : (c : Clause) → CutsBefore (clause_word c) (sign (clause_symbol c) ∷ [])
-unfolding word_symbol item_word operator path_call place_call
-CutsBefore-clause Any = keyword (codes "any") symbol.Any refl refl
-CutsBefore-clause Drop = keyword (codes "drop") symbol.Drop refl refl
-CutsBefore-clause Internal = keyword (codes "internal") symbol.Internal refl refl
-CutsBefore-clause (Avoid s) = keyword (codes "avoid") symbol.Avoid refl refl
-CutsBefore-clause (Through s) = keyword (codes "through") symbol.Through refl refl
-CutsBefore-clause (NoTransit s) = keyword (codes "notransit") symbol.NoTransit refl refl
-CutsBefore-clause (Start s) = keyword (codes "start") symbol.Start refl refl
-CutsBefore-clause (End s) = keyword (codes "end") symbol.End refl refl
-CutsBefore-clause (Link a b) = keyword (codes "link") symbol.Link refl refl
-CutsBefore-clause (Path ps) = keyword (codes "path") symbol.Path refl refl
-CutsBefore-clause (Exit s) = keyword (codes "exit") symbol.Exit refl refl
-CutsBefore-clause (Enter s) = keyword (codes "enter") symbol.Enter refl refl
+word-cut : (w : CallWord) → CutsBefore (word_text w) (sign (symbol.Call w) ∷ [])
+unfolding word_symbol item_word operator call_word
+word-cut word.Any = keyword (codes "any") (symbol.Call word.Any) refl refl
+word-cut word.Drop = keyword (codes "drop") (symbol.Call word.Drop) refl refl
+word-cut word.Internal = keyword (codes "internal") (symbol.Call word.Internal) refl refl
+word-cut word.Link = keyword (codes "link") (symbol.Call word.Link) refl refl
+word-cut word.Path = keyword (codes "path") (symbol.Call word.Path) refl refl
+word-cut (word.Of set_call.Avoid) = keyword (codes "avoid") (symbol.Call (word.Of set_call.Avoid)) refl refl
+word-cut (word.Of set_call.Through) = keyword (codes "through") (symbol.Call (word.Of set_call.Through)) refl refl
+word-cut (word.Of set_call.NoTransit) = keyword (codes "notransit") (symbol.Call (word.Of set_call.NoTransit)) refl refl
+word-cut (word.Of set_call.Start) = keyword (codes "start") (symbol.Call (word.Of set_call.Start)) refl refl
+word-cut (word.Of set_call.End) = keyword (codes "end") (symbol.Call (word.Of set_call.End)) refl refl
+word-cut (word.Of set_call.Exit) = keyword (codes "exit") (symbol.Call (word.Of set_call.Exit)) refl refl
+word-cut (word.Of set_call.Enter) = keyword (codes "enter") (symbol.Call (word.Of set_call.Enter)) refl refl
+
+pub CutsBefore-any : CutsBefore (codes "any") (sign (symbol.Call word.Any) ∷ [])
+CutsBefore-any = word-cut word.Any
+
+pub CutsBefore-call : (c : Call) → CutsBefore (word_text (word_of c)) (sign (call_symbol c) ∷ [])
+CutsBefore-call c = word-cut (word_of c)

@@ -11,16 +11,17 @@ use Rattle.net_base.specs.Prefixes.{PlainPattern}
 use Rattle.policy_grammar.specs.declared.lexeme.Lexeme.{Lexeme}
 use Rattle.policy_grammar.specs.declared.symbol.Symbol.{Symbol}
 use Rattle.policy_grammar.specs.declared.symbol.Symbol.TheVariants as symbol
+use Rattle.policy_base.specs.declared.call.CallWord.TheVariants as word
 use Rattle.policy_grammar.specs.Deep.{open_behind, is_too_deep, first_deep}
-use Rattle.path_words.specs.declared.clause.Clause.{Clause}
-use Rattle.path_words.specs.declared.clause.Clause.TheVariants.{Any, Drop, Internal, Avoid, Through, NoTransit, Start, End, Link, Path, Exit, Enter}
-use Rattle.path_words.specs.declared.policy.FromSet.{FromSet}
-use Rattle.path_words.specs.declared.policy.FromSet.TheVariants as from_set
-use Rattle.path_words.specs.declared.policy.Origin.{Origin}
-use Rattle.path_words.specs.Policies.{Ranking, call, calls, prefer, either, both, negated, PlainStatement, PlainPolicy}
+use Rattle.policy_base.specs.declared.call.Call.{Call}
+use Rattle.policy_base.specs.declared.call.Call.TheVariants.{Any, Drop, Internal, Link, Path, Of}
+use Rattle.policy_base.specs.declared.policy.FromSet.{FromSet}
+use Rattle.policy_base.specs.declared.policy.FromSet.TheVariants as from_set
+use Rattle.policy_base.specs.declared.policy.Origin.{Origin}
+use Rattle.policy_base.specs.Policies.{Ranking, call, calls, prefer, either, both, negated, PlainStatement, PlainPolicy}
 use Rattle.policy_text.specs.PolicyText.{names_in, are_all, has_sets, is_everything}
 use Rattle.policy_text.specs.Printable.{open_brackets}
-use Rattle.policy_text.proofs.Words.{Word, sign, name, figure, AreWords, next_name, name_words, set_words, braced_words, place_words, next_place, places_words, clause_symbol, sets_words, next_sets, calls_words, in_brackets, ranking_words, pattern_words, next_pattern, patterns_words, from_words, statement_words, origin_words, policy_words}
+use Rattle.policy_text.proofs.Words.{Word, sign, name, figure, AreWords, next_name, name_words, set_words, braced_words, place_words, next_place, places_words, call_symbol, sets_words, next_sets, calls_words, in_brackets, ranking_words, pattern_words, next_pattern, patterns_words, from_words, statement_words, origin_words, policy_words}
 use Rattle.policy_text.proofs.Readings.{symbol_in, has_symbol}
 
 -- these words open no more than so many brackets at once, and close what they open
@@ -94,53 +95,36 @@ module _ (bytes : List ℕ) where
   braced (n ∷ []) = one (name n) (λ k. (refl, refl)) 0
   braced (n ∷ m ∷ ns) = in_braces (n ∷ m ∷ ns)
 
-  plain_clause : (c : Clause) → IsPlain (clause_symbol c)
-  plain_clause Any = λ k. (refl, refl)
-  plain_clause Drop = λ k. (refl, refl)
-  plain_clause Internal = λ k. (refl, refl)
-  plain_clause (Avoid s) = λ k. (refl, refl)
-  plain_clause (Through s) = λ k. (refl, refl)
-  plain_clause (NoTransit s) = λ k. (refl, refl)
-  plain_clause (Start s) = λ k. (refl, refl)
-  plain_clause (End s) = λ k. (refl, refl)
-  plain_clause (Link a b) = λ k. (refl, refl)
-  plain_clause (Path ps) = λ k. (refl, refl)
-  plain_clause (Exit s) = λ k. (refl, refl)
-  plain_clause (Enter s) = λ k. (refl, refl)
+  plain_call : (c : Call) → IsPlain (call_symbol c)
+  plain_call c = λ k. (refl, refl)
 
   module _ (net : PlainNet) where
     set : (ns : List (List ℕ)) → IsShallow bytes (set_words net ns) 0
-    set ns = chosen (are_all net ns) (one (sign symbol.Any) (λ k. (refl, refl)) 0) (names ns)
+    set ns = chosen (are_all net ns) (one (sign (symbol.Call word.Any)) (λ k. (refl, refl)) 0) (names ns)
 
     place : (ns : List (List ℕ)) → IsShallow bytes (place_words net ns) 0
-    place ns = chosen (are_all net ns) (one (sign symbol.Any) (λ k. (refl, refl)) 0) (braced ns)
+    place ns = chosen (are_all net ns) (one (sign (symbol.Call word.Any)) (λ k. (refl, refl)) 0) (braced ns)
 
     places : (ss : List LocSet) → IsShallow bytes (places_words net ss) 0
     places [] = none 0
     places (s ∷ ss) = in_turn (place (names_in net s)) (each 0 (next_place net) (λ t. in_turn (one (sign symbol.Comma) (λ k. (refl, refl)) 0) (place (names_in net t))) ss)
 
-    sets : (c : Clause) → IsShallow bytes (sets_words net c) 0
+    sets : (c : Call) → IsShallow bytes (sets_words net c) 0
     sets Any = none 0
     sets Drop = none 0
     sets Internal = none 0
-    sets (Avoid s) = set (names_in net s)
-    sets (Through s) = set (names_in net s)
-    sets (NoTransit s) = set (names_in net s)
-    sets (Start s) = set (names_in net s)
-    sets (End s) = set (names_in net s)
+    sets (Of c s) = set (names_in net s)
     sets (Link a b) = places (a ∷ b ∷ [])
     sets (Path ps) = places ps
-    sets (Exit s) = set (names_in net s)
-    sets (Enter s) = set (names_in net s)
 
-    by_sets : (c : Clause) (b : Bool) → IsShallow bytes (sign (clause_symbol c) ∷ (if b then sign symbol.RoundOpen ∷ (sets_words net c ++ sign symbol.RoundClose ∷ []) else [])) (if b then 1 else 0)
-    by_sets c true = in_turn (one (sign (clause_symbol c)) (plain_clause c) 1) (lower (omega arith) (round (sets c)))
-    by_sets c false = one (sign (clause_symbol c)) (plain_clause c) 0
+    by_sets : (c : Call) (b : Bool) → IsShallow bytes (sign (call_symbol c) ∷ (if b then sign symbol.RoundOpen ∷ (sets_words net c ++ sign symbol.RoundClose ∷ []) else [])) (if b then 1 else 0)
+    by_sets c true = in_turn (one (sign (call_symbol c)) (plain_call c) 1) (lower (omega arith) (round (sets c)))
+    by_sets c false = one (sign (call_symbol c)) (plain_call c) 0
 
-    calls_shallow : (cs : List Clause) → IsShallow bytes (calls_words net cs) 1
+    calls_shallow : (cs : List Call) → IsShallow bytes (calls_words net cs) 1
     calls_shallow [] = none 1
     calls_shallow (c ∷ cs) =
-        in_turn (one (sign (clause_symbol c)) (plain_clause c) 1)
+        in_turn (one (sign (call_symbol c)) (plain_call c) 1)
         (lower (omega arith) (round (in_turn (sets c) (each 0 (next_sets net) (λ d. in_turn (one (sign symbol.Above) (λ k. (refl, refl)) 0) (sets d)) cs))))
 
     by_brackets : (b : Bool) {v : List Word} {most : ℕ} → IsShallow bytes v most → IsShallow bytes (in_brackets b v) ((if b then 1 else 0) + most)

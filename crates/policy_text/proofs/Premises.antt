@@ -1,26 +1,23 @@
 -- A printable policy can be read and built.
-use Rattle.std.proofs.Common.{◌≡◌, ℕ, ◌+◌, ◌≤◌, List, [], ◌∷◌, length, Some, refl, sym, ap, ◌∙◌, arith, length-append}
+use Rattle.std.proofs.Common.{◌≡◌, ℕ, ◌+◌, ◌≤◌, List, [], ◌∷◌, length, ◌∙◌, arith, length-append}
 use Rattle.std.specs.Prelude.{IsTrue}
 use Rattle.std.specs.List.{AllByRecursion, IsDistinct}
 use Rattle.std.specs.Str.{bytes_eq}
 use Rattle.net_base.specs.declared.loc.LocSet.{LocSet}
-use Rattle.net_base.specs.Network.{PlainNet, IsNet, sites}
-use Rattle.policy_grammar.specs.Symbols.{word_symbol, item_word, operator, path_call, place_call}
-use Rattle.policy_grammar.specs.Calls.{word_of}
-use Rattle.path_words.specs.declared.clause.Clause.{Clause}
-use Rattle.path_words.specs.declared.clause.Clause.TheVariants.{Any, Drop, Internal, Avoid, Through, NoTransit, Start, End, Link, Path, Exit, Enter}
-use Rattle.path_words.specs.declared.policy.FromSet.{FromSet}
-use Rattle.path_words.specs.declared.policy.FromSet.TheVariants as from_set
-use Rattle.path_words.specs.declared.policy.Origin.{Origin}
-use Rattle.path_words.specs.Policies.{Ranking, call, calls, prefer, either, both, negated, PlainStatement}
-use Rattle.policy_text.specs.PolicyText.{clause_word}
+use Rattle.net_base.specs.Network.{PlainNet, IsNet, sites, is_router, is_location}
+use Rattle.policy_base.specs.declared.call.Call.{Call}
+use Rattle.policy_base.specs.declared.call.Call.TheVariants.{Any, Drop, Internal, Link, Path, Of}
+use Rattle.policy_base.specs.declared.policy.FromSet.{FromSet}
+use Rattle.policy_base.specs.declared.policy.FromSet.TheVariants as from_set
+use Rattle.policy_base.specs.declared.policy.Origin.{Origin}
+use Rattle.policy_base.specs.Policies.{Ranking, call, calls, prefer, either, both, negated, PlainStatement}
+use Rattle.policy_base.specs.CallWords.{word_of}
 use Rattle.policy_text.specs.Printable.{IsCallSet, HasCallSets, has_one_set, IsWritable, IsWritableFrom, IsPrintableStatement, IsPrintableOrigin}
-use Rattle.policy_text.specs.Values.{IsLocSet, clause_sets, HasLocSets, HasSources, IsStatementValue}
+use Rattle.policy_text.specs.Values.{IsLocSet, sets_in, HasLocSets, HasSources, IsStatementValue}
 use Rattle.net_base.specs.Prefixes.{IsPrefix}
-use Rattle.net_base.specs.Network.{is_router, is_location}
 use Rattle.std.proofs.lemmas.Bool.{ltb-true, lt-ltb}
 use Rattle.list_laws.proofs.Each.{AllByRecursion-both}
-use Rattle.policy_text.proofs.ReadCalls.{IsFilled, set_in, call_word, IsReadable, HasOne}
+use Rattle.policy_text.proofs.ReadCalls.{IsFilled, set_in, IsReadable, HasOne}
 use Rattle.policy_text.proofs.ReadLevels.{IsReadableRanking}
 use Rattle.policy_text.proofs.ReadItems.{IsNamed, HasSources as HasNamed, IsReadableStatement}
 use Rattle.policy_text.proofs.LocSets.{is_words}
@@ -28,25 +25,6 @@ use Rattle.policy_text.proofs.Lookups.{site_names}
 use Rattle.policy_text.proofs.BuildSets.{IsSet, named, filled}
 use Rattle.policy_text.proofs.BuildRankings.{IsFineCall, IsLike, IsFine}
 use Rattle.policy_text.proofs.BuildItems.{IsFineFrom, IsFineStatement, IsFineOrigin}
-
-word_there : (c : Clause) → word_of (word_symbol (clause_word c)) ≡ Some (call_word c)
-unfolding word_symbol item_word operator path_call place_call
-word_there Any = refl
-word_there Drop = refl
-word_there Internal = refl
-word_there (Avoid s) = refl
-word_there (Through s) = refl
-word_there (NoTransit s) = refl
-word_there (Start s) = refl
-word_there (End s) = refl
-word_there (Link a b) = refl
-word_there (Path ps) = refl
-word_there (Exit s) = refl
-word_there (Enter s) = refl
-
--- calls of one name have one word
-same_word : (c d : Clause) → clause_word d ≡ clause_word c → call_word d ≡ call_word c
-same_word c d same = let e : Some (call_word d) ≡ Some (call_word c) = sym (word_there d) ∙ ap (λ (w : List ℕ). word_of (word_symbol w)) same ∙ word_there c in cc
 
 pub small_net : (net : PlainNet) → IsNet net → length (sites net) ≤ 768
 small_net net is = let a : length net.routers ≤ 512 = is.routers in let b : length net.peers ≤ 256 = is.peers in omega (arith, length-append net.routers net.peers, a, b)
@@ -61,59 +39,41 @@ module _ (bytes : List ℕ) (net : PlainNet) (apart : IsDistinct bytes_eq (site_
   filled_set : (s : LocSet) → IsCallSet net s → IsLocSet s → IsFilled net s
   filled_set s sets is = filled bytes net apart small s (fine_set s sets is) sets.1
 
-  fine_call : (c : Clause) → HasCallSets net c → AllByRecursion IsLocSet (clause_sets c) → IsFineCall bytes net apart small c
+  fine_call : (c : Call) → HasCallSets net c → AllByRecursion IsLocSet (sets_in c) → IsFineCall bytes net apart small c
   fine_call Any sets is = (tt, omega arith)
   fine_call Drop sets is = (tt, omega arith)
   fine_call Internal sets is = (tt, omega arith)
-  fine_call (Avoid s) sets is = ((fine_set s sets is.0, tt), omega arith)
-  fine_call (Through s) sets is = ((fine_set s sets is.0, tt), omega arith)
-  fine_call (NoTransit s) sets is = ((fine_set s sets is.0, tt), omega arith)
-  fine_call (Start s) sets is = ((fine_set s sets is.0, tt), omega arith)
-  fine_call (End s) sets is = ((fine_set s sets is.0, tt), omega arith)
+  fine_call (Of c s) sets is = ((fine_set s sets is.0, tt), omega arith)
   fine_call (Link a b) sets is = ((fine_set a sets.0 is.0, (fine_set b sets.1 is.1.0, tt)), omega arith)
   fine_call (Path ps) sets is = (AllByRecursion-both (IsCallSet net) IsLocSet FineSet fine_set ps sets.0 is, sets.2)
-  fine_call (Exit s) sets is = ((fine_set s sets is.0, tt), omega arith)
-  fine_call (Enter s) sets is = ((fine_set s sets is.0, tt), omega arith)
 
-  readable_call : (c : Clause) → HasCallSets net c → AllByRecursion IsLocSet (clause_sets c) → IsReadable bytes net c
+  readable_call : (c : Call) → HasCallSets net c → AllByRecursion IsLocSet (sets_in c) → IsReadable bytes net c
   readable_call Any sets is = tt
   readable_call Drop sets is = tt
   readable_call Internal sets is = tt
-  readable_call (Avoid s) sets is = (filled_set s sets is.0, tt)
-  readable_call (Through s) sets is = (filled_set s sets is.0, tt)
-  readable_call (NoTransit s) sets is = (filled_set s sets is.0, tt)
-  readable_call (Start s) sets is = (filled_set s sets is.0, tt)
-  readable_call (End s) sets is = (filled_set s sets is.0, tt)
+  readable_call (Of c s) sets is = (filled_set s sets is.0, tt)
   readable_call (Link a b) sets is = (filled_set a sets.0 is.0, (filled_set b sets.1 is.1.0, tt))
   readable_call (Path ps) sets is = (sets.1, AllByRecursion-both (IsCallSet net) IsLocSet (IsFilled net) filled_set ps sets.0 is)
-  readable_call (Exit s) sets is = (filled_set s sets is.0, tt)
-  readable_call (Enter s) sets is = (filled_set s sets is.0, tt)
 
-  only_set : (c : Clause) → IsTrue (has_one_set c) → HasCallSets net c → AllByRecursion IsLocSet (clause_sets c) → IsCallSet net (set_in c) × IsLocSet (set_in c)
+  only_set : (c : Call) → IsTrue (has_one_set c) → HasCallSets net c → AllByRecursion IsLocSet (sets_in c) → IsCallSet net (set_in c) × IsLocSet (set_in c)
   only_set Any one sets is = absurd (cc)
   only_set Drop one sets is = absurd (cc)
   only_set Internal one sets is = absurd (cc)
   only_set (Link a b) one sets is = absurd (cc)
   only_set (Path ps) one sets is = absurd (cc)
-  only_set (Avoid s) one sets is = (sets, is.0)
-  only_set (Through s) one sets is = (sets, is.0)
-  only_set (NoTransit s) one sets is = (sets, is.0)
-  only_set (Start s) one sets is = (sets, is.0)
-  only_set (End s) one sets is = (sets, is.0)
-  only_set (Exit s) one sets is = (sets, is.0)
-  only_set (Enter s) one sets is = (sets, is.0)
+  only_set (Of c s) one sets is = (sets, is.0)
 
   -- a call of a ranked list
-  abbrev Ranked : Clause → Clause → Type 0
-  Ranked c d = (clause_word d ≡ clause_word c) × IsTrue (has_one_set d) × HasCallSets net d
+  abbrev Ranked : Call → Call → Type 0
+  Ranked c d = (word_of d ≡ word_of c) × IsTrue (has_one_set d) × HasCallSets net d
 
-  abbrev LocSets : Clause → Type 0
-  LocSets d = AllByRecursion IsLocSet (clause_sets d)
+  abbrev LocSets : Call → Type 0
+  LocSets d = AllByRecursion IsLocSet (sets_in d)
 
-  like : (c d : Clause) → Ranked c d → LocSets d → IsLike bytes net apart small c d
-  like c d ranked is = let x = only_set d ranked.1 ranked.2 is in (ranked.1, fine_set (set_in d) x.0 x.1, same_word c d ranked.0)
+  like : (c d : Call) → Ranked c d → LocSets d → IsLike bytes net apart small c d
+  like c d ranked is = let x = only_set d ranked.1 ranked.2 is in (ranked.1, fine_set (set_in d) x.0 x.1, ranked.0)
 
-  has_one : (c d : Clause) → Ranked c d → LocSets d → HasOne bytes net d
+  has_one : (c d : Call) → Ranked c d → LocSets d → HasOne bytes net d
   has_one c d ranked is = let x = only_set d ranked.1 ranked.2 is in (ranked.1, filled_set (set_in d) x.0 x.1)
 
   fine_ranking : (r : Ranking) → IsWritable net r → HasLocSets r → IsFine bytes net apart small r

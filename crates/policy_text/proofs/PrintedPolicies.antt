@@ -14,8 +14,8 @@ use Rattle.policy_grammar.specs.Deep.{first_deep}
 use Rattle.policy_grammar.specs.Items.{items_of}
 use Rattle.policy_rules.specs.KnownNames.{Names, net_names}
 use Rattle.policy_rules.specs.Checks.{all_learnt}
-use Rattle.path_words.specs.declared.policy.Origin.{Origin}
-use Rattle.path_words.specs.Policies.{PlainStatement, PlainPolicy}
+use Rattle.policy_base.specs.declared.policy.Origin.{Origin}
+use Rattle.policy_base.specs.Policies.{PlainStatement, PlainPolicy}
 use Rattle.policy_parser.specs.Spelled.{items_spelled, names_spelled, rules_kept, policy_built, spelled}
 use Rattle.policy_text.specs.PolicyText.{policy_text}
 use Rattle.policy_text.specs.Printable.{IsPrintable, IsPrintableStatement, IsPrintableOrigin}

@@ -9,6 +9,7 @@ use Rattle.net_base.specs.Network.{PlainNet}
 use Rattle.net_base.specs.Prefixes.{PlainPattern}
 use Rattle.policy_grammar.specs.declared.lexeme.Lexeme.{Lexeme}
 use Rattle.policy_grammar.specs.declared.symbol.Symbol.TheVariants as symbol
+use Rattle.policy_base.specs.declared.call.CallWord.TheVariants as word
 use Rattle.policy_grammar.specs.Raw.{Arg, Arg as arg, RawPattern, RawStatement, Item, Step}
 use Rattle.policy_grammar.specs.Raw.RawPattern.{All, Only, UpTo}
 use Rattle.policy_grammar.specs.Raw.Item.{Originate, State}
@@ -17,10 +18,10 @@ use Rattle.policy_grammar.specs.Reading.{first_of, after}
 use Rattle.policy_grammar.specs.Calls.{set_at}
 use Rattle.policy_grammar.specs.Items.{pattern_at, patterns_at, predicate_at, from_at, statement_at, originate_at}
 use Rattle.policy_rules.specs.Checks.{text}
-use Rattle.path_words.specs.declared.policy.FromSet.{FromSet}
-use Rattle.path_words.specs.declared.policy.FromSet.TheVariants as from_set
-use Rattle.path_words.specs.declared.policy.Origin.{Origin}
-use Rattle.path_words.specs.Policies.{PlainStatement}
+use Rattle.policy_base.specs.declared.policy.FromSet.{FromSet}
+use Rattle.policy_base.specs.declared.policy.FromSet.TheVariants as from_set
+use Rattle.policy_base.specs.declared.policy.Origin.{Origin}
+use Rattle.policy_base.specs.Policies.{PlainStatement}
 use Rattle.policy_text.specs.PolicyText.{names_in, is_everything}
 use Rattle.policy_text.specs.Printable.{open_brackets}
 use Rattle.policy_text.proofs.Words.{Word, sign, figure, AreWords, name_words, pattern_words, patterns_words, from_words, statement_words, ranking_words}
@@ -125,7 +126,7 @@ module _ (bytes : List ℕ) (net : PlainNet) where
       record {
         out = arg.Names x.out;
         rest = x.rest;
-        is = either-not bytes symbol.Any ls (name_words (has.0 ∷ has.1) ++ ws) _ _ here refl ∙ rw x.is refl;
+        is = either-not bytes (symbol.Call word.Any) ls (name_words (has.0 ∷ has.1) ++ ws) _ _ here refl ∙ rw x.is refl;
         right = (x.out, refl, subst (λ (ns : List (List ℕ)). AreNamesOf bytes x.out ns) (sym has.2) x.right);
         left = x.left;
       }

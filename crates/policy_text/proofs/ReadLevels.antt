@@ -8,11 +8,12 @@ use Rattle.policy_grammar.specs.declared.symbol.Symbol.TheVariants as symbol
 use Rattle.policy_grammar.specs.Raw.{Step, Step as step}
 use Rattle.policy_grammar.specs.Symbols.{number_of}
 use Rattle.policy_grammar.specs.Ranked.{Reader, ranked_with, inner_at, atom_with, unit_with}
-use Rattle.path_words.specs.declared.clause.Clause.{Clause}
-use Rattle.path_words.specs.declared.clause.Clause.TheVariants.{Any, Drop, Internal, Avoid, Through, NoTransit, Start, End, Link, Path, Exit, Enter}
-use Rattle.path_words.specs.Policies.{Ranking, call, calls, prefer, either as choice, both, negated}
+use Rattle.policy_base.specs.declared.call.Call.{Call}
+use Rattle.policy_base.specs.CallWords.{word_of}
+use Rattle.policy_grammar.proofs.Symbols.{call_apart}
+use Rattle.policy_base.specs.Policies.{Ranking, call, calls, prefer, either as choice, both, negated}
 use Rattle.policy_text.specs.Printable.{open_brackets}
-use Rattle.policy_text.proofs.Words.{Word, sign, AreWords, clause_symbol, call_words, calls_words, ranking_words}
+use Rattle.policy_text.proofs.Words.{Word, sign, AreWords, call_symbol, call_words, calls_words, ranking_words}
 use Rattle.policy_text.proofs.Readings.{IsPast, either-here, either-not, passes}
 use Rattle.policy_text.proofs.ReadCalls.{IsReadable, HasOne, Reads-call, Reads-calls}
 use Rattle.policy_text.proofs.ReadRankings.{ReadsSteps, ReadsFrom, joins, Opens, open_side, closed, open_more}
@@ -46,33 +47,11 @@ abbrev pub rankeds : ℕ → Reader
 rankeds d = joins symbol.Above (λ l. step.Above l.place) (choices d)
 
 -- no call begins with `(` or `not`
-not_open : (c : Clause) → (number_of (clause_symbol c) == number_of symbol.RoundOpen) ≡ false
-not_open Any = refl
-not_open Drop = refl
-not_open Internal = refl
-not_open (Avoid s) = refl
-not_open (Through s) = refl
-not_open (NoTransit s) = refl
-not_open (Start s) = refl
-not_open (End s) = refl
-not_open (Link a b) = refl
-not_open (Path ps) = refl
-not_open (Exit s) = refl
-not_open (Enter s) = refl
+not_open : (c : Call) → (number_of (call_symbol c) == number_of symbol.RoundOpen) ≡ false
+not_open c = call_apart (word_of c) 16 (omega arith)
 
-not_not : (c : Clause) → (number_of (clause_symbol c) == number_of symbol.Not) ≡ false
-not_not Any = refl
-not_not Drop = refl
-not_not Internal = refl
-not_not (Avoid s) = refl
-not_not (Through s) = refl
-not_not (NoTransit s) = refl
-not_not (Start s) = refl
-not_not (End s) = refl
-not_not (Link a b) = refl
-not_not (Path ps) = refl
-not_not (Exit s) = refl
-not_not (Enter s) = refl
+not_not : (c : Call) → (number_of (call_symbol c) == number_of symbol.Not) ≡ false
+not_not c = call_apart (word_of c) 8 (omega arith)
 
 module _ (bytes : List ℕ) (net : PlainNet) where
   abbrev JointOpens : ℕ → List Word → Ranking → Type 0
@@ -125,7 +104,7 @@ module _ (bytes : List ℕ) (net : PlainNet) where
         left = x.left;
       }
 
-  call_atom : (c : Clause) → IsReadable bytes net c → (most : ℕ) → ReadsFrom bytes net atoms Anywhere most (call_words net c) (call c)
+  call_atom : (c : Call) → IsReadable bytes net c → (most : ℕ) → ReadsFrom bytes net atoms Anywhere most (call_words net c) (call c)
   call_atom c fine most d out ls ws room are fits =
       let x = Reads-call bytes net c fine ls ws are in
       record {
@@ -136,7 +115,7 @@ module _ (bytes : List ℕ) (net : PlainNet) where
         left = x.left;
       }
 
-  calls_atom : (c : Clause) (cs : List Clause) → HasOne bytes net c → AllByRecursion (HasOne bytes net) cs → (most : ℕ) → ReadsFrom bytes net atoms Anywhere most (calls_words net (c ∷ cs)) (calls (c ∷ cs))
+  calls_atom : (c : Call) (cs : List Call) → HasOne bytes net c → AllByRecursion (HasOne bytes net) cs → (most : ℕ) → ReadsFrom bytes net atoms Anywhere most (calls_words net (c ∷ cs)) (calls (c ∷ cs))
   calls_atom c cs one all most d out ls ws room are fits =
       let x = Reads-calls bytes net c cs one all ls ws are in
       record {
@@ -170,7 +149,7 @@ module _ (bytes : List ℕ) (net : PlainNet) where
   choice_closed : (b : Ranking) → AreRead b → ReadsFrom bytes net choices BehindChoice (open_brackets 2 b) (ranking_words net 2 b) b
   choice_closed b y = closed bytes net symbol.Or (λ l. step.Or) joints BehindJoint _ _ b y.choice
 
-  AreRead-call : (c : Clause) → IsReadable bytes net c → AreRead (call c)
+  AreRead-call : (c : Call) → IsReadable bytes net c → AreRead (call c)
   AreRead-call c fine =
       let most : ℕ = open_brackets 1 (call c) in
       let v : List Word = call_words net c in
@@ -180,7 +159,7 @@ module _ (bytes : List ℕ) (net : PlainNet) where
       let choice : ChoiceOpens most v (call c) = choice_from most v (call c) joint in
       record { atom = atom; unit = unit; joint = joint; choice = choice; ranked = ranked_from most v (call c) choice }
 
-  AreRead-calls : (c : Clause) (cs : List Clause) → HasOne bytes net c → AllByRecursion (HasOne bytes net) cs → AreRead (calls (c ∷ cs))
+  AreRead-calls : (c : Call) (cs : List Call) → HasOne bytes net c → AllByRecursion (HasOne bytes net) cs → AreRead (calls (c ∷ cs))
   AreRead-calls c cs one all =
       let v : List Word = calls_words net (c ∷ cs) in
       let atom : ReadsFrom bytes net atoms Anywhere 1 v (calls (c ∷ cs)) = calls_atom c cs one all 1 in

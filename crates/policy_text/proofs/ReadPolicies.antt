@@ -11,8 +11,8 @@ use Rattle.policy_grammar.specs.declared.symbol.Symbol.TheVariants as symbol
 use Rattle.policy_grammar.specs.Raw.{Item}
 use Rattle.policy_grammar.specs.Reading.{past}
 use Rattle.policy_grammar.specs.Items.{item_at, items_from, items_of}
-use Rattle.path_words.specs.declared.policy.Origin.{Origin}
-use Rattle.path_words.specs.Policies.{PlainStatement, PlainPolicy}
+use Rattle.policy_base.specs.declared.policy.Origin.{Origin}
+use Rattle.policy_base.specs.Policies.{PlainStatement, PlainPolicy}
 use Rattle.policy_text.specs.PolicyText.{is_everything}
 use Rattle.policy_text.proofs.Words.{Word, sign, figure, AreWords, pattern_words, patterns_words, from_words, statement_words, origin_words, ranking_words, next_pattern, policy_words}
 use Rattle.policy_text.proofs.Readings.{IsPast, Pairs, Reads, length-words, past-not, either-here, either-not}

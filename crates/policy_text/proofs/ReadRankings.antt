@@ -8,16 +8,17 @@ use Rattle.policy_grammar.specs.declared.symbol.Symbol.{Symbol}
 use Rattle.policy_grammar.specs.Raw.{RawCall, Step, Step as step}
 use Rattle.policy_grammar.specs.Reading.{Read, chain}
 use Rattle.policy_grammar.specs.Ranked.{Reader, with_step}
-use Rattle.path_words.specs.Policies.{Ranking, call, calls, prefer, either as choice, both, negated}
-use Rattle.policy_text.specs.Values.{clause_sets}
+use Rattle.policy_base.specs.Policies.{Ranking, call, calls, prefer, either as choice, both, negated}
+use Rattle.policy_base.specs.CallWords.{word_of}
+use Rattle.policy_text.specs.Values.{sets_in}
 use Rattle.policy_text.proofs.Words.{Word, sign, AreWords}
 use Rattle.policy_text.proofs.Readings.{IsPast, Reads, length-words, past-not, past-joint, chain_done, chain_more}
-use Rattle.policy_text.proofs.ReadCalls.{IsRawCall, IsLoneCall, set_in, call_word}
+use Rattle.policy_text.proofs.ReadCalls.{IsRawCall, IsLoneCall, set_in}
 
 abbrev pub AreSteps : List ℕ → PlainNet → Ranking → List Step → Type 0
-AreSteps bytes net (call c) steps = (raw : RawCall) × (steps ≡ step.Call raw ∷ []) × IsLoneCall bytes net (call_word c) (clause_sets c) raw
+AreSteps bytes net (call c) steps = (raw : RawCall) × (steps ≡ step.Call raw ∷ []) × IsLoneCall bytes net (word_of c) (sets_in c) raw
 AreSteps bytes net (calls []) steps = ⊥
-AreSteps bytes net (calls (c ∷ cs)) steps = (raw : RawCall) × (steps ≡ step.Call raw ∷ []) × IsRawCall bytes net (call_word c) (map set_in (c ∷ cs)) raw
+AreSteps bytes net (calls (c ∷ cs)) steps = (raw : RawCall) × (steps ≡ step.Call raw ∷ []) × IsRawCall bytes net (word_of c) (map set_in (c ∷ cs)) raw
 AreSteps bytes net (prefer a b) steps = (ss : List Step) × (ts : List Step) × (p : Place) × (steps ≡ ss ++ ts ++ step.Above p ∷ []) × AreSteps bytes net a ss × AreSteps bytes net b ts
 AreSteps bytes net (choice a b) steps = (ss : List Step) × (ts : List Step) × (steps ≡ ss ++ ts ++ step.Or ∷ []) × AreSteps bytes net a ss × AreSteps bytes net b ts
 AreSteps bytes net (both a b) steps = (ss : List Step) × (ts : List Step) × (steps ≡ ss ++ ts ++ step.And ∷ []) × AreSteps bytes net a ss × AreSteps bytes net b ts

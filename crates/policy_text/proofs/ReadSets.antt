@@ -5,6 +5,7 @@ use Rattle.std.specs.List.{AllByRecursion}
 use Rattle.net_base.specs.Network.{PlainNet}
 use Rattle.policy_grammar.specs.declared.lexeme.Lexeme.{Lexeme}
 use Rattle.policy_grammar.specs.declared.symbol.Symbol.TheVariants as symbol
+use Rattle.policy_base.specs.declared.call.CallWord.TheVariants as word
 use Rattle.policy_grammar.specs.Raw.{Arg, Arg as arg}
 use Rattle.policy_grammar.specs.Reading.{first_of}
 use Rattle.policy_grammar.specs.Names.{names_at, braced_at}
@@ -54,18 +55,18 @@ module _ (bytes : List ℕ) (net : PlainNet) where
       let rest = passes bytes symbol.BraceClose names.rest (sign symbol.BraceClose) ws names.left refl in
       record { out = names.out; rest = rest.rest; is = rw (inside.is, names.is, rest.is) refl; right = names.right; left = rest.left }
 
-  any_set : (names : List (List ℕ)) (ls : List Lexeme) (ws : List Word) → are_all net names ≡ true → AreWords bytes ls (sign symbol.Any ∷ ws) → Reads bytes (set_at ls) (λ a. IsArgOf bytes net a names) ws
+  any_set : (names : List (List ℕ)) (ls : List Lexeme) (ws : List Word) → are_all net names ≡ true → AreWords bytes ls (sign (symbol.Call word.Any) ∷ ws) → Reads bytes (set_at ls) (λ a. IsArgOf bytes net a names) ws
   unfolding set_at
   any_set names [] ws all are = absurd are
-  any_set names (l ∷ ls) ws all are = record { out = arg.Any; rest = ls; is = either-here bytes symbol.Any l ls (sign symbol.Any) _ _ are.0 refl; right = all; left = are.1 }
+  any_set names (l ∷ ls) ws all are = record { out = arg.Any; rest = ls; is = either-here bytes (symbol.Call word.Any) l ls (sign (symbol.Call word.Any)) _ _ are.0 refl; right = all; left = are.1 }
 
   named_set : (n : List ℕ) (ns : List (List ℕ)) (ls : List Lexeme) (ws : List Word) → AreWords bytes ls (name_words (n ∷ ns) ++ ws) → IsPast symbol.Comma ws → Reads bytes (set_at ls) (λ a. IsArgOf bytes net a (n ∷ ns)) ws
   unfolding set_at
   named_set n ns ls ws are other =
       let x = Reads-names n ns ls ws are other in
-      record { out = arg.Names x.out; rest = x.rest; is = either-not bytes symbol.Any ls (name_words (n ∷ ns) ++ ws) _ _ are refl ∙ rw x.is refl; right = x.right; left = x.left }
+      record { out = arg.Names x.out; rest = x.rest; is = either-not bytes (symbol.Call word.Any) ls (name_words (n ∷ ns) ++ ws) _ _ are refl ∙ rw x.is refl; right = x.right; left = x.left }
 
-  by_all : (b : Bool) (names : List (List ℕ)) (ls : List Lexeme) (ws : List Word) → are_all net names ≡ b → AreFilled net names → AreWords bytes ls ((if b then sign symbol.Any ∷ [] else name_words names) ++ ws) → IsPast symbol.Comma ws
+  by_all : (b : Bool) (names : List (List ℕ)) (ls : List Lexeme) (ws : List Word) → are_all net names ≡ b → AreFilled net names → AreWords bytes ls ((if b then sign (symbol.Call word.Any) ∷ [] else name_words names) ++ ws) → IsPast symbol.Comma ws
       → Reads bytes (set_at ls) (λ a. IsArgOf bytes net a names) ws
   by_all true names ls ws all filled are other = any_set names ls ws all are
   by_all false [] ls ws all filled are other = absurd (let e : true ≡ false = sym filled ∙ all in cc)
@@ -75,10 +76,10 @@ module _ (bytes : List ℕ) (net : PlainNet) where
       → Reads bytes (set_at ls) (λ a. IsArgOf bytes net a names) ws
   Reads-set names ls ws filled are other = by_all (are_all net names) names ls ws refl filled are other
 
-  any_place : (names : List (List ℕ)) (ls : List Lexeme) (ws : List Word) → are_all net names ≡ true → AreWords bytes ls (sign symbol.Any ∷ ws) → Reads bytes (one_at ls) (λ a. IsArgOf bytes net a names) ws
+  any_place : (names : List (List ℕ)) (ls : List Lexeme) (ws : List Word) → are_all net names ≡ true → AreWords bytes ls (sign (symbol.Call word.Any) ∷ ws) → Reads bytes (one_at ls) (λ a. IsArgOf bytes net a names) ws
   unfolding one_at
   any_place names [] ws all are = absurd are
-  any_place names (l ∷ ls) ws all are = record { out = arg.Any; rest = ls; is = either-here bytes symbol.Any l ls (sign symbol.Any) _ _ are.0 refl; right = all; left = are.1 }
+  any_place names (l ∷ ls) ws all are = record { out = arg.Any; rest = ls; is = either-here bytes (symbol.Call word.Any) l ls (sign (symbol.Call word.Any)) _ _ are.0 refl; right = all; left = are.1 }
 
   one_place : (n : List ℕ) (ls : List Lexeme) (ws : List Word) → AreWords bytes ls (name n ∷ ws) → Reads bytes (one_at ls) (λ a. IsArgOf bytes net a (n ∷ [])) ws
   unfolding one_at
@@ -87,7 +88,7 @@ module _ (bytes : List ℕ) (net : PlainNet) where
       record {
         out = arg.Names (x.out ∷ []);
         rest = x.rest;
-        is = either-not bytes symbol.Any ls (name n ∷ ws) _ _ are refl ∙ either-not bytes symbol.BraceOpen ls (name n ∷ ws) _ _ are refl ∙ rw x.is refl;
+        is = either-not bytes (symbol.Call word.Any) ls (name n ∷ ws) _ _ are refl ∙ either-not bytes symbol.BraceOpen ls (name n ∷ ws) _ _ are refl ∙ rw x.is refl;
         right = (x.right.1, tt);
         left = x.left;
       }
@@ -100,12 +101,12 @@ module _ (bytes : List ℕ) (net : PlainNet) where
       record {
         out = arg.Names x.out;
         rest = x.rest;
-        is = either-not bytes symbol.Any (l ∷ ls) (braced_words (n ∷ m ∷ ns) ++ ws) _ _ are refl ∙ either-here bytes symbol.BraceOpen l ls (sign symbol.BraceOpen) _ _ are.0 refl ∙ rw x.is refl;
+        is = either-not bytes (symbol.Call word.Any) (l ∷ ls) (braced_words (n ∷ m ∷ ns) ++ ws) _ _ are refl ∙ either-here bytes symbol.BraceOpen l ls (sign symbol.BraceOpen) _ _ are.0 refl ∙ rw x.is refl;
         right = x.right;
         left = x.left;
       }
 
-  by_place : (b : Bool) (names : List (List ℕ)) (ls : List Lexeme) (ws : List Word) → are_all net names ≡ b → AreFilled net names → AreWords bytes ls ((if b then sign symbol.Any ∷ [] else braced_words names) ++ ws)
+  by_place : (b : Bool) (names : List (List ℕ)) (ls : List Lexeme) (ws : List Word) → are_all net names ≡ b → AreFilled net names → AreWords bytes ls ((if b then sign (symbol.Call word.Any) ∷ [] else braced_words names) ++ ws)
       → Reads bytes (one_at ls) (λ a. IsArgOf bytes net a names) ws
   by_place true names ls ws all filled are = any_place names ls ws all are
   by_place false [] ls ws all filled are = absurd (let e : true ≡ false = sym filled ∙ all in cc)

@@ -10,12 +10,14 @@ use Rattle.policy_grammar.specs.declared.lexeme.Lexeme.{Lexeme}
 use Rattle.policy_grammar.specs.declared.symbol.Symbol.{Symbol}
 use Rattle.policy_grammar.specs.declared.symbol.Symbol.TheVariants as symbol
 use Rattle.policy_rules.specs.Checks.{text}
-use Rattle.path_words.specs.declared.clause.Clause.{Clause}
-use Rattle.path_words.specs.declared.clause.Clause.TheVariants.{Any, Drop, Internal, Avoid, Through, NoTransit, Start, End, Link, Path, Exit, Enter}
-use Rattle.path_words.specs.declared.policy.FromSet.{FromSet}
-use Rattle.path_words.specs.declared.policy.FromSet.TheVariants as from_set
-use Rattle.path_words.specs.declared.policy.Origin.{Origin}
-use Rattle.path_words.specs.Policies.{Ranking, call, calls, prefer, either, both, negated, PlainStatement, PlainPolicy}
+use Rattle.policy_base.specs.declared.call.Call.{Call}
+use Rattle.policy_base.specs.declared.call.Call.TheVariants.{Any, Drop, Internal, Link, Path, Of}
+use Rattle.policy_base.specs.declared.call.CallWord.TheVariants as word
+use Rattle.policy_base.specs.CallWords.{word_of}
+use Rattle.policy_base.specs.declared.policy.FromSet.{FromSet}
+use Rattle.policy_base.specs.declared.policy.FromSet.TheVariants as from_set
+use Rattle.policy_base.specs.declared.policy.Origin.{Origin}
+use Rattle.policy_base.specs.Policies.{Ranking, call, calls, prefer, either, both, negated, PlainStatement, PlainPolicy}
 use Rattle.policy_text.specs.PolicyText.{names_in, are_all, has_sets, is_everything}
 
 -- a word of the language or a sign, a name, a figure
@@ -45,14 +47,14 @@ name_words [] = []
 name_words (n ∷ ns) = name n ∷ flat_map next_name ns
 
 abbrev pub set_words : PlainNet → List (List ℕ) → List Word
-set_words net names = if are_all net names then sign symbol.Any ∷ [] else name_words names
+set_words net names = if are_all net names then sign (symbol.Call word.Any) ∷ [] else name_words names
 
 abbrev pub braced_words : List (List ℕ) → List Word
 braced_words (n ∷ []) = name n ∷ []
 braced_words ns = sign symbol.BraceOpen ∷ (name_words ns ++ sign symbol.BraceClose ∷ [])
 
 abbrev pub place_words : PlainNet → List (List ℕ) → List Word
-place_words net names = if are_all net names then sign symbol.Any ∷ [] else braced_words names
+place_words net names = if are_all net names then sign (symbol.Call word.Any) ∷ [] else braced_words names
 
 abbrev pub next_place : PlainNet → LocSet → List Word
 next_place net s = sign symbol.Comma ∷ place_words net (names_in net s)
@@ -61,43 +63,26 @@ abbrev pub places_words : PlainNet → List LocSet → List Word
 places_words net [] = []
 places_words net (s ∷ ss) = place_words net (names_in net s) ++ flat_map (next_place net) ss
 
-abbrev pub clause_symbol : Clause → Symbol
-clause_symbol Any = symbol.Any
-clause_symbol Drop = symbol.Drop
-clause_symbol Internal = symbol.Internal
-clause_symbol (Avoid s) = symbol.Avoid
-clause_symbol (Through s) = symbol.Through
-clause_symbol (NoTransit s) = symbol.NoTransit
-clause_symbol (Start s) = symbol.Start
-clause_symbol (End s) = symbol.End
-clause_symbol (Link a b) = symbol.Link
-clause_symbol (Path ps) = symbol.Path
-clause_symbol (Exit s) = symbol.Exit
-clause_symbol (Enter s) = symbol.Enter
+abbrev pub call_symbol : Call → Symbol
+call_symbol c = symbol.Call (word_of c)
 
-abbrev pub sets_words : PlainNet → Clause → List Word
+abbrev pub sets_words : PlainNet → Call → List Word
 sets_words net Any = []
 sets_words net Drop = []
 sets_words net Internal = []
-sets_words net (Avoid s) = set_words net (names_in net s)
-sets_words net (Through s) = set_words net (names_in net s)
-sets_words net (NoTransit s) = set_words net (names_in net s)
-sets_words net (Start s) = set_words net (names_in net s)
-sets_words net (End s) = set_words net (names_in net s)
+sets_words net (Of c s) = set_words net (names_in net s)
 sets_words net (Link a b) = places_words net (a ∷ b ∷ [])
 sets_words net (Path ps) = places_words net ps
-sets_words net (Exit s) = set_words net (names_in net s)
-sets_words net (Enter s) = set_words net (names_in net s)
 
-abbrev pub call_words : PlainNet → Clause → List Word
-call_words net c = sign (clause_symbol c) ∷ (if has_sets c then sign symbol.RoundOpen ∷ (sets_words net c ++ sign symbol.RoundClose ∷ []) else [])
+abbrev pub call_words : PlainNet → Call → List Word
+call_words net c = sign (call_symbol c) ∷ (if has_sets c then sign symbol.RoundOpen ∷ (sets_words net c ++ sign symbol.RoundClose ∷ []) else [])
 
-abbrev pub next_sets : PlainNet → Clause → List Word
+abbrev pub next_sets : PlainNet → Call → List Word
 next_sets net c = sign symbol.Above ∷ sets_words net c
 
-abbrev pub calls_words : PlainNet → List Clause → List Word
+abbrev pub calls_words : PlainNet → List Call → List Word
 calls_words net [] = []
-calls_words net (c ∷ cs) = sign (clause_symbol c) ∷ sign symbol.RoundOpen ∷ (sets_words net c ++ flat_map (next_sets net) cs ++ sign symbol.RoundClose ∷ [])
+calls_words net (c ∷ cs) = sign (call_symbol c) ∷ sign symbol.RoundOpen ∷ (sets_words net c ++ flat_map (next_sets net) cs ++ sign symbol.RoundClose ∷ [])
 
 abbrev pub in_brackets : Bool → List Word → List Word
 in_brackets b ws = if b then sign symbol.RoundOpen ∷ (ws ++ sign symbol.RoundClose ∷ []) else ws

@@ -7,12 +7,13 @@ use Rattle.net_base.specs.Network.{PlainNet, sites}
 use Rattle.net_base.specs.Prefixes.{PlainPattern}
 use Rattle.net_base.specs.Sets.{holds}
 use Rattle.text_words.specs.Texts.{prefix_text, pattern_text}
-use Rattle.path_words.specs.declared.clause.Clause.{Clause}
-use Rattle.path_words.specs.declared.clause.Clause.TheVariants.{Any, Drop, Internal, Avoid, Through, NoTransit, Start, End, Link, Path, Exit, Enter}
-use Rattle.path_words.specs.declared.policy.FromSet.{FromSet}
-use Rattle.path_words.specs.declared.policy.FromSet.TheVariants as from_set
-use Rattle.path_words.specs.declared.policy.Origin.{Origin}
-use Rattle.path_words.specs.Policies.{Ranking, call, calls, prefer, either, both, negated, PlainStatement, PlainPolicy}
+use Rattle.policy_base.specs.declared.call.Call.{Call}
+use Rattle.policy_base.specs.declared.call.Call.TheVariants.{Any, Drop, Internal, Link, Path, Of}
+use Rattle.policy_base.specs.CallWords.{word_of, word_text}
+use Rattle.policy_base.specs.declared.policy.FromSet.{FromSet}
+use Rattle.policy_base.specs.declared.policy.FromSet.TheVariants as from_set
+use Rattle.policy_base.specs.declared.policy.Origin.{Origin}
+use Rattle.policy_base.specs.Policies.{Ranking, call, calls, prefer, either, both, negated, PlainStatement, PlainPolicy}
 
 -- the names of those of some sites that are in a set; the first of them is the location l
 abbrev pub names_from : LocSet → ℕ → List Site → List (List ℕ)
@@ -56,54 +57,33 @@ unfoldable pub joined_places : PlainNet → List LocSet → List ℕ
 joined_places net [] = []
 joined_places net (s ∷ ss) = place_text net (names_in net s) ++ flat_map (next_place net) ss
 
--- the word of a call
-abbrev pub clause_word : Clause → List ℕ
-clause_word Any = codes "any"
-clause_word Drop = codes "drop"
-clause_word Internal = codes "internal"
-clause_word (Avoid s) = codes "avoid"
-clause_word (Through s) = codes "through"
-clause_word (NoTransit s) = codes "notransit"
-clause_word (Start s) = codes "start"
-clause_word (End s) = codes "end"
-clause_word (Link a b) = codes "link"
-clause_word (Path ps) = codes "path"
-clause_word (Exit s) = codes "exit"
-clause_word (Enter s) = codes "enter"
-
 -- the call has sets
-abbrev pub has_sets : Clause → Bool
+abbrev pub has_sets : Call → Bool
 has_sets Any = false
 has_sets Drop = false
 has_sets Internal = false
 has_sets _ = true
 
 -- the sets of a call
-abbrev pub sets_text : PlainNet → Clause → List ℕ
+abbrev pub sets_text : PlainNet → Call → List ℕ
 sets_text net Any = []
 sets_text net Drop = []
 sets_text net Internal = []
-sets_text net (Avoid s) = set_text net (names_in net s)
-sets_text net (Through s) = set_text net (names_in net s)
-sets_text net (NoTransit s) = set_text net (names_in net s)
-sets_text net (Start s) = set_text net (names_in net s)
-sets_text net (End s) = set_text net (names_in net s)
+sets_text net (Of c s) = set_text net (names_in net s)
 sets_text net (Link a b) = joined_places net (a ∷ b ∷ [])
 sets_text net (Path ps) = joined_places net ps
-sets_text net (Exit s) = set_text net (names_in net s)
-sets_text net (Enter s) = set_text net (names_in net s)
 
 -- a call: its word, and its sets in brackets
-unfoldable pub call_text : PlainNet → Clause → List ℕ
-call_text net c = clause_word c ++ (if has_sets c then codes "(" ++ sets_text net c ++ codes ")" else [])
+unfoldable pub call_text : PlainNet → Call → List ℕ
+call_text net c = word_text (word_of c) ++ (if has_sets c then codes "(" ++ sets_text net c ++ codes ")" else [])
 
-abbrev pub next_sets : PlainNet → Clause → List ℕ
+abbrev pub next_sets : PlainNet → Call → List ℕ
 next_sets net c = codes " >> " ++ sets_text net c
 
 -- a call with ranked sets, as `exit(A >> B)`
-unfoldable pub calls_text : PlainNet → List Clause → List ℕ
+unfoldable pub calls_text : PlainNet → List Call → List ℕ
 calls_text net [] = []
-calls_text net (c ∷ cs) = clause_word c ++ codes "(" ++ sets_text net c ++ flat_map (next_sets net) cs ++ codes ")"
+calls_text net (c ∷ cs) = word_text (word_of c) ++ codes "(" ++ sets_text net c ++ flat_map (next_sets net) cs ++ codes ")"
 
 -- a bracket, where one is needed
 abbrev pub opening : Bool → List ℕ

@@ -1,17 +1,18 @@
 -- Which policies have a text for a net.
-use Rattle.std.specs.Prelude.{◌≡◌, ◌≢◌, ℕ, ◌+◌, ◌≤◌, max, nat_lt, Bool, false, IsTrue, List, [], ◌∷◌, length, if◌then◌else◌, ◌⊎◌}
+use Rattle.std.specs.Prelude.{◌≡◌, ◌≢◌, ℕ, ◌+◌, ◌≤◌, max, nat_lt, Bool, true, false, IsTrue, List, [], ◌∷◌, length, if◌then◌else◌, ◌⊎◌}
 use Rattle.std.specs.List.{AllByRecursion}
 use Rattle.net_base.specs.declared.loc.LocSet.{LocSet}
 use Rattle.net_base.specs.Network.{PlainNet, is_router, is_location}
 use Rattle.net_base.specs.Sets.{holds}
-use Rattle.path_words.specs.declared.clause.Clause.{Clause}
-use Rattle.path_words.specs.declared.clause.Clause.TheVariants.{Any, Drop, Internal, Avoid, Through, NoTransit, Start, End, Link, Path, Exit, Enter}
-use Rattle.path_words.specs.declared.policy.FromSet.{FromSet}
-use Rattle.path_words.specs.declared.policy.FromSet.TheVariants as from_set
-use Rattle.path_words.specs.declared.policy.Origin.{Origin}
-use Rattle.path_words.specs.Policies.{Ranking, call, calls, prefer, either, both, negated, PlainStatement, PlainPolicy, IsPolicy}
-use Rattle.policy_text.specs.PolicyText.{has_sets, clause_word}
-use Rattle.net_base.specs.declared.limits.TheConstants.{BRACKETS, CALLS, PLACES}
+use Rattle.policy_base.specs.declared.call.Call.{Call}
+use Rattle.policy_base.specs.declared.call.Call.TheVariants.{Any, Drop, Internal, Link, Path, Of}
+use Rattle.policy_base.specs.CallWords.{word_of}
+use Rattle.policy_base.specs.declared.policy.FromSet.{FromSet}
+use Rattle.policy_base.specs.declared.policy.FromSet.TheVariants as from_set
+use Rattle.policy_base.specs.declared.policy.Origin.{Origin}
+use Rattle.policy_base.specs.Policies.{Ranking, call, calls, prefer, either, both, negated, PlainStatement, PlainPolicy, IsPolicy}
+use Rattle.policy_text.specs.PolicyText.{has_sets}
+use Rattle.policy_tokens.specs.declared.limits.TheConstants.{BRACKETS, CALLS, PLACES}
 
 -- the set holds no location that fails the test
 abbrev pub HoldsOnly : (ℕ → Bool) → LocSet → Type 0
@@ -25,30 +26,23 @@ abbrev pub IsCallSet : PlainNet → LocSet → Type 0
 IsCallSet net s = HoldsOnly (is_location net) s × (HoldsSome s ⊎ (length net.routers + length net.peers ≡ 0))
 
 -- the sets of a call, of which a `path` has from 2 to 256
-abbrev pub HasCallSets : PlainNet → Clause → Type 0
+abbrev pub HasCallSets : PlainNet → Call → Type 0
 HasCallSets net Any = Unit {0}
 HasCallSets net Drop = Unit {0}
 HasCallSets net Internal = Unit {0}
-HasCallSets net (Avoid s) = IsCallSet net s
-HasCallSets net (Through s) = IsCallSet net s
-HasCallSets net (NoTransit s) = IsCallSet net s
-HasCallSets net (Start s) = IsCallSet net s
-HasCallSets net (End s) = IsCallSet net s
+HasCallSets net (Of c s) = IsCallSet net s
 HasCallSets net (Link a b) = IsCallSet net a × IsCallSet net b
 HasCallSets net (Path ps) = AllByRecursion (IsCallSet net) ps × (2 ≤ length ps) × (length ps ≤ PLACES)
-HasCallSets net (Exit s) = IsCallSet net s
-HasCallSets net (Enter s) = IsCallSet net s
 
 -- the call has one set
-abbrev pub has_one_set : Clause → Bool
-has_one_set (Link a b) = false
-has_one_set (Path ps) = false
-has_one_set c = has_sets c
+abbrev pub has_one_set : Call → Bool
+has_one_set (Of c s) = true
+has_one_set _ = false
 
--- two calls at least, of one name, with one set each
-abbrev pub AreRanked : PlainNet → List Clause → Type 0
+-- two calls at least, of one word, with one set each
+abbrev pub AreRanked : PlainNet → List Call → Type 0
 AreRanked net [] = ⊥
-AreRanked net (c ∷ cs) = (1 ≤ length cs) × AllByRecursion (λ d. (clause_word d ≡ clause_word c) × IsTrue (has_one_set d) × HasCallSets net d) (c ∷ cs)
+AreRanked net (c ∷ cs) = (1 ≤ length cs) × AllByRecursion (λ d. (word_of d ≡ word_of c) × IsTrue (has_one_set d) × HasCallSets net d) (c ∷ cs)
 
 -- nothing in the expression is ranked
 abbrev pub HasNoRank : Ranking → Type 0

@@ -7,12 +7,12 @@ use Rattle.net_base.specs.declared.net.Site.{Site}
 use Rattle.net_base.specs.NameRule.{is_name}
 use Rattle.net_base.specs.Network.{PlainNet, sites}
 use Rattle.net_base.specs.Prefixes.{IsPrefix, IsPattern}
-use Rattle.path_words.specs.declared.clause.Clause.{Clause}
-use Rattle.path_words.specs.declared.clause.Clause.TheVariants.{Any, Drop, Internal, Avoid, Through, NoTransit, Start, End, Link, Path, Exit, Enter}
-use Rattle.path_words.specs.declared.policy.FromSet.{FromSet}
-use Rattle.path_words.specs.declared.policy.FromSet.TheVariants as from_set
-use Rattle.path_words.specs.declared.policy.Origin.{Origin}
-use Rattle.path_words.specs.Policies.{Ranking, call, calls, prefer, either, both, negated, PlainStatement, PlainPolicy}
+use Rattle.policy_base.specs.declared.call.Call.{Call}
+use Rattle.policy_base.specs.declared.call.Call.TheVariants.{Any, Drop, Internal, Link, Path, Of}
+use Rattle.policy_base.specs.declared.policy.FromSet.{FromSet}
+use Rattle.policy_base.specs.declared.policy.FromSet.TheVariants as from_set
+use Rattle.policy_base.specs.declared.policy.Origin.{Origin}
+use Rattle.policy_base.specs.Policies.{Ranking, call, calls, prefer, either, both, negated, PlainStatement, PlainPolicy}
 
 abbrev pub HasNames : PlainNet → Type 0
 HasNames net = AllByRecursion (λ (x : Site). IsTrue (is_name x.name)) (sites net)
@@ -21,23 +21,17 @@ abbrev pub IsLocSet : LocSet → Type 0
 IsLocSet s = (length s.words ≡ 12) × AllByRecursion (λ w. w < 2 ^ 64) s.words
 
 -- the sets of a call
-abbrev pub clause_sets : Clause → List LocSet
-clause_sets Any = []
-clause_sets Drop = []
-clause_sets Internal = []
-clause_sets (Avoid s) = s ∷ []
-clause_sets (Through s) = s ∷ []
-clause_sets (NoTransit s) = s ∷ []
-clause_sets (Start s) = s ∷ []
-clause_sets (End s) = s ∷ []
-clause_sets (Link a b) = a ∷ b ∷ []
-clause_sets (Path ps) = ps
-clause_sets (Exit s) = s ∷ []
-clause_sets (Enter s) = s ∷ []
+abbrev pub sets_in : Call → List LocSet
+sets_in Any = []
+sets_in Drop = []
+sets_in Internal = []
+sets_in (Of c s) = s ∷ []
+sets_in (Link a b) = a ∷ b ∷ []
+sets_in (Path ps) = ps
 
 abbrev pub HasLocSets : Ranking → Type 0
-HasLocSets (call c) = AllByRecursion IsLocSet (clause_sets c)
-HasLocSets (calls cs) = AllByRecursion (λ c. AllByRecursion IsLocSet (clause_sets c)) cs
+HasLocSets (call c) = AllByRecursion IsLocSet (sets_in c)
+HasLocSets (calls cs) = AllByRecursion (λ c. AllByRecursion IsLocSet (sets_in c)) cs
 HasLocSets (prefer a b) = HasLocSets a × HasLocSets b
 HasLocSets (either a b) = HasLocSets a × HasLocSets b
 HasLocSets (both a b) = HasLocSets a × HasLocSets b

@@ -1,57 +1,31 @@
 //! Calls.
 ghost use Rattle.std.specs.Prelude.{◌≡◌, ◌++◌, OnOk};
 ghost use Rattle.std.specs.List.{flat_map};
-ghost use Rattle.policy_text.specs.PolicyText.{clause_word, has_sets as clause_has_sets, sets_text, call_text, next_sets, calls_text};
+ghost use Rattle.policy_text.specs.PolicyText.{has_sets as call_has_sets, sets_text, call_text, next_sets, calls_text};
 
 use crate::names::{push_places, push_set};
 use net_base::Net;
 use outside::NoMemory;
-use path_words::Clause;
+use policy_base::Call;
 use std::alloc::Global;
 use text_words::push_bytes;
 
-// The word of a call.
-fn word(call: &Clause) -> &'static [u8]
-    ensures { result.now ≡ clause_word call.now }
-{
-    match call {
-        Clause::Any => b"any",
-        Clause::Drop => b"drop",
-        Clause::Internal => b"internal",
-        Clause::Avoid(_) => b"avoid",
-        Clause::Through(_) => b"through",
-        Clause::NoTransit(_) => b"notransit",
-        Clause::Start(_) => b"start",
-        Clause::End(_) => b"end",
-        Clause::Link(_, _) => b"link",
-        Clause::Path(_) => b"path",
-        Clause::Exit(_) => b"exit",
-        Clause::Enter(_) => b"enter",
-    }
-}
-
 // Whether the call has sets.
-fn has_sets(call: &Clause) -> bool
-    ensures { result ≡ clause_has_sets call.now }
+fn has_sets(call: &Call) -> bool
+    ensures { result ≡ call_has_sets call.now }
 {
-    !matches!(call, Clause::Any | Clause::Drop | Clause::Internal)
+    !matches!(call, Call::Any | Call::Drop | Call::Internal)
 }
 
 // Adds the sets of a call.
-fn push_sets(alloc: Global, text: &mut Vec<u8>, net: &Net, call: &Clause) -> Result<(), NoMemory>
+fn push_sets(alloc: Global, text: &mut Vec<u8>, net: &Net, call: &Call) -> Result<(), NoMemory>
     ensures { OnOk result (text.new.items ≡ text.old.items ++ sets_text net.now call.now) }
 {
     match call {
-        Clause::Any | Clause::Drop | Clause::Internal => Ok(()),
-        Clause::Link(a, b) => push_places(alloc, text, net, &[*a, *b]),
-        Clause::Path(places) => push_places(alloc, text, net, places.as_slice()),
-        Clause::Avoid(set)
-        | Clause::Through(set)
-        | Clause::NoTransit(set)
-        | Clause::Start(set)
-        | Clause::End(set)
-        | Clause::Exit(set)
-        | Clause::Enter(set) => push_set(alloc, text, net, set),
+        Call::Any | Call::Drop | Call::Internal => Ok(()),
+        Call::Link(a, b) => push_places(alloc, text, net, &[*a, *b]),
+        Call::Path(places) => push_places(alloc, text, net, places.as_slice()),
+        Call::Of(_, set) => push_set(alloc, text, net, set),
     }
 }
 
@@ -61,11 +35,11 @@ pub(crate) fn push_call(
     alloc: Global,
     text: &mut Vec<u8>,
     net: &Net,
-    call: &Clause,
+    call: &Call,
 ) -> Result<(), NoMemory>
     ensures { OnOk result (text.new.items ≡ text.old.items ++ call_text net.now call.now) }
 {
-    push_bytes(text, word(call))?;
+    push_bytes(text, call.word().text())?;
     if !has_sets(call) {
         return Ok(());
     }
@@ -79,7 +53,7 @@ fn push_more_sets(
     alloc: Global,
     text: &mut Vec<u8>,
     net: &Net,
-    calls: &[Clause],
+    calls: &[Call],
 ) -> Result<(), NoMemory>
     ensures { OnOk result (text.new.items ≡ text.old.items ++ flat_map (next_sets net.now) calls.now) }
 {
@@ -96,14 +70,14 @@ pub(crate) fn push_calls(
     alloc: Global,
     text: &mut Vec<u8>,
     net: &Net,
-    calls: &[Clause],
+    calls: &[Call],
 ) -> Result<(), NoMemory>
     ensures { OnOk result (text.new.items ≡ text.old.items ++ calls_text net.now calls.now) }
 {
     match calls {
         [] => Ok(()),
         [first, rest @ ..] => {
-            push_bytes(text, word(first))?;
+            push_bytes(text, first.word().text())?;
             push_bytes(text, b"(")?;
             push_sets(alloc, text, net, first)?;
             push_more_sets(alloc, text, net, rest)?;

@@ -1,7 +1,7 @@
 //! What is printed is read again.
 ghost use Rattle.std.specs.Prelude.{◌≡◌, Ok};
 ghost use Rattle.net_base.specs.Network.{PlainNet, IsNet};
-ghost use Rattle.path_words.specs.Policies.{PlainPolicy};
+ghost use Rattle.policy_base.specs.Policies.{PlainPolicy};
 ghost use Rattle.policy_parser.specs.Spelled.{spelled};
 ghost use Rattle.policy_text.specs.PolicyText.{policy_text};
 ghost use Rattle.policy_text.specs.Printable.{IsPrintable};

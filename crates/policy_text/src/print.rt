@@ -1,14 +1,14 @@
 //! Printing policies.
 ghost use Rattle.std.specs.Prelude.{◌≡◌, ◌++◌, OnOk, IfOk, map, codes};
 ghost use Rattle.std.specs.List.{flat_map};
-ghost use Rattle.path_words.specs.Policies.{plain_statement, policy_of};
+ghost use Rattle.policy_base.specs.Policies.{plain_statement, policy_of};
 ghost use Rattle.policy_text.specs.PolicyText.{is_everything as is_every_prefix, next_pattern, patterns_text, from_text, statement_line, origin_line, policy_text};
 
 use crate::names::push_names;
 use crate::ranked::{PREFER, push_ranked};
 use net_base::{Net, Pattern};
 use outside::NoMemory;
-use path_words::{FromSet, Origin, Policy, Statement};
+use policy_base::{FromSet, Origin, Policy, Statement};
 use std::alloc::Global;
 use text_words::{push_bytes, push_pattern, push_prefix};
 

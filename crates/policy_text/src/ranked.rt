@@ -1,12 +1,12 @@
 //! Ranked expressions.
 ghost use Rattle.std.specs.Prelude.{◌≡◌, ◌++◌, OnOk};
-ghost use Rattle.path_words.specs.Policies.{ranking_of};
+ghost use Rattle.policy_base.specs.Policies.{ranking_of};
 ghost use Rattle.policy_text.specs.PolicyText.{opening, closing, ranking_text};
 
 use crate::call::{push_call, push_calls};
 use net_base::Net;
 use outside::NoMemory;
-use path_words::Ranked;
+use policy_base::Ranked;
 use std::alloc::Global;
 use text_words::push_bytes;
 

@@ -1,8 +1,9 @@
 -- The numbers of the faults, their words and their values.
 use Rattle.std.specs.Prelude.{ℕ, List, [], ◌++◌, codes}
 use Rattle.std.specs.Fmt.{decimal}
-use Rattle.net_base.specs.PlaceWords.{kind_word}
 use Rattle.text_words.specs.Texts.{word_text, at_place}
+use Rattle.text_faults.specs.Telling.{Telling}
+use Rattle.policy_tokens.specs.Kinds.{kind_word}
 use Rattle.policy_tokens.specs.declared.fault.PolicyFault.{PolicyFault}
 use Rattle.policy_tokens.specs.declared.fault.PolicyFault.TheVariants.{NotText, Token, Deep, Syntax, Unknown, Twice, PrefixBad, RankUnder, OriginPeer, OriginTwice, TooMany, NoMemory}
 
@@ -50,3 +51,7 @@ values_of (OriginPeer p) = at_place p
 values_of (OriginTwice p) = at_place p
 values_of (TooMany k n) = word_text (kind_word k) ++ word_text (decimal n)
 values_of NoMemory = []
+
+-- how each fault is told, and which one is want of memory
+abbrev pub told : Telling PolicyFault
+told = record { number_of = number_of; word_of = word_of; values_of = values_of; no_memory = NoMemory }

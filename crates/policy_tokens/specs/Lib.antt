@@ -1,5 +1,6 @@
 pub mod Ahead
 pub mod Faults
 pub mod Gives
+pub mod Kinds
 pub mod Places
 pub mod Tokens

@@ -1,7 +1,9 @@
 //! What is wrong with a policy text.
-use net_base::{Kind, Place};
+use crate::kind::Kind;
+use net_base::Place;
 use outside::NoMemory;
 use std::alloc::{AllocError, AllocFailed};
+use text_faults::TextFault;
 use text_words::{push_at, push_bytes, push_number, push_word};
 
 /// The rule that a policy text breaks: of several the one that stands first here, and of that one the first
@@ -34,15 +36,12 @@ pub enum PolicyFault {
     NoMemory,
 }
 
-impl PolicyFault {
-    ghost use Rattle.std.specs.Prelude.{◌≡◌, ◌++◌, OnOk};
-    ghost use Rattle.policy_tokens.specs.Faults.{number_of, word_of, values_of};
+impl TextFault for PolicyFault {
+    ghost use Rattle.policy_tokens.specs.Faults.{told};
 
-    /// The number of the fault, from 1 to 11: of several broken rules the one with the least number is told.
-    /// Want of memory has the number 0.
-    pub fn number(&self) -> u8
-        ensures { result ≡ number_of self.now }
-    {
+    ghost telling = { told };
+
+    fn number(&self) -> u8 {
         match self {
             PolicyFault::NotText => 1,
             PolicyFault::Token(_) => 2,
@@ -59,10 +58,7 @@ impl PolicyFault {
         }
     }
 
-    /// The word of the fault.
-    pub fn word(&self) -> &'static [u8]
-        ensures { result.now ≡ word_of self.now }
-    {
+    fn word(&self) -> &'static [u8] {
         match self {
             PolicyFault::NotText => b"not-text",
             PolicyFault::Token(_) => b"token",
@@ -79,10 +75,7 @@ impl PolicyFault {
         }
     }
 
-    /// Adds the values of the fault, each after a space.
-    pub fn push_values(&self, text: &mut Vec<u8>) -> Result<(), NoMemory>
-        ensures { OnOk result (text.new.items ≡ text.old.items ++ values_of self.now) }
-    {
+    fn push_values(&self, text: &mut Vec<u8>) -> Result<(), NoMemory> {
         match self {
             PolicyFault::NotText | PolicyFault::NoMemory => Ok(()),
             PolicyFault::Token(place)
@@ -100,6 +93,10 @@ impl PolicyFault {
                 push_number(text, *number)
             }
         }
+    }
+
+    fn is_no_memory(&self) -> bool {
+        matches!(self, PolicyFault::NoMemory)
     }
 }
 

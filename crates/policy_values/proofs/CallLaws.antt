@@ -1,52 +1,57 @@
 -- Reading a call straight to its value gives what the call comes to that the grammar reads.
-use Rattle.std.proofs.Common.{◌≡◌, ℕ, List, [], ◌∷◌, ◌++◌, length, Option, Some, None, Result, Ok, Err, refl, sym, ap}
+use Rattle.std.proofs.Common.{◌≡◌, ℕ, List, [], ◌∷◌, ◌++◌, ◌<◌, length, Option, Some, None, Result, Ok, Err, refl, sym, ap}
 use Rattle.std.specs.Prelude.{map}
 use Rattle.std.proofs.lemmas.List.{map-append}
 use Rattle.net_base.specs.declared.loc.LocSet.{LocSet}
 use Rattle.net_base.specs.declared.place.Place.{Place}
 use Rattle.net_base.specs.Network.{PlainNet}
 use Rattle.net_base.specs.Steps.{◌>>=◌}
-use Rattle.path_words.specs.declared.clause.Clause.{Clause}
-use Rattle.path_words.specs.Policies.{call}
+use Rattle.policy_base.specs.declared.call.SetCall.{SetCall}
+use Rattle.policy_base.specs.declared.call.Call.{Call}
+use Rattle.policy_base.specs.declared.call.Call.TheVariants.{Of}
+use Rattle.policy_base.specs.Policies.{call}
 use Rattle.policy_tokens.specs.declared.fault.PolicyFault.{PolicyFault}
 use Rattle.policy_tokens.specs.declared.fault.PolicyFault.TheVariants.{Syntax}
 use Rattle.policy_grammar.specs.declared.lexeme.Lexeme.{Lexeme}
+use Rattle.policy_grammar.specs.declared.symbol.Symbol.{Symbol}
 use Rattle.policy_grammar.specs.declared.symbol.Symbol.TheVariants as symbol
+use Rattle.policy_grammar.specs.Symbols.{number_of}
+use Rattle.policy_grammar.proofs.Symbols.{call_before_end}
 use Rattle.policy_grammar.specs.Raw.{Arg}
-use Rattle.policy_grammar.specs.declared.call_word.CallWord.{CallWord}
-use Rattle.policy_grammar.specs.declared.call_word.CallWord.TheVariants as word
-use Rattle.policy_grammar.specs.Reading.{Read, after}
+use Rattle.policy_base.specs.declared.call.CallWord.{CallWord}
+use Rattle.policy_base.specs.declared.call.CallWord.TheVariants as word
+use Rattle.policy_grammar.specs.Reading.{Read, after, chain}
 use Rattle.policy_grammar.specs.Calls.{set_at, one_at, set_link, one_link, above_at, sets_call, link_call, path_call, word_of, call_behind, call_at}
 use Rattle.policy_rules.specs.KnownNames.{Names}
-use Rattle.policy_rules.specs.Counts.{word_places}
-use Rattle.policy_values.specs.Built.{set_of_arg, sets_of, one_clause, ranked_sets, link_of, call_of}
+use Rattle.policy_values.specs.declared.path_calls.PathPlaces.{PathPlaces}
+use Rattle.policy_values.specs.Built.{set_of_arg, sets_of, ranked_sets, link_of, call_of}
 use Rattle.policy_values.specs.Reads.{over}
 use Rattle.policy_values.specs.CallValues.{call_value}
-use Rattle.policy_values.specs.CallReaders.{with_clause, of_clauses, placeless, linked, clause_link, place_link, sets_read, link_read, path_read, behind_read}
+use Rattle.policy_values.specs.CallReaders.{with_call, of_calls, placeless, linked, no_places, with_place, call_link, place_link, sets_read, link_read, path_read, behind_read}
 use Rattle.policy_values.proofs.ReadsOver.{over_step, over_read, over_links, read_same}
 use Rattle.policy_values.proofs.SetLists.{sets_pushed}
 use Rattle.policy_values.proofs.PathSets.{places_of, places_pushed, two_places, path_same}
 
--- a word whose call has ranked sets and no places
-record HasRankedSets (w : CallWord) : Type 0 where
-  no_places : (n : ℕ) → word_places w n ≡ 0
-  ranked : (sets : List LocSet) → call_of w sets ≡ ranked_sets w sets
+-- the word of a call isn't the end of the text
+pub call_inside : (s : Symbol) (w : CallWord) → word_of s ≡ Some w → number_of s < number_of symbol.EndOfText
+call_inside (symbol.Call v) w is = call_before_end v
+call_inside _ w is = absurd cc
 
-clause_pushed : (w : CallWord) (r : Result (List LocSet) PolicyFault) (s : Result LocSet PolicyFault)
-    → with_clause w (r >>= λ sets. Ok (map (one_clause w) sets)) s ≡ ((r >>= λ sets. s >>= λ x. Ok (sets ++ x ∷ [])) >>= λ sets. Ok (map (one_clause w) sets))
-clause_pushed w (Err e) s = refl
-clause_pushed w (Ok sets) (Err e) = refl
-clause_pushed w (Ok sets) (Ok x) = ap Ok (simp map-append refl)
+call_pushed : (c : SetCall) (r : Result (List LocSet) PolicyFault) (s : Result LocSet PolicyFault)
+    → with_call c (r >>= λ sets. Ok (map (Of c) sets)) s ≡ ((r >>= λ sets. s >>= λ x. Ok (sets ++ x ∷ [])) >>= λ sets. Ok (map (Of c) sets))
+call_pushed c (Err e) s = refl
+call_pushed c (Ok sets) (Err e) = refl
+call_pushed c (Ok sets) (Ok x) = ap Ok (simp map-append refl)
 
-of_sets : (w : CallWord) (sets : List LocSet) → of_clauses (map (one_clause w) sets) ≡ ranked_sets w sets
-of_sets w [] = refl
-of_sets w (s ∷ []) = refl
-of_sets w (s ∷ t ∷ sets) = refl
+of_sets : (c : SetCall) (sets : List LocSet) → of_calls (map (Of c) sets) ≡ ranked_sets c sets
+of_sets c [] = refl
+of_sets c (s ∷ []) = refl
+of_sets c (s ∷ t ∷ sets) = refl
 
-ranked_value : (w : CallWord) → HasRankedSets w → (r : Result (List LocSet) PolicyFault)
-    → ((r >>= λ sets. Ok (map (one_clause w) sets)) >>= λ cs. Ok (of_clauses cs)) ≡ (r >>= λ sets. Ok (call_of w sets))
-ranked_value w is (Err e) = refl
-ranked_value w is (Ok sets) = rw (is.ranked sets) (ap Ok (of_sets w sets))
+ranked_value : (c : SetCall) (r : Result (List LocSet) PolicyFault)
+    → ((r >>= λ sets. Ok (map (Of c) sets)) >>= λ cs. Ok (of_calls cs)) ≡ (r >>= λ sets. Ok (call_of (word.Of c) sets))
+ranked_value c (Err e) = refl
+ranked_value c (Ok sets) = ap Ok (of_sets c sets)
 
 linked_value : (a b : Result LocSet PolicyFault) → linked a b ≡ ((a >>= λ x. b >>= λ y. Ok (x ∷ y ∷ [])) >>= λ sets. Ok (call (link_of sets)))
 linked_value (Err e) b = refl
@@ -54,33 +59,34 @@ linked_value (Ok x) (Err e) = refl
 linked_value (Ok x) (Ok y) = refl
 
 module _ (bytes : List ℕ) (net : PlainNet) (known : Names) where
-  -- the clauses of some sets
-  abbrev clauses_of : CallWord → List Arg → Result (List Clause) PolicyFault
-  clauses_of w args = sets_of bytes net known [] args >>= λ sets. Ok (map (one_clause w) sets)
+  -- the calls of some sets
+  abbrev calls_of : SetCall → List Arg → Result (List Call) PolicyFault
+  calls_of c args = sets_of bytes net known [] args >>= λ sets. Ok (map (Of c) sets)
 
-  clauses_pushed : (w : CallWord) (args : List Arg) (a : Arg) → with_clause w (clauses_of w args) (set_of_arg bytes net known a) ≡ clauses_of w (args ++ a ∷ [])
-  clauses_pushed w args a = rw (sets_pushed bytes net known [] args a) (clause_pushed w (sets_of bytes net known [] args) (set_of_arg bytes net known a))
+  calls_pushed : (c : SetCall) (args : List Arg) (a : Arg) → with_call c (calls_of c args) (set_of_arg bytes net known a) ≡ calls_of c (args ++ a ∷ [])
+  calls_pushed c args a = rw (sets_pushed bytes net known [] args a) (call_pushed c (sets_of bytes net known [] args) (set_of_arg bytes net known a))
 
-  clause_linked : (w : CallWord) (l : Lexeme) (args : List Arg) (ls : List Lexeme) → clause_link bytes net known w l (clauses_of w args) ls ≡ over (clauses_of w) (set_link l args ls)
-  clause_linked w l args ls =
-      over_read (set_of_arg bytes net known) (clauses_of w) (set_at ls) _ _ (λ x. ap (λ (c : Result (List Clause) PolicyFault). let y : Read (Result (List Clause) PolicyFault) = Ok (c, x.1) in y) (clauses_pushed w args x.0))
+  call_linked : (c : SetCall) (l : Lexeme) (args : List Arg) (ls : List Lexeme) → call_link bytes net known c l (calls_of c args) ls ≡ over (calls_of c) (set_link l args ls)
+  call_linked c l args ls =
+      over_read (set_of_arg bytes net known) (calls_of c) (set_at ls) _ _
+      (λ x. ap (λ (cs : Result (List Call) PolicyFault). let y : Read (Result (List Call) PolicyFault) = Ok (cs, x.1) in y) (calls_pushed c args x.0))
 
   place_linked : (l : Lexeme) (args : List Arg) (ls : List Lexeme) → place_link bytes net known l (places_of bytes net known args) ls ≡ over (places_of bytes net known) (one_link l args ls)
   place_linked l args ls =
       over_read (set_of_arg bytes net known) (places_of bytes net known) (one_at ls) _ _ (λ x. rw (places_pushed bytes net known args x.0) refl)
 
-  ranked_same : (w : CallWord) → HasRankedSets w → (args : List Arg) (above : Option Place)
-      → placeless above (clauses_of w args >>= λ cs. Ok (of_clauses cs)) ≡ call_value bytes net known (record { word = w; args = args; above = above })
-  ranked_same w is args above = rw (is.no_places (length args)) (ap (placeless above) (ranked_value w is (sets_of bytes net known [] args)))
+  ranked_same : (c : SetCall) (args : List Arg) (above : Option Place)
+      → placeless above (calls_of c args >>= λ cs. Ok (of_calls cs)) ≡ call_value bytes net known (record { word = word.Of c; args = args; above = above })
+  ranked_same c args above = ap (placeless above) (ranked_value c (sets_of bytes net known [] args))
 
-  sets_same : (w : CallWord) → HasRankedSets w → (ls : List Lexeme) → sets_read bytes net known w ls ≡ over (call_value bytes net known) (sets_call w ls)
+  sets_same : (c : SetCall) (ls : List Lexeme) → sets_read bytes net known c ls ≡ over (call_value bytes net known) (sets_call c ls)
   unfolding sets_read sets_call
-  sets_same w is ls =
+  sets_same c ls =
       over_step (call_value bytes net known) (after symbol.RoundOpen ls) _ _ (λ inside.
       over_read (set_of_arg bytes net known) (call_value bytes net known) (set_at inside) _ _ (λ x.
-      over_links (clauses_of w) (call_value bytes net known) symbol.Above set_link (clause_link bytes net known w) (clause_linked w) (length x.1) (x.0 ∷ []) _ x.1 (clauses_pushed w [] x.0) _ _ (λ sets.
+      over_links (calls_of c) (call_value bytes net known) symbol.Above set_link (call_link bytes net known c) (call_linked c) (length x.1) (x.0 ∷ []) _ x.1 (calls_pushed c [] x.0) _ _ (λ sets.
       over_step (call_value bytes net known) (after symbol.RoundClose sets.1) _ _ (λ rest.
-      read_same _ _ rest (ranked_same w is sets.0 (above_at x.1))))))
+      read_same _ _ rest (ranked_same c sets.0 (above_at x.1))))))
 
   link_same : (ls : List Lexeme) → link_read bytes net known ls ≡ over (call_value bytes net known) (link_call ls)
   unfolding link_read link_call
@@ -103,19 +109,22 @@ module _ (bytes : List ℕ) (net : PlainNet) (known : Names) where
       over_step (call_value bytes net known) (after symbol.RoundClose sets.1) _ _ (λ rest.
       read_same _ _ rest (path_same bytes net known sets.0)))))))
 
+  -- a `path` of which a place behind the first two has a fault
+  pub path_faulty : (ls inside first second both : List Lexeme) (a b : Result LocSet PolicyFault) (two : PathPlaces) (e : PolicyFault)
+      → after symbol.RoundOpen ls ≡ Ok inside → over (set_of_arg bytes net known) (one_at inside) ≡ Ok (a, first)
+      → after symbol.Comma first ≡ Ok second → over (set_of_arg bytes net known) (one_at second) ≡ Ok (b, both)
+      → with_place (with_place no_places a) b ≡ two → chain symbol.Comma (place_link bytes net known) (length both) two both ≡ Err e
+      → path_read bytes net known ls ≡ Err e
+  unfolding path_read
+  path_faulty ls inside first second both a b two e opens one joins other places faulty = rw (opens, one, joins, other, places, faulty) refl
+
   behind_same : (w : CallWord) (ls : List Lexeme) → behind_read bytes net known w ls ≡ over (call_value bytes net known) (call_behind w ls)
   behind_same word.Any ls = refl
   behind_same word.Drop ls = refl
   behind_same word.Internal ls = refl
   behind_same word.Link ls = link_same ls
   behind_same word.Path ls = path_read_same ls
-  behind_same word.Avoid ls = sets_same word.Avoid (record { no_places = λ n. refl; ranked = λ sets. refl }) ls
-  behind_same word.Through ls = sets_same word.Through (record { no_places = λ n. refl; ranked = λ sets. refl }) ls
-  behind_same word.NoTransit ls = sets_same word.NoTransit (record { no_places = λ n. refl; ranked = λ sets. refl }) ls
-  behind_same word.Start ls = sets_same word.Start (record { no_places = λ n. refl; ranked = λ sets. refl }) ls
-  behind_same word.End ls = sets_same word.End (record { no_places = λ n. refl; ranked = λ sets. refl }) ls
-  behind_same word.Exit ls = sets_same word.Exit (record { no_places = λ n. refl; ranked = λ sets. refl }) ls
-  behind_same word.Enter ls = sets_same word.Enter (record { no_places = λ n. refl; ranked = λ sets. refl }) ls
+  behind_same (word.Of c) ls = sets_same c ls
 
   -- a call: its word and what stands behind it
   pub call_begun : (l : Lexeme) (ls : List Lexeme) (w : CallWord) → word_of l.symbol ≡ Some w → over (call_value bytes net known) (call_at (l ∷ ls)) ≡ behind_read bytes net known w ls

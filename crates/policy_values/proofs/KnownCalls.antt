@@ -8,9 +8,9 @@ use Rattle.net_base.specs.Steps.{◌>>=◌}
 use Rattle.policy_tokens.specs.declared.fault.PolicyFault.{PolicyFault}
 use Rattle.policy_grammar.specs.declared.lexeme.Lexeme.{Lexeme}
 use Rattle.policy_grammar.specs.Raw.{Arg, Arg as arg, RawCall, Step as step}
-use Rattle.path_words.specs.declared.clause.Clause.TheVariants.{Drop}
-use Rattle.path_words.specs.declared.policy.FromSet.TheVariants.{Named}
-use Rattle.path_words.specs.Policies.{Ranking, call}
+use Rattle.policy_base.specs.declared.call.Call.TheVariants.{Drop}
+use Rattle.policy_base.specs.declared.policy.FromSet.TheVariants.{Named}
+use Rattle.policy_base.specs.Policies.{Ranking, call}
 use Rattle.policy_rules.specs.KnownNames.{Names}
 use Rattle.policy_rules.specs.Checks.{set_at, joined, set_of_names, each, name_known, arg_known, step_known}
 use Rattle.policy_rules.specs.Counts.{places_within}

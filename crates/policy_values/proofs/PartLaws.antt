@@ -2,7 +2,7 @@
 use Rattle.std.proofs.Common.{◌≡◌, ℕ, ◌+◌, ◌≤◌, true, List, [], ◌∷◌, ◌++◌, Result, Ok, Err, refl, sym, ap, ◌∙◌, arith}
 use Rattle.std.specs.Prelude.{⊤, sum_by, if◌then◌else◌}
 use Rattle.std.proofs.lemmas.List.Sums.{sum_by-cons}
-use Rattle.net_base.specs.declared.limits.TheConstants.{CALLS}
+use Rattle.policy_tokens.specs.declared.limits.TheConstants.{CALLS}
 use Rattle.net_base.specs.declared.loc.LocSet.{LocSet}
 use Rattle.net_base.specs.Network.{PlainNet}
 use Rattle.net_base.specs.Steps.{◌>>=◌}
@@ -11,7 +11,7 @@ use Rattle.policy_grammar.specs.declared.lexeme.Lexeme.{Lexeme}
 use Rattle.policy_grammar.specs.Raw.{RawCall, Step, Step as step}
 use Rattle.policy_grammar.specs.Reading.{Read}
 use Rattle.policy_grammar.specs.Ranked as steps
-use Rattle.path_words.specs.Policies.{Ranking, prefer, either, both, negated}
+use Rattle.policy_base.specs.Policies.{Ranking, prefer, either, both, negated}
 use Rattle.policy_rules.specs.KnownNames.{Names}
 use Rattle.policy_rules.specs.Checks.{each, step_known}
 use Rattle.policy_rules.specs.Counts.{capped, call_amount, places_within}

@@ -4,17 +4,17 @@ use Rattle.std.specs.Prelude.{nat_le}
 use Rattle.std.specs.Result.{is_ok}
 use Rattle.std.proofs.lemmas.Bool.{leb-true, leb-false}
 use Rattle.std.proofs.lemmas.List.{take_all, take-append-le}
-use Rattle.net_base.specs.declared.limits.TheConstants.{PLACES}
+use Rattle.policy_tokens.specs.declared.limits.TheConstants.{PLACES}
 use Rattle.net_base.specs.declared.loc.LocSet.{LocSet}
-use Rattle.net_base.specs.declared.place.Kind.TheVariants as kind
+use Rattle.policy_tokens.specs.declared.kind.Kind.TheVariants as kind
 use Rattle.net_base.specs.Network.{PlainNet}
 use Rattle.net_base.specs.Steps.{◌>>=◌, unless}
-use Rattle.path_words.specs.declared.clause.Clause.TheVariants.{Drop, Path}
-use Rattle.path_words.specs.Policies.{Ranking, call}
+use Rattle.policy_base.specs.declared.call.Call.TheVariants.{Drop, Path}
+use Rattle.policy_base.specs.Policies.{Ranking, call}
 use Rattle.policy_tokens.specs.declared.fault.PolicyFault.{PolicyFault}
 use Rattle.policy_tokens.specs.declared.fault.PolicyFault.TheVariants.{TooMany}
 use Rattle.policy_grammar.specs.Raw.{Arg}
-use Rattle.policy_grammar.specs.declared.call_word.CallWord.TheVariants as word
+use Rattle.policy_base.specs.declared.call.CallWord.TheVariants as word
 use Rattle.policy_rules.specs.KnownNames.{Names}
 use Rattle.policy_rules.specs.Checks.{each, arg_known}
 use Rattle.policy_rules.specs.Counts.{within}

@@ -7,19 +7,20 @@ use Rattle.net_base.specs.Steps.{◌>>=◌}
 use Rattle.policy_tokens.specs.declared.fault.PolicyFault.{PolicyFault}
 use Rattle.policy_grammar.specs.declared.lexeme.Lexeme.{Lexeme}
 use Rattle.policy_grammar.specs.Raw.{Arg, Arg as arg, RawPattern, RawStatement, Step, Step as step, Item}
-use Rattle.policy_grammar.specs.declared.call_word.CallWord.{CallWord}
-use Rattle.policy_grammar.specs.declared.call_word.CallWord.TheVariants as word
+use Rattle.policy_base.specs.declared.call.CallWord.{CallWord}
+use Rattle.policy_base.specs.declared.call.CallWord.TheVariants as word
 use Rattle.policy_grammar.specs.Raw.Item.{Define, Originate, State}
 use Rattle.net_base.specs.NetSets.{locations}
 use Rattle.policy_rules.specs.KnownNames.{Names}
 use Rattle.policy_rules.specs.Checks.{set_of_names}
 use Rattle.policy_rules.specs.Figures.{prefix_at, pattern_at}
-use Rattle.path_words.specs.declared.clause.Clause.{Clause}
-use Rattle.path_words.specs.declared.clause.Clause.TheVariants.{Any, Drop, Internal, Avoid, Through, NoTransit, Start, End, Link, Path, Exit, Enter}
-use Rattle.path_words.specs.declared.policy.FromSet.{FromSet}
-use Rattle.path_words.specs.declared.policy.FromSet.TheVariants as from_set
-use Rattle.path_words.specs.declared.policy.Origin.{Origin}
-use Rattle.path_words.specs.Policies.{Ranking, call, calls, prefer, either, both, negated, PlainStatement}
+use Rattle.policy_base.specs.declared.call.SetCall.{SetCall}
+use Rattle.policy_base.specs.declared.call.Call.{Call}
+use Rattle.policy_base.specs.declared.call.Call.TheVariants.{Any, Drop, Internal, Link, Path, Of}
+use Rattle.policy_base.specs.declared.policy.FromSet.{FromSet}
+use Rattle.policy_base.specs.declared.policy.FromSet.TheVariants as from_set
+use Rattle.policy_base.specs.declared.policy.Origin.{Origin}
+use Rattle.policy_base.specs.Policies.{Ranking, call, calls, prefer, either, both, negated, PlainStatement}
 
 -- `any` in a set is all locations
 abbrev pub set_of_arg : List ℕ → PlainNet → Names → Arg → Result LocSet PolicyFault
@@ -33,28 +34,13 @@ sets_of bytes net known so_far (a ∷ as') = do
   s ← set_of_arg bytes net known a
   sets_of bytes net known (so_far ++ s ∷ []) as'
 
--- a call with one set
-abbrev pub one_clause : CallWord → LocSet → Clause
-one_clause word.Any s = Any
-one_clause word.Drop s = Drop
-one_clause word.Internal s = Internal
-one_clause word.Avoid s = Avoid s
-one_clause word.Through s = Through s
-one_clause word.NoTransit s = NoTransit s
-one_clause word.Start s = Start s
-one_clause word.End s = End s
-one_clause word.Link s = Link s s
-one_clause word.Path s = Path (s ∷ [])
-one_clause word.Exit s = Exit s
-one_clause word.Enter s = Enter s
-
 -- a call with ranked sets: with one set it is that call
-abbrev pub ranked_sets : CallWord → List LocSet → Ranking
-ranked_sets w (s ∷ []) = call (one_clause w s)
-ranked_sets w sets = calls (map (one_clause w) sets)
+abbrev pub ranked_sets : SetCall → List LocSet → Ranking
+ranked_sets c (s ∷ []) = call (Of c s)
+ranked_sets c sets = calls (map (Of c) sets)
 
 -- a `link` has two sets
-abbrev pub link_of : List LocSet → Clause
+abbrev pub link_of : List LocSet → Call
 link_of (a ∷ b ∷ []) = Link a b
 link_of _ = Drop
 
@@ -65,13 +51,7 @@ call_of word.Drop sets = call Drop
 call_of word.Internal sets = call Internal
 call_of word.Link sets = call (link_of sets)
 call_of word.Path sets = call (Path sets)
-call_of word.Avoid sets = ranked_sets word.Avoid sets
-call_of word.Through sets = ranked_sets word.Through sets
-call_of word.NoTransit sets = ranked_sets word.NoTransit sets
-call_of word.Start sets = ranked_sets word.Start sets
-call_of word.End sets = ranked_sets word.End sets
-call_of word.Exit sets = ranked_sets word.Exit sets
-call_of word.Enter sets = ranked_sets word.Enter sets
+call_of (word.Of c) sets = ranked_sets c sets
 
 -- the expression on top of a stack, and those under it
 abbrev pub top : List Ranking → Ranking

@@ -1,39 +1,40 @@
 -- Calls that are read straight to what they come to, part by part.
 use Rattle.std.specs.Prelude.{ℕ, ◌+◌, nat_le, List, [], ◌∷◌, ◌++◌, length, Option, None, Result, Ok, if◌then◌else◌}
-use Rattle.net_base.specs.declared.limits.TheConstants.{PLACES}
+use Rattle.policy_tokens.specs.declared.limits.TheConstants.{PLACES}
 use Rattle.net_base.specs.declared.loc.LocSet.{LocSet}
-use Rattle.net_base.specs.declared.place.Kind.TheVariants as kind
+use Rattle.policy_tokens.specs.declared.kind.Kind.TheVariants as kind
 use Rattle.net_base.specs.declared.place.Place.{Place}
 use Rattle.net_base.specs.Network.{PlainNet}
 use Rattle.net_base.specs.Steps.{◌>>=◌}
-use Rattle.path_words.specs.declared.clause.Clause.{Clause}
-use Rattle.path_words.specs.declared.clause.Clause.TheVariants.{Any, Drop, Internal, Link, Path}
-use Rattle.path_words.specs.Policies.{Ranking, call, calls}
+use Rattle.policy_base.specs.declared.call.SetCall.{SetCall}
+use Rattle.policy_base.specs.declared.call.Call.{Call}
+use Rattle.policy_base.specs.declared.call.Call.TheVariants.{Any, Drop, Internal, Link, Path, Of}
+use Rattle.policy_base.specs.Policies.{Ranking, call, calls}
 use Rattle.policy_tokens.specs.declared.fault.PolicyFault.{PolicyFault}
 use Rattle.policy_grammar.specs.declared.lexeme.Lexeme.{Lexeme}
 use Rattle.policy_grammar.specs.declared.symbol.Symbol.TheVariants as symbol
-use Rattle.policy_grammar.specs.declared.call_word.CallWord.{CallWord}
-use Rattle.policy_grammar.specs.declared.call_word.CallWord.TheVariants as word
+use Rattle.policy_base.specs.declared.call.CallWord.{CallWord}
+use Rattle.policy_base.specs.declared.call.CallWord.TheVariants as word
 use Rattle.policy_grammar.specs.Reading.{Read, after, chain}
 use Rattle.policy_grammar.specs.Calls.{set_at, one_at, above_at}
 use Rattle.policy_rules.specs.KnownNames.{Names}
 use Rattle.policy_rules.specs.Counts.{within}
 use Rattle.policy_values.specs.declared.path_calls.PathPlaces.{PathPlaces}
-use Rattle.policy_values.specs.Built.{set_of_arg, one_clause}
+use Rattle.policy_values.specs.Built.{set_of_arg}
 use Rattle.policy_values.specs.CallValues.{CallValue}
 use Rattle.policy_values.specs.Reads.{over}
 
--- the clauses of the sets so far, with that of one set more: the first unknown name stays
-abbrev pub with_clause : CallWord → Result (List Clause) PolicyFault → Result LocSet PolicyFault → Result (List Clause) PolicyFault
-with_clause w clauses set = do
-  cs ← clauses
+-- the calls of the sets so far, with that of one set more: the first unknown name stays
+abbrev pub with_call : SetCall → Result (List Call) PolicyFault → Result LocSet PolicyFault → Result (List Call) PolicyFault
+with_call c so_far set = do
+  cs ← so_far
   s ← set
-  Ok (cs ++ one_clause w s ∷ [])
+  Ok (cs ++ Of c s ∷ [])
 
--- a call with ranked sets, by the clauses of its sets: one clause is that call
-abbrev pub of_clauses : List Clause → Ranking
-of_clauses (c ∷ []) = call c
-of_clauses cs = calls cs
+-- a call with ranked sets, by the calls of its sets: one alone is that call
+abbrev pub of_calls : List Call → Ranking
+of_calls (c ∷ []) = call c
+of_calls cs = calls cs
 
 -- a call without places, with this value
 abbrev pub placeless : Option Place → Result Ranking PolicyFault → CallValue
@@ -68,10 +69,10 @@ abbrev pub path_value : PathPlaces → CallValue
 path_value p = record { above = None; places = within kind.Places PLACES p.count; value = p.sets >>= λ sets. Ok (path_ranking p.count sets) }
 
 module _ (bytes : List ℕ) (net : PlainNet) (known : Names) where
-  abbrev pub clause_link : CallWord → Lexeme → Result (List Clause) PolicyFault → List Lexeme → Read (Result (List Clause) PolicyFault)
-  clause_link w joint clauses ls = do
+  abbrev pub call_link : SetCall → Lexeme → Result (List Call) PolicyFault → List Lexeme → Read (Result (List Call) PolicyFault)
+  call_link c joint so_far ls = do
     x ← over (set_of_arg bytes net known) (set_at ls)
-    Ok (with_clause w clauses x.0, x.1)
+    Ok (with_call c so_far x.0, x.1)
 
   abbrev pub place_link : Lexeme → PathPlaces → List Lexeme → Read PathPlaces
   place_link joint places ls = do
@@ -79,13 +80,13 @@ module _ (bytes : List ℕ) (net : PlainNet) (known : Names) where
     Ok (with_place places x.0, x.1)
 
   -- "(" set { ">>" set } ")"
-  unfoldable pub sets_read : CallWord → List Lexeme → Read CallValue
-  sets_read w ls = do
+  unfoldable pub sets_read : SetCall → List Lexeme → Read CallValue
+  sets_read c ls = do
     inside ← after symbol.RoundOpen ls
     x ← over (set_of_arg bytes net known) (set_at inside)
-    clauses ← chain symbol.Above (clause_link w) (length x.1) (with_clause w (Ok []) x.0) x.1
-    rest ← after symbol.RoundClose clauses.1
-    Ok (placeless (above_at x.1) (clauses.0 >>= λ cs. Ok (of_clauses cs)), rest)
+    all ← chain symbol.Above (call_link c) (length x.1) (with_call c (Ok []) x.0) x.1
+    rest ← after symbol.RoundClose all.1
+    Ok (placeless (above_at x.1) (all.0 >>= λ cs. Ok (of_calls cs)), rest)
 
   -- "(" one "," one ")"
   unfoldable pub link_read : List Lexeme → Read CallValue
@@ -115,10 +116,4 @@ module _ (bytes : List ℕ) (net : PlainNet) (known : Names) where
   behind_read word.Internal ls = Ok (placeless None (Ok (call Internal)), ls)
   behind_read word.Link ls = link_read ls
   behind_read word.Path ls = path_read ls
-  behind_read word.Avoid ls = sets_read word.Avoid ls
-  behind_read word.Through ls = sets_read word.Through ls
-  behind_read word.NoTransit ls = sets_read word.NoTransit ls
-  behind_read word.Start ls = sets_read word.Start ls
-  behind_read word.End ls = sets_read word.End ls
-  behind_read word.Exit ls = sets_read word.Exit ls
-  behind_read word.Enter ls = sets_read word.Enter ls
+  behind_read (word.Of c) ls = sets_read c ls

@@ -4,9 +4,9 @@ use Rattle.std.specs.Result.{is_ok}
 use Rattle.net_base.specs.declared.place.Place.{Place}
 use Rattle.net_base.specs.Network.{PlainNet}
 use Rattle.net_base.specs.Steps.{◌>>=◌}
-use Rattle.path_words.specs.declared.clause.Clause.TheVariants.{Drop}
-use Rattle.path_words.specs.declared.ranked.Ranked.{Ranked}
-use Rattle.path_words.specs.Policies.{Ranking, call, ranking_of}
+use Rattle.policy_base.specs.declared.call.Call.TheVariants.{Drop}
+use Rattle.policy_base.specs.declared.ranked.Ranked.{Ranked}
+use Rattle.policy_base.specs.Policies.{Ranking, call, ranking_of}
 use Rattle.policy_tokens.specs.declared.fault.PolicyFault.{PolicyFault}
 use Rattle.policy_grammar.specs.Raw.{RawCall, Step as step}
 use Rattle.policy_rules.specs.KnownNames.{Names}

@@ -1,9 +1,9 @@
 -- What the parts of an expression come to, one after another.
 use Rattle.std.specs.Prelude.{ℕ, ◌+◌, ◌&&◌, nat_le, Bool, true, false, List, [], ◌∷◌, reverse, None, Result, Ok, Err, ⊤, if◌then◌else◌}
-use Rattle.net_base.specs.declared.limits.TheConstants.{CALLS}
+use Rattle.policy_tokens.specs.declared.limits.TheConstants.{CALLS}
 use Rattle.net_base.specs.Network.{PlainNet}
 use Rattle.net_base.specs.Steps.{◌>>=◌}
-use Rattle.path_words.specs.Policies.{Ranking, prefer, either, both, negated}
+use Rattle.policy_base.specs.Policies.{Ranking, prefer, either, both, negated}
 use Rattle.policy_tokens.specs.declared.fault.PolicyFault.{PolicyFault}
 use Rattle.policy_grammar.specs.Raw.{Step, Step as step}
 use Rattle.policy_rules.specs.declared.ranks.Mark.{Mark}

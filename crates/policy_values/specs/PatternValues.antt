@@ -1,6 +1,6 @@
 -- What the patterns of a statement come to.
 use Rattle.std.specs.Prelude.{ℕ, ◌+◌, nat_le, List, [], ◌∷◌, ◌++◌, Result, Ok, Err, ⊤, if◌then◌else◌}
-use Rattle.net_base.specs.declared.limits.TheConstants.{PATTERNS}
+use Rattle.policy_base.specs.declared.limits.TheConstants.{PATTERNS}
 use Rattle.net_base.specs.Prefixes.{PlainPattern}
 use Rattle.net_base.specs.Steps.{◌>>=◌}
 use Rattle.policy_tokens.specs.declared.fault.PolicyFault.{PolicyFault}

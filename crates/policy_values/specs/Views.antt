@@ -1,7 +1,7 @@
 -- What the program's expressions stand for.
 use Rattle.std.specs.Prelude.{List, map, reverse}
-use Rattle.path_words.specs.declared.ranked.Ranked.{Ranked}
-use Rattle.path_words.specs.Policies.{Ranking, ranking_of}
+use Rattle.policy_base.specs.declared.ranked.Ranked.{Ranked}
+use Rattle.policy_base.specs.Policies.{Ranking, ranking_of}
 
 -- the expressions of a stack, whose top is the last item
 abbrev pub rankings : List Ranked → List Ranking

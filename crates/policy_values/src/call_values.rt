@@ -1,7 +1,7 @@
 //! Calls that are read straight to their values.
 ghost use Rattle.std.specs.Prelude.{◌≡◌, ◌≤◌, length, None, Ok};
 ghost use Rattle.policy_tokens.specs.Gives.{Gives};
-ghost use Rattle.path_words.specs.Policies.{call as call_of};
+ghost use Rattle.policy_base.specs.Policies.{call as call_of};
 ghost use Rattle.policy_grammar.specs.Left.{left, StandsIn};
 ghost use Rattle.policy_grammar.specs.Calls.{word_of as word, call_at};
 ghost use Rattle.policy_rules.specs.KnownView.{plain_names};
@@ -13,8 +13,8 @@ use crate::path_calls::{link_call, path_call};
 use crate::set_calls::sets_call;
 use crate::whole::Whole;
 use net_base::Place;
-use path_words::{Clause, Ranked};
-use policy_grammar::{CallWord, Lexeme, Symbol, advance, refused};
+use policy_base::{Call, CallWord, Ranked};
+use policy_grammar::{Lexeme, Symbol, advance, refused};
 use policy_rules::Known;
 use policy_tokens::PolicyFault;
 use std::alloc::Global;
@@ -34,30 +34,19 @@ fn word_of(symbol: Symbol) -> Option<CallWord>
     ensures { result ≡ word symbol }
 {
     match symbol {
-        Symbol::Any => Some(CallWord::Any),
-        Symbol::Drop => Some(CallWord::Drop),
-        Symbol::Internal => Some(CallWord::Internal),
-        Symbol::Avoid => Some(CallWord::Avoid),
-        Symbol::Through => Some(CallWord::Through),
-        Symbol::NoTransit => Some(CallWord::NoTransit),
-        Symbol::Start => Some(CallWord::Start),
-        Symbol::End => Some(CallWord::End),
-        Symbol::Link => Some(CallWord::Link),
-        Symbol::Path => Some(CallWord::Path),
-        Symbol::Exit => Some(CallWord::Exit),
-        Symbol::Enter => Some(CallWord::Enter),
+        Symbol::Call(word) => Some(word),
         _ => None,
     }
 }
 
 // A call of a word that stands alone.
-fn alone(clause: Clause) -> CallRead
-    ensures { plain_call result ≡ placeless None (Ok (call_of clause)) }
+fn alone(call: Call) -> CallRead
+    ensures { plain_call result ≡ placeless None (Ok (call_of call)) }
 {
     CallRead {
         above: None,
         places: Ok(()),
-        value: Ok(Ranked::Call(clause)),
+        value: Ok(Ranked::Call(call)),
     }
 }
 
@@ -76,16 +65,17 @@ fn call_behind(
     ensures fewer { length (left text.now at.new) ≤ length (left text.now at.old) }
 {
     match word {
-        CallWord::Any => Ok(alone(Clause::Any)),
-        CallWord::Drop => Ok(alone(Clause::Drop)),
-        CallWord::Internal => Ok(alone(Clause::Internal)),
+        CallWord::Any => Ok(alone(Call::Any)),
+        CallWord::Drop => Ok(alone(Call::Drop)),
+        CallWord::Internal => Ok(alone(Call::Internal)),
         CallWord::Link => link_call(text, whole, known, at),
         CallWord::Path => path_call(alloc, text, whole, known, at),
-        _ => sets_call(alloc, word, text, whole, known, at),
+        CallWord::Of(call) => sets_call(alloc, call, text, whole, known, at),
     }
 }
 
 /// A call.
+#[tactic(auto, using(crate::proofs::CallLaws::call_inside))]
 pub(crate) fn call(
     alloc: Global,
     text: &[u8],

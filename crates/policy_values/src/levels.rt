@@ -1,6 +1,6 @@
 //! Ranked expressions, read to their values.
 ghost use Rattle.std.specs.Prelude.{◌≡◌, ◌≤◌, [], length};
-ghost use Rattle.net_base.specs.declared.limits.TheConstants.{BRACKETS};
+ghost use Rattle.policy_tokens.specs.declared.limits.TheConstants.{BRACKETS};
 ghost use Rattle.policy_tokens.specs.Gives.{Gives};
 ghost use Rattle.policy_grammar.specs.Left.{left, StandsIn};
 ghost use Rattle.policy_grammar.specs.Reading.{chain};
@@ -13,10 +13,10 @@ ghost use Rattle.policy_values.specs.Levels.{atom_at, unit_at, joint_at, choice_
 use crate::call_values::call;
 use crate::parts::Parts;
 use crate::whole::Whole;
-use net_base::limits::BRACKETS;
 use policy_grammar::{Lexeme, Symbol, passed, past, refused};
 use policy_rules::Known;
 use policy_tokens::PolicyFault;
+use policy_tokens::limits::BRACKETS;
 use std::alloc::Global;
 
 // Each level of operators has functions of its own, though they read alike: no call has to look up which operator it is

@@ -13,6 +13,7 @@ ghost use Rattle.policy_values.specs.Reads.{over};
 
 use crate::whole::Whole;
 use net_base::LocSet;
+use policy_base::CallWord;
 use policy_grammar::{Lexeme, Symbol, begins, first, passed, past};
 use policy_rules::{Known, set_at};
 use policy_tokens::PolicyFault;
@@ -106,7 +107,7 @@ pub(crate) fn set(
     ensures stands { StandsIn text.now at.new }
     ensures fewer { length (left text.now at.new) ≤ length (left text.now at.old) }
 {
-    if past(Symbol::Any, text, at) {
+    if past(Symbol::Call(CallWord::Any), text, at) {
         return Ok(Ok(whole.all));
     }
     names(text, known, at)
@@ -125,7 +126,7 @@ pub(crate) fn one(
     ensures stands { StandsIn text.now at.new }
     ensures fewer { length (left text.now at.new) ≤ length (left text.now at.old) }
 {
-    if past(Symbol::Any, text, at) {
+    if past(Symbol::Call(CallWord::Any), text, at) {
         return Ok(Ok(whole.all));
     }
     if begins(Symbol::BraceOpen, at) {

@@ -2,7 +2,7 @@
 ghost use Rattle.std.specs.Prelude.{◌≡◌, ◌∷◌, Ok};
 ghost use Rattle.policy_tokens.specs.Gives.{Gives};
 ghost use Rattle.policy_grammar.specs.Raw.{Step as step};
-ghost use Rattle.path_words.specs.Policies.{ranking_of, prefer, either, both};
+ghost use Rattle.policy_base.specs.Policies.{ranking_of, prefer, either, both};
 ghost use Rattle.policy_rules.specs.Ranks.{top as top_mark, or_broken};
 ghost use Rattle.policy_values.specs.Built.{top, under_top};
 ghost use Rattle.policy_values.specs.Views.{rankings};
@@ -11,10 +11,10 @@ ghost use Rattle.policy_values.specs.Parts.{parts_value, no_parts, first_fault, 
 
 use crate::call_values::CallRead;
 use net_base::Place;
-use net_base::limits::CALLS;
-use path_words::{Clause, FromSet, Ranked};
+use policy_base::{Call, FromSet, Ranked};
 use policy_rules::{Mark, mark_above, mark_and, mark_call, mark_not, mark_or, ranks_fine};
 use policy_tokens::PolicyFault;
+use policy_tokens::limits::CALLS;
 use std::alloc::Global;
 
 /// What the parts of an expression come to that were read so far.
@@ -62,7 +62,7 @@ fn pop(stack: &mut Vec<Ranked>) -> Ranked
 {
     match stack.pop() {
         Some(ranked) => ranked,
-        None => Ranked::Call(Clause::Drop),
+        None => Ranked::Call(Call::Drop),
     }
 }
 

@@ -1,9 +1,9 @@
 //! Calls with places, place by place.
 ghost use Rattle.std.specs.Prelude.{◌≡◌, ◌≤◌, ◌<◌, ◌+◌, length, Ok};
-ghost use Rattle.net_base.specs.declared.limits.TheConstants.{PLACES};
-ghost use Rattle.net_base.specs.declared.place.Kind.TheVariants as kind;
+ghost use Rattle.policy_tokens.specs.declared.limits.TheConstants.{PLACES};
+ghost use Rattle.policy_tokens.specs.declared.kind.Kind.TheVariants as kind;
 ghost use Rattle.policy_tokens.specs.Gives.{Gives};
-ghost use Rattle.path_words.specs.Policies.{ranking_of};
+ghost use Rattle.policy_base.specs.Policies.{ranking_of};
 ghost use Rattle.policy_grammar.specs.Left.{left, StandsIn};
 ghost use Rattle.policy_grammar.specs.Reading.{chain};
 ghost use Rattle.policy_rules.specs.KnownView.{plain_names};
@@ -13,12 +13,12 @@ ghost use Rattle.policy_values.specs.CallReaders.{linked as link_of_two, kept_wi
 use crate::call_values::CallRead;
 use crate::name_sets::one;
 use crate::whole::Whole;
-use net_base::limits::PLACES;
-use net_base::{Kind, List, LocSet};
-use path_words::{Clause, Ranked};
+use net_base::{List, LocSet};
+use policy_base::{Call, Ranked};
 use policy_grammar::{Lexeme, Symbol, passed, past};
 use policy_rules::{Known, within};
-use policy_tokens::PolicyFault;
+use policy_tokens::limits::PLACES;
+use policy_tokens::{Kind, PolicyFault};
 use std::alloc::Global;
 
 /// The places of a `path` that were read so far.
@@ -37,7 +37,7 @@ fn linked(
 ) -> Result<Ranked, PolicyFault>
     ensures { plain_value result ≡ link_of_two a b }
 {
-    Ok(Ranked::Call(Clause::Link(a?, b?)))
+    Ok(Ranked::Call(Call::Link(a?, b?)))
 }
 
 /// The two places of a `link`.
@@ -125,9 +125,9 @@ fn ranked(count: u64, sets: List<LocSet>) -> Ranked
     ensures { ranking_of result ≡ path_ranking count sets }
 {
     if count > PLACES {
-        Ranked::Call(Clause::Drop)
+        Ranked::Call(Call::Drop)
     } else {
-        Ranked::Call(Clause::Path(sets))
+        Ranked::Call(Call::Path(sets))
     }
 }
 

@@ -9,7 +9,7 @@ ghost use Rattle.policy_values.specs.PatternValues.{plain_patterns, no_patterns,
 ghost use Rattle.policy_values.specs.Reads.{over};
 
 use net_base::Pattern;
-use net_base::limits::PATTERNS;
+use policy_base::limits::PATTERNS;
 use policy_grammar::{Lexeme, Symbol, first, past};
 use policy_rules::{all_prefixes, inside_at, only_at};
 use policy_tokens::PolicyFault;

@@ -1,102 +1,74 @@
 //! Calls with ranked sets, set by set.
 ghost use Rattle.std.specs.Prelude.{◌≡◌, ◌≤◌, ℕ, List as Items, length, Ok};
 ghost use Rattle.policy_tokens.specs.Gives.{Gives};
-ghost use Rattle.path_words.specs.Policies.{ranking_of};
+ghost use Rattle.policy_base.specs.Policies.{ranking_of};
 ghost use Rattle.policy_grammar.specs.Left.{left, StandsIn};
 ghost use Rattle.policy_grammar.specs.Reading.{chain};
 ghost use Rattle.policy_grammar.specs.Calls.{above_at};
 ghost use Rattle.policy_rules.specs.KnownView.{plain_names};
-ghost use Rattle.policy_values.specs.Built.{one_clause as clause};
 ghost use Rattle.policy_values.specs.CallValues.{plain_call};
-ghost use Rattle.policy_values.specs.CallReaders.{with_clause as clauses_with, of_clauses as of_all, clause_link, sets_read};
+ghost use Rattle.policy_values.specs.CallReaders.{with_call as calls_with, of_calls as of_all, call_link, sets_read};
 
 use crate::call_values::CallRead;
 use crate::name_sets::set;
 use crate::whole::Whole;
 use net_base::{List, LocSet, Place};
-use path_words::{Clause, Ranked};
-use policy_grammar::{CallWord, Lexeme, Symbol, begins, passed, past};
+use policy_base::{Call, Ranked, SetCall};
+use policy_grammar::{Lexeme, Symbol, begins, passed, past};
 use policy_rules::Known;
 use policy_tokens::PolicyFault;
 use std::alloc::Global;
 
-// A call with one set.
-fn one_clause(alloc: Global, word: CallWord, set: LocSet) -> Result<Clause, PolicyFault>
-    ensures { Gives (λ c. c) result (Ok (clause word set)) }
-{
-    let call = match word {
-        CallWord::Any => Clause::Any,
-        CallWord::Drop => Clause::Drop,
-        CallWord::Internal => Clause::Internal,
-        CallWord::Avoid => Clause::Avoid(set),
-        CallWord::Through => Clause::Through(set),
-        CallWord::NoTransit => Clause::NoTransit(set),
-        CallWord::Start => Clause::Start(set),
-        CallWord::End => Clause::End(set),
-        CallWord::Link => Clause::Link(set, set),
-        CallWord::Path => {
-            let mut sets = Vec::new(alloc);
-            sets.push(set)?;
-            Clause::Path(List::from_vec(sets))
-        }
-        CallWord::Exit => Clause::Exit(set),
-        CallWord::Enter => Clause::Enter(set),
-    };
-    Ok(call)
-}
-
-// The clauses of the sets so far, with that of one set more. Once a name is unknown, the first one stays.
-fn with_clause(
-    alloc: Global,
-    word: CallWord,
-    clauses: Result<List<Clause>, PolicyFault>,
+// The calls of the sets so far, with that of one set more. Once a name is unknown, the first one stays.
+fn with_call(
+    call: SetCall,
+    calls: Result<List<Call>, PolicyFault>,
     set: Result<LocSet, PolicyFault>,
-) -> Result<Result<List<Clause>, PolicyFault>, PolicyFault>
-    ensures { Gives (λ x. x) result (Ok (clauses_with word clauses set)) }
+) -> Result<Result<List<Call>, PolicyFault>, PolicyFault>
+    ensures { Gives (λ x. x) result (Ok (calls_with call calls set)) }
 {
-    match (clauses, set) {
+    match (calls, set) {
         (Ok(mut found), Ok(set)) => {
-            found.push(one_clause(alloc, word, set)?)?;
+            found.push(Call::Of(call, set))?;
             Ok(Ok(found))
         }
         (Err(fault), _) | (Ok(_), Err(fault)) => Ok(Err(fault)),
     }
 }
 
-// The clauses of more sets, as long as a `>>` comes.
-fn more_clauses(
-    alloc: Global,
-    word: CallWord,
-    clauses: Result<List<Clause>, PolicyFault>,
+// The calls of more sets, as long as a `>>` comes.
+fn more_calls(
+    call: SetCall,
+    calls: Result<List<Call>, PolicyFault>,
     text: &[u8],
     whole: &Whole<'_>,
     known: &Known<'_>,
     at: &mut Lexeme,
-) -> Result<Result<List<Clause>, PolicyFault>, PolicyFault>
+) -> Result<Result<List<Call>, PolicyFault>, PolicyFault>
     requires stands { StandsIn text.now at.old }
-    ensures read { Gives (λ x. (x, left text.now at.new)) result (chain Symbol.Above (clause_link text.now whole.now.net.now (plain_names known.now) word) (length (left text.now at.old)) clauses (left text.now at.old)) }
+    ensures read { Gives (λ x. (x, left text.now at.new)) result (chain Symbol.Above (call_link text.now whole.now.net.now (plain_names known.now) call) (length (left text.now at.old)) calls (left text.now at.old)) }
     ensures stands { StandsIn text.now at.new }
     ensures fewer { length (left text.now at.new) ≤ length (left text.now at.old) }
 {
-    let mut found = clauses;
+    let mut found = calls;
     while past(Symbol::Above, text, at) {
         let set = set(text, whole, known, at)?;
-        found = with_clause(alloc, word, found, set)?;
+        found = with_call(call, found, set)?;
     }
     Ok(found)
 }
 
-// A call with ranked sets, by their clauses.
-fn of_clauses(clauses: List<Clause>) -> Ranked
-    ensures { ranking_of result ≡ of_all clauses }
+// A call with ranked sets, by the calls of its sets.
+fn of_calls(calls: List<Call>) -> Ranked
+    ensures { ranking_of result ≡ of_all calls }
 {
-    let mut clauses = clauses.into_vec();
-    if clauses.len() == 1
-        && let Some(clause) = clauses.pop()
+    let mut calls = calls.into_vec();
+    if calls.len() == 1
+        && let Some(call) = calls.pop()
     {
-        return Ranked::Call(clause);
+        return Ranked::Call(call);
     }
-    Ranked::Calls(List::from_vec(clauses))
+    Ranked::Calls(List::from_vec(calls))
 }
 
 // Where the `>>` stands that is this lexeme, if it is one.
@@ -114,26 +86,26 @@ fn above(at: &Lexeme) -> Option<Place>
 #[tactic(auto, unfolding(crate::specs::CallReaders::sets_read))]
 pub(crate) fn sets_call(
     alloc: Global,
-    word: CallWord,
+    call: SetCall,
     text: &[u8],
     whole: &Whole<'_>,
     known: &Known<'_>,
     at: &mut Lexeme,
 ) -> Result<CallRead, PolicyFault>
     requires stands { StandsIn text.now at.old }
-    ensures read { Gives (λ x. (plain_call x, left text.now at.new)) result (sets_read text.now whole.now.net.now (plain_names known.now) word (left text.now at.old)) }
+    ensures read { Gives (λ x. (plain_call x, left text.now at.new)) result (sets_read text.now whole.now.net.now (plain_names known.now) call (left text.now at.old)) }
     ensures stands { StandsIn text.now at.new }
     ensures fewer { length (left text.now at.new) ≤ length (left text.now at.old) }
 {
     passed(Symbol::RoundOpen, text, at)?;
     let set = set(text, whole, known, at)?;
     let above = above(at);
-    let first = with_clause(alloc, word, Ok(List::new(alloc)), set)?;
-    let clauses = more_clauses(alloc, word, first, text, whole, known, at)?;
+    let first = with_call(call, Ok(List::new(alloc)), set)?;
+    let calls = more_calls(call, first, text, whole, known, at)?;
     passed(Symbol::RoundClose, text, at)?;
     Ok(CallRead {
         above,
         places: Ok(()),
-        value: clauses.map(of_clauses),
+        value: calls.map(of_calls),
     })
 }

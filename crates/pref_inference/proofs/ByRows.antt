@@ -35,22 +35,31 @@ pub other_more : (first : ℕ → Bool) (q p : ℕ) (old : Bool) → old ≡ (lt
 other_more first q p old before is =
     before ∙ sym (ap (λ z. (ltb q p && first q) || z) (and_right (eqb q p) (first p) is) ∙ or-false (ltb q p && first q)) ∙ next_below q p first
 
-module _ (g : PlainGraph) (r : PlainRelation) (firsts located : PlainRows) (is : IsRelationOf g r) (each : HasEach r) (one : AreFirsts (length g.nodes) r firsts) (places : AreLocated g located) (m : ℕ) (lm : m < length g.nodes) where
-  here : (k : ℕ) → k < length g.nodes → (has_at firsts 0 k && (has_at located (place_of g m) k && not (has_at r.rows m k))) ≡ (is_first (has r) k && (eqb (place_of g k) (place_of g m) && not (has r k m)))
+module _ (g : PlainGraph) (r : PlainRelation) (firsts located : PlainRows) (is : IsRelationOf g r) (each : HasEach r)
+    (one : AreFirsts (length g.nodes) r firsts) (places : AreLocated g located) (m : ℕ) (lm : m < length g.nodes) where
+  here : (k : ℕ) → k < length g.nodes
+      → (has_at firsts 0 k && (has_at located (place_of g m) k && not (has_at r.rows m k)))
+      ≡ (is_first (has r) k && (eqb (place_of g k) (place_of g m) && not (has r k m)))
   here k lk =
       let first : has_at firsts 0 k ≡ is_first (has r) k = one.each k ∙ ap (λ z. z && is_first (has r) k) (lt-ltb _ _ lk) in
-      let there : has_at located (place_of g m) k ≡ eqb (place_of g k) (place_of g m) = places.nodes (place_of g m) k (places.places m lm) ∙ ap (λ z. z && eqb (place_of g k) (place_of g m)) (lt-ltb _ _ lk) in
-      ap (λ z. z && (has_at located (place_of g m) k && not (has_at r.rows m k))) first ∙ ap (λ z. is_first (has r) k && (z && not (has_at r.rows m k))) there ∙ ap (λ z. is_first (has r) k && z) (elim (cases_Bool (eqb (place_of g k) (place_of g m))) [
+      let there : has_at located (place_of g m) k ≡ eqb (place_of g k) (place_of g m) = places.nodes (place_of g m) k (places.places m lm)
+      ∙ ap (λ z. z && eqb (place_of g k) (place_of g m)) (lt-ltb _ _ lk) in
+      ap (λ z. z && (has_at located (place_of g m) k && not (has_at r.rows m k))) first
+      ∙ ap (λ z. is_first (has r) k && (z && not (has_at r.rows m k))) there
+      ∙ ap (λ z. is_first (has r) k && z) (elim (cases_Bool (eqb (place_of g k) (place_of g m))) [
         | inl e ↦ (
             let pair : are_together r k m ≡ true = together g r is.places k m ∙ pair_to (view_of g r.claimed) k m (record { left = lk; right = lm; place = eqb-true _ _ e }) in
             ap (λ z. eqb (place_of g k) (place_of g m) && not z) (sym (ap (λ z. z && has_at r.rows m k) pair)))
         | inr e ↦ and_left _ _ e ∙ sym (and_left _ _ e)
       ])
 
-  pub number_in_rows : 100 + count_by (λ k. has_at firsts 0 k && (has_at located (place_of g m) k && not (has_at r.rows m k))) (range_with_len 0 (length g.nodes)) ≡ number_of (length g.nodes) (has r) m
+  pub number_in_rows : 100
+      + count_by (λ k. has_at firsts 0 k && (has_at located (place_of g m) k && not (has_at r.rows m k))) (range_with_len 0 (length g.nodes))
+      ≡ number_of (length g.nodes) (has r) m
   number_in_rows =
       ap (λ z. 100 + z) (count_range (λ k. has_at firsts 0 k && (has_at located (place_of g m) k && not (has_at r.rows m k))) (length g.nodes)
-      ∙ count_alike (length g.nodes) (λ k. has_at firsts 0 k && (has_at located (place_of g m) k && not (has_at r.rows m k))) (λ k. is_first (has r) k && (eqb (place_of g k) (place_of g m) && not (has r k m))) here)
+      ∙ count_alike (length g.nodes) (λ k. has_at firsts 0 k && (has_at located (place_of g m) k && not (has_at r.rows m k)))
+      (λ k. is_first (has r) k && (eqb (place_of g k) (place_of g m) && not (has r k m))) here)
       ∙ sym (number_by_row (view_of g r.claimed) (has r) is.greatest (total_where_each g r is each) m lm)
 
   -- the rows end with the word of the last node

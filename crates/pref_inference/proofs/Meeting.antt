@@ -17,7 +17,8 @@ use Rattle.state_simulation.specs.Held.{HasEach, IsRelationOf, PlainRelation, ha
 use Rattle.state_simulation.proofs.Holding.{total_where_each}
 
 -- only the numbers of nodes matter
-rules_alike : (net : PlainNet) (Claimed : ℕ → Type 0) (external : Bool) (g : PlainGraph) (one other : ℕ → ℕ) → IsGraph g → ((n : ℕ) → n < length g.nodes → other n ≡ one n) → MeetsRules net Claimed external g one → MeetsRules net Claimed external g other
+rules_alike : (net : PlainNet) (Claimed : ℕ → Type 0) (external : Bool) (g : PlainGraph) (one other : ℕ → ℕ) → IsGraph g
+    → ((n : ℕ) → n < length g.nodes → other n ≡ one n) → MeetsRules net Claimed external g one → MeetsRules net Claimed external g other
 rules_alike net Claimed external g one other ok same rules =
     let le : (a b : ℕ) → a < length g.nodes → b < length g.nodes → one b ≤ one a → other b ≤ other a = λ a b la lb h. (let x = same a la in let y = same b lb in omega (arith, h)) in
     let over : (m n : ℕ) → IsOver net g other m n → IsOver net g one m n = λ m n o.
@@ -32,9 +33,11 @@ rules_alike net Claimed external g one other ok same rules =
       listener = λ m n t i ext o. rules.listener m n t i ext (over m n o);
     }
 
-pub inferred_meet : (net : PlainNet) (external : Bool) (g : PlainGraph) (r : PlainRelation) (of : List ℕ) → IsGraph g → IsRelationOf g r → HasEach r → ((n : ℕ) → n < length g.nodes → number_in of n ≡ inferred net g r n) →
+pub inferred_meet : (net : PlainNet) (external : Bool) (g : PlainGraph) (r : PlainRelation) (of : List ℕ) → IsGraph g → IsRelationOf g r → HasEach r
+    → ((n : ℕ) → n < length g.nodes → number_in of n ≡ inferred net g r n) →
     MeetsRules net (λ l. holds r.claimed l ≡ true) external g (number_in of)
 inferred_meet net external g r of ok is each numbers =
     let number = number_of (length g.nodes) (has r) in
     rules_alike net (λ l. holds r.claimed l ≡ true) external g (inferred net g r) (number_in of) ok numbers
-    (rules_at_routers net r.claimed external g number (numbers_meet_rules net r.claimed external g number ok (counts_are_numbers (view_of g r.claimed) (has r) is.greatest (total_where_each g r is each))))
+    (rules_at_routers net r.claimed external g number (numbers_meet_rules net r.claimed external g number ok
+    (counts_are_numbers (view_of g r.claimed) (has r) is.greatest (total_where_each g r is each))))

@@ -1,5 +1,5 @@
 -- What calls are built of is printable.
-use Rattle.std.proofs.Common.{◌≡◌, ℕ, ◌+◌, ◌≤◌, Bool, true, List, [], ◌∷◌, ◌++◌, length, map, Option, None, Ok, refl, sym, ap, ◌∙◌, subst, arith, inl, length-append}
+use Rattle.std.proofs.Common.{◌≡◌, ℕ, ◌+◌, ◌≤◌, Bool, true, List, [], ◌∷◌, ◌++◌, length, map, Option, None, Ok, refl, ap, ◌∙◌, subst, arith, inl, length-append}
 use Rattle.std.specs.Prelude.{IsTrue}
 use Rattle.std.specs.List.{AllByRecursion}
 use Rattle.net_base.specs.declared.loc.LocSet.{LocSet}
@@ -8,15 +8,17 @@ use Rattle.net_base.specs.Network.{PlainNet, IsNet}
 use Rattle.net_base.specs.NetSets.{locations}
 use Rattle.net_base.proofs.StepLemmas.{bind_ok}
 use Rattle.policy_grammar.specs.Raw.{Arg, Arg as arg}
-use Rattle.policy_grammar.specs.declared.call_word.CallWord.{CallWord}
-use Rattle.policy_grammar.specs.declared.call_word.CallWord.TheVariants as word
+use Rattle.policy_base.specs.declared.call.SetCall.{SetCall}
+use Rattle.policy_base.specs.declared.call.CallWord.{CallWord}
+use Rattle.policy_base.specs.declared.call.CallWord.TheVariants as word
 use Rattle.policy_rules.specs.Counts.{word_places}
 use Rattle.policy_rules.specs.KnownNames.{Names}
-use Rattle.path_words.specs.Policies.{Ranking, call, calls, prefer, either, both, negated}
-use Rattle.policy_values.specs.Built.{set_of_arg, sets_of, one_clause, ranked_sets, link_of, call_of}
-use Rattle.policy_text.specs.PolicyText.{has_sets, clause_word}
+use Rattle.policy_base.specs.Policies.{Ranking, call, calls, prefer, either, both, negated}
+use Rattle.policy_values.specs.Built.{set_of_arg, sets_of, ranked_sets, link_of, call_of}
+use Rattle.policy_base.specs.declared.call.Call.TheVariants.{Of}
+use Rattle.policy_base.specs.CallWords.{word_of}
 use Rattle.policy_text.specs.Printable.{IsCallSet, HasCallSets, has_one_set, AreRanked, IsWritable, HasNoRank, call_count, open_brackets}
-use Rattle.policy_text.specs.Values.{IsLocSet, clause_sets, HasLocSets}
+use Rattle.policy_text.specs.Values.{IsLocSet, sets_in, HasLocSets}
 use Rattle.list_laws.proofs.Each.{AllByRecursion-push, AllByRecursion-weaker}
 use Rattle.printing_law.proofs.Forms.{has_brackets, one_if, IsArg, HasArgs}
 use Rattle.printing_law.proofs.Sets.{IsSome, part_set, part_within, locations_set, locations_call}
@@ -68,75 +70,32 @@ pub record IsGoodCall (net : PlainNet) (above : Option Place) (b : Bool) (r : Ra
   pub brackets : (least : ℕ) → open_brackets least r ≡ one_if b
   pub count : call_count r ≡ 1
 
--- a word of calls that have one set
-record TakesOne (w : CallWord) : Type 0 where
-  brackets : has_brackets w ≡ true
-  has : (s : LocSet) → has_sets (one_clause w s) ≡ true
-  one : (s : LocSet) → IsTrue (has_one_set (one_clause w s))
-  word : (s t : LocSet) → clause_word (one_clause w s) ≡ clause_word (one_clause w t)
-  sets : (net : PlainNet) (s : LocSet) → IsCallSet net s → HasCallSets net (one_clause w s)
-  values : (s : LocSet) → clause_sets (one_clause w s) ≡ s ∷ []
-  call : (sets : List LocSet) → call_of w sets ≡ ranked_sets w sets
-
-avoid_one : TakesOne word.Avoid
-avoid_one = record { brackets = refl; has = λ s. refl; one = λ s. refl; word = λ s t. refl; sets = λ net s is. is; values = λ s. refl; call = λ sets. refl }
-
-through_one : TakesOne word.Through
-through_one = record { brackets = refl; has = λ s. refl; one = λ s. refl; word = λ s t. refl; sets = λ net s is. is; values = λ s. refl; call = λ sets. refl }
-
-no_transit_one : TakesOne word.NoTransit
-no_transit_one = record { brackets = refl; has = λ s. refl; one = λ s. refl; word = λ s t. refl; sets = λ net s is. is; values = λ s. refl; call = λ sets. refl }
-
-start_one : TakesOne word.Start
-start_one = record { brackets = refl; has = λ s. refl; one = λ s. refl; word = λ s t. refl; sets = λ net s is. is; values = λ s. refl; call = λ sets. refl }
-
-end_one : TakesOne word.End
-end_one = record { brackets = refl; has = λ s. refl; one = λ s. refl; word = λ s t. refl; sets = λ net s is. is; values = λ s. refl; call = λ sets. refl }
-
-exit_one : TakesOne word.Exit
-exit_one = record { brackets = refl; has = λ s. refl; one = λ s. refl; word = λ s t. refl; sets = λ net s is. is; values = λ s. refl; call = λ sets. refl }
-
-enter_one : TakesOne word.Enter
-enter_one = record { brackets = refl; has = λ s. refl; one = λ s. refl; word = λ s t. refl; sets = λ net s is. is; values = λ s. refl; call = λ sets. refl }
-
-module _ (net : PlainNet) (w : CallWord) (takes : TakesOne w) where
-  one_values : (s : LocSet) → IsLocSet s → AllByRecursion IsLocSet (clause_sets (one_clause w s))
-  one_values s is = subst (AllByRecursion IsLocSet) (sym (takes.values s)) (is, tt)
-
+-- a call of one set
+module _ (net : PlainNet) (c : SetCall) where
   -- calls that are ranked with a first one
   ranked_like : (first : LocSet) (ss : List LocSet) → AllByRecursion (IsGoodSet net) ss
-      → AllByRecursion (λ d. (clause_word d ≡ clause_word (one_clause w first)) × IsTrue (has_one_set d) × HasCallSets net d) (map (one_clause w) ss)
+      → AllByRecursion (λ d. (word_of d ≡ word_of (Of c first)) × IsTrue (has_one_set d) × HasCallSets net d) (map (Of c) ss)
   ranked_like first [] all = tt
-  ranked_like first (s ∷ ss) all = ((takes.word s first, takes.one s, takes.sets net s all.0.0), ranked_like first ss all.1)
+  ranked_like first (s ∷ ss) all = ((refl, refl, all.0.0), ranked_like first ss all.1)
 
-  ranked_values : (ss : List LocSet) → AllByRecursion (IsGoodSet net) ss → AllByRecursion (λ c. AllByRecursion IsLocSet (clause_sets c)) (map (one_clause w) ss)
+  ranked_values : (ss : List LocSet) → AllByRecursion (IsGoodSet net) ss → AllByRecursion (λ d. AllByRecursion IsLocSet (sets_in d)) (map (Of c) ss)
   ranked_values [] all = tt
-  ranked_values (s ∷ ss) all = (one_values s all.0.1, ranked_values ss all.1)
+  ranked_values (s ∷ ss) all = ((all.0.1, tt), ranked_values ss all.1)
 
-  ranked_good : (above : Option Place) (ss : List LocSet) → 1 ≤ length ss → (above ≡ None → length ss ≡ 1) → AllByRecursion (IsGoodSet net) ss → IsGoodCall net above (has_brackets w) (ranked_sets w ss)
+  ranked_good : (above : Option Place) (ss : List LocSet) → 1 ≤ length ss → (above ≡ None → length ss ≡ 1) → AllByRecursion (IsGoodSet net) ss → IsGoodCall net above true (ranked_sets c ss)
   ranked_good above [] some one all = absurd (omega (arith, some))
-  ranked_good above (s ∷ []) some one all = record {
-    sets = takes.sets net s all.0.0;
-    writable = takes.sets net s all.0.0;
-    values = one_values s all.0.1;
-    rank = λ none. tt;
-    brackets = λ least. ap one_if (takes.has s ∙ sym takes.brackets);
-    count = refl;
-  }
+  ranked_good above (s ∷ []) some one all = record { sets = all.0.0; writable = all.0.0; values = (all.0.1, tt); rank = λ none. tt; brackets = λ least. refl; count = refl }
   ranked_good above (s ∷ t ∷ ss) some one all = record {
     sets = (omega arith, ranked_like s (s ∷ t ∷ ss) all);
     writable = (omega arith, ranked_like s (s ∷ t ∷ ss) all);
     values = ranked_values (s ∷ t ∷ ss) all;
     rank = λ none. absurd (two (one none));
-    brackets = λ least. ap one_if (sym takes.brackets);
+    brackets = λ least. refl;
     count = refl;
   }
     where
       two : length (s ∷ t ∷ ss) ≡ 1 → ⊥
       two e = omega (arith, e)
-
-  takes_good : (above : Option Place) (ss : List LocSet) → 1 ≤ length ss → (above ≡ None → length ss ≡ 1) → AllByRecursion (IsGoodSet net) ss → IsGoodCall net above (has_brackets w) (call_of w ss)
-  takes_good above ss some one all = subst (IsGoodCall net above (has_brackets w)) (sym (takes.call ss)) (ranked_good above ss some one all)
 
 link_good : (net : PlainNet) (above : Option Place) (ss : List LocSet) → length ss ≡ 2 → AllByRecursion (IsGoodSet net) ss → IsGoodCall net above true (call (link_of ss))
 link_good net above [] two all = absurd (omega (arith, two))
@@ -150,11 +109,6 @@ pub call_good : (net : PlainNet) (w : CallWord) (above : Option Place) (ss : Lis
 call_good net word.Any above ss is few all = record { sets = tt; writable = tt; values = tt; rank = λ none. tt; brackets = λ least. refl; count = refl }
 call_good net word.Drop above ss is few all = record { sets = tt; writable = tt; values = tt; rank = λ none. tt; brackets = λ least. refl; count = refl }
 call_good net word.Internal above ss is few all = record { sets = tt; writable = tt; values = tt; rank = λ none. tt; brackets = λ least. refl; count = refl }
-call_good net word.Avoid above ss is few all = takes_good net word.Avoid avoid_one above ss is.0 is.1 all
-call_good net word.Through above ss is few all = takes_good net word.Through through_one above ss is.0 is.1 all
-call_good net word.NoTransit above ss is few all = takes_good net word.NoTransit no_transit_one above ss is.0 is.1 all
-call_good net word.Start above ss is few all = takes_good net word.Start start_one above ss is.0 is.1 all
-call_good net word.End above ss is few all = takes_good net word.End end_one above ss is.0 is.1 all
 call_good net word.Link above ss is few all = link_good net above ss is all
 call_good net word.Path above ss is few all = record {
   sets = (AllByRecursion-weaker (IsGoodSet net) (IsCallSet net) ss (λ s h. h.0) all, is, few);
@@ -164,5 +118,4 @@ call_good net word.Path above ss is few all = record {
   brackets = λ least. refl;
   count = refl;
 }
-call_good net word.Exit above ss is few all = takes_good net word.Exit exit_one above ss is.0 is.1 all
-call_good net word.Enter above ss is few all = takes_good net word.Enter enter_one above ss is.0 is.1 all
+call_good net (word.Of c) above ss is few all = ranked_good net c above ss is.0 is.1 all

@@ -3,9 +3,9 @@ use Rattle.std.proofs.Common.{[], ◌∷◌, refl}
 use Rattle.std.proofs.lemmas.Bool.{false≢true}
 use Rattle.net_base.specs.NameRule.{is_name}
 use Rattle.net_base.specs.Network.{PlainNet}
-use Rattle.path_words.specs.declared.clause.Clause.TheVariants.{Any}
-use Rattle.path_words.specs.declared.policy.FromSet.TheVariants as from_set
-use Rattle.path_words.specs.Policies.{call, PlainPolicy}
+use Rattle.policy_base.specs.declared.call.Call.TheVariants.{Any}
+use Rattle.policy_base.specs.declared.policy.FromSet.TheVariants as from_set
+use Rattle.policy_base.specs.Policies.{call, PlainPolicy}
 use Rattle.printing_law.specs.Laws.{SomePoliciesHaveNoText, SomeNetsHaveNoNames}
 
 -- a statement without a pattern

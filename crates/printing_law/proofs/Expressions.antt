@@ -4,7 +4,7 @@ use Rattle.std.specs.Prelude.{⊤, nat_le, sum_by}
 use Rattle.std.proofs.lemmas.List.Sums.{sum_by-cons, sum_by-append}
 use Rattle.net_base.specs.declared.loc.LocSet.{LocSet}
 use Rattle.net_base.specs.declared.place.Place.{Place}
-use Rattle.net_base.specs.declared.place.Kind.TheVariants as kind
+use Rattle.policy_tokens.specs.declared.kind.Kind.TheVariants as kind
 use Rattle.net_base.specs.Network.{PlainNet, IsNet}
 use Rattle.net_base.specs.Steps.{unless}
 use Rattle.net_base.proofs.StepLemmas.{bind_ok, unless_ok}
@@ -16,7 +16,7 @@ use Rattle.policy_rules.specs.Checks.{each}
 use Rattle.policy_rules.specs.Counts.{call_amount, places_within, word_places}
 use Rattle.policy_rules.specs.KnownNames.{Names}
 use Rattle.policy_rules.specs.Ranks.{earlier, top as top_mark, above_mark, or_mark, and_mark, not_mark, marks_of}
-use Rattle.path_words.specs.Policies.{Ranking, call, calls, prefer, either, both, negated}
+use Rattle.policy_base.specs.Policies.{Ranking, call, calls, prefer, either, both, negated}
 use Rattle.policy_values.specs.Built.{sets_of, call_of, top, behind, all_behind, ranking_of_steps}
 use Rattle.policy_text.specs.Printable.{IsWritable, HasNoRank, call_count, open_brackets}
 use Rattle.policy_text.specs.Values.{HasLocSets}

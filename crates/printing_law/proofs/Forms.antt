@@ -4,8 +4,8 @@ use Rattle.std.specs.List.{AllByRecursion}
 use Rattle.net_base.specs.declared.place.Place.{Place}
 use Rattle.policy_grammar.specs.declared.lexeme.Lexeme.{Lexeme}
 use Rattle.policy_grammar.specs.Raw.{Arg, Arg as arg, RawCall, RawStatement, Step, Step as step, Item}
-use Rattle.policy_grammar.specs.declared.call_word.CallWord.{CallWord}
-use Rattle.policy_grammar.specs.declared.call_word.CallWord.TheVariants as word
+use Rattle.policy_base.specs.declared.call.CallWord.{CallWord}
+use Rattle.policy_base.specs.declared.call.CallWord.TheVariants as word
 use Rattle.policy_grammar.specs.Raw.Item.{Define, Originate, State}
 
 -- a call, `a >> b`, `a or b`, `a and b`, `not a`
@@ -65,7 +65,7 @@ HasArgs word.Drop n place = Unit {0}
 HasArgs word.Internal n place = Unit {0}
 HasArgs word.Link n place = n ≡ 2
 HasArgs word.Path n place = 2 ≤ n
-HasArgs _ n place = (1 ≤ n) × (place ≡ None → n ≡ 1)
+HasArgs (word.Of c) n place = (1 ≤ n) × (place ≡ None → n ≡ 1)
 
 pub record IsCallForm (c : RawCall) : Type 0 where
   pub count : HasArgs c.word (length c.args) c.above

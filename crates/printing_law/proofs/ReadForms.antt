@@ -12,14 +12,14 @@ use Rattle.policy_tokens.specs.Tokens.{tokens_of}
 use Rattle.policy_grammar.specs.declared.lexeme.Lexeme.{Lexeme}
 use Rattle.policy_grammar.specs.declared.symbol.Symbol.{Symbol}
 use Rattle.policy_grammar.specs.declared.symbol.Symbol.TheVariants as symbol
+use Rattle.policy_base.specs.declared.call.CallWord.TheVariants as word
 use Rattle.policy_grammar.specs.Raw.{Arg, RawCall, RawPattern, Step, Step as step, Item}
-use Rattle.policy_grammar.specs.declared.call_word.CallWord.{CallWord}
 use Rattle.policy_grammar.specs.Deep.{open_behind, is_too_deep, first_deep}
 use Rattle.policy_grammar.specs.Items.{items_of}
 use Rattle.policy_grammar.specs.Lexemes.{lexemes_of, end_of}
 use Rattle.policy_parser.specs.Spelled.{none_at, items_spelled}
-use Rattle.grammar_laws.specs.Grammar.{Is, Rule, IsMore, IsList, IsName, IsNames, IsGroup, IsSet, IsOne, StandsAlone, TakesSets, IsCall, front_place, IsRanked, IsChoice, IsJoint, IsUnit, IsAtom, IsPattern, IsPredicate, IsFrom, IsItem, IsPolicy}
-use Rattle.grammar_laws.proofs.TextLaws.{read-policy}
+use Rattle.grammar_law.specs.Grammar.{Is, Rule, IsMore, IsList, IsName, IsNames, IsGroup, IsSet, IsOne, StandsAlone, IsCall, front_place, IsRanked, IsChoice, IsJoint, IsUnit, IsAtom, IsPattern, IsPredicate, IsFrom, IsItem, IsPolicy}
+use Rattle.grammar_law.proofs.TextLaws.{read-policy}
 use Rattle.printing_law.proofs.Forms.{Tree, steps_of, has_brackets, one_if, brackets_of, AllCalls, IsNamed, IsArg, HasArgs, IsCallForm, HasForm}
 use Rattle.policy_parser.proofs.Steps.{none_at_ok}
 
@@ -83,22 +83,13 @@ group_leaves (IsGroup.group {o = o} {c = c} {ts = ts} i names j) =
     both_leave (o ∷ ts) (c ∷ []) (both_leave (o ∷ []) ts (one_leaves symbol.BraceOpen (λ n. (refl, refl)) i) (names_leave names)) (one_leaves symbol.BraceClose (λ n. (refl, refl)) j)
 
 set_leaves : {x : Arg} {ts : List Lexeme} → IsSet x ts → Leaves ts
-set_leaves (IsSet.any i) = one_leaves symbol.Any (λ n. (refl, refl)) i
+set_leaves (IsSet.any i) = one_leaves (symbol.Call word.Any) (λ n. (refl, refl)) i
 set_leaves (IsSet.names is) = names_leave is
 
 place_leaves : {x : Arg} {ts : List Lexeme} → IsOne x ts → Leaves ts
-place_leaves (IsOne.any i) = one_leaves symbol.Any (λ n. (refl, refl)) i
+place_leaves (IsOne.any i) = one_leaves (symbol.Call word.Any) (λ n. (refl, refl)) i
 place_leaves (IsOne.name i) = name_leaves i
 place_leaves (IsOne.group is) = group_leaves is
-
-takes_plain : {word : CallWord} {s : Symbol} → TakesSets word s → IsPlain s
-takes_plain TakesSets.avoid = λ n. (refl, refl)
-takes_plain TakesSets.through = λ n. (refl, refl)
-takes_plain TakesSets.notransit = λ n. (refl, refl)
-takes_plain TakesSets.start = λ n. (refl, refl)
-takes_plain TakesSets.end = λ n. (refl, refl)
-takes_plain TakesSets.exit = λ n. (refl, refl)
-takes_plain TakesSets.enter = λ n. (refl, refl)
 
 comma_leaves : {m : Lexeme} → Is symbol.Comma m → Leaves (m ∷ [])
 comma_leaves i = one_leaves symbol.Comma (λ n. (refl, refl)) i
@@ -107,16 +98,16 @@ two_leave : (ts us : List Lexeme) (m : Lexeme) → Leaves ts → Is symbol.Comma
 two_leave ts us m a i b = both_leave ts (m ∷ us) a (both_leave (m ∷ []) us (comma_leaves i) b)
 
 call_leaves : {x : RawCall} {ts : List Lexeme} → IsCall x ts → Leaves ts
-call_leaves (IsCall.alone StandsAlone.any i) = one_leaves symbol.Any (λ n. (refl, refl)) i
-call_leaves (IsCall.alone StandsAlone.drop i) = one_leaves symbol.Drop (λ n. (refl, refl)) i
-call_leaves (IsCall.alone StandsAlone.internal i) = one_leaves symbol.Internal (λ n. (refl, refl)) i
-call_leaves (IsCall.sets {s = s} {w = w} {o = o} {c = c} {ts = ts} {us = us} takes iw io x rest ic) =
-    both_leave (w ∷ []) (o ∷ ((ts ++ us) ++ c ∷ [])) (one_leaves s (takes_plain takes) iw)
+call_leaves (IsCall.alone StandsAlone.any i) = one_leaves (symbol.Call word.Any) (λ n. (refl, refl)) i
+call_leaves (IsCall.alone StandsAlone.drop i) = one_leaves (symbol.Call word.Drop) (λ n. (refl, refl)) i
+call_leaves (IsCall.alone StandsAlone.internal i) = one_leaves (symbol.Call word.Internal) (λ n. (refl, refl)) i
+call_leaves (IsCall.sets {one = one} {w = w} {o = o} {c = c} {ts = ts} {us = us} iw io x rest ic) =
+    both_leave (w ∷ []) (o ∷ ((ts ++ us) ++ c ∷ [])) (one_leaves (symbol.Call (word.Of one)) (λ n. (refl, refl)) iw)
     (round_leaves o c (ts ++ us) io ic (both_leave ts us (set_leaves x) (more_leave symbol.Above (λ n. (refl, refl)) (λ x ts is. set_leaves is) rest)))
 call_leaves (IsCall.link {w = w} {o = o} {m = m} {c = c} {ts = ts} {us = us} iw io x im y ic) =
-    both_leave (w ∷ []) (o ∷ ((ts ++ m ∷ us) ++ c ∷ [])) (one_leaves symbol.Link (λ n. (refl, refl)) iw) (round_leaves o c (ts ++ m ∷ us) io ic (two_leave ts us m (place_leaves x) im (place_leaves y)))
+    both_leave (w ∷ []) (o ∷ ((ts ++ m ∷ us) ++ c ∷ [])) (one_leaves (symbol.Call word.Link) (λ n. (refl, refl)) iw) (round_leaves o c (ts ++ m ∷ us) io ic (two_leave ts us m (place_leaves x) im (place_leaves y)))
 call_leaves (IsCall.path {w = w} {o = o} {m = m} {c = c} {ts = ts} {us = us} {vs = vs} iw io x im y rest ic) =
-    both_leave (w ∷ []) (o ∷ ((ts ++ m ∷ us ++ vs) ++ c ∷ [])) (one_leaves symbol.Path (λ n. (refl, refl)) iw)
+    both_leave (w ∷ []) (o ∷ ((ts ++ m ∷ us ++ vs) ++ c ∷ [])) (one_leaves (symbol.Call word.Path) (λ n. (refl, refl)) iw)
     (round_leaves o c (ts ++ m ∷ us ++ vs) io ic (both_leave (ts ++ m ∷ us) vs (two_leave ts us m (place_leaves x) im (place_leaves y)) (more_leave symbol.Comma (λ n. (refl, refl)) (λ x ts is. place_leaves is) rest)))
 
 -- ---- names, sets and calls
@@ -145,20 +136,11 @@ alone : {One : Rule Arg} {xs : List Arg} {ts : List Lexeme} → IsMore symbol.Ab
 alone IsMore.none none = refl
 alone (IsMore.more j x xs) none = absurd cc
 
-several : {word : CallWord} {s : Symbol} → TakesSets word s → (n : ℕ) (above : Option Place) → 1 ≤ n → (above ≡ None → n ≡ 1) → HasArgs word n above
-several TakesSets.avoid n above some one = (some, one)
-several TakesSets.through n above some one = (some, one)
-several TakesSets.notransit n above some one = (some, one)
-several TakesSets.start n above some one = (some, one)
-several TakesSets.end n above some one = (some, one)
-several TakesSets.exit n above some one = (some, one)
-several TakesSets.enter n above some one = (some, one)
-
 call_form : {x : RawCall} {ts : List Lexeme} → IsCall x ts → IsCallForm x
 call_form (IsCall.alone StandsAlone.any i) = record { count = tt; args = tt }
 call_form (IsCall.alone StandsAlone.drop i) = record { count = tt; args = tt }
 call_form (IsCall.alone StandsAlone.internal i) = record { count = tt; args = tt }
-call_form (IsCall.sets {xs = xs} {us = us} takes w o x rest c) = record { count = several takes (suc (length xs)) (front_place us) (omega arith) (λ none. alone rest none); args = (set_arg x, more_args (λ x ts is. set_arg is) rest) }
+call_form (IsCall.sets {xs = xs} {us = us} w o x rest c) = record { count = (omega arith, λ none. alone rest none); args = (set_arg x, more_args (λ x ts is. set_arg is) rest) }
 call_form (IsCall.link w o x m y c) = record { count = refl; args = (one_arg x, (one_arg y, tt)) }
 call_form (IsCall.path w o x m y rest c) = record { count = omega arith; args = (one_arg x, (one_arg y, more_args (λ x ts is. one_arg is) rest)) }
 
@@ -176,11 +158,11 @@ call_brackets : {x : RawCall} {ts : List Lexeme} → IsCall x ts → (k : ℕ) (
 call_brackets (IsCall.alone StandsAlone.any i) k ms fits = omega arith
 call_brackets (IsCall.alone StandsAlone.drop i) k ms fits = omega arith
 call_brackets (IsCall.alone StandsAlone.internal i) k ms fits = omega arith
-call_brackets (IsCall.sets {word = word} {s = s} {w = w} {o = o} {c = c} {ts = ts} {us = us} takes iw io x rest ic) k ms fits =
-    one_open s (takes_plain takes) k w o (ts ++ us ++ c ∷ [] ++ ms) (has_brackets word) iw io fits
-call_brackets (IsCall.link {w = w} {o = o} {m = m} {c = c} {ts = ts} {us = us} iw io x im y ic) k ms fits = one_open symbol.Link (λ n. (refl, refl)) k w o (ts ++ m ∷ us ++ c ∷ [] ++ ms) true iw io fits
+call_brackets (IsCall.sets {one = one} {w = w} {o = o} {c = c} {ts = ts} {us = us} iw io x rest ic) k ms fits =
+    one_open (symbol.Call (word.Of one)) (λ n. (refl, refl)) k w o (ts ++ us ++ c ∷ [] ++ ms) true iw io fits
+call_brackets (IsCall.link {w = w} {o = o} {m = m} {c = c} {ts = ts} {us = us} iw io x im y ic) k ms fits = one_open (symbol.Call word.Link) (λ n. (refl, refl)) k w o (ts ++ m ∷ us ++ c ∷ [] ++ ms) true iw io fits
 call_brackets (IsCall.path {w = w} {o = o} {m = m} {c = c} {ts = ts} {us = us} {vs = vs} iw io x im y rest ic) k ms fits =
-    one_open symbol.Path (λ n. (refl, refl)) k w o (ts ++ m ∷ us ++ vs ++ c ∷ [] ++ ms) true iw io fits
+    one_open (symbol.Call word.Path) (λ n. (refl, refl)) k w o (ts ++ m ∷ us ++ vs ++ c ∷ [] ++ ms) true iw io fits
 
 one_looser : (b least more : ℕ) → least ≤ more → one_if (nat_lt b least) ≤ one_if (nat_lt b more)
 one_looser b least more le = elim (cases_lt b least) [

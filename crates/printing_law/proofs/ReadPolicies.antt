@@ -3,13 +3,13 @@ use Rattle.std.proofs.Common.{[]}
 use Rattle.std.specs.List.{AllByRecursion}
 use Rattle.net_base.specs.Network.{PlainNet, IsNet, is_router}
 use Rattle.net_base.specs.Prefixes.{IsPrefix, IsPattern}
-use Rattle.path_words.specs.declared.policy.Origin.{Origin}
-use Rattle.path_words.specs.Policies.{PlainStatement, PlainPolicy, IsPolicyOf}
+use Rattle.policy_base.specs.declared.policy.Origin.{Origin}
+use Rattle.policy_base.specs.Policies.{PlainStatement, PlainPolicy, IsPolicyOf}
 use Rattle.policy_text.specs.Printable.{HoldsOnly, IsPrintableStatement, IsPrintableOrigin}
 use Rattle.policy_text.specs.Values.{IsLocSet, IsStatementValue}
 use Rattle.policy_text.proofs.PrintedPolicies.{spelled-policy_text}
 use Rattle.list_laws.proofs.Each.{AllByRecursion-both, AllByRecursion-weaker}
-use Rattle.policy_law.proofs.ReadPolicies.{read_policies_fit, IsBuilt, is_built, origins_made, ranks_kept}
+use Rattle.policy_parser.proofs.FittingPolicies.{read_policies_fit, IsBuilt, is_built, origins_made, ranks_kept}
 use Rattle.topology.proofs.TextLaws.{net_read}
 use Rattle.topology.proofs.LawfulNames.{names_read}
 use Rattle.printing_law.specs.Laws.{ReadPoliciesArePrintable, ReadNetsHaveNames, ReadPoliciesAreReadAgain}

@@ -3,7 +3,7 @@ use Rattle.std.proofs.Common.{◌≡◌, ◌≢◌, ℕ, ◌+◌, ◌≤◌, Lis
 use Rattle.std.specs.Prelude.{⊤, nat_le, sum_by}
 use Rattle.std.specs.List.{AllByRecursion}
 use Rattle.net_base.specs.declared.place.Place.{Place}
-use Rattle.net_base.specs.declared.place.Kind.TheVariants as kind
+use Rattle.policy_tokens.specs.declared.kind.Kind.TheVariants as kind
 use Rattle.net_base.specs.Network.{PlainNet, IsNet}
 use Rattle.net_base.specs.Prefixes.{PlainPattern, IsPattern}
 use Rattle.net_base.specs.Steps.{◌>>=◌}
@@ -18,10 +18,10 @@ use Rattle.policy_rules.specs.Counts.{capped, call_amount, calls_within, paths_w
 use Rattle.policy_rules.specs.Figures.{prefix_at, pattern_at}
 use Rattle.policy_rules.specs.KnownNames.{Names}
 use Rattle.policy_rules.specs.Ranks.{broken_rank, ranks_fine}
-use Rattle.path_words.specs.declared.policy.FromSet.{FromSet}
-use Rattle.path_words.specs.declared.policy.FromSet.TheVariants as from_set
-use Rattle.path_words.specs.declared.policy.Origin.{Origin}
-use Rattle.path_words.specs.Policies.{PlainStatement}
+use Rattle.policy_base.specs.declared.policy.FromSet.{FromSet}
+use Rattle.policy_base.specs.declared.policy.FromSet.TheVariants as from_set
+use Rattle.policy_base.specs.declared.policy.Origin.{Origin}
+use Rattle.policy_base.specs.Policies.{PlainStatement}
 use Rattle.policy_values.specs.Built.{patterns_of, ranking_of_steps, from_of, statement_of, statements_of, origin_of, origins_of}
 use Rattle.policy_text.specs.Printable.{HoldsSome, IsWritableFrom, IsPrintableStatement}
 use Rattle.policy_text.specs.Values.{IsLocSet, HasSources, IsStatementValue}

@@ -1,7 +1,7 @@
 -- What is promised of networks and policies that are read, and of what is printed of them.
 use Rattle.std.specs.Prelude.{◌≡◌, ℕ, List, Ok}
 use Rattle.net_base.specs.Network.{PlainNet, IsNet}
-use Rattle.path_words.specs.Policies.{PlainPolicy}
+use Rattle.policy_base.specs.Policies.{PlainPolicy}
 use Rattle.policy_parser.specs.Spelled.{spelled}
 use Rattle.policy_text.specs.PolicyText.{policy_text}
 use Rattle.policy_text.specs.Printable.{IsPrintable}

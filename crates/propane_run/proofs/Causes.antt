@@ -3,14 +3,13 @@ use Rattle.std.proofs.Common.{◌≡◌, inl, inr, ℕ, List, Option, Some, None
 use Rattle.propane_run.specs.declared.command.Command.{Command}
 use Rattle.run_base.specs.declared.outcome.Status.{Status}
 use Rattle.run_base.specs.declared.outcome.Status.TheVariants.{Done, Refused, Usage, BadInput, ReadFault, NoMemory, CheckFails}
-use Rattle.propane_run.specs.Failing.{Judges}
 use Rattle.propane_run.specs.Clauses.{FaultFound}
-use Rattle.propane_run.specs.Refusing.{Refuses}
 use Rattle.propane_run.specs.Words.{words_are, names_read, usage}
 use Rattle.run_base.specs.Reading.{Holds, IsAmong, IsStop, AllHeld, unread, too_long}
 use Rattle.propane_run.specs.Run.{IsAnswerOf, Comes, Job}
 use Rattle.run_base.specs.Said.{IsGiven, Said, text, line, failing, no_memory}
 use Rattle.propane_run.proofs.Dispatch.{job_is}
+use Rattle.propane_run.proofs.Roles.{Judges, Refuses}
 use Rattle.run_base.proofs.Jobs.{IsJobSaid, in_text, in_line, in_refusal, in_failing, status_is}
 use Rattle.run_base.proofs.Told.{reads_all}
 

@@ -2,7 +2,7 @@
 use Rattle.std.proofs.Common.{◌≡◌, ◌⊎◌, ℕ, List, Option, inl, inr, ap, ◌∙◌}
 use Rattle.net_base.specs.Network.{PlainNet}
 use Rattle.outside.specs.Outside.{Rose}
-use Rattle.path_words.specs.Policies.{PlainPolicy}
+use Rattle.policy_base.specs.Policies.{PlainPolicy}
 use Rattle.case_core.specs.declared.refusal.CompileRefusal.{CompileRefusal}
 use Rattle.refusal_lines.specs.RefusalLines.{refusal_line}
 use Rattle.run_base.specs.declared.outcome.Status.{Status}
@@ -15,11 +15,12 @@ use Rattle.compile_jobs.specs.Compiling.{SaysOfCompiled}
 use Rattle.compile_jobs.proofs.Compiling.{AnyText, never_refused, only}
 use Rattle.propane_run.specs.declared.command.Command.{Command}
 use Rattle.propane_run.specs.Asked.{IsFor}
-use Rattle.propane_run.specs.Refusing.{Compiles, RefusesRight}
+use Rattle.propane_run.specs.Refusing.{RefusesRight}
 use Rattle.propane_run.specs.Run.{Job, Comes}
 use Rattle.propane_run.specs.Words.{names_read}
 use Rattle.propane_run.proofs.Asking.{asked_by}
 use Rattle.propane_run.proofs.Dispatch.{compiler}
+use Rattle.propane_run.proofs.Roles.{Compiles}
 
 -- a refusal that is told applies
 pub refused : {S : Type 0} (holds : Holds) (words : List (List ℕ)) (taken : S → Option (List ℕ)) (before now : S) (b : List ℕ) → Whole taken b before now

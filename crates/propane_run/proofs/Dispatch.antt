@@ -1,7 +1,9 @@
 -- What is known of the job of each command. A line for each command, and one more where it compiles.
-use Rattle.std.proofs.Common.{◌≡◌, ℕ, List, Some}
+use Rattle.std.proofs.Common.{◌≡◌, ℕ, List, Some, sym, ◌∙◌}
+use Rattle.help_texts.specs.Pages.{help_text, version_text}
 use Rattle.run_base.specs.Reading.{Holds}
-use Rattle.run_base.proofs.Jobs.{IsJob}
+use Rattle.run_base.specs.Said.{text}
+use Rattle.run_base.proofs.Jobs.{IsJob, in_text}
 use Rattle.input_texts.specs.Asked.{SpellFor}
 use Rattle.compile_jobs.specs.declared.written.Part.TheVariants as part
 use Rattle.compile_jobs.specs.Written.{WritesPart}
@@ -19,29 +21,34 @@ use Rattle.migrate_job.proofs.MigrateLaws.{migrate_job}
 use Rattle.replay_job.proofs.ReplayLaws.{replay_compiler, replay_job}
 use Rattle.trace_job.proofs.TraceLaws.{trace_compiler, trace_job}
 use Rattle.propane_run.specs.declared.command.Command.{Command}
-use Rattle.propane_run.specs.declared.command.Command.TheVariants.{Compile, Evidence, Check, Explain, Replay, Trace, Impact, RouteMap, CheckMap, Lint, Audit, Migrate, Sample}
+use Rattle.propane_run.specs.declared.command.Command.TheVariants.{Compile, Evidence, Check, Explain, Replay, Trace, Impact, RouteMap, CheckMap, Lint, Audit, Migrate, Sample, Help, Version}
 use Rattle.propane_run.specs.Asked.{AsksFor, IsFor}
-use Rattle.propane_run.specs.Failing.{Judges}
-use Rattle.propane_run.specs.Refusing.{Compiles, Refuses}
 use Rattle.propane_run.specs.Run.{Job}
 use Rattle.propane_run.specs.Words.{names_read, words_are}
+use Rattle.propane_run.proofs.Roles.{Compiles, Judges, Refuses}
 use Rattle.propane_run.proofs.Asking.{asks_for, asks_of_events, asks_under, spells, spells_events, spells_under}
+
+-- a text of the program's own is one thing
+text_job : (bytes : List ℕ) (Refusing Judging : Type 0) → IsJob Refusing Judging (λ bs what. what ≡ text bytes)
+text_job bytes Refusing Judging = record { form = λ bs what is. in_text bytes is; one = λ bs one other a b. a ∙ sym b }
 
 -- what it says has a form, and is one thing
 pub job_is : (c : Command) → IsJob (Refuses c) (Judges c) (Job c)
-job_is (Compile t p) = written_job part.Config (Unit {0}) ⊥ tt
-job_is (Evidence t p) = written_job part.Evidence (Unit {0}) ⊥ tt
-job_is (Check t p c e) = check_job ⊥ (Unit {0}) tt
-job_is (Explain t p) = explain_job ⊥ ⊥
-job_is (Replay t p s) = replay_job (Unit {0}) ⊥ tt
-job_is (Trace t p e) = trace_job (Unit {0}) ⊥ tt
+job_is Compile = written_job part.Config (Unit {0}) ⊥ tt
+job_is Evidence = written_job part.Evidence (Unit {0}) ⊥ tt
+job_is Check = check_job ⊥ (Unit {0}) tt
+job_is Explain = explain_job ⊥ ⊥
+job_is Replay = replay_job (Unit {0}) ⊥ tt
+job_is Trace = trace_job (Unit {0}) ⊥ tt
 job_is (Sample n) = sample_job n (Unit {0}) ⊥ tt
-job_is (Migrate k) = migrate_job ⊥ ⊥
-job_is (Impact t p x) = impact_job x (Unit {0}) ⊥ tt
-job_is (RouteMap t p) = route_map_job (Unit {0}) ⊥ tt
-job_is (CheckMap k m) = check_map_job (Unit {0}) (Unit {0}) tt tt
-job_is (Lint t p) = lint_job (Unit {0}) ⊥ tt
-job_is (Audit t p c e s r) = audit_job ⊥ (Unit {0}) tt
+job_is Migrate = migrate_job ⊥ ⊥
+job_is (Impact x) = impact_job x (Unit {0}) ⊥ tt
+job_is RouteMap = route_map_job (Unit {0}) ⊥ tt
+job_is CheckMap = check_map_job (Unit {0}) (Unit {0}) tt tt
+job_is Lint = lint_job (Unit {0}) ⊥ tt
+job_is Audit = audit_job ⊥ (Unit {0}) tt
+job_is (Help topic) = text_job (help_text topic) ⊥ ⊥
+job_is Version = text_job version_text ⊥ ⊥
 
 module _ (holds : Holds) (words : List (List ℕ)) where
   -- of two texts
@@ -50,14 +57,14 @@ module _ (holds : Holds) (words : List (List ℕ)) where
 
   -- of a command that compiles, for which network and policy
   pub compiler : (c : Command) → Compiles c → words_are words ≡ Some c → IsCompiler holds (names_read words c) (Job c) (IsFor holds words c)
-  compiler (Compile t p) compiles is = of_two (Compile t p) is (compiler_of_two (WritesPart part.Config) holds (names_read words (Compile t p)))
-  compiler (Evidence t p) compiles is = of_two (Evidence t p) is (compiler_of_two (WritesPart part.Evidence) holds (names_read words (Evidence t p)))
-  compiler (Impact t p x) compiles is = of_two (Impact t p x) is (impact_compiler x holds (names_read words (Impact t p x)))
-  compiler (Replay t p s) compiles is =
-      in_words (replay_compiler holds (names_read words (Replay t p s))) (λ net policy asked. (asked.0, asks_under holds words (Replay t p s) net policy is asked.0 asked.1))
-      (λ net policy asks. (asks.0, spells_under holds words (Replay t p s) net policy asks.0 asks.1))
-  compiler (Trace t p e) compiles is =
-      in_words (trace_compiler holds (names_read words (Trace t p e))) (λ net policy asked. (asked.0, asks_of_events holds words (Trace t p e) net policy is asked.0 asked.1))
-      (λ net policy asks. (asks.0, spells_events holds words (Trace t p e) net policy asks.0 asks.1))
+  compiler Compile compiles is = of_two Compile is (compiler_of_two (WritesPart part.Config) holds (names_read words Compile))
+  compiler Evidence compiles is = of_two Evidence is (compiler_of_two (WritesPart part.Evidence) holds (names_read words Evidence))
+  compiler (Impact x) compiles is = of_two (Impact x) is (impact_compiler x holds (names_read words (Impact x)))
+  compiler Replay compiles is =
+      in_words (replay_compiler holds (names_read words Replay)) (λ net policy asked. (asked.0, asks_under holds words net policy is asked.0 asked.1))
+      (λ net policy asks. (asks.0, spells_under holds words net policy asks.0 asks.1))
+  compiler Trace compiles is =
+      in_words (trace_compiler holds (names_read words Trace)) (λ net policy asked. (asked.0, asks_of_events holds words net policy is asked.0 asked.1))
+      (λ net policy asks. (asks.0, spells_events holds words net policy asks.0 asks.1))
   compiler (Sample n) compiles is = in_words (sample_compiler holds n) (λ net policy are. record { asked = is; net_is = are.0; policy_is = are.1 }) (λ net policy asks. (asks.net_is, asks.policy_is))
   compiler c compiles is = absurd compiles

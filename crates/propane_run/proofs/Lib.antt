@@ -1,10 +1,11 @@
+pub mod Moving
 pub mod Asking
 pub mod ByCommand
 pub mod Causes
-pub mod Checkers
 pub mod Compilers
 pub mod Dispatch
-pub mod Mappers
-pub mod Refusers
+pub mod Ending
+pub mod Promising
+pub mod Roles
 pub mod RunLaws
 pub mod Wording

@@ -1,22 +1,36 @@
--- What follows for a run whose answer was delivered, whatever its command.
+-- What follows for a run, whatever its command.
 use Rattle.std.proofs.Common.{◌≡◌, ◌≢◌, ◌⊎◌, inl, inr, ℕ, List, Option, Some, None, refl, sym, ◌∙◌, subst}
 use Rattle.propane_run.specs.declared.command.Command.{Command}
+use Rattle.propane_run.specs.declared.command.Command.TheVariants.{Compile}
 use Rattle.run_base.specs.declared.outcome.Status.{Status}
 use Rattle.run_base.specs.declared.outcome.Status.TheVariants.{Done, Refused, Usage, BadInput, ReadFault, WriteFault, NoMemory, CheckFails}
 use Rattle.run_base.specs.Said.{Said, text, line, failing, no_memory, Whole, Part, Delivered}
 use Rattle.propane_run.specs.Words.{words_are, names_read, usage}
 use Rattle.run_base.specs.Reading.{Holds, IsAmong, unread, SaidOfTold}
-use Rattle.propane_run.specs.Run.{IsAnswer, IsAnswerOf, Comes, Job}
-use Rattle.propane_run.specs.Failing.{Judges}
 use Rattle.propane_run.specs.Clauses.{FaultFound, ReadsSmoothly}
-use Rattle.propane_run.specs.Refusing.{Refuses}
+use Rattle.propane_run.specs.Ends.{EndsRight}
+use Rattle.propane_run.specs.Headline.{CompilesRight}
+use Rattle.propane_run.specs.Promises.{Promised}
+use Rattle.propane_run.specs.Run.{IsAnswer, IsAnswerOf, Comes, Job, Ran}
 use Rattle.propane_run.proofs.Causes.{Why, why}
+use Rattle.propane_run.proofs.Ending.{Fails, Refuses, Succeeds, ends}
+use Rattle.propane_run.proofs.Promising as promising
 use Rattle.run_base.proofs.Jobs.{status_is}
 use Rattle.run_base.proofs.Told.{reads_told}
 
-module _ {O E : Type 0} (ot : O → Option (List ℕ)) (of : O → ℕ) (et : E → Option (List ℕ)) (ef : E → ℕ)
-    (holds : Holds) (rose : List ℕ → Type 0) (words : List (List ℕ)) (out out' : O) (err err' : E) (what : Said) (ended : Status)
-    (answer : IsAnswer holds rose words what) (sent : Delivered ot of et ef what out out' err err' ended) where
+module _ {O E : Type 0} {ot : O → Option (List ℕ)} {of : O → ℕ} {et : E → Option (List ℕ)} {ef : E → ℕ}
+    {holds : Holds} {rose : List ℕ → Type 0} {words : List (List ℕ)} {out out' : O} {err err' : E} {ended : Status}
+    (ran : Ran ot of et ef holds rose words out out' err err' ended) where
+  -- what was said, why, and that it was delivered
+  abbrev what : Said
+  what = ran.what
+
+  abbrev answer : IsAnswer holds rose words what
+  answer = ran.answer
+
+  abbrev sent : Delivered ot of et ef what out out' err err' ended
+  sent = ran.sent
+
   -- this was written, and its cause is known
   record Came (o : Option Command) (status : Status) : Type 0 where
     cause : Why holds rose words o what status
@@ -81,21 +95,32 @@ module _ {O E : Type 0} (ot : O → Option (List ℕ)) (of : O → ℕ) (et : E 
   pub done : ended ≡ Done → (c : Command) × (b : List ℕ) × Comes holds words c (text b) × Whole ot b out out' × (err' ≡ err)
   done = done_at (words_are words) refl
 
-  refused_at : (o : Option Command) → Came o Refused → (c : Command) × (l : List ℕ) × Refuses c × Comes holds words c (line Refused l) × Whole et l err err' × (out' ≡ out)
-  refused_at None r = absurd (let e = r.cause.0 in cc)
-  refused_at (Some c) r = let e = r.cause.3 in (c, r.cause.0, r.cause.1, r.cause.2, rw e at r.to_err, (rw e at r.to_out).idle refl)
+  -- what the command promises
+  pub promised : (c : Command) → words_are words ≡ Some c → ended ≡ Done → Promised holds ot words c Done out out'
+  promised c asks is = let d = done_for c asks is in promising.done holds words ot out out' d.0 d.2 c d.1
 
-  pub refused : ended ≡ Refused → (c : Command) × (l : List ℕ) × Refuses c × Comes holds words c (line Refused l) × Whole et l err err' × (out' ≡ out)
-  refused is = refused_at (words_are words) (came (words_are words) refl Refused (λ x. cc) is)
+  pub right : words_are words ≡ Some Compile → ended ≡ Done → CompilesRight holds ot words out out'
+  right asks is = (promised Compile asks is).0
 
-  -- ---- evidence that fails
+  refused_at : (o : Option Command) → words_are words ≡ o → Came o Refused → (c : Command) × (words_are words ≡ Some c) × Promised holds et words c Refused err err' × (out' ≡ out)
+  refused_at None asks r = absurd (let e = r.cause.0 in cc)
+  refused_at (Some c) asks r =
+      let e = r.cause.3 in
+      (c, asks, promising.refused holds words et err err' r.cause.0 (rw e at r.to_err) c r.cause.1 r.cause.2, (rw e at r.to_out).idle refl)
 
-  failing_at : (o : Option Command) → Came o CheckFails → (c : Command) × (l : List ℕ) × Judges c × Comes holds words c (failing l) × Whole ot l out out' × (err' ≡ err)
-  failing_at None r = absurd (let e = r.cause.0 in cc)
-  failing_at (Some c) r = let e = r.cause.3 in (c, r.cause.0, r.cause.1, r.cause.2, rw e at r.to_out, (rw e at r.to_err).idle refl)
+  pub refused : ended ≡ Refused → (c : Command) × (words_are words ≡ Some c) × Promised holds et words c Refused err err' × (out' ≡ out)
+  refused is = refused_at (words_are words) refl (came (words_are words) refl Refused (λ x. cc) is)
 
-  pub fails : ended ≡ CheckFails → (c : Command) × (l : List ℕ) × Judges c × Comes holds words c (failing l) × Whole ot l out out' × (err' ≡ err)
-  fails is = failing_at (words_are words) (came (words_are words) refl CheckFails (λ x. cc) is)
+  -- ---- what was judged fails
+
+  failing_at : (o : Option Command) → words_are words ≡ o → Came o CheckFails → (c : Command) × (words_are words ≡ Some c) × Promised holds ot words c CheckFails out out' × (err' ≡ err)
+  failing_at None asks r = absurd (let e = r.cause.0 in cc)
+  failing_at (Some c) asks r =
+      let e = r.cause.3 in
+      (c, asks, promising.failed holds words ot out out' r.cause.0 (rw e at r.to_out) c r.cause.1 r.cause.2, (rw e at r.to_err).idle refl)
+
+  pub check_fails : ended ≡ CheckFails → (c : Command) × (words_are words ≡ Some c) × Promised holds ot words c CheckFails out out' × (err' ≡ err)
+  check_fails is = failing_at (words_are words) refl (came (words_are words) refl CheckFails (λ x. cc) is)
 
   -- ---- writes that failed
 
@@ -108,8 +133,9 @@ module _ {O E : Type 0} (ot : O → Option (List ℕ)) (of : O → ℕ) (et : E 
   write_fault_by (inl h) is = absurd (no_write_fault (words_are words) (why holds rose words (words_are words) what refl answer WriteFault (sym h.0 ∙ is)))
   write_fault_by (inr h) is = h.1
 
-  pub write_fault : ended ≡ WriteFault → Part ot of what.to_out out out' × Whole et what.to_err err err' ⊎ Whole ot what.to_out out out' × Part et ef what.to_err err err'
-  write_fault = write_fault_by sent
+  pub write_fault : ended ≡ WriteFault → (what : Said) × IsAnswer holds rose words what
+      × (Part ot of what.to_out out out' × Whole et what.to_err err err' ⊎ Whole ot what.to_out out out' × Part et ef what.to_err err err')
+  write_fault is = (what, answer, write_fault_by sent is)
 
   -- ---- want of memory
 
@@ -139,3 +165,8 @@ module _ {O E : Type 0} (ot : O → Option (List ℕ)) (of : O → ℕ) (et : E 
       let P : Option Command → Type 0 = λ x. IsAnswerOf holds rose words x what in
       gives (SaidOfTold holds (names_read words c) (Job c))
       (reads_told holds rose what (names_read words c) (Job c) smooth.told smooth.reads (subst P smooth.is answer))
+
+  -- it ends as it is to end
+  pub ends_right : (c : Command) → ReadsSmoothly holds rose words c
+      → EndsRight holds words (Succeeds ot of et ef out out' err err' ended) (Fails ot of et ef out out' err err' ended) (Refuses ot of et ef out out' err err' ended) c
+  ends_right c smooth = ends ot of et ef out out' err err' ended holds words c (complete c smooth)

@@ -4,7 +4,12 @@ use Rattle.std.specs.Prelude.{option_map, unwrap_or}
 use Rattle.std.proofs.lemmas.List.{length-map}
 use Rattle.std.proofs.lemmas.Option.{slice_get-map, slice_get_read}
 use Rattle.run_base.specs.Reading.{word_at}
-use Rattle.propane_run.specs.Words.{words_are, with_one_word, with_two_names, with_three_words, with_four_names, with_six_names}
+use Rattle.propane_run.specs.Words.{words_are, word_alone, with_one_word, with_two_names, with_three_words, with_four_names, with_six_names}
+
+pub one_word : (words : List (List ℕ)) → length words ≡ 1 → words_are words ≡ word_alone (word_at words 0)
+one_word [] h = absurd (omega (arith, h))
+one_word (a ∷ []) h = refl
+one_word (a ∷ b ∷ more) h = absurd (omega (arith, h))
 
 pub two_words : (words : List (List ℕ)) → length words ≡ 2 → words_are words ≡ with_one_word (word_at words 0) (word_at words 1)
 two_words [] h = absurd (omega (arith, h))
@@ -48,10 +53,9 @@ seven_words (a ∷ b ∷ c ∷ d ∷ e ∷ f ∷ g ∷ []) h = refl
 seven_words (a ∷ b ∷ c ∷ d ∷ e ∷ f ∷ g ∷ k ∷ more) h = absurd (omega (arith, h))
 
 -- with another number of words there is no command
-few_of : (words : List (List ℕ)) → length words < 2 → None ≡ words_are words
-few_of [] h = refl
-few_of (a ∷ []) h = refl
-few_of (a ∷ b ∷ more) h = absurd (omega (arith, h))
+none_of : (words : List (List ℕ)) → length words < 1 → None ≡ words_are words
+none_of [] h = refl
+none_of (a ∷ more) h = absurd (omega (arith, h))
 
 six_of : (words : List (List ℕ)) → length words ≡ 6 → None ≡ words_are words
 six_of [] h = absurd (omega (arith, h))
@@ -74,8 +78,8 @@ many_of (a ∷ b ∷ c ∷ d ∷ e ∷ f ∷ []) h = absurd (omega (arith, h))
 many_of (a ∷ b ∷ c ∷ d ∷ e ∷ f ∷ g ∷ []) h = absurd (omega (arith, h))
 many_of (a ∷ b ∷ c ∷ d ∷ e ∷ f ∷ g ∷ k ∷ more) h = refl
 
-pub few_words : {X : Type 0} (bytes_of : X → List ℕ) (words : List X) → length words < 2 → None ≡ words_are (map bytes_of words)
-few_words bytes_of words h = few_of (map bytes_of words) (omega (arith, h, length-map words bytes_of))
+pub no_words : {X : Type 0} (bytes_of : X → List ℕ) (words : List X) → length words < 1 → None ≡ words_are (map bytes_of words)
+no_words bytes_of words h = none_of (map bytes_of words) (omega (arith, h, length-map words bytes_of))
 
 pub six_words : {X : Type 0} (bytes_of : X → List ℕ) (words : List X) → 6 ≤ length words → length words < 7 → None ≡ words_are (map bytes_of words)
 six_words bytes_of words h k = six_of (map bytes_of words) (omega (arith, h, k, length-map words bytes_of))

@@ -1,15 +1,15 @@
 -- Which network and which policy a run is asked about, under which scenario, and for which events.
 use Rattle.std.specs.Prelude.{◌≡◌, ℕ, List, [], ◌∷◌, Some, Ok}
 use Rattle.net_base.specs.Network.{PlainNet}
-use Rattle.path_words.specs.Policies.{PlainPolicy}
+use Rattle.policy_base.specs.Policies.{PlainPolicy}
 use Rattle.topology.specs.Topology.{spelled as net_spelled_by}
 use Rattle.policy_parser.specs.Spelled.{spelled as policy_spelled_by}
 use Rattle.stable_paths.specs.declared.scenario.Scenario.{Scenario}
-use Rattle.scenario_text.specs.Spelled.{spelled as scenario_spelled_by}
-use Rattle.event_text.specs.declared.events.Events.{Events}
-use Rattle.event_text.specs.Spelled.{spelled as events_spelled_by}
-use Rattle.net_sample.specs.Network.{sample_net}
-use Rattle.net_sample.specs.SamplePolicy.{sample_policy}
+use Rattle.scenario_reader.specs.Spelled.{spelled as scenario_spelled_by}
+use Rattle.event_reader.specs.declared.events.Events.{Events}
+use Rattle.event_reader.specs.Spelled.{spelled as events_spelled_by}
+use Rattle.sample_network.specs.Network.{sample_net}
+use Rattle.sample_network.specs.SamplePolicy.{sample_policy}
 use Rattle.propane_run.specs.declared.command.Command.{Command}
 use Rattle.propane_run.specs.declared.command.Command.TheVariants.{Replay, Trace, Sample}
 use Rattle.propane_run.specs.Words.{words_are, names_read}
@@ -25,16 +25,16 @@ pub record AsksFor (holds : Holds) (words : List (List ℕ)) (c : Command) (net 
   pub net_spelled : net_spelled_by topology ≡ Ok net
   pub policy_spelled : policy_spelled_by net policy_text ≡ Ok policy
 
--- And the bytes of the third and last name spell this scenario for the network.
-pub record AsksUnder (holds : Holds) (words : List (List ℕ)) (c : Command) (net : PlainNet) (policy : PlainPolicy) (scenario : Scenario) : Type 0 where
-  pub asked : AsksFor holds words c net policy
-  pub scenario_text : List ℕ
-  pub more : asked.more ≡ scenario_text ∷ []
-  pub scenario_spelled : scenario_spelled_by net scenario_text ≡ Ok scenario
+-- The words are `replay`, and the bytes of the third and last name spell this scenario for the network, too.
+pub record AsksUnder (holds : Holds) (words : List (List ℕ)) (net : PlainNet) (policy : PlainPolicy) (scenario : Scenario) : Type 0 where
+  pub asked : AsksFor holds words Replay net policy
+  pub scenario_reader : List ℕ
+  pub more : asked.more ≡ scenario_reader ∷ []
+  pub scenario_spelled : scenario_spelled_by net scenario_reader ≡ Ok scenario
 
--- Or the bytes of the third and last name spell these events for the network.
-pub record AsksOfEvents (holds : Holds) (words : List (List ℕ)) (c : Command) (net : PlainNet) (policy : PlainPolicy) (events : Events) : Type 0 where
-  pub asked : AsksFor holds words c net policy
+-- The words are `trace`, and the bytes of the third and last name spell these events for the network, too.
+pub record AsksOfEvents (holds : Holds) (words : List (List ℕ)) (net : PlainNet) (policy : PlainPolicy) (events : Events) : Type 0 where
+  pub asked : AsksFor holds words Trace net policy
   pub events_text : List ℕ
   pub more : asked.more ≡ events_text ∷ []
   pub events_spelled : events_spelled_by net events_text ≡ Ok events
@@ -48,7 +48,7 @@ pub record IsSampled (words : List (List ℕ)) (n : ℕ) (net : PlainNet) (polic
 -- The network and the policy that a command is to compile: those that its inputs spell, or those of the sample of its number.
 -- Where a scenario is read, too, or events, the inputs spell them.
 abbrev pub IsFor : Holds → List (List ℕ) → Command → PlainNet → PlainPolicy → Type 0
-IsFor holds words (Replay t p s) net policy = (scenario : Scenario) × AsksUnder holds words (Replay t p s) net policy scenario
-IsFor holds words (Trace t p e) net policy = (events : Events) × AsksOfEvents holds words (Trace t p e) net policy events
+IsFor holds words Replay net policy = (scenario : Scenario) × AsksUnder holds words net policy scenario
+IsFor holds words Trace net policy = (events : Events) × AsksOfEvents holds words net policy events
 IsFor holds words (Sample n) net policy = IsSampled words n net policy
 IsFor holds words c net policy = AsksFor holds words c net policy

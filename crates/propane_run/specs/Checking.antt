@@ -1,7 +1,7 @@
 -- What a run of `check` has written, and for what.
 use Rattle.std.specs.Prelude.{◌≡◌, ℕ, List, [], ◌∷◌, Option, Ok}
 use Rattle.net_base.specs.Network.{PlainNet}
-use Rattle.path_words.specs.Policies.{PlainPolicy}
+use Rattle.policy_base.specs.Policies.{PlainPolicy}
 use Rattle.config_base.specs.Configs.{PlainConfig}
 use Rattle.config_reader.specs.Text.{spelled as config_spelled_by}
 use Rattle.evidence_base.specs.Made.{PlainCaseEvidence}
@@ -11,24 +11,18 @@ use Rattle.evidence_rules.specs.declared.verdict.Shown.{Shown}
 use Rattle.evidence_rules.specs.declared.verdict.Verdict.TheVariants.{Fails}
 use Rattle.evidence_rules.specs.Verdicts.{IsVerdict}
 use Rattle.outcome_base.specs.Right.{IsRight}
-use Rattle.regret_law.specs.Passes.{Passes}
-use Rattle.propane_run.specs.declared.command.Command.{Command}
+use Rattle.evidence_law.specs.Passes.{Passes}
 use Rattle.propane_run.specs.declared.command.Command.TheVariants.{Check}
 use Rattle.propane_run.specs.Asked.{AsksFor}
-use Rattle.propane_run.specs.Headline.{HasOutcomes}
+use Rattle.propane_run.specs.Headline.{HasOutcomes, IsKeptInMotion}
 use Rattle.run_base.specs.Reading.{Holds}
 use Rattle.run_base.specs.Said.{Whole}
 use Rattle.check_job.specs.VerdictLines.{holds_line, fails_line}
 
--- the command checks evidence
-abbrev pub Checks : Command → Type 0
-Checks (Check _ _ _ _) = Unit {0}
-Checks _ = ⊥
-
--- The words are this command, and the bytes of the four names that it reads spell this network, this policy for it, this
+-- The words are `check`, and the bytes of the four names that it reads spell this network, this policy for it, this
 -- configuration and this evidence.
-pub record AsksOf (holds : Holds) (words : List (List ℕ)) (c : Command) (net : PlainNet) (policy : PlainPolicy) (config : PlainConfig) (evidence : List PlainCaseEvidence) : Type 0 where
-  pub asked : AsksFor holds words c net policy
+pub record AsksOf (holds : Holds) (words : List (List ℕ)) (net : PlainNet) (policy : PlainPolicy) (config : PlainConfig) (evidence : List PlainCaseEvidence) : Type 0 where
+  pub asked : AsksFor holds words Check net policy
   pub config_text : List ℕ
   pub evidence_text : List ℕ
   pub more : asked.more ≡ config_text ∷ evidence_text ∷ []
@@ -36,25 +30,26 @@ pub record AsksOf (holds : Holds) (words : List (List ℕ)) (c : Command) (net :
   pub evidence_spelled : evidence_spelled_by evidence_text ≡ Ok evidence
 
 -- `out` grew by exactly the line `holds`. The evidence that was asked of passes, and the configuration is right for the network
--- and the policy: under all failures, in every stable outcome, of which there is one whatever fails.
-pub record ChecksRight {O : Type 0} (holds : Holds) (taken : O → Option (List ℕ)) (words : List (List ℕ)) (c : Command) (out out' : O) : Type 0 where
+-- and the policy: under all failures, in every stable outcome, of which there is one whatever fails; and it is kept in motion.
+pub record ChecksRight {O : Type 0} (holds : Holds) (taken : O → Option (List ℕ)) (words : List (List ℕ)) (out out' : O) : Type 0 where
   pub net : PlainNet
   pub policy : PlainPolicy
   pub config : PlainConfig
   pub evidence : List PlainCaseEvidence
-  pub asked : AsksOf holds words c net policy config evidence
+  pub asked : AsksOf holds words net policy config evidence
   pub written : Whole taken holds_line out out'
   pub passes : Passes net policy config evidence
   pub right : IsRight net policy config
   pub outcomes : HasOutcomes net policy config
+  pub moving : IsKeptInMotion net policy config
 
 -- `out` grew by exactly the line of the first rule that fails of the evidence that was asked of, and of where it fails.
-pub record TellsFault {O : Type 0} (holds : Holds) (taken : O → Option (List ℕ)) (words : List (List ℕ)) (c : Command) (out out' : O) : Type 0 where
+pub record TellsFault {O : Type 0} (holds : Holds) (taken : O → Option (List ℕ)) (words : List (List ℕ)) (out out' : O) : Type 0 where
   pub net : PlainNet
   pub policy : PlainPolicy
   pub config : PlainConfig
   pub evidence : List PlainCaseEvidence
-  pub asked : AsksOf holds words c net policy config evidence
+  pub asked : AsksOf holds words net policy config evidence
   pub rule : CheckRule
   pub shown : Shown
   pub verdict : IsVerdict net policy config evidence (Fails rule shown)

@@ -2,7 +2,7 @@
 use Rattle.std.specs.Prelude.{ℕ, List, Option}
 use Rattle.net_base.specs.Network.{PlainNet}
 use Rattle.net_base.specs.Prefixes.{PlainPrefix}
-use Rattle.path_words.specs.Policies.{PlainPolicy}
+use Rattle.policy_base.specs.Policies.{PlainPolicy}
 use Rattle.config_base.specs.Configs.{PlainConfig}
 use Rattle.evidence_base.specs.Made.{PlainCaseEvidence}
 use Rattle.outcome_base.specs.Right.{IsRight}
@@ -10,15 +10,15 @@ use Rattle.compile_jobs.specs.Compiled.{IsCompiled}
 use Rattle.impact_job.specs.Impacts.{IsImpactText}
 use Rattle.run_base.specs.Reading.{Holds}
 use Rattle.run_base.specs.Said.{Whole}
-use Rattle.propane_run.specs.declared.command.Command.{Command}
+use Rattle.propane_run.specs.declared.command.Command.TheVariants.{Impact}
 use Rattle.propane_run.specs.Asked.{AsksFor}
 
 -- `out` grew by exactly the text of what single cuts change for the prefix: the best rank that the policy leaves each claimed source, and
 -- for each cut the sources that get another. The configuration that is compiled from the policy is right, so it gives each source that rank.
-pub record ImpactsRight {O : Type 0} (holds : Holds) (taken : O → Option (List ℕ)) (words : List (List ℕ)) (c : Command) (prefix : PlainPrefix) (out out' : O) : Type 0 where
+pub record ImpactsRight {O : Type 0} (holds : Holds) (taken : O → Option (List ℕ)) (words : List (List ℕ)) (prefix : PlainPrefix) (out out' : O) : Type 0 where
   pub net : PlainNet
   pub policy : PlainPolicy
-  pub asked : AsksFor holds words c net policy
+  pub asked : AsksFor holds words (Impact prefix) net policy
   pub config : PlainConfig
   pub evidence : List PlainCaseEvidence
   pub compiled : IsCompiled net policy config evidence

@@ -2,14 +2,15 @@ pub mod Asked
 pub mod Auditing
 pub mod Checking
 pub mod Clauses
+pub mod Ends
 pub mod Explaining
-pub mod Failing
 pub mod Headline
 pub mod Impacting
 pub mod Linting
 pub mod Mapping
 pub mod Migrating
 pub mod Pairs
+pub mod Promises
 pub mod Refusing
 pub mod Replaying
 pub mod Run

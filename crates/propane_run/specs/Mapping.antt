@@ -1,7 +1,7 @@
 -- What a run of `routemap` or of `checkmap` has written, and for what.
 use Rattle.std.specs.Prelude.{◌≡◌, ◌≢◌, ℕ, ◌<◌, List, [], ◌∷◌, Option, Ok, Some, min}
 use Rattle.net_base.specs.Network.{PlainNet}
-use Rattle.path_words.specs.Policies.{PlainPolicy}
+use Rattle.policy_base.specs.Policies.{PlainPolicy}
 use Rattle.config_base.specs.Configs.{PlainConfig}
 use Rattle.config_reader.specs.Text.{spelled as config_spelled_by}
 use Rattle.evidence_base.specs.Made.{PlainCaseEvidence}
@@ -25,29 +25,29 @@ use Rattle.propane_run.specs.Asked.{AsksFor}
 use Rattle.propane_run.specs.Headline.{HasOutcomes}
 use Rattle.propane_run.specs.Words.{names_read, words_are}
 
--- The words are this command, and the bytes of the two names that it reads spell this configuration and these maps.
-pub record AsksOfMaps (holds : Holds) (words : List (List ℕ)) (c : Command) (config : PlainConfig) (maps : PlainMaps) : Type 0 where
-  pub asked : words_are words ≡ Some c
+-- The words are `checkmap`, and the bytes of the two names that it reads spell this configuration and these maps.
+pub record AsksOfMaps (holds : Holds) (words : List (List ℕ)) (config : PlainConfig) (maps : PlainMaps) : Type 0 where
+  pub asked : words_are words ≡ Some CheckMap
   pub config_text : List ℕ
   pub maps_bytes : List ℕ
-  pub held : AllHeld holds (names_read words c) (config_text ∷ maps_bytes ∷ [])
+  pub held : AllHeld holds (names_read words CheckMap) (config_text ∷ maps_bytes ∷ [])
   pub config_spelled : config_spelled_by config_text ≡ Ok config
   pub maps_spelled : maps_spelled_by maps_bytes ≡ Ok maps
 
 -- The configuration of which the command makes maps: of `routemap` that which is compiled from the policy that its inputs spell, and of
 -- `checkmap` that which they spell.
 abbrev pub AsksMapsOf : Holds → List (List ℕ) → Command → PlainConfig → Type 0
-AsksMapsOf holds words (RouteMap t p) config =
-    (net : PlainNet) × (policy : PlainPolicy) × (evidence : List PlainCaseEvidence) × AsksFor holds words (RouteMap t p) net policy × IsCompiled net policy config evidence
-AsksMapsOf holds words (CheckMap k m) config = (maps : PlainMaps) × AsksOfMaps holds words (CheckMap k m) config maps
+AsksMapsOf holds words RouteMap config =
+    (net : PlainNet) × (policy : PlainPolicy) × (evidence : List PlainCaseEvidence) × AsksFor holds words RouteMap net policy × IsCompiled net policy config evidence
+AsksMapsOf holds words CheckMap config = (maps : PlainMaps) × AsksOfMaps holds words config maps
 AsksMapsOf holds words _ config = ⊥
 
 -- `out` grew by exactly the text of the maps of the configuration that is compiled from the policy that was asked for. They mean what
 -- its lines mean, and it is right for the network and the policy.
-pub record MapsRight {O : Type 0} (holds : Holds) (taken : O → Option (List ℕ)) (words : List (List ℕ)) (c : Command) (out out' : O) : Type 0 where
+pub record MapsRight {O : Type 0} (holds : Holds) (taken : O → Option (List ℕ)) (words : List (List ℕ)) (out out' : O) : Type 0 where
   pub net : PlainNet
   pub policy : PlainPolicy
-  pub asked : AsksFor holds words c net policy
+  pub asked : AsksFor holds words RouteMap net policy
   pub config : PlainConfig
   pub evidence : List PlainCaseEvidence
   pub compiled : IsCompiled net policy config evidence
@@ -59,20 +59,20 @@ pub record MapsRight {O : Type 0} (holds : Holds) (taken : O → Option (List �
   pub outcomes : HasOutcomes net policy config
 
 -- `out` grew by exactly the line `same`, and the maps that were asked of are those of the configuration. So they mean what its lines mean.
-pub record MapsAgree {O : Type 0} (holds : Holds) (taken : O → Option (List ℕ)) (words : List (List ℕ)) (c : Command) (out out' : O) : Type 0 where
+pub record MapsAgree {O : Type 0} (holds : Holds) (taken : O → Option (List ℕ)) (words : List (List ℕ)) (out out' : O) : Type 0 where
   pub config : PlainConfig
   pub maps : PlainMaps
-  pub asked : AsksOfMaps holds words c config maps
+  pub asked : AsksOfMaps holds words config maps
   pub written : Whole taken same_line out out'
   pub same : maps ≡ maps_of config
   pub means : MeansAs config maps
 
 -- `out` grew by exactly the line of the first difference between the text of the maps that were asked of and that of the maps of the
 -- configuration, which are others.
-pub record TellsDifference {O : Type 0} (holds : Holds) (taken : O → Option (List ℕ)) (words : List (List ℕ)) (c : Command) (out out' : O) : Type 0 where
+pub record TellsDifference {O : Type 0} (holds : Holds) (taken : O → Option (List ℕ)) (words : List (List ℕ)) (out out' : O) : Type 0 where
   pub config : PlainConfig
   pub maps : PlainMaps
-  pub asked : AsksOfMaps holds words c config maps
+  pub asked : AsksOfMaps holds words config maps
   pub apart : maps ≢ maps_of config
   pub written : Whole taken (differs_line (first_difference (maps_text maps) (maps_text (maps_of config)))) out out'
 

@@ -1,12 +1,12 @@
 -- What `compile` and `evidence` write of the same texts.
 use Rattle.std.specs.Prelude.{◌≡◌, ℕ, List, Ok}
 use Rattle.net_base.specs.Network.{PlainNet}
-use Rattle.path_words.specs.Policies.{PlainPolicy}
+use Rattle.policy_base.specs.Policies.{PlainPolicy}
 use Rattle.config_base.specs.Configs.{PlainConfig}
 use Rattle.config_text.specs.Spelled.{Spells}
 use Rattle.evidence_base.specs.Made.{PlainCaseEvidence}
 use Rattle.evidence_text.specs.Text.{evidence_text}
-use Rattle.regret_law.specs.Passes.{Passes}
+use Rattle.evidence_law.specs.Passes.{Passes}
 use Rattle.topology.specs.Topology.{spelled as net_spelled_by}
 use Rattle.policy_parser.specs.Spelled.{spelled as policy_spelled_by}
 

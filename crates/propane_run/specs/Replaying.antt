@@ -1,7 +1,7 @@
 -- What a run of `replay` that ends with Done has written, and for what.
 use Rattle.std.specs.Prelude.{◌≡◌, ℕ, List, Option, length}
 use Rattle.net_base.specs.Network.{PlainNet}
-use Rattle.path_words.specs.Policies.{PlainPolicy}
+use Rattle.policy_base.specs.Policies.{PlainPolicy}
 use Rattle.config_base.specs.Configs.{PlainConfig}
 use Rattle.evidence_base.specs.Made.{PlainCaseEvidence}
 use Rattle.outcome_base.specs.Outcomes.{Outcome}
@@ -9,7 +9,6 @@ use Rattle.outcome_base.specs.Right.{IsRight}
 use Rattle.settled_law.specs.Settled.{IsFullyStable}
 use Rattle.stable_paths.specs.declared.scenario.Scenario.{Scenario}
 use Rattle.stable_paths.specs.Scenarios.{failures_of}
-use Rattle.propane_run.specs.declared.command.Command.{Command}
 use Rattle.propane_run.specs.Asked.{AsksUnder}
 use Rattle.compile_jobs.specs.Compiled.{IsCompiled}
 use Rattle.run_base.specs.Reading.{Holds}
@@ -19,11 +18,11 @@ use Rattle.replay_job.specs.Replayed.{IsReplayed}
 -- `out` grew by exactly the report of an outcome, which is stable with ties broken for the configuration that is compiled from the
 -- policy, under the failures of the scenario that was asked for and for its prefix. There is no other such outcome, and the
 -- configuration is right.
-pub record ReplaysRight {O : Type 0} (holds : Holds) (taken : O → Option (List ℕ)) (words : List (List ℕ)) (c : Command) (out out' : O) : Type 0 where
+pub record ReplaysRight {O : Type 0} (holds : Holds) (taken : O → Option (List ℕ)) (words : List (List ℕ)) (out out' : O) : Type 0 where
   pub net : PlainNet
   pub policy : PlainPolicy
   pub scenario : Scenario
-  pub asked : AsksUnder holds words c net policy scenario
+  pub asked : AsksUnder holds words net policy scenario
   pub config : PlainConfig
   pub evidence : List PlainCaseEvidence
   pub compiled : IsCompiled net policy config evidence

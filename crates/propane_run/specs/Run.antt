@@ -1,7 +1,7 @@
 -- What the words and the inputs come to.
 use Rattle.std.specs.Prelude.{◌≡◌, ℕ, List, Option, Some, None}
 use Rattle.propane_run.specs.declared.command.Command.{Command}
-use Rattle.propane_run.specs.declared.command.Command.TheVariants.{Compile, Evidence, Check, Explain, Replay, Trace, Impact, RouteMap, CheckMap, Lint, Audit, Migrate, Sample}
+use Rattle.propane_run.specs.declared.command.Command.TheVariants.{Compile, Evidence, Check, Explain, Replay, Trace, Impact, RouteMap, CheckMap, Lint, Audit, Migrate, Sample, Help, Version}
 use Rattle.propane_run.specs.Words.{names_read, usage, words_are}
 use Rattle.run_base.specs.Reading.{Holds, ReadsAll, AllHeld}
 use Rattle.input_texts.specs.Texts.{OfTwoTexts}
@@ -9,6 +9,7 @@ use Rattle.audit_job.specs.Audited as audit
 use Rattle.check_job.specs.Checked as check
 use Rattle.compile_jobs.specs.declared.written.Part.TheVariants as part
 use Rattle.compile_jobs.specs.Explained as explain
+use Rattle.help_texts.specs.Pages.{help_text, version_text}
 use Rattle.impact_job.specs.Impacts as impact
 use Rattle.lint_job.specs.Linted as lint
 use Rattle.map_jobs.specs.MapsJobs as maps
@@ -17,23 +18,26 @@ use Rattle.replay_job.specs.Replayed as replay
 use Rattle.compile_jobs.specs.Sampled.{SaysOfNumber}
 use Rattle.compile_jobs.specs.Written.{SaysOfPart}
 use Rattle.trace_job.specs.Traced as trace
-use Rattle.run_base.specs.Said.{IsGiven, Said}
+use Rattle.run_base.specs.declared.outcome.Status.{Status}
+use Rattle.run_base.specs.Said.{Delivered, IsGiven, Said, text}
 
 -- what a command says of the bytes that it read, one for each of its names
 abbrev pub Job : Command → List (List ℕ) → Said → Type 0
-Job (Compile _ _) = OfTwoTexts (SaysOfPart part.Config)
-Job (Evidence _ _) = OfTwoTexts (SaysOfPart part.Evidence)
-Job (Check _ _ _ _) = check.SaysOfTexts
-Job (Explain _ _) = OfTwoTexts explain.SaysOfPolicy
-Job (Replay _ _ _) = replay.SaysOfTexts
-Job (Trace _ _ _) = trace.SaysOfTexts
+Job Compile = OfTwoTexts (SaysOfPart part.Config)
+Job Evidence = OfTwoTexts (SaysOfPart part.Evidence)
+Job Check = check.SaysOfTexts
+Job Explain = OfTwoTexts explain.SaysOfPolicy
+Job Replay = replay.SaysOfTexts
+Job Trace = trace.SaysOfTexts
 Job (Sample n) = λ bs. SaysOfNumber n
-Job (Migrate _) = migrate.SaysOfTexts
-Job (Impact _ _ p) = impact.SaysOfTexts p
-Job (RouteMap _ _) = OfTwoTexts maps.SaysOfPolicy
-Job (CheckMap _ _) = maps.SaysOfTexts
-Job (Lint _ _) = lint.SaysOfTexts
-Job (Audit _ _ _ _ _ _) = audit.SaysOfTexts
+Job Migrate = migrate.SaysOfTexts
+Job (Impact p) = impact.SaysOfTexts p
+Job RouteMap = OfTwoTexts maps.SaysOfPolicy
+Job CheckMap = maps.SaysOfTexts
+Job Lint = lint.SaysOfTexts
+Job Audit = audit.SaysOfTexts
+Job (Help topic) = λ bs what. what ≡ text (help_text topic)
+Job Version = λ bs what. what ≡ text version_text
 
 abbrev pub IsAnswerOf : Holds → (List ℕ → Type 0) → List (List ℕ) → Option Command → Said → Type 0
 IsAnswerOf holds rose words None what = what ≡ usage
@@ -42,6 +46,13 @@ IsAnswerOf holds rose words (Some c) what = ReadsAll holds rose (names_read word
 -- The words are judged; the names of a command are read in order; its job says what their bytes come to.
 abbrev pub IsAnswer : Holds → (List ℕ → Type 0) → List (List ℕ) → Said → Type 0
 IsAnswer holds rose words what = IsAnswerOf holds rose words (words_are words) what
+
+-- A run: an answer of the words and the inputs, delivered.
+pub record Ran {O E : Type 0} (out_taken : O → Option (List ℕ)) (out_faults : O → ℕ) (err_taken : E → Option (List ℕ)) (err_faults : E → ℕ)
+    (holds : Holds) (rose : List ℕ → Type 0) (words : List (List ℕ)) (out out' : O) (err err' : E) (ended : Status) : Type 0 where
+  pub what : Said
+  pub answer : IsAnswer holds rose words what
+  pub sent : Delivered out_taken out_faults err_taken err_faults what out out' err err' ended
 
 -- The words are this command, and the bytes that it read come to this.
 pub record Comes (holds : Holds) (words : List (List ℕ)) (c : Command) (what : Said) : Type 0 where

@@ -1,72 +1,78 @@
 //! Which command the words are.
-ghost use Rattle.std.specs.Prelude.{◌≡◌, IfOk, IfSome, length, map, string_bytes};
-ghost use Rattle.propane_run.specs.Words.{words_are, sample_number, with_one_word, with_two_names, prefix_word, with_three_words, with_four_names, with_six_names, places_of, IsWithin};
+ghost use Rattle.std.specs.Prelude.{◌≡◌, IfSome, length, map, string_bytes};
+ghost use Rattle.propane_run.specs.Words.{words_are, asks_for_help, sample_number, word_alone, with_one_word, with_two_names, prefix_word, with_three_words, with_four_names, with_six_names, name_count, places_of, IsWithin};
 
+use help_texts::Topic;
 use net_base::{Prefix, read_length, read_prefix};
-use outside::NoMemory;
-use std::alloc::Global;
 
 /// What is said of words that are no command.
 pub const USAGE: &[u8] =
-    b"propane: usage: compile TOPO POLICY, evidence TOPO POLICY, check TOPO POLICY CONFIG EVIDENCE, explain TOPO POLICY, replay TOPO POLICY SCENARIO, trace TOPO POLICY EVENTS, sample N, migrate CONFIG, impact TOPO POLICY PREFIX, routemap TOPO POLICY, checkmap CONFIG MAPS, lint TOPO POLICY, audit TOPO POLICY CONFIG EVIDENCE SCENARIO TABLES\n";
+    b"propane: usage: compile TOPO POLICY, evidence TOPO POLICY, check TOPO POLICY CONFIG EVIDENCE, explain TOPO POLICY, replay TOPO POLICY SCENARIO, trace TOPO POLICY EVENTS, sample N, migrate CONFIG, impact TOPO POLICY PREFIX, routemap TOPO POLICY, checkmap CONFIG MAPS, lint TOPO POLICY, audit TOPO POLICY CONFIG EVIDENCE SCENARIO TABLES, help [COMMAND], version\n";
 
-/// A command. The numbers are the places of its names in the words, counted from 0, but for that of `sample`
-/// and the prefix of `impact`.
+// The places in the words at which the names of a command stand: they follow its own word.
+const PLACES: [u32; 6] = [1, 2, 3, 4, 5, 6];
+
+/// A command, with what isn't a name in its words.
 #[derive(Clone, Copy, Debug, PartialEq, Eq)]
 pub enum Command {
     /// `compile TOPO POLICY`.
-    Compile(u32, u32),
+    Compile,
     /// `evidence TOPO POLICY`.
-    Evidence(u32, u32),
+    Evidence,
     /// `check TOPO POLICY CONFIG EVIDENCE`.
-    Check(u32, u32, u32, u32),
+    Check,
     /// `explain TOPO POLICY`.
-    Explain(u32, u32),
+    Explain,
     /// `replay TOPO POLICY SCENARIO`.
-    Replay(u32, u32, u32),
+    Replay,
     /// `trace TOPO POLICY EVENTS`.
-    Trace(u32, u32, u32),
+    Trace,
     /// `sample N`: the number of leaves, from 2 to 96, without leading zeros.
     Sample(u16),
     /// `migrate CONFIG`.
-    Migrate(u32),
+    Migrate,
     /// `impact TOPO POLICY PREFIX`.
-    Impact(u32, u32, Prefix),
+    Impact(Prefix),
     /// `routemap TOPO POLICY`.
-    RouteMap(u32, u32),
+    RouteMap,
     /// `checkmap CONFIG MAPS`.
-    CheckMap(u32, u32),
+    CheckMap,
     /// `lint TOPO POLICY`.
-    Lint(u32, u32),
+    Lint,
     /// `audit TOPO POLICY CONFIG EVIDENCE SCENARIO TABLES`.
-    Audit(u32, u32, u32, u32, u32, u32),
+    Audit,
+    /// `help`, or `help COMMAND`.
+    Help(Option<Topic>),
+    /// `version`.
+    Version,
 }
 
 impl Command {
-    /// The places of the names that the command reads, in order.
-    pub fn places(&self, alloc: Global) -> Result<Vec<u32>, NoMemory>
-        ensures { IfOk result (λ places. places.items ≡ places_of self.now) }
+    /// How many names the command reads.
+    pub fn name_count(&self) -> usize
+        ensures { result ≡ name_count self.now }
     {
         match *self {
-            Command::Compile(topology, policy)
-            | Command::Evidence(topology, policy)
-            | Command::Explain(topology, policy)
-            | Command::Impact(topology, policy, _)
-            | Command::RouteMap(topology, policy)
-            | Command::Lint(topology, policy) => Ok(vec![in alloc; topology, policy]?),
-            Command::Replay(topology, policy, third) | Command::Trace(topology, policy, third) => {
-                Ok(vec![in alloc; topology, policy, third]?)
-            }
-            Command::Check(topology, policy, config, evidence) => {
-                Ok(vec![in alloc; topology, policy, config, evidence]?)
-            }
-            Command::CheckMap(config, maps) => Ok(vec![in alloc; config, maps]?),
-            Command::Sample(_) => Ok(Vec::new(alloc)),
-            Command::Migrate(config) => Ok(vec![in alloc; config]?),
-            Command::Audit(topology, policy, config, evidence, scenario, tables) => {
-                Ok(vec![in alloc; topology, policy, config, evidence, scenario, tables]?)
-            }
+            Command::Sample(_) | Command::Help(_) | Command::Version => 0,
+            Command::Migrate => 1,
+            Command::Compile
+            | Command::Evidence
+            | Command::Explain
+            | Command::Impact(_)
+            | Command::RouteMap
+            | Command::CheckMap
+            | Command::Lint => 2,
+            Command::Replay | Command::Trace => 3,
+            Command::Check => 4,
+            Command::Audit => 6,
         }
+    }
+
+    /// The places of these names in the words, in order.
+    pub fn places(&self) -> &'static [u32]
+        ensures { result.now ≡ places_of self.now }
+    {
+        &PLACES[..self.name_count()]
     }
 }
 
@@ -82,7 +88,28 @@ fn number_of(digits: &str) -> Option<u16>
     }
 }
 
-// The command of this word with one more after it, a number or a name.
+// Whether a word asks for help.
+fn is_help(word: &str) -> bool
+    ensures { result ≡ asks_for_help word.now }
+{
+    matches!(word, "help" | "--help" | "-h")
+}
+
+// The command of this word alone.
+fn of_word_alone(word: &str) -> Option<Command>
+    ensures is { result ≡ word_alone word.now }
+    ensures within { IfSome result (λ c. IsWithin 1 c) }
+{
+    if is_help(word) {
+        Some(Command::Help(None))
+    } else if matches!(word, "version" | "--version") {
+        Some(Command::Version)
+    } else {
+        None
+    }
+}
+
+// The command of this word with one more after it: a number, a name, or the word of a command.
 fn of_one_word(word: &str, next: &str) -> Option<Command>
     ensures is { result ≡ with_one_word word.now next.now }
     ensures within { IfSome result (λ c. IsWithin 2 c) }
@@ -90,7 +117,9 @@ fn of_one_word(word: &str, next: &str) -> Option<Command>
     if word == "sample" {
         Some(Command::Sample(number_of(next)?))
     } else if word == "migrate" {
-        Some(Command::Migrate(1))
+        Some(Command::Migrate)
+    } else if is_help(word) {
+        Some(Command::Help(Some(Topic::named(next)?)))
     } else {
         None
     }
@@ -102,17 +131,17 @@ fn of_two_names(word: &str) -> Option<Command>
     ensures within { IfSome result (λ c. IsWithin 3 c) }
 {
     if word == "compile" {
-        Some(Command::Compile(1, 2))
+        Some(Command::Compile)
     } else if word == "evidence" {
-        Some(Command::Evidence(1, 2))
+        Some(Command::Evidence)
     } else if word == "explain" {
-        Some(Command::Explain(1, 2))
+        Some(Command::Explain)
     } else if word == "routemap" {
-        Some(Command::RouteMap(1, 2))
+        Some(Command::RouteMap)
     } else if word == "checkmap" {
-        Some(Command::CheckMap(1, 2))
+        Some(Command::CheckMap)
     } else if word == "lint" {
-        Some(Command::Lint(1, 2))
+        Some(Command::Lint)
     } else {
         None
     }
@@ -131,11 +160,11 @@ fn of_three_words(word: &str, last: &str) -> Option<Command>
     ensures within { IfSome result (λ c. IsWithin 4 c) }
 {
     if word == "replay" {
-        Some(Command::Replay(1, 2, 3))
+        Some(Command::Replay)
     } else if word == "trace" {
-        Some(Command::Trace(1, 2, 3))
+        Some(Command::Trace)
     } else if word == "impact" {
-        Some(Command::Impact(1, 2, prefix_of(last)?))
+        Some(Command::Impact(prefix_of(last)?))
     } else {
         None
     }
@@ -147,7 +176,7 @@ fn of_four_names(word: &str) -> Option<Command>
     ensures within { IfSome result (λ c. IsWithin 5 c) }
 {
     if word == "check" {
-        Some(Command::Check(1, 2, 3, 4))
+        Some(Command::Check)
     } else {
         None
     }
@@ -159,7 +188,7 @@ fn of_six_names(word: &str) -> Option<Command>
     ensures within { IfSome result (λ c. IsWithin 7 c) }
 {
     if word == "audit" {
-        Some(Command::Audit(1, 2, 3, 4, 5, 6))
+        Some(Command::Audit)
     } else {
         None
     }
@@ -171,6 +200,7 @@ pub fn words_of(words: &[String]) -> Option<Command>
     ensures within { IfSome result (λ c. IsWithin (length words.now) c) }
 {
     match words {
+        [word] => of_word_alone(word.as_str()),
         [word, next] => of_one_word(word.as_str(), next.as_str()),
         [word, _, _] => of_two_names(word.as_str()),
         [word, _, _, last] => of_three_words(word.as_str(), last.as_str()),

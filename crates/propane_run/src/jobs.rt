@@ -2,7 +2,7 @@
 ghost use Rattle.std.specs.Prelude.{◌≡◌, ◌<◌, ◌≤◌, length};
 ghost use Rattle.std.specs.List.{AllByRecursion};
 ghost use Rattle.run_base.specs.Reading.{most, word_at};
-ghost use Rattle.run_base.specs.Said.{IsGiven, said};
+ghost use Rattle.run_base.specs.Said.{IsGiven, said, text as text_said};
 ghost use Rattle.propane_run.specs.Run.{Job};
 ghost use Rattle.propane_run.specs.Words.{places_of, HasNumber};
 
@@ -10,6 +10,7 @@ use crate::command::Command;
 use audit_job::audit_texts;
 use check_job::check_texts;
 use compile_jobs::{Part, explain_texts, sample_summary, written_texts};
+use help_texts::{help, version};
 use impact_job::impact_texts;
 use lint_job::lint_texts;
 use map_jobs::{check_map_texts, route_map_texts};
@@ -30,6 +31,13 @@ fn text(texts: &[List<u8>], place: usize) -> &[u8]
     texts[place].as_slice()
 }
 
+// A text of the program's own.
+fn written(alloc: Global, text: &str) -> Result<Vec<u8>, Stop>
+    ensures { IsGiven (λ what. what ≡ text_said text.now) (said result) }
+{
+    Ok(text.as_bytes().to_vec(alloc)?)
+}
+
 /// What a command comes to, from the bytes of its names.
 pub fn job(alloc: Global, command: &Command, texts: &[List<u8>]) -> Result<Vec<u8>, Stop>
     requires count { length texts.now ≡ length (places_of command.now) }
@@ -38,33 +46,27 @@ pub fn job(alloc: Global, command: &Command, texts: &[List<u8>]) -> Result<Vec<u
     ensures { IsGiven (Job command.now texts.now) (said result) }
 {
     match *command {
-        Command::Compile(..) => {
-            written_texts(alloc, Part::Config, text(texts, 0), text(texts, 1))
-        }
-        Command::Evidence(..) => {
+        Command::Compile => { written_texts(alloc, Part::Config, text(texts, 0), text(texts, 1)) }
+        Command::Evidence => {
             written_texts(alloc, Part::Evidence, text(texts, 0), text(texts, 1))
         }
-        Command::Check(..) => check_texts(
+        Command::Check => check_texts(
             alloc,
             text(texts, 0),
             text(texts, 1),
             text(texts, 2),
             text(texts, 3),
         ),
-        Command::Explain(..) => explain_texts(alloc, text(texts, 0), text(texts, 1)),
-        Command::Replay(..) => {
-            replay_texts(alloc, text(texts, 0), text(texts, 1), text(texts, 2))
-        }
-        Command::Trace(..) => { trace_texts(alloc, text(texts, 0), text(texts, 1), text(texts, 2)) }
+        Command::Explain => explain_texts(alloc, text(texts, 0), text(texts, 1)),
+        Command::Replay => { replay_texts(alloc, text(texts, 0), text(texts, 1), text(texts, 2)) }
+        Command::Trace => { trace_texts(alloc, text(texts, 0), text(texts, 1), text(texts, 2)) }
         Command::Sample(leaves) => sample_summary(alloc, leaves),
-        Command::Migrate(..) => migrate_text(alloc, text(texts, 0)),
-        Command::Impact(_, _, prefix) => {
-            impact_texts(alloc, text(texts, 0), text(texts, 1), prefix)
-        }
-        Command::RouteMap(..) => route_map_texts(alloc, text(texts, 0), text(texts, 1)),
-        Command::CheckMap(..) => check_map_texts(alloc, text(texts, 0), text(texts, 1)),
-        Command::Lint(..) => lint_texts(alloc, text(texts, 0), text(texts, 1)),
-        Command::Audit(..) => audit_texts(
+        Command::Migrate => migrate_text(alloc, text(texts, 0)),
+        Command::Impact(prefix) => { impact_texts(alloc, text(texts, 0), text(texts, 1), prefix) }
+        Command::RouteMap => route_map_texts(alloc, text(texts, 0), text(texts, 1)),
+        Command::CheckMap => check_map_texts(alloc, text(texts, 0), text(texts, 1)),
+        Command::Lint => lint_texts(alloc, text(texts, 0), text(texts, 1)),
+        Command::Audit => audit_texts(
             alloc,
             text(texts, 0),
             text(texts, 1),
@@ -73,5 +75,7 @@ pub fn job(alloc: Global, command: &Command, texts: &[List<u8>]) -> Result<Vec<u
             text(texts, 4),
             text(texts, 5),
         ),
+        Command::Help(topic) => written(alloc, help(topic)),
+        Command::Version => written(alloc, version()),
     }
 }

@@ -21,8 +21,8 @@ pub fn told_texts_come_to_one_thing()
 
 /// What `evidence` writes passes with what `compile` writes of the same texts.
 pub fn written_pairs_pass()
-    ensures { (t p u q : ℕ) (topology policy config_written evidence_written : List ℕ)
-        → Job (Command.Compile t p) (topology ∷ policy ∷ []) (text config_written)
-        → Job (Command.Evidence u q) (topology ∷ policy ∷ []) (text evidence_written)
+    ensures { (topology policy config_written evidence_written : List ℕ)
+        → Job Command.Compile (topology ∷ policy ∷ []) (text config_written)
+        → Job Command.Evidence (topology ∷ policy ∷ []) (text evidence_written)
         → ArePair topology policy config_written evidence_written }
 {}

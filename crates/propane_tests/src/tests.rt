@@ -4,6 +4,7 @@ mod compiled;
 mod devices;
 mod explained;
 mod files;
+mod helped;
 mod impacts;
 mod limits;
 mod linted;
@@ -20,9 +21,9 @@ mod traced;
 
 use outside::{CountSink, MemInputs, MemSink, NoMemory};
 use propane_run::{Status, run};
-use samples::{TWO_ROUTERS, TWO_ROUTERS_CONFIG, TWO_ROUTERS_EVIDENCE};
 use std::alloc::Global;
 use std::test::Fail;
+use test_networks::{TWO_ROUTERS, TWO_ROUTERS_CONFIG, TWO_ROUTERS_EVIDENCE};
 
 const ANY_PATH: &[u8] = b"originate 10.0.1.0/24 at A; 10.0.1.0/24 => any;";
 
@@ -103,7 +104,7 @@ fn tells(alloc: Global, topology: &[u8], policy: &[u8], line: &str) -> Result<bo
 const COMPILE: &[&str] = &["compile", "t.json", "p.propane"];
 
 const USAGE: &str =
-    "propane: usage: compile TOPO POLICY, evidence TOPO POLICY, check TOPO POLICY CONFIG EVIDENCE, explain TOPO POLICY, replay TOPO POLICY SCENARIO, trace TOPO POLICY EVENTS, sample N, migrate CONFIG, impact TOPO POLICY PREFIX, routemap TOPO POLICY, checkmap CONFIG MAPS, lint TOPO POLICY, audit TOPO POLICY CONFIG EVIDENCE SCENARIO TABLES
+    "propane: usage: compile TOPO POLICY, evidence TOPO POLICY, check TOPO POLICY CONFIG EVIDENCE, explain TOPO POLICY, replay TOPO POLICY SCENARIO, trace TOPO POLICY EVENTS, sample N, migrate CONFIG, impact TOPO POLICY PREFIX, routemap TOPO POLICY, checkmap CONFIG MAPS, lint TOPO POLICY, audit TOPO POLICY CONFIG EVIDENCE SCENARIO TABLES, help [COMMAND], version
 ";
 
 // One run: its words, the calls that fail, the status, and what `out` and `err` took.

@@ -2,12 +2,12 @@
 use Rattle.std.proofs.Common.{◌≡◌, ℕ, ◌<◌, Bool, true, not, List, [], ◌∷◌, length, Option, Some, None, is_some, refl, sym, ap, ◌∙◌, subst, inl, inr}
 use Rattle.std.proofs.lemmas.Bool.{cases_Bool}
 use Rattle.net_base.specs.Network.{PlainNet}
-use Rattle.path_words.specs.Policies.{PlainStatement}
+use Rattle.policy_base.specs.Policies.{PlainStatement}
 use Rattle.graph_base.specs.Graphs.{PlainGraph, IsGraph}
 use Rattle.graph_base.specs.Runs.{place_of, rank_at, is_start, has_step, run}
 use Rattle.graph_base.specs.Rules.{IsWellFormed}
 use Rattle.graph_base.specs.Walks.{IsEnteredFromBefore}
-use Rattle.regret_law.specs.Faithful.{IsFaithful, may_start}
+use Rattle.evidence_law.specs.Faithful.{IsFaithful, may_start}
 use Rattle.list_laws.specs.Counts.{kept_below}
 use Rattle.reach_prune.specs.Trimmed.{graph_kept}
 use Rattle.graph_base.proofs.RunSteps.{RunsTo, runs_from_run, run_from_runs, run_inside}
@@ -77,7 +77,8 @@ module _ (net : PlainNet) (origin : ℕ → Bool) (external : Bool) (least : ℕ
       (f.0, f.1, is, f.3 ∙ ap (kept_below (is_least least)) (sym is))
 
   -- where the nodes at some locations have ranks, so have those of the quotient
-  pub quotient_ranked : (At : ℕ → Type 0) → ((n : ℕ) → n < length g.nodes → At (place_of g n) → is_some (rank_at g n) ≡ true) → (i : ℕ) → i < length q.nodes → At (place_of q i) → is_some (rank_at q i) ≡ true
+  pub quotient_ranked : (At : ℕ → Type 0) → ((n : ℕ) → n < length g.nodes → At (place_of g n) → is_some (rank_at g n) ≡ true) → (i : ℕ)
+      → i < length q.nodes → At (place_of q i) → is_some (rank_at q i) ≡ true
   quotient_ranked At ranked i lt at =
       let n = node_before i lt in
       let place : place_of q i ≡ place_of g n.0 = ap (place_of q) n.3 ∙ joined_place n.0 n.1 in

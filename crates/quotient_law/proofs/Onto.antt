@@ -1,10 +1,10 @@
 -- Each faithful graph of a case maps onto one whose nodes are told apart.
 use Rattle.std.proofs.Common.{◌≡◌, ◌⊎◌, ℕ, ◌<◌, Bool, List, [], ◌∷◌, length, option_map, option_and_then, Option, Some, None, refl, sym, ap, ◌∙◌, subst, inl, inr}
 use Rattle.net_base.specs.Network.{PlainNet}
-use Rattle.path_words.specs.Policies.{PlainStatement}
+use Rattle.policy_base.specs.Policies.{PlainStatement}
 use Rattle.graph_base.specs.Graphs.{PlainGraph, IsGraph}
 use Rattle.graph_base.specs.Runs.{place_of, rank_at, step_at}
-use Rattle.regret_law.specs.Faithful.{IsFaithful}
+use Rattle.evidence_law.specs.Faithful.{IsFaithful}
 use Rattle.graph_base.proofs.StartsAndSteps.{step_at-is}
 use Rattle.graph_base.proofs.RunSteps.{run_inside}
 use Rattle.graph_base.proofs.WellFormed.{step_at-of}
@@ -55,7 +55,10 @@ module _ (net : PlainNet) (s : PlainStatement) (origin : ℕ → Bool) (external
   pub one_image : IsReduced q → (a m n : ℕ) → EndBoth g q a m → EndBoth g q a n → m ≡ n
   one_image reduced a m n h k =
       reduced m n (run_inside q qq h.0 m h.2) (run_inside q qq k.0 n k.2)
-      (record { place = sym (one_place net s origin external g q gg qq fg fq a m h) ∙ one_place net s origin external g q gg qq fg fq a n k; ends = λ path. sym (end_both a m h path) ∙ end_both a n k path })
+      (record {
+        place = sym (one_place net s origin external g q gg qq fg fq a m h) ∙ one_place net s origin external g q gg qq fg fq a n k;
+        ends = λ path. sym (end_both a m h path) ∙ end_both a n k path;
+      })
 
   pub some_image : (a : ℕ) → a < length g.nodes → (m : ℕ) × EndBoth g q a m
   some_image a lt =

@@ -3,11 +3,11 @@
 
 ghost use Rattle.std.specs.Prelude.{◌≡◌, ◌<◌, ℕ, Bool, length};
 ghost use Rattle.net_base.specs.Network.{PlainNet};
-ghost use Rattle.path_words.specs.Policies.{PlainStatement};
+ghost use Rattle.policy_base.specs.Policies.{PlainStatement};
 ghost use Rattle.graph_base.specs.Graphs.{IsGraph, PlainGraph};
 ghost use Rattle.graph_base.specs.Rules.{IsWellFormed};
 ghost use Rattle.graph_base.specs.Walks.{IsEnteredFromBefore};
-ghost use Rattle.regret_law.specs.Faithful.{IsFaithful};
+ghost use Rattle.evidence_law.specs.Faithful.{IsFaithful};
 ghost use Rattle.faithful_law.specs.Alike.{EndBoth};
 ghost use Rattle.node_quotient.specs.Quotient.{IsQuotient, IsReduced};
 

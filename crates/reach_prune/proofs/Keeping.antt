@@ -42,15 +42,19 @@ ranked_no ranked test i n before here = before ∙ elim (cases_order n i) [
 pub nodes_yes : (keep : ℕ → Bool) (i : ℕ) (node : Node) (list nodes all : List Node) → i < length nodes → node ≡ get_or nodes i node → keep i ≡ true → list ++ nodes_kept keep i (drop i nodes) ≡ all →
     (list ++ node ∷ []) ++ nodes_kept keep (i + 1) (drop (i + 1) nodes) ≡ all
 nodes_yes keep i node list nodes all lt read kept before =
-    append_assoc list (node ∷ []) _ ∙ ap (λ rest. list ++ rest) (sym (ap (nodes_kept keep i) (drop_more nodes i node lt) ∙ cond-true (keep i) _ _ kept ∙ ap (λ x. x ∷ nodes_kept keep (i + 1) (drop (i + 1) nodes)) (sym read))) ∙ before
+    append_assoc list (node ∷ []) _
+    ∙ ap (λ rest. list ++ rest) (sym (ap (nodes_kept keep i) (drop_more nodes i node lt) ∙ cond-true (keep i) _ _ kept
+    ∙ ap (λ x. x ∷ nodes_kept keep (i + 1) (drop (i + 1) nodes)) (sym read))) ∙ before
 
-pub nodes_no : (keep : ℕ → Bool) (i : ℕ) (list nodes all : List Node) → i < length nodes → keep i ≡ false → list ++ nodes_kept keep i (drop i nodes) ≡ all → list ++ nodes_kept keep (i + 1) (drop (i + 1) nodes) ≡ all
+pub nodes_no : (keep : ℕ → Bool) (i : ℕ) (list nodes all : List Node) → i < length nodes → keep i ≡ false
+    → list ++ nodes_kept keep i (drop i nodes) ≡ all → list ++ nodes_kept keep (i + 1) (drop (i + 1) nodes) ≡ all
 nodes_no keep i list nodes all lt left before =
     ap (λ rest. list ++ rest) (sym (ap (nodes_kept keep i) (drop_more nodes i (record { loc = 0; listener = false; rank = None }) lt) ∙ cond-false (keep i) _ _ left)) ∙ before
 
 pub rank_read : (g : PlainGraph) (nodes : List Node) (i : ℕ) (node : Node) → nodes ≡ g.nodes → i < length nodes → node ≡ get_or nodes i node → rank_at g i ≡ node.rank
 rank_read g nodes i node same lt read =
-    ap (λ (list : List Node). option_and_then (λ (node : Node). node.rank) (slice_get list i)) (sym same) ∙ ap (option_and_then (λ (node : Node). node.rank)) (slice_get-get_or nodes i node lt) ∙ ap (λ (node : Node). node.rank) (sym read)
+    ap (λ (list : List Node). option_and_then (λ (node : Node). node.rank) (slice_get list i)) (sym same)
+    ∙ ap (option_and_then (λ (node : Node). node.rank)) (slice_get-get_or nodes i node lt) ∙ ap (λ (node : Node). node.rank) (sym read)
 
 -- what has a rank is a node
 pub rank_past : (g : PlainGraph) (n : ℕ) → length g.nodes ≤ n → rank_at g n ≡ None

@@ -15,7 +15,8 @@ abbrev pub goes : Way → ℕ → ℕ → ℕ × ℕ → Bool
 goes way a b step = eqb (ends way step).0 a && eqb (ends way step).1 b
 
 -- lists with all steps of a graph
-pub listed_steps : (way : Way) (g : PlainGraph) (lists : List (List ℕ)) (steps : List (ℕ × ℕ)) (i a b : ℕ) → steps ≡ g.steps → length steps ≤ i → is_listed lists a b ≡ list_any (goes way a b) (take i steps) →
+pub listed_steps : (way : Way) (g : PlainGraph) (lists : List (List ℕ)) (steps : List (ℕ × ℕ)) (i a b : ℕ) → steps ≡ g.steps → length steps ≤ i
+    → is_listed lists a b ≡ list_any (goes way a b) (take i steps) →
     is_listed lists a b ≡ step_along way g a b
 listed_steps way g lists steps i a b whole done listed = listed ∙ ap (list_any (goes way a b)) (take_all i steps done ∙ whole) ∙ goes_any way
   where

@@ -10,14 +10,16 @@ use Rattle.list_laws.proofs.Kept.{kept_below-less}
 use Rattle.reach_prune.specs.Trimmed.{both_kept, graph_kept, nodes_kept, renumbered}
 use Rattle.reach_prune.proofs.Keeping.{kept_below_le}
 
-starts_renumbered : (keep : ℕ → Bool) (numbers : List (Option ℕ)) → ((n : ℕ) → number_in numbers n ≡ number_kept keep n) → (starts : List ℕ) → filter_map (number_in numbers) starts ≡ map (kept_below keep) (filter keep starts)
+starts_renumbered : (keep : ℕ → Bool) (numbers : List (Option ℕ)) → ((n : ℕ) → number_in numbers n ≡ number_kept keep n) → (starts : List ℕ)
+    → filter_map (number_in numbers) starts ≡ map (kept_below keep) (filter keep starts)
 starts_renumbered keep numbers same [] = refl
 starts_renumbered keep numbers same (n ∷ ns) = rw (same n) (elim (cases_Bool (keep n)) [
   | inl kept ↦ rw kept (ap (λ rest. kept_below keep n ∷ rest) (starts_renumbered keep numbers same ns))
   | inr left ↦ rw left (starts_renumbered keep numbers same ns)
 ])
 
-steps_renumbered : (keep : ℕ → Bool) (numbers : List (Option ℕ)) → ((n : ℕ) → number_in numbers n ≡ number_kept keep n) → (steps : List (ℕ × ℕ)) → filter_map (step_in numbers) steps ≡ map (renumbered keep) (filter (both_kept keep) steps)
+steps_renumbered : (keep : ℕ → Bool) (numbers : List (Option ℕ)) → ((n : ℕ) → number_in numbers n ≡ number_kept keep n) → (steps : List (ℕ × ℕ))
+    → filter_map (step_in numbers) steps ≡ map (renumbered keep) (filter (both_kept keep) steps)
 steps_renumbered keep numbers same [] = refl
 steps_renumbered keep numbers same (s ∷ ss) = rw (same s.0, same s.1) (elim (cases_Bool (keep s.0)) [
   | inl from ↦ elim (cases_Bool (keep s.1)) [
@@ -74,5 +76,6 @@ graph_kept_is_graph keep g ok =
     }
 
 pub graph_kept_of : (keep : ℕ → Bool) (g : PlainGraph) (numbers : List (Option ℕ)) (nodes : List Node) (starts : List ℕ) (steps : List (ℕ × ℕ)) → ((n : ℕ) → number_in numbers n ≡ number_kept keep n) →
-    nodes ≡ nodes_kept keep 0 g.nodes → starts ≡ filter_map (number_in numbers) g.starts → steps ≡ filter_map (step_in numbers) g.steps → graph_kept keep g ≡ record { nodes = nodes; starts = starts; steps = steps }
+    nodes ≡ nodes_kept keep 0 g.nodes → starts ≡ filter_map (number_in numbers) g.starts → steps ≡ filter_map (step_in numbers) g.steps
+    → graph_kept keep g ≡ record { nodes = nodes; starts = starts; steps = steps }
 graph_kept_of keep g numbers nodes starts steps same n s t = rw (n, s, t, starts_renumbered keep numbers same g.starts, steps_renumbered keep numbers same g.steps) refl

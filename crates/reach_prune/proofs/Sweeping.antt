@@ -25,7 +25,8 @@ pub record Stage (lists : List (List ℕ)) (done : ℕ → Bool) (node : ℕ) (O
   pub sound : (n : ℕ) → has_at s.rows node n ≡ true → Leads lists node n
   pub closed : (a b : ℕ) → has_at s.rows node a ≡ true → is_listed lists a b ≡ true → (has_at s.rows node b ≡ true) ⊎ ((is_among s.waiting.items a ≡ true) ⊎ Open a)
 
-module _ (lists : List (List ℕ)) (done : ℕ → Bool) (node at : ℕ) (old mid : Sweep) (s : Stage lists done node (λ a. ⊥) old) (rows : mid.rows ≡ old.rows) (pop : old.waiting.items ≡ mid.waiting.items ++ at ∷ []) where
+module _ (lists : List (List ℕ)) (done : ℕ → Bool) (node at : ℕ) (old mid : Sweep) (s : Stage lists done node (λ a. ⊥) old)
+    (rows : mid.rows ≡ old.rows) (pop : old.waiting.items ≡ mid.waiting.items ++ at ∷ []) where
   same : (a b : ℕ) → has_at mid.rows a b ≡ has_at old.rows a b
   same a b = ap (λ r. has_at r a b) rows
 
@@ -52,12 +53,14 @@ module _ (lists : List (List ℕ)) (done : ℕ → Bool) (node at : ℕ) (old mi
   }
 
 -- it is one of the nodes
-pub open_below : (lists : List (List ℕ)) (done : ℕ → Bool) (node at : ℕ) (old mid : Sweep) → Stage lists done node (λ a. ⊥) old → mid.rows ≡ old.rows → old.waiting.items ≡ mid.waiting.items ++ at ∷ [] → AreLists lists → node < length lists → at < length lists
+pub open_below : (lists : List (List ℕ)) (done : ℕ → Bool) (node at : ℕ) (old mid : Sweep) → Stage lists done node (λ a. ⊥) old → mid.rows ≡ old.rows
+    → old.waiting.items ≡ mid.waiting.items ++ at ∷ [] → AreLists lists → node < length lists → at < length lists
 open_below lists done node at old mid s rows pop are ln =
     let led = s.sound at (sym (ap (λ r. has_at r node at) rows) ∙ popped_found lists done node at old mid s rows pop) in
     leads_below lists are node at led.0 ln led.1
 
-module _ (lists : List (List ℕ)) (done : ℕ → Bool) (node at next : ℕ) (old new : Sweep) (s : Stage lists done node (λ a. a ≡ at) old) (c : Comes node next (done next) old new) (found : has_at old.rows node at ≡ true)
+module _ (lists : List (List ℕ)) (done : ℕ → Bool) (node at next : ℕ) (old new : Sweep) (s : Stage lists done node (λ a. a ≡ at) old)
+    (c : Comes node next (done next) old new) (found : has_at old.rows node at ≡ true)
     (listed : is_listed lists at next ≡ true) (ln : node < length lists) (lx : next < length lists) (undone : done node ≡ false) where
   pub still_found : (b : ℕ) → has_at old.rows node b ≡ true → has_at new.rows node b ≡ true
   still_found b h = c.row b ∙ or_left _ _ h
@@ -117,7 +120,10 @@ module _ (lists : List (List ℕ)) (done : ℕ → Bool) (node at next : ℕ) (o
     own = still_found node s.own;
     waits = λ n h. elim (or_cases _ _ (sym (c.waiting n) ∙ h)) [
       | inl w ↦ still_found n (s.waits n w)
-      | inr f ↦ (let parts = and_parts (not (has_at old.rows node next)) _ f in let last = and_parts (not (done next)) (eqb n next) parts.1 in ap (has_at new.rows node) (eqb-true n next last.1) ∙ next_found)
+      | inr f ↦
+          (let parts = and_parts (not (has_at old.rows node next)) _ f in
+          let last = and_parts (not (done next)) (eqb n next) parts.1 in
+          ap (has_at new.rows node) (eqb-true n next last.1) ∙ next_found)
     ];
     sound = λ n h. elim (or_cases _ _ (sym (c.row n) ∙ h)) [
       | inl o ↦ s.sound n o
@@ -133,7 +139,8 @@ module _ (lists : List (List ℕ)) (done : ℕ → Bool) (node at next : ℕ) (o
   }
 
 -- once all that is listed behind it is found, the open node is open no more
-pub close : (lists : List (List ℕ)) (done : ℕ → Bool) (node at : ℕ) (s : Sweep) → Stage lists done node (λ a. a ≡ at) s → ((b : ℕ) → is_listed lists at b ≡ true → has_at s.rows node b ≡ true) → Stage lists done node (λ a. ⊥) s
+pub close : (lists : List (List ℕ)) (done : ℕ → Bool) (node at : ℕ) (s : Sweep) → Stage lists done node (λ a. a ≡ at) s
+    → ((b : ℕ) → is_listed lists at b ≡ true → has_at s.rows node b ≡ true) → Stage lists done node (λ a. ⊥) s
 close lists done node at s t all = record {
   count = t.count;
   bits = t.bits;
@@ -157,7 +164,9 @@ nth_below Forward size a lt = omega arith
 nth_below Backward size a lt = lt
 
 -- where nothing waits the row is finished
-pub swept_more : (way : Way) (lists : List (List ℕ)) (place : ℕ) (s new : Sweep) → new.rows ≡ s.rows → new.waiting.items ≡ [] → place < length lists → Stage lists (λ a. ltb (nth way (length lists) a) place) (nth way (length lists) place) (λ a. ⊥) s → s.waiting.items ≡ [] → Swept way lists (place + 1) new
+pub swept_more : (way : Way) (lists : List (List ℕ)) (place : ℕ) (s new : Sweep) → new.rows ≡ s.rows → new.waiting.items ≡ [] → place < length lists
+    → Stage lists (λ a. ltb (nth way (length lists) a) place) (nth way (length lists) place) (λ a. ⊥) s → s.waiting.items ≡ []
+    → Swept way lists (place + 1) new
 swept_more way lists place s new same ended lp t idle =
     let node : ℕ = nth way (length lists) place in
     let back : nth way (length lists) node ≡ place = nth_twice way (length lists) place lp in
@@ -184,15 +193,20 @@ swept_more way lists place s new same ended lp t idle =
     }
 
 -- the search begins
-pub swept_begins : (way : Way) (lists : List (List ℕ)) (place : ℕ) (old new : Sweep) → place < length lists → Swept way lists place old → new.rows.count ≡ old.rows.count → new.rows.bits ≡ old.rows.bits →
-    ((a b : ℕ) → a < old.rows.count → has_at new.rows a b ≡ (has_at old.rows a b || (eqb a (nth way (length lists) place) && eqb b (nth way (length lists) place)))) → new.waiting.items ≡ old.waiting.items ++ nth way (length lists) place ∷ [] →
+pub swept_begins : (way : Way) (lists : List (List ℕ)) (place : ℕ) (old new : Sweep) → place < length lists → Swept way lists place old
+    → new.rows.count ≡ old.rows.count → new.rows.bits ≡ old.rows.bits →
+    ((a b : ℕ) → a < old.rows.count
+    → has_at new.rows a b ≡ (has_at old.rows a b || (eqb a (nth way (length lists) place) && eqb b (nth way (length lists) place))))
+    → new.waiting.items ≡ old.waiting.items ++ nth way (length lists) place ∷ [] →
     Stage lists (λ a. ltb (nth way (length lists) a) place) (nth way (length lists) place) (λ a. ⊥) new
 swept_begins way lists place old new lp s count bits rows waiting =
     let node : ℕ = nth way (length lists) place in
     let back : nth way (length lists) node ≡ place = nth_twice way (length lists) place lp in
     let ln : node < length lists = nth_below way (length lists) place lp in
-    let apart : (a b : ℕ) → a < length lists → a ≢ node → has_at new.rows a b ≡ has_at old.rows a b = λ a b la ne. rows a b (omega (arith, s.count)) ∙ ap (λ z. has_at old.rows a b || (z && eqb b node)) (ne_eqb _ _ ne) ∙ or-false (has_at old.rows a b) in
-    let own : (b : ℕ) → has_at new.rows node b ≡ eqb b node = λ b. rows node b (omega (arith, s.count)) ∙ ap (λ z. z || (eqb node node && eqb b node)) (s.clear node b ln (omega (arith, back))) ∙ ap (λ z. z && eqb b node) (eq-eqb node node refl) in
+    let apart : (a b : ℕ) → a < length lists → a ≢ node → has_at new.rows a b ≡ has_at old.rows a b = λ a b la ne. rows a b (omega (arith, s.count))
+    ∙ ap (λ z. has_at old.rows a b || (z && eqb b node)) (ne_eqb _ _ ne) ∙ or-false (has_at old.rows a b) in
+    let own : (b : ℕ) → has_at new.rows node b ≡ eqb b node = λ b. rows node b (omega (arith, s.count))
+    ∙ ap (λ z. z || (eqb node node && eqb b node)) (s.clear node b ln (omega (arith, back))) ∙ ap (λ z. z && eqb b node) (eq-eqb node node refl) in
     let waits : (n : ℕ) → is_among new.waiting.items n ≡ eqb node n = λ n. waited new.waiting.items old.waiting.items node n waiting ∙ ap (λ l. is_among l n || eqb node n) s.idle in
     record {
       count = count ∙ s.count;
@@ -223,28 +237,38 @@ module _ (node next : ℕ) (finished : Bool) (old new : Sweep) where
 
   module _ (h : has_at old.rows node next ≡ false) (size : IsSameSize new.rows old.rows) (ln : node < old.rows.count) where
     -- what is new in the row of the node
-    row_with : (fresh : ℕ → Bool) → ((r b : ℕ) → r < old.rows.count → has_at new.rows r b ≡ (has_at old.rows r b || (eqb r node && fresh b))) → ((b : ℕ) → cond finished (has_at old.rows next b) (eqb b next) ≡ fresh b) →
+    row_with : (fresh : ℕ → Bool) → ((r b : ℕ) → r < old.rows.count → has_at new.rows r b ≡ (has_at old.rows r b || (eqb r node && fresh b)))
+        → ((b : ℕ) → cond finished (has_at old.rows next b) (eqb b next) ≡ fresh b) →
         (b : ℕ) → has_at new.rows node b ≡ (has_at old.rows node b || (not (has_at old.rows node next) && cond finished (has_at old.rows next b) (eqb b next)))
     row_with fresh rows is b =
         rows node b ln ∙ ap (λ z. has_at old.rows node b || (z && fresh b)) (eq-eqb node node refl)
         ∙ sym (ap (λ z. has_at old.rows node b || (not z && cond finished (has_at old.rows next b) (eqb b next))) h ∙ ap (λ z. has_at old.rows node b || z) (is b))
 
     -- its row is taken over
-    pub Comes-taken : finished ≡ true → ((r b : ℕ) → r < old.rows.count → has_at new.rows r b ≡ (has_at old.rows r b || (eqb r node && has_at old.rows next b))) → new.waiting.items ≡ old.waiting.items → vec_len new.waiting ≡ vec_len old.waiting →
+    pub Comes-taken : finished ≡ true
+        → ((r b : ℕ) → r < old.rows.count → has_at new.rows r b ≡ (has_at old.rows r b || (eqb r node && has_at old.rows next b)))
+        → new.waiting.items ≡ old.waiting.items → vec_len new.waiting ≡ vec_len old.waiting →
         Comes node next finished old new
     Comes-taken f rows same len = let row = row_with (has_at old.rows next) rows (λ b. cond-true finished _ _ f) in record {
       size = size;
       others = λ a b la ne. rows a b la ∙ ap (λ z. has_at old.rows a b || (z && has_at old.rows next b)) (ne_eqb _ _ ne) ∙ or-false (has_at old.rows a b);
       row = row;
-      waiting = λ n. ap (λ l. is_among l n) same ∙ sym (ap (λ z. is_among old.waiting.items n || (not (has_at old.rows node next) && (not z && eqb n next))) f ∙ ap (λ z. is_among old.waiting.items n || z) (and-false (not (has_at old.rows node next))) ∙ or-false (is_among old.waiting.items n));
+      waiting =
+          λ n. ap (λ l. is_among l n) same
+          ∙ sym (ap (λ z. is_among old.waiting.items n || (not (has_at old.rows node next) && (not z && eqb n next))) f
+          ∙ ap (λ z. is_among old.waiting.items n || z) (and-false (not (has_at old.rows node next)))
+          ∙ or-false (is_among old.waiting.items n));
       left =
-          let fewer = count_le (λ b. not (has_at new.rows node b)) (λ b. not (has_at old.rows node b)) 0 old.rows.bits (λ b n. not_from_false _ (or_parts (has_at old.rows node b) _ (sym (row b) ∙ not-true _ n)).0) in
+          let fewer = count_le (λ b. not (has_at new.rows node b)) (λ b. not (has_at old.rows node b)) 0 old.rows.bits
+          (λ b n. not_from_false _ (or_parts (has_at old.rows node b) _ (sym (row b) ∙ not-true _ n)).0) in
           let to = ap (λ k. count_by (λ b. not (has_at new.rows node b)) (range_with_len 0 k)) size.bits in
           omega (arith, fewer, to, len);
     }
 
     -- it is found, and waits
-    pub Comes-waits : finished ≡ false → next < old.rows.bits → ((r b : ℕ) → r < old.rows.count → has_at new.rows r b ≡ (has_at old.rows r b || (eqb r node && eqb b next))) → new.waiting.items ≡ old.waiting.items ++ next ∷ [] → vec_len new.waiting ≡ vec_len old.waiting + 1 →
+    pub Comes-waits : finished ≡ false → next < old.rows.bits
+        → ((r b : ℕ) → r < old.rows.count → has_at new.rows r b ≡ (has_at old.rows r b || (eqb r node && eqb b next)))
+        → new.waiting.items ≡ old.waiting.items ++ next ∷ [] → vec_len new.waiting ≡ vec_len old.waiting + 1 →
         Comes node next finished old new
     Comes-waits f lx rows pushed len = let row = row_with (λ b. eqb b next) rows (λ b. cond-false finished _ _ f) in record {
       size = size;
@@ -253,8 +277,11 @@ module _ (node next : ℕ) (finished : Bool) (old new : Sweep) where
       waiting = λ n. waited new.waiting.items old.waiting.items next n pushed ∙ ap (λ z. is_among old.waiting.items n || z) (turned n)
           ∙ sym (ap (λ z. is_among old.waiting.items n || (not z && (not finished && eqb n next))) h ∙ ap (λ z. is_among old.waiting.items n || (not z && eqb n next)) f);
       left =
-          let out : not (has_at new.rows node next) ≡ false = ap not (row next ∙ or_right (has_at old.rows node next) _ (and_from _ _ (not_from_false _ h) (cond-false finished _ _ f ∙ eq-eqb next next refl))) in
-          let fewer = count_lt (λ b. not (has_at new.rows node b)) (λ b. not (has_at old.rows node b)) 0 old.rows.bits next (omega arith) (omega arith) out (not_from_false _ h) (λ b n. not_from_false _ (or_parts (has_at old.rows node b) _ (sym (row b) ∙ not-true _ n)).0) in
+          let out : not (has_at new.rows node next) ≡ false =
+          ap not (row next
+          ∙ or_right (has_at old.rows node next) _ (and_from _ _ (not_from_false _ h) (cond-false finished _ _ f ∙ eq-eqb next next refl))) in
+          let fewer = count_lt (λ b. not (has_at new.rows node b)) (λ b. not (has_at old.rows node b)) 0 old.rows.bits next (omega arith)
+          (omega arith) out (not_from_false _ h) (λ b n. not_from_false _ (or_parts (has_at old.rows node b) _ (sym (row b) ∙ not-true _ n)).0) in
           let to = ap (λ k. count_by (λ b. not (has_at new.rows node b)) (range_with_len 0 k)) size.bits in
           omega (arith, fewer, to, len);
     }

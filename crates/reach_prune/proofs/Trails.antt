@@ -49,7 +49,8 @@ pub leads_along : (way : Way) (g : PlainGraph) (lists : List (List ℕ)) (a b : 
 leads_along Forward g lists a b same = leads_forward g lists a b same
 leads_along Backward g lists a b same = leads_backward g lists a b same
 
-pub reached_along : (way : Way) (g : PlainGraph) (lists : List (List ℕ)) (first : List ℕ) (n : ℕ) → ((a b : ℕ) → is_listed lists a b ≡ step_along way g a b) → IsReached lists first n ↔ LeadsFrom way g first n
+pub reached_along : (way : Way) (g : PlainGraph) (lists : List (List ℕ)) (first : List ℕ) (n : ℕ)
+    → ((a b : ℕ) → is_listed lists a b ≡ step_along way g a b) → IsReached lists first n ↔ LeadsFrom way g first n
 reached_along way g lists first n same = (λ r. (r.0, r.1, (leads_along way g lists r.0 n same).0 r.2), λ l. (l.0, l.1, (leads_along way g lists l.0 n same).1 l.2))
 
 -- lists lead to nodes alone
@@ -66,7 +67,8 @@ leads_on lists a b c one other = on a one.0 one.1
     on a (d ∷ ds) h = let rest = on d ds h.1 in (d ∷ rest.0, (h.0, rest.1))
 
 -- steps lead backward from the nodes with a rank to those from which one can be reached
-pub ranked_backward : (g : PlainGraph) (first : List ℕ) (n : ℕ) (mark : Bool) → ((n : ℕ) → is_among first n ≡ is_some (rank_at g n)) → (mark ≡ true) ↔ LeadsFrom Backward g first n → (mark ≡ true) ↔ CanBeRanked g n
+pub ranked_backward : (g : PlainGraph) (first : List ℕ) (n : ℕ) (mark : Bool) → ((n : ℕ) → is_among first n ≡ is_some (rank_at g n))
+    → (mark ≡ true) ↔ LeadsFrom Backward g first n → (mark ≡ true) ↔ CanBeRanked g n
 ranked_backward g first n mark ranked h = (λ m. let l = h.0 m in (l.0, l.2, sym (ranked l.0) ∙ l.1), λ c. h.1 (c.0, ranked c.0 ∙ c.2, c.1))
 
 -- what waits where one more does, behind the others
@@ -74,6 +76,7 @@ pub waited : (s rest : List ℕ) (a n : ℕ) → s ≡ rest ++ a ∷ [] → is_a
 waited s rest a n pop = ap (λ x. is_among x n) pop ∙ list_any-append (λ x. eqb x n) rest (a ∷ []) ∙ ap (λ b. is_among rest n || b) (or-false (eqb a n))
 
 -- what is closed under the lists has the end of each chain from it
-pub complete : (lists : List (List ℕ)) (marked : ℕ → Bool) → ((a b : ℕ) → marked a ≡ true → is_listed lists a b ≡ true → marked b ≡ true) → (a b : ℕ) (via : List ℕ) → marked a ≡ true → IsChain lists a via b → marked b ≡ true
+pub complete : (lists : List (List ℕ)) (marked : ℕ → Bool) → ((a b : ℕ) → marked a ≡ true → is_listed lists a b ≡ true → marked b ≡ true)
+    → (a b : ℕ) (via : List ℕ) → marked a ≡ true → IsChain lists a via b → marked b ≡ true
 complete lists marked closed a b [] m h = ap marked (sym h) ∙ m
 complete lists marked closed a b (c ∷ cs) m h = complete lists marked closed c b cs (closed a c m h.0) h.1

@@ -29,7 +29,8 @@ pub listed_below : (lists : List (List ℕ)) (a : ℕ) (nodes : List ℕ) (k d :
 listed_below lists a nodes k d are e lt = are a (get_or nodes k d) (ap (λ x. is_among x (get_or nodes k d)) (sym e) ∙ list_any_at (λ x. eqb x (get_or nodes k d)) nodes k d lt (eq-eqb _ _ refl))
 
 -- the node that waited last goes, and its neighbours are come to
-pub stage_next : (lists : List (List ℕ)) (first : List ℕ) (a : ℕ) (nodes : List ℕ) (old mid new : Search) → Stage lists first old → vec_len mid.marks ≡ vec_len old.marks → mid.marks.items ≡ old.marks.items →
+pub stage_next : (lists : List (List ℕ)) (first : List ℕ) (a : ℕ) (nodes : List ℕ) (old mid new : Search) → Stage lists first old
+    → vec_len mid.marks ≡ vec_len old.marks → mid.marks.items ≡ old.marks.items →
     old.waiting.items ≡ mid.waiting.items ++ a ∷ [] → nodes ≡ get_or lists a [] → Visits (is_among nodes) mid new → Stage lists first new
 stage_next lists first a nodes old mid new s len same pop listed v = record {
   size = v.size ∙ len ∙ s.size;

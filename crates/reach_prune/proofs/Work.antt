@@ -12,7 +12,8 @@ pub count_le : (p q : ℕ → Bool) (a n : ℕ) → ((k : ℕ) → p k ≡ true 
 count_le p q a zero h = omega arith
 count_le p q a (suc n) h = omega (arith, count_first p a n, count_first q a n, one_if (p a) (q a) (h a), count_le p q (a + 1) n h)
 
-pub count_lt : (p q : ℕ → Bool) (a n at : ℕ) → a ≤ at → at < a + n → p at ≡ false → q at ≡ true → ((k : ℕ) → p k ≡ true → q k ≡ true) → count_by p (range_with_len a n) < count_by q (range_with_len a n)
+pub count_lt : (p q : ℕ → Bool) (a n at : ℕ) → a ≤ at → at < a + n → p at ≡ false → q at ≡ true → ((k : ℕ) → p k ≡ true → q k ≡ true)
+    → count_by p (range_with_len a n) < count_by q (range_with_len a n)
 count_lt p q a zero at le lt out in_it h = absurd (omega arith)
 count_lt p q a (suc n) at le lt out in_it h = elim (cases_eq a at) [
   | inl e ↦ (

@@ -87,9 +87,15 @@ module _ (g : PlainGraph) (claimed : LocSet) (ok : IsGraph g) (reach : ℕ → �
 
   -- ---- chains
 
-  pub chain-more : (m n a b c d : ℕ) (via : List (ℕ × ℕ)) (round : ℕ) (why : Why) → IsChain V reach m n via a b → Goes V reach a b round why → Rests V a b why c d → IsChain V reach m n (via ++ (c, d) ∷ []) c d
-  chain-more m n a b c d [] round why (e, f) goes rests =
-      (round, why, subst (λ x. Goes V reach x n round why) (sym e) (subst (λ y. Goes V reach a y round why) (sym f) goes), subst (λ x. Rests V x n why c d) (sym e) (subst (λ y. Rests V a y why c d) (sym f) rests), (refl, refl))
+  pub chain-more : (m n a b c d : ℕ) (via : List (ℕ × ℕ)) (round : ℕ) (why : Why) → IsChain V reach m n via a b → Goes V reach a b round why
+      → Rests V a b why c d → IsChain V reach m n (via ++ (c, d) ∷ []) c d
+  chain-more m n a b c d [] round why (e, f) goes rests = (
+    round,
+    why,
+    subst (λ x. Goes V reach x n round why) (sym e) (subst (λ y. Goes V reach a y round why) (sym f) goes),
+    subst (λ x. Rests V x n why c d) (sym e) (subst (λ y. Rests V a y why c d) (sym f) rests),
+    (refl, refl),
+  )
   chain-more m n a b c d (x ∷ via) round why (r, w, go, re, rest) goes rests = (r, w, go, re, chain-more x.0 x.1 a b c d via round why rest goes rests)
 
   needed-more : (first second a b c d : ℕ) (round : ℕ) (why : Why) → IsNeeded V reach first second a b → Goes V reach a b round why → Rests V a b why c d → IsNeeded V reach first second c d
@@ -114,7 +120,8 @@ module _ (g : PlainGraph) (claimed : LocSet) (ok : IsGraph g) (reach : ℕ → �
 
   -- lines of pairs that go, with a line for each pair on which one rests
   module _ (lines : List Removed) (falls : (l : Removed) → IsLine lines l → Goes V reach l.better l.worse l.round l.why)
-      (under : (l : Removed) (is : IsLine lines l) (a b : ℕ) → Rests V l.better l.worse l.why a b → Pair V a b → gone_after V reach (falls l is).before a b ≡ true → (k : Removed) × IsLine lines k × (k.better ≡ a) × (k.worse ≡ b)) where
+      (under : (l : Removed) (is : IsLine lines l) (a b : ℕ) → Rests V l.better l.worse l.why a b → Pair V a b
+      → gone_after V reach (falls l is).before a b ≡ true → (k : Removed) × IsLine lines k × (k.better ≡ a) × (k.worse ≡ b)) where
     -- it is of an earlier round
     earlier : (l : Removed) (is : IsLine lines l) (a b : ℕ) → Rests V l.better l.worse l.why a b → Pair V a b → gone_after V reach (falls l is).before a b ≡ true → WasRemoved lines l.round a b
     earlier l is a b rests pair gone =
@@ -163,7 +170,8 @@ module _ (g : PlainGraph) (claimed : LocSet) (ok : IsGraph g) (reach : ℕ → �
           t,
           (h.0, h.1),
           λ s heard.
-              let off = none_at V.size (λ s. is_heard V l.better s && (same_place V s t && no_worse (rank_at g s) (rank_at g t))) s h.2 (step_nodes g l.better s ok (and_parts (has_step g l.better s) _ heard.0).0).1 in
+              let off = none_at V.size (λ s. is_heard V l.better s && (same_place V s t && no_worse (rank_at g s) (rank_at g t))) s h.2
+              (step_nodes g l.better s ok (and_parts (has_step g l.better s) _ heard.0).0).1 in
               worse_from (rank_at g s) (rank_at g t) (elim (and_cases (is_heard V l.better s) _ off) [
                 | inl f ↦ absurd (both_ways _ f heard.0)
                 | inr f ↦ elim (and_cases (same_place V s t) _ f) [ inl q ↦ absurd (both_ways _ q (eq-eqb _ _ (heard.1 ∙ sym h.1))) | inr q ↦ q ]

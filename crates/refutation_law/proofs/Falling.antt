@@ -86,7 +86,8 @@ module _ (g : PlainGraph) (claimed : LocSet) (ok : IsGraph g) (reach : ℕ → �
       let x = any_found V.size (λ s. steps_on V m s && (same_place V s t && not (gone s t))) e in
       let x1 = and_parts (steps_on V m x.0) _ x.2 in
       let x2 = and_parts (same_place V x.0 t) _ x1.1 in
-      both_ways (has_answer V none m t) h (any_at V.size (λ s. steps_on V m s && (same_place V s t && not (none s t))) x.0 x.1 (and_from (steps_on V m x.0) _ x1.0 (and_from (same_place V x.0 t) true x2.0 refl))))
+      both_ways (has_answer V none m t) h (any_at V.size (λ s. steps_on V m s && (same_place V s t && not (none s t))) x.0 x.1
+      (and_from (steps_on V m x.0) _ x1.0 (and_from (same_place V x.0 t) true x2.0 refl))))
 
   -- there is a reason at a step exactly where a rule fails there
   pub reason_where_failing : (gone : ℕ → ℕ → Bool) (m t : ℕ) → is_some (reason_at V reach gone m t) ≡ fails_at V reach gone m t
@@ -96,11 +97,14 @@ module _ (g : PlainGraph) (claimed : LocSet) (ok : IsGraph g) (reach : ℕ → �
       | inr e ↦ ap is_some (cond-true (V.hears t) _ _ l ∙ cond-false (is_heard_there V m t) _ _ e) ∙ sym (cond-true (V.hears t) _ _ l ∙ not_from_false _ e)
     ]
     | inr l ↦ ap is_some (cond-false (V.hears t) _ _ l) ∙ elim (cases_Bool (has_answer V none m t)) [
-      | inr f ↦ ap is_some (cond-true (not (has_answer V none m t)) _ _ (not_from_false _ f)) ∙ sym (cond-false (V.hears t) _ _ l ∙ ap (λ b. not b || is_looped V reach gone m t) (answer_any gone m t f))
+      | inr f ↦
+          ap is_some (cond-true (not (has_answer V none m t)) _ _ (not_from_false _ f))
+          ∙ sym (cond-false (V.hears t) _ _ l ∙ ap (λ b. not b || is_looped V reach gone m t) (answer_any gone m t f))
       | inl a ↦ ap is_some (cond-false (not (has_answer V none m t)) _ _ (not_from_true _ a)) ∙ elim (cases_Bool (has_answer V gone m t)) [
         | inr f ↦ ap is_some (cond-true (not (has_answer V gone m t)) _ _ (not_from_false _ f)) ∙ sym (cond-false (V.hears t) _ _ l ∙ ap (λ b. not b || is_looped V reach gone m t) f)
         | inl b ↦ ap is_some (cond-false (not (has_answer V gone m t)) _ _ (not_from_true _ b))
-            ∙ is_some-option_map (LoopWorse (place_of g t)) (least_below V.size (λ k. same_place V k t && (reach k m && gone k t))) ∙ least_is_some V.size (λ k. same_place V k t && (reach k m && gone k t))
+            ∙ is_some-option_map (LoopWorse (place_of g t)) (least_below V.size (λ k. same_place V k t && (reach k m && gone k t)))
+            ∙ least_is_some V.size (λ k. same_place V k t && (reach k m && gone k t))
             ∙ sym (cond-false (V.hears t) _ _ l ∙ ap (λ b. not b || is_looped V reach gone m t) b)
       ]
     ]
@@ -111,7 +115,9 @@ module _ (g : PlainGraph) (claimed : LocSet) (ok : IsGraph g) (reach : ℕ → �
   is_reason gone m n h = elim (cases_Bool (is_outranked V m n)) [
     | inl worse ↦ (RankWorse, inl (worse, refl))
     | inr better ↦ (
-        let some : any_below V.size (λ t. V.step n t && fails_at V reach gone m t) ≡ true = elim (or_cases (is_outranked V m n) (any_below V.size (λ t. V.step n t && fails_at V reach gone m t)) h) [ inl e ↦ absurd (both_ways _ better e) | inr e ↦ e ] in
+        let some : any_below V.size (λ t. V.step n t && fails_at V reach gone m t) ≡ true =
+        elim (or_cases (is_outranked V m n) (any_below V.size (λ t. V.step n t && fails_at V reach gone m t)) h)
+        [ inl e ↦ absurd (both_ways _ better e) | inr e ↦ e ] in
         let x = any_found V.size (λ t. V.step n t && fails_at V reach gone m t) some in
         let t = least_key V.size (λ t. V.step n t && fails_at V reach gone m t) V.place x.0 x.1 x.2 in
         let parts = and_parts (V.step n t.0) (fails_at V reach gone m t.0) t.2 in
@@ -242,7 +248,8 @@ module _ (g : PlainGraph) (claimed : LocSet) (ok : IsGraph g) (reach : ℕ → �
       let b = over_from V'.size (λ n. lines_at a.0 n (went a.0 n) refl) l a.2 in
       line_gone a.0 b.0 (went a.0 b.0) refl l b.2
 
-  under : (l : Removed) (is : IsLine all_lines l) (a b : ℕ) → Rests V' l.better l.worse l.why a b → Pair V' a b → gone_after V' reach (falls l is).before a b ≡ true → (k : Removed) × IsLine all_lines k × (k.better ≡ a) × (k.worse ≡ b)
+  under : (l : Removed) (is : IsLine all_lines l) (a b : ℕ) → Rests V' l.better l.worse l.why a b → Pair V' a b
+      → gone_after V' reach (falls l is).before a b ≡ true → (k : Removed) × IsLine all_lines k × (k.better ≡ a) × (k.worse ≡ b)
   under l is a b rests pair gone =
       let most = goes-by g claimed ok reach exact l.better l.worse l.round rounds l.why (falls l is) (is_gone l is) in
       line_of a b pair (gone-later g claimed ok reach exact (falls l is).before rounds a b (omega (arith, most, (falls l is).next)) gone)

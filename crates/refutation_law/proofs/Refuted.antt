@@ -53,7 +53,8 @@ module _ (g : PlainGraph) (claimed : LocSet) (ok : IsGraph g) (single : HasSingl
         unmet l.better l.worse l.round l.why (each l is).reason (closed l.better l.worse e).1
         (λ a b was. before a b was.0 was.1 was.2 was.3 was.4 (stays_out bound)))
       where
-        before : (a b : ℕ) (k : Removed) → IsLine lines k → k.better ≡ a → k.worse ≡ b → k.round < l.round → ((k : Removed) → IsLine lines k → k.round < bound → s k.better k.worse ≡ false) → s a b ≡ false
+        before : (a b : ℕ) (k : Removed) → IsLine lines k → k.better ≡ a → k.worse ≡ b → k.round < l.round
+            → ((k : Removed) → IsLine lines k → k.round < bound → s k.better k.worse ≡ false) → s a b ≡ false
         before a b k on better worse less again = ap (λ x. s x b) (sym better) ∙ ap (s k.better) (sym worse) ∙ again k on (omega (arith, lt, less))
 
     pub out : (l : Removed) → IsLine lines l → s l.better l.worse ≡ false

@@ -18,7 +18,8 @@ use Rattle.relation_law.proofs.Ranks.{no_worse_refl, no_worse_some, no_worse_fro
 use Rattle.relation_law.proofs.Rounds.{Answer, Hearer}
 
 -- numbers of the relation meet the rules of evidence
-pub numbers_meet_rules : (net : PlainNet) (claimed : LocSet) (external : Bool) (g : PlainGraph) (number : ℕ → ℕ) → IsGraph g → AreNumbers (view_of g claimed) number → MeetsRules net (λ l. holds claimed l ≡ true) external g number
+pub numbers_meet_rules : (net : PlainNet) (claimed : LocSet) (external : Bool) (g : PlainGraph) (number : ℕ → ℕ) → IsGraph g
+    → AreNumbers (view_of g claimed) number → MeetsRules net (λ l. holds claimed l ≡ true) external g number
 numbers_meet_rules net claimed external g number ok are =
     let meets : (m n : ℕ) → IsOver net g number m n → Meets (view_of g claimed) (λ a b. nat_le (number b) (number a)) m n = λ m n over.
     are m n (record { left = over.better; right = over.worse; place = over.place }) over.numbers in
@@ -67,7 +68,8 @@ module _ (net : PlainNet) (origin : ℕ → Bool) (external : Bool) (g : PlainGr
           let p = and_parts (has_step g n t) (is_listener g t) st in
           let peer : is_peer net (place_of g t) ≡ true = (and_parts (is_peer net (place_of g t)) _ (sym (formed.listeners t lt) ∙ p.1)).0 in
           let i : (i : ℕ) × (rank_at g t ≡ Some i) = is_some_parts (rank_at g t) (ranked t lt p.1) in
-          let x : (s j : ℕ) × (is_heard g m s ≡ true) × (place_of g s ≡ place_of g t) × (rank_at g s ≡ Some j) × (j ≤ i.0) = rules.listener m n t i.0 (formed.into n t (and_from _ _ p.0 peer)) over st i.1 in
+          let x : (s j : ℕ) × (is_heard g m s ≡ true) × (place_of g s ≡ place_of g t) × (rank_at g s ≡ Some j) × (j ≤ i.0) =
+          rules.listener m n t i.0 (formed.into n t (and_from _ _ p.0 peer)) over st i.1 in
           (x.0, (step_nodes g m x.0 ok (and_parts (has_step g m x.0) _ x.2).0).1, x.2, x.3, no_worse_at (rank_at g x.0) (rank_at g t) x.1 i.0 x.4 i.1 x.5);
     }
 

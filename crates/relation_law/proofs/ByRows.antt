@@ -22,5 +22,8 @@ lower_by_row v r g total p m lp lm = elim (cases_Bool (same_place v p m)) [
   | inr e ↦ and_left (r m p) (not (r p m)) (false_from_ne_true _ (λ f. both_ways _ e (eq-eqb _ _ (sym (g.closed m p f).0.place)))) ∙ sym (and_left (same_place v p m) (not (r p m)) e)
 ]
 
-pub number_by_row : (v : View) (r : ℕ → ℕ → Bool) → IsGreatest v r → IsTotal v r → (m : ℕ) → m < v.size → number_of v.size r m ≡ 100 + count_below v.size (λ p. is_first r p && (same_place v p m && not (r p m)))
-number_by_row v r g total m lm = ap (λ z. 100 + z) (count_alike v.size (λ p. is_first r p && is_lower r p m) (λ p. is_first r p && (same_place v p m && not (r p m))) (λ p lp. ap (λ z. is_first r p && z) (lower_by_row v r g total p m lp lm)))
+pub number_by_row : (v : View) (r : ℕ → ℕ → Bool) → IsGreatest v r → IsTotal v r → (m : ℕ) → m < v.size
+    → number_of v.size r m ≡ 100 + count_below v.size (λ p. is_first r p && (same_place v p m && not (r p m)))
+number_by_row v r g total m lm =
+    ap (λ z. 100 + z) (count_alike v.size (λ p. is_first r p && is_lower r p m) (λ p. is_first r p && (same_place v p m && not (r p m)))
+    (λ p lp. ap (λ z. is_first r p && z) (lower_by_row v r g total p m lp lm)))

@@ -50,7 +50,8 @@ IsWhole v reach = (a b : ℕ) → a < v.size → b < v.size → v.Leads a b → 
 
 module _ (v : View) (reach : ℕ → ℕ → Bool) (sound : IsSound v reach) where
   -- where the rules are met against a relation of which no pair has gone, none fails at a step
-  none_fails_at : (r gone : ℕ → ℕ → Bool) (m n t : ℕ) → m < v.size → t < v.size → Meets v r m n → ((a b : ℕ) → r a b ≡ true → gone a b ≡ false) → v.step n t ≡ true → fails_at v reach gone m t ≡ true → ⊥
+  none_fails_at : (r gone : ℕ → ℕ → Bool) (m n t : ℕ) → m < v.size → t < v.size → Meets v r m n → ((a b : ℕ) → r a b ≡ true → gone a b ≡ false)
+      → v.step n t ≡ true → fails_at v reach gone m t ≡ true → ⊥
   none_fails_at r gone m n t lm lt h left st e = elim (cases_Bool (v.hears t)) [
     | inl l ↦ (
         let none : is_heard_there v m t ≡ false = not-true _ (sym (fails_heard v reach gone m t l) ∙ e) in
@@ -102,7 +103,8 @@ module _ (v : View) (reach : ℕ → ℕ → Bool) (whole : IsWhole v reach) whe
       record {
         rank = λ c. elim (and_cases _ _ parts.0) [ inl e ↦ absurd (both_ways _ e c) | inr e ↦ not-false _ e ];
         step = λ t lt st.
-            let x : (s : ℕ) × (s < v.size) × ((steps_on v m s && (same_place v s t && not (gone s t))) ≡ true) = any_found v.size (λ s. steps_on v m s && (same_place v s t && not (gone s t))) (stepped t lt st).0 in
+            let x : (s : ℕ) × (s < v.size) × ((steps_on v m s && (same_place v s t && not (gone s t))) ≡ true) =
+            any_found v.size (λ s. steps_on v m s && (same_place v s t && not (gone s t))) (stepped t lt st).0 in
             let x1 = and_parts (steps_on v m x.0) _ x.2 in
             let x2 = and_parts (same_place v x.0 t) _ x1.1 in
             (x.0, x.1, x1.0, eqb-true _ _ x2.0, pair x.0 t x.1 lt (eqb-true _ _ x2.0) (not-true _ x2.1));
@@ -113,7 +115,8 @@ module _ (v : View) (reach : ℕ → ℕ → Bool) (whole : IsWhole v reach) whe
         listener = λ t lt st.
             let p = and_parts (v.step n t) (v.hears t) st in
             let f : is_heard_there v m t ≡ true = not-false _ (sym (fails_heard v reach gone m t p.1) ∙ at_step t lt p.0) in
-            let x : (s : ℕ) × (s < v.size) × ((is_heard v m s && (same_place v s t && no_worse (v.rank s) (v.rank t))) ≡ true) = any_found v.size (λ s. is_heard v m s && (same_place v s t && no_worse (v.rank s) (v.rank t))) f in
+            let x : (s : ℕ) × (s < v.size) × ((is_heard v m s && (same_place v s t && no_worse (v.rank s) (v.rank t))) ≡ true) =
+            any_found v.size (λ s. is_heard v m s && (same_place v s t && no_worse (v.rank s) (v.rank t))) f in
             let x1 = and_parts (is_heard v m x.0) _ x.2 in
             let x2 = and_parts (same_place v x.0 t) _ x1.1 in
             (x.0, x.1, x1.0, eqb-true _ _ x2.0, x2.1);
@@ -121,7 +124,8 @@ module _ (v : View) (reach : ℕ → ℕ → Bool) (whole : IsWhole v reach) whe
 
 -- Where a round takes nothing more away, what is left is the greatest closed relation, as long as a test that passes too often
 -- leaves what one that passes too seldom does.
-pub greatest_between : (v : View) (low high : ℕ → ℕ → Bool) (rounds : ℕ) → IsSound v low → IsWhole v high → IsSettled v high rounds → ((m n : ℕ) → left_after v low rounds m n ≡ left_after v high rounds m n)
+pub greatest_between : (v : View) (low high : ℕ → ℕ → Bool) (rounds : ℕ) → IsSound v low → IsWhole v high → IsSettled v high rounds
+    → ((m n : ℕ) → left_after v low rounds m n ≡ left_after v high rounds m n)
     → IsGreatest v (left_after v high rounds)
 greatest_between v low high rounds sound whole h same = record {
   closed = λ m n e.

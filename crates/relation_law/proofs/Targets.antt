@@ -22,8 +22,10 @@ module _ (v : View) (reach old new : ℕ → ℕ → Bool) (t : ℕ) (same : (a 
   -- so it fails alike for what has gone alike below it
   pub fails_alike : (m : ℕ) → fails_at v reach new m t ≡ fails_at v reach old m t
   fails_alike m =
-      let answers : has_answer v new m t ≡ has_answer v old m t = any_alike v.size (λ s. steps_on v m s && (same_place v s t && not (new s t))) (λ s. steps_on v m s && (same_place v s t && not (old s t))) (λ a la. ap (λ z. steps_on v m a && z) (at_place not a la)) in
-      let loops : is_looped v reach new m t ≡ is_looped v reach old m t = any_alike v.size (λ k. same_place v k t && (reach k m && new k t)) (λ k. same_place v k t && (reach k m && old k t)) (λ a la. at_place (λ z. reach a m && z) a la) in
+      let answers : has_answer v new m t ≡ has_answer v old m t = any_alike v.size (λ s. steps_on v m s && (same_place v s t && not (new s t)))
+      (λ s. steps_on v m s && (same_place v s t && not (old s t))) (λ a la. ap (λ z. steps_on v m a && z) (at_place not a la)) in
+      let loops : is_looped v reach new m t ≡ is_looped v reach old m t = any_alike v.size (λ k. same_place v k t && (reach k m && new k t))
+      (λ k. same_place v k t && (reach k m && old k t)) (λ a la. at_place (λ z. reach a m && z) a la) in
       elim (cases_Bool (v.hears t)) [
         | inl h ↦ fails_heard v reach new m t h ∙ sym (fails_heard v reach old m t h)
         | inr h ↦ fails_stepped v reach new m t h ∙ ap (λ z. not z || is_looped v reach new m t) answers ∙ ap (λ z. not (has_answer v old m t) || z) loops ∙ sym (fails_stepped v reach old m t h)
@@ -47,7 +49,9 @@ by_targets v reach rounds touched are m n left =
     ])
 
 -- what fails at a step asks what can be reached only from nodes that have gone below its target
-pub fails_by_either : (v : View) (one other gone : ℕ → ℕ → Bool) (m t : ℕ) → ((k : ℕ) → k < v.size → same_place v k t ≡ true → (one k m && gone k t) ≡ (other k m && gone k t)) → fails_at v one gone m t ≡ fails_at v other gone m t
+pub fails_by_either : (v : View) (one other gone : ℕ → ℕ → Bool) (m t : ℕ)
+    → ((k : ℕ) → k < v.size → same_place v k t ≡ true → (one k m && gone k t) ≡ (other k m && gone k t))
+    → fails_at v one gone m t ≡ fails_at v other gone m t
 fails_by_either v one other gone m t same = elim (cases_Bool (v.hears t)) [
   | inl h ↦ fails_heard v one gone m t h ∙ sym (fails_heard v other gone m t h)
   | inr h ↦ fails_stepped v one gone m t h

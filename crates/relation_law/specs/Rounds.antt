@@ -1,6 +1,5 @@
 -- The relation round by round: in each round the pairs go for which a rule fails against those that went before.
-use Rattle.std.specs.Prelude.{◌≡◌, ◌↔◌, ℕ, zero, suc, ◌<◌, Bool, false, not, ◌&&◌, ◌||◌, ◌==◌, IsTrue, nat_lt, if◌then◌else◌}
-use Rattle.std.specs.Prelude.{List}
+use Rattle.std.specs.Prelude.{◌≡◌, ◌↔◌, ℕ, zero, suc, ◌<◌, Bool, false, not, ◌&&◌, ◌||◌, ◌==◌, IsTrue, nat_lt, if◌then◌else◌, List}
 use Rattle.std.specs.List.{list_any}
 use Rattle.relation_law.specs.Views.{View}
 use Rattle.relation_law.specs.Relations.{Pair, no_worse, steps_on, is_heard}

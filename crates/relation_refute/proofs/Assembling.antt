@@ -68,7 +68,9 @@ module _ (g : PlainGraph) (claimed : LocSet) (ok : IsGraph g) (single : HasSingl
     second_place = eqb-true _ _ (and_parts (same_place (shown g) second first) (are_parted f.cells second first) second_low.1).0
 
     second_parted : (ltb 0 (round_in f.cells second first) ≡ true) × (ltb 0 (round_in f.cells first second) ≡ true)
-    second_parted = and_parts (ltb 0 (round_in f.cells second first)) (ltb 0 (round_in f.cells first second)) (and_parts (same_place (shown g) second first) (are_parted f.cells second first) second_low.1).1
+    second_parted =
+        and_parts (ltb 0 (round_in f.cells second first)) (ltb 0 (round_in f.cells first second))
+        (and_parts (same_place (shown g) second first) (are_parted f.cells second first) second_low.1).1
 
     pub the_pair : Pair W first second
     the_pair = record { left = inside; right = second_low.0; place = sym second_place }
@@ -85,7 +87,8 @@ module _ (g : PlainGraph) (claimed : LocSet) (ok : IsGraph g) (single : HasSingl
     none_before : (a b other : ℕ) → IsOpen W onwards a b other → IsEarlier (other, place_of g a, a, b) (f.last, place_of g first, first, second) → ⊥
     none_before a b other opened (inl less) =
         let le : other ≤ are.before = omega (arith, less, are.next) in
-        are.bound a b opened.pair (gone-later g claimed ok onwards (exact g claimed ok single f are) other are.before a b le opened.later.0) (gone-later g claimed ok onwards (exact g claimed ok single f are) other are.before b a le opened.later.1)
+        are.bound a b opened.pair (gone-later g claimed ok onwards (exact g claimed ok single f are) other are.before a b le opened.later.0)
+        (gone-later g claimed ok onwards (exact g claimed ok single f are) other are.before b a le opened.later.1)
     none_before a b other opened (inr (same, rest)) =
         let one = over_gone g claimed f are a b opened.pair (ap (λ z. gone_after W onwards z a b) (sym same) ∙ opened.later.0) in
         let two = over_gone g claimed f are b a (back g claimed f are a b opened.pair) (ap (λ z. gone_after W onwards z b a) (sym same) ∙ opened.later.1) in
@@ -93,7 +96,8 @@ module _ (g : PlainGraph) (claimed : LocSet) (ok : IsGraph g) (single : HasSingl
         let low = least b a (as_shown g claimed f are b a back_pair) (and_from _ _ two one) in
         by rest low one two
       where
-        by : (place_of g a < place_of g first) ⊎ (place_of g a ≡ place_of g first) × ((a < first) ⊎ (a ≡ first) × (b < second)) → (place_of g first < place_of g a) ⊎ (place_of g first ≡ place_of g a) × (first ≤ a) →
+        by : (place_of g a < place_of g first) ⊎ (place_of g a ≡ place_of g first) × ((a < first) ⊎ (a ≡ first) × (b < second))
+            → (place_of g first < place_of g a) ⊎ (place_of g first ≡ place_of g a) × (first ≤ a) →
             ltb 0 (round_in f.cells a b) ≡ true → ltb 0 (round_in f.cells b a) ≡ true → ⊥
         by (inl less) (inl more) one two = absurd (omega (arith, less, more))
         by (inl less) (inr more) one two = absurd (omega (arith, less, more.0))
@@ -153,7 +157,8 @@ module _ (g : PlainGraph) (claimed : LocSet) (ok : IsGraph g) (single : HasSingl
             let both : Some told.0 ≡ Some r = sym told.1 ∙ is.1 in
             let same : told.0 ≡ r = cc in
             let mine = (each l.0 (is.0, l.1)).1 in
-            let need : IsNeeded W onwards first second told.0.better told.0.worse = subst (λ x. IsNeeded W onwards first second x told.0.worse) (sym told.2) (subst (IsNeeded W onwards first second l.0.better) (sym told.3) (needed l.0.better l.0.worse mine)) in
+            let need : IsNeeded W onwards first second told.0.better told.0.worse = subst (λ x. IsNeeded W onwards first second x told.0.worse)
+            (sym told.2) (subst (IsNeeded W onwards first second l.0.better) (sym told.3) (needed l.0.better l.0.worse mine)) in
             subst (λ (x : Removed). IsNeeded W onwards first second x.better x.worse × Goes W onwards x.better x.worse x.round x.why) same (need, told.5);
         all = λ a b need.
             let l = all a b (led a b need) in
@@ -163,11 +168,14 @@ module _ (g : PlainGraph) (claimed : LocSet) (ok : IsGraph g) (single : HasSingl
             let one = line_of i k at in
             let two = line_of (suc i) l next in
             let less = line_earlier one.0 two.0 (lines_ascend lines sorted i one.0 two.0 one.1 two.1) in
-            subst (λ x. IsEarlier x (key_of W l)) (sym (key_is i one.0 k one.1 at)) (subst (IsEarlier (one.0.round, one.0.router, one.0.better, one.0.worse)) (sym (key_is (suc i) two.0 l two.1 next)) less);
+            subst (λ x. IsEarlier x (key_of W l)) (sym (key_is i one.0 k one.1 at))
+            (subst (IsEarlier (one.0.round, one.0.router, one.0.better, one.0.worse)) (sym (key_is (suc i) two.0 l two.1 next)) less);
       }
 
 -- the first node is the one that was found
-pub first_found : (g : PlainGraph) (p : ℕ → ℕ → Bool) (first : ℕ) (o : Option ℕ) → o ≡ Some first → ((m n : ℕ) → Pair (shown g) m n → p m n ≡ true → (f : ℕ) × (o ≡ Some f) × ((place_of g f < place_of g n) ⊎ (place_of g f ≡ place_of g n) × (f ≤ n))) →
+pub first_found : (g : PlainGraph) (p : ℕ → ℕ → Bool) (first : ℕ) (o : Option ℕ) → o ≡ Some first
+    → ((m n : ℕ) → Pair (shown g) m n → p m n ≡ true
+    → (f : ℕ) × (o ≡ Some f) × ((place_of g f < place_of g n) ⊎ (place_of g f ≡ place_of g n) × (f ≤ n))) →
     (m n : ℕ) → Pair (shown g) m n → p m n ≡ true → (place_of g first < place_of g n) ⊎ (place_of g first ≡ place_of g n) × (first ≤ n)
 first_found g p first o is h m n pair passes =
     let x = h m n pair passes in
@@ -184,7 +192,8 @@ module _ (g : PlainGraph) (claimed : LocSet) (f : Fallen) (first second : ℕ) (
   To m n a b = Led U (has_at f.onwards) m n a b
 
   module _ (same : (l : Line) → IsIn lines l ↔ IsIn two l) (kept : (l : Line) → IsIn one l → IsIn two l) where
-    pub gathered_each : ((l : Line) → IsIn one l → IsIn start l ⊎ IsLineOf g claimed f l × To first second l.better l.worse) → ((l : Line) → IsIn two l → IsIn one l ⊎ IsLineOf g claimed f l × To second first l.better l.worse) →
+    pub gathered_each : ((l : Line) → IsIn one l → IsIn start l ⊎ IsLineOf g claimed f l × To first second l.better l.worse)
+        → ((l : Line) → IsIn two l → IsIn one l ⊎ IsLineOf g claimed f l × To second first l.better l.worse) →
         (l : Line) → IsIn lines l → IsLineOf g claimed f l × (To first second l.better l.worse ⊎ To second first l.better l.worse)
     gathered_each each_one each_two l is = elim (each_two l ((same l).0 is)) [
       | inl before ↦ elim (each_one l before) [
@@ -197,14 +206,16 @@ module _ (g : PlainGraph) (claimed : LocSet) (f : Fallen) (first second : ℕ) (
         no_item : (l : Line) → IsIn [] l → ⊥
         no_item l (i, at) = absurd (cc)
 
-    pub gathered_all : ((a b : ℕ) → To first second a b → (l : Line) × IsIn one l × (l.better ≡ a) × (l.worse ≡ b)) → ((a b : ℕ) → To second first a b → (l : Line) × IsIn two l × (l.better ≡ a) × (l.worse ≡ b)) →
+    pub gathered_all : ((a b : ℕ) → To first second a b → (l : Line) × IsIn one l × (l.better ≡ a) × (l.worse ≡ b))
+        → ((a b : ℕ) → To second first a b → (l : Line) × IsIn two l × (l.better ≡ a) × (l.worse ≡ b)) →
         (a b : ℕ) → To first second a b ⊎ To second first a b → (l : Line) × IsIn lines l × (l.better ≡ a) × (l.worse ≡ b)
     gathered_all all_one all_two a b (inl led) = (let x = all_one a b led in (x.0, (same x.0).1 (kept x.0 x.1), x.2, x.3))
     gathered_all all_one all_two a b (inr led) = (let x = all_two a b led in (x.0, (same x.0).1 x.1, x.2, x.3))
 
 -- ---- the pair that was found
 
-module _ (g : PlainGraph) (claimed : LocSet) (ok : IsGraph g) (single : HasSingleSteps g) (f : Fallen) (are : IsFallen g claimed f) (first second : ℕ) (o q : Option ℕ) (o_is : o ≡ Some first) (q_is : q ≡ Some second)
+module _ (g : PlainGraph) (claimed : LocSet) (ok : IsGraph g) (single : HasSingleSteps g) (f : Fallen) (are : IsFallen g claimed f) (first second : ℕ)
+    (o q : Option ℕ) (o_is : o ≡ Some first) (q_is : q ≡ Some second)
     (some : IfSome o (λ n. (n < length g.nodes) × ((m : ℕ) × Pair (shown g) m n × (are_parted f.cells m n ≡ true))))
     (firsts : (m n : ℕ) → Pair (shown g) m n → are_parted f.cells m n ≡ true → (k : ℕ) × (o ≡ Some k) × ((place_of g k < place_of g n) ⊎ (place_of g k ≡ place_of g n) × (k ≤ n)))
     (least : q ≡ least_below (length g.nodes) (λ m. same_place (shown g) m first && are_parted f.cells m first)) where
@@ -218,7 +229,11 @@ module _ (g : PlainGraph) (claimed : LocSet) (ok : IsGraph g) (single : HasSingl
   went_found = both_went g claimed ok single f are first second inside (first_found g (are_parted f.cells) first o o_is firsts) (sym least ∙ q_is)
 
   pub all_found : (lines : List Line) (removed : List Removed) → IsStrictlySortedBy line_order lines → AreLinesOf (view_of g claimed) (has_at f.onwards) lines removed
-      → ((l : Line) → IsIn lines l → IsLineOf g claimed f l × (Led (view_of g claimed) (has_at f.onwards) first second l.better l.worse ⊎ Led (view_of g claimed) (has_at f.onwards) second first l.better l.worse))
-      → ((a b : ℕ) → Led (view_of g claimed) (has_at f.onwards) first second a b ⊎ Led (view_of g claimed) (has_at f.onwards) second first a b → (l : Line) × IsIn lines l × (l.better ≡ a) × (l.worse ≡ b))
+      → ((l : Line) → IsIn lines l
+      → IsLineOf g claimed f l
+      × (Led (view_of g claimed) (has_at f.onwards) first second l.better l.worse
+      ⊎ Led (view_of g claimed) (has_at f.onwards) second first l.better l.worse))
+      → ((a b : ℕ) → Led (view_of g claimed) (has_at f.onwards) first second a b ⊎ Led (view_of g claimed) (has_at f.onwards) second first a b
+      → (l : Line) × IsIn lines l × (l.better ≡ a) × (l.worse ≡ b))
       → IsRefutation (view_of g claimed) (has_at f.onwards) first second removed
   all_found = assembled g claimed ok single f are first second inside (first_found g (are_parted f.cells) first o o_is firsts) (sym least ∙ q_is)

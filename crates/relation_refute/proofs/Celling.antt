@@ -55,18 +55,21 @@ spots_more place spots new node count len is here before m lt = ap (λ l. get_or
   | inr t ↦ (let same : node ≡ m = omega (arith, lt, t) in get_or_at spots count [] 0 m (len ∙ same) ∙ here ∙ ap (λ k. count_below k (λ j. eqb (place j) (place k))) same)
 ]
 
-pub counts_more : (place : ℕ → ℕ) (counts : List ℕ) (node at count : ℕ) → at ≡ place node → at < length counts → count ≡ get_or counts at 0 → ((k : ℕ) → k < length counts → get_or counts k 0 ≡ count_below node (λ n. eqb (place n) k)) →
+pub counts_more : (place : ℕ → ℕ) (counts : List ℕ) (node at count : ℕ) → at ≡ place node → at < length counts → count ≡ get_or counts at 0
+    → ((k : ℕ) → k < length counts → get_or counts k 0 ≡ count_below node (λ n. eqb (place n) k)) →
     (k : ℕ) → k < length counts → get_or (set counts at (count + 1)) k 0 ≡ count_below (node + 1) (λ n. eqb (place n) k)
 counts_more place counts node at count is lt read before k lk = elim (cases_eq k at) [
   | inl e ↦ (
       let was : count ≡ count_below node (λ n. eqb (place n) k) = read ∙ ap (λ j. get_or counts j 0) (sym e) ∙ before k lk in
-      ap (λ j. get_or (set counts at (count + 1)) j 0) e ∙ get_or-set_same counts at (count + 1) 0 lt ∙ ap (λ z. z + 1) was ∙ sym (count_step node (λ n. eqb (place n) k) (eq-eqb _ _ (sym is ∙ sym e))))
+      ap (λ j. get_or (set counts at (count + 1)) j 0) e ∙ get_or-set_same counts at (count + 1) 0 lt ∙ ap (λ z. z + 1) was
+      ∙ sym (count_step node (λ n. eqb (place n) k) (eq-eqb _ _ (sym is ∙ sym e))))
   | inr ne ↦ get_or-set_other counts at k (count + 1) 0 ne ∙ before k lk ∙ sym (count_still node (λ n. eqb (place n) k) (ne_eqb _ _ (λ e. ne (sym (is ∙ e)))))
 ]
 
 -- ---- blocks
 
-pub rooms_more : (room : ℕ → ℕ) (bases new : List ℕ) (node end next : ℕ) → length bases ≡ node → new ≡ bases ++ end ∷ [] → next ≡ end + room node → ((n : ℕ) → n < node → get_or bases n 0 + room n ≤ end) →
+pub rooms_more : (room : ℕ → ℕ) (bases new : List ℕ) (node end next : ℕ) → length bases ≡ node → new ≡ bases ++ end ∷ [] → next ≡ end + room node
+    → ((n : ℕ) → n < node → get_or bases n 0 + room n ≤ end) →
     (n : ℕ) → n < node + 1 → get_or new n 0 + room n ≤ next
 rooms_more room bases new node end next len is step before n lt = elim (cases_lt n node) [
   | inl t ↦ (
@@ -80,7 +83,8 @@ rooms_more room bases new node end next len is step before n lt = elim (cases_lt
       omega (arith, same, rooms, step))
 ]
 
-pub blocks_more : (room : ℕ → ℕ) (bases new : List ℕ) (node end : ℕ) → length bases ≡ node → new ≡ bases ++ end ∷ [] → ((n : ℕ) → n < node → get_or bases n 0 + room n ≤ end) → ((a b : ℕ) → a < b → b < node → get_or bases a 0 + room a ≤ get_or bases b 0) →
+pub blocks_more : (room : ℕ → ℕ) (bases new : List ℕ) (node end : ℕ) → length bases ≡ node → new ≡ bases ++ end ∷ []
+    → ((n : ℕ) → n < node → get_or bases n 0 + room n ≤ end) → ((a b : ℕ) → a < b → b < node → get_or bases a 0 + room a ≤ get_or bases b 0) →
     (a b : ℕ) → a < b → b < node + 1 → get_or new a 0 + room a ≤ get_or new b 0
 blocks_more room bases new node end len is rooms before a b less lt =
     let first : get_or new a 0 ≡ get_or bases a 0 = ap (λ l. get_or l a 0) is ∙ get_or_append_left bases (end ∷ []) 0 a (omega (arith, less, lt, len)) in
@@ -97,7 +101,8 @@ blocks_more room bases new node end len is rooms before a b less lt =
     ]
 
 module _ (g : PlainGraph) (c : Cells) (end : ℕ) (spots : (m : ℕ) → m < length g.nodes → get_or c.spots.items m 0 ≡ spot_of g m)
-    (rooms : (n : ℕ) → n < length g.nodes → get_or c.bases.items n 0 + room_at g (place_of g n) ≤ end) (blocks : (a b : ℕ) → a < b → b < length g.nodes → get_or c.bases.items a 0 + room_at g (place_of g a) ≤ get_or c.bases.items b 0) where
+    (rooms : (n : ℕ) → n < length g.nodes → get_or c.bases.items n 0 + room_at g (place_of g n) ≤ end)
+    (blocks : (a b : ℕ) → a < b → b < length g.nodes → get_or c.bases.items a 0 + room_at g (place_of g a) ≤ get_or c.bases.items b 0) where
   roomy : (m n : ℕ) → Pair (shown g) m n → get_or c.spots.items m 0 < room_at g (place_of g n)
   roomy m n pair =
       let is = spots m pair.left in
@@ -205,13 +210,15 @@ module _ (g : PlainGraph) (c : Cells) (are : AreCells g c) (init now nodes : Lis
       ]
 
 -- a node that is listed and the one at whose location
-pub pair_at : (g : PlainGraph) (nodes : List ℕ) (i n : ℕ) → i < length nodes → n < length g.nodes → get_or nodes i 0 < length g.nodes → ((m : ℕ) → m < length g.nodes → is_among nodes m ≡ eqb (place_of g m) (place_of g n)) → Pair (shown g) (get_or nodes i 0) n
+pub pair_at : (g : PlainGraph) (nodes : List ℕ) (i n : ℕ) → i < length nodes → n < length g.nodes → get_or nodes i 0 < length g.nodes
+    → ((m : ℕ) → m < length g.nodes → is_among nodes m ≡ eqb (place_of g m) (place_of g n)) → Pair (shown g) (get_or nodes i 0) n
 pair_at g nodes i n lt ln ls members =
     let s : ℕ = get_or nodes i 0 in
     record { left = ls; right = ln; place = eqb-true _ _ (sym (members s ls) ∙ list_any_at (λ x. eqb x s) nodes i 0 lt (eq-eqb s s refl)) }
 
 -- the cell that is read
-pub cell_is : (c now : Cells) (s n x y : ℕ) → now.spots.items ≡ c.spots.items → now.bases.items ≡ c.bases.items → s < length c.spots.items → n < length c.bases.items → x ≡ get_or now.spots.items s x → y ≡ get_or now.bases.items n y →
+pub cell_is : (c now : Cells) (s n x y : ℕ) → now.spots.items ≡ c.spots.items → now.bases.items ≡ c.bases.items → s < length c.spots.items
+    → n < length c.bases.items → x ≡ get_or now.spots.items s x → y ≡ get_or now.bases.items n y →
     x + y ≡ cell_at c s n
 cell_is c now s n x y spots bases ls ln one other =
     let len : length now.spots.items ≡ length c.spots.items = ap length spots in

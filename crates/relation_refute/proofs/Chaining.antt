@@ -60,7 +60,8 @@ module _ (g : PlainGraph) (claimed : LocSet) (ok : IsGraph g) (single : HasSingl
   fails_told zero m n p over is = absurd (omega (arith, over))
   fails_told (suc before) m n p over is =
       let most = are.tells.most m n p in
-      fails_alike g claimed ok single reach reach exact exact (went f (suc before)) (gone_after V reach before) (λ s t q. went_is before s t (omega (arith, is, most)) q) m n p.left ∙ fell before m n p is
+      fails_alike g claimed ok single reach reach exact exact (went f (suc before)) (gone_after V reach before)
+      (λ s t q. went_is before s t (omega (arith, is, most)) q) m n p.left ∙ fell before m n p is
 
   pub goes_told : (round m n : ℕ) (why : Why) → Pair V m n → 0 < round → round ≡ round_in f.cells m n → IsReason V reach (went f round) m n why → Goes V reach m n round why
   goes_told zero m n why p over is reason = absurd (omega (arith, over))
@@ -72,11 +73,14 @@ module _ (g : PlainGraph) (claimed : LocSet) (ok : IsGraph g) (single : HasSingl
         next = refl;
         stayed = stayed before m n p is;
         fell = fell before m n p is;
-        reason = reasons_alike g claimed ok single reach reach exact exact (went f (suc before)) (gone_after V reach before) (λ s t q. went_is before s t (omega (arith, is, most)) q) m n why p.left reason;
+        reason =
+            reasons_alike g claimed ok single reach reach exact exact (went f (suc before)) (gone_after V reach before)
+            (λ s t q. went_is before s t (omega (arith, is, most)) q) m n why p.left reason;
       }
 
   -- the pair on which a reason rests went in an earlier round
-  pub earlier_round : (m n round a b : ℕ) (why : Why) (goes : Goes V reach m n round why) → round ≡ round_in f.cells m n → Rests V m n why a b → Pair V a b × (0 < round_in f.cells a b) × (round_in f.cells a b < round)
+  pub earlier_round : (m n round a b : ℕ) (why : Why) (goes : Goes V reach m n round why) → round ≡ round_in f.cells m n → Rests V m n why a b
+      → Pair V a b × (0 < round_in f.cells a b) × (round_in f.cells a b < round)
   earlier_round m n round a b why goes is rests =
       let most = are.tells.most m n goes.pair in
       let x = rests_earlier g claimed ok single reach exact m n round a b why goes rests in

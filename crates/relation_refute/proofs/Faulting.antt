@@ -114,12 +114,15 @@ module _ (g : PlainGraph) (m n t : ℕ) (st : has_step g n t ≡ true) (l : is_l
 
 -- ---- a pair for which a rule fails, and not that of the ranks, has a step at which there is a reason
 
-pub some_fails : (g : PlainGraph) (claimed : LocSet) (ok : IsGraph g) (reach gone : ℕ → ℕ → Bool) (m n : ℕ) → fails (view_of g claimed) reach gone m n ≡ true → is_outranked (view_of g claimed) m n ≡ false →
+pub some_fails : (g : PlainGraph) (claimed : LocSet) (ok : IsGraph g) (reach gone : ℕ → ℕ → Bool) (m n : ℕ)
+    → fails (view_of g claimed) reach gone m n ≡ true → is_outranked (view_of g claimed) m n ≡ false →
     ((t : ℕ) → has_step g n t ≡ true → is_some (reason_at (shown g) reach gone m t) ≡ false) → ⊥
-some_fails g claimed ok reach gone m n h off none = elim (or_cases (is_outranked (view_of g claimed) m n) (any_below (length g.nodes) (λ t. has_step g n t && fails_at (view_of g claimed) reach gone m t)) h) [
-  | inl e ↦ both_ways _ off e
-  | inr e ↦ (
-      let x = any_found (length g.nodes) (λ t. has_step g n t && fails_at (view_of g claimed) reach gone m t) e in
-      let parts = and_parts (has_step g n x.0) (fails_at (view_of g claimed) reach gone m x.0) x.2 in
-      both_ways _ (none x.0 parts.0) (reason_where_failing g claimed ok reach gone m x.0 ∙ parts.1))
-]
+some_fails g claimed ok reach gone m n h off none =
+    elim (or_cases (is_outranked (view_of g claimed) m n)
+    (any_below (length g.nodes) (λ t. has_step g n t && fails_at (view_of g claimed) reach gone m t)) h) [
+      | inl e ↦ both_ways _ off e
+      | inr e ↦ (
+          let x = any_found (length g.nodes) (λ t. has_step g n t && fails_at (view_of g claimed) reach gone m t) e in
+          let parts = and_parts (has_step g n x.0) (fails_at (view_of g claimed) reach gone m x.0) x.2 in
+          both_ways _ (none x.0 parts.0) (reason_where_failing g claimed ok reach gone m x.0 ∙ parts.1))
+    ]

@@ -77,9 +77,13 @@ module _ (v : View) (reach : ℕ → ℕ → Bool) (lines : List Line) where
   pub record AreReasoned (count : ℕ) (removed : List Removed) : Type 0 where
     pub within : count ≤ length lines
     pub len : length removed ≡ count
-    pub each : (i : ℕ) (l : Line) → i < count → slice_get lines i ≡ Some l → (r : Removed) × (slice_get removed i ≡ Some r) × (r.better ≡ l.better) × (r.worse ≡ l.worse) × (r.round ≡ l.round) × Goes v reach r.better r.worse r.round r.why
+    pub each : (i : ℕ) (l : Line) → i < count → slice_get lines i ≡ Some l
+        → (r : Removed) × (slice_get removed i ≡ Some r) × (r.better ≡ l.better) × (r.worse ≡ l.worse) × (r.round ≡ l.round)
+        × Goes v reach r.better r.worse r.round r.why
 
-  pub reasoned_more : (count : ℕ) (removed new : List Removed) (l : Line) (r : Removed) → AreReasoned count removed → slice_get lines count ≡ Some l → new ≡ removed ++ r ∷ [] → r.better ≡ l.better → r.worse ≡ l.worse → r.round ≡ l.round → Goes v reach r.better r.worse r.round r.why → AreReasoned (count + 1) new
+  pub reasoned_more : (count : ℕ) (removed new : List Removed) (l : Line) (r : Removed) → AreReasoned count removed → slice_get lines count ≡ Some l
+      → new ≡ removed ++ r ∷ [] → r.better ≡ l.better → r.worse ≡ l.worse → r.round ≡ l.round → Goes v reach r.better r.worse r.round r.why
+      → AreReasoned (count + 1) new
   reasoned_more count removed new l r are at pushed better worse round goes = record {
     within = (let inside = slice_get_within lines count l at in omega (arith, inside));
     len = ap length pushed ∙ length_push removed r ∙ ap (λ z. z + 1) are.len;
@@ -92,8 +96,14 @@ module _ (v : View) (reach : ℕ → ℕ → Bool) (lines : List Line) where
           let last : count ≡ i = omega (arith, lt, t) in
           let both : Some l ≡ Some k = sym at ∙ ap (slice_get lines) last ∙ here in
           let same : l ≡ k = cc in
-          let len : length removed ≡ i = are.len ∙ last in
-          (r, ap (λ xs. slice_get xs i) pushed ∙ ap (slice_get (removed ++ r ∷ [])) (sym len) ∙ slice_get-there removed r [], better ∙ ap (λ (z : Line). z.better) same, worse ∙ ap (λ (z : Line). z.worse) same, round ∙ ap (λ (z : Line). z.round) same, goes))
+          let len : length removed ≡ i = are.len ∙ last in (
+            r,
+            ap (λ xs. slice_get xs i) pushed ∙ ap (slice_get (removed ++ r ∷ [])) (sym len) ∙ slice_get-there removed r [],
+            better ∙ ap (λ (z : Line). z.better) same,
+            worse ∙ ap (λ (z : Line). z.worse) same,
+            round ∙ ap (λ (z : Line). z.round) same,
+            goes,
+          ))
     ];
   }
 

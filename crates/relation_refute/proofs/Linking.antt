@@ -39,11 +39,15 @@ module _ (g : PlainGraph) (claimed : LocSet) (ok : IsGraph g) (single : HasSingl
   linked_first p over = record {
     kept = λ l is. is;
     each = λ l is. inl is;
-    onward = λ x e. (let same : (m, n) ≡ x = cc in subst (λ (y : ℕ × ℕ). Pair V y.0 y.1 × (0 < round_in f.cells y.0 y.1) × Led V reach m n y.0 y.1) same (p, over, led_here g claimed ok single f are m n));
+    onward =
+        λ x e. (let same : (m, n) ≡ x = cc in
+        subst (λ (y : ℕ × ℕ). Pair V y.0 y.1 × (0 < round_in f.cells y.0 y.1) × Led V reach m n y.0 y.1) same
+        (p, over, led_here g claimed ok single f are m n));
     all = λ a b led. inr ((m, n), refl, led);
   }
 
-  module _ (now new : List Line) (c d : ℕ) (linked : IsLinked g claimed f m n old now (Some (c, d))) (l : Line) (pushed : new ≡ now ++ l ∷ []) (is : IsLineOf g claimed f l) (better : l.better ≡ c) (worse : l.worse ≡ d)
+  module _ (now new : List Line) (c d : ℕ) (linked : IsLinked g claimed f m n old now (Some (c, d))) (l : Line) (pushed : new ≡ now ++ l ∷ [])
+      (is : IsLineOf g claimed f l) (better : l.better ≡ c) (worse : l.worse ≡ d)
       (fault : Fault) (goes : Goes V reach c d (round_in f.cells c d) fault.why) (rests : RestsOn V c d fault) where
     here : Led V reach m n c d
     here = (linked.onward (c, d) refl).2
@@ -57,7 +61,8 @@ module _ (g : PlainGraph) (claimed : LocSet) (ok : IsGraph g) (single : HasSingl
       | inr x ↦ by fault.rests refl x.0 x.1 x.2 x.3
     ]
       where
-        by : (o : Option (ℕ × ℕ)) → fault.rests ≡ o → (x y : ℕ) → Rests V c d fault.why x y → Led V reach x y a b → ((k : Line) × IsIn new k × (k.better ≡ a) × (k.worse ≡ b)) ⊎ ((x : ℕ × ℕ) × (fault.rests ≡ Some x) × Led V reach x.0 x.1 a b)
+        by : (o : Option (ℕ × ℕ)) → fault.rests ≡ o → (x y : ℕ) → Rests V c d fault.why x y → Led V reach x y a b
+            → ((k : Line) × IsIn new k × (k.better ≡ a) × (k.worse ≡ b)) ⊎ ((x : ℕ × ℕ) × (fault.rests ≡ Some x) × Led V reach x.0 x.1 a b)
         by None e x y r more = absurd (subst (λ (o : Option (ℕ × ℕ)). IfNone o ((a b : ℕ) → Rests V c d fault.why a b → ⊥)) e rests.none x y r)
         by (Some z) e x y r more =
             let same = rests_one g claimed ok single c d x y z.0 z.1 fault.why r (rests_some z e) in
@@ -68,7 +73,9 @@ module _ (g : PlainGraph) (claimed : LocSet) (ok : IsGraph g) (single : HasSingl
       kept = λ k was. subst (λ (ks : List Line). IsIn ks k) (sym pushed) (IsIn-append_left now (l ∷ []) k (linked.kept k was));
       each = λ k in_new. elim (IsIn-push_cases now l k (subst (λ (ks : List Line). IsIn ks k) pushed in_new)) [
         | inl t ↦ linked.each k t
-        | inr same ↦ inr (subst (λ (z : Line). IsLineOf g claimed f z × Led V reach m n z.better z.worse) same (is, subst (λ u. Led V reach m n u l.worse) (sym better) (subst (Led V reach m n c) (sym worse) here)))
+        | inr same ↦
+            inr (subst (λ (z : Line). IsLineOf g claimed f z × Led V reach m n z.better z.worse) same
+            (is, subst (λ u. Led V reach m n u l.worse) (sym better) (subst (Led V reach m n c) (sym worse) here)))
       ];
       onward = λ x e. (
           let r = rests_some x e in
@@ -83,17 +90,20 @@ module _ (g : PlainGraph) (claimed : LocSet) (ok : IsGraph g) (single : HasSingl
     }
 
 -- the round falls from one pair to the next
-pub falls_to : (g : PlainGraph) (claimed : LocSet) (ok : IsGraph g) (single : HasSingleSteps g) (f : Fallen) (are : IsFallen g claimed f) (c d : ℕ) (fault : Fault) → Goes (view_of g claimed) (has_at f.onwards) c d (round_in f.cells c d) fault.why
+pub falls_to : (g : PlainGraph) (claimed : LocSet) (ok : IsGraph g) (single : HasSingleSteps g) (f : Fallen) (are : IsFallen g claimed f) (c d : ℕ)
+    (fault : Fault) → Goes (view_of g claimed) (has_at f.onwards) c d (round_in f.cells c d) fault.why
     → RestsOn (view_of g claimed) c d fault → (x : ℕ × ℕ) → fault.rests ≡ Some x → round_in f.cells x.0 x.1 < round_in f.cells c d
 falls_to g claimed ok single f are c d fault goes rests x e =
-    (earlier_round g claimed ok single f are c d (round_in f.cells c d) x.0 x.1 fault.why goes refl (subst (λ (o : Option (ℕ × ℕ)). IfSome o (λ x. Rests (view_of g claimed) c d fault.why x.0 x.1)) e rests.some)).2
+    (earlier_round g claimed ok single f are c d (round_in f.cells c d) x.0 x.1 fault.why goes refl
+    (subst (λ (o : Option (ℕ × ℕ)). IfSome o (λ x. Rests (view_of g claimed) c d fault.why x.0 x.1)) e rests.some)).2
 
 pub chain_falls : (round : ℕ → ℕ → ℕ) (o : Option (ℕ × ℕ)) (r : ℕ) → 0 < r → ((x : ℕ × ℕ) → o ≡ Some x → round x.0 x.1 < r) → option_map_or (λ (x : ℕ × ℕ). round x.0 x.1) o 0 < r
 chain_falls round None r over falls = over
 chain_falls round (Some x) r over falls = falls x refl
 
 -- where the chain ends, each pair to which it leads has a line
-pub linked_all : (g : PlainGraph) (claimed : LocSet) (f : Fallen) (m n : ℕ) (old now : List Line) → IsLinked g claimed f m n old now None → (a b : ℕ) → Led (view_of g claimed) (has_at f.onwards) m n a b → (l : Line) × IsIn now l × (l.better ≡ a) × (l.worse ≡ b)
+pub linked_all : (g : PlainGraph) (claimed : LocSet) (f : Fallen) (m n : ℕ) (old now : List Line) → IsLinked g claimed f m n old now None → (a b : ℕ)
+    → Led (view_of g claimed) (has_at f.onwards) m n a b → (l : Line) × IsIn now l × (l.better ≡ a) × (l.worse ≡ b)
 linked_all g claimed f m n old now linked a b led = elim (linked.all a b led) [
   | inl t ↦ t
   | inr x ↦ absurd (none-some x.0 x.1)

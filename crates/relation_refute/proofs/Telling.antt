@@ -40,7 +40,9 @@ module _ (v : View) (reach : ℕ → ℕ → Bool) (k : ℕ) (old new : ℕ → 
       let is : new m n ≡ suc k = step m n p ∙ cond-true (eqb (old m n) 0 && gone_after v reach (suc k) m n) (suc k) (old m n) (and_from _ _ (eq-eqb (old m n) 0 none) e) in (
         omega (arith, is),
         λ r le. elim (cases_lt r (suc k)) [
-          | inl t ↦ tells.gone m n r p (omega (arith, t)) ∙ and_left (ltb 0 (old m n)) (leb (old m n) r) (le-ltb 0 (old m n) (omega (arith, none))) ∙ sym (and_right (ltb 0 (new m n)) (leb (new m n) r) (beyond (new m n) r (omega (arith, is, t))))
+          | inl t ↦
+              tells.gone m n r p (omega (arith, t)) ∙ and_left (ltb 0 (old m n)) (leb (old m n) r) (le-ltb 0 (old m n) (omega (arith, none)))
+              ∙ sym (and_right (ltb 0 (new m n)) (leb (new m n) r) (beyond (new m n) r (omega (arith, is, t))))
           | inr t ↦ (
               let last : r ≡ suc k = omega (arith, le, t) in
               ap (λ j. gone_after v reach j m n) last ∙ e ∙ sym (and_from _ _ (lt-ltb 0 (new m n) (omega (arith, is))) (le-leb (new m n) r (omega (arith, is, last)))))
@@ -54,7 +56,9 @@ module _ (v : View) (reach : ℕ → ℕ → Bool) (k : ℕ) (old new : ℕ → 
       let clear : ltb 0 (new m n) ≡ false = le-ltb 0 (new m n) (omega (arith, is, none)) in (
         omega (arith, is, none),
         λ r le. elim (cases_lt r (suc k)) [
-          | inl t ↦ tells.gone m n r p (omega (arith, t)) ∙ and_left (ltb 0 (old m n)) (leb (old m n) r) (le-ltb 0 (old m n) (omega (arith, none))) ∙ sym (and_left (ltb 0 (new m n)) (leb (new m n) r) clear)
+          | inl t ↦
+              tells.gone m n r p (omega (arith, t)) ∙ and_left (ltb 0 (old m n)) (leb (old m n) r) (le-ltb 0 (old m n) (omega (arith, none)))
+              ∙ sym (and_left (ltb 0 (new m n)) (leb (new m n) r) clear)
           | inr t ↦ (
               let last : r ≡ suc k = omega (arith, le, t) in
               ap (λ j. gone_after v reach j m n) last ∙ e ∙ sym (and_left (ltb 0 (new m n)) (leb (new m n) r) clear))
@@ -111,7 +115,8 @@ module _ (g : PlainGraph) (claimed : LocSet) (reach : ℕ → ℕ → Bool) wher
             let went : gone_after V reach (suc k) m n ≡ gone_after V reach k m n = sym (not-not _) ∙ ap not same ∙ not-not _ in
             marked m n pair ∙ cond-false (is_touched touched n) _ _ e ∙ elim (cases_eq (old m n) 0) [
               | inl none ↦ (
-                  let still : gone_after V reach (suc k) m n ≡ false = went ∙ tells.gone m n k p (omega arith) ∙ and_left (ltb 0 (old m n)) (leb (old m n) k) (le-ltb 0 (old m n) (omega (arith, none))) in
+                  let still : gone_after V reach (suc k) m n ≡ false = went ∙ tells.gone m n k p (omega arith)
+                  ∙ and_left (ltb 0 (old m n)) (leb (old m n) k) (le-ltb 0 (old m n) (omega (arith, none))) in
                   sym (cond-false (eqb (old m n) 0 && gone_after V reach (suc k) m n) (suc k) (old m n) (and_right _ _ still)))
               | inr some ↦ sym (cond-false (eqb (old m n) 0 && gone_after V reach (suc k) m n) (suc k) (old m n) (and_left _ _ (ne_eqb (old m n) 0 some)))
             ])
@@ -148,10 +153,21 @@ pub record HasCome (g : PlainGraph) (claimed : LocSet) (onwards : PlainRows) (la
   pub bound : is_open ≡ false → AreBound g s.left
   pub stopped : is_open ≡ true → HasStopped (view_of g claimed) (has_at onwards) last
 
-pub open_stops : (g : PlainGraph) (claimed : LocSet) (reach : ℕ → ℕ → Bool) (k last : ℕ) (old left next : PlainRows) (touched : ℕ → Bool) → last ≡ suc k → AreLeft (view_of g claimed) reach k old → AreBound g old →
+pub open_stops : (g : PlainGraph) (claimed : LocSet) (reach : ℕ → ℕ → Bool) (k last : ℕ) (old left next : PlainRows) (touched : ℕ → Bool)
+    → last ≡ suc k → AreLeft (view_of g claimed) reach k old → AreBound g old →
     AtRound (view_of g claimed) reach last left next touched → (m n : ℕ) → IsOpen g left m n → HasStopped (view_of g claimed) reach last
 open_stops g claimed reach k last old left next touched is before bound at m n are =
     let pair : Pair (view_of g claimed) m n = record { left = are.one; right = are.other; place = are.place } in
     let back : Pair (view_of g claimed) n m = record { left = are.other; right = are.one; place = sym are.place } in
-    let clear = or_parts (has_at left n m) (has_at left m n) are.neither in
-    (k, is, bound_gone g claimed reach k old before bound, (m, n, pair, gone_where_clear g claimed reach last left next touched at m n pair clear.0, gone_where_clear g claimed reach last left next touched at n m back clear.1))
+    let clear = or_parts (has_at left n m) (has_at left m n) are.neither in (
+      k,
+      is,
+      bound_gone g claimed reach k old before bound,
+      (
+        m,
+        n,
+        pair,
+        gone_where_clear g claimed reach last left next touched at m n pair clear.0,
+        gone_where_clear g claimed reach last left next touched at n m back clear.1,
+      ),
+    )

@@ -2,14 +2,14 @@
 use Rattle.std.proofs.Common.{◌≡◌, ◌≢◌, ℕ, List, [], ◌∷◌, refl, subst, length}
 use Rattle.net_base.specs.Network.{PlainNet, IsNet}
 use Rattle.net_base.specs.Prefixes.{IsPrefix}
-use Rattle.path_words.specs.Policies.{IsPolicyOf, PlainPolicy}
+use Rattle.policy_base.specs.Policies.{IsPolicyOf, PlainPolicy}
 use Rattle.config_base.specs.Configs.{PlainConfig}
 use Rattle.evidence_base.specs.Made.{PlainCaseEvidence}
 use Rattle.outcome_base.specs.Outcomes.{Outcome}
-use Rattle.regret_law.specs.Passes.{Passes}
+use Rattle.evidence_law.specs.Passes.{Passes}
 use Rattle.report_lines.proofs.Texts.{one_report}
 use Rattle.report_lines.specs.Report.{IsReportOf, shown_of}
-use Rattle.scenario_text.specs.Spelled.{spelled as scenario_spelled_by}
+use Rattle.scenario_reader.specs.Spelled.{spelled as scenario_spelled_by}
 use Rattle.settled_law.proofs.SettledLaw.{settled_outcomes_are_one}
 use Rattle.settled_law.specs.Settled.{IsFullyStable}
 use Rattle.stable_paths.specs.declared.scenario.Scenario.{Scenario}
@@ -81,7 +81,7 @@ module _ (holds : Holds) (names : List (List ℕ)) where
   said_of what lawful net policy spell [] is says = absurd says
   said_of what lawful net policy spell (z ∷ []) is says =
       let f = of_read scenario_line (scenario_spelled_by net z) (SaysOfScenario net policy) what lawful says in
-      record { net = net; policy = policy; scenario = f.0; asked = record { spell = spell; scenario_text = z; more = is; scenario_spelled = f.1 }; says = f.2 }
+      record { net = net; policy = policy; scenario = f.0; asked = record { spell = spell; scenario_reader = z; more = is; scenario_spelled = f.1 }; says = f.2 }
   said_of what lawful net policy spell (z ∷ w ∷ more) is says = absurd says
 
   pub said_for : (what : Said) → what.status ≢ BadInput → (bs : List (List ℕ)) → AllHeld holds names bs → SaysOfTexts bs what → SaidFor what
@@ -92,7 +92,7 @@ module _ (holds : Holds) (names : List (List ℕ)) where
   told_of : (net : PlainNet) (policy : PlainPolicy) (scenario : Scenario) (what : Said) → SpellUnder holds names net policy scenario → SaidOfTold holds names SaysOfTexts what → SaysOfScenario net policy scenario what
   told_of net policy scenario what asked said =
       let P : List (List ℕ) → Type 0 = λ more. SaysOfMore more net policy what in
-      at_read scenario_line (scenario_spelled_by net asked.scenario_text) (SaysOfScenario net policy) scenario what asked.scenario_spelled
+      at_read scenario_line (scenario_spelled_by net asked.scenario_reader) (SaysOfScenario net policy) scenario what asked.scenario_spelled
       (subst P asked.more (texts_told SaysOfMore holds names net policy what asked.spell said))
 
   -- the texts ask so under some scenario

@@ -9,12 +9,12 @@ use Rattle.net_base.specs.Prefixes.{IsPrefix}
 use Rattle.net_base.specs.PrefixText.{prefix_spelled}
 use Rattle.net_base.specs.Steps.{or_fault}
 use Rattle.net_index.specs.Names.{names_of}
-use Rattle.net_base.specs.declared.place.Field.TheVariants as field
+use Rattle.scenario_reader.specs.declared.parts.Field.TheVariants as field
 use Rattle.stable_paths.specs.declared.scenario.Scenario.{Scenario}
-use Rattle.scenario_text.specs.declared.fault.ScenarioFault.TheVariants.{NotJson, BadPrefix}
-use Rattle.scenario_text.specs.Rules.{judged, located, both_located, links_known, sessions_known}
-use Rattle.scenario_text.specs.Shape.{Said, each, shape_of}
-use Rattle.scenario_text.specs.Spelled.{spelled}
+use Rattle.scenario_reader.specs.declared.fault.ScenarioFault.TheVariants.{NotJson, BadPrefix}
+use Rattle.scenario_reader.specs.Rules.{judged, located, both_located, links_known, sessions_known}
+use Rattle.scenario_reader.specs.Shape.{Said, each, shape_of}
+use Rattle.scenario_reader.specs.Spelled.{spelled}
 
 -- it asks for a prefix
 judged_prefix : (net : PlainNet) (said : Said) (s : Scenario) → judged net said ≡ Ok s → IsPrefix s.prefix

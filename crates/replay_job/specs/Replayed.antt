@@ -1,7 +1,7 @@
 -- What `replay` says of a network, a policy and a scenario.
 use Rattle.std.specs.Prelude.{◌≡◌, ℕ, List, [], ◌∷◌, length}
 use Rattle.net_base.specs.Network.{PlainNet}
-use Rattle.path_words.specs.Policies.{PlainPolicy}
+use Rattle.policy_base.specs.Policies.{PlainPolicy}
 use Rattle.config_base.specs.Configs.{PlainConfig}
 use Rattle.evidence_base.specs.Made.{PlainCaseEvidence}
 use Rattle.outcome_base.specs.Outcomes.{Outcome}
@@ -30,11 +30,11 @@ SaysOfScenario net policy scenario = SaysOfCompiled (WritesReport net policy sce
 
 -- what is said of the text of a scenario, for a network and a policy
 abbrev pub SaysOfPolicy : List ℕ → PlainNet → PlainPolicy → Said → Type 0
-SaysOfPolicy scenario_text net policy what = OfScenarioText (SaysOfScenario net policy) net scenario_text what
+SaysOfPolicy scenario_reader net policy what = OfScenarioText (SaysOfScenario net policy) net scenario_reader what
 
 -- where these are the texts after the first two
 abbrev pub SaysOfMore : List (List ℕ) → PlainNet → PlainPolicy → Said → Type 0
-SaysOfMore (scenario_text ∷ []) = SaysOfPolicy scenario_text
+SaysOfMore (scenario_reader ∷ []) = SaysOfPolicy scenario_reader
 SaysOfMore _ = λ net policy what. ⊥
 
 -- and of three texts

@@ -1,7 +1,7 @@
 //! The command `replay`.
 ghost use Rattle.std.specs.Prelude.{◌<◌, length};
-ghost use Rattle.path_words.specs.Policies.{IsPolicyOf, policy_of};
-ghost use Rattle.case_law.specs.Cases.{OriginsAreRouters};
+ghost use Rattle.policy_base.specs.Policies.{IsPolicyOf, policy_of};
+ghost use Rattle.policy_base.specs.CaseNumbers.{OriginsAreRouters};
 ghost use Rattle.run_base.specs.Said.{IsGiven, said};
 ghost use Rattle.input_texts.specs.Texts.{OfTexts};
 ghost use Rattle.replay_job.specs.Replayed.{SaysOfPolicy, SaysOfScenario};
@@ -9,7 +9,7 @@ ghost use Rattle.replay_job.specs.Replayed.{SaysOfPolicy, SaysOfScenario};
 use compile_jobs::compiled_for;
 use input_texts::{net_of, policy_for, scenario_for};
 use net_base::Net;
-use path_words::Policy;
+use policy_base::Policy;
 use report_lines::report;
 use run_base::Stop;
 use settling::settle;
@@ -35,7 +35,7 @@ fn settled_text(
 }
 
 // What the text of a scenario comes to.
-fn scenario_text(
+fn scenario_reader(
     alloc: Global,
     net: &Net,
     policy: &Policy,
@@ -63,5 +63,5 @@ pub fn replay_texts(
 {
     let net = net_of(alloc, topology)?;
     let policy = policy_for(alloc, &net, policy)?;
-    scenario_text(alloc, &net, &policy, scenario)
+    scenario_reader(alloc, &net, &policy, scenario)
 }

@@ -6,8 +6,8 @@ use Rattle.net_base.proofs.NumbersBelow.{below_from_In}
 use Rattle.net_base.specs.Locations.{numbers_below}
 use Rattle.net_base.specs.Network.{PlainNet, is_peer, is_router}
 use Rattle.net_base.specs.Prefixes.{PlainPrefix}
-use Rattle.path_words.specs.Governing.{statement_of}
-use Rattle.path_words.specs.Policies.{PlainPolicy, PlainStatement}
+use Rattle.policy_base.specs.Governing.{statement_of}
+use Rattle.policy_base.specs.Policies.{PlainPolicy, PlainStatement}
 use Rattle.config_base.specs.Configs.{PlainConfig}
 use Rattle.report_lines.specs.Claims.{AreClaimed}
 use Rattle.report_lines.specs.Lines.{Shown, Sources, head_lines, report_text, router_line, session_line}

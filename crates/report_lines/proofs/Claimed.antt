@@ -9,28 +9,28 @@ use Rattle.std.proofs.lemmas.Option.{get_or_from_slice_get, slice_get-map, slice
 use Rattle.list_laws.specs.Members.{IsIn}
 use Rattle.list_laws.proofs.Members.{IsIn-filter, IsIn-filter_parts, IsIn-map, IsIn-map_parts, IsIn-nil, list_any-from_IsIn, list_any_member}
 use Rattle.list_laws.proofs.Options.{option_and_then_parts, option_map_or_equal, option_map_parts, none_or_some}
-use Rattle.net_base.specs.declared.limits.TheConstants.{ALTERNATIVES}
+use Rattle.policy_base.specs.declared.limits.TheConstants.{ALTERNATIVES}
 use Rattle.net_base.specs.Network.{PlainNet, IsNet, is_peer, joins, linked}
 use Rattle.net_base.specs.Prefixes.{PlainPrefix, IsPrefix}
 use Rattle.net_base.specs.Sets.{holds}
-use Rattle.path_words.specs.declared.case.Case.{Case}
-use Rattle.path_words.specs.Cases.{case_list}
-use Rattle.path_words.specs.Governing.{is_origin, statement_of}
-use Rattle.path_words.specs.Meaning.{alternative_count, at_last}
-use Rattle.path_words.specs.Permitted.{is_permitted, IsClaimedRouter, IsClaimedSession}
-use Rattle.path_words.specs.Policies.{IsPolicyOf, PlainPolicy, PlainStatement}
-use Rattle.path_words.proofs.WalkParts.{at_last-never}
+use Rattle.policy_base.specs.declared.case.Case.{Case}
+use Rattle.policy_base.specs.Cases.{case_list}
+use Rattle.policy_base.specs.Governing.{is_origin, statement_of}
+use Rattle.policy_base.specs.Meaning.{alternative_count, at_last}
+use Rattle.policy_base.specs.Permitted.{is_permitted, IsClaimedRouter, IsClaimedSession}
+use Rattle.policy_base.specs.Policies.{IsPolicyOf, PlainPolicy, PlainStatement, statement_at}
+use Rattle.policy_base.proofs.WalkParts.{at_last-never}
 use Rattle.graph_base.specs.Ranked.{IsRankedRouter}
 use Rattle.graph_base.specs.Runs.{is_listener, is_start, place_of}
 use Rattle.graph_base.proofs.StartsAndSteps.{in_step, step_in, step_nodes}
 use Rattle.config_base.specs.Configs.{PlainConfig}
 use Rattle.config_base.specs.Lines.{class_of}
-use Rattle.evidence_base.specs.Made.{PlainCaseEvidence, case_at, statement_at}
-use Rattle.regret_law.specs.Passes.{AreWithin, IsCaseGraph, Passes}
-use Rattle.regret_law.proofs.CaseOfClass.{IsCaseOf, governed_case, ungoverned_class}
-use Rattle.regret_law.proofs.ClassFound.{class_in}
-use Rattle.regret_law.proofs.PermittedWalks.{permits_parts}
-use Rattle.regret_law.proofs.RightLaw.{class_is}
+use Rattle.evidence_base.specs.Made.{PlainCaseEvidence, case_at}
+use Rattle.evidence_law.specs.Passes.{AreWithin, IsCaseGraph, Passes}
+use Rattle.evidence_law.proofs.CaseOfClass.{IsCaseOf, governed_case, ungoverned_class}
+use Rattle.evidence_law.proofs.ClassFound.{class_in}
+use Rattle.evidence_law.proofs.PermittedWalks.{permits_parts}
+use Rattle.evidence_law.proofs.RightLaw.{class_is}
 use Rattle.report_lines.specs.Claims.{AreClaimed}
 use Rattle.report_lines.specs.Lines.{Sources}
 use Rattle.report_lines.specs.Marks.{AreMarks, heard_pairs, is_at}
@@ -41,7 +41,8 @@ use Rattle.report_lines.proofs.Sessions.{place_found, router_first}
 
 -- ---- the cases of a policy are within the limits
 
-few_at : (net : PlainNet) (policy : PlainPolicy) (cs : List Case) (room k : ℕ) (c : Case) (s : PlainStatement) → AreWithin net policy room cs → slice_get cs k ≡ Some c → statement_at policy c.statement ≡ Some s → alternative_count s.ranked ≤ ALTERNATIVES
+few_at : (net : PlainNet) (policy : PlainPolicy) (cs : List Case) (room k : ℕ) (c : Case) (s : PlainStatement) → AreWithin net policy room cs
+    → slice_get cs k ≡ Some c → statement_at policy c.statement ≡ Some s → alternative_count s.ranked ≤ ALTERNATIVES
 few_at net policy [] room k c s within at governs = absurd cc
 few_at net policy (b ∷ cs) room zero c s within at governs =
     let same : b ≡ c = cc in
@@ -52,7 +53,8 @@ few_at net policy (b ∷ cs) room (suc k) c s within at governs = few_at net pol
 
 -- ---- the case of a prefix
 
-module _ (net : PlainNet) (policy : PlainPolicy) (config : PlainConfig) (cs : List PlainCaseEvidence) (rules : IsNet net) (kept : IsPolicyOf net policy) (passes : Passes net policy config cs) (p : PlainPrefix) (prefix : IsPrefix p) where
+module _ (net : PlainNet) (policy : PlainPolicy) (config : PlainConfig) (cs : List PlainCaseEvidence) (rules : IsNet net)
+    (kept : IsPolicyOf net policy) (passes : Passes net policy config cs) (p : PlainPrefix) (prefix : IsPrefix p) where
   classed : class_of config p ≡ class_in policy p (case_list net policy) 1
   classed = class_is net policy config cs rules kept passes.made p
 
@@ -152,7 +154,8 @@ module _ (net : PlainNet) (policy : PlainPolicy) (config : PlainConfig) (cs : Li
         let place = option_map_or_equal (position (joins pair.0.0 pair.0.1) net.links) at.0 pair.2 in
         let joined = (position-Some (joins pair.0.0 pair.0.1) net.links at.0 (0, 0) place).1 in
         let link = get_or_from_slice_get net.links at.0 (r, peer) (0, 0) at.1 in
-        let joins_it : joins (place_of d.graph step.0.0) (place_of d.graph step.0.1) (r, peer) ≡ true = ap (λ (e : ℕ × ℕ). joins e.0 e.1 (r, peer)) step.2 ∙ sym (ap (joins pair.0.0 pair.0.1) link) ∙ joined in
+        let joins_it : joins (place_of d.graph step.0.0) (place_of d.graph step.0.1) (r, peer) ≡ true = ap (λ (e : ℕ × ℕ). joins e.0 e.1 (r, peer))
+        step.2 ∙ sym (ap (joins pair.0.0 pair.0.1) link) ∙ joined in
         let same = router_first net rules at.0 (place_of d.graph step.0.0) (place_of d.graph step.0.1) (r, peer) at.1 joins_it peer_there in
         record { from = step.0.0; to = step.0.1; step = goes; hears = kept_step.1; router = sym same.0; at = sym same.1 }
 

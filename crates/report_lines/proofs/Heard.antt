@@ -8,10 +8,10 @@ use Rattle.net_base.specs.declared.loc.LocSet.{LocSet}
 use Rattle.net_base.specs.Network.{PlainNet, IsNet, is_peer, is_router}
 use Rattle.net_base.specs.Prefixes.{PlainPrefix}
 use Rattle.net_base.specs.Sets.{holds}
-use Rattle.path_words.specs.Governing.{is_origin, is_origin_by, originated_at}
-use Rattle.path_words.specs.Meaning.{rank_of}
-use Rattle.path_words.specs.Permitted.{from_holds, is_permitted, IsClaimedRouter, IsClaimedSession}
-use Rattle.path_words.specs.Policies.{PlainPolicy, PlainStatement}
+use Rattle.policy_base.specs.Governing.{is_origin, is_origin_by, originated_at}
+use Rattle.policy_base.specs.Meaning.{rank_of}
+use Rattle.policy_base.specs.Permitted.{from_holds, is_permitted, IsClaimedRouter, IsClaimedSession}
+use Rattle.policy_base.specs.Policies.{PlainPolicy, PlainStatement}
 use Rattle.graph_base.specs.Graphs.{PlainGraph}
 use Rattle.graph_base.specs.Ranked.{IsRankedRouter}
 use Rattle.graph_base.specs.Rules.{IsWellFormed}
@@ -20,9 +20,9 @@ use Rattle.graph_base.proofs.RunSteps.{last_step, run_begins}
 use Rattle.graph_base.proofs.StartsAndSteps.{step_in, step_nodes}
 use Rattle.evidence_base.specs.Made.{PlainCaseEvidence}
 use Rattle.graph_law.proofs.Claimed.{claimed_where_ranked, listeners_ranked, ranked_may, ranked_permits}
-use Rattle.regret_law.specs.Faithful.{is_walk_to}
-use Rattle.regret_law.specs.Passes.{IsCaseGraph}
-use Rattle.regret_law.proofs.CaseOrigins.{case_permits, prefix_permits}
+use Rattle.evidence_law.specs.Faithful.{is_walk_to}
+use Rattle.evidence_law.specs.Passes.{IsCaseGraph}
+use Rattle.evidence_law.proofs.CaseOrigins.{case_permits, prefix_permits}
 use Rattle.report_lines.proofs.Sessions.{router_of_peer}
 
 -- a node at the router has a step to one at the peer, which hears
@@ -34,7 +34,8 @@ pub record IsHeard (g : PlainGraph) (r peer : ℕ) : Type 0 where
   pub router : place_of g from ≡ r
   pub at : place_of g to ≡ peer
 
-module _ (net : PlainNet) (policy : PlainPolicy) (p : PlainPrefix) (s : PlainStatement) (d : PlainCaseEvidence) (rules : IsNet net) (on : IsCaseGraph net s d) (same : holds d.case.origins ≡ is_origin net policy p) where
+module _ (net : PlainNet) (policy : PlainPolicy) (p : PlainPrefix) (s : PlainStatement) (d : PlainCaseEvidence) (rules : IsNet net)
+    (on : IsCaseGraph net s d) (same : holds d.case.origins ≡ is_origin net policy p) where
   abbrev Origin : ℕ → Bool
   Origin = holds d.case.origins
 
@@ -71,8 +72,10 @@ module _ (net : PlainNet) (policy : PlainPolicy) (p : PlainPrefix) (s : PlainSta
   pub heard : (r peer : ℕ) → IsClaimedSession net policy p s r peer → IsHeard g r peer
   heard r peer claimed =
       let permitted = case_permits net policy p s same (peer ∷ r ∷ claimed.starts.0) claimed.starts.1 in
-      let walk = (and_parts (is_walk_to net Origin (peer ∷ r ∷ claimed.starts.0)) (from_holds s.from peer) (and_parts _ (is_some (rank_of net s.ranked (peer ∷ r ∷ claimed.starts.0))) permitted).0).0 in
-      let ends = is_some_parts (run g (peer ∷ r ∷ claimed.starts.0)) (on.faithful.has_run [] (peer ∷ r ∷ claimed.starts.0) (or_left (is_walk_to net Origin (peer ∷ r ∷ claimed.starts.0)) _ walk) permitted) in
+      let walk = (and_parts (is_walk_to net Origin (peer ∷ r ∷ claimed.starts.0)) (from_holds s.from peer)
+      (and_parts _ (is_some (rank_of net s.ranked (peer ∷ r ∷ claimed.starts.0))) permitted).0).0 in
+      let ends = is_some_parts (run g (peer ∷ r ∷ claimed.starts.0))
+      (on.faithful.has_run [] (peer ∷ r ∷ claimed.starts.0) (or_left (is_walk_to net Origin (peer ∷ r ∷ claimed.starts.0)) _ walk) permitted) in
       let last = last_step g peer r ends.0 claimed.starts.0 ends.1 in
       let late = and_parts _ (not (is_start g ends.0)) (formed.links last.0 ends.0 last.2) in
       let node = (step_nodes g last.0 ends.0 on.graph last.2).1 in
@@ -86,7 +89,8 @@ module _ (net : PlainNet) (policy : PlainPolicy) (p : PlainPrefix) (s : PlainSta
       }
 
   -- a node that is stepped to has a run over the node before
-  run_over : (m n : ℕ) (path : List ℕ) → has_step g m n ≡ true → run g path ≡ Some m → (l : ℕ) × (rest : List ℕ) × (t : ℕ) × (path ≡ l ∷ rest) × (run g (place_of g n ∷ l ∷ rest) ≡ Some t) × (place_of g t ≡ place_of g n)
+  run_over : (m n : ℕ) (path : List ℕ) → has_step g m n ≡ true → run g path ≡ Some m
+      → (l : ℕ) × (rest : List ℕ) × (t : ℕ) × (path ≡ l ∷ rest) × (run g (place_of g n ∷ l ∷ rest) ≡ Some t) × (place_of g t ≡ place_of g n)
   run_over m n [] step h = absurd cc
   run_over m n (l ∷ rest) step h =
       let known = step_in g m n step in

@@ -98,7 +98,8 @@ module _ (net : PlainNet) (a b : ℕ) where
 -- ---- the items where the marks are true, as far as a loop has come
 
 module _ {A : Type 0} where
-  picked_next : (ms : List Bool) (xs : List A) (i : ℕ) (d : A) → i < length ms → i < length xs → get_or ms i false ≡ true → items_where_true (take (suc i) ms) xs ≡ items_where_true (take i ms) xs ++ get_or xs i d ∷ []
+  picked_next : (ms : List Bool) (xs : List A) (i : ℕ) (d : A) → i < length ms → i < length xs → get_or ms i false ≡ true
+      → items_where_true (take (suc i) ms) xs ≡ items_where_true (take i ms) xs ++ get_or xs i d ∷ []
   picked_next [] xs i d within inside on = absurd (omega (arith, within))
   picked_next (m ∷ ms) [] i d within inside on = absurd (omega (arith, inside))
   picked_next (true ∷ ms) (x ∷ xs) zero d within inside on = refl
@@ -106,7 +107,8 @@ module _ {A : Type 0} where
   picked_next (true ∷ ms) (x ∷ xs) (suc i) d within inside on = ap (λ (l : List A). x ∷ l) (picked_next ms xs i d (omega (arith, within)) (omega (arith, inside)) on)
   picked_next (false ∷ ms) (x ∷ xs) (suc i) d within inside on = picked_next ms xs i d (omega (arith, within)) (omega (arith, inside)) on
 
-  pub picked_more : (ms : List Bool) (xs : List A) (i : ℕ) (d : A) → i < length ms → i < length xs → get_or ms i false ≡ true → items_where_true (take (i + 1) ms) xs ≡ items_where_true (take i ms) xs ++ get_or xs i d ∷ []
+  pub picked_more : (ms : List Bool) (xs : List A) (i : ℕ) (d : A) → i < length ms → i < length xs → get_or ms i false ≡ true
+      → items_where_true (take (i + 1) ms) xs ≡ items_where_true (take i ms) xs ++ get_or xs i d ∷ []
   picked_more ms xs i d within inside on = ap (λ k. items_where_true (take k ms) xs) (add-one i) ∙ picked_next ms xs i d within inside on
 
   nothing : (ms : List Bool) → items_where_true {X = A} ms [] ≡ []

@@ -6,8 +6,8 @@ use Rattle.list_laws.proofs.Changed.{flat_map_same}
 use Rattle.net_base.specs.Locations.{numbers_below}
 use Rattle.net_base.specs.Network.{PlainNet}
 use Rattle.net_base.specs.Prefixes.{PlainPrefix}
-use Rattle.path_words.specs.Governing.{statement_of}
-use Rattle.path_words.specs.Policies.{PlainPolicy, PlainStatement}
+use Rattle.policy_base.specs.Governing.{statement_of}
+use Rattle.policy_base.specs.Policies.{PlainPolicy, PlainStatement}
 use Rattle.config_base.specs.Configs.{PlainConfig}
 use Rattle.report_lines.specs.Claims.{AreClaims, AreNone, sources_of, statement_in}
 use Rattle.report_lines.specs.declared.claims.Claims.{Claims}
@@ -30,7 +30,8 @@ module _ (net : PlainNet) (policy : PlainPolicy) (p : PlainPrefix) (shown : Show
   unfolding router_line
   claimed_alike s a b r same = rw same refl
 
-  pub lines_none : (config : PlainConfig) (s t : Option PlainStatement) (sources : Sources) → AreNone sources → lines_by net policy config p s sources shown ≡ lines_by net policy config p t sources shown
+  pub lines_none : (config : PlainConfig) (s t : Option PlainStatement) (sources : Sources) → AreNone sources
+      → lines_by net policy config p s sources shown ≡ lines_by net policy config p t sources shown
   lines_none config s t sources none =
       ap₂ (λ (a b : List ℕ). head_lines config p ++ a ++ b)
       (flat_map_same (router_line net policy p s sources shown) (router_line net policy p t sources shown) (numbers_below (length net.routers)) (λ r _. unranked s t sources r (none.routers r)))
@@ -51,7 +52,9 @@ module _ (net : PlainNet) (policy : PlainPolicy) (p : PlainPrefix) (shown : Show
       texts : report_text net policy config p x.sources shown ≡ report_text net policy config p y.sources shown
       texts =
           ap₂ (λ (c d : List ℕ). head_lines config p ++ c ++ d)
-          (flat_map_same (router_line net policy p (statement_of policy p) x.sources shown) (router_line net policy p (statement_of policy p) y.sources shown) (numbers_below (length net.routers)) (λ r _. claimed_alike (statement_of policy p) x.sources y.sources r (routers r)))
+          (flat_map_same (router_line net policy p (statement_of policy p) x.sources shown)
+          (router_line net policy p (statement_of policy p) y.sources shown) (numbers_below (length net.routers))
+          (λ r _. claimed_alike (statement_of policy p) x.sources y.sources r (routers r)))
           (ap (flat_map (session_line net (statement_of policy p) shown)) sessions)
 
 -- lines by the statement of the claims are the report

@@ -2,14 +2,14 @@
 use Rattle.std.specs.Prelude.{◌≡◌, ◌↔◌, ◌⊎◌, ◌≤◌, ℕ, false, IsTrue, [], Option, Some, option_map}
 use Rattle.std.specs.Option.{ForSome}
 use Rattle.list_laws.specs.Members.{IsIn}
-use Rattle.net_base.specs.declared.limits.TheConstants.{ALTERNATIVES}
+use Rattle.policy_base.specs.declared.limits.TheConstants.{ALTERNATIVES}
 use Rattle.net_base.specs.Network.{PlainNet, Ascend}
 use Rattle.net_base.specs.Prefixes.{PlainPrefix}
 use Rattle.net_base.specs.Sets.{holds}
-use Rattle.path_words.specs.Governing.{statement_of}
-use Rattle.path_words.specs.Meaning.{alternative_count}
-use Rattle.path_words.specs.Permitted.{IsClaimedRouter, IsClaimedSession}
-use Rattle.path_words.specs.Policies.{PlainPolicy, PlainStatement, plain_statement}
+use Rattle.policy_base.specs.Governing.{statement_of}
+use Rattle.policy_base.specs.Meaning.{alternative_count}
+use Rattle.policy_base.specs.Permitted.{IsClaimedRouter, IsClaimedSession}
+use Rattle.policy_base.specs.Policies.{PlainPolicy, PlainStatement, plain_statement}
 use Rattle.report_lines.specs.declared.claims.Claims.{Claims}
 use Rattle.report_lines.specs.Lines.{Sources}
 

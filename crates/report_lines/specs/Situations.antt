@@ -1,5 +1,5 @@
 -- An outcome's situation.
-use Rattle.path_words.specs.Policies.{policy_of}
+use Rattle.policy_base.specs.Policies.{policy_of}
 use Rattle.stable_paths.specs.Scenarios.{failures_of}
 use Rattle.report_lines.specs.declared.situation.Situation.{Situation}
 use Rattle.report_lines.specs.Lines.{Shown}

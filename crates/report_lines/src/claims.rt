@@ -2,12 +2,12 @@
 ghost use Rattle.std.specs.Prelude.{◌≡◌, ◌≤◌, Bool, List as Seq, IfOk, option_and_then, option_map};
 ghost use Rattle.std.specs.List.{items_where_true};
 ghost use Rattle.std.specs.Option.{ForSome};
-ghost use Rattle.net_base.specs.declared.limits.TheConstants.{ALTERNATIVES};
+ghost use Rattle.policy_base.specs.declared.limits.TheConstants.{ALTERNATIVES};
 ghost use Rattle.config_base.specs.Lines.{class_of as class};
 ghost use Rattle.evidence_base.specs.Made.{case_at};
-ghost use Rattle.path_words.specs.Meaning.{alternative_count};
-ghost use Rattle.path_words.specs.Policies.{IsPolicyOf, policy_of};
-ghost use Rattle.regret_law.specs.Passes.{Passes};
+ghost use Rattle.policy_base.specs.Meaning.{alternative_count};
+ghost use Rattle.policy_base.specs.Policies.{IsPolicyOf, policy_of};
+ghost use Rattle.evidence_law.specs.Passes.{Passes};
 ghost use Rattle.report_lines.specs.Claims.{AreClaims, statement_in};
 ghost use Rattle.report_lines.specs.Lines.{rank_by};
 ghost use Rattle.report_lines.specs.Marks.{AreMarks, heard_pairs as ends_heard};
@@ -17,7 +17,7 @@ use config_base::{Config, class_of};
 use evidence_base::{CaseEvidence, Evidence};
 use graph_base::{Graph, ranked_routers};
 use net_base::{List, Loc, LocSet, Net, Prefix, known_net, known_prefix};
-use path_words::{Policy, Statement, rank_of, statement_of};
+use policy_base::{Policy, Statement, rank_of, statement_of};
 use std::alloc::{AllocError, Global};
 
 /// The sources that a policy claims for a prefix: routers, and sessions of a router and a peer, the router first, in order. The

@@ -2,7 +2,7 @@
 ghost use Rattle.std.specs.Prelude.{◌≡◌, ℕ, List};
 ghost use Rattle.net_base.specs.Network.{PlainNet};
 ghost use Rattle.net_base.specs.Prefixes.{PlainPrefix};
-ghost use Rattle.path_words.specs.Policies.{PlainPolicy};
+ghost use Rattle.policy_base.specs.Policies.{PlainPolicy};
 ghost use Rattle.config_base.specs.Configs.{PlainConfig};
 ghost use Rattle.report_lines.specs.Lines.{Shown};
 ghost use Rattle.report_lines.specs.Report.{IsReport};

@@ -2,12 +2,12 @@
 ghost use Rattle.std.specs.Prelude.{◌≡◌, ◌++◌, ◌≤◌, OnOk, if◌then◌else◌, None};
 ghost use Rattle.std.specs.List.{flat_map};
 ghost use Rattle.std.specs.Option.{ForSome};
-ghost use Rattle.net_base.specs.declared.limits.TheConstants.{ALTERNATIVES};
+ghost use Rattle.policy_base.specs.declared.limits.TheConstants.{ALTERNATIVES};
 ghost use Rattle.net_base.specs.Sets.{holds};
 ghost use Rattle.config_base.specs.Configs.{PlainConfig};
 ghost use Rattle.config_base.specs.Lines.{class_of};
 ghost use Rattle.config_made.specs.Writing.{name_of};
-ghost use Rattle.path_words.specs.Meaning.{alternative_count};
+ghost use Rattle.policy_base.specs.Meaning.{alternative_count};
 ghost use Rattle.report_lines.specs.Claims.{statement_in};
 ghost use Rattle.report_lines.specs.Lines.{class_text, head_lines, next_name, offered_text, path_text, rank_by, ranked_text, used_text};
 

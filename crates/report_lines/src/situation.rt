@@ -3,14 +3,14 @@ ghost use Rattle.std.specs.Prelude.{◌≡◌, ◌&&◌, IfOk, IsTrue, not, opti
 ghost use Rattle.net_base.specs.Network.{is_peer, is_router, linked};
 ghost use Rattle.config_base.specs.Lines.{class_of as class_in};
 ghost use Rattle.outcome_base.specs.Outcomes.{is_dead_link, is_live as live, sent};
-ghost use Rattle.path_words.specs.Policies.{policy_of};
+ghost use Rattle.policy_base.specs.Policies.{policy_of};
 ghost use Rattle.stable_paths.specs.Scenarios.{failures_of};
 ghost use Rattle.report_lines.specs.Marks.{AreMarks};
 
 use crate::marks::marks_of;
 use config_base::{Config, class_of, export_of};
 use net_base::{Loc, Net};
-use path_words::Policy;
+use policy_base::Policy;
 use stable_paths::{Outcome, Scenario};
 use std::alloc::{AllocError, Global};
 

@@ -38,7 +38,8 @@ entry_more f xs i d number old now next h n so_far added =
     let ls : List Line = map f (take i xs) in
     let count : 10 + 10 * length ls ≡ number = omega (arith, n, length-map (take i xs) f, length-take-le i xs (omega (arith, h))) in
     let whole : numbered 10 (map f (take (i + 1) xs)) ≡ numbered 10 ls ++ written.Entry (Some number) (f x) ∷ [] =
-    ap (λ (ys : List _). numbered 10 (map f ys)) (take_more xs i d h) ∙ ap (numbered 10) (map-append f (take i xs) (x ∷ [])) ∙ numbered-push 10 ls (f x) ∙ ap (λ m. numbered 10 ls ++ written.Entry (Some m) (f x) ∷ []) count in
+    ap (λ (ys : List _). numbered 10 (map f ys)) (take_more xs i d h) ∙ ap (numbered 10) (map-append f (take i xs) (x ∷ []))
+    ∙ numbered-push 10 ls (f x) ∙ ap (λ m. numbered 10 ls ++ written.Entry (Some m) (f x) ∷ []) count in
     added
     ∙ ap (λ (t : List ℕ). t ++ fed (written.Entry (Some number) (f x))) so_far
     ∙ append_assoc old (flat_map fed (numbered 10 ls)) (fed (written.Entry (Some number) (f x)))
@@ -53,7 +54,8 @@ list_more lists i n x d whole now next h this so_far added =
     let at : drop i lists ≡ x ∷ drop (i + 1) lists = rw add-one (drop-cons lists i d h) ∙ ap (λ (y : List ListLine). y ∷ drop (i + 1) lists) (sym this) in
     so_far
     ∙ ap (λ (ls : List (List ListLine)). now ++ flat_map fed (lines_of_lists n ls)) at
-    ∙ ap (λ (t : List ℕ). now ++ t) (flat_map-append fed (lines_of_list n x) (lines_of_lists (n + 1) (drop (i + 1) lists)) ∙ ap (λ (t : List ℕ). t ++ flat_map fed (lines_of_lists (n + 1) (drop (i + 1) lists))) (fed-map (written.List (Some n)) x))
+    ∙ ap (λ (t : List ℕ). now ++ t) (flat_map-append fed (lines_of_list n x) (lines_of_lists (n + 1) (drop (i + 1) lists))
+    ∙ ap (λ (t : List ℕ). t ++ flat_map fed (lines_of_lists (n + 1) (drop (i + 1) lists))) (fed-map (written.List (Some n)) x))
     ∙ sym (append_assoc now (flat_map (λ (l : ListLine). fed (written.List (Some n) l)) x) (flat_map fed (lines_of_lists (n + 1) (drop (i + 1) lists))))
     ∙ ap (λ (t : List ℕ). t ++ flat_map fed (lines_of_lists (n + 1) (drop (i + 1) lists))) (sym added)
 
@@ -79,17 +81,22 @@ router_made r old head owns sessions end a b c d =
     let ss : List MapLine = flat_map lines_of_session r.sessions in
     let e : List MapLine = written.Block line.End ∷ [] in
     d
-    ∙ ap (λ (t : List ℕ). t ++ codes "end\n") (c ∙ ap₂ (λ (x y : List ℕ). x ++ y) (b ∙ ap₂ (λ (x y : List ℕ). x ++ y) a (sym (fed-map network_of r.own))) (sym (fed-flat_map lines_of_session r.sessions)))
+    ∙ ap (λ (t : List ℕ). t ++ codes "end\n") (c
+    ∙ ap₂ (λ (x y : List ℕ). x ++ y) (b ∙ ap₂ (λ (x y : List ℕ). x ++ y) a (sym (fed-map network_of r.own)))
+    (sym (fed-flat_map lines_of_session r.sessions)))
     ∙ append_assoc ((old ++ fed h) ++ flat_map fed os) (flat_map fed ss) (flat_map fed e)
     ∙ append_assoc (old ++ fed h) (flat_map fed os) (flat_map fed ss ++ flat_map fed e)
     ∙ append_assoc old (fed h) (flat_map fed os ++ (flat_map fed ss ++ flat_map fed e))
-    ∙ ap (λ (t : List ℕ). old ++ (fed h ++ t)) (sym (append_assoc (flat_map fed os) (flat_map fed ss) (flat_map fed e)) ∙ ap (λ (t : List ℕ). t ++ flat_map fed e) (sym (flat_map-append fed os ss)) ∙ sym (flat_map-append fed (os ++ ss) e))
+    ∙ ap (λ (t : List ℕ). old ++ (fed h ++ t)) (sym (append_assoc (flat_map fed os) (flat_map fed ss) (flat_map fed e))
+    ∙ ap (λ (t : List ℕ). t ++ flat_map fed e) (sym (flat_map-append fed os ss)) ∙ sym (flat_map-append fed (os ++ ss) e))
 
 pub maps_made : (m : PlainMaps) (none first lists routers : List ℕ) → none ≡ [] → first ≡ none ++ codes "propane-maps 1\n" → lists ≡ first ++ flat_map fed (lines_of_lists 1 m.lists)
     → routers ≡ lists ++ flat_map (λ (r : RouterConfig). flat_map fed (lines_of_router r)) m.routers → routers ≡ maps_text m
 maps_made m none first lists routers z a b c =
     c
-    ∙ ap₂ (λ (x y : List ℕ). x ++ y) (b ∙ ap (λ (t : List ℕ). t ++ flat_map fed (lines_of_lists 1 m.lists)) (a ∙ ap (λ (t : List ℕ). t ++ codes "propane-maps 1\n") z)) (sym (fed-flat_map lines_of_router m.routers))
+    ∙ ap₂ (λ (x y : List ℕ). x ++ y)
+    (b ∙ ap (λ (t : List ℕ). t ++ flat_map fed (lines_of_lists 1 m.lists)) (a ∙ ap (λ (t : List ℕ). t ++ codes "propane-maps 1\n") z))
+    (sym (fed-flat_map lines_of_router m.routers))
     ∙ append_assoc (codes "propane-maps 1\n") (flat_map fed (lines_of_lists 1 m.lists)) (flat_map fed (flat_map lines_of_router m.routers))
     ∙ ap (λ (t : List ℕ). codes "propane-maps 1\n" ++ t) (sym (flat_map-append fed (lines_of_lists 1 m.lists) (flat_map lines_of_router m.routers)))
 

@@ -3,7 +3,7 @@ use Rattle.std.specs.Prelude.{ℕ, ◌+◌, List, [], ◌∷◌, ◌++◌, map, 
 use Rattle.std.specs.List.{flat_map}
 use Rattle.config_base.specs.declared.config.RouterConfig.{RouterConfig}
 use Rattle.config_base.specs.declared.config.Session.{Session}
-use Rattle.config_base.specs.declared.config.Own.{Own}
+use Rattle.config_base.specs.declared.config.Origination.{Origination}
 use Rattle.config_lines.specs.declared.line.Line.{Line}
 use Rattle.config_lines.specs.declared.line.Line.TheVariants as line
 use Rattle.config_text.specs.ConfigLines.{head_of, import_of}
@@ -30,8 +30,8 @@ numbered k (l ∷ ls) = written.Entry (Some k) l ∷ numbered (k + 10) ls
 abbrev pub lines_of_session : Session → List MapLine
 lines_of_session s = written.Block (head_of s) ∷ (numbered 10 (map (import_of s.peer) s.imports) ++ numbered 10 (map line.Export s.exports))
 
-abbrev pub network_of : Own → MapLine
-network_of o = written.Block (line.Own o)
+abbrev pub network_of : Origination → MapLine
+network_of o = written.Block (line.Origination o)
 
 -- the head line of a router, its `network` lines, the blocks of its neighbours, and `end`
 abbrev pub lines_before_end : RouterConfig → List MapLine

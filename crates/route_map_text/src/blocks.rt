@@ -11,7 +11,7 @@ ghost use Rattle.route_map_text.specs.MapsSpelled.{HavePatterns};
 use crate::lines::{
     next_number, push_head, push_in, push_list_line, push_network_line, push_out, push_router_line,
 };
-use config_base::{Export, Own, RouterConfig, Rule, Session};
+use config_base::{Export, Import, Origination, RouterConfig, Session};
 use net_base::List;
 use outside::NoMemory;
 use route_maps::ListLine;
@@ -42,7 +42,7 @@ pub fn push_lists(text: &mut Vec<u8>, lists: &[List<ListLine>]) -> Result<(), No
 }
 
 // Adds the `network` lines.
-fn push_networks(text: &mut Vec<u8>, owns: &[Own]) -> Result<(), NoMemory>
+fn push_networks(text: &mut Vec<u8>, owns: &[Origination]) -> Result<(), NoMemory>
     ensures text { OnOk result (text.new.items ≡ text.old.items ++ flat_map (λ o. fed (network_of o)) owns.now) }
     ensures rules { OnOk result (AllByRecursion HasPrefix owns.now) }
 {
@@ -53,7 +53,7 @@ fn push_networks(text: &mut Vec<u8>, owns: &[Own]) -> Result<(), NoMemory>
 }
 
 // Adds the `in` lines, numbered from 10.
-fn push_ins(text: &mut Vec<u8>, peer: bool, rules: &[Rule]) -> Result<(), NoMemory>
+fn push_ins(text: &mut Vec<u8>, peer: bool, rules: &[Import]) -> Result<(), NoMemory>
     ensures { OnOk result (text.new.items ≡ text.old.items ++ flat_map fed (numbered 10 (map (import_of peer) rules.now))) }
 {
     let mut number = 10;

@@ -1,8 +1,8 @@
 //! Lines of maps texts are written.
-ghost use Rattle.std.specs.Prelude.{◌≡◌, ◌+◌, ◌++◌, Some, OnOk, IfOk, codes};
+ghost use Rattle.std.specs.Prelude.{◌≡◌, ◌+◌, ◌++◌, Some, OnOk, IfOk, codes, IsTrue};
 ghost use Rattle.std.specs.Fmt.{decimal};
 ghost use Rattle.config_lines.specs.declared.edition.Edition.TheVariants.{Second};
-ghost use Rattle.config_lines.specs.declared.line.Line.TheVariants.{Router as RouterLine, Peer as PeerLine, Session as SessionLine, Import, PeerImport, Export as ExportLine};
+ghost use Rattle.config_lines.specs.declared.line.Line.TheVariants.{Router as RouterLine, Peer as PeerLine, Session as SessionLine, Import as ImportLine, PeerImport, Export as ExportLine};
 ghost use Rattle.config_lines.specs.Editions.{tag_text};
 ghost use Rattle.config_lines.specs.LineText.{set_text};
 ghost use Rattle.config_text.specs.ConfigLines.{head_of, import_of};
@@ -12,9 +12,8 @@ ghost use Rattle.map_lines.specs.MapLineText.{kind_text};
 ghost use Rattle.route_map_text.specs.MapsLines.{fed, network_of};
 ghost use Rattle.route_map_text.specs.MapsSpelled.{HasPattern};
 ghost use Rattle.net_base.specs.NameRule.{is_name};
-ghost use Rattle.std.specs.Prelude.{IsTrue};
 
-use config_base::{Export, Own, Rule, Session};
+use config_base::{Export, Import, Origination, Session};
 use net_base::{Name, Tag};
 use outside::NoMemory;
 use route_maps::ListLine;
@@ -67,7 +66,7 @@ pub fn push_router_line(text: &mut Vec<u8>, name: &Name, asn: u32, id: u32) -> R
 }
 
 /// Adds a `network` line.
-pub fn push_network_line(text: &mut Vec<u8>, own: &Own) -> Result<(), NoMemory>
+pub fn push_network_line(text: &mut Vec<u8>, own: &Origination) -> Result<(), NoMemory>
     ensures text { OnOk result (text.new.items ≡ text.old.items ++ fed (network_of own.now)) }
     ensures rules { OnOk result (HasPrefix own.now) }
 {
@@ -131,7 +130,7 @@ fn push_list(text: &mut Vec<u8>, number: u64, list: u32) -> Result<(), NoMemory>
 }
 
 // Adds what an entry gives a route, and a line feed.
-fn push_set(text: &mut Vec<u8>, rule: &Rule) -> Result<(), NoMemory>
+fn push_set(text: &mut Vec<u8>, rule: &Import) -> Result<(), NoMemory>
     ensures { OnOk result (text.new.items ≡ text.old.items ++ (set_text Second rule.now ++ codes "\n")) }
 {
     push_bytes(text, b" set ")?;
@@ -142,8 +141,8 @@ fn push_set(text: &mut Vec<u8>, rule: &Rule) -> Result<(), NoMemory>
 }
 
 // Adds an `in` line in the block of a router.
-fn push_matched(text: &mut Vec<u8>, number: u64, rule: &Rule) -> Result<(), NoMemory>
-    ensures { OnOk result (text.new.items ≡ text.old.items ++ fed (Entry (Some number) (Import rule.now))) }
+fn push_matched(text: &mut Vec<u8>, number: u64, rule: &Import) -> Result<(), NoMemory>
+    ensures { OnOk result (text.new.items ≡ text.old.items ++ fed (Entry (Some number) (ImportLine rule.now))) }
 {
     push_bytes(text, b"in ")?;
     push_list(text, number, rule.class)?;
@@ -153,7 +152,7 @@ fn push_matched(text: &mut Vec<u8>, number: u64, rule: &Rule) -> Result<(), NoMe
 }
 
 // Adds an `in` line in the block of a peer.
-fn push_unmatched(text: &mut Vec<u8>, number: u64, rule: &Rule) -> Result<(), NoMemory>
+fn push_unmatched(text: &mut Vec<u8>, number: u64, rule: &Import) -> Result<(), NoMemory>
     ensures { OnOk result (text.new.items ≡ text.old.items ++ fed (Entry (Some number) (PeerImport rule.now))) }
 {
     push_bytes(text, b"in ")?;
@@ -162,7 +161,7 @@ fn push_unmatched(text: &mut Vec<u8>, number: u64, rule: &Rule) -> Result<(), No
 }
 
 /// Adds an `in` line, in the block of a peer or of a router.
-pub fn push_in(text: &mut Vec<u8>, peer: bool, number: u64, rule: &Rule) -> Result<(), NoMemory>
+pub fn push_in(text: &mut Vec<u8>, peer: bool, number: u64, rule: &Import) -> Result<(), NoMemory>
     ensures { OnOk result (text.new.items ≡ text.old.items ++ fed (Entry (Some number) (import_of peer rule.now))) }
 {
     if peer {

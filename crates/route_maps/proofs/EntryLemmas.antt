@@ -8,7 +8,7 @@ use Rattle.net_base.specs.declared.numbers.Tag.{Tag}
 use Rattle.net_base.specs.Network.{PlainNet, is_peer}
 use Rattle.net_base.specs.Prefixes.{PlainPrefix}
 use Rattle.config_base.specs.declared.config.Session.{Session}
-use Rattle.config_base.specs.declared.config.Rule.{Rule}
+use Rattle.config_base.specs.declared.config.Import.{Import}
 use Rattle.config_base.specs.declared.config.Export.{Export}
 use Rattle.config_base.specs.Lines.{block_at, same_tag, is_looped, line_by, import_by, export_by}
 use Rattle.list_laws.proofs.Tests.{list_any-found, list_any-not_found}
@@ -47,7 +47,7 @@ find_class class permitted fits (y ∷ ys) x h = by_test (permitted (class y)) (
         apart false e t = refl
 
 module _ (net : PlainNet) (maps : PlainMaps) (p : PlainPrefix) where
-  abbrev applies : ℕ → Tag → Rule → Bool
+  abbrev applies : ℕ → Tag → Import → Bool
   applies from tag rule = list_permits maps rule.class p && (is_peer net from || same_tag rule.tag tag)
 
   abbrev sent : Tag → Export → Bool
@@ -59,10 +59,10 @@ module _ (net : PlainNet) (maps : PlainMaps) (p : PlainPrefix) where
   pub in_unfound : (at from : ℕ) (path : List ℕ) (tag : Tag) (b : Session) → block_at net (blocks maps) at from ≡ Some b → find (applies from tag) b.imports ≡ None → map_in net maps p at from path tag ≡ None
   in_unfound at from path tag b block none = none_either_way (is_looped net at from path) (ap (option_and_then (in_by net maps p from tag)) block ∙ rw none refl)
 
-  pub in_found : (at from : ℕ) (path : List ℕ) (tag : Tag) (b : Session) (r : Rule) → block_at net (blocks maps) at from ≡ Some b → find (applies from tag) b.imports ≡ Some r
+  pub in_found : (at from : ℕ) (path : List ℕ) (tag : Tag) (b : Session) (r : Import) → block_at net (blocks maps) at from ≡ Some b → find (applies from tag) b.imports ≡ Some r
       → import_by net r.class at from path tag b ≡ map_in net maps p at from path tag
   in_found at from path tag b r block found =
-      let of_class = find_class (λ (q : Rule). q.class) (λ n. list_permits maps n p) (λ (q : Rule). is_peer net from || same_tag q.tag tag) b.imports r found in
+      let of_class = find_class (λ (q : Import). q.class) (λ n. list_permits maps n p) (λ (q : Import). is_peer net from || same_tag q.tag tag) b.imports r found in
       let one : line_by net r.class from tag b ≡ Some (r.set, r.pref) = rw of_class refl in
       let other : option_and_then (in_by net maps p from tag) (block_at net (blocks maps) at from) ≡ Some (r.set, r.pref) = ap (option_and_then (in_by net maps p from tag)) block ∙ rw found refl in
       ap (λ (o : Option (Tag × ℕ)). if is_looped net at from path then None else o) (one ∙ sym other)

@@ -6,7 +6,7 @@ use Rattle.std.proofs.lemmas.Bool.{eqb-true, eq-eqb, ne_eqb, false_from_ne_true,
 use Rattle.std.proofs.lemmas.List.Folds.{list_any-append}
 use Rattle.std.proofs.Math.Bool.{and-false}
 use Rattle.net_base.specs.Prefixes.{PlainPrefix, PlainPattern, contains}
-use Rattle.path_words.specs.Governing.{some_contains}
+use Rattle.policy_base.specs.Governing.{some_contains}
 use Rattle.config_base.specs.Configs.{PlainConfig}
 use Rattle.config_base.specs.Lines.{class_from, class_of}
 use Rattle.route_maps.specs.Overlaps.{overlap}

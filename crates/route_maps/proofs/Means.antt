@@ -10,9 +10,9 @@ use Rattle.net_base.specs.Numbers.{no_tag}
 use Rattle.net_base.specs.Prefixes.{PlainPrefix, same_prefix}
 use Rattle.config_base.specs.declared.config.RouterConfig.{RouterConfig}
 use Rattle.config_base.specs.declared.config.Session.{Session}
-use Rattle.config_base.specs.declared.config.Rule.{Rule}
+use Rattle.config_base.specs.declared.config.Import.{Import}
 use Rattle.config_base.specs.declared.config.Export.{Export}
-use Rattle.config_base.specs.declared.config.Own.{Own}
+use Rattle.config_base.specs.declared.config.Origination.{Origination}
 use Rattle.config_base.specs.Configs.{PlainConfig}
 use Rattle.config_base.specs.Lines.{class_of, export_by, export_of, line_by, import_of, own_tag, same_tag, block_at, router_at, is_looped}
 use Rattle.route_maps.specs.Maps.{list_permits, out_by, map_out, in_by, map_in, map_own}
@@ -24,11 +24,11 @@ chain_agree : {X Y : Type 0} (f g : X → Option Y) → ((x : X) → f x ≡ g x
 chain_agree f g e None = refl
 chain_agree f g e (Some x) = e x
 
-abbrev values : Option Rule → Option (Tag × ℕ)
+abbrev values : Option Import → Option (Tag × ℕ)
 values None = None
 values (Some rule) = Some (rule.set, rule.pref)
 
-abbrev own_value : Option Own → Option Tag
+abbrev own_value : Option Origination → Option Tag
 own_value None = None
 own_value (Some o) = Some o.tag
 
@@ -61,7 +61,7 @@ module _ (net : PlainNet) (config : PlainConfig) (p : PlainPrefix) (within : p.l
     where
       none : (b : Session) → in_by net (maps_of config) p from tag b ≡ None
       none b =
-          ap values (find-never (λ (rule : Rule). list_permits (maps_of config) rule.class p && (is_peer net from || same_tag rule.tag tag))
+          ap values (find-never (λ (rule : Import). list_permits (maps_of config) rule.class p && (is_peer net from || same_tag rule.tag tag))
           (λ rule. ap (λ t. t && (is_peer net from || same_tag rule.tag tag)) (permits_as None is rule.class)) b.imports)
   in_as (Some class) is at from path tag =
       ap (λ (o : Option (Tag × ℕ)). if is_looped net at from path then None else o)
@@ -69,8 +69,8 @@ module _ (net : PlainNet) (config : PlainConfig) (p : PlainPrefix) (within : p.l
     where
       same : (b : Session) → in_by net (maps_of config) p from tag b ≡ line_by net class from tag b
       same b =
-          ap values (find-same (λ (rule : Rule). list_permits (maps_of config) rule.class p && (is_peer net from || same_tag rule.tag tag))
-          (λ (rule : Rule). rule.class == class && (is_peer net from || same_tag rule.tag tag))
+          ap values (find-same (λ (rule : Import). list_permits (maps_of config) rule.class p && (is_peer net from || same_tag rule.tag tag))
+          (λ (rule : Import). rule.class == class && (is_peer net from || same_tag rule.tag tag))
           (λ rule. ap (λ t. t && (is_peer net from || same_tag rule.tag tag)) (permits_as (Some class) is rule.class)) b.imports)
 
   pub map_in-maps_of : (at from : ℕ) (path : List ℕ) (tag : Tag)
@@ -78,22 +78,22 @@ module _ (net : PlainNet) (config : PlainConfig) (p : PlainPrefix) (within : p.l
   map_in-maps_of at from path tag = in_as (class_of config p) refl at from path tag
 
   own_as : (o : Option ℕ) → class_of config p ≡ o → (c : RouterConfig)
-      → own_value (find (λ (o : Own). list_permits (maps_of config) o.class p && same_prefix o.prefix p) c.own)
-      ≡ option_and_then (λ class. own_value (find (λ (o : Own). o.class == class && same_prefix o.prefix p) c.own)) o
+      → own_value (find (λ (o : Origination). list_permits (maps_of config) o.class p && same_prefix o.prefix p) c.own)
+      ≡ option_and_then (λ class. own_value (find (λ (o : Origination). o.class == class && same_prefix o.prefix p) c.own)) o
   own_as None is c =
-      ap own_value (find-never (λ (o : Own). list_permits (maps_of config) o.class p && same_prefix o.prefix p)
+      ap own_value (find-never (λ (o : Origination). list_permits (maps_of config) o.class p && same_prefix o.prefix p)
       (λ o. ap (λ t. t && same_prefix o.prefix p) (permits_as None is o.class)) c.own)
   own_as (Some class) is c =
-      ap own_value (find-same (λ (o : Own). list_permits (maps_of config) o.class p && same_prefix o.prefix p)
-      (λ (o : Own). o.class == class && same_prefix o.prefix p)
+      ap own_value (find-same (λ (o : Origination). list_permits (maps_of config) o.class p && same_prefix o.prefix p)
+      (λ (o : Origination). o.class == class && same_prefix o.prefix p)
       (λ o. ap (λ t. t && same_prefix o.prefix p) (permits_as (Some class) is o.class)) c.own)
 
   pub map_own-maps_of : (r : ℕ) → map_own net (maps_of config) p r ≡ own_tag net config p r
   map_own-maps_of r = at_router (router_at net config r)
     where
       at_router : (b : Option RouterConfig)
-          → unwrap_or (option_and_then (λ (c : RouterConfig). own_value (find (λ (o : Own). list_permits (maps_of config) o.class p && same_prefix o.prefix p) c.own)) b) no_tag
-          ≡ unwrap_or (option_and_then (λ (c : RouterConfig). option_and_then (λ class. own_value (find (λ (o : Own). o.class == class && same_prefix o.prefix p) c.own)) (class_of config p)) b) no_tag
+          → unwrap_or (option_and_then (λ (c : RouterConfig). own_value (find (λ (o : Origination). list_permits (maps_of config) o.class p && same_prefix o.prefix p) c.own)) b) no_tag
+          ≡ unwrap_or (option_and_then (λ (c : RouterConfig). option_and_then (λ class. own_value (find (λ (o : Origination). o.class == class && same_prefix o.prefix p) c.own)) (class_of config p)) b) no_tag
       at_router None = refl
       at_router (Some c) = ap (λ o. unwrap_or o no_tag) (own_as (class_of config p) refl c)
 

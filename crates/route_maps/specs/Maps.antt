@@ -8,9 +8,9 @@ use Rattle.net_base.specs.Numbers.{no_tag}
 use Rattle.net_base.specs.Prefixes.{PlainPrefix, contains, same_prefix}
 use Rattle.config_base.specs.declared.config.RouterConfig.{RouterConfig}
 use Rattle.config_base.specs.declared.config.Session.{Session}
-use Rattle.config_base.specs.declared.config.Rule.{Rule}
+use Rattle.config_base.specs.declared.config.Import.{Import}
 use Rattle.config_base.specs.declared.config.Export.{Export}
-use Rattle.config_base.specs.declared.config.Own.{Own}
+use Rattle.config_base.specs.declared.config.Origination.{Origination}
 use Rattle.config_base.specs.Configs.{PlainConfig, IsRouter}
 use Rattle.config_base.specs.Lines.{router_at, block_at, same_tag, is_looped}
 use Rattle.route_maps.specs.declared.maps.ListLine.{ListLine}
@@ -62,10 +62,10 @@ map_out net maps p from to tag = option_and_then (out_by net maps p to tag) (blo
 abbrev pub in_by : PlainNet → PlainMaps → PlainPrefix → ℕ → Tag → Session → Option (Tag × ℕ)
 in_by net maps p from tag b = found (find applies b.imports)
   where
-    applies : Rule → Bool
+    applies : Import → Bool
     applies rule = list_permits maps rule.class p && (is_peer net from || same_tag rule.tag tag)
 
-    found : Option Rule → Option (Tag × ℕ)
+    found : Option Import → Option (Tag × ℕ)
     found None = None
     found (Some rule) = Some (rule.set, rule.pref)
 
@@ -77,9 +77,9 @@ map_in net maps p at from path tag = if is_looped net at from path then None els
 abbrev pub map_own : PlainNet → PlainMaps → PlainPrefix → ℕ → Tag
 map_own net maps p r = unwrap_or (option_and_then (λ (c : RouterConfig). tag_of (find names c.own)) (router_at net (blocks maps) r)) no_tag
   where
-    names : Own → Bool
+    names : Origination → Bool
     names o = list_permits maps o.class p && same_prefix o.prefix p
 
-    tag_of : Option Own → Option Tag
+    tag_of : Option Origination → Option Tag
     tag_of None = None
     tag_of (Some o) = Some o.tag

@@ -7,7 +7,7 @@ ghost use Rattle.route_maps.specs.Maps.{permits as permits_by, list_permits as p
 
 use crate::blocks::neighbour_block;
 use crate::maps::{ListLine, Maps};
-use config_base::{Export, Route, Rule, export_by, import_by};
+use config_base::{Export, Import, Route, export_by, import_by};
 use net_base::{Loc, Net, Prefix, Tag};
 
 // Whether the first line whose pattern contains the prefix permits it. Without one it is refused.
@@ -37,7 +37,7 @@ pub fn list_permits(maps: &Maps, list: u32, prefix: Prefix) -> bool
 }
 
 // Whether an `in` entry decides on a neighbour's route. The communities of a peer are ignored.
-fn decides(net: &Net, maps: &Maps, prefix: Prefix, from: Loc, tag: Tag, entry: &Rule) -> bool
+fn decides(net: &Net, maps: &Maps, prefix: Prefix, from: Loc, tag: Tag, entry: &Import) -> bool
     ensures { result ≡ (permitted_by maps.now entry.now.class prefix && (is_peer net.now from || same_tag entry.now.tag tag)) }
 {
     list_permits(maps, entry.class, prefix) && (net.is_peer(from) || entry.tag == tag)
@@ -50,8 +50,8 @@ fn in_entry(
     prefix: Prefix,
     from: Loc,
     tag: Tag,
-    entries: &[Rule],
-) -> Option<Rule>
+    entries: &[Import],
+) -> Option<Import>
     ensures { result ≡ find (λ e. permitted_by maps.now e.class prefix && (is_peer net.now from || same_tag e.tag tag)) entries.now }
 {
     for entry in entries {

@@ -26,9 +26,11 @@ module _ (w : Setup) (r : LineRoutes) where
   nodes_elsewhere u o ro = rw (o, ro)
 
   -- the node of a route is that of the run along its path
-  node_is : (u : ℕ) (x : LineRoute) (p : List ℕ) (n : ℕ) → w.net.origin u ≡ false → w.net.router u ≡ true → r u ≡ Some x → x.path ≡ p → run w.graph p ≡ Some n → with_nodes w r u ≡ Some (record { path = p; node = n })
+  node_is : (u : ℕ) (x : LineRoute) (p : List ℕ) (n : ℕ) → w.net.origin u ≡ false → w.net.router u ≡ true → r u ≡ Some x → x.path ≡ p
+      → run w.graph p ≡ Some n → with_nodes w r u ≡ Some (record { path = p; node = n })
   node_is u x p n o ro h e i =
-      nodes_at_router u o ro ∙ ap (option_and_then (with_node w.graph)) h ∙ ap (λ q. option_map (λ m. record { path = q; node = m }) (run w.graph q)) e ∙ ap (option_map (λ m. record { path = p; node = m })) i
+      nodes_at_router u o ro ∙ ap (option_and_then (with_node w.graph)) h
+      ∙ ap (λ q. option_map (λ m. record { path = q; node = m }) (run w.graph q)) e ∙ ap (option_map (λ m. record { path = p; node = m })) i
 
 module _ (w : Setup) (tag : ℕ → Tag) (c : Lines) (r : LineRoutes) (written : Written w.net w.graph tag c) (stable : LinesStable w.net w.alive c r) where
   -- a router that has a route is alive
@@ -95,7 +97,8 @@ module _ (w : Setup) (tag : ℕ → Tag) (c : Lines) (r : LineRoutes) (written :
       }
 
   -- a route of the graph that was chosen comes from one of the lines
-  chosen_up : (v : ℕ) (y : Route) → chooses w.net w.alive v ≡ true → with_nodes w r v ≡ Some y → (x : LineRoute) × (u : ℕ) × (r v ≡ Some x) × (heard w (with_nodes w r) v u ≡ Some y) × Same w.graph tag x y
+  chosen_up : (v : ℕ) (y : Route) → chooses w.net w.alive v ≡ true → with_nodes w r v ≡ Some y
+      → (x : LineRoute) × (u : ℕ) × (r v ≡ Some x) × (heard w (with_nodes w r) v u ≡ Some y) × Same w.graph tag x y
   chosen_up v y k h =
       let a = chooses_parts w v k in
       let b = option_and_then_parts (with_node w.graph) (r v) y (sym (nodes_at_router w r v a.2 a.0) ∙ h) in
@@ -121,7 +124,8 @@ module _ (w : Setup) (tag : ℕ → Tag) (c : Lines) (r : LineRoutes) (written :
   pub tied_nodes : Tied w tag c r (with_nodes w r)
   tied_nodes = record { backed = nodes_backed; down = behind; up = λ u y ro h. up u y ro h (w.net.origin u) refl (w.alive.live u) refl }
     where
-      up : (u : ℕ) (y : Route) → w.net.router u ≡ true → with_nodes w r u ≡ Some y → (b : Bool) → w.net.origin u ≡ b → (d : Bool) → w.alive.live u ≡ d → (z : LineRoute) × (r u ≡ Some z) × (z.path ≡ y.path) × (z.tag ≡ tag y.node)
+      up : (u : ℕ) (y : Route) → w.net.router u ≡ true → with_nodes w r u ≡ Some y → (b : Bool) → w.net.origin u ≡ b → (d : Bool) → w.alive.live u ≡ d
+          → (z : LineRoute) × (r u ≡ Some z) × (z.path ≡ y.path) × (z.tag ≡ tag y.node)
       up u y ro h true o d l =
           let a = own_parts w u y (sym (nodes_at_origin w r u o) ∙ h) in
           (own_line c u, stable.own u ro o a.0, sym a.2, written.lines.own u y.node ro a.1)

@@ -23,7 +23,8 @@ heard_parts w r v u x h =
     let d = option_map_parts {B = Route} (λ n. record { path = v ∷ b.0.path; node = n }) (w.graph.next b.0.node v) x c.1 in
     record { from = b.0; has = b.1; carries = a.0; off = c.0; step = d.1 ∙ ap (λ (y : Route). Some y.node) d.2; path = ap (λ (y : Route). y.path) (sym d.2) }
 
-pub heard_from : (w : Setup) (r : Routes) (v u : ℕ) (y : Route) (n : ℕ) → r u ≡ Some y → w.alive.carries u v ≡ true → stands_on v y.path ≡ false → w.graph.next y.node v ≡ Some n → heard w r v u ≡ Some (record { path = v ∷ y.path; node = n })
+pub heard_from : (w : Setup) (r : Routes) (v u : ℕ) (y : Route) (n : ℕ) → r u ≡ Some y → w.alive.carries u v ≡ true → stands_on v y.path ≡ false
+    → w.graph.next y.node v ≡ Some n → heard w r v u ≡ Some (record { path = v ∷ y.path; node = n })
 heard_from w r v u y n has carries off step = rw (carries, has, off, step)
 
 -- a Bool test of three parts

@@ -28,17 +28,23 @@ Over w r v n = (x : Route) × (r v ≡ Some x) × AtLeast w.graph x.node n
 
 module _ (w : Setup) (r : Routes) (wf : WellFormed w.net w.graph) (s : Stable w r) where
   over_start : (v n : ℕ) → w.alive.live v ≡ true → w.graph.start v ≡ Some n → Over w r v n
-  over_start v n l h =
-      (record { path = v ∷ []; node = n }, s.own v (wf.start_origin v n h) ∙ own_from w v n l h, record { known = (wf.start_below v n h).1; other = (wf.start_below v n h).1; place = refl; number = omega arith })
+  over_start v n l h = (
+    record { path = v ∷ []; node = n },
+    s.own v (wf.start_origin v n h) ∙ own_from w v n l h,
+    record { known = (wf.start_below v n h).1; other = (wf.start_below v n h).1; place = refl; number = omega arith },
+  )
 
   -- the neighbour's route is heard
-  over_heard : (v u m' n : ℕ) (y : Route) → chooses w.net w.alive v ≡ true → w.graph.place n ≡ v → n < w.graph.nodes → r u ≡ Some y → w.alive.carries u v ≡ true → stands_on v y.path ≡ false → w.graph.next y.node v ≡ Some m' → w.graph.number n ≤ w.graph.number m' → Over w r v n
+  over_heard : (v u m' n : ℕ) (y : Route) → chooses w.net w.alive v ≡ true → w.graph.place n ≡ v → n < w.graph.nodes → r u ≡ Some y
+      → w.alive.carries u v ≡ true → stands_on v y.path ≡ false → w.graph.next y.node v ≡ Some m' → w.graph.number n ≤ w.graph.number m'
+      → Over w r v n
   over_heard v u m' n y c p nb h k off st le =
       let b = s.best v u (record { path = v ∷ y.path; node = m' }) c (heard_from w r v u y m' h k off st) in
       (b.0, b.1, record { known = known_of w wf r (backed w r s) v b.0 b.1; other = nb; place = place_of w wf r (backed w r s) v b.0 b.1 ∙ sym p; number = omega (arith, b.2) })
 
   -- the neighbour's route passes v already
-  over_passed : Everywhere w.net w.graph → (v u m n : ℕ) (y : Route) → w.net.router v ≡ true → w.graph.place n ≡ v → r u ≡ Some y → AtLeast w.graph y.node m → w.graph.next m v ≡ Some n → stands_on v y.path ≡ true → Over w r v n
+  over_passed : Everywhere w.net w.graph → (v u m n : ℕ) (y : Route) → w.net.router v ≡ true → w.graph.place n ≡ v → r u ≡ Some y
+      → AtLeast w.graph y.node m → w.graph.next m v ≡ Some n → stands_on v y.path ≡ true → Over w r v n
   over_passed ev v u m n y ro p h al st on =
       let a = sound w r s u y h in
       let b = stands_split v y.path on in
@@ -47,8 +53,16 @@ module _ (w : Setup) (r : Routes) (wf : WellFormed w.net w.graph) (s : Stable w 
       let e = sound w r s v (record { path = v ∷ b.1; node = c.0 }) c.1 in
       let same : d.0 ≡ c.0 = cc (d.1, e.runs) in
       let at : w.graph.place d.0 ≡ v = run_place wf v b.1 d.0 d.1 in
-      let le = ev.loop y.node m v n d.0 al ro st (node_below wf b.1 v d.0 d.1) at d.2 in
-      (record { path = v ∷ b.1; node = c.0 }, c.1, record { known = known_of w wf r (backed w r s) v (record { path = v ∷ b.1; node = c.0 }) c.1; other = (wf.next_below m v n st).2; place = ap w.graph.place (sym same) ∙ at ∙ sym p; number = subst (λ k. w.graph.number n ≤ w.graph.number k) same le })
+      let le = ev.loop y.node m v n d.0 al ro st (node_below wf b.1 v d.0 d.1) at d.2 in (
+        record { path = v ∷ b.1; node = c.0 },
+        c.1,
+        record {
+          known = known_of w wf r (backed w r s) v (record { path = v ∷ b.1; node = c.0 }) c.1;
+          other = (wf.next_below m v n st).2;
+          place = ap w.graph.place (sym same) ∙ at ∙ sym p;
+          number = subst (λ k. w.graph.number n ≤ w.graph.number k) same le;
+        },
+      )
 
   over_step : Everywhere w.net w.graph → (v u m n : ℕ) → w.net.router v ≡ true → w.alive.live v ≡ true → w.alive.carries u v ≡ true → w.graph.next m v ≡ Some n → Over w r u m → Over w r v n
   over_step ev v u m n ro l k st o = split (stands_on v o.0.path) refl

@@ -9,14 +9,14 @@ use Rattle.routing_law.specs.Settling.{Marks, ReachEnds, Tops, Within, any_below
 use Rattle.routing_law.proofs.Runs.{node_below, run_more, run_place}
 use Rattle.routing_law.proofs.Saturate.{IsHighest, comes_to_rest, highest_is}
 
-is_node_true : (o : Option ℕ) (n : ℕ) → is_node o n ≡ true → o ≡ Some n
+pub is_node_true : (o : Option ℕ) (n : ℕ) → is_node o n ≡ true → o ≡ Some n
 is_node_true None n h = absurd (false≢true h)
 is_node_true (Some m) n h = ap Some (eqb-true m n h)
 
-is_node_from : (o : Option ℕ) (n : ℕ) → o ≡ Some n → is_node o n ≡ true
+pub is_node_from : (o : Option ℕ) (n : ℕ) → o ≡ Some n → is_node o n ≡ true
 is_node_from o n h = rw h (eq-eqb n n refl)
 
-any_at : (f : Marks) (n : ℕ) → any_below f n ≡ true → (i : ℕ) × (i < n) × (f i ≡ true)
+pub any_at : (f : Marks) (n : ℕ) → any_below f n ≡ true → (i : ℕ) × (i < n) × (f i ≡ true)
 any_at f zero h = absurd (false≢true h)
 any_at f (suc n) h = last (or_cases (f n) (any_below f n) h) (any_at f n)
   where
@@ -24,7 +24,7 @@ any_at f (suc n) h = last (or_cases (f n) (any_below f n) h) (any_at f n)
     last (inl e) again = (n, omega arith, e)
     last (inr e) again = let a = again e in (a.0, omega (arith, a.1), a.2)
 
-any_from : (f : Marks) (n i : ℕ) → i < n → f i ≡ true → any_below f n ≡ true
+pub any_from : (f : Marks) (n i : ℕ) → i < n → f i ≡ true → any_below f n ≡ true
 any_from f zero i l h = absurd (omega arith)
 any_from f (suc n) i l h = last (cases_lt i n) (any_from f n i)
   where
@@ -38,7 +38,8 @@ reached_walk w wf zero n h =
     record { rest = []; runs = is_node_true (w.graph.start (w.graph.place n)) n a.1; lives = a.0 }
 reached_walk w wf (suc k) n h = by (or_cases (reached w k n) (any_below (λ m. reached w k m && steps_on w m n) w.graph.nodes) h) (reached_walk w wf k)
   where
-    by : (reached w k n ≡ true) ⊎ (any_below (λ m. reached w k m && steps_on w m n) w.graph.nodes ≡ true) → ((m : ℕ) → reached w k m ≡ true → ReachedAt w (w.graph.place m) m) → ReachedAt w (w.graph.place n) n
+    by : (reached w k n ≡ true) ⊎ (any_below (λ m. reached w k m && steps_on w m n) w.graph.nodes ≡ true)
+        → ((m : ℕ) → reached w k m ≡ true → ReachedAt w (w.graph.place m) m) → ReachedAt w (w.graph.place n) n
     by (inl e) again = again n e
     by (inr e) again =
         let a = any_at (λ m. reached w k m && steps_on w m n) w.graph.nodes e in
@@ -49,15 +50,20 @@ reached_walk w wf (suc k) n h = by (or_cases (reached w k n) (any_below (λ m. r
         record {
           rest = w.graph.place a.0 ∷ g.rest;
           runs = ap (option_and_then (λ m. w.graph.next m (w.graph.place n))) g.runs ∙ is_node_true (w.graph.next a.0 (w.graph.place n)) n d.1;
-          lives = and_from (w.alive.live (w.graph.place n)) (w.alive.carries (w.graph.place a.0) (w.graph.place n) && survives w.alive (w.graph.place a.0 ∷ g.rest)) c.0 (and_from (w.alive.carries (w.graph.place a.0) (w.graph.place n)) (survives w.alive (w.graph.place a.0 ∷ g.rest)) d.0 g.lives);
+          lives =
+              and_from (w.alive.live (w.graph.place n))
+              (w.alive.carries (w.graph.place a.0) (w.graph.place n) && survives w.alive (w.graph.place a.0 ∷ g.rest)) c.0
+              (and_from (w.alive.carries (w.graph.place a.0) (w.graph.place n)) (survives w.alive (w.graph.place a.0 ∷ g.rest)) d.0 g.lives);
         }
 
 -- a time when nothing new is reached has all
 module _ (w : Setup) (wf : WellFormed w.net w.graph) where
-  all_reached : (k : ℕ) → Within w.graph.nodes (reached w (suc k)) (reached w k) → (rest : List ℕ) (v n : ℕ) → run w.graph (v ∷ rest) ≡ Some n → survives w.alive (v ∷ rest) ≡ true → reached w k n ≡ true
+  all_reached : (k : ℕ) → Within w.graph.nodes (reached w (suc k)) (reached w k) → (rest : List ℕ) (v n : ℕ) → run w.graph (v ∷ rest) ≡ Some n
+      → survives w.alive (v ∷ rest) ≡ true → reached w k n ≡ true
   all_reached k closed [] v n h l =
       let p = wf.start_place v n h in
-      at_start k (and_from (w.alive.live (w.graph.place n)) (is_node (w.graph.start (w.graph.place n)) n) (ap w.alive.live p ∙ l) (is_node_from (w.graph.start (w.graph.place n)) n (ap w.graph.start p ∙ h)))
+      at_start k (and_from (w.alive.live (w.graph.place n)) (is_node (w.graph.start (w.graph.place n)) n) (ap w.alive.live p ∙ l)
+      (is_node_from (w.graph.start (w.graph.place n)) n (ap w.graph.start p ∙ h)))
     where
       at_start : (j : ℕ) → reached w zero n ≡ true → reached w j n ≡ true
       at_start zero e = e
@@ -88,7 +94,8 @@ abbrev tops_at : (w : Setup) → WellFormed w.net w.graph → (time : ℕ) → W
 tops_at w wf time rests = record {
   top = top_at w time;
   is_reached = λ v n e.
-      let a = and_parts (reached w time n) (eqb (w.graph.place n) v) (top_marked (reached_at w time v) w.graph.number w.graph.nodes (top_at w time v) (highest_is (reached_at w time v) w.graph.number w.graph.nodes) n e) in
+      let a = and_parts (reached w time n) (eqb (w.graph.place n) v) (top_marked (reached_at w time v) w.graph.number w.graph.nodes (top_at w time v)
+      (highest_is (reached_at w time v) w.graph.number w.graph.nodes) n e) in
       subst (λ u. ReachedAt w u n) (eqb-true (w.graph.place n) v a.1) (reached_walk w wf time n a.0);
   over = λ v m r.
       top_over (reached_at w time v) w.graph.number w.graph.nodes (top_at w time v) (highest_is (reached_at w time v) w.graph.number w.graph.nodes) m (node_below wf r.rest v m r.runs)

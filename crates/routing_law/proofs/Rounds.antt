@@ -54,11 +54,14 @@ module _ (w : Setup) (t : Tops w) where
 
   pub fresh : (k v : ℕ) (x : Route) → rounds w t.top k v ≡ None → rounds w t.top (suc k) v ≡ Some x → Fresh w t k v x
   fresh k v x e h =
-      let a : cond (chooses w.net w.alive v) (settled_by w (rounds w t.top k) v (t.top v)) None ≡ Some x = subst (λ o. kept o (cond (chooses w.net w.alive v) (settled_by w (rounds w t.top k) v (t.top v)) None) ≡ Some x) e h in
+      let a : cond (chooses w.net w.alive v) (settled_by w (rounds w t.top k) v (t.top v)) None ≡ Some x =
+      subst (λ o. kept o (cond (chooses w.net w.alive v) (settled_by w (rounds w t.top k) v (t.top v)) None) ≡ Some x) e h in
       let b = when_parts (chooses w.net w.alive v) (settled_by w (rounds w t.top k) v (t.top v)) x a in
       by (t.top v) refl b.0 b.1
     where
-      by_lowest : (n : ℕ) → t.top v ≡ Some n → chooses w.net w.alive v ≡ true → (o : Option ℕ) → IsLowest (givers w (rounds w t.top k) v (w.graph.number n)) w.net.name w.net.size o → option_and_then (heard w (rounds w t.top k) v) o ≡ Some x → Fresh w t k v x
+      by_lowest : (n : ℕ) → t.top v ≡ Some n → chooses w.net w.alive v ≡ true → (o : Option ℕ)
+          → IsLowest (givers w (rounds w t.top k) v (w.graph.number n)) w.net.name w.net.size o
+          → option_and_then (heard w (rounds w t.top k) v) o ≡ Some x → Fresh w t k v x
       by_lowest n f c None d g = absurd (cc)
       by_lowest n f c (Some i) d g =
           let q = has_number_at w (w.graph.number n) (heard w (rounds w t.top k) v i) d.1 in
@@ -77,10 +80,13 @@ module _ (w : Setup) (t : Tops w) where
 
       by : (o : Option ℕ) → t.top v ≡ o → chooses w.net w.alive v ≡ true → settled_by w (rounds w t.top k) v o ≡ Some x → Fresh w t k v x
       by None f c g = absurd (cc)
-      by (Some n) f c g = by_lowest n f c (lowest (givers w (rounds w t.top k) v (w.graph.number n)) w.net.name w.net.size) (lowest_is (givers w (rounds w t.top k) v (w.graph.number n)) w.net.name w.net.size) g
+      by (Some n) f c g =
+          by_lowest n f c (lowest (givers w (rounds w t.top k) v (w.graph.number n)) w.net.name w.net.size)
+          (lowest_is (givers w (rounds w t.top k) v (w.graph.number n)) w.net.name w.net.size) g
 
   -- what gives v its number at a time settles it
-  pub picks : (k v u n : ℕ) (x : Route) → chooses w.net w.alive v ≡ true → t.top v ≡ Some n → u < w.net.size → heard w (rounds w t.top k) v u ≡ Some x → w.graph.number x.node ≡ w.graph.number n → rounds w t.top (suc k) v ≡ None → ⊥
+  pub picks : (k v u n : ℕ) (x : Route) → chooses w.net w.alive v ≡ true → t.top v ≡ Some n → u < w.net.size → heard w (rounds w t.top k) v u ≡ Some x
+      → w.graph.number x.node ≡ w.graph.number n → rounds w t.top (suc k) v ≡ None → ⊥
   picks k v u n x c f l h e g = by (rounds w t.top k v) refl
     where
       by_lowest : (o : Option ℕ) → IsLowest (givers w (rounds w t.top k) v (w.graph.number n)) w.net.name w.net.size o → option_and_then (heard w (rounds w t.top k) v) o ≡ None → ⊥
@@ -93,9 +99,12 @@ module _ (w : Setup) (t : Tops w) where
       by : (o : Option Route) → rounds w t.top k v ≡ o → ⊥
       by (Some y) i = let z = sym g ∙ kept_on k v y i in (cc)
       by None i =
-          let a : kept None (cond (chooses w.net w.alive v) (settled_by w (rounds w t.top k) v (t.top v)) None) ≡ None = subst (λ o. kept o (cond (chooses w.net w.alive v) (settled_by w (rounds w t.top k) v (t.top v)) None) ≡ None) i g in
+          let a : kept None (cond (chooses w.net w.alive v) (settled_by w (rounds w t.top k) v (t.top v)) None) ≡ None =
+          subst (λ o. kept o (cond (chooses w.net w.alive v) (settled_by w (rounds w t.top k) v (t.top v)) None) ≡ None) i g in
           let b : settled_by w (rounds w t.top k) v (t.top v) ≡ None = subst (λ b. cond b (settled_by w (rounds w t.top k) v (t.top v)) None ≡ None) c a in
-          by_lowest (lowest (givers w (rounds w t.top k) v (w.graph.number n)) w.net.name w.net.size) (lowest_is (givers w (rounds w t.top k) v (w.graph.number n)) w.net.name w.net.size) (subst (λ o. settled_by w (rounds w t.top k) v o ≡ None) f b)
+          by_lowest (lowest (givers w (rounds w t.top k) v (w.graph.number n)) w.net.name w.net.size)
+          (lowest_is (givers w (rounds w t.top k) v (w.graph.number n)) w.net.name w.net.size)
+          (subst (λ o. settled_by w (rounds w t.top k) v o ≡ None) f b)
 
   settled : (j v : ℕ) (x : Route) → rounds w t.top j v ≡ Some x → Settled w t j v x
   settled zero v x h = inl h
@@ -163,7 +172,8 @@ module _ (w : Setup) (t : Tops w) where
           omega (arith, again f.from a.from a.has, length_is w (rounds w t.top k) v f.from x a)
 
   -- what gives a router that is left after round k its best number is settled last
-  long : WellFormed w.net w.graph → (k v u n : ℕ) (x : Route) → chooses w.net w.alive v ≡ true → t.top v ≡ Some n → rounds w t.top k v ≡ None → heard w (rounds w t.top k) v u ≡ Some x → w.graph.number x.node ≡ w.graph.number n → suc (suc k) ≤ length x.path
+  long : WellFormed w.net w.graph → (k v u n : ℕ) (x : Route) → chooses w.net w.alive v ≡ true → t.top v ≡ Some n → rounds w t.top k v ≡ None
+      → heard w (rounds w t.top k) v u ≡ Some x → w.graph.number x.node ≡ w.graph.number n → suc (suc k) ≤ length x.path
   long wf zero v u n x c f g h e =
       let a = heard_parts w (rounds w t.top zero) v u x h in
       let b = sound_of w (rounds w t.top zero) (backed_at zero) u a.from a.has in
@@ -175,7 +185,10 @@ module _ (w : Setup) (t : Tops w) where
       before None i = i
       before (Some y) i = let z = sym (kept_on k v y i) ∙ g in absurd (cc)
 
-      by_from : (a : Heard w (rounds w t.top (suc k)) v u x) → (o : Option Route) → rounds w t.top k u ≡ o → ((v u n : ℕ) (x : Route) → chooses w.net w.alive v ≡ true → t.top v ≡ Some n → rounds w t.top k v ≡ None → heard w (rounds w t.top k) v u ≡ Some x → w.graph.number x.node ≡ w.graph.number n → suc (suc k) ≤ length x.path) → suc (suc (suc k)) ≤ length x.path
+      by_from : (a : Heard w (rounds w t.top (suc k)) v u x) → (o : Option Route) → rounds w t.top k u ≡ o
+          → ((v u n : ℕ) (x : Route) → chooses w.net w.alive v ≡ true → t.top v ≡ Some n → rounds w t.top k v ≡ None
+          → heard w (rounds w t.top k) v u ≡ Some x → w.graph.number x.node ≡ w.graph.number n → suc (suc k) ≤ length x.path)
+          → suc (suc (suc k)) ≤ length x.path
       by_from a (Some y) i again =
           let z = sym (kept_on k u y i) ∙ a.has in
           let ya : y ≡ a.from = cc in
@@ -187,7 +200,10 @@ module _ (w : Setup) (t : Tops w) where
           let y = fresh k u a.from i a.has in
           omega (arith, again u y.from y.top a.from y.chooses y.is_top i y.gives y.number, length_is w (rounds w t.top (suc k)) v u x a)
 
-      by : Heard w (rounds w t.top (suc k)) v u x → ((v u n : ℕ) (x : Route) → chooses w.net w.alive v ≡ true → t.top v ≡ Some n → rounds w t.top k v ≡ None → heard w (rounds w t.top k) v u ≡ Some x → w.graph.number x.node ≡ w.graph.number n → suc (suc k) ≤ length x.path) → suc (suc (suc k)) ≤ length x.path
+      by : Heard w (rounds w t.top (suc k)) v u x
+          → ((v u n : ℕ) (x : Route) → chooses w.net w.alive v ≡ true → t.top v ≡ Some n → rounds w t.top k v ≡ None
+          → heard w (rounds w t.top k) v u ≡ Some x → w.graph.number x.node ≡ w.graph.number n → suc (suc k) ≤ length x.path)
+          → suc (suc (suc k)) ≤ length x.path
       by a again = by_from a (rounds w t.top k u) refl again
 
   -- what is settled after round k has k + 2 locations
@@ -198,7 +214,9 @@ module _ (w : Setup) (t : Tops w) where
       omega (arith, a, short k f.from b.from b.has, length_is w (rounds w t.top k) v f.from x b)
 
   -- what gives v its best number later isn't shorter; where it's as short, it gave that then
-  late : WellFormed w.net w.graph → (j k v u n : ℕ) (x : Route) → k < j → chooses w.net w.alive v ≡ true → t.top v ≡ Some n → rounds w t.top k v ≡ None → heard w (rounds w t.top j) v u ≡ Some x → w.graph.number x.node ≡ w.graph.number n → (suc (suc k) ≤ length x.path) × (length x.path ≡ suc (suc k) → heard w (rounds w t.top k) v u ≡ Some x)
+  late : WellFormed w.net w.graph → (j k v u n : ℕ) (x : Route) → k < j → chooses w.net w.alive v ≡ true → t.top v ≡ Some n
+      → rounds w t.top k v ≡ None → heard w (rounds w t.top j) v u ≡ Some x → w.graph.number x.node ≡ w.graph.number n
+      → (suc (suc k) ≤ length x.path) × (length x.path ≡ suc (suc k) → heard w (rounds w t.top k) v u ≡ Some x)
   late wf j k v u n x l c f g h e =
       let a = heard_parts w (rounds w t.top j) v u x h in
       by a (settled j u a.from a.has)
@@ -215,12 +233,14 @@ module _ (w : Setup) (t : Tops w) where
           let o = length_is w (rounds w t.top j) v u x a in
           at (cases_lt i.0 k) m o
         where
-          at : (i.0 < k) ⊎ (k ≤ i.0) → length a.from.path ≡ suc (suc i.0) → length x.path ≡ suc (length a.from.path) → (suc (suc k) ≤ length x.path) × (length x.path ≡ suc (suc k) → heard w (rounds w t.top k) v u ≡ Some x)
+          at : (i.0 < k) ⊎ (k ≤ i.0) → length a.from.path ≡ suc (suc i.0) → length x.path ≡ suc (length a.from.path)
+              → (suc (suc k) ≤ length x.path) × (length x.path ≡ suc (suc k) → heard w (rounds w t.top k) v u ≡ Some x)
           at (inl q) m o = then' a (later k (suc i.0) u a.from (omega (arith, q)) i.2.after)
           at (inr q) m o = (omega (arith, q), λ r. absurd (omega (arith, q)))
 
 -- a round after which nobody is settled: it's an outcome
-module _ (w : Setup) (wf : WellFormed w.net w.graph) (ev : Everywhere w.net w.graph) (t : Tops w) (j : ℕ) (closed : Within w.net.size (λ v. is_some (rounds w t.top (suc j) v)) (λ v. is_some (rounds w t.top j v))) where
+module _ (w : Setup) (wf : WellFormed w.net w.graph) (ev : Everywhere w.net w.graph) (t : Tops w) (j : ℕ)
+    (closed : Within w.net.size (λ v. is_some (rounds w t.top (suc j) v)) (λ v. is_some (rounds w t.top j v))) where
   none_after : (v : ℕ) → v < w.net.size → rounds w t.top j v ≡ None → rounds w t.top (suc j) v ≡ None
   none_after v l e = by (rounds w t.top (suc j) v) refl
     where
@@ -247,7 +267,8 @@ module _ (w : Setup) (wf : WellFormed w.net w.graph) (ev : Everywhere w.net w.gr
   nobody_left : (v : ℕ) → Left w (rounds w t.top j) t v → ⊥
   nobody_left = wheel w wf ev (rounds w t.top j) (backed_at w t j) t (topped_at w t j) gets_stuck
 
-  best_at : (v u : ℕ) (y : Route) → chooses w.net w.alive v ≡ true → heard w (rounds w t.top j) v u ≡ Some y → (x : Route) × (rounds w t.top j v ≡ Some x) × (w.graph.number y.node ≤ w.graph.number x.node)
+  best_at : (v u : ℕ) (y : Route) → chooses w.net w.alive v ≡ true → heard w (rounds w t.top j) v u ≡ Some y
+      → (x : Route) × (rounds w t.top j v ≡ Some x) × (w.graph.number y.node ≤ w.graph.number x.node)
   best_at v u y c h = by (rounds w t.top j v) refl
     where
       by : (o : Option Route) → rounds w t.top j v ≡ o → (x : Route) × (rounds w t.top j v ≡ Some x) × (w.graph.number y.node ≤ w.graph.number x.node)

@@ -37,7 +37,8 @@ module _ (net : Network) (g : Graph) (wf : WellFormed net g) (rules : MeetsRules
           let same = only_one m n al (at_origin n z n' h ro) in
           (n', ap (λ k. g.next k z) same ∙ h, omega arith)
 
-      loop : (m n z n' k : ℕ) → AtLeast g m n → net.router z ≡ true → g.next n z ≡ Some n' → k < g.nodes → g.place k ≡ z → Reaches g k m → (b : Bool) → net.router (g.place n) ≡ b → g.number n' ≤ g.number k
+      loop : (m n z n' k : ℕ) → AtLeast g m n → net.router z ≡ true → g.next n z ≡ Some n' → k < g.nodes → g.place k ≡ z → Reaches g k m → (b : Bool)
+          → net.router (g.place n) ≡ b → g.number n' ≤ g.number k
       loop m n z n' k al rz h kb at c true ro = rules.loop m n z n' k ro al rz h kb at c
       loop m n z n' k al rz h kb at c false ro =
           let o = at_origin n z n' h ro in
@@ -54,17 +55,24 @@ pub all_more : (net : Network) (zs : List ℕ) (u : ℕ) → AllRouters net zs �
 all_more net [] u a h = (h, tt)
 all_more net (z ∷ zs) u a h = (a.0, all_more net zs u a.1 h)
 
-pub along : {net : Network} {g : Graph} → WellFormed net g → Everywhere net g → (zs : List ℕ) (m e n : ℕ) → AllRouters net zs → AtLeast g m e → follow g e zs ≡ Some n → (k : ℕ) × (follow g m zs ≡ Some k) × AtLeast g k n
+pub along : {net : Network} {g : Graph} → WellFormed net g → Everywhere net g → (zs : List ℕ) (m e n : ℕ) → AllRouters net zs → AtLeast g m e
+    → follow g e zs ≡ Some n → (k : ℕ) × (follow g m zs ≡ Some k) × AtLeast g k n
 along {net} {g} wf ev [] m e n a al h = let en : e ≡ n = cc in (m, refl, subst (AtLeast g m) en al)
 along {net} {g} wf ev (z ∷ zs) m e n a al h =
     let b = option_and_then_parts (λ j. follow g j zs) (g.next e z) n h in
     let c = ev.step m e z b.0 al a.0 b.1 in
-    let here : AtLeast g c.0 b.0 = record { known = (wf.next_below m z c.0 c.1).2; other = (wf.next_below e z b.0 b.1).2; place = wf.next_place m z c.0 c.1 ∙ sym (wf.next_place e z b.0 b.1); number = c.2 } in
+    let here : AtLeast g c.0 b.0 = record {
+      known = (wf.next_below m z c.0 c.1).2;
+      other = (wf.next_below e z b.0 b.1).2;
+      place = wf.next_place m z c.0 c.1 ∙ sym (wf.next_place e z b.0 b.1);
+      number = c.2;
+    } in
     let d = along wf ev zs c.0 b.0 n a.1 here b.2 in
     (d.0, rw c.1 d.1, d.2)
 
 -- No growth: a node that reaches a node at its own router is no worse.
-pub no_growth : {net : Network} {g : Graph} → WellFormed net g → Everywhere net g → (e m : ℕ) → e < g.nodes → g.place e ≡ g.place m → net.router (g.place m) ≡ true → Reaches g e m → g.number m ≤ g.number e
+pub no_growth : {net : Network} {g : Graph} → WellFormed net g → Everywhere net g → (e m : ℕ) → e < g.nodes → g.place e ≡ g.place m
+    → net.router (g.place m) ≡ true → Reaches g e m → g.number m ≤ g.number e
 no_growth {net} {g} wf ev e m eb at ro way =
     elim (follow_last wf way.0 e m way.1) [
       | inl same ↦ let le : g.number e ≤ g.number e = omega arith in subst (λ k. g.number k ≤ g.number e) same le

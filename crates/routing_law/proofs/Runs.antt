@@ -56,7 +56,8 @@ pub run_passes : (g : Graph) (front back : List ℕ) (v m : ℕ) → run g (fron
 run_passes g [] back v m h = (m, h, ([], refl))
 run_passes g (f ∷ fs) back v m h = onto (fs ++ v ∷ back) refl (λ n. run_passes g fs back v n)
   where
-    onto : (p : List ℕ) → fs ++ v ∷ back ≡ p → ((n : ℕ) → run g (fs ++ v ∷ back) ≡ Some n → (k : ℕ) × (run g (v ∷ back) ≡ Some k) × Reaches g k n) → (k : ℕ) × (run g (v ∷ back) ≡ Some k) × Reaches g k m
+    onto : (p : List ℕ) → fs ++ v ∷ back ≡ p → ((n : ℕ) → run g (fs ++ v ∷ back) ≡ Some n → (k : ℕ) × (run g (v ∷ back) ≡ Some k) × Reaches g k n)
+        → (k : ℕ) × (run g (v ∷ back) ≡ Some k) × Reaches g k m
     onto [] e again = absurd (no_end fs back v (sym e))
     onto (u ∷ q) e again =
         let a = run_more g f u q m (subst (λ p. run g (f ∷ p) ≡ Some m) e h) in

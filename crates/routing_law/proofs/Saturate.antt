@@ -57,7 +57,9 @@ module _ (bound : ℕ) (marks : ℕ → Marks) (grow : (k : ℕ) → Grows (mark
   rest_or_many zero = inr (omega arith)
   rest_or_many (suc k) = more (rest_or_many k) (new_below (marks k) (marks (suc k)) bound)
     where
-      more : ((j : ℕ) × Within bound (marks (suc j)) (marks j)) ⊎ (k ≤ count_below (marks k) bound) → Within bound (marks (suc k)) (marks k) ⊎ ((i : ℕ) × (i < bound) × (marks k i ≡ false) × (marks (suc k) i ≡ true)) → ((j : ℕ) × Within bound (marks (suc j)) (marks j)) ⊎ (suc k ≤ count_below (marks (suc k)) bound)
+      more : ((j : ℕ) × Within bound (marks (suc j)) (marks j)) ⊎ (k ≤ count_below (marks k) bound)
+          → Within bound (marks (suc k)) (marks k) ⊎ ((i : ℕ) × (i < bound) × (marks k i ≡ false) × (marks (suc k) i ≡ true))
+          → ((j : ℕ) × Within bound (marks (suc j)) (marks j)) ⊎ (suc k ≤ count_below (marks (suc k)) bound)
       more (inl h) n = inl h
       more (inr h) (inl n) = inl (k, n)
       more (inr h) (inr n) = inr (omega (arith, h, count_more (marks k) (marks (suc k)) (grow k) bound n.0 n.1 n.2 n.3))

@@ -9,7 +9,8 @@ use Rattle.routing_law.proofs.Highest.{over}
 use Rattle.routing_law.proofs.Runs.{node_below, run_place, start_is}
 
 -- a step over a line with the tag of a run's node is a step of that node
-same_step : (net : Network) (g : Graph) (tag : ℕ → Tag) (c : Lines) → Written net g tag c → (u v n k m : ℕ) (rest : List ℕ) → net.router u ≡ true → run g (u ∷ rest) ≡ Some n → StepOver g u v k m → tag k ≡ tag n → g.next n v ≡ Some m
+same_step : (net : Network) (g : Graph) (tag : ℕ → Tag) (c : Lines) → Written net g tag c → (u v n k m : ℕ) (rest : List ℕ) → net.router u ≡ true
+    → run g (u ∷ rest) ≡ Some n → StepOver g u v k m → tag k ≡ tag n → g.next n v ≡ Some m
 same_step net g tag c written u v n k m rest ro h over e =
     let at = run_place written.formed u rest n h in
     let same : k ≡ n = written.tags k n over.node (node_below written.formed rest u n h) (ap net.router over.place ∙ ro) (over.place ∙ sym at) e in

@@ -39,7 +39,8 @@ pub record Tied (w : Setup) (tag : ℕ → Tag) (c : Lines) (r : LineRoutes) (s 
 
 module _ (w : Setup) (tag : ℕ → Tag) (c : Lines) (written : Written w.net w.graph tag c) (r : LineRoutes) (s : Routes) where
   -- of an origin's own route, where it is exported
-  pub own_down : (u v : ℕ) (z : LineRoute) → w.net.router u ≡ true → w.net.origin u ≡ true → w.alive.live u ≡ true → s u ≡ own_route w u → own_line c u ≡ z → c.exported u v z.tag ≡ true → Behind w tag s u z
+  pub own_down : (u v : ℕ) (z : LineRoute) → w.net.router u ≡ true → w.net.origin u ≡ true → w.alive.live u ≡ true → s u ≡ own_route w u
+      → own_line c u ≡ z → c.exported u v z.tag ≡ true → Behind w tag s u z
   own_down u v z ro o l own e ex =
       let a = own_routes_are_starts w.net w.graph tag c written u v ro o (ap (λ (y : LineRoute). c.exported u v y.tag) e ∙ ex) in
       record { rest = []; node = a.0; has = own ∙ own_from w u a.0 l a.1; begins = ap (λ (y : LineRoute). y.path) (sym e); runs = a.1; tag_is = ap (λ (y : LineRoute). y.tag) (sym e) ∙ a.2 }
@@ -51,7 +52,8 @@ module _ (w : Setup) (tag : ℕ → Tag) (c : Lines) (written : Written w.net w.
       let a = when_parts (w.alive.carries u v) (cond (w.net.router u) (option_and_then (line_extended c v u) (r u)) (line_announced w.net w.alive c v u)) x h in
       by (w.net.router u) refl a.0 a.1
     where
-      from_router : (z : LineRoute) (q : Tag × ℕ) → w.net.router u ≡ true → w.alive.carries u v ≡ true → stands_on v z.path ≡ false → c.imported v u z.tag ≡ Some q → taken_by v z.path q ≡ x → Behind w tag s u z → Given w tag s v u x
+      from_router : (z : LineRoute) (q : Tag × ℕ) → w.net.router u ≡ true → w.alive.carries u v ≡ true → stands_on v z.path ≡ false
+          → c.imported v u z.tag ≡ Some q → taken_by v z.path q ≡ x → Behind w tag s u z → Given w tag s v u x
       from_router z q ro k off im e b =
           let a = imports_are_steps w.net w.graph tag c written u v b.node b.rest q ro rv b.runs (ap (c.imported v u) (sym b.tag_is) ∙ im) in
           record {
@@ -68,7 +70,8 @@ module _ (w : Setup) (tag : ℕ → Tag) (c : Lines) (written : Written w.net w.
       other ru true i = absurd (false≢true (sym ru ∙ ap w.net.router (eqb-true u v i) ∙ rv))
       other ru false i = rw i
 
-      from_peer : (q : Tag × ℕ) → w.net.router u ≡ false → w.alive.carries u v ≡ true → w.net.origin u ≡ true → w.alive.live u ≡ true → c.from_peer v u ≡ Some q → taken_by v (u ∷ []) q ≡ x → Given w tag s v u x
+      from_peer : (q : Tag × ℕ) → w.net.router u ≡ false → w.alive.carries u v ≡ true → w.net.origin u ≡ true → w.alive.live u ≡ true
+          → c.from_peer v u ≡ Some q → taken_by v (u ∷ []) q ≡ x → Given w tag s v u x
       from_peer q ru k o l im e =
           let a = announcements_are_steps w.net w.graph tag c written u v q ru rv o im in
           record {
@@ -107,10 +110,14 @@ module _ (w : Setup) (tag : ℕ → Tag) (c : Lines) (written : Written w.net w.
     pub given_up : (v u : ℕ) (y : Route) → w.net.router v ≡ true → heard w s v u ≡ Some y → (x : LineRoute) × (line_heard w.net w.alive c r v u ≡ Some x) × Same w.graph tag x y
     given_up v u y rv h = by (heard_parts w s v u y h) (w.net.router u) refl (w.net.origin u) refl
       where
-        announced : w.alive.carries u v ≡ true → w.net.router u ≡ false → w.net.origin u ≡ true → w.alive.live u ≡ true → c.from_peer v u ≡ Some (tag y.node, w.graph.number y.node) → line_heard w.net w.alive c r v u ≡ Some (taken_by v (u ∷ []) (tag y.node, w.graph.number y.node))
+        announced : w.alive.carries u v ≡ true → w.net.router u ≡ false → w.net.origin u ≡ true → w.alive.live u ≡ true
+            → c.from_peer v u ≡ Some (tag y.node, w.graph.number y.node)
+            → line_heard w.net w.alive c r v u ≡ Some (taken_by v (u ∷ []) (tag y.node, w.graph.number y.node))
         announced ca ro o l im = rw (ca, ro, o, l, im)
 
-        extend : (z : LineRoute) → w.net.router u ≡ true → stands_on v z.path ≡ false → c.exported u v z.tag ≡ true → c.imported v u z.tag ≡ Some (tag y.node, w.graph.number y.node) → w.alive.carries u v ≡ true → r u ≡ Some z → line_heard w.net w.alive c r v u ≡ Some (taken_by v z.path (tag y.node, w.graph.number y.node))
+        extend : (z : LineRoute) → w.net.router u ≡ true → stands_on v z.path ≡ false → c.exported u v z.tag ≡ true
+            → c.imported v u z.tag ≡ Some (tag y.node, w.graph.number y.node) → w.alive.carries u v ≡ true → r u ≡ Some z
+            → line_heard w.net w.alive c r v u ≡ Some (taken_by v z.path (tag y.node, w.graph.number y.node))
         extend z ro off ex im ca e = rw (ca, ro, e, off, ex, im)
 
         by : Heard w s v u y → (b : Bool) → w.net.router u ≡ b → (d : Bool) → w.net.origin u ≡ d → (x : LineRoute) × (line_heard w.net w.alive c r v u ≡ Some x) × Same w.graph tag x y
@@ -118,8 +125,11 @@ module _ (w : Setup) (tag : ℕ → Tag) (c : Lines) (written : Written w.net w.
             let z = tied.up u a.from ro a.has in
             let over = step_of u v a.from y.node a.has a.step in
             let ex : c.exported u v z.0.tag ≡ true = ap (c.exported u v) z.3 ∙ written.lines.exports u v a.from.node y.node ro over in
-            let im : c.imported v u z.0.tag ≡ Some (tag y.node, w.graph.number y.node) = ap (c.imported v u) z.3 ∙ written.lines.imports u v a.from.node y.node ro rv over in
-            (taken_by v z.0.path (tag y.node, w.graph.number y.node), extend z.0 ro (ap (stands_on v) z.2 ∙ a.off) ex im a.carries z.1, record { path_is = ap (λ p. v ∷ p) z.2 ∙ sym a.path; tag_is = refl; pref_is = refl })
+            let im : c.imported v u z.0.tag ≡ Some (tag y.node, w.graph.number y.node) = ap (c.imported v u) z.3 ∙ written.lines.imports u v a.from.node y.node ro rv over in (
+              taken_by v z.0.path (tag y.node, w.graph.number y.node),
+              extend z.0 ro (ap (stands_on v) z.2 ∙ a.off) ex im a.carries z.1,
+              record { path_is = ap (λ p. v ∷ p) z.2 ∙ sym a.path; tag_is = refl; pref_is = refl },
+            )
         by a false ru true o =
             let p = own_parts w u a.from (sym (tied.backed.own u o) ∙ a.has) in
             let im = written.lines.peers u v a.from.node y.node ru rv (step_of u v a.from y.node a.has a.step) in

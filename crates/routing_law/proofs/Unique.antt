@@ -22,13 +22,16 @@ size_of w wf r s v x h =
 
 module _ (w : Setup) (differ : NamesDiffer w.net) (wf : WellFormed w.net w.graph) (ev : Everywhere w.net w.graph) where
   -- where one outcome has a route, the other has one with a number at least as high
-  as_high : (r s : Routes) → Stable w r → Stable w s → (v : ℕ) (x : Route) → chooses w.net w.alive v ≡ true → r v ≡ Some x → (y : Route) × (s v ≡ Some y) × (w.graph.number x.node ≤ w.graph.number y.node)
+  as_high : (r s : Routes) → Stable w r → Stable w s → (v : ℕ) (x : Route) → chooses w.net w.alive v ≡ true → r v ≡ Some x
+      → (y : Route) × (s v ≡ Some y) × (w.graph.number x.node ≤ w.graph.number y.node)
   as_high r s sr ss v x c h =
       let a = sound w r sr v x h in
-      let o = over w s wf ss ev a.rest v x.node (or_right (w.net.origin v) (w.net.router v) (chooses_parts w v c).0) (subst (λ p. run w.graph p ≡ Some x.node) a.begins a.runs) (subst (λ p. survives w.alive p ≡ true) a.begins a.lives) in
+      let o = over w s wf ss ev a.rest v x.node (or_right (w.net.origin v) (w.net.router v) (chooses_parts w v c).0)
+      (subst (λ p. run w.graph p ≡ Some x.node) a.begins a.runs) (subst (λ p. survives w.alive p ≡ true) a.begins a.lives) in
       (o.0, o.1, o.2.number)
 
-  taken_step : (r s : Routes) → FullyStable w r → FullyStable w s → (k : ℕ) → AtMost r s k → AtMost s r k → (v : ℕ) (x : Route) → length x.path ≤ suc k → r v ≡ Some x → (t : Taken w r v x) → s v ≡ Some x
+  taken_step : (r s : Routes) → FullyStable w r → FullyStable w s → (k : ℕ) → AtMost r s k → AtMost s r k → (v : ℕ) (x : Route)
+      → length x.path ≤ suc k → r v ≡ Some x → (t : Taken w r v x) → s v ≡ Some x
   taken_step r s fr fs k rs sr v x l h t =
       let xr = t.heard in
       let c = chooses_from w v t.router t.live (wf.next_origin xr.from.node v x.node xr.step) in

@@ -28,7 +28,8 @@ plain_numbers_pass net g one same = record {
 }
 
 -- an offer, taken apart
-pub offered_parts : (alive : Alive) (c : Lines) (r : LineRoutes) (u p : ℕ) (q : List ℕ) → offered alive c r u p ≡ Some q → (z : LineRoute) × (alive.carries u p ≡ true) × (r u ≡ Some z) × (c.exported u p z.tag ≡ true) × (stands_on p z.path ≡ false) × (q ≡ p ∷ z.path)
+pub offered_parts : (alive : Alive) (c : Lines) (r : LineRoutes) (u p : ℕ) (q : List ℕ) → offered alive c r u p ≡ Some q
+    → (z : LineRoute) × (alive.carries u p ≡ true) × (r u ≡ Some z) × (c.exported u p z.tag ≡ true) × (stands_on p z.path ≡ false) × (q ≡ p ∷ z.path)
 offered_parts alive c r u p q h =
     let a = when_parts (alive.carries u p) (option_and_then (offered_of c u p) (r u)) q h in
     let b = option_and_then_parts (offered_of c u p) (r u) q a.1 in

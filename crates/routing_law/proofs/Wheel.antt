@@ -48,7 +48,13 @@ record Spoke (w : Setup) (r : Routes) (t : Tops w) : Type 0 where
 module _ (w : Setup) (wf : WellFormed w.net w.graph) (ev : Everywhere w.net w.graph) (r : Routes) (bk : Backed w r) (t : Tops w) (topped : Topped w r t) (stuck : Stuck w r t) where
   -- a walk's node at a settled location is no higher than the route's
   high_enough : (u m : ℕ) (q : List ℕ) (y : Route) → run w.graph (u ∷ q) ≡ Some m → survives w.alive (u ∷ q) ≡ true → r u ≡ Some y → AtLeast w.graph y.node m
-  high_enough u m q y h l e = record { known = known_of w wf r bk u y e; other = node_below wf q u m h; place = place_of w wf r bk u y e ∙ sym (run_place wf u q m h); number = number (how w r bk u y e) }
+  high_enough u m q y h l e =
+      record {
+        known = known_of w wf r bk u y e;
+        other = node_below wf q u m h;
+        place = place_of w wf r bk u y e ∙ sym (run_place wf u q m h);
+        number = number (how w r bk u y e);
+      }
     where
       number : Origin w u y ⊎ Taken w r u y → w.graph.number m ≤ w.graph.number y.node
       number (inl o) =
@@ -108,7 +114,9 @@ module _ (w : Setup) (wf : WellFormed w.net w.graph) (ev : Everywhere w.net w.gr
       let from : (w.net.origin u || w.net.router u) ≡ true = subst (λ x. (w.net.origin x || w.net.router x) ≡ true) at (wf.next_from a.0 v n a.2) in
       by a.0 ro a.1 a.2 c.0 c.1 at (has_or_left u a.0 q a.1 c.1 from) (λ k. low_or_arc q u a.0 k a.1 c.1)
     where
-      by : (m : ℕ) → w.net.router v ≡ true → run w.graph (u ∷ q) ≡ Some m → w.graph.next m v ≡ Some n → w.alive.carries u v ≡ true → survives w.alive (u ∷ q) ≡ true → w.graph.place m ≡ u → ((y : Route) × (r u ≡ Some y)) ⊎ Left w r t u → ((k : Left w r t u) → (w.graph.number m < w.graph.number k.top) ⊎ Arc w r t m) → (w.graph.number n < w.graph.number l.top) ⊎ Arc w r t n
+      by : (m : ℕ) → w.net.router v ≡ true → run w.graph (u ∷ q) ≡ Some m → w.graph.next m v ≡ Some n → w.alive.carries u v ≡ true
+          → survives w.alive (u ∷ q) ≡ true → w.graph.place m ≡ u → ((y : Route) × (r u ≡ Some y)) ⊎ Left w r t u
+          → ((k : Left w r t u) → (w.graph.number m < w.graph.number k.top) ⊎ Arc w r t m) → (w.graph.number n < w.graph.number l.top) ⊎ Arc w r t n
       by m ro g st k sv at (inl y) again = inl (comes_low v u m n y.0 l (high_enough u m q y.0 g sv y.1) st k y.1)
       by m ro g st k sv at (inr k') again = inr (arc (again k'))
         where
@@ -153,11 +161,17 @@ module _ (w : Setup) (wf : WellFormed w.net w.graph) (ev : Everywhere w.net w.gr
   comes s zero i k e =
       let same : i ≡ k = omega arith in
       let b = top_is (spin s i) in
-      subst (λ j. (m : ℕ) × Reaches w.graph (arc s j).entry m × AtLeast w.graph m (spin s i).left.top) same ((spin s i).left.top, ((arc s i).way, (arc s i).runs), record { known = b.0; other = b.0; place = refl; number = omega arith })
+      subst (λ j. (m : ℕ) × Reaches w.graph (arc s j).entry m × AtLeast w.graph m (spin s i).left.top) same
+      ((spin s i).left.top, ((arc s i).way, (arc s i).runs), record { known = b.0; other = b.0; place = refl; number = omega arith })
   comes s (suc d) i k e =
       let a = arc s i in
       let c = comes s d (suc i) k (omega arith) in
-      let high : AtLeast w.graph c.0 a.entry = record { known = c.2.known; other = a.known; place = c.2.place ∙ (top_is (spin s (suc i))).1 ∙ sym a.place; number = omega (arith, c.2.number, a.low) } in
+      let high : AtLeast w.graph c.0 a.entry = record {
+        known = c.2.known;
+        other = a.known;
+        place = c.2.place ∙ (top_is (spin s (suc i))).1 ∙ sym a.place;
+        number = omega (arith, c.2.number, a.low);
+      } in
       let h = along wf ev a.way c.0 a.entry (spin s i).left.top a.routers high a.runs in
       (h.0, (c.1.0 ++ a.way, follow_append w.graph c.1.0 a.way (arc s k).entry c.0 h.0 c.1.1 h.1), h.2)
 

@@ -1,6 +1,6 @@
 -- What comes of reading names.
 use Rattle.std.specs.Prelude.{◌≡◌, ◌⊎◌, ℕ, ◌≤◌, ◌<◌, List, [], ◌∷◌, ◌++◌, length, Option, Some, IsSome, IfSome, codes, map, slice_get, unwrap_or}
-use Rattle.net_base.specs.declared.limits.TheConstants.{INPUT_BYTES}
+use Rattle.outside.specs.declared.limits.TheConstants.{INPUT_BYTES}
 use Rattle.outside.specs.Outside.{Rose}
 use Rattle.run_base.specs.Said.{Said, line, no_memory}
 use Rattle.run_base.specs.declared.outcome.Status.TheVariants.{ReadFault, BadInput}

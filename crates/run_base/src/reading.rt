@@ -6,7 +6,7 @@ ghost use Rattle.run_base.specs.Reading.{AllHeld, AreOnlyRead, IsHeld, IsStop, I
 
 use crate::outcome::{Status, Stop};
 use net_base::List;
-use net_base::limits::INPUT_BYTES;
+use outside::limits::INPUT_BYTES;
 use outside::{InputFail, Inputs, NoMemory};
 use std::alloc::Global;
 use text_words::push_bytes;

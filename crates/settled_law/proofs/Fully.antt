@@ -6,18 +6,18 @@ use Rattle.std.proofs.lemmas.List.{length-append}
 use Rattle.net_base.specs.declared.net.Site.{Site}
 use Rattle.net_base.specs.Network.{PlainNet, IsNet, sites, id_of}
 use Rattle.net_base.specs.Prefixes.{PlainPrefix}
-use Rattle.path_words.specs.Policies.{PlainPolicy}
-use Rattle.path_words.specs.Governing.{is_origin}
+use Rattle.policy_base.specs.Policies.{PlainPolicy}
+use Rattle.policy_base.specs.Governing.{is_origin}
 use Rattle.config_base.specs.declared.route.Route.{Route}
 use Rattle.config_base.specs.Configs.{PlainConfig}
 use Rattle.config_base.specs.Lines.{class_of}
 use Rattle.outcome_base.specs.Outcomes.{Failures, Outcome, route_at, given}
-use Rattle.regret_law.proofs.Setting.{network_of, alive_of, lines_of, lines_at, line_of}
-use Rattle.regret_law.proofs.Heard.{given-heard}
-use Rattle.regret_law.proofs.Stability.{choosing, stable_lines}
+use Rattle.evidence_law.proofs.Setting.{network_of, alive_of, lines_of, lines_at, line_of}
+use Rattle.evidence_law.proofs.Heard.{given-heard}
+use Rattle.evidence_law.proofs.Stability.{choosing, stable_lines}
 use Rattle.list_laws.proofs.Options.{option_map_parts}
-use Rattle.regret_law.proofs.Existence as exist
-use Rattle.regret_law.proofs.Existence.{held, outcome_of, route_of}
+use Rattle.evidence_law.proofs.Existence as exist
+use Rattle.evidence_law.proofs.Existence.{held, outcome_of, route_of}
 use Rattle.list_laws.proofs.Keys.{place_by_key}
 use Rattle.list_laws.proofs.Items.{slice_get_inside}
 use Rattle.routing_law.specs.Lines as line

@@ -6,26 +6,26 @@ use Rattle.std.proofs.lemmas.Option.{slice_get-map}
 use Rattle.net_base.specs.Network.{PlainNet, IsNet, is_location, is_router}
 use Rattle.net_base.specs.Prefixes.{PlainPrefix, IsPrefix}
 use Rattle.net_base.specs.Sets.{holds}
-use Rattle.path_words.specs.declared.case.Case.{Case}
-use Rattle.path_words.specs.Policies.{PlainPolicy, PlainStatement}
-use Rattle.path_words.specs.Governing.{statement_of, is_origin}
-use Rattle.path_words.specs.Cases.{case_list}
+use Rattle.policy_base.specs.declared.case.Case.{Case}
+use Rattle.policy_base.specs.Policies.{PlainPolicy, PlainStatement, IsPolicyOf}
+use Rattle.policy_base.specs.Governing.{statement_of, is_origin}
+use Rattle.policy_base.specs.Cases.{case_list}
 use Rattle.config_base.specs.declared.route.Route.{Route}
 use Rattle.config_base.specs.Configs.{PlainConfig}
 use Rattle.config_base.specs.Lines.{class_of}
 use Rattle.evidence_base.specs.Made.{PlainCaseEvidence, number_at}
 use Rattle.outcome_base.specs.Outcomes.{Failures, Outcome, is_dead, route_at, given, IsStable}
-use Rattle.path_words.specs.Policies.{IsPolicyOf}
-use Rattle.regret_law.specs.Passes.{IsCaseGraph, Passes, IsClaimed}
-use Rattle.regret_law.proofs.Setting.{network_of, alive_of, lines_of, lines_at, line_of, setup_of, pairs_of}
+use Rattle.evidence_law.specs.Passes.{IsCaseGraph, Passes, IsClaimed}
+use Rattle.evidence_law.proofs.Setting.{network_of, alive_of, lines_of, lines_at, line_of, setup_of, pairs_of}
 use Rattle.list_laws.proofs.Options.{cases_Option, option_map_parts, none_or_some}
-use Rattle.regret_law.proofs.ClassFound.{class_in}
-use Rattle.regret_law.proofs.CaseOfClass.{IsCaseOf, governed_case, ungoverned_class}
-use Rattle.regret_law.proofs.GraphForms.{meets_rules}
-use Rattle.regret_law.proofs.ClassLines.{written}
-use Rattle.regret_law.proofs.Existence.{outcome_of, outcome-size, route_of}
-use Rattle.regret_law.proofs.ExistenceLaw.{lone_stable, own_alone}
-use Rattle.regret_law.proofs.RightLaw.{class_is, no_gift}
+use Rattle.evidence_law.proofs.ClassFound.{class_in}
+use Rattle.evidence_law.proofs.CaseOfClass.{IsCaseOf, governed_case, ungoverned_class}
+use Rattle.evidence_law.proofs.GraphForms.{meets_rules}
+use Rattle.evidence_law.proofs.ClassLines.{written}
+use Rattle.evidence_law.proofs.Existence.{outcome_of, outcome-size, route_of}
+use Rattle.evidence_law.proofs.ExistenceLaw.{lone_stable, own_alone}
+use Rattle.evidence_law.proofs.Heard.{no_gift}
+use Rattle.evidence_law.proofs.RightLaw.{class_is}
 use Rattle.routing_law.specs.Graph.{MeetsRules}
 use Rattle.routing_law.specs.Lines as line
 use Rattle.routing_law.specs.Outcome as outcomes
@@ -38,7 +38,13 @@ use Rattle.list_laws.proofs.Items.{same_options}
 module _ (net : PlainNet) (policy : PlainPolicy) (config : PlainConfig) (f : Failures) (p : PlainPrefix) (free : class_of config p ≡ None) where
   -- without a class nothing is given, so no ties are there to be broken
   pub bare_fully : (outcome : Outcome) → IsStable net policy config f p outcome → IsFullyStable net policy config f p outcome
-  bare_fully outcome stable = record { stable = stable; first = λ r z h g who at by. absurd (none_or_some (given net policy config f p outcome z r) g (no_gift net policy config f p outcome free z r) by) }
+  bare_fully outcome stable =
+      record {
+        stable = stable;
+        first =
+            λ r z h g who at by. absurd
+            (none_or_some (given net policy config f p outcome z r) g (no_gift net policy config f p outcome free z r) by);
+      }
 
   -- and each router's route is known
   bare_route : (a b : Outcome) → IsStable net policy config f p a → IsStable net policy config f p b → (r : ℕ) → is_router net r ≡ true → route_at a r ≡ route_at b r
@@ -49,7 +55,8 @@ module _ (net : PlainNet) (policy : PlainPolicy) (config : PlainConfig) (f : Fai
           let h = and_from (is_router net r && is_origin net policy p r) (not (is_dead f r)) (and_from (is_router net r) (is_origin net policy p r) router own) (not_from_false _ alive) in
           x.own r h ∙ sym (y.own r h))
       | inr other ↦ (
-          let h = and_from (is_router net r && not (is_origin net policy p r)) (not (is_dead f r)) (and_from (is_router net r) (not (is_origin net policy p r)) router (not_from_false _ other)) (not_from_false _ alive) in
+          let h = and_from (is_router net r && not (is_origin net policy p r)) (not (is_dead f r))
+          (and_from (is_router net r) (not (is_origin net policy p r)) router (not_from_false _ other)) (not_from_false _ alive) in
           unrouted a x r h ∙ sym (unrouted b y r h))
     ]
   ]
@@ -60,7 +67,8 @@ module _ (net : PlainNet) (policy : PlainPolicy) (config : PlainConfig) (f : Fai
         | inr has ↦ (let by = (x.chooses r h).given_by has.0 has.1 in absurd (none_or_some (given net policy config f p a by.0 r) has.0 (no_gift net policy config f p a free by.0 r) by.1))
       ]
 
-module _ (net : PlainNet) (policy : PlainPolicy) (config : PlainConfig) (cs : List PlainCaseEvidence) (rules : IsNet net) (kept : IsPolicyOf net policy) (passes : Passes net policy config cs) (f : Failures) (p : PlainPrefix) where
+module _ (net : PlainNet) (policy : PlainPolicy) (config : PlainConfig) (cs : List PlainCaseEvidence) (rules : IsNet net)
+    (kept : IsPolicyOf net policy) (passes : Passes net policy config cs) (f : Failures) (p : PlainPrefix) where
   classed : class_of config p ≡ class_in policy p (case_list net policy) 1
   classed = class_is net policy config cs rules kept passes.made p
 
@@ -78,7 +86,8 @@ module _ (net : PlainNet) (policy : PlainPolicy) (config : PlainConfig) (cs : Li
     pub lines : spelled.Written (network_of net (holds d.case.origins)) (setup_of net f d).graph (pairs_of d) (lines_of net config p (suc k))
     pub numbers : MeetsRules (network_of net (holds d.case.origins)) (setup_of net f d).graph
 
-  case_here : (s : PlainStatement) → statement_of policy p ≡ Some s → (k : ℕ) (d : PlainCaseEvidence) → slice_get cs k ≡ Some d → class_of config p ≡ Some (suc k) → IsCaseOf net policy p s k d.case → CaseFound
+  case_here : (s : PlainStatement) → statement_of policy p ≡ Some s → (k : ℕ) (d : PlainCaseEvidence) → slice_get cs k ≡ Some d
+      → class_of config p ≡ Some (suc k) → IsCaseOf net policy p s k d.case → CaseFound
   case_here s governs k d at of_class of_case =
       let graph = passes.made.graphs k d s at of_case.number in
       let origin = holds d.case.origins in
@@ -135,7 +144,8 @@ module _ (net : PlainNet) (policy : PlainPolicy) (config : PlainConfig) (cs : Li
   from_graph c r full =
       let held = outcomes.with_tags (setup_of net f c.d) (pairs_of c.d) (lines_of net config p (suc c.k)) r in
       let lined = graph_is_lines (setup_of net f c.d) (pairs_of c.d) (lines_of net config p (suc c.k)) r c.lines full in
-      fully net policy config f p (suc c.k) rules c.of_class held (subst (λ (o : ℕ → Bool). line.LinesFullyStable (network_of net o) (alive_of net f) (lines_of net config p (suc c.k)) held) c.same lined)
+      fully net policy config f p (suc c.k) rules c.of_class held
+      (subst (λ (o : ℕ → Bool). line.LinesFullyStable (network_of net o) (alive_of net f) (lines_of net config p (suc c.k)) held) c.same lined)
 
   -- ---- one outcome
 
@@ -146,8 +156,10 @@ module _ (net : PlainNet) (policy : PlainPolicy) (config : PlainConfig) (cs : Li
   case_one : CaseFound → (a b : Outcome) → IsFullyStable net policy config f p a → IsFullyStable net policy config f p b → (r : ℕ) → is_router net r ≡ true → route_at a r ≡ route_at b r
   case_one c a b x y r router =
       let lined : (o : Outcome) → IsFullyStable net policy config f p o → line.LinesFullyStable (network_of net (holds c.d.case.origins)) (alive_of net f) (lines_of net config p (suc c.k)) (lines_at o) =
-      λ o full. subst (λ (q : ℕ → Bool). line.LinesFullyStable (network_of net q) (alive_of net f) (lines_of net config p (suc c.k)) (lines_at o)) (sym c.same) (fully_lines net policy config f p (suc c.k) rules c.of_class o full) in
-      let same = lines_unique (setup_of net f c.d) (pairs_of c.d) (lines_of net config p (suc c.k)) (lines_at a) (lines_at b) (names_differ net (holds c.d.case.origins) rules) c.lines c.numbers (lined a x) (lined b y) r router in
+      λ o full. subst (λ (q : ℕ → Bool). line.LinesFullyStable (network_of net q) (alive_of net f) (lines_of net config p (suc c.k)) (lines_at o))
+      (sym c.same) (fully_lines net policy config f p (suc c.k) rules c.of_class o full) in
+      let same = lines_unique (setup_of net f c.d) (pairs_of c.d) (lines_of net config p (suc c.k)) (lines_at a) (lines_at b)
+      (names_differ net (holds c.d.case.origins) rules) c.lines c.numbers (lined a x) (lined b y) r router in
       sym (unlined (route_at a r)) ∙ ap (option_map route_of) same ∙ unlined (route_at b r)
 
   one_route : IsPrefix p → (a b : Outcome) → IsFullyStable net policy config f p a → IsFullyStable net policy config f p b → (r : ℕ) → is_router net r ≡ true → route_at a r ≡ route_at b r

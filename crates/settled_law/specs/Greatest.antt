@@ -2,16 +2,15 @@
 use Rattle.std.specs.Prelude.{◌≡◌, ℕ, suc, ◌≤◌, not, ◌&&◌, IsTrue, List, ◌∷◌, Some, slice_get}
 use Rattle.net_base.specs.Network.{PlainNet, IsNet, is_router}
 use Rattle.net_base.specs.Prefixes.{PlainPrefix, IsPrefix}
-use Rattle.path_words.specs.Policies.{PlainPolicy}
-use Rattle.path_words.specs.Governing.{is_origin}
+use Rattle.policy_base.specs.Policies.{PlainPolicy, IsPolicyOf}
+use Rattle.policy_base.specs.Governing.{is_origin}
 use Rattle.graph_base.specs.Runs.{run}
 use Rattle.config_base.specs.declared.route.Route.{Route}
 use Rattle.config_base.specs.Configs.{PlainConfig}
 use Rattle.config_base.specs.Lines.{class_of}
 use Rattle.evidence_base.specs.Made.{PlainCaseEvidence, number_at, tag_at}
 use Rattle.outcome_base.specs.Outcomes.{Failures, Outcome, route_at, survives, IsStable}
-use Rattle.path_words.specs.Policies.{IsPolicyOf}
-use Rattle.regret_law.specs.Passes.{Passes}
+use Rattle.evidence_law.specs.Passes.{Passes}
 
 -- A node is reached at r: the run along a path that survives ends in it. The path may pass a location more than once.
 abbrev pub IsReachedAt : PlainNet → Failures → PlainCaseEvidence → ℕ → ℕ → Type 0

@@ -2,14 +2,13 @@
 use Rattle.std.specs.Prelude.{◌≡◌, ℕ, ◌≤◌, not, ◌&&◌, IsTrue, List, length, Some}
 use Rattle.net_base.specs.Network.{PlainNet, IsNet, is_router, id_of}
 use Rattle.net_base.specs.Prefixes.{PlainPrefix, IsPrefix}
-use Rattle.path_words.specs.Policies.{PlainPolicy}
-use Rattle.path_words.specs.Governing.{is_origin}
+use Rattle.policy_base.specs.Policies.{PlainPolicy, IsPolicyOf}
+use Rattle.policy_base.specs.Governing.{is_origin}
 use Rattle.config_base.specs.declared.route.Route.{Route}
 use Rattle.config_base.specs.Configs.{PlainConfig}
 use Rattle.evidence_base.specs.Made.{PlainCaseEvidence}
 use Rattle.outcome_base.specs.Outcomes.{Failures, Outcome, is_dead, route_at, given, IsStable}
-use Rattle.path_words.specs.Policies.{IsPolicyOf}
-use Rattle.regret_law.specs.Passes.{Passes}
+use Rattle.evidence_law.specs.Passes.{Passes}
 use Rattle.routing_law.specs.Network.{giver}
 
 -- h comes no later than g

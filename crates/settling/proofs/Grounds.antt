@@ -6,8 +6,8 @@ use Rattle.net_base.specs.declared.loc.LocSet.{LocSet}
 use Rattle.net_base.specs.Network.{PlainNet, IsNet, is_router, linked}
 use Rattle.net_base.specs.Prefixes.{PlainPrefix}
 use Rattle.net_base.specs.Sets.{holds}
-use Rattle.path_words.specs.Governing.{is_origin}
-use Rattle.path_words.specs.Policies.{PlainPolicy, IsPolicyOf}
+use Rattle.policy_base.specs.Governing.{is_origin}
+use Rattle.policy_base.specs.Policies.{PlainPolicy, IsPolicyOf}
 use Rattle.graph_base.specs.Graphs.{PlainGraph}
 use Rattle.graph_base.specs.Runs.{place_of, is_start, has_step}
 use Rattle.graph_base.proofs.StartsAndSteps.{start_at-is, step_at-is}
@@ -15,8 +15,8 @@ use Rattle.graph_base.proofs.WellFormed.{start_at-of, step_at-of}
 use Rattle.config_base.specs.Configs.{PlainConfig}
 use Rattle.evidence_base.specs.Made.{PlainCaseEvidence}
 use Rattle.outcome_base.specs.Outcomes.{Failures, is_dead, is_dead_link, is_live}
-use Rattle.regret_law.proofs.Setting.{setup_of}
-use Rattle.regret_law.specs.Passes.{Passes}
+use Rattle.evidence_law.proofs.Setting.{setup_of}
+use Rattle.evidence_law.specs.Passes.{Passes}
 use Rattle.settled_law.proofs.Fully.{names_differ}
 use Rattle.settled_law.proofs.SettledLaw.{CaseFound}
 use Rattle.graph_settling.specs.Grounds.{IsGround}
@@ -25,7 +25,8 @@ use Rattle.stable_paths.specs.declared.survivors.Survivors.{Survivors}
 use Rattle.settling.specs.Surviving.{chooses_by, left_by}
 use Rattle.settling.proofs.Surviving.{starts_are, steps_are}
 
-module _ (net : PlainNet) (policy : PlainPolicy) (config : PlainConfig) (cs : List PlainCaseEvidence) (rules : IsNet net) (kept : IsPolicyOf net policy) (passes : Passes net policy config cs) (f : Failures) (p : PlainPrefix)
+module _ (net : PlainNet) (policy : PlainPolicy) (config : PlainConfig) (cs : List PlainCaseEvidence) (rules : IsNet net)
+    (kept : IsPolicyOf net policy) (passes : Passes net policy config cs) (f : Failures) (p : PlainPrefix)
     (c : CaseFound net policy config cs rules kept passes f p) (s : Survivors) (are : AreSurvivors net f s) (origins choosers : LocSet)
     (same : (l : ℕ) → holds origins l ≡ is_origin net policy p l) (choose : (l : ℕ) → holds choosers l ≡ chooses_by net s origins l) where
   abbrev g : PlainGraph

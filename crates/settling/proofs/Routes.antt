@@ -8,19 +8,19 @@ use Rattle.net_base.specs.declared.loc.LocSet.{LocSet}
 use Rattle.net_base.specs.Network.{PlainNet, IsNet, is_router}
 use Rattle.net_base.specs.Prefixes.{PlainPrefix, IsPrefix}
 use Rattle.net_base.specs.Sets.{holds}
-use Rattle.path_words.specs.Governing.{is_origin}
-use Rattle.path_words.specs.Policies.{PlainPolicy, IsPolicyOf}
+use Rattle.policy_base.specs.Governing.{is_origin}
+use Rattle.policy_base.specs.Policies.{PlainPolicy, IsPolicyOf}
 use Rattle.graph_base.specs.Runs.{is_start, place_of}
 use Rattle.config_base.specs.Configs.{PlainConfig}
 use Rattle.config_base.specs.Lines.{class_of}
 use Rattle.config_base.specs.declared.route.Route.{Route}
 use Rattle.evidence_base.specs.Made.{PlainCaseEvidence, case_at}
 use Rattle.outcome_base.specs.Outcomes.{Failures, Outcome, IsStable, given, is_dead, route_at}
-use Rattle.regret_law.proofs.Existence.{held, outcome-size, outcome_of, route_of}
-use Rattle.regret_law.proofs.ExistenceLaw.{lone_stable, own_alone}
-use Rattle.regret_law.proofs.RightLaw.{no_gift}
-use Rattle.regret_law.proofs.Setting.{lines_of, pairs_of, setup_of}
-use Rattle.regret_law.specs.Passes.{Passes}
+use Rattle.evidence_law.proofs.Existence.{held, outcome-size, outcome_of, route_of}
+use Rattle.evidence_law.proofs.ExistenceLaw.{lone_stable, own_alone}
+use Rattle.evidence_law.proofs.Heard.{no_gift}
+use Rattle.evidence_law.proofs.Setting.{lines_of, pairs_of, setup_of}
+use Rattle.evidence_law.specs.Passes.{Passes}
 use Rattle.routing_law.specs.Outcome.{with_tag, with_tags}
 use Rattle.graph_settling.specs.Best.{entry_at}
 use Rattle.graph_settling.specs.Grounds.{held_in}
@@ -34,7 +34,8 @@ use Rattle.stable_paths.specs.declared.survivors.Survivors.{Survivors}
 use Rattle.settling.proofs.Grounds.{is_ground}
 
 -- an outcome is told by what its routers hold
-same_outcome : (net : PlainNet) (held_at : ℕ → Option Route) (routes : Outcome) → length routes ≡ length net.routers → ((r : ℕ) → r < length net.routers → route_at routes r ≡ held_at r) → routes ≡ outcome_of net held_at
+same_outcome : (net : PlainNet) (held_at : ℕ → Option Route) (routes : Outcome) → length routes ≡ length net.routers
+    → ((r : ℕ) → r < length net.routers → route_at routes r ≡ held_at r) → routes ≡ outcome_of net held_at
 same_outcome net held_at routes size each =
     same_options routes (outcome_of net held_at) (size ∙ sym (outcome-size net held_at)) (λ r low.
     let below : r < length net.routers = omega (arith, low, size) in
@@ -45,7 +46,8 @@ entry_route [] r = refl
 entry_route (x ∷ routes) zero = refl
 entry_route (x ∷ routes) (suc r) = entry_route routes r
 
-module _ (net : PlainNet) (policy : PlainPolicy) (config : PlainConfig) (cs : List PlainCaseEvidence) (rules : IsNet net) (kept : IsPolicyOf net policy) (passes : Passes net policy config cs) (f : Failures) (p : PlainPrefix) (prefix : IsPrefix p) where
+module _ (net : PlainNet) (policy : PlainPolicy) (config : PlainConfig) (cs : List PlainCaseEvidence) (rules : IsNet net)
+    (kept : IsPolicyOf net policy) (passes : Passes net policy config cs) (f : Failures) (p : PlainPrefix) (prefix : IsPrefix p) where
   abbrev Found : Type 0
   Found = CaseFound net policy config cs rules kept passes f p
 
@@ -89,7 +91,9 @@ module _ (net : PlainNet) (policy : PlainPolicy) (config : PlainConfig) (cs : Li
             let here : holds origins r ≡ false = same r ∙ off in
             elim (cases_Bool (is_dead f r)) [
               | inl dead ↦ rw here (sym (stable.dead r dead))
-              | inr live ↦ rw here (sym (unrouted r (and_from (is_router net r && not (is_origin net policy p r)) (not (is_dead f r)) (and_from (is_router net r) (not (is_origin net policy p r)) router (not_from_false _ off)) (not_from_false _ live))))
+              | inr live ↦
+                  rw here (sym (unrouted r (and_from (is_router net r && not (is_origin net policy p r)) (not (is_dead f r))
+                  (and_from (is_router net r) (not (is_origin net policy p r)) router (not_from_false _ off)) (not_from_false _ live))))
             ])
         | inl on ↦ (
             let here : holds origins r ≡ true = same r ∙ on in
@@ -97,7 +101,8 @@ module _ (net : PlainNet) (policy : PlainPolicy) (config : PlainConfig) (cs : Li
               | inl dead ↦ (let gone : holds s.dead r ≡ true = are.dead r ∙ dead in rw (here, gone) (sym (stable.dead r dead)))
               | inr live ↦ (
                   let left : holds s.dead r ≡ false = are.dead r ∙ live in
-                  rw (here, left) (sym (stable.own r (and_from (is_router net r && is_origin net policy p r) (not (is_dead f r)) (and_from (is_router net r) (is_origin net policy p r) router on) (not_from_false _ live)))))
+                  rw (here, left) (sym (stable.own r (and_from (is_router net r && is_origin net policy p r) (not (is_dead f r))
+                  (and_from (is_router net r) (is_origin net policy p r) router on) (not_from_false _ live)))))
             ])
       ]
 
@@ -120,7 +125,10 @@ module _ (net : PlainNet) (policy : PlainPolicy) (config : PlainConfig) (cs : Li
       abbrev by_lines : ℕ → Option Route
       by_lines r = option_map route_of (with_tags (setup_of net f c.d) (pairs_of c.d) (lines_of net config p (suc c.k)) (held_in settled) r)
 
-      retagged : (o : Option Settled) → option_map (tagged c.d) o ≡ option_map route_of (option_map (with_tag (setup_of net f c.d).graph (pairs_of c.d)) (option_map (λ (x : Settled). record { path = x.path; node = x.node }) o))
+      retagged : (o : Option Settled)
+          → option_map (tagged c.d) o
+          ≡ option_map route_of (option_map (with_tag (setup_of net f c.d).graph (pairs_of c.d))
+          (option_map (λ (x : Settled). record { path = x.path; node = x.node }) o))
       retagged None = refl
       retagged (Some x) = refl
 
@@ -147,5 +155,6 @@ module _ (net : PlainNet) (policy : PlainPolicy) (config : PlainConfig) (cs : Li
         by c here =
             let mine : AreSettled net s origins c.d others = subst (λ (e : PlainCaseEvidence). AreSettled net s origins e others) (sym here) settled in
             let full = mine.stable (setup_of net f c.d) (is_ground net policy config cs rules kept passes f p c s are origins mine.choosers same mine.choose) in
-            subst (IsFullyStable net policy config f p) (sym (same_outcome net (by_lines c mine.settled) routes size (λ r low. entry_route routes r ∙ each r low ∙ case_held c mine.settled (entry_at others) r (mine.each r low))))
+            subst (IsFullyStable net policy config f p) (sym (same_outcome net (by_lines c mine.settled) routes size
+            (λ r low. entry_route routes r ∙ each r low ∙ case_held c mine.settled (entry_at others) r (mine.each r low))))
             (from_graph net policy config cs rules kept passes f p c (held_in mine.settled) full)

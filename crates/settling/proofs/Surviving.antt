@@ -31,7 +31,9 @@ module _ (net : PlainNet) (f : Failures) (s : Survivors) (are : AreSurvivors net
       same : (e : ℕ × ℕ) → (e.0 == m && e.1 == n) ≡ true → steps_by net s g e ≡ carries net f (place_of g m) (place_of g n)
       same e h =
           let parts = and_parts (e.0 == m) (e.1 == n) h in
-          ap (λ k. carries_by net s (place_of g k) (place_of g e.1)) (eqb-true e.0 m parts.0) ∙ ap (λ k. carries_by net s (place_of g m) (place_of g k)) (eqb-true e.1 n parts.1) ∙ carries_is net f s are (place_of g m) (place_of g n)
+          ap (λ k. carries_by net s (place_of g k) (place_of g e.1)) (eqb-true e.0 m parts.0)
+          ∙ ap (λ k. carries_by net s (place_of g m) (place_of g k)) (eqb-true e.1 n parts.1)
+          ∙ carries_is net f s are (place_of g m) (place_of g n)
 
 -- a start that is left was one
 start_was : (net : PlainNet) (s : Survivors) (g : PlainGraph) (n : ℕ) → is_start (left_by net s g) n ≡ true → is_start g n ≡ true
@@ -42,7 +44,8 @@ start_was net s g n h =
 pub starts_choose_not : (net : PlainNet) (s : Survivors) (g : PlainGraph) (origins : LocSet) → ((n : ℕ) → IsTrue (is_start g n) → IsTrue (holds origins (place_of g n)))
     → (n : ℕ) → IsTrue (is_start (left_by net s g) n) → chooses_by net s origins (place_of g n) ≡ false
 starts_choose_not net s g origins at n start =
-    ap (λ o. is_router net (place_of g n) && (not (holds s.dead (place_of g n)) && not o)) (at n (start_was net s g n start)) ∙ and_right (is_router net (place_of g n)) _ (and-false (not (holds s.dead (place_of g n))))
+    ap (λ o. is_router net (place_of g n) && (not (holds s.dead (place_of g n)) && not o)) (at n (start_was net s g n start))
+    ∙ and_right (is_router net (place_of g n)) _ (and-false (not (holds s.dead (place_of g n))))
 
 -- what passes a test is what was there
 kept_all : {A : Type 0} (P : A → Type 0) (test : A → Bool) (xs : List A) → AllByRecursion P xs → AllByRecursion P (filter test xs)

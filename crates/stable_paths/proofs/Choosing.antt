@@ -8,7 +8,7 @@ use Rattle.std.proofs.lemmas.Bool.Decides.{eqb_tells, nat_tests}
 use Rattle.list_laws.proofs.Options.{when_parts}
 use Rattle.net_base.specs.Network.{PlainNet, joins, linked}
 use Rattle.net_base.specs.Prefixes.{PlainPrefix}
-use Rattle.path_words.specs.Policies.{PlainPolicy}
+use Rattle.policy_base.specs.Policies.{PlainPolicy}
 use Rattle.config_base.specs.declared.route.Route.{Route}
 use Rattle.config_base.specs.Configs.{PlainConfig}
 use Rattle.outcome_base.specs.Outcomes.{Failures, Outcome, is_live, route_at, given, Chooses}

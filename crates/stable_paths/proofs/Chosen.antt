@@ -55,7 +55,8 @@ module _ (t : ℕ → ℕ → Bool) (links : List (ℕ × ℕ)) (i : ℕ) (link 
   pub told_more : (before after : ℕ → Bool) → ((r : ℕ) → before r ≡ list_any (tells r) (take i links))
       → ((r : ℕ) → after r ≡ ((before r || (r == link.0 && t link.1 link.0)) || (r == link.1 && t link.0 link.1))) → (r : ℕ) → after r ≡ list_any (tells r) (take (i + 1) links)
   told_more before after was grown r =
-      grown r ∙ ap (λ b. (b || (r == link.0 && t link.1 link.0)) || (r == link.1 && t link.0 link.1)) (was r) ∙ both_ends t link r (list_any (tells r) (take i links)) ∙ sym (any_next (tells r) links i link within is)
+      grown r ∙ ap (λ b. (b || (r == link.0 && t link.1 link.0)) || (r == link.1 && t link.0 link.1)) (was r)
+      ∙ both_ends t link r (list_any (tells r) (take i links)) ∙ sym (any_next (tells r) links i link within is)
 
 -- the ends of a link are locations
 pub ends_low : (net : PlainNet) → IsNet net → (i : ℕ) (link : ℕ × ℕ) → i < length net.links → link ≡ get_or net.links i link → (link.0 < 768) × (link.1 < 768)

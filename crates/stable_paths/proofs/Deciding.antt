@@ -4,7 +4,7 @@ use Rattle.std.specs.Prelude.{◌↔◌, option_map}
 use Rattle.std.specs.List.{list_any}
 use Rattle.std.specs.Option.{option_map_or}
 use Rattle.net_base.specs.Sets.{holds}
-use Rattle.path_words.specs.Policies.{policy_of}
+use Rattle.policy_base.specs.Policies.{policy_of}
 use Rattle.config_base.specs.declared.route.Route.{Route}
 use Rattle.outcome_base.specs.Outcomes.{Chooses}
 use Rattle.stable_paths.specs.Scenarios.{failures_of}

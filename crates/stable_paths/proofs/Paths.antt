@@ -3,7 +3,7 @@ use Rattle.std.proofs.Common.{◌≡◌, ℕ, zero, suc, ◌+◌, Bool, true, fa
 use Rattle.std.specs.Prelude.{◌&&◌, ◌||◌}
 use Rattle.std.specs.List.{list_any}
 use Rattle.net_base.specs.Network.{PlainNet, is_peer}
-use Rattle.path_words.specs.Meaning.{some_step}
+use Rattle.policy_base.specs.Meaning.{some_step}
 use Rattle.outcome_base.specs.Outcomes.{Failures, is_dead, is_dead_link, is_silent, passes_live, ends_heard}
 
 split : (a b c d : Bool) → (not a && not b && (not c && not d)) ≡ (not (a || c) && not (b || d))
@@ -30,7 +30,8 @@ pub ends_heard_last : (net : PlainNet) (f : Failures) (path : List ℕ) (i j r p
 ends_heard_last net f [] i j r p first second router last = absurd (omega arith)
 ends_heard_last net f (x ∷ []) i j r p first second router last = absurd (omega arith)
 ends_heard_last net f (x ∷ y ∷ []) zero zero r p first second router last = absurd (omega arith)
-ends_heard_last net f (x ∷ y ∷ []) zero (suc zero) r p first second router last = ap (λ q. not (is_peer net y && is_silent f q y)) (sym router) ∙ ap (λ q. not (is_peer net q && is_silent f r q)) (sym last)
+ends_heard_last net f (x ∷ y ∷ []) zero (suc zero) r p first second router last =
+    ap (λ q. not (is_peer net y && is_silent f q y)) (sym router) ∙ ap (λ q. not (is_peer net q && is_silent f r q)) (sym last)
 ends_heard_last net f (x ∷ y ∷ []) zero (suc (suc j)) r p first second router last = absurd (omega arith)
 ends_heard_last net f (x ∷ y ∷ []) (suc i) j r p first second router last = absurd (omega arith)
 ends_heard_last net f (x ∷ y ∷ z ∷ zs) zero j r p first second router last = absurd (omega arith)

@@ -3,8 +3,8 @@ use Rattle.std.specs.Prelude.{◌≡◌, ℕ, Bool, false, Option, option_map}
 use Rattle.std.specs.List.{list_any}
 use Rattle.std.specs.Option.{option_map_or}
 use Rattle.net_base.specs.Sets.{holds}
-use Rattle.path_words.specs.Governing.{is_origin}
-use Rattle.path_words.specs.Policies.{policy_of}
+use Rattle.policy_base.specs.Governing.{is_origin}
+use Rattle.policy_base.specs.Policies.{policy_of}
 use Rattle.config_base.specs.Lines.{class_of}
 use Rattle.config_base.specs.declared.route.Route.{Route}
 use Rattle.outcome_base.specs.Outcomes.{given, route_at}

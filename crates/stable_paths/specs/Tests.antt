@@ -4,8 +4,8 @@ use Rattle.std.specs.List.{list_any}
 use Rattle.std.specs.Str.{bytes_eq}
 use Rattle.net_base.specs.Network.{PlainNet}
 use Rattle.net_base.specs.Prefixes.{PlainPrefix}
-use Rattle.path_words.specs.Policies.{PlainPolicy}
-use Rattle.path_words.specs.Governing.{is_origin}
+use Rattle.policy_base.specs.Policies.{PlainPolicy}
+use Rattle.policy_base.specs.Governing.{is_origin}
 use Rattle.config_base.specs.declared.route.Route.{Route}
 use Rattle.config_base.specs.Configs.{PlainConfig}
 use Rattle.config_base.specs.Lines.{same_tag, own_route}

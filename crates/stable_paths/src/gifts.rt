@@ -3,8 +3,8 @@ ghost use Rattle.std.specs.Prelude.{◌≡◌, ◌∷◌, ◌&&◌, not, Some, N
 ghost use Rattle.std.specs.Str.{bytes_eq};
 ghost use Rattle.net_base.specs.Network.{is_peer};
 ghost use Rattle.net_base.specs.Numbers.{no_tag};
-ghost use Rattle.path_words.specs.Policies.{policy_of};
-ghost use Rattle.path_words.specs.Governing.{is_origin as origin};
+ghost use Rattle.policy_base.specs.Policies.{policy_of};
+ghost use Rattle.policy_base.specs.Governing.{is_origin as origin};
 ghost use Rattle.outcome_base.specs.Outcomes.{is_silent, sent as sent_by};
 ghost use Rattle.stable_paths.specs.Scenarios.{failures_of};
 ghost use Rattle.stable_paths.specs.Situations.{IsSituation, given_in};

@@ -1,7 +1,7 @@
 //! What peers are offered in an outcome.
 ghost use Rattle.std.specs.Prelude.{◌≡◌, ◌∷◌, ◌&&◌, option_map};
 ghost use Rattle.net_base.specs.Network.{is_peer, is_router};
-ghost use Rattle.path_words.specs.Policies.{policy_of};
+ghost use Rattle.policy_base.specs.Policies.{policy_of};
 ghost use Rattle.outcome_base.specs.Outcomes.{is_live as live, offered as offered_by};
 ghost use Rattle.stable_paths.specs.Scenarios.{failures_of};
 ghost use Rattle.stable_paths.specs.Situations.{IsSituation};

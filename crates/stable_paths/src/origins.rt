@@ -1,11 +1,11 @@
 //! The origins of a prefix.
 ghost use Rattle.std.specs.Prelude.{◌≡◌, ℕ};
 ghost use Rattle.net_base.specs.Sets.{holds};
-ghost use Rattle.path_words.specs.Governing.{is_origin};
-ghost use Rattle.path_words.specs.Policies.{policy_of};
+ghost use Rattle.policy_base.specs.Governing.{is_origin};
+ghost use Rattle.policy_base.specs.Policies.{policy_of};
 
 use net_base::{LocSet, Net, Prefix, known_net};
-use path_words::{Policy, origins_of};
+use policy_base::{Policy, origins_of};
 
 /// The origins of a prefix.
 pub fn origins_at(net: &Net, policy: &Policy, prefix: Prefix) -> LocSet

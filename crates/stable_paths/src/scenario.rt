@@ -2,7 +2,7 @@
 ghost use Rattle.std.specs.Prelude.{◌≡◌, ◌&&◌};
 ghost use Rattle.std.specs.List.{list_any};
 ghost use Rattle.net_base.specs.Network.{is_peer};
-ghost use Rattle.path_words.specs.Meaning.{some_step};
+ghost use Rattle.policy_base.specs.Meaning.{some_step};
 ghost use Rattle.outcome_base.specs.Outcomes.{is_dead as dead, is_dead_link as dead_link, is_silent as silent, passes_live as all_live, ends_heard as heard, survives as surviving};
 ghost use Rattle.stable_paths.specs.Scenarios.{failures_of};
 

@@ -1,8 +1,8 @@
 //! An outcome with what it is of.
 ghost use Rattle.std.specs.Prelude.{◌≡◌};
 ghost use Rattle.outcome_base.specs.Outcomes.{is_dead as dead, is_live as live};
-ghost use Rattle.path_words.specs.Governing.{is_origin as origin};
-ghost use Rattle.path_words.specs.Policies.{policy_of};
+ghost use Rattle.policy_base.specs.Governing.{is_origin as origin};
+ghost use Rattle.policy_base.specs.Policies.{policy_of};
 ghost use Rattle.stable_paths.specs.Scenarios.{failures_of};
 ghost use Rattle.stable_paths.specs.Situations.{IsSituation};
 
@@ -12,7 +12,7 @@ use crate::scenario::Scenario;
 use crate::survivors::Survivors;
 use config_base::{Config, class_of};
 use net_base::{Loc, LocSet, Net};
-use path_words::Policy;
+use policy_base::Policy;
 
 /// An outcome of a configured network under the failures of a scenario. The class and the origins of the scenario's prefix
 /// and what fails are found once, and no memory is taken.

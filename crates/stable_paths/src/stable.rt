@@ -1,6 +1,6 @@
 //! Whether an outcome is stable.
 ghost use Rattle.std.specs.Prelude.{◌≡◌, ◌↔◌, Some, IsTrue, length};
-ghost use Rattle.path_words.specs.Policies.{policy_of};
+ghost use Rattle.policy_base.specs.Policies.{policy_of};
 ghost use Rattle.config_base.specs.Lines.{own_route};
 ghost use Rattle.outcome_base.specs.Outcomes.{Chooses, IsStable};
 ghost use Rattle.stable_paths.specs.Scenarios.{failures_of};
@@ -14,7 +14,7 @@ use crate::scenario::Scenario;
 use crate::situation::Situation;
 use config_base::{Config, Route, own_tag};
 use net_base::{Loc, Net, Prefix};
-use path_words::Policy;
+use policy_base::Policy;
 
 // Whether a route is an origin's own one.
 fn is_own_route(net: &Net, config: &Config, prefix: Prefix, at: Loc, route: &Route) -> bool

@@ -10,7 +10,7 @@ use Rattle.list_laws.proofs.Each.{AllByRecursion-filter}
 use Rattle.list_laws.proofs.Items.{slice_get-append_left}
 use Rattle.net_base.specs.Network.{PlainNet, is_router, linked}
 use Rattle.net_base.specs.Sets.{holds}
-use Rattle.path_words.specs.declared.case.Case.{Case}
+use Rattle.policy_base.specs.declared.case.Case.{Case}
 use Rattle.path_exprs.specs.Expression.{Expression}
 use Rattle.path_exprs.specs.Derivative.{derivative}
 use Rattle.path_exprs.specs.Standings.{Standing, is_dead, moved, same_standing, AreReached}

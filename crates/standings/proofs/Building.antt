@@ -8,8 +8,8 @@ use Rattle.graph_base.specs.Graphs.{IsGraph}
 use Rattle.graph_base.specs.declared.graph.Node.{Node}
 use Rattle.net_base.specs.Network.{PlainNet, is_router, linked}
 use Rattle.net_base.specs.Sets.{holds}
-use Rattle.path_words.specs.declared.case.Case.{Case}
-use Rattle.path_words.specs.declared.policy.FromSet.{FromSet}
+use Rattle.policy_base.specs.declared.case.Case.{Case}
+use Rattle.policy_base.specs.declared.policy.FromSet.{FromSet}
 use Rattle.path_exprs.specs.Derivative.{derivative}
 use Rattle.path_exprs.specs.Expression.{Expression}
 use Rattle.net_base.specs.NetSets.{locations}
@@ -143,7 +143,8 @@ graph-inside net plan xs steps a few =
     subst (λ l. Among l t) (sym (a.standings.order ∙ without_repeats-gathered [] [] (starts net plan ++ flat_map (targets net plan) xs) (λ x. refl)))
     (gathered-among [] (starts net plan ++ flat_map (targets net plan) xs) t (among-right t (starts net plan) (flat_map (targets net plan) xs) h)) in
     let counted = a.counted in
-    let starts_inside = AllByRecursion-weaker (λ k. k < length (starts net plan)) (λ k. k < length xs) (numbers_below (length (starts net plan))) (λ k low. omega arith) (numbers-below (length (starts net plan))) in
+    let starts_inside = AllByRecursion-weaker (λ k. k < length (starts net plan)) (λ k. k < length xs) (numbers_below (length (starts net plan)))
+    (λ k low. omega arith) (numbers-below (length (starts net plan))) in
     record {
       count = omega arith;
       starts = subst (λ n. AllByRecursion (λ k. k < n) (numbers_below (length (starts net plan)))) (sym size) starts_inside;

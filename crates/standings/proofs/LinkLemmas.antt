@@ -8,7 +8,7 @@ use Rattle.list_laws.proofs.Changed.{filter-filter}
 use Rattle.list_laws.proofs.Truth.{same_tests}
 use Rattle.net_base.specs.Network.{PlainNet, Ascend, IsBefore, IsLink, IsNet, is_router, joins, linked}
 use Rattle.net_base.specs.Sets.{holds}
-use Rattle.path_words.specs.declared.case.Case.{Case}
+use Rattle.policy_base.specs.declared.case.Case.{Case}
 use Rattle.net_base.specs.Locations.{in_order, numbers_below}
 use Rattle.standings.specs.Growth.{may_enter, ways}
 use Rattle.standings.proofs.Below.{filter_first, filter_none}
@@ -125,7 +125,8 @@ ends-filter n at (a ∷ links) pairs order = let rest = ends-filter n at links p
         let p = pairs.0 in
         elim f [ inl t ↦ omega (arith, t, p) | inr t ↦ omega (arith, t, p) ]
 
-    far : flat_map (other_end at) links ≡ filter (λ k. list_any (joins at k) links) (numbers_below n) → (m : ℕ) → IsFar at a m → m ∷ flat_map (other_end at) links ≡ filter (λ k. list_any (joins at k) (a ∷ links)) (numbers_below n)
+    far : flat_map (other_end at) links ≡ filter (λ k. list_any (joins at k) links) (numbers_below n) → (m : ℕ) → IsFar at a m
+        → m ∷ flat_map (other_end at) links ≡ filter (λ k. list_any (joins at k) (a ∷ links)) (numbers_below n)
     far rest m f =
         ap (λ l. m ∷ l) rest
         ∙ sym (filter_first (λ k. list_any (joins at k) links) m n (within m f) (later_further n at m a links pairs.0 f pairs.1 order.0))

@@ -164,7 +164,9 @@ place-key ss ks n k j apart known d h e =
     (slice_get-standings_in ss ks n j h ∙ ap (λ l. Some (standing_in ss l)) (sym (same_key-equal k j e)))
 
 pub known-insert_key : (ss : List (List Expression)) (ks new : List Key) (k : Key) → k.1 < length ss → AreKnown ss ks → new ≡ insert_key same_key ks k → AreKnown ss new
-known-insert_key ss ks new k lk known e = subst (AreKnown ss) (sym e) (cond_both (list_any (same_key k) ks) ks (ks ++ k ∷ []) (AreKnown ss) (λ _. known) (λ _. All-push (λ (k : Key). k.1 < length ss) ks k known lk))
+known-insert_key ss ks new k lk known e =
+    subst (AreKnown ss) (sym e)
+    (cond_both (list_any (same_key k) ks) ks (ks ++ k ∷ []) (AreKnown ss) (λ _. known) (λ _. All-push (λ (k : Key). k.1 < length ss) ks k known lk))
 
 pub known-extends : (old new : List (List Expression)) (ks : List Key) → Extends old new → AreKnown old ks → AreKnown new ks
 known-extends old new ks e known = λ k d lt.

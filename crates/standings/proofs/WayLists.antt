@@ -6,7 +6,7 @@ use Rattle.std.proofs.lemmas.Bool.{cases_Bool, cases_eq, cond-true, cond-false, 
 use Rattle.std.proofs.lemmas.List.{append-nil, ext_get_or, length-map}
 use Rattle.std.proofs.lemmas.Option.{get_or_from_slice_get, slice_get-get_or, slice_get-map, unwrap_or-slice_get}
 use Rattle.net_base.specs.Network.{PlainNet, IsNet}
-use Rattle.path_words.specs.declared.case.Case.{Case}
+use Rattle.policy_base.specs.declared.case.Case.{Case}
 use Rattle.net_base.specs.Locations.{numbers_below}
 use Rattle.standings.specs.Growth.{may_enter, sends_on, way_between, ways, ways_in}
 use Rattle.standings.proofs.LinkLemmas.{IsPair, each_pair, other_end, over_links, ways-none, ways-over_links}
@@ -41,7 +41,8 @@ unfolding way_between
 between-elsewhere net case from to at ne = ap (λ b. cond (b && (sends_on net case from && may_enter net case to)) (to ∷ []) []) (ne_eqb from at ne)
 
 -- a way is pushed
-pub way-pushed : {V : Type 0} → (items : V → List ℕ) (all : List V) (net : PlainNet) (case : Case) (k from to : ℕ) (v d : V) → k ≡ from → from < length all → items v ≡ items (get_or all k d) ++ to ∷ []
+pub way-pushed : {V : Type 0} → (items : V → List ℕ) (all : List V) (net : PlainNet) (case : Case) (k from to : ℕ) (v d : V) → k ≡ from
+    → from < length all → items v ≡ items (get_or all k d) ++ to ∷ []
     → (sends_on net case from && may_enter net case to) ≡ true → (at : ℕ) → ways_in (map items (slice_set all k v)) at ≡ ways_in (map items all) at ++ way_between net case from to at
 way-pushed items all net case k from to v d is lt h ok at = elim (cases_eq from at) [
   | inl e ↦
@@ -109,7 +110,8 @@ no_link_ways net case at link off = ap (λ l. l ++ way_between net case link.1 l
       | inr ne ↦ between-elsewhere net case from to at ne
     ]
 
-links-over : (net : PlainNet) (case : Case) (n at : ℕ) (links : List (ℕ × ℕ)) → AllByRecursion (IsPair n) links → sends_on net case at ≡ true → flat_map (link_ways net case at) links ≡ over_links net case at links
+links-over : (net : PlainNet) (case : Case) (n at : ℕ) (links : List (ℕ × ℕ)) → AllByRecursion (IsPair n) links → sends_on net case at ≡ true
+    → flat_map (link_ways net case at) links ≡ over_links net case at links
 links-over net case n at [] pairs sends = refl
 links-over net case n at (a ∷ links) pairs sends =
     ap (λ l. l ++ flat_map (link_ways net case at) links) (link_ways-end net case n at a pairs.0 sends)

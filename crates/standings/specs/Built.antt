@@ -2,7 +2,7 @@
 use Rattle.std.specs.Prelude.{◌≡◌, ℕ, ◌+◌, not, ◌&&◌, suc, List, [], ◌∷◌, ◌++◌, length, map, Option, None, if◌then◌else◌}
 use Rattle.net_base.specs.Locations.{numbers_below}
 use Rattle.net_base.specs.Network.{PlainNet, is_peer}
-use Rattle.path_words.specs.Permitted.{from_holds}
+use Rattle.policy_base.specs.Permitted.{from_holds}
 use Rattle.path_exprs.specs.Runs.{first_with}
 use Rattle.path_exprs.specs.Standings.{AreStandings, Plan, Standing, same_standing, starts, targets}
 use Rattle.graph_base.specs.declared.graph.Node.{Node}

@@ -1,6 +1,7 @@
 //! The graph over the standings of a case.
 ghost use Rattle.std.specs.Prelude.{◌≡◌, ◌≤◌, List as Items, length, IfOk, IsErrOf};
-ghost use Rattle.net_base.specs.declared.limits.TheConstants.{LOCATIONS, NODES};
+ghost use Rattle.net_base.specs.declared.limits.TheConstants.{LOCATIONS};
+ghost use Rattle.path_exprs.specs.declared.limits.TheConstants.{NODES};
 ghost use Rattle.net_base.specs.Locations.{numbers_below};
 ghost use Rattle.net_base.specs.NetSets.{locations as all_locations};
 ghost use Rattle.path_automata.specs.States.{Begins, Extends, states_of};
@@ -14,7 +15,7 @@ use graph_base::Graph;
 use net_base::{List, Net};
 use outside::NoMemory;
 use path_automata::Automata;
-use path_words::{Case, FromSet};
+use policy_base::{Case, FromSet};
 use std::alloc::Global;
 
 /// The numbers below a count.

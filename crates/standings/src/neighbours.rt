@@ -5,7 +5,7 @@ ghost use Rattle.standings.specs.Growth.{may_enter as is_entered, sends_on as is
 
 use net_base::{Loc, Net};
 use outside::NoMemory;
-use path_words::Case;
+use policy_base::Case;
 use std::alloc::Global;
 
 /// Whether a walk may enter a location.

@@ -1,7 +1,8 @@
 //! The standings that walks reach, numbered in breadth-first order, and the steps between them.
 ghost use Rattle.std.specs.Prelude.{◌≡◌, ◌≤◌, ◌<◌, ◌++◌, ◌&&◌, not, [], ℕ, All, List as Items, filter, length, map, take, slice_get, Some, IfOk, OnOk, IsErrOf, IsTrue, option_map};
 ghost use Rattle.std.specs.List.{IsDistinct};
-ghost use Rattle.net_base.specs.declared.limits.TheConstants.{LOCATIONS, NODES};
+ghost use Rattle.net_base.specs.declared.limits.TheConstants.{LOCATIONS};
+ghost use Rattle.path_exprs.specs.declared.limits.TheConstants.{NODES};
 ghost use Rattle.net_base.specs.Network.{is_peer};
 ghost use Rattle.net_base.specs.Sets.{holds};
 ghost use Rattle.path_automata.specs.States.{AreApart, Extends, states_of};
@@ -14,11 +15,11 @@ use crate::fault::StandingsFault;
 use crate::neighbours::all_ways;
 use graph_base::Node;
 use indexmap::IndexSet;
-use net_base::limits::NODES;
 use net_base::{List, Loc, Net};
 use outside::NoMemory;
 use path_automata::{Automata, State};
-use path_words::{Case, FromSet};
+use path_exprs::limits::NODES;
+use policy_base::{Case, FromSet};
 use std::alloc::Global;
 
 /// The most standings that walks of a case may reach.

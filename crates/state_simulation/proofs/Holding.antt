@@ -45,34 +45,43 @@ each_where_total g r is total m n both = elim (total m n (pair_from (view_of g r
 -- ---- from the rows that the rounds leave
 
 -- what is made of the rows of a graph has the pairs of one location that they have
-pub made_has : (g : PlainGraph) (claimed : LocSet) (r : PlainRelation) (left : PlainRows) → r ≡ record { places = map (λ (node : Node). node.loc) g.nodes; claimed = claimed; rows = left } → (m n : ℕ) → has r m n ≡ above_in (view_of g claimed) left m n
+pub made_has : (g : PlainGraph) (claimed : LocSet) (r : PlainRelation) (left : PlainRows)
+    → r ≡ record { places = map (λ (node : Node). node.loc) g.nodes; claimed = claimed; rows = left } → (m n : ℕ)
+    → has r m n ≡ above_in (view_of g claimed) left m n
 made_has g claimed r left is m n =
     ap (λ z. z && has_at r.rows n m) (together g r (ap (λ (z : PlainRelation). z.places) is) m n) ∙ ap (λ (z : PlainRelation). is_pair (view_of g claimed) m n && has_at z.rows n m) is
 
-pub made_relation : (old g : PlainGraph) (claimed : LocSet) (r : PlainRelation) (left : PlainRows) → old ≡ g → r ≡ record { places = map (λ (node : Node). node.loc) g.nodes; claimed = claimed; rows = left } →
+pub made_relation : (old g : PlainGraph) (claimed : LocSet) (r : PlainRelation) (left : PlainRows) → old ≡ g
+    → r ≡ record { places = map (λ (node : Node). node.loc) g.nodes; claimed = claimed; rows = left } →
     IsGreatest (view_of old claimed) (above_in (view_of old claimed) left) → IsRelationOf g r
 made_relation old g claimed r left same is greatest =
     let now : IsGreatest (view_of g claimed) (above_in (view_of g claimed) left) = subst (λ (z : PlainGraph). IsGreatest (view_of z claimed) (above_in (view_of z claimed) left)) same greatest in
     let has_now : IsGreatest (view_of g claimed) (has r) = subst (IsGreatest (view_of g claimed)) (λ i m n. sym (made_has g claimed r left is m n) i) now in
     record { places = ap (λ (z : PlainRelation). z.places) is; greatest = subst (λ (z : LocSet). IsGreatest (view_of g z) (has r)) (sym (ap (λ (z : PlainRelation). z.claimed) is)) has_now }
 
-pub made_rounds : (old g : PlainGraph) (claimed : LocSet) (r : PlainRelation) (reach : ℕ → ℕ → Bool) (left : PlainRows) → old ≡ g → r ≡ record { places = map (λ (node : Node). node.loc) g.nodes; claimed = claimed; rows = left } →
+pub made_rounds : (old g : PlainGraph) (claimed : LocSet) (r : PlainRelation) (reach : ℕ → ℕ → Bool) (left : PlainRows) → old ≡ g
+    → r ≡ record { places = map (λ (node : Node). node.loc) g.nodes; claimed = claimed; rows = left } →
     (rounds : ℕ) × IsSettled (view_of old claimed) reach rounds × AreLeft (view_of old claimed) reach rounds left → IsLeftByRounds g reach r
 made_rounds old g claimed r reach left same is made =
-    let now : IsSettled (view_of g claimed) reach made.0 × AreLeft (view_of g claimed) reach made.0 left = subst (λ (z : PlainGraph). IsSettled (view_of z claimed) reach made.0 × AreLeft (view_of z claimed) reach made.0 left) same (made.1, made.2) in
+    let now : IsSettled (view_of g claimed) reach made.0 × AreLeft (view_of g claimed) reach made.0 left =
+    subst (λ (z : PlainGraph). IsSettled (view_of z claimed) reach made.0 × AreLeft (view_of z claimed) reach made.0 left) same (made.1, made.2) in
     let back : claimed ≡ r.claimed = sym (ap (λ (z : PlainRelation). z.claimed) is) in
     record {
       rounds = made.0;
       settled = subst (λ (z : LocSet). IsSettled (view_of g z) reach made.0) back now.0;
-      left = subst (λ (z : LocSet). (m n : ℕ) → has r m n ≡ left_after (view_of g z) reach made.0 m n) back (λ m n. made_has g claimed r left is m n ∙ above_left g claimed reach made.0 left now.1 m n);
+      left =
+          subst (λ (z : LocSet). (m n : ℕ) → has r m n ≡ left_after (view_of g z) reach made.0 m n) back
+          (λ m n. made_has g claimed r left is m n ∙ above_left g claimed reach made.0 left now.1 m n);
     }
 
 -- rows that have each pair one way or the other make a relation that does
-pub made_total : (old g : PlainGraph) (claimed : LocSet) (r : PlainRelation) (left : PlainRows) → old ≡ g → r ≡ record { places = map (λ (node : Node). node.loc) g.nodes; claimed = claimed; rows = left } → AreBound old left → HasEach r
+pub made_total : (old g : PlainGraph) (claimed : LocSet) (r : PlainRelation) (left : PlainRows) → old ≡ g
+    → r ≡ record { places = map (λ (node : Node). node.loc) g.nodes; claimed = claimed; rows = left } → AreBound old left → HasEach r
 made_total old g claimed r left same is bound m n both =
     let now : AreBound g left = subst (λ (z : PlainGraph). AreBound z left) same bound in
     let pair = pair_from (view_of g r.claimed) m n (sym (together g r (ap (λ (z : PlainRelation). z.places) is) m n) ∙ both) in
-    let back : are_together r n m ≡ true = together g r (ap (λ (z : PlainRelation). z.places) is) n m ∙ pair_to (view_of g r.claimed) n m (record { left = pair.right; right = pair.left; place = sym pair.place }) in
+    let back : are_together r n m ≡ true = together g r (ap (λ (z : PlainRelation). z.places) is) n m
+    ∙ pair_to (view_of g r.claimed) n m (record { left = pair.right; right = pair.left; place = sym pair.place }) in
     let rows : (a b : ℕ) → has_at left a b ≡ has_at r.rows a b = λ a b. ap (λ (z : PlainRelation). has_at z.rows a b) (sym is) in
     elim (or_cases (has_at left n m) (has_at left m n) (now m n pair.left pair.right pair.place)) [
       | inl e ↦ or_left _ _ (and_from _ _ both (sym (rows n m) ∙ e))

@@ -6,8 +6,7 @@ use Rattle.std.proofs.lemmas.List.Folds.{list_any-append, list_any_at}
 use Rattle.reach_prune.specs.Searches.{is_among, is_listed}
 use Rattle.relation_law.specs.Rounds.{is_in}
 use Rattle.std.proofs.Math.Bool.{and_comm, or-false, and-true, and-false}
-use Rattle.list_laws.proofs.Numbers.{eqb_comm}
-use Rattle.list_laws.proofs.Numbers.{next_below}
+use Rattle.list_laws.proofs.Numbers.{eqb_comm, next_below}
 use Rattle.std.proofs.lemmas.List.Sorted.{list_any-IsPermutation}
 use Rattle.std.specs.List.Sorted.{IsPermutation}
 use Rattle.graph_base.specs.Graphs.{PlainGraph}
@@ -27,7 +26,8 @@ below_more place i count more before le here n lt = elim (cases_order n i) [
     ap_lt e h = rw e h
 
 -- one node more is listed with its location
-pub placed_more : (place : ℕ → ℕ) (pairs new : List (ℕ × ℕ)) (i at p n : ℕ) → new ≡ pairs ++ (at, i) ∷ [] → at ≡ place i → is_in pairs p n ≡ (ltb n i && eqb (place n) p) → is_in new p n ≡ (ltb n (i + 1) && eqb (place n) p)
+pub placed_more : (place : ℕ → ℕ) (pairs new : List (ℕ × ℕ)) (i at p n : ℕ) → new ≡ pairs ++ (at, i) ∷ [] → at ≡ place i
+    → is_in pairs p n ≡ (ltb n i && eqb (place n) p) → is_in new p n ≡ (ltb n (i + 1) && eqb (place n) p)
 placed_more place pairs new i at p n e is h =
     ap (λ l. is_in l p n) e ∙ list_any-append (λ (s : ℕ × ℕ). eqb s.0 p && eqb s.1 n) pairs ((at, i) ∷ []) ∙ ap (λ z. z || ((eqb at p && eqb i n) || false)) h
     ∙ ap (λ z. (ltb n i && eqb (place n) p) || z) (or-false (eqb at p && eqb i n)) ∙ ap (λ z. (ltb n i && eqb (place n) p) || (eqb z p && eqb i n)) is
@@ -61,7 +61,8 @@ listed_at (x ∷ xs) zero d h = or_left _ _ (and_from _ _ (eq-eqb x.0 x.0 refl) 
 listed_at (x ∷ xs) (suc k) d h = or_right _ _ (listed_at xs k d (omega arith))
 
 -- each node's location is one of the groups
-pub located_groups : (place : ℕ → ℕ) (size count : ℕ) (placed pairs : List (ℕ × ℕ)) → pairs ≡ placed → ((p n : ℕ) → is_in placed p n ≡ (ltb n size && eqb (place n) p)) → ((n : ℕ) → n < size → place n < count) →
+pub located_groups : (place : ℕ → ℕ) (size count : ℕ) (placed pairs : List (ℕ × ℕ)) → pairs ≡ placed
+    → ((p n : ℕ) → is_in placed p n ≡ (ltb n size && eqb (place n) p)) → ((n : ℕ) → n < size → place n < count) →
     (k : ℕ) (d : ℕ × ℕ) → k < length pairs → (get_or pairs k d).0 < count
 located_groups place size count placed pairs e is below k d lt =
     let p : ℕ × ℕ = get_or pairs k d in
@@ -69,7 +70,8 @@ located_groups place size count placed pairs e is below k d lt =
     rw (← eqb-true _ _ both.1) (below p.1 (ltb-true _ _ both.0))
 
 -- each member of a list is one of those that it lists
-pub member_below : (lists : List (List ℕ)) (a size : ℕ) (slice items : List ℕ) (k d : ℕ) → a < length lists → slice ≡ items → items ≡ get_or lists a items → ((n : ℕ) → is_listed lists a n ≡ true → n < size) →
+pub member_below : (lists : List (List ℕ)) (a size : ℕ) (slice items : List ℕ) (k d : ℕ) → a < length lists → slice ≡ items
+    → items ≡ get_or lists a items → ((n : ℕ) → is_listed lists a n ≡ true → n < size) →
     k < length slice → get_or slice k d < size
 member_below lists a size slice items k d la e read below lt =
     let same : slice ≡ get_or lists a [] = e ∙ get_or_read lists a items la read [] in
@@ -80,7 +82,8 @@ member_below lists a size slice items k d la e read below lt =
 -- one node more is keyed
 pub keyed_more : (keyed new : List (ℕ × Option ℕ × ℕ)) (at : ℕ) (rank : Option ℕ) (i n : ℕ) → new ≡ keyed ++ (at, rank, i) ∷ [] → is_keyed keyed n ≡ ltb n i → is_keyed new n ≡ ltb n (i + 1)
 keyed_more keyed new at rank i n e h =
-    ap (λ l. is_keyed l n) e ∙ list_any-append (λ (x : ℕ × Option ℕ × ℕ). eqb x.2 n) keyed ((at, rank, i) ∷ []) ∙ ap (λ z. z || (eqb i n || false)) h ∙ ap (λ z. ltb n i || z) (or-false (eqb i n)) ∙ one_more (cases_order n i)
+    ap (λ l. is_keyed l n) e ∙ list_any-append (λ (x : ℕ × Option ℕ × ℕ). eqb x.2 n) keyed ((at, rank, i) ∷ []) ∙ ap (λ z. z || (eqb i n || false)) h
+    ∙ ap (λ z. ltb n i || z) (or-false (eqb i n)) ∙ one_more (cases_order n i)
   where
     one_more : (n ≡ i) ⊎ ((n < i) ⊎ (i < n)) → (ltb n i || eqb i n) ≡ ltb n (i + 1)
     one_more (inl e) = or_right _ _ (eq-eqb _ _ (sym e)) ∙ sym (lt-ltb _ _ (omega arith))
@@ -88,7 +91,8 @@ keyed_more keyed new at rank i n e h =
     one_more (inr (inr more)) = ap (λ z. z || eqb i n) (le-ltb _ _ (omega arith)) ∙ ne_eqb _ _ (λ e. omega (arith, e, more)) ∙ sym (le-ltb _ _ (omega arith))
 
 -- nodes that are listed as they are keyed are each there, and no others are
-pub in_order : (g : PlainGraph) (keyed sorted : List (ℕ × Option ℕ × ℕ)) (order : List ℕ) → IsPermutation keyed sorted → ((n : ℕ) → is_keyed keyed n ≡ ltb n (length g.nodes)) → ((n : ℕ) → is_among order n ≡ is_keyed sorted n) → IsOrder g order
+pub in_order : (g : PlainGraph) (keyed sorted : List (ℕ × Option ℕ × ℕ)) (order : List ℕ) → IsPermutation keyed sorted
+    → ((n : ℕ) → is_keyed keyed n ≡ ltb n (length g.nodes)) → ((n : ℕ) → is_among order n ≡ is_keyed sorted n) → IsOrder g order
 in_order g keyed sorted order perm are listed =
     let is : (n : ℕ) → is_among order n ≡ ltb n (length g.nodes) = λ n. listed n ∙ sym (list_any-IsPermutation (λ (x : ℕ × Option ℕ × ℕ). eqb x.2 n) keyed sorted perm) ∙ are n in
     record {
@@ -99,4 +103,6 @@ in_order g keyed sorted order perm are listed =
 -- one node more has its bit in the row of its location
 pub row_more : (place : ℕ → ℕ) (i p n : ℕ) (old new : Bool) → old ≡ (ltb n i && eqb (place n) p) → new ≡ (old || (eqb p (place i) && eqb n i)) → new ≡ (ltb n (i + 1) && eqb (place n) p)
 row_more place i p n old new before here =
-    here ∙ ap (λ z. z || (eqb p (place i) && eqb n i)) before ∙ ap (λ z. (ltb n i && eqb (place n) p) || z) (and_comm (eqb p (place i)) (eqb n i) ∙ ap (λ z. eqb n i && z) (eqb_comm p (place i))) ∙ next_below n i (λ y. eqb (place y) p)
+    here ∙ ap (λ z. z || (eqb p (place i) && eqb n i)) before
+    ∙ ap (λ z. (ltb n i && eqb (place n) p) || z) (and_comm (eqb p (place i)) (eqb n i) ∙ ap (λ z. eqb n i && z) (eqb_comm p (place i)))
+    ∙ next_below n i (λ y. eqb (place y) p)

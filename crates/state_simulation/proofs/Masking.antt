@@ -15,14 +15,18 @@ use Rattle.relation_law.proofs.Tests.{any_found, any_at}
 use Rattle.state_simulation.proofs.Answering.{among_below}
 
 -- one node more passes or not
-pub set_more : (p : ℕ → Bool) (xs : List ℕ) (i : ℕ) (old now new : Bool) → i < length xs → now ≡ (old || list_any p (take i xs)) → new ≡ (now || p (get_or xs i 0)) → new ≡ (old || list_any p (take (i + 1) xs))
-set_more p xs i old now new lt before here = here ∙ ap (λ z. z || p (get_or xs i 0)) before ∙ or_assoc old (list_any p (take i xs)) (p (get_or xs i 0)) ∙ ap (λ z. old || z) (sym (list_any_more p xs i 0 lt))
+pub set_more : (p : ℕ → Bool) (xs : List ℕ) (i : ℕ) (old now new : Bool) → i < length xs → now ≡ (old || list_any p (take i xs))
+    → new ≡ (now || p (get_or xs i 0)) → new ≡ (old || list_any p (take (i + 1) xs))
+set_more p xs i old now new lt before here =
+    here ∙ ap (λ z. z || p (get_or xs i 0)) before ∙ or_assoc old (list_any p (take i xs)) (p (get_or xs i 0))
+    ∙ ap (λ z. old || z) (sym (list_any_more p xs i 0 lt))
 
 pub same_more : (p : ℕ → Bool) (xs : List ℕ) (i : ℕ) (old now : Bool) → i < length xs → now ≡ (old || list_any p (take i xs)) → p (get_or xs i 0) ≡ false → now ≡ (old || list_any p (take (i + 1) xs))
 same_more p xs i old now lt before none = set_more p xs i old now now lt before (sym (ap (λ z. now || z) none ∙ or-false now))
 
 -- a list that has the nodes below the bound of which f holds
-pub located_any : (xs : List ℕ) (size : ℕ) (f p q : ℕ → Bool) → All (λ n. n < size) xs → ((x : ℕ) → x < size → is_among xs x ≡ f x) → ((x : ℕ) → x < size → (f x && p x) ≡ q x) → list_any p xs ≡ any_below size q
+pub located_any : (xs : List ℕ) (size : ℕ) (f p q : ℕ → Bool) → All (λ n. n < size) xs → ((x : ℕ) → x < size → is_among xs x ≡ f x)
+    → ((x : ℕ) → x < size → (f x && p x) ≡ q x) → list_any p xs ≡ any_below size q
 located_any xs size f p q within is both = elim (cases_Bool (any_below size q)) [
   | inl e ↦ (
       let x : (k : ℕ) × (k < size) × (q k ≡ true) = any_found size q e in
@@ -70,11 +74,15 @@ module _ (nodes : List ℕ) (i b n r : ℕ) (hit : ℕ → Bool) (old now : Bool
   skip_hit false true false false h is = refl
 
   pub above_more : (new : Bool) → hit (get_or nodes i 0) ≡ true → new ≡ (now || (eqb r n && eqb b (get_or nodes i 0))) → new ≡ (old || (eqb r n && (is_among (take (i + 1) nodes) b && hit b)))
-  above_more new is here = here ∙ ap (λ z. z || (eqb r n && eqb b (get_or nodes i 0))) before ∙ join_hit old (eqb r n) (is_among (take i nodes) b) (eqb b (get_or nodes i 0)) (hit b) (λ e. at_node e ∙ is)
+  above_more new is here =
+      here ∙ ap (λ z. z || (eqb r n && eqb b (get_or nodes i 0))) before
+      ∙ join_hit old (eqb r n) (is_among (take i nodes) b) (eqb b (get_or nodes i 0)) (hit b) (λ e. at_node e ∙ is)
       ∙ ap (λ z. old || (eqb r n && (z && hit b))) (sym (among_more nodes i b lt))
 
   pub above_same : hit (get_or nodes i 0) ≡ false → now ≡ (old || (eqb r n && (is_among (take (i + 1) nodes) b && hit b)))
-  above_same is = before ∙ skip_hit old (eqb r n) (is_among (take i nodes) b) (eqb b (get_or nodes i 0)) (hit b) (λ e. at_node e ∙ is) ∙ ap (λ z. old || (eqb r n && (z && hit b))) (sym (among_more nodes i b lt))
+  above_same is =
+      before ∙ skip_hit old (eqb r n) (is_among (take i nodes) b) (eqb b (get_or nodes i 0)) (hit b) (λ e. at_node e ∙ is)
+      ∙ ap (λ z. old || (eqb r n && (z && hit b))) (sym (among_more nodes i b lt))
 
 -- a target more
 pub taken_more : (o a s f : Bool) → ((o && not a) && (not s || not f)) ≡ (o && not (a || (s && f)))
@@ -92,7 +100,8 @@ absorbed false true h = sym (h refl)
 absorbed false false h = refl
 
 -- a node more of which the row is set already, since rows are transitive
-pub covered : (gone : ℕ → Bool) (reach : ℕ → ℕ → Bool) (xs : List ℕ) (k m : ℕ) → ((a : ℕ) → is_among xs a ≡ true → reach a k ≡ true → reach k m ≡ true → reach a m ≡ true) → list_any (λ a. gone a && reach a k) xs ≡ true →
+pub covered : (gone : ℕ → Bool) (reach : ℕ → ℕ → Bool) (xs : List ℕ) (k m : ℕ)
+    → ((a : ℕ) → is_among xs a ≡ true → reach a k ≡ true → reach k m ≡ true → reach a m ≡ true) → list_any (λ a. gone a && reach a k) xs ≡ true →
     (list_any (λ a. gone a && reach a m) xs || (gone k && reach k m)) ≡ list_any (λ a. gone a && reach a m) xs
 covered gone reach xs k m leads set = absorbed (list_any (λ a. gone a && reach a m) xs) (gone k && reach k m) (λ h.
     let x : (a : ℕ) × (is_among xs a ≡ true) × ((gone a && reach a k) ≡ true) = passing_member (λ a. gone a && reach a k) xs set in
@@ -112,7 +121,8 @@ any_taken p [] (suc i) h = absurd (cc)
 any_taken p (x ∷ xs) (suc i) h = elim (or_cases (p x) _ h) [ inl here ↦ or_left _ _ here | inr there ↦ or_right _ _ (any_taken p xs i there) ]
 
 -- what a node of the list leads to, and what that leads to
-pub leads_on : (g : PlainGraph) (onwards : PlainRows) → ((a b : ℕ) → a < length g.nodes → (has_at onwards a b ≡ true) ↔ Reaches g a b) → (nodes : List ℕ) (i k m : ℕ) → All (λ n. n < length g.nodes) nodes → i < length nodes → k ≡ get_or nodes i 0 →
+pub leads_on : (g : PlainGraph) (onwards : PlainRows) → ((a b : ℕ) → a < length g.nodes → (has_at onwards a b ≡ true) ↔ Reaches g a b)
+    → (nodes : List ℕ) (i k m : ℕ) → All (λ n. n < length g.nodes) nodes → i < length nodes → k ≡ get_or nodes i 0 →
     (a : ℕ) → is_among (take i nodes) a ≡ true → has_at onwards a k ≡ true → has_at onwards k m ≡ true → has_at onwards a m ≡ true
 leads_on g onwards exact nodes i k m within lt is a here one other =
     let la : a < length g.nodes = among_below (length g.nodes) nodes a within (any_taken (λ x. eqb x a) nodes i here) in
@@ -121,7 +131,8 @@ leads_on g onwards exact nodes i k m within lt is a here one other =
     (exact a m la).1 (reaches_on g a k m ((exact a k la).0 one) ((exact k m lk).0 other))
 
 -- a node more of the list passes
-pub each_more : (p : ℕ → Bool) (xs : List ℕ) (i : ℕ) → i < length xs → ((x : ℕ) → is_among (take i xs) x ≡ true → p x ≡ true) → p (get_or xs i 0) ≡ true → (x : ℕ) → is_among (take (i + 1) xs) x ≡ true → p x ≡ true
+pub each_more : (p : ℕ → Bool) (xs : List ℕ) (i : ℕ) → i < length xs → ((x : ℕ) → is_among (take i xs) x ≡ true → p x ≡ true)
+    → p (get_or xs i 0) ≡ true → (x : ℕ) → is_among (take (i + 1) xs) x ≡ true → p x ≡ true
 each_more p xs i lt before here x h = elim (or_cases (is_among (take i xs) x) (eqb x (get_or xs i 0)) (sym (among_more xs i x lt) ∙ h)) [
   | inl old ↦ before x old
   | inr new ↦ ap p (eqb-true x (get_or xs i 0) new) ∙ here

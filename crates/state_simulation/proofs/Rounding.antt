@@ -39,10 +39,14 @@ module _ (size : ℕ) (old new : PlainRows) (less : (n b : ℕ) → n < size →
 -- ---- before the first round
 
 module _ (v : View) (reach : ℕ → ℕ → Bool) (left next : PlainRows) (touched : ℕ → Bool) (each : (t : ℕ) → t < v.size → touched t ≡ true)
-    (all : (m n : ℕ) → m < v.size → n < v.size → has_at left n m ≡ same_place v m n) (ranked : (m n : ℕ) → m < v.size → n < v.size → has_at next n m ≡ (same_place v m n && not (is_outranked v m n))) where
+    (all : (m n : ℕ) → m < v.size → n < v.size → has_at left n m ≡ same_place v m n)
+    (ranked : (m n : ℕ) → m < v.size → n < v.size → has_at next n m ≡ (same_place v m n && not (is_outranked v m n))) where
   pub at_first : AtRound v reach 0 left next touched
   at_first = record {
-    exact = λ m n lm ln. all m n lm ln ∙ sym (ap (λ z. (z && (ltb n v.size && same_place v m n)) && not false) (lt-ltb _ _ lm) ∙ ap (λ z. (z && same_place v m n) && not false) (lt-ltb _ _ ln) ∙ and-true (same_place v m n));
+    exact =
+        λ m n lm ln. all m n lm ln
+        ∙ sym (ap (λ z. (z && (ltb n v.size && same_place v m n)) && not false) (lt-ltb _ _ lm)
+        ∙ ap (λ z. (z && same_place v m n) && not false) (lt-ltb _ _ ln) ∙ and-true (same_place v m n));
     within = λ m n lm ln h. all m n lm ln ∙ (and_parts _ _ (sym (ranked m n lm ln) ∙ h)).0;
     goes = λ m n lm ln h.
         let pair = pair_from v m n (and_parts (is_pair v m n) (not (gone_after v reach 0 m n)) h).0 in
@@ -78,7 +82,9 @@ module _ (v : View) (reach : ℕ → ℕ → Bool) (k : ℕ) (left next : PlainR
       (λ t lt. ap (λ z. touched t && (v.step n t && z)) (fails_alike v reach (gone_after v reach k) (gone_in left) t (λ a la same. gone_same a t la lt same) m))
 
   -- a test of what can be reached that tells the same of what has gone
-  pub goes_told : (by : ℕ → ℕ → Bool) → ((a m t : ℕ) → a < v.size → m < v.size → t < v.size → same_place v a t ≡ true → (by a m && gone_in left a t) ≡ (reach a m && gone_in left a t)) → (m n : ℕ) → m < v.size →
+  pub goes_told : (by : ℕ → ℕ → Bool)
+      → ((a m t : ℕ) → a < v.size → m < v.size → t < v.size → same_place v a t ≡ true → (by a m && gone_in left a t) ≡ (reach a m && gone_in left a t))
+      → (m n : ℕ) → m < v.size →
       goes_by v by (gone_in left) touched m n ≡ goes_by v reach (gone_in left) touched m n
   goes_told by same m n lm = any_alike v.size (λ t. touched t && (v.step n t && fails_at v by (gone_in left) m t)) (λ t. touched t && (v.step n t && fails_at v reach (gone_in left) m t))
       (λ t lt. ap (λ z. touched t && (v.step n t && z)) (fails_by_either v by reach (gone_in left) m t (λ a la e. same a m t la lm lt e)))
@@ -90,7 +96,8 @@ module _ (v : View) (reach : ℕ → ℕ → Bool) (k : ℕ) (left next new : Pl
   taken_left m n lm ln = elim (cases_Bool (left_after v reach k m n)) [
     | inl e ↦ (
         let p = and_parts (is_pair v m n) (not (gone_after v reach k m n)) e in
-        taken n m ln lm ∙ ap (λ z. has_at next n m && not z) (goes_same v reach k left next touched at m n) ∙ neither (has_at next n m) (goes_by v reach (gone_after v reach k) touched m n) ∙ ap not (sym (at.goes m n lm ln e))
+        taken n m ln lm ∙ ap (λ z. has_at next n m && not z) (goes_same v reach k left next touched at m n)
+        ∙ neither (has_at next n m) (goes_by v reach (gone_after v reach k) touched m n) ∙ ap not (sym (at.goes m n lm ln e))
         ∙ sym (ap (λ z. z && not (gone_after v reach k m n || fails v reach (gone_after v reach k) m n)) p.0 ∙ ap (λ z. not (z || fails v reach (gone_after v reach k) m n)) (not-true _ p.1)))
     | inr e ↦ (
         let none : has_at next n m ≡ false = false_from_ne_true _ (λ h. both_ways _ (at.exact m n lm ln ∙ e) (at.within m n lm ln h)) in
@@ -122,7 +129,8 @@ module _ (v : View) (reach : ℕ → ℕ → Bool) (k : ℕ) (left next new : Pl
   pub less : (n m : ℕ) → n < v.size → m < v.size → has_at new n m ≡ true → has_at left n m ≡ true
   less n m ln lm h = at.within m n lm ln (and_parts (has_at next n m) _ (sym (taken n m ln lm) ∙ h)).0
 
-  module _ (after : PlainRows) (marked : ℕ → Bool) (rows : (n b : ℕ) → n < v.size → has_at after n b ≡ has_at new n b) (quiet : (t b : ℕ) → t < v.size → marked t ≡ false → differs left new t b ≡ false) where
+  module _ (after : PlainRows) (marked : ℕ → Bool) (rows : (n b : ℕ) → n < v.size → has_at after n b ≡ has_at new n b)
+      (quiet : (t b : ℕ) → t < v.size → marked t ≡ false → differs left new t b ≡ false) where
     are_touched : AreTouched v reach k marked
     are_touched t a lt la none same = elim (cases_Bool (gone_after v reach k a t)) [
       | inl g ↦ or_left _ _ g ∙ sym g
@@ -141,7 +149,8 @@ module _ (v : View) (reach : ℕ → ℕ → Bool) (k : ℕ) (left next new : Pl
 -- ---- a round over the rows of a graph
 
 -- what is known of what can be reached tells the next round all that it asks
-known : (g : PlainGraph) (claimed : LocSet) (reach : ℕ → ℕ → Bool) (k : ℕ) (left next : PlainRows) (touched : ℕ → Bool) → AtRound (view_of g claimed) reach k left next touched → (onwards : Option PlainRows) → Knows g reach k onwards →
+known : (g : PlainGraph) (claimed : LocSet) (reach : ℕ → ℕ → Bool) (k : ℕ) (left next : PlainRows) (touched : ℕ → Bool)
+    → AtRound (view_of g claimed) reach k left next touched → (onwards : Option PlainRows) → Knows g reach k onwards →
     (a m t : ℕ) → a < length g.nodes → m < length g.nodes → t < length g.nodes → same_place (shown g) a t ≡ true → (tells onwards a m && gone_in left a t) ≡ (reach a m && gone_in left a t)
 known g claimed reach k left next touched at None first a m t la lm lt same =
     let none : gone_in left a t ≡ false = gone_same (view_of g claimed) reach k left next touched at a t la lt same ∙ ap (λ z. gone_after (view_of g claimed) reach z a t) first in
@@ -149,7 +158,8 @@ known g claimed reach k left next touched at None first a m t la lm lt same =
 known g claimed reach k left next touched at (Some onwards) told a m t la lm lt same = ap (λ z. z && gone_in left a t) (told a m la lm)
 
 -- what is taken away leaves no new bit
-pub taken_within : (size : ℕ) (left next new : PlainRows) (goes : ℕ → ℕ → Bool) → AreWithin size next left → ((n m : ℕ) → n < size → m < size → has_at new n m ≡ (has_at next n m && not (goes n m))) → AreWithin size new left
+pub taken_within : (size : ℕ) (left next new : PlainRows) (goes : ℕ → ℕ → Bool) → AreWithin size next left
+    → ((n m : ℕ) → n < size → m < size → has_at new n m ≡ (has_at next n m && not (goes n m))) → AreWithin size new left
 taken_within size left next new goes within taken n b ln lb h = within n b ln lb (and_parts (has_at next n b) _ (sym (taken n b ln lb) ∙ h)).0
 
 module _ (g : PlainGraph) (onwards : Option PlainRows) (left next new after : PlainRows) (touched marked : List Bool) (changed : Bool)
@@ -158,7 +168,8 @@ module _ (g : PlainGraph) (onwards : Option PlainRows) (left next new after : Pl
   module _ (claimed : LocSet) (reach : ℕ → ℕ → Bool) (k : ℕ) (knows : Knows g reach k onwards) (at : AtRound (view_of g claimed) reach k left next (is_touched touched)) where
     taken_told : (n m : ℕ) → n < length g.nodes → m < length g.nodes → has_at new n m ≡ (has_at next n m && not (goes_by (view_of g claimed) reach (gone_in left) (is_touched touched) m n))
     taken_told n m ln lm = taken n m ln lm
-        ∙ ap (λ z. has_at next n m && not z) (goes_told (view_of g claimed) reach k left next (is_touched touched) at (tells onwards) (known g claimed reach k left next (is_touched touched) at onwards knows) m n lm)
+        ∙ ap (λ z. has_at next n m && not z) (goes_told (view_of g claimed) reach k left next (is_touched touched) at (tells onwards)
+        (known g claimed reach k left next (is_touched touched) at onwards knows) m n lm)
 
     pub advanced : AtRound (view_of g claimed) reach (suc k) after new (is_touched marked)
     advanced = at_next (view_of g claimed) reach k left next new (is_touched touched) at taken_told after (is_touched marked) put.rows put.quiet

@@ -20,7 +20,8 @@ use Rattle.state_simulation.specs.Targets.{AreLeft, AreTold, AtRound, is_touched
 pub told_of : (g : PlainGraph) (s : Rounds) (onwards : PlainRows) → AreSized g s → s.onwards ≡ Some onwards → AreTold g onwards
 told_of g s onwards sized e = subst (λ (o : Option PlainRows). IfSome o (AreTold g)) e sized.onwards
 
-pub knows_exact : (g : PlainGraph) (claimed : LocSet) (reach : ℕ → ℕ → Bool) (k : ℕ) (s : Rounds) (onwards : PlainRows) → IsReach (view_of g claimed) reach → AreSized g s → s.onwards ≡ Some onwards → Knows g reach k s.onwards
+pub knows_exact : (g : PlainGraph) (claimed : LocSet) (reach : ℕ → ℕ → Bool) (k : ℕ) (s : Rounds) (onwards : PlainRows)
+    → IsReach (view_of g claimed) reach → AreSized g s → s.onwards ≡ Some onwards → Knows g reach k s.onwards
 knows_exact g claimed reach k s onwards exact sized e =
     let told = told_of g s onwards sized e in
     subst (Knows g reach k) (sym e)
@@ -68,7 +69,8 @@ pub bound_first : (g : PlainGraph) (claimed : LocSet) (left next : PlainRows) (t
 bound_first g claimed left next touched at m n lm ln place =
     or_left _ _ (at.exact m n lm ln ∙ ap (λ z. z && true) (pair_to (view_of g claimed) m n (record { left = lm; right = ln; place = place })))
 
-pub bound_next : (g : PlainGraph) (old new : PlainRows) (touched : List Bool) → AreBound g old → ((n b : ℕ) → n < length g.nodes → b < length g.nodes → is_touched touched n ≡ false → has_at new n b ≡ has_at old n b) →
+pub bound_next : (g : PlainGraph) (old new : PlainRows) (touched : List Bool) → AreBound g old
+    → ((n b : ℕ) → n < length g.nodes → b < length g.nodes → is_touched touched n ≡ false → has_at new n b ≡ has_at old n b) →
     ((n m : ℕ) → n < length g.nodes → m < length g.nodes → is_touched touched n ≡ true → place_of g m ≡ place_of g n → has_either new m n ≡ true) → AreBound g new
 bound_next g old new touched before quiet bound m n lm ln place = elim (cases_Bool (is_touched touched n)) [
   | inl e ↦ bound n m ln lm e place
@@ -83,18 +85,24 @@ bound_next g old new touched before quiet bound m n lm ln place = elim (cases_Bo
 
 -- ---- what is left at the end
 
-pub above_left : (g : PlainGraph) (claimed : LocSet) (reach : ℕ → ℕ → Bool) (k : ℕ) (left : PlainRows) → AreLeft (view_of g claimed) reach k left → (m n : ℕ) → above_in (view_of g claimed) left m n ≡ left_after (view_of g claimed) reach k m n
+pub above_left : (g : PlainGraph) (claimed : LocSet) (reach : ℕ → ℕ → Bool) (k : ℕ) (left : PlainRows) → AreLeft (view_of g claimed) reach k left
+    → (m n : ℕ) → above_in (view_of g claimed) left m n ≡ left_after (view_of g claimed) reach k m n
 above_left g claimed reach k left are m n = elim (cases_Bool (is_pair (view_of g claimed) m n)) [
   | inl e ↦ (let pair = pair_from (view_of g claimed) m n e in ap (λ z. z && has_at left n m) e ∙ are m n pair.left pair.right)
   | inr e ↦ and_left _ _ e ∙ sym (and_left _ _ e)
 ]
 
-pub greatest_left : (g : PlainGraph) (claimed : LocSet) (reach : ℕ → ℕ → Bool) (k : ℕ) (left : PlainRows) → IsReach (view_of g claimed) reach → IsSettled (view_of g claimed) reach k → AreLeft (view_of g claimed) reach k left →
+pub greatest_left : (g : PlainGraph) (claimed : LocSet) (reach : ℕ → ℕ → Bool) (k : ℕ) (left : PlainRows) → IsReach (view_of g claimed) reach
+    → IsSettled (view_of g claimed) reach k → AreLeft (view_of g claimed) reach k left →
     IsGreatest (view_of g claimed) (above_in (view_of g claimed) left)
-greatest_left g claimed reach k left exact settled are = subst (IsGreatest (view_of g claimed)) (λ i m n. sym (above_left g claimed reach k left are m n) i) (settled_is_greatest (view_of g claimed) reach exact k settled)
+greatest_left g claimed reach k left exact settled are =
+    subst (IsGreatest (view_of g claimed)) (λ i m n. sym (above_left g claimed reach k left are m n) i)
+    (settled_is_greatest (view_of g claimed) reach exact k settled)
 
 -- where the first round takes nothing away, nothing has to be known of what can be reached
-pub greatest_first : (g : PlainGraph) (claimed : LocSet) (left : PlainRows) → ((reach : ℕ → ℕ → Bool) → IsSettled (view_of g claimed) reach 0 × AreLeft (view_of g claimed) reach 0 left) → IsGreatest (view_of g claimed) (above_in (view_of g claimed) left)
+pub greatest_first : (g : PlainGraph) (claimed : LocSet) (left : PlainRows)
+    → ((reach : ℕ → ℕ → Bool) → IsSettled (view_of g claimed) reach 0 × AreLeft (view_of g claimed) reach 0 left)
+    → IsGreatest (view_of g claimed) (above_in (view_of g claimed) left)
 greatest_first g claimed left settled =
     let high : ℕ → ℕ → Bool = λ a b. true in
     subst (IsGreatest (view_of g claimed)) (λ i m n. sym (above_left g claimed high 0 left (settled high).1 m n) i)

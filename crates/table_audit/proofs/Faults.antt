@@ -5,8 +5,8 @@ use Rattle.std.specs.List.{list_any}
 use Rattle.std.specs.Option.{option_map_or}
 use Rattle.std.proofs.lemmas.Bool.{and_parts, and_from, not-true, not_from_false, true≢false}
 use Rattle.net_base.specs.Sets.{holds}
-use Rattle.path_words.specs.Policies.{policy_of}
-use Rattle.path_words.specs.Governing.{is_origin}
+use Rattle.policy_base.specs.Policies.{policy_of}
+use Rattle.policy_base.specs.Governing.{is_origin}
 use Rattle.config_base.specs.declared.route.Route.{Route}
 use Rattle.config_base.specs.Lines.{own_route}
 use Rattle.outcome_base.specs.Outcomes.{is_dead, Chooses}

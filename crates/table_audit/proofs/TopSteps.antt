@@ -4,7 +4,7 @@ use Rattle.std.specs.Prelude.{◌&&◌, ◌||◌, ◌==◌, nat_lt, slice_get, I
 use Rattle.std.proofs.lemmas.Bool.{and_parts, and_from, or_cases, or_parts, cases_Bool, cases_lt, ltb-true, ltb-false, eqb-true, eq-eqb, true≢false}
 use Rattle.std.proofs.lemmas.Option.{slice_get_within}
 use Rattle.net_base.specs.Network.{joins}
-use Rattle.path_words.specs.Policies.{policy_of}
+use Rattle.policy_base.specs.Policies.{policy_of}
 use Rattle.config_base.specs.declared.route.Route.{Route}
 use Rattle.list_laws.proofs.Options.{cases_Option}
 use Rattle.list_laws.proofs.Tests.{list_any_parts}
@@ -58,7 +58,13 @@ over_old (Some best) z pref y old x =
     let low : old ≤ best.1 = subst (λ (t : ℕ × ℕ). old ≤ t.1) same x.2 in
     let least : old ≡ best.1 → best.0 ≤ y = subst (λ (t : ℕ × ℕ). old ≡ t.1 → t.0 ≤ y) same x.3 in
     elim (cases_Bool (rises best z pref)) [
-      | inl up ↦ (let r = risen best z pref up in ((z, pref), rw up refl, omega (arith, low, r.0), λ e. let a = least (omega (arith, low, r.0, e)) in let b = r.1 (omega (arith, low, r.0, e)) in omega (arith, a, b)))
+      | inl up ↦
+          (let r = risen best z pref up in (
+            (z, pref),
+            rw up refl,
+            omega (arith, low, r.0),
+            λ e. let a = least (omega (arith, low, r.0, e)) in let b = r.1 (omega (arith, low, r.0, e)) in omega (arith, a, b),
+          ))
       | inr off ↦ (best, rw off refl, low, least)
     ]
 
@@ -145,7 +151,11 @@ module _ (s : Situation) (at : ℕ) where
         gift.0,
         record {
           gives = gift.1;
-          highest = λ y k by. let o = over_all top x y k by in let one : Some o.0 ≡ Some t = sym o.1 ∙ is in let same : o.0 ≡ t = cc in let low = subst (λ (u : ℕ × ℕ). k.pref ≤ u.1) same o.2 in omega (arith, low, gift.2);
+          highest = λ y k by. let o = over_all top x y k by in
+              let one : Some o.0 ≡ Some t = sym o.1 ∙ is in
+              let same : o.0 ≡ t = cc in
+              let low = subst (λ (u : ℕ × ℕ). k.pref ≤ u.1) same o.2 in
+              omega (arith, low, gift.2);
           least = λ y k by equal.
               let o = over_all top x y k by in
               let one : Some o.0 ≡ Some t = sym o.1 ∙ is in

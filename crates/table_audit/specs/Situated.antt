@@ -1,6 +1,6 @@
 -- What is said of an outcome, in its situation.
 use Rattle.std.specs.Prelude.{◌≡◌, ℕ, Bool, Option, Some, None}
-use Rattle.path_words.specs.Policies.{policy_of}
+use Rattle.policy_base.specs.Policies.{policy_of}
 use Rattle.config_base.specs.declared.route.Route.{Route}
 use Rattle.stable_paths.specs.Scenarios.{failures_of}
 use Rattle.stable_paths.specs.Situations.{IsSettledIn}

@@ -1,6 +1,6 @@
 //! The verdict on recorded routes.
 ghost use Rattle.std.specs.Prelude.{◌≡◌, ◌↔◌, length, IsTrue};
-ghost use Rattle.path_words.specs.Policies.{policy_of};
+ghost use Rattle.policy_base.specs.Policies.{policy_of};
 ghost use Rattle.outcome_base.specs.Outcomes.{IsStable};
 ghost use Rattle.stable_paths.specs.Scenarios.{failures_of};
 ghost use Rattle.stable_paths.specs.Situations.{AreChoices, IsSituation};
@@ -11,7 +11,7 @@ use crate::top::top_giver;
 use audit_law::AuditVerdict;
 use config_base::Config;
 use net_base::{Loc, Net};
-use path_words::Policy;
+use policy_base::Policy;
 use stable_paths::{Choices, Outcome, Scenario, Situation};
 
 // What is wrong with the choice of a live router that is no origin.

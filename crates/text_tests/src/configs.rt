@@ -4,9 +4,10 @@ use config_lines::Edition;
 use config_reader::{ConfigFault, read_config, read_config_1};
 use config_text::print_config;
 use outside::NoMemory;
-use samples::{TWO_ROUTERS_CONFIG, TWO_ROUTERS_CONFIG_1};
 use std::alloc::Global;
 use std::test::Fail;
+use test_networks::{TWO_ROUTERS_CONFIG, TWO_ROUTERS_CONFIG_1};
+use text_faults::TextFault;
 use text_words::{push_bytes, push_number, push_word};
 
 /// What stands behind the first line of a text and its line feed, and what is told of the whole.

@@ -1,12 +1,12 @@
 //! Texts of events for two routers with a peer each, and their faults.
 use super::faults::{Row, TextKind, answer, wrong_row};
 use event_base::Event;
-use event_text::{Events, read_events};
+use event_reader::{Events, read_events};
 use net_base::{Loc, Prefix};
 use outside::NoMemory;
-use samples::{TWO_EXITS, net_of};
 use std::alloc::Global;
 use std::test::Fail;
+use test_networks::{TWO_EXITS, net_of};
 use text_words::push_bytes;
 
 const ROWS: [Row; 23] = [

@@ -1,9 +1,10 @@
 //! Texts of evidence, and their faults.
 use evidence_text::{print_evidence, read_evidence};
 use outside::NoMemory;
-use samples::TWO_ROUTERS_EVIDENCE;
 use std::alloc::Global;
 use std::test::Fail;
+use test_networks::TWO_ROUTERS_EVIDENCE;
+use text_faults::TextFault;
 use text_words::push_bytes;
 
 const NODE: &str = "\"nodes\":[[0,0,0,100,64512,1]],\"origins\":[],\"prefixes\":[],";

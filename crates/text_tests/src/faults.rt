@@ -1,11 +1,12 @@
 //! Texts that are read for a network, by their faults: tables of them, and the one function that goes over each.
-use event_text::read_events;
+use event_reader::read_events;
 use net_base::Net;
 use outside::NoMemory;
-use samples::{TRIANGLE, TWO_EXITS, net_of};
-use scenario_text::read_scenario;
+use scenario_reader::read_scenario;
 use std::alloc::Global;
-use table_text::read_tables;
+use table_reader::read_tables;
+use test_networks::{TRIANGLE, TWO_EXITS, net_of};
+use text_faults::TextFault;
 use text_words::push_bytes;
 
 /// What a text is read as: events and scenarios for two routers with a peer each, tables for three routers.

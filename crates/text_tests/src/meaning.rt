@@ -1,13 +1,13 @@
 //! The definitions against cases that were worked by hand.
 use net_base::{Loc, LocSet, Net, Prefix, read_prefix};
 use outside::NoMemory;
-use path_words::{
+use policy_base::{
     Case, Policy, Ranked, alternatives, cases, governing, is_allowed, is_loop_free, is_origin,
     is_permitted, is_walk, rank_of, statement_of,
 };
-use samples::{ROW_BETWEEN_PEERS, read};
 use std::alloc::Global;
 use std::test::Fail;
+use test_networks::{ROW_BETWEEN_PEERS, read};
 
 // The routers A to D are 0 to 3, the peers P and Q are 4 and 5.
 const PATHS: [&[u16]; 15] = [

@@ -1,9 +1,9 @@
 //! Policies that are printed, and what is printed read again.
 use outside::NoMemory;
 use policy_text::print_policy;
-use samples::{TWO_EXITS, TWO_WAYS, read};
 use std::alloc::Global;
 use std::test::Fail;
+use test_networks::{TWO_EXITS, TWO_WAYS, read};
 
 // Whether a text is printed like this, and what is printed once more as itself.
 fn prints(alloc: Global, topology: &[u8], text: &str, wanted: &str) -> Result<bool, NoMemory> {

@@ -1,11 +1,11 @@
 //! The texts of the sample of two leaves.
-use net_sample::sample;
 use net_text::print_net;
 use outside::NoMemory;
 use policy_text::print_policy;
-use samples::read;
+use sample_network::sample;
 use std::alloc::Global;
 use std::test::Fail;
+use test_networks::read;
 
 // The two texts, as `bench/make leaf-spine-2` writes them.
 const TOPOLOGY: &str =

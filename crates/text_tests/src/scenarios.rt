@@ -1,11 +1,11 @@
 //! Texts of scenarios for two routers with a peer each, and their faults.
 use super::faults::{Row, TextKind, wrong_row};
 use net_base::{Loc, LocSet, Prefix};
-use samples::{TWO_EXITS, net_of};
-use scenario_text::read_scenario;
+use scenario_reader::read_scenario;
 use stable_paths::Scenario;
 use std::alloc::Global;
 use std::test::Fail;
+use test_networks::{TWO_EXITS, net_of};
 
 const ROWS: [Row; 20] = [
     (

@@ -2,11 +2,11 @@
 use super::faults::{Row, TextKind, wrong_row};
 use config_base::NO_TAG;
 use net_base::{Loc, Tag};
-use samples::{TRIANGLE, net_of};
 use stable_paths::Outcome;
 use std::alloc::Global;
 use std::test::Fail;
-use table_text::read_tables;
+use table_reader::read_tables;
+use test_networks::{TRIANGLE, net_of};
 
 const ROWS: [Row; 22] = [
     (

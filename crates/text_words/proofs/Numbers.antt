@@ -21,10 +21,14 @@ unfolding digits
 table = refl
 
 pub small_number-decimal : (n : ℕ) → n < 256 → small_number (decimal n) ≡ Some n
-small_number-decimal n low = option_map_or_equal (small_number (decimal n)) n (and_parts _ (list_all is_figure (decimal n) && not (length (decimal n) == 0)) (agree_below_at is_read_again (λ m. true) 256 n table low)).0
+small_number-decimal n low =
+    option_map_or_equal (small_number (decimal n)) n
+    (and_parts _ (list_all is_figure (decimal n) && not (length (decimal n) == 0)) (agree_below_at is_read_again (λ m. true) 256 n table low)).0
 
 pub digits_below : (n : ℕ) → n < 256 → (list_all is_figure (decimal n) ≡ true) × (not (length (decimal n) == 0) ≡ true)
-digits_below n low = and_parts (list_all is_figure (decimal n)) (not (length (decimal n) == 0)) (and_parts (option_map_or (λ m. m == n) (small_number (decimal n)) false) _ (agree_below_at is_read_again (λ m. true) 256 n table low)).1
+digits_below n low =
+    and_parts (list_all is_figure (decimal n)) (not (length (decimal n) == 0))
+    (and_parts (option_map_or (λ m. m == n) (small_number (decimal n)) false) _ (agree_below_at is_read_again (λ m. true) 256 n table low)).1
 
 pub list_all-is_figure : (n : ℕ) → n < 256 → list_all is_figure (decimal n) ≡ true
 list_all-is_figure n low = (digits_below n low).0

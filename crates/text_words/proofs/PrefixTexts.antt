@@ -69,7 +69,8 @@ module _ (a b c d : ℕ) (sa : a < 256) (sb : b < 256) (sc : c < 256) (sd : d < 
   unfolding address_of
   addressed = rw (quad_there, octets) refl
 
-  parsed : (bits len : ℕ) → bits_of (record { first = a; second = b; third = c; fourth = d }) ≡ bits → len ≤ 32 → bits % 2 ^ (32 - len) ≡ 0 → prefix_spelled (dotted ++ 47 ∷ decimal len) ≡ Ok (record { bits = bits; len = len })
+  parsed : (bits len : ℕ) → bits_of (record { first = a; second = b; third = c; fourth = d }) ≡ bits → len ≤ 32 → bits % 2 ^ (32 - len) ≡ 0
+      → prefix_spelled (dotted ++ 47 ∷ decimal len) ≡ Ok (record { bits = bits; len = len })
   unfolding prefix_spelled
   parsed bits len whole short clean =
       rw (cut_at-there 47 dotted (decimal len) no_slash, quad_there, length_number-decimal len short, octets, le-leb len 32 short, whole, eq-eqb (bits % 2 ^ (32 - len)) 0 clean) refl

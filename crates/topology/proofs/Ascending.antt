@@ -1,7 +1,6 @@
 -- Links that are put into their places.
-use Rattle.std.proofs.Common.{◌≡◌, ℕ, ◌+◌, ◌<◌, List, [], ◌∷◌, length, take, get_or, Bool, true, false, ◌||◌, ◌&&◌, cond, refl, sym, ◌∙◌, add-one}
+use Rattle.std.proofs.Common.{◌≡◌, ℕ, ◌+◌, ◌<◌, List, [], ◌∷◌, length, take, get_or, Bool, true, false, ◌||◌, ◌&&◌, cond, refl, sym, ◌∙◌, add-one, Ordering, Less, Equal, Greater}
 use Rattle.std.specs.Prelude.{nat_lt, ◌==◌, fold, if◌then◌else◌}
-use Rattle.std.proofs.Common.{Ordering, Less, Equal, Greater}
 use Rattle.std.specs.Ordering.{is_eq, ordering_then, match_ordering, nat_cmp}
 use Rattle.std.specs.BTreeSet.{insert_key}
 use Rattle.std.specs.List.{list_any}

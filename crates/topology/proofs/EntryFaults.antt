@@ -9,8 +9,8 @@ use Rattle.list_laws.proofs.Numbers.{nat_eq_apart}
 use Rattle.net_base.specs.NameRule.{is_name}
 use Rattle.net_base.specs.Steps.{◌>>=◌, unless, each_from}
 use Rattle.net_base.specs.declared.net.Site.{Site}
-use Rattle.net_base.specs.declared.place.Kind.{Kind}
-use Rattle.net_base.specs.declared.place.Kind.TheVariants as kind
+use Rattle.topology.specs.declared.parts.Kind.{Kind}
+use Rattle.topology.specs.declared.parts.Kind.TheVariants as kind
 use Rattle.topology.specs.declared.fault.TopoFault.{TopoFault}
 use Rattle.topology.specs.declared.fault.TopoFault.TheVariants.{TooMany, BadName, Twice, AsRange}
 use Rattle.topology.specs.declared.sites.Number.TheVariants as which

@@ -9,7 +9,7 @@ use Rattle.list_laws.proofs.Each.{AllByRecursion-append, AllByRecursion-append_p
 use Rattle.net_base.specs.NameRule.{is_name}
 use Rattle.net_base.specs.Network.{PlainNet, IsNet, same_ends}
 use Rattle.net_base.specs.Steps.{◌>>=◌, each_from}
-use Rattle.net_base.specs.declared.place.Kind.TheVariants as kind
+use Rattle.topology.specs.declared.parts.Kind.TheVariants as kind
 use Rattle.topology.specs.declared.fault.TopoFault.{TopoFault}
 use Rattle.topology.specs.declared.fault.TopoFault.TheVariants.{LinkTwice, SelfLink, PeerLink}
 use Rattle.topology.specs.declared.sites.Number.TheVariants as which

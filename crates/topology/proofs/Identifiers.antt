@@ -9,7 +9,7 @@ use Rattle.serde_json.specs.Find.{get, as_object}
 use Rattle.serde_json.specs.Events.{members_len}
 use Rattle.net_base.specs.Addresses.{Quad, quad_of, are_octets, bits_of, address_of}
 use Rattle.net_base.specs.Steps.{or_fault, unless}
-use Rattle.net_base.specs.declared.place.Field.TheVariants as field
+use Rattle.topology.specs.declared.parts.Field.TheVariants as field
 use Rattle.topology.specs.declared.fault.TopoFault.TheVariants.{Shape}
 use Rattle.json_words.specs.Json.{list_at, text_at, number_at}
 use Rattle.topology.specs.Shape.{Entry, Topology, each, entry_of, ends_of, shape_of, identifier_of, IsIdentifier}

@@ -8,8 +8,8 @@ use Rattle.net_base.specs.NameRule.{is_name}
 use Rattle.net_base.specs.Network.{PlainNet, sites}
 use Rattle.net_base.specs.Steps.{◌>>=◌, each_from, or_fault, unless}
 use Rattle.net_base.specs.declared.net.Site.{Site}
-use Rattle.net_base.specs.declared.place.Kind.{Kind}
-use Rattle.net_base.specs.declared.place.Kind.TheVariants as kind
+use Rattle.topology.specs.declared.parts.Kind.{Kind}
+use Rattle.topology.specs.declared.parts.Kind.TheVariants as kind
 use Rattle.net_base.proofs.StepLemmas.{bind_ok, unless_ok, ok_same}
 use Rattle.topology.specs.declared.fault.TopoFault.TheVariants.{BadName, NotJson}
 use Rattle.topology.specs.declared.sites.Number.TheVariants as which

@@ -1,9 +1,8 @@
 -- A topology that breaks no rule is a network.
-use Rattle.std.proofs.Common.{◌≡◌, ℕ, ◌+◌, ◌≤◌, List, [], ◌∷◌, ◌++◌, length, map, Ok, refl, sym, ap, ◌∙◌}
+use Rattle.std.proofs.Common.{◌≡◌, ℕ, ◌+◌, ◌≤◌, List, [], ◌∷◌, ◌++◌, length, map, Ok, refl, sym, ap, ◌∙◌, map-id, length-append}
 use Rattle.std.specs.Prelude.{IsTrue, nat_eq, nat_le}
 use Rattle.std.specs.List.{AllByRecursion}
 use Rattle.std.specs.Str.{bytes_eq}
-use Rattle.std.proofs.Common.{map-id, length-append}
 use Rattle.std.proofs.lemmas.List.{map-append, length-map}
 use Rattle.std.proofs.lemmas.Bool.{leb-true}
 use Rattle.list_laws.proofs.Each.{AllByRecursion-append}
@@ -11,11 +10,11 @@ use Rattle.list_laws.proofs.Texts.{bytes_eq_apart}
 use Rattle.list_laws.proofs.Numbers.{nat_eq_apart}
 use Rattle.net_base.specs.NameRule.{is_name}
 use Rattle.net_base.specs.Network.{IsNet}
-use Rattle.net_base.specs.declared.place.Kind.{Kind}
+use Rattle.topology.specs.declared.parts.Kind.{Kind}
 use Rattle.topology.specs.declared.fault.TopoFault.TheVariants.{AsRange, Twice, BadName, TooMany}
 use Rattle.net_base.specs.Steps.{◌>>=◌, each_from, unless}
 use Rattle.net_base.specs.declared.net.Site.{Site}
-use Rattle.net_base.specs.declared.place.Kind.TheVariants as kind
+use Rattle.topology.specs.declared.parts.Kind.TheVariants as kind
 use Rattle.topology.specs.declared.sites.Number.TheVariants as which
 use Rattle.topology.specs.Shape.{each, Entry, Topology, IsIdentifier}
 use Rattle.topology.proofs.Distinct.{all_unlike-distinct}

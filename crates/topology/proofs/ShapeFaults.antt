@@ -5,8 +5,8 @@ use Rattle.serde_json.specs.Data.{Data}
 use Rattle.serde_json.specs.Find.{get, as_object, as_str}
 use Rattle.serde_json.specs.Events.{members_len}
 use Rattle.net_base.specs.Steps.{or_fault, unless}
-use Rattle.net_base.specs.declared.place.Field.{Field}
-use Rattle.net_base.specs.declared.place.Field.TheVariants as field
+use Rattle.topology.specs.declared.parts.Field.{Field}
+use Rattle.topology.specs.declared.parts.Field.TheVariants as field
 use Rattle.topology.specs.declared.fault.TopoFault.{TopoFault}
 use Rattle.topology.specs.declared.fault.TopoFault.TheVariants.{Shape}
 use Rattle.json_words.specs.Json.{list_at, text_at, number_at}

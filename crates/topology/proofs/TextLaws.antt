@@ -9,7 +9,7 @@ use Rattle.serde_json.specs.Data.{Data}
 use Rattle.serde_json.specs.Read.{read}
 use Rattle.net_base.specs.Network.{PlainNet, IsNet}
 use Rattle.net_base.specs.Steps.{◌>>=◌, or_fault}
-use Rattle.net_base.specs.declared.place.Field.{Field}
+use Rattle.topology.specs.declared.parts.Field.{Field}
 use Rattle.topology.specs.declared.fault.TopoFault.{TopoFault}
 use Rattle.topology.specs.declared.fault.TopoFault.TheVariants.{NotJson, Shape}
 use Rattle.topology.specs.Faults.{number_of}

@@ -1,8 +1,9 @@
 -- The numbers of the faults, their words and their values.
 use Rattle.std.specs.Prelude.{ℕ, List, [], ◌++◌, codes}
 use Rattle.std.specs.Fmt.{decimal}
-use Rattle.net_base.specs.PlaceWords.{kind_word, field_word}
 use Rattle.text_words.specs.Texts.{word_text, place_text}
+use Rattle.text_faults.specs.Telling.{Telling}
+use Rattle.topology.specs.Parts.{kind_word, field_word}
 use Rattle.topology.specs.declared.fault.TopoFault.{TopoFault}
 use Rattle.topology.specs.declared.fault.TopoFault.TheVariants.{NotJson, Shape, TooMany, BadName, Twice, AsRange, AsTwice, IdTwice, UnknownEnd, LinkTwice, SelfLink, PeerLink, NoMemory}
 
@@ -53,3 +54,7 @@ values_of (LinkTwice n) = place_text n
 values_of (SelfLink n) = place_text n
 values_of (PeerLink n) = place_text n
 values_of NoMemory = []
+
+-- how each fault is told, and which one is want of memory
+abbrev pub told : Telling TopoFault
+told = record { number_of = number_of; word_of = word_of; values_of = values_of; no_memory = NoMemory }

@@ -1,5 +1,6 @@
 pub mod Faults
 pub mod Gives
+pub mod Parts
 pub mod Rules
 pub mod Shape
 pub mod Topology

@@ -3,7 +3,7 @@ use Rattle.std.specs.Prelude.{ℕ, ◌≢◌, ◌<◌, ◌^◌, length, slice_ge
 use Rattle.serde_json.specs.Data.{Data}
 use Rattle.serde_json.specs.Find.{get, as_object, as_str}
 use Rattle.serde_json.specs.Events.{members_len}
-use Rattle.net_base.specs.declared.place.Field.TheVariants as field
+use Rattle.topology.specs.declared.parts.Field.TheVariants as field
 use Rattle.net_base.specs.Addresses.{address_of}
 use Rattle.net_base.specs.Steps.{◌>>=◌, or_fault, unless, each_from}
 use Rattle.topology.specs.declared.fault.TopoFault.{TopoFault}

@@ -1,7 +1,9 @@
 //! What is wrong with a topology text.
-use net_base::{Field, Kind, Name};
+use crate::parts::{Field, Kind};
+use net_base::Name;
 use outside::NoMemory;
 use std::alloc::{AllocError, AllocFailed};
+use text_faults::TextFault;
 use text_words::{push_bytes, push_number, push_place, push_word};
 
 /// The rule that a topology text breaks: of several the one that stands first here. Places count from 1 in
@@ -37,15 +39,12 @@ pub enum TopoFault {
     NoMemory,
 }
 
-impl TopoFault {
-    ghost use Rattle.std.specs.Prelude.{◌≡◌, ◌++◌, OnOk};
-    ghost use Rattle.topology.specs.Faults.{number_of, word_of, values_of};
+impl TextFault for TopoFault {
+    ghost use Rattle.topology.specs.Faults.{told};
 
-    /// The number of the fault, from 1 to 12: of several broken rules the one with the least number is told.
-    /// Want of memory has the number 0.
-    pub fn number(&self) -> u8
-        ensures { result ≡ number_of self.now }
-    {
+    ghost telling = { told };
+
+    fn number(&self) -> u8 {
         match self {
             TopoFault::NotJson => 1,
             TopoFault::Shape(_) => 2,
@@ -63,10 +62,7 @@ impl TopoFault {
         }
     }
 
-    /// The word of the fault.
-    pub fn word(&self) -> &'static [u8]
-        ensures { result.now ≡ word_of self.now }
-    {
+    fn word(&self) -> &'static [u8] {
         match self {
             TopoFault::NotJson => b"not-json",
             TopoFault::Shape(_) => b"shape",
@@ -84,10 +80,7 @@ impl TopoFault {
         }
     }
 
-    /// Adds the values of the fault, each after a space.
-    pub fn push_values(&self, text: &mut Vec<u8>) -> Result<(), NoMemory>
-        ensures { OnOk result (text.new.items ≡ text.old.items ++ values_of self.now) }
-    {
+    fn push_values(&self, text: &mut Vec<u8>) -> Result<(), NoMemory> {
         match self {
             TopoFault::NotJson | TopoFault::NoMemory => Ok(()),
             TopoFault::Shape(field) => push_word(text, field.word()),
@@ -110,6 +103,10 @@ impl TopoFault {
             | TopoFault::SelfLink(place)
             | TopoFault::PeerLink(place) => push_place(text, *place),
         }
+    }
+
+    fn is_no_memory(&self) -> bool {
+        matches!(self, TopoFault::NoMemory)
     }
 }
 

@@ -9,7 +9,7 @@ ghost use Rattle.topology.specs.Shape.{Topology, shape_of};
 ghost use Rattle.topology.specs.Topology.{spelled};
 
 use crate::fault::TopoFault;
-use net_base::Field;
+use crate::parts::Field;
 
 /// A text is read exactly where it is a JSON value that has the shape of a topology and keeps all rules. What
 /// it spells is a network.

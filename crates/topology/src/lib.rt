@@ -11,6 +11,7 @@ mod fault;
 pub mod laws;
 mod links;
 pub mod names;
+mod parts;
 mod rules;
 mod shape;
 mod sites;
@@ -18,6 +19,7 @@ mod sites;
 pub use fault::TopoFault;
 use json_words::{JsonFault, json_value};
 use net_base::Net;
+pub use parts::{Field, Kind};
 use serde_json::Value;
 use std::alloc::Global;
 

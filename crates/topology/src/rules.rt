@@ -9,9 +9,10 @@ ghost use Rattle.topology.specs.Views.{raw_topology};
 
 use crate::fault::TopoFault;
 use crate::links::links;
+use crate::parts::Kind;
 use crate::shape::RawTopology;
 use crate::sites::{Named, Number, names, sites, unshared, with_names};
-use net_base::{Kind, List, Net, limits};
+use net_base::{List, Net, limits};
 use std::alloc::Global;
 
 // There are not too many routers, peers and links.

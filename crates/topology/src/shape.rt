@@ -6,8 +6,9 @@ ghost use Rattle.topology.specs.Shape.{each, entry_of, ends_of, shape_of, identi
 ghost use Rattle.topology.specs.Views.{raw_entry, raw_ends, raw_topology};
 
 use crate::fault::TopoFault;
+use crate::parts::Field;
 use json_words::{list, member_count};
-use net_base::{Field, read_address};
+use net_base::read_address;
 use serde_json::Value;
 use std::alloc::Global;
 

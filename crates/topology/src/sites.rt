@@ -10,9 +10,10 @@ ghost use Rattle.topology.specs.Shape.{each};
 ghost use Rattle.topology.specs.Views.{raw_entry, named_entry, texts};
 
 use crate::fault::TopoFault;
+use crate::parts::Kind;
 use crate::shape::RawEntry;
 use indexmap::IndexSet;
-use net_base::{Kind, Name, Site, peer_as, router_as};
+use net_base::{Name, Site, peer_as, router_as};
 use std::alloc::Global;
 
 /// An entry of `routers` or `peers` that has a name.

@@ -5,17 +5,17 @@ use Rattle.std.specs.Result.{result_ok}
 use Rattle.json_words.specs.Json.{json_of}
 use Rattle.net_base.proofs.PrefixLemmas.{prefix_spelled-IsPrefix}
 use Rattle.net_base.proofs.StepLemmas.{bind_ok, or_fault_result_ok}
-use Rattle.net_base.specs.declared.limits.TheConstants.{EVENTS}
+use Rattle.event_reader.specs.declared.limits.TheConstants.{EVENTS}
 use Rattle.net_base.specs.Network.{PlainNet}
 use Rattle.net_base.specs.Prefixes.{IsPrefix}
 use Rattle.net_base.specs.PrefixText.{prefix_spelled}
 use Rattle.net_base.specs.Steps.{or_fault, unless, each_from}
 use Rattle.net_index.specs.Names.{names_of}
-use Rattle.event_text.specs.declared.events.Events.{Events}
-use Rattle.event_text.specs.declared.fault.EventsFault.TheVariants.{NotJson, TooMany, BadPrefix}
-use Rattle.event_text.specs.Rules.{judged, placed}
-use Rattle.event_text.specs.Shape.{Said, shape_of}
-use Rattle.event_text.specs.Spelled.{spelled}
+use Rattle.event_reader.specs.declared.events.Events.{Events}
+use Rattle.event_reader.specs.declared.fault.EventsFault.TheVariants.{NotJson, TooMany, BadPrefix}
+use Rattle.event_reader.specs.Rules.{judged, placed}
+use Rattle.event_reader.specs.Shape.{Said, shape_of}
+use Rattle.event_reader.specs.Spelled.{spelled}
 
 judged_prefix : (net : PlainNet) (said : Said) (es : Events) → judged net said ≡ Ok es → IsPrefix es.prefix
 unfolding judged

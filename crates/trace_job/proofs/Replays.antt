@@ -3,20 +3,20 @@ use Rattle.std.proofs.Common.{◌≡◌, ℕ, List, subst}
 use Rattle.std.specs.Prelude.{IsTrue}
 use Rattle.net_base.specs.Network.{PlainNet, IsNet}
 use Rattle.net_base.specs.Prefixes.{PlainPrefix, IsPrefix}
-use Rattle.path_words.specs.Policies.{IsPolicyOf, PlainPolicy}
+use Rattle.policy_base.specs.Policies.{IsPolicyOf, PlainPolicy}
 use Rattle.config_base.specs.Configs.{PlainConfig}
 use Rattle.evidence_base.specs.Made.{PlainCaseEvidence}
-use Rattle.regret_law.specs.Passes.{Passes}
+use Rattle.evidence_law.specs.Passes.{Passes}
 use Rattle.report_lines.specs.Report.{IsReportOf}
 use Rattle.settled_law.specs.Settled.{IsFullyStable}
 use Rattle.stable_paths.specs.declared.scenario.Scenario.{Scenario}
 use Rattle.stable_paths.specs.Scenarios.{failures_of}
-use Rattle.event_text.specs.declared.events.Events.{Events}
-use Rattle.world_law.proofs.Waiting.{quiet_worlds_are_settled}
+use Rattle.event_reader.specs.declared.events.Events.{Events}
+use Rattle.world_law.proofs.Waiting.{quiet_worlds_are_settled, routes_size}
 use Rattle.world_law.specs.Laws.{world_after}
 use Rattle.world_law.specs.Scenarios.{IsScenarioOf, routes_of}
 use Rattle.trace_lines.specs.Trace.{IsTraceOf}
-use Rattle.trace_lines.proofs.Replayed.{quiet_worlds_are_replayed, routes_size}
+use Rattle.trace_lines.proofs.Replayed.{quiet_worlds_are_replayed}
 use Rattle.replay_job.specs.Replayed.{IsReplayed}
 
 pub quiet_replays : (net : PlainNet) (policy : PlainPolicy) (config : PlainConfig) (cs : List PlainCaseEvidence) → IsNet net → IsPolicyOf net policy → Passes net policy config cs

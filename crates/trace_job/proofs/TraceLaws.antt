@@ -1,13 +1,13 @@
 -- The job that traces.
 use Rattle.std.proofs.Common.{◌≡◌, ◌≢◌, ℕ, List, [], ◌∷◌, Ok, refl, subst, true}
 use Rattle.net_base.specs.Network.{PlainNet, IsNet}
-use Rattle.path_words.specs.Policies.{IsPolicyOf, PlainPolicy}
+use Rattle.policy_base.specs.Policies.{IsPolicyOf, PlainPolicy}
 use Rattle.config_base.specs.Configs.{PlainConfig}
 use Rattle.evidence_base.specs.Made.{PlainCaseEvidence}
 use Rattle.event_base.specs.Speaking.{speakers_of}
 use Rattle.event_base.specs.Steps.{opening}
-use Rattle.event_text.specs.declared.events.Events.{Events}
-use Rattle.event_text.specs.Spelled.{spelled as events_spelled_by}
+use Rattle.event_reader.specs.declared.events.Events.{Events}
+use Rattle.event_reader.specs.Spelled.{spelled as events_spelled_by}
 use Rattle.world_law.specs.Laws.{world_after}
 use Rattle.trace_lines.specs.Refusals.{refused_from}
 use Rattle.trace_lines.proofs.OneTrace.{one_trace}
@@ -17,7 +17,7 @@ use Rattle.run_base.specs.Reading.{Holds, AllHeld, SaidOfTold}
 use Rattle.run_base.specs.Said.{Said, line}
 use Rattle.run_base.proofs.Jobs.{IsJob, IsJobSaid, err_is}
 use Rattle.input_texts.specs.Asked.{SpellFor}
-use Rattle.trace_job.specs.Texts.{events_line}
+use Rattle.input_texts.specs.FaultLines.{events_line}
 use Rattle.input_texts.proofs.Asking.{job_of, said_for as texts_said_for, told_says as texts_told}
 use Rattle.input_texts.proofs.Spelling.{at_read, of_read, one_of_read, read_form}
 use Rattle.compile_jobs.proofs.Compiling.{IsCompiler, RefusalFor, any_text, compiled_form, one_of_compiled, refusal_said}

@@ -1,9 +1,9 @@
 -- For which events the texts under names ask on a network under a policy.
 use Rattle.std.specs.Prelude.{◌≡◌, ℕ, List, [], ◌∷◌, Ok}
 use Rattle.net_base.specs.Network.{PlainNet}
-use Rattle.path_words.specs.Policies.{PlainPolicy}
-use Rattle.event_text.specs.declared.events.Events.{Events}
-use Rattle.event_text.specs.Spelled.{spelled as events_spelled_by}
+use Rattle.policy_base.specs.Policies.{PlainPolicy}
+use Rattle.event_reader.specs.declared.events.Events.{Events}
+use Rattle.event_reader.specs.Spelled.{spelled as events_spelled_by}
 use Rattle.run_base.specs.Reading.{Holds}
 use Rattle.input_texts.specs.Asked.{SpellFor}
 

@@ -1,15 +1,14 @@
 -- What `trace` says of a network, a policy and events.
 use Rattle.std.specs.Prelude.{ℕ, List, [], ◌∷◌}
 use Rattle.net_base.specs.Network.{PlainNet}
-use Rattle.path_words.specs.Policies.{PlainPolicy}
+use Rattle.policy_base.specs.Policies.{PlainPolicy}
 use Rattle.config_base.specs.Configs.{PlainConfig}
 use Rattle.evidence_base.specs.Made.{PlainCaseEvidence}
-use Rattle.event_text.specs.declared.events.Events.{Events}
+use Rattle.event_reader.specs.declared.events.Events.{Events}
 use Rattle.trace_lines.specs.Trace.{IsTraceOf}
 use Rattle.compile_jobs.specs.Compiling.{SaysOfCompiled}
 use Rattle.run_base.specs.Said.{Said}
-use Rattle.input_texts.specs.Texts.{OfAllTexts}
-use Rattle.trace_job.specs.Texts.{OfEventsText}
+use Rattle.input_texts.specs.Texts.{OfAllTexts, OfEventsText}
 
 -- the trace of the events for the configuration
 abbrev pub WritesTrace : PlainNet → PlainPolicy → Events → PlainConfig → List PlainCaseEvidence → List ℕ → Type 0

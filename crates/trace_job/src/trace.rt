@@ -1,17 +1,16 @@
 //! The command `trace`.
 ghost use Rattle.std.specs.Prelude.{◌<◌, length};
-ghost use Rattle.path_words.specs.Policies.{IsPolicyOf, policy_of};
-ghost use Rattle.case_law.specs.Cases.{OriginsAreRouters};
+ghost use Rattle.policy_base.specs.Policies.{IsPolicyOf, policy_of};
+ghost use Rattle.policy_base.specs.CaseNumbers.{OriginsAreRouters};
 ghost use Rattle.run_base.specs.Said.{IsGiven, said};
 ghost use Rattle.input_texts.specs.Texts.{OfTexts};
 ghost use Rattle.trace_job.specs.Traced.{SaysOfEvents, SaysOfPolicy};
 
-use crate::texts::events_for;
 use compile_jobs::compiled_for;
-use event_text::Events;
-use input_texts::{net_of, policy_for};
+use event_reader::Events;
+use input_texts::{events_for, net_of, policy_for};
 use net_base::Net;
-use path_words::Policy;
+use policy_base::Policy;
 use run_base::Stop;
 use std::alloc::Global;
 use trace_lines::trace;

@@ -1,25 +1,21 @@
 -- A quiet world shows what its settled outcome shows.
 use Rattle.std.proofs.Common.{◌≡◌, ℕ, ◌<◌, length, Option, sym, ap, ◌∙◌, subst}
 use Rattle.std.specs.Prelude.{option_and_then, option_map}
-use Rattle.std.proofs.lemmas.List.{length-map}
 use Rattle.std.proofs.lemmas.Option.{slice_get-map}
 use Rattle.net_base.specs.Network.{PlainNet}
 use Rattle.net_base.specs.Locations.{numbers_below}
-use Rattle.net_base.proofs.NumbersBelow.{length-numbers_below, slice_get-numbers_below}
+use Rattle.net_base.proofs.NumbersBelow.{slice_get-numbers_below}
 use Rattle.config_base.specs.declared.route.Route.{Route}
 use Rattle.outcome_base.specs.Outcomes.{Outcome, route_at}
 use Rattle.event_base.specs.World.{World}
 use Rattle.settled_law.proofs.SettledLaw.{settled_outcomes_are_one}
-use Rattle.world_law.proofs.Waiting.{peers_hear_offers, quiet_worlds_are_settled}
+use Rattle.world_law.proofs.Waiting.{peers_hear_offers, quiet_worlds_are_settled, routes_size}
 use Rattle.world_law.specs.Laws.{world_after}
 use Rattle.world_law.specs.Scenarios.{routes_of}
 use Rattle.report_lines.specs.Report.{IsReportOf, shown_of}
 use Rattle.report_lines.proofs.Alike.{ShowAlike, same_reports}
 use Rattle.trace_lines.specs.Laws.{QuietWorldsAreReplayed}
 use Rattle.trace_lines.specs.Trace.{shown_by}
-
-pub routes_size : (net : PlainNet) (w : World Route) → length (routes_of net w) ≡ length net.routers
-routes_size net w = length-map (numbers_below (length net.routers)) w.route ∙ length-numbers_below (length net.routers)
 
 route_there : (net : PlainNet) (w : World Route) (r : ℕ) → r < length net.routers → route_at (routes_of net w) r ≡ w.route r
 route_there net w r less =

@@ -1,8 +1,8 @@
 //! The trace of a world.
 ghost use Rattle.std.specs.Prelude.{◌≡◌, ◌++◌, IfOk, OnOk};
-ghost use Rattle.path_words.specs.Policies.{IsPolicyOf, policy_of};
+ghost use Rattle.policy_base.specs.Policies.{IsPolicyOf, policy_of};
 ghost use Rattle.event_state.specs.States.{setting, state};
-ghost use Rattle.regret_law.specs.Passes.{Passes};
+ghost use Rattle.evidence_law.specs.Passes.{Passes};
 ghost use Rattle.trace_lines.specs.Lines.{quiet_line};
 ghost use Rattle.trace_lines.specs.Trace.{IsTrace};
 
@@ -12,7 +12,7 @@ use event_state::World;
 use evidence_base::Evidence;
 use net_base::{Loc, Net, Prefix};
 use outside::NoMemory;
-use path_words::Policy;
+use policy_base::Policy;
 use report_lines::{Scene, push_report, with_front};
 use std::alloc::{AllocError, Global};
 use text_words::push_bytes;

@@ -1,7 +1,7 @@
 //! The trace of events.
 ghost use Rattle.std.specs.Prelude.{IfOk};
-ghost use Rattle.path_words.specs.Policies.{IsPolicyOf, policy_of};
-ghost use Rattle.regret_law.specs.Passes.{Passes};
+ghost use Rattle.policy_base.specs.Policies.{IsPolicyOf, policy_of};
+ghost use Rattle.evidence_law.specs.Passes.{Passes};
 ghost use Rattle.trace_lines.specs.Trace.{IsTraceOf};
 
 use crate::happening::happen;
@@ -12,7 +12,7 @@ use event_core::opening;
 use evidence_base::Evidence;
 use net_base::{Net, Prefix};
 use outside::NoMemory;
-use path_words::Policy;
+use policy_base::Policy;
 use std::alloc::Global;
 
 /// The trace of events on a configured network, for one prefix: it begins with the world in which nothing has been delivered yet.

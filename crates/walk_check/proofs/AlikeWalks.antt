@@ -5,12 +5,12 @@ use Rattle.std.proofs.lemmas.Bool.{cases_Bool, true≢false}
 use Rattle.list_laws.proofs.Options.{is_some_parts}
 use Rattle.list_laws.proofs.Truth.{same_tests}
 use Rattle.net_base.specs.Network.{PlainNet}
-use Rattle.path_words.specs.Policies.{PlainStatement}
+use Rattle.policy_base.specs.Policies.{PlainStatement}
 use Rattle.graph_base.specs.Graphs.{PlainGraph, IsGraph}
 use Rattle.graph_base.specs.Runs.{run}
 use Rattle.graph_base.specs.Rules.{IsWellFormed}
-use Rattle.regret_law.specs.Faithful.{HasWalks}
-use Rattle.regret_law.proofs.RunWalks.{runs_are_walks}
+use Rattle.evidence_law.specs.Faithful.{HasWalks}
+use Rattle.evidence_law.proofs.RunWalks.{runs_are_walks}
 use Rattle.node_classes.specs.Classes.{class_in}
 use Rattle.node_classes.proofs.Stages.{tied_some}
 use Rattle.walk_check.specs.Alike.{AreAlike, AreUnlike}

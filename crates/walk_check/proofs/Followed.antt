@@ -114,7 +114,8 @@ module _ (t g : PlainGraph) (live_rules : IsGraph t) (rules : IsGraph g) (ways :
     past = omega arith;
   }
     where
-      apart : (w : Way) → (w.from ≡ both_sizes t g) ⊎ ((0 ≤ w.from) × (w.from < 0 + length t.nodes)) → (w.from ≡ both_sizes t g + 1) ⊎ ((length t.nodes ≤ w.from) × (w.from < length t.nodes + length g.nodes)) → ⊥
+      apart : (w : Way) → (w.from ≡ both_sizes t g) ⊎ ((0 ≤ w.from) × (w.from < 0 + length t.nodes))
+          → (w.from ≡ both_sizes t g + 1) ⊎ ((length t.nodes ≤ w.from) × (w.from < length t.nodes + length g.nodes)) → ⊥
       apart w (inl x) (inl y) = omega (arith, x, y)
       apart w (inl x) (inr y) = let up = y.1 in omega (arith, x, up)
       apart w (inr x) (inl y) = let below = x.1 in omega (arith, below, y)
@@ -131,7 +132,8 @@ module _ (t g : PlainGraph) (live_rules : IsGraph t) (rules : IsGraph g) (ways :
     past = omega arith;
   }
     where
-      apart : (w : Way) → (w.from ≡ both_sizes t g + 1) ⊎ ((length t.nodes ≤ w.from) × (w.from < length t.nodes + length g.nodes)) → (w.from ≡ both_sizes t g) ⊎ ((0 ≤ w.from) × (w.from < 0 + length t.nodes)) → ⊥
+      apart : (w : Way) → (w.from ≡ both_sizes t g + 1) ⊎ ((length t.nodes ≤ w.from) × (w.from < length t.nodes + length g.nodes))
+          → (w.from ≡ both_sizes t g) ⊎ ((0 ≤ w.from) × (w.from < 0 + length t.nodes)) → ⊥
       apart w (inl x) (inl y) = omega (arith, x, y)
       apart w (inl x) (inr y) = let below = y.1 in omega (arith, x, below)
       apart w (inr x) (inl y) = let up = x.1 in omega (arith, up, y)

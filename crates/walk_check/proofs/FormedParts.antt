@@ -114,7 +114,9 @@ module _ (g : PlainGraph) where
   pub starts_differ : IsDistinct same_pair (map start_key g.starts) ↔ IsDistinct nat_eq (map (place_of g) g.starts)
   starts_differ = (
     λ h. IsDistinct-from_apart nat_eq (place_of g) g.starts
-        (Apart-weaken (λ s t. same_pair (start_key s) (start_key t) ≡ true) (λ s t. nat_eq (place_of g s) (place_of g t) ≡ true) g.starts (Apart-from_distinct same_pair start_key g.starts h) (λ s t a b same. same)),
+        (Apart-weaken (λ s t. same_pair (start_key s) (start_key t) ≡ true) (λ s t. nat_eq (place_of g s) (place_of g t) ≡ true) g.starts
+        (Apart-from_distinct same_pair start_key g.starts h) (λ s t a b same. same)),
     λ h. IsDistinct-from_apart same_pair start_key g.starts
-        (Apart-weaken (λ s t. nat_eq (place_of g s) (place_of g t) ≡ true) (λ s t. same_pair (start_key s) (start_key t) ≡ true) g.starts (Apart-from_distinct nat_eq (place_of g) g.starts h) (λ s t a b same. same)),
+        (Apart-weaken (λ s t. nat_eq (place_of g s) (place_of g t) ≡ true) (λ s t. same_pair (start_key s) (start_key t) ≡ true) g.starts
+        (Apart-from_distinct nat_eq (place_of g) g.starts h) (λ s t a b same. same)),
   )

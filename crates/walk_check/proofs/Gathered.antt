@@ -10,10 +10,14 @@ use Rattle.walk_check.specs.WaysOf.{start_way, step_way, ways_of}
 
 module _ (g : PlainGraph) (first root : ℕ) where
   pub start_way_in : (s : ℕ) → is_start g s ≡ true → IsIn (ways_of g first root) (start_way g first root s)
-  start_way_in s h = IsIn-append_left (map (start_way g first root) g.starts) (map (step_way g first) g.steps) (start_way g first root s) (IsIn-map (start_way g first root) g.starts s (start_in g s h))
+  start_way_in s h =
+      IsIn-append_left (map (start_way g first root) g.starts) (map (step_way g first) g.steps) (start_way g first root s)
+      (IsIn-map (start_way g first root) g.starts s (start_in g s h))
 
   pub step_way_in : (m n : ℕ) → has_step g m n ≡ true → IsIn (ways_of g first root) (step_way g first (m, n))
-  step_way_in m n h = IsIn-append_right (map (start_way g first root) g.starts) (map (step_way g first) g.steps) (step_way g first (m, n)) (IsIn-map (step_way g first) g.steps (m, n) (step_in g m n h))
+  step_way_in m n h =
+      IsIn-append_right (map (start_way g first root) g.starts) (map (step_way g first) g.steps) (step_way g first (m, n))
+      (IsIn-map (step_way g first) g.steps (m, n) (step_in g m n h))
 
   pub way_parts : (w : Way) → IsIn (ways_of g first root) w
       → ((s : ℕ) × (is_start g s ≡ true) × (start_way g first root s ≡ w)) ⊎ ((m n : ℕ) × (has_step g m n ≡ true) × (step_way g first (m, n) ≡ w))

@@ -58,7 +58,8 @@ one_key keys k a b within at also = same_Some a b (ap Some at ∙ sym (slice_get
 pub ascends-one : (keys : List (ℕ × ℕ)) → Ascends keys 1
 ascends-one keys k a b lt = absurd (omega (arith, lt))
 
-pub ascends-next : (keys : List (ℕ × ℕ)) (n : ℕ) (a b : ℕ × ℕ) → 1 ≤ n → n < length keys → a ≡ get_or keys (n - 1) a → b ≡ get_or keys n b → is_before a b ≡ true → Ascends keys n → Ascends keys (n + 1)
+pub ascends-next : (keys : List (ℕ × ℕ)) (n : ℕ) (a b : ℕ × ℕ) → 1 ≤ n → n < length keys → a ≡ get_or keys (n - 1) a → b ≡ get_or keys n b
+    → is_before a b ≡ true → Ascends keys n → Ascends keys (n + 1)
 ascends-next keys n a b some within at_a at_b before ascends k c d lt at_c at_d = elim (cases_lt (suc k) n) [
   | inl less ↦ ascends k c d less at_c at_d
   | inr last ↦

@@ -42,7 +42,9 @@ moved_lists a b c d =
     (subst (λ l. IsPermutation l (((b ++ d) ++ a) ++ c)) (sym from) (subst (IsPermutation (b ++ ((a ++ d) ++ c))) to inner))
 
 moved : (t g : PlainGraph) → IsPermutation (ways_of_both t g) (laid t g)
-moved t g = moved_lists (map (start_way t 0 (both_sizes t g)) t.starts) (map (step_way t 0) t.steps) (map (start_way g (length t.nodes) (both_sizes t g + 1)) g.starts) (map (step_way g (length t.nodes)) g.steps)
+moved t g =
+    moved_lists (map (start_way t 0 (both_sizes t g)) t.starts) (map (step_way t 0) t.steps)
+    (map (start_way g (length t.nodes) (both_sizes t g + 1)) g.starts) (map (step_way g (length t.nodes)) g.steps)
 
 -- they are the ways of both graphs
 pub laid_from : (t g : PlainGraph) (w : Way) → IsIn (laid t g) w → IsIn (ways_of_both t g) w
@@ -55,4 +57,5 @@ laid_has t g w h = IsIn-from_Contains (laid t g) w (Contains-permutation (ways_o
 -- and no two stand at one place
 pub laid_differ : (t g : PlainGraph) → IsGraph t → IsGraph g → IsSingleStepped t → IsSingleStepped g → IsDistinct same_pair (map stand (laid t g))
 laid_differ t g live_rules rules live_single single =
-    IsDistinct-IsPermutation same_pair stands_turned (map stand (ways_of_both t g)) (map stand (laid t g)) (IsPermutation-map stand (ways_of_both t g) (laid t g) (moved t g)) (stands_differ t g live_rules rules live_single single)
+    IsDistinct-IsPermutation same_pair stands_turned (map stand (ways_of_both t g)) (map stand (laid t g))
+    (IsPermutation-map stand (ways_of_both t g) (laid t g) (moved t g)) (stands_differ t g live_rules rules live_single single)

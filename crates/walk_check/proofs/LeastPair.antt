@@ -53,7 +53,8 @@ module _ (t g : PlainGraph) where
   next_pairs : (keys : List (ℕ × ℕ)) (i : ℕ) (p : ℕ × ℕ) → slice_get keys i ≡ Some p → take (i + 1) keys ≡ take i keys ++ p ∷ []
   next_pairs keys i p at = take_more keys i p (slice_get_within keys i p at) ∙ ap (λ q. take i keys ++ q ∷ []) (get_or_from_slice_get keys i p p at)
 
-  pub least_next_same : (keys : List (ℕ × ℕ)) (i : ℕ) (p : ℕ × ℕ) (o : Option ℕ) → slice_get keys i ≡ Some p → IsLeastUnlike t g (take i keys) o → SameRank t g p → IsLeastUnlike t g (take (i + 1) keys) o
+  pub least_next_same : (keys : List (ℕ × ℕ)) (i : ℕ) (p : ℕ × ℕ) (o : Option ℕ) → slice_get keys i ≡ Some p → IsLeastUnlike t g (take i keys) o
+      → SameRank t g p → IsLeastUnlike t g (take (i + 1) keys) o
   least_next_same keys i p o at h same = subst (λ ps. IsLeastUnlike t g ps o) (sym (next_pairs keys i p at)) (least_same (take i keys) p o h same)
 
   pub least_next_unlike : (keys : List (ℕ × ℕ)) (i : ℕ) (p : ℕ × ℕ) (o : Option ℕ) → slice_get keys i ≡ Some p → IsLeastUnlike t g (take i keys) o → (SameRank t g p → ⊥)
@@ -125,7 +126,8 @@ module _ (t g : PlainGraph) (live_rules : IsGraph t) (rules : IsGraph g) (live_s
               sym (h.1 (p, length t.nodes + n) (all p (length t.nodes + n) (met_pair p n met)) (omega (arith, here, lt)) ∙ ap (rank_at g) here),
         )
 
-  pub first_of_pairs : (also : List Way) (a b : ℕ) (keys : List (ℕ × ℕ)) (o : Option ℕ) → also ≡ ways → a ≡ both_sizes t g → b ≡ both_sizes t g + 1 → ((x y : ℕ) → IsIn keys (x, y) ↔ AreMet also a b x y)
+  pub first_of_pairs : (also : List Way) (a b : ℕ) (keys : List (ℕ × ℕ)) (o : Option ℕ) → also ≡ ways → a ≡ both_sizes t g → b ≡ both_sizes t g + 1
+      → ((x y : ℕ) → IsIn keys (x, y) ↔ AreMet also a b x y)
       → IsLeastUnlike t g keys o → IsFirstOrNone (λ n. (p : ℕ) → IsMet t g p n → rank_at g n ≡ rank_at t p) (length g.nodes) o
   first_of_pairs also a b keys o same at_a at_b are h =
       let here : (x y : ℕ) → IsIn keys (x, y) ↔ AreMet ways (both_sizes t g) (both_sizes t g + 1) x y

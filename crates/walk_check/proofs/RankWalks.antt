@@ -4,10 +4,10 @@ use Rattle.std.specs.Prelude.{◌&&◌, is_none, is_some, not}
 use Rattle.std.proofs.lemmas.Bool.{cases_Bool, false≢true}
 use Rattle.list_laws.proofs.Options.{is_some_from, is_some_parts}
 use Rattle.net_base.specs.Network.{PlainNet}
-use Rattle.path_words.specs.Policies.{PlainStatement}
+use Rattle.policy_base.specs.Policies.{PlainStatement}
 use Rattle.graph_base.specs.Graphs.{PlainGraph, IsGraph}
 use Rattle.graph_base.specs.Runs.{place_of, rank_at, run}
-use Rattle.regret_law.specs.Faithful.{HasRank, HasWalks, IsFaithful, may_start}
+use Rattle.evidence_law.specs.Faithful.{HasRank, HasWalks, IsFaithful, may_start}
 use Rattle.graph_base.proofs.RunSteps.{run_begins, run_inside}
 use Rattle.node_classes.specs.Classes.{Tied, class_in}
 use Rattle.walk_check.specs.Alike.{AreAlike}

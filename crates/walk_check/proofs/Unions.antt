@@ -31,7 +31,8 @@ module _ (t g : PlainGraph) (live_rules : IsGraph t) (rules : IsGraph g) (live_s
   graph_run : (l : ℕ) (ls : List ℕ) → follow ways graph_root (l ∷ ls) ≡ counted (length t.nodes) (run g (l ∷ ls))
   graph_run = follow-run ways g (length t.nodes) graph_root rules single graph_are
 
-  pub AreAlike-classes : (also : List Way) (a b : ℕ) (all : List ℕ) (k : WalkClasses) → also ≡ ways → a ≡ live_root → b ≡ graph_root → AreClasses also a b all → ((p : ℕ) → p < length t.nodes → class_in k.live p ≡ class_in all p)
+  pub AreAlike-classes : (also : List Way) (a b : ℕ) (all : List ℕ) (k : WalkClasses) → also ≡ ways → a ≡ live_root → b ≡ graph_root
+      → AreClasses also a b all → ((p : ℕ) → p < length t.nodes → class_in k.live p ≡ class_in all p)
       → ((n : ℕ) → n < length g.nodes → class_in k.graph n ≡ class_in all (length t.nodes + n)) → AreAlike t g k
   AreAlike-classes also a b all k same at_a at_b are_also in_live in_graph [] = tt
   AreAlike-classes also a b all k same at_a at_b are_also in_live in_graph (l ∷ ls) =

@@ -2,7 +2,7 @@
 ghost use Rattle.std.specs.Prelude.{◌≡◌, ◌↔◌, ◌<◌, ℕ, Bool, IfOk, IsTrue, length};
 ghost use Rattle.net_base.specs.Network.{linked};
 ghost use Rattle.net_base.specs.Sets.{holds};
-ghost use Rattle.net_near.specs.Neighbours.{is_held};
+ghost use Rattle.net_index.specs.Neighbours.{is_held};
 ghost use Rattle.graph_base.specs.Rules.{IsWellFormed};
 ghost use Rattle.graph_base.specs.Runs.{is_start};
 ghost use Rattle.reach_prune.specs.Searches.{is_marked};
@@ -11,9 +11,9 @@ ghost use Rattle.walk_check.specs.Formed.{NodesFit, StartsFit, StepsFit, node_fi
 use crate::distinct::is_single_stepped;
 use graph_base::Graph;
 use net_base::{LocSet, Net};
-use net_near::{is_near, neighbour_sets};
+use net_index::{is_near, neighbour_sets};
 use outside::NoMemory;
-use path_words::Case;
+use policy_base::Case;
 use std::alloc::{AllocError, Global};
 
 /// Marks the starts among the nodes.

@@ -1,12 +1,12 @@
 //! Whether each node at a claimed router has a rank.
 ghost use Rattle.std.specs.Prelude.{◌≡◌, ◌&&◌, ◌<◌, false, IsSome, is_none, length};
 ghost use Rattle.net_base.specs.Sets.{holds};
-ghost use Rattle.path_words.specs.declared.case.Case.{Case as PlainCase};
-ghost use Rattle.path_words.specs.Policies.{PlainStatement};
+ghost use Rattle.policy_base.specs.declared.case.Case.{Case as PlainCase};
+ghost use Rattle.policy_base.specs.Policies.{PlainStatement};
 ghost use Rattle.graph_base.specs.Graphs.{IsGraph};
 ghost use Rattle.graph_base.specs.Runs.{place_of, rank_at};
-ghost use Rattle.regret_law.specs.Faithful.{IsFaithful};
-ghost use Rattle.regret_law.specs.Passes.{IsClaimed};
+ghost use Rattle.evidence_law.specs.Faithful.{IsFaithful};
+ghost use Rattle.evidence_law.specs.Passes.{IsClaimed};
 ghost use Rattle.walk_check.specs.Firsts.{IsFirstOrNone};
 
 use graph_base::{Graph, ranked_routers};

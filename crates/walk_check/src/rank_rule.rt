@@ -1,10 +1,10 @@
 //! Whether each node has the rank of the walks that end there.
 ghost use Rattle.std.specs.Prelude.{◌≡◌, ◌↔◌, ◌<◌, ℕ, Bool, List as Items, IfOk, IsTrue, Some, is_some, length, slice_get};
 ghost use Rattle.net_base.specs.Network.{PlainNet};
-ghost use Rattle.path_words.specs.Policies.{PlainStatement};
+ghost use Rattle.policy_base.specs.Policies.{PlainStatement};
 ghost use Rattle.graph_base.specs.Graphs.{IsGraph};
 ghost use Rattle.graph_base.specs.Runs.{rank_at, run};
-ghost use Rattle.regret_law.specs.Faithful.{HasRank, HasWalks, IsFaithful};
+ghost use Rattle.evidence_law.specs.Faithful.{HasRank, HasWalks, IsFaithful};
 ghost use Rattle.node_classes.specs.Classes.{class_in};
 ghost use Rattle.walk_check.specs.Alike.{AreAlike, IsSingleStepped};
 ghost use Rattle.walk_check.specs.Firsts.{IsFirstOrNone, IsMet};

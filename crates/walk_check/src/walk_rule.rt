@@ -1,8 +1,8 @@
 //! Whether a graph has exactly the walks that can still be permitted.
 ghost use Rattle.std.specs.Prelude.{IfNone, IfOk, IfSome};
 ghost use Rattle.net_base.specs.Sets.{holds};
-ghost use Rattle.path_words.specs.Policies.{PlainStatement};
-ghost use Rattle.regret_law.specs.Faithful.{HasWalks, IsFaithful};
+ghost use Rattle.policy_base.specs.Policies.{PlainStatement};
+ghost use Rattle.evidence_law.specs.Faithful.{HasWalks, IsFaithful};
 ghost use Rattle.walk_check.specs.Alike.{AreAlike, IsSingleStepped};
 
 use crate::comparing::{WalkClasses, alike};
@@ -11,7 +11,7 @@ use crate::formed::is_well_formed;
 use graph_base::Graph;
 use net_base::Net;
 use outside::NoMemory;
-use path_words::Case;
+use policy_base::Case;
 use std::alloc::Global;
 
 /// The classes by which a graph has exactly the walks of a case that can still be permitted, or None where it has other walks

@@ -6,19 +6,18 @@ use Rattle.std.proofs.lemmas.Bool.{cases_Bool, cond-true, false_from_ne_true, or
 use Rattle.net_base.specs.declared.numbers.Tag.{Tag}
 use Rattle.net_base.specs.Network.{PlainNet, IsNet, is_location, is_peer, is_router}
 use Rattle.net_base.specs.Prefixes.{PlainPrefix, IsPrefix}
-use Rattle.path_words.specs.Policies.{PlainPolicy}
-use Rattle.path_words.specs.Governing.{is_origin}
+use Rattle.policy_base.specs.Policies.{PlainPolicy, IsPolicyOf}
+use Rattle.policy_base.specs.Governing.{is_origin}
 use Rattle.config_base.specs.declared.route.Route.{Route}
 use Rattle.config_base.specs.Configs.{PlainConfig}
 use Rattle.config_base.specs.Lines.{class_of, export_of}
 use Rattle.evidence_base.specs.Made.{PlainCaseEvidence, number_at}
 use Rattle.outcome_base.specs.Outcomes.{Failures, Outcome, is_live, offered, sent}
-use Rattle.path_words.specs.Policies.{IsPolicyOf}
-use Rattle.regret_law.specs.Passes.{Passes}
-use Rattle.regret_law.proofs.Existence.{held, outcome_of}
-use Rattle.regret_law.proofs.Heard.{sent-permitted, sent-refused, sent-unrouted}
+use Rattle.evidence_law.specs.Passes.{Passes}
+use Rattle.evidence_law.proofs.Existence.{held, outcome_of}
+use Rattle.evidence_law.proofs.Heard.{sent-permitted, sent-refused, sent-unrouted}
 use Rattle.net_base.proofs.RoutersAndPeers.{peer_no_router, router_no_peer}
-use Rattle.regret_law.proofs.Setting.{graph_of, lines_of, network_of, pairs_of}
+use Rattle.evidence_law.proofs.Setting.{graph_of, lines_of, network_of, pairs_of}
 use Rattle.routing_law.specs.Graph as graph
 use Rattle.routing_law.specs.Network as law
 use Rattle.routing_law.specs.Spells as spelled
@@ -82,7 +81,8 @@ module _ (net : PlainNet) (policy : PlainPolicy) (config : PlainConfig) (p : Pla
     offer_unsent : is_live net f r q ≡ true → sent net policy config f p outcome r q ≡ None → offered net policy config f p outcome r q ≡ None
     offer_unsent lives s = rw (s, lives, router, at_peer) refl
 
-    offer_sent : (path : List ℕ) (t : Tag) → is_live net f r q ≡ true → sent net policy config f p outcome r q ≡ Some (path, t) → law.stands_on q path ≡ false → offered net policy config f p outcome r q ≡ Some (q ∷ path)
+    offer_sent : (path : List ℕ) (t : Tag) → is_live net f r q ≡ true → sent net policy config f p outcome r q ≡ Some (path, t)
+        → law.stands_on q path ≡ false → offered net policy config f p outcome r q ≡ Some (q ∷ path)
     offer_sent path t lives s free = rw (s, lives, router, at_peer, free) refl
 
     unclassed : class_of config p ≡ None → is_peer net r ≡ false → sent net policy config f p outcome r q ≡ None
@@ -103,12 +103,17 @@ module _ (net : PlainNet) (policy : PlainPolicy) (config : PlainConfig) (p : Pla
       where
         classed : (class : ℕ) → class_of config p ≡ Some class → is_live net f r q ≡ true → shown q (exports class (w.route r)) ≡ offered net policy config f p outcome r q
         classed class of_class lives = elim (cases_Option (w.route r)) [
-          | inl none ↦ ap (λ (o : Option Route). shown q (exports class o)) none ∙ sym (offer_unsent lives (sent-unrouted net policy config f p outcome class rules of_class r q off (held net w.route r router ∙ none)))
+          | inl none ↦
+              ap (λ (o : Option Route). shown q (exports class o)) none
+              ∙ sym
+              (offer_unsent lives (sent-unrouted net policy config f p outcome class rules of_class r q off (held net w.route r router ∙ none)))
           | inr h ↦ ap (λ (o : Option Route). shown q (exports class o)) h.1 ∙ elim (cases_Option (export_of net config class r q h.0.tag)) [
             | inl none ↦ ap (λ (t : Option Tag). shown q (option_map (message h.0) t)) none
                 ∙ sym (offer_unsent lives (sent-refused net policy config f p outcome class rules of_class r q h.0 off (held net w.route r router ∙ h.1) none))
             | inr t ↦ ap (λ (t : Option Tag). shown q (option_map (message h.0) t)) t.1
-                ∙ sym (offer_sent h.0.path t.0 lives (sent-permitted net policy config f p outcome class rules of_class r q h.0 t.0 off (held net w.route r router ∙ h.1) t.1) (free class h.0 t.0 of_class h.1 t.1))
+                ∙ sym (offer_sent h.0.path t.0 lives
+                (sent-permitted net policy config f p outcome class rules of_class r q h.0 t.0 off (held net w.route r router ∙ h.1) t.1)
+                (free class h.0 t.0 of_class h.1 t.1))
           ]
         ]
 
@@ -123,7 +128,8 @@ module _ (net : PlainNet) (policy : PlainPolicy) (config : PlainConfig) (p : Pla
 
 -- ---- Law 5: routes run in the graph of the case
 
-module _ (net : PlainNet) (policy : PlainPolicy) (config : PlainConfig) (cs : List PlainCaseEvidence) (rules : IsNet net) (kept : IsPolicyOf net policy) (passes : Passes net policy config cs) (p : PlainPrefix) (f : Failures)
+module _ (net : PlainNet) (policy : PlainPolicy) (config : PlainConfig) (cs : List PlainCaseEvidence) (rules : IsNet net)
+    (kept : IsPolicyOf net policy) (passes : Passes net policy config cs) (p : PlainPrefix) (f : Failures)
     (c : CaseFound net policy config cs rules kept passes f p) where
   abbrev Here : Speakers Route
   Here = speakers_of net policy config p
@@ -150,7 +156,8 @@ module _ (net : PlainNet) (policy : PlainPolicy) (config : PlainConfig) (cs : Li
   held_and_waiting_routes_run es = run-kinds Here Held_at On_the_way kind es (opening Here) (opening-kinds Here Held_at On_the_way kind)
 
   -- so nobody hears a path on which it stands
-  pub never_back : (es : List Event) (r q class : ℕ) (h : Route) (t : Tag) → is_router net r ≡ true → is_peer net q ≡ true → class_of config p ≡ Some class → (run Here es (opening Here)).route r ≡ Some h
+  pub never_back : (es : List Event) (r q class : ℕ) (h : Route) (t : Tag) → is_router net r ≡ true → is_peer net q ≡ true
+      → class_of config p ≡ Some class → (run Here es (opening Here)).route r ≡ Some h
       → export_of net config class r q h.tag ≡ Some t → law.stands_on q h.path ≡ false
   never_back es r q class h t router peer of_class has permits =
       let out : exported_by net config p r q ((run Here es (opening Here)).route r) ≡ Some (message h t) =
@@ -159,7 +166,8 @@ module _ (net : PlainNet) (policy : PlainPolicy) (config : PlainConfig) (cs : Li
       peer_off (network_of net (is_origin net policy p)) Graph lines_here.formed h.path way.rest r q way.node way.next way.begins way.runs way.step router (peer_no_router net q peer)
 
 -- In a quiet world what a peer has heard is what it is offered.
-pub quiet_worlds_offer : (net : PlainNet) (policy : PlainPolicy) (config : PlainConfig) (cs : List PlainCaseEvidence) → IsNet net → IsPolicyOf net policy → Passes net policy config cs → (p : PlainPrefix) → IsPrefix p → (es : List Event) (f : Failures)
+pub quiet_worlds_offer : (net : PlainNet) (policy : PlainPolicy) (config : PlainConfig) (cs : List PlainCaseEvidence) → IsNet net
+    → IsPolicyOf net policy → Passes net policy config cs → (p : PlainPrefix) → IsPrefix p → (es : List Event) (f : Failures)
     → IsQuiet (run (speakers_of net policy config p) es (opening (speakers_of net policy config p)))
     → IsScenarioOf net (run (speakers_of net policy config p) es (opening (speakers_of net policy config p))) f
     → (r q : ℕ) → is_router net r ≡ true → is_peer net q ≡ true

@@ -9,8 +9,8 @@ use Rattle.std.proofs.Math.Bool.{and_assoc}
 use Rattle.net_base.specs.Network.{PlainNet, IsNet, is_peer, is_router, linked, id_of}
 use Rattle.net_base.specs.Numbers.{no_tag}
 use Rattle.net_base.specs.Prefixes.{PlainPrefix}
-use Rattle.path_words.specs.Policies.{PlainPolicy}
-use Rattle.path_words.specs.Governing.{is_origin}
+use Rattle.policy_base.specs.Policies.{PlainPolicy}
+use Rattle.policy_base.specs.Governing.{is_origin}
 use Rattle.net_base.specs.Locations.{neighbours}
 use Rattle.config_base.specs.declared.route.Route.{Route}
 use Rattle.config_base.specs.Configs.{PlainConfig}
@@ -18,10 +18,9 @@ use Rattle.config_base.specs.Lines.{class_of, export_of, import_of, own_route, s
 use Rattle.config_base.proofs.SameTags.{same_tag-is}
 use Rattle.net_base.proofs.Neighbours.{linked_neighbour}
 use Rattle.outcome_base.specs.Outcomes.{Failures, Outcome, Chooses, is_dead, is_dead_link, is_live, is_silent, route_at, sent, given}
-use Rattle.regret_law.proofs.Existence.{held, held_none, outcome_of}
-use Rattle.regret_law.proofs.Heard.{given-refused, given-taken, given-unsent, sent-permitted, sent-refused, sent-unrouted}
+use Rattle.evidence_law.proofs.Existence.{held, held_none, outcome_of}
+use Rattle.evidence_law.proofs.Heard.{given-refused, given-taken, given-unsent, sent-permitted, sent-refused, sent-unrouted, no_gift}
 use Rattle.net_base.proofs.RoutersAndPeers.{peer_no_router, router_or_peer}
-use Rattle.regret_law.proofs.RightLaw.{no_gift}
 use Rattle.net_base.proofs.Links.{linked_flips, linked_known}
 use Rattle.list_laws.proofs.Options.{cases_Option, option_and_then_parts, option_map_parts, option_and_then-never}
 use Rattle.event_base.specs.declared.event.Event.{Event}
@@ -62,7 +61,8 @@ module _ (net : PlainNet) (policy : PlainPolicy) (config : PlainConfig) (p : Pla
   begins_announced : (a b : ℕ) → is_router net a ≡ false → Held (BeginsWith a) (announced_by net policy p a)
   begins_announced a b off y e = elim (cases_Bool (is_origin net policy p a)) [
     | inl origin ↦ (
-        let is : Some (record { path = a ∷ []; tag = no_tag; pref = 0 }) ≡ Some y = sym (cond-true (is_origin net policy p a) (Some (record { path = a ∷ []; tag = no_tag; pref = 0 })) None origin) ∙ e in
+        let is : Some (record { path = a ∷ []; tag = no_tag; pref = 0 }) ≡ Some y =
+        sym (cond-true (is_origin net policy p a) (Some (record { path = a ∷ []; tag = no_tag; pref = 0 })) None origin) ∙ e in
         let same : record { path = a ∷ []; tag = no_tag; pref = 0 } ≡ y = cc in
         ([], ap (λ (z : Route). z.path) (sym same)))
     | inr other ↦ (let none : None ≡ Some y = sym (cond-false (is_origin net policy p a) (Some (record { path = a ∷ []; tag = no_tag; pref = 0 })) None other) ∙ e in absurd (cc))
@@ -71,7 +71,8 @@ module _ (net : PlainNet) (policy : PlainPolicy) (config : PlainConfig) (p : Pla
   begins_chosen : (r : ℕ) (offer : ℕ → Option Route) → is_router net r ≡ true → ((u : ℕ) → Held (BeginsWith u) (offer u)) → Held (BeginsWith r) (chosen_by net policy config p r offer)
   begins_chosen r offer router before y e = elim (cases_Bool (is_origin net policy p r)) [
     | inl origin ↦ (
-        let is : Some (own_route net config p r) ≡ Some y = sym (cond-true (is_origin net policy p r) (Some (own_route net config p r)) (option_map (λ (x : ℕ × Route). x.1) (first_of net gives (neighbours net r))) origin) ∙ e in
+        let is : Some (own_route net config p r) ≡ Some y = sym (cond-true (is_origin net policy p r) (Some (own_route net config p r))
+        (option_map (λ (x : ℕ × Route). x.1) (first_of net gives (neighbours net r))) origin) ∙ e in
         let same : own_route net config p r ≡ y = cc in
         ([], ap (λ (z : Route). z.path) (sym same)))
     | inr other ↦ (
@@ -79,7 +80,10 @@ module _ (net : PlainNet) (policy : PlainPolicy) (config : PlainConfig) (p : Pla
         sym (cond-false (is_origin net policy p r) (Some (own_route net config p r)) (option_map (λ (x : ℕ × Route). x.1) (first_of net gives (neighbours net r))) other) ∙ e in
         let x = option_map_parts (λ (x : ℕ × Route). x.1) (first_of net gives (neighbours net r)) y is in
         let by = first_is_given net gives (neighbours net r) x.0 x.1 in
-        let k = option_and_then_parts (λ (k : ℕ). option_and_then (λ (m : Route). option_map (extended r m) (import_of net config k r x.0.0 m.path m.tag)) (offer x.0.0)) (class_of config p) x.0.1 by in
+        let k =
+        option_and_then_parts
+        (λ (k : ℕ). option_and_then (λ (m : Route). option_map (extended r m) (import_of net config k r x.0.0 m.path m.tag)) (offer x.0.0))
+        (class_of config p) x.0.1 by in
         let m = option_and_then_parts (λ (m : Route). option_map (extended r m) (import_of net config k.0 r x.0.0 m.path m.tag)) (offer x.0.0) x.0.1 k.2 in
         let q = option_map_parts (extended r m.0) (import_of net config k.0 r x.0.0 m.0.path m.0.tag) x.0.1 m.2 in
         (m.0.path, ap (λ (z : Route). z.path) (sym (q.2 ∙ x.2))))
@@ -116,7 +120,8 @@ module _ (net : PlainNet) (policy : PlainPolicy) (config : PlainConfig) (p : Pla
     apart = one_message;
   }
 
-module _ (net : PlainNet) (policy : PlainPolicy) (config : PlainConfig) (p : PlainPrefix) (rules : IsNet net) (speak : AreSpeakers (speakers_of net policy config p)) (w : World Route) (f : Failures) (scenario : IsScenarioOf net w f) where
+module _ (net : PlainNet) (policy : PlainPolicy) (config : PlainConfig) (p : PlainPrefix) (rules : IsNet net)
+    (speak : AreSpeakers (speakers_of net policy config p)) (w : World Route) (f : Failures) (scenario : IsScenarioOf net w f) where
   abbrev S : Speakers Route
   S = speakers_of net policy config p
 
@@ -156,10 +161,15 @@ module _ (net : PlainNet) (policy : PlainPolicy) (config : PlainConfig) (p : Pla
 
     from_router : is_peer net u ≡ false → is_router net u ≡ true → taken_by net config p r u (exported_by net config p u r (w.route u)) ≡ given net policy config f p outcome u r
     from_router off router = elim (cases_Option (w.route u)) [
-      | inl none ↦ ap (taken_by net config p r u) (ap (exported_by net config p u r) none ∙ option_and_then-never (λ (k : ℕ). option_and_then (λ (h : Route). option_map (message h) (export_of net config k u r h.tag)) None) (class_of config p) (λ k. refl))
+      | inl none ↦
+          ap (taken_by net config p r u) (ap (exported_by net config p u r) none
+          ∙ option_and_then-never (λ (k : ℕ). option_and_then (λ (h : Route). option_map (message h) (export_of net config k u r h.tag)) None)
+          (class_of config p) (λ k. refl))
           ∙ unsent (sent-unrouted net policy config f p outcome class rules of_class u r off (held net w.route u router ∙ none))
       | inr h ↦ elim (cases_Option (export_of net config class u r h.0.tag)) [
-        | inl none ↦ ap (taken_by net config p r u) (exports h.0 h.1 ∙ ap (option_map (message h.0)) none) ∙ unsent (sent-refused net policy config f p outcome class rules of_class u r h.0 off (held net w.route u router ∙ h.1) none)
+        | inl none ↦
+            ap (taken_by net config p r u) (exports h.0 h.1 ∙ ap (option_map (message h.0)) none)
+            ∙ unsent (sent-refused net policy config f p outcome class rules of_class u r h.0 off (held net w.route u router ∙ h.1) none)
         | inr t ↦ ap (taken_by net config p r u) (exports h.0 h.1 ∙ ap (option_map (message h.0)) t.1)
             ∙ sent_taken (message h.0 t.0) (sent-permitted net policy config f p outcome class rules of_class u r h.0 t.0 off (held net w.route u router ∙ h.1) t.1)
       ]
@@ -190,19 +200,28 @@ module _ (net : PlainNet) (policy : PlainPolicy) (config : PlainConfig) (p : Pla
 
     given_live : taken_by net config p r u (exported S w u r) ≡ given net policy config f p outcome u r
     given_live = elim (cases_Bool (is_peer net u)) [
-      | inl peer ↦ ap (taken_by net config p r u) (cond-false (is_router net u) (exported_by net config p u r (w.route u)) (if w.silent r u then None else announced_by net policy p u) (peer_no_router net u peer)) ∙ from_peer peer
+      | inl peer ↦
+          ap (taken_by net config p r u) (cond-false (is_router net u) (exported_by net config p u r (w.route u))
+          (if w.silent r u then None else announced_by net policy p u) (peer_no_router net u peer)) ∙ from_peer peer
       | inr off ↦ (
           let router = router_or_peer net u (linked_known net u r rules (linked_live u r on)).0 off in
-          ap (taken_by net config p r u) (cond-true (is_router net u) (exported_by net config p u r (w.route u)) (if w.silent r u then None else announced_by net policy p u) router) ∙ from_router off router)
+          ap (taken_by net config p r u) (cond-true (is_router net u) (exported_by net config p u r (w.route u))
+          (if w.silent r u then None else announced_by net policy p u) router) ∙ from_router off router)
     ]
 
   -- what a router makes of what a neighbour gives is what the neighbour gives in the outcome
   taken_given : (r u : ℕ) → taken_by net config p r u (event.given S w r u) ≡ given net policy config f p outcome u r
   taken_given r u = elim (cases_Option (class_of config p)) [
-    | inl free ↦ ap (option_and_then (λ (k : ℕ). option_and_then (λ (m : Route). option_map (extended r m) (import_of net config k r u m.path m.tag)) (event.given S w r u))) free ∙ sym (no_gift net policy config f p outcome free u r)
+    | inl free ↦
+        ap (option_and_then (λ (k : ℕ). option_and_then (λ (m : Route). option_map (extended r m) (import_of net config k r u m.path m.tag))
+        (event.given S w r u))) free ∙ sym (no_gift net policy config f p outcome free u r)
     | inr class ↦ elim (cases_Bool (live S w u r)) [
       | inl on ↦ ap (taken_by net config p r u) (cond-true (live S w u r) (exported S w u r) None on) ∙ given_live class.0 class.1 r u on
-      | inr off ↦ ap (taken_by net config p r u) (cond-false (live S w u r) (exported S w u r) None off) ∙ option_and_then-never (λ (k : ℕ). option_and_then (λ (m : Route). option_map (extended r m) (import_of net config k r u m.path m.tag)) None) (class_of config p) (λ k. refl) ∙ sym (ungiven r u (live_same u r ∙ off))
+      | inr off ↦
+          ap (taken_by net config p r u) (cond-false (live S w u r) (exported S w u r) None off)
+          ∙ option_and_then-never
+          (λ (k : ℕ). option_and_then (λ (m : Route). option_map (extended r m) (import_of net config k r u m.path m.tag)) None)
+          (class_of config p) (λ k. refl) ∙ sym (ungiven r u (live_same u r ∙ off))
     ]
   ]
     where
@@ -244,7 +263,8 @@ module _ (net : PlainNet) (policy : PlainPolicy) (config : PlainConfig) (p : Pla
     ]
 
     -- the first of all that is given, and by whom
-    first_given : (r z : ℕ) (g : Route) → IsChooser r → given net policy config f p outcome z r ≡ Some g → (x : ℕ × Route) × (route_at outcome r ≡ Some x.1) × (gives r x.0 ≡ Some x.1) × NoLater net x (z, g)
+    first_given : (r z : ℕ) (g : Route) → IsChooser r → given net policy config f p outcome z r ≡ Some g
+        → (x : ℕ × Route) × (route_at outcome r ≡ Some x.1) × (gives r x.0 ≡ Some x.1) × NoLater net x (z, g)
     first_given r z g who e =
         let mine : gives r z ≡ Some g = taken_given r z ∙ e in
         let x = first_covers net (gives r) (neighbours net r) z (speak.near r z (given_linked r z g e)) g mine in
@@ -267,8 +287,12 @@ module _ (net : PlainNet) (policy : PlainPolicy) (config : PlainConfig) (p : Pla
           where
             begins_sent : (m : Route) → exported S w u r ≡ Some m → BeginsWith u m
             begins_sent m e = elim (cases_Bool (is_router net u)) [
-              | inl router ↦ begins_kind.exports u r (w.route u) router (begin.route u) m (sym (cond-true (is_router net u) (exported_by net config p u r (w.route u)) (if w.silent r u then None else announced_by net policy p u) router) ∙ e)
-              | inr off ↦ unsilent (w.silent r u) off (sym (cond-false (is_router net u) (exported_by net config p u r (w.route u)) (if w.silent r u then None else announced_by net policy p u) off) ∙ e)
+              | inl router ↦
+                  begins_kind.exports u r (w.route u) router (begin.route u) m (sym (cond-true (is_router net u)
+                  (exported_by net config p u r (w.route u)) (if w.silent r u then None else announced_by net policy p u) router) ∙ e)
+              | inr off ↦
+                  unsilent (w.silent r u) off (sym (cond-false (is_router net u) (exported_by net config p u r (w.route u))
+                  (if w.silent r u then None else announced_by net policy p u) off) ∙ e)
             ]
               where
                 begins_kind : IsKind S BeginsWith (λ a b. BeginsWith a)
@@ -301,7 +325,14 @@ module _ (net : PlainNet) (policy : PlainPolicy) (config : PlainConfig) (p : Pla
 
     pub settled : IsFullyStable net policy config f p outcome
     settled = record {
-      stable = record { dead = λ r down. held_none net w.route r (λ _. kept.idle r (and_right (is_router net r) (not (w.down r)) (not_from_true (w.down r) (sym (scenario.dead r) ∙ down)))); own = own_held; chooses = chooses_first };
+      stable =
+          record {
+            dead =
+                λ r down. held_none net w.route r
+                (λ _. kept.idle r (and_right (is_router net r) (not (w.down r)) (not_from_true (w.down r) (sym (scenario.dead r) ∙ down))));
+            own = own_held;
+            chooses = chooses_first;
+          };
       first = no_later;
     }
 
@@ -315,4 +346,5 @@ quiet_worlds_are_settled net policy config p es f rules quiet scenario =
     let kind = begins net policy config p in
     let S = speakers_of net policy config p in
     let w = run S es (opening S) in
-    settled net policy config p rules speak w f scenario (run-keeps S speak es (opening S) (opening-keeps S speak)) quiet (run-kinds S BeginsWith (λ a b. BeginsWith a) kind es (opening S) (opening-kinds S BeginsWith (λ a b. BeginsWith a) kind))
+    settled net policy config p rules speak w f scenario (run-keeps S speak es (opening S) (opening-keeps S speak)) quiet
+    (run-kinds S BeginsWith (λ a b. BeginsWith a) kind es (opening S) (opening-kinds S BeginsWith (λ a b. BeginsWith a) kind))

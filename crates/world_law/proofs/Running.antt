@@ -7,16 +7,16 @@ use Rattle.net_base.specs.declared.numbers.Tag.{Tag}
 use Rattle.net_base.specs.Network.{PlainNet, IsNet, is_location, is_peer, is_router}
 use Rattle.net_base.specs.Numbers.{no_tag}
 use Rattle.net_base.specs.Prefixes.{PlainPrefix}
-use Rattle.path_words.specs.Policies.{PlainPolicy}
-use Rattle.path_words.specs.Governing.{is_origin}
+use Rattle.policy_base.specs.Policies.{PlainPolicy}
+use Rattle.policy_base.specs.Governing.{is_origin}
 use Rattle.net_base.specs.Locations.{neighbours}
 use Rattle.config_base.specs.declared.route.Route.{Route}
 use Rattle.config_base.specs.Configs.{PlainConfig}
 use Rattle.config_base.specs.Lines.{class_of, export_of, import_of, own_route}
-use Rattle.regret_law.proofs.Setting.{network_of, lines_of, pair_of, gift_of}
-use Rattle.regret_law.proofs.Heard.{export_to_router}
+use Rattle.evidence_law.proofs.Setting.{network_of, lines_of, pair_of, gift_of}
+use Rattle.evidence_law.proofs.Heard.{export_to_router}
 use Rattle.net_base.proofs.RoutersAndPeers.{router_known, router_no_peer}
-use Rattle.regret_law.proofs.Loops.{import_from_router, import_from_peer}
+use Rattle.evidence_law.proofs.Loops.{import_from_router, import_from_peer}
 use Rattle.routing_law.specs.Graph as graph
 use Rattle.routing_law.specs.Lines as line
 use Rattle.routing_law.specs.Network as law
@@ -90,7 +90,8 @@ module _ (net : PlainNet) (policy : PlainPolicy) (config : PlainConfig) (p : Pla
 
   -- ---- exports
 
-  taken_export : (a b : ℕ) (o : Option Route) (y : Route) → exported_by net config p a b o ≡ Some y → (h : Route) × (t : Tag) × (o ≡ Some h) × (export_of net config class a b h.tag ≡ Some t) × (message h t ≡ y)
+  taken_export : (a b : ℕ) (o : Option Route) (y : Route) → exported_by net config p a b o ≡ Some y
+      → (h : Route) × (t : Tag) × (o ≡ Some h) × (export_of net config class a b h.tag ≡ Some t) × (message h t ≡ y)
   taken_export a b o y e =
       let whole : option_and_then (λ (h : Route). option_map (message h) (export_of net config class a b h.tag)) o ≡ Some y =
       sym (ap (option_and_then (λ (k : ℕ). option_and_then (λ (h : Route). option_map (message h) (export_of net config k a b h.tag)) o)) of_class) ∙ e in
@@ -101,7 +102,8 @@ module _ (net : PlainNet) (policy : PlainPolicy) (config : PlainConfig) (p : Pla
   is_exported : (a b : ℕ) (h : Route) (t : Tag) → export_of net config class a b h.tag ≡ Some t → lines.exported a b (pair_of h.tag) ≡ true
   is_exported a b h t e = ap is_some e
 
-  sent_on : (a b : ℕ) (h : Route) (t : Tag) (rest : List ℕ) (n : ℕ) → is_router net a ≡ true → export_of net config class a b h.tag ≡ Some t → h.path ≡ a ∷ rest → law.loop_free h.path ≡ true → graph.run g h.path ≡ Some n
+  sent_on : (a b : ℕ) (h : Route) (t : Tag) (rest : List ℕ) (n : ℕ) → is_router net a ≡ true → export_of net config class a b h.tag ≡ Some t
+      → h.path ≡ a ∷ rest → law.loop_free h.path ≡ true → graph.run g h.path ≡ Some n
       → pair_of h.tag ≡ tag n → RunsTo net g tag a b (message h t)
   sent_on a b h t rest n router e begins free runs tagged =
       let runs' : graph.run g (a ∷ rest) ≡ Some n = ap (graph.run g) (sym begins) ∙ runs in
@@ -117,7 +119,8 @@ module _ (net : PlainNet) (policy : PlainPolicy) (config : PlainConfig) (p : Pla
         to_router = λ to. ap pair_of (export_to_router net config class a b h.tag t (router_no_peer net b to) e) ∙ tagged;
       }
 
-  sent_own : (a b : ℕ) (h : Route) (t : Tag) → is_router net a ≡ true → is_origin net policy p a ≡ true → h ≡ own_route net config p a → export_of net config class a b h.tag ≡ Some t → RunsTo net g tag a b (message h t)
+  sent_own : (a b : ℕ) (h : Route) (t : Tag) → is_router net a ≡ true → is_origin net policy p a ≡ true → h ≡ own_route net config p a
+      → export_of net config class a b h.tag ≡ Some t → RunsTo net g tag a b (message h t)
   sent_own a b h t router origin own e =
       let mine : pair_of h.tag ≡ lines.own a = ap (λ (x : Route). pair_of x.tag) own in
       let s = own_routes_are_starts Net g tag lines written a b router origin (ap (lines.exported a b) (sym mine) ∙ is_exported a b h t e) in
@@ -137,7 +140,8 @@ module _ (net : PlainNet) (policy : PlainPolicy) (config : PlainConfig) (p : Pla
   announces : (a b : ℕ) → is_router net a ≡ false → Held (IsOnTheWay a b) (announced_by net policy p a)
   announces a b off y e = elim (cases_Bool (is_origin net policy p a)) [
     | inl origin ↦ (
-        let is : Some (record { path = a ∷ []; tag = no_tag; pref = 0 }) ≡ Some y = sym (cond-true (is_origin net policy p a) (Some (record { path = a ∷ []; tag = no_tag; pref = 0 })) None origin) ∙ e in
+        let is : Some (record { path = a ∷ []; tag = no_tag; pref = 0 }) ≡ Some y =
+        sym (cond-true (is_origin net policy p a) (Some (record { path = a ∷ []; tag = no_tag; pref = 0 })) None origin) ∙ e in
         let same : record { path = a ∷ []; tag = no_tag; pref = 0 } ≡ y = cc in
         record { router = λ t. absurd (true≢false (sym t ∙ off)); peer = λ f. (origin, ap (λ (z : Route). z.path) (sym same), ap (λ (z : Route). z.tag) (sym same)) })
     | inr other ↦ (
@@ -147,7 +151,8 @@ module _ (net : PlainNet) (policy : PlainPolicy) (config : PlainConfig) (p : Pla
 
   -- ---- choices
 
-  taken_import : (r u : ℕ) (o : Option Route) (y : Route) → taken_by net config p r u o ≡ Some y → (m : Route) × (q : Tag × ℕ) × (o ≡ Some m) × (import_of net config class r u m.path m.tag ≡ Some q) × (extended r m q ≡ y)
+  taken_import : (r u : ℕ) (o : Option Route) (y : Route) → taken_by net config p r u o ≡ Some y
+      → (m : Route) × (q : Tag × ℕ) × (o ≡ Some m) × (import_of net config class r u m.path m.tag ≡ Some q) × (extended r m q ≡ y)
   taken_import r u o y e =
       let whole : option_and_then (λ (m : Route). option_map (extended r m) (import_of net config class r u m.path m.tag)) o ≡ Some y =
       sym (ap (option_and_then (λ (k : ℕ). option_and_then (λ (m : Route). option_map (extended r m) (import_of net config k r u m.path m.tag)) o)) of_class) ∙ e in
@@ -159,9 +164,11 @@ module _ (net : PlainNet) (policy : PlainPolicy) (config : PlainConfig) (p : Pla
   unless true o q h = absurd (cc)
   unless false o q h = (refl, h)
 
-  from_router : (r u : ℕ) (m : Route) (q : Tag × ℕ) → is_router net r ≡ true → is_router net u ≡ true → RunsTo net g tag u r m → import_of net config class r u m.path m.tag ≡ Some q → RunsAt g tag r (extended r m q)
+  from_router : (r u : ℕ) (m : Route) (q : Tag × ℕ) → is_router net r ≡ true → is_router net u ≡ true → RunsTo net g tag u r m
+      → import_of net config class r u m.path m.tag ≡ Some q → RunsAt g tag r (extended r m q)
   from_router r u m q to from way e =
-      let parts = unless (law.stands_on r m.path) (import_of net config class r u [] m.tag) q (sym (import_from_router net config class r u m.path m.tag rules (router_known net r to) (router_no_peer net u from)) ∙ e) in
+      let parts = unless (law.stands_on r m.path) (import_of net config class r u [] m.tag) q
+      (sym (import_from_router net config class r u m.path m.tag rules (router_known net r to) (router_no_peer net u from)) ∙ e) in
       let imported : lines.imported r u (pair_of m.tag) ≡ Some (gift_of q) = ap (option_map gift_of) parts.1 in
       let runs' : graph.run g (u ∷ way.rest) ≡ Some way.node = ap (graph.run g) (sym way.begins) ∙ way.runs in
       let next = imports_are_steps Net g tag lines written u r way.node way.rest (gift_of q) from to runs' (ap (lines.imported r u) (sym (way.to_router to)) ∙ imported) in
@@ -176,11 +183,13 @@ module _ (net : PlainNet) (policy : PlainPolicy) (config : PlainConfig) (p : Pla
         pref_is = ap (λ (z : line.Tag × ℕ). z.1) next.2;
       }
 
-  from_peer : (r u : ℕ) (m : Route) (q : Tag × ℕ) → is_router net r ≡ true → is_router net u ≡ false → is_origin net policy p u ≡ true → m.path ≡ u ∷ [] → m.tag ≡ no_tag → import_of net config class r u m.path m.tag ≡ Some q
+  from_peer : (r u : ℕ) (m : Route) (q : Tag × ℕ) → is_router net r ≡ true → is_router net u ≡ false → is_origin net policy p u ≡ true
+      → m.path ≡ u ∷ [] → m.tag ≡ no_tag → import_of net config class r u m.path m.tag ≡ Some q
       → RunsAt g tag r (extended r m q)
   from_peer r u m q to off origin path bare e =
       let peer : is_peer net u ≡ true = and_from _ _ (le-leb _ _ (ltb-false _ _ off)) (known u origin) in
-      let plain : import_of net config class r u [] m.tag ≡ Some q = sym (ap (λ (ls : List ℕ). import_of net config class r u ls m.tag) path ∙ import_from_peer net config class r u m.tag rules peer) ∙ e in
+      let plain : import_of net config class r u [] m.tag ≡ Some q =
+      sym (ap (λ (ls : List ℕ). import_of net config class r u ls m.tag) path ∙ import_from_peer net config class r u m.tag rules peer) ∙ e in
       let given : lines.from_peer r u ≡ Some (gift_of q) = ap (option_map gift_of) (ap (import_of net config class r u []) (sym bare) ∙ plain) in
       let next = announcements_are_steps Net g tag lines written u r (gift_of q) off to origin given in
       let apart : (u == r) ≡ false = false_from_ne_true _ (λ same. true≢false (sym to ∙ ap (is_router net) (sym (eqb-true u r same)) ∙ off)) in
@@ -198,7 +207,8 @@ module _ (net : PlainNet) (policy : PlainPolicy) (config : PlainConfig) (p : Pla
   chooses : (r : ℕ) (offer : ℕ → Option Route) → is_router net r ≡ true → ((u : ℕ) → Held (IsOnTheWay u r) (offer u)) → Held (IsHeldAt r) (chosen_by net policy config p r offer)
   chooses r offer router held y e = elim (cases_Bool (is_origin net policy p r)) [
     | inl origin ↦ (
-        let is : Some (own_route net config p r) ≡ Some y = sym (cond-true (is_origin net policy p r) (Some (own_route net config p r)) (option_map (λ (x : ℕ × Route). x.1) (first_of net gives (neighbours net r))) origin) ∙ e in
+        let is : Some (own_route net config p r) ≡ Some y = sym (cond-true (is_origin net policy p r) (Some (own_route net config p r))
+        (option_map (λ (x : ℕ × Route). x.1) (first_of net gives (neighbours net r))) origin) ∙ e in
         let same : own_route net config p r ≡ y = cc in
         record { own = λ t. sym same; other = λ f. absurd (true≢false (sym origin ∙ f)) })
     | inr other ↦ (

@@ -36,7 +36,9 @@ module _ (net : PlainNet) (w : World Route) (both : (a b : ℕ) → w.cut a b �
       let x = list_any_parts (λ d. w.down d && eqb d l) (numbers_below (length net.routers)) h in
       let parts = and_parts (w.down x.1) (eqb x.1 l) x.3 in
       ap w.down (sym (eqb-true x.1 l parts.1)) ∙ parts.0))
-      (λ h. list_any-from_IsIn (λ d. w.down d && eqb d l) (numbers_below (length net.routers)) l (l, slice_get-numbers_below (length net.routers) l (ltb-true l (length net.routers) (downs l h))) (and_from (w.down l) (eqb l l) h (eq-eqb l l refl)))
+      (λ h. list_any-from_IsIn (λ d. w.down d && eqb d l) (numbers_below (length net.routers)) l
+      (l, slice_get-numbers_below (length net.routers) l (ltb-true l (length net.routers) (downs l h)))
+      (and_from (w.down l) (eqb l l) h (eq-eqb l l refl)))
 
   links_is : (a b : ℕ) → linked net a b ≡ true → is_dead_link (scenario_of net w) a b ≡ w.cut a b
   links_is a b on = any_filtered (joins a b) (λ (l : ℕ × ℕ). w.cut l.0 l.1) net.links ∙ same_tests _ (w.cut a b)
@@ -66,7 +68,9 @@ module _ (net : PlainNet) (w : World Route) (both : (a b : ℕ) → w.cut a b �
       hits : (s : ℕ × ℕ) → Bool
       hits s = w.silent s.0 s.1 && (eqb s.0 r && eqb s.1 q)
 
-      either : w.silent r q ≡ true → (list_any (λ (s : ℕ × ℕ). w.silent s.0 s.1 && (eqb s.0 r && eqb s.1 q)) net.links || list_any (λ (s : ℕ × ℕ). w.silent s.0 s.1 && (eqb s.0 r && eqb s.1 q)) (map (λ (l : ℕ × ℕ). (l.1, l.0)) net.links)) ≡ true
+      either : w.silent r q ≡ true
+          → (list_any (λ (s : ℕ × ℕ). w.silent s.0 s.1 && (eqb s.0 r && eqb s.1 q)) net.links
+          || list_any (λ (s : ℕ × ℕ). w.silent s.0 s.1 && (eqb s.0 r && eqb s.1 q)) (map (λ (l : ℕ × ℕ). (l.1, l.0)) net.links)) ≡ true
       either h =
           let x = list_any_parts (joins q r) net.links on in
           elim (or_cases (eqb x.1.0 q && eqb x.1.1 r) (eqb x.1.0 r && eqb x.1.1 q) x.3) [
@@ -75,7 +79,8 @@ module _ (net : PlainNet) (w : World Route) (both : (a b : ℕ) → w.cut a b �
                 let mute : w.silent x.1.1 x.1.0 ≡ true = ap (λ z. w.silent z x.1.0) (eqb-true x.1.1 r p.1) ∙ ap (w.silent r) (eqb-true x.1.0 q p.0) ∙ h in
                 or_right (list_any (λ (s : ℕ × ℕ). w.silent s.0 s.1 && (eqb s.0 r && eqb s.1 q)) net.links) _
                 (list_any-map (λ (s : ℕ × ℕ). w.silent s.0 s.1 && (eqb s.0 r && eqb s.1 q)) (λ (l : ℕ × ℕ). (l.1, l.0)) net.links
-                ∙ list_any-from_IsIn (λ (l : ℕ × ℕ). w.silent l.1 l.0 && (eqb l.1 r && eqb l.0 q)) net.links x.1 (x.0, x.2) (and_from (w.silent x.1.1 x.1.0) _ mute (and_from (eqb x.1.1 r) (eqb x.1.0 q) p.1 p.0))))
+                ∙ list_any-from_IsIn (λ (l : ℕ × ℕ). w.silent l.1 l.0 && (eqb l.1 r && eqb l.0 q)) net.links x.1 (x.0, x.2)
+                (and_from (w.silent x.1.1 x.1.0) _ mute (and_from (eqb x.1.1 r) (eqb x.1.0 q) p.1 p.0))))
             | inr e ↦ (
                 let p = and_parts (eqb x.1.0 r) (eqb x.1.1 q) e in
                 let mute : w.silent x.1.0 x.1.1 ≡ true = ap (λ z. w.silent z x.1.1) (eqb-true x.1.0 r p.0) ∙ ap (w.silent r) (eqb-true x.1.1 q p.1) ∙ h in

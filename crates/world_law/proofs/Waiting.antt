@@ -7,10 +7,10 @@ use Rattle.std.proofs.lemmas.List.{length-map}
 use Rattle.std.proofs.lemmas.Option.{slice_get-map}
 use Rattle.net_base.specs.Network.{PlainNet, IsNet, is_peer, is_router}
 use Rattle.net_base.specs.Prefixes.{PlainPrefix}
-use Rattle.path_words.specs.Policies.{PlainPolicy, PlainStatement}
-use Rattle.path_words.specs.Governing.{is_origin}
-use Rattle.path_words.specs.Permitted.{is_permitted}
-use Rattle.path_words.specs.Walks.{is_loop_free}
+use Rattle.policy_base.specs.Policies.{PlainPolicy, PlainStatement, IsPolicyOf}
+use Rattle.policy_base.specs.Governing.{is_origin}
+use Rattle.policy_base.specs.Permitted.{is_permitted}
+use Rattle.policy_base.specs.Walks.{is_loop_free}
 use Rattle.net_base.specs.Locations.{neighbours, numbers_below}
 use Rattle.graph_base.specs.Runs as plain
 use Rattle.config_base.specs.declared.route.Route.{Route}
@@ -18,14 +18,13 @@ use Rattle.config_base.specs.Configs.{PlainConfig}
 use Rattle.config_base.specs.Lines.{class_of, own_route}
 use Rattle.evidence_base.specs.Made.{PlainCaseEvidence, number_at}
 use Rattle.outcome_base.specs.Outcomes.{Failures, Outcome, offered}
-use Rattle.path_words.specs.Policies.{IsPolicyOf}
-use Rattle.regret_law.specs.Passes.{Passes}
-use Rattle.regret_law.proofs.CaseOrigins.{prefix_permits, same_free}
-use Rattle.regret_law.proofs.Existence.{held, outcome_of, outcome-size}
-use Rattle.regret_law.proofs.GraphForms.{same_run}
+use Rattle.evidence_law.specs.Passes.{Passes}
+use Rattle.evidence_law.proofs.CaseOrigins.{prefix_permits, same_free}
+use Rattle.evidence_law.proofs.Existence.{held, outcome_of, outcome-size}
+use Rattle.evidence_law.proofs.GraphForms.{same_run}
 use Rattle.net_base.proofs.RoutersAndPeers.{peer_no_router}
-use Rattle.regret_law.proofs.PeerWalks.{peer_permits}
-use Rattle.regret_law.proofs.Setting.{graph_of, network_of, tag_of}
+use Rattle.evidence_law.proofs.PeerWalks.{peer_permits}
+use Rattle.evidence_law.proofs.Setting.{graph_of, network_of, tag_of}
 use Rattle.net_base.proofs.NumbersBelow.{length-numbers_below, slice_get-numbers_below}
 use Rattle.routing_law.specs.Graph as laws
 use Rattle.routing_law.specs.Network as law
@@ -62,7 +61,8 @@ module _ {R : Type 0} (at at' : ℕ → R → Type 0) (on on' : ℕ → ℕ → 
     route = λ r y h. f r y (k.route r y h);
   }
 
-module _ (net : PlainNet) (policy : PlainPolicy) (config : PlainConfig) (cs : List PlainCaseEvidence) (rules : IsNet net) (kept : IsPolicyOf net policy) (passes : Passes net policy config cs) (p : PlainPrefix) (f : Failures)
+module _ (net : PlainNet) (policy : PlainPolicy) (config : PlainConfig) (cs : List PlainCaseEvidence) (rules : IsNet net)
+    (kept : IsPolicyOf net policy) (passes : Passes net policy config cs) (p : PlainPrefix) (f : Failures)
     (c : CaseFound net policy config cs rules kept passes f p) where
   has_run : (r : ℕ) (path rest : List ℕ) (n : ℕ) → path ≡ r ∷ rest → law.loop_free path ≡ true → plain.run c.d.graph path ≡ Some n → HasRun c.d r path n
   has_run r path rest n begins free runs = record { rest = rest; begins = begins; free = sym (same_free path) ∙ free; runs = runs }
@@ -83,11 +83,15 @@ module _ (net : PlainNet) (policy : PlainPolicy) (config : PlainConfig) (cs : Li
     allowed = λ t.
         let who = and_parts (is_router net a) (is_peer net b) t in
         let y = x.router who.0 in
-        let off = peer_off (network_of net (is_origin net policy p)) (graph_of c.d.graph (number_at c.d)) (way.lines_here net policy config cs rules kept passes p f c).formed m.path y.rest a b y.node y.next y.begins y.runs y.step who.0
+        let off = peer_off (network_of net (is_origin net policy p)) (graph_of c.d.graph (number_at c.d))
+        (way.lines_here net policy config cs rules kept passes p f c).formed m.path y.rest a b y.node y.next y.begins y.runs y.step who.0
         (peer_no_router net b who.1) in
-        let runs : plain.run c.d.graph (b ∷ a ∷ y.rest) ≡ Some y.next = ap (option_and_then (λ n. plain.step_at c.d.graph n b)) (ap (plain.run c.d.graph) (sym y.begins) ∙ run_is y.node y.runs) ∙ y.step in
-        let permitted = subst (λ (q : List ℕ). is_permitted net policy p c.s (b ∷ q) ≡ true) (sym y.begins) (prefix_permits net policy p c.s c.same (b ∷ a ∷ y.rest) (peer_permits net c.s c.d c.on b a y.next y.rest who.1 runs)) in
-        and_from (is_permitted net policy p c.s (b ∷ m.path)) (is_loop_free (b ∷ m.path)) permitted (and_from (not (law.stands_on b m.path)) (is_loop_free m.path) (not_from_false _ off) (sym (same_free m.path) ∙ y.free));
+        let runs : plain.run c.d.graph (b ∷ a ∷ y.rest) ≡ Some y.next = ap (option_and_then (λ n. plain.step_at c.d.graph n b))
+        (ap (plain.run c.d.graph) (sym y.begins) ∙ run_is y.node y.runs) ∙ y.step in
+        let permitted = subst (λ (q : List ℕ). is_permitted net policy p c.s (b ∷ q) ≡ true) (sym y.begins)
+        (prefix_permits net policy p c.s c.same (b ∷ a ∷ y.rest) (peer_permits net c.s c.d c.on b a y.next y.rest who.1 runs)) in
+        and_from (is_permitted net policy p c.s (b ∷ m.path)) (is_loop_free (b ∷ m.path)) permitted
+        (and_from (not (law.stands_on b m.path)) (is_loop_free m.path) (not_from_false _ off) (sym (same_free m.path) ∙ y.free));
     peer = λ o. (let y = x.peer o in (y.0, y.1));
   }
     where
@@ -95,7 +99,9 @@ module _ (net : PlainNet) (policy : PlainPolicy) (config : PlainConfig) (cs : Li
       run_is n h = sym (same_run c.d.graph (number_at c.d) m.path) ∙ h
 
   all_said : (es : List Event) → AreKinds (IsHeld net policy config p c.d) (IsOnItsWay net policy p c.s c.d) (run (speakers_of net policy config p) es (opening (speakers_of net policy config p)))
-  all_said es = said (Held_at net policy config cs rules kept passes p f c) (IsHeld net policy config p c.d) (On_the_way net policy config cs rules kept passes p f c) (IsOnItsWay net policy p c.s c.d) held_said way_said
+  all_said es =
+      said (Held_at net policy config cs rules kept passes p f c) (IsHeld net policy config p c.d)
+      (On_the_way net policy config cs rules kept passes p f c) (IsOnItsWay net policy p c.s c.d) held_said way_said
       (run (speakers_of net policy config p) es (opening (speakers_of net policy config p))) (way.held_and_waiting_routes_run net policy config cs rules kept passes p f c es)
 
 none_fail : Failures
@@ -111,7 +117,8 @@ held_and_waiting_routes_run net policy config cs rules kept passes p s k d prefi
       let same_d : c.d ≡ d = cc in
       let rule : Some c.s ≡ Some s = sym c.governs ∙ governs in
       let same_s : c.s ≡ s = cc in
-      subst (λ (z : PlainStatement). AreKinds (IsHeld net policy config p d) (IsOnItsWay net policy p z d) (run (speakers_of net policy config p) es (opening (speakers_of net policy config p)))) same_s
+      subst (λ (z : PlainStatement). AreKinds (IsHeld net policy config p d) (IsOnItsWay net policy p z d)
+      (run (speakers_of net policy config p) es (opening (speakers_of net policy config p)))) same_s
       (subst (λ (e : PlainCaseEvidence). AreKinds (IsHeld net policy config p e) (IsOnItsWay net policy p c.s e) (run (speakers_of net policy config p) es (opening (speakers_of net policy config p)))) same_d
       (all_said net policy config cs rules kept passes p none_fail c es)))
 ]
@@ -140,10 +147,13 @@ module _ (net : PlainNet) (policy : PlainPolicy) (config : PlainConfig) (p : Pla
     ];
     chooses = λ r offer router before y e. elim (cases_Bool (is_origin net policy p r)) [
       | inl origin ↦ (
-          let is : Some (own_route net config p r) ≡ Some y = sym (cond-true (is_origin net policy p r) (Some (own_route net config p r)) (option_map (λ (x : ℕ × Route). x.1) (first_of net (gives r offer) (neighbours net r))) origin) ∙ e in
+          let is : Some (own_route net config p r) ≡ Some y = sym (cond-true (is_origin net policy p r) (Some (own_route net config p r))
+          (option_map (λ (x : ℕ × Route). x.1) (first_of net (gives r offer) (neighbours net r))) origin) ∙ e in
           let same : own_route net config p r ≡ y = cc in
           (origin, sym same))
-      | inr other ↦ absurd (ungiven r offer y (sym (cond-false (is_origin net policy p r) (Some (own_route net config p r)) (option_map (λ (x : ℕ × Route). x.1) (first_of net (gives r offer) (neighbours net r))) other) ∙ e))
+      | inr other ↦
+          absurd (ungiven r offer y (sym (cond-false (is_origin net policy p r) (Some (own_route net config p r))
+          (option_map (λ (x : ℕ × Route). x.1) (first_of net (gives r offer) (neighbours net r))) other) ∙ e))
     ];
   }
     where
@@ -161,17 +171,22 @@ module _ (net : PlainNet) (policy : PlainPolicy) (config : PlainConfig) (p : Pla
 pub origins_alone_hold_routes : OriginsAloneHoldRoutes
 origins_alone_hold_routes net policy config p free es =
     let S = speakers_of net policy config p in
-    run-kinds S (IsOwn net policy config p free) (IsNews net policy config p free) (bare_kind net policy config p free) es (opening S) (opening-kinds S (IsOwn net policy config p free) (IsNews net policy config p free) (bare_kind net policy config p free))
+    run-kinds S (IsOwn net policy config p free) (IsNews net policy config p free) (bare_kind net policy config p free) es (opening S)
+    (opening-kinds S (IsOwn net policy config p free) (IsNews net policy config p free) (bare_kind net policy config p free))
 
 -- ---- the routes of a world, one entry a router
+
+pub routes_size : (net : PlainNet) (w : World Route) → length (routes_of net w) ≡ length net.routers
+routes_size net w = length-map (numbers_below (length net.routers)) w.route ∙ length-numbers_below (length net.routers)
 
 pub same_routes : (net : PlainNet) (w : World Route) → outcome_of net w.route ≡ routes_of net w
 same_routes net w =
     let n = length net.routers in
-    let size : length (routes_of net w) ≡ n = length-map (numbers_below n) w.route ∙ length-numbers_below n in
-    same_options (outcome_of net w.route) (routes_of net w) (outcome-size net w.route ∙ sym size) (λ i below.
+    same_options (outcome_of net w.route) (routes_of net w) (outcome-size net w.route ∙ sym (routes_size net w)) (λ i below.
     let less : i < n = subst (λ (k : ℕ). i < k) (outcome-size net w.route) below in
-    held net w.route i (lt-ltb i n less) ∙ sym (ap (option_and_then (λ (o : Option Route). o)) (slice_get-map w.route (numbers_below n) i ∙ ap (option_map w.route) (slice_get-numbers_below n i less))))
+    held net w.route i (lt-ltb i n less)
+    ∙ sym (ap (option_and_then (λ (o : Option Route). o))
+    (slice_get-map w.route (numbers_below n) i ∙ ap (option_map w.route) (slice_get-numbers_below n i less))))
 
 pub quiet_worlds_are_settled : QuietWorldsAreSettled
 quiet_worlds_are_settled net policy config p es f rules quiet scenario =

@@ -2,18 +2,17 @@
 use Rattle.std.specs.Prelude.{◌≡◌, ℕ, suc, false, ◌&&◌, IsTrue, List, [], ◌∷◌, Some, None, slice_get}
 use Rattle.net_base.specs.Network.{PlainNet, IsNet, is_peer, is_router}
 use Rattle.net_base.specs.Prefixes.{PlainPrefix, IsPrefix}
-use Rattle.path_words.specs.Policies.{PlainPolicy, PlainStatement}
-use Rattle.path_words.specs.Governing.{is_origin, statement_of}
-use Rattle.path_words.specs.Permitted.{is_allowed}
-use Rattle.path_words.specs.Walks.{is_loop_free}
+use Rattle.policy_base.specs.Policies.{PlainPolicy, PlainStatement, IsPolicyOf}
+use Rattle.policy_base.specs.Governing.{is_origin, statement_of}
+use Rattle.policy_base.specs.Permitted.{is_allowed}
+use Rattle.policy_base.specs.Walks.{is_loop_free}
 use Rattle.graph_base.specs.Runs as graph
 use Rattle.graph_base.specs.Runs.{step_at}
 use Rattle.config_base.specs.declared.route.Route.{Route}
 use Rattle.config_base.specs.Configs.{PlainConfig}
 use Rattle.config_base.specs.Lines.{class_of, own_route}
 use Rattle.evidence_base.specs.Made.{PlainCaseEvidence, number_at, tag_at}
-use Rattle.path_words.specs.Policies.{IsPolicyOf}
-use Rattle.regret_law.specs.Passes.{Passes}
+use Rattle.evidence_law.specs.Passes.{Passes}
 use Rattle.event_base.specs.declared.event.Event.{Event}
 use Rattle.event_law.specs.Kinds.{AreKinds}
 use Rattle.event_base.specs.Steps.{opening, run}

@@ -1,7 +1,7 @@
 use Rattle.std.proofs.Common.{◌≡◌, true, length}
 use Rattle.net_base.specs.Sets.{holds}
 use Rattle.graph_base.specs.Rules.{MeetsRules}
-use Rattle.regret_law.specs.Passes.{IsClaimed}
+use Rattle.evidence_law.specs.Passes.{IsClaimed}
 use Rattle.relation_law.specs.Evidence.{at_routers}
 use Rattle.relation_law.specs.Numbers.{number_of}
 use Rattle.relation_law.specs.Views.{view_of}

@@ -3,7 +3,7 @@ use super::rows::{NO_CONFIG, Row, Sample};
 use evidence_rules::CheckRule::{
     Cases, ConfigDiffers, PrefListener, PrefRank, PrefStep, Ranks, Tags, Walks,
 };
-use samples::{EXCHANGED_EVIDENCE, RING_WITH_A_PEER, TWO_EXITS, TWO_EXITS_CONFIG};
+use test_networks::{EXCHANGED_EVIDENCE, RING_WITH_A_PEER, TWO_EXITS, TWO_EXITS_CONFIG};
 
 const EXITS_EVIDENCE: &str = r#"{"cases":[{"external":true,"nodes":[[2,0,0,0,0,0],[3,0,0,0,0,0],
 [0,0,1,101,64512,1],[1,0,2,100,64513,1],[1,0,1,101,64513,2],[0,0,2,100,64512,2]],"origins":[2,3],"prefixes":[],

@@ -1,7 +1,7 @@
 //! Evidence for prefixes that a router originates.
 use super::rows::{NO_CONFIG, Row, Sample};
 use evidence_rules::CheckRule::{ConfigDiffers, Mixed, PrefLoop, PrefRank, Tags};
-use samples::{
+use test_networks::{
     CHAIN, TRIANGLE, TRIANGLE_CONFIG, TWO_ROUTERS, TWO_ROUTERS_CONFIG, TWO_ROUTERS_EVIDENCE,
     WAYPOINT_RING,
 };

@@ -1,7 +1,7 @@
 //! Evidence for two cases: which rule is told first, and of which case.
 use super::rows::{NO_CONFIG, Row, Sample};
 use evidence_rules::CheckRule::{Cases, Ranks, Tags, Walks};
-use samples::TWO_ROUTERS;
+use test_networks::TWO_ROUTERS;
 
 const CONFIG: &str = "propane-config 2
 class 1 10.0.1.0/24

@@ -1,5 +1,5 @@
 //! The verdict of each row.
-ghost use Rattle.case_law.specs.Cases.{OriginsAreRouters};
+ghost use Rattle.policy_base.specs.CaseNumbers.{OriginsAreRouters};
 
 use super::between_peers::{EXITS, LISTENING, ONE_SOURCE};
 use super::rows::{Place, Row, Sample};
@@ -10,9 +10,9 @@ use evidence_check::check;
 use evidence_rules::{Shown, Verdict};
 use evidence_text::read_evidence;
 use net_base::Net;
-use path_words::Policy;
-use samples::read;
+use policy_base::Policy;
 use std::alloc::Global;
+use test_networks::read;
 
 // The verdict on the texts of a row, where they are read.
 fn verdict(alloc: Global, net: &Net, policy: &Policy, row: &Row) -> Option<Verdict>

@@ -1,5 +1,5 @@
 //! Policies and failures, with the paths of the routes on which the routers settle.
-use samples::{RING, RING_TURNED, TRIANGLE, TWO_EXITS, TWO_ROUTERS, TWO_SPINES, TWO_WAYS};
+use test_networks::{RING, RING_TURNED, TRIANGLE, TWO_EXITS, TWO_ROUTERS, TWO_SPINES, TWO_WAYS};
 
 /// A network with a policy and failures, and the path of each router's route, empty where it has none. Locations go by their numbers.
 pub(crate) struct Row {

@@ -1,17 +1,17 @@
 //! The outcomes of the rows.
 ghost use Rattle.std.specs.Prelude.{IfSome};
-ghost use Rattle.path_words.specs.Policies.{IsPolicyOf, policy_of};
+ghost use Rattle.policy_base.specs.Policies.{IsPolicyOf, policy_of};
 
 use super::rows::{ROWS, Row};
 use compile_core::compile;
 use config_base::Route;
 use net_base::{List, Loc, LocSet, Net, read_prefix};
-use path_words::Policy;
+use policy_base::Policy;
 use policy_parser::read_policy;
-use samples::net_of;
 use settling::settle;
 use stable_paths::{Outcome, Scenario, is_stable};
 use std::alloc::{AllocError, Global};
+use test_networks::net_of;
 
 // The network and the policy of a row.
 fn texts(alloc: Global, row: &Row) -> Option<(Net, Policy)>

@@ -3,13 +3,13 @@ use Rattle.std.proofs.Common.{◌≡◌, ◌⊎◌, ℕ, List, [], Option, Some,
 use Rattle.net_base.specs.Network.{PlainNet}
 use Rattle.outside.specs.Outside.{Rose}
 use Rattle.outcome_base.specs.Outcomes.{IsStable}
-use Rattle.path_words.specs.Policies.{PlainPolicy}
-use Rattle.regret_law.specs.Passes.{Passes}
+use Rattle.policy_base.specs.Policies.{PlainPolicy}
+use Rattle.evidence_law.specs.Passes.{Passes}
 use Rattle.replay_job.proofs.Scenarios.{spelled_prefix}
 use Rattle.stable_paths.specs.Scenarios.{failures_of}
 use Rattle.evidence_rules.specs.declared.verdict.Verdict.{Verdict}
 use Rattle.evidence_rules.specs.declared.verdict.Verdict.TheVariants as verdict
-use Rattle.table_text.proofs.Sizes.{spelled_size}
+use Rattle.table_reader.proofs.Sizes.{spelled_size}
 use Rattle.run_base.specs.declared.outcome.Status.{Status}
 use Rattle.run_base.specs.declared.outcome.Status.TheVariants.{Done, NoMemory, CheckFails}
 use Rattle.run_base.specs.Reading.{Holds, SaidOfTold}
@@ -49,39 +49,39 @@ ended_as : {O E : Type 0} (ot : O → Option (List ℕ)) (of : O → ℕ) (et : 
 ended_as ot of et ef out out' err err' ended what none calm (inl h) = h.0
 ended_as ot of et ef out out' err err' ended what none calm (inr h) = absurd (elim h.1 [ inl q ↦ calm q.0.rose | inr q ↦ q.1.asked none ])
 
-module _ (holds : Holds) (words : List (List ℕ)) (t p k e s r : ℕ) where
+module _ (holds : Holds) (words : List (List ℕ)) where
   -- the command
   abbrev c : Command
-  c = Audit t p k e s r
+  c = Audit
 
   module _ {S : Type 0} (taken : S → Option (List ℕ)) (before now : S) (b : List ℕ) (written : Whole taken b before now) where
     -- where it says that the tables are stable, they are
-    pub right : Comes holds words c (text b) → AuditsRight holds taken words c before now
+    pub right : Comes holds words c (text b) → AuditsRight holds taken words before now
     right comes =
         let f = said_for holds (names_read words c) (text b) (λ x. cc) comes.bytes comes.held comes.says in
         let rules = net_of_spelled f.asked.spell in
         let fits = policy_of_spelled f.asked.spell in
-        let prefix = spelled_prefix f.net f.asked.scenario_text f.audited.scenario f.asked.scenario_spelled in
+        let prefix = spelled_prefix f.net f.asked.scenario_reader f.audited.scenario f.asked.scenario_spelled in
         let size = spelled_size f.net f.asked.tables_text f.audited.routes f.asked.tables_spelled in
         record {
           net = f.net;
           policy = f.policy;
           audited = f.audited;
-          asked = asks_audit holds words c f.net f.policy comes.is f.audited f.asked;
+          asked = asks_audit holds words f.net f.policy comes.is f.audited f.asked;
           bytes = b;
           written = written;
           shown = done_is f.net f.policy f.audited rules fits prefix size b f.says;
         }
 
     -- and where it says why the audit fails, it does
-    pub fails : Comes holds words c (failing b) → TellsAuditFault holds taken words c before now
+    pub fails : Comes holds words c (failing b) → TellsAuditFault holds taken words before now
     fails comes =
         let f = said_for holds (names_read words c) (failing b) (λ x. cc) comes.bytes comes.held comes.says in
         record {
           net = f.net;
           policy = f.policy;
           audited = f.audited;
-          asked = asks_audit holds words c f.net f.policy comes.is f.audited f.asked;
+          asked = asks_audit holds words f.net f.policy comes.is f.audited f.asked;
           line = b;
           written = written;
           shown = failing_is f.net f.policy f.audited b f.says;
@@ -89,9 +89,9 @@ module _ (holds : Holds) (words : List (List ℕ)) (t p k e s r : ℕ) where
 
   -- ---- where the inputs are told
 
-  module _ (net : PlainNet) (policy : PlainPolicy) (audited : Audited) (asks : AsksAudit holds words c net policy audited) where
+  module _ (net : PlainNet) (policy : PlainPolicy) (audited : Audited) (asks : AsksAudit holds words net policy audited) where
     spell : SpellAudit holds (names_read words c) net policy audited
-    spell = spells_audit holds words c net policy audited asks
+    spell = spells_audit holds words net policy audited asks
 
     module _ {O E : Type 0} (ot : O → Option (List ℕ)) (of : O → ℕ) (et : E → Option (List ℕ)) (ef : E → ℕ) (out out' : O) (err err' : E) (ended : Status) (calm : Rose (of out) (of out') → ⊥) where
       -- it ends well where the evidence passes and the tables are stable

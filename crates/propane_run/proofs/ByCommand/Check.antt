@@ -2,16 +2,16 @@
 use Rattle.std.proofs.Common.{◌≡◌, ◌≢◌, ◌⊎◌, ℕ, List, Option, inl, inr, ap, subst, ◌∙◌}
 use Rattle.net_base.specs.Network.{PlainNet}
 use Rattle.outside.specs.Outside.{Rose}
-use Rattle.path_words.specs.Policies.{PlainPolicy}
+use Rattle.policy_base.specs.Policies.{PlainPolicy}
 use Rattle.config_base.specs.Configs.{PlainConfig}
 use Rattle.evidence_base.specs.Made.{PlainCaseEvidence}
 use Rattle.evidence_rules.specs.declared.verdict.Verdict.{Verdict}
 use Rattle.evidence_rules.specs.declared.verdict.Verdict.TheVariants as verdict
 use Rattle.evidence_rules.specs.Verdicts.{IsVerdict}
 use Rattle.evidence_rules.proofs.OneVerdict.{one_verdict}
-use Rattle.regret_law.proofs.ExistenceLaw.{stable_outcomes_exist}
-use Rattle.regret_law.proofs.RightLaw.{passing_evidence_is_right}
-use Rattle.regret_law.specs.Passes.{Passes}
+use Rattle.evidence_law.proofs.ExistenceLaw.{stable_outcomes_exist}
+use Rattle.evidence_law.proofs.RightLaw.{passing_evidence_is_right}
+use Rattle.evidence_law.specs.Passes.{Passes}
 use Rattle.run_base.specs.declared.outcome.Status.{Status}
 use Rattle.run_base.specs.declared.outcome.Status.TheVariants.{BadInput, Done, NoMemory, CheckFails}
 use Rattle.run_base.specs.Reading.{Holds, SaidOfTold}
@@ -29,11 +29,12 @@ use Rattle.propane_run.specs.Checking.{AsksOf, ChecksRight, TellsFault}
 use Rattle.propane_run.specs.Run.{Job, Comes}
 use Rattle.propane_run.specs.Words.{names_read}
 use Rattle.propane_run.proofs.Asking.{asks_for, spells}
+use Rattle.propane_run.proofs.Moving.{kept_in_motion}
 
-module _ (holds : Holds) (words : List (List ℕ)) (t p x y : ℕ) where
+module _ (holds : Holds) (words : List (List ℕ)) where
   -- the command
   abbrev c : Command
-  c = Check t p x y
+  c = Check
 
   -- of which network, policy, configuration and evidence a thing is said
   record SaidFor (what : Said) : Type 0 where
@@ -41,7 +42,7 @@ module _ (holds : Holds) (words : List (List ℕ)) (t p x y : ℕ) where
     policy : PlainPolicy
     config : PlainConfig
     evidence : List PlainCaseEvidence
-    asked : AsksOf holds words c net policy config evidence
+    asked : AsksOf holds words net policy config evidence
     says : SaysOfPair net policy config evidence what
 
   said_for : (what : Said) → what.status ≢ BadInput → Comes holds words c what → SaidFor what
@@ -65,8 +66,8 @@ module _ (holds : Holds) (words : List (List ℕ)) (t p x y : ℕ) where
       }
 
   module _ {S : Type 0} (taken : S → Option (List ℕ)) (before now : S) (b : List ℕ) (written : Whole taken b before now) where
-    module _ (net : PlainNet) (policy : PlainPolicy) (config : PlainConfig) (evidence : List PlainCaseEvidence) (asks : AsksOf holds words c net policy config evidence) where
-      holds_of : (v : Verdict) → IsVerdict net policy config evidence v → text b ≡ verdict_said v → ChecksRight holds taken words c before now
+    module _ (net : PlainNet) (policy : PlainPolicy) (config : PlainConfig) (evidence : List PlainCaseEvidence) (asks : AsksOf holds words net policy config evidence) where
+      holds_of : (v : Verdict) → IsVerdict net policy config evidence v → text b ≡ verdict_said v → ChecksRight holds taken words before now
       holds_of (verdict.Fails rule shown) h is = absurd (let s = status_is _ _ is in cc)
       holds_of verdict.Holds passes is =
           let spell = spells holds words c net policy asks.asked in
@@ -80,9 +81,10 @@ module _ (holds : Holds) (words : List (List ℕ)) (t p x y : ℕ) where
             passes = passes;
             right = passing_evidence_is_right net policy config evidence (net_of_spelled spell) (policy_of_spelled spell) passes;
             outcomes = stable_outcomes_exist net policy config evidence (net_of_spelled spell) (policy_of_spelled spell) passes;
+            moving = kept_in_motion net policy config evidence (net_of_spelled spell) (policy_of_spelled spell) passes;
           }
 
-      fails_of : (v : Verdict) → IsVerdict net policy config evidence v → failing b ≡ verdict_said v → TellsFault holds taken words c before now
+      fails_of : (v : Verdict) → IsVerdict net policy config evidence v → failing b ≡ verdict_said v → TellsFault holds taken words before now
       fails_of verdict.Holds h is = absurd (let s = status_is _ _ is in cc)
       fails_of (verdict.Fails rule shown) h is = record {
         net = net;
@@ -97,16 +99,16 @@ module _ (holds : Holds) (words : List (List ℕ)) (t p x y : ℕ) where
       }
 
     -- where it says that the evidence holds, it does
-    pub right : Comes holds words c (text b) → ChecksRight holds taken words c before now
+    pub right : Comes holds words c (text b) → ChecksRight holds taken words before now
     right comes = let f = said_for (text b) (λ x. cc) comes in holds_of f.net f.policy f.config f.evidence f.asked f.says.0 f.says.1 f.says.2
 
     -- and where it says that a rule fails, it does
-    pub fails : Comes holds words c (failing b) → TellsFault holds taken words c before now
+    pub fails : Comes holds words c (failing b) → TellsFault holds taken words before now
     fails comes = let f = said_for (failing b) (λ x. cc) comes in fails_of f.net f.policy f.config f.evidence f.asked f.says.0 f.says.1 f.says.2
 
   -- ---- where the inputs are told
 
-  module _ (net : PlainNet) (policy : PlainPolicy) (config : PlainConfig) (evidence : List PlainCaseEvidence) (asks : AsksOf holds words c net policy config evidence) where
+  module _ (net : PlainNet) (policy : PlainPolicy) (config : PlainConfig) (evidence : List PlainCaseEvidence) (asks : AsksOf holds words net policy config evidence) where
     told_says : (wanted : Said) → SaidOfTold holds (names_read words c) (Job c) wanted → SaysOfPair net policy config evidence wanted
     told_says wanted said =
         let P : List (List ℕ) → Type 0 = λ more. SaysOfMore more net policy wanted in

@@ -25,16 +25,16 @@ use Rattle.propane_run.specs.Mapping.{AsksOfMaps, MapsAgree, TellsDifference, Te
 use Rattle.propane_run.specs.Run.{Comes, Job}
 use Rattle.propane_run.specs.Words.{names_read}
 
-module _ (holds : Holds) (words : List (List ℕ)) (k m : ℕ) where
+module _ (holds : Holds) (words : List (List ℕ)) where
   -- the command
   abbrev c : Command
-  c = CheckMap k m
+  c = CheckMap
 
   -- of which configuration and maps a thing is said
   record SaidFor (what : Said) : Type 0 where
     config : PlainConfig
     maps : PlainMaps
-    asked : AsksOfMaps holds words c config maps
+    asked : AsksOfMaps holds words config maps
     says : SaysOfMaps config maps what
 
   said_for : (what : Said) → what.status ≢ BadInput → Comes holds words c what → SaidFor what
@@ -49,26 +49,26 @@ module _ (holds : Holds) (words : List (List ℕ)) (k m : ℕ) where
       }
 
   module _ {S : Type 0} (taken : S → Option (List ℕ)) (before now : S) (b : List ℕ) (written : Whole taken b before now) where
-    agree_of : (config : PlainConfig) (maps : PlainMaps) → AsksOfMaps holds words c config maps → SaysOfMaps config maps (text b) → MapsAgree holds taken words c before now
+    agree_of : (config : PlainConfig) (maps : PlainMaps) → AsksOfMaps holds words config maps → SaysOfMaps config maps (text b) → MapsAgree holds taken words before now
     agree_of config maps asks (inl (few, inl (same, is))) =
         record { config = config; maps = maps; asked = asks; written = rw (out_is _ _ is) at written; same = same; means = subst (MeansAs config) (sym same) (MeansAs-maps_of config) }
     agree_of config maps asks (inl (few, inr (apart, is))) = absurd (let s = status_is _ _ is in cc)
     agree_of config maps asks (inr many) = absurd (let s = status_is _ _ many.said in cc)
 
     -- where it says that the maps are those of the configuration, they are
-    pub right : Comes holds words c (text b) → MapsAgree holds taken words c before now
+    pub right : Comes holds words c (text b) → MapsAgree holds taken words before now
     right comes = let f = said_for (text b) (λ x. cc) comes in agree_of f.config f.maps f.asked f.says
 
-    differ_of : (config : PlainConfig) (maps : PlainMaps) → AsksOfMaps holds words c config maps → SaysOfMaps config maps (failing b) → TellsDifference holds taken words c before now
+    differ_of : (config : PlainConfig) (maps : PlainMaps) → AsksOfMaps holds words config maps → SaysOfMaps config maps (failing b) → TellsDifference holds taken words before now
     differ_of config maps asks (inl (few, inl (same, is))) = absurd (let s = status_is _ _ is in cc)
     differ_of config maps asks (inl (few, inr (apart, is))) = record { config = config; maps = maps; asked = asks; apart = apart; written = rw (out_is _ _ is) at written }
     differ_of config maps asks (inr many) = absurd (let s = status_is _ _ many.said in cc)
 
     -- and where it tells a difference, they differ
-    pub fails : Comes holds words c (failing b) → TellsDifference holds taken words c before now
+    pub fails : Comes holds words c (failing b) → TellsDifference holds taken words before now
     fails comes = let f = said_for (failing b) (λ x. cc) comes in differ_of f.config f.maps f.asked f.says
 
-    many_of : (config : PlainConfig) (maps : PlainMaps) → AsksOfMaps holds words c config maps → SaysOfMaps config maps (line Refused b) → TellsTooMany holds taken words c before now
+    many_of : (config : PlainConfig) (maps : PlainMaps) → AsksOfMaps holds words config maps → SaysOfMaps config maps (line Refused b) → TellsTooMany holds taken words c before now
     many_of config maps asks (inl (few, inl (same, is))) = absurd (let s = status_is _ _ is in cc)
     many_of config maps asks (inl (few, inr (apart, is))) = absurd (let s = status_is _ _ is in cc)
     many_of config maps asks (inr many) = record { config = config; asked = (maps, asks); many = many.many; written = rw (err_is _ _ many.said) at written }
@@ -79,7 +79,7 @@ module _ (holds : Holds) (words : List (List ℕ)) (k m : ℕ) where
 
   -- ---- where the inputs are told
 
-  module _ (config : PlainConfig) (maps : PlainMaps) (asks : AsksOfMaps holds words c config maps) {O E : Type 0} (ot : O → Option (List ℕ)) (of : O → ℕ) (et : E → Option (List ℕ)) (ef : E → ℕ) (out out' : O) (err err' : E) (ended : Status) where
+  module _ (config : PlainConfig) (maps : PlainMaps) (asks : AsksOfMaps holds words config maps) {O E : Type 0} (ot : O → Option (List ℕ)) (of : O → ℕ) (et : E → Option (List ℕ)) (ef : E → ℕ) (out out' : O) (err err' : E) (ended : Status) where
     told : (wanted : Said) → SaidOfTold holds (names_read words c) (Job c) wanted → SaysOfMaps config maps wanted
     told wanted said =
         at_maps asks.config_text asks.maps_bytes config maps wanted asks.config_spelled asks.maps_spelled

@@ -2,7 +2,7 @@
 use Rattle.std.proofs.Common.{◌≡◌, ◌⊎◌, ℕ, List, Option, inl, inr}
 use Rattle.net_base.specs.Network.{PlainNet}
 use Rattle.outside.specs.Outside.{Rose}
-use Rattle.path_words.specs.Policies.{PlainPolicy}
+use Rattle.policy_base.specs.Policies.{PlainPolicy}
 use Rattle.refusal_lines.specs.Explanations.{accepted_line, explanation}
 use Rattle.run_base.specs.declared.outcome.Status.{Status}
 use Rattle.run_base.specs.declared.outcome.Status.TheVariants.{Done, NoMemory}
@@ -21,8 +21,8 @@ use Rattle.propane_run.specs.Run.{Comes, Job}
 use Rattle.propane_run.specs.Words.{names_read}
 use Rattle.propane_run.proofs.Asking.{asks_for, spells}
 
-module _ {S : Type 0} (holds : Holds) (words : List (List ℕ)) (taken : S → Option (List ℕ)) (before now : S) (b : List ℕ) (written : Whole taken b before now) (t p : ℕ) where
-  explains_of : (net : PlainNet) (policy : PlainPolicy) → AsksFor holds words (Explain t p) net policy → SaysOfPolicy net policy (text b) → ExplainsRight holds taken words (Explain t p) before now
+module _ {S : Type 0} (holds : Holds) (words : List (List ℕ)) (taken : S → Option (List ℕ)) (before now : S) (b : List ℕ) (written : Whole taken b before now) where
+  explains_of : (net : PlainNet) (policy : PlainPolicy) → AsksFor holds words Explain net policy → SaysOfPolicy net policy (text b) → ExplainsRight holds taken words before now
   explains_of net policy asks (inl h) = record {
     net = net;
     policy = policy;
@@ -31,10 +31,10 @@ module _ {S : Type 0} (holds : Holds) (words : List (List ℕ)) (taken : S → O
   }
   explains_of net policy asks (inr h) = record { net = net; policy = policy; asked = asks; says = inr (h.0, h.1, rw (out_is _ _ h.2) at written) }
 
-  pub right : Comes holds words (Explain t p) (text b) → ExplainsRight holds taken words (Explain t p) before now
+  pub right : Comes holds words Explain (text b) → ExplainsRight holds taken words before now
   right comes =
-      let f = said_for (Alone SaysOfPolicy) holds (names_read words (Explain t p)) (text b) (λ x. cc) comes.bytes comes.held comes.says in
-      explains_of f.net f.policy (asks_for holds words (Explain t p) f.net f.policy comes.is f.spell) (alone SaysOfPolicy f.spell.more f.net f.policy (text b) f.says)
+      let f = said_for (Alone SaysOfPolicy) holds (names_read words Explain) (text b) (λ x. cc) comes.bytes comes.held comes.says in
+      explains_of f.net f.policy (asks_for holds words Explain f.net f.policy comes.is f.spell) (alone SaysOfPolicy f.spell.more f.net f.policy (text b) f.says)
 
 -- ---- where the inputs are told
 
@@ -43,10 +43,10 @@ module _ {O E : Type 0} (ot : O → Option (List ℕ)) (of : O → ℕ) (et : E 
   done_by net policy calm wanted (inl h) sent = let is = h.3 in text_sent ot of et ef out out' err err' ended accepted_line calm (rw is at sent)
   done_by net policy calm wanted (inr h) sent = let is = h.2 in text_sent ot of et ef out out' err err' ended (explanation net h.0) calm (rw is at sent)
 
-  pub explained_where : (holds : Holds) (words : List (List ℕ)) (net : PlainNet) (policy : PlainPolicy) (t p : ℕ) → AsksFor holds words (Explain t p) net policy → (Rose (of out) (of out') → ⊥)
-      → Gives ot of et ef out out' err err' ended (SaidOfTold holds (names_read words (Explain t p)) (Job (Explain t p))) → (ended ≡ NoMemory) ⊎ (ended ≡ Done)
-  explained_where holds words net policy t p asks calm (inl m) = inl m
-  explained_where holds words net policy t p asks calm (inr w) =
-      let spell = spells holds words (Explain t p) net policy asks in
-      let says = alone SaysOfPolicy spell.more net policy w.0 (told_says (Alone SaysOfPolicy) holds (names_read words (Explain t p)) net policy w.0 spell w.1) in
+  pub explained_where : (holds : Holds) (words : List (List ℕ)) (net : PlainNet) (policy : PlainPolicy) → AsksFor holds words Explain net policy → (Rose (of out) (of out') → ⊥)
+      → Gives ot of et ef out out' err err' ended (SaidOfTold holds (names_read words Explain) (Job Explain)) → (ended ≡ NoMemory) ⊎ (ended ≡ Done)
+  explained_where holds words net policy asks calm (inl m) = inl m
+  explained_where holds words net policy asks calm (inr w) =
+      let spell = spells holds words Explain net policy asks in
+      let says = alone SaysOfPolicy spell.more net policy w.0 (told_says (Alone SaysOfPolicy) holds (names_read words Explain) net policy w.0 spell w.1) in
       inr (done_by net policy calm w.0 says w.2)

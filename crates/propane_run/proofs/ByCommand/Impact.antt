@@ -2,8 +2,8 @@
 use Rattle.std.proofs.Common.{ℕ, List, Option, inl, inr}
 use Rattle.net_base.specs.Network.{PlainNet}
 use Rattle.net_base.specs.Prefixes.{PlainPrefix}
-use Rattle.path_words.specs.Policies.{PlainPolicy}
-use Rattle.regret_law.proofs.RightLaw.{passing_evidence_is_right}
+use Rattle.policy_base.specs.Policies.{PlainPolicy}
+use Rattle.evidence_law.proofs.RightLaw.{passing_evidence_is_right}
 use Rattle.run_base.specs.Reading.{Holds}
 use Rattle.run_base.specs.Said.{text, Whole}
 use Rattle.run_base.proofs.Jobs.{status_is, out_is}
@@ -17,14 +17,14 @@ use Rattle.propane_run.specs.Run.{Comes}
 use Rattle.propane_run.specs.Words.{names_read}
 use Rattle.propane_run.proofs.Asking.{asks_for}
 
-module _ {S : Type 0} (holds : Holds) (words : List (List ℕ)) (taken : S → Option (List ℕ)) (before now : S) (b : List ℕ) (written : Whole taken b before now) (t p : ℕ) (x : PlainPrefix) where
-  impacts_of : Comes holds words (Impact t p x) (text b) → (net : PlainNet) (policy : PlainPolicy) → SpellFor holds (names_read words (Impact t p x)) net policy → SaysOfPolicy x net policy (text b)
-      → ImpactsRight holds taken words (Impact t p x) x before now
+module _ {S : Type 0} (holds : Holds) (words : List (List ℕ)) (taken : S → Option (List ℕ)) (before now : S) (b : List ℕ) (written : Whole taken b before now) (x : PlainPrefix) where
+  impacts_of : Comes holds words (Impact x) (text b) → (net : PlainNet) (policy : PlainPolicy) → SpellFor holds (names_read words (Impact x)) net policy → SaysOfPolicy x net policy (text b)
+      → ImpactsRight holds taken words x before now
   impacts_of comes net policy spell (inr h) = absurd (let s = status_is _ _ h.2 in cc)
   impacts_of comes net policy spell (inl h) = record {
     net = net;
     policy = policy;
-    asked = asks_for holds words (Impact t p x) net policy comes.is spell;
+    asked = asks_for holds words (Impact x) net policy comes.is spell;
     config = h.0;
     evidence = h.1;
     compiled = h.3;
@@ -34,7 +34,7 @@ module _ {S : Type 0} (holds : Holds) (words : List (List ℕ)) (taken : S → O
     shown = h.4;
   }
 
-  pub right : Comes holds words (Impact t p x) (text b) → ImpactsRight holds taken words (Impact t p x) x before now
+  pub right : Comes holds words (Impact x) (text b) → ImpactsRight holds taken words x before now
   right comes =
-      let f = said_for (Alone (SaysOfPolicy x)) holds (names_read words (Impact t p x)) (text b) (λ e. cc) comes.bytes comes.held comes.says in
+      let f = said_for (Alone (SaysOfPolicy x)) holds (names_read words (Impact x)) (text b) (λ e. cc) comes.bytes comes.held comes.says in
       impacts_of comes f.net f.policy f.spell (alone (SaysOfPolicy x) f.spell.more f.net f.policy (text b) f.says)

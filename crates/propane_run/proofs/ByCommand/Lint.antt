@@ -2,7 +2,7 @@
 use Rattle.std.proofs.Common.{◌≡◌, ◌⊎◌, ℕ, List, Option, inl, inr, ◌∙◌}
 use Rattle.net_base.specs.Network.{PlainNet}
 use Rattle.outside.specs.Outside.{Rose}
-use Rattle.path_words.specs.Policies.{PlainPolicy}
+use Rattle.policy_base.specs.Policies.{PlainPolicy}
 use Rattle.case_ranks.specs.Limits.{AreAllWithin, compile_refusal}
 use Rattle.case_ranks.specs.declared.refusal.LintRefusal.{LintRefusal}
 use Rattle.lint_job.specs.Linted.{IsRefusedFor, SaysOfPolicy}
@@ -22,28 +22,28 @@ use Rattle.propane_run.specs.Run.{Comes, Job}
 use Rattle.propane_run.specs.Words.{names_read}
 use Rattle.propane_run.proofs.Asking.{asks_for, spells}
 
-module _ (holds : Holds) (words : List (List ℕ)) (t p : ℕ) where
+module _ (holds : Holds) (words : List (List ℕ)) where
   -- the command
   abbrev c : Command
-  c = Lint t p
+  c = Lint
 
   module _ {S : Type 0} (taken : S → Option (List ℕ)) (before now : S) (b : List ℕ) (written : Whole taken b before now) where
-    lints_of : (net : PlainNet) (policy : PlainPolicy) (asks : AsksFor holds words c net policy) → SaysOfPolicy asks.policy_text net policy (text b) → LintsRight holds taken words c before now
+    lints_of : (net : PlainNet) (policy : PlainPolicy) (asks : AsksFor holds words c net policy) → SaysOfPolicy asks.policy_text net policy (text b) → LintsRight holds taken words before now
     lints_of net policy asks (inr h) = absurd (let s = status_is _ _ h.2 in cc)
     lints_of net policy asks (inl h) = record { net = net; policy = policy; asked = asks; bytes = h.0; written = rw (out_is _ _ h.2) at written; linted = h.1 }
 
     -- what it writes are the findings
-    pub right : Comes holds words c (text b) → LintsRight holds taken words c before now
+    pub right : Comes holds words c (text b) → LintsRight holds taken words before now
     right comes =
         let f = said_for holds (names_read words c) (text b) (λ x. cc) comes.bytes comes.held comes.says in
         lints_of f.net f.policy (asks_for holds words c f.net f.policy comes.is f.spell) f.says
 
-    limit_of : (net : PlainNet) (policy : PlainPolicy) (asks : AsksFor holds words c net policy) → SaysOfPolicy asks.policy_text net policy (line Refused b) → TellsLimit holds taken words c before now
+    limit_of : (net : PlainNet) (policy : PlainPolicy) (asks : AsksFor holds words c net policy) → SaysOfPolicy asks.policy_text net policy (line Refused b) → TellsLimit holds taken words before now
     limit_of net policy asks (inl h) = absurd (let s = status_is _ _ h.2 in cc)
     limit_of net policy asks (inr h) = record { net = net; policy = policy; asked = asks; refusal = h.0; refused = h.1; written = rw (err_is _ _ h.2) at written }
 
     -- a limit that is told is passed
-    pub refused : Comes holds words c (line Refused b) → TellsLimit holds taken words c before now
+    pub refused : Comes holds words c (line Refused b) → TellsLimit holds taken words before now
     refused comes =
         let f = said_for holds (names_read words c) (line Refused b) (λ x. cc) comes.bytes comes.held comes.says in
         limit_of f.net f.policy (asks_for holds words c f.net f.policy comes.is f.spell) f.says

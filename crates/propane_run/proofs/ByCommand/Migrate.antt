@@ -17,13 +17,13 @@ use Rattle.propane_run.specs.Migrating.{AsksOfOld, MigratesRight}
 use Rattle.propane_run.specs.Run.{Comes, Job}
 use Rattle.propane_run.specs.Words.{names_read, words_are}
 
-module _ (holds : Holds) (words : List (List ℕ)) (k : ℕ) where
+module _ (holds : Holds) (words : List (List ℕ)) where
   -- the command
   abbrev c : Command
-  c = Migrate k
+  c = Migrate
 
   module _ {S : Type 0} (taken : S → Option (List ℕ)) (before now : S) (b : List ℕ) (written : Whole taken b before now) where
-    right_of : words_are words ≡ Some c → (bs : List (List ℕ)) → AllHeld holds (names_read words c) bs → SaysOfTexts bs (text b) → MigratesRight holds taken words c before now
+    right_of : words_are words ≡ Some c → (bs : List (List ℕ)) → AllHeld holds (names_read words c) bs → SaysOfTexts bs (text b) → MigratesRight holds taken words before now
     right_of is [] held says = absurd says
     right_of is (old ∷ x ∷ bs) held says = absurd says
     right_of is (old ∷ []) held says =
@@ -31,12 +31,12 @@ module _ (holds : Holds) (words : List (List ℕ)) (k : ℕ) where
         record { config = m.config; asked = record { asked = is; old = old; held = held; spelled = m.before }; bytes = b; written = written; spelled = m.after }
 
     -- what it writes spells what it read
-    pub right : Comes holds words c (text b) → MigratesRight holds taken words c before now
+    pub right : Comes holds words c (text b) → MigratesRight holds taken words before now
     right comes = right_of comes.is comes.bytes comes.held comes.says
 
   -- ---- where the inputs are told
 
-  module _ (config : PlainConfig) (asks : AsksOfOld holds words c config) {O E : Type 0} (ot : O → Option (List ℕ)) (of : O → ℕ) (et : E → Option (List ℕ)) (ef : E → ℕ) (out out' : O) (err err' : E) (ended : Status) (calm : Rose (of out) (of out') → ⊥) where
+  module _ (config : PlainConfig) (asks : AsksOfOld holds words config) {O E : Type 0} (ot : O → Option (List ℕ)) (of : O → ℕ) (et : E → Option (List ℕ)) (ef : E → ℕ) (out out' : O) (err err' : E) (ended : Status) (calm : Rose (of out) (of out') → ⊥) where
     done_by : (wanted : Said) → SaidOfTold holds (names_read words c) (Job c) wanted → Delivered ot of et ef wanted out out' err err' ended → ended ≡ Done
     done_by wanted said sent =
         let is : wanted ≡ text (config_text config) =

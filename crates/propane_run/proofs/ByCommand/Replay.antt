@@ -1,8 +1,8 @@
 -- What a run of `replay` has written: the report of the one outcome that is stable with ties broken.
 use Rattle.std.proofs.Common.{ℕ, List, Option, inl, inr}
 use Rattle.net_base.specs.Network.{PlainNet}
-use Rattle.path_words.specs.Policies.{PlainPolicy}
-use Rattle.regret_law.proofs.RightLaw.{passing_evidence_is_right}
+use Rattle.policy_base.specs.Policies.{PlainPolicy}
+use Rattle.evidence_law.proofs.RightLaw.{passing_evidence_is_right}
 use Rattle.stable_paths.specs.declared.scenario.Scenario.{Scenario}
 use Rattle.run_base.specs.Reading.{Holds}
 use Rattle.run_base.specs.Said.{text, Whole}
@@ -18,19 +18,19 @@ use Rattle.propane_run.specs.Run.{Comes}
 use Rattle.propane_run.specs.Words.{names_read}
 use Rattle.propane_run.proofs.Asking.{asks_under}
 
-module _ {S : Type 0} (holds : Holds) (words : List (List ℕ)) (taken : S → Option (List ℕ)) (before now : S) (b : List ℕ) (written : Whole taken b before now) (t p s : ℕ) where
-  replays_of : Comes holds words (Replay t p s) (text b) → (net : PlainNet) (policy : PlainPolicy) (scenario : Scenario) → SpellUnder holds (names_read words (Replay t p s)) net policy scenario
-      → SaysOfScenario net policy scenario (text b) → ReplaysRight holds taken words (Replay t p s) before now
+module _ {S : Type 0} (holds : Holds) (words : List (List ℕ)) (taken : S → Option (List ℕ)) (before now : S) (b : List ℕ) (written : Whole taken b before now) where
+  replays_of : Comes holds words Replay (text b) → (net : PlainNet) (policy : PlainPolicy) (scenario : Scenario) → SpellUnder holds (names_read words Replay) net policy scenario
+      → SaysOfScenario net policy scenario (text b) → ReplaysRight holds taken words before now
   replays_of comes net policy scenario under (inr h) = absurd (let s = status_is _ _ h.2 in cc)
   replays_of comes net policy scenario under (inl h) =
       let rules = net_of_spelled under.spell in
       let fits = policy_of_spelled under.spell in
-      let prefix = spelled_prefix net under.scenario_text scenario under.scenario_spelled in
+      let prefix = spelled_prefix net under.scenario_reader scenario under.scenario_spelled in
       record {
         net = net;
         policy = policy;
         scenario = scenario;
-        asked = asks_under holds words (Replay t p s) net policy comes.is scenario under;
+        asked = asks_under holds words net policy comes.is scenario under;
         config = h.0;
         evidence = h.1;
         compiled = h.3;
@@ -42,7 +42,7 @@ module _ {S : Type 0} (holds : Holds) (words : List (List ℕ)) (taken : S → O
       }
 
   -- what it writes is the report
-  pub right : Comes holds words (Replay t p s) (text b) → ReplaysRight holds taken words (Replay t p s) before now
+  pub right : Comes holds words Replay (text b) → ReplaysRight holds taken words before now
   right comes =
-      let f = said_for holds (names_read words (Replay t p s)) (text b) (λ x. cc) comes.bytes comes.held comes.says in
+      let f = said_for holds (names_read words Replay) (text b) (λ x. cc) comes.bytes comes.held comes.says in
       replays_of comes f.net f.policy f.scenario f.asked f.says

@@ -2,12 +2,12 @@
 use Rattle.std.proofs.Common.{◌≡◌, ◌⊎◌, ℕ, ◌<◌, ◌≤◌, List, Option, inl, inr, ◌∙◌, ap, arith, min}
 use Rattle.net_base.specs.Network.{PlainNet}
 use Rattle.outside.specs.Outside.{Rose}
-use Rattle.path_words.specs.Policies.{PlainPolicy}
+use Rattle.policy_base.specs.Policies.{PlainPolicy}
 use Rattle.config_base.specs.Configs.{PlainConfig}
 use Rattle.evidence_base.specs.Made.{PlainCaseEvidence}
 use Rattle.case_core.specs.declared.refusal.CompileRefusal.{CompileRefusal}
-use Rattle.regret_law.proofs.ExistenceLaw.{stable_outcomes_exist}
-use Rattle.regret_law.proofs.RightLaw.{passing_evidence_is_right}
+use Rattle.evidence_law.proofs.ExistenceLaw.{stable_outcomes_exist}
+use Rattle.evidence_law.proofs.RightLaw.{passing_evidence_is_right}
 use Rattle.refusal_lines.specs.RefusalLines.{refusal_line}
 use Rattle.run_base.specs.declared.outcome.Status.{Status}
 use Rattle.run_base.specs.declared.outcome.Status.TheVariants.{Done, NoMemory, Refused}
@@ -37,14 +37,14 @@ use Rattle.propane_run.specs.Run.{Comes, Job}
 use Rattle.propane_run.specs.Words.{names_read}
 use Rattle.propane_run.proofs.Asking.{asks_for, spells}
 
-module _ (holds : Holds) (words : List (List ℕ)) (t p : ℕ) where
+module _ (holds : Holds) (words : List (List ℕ)) where
   -- the command
   abbrev c : Command
-  c = RouteMap t p
+  c = RouteMap
 
   module _ {S : Type 0} (taken : S → Option (List ℕ)) (before now : S) (b : List ℕ) (written : Whole taken b before now) where
     module _ (net : PlainNet) (policy : PlainPolicy) (asks : AsksFor holds words c net policy) where
-      right_of : (config : PlainConfig) (evidence : List PlainCaseEvidence) → IsCompiled net policy config evidence → SaysOfConfig config (text b) → MapsRight holds taken words c before now
+      right_of : (config : PlainConfig) (evidence : List PlainCaseEvidence) → IsCompiled net policy config evidence → SaysOfConfig config (text b) → MapsRight holds taken words before now
       right_of config evidence compiled (inr many) = absurd (let s = status_is _ _ many.said in cc)
       right_of config evidence compiled (inl h) =
           let spell = spells holds words c net policy asks in
@@ -63,7 +63,7 @@ module _ (holds : Holds) (words : List (List ℕ)) (t p : ℕ) where
             outcomes = stable_outcomes_exist net policy config evidence (net_of_spelled spell) (policy_of_spelled spell) compiled.1;
           }
 
-      right_by : SaysOfPolicy net policy (text b) → MapsRight holds taken words c before now
+      right_by : SaysOfPolicy net policy (text b) → MapsRight holds taken words before now
       right_by (inl h) = right_of h.0 h.1 h.2 h.3
       right_by (inr h) = absurd (let s = status_is _ _ h.2 in cc)
 
@@ -76,7 +76,7 @@ module _ (holds : Holds) (words : List (List ℕ)) (t p : ℕ) where
       refused_by (inr h) = inl (record { net = net; policy = policy; asked = asks; refusal = h.0; refused = h.1; written = rw (err_is _ _ h.2) at written })
 
     -- what it writes are the maps of what is compiled
-    pub right : Comes holds words c (text b) → MapsRight holds taken words c before now
+    pub right : Comes holds words c (text b) → MapsRight holds taken words before now
     right comes =
         let f = said_for (Alone SaysOfPolicy) holds (names_read words c) (text b) (λ x. cc) comes.bytes comes.held comes.says in
         right_by f.net f.policy (asks_for holds words c f.net f.policy comes.is f.spell) (alone SaysOfPolicy f.spell.more f.net f.policy (text b) f.says)

@@ -1,10 +1,11 @@
 -- What a run of `trace` has written: the trace of the events, whose quiet end is a replay.
 use Rattle.std.proofs.Common.{ℕ, List, Option, inl, inr}
 use Rattle.net_base.specs.Network.{PlainNet}
-use Rattle.path_words.specs.Policies.{PlainPolicy}
-use Rattle.regret_law.proofs.RightLaw.{passing_evidence_is_right}
-use Rattle.event_text.specs.declared.events.Events.{Events}
+use Rattle.policy_base.specs.Policies.{PlainPolicy}
+use Rattle.evidence_law.proofs.RightLaw.{passing_evidence_is_right}
+use Rattle.event_reader.specs.declared.events.Events.{Events}
 use Rattle.world_law.proofs.Scenario.{worlds_have_scenarios}
+use Rattle.propane_run.proofs.Moving.{kept_in_motion}
 use Rattle.run_base.specs.Reading.{Holds}
 use Rattle.run_base.specs.Said.{text, Whole}
 use Rattle.run_base.proofs.Jobs.{status_is, out_is}
@@ -20,19 +21,20 @@ use Rattle.propane_run.specs.Tracing.{TracesRight}
 use Rattle.propane_run.specs.Words.{names_read}
 use Rattle.propane_run.proofs.Asking.{asks_of_events}
 
-module _ {S : Type 0} (holds : Holds) (words : List (List ℕ)) (taken : S → Option (List ℕ)) (before now : S) (b : List ℕ) (written : Whole taken b before now) (t p e : ℕ) where
-  traces_of : Comes holds words (Trace t p e) (text b) → (net : PlainNet) (policy : PlainPolicy) (events : Events) → SpellEvents holds (names_read words (Trace t p e)) net policy events
-      → SaysOfEvents net policy events (text b) → TracesRight holds taken words (Trace t p e) before now
+module _ {S : Type 0} (holds : Holds) (words : List (List ℕ)) (taken : S → Option (List ℕ)) (before now : S) (b : List ℕ) (written : Whole taken b before now) where
+  traces_of : Comes holds words Trace (text b) → (net : PlainNet) (policy : PlainPolicy) (events : Events) → SpellEvents holds (names_read words Trace) net policy events
+      → SaysOfEvents net policy events (text b) → TracesRight holds taken words before now
   traces_of comes net policy events spell (inr h) = absurd (let s = status_is _ _ h.2 in cc)
   traces_of comes net policy events spell (inl h) =
       let rules = net_of_spelled spell.spell in
       let fits = policy_of_spelled spell.spell in
       let prefix = spelled_prefix net spell.events_text events spell.events_spelled in
+      let moving = kept_in_motion net policy h.0 h.1 rules fits h.3.1 in
       record {
         net = net;
         policy = policy;
         events = events;
-        asked = asks_of_events holds words (Trace t p e) net policy comes.is events spell;
+        asked = asks_of_events holds words net policy comes.is events spell;
         config = h.0;
         evidence = h.1;
         compiled = h.3;
@@ -40,12 +42,14 @@ module _ {S : Type 0} (holds : Holds) (words : List (List ℕ)) (taken : S → O
         bytes = h.2;
         written = rw (out_is _ _ h.5) at written;
         traced = h.4;
+        moment = moving.moments events.prefix prefix events.events;
+        rests = moving.rests events.prefix prefix;
         failed = worlds_have_scenarios net policy h.0 events.prefix events.events rules;
         replayed = quiet_replays net policy h.0 h.1 rules fits h.3.1 events prefix h.2 h.4;
       }
 
   -- what it writes is the trace
-  pub right : Comes holds words (Trace t p e) (text b) → TracesRight holds taken words (Trace t p e) before now
+  pub right : Comes holds words Trace (text b) → TracesRight holds taken words before now
   right comes =
-      let f = said_for holds (names_read words (Trace t p e)) (text b) (λ x. cc) comes.bytes comes.held comes.says in
+      let f = said_for holds (names_read words Trace) (text b) (λ x. cc) comes.bytes comes.held comes.says in
       traces_of comes f.net f.policy f.events f.asked f.says

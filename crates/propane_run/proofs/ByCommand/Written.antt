@@ -1,12 +1,12 @@
 -- What a run of `compile` has written: a configuration that is right; and one of `evidence`: evidence that passes with it.
 use Rattle.std.proofs.Common.{◌≡◌, ℕ, List, Option, Ok, inl, inr, sym, subst, ◌∙◌}
 use Rattle.net_base.specs.Network.{PlainNet}
-use Rattle.path_words.specs.Policies.{PlainPolicy}
+use Rattle.policy_base.specs.Policies.{PlainPolicy}
 use Rattle.evidence_base.specs.Made.{PlainCaseEvidence}
 use Rattle.policy_parser.specs.Spelled.{spelled as policy_spelled}
-use Rattle.regret_law.proofs.ExistenceLaw.{stable_outcomes_exist}
-use Rattle.regret_law.proofs.RightLaw.{passing_evidence_is_right}
-use Rattle.regret_law.specs.Passes.{Passes}
+use Rattle.evidence_law.proofs.ExistenceLaw.{stable_outcomes_exist}
+use Rattle.evidence_law.proofs.RightLaw.{passing_evidence_is_right}
+use Rattle.evidence_law.specs.Passes.{Passes}
 use Rattle.topology.specs.Topology.{spelled}
 use Rattle.compile_core.proofs.OneRefusal.{one_pair}
 use Rattle.run_base.specs.Reading.{Holds}
@@ -19,62 +19,63 @@ use Rattle.input_texts.proofs.Spelling.{at_spelled, of_spelled}
 use Rattle.compile_jobs.specs.declared.written.Part.TheVariants as part
 use Rattle.compile_jobs.specs.Compiled.{IsCompiled}
 use Rattle.compile_jobs.specs.Written.{SaysOfPart}
-use Rattle.propane_run.specs.declared.command.Command.{Command}
 use Rattle.propane_run.specs.declared.command.Command.TheVariants.{Compile, Evidence}
 use Rattle.propane_run.specs.Headline.{CompilesRight, GivesEvidence}
 use Rattle.propane_run.specs.Pairs.{ArePair}
 use Rattle.propane_run.specs.Run.{Comes}
 use Rattle.propane_run.specs.Words.{names_read}
 use Rattle.propane_run.proofs.Asking.{asks_for}
+use Rattle.propane_run.proofs.Moving.{kept_in_motion}
 
 module _ {S : Type 0} (holds : Holds) (words : List (List ℕ)) (taken : S → Option (List ℕ)) (before now : S) (b : List ℕ) (written : Whole taken b before now) where
   -- the claim, and the evidence that passes
-  abbrev pub Claimed : Command → Type 0
-  Claimed c = (claim : CompilesRight holds taken words c before now) × (evidence : List PlainCaseEvidence) × IsCompiled claim.net claim.policy claim.config evidence
+  abbrev pub Claimed : Type 0
+  Claimed = (claim : CompilesRight holds taken words before now) × (evidence : List PlainCaseEvidence) × IsCompiled claim.net claim.policy claim.config evidence
 
-  module _ (t p : ℕ) where
-    claim_of : Comes holds words (Compile t p) (text b) → (net : PlainNet) (policy : PlainPolicy) → SpellFor holds (names_read words (Compile t p)) net policy → SaysOfPart part.Config net policy (text b) → Claimed (Compile t p)
-    claim_of comes net policy spell (inr h) = absurd (let s = status_is _ _ h.2 in cc)
-    claim_of comes net policy spell (inl h) = (
-      record {
-        net = net;
-        policy = policy;
-        asked = asks_for holds words (Compile t p) net policy comes.is spell;
-        bytes = h.2;
-        written = rw (out_is _ _ h.5) at written;
-        config = h.0;
-        spelled = h.4;
-        right = passing_evidence_is_right net policy h.0 h.1 (net_of_spelled spell) (policy_of_spelled spell) h.3.1;
-        outcomes = stable_outcomes_exist net policy h.0 h.1 (net_of_spelled spell) (policy_of_spelled spell) h.3.1;
-      },
-      h.1,
-      h.3,
-    )
-
-    pub compiled : Comes holds words (Compile t p) (text b) → Claimed (Compile t p)
-    compiled comes =
-        let f = said_for (Alone (SaysOfPart part.Config)) holds (names_read words (Compile t p)) (text b) (λ x. cc) comes.bytes comes.held comes.says in
-        claim_of comes f.net f.policy f.spell (alone (SaysOfPart part.Config) f.spell.more f.net f.policy (text b) f.says)
-
-    given_of : Comes holds words (Evidence t p) (text b) → (net : PlainNet) (policy : PlainPolicy) → SpellFor holds (names_read words (Evidence t p)) net policy → SaysOfPart part.Evidence net policy (text b)
-        → GivesEvidence holds taken words (Evidence t p) before now
-    given_of comes net policy spell (inr h) = absurd (let s = status_is _ _ h.2 in cc)
-    given_of comes net policy spell (inl h) = record {
+  claim_of : Comes holds words Compile (text b) → (net : PlainNet) (policy : PlainPolicy) → SpellFor holds (names_read words Compile) net policy → SaysOfPart part.Config net policy (text b) → Claimed
+  claim_of comes net policy spell (inr h) = absurd (let s = status_is _ _ h.2 in cc)
+  claim_of comes net policy spell (inl h) = (
+    record {
       net = net;
       policy = policy;
-      asked = asks_for holds words (Evidence t p) net policy comes.is spell;
-      evidence = h.1;
-      written = rw (out_is _ _ h.5 ∙ h.4) at written;
+      asked = asks_for holds words Compile net policy comes.is spell;
+      bytes = h.2;
+      written = rw (out_is _ _ h.5) at written;
       config = h.0;
-      compiled = h.3;
+      spelled = h.4;
       right = passing_evidence_is_right net policy h.0 h.1 (net_of_spelled spell) (policy_of_spelled spell) h.3.1;
       outcomes = stable_outcomes_exist net policy h.0 h.1 (net_of_spelled spell) (policy_of_spelled spell) h.3.1;
-    }
+      moving = kept_in_motion net policy h.0 h.1 (net_of_spelled spell) (policy_of_spelled spell) h.3.1;
+    },
+    h.1,
+    h.3,
+  )
 
-    pub given : Comes holds words (Evidence t p) (text b) → GivesEvidence holds taken words (Evidence t p) before now
-    given comes =
-        let f = said_for (Alone (SaysOfPart part.Evidence)) holds (names_read words (Evidence t p)) (text b) (λ x. cc) comes.bytes comes.held comes.says in
-        given_of comes f.net f.policy f.spell (alone (SaysOfPart part.Evidence) f.spell.more f.net f.policy (text b) f.says)
+  pub compiled : Comes holds words Compile (text b) → Claimed
+  compiled comes =
+      let f = said_for (Alone (SaysOfPart part.Config)) holds (names_read words Compile) (text b) (λ x. cc) comes.bytes comes.held comes.says in
+      claim_of comes f.net f.policy f.spell (alone (SaysOfPart part.Config) f.spell.more f.net f.policy (text b) f.says)
+
+  given_of : Comes holds words Evidence (text b) → (net : PlainNet) (policy : PlainPolicy) → SpellFor holds (names_read words Evidence) net policy → SaysOfPart part.Evidence net policy (text b)
+      → GivesEvidence holds taken words before now
+  given_of comes net policy spell (inr h) = absurd (let s = status_is _ _ h.2 in cc)
+  given_of comes net policy spell (inl h) = record {
+    net = net;
+    policy = policy;
+    asked = asks_for holds words Evidence net policy comes.is spell;
+    evidence = h.1;
+    written = rw (out_is _ _ h.5 ∙ h.4) at written;
+    config = h.0;
+    compiled = h.3;
+    right = passing_evidence_is_right net policy h.0 h.1 (net_of_spelled spell) (policy_of_spelled spell) h.3.1;
+    outcomes = stable_outcomes_exist net policy h.0 h.1 (net_of_spelled spell) (policy_of_spelled spell) h.3.1;
+    moving = kept_in_motion net policy h.0 h.1 (net_of_spelled spell) (policy_of_spelled spell) h.3.1;
+  }
+
+  pub given : Comes holds words Evidence (text b) → GivesEvidence holds taken words before now
+  given comes =
+      let f = said_for (Alone (SaysOfPart part.Evidence)) holds (names_read words Evidence) (text b) (λ x. cc) comes.bytes comes.held comes.says in
+      given_of comes f.net f.policy f.spell (alone (SaysOfPart part.Evidence) f.spell.more f.net f.policy (text b) f.says)
 
 -- ---- both, of the same texts
 

@@ -11,15 +11,15 @@ pub returns-in_err-texts-clause-says : goal.returns-in_err-texts-clause-says
 returns-in_err-texts-clause-says g c =
     let rose = RoseOf (g.I.Inputs.faults c.args.inputs.now) (g.I.Inputs.faults c.read_all.new.inputs) in
     let names = names_read (map string_bytes c.args.words.now) c.args.command in
-    let same : c.deref.result.now ≡ places_of c.args.command = c.deref.ensures.value ∙ c.in_ok-places.ensures in
-    let stop = err_from_is_err_and c.from_residual-in_err-texts.result c.from_residual-in_err-texts.ensures.1 in
+    let same : c.places.result.now ≡ places_of c.args.command = c.places.ensures in
+    let stop = err_from_is_err_and c.from_residual.result c.from_residual.ensures.1 in
     rw (stop.1, stop.2) (nothing_follows (g.I.Inputs.holds c.args.inputs.now) rose _ names (λ bs. IsGiven (Job c.args.command bs)) (rw same at c.in_err-texts.ensures.read))
 
 pub returns-clause-says : goal.returns-clause-says
 returns-clause-says g c =
     let words = map string_bytes c.args.words.now in
     let rose = RoseOf (g.I.Inputs.faults c.args.inputs.now) (g.I.Inputs.faults c.read_all.new.inputs) in
-    let same : c.deref.result.now ≡ places_of c.args.command = c.deref.ensures.value ∙ c.in_ok-places.ensures in
+    let same : c.places.result.now ≡ places_of c.args.command = c.places.ensures in
     let Held : List ℕ → Type 0 = λ places. AllHeld (g.I.Inputs.holds c.args.inputs.now) (names_at words places) c.in_ok-texts.texts in
     let Says : List (List ℕ) → Type 0 = λ bs. IsGiven (Job c.args.command bs) (said c.job.result) in
     all_read (g.I.Inputs.holds c.args.inputs.now) rose (said c.job.result) (names_read words c.args.command) c.in_ok-texts.texts (λ bs. IsGiven (Job c.args.command bs))

@@ -2,11 +2,11 @@
 use super::words_of;
 use outside::{MemInputs, MemSink, NoMemory};
 use propane_run::{Status, run};
-use samples::{
-    EXCHANGED_EVIDENCE, TWO_EXITS, TWO_ROUTERS, TWO_ROUTERS_CONFIG, TWO_ROUTERS_EVIDENCE,
-};
 use std::alloc::Global;
 use std::test::Fail;
+use test_networks::{
+    EXCHANGED_EVIDENCE, TWO_EXITS, TWO_ROUTERS, TWO_ROUTERS_CONFIG, TWO_ROUTERS_EVIDENCE,
+};
 
 const ANY_PATH: &str = "originate 10.0.1.0/24 at A; 10.0.1.0/24 => any;";
 

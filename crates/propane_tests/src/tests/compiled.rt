@@ -2,12 +2,12 @@
 use super::compiles;
 use outside::NoMemory;
 use propane_run::Status;
-use samples::{
+use std::alloc::Global;
+use std::test::Fail;
+use test_networks::{
     ENTERED_CONFIG, LINE, LINE_CONFIG, RING, RING_CONFIG, TWO_EXITS, TWO_EXITS_CONFIG, TWO_ROUTERS,
     TWO_ROUTERS_CONFIG, TWO_SPINES, TWO_SPINES_CONFIG, TWO_WAYS, TWO_WAYS_CONFIG, WIDE,
 };
-use std::alloc::Global;
-use std::test::Fail;
 
 const DROP_CONFIG: &str = "propane-config 2
 class 1 10.0.1.0/24

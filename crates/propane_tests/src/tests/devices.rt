@@ -3,12 +3,12 @@ use super::mapped::TWO_ROUTERS_MAPS;
 use super::{ANY_PATH, words_of};
 use outside::{MemInputs, MemSink, NoMemory};
 use propane_run::{Status, run};
-use samples::{
+use std::alloc::Global;
+use std::test::Fail;
+use test_networks::{
     TWO_ROUTERS, TWO_ROUTERS_CONFIG, TWO_ROUTERS_CONFIG_1, TWO_ROUTERS_EVIDENCE, TWO_SPINES,
     WAYPOINT_RING,
 };
-use std::alloc::Global;
-use std::test::Fail;
 use text_words::push_bytes;
 
 const NO_FAILURES: &[u8] =
@@ -48,7 +48,7 @@ fn bytes_of(held: &Held) -> Option<&'static [u8]> {
 // A command, the words behind it with what they hold, and the status with which it ends where nothing fails.
 type Row = (&'static str, &'static [(&'static str, Held)], Status);
 
-const ROWS: [Row; 23] = [
+const ROWS: [Row; 26] = [
     (
         "compile",
         &[
@@ -130,6 +130,9 @@ const ROWS: [Row; 23] = [
         Status::BadInput,
     ),
     ("sample", &[("2", Held::Nothing)], Status::Done),
+    ("help", &[], Status::Done),
+    ("help", &[("audit", Held::Nothing)], Status::Done),
+    ("version", &[], Status::Done),
     (
         "compile",
         &[

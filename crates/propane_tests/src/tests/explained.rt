@@ -2,9 +2,9 @@
 use super::ends;
 use outside::NoMemory;
 use propane_run::Status;
-use samples::{CHAIN, PEER_BETWEEN, TRIANGLE, TWO_ROUTERS, TWO_SPINES, WAYPOINT_RING};
 use std::alloc::Global;
 use std::test::Fail;
+use test_networks::{CHAIN, PEER_BETWEEN, TRIANGLE, TWO_ROUTERS, TWO_SPINES, WAYPOINT_RING};
 
 // A network with its policy and its explanation.
 type Row = (&'static str, &'static [u8], &'static str, &'static str);

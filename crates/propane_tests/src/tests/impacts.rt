@@ -2,9 +2,9 @@
 use super::{USAGE, ends};
 use outside::NoMemory;
 use propane_run::Status;
-use samples::{TRIANGLE, TWO_EXITS, TWO_WAYS};
 use std::alloc::Global;
 use std::test::Fail;
+use test_networks::{TRIANGLE, TWO_EXITS, TWO_WAYS};
 
 const TRIANGLE_ANY: &str = "originate 10.0.1.0/24 at A; 10.0.1.0/24 => any;";
 

@@ -1,9 +1,9 @@
 //! Policies at each limit, which are read, and one past it, which are refused.
 use super::tells;
 use outside::NoMemory;
-use samples::EIGHT;
 use std::alloc::Global;
 use std::test::Fail;
+use test_networks::EIGHT;
 use text_words::{push_bytes, push_number};
 
 // A part of a text. The number of a definition or of a prefix is that of its place in the text.

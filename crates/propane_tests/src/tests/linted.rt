@@ -2,9 +2,9 @@
 use super::ends;
 use outside::NoMemory;
 use propane_run::Status;
-use samples::{LINE, TWO_EXITS, TWO_ROUTERS};
 use std::alloc::Global;
 use std::test::Fail;
+use test_networks::{LINE, TWO_EXITS, TWO_ROUTERS};
 
 // A network with its policy, the status, and what `out` and `err` took.
 type Row = (

@@ -4,9 +4,9 @@ use config_reader::read_config;
 use maps_made::{MapsRefusal, maps_of};
 use outside::{MemInputs, MemSink, NoMemory};
 use propane_run::{Status, run};
-use samples::{TWO_EXITS, TWO_ROUTERS, TWO_ROUTERS_CONFIG};
 use std::alloc::Global;
 use std::test::Fail;
+use test_networks::{TWO_EXITS, TWO_ROUTERS, TWO_ROUTERS_CONFIG};
 use text_words::{push_bytes, push_number};
 
 pub const TWO_ROUTERS_MAPS: &str = "propane-maps 1

@@ -3,9 +3,9 @@ use super::{ANY_PATH, COMPILE, inputs_of, words_of};
 use memory_run::{Came, compile_in_memory, compile_twice, count_compiled, run_again, run_surely};
 use outside::{CountSink, MemSink, NoMemory, SureInputs};
 use propane_run::Status;
-use samples::{TWO_ROUTERS, TWO_ROUTERS_CONFIG};
 use std::alloc::Global;
 use std::test::Fail;
+use test_networks::{TWO_ROUTERS, TWO_ROUTERS_CONFIG};
 
 const NO_PATH: &[u8] = b"originate 10.0.1.0/24 at A; 10.0.1.0/24 => drop from B;";
 

@@ -2,9 +2,9 @@
 use super::words_of;
 use outside::{MemInputs, MemSink, NoMemory};
 use propane_run::{Status, run};
-use samples::{TWO_ROUTERS_CONFIG, TWO_ROUTERS_CONFIG_1};
 use std::alloc::Global;
 use std::test::Fail;
+use test_networks::{TWO_ROUTERS_CONFIG, TWO_ROUTERS_CONFIG_1};
 
 // A text of a configuration, the status, and what `out` and `err` took.
 type Row = (

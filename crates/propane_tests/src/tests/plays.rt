@@ -2,9 +2,9 @@
 use super::traced::{ANY_PATH, ENTER, EXITS, ended};
 use outside::NoMemory;
 use propane_run::Status;
-use samples::{TRIANGLE, TWO_EXITS};
 use std::alloc::Global;
 use std::test::Fail;
+use test_networks::{TRIANGLE, TWO_EXITS};
 use text_words::push_bytes;
 
 // A network with a policy; how an event text for a prefix begins; events of which some are chosen; the last ones, with which the

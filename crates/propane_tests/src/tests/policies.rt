@@ -1,9 +1,9 @@
 //! Policy texts, and the line that each comes to.
 use super::tells;
 use outside::NoMemory;
-use samples::TWO_EXITS;
 use std::alloc::Global;
 use std::test::Fail;
+use test_networks::TWO_EXITS;
 
 // A text, which is its own name, with its line: the first rule that it breaks, at its first token. A text without
 // a line is read.

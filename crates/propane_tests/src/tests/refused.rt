@@ -2,9 +2,9 @@
 use super::compiles;
 use outside::NoMemory;
 use propane_run::Status;
-use samples::{CHAIN, TWO_ROUTERS, TWO_SPINES, WAYPOINT_RING, mesh, prefixes, ways};
 use std::alloc::Global;
 use std::test::Fail;
+use test_networks::{CHAIN, TWO_ROUTERS, TWO_SPINES, WAYPOINT_RING, mesh, prefixes, ways};
 
 // A network with its policy and why it is refused.
 type Row = (&'static str, &'static [u8], &'static str, &'static str);

@@ -2,9 +2,9 @@
 use super::words_of;
 use outside::{MemInputs, MemSink, NoMemory};
 use propane_run::{Status, run};
-use samples::{RING, RING_TURNED, TRIANGLE, TWO_EXITS, TWO_ROUTERS, TWO_SPINES, TWO_WAYS};
 use std::alloc::Global;
 use std::test::Fail;
+use test_networks::{RING, RING_TURNED, TRIANGLE, TWO_EXITS, TWO_ROUTERS, TWO_SPINES, TWO_WAYS};
 
 const ANY_PATH: &str = "originate 10.0.1.0/24 at A; 10.0.1.0/24 => any;";
 

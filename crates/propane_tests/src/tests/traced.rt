@@ -2,9 +2,9 @@
 use super::words_of;
 use outside::{MemInputs, MemSink, NoMemory};
 use propane_run::{Status, run};
-use samples::{TRIANGLE, TWO_EXITS};
 use std::alloc::Global;
 use std::test::Fail;
+use test_networks::{TRIANGLE, TWO_EXITS};
 
 pub const ANY_PATH: &str = "originate 10.0.1.0/24 at A; 10.0.1.0/24 => any;";
 

@@ -14,4 +14,6 @@ overflow_add-count c =
 pub loop-word-preserved : goal.loop-word-preserved
 loop-word-preserved c =
     let fits : get_or c.args.row.now c.loop-word.word-index 0 < 2 ^ 64 = (c.type_inv.row c.loop-word.word-index).fits in
-    ap (λ (z : ℕ). z + count_ones (get_or c.args.row.now c.loop-word.word-index 0)) c.loop-word.invariant ∙ count_word (has c.args.row.now) c.loop-word.word-index (get_or c.args.row.now c.loop-word.word-index 0) (word_bits c.args.row.now c.loop-word.word-index) fits
+    ap (λ (z : ℕ). z + count_ones (get_or c.args.row.now c.loop-word.word-index 0)) c.loop-word.invariant
+    ∙ count_word (has c.args.row.now) c.loop-word.word-index (get_or c.args.row.now c.loop-word.word-index 0)
+    (word_bits c.args.row.now c.loop-word.word-index) fits

@@ -23,4 +23,5 @@ loop-i-preserved c =
     let d = c.args.c.now in
     let i : ℕ = c.loop-i.i in
     ap (λ (z : ℕ). z + count_ones (outside (get_or a i 0) (get_or b i 0) (get_or d i 0))) c.loop-i.invariant
-    ∙ count_word (λ k. has a k && (has b k && not (has d k))) i (outside (get_or a i 0) (get_or b i 0) (get_or d i 0)) (outside_bits a b d i (c.type_inv.c i).fits) (outside_fits a b d i (c.type_inv.a i).fits)
+    ∙ count_word (λ k. has a k && (has b k && not (has d k))) i (outside (get_or a i 0) (get_or b i 0) (get_or d i 0))
+    (outside_bits a b d i (c.type_inv.c i).fits) (outside_fits a b d i (c.type_inv.a i).fits)

@@ -17,5 +17,8 @@ loop-left-preserved c =
     let of = c.loop-left.invariant.of in
     record {
       of = λ j lj set. still_of c.args.word c.loop-left.left b j low.0 lj of set;
-      listed = λ k. ap (list_any (λ x. eqb x k)) c.in_ok-push.ensures.items ∙ listed_next c.args.word c.loop-left.left c.args.place b c.loop-left.list.items k (list_any (λ x. eqb x k) c.args.list.now.items) low.0 low.1 (of b low.0 low.1) (c.loop-left.invariant.listed k);
+      listed =
+          λ k. ap (list_any (λ x. eqb x k)) c.in_ok-push.ensures.items
+          ∙ listed_next c.args.word c.loop-left.left c.args.place b c.loop-left.list.items k (list_any (λ x. eqb x k) c.args.list.now.items) low.0
+          low.1 (of b low.0 low.1) (c.loop-left.invariant.listed k);
     }

@@ -1,5 +1,5 @@
 use Rattle.std.proofs.Common.{◌≡◌, length, List, Some, None, refl, sym, ap, subst, ◌∙◌}
-use Rattle.path_words.specs.Policies.{plain_statement}
+use Rattle.policy_base.specs.Policies.{plain_statement}
 use Rattle.case_core.specs.declared.firsts.Firsts.{Firsts}
 use Rattle.graph_base.specs.Least.{least_below}
 use Rattle.case_core.specs.Firsts.{AreFirsts, has_both, lacks_path}

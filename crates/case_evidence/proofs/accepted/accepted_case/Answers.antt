@@ -1,7 +1,7 @@
 use Rattle.std.proofs.Common.{[], length, ap, arith}
 use Rattle.std.proofs.lemmas.Result.{err_from_is_err_and}
 use Rattle.net_base.specs.Sets.{holds}
-use Rattle.path_words.specs.Policies.{policy_of}
+use Rattle.policy_base.specs.Policies.{policy_of}
 use Rattle.graph_base.proofs.WellFormed.{one_step}
 use Rattle.case_evidence.proofs.Joined.{quotient_fits}
 use Rattle.case_evidence.proofs.OfCases.{case_there, used_within}
@@ -25,14 +25,29 @@ pub returns-in_err-accepted-clause-refused : goal.returns-in_err-accepted-clause
 returns-in_err-accepted-clause-refused c =
     let is = c.in_ok-given.ensures in
     let p = err_from_is_err_and c.from_residual-in_err-accepted.result c.from_residual-in_err-accepted.ensures.1 in
-    rw (p.1, p.2) (λ s case at. c.in_err-accepted.ensures.refused c.args.room s case (record { trimmed = c.in_ok-given.given.graph; graph = is.graph s case at; fits = is.fits s case at; quotient = c.in_ok-graph.ensures; paths = is.paths s case at; unmixed = is.unmixed s case at }))
+    rw (p.1, p.2) (λ s case at. c.in_err-accepted.ensures.refused c.args.room s case (record {
+      trimmed = c.in_ok-given.given.graph;
+      graph = is.graph s case at;
+      fits = is.fits s case at;
+      quotient = c.in_ok-graph.ensures;
+      paths = is.paths s case at;
+      unmixed = is.unmixed s case at;
+    }))
 
 pub returns-clause-accepted : goal.returns-clause-accepted
 returns-clause-accepted c = λ s case at.
     let is = c.in_ok-given.ensures in
-    c.in_ok-accepted.ensures.accepted c.args.room s case (record { trimmed = c.in_ok-given.given.graph; graph = is.graph s case at; fits = is.fits s case at; quotient = c.in_ok-graph.ensures; paths = is.paths s case at; unmixed = is.unmixed s case at })
+    c.in_ok-accepted.ensures.accepted c.args.room s case (record {
+      trimmed = c.in_ok-given.given.graph;
+      graph = is.graph s case at;
+      fits = is.fits s case at;
+      quotient = c.in_ok-graph.ensures;
+      paths = is.paths s case at;
+      unmixed = is.unmixed s case at;
+    })
 
 pub returns-clause-room : goal.returns-clause-room
 returns-clause-room c =
-    let within = used_within c.args.net.now (policy_of c.args.policy.now) c.args.number c.args.room c.in_ok-given.given c.requires.from_one (omega (arith, c.requires.within, ap length c.requires.cases)) c.in_ok-given.ensures.graph in
+    let within = used_within c.args.net.now (policy_of c.args.policy.now) c.args.number c.args.room c.in_ok-given.given c.requires.from_one
+    (omega (arith, c.requires.within, ap length c.requires.cases)) c.in_ok-given.ensures.graph in
     omega (arith, c.in_ok-accepted.ensures.used, within)

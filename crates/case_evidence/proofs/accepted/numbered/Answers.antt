@@ -24,7 +24,10 @@ returns-clause-accepted c = λ room s case is.
     let graph = c.args.given.graph in
     let relation = c.in-Some.relation in
     let of = subst (λ (o : Option PlainRelation). IfSome o (IsRelationOf graph)) c.in-Some.is c.in_ok-relation.ensures.relation in
-    let same : relation.claimed ≡ c.ranked_routers-claimed.result = subst (λ (o : Option PlainRelation). IfSome o (λ r. r.claimed ≡ c.ranked_routers-claimed.result)) c.in-Some.is c.in_ok-relation.ensures.claimed in
+    let same : relation.claimed ≡ c.ranked_routers-claimed.result =
+    subst (λ (o : Option PlainRelation). IfSome o (λ r. r.claimed ≡ c.ranked_routers-claimed.result)) c.in-Some.is
+    c.in_ok-relation.ensures.claimed in
     let claimed = subst (λ set. (l : ℕ) → (holds set l ≡ true) ↔ IsRankedRouter net graph l) (sym same) c.ranked_routers-claimed.ensures in
     let each = subst (λ (o : Option PlainRelation). IfSome o HasEach) c.in-Some.is c.in_ok-relation.ensures.total in
-    is_accepted net room s case (record { graph = graph; used = c.args.given.used; prefs = c.in_ok-prefs.prefs }) is relation of claimed each c.in_ok-prefs.ensures.size c.in_ok-prefs.ensures.numbers c.in_ok-prefs.ensures.rules
+    is_accepted net room s case (record { graph = graph; used = c.args.given.used; prefs = c.in_ok-prefs.prefs }) is relation of claimed each
+    c.in_ok-prefs.ensures.size c.in_ok-prefs.ensures.numbers c.in_ok-prefs.ensures.rules

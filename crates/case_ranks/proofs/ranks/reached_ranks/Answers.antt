@@ -3,9 +3,9 @@ use Rattle.std.specs.Prelude.{◌&&◌, ◌||◌, ◌==◌, IfSome}
 use Rattle.std.specs.List.{AllByRecursion}
 use Rattle.std.proofs.lemmas.List.{length-map}
 use Rattle.std.proofs.lemmas.Result.{err_from_is_err_and}
-use Rattle.path_words.specs.declared.case.Case.{Case}
-use Rattle.path_words.specs.Cases.{case_list}
-use Rattle.path_words.specs.Policies.{plain_statement, policy_of}
+use Rattle.policy_base.specs.declared.case.Case.{Case}
+use Rattle.policy_base.specs.Cases.{case_list}
+use Rattle.policy_base.specs.Policies.{plain_statement, policy_of}
 use Rattle.graph_base.specs.declared.graph.Node.{Node}
 use Rattle.bit_rows.specs.Tables.{has_at}
 use Rattle.case_ranks.specs.Marks.{some_has_rank}
@@ -19,7 +19,8 @@ returns-in_err-given-clause-refused c =
     let net = c.args.net.now in
     let policy = policy_of c.args.policy.now in
     let end : length c.as_slice-list.result.now ≡ length (case_list net policy) = ap length (c.as_slice-list.ensures ∙ c.requires.cases) in
-    let why = refused_next net policy c.loop-place.place c.loop-place.room c.in_err-given.field-0.0 c.loop-place.invariant.gone (omega (arith, c.loop-place-test.true, end)) c.in_err-given.ensures.refused in
+    let why = refused_next net policy c.loop-place.place c.loop-place.room c.in_err-given.field-0.0 c.loop-place.invariant.gone
+    (omega (arith, c.loop-place-test.true, end)) c.in_err-given.ensures.refused in
     let p = err_from_is_err_and c.from_residual-in_err-given.result c.from_residual-in_err-given.ensures.1 in
     rw (p.1, p.2) why
 
@@ -44,14 +45,16 @@ overflow_sub-room c =
 pub mark_ranks-requires-clause-row : goal.mark_ranks-requires-clause-row
 mark_ranks-requires-clause-row c =
     let case = c.index-list-place.result in
-    let is = placed c.args.net.now c.args.policy.now c.as_slice-list.result.now c.args.cases.now.cases c.loop-place.place case c.requires.routers c.as_slice-list.ensures c.requires.cases c.loop-place-test.true c.index-list-place.is in
+    let is = placed c.args.net.now c.args.policy.now c.as_slice-list.result.now c.args.cases.now.cases c.loop-place.place case c.requires.routers
+    c.as_slice-list.ensures c.requires.cases c.loop-place-test.true c.index-list-place.is in
     subst (λ (d : Case). d.statement < c.loop-place.ranks.count) c.index-list-place.is (omega (arith, is.within, c.loop-place.invariant.rows))
 
 pub mark_ranks-requires-clause-ranks : goal.mark_ranks-requires-clause-ranks
 mark_ranks-requires-clause-ranks c =
     let net = c.args.net.now in
     let case = c.index-list-place.result in
-    let is = placed net c.args.policy.now c.as_slice-list.result.now c.args.cases.now.cases c.loop-place.place case c.requires.routers c.as_slice-list.ensures c.requires.cases c.loop-place-test.true c.index-list-place.is in
+    let is = placed net c.args.policy.now c.as_slice-list.result.now c.args.cases.now.cases c.loop-place.place case c.requires.routers
+    c.as_slice-list.ensures c.requires.cases c.loop-place-test.true c.index-list-place.is in
     let given = c.in_ok-given.given in
     let made = c.in_ok-given.ensures.graph is.statement case is.is in
     let below = ranks_below net c.known_net.ensures c.loop-place.room is.statement case is.origins given c.nodes.ensures.rules made c.loop-place.ranks.bits c.loop-place.invariant.bits in
@@ -62,7 +65,8 @@ loop-place-preserved c =
     let net = c.args.net.now in
     let policy = policy_of c.args.policy.now in
     let case = c.index-list-place.result in
-    let is = placed net c.args.policy.now c.as_slice-list.result.now c.args.cases.now.cases c.loop-place.place case c.requires.routers c.as_slice-list.ensures c.requires.cases c.loop-place-test.true c.index-list-place.is in
+    let is = placed net c.args.policy.now c.as_slice-list.result.now c.args.cases.now.cases c.loop-place.place case c.requires.routers
+    c.as_slice-list.ensures c.requires.cases c.loop-place-test.true c.index-list-place.is in
     let s = is.statement in
     let given = c.in_ok-given.given in
     let built = built_at net policy (c.loop-place.place + 1) c.loop-place.room given s case is.is c.in_ok-given.ensures.graph in

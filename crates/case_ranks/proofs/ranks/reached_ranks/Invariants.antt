@@ -1,6 +1,6 @@
 use Rattle.std.proofs.Common.{◌≡◌, ◌+◌, length}
-use Rattle.net_base.specs.declared.limits.TheConstants.{ALTERNATIVES}
-use Rattle.path_words.specs.Policies.{policy_of}
+use Rattle.policy_base.specs.declared.limits.TheConstants.{ALTERNATIVES}
+use Rattle.policy_base.specs.Policies.{policy_of}
 use Rattle.case_core.specs.Automata.{AllFit}
 use Rattle.case_ranks.proofs.Marked.{AreReachedTo}
 use Rattle.case_ranks.proofs.Within.{AreGone}

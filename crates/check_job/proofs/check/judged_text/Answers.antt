@@ -1,5 +1,5 @@
 use Rattle.std.proofs.Common.{ap, inr, refl}
-use Rattle.path_words.specs.Policies.{policy_of}
+use Rattle.policy_base.specs.Policies.{policy_of}
 use Rattle.evidence_rules.specs.declared.verdict.Verdict.TheVariants.{Fails, Holds}
 use Rattle.run_base.specs.Said.{failing, text}
 use Rattle.check_job.proofs.Judging.{held, judged}

@@ -1,5 +1,5 @@
 use Rattle.std.proofs.Common.{List, subst}
-use Rattle.path_words.specs.Policies.{policy_of}
+use Rattle.policy_base.specs.Policies.{policy_of}
 use Rattle.evidence_base.specs.Made.{PlainCaseEvidence}
 use Rattle.run_base.specs.Said.{IsGiven, said}
 use Rattle.check_job.specs.Checked.{OfConfigText, SaysOfPair}

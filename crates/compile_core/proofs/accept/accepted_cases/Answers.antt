@@ -1,14 +1,15 @@
 use Rattle.std.proofs.Common.{rules, ◌≡◌, ◌+◌, ◌-◌, ◌∙◌, length, ap, arith, refl}
 use Rattle.std.proofs.lemmas.Result.{err_from_is_err_and}
-use Rattle.path_words.specs.Cases.{case_list}
-use Rattle.path_words.specs.Policies.{policy_of}
+use Rattle.policy_base.specs.Cases.{case_list}
+use Rattle.policy_base.specs.Policies.{policy_of}
 use Rattle.compile_core.proofs.OneByOne.{given_more, refused_next}
 use Rattle.compile_core.proofs.accept.accepted_cases.Goals as goal
 
 pub returns-in_err-given-clause-refused : goal.returns-in_err-given-clause-refused
 returns-in_err-given-clause-refused c =
     let end : length c.as_slice-place-end.result.now ≡ length (case_list c.args.net.now (policy_of c.args.policy.now)) = ap length (c.as_slice-place-end.ensures ∙ c.requires.cases) in
-    let why = refused_next c.args.net.now (policy_of c.args.policy.now) c.loop-place.place (c.loop-place.place + 1) c.loop-place.room c.loop-place.all.graphs.items c.loop-place.all.prefs.items c.in_err-given.field-0.0
+    let why = refused_next c.args.net.now (policy_of c.args.policy.now) c.loop-place.place (c.loop-place.place + 1) c.loop-place.room
+    c.loop-place.all.graphs.items c.loop-place.all.prefs.items c.in_err-given.field-0.0
     c.loop-place.invariant.given (omega (arith, c.loop-place-test.true, end)) refl c.in_err-given.ensures.refused in
     let p = err_from_is_err_and c.from_residual-in_err-given.result c.from_residual-in_err-given.ensures.1 in
     rw (p.1, p.2) why

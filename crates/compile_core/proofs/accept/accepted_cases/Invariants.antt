@@ -1,4 +1,4 @@
-use Rattle.path_words.specs.Policies.{policy_of}
+use Rattle.policy_base.specs.Policies.{policy_of}
 use Rattle.case_core.specs.Automata.{AllFit}
 use Rattle.compile_core.specs.Accepting.{AreGiven}
 use Rattle.compile_core.proofs.accept.accepted_cases.Given as goal

@@ -1,5 +1,5 @@
 use Rattle.std.proofs.Common.{rules}
-use Rattle.path_words.specs.Policies.{policy_of}
+use Rattle.policy_base.specs.Policies.{policy_of}
 use Rattle.compile_jobs.specs.Compiling.{SaysOfCompiled}
 use Rattle.run_base.specs.Said.{IsGiven, said}
 use Rattle.compile_jobs.specs.Sampled.{WritesSummary}

@@ -2,7 +2,7 @@ use Rattle.std.proofs.Common.{◌≡◌, ◌+◌, ap, ◌∙◌, length, arith, 
 use Rattle.config_made.specs.Hops.{AreReached}
 use Rattle.config_made.specs.Writing.{router_of}
 use Rattle.net_base.proofs.NumbersBelow.{map_next_number}
-use Rattle.net_near.proofs.Linked.{written_back}
+use Rattle.net_index.proofs.Linked.{written_back}
 use Rattle.config_made.proofs.Reached.{all_later}
 use Rattle.config_made.proofs.blocks.routers_of.Goals as goal
 

@@ -21,7 +21,8 @@ loop-number-preserved c =
       | then-holds+in_ok-session_of+in_ok-push w ↦ record {
         sessions =
             w.sessions-is ∙ w.in_ok-push.ensures.ok
-            ∙ sessions_next c.args.net.now hops at number c.loop-number.sessions c.loop-number.invariant.sessions (sym is_near ∙ w.if-holds.true) w.next_hops-taken.result.now w.next_hops-sent.result.now c.new-neighbour.result
+            ∙ sessions_next c.args.net.now hops at number c.loop-number.sessions c.loop-number.invariant.sessions (sym is_near ∙ w.if-holds.true)
+            w.next_hops-taken.result.now w.next_hops-sent.result.now c.new-neighbour.result
             w.in_ok-session_of.field-0 c.new-neighbour.ensures w.next_hops-taken.ensures.hops w.next_hops-sent.ensures.hops w.in_ok-session_of.ensures;
         places = c.if-holds.auto.places ∙ c.loop-number.invariant.places;
         arrived =

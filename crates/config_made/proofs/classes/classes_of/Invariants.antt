@@ -1,5 +1,5 @@
 use Rattle.std.proofs.Common.{◌≡◌, map, take}
-use Rattle.path_words.specs.Policies.{policy_of}
+use Rattle.policy_base.specs.Policies.{policy_of}
 use Rattle.evidence_base.specs.Made.{PlainCaseEvidence, patterns_of}
 use Rattle.config_made.proofs.classes.classes_of.Given as goal
 

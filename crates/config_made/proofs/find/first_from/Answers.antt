@@ -8,4 +8,5 @@ use Rattle.config_made.proofs.find.first_from.Goals as goal
 pub returns : goal.returns
 returns c =
     first_reached c.args.hops.now c.partition_point.result c.args.from c.partition_point.ensures.bound
-    (IsPartitionPoint-from_clause (λ (x : Hop). nat_lt x.from c.args.from) c.args.hops.now c.partition_point.result c.partition_point.ensures.partitioned (lower_parts c.args.from c.args.hops.now c.requires) (λ a r f h. search rules))
+    (IsPartitionPoint-from_clause (λ (x : Hop). nat_lt x.from c.args.from) c.args.hops.now c.partition_point.result
+    c.partition_point.ensures.partitioned (lower_parts c.args.from c.args.hops.now c.requires) (λ a r f h. search rules))

@@ -11,7 +11,9 @@ pub loop-place-preserved : goal.loop-place-preserved
 loop-place-preserved c =
     let here = slice_get_read c.args.evidence.now (length c.args.evidence.now) c.loop-place.place c.index-evidence-place.result refl c.loop-place-test.true c.index-evidence-place.is in
     record {
-      hops = hops-step c.args.evidence.now c.loop-place.place c.index-evidence-place.result here c.loop-place.hops.items c.add_hops.new.hops.items c.in_ok-add_hops.ensures.hops c.loop-place.invariant.hops;
+      hops =
+          hops-step c.args.evidence.now c.loop-place.place c.index-evidence-place.result here c.loop-place.hops.items c.add_hops.new.hops.items
+          c.in_ok-add_hops.ensures.hops c.loop-place.invariant.hops;
       fits = c.in_ok-add_hops.ensures.fits c.loop-place.invariant.fits;
       graphs = λ k e below at. elim (cases_lt k c.loop-place.place) [
         | inl less ↦ c.loop-place.invariant.graphs k e less at

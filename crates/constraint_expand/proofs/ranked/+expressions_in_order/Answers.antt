@@ -1,6 +1,6 @@
 use Rattle.std.proofs.Common.{◌≡◌, ap, length, map, subst, sym, true, ◌∙◌}
 use Rattle.std.proofs.lemmas.Result.{IfOk-weaker}
-use Rattle.path_words.proofs.RankingViews.{ranking_of-Prefer, ranking_of-Or, ranking_of-And, ranking_of-Not}
+use Rattle.policy_base.proofs.RankingViews.{ranking_of-Prefer, ranking_of-Or, ranking_of-And, ranking_of-Not}
 use Rattle.path_exprs.specs.Forward.{expressions}
 use Rattle.path_exprs.specs.Parts.{are_known, at, Puts}
 use Rattle.path_exprs.specs.Shared.{values}

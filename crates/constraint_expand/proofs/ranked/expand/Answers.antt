@@ -1,5 +1,5 @@
 use Rattle.std.proofs.Common.{arith}
-use Rattle.path_words.specs.Policies.{ranking_of}
+use Rattle.policy_base.specs.Policies.{ranking_of}
 use Rattle.path_exprs.specs.Shared.{values}
 use Rattle.constraint_expand.proofs.Counts.{few}
 use Rattle.constraint_expand.proofs.ranked.expand.Goals as goal

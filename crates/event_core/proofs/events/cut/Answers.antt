@@ -6,4 +6,6 @@ use Rattle.event_core.proofs.Steps.{cut_both}
 use Rattle.event_core.proofs.events.cut.Goals as goal
 
 pub returns-clause-ok : goal.returns-clause-ok
-returns-clause-ok c = on_ok_weaker c.make-2.result (λ h. h ∙ ap (with_cut_way c.args.b c.args.a c.args.cut) c.in_ok-make.ensures.ok ∙ cut_both (speakers c.args.world.now) c.args.a c.args.b c.args.cut (state c.args.world.now)) c.make-2.ensures.ok
+returns-clause-ok c =
+    on_ok_weaker c.make-2.result (λ h. h ∙ ap (with_cut_way c.args.b c.args.a c.args.cut) c.in_ok-make.ensures.ok
+    ∙ cut_both (speakers c.args.world.now) c.args.a c.args.b c.args.cut (state c.args.world.now)) c.make-2.ensures.ok

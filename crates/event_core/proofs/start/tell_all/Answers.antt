@@ -29,4 +29,6 @@ returns-clause-ok c =
     let routers : length c.routers.result.now ≡ length w.net.now.routers = ap length c.routers.ensures.routers ∙ ap (λ net. length net.routers) c.net.ensures in
     let peers : length c.peers.result.now ≡ length w.net.now.peers = ap length c.peers.ensures.peers ∙ ap (λ net. length net.peers) c.net-2.ensures in
     c.loop-number.invariant.done
-    ∙ told_everywhere w c.known_net.ensures n (λ a h. let below : a < length w.net.now.routers + length w.net.now.peers = ltb-true a (length w.net.now.routers + length w.net.now.peers) h in lt-ltb a n (omega (arith, routers, peers, below, c.loop-number-test.false))) (state w)
+    ∙ told_everywhere w c.known_net.ensures n (λ a h. let below : a < length w.net.now.routers + length w.net.now.peers =
+    ltb-true a (length w.net.now.routers + length w.net.now.peers) h in
+    lt-ltb a n (omega (arith, routers, peers, below, c.loop-number-test.false))) (state w)

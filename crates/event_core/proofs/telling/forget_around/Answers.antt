@@ -16,10 +16,13 @@ pub forget_both-requires : goal.forget_both-requires
 forget_both-requires c =
     let w = c.args.world.now in
     let long : length c.neighbours-place-end.result.now ≡ length (neighbours w.net.now c.args.at) = ap length c.neighbours-place-end.ensures in
-    let near : length (neighbours w.net.now c.args.at) ≡ length c.neighbours.result.now = ap (λ s. length (neighbours s.0 c.args.at)) (sym c.loop-place.invariant.follows.setting) ∙ sym (ap length c.neighbours.ensures) in
+    let near : length (neighbours w.net.now c.args.at) ≡ length c.neighbours.result.now = ap (λ s. length (neighbours s.0 c.args.at))
+    (sym c.loop-place.invariant.follows.setting) ∙ sym (ap length c.neighbours.ensures) in
     let less : c.loop-place.place < length c.neighbours.result.now = omega (arith, long, near, c.loop-place-test.true) in
     neighbour_linked c.loop-place.world.net.now c.args.at c.loop-place.place c.index-neighbours-place.result
-    (ap (λ xs. slice_get xs c.loop-place.place) (sym c.neighbours.ensures) ∙ slice_get-get_or c.neighbours.result.now c.loop-place.place c.index-neighbours-place.result less ∙ ap Some (sym c.index-neighbours-place.is))
+    (ap (λ xs. slice_get xs c.loop-place.place) (sym c.neighbours.ensures)
+    ∙ slice_get-get_or c.neighbours.result.now c.loop-place.place c.index-neighbours-place.result less
+    ∙ ap Some (sym c.index-neighbours-place.is))
 
 pub loop-place-preserved : goal.loop-place-preserved
 loop-place-preserved c =
@@ -29,7 +32,9 @@ loop-place-preserved c =
     let long : length c.neighbours-place-end.result.now ≡ length us = ap length c.neighbours-place-end.ensures in
     let near : c.neighbours.result.now ≡ us = c.neighbours.ensures ∙ ap (λ s. neighbours s.0 c.args.at) same in
     record {
-      follows = follows_then c.args.log.now.items c.loop-place.log.items c.forget_both.new.log.items w c.loop-place.world c.forget_both.new.world c.loop-place.invariant.follows c.forget_both.ensures.follows;
+      follows =
+          follows_then c.args.log.now.items c.loop-place.log.items c.forget_both.new.log.items w c.loop-place.world c.forget_both.new.world
+          c.loop-place.invariant.follows c.forget_both.ensures.follows;
       done = empty_step w c.loop-place.world c.forget_both.new.world same (take c.loop-place.place us) (take (c.loop-place.place + 1) us) c.index-neighbours-place.result
           (item_more us c.neighbours.result.now c.loop-place.place c.index-neighbours-place.result near (omega (arith, long, c.loop-place-test.true)) c.index-neighbours-place.is)
           (joins c.args.at) c.loop-place.invariant.done c.in_ok-forget_both.ensures.ok;

@@ -17,7 +17,9 @@ loop-place-preserved c =
     let long : length c.neighbours-place-end.result.now ≡ length us = ap length c.neighbours-place-end.ensures in
     let near : c.neighbours.result.now ≡ us = c.neighbours.ensures ∙ ap (λ s. neighbours s.0 c.args.at) same in
     record {
-      follows = follows_then c.args.log.now.items c.loop-place.log.items c.tell_both.new.log.items w c.loop-place.world c.tell_both.new.world c.loop-place.invariant.follows c.tell_both.ensures.follows;
+      follows =
+          follows_then c.args.log.now.items c.loop-place.log.items c.tell_both.new.log.items w c.loop-place.world c.tell_both.new.world
+          c.loop-place.invariant.follows c.tell_both.ensures.follows;
       done = tell_step w c.loop-place.world c.tell_both.new.world same (take c.loop-place.place us) (take (c.loop-place.place + 1) us) c.index-neighbours-place.result
           (item_more us c.neighbours.result.now c.loop-place.place c.index-neighbours-place.result near (omega (arith, long, c.loop-place-test.true)) c.index-neighbours-place.is)
           (joins c.args.at) c.loop-place.invariant.done c.in_ok-tell_both.ensures.ok;

@@ -3,7 +3,7 @@ use Rattle.std.specs.Prelude.{IfOk}
 use Rattle.graph_base.specs.Graphs.{PlainGraph}
 use Rattle.graph_base.specs.Rules.{KeepsLoop}
 use Rattle.graph_base.specs.Preferences.{number_in}
-use Rattle.number_check.specs.FirstPair.{IsFirstPairOrNone}
+use Rattle.preference_check.specs.FirstPair.{IsFirstPairOrNone}
 use Rattle.evidence_check.proofs.case_rules.first_by_loop.Goals as goal
 
 pub returns : goal.returns

@@ -1,10 +1,10 @@
 use Rattle.std.proofs.Common.{length, sym, subst}
 use Rattle.net_base.specs.Sets.{holds}
 use Rattle.graph_base.specs.Graphs.{PlainGraph}
-use Rattle.regret_law.specs.Faithful.{IsFaithful}
+use Rattle.evidence_law.specs.Faithful.{IsFaithful}
 use Rattle.std.specs.Prelude.{IsSome}
 use Rattle.graph_base.specs.Runs.{place_of, rank_at}
-use Rattle.regret_law.specs.Passes.{IsClaimed}
+use Rattle.evidence_law.specs.Passes.{IsClaimed}
 use Rattle.walk_check.specs.Firsts.{IsFirstOrNone}
 use Rattle.evidence_check.proofs.case_rules.first_mixed.Goals as goal
 

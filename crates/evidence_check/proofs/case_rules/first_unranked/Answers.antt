@@ -2,7 +2,7 @@ use Rattle.std.proofs.Common.{length, sym, subst}
 use Rattle.std.specs.Prelude.{IfOk}
 use Rattle.net_base.specs.Sets.{holds}
 use Rattle.graph_base.specs.Graphs.{PlainGraph}
-use Rattle.regret_law.specs.Faithful.{HasRank, HasWalks}
+use Rattle.evidence_law.specs.Faithful.{HasRank, HasWalks}
 use Rattle.walk_check.specs.Firsts.{IsFirstOrNone}
 use Rattle.evidence_check.proofs.case_rules.first_unranked.Goals as goal
 

@@ -14,7 +14,8 @@ returns-in-Some c = λ policy cs k s of claims.
     let net = c.args.net.now in
     let case = c.args.case.now in
     let routers = c.ranked_routers-claimed.result in
-    let same : (l : ℕ) → IsTrue (holds routers l) ↔ IsRankedRouter net case.graph l = λ l. subst (λ (g : PlainGraph). IsTrue (holds routers l) ↔ IsRankedRouter net g l) c.graph.ensures.graph (c.ranked_routers-claimed.ensures l) in
+    let same : (l : ℕ) → IsTrue (holds routers l) ↔ IsRankedRouter net case.graph l =
+    λ l. subst (λ (g : PlainGraph). IsTrue (holds routers l) ↔ IsRankedRouter net g l) c.graph.ensures.graph (c.ranked_routers-claimed.ensures l) in
     let first = rank_first net policy cs k s case of (holds routers) (λ l. (λ h. (claims l).0 ((same l).0 h), λ h. (same l).1 ((claims l).1 h))) in
     let h = rw c.in-Some.is at c.in_ok-pair.ensures in
     subst (IsFirstFault 5 net policy cs k) (sym c.at_pair.ensures) (stops net policy cs k PrefRank c.in-Some.pair (omega arith) (first (Some c.in-Some.pair) h))
@@ -24,11 +25,13 @@ returns-in-Some-2 c = λ policy cs k s of claims.
     let net = c.args.net.now in
     let case = c.args.case.now in
     let routers = c.ranked_routers-claimed.result in
-    let same : (l : ℕ) → IsTrue (holds routers l) ↔ IsRankedRouter net case.graph l = λ l. subst (λ (g : PlainGraph). IsTrue (holds routers l) ↔ IsRankedRouter net g l) c.graph.ensures.graph (c.ranked_routers-claimed.ensures l) in
+    let same : (l : ℕ) → IsTrue (holds routers l) ↔ IsRankedRouter net case.graph l =
+    λ l. subst (λ (g : PlainGraph). IsTrue (holds routers l) ↔ IsRankedRouter net g l) c.graph.ensures.graph (c.ranked_routers-claimed.ensures l) in
     let first = rank_first net policy cs k s case of (holds routers) (λ l. (λ h. (claims l).0 ((same l).0 h), λ h. (same l).1 ((claims l).1 h))) in
     let none = rw c.in_default.is at c.in_ok-pair.ensures in
     let h = rw c.in-Some-2.is at c.in_ok-pair-2.ensures in
-    let here = subst (IsFirstFault 6 net policy cs k) (sym c.at_pair-in-Some-2.ensures) (stops net policy cs k PrefStep c.in-Some-2.pair (omega arith) (step_first net policy cs k s case of (Some c.in-Some-2.pair) h)) in
+    let here = subst (IsFirstFault 6 net policy cs k) (sym c.at_pair-in-Some-2.ensures)
+    (stops net policy cs k PrefStep c.in-Some-2.pair (omega arith) (step_first net policy cs k s case of (Some c.in-Some-2.pair) h)) in
     passes net policy cs k PrefRank (first None none) (Some c.at_pair-in-Some-2.result) here
 
 pub returns : goal.returns
@@ -36,7 +39,8 @@ returns c = λ policy cs k s of claims.
     let net = c.args.net.now in
     let case = c.args.case.now in
     let routers = c.ranked_routers-claimed.result in
-    let same : (l : ℕ) → IsTrue (holds routers l) ↔ IsRankedRouter net case.graph l = λ l. subst (λ (g : PlainGraph). IsTrue (holds routers l) ↔ IsRankedRouter net g l) c.graph.ensures.graph (c.ranked_routers-claimed.ensures l) in
+    let same : (l : ℕ) → IsTrue (holds routers l) ↔ IsRankedRouter net case.graph l =
+    λ l. subst (λ (g : PlainGraph). IsTrue (holds routers l) ↔ IsRankedRouter net g l) c.graph.ensures.graph (c.ranked_routers-claimed.ensures l) in
     let first = rank_first net policy cs k s case of (holds routers) (λ l. (λ h. (claims l).0 ((same l).0 h), λ h. (same l).1 ((claims l).1 h))) in
     let none = rw c.in_default.is at c.in_ok-pair.ensures in
     let also = rw c.in_default-2.is at c.in_ok-pair-2.ensures in

@@ -3,7 +3,7 @@ use Rattle.std.proofs.lemmas.Result.{IfOk-weaker}
 use Rattle.net_base.specs.Sets.{holds}
 use Rattle.graph_base.specs.Graphs.{IsGraph}
 use Rattle.graph_law.proofs.Claimed.{claimed_where_ranked}
-use Rattle.regret_law.proofs.FaithfulParts.{faithful_parts}
+use Rattle.evidence_law.proofs.FaithfulParts.{faithful_parts}
 use Rattle.evidence_rules.specs.declared.rule.CheckRule.TheVariants.{Mixed, Ranks}
 use Rattle.evidence_check.specs.CaseFaults.{IsFaultFrom, IsFirstFault}
 use Rattle.evidence_check.proofs.Faults.{mixed_first, passes, ranks_first, stops}
@@ -13,7 +13,8 @@ pub returns-in-Some : goal.returns-in-Some
 returns-in-Some c = λ policy cs k s of live walks.
     let net = c.args.net.now in
     let h = rw c.in-Some.is at (c.in_ok-node.ensures net s live walks) in
-    subst (IsFirstFault 3 net policy cs k) (sym c.at_node.ensures) (stops net policy cs k Ranks (c.in-Some.node, 0) (omega arith) (ranks_first net policy cs k s c.args.case.now of (Some c.in-Some.node) h))
+    subst (IsFirstFault 3 net policy cs k) (sym c.at_node.ensures)
+    (stops net policy cs k Ranks (c.in-Some.node, 0) (omega arith) (ranks_first net policy cs k s c.args.case.now of (Some c.in-Some.node) h))
 
 pub returns-in-Some-first_mixed : goal.returns-in-Some-first_mixed
 returns-in-Some-first_mixed c = λ policy cs k s of live walks.
@@ -25,7 +26,8 @@ returns-in-Some-first_mixed c = λ policy cs k s of live walks.
     let kept = ranks_first net policy cs k s case of None ranked in
     let faithful = (faithful_parts net s origin case.case.external case.graph graph).1 (walks, ranked) in
     let h = c.in-Some-first_mixed.ensures s faithful in
-    let here = subst (IsFirstFault 4 net policy cs k) (sym c.at_node-in-Some-first_mixed.ensures) (stops net policy cs k Mixed (c.in-Some-first_mixed.node, 0) (omega arith) (mixed_first net policy cs k s case of (Some c.in-Some-first_mixed.node) h)) in
+    let here = subst (IsFirstFault 4 net policy cs k) (sym c.at_node-in-Some-first_mixed.ensures) (stops net policy cs k Mixed
+    (c.in-Some-first_mixed.node, 0) (omega arith) (mixed_first net policy cs k s case of (Some c.in-Some-first_mixed.node) h)) in
     passes net policy cs k Ranks kept (Some c.at_node-in-Some-first_mixed.result) here
 
 pub returns : goal.returns

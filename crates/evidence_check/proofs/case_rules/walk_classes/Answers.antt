@@ -1,9 +1,9 @@
 use Rattle.std.proofs.Common.{sym, subst}
 use Rattle.std.specs.Prelude.{IfOk, IfNone, IfSome}
 use Rattle.net_base.specs.Sets.{holds}
-use Rattle.path_words.specs.declared.case.Case.{Case}
+use Rattle.policy_base.specs.declared.case.Case.{Case}
 use Rattle.graph_base.specs.Graphs.{PlainGraph}
-use Rattle.regret_law.specs.Faithful.{HasWalks, IsFaithful}
+use Rattle.evidence_law.specs.Faithful.{HasWalks, IsFaithful}
 use Rattle.walk_check.specs.Alike.{AreAlike, IsSingleStepped}
 use Rattle.evidence_check.proofs.case_rules.walk_classes.Goals as goal
 

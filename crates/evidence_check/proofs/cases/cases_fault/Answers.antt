@@ -1,9 +1,9 @@
 use Rattle.std.proofs.Common.{◌≡◌, ◌∙◌, ◌+◌, List, Some, length, sym, ap, subst, arith, refl}
 use Rattle.std.specs.Prelude.{slice_get}
 use Rattle.list_laws.proofs.Items.{slice_get_inside}
-use Rattle.path_words.specs.declared.case.Case.{Case}
-use Rattle.path_words.specs.Cases.{case_list}
-use Rattle.path_words.specs.Policies.{policy_of}
+use Rattle.policy_base.specs.declared.case.Case.{Case}
+use Rattle.policy_base.specs.Cases.{case_list}
+use Rattle.policy_base.specs.Policies.{policy_of}
 use Rattle.evidence_rules.specs.declared.rule.CheckRule.TheVariants.{Cases}
 use Rattle.evidence_check.specs.CaseFaults.{IsLeastFault}
 use Rattle.evidence_check.proofs.Alike.{item_at}
@@ -72,4 +72,5 @@ returns c =
     let cs = c.args.evidence.now in
     let j = c.loop-place.place in
     let count = ap length c.requires.cases in
-    least_of_all net policy cs j c.loop-place.room c.loop-place.invariant.listed (omega (arith, c.loop-place-test.false, count)) (omega (arith, c.loop-place-test.false, c.if-evidence-cases.false)) c.loop-place.least c.loop-place.invariant.least
+    least_of_all net policy cs j c.loop-place.room c.loop-place.invariant.listed (omega (arith, c.loop-place-test.false, count))
+    (omega (arith, c.loop-place-test.false, c.if-evidence-cases.false)) c.loop-place.least c.loop-place.invariant.least

@@ -1,4 +1,4 @@
-use Rattle.path_words.specs.Policies.{policy_of}
+use Rattle.policy_base.specs.Policies.{policy_of}
 use Rattle.evidence_check.specs.CaseFaults.{AreListed, IsLeast}
 use Rattle.evidence_check.proofs.cases.cases_fault.Given as goal
 

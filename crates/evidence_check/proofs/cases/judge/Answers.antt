@@ -1,10 +1,9 @@
 use Rattle.std.proofs.Common.{◌≡◌, ◌∙◌, Some, length, sym, ap, subst}
 use Rattle.std.proofs.lemmas.Option.{same_Some}
 use Rattle.net_base.specs.Sets.{holds}
-use Rattle.path_words.specs.declared.case.Case.{Case}
-use Rattle.path_words.specs.Policies.{PlainStatement, plain_statement, policy_of}
-use Rattle.evidence_base.specs.Made.{statement_at}
-use Rattle.regret_law.specs.Faithful.{IsFaithful}
+use Rattle.policy_base.specs.declared.case.Case.{Case}
+use Rattle.policy_base.specs.Policies.{PlainStatement, plain_statement, policy_of, statement_at}
+use Rattle.evidence_law.specs.Faithful.{IsFaithful}
 use Rattle.evidence_check.specs.Listed.{IsWithin}
 use Rattle.evidence_check.proofs.Live.{case_is_live}
 use Rattle.evidence_check.proofs.Limits.{built_within}
@@ -31,7 +30,8 @@ case_fault-requires c =
     let same : c.args.evidence.now.case ≡ case = sym c.case.ensures.case ∙ c.is_same_case.ensures.0 c.if-not-is_same_case.false in
     let within = rw c.in-Some-2.is at c.in_ok-built.ensures.built in
     let live = case_is_live net policy case s c.in-Some-2.built c.in_ok-live.live c.known_net.ensures c.requires.routers c.requires.known within.built c.in_ok-live.ensures in
-    let there : IsFaithful net s (holds c.args.evidence.now.case.origins) c.args.evidence.now.case.external c.in_ok-live.live = subst (λ (d : Case). IsFaithful net s (holds d.origins) d.external c.in_ok-live.live) (sym same) live in
+    let there : IsFaithful net s (holds c.args.evidence.now.case.origins) c.args.evidence.now.case.external c.in_ok-live.live =
+    subst (λ (d : Case). IsFaithful net s (holds d.origins) d.external c.in_ok-live.live) (sym same) live in
     (s, there)
 
 pub returns-clause-within : goal.returns-clause-within
@@ -55,5 +55,6 @@ returns-clause-fault c = λ cs k at.
     let same : c.args.evidence.now.case ≡ case = sym c.case.ensures.case ∙ c.is_same_case.ensures.0 c.if-not-is_same_case.false in
     let within = rw c.in-Some-2.is at c.in_ok-built.ensures.built in
     let live = case_is_live net policy case s c.in-Some-2.built c.in_ok-live.live c.known_net.ensures c.requires.routers c.requires.known within.built c.in_ok-live.ensures in
-    let there : IsFaithful net s (holds c.args.evidence.now.case.origins) c.args.evidence.now.case.external c.in_ok-live.live = subst (λ (d : Case). IsFaithful net s (holds d.origins) d.external c.in_ok-live.live) (sym same) live in
+    let there : IsFaithful net s (holds c.args.evidence.now.case.origins) c.args.evidence.now.case.external c.in_ok-live.live =
+    subst (λ (d : Case). IsFaithful net s (holds d.origins) d.external c.in_ok-live.live) (sym same) live in
     c.in_ok-fault.ensures policy cs k s (record { at = at; statement = ap (λ (d : Case). statement_at policy d.statement) same ∙ of }) there

@@ -1,14 +1,14 @@
 use Rattle.std.proofs.Common.{List, ap, sym, subst, ◌∙◌, arith, refl}
 use Rattle.std.specs.Prelude.{◌≡◌, ℕ}
 use Rattle.std.proofs.lemmas.Bool.{true≢false}
-use Rattle.path_words.specs.Policies.{policy_of}
+use Rattle.policy_base.specs.Policies.{policy_of}
 use Rattle.config_base.specs.Configs.{PlainConfig}
 use Rattle.config_lines.specs.declared.edition.Edition.TheVariants.{Second}
 use Rattle.config_text.specs.ConfigText.{config_text}
 use Rattle.config_text.specs.Spelled.{Spells}
 use Rattle.config_text.proofs.Lawful.{one_configuration}
 use Rattle.evidence_rules.specs.Verdicts.{first_difference}
-use Rattle.regret_law.specs.Passes.{Passes}
+use Rattle.evidence_law.specs.Passes.{Passes}
 use Rattle.evidence_check.proofs.AllRules.{are_classes, are_single, are_tags}
 use Rattle.evidence_check.proofs.Fold.{holds}
 use Rattle.evidence_check.proofs.config.text_verdict.Goals as goal

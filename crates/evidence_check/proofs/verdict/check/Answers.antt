@@ -1,7 +1,7 @@
 use Rattle.std.proofs.Common.{List, ℕ, Result, Ok, Err, subst, sym}
 use Rattle.std.specs.Prelude.{IfOk}
 use Rattle.net_base.specs.Network.{PlainNet}
-use Rattle.path_words.specs.Policies.{PlainPolicy, policy_of}
+use Rattle.policy_base.specs.Policies.{PlainPolicy, policy_of}
 use Rattle.config_base.specs.Configs.{PlainConfig}
 use Rattle.config_text.specs.Spelled.{Spells}
 use Rattle.evidence_base.specs.Made.{PlainCaseEvidence}
@@ -22,4 +22,6 @@ returns c =
     let config = c.args.config.now in
     let there : Spells c.deref.result.now config = subst (λ (bytes : List ℕ). Spells bytes config) (sym c.deref.ensures.value) c.in_ok-text.ensures.spells in
     of_spelled net policy config c.deref.result.now c.args.evidence.now.cases c.check_text.result there
-    (subst (λ (cs : List PlainCaseEvidence). IfOk c.check_text.result (λ (v : Verdict). (d : PlainConfig) → Spells c.deref.result.now d → IsVerdict net policy d cs v)) c.as_slice.ensures c.check_text.ensures.verdict)
+    (subst (λ (cs : List PlainCaseEvidence). IfOk c.check_text.result
+    (λ (v : Verdict). (d : PlainConfig) → Spells c.deref.result.now d → IsVerdict net policy d cs v)) c.as_slice.ensures
+    c.check_text.ensures.verdict)

@@ -1,5 +1,5 @@
 use Rattle.std.proofs.Common.{◌<◌}
-use Rattle.net_base.specs.declared.place.Field.TheVariants as field
+use Rattle.evidence_text.specs.declared.parts.Field.TheVariants as field
 use Rattle.evidence_text.specs.declared.fault.EvidenceFault.TheVariants.{Number}
 use Rattle.evidence_text.proofs.InRange.{all_there}
 use Rattle.evidence_text.proofs.judge.read_case.Goals as goal

@@ -9,7 +9,7 @@ use Rattle.serde_json.specs.Data.{boolean}
 use Rattle.serde_json.specs.Written.{compact_text}
 use Rattle.json_words.specs.Json.{array_of, numbers_data, texts_data}
 use Rattle.text_words.specs.Texts.{prefix_text}
-use Rattle.path_words.specs.declared.case.Case.{Case}
+use Rattle.policy_base.specs.declared.case.Case.{Case}
 use Rattle.graph_base.specs.Graphs.{IsGraph, PlainGraph}
 use Rattle.evidence_text.specs.Text.{members, nodes_data, step_data}
 use Rattle.evidence_text.specs.Writable.{HasShortRank, IsShort, IsShortTag}

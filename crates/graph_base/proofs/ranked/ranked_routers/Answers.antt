@@ -17,7 +17,8 @@ loop-i-preserved c =
     subst (λ n. AreRankedBelow net g n c.if-is_ranked.set) next
     (elim c.if-is_ranked.branch [
       | then-is_ranked w ↦
-          with_ranked net g i node there.0 there.1 c.loop-i.set c.if-is_ranked.set (sym c.is_ranked.ensures.exact ∙ w.if-is_ranked.true) c.loop-i.invariant (λ x. ap (λ (set : LocSet). holds set x) w.set-is ∙ w.insert.ensures x)
+          with_ranked net g i node there.0 there.1 c.loop-i.set c.if-is_ranked.set (sym c.is_ranked.ensures.exact ∙ w.if-is_ranked.true)
+          c.loop-i.invariant (λ x. ap (λ (set : LocSet). holds set x) w.set-is ∙ w.insert.ensures x)
       | else-is_ranked w ↦
           subst (AreRankedBelow net g (suc i)) (sym w.set-is) (without_ranked net g i node there.0 there.1 c.loop-i.set (sym c.is_ranked.ensures.exact ∙ w.if-is_ranked.false) c.loop-i.invariant)
     ])

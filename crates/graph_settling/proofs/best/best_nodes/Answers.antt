@@ -47,7 +47,8 @@ loop-node-preserved c =
     elim c.if-marks-node.branch [
       | then-marks-node+then-comes_over w ↦ (
           let taken : c.if-marks-node.best.items ≡ set best c.number-at.result (Some n) = rw w.best-is refl in
-          best_taken g numbers marked n best c.number-at.result w.index.result.now c.if-marks-node.best.items c.requires.places node at w.index.ensures taken w.if-marks-node.true (sym w.comes_over.ensures ∙ w.if-comes_over.true) c.loop-node.invariant)
+          best_taken g numbers marked n best c.number-at.result w.index.result.now c.if-marks-node.best.items c.requires.places node at
+          w.index.ensures taken w.if-marks-node.true (sym w.comes_over.ensures ∙ w.if-comes_over.true) c.loop-node.invariant)
       | else-marks-node w ↦ rw w.best-is (elim w.else-marks-node.branch [
         | else-marks-node-via-then-marks-node+else-comes_over v ↦
             best_passed g numbers marked n best c.number-at.result v.index.result.now c.requires.places node at v.index.ensures (sym v.comes_over.ensures ∙ v.if-comes_over.false) c.loop-node.invariant

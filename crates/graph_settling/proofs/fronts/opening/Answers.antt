@@ -20,7 +20,10 @@ pub loop-start-preserved : goal.loop-start-preserved
 loop-start-preserved c =
     let starts = c.starts-start-items in
     opening_taken c.args.graph.now c.loop-start.start-index (get_or starts.result.now c.loop-start.start-index 0) c.number.result c.in_ok-path_from.field-0 starts.result.now c.loop-start.routes.items
-    starts.ensures.rules c.requires starts.ensures.starts c.loop-start-test.true refl (c.number.ensures ∙ c.location-at.ensures) (c.in_ok-path_from.ensures ∙ ap (λ l. l ∷ []) (sym c.number.ensures)) c.loop-start.invariant
+    starts.ensures.rules c.requires starts.ensures.starts c.loop-start-test.true refl (c.number.ensures ∙ c.location-at.ensures)
+    (c.in_ok-path_from.ensures ∙ ap (λ l. l ∷ []) (sym c.number.ensures)) c.loop-start.invariant
 
 pub returns : goal.returns
-returns c = opening_all c.args.graph.now c.loop-start.start-index c.loop-start.routes.items (omega (arith, c.loop-start-test.false, ap length c.starts-start-items.ensures.starts)) c.loop-start.invariant
+returns c =
+    opening_all c.args.graph.now c.loop-start.start-index c.loop-start.routes.items
+    (omega (arith, c.loop-start-test.false, ap length c.starts-start-items.ensures.starts)) c.loop-start.invariant

@@ -10,8 +10,11 @@ use Rattle.graph_settling.proofs.fronts.settle_graph.Goals as goal
 pub fronts-init : goal.fronts-init
 fronts-init c =
     let g = c.args.graph.now in
-    subst (λ (xs : List ℕ). IsStage c.args.net.now g c.args.numbers.now c.args.choosers.now c.in_ok-routes.routes.items c.in_ok-wanted.wanted.items xs) (sym (c.in_ok-front.ensures.items ∙ c.starts.ensures.starts))
-    (stage_first c.args.net.now g c.args.numbers.now c.args.choosers.now c.in_ok-routes.routes.items c.in_ok-wanted.wanted.items (λ s h. start_node g s c.starts.ensures.rules h) c.requires.starts c.in_ok-wanted.ensures c.in_ok-routes.ensures)
+    subst
+    (λ (xs : List ℕ). IsStage c.args.net.now g c.args.numbers.now c.args.choosers.now c.in_ok-routes.routes.items c.in_ok-wanted.wanted.items xs)
+    (sym (c.in_ok-front.ensures.items ∙ c.starts.ensures.starts))
+    (stage_first c.args.net.now g c.args.numbers.now c.args.choosers.now c.in_ok-routes.routes.items c.in_ok-wanted.wanted.items
+    (λ s h. start_node g s c.starts.ensures.rules h) c.requires.starts c.in_ok-wanted.ensures c.in_ok-routes.ensures)
 
 pub lowest_offers-requires-clause-front : goal.lowest_offers-requires-clause-front
 lowest_offers-requires-clause-front c = λ k d less.

@@ -22,16 +22,19 @@ loop-place-preserved c =
           let routes : c.match-offers-place.routes.items ≡ set c.loop-place.routes.items place w.in_ok-routes.field-0 = rw w.routes-is refl in
           let left : c.match-offers-place.wanted.items ≡ set c.loop-place.wanted.items place None = rw w.wanted-is refl in
           let front : c.match-offers-place.front.items ≡ c.loop-place.front.items ++ w.in-Some.offer.to ∷ [] = rw w.front-is w.in_ok-push.ensures.items in
-          so_far_taken g offers c.args.routes.now.items c.args.wanted.now.items c.requires.offers c.requires.fit place c.loop-place.routes.items c.loop-place.wanted.items c.loop-place.front.items c.loop-place.invariant
+          so_far_taken g offers c.args.routes.now.items c.args.wanted.now.items c.requires.offers c.requires.fit place c.loop-place.routes.items
+          c.loop-place.wanted.items c.loop-place.front.items c.loop-place.invariant
           w.in-Some.offer w.deref.result.now w.new.result w.in_ok-routes.field-0 c.match-offers-place.routes.items c.match-offers-place.wanted.items c.match-offers-place.front.items
           (omega (arith, c.loop-place-test.true, c.requires.offers)) is at read took routes left front)
       | in_default w ↦ (
           let none : entry_at offers place ≡ None = w.in_default.is in
           rw (w.routes-is, w.wanted-is, w.front-is)
-          (so_far_none g offers c.args.routes.now.items c.args.wanted.now.items c.requires.offers c.requires.fit place c.loop-place.routes.items c.loop-place.wanted.items c.loop-place.front.items c.loop-place.invariant none))
+          (so_far_none g offers c.args.routes.now.items c.args.wanted.now.items c.requires.offers c.requires.fit place c.loop-place.routes.items
+          c.loop-place.wanted.items c.loop-place.front.items c.loop-place.invariant none))
     ]
 
 pub returns-clause-round : goal.returns-clause-round
 returns-clause-round c =
-    so_far_all c.args.graph.now c.args.offers.now c.args.routes.now.items c.args.wanted.now.items c.requires.offers c.requires.fit c.loop-place.place c.loop-place.routes.items c.loop-place.wanted.items c.loop-place.front.items
+    so_far_all c.args.graph.now c.args.offers.now c.args.routes.now.items c.args.wanted.now.items c.requires.offers c.requires.fit c.loop-place.place
+    c.loop-place.routes.items c.loop-place.wanted.items c.loop-place.front.items
     (omega (arith, c.loop-place-test.false, c.requires.offers)) c.requires.routes c.requires.wanted c.loop-place.invariant

@@ -25,7 +25,8 @@ loop-node-preserved c = record {
       let node = get_or front i 0 in
       let known : node < length lists = omega (arith, c.requires.front i 0 c.loop-node-test.true, c.requires.count) in
       let read = get_or_read lists node c.index-lists-node.result known c.index-lists-node.is [] in
-      along_next c.args.net.now c.args.graph.now c.args.numbers.now c.args.wanted.now front lists node i 0 c.as_slice.result.now c.visit_each.new.offers.items c.loop-node-test.true refl (c.as_slice.ensures ∙ read)
+      along_next c.args.net.now c.args.graph.now c.args.numbers.now c.args.wanted.now front lists node i 0 c.as_slice.result.now
+      c.visit_each.new.offers.items c.loop-node-test.true refl (c.as_slice.ensures ∙ read)
       (c.visit_each.ensures.lowest (along (take i front) lists) c.loop-node.invariant.lowest);
 }
 

@@ -15,7 +15,8 @@ loop-place-preserved c =
     let asked = ap claimed (sym c.new-router.ensures) ∙ sym c.holds.ensures in
     elim c.if-holds.branch [
       | then-holds+in_ok-push w ↦ rw w.sources-is (
-          w.in_ok-push.ensures.items ∙ ap (λ (r : _). c.loop-place.sources.items ++ router_source r ∷ []) c.new-router.ensures ∙ ap (λ (xs : List Source). xs ++ router_source n ∷ []) c.loop-place.invariant
+          w.in_ok-push.ensures.items ∙ ap (λ (r : _). c.loop-place.sources.items ++ router_source r ∷ []) c.new-router.ensures
+          ∙ ap (λ (xs : List Source). xs ++ router_source n ∷ []) c.loop-place.invariant
           ∙ append_assoc old (router_sources claimed n) (router_source n ∷ []) ∙ ap (λ (xs : List Source). old ++ xs) (sym (router_more claimed n (asked ∙ w.if-holds.true))))
       | else-holds w ↦ rw w.sources-is (c.loop-place.invariant ∙ ap (λ (xs : List Source). old ++ xs) (sym (router_same claimed n (asked ∙ w.if-holds.false))))
     ]

@@ -1,5 +1,5 @@
 use Rattle.std.proofs.Common.{length, ap, ◌∙◌, arith}
-use Rattle.path_words.specs.Policies.{policy_of}
+use Rattle.policy_base.specs.Policies.{policy_of}
 use Rattle.impact_text.proofs.Counting.{cases_few}
 use Rattle.impact_text.proofs.class.class_for.Goals as goal
 

@@ -3,8 +3,7 @@ use Rattle.std.specs.Prelude.{option_map, unwrap_or, if◌then◌else◌}
 use Rattle.std.specs.List.{list_any}
 use Rattle.list_laws.proofs.Tests.{list_any-map}
 use Rattle.net_base.specs.Prefixes.{PlainPattern, PlainPrefix, contains, only}
-use Rattle.evidence_base.specs.Made.{statement_at}
-use Rattle.path_words.specs.Policies.{PlainStatement, policy_of}
+use Rattle.policy_base.specs.Policies.{statement_at, PlainStatement, policy_of}
 use Rattle.impact_text.proofs.class.is_of_case.Goals as goal
 
 pub returns-then-not-case : goal.returns-then-not-case
@@ -15,4 +14,5 @@ returns-then-not-case c =
     c.is_named.ensures
     ∙ ap (list_any (λ (named : PlainPrefix). contains (only named) c.args.prefix)) c.as_slice.ensures
     ∙ sym (list_any-map (λ (pattern : PlainPattern). contains pattern c.args.prefix) only case.prefixes)
-    ∙ ap (λ b. list_any (λ (pattern : PlainPattern). contains pattern c.args.prefix) (if b then unwrap_or (option_map (λ (s : PlainStatement). s.patterns) (statement_at policy case.statement)) [] else map only case.prefixes)) (sym off)
+    ∙ ap (λ b. list_any (λ (pattern : PlainPattern). contains pattern c.args.prefix) (if b then unwrap_or
+    (option_map (λ (s : PlainStatement). s.patterns) (statement_at policy case.statement)) [] else map only case.prefixes)) (sym off)

@@ -1,8 +1,8 @@
-use Rattle.policy_law.proofs.ReadPolicies.{read_policies_fit}
+use Rattle.input_texts.proofs.ReadPolicies.{read_fits, read_routers}
 use Rattle.input_texts.proofs.texts.policy_for.Goals as goal
 
-pub returns-in-Ok-clause-routers : goal.returns-in-Ok-clause-routers
-returns-in-Ok-clause-routers c = (read_policies_fit c.args.net.now c.args.policy.now _ c.in-Ok.ensures.read).routers
+pub returns-clause-routers : goal.returns-clause-routers
+returns-clause-routers c = read_routers c.args.net.now c.args.policy.now c.read_policy.result c.read_policy.ensures.read c.or_told.result c.or_told.ensures.same
 
-pub returns-in-Ok-clause-fits : goal.returns-in-Ok-clause-fits
-returns-in-Ok-clause-fits c = read_policies_fit c.args.net.now c.args.policy.now _ c.in-Ok.ensures.read
+pub returns-clause-fits : goal.returns-clause-fits
+returns-clause-fits c = read_fits c.args.net.now c.args.policy.now c.read_policy.result c.read_policy.ensures.read c.or_told.result c.or_told.ensures.same

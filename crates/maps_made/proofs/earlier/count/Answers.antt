@@ -9,5 +9,6 @@ use Rattle.maps_made.proofs.earlier.count.Goals as goal
 pub returns : goal.returns
 returns c =
     let none : drop c.loop-block.block-index c.args.blocks.now ≡ [] = drop_all c.loop-block.block-index c.args.blocks.now (omega (arith, c.loop-block-test.false)) in
-    let nothing : count_by (λ (e : Entry). in_some c.args.spans.now e.key) (entries_in (drop c.loop-block.block-index c.args.blocks.now)) ≡ 0 = ap (λ (bs : List (List Entry)). count_by (λ (e : Entry). in_some c.args.spans.now e.key) (entries_in bs)) none in
+    let nothing : count_by (λ (e : Entry). in_some c.args.spans.now e.key) (entries_in (drop c.loop-block.block-index c.args.blocks.now)) ≡ 0 =
+    ap (λ (bs : List (List Entry)). count_by (λ (e : Entry). in_some c.args.spans.now e.key) (entries_in bs)) none in
     omega (arith, c.loop-block.invariant.rest, nothing, c.loop-block.invariant.few)

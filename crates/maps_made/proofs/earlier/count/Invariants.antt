@@ -9,6 +9,7 @@ use Rattle.maps_made.proofs.earlier.count.Given as goal
 abbrev pub invariant-loop-block : goal.invariant-loop-block
 invariant-loop-block l = record {
   few : l.total ≤ top;
-  rest : min (count_by (λ (e : Entry). in_some l.spans e.key) (entries_in l.blocks)) top ≡ min (l.total + count_by (λ (e : Entry). in_some l.spans e.key) (entries_in (drop l.block-index l.blocks))) top;
+  rest : min (count_by (λ (e : Entry). in_some l.spans e.key) (entries_in l.blocks)) top
+      ≡ min (l.total + count_by (λ (e : Entry). in_some l.spans e.key) (entries_in (drop l.block-index l.blocks))) top;
   order : AllByRecursion IsInOrder (drop l.block-index l.blocks);
 }

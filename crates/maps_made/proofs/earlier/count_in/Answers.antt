@@ -15,7 +15,11 @@ loop-span-preserved c =
     record {
       few = search rules;
       rest = kept_sum _ c.loop-span.total (length c.run.result.now) c.saturating_add-total.result (count_by (λ (e : Entry). in_some (drop (i + 1) c.args.spans.now) e.key) c.args.block.now)
-          (c.loop-span.invariant.rest ∙ ap (λ n. min (c.loop-span.total + n) top) (counted_next c.args.block.now c.args.spans.now i zero c.loop-span-test.true c.loop-span.invariant.apart ∙ ap (λ n. n + count_by (λ (e : Entry). in_some (drop (i + 1) c.args.spans.now) e.key) c.args.block.now) (sym (ap length c.run.ensures))))
+          (c.loop-span.invariant.rest
+          ∙ ap (λ n. min (c.loop-span.total + n) top) (counted_next c.args.block.now c.args.spans.now i zero c.loop-span-test.true
+          c.loop-span.invariant.apart
+          ∙ ap (λ n. n + count_by (λ (e : Entry). in_some (drop (i + 1) c.args.spans.now) e.key) c.args.block.now)
+          (sym (ap length c.run.ensures))))
           (search rules);
       apart = (AreApart-next c.args.spans.now i zero c.loop-span-test.true c.loop-span.invariant.apart).1;
     }
@@ -23,5 +27,6 @@ loop-span-preserved c =
 pub returns : goal.returns
 returns c =
     let none : drop c.loop-span.span-index c.args.spans.now ≡ [] = drop_all c.loop-span.span-index c.args.spans.now (omega (arith, c.loop-span-test.false)) in
-    let nothing : count_by (λ (e : Entry). in_some (drop c.loop-span.span-index c.args.spans.now) e.key) c.args.block.now ≡ 0 = ap (λ (ss : List Span). count_by (λ (e : Entry). in_some ss e.key) c.args.block.now) none ∙ count_by-nothing c.args.block.now in
+    let nothing : count_by (λ (e : Entry). in_some (drop c.loop-span.span-index c.args.spans.now) e.key) c.args.block.now ≡ 0 =
+    ap (λ (ss : List Span). count_by (λ (e : Entry). in_some ss e.key) c.args.block.now) none ∙ count_by-nothing c.args.block.now in
     omega (arith, c.loop-span.invariant.rest, nothing, c.loop-span.invariant.few)

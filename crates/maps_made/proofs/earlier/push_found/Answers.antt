@@ -19,5 +19,7 @@ loop-span-preserved c = λ j.
 pub returns : goal.returns
 returns c = λ j.
     let none : drop c.loop-span.span-index c.args.spans.now ≡ [] = drop_all c.loop-span.span-index c.args.spans.now (omega (arith, c.loop-span-test.false)) in
-    let nothing : list_any (λ (e : Entry). in_some (drop c.loop-span.span-index c.args.spans.now) e.key && is_at j e) c.args.block.now ≡ false = ap (λ (ss : List Span). list_any (λ (e : Entry). in_some ss e.key && is_at j e) c.args.block.now) none ∙ list_any-nothing c.args.block.now (is_at j) in
+    let nothing : list_any (λ (e : Entry). in_some (drop c.loop-span.span-index c.args.spans.now) e.key && is_at j e) c.args.block.now ≡ false =
+    ap (λ (ss : List Span). list_any (λ (e : Entry). in_some ss e.key && is_at j e) c.args.block.now) none
+    ∙ list_any-nothing c.args.block.now (is_at j) in
     sym (c.loop-span.invariant j ∙ ap (λ b. has c.loop-span.places.items j || b) nothing ∙ or-false (has c.loop-span.places.items j))

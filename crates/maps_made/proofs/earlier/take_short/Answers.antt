@@ -14,6 +14,8 @@ loop-block-preserved c =
     let whole : List Entry = entries_in c.args.blocks.now.items ++ c.args.entries.now.items in
     let before = subst (λ (bs : List (List Entry)). HaveEntries (entries_in bs ++ c.loop-block.entries.items) whole) items c.loop-block.invariant.entries in
     record {
-      order = (AllByRecursion-append_parts IsInOrder c.pop.new.self.items (c.in-Some.block ∷ []) (subst (λ (bs : List (List Entry)). AllByRecursion IsInOrder bs) items c.loop-block.invariant.order)).0;
+      order =
+          (AllByRecursion-append_parts IsInOrder c.pop.new.self.items (c.in-Some.block ∷ [])
+          (subst (λ (bs : List (List Entry)). AllByRecursion IsInOrder bs) items c.loop-block.invariant.order)).0;
       entries = λ p. ap (λ (es : List Entry). count_by p (entries_in c.pop.new.self.items ++ es)) more ∙ taken_off c.pop.new.self.items c.in-Some.block c.loop-block.entries.items whole before p;
     }

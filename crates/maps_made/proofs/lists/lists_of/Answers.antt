@@ -19,12 +19,18 @@ loop-class-preserved c =
     record {
       few = omega (arith, c.saturating_add-total.ensures);
       rest =
-          class_total earlier classes i class c.loop-class-test.true this lengths c.deref.result.now c.in_ok-spans.spans.items c.deref-in-loop-class.result.now _ c.loop-class.total c.count_denied.result c.saturating_add.result c.saturating_add-total.result
-          c.deref.ensures.value c.deref-in-loop-class.ensures.value c.loop-class.invariant.known c.in_ok-spans.ensures.meets c.count_denied.ensures c.saturating_add.ensures c.saturating_add-total.ensures c.loop-class.invariant.rest
+          class_total earlier classes i class c.loop-class-test.true this lengths c.deref.result.now c.in_ok-spans.spans.items
+          c.deref-in-loop-class.result.now _ c.loop-class.total c.count_denied.result c.saturating_add.result c.saturating_add-total.result
+          c.deref.ensures.value c.deref-in-loop-class.ensures.value c.loop-class.invariant.known c.in_ok-spans.ensures.meets c.count_denied.ensures
+          c.saturating_add.ensures c.saturating_add-total.ensures c.loop-class.invariant.rest
           ∙ ap (λ (ps : List PlainPattern). min (c.saturating_add-total.result + lines_in (lists_from ps (drop (i + 1) classes))) top) (sym patterns);
       lists = λ few.
-          class_lists earlier classes i class c.loop-class-test.true this c.loop-class.lists c.push_list.new.lists (lists_from [] classes) (c.loop-class.invariant.lists (omega (arith, few, c.saturating_add.ensures, c.saturating_add-total.ensures))) (c.in_ok-push_list.ensures few)
+          class_lists earlier classes i class c.loop-class-test.true this c.loop-class.lists c.push_list.new.lists (lists_from [] classes)
+          (c.loop-class.invariant.lists (omega (arith, few, c.saturating_add.ensures, c.saturating_add-total.ensures)))
+          (c.in_ok-push_list.ensures few)
           ∙ ap (λ (ps : List PlainPattern). c.push_list.new.lists ++ lists_from ps (drop (i + 1) classes)) (sym patterns);
       index = c.in_ok-earlier.ensures.index;
-      known = subst (λ (ps : List PlainPattern). AllByRecursion (IsKnown lengths) ps) (sym patterns) (class_is_known earlier classes i class c.loop-class-test.true this lengths c.in_ok-lengths.ensures.all c.loop-class.invariant.known c.in_ok-earlier.ensures.rules);
+      known =
+          subst (λ (ps : List PlainPattern). AllByRecursion (IsKnown lengths) ps) (sym patterns) (class_is_known earlier classes i class
+          c.loop-class-test.true this lengths c.in_ok-lengths.ensures.all c.loop-class.invariant.known c.in_ok-earlier.ensures.rules);
     }

@@ -9,5 +9,7 @@ pub loop-place-preserved : goal.loop-place-preserved
 loop-place-preserved c =
     let i = c.loop-place.place-index in
     let there : slice_get c.args.patterns.now (get_or c.args.places.now i 0) ≡ Some c.index-patterns-place.result =
-    slice_get_read c.args.patterns.now (length c.args.patterns.now) (get_or c.args.places.now i 0) c.index-patterns-place.result refl (each_at (λ j. j < length c.args.patterns.now) c.args.places.now i 0 c.requires c.loop-place-test.true) c.index-patterns-place.is in
-    line_more c.args.patterns.now c.args.places.now i c.index-patterns-place.result c.args.lines.now c.loop-place.lines c.push.new.self c.loop-place-test.true there c.loop-place.invariant c.in_ok-push.ensures.ok
+    slice_get_read c.args.patterns.now (length c.args.patterns.now) (get_or c.args.places.now i 0) c.index-patterns-place.result refl
+    (each_at (λ j. j < length c.args.patterns.now) c.args.places.now i 0 c.requires c.loop-place-test.true) c.index-patterns-place.is in
+    line_more c.args.patterns.now c.args.places.now i c.index-patterns-place.result c.args.lines.now c.loop-place.lines c.push.new.self
+    c.loop-place-test.true there c.loop-place.invariant c.in_ok-push.ensures.ok

@@ -1,7 +1,6 @@
-use Rattle.std.proofs.Common.{◌≡◌, ◌<◌, ◌∷◌, ◌++◌, [], subst, max, arith, rules}
+use Rattle.std.proofs.Common.{◌≡◌, ◌<◌, ◌∷◌, ◌++◌, [], subst, max, arith, rules, List}
 use Rattle.maps_made.specs.Keys.{AreJoined}
 use Rattle.maps_made.specs.declared.spans.Span.{Span}
-use Rattle.std.proofs.Common.{List}
 use Rattle.maps_made.proofs.SpanSets.{new, new_joined}
 use Rattle.maps_made.proofs.spans.join.Goals as goal
 

@@ -1,8 +1,7 @@
-use Rattle.std.proofs.Common.{◌≡◌, ℕ, ◌≤◌}
+use Rattle.std.proofs.Common.{◌≡◌, ℕ, ◌≤◌, List}
 use Rattle.std.specs.Prelude.{◌&&◌, ◌==◌, nat_lt}
 use Rattle.std.specs.List.{list_any, AllByRecursion}
 use Rattle.net_base.specs.Prefixes.{PlainPattern}
-use Rattle.std.proofs.Common.{List}
 use Rattle.maps_made.specs.Keys.{has}
 use Rattle.maps_made.proofs.spans.lengths_of.Given as goal
 

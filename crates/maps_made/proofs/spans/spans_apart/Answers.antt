@@ -12,4 +12,5 @@ joined-requires c =
 
 pub returns-clause-meets : goal.returns-clause-meets
 returns-clause-meets c =
-    from_sorted (λ v. v.items) c.args.class.now c.args.lengths.now c.in_ok-spans.spans.items c.sort_unstable_by_key.new.self.items c.deref.result.now c.sort_unstable_by_key.ensures.permutation c.deref.ensures.value c.in_ok-spans.ensures c.joined.result c.joined.ensures.same
+    from_sorted (λ v. v.items) c.args.class.now c.args.lengths.now c.in_ok-spans.spans.items c.sort_unstable_by_key.new.self.items c.deref.result.now
+    c.sort_unstable_by_key.ensures.permutation c.deref.ensures.value c.in_ok-spans.ensures c.joined.result c.joined.ensures.same

@@ -3,9 +3,17 @@ use Rattle.outside.specs.Outside.{Rose}
 use Rattle.outside.specs.SureInputs.{bytes_of}
 use Rattle.propane_run.specs.declared.command.Command.TheVariants.{Compile}
 use Rattle.memory_run.specs.Texts.{compile_words}
-use Rattle.memory_run.proofs.Asking.{asks_for, reads_smoothly}
-use Rattle.memory_run.proofs.Telling.{still}
+use Rattle.memory_run.proofs.Asking.{asked, asks_for, reads_smoothly}
+use Rattle.memory_run.proofs.Telling.{right_text, still}
 use Rattle.memory_run.proofs.counted.count_compiled.Goals as goal
+
+pub returns-in-Done-clause-right : goal.returns-in-Done-clause-right
+returns-in-Done-clause-right c =
+    let is : map string_bytes c.deref.result.now ≡ compile_words = ap (map string_bytes) c.deref.ensures.value ∙ c.in_ok-words.ensures in
+    let t = ap Some c.in_ok-inputs.ensures.topology in
+    let p = ap Some c.in_ok-inputs.ensures.policy in
+    let claim = c.run.ensures.promised Compile (asked _ is) c.in-Done.is in
+    (claim.0.bytes, right_text _ is (λ name. Some (bytes_of c.in_ok-inputs.inputs name)) _ _ t p _ _ _ claim.0 claim.1 claim.2 _ refl)
 
 pub returns-in-Done-clause-refused_where : goal.returns-in-Done-clause-refused_where
 returns-in-Done-clause-refused_where c = λ net asked e spell applies.
@@ -16,7 +24,7 @@ returns-in-Done-clause-refused_where c = λ net asked e spell applies.
     let smooth = reads_smoothly _ is (λ name. Some (bytes_of c.in_ok-inputs.inputs name)) _ _ t p (λ name. Rose 0 0) calm calm in
     let asks = asks_for _ is (λ name. Some (bytes_of c.in_ok-inputs.inputs name)) _ _ t p net asked spell in
     let done = c.in-Done.is in
-    elim (c.run.ensures.refused_where (Compile 1 2) tt net asked e smooth calm asks applies) [ inl m ↦ cc | inr h ↦ let r = h.0 in cc ]
+    elim ((c.run.ensures.ends Compile smooth net asked asks).1 e applies calm) [ inl m ↦ cc | inr h ↦ let r = h.0 in cc ]
 
 pub returns-in-Refused-clause-compiled_where : goal.returns-in-Refused-clause-compiled_where
 returns-in-Refused-clause-compiled_where c = λ net asked spell none.
@@ -26,7 +34,7 @@ returns-in-Refused-clause-compiled_where c = λ net asked spell none.
     let calm = still 0 0 refl refl in
     let smooth = reads_smoothly _ is (λ name. Some (bytes_of c.in_ok-inputs.inputs name)) _ _ t p (λ name. Rose 0 0) calm calm in
     let asks = asks_for _ is (λ name. Some (bytes_of c.in_ok-inputs.inputs name)) _ _ t p net asked spell in
-    let ends = c.run.ensures.compiled_where (Compile 1 2) tt net asked smooth calm asks none in
+    let ends = (c.run.ensures.ends Compile smooth net asked asks).0 none calm in
     let other = c.in-Refused.is in
     elim ends [
       | inl m ↦ elim other [ inl r ↦ cc | inr b ↦ cc ]

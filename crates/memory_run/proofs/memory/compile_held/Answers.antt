@@ -2,6 +2,7 @@ use Rattle.std.proofs.Common.{sym, ap, subst, ◌∙◌}
 use Rattle.outside.specs.MemInputs.{told, count}
 use Rattle.outside.specs.MemSink.{Taking}
 use Rattle.run_base.specs.Reading.{RoseOf}
+use Rattle.propane_run.specs.declared.command.Command.TheVariants.{Compile}
 use Rattle.memory_run.specs.Texts.{IsFaultLine}
 use Rattle.memory_run.proofs.Asking.{asked, fault_told}
 use Rattle.memory_run.proofs.Coming.{ready_smoothly, to_say, written}
@@ -12,7 +13,7 @@ use Rattle.memory_run.proofs.memory.compile_held.Goals as goal
 
 pub returns-in-Done-clause-right : goal.returns-in-Done-clause-right
 returns-in-Done-clause-right c = λ topology policy t p.
-    let claim = c.run.ensures.compiled 1 2 (asked _ c.requires.words) c.in-Done.is in
+    let claim = c.run.ensures.promised Compile (asked _ c.requires.words) c.in-Done.is in
     right_text _ c.requires.words (told c.args.inputs.now) _ _ t p _ _ _ claim.0 claim.1 claim.2 _
     (from_nothing _ _ _ (ap (λ (s : Taking). s.bytes) c.in_ok-out.ensures) claim.0.written.grew ∙ sym c.in_ok-copy_of-in-Done.ensures)
 

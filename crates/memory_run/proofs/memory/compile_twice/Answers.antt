@@ -21,6 +21,6 @@ returns-clause-alike c =
     let one = c.in_ok-first.ensures.said in
     let other = c.in_ok-again.ensures.said in
     let held = told c.in_ok-inputs.inputs in
-    let before = said_before held (told c.compile_held.new.inputs) c.compile_held.ensures.holds (names_read compile_words (Compile 1 2)) (Job (Compile 1 2)) other.0 other.1 in
-    let same = c.told_texts_come_to_one_thing.ensures held compile_words (Compile 1 2) one.0 other.0 one.1 before in
+    let before = said_before held (told c.compile_held.new.inputs) c.compile_held.ensures.holds (names_read compile_words Compile) (Job Compile) other.0 other.1 in
+    let same = c.told_texts_come_to_one_thing.ensures held compile_words Compile one.0 other.0 one.1 before in
     alike _ _ one.0 other.0 same one.2 other.2

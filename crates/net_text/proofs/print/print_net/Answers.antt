@@ -26,5 +26,8 @@ returns c =
     ∙ net_as net in
     record {
       text = text;
-      read = ap spelled text ∙ read_again net c.peers.ensures.rules (subst HaveNames c.routers.ensures.routers c.in_ok-push_sites-2.ensures.rules) (subst HaveNames c.peers.ensures.peers c.in_ok-push_sites.ensures.rules);
+      read =
+          ap spelled text
+          ∙ read_again net c.peers.ensures.rules (subst HaveNames c.routers.ensures.routers c.in_ok-push_sites-2.ensures.rules)
+          (subst HaveNames c.peers.ensures.peers c.in_ok-push_sites.ensures.rules);
     }

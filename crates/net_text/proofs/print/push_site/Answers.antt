@@ -21,7 +21,15 @@ returns-clause-text c =
     (compact_text (string (address_text s.id)), c.push_identifier.new.text.items) ∷
     (codes ",\"name\":", c.push_bytes-3.new.text.items) ∷
     (compact_text (string s.name), c.push_name_text.new.text.items) ∷
-    (codes "}", c.push_bytes-4.new.text.items) ∷ [])
-    (c.in_ok-push_bytes.ensures, (c.in_ok-push_number.ensures ∙ ap (λ n. c.push_bytes.new.text.items ++ decimal n) c.from.ensures, (c.in_ok-push_bytes-2.ensures, (c.in_ok-push_identifier.ensures, (c.in_ok-push_bytes-3.ensures, (c.in_ok-push_name_text.ensures.text, (last, tt)))))))
+    (codes "}", c.push_bytes-4.new.text.items) ∷ []) (
+      c.in_ok-push_bytes.ensures,
+      (
+        c.in_ok-push_number.ensures ∙ ap (λ n. c.push_bytes.new.text.items ++ decimal n) c.from.ensures,
+        (
+          c.in_ok-push_bytes-2.ensures,
+          (c.in_ok-push_identifier.ensures, (c.in_ok-push_bytes-3.ensures, (c.in_ok-push_name_text.ensures.text, (last, tt)))),
+        ),
+      ),
+    )
     ∙ ap (λ t. c.args.text.now.items ++ t) (site_as s))
     c.push_bytes-4.ensures

@@ -43,7 +43,9 @@ empty (x ∷ xs) h = absurd (omega (arith, h))
 pub returns-clause-alike : goal.returns-clause-alike
 returns-clause-alike c =
     let none : c.search.todo.items ≡ [] = empty c.search.todo.items (omega (arith, c.in_default.ensures.cases.0, c.search.todo.ok.0)) in
-    ended c.args.ways.now c.args.a c.args.b c.search.up.items (subst (Stage c.args.ways.now c.args.a c.args.b c.search.up.items) none c.search.invariant.stage) c.in_ok-found.found.items c.in_ok-found.ensures.each
+    ended c.args.ways.now c.args.a c.args.b c.search.up.items
+    (subst (Stage c.args.ways.now c.args.a c.args.b c.search.up.items) none c.search.invariant.stage) c.in_ok-found.found.items
+    c.in_ok-found.ensures.each
 
 pub returns-clause-least : goal.returns-clause-least
 returns-clause-least c = λ x.

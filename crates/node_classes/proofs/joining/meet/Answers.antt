@@ -85,7 +85,8 @@ returns-clause-waiting c =
     let ws = c.run_of-ways_y.result.now in
     let count = length c.args.up.now.items in
     let len : count ≡ length c.join.new.up.items = sym (c.join.ensures.len ∙ c.root_of-other.ensures.len ∙ c.root_of-one.ensures.len) in
-    let more = targets_within count c.args.x c.args.y c.args.ways.now vs ws (recursion_from_All (λ (w : Way). w.to < count) c.args.ways.now c.requires.ends) c.run_of-ways_x.ensures c.run_of-ways_y.ensures in
+    let more = targets_within count c.args.x c.args.y c.args.ways.now vs ws
+    (recursion_from_All (λ (w : Way). w.to < count) c.args.ways.now c.requires.ends) c.run_of-ways_x.ensures c.run_of-ways_y.ensures in
     let all = within_append count c.args.todo.now.items (targets vs ws) c.requires.waiting more in
     subst (λ ts. AreWithin (length c.join.new.up.items) ts) (sym (rest_of c)) (subst (λ n. AreWithin n (c.args.todo.now.items ++ targets vs ws)) len all)
 

@@ -18,7 +18,9 @@ add_pairs-requires c =
     let x = c.in-Some.pair.now.0 in
     let y = c.in-Some.pair.now.1 in
     let at : slice_get c.loop-place.found.keys c.loop-place.place ≡ Some (x, y) = sym c.in-Some.ensures.key in
-    ap length c.ways_of.ensures ∙ met_lengths c.args.ways.now c.requires.order c.args.a c.args.b c.requires.alike x y (c.loop-place.invariant.sound x y (c.loop-place.place, at)) ∙ sym (ap length c.ways_of-in-loop-place.ensures)
+    ap length c.ways_of.ensures
+    ∙ met_lengths c.args.ways.now c.requires.order c.args.a c.args.b c.requires.alike x y
+    (c.loop-place.invariant.sound x y (c.loop-place.place, at)) ∙ sym (ap length c.ways_of-in-loop-place.ensures)
 
 pub loop-place-preserved : goal.loop-place-preserved
 loop-place-preserved c =

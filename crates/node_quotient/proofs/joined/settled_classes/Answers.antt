@@ -12,6 +12,10 @@ rounds-preserved c =
     let are = rw c.deref.ensures.value at c.in_ok-next.ensures in
     record {
       size = let one = are.size in omega (arith, one, c.rounds.invariant.size);
-      classes = kept_classes c.args.graph.now c.requires.graph c.requires.single c.args.lists.now c.requires.steps c.rounds.least.items c.in_ok-next.next.items c.rounds.invariant.size c.rounds.invariant.classes are c.eq-settled.result c.eq-settled.ensures;
-      settled = kept_settled c.args.graph.now c.requires.graph c.requires.single c.args.lists.now c.requires.steps c.rounds.least.items c.in_ok-next.next.items c.rounds.invariant.size c.rounds.invariant.classes are c.eq-settled.result c.eq-settled.ensures;
+      classes =
+          kept_classes c.args.graph.now c.requires.graph c.requires.single c.args.lists.now c.requires.steps c.rounds.least.items
+          c.in_ok-next.next.items c.rounds.invariant.size c.rounds.invariant.classes are c.eq-settled.result c.eq-settled.ensures;
+      settled =
+          kept_settled c.args.graph.now c.requires.graph c.requires.single c.args.lists.now c.requires.steps c.rounds.least.items
+          c.in_ok-next.next.items c.rounds.invariant.size c.rounds.invariant.classes are c.eq-settled.result c.eq-settled.ensures;
     }

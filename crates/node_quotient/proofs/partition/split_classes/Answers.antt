@@ -21,7 +21,8 @@ loop-turn-preserved c =
             marks = rw w.marks-is (w.in_ok-split_by.ensures.marks ∙ rows);
             clear = rw w.marks-is w.in_ok-split_by.ensures.clear;
             partition = rw w.partition-is (subst (λ n. IsPartition n w.split_by.new.self) rows w.in_ok-split_by.ensures.partition);
-            classes = rw w.partition-is (split_are_classes g c.requires.graph c.requires.single c.args.before.now c.requires.steps c.loop-turn.partition.classes.items c.loop-turn.partition.members.items old.groups inv.classes
+            classes =
+                rw w.partition-is (split_are_classes g c.requires.graph c.requires.single c.args.before.now c.requires.steps c.loop-turn.partition.classes.items c.loop-turn.partition.members.items old.groups inv.classes
                 w.in-Some.class w.split_by.new.self.classes.items old.size new.size new.named w.in_ok-split_by.ensures.classes);
           }
       | in_default w ↦ record {
@@ -33,7 +34,9 @@ loop-turn-preserved c =
           rows = inv.partition.rows;
           waits = inv.partition.waits;
           met = inv.partition.met;
-          waiting = (AllByRecursion-append_parts (λ n. n < length c.nodes-size.result.now) c.pop.new.self.items _ (subst (AllByRecursion (λ n. n < length c.nodes-size.result.now)) w.in_default.ensures.items inv.partition.waiting)).0;
+          waiting =
+              (AllByRecursion-append_parts (λ n. n < length c.nodes-size.result.now) c.pop.new.self.items _
+              (subst (AllByRecursion (λ n. n < length c.nodes-size.result.now)) w.in_default.ensures.items inv.partition.waiting)).0;
           named = inv.partition.named;
           groups = inv.partition.groups;
         });

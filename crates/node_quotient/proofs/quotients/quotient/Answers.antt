@@ -10,9 +10,11 @@ use Rattle.node_quotient.proofs.quotients.quotient.Goals as goal
 
 pub least_joined-requires-clause-inside : goal.least_joined-requires-clause-inside
 least_joined-requires-clause-inside c =
-    subst (λ xs. AreInside xs (length c.args.graph.now.nodes)) (sym c.deref.ensures.value) (lists_inside c.in_ok-lists.lists.items (length c.args.graph.now.nodes) c.in_ok-lists.ensures.size c.in_ok-lists.ensures.lists)
+    subst (λ xs. AreInside xs (length c.args.graph.now.nodes)) (sym c.deref.ensures.value)
+    (lists_inside c.in_ok-lists.lists.items (length c.args.graph.now.nodes) c.in_ok-lists.ensures.size c.in_ok-lists.ensures.lists)
 
-led : (g : PlainGraph) (least : List ℕ) (nodes : List Node) (starts : List ℕ) (steps : List (ℕ × ℕ)) → nodes ≡ g.nodes → starts ≡ g.starts → steps ≡ map (λ (s : ℕ × ℕ). (s.0, class_in least s.1)) g.steps
+led : (g : PlainGraph) (least : List ℕ) (nodes : List Node) (starts : List ℕ) (steps : List (ℕ × ℕ)) → nodes ≡ g.nodes → starts ≡ g.starts
+    → steps ≡ map (λ (s : ℕ × ℕ). (s.0, class_in least s.1)) g.steps
     → ◌≡◌ {A = PlainGraph} (record { nodes = nodes; starts = starts; steps = steps }) (led_to (class_in least) g)
 led g least nodes starts steps a b d = λ i. record { nodes = a i; starts = b i; steps = d i }
 
@@ -26,7 +28,8 @@ new-led-requires c =
 pub returns : goal.returns
 returns c =
     let least = c.in_ok-least.least.items in
-    let led_is = led c.args.graph.now least _ _ _ (c.from_vec-nodes.ensures ∙ c.in_ok-from_slice.ensures.items ∙ c.nodes.ensures.nodes) (c.from_vec-starts.ensures ∙ c.in_ok-from_slice-2.ensures.items ∙ c.starts.ensures.starts)
+    let led_is = led c.args.graph.now least _ _ _ (c.from_vec-nodes.ensures ∙ c.in_ok-from_slice.ensures.items ∙ c.nodes.ensures.nodes)
+    (c.from_vec-starts.ensures ∙ c.in_ok-from_slice-2.ensures.items ∙ c.starts.ensures.starts)
     (c.in_ok-steps.ensures ∙ rw (c.deref-4.ensures.value, c.steps.ensures.steps) refl) in
     let size = c.in_ok-least.ensures.size in
     let value = c.deref-3.ensures.value in

@@ -37,6 +37,8 @@ loop-node-preserved c =
         stage = rw (w.founders-is, w.next-is, w.in_ok-push-in-None-2.ensures.items)
             (turn_founder c.args.lists.now c.args.least.now c.loop-node.node c.loop-node.founders.items c.loop-node.next.items c.loop-node.invariant.stage c.loop-node-test.true
             inside c.as_slice.result.now w.push-in-None.new.self c.first_alike.result list c.first_alike.ensures w.in-None.is
-            (w.in_ok-push-in-None.ensures.ok ∙ ap (λ (xs : List ℕ). xs ++ c.loop-node.node ∷ []) (w.index_mut.ensures.value ∙ got_list c.loop-node.founders.items (class_in c.args.least.now c.loop-node.node) _ (omega (arith, rows, inside)))));
+            (w.in_ok-push-in-None.ensures.ok
+            ∙ ap (λ (xs : List ℕ). xs ++ c.loop-node.node ∷ []) (w.index_mut.ensures.value
+            ∙ got_list c.loop-node.founders.items (class_in c.args.least.now c.loop-node.node) _ (omega (arith, rows, inside)))));
       }
     ]

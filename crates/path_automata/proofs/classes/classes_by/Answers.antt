@@ -20,8 +20,11 @@ loop-at-preserved c =
     record {
       len = omega (arith, ap length c.in_ok-push.ensures.items, length-append c.loop-at.classes.items (c.in_ok-class.class ∷ []));
       signed = λ x k g.
-          signed_more c.args.sets.now c.loop-at.classes.items (map (λ (v : Vec Bool Global). v.items) c.loop-at.signatures.keys) (map (λ (v : Vec Bool Global). v.items) keys) c.in_ok-class.class c.loop-at.invariant.signed
-          (get-grown _ _ c.in_ok-signature.signature.items (mapped-inserted (λ (v : Vec Bool Global). v.items) (λ (v w : Vec Bool Global). pointwise beq v.items w.items) c.loop-at.signatures.keys keys c.in_ok-signature.signature c.in_ok-class.ensures.keys))
+          signed_more c.args.sets.now c.loop-at.classes.items (map (λ (v : Vec Bool Global). v.items) c.loop-at.signatures.keys)
+          (map (λ (v : Vec Bool Global). v.items) keys) c.in_ok-class.class c.loop-at.invariant.signed
+          (get-grown _ _ c.in_ok-signature.signature.items (mapped-inserted (λ (v : Vec Bool Global). v.items)
+          (λ (v w : Vec Bool Global). pointwise beq v.items w.items) c.loop-at.signatures.keys keys c.in_ok-signature.signature
+          c.in_ok-class.ensures.keys))
           this x k (ap (λ l. slice_get l x) (sym c.in_ok-push.ensures.items) ∙ g);
     }
 

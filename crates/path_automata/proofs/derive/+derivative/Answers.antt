@@ -1,7 +1,6 @@
-use Rattle.std.proofs.Common.{◌≡◌, arith, ap, sym, ◌∙◌}
-use Rattle.path_terms.specs.Terms.{node}
+use Rattle.std.proofs.Common.{◌≡◌, arith, ap, sym, ◌∙◌, true, [], subst, length, map, ◌≤◌}
+use Rattle.path_terms.specs.Terms.{node, are_known, ascending, is_sound, at}
 use Rattle.path_terms.specs.Values.{values, value}
-use Rattle.std.proofs.Common.{true, [], subst}
 use Rattle.std.proofs.lemmas.Result.{IfOk-weaker}
 use Rattle.std.proofs.lemmas.List.{append-nil, length-append}
 use Rattle.path_exprs.specs.Membership.{member}
@@ -10,9 +9,7 @@ use Rattle.path_exprs.specs.Derivative.{derivative}
 use Rattle.path_exprs.proofs.Numbers.{at-extends, extends-trans, known-append, known-at, known-more, known-one, longer}
 use Rattle.path_automata.proofs.Entries.{derived_extends, classed-same, star-made, seq-front, seq-both, not-below, star-below, seq-below, classed-not, classed-star, classed-first, classed-second}
 use Rattle.path_automata.proofs.Lists.{either-made, both-made, classed-either, classed-both, classed-at, each-turn}
-use Rattle.std.proofs.Common.{length, map, ◌≤◌}
 use Rattle.std.proofs.lemmas.Bool.{and_parts}
-use Rattle.path_terms.specs.Terms.{are_known, ascending, is_sound, at}
 use Rattle.path_automata.specs.Classes.{AreSorted}
 use Rattle.path_automata.proofs.derive.+derivative.Goals as goal
 
@@ -24,7 +21,8 @@ made-derivative-requires t c =
         c.requires.derived,
         (
           omega (arith, lt, c.requires.known),
-          classed-not c.args.classes.now (value c.args.terms.now c.args.e) (value c.args.terms.now c.in-Not.a) (c.term.ensures.node ∙ ap (node (values c.args.terms.now)) c.in-Not.is) c.requires.classed,
+          classed-not c.args.classes.now (value c.args.terms.now c.args.e) (value c.args.terms.now c.in-Not.a)
+              (c.term.ensures.node ∙ ap (node (values c.args.terms.now)) c.in-Not.is) c.requires.classed,
         ),
       ),
     )
@@ -37,7 +35,8 @@ made-derivative-requires-in-Star t c =
         c.requires.derived,
         (
           omega (arith, lt, c.requires.known),
-          classed-star c.args.classes.now (value c.args.terms.now c.args.e) (value c.args.terms.now c.in-Star.a) (c.term.ensures.node ∙ ap (node (values c.args.terms.now)) c.in-Star.is) c.requires.classed,
+          classed-star c.args.classes.now (value c.args.terms.now c.args.e) (value c.args.terms.now c.in-Star.a)
+              (c.term.ensures.node ∙ ap (node (values c.args.terms.now)) c.in-Star.is) c.requires.classed,
         ),
       ),
     )
@@ -50,7 +49,8 @@ made-derivative-requires-in-Seq t c =
         c.requires.derived,
         (
           omega (arith, lt, c.requires.known),
-          classed-first c.args.classes.now (value c.args.terms.now c.args.e) (value c.args.terms.now c.in-Seq.a) (value c.args.terms.now c.in-Seq.b) (c.term.ensures.node ∙ ap (node (values c.args.terms.now)) c.in-Seq.is) c.requires.classed,
+          classed-first c.args.classes.now (value c.args.terms.now c.args.e) (value c.args.terms.now c.in-Seq.a) (value c.args.terms.now c.in-Seq.b)
+              (c.term.ensures.node ∙ ap (node (values c.args.terms.now)) c.in-Seq.is) c.requires.classed,
         ),
       ),
     )
@@ -73,7 +73,8 @@ made-derivative-requires-then-holds_empty t c =
         (
           longer old two c.in-Seq.b x known,
           classed-same c.args.classes.now (value c.args.terms.now c.in-Seq.b) (value c.front.new.terms c.in-Seq.b) (at-extends old two c.in-Seq.b x known)
-              (classed-second c.args.classes.now (value c.args.terms.now c.args.e) (value c.args.terms.now c.in-Seq.a) (value c.args.terms.now c.in-Seq.b) (c.term.ensures.node ∙ ap (node old) c.in-Seq.is) c.requires.classed),
+              (classed-second c.args.classes.now (value c.args.terms.now c.args.e) (value c.args.terms.now c.in-Seq.a)
+              (value c.args.terms.now c.in-Seq.b) (c.term.ensures.node ∙ ap (node old) c.in-Seq.is) c.requires.classed),
         ),
       ),
     )
@@ -101,7 +102,8 @@ made-returns-else-holds-clause-derived t c =
 
 pub made-returns-in_ok-back-in-Seq-clause-derived : goal.made-returns-in_ok-back-in-Seq-clause-derived
 made-returns-in_ok-back-in-Seq-clause-derived t c =
-    derived_extends c.args.classes.now (values c.derivative-then-holds_empty.new.terms) (values c.joined.new.terms) c.derivative-then-holds_empty.new.derived c.joined.ensures.extends c.derivative-then-holds_empty.ensures.derived
+    derived_extends c.args.classes.now (values c.derivative-then-holds_empty.new.terms) (values c.joined.new.terms)
+    c.derivative-then-holds_empty.new.derived c.joined.ensures.extends c.derivative-then-holds_empty.ensures.derived
 
 pub made-returns-in_ok-back-in-Seq-clause-made : goal.made-returns-in_ok-back-in-Seq-clause-made
 made-returns-in_ok-back-in-Seq-clause-made t c =
@@ -171,9 +173,11 @@ derivative_each-loop-i-preserved t c =
       derived = c.derivative.ensures.derived;
       extends = extends-trans old cur new c.loop-i.invariant.extends c.derivative.ensures.extends;
       made = ap (map (at new)) c.in_ok-push.ensures.items
-          ∙ each-turn old cur new c.loop-i.all.items c.args.numbers.now c.loop-i.i 0 _ c.args.at c.loop-i.invariant.extends c.derivative.ensures.extends c.loop-i.invariant.known lo c.loop-i-test.true c.loop-i.invariant.made c.in_ok-derivative.ensures.made;
+          ∙ each-turn old cur new c.loop-i.all.items c.args.numbers.now c.loop-i.i 0 _ c.args.at c.loop-i.invariant.extends
+          c.derivative.ensures.extends c.loop-i.invariant.known lo c.loop-i-test.true c.loop-i.invariant.made c.in_ok-derivative.ensures.made;
       known = subst (λ l. are_known (length new) l ≡ true) (sym c.in_ok-push.ensures.items)
-          (known-append (length new) c.loop-i.all.items _ (known-more (length cur) (length new) c.loop-i.all.items le c.loop-i.invariant.known) (known-one (length new) _ c.in_ok-derivative.ensures.known));
+          (known-append (length new) c.loop-i.all.items _ (known-more (length cur) (length new) c.loop-i.all.items le c.loop-i.invariant.known)
+          (known-one (length new) _ c.in_ok-derivative.ensures.known));
     }
 
 pub made-returns-in_ok-all-in-Either-clause-derived : goal.made-returns-in_ok-all-in-Either-clause-derived
@@ -182,7 +186,8 @@ made-returns-in_ok-all-in-Either-clause-derived t c =
 
 pub made-returns-in_ok-all-in-Both-clause-derived : goal.made-returns-in_ok-all-in-Both-clause-derived
 made-returns-in_ok-all-in-Both-clause-derived t c =
-    derived_extends c.args.classes.now (values c.derivative_each-in-Both.new.terms) (values c.both_of.new.terms) c.derivative_each-in-Both.new.derived c.both_of.ensures.extends c.derivative_each-in-Both.ensures.derived
+    derived_extends c.args.classes.now (values c.derivative_each-in-Both.new.terms) (values c.both_of.new.terms) c.derivative_each-in-Both.new.derived
+    c.both_of.ensures.extends c.derivative_each-in-Both.ensures.derived
 
 pub made-derivative_each-requires : goal.made-derivative_each-requires
 made-derivative_each-requires t c =

@@ -1,5 +1,5 @@
 use Rattle.std.proofs.Common.{◌≡◌, ◌+◌, [], drop, map}
-use Rattle.path_words.specs.Meaning.{place_of}
+use Rattle.policy_base.specs.Meaning.{place_of}
 use Rattle.path_exprs.specs.Membership.{member}
 use Rattle.path_exprs.specs.Runs.{first_with}
 use Rattle.path_terms.specs.Values.{value}

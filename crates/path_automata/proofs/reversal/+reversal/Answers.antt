@@ -24,7 +24,8 @@ starts-loop-i-preserved t c =
           ∙ start-turn c.args.full.now cur new c.loop-i.all.items c.args.es.now c.loop-i.i _ c.index-es-i.result x c.loop-i.invariant.known c.loop-i-test.true c.index-es-i.is c.loop-i.invariant.made
           (onto-nothing _ _ _ c.in_ok-reversed_onto.ensures.made c.loop-i.invariant.nothing);
       known = subst (λ l. are_known (length new) l ≡ true) (sym c.in_ok-push.ensures.items)
-          (known-append (length new) c.loop-i.all.items _ (known-more (length cur) (length new) c.loop-i.all.items le c.loop-i.invariant.known) (known-one (length new) _ c.in_ok-reversed_onto.ensures.known));
+          (known-append (length new) c.loop-i.all.items _ (known-more (length cur) (length new) c.loop-i.all.items le c.loop-i.invariant.known)
+          (known-one (length new) _ c.in_ok-reversed_onto.ensures.known));
       len = omega (arith, c.in_ok-push.ensures.len, c.loop-i.invariant.len);
       extends = extends-trans (values c.args.terms.now) cur new c.loop-i.invariant.extends x;
       here = longer cur new c.in_ok-empty.empty x here;
@@ -54,7 +55,8 @@ reversed_onto-returns-in_ok-first-in-Either-clause-made t c =
     let two = values c.either_of.new.terms in
     let x = extends-trans old one two c.starts.ensures.extends c.either_of.ensures.extends in
     let is = ap view c.in-Either.is ∙ view-Either c.in-Either.es in
-    let members = ap (map (at one)) c.deref-in-Either-2.ensures.value ∙ c.in_ok-members-in-Either.ensures.made ∙ ap (λ l. start_of full (views l)) c.deref-in-Either.ensures.value ∙ start-each full (views c.in-Either.es.items) in
+    let members = ap (map (at one)) c.deref-in-Either-2.ensures.value ∙ c.in_ok-members-in-Either.ensures.made
+    ∙ ap (λ l. start_of full (views l)) c.deref-in-Either.ensures.value ∙ start-each full (views c.in-Either.es.items) in
     let first = c.in_ok-first-in-Either.ensures.made ∙ ap either_of members ∙ sym (ap (λ e. normal full (reversed e)) is) in
     IfOk-weaker c.seq_of-in-Either.result _ _
     (λ n q. q ∙ ap (λ e. seq_of e (at two c.args.tail)) first ∙ ap (seq_of (normal full (reversed (view c.args.e.now)))) (at-extends old two c.args.tail x c.requires.tail))
@@ -68,7 +70,8 @@ reversed_onto-returns-in_ok-first-in-Both-clause-made t c =
     let two = values c.both_of.new.terms in
     let x = extends-trans old one two c.starts-in-Both.ensures.extends c.both_of.ensures.extends in
     let is = ap view c.in-Both.is ∙ view-Both c.in-Both.es in
-    let members = ap (map (at one)) c.deref-in-Both-2.ensures.value ∙ c.in_ok-members-in-Both.ensures.made ∙ ap (λ l. start_of full (views l)) c.deref-in-Both.ensures.value ∙ start-each full (views c.in-Both.es.items) in
+    let members = ap (map (at one)) c.deref-in-Both-2.ensures.value ∙ c.in_ok-members-in-Both.ensures.made
+    ∙ ap (λ l. start_of full (views l)) c.deref-in-Both.ensures.value ∙ start-each full (views c.in-Both.es.items) in
     let first = c.in_ok-first-in-Both.ensures.made ∙ ap both_of members ∙ sym (ap (λ e. normal full (reversed e)) is) in
     IfOk-weaker c.seq_of-in-Both.result _ _
     (λ n q. q ∙ ap (λ e. seq_of e (at two c.args.tail)) first ∙ ap (seq_of (normal full (reversed (view c.args.e.now)))) (at-extends old two c.args.tail x c.requires.tail))

@@ -29,8 +29,10 @@ loop-i-preserved c =
       derived = c.derivative.ensures.derived;
       extends = extends-trans old cur new c.loop-i.invariant.extends c.derivative.ensures.extends;
       made = ap (map (at new)) c.in_ok-push.ensures.items
-          ∙ each-turn old cur new c.loop-i.all.items c.args.numbers.now c.loop-i.i 0 _ c.args.at c.loop-i.invariant.extends c.derivative.ensures.extends c.loop-i.invariant.known lo c.loop-i-test.true c.loop-i.invariant.made c.in_ok-derivative.ensures.made;
+          ∙ each-turn old cur new c.loop-i.all.items c.args.numbers.now c.loop-i.i 0 _ c.args.at c.loop-i.invariant.extends
+          c.derivative.ensures.extends c.loop-i.invariant.known lo c.loop-i-test.true c.loop-i.invariant.made c.in_ok-derivative.ensures.made;
       known = subst (λ l. are_known (length new) l ≡ true) (sym c.in_ok-push.ensures.items)
-          (known-append (length new) c.loop-i.all.items _ (known-more (length cur) (length new) c.loop-i.all.items le c.loop-i.invariant.known) (known-one (length new) _ c.in_ok-derivative.ensures.known));
+          (known-append (length new) c.loop-i.all.items _ (known-more (length cur) (length new) c.loop-i.all.items le c.loop-i.invariant.known)
+          (known-one (length new) _ c.in_ok-derivative.ensures.known));
       len = omega (arith, c.in_ok-push.ensures.len, c.loop-i.invariant.len);
     }

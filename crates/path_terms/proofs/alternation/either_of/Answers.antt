@@ -22,7 +22,9 @@ returns-then-is_all_among-clause-made c =
     let vs = values c.args.terms.now in
     let ns = c.settle.new.numbers.items in
     let there = ap (λ l. list_any is_all (map (at vs) l)) (sym c.deref.ensures.value) ∙ sym c.is_all_among.ensures ∙ c.if-is_all_among.true in
-    IfOk-weaker c.everything.result _ _ (λ n e. e ∙ joined-absorbed either_parts either_from all is_all vs c.in_ok-all.all.items ns c.args.members.now c.settle.ensures c.in_ok-all.ensures.same there) c.everything.ensures.made
+    IfOk-weaker c.everything.result _ _ (λ n e. e
+    ∙ joined-absorbed either_parts either_from all is_all vs c.in_ok-all.all.items ns c.args.members.now c.settle.ensures
+    c.in_ok-all.ensures.same there) c.everything.ensures.made
 
 pub intern-requires-in_default : goal.intern-requires-in_default
 intern-requires-in_default c =
@@ -37,7 +39,9 @@ returns-in-empty-clause-made c =
     let ns = c.settle.new.numbers.items in
     let there = ap (λ l. list_any is_all (map (at vs) l)) (sym c.deref.ensures.value) ∙ sym c.is_all_among.ensures ∙ c.if-is_all_among.false in
     let few = subst (λ l. length l < 1) c.as_slice.ensures.value c.in-empty.len_below in
-    IfOk-weaker c.intern.result _ _ (λ n e. e ∙ made-none either_from vs ns few ∙ joined-made either_parts either_from all is_all vs c.in_ok-all.all.items ns c.args.members.now c.settle.ensures c.in_ok-all.ensures.same there) c.intern.ensures.made
+    IfOk-weaker c.intern.result _ _ (λ n e. e ∙ made-none either_from vs ns few
+    ∙ joined-made either_parts either_from all is_all vs c.in_ok-all.all.items ns c.args.members.now c.settle.ensures c.in_ok-all.ensures.same
+    there) c.intern.ensures.made
 
 pub returns-in-len1-clause-made : goal.returns-in-len1-clause-made
 returns-in-len1-clause-made c =
@@ -46,7 +50,9 @@ returns-in-len1-clause-made c =
     let there = ap (λ l. list_any is_all (map (at vs) l)) (sym c.deref.ensures.value) ∙ sym c.is_all_among.ensures ∙ c.if-is_all_among.false in
     let some = subst (λ l. 1 ≤ length l) c.as_slice.ensures.value c.in-len1.len_at_least in
     let few = subst (λ l. length l < 2) c.as_slice.ensures.value c.in-len1.len_below in
-    ap (λ l. at vs (slice_index_or l 0 0)) c.as_slice.ensures.value ∙ made-one either_from (λ e. refl) vs ns some few ∙ joined-made either_parts either_from all is_all vs c.in_ok-all.all.items ns c.args.members.now c.settle.ensures c.in_ok-all.ensures.same there
+    ap (λ l. at vs (slice_index_or l 0 0)) c.as_slice.ensures.value ∙ made-one either_from (λ e. refl) vs ns some few
+    ∙ joined-made either_parts either_from all is_all vs c.in_ok-all.all.items ns c.args.members.now c.settle.ensures c.in_ok-all.ensures.same
+    there
 
 pub returns-in-len1-clause-known : goal.returns-in-len1-clause-known
 returns-in-len1-clause-known c =
@@ -64,5 +70,7 @@ returns-in_default-clause-made c =
     let many = subst (λ l. 2 ≤ length l) c.as_slice.ensures.value c.in_default.len_at_least in
     let known = known-settled (length vs) c.in_ok-all.all.items ns c.settle.ensures c.in_ok-all.ensures.known in
     IfOk-weaker c.intern-in_default.result _ _
-    (λ n e. e ∙ made-more either_from either (λ e f es. refl) vs ns c.args.terms.now.apart many known c.settle.ensures.0 ∙ joined-made either_parts either_from all is_all vs c.in_ok-all.all.items ns c.args.members.now c.settle.ensures c.in_ok-all.ensures.same there)
+    (λ n e. e ∙ made-more either_from either (λ e f es. refl) vs ns c.args.terms.now.apart many known c.settle.ensures.0
+    ∙ joined-made either_parts either_from all is_all vs c.in_ok-all.all.items ns c.args.members.now c.settle.ensures c.in_ok-all.ensures.same
+    there)
     c.intern-in_default.ensures.made

@@ -4,7 +4,7 @@ use Rattle.std.specs.Option.{option_map}
 use Rattle.std.proofs.lemmas.List.{length-map}
 use Rattle.std.proofs.lemmas.Option.{slice_get-get_or, slice_get-map}
 use Rattle.net_base.specs.Prefixes.{PlainPattern}
-use Rattle.path_words.specs.Policies.{plain_statement}
+use Rattle.policy_base.specs.Policies.{plain_statement}
 use Rattle.pattern_cover.specs.Covered.{AreCovered}
 use Rattle.pattern_cover.specs.Statements.{patterns_before}
 use Rattle.pattern_cover.specs.Tables.{Holds}
@@ -22,7 +22,8 @@ loop-statement-preserved c =
     ∙ ap (option_map plain_statement) (slice_get-get_or c.args.statements.now i item c.loop-statement-test.true ∙ ap Some (sym c.statement-item.is)) in
     let patterns : c.as_slice.result.now ≡ item.patterns = c.as_slice.ensures in
     let held = c.in_ok-is_covered.ensures.held (patterns_before ss i) before.held in
-    let told = subst (λ (ps : List PlainPattern). IsTrue c.in_ok-is_covered.is_covered ↔ AreCovered (patterns_before ss i) ps) patterns (c.in_ok-is_covered.ensures.covered (patterns_before ss i) before.held) in
+    let told = subst (λ (ps : List PlainPattern). IsTrue c.in_ok-is_covered.is_covered ↔ AreCovered (patterns_before ss i) ps) patterns
+    (c.in_ok-is_covered.ensures.covered (patterns_before ss i) before.held) in
     record {
       held = subst (Holds c.take_in.new.self) (ap (λ (ps : List PlainPattern). patterns_before ss i ++ ps) patterns ∙ sym (before_more ss i (plain_statement item) at)) held;
       marks = marked_more ss i (plain_statement item) c.loop-statement.marks.items c.push.new.self.items c.in_ok-is_covered.is_covered at told c.in_ok-push.ensures.items before.marks;

@@ -1,5 +1,5 @@
 use Rattle.std.proofs.Common.{map}
-use Rattle.path_words.specs.Policies.{plain_statement}
+use Rattle.policy_base.specs.Policies.{plain_statement}
 use Rattle.pattern_cover.specs.Statements.{patterns_before}
 use Rattle.pattern_cover.specs.Tables.{Holds}
 use Rattle.pattern_cover.proofs.Covering.{AreMarkedTo}

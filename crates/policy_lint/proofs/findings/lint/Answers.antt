@@ -5,18 +5,18 @@ use Rattle.pattern_cover.specs.Statements.{AreMarked}
 use Rattle.policy_lint.specs.Groups.{group_names, is_unused}
 use Rattle.policy_lint.specs.declared.finding.Finding.TheVariants.{UnusedGroup}
 use Rattle.std.specs.List.{list_any}
-use Rattle.net_base.specs.declared.limits.TheConstants.{ALTERNATIVES}
+use Rattle.policy_base.specs.declared.limits.TheConstants.{ALTERNATIVES}
 use Rattle.net_base.specs.Network.{PlainNet}
-use Rattle.path_words.specs.Cases.{case_list}
-use Rattle.path_words.specs.Meaning.{alternative_count}
+use Rattle.policy_base.specs.Cases.{case_list}
+use Rattle.policy_base.specs.Meaning.{alternative_count}
 use Rattle.case_ranks.specs.Limits.{AreAllWithin}
 use Rattle.policy_lint.specs.Told.{marked, told_covered, told_from, told_idle}
 use Rattle.policy_lint.proofs.Idles.{has_case}
 use Rattle.std.proofs.lemmas.List.{length-map}
 use Rattle.config_made.proofs.CaseClasses.{case_lists}
-use Rattle.path_words.specs.declared.case.Case.{Case}
-use Rattle.path_words.specs.Policies.{PlainPolicy, PlainStatement, plain_statement, policy_of}
-use Rattle.policy_law.proofs.ReadPolicies.{read_policies_fit}
+use Rattle.policy_base.specs.declared.case.Case.{Case}
+use Rattle.policy_base.specs.Policies.{PlainPolicy, PlainStatement, plain_statement, policy_of}
+use Rattle.policy_parser.proofs.FittingPolicies.{read_policies_fit}
 use Rattle.policy_lint.proofs.Texts.{tokens_spelled}
 use Rattle.policy_lint.proofs.Whole.{all_are, few_where_marked}
 use Rattle.policy_lint.proofs.findings.lint.Goals as goal

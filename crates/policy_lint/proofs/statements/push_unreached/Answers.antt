@@ -2,10 +2,10 @@ use Rattle.std.proofs.Common.{◌≡◌, ◌+◌, ◌++◌, ◌≤◌, [], List,
 use Rattle.std.specs.Prelude.{slice_get, if◌then◌else◌}
 use Rattle.std.specs.Option.{option_map}
 use Rattle.std.proofs.lemmas.Option.{slice_get-get_or, slice_get-map}
-use Rattle.net_base.specs.declared.limits.TheConstants.{ALTERNATIVES}
-use Rattle.path_words.specs.declared.policy.Statement.{Statement}
-use Rattle.path_words.specs.Meaning.{alternative_count}
-use Rattle.path_words.specs.Policies.{plain_statement, ranking_of}
+use Rattle.policy_base.specs.declared.limits.TheConstants.{ALTERNATIVES}
+use Rattle.policy_base.specs.declared.policy.Statement.{Statement}
+use Rattle.policy_base.specs.Meaning.{alternative_count}
+use Rattle.policy_base.specs.Policies.{plain_statement, ranking_of}
 use Rattle.policy_lint.specs.Told.{marked, told_from, told_unreached}
 use Rattle.policy_lint.proofs.Telling.{told_step}
 use Rattle.policy_lint.proofs.statements.push_unreached.Goals as goal

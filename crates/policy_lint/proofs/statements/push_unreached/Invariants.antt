@@ -1,5 +1,5 @@
 use Rattle.std.proofs.Common.{◌≡◌, ◌+◌, ◌++◌, drop, map}
-use Rattle.path_words.specs.Policies.{plain_statement}
+use Rattle.policy_base.specs.Policies.{plain_statement}
 use Rattle.policy_lint.specs.Told.{told_from}
 use Rattle.policy_lint.proofs.statements.push_unreached.Given as goal
 

@@ -1,7 +1,7 @@
 use Rattle.std.proofs.Common.{◌≡◌, ℕ, ◌+◌, ◌≤◌, length, take}
 use Rattle.std.specs.Prelude.{◌==◌}
 use Rattle.std.specs.List.{list_any}
-use Rattle.path_words.specs.declared.case.Case.{Case}
+use Rattle.policy_base.specs.declared.case.Case.{Case}
 use Rattle.policy_lint.specs.Told.{marked}
 use Rattle.policy_lint.proofs.statements.statements_with_cases.Given as goal
 

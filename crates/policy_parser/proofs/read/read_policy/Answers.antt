@@ -1,5 +1,5 @@
 use Rattle.std.proofs.lemmas.Result.{err_from_is_err_and}
-use Rattle.path_words.specs.Policies.{policy_of}
+use Rattle.policy_base.specs.Policies.{policy_of}
 use Rattle.policy_parser.proofs.TakenTexts.{unread}
 use Rattle.policy_parser.proofs.ToldFaults.{spelled-IsAtMostDeep}
 use Rattle.policy_parser.proofs.read.read_policy.Goals as goal

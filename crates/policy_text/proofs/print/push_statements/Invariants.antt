@@ -1,7 +1,7 @@
 use Rattle.std.proofs.Common.{◌≡◌, ◌++◌, take}
 use Rattle.std.specs.Prelude.{map}
 use Rattle.std.specs.List.{flat_map}
-use Rattle.path_words.specs.Policies.{plain_statement}
+use Rattle.policy_base.specs.Policies.{plain_statement}
 use Rattle.policy_text.specs.PolicyText.{statement_line}
 use Rattle.policy_text.proofs.print.push_statements.Given as goal
 

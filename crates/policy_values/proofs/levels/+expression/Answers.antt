@@ -4,7 +4,7 @@ use Rattle.policy_grammar.specs.declared.symbol.Symbol.TheVariants.{And, Or, Abo
 use Rattle.policy_grammar.specs.Raw.{Step as step}
 use Rattle.policy_grammar.specs.Left.{left}
 use Rattle.policy_grammar.specs.Ranked.{Ranked, Choice, Joint}
-use Rattle.path_words.specs.Policies.{prefer}
+use Rattle.policy_base.specs.Policies.{prefer}
 use Rattle.policy_rules.specs.KnownView.{plain_names}
 use Rattle.policy_values.specs.Levels.{unit_at, joint_at, choice_at, side_link}
 use Rattle.policy_values.specs.Parts.{parts_value, sides_onto, step_onto}

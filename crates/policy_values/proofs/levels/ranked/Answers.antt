@@ -1,5 +1,5 @@
 use Rattle.std.proofs.lemmas.Result.{err_from_is_err_and}
-use Rattle.net_base.specs.declared.limits.TheConstants.{BRACKETS}
+use Rattle.policy_tokens.specs.declared.limits.TheConstants.{BRACKETS}
 use Rattle.policy_grammar.specs.Left.{left}
 use Rattle.policy_rules.specs.KnownView.{plain_names}
 use Rattle.policy_values.specs.Parts.{parts_value}

@@ -18,13 +18,23 @@ loop-p-preserved c =
           let size = w.set.ensures.size in
           let one : 0 < old.count = omega (arith, inv.size.count, c.in_ok-firsts.ensures.count) in
           record {
-            size = record { count = ap (λ (z : PlainRows). z.count) w.firsts-is ∙ size.count ∙ inv.size.count; bits = ap (λ (z : PlainRows). z.bits) w.firsts-is ∙ size.bits ∙ inv.size.bits; width = ap (λ (z : PlainRows). z.width) w.firsts-is ∙ size.width ∙ inv.size.width };
+            size =
+                record {
+                  count = ap (λ (z : PlainRows). z.count) w.firsts-is ∙ size.count ∙ inv.size.count;
+                  bits = ap (λ (z : PlainRows). z.bits) w.firsts-is ∙ size.bits ∙ inv.size.bits;
+                  width = ap (λ (z : PlainRows). z.width) w.firsts-is ∙ size.width ∙ inv.size.width;
+                };
             each = λ q. first_more first q p (has_at old 0 q) (has_at c.if-branch.firsts 0 q) (inv.each q) is (ap (λ (z : PlainRows). has_at z 0 q) w.firsts-is ∙ w.set.ensures.bits 0 q one);
           })
       | else-branch w ↦ (
           let is : first p ≡ false = sym c.in_ok-is_first_of_class.ensures ∙ w.if-branch.false in
           record {
-            size = record { count = ap (λ (z : PlainRows). z.count) w.firsts-is ∙ inv.size.count; bits = ap (λ (z : PlainRows). z.bits) w.firsts-is ∙ inv.size.bits; width = ap (λ (z : PlainRows). z.width) w.firsts-is ∙ inv.size.width };
+            size =
+                record {
+                  count = ap (λ (z : PlainRows). z.count) w.firsts-is ∙ inv.size.count;
+                  bits = ap (λ (z : PlainRows). z.bits) w.firsts-is ∙ inv.size.bits;
+                  width = ap (λ (z : PlainRows). z.width) w.firsts-is ∙ inv.size.width;
+                };
             each = λ q. ap (λ (z : PlainRows). has_at z 0 q) w.firsts-is ∙ other_more first q p (has_at old 0 q) (inv.each q) is;
           })
     ]

@@ -34,7 +34,8 @@ count_outside-requires-clause-few c = let one = c.row-first.ensures in omega (ar
 
 -- what is counted, as the rows of the tables say it
 counted : (firsts located left : PlainRows) (place m size : ℕ) (first here above : List ℕ) → first ≡ row_of firsts 0 → here ≡ row_of located place → above ≡ row_of left m →
-    count_by (λ k. has_bit first k && (has_bit here k && not (has_bit above k))) (range_with_len 0 size) ≡ count_by (λ k. has_at firsts 0 k && (has_at located place k && not (has_at left m k))) (range_with_len 0 size)
+    count_by (λ k. has_bit first k && (has_bit here k && not (has_bit above k))) (range_with_len 0 size)
+    ≡ count_by (λ k. has_at firsts 0 k && (has_at located place k && not (has_at left m k))) (range_with_len 0 size)
 counted firsts located left place m size first here above e f g =
     ap (λ (l : List ℕ). count_by (λ k. has_bit l k && (has_bit here k && not (has_bit above k))) (range_with_len 0 size)) e
     ∙ ap (λ (l : List ℕ). count_by (λ k. has_at firsts 0 k && (has_bit l k && not (has_bit above k))) (range_with_len 0 size)) f
@@ -52,7 +53,8 @@ overflow_add-result c =
     let above : c.row-above.result.now ≡ row_of r.rows node = c.row-above.ensures.words ∙ ap (λ (z : PlainRows). row_of z node) c.rows.ensures.rows in
     let words : ℕ = length c.row-first.result.now in
     let total = counted firsts located r.rows (place_of g node) node (64 * words) c.row-first.result.now c.row-here.result.now c.row-above.result.now one.words here above in
-    let nodes = number_in_words g r firsts located c.requires.relation c.requires.total c.requires.firsts c.requires.located node c.requires.node words (omega (arith, one.width, one.table.room, c.requires.firsts.bits)) in
+    let nodes = number_in_words g r firsts located c.requires.relation c.requires.total c.requires.firsts c.requires.located node c.requires.node
+    words (omega (arith, one.width, one.table.room, c.requires.firsts.bits)) in
     let most = count_within (λ k. has_at firsts 0 k && (has_at located (place_of g node) k && not (has_at r.rows node k))) 0 (length g.nodes) in
     let few : length g.nodes ≤ 4294967000 = omega (arith, one.table.few, c.requires.firsts.bits) in
     record { fits = omega (arith, c.count_outside.ensures, total, nodes, most, few) }
@@ -72,6 +74,7 @@ returns c =
     let words : ℕ = length c.row-first.result.now in
     ap (λ (z : ℕ). 100 + z)
     (c.count_outside.ensures ∙ counted firsts located r.rows (place_of g node) node (64 * words) c.row-first.result.now c.row-here.result.now c.row-above.result.now one.words here above
-    ∙ number_in_words g r firsts located c.requires.relation c.requires.total c.requires.firsts c.requires.located node c.requires.node words (omega (arith, one.width, one.table.room, c.requires.firsts.bits)))
+    ∙ number_in_words g r firsts located c.requires.relation c.requires.total c.requires.firsts c.requires.located node c.requires.node words
+    (omega (arith, one.width, one.table.room, c.requires.firsts.bits)))
     ∙ number_in_rows g r firsts located c.requires.relation c.requires.total c.requires.firsts c.requires.located node c.requires.node
     ∙ sym (cond-true (is_router net (place_of g node)) (number_of (length g.nodes) (has r) node) 0 router)

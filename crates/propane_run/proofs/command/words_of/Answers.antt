@@ -1,17 +1,24 @@
 use Rattle.std.proofs.Common.{◌≡◌, ◌∙◌, Global, List, ap, ap₂, arith, length, map, string_bytes, sym, ℕ}
 use Rattle.std.proofs.lemmas.Bool.{ltb-true, ltb-false}
 use Rattle.std.proofs.lemmas.List.{length-map}
-use Rattle.propane_run.specs.Words.{with_four_names, with_one_word, with_six_names, with_three_words, with_two_names}
-use Rattle.propane_run.proofs.Wording.{few_words, five_words, four_words, many_words, seven_words, six_words, three_words, two_words, word_read}
+use Rattle.propane_run.specs.Words.{word_alone, with_four_names, with_one_word, with_six_names, with_three_words, with_two_names}
+use Rattle.propane_run.proofs.Wording.{five_words, four_words, many_words, no_words, one_word, seven_words, six_words, three_words, two_words, word_read}
 use Rattle.propane_run.proofs.command.words_of.Goals as goal
-use Rattle.propane_run.proofs.command.words_of.Goals.{in_default-via-then-words-lt2, in_default-via-else-words-lt2+else-words-lt3+else-words-lt4+else-words-lt5+else-words-lt6+then-words-lt7, in_default-via-else-words-lt2+else-words-lt3+else-words-lt4+else-words-lt5+else-words-lt6+else-words-lt7+else-words-lt8}
+use Rattle.propane_run.proofs.command.words_of.Goals.{in_default-via-then-words-lt1, in_default-via-else-words-lt1+else-words-lt2+else-words-lt3+else-words-lt4+else-words-lt5+else-words-lt6+then-words-lt7, in_default-via-else-words-lt1+else-words-lt2+else-words-lt3+else-words-lt4+else-words-lt5+else-words-lt6+else-words-lt7+else-words-lt8}
+
+pub returns-in-len1-clause-is : goal.returns-in-len1-clause-is
+returns-in-len1-clause-is c =
+    let bytes : List (List ℕ) = map (string_bytes {Z = Global}) c.args.words.now in
+    let one : length bytes ≡ 1 = omega (arith, length-map c.args.words.now (string_bytes {Z = Global}), c.in-len1.len_at_least, c.in-len1.len_below) in
+    let word = word_read (string_bytes {Z = Global}) c.args.words.now 0 c.word-item.result c.as_str.result.now (omega (arith, c.in-len1.len_at_least)) c.word-item.is c.as_str.ensures.value in
+    c.of_word_alone.ensures.is ∙ ap word_alone word ∙ sym (one_word bytes one)
 
 pub returns-in-len2-clause-is : goal.returns-in-len2-clause-is
 returns-in-len2-clause-is c =
     let bytes : List (List ℕ) = map (string_bytes {Z = Global}) c.args.words.now in
     let two : length bytes ≡ 2 = omega (arith, length-map c.args.words.now (string_bytes {Z = Global}), c.in-len2.len_at_least, c.in-len2.len_below) in
-    let word = word_read (string_bytes {Z = Global}) c.args.words.now 0 c.word-item.result c.as_str.result.now (omega (arith, c.in-len2.len_at_least)) c.word-item.is c.as_str.ensures.value in
-    let next = word_read (string_bytes {Z = Global}) c.args.words.now 1 c.next-item.result c.as_str-in-len2.result.now (omega (arith, c.in-len2.len_at_least)) c.next-item.is c.as_str-in-len2.ensures.value in
+    let word = word_read (string_bytes {Z = Global}) c.args.words.now 0 c.word-item-then-words-lt3.result c.as_str-in-len2.result.now (omega (arith, c.in-len2.len_at_least)) c.word-item-then-words-lt3.is c.as_str-in-len2.ensures.value in
+    let next = word_read (string_bytes {Z = Global}) c.args.words.now 1 c.next-item.result c.as_str-in-len2-2.result.now (omega (arith, c.in-len2.len_at_least)) c.next-item.is c.as_str-in-len2-2.ensures.value in
     c.of_one_word.ensures.is ∙ ap₂ with_one_word word next ∙ sym (two_words bytes two)
 
 pub returns-in-len3-clause-is : goal.returns-in-len3-clause-is
@@ -47,7 +54,7 @@ pub returns-in_default-clause-is : goal.returns-in_default-clause-is
 returns-in_default-clause-is c =
     let ws = c.args.words.now in
     elim c.in_default.branch [
-      | in_default-via-then-words-lt2 w ↦ few_words (string_bytes {Z = Global}) ws (ltb-true (length ws) 2 w.if-words-lt2-1.true)
-      | in_default-via-else-words-lt2+else-words-lt3+else-words-lt4+else-words-lt5+else-words-lt6+then-words-lt7 w ↦ six_words (string_bytes {Z = Global}) ws (ltb-false (length ws) 6 w.if-words-lt6-1.false) (ltb-true (length ws) 7 w.if-words-lt7-1.true)
-      | in_default-via-else-words-lt2+else-words-lt3+else-words-lt4+else-words-lt5+else-words-lt6+else-words-lt7+else-words-lt8 w ↦ many_words (string_bytes {Z = Global}) ws (ltb-false (length ws) 8 w.if-words-lt8-1.false)
+      | in_default-via-then-words-lt1 w ↦ no_words (string_bytes {Z = Global}) ws (ltb-true (length ws) 1 w.if-words-lt1-1.true)
+      | in_default-via-else-words-lt1+else-words-lt2+else-words-lt3+else-words-lt4+else-words-lt5+else-words-lt6+then-words-lt7 w ↦ six_words (string_bytes {Z = Global}) ws (ltb-false (length ws) 6 w.if-words-lt6-1.false) (ltb-true (length ws) 7 w.if-words-lt7-1.true)
+      | in_default-via-else-words-lt1+else-words-lt2+else-words-lt3+else-words-lt4+else-words-lt5+else-words-lt6+else-words-lt7+else-words-lt8 w ↦ many_words (string_bytes {Z = Global}) ws (ltb-false (length ws) 8 w.if-words-lt8-1.false)
     ]

@@ -7,7 +7,9 @@ use Rattle.reach_prune.proofs.Renumbering.{graph_kept_is_graph, graph_kept_of}
 use Rattle.reach_prune.proofs.trimming.kept.Goals as goal
 use Rattle.reach_prune.proofs.trimming.kept.Goals.{In_ok-steps}
 
-kept_graph : (c : In_ok-steps) → ◌≡◌ {A = PlainGraph} (graph_kept (is_marked c.args.marks.now) c.args.graph.now) (record { nodes = c.in_ok-nodes.nodes; starts = c.in_ok-starts.starts; steps = c.in_ok-steps.steps })
+kept_graph : (c : In_ok-steps)
+    → ◌≡◌ {A = PlainGraph} (graph_kept (is_marked c.args.marks.now) c.args.graph.now)
+    (record { nodes = c.in_ok-nodes.nodes; starts = c.in_ok-starts.starts; steps = c.in_ok-steps.steps })
 kept_graph c =
     let g = c.args.graph.now in
     let keep = is_marked c.args.marks.now in

@@ -24,7 +24,9 @@ loop-node-preserved c =
     record {
       len = ap length pushed ∙ length_push c.loop-node.bases.items c.loop-node.end ∙ ap (λ z. z + 1) inv.len;
       most = omega (arith, inv.most, room, most, c.nodes.ensures.rules.count);
-      rooms = rooms_more (λ n. room_at g (place_of g n)) c.loop-node.bases.items c.push.new.self.items node c.loop-node.end (c.loop-node.end + get_or c.args.counts.now at 0) inv.len pushed step inv.rooms;
+      rooms =
+          rooms_more (λ n. room_at g (place_of g n)) c.loop-node.bases.items c.push.new.self.items node c.loop-node.end
+          (c.loop-node.end + get_or c.args.counts.now at 0) inv.len pushed step inv.rooms;
       blocks = blocks_more (λ n. room_at g (place_of g n)) c.loop-node.bases.items c.push.new.self.items node c.loop-node.end inv.len pushed inv.rooms inv.blocks;
     }
 
@@ -35,7 +37,9 @@ returns-clause-cells c =
     let made : Cells = record { spots = c.args.spots; bases = c.loop-node.bases; rounds = c.in_ok-rounds.rounds } in
     let all : c.loop-node.node ≡ length g.nodes = omega (arith, c.loop-node-test.false, c.loop-node.auto.node-end, ap length c.nodes.ensures.nodes) in
     let rooms : (n : ℕ) → n < length g.nodes → get_or c.loop-node.bases.items n 0 + room_at g (place_of g n) ≤ c.loop-node.end = λ n lt. inv.rooms n (omega (arith, lt, all)) in
-    let blocks : (a b : ℕ) → a < b → b < length g.nodes → get_or c.loop-node.bases.items a 0 + room_at g (place_of g a) ≤ get_or c.loop-node.bases.items b 0 = λ a b less lt. inv.blocks a b less (omega (arith, lt, all)) in
+    let blocks : (a b : ℕ) → a < b → b < length g.nodes
+    → get_or c.loop-node.bases.items a 0 + room_at g (place_of g a) ≤ get_or c.loop-node.bases.items b 0 =
+    λ a b less lt. inv.blocks a b less (omega (arith, lt, all)) in
     let len : length c.in_ok-rounds.rounds.items ≡ c.loop-node.end = search rules in
     record {
       spots = c.requires.len;

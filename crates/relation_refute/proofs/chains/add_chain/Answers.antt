@@ -20,7 +20,8 @@ use Rattle.relation_refute.proofs.chains.add_chain.Goals as goal
 
 pub chain-init : goal.chain-init
 chain-init c =
-    linked_first c.args.maps.now.graph.now c.args.claimed.now c.requires.graph c.requires.single c.args.fallen.now c.requires.fallen c.args.m c.args.n c.args.lines.now.items c.requires.pair (ltb-true _ _ c.requires.went)
+    linked_first c.args.maps.now.graph.now c.args.claimed.now c.requires.graph c.requires.single c.args.fallen.now c.requires.fallen c.args.m c.args.n
+    c.args.lines.now.items c.requires.pair (ltb-true _ _ c.requires.went)
 
 pub round-round-requires-clause-m : goal.round-round-requires-clause-m
 round-round-requires-clause-m c = let x = c.chain.invariant.onward (c.in-Some.better, c.in-Some.worse) c.in-Some.is in let left = x.0.left in omega (arith, left, c.requires.fallen.cells.spots)
@@ -51,7 +52,8 @@ fault_of-fault-requires-clause-fails c =
     let x = c.chain.invariant.onward (c.in-Some.better, c.in-Some.worse) c.in-Some.is in
     let is = c.round-round.ensures in
     let over = x.1 in
-    fails_told c.args.maps.now.graph.now c.args.claimed.now c.requires.graph c.requires.single c.args.fallen.now c.requires.fallen c.round-round.result c.in-Some.better c.in-Some.worse x.0 (omega (arith, is, over)) is
+    fails_told c.args.maps.now.graph.now c.args.claimed.now c.requires.graph c.requires.single c.args.fallen.now c.requires.fallen
+    c.round-round.result c.in-Some.better c.in-Some.worse x.0 (omega (arith, is, over)) is
 
 -- the reason for which the next pair goes, and on what it rests
 module _ (g : PlainGraph) (claimed : LocSet) (f : Fallen) where
@@ -70,7 +72,8 @@ chain-smaller c =
     let over = x.1 in
     let fault : Fault = c.fault_of-fault.result in
     let goes : Goes (view_of g claimed) (has_at f.onwards) a b (round_in f.cells a b) fault.why =
-    subst (λ r. Goes (view_of g claimed) (has_at f.onwards) a b r fault.why) is (goes_told g claimed c.requires.graph c.requires.single f c.requires.fallen c.round-round.result a b fault.why x.0 (omega (arith, is, over)) is c.fault_of-fault.ensures.reason) in
+    subst (λ r. Goes (view_of g claimed) (has_at f.onwards) a b r fault.why) is (goes_told g claimed c.requires.graph c.requires.single f
+    c.requires.fallen c.round-round.result a b fault.why x.0 (omega (arith, is, over)) is c.fault_of-fault.ensures.reason) in
     let rests = rests_there g claimed f a b fault c.fault_of-fault.ensures.rests in
     subst (λ (o : Option (ℕ × ℕ)). option_map_or (λ (y : ℕ × ℕ). round_in f.cells y.0 y.1) fault.rests 0 < option_map_or (λ (y : ℕ × ℕ). round_in f.cells y.0 y.1) o 0) (sym c.in-Some.is)
     (chain_falls (round_in f.cells) fault.rests (round_in f.cells a b) over (λ y e. falls_to g claimed c.requires.graph c.requires.single f c.requires.fallen a b fault goes rests y e))
@@ -89,12 +92,14 @@ chain-preserved c =
     let over = x.1 in
     let fault : Fault = c.fault_of-fault.result in
     let goes : Goes (view_of g claimed) (has_at f.onwards) a b (round_in f.cells a b) fault.why =
-    subst (λ r. Goes (view_of g claimed) (has_at f.onwards) a b r fault.why) is (goes_told g claimed c.requires.graph c.requires.single f c.requires.fallen c.round-round.result a b fault.why x.0 (omega (arith, is, over)) is c.fault_of-fault.ensures.reason) in
+    subst (λ r. Goes (view_of g claimed) (has_at f.onwards) a b r fault.why) is (goes_told g claimed c.requires.graph c.requires.single f
+    c.requires.fallen c.round-round.result a b fault.why x.0 (omega (arith, is, over)) is c.fault_of-fault.ensures.reason) in
     let rests = rests_there g claimed f a b fault c.fault_of-fault.ensures.rests in
     let line : Line = record { round = c.round-round.result; router = c.location.result; better = a; worse = b } in
     let line_is : IsLineOf g claimed f line = record { pair = x.0; went = omega (arith, is, over); round = is; router = c.location.ensures ∙ ap (λ z. place_of z b) c.graph.ensures } in
     let linked = subst (IsLinked g claimed f c.args.m c.args.n old now) c.in-Some.is c.chain.invariant in
-    linked_more g claimed c.requires.graph c.requires.single f c.requires.fallen c.args.m c.args.n old now c.push.new.self.items a b linked line c.in_ok-push.ensures.items line_is refl refl fault goes rests
+    linked_more g claimed c.requires.graph c.requires.single f c.requires.fallen c.args.m c.args.n old now c.push.new.self.items a b linked line
+    c.in_ok-push.ensures.items line_is refl refl fault goes rests
 
 pub returns-clause-kept : goal.returns-clause-kept
 returns-clause-kept c = c.chain.invariant.kept

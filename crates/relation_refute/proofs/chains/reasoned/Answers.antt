@@ -51,4 +51,5 @@ loop-line-preserved c =
 
 pub returns : goal.returns
 returns c =
-    reasoned_all (view_of c.args.maps.now.graph.now c.args.claimed.now) (has_at c.args.fallen.now.onwards) c.args.lines.now c.loop-line.line-index c.loop-line.removed c.loop-line.invariant (omega (arith, c.loop-line-test.false))
+    reasoned_all (view_of c.args.maps.now.graph.now c.args.claimed.now) (has_at c.args.fallen.now.onwards) c.args.lines.now c.loop-line.line-index
+    c.loop-line.removed c.loop-line.invariant (omega (arith, c.loop-line-test.false))

@@ -40,7 +40,8 @@ returns-in_default-clause-why c =
     let f = c.args.fallen.now in
     let l : is_listener g c.args.t ≡ false = ap (λ z. is_listener z c.args.t) (sym c.graph-graph.ensures) ∙ sym c.if-hears.ensures in
     let place : c.location-at.result ≡ place_of g c.args.t = c.location-at.ensures ∙ ap (λ z. place_of z c.args.t) c.graph-graph.ensures in
-    let lacks : has_answer (shown g) nobody c.args.m c.args.t ≡ false = subst (λ (o : Option ℕ). IfNone o (has_answer (shown g) nobody c.args.m c.args.t ≡ false)) c.in_default.is c.answer.ensures.none in
+    let lacks : has_answer (shown g) nobody c.args.m c.args.t ≡ false =
+    subst (λ (o : Option ℕ). IfNone o (has_answer (shown g) nobody c.args.m c.args.t ≡ false)) c.in_default.is c.answer.ensures.none in
     ap (λ (x : Fault). Some x.why) c.alone-in_default.ensures ∙ ap (λ z. Some (NoStep z)) place ∙ reason_alone g c.args.m c.args.t (has_at f.onwards) (went f c.args.round) l lacks
 
 pub returns-in_default-clause-rests : goal.returns-in_default-clause-rests
@@ -48,11 +49,15 @@ returns-in_default-clause-rests c = λ n st.
     subst (RestsOn (shown c.args.maps.now.graph.now) c.args.m n) (sym c.alone-in_default.ensures) (alone_rests (shown c.args.maps.now.graph.now) c.args.m n (NoStep c.location-at.result) (λ a b r. r))
 
 -- the node that answers
-answered : (g : PlainGraph) (m t s : ℕ) (o : Option ℕ) → o ≡ Some s → IfSome o (λ s. (s < length g.nodes) × (steps_on (shown g) m s ≡ true) × (place_of g s ≡ place_of g t)) → (s < length g.nodes) × (steps_on (shown g) m s ≡ true) × (place_of g s ≡ place_of g t)
+answered : (g : PlainGraph) (m t s : ℕ) (o : Option ℕ) → o ≡ Some s
+    → IfSome o (λ s. (s < length g.nodes) × (steps_on (shown g) m s ≡ true) × (place_of g s ≡ place_of g t))
+    → (s < length g.nodes) × (steps_on (shown g) m s ≡ true) × (place_of g s ≡ place_of g t)
 answered g m t s o e h = subst (λ (o : Option ℕ). IfSome o (λ s. (s < length g.nodes) × (steps_on (shown g) m s ≡ true) × (place_of g s ≡ place_of g t))) e h
 
 pub went_before-requires-clause-pair : goal.went_before-requires-clause-pair
-went_before-requires-clause-pair c = let a = answered c.args.maps.now.graph.now c.args.m c.args.t c.in-Some.s c.answer.result c.in-Some.is c.answer.ensures.some in record { left = a.0; right = c.requires.t; place = a.2 }
+went_before-requires-clause-pair c =
+    let a = answered c.args.maps.now.graph.now c.args.m c.args.t c.in-Some.s c.answer.result c.in-Some.is c.answer.ensures.some in
+    record { left = a.0; right = c.requires.t; place = a.2 }
 
 pub returns-then-went_before-clause-why : goal.returns-then-went_before-clause-why
 returns-then-went_before-clause-why c =
@@ -66,7 +71,8 @@ returns-then-went_before-clause-why c =
     let a = answered g m t s c.answer.result c.in-Some.is c.answer.ensures.some in
     let gone : went f c.args.round s t ≡ true = sym c.if-went_before.ensures in
     ap (λ (x : Fault). Some x.why) c.resting.ensures ∙ ap (λ z. Some (StepWorse z)) place
-    ∙ reason_step g m t (has_at f.onwards) (went f c.args.round) l (answer_alone g m t c.requires.single nobody s a.0 a.1 a.2) (answer_alone g m t c.requires.single (went f c.args.round) s a.0 a.1 a.2 ∙ ap not gone)
+    ∙ reason_step g m t (has_at f.onwards) (went f c.args.round) l (answer_alone g m t c.requires.single nobody s a.0 a.1 a.2)
+    (answer_alone g m t c.requires.single (went f c.args.round) s a.0 a.1 a.2 ∙ ap not gone)
 
 pub returns-then-went_before-clause-rests : goal.returns-then-went_before-clause-rests
 returns-then-went_before-clause-rests c = λ n st.
@@ -90,7 +96,8 @@ returns-in_err-k-clause-why c =
     let a = answered g m t s c.answer.result c.in-Some.is c.answer.ensures.some in
     let stays : went f c.args.round s t ≡ false = sym c.if-went_before.ensures in
     ap (option_map (λ (x : Fault). x.why)) c.from_residual.ensures ∙ ap (option_map (LoopWorse (place_of g t))) c.in_err-k.ensures
-    ∙ reason_loop g m t (has_at f.onwards) (went f c.args.round) l (answer_alone g m t c.requires.single nobody s a.0 a.1 a.2) (answer_alone g m t c.requires.single (went f c.args.round) s a.0 a.1 a.2 ∙ ap not stays)
+    ∙ reason_loop g m t (has_at f.onwards) (went f c.args.round) l (answer_alone g m t c.requires.single nobody s a.0 a.1 a.2)
+    (answer_alone g m t c.requires.single (went f c.args.round) s a.0 a.1 a.2 ∙ ap not stays)
 
 pub returns-clause-why : goal.returns-clause-why
 returns-clause-why c =
@@ -104,7 +111,8 @@ returns-clause-why c =
     let a = answered g m t s c.answer.result c.in-Some.is c.answer.ensures.some in
     let stays : went f c.args.round s t ≡ false = sym c.if-went_before.ensures in
     ap (λ (x : Fault). Some x.why) c.resting-2.ensures ∙ ap (λ z. Some (LoopWorse z c.in_ok-k.k)) place ∙ ap (option_map (LoopWorse (place_of g t))) c.in_ok-k.ensures
-    ∙ reason_loop g m t (has_at f.onwards) (went f c.args.round) l (answer_alone g m t c.requires.single nobody s a.0 a.1 a.2) (answer_alone g m t c.requires.single (went f c.args.round) s a.0 a.1 a.2 ∙ ap not stays)
+    ∙ reason_loop g m t (has_at f.onwards) (went f c.args.round) l (answer_alone g m t c.requires.single nobody s a.0 a.1 a.2)
+    (answer_alone g m t c.requires.single (went f c.args.round) s a.0 a.1 a.2 ∙ ap not stays)
 
 pub returns-clause-rests : goal.returns-clause-rests
 returns-clause-rests c = λ n st.

@@ -29,7 +29,8 @@ mapped_some (Some f) p e h = refl
 pub returns-then-is_outranked-clause-reason : goal.returns-then-is_outranked-clause-reason
 returns-then-is_outranked-clause-reason c =
     let claimed : LocSet = c.args.claimed.now in
-    let worse : is_outranked (view_of c.args.maps.now.graph.now claimed) c.args.m c.args.n ≡ true = ap (λ z. is_outranked (view_of z claimed) c.args.m c.args.n) (sym c.graph.ensures) ∙ sym c.if-is_outranked.ensures in
+    let worse : is_outranked (view_of c.args.maps.now.graph.now claimed) c.args.m c.args.n ≡ true =
+    ap (λ z. is_outranked (view_of z claimed) c.args.m c.args.n) (sym c.graph.ensures) ∙ sym c.if-is_outranked.ensures in
     inl (worse, ap (λ (f : Fault). f.why) c.alone.ensures)
 
 pub returns-then-is_outranked-clause-rests : goal.returns-then-is_outranked-clause-rests

@@ -51,7 +51,9 @@ returns-clause-some c =
     let nodes = ap length c.nodes.ensures.nodes in
     let same = ap (λ (z : PlainGraph). length z.nodes) c.graph.ensures in
     let inv = c.loop-n.invariant in
-    both_of c.loop-n.first (λ f. f < length c.args.maps.now.graph.now.nodes) (λ f. (m : ℕ) × Pair (shown c.args.maps.now.graph.now) m f × (are_parted c.args.cells.now m f ≡ true)) (IfSome_then c.loop-n.first inv.under (λ f lt. omega (arith, lt, c.loop-n.auto.n-end, c.loop-n-test.false, nodes, same))) inv.some
+    both_of c.loop-n.first (λ f. f < length c.args.maps.now.graph.now.nodes)
+    (λ f. (m : ℕ) × Pair (shown c.args.maps.now.graph.now) m f × (are_parted c.args.cells.now m f ≡ true))
+    (IfSome_then c.loop-n.first inv.under (λ f lt. omega (arith, lt, c.loop-n.auto.n-end, c.loop-n-test.false, nodes, same))) inv.some
 
 pub returns-clause-first : goal.returns-clause-first
 returns-clause-first c = λ m n pair parted.

@@ -32,4 +32,5 @@ pub returns-clause-none : goal.returns-clause-none
 returns-clause-none c = λ e m pair.
     let g = c.args.maps.now.graph.now in
     let nodes = c.peers-m-items.result.now in
-    not-true _ (c.loop-m.invariant m (ap (λ l. is_among l m) (take_all c.loop-m.m-index nodes (omega (arith, c.loop-m-test.false))) ∙ c.peers-m-items.ensures.members m pair.left ∙ eq-eqb (place_of g m) (place_of g c.args.n) pair.place))
+    not-true _ (c.loop-m.invariant m (ap (λ l. is_among l m) (take_all c.loop-m.m-index nodes (omega (arith, c.loop-m-test.false)))
+    ∙ c.peers-m-items.ensures.members m pair.left ∙ eq-eqb (place_of g m) (place_of g c.args.n) pair.place))

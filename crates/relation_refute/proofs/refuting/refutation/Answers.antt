@@ -27,10 +27,14 @@ use Rattle.relation_refute.proofs.Chaining.{exact}
 use Rattle.relation_refute.proofs.refuting.refutation.Goals as goal
 
 pub new-requires-2 : goal.new-requires-2
-new-requires-2 c = subst (λ (z : PlainGraph). (s : ℕ → ℕ → Bool) → IsClosed (view_of z c.args.claimed.now) s → IsTotal (view_of z c.args.claimed.now) s → ⊥) (sym c.in_ok-maps.ensures) c.requires.partial
+new-requires-2 c =
+    subst (λ (z : PlainGraph). (s : ℕ → ℕ → Bool) → IsClosed (view_of z c.args.claimed.now) s → IsTotal (view_of z c.args.claimed.now) s → ⊥)
+    (sym c.in_ok-maps.ensures) c.requires.partial
 
 -- the first node has one at its location from which it is parted
-parted_first : (g : PlainGraph) (p : ℕ → ℕ → Bool) (first : ℕ) (o : Option ℕ) → o ≡ Some first → IfSome o (λ f. (f < length g.nodes) × ((m : ℕ) × Pair (shown g) m f × (p m f ≡ true))) → (first < length g.nodes) × ((m : ℕ) × Pair (shown g) m first × (p m first ≡ true))
+parted_first : (g : PlainGraph) (p : ℕ → ℕ → Bool) (first : ℕ) (o : Option ℕ) → o ≡ Some first
+    → IfSome o (λ f. (f < length g.nodes) × ((m : ℕ) × Pair (shown g) m f × (p m f ≡ true)))
+    → (first < length g.nodes) × ((m : ℕ) × Pair (shown g) m first × (p m first ≡ true))
 parted_first g p first o e h = subst (λ (o : Option ℕ). IfSome o (λ f. (f < length g.nodes) × ((m : ℕ) × Pair (shown g) m f × (p m f ≡ true)))) e h
 
 pub unwrap-first-requires : goal.unwrap-first-requires
@@ -39,7 +43,9 @@ unwrap-first-requires c =
     ap is_some (c.first_parted.ensures.first x.0 x.1 x.2 x.3).1
 
 pub least_parted-requires-clause-n : goal.least_parted-requires-clause-n
-least_parted-requires-clause-n c = (parted_first c.in_ok-maps.maps.graph.now (are_parted c.in_ok-fallen.fallen.cells) c.unwrap-first.result c.first_parted.result c.unwrap-first.ensures c.first_parted.ensures.some).0
+least_parted-requires-clause-n c =
+    (parted_first c.in_ok-maps.maps.graph.now (are_parted c.in_ok-fallen.fallen.cells) c.unwrap-first.result c.first_parted.result
+    c.unwrap-first.ensures c.first_parted.ensures.some).0
 
 pub unwrap-second-requires : goal.unwrap-second-requires
 unwrap-second-requires c =
@@ -66,14 +72,17 @@ add_chain-requires-clause-single c = subst HasSingleSteps (sym c.in_ok-maps.ensu
 pub add_chain-requires-clause-pair : goal.add_chain-requires-clause-pair
 add_chain-requires-clause-pair c =
     let g : PlainGraph = c.in_ok-maps.maps.graph.now in
-    pair_found g c.args.claimed.now (subst IsGraph (sym c.in_ok-maps.ensures) c.nodes.ensures.rules) (subst HasSingleSteps (sym c.in_ok-maps.ensures) c.requires.single) c.in_ok-fallen.fallen c.in_ok-fallen.ensures
-    c.unwrap-first.result c.unwrap-second.result c.first_parted.result c.least_parted.result c.unwrap-first.ensures c.unwrap-second.ensures c.first_parted.ensures.some c.first_parted.ensures.first c.least_parted.ensures
+    pair_found g c.args.claimed.now (subst IsGraph (sym c.in_ok-maps.ensures) c.nodes.ensures.rules)
+    (subst HasSingleSteps (sym c.in_ok-maps.ensures) c.requires.single) c.in_ok-fallen.fallen c.in_ok-fallen.ensures
+    c.unwrap-first.result c.unwrap-second.result c.first_parted.result c.least_parted.result c.unwrap-first.ensures c.unwrap-second.ensures
+    c.first_parted.ensures.some c.first_parted.ensures.first c.least_parted.ensures
 
 pub add_chain-requires-clause-went : goal.add_chain-requires-clause-went
 add_chain-requires-clause-went c =
     let g : PlainGraph = c.in_ok-maps.maps.graph.now in
     (went_found g c.args.claimed.now (subst IsGraph (sym c.in_ok-maps.ensures) c.nodes.ensures.rules) (subst HasSingleSteps (sym c.in_ok-maps.ensures) c.requires.single) c.in_ok-fallen.fallen c.in_ok-fallen.ensures
-    c.unwrap-first.result c.unwrap-second.result c.first_parted.result c.least_parted.result c.unwrap-first.ensures c.unwrap-second.ensures c.first_parted.ensures.some c.first_parted.ensures.first c.least_parted.ensures).0
+    c.unwrap-first.result c.unwrap-second.result c.first_parted.result c.least_parted.result c.unwrap-first.ensures c.unwrap-second.ensures
+    c.first_parted.ensures.some c.first_parted.ensures.first c.least_parted.ensures).0
 
 pub add_chain-requires-2-clause-graph : goal.add_chain-requires-2-clause-graph
 add_chain-requires-2-clause-graph c = subst IsGraph (sym c.in_ok-maps.ensures) c.nodes.ensures.rules
@@ -84,15 +93,18 @@ add_chain-requires-2-clause-single c = subst HasSingleSteps (sym c.in_ok-maps.en
 pub add_chain-requires-2-clause-pair : goal.add_chain-requires-2-clause-pair
 add_chain-requires-2-clause-pair c =
     let g : PlainGraph = c.in_ok-maps.maps.graph.now in
-    let pair = pair_found g c.args.claimed.now (subst IsGraph (sym c.in_ok-maps.ensures) c.nodes.ensures.rules) (subst HasSingleSteps (sym c.in_ok-maps.ensures) c.requires.single) c.in_ok-fallen.fallen c.in_ok-fallen.ensures
-    c.unwrap-first.result c.unwrap-second.result c.first_parted.result c.least_parted.result c.unwrap-first.ensures c.unwrap-second.ensures c.first_parted.ensures.some c.first_parted.ensures.first c.least_parted.ensures in
+    let pair = pair_found g c.args.claimed.now (subst IsGraph (sym c.in_ok-maps.ensures) c.nodes.ensures.rules)
+    (subst HasSingleSteps (sym c.in_ok-maps.ensures) c.requires.single) c.in_ok-fallen.fallen c.in_ok-fallen.ensures
+    c.unwrap-first.result c.unwrap-second.result c.first_parted.result c.least_parted.result c.unwrap-first.ensures c.unwrap-second.ensures
+    c.first_parted.ensures.some c.first_parted.ensures.first c.least_parted.ensures in
     record { left = pair.right; right = pair.left; place = sym pair.place }
 
 pub add_chain-requires-2-clause-went : goal.add_chain-requires-2-clause-went
 add_chain-requires-2-clause-went c =
     let g : PlainGraph = c.in_ok-maps.maps.graph.now in
     (went_found g c.args.claimed.now (subst IsGraph (sym c.in_ok-maps.ensures) c.nodes.ensures.rules) (subst HasSingleSteps (sym c.in_ok-maps.ensures) c.requires.single) c.in_ok-fallen.fallen c.in_ok-fallen.ensures
-    c.unwrap-first.result c.unwrap-second.result c.first_parted.result c.least_parted.result c.unwrap-first.ensures c.unwrap-second.ensures c.first_parted.ensures.some c.first_parted.ensures.first c.least_parted.ensures).1
+    c.unwrap-first.result c.unwrap-second.result c.first_parted.result c.least_parted.result c.unwrap-first.ensures c.unwrap-second.ensures
+    c.first_parted.ensures.some c.first_parted.ensures.first c.least_parted.ensures).1
 
 pub reasoned-requires-clause-graph : goal.reasoned-requires-clause-graph
 reasoned-requires-clause-graph c = subst IsGraph (sym c.in_ok-maps.ensures) c.nodes.ensures.rules
@@ -108,7 +120,14 @@ reasoned-requires-clause-lines c = λ l is.
     c.settle_lines.ensures.same c.in_ok-add_chain-2.ensures.kept c.in_ok-add_chain.ensures.each c.in_ok-add_chain-2.ensures.each l here).0
 
 -- what is given is the refutation of the graph of the maps
-given : (c : goal.After-drop-maps-5) → IsRefutationOf c.args.graph.now c.args.claimed.now (record { router = (get_or c.nodes.result.now c.unwrap-first.result c.index-nodes-first.result).loc; first = c.unwrap-first.result; second = c.unwrap-second.result; lines = c.in_ok-lines.lines })
+given : (c : goal.After-drop-maps-5)
+    → IsRefutationOf c.args.graph.now c.args.claimed.now (record {
+      router =
+          (get_or c.nodes.result.now c.unwrap-first.result c.index-nodes-first.result).loc;
+      first = c.unwrap-first.result;
+      second = c.unwrap-second.result;
+      lines = c.in_ok-lines.lines;
+    })
 given c =
     let g : PlainGraph = c.in_ok-maps.maps.graph.now in
     let claimed : LocSet = c.args.claimed.now in
@@ -119,21 +138,37 @@ given c =
     let single : HasSingleSteps g = subst HasSingleSteps (sym c.in_ok-maps.ensures) c.requires.single in
     let lines : List Line = c.settle_lines.new.lines.items in
     let of = subst (λ (ls : List Line). AreLinesOf (view_of g claimed) (has_at f.onwards) ls c.in_ok-lines.lines) c.deref.ensures.value c.in_ok-lines.ensures in
-    let each = gathered_each g claimed f first second c.new-lines.result.items c.add_chain.new.lines.items c.add_chain-2.new.lines.items lines c.new-lines.ensures.items c.settle_lines.ensures.same c.in_ok-add_chain-2.ensures.kept c.in_ok-add_chain.ensures.each c.in_ok-add_chain-2.ensures.each in
-    let all = gathered_all g claimed f first second c.new-lines.result.items c.add_chain.new.lines.items c.add_chain-2.new.lines.items lines c.new-lines.ensures.items c.settle_lines.ensures.same c.in_ok-add_chain-2.ensures.kept c.in_ok-add_chain.ensures.all c.in_ok-add_chain-2.ensures.all in
-    let chosen = all_found g claimed ok single f c.in_ok-fallen.ensures first second c.first_parted.result c.least_parted.result c.unwrap-first.ensures c.unwrap-second.ensures c.first_parted.ensures.some c.first_parted.ensures.first c.least_parted.ensures lines c.in_ok-lines.lines c.settle_lines.ensures.order of each all in
+    let each = gathered_each g claimed f first second c.new-lines.result.items c.add_chain.new.lines.items c.add_chain-2.new.lines.items lines
+    c.new-lines.ensures.items c.settle_lines.ensures.same c.in_ok-add_chain-2.ensures.kept c.in_ok-add_chain.ensures.each
+    c.in_ok-add_chain-2.ensures.each in
+    let all = gathered_all g claimed f first second c.new-lines.result.items c.add_chain.new.lines.items c.add_chain-2.new.lines.items lines
+    c.new-lines.ensures.items c.settle_lines.ensures.same c.in_ok-add_chain-2.ensures.kept c.in_ok-add_chain.ensures.all
+    c.in_ok-add_chain-2.ensures.all in
+    let chosen = all_found g claimed ok single f c.in_ok-fallen.ensures first second c.first_parted.result c.least_parted.result
+    c.unwrap-first.ensures c.unwrap-second.ensures c.first_parted.ensures.some c.first_parted.ensures.first c.least_parted.ensures lines
+    c.in_ok-lines.lines c.settle_lines.ensures.order of each all in
     let some = parted_first g (are_parted f.cells) first c.first_parted.result c.unwrap-first.ensures c.first_parted.ensures.some in
     let inside = some.0 in
     let same = ap (λ (z : PlainGraph). length z.nodes) c.in_ok-maps.ensures in
     let nodes = c.args.graph.now.nodes in
-    let at = slice_get_read nodes (length nodes) first c.index-nodes-first.result refl (omega (arith, inside, same)) (c.index-nodes-first.is ∙ ap (λ ns. get_or ns first c.index-nodes-first.result) c.nodes.ensures.nodes) in
+    let at = slice_get_read nodes (length nodes) first c.index-nodes-first.result refl (omega (arith, inside, same))
+    (c.index-nodes-first.is ∙ ap (λ ns. get_or ns first c.index-nodes-first.result) c.nodes.ensures.nodes) in
     let read : (get_or c.nodes.result.now first c.index-nodes-first.result).loc ≡ c.index-nodes-first.result.loc = ap (λ (z : Node). z.loc) (sym c.index-nodes-first.is) in
-    let place : (get_or c.nodes.result.now first c.index-nodes-first.result).loc ≡ place_of g first = read ∙ sym (place_of-node c.args.graph.now first c.index-nodes-first.result at) ∙ ap (λ z. place_of z first) (sym c.in_ok-maps.ensures) in
-    subst (λ (z : PlainGraph). IsRefutationOf z claimed (record { router = (get_or c.nodes.result.now first c.index-nodes-first.result).loc; first = first; second = second; lines = c.in_ok-lines.lines })) c.in_ok-maps.ensures
+    let place : (get_or c.nodes.result.now first c.index-nodes-first.result).loc ≡ place_of g first =
+    read ∙ sym (place_of-node c.args.graph.now first c.index-nodes-first.result at) ∙ ap (λ z. place_of z first) (sym c.in_ok-maps.ensures) in
+    subst (λ (z : PlainGraph). IsRefutationOf z claimed (record {
+      router = (get_or c.nodes.result.now first c.index-nodes-first.result).loc;
+      first = first;
+      second = second;
+      lines = c.in_ok-lines.lines;
+    })) c.in_ok-maps.ensures
     (record { reach = has_at f.onwards; exact = exact g claimed ok single f c.in_ok-fallen.ensures; chosen = chosen; place = place })
 
 pub returns-clause-chosen : goal.returns-clause-chosen
 returns-clause-chosen c = given c
 
 pub returns-clause-refutes : goal.returns-clause-refutes
-returns-clause-refutes c = (let r = given c in refutes_by_chains c.args.graph.now c.args.claimed.now c.nodes.ensures.rules r.reach r.exact c.unwrap-first.result c.unwrap-second.result c.in_ok-lines.lines r.chosen)
+returns-clause-refutes c =
+    (let r = given c in
+    refutes_by_chains c.args.graph.now c.args.claimed.now c.nodes.ensures.rules r.reach r.exact c.unwrap-first.result c.unwrap-second.result
+    c.in_ok-lines.lines r.chosen)

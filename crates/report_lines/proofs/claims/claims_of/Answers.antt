@@ -1,9 +1,9 @@
 use Rattle.std.proofs.Common.{◌≡◌, ◌∙◌, true, sym, ap, Some, inl, inr, subst}
 use Rattle.std.specs.Prelude.{◌↔◌, ◌≤◌, option_map}
-use Rattle.net_base.specs.declared.limits.TheConstants.{ALTERNATIVES}
+use Rattle.policy_base.specs.declared.limits.TheConstants.{ALTERNATIVES}
 use Rattle.net_base.specs.Sets.{holds}
-use Rattle.path_words.specs.Meaning.{alternative_count}
-use Rattle.path_words.specs.Policies.{PlainStatement, policy_of}
+use Rattle.policy_base.specs.Meaning.{alternative_count}
+use Rattle.policy_base.specs.Policies.{PlainStatement, policy_of}
 use Rattle.graph_base.specs.Ranked.{IsRankedRouter}
 use Rattle.report_lines.specs.Lines.{Sources}
 use Rattle.report_lines.specs.Marks.{AreMarks, heard_pairs}
@@ -17,7 +17,9 @@ returns-in-None c =
     let none = sym c.case_of.ensures ∙ ap (option_map (λ d. d.now)) c.in-None.is in
     let sources : Sources = record { routers = holds c.new.result; sessions = c.new-in-None.result } in
     record {
-      claimed = none_claimed net policy c.args.config.now c.args.evidence.now.cases c.known_net.ensures c.requires.fits c.requires.passes c.args.prefix c.known_prefix.ensures sources none c.new.ensures.holds c.new-in-None.ensures;
+      claimed =
+          none_claimed net policy c.args.config.now c.args.evidence.now.cases c.known_net.ensures c.requires.fits c.requires.passes c.args.prefix
+          c.known_prefix.ensures sources none c.new.ensures.holds c.new-in-None.ensures;
       ranked = inr (record { routers = c.new.ensures.holds; sessions = c.new-in-None.ensures });
       limits = λ s h. absurd cc;
     }
@@ -40,5 +42,7 @@ returns-in_ok-sessions-in-Some c =
     record {
       claimed = case_claimed net policy config cs rules c.requires.fits c.requires.passes c.args.prefix prefix d case links.0 marks sources ranked links.2;
       ranked = inl c.statement_of.ensures;
-      limits = λ s h. let both : Some s ≡ Some case.s = sym h ∙ c.statement_of.ensures ∙ case.governs in let same : s ≡ case.s = cc in subst (λ (t : PlainStatement). alternative_count t.ranked ≤ ALTERNATIVES) (sym same) case.few;
+      limits = λ s h. let both : Some s ≡ Some case.s = sym h ∙ c.statement_of.ensures ∙ case.governs in
+          let same : s ≡ case.s = cc in
+          subst (λ (t : PlainStatement). alternative_count t.ranked ≤ ALTERNATIVES) (sym same) case.few;
     }

@@ -1,7 +1,7 @@
 use Rattle.std.proofs.Common.{ℕ, List, ◌++◌, append_assoc, length, refl, ap, ◌∙◌}
 use Rattle.std.specs.List.{flat_map}
 use Rattle.net_base.specs.Locations.{numbers_below}
-use Rattle.path_words.specs.Policies.{policy_of}
+use Rattle.policy_base.specs.Policies.{policy_of}
 use Rattle.report_lines.specs.Claims.{sources_of, statement_in}
 use Rattle.report_lines.specs.Lines.{head_lines, lines_by, router_line, session_line}
 use Rattle.report_lines.proofs.Texts.{whole}

@@ -5,4 +5,8 @@ use Rattle.report_lines.specs.Lines.{session_line}
 use Rattle.report_lines.proofs.reporting.push_sessions.Given as goal
 
 abbrev pub invariant-loop-session : goal.invariant-loop-session
-invariant-loop-session g l = l.text.items ≡ l.initial.text.items ++ flat_map (session_line l.subject.net.now (statement_in l.subject.claims) (g.S.Scene.shown l.scene)) (take l.session-index l.subject.claims.sessions)
+invariant-loop-session g l =
+    l.text.items
+    ≡ l.initial.text.items
+    ++ flat_map (session_line l.subject.net.now (statement_in l.subject.claims) (g.S.Scene.shown l.scene))
+    (take l.session-index l.subject.claims.sessions)

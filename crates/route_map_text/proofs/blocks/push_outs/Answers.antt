@@ -9,5 +9,8 @@ loop-export-preserved c =
     let zero : Export = record { class = 0; tag = record { asn = 0; value = 0 } } in
     record {
       number = omega (arith, c.in_ok-number.ensures, c.loop-export.invariant.number);
-      text = entry_more line.Export c.args.exports.now c.loop-export.export-index zero c.loop-export.number c.args.text.now.items c.loop-export.text.items c.push_out.new.text.items c.loop-export-test.true c.loop-export.invariant.number c.loop-export.invariant.text c.in_ok-push_out.ensures;
+      text =
+          entry_more line.Export c.args.exports.now c.loop-export.export-index zero c.loop-export.number c.args.text.now.items
+          c.loop-export.text.items c.push_out.new.text.items c.loop-export-test.true c.loop-export.invariant.number c.loop-export.invariant.text
+          c.in_ok-push_out.ensures;
     }

@@ -11,5 +11,6 @@ returns-clause-text c =
     let sessions = c.push_sessions.new.text.items in
     let end = c.push_bytes.new.text.items in
     on_ok_weaker c.push_bytes.result
-    (router_made r old head owns sessions end c.in_ok-push_router_line.ensures.text (rw c.as_slice.ensures at c.in_ok-push_networks.ensures.text) (rw c.as_slice-2.ensures at c.in_ok-push_sessions.ensures.text))
+    (router_made r old head owns sessions end c.in_ok-push_router_line.ensures.text (rw c.as_slice.ensures at c.in_ok-push_networks.ensures.text)
+    (rw c.as_slice-2.ensures at c.in_ok-push_sessions.ensures.text))
     c.push_bytes.ensures

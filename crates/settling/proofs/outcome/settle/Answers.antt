@@ -1,7 +1,7 @@
 use Rattle.std.proofs.Common.{◌≡◌, ℕ, ◌<◌, Vec, Global, List, length, Option, Some, None, ap, sym, subst, ◌∙◌}
 use Rattle.std.specs.Prelude.{if◌then◌else◌}
 use Rattle.net_base.specs.Sets.{holds}
-use Rattle.path_words.specs.Policies.{policy_of}
+use Rattle.policy_base.specs.Policies.{policy_of}
 use Rattle.graph_base.specs.Runs.{place_of}
 use Rattle.config_base.specs.Lines.{own_route}
 use Rattle.config_base.specs.declared.route.Route.{Route}
@@ -16,7 +16,8 @@ pub case_routes-requires : goal.case_routes-requires
 case_routes-requires c = λ n start.
     let case = c.in-Some.case.now in
     c.origins_at-origins.ensures (place_of case.graph n)
-    ∙ starts_at_origins c.args.net.now (policy_of c.args.policy.now) c.args.config.now c.args.evidence.now.cases c.known_net.ensures c.requires.fits c.requires.passes (failures_of c.args.scenario.now) c.args.scenario.now.prefix c.known_prefix.ensures
+    ∙ starts_at_origins c.args.net.now (policy_of c.args.policy.now) c.args.config.now c.args.evidence.now.cases c.known_net.ensures c.requires.fits
+    c.requires.passes (failures_of c.args.scenario.now) c.args.scenario.now.prefix c.known_prefix.ensures
     case (sym c.in-Some.ensures) n start
 
 pub returns-clause-settled : goal.returns-clause-settled

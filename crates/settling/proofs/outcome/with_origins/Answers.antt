@@ -8,7 +8,8 @@ use Rattle.settling.specs.Outcomes.{held_by}
 use Rattle.settling.proofs.outcome.with_origins.Goals as goal
 use Rattle.settling.proofs.outcome.with_origins.Goals.{then-holds+in_ok-routes+in-Some-1, then-holds+in_ok-routes+in-None-1, else-holds}
 
-module _ (routes next : List (Option Route)) (place : ℕ) (held others : ℕ → Option Route) (done : (r : ℕ) → r < place → entry_at routes r ≡ held r) (left : (r : ℕ) → place ≤ r → entry_at routes r ≡ others r) where
+module _ (routes next : List (Option Route)) (place : ℕ) (held others : ℕ → Option Route) (done : (r : ℕ) → r < place → entry_at routes r ≡ held r)
+    (left : (r : ℕ) → place ≤ r → entry_at routes r ≡ others r) where
   -- an origin's route is put in
   written_done : (x : Option Route) → next ≡ set routes place x → place < length routes → x ≡ held place → (r : ℕ) → r < place + 1 → entry_at next r ≡ held r
   written_done x same within is = below_more (λ r. entry_at next r ≡ held r) place

@@ -2,7 +2,7 @@ use Rattle.std.proofs.Common.{ℕ, Bool, Option, ap, ◌∙◌}
 use Rattle.net_base.specs.declared.loc.LocSet.{LocSet}
 use Rattle.net_base.specs.Sets.{holds}
 use Rattle.net_base.proofs.NetSetLaws.{holds-peers}
-use Rattle.path_words.specs.Governing.{is_origin_by}
+use Rattle.policy_base.specs.Governing.{is_origin_by}
 use Rattle.stable_paths.proofs.origins.origins_at.Goals as goal
 
 pub returns-in-None : goal.returns-in-None

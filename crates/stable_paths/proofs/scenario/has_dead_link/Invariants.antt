@@ -1,5 +1,5 @@
 use Rattle.std.proofs.Common.{◌≡◌, ◌-◌, drop}
-use Rattle.path_words.specs.Meaning.{some_step}
+use Rattle.policy_base.specs.Meaning.{some_step}
 use Rattle.outcome_base.specs.Outcomes.{is_dead_link}
 use Rattle.stable_paths.specs.Scenarios.{failures_of}
 use Rattle.stable_paths.proofs.scenario.has_dead_link.Given as goal

@@ -1,6 +1,6 @@
 use Rattle.std.proofs.Common.{not, ap, sym, ◌∙◌}
 use Rattle.std.specs.Prelude.{◌&&◌}
-use Rattle.path_words.specs.Meaning.{some_step}
+use Rattle.policy_base.specs.Meaning.{some_step}
 use Rattle.outcome_base.specs.Outcomes.{is_dead_link}
 use Rattle.stable_paths.specs.Scenarios.{failures_of}
 use Rattle.stable_paths.proofs.Paths.{passes_live_is}

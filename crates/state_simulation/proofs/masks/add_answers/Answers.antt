@@ -36,7 +36,8 @@ loop-s-preserved c =
     elim c.if-is_set.branch [
       | then-is_set+then-not-hears w ↦ (
           let hears : w.hears.result ≡ is_listener g s = rw w.graph.ensures at w.hears.ensures in
-          let is : (has_at c.args.left.now c.args.t s && not (is_listener g s)) ≡ true = ap (λ z. z && not (is_listener g s)) (in_row ∙ sym c.is_set.ensures ∙ w.if-is_set.true) ∙ ap not (sym hears) ∙ ap not w.if-not-hears.true in
+          let is : (has_at c.args.left.now c.args.t s && not (is_listener g s)) ≡ true = ap (λ z. z && not (is_listener g s))
+          (in_row ∙ sym c.is_set.ensures ∙ w.if-is_set.true) ∙ ap not (sym hears) ∙ ap not w.if-not-hears.true in
           record {
             len = ap length w.mask-is ∙ w.set_each.ensures.len ∙ inv.len;
             bits = λ m. ap (λ l. has l m) w.mask-is
@@ -61,7 +62,8 @@ returns-clause-bits c = λ m.
     let g : PlainGraph = c.args.maps.now.graph.now in
     let t : ℕ = c.args.t in
     c.loop-s.invariant.bits m
-    ∙ ap (λ l. has c.args.mask.now m || list_any (λ s. (has_at c.args.left.now t s && not (is_listener g s)) && has_step g m s) l) (take_all c.loop-s.s-index c.peers-s-items.result.now (omega (arith, c.loop-s-test.false)))
+    ∙ ap (λ l. has c.args.mask.now m || list_any (λ s. (has_at c.args.left.now t s && not (is_listener g s)) && has_step g m s) l)
+    (take_all c.loop-s.s-index c.peers-s-items.result.now (omega (arith, c.loop-s-test.false)))
     ∙ ap (λ z. has c.args.mask.now m || z) (located_any c.peers-s-items.result.now (length g.nodes) (λ s. eqb (place_of g s) (place_of g t)) (λ s. (has_at c.args.left.now t s && not (is_listener g s)) && has_step g m s)
     (λ s. (has_step g m s && not (is_listener g s)) && (eqb (place_of g s) (place_of g t) && not (not (has_at c.args.left.now t s))))
     c.peers-s-items.ensures.within c.peers-s-items.ensures.members (λ s lt. moved (eqb (place_of g s) (place_of g t)) (has_at c.args.left.now t s) (is_listener g s) (has_step g m s)))

@@ -45,13 +45,17 @@ loop-k-preserved c =
             record {
               len = ap length w.looped-is ∙ inv.len;
               bits = λ m. ap (λ l. has l m) w.looped-is ∙ inv.bits m
-                  ∙ sym (covered gone reach (take i nodes) k m (leads_on c.args.maps.now.graph.now c.args.onwards.now c.requires.onwards.exact nodes i k m c.peers-k-items.ensures.within c.loop-k-test.true refl) set) ∙ more m;
+                  ∙ sym (covered gone reach (take i nodes) k m (leads_on c.args.maps.now.graph.now c.args.onwards.now c.requires.onwards.exact nodes i
+                  k m c.peers-k-items.ensures.within c.loop-k-test.true refl) set) ∙ more m;
             })
         | else-not-is_set-via-else-not-is_set u ↦ (
             let is : gone k ≡ false = ap not (in_row ∙ sym c.is_set.ensures ∙ u.if-not-is_set.false) in
             record {
               len = ap length w.looped-is ∙ inv.len;
-              bits = λ m. ap (λ l. has l m) w.looped-is ∙ inv.bits m ∙ sym (ap (λ z. list_any (q m) (take i nodes) || z) (and_left (gone k) (reach k m) is) ∙ or-false (list_any (q m) (take i nodes))) ∙ more m;
+              bits =
+                  λ m. ap (λ l. has l m) w.looped-is ∙ inv.bits m
+                  ∙ sym (ap (λ z. list_any (q m) (take i nodes) || z) (and_left (gone k) (reach k m) is) ∙ or-false (list_any (q m) (take i nodes)))
+                  ∙ more m;
             })
       ]
     ]

@@ -14,21 +14,27 @@ pub returns-then-hears-2 : goal.returns-then-hears-2
 returns-then-hears-2 c = λ same reach m.
     let g = c.args.maps.now.graph.now in
     let is = c.graph-graph.ensures in
-    let place : place_of g c.args.s ≡ place_of g c.args.t = ap (λ z. place_of z c.args.s) (sym is) ∙ sym c.location.ensures ∙ eqb-true _ _ (not-false _ (sym c.if-ne.ensures)) ∙ c.location-2.ensures ∙ ap (λ z. place_of z c.args.t) is in
+    let place : place_of g c.args.s ≡ place_of g c.args.t = ap (λ z. place_of z c.args.s) (sym is) ∙ sym c.location.ensures
+    ∙ eqb-true _ _ (not-false _ (sym c.if-ne.ensures)) ∙ c.location-2.ensures ∙ ap (λ z. place_of z c.args.t) is in
     let alike = (booleans_Decides c.hears.result c.hears-else-ne.result).0 (not-false _ c.if-hears.false) in
     let ht : is_listener g c.args.t ≡ true = ap (λ z. is_listener z c.args.t) (sym is) ∙ sym c.if-hears-2.ensures in
     let hs : is_listener g c.args.s ≡ true = ap (λ z. is_listener z c.args.s) (sym is) ∙ sym c.hears.ensures ∙ alike ∙ c.hears-else-ne.ensures ∙ sym c.if-hears-2.ensures in
-    let rank : rank_at g c.args.s ≡ rank_at g c.args.t = ap (λ z. rank_at z c.args.s) (sym is) ∙ sym c.rank.ensures ∙ option_eq-is c.rank.result c.rank-then-hears-2.result (sym c.eq.ensures ∙ same) ∙ c.rank-then-hears-2.ensures ∙ ap (λ z. rank_at z c.args.t) is in
+    let rank : rank_at g c.args.s ≡ rank_at g c.args.t = ap (λ z. rank_at z c.args.s) (sym is) ∙ sym c.rank.ensures
+    ∙ option_eq-is c.rank.result c.rank-then-hears-2.result (sym c.eq.ensures ∙ same) ∙ c.rank-then-hears-2.ensures
+    ∙ ap (λ z. rank_at z c.args.t) is in
     one_where_heard g c.args.left.now c.args.s c.args.t place reach m hs ht rank
 
 pub returns-else-hears-2 : goal.returns-else-hears-2
 returns-else-hears-2 c = λ same reach m.
     let g = c.args.maps.now.graph.now in
     let is = c.graph-graph.ensures in
-    let place : place_of g c.args.s ≡ place_of g c.args.t = ap (λ z. place_of z c.args.s) (sym is) ∙ sym c.location.ensures ∙ eqb-true _ _ (not-false _ (sym c.if-ne.ensures)) ∙ c.location-2.ensures ∙ ap (λ z. place_of z c.args.t) is in
+    let place : place_of g c.args.s ≡ place_of g c.args.t = ap (λ z. place_of z c.args.s) (sym is) ∙ sym c.location.ensures
+    ∙ eqb-true _ _ (not-false _ (sym c.if-ne.ensures)) ∙ c.location-2.ensures ∙ ap (λ z. place_of z c.args.t) is in
     let alike = (booleans_Decides c.hears.result c.hears-else-ne.result).0 (not-false _ c.if-hears.false) in
     let ht : is_listener g c.args.t ≡ false = ap (λ z. is_listener z c.args.t) (sym is) ∙ sym c.if-hears-2.ensures in
     let hs : is_listener g c.args.s ≡ false = ap (λ z. is_listener z c.args.s) (sym is) ∙ sym c.hears.ensures ∙ alike ∙ c.hears-else-ne.ensures ∙ sym c.if-hears-2.ensures in
     let rows : row_of c.args.left.now c.args.s ≡ row_of c.args.left.now c.args.t =
-    sym c.row.ensures.words ∙ (slice_eq-Decides Decides-eqb c.row.result.now c.row-else-hears-2.result.now c.eq-else-hears-2.result c.eq-else-hears-2.ensures).0 same ∙ c.row-else-hears-2.ensures.words in
+    sym c.row.ensures.words
+    ∙ (slice_eq-Decides Decides-eqb c.row.result.now c.row-else-hears-2.result.now c.eq-else-hears-2.result c.eq-else-hears-2.ensures).0 same
+    ∙ c.row-else-hears-2.ensures.words in
     one_where_stepped g c.args.left.now c.args.s c.args.t place reach m hs ht rows

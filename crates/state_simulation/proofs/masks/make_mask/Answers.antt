@@ -14,7 +14,9 @@ use Rattle.state_simulation.proofs.Rounding.{neither}
 use Rattle.state_simulation.proofs.masks.make_mask.Goals as goal
 
 never_looped : (v : View) (gone : ℕ → ℕ → Bool) (m t : ℕ) → is_looped v (tells None) gone m t ≡ false
-never_looped v gone m t = none_below v.size (λ k. same_place v k t && (false && gone k t)) (λ k lt e. let no : false ≡ true = (and_parts (same_place v k t) (false && gone k t) e).1 in both_ways false refl no)
+never_looped v gone m t =
+    none_below v.size (λ k. same_place v k t && (false && gone k t))
+    (λ k lt e. let no : false ≡ true = (and_parts (same_place v k t) (false && gone k t) e).1 in both_ways false refl no)
 
 pub returns-in-Some-onwards-clause-bits : goal.returns-in-Some-onwards-clause-bits
 returns-in-Some-onwards-clause-bits c = λ m lm.
@@ -24,7 +26,8 @@ returns-in-Some-onwards-clause-bits c = λ m lm.
     let reach = has_at c.in-Some-onwards.onwards in
     let clear : has c.fill.new.self m ≡ false = search rules in
     let stepped : is_listener g t ≡ false = ap (λ z. is_listener z t) (sym c.graph.ensures) ∙ sym c.if-hears.ensures in
-    c.clear_row.ensures.bits m ∙ ap (λ z. z && not (has c.add_loops.new.looped m)) (c.add_answers.ensures.bits m) ∙ ap (λ z. (z || has_answer (shown g) gone m t) && not (has c.add_loops.new.looped m)) clear
+    c.clear_row.ensures.bits m ∙ ap (λ z. z && not (has c.add_loops.new.looped m)) (c.add_answers.ensures.bits m)
+    ∙ ap (λ z. (z || has_answer (shown g) gone m t) && not (has c.add_loops.new.looped m)) clear
     ∙ ap (λ z. has_answer (shown g) gone m t && not z) (c.add_loops.ensures.bits m) ∙ neither (has_answer (shown g) gone m t) (is_looped (shown g) reach gone m t)
     ∙ ap not (sym (fails_stepped (shown g) reach gone m t stepped)) ∙ ap (λ o. not (fails_at (shown g) (tells o) gone m t)) (sym c.in-Some-onwards.is)
 
@@ -35,5 +38,8 @@ returns-in_default-onwards-clause-bits c = λ m lm.
     let gone = gone_in c.args.left.now in
     let clear : has c.fill.new.self m ≡ false = search rules in
     let stepped : is_listener g t ≡ false = ap (λ z. is_listener z t) (sym c.graph.ensures) ∙ sym c.if-hears.ensures in
-    c.add_answers.ensures.bits m ∙ ap (λ z. z || has_answer (shown g) gone m t) clear ∙ sym (and-true (has_answer (shown g) gone m t)) ∙ sym (ap (λ z. has_answer (shown g) gone m t && not z) (never_looped (shown g) gone m t))
-    ∙ neither (has_answer (shown g) gone m t) (is_looped (shown g) (tells None) gone m t) ∙ ap not (sym (fails_stepped (shown g) (tells None) gone m t stepped)) ∙ ap (λ o. not (fails_at (shown g) (tells o) gone m t)) (sym c.in_default-onwards.is)
+    c.add_answers.ensures.bits m ∙ ap (λ z. z || has_answer (shown g) gone m t) clear ∙ sym (and-true (has_answer (shown g) gone m t))
+    ∙ sym (ap (λ z. has_answer (shown g) gone m t && not z) (never_looped (shown g) gone m t))
+    ∙ neither (has_answer (shown g) gone m t) (is_looped (shown g) (tells None) gone m t)
+    ∙ ap not (sym (fails_stepped (shown g) (tells None) gone m t stepped))
+    ∙ ap (λ o. not (fails_at (shown g) (tells o) gone m t)) (sym c.in_default-onwards.is)

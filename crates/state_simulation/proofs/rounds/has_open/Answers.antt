@@ -27,7 +27,8 @@ pub returns-clause-bound : goal.returns-clause-bound
 returns-clause-bound c = λ e m lm place first.
     let g = c.args.maps.now.graph.now in
     let nodes = c.peers-m-items.result.now in
-    c.loop-m.invariant m (ap (λ l. is_among l m) (take_all c.loop-m.m-index nodes (omega (arith, c.loop-m-test.false))) ∙ c.peers-m-items.ensures.members m lm ∙ eq-eqb (place_of g m) (place_of g c.args.n) place) first
+    c.loop-m.invariant m (ap (λ l. is_among l m) (take_all c.loop-m.m-index nodes (omega (arith, c.loop-m-test.false)))
+    ∙ c.peers-m-items.ensures.members m lm ∙ eq-eqb (place_of g m) (place_of g c.args.n) place) first
 
 pub loop-m-preserved : goal.loop-m-preserved
 loop-m-preserved c = λ m is first.
@@ -38,7 +39,8 @@ loop-m-preserved c = λ m is first.
     let k : ℕ = get_or nodes i 0 in
     let asked : asks_later c.args.touched.now k n ≡ false → has_either left k n ≡ true = λ none. elim c.else-not-asks_later.branch [
       | else-not-asks_later-via-then-not-asks_later+then-not-is_set+else-not-get w ↦ or_right (has_at left n k) (has_at left k n) (sym w.get.ensures ∙ w.if-not-get.false)
-      | else-not-asks_later-via-then-not-asks_later+else-not-is_set w ↦ or_left (has_at left n k) (has_at left k n) (ap (λ z. has z k) (sym c.row-row.ensures.words) ∙ sym w.is_set.ensures ∙ w.if-not-is_set.false)
+      | else-not-asks_later-via-then-not-asks_later+else-not-is_set w ↦
+          or_left (has_at left n k) (has_at left k n) (ap (λ z. has z k) (sym c.row-row.ensures.words) ∙ sym w.is_set.ensures ∙ w.if-not-is_set.false)
       | else-not-asks_later-via-else-not-asks_later w ↦ absurd (both_ways _ none (sym c.asks_later.ensures ∙ w.if-not-asks_later.false))
     ] in
     elim (or_cases (is_among (take i nodes) m) (eqb k m) (sym (list_any_more (λ x. eqb x m) nodes i 0 c.loop-m-test.true) ∙ is)) [

@@ -30,7 +30,13 @@ rounds-preserved c =
     record {
       sized = next.sized;
       bound = bound_next g c.rounds.rounds.left c.advance-changed.new.self.left c.advance-changed.new.self.touched.items inv.bound next.quiet (c.is_open.ensures.bound c.if-is_open.false);
-      at = (onwards, next.onwards ∙ inv.at.1, suc k, next.next claimed (has_at onwards) k knows inv.at.3, λ e. (let done = next.settled e claimed (has_at onwards) k knows inv.at.3 in (k, done.0, done.1)));
+      at = (
+        onwards,
+        next.onwards ∙ inv.at.1,
+        suc k,
+        next.next claimed (has_at onwards) k knows inv.at.3,
+        λ e. (let done = next.settled e claimed (has_at onwards) k knows inv.at.3 in (k, done.0, done.1)),
+      );
     }
 
 pub returns-then-is_open-clause-open : goal.returns-then-is_open-clause-open

@@ -14,7 +14,9 @@ returns-then-is_open-clause-open c = λ r greatest total.
     let low : ℕ → ℕ → Bool = λ a b. false in
     let knows = subst (λ (o : Option PlainRows). Knows g low 0 o) (sym old.ensures.onwards) refl in
     let pair = c.is_open.ensures.«open» c.if-is_open.true in
-    open_is_partial g claimed low 1 new.left new.next (is_touched new.touched.items) (c.advance-changed.ensures.next claimed low 0 knows (old.ensures.first low)) (λ a b la lb h. absurd (cc)) pair.0 pair.1 pair.2 r greatest total
+    open_is_partial g claimed low 1 new.left new.next (is_touched new.touched.items)
+    (c.advance-changed.ensures.next claimed low 0 knows (old.ensures.first low)) (λ a b la lb h. absurd (cc)) pair.0 pair.1 pair.2 r greatest
+    total
 
 pub returns-then-not-changed-clause-greatest : goal.returns-then-not-changed-clause-greatest
 returns-then-not-changed-clause-greatest c =
@@ -46,4 +48,5 @@ total_rest-requires-clause-first c = λ reach.
     let g = c.args.maps.now.graph.now in
     let claimed = c.args.claimed.now in
     let old = c.in_ok-rounds in
-    c.in_ok-look_onwards.ensures.at claimed reach 1 (c.advance-changed.ensures.next claimed reach 0 (subst (λ (o : Option PlainRows). Knows g reach 0 o) (sym old.ensures.onwards) refl) (old.ensures.first reach))
+    c.in_ok-look_onwards.ensures.at claimed reach 1 (c.advance-changed.ensures.next claimed reach 0
+    (subst (λ (o : Option PlainRows). Knows g reach 0 o) (sym old.ensures.onwards) refl) (old.ensures.first reach))

@@ -23,21 +23,31 @@ loop-n-preserved c =
     ∙ ap (λ l. has (row_of left n) b && (has (row_of left n) b && not (has l b))) c.row-in-loop-n-2.ensures.words in
     let none : lost ≡ false → (b : ℕ) → differs left next n b ≡ false = λ e b. sym (asked b) ∙ c.outside_is_empty-is_lost.ensures.0 (not-false _ e) b in
     let some : lost ≡ true → (b : ℕ) × (b < c.args.left.now.bits) × (differs left next n b ≡ true) = λ e.
-    (let x = some_bit left.bits (differs left next n) (λ k le. and_left _ _ (c.row.ensures.table.clear n k inside le)) (λ each. both_ways _ (not-true _ e) (c.outside_is_empty-is_lost.ensures.1 (λ k. asked k ∙ each k))) in (x.0, omega (arith, x.1, inv.size.bits), x.2)) in
+    (let x = some_bit left.bits (differs left next n) (λ k le. and_left _ _ (c.row.ensures.table.clear n k inside le))
+    (λ each. both_ways _ (not-true _ e) (c.outside_is_empty-is_lost.ensures.1 (λ k. asked k ∙ each k))) in
+    (x.0, omega (arith, x.1, inv.size.bits), x.2)) in
     let same : lost ≡ false → (b : ℕ) → has_at left n b ≡ has_at next n b = λ e b. same_bit (has_at left n b) (has_at next n b)
     (λ h. elim (cases_lt b size) [
       | inl lb ↦ inv.rest n b (omega arith) lt ∙ c.requires.within n b lt lb h
-      | inr past ↦ absurd (both_ways _ (c.row-in-loop-n-2.ensures.table.clear n b (omega (arith, lt, c.requires.next.count, c.requires.left.count)) (omega (arith, past, c.requires.next.bits, c.requires.left.bits))) h)
+      | inr past ↦
+          absurd (both_ways _ (c.row-in-loop-n-2.ensures.table.clear n b (omega (arith, lt, c.requires.next.count, c.requires.left.count))
+          (omega (arith, past, c.requires.next.bits, c.requires.left.bits))) h)
     ]) (none e b) in
     elim c.if-is_lost.branch [
       | then-is_lost w ↦ (
           let is : lost ≡ true = ap not w.if-is_lost.true in
           let size_put = w.put.ensures.size in
           let bits : (r b : ℕ) → r < size → has_at c.if-is_lost.left r b ≡ cond (eqb r n) (has_at next n b) (has_at left r b) = λ r b lr.
-          ap (λ (z : PlainRows). has_at z r b) w.left-is ∙ w.put.ensures.bits r b (omega (arith, lr, inv.size.count, c.requires.left.count)) ∙ ap (λ l. cond (eqb r n) (has l b) (has_at left r b)) w.row-then-is_lost.ensures.words in
+          ap (λ (z : PlainRows). has_at z r b) w.left-is ∙ w.put.ensures.bits r b (omega (arith, lr, inv.size.count, c.requires.left.count))
+          ∙ ap (λ l. cond (eqb r n) (has l b) (has_at left r b)) w.row-then-is_lost.ensures.words in
           let changed : c.if-is_lost.changed ≡ (lost || c.loop-n.changed) = w.changed-is ∙ sym (ap (λ z. z || c.loop-n.changed) is) in
           record {
-            size = record { count = ap (λ (z : PlainRows). z.count) w.left-is ∙ size_put.count ∙ inv.size.count; bits = ap (λ (z : PlainRows). z.bits) w.left-is ∙ size_put.bits ∙ inv.size.bits; width = ap (λ (z : PlainRows). z.width) w.left-is ∙ size_put.width ∙ inv.size.width };
+            size =
+                record {
+                  count = ap (λ (z : PlainRows). z.count) w.left-is ∙ size_put.count ∙ inv.size.count;
+                  bits = ap (λ (z : PlainRows). z.bits) w.left-is ∙ size_put.bits ∙ inv.size.bits;
+                  width = ap (λ (z : PlainRows). z.width) w.left-is ∙ size_put.width ∙ inv.size.width;
+                };
             len = length-set c.loop-n.touched n lost ∙ inv.len;
             put = rw changed (put_more next c.args.left.now left c.if-is_lost.left c.loop-n.touched c.loop-n.changed lost size n lt inv.len inv.put inv.rest bits none some);
             rest = λ r b le lr. bits r b lr ∙ cond-false (eqb r n) (has_at next n b) (has_at left r b) (ne_eqb _ _ (λ e. omega (arith, le, e))) ∙ inv.rest r b (omega (arith, le)) lr;
@@ -51,7 +61,12 @@ loop-n-preserved c =
           ] in
           let changed : c.if-is_lost.changed ≡ (lost || c.loop-n.changed) = w.changed-is ∙ sym (ap (λ z. z || c.loop-n.changed) is) in
           record {
-            size = record { count = ap (λ (z : PlainRows). z.count) w.left-is ∙ inv.size.count; bits = ap (λ (z : PlainRows). z.bits) w.left-is ∙ inv.size.bits; width = ap (λ (z : PlainRows). z.width) w.left-is ∙ inv.size.width };
+            size =
+                record {
+                  count = ap (λ (z : PlainRows). z.count) w.left-is ∙ inv.size.count;
+                  bits = ap (λ (z : PlainRows). z.bits) w.left-is ∙ inv.size.bits;
+                  width = ap (λ (z : PlainRows). z.width) w.left-is ∙ inv.size.width;
+                };
             len = length-set c.loop-n.touched n lost ∙ inv.len;
             put = rw changed (put_more next c.args.left.now left c.if-is_lost.left c.loop-n.touched c.loop-n.changed lost size n lt inv.len inv.put inv.rest bits none some);
             rest = λ r b le lr. bits r b lr ∙ cond-false (eqb r n) (has_at next n b) (has_at left r b) (ne_eqb _ _ (λ e. omega (arith, le, e))) ∙ inv.rest r b (omega (arith, le)) lr;

@@ -41,7 +41,9 @@ loop-t-preserved c =
             mask = ap length w.mask-is ∙ w.make_mask.ensures.len ∙ inv.mask;
             looped = ap length w.looped-is ∙ w.make_mask.ensures.looped ∙ inv.looped;
             held = subst (λ (o : Option ℕ). IfSome o (λ s. s < length g.nodes)) (sym w.held-is) lt;
-            masked = subst (λ (o : Option ℕ). IfSome o (IsMaskOf g c.args.onwards.now c.args.left.now c.if-touched-t.mask)) (sym w.held-is) (λ m lm. ap (λ l. has l m) w.mask-is ∙ w.make_mask.ensures.bits m lm);
+            masked =
+                subst (λ (o : Option ℕ). IfSome o (IsMaskOf g c.args.onwards.now c.args.left.now c.if-touched-t.mask)) (sym w.held-is)
+                (λ m lm. ap (λ l. has l m) w.mask-is ∙ w.make_mask.ensures.bits m lm);
             bits = λ n m ln lm. ap (λ (z : PlainRows). has_at z n m) w.next-is ∙ w.keep_each.ensures.bits n m (omega (arith, ln, inv.size.count, c.requires.next.count))
                 ∙ ap (λ z. z && (not (is_among w.before-then-touched-t.result.now n) || has w.make_mask.new.mask m)) (inv.bits n m ln lm)
                 ∙ ap (λ z. (old n m && not (before n m)) && (not z || has w.make_mask.new.mask m)) (w.before-then-touched-t.ensures.members n)

@@ -1,5 +1,5 @@
 use Rattle.std.proofs.Common.{rules}
-use Rattle.path_words.specs.Policies.{policy_of}
+use Rattle.policy_base.specs.Policies.{policy_of}
 use Rattle.stable_paths.specs.Scenarios.{failures_of}
 use Rattle.audit_law.proofs.Telling.{stable_is_told}
 use Rattle.audit_law.specs.Verdicts.{IsVerdict}
@@ -7,5 +7,8 @@ use Rattle.table_audit.proofs.judge.audit.Goals as goal
 
 pub returns-clause-stable : goal.returns-clause-stable
 returns-clause-stable c =
-    let told : IsVerdict c.args.net.now (policy_of c.args.policy.now) c.args.config.now (failures_of c.args.scenario.now) c.args.scenario.now.prefix c.args.outcome.now.routes c.first_fault.result = search rules in
-    stable_is_told c.args.net.now (policy_of c.args.policy.now) c.args.config.now (failures_of c.args.scenario.now) c.args.scenario.now.prefix c.args.outcome.now.routes c.first_fault.result c.requires told
+    let told : IsVerdict c.args.net.now (policy_of c.args.policy.now) c.args.config.now (failures_of c.args.scenario.now) c.args.scenario.now.prefix
+    c.args.outcome.now.routes c.first_fault.result =
+    search rules in
+    stable_is_told c.args.net.now (policy_of c.args.policy.now) c.args.config.now (failures_of c.args.scenario.now) c.args.scenario.now.prefix
+    c.args.outcome.now.routes c.first_fault.result c.requires told

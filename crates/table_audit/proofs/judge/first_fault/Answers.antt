@@ -1,5 +1,5 @@
 use Rattle.std.proofs.Common.{◌≡◌, rules}
-use Rattle.path_words.specs.Policies.{policy_of}
+use Rattle.policy_base.specs.Policies.{policy_of}
 use Rattle.stable_paths.specs.Scenarios.{failures_of}
 use Rattle.stable_paths.proofs.Settled.{settled_more}
 use Rattle.table_audit.proofs.judge.first_fault.Goals as goal

@@ -1,7 +1,7 @@
 use Rattle.std.proofs.Common.{◌≡◌, ap, ap₂, subst, ◌∙◌}
 use Rattle.std.specs.Prelude.{IfOk, List}
 use Rattle.config_base.specs.declared.route.Route.{Route}
-use Rattle.path_words.specs.Policies.{policy_of}
+use Rattle.policy_base.specs.Policies.{policy_of}
 use Rattle.event_base.specs.Speaking.{speakers_of}
 use Rattle.event_base.specs.Steps.{opening, run}
 use Rattle.event_base.specs.World.{Speakers, World}
@@ -21,7 +21,8 @@ returns c =
     let S = speakers_of net policy config p in
     let speak : speakers c.in_ok-world.world ≡ S = ap (λ s. speakers_of s.0 s.1 s.2 s.3) c.in_ok-world.ensures.setting in
     let start : state c.in_ok-world.world ≡ opening S = c.in_ok-world.ensures.world ∙ ap opening speak in
-    let refused : c.deref.result.now ≡ refused_from S 1 es (opening S) = c.deref.ensures.value ∙ c.in_ok-refused.ensures.refused ∙ ap₂ (λ (s : Speakers Route) (w : World Route). refused_from s 1 es w) speak start in
+    let refused : c.deref.result.now ≡ refused_from S 1 es (opening S) = c.deref.ensures.value ∙ c.in_ok-refused.ensures.refused
+    ∙ ap₂ (λ (s : Speakers Route) (w : World Route). refused_from s 1 es w) speak start in
     let world : state c.happen.new.world ≡ run S es (opening S) = c.in_ok-refused.ensures.world ∙ ap₂ (λ (s : Speakers Route) (w : World Route). run s es w) speak start in
     subst (λ (w : World Route). IfOk c.trace_report.result (λ text. IsTrace net policy config p (refused_from S 1 es (opening S)) w text.items)) world
     (subst (λ (all : List Refused). IfOk c.trace_report.result (λ text. IsTrace net policy config p all (state c.happen.new.world) text.items)) refused c.trace_report.ensures)

@@ -18,6 +18,8 @@ loop-key-preserved c =
     let new : list_any (same_pair key) (take c.loop-key.key-index c.args.keys.now) ≡ false =
     ap (list_any (same_pair key)) (sym c.loop-key.invariant.keys) ∙ not-true _ (sym c.in_ok-note.ensures.fresh ∙ c.if-not-branch.false) in
     record {
-      keys = c.in_ok-note.ensures.added c.if-not-branch.false ∙ ap (λ ks. ks ++ key ∷ []) c.loop-key.invariant.keys ∙ sym (next_keys c.args.keys.now c.loop-key.key-index key c.loop-key-test.true c.key-item.is);
+      keys =
+          c.in_ok-note.ensures.added c.if-not-branch.false ∙ ap (λ ks. ks ++ key ∷ []) c.loop-key.invariant.keys
+          ∙ sym (next_keys c.args.keys.now c.loop-key.key-index key c.loop-key-test.true c.key-item.is);
       apart = apart_next c.args.keys.now c.loop-key.key-index key c.loop-key-test.true c.key-item.is c.loop-key.invariant.apart new;
     }

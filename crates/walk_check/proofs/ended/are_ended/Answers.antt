@@ -6,7 +6,8 @@ use Rattle.walk_check.proofs.ended.are_ended.Goals as goal
 
 pub marked-requires : goal.marked-requires
 marked-requires c =
-    subst (All (λ n. n < length c.args.graph.now.nodes)) (sym c.starts.ensures.starts) (All-from_recursion (λ n. n < length c.args.graph.now.nodes) c.args.graph.now.starts c.starts.ensures.rules.starts)
+    subst (All (λ n. n < length c.args.graph.now.nodes)) (sym c.starts.ensures.starts)
+    (All-from_recursion (λ n. n < length c.args.graph.now.nodes) c.args.graph.now.starts c.starts.ensures.rules.starts)
 
 pub returns : goal.returns
 returns c =

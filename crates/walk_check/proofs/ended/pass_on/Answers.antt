@@ -20,7 +20,9 @@ loop-step-preserved c =
     elim c.if-index.branch [
       | then-index w ↦ record {
         size = ap (λ v. length v.items) w.marks-is ∙ length-set _ _ _ ∙ c.loop-step.invariant.size;
-        reached = λ n h. marked_step g c.loop-step.marks.items x.0 x.1 n goes c.loop-step.invariant.reached (sym (get_or_read c.loop-step.marks.items x.0 _ from c.index.ensures false) ∙ w.if-index.true)
+        reached =
+            λ n h. marked_step g c.loop-step.marks.items x.0 x.1 n goes c.loop-step.invariant.reached
+            (sym (get_or_read c.loop-step.marks.items x.0 _ from c.index.ensures false) ∙ w.if-index.true)
             (subst (λ v. IsTrue (is_marked v.items n)) w.marks-is h);
       }
       | else-index w ↦ record {

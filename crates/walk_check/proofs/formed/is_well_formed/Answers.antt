@@ -15,7 +15,12 @@ returns-then-not-parts_fit c =
     let external = c.args.case.now.external in
     let g = c.args.graph.now in (
       λ h. absurd (false≢true h),
-      λ wf. absurd (false≢true (sym c.if-not-parts_fit.true ∙ c.parts_fit.ensures.1 (starts_from_formed net origin external g wf, nodes_from_formed net origin external g wf, steps_from_formed net origin external g wf))),
+      λ wf. absurd (false≢true (sym c.if-not-parts_fit.true
+          ∙ c.parts_fit.ensures.1 (
+            starts_from_formed net origin external g wf,
+            nodes_from_formed net origin external g wf,
+            steps_from_formed net origin external g wf,
+          ))),
     )
 
 pub returns : goal.returns

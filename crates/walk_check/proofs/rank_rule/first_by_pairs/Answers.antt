@@ -12,9 +12,12 @@ pairs_met-requires-clause-alike c =
     let other = ap length c.nodes-other.ensures.nodes in
     let root : length c.nodes-size.result.now + length c.nodes-other.result.now ≡ both_sizes t g = omega (arith, size, other) in
     followed_also t g c.nodes-size.ensures.rules c.nodes-other.ensures.rules c.requires.live c.requires.graph c.in_ok-ways.ways.items
-    (live_are t g c.nodes-size.ensures.rules c.nodes-other.ensures.rules c.in_ok-ways.ways.items c.in_ok-ways.ensures.order (λ w. (c.in_ok-ways.ensures.same w).0) (λ w. (c.in_ok-ways.ensures.same w).1))
-    (graph_are t g c.nodes-size.ensures.rules c.nodes-other.ensures.rules c.in_ok-ways.ways.items c.in_ok-ways.ensures.order (λ w. (c.in_ok-ways.ensures.same w).0) (λ w. (c.in_ok-ways.ensures.same w).1))
-    c.deref.result.now (length c.nodes-size.result.now + length c.nodes-other.result.now) (length c.nodes-size.result.now + length c.nodes-other.result.now + 1) c.deref.ensures.value root (ap (λ n. n + 1) root)
+    (live_are t g c.nodes-size.ensures.rules c.nodes-other.ensures.rules c.in_ok-ways.ways.items c.in_ok-ways.ensures.order
+    (λ w. (c.in_ok-ways.ensures.same w).0) (λ w. (c.in_ok-ways.ensures.same w).1))
+    (graph_are t g c.nodes-size.ensures.rules c.nodes-other.ensures.rules c.in_ok-ways.ways.items c.in_ok-ways.ensures.order
+    (λ w. (c.in_ok-ways.ensures.same w).0) (λ w. (c.in_ok-ways.ensures.same w).1))
+    c.deref.result.now (length c.nodes-size.result.now + length c.nodes-other.result.now)
+    (length c.nodes-size.result.now + length c.nodes-other.result.now + 1) c.deref.ensures.value root (ap (λ n. n + 1) root)
     c.requires.alike
 
 pub returns-clause-first : goal.returns-clause-first
@@ -25,7 +28,10 @@ returns-clause-first c =
     let other = ap length c.nodes-other.ensures.nodes in
     let root : length c.nodes-size.result.now + length c.nodes-other.result.now ≡ both_sizes t g = omega (arith, size, other) in
     first_of_pairs t g c.nodes-size.ensures.rules c.nodes-other.ensures.rules c.requires.live c.requires.graph c.in_ok-ways.ways.items
-    (live_are t g c.nodes-size.ensures.rules c.nodes-other.ensures.rules c.in_ok-ways.ways.items c.in_ok-ways.ensures.order (λ w. (c.in_ok-ways.ensures.same w).0) (λ w. (c.in_ok-ways.ensures.same w).1))
-    (graph_are t g c.nodes-size.ensures.rules c.nodes-other.ensures.rules c.in_ok-ways.ways.items c.in_ok-ways.ensures.order (λ w. (c.in_ok-ways.ensures.same w).0) (λ w. (c.in_ok-ways.ensures.same w).1))
-    c.deref.result.now (length c.nodes-size.result.now + length c.nodes-other.result.now) (length c.nodes-size.result.now + length c.nodes-other.result.now + 1) c.in_ok-pairs.pairs.keys c.least_unlike.result
+    (live_are t g c.nodes-size.ensures.rules c.nodes-other.ensures.rules c.in_ok-ways.ways.items c.in_ok-ways.ensures.order
+    (λ w. (c.in_ok-ways.ensures.same w).0) (λ w. (c.in_ok-ways.ensures.same w).1))
+    (graph_are t g c.nodes-size.ensures.rules c.nodes-other.ensures.rules c.in_ok-ways.ways.items c.in_ok-ways.ensures.order
+    (λ w. (c.in_ok-ways.ensures.same w).0) (λ w. (c.in_ok-ways.ensures.same w).1))
+    c.deref.result.now (length c.nodes-size.result.now + length c.nodes-other.result.now)
+    (length c.nodes-size.result.now + length c.nodes-other.result.now + 1) c.in_ok-pairs.pairs.keys c.least_unlike.result
     c.deref.ensures.value root (ap (λ n. n + 1) root) c.in_ok-pairs.ensures c.least_unlike.ensures

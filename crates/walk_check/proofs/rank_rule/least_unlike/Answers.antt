@@ -22,5 +22,6 @@ loop-place-preserved c =
           (λ same. false≢true (sym w.if-not-is_same.true ∙ c.is_same.ensures.1 (c.rank_of.ensures ∙ same ∙ sym other))))
       | else-not-is_same w ↦
           subst (IsLeastUnlike t g (take (c.loop-place.place + 1) keys)) (sym w.least-is)
-          (least_next_same t g keys c.loop-place.place p c.loop-place.least c.pair_at-paired.ensures c.loop-place.invariant (sym c.rank_of.ensures ∙ c.is_same.ensures.0 w.if-not-is_same.false ∙ other))
+          (least_next_same t g keys c.loop-place.place p c.loop-place.least c.pair_at-paired.ensures c.loop-place.invariant
+          (sym c.rank_of.ensures ∙ c.is_same.ensures.0 w.if-not-is_same.false ∙ other))
     ]

@@ -1,7 +1,7 @@
 use Rattle.std.proofs.Common.{◌≡◌, ℕ, length}
 use Rattle.std.proofs.lemmas.Result.{IfOk-weaker}
 use Rattle.graph_base.specs.Runs.{rank_at, run}
-use Rattle.regret_law.specs.Faithful.{HasRank}
+use Rattle.evidence_law.specs.Faithful.{HasRank}
 use Rattle.node_classes.specs.Classes.{class_in}
 use Rattle.walk_check.specs.Firsts.{IsFirstOrNone, IsMet}
 use Rattle.node_classes.proofs.Stages.{tied_some}
@@ -14,7 +14,8 @@ returns-then-have_one_rank c = λ net s origin external faithful has.
     let g = c.args.graph.now in
     let k = c.args.classes.now in
     IsFirstOrNone-same (λ n. rank_at g n ≡ rank_at t (class_in k.graph n)) (HasRank net s origin g) (length g.nodes) c.first_by_classes.result
-    (rank-class net s origin external t g c.have_one_rank.ensures.rules c.first_by_classes.ensures.rules faithful has k c.requires.alike (c.have_one_rank.ensures.one.0 c.if-have_one_rank.true)) c.first_by_classes.ensures.first
+    (rank-class net s origin external t g c.have_one_rank.ensures.rules c.first_by_classes.ensures.rules faithful has k c.requires.alike
+    (c.have_one_rank.ensures.one.0 c.if-have_one_rank.true)) c.first_by_classes.ensures.first
 
 pub first_by_pairs-requires-clause-alike : goal.first_by_pairs-requires-clause-alike
 first_by_pairs-requires-clause-alike c = λ path.
@@ -24,6 +25,9 @@ pub returns : goal.returns
 returns c = λ net s origin external faithful has.
     let t = c.args.live.now in
     let g = c.args.graph.now in
-    IfOk-weaker c.first_by_pairs.result (λ o. IsFirstOrNone (λ n. (p : ℕ) → IsMet t g p n → rank_at g n ≡ rank_at t p) (length g.nodes) o) (λ o. IsFirstOrNone (HasRank net s origin g) (length g.nodes) o)
+    IfOk-weaker c.first_by_pairs.result (λ o. IsFirstOrNone (λ n. (p : ℕ) → IsMet t g p n → rank_at g n ≡ rank_at t p) (length g.nodes) o)
+    (λ o. IsFirstOrNone (HasRank net s origin g) (length g.nodes) o)
     (λ o. IsFirstOrNone-same (λ n. (p : ℕ) → IsMet t g p n → rank_at g n ≡ rank_at t p) (HasRank net s origin g) (length g.nodes) o
-    (λ n within. let same = HasRank-met net s origin external t g c.have_one_rank.ensures.rules c.first_by_pairs.ensures.rules faithful has n within in (same.1, same.0))) c.first_by_pairs.ensures.first
+    (λ n within. let same =
+    HasRank-met net s origin external t g c.have_one_rank.ensures.rules c.first_by_pairs.ensures.rules faithful has n within in
+    (same.1, same.0))) c.first_by_pairs.ensures.first

@@ -3,7 +3,7 @@ use Rattle.std.specs.Prelude.{IfNone, IfSome}
 use Rattle.std.proofs.lemmas.Bool.{false≢true}
 use Rattle.std.proofs.lemmas.Result.{IfOk-weaker}
 use Rattle.net_base.specs.Sets.{holds}
-use Rattle.regret_law.specs.Faithful.{HasWalks}
+use Rattle.evidence_law.specs.Faithful.{HasWalks}
 use Rattle.walk_check.specs.Alike.{AreAlike, AreUnlike}
 use Rattle.walk_check.proofs.AlikeWalks.{IfNone-weaker, IfSome-weaker, no_walks_from_unlike, walks_from_alike}
 use Rattle.walk_check.proofs.FormedParts.{single_from_formed}

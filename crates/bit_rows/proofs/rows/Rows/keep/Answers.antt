@@ -19,7 +19,9 @@ invariant_of-self c =
     let same : part ≡ r.words = c.deref_mut.ensures.value in
     let ys : List ℕ = c.keep_row.new.row in
     let len : length ys ≡ r.width = c.keep_row.ensures.len ∙ ap length (row_part r c.args.row part same) ∙ row_wide r c.args.row c.self.invariant lt in
-    let whole : length (put_mid (c.args.row * r.width) k part ys) ≡ c.self.inside.words.len = length-put_mid (c.args.row * r.width) k part ys (omega (arith, row_ends r c.args.row c.self.invariant lt, ap length same, wide)) (len ∙ sym wide) ∙ omega (arith, ap length same, c.self.inside.words.ok.0) in
+    let whole : length (put_mid (c.args.row * r.width) k part ys) ≡ c.self.inside.words.len = length-put_mid (c.args.row * r.width) k part ys
+    (omega (arith, row_ends r c.args.row c.self.invariant lt, ap length same, wide)) (len ∙ sym wide)
+    ∙ omega (arith, ap length same, c.self.inside.words.ok.0) in
     put_table r c.args.row c.self.invariant lt _ part ys same k wide len (with_items_is c.self.inside.words (put_mid (c.args.row * r.width) k part ys) whole) (λ b le.
     let has_not : has (row_of r c.args.row) b ≡ false = c.self.invariant.clear c.args.row b lt le in
     c.keep_row.ensures.bits b ∙ ap (λ l. has l b && has c.args.mask.now b) (row_part r c.args.row part same) ∙ ap (λ z. z && has c.args.mask.now b) has_not)
@@ -35,9 +37,19 @@ returns-clause-bits c = λ other b lo.
     let same : part ≡ r.words = c.deref_mut.ensures.value in
     let ys : List ℕ = c.keep_row.new.row in
     let len : length ys ≡ r.width = c.keep_row.ensures.len ∙ ap length (row_part r c.args.row part same) ∙ row_wide r c.args.row c.self.invariant lt in
-    let whole : length (put_mid (c.args.row * r.width) k part ys) ≡ c.self.inside.words.len = length-put_mid (c.args.row * r.width) k part ys (omega (arith, row_ends r c.args.row c.self.invariant lt, ap length same, wide)) (len ∙ sym wide) ∙ omega (arith, ap length same, c.self.inside.words.ok.0) in
+    let whole : length (put_mid (c.args.row * r.width) k part ys) ≡ c.self.inside.words.len = length-put_mid (c.args.row * r.width) k part ys
+    (omega (arith, row_ends r c.args.row c.self.invariant lt, ap length same, wide)) (len ∙ sym wide)
+    ∙ omega (arith, ap length same, c.self.inside.words.ok.0) in
     put_bits r c.args.row c.self.invariant lt _ part ys same k wide len (with_items_is c.self.inside.words (put_mid (c.args.row * r.width) k part ys) whole) other b
     ∙ elim (cases_eq other c.args.row) [
-      | inl e ↦ cond-true (eqb other c.args.row) (has ys b) (has_at r other b) (eq-eqb _ _ e) ∙ c.keep_row.ensures.bits b ∙ ap (λ l. has l b && has c.args.mask.now b) (row_part r c.args.row part same) ∙ ap (λ (t : PlainRows). has_at t c.args.row b && has c.args.mask.now b) view ∙ ap (λ o. has_at c.args.self.now o b && has c.args.mask.now b) (sym e) ∙ sym (ap (λ z. has_at c.args.self.now other b && (not z || has c.args.mask.now b)) (eq-eqb _ _ e))
-      | inr n ↦ cond-false (eqb other c.args.row) (has ys b) (has_at r other b) (ne_eqb _ _ n) ∙ ap (λ (t : PlainRows). has_at t other b) view ∙ sym (and-true (has_at c.args.self.now other b)) ∙ sym (ap (λ z. has_at c.args.self.now other b && (not z || has c.args.mask.now b)) (ne_eqb _ _ n))
+      | inl e ↦
+          cond-true (eqb other c.args.row) (has ys b) (has_at r other b) (eq-eqb _ _ e) ∙ c.keep_row.ensures.bits b
+          ∙ ap (λ l. has l b && has c.args.mask.now b) (row_part r c.args.row part same)
+          ∙ ap (λ (t : PlainRows). has_at t c.args.row b && has c.args.mask.now b) view
+          ∙ ap (λ o. has_at c.args.self.now o b && has c.args.mask.now b) (sym e)
+          ∙ sym (ap (λ z. has_at c.args.self.now other b && (not z || has c.args.mask.now b)) (eq-eqb _ _ e))
+      | inr n ↦
+          cond-false (eqb other c.args.row) (has ys b) (has_at r other b) (ne_eqb _ _ n) ∙ ap (λ (t : PlainRows). has_at t other b) view
+          ∙ sym (and-true (has_at c.args.self.now other b))
+          ∙ sym (ap (λ z. has_at c.args.self.now other b && (not z || has c.args.mask.now b)) (ne_eqb _ _ n))
     ]

@@ -63,7 +63,8 @@ module _ (c : After-loop-i) where
   done : (j : ℕ) → j < r.width → get_or words (c.args.into * r.width + j) 0 ≡ bit_or (get_or r.words (c.args.into * r.width + j) 0) (get_or r.words (c.args.from * r.width + j) 0)
   unfolding r words
   done j lt =
-      c.loop-i.invariant.done j (omega (arith, lt, c.loop-i-test.false)) ∙ ap (λ z. bit_or z (get_or c.args.self.now.words (c.args.from * c.self.inside.width + j) 0)) (read (c.args.into * c.self.inside.width + j))
+      c.loop-i.invariant.done j (omega (arith, lt, c.loop-i-test.false))
+      ∙ ap (λ z. bit_or z (get_or c.args.self.now.words (c.args.from * c.self.inside.width + j) 0)) (read (c.args.into * c.self.inside.width + j))
       ∙ ap (bit_or (get_or c.self.inside.words.items (c.args.into * c.self.inside.width + j) 0)) (read (c.args.from * c.self.inside.width + j))
 
   rest : (k : ℕ) → (k < c.args.into * r.width) ⊎ (c.args.into * r.width + r.width ≤ k) → get_or words k 0 ≡ get_or r.words k 0

@@ -17,7 +17,9 @@ invariant_of-self c =
     let same : part ≡ r.words = c.deref_mut.ensures.value in
     let ys : List ℕ = c.copy_from_slice.new.self in
     let len : length ys ≡ r.width = ap length c.copy_from_slice.ensures.after ∙ c.requires.words ∙ ap (λ (t : PlainRows). t.width) (sym view) in
-    let whole : length (put_mid (c.args.row * r.width) k part ys) ≡ c.self.inside.words.len = length-put_mid (c.args.row * r.width) k part ys (omega (arith, row_ends r c.args.row c.self.invariant lt, ap length same, wide)) (len ∙ sym wide) ∙ omega (arith, ap length same, c.self.inside.words.ok.0) in
+    let whole : length (put_mid (c.args.row * r.width) k part ys) ≡ c.self.inside.words.len = length-put_mid (c.args.row * r.width) k part ys
+    (omega (arith, row_ends r c.args.row c.self.invariant lt, ap length same, wide)) (len ∙ sym wide)
+    ∙ omega (arith, ap length same, c.self.inside.words.ok.0) in
     put_table r c.args.row c.self.invariant lt _ part ys same k wide len (with_items_is c.self.inside.words (put_mid (c.args.row * r.width) k part ys) whole) (λ b le.
     let has_not : has (row_of r c.args.row) b ≡ false = c.self.invariant.clear c.args.row b lt le in
     ap (λ l. has l b) c.copy_from_slice.ensures.after ∙ c.requires.clear b (omega (arith, le, ap (λ (t : PlainRows). t.bits) view)))
@@ -33,6 +35,9 @@ returns-clause-bits c = λ other b lo.
     let same : part ≡ r.words = c.deref_mut.ensures.value in
     let ys : List ℕ = c.copy_from_slice.new.self in
     let len : length ys ≡ r.width = ap length c.copy_from_slice.ensures.after ∙ c.requires.words ∙ ap (λ (t : PlainRows). t.width) (sym view) in
-    let whole : length (put_mid (c.args.row * r.width) k part ys) ≡ c.self.inside.words.len = length-put_mid (c.args.row * r.width) k part ys (omega (arith, row_ends r c.args.row c.self.invariant lt, ap length same, wide)) (len ∙ sym wide) ∙ omega (arith, ap length same, c.self.inside.words.ok.0) in
+    let whole : length (put_mid (c.args.row * r.width) k part ys) ≡ c.self.inside.words.len = length-put_mid (c.args.row * r.width) k part ys
+    (omega (arith, row_ends r c.args.row c.self.invariant lt, ap length same, wide)) (len ∙ sym wide)
+    ∙ omega (arith, ap length same, c.self.inside.words.ok.0) in
     put_bits r c.args.row c.self.invariant lt _ part ys same k wide len (with_items_is c.self.inside.words (put_mid (c.args.row * r.width) k part ys) whole) other b
-    ∙ ap (λ l. cond (eqb other c.args.row) (has l b) (has_at r other b)) c.copy_from_slice.ensures.after ∙ ap (λ (t : PlainRows). cond (eqb other c.args.row) (has c.args.words.now b) (has_at t other b)) view
+    ∙ ap (λ l. cond (eqb other c.args.row) (has l b) (has_at r other b)) c.copy_from_slice.ensures.after
+    ∙ ap (λ (t : PlainRows). cond (eqb other c.args.row) (has c.args.words.now b) (has_at t other b)) view

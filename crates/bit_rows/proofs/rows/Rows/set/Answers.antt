@@ -19,7 +19,9 @@ invariant_of-self c =
     let same : part ≡ r.words = c.deref_mut.ensures.value in
     let ys : List ℕ = c.set_bit.new.row in
     let len : length ys ≡ r.width = c.set_bit.ensures.len ∙ ap length (row_part r c.args.row part same) ∙ row_wide r c.args.row c.self.invariant lt in
-    let whole : length (put_mid (c.args.row * r.width) k part ys) ≡ c.self.inside.words.len = length-put_mid (c.args.row * r.width) k part ys (omega (arith, row_ends r c.args.row c.self.invariant lt, ap length same, wide)) (len ∙ sym wide) ∙ omega (arith, ap length same, c.self.inside.words.ok.0) in
+    let whole : length (put_mid (c.args.row * r.width) k part ys) ≡ c.self.inside.words.len = length-put_mid (c.args.row * r.width) k part ys
+    (omega (arith, row_ends r c.args.row c.self.invariant lt, ap length same, wide)) (len ∙ sym wide)
+    ∙ omega (arith, ap length same, c.self.inside.words.ok.0) in
     put_table r c.args.row c.self.invariant lt _ part ys same k wide len (with_items_is c.self.inside.words (put_mid (c.args.row * r.width) k part ys) whole) (λ b le.
     let has_not : has (row_of r c.args.row) b ≡ false = c.self.invariant.clear c.args.row b lt le in
     let apart : b ≢ c.args.bit = (λ e. let le_bits : r.bits ≤ b = le in absurd (omega (arith, e, le_bits, c.requires.bit, ap (λ (t : PlainRows). t.bits) view))) in
@@ -36,9 +38,19 @@ returns-clause-bits c = λ other b lo.
     let same : part ≡ r.words = c.deref_mut.ensures.value in
     let ys : List ℕ = c.set_bit.new.row in
     let len : length ys ≡ r.width = c.set_bit.ensures.len ∙ ap length (row_part r c.args.row part same) ∙ row_wide r c.args.row c.self.invariant lt in
-    let whole : length (put_mid (c.args.row * r.width) k part ys) ≡ c.self.inside.words.len = length-put_mid (c.args.row * r.width) k part ys (omega (arith, row_ends r c.args.row c.self.invariant lt, ap length same, wide)) (len ∙ sym wide) ∙ omega (arith, ap length same, c.self.inside.words.ok.0) in
+    let whole : length (put_mid (c.args.row * r.width) k part ys) ≡ c.self.inside.words.len = length-put_mid (c.args.row * r.width) k part ys
+    (omega (arith, row_ends r c.args.row c.self.invariant lt, ap length same, wide)) (len ∙ sym wide)
+    ∙ omega (arith, ap length same, c.self.inside.words.ok.0) in
     put_bits r c.args.row c.self.invariant lt _ part ys same k wide len (with_items_is c.self.inside.words (put_mid (c.args.row * r.width) k part ys) whole) other b
     ∙ elim (cases_eq other c.args.row) [
-      | inl e ↦ cond-true (eqb other c.args.row) (has ys b) (has_at r other b) (eq-eqb _ _ e) ∙ c.set_bit.ensures.bits b ∙ ap (λ l. has l b || eqb b c.args.bit) (row_part r c.args.row part same) ∙ ap (λ (t : PlainRows). has_at t c.args.row b || eqb b c.args.bit) view ∙ ap (λ o. has_at c.args.self.now o b || eqb b c.args.bit) (sym e) ∙ sym (ap (λ z. has_at c.args.self.now other b || (z && eqb b c.args.bit)) (eq-eqb _ _ e))
-      | inr n ↦ cond-false (eqb other c.args.row) (has ys b) (has_at r other b) (ne_eqb _ _ n) ∙ ap (λ (t : PlainRows). has_at t other b) view ∙ sym (or-false (has_at c.args.self.now other b)) ∙ sym (ap (λ z. has_at c.args.self.now other b || (z && eqb b c.args.bit)) (ne_eqb _ _ n))
+      | inl e ↦
+          cond-true (eqb other c.args.row) (has ys b) (has_at r other b) (eq-eqb _ _ e) ∙ c.set_bit.ensures.bits b
+          ∙ ap (λ l. has l b || eqb b c.args.bit) (row_part r c.args.row part same)
+          ∙ ap (λ (t : PlainRows). has_at t c.args.row b || eqb b c.args.bit) view
+          ∙ ap (λ o. has_at c.args.self.now o b || eqb b c.args.bit) (sym e)
+          ∙ sym (ap (λ z. has_at c.args.self.now other b || (z && eqb b c.args.bit)) (eq-eqb _ _ e))
+      | inr n ↦
+          cond-false (eqb other c.args.row) (has ys b) (has_at r other b) (ne_eqb _ _ n) ∙ ap (λ (t : PlainRows). has_at t other b) view
+          ∙ sym (or-false (has_at c.args.self.now other b))
+          ∙ sym (ap (λ z. has_at c.args.self.now other b || (z && eqb b c.args.bit)) (ne_eqb _ _ n))
     ]

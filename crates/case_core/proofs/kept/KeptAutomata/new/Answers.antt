@@ -1,6 +1,6 @@
 use Rattle.std.proofs.Common.{length, ap, ◌∙◌, sym}
 use Rattle.std.proofs.lemmas.List.{length-map}
-use Rattle.path_words.specs.Policies.{plain_statement, policy_of}
+use Rattle.policy_base.specs.Policies.{plain_statement, policy_of}
 use Rattle.case_core.proofs.KeptPlaces.{none_fit}
 use Rattle.case_core.proofs.kept.KeptAutomata.new.Goals as goal
 

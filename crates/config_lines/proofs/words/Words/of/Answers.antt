@@ -14,7 +14,16 @@ returns-then-count-eq-MOST_WORDS-clause-none c =
     let kept_length : length (texts (take n places)) ≡ min n (length places) = length-map (take n places) (λ (p : Bor (List ℕ)). p.now) ∙ length-take n places in
     let left : length (left_over 32 c.loop-left.left) ≡ length (slice_split (λ b. b == 32) c.in-Some.bytes.now) = ap (λ o. length (left_over 32 o)) c.in-Some.is in
     let whole : length (texts (take n places) ++ left_over 32 c.loop-left.left) ≡ length (slice_split (λ b. b == 32) c.args.line.now) = ap length before.whole in
-    omega (arith, kept_length, left, whole, length-append (texts (take n places)) (left_over 32 c.loop-left.left), length-slice_split (λ b. b == 32) c.in-Some.bytes.now, before.room, c.if-count-eq-MOST_WORDS.true)
+    omega (
+      arith,
+      kept_length,
+      left,
+      whole,
+      length-append (texts (take n places)) (left_over 32 c.loop-left.left),
+      length-slice_split (λ b. b == 32) c.in-Some.bytes.now,
+      before.room,
+      c.if-count-eq-MOST_WORDS.true,
+    )
 
 pub offset_bounds-places-count : goal.offset_bounds-places-count
 offset_bounds-places-count c = omega (arith, c.loop-left.invariant.count)
@@ -37,7 +46,9 @@ loop-left-preserved c =
     record {
       count = omega (arith, before.count, c.if-count-eq-MOST_WORDS.false);
       room = length-set c.loop-left.places c.loop-left.count c.first_part.result.0 ∙ before.room;
-      whole = kept c.loop-left.places c.loop-left.count c.first_part.result.0 (left_over 32 c.loop-left.left) (left_over 32 c.first_part.result.1) _ (omega (arith, before.count, before.room, c.if-count-eq-MOST_WORDS.false)) cut before.whole;
+      whole =
+          kept c.loop-left.places c.loop-left.count c.first_part.result.0 (left_over 32 c.loop-left.left) (left_over 32 c.first_part.result.1) _
+          (omega (arith, before.count, before.room, c.if-count-eq-MOST_WORDS.false)) cut before.whole;
     }
 
 pub returns-clause-some : goal.returns-clause-some

@@ -18,7 +18,8 @@ loop-from-preserved c =
     let gift = option_map gift_of c.gift-gift.result in
     let us : c.neighbours-from-items.result.now ≡ neighbours net c.args.at = c.neighbours-from-items.ensures in
     let long : length c.neighbours-from-items.result.now ≡ length (neighbours net c.args.at) = ap length us in
-    first_next net (λ u. taken_by net w.config.now w.prefix c.args.at u (offers (speakers w) (state w) c.args.at u)) (neighbours net c.args.at) c.loop-from.from-index c.from-item.result old gift (option_map gift_of c.if-leads.best)
+    first_next net (λ u. taken_by net w.config.now w.prefix c.args.at u (offers (speakers w) (state w) c.args.at u)) (neighbours net c.args.at)
+    c.loop-from.from-index c.from-item.result old gift (option_map gift_of c.if-leads.best)
     (omega (arith, long, c.loop-from-test.true))
     (c.from-item.is ∙ ap (λ xs. get_or xs c.loop-from.from-index c.from-item.result) us)
     c.loop-from.invariant

@@ -9,4 +9,7 @@ use Rattle.event_state.proofs.world.World.best.Given as goal
 
 abbrev pub invariant-loop-from : goal.invariant-loop-from
 invariant-loop-from l =
-    option_map gift_of l.best ≡ first_of l.self.net.now (λ u. taken_by l.self.net.now l.self.config.now l.self.prefix l.at u (offers (speakers l.self) (state l.self) l.at u)) (take l.from-index (neighbours l.self.net.now l.at))
+    option_map gift_of l.best
+    ≡ first_of l.self.net.now
+    (λ u. taken_by l.self.net.now l.self.config.now l.self.prefix l.at u (offers (speakers l.self) (state l.self) l.at u))
+    (take l.from-index (neighbours l.self.net.now l.at))

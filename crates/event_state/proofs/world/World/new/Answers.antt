@@ -10,9 +10,15 @@ invariant_of-result-clause-by_location c =
 
 pub invariant_of-result-clause-by_direction : goal.invariant_of-result-clause-by_direction
 invariant_of-result-clause-by_direction c =
-    let same = ap₂ (λ (xs ys : List (ℕ × ℕ)). length xs + length ys) c.links.ensures.links c.links-2.ensures.links in
-    (sized _ _ _ c.in_ok-marks-2.ensures _ same, sized _ _ _ c.in_ok-marks-3.ensures _ same, sized _ _ _ c.in_ok-queues.ensures _ same, sized _ _ _ c.in_ok-no_routes-2.ensures _ same, sized _ _ _ c.in_ok-no_routes-3.ensures _ same)
+    let same = ap₂ (λ (xs ys : List (ℕ × ℕ)). length xs + length ys) c.links.ensures.links c.links-2.ensures.links in (
+      sized _ _ _ c.in_ok-marks-2.ensures _ same,
+      sized _ _ _ c.in_ok-marks-3.ensures _ same,
+      sized _ _ _ c.in_ok-queues.ensures _ same,
+      sized _ _ _ c.in_ok-no_routes-2.ensures _ same,
+      sized _ _ _ c.in_ok-no_routes-3.ensures _ same,
+    )
 
 pub returns-clause-state : goal.returns-clause-state
 returns-clause-state c =
-    blank_made c.args.net.now _ _ _ _ _ _ _ _ _ c.in_ok-marks.ensures c.in_ok-no_routes.ensures c.in_ok-marks-2.ensures c.in_ok-marks-3.ensures c.in_ok-queues.ensures c.in_ok-no_routes-2.ensures c.in_ok-no_routes-3.ensures
+    blank_made c.args.net.now _ _ _ _ _ _ _ _ _ c.in_ok-marks.ensures c.in_ok-no_routes.ensures c.in_ok-marks-2.ensures c.in_ok-marks-3.ensures
+    c.in_ok-queues.ensures c.in_ok-no_routes-2.ensures c.in_ok-no_routes-3.ensures

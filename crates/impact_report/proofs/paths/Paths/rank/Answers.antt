@@ -1,6 +1,6 @@
 use Rattle.std.proofs.Common.{None, sym, ap, ◌∙◌, ltb-true}
 use Rattle.std.proofs.lemmas.List.{get_or_read}
-use Rattle.cut_search.specs.Tops.{entry_at}
+use Rattle.impact_report.specs.Tops.{entry_at}
 use Rattle.impact_report.proofs.paths.Paths.rank.Goals as goal
 
 pub rank_of_node-requires-clause-node : goal.rank_of_node-requires-clause-node

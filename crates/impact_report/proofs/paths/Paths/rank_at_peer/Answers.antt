@@ -39,8 +39,11 @@ returns-then-eq c =
     let low : c.args.node < length lists = omega (arith, c.requires.node, c.requires.lists.size) in
     let listed : nodes ≡ get_or lists c.args.node [] = c.as_slice-next-items.ensures ∙ get_or_read lists c.args.node c.index.result.now low c.index.ensures [] in
     let same : c.graph-graph.result.now ≡ g = c.graph-graph.ensures.graph in
-    let here : place_of g next ≡ c.args.peer = sym (ap (λ (h : PlainGraph). place_of h next) same) ∙ sym c.location.ensures ∙ eqb-true c.location.result c.args.peer (sym c.eq.ensures ∙ c.if-eq.true) in
-    c.rank.ensures ∙ ap (λ (h : PlainGraph). rank_at h next) same ∙ sym (rank_there g lists c.requires.lists c.args.node c.args.peer nodes listed next (among_at g lists c.requires.lists c.args.node c.args.peer nodes listed i c.loop-next-test.true) here)
+    let here : place_of g next ≡ c.args.peer = sym (ap (λ (h : PlainGraph). place_of h next) same) ∙ sym c.location.ensures
+    ∙ eqb-true c.location.result c.args.peer (sym c.eq.ensures ∙ c.if-eq.true) in
+    c.rank.ensures ∙ ap (λ (h : PlainGraph). rank_at h next) same
+    ∙ sym (rank_there g lists c.requires.lists c.args.node c.args.peer nodes listed next
+    (among_at g lists c.requires.lists c.args.node c.args.peer nodes listed i c.loop-next-test.true) here)
 
 pub returns : goal.returns
 returns c =
@@ -52,5 +55,6 @@ returns c =
     let same : c.graph-graph.result.now ≡ g = c.graph-graph.ensures.graph in
     let whole = take_all c.loop-next.next-index nodes c.loop-next-test.false in
     let none : list_any (λ n. place_of g n == c.args.peer) nodes ≡ false =
-    subst (λ (h : PlainGraph). list_any (λ n. place_of h n == c.args.peer) nodes ≡ false) same (subst (λ (xs : List ℕ). list_any (λ n. place_of c.graph-graph.result.now n == c.args.peer) xs ≡ false) whole c.loop-next.invariant) in
+    subst (λ (h : PlainGraph). list_any (λ n. place_of h n == c.args.peer) nodes ≡ false) same
+    (subst (λ (xs : List ℕ). list_any (λ n. place_of c.graph-graph.result.now n == c.args.peer) xs ≡ false) whole c.loop-next.invariant) in
     sym (rank_nowhere g lists c.requires.lists c.args.node c.args.peer nodes listed none)

@@ -3,7 +3,7 @@ use Rattle.std.specs.Prelude.{nat_eq, if◌then◌else◌}
 use Rattle.std.specs.Option.{option_eq}
 use Rattle.std.proofs.lemmas.Bool.{not-false, not-true}
 use Rattle.std.proofs.lemmas.List.{take_all}
-use Rattle.cut_search.specs.Tops.{entry_at}
+use Rattle.impact_report.specs.Tops.{entry_at}
 use Rattle.impact_law.specs.Impacts.{changed, failures_by, same_rank}
 use Rattle.impact_law.specs.declared.impact.SourceRank.{SourceRank}
 use Rattle.impact_report.specs.Paths.{rank_under}

@@ -1,5 +1,5 @@
 use Rattle.std.proofs.Common.{◌≡◌, map, take}
-use Rattle.cut_search.specs.Tops.{entry_at}
+use Rattle.impact_report.specs.Tops.{entry_at}
 use Rattle.impact_law.specs.Impacts.{changed, failures_by}
 use Rattle.impact_report.specs.Paths.{rank_under}
 use Rattle.impact_report.specs.Sources.{reranked}

@@ -1,5 +1,5 @@
-use Rattle.path_words.specs.Policies.{policy_of}
-use Rattle.policy_law.proofs.ReadPolicies.{read_policies_fit}
+use Rattle.policy_base.specs.Policies.{policy_of}
+use Rattle.policy_parser.proofs.FittingPolicies.{read_policies_fit}
 use Rattle.outcome_tests.proofs.settled.tests.texts.Goals as goal
 
 pub returns-in-Ok : goal.returns-in-Ok

@@ -2,7 +2,7 @@ use Rattle.std.proofs.Common.{◌≤◌, ◌<◌, [], Some, vec_len, length, map
 use Rattle.std.specs.Prelude.{IfSome, slice_get}
 use Rattle.std.specs.Map.{lookup}
 use Rattle.indexmap.specs.IndexSet.{insert_key}
-use Rattle.net_base.specs.declared.limits.TheConstants.{ALTERNATIVES}
+use Rattle.policy_base.specs.declared.limits.TheConstants.{ALTERNATIVES}
 use Rattle.path_terms.specs.Terms.{at}
 use Rattle.path_terms.specs.Values.{values}
 use Rattle.path_automata.specs.Derived.{same_key, IsDerivative}

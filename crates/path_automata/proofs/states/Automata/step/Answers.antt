@@ -2,7 +2,7 @@ use Rattle.std.proofs.Common.{◌≡◌, ◌≤◌, ◌<◌, ℕ, List, length, 
 use Rattle.std.specs.Prelude.{Err, Ok, OnErr, Result, slice_get}
 use Rattle.std.proofs.lemmas.List.{append-nil, length-append, length-map}
 use Rattle.std.proofs.lemmas.Option.{get_or_from_slice_get, same_Some, slice_get_within}
-use Rattle.net_base.specs.declared.limits.TheConstants.{ALTERNATIVES}
+use Rattle.policy_base.specs.declared.limits.TheConstants.{ALTERNATIVES}
 use Rattle.path_exprs.specs.Derivative.{derivative}
 use Rattle.path_exprs.specs.Expression.{Expression}
 use Rattle.path_exprs.proofs.Numbers.{known-more}
@@ -137,7 +137,8 @@ returns-in_err-number-clause-extends c =
     let self = c.args.self.now in (
       [],
       ap (states_in (values c.derivatives.new.terms)) c.in_err-number.ensures.err
-          ∙ states-extend (values self.terms) (values c.derivatives.new.terms) self.found.keys c.derivatives.ensures.extends self.known ∙ sym (append-nil (states_in (values self.terms) self.found.keys)),
+          ∙ states-extend (values self.terms) (values c.derivatives.new.terms) self.found.keys c.derivatives.ensures.extends self.known
+          ∙ sym (append-nil (states_in (values self.terms) self.found.keys)),
     )
 
 pub returns-in_err-next-clause-err : goal.returns-in_err-next-clause-err
@@ -235,7 +236,9 @@ invariant_of-self-2 c =
       known = all_known;
       kept = subst (λ (cs : Vec ℕ Global). AreDerivatives cs.items new c.derivatives.new.derived) (sym c.note.ensures.classes)
           (subst (λ (cs : List ℕ). AreDerivatives cs new c.derivatives.new.derived) c.classes.ensures c.derivatives.ensures.derived);
-      told = facts-grown self.facts.items c.put_facts.new.all.items ss (states_in new more) (map (at new) next.items) c.len.result (omega (arith, size, c.len.ensures.len)) self.told grown c.put_facts.ensures.before
+      told =
+          facts-grown self.facts.items c.put_facts.new.all.items ss (states_in new more) (map (at new) next.items) c.len.result
+          (omega (arith, size, c.len.ensures.len)) self.told grown c.put_facts.ensures.before
           (c.in_ok-put_facts.ensures.here ∙ ap Some (c.facts_of-facts.ensures ∙ ap (λ l. facts_of (map (at new) l)) c.deref-2.ensures.value));
       apart = apart-from_distinct new more c.derivatives.new.terms.apart all_known c.in_ok-number.ensures.unique;
       alike = alike-grown self.memo at_last ss (states_in new more) c.state.inside.0 c.args.at (map (at old) alternatives.items) (map (at new) next.items)

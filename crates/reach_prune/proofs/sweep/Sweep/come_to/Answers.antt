@@ -18,4 +18,5 @@ returns-in_ok-push c =
     let lost : has_at c.args.self.now.rows c.args.node c.args.next ≡ false = sym c.get.ensures ∙ c.if-get.false in
     let pushed = c.in_ok-push.ensures.items in
     let more : vec_len c.push.new.self ≡ vec_len old + 1 = omega (arith, ap length pushed, length_push old.items c.args.next, old.ok.0, c.push.new.self.ok.0) in
-    Comes-waits c.args.node c.args.next c.args.is_finished c.args.self.now new lost c.set.ensures.size c.requires.node c.if-is_finished.false (omega (arith, c.requires.next, c.requires.square)) c.set.ensures.bits pushed more
+    Comes-waits c.args.node c.args.next c.args.is_finished c.args.self.now new lost c.set.ensures.size c.requires.node c.if-is_finished.false
+    (omega (arith, c.requires.next, c.requires.square)) c.set.ensures.bits pushed more

@@ -103,7 +103,8 @@ search-preserved c =
     let la : at < length lists = open_below lists _ n at c.search.self mid c.search.invariant refl c.in-Some.ensures.items c.requires.lists ln in
     let items : List ℕ = c.as_slice-next-items.result.now in
     let read : items ≡ get_or lists at [] = c.as_slice-next-items.ensures ∙ get_or_read lists _ _ la c.index-lists-at.is [] in
-    close lists _ n at c.loop-next.self c.loop-next.invariant.stage (λ b h. c.loop-next.invariant.passed b (ap (λ l. is_among l b) (take_all c.loop-next.next-index items c.loop-next-test.false ∙ read) ∙ h))
+    close lists _ n at c.loop-next.self c.loop-next.invariant.stage
+    (λ b h. c.loop-next.invariant.passed b (ap (λ l. is_among l b) (take_all c.loop-next.next-index items c.loop-next-test.false ∙ read) ∙ h))
 
 pub returns : goal.returns
 returns c =
@@ -111,4 +112,6 @@ returns c =
     let idle : length c.search.self.waiting.items ≡ 0 = omega (arith, c.in_default.ensures.cases.0, c.search.self.waiting.ok.0) in
     let none : c.search.self.waiting.items ≡ [] = nil_from_length _ idle in
     let ended : length c.pop.new.self.items ≡ 0 = omega (arith, c.in_default.ensures.len, c.in_default.ensures.cases.0, c.pop.new.self.ok.0) in
-    swept_more c.args.way c.args.lists.now c.args.place c.search.self new refl (nil_from_length _ ended) c.requires.place (subst (λ n. Stage c.args.lists.now (λ a. ltb (nth c.args.way (length c.args.lists.now) a) c.args.place) n (λ a. ⊥) c.search.self) c.nth-node.ensures c.search.invariant) none
+    swept_more c.args.way c.args.lists.now c.args.place c.search.self new refl (nil_from_length _ ended) c.requires.place (subst
+    (λ n. Stage c.args.lists.now (λ a. ltb (nth c.args.way (length c.args.lists.now) a) c.args.place) n (λ a. ⊥) c.search.self)
+    c.nth-node.ensures c.search.invariant) none

@@ -16,12 +16,16 @@ loop-n-preserved c =
     elim c.if-is_touched.branch [
       | then-is_touched w ↦ record {
         cells = subst (AreCells g) (sym w.self-is) w.mark_row.ensures.cells;
-        rounds = λ m k p. noted_more t k n (round_in c.loop-n.self m k) (round_in c.args.self.now m k) (round_in c.if-is_touched.self m k) (has_at c.args.left.now k m) c.args.round (inv.rounds m k p) w.if-is_touched.true
+        rounds =
+            λ m k p. noted_more t k n (round_in c.loop-n.self m k) (round_in c.args.self.now m k) (round_in c.if-is_touched.self m k)
+            (has_at c.args.left.now k m) c.args.round (inv.rounds m k p) w.if-is_touched.true
             (ap (λ (z : Cells). round_in z m k) w.self-is ∙ w.mark_row.ensures.rounds m k p);
       }
       | else-is_touched w ↦ record {
         cells = subst (AreCells g) (sym w.self-is) inv.cells;
-        rounds = λ m k p. noted_same t k n (round_in c.loop-n.self m k) (round_in c.args.self.now m k) (round_in c.if-is_touched.self m k) (has_at c.args.left.now k m) c.args.round (inv.rounds m k p) w.if-is_touched.false
+        rounds =
+            λ m k p. noted_same t k n (round_in c.loop-n.self m k) (round_in c.args.self.now m k) (round_in c.if-is_touched.self m k)
+            (has_at c.args.left.now k m) c.args.round (inv.rounds m k p) w.if-is_touched.false
             (ap (λ (z : Cells). round_in z m k) w.self-is);
       }
     ]

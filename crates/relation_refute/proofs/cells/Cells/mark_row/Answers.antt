@@ -23,7 +23,8 @@ index-requires-then-not-is_set-2 c =
     let i = c.loop-m.m-index in
     let ls = c.peers-m-items.ensures.within i 0 c.loop-m-test.true in
     let pair = pair_at g nodes i c.args.n c.loop-m-test.true c.requires.n ls c.peers-m-items.ensures.members in
-    let is = cell_is old c.loop-m.self (get_or nodes i 0) c.args.n c.index.result.now c.index-then-not-is_set.result.now inv.spots inv.bases (omega (arith, ls, are.spots)) (omega (arith, c.requires.n, are.bases)) c.index.ensures c.index-then-not-is_set.ensures in
+    let is = cell_is old c.loop-m.self (get_or nodes i 0) c.args.n c.index.result.now c.index-then-not-is_set.result.now inv.spots inv.bases
+    (omega (arith, ls, are.spots)) (omega (arith, c.requires.n, are.bases)) c.index.ensures c.index-then-not-is_set.ensures in
     let inside = are.within (get_or nodes i 0) c.args.n pair in
     omega (arith, is, inside, inv.len, c.loop-m.self.rounds.ok.0)
 
@@ -37,7 +38,8 @@ index_mut-requires c =
     let i = c.loop-m.m-index in
     let ls = c.peers-m-items.ensures.within i 0 c.loop-m-test.true in
     let pair = pair_at g nodes i c.args.n c.loop-m-test.true c.requires.n ls c.peers-m-items.ensures.members in
-    let is = cell_is old c.loop-m.self (get_or nodes i 0) c.args.n c.index.result.now c.index-then-not-is_set.result.now inv.spots inv.bases (omega (arith, ls, are.spots)) (omega (arith, c.requires.n, are.bases)) c.index.ensures c.index-then-not-is_set.ensures in
+    let is = cell_is old c.loop-m.self (get_or nodes i 0) c.args.n c.index.result.now c.index-then-not-is_set.result.now inv.spots inv.bases
+    (omega (arith, ls, are.spots)) (omega (arith, c.requires.n, are.bases)) c.index.ensures c.index-then-not-is_set.ensures in
     let inside = are.within (get_or nodes i 0) c.args.n pair in
     omega (arith, is, inside, inv.len, c.loop-m.self.rounds.ok.0)
 
@@ -56,16 +58,19 @@ loop-m-preserved c =
     let pair = pair_at g nodes i n c.loop-m-test.true c.requires.n ls c.peers-m-items.ensures.members in
     let at : (m k : ℕ) → cell_at now m k ≡ cell_at old m k = λ m k. ap (λ l. get_or l m 0 + get_or now.bases.items k 0) inv.spots ∙ ap (λ l. get_or old.spots.items m 0 + get_or l k 0) inv.bases in
     let before : (m k : ℕ) → Pair (shown g) m k → get_or now.rounds.items (cell_at old m k) 0
-    ≡ cond (eqb k n && is_among (take i nodes) m) (marked_round (round_in old m k) (has_at c.args.left.now k m) c.args.round) (round_in old m k) = λ m k p. ap (λ z. get_or now.rounds.items z 0) (sym (at m k)) ∙ inv.rounds m k p in
+    ≡ cond (eqb k n && is_among (take i nodes) m) (marked_round (round_in old m k) (has_at c.args.left.now k m) c.args.round) (round_in old m k) =
+    λ m k p. ap (λ z. get_or now.rounds.items z 0) (sym (at m k)) ∙ inv.rounds m k p in
     let bit : c.is_set.result ≡ has_at c.args.left.now n s = c.is_set.ensures ∙ ap (λ l. has l s) c.row-row.ensures.words in
     elim c.if-not-is_set.branch [
       | then-not-is_set w ↦ (
           let x : ℕ = w.index.result.now in
           let y : ℕ = w.index-then-not-is_set.result.now in
-          let is : x + y ≡ cell_at old s n = cell_is old now s n x y inv.spots inv.bases (omega (arith, ls, are.spots)) (omega (arith, c.requires.n, are.bases)) w.index.ensures w.index-then-not-is_set.ensures in
+          let is : x + y ≡ cell_at old s n = cell_is old now s n x y inv.spots inv.bases (omega (arith, ls, are.spots))
+          (omega (arith, c.requires.n, are.bases)) w.index.ensures w.index-then-not-is_set.ensures in
           let inside = are.within s n pair in
           let room : x + y < length now.rounds.items = omega (arith, is, inside, inv.len) in
-          let read : w.index-then-not-is_set-2.result.now ≡ get_or now.rounds.items (cell_at old s n) 0 = get_or_read now.rounds.items (x + y) w.index-then-not-is_set-2.result.now room w.index-then-not-is_set-2.ensures 0 ∙ ap (λ z. get_or now.rounds.items z 0) is in
+          let read : w.index-then-not-is_set-2.result.now ≡ get_or now.rounds.items (cell_at old s n) 0 = get_or_read now.rounds.items (x + y)
+          w.index-then-not-is_set-2.result.now room w.index-then-not-is_set-2.ensures 0 ∙ ap (λ z. get_or now.rounds.items z 0) is in
           let value : w.marked.result ≡ marked_round (get_or now.rounds.items (cell_at old s n) 0) (has_at c.args.left.now n s) c.args.round =
           w.marked.ensures ∙ ap (λ z. marked_round z false c.args.round) read ∙ ap (λ z. marked_round (get_or now.rounds.items (cell_at old s n) 0) z c.args.round) (sym w.if-not-is_set.true ∙ bit) in
           record {

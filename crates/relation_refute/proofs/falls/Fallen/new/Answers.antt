@@ -82,9 +82,13 @@ rounds-preserved c =
     let at : AreAt g claimed (has_at onwards) (suc k) new = next.next claimed (has_at onwards) k (knows_own g k old onwards inv.at.1) come.at in
     let at_last : AreAt g claimed (has_at onwards) last new = subst (λ z. AreAt g claimed (has_at onwards) z new) (sym is) at in
     let noted : (m n : ℕ) → Pair (shown g) m n → round_in c.mark.new.self m n ≡ cond (is_touched new.touched.items n) (cond (eqb (round_in c.rounds.cells m n) 0 && not (has_at new.left n m)) (suc k) (round_in c.rounds.cells m n)) (round_in c.rounds.cells m n) =
-    λ m n p. c.mark.ensures.rounds m n p ∙ ap (λ (l : List Bool). cond (is_touched l n) (cond (eqb (round_in c.rounds.cells m n) 0 && not (has_at new.left n m)) last (round_in c.rounds.cells m n)) (round_in c.rounds.cells m n)) c.deref.ensures.value
+    λ m n p. c.mark.ensures.rounds m n p
+    ∙ ap (λ (l : List Bool). cond (is_touched l n)
+    (cond (eqb (round_in c.rounds.cells m n) 0 && not (has_at new.left n m)) last (round_in c.rounds.cells m n))
+    (round_in c.rounds.cells m n)) c.deref.ensures.value
     ∙ ap (λ z. cond (is_touched new.touched.items n) (cond (eqb (round_in c.rounds.cells m n) 0 && not (has_at new.left n m)) z (round_in c.rounds.cells m n)) (round_in c.rounds.cells m n)) is in
-    let tells : Tells (view_of g claimed) (has_at onwards) (suc k) (round_in c.mark.new.self) = tells_next (view_of g claimed) (has_at onwards) k (round_in c.rounds.cells) (round_in c.mark.new.self) come.tells
+    let tells : Tells (view_of g claimed) (has_at onwards) (suc k) (round_in c.mark.new.self) = tells_next (view_of g claimed) (has_at onwards) k
+    (round_in c.rounds.cells) (round_in c.mark.new.self) come.tells
     (marks_next g claimed (has_at onwards) k old.left new.left (round_in c.rounds.cells) (round_in c.mark.new.self) new.touched.items come.tells come.at.exact at.exact next.quiet noted) in
     record {
       sized = next.sized;
@@ -113,7 +117,8 @@ returns c =
     let inv = c.rounds.invariant in
     let is : Some inv.at.0 ≡ Some c.unwrap-onwards.result = sym inv.at.1 ∙ c.unwrap-onwards.ensures in
     let same : inv.at.0 ≡ c.unwrap-onwards.result = cc in
-    let come : HasCome g claimed c.unwrap-onwards.result c.rounds.last c.rounds.rounds c.rounds.cells c.rounds.is_open = subst (λ (z : PlainRows). HasCome g claimed z c.rounds.last c.rounds.rounds c.rounds.cells c.rounds.is_open) same inv.at.2 in
+    let come : HasCome g claimed c.unwrap-onwards.result c.rounds.last c.rounds.rounds c.rounds.cells c.rounds.is_open =
+    subst (λ (z : PlainRows). HasCome g claimed z c.rounds.last c.rounds.rounds c.rounds.cells c.rounds.is_open) same inv.at.2 in
     let stopped = come.stopped c.rounds-test.false in
     record {
       told = told_of g c.rounds.rounds c.unwrap-onwards.result inv.sized c.unwrap-onwards.ensures;

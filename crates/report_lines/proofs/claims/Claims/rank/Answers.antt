@@ -1,5 +1,5 @@
 use Rattle.std.proofs.Common.{ap, option_map}
-use Rattle.path_words.specs.Policies.{plain_statement}
+use Rattle.policy_base.specs.Policies.{plain_statement}
 use Rattle.report_lines.proofs.claims.Claims.rank.Goals as goal
 
 pub rank_of-requires : goal.rank_of-requires

@@ -13,4 +13,7 @@ returns-in-None c =
     sym (ap (λ o. o && not (is_dead_link (failures_of c.args.self.now.scenario.now) c.args.a c.args.b)) none)
 
 pub returns-in-Some : goal.returns-in-Some
-returns-in-Some c = ap not c.index.ensures ∙ mark_read c.args.self.now.net.now c.args.a c.args.b c.in-Some.place (sym c.link_place.ensures ∙ c.in-Some.is) c.args.self.now.scenario.now.dead_links c.args.self.now.cut.items c.index.result.now c.args.self.now.of_links
+returns-in-Some c =
+    ap not c.index.ensures
+    ∙ mark_read c.args.self.now.net.now c.args.a c.args.b c.in-Some.place (sym c.link_place.ensures ∙ c.in-Some.is)
+    c.args.self.now.scenario.now.dead_links c.args.self.now.cut.items c.index.result.now c.args.self.now.of_links

@@ -1,5 +1,5 @@
 use Rattle.std.proofs.Common.{◌≡◌, refl, rules}
-use Rattle.path_words.specs.Policies.{policy_of}
+use Rattle.policy_base.specs.Policies.{policy_of}
 use Rattle.stable_paths.specs.Scenarios.{failures_of}
 use Rattle.stable_paths.proofs.Settled.{settled_more, stable-from_settled}
 use Rattle.stable_paths.proofs.situation.Situation.are_settled.Goals as goal

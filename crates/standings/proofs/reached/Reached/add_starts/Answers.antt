@@ -33,7 +33,8 @@ loop-number-preserved c =
       | then-holds+in_ok-add_start w ↦
           let same : left_in states 0 ≡ left = left_in-extends first states 0 c.loop-number.invariant.kept c.requires.begun in
           let added : standings_of w.add_start.new.self ≡ gathered old (moved left n ∷ []) =
-          w.in_ok-add_start.ensures.ok ∙ ap (λ l. with_standing old (moved l c.new-at.result)) same ∙ ap (λ k. with_standing old (moved left k)) c.new-at.ensures ∙ sym (gathered-one old (moved left n)) in
+          w.in_ok-add_start.ensures.ok ∙ ap (λ l. with_standing old (moved l c.new-at.result)) same
+          ∙ ap (λ k. with_standing old (moved left k)) c.new-at.ensures ∙ sym (gathered-one old (moved left n)) in
           let origin : p n ≡ true = sym (c.holds.ensures ∙ ap p c.new-at.ensures) ∙ w.if-holds.true in
           record {
             added = ap standings_of w.self-is

@@ -21,7 +21,8 @@ returns-clause-few c =
     let ss = states_of c.args.self.now.automata in
     let room : length (with_standing (standings_in ss c.args.self.now.found.keys) (standing_in ss (c.args.at, c.args.state))) ≤ 4096 = search rules in
     subst (λ l. length l ≤ 4096)
-    (sym (standings_in-insert_key ss c.args.self.now.found.keys c.insert_full.new.self.keys (c.args.at, c.args.state) c.args.self.now.apart c.requires.known c.args.self.now.known c.in_ok-number.ensures.keys))
+    (sym (standings_in-insert_key ss c.args.self.now.found.keys c.insert_full.new.self.keys (c.args.at, c.args.state) c.args.self.now.apart
+    c.requires.known c.args.self.now.known c.in_ok-number.ensures.keys))
     room
 
 pub overflow_cast-result : goal.overflow_cast-result
@@ -30,6 +31,7 @@ overflow_cast-result c =
     let room : length (with_standing (standings_in ss c.args.self.now.found.keys) (standing_in ss (c.args.at, c.args.state))) ≤ 4096 = search rules in
     let size = length-standings_in ss c.insert_full.new.self.keys in
     let few : length (standings_in ss c.insert_full.new.self.keys) ≤ 4096 = subst (λ l. length l ≤ 4096)
-    (sym (standings_in-insert_key ss c.args.self.now.found.keys c.insert_full.new.self.keys (c.args.at, c.args.state) c.args.self.now.apart c.requires.known c.args.self.now.known c.in_ok-number.ensures.keys))
+    (sym (standings_in-insert_key ss c.args.self.now.found.keys c.insert_full.new.self.keys (c.args.at, c.args.state) c.args.self.now.apart
+    c.requires.known c.args.self.now.known c.in_ok-number.ensures.keys))
     room in
     omega (arith, few, size, c.in_ok-number.ensures.within)

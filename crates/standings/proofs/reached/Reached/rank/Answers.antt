@@ -4,7 +4,7 @@ use Rattle.std.proofs.lemmas.Bool.{and_from, cond-true}
 use Rattle.net_base.specs.Sets.{holds}
 use Rattle.path_automata.specs.States.{states_of}
 use Rattle.path_exprs.specs.Runs.{first_with}
-use Rattle.path_words.specs.Permitted.{from_holds}
+use Rattle.policy_base.specs.Permitted.{from_holds}
 use Rattle.standings.specs.Growth.{left_in}
 use Rattle.standings.proofs.Numbering.{slice_get-left_in}
 use Rattle.standings.proofs.reached.Reached.rank.Goals as goal

@@ -12,7 +12,9 @@ pub loop-number-init : goal.loop-number-init
 loop-number-init c =
     let first = standings_of c.args.self.now in
     record {
-      asked = subst (λ l. AreAsked first (next_in c.args.net.now c.args.case.now) first l 0) (sym c.requires.no_steps) (asked-start (next_in c.args.net.now c.args.case.now) first c.requires.different);
+      asked =
+          subst (λ l. AreAsked first (next_in c.args.net.now c.args.case.now) first l 0) (sym c.requires.no_steps)
+          (asked-start (next_in c.args.net.now c.args.case.now) first c.requires.different);
       few = c.requires.few;
       within = omega arith;
       kept = extends-itself (states_of c.args.self.now.automata);
@@ -22,13 +24,16 @@ pub index-requires : goal.index-requires
 index-requires c =
     let net = c.args.net.now in
     let key = c.standing-at.ensures in
-    let all_within = asked-within net c.args.case.now (standings_of c.args.self.now) (standings_of c.loop-number.self) c.loop-number.self.steps.items c.loop-number.number c.requires.within c.loop-number.invariant.asked in
+    let all_within = asked-within net c.args.case.now (standings_of c.args.self.now) (standings_of c.loop-number.self) c.loop-number.self.steps.items
+    c.loop-number.number c.requires.within c.loop-number.invariant.asked in
     let within = key-within net (states_of c.loop-number.self.automata) c.loop-number.self.found.keys c.loop-number.number c.standing-at.result.0 c.standing-at.result.1 all_within key in
     let size = length-made (λ v. v.items) c.in_ok-ways.ways.items (ways net c.args.case.now) (length net.routers + length net.peers) c.in_ok-ways.ensures in
     omega (arith, c.number.ensures)
 
 pub add_steps-requires-clause-known : goal.add_steps-requires-clause-known
-add_steps-requires-clause-known c = known-at (states_of c.loop-number.self.automata) c.loop-number.self.found.keys c.loop-number.number c.standing-at.result c.loop-number.self.known c.standing-at.ensures
+add_steps-requires-clause-known c =
+    known-at (states_of c.loop-number.self.automata) c.loop-number.self.found.keys c.loop-number.number c.standing-at.result c.loop-number.self.known
+    c.standing-at.ensures
 
 pub loop-number-preserved : goal.loop-number-preserved
 loop-number-preserved c =
@@ -44,7 +49,9 @@ loop-number-preserved c =
     let within = key-within net states keys n at c.standing-at.result.1 all_within c.standing-at.ensures in
     let element = c.index.ensures ∙ ap (λ k. get_or c.in_ok-ways.ways.items k c.index.result.now) c.number.ensures in
     let here : c.deref.result.now ≡ ways net case at =
-    c.deref.ensures.value ∙ made-at (λ v. v.items) c.in_ok-ways.ways.items (ways net case) (length net.routers + length net.peers) at c.index.result.now c.index.result.now c.in_ok-ways.ensures within element in
+    c.deref.ensures.value
+    ∙ made-at (λ v. v.items) c.in_ok-ways.ways.items (ways net case) (length net.routers + length net.peers) at c.index.result.now
+    c.index.result.now c.in_ok-ways.ensures within element in
     let size = length-standings_in states keys in
     let longer = gathered-extends (standings_of c.loop-number.self) (each_live (left_in states c.standing-at.result.1) c.deref.result.now) in
     let grown = ap length (c.in_ok-add_steps.ensures.ok ∙ longer.1) ∙ length-append (standings_of c.loop-number.self) longer.0 in
@@ -81,7 +88,13 @@ returns-in_err-add_steps-clause-many c = λ fault.
     let within = key-within net states keys n at c.standing-at.result.1 all_within c.standing-at.ensures in
     let element = c.index.ensures ∙ ap (λ k. get_or c.in_ok-ways.ways.items k c.index.result.now) c.number.ensures in
     let here : c.deref.result.now ≡ ways net case at =
-    c.deref.ensures.value ∙ made-at (λ v. v.items) c.in_ok-ways.ways.items (ways net case) (length net.routers + length net.peers) at c.index.result.now c.index.result.now c.in_ok-ways.ensures within element in
+    c.deref.ensures.value
+    ∙ made-at (λ v. v.items) c.in_ok-ways.ways.items (ways net case) (length net.routers + length net.peers) at c.index.result.now
+    c.index.result.now c.in_ok-ways.ensures within element in
     let grown = λ (m : ℕ). gathered (standings_of c.loop-number.self) (each_live (left_in states c.standing-at.result.1) (take m c.deref.result.now)) in
-    let part : (m : ℕ) × (4096 < length (grown m)) = search rules in
-    (grown part.0, reached-key net case first states keys n at c.standing-at.result.1 part.0 c.deref.result.now (grown part.0) steps c.loop-number.invariant.asked c.standing-at.ensures here refl, part.1)
+    let part : (m : ℕ) × (4096 < length (grown m)) = search rules in (
+      grown part.0,
+      reached-key net case first states keys n at c.standing-at.result.1 part.0 c.deref.result.now (grown part.0) steps
+          c.loop-number.invariant.asked c.standing-at.ensures here refl,
+      part.1,
+    )

@@ -13,9 +13,14 @@ put_each-requires-clause-within c = λ n b ln lb.
     let g = c.args.maps.now.graph.now in
     let old = c.args.self.now in
     let mid : PlainRows = c.take_each.new.next in
-    let taken : (n m : ℕ) → n < length g.nodes → m < length g.nodes → has_at mid n m ≡ (has_at old.next n m && not (goes_by (shown g) (tells old.onwards) (gone_in old.left) (is_touched old.touched.items) m n)) = rw c.deref.ensures.value at c.take_each.ensures.bits in
+    let taken : (n m : ℕ) → n < length g.nodes → m < length g.nodes
+    → has_at mid n m
+    ≡ (has_at old.next n m && not (goes_by (shown g) (tells old.onwards) (gone_in old.left) (is_touched old.touched.items) m n)) =
+    rw c.deref.ensures.value at c.take_each.ensures.bits in
     let count : length c.deref_mut-3.result.now ≡ length g.nodes = ap length c.deref_mut-3.ensures.value ∙ c.requires.touched in
-    taken_within (length g.nodes) old.left old.next mid (λ n m. goes_by (shown g) (tells old.onwards) (gone_in old.left) (is_touched old.touched.items) m n) c.requires.within taken n b (omega (arith, ln, count)) (omega (arith, lb, count))
+    taken_within (length g.nodes) old.left old.next mid
+    (λ n m. goes_by (shown g) (tells old.onwards) (gone_in old.left) (is_touched old.touched.items) m n) c.requires.within taken n b
+    (omega (arith, ln, count)) (omega (arith, lb, count))
 
 pub returns-clause-sized : goal.returns-clause-sized
 returns-clause-sized c =
@@ -49,9 +54,13 @@ returns-clause-next c = λ claimed reach k knows at.
     let old = c.args.self.now in
     let mid : PlainRows = c.take_each.new.next in
     let marked : List Bool = c.put_each.new.touched in
-    let taken : (n m : ℕ) → n < length g.nodes → m < length g.nodes → has_at mid n m ≡ (has_at old.next n m && not (goes_by (shown g) (tells old.onwards) (gone_in old.left) (is_touched old.touched.items) m n)) = rw c.deref.ensures.value at c.take_each.ensures.bits in
+    let taken : (n m : ℕ) → n < length g.nodes → m < length g.nodes
+    → has_at mid n m
+    ≡ (has_at old.next n m && not (goes_by (shown g) (tells old.onwards) (gone_in old.left) (is_touched old.touched.items) m n)) =
+    rw c.deref.ensures.value at c.take_each.ensures.bits in
     let count : length c.deref_mut-3.result.now ≡ length g.nodes = ap length c.deref_mut-3.ensures.value ∙ c.requires.touched in
-    let put : Put (length g.nodes) mid old.left c.put_each.new.left marked c.put_each.result = subst (λ (n : ℕ). Put n mid old.left c.put_each.new.left marked c.put_each.result) count c.put_each.ensures.put in
+    let put : Put (length g.nodes) mid old.left c.put_each.new.left marked c.put_each.result =
+    subst (λ (n : ℕ). Put n mid old.left c.put_each.new.left marked c.put_each.result) count c.put_each.ensures.put in
     let len : length marked ≡ length g.nodes = c.put_each.ensures.len ∙ count in
     let back : _ ≡ marked = with_items_is old.touched marked (omega (arith, len, c.requires.touched, old.touched.ok.0)) in
     subst (λ (l : List Bool). AtRound (view_of g claimed) reach (suc k) c.put_each.new.left mid (is_touched l)) (sym back)
@@ -63,9 +72,13 @@ returns-clause-settled c = λ e claimed reach k knows at.
     let old = c.args.self.now in
     let mid : PlainRows = c.take_each.new.next in
     let marked : List Bool = c.put_each.new.touched in
-    let taken : (n m : ℕ) → n < length g.nodes → m < length g.nodes → has_at mid n m ≡ (has_at old.next n m && not (goes_by (shown g) (tells old.onwards) (gone_in old.left) (is_touched old.touched.items) m n)) = rw c.deref.ensures.value at c.take_each.ensures.bits in
+    let taken : (n m : ℕ) → n < length g.nodes → m < length g.nodes
+    → has_at mid n m
+    ≡ (has_at old.next n m && not (goes_by (shown g) (tells old.onwards) (gone_in old.left) (is_touched old.touched.items) m n)) =
+    rw c.deref.ensures.value at c.take_each.ensures.bits in
     let count : length c.deref_mut-3.result.now ≡ length g.nodes = ap length c.deref_mut-3.ensures.value ∙ c.requires.touched in
-    let put : Put (length g.nodes) mid old.left c.put_each.new.left marked c.put_each.result = subst (λ (n : ℕ). Put n mid old.left c.put_each.new.left marked c.put_each.result) count c.put_each.ensures.put in
+    let put : Put (length g.nodes) mid old.left c.put_each.new.left marked c.put_each.result =
+    subst (λ (n : ℕ). Put n mid old.left c.put_each.new.left marked c.put_each.result) count c.put_each.ensures.put in
     advanced_settled g old.onwards old.left old.next mid c.put_each.new.left old.touched.items marked c.put_each.result taken put claimed reach k knows at e
 
 pub returns-clause-quiet : goal.returns-clause-quiet
@@ -74,13 +87,19 @@ returns-clause-quiet c = λ n b ln lb none.
     let old = c.args.self.now in
     let mid : PlainRows = c.take_each.new.next in
     let marked : List Bool = c.put_each.new.touched in
-    let taken : (n m : ℕ) → n < length g.nodes → m < length g.nodes → has_at mid n m ≡ (has_at old.next n m && not (goes_by (shown g) (tells old.onwards) (gone_in old.left) (is_touched old.touched.items) m n)) = rw c.deref.ensures.value at c.take_each.ensures.bits in
+    let taken : (n m : ℕ) → n < length g.nodes → m < length g.nodes
+    → has_at mid n m
+    ≡ (has_at old.next n m && not (goes_by (shown g) (tells old.onwards) (gone_in old.left) (is_touched old.touched.items) m n)) =
+    rw c.deref.ensures.value at c.take_each.ensures.bits in
     let count : length c.deref_mut-3.result.now ≡ length g.nodes = ap length c.deref_mut-3.ensures.value ∙ c.requires.touched in
-    let put : Put (length g.nodes) mid old.left c.put_each.new.left marked c.put_each.result = subst (λ (n : ℕ). Put n mid old.left c.put_each.new.left marked c.put_each.result) count c.put_each.ensures.put in
+    let put : Put (length g.nodes) mid old.left c.put_each.new.left marked c.put_each.result =
+    subst (λ (n : ℕ). Put n mid old.left c.put_each.new.left marked c.put_each.result) count c.put_each.ensures.put in
     let len : length marked ≡ length g.nodes = c.put_each.ensures.len ∙ count in
     let back : _ ≡ marked = with_items_is old.touched marked (omega (arith, len, c.requires.touched, old.touched.ok.0)) in
-    let within : AreWithin (length g.nodes) mid old.left = taken_within (length g.nodes) old.left old.next mid (λ n m. goes_by (shown g) (tells old.onwards) (gone_in old.left) (is_touched old.touched.items) m n) c.requires.within taken in
-    advanced_quiet g old.onwards old.left old.next mid c.put_each.new.left old.touched.items marked c.put_each.result taken put within n b ln lb (ap (λ (l : List Bool). is_touched l n) (sym back) ∙ none)
+    let within : AreWithin (length g.nodes) mid old.left = taken_within (length g.nodes) old.left old.next mid
+    (λ n m. goes_by (shown g) (tells old.onwards) (gone_in old.left) (is_touched old.touched.items) m n) c.requires.within taken in
+    advanced_quiet g old.onwards old.left old.next mid c.put_each.new.left old.touched.items marked c.put_each.result taken put within n b ln lb
+    (ap (λ (l : List Bool). is_touched l n) (sym back) ∙ none)
 
 pub returns-clause-fewer : goal.returns-clause-fewer
 returns-clause-fewer c =
@@ -88,8 +107,13 @@ returns-clause-fewer c =
     let old = c.args.self.now in
     let mid : PlainRows = c.take_each.new.next in
     let marked : List Bool = c.put_each.new.touched in
-    let taken : (n m : ℕ) → n < length g.nodes → m < length g.nodes → has_at mid n m ≡ (has_at old.next n m && not (goes_by (shown g) (tells old.onwards) (gone_in old.left) (is_touched old.touched.items) m n)) = rw c.deref.ensures.value at c.take_each.ensures.bits in
+    let taken : (n m : ℕ) → n < length g.nodes → m < length g.nodes
+    → has_at mid n m
+    ≡ (has_at old.next n m && not (goes_by (shown g) (tells old.onwards) (gone_in old.left) (is_touched old.touched.items) m n)) =
+    rw c.deref.ensures.value at c.take_each.ensures.bits in
     let count : length c.deref_mut-3.result.now ≡ length g.nodes = ap length c.deref_mut-3.ensures.value ∙ c.requires.touched in
-    let put : Put (length g.nodes) mid old.left c.put_each.new.left marked c.put_each.result = subst (λ (n : ℕ). Put n mid old.left c.put_each.new.left marked c.put_each.result) count c.put_each.ensures.put in
-    let within : AreWithin (length g.nodes) mid old.left = taken_within (length g.nodes) old.left old.next mid (λ n m. goes_by (shown g) (tells old.onwards) (gone_in old.left) (is_touched old.touched.items) m n) c.requires.within taken in
+    let put : Put (length g.nodes) mid old.left c.put_each.new.left marked c.put_each.result =
+    subst (λ (n : ℕ). Put n mid old.left c.put_each.new.left marked c.put_each.result) count c.put_each.ensures.put in
+    let within : AreWithin (length g.nodes) mid old.left = taken_within (length g.nodes) old.left old.next mid
+    (λ n m. goes_by (shown g) (tells old.onwards) (gone_in old.left) (is_touched old.touched.items) m n) c.requires.within taken in
     advanced_fewer g old.onwards old.left old.next mid c.put_each.new.left old.touched.items marked c.put_each.result taken put within c.requires.left.bits

@@ -22,7 +22,12 @@ returns-clause-sized c =
     record {
       left = left.rows;
       wide = left.wide;
-      next = record { count = next.rows.count ∙ sym left.rows.count; bits = next.rows.bits ∙ sym left.rows.bits; width = omega (arith, next.wide.room, next.wide.tight, left.wide.room, left.wide.tight) };
+      next =
+          record {
+            count = next.rows.count ∙ sym left.rows.count;
+            bits = next.rows.bits ∙ sym left.rows.bits;
+            width = omega (arith, next.wide.room, next.wide.tight, left.wide.room, left.wide.tight);
+          };
       within = λ n b ln lb h. all b n lb ln ∙ (and_parts (same_place v b n) (not (is_outranked v b n)) (sym (next.bits b n lb ln) ∙ h)).0;
       touched = search rules;
       onwards = tt;
@@ -39,5 +44,6 @@ returns-clause-first c = λ reach.
     left.bits m n lm ln ∙ ap (λ z. same_place v m n && not (z && not (no_worse (rank_at g m) (rank_at g n)))) (c.new.ensures.holds (place_of g n)) ∙ and-true (same_place v m n) in
     let size : length c.nodes.result.now ≡ length g.nodes = ap length (c.nodes.ensures.nodes ∙ ap (λ g. g.nodes) c.graph.ensures) in
     let items : c.in_ok-touched.touched.items ≡ replicate (length c.nodes.result.now) true = c.in_ok-touched.ensures.items_if_clones_equal (λ y clone. clone) in
-    let each : (t : ℕ) → t < length g.nodes → is_touched c.in_ok-touched.touched.items t ≡ true = λ t lt. ap (λ l. get_or l t false) items ∙ get_or-replicate (length c.nodes.result.now) t true false (omega (arith, lt, size)) in
+    let each : (t : ℕ) → t < length g.nodes → is_touched c.in_ok-touched.touched.items t ≡ true = λ t lt. ap (λ l. get_or l t false) items
+    ∙ get_or-replicate (length c.nodes.result.now) t true false (omega (arith, lt, size)) in
     at_first v reach c.in_ok-left.left c.in_ok-next.next (is_touched c.in_ok-touched.touched.items) each all c.in_ok-next.ensures.bits

@@ -1,0 +1,126 @@
+-- In the block of a peer there is no import line for the class of a prefix of which the peer is no origin.
+use Rattle.std.proofs.Common.{◌≡◌, ℕ, suc, Bool, true, false, List, Option, Some, None, refl, sym, ap, ◌∙◌, inl, inr, subst}
+use Rattle.std.specs.Prelude.{◌||◌, ◌==◌, is_some, not, slice_get}
+use Rattle.std.specs.List.{find}
+use Rattle.std.specs.Option.{option_and_then}
+use Rattle.std.proofs.lemmas.Bool.{and_parts, eqb-true, false_from_ne_true, not-true, or_cases, true≢false}
+use Rattle.std.proofs.lemmas.Option.{slice_get-map, same_Some}
+use Rattle.list_laws.specs.Members.{IsIn}
+use Rattle.list_laws.proofs.Options.{cases_Option, none_from, none_or_some, option_and_then_parts, option_map_parts}
+use Rattle.list_laws.proofs.Tests.{find_parts, list_any_parts}
+use Rattle.net_base.specs.declared.loc.LocSet.{LocSet}
+use Rattle.net_base.specs.declared.numbers.Tag.{Tag}
+use Rattle.net_base.specs.Network.{PlainNet, IsNet, is_peer, is_router, linked}
+use Rattle.net_base.specs.Sets.{holds}
+use Rattle.net_base.specs.Prefixes.{PlainPrefix, IsPrefix}
+use Rattle.net_base.proofs.RoutersAndPeers.{peer_no_router}
+use Rattle.policy_base.specs.declared.case.Case.{Case}
+use Rattle.policy_base.specs.Policies.{PlainPolicy, PlainStatement, IsPolicyOf, statement_at}
+use Rattle.policy_base.specs.Governing.{statement_of, is_origin, is_origin_by, originated_at}
+use Rattle.graph_base.specs.Runs.{place_of, is_start}
+use Rattle.graph_base.proofs.StartsAndSteps.{step_nodes}
+use Rattle.config_base.specs.declared.config.Session.{Session}
+use Rattle.config_base.specs.declared.config.Import.{Import}
+use Rattle.config_base.specs.declared.config.Export.{Export}
+use Rattle.config_base.specs.Configs.{PlainConfig}
+use Rattle.config_base.specs.Lines.{class_of, block_at, export_of, line_by, same_tag}
+use Rattle.evidence_base.specs.Made.{PlainCaseEvidence, case_at}
+use Rattle.evidence_law.specs.Passes.{IsMadeOf, IsCaseGraph}
+use Rattle.evidence_law.proofs.Blocks.{block_only}
+use Rattle.evidence_law.proofs.CaseOfClass.{governed_case, ungoverned_class}
+use Rattle.evidence_law.proofs.ClassFound.{originated_by}
+use Rattle.evidence_law.proofs.RightLaw.{class_is}
+use Rattle.evidence_law.proofs.Spelled.{exports_tag, imports_tag, was_exported}
+use Rattle.announce_law.specs.Laws.{OriginsAloneAreTaken, OriginsAreToldNothing}
+
+-- where no item originates the prefix its origins are the peers
+pub peers_are_origins : (net : PlainNet) (policy : PlainPolicy) (p : PlainPrefix) (l : ℕ) → originated_at policy.origins p ≡ None → is_origin net policy p l ≡ is_peer net l
+peers_are_origins net policy p l none = ap (λ (o : Option LocSet). is_origin_by net o l) none
+
+-- the origins of an originated prefix are routers
+pub no_peer_originates : (net : PlainNet) (policy : PlainPolicy) (p : PlainPrefix) (at : LocSet) (peer : ℕ) → IsPolicyOf net policy → originated_at policy.origins p ≡ Some at → is_peer net peer ≡ true → is_origin net policy p peer ≡ false
+no_peer_originates net policy p at peer kept is at_peer = false_from_ne_true (is_origin net policy p peer) (λ h.
+    let item = originated_by policy.origins p at is in
+    let holds_it : holds item.0.at peer ≡ true = ap (λ (x : LocSet). holds x peer) item.3 ∙ sym (ap (λ (o : Option LocSet). is_origin_by net o peer) is) ∙ h in
+    true≢false (sym (kept.routers item.0 peer item.1 holds_it) ∙ peer_no_router net peer at_peer))
+
+-- a line that applies stands in the block
+line_rule : (net : PlainNet) (class from : ℕ) (tag : Tag) (b : Session) (q : Tag × ℕ) → line_by net class from tag b ≡ Some q → (rule : Import) × (find (imports_tag net from class tag) b.imports ≡ Some rule)
+line_rule net class from tag b q h = elim (cases_Option (find (imports_tag net from class tag) b.imports)) [
+  | inl e ↦ let clash : None ≡ Some q = sym (rw e refl) ∙ h in absurd (cc)
+  | inr e ↦ e
+]
+
+module _ (net : PlainNet) (policy : PlainPolicy) (config : PlainConfig) (cs : List PlainCaseEvidence) (rules : IsNet net) (kept : IsPolicyOf net policy) (made : IsMadeOf net policy config cs)
+    (p : PlainPrefix) (prefix : IsPrefix p) (class : ℕ) (of_class : class_of config p ≡ Some class) where
+  -- the case of a prefix's class has the origins of the prefix
+  case_origins : (d : PlainCaseEvidence) → case_at cs class ≡ Some d → (holds d.case.origins ≡ is_origin net policy p) × (s : PlainStatement) × IsCaseGraph net s d
+  case_origins d at = go (statement_of policy p) refl
+    where
+      clash : class_of config p ≡ None → ⊥
+      clash none = none_or_some (class_of config p) class none of_class
+
+      go : (o : Option PlainStatement) → statement_of policy p ≡ o → (holds d.case.origins ≡ is_origin net policy p) × (s : PlainStatement) × IsCaseGraph net s d
+      go None is = absurd (clash (class_is net policy config cs rules kept made p ∙ ungoverned_class net policy p rules kept prefix is))
+      go (Some s) is = elim (governed_case net policy p rules kept prefix s is) [
+        | inr nobody ↦ absurd (clash (class_is net policy config cs rules kept made p ∙ nobody.1))
+        | inl found ↦
+            let there = slice_get-map (λ (c : PlainCaseEvidence). c.case) cs found.0 in
+            let e = option_map_parts (λ (c : PlainCaseEvidence). c.case) (slice_get cs found.0) found.1 (sym there ∙ ap (λ (xs : List Case). slice_get xs found.0) made.cases ∙ found.3.at) in
+            let number : class ≡ suc found.0 = same_Some class (suc found.0) (sym of_class ∙ class_is net policy config cs rules kept made p ∙ found.2) in
+            let same : Some d ≡ Some e.0 = sym at ∙ ap (case_at cs) number ∙ e.1 in
+            let one : d ≡ e.0 = cc in
+            let graph = made.graphs found.0 e.0 s e.1 (ap (λ (c : Case). statement_at policy c.statement) e.2 ∙ found.3.number) in
+            (ap (λ (x : PlainCaseEvidence). holds x.case.origins) one ∙ ap (λ (c : Case). holds c.origins) e.2 ∙ found.3.same, s, subst (IsCaseGraph net s) (sym one) graph)
+      ]
+
+  module _ (peer r : ℕ) (at_peer : is_peer net peer ≡ true) (router : is_router net r ≡ true) (other : is_origin net policy p peer ≡ false) where
+    pub no_rule : (b : Session) (rule : Import) → block_at net config r peer ≡ Some b → IsIn b.imports rule → rule.class ≡ class → ⊥
+    no_rule b rule at item same =
+        let block = (block_only net policy cs config rules made.lines r peer b router at).1 in
+        let line = (block.imports rule).0 item in
+        let case = case_origins line.case (sym (ap (case_at cs) same) ∙ line.step.at_class) in
+        let formed = case.2.faithful.formed in
+        elim (or_cases (is_start line.case.graph line.node) (is_router net (place_of line.case.graph line.node)) (formed.from line.node line.next line.step.step)) [
+          | inl start ↦
+              let origin : holds line.case.case.origins peer ≡ true = ap (holds line.case.case.origins) (sym line.step.from) ∙ formed.starts line.node start in
+              true≢false (sym origin ∙ ap (λ (o : ℕ → Bool). o peer) case.0 ∙ other)
+          | inr t ↦ true≢false (sym t ∙ ap (is_router net) line.step.from ∙ peer_no_router net peer at_peer)
+        ]
+
+    -- so none applies
+    pub no_line : (tag : Tag) → option_and_then (line_by net class peer tag) (block_at net config r peer) ≡ None
+    no_line tag = none_from (option_and_then (line_by net class peer tag) (block_at net config r peer)) (λ q h.
+        let b = option_and_then_parts (line_by net class peer tag) (block_at net config r peer) q h in
+        let rule = line_rule net class peer tag b.0 q b.2 in
+        let back = find_parts (imports_tag net peer class tag) b.0.imports rule.0 rule.1 in
+        let parts = and_parts (rule.0.class == class) (is_peer net peer || same_tag rule.0.tag tag) back.2 in
+        no_rule b.0 rule.0 b.1 (back.0, back.1) (eqb-true rule.0.class class parts.0))
+
+  -- and in the block of a peer that is an origin there is no export line for it
+  pub no_export_line : (peer r : ℕ) → is_router net r ≡ true → is_origin net policy p peer ≡ true → (b : Session) (e : Export) → block_at net config r peer ≡ Some b → IsIn b.exports e → e.class ≡ class → ⊥
+  no_export_line peer r router origin b e at item same =
+      let block = (block_only net policy cs config rules made.lines r peer b router at).1 in
+      let line = (block.exports e).0 item in
+      let case = case_origins line.case (sym (ap (case_at cs) same) ∙ line.step.at_class) in
+      let formed = case.2.faithful.formed in
+      let within = (step_nodes line.case.graph line.node line.next case.2.graph line.step.step).1 in
+      let there : holds line.case.case.origins (place_of line.case.graph line.next) ≡ true = ap (holds line.case.case.origins) line.step.to ∙ ap (λ (o : ℕ → Bool). o peer) case.0 ∙ origin in
+      let start = formed.alone line.next within there in
+      let none = not-true _ (and_parts (linked net (place_of line.case.graph line.node) (place_of line.case.graph line.next)) (not (is_start line.case.graph line.next)) (formed.links line.node line.next line.step.step)).1 in
+      true≢false (sym start ∙ none)
+
+  pub nothing_exported : (peer r : ℕ) (tag : Tag) → is_router net r ≡ true → is_origin net policy p peer ≡ true → export_of net config class r peer tag ≡ None
+  nothing_exported peer r tag router origin = none_from (export_of net config class r peer tag) (λ y h.
+      let b = option_and_then_parts _ (block_at net config r peer) y h in
+      let e = list_any_parts (exports_tag class tag) b.0.exports (was_exported net config class r peer b.0 b.1 tag (ap is_some h)) in
+      let parts = and_parts (e.1.class == class) (same_tag e.1.tag tag) e.3 in
+      no_export_line peer r router origin b.0 e.1 b.1 (e.0, e.2) (eqb-true e.1.class class parts.0))
+
+pub origins_alone_are_taken : OriginsAloneAreTaken
+origins_alone_are_taken net policy config cs rules kept made p class prefix of_class peer r at_peer router other b rule at item same =
+    no_rule net policy config cs rules kept made p prefix class of_class peer r at_peer router (not-true _ other) b rule at item same
+
+pub origins_are_told_nothing : OriginsAreToldNothing
+origins_are_told_nothing net policy config cs rules kept made p class prefix of_class peer r router origin b e at item same =
+    no_export_line net policy config cs rules kept made p prefix class of_class peer r router origin b e at item same

@@ -1,4 +1,0 @@
-mod Visits
-mod Visiting
-mod Reaching
-mod Choosing

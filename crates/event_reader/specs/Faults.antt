@@ -1,0 +1,38 @@
+-- The numbers of the faults, their words and their values.
+use Rattle.std.specs.Prelude.{ℕ, List, [], codes}
+use Rattle.std.specs.Fmt.{decimal}
+use Rattle.text_words.specs.Texts.{word_text, place_text}
+use Rattle.text_faults.specs.Telling.{Telling}
+use Rattle.event_reader.specs.declared.fault.EventsFault.{EventsFault}
+use Rattle.event_reader.specs.declared.fault.EventsFault.TheVariants.{NotJson, Shape, TooMany, Unknown, BadPrefix, NoMemory}
+
+-- the number under which a fault is printed: of several broken rules the one with the least number is told
+abbrev pub number_of : EventsFault → ℕ
+number_of NotJson = 1
+number_of (Shape p) = 2
+number_of (TooMany n) = 3
+number_of (Unknown p) = 4
+number_of BadPrefix = 5
+number_of NoMemory = 0
+
+-- the word of a fault
+abbrev pub word_of : EventsFault → List ℕ
+word_of NotJson = codes "not-json"
+word_of (Shape p) = codes "shape"
+word_of (TooMany n) = codes "too-many"
+word_of (Unknown p) = codes "unknown"
+word_of BadPrefix = codes "bad-prefix"
+word_of NoMemory = codes "no-memory"
+
+-- its values, each after a space
+abbrev pub values_of : EventsFault → List ℕ
+values_of NotJson = []
+values_of (Shape p) = place_text p
+values_of (TooMany n) = word_text (decimal n)
+values_of (Unknown p) = place_text p
+values_of BadPrefix = []
+values_of NoMemory = []
+
+-- how each fault is told, and which one is want of memory
+abbrev pub told : Telling EventsFault
+told = record { number_of = number_of; word_of = word_of; values_of = values_of; no_memory = NoMemory }

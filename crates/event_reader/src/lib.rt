@@ -1,0 +1,45 @@
+//! Event texts: the prefix and the events that a JSON text spells.
+#![tactic(auto)]
+
+ghost use Rattle.serde_json.specs.View.{view};
+ghost use Rattle.json_words.specs.Json.{json_of};
+ghost use Rattle.net_base.specs.Steps.{or_fault};
+ghost use Rattle.event_reader.specs.Gives.{Gives};
+ghost use Rattle.event_reader.specs.Spelled.{spelled};
+
+mod events;
+mod fault;
+mod judge;
+pub mod limits;
+mod shape;
+mod words;
+
+pub use events::Events;
+pub use fault::EventsFault;
+use json_words::{JsonFault, json_value};
+use net_base::Net;
+use serde_json::Value;
+use std::alloc::Global;
+pub use words::{LinkWord, RouterWord};
+
+/// The JSON value that the bytes spell.
+fn value_of(alloc: Global, bytes: &[u8]) -> Result<Value, EventsFault>
+    ensures { Gives view result (or_fault EventsFault.NotJson (json_of bytes.now)) }
+{
+    match json_value(alloc, bytes) {
+        Ok(value) => Ok(value),
+        Err(JsonFault::NotJson) => Err(EventsFault::NotJson),
+        Err(JsonFault::NoMemory) => Err(EventsFault::NoMemory),
+    }
+}
+
+/// The prefix and the events that the bytes spell for a network, or the least rule that they break. The events keep the text's order.
+/// Whether an event can happen isn't asked.
+#[tactic(auto, unfolding(crate::specs::Spelled::spelled))]
+pub fn read_events(alloc: Global, bytes: &[u8], net: &Net) -> Result<Events, EventsFault>
+    ensures { Gives (λ events. events) result (spelled net.now bytes.now) }
+{
+    let value = value_of(alloc, bytes)?;
+    let raw = shape::shape(alloc, &value)?;
+    judge::judge(alloc, net, &raw)
+}

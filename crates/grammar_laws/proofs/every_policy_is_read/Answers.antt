@@ -1,5 +1,0 @@
-use Rattle.grammar_laws.proofs.TextLaws.{policy-read}
-use Rattle.grammar_laws.proofs.every_policy_is_read.Goals as goal
-
-pub returns : goal.returns
-returns c = policy-read

@@ -1,5 +1,0 @@
-use Rattle.grammar_laws.proofs.TextLaws.{read-policy}
-use Rattle.grammar_laws.proofs.what_is_read_is_a_policy.Goals as goal
-
-pub returns : goal.returns
-returns c = read-policy

@@ -1,0 +1,12 @@
+//! The pages, all of one form: `usage: propane ..`, paragraphs, and the sections `reads`, `writes`, `status` and `example`,
+//! each of lines with two blanks in front. No line is longer than 80 columns.
+
+mod compiling;
+mod judging;
+mod program;
+mod telling;
+
+pub use compiling::{COMPILE, EVIDENCE, MIGRATE, ROUTEMAP, SAMPLE};
+pub use judging::{AUDIT, CHECK, CHECKMAP, EXPLAIN, LINT};
+pub use program::{COMMANDS, HELP, VERSION, VERSION_PAGE};
+pub use telling::{IMPACT, REPLAY, TRACE};

@@ -1,0 +1,94 @@
+//! The commands that tell what comes of a policy.
+
+/// How `replay` is used.
+pub const REPLAY: &str = "usage: propane replay TOPO POLICY SCENARIO
+
+Compiles the policy, lets the routers, links and peer sessions of the scenario
+fail, and tells what the network settles to for its prefix: what each router
+holds, and what each claimed session offers its peer. Routes of one preference
+are chosen as BGP does, so there is one such outcome.
+
+reads
+  TOPO      a topology text: routers, peers and links
+  POLICY    a policy text for that network
+  SCENARIO  a scenario text: what fails, and the prefix
+
+writes
+  output        the prefix, its class, and a line for each router and session
+  error output  on status 1, 3 and 4 one line that says why
+
+status
+  0  the report is written
+  1  the policy is refused
+  3  an input is too long, or no text of its kind
+  4  an input cannot be read
+  5  the output, or the line, cannot be written whole
+  6  memory is refused; nothing is written
+
+example
+  cd examples/two-exits
+  propane replay topology.json policy.propane dead-link.json
+";
+
+/// How `trace` is used.
+pub const TRACE: &str = "usage: propane trace TOPO POLICY EVENTS
+
+Compiles the policy, and lets the events happen one after another, from the
+moment at which all is up and nothing is delivered: messages that come, links
+and routers that go down and come up, peers that fall silent and speak. Then it
+tells which events cannot happen, whether a message waits, and what each router
+holds. Where none waits, that is what replay tells of what has failed then.
+
+reads
+  TOPO    a topology text: routers, peers and links
+  POLICY  a policy text for that network
+  EVENTS  an event text: what happens, and the prefix
+
+writes
+  output        a line for each event that cannot happen, whether all is
+                quiet, and then the lines of replay
+  error output  on status 1, 3 and 4 one line that says why
+
+status
+  0  the trace is written
+  1  the policy is refused
+  3  an input is too long, or no text of its kind
+  4  an input cannot be read
+  5  the output, or the line, cannot be written whole
+  6  memory is refused; nothing is written
+
+example
+  cd examples/two-exits
+  propane trace topology.json policy.propane flap.json
+";
+
+/// How `impact` is used.
+pub const IMPACT: &str = "usage: propane impact TOPO POLICY PREFIX
+
+Tells for each source that the policy claims for the prefix its best rank
+without failures; and for each single dead link and router that changes
+something the sources that then get another rank, and that rank, or none where
+no allowed path survives. PREFIX is written as in a policy: 10.0.1.0/24.
+
+reads
+  TOPO    a topology text: routers, peers and links
+  POLICY  a policy text for that network
+
+writes
+  output        the prefix, its class, the ranks, the changes and their number
+  error output  on status 1, 3 and 4 one line that says why, on status 2 the
+                usage line
+
+status
+  0  the lines are written
+  1  the policy is refused
+  2  PREFIX is no prefix
+  3  an input is too long, or no text of its kind
+  4  an input cannot be read
+  5  the output, or the line, cannot be written whole
+  6  memory is refused; nothing is written
+
+example
+  cd examples/two-exits
+  propane impact topology.json policy.propane 198.51.100.0/24
+";

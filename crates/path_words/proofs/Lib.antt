@@ -1,9 +1,0 @@
-pub mod CaseLemmas
-pub mod FrontLemmas
-pub mod KindLemmas
-pub mod Peers
-pub mod PlaceLemmas
-pub mod RankLemmas
-pub mod RankPlaces
-pub mod RankingViews
-pub mod WalkParts

@@ -1,9 +1,0 @@
-use Rattle.std.proofs.Common.{◌≡◌, ◌-◌, length, sym, ◌∙◌, rules, ap}
-use Rattle.std.specs.Prelude.{slice_get, Some}
-use Rattle.path_words.proofs.PlaceLemmas.{at_last_some}
-use Rattle.path_words.proofs.meaning.ends_at_peer.Goals as goal
-
-pub returns-in-Some : goal.returns-in-Some
-returns-in-Some c =
-    let last : slice_get c.args.path.now (length c.args.path.now - 1) ≡ Some c.in-Some.last.now = search rules in
-    c.is_peer.ensures ∙ sym (at_last_some _ c.args.path.now c.in-Some.last.now last)

@@ -1,6 +1,0 @@
-use Rattle.std.proofs.Common.{◌≡◌, drop, ◌-◌}
-use Rattle.path_words.specs.Walks.{steps_linked}
-use Rattle.path_words.proofs.walk.is_linked.Given as goal
-
-abbrev pub invariant-loop-i : goal.invariant-loop-i
-invariant-loop-i l = steps_linked l.net l.path ≡ steps_linked l.net (drop (l.i - 1) l.path)

@@ -1,4 +1,0 @@
-pub mod Known
-pub mod Routers
-pub mod Patterns
-pub mod ReadPolicies

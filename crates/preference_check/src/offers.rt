@@ -1,0 +1,105 @@
+//! What nodes offer at locations.
+ghost use Rattle.std.specs.Prelude.{◌≡◌, ◌<◌, ◌&&◌, ◌==◌, ℕ, IfOk, length};
+ghost use Rattle.std.specs.List.{list_any};
+ghost use Rattle.preference_check.specs.Offers.{is_good, is_offered, offer_by_rank, offer_by_step, offer_of_rank, offers_of};
+
+use crate::offer_list::{OfferList, no_offers};
+use graph_base::Graph;
+use net_base::{Loc, LocSet};
+use outside::NoMemory;
+use std::alloc::Global;
+
+/// Something that a node offers at a location: the less it costs, the better.
+#[derive(Clone, Copy, Debug, PartialEq, Eq)]
+pub struct Offer {
+    pub at: Loc,
+    pub cost: u32,
+}
+
+// What lies in the unused places of a short list.
+impl Default for Offer {
+    fn default() -> Offer {
+        Offer {
+            at: Loc::new(0),
+            cost: 0,
+        }
+    }
+}
+
+/// Which steps count.
+#[derive(Clone, Copy)]
+pub enum Towards {
+    /// Steps to nodes that don't hear.
+    Routers,
+    /// Steps to nodes that hear.
+    Listeners,
+}
+
+/// The offer of a node's rank at its location, where the rank counts.
+fn offer_of_rank(graph: &Graph, node: u32) -> Option<Offer>
+    requires { node < length graph.now.nodes }
+    ensures { result ≡ offer_of_rank graph.now node }
+{
+    let cost = graph.rank(node)?;
+    Some(Offer {
+        at: graph.location(node),
+        cost,
+    })
+}
+
+/// What a step to a node is worth.
+fn offer_by_step(graph: &Graph, numbers: &[u32], towards: Towards, node: u32) -> Option<Offer>
+    requires node { node < length graph.now.nodes }
+    requires numbers { length numbers.now ≡ length graph.now.nodes }
+    ensures { result ≡ offer_by_step graph.now numbers.now towards node }
+{
+    let hears = graph.hears(node);
+    match towards {
+        Towards::Routers if !hears => Some(Offer {
+            at: graph.location(node),
+            cost: u32::MAX - numbers[node as usize],
+        }),
+        Towards::Listeners if hears => offer_of_rank(graph, node),
+        Towards::Routers | Towards::Listeners => None,
+    }
+}
+
+/// What each node offers by its steps: a greater number at a router costs less, and so does a lesser rank at a peer.
+pub fn offers_by_steps(
+    alloc: Global,
+    graph: &Graph,
+    numbers: &[u32],
+    towards: Towards,
+) -> Result<Vec<OfferList>, NoMemory>
+    requires { length numbers.now ≡ length graph.now.nodes }
+    ensures size { IfOk result (λ offers. length offers.items ≡ length graph.now.nodes) }
+    ensures offers { IfOk result (λ offers. (n at cost : ℕ) → is_offered (offers_of offers.items n) at cost ≡ list_any (λ s. s.0 == n && is_good (offer_by_step graph.now numbers.now towards s.1) at cost) graph.now.steps) }
+{
+    let mut offers = no_offers(alloc, graph.nodes().len())?;
+    for (from, to) in graph.steps() {
+        if let Some(offer) = offer_by_step(graph, numbers, towards, *to) {
+            offers[*from as usize].push(offer)?;
+        }
+    }
+    Ok(offers)
+}
+
+/// What each node offers by its rank at claimed locations.
+pub fn offers_by_rank(
+    alloc: Global,
+    graph: &Graph,
+    claimed: &LocSet,
+) -> Result<Vec<OfferList>, NoMemory>
+    ensures size { IfOk result (λ offers. length offers.items ≡ length graph.now.nodes) }
+    ensures offers { IfOk result (λ offers. (n at cost : ℕ) → n < length graph.now.nodes → is_offered (offers_of offers.items n) at cost ≡ is_good (offer_by_rank graph.now claimed.now n) at cost) }
+{
+    let mut offers = no_offers(alloc, graph.nodes().len())?;
+    for node in 0..graph.nodes().len() as u32 {
+        if claimed.holds(graph.location(node)) {
+            if let Some(offer) = offer_of_rank(graph, node) {
+                offers[node as usize].push(offer)?;
+            }
+        }
+    }
+    Ok(offers)
+}

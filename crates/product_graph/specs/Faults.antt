@@ -1,9 +1,0 @@
--- What the fault of standings is as a fault of a graph.
-use Rattle.standings.specs.declared.fault.StandingsFault.{StandingsFault}
-use Rattle.standings.specs.declared.fault.StandingsFault.TheVariants.{TooMany, NoMemory}
-use Rattle.product_graph.specs.declared.fault.BuildFault.{BuildFault}
-use Rattle.product_graph.specs.declared.fault.BuildFault.TheVariants as graphs
-
-abbrev pub fault_of : StandingsFault → BuildFault
-fault_of TooMany = graphs.TooManyStates
-fault_of NoMemory = graphs.NoMemory

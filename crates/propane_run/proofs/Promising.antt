@@ -1,0 +1,60 @@
+-- Each command has written what it promises. A line for each command and each status with which it promises something.
+use Rattle.std.proofs.Common.{ℕ, List, Option}
+use Rattle.run_base.specs.declared.outcome.Status.TheVariants.{Done, Refused, CheckFails}
+use Rattle.run_base.specs.Reading.{Holds}
+use Rattle.run_base.specs.Said.{text, line, failing, Whole}
+use Rattle.run_base.proofs.Jobs.{out_is}
+use Rattle.propane_run.specs.declared.command.Command.{Command}
+use Rattle.propane_run.specs.declared.command.Command.TheVariants.{Compile, Evidence, Check, Explain, Replay, Trace, Sample, Migrate, Impact, RouteMap, CheckMap, Lint, Audit, Help, Version}
+use Rattle.propane_run.specs.Promises.{Promised}
+use Rattle.propane_run.specs.Run.{Comes}
+use Rattle.propane_run.proofs.ByCommand.Audit as audit
+use Rattle.propane_run.proofs.ByCommand.Check as check
+use Rattle.propane_run.proofs.ByCommand.CheckMap as check_map
+use Rattle.propane_run.proofs.ByCommand.Explain as explain
+use Rattle.propane_run.proofs.ByCommand.Impact as impact
+use Rattle.propane_run.proofs.ByCommand.Lint as lint
+use Rattle.propane_run.proofs.ByCommand.Migrate as migrate
+use Rattle.propane_run.proofs.ByCommand.Replay as replay
+use Rattle.propane_run.proofs.ByCommand.RouteMap as route_map
+use Rattle.propane_run.proofs.ByCommand.Sample as sample
+use Rattle.propane_run.proofs.ByCommand.Trace as trace
+use Rattle.propane_run.proofs.ByCommand.Written as written_by
+use Rattle.propane_run.proofs.Compilers as compilers
+use Rattle.propane_run.proofs.Roles.{Judges, Refuses}
+
+module _ {S : Type 0} (holds : Holds) (words : List (List ℕ)) (taken : S → Option (List ℕ)) (before now : S) (b : List ℕ) (written : Whole taken b before now) where
+  pub done : (c : Command) → Comes holds words c (text b) → Promised holds taken words c Done before now
+  done Compile comes = written_by.compiled holds words taken before now b written comes
+  done Evidence comes = written_by.given holds words taken before now b written comes
+  done Check comes = check.right holds words taken before now b written comes
+  done Explain comes = explain.right holds words taken before now b written comes
+  done Replay comes = replay.right holds words taken before now b written comes
+  done Trace comes = trace.right holds words taken before now b written comes
+  done (Sample n) comes = sample.sampled holds words n taken before now b written comes
+  done Migrate comes = migrate.right holds words taken before now b written comes
+  done (Impact x) comes = impact.right holds words taken before now b written x comes
+  done RouteMap comes = route_map.right holds words taken before now b written comes
+  done CheckMap comes = check_map.right holds words taken before now b written comes
+  done Lint comes = lint.right holds words taken before now b written comes
+  done Audit comes = audit.right holds words taken before now b written comes
+  done (Help topic) comes = rw (out_is _ _ comes.says) at written
+  done Version comes = rw (out_is _ _ comes.says) at written
+
+  pub refused : (c : Command) → Refuses c → Comes holds words c (line Refused b) → Promised holds taken words c Refused before now
+  refused RouteMap refuses comes = route_map.refused holds words taken before now b written comes
+  refused CheckMap refuses comes = check_map.refused holds words taken before now b written comes
+  refused Lint refuses comes = lint.refused holds words taken before now b written comes
+  refused Compile refuses comes = compilers.refused holds words taken before now b written Compile refuses comes
+  refused Evidence refuses comes = compilers.refused holds words taken before now b written Evidence refuses comes
+  refused Replay refuses comes = compilers.refused holds words taken before now b written Replay refuses comes
+  refused Trace refuses comes = compilers.refused holds words taken before now b written Trace refuses comes
+  refused (Impact x) refuses comes = compilers.refused holds words taken before now b written (Impact x) refuses comes
+  refused (Sample n) refuses comes = compilers.refused holds words taken before now b written (Sample n) refuses comes
+  refused c refuses comes = absurd refuses
+
+  pub failed : (c : Command) → Judges c → Comes holds words c (failing b) → Promised holds taken words c CheckFails before now
+  failed Check judges comes = check.fails holds words taken before now b written comes
+  failed CheckMap judges comes = check_map.fails holds words taken before now b written comes
+  failed Audit judges comes = audit.fails holds words taken before now b written comes
+  failed c judges comes = absurd judges

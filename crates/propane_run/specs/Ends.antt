@@ -1,0 +1,78 @@
+-- How each command is to end, by what its inputs spell.
+use Rattle.std.specs.Prelude.{◌≡◌, ◌≢◌, ℕ, ◌<◌, ◌≤◌, List, min}
+use Rattle.net_base.specs.Network.{PlainNet}
+use Rattle.policy_base.specs.Policies.{PlainPolicy}
+use Rattle.audit_job.specs.Asked.{Audited}
+use Rattle.case_core.specs.declared.refusal.CompileRefusal.{CompileRefusal}
+use Rattle.case_ranks.specs.Limits.{AreAllWithin, compile_refusal}
+use Rattle.case_ranks.specs.declared.refusal.LintRefusal.{LintRefusal}
+use Rattle.compile_jobs.specs.Compiled.{IsCompiled, IsRefusedFor}
+use Rattle.config_base.specs.Configs.{PlainConfig}
+use Rattle.evidence_base.specs.Made.{PlainCaseEvidence}
+use Rattle.lint_job.specs.Linted.{IsRefusedFor as IsPastLimit}
+use Rattle.map_jobs.specs.MapsSaid.{too_many_lines}
+use Rattle.maps_made.specs.Counts.{line_count}
+use Rattle.maps_made.specs.Earlier.{top}
+use Rattle.maps_made.specs.declared.lists.TheConstants.{MAX_LINES}
+use Rattle.outcome_base.specs.Outcomes.{IsStable}
+use Rattle.refusal_lines.specs.RefusalLines.{refusal_line}
+use Rattle.evidence_law.specs.Passes.{Passes}
+use Rattle.route_maps.specs.Maps.{PlainMaps}
+use Rattle.route_maps.specs.OfConfig.{maps_of}
+use Rattle.run_base.specs.Reading.{Holds}
+use Rattle.stable_paths.specs.Scenarios.{failures_of}
+use Rattle.propane_run.specs.declared.command.Command.{Command}
+use Rattle.propane_run.specs.declared.command.Command.TheVariants.{Compile, Evidence, Check, Explain, Replay, Trace, Sample, Migrate, Impact, RouteMap, CheckMap, Lint, Audit, Help, Version}
+use Rattle.propane_run.specs.Asked.{AsksFor, IsFor}
+use Rattle.propane_run.specs.Auditing.{AsksAudit}
+use Rattle.propane_run.specs.Checking.{AsksOf}
+use Rattle.propane_run.specs.Mapping.{AsksOfMaps}
+use Rattle.propane_run.specs.Migrating.{AsksOfOld}
+
+-- no refusal of the compiler applies
+abbrev pub IsFree : PlainNet → PlainPolicy → Type 0
+IsFree net policy = (e : CompileRefusal) → ¬ IsRefusedFor net policy e
+
+-- the text of the maps of a configuration may have as many lines, or may not
+abbrev pub AreFew : PlainConfig → Type 0
+AreFew config = line_count (maps_of config) ≤ MAX_LINES
+
+abbrev pub AreMany : PlainConfig → Type 0
+AreMany config = MAX_LINES < line_count (maps_of config)
+
+-- the line that tells of too many
+abbrev pub many_line : PlainConfig → List ℕ
+many_line config = too_many_lines (min (line_count (maps_of config)) top)
+
+module _ (holds : Holds) (words : List (List ℕ)) (Succeeds Fails : Type 0) (Refuses : List ℕ → Type 0) where
+  -- A command that compiles succeeds where no refusal applies, and refuses with the line of one that does.
+  abbrev pub Compiles : Command → Type 0
+  Compiles c = (net : PlainNet) (policy : PlainPolicy) → IsFor holds words c net policy
+      → (IsFree net policy → Succeeds) × ((e : CompileRefusal) → IsRefusedFor net policy e → Refuses (refusal_line net e))
+
+  -- For each command: of what the inputs spell, where it succeeds, where what it judges fails, and where it refuses with which line.
+  abbrev pub EndsRight : Command → Type 0
+  EndsRight Compile = Compiles Compile
+  EndsRight Evidence = Compiles Evidence
+  EndsRight Replay = Compiles Replay
+  EndsRight Trace = Compiles Trace
+  EndsRight (Impact prefix) = Compiles (Impact prefix)
+  EndsRight (Sample leaves) = Compiles (Sample leaves)
+  EndsRight Explain = (net : PlainNet) (policy : PlainPolicy) → AsksFor holds words Explain net policy → Succeeds
+  EndsRight Check = (net : PlainNet) (policy : PlainPolicy) (config : PlainConfig) (evidence : List PlainCaseEvidence) → AsksOf holds words net policy config evidence
+      → (Passes net policy config evidence → Succeeds) × (¬ Passes net policy config evidence → Fails)
+  EndsRight Audit = (net : PlainNet) (policy : PlainPolicy) (audited : Audited) → AsksAudit holds words net policy audited
+      → let passes = Passes net policy audited.config audited.evidence in
+      let stable = IsStable net policy audited.config (failures_of audited.scenario) audited.scenario.prefix audited.routes in
+      (passes → stable → Succeeds) × (¬ (passes × stable) → Fails)
+  EndsRight Migrate = (config : PlainConfig) → AsksOfOld holds words config → Succeeds
+  EndsRight Lint = (net : PlainNet) (policy : PlainPolicy) → AsksFor holds words Lint net policy
+      → (AreAllWithin net policy → Succeeds) × ((e : LintRefusal) → IsPastLimit net policy e → Refuses (refusal_line net (compile_refusal e)))
+  EndsRight RouteMap = (net : PlainNet) (policy : PlainPolicy) → AsksFor holds words RouteMap net policy
+      → (IsFree net policy → ((config : PlainConfig) (evidence : List PlainCaseEvidence) → IsCompiled net policy config evidence → AreFew config) → Succeeds)
+      × ((e : CompileRefusal) → IsRefusedFor net policy e → Refuses (refusal_line net e))
+      × ((config : PlainConfig) (evidence : List PlainCaseEvidence) → IsCompiled net policy config evidence → AreMany config → Refuses (many_line config))
+  EndsRight CheckMap = (config : PlainConfig) (maps : PlainMaps) → AsksOfMaps holds words config maps
+      → (AreFew config → maps ≡ maps_of config → Succeeds) × (AreFew config → maps ≢ maps_of config → Fails) × (AreMany config → Refuses (many_line config))
+  EndsRight (Help topic) = Succeeds
+  EndsRight Version = Succeeds

@@ -1,0 +1,55 @@
+-- What each command promises of the bytes that it has written.
+use Rattle.std.specs.Prelude.{◌⊎◌, ℕ, List, Option}
+use Rattle.evidence_base.specs.Made.{PlainCaseEvidence}
+use Rattle.compile_jobs.specs.Compiled.{IsCompiled}
+use Rattle.help_texts.specs.Pages.{help_text, version_text}
+use Rattle.run_base.specs.declared.outcome.Status.{Status}
+use Rattle.run_base.specs.declared.outcome.Status.TheVariants.{Done, Refused, CheckFails}
+use Rattle.run_base.specs.Reading.{Holds}
+use Rattle.run_base.specs.Said.{Whole}
+use Rattle.propane_run.specs.declared.command.Command.{Command}
+use Rattle.propane_run.specs.declared.command.Command.TheVariants.{Compile, Evidence, Check, Explain, Replay, Trace, Sample, Migrate, Impact, RouteMap, CheckMap, Lint, Audit, Help, Version}
+use Rattle.propane_run.specs.Auditing.{AuditsRight, TellsAuditFault}
+use Rattle.propane_run.specs.Checking.{ChecksRight, TellsFault}
+use Rattle.propane_run.specs.Explaining.{ExplainsRight}
+use Rattle.propane_run.specs.Headline.{CompilesRight, GivesEvidence}
+use Rattle.propane_run.specs.Impacting.{ImpactsRight}
+use Rattle.propane_run.specs.Linting.{LintsRight, TellsLimit}
+use Rattle.propane_run.specs.Mapping.{MapsAgree, MapsRight, TellsDifference, TellsTooMany}
+use Rattle.propane_run.specs.Migrating.{MigratesRight}
+use Rattle.propane_run.specs.Refusing.{RefusesRight}
+use Rattle.propane_run.specs.Replaying.{ReplaysRight}
+use Rattle.propane_run.specs.Sampling.{Samples}
+use Rattle.propane_run.specs.Tracing.{TracesRight}
+
+-- For a command and the status with which it ended: what the sink has taken that goes with the status, `out` with Done and CheckFails,
+-- and `err` with Refused. A command ends with none of the three that isn't listed for it.
+abbrev pub Promised : {S : Type 0} → Holds → (S → Option (List ℕ)) → List (List ℕ) → Command → Status → S → S → Type 0
+Promised holds taken words Compile Done s s' = (claim : CompilesRight holds taken words s s') × (evidence : List PlainCaseEvidence) × IsCompiled claim.net claim.policy claim.config evidence
+Promised holds taken words Compile Refused s s' = RefusesRight holds taken words Compile s s'
+Promised holds taken words Evidence Done s s' = GivesEvidence holds taken words s s'
+Promised holds taken words Evidence Refused s s' = RefusesRight holds taken words Evidence s s'
+Promised holds taken words Check Done s s' = ChecksRight holds taken words s s'
+Promised holds taken words Check CheckFails s s' = TellsFault holds taken words s s'
+Promised holds taken words Explain Done s s' = ExplainsRight holds taken words s s'
+Promised holds taken words Replay Done s s' = ReplaysRight holds taken words s s'
+Promised holds taken words Replay Refused s s' = RefusesRight holds taken words Replay s s'
+Promised holds taken words Trace Done s s' = TracesRight holds taken words s s'
+Promised holds taken words Trace Refused s s' = RefusesRight holds taken words Trace s s'
+Promised holds taken words (Sample leaves) Done s s' = Samples taken leaves s s'
+Promised holds taken words (Sample leaves) Refused s s' = RefusesRight holds taken words (Sample leaves) s s'
+Promised holds taken words Migrate Done s s' = MigratesRight holds taken words s s'
+Promised holds taken words (Impact prefix) Done s s' = ImpactsRight holds taken words prefix s s'
+Promised holds taken words (Impact prefix) Refused s s' = RefusesRight holds taken words (Impact prefix) s s'
+Promised holds taken words RouteMap Done s s' = MapsRight holds taken words s s'
+Promised holds taken words RouteMap Refused s s' = RefusesRight holds taken words RouteMap s s' ⊎ TellsTooMany holds taken words RouteMap s s'
+Promised holds taken words CheckMap Done s s' = MapsAgree holds taken words s s'
+Promised holds taken words CheckMap CheckFails s s' = TellsDifference holds taken words s s'
+Promised holds taken words CheckMap Refused s s' = TellsTooMany holds taken words CheckMap s s'
+Promised holds taken words Lint Done s s' = LintsRight holds taken words s s'
+Promised holds taken words Lint Refused s s' = TellsLimit holds taken words s s'
+Promised holds taken words Audit Done s s' = AuditsRight holds taken words s s'
+Promised holds taken words Audit CheckFails s s' = TellsAuditFault holds taken words s s'
+Promised holds taken words (Help topic) Done s s' = Whole taken (help_text topic) s s'
+Promised holds taken words Version Done s s' = Whole taken version_text s s'
+Promised holds taken words _ _ s s' = ⊥

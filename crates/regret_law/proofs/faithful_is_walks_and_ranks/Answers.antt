@@ -1,5 +1,0 @@
-use Rattle.regret_law.proofs.FaithfulParts.{faithful_parts}
-use Rattle.regret_law.proofs.faithful_is_walks_and_ranks.Goals as goal
-
-pub returns : goal.returns
-returns c = faithful_parts

@@ -1,5 +1,0 @@
-use Rattle.regret_law.proofs.RightLaw.{passing_evidence_is_right}
-use Rattle.regret_law.proofs.passing_evidence_is_right.Goals as goal
-
-pub returns : goal.returns
-returns c = passing_evidence_is_right

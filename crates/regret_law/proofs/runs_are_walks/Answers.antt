@@ -1,5 +1,0 @@
-use Rattle.regret_law.proofs.RunWalks.{runs_are_walks}
-use Rattle.regret_law.proofs.runs_are_walks.Goals as goal
-
-pub returns : goal.returns
-returns c = runs_are_walks

@@ -1,5 +1,0 @@
-use Rattle.regret_law.proofs.ExistenceLaw.{stable_outcomes_exist}
-use Rattle.regret_law.proofs.stable_outcomes_exist.Goals as goal
-
-pub returns : goal.returns
-returns c = stable_outcomes_exist

@@ -1,0 +1,62 @@
+-- Messages on a configured network come to an end.
+use Rattle.std.proofs.Common.{◌≡◌, ℕ, ◌≤◌, ◌+◌, ◌*◌, zero, suc, true, List, [], ◌∷◌, ◌++◌, length, Option, Some, refl, sym, subst, arith}
+use Rattle.std.proofs.lemmas.Bool.{ltb-true}
+use Rattle.net_base.specs.Network.{PlainNet, IsNet}
+use Rattle.net_base.specs.Prefixes.{PlainPrefix}
+use Rattle.policy_base.specs.Policies.{PlainPolicy}
+use Rattle.config_base.specs.declared.route.Route.{Route}
+use Rattle.config_base.specs.Configs.{PlainConfig}
+use Rattle.event_base.specs.declared.event.Event.{Event}
+use Rattle.event_base.specs.Speaking.{speakers_of, taken_by}
+use Rattle.event_base.specs.Steps.{IsQuiet, happens, opening, run}
+use Rattle.event_base.specs.World.{Speakers, World}
+use Rattle.event_law.specs.Kinds.{AreKinds}
+use Rattle.event_law.proofs.Keeping.{opening-keeps, run-keeps}
+use Rattle.event_law.proofs.KindsKept.{opening-kinds, run-kinds}
+use Rattle.rounds_law.specs.Orders.{IsOrder, at_rest, rests}
+use Rattle.rounds_law.specs.Rounds.{AreRounds, deliveries}
+use Rattle.rest_law.specs.Rest.{rounds_enough}
+use Rattle.rounds_law.proofs.Present.{fewer_rounds}
+use Rattle.rounds_law.proofs.Settle.{comes_to_rest}
+use Rattle.world_law.specs.Laws.{world_after}
+use Rattle.world_law.proofs.First.{NoLater}
+use Rattle.rest_law.proofs.Choosers.{are_choosers}
+use Rattle.rest_law.proofs.Counts.{order_short}
+use Rattle.world_law.proofs.Quiet.{are_speakers}
+use Rattle.rest_law.proofs.Trails.{IsHolding, IsSaying, trail_short, trails}
+
+pub run_on : {R : Type 0} (net : Speakers R) (es fs : List Event) (w : World R) → run net fs (run net es w) ≡ run net (es ++ fs) w
+run_on net [] fs w = refl
+run_on net (e ∷ es) fs w = run_on net es fs (happens net e w)
+
+enough : (n r : ℕ) → n ≤ r → suc (n * (suc r + 2)) ≤ suc (r * (r + 3))
+enough n r h = omega (arith, times n r (r + 3) h)
+  where
+    times : (n r k : ℕ) → n ≤ r → n * k ≤ r * k
+    times n r zero h = omega arith
+    times n r (suc k) h = (let q = times n r k h in omega (arith, h, q))
+
+-- The outcome has for each router that can't hold another one the route that it holds, and the others have an order in which they come
+-- to it, over what is down, cut and silent in w.
+pub record HasOrder (net : PlainNet) (policy : PlainPolicy) (config : PlainConfig) (p : PlainPrefix) (w : World Route) (outcome : ℕ → Option Route) : Type 0 where
+  pub rested : (r : ℕ) → rests (speakers_of net policy config p) w r ≡ true → outcome r ≡ at_rest (speakers_of net policy config p) w r
+  pub routers : List ℕ
+  pub order : IsOrder (speakers_of net policy config p) w (taken_by net config p) (NoLater net) outcome (rests (speakers_of net policy config p) w) routers
+
+-- Whatever the configuration is, where the routers have an order no message waits after so many rounds, and each holds what the outcome has.
+pub messages_end_on_networks : (net : PlainNet) (policy : PlainPolicy) (config : PlainConfig) (p : PlainPrefix) (es : List Event) (outcome : ℕ → Option Route) (ds : List (ℕ × ℕ)) → IsNet net
+    → HasOrder net policy config p (world_after net policy config p es) outcome → AreRounds (speakers_of net policy config p) (rounds_enough net) (world_after net policy config p es) ds
+    → IsQuiet (world_after net policy config p (es ++ deliveries ds)) × ((r : ℕ) → (world_after net policy config p (es ++ deliveries ds)).route r ≡ outcome r)
+messages_end_on_networks net policy config p es outcome ds rules has rounds =
+    let S = speakers_of net policy config p in
+    let w : World Route = run S es (opening S) in
+    let speak = are_speakers net policy config p rules in
+    let kept = run-keeps S speak es (opening S) (opening-keeps S speak) in
+    let kinds : (ds : List (ℕ × ℕ)) → AreKinds (IsHolding net) (IsSaying net) (run S (deliveries ds) w) = λ ds.
+    run-kinds S (IsHolding net) (IsSaying net) (trails net policy config p) (deliveries ds) w (run-kinds S (IsHolding net) (IsSaying net) (trails net policy config p) es (opening S) (opening-kinds S (IsHolding net) (IsSaying net) (trails net policy config p))) in
+    let short : (ds : List (ℕ × ℕ)) (r : ℕ) (h : Route) → (run S (deliveries ds) w).route r ≡ Some h → length h.path ≤ suc (length net.routers) = λ ds r h e.
+    (let k = (kinds ds).route r h e in subst (λ (z : List ℕ). length z ≤ suc (length net.routers)) (sym k.1) (trail_short net (r ∷ k.0) k.2)) in
+    let few = order_short S w (taken_by net config p) (NoLater net) outcome (length net.routers) (λ r t. ltb-true r (length net.routers) t) has.routers has.order in
+    let end = comes_to_rest S w (taken_by net config p) (NoLater net) (λ (h : Route). length h.path) (are_choosers net policy config p rules) outcome has.rested (suc (length net.routers)) speak has.routers ds kept short has.order
+    (fewer_rounds S _ _ w ds (enough (length has.routers) (length net.routers) few) rounds) in
+    subst (λ (u : World Route). IsQuiet u × ((r : ℕ) → u.route r ≡ outcome r)) (run_on S es (deliveries ds) (opening S)) end

@@ -1,0 +1,7 @@
+use Rattle.std.proofs.Common.{◌≡◌, map}
+use Rattle.sample_network.specs.SamplePolicy.{leaf_pattern}
+use Rattle.net_base.specs.Locations.{numbers_below}
+use Rattle.sample_network.proofs.policy.patterns.Given as goal
+
+abbrev pub invariant-loop-place : goal.invariant-loop-place
+invariant-loop-place l = l.all.items ≡ map leaf_pattern (numbers_below l.place)

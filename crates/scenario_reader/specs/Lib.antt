@@ -1,0 +1,8 @@
+pub mod Faults
+pub mod Gives
+pub mod Laws
+pub mod Parts
+pub mod Rules
+pub mod Shape
+pub mod Spelled
+pub mod Views

@@ -1,0 +1,44 @@
+//! Scenario texts: the failures that a JSON text spells.
+#![tactic(auto)]
+
+ghost use Rattle.serde_json.specs.View.{view};
+ghost use Rattle.json_words.specs.Json.{json_of};
+ghost use Rattle.net_base.specs.Steps.{or_fault};
+ghost use Rattle.scenario_reader.specs.Gives.{Gives};
+ghost use Rattle.scenario_reader.specs.Spelled.{spelled};
+
+mod fault;
+mod judge;
+pub mod laws;
+mod parts;
+mod shape;
+
+pub use fault::ScenarioFault;
+use json_words::{JsonFault, json_value};
+use net_base::Net;
+pub use parts::Field;
+use serde_json::Value;
+use stable_paths::Scenario;
+use std::alloc::Global;
+
+/// The JSON value that the bytes spell.
+fn value_of(alloc: Global, bytes: &[u8]) -> Result<Value, ScenarioFault>
+    ensures { Gives view result (or_fault ScenarioFault.NotJson (json_of bytes.now)) }
+{
+    match json_value(alloc, bytes) {
+        Ok(value) => Ok(value),
+        Err(JsonFault::NotJson) => Err(ScenarioFault::NotJson),
+        Err(JsonFault::NoMemory) => Err(ScenarioFault::NoMemory),
+    }
+}
+
+/// The scenario that the bytes spell for a network, or the least rule that they break. The lists keep the text's order and repeats; a
+/// dead link keeps the order of its ends, and a silent session has its router first.
+#[tactic(auto, unfolding(crate::specs::Spelled::spelled))]
+pub fn read_scenario(alloc: Global, bytes: &[u8], net: &Net) -> Result<Scenario, ScenarioFault>
+    ensures { Gives (λ scenario. scenario) result (spelled net.now bytes.now) }
+{
+    let value = value_of(alloc, bytes)?;
+    let raw = shape::shape(alloc, &value)?;
+    judge::judge(alloc, net, &raw)
+}

@@ -1,7 +1,0 @@
-pub mod Faults
-pub mod Gives
-pub mod Laws
-pub mod Rules
-pub mod Shape
-pub mod Spelled
-pub mod Views

@@ -1,5 +1,0 @@
-use Rattle.table_text.proofs.Sizes.{judged_size}
-use Rattle.table_text.proofs.read_tables.Goals as goal
-
-pub returns-clause-size : goal.returns-clause-size
-returns-clause-size c = judged_size c.args.net.now _ c.in_ok-routes.routes c.in_ok-routes.ensures

@@ -1,0 +1,31 @@
+//! Texts that are read.
+ghost use Rattle.std.specs.Prelude.{IfSome};
+ghost use Rattle.policy_base.specs.CaseNumbers.{OriginsAreRouters};
+
+use net_base::Net;
+use policy_base::Policy;
+use policy_parser::read_policy;
+use std::alloc::Global;
+use topology::read_topology;
+
+/// The network of a text, where it is one.
+pub fn net_of(alloc: Global, topology: &[u8]) -> Option<Net> {
+    if topology.len() > 65536 {
+        return None;
+    }
+    read_topology(alloc, topology).ok()
+}
+
+/// The network and the policy of two texts, where they are such.
+pub fn read(alloc: Global, topology: &[u8], policy: &str) -> Option<(Net, Policy)>
+    ensures { IfSome result (λ r. OriginsAreRouters r.0 r.1.origins) }
+{
+    if policy.len() > 65536 {
+        return None;
+    }
+    let net = net_of(alloc, topology)?;
+    match read_policy(alloc, policy.as_bytes(), &net) {
+        Ok(policy) => Some((net, policy)),
+        Err(_) => None,
+    }
+}
