@@ -1,0 +1,11 @@
+"""Files that routers load, written of route maps and read back: the parts of tools/deploy.
+
+    texts        files and JSON texts, and the faults that are told of them
+    topology     the routers and peers of a network, and its links
+    maps         route maps as values, and their text; map_reader reads it
+    addresses    where the sessions run, read strictly
+    plans        all that one router's file says
+    bird, frr    the file of a plan for BIRD 2 and for FRR; bird_reader, frr_reader read one
+    folders      the files of routers in a folder, written, and read back as maps or as what drifted
+    command      the words of tools/deploy
+"""

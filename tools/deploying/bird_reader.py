@@ -1,0 +1,81 @@
+"""Reads a file of BIRD 2 back: the lists and the maps of a router, as far as the file is as written, and where it isn't."""
+import itertools
+import re
+
+from .maps import Block, Entry, Network, Row, RouterMaps, Tag
+
+NUMBER = r"(\d{1,10})"
+PREFIX = r"(\d+\.\d+\.\d+\.\d+/\d\d?)"
+TAG = rf"\({NUMBER}, 0, {NUMBER}\)"
+LISTED = rf"net ~ list{NUMBER}(?: && net !~ list\d+_less)?"
+LIST = re.compile(rf"define list{NUMBER}(_less)? = \[(.*)")
+PATTERN = re.compile(rf"{PREFIX}(?:\{{\d+,(\d\d?)\}})?")
+FILTER = re.compile(r"filter '(in|out):(\S+)'")
+NETWORK = re.compile(rf"if net = {PREFIX} && {LISTED} then \{{ mark\({TAG}\); accept; \}}")
+TAKE = re.compile(rf"if {LISTED}(?: && {TAG} ~ bgp_large_community)? then \{{ mark\({TAG}\); bgp_local_pref = {NUMBER}; accept; \}}")
+SEND = re.compile(rf"if {LISTED} && {TAG} ~ bgp_large_community then (?:accept;|\{{ bare\(\); accept; \}})")
+
+
+def read_bird(text):
+    told = [line for _, line in lines(text)]
+    return read_lists(told), read_maps(told), []  # a line that isn't read is the first that differs
+
+
+def lines(text):
+    """The lines that say something, with their numbers: comments and blank ones don't."""
+    found = ((number, line.strip()) for number, line in enumerate(text.splitlines(), 1))
+    return [(number, line) for number, line in found if line and not line.startswith("#")]
+
+
+def read_lists(told):
+    """Lists begin in a line, and may go on in further ones."""
+    denied, permitted, word, rows = {}, {}, None, None
+    for line in told:
+        head = LIST.fullmatch(line)
+        if head:
+            word, line = "deny" if head[2] else "permit", head[3]
+            rows = (denied if head[2] else permitted).setdefault(int(head[1]), [])
+        if rows is not None:
+            rows += [Row.of(word, prefix, longest or None) for prefix, longest in PATTERN.findall(line)]
+        if line.endswith("];"):
+            rows = None
+    return {number: denied.get(number, []) + rows for number, rows in permitted.items()}
+
+
+def read_maps(told):
+    """The networks of all lines, and the entries of those that follow the head of a filter."""
+    maps, kind, entries = RouterMaps(), None, None
+    for line in told:
+        head, network = FILTER.fullmatch(line), NETWORK.fullmatch(line)
+        if head:
+            block = maps.blocks.setdefault(head[2], Block())
+            kind, entries = head[1], block.takes if head[1] == "in" else block.sends
+        elif line == "}":
+            entries = None
+        elif network:
+            maps.networks.append(Network(network[1], int(network[2]), tag(network[3], network[4])))
+        elif entries is not None:
+            entries += read_entry(kind, line)
+    return maps
+
+
+def read_entry(kind, line):
+    """The entry of a line, if it is one."""
+    found = (TAKE if kind == "in" else SEND).fullmatch(line)
+    if found and kind == "in":
+        number, asn, value, put_asn, put_value, preference = found.groups()
+        yield Entry(int(number), tag(asn, value), tag(put_asn, put_value), int(preference))
+    elif found:
+        yield Entry(int(found[1]), tag(found[2], found[3]))
+
+
+def tag(asn, value):
+    return Tag(int(asn), int(value)) if asn else None
+
+
+def bird_differences(text, wanted):
+    """The first line that isn't as it would be written: BIRD's order counts, so what follows it says nothing of its own."""
+    for (_, line), (number, other) in itertools.zip_longest(lines(wanted), lines(text), fillvalue=(None, None)):
+        if line != other:
+            yield f"line {number}: {other}: would be: {line or 'the end'}" if number else f"the end: would be: {line}"
+            return

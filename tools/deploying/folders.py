@@ -1,0 +1,91 @@
+"""The files of routers in a folder: written, and read back as maps, or as what drifted."""
+import os
+import re
+from dataclasses import dataclass
+from typing import Callable
+
+from . import bird, frr
+from .bird_reader import bird_differences, read_bird
+from .frr_reader import frr_differences, read_frr
+from .maps import Maps, in_order, is_prefix
+from .plans import plan_of
+from .texts import Fault, read_text, write_private
+
+
+class Drift(Exception):
+    """Files aren't what would be written for their routers: a line a difference."""
+
+
+@dataclass(frozen=True)
+class Daemon:
+    """How the files of a daemon are called, written and read."""
+
+    ending: str
+    text_of: Callable
+    read: Callable
+    differences: Callable
+
+
+BIRD = Daemon(bird.ENDING, bird.bird_text, read_bird, bird_differences)
+FRR = Daemon(frr.ENDING, frr.frr_text, read_frr, frr_differences)
+
+
+def write_files(daemon, topology, maps, addresses, folder, names):
+    """Writes the files of these routers, or of all. All texts are made before the first file is written."""
+    for name in names:
+        if name not in maps.routers:
+            raise Fault(f"no router of the topology: {name}")
+    wanted = [router for router in topology.routers if not names or router.name in names]
+    texts = {router.name + daemon.ending: daemon.text_of(plan_of(topology, maps, addresses, router)) for router in wanted}
+    os.makedirs(folder, exist_ok=True)
+    for name, text in texts.items():
+        write_private(os.path.join(folder, name), text)
+
+
+def read_back(topology, addresses, folder):
+    """The maps of the files. They are written anew, and nothing else may stand in the files, but for what isn't of BGP in FRR's."""
+    files = {router.name: file_of(folder, router.name) for router in topology.routers}
+    read = {name: daemon.read(text) for name, (daemon, _, text) in files.items()}
+    maps = Maps(next((lists for lists, *_ in read.values()), {}), {name: mine for name, (_, mine, _) in read.items()})
+    for mine in maps.routers.values():
+        mine.networks = in_order(network for network in mine.networks if is_prefix(network.prefix))
+    drift = []
+    for router in topology.routers:
+        (daemon, name, text), (lists, _, unread) = files[router.name], read[router.name]
+        found = unread or list(lacking(topology, maps, router.name, lists)) \
+            or list(daemon.differences(text, daemon.text_of(plan_of(topology, maps, addresses, router))))
+        drift += [f"{router.name}: {name}: {hidden(line)}" for line in found]
+    if drift:
+        raise Drift("\n".join(drift))
+    return maps
+
+
+def file_of(folder, router):
+    found = [(daemon, router + daemon.ending) for daemon in (BIRD, FRR) if os.path.exists(os.path.join(folder, router + daemon.ending))]
+    if len(found) != 1:
+        raise Fault(f"{folder}: {'two files' if found else 'no file'} of the router {router}")
+    daemon, name = found[0]
+    return daemon, name, read_text(os.path.join(folder, name))
+
+
+def lacking(topology, maps, router, lists):
+    """What a router's maps lack, so that no file can be written of them."""
+    for number in sorted(set(lists) | set(maps.lists)):
+        if lists.get(number) != maps.lists.get(number):
+            yield f"list {number} isn't that of {topology.routers[0].name}"
+    mine = maps.routers[router]
+    for site in topology.neighbours(router):
+        if site.name not in mine.blocks:
+            yield f"no maps of {site.name}"
+            continue
+        block = mine.blocks[site.name]
+        for number in sorted({entry.number for entry in block.takes + block.sends} - set(maps.lists)):
+            yield f"an entry of {site.name} is over the list {number}, which isn't there"
+    for network in mine.networks:
+        if network.number not in maps.lists:
+            yield f"the network {network.prefix} is over the list {network.number}, which isn't there"
+
+
+def hidden(line):
+    """A difference without the passwords that it may show."""
+    return re.sub(r"(password )(?:\"[^\"]*\"|[^\s\"]\S*?(?=:? |$))", r"\1..", line)

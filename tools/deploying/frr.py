@@ -1,0 +1,129 @@
+"""The file of a plan for FRR, as vtysh loads it: line by line, so the maps of a session stand before it, and what it announces last.
+
+docs/DEPLOY.md says what each line is for.
+"""
+from .addresses import RESERVED
+from .texts import Fault
+
+ENDING = ".frr.conf"
+LAST = 65535  # the greatest number of an entry
+
+SELECTION = """\
+! Of the routes of the highest preference the one with the shortest path is used, and of these the one of the neighbour with the
+! lowest identifier. A session that is lost takes its routes with it at once.""".split("\n")
+OWN_NUMBERS = "! The AS numbers by which the network is known. A path of a peer that has one comes from here."
+DROPPED = "! What these networks don't deliver is dropped, and isn't sent back outside."
+WASH = (" set community none", " set extcommunity none", " set metric 0", " set origin igp")
+ROUTER = (" bgp ebgp-requires-policy", " no bgp suppress-duplicates", " no bgp default ipv4-unicast", " bgp graceful-restart-disable",
+          " bgp bestpath compare-routerid", " no bgp network import-check")
+
+
+def frr_text(plan):
+    parts = [[f"! {plan.site.name}, AS {plan.site.asn}: the route maps of the network's policy, written by tools/deploy.",
+              "frr defaults traditional"]]
+    if plan.networks:
+        parts.append([DROPPED, *(f"ip route {network.prefix} blackhole 254" for network in plan.networks)])
+    parts += [list_lines(number, rows) for number, rows in sorted(plan.lists.items())]
+    parts.append([OWN_NUMBERS, *number_lines(plan.own_numbers)])
+    parts.append([f"bgp large-community-list standard {tag_name(tag)} seq 5 permit {tag}" for tag in matched(plan)])
+    parts += [network_lines(network) for network in plan.networks]
+    for session in plan.sessions:
+        parts += map_parts(session, plan.block(session))
+    parts.append([*SELECTION, *router_lines(plan)])
+    return "\n!\n".join("\n".join(part) for part in parts if part) + "\n"
+
+
+def list_lines(number, rows):
+    return [f"ip prefix-list list-{number} seq {5 * place} {row.word} {row.pattern()}" for place, row in enumerate(rows, 1)]
+
+
+def number_lines(numbers):
+    """Each line is one test of a path, so several numbers stand in a line, and not so many that it grows too long."""
+    for place, start in enumerate(range(0, len(numbers), 40), 1):
+        yield f"bgp as-path access-list own-numbers seq {5 * place} permit _({'|'.join(map(str, numbers[start:start + 40]))})_"
+
+
+def matched(plan):
+    return sorted({entry.match for block in plan.blocks.values() for entry in block.takes + block.sends if entry.match})
+
+
+def tag_name(tag):
+    return f"tag-{tag.asn}-{tag.value}"
+
+
+def network_lines(network):
+    return [f"route-map own-{network.prefix} permit 10", f" match ip address prefix-list list-{network.number}",
+            f" set large-community {network.tag}", "exit"]
+
+
+def map_parts(session, block):
+    """The two route maps of a session, an entry a part. Each ends in a refusal."""
+    name, is_peer = session.neighbour.name, session.neighbour.is_peer
+    if is_peer:
+        yield [f"route-map in-{name} deny 5", " match as-path own-numbers", "exit"]
+    for word, entries, more in (("in", block.takes, WASH if is_peer else ()), ("out", block.sends, ())):
+        if 10 * len(entries) >= LAST:
+            raise Fault(f"maps: the {word} entries of {name}: FRR numbers entries up to {LAST}, so there may be {LAST // 10}")
+        for place, entry in enumerate(entries, 1):
+            yield [f"route-map {word}-{name} permit {10 * place}", *entry_lines(entry), *more, "exit"]
+        yield [f"route-map {word}-{name} deny {LAST}", "exit"]
+
+
+def entry_lines(entry):
+    yield f" match ip address prefix-list list-{entry.number}"
+    if entry.match:
+        yield f" match large-community {tag_name(entry.match)}"
+    if entry.put:
+        yield f" set large-community {entry.put}"
+        yield f" set local-preference {entry.preference}"
+
+
+def router_lines(plan):
+    yield from (f"router bgp {plan.site.asn}", f" bgp router-id {plan.site.id}", *ROUTER)
+    for session in plan.sessions:
+        yield from neighbour_lines(session, plan)
+    yield from (" !", " address-family ipv4 unicast")
+    yield from (f"  network {network.prefix} route-map own-{network.prefix}" for network in plan.networks)
+    for session in plan.sessions:
+        yield from family_lines(session)
+    yield from ("  maximum-paths 1", " exit-address-family", "exit")
+
+
+def neighbour_lines(session, plan):
+    at, other, wire = place_of(session), session.neighbour, session.wire
+    if other.asn in RESERVED:
+        raise Fault(f"topology: FRR has no session with the AS number of {other.name}")
+    yield f" neighbor {at}{' interface' if session.interface else ''} remote-as {other.asn}"
+    if session.asn != plan.site.asn:
+        yield f" neighbor {at} local-as {session.asn} no-prepend replace-as"
+    yield f" neighbor {at} description {other.name}"
+    if wire.password:
+        yield f" neighbor {at} password {wire.password}"
+    if wire.ttl_security:
+        yield f" neighbor {at} ttl-security hops {wire.hops}"
+    elif wire.hops > 1:
+        yield f" neighbor {at} ebgp-multihop {wire.hops}"
+    yield f" neighbor {at} enforce-first-as"
+    if session.mine:
+        yield f" neighbor {at} update-source {session.mine}"
+    if wire.hold:
+        yield f" neighbor {at} timers {wire.hold // 3} {wire.hold}"
+    yield f" neighbor {at} timers connect 5"
+
+
+def family_lines(session):
+    """What is announced comes last, when all else of the session is said."""
+    at, name = place_of(session), session.neighbour.name
+    yield f"  neighbor {at} activate"
+    yield f"  neighbor {at} next-hop-self"
+    if session.neighbour.is_peer:
+        yield f"  neighbor {at} remove-private-AS all"
+        yield f"  no neighbor {at} send-community all"
+    else:
+        yield f"  neighbor {at} send-community large"
+    yield f"  neighbor {at} route-map in-{name} in"
+    yield f"  neighbor {at} route-map out-{name} out"
+
+
+def place_of(session):
+    return session.interface or session.theirs

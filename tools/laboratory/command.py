@@ -1,0 +1,162 @@
+"""The words of tools/lab, and its report."""
+import argparse
+import ipaddress
+import itertools
+import json
+import os
+import shutil
+import sys
+import time
+
+from deploying import folders
+from deploying.addresses import Addresses
+from deploying.map_reader import read_maps
+from deploying.maps import maps_text
+from deploying.texts import Fault
+from deploying.topology import Topology
+
+from . import enclosure
+from .commands import Broken, propane, ran, read, write
+from .network import Inputs, Network
+from .questions import Texts, compare
+from .scenarios import Scenario, asked_prefixes, scenario_of, single_failures
+
+AGREES, DIFFERS, BROKEN = 0, 1, 2
+NOTHING = Scenario("nothing fails", "")
+
+
+def words_of(arguments, usage):
+    parser = argparse.ArgumentParser(prog="tools/lab", description=usage, formatter_class=argparse.RawDescriptionHelpFormatter)
+    parser.add_argument("--frr", default="", metavar="ROUTERS", help="routers that run FRR: names by commas, `half` or `all`")
+    parser.add_argument("--addresses", metavar="FILE", help="addresses as tools/deploy takes them; else some are made")
+    parser.add_argument("--files", metavar="FOLDER", help="files of routers to be run in place of those of tools/deploy")
+    parser.add_argument("--patience", type=float, default=180, metavar="SECONDS",
+                        help="for which a network that isn't quiet, or differs, may still change (180)")
+    parser.add_argument("--keep", metavar="FOLDER", help="a folder for all that is written, recorded and logged")
+    for word in ("topology", "policy"):
+        parser.add_argument(word)
+    parser.add_argument("scenarios", nargs="*", metavar="scenario")
+    words = parser.parse_args(arguments)
+    for path in (words.topology, words.policy, *words.scenarios, words.addresses, words.files, words.keep):
+        if path and os.path.abspath(path).startswith("/run/"):
+            parser.error(f"{path}: the lab has a /run of its own")
+    return words
+
+
+def made_addresses(topology):
+    """Addresses for a network that has none, and a public number that none of its sites has (RFC 5398)."""
+    taken, start = {site.asn for site in topology.sites.values()}, ipaddress.IPv4Address("172.16.0.0")
+    links = [{"ends": link, "addresses": [str(start + 2 * place), str(start + 2 * place + 1)]} for place, link in enumerate(topology.links)]
+    return json.dumps({"public_as": next(number for number in itertools.count(65536) if number not in taken), "links": links})
+
+
+def frr_routers(topology, word, files):
+    """The routers that run FRR: those that are named, but where a file is given, as its ending says."""
+    names = [router.name for router in topology.routers]
+    named = {"all": names, "half": names[1::2]}.get(word) or [name for name in word.split(",") if name]
+    for name in named:
+        if name not in names:
+            raise Fault(f"--frr: no router of the topology: {name}")
+    given = set(os.listdir(files)) if files else set()
+    return {name for name in names if f"{name}.frr.conf" in given or name in named and f"{name}.bird.conf" not in given}
+
+
+def deployed(inputs, frr, given, folder):
+    """Puts the file of each router into the folder: the given one, or the one that is written for it; `inputs.files` tells which.
+
+    Each is tried by its daemon's own check."""
+    for router in inputs.topology.routers:
+        daemon = folders.FRR if router.name in frr else folders.BIRD
+        file = os.path.join(folder, router.name + daemon.ending)
+        folders.write_files(daemon, inputs.topology, inputs.maps, inputs.addresses, folder, [router.name])
+        if given and os.path.exists(os.path.join(given, router.name + daemon.ending)):
+            shutil.copyfile(os.path.join(given, router.name + daemon.ending), file)
+        ran(*(["vtysh", "-C", "-f"] if router.name in frr else ["bird", "-p", "-c"]), file)
+        inputs.files[router.name] = file
+
+
+def loaded(texts, network, folder):
+    """What is to be said of the maps as they stand on the routers: the verdict of checkmap, or what drifted."""
+    os.makedirs(folder, exist_ok=True)
+    for name, file in network.inputs.files.items():
+        write(os.path.join(folder, os.path.basename(file)), network.daemons[name].loaded(file))
+    try:
+        text = maps_text(network.topology, folders.read_back(network.topology, network.addresses, folder))
+    except (folders.Drift, Fault) as drift:
+        return "\n  ".join(["differ", *str(drift).splitlines()])
+    write(os.path.join(folder, "maps"), text)
+    return propane("checkmap", texts.config, os.path.join(folder, "maps"), status=(0, 7)).strip()
+
+
+def examined(network, texts, scenario, folder, patience):
+    """What differs in a scenario once nothing moves any more. Daemons may be slow: what differs is asked again for a while."""
+    end = time.monotonic() + patience
+    if not scenario.fails_as(network.now):
+        network.make(scenario)
+    unquiet = [] if network.is_quiet else network.settle(end)
+    answer = compare(network, texts, scenario, folder)
+    while (unquiet or answer.faults) and time.monotonic() < end:
+        unquiet = network.settle(end)
+        answer = compare(network, texts, scenario, folder)
+    answer.faults[:0] = unquiet
+    return answer
+
+
+def say(line):
+    print(line, flush=True)
+
+
+def run_scenarios(texts, network, scenarios, folder, patience):
+    """Makes the failures of each scenario, and tells what comes of it. Returns the answers."""
+    answers = []
+    for place, scenario in enumerate(scenarios, 1):
+        began = time.monotonic()
+        answer = examined(network, texts, scenario, os.path.join(folder, str(place)), patience)
+        answers.append(answer)
+        say(f"{scenario.name}, {scenario.prefix}: paths {answer.paths} offers {answer.offers} next hops {answer.next_hops}: "
+            f"{'DIFFERS' if answer.faults else 'agrees'} ({time.monotonic() - began:.1f} s)")
+        for fault in answer.faults:
+            say(f"  {fault}")
+    return answers
+
+
+def run(words, folder):
+    texts = Texts.made(os.path.abspath(words.topology), os.path.abspath(words.policy), folder)
+    topology = Topology(read(texts.topology))
+    maps = read_maps(topology, read(texts.maps))
+    addresses = Addresses(read(words.addresses) if words.addresses else made_addresses(topology), topology)
+    frr = frr_routers(topology, words.frr, words.files)
+    scenarios = [scenario_of(texts.topology, texts.policy, path) for path in words.scenarios] \
+        or single_failures(topology, asked_prefixes(maps))
+    inputs = Inputs(topology, maps, addresses, {})
+    deployed(inputs, frr, words.files, os.path.join(folder, "deployed"))
+    network = Network(inputs, frr, [scenario.prefix for scenario in scenarios], os.path.join(folder, "run"))
+    say(f"routers {len(topology.routers)}, of them FRR {len(frr)}, peers {len(topology.peers)}, links {len(topology.links)}")
+    network.lay()
+    network.make(NOTHING)
+    network.settle(time.monotonic() + words.patience)
+    verdict = loaded(texts, network, os.path.join(folder, "loaded"))
+    say(f"maps as they stand on the routers: {verdict}")
+    answers = run_scenarios(texts, network, scenarios, folder, words.patience)
+    differing = sum(bool(answer.faults) for answer in answers)
+    sums = [sum(getattr(answer, part) for answer in answers) for part in ("paths", "offers", "next_hops")]
+    say(f"scenarios {len(answers)} paths {sums[0]} offers {sums[1]} next hops {sums[2]} differing {differing}")
+    return AGREES if verdict == "same" and not differing else DIFFERS
+
+
+def main(arguments, usage):
+    """Runs the lab in namespaces of its own. Returns the status."""
+    words = words_of(arguments, usage)
+    try:
+        if not enclosure.is_inside():
+            return enclosure.run_inside(enclosure.command())
+        enclosure.furnish()
+        try:
+            return run(words, enclosure.HERE)
+        finally:
+            if words.keep:
+                shutil.copytree(enclosure.HERE, words.keep, dirs_exist_ok=True,
+                                ignore=shutil.ignore_patterns("*.ctl", "*.vty", "*.api", "*.pid"))
+    except (Broken, Fault, enclosure.Ended, OSError) as error:
+        sys.stderr.write(f"lab: {error}\n")
+        return BROKEN

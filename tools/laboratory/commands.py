@@ -1,0 +1,48 @@
+"""Runs other programs, and waits, never without a bound."""
+import os
+import subprocess
+import time
+
+TOOLS = os.path.dirname(os.path.dirname(os.path.abspath(__file__)))
+SLOW = 300  # seconds after which a program that answers at once elsewhere counts as stuck
+
+
+class Broken(Exception):
+    """The lab itself fails: the message says what of it."""
+
+
+def ran(*words, status=(0,)):
+    """What a program writes to its output, where it ends with one of these statuses."""
+    try:
+        done = subprocess.run(words, stdin=subprocess.DEVNULL, capture_output=True, text=True, check=False, timeout=SLOW)
+    except FileNotFoundError as error:
+        raise Broken(f"{words[0]}: not found") from error
+    except subprocess.TimeoutExpired as error:
+        raise Broken(f"{' '.join(words)}: not done within {SLOW} seconds") from error
+    if done.returncode not in status:
+        raise Broken(f"{' '.join(words)}: status {done.returncode}: {done.stderr}{done.stdout}".strip())
+    return done.stdout
+
+
+def propane(*words, status=(0,)):
+    """Runs the program that the variable PROGRAM names, or ./propane."""
+    return ran(os.environ.get("PROGRAM") or os.path.join(TOOLS, "..", "propane"), *words, status=status)
+
+
+def until(happened, what, limit=SLOW):
+    """Waits until something has happened."""
+    end = time.monotonic() + limit
+    while not happened():
+        if time.monotonic() > end:
+            raise Broken(f"{what} within {limit} seconds")
+        time.sleep(0.05)
+
+
+def read(path):
+    with open(path, encoding="utf-8") as file:
+        return file.read()
+
+
+def write(path, text):
+    with open(path, "w", encoding="utf-8") as file:
+        file.write(text)

@@ -1,0 +1,162 @@
+"""BIRD and FRR in the namespace of a site: begun, asked, ended."""
+import contextlib
+import json
+import os
+import re
+import shutil
+import socket
+import subprocess
+
+from .commands import SLOW, Broken, ran, read, until, write
+
+FRR = os.environ.get("FRR_DAEMONS", "/usr/lib/frr")
+
+
+class Daemon:
+    """The processes of a site, with a folder for their files."""
+
+    def __init__(self, space, folder):
+        self.space, self.folder, self.running = space, folder, []
+        os.makedirs(folder, exist_ok=True)
+
+    def path(self, name):
+        return os.path.join(self.folder, name)
+
+    def spawn(self, name, there, *words):
+        """Begins a process, and waits until it has made the file `there`. What is to end the lab isn't meant for it."""
+        log = self.path(f"{name}.log")
+        with open(log, "a", encoding="utf-8") as file:
+            process = subprocess.Popen(["ip", "netns", "exec", self.space, *words], stdin=subprocess.DEVNULL, stdout=file, stderr=file,
+                                       cwd=self.folder, start_new_session=True)
+        self.running.append(process)
+
+        def has_begun():
+            if process.poll() is not None:
+                raise Broken(f"{self.space}: {name} has ended: {read(log)}")
+            return os.path.exists(self.path(there))
+
+        until(has_begun, f"{self.space}: {name} makes no {there}")
+
+    def stop(self):
+        """Ends all at once, as a crash would; the kernel keeps nothing of what it was told."""
+        for process in reversed(self.running):
+            process.kill()
+            process.wait()
+        self.running = []
+        ran("ip", "-n", self.space, *self.forget)
+
+
+class Bird(Daemon):
+    """BIRD 2, with a file as its configuration."""
+
+    ending = ".bird"
+    forget = "route", "flush", "proto", "bird"
+
+    def start(self, file):
+        with contextlib.suppress(FileNotFoundError):
+            os.unlink(self.path("bird.ctl"))
+        self.spawn("bird", "bird.ctl", "bird", "-f", "-c", file, "-s", self.path("bird.ctl"), "-P", self.path("bird.pid"))
+
+    def ask(self, *words):
+        """What BIRD answers: `Network not found` is an answer too, though birdc's status is 1 then."""
+        return ran("birdc", "-s", self.path("bird.ctl"), *words, status=(0, 1))
+
+    def configure(self, file):
+        said = self.ask("configure", f'"{file}"')
+        if "Reconfigur" not in said:
+            raise Broken(f"{self.space}: {said}")
+
+    def answer(self, prefix):
+        return self.ask("show", "route", prefix, "all", "primary")
+
+    def sessions(self):
+        """The neighbours with which a session is established, and what changes whenever a message comes or goes."""
+        up, moves = set(), []
+        for line in self.ask("show", "protocols", "all").splitlines():
+            words = line.split()
+            if words and words[0].startswith("bgp:"):
+                moves.append((words[0], words[3]))
+                if "Established" in words:
+                    up.add(words[0].removeprefix("bgp:"))
+            elif words[1:2] in (["updates:"], ["withdraws:"]):
+                moves.append(tuple(words))
+        return up, moves
+
+    def heard(self, prefix):
+        """What a peer has heard: by router, the AS path and the lines of communities that came with it."""
+        found, at = {}, None
+        for line in self.ask("show", "route", prefix, "all").splitlines():
+            entry = re.search(r"\[(\S+) .*\]", line) if not line.startswith("\t") else None
+            name, _, value = line.strip().partition(":")
+            if entry:
+                at = found.setdefault(entry[1].removeprefix("bgp:"), ([], [])) if entry[1].startswith("bgp:") else None
+            elif at and name == "BGP.as_path":
+                at[0].extend(map(int, re.findall(r"\d+", value)))
+            elif at and "communit" in name and value.strip():
+                at[1].append(line.strip())
+        return found
+
+    def noted(self, words):
+        """What stands behind these words in the log, each once."""
+        return list(dict.fromkeys(line.partition(words)[2] for line in read(self.path("bird.log")).splitlines() if words in line))
+
+    def loaded(self, file):
+        return read(file)
+
+
+class Frr(Daemon):
+    """The daemons of FRR that BGP needs. `names` has the neighbour's name for each address or interface of a session."""
+
+    ending = ".frr"
+    forget = "nexthop", "flush"  # zebra's routes are over its next hops, and go with them
+
+    def __init__(self, space, folder, names):
+        super().__init__(space, folder)
+        self.names = names
+
+    def start(self, file):
+        for name in os.listdir(self.folder):
+            if not name.endswith(".log"):
+                os.unlink(self.path(name))
+        shutil.copyfile(file, self.path("frr.conf"))
+        write(self.path("vtysh.conf"), "")
+        for path in (self.folder, self.path("frr.conf")):
+            shutil.chown(path, "frr", "frr")
+        for name in ("mgmtd", "zebra", "staticd", "bgpd"):  # mgmtd came with FRR 9
+            if os.path.exists(f"{FRR}/{name}"):
+                self.spawn(name, f"{name}.vty", f"{FRR}/{name}", "-u", "frr", "-g", "frr", "-i", self.path(f"{name}.pid"),
+                           "-z", self.path("zserv.api"), "--vty_socket", self.folder, "-P", "0", "--log", "stdout")
+        self.vtysh("-b")
+
+    def vtysh(self, *words):
+        return ran("vtysh", "--vty_socket", self.folder, "--config_dir", self.folder, *words)
+
+    def ask(self, command):
+        """What bgpd answers, on the socket over which vtysh asks: vtysh itself takes a hundred times as long to begin.
+
+        An answer ends in three zeros and a status."""
+        answer = b""
+        with socket.socket(socket.AF_UNIX) as bgpd:
+            bgpd.settimeout(SLOW)
+            bgpd.connect(self.path("bgpd.vty"))
+            bgpd.sendall(command.encode() + b"\0")
+            while answer[-4:-1] != b"\0\0\0":
+                piece = bgpd.recv(65536)
+                if not piece:
+                    raise Broken(f"{self.space}: bgpd says no more to: {command}")
+                answer += piece
+        return answer[:-4].decode()
+
+    def answer(self, prefix):
+        return self.ask(f"show bgp ipv4 unicast {prefix} bestpath json")
+
+    def sessions(self):
+        value = json.loads(self.ask("show bgp ipv4 unicast summary json"))
+        peers = value.get("ipv4Unicast", value).get("peers", {})
+        keys = "state", "pfxRcd", "pfxSnt", "inq", "outq", "connectionsEstablished", "tableVersion"
+        moves = [value.get("tableVersion"), *((at, *map(peer.get, keys)) for at, peer in peers.items())]
+        return {self.names[at] for at, peer in peers.items() if peer["state"] == "Established"}, moves
+
+    def loaded(self, _):
+        """What bgpd runs, as it tells it."""
+        return self.vtysh("-c", "show running-config")

@@ -1,0 +1,159 @@
+"""The sites of a network as namespaces, its links, and what fails now."""
+import json
+import os
+import time
+from concurrent.futures import ThreadPoolExecutor
+from dataclasses import dataclass
+
+from deploying.addresses import Addresses
+from deploying.maps import Maps
+from deploying.plans import session_of
+from deploying.topology import Topology
+
+from .commands import ran, write
+from .daemons import Bird, Frr
+from .peers import peer_text
+from .scenarios import Scenario
+
+CALM = 2  # seconds without a change that count as quiet
+POLL = 0.5
+AT_ONCE = 8  # daemons that are begun at once
+
+
+@dataclass(frozen=True)
+class Inputs:
+    """A network with its maps and addresses, and the file that each router loads, by name."""
+
+    topology: Topology
+    maps: Maps
+    addresses: Addresses
+    files: dict
+
+
+class Network:
+    """A namespace and a daemon for each site, called as the site is. `now` says what fails, `is_quiet` that quiet has come since."""
+
+    def __init__(self, inputs, frr, prefixes, folder):
+        self.inputs, self.topology, self.addresses, self.folder = inputs, inputs.topology, inputs.addresses, folder
+        own = {network.prefix for router in inputs.maps.routers.values() for network in router.networks}
+        self.announced = sorted(set(prefixes) - own)
+        self.daemons = {name: self.daemon(site, name in frr) for name, site in self.topology.sites.items()}
+        self.now, self.is_quiet = Scenario("", "", dead=frozenset(self.topology.sites)), False
+
+    def daemon(self, site, is_frr):
+        folder = os.path.join(self.folder, site.name)
+        if not is_frr:
+            return Bird(site.name, folder)
+        sessions = [session_of(self.addresses, site, other) for other in self.topology.neighbours(site.name)]
+        return Frr(site.name, folder, {session.interface or session.theirs: session.neighbour.name for session in sessions})
+
+    # ---- links
+
+    def interface(self, site, other):
+        """The name of a site's interface on a link."""
+        return self.addresses.wire(site, other).interfaces.get(site) or f"to{self.topology.place[other]}"
+
+    def lay(self):
+        for space in self.topology.sites:
+            ran("ip", "netns", "add", space)
+            ran("ip", "-n", space, "link", "set", "lo", "up")
+        for one, two in self.topology.links:
+            ran("ip", "link", "add", "name", self.interface(one, two), "netns", one, "type", "veth",
+                "peer", "name", self.interface(two, one), "netns", two)
+            for site, other in ((one, two), (two, one)):
+                at = self.addresses.wire(one, two).addresses
+                if at:
+                    ran("ip", "-n", site, "addr", "add", at[site], "peer", at[other], "dev", self.interface(site, other))
+                ran("ip", "-n", site, "link", "set", self.interface(site, other), "up")
+
+    def set_link(self, link, word):
+        """One end goes `up` or `down`; the other one sees whether somebody is there."""
+        one, two = sorted(link)
+        ran("ip", "-n", one, "link", "set", self.interface(one, two), word)
+
+    # ---- failures
+
+    def make(self, scenario):
+        """Goes from what fails now to what is to fail."""
+        before, self.now, self.is_quiet = self.now, scenario, False
+        for name in sorted(scenario.dead - before.dead):
+            self.daemons[name].stop()
+        for link in before.dead_links ^ scenario.dead_links:
+            self.set_link(link, "down" if link in scenario.dead_links else "up")
+        with ThreadPoolExecutor(AT_ONCE) as pool:
+            list(pool.map(self.start, [site for site in self.topology.sites.values() if site.name in before.dead - scenario.dead]))
+        for peer in self.topology.peers:
+            if peer.name not in before.dead | scenario.dead and any(peer.name in link for link in before.silent ^ scenario.silent):
+                self.daemons[peer.name].configure(self.peer_file(peer))
+
+    def start(self, site):
+        self.daemons[site.name].start(self.peer_file(site) if site.is_peer else self.router_file(site.name))
+
+    def router_file(self, name):
+        """What a router loads. Where a session has several hops, BIRD looks for the way to its end among its own routes."""
+        file = self.inputs.files[name]
+        is_far = any(name in link and wire.hops > 1 for link, wire in self.addresses.wires.items())
+        if not is_far or not isinstance(self.daemons[name], Bird):
+            return file
+        longer = os.path.join(self.folder, name + ".bird.conf")
+        write(longer, f'include "{file}";\nprotocol direct {{ ipv4; }}\n')
+        return longer
+
+    def peer_file(self, site):
+        file = os.path.join(self.folder, site.name + ".peer.conf")
+        write(file, peer_text(self.topology, self.inputs.maps, self.addresses, site, self.announced, self.now.silent))
+        return file
+
+    def alive(self):
+        return [name for name in self.topology.sites if name not in self.now.dead]
+
+    def live_routers(self):
+        return [router.name for router in self.topology.routers if router.name not in self.now.dead]
+
+    def live_peers(self):
+        return [peer.name for peer in self.topology.peers if peer.name not in self.now.dead]
+
+    def wanted(self):
+        """Between whom there are to be sessions."""
+        live = [link for link in self.topology.links if frozenset(link) not in self.now.dead_links and not set(link) & self.now.dead]
+        return {name: {other for link in live if name in link for other in link if other != name} for name in self.alive()}
+
+    def settle(self, end):
+        """Waits until the sessions are those that can be, and no message has come or gone for some time; not beyond a moment.
+
+        Returns faults."""
+        wanted, last, since, self.is_quiet = self.wanted(), None, time.monotonic(), False
+        while True:
+            told = {name: self.daemons[name].sessions() for name in self.alive()}
+            up, moves = {name: up for name, (up, _) in told.items()}, [moves for _, moves in told.values()]
+            now = time.monotonic()
+            if up != wanted or moves != last:
+                last, since = moves, now
+            if now - since >= CALM:
+                self.is_quiet = True
+                return []
+            if now > end:
+                late = [f"{name}-{other}" for name in wanted for other in sorted(wanted[name] ^ up[name])]
+                return [f"not quiet; sessions that aren't as wanted: {' '.join(late) or 'none'}"]
+            time.sleep(POLL)
+
+    # ---- what is seen
+
+    def record(self, folder, prefix):
+        """What the routers answer, as tools/tables takes it. Of a dead one, BIRD's answer that there is no route."""
+        os.makedirs(folder, exist_ok=True)
+        for router in self.topology.routers:
+            daemon, is_dead = self.daemons[router.name], router.name in self.now.dead
+            ending, answer = (".bird", "Network not found\n") if is_dead else (daemon.ending, daemon.answer(prefix))
+            write(os.path.join(folder, router.name + ending), answer)
+
+    def next_hop(self, router, prefix):
+        """Where the kernel of a router sends: a neighbour, `own` where it keeps what comes, `several`, or None."""
+        routes = json.loads(ran("ip", "-n", router, "-json", "route", "show", "exact", prefix) or "[]")
+        if not routes:
+            return None
+        best = min(routes, key=lambda route: route.get("metric", 0))
+        if "nexthops" in best:
+            return "several"
+        others = {self.interface(router, site.name): site.name for site in self.topology.neighbours(router)}
+        return others.get(best.get("dev"), "own")

@@ -1,0 +1,78 @@
+"""What the peers of a network say: BIRD's files of peers that mean no good.
+
+Their paths go on behind them. They announce with the network's own tags and with communities that routers act upon by themselves
+(graceful shutdown, blackhole, no export), claim the network's own prefixes, and hand on what they hear. Over a silent session they
+announce nothing, or a path with another router's number on it, which is to be refused. And they note, whenever it comes, what no
+peer is ever to hear: another prefix than the network's own, a path of more than one number, a community.
+"""
+import itertools
+
+from deploying.plans import session_of
+
+from .commands import Broken
+
+MOST_TAGS = 20
+WRONG = "wrongly heard"  # what a peer notes of a route that it should never have heard
+
+
+def peer_text(topology, maps, addresses, site, announced, silent):
+    """The file of a peer that announces these prefixes, but over the links `silent`."""
+    claimed = sorted({network.prefix for router in maps.routers.values() for network in router.networks})
+    parts = ["log stderr all;", f"router id {site.id};", "protocol device {}", static_text("announced", announced, "ipv4;"),
+             static_text("claimed", claimed, "ipv4 { preference 1; };"), heard_text(claimed)]
+    for router in topology.neighbours(site.name):
+        session = session_of(addresses, site, router)
+        if not session.mine:
+            raise Broken(f"the peer {site.name} needs addresses: its daemon is BIRD")
+        silence = silence_of(topology, router) if frozenset((site.name, router.name)) in silent else ""
+        parts += [filter_text(router.name, known_tags(maps), silence, number_behind(topology, addresses)),
+                  protocol_text(session, addresses.public_as or router.asn)]
+    return "\n".join(parts) + "\n"
+
+
+def heard_text(own):
+    others = f"net !~ [ {', '.join(own)} ]" if own else "true"
+    return "\n".join(["filter heard {",
+                      f"  if {others} || bgp_path.len != 1 || bgp_community.len > 0 || bgp_ext_community.len > 0 || bgp_large_community.len > 0",
+                      f"    then print \"{WRONG} \", net, \" by the path \", bgp_path;", "  accept;", "}"])
+
+
+def static_text(name, prefixes, channel):
+    return f"protocol static {name} {{ {channel} {''.join(f'route {prefix} unreachable; ' for prefix in prefixes)}}}"
+
+
+def known_tags(maps):
+    """Some of the tags that routers give."""
+    return sorted({entry.put for router in maps.routers.values() for block in router.blocks.values() for entry in block.takes})[:MOST_TAGS]
+
+
+def silence_of(topology, router):
+    """Towards every second router nothing, and towards the others a path with the number of the router that follows them."""
+    place, numbers = topology.place[router.name], topology.router_numbers()
+    return "reject;" if place % 2 else f"bgp_path.prepend({numbers[(place + 1) % len(numbers)]});"
+
+
+def number_behind(topology, addresses):
+    """An AS number that none of the network has."""
+    taken = {site.asn for site in topology.sites.values()} | {addresses.public_as}
+    return next(number for number in itertools.count(3356) if number not in taken)
+
+
+def filter_text(name, tags, silence, behind):
+    lines = [f"filter 'out:{name}' {{",
+             f"  if proto = \"announced\" then bgp_path.prepend({behind});",
+             f"  if proto = \"announced\" then {silence}" if silence else "",
+             "  bgp_community.add((65535, 0)); bgp_community.add((65535, 666)); bgp_community.add((65535, 65281));",
+             "  bgp_ext_community.add((rt, 1, 2)); bgp_med = 7; bgp_origin = ORIGIN_INCOMPLETE;",
+             *(f"  bgp_large_community.add(({tag.asn}, 0, {tag.value}));" for tag in tags), "  accept;", "}"]
+    return "\n".join(filter(None, lines))
+
+
+def protocol_text(session, asn):
+    name, wire = session.neighbour.name, session.wire
+    lines = [f"protocol bgp 'bgp:{name}' {{", f"  local {session.mine} as {session.asn}; neighbor {session.theirs} as {asn};",
+             f"  multihop {wire.hops};" if wire.hops > 1 else "  check link on;", "  ttl security on;" if wire.ttl_security else "",
+             f"  password \"{wire.password}\";" if wire.password else "", f"  hold time {wire.hold};" if wire.hold else "",
+             "  connect delay time 1; connect retry time 2; error wait time 2, 4;",
+             f"  ipv4 {{ import filter heard; export filter 'out:{name}'; }};", "}"]
+    return "\n".join(filter(None, lines))

@@ -1,0 +1,98 @@
+"""Whether what the routers do is what propane says."""
+import os
+from dataclasses import dataclass
+
+from .commands import TOOLS, propane, ran, write
+from .peers import WRONG
+
+
+@dataclass(frozen=True)
+class Texts:
+    """The files that propane reads: the inputs, and what it wrote of them."""
+
+    topology: str
+    policy: str
+    config: str
+    evidence: str
+    maps: str
+
+    @staticmethod
+    def made(topology, policy, folder):
+        found = Texts(topology, policy, *(os.path.join(folder, name) for name in ("config", "evidence", "maps")))
+        for command, path in (("compile", found.config), ("evidence", found.evidence), ("routemap", found.maps)):
+            write(path, propane(command, topology, policy))
+        return found
+
+
+@dataclass
+class Answer:
+    """What doesn't agree, as lines, and how much was asked."""
+
+    faults: list
+    paths: int
+    offers: int
+    next_hops: int
+
+
+def compare(network, texts, scenario, folder):
+    """Compares the network as it is now with what propane says of a scenario. What was compared stands in the folder."""
+    network.record(folder, scenario.prefix)
+    path, tables = os.path.join(folder, "scenario.json"), os.path.join(folder, "tables.json")
+    write(path, scenario.text())
+    write(tables, ran(os.path.join(TOOLS, "tables"), texts.topology, folder))
+    replay = propane("replay", texts.topology, texts.policy, path)
+    audit = propane("audit", texts.topology, texts.policy, texts.config, texts.evidence, path, tables, status=(0, 7))
+    write(os.path.join(folder, "replay.txt"), replay)
+    write(os.path.join(folder, "audit.txt"), audit)
+    paths, offers = told_by(replay)
+    peers = [(peer, router.name) for peer in network.live_peers() for router in network.topology.neighbours(peer)]
+    faults = [*different(replay, audit), *peer_faults(network, offers, peers, scenario.prefix),
+              *kernel_faults(network, paths, scenario.prefix)]
+    return Answer(faults, len(paths), len(peers), len(network.live_routers()))
+
+
+def told_by(replay):
+    """For each router its path, or the word in its place; and for each router and peer the path that is offered."""
+    paths, offers = {}, {}
+    for line in replay.splitlines():
+        words = line.split(" ")
+        path = words[words.index("path") + 1:] if "path" in words else None
+        if words[0] == "router":
+            paths[words[1]] = path or words[2]
+        elif words[0] == "session" and path:
+            offers[words[1], words[2]] = path
+    return paths, offers
+
+
+def different(replay, audit):
+    """What an audit says, where that isn't that the routes are stable and are those of a replay."""
+    wanted, found = replay.splitlines(), audit.splitlines()
+    if found[:1] != ["stable"]:
+        yield from (f"audit: {line}" for line in found)
+        return
+    yield from (f"replay: {line}" for line in wanted if line not in found)
+    yield from (f"audit: {line}" for line in found[1:] if line not in wanted)
+
+
+def peer_faults(network, offers, peers, prefix):
+    """A peer has heard of a router just where its session is told to be offered a path, and nothing but what a peer may see."""
+    heard = {peer: network.daemons[peer].heard(prefix) for peer in network.live_peers()}
+    yield from (f"peer {peer} has heard{what}" for peer in heard for what in network.daemons[peer].noted(WRONG))
+    for peer, router in peers:
+        is_offered, told = (router, peer) in offers, heard[peer].get(router)
+        if is_offered != bool(told):
+            yield f"peer {peer} hears {f'the path {told[0]}' if told else 'nothing'} of {router}"
+        elif is_offered:
+            shown = [network.addresses.public_as or network.topology.sites[router].asn]
+            if told != (shown, []):
+                yield f"peer {peer} hears of {router} the path {told[0]} {' '.join(told[1])}, and is to hear {shown} alone"
+
+
+def kernel_faults(network, paths, prefix):
+    """The kernel of a router sends to the second of its path."""
+    for name in network.live_routers():
+        path = paths[name]
+        wanted = path[1] if isinstance(path, list) else {"origin": "own", "none": None}[path]
+        found = network.next_hop(name, prefix)
+        if found != wanted:
+            yield f"kernel of {name} sends to {found}, and is to send to {wanted}"

@@ -1,0 +1,113 @@
+"""Tells a refusal in words. Each sentence says one line that `explain` wrote; the rest is what the program was asked besides."""
+import textwrap
+
+from .sketch import sketch
+
+MOST_LINES = 12  # lines of a refutation that are told
+MEANINGS = {
+    1: "The statement stands for more than 64 alternatives: `and` multiplies those of its sides.",
+    2: "There are more than 4,096 ways to stand: a router, with what is left of each alternative.",
+    3: "The cases up to this one have more than 131,072 steps from a way to stand to the next.",
+    4: "`from` names {router}, and no path that the statement permits begins there, even with nothing dead.",
+    5: "{router} may use {first}, and may not use {second}. But a walk that the statement permits ends with the second one, so others may "
+       "need {router} to carry it. {router} has one route, and can't do both.",
+    6: "A preference is a number for each way to stand, and no numbers meet the rules:",
+}
+
+
+def listed(words, last="and"):
+    words = list(map(str, words))
+    return f" {last} ".join([", ".join(words[:-1]), words[-1]] if len(words) > 1 else words)
+
+
+def shown(walk):
+    return " ".join(walk)
+
+
+class Ways:
+    """The ways to stand that a refusal names, each with a mark. `shows` has, for a line with a loop, a walk that comes over the neighbour
+    and one that doesn't, with the ranks of the way; and for a mixed source the walk that needs it."""
+
+    def __init__(self, walks, shows=()):
+        self.walks, self.shows = walks, dict(shows)
+        self.marks = {walk: f"[{number}]" for number, walk in enumerate(walks, 1)}
+
+    def __call__(self, walk):
+        return f"{shown(walk)} {self.marks[walk]}" if walk in self.marks else shown(walk)
+
+
+def better_one(line, way):
+    if line.first == line.second:
+        return f"{line.router} would have to like {way(line.second)} better than itself, and no number does"
+    return f"{line.router} would have to like {way(line.second)} better than {way(line.first)}"
+
+
+def loop(line, way):
+    """What a line says whose first way may have come over the neighbour."""
+    router, other = line.router, line.other
+    over, past = way.shows.get(line, (None, None))
+    came = f"may have come over {other} itself, along {way(line.along)}" + (f", as {alike(over, way)} has" if over else "")
+    if past:
+        begins = (f"{router} can't tell apart the routes that stand as {way(line.first)}. One, as {alike(past, way)}, hasn't come over {other}, and "
+                  f"{other} takes it. Another one {came}.")
+    else:
+        begins = f"A route that stands as {way(line.first)} {came}."
+    left = (f"Then {other} takes nothing back and is left with that, which it may not like as well as what {router} gives it of "
+            f"{way(line.second)}, as said above.")
+    return f"{begins} {left} So {better_one(line, way)}."
+
+
+def alike(walk, way):
+    return way(walk) if walk in way.marks else f"{shown(walk)} (same ranks)"
+
+
+def sentence(line, way):
+    """What one line says, in words."""
+    if line.reason == "loop":
+        return loop(line, way)
+    because = {
+        "rank": lambda: f"it is promised the best rank that is left, and they have the ranks {line.ranks[1]} and {line.ranks[0]}",
+        "no-step": lambda: f"with the one it gives {line.other} a route, and with the other none",
+        "step": lambda: f"with either it gives {line.other} a route, and {line.other} may not be given the worse one, as said above",
+        "listener": lambda: f"with the one it offers {line.other} a route, and with the other none, or one that is ranked worse",
+    }
+    return f"{better_one(line, way)}: {because[line.reason]()}."
+
+
+def closing(refusal, way):
+    """What closes the circle."""
+    first, second = way(refusal.first), way(refusal.second)
+    if refusal.first != refusal.second:
+        return f"That closes the circle: {refusal.router} would have to like each of {first} and {second} better than the other one."
+    return f"That closes the circle. Both walks of the refusal are {first}, one way to stand: no number serves for all routes that stand so."
+
+
+def told(refusal, way):
+    """The sentences of a refusal, by number where it has a refutation."""
+    named = {"router": refusal.router, "first": way(refusal.first), "second": way(refusal.second)}
+    sentences = [MEANINGS[refusal.number].format(**named)] if refusal.number in MEANINGS else []
+    if refusal in way.shows:
+        sentences.append(f"Such a walk is {shown(way.shows[refusal])}.")
+    for number, line in enumerate(refusal.lines[:MOST_LINES], 1):
+        sentences.append(f"{number}. {sentence(line, way)}")
+    if len(refusal.lines) > MOST_LINES:
+        sentences.append(f"And {len(refusal.lines) - MOST_LINES} lines more, which `explain` writes.")
+    elif refusal.lines:
+        sentences.append(closing(refusal, way))
+    return [line for each in sentences for line in wrapped(each)]
+
+
+def wrapped(text):
+    """A sentence in lines of at most 100 columns, where no word is longer."""
+    indent = "   " if text[:1].isdigit() else ""
+    return textwrap.wrap(text, 100, subsequent_indent=indent, break_long_words=False, break_on_hyphens=False)
+
+
+def pictured(ways, now, later):
+    """The picture of the ways to stand, and what each is worth: `now` its rank, `later` those of the walks that end with it."""
+    legend = []
+    for walk in ways.walks:
+        ranks = [f"rank {listed(sorted(now[walk]), 'or')}" if now[walk] else "no rank"] if walk in now else []
+        ranks += [f"further on {listed(sorted(later[walk]), 'or') or 'none'}"] if walk in later else []
+        legend.append(f"{ways.marks[walk]} {shown(walk)}" + (f": {', '.join(ranks)}" if ranks else ""))
+    return sketch(ways.walks, ways.marks), legend

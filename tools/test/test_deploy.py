@@ -1,0 +1,263 @@
+"""tools/deploy and tools/lab without daemons: what is written and read back, what is refused and where, and what is asked."""
+import io
+import json
+import os
+import shutil
+import stat
+import sys
+import tempfile
+import unittest
+from contextlib import redirect_stderr, redirect_stdout
+
+sys.dont_write_bytecode = True
+HERE = os.path.dirname(os.path.abspath(__file__))
+TOP = os.path.dirname(os.path.dirname(HERE))
+sys.path.insert(0, os.path.join(TOP, "tools"))
+
+from deploying.command import main  # noqa: E402
+from deploying.maps import Row  # noqa: E402
+from deploying.topology import Topology  # noqa: E402
+from laboratory.questions import different, told_by  # noqa: E402
+from laboratory.scenarios import permitted, single_failures  # noqa: E402
+
+EXAMPLE = os.path.join(TOP, "examples", "two-exits")
+TOPOLOGY, MAPS, ADDRESSES, DEPLOYED = (os.path.join(EXAMPLE, name) for name in ("topology.json", "routemap.stdout", "addresses.json", "deployed"))
+LINKS = '{"ends":["R1","R2"],"addresses":["10.0.0.0","10.0.0.1"]}'
+SHORT, ODD = '"addresses":["10.0.0.0","10.0.0.1"]', '"addresses":["198.51.100.2","198.51.100.1"]'
+
+# What stands in ADDRESSES, what is to stand in its place, and the fault.
+ADDRESS_FAULTS = [
+    ("{", "", "line 1 column 12: not JSON: Extra data"),
+    ('{"public_as"', "[" * 100000 + '{"public_as"', "too many arrays and objects are open at once"),
+    (":64496", ":NaN", "not JSON: NaN is no number of JSON"),
+    ("64496", "64512", "public_as: no AS number that peers may know: 64512"),
+    ("64496", "65535", "public_as: no AS number that peers may know: 65535"),
+    ("64496", "true", "public_as: no AS number that peers may know: true"),
+    ("64496", "1001", "public_as: 1001 is a number of the topology"),
+    ('"public_as"', '"public_asn"', 'no key that it may have: "public_asn"'),
+    ('"public_as":64496', '"links":[]', 'the key "links" stands twice'),
+    ('"links":[', '"links":3,"more":[', 'no key that it may have: "more"'),
+    (LINKS + ",", "", "no entry for the link R1 R2"),
+    (LINKS, "7", "links place 1: entry: no object"),
+    (LINKS, "{}", "links place 1: entry: the key `ends` is missing"),
+    (SHORT, SHORT + ',"mtu":9000', 'links place 1: entry: no key that it may have: "mtu"'),
+    (SHORT, SHORT + "," + SHORT, 'links place 1: entry: the key "addresses" stands twice'),
+    (SHORT, '"hops":1', "links place 1: an entry has either `addresses` or `interfaces`"),
+    (SHORT, SHORT + ',"interfaces":["a","b"]', "links place 1: an entry has either `addresses` or `interfaces`"),
+    (SHORT, '"interfaces":["a","b c"]', 'links place 1: `interfaces`: no name of an interface: "b c"'),
+    (SHORT, '"interfaces":["a","b"],"hops":2', "links place 1: `hops`: a session over interfaces has one"),
+    (SHORT, '"addresses":["10.0.0.0"]', "links place 1: `addresses` is no array of two texts"),
+    (SHORT, '"addresses":["10.0.0.0","10.0.0.0"]', 'links place 1: `addresses` has one text twice: "10.0.0.0"'),
+    (SHORT, '"addresses":["10.0.0.0","10.0.0.01"]', 'links place 1: `addresses`: no IPv4 address: "10.0.0.01"'),
+    (SHORT, '"addresses":["10.0.0.0","fe80::1"]', 'links place 1: `addresses`: no IPv4 address: "fe80::1"'),
+    (SHORT, '"addresses":["10.0.0.0","127.0.0.1"]', "links place 1: `addresses`: no address of a router: 127.0.0.1"),
+    (SHORT, SHORT + ',"password":"a b"', "links place 1: `password` is no text of 1 to 80 letters, digits and signs of ._~+/=:,;@%^*-"),
+    (SHORT, SHORT + ',"hops":0', "links place 1: `hops` is no number from 1 to 254: 0"),
+    (SHORT, SHORT + ',"hold":1.5', "links place 1: `hold` is no number from 3 to 65535: 1.5"),
+    (SHORT, SHORT + ',"ttl_security":1', "links place 1: `ttl_security` is neither true nor false"),
+    (ODD, '"addresses":["198.51.100.2","10.0.0.0"]', "links place 2: `addresses`: 10.0.0.0 is the address of R1 already"),
+    ('["R1","P1"]', '["R1","P2"]', 'links place 2: no link of the topology: ["R1", "P2"]'),
+    ('["R1","P1"]', '["R2","R1"]', "links place 2: the link R2 R1 has an entry already"),
+    ('["R1","P1"]', '["R1","R1"]', 'links place 2: `ends` has one text twice: "R1"'),
+]
+# The same of the maps,
+MAP_FAULTS = [
+    ("propane-maps 1", "propane-maps 2", "line 1: not `propane-maps 1`"),
+    ("list 1 permit", "list 2 permit", "line 2: list 2 isn't the next"),
+    ("0.0.0.0/0 le 32", "0.0.0.0/0 le 33", "line 2: no length up to which 0.0.0.0/0 has longer ones: 33"),
+    ("0.0.0.0/0 le 32", "10.0.0.1/8", "line 2: no prefix: 10.0.0.1/8"),
+    ("router R1 asn 64512", "router R1 asn 64514", "line 3: the topology has no router R1 asn 64514 id 10.255.0.1"),
+    ("neighbor R2 asn 64513\n", "", 'line 4: no line of maps, or not in its place: "in 10 list 1 match 64513:0:1 set 64512:0:2 pref 100"'),
+    ("peer P1 asn 1001", "peer P2 asn 1002", "line 11: router R1 has no block of P1"),
+    ("in 20 list 1 match 64513", "in 30 list 1 match 64513", "line 6: the next entry is 20, and not 30"),
+    ("out 20 list 1 match 64512", "out 20 list 2 match 64512", "line 8: there is no list 2"),
+    ("pref 101\nout", "pref 4294967296\nout", "line 6: a number is at most 4294967295, and not 4294967296"),
+    ("match 64512:0:1\nout", "match 64512:1:1\nout", 'line 7: no line of maps, or not in its place: "out 10 list 1 match 64512:1:1"'),
+    ("end\n", "", 'line 11: no line of maps, or not in its place: "router R2 asn 64513 id 10.255.0.2"'),
+]
+# and of the topology.
+TOPOLOGY_FAULTS = [
+    ('"links":', '"lines":', "no array `links`"),
+    ('"name":"R1"', '"name":"../R1"', 'routers place 1: no name: "../R1"'),
+    ('"name":"R2"', '"name":"R1"', "routers place 2: R1 is there already"),
+    ("64513", "64512", "routers place 2: another has the AS number or the identifier of R2"),
+    ("64513", "5", "routers place 2: no AS number of a router: 5"),
+    ('"10.255.0.2"', '"10.255.0"', 'routers place 2: id: no IPv4 address: "10.255.0"'),
+    ('["R2","P2"]', '["P1","P2"]', "links place 3: a link joins two routers, or a router and a peer"),
+    ('["R2","P2"]', '["R2","R1"]', "links place 3: the link is there already"),
+]
+# A file, what stands in it and what is to stand there, and what is told of it.
+DRIFT = [
+    ("R1.bird.conf", "next hop self;", "next hop keep;", "R1: R1.bird.conf: line 86: next hop keep;: would be: next hop self;"),
+    ("R1.bird.conf", "  wash();\n", "", "R1: R1.bird.conf: line 93: if net ~ list1 then { mark((64512, 0, 1)); bgp_local_pref = 101; accept; }: "
+     "would be: wash();"),
+    ("R1.bird.conf", "a-secret", "other", "R1: R1.bird.conf: line 107: password ..;: would be: password ..;"),
+    ("R1.bird.conf", "filter 'in:R2'", "filter 'in:R3'", "R1: R1.bird.conf: line 65: filter 'in:R3': would be: filter 'in:R2'"),
+    ("R1.frr.conf", "a-secret", "o:t;h:", "R1: R1.frr.conf: line 82: neighbor 198.51.100.1 password ..: isn't as written, below router bgp 64512\n"
+     "R1: R1.frr.conf: a line is missing, below router bgp 64512: neighbor 198.51.100.1 password .."),
+    ("R2.frr.conf", " bgp bestpath compare-routerid\n", "", "R2: R2.frr.conf: a line is missing, below router bgp 64513: bgp bestpath compare-routerid"),
+    ("R2.frr.conf", "neighbor 10.0.0.0 activate", "neighbor 10.0.0.9 activate",
+     "R2: R2.frr.conf: line 88: neighbor 10.0.0.9 activate: isn't as written, below address-family ipv4 unicast\n"
+     "R2: R2.frr.conf: a line is missing, below address-family ipv4 unicast: neighbor 10.0.0.0 activate"),
+    ("R2.frr.conf", " exit-address-family\nexit\n", "neighbor 10.0.0.0 allowas-in\n", "R2: R2.frr.conf: line 100: neighbor 10.0.0.0 allowas-in: isn't as written"),
+    ("R2.frr.conf", "frr defaults traditional\n", "frr defaults traditional\nno route-map in-P2\n", "R2: R2.frr.conf: line 3: no route-map in-P2: isn't as written"),
+    ("R2.frr.conf", "route-map in-R1 deny 65535", "route-map in-R1 permit 65535",
+     "R2: R2.frr.conf: line 28: route-map in-R1 permit 65535: no entry as it would be written"),
+    ("R2.frr.conf", " set local-preference 100\nexit\n!\nroute-map in-R1 deny", "exit\n!\nroute-map in-R1 deny",
+     "R2: R2.frr.conf: line 21: route-map in-R1 permit 20: no entry as it would be written"),
+    ("R2.frr.conf", "list-1 seq 5 permit 0.0.0.0/0", "list-1 seq 5 permit 10.0.0.0/8", "R2: R2.frr.conf: list 1 isn't that of R1"),
+]
+
+
+def text_of(path):
+    with open(path, encoding="utf-8") as file:
+        return file.read()
+
+
+def put(folder, name, text):
+    with open(os.path.join(folder, name), "w", encoding="utf-8") as file:
+        file.write(text)
+
+
+def deploy(*words):
+    """The status, the output and the error output of a run."""
+    out, err = io.StringIO(), io.StringIO()
+    with redirect_stdout(out), redirect_stderr(err):
+        status = main(list(words), "usage\n")
+    return status, out.getvalue(), err.getvalue()
+
+
+class Deploying(unittest.TestCase):
+    maxDiff = None
+
+    def setUp(self):
+        self.folder = tempfile.mkdtemp()
+        self.addCleanup(shutil.rmtree, self.folder)
+
+    def test_files_are_written_byte_for_byte(self):
+        for kind in ("bird", "frr"):
+            self.assertEqual(deploy(f"--{kind}", TOPOLOGY, MAPS, ADDRESSES, self.folder), (0, "", ""))
+            for router in ("R1", "R2"):
+                name = f"{router}.{kind}.conf"
+                self.assertEqual(text_of(os.path.join(self.folder, name)), text_of(os.path.join(DEPLOYED, name)))
+                self.assertEqual(stat.S_IMODE(os.stat(os.path.join(self.folder, name)).st_mode), 0o600)
+
+    def test_only_named_routers_are_written(self):
+        self.assertEqual(deploy("--frr", TOPOLOGY, MAPS, ADDRESSES, self.folder, "R2"), (0, "", ""))
+        self.assertEqual(os.listdir(self.folder), ["R2.frr.conf"])
+        self.assertEqual(deploy("--frr", TOPOLOGY, MAPS, ADDRESSES, self.folder, "P1"), (3, "", "deploy: no router of the topology: P1\n"))
+
+    def test_files_are_read_back_as_their_maps(self):
+        for files in (("R1.bird.conf", "R2.bird.conf"), ("R1.frr.conf", "R2.frr.conf"), ("R1.bird.conf", "R2.frr.conf")):
+            folder = tempfile.mkdtemp(dir=self.folder)
+            for name in files:
+                shutil.copy(os.path.join(DEPLOYED, name), folder)
+            self.assertEqual(deploy("--read", TOPOLOGY, ADDRESSES, folder), (0, text_of(MAPS), ""))
+
+    def test_the_running_configuration_of_frr_is_read_back(self):
+        self.assertEqual(deploy("--read", TOPOLOGY, ADDRESSES, os.path.join(HERE, "running")), (0, text_of(MAPS), ""))
+
+    def test_other_examples_are_read_back(self):
+        for example in ("ring", "data-centre"):
+            words = [os.path.join(TOP, "examples", example, name) for name in ("topology.json", "routemap.stdout", "addresses.json")]
+            for kind in ("--bird", "--frr"):
+                folder = tempfile.mkdtemp(dir=self.folder)
+                self.assertEqual(deploy(kind, *words, folder), (0, "", ""))
+                self.assertEqual(deploy("--read", words[0], words[2], folder), (0, text_of(words[1]), ""))
+
+    def test_sessions_over_interfaces_are_for_frr(self):
+        words = [os.path.join(TOP, "examples", "ring", name) for name in ("topology.json", "routemap.stdout", "unnumbered.json")]
+        self.assertEqual(deploy("--frr", *words, self.folder), (0, "", ""))
+        self.assertIn(" neighbor swp1 interface remote-as 4200000002\n", text_of(os.path.join(self.folder, "A.frr.conf")))
+        self.assertEqual(deploy("--bird", *words, self.folder)[0], 3)
+
+    def test_changed_entries_are_other_maps(self):
+        for name, old, new in (("R1.bird.conf", "bgp_local_pref = 100", "bgp_local_pref = 99"), ("R1.frr.conf", "preference 100", "preference 99")):
+            folder = tempfile.mkdtemp(dir=self.folder)
+            put(folder, name, text_of(os.path.join(DEPLOYED, name)).replace(old, new, 1))
+            shutil.copy(os.path.join(DEPLOYED, "R2.frr.conf"), folder)
+            self.assertEqual(deploy("--read", TOPOLOGY, ADDRESSES, folder), (0, text_of(MAPS).replace("pref 100", "pref 99", 1), ""))
+
+    def test_drift_is_told_by_router_and_line(self):
+        for name, old, new, told in DRIFT:
+            with self.subTest(name=name, new=new):
+                folder = tempfile.mkdtemp(dir=self.folder)
+                for file in ("R1.frr.conf" if name == "R1.frr.conf" else "R1.bird.conf", "R2.frr.conf"):
+                    text = text_of(os.path.join(DEPLOYED, file))
+                    put(folder, file, text.replace(old, new, 1) if file == name else text)
+                status, said, lines = deploy("--read", TOPOLOGY, ADDRESSES, folder)
+                self.assertEqual((status, said), (7, ""))
+                self.assertTrue(lines.startswith("".join(f"deploy: {line}\n" for line in told.split("\n"))[:-1]), lines)
+
+    def test_lines_of_the_router_itself_are_no_drift_of_frr(self):
+        more = "hostname R2\ninterface eth0\n ip address 10.0.0.1/31\nexit\nip route 192.0.2.0/24 10.0.0.0\nroute-map mine permit 10\nexit\n"
+        put(self.folder, "R2.frr.conf", more + text_of(os.path.join(DEPLOYED, "R2.frr.conf")))
+        shutil.copy(os.path.join(DEPLOYED, "R1.frr.conf"), self.folder)
+        self.assertEqual(deploy("--read", TOPOLOGY, ADDRESSES, self.folder), (0, text_of(MAPS), ""))
+
+    def test_a_router_has_one_file(self):
+        shutil.copy(os.path.join(DEPLOYED, "R1.frr.conf"), self.folder)
+        self.assertEqual(deploy("--read", TOPOLOGY, ADDRESSES, self.folder), (3, "", f"deploy: {self.folder}: no file of the router R2\n"))
+        shutil.copy(os.path.join(DEPLOYED, "R1.bird.conf"), self.folder)
+        self.assertEqual(deploy("--read", TOPOLOGY, ADDRESSES, self.folder), (3, "", f"deploy: {self.folder}: two files of the router R1\n"))
+
+    def refused(self, place, faults, kind):
+        for old, new, fault in faults:
+            with self.subTest(kind=kind, fault=fault):
+                files = [TOPOLOGY, MAPS, ADDRESSES]
+                text = text_of(files[place])
+                self.assertIn(old, text)
+                put(self.folder, "text", text.replace(old, new, 1))
+                files[place] = os.path.join(self.folder, "text")
+                folder = os.path.join(self.folder, "none")
+                said = deploy("--bird", *files, folder)
+                self.assertEqual((said[0], said[1]), (3, ""))
+                self.assertTrue(said[2].startswith(f"deploy: {kind}: ") and said[2].endswith(f"{fault}\n") and said[2].count("\n") == 1, said[2])
+                self.assertFalse(os.path.exists(folder))
+
+    def test_faults_of_addresses_have_places(self):
+        self.refused(2, ADDRESS_FAULTS, "addresses")
+
+    def test_faults_of_maps_have_lines(self):
+        self.refused(1, MAP_FAULTS, "maps")
+
+    def test_faults_of_topologies_have_places(self):
+        self.refused(0, TOPOLOGY_FAULTS, "topology")
+
+    def test_words_and_files(self):
+        self.assertEqual(deploy(), (2, "", "usage\n"))
+        self.assertEqual(deploy("--bird", TOPOLOGY, MAPS, ADDRESSES), (2, "", "usage\n"))
+        self.assertEqual(deploy("--bird", "no-file", MAPS, ADDRESSES, self.folder), (4, "", "deploy: no-file: No such file or directory\n"))
+        with open(os.path.join(self.folder, "text"), "wb") as file:
+            file.write(b"{\xff}")
+        text = os.path.join(self.folder, "text")
+        self.assertEqual(deploy("--bird", text, MAPS, ADDRESSES, self.folder), (3, "", f"deploy: {text}: not UTF-8 at byte 1\n"))
+
+
+class Asking(unittest.TestCase):
+    def test_single_failures(self):
+        found = single_failures(Topology(text_of(TOPOLOGY)), ["198.51.100.0/24"])
+        self.assertEqual([scenario.name for scenario in found],
+                         ["nothing fails", "link R1 R2 dead", "link R1 P1 dead", "link R2 P2 dead", "router R1 dead", "router R2 dead",
+                          "session R1 P1 silent", "session R2 P2 silent"])
+        self.assertEqual(json.loads(found[2].text()),
+                         {"prefix": "198.51.100.0/24", "dead": [], "dead_links": [["P1", "R1"]], "silent": []})
+
+    def test_a_prefix_of_a_list(self):
+        everything = Row("permit", "0.0.0.0/0", 32)
+        self.assertEqual(permitted([everything]), "198.51.100.0/24")
+        self.assertEqual(permitted([Row("deny", "198.51.100.0/24", 32), everything]), "203.0.113.0/24")
+        self.assertEqual(permitted([Row("permit", "10.0.0.0/8", 24), everything]), "10.0.0.0/8")
+        self.assertIsNone(permitted([Row("deny", "10.0.0.0/8", 32), Row("permit", "10.1.0.0/16", 16)]))
+
+    def test_reports_are_compared(self):
+        replay = "prefix P\nclass 1\nrouter R1 rank 1 path R1 R2\nrouter R2 origin\nrouter R3 none\nsession R1 P1 rank 1 path P1 R1 R2\nsession R3 P1 none\n"
+        self.assertEqual(told_by(replay), ({"R1": ["R1", "R2"], "R2": "origin", "R3": "none"}, {("R1", "P1"): ["P1", "R1", "R2"]}))
+        self.assertEqual(list(different(replay, "stable\n" + replay)), [])
+        self.assertEqual(list(different(replay, "unstable router R1 missing R2\n")), ["audit: unstable router R1 missing R2"])
+        self.assertEqual(list(different(replay, "stable\n" + replay.replace("R3 none", "R3 rank 2 path R3 R2", 1))),
+                         ["replay: router R3 none", "audit: router R3 rank 2 path R3 R2"])
+
+
+if __name__ == "__main__":
+    unittest.main()

@@ -1,0 +1,146 @@
+"""tools/install in a clean folder: what is installed runs there, is what the program says of itself, and goes again."""
+import os
+import re
+import shutil
+import tempfile
+import unittest
+
+from common import PROGRAM, TOP, ended
+
+EXAMPLE = os.path.join(TOP, "examples", "two-exits")
+TWO = [os.path.join(EXAMPLE, "topology.json"), os.path.join(EXAMPLE, "policy.propane")]
+SYNTAX = "share/vim/vimfiles"
+POLICY = "# a comment\ndefine EDGE-1 = { E1, E2 };\n10.0.1.0/24 => avoid(any.1) and not exit(P >> Q);\n"
+
+
+def joined(text):
+    """A text without what depends on where its lines end."""
+    return re.sub(r"-? +", " ", " ".join(re.sub("-", "- ", text).split()))
+
+
+class Install(unittest.TestCase):
+    @classmethod
+    def setUpClass(cls):
+        cls.room = tempfile.TemporaryDirectory(prefix="propane test ")
+        cls.addClassCleanup(cls.room.cleanup)
+        cls.prefix = os.path.join(cls.room.name, "a prefix")
+        cls.said = cls.install(cls.prefix)
+        cls.commands = ended([PROGRAM])[2].strip().removeprefix("propane: usage: ").split(", ")
+
+    @staticmethod
+    def install(*words):
+        return ended([os.path.join(TOP, "tools", "install"), *words], env={**os.environ, "PROGRAM": PROGRAM})
+
+    def read(self, path):
+        with open(os.path.join(self.prefix, path), encoding="utf-8") as file:
+            return file.read()
+
+    def skip_without(self, program):
+        if not shutil.which(program):
+            self.skipTest(f"{program} isn't here")
+
+    def test_program(self):
+        self.assertEqual((self.said[0], self.said[2]), (0, ""))
+        link = os.path.join(self.room.name, "link")
+        os.symlink(os.path.join(self.prefix, "bin", "propane"), link)
+        with open(os.path.join(EXAMPLE, "compile.stdout"), encoding="utf-8") as file:
+            wanted = file.read()
+        environment = {"PATH": os.environ["PATH"], "PROPANE_HINTS": "off"}
+        self.assertEqual(ended([link, "compile", *TWO], env=environment, cwd="/"), (0, wanted, ""))
+        target = os.path.join(self.room.name, "target")
+        self.assertEqual(ended([link, "--output", target, "compile", *TWO], env=environment), (0, "", ""))
+        self.assertEqual(self.read(target), wanted)
+        status, _, said = ended([link, "compile", *reversed(TWO)], env=environment | {"PROPANE_HINTS": "on"})
+        self.assertEqual(status, 3)
+        self.assertIn("change them round", said)
+        _, _, said = ended([link, "compile", TWO[0], os.path.join(EXAMPLE, "compile.stdout")], env=environment | {"PROPANE_HINTS": "on"})
+        self.assertIn("looks like a configuration", " ".join(said.split()))
+        self.assertFalse(os.path.exists(os.path.join(self.prefix, "lib", "propane", "words", "__pycache__")))
+
+    def test_manual(self):
+        page = self.read("share/man/man1/propane.1")
+        self.assertNotIn("@", page)
+        for form in self.commands:
+            self.assertIn("\n.SS " + form.replace("-", "\\-") + "\n", page)
+            told = ended([PROGRAM, "help", form.split()[0]])[1]
+            self.assertTrue(all(len(line) <= 80 for line in told.splitlines()))
+        self.assertTrue(all(len(line) <= 80 for line in ended([PROGRAM, "--help"])[1].splitlines()))
+        self.skip_without("groff")
+        with open(os.path.join(self.prefix, "share/man/man1/propane.1"), "rb") as file:
+            status, text, said = ended(["groff", "-man", "-ww", "-Tascii", "-P-cbou", "-rLL=80n", "-rHY=0"], stdin=file)
+        self.assertEqual((status, said), (0, ""))
+        for form in self.commands:
+            for part in ended([PROGRAM, "help", form.split()[0]])[1].partition("\nreads\n")[0].split("\n\n")[1:]:
+                self.assertIn(joined(part), joined(text))
+
+    def test_bash(self):
+        file = os.path.join(self.prefix, "share/bash-completion/completions/propane")
+        every = sorted(form.split()[0] for form in self.commands)
+        for line, wanted in [
+            ("propane ''", sorted([*every, "--output"])), ("propane com", ["compile"]), ("propane help au", ["audit"]),
+            ("propane compile ''", []), ("propane --output file che", ["check", "checkmap"]), ("propane --output ''", []),
+        ]:
+            with self.subTest(line):
+                asked = f"COMP_WORDS=({line}); COMP_CWORD=$((${{#COMP_WORDS[@]}} - 1))"
+                script = f'source "$1"; {asked}; _propane; printf "%s\\n" "${{COMPREPLY[@]}}"'
+                status, out, said = ended(["bash", "--norc", "-c", script, "bash", file])
+                self.assertEqual((status, sorted(out.split()), said), (0, wanted, ""))
+
+    def test_zsh(self):
+        self.skip_without("zsh")
+        file = os.path.join(self.prefix, "share/zsh/site-functions/_propane")
+        every = sorted(form.split()[0] for form in self.commands)
+        for line, wanted in [
+            ("propane ''", sorted([*every, "--output"])), ("propane help ''", every), ("propane compile ''", ["files"]),
+            ("propane --output ''", ["files"]), ("propane --output file ''", every), ("propane help x ''", ["files"]),
+        ]:
+            with self.subTest(line):
+                ours = "_describe() { print -l ${${(P)2}%%:*} }; _files() { print files }"
+                script = f'{ours}; words=({line}); CURRENT=$#words; source "$1"'
+                status, out, said = ended(["zsh", "-f", "-c", script, "zsh", file])
+                self.assertEqual((status, sorted(out.split()), said), (0, wanted, ""))
+
+    def test_vim(self):
+        with open(os.path.join(TOP, "docs", "LANGUAGE.md"), encoding="utf-8") as file:
+            words = re.search(r"These words are the language's own and name nothing: `([^`]*)`", file.read())[1].split()
+        text = self.read(f"{SYNTAX}/syntax/propane.vim")
+        found = [word for line in re.findall(r"syntax keyword propane(?:Item|Operator|Call|Constant) (.*)", text) for word in line.split()]
+        self.assertEqual(sorted(found), sorted(words))
+        self.skip_without("vim")
+        if "+syntax" not in ended(["vim", "--version"])[1]:
+            self.skipTest("this Vim has no syntax")
+        policy, seen = os.path.join(self.room.name, "text.propane"), os.path.join(self.room.name, "seen")
+        with open(policy, "w", encoding="utf-8") as file:
+            file.write(POLICY)
+        places = [(1, 3, "Comment"), (2, 1, "Item"), (2, 8, ""), (3, 1, "Figure"), (3, 13, "Arrow"), (3, 16, "Call"), (3, 22, ""),
+                  (3, 29, "Operator"), (3, 33, "Operator"), (3, 37, "Call"), (3, 44, "Arrow")]
+        asked = ", ".join(f"synIDattr(synID({line}, {column}, 1), 'name')" for line, column, _ in places)
+        orders = [
+            f"let &runtimepath = '{self.prefix}/{SYNTAX},' . &runtimepath", "filetype on", "syntax on",
+            "edit " + policy.replace(" ", "\\ "), f"call writefile([{asked}], '{seen}')", "qall!",
+        ]
+        ended(["vim", "-u", "NONE", "-i", "NONE", "-N", "-n", "-es", *(word for order in orders for word in ("-c", order))])
+        self.assertEqual(self.read(seen).split("\n")[:-1], [f"propane{word}" if word else "" for _, _, word in places])
+
+    def test_again_and_away(self):
+        prefix = os.path.join(self.room.name, "other")
+        os.makedirs(os.path.join(prefix, "bin"))
+        for path in "bin/other", "bin/propane":
+            with open(os.path.join(prefix, path), "w", encoding="utf-8") as file:
+                file.write("theirs\n")
+        status, out, said = self.install(prefix)
+        self.assertEqual((status, out), (1, ""))
+        self.assertIn("isn't of an earlier installation", said)
+        self.assertEqual(sorted(os.listdir(os.path.join(prefix, "bin"))), ["other", "propane"])
+        os.remove(os.path.join(prefix, "bin", "propane"))
+        for _ in range(2):
+            self.assertEqual(self.install(prefix)[0], 0)
+        with open(os.path.join(prefix, "lib", "propane", "installed"), encoding="utf-8") as file:
+            listed = file.read().split()
+        there = [os.path.relpath(os.path.join(at, name), prefix) for at, _, names in os.walk(prefix) for name in names]
+        self.assertEqual(sorted(there), sorted([*listed, "bin/other"]))
+        self.assertEqual(self.install("--remove", prefix), (0, "", ""))
+        self.assertEqual([os.path.relpath(at, prefix) for at, _, _ in os.walk(prefix)], [".", "bin"])
+        self.assertEqual(os.listdir(os.path.join(prefix, "bin")), ["other"])
+        self.assertEqual(self.install("--remove", prefix)[0], 1)
+        self.assertEqual(self.install()[0], 1)
