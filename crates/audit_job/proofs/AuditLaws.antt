@@ -43,8 +43,8 @@ module _ (Refuses Checks : Type 0) (checks : Checks) where
   checked_form net policy config scenario routes Holds what h = line_form net policy config scenario routes (unstable_line net h.verdict) what h.says
   checked_form net policy config scenario routes (Fails rule shown) what h = in_failing checks (fails_line rule shown) h
 
-  under_form : (scenario_reader tables_text : List ℕ) (net : PlainNet) (policy : PlainPolicy) (config : PlainConfig) (evidence : List PlainCaseEvidence) (what : Said)
-      → SaysUnder scenario_reader tables_text net policy config evidence what → IsJobSaid Refuses Checks what
+  under_form : (scenario_text tables_text : List ℕ) (net : PlainNet) (policy : PlainPolicy) (config : PlainConfig) (evidence : List PlainCaseEvidence) (what : Said)
+      → SaysUnder scenario_text tables_text net policy config evidence what → IsJobSaid Refuses Checks what
   under_form s t net policy config evidence what h =
       read_form scenario_line (scenario_spelled_by net s) (λ scenario. OfTablesText (SaysOfRoutes net policy config evidence scenario) net t) Refuses Checks
       (λ scenario. read_form tables_line (tables_spelled_by net t) (SaysOfRoutes net policy config evidence scenario) Refuses Checks
@@ -128,7 +128,7 @@ module _ (holds : HeldBy) (names : List (List ℕ)) where
           spell = spell;
           config_text = z;
           evidence_text = w;
-          scenario_reader = v;
+          scenario_text = v;
           tables_text = u;
           more = is;
           config_spelled = pair.config_spelled;
@@ -158,7 +158,7 @@ module _ (holds : HeldBy) (names : List (List ℕ)) where
       → SaysOfRoutes net policy a.config a.evidence a.scenario a.routes what
   told_of net policy a what asked said =
       let P : List (List ℕ) → Type 0 = λ more. SaysOfMore more net policy what in
-      let pair = at_pair (SaysUnder asked.scenario_reader asked.tables_text net policy) asked.config_text asked.evidence_text a.config a.evidence what asked.config_spelled asked.evidence_spelled
+      let pair = at_pair (SaysUnder asked.scenario_text asked.tables_text net policy) asked.config_text asked.evidence_text a.config a.evidence what asked.config_spelled asked.evidence_spelled
       (subst P asked.more (texts_told SaysOfMore holds names net policy what asked.spell said)) in
       at_read tables_line (tables_spelled_by net asked.tables_text) (SaysOfRoutes net policy a.config a.evidence a.scenario) a.routes what asked.tables_spelled
-      (at_read scenario_line (scenario_spelled_by net asked.scenario_reader) (λ scenario. OfTablesText (SaysOfRoutes net policy a.config a.evidence scenario) net asked.tables_text) a.scenario what asked.scenario_spelled pair)
+      (at_read scenario_line (scenario_spelled_by net asked.scenario_text) (λ scenario. OfTablesText (SaysOfRoutes net policy a.config a.evidence scenario) net asked.tables_text) a.scenario what asked.scenario_spelled pair)

@@ -26,10 +26,10 @@ pub record SpellAudit (holds : Holds) (names : List (List ℕ)) (net : PlainNet)
   pub spell : SpellFor holds names net policy
   pub config_text : List ℕ
   pub evidence_text : List ℕ
-  pub scenario_reader : List ℕ
+  pub scenario_text : List ℕ
   pub tables_text : List ℕ
-  pub more : spell.more ≡ config_text ∷ evidence_text ∷ scenario_reader ∷ tables_text ∷ []
+  pub more : spell.more ≡ config_text ∷ evidence_text ∷ scenario_text ∷ tables_text ∷ []
   pub config_spelled : config_spelled_by config_text ≡ Ok a.config
   pub evidence_spelled : evidence_spelled_by evidence_text ≡ Ok a.evidence
-  pub scenario_spelled : scenario_spelled_by net scenario_reader ≡ Ok a.scenario
+  pub scenario_spelled : scenario_spelled_by net scenario_text ≡ Ok a.scenario
   pub tables_spelled : tables_spelled_by net tables_text ≡ Ok a.routes

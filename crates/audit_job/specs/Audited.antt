@@ -48,14 +48,14 @@ pub record SaysOfRoutes (net : PlainNet) (policy : PlainPolicy) (config : PlainC
 
 -- what is said of the texts of a scenario and of tables
 abbrev pub SaysUnder : List ℕ → List ℕ → PlainNet → PlainPolicy → PlainConfig → List PlainCaseEvidence → Said → Type 0
-SaysUnder scenario_reader tables_text net policy config evidence = OfScenarioText (λ scenario. OfTablesText (SaysOfRoutes net policy config evidence scenario) net tables_text) net scenario_reader
+SaysUnder scenario_text tables_text net policy config evidence = OfScenarioText (λ scenario. OfTablesText (SaysOfRoutes net policy config evidence scenario) net tables_text) net scenario_text
 
 -- of those after the topology's and the policy's
 abbrev pub SaysOfPolicy : List ℕ → List ℕ → List ℕ → List ℕ → PlainNet → PlainPolicy → Said → Type 0
-SaysOfPolicy config_text evidence_text scenario_reader tables_text net policy what = OfPairTexts (SaysUnder scenario_reader tables_text net policy) config_text evidence_text what
+SaysOfPolicy config_text evidence_text scenario_text tables_text net policy what = OfPairTexts (SaysUnder scenario_text tables_text net policy) config_text evidence_text what
 
 abbrev pub SaysOfMore : List (List ℕ) → PlainNet → PlainPolicy → Said → Type 0
-SaysOfMore (config_text ∷ evidence_text ∷ scenario_reader ∷ tables_text ∷ []) = SaysOfPolicy config_text evidence_text scenario_reader tables_text
+SaysOfMore (config_text ∷ evidence_text ∷ scenario_text ∷ tables_text ∷ []) = SaysOfPolicy config_text evidence_text scenario_text tables_text
 SaysOfMore _ = λ net policy what. ⊥
 
 -- and of six texts

@@ -86,24 +86,30 @@ module _ (Writes : PlainConfig → List PlainCaseEvidence → List ℕ → Type 
     one_of_compiled one other (inr a) (inl b) = absurd (never_refused net policy b.0 b.1 b.3 a.0 a.1)
     one_of_compiled one other (inr a) (inr b) = a.2 ∙ ap (λ f. line Refused (refusal_line net f)) (only net policy a.0 b.0 a.1 b.1) ∙ sym b.2
 
-  -- ---- of two texts
+-- ---- of two texts
+
+module _ (Writes : PlainNet → PlainPolicy → PlainConfig → List PlainCaseEvidence → List ℕ → Type 0) where
+  abbrev pub SaysOfTwo : PlainNet → PlainPolicy → Said → Type 0
+  SaysOfTwo net policy = SaysOfCompiled (Writes net policy) net policy
 
   pub job_of_compiled : (Refuses Checks : Type 0) → Refuses
-      → ((config : PlainConfig) (evidence : List PlainCaseEvidence) (one other : List ℕ) → Writes config evidence one → Writes config evidence other → one ≡ other)
-      → IsJob Refuses Checks (OfTwoTexts (SaysOfCompiled Writes))
+      → ((net : PlainNet) (policy : PlainPolicy) (config : PlainConfig) (evidence : List PlainCaseEvidence) (one other : List ℕ)
+      → Writes net policy config evidence one → Writes net policy config evidence other → one ≡ other)
+      → IsJob Refuses Checks (OfTwoTexts SaysOfTwo)
   job_of_compiled Refuses Checks refuses each =
-      job_of_two (SaysOfCompiled Writes) Refuses Checks (compiled_form Refuses Checks refuses) (λ net policy. one_of_compiled net policy (λ config evidence compiled. each config evidence))
+      job_of_two SaysOfTwo Refuses Checks (λ net policy. compiled_form (Writes net policy) Refuses Checks refuses net policy)
+      (λ net policy. one_of_compiled (Writes net policy) net policy (λ config evidence compiled. each net policy config evidence))
 
   module _ (holds : Holds) (names : List (List ℕ)) where
-    refusal_of : (bs : List (List ℕ)) (l : List ℕ) → AllHeld holds names bs → OfTwoTexts (SaysOfCompiled Writes) bs (line Refused l) → RefusalFor (SpellFor holds names) l
+    refusal_of : (bs : List (List ℕ)) (l : List ℕ) → AllHeld holds names bs → OfTwoTexts SaysOfTwo bs (line Refused l) → RefusalFor (SpellFor holds names) l
     refusal_of bs l held says =
-        let f = said_for (Alone (SaysOfCompiled Writes)) holds names (line Refused l) (λ x. cc) bs held says in
-        let r = refusal_said f.net f.policy l (alone (SaysOfCompiled Writes) f.spell.more f.net f.policy (line Refused l) f.says) in
+        let f = said_for (Alone SaysOfTwo) holds names (line Refused l) (λ x. cc) bs held says in
+        let r = refusal_said (Writes f.net f.policy) f.net f.policy l (alone SaysOfTwo f.spell.more f.net f.policy (line Refused l) f.says) in
         record { net = f.net; policy = f.policy; asked = f.spell; refusal = r.0; refused = r.1; told = err_is (line Refused l) (line Refused (refusal_line f.net r.0)) r.2 }
 
-    pub compiler_of_two : IsCompiler holds names (OfTwoTexts (SaysOfCompiled Writes)) (SpellFor holds names)
+    pub compiler_of_two : IsCompiler holds names (OfTwoTexts SaysOfTwo) (SpellFor holds names)
     compiler_of_two = record {
       refusal = refusal_of;
       told = λ net policy spell what said.
-          any_text net policy what (alone (SaysOfCompiled Writes) spell.more net policy what (told_says (Alone (SaysOfCompiled Writes)) holds names net policy what spell said));
+          any_text (Writes net policy) net policy what (alone SaysOfTwo spell.more net policy what (told_says (Alone SaysOfTwo) holds names net policy what spell said));
     }

@@ -15,4 +15,4 @@ one_text Config config evidence one other a b = a.written ∙ sym b.written
 one_text Evidence config evidence one other a b = a ∙ sym b
 
 pub written_job : (part : Part) (Refuses Checks : Type 0) → Refuses → IsJob Refuses Checks (OfTwoTexts (SaysOfPart part))
-written_job part Refuses Checks refuses = job_of_compiled (WritesPart part) Refuses Checks refuses (one_text part)
+written_job part Refuses Checks refuses = job_of_compiled (λ net policy. WritesPart part) Refuses Checks refuses (λ net policy. one_text part)

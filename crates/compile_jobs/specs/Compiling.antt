@@ -1,5 +1,5 @@
 -- What a job says that compiles a policy.
-use Rattle.std.specs.Prelude.{◌≡◌, ◌⊎◌, ℕ, List, Result, Ok, Err}
+use Rattle.std.specs.Prelude.{◌≡◌, ◌⊎◌, ℕ, List, [], ◌∷◌, Result, Ok, Err}
 use Rattle.net_base.specs.Network.{PlainNet}
 use Rattle.policy_base.specs.Policies.{PlainPolicy}
 use Rattle.config_base.specs.Configs.{PlainConfig}
@@ -7,6 +7,7 @@ use Rattle.evidence_base.specs.Made.{PlainCaseEvidence}
 use Rattle.case_core.specs.declared.refusal.CompileRefusal.{CompileRefusal}
 use Rattle.compile_core.specs.declared.compiled.Compiled.{Compiled}
 use Rattle.compile_jobs.specs.Compiled.{IsCompiled, IsRefusedFor}
+use Rattle.input_texts.specs.Texts.{OfAllTexts, OfRead}
 use Rattle.run_base.specs.Said.{Said, text, line, stop_said, no_memory}
 use Rattle.refusal_lines.specs.RefusalLines.{refusal_line}
 use Rattle.run_base.specs.declared.outcome.Status.TheVariants.{Refused}
@@ -27,3 +28,21 @@ abbrev pub SaysOfCompiled : (PlainConfig → List PlainCaseEvidence → List ℕ
 SaysOfCompiled Writes net policy what =
     ((config : PlainConfig) × (evidence : List PlainCaseEvidence) × (bytes : List ℕ) × IsCompiled net policy config evidence × Writes config evidence bytes × (what ≡ text bytes))
     ⊎ SaysRefusal net policy what
+
+-- The same of three texts, of which the third spells a value for the network: what is written depends on the value.
+module _ {V F : Type 0} (told : F → List ℕ) (spelled_by : PlainNet → List ℕ → Result V F) (Writes : PlainNet → PlainPolicy → V → PlainConfig → List PlainCaseEvidence → List ℕ → Type 0) where
+  abbrev pub SaysOfValue : PlainNet → PlainPolicy → V → Said → Type 0
+  SaysOfValue net policy value = SaysOfCompiled (Writes net policy value) net policy
+
+  -- of a third text, for a network and a policy
+  abbrev pub SaysOfThird : List ℕ → PlainNet → PlainPolicy → Said → Type 0
+  SaysOfThird third net policy = OfRead told (spelled_by net third) (SaysOfValue net policy)
+
+  -- where these are the texts after the first two
+  abbrev pub SaysOfMore : List (List ℕ) → PlainNet → PlainPolicy → Said → Type 0
+  SaysOfMore (third ∷ []) = SaysOfThird third
+  SaysOfMore _ = λ net policy what. ⊥
+
+  -- and of all three
+  abbrev pub SaysOfThree : List (List ℕ) → Said → Type 0
+  SaysOfThree = OfAllTexts SaysOfMore

@@ -1,5 +1,5 @@
 //! Messages that wait.
-ghost use Rattle.std.specs.Prelude.{◌≡◌, ◌↔◌, ◌++◌, ◌∷◌, [], List, Option, None, IfOk, IsTrue, OnOk, OnErr, drop, slice_index_or};
+ghost use Rattle.std.specs.Prelude.{◌≡◌, ◌↔◌, ◌++◌, ◌∷◌, [], List, Option, None, IfOk, IsTrue, OnOk, OnErr, drop, length, slice_index_or};
 ghost use Rattle.config_base.specs.declared.route.Route.{Route as PlainRoute};
 ghost use Rattle.event_state.specs.Idle.{is_idle, without_last};
 ghost use Rattle.event_base.specs.Steps.{unless_waiting};
@@ -81,6 +81,13 @@ impl Queue {
         ensures { self.new ≡ without_last self.old }
     {
         self.messages.pop_back();
+    }
+
+    /// How many messages wait.
+    pub fn len(&self) -> usize
+        ensures { result ≡ length self.now }
+    {
+        self.messages.len()
     }
 
     /// Whether nothing waits.

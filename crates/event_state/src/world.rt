@@ -1,5 +1,5 @@
 //! The world of the events on a configured network.
-ghost use Rattle.std.specs.Prelude.{◌≡◌, ◌↔◌, ◌&&◌, not, map, option_map, slice_index_or, IsTrue, []};
+ghost use Rattle.std.specs.Prelude.{◌≡◌, ◌↔◌, ◌&&◌, not, length, map, option_map, slice_index_or, IsTrue, []};
 ghost use Rattle.net_base.specs.Locations.{in_order, neighbours};
 ghost use Rattle.net_base.specs.Network.{is_location};
 ghost use Rattle.config_base.specs.Lines.{class_of};
@@ -40,6 +40,17 @@ fn is_idle_at(queues: &[Queue], place: usize) -> bool
     ensures { result ≡ is_idle_queue (slice_index_or queues.now place []) }
 {
     place >= queues.len() || queues[place].is_empty()
+}
+
+// How many messages wait at a place.
+fn waiting_at(queues: &[Queue], place: usize) -> usize
+    ensures { result ≡ length (slice_index_or queues.now place []) }
+{
+    if place < queues.len() {
+        queues[place].len()
+    } else {
+        0
+    }
 }
 
 impl<'a> World<'a> {
@@ -120,6 +131,16 @@ impl<'a> World<'a> {
         match direction(self.net, from, to) {
             None => true,
             Some(place) => is_idle_at(self.queues.as_slice(), place),
+        }
+    }
+
+    /// How many messages wait from one location to another.
+    pub fn waiting(&self, from: Loc, to: Loc) -> usize
+        ensures { result ≡ length ((state self.now).queue from to) }
+    {
+        match direction(self.net, from, to) {
+            None => 0,
+            Some(place) => waiting_at(self.queues.as_slice(), place),
         }
     }
 

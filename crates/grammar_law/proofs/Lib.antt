@@ -2,7 +2,7 @@ mod Atoms
 mod Balance
 mod CallReaders
 mod Choices
-mod Cuts
+pub mod Cuts
 mod Expressions
 mod Gaps
 mod ItemReaders
@@ -15,7 +15,7 @@ mod Policies
 mod Readers
 mod Repeats
 mod Sequences
-mod SpanLaws
+pub mod SpanLaws
 mod SetsReaders
 pub mod TextLaws
 mod Tokens

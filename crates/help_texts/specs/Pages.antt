@@ -4,9 +4,9 @@ use Rattle.std.specs.Str.{bytes_eq}
 use Rattle.help_texts.specs.declared.pages.compiling.TheConstants.{COMPILE, EVIDENCE, MIGRATE, ROUTEMAP, SAMPLE}
 use Rattle.help_texts.specs.declared.pages.judging.TheConstants.{AUDIT, CHECK, CHECKMAP, EXPLAIN, LINT}
 use Rattle.help_texts.specs.declared.pages.program.TheConstants.{COMMANDS, HELP, VERSION, VERSION_PAGE}
-use Rattle.help_texts.specs.declared.pages.telling.TheConstants.{IMPACT, REPLAY, TRACE}
+use Rattle.help_texts.specs.declared.pages.telling.TheConstants.{DRAIN, IMPACT, PROMISES, REPLAY, SETTLE, TRACE, WHATIF}
 use Rattle.help_texts.specs.declared.topic.Topic.{Topic}
-use Rattle.help_texts.specs.declared.topic.Topic.TheVariants.{Compile, Evidence, Check, Explain, Replay, Trace, Sample, Migrate, Impact, RouteMap, CheckMap, Lint, Audit, Help, Version}
+use Rattle.help_texts.specs.declared.topic.Topic.TheVariants.{Compile, Evidence, Check, Explain, Replay, Trace, Sample, Migrate, Impact, RouteMap, CheckMap, Lint, Audit, Help, Version, Drain, Settle, Promises, WhatIf}
 
 -- the command of this word
 abbrev pub topic_named : List ℕ → Option Topic
@@ -26,6 +26,10 @@ topic_named word =
     else if bytes_eq word (codes "audit") then Some Audit
     else if bytes_eq word (codes "help") then Some Help
     else if bytes_eq word (codes "version") then Some Version
+    else if bytes_eq word (codes "drain") then Some Drain
+    else if bytes_eq word (codes "settle") then Some Settle
+    else if bytes_eq word (codes "promises") then Some Promises
+    else if bytes_eq word (codes "whatif") then Some WhatIf
     else None
 
 -- its page
@@ -45,6 +49,10 @@ page_of Lint = LINT.now
 page_of Audit = AUDIT.now
 page_of Help = HELP.now
 page_of Version = VERSION_PAGE.now
+page_of Drain = DRAIN.now
+page_of Settle = SETTLE.now
+page_of Promises = PROMISES.now
+page_of WhatIf = WHATIF.now
 
 -- what is said of one command, or of all
 abbrev pub help_text : Option Topic → List ℕ

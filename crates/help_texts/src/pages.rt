@@ -9,4 +9,4 @@ mod telling;
 pub use compiling::{COMPILE, EVIDENCE, MIGRATE, ROUTEMAP, SAMPLE};
 pub use judging::{AUDIT, CHECK, CHECKMAP, EXPLAIN, LINT};
 pub use program::{COMMANDS, HELP, VERSION, VERSION_PAGE};
-pub use telling::{IMPACT, REPLAY, TRACE};
+pub use telling::{DRAIN, IMPACT, PROMISES, REPLAY, SETTLE, TRACE, WHATIF};

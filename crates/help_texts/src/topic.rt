@@ -37,6 +37,14 @@ pub enum Topic {
     Help,
     /// `version`.
     Version,
+    /// `drain`.
+    Drain,
+    /// `settle`.
+    Settle,
+    /// `promises`.
+    Promises,
+    /// `whatif`.
+    WhatIf,
 }
 
 impl Topic {
@@ -60,6 +68,10 @@ impl Topic {
             "audit" => Some(Topic::Audit),
             "help" => Some(Topic::Help),
             "version" => Some(Topic::Version),
+            "drain" => Some(Topic::Drain),
+            "settle" => Some(Topic::Settle),
+            "promises" => Some(Topic::Promises),
+            "whatif" => Some(Topic::WhatIf),
             _ => None,
         }
     }
@@ -84,6 +96,10 @@ impl Topic {
             Topic::Audit => pages::AUDIT,
             Topic::Help => pages::HELP,
             Topic::Version => pages::VERSION_PAGE,
+            Topic::Drain => pages::DRAIN,
+            Topic::Settle => pages::SETTLE,
+            Topic::Promises => pages::PROMISES,
+            Topic::WhatIf => pages::WHATIF,
         }
     }
 }

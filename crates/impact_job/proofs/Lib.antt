@@ -1,1 +1,2 @@
 pub mod ImpactLaws
+mod Nothing

@@ -7,15 +7,16 @@ use Rattle.config_base.specs.Configs.{PlainConfig}
 use Rattle.evidence_base.specs.Made.{PlainCaseEvidence}
 use Rattle.compile_jobs.specs.Compiling.{SaysOfCompiled}
 use Rattle.impact_law.specs.Impacts.{IsImpact}
+use Rattle.impact_law.specs.Support.{no_failures}
 use Rattle.impact_law.specs.declared.impact.Impact.{Impact}
 use Rattle.impact_text.specs.Texts.{impact_text}
 use Rattle.input_texts.specs.Texts.{OfTwoTexts}
 use Rattle.run_base.specs.Said.{Said}
 
--- The text is that of the impact of single cuts on the sources that the policy claims for the prefix.
+-- The text is that of the impact of single cuts, while nothing else fails, on the sources that the policy claims for the prefix.
 pub record IsImpactText (net : PlainNet) (policy : PlainPolicy) (p : PlainPrefix) (bytes : List ℕ) : Type 0 where
   pub impact : Impact
-  pub is : IsImpact net policy p impact
+  pub is : IsImpact net policy no_failures p impact
   pub spelled : bytes ≡ impact_text net policy p impact
 
 -- that text, whatever was compiled

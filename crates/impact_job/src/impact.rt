@@ -1,7 +1,9 @@
 //! The command `impact`.
-ghost use Rattle.std.specs.Prelude.{◌<◌, length};
+ghost use Rattle.std.specs.Prelude.{◌≡◌, ◌<◌, length};
 ghost use Rattle.policy_base.specs.Policies.{IsPolicyOf, policy_of};
 ghost use Rattle.policy_base.specs.CaseNumbers.{OriginsAreRouters};
+ghost use Rattle.stable_paths.specs.Scenarios.{failures_of};
+ghost use Rattle.impact_law.specs.Support.{no_failures};
 ghost use Rattle.impact_job.specs.Impacts.{SaysOfPolicy};
 ghost use Rattle.input_texts.specs.Texts.{OfTexts};
 ghost use Rattle.run_base.specs.Said.{IsGiven, said};
@@ -10,10 +12,24 @@ use compile_jobs::compiled_for;
 use impact_report::impact;
 use impact_text::impact_text;
 use input_texts::{net_of, policy_for};
-use net_base::{Net, Prefix};
+use net_base::{List, LocSet, Net, Prefix};
 use policy_base::Policy;
 use run_base::Stop;
+use stable_paths::Scenario;
 use std::alloc::Global;
+
+/// A prefix, while nothing fails.
+fn nothing_fails(alloc: Global, prefix: Prefix) -> Scenario
+    ensures prefix { result.prefix ≡ prefix }
+    ensures failures { failures_of result ≡ no_failures }
+{
+    Scenario {
+        prefix,
+        dead: LocSet::new(),
+        dead_links: List::new(alloc),
+        silent: List::new(alloc),
+    }
+}
 
 // What single cuts change for a prefix, by the evidence for what is compiled from the policy, or why the policy is refused.
 fn cuts_text(alloc: Global, net: &Net, policy: &Policy, prefix: Prefix) -> Result<Vec<u8>, Stop>
@@ -24,7 +40,8 @@ fn cuts_text(alloc: Global, net: &Net, policy: &Policy, prefix: Prefix) -> Resul
     let compiled = compiled_for(alloc, net, policy)?;
     let config = &compiled.config;
     let evidence = &compiled.evidence;
-    let impact = impact(alloc, net, policy, config, evidence, prefix)?;
+    let scenario = nothing_fails(alloc, prefix);
+    let impact = impact(alloc, net, policy, config, evidence, &scenario)?;
     Ok(impact_text(alloc, net, policy, prefix, &impact)?)
 }
 

@@ -1,19 +1,25 @@
 -- One ranking, and so one impact.
 use Rattle.std.proofs.Common.{◌≡◌, ℕ, zero, suc, ◌<◌, List, [], ◌∷◌, Option, Some, None, refl, sym, ap, ap₂, ◌∙◌, subst, arith}
-use Rattle.std.specs.Prelude.{slice_get}
-use Rattle.std.specs.List.{flat_map}
-use Rattle.net_base.specs.Network.{PlainNet}
-use Rattle.net_base.specs.Prefixes.{PlainPrefix}
-use Rattle.policy_base.specs.Policies.{PlainPolicy, PlainStatement}
+use Rattle.std.specs.Prelude.{map, slice_get}
+use Rattle.net_base.specs.Network.{PlainNet, IsNet}
+use Rattle.net_base.specs.Prefixes.{PlainPrefix, IsPrefix}
+use Rattle.policy_base.specs.Policies.{PlainPolicy, PlainStatement, IsPolicyOf}
 use Rattle.policy_base.specs.Governing.{statement_of}
 use Rattle.list_laws.specs.Members.{IsIn}
-use Rattle.outcome_base.specs.Outcomes.{Failures}
+use Rattle.config_base.specs.Configs.{PlainConfig}
+use Rattle.evidence_base.specs.Made.{PlainCaseEvidence}
+use Rattle.evidence_law.specs.Passes.{Passes}
+use Rattle.outcome_base.specs.Outcomes.{Failures, Outcome}
+use Rattle.settled_law.proofs.SettledLaw.{settled_outcomes_are_one}
 use Rattle.impact_law.specs.declared.impact.SourceRank.{SourceRank}
 use Rattle.impact_law.specs.declared.impact.Cut.{Cut}
+use Rattle.impact_law.specs.declared.impact.CutRow.{CutRow}
 use Rattle.impact_law.specs.declared.impact.Impact.{Impact}
+use Rattle.impact_law.specs.declared.impact.WhatIf.{WhatIf}
 use Rattle.impact_law.specs.BestRanks.{IsBestRank}
-use Rattle.impact_law.specs.Impacts.{ImpactsAreOne, IsBareImpact, IsImpact, IsImpactBy, IsRanking, Precedes, begin_at, changed, cuts_of, failures_by, row_of}
-use Rattle.impact_law.specs.Support.{no_failures}
+use Rattle.impact_law.specs.Cuts.{live_cuts, with_cut}
+use Rattle.impact_law.specs.Impacts.{ImpactsAreOne, IsBareImpact, IsImpact, IsImpactBy, IsRanking, Precedes, RowsAreOfLiveCuts, begin_at, changed, row_of}
+use Rattle.impact_law.specs.Moves.{IsSettled, WhatIfsAreOne, moved}
 use Rattle.impact_law.proofs.BestRanks.{best_ranks_are_one}
 
 -- ---- two ascending lists with the same members are one
@@ -83,27 +89,54 @@ module _ (net : PlainNet) (policy : PlainPolicy) (f : Failures) (p : PlainPrefix
       one_list before (λ x h. not_itself x.router x.peer h) (λ x y z h k. precedes_through x.router y.router z.router x.peer y.peer z.peer h k) xs ys
       a.order b.order (members xs ys a b) (members ys xs b a)
 
-impact_by : (net : PlainNet) (policy : PlainPolicy) (p : PlainPrefix) (s : PlainStatement) (a b : Impact) → IsImpactBy net policy p s a → IsImpactBy net policy p s b → a ≡ b
-impact_by net policy p s a b x y =
-    let base = rankings_one net policy no_failures p s a.base b.base x.base y.base in
-    let after : x.after ≡ y.after = λ i. λ cut. rankings_one net policy (failures_by cut) p s (x.after cut) (y.after cut) (x.ranked cut) (y.ranked cut) i in
-    let rows : a.rows ≡ b.rows =
-    x.rows
-    ∙ ap₂ (λ (before : List SourceRank) (after : Cut → List SourceRank). flat_map (λ (cut : Cut). row_of cut (changed before (after cut)))
-    (cuts_of net)) base after ∙ sym y.rows in
-    let cuts : a.cuts ≡ b.cuts = x.cuts ∙ sym y.cuts in
-    λ i. record { base = base i; cuts = cuts i; rows = rows i }
+module _ (net : PlainNet) (policy : PlainPolicy) (f : Failures) (p : PlainPrefix) where
+  impact_by : (s : PlainStatement) (a b : Impact) → IsImpactBy net policy f p s a → IsImpactBy net policy f p s b → a ≡ b
+  impact_by s a b x y =
+      let base = rankings_one net policy f p s a.base b.base x.base y.base in
+      let after : x.after ≡ y.after = λ i. λ cut. rankings_one net policy (with_cut cut f) p s (x.after cut) (y.after cut) (x.ranked cut) (y.ranked cut) i in
+      let rows : a.rows ≡ b.rows =
+      x.rows
+      ∙ ap₂ (λ (before : List SourceRank) (after : Cut → List SourceRank). map (λ (cut : Cut). row_of cut (changed before (after cut)))
+      (live_cuts net f)) base after ∙ sym y.rows in
+      λ i. record { base = base i; rows = rows i }
 
-bare : (net : PlainNet) (a b : Impact) → IsBareImpact net a → IsBareImpact net b → a ≡ b
-bare net a b x y =
-    let base : a.base ≡ b.base = x.base ∙ sym y.base in
-    let rows : a.rows ≡ b.rows = x.rows ∙ sym y.rows in
-    let cuts : a.cuts ≡ b.cuts = x.cuts ∙ sym y.cuts in
-    λ i. record { base = base i; cuts = cuts i; rows = rows i }
+  bare : (a b : Impact) → IsBareImpact net f a → IsBareImpact net f b → a ≡ b
+  bare a b x y =
+      let base : a.base ≡ b.base = x.base ∙ sym y.base in
+      let rows : a.rows ≡ b.rows = x.rows ∙ sym y.rows in
+      λ i. record { base = base i; rows = rows i }
 
 pub impacts_are_one : ImpactsAreOne
-impacts_are_one net policy p a b x y = go (statement_of policy p) refl x y
+impacts_are_one net policy f p a b x y = go (statement_of policy p) refl x y
   where
-    go : (o : Option PlainStatement) → statement_of policy p ≡ o → IsImpact net policy p a → IsImpact net policy p b → a ≡ b
-    go None is = rw is (λ x y. bare net a b x y)
-    go (Some s) is = rw is (λ x y. impact_by net policy p s a b x y)
+    go : (o : Option PlainStatement) → statement_of policy p ≡ o → IsImpact net policy f p a → IsImpact net policy f p b → a ≡ b
+    go None is = rw is (λ x y. bare net policy f p a b x y)
+    go (Some s) is = rw is (λ x y. impact_by net policy f p s a b x y)
+
+-- each row is that of its cut
+rows_cut : (row : Cut → List SourceRank) (cuts : List Cut) → map (λ (r : CutRow). r.cut) (map (λ (cut : Cut). row_of cut (row cut)) cuts) ≡ cuts
+rows_cut row [] = refl
+rows_cut row (cut ∷ cuts) = ap (λ (ks : List Cut). cut ∷ ks) (rows_cut row cuts)
+
+pub rows_are_of_live_cuts : RowsAreOfLiveCuts
+rows_are_of_live_cuts net policy f p impact x = go (statement_of policy p) refl x
+  where
+    go : (o : Option PlainStatement) → statement_of policy p ≡ o → IsImpact net policy f p impact → map (λ (row : CutRow). row.cut) impact.rows ≡ live_cuts net f
+    go None is = rw is (λ x. ap (map (λ (row : CutRow). row.cut)) x.rows ∙ rows_cut (λ cut. []) (live_cuts net f))
+    go (Some s) is = rw is (λ x. ap (map (λ (row : CutRow). row.cut)) x.rows ∙ rows_cut (λ cut. changed impact.base (x.after cut)) (live_cuts net f))
+
+module _ (net : PlainNet) (policy : PlainPolicy) (config : PlainConfig) (cs : List PlainCaseEvidence) (rules : IsNet net)
+    (kept : IsPolicyOf net policy) (passes : Passes net policy config cs) (p : PlainPrefix) (prefix : IsPrefix p) where
+  -- a network settles in one way
+  pub settled_one : (f : Failures) (a b : Outcome) → IsSettled net policy config f p a → IsSettled net policy config f p b → a ≡ b
+  settled_one f a b x y = settled_outcomes_are_one net policy config cs rules kept passes p f prefix a b x.size y.size x.stable y.stable
+
+pub what_ifs_are_one : WhatIfsAreOne
+what_ifs_are_one net policy config cs rules kept passes f p prefix a b x y =
+    let impact = impacts_are_one net policy f p a.impact b.impact x.impact y.impact in
+    let before = settled_one net policy config cs rules kept passes p prefix f x.before y.before x.settled y.settled in
+    let after : x.after ≡ y.after = λ i. λ cut. settled_one net policy config cs rules kept passes p prefix (with_cut cut f) (x.after cut) (y.after cut) (x.resettled cut) (y.resettled cut) i in
+    let moves : a.moves ≡ b.moves =
+    x.moves
+    ∙ ap₂ (λ (o : Outcome) (q : Cut → Outcome). map (λ (cut : Cut). moved net cut o (q cut)) (live_cuts net f)) before after ∙ sym y.moves in
+    λ i. record { impact = impact i; moves = moves i }

@@ -1,21 +1,18 @@
--- What single cuts change of the best ranks of claimed sources.
-use Rattle.std.specs.Prelude.{◌≡◌, ℕ, ◌+◌, ◌<◌, ◌≤◌, Bool, true, false, ◌==◌, List, [], ◌∷◌, ◌++◌, length, map, Option, Some, None, slice_get, if◌then◌else◌}
-use Rattle.std.specs.List.{flat_map}
+-- What a cut besides some failures changes of the best ranks of claimed sources.
+use Rattle.std.specs.Prelude.{◌≡◌, ℕ, ◌<◌, ◌≤◌, Bool, true, false, ◌==◌, List, [], ◌∷◌, map, Option, Some, None, slice_get, if◌then◌else◌}
 use Rattle.net_base.specs.Network.{PlainNet}
 use Rattle.net_base.specs.Prefixes.{PlainPrefix}
 use Rattle.policy_base.specs.Policies.{PlainPolicy, PlainStatement}
 use Rattle.policy_base.specs.Governing.{statement_of}
 use Rattle.policy_base.specs.Permitted.{IsClaimedRouter, IsClaimedSession}
-use Rattle.net_base.specs.Locations.{numbers_below}
 use Rattle.list_laws.specs.Members.{IsIn}
 use Rattle.outcome_base.specs.Outcomes.{Failures}
 use Rattle.impact_law.specs.declared.impact.SourceRank.{SourceRank}
 use Rattle.impact_law.specs.declared.impact.Cut.{Cut}
-use Rattle.impact_law.specs.declared.impact.Cut.TheVariants.{Link, Router}
 use Rattle.impact_law.specs.declared.impact.CutRow.{CutRow}
 use Rattle.impact_law.specs.declared.impact.Impact.{Impact}
 use Rattle.impact_law.specs.BestRanks.{IsBestRank}
-use Rattle.impact_law.specs.Support.{no_failures, link_dead, router_dead}
+use Rattle.impact_law.specs.Cuts.{live_cuts, with_cut}
 
 -- how the paths of a source begin
 abbrev pub begin_at : ℕ → Option ℕ → List ℕ
@@ -51,43 +48,36 @@ changed [] after = []
 changed (b ∷ before) [] = []
 changed (b ∷ before) (a ∷ after) = if same_rank b.rank a.rank then changed before after else a ∷ changed before after
 
--- one row where something differs, none where nothing does
-abbrev pub row_of : Cut → List SourceRank → List CutRow
-row_of cut [] = []
-row_of cut (x ∷ xs) = record { cut = cut; changed = x ∷ xs } ∷ []
+abbrev pub row_of : Cut → List SourceRank → CutRow
+row_of cut list = record { cut = cut; changed = list }
 
--- links in the network's order, then routers by location
-abbrev pub cuts_of : PlainNet → List Cut
-cuts_of net = map (λ (link : ℕ × ℕ). Link link.0 link.1) net.links ++ map Router (numbers_below (length net.routers))
-
-abbrev pub failures_by : Cut → Failures
-failures_by (Link a b) = link_dead (a, b)
-failures_by (Router r) = router_dead r
-
--- where a statement governs the prefix
-pub record IsImpactBy (net : PlainNet) (policy : PlainPolicy) (p : PlainPrefix) (s : PlainStatement) (impact : Impact) : Type 0 where
-  pub base : IsRanking net policy no_failures p s impact.base
+-- Where a statement governs the prefix: the ranking under the failures, and for each cut besides them the sources that get another rank by it.
+pub record IsImpactBy (net : PlainNet) (policy : PlainPolicy) (f : Failures) (p : PlainPrefix) (s : PlainStatement) (impact : Impact) : Type 0 where
+  pub base : IsRanking net policy f p s impact.base
   pub after : Cut → List SourceRank
-  pub ranked : (cut : Cut) → IsRanking net policy (failures_by cut) p s (after cut)
-  pub rows : impact.rows ≡ flat_map (λ (cut : Cut). row_of cut (changed impact.base (after cut))) (cuts_of net)
-  pub cuts : impact.cuts ≡ length net.links + length net.routers
+  pub ranked : (cut : Cut) → IsRanking net policy (with_cut cut f) p s (after cut)
+  pub rows : impact.rows ≡ map (λ (cut : Cut). row_of cut (changed impact.base (after cut))) (live_cuts net f)
 
 -- where none does nothing is claimed
-pub record IsBareImpact (net : PlainNet) (impact : Impact) : Type 0 where
+pub record IsBareImpact (net : PlainNet) (f : Failures) (impact : Impact) : Type 0 where
   pub base : impact.base ≡ []
-  pub rows : impact.rows ≡ []
-  pub cuts : impact.cuts ≡ length net.links + length net.routers
+  pub rows : impact.rows ≡ map (λ (cut : Cut). row_of cut []) (live_cuts net f)
 
-abbrev pub IsImpact : PlainNet → PlainPolicy → PlainPrefix → Impact → Type 0
-IsImpact net policy p impact = by_statement (statement_of policy p)
+-- what each cut besides these failures changes for the prefix
+abbrev pub IsImpact : PlainNet → PlainPolicy → Failures → PlainPrefix → Impact → Type 0
+IsImpact net policy f p impact = by_statement (statement_of policy p)
   where
     by_statement : Option PlainStatement → Type 0
-    by_statement None = IsBareImpact net impact
-    by_statement (Some s) = IsImpactBy net policy p s impact
+    by_statement None = IsBareImpact net f impact
+    by_statement (Some s) = IsImpactBy net policy f p s impact
 
 -- two rankings have the same sources in the same order, and one rank for each
 abbrev pub RankingsAreOne : Type 0
 RankingsAreOne = (net : PlainNet) (policy : PlainPolicy) (f : Failures) (p : PlainPrefix) (s : PlainStatement) (xs ys : List SourceRank) → IsRanking net policy f p s xs → IsRanking net policy f p s ys → xs ≡ ys
 
 abbrev pub ImpactsAreOne : Type 0
-ImpactsAreOne = (net : PlainNet) (policy : PlainPolicy) (p : PlainPrefix) (a b : Impact) → IsImpact net policy p a → IsImpact net policy p b → a ≡ b
+ImpactsAreOne = (net : PlainNet) (policy : PlainPolicy) (f : Failures) (p : PlainPrefix) (a b : Impact) → IsImpact net policy f p a → IsImpact net policy f p b → a ≡ b
+
+-- an impact has a row for each cut, in their order
+abbrev pub RowsAreOfLiveCuts : Type 0
+RowsAreOfLiveCuts = (net : PlainNet) (policy : PlainPolicy) (f : Failures) (p : PlainPrefix) (impact : Impact) → IsImpact net policy f p impact → map (λ (row : CutRow). row.cut) impact.rows ≡ live_cuts net f

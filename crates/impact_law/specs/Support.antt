@@ -18,13 +18,6 @@ use Rattle.impact_law.specs.BestRanks.{IsBestRank, IsTopAt}
 abbrev pub no_failures : Failures
 no_failures = record { dead = []; dead_links = []; silent = [] }
 
--- what a cut kills: one link, or one router
-abbrev pub link_dead : ℕ × ℕ → Failures
-link_dead link = record { dead = []; dead_links = link ∷ []; silent = [] }
-
-abbrev pub router_dead : ℕ → Failures
-router_dead r = record { dead = r ∷ []; dead_links = []; silent = [] }
-
 -- Nodes, each of which is a start or has a parent among them that steps to it and was found earlier.
 pub record IsSupport (g : PlainGraph) (on : ℕ → Bool) (parent : ℕ → Option ℕ) (time : ℕ → ℕ) : Type 0 where
   pub node : (n : ℕ) → IsTrue (on n) → n < length g.nodes

@@ -3,9 +3,7 @@ use Rattle.std.proofs.Common.{◌≡◌, ℕ, ◌+◌, ◌<◌, Bool, true, fals
 use Rattle.std.specs.Prelude.{nat_eq, if◌then◌else◌}
 use Rattle.std.specs.Option.{option_eq}
 use Rattle.std.proofs.lemmas.List.{take_more}
-use Rattle.impact_law.specs.Impacts.{changed, row_of, same_rank}
-use Rattle.impact_law.specs.declared.impact.Cut.{Cut}
-use Rattle.impact_law.specs.declared.impact.CutRow.{CutRow}
+use Rattle.impact_law.specs.Impacts.{changed, same_rank}
 use Rattle.impact_law.specs.declared.impact.SourceRank.{SourceRank}
 
 pub same_is : (a b : Option ℕ) → option_eq nat_eq a b ≡ same_rank a b
@@ -30,8 +28,3 @@ module _ (F : SourceRank → SourceRank) where
       → changed (take (i + 1) base) (map F (take (i + 1) base)) ≡ changed (take i base) (map F (take i base)) ++ (if same_rank x.rank (F x).rank then [] else F x ∷ [])
   changed_next base i x within is =
       ap (λ (xs : List SourceRank). changed xs (map F xs)) (take_more base i x within ∙ ap (λ (y : SourceRank). take i base ++ y ∷ []) (sym is)) ∙ one_more (take i base) x
-
--- a row of what changes, where something does
-pub row_some : (cut : Cut) (list : List SourceRank) → (list ≡ [] → ⊥) → row_of cut list ≡ record { cut = cut; changed = list } ∷ []
-row_some cut [] some = absurd (some refl)
-row_some cut (x ∷ xs) some = refl

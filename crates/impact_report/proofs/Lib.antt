@@ -1,3 +1,6 @@
+mod Besides
+mod Opening
+mod Living
 mod Ordering
 mod Claiming
 mod Telling

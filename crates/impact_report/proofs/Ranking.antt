@@ -9,19 +9,24 @@ use Rattle.list_laws.proofs.Options.{option_map_parts}
 use Rattle.net_base.specs.Network.{PlainNet}
 use Rattle.net_base.specs.Prefixes.{PlainPrefix}
 use Rattle.policy_base.specs.Policies.{PlainPolicy, PlainStatement}
+use Rattle.graph_base.specs.Graphs.{PlainGraph}
 use Rattle.evidence_base.specs.Made.{PlainCaseEvidence}
 use Rattle.outcome_base.specs.Outcomes.{Failures}
 use Rattle.evidence_law.specs.Passes.{IsCaseGraph}
+use Rattle.settling.specs.Surviving.{left_by}
 use Rattle.impact_law.specs.BestRanks.{AreTops, IsBestRank}
-use Rattle.impact_law.specs.Impacts.{IsRanking, IsSource, Precedes, begin_at, changed, failures_by, row_of}
+use Rattle.impact_law.specs.Cuts.{with_cut}
+use Rattle.impact_law.specs.Impacts.{IsRanking, IsSource, Precedes, begin_at, changed}
+use Rattle.impact_law.specs.Support.{no_failures}
 use Rattle.impact_law.specs.declared.impact.Cut.{Cut}
-use Rattle.impact_law.specs.declared.impact.CutRow.{CutRow}
 use Rattle.impact_law.specs.declared.impact.SourceRank.{SourceRank}
 use Rattle.impact_law.proofs.OneImpact.{rankings_one}
 use Rattle.impact_report.specs.declared.sources.Source.{Source}
 use Rattle.impact_report.specs.Paths.{rank_under}
-use Rattle.impact_report.specs.Rows.{IsBase, IsRow}
+use Rattle.impact_report.specs.Left.{IsOpened}
+use Rattle.impact_report.specs.Rows.{IsBase, IsChange}
 use Rattle.impact_report.specs.Sources.{AreSources, reranked, with_rank}
+use Rattle.impact_report.proofs.Besides.{cut_besides}
 use Rattle.impact_report.proofs.Telling.{ranks_told}
 
 abbrev pub source_in : SourceRank → Source
@@ -62,18 +67,21 @@ module _ (net : PlainNet) (policy : PlainPolicy) (p : PlainPrefix) (s : PlainSta
         subst (λ (z : Source). Precedes z.router z.peer y.router y.peer) a.2 (subst (λ (z : Source). Precedes a.0.router a.0.peer z.router z.peer) b.2 (is.order i j a.0 b.0 low a.1 b.1));
   }
 
-module _ (net : PlainNet) (policy : PlainPolicy) (p : PlainPrefix) (s : PlainStatement) (c : PlainCaseEvidence) (base : List SourceRank) (is : IsBase net policy p s c base) where
-  -- the base with the ranks that tops tell under failures
-  pub reranking : (f : Failures) (top : ℕ → Option ℕ) → AreTops net f c top → IsRanking net policy f p s (map (reranked (rank_under c.graph f top)) base)
-  reranking f top tops =
-      let rank = rank_under c.graph f top in
-      subst (IsRanking net policy f p s) (map-map (with_rank rank) source_in base)
-      (ranking net policy p s f (map source_in base) rank (ranked_sources net policy p s _ base is.ranking) (ranks_told net policy p s c f (is.told f) top tops))
+module _ (net : PlainNet) (policy : PlainPolicy) (f : Failures) (p : PlainPrefix) (s : PlainStatement) (c : PlainCaseEvidence) (opened : PlainGraph) (base : List SourceRank) (is : IsBase net policy f p s c opened base) where
+  -- the base with the ranks that tops tell under a cut
+  pub reranking : (cut : Cut) (top : ℕ → Option ℕ) → AreTops net (with_cut cut f) c top → IsRanking net policy (with_cut cut f) p s (map (reranked (rank_under opened (with_cut cut no_failures) top)) base)
+  reranking cut top tops =
+      let left = left_by net is.left.survivors c.graph in
+      let rank = rank_under left (with_cut cut no_failures) top in
+      let told = ranks_told net policy p s c f (with_cut cut no_failures) (with_cut cut f) (cut_besides cut f) is.left.survivors is.left.are (is.told (with_cut cut f)) top tops in
+      let mine : IsRanking net policy (with_cut cut f) p s (map (reranked rank) base) = subst (IsRanking net policy (with_cut cut f) p s) (map-map (with_rank rank) source_in base)
+      (ranking net policy p s (with_cut cut f) (map source_in base) rank (ranked_sources net policy p s f base is.ranking) told) in
+      subst (λ (g : PlainGraph). IsRanking net policy (with_cut cut f) p s (map (reranked (rank_under g (with_cut cut no_failures) top)) base)) (sym is.left.is) mine
 
--- so a cut's row is told by its tops
-pub row_by_tops : (net : PlainNet) (c : PlainCaseEvidence) (base : List SourceRank) (cut : Cut) (top : ℕ → Option ℕ) (list : List SourceRank)
-    → ((s : PlainStatement) → IsCaseGraph net s c → AreTops net (failures_by cut) c top)
-    → list ≡ changed base (map (reranked (rank_under c.graph (failures_by cut) top)) base) → IsRow net c base cut (row_of cut list)
-row_by_tops net c base cut top list tops is policy p s based after ranked =
-    let mine = reranking net policy p s c base based (failures_by cut) top (tops s based.on) in
-    ap (row_of cut) (is ∙ ap (changed base) (rankings_one net policy (failures_by cut) p s _ after mine ranked))
+-- so what a cut changes is told by its tops
+pub change_by_tops : (net : PlainNet) (c : PlainCaseEvidence) (opened : PlainGraph) (base : List SourceRank) (cut : Cut) (top : ℕ → Option ℕ) (list : List SourceRank)
+    → ((s : PlainStatement) (f : Failures) → IsCaseGraph net s c → IsOpened net f c.graph opened → AreTops net (with_cut cut f) c top)
+    → list ≡ changed base (map (reranked (rank_under opened (with_cut cut no_failures) top)) base) → IsChange net c opened base cut list
+change_by_tops net c opened base cut top list tops is policy f p s based after ranked =
+    let mine = reranking net policy f p s c opened base based cut top (tops s f based.on based.left) in
+    is ∙ ap (changed base) (rankings_one net policy (with_cut cut f) p s _ after mine ranked)

@@ -1,8 +1,12 @@
 -- What failures leave of a graph.
 use Rattle.std.specs.Prelude.{◌≡◌, ℕ, Bool, not, ◌&&◌, IsTrue, List, [], ◌∷◌}
+use Rattle.net_base.specs.Network.{PlainNet}
 use Rattle.graph_base.specs.Graphs.{PlainGraph}
 use Rattle.graph_base.specs.Runs.{place_of, is_start, has_step}
 use Rattle.outcome_base.specs.Outcomes.{Failures, is_dead, is_dead_link}
+use Rattle.stable_paths.specs.Surviving.{AreSurvivors}
+use Rattle.stable_paths.specs.declared.survivors.Survivors.{Survivors}
+use Rattle.settling.specs.Surviving.{left_by}
 
 -- the link of two locations and both ends aren't dead
 abbrev pub spares : Failures → ℕ → ℕ → Bool
@@ -24,3 +28,9 @@ IsOpenTrail g f a (c ∷ cs) b = IsTrue (is_open_step g f a c) × IsOpenTrail g 
 -- open steps lead to a node from an open start
 abbrev pub IsLeft : PlainGraph → Failures → ℕ → Type 0
 IsLeft g f n = (a : ℕ) × IsTrue (is_open_start g f a) × (via : List ℕ) × IsOpenTrail g f a via n
+
+-- the second graph is what the failures leave of the first
+pub record IsOpened (net : PlainNet) (f : Failures) (g opened : PlainGraph) : Type 0 where
+  pub survivors : Survivors
+  pub are : AreSurvivors net f survivors
+  pub is : opened ≡ left_by net survivors g

@@ -1,7 +1,8 @@
 pub mod Found
+pub mod Left
+pub mod Lives
 pub mod Paths
 pub mod Rows
-pub mod Sources
-pub mod Left
 pub mod Searching
+pub mod Sources
 pub mod Tops

@@ -8,12 +8,21 @@ use Rattle.outcome_base.specs.Outcomes.{Failures}
 use Rattle.reach_prune.specs.Searches.{AreLists, is_listed}
 use Rattle.impact_report.specs.Left.{spares}
 
+-- a node steps to one node at a location
+abbrev pub StepsDiffer : PlainGraph → Type 0
+StepsDiffer g = IsDistinct same_pair (map (λ (s : ℕ × ℕ). (s.0, place_of g s.1)) g.steps)
+
 -- The lists have the nodes to which a step leads from each, at most one at a location.
 pub record AreStepLists (g : PlainGraph) (lists : List (List ℕ)) : Type 0 where
   pub size : length lists ≡ length g.nodes
   pub within : AreLists lists
   pub steps : (a b : ℕ) → is_listed lists a b ≡ has_step g a b
-  pub one_step : IsDistinct same_pair (map (λ (s : ℕ × ℕ). (s.0, place_of g s.1)) g.steps)
+  pub one_step : StepsDiffer g
+
+-- the lists are those of a graph with the nodes of the first
+pub record ArePaths (g opened : PlainGraph) (lists : List (List ℕ)) : Type 0 where
+  pub nodes : opened.nodes ≡ g.nodes
+  pub steps : AreStepLists opened lists
 
 -- the rank of the node to which a node steps at a peer
 abbrev pub rank_at_peer : PlainGraph → ℕ → ℕ → Option ℕ

@@ -1,5 +1,6 @@
 -- The nodes with the greatest numbers.
 use Rattle.std.specs.Prelude.{◌≡◌, ℕ, ◌<◌, ◌≤◌, Bool, true, nat_lt, IsTrue, List, length, Option, Some, None, slice_index_or}
+use Rattle.graph_base.specs.Graphs.{PlainGraph}
 use Rattle.graph_base.specs.Runs.{place_of}
 use Rattle.evidence_base.specs.Made.{PlainCaseEvidence, number_at}
 
@@ -18,5 +19,5 @@ pub record AreBest (c : PlainCaseEvidence) (marked : ℕ → Bool) (routers boun
   pub over : (m : ℕ) → m < bound → IsTrue (marked m) → place_of c.graph m < routers → (n : ℕ) × (entry_at best (place_of c.graph m) ≡ Some n) × (number_at c m ≤ number_at c n)
 
 -- what a table has for routers are nodes
-abbrev pub AreNodes : PlainCaseEvidence → List (Option ℕ) → Type 0
-AreNodes c tops = (r n : ℕ) → entry_at tops r ≡ Some n → n < length c.graph.nodes
+abbrev pub AreNodes : PlainGraph → List (Option ℕ) → Type 0
+AreNodes g tops = (r n : ℕ) → entry_at tops r ≡ Some n → n < length g.nodes

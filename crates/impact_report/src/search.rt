@@ -3,7 +3,8 @@ ghost use Rattle.std.specs.Prelude.{◌≡◌, ◌<◌, ◌&&◌, ◌==◌, ◌�
 ghost use Rattle.graph_base.specs.Runs.{has_step, place_of};
 ghost use Rattle.outcome_base.specs.Outcomes.{is_dead};
 ghost use Rattle.reach_prune.specs.Searches.{AreLists, is_among, is_listed, is_marked};
-ghost use Rattle.impact_law.specs.Impacts.{failures_by};
+ghost use Rattle.impact_law.specs.Cuts.{with_cut};
+ghost use Rattle.impact_law.specs.Support.{no_failures};
 ghost use Rattle.impact_report.specs.Left.{IsLeft, spares as is_spared};
 
 use crate::cuts::{spares, spares_at};
@@ -49,7 +50,7 @@ impl Search {
     /// Comes to the starts of a graph that a cut spares.
     fn begin(&mut self, graph: &Graph, cut: &Cut) -> Result<(), AllocError>
         requires { vec_len self.old.marks ≡ length graph.now.nodes }
-        ensures { OnOk result (Visits (λ n. is_among graph.now.starts n && not (is_dead (failures_by cut.now) (place_of graph.now n))) self.old self.new) }
+        ensures { OnOk result (Visits (λ n. is_among graph.now.starts n && not (is_dead (with_cut cut.now no_failures) (place_of graph.now n))) self.old self.new) }
     {
         for start in graph.starts() {
             let at = graph.location(*start);
@@ -68,7 +69,7 @@ impl Search {
     ) -> Result<(), AllocError>
         requires size { vec_len self.old.marks ≡ length graph.now.nodes }
         requires nodes { All (λ n. n < length graph.now.nodes) nodes.now }
-        ensures { OnOk result (Visits (λ n. is_among nodes.now n && is_spared (failures_by cut.now) from (place_of graph.now n)) self.old self.new) }
+        ensures { OnOk result (Visits (λ n. is_among nodes.now n && is_spared (with_cut cut.now no_failures) from (place_of graph.now n)) self.old self.new) }
     {
         for node in nodes {
             let at = graph.location(*node);
@@ -90,7 +91,7 @@ pub(crate) fn nodes_left(
     requires lists { AreLists lists.now }
     requires steps { (a b : ℕ) → is_listed lists.now a b ≡ has_step graph.now a b }
     ensures size { IfOk result (λ marks. vec_len marks ≡ length graph.now.nodes) }
-    ensures marks { IfOk result (λ marks. (n : ℕ) → n < length graph.now.nodes → IsTrue (is_marked marks.items n) ↔ IsLeft graph.now (failures_by cut.now) n) }
+    ensures marks { IfOk result (λ marks. (n : ℕ) → n < length graph.now.nodes → IsTrue (is_marked marks.items n) ↔ IsLeft graph.now (with_cut cut.now no_failures) n) }
 {
     let mut search = Search::new(alloc, graph.nodes().len())?;
     search.begin(graph, cut)?;

@@ -16,7 +16,11 @@ pub struct Source {
 }
 
 /// Adds the routers of a set, of so many, by location.
-fn push_routers(sources: &mut Vec<Source>, count: u16, routers: &LocSet) -> Result<(), AllocError>
+pub fn push_routers(
+    sources: &mut Vec<Source>,
+    count: u16,
+    routers: &LocSet,
+) -> Result<(), AllocError>
     ensures { OnOk result (sources.new.items ≡ sources.old.items ++ router_sources (holds routers.now) count) }
 {
     for place in 0..count {
@@ -29,7 +33,7 @@ fn push_routers(sources: &mut Vec<Source>, count: u16, routers: &LocSet) -> Resu
 }
 
 /// Adds sessions, each of a router and a peer.
-fn push_sessions(sources: &mut Vec<Source>, sessions: &[(Loc, Loc)]) -> Result<(), AllocError>
+pub fn push_sessions(sources: &mut Vec<Source>, sessions: &[(Loc, Loc)]) -> Result<(), AllocError>
     ensures { OnOk result (sources.new.items ≡ sources.old.items ++ map session_source sessions.now) }
 {
     for session in sessions {

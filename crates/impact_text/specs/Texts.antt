@@ -1,7 +1,7 @@
--- The text of an impact.
-use Rattle.std.specs.Prelude.{ℕ, List, [], ◌++◌, length, map, codes, Option, Some, None}
+-- The texts of an impact, and of what cuts change and move.
+use Rattle.std.specs.Prelude.{ℕ, Bool, not, ◌||◌, ◌==◌, List, [], ◌++◌, length, map, filter, codes, Option, Some, None}
 use Rattle.std.specs.Fmt.{decimal}
-use Rattle.std.specs.List.{flat_map}
+use Rattle.std.specs.List.{flat_map, zip}
 use Rattle.net_base.specs.Network.{PlainNet}
 use Rattle.net_base.specs.Prefixes.{PlainPrefix, PlainPattern}
 use Rattle.policy_base.specs.Cases.{case_list}
@@ -14,6 +14,7 @@ use Rattle.impact_law.specs.declared.impact.Cut.TheVariants.{Link, Router}
 use Rattle.impact_law.specs.declared.impact.CutRow.{CutRow}
 use Rattle.impact_law.specs.declared.impact.Impact.{Impact}
 use Rattle.impact_law.specs.declared.impact.SourceRank.{SourceRank}
+use Rattle.impact_law.specs.declared.impact.WhatIf.{WhatIf}
 
 -- the classes of a configuration that is made for a policy: one for each case
 abbrev pub classes_for : PlainNet → PlainPolicy → List (List PlainPattern)
@@ -46,18 +47,44 @@ abbrev pub cut_text : PlainNet → Cut → List ℕ
 cut_text net (Link a b) = codes "cut link" ++ next_name net a ++ next_name net b
 cut_text net (Router r) = codes "cut router" ++ next_name net r
 
+unfoldable pub count_line : ℕ → ℕ → List ℕ
+count_line cuts changed = codes "cuts " ++ decimal cuts ++ codes " changed " ++ decimal changed ++ codes "\n"
+
+-- the prefix and its class, and a line for each claimed source
+abbrev pub base_text : PlainNet → PlainPolicy → PlainPrefix → List SourceRank → List ℕ
+base_text net policy p base = head_lines (classes_alone net policy) p ++ flat_map (base_line net) base
+
+-- ---- of an impact
+
 -- a cut and what it changes
 unfoldable pub row_text : PlainNet → CutRow → List ℕ
 row_text net row = cut_text net row.cut ++ codes "\n" ++ flat_map (entry_line net) row.changed
 
-unfoldable pub count_line : ℕ → ℕ → List ℕ
-count_line cuts changed = codes "cuts " ++ decimal cuts ++ codes " changed " ++ decimal changed ++ codes "\n"
+abbrev pub changes : CutRow → Bool
+changes row = not (length row.changed == 0)
 
 -- The prefix and its class, a line for each claimed source, each cut that changes something with the sources that it changes, and how many
 -- cuts there are and how many change something.
 abbrev pub impact_text : PlainNet → PlainPolicy → PlainPrefix → Impact → List ℕ
 impact_text net policy p impact =
-    head_lines (classes_alone net policy) p
-    ++ flat_map (base_line net) impact.base
-    ++ flat_map (row_text net) impact.rows
-    ++ count_line impact.cuts (length impact.rows)
+    let told = filter changes impact.rows in
+    base_text net policy p impact.base
+    ++ flat_map (row_text net) told
+    ++ count_line (length impact.rows) (length told)
+
+-- ---- of what a cut besides changes, and how many it moves
+
+-- a cut, how many it moves, and what it changes
+unfoldable pub moves_text : PlainNet → CutRow × ℕ → List ℕ
+moves_text net row = cut_text net row.0.cut ++ codes " moves " ++ decimal row.1 ++ codes "\n" ++ flat_map (entry_line net) row.0.changed
+
+abbrev pub changes_or_moves : CutRow × ℕ → Bool
+changes_or_moves row = changes row.0 || not (row.1 == 0)
+
+-- the same, where each cut that changes or moves something tells how many it moves
+abbrev pub what_if_text : PlainNet → PlainPolicy → PlainPrefix → WhatIf → List ℕ
+what_if_text net policy p w =
+    let told = filter changes_or_moves (zip w.impact.rows w.moves) in
+    base_text net policy p w.impact.base
+    ++ flat_map (moves_text net) told
+    ++ count_line (length w.impact.rows) (length told)

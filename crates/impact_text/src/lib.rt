@@ -1,8 +1,9 @@
-//! The text of an impact: the best ranks of the claimed sources of a prefix, and what single cuts change of them.
+//! The texts of what single cuts change: the best ranks of the claimed sources of a prefix, what cuts change of them, and how many
+//! routers they move.
 #![tactic(auto)]
 
 mod class;
 mod lines;
 mod text;
 
-pub use text::impact_text;
+pub use text::{impact_text, what_if_text};

@@ -1,7 +1,7 @@
 //! The lines of an impact. Each `push_` function adds a text to the end of another.
-ghost use Rattle.std.specs.Prelude.{◌≡◌, ◌++◌, OnOk};
-ghost use Rattle.std.specs.List.{flat_map};
-ghost use Rattle.impact_text.specs.Texts.{base_line, count_line, cut_text, entry_line, rank_text, row_text, source_text};
+ghost use Rattle.std.specs.Prelude.{◌≡◌, ◌++◌, IfOk, OnOk, filter, length};
+ghost use Rattle.std.specs.List.{flat_map, zip};
+ghost use Rattle.impact_text.specs.Texts.{base_line, changes, changes_or_moves, count_line, cut_text, entry_line, moves_text, rank_text, row_text, source_text};
 
 use impact_law::{Cut, CutRow, SourceRank};
 use net_base::{Loc, Net};
@@ -99,6 +99,13 @@ fn push_cut(text: &mut Vec<u8>, net: &Net, cut: Cut) -> Result<(), NoMemory>
     }
 }
 
+/// Whether a cut changes a rank.
+fn changes_rank(row: &CutRow) -> bool
+    ensures { result ≡ changes row.now }
+{
+    !row.changed.as_slice().is_empty()
+}
+
 /// Adds the lines of a cut and of what it changes.
 #[tactic(auto, unfolding(crate::specs::Texts::row_text))]
 fn push_row(text: &mut Vec<u8>, net: &Net, row: &CutRow) -> Result<(), NoMemory>
@@ -109,24 +116,71 @@ fn push_row(text: &mut Vec<u8>, net: &Net, row: &CutRow) -> Result<(), NoMemory>
     push_entries(text, net, row.changed.as_slice())
 }
 
-/// Adds the lines of rows.
-pub fn push_rows(text: &mut Vec<u8>, net: &Net, rows: &[CutRow]) -> Result<(), NoMemory>
-    ensures { OnOk result (text.new.items ≡ text.old.items ++ flat_map (row_text net.now) rows.now) }
+/// Adds the lines of the rows that change something, and returns how many these are.
+pub fn push_rows(text: &mut Vec<u8>, net: &Net, rows: &[CutRow]) -> Result<usize, NoMemory>
+    ensures text { OnOk result (text.new.items ≡ text.old.items ++ flat_map (row_text net.now) (filter changes rows.now)) }
+    ensures count { IfOk result (λ told. told ≡ length (filter changes rows.now)) }
 {
+    let mut told = 0;
     for row in rows {
-        push_row(text, net, row)?;
+        if changes_rank(row) {
+            push_row(text, net, row)?;
+            told += 1;
+        }
     }
-    Ok(())
+    Ok(told)
 }
 
-/// Adds the line that counts cuts, and those that change something.
+/// Adds the lines of a cut, of how many routers it moves and of what it changes.
+#[tactic(auto, unfolding(crate::specs::Texts::moves_text))]
+fn push_moves(text: &mut Vec<u8>, net: &Net, row: &CutRow, moves: u32) -> Result<(), NoMemory>
+    ensures { OnOk result (text.new.items ≡ text.old.items ++ moves_text net.now (row.now, moves)) }
+{
+    push_cut(text, net, row.cut)?;
+    push_bytes(text, b" moves ")?;
+    push_number(text, u64::from(moves))?;
+    push_bytes(text, b"\n")?;
+    push_entries(text, net, row.changed.as_slice())
+}
+
+/// Whether a cut changes a rank or moves a router.
+fn changes_or_moves_any(row: &CutRow, moves: u32) -> bool
+    ensures { result ≡ changes_or_moves (row.now, moves) }
+{
+    changes_rank(row) || moves != 0
+}
+
+/// Adds the lines of the rows that change or move something, each with how many routers it moves, and returns how many these are.
+pub fn push_moving_rows(
+    text: &mut Vec<u8>,
+    net: &Net,
+    rows: &[CutRow],
+    moves: &[u32],
+) -> Result<usize, NoMemory>
+    requires { length moves.now ≡ length rows.now }
+    ensures text { OnOk result (text.new.items ≡ text.old.items ++ flat_map (moves_text net.now) (filter changes_or_moves (zip rows.now moves.now))) }
+    ensures count { IfOk result (λ told. told ≡ length (filter changes_or_moves (zip rows.now moves.now))) }
+{
+    let mut told = 0;
+    for i in 0..rows.len() {
+        let row = &rows[i];
+        let count = moves[i];
+        if changes_or_moves_any(row, count) {
+            push_moves(text, net, row, count)?;
+            told += 1;
+        }
+    }
+    Ok(told)
+}
+
+/// Adds the line that counts cuts, and those of them that are told.
 #[tactic(auto, unfolding(crate::specs::Texts::count_line))]
-pub fn push_counts(text: &mut Vec<u8>, cuts: u32, changed: usize) -> Result<(), NoMemory>
-    ensures { OnOk result (text.new.items ≡ text.old.items ++ count_line cuts changed) }
+pub fn push_counts(text: &mut Vec<u8>, cuts: usize, told: usize) -> Result<(), NoMemory>
+    ensures { OnOk result (text.new.items ≡ text.old.items ++ count_line cuts told) }
 {
     push_bytes(text, b"cuts ")?;
-    push_number(text, u64::from(cuts))?;
+    push_number(text, cuts as u64)?;
     push_bytes(text, b" changed ")?;
-    push_number(text, changed as u64)?;
+    push_number(text, told as u64)?;
     push_bytes(text, b"\n")
 }

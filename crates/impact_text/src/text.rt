@@ -1,16 +1,33 @@
-//! The text of an impact.
-ghost use Rattle.std.specs.Prelude.{◌≡◌, IfOk};
+//! The texts of an impact, and of what cuts change and move.
+ghost use Rattle.std.specs.Prelude.{◌≡◌, IfOk, length};
 ghost use Rattle.policy_base.specs.Policies.{policy_of};
-ghost use Rattle.impact_text.specs.Texts.{impact_text as text_of_impact};
+ghost use Rattle.impact_text.specs.Texts.{base_text as text_of_base, impact_text as text_of_impact, what_if_text as text_of_what_if};
 
 use crate::class::class_for;
-use crate::lines::{push_base, push_counts, push_rows};
-use impact_law::Impact;
+use crate::lines::{push_base, push_counts, push_moving_rows, push_rows};
+use impact_law::{Impact, SourceRank, WhatIf};
 use net_base::{Net, Prefix};
 use outside::NoMemory;
 use policy_base::Policy;
 use report_lines::push_head;
 use std::alloc::Global;
+
+/// The prefix and its class, and a line for each claimed source.
+fn base_text(
+    alloc: Global,
+    net: &Net,
+    policy: &Policy,
+    prefix: Prefix,
+    base: &[SourceRank],
+) -> Result<Vec<u8>, NoMemory>
+    ensures { IfOk result (λ v. v.items ≡ text_of_base net.now (policy_of policy.now) prefix base.now) }
+{
+    let class = class_for(alloc, net, policy, prefix)?;
+    let mut text = Vec::new(alloc);
+    push_head(&mut text, prefix, class)?;
+    push_base(&mut text, net, base)?;
+    Ok(text)
+}
 
 /// The text of an impact: the prefix and its class, a line for each claimed source, the cuts that change something, each with the sources
 /// that it changes, and how many cuts there are.
@@ -23,12 +40,29 @@ pub fn impact_text(
 ) -> Result<Vec<u8>, NoMemory>
     ensures { IfOk result (λ v. v.items ≡ text_of_impact net.now (policy_of policy.now) prefix impact.now) }
 {
-    let class = class_for(alloc, net, policy, prefix)?;
     let rows = impact.rows.as_slice();
-    let mut text = Vec::new(alloc);
-    push_head(&mut text, prefix, class)?;
-    push_base(&mut text, net, impact.base.as_slice())?;
-    push_rows(&mut text, net, rows)?;
-    push_counts(&mut text, impact.cuts, rows.len())?;
+    let mut text = base_text(alloc, net, policy, prefix, impact.base.as_slice())?;
+    let told = push_rows(&mut text, net, rows)?;
+    push_counts(&mut text, rows.len(), told)?;
+    Ok(text)
+}
+
+/// The text of what cuts change and move: as that of an impact, where each cut that changes or moves something tells how many routers it
+/// moves.
+pub fn what_if_text(
+    alloc: Global,
+    net: &Net,
+    policy: &Policy,
+    prefix: Prefix,
+    what_if: &WhatIf,
+) -> Result<Vec<u8>, NoMemory>
+    requires { length what_if.now.moves ≡ length what_if.now.impact.rows }
+    ensures { IfOk result (λ v. v.items ≡ text_of_what_if net.now (policy_of policy.now) prefix what_if.now) }
+{
+    let impact = &what_if.impact;
+    let rows = impact.rows.as_slice();
+    let mut text = base_text(alloc, net, policy, prefix, impact.base.as_slice())?;
+    let told = push_moving_rows(&mut text, net, rows, what_if.moves.as_slice())?;
+    push_counts(&mut text, rows.len(), told)?;
     Ok(text)
 }

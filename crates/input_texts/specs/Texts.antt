@@ -107,7 +107,7 @@ OfPairTexts Next config_text evidence_text what = OfRead config_line (config_spe
 
 -- The scenario for a network is read.
 abbrev pub OfScenarioText : (Scenario → Said → Type 0) → PlainNet → List ℕ → Said → Type 0
-OfScenarioText Next net scenario_reader = OfRead scenario_line (scenario_spelled net scenario_reader) Next
+OfScenarioText Next net scenario_text = OfRead scenario_line (scenario_spelled net scenario_text) Next
 
 -- The events for a network are read.
 abbrev pub OfEventsText : (Events → Said → Type 0) → PlainNet → List ℕ → Said → Type 0

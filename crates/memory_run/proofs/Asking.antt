@@ -5,6 +5,9 @@ use Rattle.net_base.specs.Network.{PlainNet}
 use Rattle.topology.specs.Topology.{spelled}
 use Rattle.policy_base.specs.Policies.{PlainPolicy}
 use Rattle.propane_run.specs.declared.command.Command.TheVariants.{Compile}
+use Rattle.topology_meaning.proofs.Read.{networks_are_meant}
+use Rattle.topology_meaning.proofs.Written.{network_is_spelled}
+use Rattle.policy_meaning.proofs.Texts.{policies_are_meant, policy_is_spelled}
 use Rattle.run_base.specs.declared.outcome.Status.TheVariants.{BadInput}
 use Rattle.propane_run.specs.Asked.{AsksFor}
 use Rattle.propane_run.specs.Clauses.{FaultFound, ReadsSmoothly}
@@ -56,8 +59,8 @@ module _ (holds : Holds) (topology policy_text : List ℕ) (topology_is : holds 
       record {
         topology_within = rw t at asks.held.0.within;
         policy_within = rw p at asks.held.1.0.within;
-        net_spelled = rw t at asks.net_spelled;
-        policy_spelled = rw p at asks.policy_spelled;
+        net_spelled = rw t at network_is_spelled asks.topology net asks.net_meant;
+        policy_spelled = rw p at policy_is_spelled net asks.policy_text policy asks.policy_meant;
       }
 
   of_words : (net : PlainNet) (policy : PlainPolicy) → Spell topology policy_text net policy → AsksFor holds compile_words Compile net policy
@@ -67,8 +70,8 @@ module _ (holds : Holds) (topology policy_text : List ℕ) (topology_is : holds 
     policy_text = policy_text;
     more = [];
     held = (record { told = rw topology_is refl; within = spell.topology_within }, (record { told = rw policy_is refl; within = spell.policy_within }, tt));
-    net_spelled = spell.net_spelled;
-    policy_spelled = spell.policy_spelled;
+    net_meant = networks_are_meant topology net spell.net_spelled;
+    policy_meant = policies_are_meant net policy_text policy spell.policy_spelled;
   }
 
   -- ---- what is wrong with the texts

@@ -11,7 +11,7 @@ use Rattle.propane_run.specs.declared.command.Command.{Command}
 use Rattle.propane_run.specs.declared.command.Command.TheVariants.{Compile}
 use Rattle.propane_run.specs.Clauses.{FaultFound}
 use Rattle.compile_jobs.specs.Compiled.{IsCompiled, IsRefusedFor}
-use Rattle.propane_run.specs.Headline.{CompilesRight}
+use Rattle.propane_run.specs.Headline.{CompilesRight, IsKeptInMotion}
 use Rattle.run_base.specs.declared.outcome.Status.TheVariants.{Refused}
 use Rattle.run_base.specs.Reading.{Holds}
 use Rattle.refusal_lines.specs.RefusalLines.{refusal_line}
@@ -57,8 +57,8 @@ refusal_of_compile holds words is taken err err' c asks claim = of_compile words
 module _ (words : List (List ℕ)) (is : words ≡ compile_words) (holds : Holds) (topology policy_text : List ℕ)
     (topology_is : holds topology_name ≡ Some topology) (policy_is : holds policy_name ≡ Some policy_text) where
   pub right_text : {O : Type 0} (taken : O → Option (List ℕ)) (out out' : O) (claim : CompilesRight holds taken words out out') (evidence : List PlainCaseEvidence)
-      → IsCompiled claim.net claim.policy claim.config evidence → (text : List ℕ) → claim.bytes ≡ text → IsRightText topology policy_text text
-  right_text taken out out' claim evidence compiled text same = record {
+      → IsCompiled claim.net claim.policy claim.config evidence → IsKeptInMotion claim.net claim.policy claim.config → (text : List ℕ) → claim.bytes ≡ text → IsRightText topology policy_text text
+  right_text taken out out' claim evidence compiled moving text same = record {
     net = claim.net;
     policy = claim.policy;
     spell = spelled_by words is holds topology policy_text topology_is policy_is claim.net claim.policy claim.asked;
@@ -66,7 +66,7 @@ module _ (words : List (List ℕ)) (is : words ≡ compile_words) (holds : Holds
     spelled = rw same at claim.spelled;
     right = claim.right;
     outcomes = claim.outcomes;
-    moving = claim.moving;
+    moving = moving;
     evidence = evidence;
     compiled = compiled;
   }

@@ -13,3 +13,9 @@ mod Whole
 mod HeldNames
 mod Sequence
 mod Places
+mod Shallow
+mod OneTree
+mod NothingBroken
+mod FineItems
+mod FewItems
+pub mod Texts

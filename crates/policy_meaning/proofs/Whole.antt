@@ -130,11 +130,17 @@ items_read bytes items e =
     let b = bind_ok (none_at Deep (first_deep 0 (lexemes_of bytes a.0 end))) (λ _. items_of (lexemes_of bytes a.0 end)) items a.2 in
     (a.0, a.1, none_at_ok Deep (first_deep 0 (lexemes_of bytes a.0 end)) b.0 b.1, b.2)
 
-pub policy_meant : EachIsRead → IsReadAsPolicy → (net : PlainNet) (bytes : List ℕ) (spelt : PlainPolicy) → spelled net bytes ≡ Ok spelt
-    → (tokens : List Token) × (items : List Item) × (p : IsPolicy items (map (lexeme_of bytes) tokens)) × (tokens_of bytes ≡ Ok tokens) × (meaning net bytes (policy_tree p) ≡ Ok spelt)
+-- a policy that is read: its tokens and its items, no bracket too deep, and what they mean
+pub policy_read : EachIsRead → IsReadAsPolicy → (net : PlainNet) (bytes : List ℕ) (spelt : PlainPolicy) → spelled net bytes ≡ Ok spelt
+    → (tokens : List Token) × (items : List Item) × (p : IsPolicy items (map (lexeme_of bytes) tokens)) × (tokens_of bytes ≡ Ok tokens)
+    × (first_deep 0 (lexemes_of bytes tokens (place_of bytes (length bytes))) ≡ None) × (meaning net bytes (policy_tree p) ≡ Ok spelt)
 unfolding spelled
-policy_meant read are net bytes spelt e =
+policy_read read are net bytes spelt e =
     let a = bind_ok (items_spelled bytes) (λ items. names_spelled bytes net items >>= λ known. rules_kept bytes net known items >>= λ _. policy_built bytes net known items) spelt e in
     let r = items_read bytes a.0 a.1 in
     let p = are bytes r.0 (place_of bytes (length bytes)) a.0 r.3 in
-    (r.0, a.0, p, r.1, sym (text_spells read net bytes r.0 a.0 r.1 r.2 p) ∙ e)
+    (r.0, a.0, p, r.1, r.2, sym (text_spells read net bytes r.0 a.0 r.1 r.2 p) ∙ e)
+
+pub policy_meant : EachIsRead → IsReadAsPolicy → (net : PlainNet) (bytes : List ℕ) (spelt : PlainPolicy) → spelled net bytes ≡ Ok spelt
+    → (tokens : List Token) × (items : List Item) × (p : IsPolicy items (map (lexeme_of bytes) tokens)) × (tokens_of bytes ≡ Ok tokens) × (meaning net bytes (policy_tree p) ≡ Ok spelt)
+policy_meant read are net bytes spelt e = let r = policy_read read are net bytes spelt e in (r.0, r.1, r.2, r.3, r.5)

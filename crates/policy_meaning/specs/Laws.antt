@@ -26,6 +26,7 @@ use Rattle.policy_meaning.specs.Senses.{Sense, located, set_of_names, sense_of, 
 use Rattle.policy_meaning.specs.Values.{ranking}
 use Rattle.policy_meaning.specs.Meaning.{meaning}
 use Rattle.policy_meaning.specs.InOrder.{PlacesInOrder}
+use Rattle.policy_meaning.specs.Texts.{IsPolicyTextOf}
 use Rattle.net_base.specs.declared.limits.TheConstants.{LOCATIONS}
 
 -- the steps that the grammar writes as some tokens are those of the tree that it finds there
@@ -69,3 +70,15 @@ TextsSpellTheirMeaning = (net : PlainNet) (bytes : List ℕ) (tokens : List Toke
 abbrev pub SpelledPoliciesAreMeant : Type 0
 SpelledPoliciesAreMeant = (net : PlainNet) (bytes : List ℕ) (spelt : PlainPolicy) → spelled net bytes ≡ Ok spelt
     → (tokens : List Token) × (items : List Item) × (p : IsPolicy items (map (lexeme_of bytes) tokens)) × (tokens_of bytes ≡ Ok tokens) × (meaning net bytes (policy_tree p) ≡ Ok spelt)
+
+-- the policy that a text spells is the one that it means
+abbrev pub PoliciesAreMeant : Type 0
+PoliciesAreMeant = (net : PlainNet) (bytes : List ℕ) (p : PlainPolicy) → spelled net bytes ≡ Ok p → IsPolicyTextOf net bytes p
+
+-- a text that means a policy spells it
+abbrev pub MeantPoliciesAreSpelled : Type 0
+MeantPoliciesAreSpelled = (net : PlainNet) (bytes : List ℕ) (p : PlainPolicy) → IsPolicyTextOf net bytes p → spelled net bytes ≡ Ok p
+
+-- a text means one policy at most
+abbrev pub TextsMeanOnePolicy : Type 0
+TextsMeanOnePolicy = (net : PlainNet) (bytes : List ℕ) (p q : PlainPolicy) → IsPolicyTextOf net bytes p → IsPolicyTextOf net bytes q → p ≡ q

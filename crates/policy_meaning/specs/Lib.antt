@@ -7,5 +7,6 @@ pub mod Origins
 pub mod Values
 pub mod Limits
 pub mod Meaning
+pub mod Texts
 pub mod Laws
 pub mod InOrder

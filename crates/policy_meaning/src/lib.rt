@@ -7,6 +7,7 @@
 //! | Law | It says |
 //! |---|---|
 //! | `texts_spell_their_meaning` | a text spells what it means, and its fault is that of the first rule it breaks, at the first place |
+//! | `policies_mean_what_they_spell` | a text spells a policy exactly where it means it, said without faults and without their order (`specs/Texts`) |
 //! | `places_are_in_order` | the places that break a rule are listed in the order of the text |
 //! | `trees_are_what_is_read` | the trees are those of the items that are read |
 //! | `first_rank_is_told`, `names_have_their_sense`, `expressions_have_their_value` | what single passes of the code come to |
@@ -21,7 +22,7 @@ ghost use Rattle.policy_grammar.specs.Raw.{RawCall};
 ghost use Rattle.policy_meaning.specs.Trees.{Expression, Written};
 ghost use Rattle.policy_meaning.specs.Ranks.{ranks, ranks_under};
 ghost use Rattle.policy_meaning.specs.Meaning.{unknown_names, meaning};
-ghost use Rattle.policy_meaning.specs.Laws.{StepsAreTrees, ItemsAreTrees, FirstRankIsTold, NamesHaveTheirSense, ListsHoldTheirNames, ExpressionsHaveTheirValue, PlacesAreInOrder, TextsSpellTheirMeaning, SpelledPoliciesAreMeant};
+ghost use Rattle.policy_meaning.specs.Laws.{StepsAreTrees, ItemsAreTrees, FirstRankIsTold, NamesHaveTheirSense, ListsHoldTheirNames, ExpressionsHaveTheirValue, PlacesAreInOrder, TextsSpellTheirMeaning, SpelledPoliciesAreMeant, PoliciesAreMeant, MeantPoliciesAreSpelled, TextsMeanOnePolicy};
 
 use grammar_law::{every_policy_is_read, what_is_read_is_a_policy};
 use policy_tokens::PolicyFault;
@@ -66,6 +67,14 @@ pub fn texts_spell_their_meaning()
     every_policy_is_read();
     what_is_read_is_a_policy();
 }
+
+/// A text is read as a policy exactly where it means it, and it means no other. This is said by what is right in a text alone
+/// (`specs/Texts`): its tokens, the grammar, and what each item keeps.
+pub fn policies_mean_what_they_spell()
+    ensures only { PoliciesAreMeant }
+    ensures all { MeantPoliciesAreSpelled }
+    ensures one { TextsMeanOnePolicy }
+{}
 
 /// Each `>>` of a side of an `or` is told; between two calls alone none is.
 pub fn ranks_stand_beside_calls()

@@ -1,4 +1,5 @@
 -- What a run of each command has written.
+pub mod Answered
 pub mod Audit
 pub mod Check
 pub mod CheckMap
@@ -6,6 +7,7 @@ pub mod Explain
 pub mod Impact
 pub mod Lint
 pub mod Migrate
+pub mod Promises
 pub mod Replay
 pub mod RouteMap
 pub mod Sample

@@ -1,10 +1,21 @@
 -- What is known of the job of each command. A line for each command, and one more where it compiles.
-use Rattle.std.proofs.Common.{◌≡◌, ℕ, List, Some, sym, ◌∙◌}
+use Rattle.std.proofs.Common.{◌≡◌, ℕ, List, Some, Result, sym, ◌∙◌}
 use Rattle.help_texts.specs.Pages.{help_text, version_text}
 use Rattle.run_base.specs.Reading.{Holds}
 use Rattle.run_base.specs.Said.{text}
 use Rattle.run_base.proofs.Jobs.{IsJob, in_text}
+use Rattle.net_base.specs.Network.{PlainNet}
+use Rattle.policy_base.specs.Policies.{PlainPolicy}
+use Rattle.config_base.specs.Configs.{PlainConfig}
+use Rattle.evidence_base.specs.Made.{PlainCaseEvidence}
+use Rattle.scenario_reader.specs.Spelled.{spelled as scenario_spelled}
+use Rattle.event_reader.specs.Spelled.{spelled as events_spelled}
 use Rattle.input_texts.specs.Asked.{SpellFor}
+use Rattle.input_texts.specs.FaultLines.{events_line, scenario_line}
+use Rattle.compile_jobs.specs.Compiling.{SaysOfThree}
+use Rattle.compile_jobs.proofs.ThirdText.{compiler_of_three}
+use Rattle.replay_job.specs.Replayed.{WritesReport}
+use Rattle.trace_job.specs.Traced.{WritesTrace}
 use Rattle.compile_jobs.specs.declared.written.Part.TheVariants as part
 use Rattle.compile_jobs.specs.Written.{WritesPart}
 use Rattle.compile_jobs.proofs.Compiling.{IsCompiler, compiler_of_two, in_words}
@@ -13,20 +24,29 @@ use Rattle.compile_jobs.proofs.SampleLaws.{sample_compiler, sample_job}
 use Rattle.compile_jobs.proofs.WrittenLaws.{written_job}
 use Rattle.audit_job.proofs.AuditLaws.{audit_job}
 use Rattle.check_job.proofs.CheckLaws.{check_job}
-use Rattle.impact_job.proofs.ImpactLaws.{impact_compiler, impact_job}
+use Rattle.impact_job.proofs.ImpactLaws.{impact_job}
+use Rattle.impact_job.specs.Impacts.{WritesImpact}
 use Rattle.lint_job.proofs.LintLaws.{lint_job}
 use Rattle.map_jobs.proofs.CheckMapLaws.{check_map_job}
 use Rattle.map_jobs.proofs.RouteMapLaws.{route_map_job}
 use Rattle.migrate_job.proofs.MigrateLaws.{migrate_job}
-use Rattle.replay_job.proofs.ReplayLaws.{replay_compiler, replay_job}
-use Rattle.trace_job.proofs.TraceLaws.{trace_compiler, trace_job}
+use Rattle.replay_job.proofs.ReplayLaws.{replay_job}
+use Rattle.trace_job.proofs.TraceLaws.{trace_job}
+use Rattle.drain_job.proofs.DrainLaws.{drain_job}
+use Rattle.drain_job.specs.Drained.{WritesDrain}
+use Rattle.settle_job.proofs.SettleLaws.{settle_job}
+use Rattle.settle_job.specs.Settles.{WritesSettlement}
+use Rattle.promises_job.proofs.PromisesLaws.{promises_job}
+use Rattle.promises_job.specs.Promised.{WritesPromises}
+use Rattle.whatif_job.proofs.WhatIfLaws.{whatif_job}
+use Rattle.whatif_job.specs.WhatIfs.{WritesWhatIf}
 use Rattle.propane_run.specs.declared.command.Command.{Command}
-use Rattle.propane_run.specs.declared.command.Command.TheVariants.{Compile, Evidence, Check, Explain, Replay, Trace, Impact, RouteMap, CheckMap, Lint, Audit, Migrate, Sample, Help, Version}
-use Rattle.propane_run.specs.Asked.{AsksFor, IsFor}
+use Rattle.propane_run.specs.declared.command.Command.TheVariants.{Compile, Evidence, Check, Explain, Replay, Trace, Impact, RouteMap, CheckMap, Lint, Audit, Migrate, Sample, Help, Version, Drain, Settle, Promises, WhatIf}
+use Rattle.propane_run.specs.Asked.{AsksAlso, AsksFor, IsFor}
 use Rattle.propane_run.specs.Run.{Job}
 use Rattle.propane_run.specs.Words.{names_read, words_are}
 use Rattle.propane_run.proofs.Roles.{Compiles, Judges, Refuses}
-use Rattle.propane_run.proofs.Asking.{asks_for, asks_of_events, asks_under, spells, spells_events, spells_under}
+use Rattle.propane_run.proofs.Asking.{asks_also, asks_for, spells, spells_also}
 
 -- a text of the program's own is one thing
 text_job : (bytes : List ℕ) (Refusing Judging : Type 0) → IsJob Refusing Judging (λ bs what. what ≡ text bytes)
@@ -49,22 +69,33 @@ job_is Lint = lint_job (Unit {0}) ⊥ tt
 job_is Audit = audit_job ⊥ (Unit {0}) tt
 job_is (Help topic) = text_job (help_text topic) ⊥ ⊥
 job_is Version = text_job version_text ⊥ ⊥
+job_is Drain = drain_job (Unit {0}) ⊥ tt
+job_is Settle = settle_job (Unit {0}) ⊥ tt
+job_is Promises = promises_job (Unit {0}) ⊥ tt
+job_is WhatIf = whatif_job (Unit {0}) ⊥ tt
 
 module _ (holds : Holds) (words : List (List ℕ)) where
   -- of two texts
   of_two : (c : Command) → words_are words ≡ Some c → IsCompiler holds (names_read words c) (Job c) (SpellFor holds (names_read words c)) → IsCompiler holds (names_read words c) (Job c) (AsksFor holds words c)
   of_two c is compiler = in_words compiler (λ net policy. asks_for holds words c net policy is) (λ net policy. spells holds words c net policy)
 
+  -- of three
+  of_three : {V F : Type 0} (told : F → List ℕ) (spelled_by : PlainNet → List ℕ → Result V F) (Writes : PlainNet → PlainPolicy → V → PlainConfig → List PlainCaseEvidence → List ℕ → Type 0) (c : Command)
+      → words_are words ≡ Some c → IsCompiler holds (names_read words c) (SaysOfThree told spelled_by Writes) (λ net policy. (value : V) × AsksAlso spelled_by holds words c net policy value)
+  of_three told spelled_by Writes c is =
+      in_words (compiler_of_three told spelled_by Writes holds (names_read words c)) (λ net policy asked. (asked.0, asks_also holds words spelled_by c net policy is asked.0 asked.1))
+      (λ net policy asks. (asks.0, spells_also holds words spelled_by c net policy asks.0 asks.1))
+
   -- of a command that compiles, for which network and policy
   pub compiler : (c : Command) → Compiles c → words_are words ≡ Some c → IsCompiler holds (names_read words c) (Job c) (IsFor holds words c)
-  compiler Compile compiles is = of_two Compile is (compiler_of_two (WritesPart part.Config) holds (names_read words Compile))
-  compiler Evidence compiles is = of_two Evidence is (compiler_of_two (WritesPart part.Evidence) holds (names_read words Evidence))
-  compiler (Impact x) compiles is = of_two (Impact x) is (impact_compiler x holds (names_read words (Impact x)))
-  compiler Replay compiles is =
-      in_words (replay_compiler holds (names_read words Replay)) (λ net policy asked. (asked.0, asks_under holds words net policy is asked.0 asked.1))
-      (λ net policy asks. (asks.0, spells_under holds words net policy asks.0 asks.1))
-  compiler Trace compiles is =
-      in_words (trace_compiler holds (names_read words Trace)) (λ net policy asked. (asked.0, asks_of_events holds words net policy is asked.0 asked.1))
-      (λ net policy asks. (asks.0, spells_events holds words net policy asks.0 asks.1))
+  compiler Compile compiles is = of_two Compile is (compiler_of_two (λ net policy. WritesPart part.Config) holds (names_read words Compile))
+  compiler Evidence compiles is = of_two Evidence is (compiler_of_two (λ net policy. WritesPart part.Evidence) holds (names_read words Evidence))
+  compiler (Impact x) compiles is = of_two (Impact x) is (compiler_of_two (λ net policy. WritesImpact net policy x) holds (names_read words (Impact x)))
+  compiler Replay compiles is = of_three scenario_line scenario_spelled WritesReport Replay is
+  compiler Drain compiles is = of_three scenario_line scenario_spelled WritesDrain Drain is
+  compiler Settle compiles is = of_three events_line events_spelled WritesSettlement Settle is
+  compiler WhatIf compiles is = of_three scenario_line scenario_spelled WritesWhatIf WhatIf is
+  compiler Promises compiles is = of_two Promises is (compiler_of_two WritesPromises holds (names_read words Promises))
+  compiler Trace compiles is = of_three events_line events_spelled WritesTrace Trace is
   compiler (Sample n) compiles is = in_words (sample_compiler holds n) (λ net policy are. record { asked = is; net_is = are.0; policy_is = are.1 }) (λ net policy asks. (asks.net_is, asks.policy_is))
   compiler c compiles is = absurd compiles

@@ -8,4 +8,5 @@ pub mod Ending
 pub mod Promising
 pub mod Roles
 pub mod RunLaws
+pub mod ThreeTexts
 pub mod Wording

@@ -4,10 +4,17 @@ use Rattle.run_base.specs.declared.outcome.Status.TheVariants.{Done, Refused, Ch
 use Rattle.run_base.specs.Reading.{Holds}
 use Rattle.run_base.specs.Said.{text, line, failing, Whole}
 use Rattle.run_base.proofs.Jobs.{out_is}
+use Rattle.drain_job.specs.Drained.{WritesDrain}
+use Rattle.event_reader.specs.Spelled.{spelled as events_spelled}
+use Rattle.input_texts.specs.FaultLines.{events_line, scenario_line}
+use Rattle.scenario_reader.specs.Spelled.{spelled as scenario_spelled}
+use Rattle.settle_job.specs.Settles.{WritesSettlement}
+use Rattle.whatif_job.specs.WhatIfs.{WritesWhatIf}
 use Rattle.propane_run.specs.declared.command.Command.{Command}
-use Rattle.propane_run.specs.declared.command.Command.TheVariants.{Compile, Evidence, Check, Explain, Replay, Trace, Sample, Migrate, Impact, RouteMap, CheckMap, Lint, Audit, Help, Version}
+use Rattle.propane_run.specs.declared.command.Command.TheVariants.{Compile, Evidence, Check, Explain, Replay, Trace, Sample, Migrate, Impact, RouteMap, CheckMap, Lint, Audit, Help, Version, Drain, Settle, Promises, WhatIf}
 use Rattle.propane_run.specs.Promises.{Promised}
 use Rattle.propane_run.specs.Run.{Comes}
+use Rattle.propane_run.proofs.ByCommand.Answered as answered
 use Rattle.propane_run.proofs.ByCommand.Audit as audit
 use Rattle.propane_run.proofs.ByCommand.Check as check
 use Rattle.propane_run.proofs.ByCommand.CheckMap as check_map
@@ -15,6 +22,7 @@ use Rattle.propane_run.proofs.ByCommand.Explain as explain
 use Rattle.propane_run.proofs.ByCommand.Impact as impact
 use Rattle.propane_run.proofs.ByCommand.Lint as lint
 use Rattle.propane_run.proofs.ByCommand.Migrate as migrate
+use Rattle.propane_run.proofs.ByCommand.Promises as promises
 use Rattle.propane_run.proofs.ByCommand.Replay as replay
 use Rattle.propane_run.proofs.ByCommand.RouteMap as route_map
 use Rattle.propane_run.proofs.ByCommand.Sample as sample
@@ -40,6 +48,10 @@ module _ {S : Type 0} (holds : Holds) (words : List (List ℕ)) (taken : S → O
   done Audit comes = audit.right holds words taken before now b written comes
   done (Help topic) comes = rw (out_is _ _ comes.says) at written
   done Version comes = rw (out_is _ _ comes.says) at written
+  done Drain comes = answered.right scenario_line scenario_spelled WritesDrain holds words Drain taken before now b written comes.is comes.bytes comes.held comes.says
+  done Settle comes = answered.right events_line events_spelled WritesSettlement holds words Settle taken before now b written comes.is comes.bytes comes.held comes.says
+  done Promises comes = promises.right holds words taken before now b written comes
+  done WhatIf comes = answered.right scenario_line scenario_spelled WritesWhatIf holds words WhatIf taken before now b written comes.is comes.bytes comes.held comes.says
 
   pub refused : (c : Command) → Refuses c → Comes holds words c (line Refused b) → Promised holds taken words c Refused before now
   refused RouteMap refuses comes = route_map.refused holds words taken before now b written comes
@@ -51,6 +63,10 @@ module _ {S : Type 0} (holds : Holds) (words : List (List ℕ)) (taken : S → O
   refused Trace refuses comes = compilers.refused holds words taken before now b written Trace refuses comes
   refused (Impact x) refuses comes = compilers.refused holds words taken before now b written (Impact x) refuses comes
   refused (Sample n) refuses comes = compilers.refused holds words taken before now b written (Sample n) refuses comes
+  refused Drain refuses comes = compilers.refused holds words taken before now b written Drain refuses comes
+  refused Settle refuses comes = compilers.refused holds words taken before now b written Settle refuses comes
+  refused Promises refuses comes = compilers.refused holds words taken before now b written Promises refuses comes
+  refused WhatIf refuses comes = compilers.refused holds words taken before now b written WhatIf refuses comes
   refused c refuses comes = absurd refuses
 
   pub failed : (c : Command) → Judges c → Comes holds words c (failing b) → Promised holds taken words c CheckFails before now

@@ -19,12 +19,12 @@ pub record AsksAudit (holds : Holds) (words : List (List ℕ)) (net : PlainNet) 
   pub asked : AsksFor holds words Audit net policy
   pub config_text : List ℕ
   pub evidence_text : List ℕ
-  pub scenario_reader : List ℕ
+  pub scenario_text : List ℕ
   pub tables_text : List ℕ
-  pub more : asked.more ≡ config_text ∷ evidence_text ∷ scenario_reader ∷ tables_text ∷ []
+  pub more : asked.more ≡ config_text ∷ evidence_text ∷ scenario_text ∷ tables_text ∷ []
   pub config_spelled : config_spelled_by config_text ≡ Ok audited.config
   pub evidence_spelled : evidence_spelled_by evidence_text ≡ Ok audited.evidence
-  pub scenario_spelled : scenario_spelled_by net scenario_reader ≡ Ok audited.scenario
+  pub scenario_spelled : scenario_spelled_by net scenario_text ≡ Ok audited.scenario
   pub tables_spelled : tables_spelled_by net tables_text ≡ Ok audited.routes
 
 -- `out` grew by exactly a text that says that the tables are stable, with their report. The evidence passes, and the tables are stable

@@ -3,7 +3,7 @@ use Rattle.std.specs.Prelude.{◌≡◌, ℕ, List, [], ◌∷◌, Option, Ok}
 use Rattle.net_base.specs.Network.{PlainNet}
 use Rattle.policy_base.specs.Policies.{PlainPolicy}
 use Rattle.config_base.specs.Configs.{PlainConfig}
-use Rattle.config_reader.specs.Text.{spelled as config_spelled_by}
+use Rattle.config_text.specs.Spelled.{Spells}
 use Rattle.evidence_base.specs.Made.{PlainCaseEvidence}
 use Rattle.evidence_text.specs.Spelled.{spelled as evidence_spelled_by}
 use Rattle.evidence_rules.specs.declared.rule.CheckRule.{CheckRule}
@@ -11,10 +11,9 @@ use Rattle.evidence_rules.specs.declared.verdict.Shown.{Shown}
 use Rattle.evidence_rules.specs.declared.verdict.Verdict.TheVariants.{Fails}
 use Rattle.evidence_rules.specs.Verdicts.{IsVerdict}
 use Rattle.outcome_base.specs.Right.{IsRight}
-use Rattle.evidence_law.specs.Passes.{Passes}
 use Rattle.propane_run.specs.declared.command.Command.TheVariants.{Check}
 use Rattle.propane_run.specs.Asked.{AsksFor}
-use Rattle.propane_run.specs.Headline.{HasOutcomes, IsKeptInMotion}
+use Rattle.propane_run.specs.Headline.{HasOutcomes}
 use Rattle.run_base.specs.Reading.{Holds}
 use Rattle.run_base.specs.Said.{Whole}
 use Rattle.check_job.specs.VerdictLines.{holds_line, fails_line}
@@ -26,11 +25,11 @@ pub record AsksOf (holds : Holds) (words : List (List ℕ)) (net : PlainNet) (po
   pub config_text : List ℕ
   pub evidence_text : List ℕ
   pub more : asked.more ≡ config_text ∷ evidence_text ∷ []
-  pub config_spelled : config_spelled_by config_text ≡ Ok config
+  pub config_spelled : Spells config_text config
   pub evidence_spelled : evidence_spelled_by evidence_text ≡ Ok evidence
 
--- `out` grew by exactly the line `holds`. The evidence that was asked of passes, and the configuration is right for the network
--- and the policy: under all failures, in every stable outcome, of which there is one whatever fails; and it is kept in motion.
+-- `out` grew by exactly the line `holds`. The configuration that was asked of is right for the network and the policy: under all
+-- failures, in every stable outcome, of which there is one whatever fails.
 pub record ChecksRight {O : Type 0} (holds : Holds) (taken : O → Option (List ℕ)) (words : List (List ℕ)) (out out' : O) : Type 0 where
   pub net : PlainNet
   pub policy : PlainPolicy
@@ -38,10 +37,8 @@ pub record ChecksRight {O : Type 0} (holds : Holds) (taken : O → Option (List 
   pub evidence : List PlainCaseEvidence
   pub asked : AsksOf holds words net policy config evidence
   pub written : Whole taken holds_line out out'
-  pub passes : Passes net policy config evidence
   pub right : IsRight net policy config
   pub outcomes : HasOutcomes net policy config
-  pub moving : IsKeptInMotion net policy config
 
 -- `out` grew by exactly the line of the first rule that fails of the evidence that was asked of, and of where it fails.
 pub record TellsFault {O : Type 0} (holds : Holds) (taken : O → Option (List ℕ)) (words : List (List ℕ)) (out out' : O) : Type 0 where

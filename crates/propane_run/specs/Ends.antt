@@ -22,7 +22,7 @@ use Rattle.route_maps.specs.OfConfig.{maps_of}
 use Rattle.run_base.specs.Reading.{Holds}
 use Rattle.stable_paths.specs.Scenarios.{failures_of}
 use Rattle.propane_run.specs.declared.command.Command.{Command}
-use Rattle.propane_run.specs.declared.command.Command.TheVariants.{Compile, Evidence, Check, Explain, Replay, Trace, Sample, Migrate, Impact, RouteMap, CheckMap, Lint, Audit, Help, Version}
+use Rattle.propane_run.specs.declared.command.Command.TheVariants.{Compile, Evidence, Check, Explain, Replay, Trace, Sample, Migrate, Impact, RouteMap, CheckMap, Lint, Audit, Help, Version, Drain, Settle, Promises, WhatIf}
 use Rattle.propane_run.specs.Asked.{AsksFor, IsFor}
 use Rattle.propane_run.specs.Auditing.{AsksAudit}
 use Rattle.propane_run.specs.Checking.{AsksOf}
@@ -76,3 +76,7 @@ module _ (holds : Holds) (words : List (List ℕ)) (Succeeds Fails : Type 0) (Re
       → (AreFew config → maps ≡ maps_of config → Succeeds) × (AreFew config → maps ≢ maps_of config → Fails) × (AreMany config → Refuses (many_line config))
   EndsRight (Help topic) = Succeeds
   EndsRight Version = Succeeds
+  EndsRight Drain = Compiles Drain
+  EndsRight Settle = Compiles Settle
+  EndsRight Promises = Compiles Promises
+  EndsRight WhatIf = Compiles WhatIf

@@ -33,7 +33,7 @@ pub record IsKeptInMotion (net : PlainNet) (policy : PlainPolicy) (config : Plai
   pub rests : AlwaysComesToRest net policy config
 
 -- `out` grew by exactly a text that spells a configuration. It is right for the network and the policy that were asked for:
--- under all failures, in every stable outcome, of which there is one whatever fails; and it is kept in motion.
+-- under all failures, in every stable outcome, of which there is one whatever fails.
 pub record CompilesRight {O : Type 0} (holds : Holds) (taken : O → Option (List ℕ)) (words : List (List ℕ)) (out out' : O) : Type 0 where
   pub net : PlainNet
   pub policy : PlainPolicy
@@ -44,7 +44,6 @@ pub record CompilesRight {O : Type 0} (holds : Holds) (taken : O → Option (Lis
   pub spelled : Spells bytes config
   pub right : IsRight net policy config
   pub outcomes : HasOutcomes net policy config
-  pub moving : IsKeptInMotion net policy config
 
 -- `out` grew by exactly the text of evidence. It passes for the configuration that is compiled with it from the network and the
 -- policy that were asked for, which is right for them.
@@ -58,4 +57,3 @@ pub record GivesEvidence {O : Type 0} (holds : Holds) (taken : O → Option (Lis
   pub compiled : IsCompiled net policy config evidence
   pub right : IsRight net policy config
   pub outcomes : HasOutcomes net policy config
-  pub moving : IsKeptInMotion net policy config

@@ -1,3 +1,4 @@
+pub mod Answering
 pub mod Asked
 pub mod Auditing
 pub mod Checking
@@ -11,6 +12,7 @@ pub mod Mapping
 pub mod Migrating
 pub mod Pairs
 pub mod Promises
+pub mod Promising
 pub mod Refusing
 pub mod Replaying
 pub mod Run

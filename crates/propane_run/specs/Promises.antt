@@ -2,21 +2,29 @@
 use Rattle.std.specs.Prelude.{◌⊎◌, ℕ, List, Option}
 use Rattle.evidence_base.specs.Made.{PlainCaseEvidence}
 use Rattle.compile_jobs.specs.Compiled.{IsCompiled}
+use Rattle.evidence_law.specs.Passes.{Passes}
+use Rattle.drain_job.specs.Drained.{WritesDrain}
+use Rattle.event_reader.specs.Spelled.{spelled as events_spelled}
 use Rattle.help_texts.specs.Pages.{help_text, version_text}
+use Rattle.scenario_reader.specs.Spelled.{spelled as scenario_spelled}
+use Rattle.settle_job.specs.Settles.{WritesSettlement}
+use Rattle.whatif_job.specs.WhatIfs.{WritesWhatIf}
 use Rattle.run_base.specs.declared.outcome.Status.{Status}
 use Rattle.run_base.specs.declared.outcome.Status.TheVariants.{Done, Refused, CheckFails}
 use Rattle.run_base.specs.Reading.{Holds}
 use Rattle.run_base.specs.Said.{Whole}
 use Rattle.propane_run.specs.declared.command.Command.{Command}
-use Rattle.propane_run.specs.declared.command.Command.TheVariants.{Compile, Evidence, Check, Explain, Replay, Trace, Sample, Migrate, Impact, RouteMap, CheckMap, Lint, Audit, Help, Version}
+use Rattle.propane_run.specs.declared.command.Command.TheVariants.{Compile, Evidence, Check, Explain, Replay, Trace, Sample, Migrate, Impact, RouteMap, CheckMap, Lint, Audit, Help, Version, Drain, Settle, Promises, WhatIf}
+use Rattle.propane_run.specs.Answering.{AnswersRight}
 use Rattle.propane_run.specs.Auditing.{AuditsRight, TellsAuditFault}
 use Rattle.propane_run.specs.Checking.{ChecksRight, TellsFault}
 use Rattle.propane_run.specs.Explaining.{ExplainsRight}
-use Rattle.propane_run.specs.Headline.{CompilesRight, GivesEvidence}
+use Rattle.propane_run.specs.Headline.{CompilesRight, GivesEvidence, IsKeptInMotion}
 use Rattle.propane_run.specs.Impacting.{ImpactsRight}
 use Rattle.propane_run.specs.Linting.{LintsRight, TellsLimit}
 use Rattle.propane_run.specs.Mapping.{MapsAgree, MapsRight, TellsDifference, TellsTooMany}
 use Rattle.propane_run.specs.Migrating.{MigratesRight}
+use Rattle.propane_run.specs.Promising.{PromisesRight}
 use Rattle.propane_run.specs.Refusing.{RefusesRight}
 use Rattle.propane_run.specs.Replaying.{ReplaysRight}
 use Rattle.propane_run.specs.Sampling.{Samples}
@@ -25,11 +33,14 @@ use Rattle.propane_run.specs.Tracing.{TracesRight}
 -- For a command and the status with which it ended: what the sink has taken that goes with the status, `out` with Done and CheckFails,
 -- and `err` with Refused. A command ends with none of the three that isn't listed for it.
 abbrev pub Promised : {S : Type 0} → Holds → (S → Option (List ℕ)) → List (List ℕ) → Command → Status → S → S → Type 0
-Promised holds taken words Compile Done s s' = (claim : CompilesRight holds taken words s s') × (evidence : List PlainCaseEvidence) × IsCompiled claim.net claim.policy claim.config evidence
+Promised holds taken words Compile Done s s' =
+    (claim : CompilesRight holds taken words s s') × (evidence : List PlainCaseEvidence) × IsCompiled claim.net claim.policy claim.config evidence
+    × IsKeptInMotion claim.net claim.policy claim.config
 Promised holds taken words Compile Refused s s' = RefusesRight holds taken words Compile s s'
-Promised holds taken words Evidence Done s s' = GivesEvidence holds taken words s s'
+Promised holds taken words Evidence Done s s' = (claim : GivesEvidence holds taken words s s') × IsKeptInMotion claim.net claim.policy claim.config
 Promised holds taken words Evidence Refused s s' = RefusesRight holds taken words Evidence s s'
-Promised holds taken words Check Done s s' = ChecksRight holds taken words s s'
+Promised holds taken words Check Done s s' =
+    (claim : ChecksRight holds taken words s s') × Passes claim.net claim.policy claim.config claim.evidence × IsKeptInMotion claim.net claim.policy claim.config
 Promised holds taken words Check CheckFails s s' = TellsFault holds taken words s s'
 Promised holds taken words Explain Done s s' = ExplainsRight holds taken words s s'
 Promised holds taken words Replay Done s s' = ReplaysRight holds taken words s s'
@@ -52,4 +63,12 @@ Promised holds taken words Audit Done s s' = AuditsRight holds taken words s s'
 Promised holds taken words Audit CheckFails s s' = TellsAuditFault holds taken words s s'
 Promised holds taken words (Help topic) Done s s' = Whole taken (help_text topic) s s'
 Promised holds taken words Version Done s s' = Whole taken version_text s s'
+Promised holds taken words Drain Done s s' = AnswersRight scenario_spelled WritesDrain holds taken words Drain s s'
+Promised holds taken words Drain Refused s s' = RefusesRight holds taken words Drain s s'
+Promised holds taken words Settle Done s s' = AnswersRight events_spelled WritesSettlement holds taken words Settle s s'
+Promised holds taken words Settle Refused s s' = RefusesRight holds taken words Settle s s'
+Promised holds taken words Promises Done s s' = PromisesRight holds taken words s s'
+Promised holds taken words Promises Refused s s' = RefusesRight holds taken words Promises s s'
+Promised holds taken words WhatIf Done s s' = AnswersRight scenario_spelled WritesWhatIf holds taken words WhatIf s s'
+Promised holds taken words WhatIf Refused s s' = RefusesRight holds taken words WhatIf s s'
 Promised holds taken words _ _ s s' = ⊥

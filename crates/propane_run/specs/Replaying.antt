@@ -9,6 +9,7 @@ use Rattle.outcome_base.specs.Right.{IsRight}
 use Rattle.settled_law.specs.Settled.{IsFullyStable}
 use Rattle.stable_paths.specs.declared.scenario.Scenario.{Scenario}
 use Rattle.stable_paths.specs.Scenarios.{failures_of}
+use Rattle.propane_run.specs.declared.command.Command.TheVariants.{Replay}
 use Rattle.propane_run.specs.Asked.{AsksUnder}
 use Rattle.compile_jobs.specs.Compiled.{IsCompiled}
 use Rattle.run_base.specs.Reading.{Holds}
@@ -22,7 +23,7 @@ pub record ReplaysRight {O : Type 0} (holds : Holds) (taken : O → Option (List
   pub net : PlainNet
   pub policy : PlainPolicy
   pub scenario : Scenario
-  pub asked : AsksUnder holds words net policy scenario
+  pub asked : AsksUnder holds words Replay net policy scenario
   pub config : PlainConfig
   pub evidence : List PlainCaseEvidence
   pub compiled : IsCompiled net policy config evidence

@@ -1,7 +1,7 @@
 -- What the words and the inputs come to.
 use Rattle.std.specs.Prelude.{◌≡◌, ℕ, List, Option, Some, None}
 use Rattle.propane_run.specs.declared.command.Command.{Command}
-use Rattle.propane_run.specs.declared.command.Command.TheVariants.{Compile, Evidence, Check, Explain, Replay, Trace, Impact, RouteMap, CheckMap, Lint, Audit, Migrate, Sample, Help, Version}
+use Rattle.propane_run.specs.declared.command.Command.TheVariants.{Compile, Evidence, Check, Explain, Replay, Trace, Impact, RouteMap, CheckMap, Lint, Audit, Migrate, Sample, Help, Version, Drain, Settle, Promises, WhatIf}
 use Rattle.propane_run.specs.Words.{names_read, usage, words_are}
 use Rattle.run_base.specs.Reading.{Holds, ReadsAll, AllHeld}
 use Rattle.input_texts.specs.Texts.{OfTwoTexts}
@@ -18,6 +18,10 @@ use Rattle.replay_job.specs.Replayed as replay
 use Rattle.compile_jobs.specs.Sampled.{SaysOfNumber}
 use Rattle.compile_jobs.specs.Written.{SaysOfPart}
 use Rattle.trace_job.specs.Traced as trace
+use Rattle.drain_job.specs.Drained as drain
+use Rattle.settle_job.specs.Settles as settle
+use Rattle.promises_job.specs.Promised as promises
+use Rattle.whatif_job.specs.WhatIfs as whatif
 use Rattle.run_base.specs.declared.outcome.Status.{Status}
 use Rattle.run_base.specs.Said.{Delivered, IsGiven, Said, text}
 
@@ -38,6 +42,10 @@ Job Lint = lint.SaysOfTexts
 Job Audit = audit.SaysOfTexts
 Job (Help topic) = λ bs what. what ≡ text (help_text topic)
 Job Version = λ bs what. what ≡ text version_text
+Job Drain = drain.SaysOfTexts
+Job Settle = settle.SaysOfTexts
+Job Promises = promises.SaysOfTexts
+Job WhatIf = whatif.SaysOfTexts
 
 abbrev pub IsAnswerOf : Holds → (List ℕ → Type 0) → List (List ℕ) → Option Command → Said → Type 0
 IsAnswerOf holds rose words None what = what ≡ usage

@@ -11,8 +11,10 @@ use Rattle.event_reader.specs.declared.events.Events.{Events}
 use Rattle.world_law.specs.Laws.{world_after}
 use Rattle.world_law.specs.Moments.{IsRightNow}
 use Rattle.rest_law.specs.Rest.{ComesToRest}
-use Rattle.world_law.specs.Scenarios.{IsScenarioOf, scenario_of}
+use Rattle.trace_job.specs.Traced.{scenario_in}
+use Rattle.world_law.specs.Scenarios.{IsScenarioOf}
 use Rattle.trace_lines.specs.Trace.{IsTraceOf}
+use Rattle.propane_run.specs.declared.command.Command.TheVariants.{Trace}
 use Rattle.propane_run.specs.Asked.{AsksOfEvents}
 use Rattle.compile_jobs.specs.Compiled.{IsCompiled}
 use Rattle.run_base.specs.Reading.{Holds}
@@ -20,12 +22,14 @@ use Rattle.run_base.specs.Said.{Whole}
 use Rattle.replay_job.specs.Replayed.{IsReplayed}
 
 -- `out` grew by exactly the trace of the events that were asked for, for the configuration that is compiled from the policy, which is
--- right. What it tells is allowed, also while messages wait, and the network comes to rest. Where no message waits after the events, what it tells of the routes is what `replay` says of each scenario of what has failed then.
+-- right. What it tells is allowed, also while messages wait, and the network comes to rest. What has failed after the events is a
+-- scenario; where no message waits then, what the trace tells of the routes is what `replay` says of this scenario, and of each other
+-- one of what has failed.
 pub record TracesRight {O : Type 0} (holds : Holds) (taken : O → Option (List ℕ)) (words : List (List ℕ)) (out out' : O) : Type 0 where
   pub net : PlainNet
   pub policy : PlainPolicy
   pub events : Events
-  pub asked : AsksOfEvents holds words net policy events
+  pub asked : AsksOfEvents holds words Trace net policy events
   pub config : PlainConfig
   pub evidence : List PlainCaseEvidence
   pub compiled : IsCompiled net policy config evidence
@@ -35,6 +39,6 @@ pub record TracesRight {O : Type 0} (holds : Holds) (taken : O → Option (List 
   pub traced : IsTraceOf net policy config events.prefix events.events bytes
   pub moment : IsRightNow net policy config events.prefix (world_after net policy config events.prefix events.events)
   pub rests : ComesToRest net policy config events.prefix
-  pub failed : IsScenarioOf net (world_after net policy config events.prefix events.events) (scenario_of net (world_after net policy config events.prefix events.events))
+  pub failed : IsScenarioOf net (world_after net policy config events.prefix events.events) (failures_of (scenario_in net events.prefix (world_after net policy config events.prefix events.events)))
   pub replayed : IsTrue traced.quiet → (scenario : Scenario) → events.prefix ≡ scenario.prefix
       → IsScenarioOf net (world_after net policy config events.prefix events.events) (failures_of scenario) → IsReplayed net policy config scenario traced.report

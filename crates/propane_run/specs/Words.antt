@@ -11,7 +11,7 @@ use Rattle.run_base.specs.declared.outcome.Status.TheVariants.{Usage}
 use Rattle.run_base.specs.Reading.{names_at}
 use Rattle.run_base.specs.Said.{Said, line}
 use Rattle.propane_run.specs.declared.command.Command.{Command}
-use Rattle.propane_run.specs.declared.command.Command.TheVariants.{Compile, Evidence, Check, Explain, Replay, Trace, Impact, RouteMap, CheckMap, Lint, Audit, Migrate, Sample, Help, Version}
+use Rattle.propane_run.specs.declared.command.Command.TheVariants.{Compile, Evidence, Check, Explain, Replay, Trace, Impact, RouteMap, CheckMap, Lint, Audit, Migrate, Sample, Help, Version, Drain, Settle, Promises, WhatIf}
 
 -- a number from 2 to 96, of at most two digits, without a leading zero
 abbrev pub sample_number : List ℕ → Option ℕ
@@ -52,6 +52,7 @@ with_two_names word =
     else if bytes_eq word (codes "routemap") then Some RouteMap
     else if bytes_eq word (codes "checkmap") then Some CheckMap
     else if bytes_eq word (codes "lint") then Some Lint
+    else if bytes_eq word (codes "promises") then Some Promises
     else None
 
 -- with three more words after it, of which the last may be a prefix
@@ -60,6 +61,9 @@ with_three_words word last =
     if bytes_eq word (codes "replay") then Some Replay
     else if bytes_eq word (codes "trace") then Some Trace
     else if bytes_eq word (codes "impact") then option_map (λ p. Impact p) (prefix_word last)
+    else if bytes_eq word (codes "drain") then Some Drain
+    else if bytes_eq word (codes "settle") then Some Settle
+    else if bytes_eq word (codes "whatif") then Some WhatIf
     else None
 
 -- with four names
@@ -96,6 +100,10 @@ name_count Lint = 2
 name_count Audit = 6
 name_count (Help topic) = 0
 name_count Version = 0
+name_count Drain = 3
+name_count Settle = 3
+name_count Promises = 2
+name_count WhatIf = 3
 
 -- their places in the words, in order: they follow the command's own word
 abbrev pub places_of : Command → List ℕ
@@ -116,4 +124,4 @@ names_read words c = names_at words (places_of c)
 
 -- what is said of words that are no command
 abbrev pub usage : Said
-usage = line Usage (codes "propane: usage: compile TOPO POLICY, evidence TOPO POLICY, check TOPO POLICY CONFIG EVIDENCE, explain TOPO POLICY, replay TOPO POLICY SCENARIO, trace TOPO POLICY EVENTS, sample N, migrate CONFIG, impact TOPO POLICY PREFIX, routemap TOPO POLICY, checkmap CONFIG MAPS, lint TOPO POLICY, audit TOPO POLICY CONFIG EVIDENCE SCENARIO TABLES, help [COMMAND], version\n")
+usage = line Usage (codes "propane: usage: compile TOPO POLICY, evidence TOPO POLICY, check TOPO POLICY CONFIG EVIDENCE, explain TOPO POLICY, replay TOPO POLICY SCENARIO, trace TOPO POLICY EVENTS, sample N, migrate CONFIG, impact TOPO POLICY PREFIX, routemap TOPO POLICY, checkmap CONFIG MAPS, lint TOPO POLICY, audit TOPO POLICY CONFIG EVIDENCE SCENARIO TABLES, help [COMMAND], version, drain TOPO POLICY SCENARIO, settle TOPO POLICY EVENTS, promises TOPO POLICY, whatif TOPO POLICY SCENARIO\n")

@@ -7,7 +7,7 @@ use net_base::{Prefix, read_length, read_prefix};
 
 /// What is said of words that are no command.
 pub const USAGE: &[u8] =
-    b"propane: usage: compile TOPO POLICY, evidence TOPO POLICY, check TOPO POLICY CONFIG EVIDENCE, explain TOPO POLICY, replay TOPO POLICY SCENARIO, trace TOPO POLICY EVENTS, sample N, migrate CONFIG, impact TOPO POLICY PREFIX, routemap TOPO POLICY, checkmap CONFIG MAPS, lint TOPO POLICY, audit TOPO POLICY CONFIG EVIDENCE SCENARIO TABLES, help [COMMAND], version\n";
+    b"propane: usage: compile TOPO POLICY, evidence TOPO POLICY, check TOPO POLICY CONFIG EVIDENCE, explain TOPO POLICY, replay TOPO POLICY SCENARIO, trace TOPO POLICY EVENTS, sample N, migrate CONFIG, impact TOPO POLICY PREFIX, routemap TOPO POLICY, checkmap CONFIG MAPS, lint TOPO POLICY, audit TOPO POLICY CONFIG EVIDENCE SCENARIO TABLES, help [COMMAND], version, drain TOPO POLICY SCENARIO, settle TOPO POLICY EVENTS, promises TOPO POLICY, whatif TOPO POLICY SCENARIO\n";
 
 // The places in the words at which the names of a command stand: they follow its own word.
 const PLACES: [u32; 6] = [1, 2, 3, 4, 5, 6];
@@ -45,6 +45,14 @@ pub enum Command {
     Help(Option<Topic>),
     /// `version`.
     Version,
+    /// `drain TOPO POLICY SCENARIO`.
+    Drain,
+    /// `settle TOPO POLICY EVENTS`.
+    Settle,
+    /// `promises TOPO POLICY`.
+    Promises,
+    /// `whatif TOPO POLICY SCENARIO`.
+    WhatIf,
 }
 
 impl Command {
@@ -61,8 +69,10 @@ impl Command {
             | Command::Impact(_)
             | Command::RouteMap
             | Command::CheckMap
-            | Command::Lint => 2,
-            Command::Replay | Command::Trace => 3,
+            | Command::Lint
+            | Command::Promises => 2,
+            Command::Replay | Command::Trace | Command::Drain | Command::Settle | Command::WhatIf =>
+                3,
             Command::Check => 4,
             Command::Audit => 6,
         }
@@ -142,6 +152,8 @@ fn of_two_names(word: &str) -> Option<Command>
         Some(Command::CheckMap)
     } else if word == "lint" {
         Some(Command::Lint)
+    } else if word == "promises" {
+        Some(Command::Promises)
     } else {
         None
     }
@@ -165,6 +177,12 @@ fn of_three_words(word: &str, last: &str) -> Option<Command>
         Some(Command::Trace)
     } else if word == "impact" {
         Some(Command::Impact(prefix_of(last)?))
+    } else if word == "drain" {
+        Some(Command::Drain)
+    } else if word == "settle" {
+        Some(Command::Settle)
+    } else if word == "whatif" {
+        Some(Command::WhatIf)
     } else {
         None
     }

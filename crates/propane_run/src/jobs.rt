@@ -10,16 +10,20 @@ use crate::command::Command;
 use audit_job::audit_texts;
 use check_job::check_texts;
 use compile_jobs::{Part, explain_texts, sample_summary, written_texts};
+use drain_job::drain_texts;
 use help_texts::{help, version};
 use impact_job::impact_texts;
 use lint_job::lint_texts;
 use map_jobs::{check_map_texts, route_map_texts};
 use migrate_job::migrate_text;
 use net_base::List;
+use promises_job::promises_texts;
 use replay_job::replay_texts;
 use run_base::Stop;
+use settle_job::settle_texts;
 use std::alloc::Global;
 use trace_job::trace_texts;
+use whatif_job::whatif_texts;
 
 // The text at a place.
 fn text(texts: &[List<u8>], place: usize) -> &[u8]
@@ -77,5 +81,9 @@ pub fn job(alloc: Global, command: &Command, texts: &[List<u8>]) -> Result<Vec<u
         ),
         Command::Help(topic) => written(alloc, help(topic)),
         Command::Version => written(alloc, version()),
+        Command::Drain => { drain_texts(alloc, text(texts, 0), text(texts, 1), text(texts, 2)) }
+        Command::Settle => { settle_texts(alloc, text(texts, 0), text(texts, 1), text(texts, 2)) }
+        Command::Promises => promises_texts(alloc, text(texts, 0), text(texts, 1)),
+        Command::WhatIf => { whatif_texts(alloc, text(texts, 0), text(texts, 1), text(texts, 2)) }
     }
 }

@@ -11,6 +11,7 @@ mod linted;
 mod mapped;
 mod memory;
 mod migrated;
+mod outlooks;
 mod plays;
 mod policies;
 mod refused;
@@ -104,7 +105,7 @@ fn tells(alloc: Global, topology: &[u8], policy: &[u8], line: &str) -> Result<bo
 const COMPILE: &[&str] = &["compile", "t.json", "p.propane"];
 
 const USAGE: &str =
-    "propane: usage: compile TOPO POLICY, evidence TOPO POLICY, check TOPO POLICY CONFIG EVIDENCE, explain TOPO POLICY, replay TOPO POLICY SCENARIO, trace TOPO POLICY EVENTS, sample N, migrate CONFIG, impact TOPO POLICY PREFIX, routemap TOPO POLICY, checkmap CONFIG MAPS, lint TOPO POLICY, audit TOPO POLICY CONFIG EVIDENCE SCENARIO TABLES, help [COMMAND], version
+    "propane: usage: compile TOPO POLICY, evidence TOPO POLICY, check TOPO POLICY CONFIG EVIDENCE, explain TOPO POLICY, replay TOPO POLICY SCENARIO, trace TOPO POLICY EVENTS, sample N, migrate CONFIG, impact TOPO POLICY PREFIX, routemap TOPO POLICY, checkmap CONFIG MAPS, lint TOPO POLICY, audit TOPO POLICY CONFIG EVIDENCE SCENARIO TABLES, help [COMMAND], version, drain TOPO POLICY SCENARIO, settle TOPO POLICY EVENTS, promises TOPO POLICY, whatif TOPO POLICY SCENARIO
 ";
 
 // One run: its words, the calls that fail, the status, and what `out` and `err` took.

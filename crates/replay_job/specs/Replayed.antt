@@ -1,17 +1,19 @@
 -- What `replay` says of a network, a policy and a scenario.
-use Rattle.std.specs.Prelude.{◌≡◌, ℕ, List, [], ◌∷◌, length}
+use Rattle.std.specs.Prelude.{◌≡◌, ℕ, List, length}
 use Rattle.net_base.specs.Network.{PlainNet}
 use Rattle.policy_base.specs.Policies.{PlainPolicy}
 use Rattle.config_base.specs.Configs.{PlainConfig}
 use Rattle.evidence_base.specs.Made.{PlainCaseEvidence}
 use Rattle.outcome_base.specs.Outcomes.{Outcome}
 use Rattle.report_lines.specs.Report.{IsReportOf}
+use Rattle.scenario_reader.specs.Spelled.{spelled as scenario_spelled}
 use Rattle.settled_law.specs.Settled.{IsFullyStable}
 use Rattle.stable_paths.specs.declared.scenario.Scenario.{Scenario}
 use Rattle.stable_paths.specs.Scenarios.{failures_of}
-use Rattle.compile_jobs.specs.Compiling.{SaysOfCompiled}
+use Rattle.compile_jobs.specs.Compiling.{SaysOfCompiled, SaysOfThree}
 use Rattle.run_base.specs.Said.{Said}
-use Rattle.input_texts.specs.Texts.{OfAllTexts, OfScenarioText}
+use Rattle.input_texts.specs.FaultLines.{scenario_line}
+use Rattle.input_texts.specs.Texts.{OfScenarioText}
 
 -- The text is the report of an outcome of the scenario's prefix, which is stable under its failures, with ties broken.
 pub record IsReplayed (net : PlainNet) (policy : PlainPolicy) (config : PlainConfig) (scenario : Scenario) (bytes : List ℕ) : Type 0 where
@@ -30,13 +32,8 @@ SaysOfScenario net policy scenario = SaysOfCompiled (WritesReport net policy sce
 
 -- what is said of the text of a scenario, for a network and a policy
 abbrev pub SaysOfPolicy : List ℕ → PlainNet → PlainPolicy → Said → Type 0
-SaysOfPolicy scenario_reader net policy what = OfScenarioText (SaysOfScenario net policy) net scenario_reader what
-
--- where these are the texts after the first two
-abbrev pub SaysOfMore : List (List ℕ) → PlainNet → PlainPolicy → Said → Type 0
-SaysOfMore (scenario_reader ∷ []) = SaysOfPolicy scenario_reader
-SaysOfMore _ = λ net policy what. ⊥
+SaysOfPolicy scenario_text net policy what = OfScenarioText (SaysOfScenario net policy) net scenario_text what
 
 -- and of three texts
 abbrev pub SaysOfTexts : List (List ℕ) → Said → Type 0
-SaysOfTexts = OfAllTexts SaysOfMore
+SaysOfTexts = SaysOfThree scenario_line scenario_spelled WritesReport

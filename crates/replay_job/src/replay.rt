@@ -35,7 +35,7 @@ fn settled_text(
 }
 
 // What the text of a scenario comes to.
-fn scenario_reader(
+fn scenario_text(
     alloc: Global,
     net: &Net,
     policy: &Policy,
@@ -63,5 +63,5 @@ pub fn replay_texts(
 {
     let net = net_of(alloc, topology)?;
     let policy = policy_for(alloc, &net, policy)?;
-    scenario_reader(alloc, &net, &policy, scenario)
+    scenario_text(alloc, &net, &policy, scenario)
 }

@@ -21,7 +21,7 @@ use Rattle.settled_law.proofs.Fully.{names_differ}
 use Rattle.settled_law.proofs.SettledLaw.{case_or_bare, settled_outcomes_are_one}
 use Rattle.event_base.specs.declared.event.Event.{Event}
 use Rattle.event_base.specs.Speaking.{extended, speakers_of, taken_by}
-use Rattle.event_base.specs.Steps.{opening, run}
+use Rattle.event_base.specs.Steps.{IsQuiet, opening, run}
 use Rattle.event_base.specs.World.{Speakers, World}
 use Rattle.rounds_law.specs.Orders.{at_rest, rests}
 use Rattle.event_law.proofs.Keeping.{opening-keeps, run-keeps}
@@ -44,6 +44,7 @@ use Rattle.world_law.proofs.First.{NoLater}
 use Rattle.rest_law.proofs.Choosers.{are_choosers}
 use Rattle.rest_law.proofs.Ending.{HasOrder, messages_end_on_networks, run_on}
 use Rattle.rest_law.specs.Rest.{ComesToRest, IsAtRest, PassingEvidenceComesToRest, rounds_enough}
+use Rattle.rest_law.specs.Ways.{each_way}
 use Rattle.rest_law.proofs.OfGraph.{are_of_graph, route_of, setup}
 
 module _ (net : PlainNet) (policy : PlainPolicy) (config : PlainConfig) (p : PlainPrefix) (rules : IsNet net) (w : World Route) where
@@ -92,18 +93,14 @@ same_scenario net w v f same scenario = record {
   silent = λ r q t. scenario.silent r q t ∙ ap (λ (d : ℕ → ℕ → Bool). d r q) (sym same.silent);
 }
 
-still_scenario : (net : PlainNet) (policy : PlainPolicy) (config : PlainConfig) (p : PlainPrefix) (es : List Event) (f : Failures) (ds : List (ℕ × ℕ)) → IsScenarioOf net (world_after net policy config p es) f → IsScenarioOf net (world_after net policy config p (es ++ deliveries ds)) f
+pub still_scenario : (net : PlainNet) (policy : PlainPolicy) (config : PlainConfig) (p : PlainPrefix) (es : List Event) (f : Failures) (ds : List (ℕ × ℕ)) → IsScenarioOf net (world_after net policy config p es) f → IsScenarioOf net (world_after net policy config p (es ++ deliveries ds)) f
 still_scenario net policy config p es f ds scenario =
     let S = speakers_of net policy config p in
     let w : World Route = world_after net policy config p es in
     subst (λ (v : World Route). IsScenarioOf net v f) (run_on S es (deliveries ds) (opening S)) (same_scenario net w (run S (deliveries ds) w) f (same_run S ds w w (same_self S w)) scenario)
 
--- each link, both ways
-abbrev each_way : List (ℕ × ℕ) → List (ℕ × ℕ)
-each_way [] = []
-each_way (l ∷ ls) = l ∷ (l.1, l.0) ∷ each_way ls
-
-ways_listed : (links : List (ℕ × ℕ)) (a b : ℕ) → list_any (joins a b) links ≡ true → Lists (each_way links) a b
+-- the directions of linked locations are listed
+pub ways_listed : (links : List (ℕ × ℕ)) (a b : ℕ) → list_any (joins a b) links ≡ true → Lists (each_way links) a b
 ways_listed [] a b h = absurd (true≢false (sym h))
 ways_listed (l ∷ ls) a b h = elim (or_cases (joins a b l) (list_any (joins a b) ls) h) [
   | inl here ↦ elim (joins_ends a b l here) [
@@ -123,10 +120,9 @@ module _ (net : PlainNet) (policy : PlainPolicy) (config : PlainConfig) (cs : Li
   abbrev after : List (ℕ × ℕ) → World Route
   after ds = world_after net policy config p (es ++ deliveries ds)
 
-  rest_after : (f : Failures) (ds : List (ℕ × ℕ)) → IsScenarioOf net before f → AreRounds Here (rounds_enough net) before ds → IsAtRest net policy config p f (after ds)
-  rest_after f ds scenario rounds =
-      let has = has_order net policy config cs rules kept passes p prefix before (scenario_of net before) (worlds_have_scenarios net policy config p es rules) in
-      let quiet = (messages_end_on_networks net policy config p es has.0 ds rules has.1 rounds).0 in
+  -- where no message waits, all is at rest
+  pub rest_of_quiet : (f : Failures) (ds : List (ℕ × ℕ)) → IsScenarioOf net before f → IsQuiet (after ds) → IsAtRest net policy config p f (after ds)
+  rest_of_quiet f ds scenario quiet =
       let still = still_scenario net policy config p es f ds scenario in
       let settled = quiet_worlds_are_settled net policy config p (es ++ deliveries ds) f rules quiet still in
       record {
@@ -135,6 +131,11 @@ module _ (net : PlainNet) (policy : PlainPolicy) (config : PlainConfig) (cs : Li
         alone = λ other size full. settled_outcomes_are_one net policy config cs rules kept passes p f prefix other (routes_of net (after ds)) size (routes_size net (after ds)) full settled;
         heard = λ r peer router at_peer. peers_hear_offers net policy config cs rules kept passes p prefix (es ++ deliveries ds) f quiet still r peer router at_peer;
       }
+
+  rest_after : (f : Failures) (ds : List (ℕ × ℕ)) → IsScenarioOf net before f → AreRounds Here (rounds_enough net) before ds → IsAtRest net policy config p f (after ds)
+  rest_after f ds scenario rounds =
+      let has = has_order net policy config cs rules kept passes p prefix before (scenario_of net before) (worlds_have_scenarios net policy config p es rules) in
+      rest_of_quiet f ds scenario (messages_end_on_networks net policy config p es has.0 ds rules has.1 rounds).0
 
   speak : AreSpeakers Here
   speak = are_speakers net policy config p rules

@@ -40,7 +40,7 @@ fn open_steps(
 }
 
 /// The part of a graph that is left.
-pub(crate) fn open_graph(
+pub fn open_graph(
     alloc: Global,
     net: &Net,
     survivors: &Survivors,

@@ -4,4 +4,5 @@
 mod left;
 mod outcome;
 
-pub use outcome::settle;
+pub use left::open_graph;
+pub use outcome::{settle, settle_left};

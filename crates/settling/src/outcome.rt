@@ -7,9 +7,11 @@ ghost use Rattle.graph_settling.specs.Best.{entry_at};
 ghost use Rattle.net_base.specs.Sets.{holds};
 ghost use Rattle.policy_base.specs.Policies.{IsPolicyOf, policy_of};
 ghost use Rattle.evidence_law.specs.Passes.{Passes};
+ghost use Rattle.outcome_base.specs.Outcomes.{Failures};
 ghost use Rattle.settled_law.specs.Settled.{IsFullyStable};
 ghost use Rattle.settling.specs.Outcomes.{AreSettled, case_of as case_of_class, held_by, tagged as with_tag};
 ghost use Rattle.stable_paths.specs.Scenarios.{failures_of};
+ghost use Rattle.stable_paths.specs.Surviving.{AreSurvivors};
 
 use crate::left::{choosers, open_graph};
 use config_base::{Config, NO_TAG, Route, class_of, own_tag};
@@ -154,9 +156,37 @@ fn with_origins(
     Ok(routes)
 }
 
-/// The settled outcome of a scenario: it is stable, and each router that isn't an origin holds the first of all routes that it is given,
-/// by preference, then by the fewest AS numbers, then by the lowest identifier of the neighbour (RFC 4271, 9.1.2.2). There is one such
-/// outcome: `settled_law::settled_outcomes_are_one`.
+/// The settled outcome of a prefix, by what failures leave: it is stable, and each router that isn't an origin holds the first of all
+/// routes that it is given, by preference, then by the fewest AS numbers, then by the lowest identifier of the neighbour (RFC 4271,
+/// 9.1.2.2). There is one such outcome: `settled_law::settled_outcomes_are_one`.
+pub fn settle_left(
+    alloc: Global,
+    net: &Net,
+    policy: &Policy,
+    config: &Config,
+    evidence: &Evidence,
+    survivors: &Survivors,
+    prefix: Prefix,
+) -> Result<Outcome, NoMemory>
+    requires fits { IsPolicyOf net.now (policy_of policy.now) }
+    requires passes { Passes net.now (policy_of policy.now) config.now evidence.now.cases }
+    ensures size { IfOk result (λ outcome. length outcome.routes ≡ length net.now.routers) }
+    ensures settled { IfOk result (λ outcome. (f : Failures) → AreSurvivors net.now f survivors.now → IsFullyStable net.now (policy_of policy.now) config.now f prefix outcome.routes) }
+{
+    known_net(net);
+    known_prefix(prefix);
+    let origins = origins_at(net, policy, prefix);
+    let others = match case_of(config, evidence, prefix) {
+        None => no_routes(alloc, net.routers().len())?,
+        Some(case) => case_routes(alloc, net, case, survivors, &origins)?,
+    };
+    let routes = with_origins(alloc, net, config, survivors, &origins, prefix, others)?;
+    Ok(Outcome {
+        routes: List::from_vec(routes),
+    })
+}
+
+/// The settled outcome of a scenario.
 pub fn settle(
     alloc: Global,
     net: &Net,
@@ -170,17 +200,14 @@ pub fn settle(
     ensures size { IfOk result (λ outcome. length outcome.routes ≡ length net.now.routers) }
     ensures settled { IfOk result (λ outcome. IsFullyStable net.now (policy_of policy.now) config.now (failures_of scenario.now) scenario.now.prefix outcome.routes) }
 {
-    let prefix = scenario.prefix;
-    known_net(net);
-    known_prefix(prefix);
     let survivors = Survivors::new(net, scenario);
-    let origins = origins_at(net, policy, prefix);
-    let others = match case_of(config, evidence, prefix) {
-        None => no_routes(alloc, net.routers().len())?,
-        Some(case) => case_routes(alloc, net, case, &survivors, &origins)?,
-    };
-    let routes = with_origins(alloc, net, config, &survivors, &origins, prefix, others)?;
-    Ok(Outcome {
-        routes: List::from_vec(routes),
-    })
+    settle_left(
+        alloc,
+        net,
+        policy,
+        config,
+        evidence,
+        &survivors,
+        scenario.prefix,
+    )
 }

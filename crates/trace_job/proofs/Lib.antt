@@ -1,3 +1,3 @@
-pub mod EventPrefixes
+pub mod Failed
 pub mod Replays
 pub mod TraceLaws

@@ -8,6 +8,6 @@ mod reporting;
 mod tracing;
 
 pub use happening::happen;
-pub use refused::Refused;
-pub use reporting::trace_report;
+pub use refused::{Refused, push_each_refused};
+pub use reporting::{Standing, trace_report};
 pub use tracing::trace;

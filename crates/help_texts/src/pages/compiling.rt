@@ -34,9 +34,9 @@ example
 pub const EVIDENCE: &str = "usage: propane evidence TOPO POLICY
 
 Compiles the policy as compile does, and writes the evidence that the
-configuration keeps it: for each case of the policy the ways to stand in the
-network and the steps between them, each way with its rank, its preference and
-its tag. It passes check with what compile writes of the same texts.
+configuration keeps it: for each case of the policy a graph of nodes and steps,
+each node with its rank, its preference and its tag. It passes check with what
+compile writes of the same texts.
 
 reads
   TOPO    a topology text: routers, peers and links

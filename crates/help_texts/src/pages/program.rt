@@ -22,6 +22,10 @@ commands
   audit     tell whether recorded routes are stable and right
   help      write these lines, or how one command is used
   version   write the version of the program
+  drain     tell which links and routers carry nothing now
+  settle    tell what the network comes to rest in after a list of events
+  promises  tell what a policy promises, to whom, and to whom not
+  whatif    tell what one more dead link or router changes, from here
 
 propane help COMMAND writes how a command is used. Words that are no command
 end with status 2 and one line on the error output.
@@ -73,6 +77,6 @@ example
 ";
 
 /// The name, the version and the kit.
-pub const VERSION: &str = "propane 1.0.0
+pub const VERSION: &str = "propane 1.1.0
 kit rattle-kit-13f
 ";

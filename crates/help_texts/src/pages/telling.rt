@@ -92,3 +92,126 @@ example
   cd examples/two-exits
   propane impact topology.json policy.propane 198.51.100.0/24
 ";
+
+/// How `drain` is used.
+pub const DRAIN: &str = "usage: propane drain TOPO POLICY SCENARIO
+
+Compiles the policy, lets the routers, links and peer sessions of the scenario
+fail, and tells which of the links and routers that live carry nothing for its
+prefix: where such a one fails next, every other router keeps its route, and
+every peer is offered what it is offered now. No message is sent.
+
+reads
+  TOPO      a topology text: routers, peers and links
+  POLICY    a policy text for that network
+  SCENARIO  a scenario text: what fails, and the prefix
+
+writes
+  output        the prefix, its class, a line for each link and router that is
+                free, and their number of those that live
+  error output  on status 1, 3 and 4 one line that says why
+
+status
+  0  the lines are written
+  1  the policy is refused
+  3  an input is too long, or no text of its kind
+  4  an input cannot be read
+  5  the output, or the line, cannot be written whole
+  6  memory is refused; nothing is written
+
+example
+  cd examples/two-exits
+  propane drain topology.json policy.propane dead-link.json
+";
+
+/// How `settle` is used.
+pub const SETTLE: &str = "usage: propane settle TOPO POLICY EVENTS
+
+Compiles the policy, lets the events happen one after another as trace does, and
+then delivers messages round by round until none waits: in each round all that
+wait at its beginning. It tells how many rounds and deliveries that took, and
+what each router then holds. Networks that run what is compiled always come to
+rest, in one outcome: what replay tells of what has failed then.
+
+reads
+  TOPO    a topology text: routers, peers and links
+  POLICY  a policy text for that network
+  EVENTS  an event text: what happens, and the prefix
+
+writes
+  output        a line for each event that cannot happen, the rounds, the
+                deliveries, and then the lines of replay
+  error output  on status 1, 3 and 4 one line that says why
+
+status
+  0  the lines are written
+  1  the policy is refused
+  3  an input is too long, or no text of its kind
+  4  an input cannot be read
+  5  the output, or the line, cannot be written whole
+  6  memory is refused; nothing is written
+
+example
+  cd examples/two-exits
+  propane settle topology.json policy.propane flap-begins.json
+";
+
+/// How `promises` is used.
+pub const PROMISES: &str = "usage: propane promises TOPO POLICY
+
+Compiles the policy, and tells of each of its cases what is promised and to
+whom: its prefixes and origins, the sources that may rely on it with the best
+rank of each while nothing has failed, and the routers, sessions and peers to
+which nothing is promised. Transit routers carry the prefix and may not rely on
+it. Prefixes that are originated and that no statement governs are uncarried.
+
+reads
+  TOPO    a topology text: routers, peers and links
+  POLICY  a policy text for that network
+
+writes
+  output        the lines of each case, the uncarried prefixes, and the counts
+  error output  on status 1, 3 and 4 one line that says why
+
+status
+  0  the lines are written
+  1  the policy is refused
+  3  an input is too long, or no text of its kind
+  4  an input cannot be read
+  5  the output, or the line, cannot be written whole
+  6  memory is refused; nothing is written
+
+example
+  cd examples/two-exits
+  propane promises topology.json policy.propane
+";
+
+/// How `whatif` is used.
+pub const WHATIF: &str = "usage: propane whatif TOPO POLICY SCENARIO
+
+Tells what one more failure changes, besides those of the scenario: for each
+source that the policy claims for its prefix the best rank now; and for each
+link and router that lives, and whose failure changes something, how many other
+routers then hold another route, and the sources with another best rank.
+
+reads
+  TOPO      a topology text: routers, peers and links
+  POLICY    a policy text for that network
+  SCENARIO  a scenario text: what has failed, and the prefix
+
+writes
+  output        the prefix, its class, the ranks, the changes and their number
+  error output  on status 1, 3 and 4 one line that says why
+
+status
+  0  the lines are written
+  1  the policy is refused
+  3  an input is too long, or no text of its kind
+  4  an input cannot be read
+  5  the output, or the line, cannot be written whole
+  6  memory is refused; nothing is written
+
+example
+  cd examples/two-exits
+  propane whatif topology.json policy.propane p1-silent.json
+";

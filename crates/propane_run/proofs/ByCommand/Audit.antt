@@ -5,7 +5,7 @@ use Rattle.outside.specs.Outside.{Rose}
 use Rattle.outcome_base.specs.Outcomes.{IsStable}
 use Rattle.policy_base.specs.Policies.{PlainPolicy}
 use Rattle.evidence_law.specs.Passes.{Passes}
-use Rattle.replay_job.proofs.Scenarios.{spelled_prefix}
+use Rattle.scenario_reader.proofs.ReadPrefixes.{spelled_prefix}
 use Rattle.stable_paths.specs.Scenarios.{failures_of}
 use Rattle.evidence_rules.specs.declared.verdict.Verdict.{Verdict}
 use Rattle.evidence_rules.specs.declared.verdict.Verdict.TheVariants as verdict
@@ -61,7 +61,7 @@ module _ (holds : Holds) (words : List (List ℕ)) where
         let f = said_for holds (names_read words c) (text b) (λ x. cc) comes.bytes comes.held comes.says in
         let rules = net_of_spelled f.asked.spell in
         let fits = policy_of_spelled f.asked.spell in
-        let prefix = spelled_prefix f.net f.asked.scenario_reader f.audited.scenario f.asked.scenario_spelled in
+        let prefix = spelled_prefix f.net f.asked.scenario_text f.audited.scenario f.asked.scenario_spelled in
         let size = spelled_size f.net f.asked.tables_text f.audited.routes f.asked.tables_spelled in
         record {
           net = f.net;

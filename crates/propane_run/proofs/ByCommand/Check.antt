@@ -1,9 +1,12 @@
 -- What a run of `check` has written: that evidence holds, or the first rule that fails.
-use Rattle.std.proofs.Common.{◌≡◌, ◌≢◌, ◌⊎◌, ℕ, List, Option, inl, inr, ap, subst, ◌∙◌}
+use Rattle.std.proofs.Common.{◌≡◌, ◌≢◌, ◌⊎◌, ℕ, List, ◌∷◌, Option, inl, inr, ap, subst, ◌∙◌, arith}
 use Rattle.net_base.specs.Network.{PlainNet}
 use Rattle.outside.specs.Outside.{Rose}
 use Rattle.policy_base.specs.Policies.{PlainPolicy}
 use Rattle.config_base.specs.Configs.{PlainConfig}
+use Rattle.config_lines.specs.declared.edition.Edition.TheVariants.{Second}
+use Rattle.config_reader.proofs.ReadTexts.{read_is_spelled}
+use Rattle.config_reader.proofs.TakenTexts.{spelled_is_read}
 use Rattle.evidence_base.specs.Made.{PlainCaseEvidence}
 use Rattle.evidence_rules.specs.declared.verdict.Verdict.{Verdict}
 use Rattle.evidence_rules.specs.declared.verdict.Verdict.TheVariants as verdict
@@ -14,7 +17,7 @@ use Rattle.evidence_law.proofs.RightLaw.{passing_evidence_is_right}
 use Rattle.evidence_law.specs.Passes.{Passes}
 use Rattle.run_base.specs.declared.outcome.Status.{Status}
 use Rattle.run_base.specs.declared.outcome.Status.TheVariants.{BadInput, Done, NoMemory, CheckFails}
-use Rattle.run_base.specs.Reading.{Holds, SaidOfTold}
+use Rattle.run_base.specs.Reading.{Holds, AllHeld, SaidOfTold}
 use Rattle.run_base.specs.Said.{Said, text, failing, Whole, Delivered}
 use Rattle.run_base.proofs.Jobs.{status_is, out_is}
 use Rattle.run_base.proofs.Sent.{Gives, text_sent, failing_sent}
@@ -26,6 +29,7 @@ use Rattle.check_job.proofs.CheckLaws.{of_more}
 use Rattle.propane_run.specs.declared.command.Command.{Command}
 use Rattle.propane_run.specs.declared.command.Command.TheVariants.{Check}
 use Rattle.propane_run.specs.Checking.{AsksOf, ChecksRight, TellsFault}
+use Rattle.propane_run.specs.Headline.{IsKeptInMotion}
 use Rattle.propane_run.specs.Run.{Job, Comes}
 use Rattle.propane_run.specs.Words.{names_read}
 use Rattle.propane_run.proofs.Asking.{asks_for, spells}
@@ -59,30 +63,37 @@ module _ (holds : Holds) (words : List (List ℕ)) where
           config_text = m.config_text;
           evidence_text = m.evidence_text;
           more = m.more_is;
-          config_spelled = m.of.config_spelled;
+          config_spelled =
+              let held = subst (λ (more : List (List ℕ)). AllHeld holds (names_read words c) (f.spell.topology ∷ f.spell.policy_text ∷ more)) m.more_is f.spell.held in
+              read_is_spelled Second m.config_text m.of.config (omega (arith, held.1.1.0.within)) m.of.config_spelled;
           evidence_spelled = m.of.evidence_spelled;
         };
         says = m.of.says;
       }
 
   module _ {S : Type 0} (taken : S → Option (List ℕ)) (before now : S) (b : List ℕ) (written : Whole taken b before now) where
+    -- the claim, that the evidence passes, and that the configuration is kept in motion
+    abbrev pub Held : Type 0
+    Held = (claim : ChecksRight holds taken words before now) × Passes claim.net claim.policy claim.config claim.evidence × IsKeptInMotion claim.net claim.policy claim.config
+
     module _ (net : PlainNet) (policy : PlainPolicy) (config : PlainConfig) (evidence : List PlainCaseEvidence) (asks : AsksOf holds words net policy config evidence) where
-      holds_of : (v : Verdict) → IsVerdict net policy config evidence v → text b ≡ verdict_said v → ChecksRight holds taken words before now
+      holds_of : (v : Verdict) → IsVerdict net policy config evidence v → text b ≡ verdict_said v → Held
       holds_of (verdict.Fails rule shown) h is = absurd (let s = status_is _ _ is in cc)
       holds_of verdict.Holds passes is =
-          let spell = spells holds words c net policy asks.asked in
-          record {
-            net = net;
-            policy = policy;
-            config = config;
-            evidence = evidence;
-            asked = asks;
-            written = rw (out_is _ _ is) at written;
-            passes = passes;
-            right = passing_evidence_is_right net policy config evidence (net_of_spelled spell) (policy_of_spelled spell) passes;
-            outcomes = stable_outcomes_exist net policy config evidence (net_of_spelled spell) (policy_of_spelled spell) passes;
-            moving = kept_in_motion net policy config evidence (net_of_spelled spell) (policy_of_spelled spell) passes;
-          }
+          let spell = spells holds words c net policy asks.asked in (
+            record {
+              net = net;
+              policy = policy;
+              config = config;
+              evidence = evidence;
+              asked = asks;
+              written = rw (out_is _ _ is) at written;
+              right = passing_evidence_is_right net policy config evidence (net_of_spelled spell) (policy_of_spelled spell) passes;
+              outcomes = stable_outcomes_exist net policy config evidence (net_of_spelled spell) (policy_of_spelled spell) passes;
+            },
+            passes,
+            kept_in_motion net policy config evidence (net_of_spelled spell) (policy_of_spelled spell) passes,
+          )
 
       fails_of : (v : Verdict) → IsVerdict net policy config evidence v → failing b ≡ verdict_said v → TellsFault holds taken words before now
       fails_of verdict.Holds h is = absurd (let s = status_is _ _ is in cc)
@@ -99,7 +110,7 @@ module _ (holds : Holds) (words : List (List ℕ)) where
       }
 
     -- where it says that the evidence holds, it does
-    pub right : Comes holds words c (text b) → ChecksRight holds taken words before now
+    pub right : Comes holds words c (text b) → Held
     right comes = let f = said_for (text b) (λ x. cc) comes in holds_of f.net f.policy f.config f.evidence f.asked f.says.0 f.says.1 f.says.2
 
     -- and where it says that a rule fails, it does
@@ -112,7 +123,7 @@ module _ (holds : Holds) (words : List (List ℕ)) where
     told_says : (wanted : Said) → SaidOfTold holds (names_read words c) (Job c) wanted → SaysOfPair net policy config evidence wanted
     told_says wanted said =
         let P : List (List ℕ) → Type 0 = λ more. SaysOfMore more net policy wanted in
-        at_pair (SaysOfPair net policy) asks.config_text asks.evidence_text config evidence wanted asks.config_spelled asks.evidence_spelled
+        at_pair (SaysOfPair net policy) asks.config_text asks.evidence_text config evidence wanted (spelled_is_read Second asks.config_text config asks.config_spelled) asks.evidence_spelled
         (subst P asks.more (texts_told SaysOfMore holds (names_read words c) net policy wanted (spells holds words c net policy asks.asked) said))
 
     module _ {O E : Type 0} (ot : O → Option (List ℕ)) (of : O → ℕ) (et : E → Option (List ℕ)) (ef : E → ℕ) (out out' : O) (err err' : E) (ended : Status) (calm : Rose (of out) (of out') → ⊥) where

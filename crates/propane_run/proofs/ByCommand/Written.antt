@@ -20,7 +20,7 @@ use Rattle.compile_jobs.specs.declared.written.Part.TheVariants as part
 use Rattle.compile_jobs.specs.Compiled.{IsCompiled}
 use Rattle.compile_jobs.specs.Written.{SaysOfPart}
 use Rattle.propane_run.specs.declared.command.Command.TheVariants.{Compile, Evidence}
-use Rattle.propane_run.specs.Headline.{CompilesRight, GivesEvidence}
+use Rattle.propane_run.specs.Headline.{CompilesRight, GivesEvidence, IsKeptInMotion}
 use Rattle.propane_run.specs.Pairs.{ArePair}
 use Rattle.propane_run.specs.Run.{Comes}
 use Rattle.propane_run.specs.Words.{names_read}
@@ -28,9 +28,15 @@ use Rattle.propane_run.proofs.Asking.{asks_for}
 use Rattle.propane_run.proofs.Moving.{kept_in_motion}
 
 module _ {S : Type 0} (holds : Holds) (words : List (List ℕ)) (taken : S → Option (List ℕ)) (before now : S) (b : List ℕ) (written : Whole taken b before now) where
-  -- the claim, and the evidence that passes
+  -- the claim, the evidence that passes, and that it is kept in motion
   abbrev pub Claimed : Type 0
-  Claimed = (claim : CompilesRight holds taken words before now) × (evidence : List PlainCaseEvidence) × IsCompiled claim.net claim.policy claim.config evidence
+  Claimed =
+      (claim : CompilesRight holds taken words before now) × (evidence : List PlainCaseEvidence) × IsCompiled claim.net claim.policy claim.config evidence
+      × IsKeptInMotion claim.net claim.policy claim.config
+
+  -- the evidence, and the same
+  abbrev pub Given : Type 0
+  Given = (claim : GivesEvidence holds taken words before now) × IsKeptInMotion claim.net claim.policy claim.config
 
   claim_of : Comes holds words Compile (text b) → (net : PlainNet) (policy : PlainPolicy) → SpellFor holds (names_read words Compile) net policy → SaysOfPart part.Config net policy (text b) → Claimed
   claim_of comes net policy spell (inr h) = absurd (let s = status_is _ _ h.2 in cc)
@@ -45,10 +51,10 @@ module _ {S : Type 0} (holds : Holds) (words : List (List ℕ)) (taken : S → O
       spelled = h.4;
       right = passing_evidence_is_right net policy h.0 h.1 (net_of_spelled spell) (policy_of_spelled spell) h.3.1;
       outcomes = stable_outcomes_exist net policy h.0 h.1 (net_of_spelled spell) (policy_of_spelled spell) h.3.1;
-      moving = kept_in_motion net policy h.0 h.1 (net_of_spelled spell) (policy_of_spelled spell) h.3.1;
     },
     h.1,
     h.3,
+    kept_in_motion net policy h.0 h.1 (net_of_spelled spell) (policy_of_spelled spell) h.3.1,
   )
 
   pub compiled : Comes holds words Compile (text b) → Claimed
@@ -56,23 +62,24 @@ module _ {S : Type 0} (holds : Holds) (words : List (List ℕ)) (taken : S → O
       let f = said_for (Alone (SaysOfPart part.Config)) holds (names_read words Compile) (text b) (λ x. cc) comes.bytes comes.held comes.says in
       claim_of comes f.net f.policy f.spell (alone (SaysOfPart part.Config) f.spell.more f.net f.policy (text b) f.says)
 
-  given_of : Comes holds words Evidence (text b) → (net : PlainNet) (policy : PlainPolicy) → SpellFor holds (names_read words Evidence) net policy → SaysOfPart part.Evidence net policy (text b)
-      → GivesEvidence holds taken words before now
+  given_of : Comes holds words Evidence (text b) → (net : PlainNet) (policy : PlainPolicy) → SpellFor holds (names_read words Evidence) net policy → SaysOfPart part.Evidence net policy (text b) → Given
   given_of comes net policy spell (inr h) = absurd (let s = status_is _ _ h.2 in cc)
-  given_of comes net policy spell (inl h) = record {
-    net = net;
-    policy = policy;
-    asked = asks_for holds words Evidence net policy comes.is spell;
-    evidence = h.1;
-    written = rw (out_is _ _ h.5 ∙ h.4) at written;
-    config = h.0;
-    compiled = h.3;
-    right = passing_evidence_is_right net policy h.0 h.1 (net_of_spelled spell) (policy_of_spelled spell) h.3.1;
-    outcomes = stable_outcomes_exist net policy h.0 h.1 (net_of_spelled spell) (policy_of_spelled spell) h.3.1;
-    moving = kept_in_motion net policy h.0 h.1 (net_of_spelled spell) (policy_of_spelled spell) h.3.1;
-  }
+  given_of comes net policy spell (inl h) = (
+    record {
+      net = net;
+      policy = policy;
+      asked = asks_for holds words Evidence net policy comes.is spell;
+      evidence = h.1;
+      written = rw (out_is _ _ h.5 ∙ h.4) at written;
+      config = h.0;
+      compiled = h.3;
+      right = passing_evidence_is_right net policy h.0 h.1 (net_of_spelled spell) (policy_of_spelled spell) h.3.1;
+      outcomes = stable_outcomes_exist net policy h.0 h.1 (net_of_spelled spell) (policy_of_spelled spell) h.3.1;
+    },
+    kept_in_motion net policy h.0 h.1 (net_of_spelled spell) (policy_of_spelled spell) h.3.1,
+  )
 
-  pub given : Comes holds words Evidence (text b) → GivesEvidence holds taken words before now
+  pub given : Comes holds words Evidence (text b) → Given
   given comes =
       let f = said_for (Alone (SaysOfPart part.Evidence)) holds (names_read words Evidence) (text b) (λ x. cc) comes.bytes comes.held comes.says in
       given_of comes f.net f.policy f.spell (alone (SaysOfPart part.Evidence) f.spell.more f.net f.policy (text b) f.says)

@@ -6,7 +6,7 @@ use propane_run::Status;
 use std::alloc::Global;
 use std::test::Fail;
 
-const VERSION: &str = "propane 1.0.0
+const VERSION: &str = "propane 1.1.0
 kit rattle-kit-13f
 ";
 
@@ -123,7 +123,7 @@ fn a_line_for_each_command(rt: HostRuntime) -> Result<(), Fail> {
 }
 
 // The word of each command, and its words.
-const COMMANDS: [(&str, &str); 15] = [
+const COMMANDS: [(&str, &str); 19] = [
     ("compile", "compile TOPO POLICY"),
     ("evidence", "evidence TOPO POLICY"),
     ("check", "check TOPO POLICY CONFIG EVIDENCE"),
@@ -139,6 +139,10 @@ const COMMANDS: [(&str, &str); 15] = [
     ("audit", "audit TOPO POLICY CONFIG EVIDENCE SCENARIO TABLES"),
     ("help", "help [COMMAND]"),
     ("version", "version"),
+    ("drain", "drain TOPO POLICY SCENARIO"),
+    ("settle", "settle TOPO POLICY EVENTS"),
+    ("promises", "promises TOPO POLICY"),
+    ("whatif", "whatif TOPO POLICY SCENARIO"),
 ];
 
 // What follows a mark in a text, where it stands there.

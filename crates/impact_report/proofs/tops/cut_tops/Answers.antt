@@ -1,24 +1,29 @@
 use Rattle.std.proofs.Common.{◌≡◌, ◌↔◌, ◌<◌, ℕ, Bool, List, true, length, ap, sym, subst}
 use Rattle.graph_base.specs.Graphs.{PlainGraph}
+use Rattle.graph_base.specs.declared.graph.Node.{Node}
+use Rattle.impact_law.specs.Cuts.{with_cut}
+use Rattle.impact_law.specs.Support.{no_failures}
 use Rattle.reach_prune.specs.Searches.{is_marked}
-use Rattle.impact_law.specs.Impacts.{failures_by}
 use Rattle.impact_report.specs.Left.{IsLeft}
-use Rattle.impact_report.specs.Tops.{AreBest}
-use Rattle.impact_report.proofs.Reaching.{are_tops, best_are_nodes, quiet_cut}
+use Rattle.impact_report.specs.Tops.{AreBest, AreNodes}
+use Rattle.impact_report.proofs.Besides.{cut_besides}
+use Rattle.impact_report.proofs.Reaching.{are_tops, best_are_nodes}
 use Rattle.impact_report.proofs.tops.cut_tops.Goals as goal
 
 pub returns-clause-nodes : goal.returns-clause-nodes
-returns-clause-nodes c = best_are_nodes c.args.case.now (is_marked c.deref.result.now) (length c.routers.result.now) c.in_ok-tops.tops.items c.in_ok-tops.ensures
+returns-clause-nodes c =
+    let e = c.args.paths.now.case.now in
+    let nodes = best_are_nodes e (is_marked c.deref-2.result.now) (length c.routers.result.now) c.in_ok-tops.tops.items c.in_ok-tops.ensures in
+    λ r n is. subst (λ (ns : List Node). n < length ns) (sym c.requires.nodes) (nodes r n is)
 
 pub returns-clause-tops : goal.returns-clause-tops
-returns-clause-tops c = λ s on.
-    let e = c.args.case.now in
-    let f = failures_by c.args.cut.now in
+returns-clause-tops c = λ s f on opened.
+    let e = c.args.paths.now.case.now in
+    let left = c.args.paths.now.left in
+    let cut = c.args.cut.now in
     let tops = c.in_ok-tops.tops.items in
-    let marks = c.deref.result.now in
-    let Exact : PlainGraph → Type 0 = λ g. (n : ℕ) → n < length g.nodes → (is_marked c.in_ok-marks.marks.items n ≡ true) ↔ IsLeft g f n in
-    let left = subst Exact c.graph.ensures.graph c.in_ok-marks.ensures.marks in
-    let exact : (n : ℕ) → n < length e.graph.nodes → (is_marked marks n ≡ true) ↔ IsLeft e.graph f n =
-    λ n low. subst (λ (ms : List Bool). (is_marked ms n ≡ true) ↔ IsLeft e.graph f n) (sym c.deref.ensures.value) (left n low) in
-    are_tops c.args.net.now s e f on (quiet_cut c.args.cut.now) (is_marked marks) tops exact
+    let marks = c.deref-2.result.now in
+    let exact : (n : ℕ) → n < length left.nodes → (is_marked marks n ≡ true) ↔ IsLeft left (with_cut cut no_failures) n =
+    λ n low. subst (λ (ms : List Bool). (is_marked ms n ≡ true) ↔ IsLeft left (with_cut cut no_failures) n) (sym c.deref-2.ensures.value) (c.in_ok-marks.ensures.marks n low) in
+    are_tops c.args.net.now s e f (with_cut cut no_failures) (with_cut cut f) left on (cut_besides cut f) opened (is_marked marks) tops exact
     (subst (λ (n : ℕ). AreBest e (is_marked marks) n (length e.graph.nodes) tops) (ap length c.routers.ensures.routers) c.in_ok-tops.ensures)

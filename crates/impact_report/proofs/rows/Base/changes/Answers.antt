@@ -4,7 +4,9 @@ use Rattle.std.specs.Option.{option_eq}
 use Rattle.std.proofs.lemmas.Bool.{not-false, not-true}
 use Rattle.std.proofs.lemmas.List.{take_all}
 use Rattle.impact_report.specs.Tops.{entry_at}
-use Rattle.impact_law.specs.Impacts.{changed, failures_by, same_rank}
+use Rattle.impact_law.specs.Cuts.{with_cut}
+use Rattle.impact_law.specs.Impacts.{changed, same_rank}
+use Rattle.impact_law.specs.Support.{no_failures}
 use Rattle.impact_law.specs.declared.impact.SourceRank.{SourceRank}
 use Rattle.impact_report.specs.Paths.{rank_under}
 use Rattle.impact_report.specs.Sources.{reranked}
@@ -14,7 +16,7 @@ use Rattle.impact_report.proofs.rows.Base.changes.Goals as goal
 
 pub loop-entry-preserved : goal.loop-entry-preserved
 loop-entry-preserved c =
-    let F : SourceRank → SourceRank = reranked (rank_under c.args.self.now.paths.case.now.graph (failures_by c.args.cut.now) (entry_at c.args.tops.now)) in
+    let F : SourceRank → SourceRank = reranked (rank_under c.args.self.now.paths.left (with_cut c.args.cut.now no_failures) (entry_at c.args.tops.now)) in
     let base = c.as_slice-entry-items.result.now in
     let i = c.loop-entry.entry-index in
     let x = c.entry-item.result in
@@ -35,6 +37,6 @@ loop-entry-preserved c =
 
 pub returns : goal.returns
 returns c =
-    let F : SourceRank → SourceRank = reranked (rank_under c.args.self.now.paths.case.now.graph (failures_by c.args.cut.now) (entry_at c.args.tops.now)) in
+    let F : SourceRank → SourceRank = reranked (rank_under c.args.self.now.paths.left (with_cut c.args.cut.now no_failures) (entry_at c.args.tops.now)) in
     let all = take_all c.loop-entry.entry-index c.as_slice-entry-items.result.now c.loop-entry-test.false ∙ c.as_slice-entry-items.ensures in
     c.loop-entry.invariant ∙ ap (λ (xs : List SourceRank). changed xs (map F xs)) all

@@ -1,10 +1,12 @@
 use Rattle.std.proofs.Common.{◌≡◌, map, take}
 use Rattle.impact_report.specs.Tops.{entry_at}
-use Rattle.impact_law.specs.Impacts.{changed, failures_by}
+use Rattle.impact_law.specs.Cuts.{with_cut}
+use Rattle.impact_law.specs.Impacts.{changed}
+use Rattle.impact_law.specs.Support.{no_failures}
 use Rattle.impact_report.specs.Paths.{rank_under}
 use Rattle.impact_report.specs.Sources.{reranked}
 use Rattle.impact_report.proofs.rows.Base.changes.Given as goal
 
 abbrev pub invariant-loop-entry : goal.invariant-loop-entry
 invariant-loop-entry l =
-    l.changed ≡ changed (take l.entry-index l.entry-items) (map (reranked (rank_under l.self.paths.case.now.graph (failures_by l.cut) (entry_at l.tops))) (take l.entry-index l.entry-items))
+    l.changed ≡ changed (take l.entry-index l.entry-items) (map (reranked (rank_under l.self.paths.left (with_cut l.cut no_failures) (entry_at l.tops))) (take l.entry-index l.entry-items))

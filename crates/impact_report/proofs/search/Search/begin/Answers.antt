@@ -2,7 +2,8 @@ use Rattle.std.proofs.Common.{get_or, refl, ap, ◌∙◌}
 use Rattle.std.specs.Prelude.{not}
 use Rattle.graph_base.specs.Runs.{place_of}
 use Rattle.outcome_base.specs.Outcomes.{is_dead}
-use Rattle.impact_law.specs.Impacts.{failures_by}
+use Rattle.impact_law.specs.Cuts.{with_cut}
+use Rattle.impact_law.specs.Support.{no_failures}
 use Rattle.impact_report.proofs.Visits.{visits_more}
 use Rattle.impact_report.proofs.search.Search.begin.Goals as goal
 
@@ -10,6 +11,6 @@ pub loop-start-preserved : goal.loop-start-preserved
 loop-start-preserved c =
     let starts = c.starts-start-items.result.now in
     let start = get_or starts c.loop-start.start-index 0 in
-    visits_more (λ n. not (is_dead (failures_by c.args.cut.now) (place_of c.args.graph.now n))) starts c.loop-start.start-index start _ _ _ _
-    c.loop-start-test.true refl (c.spares_at.ensures ∙ ap (λ l. not (is_dead (failures_by c.args.cut.now) l)) c.location-at.ensures)
+    visits_more (λ n. not (is_dead (with_cut c.args.cut.now no_failures) (place_of c.args.graph.now n))) starts c.loop-start.start-index start _ _ _ _
+    c.loop-start-test.true refl (c.spares_at.ensures ∙ ap (λ l. not (is_dead (with_cut c.args.cut.now no_failures) l)) c.location-at.ensures)
     c.loop-start.invariant c.in_ok-visit.ensures

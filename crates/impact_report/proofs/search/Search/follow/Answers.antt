@@ -1,6 +1,7 @@
 use Rattle.std.proofs.Common.{get_or, refl, ap, ◌∙◌}
 use Rattle.graph_base.specs.Runs.{place_of}
-use Rattle.impact_law.specs.Impacts.{failures_by}
+use Rattle.impact_law.specs.Cuts.{with_cut}
+use Rattle.impact_law.specs.Support.{no_failures}
 use Rattle.impact_report.specs.Left.{spares}
 use Rattle.impact_report.proofs.Visits.{visits_more}
 use Rattle.impact_report.proofs.search.Search.follow.Goals as goal
@@ -9,5 +10,5 @@ pub loop-node-preserved : goal.loop-node-preserved
 loop-node-preserved c =
     let nodes = c.args.nodes.now in
     let node = get_or nodes c.loop-node.node-index 0 in
-    visits_more (λ n. spares (failures_by c.args.cut.now) c.args.from (place_of c.args.graph.now n)) nodes c.loop-node.node-index node _ _ _ _ c.loop-node-test.true refl
-    (c.spares.ensures ∙ ap (spares (failures_by c.args.cut.now) c.args.from) c.location-at.ensures) c.loop-node.invariant c.in_ok-visit.ensures
+    visits_more (λ n. spares (with_cut c.args.cut.now no_failures) c.args.from (place_of c.args.graph.now n)) nodes c.loop-node.node-index node _ _ _ _ c.loop-node-test.true refl
+    (c.spares.ensures ∙ ap (spares (with_cut c.args.cut.now no_failures) c.args.from) c.location-at.ensures) c.loop-node.invariant c.in_ok-visit.ensures

@@ -2,10 +2,11 @@ use Rattle.std.proofs.Common.{take}
 use Rattle.std.specs.Prelude.{◌&&◌}
 use Rattle.graph_base.specs.Runs.{place_of}
 use Rattle.reach_prune.specs.Searches.{is_among}
-use Rattle.impact_law.specs.Impacts.{failures_by}
+use Rattle.impact_law.specs.Cuts.{with_cut}
+use Rattle.impact_law.specs.Support.{no_failures}
 use Rattle.impact_report.specs.Left.{spares}
 use Rattle.impact_report.specs.Searching.{Visits}
 use Rattle.impact_report.proofs.search.Search.follow.Given as goal
 
 abbrev pub invariant-loop-node : goal.invariant-loop-node
-invariant-loop-node l = Visits (λ n. is_among (take l.node-index l.nodes) n && spares (failures_by l.cut) l.from (place_of l.graph n)) l.initial.self l.self
+invariant-loop-node l = Visits (λ n. is_among (take l.node-index l.nodes) n && spares (with_cut l.cut no_failures) l.from (place_of l.graph n)) l.initial.self l.self

@@ -1,0 +1,6 @@
+//! The job that tells what carries nothing under failures.
+#![tactic(auto)]
+
+mod drain;
+
+pub use drain::drain_texts;

@@ -1,0 +1,57 @@
+-- Whom a cut moves: the routers whose settled route is another under it.
+use Rattle.std.specs.Prelude.{◌≡◌, ℕ, Bool, true, false, not, ◌&&◌, ◌==◌, List, length, map, Option, Some, None}
+use Rattle.std.specs.List.{count_by}
+use Rattle.net_base.specs.Locations.{numbers_below}
+use Rattle.net_base.specs.Network.{PlainNet, IsNet}
+use Rattle.net_base.specs.Prefixes.{PlainPrefix, IsPrefix}
+use Rattle.policy_base.specs.Policies.{PlainPolicy, IsPolicyOf}
+use Rattle.config_base.specs.Configs.{PlainConfig}
+use Rattle.config_base.specs.declared.route.Route.{Route}
+use Rattle.evidence_base.specs.Made.{PlainCaseEvidence}
+use Rattle.evidence_law.specs.Passes.{Passes}
+use Rattle.outcome_base.specs.Outcomes.{Failures, Outcome, route_at}
+use Rattle.settled_law.specs.Settled.{IsFullyStable}
+use Rattle.stable_paths.specs.Tests.{same_route}
+use Rattle.impact_law.specs.declared.impact.Cut.{Cut}
+use Rattle.impact_law.specs.declared.impact.Cut.TheVariants.{Link, Router}
+use Rattle.impact_law.specs.declared.impact.WhatIf.{WhatIf}
+use Rattle.impact_law.specs.Cuts.{live_cuts, with_cut}
+use Rattle.impact_law.specs.Impacts.{IsImpact}
+
+-- the outcome to which a network settles under some failures: an entry for each router, stable, and ties are broken
+pub record IsSettled (net : PlainNet) (policy : PlainPolicy) (config : PlainConfig) (f : Failures) (p : PlainPrefix) (outcome : Outcome) : Type 0 where
+  pub size : length outcome ≡ length net.routers
+  pub stable : IsFullyStable net policy config f p outcome
+
+-- the router is cut
+abbrev pub is_cut : Cut → ℕ → Bool
+is_cut (Link a b) r = false
+is_cut (Router c) r = c == r
+
+-- the same route, or none both times
+abbrev pub same_held : Option Route → Option Route → Bool
+same_held None None = true
+same_held None (Some h) = false
+same_held (Some g) None = false
+same_held (Some g) (Some h) = same_route g h
+
+-- a router that isn't cut holds another route after
+abbrev pub is_moved : Cut → Outcome → Outcome → ℕ → Bool
+is_moved cut before after r = not (is_cut cut r) && not (same_held (route_at before r) (route_at after r))
+
+-- how many do
+abbrev pub moved : PlainNet → Cut → Outcome → Outcome → ℕ
+moved net cut before after = count_by (is_moved cut before after) (numbers_below (length net.routers))
+
+-- What each cut besides these failures changes for the prefix, and how many routers it moves.
+pub record IsWhatIf (net : PlainNet) (policy : PlainPolicy) (config : PlainConfig) (f : Failures) (p : PlainPrefix) (w : WhatIf) : Type 0 where
+  pub impact : IsImpact net policy f p w.impact
+  pub before : Outcome
+  pub settled : IsSettled net policy config f p before
+  pub after : Cut → Outcome
+  pub resettled : (cut : Cut) → IsSettled net policy config (with_cut cut f) p (after cut)
+  pub moves : w.moves ≡ map (λ (cut : Cut). moved net cut before (after cut)) (live_cuts net f)
+
+abbrev pub WhatIfsAreOne : Type 0
+WhatIfsAreOne = (net : PlainNet) (policy : PlainPolicy) (config : PlainConfig) (cs : List PlainCaseEvidence) → IsNet net → IsPolicyOf net policy → Passes net policy config cs
+    → (f : Failures) (p : PlainPrefix) → IsPrefix p → (a b : WhatIf) → IsWhatIf net policy config f p a → IsWhatIf net policy config f p b → a ≡ b

@@ -1,0 +1,3 @@
+pub mod PromisesLaws
+mod Telling
+mod OneText

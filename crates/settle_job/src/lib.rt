@@ -1,0 +1,6 @@
+//! The job that lets a network come to rest after events.
+#![tactic(auto)]
+
+mod settle;
+
+pub use settle::settle_texts;

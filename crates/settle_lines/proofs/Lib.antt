@@ -1,0 +1,2 @@
+pub mod OneSettlement
+pub mod Settled

@@ -1,0 +1,4 @@
+pub mod Parts
+pub mod Read
+pub mod InOrder
+pub mod Written

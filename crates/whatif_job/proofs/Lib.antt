@@ -1,0 +1,2 @@
+pub mod WhatIfLaws
+mod Numbering

@@ -1,0 +1,4 @@
+mod Besides
+mod Counting
+mod Staying
+mod Living

@@ -1,0 +1,88 @@
+//! Which routers a cut moves.
+ghost use Rattle.std.specs.Prelude.{◌≡◌, ◌↔◌, ℕ, false, not, ◌&&◌, IsTrue, option_map};
+ghost use Rattle.std.specs.List.{list_any};
+ghost use Rattle.outcome_base.specs.Outcomes.{route_at};
+ghost use Rattle.stable_paths.specs.Tests.{same_route as is_same};
+ghost use Rattle.drain_law.specs.Uses.{IsOffRoutes};
+ghost use Rattle.impact_law.specs.Moves.{is_cut as is_cut_by, is_moved as is_moved_by, moved, same_held as is_same_held};
+ghost use Rattle.whatif_report.specs.Cutting.{passes_over};
+
+use crate::cut::goes_over;
+use config_base::Route;
+use impact_law::Cut;
+use net_base::{Loc, Net, known_net};
+use stable_paths::Outcome;
+
+/// Whether a router is cut.
+fn is_cut(cut: &Cut, router: Loc) -> bool
+    ensures { result ≡ is_cut_by cut.now router }
+{
+    match cut {
+        Cut::Link(_, _) => false,
+        Cut::Router(gone) => *gone == router,
+    }
+}
+
+/// Whether a router that isn't cut holds a route that goes over the cut.
+fn passes(cut: &Cut, outcome: &Outcome, router: Loc) -> bool
+    ensures { result ≡ passes_over cut.now outcome.now.routes router }
+{
+    if is_cut(cut, router) {
+        return false;
+    }
+    match outcome.route_at(router) {
+        None => false,
+        Some(route) => goes_over(cut, route.path.as_slice()),
+    }
+}
+
+/// Whether no route of a router that isn't cut goes over a cut.
+pub(crate) fn is_off_routes(net: &Net, outcome: &Outcome, cut: &Cut) -> bool
+    ensures { IsTrue result → IsOffRoutes net.now outcome.now.routes cut.now }
+{
+    for place in 0..net.routers().len() as u16 {
+        if passes(cut, outcome, Loc::new(place)) {
+            return false;
+        }
+    }
+    true
+}
+
+/// Whether two routes are the same.
+fn same_route(g: &Route, h: &Route) -> bool
+    ensures { result ≡ is_same g.now h.now }
+{
+    h.path.as_slice() == g.path.as_slice() && h.tag == g.tag && h.pref == g.pref
+}
+
+/// Whether a router holds the same route before and after, or none both times.
+fn same_held(before: Option<&Route>, after: Option<&Route>) -> bool
+    ensures { result ≡ is_same_held (option_map (λ h. h.now) before.entry) (option_map (λ h. h.now) after.entry) }
+{
+    match (before, after) {
+        (None, None) => true,
+        (Some(before), Some(after)) => same_route(before, after),
+        _ => false,
+    }
+}
+
+/// Whether a router that isn't cut holds another route after.
+fn is_moved(cut: &Cut, before: &Outcome, after: &Outcome, router: Loc) -> bool
+    ensures { result ≡ is_moved_by cut.now before.now.routes after.now.routes router }
+{
+    !is_cut(cut, router) && !same_held(before.route_at(router), after.route_at(router))
+}
+
+/// How many routers that aren't cut hold another route after.
+pub(crate) fn count_moved(net: &Net, cut: &Cut, before: &Outcome, after: &Outcome) -> u32
+    ensures { result ≡ moved net.now cut.now before.now.routes after.now.routes }
+{
+    known_net(net);
+    let mut count = 0;
+    for place in 0..net.routers().len() as u16 {
+        if is_moved(cut, before, after, Loc::new(place)) {
+            count += 1;
+        }
+    }
+    count
+}

@@ -1,0 +1,64 @@
+//! What cuts besides a scenario's failures change and move.
+ghost use Rattle.std.specs.Prelude.{◌≡◌, IfOk};
+ghost use Rattle.policy_base.specs.Policies.{IsPolicyOf, policy_of};
+ghost use Rattle.evidence_law.specs.Passes.{Passes};
+ghost use Rattle.stable_paths.specs.Scenarios.{failures_of};
+ghost use Rattle.impact_law.specs.Moves.{IsSettled, IsWhatIf};
+ghost use Rattle.whatif_report.specs.Cutting.{AreCutsOf, AreMoves};
+
+use crate::settled::SettledNet;
+use config_base::Config;
+use evidence_base::Evidence;
+use impact_law::{CutRow, WhatIf};
+use impact_report::impact;
+use net_base::{List, Net, known_net, known_prefix};
+use outside::NoMemory;
+use policy_base::Policy;
+use settling::settle;
+use stable_paths::Scenario;
+use std::alloc::Global;
+
+/// How many routers the cut of each row moves.
+fn moves_of(alloc: Global, settled: &SettledNet<'_>, rows: &[CutRow]) -> Result<List<u32>, NoMemory>
+    requires fits { IsPolicyOf settled.now.net.now (policy_of settled.now.policy.now) }
+    requires passes { Passes settled.now.net.now (policy_of settled.now.policy.now) settled.now.config.now settled.now.evidence.now.cases }
+    requires settled { IsSettled settled.now.net.now (policy_of settled.now.policy.now) settled.now.config.now (failures_of settled.now.scenario.now) settled.now.scenario.now.prefix settled.now.outcome.routes }
+    requires cuts { AreCutsOf settled.now.net.now rows.now }
+    ensures { IfOk result (AreMoves settled.now.net.now (policy_of settled.now.policy.now) settled.now.config.now (failures_of settled.now.scenario.now) settled.now.scenario.now.prefix settled.now.outcome.routes rows.now) }
+{
+    let mut moves = List::new(alloc);
+    for row in rows {
+        moves.push(settled.moves(alloc, &row.cut)?)?;
+    }
+    Ok(moves)
+}
+
+/// What each link and each router that lives under a scenario changes where it is dead, too, for the scenario's prefix: the sources to which
+/// it leaves another best rank, and how many other routers hold another route once the network has settled.
+pub fn what_if(
+    alloc: Global,
+    net: &Net,
+    policy: &Policy,
+    config: &Config,
+    evidence: &Evidence,
+    scenario: &Scenario,
+) -> Result<WhatIf, NoMemory>
+    requires fits { IsPolicyOf net.now (policy_of policy.now) }
+    requires passes { Passes net.now (policy_of policy.now) config.now evidence.now.cases }
+    ensures { IfOk result (IsWhatIf net.now (policy_of policy.now) config.now (failures_of scenario.now) scenario.now.prefix) }
+{
+    known_net(net);
+    known_prefix(scenario.prefix);
+    let impact = impact(alloc, net, policy, config, evidence, scenario)?;
+    let outcome = settle(alloc, net, policy, config, evidence, scenario)?;
+    let settled = SettledNet {
+        net,
+        policy,
+        config,
+        evidence,
+        scenario,
+        outcome,
+    };
+    let moves = moves_of(alloc, &settled, impact.rows.as_slice())?;
+    Ok(WhatIf { impact, moves })
+}
