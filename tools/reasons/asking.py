@@ -88,7 +88,7 @@ def shows_of(ranks, refusal, now):
 
 
 def ways_told(ranks, refusal):
-    """The ways to stand, with walks that show what the lines say, and their picture."""
+    """The nodes, with walks that show what the lines say, and their picture."""
     walks = refusal.walks()[:2 * words.MOST_LINES]
     now, later, steps = ranks.of(walks), {}, cases.STEPS
     while walks and not later and steps >= 2 and has_time(ranks.program):
@@ -101,11 +101,11 @@ def why_of(program, cut, net, statement, case, refusal):
     """The lines on a refused statement, but for repairs."""
     yield from (f"Statement {statement.number}, line {statement.line}, can't be kept:", "", f"    {statement.spelled()}", "")
     yield from (f"The program says: {refusal.text}", f"Case {case.number} is {case.told(statement)}.", "")
-    program.progress.say(f"statement {statement.number}, its ways to stand")
+    program.progress.say(f"statement {statement.number}, its nodes")
     ways, (picture, legend) = ways_told(cases.Ranks(program, cut, net, case, statement.expression), refusal)
     yield from words.told(refusal, ways)
     if picture:
-        yield from ("", "The ways to stand, drawn from the origin on; the rank of each walk, and those of longer walks that end so:", "")
+        yield from ("", "The nodes, drawn from the origin on; the rank of each walk, and those of longer walks that end so:", "")
         yield from (f"    {line}" for line in picture)
         yield ""
         yield from (f"    {line}" for line in legend)

@@ -1,7 +1,7 @@
 """What a repair gives up, as far as the program tells it.
 
-`given_up` alone is called from outside. It asks `impact` for the best rank of each claimed source, `replay` for the path that each
-then has, and which rank that path had in the statement as it was.
+`given_up` alone is called from outside. It asks `promises` for the best rank of each claimed source, `replay` for the path that each
+then has and which rank that path had in the statement as it was, and `impact` for what single cuts take away.
 """
 import re
 
@@ -15,10 +15,11 @@ NOT_ALLOWED, NO_PATH = 0, None
 UNKNOWN = "what it gives up isn't known: the program tells nothing of it"
 
 
-def promised_in(impact):
-    """What is promised: the best rank of each claimed source while nothing fails. Only this reads `impact` for that."""
-    found = re.findall(r"^base (?:router (\S+)|session (\S+) (\S+)) (?:none|rank (\d+))$", impact, re.MULTILINE)
-    return {router or via + TO + peer: int(rank) if rank else None for router, via, peer, rank in found}
+def promised_in(promises, number):
+    """What is promised in the case of this number: the best rank of each claimed source while nothing fails."""
+    block = re.search(rf"^case {number} statement \d+\n(?:(?!case |uncarried |cases ).*\n)*", promises, re.MULTILINE)
+    found = re.findall(r"^source (?:router (\S+)|session (\S+) (\S+)) rank (\d+)$", block.group() if block else "", re.MULTILINE)
+    return {router or via + TO + peer: int(rank) for router, via, peer, rank in found}
 
 
 def paths_in(report):
@@ -46,11 +47,11 @@ def named(names):
 
 
 def groups_of(values):
-    """The sources of each value, the least values first, those without one last."""
+    """The sources of each value, the least values first."""
     groups = {}
     for source, value in values.items():
         groups.setdefault(value, []).append(source)
-    return sorted(groups.items(), key=lambda group: (group[0] is None, group[0] or 0))
+    return sorted(groups.items())
 
 
 def asked_sources(policy, network, case, statement):
@@ -98,21 +99,21 @@ class Asked:
         return self.known
 
     def outcome(self, text):
-        """What `impact` and `replay` say of a policy, for a prefix of the case."""
+        """What `promises`, `impact` and `replay` say of a policy, for a prefix of the case; None where no prefix of it is known."""
         for prefix in examples(self.case, self.statement):
             impact = self.program.told("impact", text, prefix)
             if f"\nclass {self.case.number}\n" in impact:
-                return impact, paths_in(self.program.replay(text, prefix))
-        return "", {}
+                return promised_in(self.program.told("promises", text), self.case.number), cuts_in(impact), paths_in(self.program.replay(text, prefix))
+        return None
 
     def given_up(self, after):
         """What a repaired statement gives up: how much, for an order, and in lines."""
-        impact, paths = self.outcome(self.policy.alone(after))
-        if not impact:
+        outcome = self.outcome(self.policy.alone(after))
+        if not outcome:
             return (), [UNKNOWN]
-        base, (count, cuts) = promised_in(impact), cuts_in(impact)
+        base, (count, cuts), paths = outcome
         known = self.ranks_of(paths.values())
-        lines = [f"promised {f'rank {rank}' if rank else 'no path'}: {named(sources)}" for rank, sources in groups_of(base)]
+        lines = [f"promised rank {rank}: {named(sources)}" for rank, sources in groups_of(base)]
         unpromised = [source for source in self.asked if source not in base]
         if unpromised:
             lines.append(f"promised nothing: {named(unpromised)}")

@@ -11,7 +11,7 @@ class Unread(Exception):
 
 @dataclass(frozen=True)
 class Line:
-    """One line of a refutation: by it the first way to stand at the router may not be held as high as the second."""
+    """One line of a refutation: by it the first node at the router may not be held as high as the second."""
 
     round: int
     router: str
@@ -23,7 +23,7 @@ class Line:
     ranks: tuple = ()  # of the first and of the second
 
     def ways(self):
-        """The ways to stand that the line names, each by its walk."""
+        """The nodes that the line names, each by its walk."""
         return [self.first, self.second] + ([self.along] if self.along else [])
 
 

@@ -6,12 +6,12 @@ from .sketch import sketch
 MOST_LINES = 12  # lines of a refutation that are told
 MEANINGS = {
     1: "The statement stands for more than 64 alternatives: `and` multiplies those of its sides.",
-    2: "There are more than 4,096 ways to stand: a router, with what is left of each alternative.",
-    3: "The cases up to this one have more than 131,072 steps from a way to stand to the next.",
+    2: "There are more than 4,096 nodes: a router, with what is left of each alternative.",
+    3: "The cases up to this one have more than 131,072 steps from a node to the next.",
     4: "`from` names {router}, and no path that the statement permits begins there, even with nothing dead.",
     5: "{router} may use {first}, and may not use {second}. But a walk that the statement permits ends with the second one, so others may "
        "need {router} to carry it. {router} has one route, and can't do both.",
-    6: "A preference is a number for each way to stand, and no numbers meet the rules:",
+    6: "A preference is a number for each node, and no numbers meet the rules:",
 }
 
 
@@ -25,7 +25,7 @@ def shown(walk):
 
 
 class Ways:
-    """The ways to stand that a refusal names, each with a mark. `shows` has, for a line with a loop, a walk that comes over the neighbour
+    """The nodes that a refusal names, each with a mark. `shows` has, for a line with a loop, a walk that comes over the neighbour
     and one that doesn't, with the ranks of the way; and for a mixed source the walk that needs it."""
 
     def __init__(self, walks, shows=()):
@@ -48,10 +48,10 @@ def loop(line, way):
     over, past = way.shows.get(line, (None, None))
     came = f"may have come over {other} itself, along {way(line.along)}" + (f", as {alike(over, way)} has" if over else "")
     if past:
-        begins = (f"{router} can't tell apart the routes that stand as {way(line.first)}. One, as {alike(past, way)}, hasn't come over {other}, and "
+        begins = (f"{router} can't tell apart the routes at the node {way(line.first)}. One, as {alike(past, way)}, hasn't come over {other}, and "
                   f"{other} takes it. Another one {came}.")
     else:
-        begins = f"A route that stands as {way(line.first)} {came}."
+        begins = f"A route at the node {way(line.first)} {came}."
     left = (f"Then {other} takes nothing back and is left with that, which it may not like as well as what {router} gives it of "
             f"{way(line.second)}, as said above.")
     return f"{begins} {left} So {better_one(line, way)}."
@@ -79,7 +79,7 @@ def closing(refusal, way):
     first, second = way(refusal.first), way(refusal.second)
     if refusal.first != refusal.second:
         return f"That closes the circle: {refusal.router} would have to like each of {first} and {second} better than the other one."
-    return f"That closes the circle. Both walks of the refusal are {first}, one way to stand: no number serves for all routes that stand so."
+    return f"That closes the circle. Both walks of the refusal lead to one node, {first}: no number serves for all routes there."
 
 
 def told(refusal, way):
@@ -104,7 +104,7 @@ def wrapped(text):
 
 
 def pictured(ways, now, later):
-    """The picture of the ways to stand, and what each is worth: `now` its rank, `later` those of the walks that end with it."""
+    """The picture of the nodes, and what each is worth: `now` its rank, `later` those of the walks that end with it."""
     legend = []
     for walk in ways.walks:
         ranks = [f"rank {listed(sorted(now[walk]), 'or')}" if now[walk] else "no rank"] if walk in now else []

@@ -168,7 +168,7 @@ def refused(line, kinds, texts):
     policy = next((text for place, text in texts.items() if kinds[place] == "POLICY"), None)
     values = (found[2] or "").split()
     return refusals.hint(policy, int(found[1]), values, sites(kinds, texts)) + [
-        see("REFUTATIONS.md") if found[1] == "6" else see("FORMATS.md", "Refusals")]
+        see("REFUTATIONS.md") if found[1] == "6" else see("REFUSALS.md")]
 
 
 def narrow(line):
@@ -199,6 +199,6 @@ def told(program, status, said, words):
     command, kinds = words[0], usage(program).get(words[0], [])
     if status == CHECK_FAILS:
         page = {"audit": ("AUDIT.md", ""), "checkmap": ("FORMATS.md", "The verdict on maps")}
-        return [see(*page.get(command, ("FORMATS.md", "The verdict on evidence")))]
+        return [see(*page.get(command, ("EVIDENCE.md", "The ten rules")))]
     texts = {place: Text(word) for place, (kind, word) in enumerate(zip(kinds, words[1:])) if kind in CALLED}
     return bad_input(line, command, kinds, texts) if status == BAD_INPUT else refused(line, kinds, texts)

@@ -6,16 +6,16 @@ from .policy_places import cases
 MEANING = {
     1: ["The statement stands for {0} alternatives, and 64 are the most.",
         "`and` multiplies those of its sides: rank less, or join alternatives that you like equally by `or`."],
-    2: ["The case has more than 4,096 ways to stand, each a router with what its path has passed.",
+    2: ["The case has more than 4,096 nodes, each a router with what its path has passed.",
         "Split the statement by prefix, or ask for fewer waypoints at once."],
-    3: ["Up to this case there are more than 131,072 steps from one way to stand to the next.",
+    3: ["Up to this case there are more than 131,072 steps from one node to the next.",
         "Govern prefixes with the same origins by one statement, or restrict paths by `internal` or `notransit`."],
     4: ["`from` names {0}, and no path of the statement starts there, even with nothing dead.",
         "Take it out of `from`, or allow a path from it."],
     5: ["{0} may use the first walk and not the second, but others need it to carry the second.",
         "Allow the second walk there, or say by `from` that {0} is no source."],
-    6: ["No preferences meet the compiler's rules: of the ways to stand at {0} to which the walks lead, no order will do.",
-        "`explain` shows line by line which ways are in each other's way; rank fewer things, or rank them alike at all routers."],
+    6: ["No preferences meet the compiler's rules: of the nodes at {0} to which the walks lead, no order will do.",
+        "`explain` shows line by line which nodes are in each other's way; rank fewer things, or rank them alike at all routers."],
     8: ["The route maps would have {0} lines, and 1,000,000 are the most.", "Fewer patterns that overlap make fewer lines."],
 }
 
