@@ -59,8 +59,8 @@ module _ (holds : Holds) (topology policy_text : List ℕ) (topology_is : holds 
       record {
         topology_within = rw t at asks.held.0.within;
         policy_within = rw p at asks.held.1.0.within;
-        net_spelled = rw t at network_is_spelled asks.topology net asks.net_meant;
-        policy_spelled = rw p at policy_is_spelled net asks.policy_text policy asks.policy_meant;
+        net_spelled = rw t at (network_is_spelled asks.topology net asks.net_meant);
+        policy_spelled = rw p at (policy_is_spelled net asks.policy_text policy asks.policy_meant);
       }
 
   of_words : (net : PlainNet) (policy : PlainPolicy) → Spell topology policy_text net policy → AsksFor holds compile_words Compile net policy
