@@ -55,7 +55,7 @@ free 1 of 3
         (TRIANGLE, ANY_PATH),
         "{\"prefix\":\"10.0.1.0/24\",\"dead\":[\"Q\"],\"dead_links\":[],\"silent\":[]}",
         Status::BadInput,
-        ("", "propane: scenario 3 unknown dead 1\n"),
+        ("", "propane: scenario 3 unknown dead\n"),
     ),
     (
         "the opening of two routers",
