@@ -60,17 +60,20 @@ kind_of name peer b h = by (bytes_eq name b.name) b.peer peer h
 pub nowhere : (net : PlainNet) (z : ℕ) → false ≡ is_peer net z → false ≡ is_router net z → is_location net z ≡ false
 nowhere net z no_peer no_router = let there : false ≡ is_location net z = rw (le-leb (length net.routers) z (ltb-false _ _ (sym no_router))) at no_peer in sym there
 
--- what holds of the block that a test finds
-pub if_found : {A : Type 0} (value : A → Session) (P : Session → Type 0) (found : Option Session) (r : Option A) → option_map value r ≡ found → IfSome found P → IfSome r (λ a. P (value a))
+-- what holds of each block holds of the one that a test finds
+each_found : {B : Type 0} (P : B → Type 0) (p : B → Bool) (bs : List B) → AllByRecursion P bs → IfSome (find p bs) P
+each_found P p bs h = by (find p bs) refl
+  where
+    by : (o : Option _) → find p bs ≡ o → IfSome o P
+    by None e = tt
+    by (Some b) e = let there = find_parts p bs b e in AllByRecursion_at P bs there.0 b h there.1
+
+pub if_found : {A B : Type 0} (value : A → B) (P : B → Type 0) (found : Option B) (r : Option A) → option_map value r ≡ found → IfSome found P → IfSome r (λ a. P (value a))
 if_found value P found None same h = tt
 if_found value P found (Some a) same h = subst (λ o. IfSome o P) (sym same) h
 
-pub each_found : (P : Session → Type 0) (p : Session → Bool) (bs : List Session) → AllByRecursion P bs → IfSome (find p bs) P
-each_found P p bs h = by (find p bs) refl
-  where
-    by : (o : Option Session) → find p bs ≡ o → IfSome o P
-    by None e = tt
-    by (Some b) e = let there = find_parts p bs b e in AllByRecursion_at P bs there.0 b h there.1
+pub if_each_found : {A B : Type 0} (value : A → B) (P : B → Type 0) (p : B → Bool) (bs : List B) (r : Option A) → option_map value r ≡ find p bs → AllByRecursion P bs → IfSome r (λ a. P (value a))
+if_each_found value P p bs r same all = if_found value P (find p bs) r same (each_found P p bs all)
 
 found_passes : (p : Session → Bool) (bs : List Session) → IfSome (find p bs) (λ b. p b ≡ true)
 found_passes p bs = by (find p bs) refl

@@ -1,8 +1,8 @@
 //! The class of a prefix, and the blocks of routers and of their neighbours.
-ghost use Rattle.std.specs.Prelude.{◌≡◌, ◌&&◌, not, if◌then◌else◌, Some, IfSome, length, option_map};
-ghost use Rattle.std.specs.List.{find};
+ghost use Rattle.std.specs.Prelude.{◌≡◌, ℕ, ◌&&◌, not, if◌then◌else◌, Some, [], IfSome, map, option_map};
+ghost use Rattle.std.specs.List.{find, AllByRecursion, IsDistinct};
 ghost use Rattle.std.specs.Str.{bytes_eq};
-ghost use Rattle.net_base.specs.Network.{is_named as named, is_peer, is_router};
+ghost use Rattle.net_base.specs.Network.{is_named as named, is_peer};
 ghost use Rattle.policy_base.specs.Governing.{some_contains};
 ghost use Rattle.config_base.specs.Configs.{IsRouter, IsSession};
 ghost use Rattle.config_base.specs.Lines.{class_of as class, router_at, block_at};
@@ -38,11 +38,15 @@ fn is_named(net: &Net, name: Name, at: Loc) -> bool
 }
 
 // The block in the router's own place, where it has its name: blocks of a compiled configuration stand as the routers do.
-fn block_in_place<'a>(net: &Net, config: &'a Config, router: Loc) -> Option<&'a RouterConfig>
-    ensures named { IfSome result (λ c. find (λ b. named net.now b.name router) config.now.routers ≡ Some c.now) }
-    ensures rules { IfSome result (λ c. IsRouter (length config.now.classes) c.now) }
+fn block_in_place<'a>(
+    net: &Net,
+    routers: &'a [RouterConfig],
+    router: Loc,
+) -> Option<&'a RouterConfig>
+    requires { IsDistinct bytes_eq (map (λ c. c.name) routers.now) }
+    ensures { IfSome result (λ c. find (λ b. named net.now b.name router) routers.now ≡ Some c.now) }
 {
-    let block = config.routers().get(router.number() as usize)?;
+    let block = routers.get(router.number() as usize)?;
     if is_named(net, block.name, router) {
         Some(block)
     } else {
@@ -51,11 +55,10 @@ fn block_in_place<'a>(net: &Net, config: &'a Config, router: Loc) -> Option<&'a 
 }
 
 // The first block with the router's name.
-fn named_block<'a>(net: &Net, config: &'a Config, router: Loc) -> Option<&'a RouterConfig>
-    ensures block { option_map (λ c. c.now) result ≡ find (λ b. named net.now b.name router) config.now.routers }
-    ensures rules { IfSome result (λ c. IsRouter (length config.now.classes) c.now) }
+fn named_block<'a>(net: &Net, routers: &'a [RouterConfig], router: Loc) -> Option<&'a RouterConfig>
+    ensures { option_map (λ c. c.now) result ≡ find (λ b. named net.now b.name router) routers.now }
 {
-    for block in config.routers() {
+    for block in routers {
         if is_named(net, block.name, router) {
             return Some(block);
         }
@@ -63,17 +66,22 @@ fn named_block<'a>(net: &Net, config: &'a Config, router: Loc) -> Option<&'a Rou
     None
 }
 
-/// The block of a router, found by its name.
-pub fn router_block<'a>(net: &Net, config: &'a Config, router: Loc) -> Option<&'a RouterConfig>
-    ensures block { option_map (λ c. c.now) result ≡ router_at net.now config.now router }
-    ensures rules { IfSome result (λ c. IsRouter (length config.now.classes) c.now) }
+/// The block of a router among those of a configuration or of maps, found by its name.
+pub fn router_block<'a>(
+    net: &Net,
+    routers: &'a [RouterConfig],
+    router: Loc,
+) -> Option<&'a RouterConfig>
+    requires { IsDistinct bytes_eq (map (λ c. c.name) routers.now) }
+    ensures block { option_map (λ c. c.now) result ≡ router_at net.now (record { classes = []; routers = routers.now }) router }
+    ensures rules { (count : ℕ) → AllByRecursion (IsRouter count) routers.now → IfSome result (λ c. IsRouter count c.now) }
 {
     if !net.is_router(router) {
         return None;
     }
-    match block_in_place(net, config, router) {
+    match block_in_place(net, routers, router) {
         Some(block) => Some(block),
-        None => named_block(net, config, router),
+        None => named_block(net, routers, router),
     }
 }
 
@@ -105,15 +113,16 @@ fn block_named(sessions: &[Session], name: Name, peer: bool) -> Option<&Session>
 /// The block that a router has of a neighbour, found by its name. A `peer` block is for a peer alone.
 pub fn session_block<'a>(
     net: &Net,
-    config: &'a Config,
+    routers: &'a [RouterConfig],
     router: Loc,
     neighbour: Loc,
 ) -> Option<&'a Session>
-    ensures block { option_map (λ b. b.now) result ≡ block_at net.now config.now router neighbour }
-    ensures rules { IfSome result (λ b. IsSession (length config.now.classes) b.now) }
+    requires { IsDistinct bytes_eq (map (λ c. c.name) routers.now) }
+    ensures block { option_map (λ b. b.now) result ≡ block_at net.now (record { classes = []; routers = routers.now }) router neighbour }
+    ensures rules { (count : ℕ) → AllByRecursion (IsRouter count) routers.now → IfSome result (λ b. IsSession count b.now) }
     ensures kind { IfSome result (λ b. b.now.peer ≡ is_peer net.now neighbour) }
 {
-    let block = router_block(net, config, router)?;
+    let block = router_block(net, routers, router)?;
     let peer = net.is_peer(neighbour);
     if !peer && !net.is_router(neighbour) {
         return None;

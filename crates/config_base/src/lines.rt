@@ -43,7 +43,7 @@ pub fn export_of(
 ) -> Option<Tag>
     ensures { result ≡ exported net.now config.now class from to route.now.tag }
 {
-    let block = session_block(net, config, from, to)?;
+    let block = session_block(net, config.routers(), from, to)?;
     export_by(net, block, class, to, route.tag)
 }
 
@@ -139,7 +139,7 @@ pub fn import_of(
 ) -> Option<(Tag, u32)>
     ensures { result ≡ imported net.now config.now class at from path.now tag }
 {
-    let block = session_block(net, config, at, from)?;
+    let block = session_block(net, config.routers(), at, from)?;
     import_by(net, block, class, at, from, path, tag)
 }
 
@@ -159,7 +159,7 @@ fn own_line(lines: &[Origination], class: u32, prefix: Prefix) -> Option<Origina
 fn originated_tag(net: &Net, config: &Config, prefix: Prefix, router: Loc) -> Option<Tag>
     ensures { tag_of_own net.now config.now prefix router ≡ unwrap_or result no_tag }
 {
-    let block = router_block(net, config, router)?;
+    let block = router_block(net, config.routers(), router)?;
     let class = class_of(config, prefix)?;
     let own = own_line(block.own.as_slice(), class, prefix)?;
     Some(own.tag)

@@ -1,5 +1,4 @@
 pub mod Editions
-pub mod Gives
 pub mod LineText
 pub mod Lines
 pub mod Numbers

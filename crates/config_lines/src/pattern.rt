@@ -1,6 +1,6 @@
 //! The patterns of a `class` line.
 ghost use Rattle.std.specs.Prelude.{◌≡◌, ◌∷◌, [], map, option_map};
-ghost use Rattle.config_lines.specs.Gives.{Gives};
+ghost use Rattle.net_base.specs.Gives.{GivesUnless};
 ghost use Rattle.config_lines.specs.Parts.{parts_left};
 ghost use Rattle.config_lines.specs.Patterns.{up_to, pattern_of, behind_space, later_pattern, later_patterns};
 
@@ -71,7 +71,7 @@ pub fn read_patterns(
     first: Pattern,
     pieces: Option<&[u8]>,
 ) -> Result<List<Pattern>, LineFault>
-    ensures { Gives (λ v. v) result (later_patterns (first ∷ []) (parts_left 44 (option_map (λ p. p.now) pieces.entry))) }
+    ensures { GivesUnless LineFault.NoMemory (λ v. v) result (later_patterns (first ∷ []) (parts_left 44 (option_map (λ p. p.now) pieces.entry))) }
 {
     let mut all = Vec::with_capacity(alloc, 1)?;
     all.push(first)?;

@@ -1,6 +1,6 @@
 //! Lines are read.
 ghost use Rattle.std.specs.Prelude.{◌≡◌, map, option_map};
-ghost use Rattle.config_lines.specs.Gives.{Gives};
+ghost use Rattle.net_base.specs.Gives.{GivesUnless};
 ghost use Rattle.config_lines.specs.Lines.{class_line, router_line, own_line, neighbour, session_line, peer_line, setting, tagged_line, untagged_line, import_line, export_line, end_line, form_line, words_line, line_of};
 ghost use Rattle.config_lines.specs.Parts.{parts_left};
 
@@ -18,7 +18,7 @@ use std::alloc::Global;
 // A `class` line, by what follows its first word up to the first comma, and what stands behind that.
 #[tactic(auto, unfolding(crate::specs::Lines::class_line))]
 fn read_class_line(alloc: Global, words: &[&[u8]], pieces: Option<&[u8]>) -> Result<Line, LineFault>
-    ensures { Gives (λ l. l) result (class_line (map (λ w. w.now) words.now) (parts_left 44 (option_map (λ p. p.now) pieces.entry))) }
+    ensures { GivesUnless LineFault.NoMemory (λ l. l) result (class_line (map (λ w. w.now) words.now) (parts_left 44 (option_map (λ p. p.now) pieces.entry))) }
 {
     let [number, pattern @ ..] = words else {
         return Err(LineFault::Form);
@@ -235,7 +235,7 @@ fn read_words_line(
     words: &[&[u8]],
     pieces: Option<&[u8]>,
 ) -> Result<Line, LineFault>
-    ensures { Gives (λ l. l) result (words_line edition classes (map (λ w. w.now) words.now) (parts_left 44 (option_map (λ p. p.now) pieces.entry))) }
+    ensures { GivesUnless LineFault.NoMemory (λ l. l) result (words_line edition classes (map (λ w. w.now) words.now) (parts_left 44 (option_map (λ p. p.now) pieces.entry))) }
 {
     let [word, words @ ..] = words else {
         return Err(LineFault::Form);
@@ -259,7 +259,7 @@ pub fn read_line(
     bytes: &[u8],
     classes: u32,
 ) -> Result<Line, LineFault>
-    ensures { Gives (λ l. l) result (line_of edition bytes.now classes) }
+    ensures { GivesUnless LineFault.NoMemory (λ l. l) result (line_of edition bytes.now classes) }
 {
     let (piece, pieces) = first_part(b',', bytes);
     match Words::of(piece) {

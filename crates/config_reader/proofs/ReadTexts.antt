@@ -8,6 +8,7 @@ use Rattle.std.proofs.lemmas.List.Splits.{join_with_byte-slice_split}
 use Rattle.std.proofs.lemmas.List.{length-take, nil_from_length}
 use Rattle.std.proofs.lemmas.Slice.Eq.{bytes_eq-Decides}
 use Rattle.list_laws.proofs.Options.{is_none_parts}
+use Rattle.net_base.specs.Gives.{GivesUnless}
 use Rattle.net_base.specs.Steps.{unless}
 use Rattle.net_base.proofs.StepLemmas.{bind_ok, unless_ok, ok_same}
 use Rattle.config_base.specs.Configs.{PlainConfig}
@@ -24,7 +25,6 @@ use Rattle.config_text.specs.Spelled.{IsLawful, HasLinesOf, SpellsIn}
 use Rattle.config_text.proofs.TextLines.{text_of_lines}
 use Rattle.config_reader.specs.declared.fault.ConfigFault.{ConfigFault}
 use Rattle.config_reader.specs.declared.fault.ConfigFault.TheVariants as fault
-use Rattle.config_reader.specs.Faults.{Gives}
 use Rattle.config_reader.specs.declared.reading.OpenRouter.{OpenRouter}
 use Rattle.config_reader.specs.declared.reading.Reading.{Reading}
 use Rattle.config_reader.specs.Reading.{opening, after}
@@ -192,6 +192,6 @@ read_is_spelled edition bytes c short h = by (lines_of bytes) refl h
         record { lawful = back.1; fits = back.2; written = sym (join_with_byte-slice_split 10 bytes) ∙ ap (join_with_byte 10) e ∙ back.0 }
 
 -- what comes back is spelled so
-pub what_is_read : (edition : Edition) (bytes : List ℕ) (r : Result PlainConfig ConfigFault) → length bytes < 4294967295 → Gives (λ c. c) r (spelled_in edition bytes) → IfOk r (λ c. SpellsIn edition bytes c)
+pub what_is_read : (edition : Edition) (bytes : List ℕ) (r : Result PlainConfig ConfigFault) → length bytes < 4294967295 → GivesUnless fault.NoMemory (λ c. c) r (spelled_in edition bytes) → IfOk r (λ c. SpellsIn edition bytes c)
 what_is_read edition bytes (Ok c) short h = read_is_spelled edition bytes c short h
 what_is_read edition bytes (Err e) short h = tt

@@ -7,6 +7,7 @@ use Rattle.std.proofs.lemmas.Bool.{ne_eqb}
 use Rattle.std.proofs.lemmas.Slice.Eq.{bytes_eq-Decides}
 use Rattle.std.proofs.lemmas.List.{map-append}
 use Rattle.list_laws.proofs.Each.{AllByRecursion-append, AllByRecursion-append_parts, AllByRecursion-weaker, AllByRecursion-both}
+use Rattle.net_base.specs.Gives.{GivesUnless}
 use Rattle.net_base.specs.Prefixes.{PlainPattern}
 use Rattle.config_base.specs.declared.config.RouterConfig.{RouterConfig}
 use Rattle.config_base.specs.declared.config.Session.{Session}
@@ -25,7 +26,7 @@ use Rattle.config_text.specs.ConfigLines.{fed, lines, lines_of_classes, head_of,
 use Rattle.config_text.specs.Spelled.{IsLawful, HasLinesOf, SpellsIn}
 use Rattle.config_text.proofs.TextLines.{text_of_lines}
 use Rattle.config_reader.specs.declared.fault.ConfigFault.{ConfigFault}
-use Rattle.config_reader.specs.Faults.{Gives}
+use Rattle.config_reader.specs.declared.fault.ConfigFault.TheVariants.{NoMemory}
 use Rattle.config_reader.specs.declared.reading.Reading.{Reading}
 use Rattle.config_reader.specs.Reading.{opening, after}
 use Rattle.line_laws.specs.Lines.{lines_of}
@@ -179,5 +180,5 @@ spelled_is_read edition bytes c s =
     ap (in_lines edition) cut ∙ rw (some, same, whole.0, whole.1, config_taken edition c s.lawful s.fits) refl
 
 -- what comes back of such a text
-pub what_is_spelled : (edition : Edition) (bytes : List ℕ) (c : PlainConfig) (r : Result PlainConfig ConfigFault) → SpellsIn edition bytes c → Gives (λ d. d) r (spelled_in edition bytes) → Gives (λ d. d) r (Ok c)
-what_is_spelled edition bytes c r s h = subst (λ (o : Result PlainConfig ConfigFault). Gives (λ d. d) r o) (spelled_is_read edition bytes c s) h
+pub what_is_spelled : (edition : Edition) (bytes : List ℕ) (c : PlainConfig) (r : Result PlainConfig ConfigFault) → SpellsIn edition bytes c → GivesUnless NoMemory (λ d. d) r (spelled_in edition bytes) → GivesUnless NoMemory (λ d. d) r (Ok c)
+what_is_spelled edition bytes c r s h = subst (λ (o : Result PlainConfig ConfigFault). GivesUnless NoMemory (λ d. d) r o) (spelled_is_read edition bytes c s) h

@@ -1,7 +1,6 @@
 -- The numbers of the faults, their words and their values.
 use Rattle.std.specs.Prelude.{ℕ, List, [], ◌++◌, Result, codes}
 use Rattle.std.specs.Fmt.{decimal}
-use Rattle.net_base.specs.Gives.{GivesUnless}
 use Rattle.text_faults.specs.Telling.{Telling}
 use Rattle.config_reader.specs.declared.fault.ConfigFault.{ConfigFault}
 use Rattle.config_reader.specs.declared.fault.ConfigFault.TheVariants.{Version, Line, Order, Twice, Number, Unfinished, NoMemory}
@@ -42,7 +41,3 @@ values_of NoMemory = []
 -- how each fault is told, and which one is want of memory
 abbrev pub told : Telling ConfigFault
 told = record { number_of = number_of; word_of = word_of; values_of = values_of; no_memory = NoMemory }
-
--- what came back, seen by view, is what reading gives, unless memory ran out
-abbrev pub Gives : {X Y : Type 0} → (X → Y) → Result X ConfigFault → Result Y ConfigFault → Type 0
-Gives view result read = GivesUnless NoMemory view result read

@@ -2,7 +2,6 @@
 use Rattle.std.specs.Prelude.{ℕ, ◌+◌, ◌&&◌, ◌||◌, ◌==◌, not, Bool, true, false, List, [], ◌∷◌, ◌++◌, length, is_none, Option, Some, None, Result, Ok}
 use Rattle.std.specs.List.{list_any}
 use Rattle.std.specs.Str.{bytes_eq}
-use Rattle.net_base.specs.Gives.{GivesUnless}
 use Rattle.net_base.specs.Prefixes.{PlainPattern}
 use Rattle.net_base.specs.Steps.{◌>>=◌, or_fault, unless}
 use Rattle.config_base.specs.declared.config.RouterConfig.{RouterConfig}
@@ -18,10 +17,6 @@ use Rattle.config_reader.specs.declared.reading.Reading.{Reading}
 use Rattle.config_reader.specs.declared.reading.Misplaced.{Misplaced}
 use Rattle.config_reader.specs.declared.reading.Misplaced.TheVariants.{Order, Twice, NoMemory}
 use Rattle.config_reader.specs.Order.{ascends, import_key, export_key}
-
--- what came back, seen by view, is what the rules give, unless memory ran out
-abbrev pub Gives : {X Y : Type 0} → (X → Y) → Result X Misplaced → Result Y Misplaced → Type 0
-Gives view result read = GivesUnless NoMemory view result read
 
 -- nothing was read
 abbrev pub opening : Reading

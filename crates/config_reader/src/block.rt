@@ -1,6 +1,7 @@
 //! The block of a router that is being read, and what the next line makes of it.
 ghost use Rattle.std.specs.Prelude.{◌≡◌};
-ghost use Rattle.config_reader.specs.Reading.{Gives, closed, own_into, neighbour_into, import_into, export_into, import_in_block, export_in_block};
+ghost use Rattle.net_base.specs.Gives.{GivesUnless};
+ghost use Rattle.config_reader.specs.Reading.{closed, own_into, neighbour_into, import_into, export_into, import_in_block, export_in_block};
 
 use crate::order::{export_ascends, import_ascends, origination_ascends};
 use crate::reading::{Misplaced, OpenRouter};
@@ -11,7 +12,7 @@ use std::alloc::Global;
 /// The block of a router with one more route of its own.
 #[tactic(auto, unfolding(crate::specs::Reading::own_into))]
 pub fn push_origination(current: OpenRouter, line: Origination) -> Result<OpenRouter, Misplaced>
-    ensures { Gives (λ o. o) result (own_into current line) }
+    ensures { GivesUnless Misplaced.NoMemory (λ o. o) result (own_into current line) }
 {
     let OpenRouter {
         mut router,
@@ -34,7 +35,7 @@ pub fn push_origination(current: OpenRouter, line: Origination) -> Result<OpenRo
 
 // The router, with the block of a neighbour that was open.
 fn close(mut router: RouterConfig, block: Option<Session>) -> Result<RouterConfig, Misplaced>
-    ensures { Gives (λ r. r) result (Ok (closed router block)) }
+    ensures { GivesUnless Misplaced.NoMemory (λ r. r) result (Ok (closed router block)) }
 {
     match block {
         Some(session) => {
@@ -54,7 +55,7 @@ pub fn begin_block(
     name: Name,
     asn: u32,
 ) -> Result<OpenRouter, Misplaced>
-    ensures { Gives (λ o. o) result (neighbour_into peer current name asn) }
+    ensures { GivesUnless Misplaced.NoMemory (λ o. o) result (neighbour_into peer current name asn) }
 {
     let OpenRouter {
         router,
@@ -81,7 +82,7 @@ pub fn begin_block(
 // The block of a neighbour with one more import.
 #[tactic(auto, unfolding(crate::specs::Reading::import_into))]
 fn add_import(mut session: Session, peer: bool, line: Import) -> Result<Session, Misplaced>
-    ensures { Gives (λ s. s) result (import_into peer session line) }
+    ensures { GivesUnless Misplaced.NoMemory (λ s. s) result (import_into peer session line) }
 {
     if session.peer != peer || !session.exports.as_slice().is_empty() {
         return Err(Misplaced::Order);
@@ -96,7 +97,7 @@ fn add_import(mut session: Session, peer: bool, line: Import) -> Result<Session,
 // The block of a neighbour with one more export.
 #[tactic(auto, unfolding(crate::specs::Reading::export_into))]
 fn add_export(mut session: Session, line: Export) -> Result<Session, Misplaced>
-    ensures { Gives (λ s. s) result (export_into session line) }
+    ensures { GivesUnless Misplaced.NoMemory (λ s. s) result (export_into session line) }
 {
     if !export_ascends(session.exports.as_slice(), &line) {
         return Err(Misplaced::Order);
@@ -108,7 +109,7 @@ fn add_export(mut session: Session, line: Export) -> Result<Session, Misplaced>
 /// The block of a router with one more import in that of a neighbour.
 #[tactic(auto, unfolding(crate::specs::Reading::import_in_block))]
 pub fn push_import(current: OpenRouter, peer: bool, line: Import) -> Result<OpenRouter, Misplaced>
-    ensures { Gives (λ o. o) result (import_in_block peer current line) }
+    ensures { GivesUnless Misplaced.NoMemory (λ o. o) result (import_in_block peer current line) }
 {
     let OpenRouter {
         router,
@@ -129,7 +130,7 @@ pub fn push_import(current: OpenRouter, peer: bool, line: Import) -> Result<Open
 /// The block of a router with one more export in that of a neighbour.
 #[tactic(auto, unfolding(crate::specs::Reading::export_in_block))]
 pub fn push_export(current: OpenRouter, line: Export) -> Result<OpenRouter, Misplaced>
-    ensures { Gives (λ o. o) result (export_in_block current line) }
+    ensures { GivesUnless Misplaced.NoMemory (λ o. o) result (export_in_block current line) }
 {
     let OpenRouter {
         router,
@@ -149,7 +150,7 @@ pub fn push_export(current: OpenRouter, line: Export) -> Result<OpenRouter, Misp
 
 /// The router whose block ends.
 pub fn closed_router(current: OpenRouter) -> Result<RouterConfig, Misplaced>
-    ensures { Gives (λ r. r) result (Ok (closed current.router current.block)) }
+    ensures { GivesUnless Misplaced.NoMemory (λ r. r) result (Ok (closed current.router current.block)) }
 {
     let OpenRouter {
         router,

@@ -1,7 +1,7 @@
 //! A text is read line by line.
 ghost use Rattle.std.specs.Prelude.{◌≡◌, ◌==◌, ◌<◌, ◌^◌, None, Ok, IfOk, length};
 ghost use Rattle.std.specs.List.{slice_split};
-ghost use Rattle.config_reader.specs.Faults.{Gives};
+ghost use Rattle.net_base.specs.Gives.{GivesUnless};
 ghost use Rattle.config_reader.specs.Reading.{after as after_line};
 ghost use Rattle.config_reader.specs.Text.{read_at, placed_at, with_line, finished, behind_heading, in_lines, spelled_in, spelled};
 ghost use Rattle.std.specs.Str.{bytes_eq};
@@ -25,7 +25,7 @@ fn line_at(
     bytes: &[u8],
     classes: u32,
 ) -> Result<Line, ConfigFault>
-    ensures { Gives (λ l. l) result (read_at number (line_of edition bytes.now classes)) }
+    ensures { GivesUnless ConfigFault.NoMemory (λ l. l) result (read_at number (line_of edition bytes.now classes)) }
 {
     match read_line(alloc, edition, bytes, classes) {
         Ok(line) => Ok(line),
@@ -42,7 +42,7 @@ fn after_at(
     reading: Reading,
     line: Line,
 ) -> Result<Reading, ConfigFault>
-    ensures { Gives (λ r. r) result (placed_at number (after_line reading line)) }
+    ensures { GivesUnless ConfigFault.NoMemory (λ r. r) result (placed_at number (after_line reading line)) }
 {
     match after(alloc, reading, line) {
         Ok(next) => Ok(next),
@@ -62,7 +62,7 @@ fn take_line(
     bytes: &[u8],
 ) -> Result<Reading, ConfigFault>
     requires { length reading.classes < 2 ^ 32 }
-    ensures { Gives (λ r. r) result (with_line edition number reading bytes.now) }
+    ensures { GivesUnless ConfigFault.NoMemory (λ r. r) result (with_line edition number reading bytes.now) }
 {
     let classes = reading.classes.as_slice().len() as u32;
     let line = line_at(alloc, edition, number, bytes, classes)?;
@@ -73,7 +73,7 @@ fn take_line(
 #[tactic(auto, unfolding(crate::specs::Text::finished))]
 fn finish(reading: Reading, rest: &[u8]) -> Result<Config, ConfigFault>
     requires { reading.opened ≡ None → IsConfig (record { classes = reading.classes; routers = reading.routers }) }
-    ensures { Gives (λ c. c) result (finished reading rest.now) }
+    ensures { GivesUnless ConfigFault.NoMemory (λ c. c) result (finished reading rest.now) }
 {
     let Reading {
         classes,
@@ -89,7 +89,7 @@ fn finish(reading: Reading, rest: &[u8]) -> Result<Config, ConfigFault>
 // The configuration of the bytes behind the first line, which has the number 1.
 fn read_behind_heading(alloc: Global, edition: Edition, bytes: &[u8]) -> Result<Config, ConfigFault>
     requires { length bytes.now < 4294967294 }
-    ensures { Gives (λ c. c) result (behind_heading edition (slice_split (λ b. b == 10) bytes.now)) }
+    ensures { GivesUnless ConfigFault.NoMemory (λ c. c) result (behind_heading edition (slice_split (λ b. b == 10) bytes.now)) }
 {
     let mut reading = nothing_read(alloc);
     let mut number = 2;
@@ -112,7 +112,7 @@ fn is_heading(edition: Edition, line: &[u8]) -> bool
 // The configuration of the bytes as a text of this edition, or its first fault.
 fn read_text(alloc: Global, edition: Edition, bytes: &[u8]) -> Result<Config, ConfigFault>
     requires { length bytes.now < 4294967295 }
-    ensures { Gives (λ c. c) result (spelled_in edition bytes.now) }
+    ensures { GivesUnless ConfigFault.NoMemory (λ c. c) result (spelled_in edition bytes.now) }
 {
     let Some((first, more)) = halves(b'\n', bytes) else {
         return Err(ConfigFault::Version);
@@ -126,9 +126,9 @@ fn read_text(alloc: Global, edition: Edition, bytes: &[u8]) -> Result<Config, Co
 // The configuration that the bytes spell in this edition, or the first fault of the text.
 fn read_edition(alloc: Global, edition: Edition, bytes: &[u8]) -> Result<Config, ConfigFault>
     requires { length bytes.now < 4294967295 }
-    ensures exact { Gives (λ c. c) result (spelled_in edition bytes.now) }
+    ensures exact { GivesUnless ConfigFault.NoMemory (λ c. c) result (spelled_in edition bytes.now) }
     ensures spells { IfOk result (λ c. SpellsIn edition bytes.now c) }
-    ensures only { (c : PlainConfig) → SpellsIn edition bytes.now c → Gives (λ d. d) result (Ok c) }
+    ensures only { (c : PlainConfig) → SpellsIn edition bytes.now c → GivesUnless ConfigFault.NoMemory (λ d. d) result (Ok c) }
 {
     read_text(alloc, edition, bytes)
 }
@@ -138,9 +138,9 @@ fn read_edition(alloc: Global, edition: Edition, bytes: &[u8]) -> Result<Config,
 /// line to line, and takes memory for what was read alone. A text of the first edition is refused by its version.
 pub fn read_config(alloc: Global, bytes: &[u8]) -> Result<Config, ConfigFault>
     requires { length bytes.now < 4294967295 }
-    ensures exact { Gives (λ c. c) result (spelled bytes.now) }
+    ensures exact { GivesUnless ConfigFault.NoMemory (λ c. c) result (spelled bytes.now) }
     ensures spells { IfOk result (λ c. Spells bytes.now c) }
-    ensures only { (c : PlainConfig) → Spells bytes.now c → Gives (λ d. d) result (Ok c) }
+    ensures only { (c : PlainConfig) → Spells bytes.now c → GivesUnless ConfigFault.NoMemory (λ d. d) result (Ok c) }
 {
     read_edition(alloc, Edition::Second, bytes)
 }
@@ -149,9 +149,9 @@ pub fn read_config(alloc: Global, bytes: &[u8]) -> Result<Config, ConfigFault>
 /// the order of `read_config`.
 pub fn read_config_1(alloc: Global, bytes: &[u8]) -> Result<Config, ConfigFault>
     requires { length bytes.now < 4294967295 }
-    ensures exact { Gives (λ c. c) result (spelled_in First bytes.now) }
+    ensures exact { GivesUnless ConfigFault.NoMemory (λ c. c) result (spelled_in First bytes.now) }
     ensures spells { IfOk result (λ c. SpellsIn First bytes.now c) }
-    ensures only { (c : PlainConfig) → SpellsIn First bytes.now c → Gives (λ d. d) result (Ok c) }
+    ensures only { (c : PlainConfig) → SpellsIn First bytes.now c → GivesUnless ConfigFault.NoMemory (λ d. d) result (Ok c) }
 {
     read_edition(alloc, Edition::First, bytes)
 }

@@ -1,6 +1,7 @@
 //! What was read so far, and what the next line makes of it.
 ghost use Rattle.std.specs.Prelude.{◌≡◌, ◌==◌, ◌&&◌, is_none, length};
-ghost use Rattle.config_reader.specs.Reading.{Gives, opening, is_next as next, with_class, with_router, with_own, with_neighbour, with_import, with_export, with_end, after as after_line};
+ghost use Rattle.net_base.specs.Gives.{GivesUnless};
+ghost use Rattle.config_reader.specs.Reading.{opening, is_next as next, with_class, with_router, with_own, with_neighbour, with_import, with_export, with_end, after as after_line};
 
 use crate::block::{begin_block, closed_router, push_export, push_import, push_origination};
 use crate::names::Names;
@@ -99,7 +100,7 @@ fn add_class(
     number: Option<u32>,
     patterns: List<Pattern>,
 ) -> Result<Reading, Misplaced>
-    ensures { Gives (λ r. r) result (with_class reading number patterns) }
+    ensures { GivesUnless Misplaced.NoMemory (λ r. r) result (with_class reading number patterns) }
 {
     if !is_before_routers(&reading) {
         return Err(Misplaced::Order);
@@ -120,7 +121,7 @@ fn begin_router(
     asn: u32,
     id: u32,
 ) -> Result<Reading, Misplaced>
-    ensures { Gives (λ r. r) result (with_router reading name asn id) }
+    ensures { GivesUnless Misplaced.NoMemory (λ r. r) result (with_router reading name asn id) }
 {
     let Reading {
         classes,
@@ -155,7 +156,7 @@ fn begin_router(
 // An originate line.
 #[tactic(auto, unfolding(crate::specs::Reading::with_own))]
 fn add_origination(reading: Reading, line: Origination) -> Result<Reading, Misplaced>
-    ensures { Gives (λ r. r) result (with_own reading line) }
+    ensures { GivesUnless Misplaced.NoMemory (λ r. r) result (with_own reading line) }
 {
     let Reading {
         classes,
@@ -182,7 +183,7 @@ fn begin_neighbour(
     name: Name,
     asn: u32,
 ) -> Result<Reading, Misplaced>
-    ensures { Gives (λ r. r) result (with_neighbour peer reading name asn) }
+    ensures { GivesUnless Misplaced.NoMemory (λ r. r) result (with_neighbour peer reading name asn) }
 {
     let Reading {
         classes,
@@ -203,7 +204,7 @@ fn begin_neighbour(
 // An import line, in the block of a peer or of a router.
 #[tactic(auto, unfolding(crate::specs::Reading::with_import))]
 fn import(reading: Reading, peer: bool, line: Import) -> Result<Reading, Misplaced>
-    ensures { Gives (λ r. r) result (with_import peer reading line) }
+    ensures { GivesUnless Misplaced.NoMemory (λ r. r) result (with_import peer reading line) }
 {
     let Reading {
         classes,
@@ -224,7 +225,7 @@ fn import(reading: Reading, peer: bool, line: Import) -> Result<Reading, Misplac
 // An export line.
 #[tactic(auto, unfolding(crate::specs::Reading::with_export))]
 fn export(reading: Reading, line: Export) -> Result<Reading, Misplaced>
-    ensures { Gives (λ r. r) result (with_export reading line) }
+    ensures { GivesUnless Misplaced.NoMemory (λ r. r) result (with_export reading line) }
 {
     let Reading {
         classes,
@@ -245,7 +246,7 @@ fn export(reading: Reading, line: Export) -> Result<Reading, Misplaced>
 // The end of a router's block.
 #[tactic(auto, unfolding(crate::specs::Reading::with_end))]
 fn end_router(alloc: Global, reading: Reading) -> Result<Reading, Misplaced>
-    ensures { Gives (λ r. r) result (with_end reading) }
+    ensures { GivesUnless Misplaced.NoMemory (λ r. r) result (with_end reading) }
 {
     let Reading {
         classes,
@@ -265,7 +266,7 @@ fn end_router(alloc: Global, reading: Reading) -> Result<Reading, Misplaced>
 
 /// What was read so far with one more line, or why the line can't follow.
 pub fn after(alloc: Global, reading: Reading, line: Line) -> Result<Reading, Misplaced>
-    ensures { Gives (λ r. r) result (after_line reading line) }
+    ensures { GivesUnless Misplaced.NoMemory (λ r. r) result (after_line reading line) }
 {
     match line {
         Line::Class(number, patterns) => add_class(reading, number, patterns),

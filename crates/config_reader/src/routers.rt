@@ -1,7 +1,8 @@
 //! The routers that are read.
 ghost use Rattle.std.specs.Prelude.{◌≡◌, ◌++◌, ◌∷◌, [], IfOk, IfErr, length, nat_eq};
 ghost use Rattle.std.specs.List.{list_any};
-ghost use Rattle.config_reader.specs.Reading.{Gives, stood_before};
+ghost use Rattle.net_base.specs.Gives.{GivesUnless};
+ghost use Rattle.config_reader.specs.Reading.{stood_before};
 
 use crate::names::Names;
 use crate::reading::Misplaced;
@@ -68,7 +69,7 @@ impl Routers {
 
     /// These routers and one more.
     pub fn with(self, alloc: Global, router: RouterConfig) -> Result<Routers, Misplaced>
-        ensures { Gives (λ r. r) result (Ok (self ++ router ∷ [])) }
+        ensures { GivesUnless Misplaced.NoMemory (λ r. r) result (Ok (self ++ router ∷ [])) }
     {
         let Routers {
             mut all,

@@ -1,1 +1,4 @@
 pub mod ReadPrefixes
+pub mod RulesKept
+pub mod ShapeFaults
+pub mod TextLaws

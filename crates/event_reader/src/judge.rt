@@ -2,9 +2,9 @@
 ghost use Rattle.std.specs.Prelude.{◌≡◌, length, map, nat_le};
 ghost use Rattle.std.specs.Result.{result_ok};
 ghost use Rattle.event_reader.specs.declared.limits.TheConstants.{EVENTS as LIMIT};
+ghost use Rattle.net_base.specs.Gives.{GivesUnless};
 ghost use Rattle.net_base.specs.PrefixText.{prefix_spelled};
 ghost use Rattle.net_base.specs.Steps.{each_from, or_fault, unless};
-ghost use Rattle.event_reader.specs.Gives.{Gives};
 ghost use Rattle.event_reader.specs.Rules.{judged, located, placed};
 ghost use Rattle.event_reader.specs.Views.{raw_event, raw_events};
 
@@ -19,7 +19,7 @@ use std::alloc::Global;
 
 /// There are not more events than a list may have.
 fn are_few(events: &[RawEvent<'_>]) -> Result<(), EventsFault>
-    ensures { Gives (λ u. u) result (unless (EventsFault.TooMany (length events.now)) (nat_le (length events.now) LIMIT)) }
+    ensures { GivesUnless EventsFault.NoMemory (λ u. u) result (unless (EventsFault.TooMany (length events.now)) (nat_le (length events.now) LIMIT)) }
 {
     let count = events.len() as u64;
     if count <= EVENTS {
@@ -32,7 +32,7 @@ fn are_few(events: &[RawEvent<'_>]) -> Result<(), EventsFault>
 /// The location of a name in the event at a place.
 #[tactic(auto, unfolding(crate::specs::Rules::located))]
 fn locate(names: &LocationNames<'_>, place: u64, name: &str) -> Result<Loc, EventsFault>
-    ensures { Gives (λ l. l) result (located names.now place name.now) }
+    ensures { GivesUnless EventsFault.NoMemory (λ l. l) result (located names.now place name.now) }
 {
     match names.location(name) {
         Some(at) => Ok(at),
@@ -43,7 +43,7 @@ fn locate(names: &LocationNames<'_>, place: u64, name: &str) -> Result<Loc, Even
 /// The event at a place.
 #[tactic(auto, unfolding(crate::specs::Rules::placed))]
 fn event(names: &LocationNames<'_>, place: u64, raw: &RawEvent<'_>) -> Result<Event, EventsFault>
-    ensures { Gives (λ e. e) result (placed names.now place (raw_event raw.now)) }
+    ensures { GivesUnless EventsFault.NoMemory (λ e. e) result (placed names.now place (raw_event raw.now)) }
 {
     match raw {
         RawEvent::Link(word, first, second) => {
@@ -64,7 +64,7 @@ fn events(
     names: &LocationNames<'_>,
     raw: &[RawEvent<'_>],
 ) -> Result<Vec<Event>, EventsFault>
-    ensures { Gives (λ v. v.items) result (each_from (placed names.now) 1 (map raw_event raw.now)) }
+    ensures { GivesUnless EventsFault.NoMemory (λ v. v.items) result (each_from (placed names.now) 1 (map raw_event raw.now)) }
 {
     let mut all = Vec::new(alloc);
     for said in raw {
@@ -76,7 +76,7 @@ fn events(
 
 /// The prefix of a text.
 fn prefix_of(text: &str) -> Result<Prefix, EventsFault>
-    ensures { Gives (λ p. p) result (or_fault EventsFault.BadPrefix (result_ok (prefix_spelled text.now))) }
+    ensures { GivesUnless EventsFault.NoMemory (λ p. p) result (or_fault EventsFault.BadPrefix (result_ok (prefix_spelled text.now))) }
 {
     match read_prefix(text.as_bytes()) {
         Ok(prefix) => Ok(prefix),
@@ -87,7 +87,7 @@ fn prefix_of(text: &str) -> Result<Prefix, EventsFault>
 /// The events of what is said, or the least rule that it breaks.
 #[tactic(auto, unfolding(crate::specs::Rules::judged))]
 pub fn judge(alloc: Global, net: &Net, raw: &RawEvents<'_>) -> Result<Events, EventsFault>
-    ensures { Gives (λ events. events) result (judged net.now (raw_events raw.now)) }
+    ensures { GivesUnless EventsFault.NoMemory (λ events. events) result (judged net.now (raw_events raw.now)) }
 {
     are_few(&raw.events)?;
     let names = LocationNames::of(alloc, net)?;

@@ -3,13 +3,14 @@
 
 ghost use Rattle.serde_json.specs.View.{view};
 ghost use Rattle.json_words.specs.Json.{json_of};
+ghost use Rattle.net_base.specs.Gives.{GivesUnless};
 ghost use Rattle.net_base.specs.Steps.{or_fault};
-ghost use Rattle.event_reader.specs.Gives.{Gives};
 ghost use Rattle.event_reader.specs.Spelled.{spelled};
 
 mod events;
 mod fault;
 mod judge;
+pub mod laws;
 pub mod limits;
 mod shape;
 mod words;
@@ -24,7 +25,7 @@ pub use words::{LinkWord, RouterWord};
 
 /// The JSON value that the bytes spell.
 fn value_of(alloc: Global, bytes: &[u8]) -> Result<Value, EventsFault>
-    ensures { Gives view result (or_fault EventsFault.NotJson (json_of bytes.now)) }
+    ensures { GivesUnless EventsFault.NoMemory view result (or_fault EventsFault.NotJson (json_of bytes.now)) }
 {
     match json_value(alloc, bytes) {
         Ok(value) => Ok(value),
@@ -37,7 +38,7 @@ fn value_of(alloc: Global, bytes: &[u8]) -> Result<Value, EventsFault>
 /// Whether an event can happen isn't asked.
 #[tactic(auto, unfolding(crate::specs::Spelled::spelled))]
 pub fn read_events(alloc: Global, bytes: &[u8], net: &Net) -> Result<Events, EventsFault>
-    ensures { Gives (λ events. events) result (spelled net.now bytes.now) }
+    ensures { GivesUnless EventsFault.NoMemory (λ events. events) result (spelled net.now bytes.now) }
 {
     let value = value_of(alloc, bytes)?;
     let raw = shape::shape(alloc, &value)?;

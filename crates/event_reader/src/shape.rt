@@ -1,8 +1,8 @@
 //! The shape of an event text.
 ghost use Rattle.std.specs.Prelude.{◌≡◌, map, option_map};
+ghost use Rattle.net_base.specs.Gives.{GivesUnless};
 ghost use Rattle.net_base.specs.Steps.{each_from};
 ghost use Rattle.serde_json.specs.View.{view};
-ghost use Rattle.event_reader.specs.Gives.{Gives};
 ghost use Rattle.event_reader.specs.Shape.{between_two, event_of, of_router, shape_of, text_in};
 ghost use Rattle.event_reader.specs.Views.{raw_event, raw_events};
 
@@ -31,7 +31,7 @@ pub struct RawEvents<'a> {
 /// The text at a place of an array, from 0.
 #[tactic(auto, unfolding(crate::specs::Shape::text_in))]
 fn text_at<'a>(place: u64, parts: &'a [Value], index: usize) -> Result<&'a str, EventsFault>
-    ensures { Gives (λ s. s.now) result (text_in place (map view parts.now) index) }
+    ensures { GivesUnless EventsFault.NoMemory (λ s. s.now) result (text_in place (map view parts.now) index) }
 {
     let Some(part) = parts.get(index) else {
         return Err(EventsFault::Shape(place));
@@ -45,7 +45,7 @@ fn text_at<'a>(place: u64, parts: &'a [Value], index: usize) -> Result<&'a str, 
 /// The event between two locations that the parts of an array say.
 #[tactic(auto, unfolding(crate::specs::Shape::between_two))]
 fn link_event(place: u64, parts: &[Value]) -> Result<RawEvent<'_>, EventsFault>
-    ensures { Gives raw_event result (between_two place (map view parts.now)) }
+    ensures { GivesUnless EventsFault.NoMemory raw_event result (between_two place (map view parts.now)) }
 {
     let word = text_at(place, parts, 0)?;
     let Some(word) = LinkWord::of(word) else {
@@ -59,7 +59,7 @@ fn link_event(place: u64, parts: &[Value]) -> Result<RawEvent<'_>, EventsFault>
 /// The event to a router that the parts of an array say.
 #[tactic(auto, unfolding(crate::specs::Shape::of_router))]
 fn router_event(place: u64, parts: &[Value]) -> Result<RawEvent<'_>, EventsFault>
-    ensures { Gives raw_event result (of_router place (map view parts.now)) }
+    ensures { GivesUnless EventsFault.NoMemory raw_event result (of_router place (map view parts.now)) }
 {
     let word = text_at(place, parts, 0)?;
     let Some(word) = RouterWord::of(word) else {
@@ -72,7 +72,7 @@ fn router_event(place: u64, parts: &[Value]) -> Result<RawEvent<'_>, EventsFault
 /// The event at a place, from 1.
 #[tactic(auto, unfolding(crate::specs::Shape::event_of))]
 fn event(place: u64, value: &Value) -> Result<RawEvent<'_>, EventsFault>
-    ensures { Gives raw_event result (event_of place (view value.now)) }
+    ensures { GivesUnless EventsFault.NoMemory raw_event result (event_of place (view value.now)) }
 {
     let Some(parts) = list(value) else {
         return Err(EventsFault::Shape(place));
@@ -88,7 +88,7 @@ fn event(place: u64, value: &Value) -> Result<RawEvent<'_>, EventsFault>
 
 /// The events of an array.
 fn events(alloc: Global, values: &[Value]) -> Result<Vec<RawEvent<'_>>, EventsFault>
-    ensures { Gives (λ v. map raw_event v.items) result (each_from event_of 1 (map view values.now)) }
+    ensures { GivesUnless EventsFault.NoMemory (λ v. map raw_event v.items) result (each_from event_of 1 (map view values.now)) }
 {
     let mut all = Vec::new(alloc);
     for value in values {
@@ -101,7 +101,7 @@ fn events(alloc: Global, values: &[Value]) -> Result<Vec<RawEvent<'_>>, EventsFa
 /// What a value says that has the shape of an event text, or the first part that is not as it should be.
 #[tactic(auto, unfolding(crate::specs::Shape::shape_of))]
 pub fn shape(alloc: Global, value: &Value) -> Result<RawEvents<'_>, EventsFault>
-    ensures { Gives raw_events result (shape_of (view value.now)) }
+    ensures { GivesUnless EventsFault.NoMemory raw_events result (shape_of (view value.now)) }
 {
     let Some(members) = value.as_object() else {
         return Err(EventsFault::Shape(0));

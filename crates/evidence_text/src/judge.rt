@@ -1,11 +1,11 @@
 //! The numbers of a text and its nodes.
 ghost use Rattle.std.specs.Prelude.{◌≡◌, ◌<◌, ◌&&◌, nat_eq, nat_lt, Ok, length, map, IfOk, IfErr, IsTrue, true};
 ghost use Rattle.std.specs.List.{AllByRecursion, list_all, list_any};
+ghost use Rattle.net_base.specs.Gives.{GivesUnless};
 ghost use Rattle.net_base.specs.declared.limits.TheConstants.{LOCATIONS};
 ghost use Rattle.net_base.specs.Sets.{set_of};
 ghost use Rattle.net_base.specs.Steps.{or_fault};
 ghost use Rattle.evidence_base.specs.Evidence.{IsCaseEvidence};
-ghost use Rattle.evidence_text.specs.Gives.{Gives};
 ghost use Rattle.evidence_text.specs.Shape.{each};
 ghost use Rattle.evidence_text.specs.Spelled.{evidence_of, is_placed as is_placed_case, numbered as numbered_text, numbered_case};
 ghost use Rattle.evidence_text.specs.Ranges.{HasRanges, IsReadCase};
@@ -25,7 +25,7 @@ fn all_of<T: Copy + Drop>(
     field: Field,
     items: &List<Option<T>>,
 ) -> Result<List<T>, EvidenceFault>
-    ensures { Gives (λ v. v) result (each (or_fault (EvidenceFault.Number field)) items.now) }
+    ensures { GivesUnless EvidenceFault.NoMemory (λ v. v) result (each (or_fault (EvidenceFault.Number field)) items.now) }
 {
     let mut all = List::new(alloc);
     for item in items.as_slice() {
@@ -51,7 +51,7 @@ fn set_of_places(places: &[u32]) -> LocSet
 
 // The number of the statement, where it is in its range.
 fn statement_of(number: Option<u32>) -> Result<u32, EvidenceFault>
-    ensures { Gives (λ n. n) result (or_fault (EvidenceFault.Number Field.Statement) number) }
+    ensures { GivesUnless EvidenceFault.NoMemory (λ n. n) result (or_fault (EvidenceFault.Number Field.Statement) number) }
 {
     match number {
         Some(number) => Ok(number),
@@ -63,7 +63,7 @@ fn statement_of(number: Option<u32>) -> Result<u32, EvidenceFault>
 #[tactic(auto, unfolding(crate::specs::Spelled::numbered_case))]
 fn read_case(alloc: Global, raw: &RawCase) -> Result<ReadCase, EvidenceFault>
     requires { HasRanges raw.now }
-    ensures { Gives (λ c. c) result (numbered_case raw.now) }
+    ensures { GivesUnless EvidenceFault.NoMemory (λ c. c) result (numbered_case raw.now) }
 {
     let nodes = all_of(alloc, Field::Nodes, &raw.nodes)?;
     let origins = all_of(alloc, Field::Origins, &raw.origins)?;
@@ -86,7 +86,7 @@ fn read_case(alloc: Global, raw: &RawCase) -> Result<ReadCase, EvidenceFault>
 
 fn read_cases(alloc: Global, raw: &[RawCase]) -> Result<List<ReadCase>, EvidenceFault>
     requires { AllByRecursion HasRanges raw.now }
-    ensures { Gives (λ v. v) result (each numbered_case raw.now) }
+    ensures { GivesUnless EvidenceFault.NoMemory (λ v. v) result (each numbered_case raw.now) }
 {
     let mut all = List::new(alloc);
     for case in raw {
@@ -100,7 +100,7 @@ fn read_cases(alloc: Global, raw: &[RawCase]) -> Result<List<ReadCase>, Evidence
 #[tactic(auto, unfolding(crate::specs::Spelled::numbered))]
 pub fn numbered(alloc: Global, raw: RawEvidence) -> Result<ReadText, EvidenceFault>
     requires { AllByRecursion HasRanges raw.cases }
-    ensures { Gives (λ t. t) result (numbered_text raw) }
+    ensures { GivesUnless EvidenceFault.NoMemory (λ t. t) result (numbered_text raw) }
 {
     let cases = read_cases(alloc, raw.cases.as_slice())?;
     match raw.version {

@@ -3,9 +3,9 @@ ghost use Rattle.std.specs.Prelude.{◌≡◌, ◌≤◌, ◌<◌, option_and_th
 ghost use Rattle.std.specs.Option.{ForSome};
 ghost use Rattle.serde_json.specs.Find.{as_number, as_u64};
 ghost use Rattle.serde_json.specs.View.{view};
+ghost use Rattle.net_base.specs.Gives.{GivesUnless};
 ghost use Rattle.net_base.specs.Steps.{or_fault};
 ghost use Rattle.evidence_text.specs.Entries.{entry as entry_of, pair as pair_of, rank_of, within};
-ghost use Rattle.evidence_text.specs.Gives.{Gives};
 ghost use Rattle.evidence_text.specs.Shape.{number_at as number_at_place, number_of};
 
 use crate::fault::EvidenceFault;
@@ -35,7 +35,7 @@ pub fn number(
     most: u32,
     value: &Value,
 ) -> Result<Option<u32>, EvidenceFault>
-    ensures number { Gives (λ n. n) result (number_of field least most (view value.now)) }
+    ensures number { GivesUnless EvidenceFault.NoMemory (λ n. n) result (number_of field least most (view value.now)) }
     ensures range { IfOk result (λ n. ForSome n (λ k. k ≤ most)) }
 {
     if value.is_number() {

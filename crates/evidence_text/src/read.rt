@@ -1,8 +1,8 @@
 //! Which evidence a text spells.
 ghost use Rattle.json_words.specs.Json.{json_of};
 ghost use Rattle.serde_json.specs.View.{view};
+ghost use Rattle.net_base.specs.Gives.{GivesUnless};
 ghost use Rattle.net_base.specs.Steps.{or_fault};
-ghost use Rattle.evidence_text.specs.Gives.{Gives};
 ghost use Rattle.evidence_text.specs.Spelled.{raw_of, spelled};
 
 use crate::fault::EvidenceFault;
@@ -16,7 +16,7 @@ use std::alloc::Global;
 
 // The JSON value that the bytes spell.
 fn value_of(alloc: Global, bytes: &[u8]) -> Result<Value, EvidenceFault>
-    ensures { Gives view result (or_fault EvidenceFault.NotJson (json_of bytes.now)) }
+    ensures { GivesUnless EvidenceFault.NoMemory view result (or_fault EvidenceFault.NotJson (json_of bytes.now)) }
 {
     match json_value(alloc, bytes) {
         Ok(value) => Ok(value),
@@ -28,7 +28,7 @@ fn value_of(alloc: Global, bytes: &[u8]) -> Result<Value, EvidenceFault>
 // What the text says. Its JSON value, which takes far more memory, is given back on the way out.
 #[tactic(auto, unfolding(crate::specs::Spelled::raw_of))]
 fn raw_evidence(alloc: Global, bytes: &[u8]) -> Result<RawEvidence, EvidenceFault>
-    ensures { Gives (λ raw. raw) result (raw_of bytes.now) }
+    ensures { GivesUnless EvidenceFault.NoMemory (λ raw. raw) result (raw_of bytes.now) }
 {
     let value = value_of(alloc, bytes)?;
     shape(alloc, &value)
@@ -38,7 +38,7 @@ fn raw_evidence(alloc: Global, bytes: &[u8]) -> Result<RawEvidence, EvidenceFaul
 /// memory in proportion to their number.
 #[tactic(auto, unfolding(crate::specs::Spelled::spelled))]
 pub fn read_evidence(alloc: Global, bytes: &[u8]) -> Result<Evidence, EvidenceFault>
-    ensures exact { Gives (λ evidence. evidence.cases) result (spelled bytes.now) }
+    ensures exact { GivesUnless EvidenceFault.NoMemory (λ evidence. evidence.cases) result (spelled bytes.now) }
 {
     let raw = raw_evidence(alloc, bytes)?;
     let text = numbered(alloc, raw)?;

@@ -3,7 +3,7 @@ ghost use Rattle.std.specs.Prelude.{◌≡◌, ◌≤◌, ◌+◌, map, length, 
 ghost use Rattle.std.specs.List.{list_any};
 ghost use Rattle.std.specs.Option.{ForSome};
 ghost use Rattle.serde_json.specs.View.{view};
-ghost use Rattle.evidence_text.specs.Gives.{Gives};
+ghost use Rattle.net_base.specs.Gives.{GivesUnless};
 ghost use Rattle.evidence_text.specs.Shape.{are_in_order as in_order, ascend_from, case_of, each, has_size as is_of_size, is_case as has_case_keys, is_evidence as has_evidence_keys, list_of, member_of, node_of, number_at as number_at_place, number_of, origins_of, prefix_of, row_of, shape_of, step_of, greatest};
 
 use crate::fault::EvidenceFault;
@@ -17,7 +17,7 @@ use std::alloc::Global;
 
 // What an object has under a key.
 fn member<'a>(value: &'a Value, field: Field, key: &str) -> Result<&'a Value, EvidenceFault>
-    ensures { Gives (λ v. view v.now) result (member_of field key.now (view value.now)) }
+    ensures { GivesUnless EvidenceFault.NoMemory (λ v. view v.now) result (member_of field key.now (view value.now)) }
 {
     match value.get(key) {
         Some(found) => Ok(found),
@@ -28,7 +28,7 @@ fn member<'a>(value: &'a Value, field: Field, key: &str) -> Result<&'a Value, Ev
 // The items of the array that an object has under a key.
 #[tactic(auto, unfolding(crate::specs::Shape::list_of))]
 fn items<'a>(value: &'a Value, field: Field, key: &str) -> Result<&'a [Value], EvidenceFault>
-    ensures { Gives (λ s. map view s.now) result (list_of field key.now (view value.now)) }
+    ensures { GivesUnless EvidenceFault.NoMemory (λ s. map view s.now) result (list_of field key.now (view value.now)) }
 {
     let found = member(value, field, key)?;
     match list(found) {
@@ -40,7 +40,7 @@ fn items<'a>(value: &'a Value, field: Field, key: &str) -> Result<&'a [Value], E
 // The items of an array that has exactly so many.
 #[tactic(auto, unfolding(crate::specs::Shape::row_of))]
 fn row(field: Field, size: usize, value: &Value) -> Result<&[Value], EvidenceFault>
-    ensures row { Gives (λ s. map view s.now) result (row_of field size (view value.now)) }
+    ensures row { GivesUnless EvidenceFault.NoMemory (λ s. map view s.now) result (row_of field size (view value.now)) }
     ensures size { IfOk result (λ s. length s.now ≡ size) }
 {
     let Some(items) = list(value) else {
@@ -61,7 +61,7 @@ fn number_at(
     row: &[Value],
     place: usize,
 ) -> Result<Option<u32>, EvidenceFault>
-    ensures number { Gives (λ n. n) result (number_at_place field least most (map view row.now) place) }
+    ensures number { GivesUnless EvidenceFault.NoMemory (λ n. n) result (number_at_place field least most (map view row.now) place) }
     ensures range { IfOk result (λ n. ForSome n (λ k. k ≤ most)) }
 {
     match row.get(place) {
@@ -73,7 +73,7 @@ fn number_at(
 // The node that an entry of `nodes` says.
 #[tactic(auto, unfolding(crate::specs::Shape::node_of))]
 fn node(value: &Value) -> Result<Option<NodeEntry>, EvidenceFault>
-    ensures { Gives (λ n. n) result (node_of (view value.now)) }
+    ensures { GivesUnless EvidenceFault.NoMemory (λ n. n) result (node_of (view value.now)) }
 {
     let row = row(Field::Nodes, 6, value)?;
     let numbers = Numbers {
@@ -90,7 +90,7 @@ fn node(value: &Value) -> Result<Option<NodeEntry>, EvidenceFault>
 // The step that an entry of `steps` says.
 #[tactic(auto, unfolding(crate::specs::Shape::step_of))]
 fn step(value: &Value) -> Result<Option<(u32, u32)>, EvidenceFault>
-    ensures { Gives (λ s. s) result (step_of (view value.now)) }
+    ensures { GivesUnless EvidenceFault.NoMemory (λ s. s) result (step_of (view value.now)) }
 {
     let row = row(Field::Steps, 2, value)?;
     let from = number_at(Field::Steps, 0, u32::MAX, row, 0)?;
@@ -101,7 +101,7 @@ fn step(value: &Value) -> Result<Option<(u32, u32)>, EvidenceFault>
 // The prefix that an entry of `prefixes` spells.
 #[tactic(auto, unfolding(crate::specs::Shape::prefix_of))]
 fn prefix(value: &Value) -> Result<Prefix, EvidenceFault>
-    ensures { Gives (λ p. p) result (prefix_of (view value.now)) }
+    ensures { GivesUnless EvidenceFault.NoMemory (λ p. p) result (prefix_of (view value.now)) }
 {
     let Some(text) = value.as_str() else {
         return Err(EvidenceFault::Shape(Field::Prefixes));
@@ -113,7 +113,7 @@ fn prefix(value: &Value) -> Result<Prefix, EvidenceFault>
 }
 
 fn nodes(alloc: Global, values: &[Value]) -> Result<List<Option<NodeEntry>>, EvidenceFault>
-    ensures { Gives (λ v. v) result (each node_of (map view values.now)) }
+    ensures { GivesUnless EvidenceFault.NoMemory (λ v. v) result (each node_of (map view values.now)) }
 {
     let mut all = List::new(alloc);
     for value in values {
@@ -124,7 +124,7 @@ fn nodes(alloc: Global, values: &[Value]) -> Result<List<Option<NodeEntry>>, Evi
 }
 
 fn steps(alloc: Global, values: &[Value]) -> Result<List<Option<(u32, u32)>>, EvidenceFault>
-    ensures { Gives (λ v. v) result (each step_of (map view values.now)) }
+    ensures { GivesUnless EvidenceFault.NoMemory (λ v. v) result (each step_of (map view values.now)) }
 {
     let mut all = List::new(alloc);
     for value in values {
@@ -135,7 +135,7 @@ fn steps(alloc: Global, values: &[Value]) -> Result<List<Option<(u32, u32)>>, Ev
 }
 
 fn prefixes(alloc: Global, values: &[Value]) -> Result<List<Prefix>, EvidenceFault>
-    ensures { Gives (λ v. v) result (each prefix_of (map view values.now)) }
+    ensures { GivesUnless EvidenceFault.NoMemory (λ v. v) result (each prefix_of (map view values.now)) }
 {
     let mut all = List::new(alloc);
     for value in values {
@@ -152,7 +152,7 @@ fn numbers(
     most: u32,
     values: &[Value],
 ) -> Result<List<Option<u32>>, EvidenceFault>
-    ensures { Gives (λ v. v) result (each (number_of field 0 most) (map view values.now)) }
+    ensures { GivesUnless EvidenceFault.NoMemory (λ v. v) result (each (number_of field 0 most) (map view values.now)) }
 {
     let mut all = List::new(alloc);
     for value in values {
@@ -195,7 +195,7 @@ fn are_in_order(origins: &[Option<u32>]) -> bool
 // The locations of the origins, ascending.
 #[tactic(auto, unfolding(crate::specs::Shape::origins_of))]
 fn origins(alloc: Global, values: &[Value]) -> Result<List<Option<u32>>, EvidenceFault>
-    ensures { Gives (λ v. v) result (origins_of (map view values.now)) }
+    ensures { GivesUnless EvidenceFault.NoMemory (λ v. v) result (origins_of (map view values.now)) }
 {
     let origins = numbers(alloc, Field::Origins, 767, values)?;
     if are_in_order(origins.as_slice()) {
@@ -233,7 +233,7 @@ fn is_case(value: &Value) -> bool
 // The case that an entry of `cases` says.
 #[tactic(auto, unfolding(crate::specs::Shape::case_of))]
 fn case(alloc: Global, value: &Value) -> Result<RawCase, EvidenceFault>
-    ensures { Gives (λ c. c) result (case_of (view value.now)) }
+    ensures { GivesUnless EvidenceFault.NoMemory (λ c. c) result (case_of (view value.now)) }
 {
     if !is_case(value) {
         return Err(EvidenceFault::Shape(Field::Case));
@@ -261,7 +261,7 @@ fn case(alloc: Global, value: &Value) -> Result<RawCase, EvidenceFault>
 }
 
 fn cases(alloc: Global, values: &[Value]) -> Result<List<RawCase>, EvidenceFault>
-    ensures { Gives (λ v. v) result (each case_of (map view values.now)) }
+    ensures { GivesUnless EvidenceFault.NoMemory (λ v. v) result (each case_of (map view values.now)) }
 {
     let mut all = List::new(alloc);
     for value in values {
@@ -282,7 +282,7 @@ fn is_evidence(value: &Value) -> bool
 /// The text that a value has the shape of, or the first part that is not as it should be.
 #[tactic(auto, unfolding(crate::specs::Shape::shape_of))]
 pub fn shape(alloc: Global, value: &Value) -> Result<RawEvidence, EvidenceFault>
-    ensures { Gives (λ e. e) result (shape_of (view value.now)) }
+    ensures { GivesUnless EvidenceFault.NoMemory (λ e. e) result (shape_of (view value.now)) }
 {
     if !is_evidence(value) {
         return Err(EvidenceFault::Shape(Field::Top));

@@ -1,5 +1,6 @@
 -- Steps that tell faults of one kind alone.
 use Rattle.std.proofs.Common.{◌≡◌, ℕ, ◌+◌, List, [], ◌∷◌, Option, Some, None, Result, Ok, Err, Bool, true, false, subst}
+use Rattle.std.specs.Prelude.{if◌then◌else◌}
 use Rattle.net_base.specs.Steps.{◌>>=◌, or_fault, unless, each_from}
 use Rattle.net_base.proofs.StepLemmas.{err_same}
 
@@ -20,11 +21,18 @@ pub only_unless : {F : Type 0} (P : F → Type 0) (e : F) (b : Bool) → P e →
 only_unless P e true is = tt
 only_unless P e false is = is
 
+pub only_if : {A F : Type 0} (P : F → Type 0) (b : Bool) (r s : Result A F) → Only P r → Only P s → Only P (if b then r else s)
+only_if P true r s one other = one
+only_if P false r s one other = other
+
+pub only_each_from : {A B F : Type 0} (P : F → Type 0) (f : ℕ → A → Result B F) → ((k : ℕ) (x : A) → Only P (f k x)) → (k : ℕ) (xs : List A) → Only P (each_from f k xs)
+only_each_from P f one k [] = tt
+only_each_from P f one k (x ∷ xs) =
+    only_bind P (f k x) (λ y. each_from f (k + 1) xs >>= (λ ys. Ok (y ∷ ys))) (one k x)
+    (λ y. only_bind P (each_from f (k + 1) xs) (λ ys. Ok (y ∷ ys)) (only_each_from P f one (k + 1) xs) (λ ys. tt))
+
 pub only_each : {A B F : Type 0} (P : F → Type 0) (f : A → Result B F) → ((x : A) → Only P (f x)) → (k : ℕ) (xs : List A) → Only P (each_from (λ _. f) k xs)
-only_each P f one k [] = tt
-only_each P f one k (x ∷ xs) =
-    only_bind P (f x) (λ y. each_from (λ _. f) (k + 1) xs >>= (λ ys. Ok (y ∷ ys))) (one x)
-    (λ y. only_bind P (each_from (λ _. f) (k + 1) xs) (λ ys. Ok (y ∷ ys)) (only_each P f one (k + 1) xs) (λ ys. tt))
+only_each P f one k xs = only_each_from P (λ _. f) (λ _. one) k xs
 
 -- the fault that was told
 pub only_err : {A F : Type 0} (P : F → Type 0) (r : Result A F) (e : F) → Only P r → r ≡ Err e → P e

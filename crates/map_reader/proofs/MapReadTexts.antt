@@ -8,6 +8,7 @@ use Rattle.std.proofs.lemmas.List.Splits.{join_with_byte-slice_split}
 use Rattle.std.proofs.lemmas.List.{length-take, nil_from_length}
 use Rattle.std.proofs.lemmas.Slice.Eq.{bytes_eq-Decides}
 use Rattle.list_laws.proofs.Options.{is_none_parts}
+use Rattle.net_base.specs.Gives.{GivesUnless}
 use Rattle.net_base.specs.Steps.{unless}
 use Rattle.net_base.proofs.StepLemmas.{bind_ok, unless_ok, ok_same}
 use Rattle.config_base.specs.Configs.{IsRouter}
@@ -28,7 +29,6 @@ use Rattle.route_map_text.specs.MapsSpelled.{IsLawful, Spells}
 use Rattle.config_reader.specs.declared.fault.ConfigFault.{ConfigFault}
 use Rattle.config_reader.specs.declared.fault.ConfigFault.TheVariants as fault
 use Rattle.map_reader.specs.declared.reading.MapsReading.{MapsReading}
-use Rattle.config_reader.specs.Faults.{Gives}
 use Rattle.map_reader.specs.MapsReading.{opening}
 use Rattle.map_reader.specs.MapsRead.{with_line, with_lines, finished, behind_heading, in_lines, spelled}
 use Rattle.map_reader.proofs.MapSteps.{with_line_ok, with_line-lists}
@@ -155,6 +155,6 @@ read_is_spelled bytes m short h = by (lines_of bytes) refl h
         record { lawful = back.1; written = sym (join_with_byte-slice_split 10 bytes) ∙ ap (join_with_byte 10) e ∙ back.0 }
 
 -- what comes back is spelled so
-pub what_is_read : (bytes : List ℕ) (r : Result PlainMaps ConfigFault) → length bytes < 4294967295 → Gives (λ m. m) r (spelled bytes) → IfOk r (λ m. Spells bytes m)
+pub what_is_read : (bytes : List ℕ) (r : Result PlainMaps ConfigFault) → length bytes < 4294967295 → GivesUnless fault.NoMemory (λ m. m) r (spelled bytes) → IfOk r (λ m. Spells bytes m)
 what_is_read bytes (Ok m) short h = read_is_spelled bytes m short h
 what_is_read bytes (Err e) short h = tt

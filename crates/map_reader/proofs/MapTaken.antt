@@ -6,6 +6,7 @@ use Rattle.std.proofs.lemmas.Bool.{ne_eqb, eq-eqb, lt-ltb}
 use Rattle.std.proofs.lemmas.List.{map-append}
 use Rattle.std.proofs.lemmas.List.Concat.{flat_map-append}
 use Rattle.list_laws.proofs.Each.{AllByRecursion-append, AllByRecursion-append_parts, AllByRecursion-weaker, AllByRecursion-both}
+use Rattle.net_base.specs.Gives.{GivesUnless}
 use Rattle.net_base.specs.Prefixes.{PlainPattern}
 use Rattle.net_base.specs.Steps.{◌>>=◌, unless}
 use Rattle.net_base.proofs.StepLemmas.{bind_ok, ok_same}
@@ -40,7 +41,7 @@ use Rattle.route_map_text.specs.MapsLines.{lines_of_list, lines_of_lists, map_li
 use Rattle.route_map_text.specs.MapsSpelled.{HavePatterns, IsLawful, Spells}
 use Rattle.config_reader.specs.declared.fault.ConfigFault.{ConfigFault}
 use Rattle.map_reader.specs.declared.reading.MapsReading.{MapsReading}
-use Rattle.config_reader.specs.Faults.{Gives}
+use Rattle.config_reader.specs.declared.fault.ConfigFault.TheVariants.{NoMemory}
 use Rattle.map_reader.specs.MapsReading.{opening, on_last, with_list, in_blocks, with_entry, is_out, entries_of, is_number_of, after_map}
 use Rattle.map_reader.specs.MapsRead.{with_line, with_lines, finished, behind_heading, in_lines, spelled}
 use Rattle.map_reader.proofs.Bounds.{weight, weight_below, numbered_are}
@@ -288,5 +289,5 @@ spelled_is_read bytes m short s =
     ap in_lines cut ∙ rw (some, whole.0, whole.1, maps_taken m s.lawful few) refl
 
 -- what comes back of such a text
-pub what_is_spelled : (bytes : List ℕ) (m : PlainMaps) (r : Result PlainMaps ConfigFault) → length bytes < 4294967295 → Spells bytes m → Gives (λ n. n) r (spelled bytes) → Gives (λ n. n) r (Ok m)
-what_is_spelled bytes m r short s h = subst (λ (o : Result PlainMaps ConfigFault). Gives (λ n. n) r o) (spelled_is_read bytes m short s) h
+pub what_is_spelled : (bytes : List ℕ) (m : PlainMaps) (r : Result PlainMaps ConfigFault) → length bytes < 4294967295 → Spells bytes m → GivesUnless NoMemory (λ n. n) r (spelled bytes) → GivesUnless NoMemory (λ n. n) r (Ok m)
+what_is_spelled bytes m r short s h = subst (λ (o : Result PlainMaps ConfigFault). GivesUnless NoMemory (λ n. n) r o) (spelled_is_read bytes m short s) h

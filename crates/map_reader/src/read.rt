@@ -2,11 +2,11 @@
 ghost use Rattle.std.specs.Prelude.{◌≡◌, ◌==◌, ◌<◌, ◌^◌, None, Ok, IfOk, length};
 ghost use Rattle.std.specs.List.{slice_split};
 ghost use Rattle.std.specs.Str.{bytes_eq};
+ghost use Rattle.net_base.specs.Gives.{GivesUnless};
 ghost use Rattle.route_maps.specs.Maps.{PlainMaps, IsMaps};
 ghost use Rattle.map_lines.specs.MapLines.{map_line_of};
 ghost use Rattle.route_map_text.specs.MapsLines.{first_line};
 ghost use Rattle.route_map_text.specs.MapsSpelled.{Spells};
-ghost use Rattle.config_reader.specs.Faults.{Gives};
 ghost use Rattle.map_reader.specs.MapsReading.{after_map};
 ghost use Rattle.map_reader.specs.MapsRead.{read_at, placed_at, with_line, finished, behind_heading, in_lines, spelled};
 
@@ -37,7 +37,7 @@ fn after_at(
     reading: MapsReading,
     line: MapLine,
 ) -> Result<MapsReading, MapsFault>
-    ensures { Gives (λ r. r) result (placed_at number (after_map reading line)) }
+    ensures { GivesUnless MapsFault.NoMemory (λ r. r) result (placed_at number (after_map reading line)) }
 {
     match after_line(alloc, reading, line) {
         Ok(next) => Ok(next),
@@ -56,7 +56,7 @@ fn take_line(
     bytes: &[u8],
 ) -> Result<MapsReading, MapsFault>
     requires { length reading.lists < 2 ^ 32 }
-    ensures { Gives (λ r. r) result (with_line number reading bytes.now) }
+    ensures { GivesUnless MapsFault.NoMemory (λ r. r) result (with_line number reading bytes.now) }
 {
     let lists = reading.lists.as_slice().len() as u32;
     let line = line_at(number, bytes, lists)?;
@@ -67,7 +67,7 @@ fn take_line(
 #[tactic(auto, unfolding(crate::specs::MapsRead::finished))]
 fn finish(reading: MapsReading, rest: &[u8]) -> Result<Maps, MapsFault>
     requires { reading.blocks.opened ≡ None → IsMaps (record { lists = reading.lists; routers = reading.blocks.routers }) }
-    ensures { Gives (λ m. m) result (finished reading rest.now) }
+    ensures { GivesUnless MapsFault.NoMemory (λ m. m) result (finished reading rest.now) }
 {
     let MapsReading { lists, blocks } = reading;
     if blocks.opened.is_some() || !rest.is_empty() {
@@ -79,7 +79,7 @@ fn finish(reading: MapsReading, rest: &[u8]) -> Result<Maps, MapsFault>
 // The maps of the bytes behind the first line, which has the number 1.
 fn read_behind_heading(alloc: Global, bytes: &[u8]) -> Result<Maps, MapsFault>
     requires { length bytes.now < 4294967294 }
-    ensures { Gives (λ m. m) result (behind_heading (slice_split (λ b. b == 10) bytes.now)) }
+    ensures { GivesUnless MapsFault.NoMemory (λ m. m) result (behind_heading (slice_split (λ b. b == 10) bytes.now)) }
 {
     let mut reading = no_line(alloc);
     let mut number = 2;
@@ -102,7 +102,7 @@ fn is_heading(line: &[u8]) -> bool
 // The maps of the bytes, or the first fault of the text.
 fn read_text(alloc: Global, bytes: &[u8]) -> Result<Maps, MapsFault>
     requires { length bytes.now < 4294967295 }
-    ensures { Gives (λ m. m) result (spelled bytes.now) }
+    ensures { GivesUnless MapsFault.NoMemory (λ m. m) result (spelled bytes.now) }
 {
     let Some((first, more)) = halves(b'\n', bytes) else {
         return Err(MapsFault::Version);
@@ -118,9 +118,9 @@ fn read_text(alloc: Global, bytes: &[u8]) -> Result<Maps, MapsFault>
 /// and takes memory for what was read alone.
 pub fn read_maps(alloc: Global, bytes: &[u8]) -> Result<Maps, MapsFault>
     requires { length bytes.now < 4294967295 }
-    ensures exact { Gives (λ m. m) result (spelled bytes.now) }
+    ensures exact { GivesUnless MapsFault.NoMemory (λ m. m) result (spelled bytes.now) }
     ensures spells { IfOk result (λ m. Spells bytes.now m) }
-    ensures only { (m : PlainMaps) → Spells bytes.now m → Gives (λ n. n) result (Ok m) }
+    ensures only { (m : PlainMaps) → Spells bytes.now m → GivesUnless MapsFault.NoMemory (λ n. n) result (Ok m) }
 {
     read_text(alloc, bytes)
 }

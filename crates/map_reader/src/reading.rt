@@ -1,6 +1,6 @@
 //! What was read so far, and what the next line makes of it.
 ghost use Rattle.std.specs.Prelude.{◌≡◌, [], ◌∷◌, ◌++◌, IfOk};
-ghost use Rattle.config_reader.specs.Reading.{Gives};
+ghost use Rattle.net_base.specs.Gives.{GivesUnless};
 ghost use Rattle.map_reader.specs.MapsReading.{opening, continues as continues_last, on_last, with_list, in_blocks, is_out, entries_of, is_number_of, with_entry, after_map};
 
 use config_lines::Line;
@@ -91,7 +91,7 @@ fn add_list_line(
     number: Option<u32>,
     line: ListLine,
 ) -> Result<MapsReading, Misplaced>
-    ensures { Gives (λ r. r) result (with_list reading number line) }
+    ensures { GivesUnless Misplaced.NoMemory (λ r. r) result (with_list reading number line) }
 {
     let MapsReading { lists, blocks } = reading;
     if continues(number, lists.as_slice().len(), &blocks) {
@@ -107,7 +107,7 @@ fn add_list_line(
 // A line of a router's block.
 #[tactic(auto, unfolding(crate::specs::MapsReading::in_blocks))]
 fn add_to_blocks(alloc: Global, reading: MapsReading, line: Line) -> Result<MapsReading, Misplaced>
-    ensures { Gives (λ r. r) result (in_blocks reading line) }
+    ensures { GivesUnless Misplaced.NoMemory (λ r. r) result (in_blocks reading line) }
 {
     let MapsReading { lists, blocks } = reading;
     let blocks = after(alloc, blocks, line)?;
@@ -156,7 +156,7 @@ fn add_entry(
     number: Option<u32>,
     line: Line,
 ) -> Result<MapsReading, Misplaced>
-    ensures { Gives (λ r. r) result (with_entry reading number line) }
+    ensures { GivesUnless Misplaced.NoMemory (λ r. r) result (with_entry reading number line) }
 {
     let exports = is_export(&line);
     let next = add_to_blocks(alloc, reading, line)?;
@@ -172,7 +172,7 @@ pub fn after_line(
     reading: MapsReading,
     line: MapLine,
 ) -> Result<MapsReading, Misplaced>
-    ensures { Gives (λ r. r) result (after_map reading line) }
+    ensures { GivesUnless Misplaced.NoMemory (λ r. r) result (after_map reading line) }
 {
     match line {
         MapLine::List(number, line) => add_list_line(alloc, reading, number, line),

@@ -1,7 +1,7 @@
 -- Entries over the lists of a configuration's maps decide as the configuration's lines.
 use Rattle.std.proofs.Common.{◌≡◌, ℕ, ◌≤◌, List, Option, Some, None, refl, ap, ◌∙◌}
 use Rattle.std.specs.Prelude.{◌&&◌, ◌||◌, ◌==◌, option_and_then, unwrap_or, if◌then◌else◌}
-use Rattle.std.specs.List.{list_any, find}
+use Rattle.std.specs.List.{find}
 use Rattle.list_laws.proofs.Tests.{find-same, list_any-same, find-never, list_any-never}
 use Rattle.list_laws.proofs.Options.{option_and_then-never}
 use Rattle.net_base.specs.declared.numbers.Tag.{Tag}

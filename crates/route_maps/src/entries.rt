@@ -5,9 +5,8 @@ ghost use Rattle.net_base.specs.Network.{is_peer};
 ghost use Rattle.config_base.specs.Lines.{same_tag};
 ghost use Rattle.route_maps.specs.Maps.{permits as permits_by, list_permits as permitted_by, map_in as imported, map_out as exported};
 
-use crate::blocks::neighbour_block;
 use crate::maps::{ListLine, Maps};
-use config_base::{Export, Import, Route, export_by, import_by};
+use config_base::{Export, Import, Route, export_by, import_by, session_block};
 use net_base::{Loc, Net, Prefix, Tag};
 
 // Whether the first line whose pattern contains the prefix permits it. Without one it is refused.
@@ -96,7 +95,7 @@ pub fn map_in(
 ) -> Option<(Tag, u32)>
     ensures { result ≡ imported net.now maps.now prefix at from path.now tag }
 {
-    let block = neighbour_block(net, maps, at, from)?;
+    let block = session_block(net, maps.routers(), at, from)?;
     let entry = in_entry(net, maps, prefix, from, tag, block.imports.as_slice())?;
     import_by(net, block, entry.class, at, from, path, tag)
 }
@@ -113,7 +112,7 @@ pub fn map_out(
 ) -> Option<Tag>
     ensures { result ≡ exported net.now maps.now prefix from to route.now.tag }
 {
-    let block = neighbour_block(net, maps, from, to)?;
+    let block = session_block(net, maps.routers(), from, to)?;
     let entry = out_entry(maps, prefix, route.tag, block.exports.as_slice())?;
     export_by(net, block, entry.class, to, route.tag)
 }

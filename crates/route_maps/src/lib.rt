@@ -1,7 +1,6 @@
 //! Route maps: numbered lists of lines, routers whose entries name the lists, and what the entries make of a route.
 #![tactic(auto)]
 
-mod blocks;
 mod entries;
 pub mod laws;
 mod maps;

@@ -1,10 +1,10 @@
 -- The fault that is told has the least number of a rule that is broken.
-use Rattle.std.proofs.Common.{◌≡◌, ℕ, ◌+◌, List, [], ◌∷◌, Option, Some, None, Result, Ok, Err, Bool, true, false, not, refl, sym, ap, ap₂, ◌∙◌, arith, zero, suc, true≢false, map}
-use Rattle.std.specs.Prelude.{⊤, IsTrue, ◌||◌, ◌==◌, option_map}
+use Rattle.std.proofs.Common.{◌≡◌, ℕ, ◌+◌, List, [], ◌∷◌, Option, Some, None, Result, Ok, Err, Bool, true, not, refl, sym, ap, ap₂, ◌∙◌, map}
+use Rattle.std.specs.Prelude.{⊤, IsTrue, ◌||◌, option_map}
 use Rattle.std.specs.List.{list_any, position, AllByRecursion}
 use Rattle.std.specs.Result.{result_ok}
 use Rattle.std.specs.Str.{bytes_eq}
-use Rattle.std.proofs.lemmas.Bool.{and_from, and_parts, eqb-true, eqb-false}
+use Rattle.std.proofs.lemmas.Bool.{and_from, and_parts}
 use Rattle.list_laws.proofs.Each.{AllByRecursion-from_list_any, list_any_breaks, AllByRecursion-not, AllByRecursion-from_not}
 use Rattle.list_laws.proofs.Positions.{list_any-at_position, list_any-no_position}
 use Rattle.net_base.specs.Network.{PlainNet, linked}
@@ -12,14 +12,17 @@ use Rattle.net_base.specs.PrefixText.{prefix_spelled}
 use Rattle.net_base.specs.Steps.{◌>>=◌, each_from, or_fault}
 use Rattle.scenario_reader.specs.declared.parts.Field.{Field}
 use Rattle.scenario_reader.specs.declared.parts.Field.TheVariants as field
-use Rattle.net_base.proofs.StepLemmas.{bind_ok, err_same, ok_not_err, ok_same, or_fault_ok}
-use Rattle.net_base.proofs.StepOutcomes.{bind_case, or_fault_err, each_from-breaks}
+use Rattle.net_base.proofs.StepLemmas.{bind_ok, err_same, ok_not_err, ok_same, or_fault_ok, or_fault_result_ok}
+use Rattle.net_base.proofs.StepOutcomes.{bind_case, each_from-breaks}
+use Rattle.item_laws.specs.TextRules.{is_known, KeepsBelow}
 use Rattle.item_laws.proofs.EachStep.{each_from-keeps}
+use Rattle.item_laws.proofs.FirstRule.{below_3, broken, next, Outcome}
+use Rattle.item_laws.proofs.StepFaults.{name_err, name_ok, read_err}
 use Rattle.stable_paths.specs.declared.scenario.Scenario.{Scenario}
 use Rattle.scenario_reader.specs.declared.fault.ScenarioFault.{ScenarioFault}
 use Rattle.scenario_reader.specs.declared.fault.ScenarioFault.TheVariants.{Unknown, NoLink, NotPeerLink, BadPrefix}
 use Rattle.scenario_reader.specs.Faults.{number_of}
-use Rattle.scenario_reader.specs.Laws.{are_known, is_known, passes, HasPrefix, Keeps, KeepsBelow, NamesAreKnown}
+use Rattle.scenario_reader.specs.Laws.{are_known, passes, rules, HasPrefix, NamesAreKnown}
 use Rattle.scenario_reader.specs.Rules.{both_located, is_session, judged, links_known, located, no_fault, sessions_known, set_of_all, turned}
 use Rattle.net_index.specs.Names.{names_of}
 use Rattle.scenario_reader.specs.Shape.{each, Ends, Said}
@@ -40,19 +43,13 @@ module _ (net : PlainNet) where
   abbrev place : List ℕ → Option ℕ
   place name = position (bytes_eq name) (names_of net)
 
-  known : (name : List ℕ) (a : ℕ) → place name ≡ Some a → is_known net name ≡ true
-  known name a at = list_any-at_position (bytes_eq name) (names_of net) a at
-
-  unknown : (name : List ℕ) → place name ≡ None → is_known net name ≡ true → ⊥
-  unknown name none h = true≢false (sym h ∙ list_any-no_position (bytes_eq name) (names_of net) none)
-
-  located-keeps : (f : Field) (k : ℕ) (name : List ℕ) (a : ℕ) → located (names_of net) f name ≡ Ok a → is_known net name ≡ true
+  located-keeps : (f : Field) (k : ℕ) (name : List ℕ) (a : ℕ) → located (names_of net) f name ≡ Ok a → is_known (names_of net) name ≡ true
   unfolding located
-  located-keeps f k name a h = known name a (or_fault_ok (Unknown f) (place name) a h)
+  located-keeps f k name a h = name_ok (Unknown f) (names_of net) name a h
 
-  located-breaks : (f : Field) (k : ℕ) (name : List ℕ) (e : ScenarioFault) → located (names_of net) f name ≡ Err e → (is_known net name ≡ true → ⊥) × (number_of e ≡ 3)
+  located-breaks : (f : Field) (k : ℕ) (name : List ℕ) (e : ScenarioFault) → located (names_of net) f name ≡ Err e → (is_known (names_of net) name ≡ true → ⊥) × (number_of e ≡ 3)
   unfolding located
-  located-breaks f k name e h = let q = or_fault_err (Unknown f) e (place name) h in (unknown name q.1, ap number_of (sym q.0))
+  located-breaks f k name e h = let q = name_err (Unknown f) e (names_of net) name h in (q.0, ap number_of (sym q.1))
 
   -- the places of two names
   abbrev AreAt : Ends → ℕ × ℕ → Type 0
@@ -67,15 +64,17 @@ module _ (net : PlainNet) where
       (or_fault_ok (Unknown f) (place e.from) a.0 a.1 ∙ ap (λ q. Some q.0) same, or_fault_ok (Unknown f) (place e.to) b.0 b.1 ∙ ap (λ q. Some q.1) same)
 
   both-keeps : (f : Field) (k : ℕ) (e : Ends) (p : ℕ × ℕ) → both_located (names_of net) f e ≡ Ok p → are_known net e ≡ true
-  both-keeps f k e p h = let at = both-at f e p h in and_from (is_known net e.from) (is_known net e.to) (known e.from p.0 at.0) (known e.to p.1 at.1)
+  both-keeps f k e p h =
+      let at = both-at f e p h in
+      and_from (is_known (names_of net) e.from) (is_known (names_of net) e.to) (list_any-at_position (bytes_eq e.from) (names_of net) p.0 at.0) (list_any-at_position (bytes_eq e.to) (names_of net) p.1 at.1)
 
   both-breaks : (f : Field) (k : ℕ) (e : Ends) (d : ScenarioFault) → both_located (names_of net) f e ≡ Err d → (are_known net e ≡ true → ⊥) × (number_of d ≡ 3)
   unfolding both_located
   both-breaks f k e d h =
       bind_case ((are_known net e ≡ true → ⊥) × (number_of d ≡ 3)) (or_fault (Unknown f) (place e.from)) _ (Err d) h
-      (λ c p same. let q = or_fault_err (Unknown f) c (place e.from) p in ((λ t. unknown e.from q.1 (and_parts (is_known net e.from) (is_known net e.to) t).0), ap number_of (err_same d c same ∙ sym q.0)))
+      (λ c p same. let q = name_err (Unknown f) c (names_of net) e.from p in ((λ t. q.0 (and_parts (is_known (names_of net) e.from) (is_known (names_of net) e.to) t).0), ap number_of (err_same d c same ∙ sym q.1)))
       (λ a _ g. bind_case ((are_known net e ≡ true → ⊥) × (number_of d ≡ 3)) (or_fault (Unknown f) (place e.to)) _ (Err d) g
-      (λ c p same. let q = or_fault_err (Unknown f) c (place e.to) p in ((λ t. unknown e.to q.1 (and_parts (is_known net e.from) (is_known net e.to) t).1), ap number_of (err_same d c same ∙ sym q.0)))
+      (λ c p same. let q = name_err (Unknown f) c (names_of net) e.to p in ((λ t. q.0 (and_parts (is_known (names_of net) e.from) (is_known (names_of net) e.to) t).1), ap number_of (err_same d c same ∙ sym q.1)))
       (λ b _ k. absurd (ok_not_err (a, b) d k)))
 
   -- ---- pairs
@@ -115,82 +114,47 @@ module _ (net : PlainNet) where
           let q = no_fault-err told (position (λ p. not (test p)) ps) e h in
           ((λ a. list_any_breaks (λ e. not (passes net test e)) es (sym (any_at es ps at) ∙ list_any-at_position (λ p. not (test p)) ps q.0 q.1) (AllByRecursion-not (passes net test) es a)), (q.0, q.2))
 
--- ---- the prefix
-
-ok_is : {X E : Type 0} (r : Result X E) (x : X) → result_ok r ≡ Some x → r ≡ Ok x
-ok_is (Ok y) x h = let same : y ≡ x = cc in ap (λ z. Ok z) same
-ok_is (Err e) x h = absurd cc
-
-no_ok : {X E : Type 0} (r : Result X E) (x : X) → result_ok r ≡ None → r ≡ Ok x → ⊥
-no_ok (Ok y) x none h = cc
-no_ok (Err e) x none h = cc
-
 -- ---- one rule after the other
 
--- what an answer says of the rules
-abbrev pub Outcome : PlainNet → Said → Result Scenario ScenarioFault → Type 0
-Outcome net said (Ok s) = KeepsBelow net 7 said
-Outcome net said (Err e) = KeepsBelow net (number_of e) said × (Keeps net (number_of e) said → ⊥)
-
-abbrev Breaks : PlainNet → ℕ → Said → ScenarioFault → Type 0
-Breaks net k said e = (Keeps net k said → ⊥) × (number_of e ≡ k)
-
-below_3 : (net : PlainNet) (said : Said) → KeepsBelow net 3 said
-below_3 net said zero l = tt
-below_3 net said (suc zero) l = tt
-below_3 net said (suc (suc zero)) l = tt
-below_3 net said (suc (suc (suc k))) l = absurd (omega (arith, l))
-
-next : (net : PlainNet) (n : ℕ) (said : Said) → KeepsBelow net n said → Keeps net n said → KeepsBelow net (n + 1) said
-next net n said below keeps k l = by (k == n) refl
-  where
-    by : (b : Bool) → (k == n) ≡ b → Keeps net k said
-    by true e = rw (eqb-true k n e) keeps
-    by false e = below k (omega (arith, l, eqb-false k n e))
-
-broken : (net : PlainNet) (k : ℕ) (said : Said) (y : Result Scenario ScenarioFault) (e : ScenarioFault) → KeepsBelow net k said → Breaks net k said e → y ≡ Err e → Outcome net said y
-broken net k said y e below b same = rw same (rw b.1 (below, b.0))
-
 -- the rules behind the names
-located_outcome : (net : PlainNet) (said : Said) (dead : List ℕ) (links pairs : List (ℕ × ℕ)) → AllAt net said.dead_links links → AllAt net said.silent pairs → KeepsBelow net 4 said → (y : Result Scenario ScenarioFault)
+located_outcome : (net : PlainNet) (said : Said) (dead : List ℕ) (links pairs : List (ℕ × ℕ)) → AllAt net said.dead_links links → AllAt net said.silent pairs → KeepsBelow (rules net said) 4 → (y : Result Scenario ScenarioFault)
     → (links_known net links >>= (λ _. sessions_known net pairs >>= (λ _. or_fault BadPrefix (result_ok (prefix_spelled said.prefix)) >>= (λ prefix.
-    Ok (record { prefix = prefix; dead = set_of_all dead; dead_links = links; silent = map (turned net) pairs }))))) ≡ y → Outcome net said y
+    Ok (record { prefix = prefix; dead = set_of_all dead; dead_links = links; silent = map (turned net) pairs }))))) ≡ y → Outcome (rules net said) number_of y
 unfolding links_known sessions_known
 located_outcome net said dead links pairs at others below y h =
-    bind_case (Outcome net said y) (links_known net links) _ y h
-    (λ e p same. let q = told-breaks net (λ p. linked net p.0 p.1) (λ i. NoLink (i + 1)) said.dead_links links at e p in broken net 4 said y e below (q.0, ap number_of (sym q.1.1)) same)
+    bind_case (Outcome (rules net said) number_of y) (links_known net links) _ y h
+    (λ e p same. let q = told-breaks net (λ p. linked net p.0 p.1) (λ i. NoLink (i + 1)) said.dead_links links at e p in broken (rules net said) number_of 4 y e below (q.0, ap number_of (sym q.1.1)) same)
     (λ _ p g.
-    let below_5 = next net 4 said below (told-keeps net (λ p. linked net p.0 p.1) (λ i. NoLink (i + 1)) said.dead_links links at p) in
-    bind_case (Outcome net said y) (sessions_known net pairs) _ y g
-    (λ e p same. let q = told-breaks net (is_session net) (λ i. NotPeerLink (i + 1)) said.silent pairs others e p in broken net 5 said y e below_5 (q.0, ap number_of (sym q.1.1)) same)
+    let below_5 = next (rules net said) 4 below (told-keeps net (λ p. linked net p.0 p.1) (λ i. NoLink (i + 1)) said.dead_links links at p) in
+    bind_case (Outcome (rules net said) number_of y) (sessions_known net pairs) _ y g
+    (λ e p same. let q = told-breaks net (is_session net) (λ i. NotPeerLink (i + 1)) said.silent pairs others e p in broken (rules net said) number_of 5 y e below_5 (q.0, ap number_of (sym q.1.1)) same)
     (λ _ p g.
-    let below_6 = next net 5 said below_5 (told-keeps net (is_session net) (λ i. NotPeerLink (i + 1)) said.silent pairs others p) in
-    bind_case (Outcome net said y) (or_fault BadPrefix (result_ok (prefix_spelled said.prefix))) _ y g
-    (λ e p same. let q = or_fault_err BadPrefix e (result_ok (prefix_spelled said.prefix)) p in
-    broken net 6 said y e below_6 ((λ k. no_ok (prefix_spelled said.prefix) k.0 q.1 k.1), ap number_of (sym q.0)) same)
+    let below_6 = next (rules net said) 5 below_5 (told-keeps net (is_session net) (λ i. NotPeerLink (i + 1)) said.silent pairs others p) in
+    bind_case (Outcome (rules net said) number_of y) (or_fault BadPrefix (result_ok (prefix_spelled said.prefix))) _ y g
+    (λ e p same. let q = read_err BadPrefix e (prefix_spelled said.prefix) p in broken (rules net said) number_of 6 y e below_6 ((λ k. q.0 k.0 k.1), ap number_of (sym q.1)) same)
     (λ prefix p g.
-    let there : HasPrefix said = (prefix, ok_is (prefix_spelled said.prefix) prefix (or_fault_ok BadPrefix (result_ok (prefix_spelled said.prefix)) prefix p)) in
-    rw (← g) (next net 6 said below_6 there))))
+    let there : HasPrefix said = (prefix, or_fault_result_ok BadPrefix (prefix_spelled said.prefix) prefix p) in
+    rw (← g) (next (rules net said) 6 below_6 there))))
 
-pub judged_outcome : (net : PlainNet) (said : Said) (y : Result Scenario ScenarioFault) → judged net said ≡ y → Outcome net said y
+pub judged_outcome : (net : PlainNet) (said : Said) (y : Result Scenario ScenarioFault) → judged net said ≡ y → Outcome (rules net said) number_of y
 unfolding judged
 judged_outcome net said y h =
     let names = names_of net in
     let three = λ (e : ScenarioFault). number_of e ≡ 3 in
-    let one = λ (name : List ℕ). is_known net name ≡ true in
+    let one = λ (name : List ℕ). is_known names name ≡ true in
     let two = λ (e : Ends). are_known net e ≡ true in
-    bind_case (Outcome net said y) (each (located names field.Dead) said.dead) _ y h
-    (λ e p same. let q = each_from-breaks one three (λ _. located names field.Dead) (located-breaks net field.Dead) 1 said.dead e p in broken net 3 said y e (below_3 net said) ((λ k. q.0 k.0), q.1) same)
+    bind_case (Outcome (rules net said) number_of y) (each (located names field.Dead) said.dead) _ y h
+    (λ e p same. let q = each_from-breaks one three (λ _. located names field.Dead) (located-breaks net field.Dead) 1 said.dead e p in broken (rules net said) number_of 3 y e (below_3 (rules net said)) ((λ k. q.0 k.0), q.1) same)
     (λ dead dp g.
-    bind_case (Outcome net said y) (each (both_located names field.DeadLinks) said.dead_links) _ y g
-    (λ e p same. let q = each_from-breaks two three (λ _. both_located names field.DeadLinks) (both-breaks net field.DeadLinks) 1 said.dead_links e p in broken net 3 said y e (below_3 net said) ((λ k. q.0 k.1), q.1) same)
+    bind_case (Outcome (rules net said) number_of y) (each (both_located names field.DeadLinks) said.dead_links) _ y g
+    (λ e p same. let q = each_from-breaks two three (λ _. both_located names field.DeadLinks) (both-breaks net field.DeadLinks) 1 said.dead_links e p in broken (rules net said) number_of 3 y e (below_3 (rules net said)) ((λ k. q.0 k.1), q.1) same)
     (λ links lp g.
-    bind_case (Outcome net said y) (each (both_located names field.Silent) said.silent) _ y g
-    (λ e p same. let q = each_from-breaks two three (λ _. both_located names field.Silent) (both-breaks net field.Silent) 1 said.silent e p in broken net 3 said y e (below_3 net said) ((λ k. q.0 k.2), q.1) same)
+    bind_case (Outcome (rules net said) number_of y) (each (both_located names field.Silent) said.silent) _ y g
+    (λ e p same. let q = each_from-breaks two three (λ _. both_located names field.Silent) (both-breaks net field.Silent) 1 said.silent e p in broken (rules net said) number_of 3 y e (below_3 (rules net said)) ((λ k. q.0 k.2), q.1) same)
     (λ pairs pp g.
     let keeps : NamesAreKnown net said = (
       each_from-keeps one (λ _. located names field.Dead) (located-keeps net field.Dead) 1 said.dead dead dp,
       each_from-keeps two (λ _. both_located names field.DeadLinks) (both-keeps net field.DeadLinks) 1 said.dead_links links lp,
       each_from-keeps two (λ _. both_located names field.Silent) (both-keeps net field.Silent) 1 said.silent pairs pp,
     ) in
-    located_outcome net said dead links pairs (all-at net field.DeadLinks 1 said.dead_links links lp) (all-at net field.Silent 1 said.silent pairs pp) (next net 3 said (below_3 net said) keeps) y g)))
+    located_outcome net said dead links pairs (all-at net field.DeadLinks 1 said.dead_links links lp) (all-at net field.Silent 1 said.silent pairs pp) (next (rules net said) 3 (below_3 (rules net said)) keeps) y g)))

@@ -2,11 +2,11 @@
 ghost use Rattle.std.specs.Prelude.{◌≡◌, ◌<◌, IfOk, All, map, not};
 ghost use Rattle.std.specs.List.{position};
 ghost use Rattle.std.specs.Result.{result_ok};
+ghost use Rattle.net_base.specs.Gives.{GivesUnless};
 ghost use Rattle.net_base.specs.declared.limits.TheConstants.{LOCATIONS};
 ghost use Rattle.net_base.specs.Network.{linked};
 ghost use Rattle.net_base.specs.PrefixText.{prefix_spelled};
 ghost use Rattle.net_base.specs.Steps.{or_fault};
-ghost use Rattle.scenario_reader.specs.Gives.{Gives};
 ghost use Rattle.scenario_reader.specs.Rules.{both_located, is_session, judged, links_known, located, sessions_known, set_of_all, turned as with_router_first};
 ghost use Rattle.scenario_reader.specs.Shape.{each};
 ghost use Rattle.net_index.specs.Names.{texts};
@@ -23,7 +23,7 @@ use std::alloc::{AllocError, Global};
 /// The location of a name that a field has.
 #[tactic(auto, unfolding(crate::specs::Rules::located))]
 fn locate(names: &LocationNames<'_>, field: Field, name: &str) -> Result<Loc, ScenarioFault>
-    ensures location { Gives (λ l. l) result (located names.now field name.now) }
+    ensures location { GivesUnless ScenarioFault.NoMemory (λ l. l) result (located names.now field name.now) }
     ensures within { IfOk result (λ l. l < LOCATIONS) }
 {
     match names.location(name) {
@@ -39,7 +39,7 @@ fn locate_each(
     field: Field,
     raw: &[&str],
 ) -> Result<Vec<Loc>, ScenarioFault>
-    ensures locations { Gives (λ v. v.items) result (each (located names.now field) (texts raw.now)) }
+    ensures locations { GivesUnless ScenarioFault.NoMemory (λ v. v.items) result (each (located names.now field) (texts raw.now)) }
     ensures within { IfOk result (λ v. All (λ l. l < LOCATIONS) v.items) }
 {
     let mut all = Vec::new(alloc);
@@ -57,7 +57,7 @@ fn locate_both(
     field: Field,
     ends: &RawEnds<'_>,
 ) -> Result<(Loc, Loc), ScenarioFault>
-    ensures { Gives (λ p. p) result (both_located names.now field (raw_ends ends.now)) }
+    ensures { GivesUnless ScenarioFault.NoMemory (λ p. p) result (both_located names.now field (raw_ends ends.now)) }
 {
     let Some(a) = names.location(ends.from) else {
         return Err(ScenarioFault::Unknown(field));
@@ -75,7 +75,7 @@ fn locate_pairs(
     field: Field,
     raw: &[RawEnds<'_>],
 ) -> Result<Vec<(Loc, Loc)>, ScenarioFault>
-    ensures { Gives (λ v. v.items) result (each (both_located names.now field) (map raw_ends raw.now)) }
+    ensures { GivesUnless ScenarioFault.NoMemory (λ v. v.items) result (each (both_located names.now field) (map raw_ends raw.now)) }
 {
     let mut all = Vec::new(alloc);
     for ends in raw {
@@ -95,7 +95,7 @@ fn no_link(net: &Net, pairs: &[(Loc, Loc)]) -> Option<usize>
 /// Each pair is a link.
 #[tactic(auto, unfolding(crate::specs::Rules::links_known))]
 fn are_links(net: &Net, pairs: &[(Loc, Loc)]) -> Result<(), ScenarioFault>
-    ensures { Gives (λ u. u) result (links_known net.now pairs.now) }
+    ensures { GivesUnless ScenarioFault.NoMemory (λ u. u) result (links_known net.now pairs.now) }
 {
     match no_link(net, pairs) {
         Some(i) => Err(ScenarioFault::NoLink(i as u64 + 1)),
@@ -120,7 +120,7 @@ fn no_session(net: &Net, pairs: &[(Loc, Loc)]) -> Option<usize>
 /// Each pair is a link of a router and a peer.
 #[tactic(auto, unfolding(crate::specs::Rules::sessions_known))]
 fn are_sessions(net: &Net, pairs: &[(Loc, Loc)]) -> Result<(), ScenarioFault>
-    ensures { Gives (λ u. u) result (sessions_known net.now pairs.now) }
+    ensures { GivesUnless ScenarioFault.NoMemory (λ u. u) result (sessions_known net.now pairs.now) }
 {
     match no_session(net, pairs) {
         Some(i) => Err(ScenarioFault::NotPeerLink(i as u64 + 1)),
@@ -168,7 +168,7 @@ fn set_of(locations: &[Loc]) -> LocSet
 
 /// The prefix of a text.
 fn prefix_of(text: &str) -> Result<Prefix, ScenarioFault>
-    ensures { Gives (λ p. p) result (or_fault ScenarioFault.BadPrefix (result_ok (prefix_spelled text.now))) }
+    ensures { GivesUnless ScenarioFault.NoMemory (λ p. p) result (or_fault ScenarioFault.BadPrefix (result_ok (prefix_spelled text.now))) }
 {
     match read_prefix(text.as_bytes()) {
         Ok(prefix) => Ok(prefix),
@@ -179,7 +179,7 @@ fn prefix_of(text: &str) -> Result<Prefix, ScenarioFault>
 /// The scenario of what is said, or the least rule that it breaks.
 #[tactic(auto, unfolding(crate::specs::Rules::judged))]
 pub fn judge(alloc: Global, net: &Net, raw: &RawScenario<'_>) -> Result<Scenario, ScenarioFault>
-    ensures { Gives (λ scenario. scenario) result (judged net.now (raw_scenario raw.now)) }
+    ensures { GivesUnless ScenarioFault.NoMemory (λ scenario. scenario) result (judged net.now (raw_scenario raw.now)) }
 {
     let names = LocationNames::of(alloc, net)?;
     let dead = locate_each(alloc, &names, Field::Dead, &raw.dead)?;

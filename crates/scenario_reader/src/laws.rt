@@ -2,10 +2,11 @@
 ghost use Rattle.std.specs.Prelude.{◌≡◌, ℕ, List, Some, Ok, Err, IsUtf8};
 ghost use Rattle.serde_json.specs.Data.{Data};
 ghost use Rattle.serde_json.specs.Read.{read};
+ghost use Rattle.item_laws.specs.TextRules.{Says, Keeps, KeepsBelow};
 ghost use Rattle.net_base.specs.Network.{PlainNet};
 ghost use Rattle.stable_paths.specs.declared.scenario.Scenario.{Scenario};
 ghost use Rattle.scenario_reader.specs.Faults.{number_of};
-ghost use Rattle.scenario_reader.specs.Laws.{Says, Keeps, KeepsBelow};
+ghost use Rattle.scenario_reader.specs.Laws.{rules};
 ghost use Rattle.scenario_reader.specs.Shape.{Said, shape_of};
 ghost use Rattle.scenario_reader.specs.Spelled.{spelled};
 
@@ -14,8 +15,8 @@ use crate::parts::Field;
 
 /// A text is read exactly where it is a JSON value that has the shape of a scenario and keeps all rules.
 pub fn texts_that_are_read()
-    ensures only { (net : PlainNet) (bytes : List ℕ) (scenario : Scenario) → spelled net bytes ≡ Ok scenario → (said : Said) × Says bytes said × KeepsBelow net 7 said }
-    ensures all { (net : PlainNet) (bytes : List ℕ) (said : Said) → Says bytes said → KeepsBelow net 7 said → (scenario : Scenario) × (spelled net bytes ≡ Ok scenario) }
+    ensures only { (net : PlainNet) (bytes : List ℕ) (scenario : Scenario) → spelled net bytes ≡ Ok scenario → (said : Said) × Says shape_of bytes said × KeepsBelow (rules net said) 7 }
+    ensures all { (net : PlainNet) (bytes : List ℕ) (said : Said) → Says shape_of bytes said → KeepsBelow (rules net said) 7 → (scenario : Scenario) × (spelled net bytes ≡ Ok scenario) }
 {}
 
 /// A text is told as no JSON exactly where no value is read of it.
@@ -34,6 +35,6 @@ pub fn texts_of_another_shape()
 /// Of a text with the shape of a scenario, a fault is told exactly where the rule of its number is broken and every rule with
 /// a lesser number is kept.
 pub fn first_broken_rule()
-    ensures only { (net : PlainNet) (bytes : List ℕ) (said : Said) (e : ScenarioFault) → Says bytes said → spelled net bytes ≡ Err e → KeepsBelow net (number_of e) said × (Keeps net (number_of e) said → ⊥) }
-    ensures all { (net : PlainNet) (bytes : List ℕ) (said : Said) (k : ℕ) → Says bytes said → KeepsBelow net k said → (Keeps net k said → ⊥) → (e : ScenarioFault) × (spelled net bytes ≡ Err e) × (number_of e ≡ k) }
+    ensures only { (net : PlainNet) (bytes : List ℕ) (said : Said) (e : ScenarioFault) → Says shape_of bytes said → spelled net bytes ≡ Err e → KeepsBelow (rules net said) (number_of e) × (Keeps (rules net said) (number_of e) → ⊥) }
+    ensures all { (net : PlainNet) (bytes : List ℕ) (said : Said) (k : ℕ) → Says shape_of bytes said → KeepsBelow (rules net said) k → (Keeps (rules net said) k → ⊥) → (e : ScenarioFault) × (spelled net bytes ≡ Err e) × (number_of e ≡ k) }
 {}

@@ -3,8 +3,8 @@
 
 ghost use Rattle.serde_json.specs.View.{view};
 ghost use Rattle.json_words.specs.Json.{json_of};
+ghost use Rattle.net_base.specs.Gives.{GivesUnless};
 ghost use Rattle.net_base.specs.Steps.{or_fault};
-ghost use Rattle.scenario_reader.specs.Gives.{Gives};
 ghost use Rattle.scenario_reader.specs.Spelled.{spelled};
 
 mod fault;
@@ -23,7 +23,7 @@ use std::alloc::Global;
 
 /// The JSON value that the bytes spell.
 fn value_of(alloc: Global, bytes: &[u8]) -> Result<Value, ScenarioFault>
-    ensures { Gives view result (or_fault ScenarioFault.NotJson (json_of bytes.now)) }
+    ensures { GivesUnless ScenarioFault.NoMemory view result (or_fault ScenarioFault.NotJson (json_of bytes.now)) }
 {
     match json_value(alloc, bytes) {
         Ok(value) => Ok(value),
@@ -36,7 +36,7 @@ fn value_of(alloc: Global, bytes: &[u8]) -> Result<Value, ScenarioFault>
 /// dead link keeps the order of its ends, and a silent session has its router first.
 #[tactic(auto, unfolding(crate::specs::Spelled::spelled))]
 pub fn read_scenario(alloc: Global, bytes: &[u8], net: &Net) -> Result<Scenario, ScenarioFault>
-    ensures { Gives (λ scenario. scenario) result (spelled net.now bytes.now) }
+    ensures { GivesUnless ScenarioFault.NoMemory (λ scenario. scenario) result (spelled net.now bytes.now) }
 {
     let value = value_of(alloc, bytes)?;
     let raw = shape::shape(alloc, &value)?;

@@ -1,7 +1,7 @@
 //! The shape of a scenario.
 ghost use Rattle.std.specs.Prelude.{◌≡◌, map};
 ghost use Rattle.serde_json.specs.View.{view};
-ghost use Rattle.scenario_reader.specs.Gives.{Gives};
+ghost use Rattle.net_base.specs.Gives.{GivesUnless};
 ghost use Rattle.scenario_reader.specs.Shape.{each, ends_of, shape_of, text_of};
 ghost use Rattle.net_index.specs.Names.{texts as said};
 ghost use Rattle.scenario_reader.specs.Views.{raw_ends, raw_scenario};
@@ -31,7 +31,7 @@ pub struct RawScenario<'a> {
 /// The pair of names that an entry spells.
 #[tactic(auto, unfolding(crate::specs::Shape::ends_of))]
 fn ends(field: Field, value: &Value) -> Result<RawEnds<'_>, ScenarioFault>
-    ensures { Gives raw_ends result (ends_of field (view value.now)) }
+    ensures { GivesUnless ScenarioFault.NoMemory raw_ends result (ends_of field (view value.now)) }
 {
     let Some(ends) = list(value) else {
         return Err(ScenarioFault::Shape(field));
@@ -53,7 +53,7 @@ fn each_ends(
     field: Field,
     values: &[Value],
 ) -> Result<Vec<RawEnds<'_>>, ScenarioFault>
-    ensures { Gives (λ v. map raw_ends v.items) result (each (ends_of field) (map view values.now)) }
+    ensures { GivesUnless ScenarioFault.NoMemory (λ v. map raw_ends v.items) result (each (ends_of field) (map view values.now)) }
 {
     let mut all = Vec::new(alloc);
     for value in values {
@@ -66,7 +66,7 @@ fn each_ends(
 /// The text of an entry.
 #[tactic(auto, unfolding(crate::specs::Shape::text_of))]
 fn text(field: Field, value: &Value) -> Result<&str, ScenarioFault>
-    ensures { Gives (λ s. s.now) result (text_of field (view value.now)) }
+    ensures { GivesUnless ScenarioFault.NoMemory (λ s. s.now) result (text_of field (view value.now)) }
 {
     match value.as_str() {
         Some(text) => Ok(text),
@@ -75,7 +75,7 @@ fn text(field: Field, value: &Value) -> Result<&str, ScenarioFault>
 }
 
 fn each_text(alloc: Global, field: Field, values: &[Value]) -> Result<Vec<&str>, ScenarioFault>
-    ensures { Gives (λ v. said v.items) result (each (text_of field) (map view values.now)) }
+    ensures { GivesUnless ScenarioFault.NoMemory (λ v. said v.items) result (each (text_of field) (map view values.now)) }
 {
     let mut all = Vec::new(alloc);
     for value in values {
@@ -90,7 +90,7 @@ fn each_text(alloc: Global, field: Field, values: &[Value]) -> Result<Vec<&str>,
 /// The scenario that a value has the shape of, or the first part that is not as it should be.
 #[tactic(auto, unfolding(crate::specs::Shape::shape_of))]
 pub fn shape(alloc: Global, value: &Value) -> Result<RawScenario<'_>, ScenarioFault>
-    ensures { Gives raw_scenario result (shape_of (view value.now)) }
+    ensures { GivesUnless ScenarioFault.NoMemory raw_scenario result (shape_of (view value.now)) }
 {
     let Some(members) = value.as_object() else {
         return Err(ScenarioFault::Shape(Field::Top));

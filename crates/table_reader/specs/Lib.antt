@@ -1,5 +1,5 @@
 pub mod Faults
-pub mod Gives
+pub mod Laws
 pub mod Rules
 pub mod Shape
 pub mod Spelled

@@ -1,8 +1,8 @@
 //! The rules of tables.
 ghost use Rattle.std.specs.Prelude.{◌≡◌, map};
+ghost use Rattle.net_base.specs.Gives.{GivesUnless};
 ghost use Rattle.net_base.specs.Steps.{each_from};
 ghost use Rattle.net_index.specs.Names.{texts};
-ghost use Rattle.table_reader.specs.Gives.{Gives};
 ghost use Rattle.table_reader.specs.Rules.{at_holders, begins_at as does_begin_at, held_by, judged, located};
 ghost use Rattle.table_reader.specs.Shape.{each};
 ghost use Rattle.table_reader.specs.Views.{raw_entry};
@@ -17,7 +17,7 @@ use std::alloc::Global;
 /// The location of a name on the path of an entry.
 #[tactic(auto, unfolding(crate::specs::Rules::located))]
 fn locate(names: &LocationNames<'_>, place: u64, name: &str) -> Result<Loc, TablesFault>
-    ensures { Gives (λ l. l) result (located names.now place name.now) }
+    ensures { GivesUnless TablesFault.NoMemory (λ l. l) result (located names.now place name.now) }
 {
     match names.location(name) {
         Some(at) => Ok(at),
@@ -32,7 +32,7 @@ fn path(
     place: u64,
     raw: &[&str],
 ) -> Result<List<Loc>, TablesFault>
-    ensures { Gives (λ v. v) result (each (located names.now place) (texts raw.now)) }
+    ensures { GivesUnless TablesFault.NoMemory (λ v. v) result (each (located names.now place) (texts raw.now)) }
 {
     let mut all = List::new(alloc);
     for name in raw {
@@ -50,7 +50,7 @@ fn held(
     place: u64,
     raw: &Option<RawRoute<'_>>,
 ) -> Result<Option<Route>, TablesFault>
-    ensures { Gives (λ o. o) result (held_by names.now place (raw_entry raw.now)) }
+    ensures { GivesUnless TablesFault.NoMemory (λ o. o) result (held_by names.now place (raw_entry raw.now)) }
 {
     match raw {
         None => Ok(None),
@@ -70,7 +70,7 @@ fn each_held(
     names: &LocationNames<'_>,
     raw: &[Option<RawRoute<'_>>],
 ) -> Result<List<Option<Route>>, TablesFault>
-    ensures { Gives (λ v. v) result (each_from (held_by names.now) 1 (map raw_entry raw.now)) }
+    ensures { GivesUnless TablesFault.NoMemory (λ v. v) result (each_from (held_by names.now) 1 (map raw_entry raw.now)) }
 {
     let mut all = List::new(alloc);
     for i in 0..raw.len() {
@@ -95,7 +95,7 @@ fn begins_at(place: usize, held: &Option<Route>) -> bool
 
 /// Each route begins with its router.
 fn begin_at_holders(routes: &[Option<Route>]) -> Result<(), TablesFault>
-    ensures { Gives (λ u. u) result (at_holders 0 routes.now) }
+    ensures { GivesUnless TablesFault.NoMemory (λ u. u) result (at_holders 0 routes.now) }
 {
     for i in 0..routes.len() {
         if !begins_at(i, &routes[i]) {
@@ -112,7 +112,7 @@ pub fn judge(
     net: &Net,
     raw: &[Option<RawRoute<'_>>],
 ) -> Result<List<Option<Route>>, TablesFault>
-    ensures { Gives (λ v. v) result (judged net.now (map raw_entry raw.now)) }
+    ensures { GivesUnless TablesFault.NoMemory (λ v. v) result (judged net.now (map raw_entry raw.now)) }
 {
     if raw.len() != net.routers().len() {
         return Err(TablesFault::Count(raw.len() as u64));

@@ -4,12 +4,13 @@
 ghost use Rattle.std.specs.Prelude.{◌≡◌, IfOk, length};
 ghost use Rattle.serde_json.specs.View.{view};
 ghost use Rattle.json_words.specs.Json.{json_of};
+ghost use Rattle.net_base.specs.Gives.{GivesUnless};
 ghost use Rattle.net_base.specs.Steps.{or_fault};
-ghost use Rattle.table_reader.specs.Gives.{Gives};
 ghost use Rattle.table_reader.specs.Spelled.{spelled};
 
 mod fault;
 mod judge;
+pub mod laws;
 mod shape;
 
 pub use fault::TablesFault;
@@ -21,7 +22,7 @@ use std::alloc::Global;
 
 /// The JSON value that the bytes spell.
 fn value_of(alloc: Global, bytes: &[u8]) -> Result<Value, TablesFault>
-    ensures { Gives view result (or_fault TablesFault.NotJson (json_of bytes.now)) }
+    ensures { GivesUnless TablesFault.NoMemory view result (or_fault TablesFault.NotJson (json_of bytes.now)) }
 {
     match json_value(alloc, bytes) {
         Ok(value) => Ok(value),
@@ -34,7 +35,7 @@ fn value_of(alloc: Global, bytes: &[u8]) -> Result<Value, TablesFault>
 /// path of a route begins with its router.
 #[tactic(auto, unfolding(crate::specs::Spelled::spelled))]
 pub fn read_tables(alloc: Global, bytes: &[u8], net: &Net) -> Result<Outcome, TablesFault>
-    ensures exact { Gives (λ outcome. outcome.routes) result (spelled net.now bytes.now) }
+    ensures exact { GivesUnless TablesFault.NoMemory (λ outcome. outcome.routes) result (spelled net.now bytes.now) }
     ensures size { IfOk result (λ outcome. length outcome.routes ≡ length net.now.routers) }
 {
     let value = value_of(alloc, bytes)?;

@@ -1,9 +1,9 @@
 //! The shape of tables.
 ghost use Rattle.std.specs.Prelude.{◌≡◌, map};
 ghost use Rattle.serde_json.specs.View.{view};
+ghost use Rattle.net_base.specs.Gives.{GivesUnless};
 ghost use Rattle.net_base.specs.Steps.{each_from};
 ghost use Rattle.net_index.specs.Names.{texts};
-ghost use Rattle.table_reader.specs.Gives.{Gives};
 ghost use Rattle.table_reader.specs.Shape.{each, entry_of, path_of, route_of, shape_of, short_of, tag_of, text_of};
 ghost use Rattle.table_reader.specs.Views.{raw_entry, raw_route};
 
@@ -36,7 +36,7 @@ fn short(value: &Value) -> Option<u32>
 /// The text of a name.
 #[tactic(auto, unfolding(crate::specs::Shape::text_of))]
 fn text(place: u64, value: &Value) -> Result<&str, TablesFault>
-    ensures { Gives (λ s. s.now) result (text_of place (view value.now)) }
+    ensures { GivesUnless TablesFault.NoMemory (λ s. s.now) result (text_of place (view value.now)) }
 {
     match value.as_str() {
         Some(text) => Ok(text),
@@ -45,7 +45,7 @@ fn text(place: u64, value: &Value) -> Result<&str, TablesFault>
 }
 
 fn each_text(alloc: Global, place: u64, values: &[Value]) -> Result<Vec<&str>, TablesFault>
-    ensures { Gives (λ v. texts v.items) result (each (text_of place) (map view values.now)) }
+    ensures { GivesUnless TablesFault.NoMemory (λ v. texts v.items) result (each (text_of place) (map view values.now)) }
 {
     let mut all = Vec::new(alloc);
     for value in values {
@@ -60,7 +60,7 @@ fn each_text(alloc: Global, place: u64, values: &[Value]) -> Result<Vec<&str>, T
 /// The names of a path.
 #[tactic(auto, unfolding(crate::specs::Shape::path_of))]
 fn path(alloc: Global, place: u64, value: &Value) -> Result<Vec<&str>, TablesFault>
-    ensures { Gives (λ v. texts v.items) result (path_of place (view value.now)) }
+    ensures { GivesUnless TablesFault.NoMemory (λ v. texts v.items) result (path_of place (view value.now)) }
 {
     let Some(names) = list(value) else {
         return Err(TablesFault::Shape(place));
@@ -74,7 +74,7 @@ fn path(alloc: Global, place: u64, value: &Value) -> Result<Vec<&str>, TablesFau
 /// The tag of two numbers.
 #[tactic(auto, unfolding(crate::specs::Shape::tag_of))]
 fn tag(place: u64, value: &Value) -> Result<Tag, TablesFault>
-    ensures { Gives (λ t. t) result (tag_of place (view value.now)) }
+    ensures { GivesUnless TablesFault.NoMemory (λ t. t) result (tag_of place (view value.now)) }
 {
     let Some(numbers) = list(value) else {
         return Err(TablesFault::Shape(place));
@@ -94,7 +94,7 @@ fn tag(place: u64, value: &Value) -> Result<Tag, TablesFault>
 /// The route that an entry spells.
 #[tactic(auto, unfolding(crate::specs::Shape::route_of))]
 fn route(alloc: Global, place: u64, value: &Value) -> Result<RawRoute<'_>, TablesFault>
-    ensures { Gives raw_route result (route_of place (view value.now)) }
+    ensures { GivesUnless TablesFault.NoMemory raw_route result (route_of place (view value.now)) }
 {
     let Some(members) = value.as_object() else {
         return Err(TablesFault::Shape(place));
@@ -122,7 +122,7 @@ fn route(alloc: Global, place: u64, value: &Value) -> Result<RawRoute<'_>, Table
 /// What an entry says: a route or none.
 #[tactic(auto, unfolding(crate::specs::Shape::entry_of))]
 fn entry(alloc: Global, place: u64, value: &Value) -> Result<Option<RawRoute<'_>>, TablesFault>
-    ensures { Gives raw_entry result (entry_of place (view value.now)) }
+    ensures { GivesUnless TablesFault.NoMemory raw_entry result (entry_of place (view value.now)) }
 {
     if value.is_null() {
         return Ok(None);
@@ -132,7 +132,7 @@ fn entry(alloc: Global, place: u64, value: &Value) -> Result<Option<RawRoute<'_>
 }
 
 fn entries(alloc: Global, values: &[Value]) -> Result<Vec<Option<RawRoute<'_>>>, TablesFault>
-    ensures { Gives (λ v. map raw_entry v.items) result (each_from entry_of 1 (map view values.now)) }
+    ensures { GivesUnless TablesFault.NoMemory (λ v. map raw_entry v.items) result (each_from entry_of 1 (map view values.now)) }
 {
     let mut all = Vec::new(alloc);
     for i in 0..values.len() {
@@ -145,7 +145,7 @@ fn entries(alloc: Global, values: &[Value]) -> Result<Vec<Option<RawRoute<'_>>>,
 /// The entries of a value that has the shape of tables, or the first part that is not as it should be.
 #[tactic(auto, unfolding(crate::specs::Shape::shape_of))]
 pub fn shape(alloc: Global, value: &Value) -> Result<Vec<Option<RawRoute<'_>>>, TablesFault>
-    ensures { Gives (λ v. map raw_entry v.items) result (shape_of (view value.now)) }
+    ensures { GivesUnless TablesFault.NoMemory (λ v. map raw_entry v.items) result (shape_of (view value.now)) }
 {
     let Some(members) = value.as_object() else {
         return Err(TablesFault::Shape(0));

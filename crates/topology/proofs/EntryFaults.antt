@@ -6,6 +6,7 @@ use Rattle.std.specs.Str.{bytes_eq}
 use Rattle.std.proofs.lemmas.Bool.{leb-false}
 use Rattle.list_laws.proofs.Texts.{bytes_eq_apart}
 use Rattle.list_laws.proofs.Numbers.{nat_eq_apart}
+use Rattle.item_laws.specs.TextRules.{Keeps}
 use Rattle.net_base.specs.NameRule.{is_name}
 use Rattle.net_base.specs.Steps.{◌>>=◌, unless, each_from}
 use Rattle.net_base.specs.declared.net.Site.{Site}
@@ -15,7 +16,7 @@ use Rattle.topology.specs.declared.fault.TopoFault.{TopoFault}
 use Rattle.topology.specs.declared.fault.TopoFault.TheVariants.{TooMany, BadName, Twice, AsRange}
 use Rattle.topology.specs.declared.sites.Number.TheVariants as which
 use Rattle.topology.specs.Faults.{number_of}
-use Rattle.topology.specs.Laws.{Keeps}
+use Rattle.topology.specs.Laws.{rules}
 use Rattle.topology.specs.Rules.{named, site_of, counted, names_differ, numbers_differ, names_of, is_lawful_as, shared}
 use Rattle.topology.specs.Shape.{Entry, Topology}
 use Rattle.topology.proofs.Distinct.{all_unlike-distinct}
@@ -24,8 +25,8 @@ use Rattle.net_base.proofs.StepLemmas.{bind_ok, err_same, ok_not_err, unless_ok}
 use Rattle.net_base.proofs.StepOutcomes.{bind_case, unless_err}
 
 -- the rule of this number is broken, and the fault has the number
-abbrev pub Breaks : ℕ → Topology → TopoFault → Type 0
-Breaks k t e = (Keeps k t → ⊥) × (number_of e ≡ k)
+abbrev Breaks : ℕ → Topology → TopoFault → Type 0
+Breaks k t e = (Keeps (rules t) k → ⊥) × (number_of e ≡ k)
 
 pub counted_breaks : (t : Topology) (e : TopoFault) → counted t ≡ Err e → Breaks 3 t e
 unfolding counted

@@ -1,9 +1,8 @@
 -- The fault that is told has the least number of a rule that is broken.
-use Rattle.std.proofs.Common.{◌≡◌, ℕ, ◌+◌, List, [], ◌++◌, length, map, Result, Ok, Err, Bool, true, false, ◌||◌, ◌&&◌, not, refl, sym, ap, ◌∙◌, arith, zero, suc, map-id}
+use Rattle.std.proofs.Common.{◌≡◌, ℕ, ◌+◌, List, [], ◌++◌, length, map, Result, Ok, Err, false, ◌||◌, ◌&&◌, not, refl, sym, ap, ◌∙◌, map-id}
 use Rattle.std.specs.Prelude.{IsTrue, ◌==◌, nat_le, position}
 use Rattle.std.specs.List.{list_any, AllByRecursion, IsDistinct}
 use Rattle.std.specs.Str.{bytes_eq}
-use Rattle.std.proofs.lemmas.Bool.{eqb-true, eqb-false}
 use Rattle.list_laws.proofs.Positions.{list_any-at_position, list_any-no_position}
 use Rattle.list_laws.proofs.Each.{AllByRecursion-append, AllByRecursion-append_parts, AllByRecursion-from_list_any, list_any_breaks, AllByRecursion-not, AllByRecursion-from_not}
 use Rattle.net_base.specs.NameRule.{is_name}
@@ -14,14 +13,16 @@ use Rattle.topology.specs.declared.fault.TopoFault.{TopoFault}
 use Rattle.topology.specs.declared.fault.TopoFault.TheVariants.{LinkTwice, SelfLink, PeerLink}
 use Rattle.topology.specs.declared.sites.Number.TheVariants as which
 use Rattle.topology.specs.Faults.{number_of}
-use Rattle.topology.specs.Laws.{entries, is_among, same_link, Keeps, KeepsBelow}
+use Rattle.topology.specs.Laws.{entries, is_among, rules, same_link}
 use Rattle.topology.specs.Rules.{named, site_of, counted, names_differ, numbers_differ, names_of, joined, links_differ, ends_differ, routers_linked, links_of, ascending, judged, is_lawful_as}
 use Rattle.topology.specs.Shape.{each, Entry, Ends, Topology, IsIdentifier}
 use Rattle.topology.proofs.Distinct.{all_unlike-distinct}
-use Rattle.topology.proofs.EntryFaults.{Breaks, counted_breaks, named_breaks, all_named, site_breaks, all_lawful, names_break, names_keep, asns_break, asns_keep, ids_break, ids_keep}
+use Rattle.topology.proofs.EntryFaults.{counted_breaks, named_breaks, all_named, site_breaks, all_lawful, names_break, names_keep, asns_break, asns_keep, ids_break, ids_keep}
 use Rattle.topology.proofs.LinkNames.{AllJoin, all_join, distinct_ends, distinct_links, any_join, to_itself, ends_known, joined-breaks, routers_first}
 use Rattle.topology.proofs.Networks.{each_named, counted_holds, kept_IsNet}
 use Rattle.topology.proofs.Outcomes.{no_fault-err, all_unlike-breaks, all_nothing}
+use Rattle.item_laws.specs.TextRules.{KeepsBelow}
+use Rattle.item_laws.proofs.FirstRule.{below_3, broken, next, Outcome}
 use Rattle.net_base.proofs.StepLemmas.{bind_ok}
 use Rattle.net_base.proofs.Links.{same_ends-swap}
 use Rattle.net_base.proofs.StepOutcomes.{bind_case, each_from-breaks}
@@ -71,96 +72,75 @@ module _ (rs qs : List Entry) (es : List Ends) (ps : List (ℕ × ℕ)) (j : All
 
 -- ---- one rule after the other
 
--- what an answer says of the rules
-abbrev pub Outcome : {A : Type 0} → Topology → Result A TopoFault → Type 0
-Outcome t (Ok x) = KeepsBelow 13 t
-Outcome t (Err e) = KeepsBelow (number_of e) t × (Keeps (number_of e) t → ⊥)
-
-below_3 : (t : Topology) → KeepsBelow 3 t
-below_3 t zero l = tt
-below_3 t (suc zero) l = tt
-below_3 t (suc (suc zero)) l = tt
-below_3 t (suc (suc (suc k))) l = absurd (omega (arith, l))
-
-next : (n : ℕ) (t : Topology) → KeepsBelow n t → Keeps n t → KeepsBelow (n + 1) t
-next n t below keeps k l = by (k == n) refl
-  where
-    by : (b : Bool) → (k == n) ≡ b → Keeps k t
-    by true e = rw (eqb-true k n e) keeps
-    by false e = below k (omega (arith, l, eqb-false k n e))
-
-broken : {A : Type 0} (k : ℕ) (t : Topology) (y : Result A TopoFault) (e : TopoFault) → KeepsBelow k t → Breaks k t e → y ≡ Err e → Outcome t y
-broken k t y e below b same = rw same (rw b.1 (below, b.0))
-
-links_outcome : (t : Topology) → KeepsBelow 9 t → (y : Result (List (ℕ × ℕ)) TopoFault) → links_of (names_of (entries t)) (length t.routers) t.links ≡ y → Outcome t y
+links_outcome : (t : Topology) → KeepsBelow (rules t) 9 → (y : Result (List (ℕ × ℕ)) TopoFault) → links_of (names_of (entries t)) (length t.routers) t.links ≡ y → Outcome (rules t) number_of y
 unfolding links_of
 links_outcome t below y h =
     let names = names_of (entries t) in
-    bind_case (Outcome t y) (each_from (joined names) 1 t.links) (λ links. links_differ links >>= (λ _. ends_differ links >>= (λ _. routers_linked (length t.routers) links >>= (λ _. Ok (ascending links))))) y h
-    (λ e p same. broken 9 t y e below (each_from-breaks (λ (l : Ends). IsTrue (list_any (bytes_eq l.from) names && list_any (bytes_eq l.to) names)) (λ f. number_of f ≡ 9) (joined names) (joined-breaks names) 1 t.links e p) same)
+    bind_case (Outcome (rules t) number_of y) (each_from (joined names) 1 t.links) (λ links. links_differ links >>= (λ _. ends_differ links >>= (λ _. routers_linked (length t.routers) links >>= (λ _. Ok (ascending links))))) y h
+    (λ e p same. broken (rules t) number_of 9 y e below (each_from-breaks (λ (l : Ends). IsTrue (list_any (bytes_eq l.from) names && list_any (bytes_eq l.to) names)) (λ f. number_of f ≡ 9) (joined names) (joined-breaks names) 1 t.links e p) same)
     (λ ps p g.
     let j = all_join names 1 t.links ps p in
-    let below_10 = next 9 t below (ends_known names t.links ps j) in
-    bind_case (Outcome t y) (links_differ ps) (λ _. ends_differ ps >>= (λ _. routers_linked (length t.routers) ps >>= (λ _. Ok (ascending ps)))) y g
-    (λ e p same. broken 10 t y e below_10 (links_break names t.links ps j e p) same)
+    let below_10 = next (rules t) 9 below (ends_known names t.links ps j) in
+    bind_case (Outcome (rules t) number_of y) (links_differ ps) (λ _. ends_differ ps >>= (λ _. routers_linked (length t.routers) ps >>= (λ _. Ok (ascending ps)))) y g
+    (λ e p same. broken (rules t) number_of 10 y e below_10 (links_break names t.links ps j e p) same)
     (λ _ p g.
-    let below_11 = next 10 t below_10 (links_keep names t.links ps j p) in
-    bind_case (Outcome t y) (ends_differ ps) (λ _. routers_linked (length t.routers) ps >>= (λ _. Ok (ascending ps))) y g
-    (λ e p same. broken 11 t y e below_11 (ends_break names t.links ps j e p) same)
+    let below_11 = next (rules t) 10 below_10 (links_keep names t.links ps j p) in
+    bind_case (Outcome (rules t) number_of y) (ends_differ ps) (λ _. routers_linked (length t.routers) ps >>= (λ _. Ok (ascending ps))) y g
+    (λ e p same. broken (rules t) number_of 11 y e below_11 (ends_break names t.links ps j e p) same)
     (λ _ p g.
-    let below_12 = next 11 t below_11 (ends_keep names t.links ps j p) in
-    bind_case (Outcome t y) (routers_linked (length t.routers) ps) (λ _. Ok (ascending ps)) y g
-    (λ e p same. broken 12 t y e below_12 (routers_break t.routers t.peers t.links ps j e p) same)
-    (λ _ p g. rw (← g) (next 12 t below_12 (routers_keep t.routers t.peers t.links ps j p))))))
+    let below_12 = next (rules t) 11 below_11 (ends_keep names t.links ps j p) in
+    bind_case (Outcome (rules t) number_of y) (routers_linked (length t.routers) ps) (λ _. Ok (ascending ps)) y g
+    (λ e p same. broken (rules t) number_of 12 y e below_12 (routers_break t.routers t.peers t.links ps j e p) same)
+    (λ _ p g. rw (← g) (next (rules t) 12 below_12 (routers_keep t.routers t.peers t.links ps j p))))))
 
 -- the rules from the names on, of entries that have names
-named_outcome : (t : Topology) → KeepsBelow 5 t → (y : Result PlainNet TopoFault)
+named_outcome : (t : Topology) → KeepsBelow (rules t) 5 → (y : Result PlainNet TopoFault)
     → (names_differ (entries t) >>= (λ _. each (site_of kind.Routers) t.routers >>= (λ router_sites. each (site_of kind.Peers) t.peers >>= (λ peer_sites.
     numbers_differ which.As (entries t) >>= (λ _. numbers_differ which.Id (entries t) >>= (λ _. links_of (names_of (entries t)) (length t.routers) t.links >>= (λ links.
-    Ok (record { routers = router_sites; peers = peer_sites; links = links })))))))) ≡ y → Outcome t y
+    Ok (record { routers = router_sites; peers = peer_sites; links = links })))))))) ≡ y → Outcome (rules t) number_of y
 unfolding each
 named_outcome t below y h =
-    bind_case (Outcome t y) (names_differ (entries t)) _ y h
-    (λ e p same. broken 5 t y e below (names_break (entries t) e p) same)
+    bind_case (Outcome (rules t) number_of y) (names_differ (entries t)) _ y h
+    (λ e p same. broken (rules t) number_of 5 y e below (names_break (entries t) e p) same)
     (λ _ p g.
-    let below_6 = next 5 t below (names_keep (entries t) p) in
-    bind_case (Outcome t y) (each_from (λ _. site_of kind.Routers) 1 t.routers) _ y g
+    let below_6 = next (rules t) 5 below (names_keep (entries t) p) in
+    bind_case (Outcome (rules t) number_of y) (each_from (λ _. site_of kind.Routers) 1 t.routers) _ y g
     (λ e p same. let q = each_from-breaks (λ (x : Entry). IsTrue (is_lawful_as kind.Routers x.asn)) (λ f. number_of f ≡ 6) (λ _. site_of kind.Routers) (λ _. site_breaks kind.Routers) 1 t.routers e p in
-    broken 6 t y e below_6 ((λ k. q.0 k.0), q.1) same)
+    broken (rules t) number_of 6 y e below_6 ((λ k. q.0 k.0), q.1) same)
     (λ ss rp g.
-    bind_case (Outcome t y) (each_from (λ _. site_of kind.Peers) 1 t.peers) _ y g
+    bind_case (Outcome (rules t) number_of y) (each_from (λ _. site_of kind.Peers) 1 t.peers) _ y g
     (λ e p same. let q = each_from-breaks (λ (x : Entry). IsTrue (is_lawful_as kind.Peers x.asn)) (λ f. number_of f ≡ 6) (λ _. site_of kind.Peers) (λ _. site_breaks kind.Peers) 1 t.peers e p in
-    broken 6 t y e below_6 ((λ k. q.0 k.1), q.1) same)
+    broken (rules t) number_of 6 y e below_6 ((λ k. q.0 k.1), q.1) same)
     (λ qs pp g.
-    let below_7 = next 6 t below_6 (all_lawful kind.Routers 1 t.routers ss rp, all_lawful kind.Peers 1 t.peers qs pp) in
-    bind_case (Outcome t y) (numbers_differ which.As (entries t)) _ y g
-    (λ e p same. broken 7 t y e below_7 (asns_break (entries t) e p) same)
+    let below_7 = next (rules t) 6 below_6 (all_lawful kind.Routers 1 t.routers ss rp, all_lawful kind.Peers 1 t.peers qs pp) in
+    bind_case (Outcome (rules t) number_of y) (numbers_differ which.As (entries t)) _ y g
+    (λ e p same. broken (rules t) number_of 7 y e below_7 (asns_break (entries t) e p) same)
     (λ _ p g.
-    let below_8 = next 7 t below_7 (asns_keep (entries t) p) in
-    bind_case (Outcome t y) (numbers_differ which.Id (entries t)) _ y g
-    (λ e p same. broken 8 t y e below_8 (ids_break (entries t) e p) same)
+    let below_8 = next (rules t) 7 below_7 (asns_keep (entries t) p) in
+    bind_case (Outcome (rules t) number_of y) (numbers_differ which.Id (entries t)) _ y g
+    (λ e p same. broken (rules t) number_of 8 y e below_8 (ids_break (entries t) e p) same)
     (λ _ p g.
-    let below_9 = next 8 t below_8 (ids_keep (entries t) p) in
-    bind_case (Outcome t y) (links_of (names_of (entries t)) (length t.routers) t.links) _ y g
+    let below_9 = next (rules t) 8 below_8 (ids_keep (entries t) p) in
+    bind_case (Outcome (rules t) number_of y) (links_of (names_of (entries t)) (length t.routers) t.links) _ y g
     (λ e p same. rw same (links_outcome t below_9 (Err e) p))
     (λ links p g. rw (← g) (links_outcome t below_9 (Ok links) p)))))))
 
-pub judged_outcome : (t : Topology) (y : Result PlainNet TopoFault) → judged t ≡ y → Outcome t y
+pub judged_outcome : (t : Topology) (y : Result PlainNet TopoFault) → judged t ≡ y → Outcome (rules t) number_of y
 unfolding judged
 judged_outcome t y h =
     let lawful = λ (x : Entry). IsTrue (is_name x.name) in
-    bind_case (Outcome t y) (counted t) _ y h
-    (λ e p same. broken 3 t y e (below_3 t) (counted_breaks t e p) same)
+    bind_case (Outcome (rules t) number_of y) (counted t) _ y h
+    (λ e p same. broken (rules t) number_of 3 y e (below_3 (rules t)) (counted_breaks t e p) same)
     (λ _ p g.
-    let below_4 = next 3 t (below_3 t) (counted_holds t p) in
-    bind_case (Outcome t y) (each_from (named kind.Routers) 1 t.routers) _ y g
+    let below_4 = next (rules t) 3 (below_3 (rules t)) (counted_holds t p) in
+    bind_case (Outcome (rules t) number_of y) (each_from (named kind.Routers) 1 t.routers) _ y g
     (λ e p same. let q = each_from-breaks lawful (λ f. number_of f ≡ 4) (named kind.Routers) (named_breaks kind.Routers) 1 t.routers e p in
-    broken 4 t y e below_4 ((λ k. q.0 (AllByRecursion-append_parts lawful t.routers t.peers k).0), q.1) same)
+    broken (rules t) number_of 4 y e below_4 ((λ k. q.0 (AllByRecursion-append_parts lawful t.routers t.peers k).0), q.1) same)
     (λ rs rp g.
-    bind_case (Outcome t y) (each_from (named kind.Peers) 1 t.peers) _ y g
+    bind_case (Outcome (rules t) number_of y) (each_from (named kind.Peers) 1 t.peers) _ y g
     (λ e p same. let q = each_from-breaks lawful (λ f. number_of f ≡ 4) (named kind.Peers) (named_breaks kind.Peers) 1 t.peers e p in
-    broken 4 t y e below_4 ((λ k. q.0 (AllByRecursion-append_parts lawful t.routers t.peers k).1), q.1) same)
-    (λ ps pp g. named_outcome t (next 4 t below_4 (AllByRecursion-append lawful t.routers t.peers (all_named kind.Routers 1 t.routers rs rp) (all_named kind.Peers 1 t.peers ps pp))) y
+    broken (rules t) number_of 4 y e below_4 ((λ k. q.0 (AllByRecursion-append_parts lawful t.routers t.peers k).1), q.1) same)
+    (λ ps pp g. named_outcome t (next (rules t) 4 below_4 (AllByRecursion-append lawful t.routers t.peers (all_named kind.Routers 1 t.routers rs rp) (all_named kind.Peers 1 t.peers ps pp))) y
     (rw (each_named kind.Routers t.routers rs rp, each_named kind.Peers t.peers ps pp) at g))))
 
 -- a topology that breaks no rule is a network

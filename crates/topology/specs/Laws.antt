@@ -1,19 +1,12 @@
 -- The rules of a topology, each for itself, by the number of its fault.
-use Rattle.std.specs.Prelude.{◌≡◌, ℕ, ◌<◌, ◌≤◌, ◌||◌, ◌&&◌, Bool, false, IsTrue, nat_eq, List, [], ◌∷◌, ◌++◌, Some, Ok, ⊤, length, map, IsUtf8}
-use lib.ListN.{get_or}
+use Rattle.std.specs.Prelude.{◌≡◌, ℕ, ◌≤◌, ◌||◌, ◌&&◌, Bool, false, IsTrue, nat_eq, List, [], ◌∷◌, ◌++◌, length, map}
 use Rattle.std.specs.List.{list_any, AllByRecursion, IsDistinct}
 use Rattle.std.specs.Str.{bytes_eq}
-use Rattle.serde_json.specs.Data.{Data}
-use Rattle.serde_json.specs.Read.{read}
 use Rattle.net_base.specs.declared.limits.TheConstants.{ROUTERS, PEERS, LINKS}
 use Rattle.net_base.specs.NameRule.{is_name}
 use Rattle.net_base.specs.Numbers.{is_router_as, is_peer_as}
 use Rattle.topology.specs.Rules.{names_of}
-use Rattle.topology.specs.Shape.{Entry, Ends, Topology, shape_of}
-
--- the bytes are a JSON value that has the shape of this topology
-abbrev pub Says : List ℕ → Topology → Type 0
-Says bytes t = (d : Data) × IsUtf8 bytes × (read bytes ≡ Some d) × (shape_of d ≡ Ok t)
+use Rattle.topology.specs.Shape.{Entry, Ends, Topology}
 
 abbrev pub entries : Topology → List Entry
 entries t = t.routers ++ t.peers
@@ -61,11 +54,3 @@ HaveRouters t = AllByRecursion (λ l. IsTrue (is_among t.routers l.from || is_am
 -- the rules in order, of which the first has the number 3
 abbrev pub rules : Topology → List {1} (Type 0)
 rules t = FewEnough t ∷ HaveNames t ∷ NamesDiffer t ∷ AreInRange t ∷ AsnsDiffer t ∷ IdsDiffer t ∷ EndsAreKnown t ∷ LinksDiffer t ∷ EndsDiffer t ∷ HaveRouters t ∷ []
-
--- the rule of this number is kept; of other numbers there is none
-abbrev pub Keeps : ℕ → Topology → Type 0
-Keeps k t = get_or (⊤ ∷ ⊤ ∷ ⊤ ∷ rules t) k ⊤
-
--- the rules before that of this number are kept
-abbrev pub KeepsBelow : ℕ → Topology → Type 0
-KeepsBelow n t = (k : ℕ) → k < n → Keeps k t

@@ -1,5 +1,4 @@
 pub mod Faults
-pub mod Gives
 pub mod Parts
 pub mod Rules
 pub mod Shape

@@ -2,9 +2,10 @@
 ghost use Rattle.std.specs.Prelude.{◌≡◌, ℕ, List, Some, Ok, Err, IsUtf8};
 ghost use Rattle.serde_json.specs.Data.{Data};
 ghost use Rattle.serde_json.specs.Read.{read};
+ghost use Rattle.item_laws.specs.TextRules.{Says, Keeps, KeepsBelow};
 ghost use Rattle.net_base.specs.Network.{PlainNet, IsNet};
 ghost use Rattle.topology.specs.Faults.{number_of};
-ghost use Rattle.topology.specs.Laws.{Says, Keeps, KeepsBelow};
+ghost use Rattle.topology.specs.Laws.{rules};
 ghost use Rattle.topology.specs.Shape.{Topology, shape_of};
 ghost use Rattle.topology.specs.Topology.{spelled};
 
@@ -14,8 +15,8 @@ use crate::parts::Field;
 /// A text is read exactly where it is a JSON value that has the shape of a topology and keeps all rules. What
 /// it spells is a network.
 pub fn texts_that_are_read()
-    ensures only { (bytes : List ℕ) (net : PlainNet) → spelled bytes ≡ Ok net → (t : Topology) × Says bytes t × KeepsBelow 13 t }
-    ensures all { (bytes : List ℕ) (t : Topology) → Says bytes t → KeepsBelow 13 t → (net : PlainNet) × (spelled bytes ≡ Ok net) }
+    ensures only { (bytes : List ℕ) (net : PlainNet) → spelled bytes ≡ Ok net → (t : Topology) × Says shape_of bytes t × KeepsBelow (rules t) 13 }
+    ensures all { (bytes : List ℕ) (t : Topology) → Says shape_of bytes t → KeepsBelow (rules t) 13 → (net : PlainNet) × (spelled bytes ≡ Ok net) }
     ensures network { (bytes : List ℕ) (net : PlainNet) → spelled bytes ≡ Ok net → IsNet net }
 {}
 
@@ -35,6 +36,6 @@ pub fn texts_of_another_shape()
 /// Of a text with the shape of a topology, a fault is told exactly where the rule of its number is broken and
 /// every rule with a lesser number is kept.
 pub fn first_broken_rule()
-    ensures only { (bytes : List ℕ) (t : Topology) (e : TopoFault) → Says bytes t → spelled bytes ≡ Err e → KeepsBelow (number_of e) t × (Keeps (number_of e) t → ⊥) }
-    ensures all { (bytes : List ℕ) (t : Topology) (k : ℕ) → Says bytes t → KeepsBelow k t → (Keeps k t → ⊥) → (e : TopoFault) × (spelled bytes ≡ Err e) × (number_of e ≡ k) }
+    ensures only { (bytes : List ℕ) (t : Topology) (e : TopoFault) → Says shape_of bytes t → spelled bytes ≡ Err e → KeepsBelow (rules t) (number_of e) × (Keeps (rules t) (number_of e) → ⊥) }
+    ensures all { (bytes : List ℕ) (t : Topology) (k : ℕ) → Says shape_of bytes t → KeepsBelow (rules t) k → (Keeps (rules t) k → ⊥) → (e : TopoFault) × (spelled bytes ≡ Err e) × (number_of e ≡ k) }
 {}

@@ -3,8 +3,8 @@
 
 ghost use Rattle.serde_json.specs.View.{view};
 ghost use Rattle.json_words.specs.Json.{json_of};
+ghost use Rattle.net_base.specs.Gives.{GivesUnless};
 ghost use Rattle.net_base.specs.Steps.{or_fault};
-ghost use Rattle.topology.specs.Gives.{Gives};
 ghost use Rattle.topology.specs.Topology.{spelled};
 
 mod fault;
@@ -25,7 +25,7 @@ use std::alloc::Global;
 
 // The JSON value that the bytes spell.
 fn value_of(alloc: Global, bytes: &[u8]) -> Result<Value, TopoFault>
-    ensures { Gives view result (or_fault TopoFault.NotJson (json_of bytes.now)) }
+    ensures { GivesUnless TopoFault.NoMemory view result (or_fault TopoFault.NotJson (json_of bytes.now)) }
 {
     match json_value(alloc, bytes) {
         Ok(value) => Ok(value),
@@ -38,7 +38,7 @@ fn value_of(alloc: Global, bytes: &[u8]) -> Result<Value, TopoFault>
 /// the text, links ascend. Any bytes are read or refused, in time and memory in proportion to their number.
 #[tactic(auto, unfolding(crate::specs::Topology::spelled))]
 pub fn read_topology(alloc: Global, bytes: &[u8]) -> Result<Net, TopoFault>
-    ensures { Gives (λ net. net) result (spelled bytes.now) }
+    ensures { GivesUnless TopoFault.NoMemory (λ net. net) result (spelled bytes.now) }
 {
     let value = value_of(alloc, bytes)?;
     let raw = shape::shape(alloc, &value)?;

@@ -3,10 +3,10 @@ ghost use Rattle.std.specs.Prelude.{◌≡◌, ◌≢◌, ◌≤◌, ◌==◌, O
 ghost use Rattle.std.specs.List.{list_any};
 ghost use Rattle.std.specs.Str.{bytes_eq};
 ghost use Rattle.indexmap.specs.IndexSet.{index_set_len};
+ghost use Rattle.net_base.specs.Gives.{GivesUnless};
 ghost use Rattle.net_base.specs.Network.{ordered, same_ends};
 ghost use Rattle.net_base.specs.Steps.{each_from};
 ghost use Rattle.net_base.specs.declared.limits.TheConstants.{LINKS, LOCATIONS};
-ghost use Rattle.topology.specs.Gives.{Gives};
 ghost use Rattle.topology.specs.Rules.{joined, put as put_link, ascending, links_differ, ends_differ as ends_are_different, routers_linked as routers_are_linked, links_of};
 ghost use Rattle.topology.specs.Views.{raw_ends, texts};
 
@@ -43,7 +43,7 @@ fn link(a: u16, b: u16) -> (Loc, Loc)
 #[tactic(auto, unfolding(crate::specs::Rules::joined))]
 fn join(names: &IndexSet<&[u8]>, place: u32, raw: &RawEnds<'_>) -> Result<(Loc, Loc), TopoFault>
     requires { index_set_len names.now ≤ LOCATIONS }
-    ensures { Gives (λ l. l) result (joined (texts names.now.keys) place (raw_ends raw.now)) }
+    ensures { GivesUnless TopoFault.NoMemory (λ l. l) result (joined (texts names.now.keys) place (raw_ends raw.now)) }
 {
     let Some(a) = location(names, raw.from) else {
         return Err(TopoFault::UnknownEnd(place));
@@ -62,7 +62,7 @@ fn join_all(
 ) -> Result<Vec<(Loc, Loc)>, TopoFault>
     requires names { index_set_len names.now ≤ LOCATIONS }
     requires few { length raw.now ≤ LINKS }
-    ensures links { Gives (λ v. v.items) result (each_from (joined (texts names.now.keys)) 1 (map raw_ends raw.now)) }
+    ensures links { GivesUnless TopoFault.NoMemory (λ v. v.items) result (each_from (joined (texts names.now.keys)) 1 (map raw_ends raw.now)) }
     ensures count { IfOk result (λ v. length v.items ≡ length raw.now) }
 {
     let mut all = Vec::new(alloc);
@@ -133,7 +133,7 @@ fn peer_link(routers: u16, links: &[(Loc, Loc)]) -> Option<usize>
 #[tactic(auto, unfolding(crate::specs::Rules::ends_differ))]
 fn ends_differ(links: &[(Loc, Loc)]) -> Result<(), TopoFault>
     requires { length links.now ≤ LINKS }
-    ensures { Gives (λ u. u) result (ends_are_different links.now) }
+    ensures { GivesUnless TopoFault.NoMemory (λ u. u) result (ends_are_different links.now) }
 {
     match self_link(links) {
         Some(i) => Err(TopoFault::SelfLink(i as u32 + 1)),
@@ -145,7 +145,7 @@ fn ends_differ(links: &[(Loc, Loc)]) -> Result<(), TopoFault>
 #[tactic(auto, unfolding(crate::specs::Rules::routers_linked))]
 fn routers_linked(routers: u16, links: &[(Loc, Loc)]) -> Result<(), TopoFault>
     requires { length links.now ≤ LINKS }
-    ensures { Gives (λ u. u) result (routers_are_linked routers links.now) }
+    ensures { GivesUnless TopoFault.NoMemory (λ u. u) result (routers_are_linked routers links.now) }
 {
     match peer_link(routers, links) {
         Some(i) => Err(TopoFault::PeerLink(i as u32 + 1)),
@@ -163,7 +163,7 @@ pub fn links(
 ) -> Result<Vec<(Loc, Loc)>, TopoFault>
     requires names { index_set_len names.now ≤ LOCATIONS }
     requires few { length raw.now ≤ LINKS }
-    ensures { Gives (λ v. v.items) result (links_of (texts names.now.keys) routers (map raw_ends raw.now)) }
+    ensures { GivesUnless TopoFault.NoMemory (λ v. v.items) result (links_of (texts names.now.keys) routers (map raw_ends raw.now)) }
 {
     let links = join_all(alloc, names, raw)?;
     let ordered = distinct(alloc, &links)?;

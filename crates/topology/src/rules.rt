@@ -1,8 +1,8 @@
 //! The rules of a topology.
 ghost use Rattle.std.specs.Prelude.{◌≡◌, ◌≤◌, ◌++◌, IfOk, IfErr, OnOk, length};
 ghost use Rattle.std.specs.List.{AllByRecursion};
+ghost use Rattle.net_base.specs.Gives.{GivesUnless};
 ghost use Rattle.net_base.specs.declared.limits.TheConstants.{ROUTERS, PEERS, LINKS};
-ghost use Rattle.topology.specs.Gives.{Gives};
 ghost use Rattle.topology.specs.Rules.{counted, judged};
 ghost use Rattle.topology.specs.Shape.{IsIdentifier};
 ghost use Rattle.topology.specs.Views.{raw_topology};
@@ -18,7 +18,7 @@ use std::alloc::Global;
 // There are not too many routers, peers and links.
 #[tactic(auto, unfolding(crate::specs::Rules::counted))]
 fn count(raw: &RawTopology<'_>) -> Result<(), TopoFault>
-    ensures rule { Gives (λ u. u) result (counted (raw_topology raw.now)) }
+    ensures rule { GivesUnless TopoFault.NoMemory (λ u. u) result (counted (raw_topology raw.now)) }
     ensures routers { OnOk result (length raw.now.routers.items ≤ ROUTERS) }
     ensures peers { OnOk result (length raw.now.peers.items ≤ PEERS) }
     ensures links { OnOk result (length raw.now.links.items ≤ LINKS) }
@@ -53,7 +53,7 @@ fn both(alloc: Global, routers: &[Named], peers: &[Named]) -> Result<Vec<Named>,
 pub fn judge(alloc: Global, raw: &RawTopology<'_>) -> Result<Net, TopoFault>
     requires routers { AllByRecursion (λ e. IsIdentifier e.id) (raw_topology raw.now).routers }
     requires peers { AllByRecursion (λ e. IsIdentifier e.id) (raw_topology raw.now).peers }
-    ensures { Gives (λ net. net) result (judged (raw_topology raw.now)) }
+    ensures { GivesUnless TopoFault.NoMemory (λ net. net) result (judged (raw_topology raw.now)) }
 {
     count(raw)?;
     let routers = with_names(alloc, Kind::Routers, &raw.routers)?;

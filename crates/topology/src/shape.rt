@@ -1,7 +1,7 @@
 //! The shape of a topology.
 ghost use Rattle.std.specs.Prelude.{◌≡◌, map};
 ghost use Rattle.serde_json.specs.View.{view};
-ghost use Rattle.topology.specs.Gives.{Gives};
+ghost use Rattle.net_base.specs.Gives.{GivesUnless};
 ghost use Rattle.topology.specs.Shape.{each, entry_of, ends_of, shape_of, identifier_of};
 ghost use Rattle.topology.specs.Views.{raw_entry, raw_ends, raw_topology};
 
@@ -48,7 +48,7 @@ fn identifier(text: &str) -> Option<u32>
 // The router or peer that an entry spells, or the first part that is not as it should be.
 #[tactic(auto, unfolding(crate::specs::Shape::entry_of))]
 fn entry(value: &Value) -> Result<RawEntry<'_>, TopoFault>
-    ensures { Gives raw_entry result (entry_of (view value.now)) }
+    ensures { GivesUnless TopoFault.NoMemory raw_entry result (entry_of (view value.now)) }
 {
     let Some(members) = value.as_object() else {
         return Err(TopoFault::Shape(Field::Entry));
@@ -74,7 +74,7 @@ fn entry(value: &Value) -> Result<RawEntry<'_>, TopoFault>
 // The ends of the link that an entry spells.
 #[tactic(auto, unfolding(crate::specs::Shape::ends_of))]
 fn ends(value: &Value) -> Result<RawEnds<'_>, TopoFault>
-    ensures { Gives raw_ends result (ends_of (view value.now)) }
+    ensures { GivesUnless TopoFault.NoMemory raw_ends result (ends_of (view value.now)) }
 {
     let Some(ends) = list(value) else {
         return Err(TopoFault::Shape(Field::Entry));
@@ -93,7 +93,7 @@ fn ends(value: &Value) -> Result<RawEnds<'_>, TopoFault>
 
 #[tactic(auto, unfolding(crate::specs::Shape::each))]
 fn entries(alloc: Global, values: &[Value]) -> Result<Vec<RawEntry<'_>>, TopoFault>
-    ensures { Gives (λ v. map raw_entry v.items) result (each entry_of (map view values.now)) }
+    ensures { GivesUnless TopoFault.NoMemory (λ v. map raw_entry v.items) result (each entry_of (map view values.now)) }
 {
     let mut all = Vec::new(alloc);
     for value in values {
@@ -105,7 +105,7 @@ fn entries(alloc: Global, values: &[Value]) -> Result<Vec<RawEntry<'_>>, TopoFau
 
 #[tactic(auto, unfolding(crate::specs::Shape::each))]
 fn links(alloc: Global, values: &[Value]) -> Result<Vec<RawEnds<'_>>, TopoFault>
-    ensures { Gives (λ v. map raw_ends v.items) result (each ends_of (map view values.now)) }
+    ensures { GivesUnless TopoFault.NoMemory (λ v. map raw_ends v.items) result (each ends_of (map view values.now)) }
 {
     let mut all = Vec::new(alloc);
     for value in values {
@@ -118,7 +118,7 @@ fn links(alloc: Global, values: &[Value]) -> Result<Vec<RawEnds<'_>>, TopoFault>
 /// The topology that a value has the shape of, or the first part that is not as it should be.
 #[tactic(auto, unfolding(crate::specs::Shape::shape_of))]
 pub fn shape(alloc: Global, value: &Value) -> Result<RawTopology<'_>, TopoFault>
-    ensures { Gives raw_topology result (shape_of (view value.now)) }
+    ensures { GivesUnless TopoFault.NoMemory raw_topology result (shape_of (view value.now)) }
 {
     let Some(members) = value.as_object() else {
         return Err(TopoFault::Shape(Field::Top));

@@ -2,9 +2,9 @@
 ghost use Rattle.std.specs.Prelude.{◌≡◌, ◌≢◌, ◌≤◌, ◌++◌, ◌∷◌, [], Ok, Err, OnOk, IfOk, IfErr, IsTrue, length, map, position, not, nat_eq};
 ghost use Rattle.std.specs.List.{list_any};
 ghost use Rattle.std.specs.Str.{bytes_eq};
+ghost use Rattle.net_base.specs.Gives.{GivesUnless};
 ghost use Rattle.net_base.specs.Steps.{each_from};
 ghost use Rattle.net_base.specs.declared.limits.TheConstants.{ROUTERS};
-ghost use Rattle.topology.specs.Gives.{Gives};
 ghost use Rattle.topology.specs.Rules.{named as named_at, is_lawful_as, site_of, names_differ, names_of, number, numbers_differ, shared};
 ghost use Rattle.topology.specs.Shape.{each};
 ghost use Rattle.topology.specs.Views.{raw_entry, named_entry, texts};
@@ -36,7 +36,7 @@ pub enum Number {
 // The entry at this place, with its name.
 #[tactic(auto, unfolding(crate::specs::Rules::named))]
 fn named_entry(kind: Kind, place: u32, raw: &RawEntry<'_>) -> Result<Named, TopoFault>
-    ensures { Gives named_entry result (named_at kind place (raw_entry raw.now)) }
+    ensures { GivesUnless TopoFault.NoMemory named_entry result (named_at kind place (raw_entry raw.now)) }
 {
     match Name::of(raw.name.as_bytes()) {
         Some(name) => Ok(Named {
@@ -51,7 +51,7 @@ fn named_entry(kind: Kind, place: u32, raw: &RawEntry<'_>) -> Result<Named, Topo
 /// The entries of this kind with their names.
 pub fn with_names(alloc: Global, kind: Kind, raw: &[RawEntry<'_>]) -> Result<Vec<Named>, TopoFault>
     requires { length raw.now ≤ ROUTERS }
-    ensures entries { Gives (λ v. map named_entry v.items) result (each_from (named_at kind) 1 (map raw_entry raw.now)) }
+    ensures entries { GivesUnless TopoFault.NoMemory (λ v. map named_entry v.items) result (each_from (named_at kind) 1 (map raw_entry raw.now)) }
     ensures count { IfOk result (λ v. length v.items ≡ length raw.now) }
 {
     let mut all = Vec::new(alloc);
@@ -102,7 +102,7 @@ fn is_lawful(kind: Kind, asn: u32) -> bool
 // The router or peer of an entry.
 #[tactic(auto, unfolding(crate::specs::Rules::site_of))]
 fn site(kind: Kind, entry: &Named) -> Result<Site, TopoFault>
-    ensures { Gives (λ s. s) result (site_of kind (named_entry entry.now)) }
+    ensures { GivesUnless TopoFault.NoMemory (λ s. s) result (site_of kind (named_entry entry.now)) }
 {
     let Ok(asn) = u32::try_from(entry.asn) else {
         return Err(TopoFault::AsRange(entry.name));
@@ -120,7 +120,7 @@ fn site(kind: Kind, entry: &Named) -> Result<Site, TopoFault>
 /// The routers or peers of the entries, whose AS numbers are in their range.
 #[tactic(auto, unfolding(crate::specs::Shape::each))]
 pub fn sites(alloc: Global, kind: Kind, entries: &[Named]) -> Result<Vec<Site>, TopoFault>
-    ensures { Gives (λ v. v.items) result (each (site_of kind) (map named_entry entries.now)) }
+    ensures { GivesUnless TopoFault.NoMemory (λ v. v.items) result (each (site_of kind) (map named_entry entries.now)) }
 {
     let mut all = Vec::new(alloc);
     for entry in entries {
@@ -162,7 +162,7 @@ fn place_of(numbers: &IndexSet<u64>, number: u64) -> Option<usize>
 /// No two entries have the same number.
 #[tactic(auto, unfolding(crate::specs::Rules::numbers_differ))]
 pub fn unshared(alloc: Global, which: Number, entries: &[Named]) -> Result<(), TopoFault>
-    ensures { Gives (λ u. u) result (numbers_differ which (map named_entry entries.now)) }
+    ensures { GivesUnless TopoFault.NoMemory (λ u. u) result (numbers_differ which (map named_entry entries.now)) }
 {
     let mut seen = IndexSet::new(alloc);
     for entry in entries {

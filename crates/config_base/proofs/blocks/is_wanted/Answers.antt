@@ -3,7 +3,6 @@ use Rattle.std.specs.Prelude.{◌&&◌, if◌then◌else◌}
 use Rattle.std.proofs.Math.Bool.{beq}
 use Rattle.config_base.proofs.blocks.is_wanted.Goals as goal
 
--- src/blocks.rt:81:1
 pub returns-then-is_same : goal.returns-then-is_same
 returns-then-is_same c = by c.args.block.now.peer c.args.peer ∙ ap (λ same. same && (if c.args.block.now.peer then c.args.peer else not c.args.peer)) c.if-is_same.ensures
   where

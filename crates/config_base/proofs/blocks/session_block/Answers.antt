@@ -1,31 +1,27 @@
-use Rattle.std.proofs.Common.{◌≡◌, sym, ap, ◌∙◌, subst, length}
+use Rattle.std.proofs.Common.{◌≡◌, [], sym, ap, ◌∙◌, subst}
 use Rattle.std.specs.List.{find}
 use Rattle.std.specs.Option.{IfSome}
-use Rattle.config_base.specs.Configs.{IsSession}
-use Rattle.config_base.proofs.SessionBlocks.{block_by_name, each_found, if_found, is_it, kind_found, no_block, nowhere}
+use Rattle.config_base.specs.Configs.{PlainConfig, IsSession}
+use Rattle.config_base.proofs.SessionBlocks.{block_by_name, if_found, if_each_found, is_it, kind_found, no_block, nowhere}
 use Rattle.config_base.proofs.blocks.session_block.Goals as goal
 
--- src/blocks.rt:106:9
 pub returns-then-not-is_router-clause-block : goal.returns-then-not-is_router-clause-block
 returns-then-not-is_router-clause-block c =
-    sym (no_block c.args.net.now c.args.config.now c.args.router c.args.neighbour c.in_ok-block.block.now (c.in_ok-block.ensures.block)
+    sym (no_block c.args.net.now (record { classes = []; routers = c.args.routers.now }) c.args.router c.args.neighbour c.in_ok-block.block.now (c.in_ok-block.ensures.block)
     (nowhere c.args.net.now c.args.neighbour c.if-not-peer.ensures c.if-not-is_router.ensures))
 
--- src/blocks.rt:93:1
 pub returns-clause-block : goal.returns-clause-block
 returns-clause-block c =
+    let config : PlainConfig = record { classes = []; routers = c.args.routers.now } in
     let found = c.block_named.ensures ∙ ap (find (is_it c.name_of.result c.is_peer-peer.result)) c.as_slice.ensures in
     let kind = ap (λ peer. find (is_it c.name_of.result peer) c.in_ok-block.block.now.sessions) c.is_peer-peer.ensures in
-    found ∙ kind ∙ sym (block_by_name c.args.net.now c.args.config.now c.args.router c.args.neighbour c.in_ok-block.block.now c.name_of.result (c.in_ok-block.ensures.block) c.name_of.ensures)
+    found ∙ kind ∙ sym (block_by_name c.args.net.now config c.args.router c.args.neighbour c.in_ok-block.block.now c.name_of.result (c.in_ok-block.ensures.block) c.name_of.ensures)
 
--- src/blocks.rt:93:1
 pub returns-clause-rules : goal.returns-clause-rules
-returns-clause-rules c =
+returns-clause-rules c count all =
     let found = c.block_named.ensures ∙ ap (find (is_it c.name_of.result c.is_peer-peer.result)) c.as_slice.ensures in
-    let P = IsSession (length c.args.config.now.classes) in
-    if_found (λ b. b.now) P _ c.block_named.result found (each_found P (is_it c.name_of.result c.is_peer-peer.result) c.in_ok-block.block.now.sessions c.in_ok-block.ensures.rules.sessions)
+    if_each_found (λ b. b.now) (IsSession count) (is_it c.name_of.result c.is_peer-peer.result) c.in_ok-block.block.now.sessions c.block_named.result found (c.in_ok-block.ensures.rules count all).sessions
 
--- src/blocks.rt:93:1
 pub returns-clause-kind : goal.returns-clause-kind
 returns-clause-kind c =
     let found = c.block_named.ensures ∙ ap (find (is_it c.name_of.result c.is_peer-peer.result)) c.as_slice.ensures in
