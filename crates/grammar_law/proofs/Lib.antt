@@ -21,3 +21,4 @@ pub mod TextLaws
 mod Tokens
 mod WholeCalls
 mod WholeItems
+mod Words

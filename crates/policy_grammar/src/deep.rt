@@ -1,7 +1,8 @@
 //! How many brackets are open at once.
 ghost use Rattle.std.specs.Prelude.{◌≡◌, ◌≤◌, ◌<◌, ◌∷◌, ℕ, List, length, Ok, None, false, IfSome, IsTrue};
 ghost use Rattle.policy_tokens.specs.declared.limits.TheConstants.{BRACKETS};
-ghost use Rattle.policy_tokens.specs.Gives.{Gives};
+ghost use Rattle.net_base.specs.Gives.{GivesUnless};
+ghost use Rattle.policy_tokens.specs.declared.fault.PolicyFault.TheVariants.{NoMemory};
 ghost use Rattle.policy_tokens.specs.Places.{first_place};
 ghost use Rattle.policy_tokens.specs.Tokens.{tokens_from};
 ghost use Rattle.policy_grammar.specs.Deep.{deep_from, deep_found, is_too_deep, open_behind as open_after};
@@ -87,7 +88,7 @@ fn is_fine(text: &[u8]) -> bool
 /// A `)` closes one where one is open.
 pub fn first_deep(text: &[u8]) -> Result<Option<Place>, PolicyFault>
     requires { length text.now < 4294967295 }
-    ensures { Gives (λ x. x) result (deep_found text.now (tokens_from (length text.now) 0 first_place text.now)) }
+    ensures { GivesUnless NoMemory (λ x. x) result (deep_found text.now (tokens_from (length text.now) 0 first_place text.now)) }
 {
     if is_fine(text) {
         return Ok(None);

@@ -1,6 +1,7 @@
 //! The lexeme at which a text is read.
 ghost use Rattle.std.specs.Prelude.{◌≡◌, ◌==◌, ◌<◌, ◌≤◌, ℕ, List, true, false, Some, None, length, OnOk};
-ghost use Rattle.policy_tokens.specs.Gives.{Gives};
+ghost use Rattle.net_base.specs.Gives.{GivesUnless};
+ghost use Rattle.policy_tokens.specs.declared.fault.PolicyFault.TheVariants.{NoMemory};
 ghost use Rattle.policy_grammar.specs.Symbols.{number_of};
 ghost use Rattle.policy_grammar.specs.declared.symbol.Symbol.TheVariants.{EndOfText};
 ghost use Rattle.policy_grammar.specs.Left.{left, StandsIn};
@@ -45,7 +46,7 @@ pub fn past(symbol: Symbol, text: &[u8], at: &mut Lexeme) -> bool
 pub fn first(symbol: Symbol, text: &[u8], at: &mut Lexeme) -> Result<Lexeme, PolicyFault>
     requires sign { number_of symbol < number_of EndOfText }
     requires stands { StandsIn text.now at.old }
-    ensures read { Gives (λ x. (x, left text.now at.new)) result (first_of symbol (left text.now at.old)) }
+    ensures read { GivesUnless NoMemory (λ x. (x, left text.now at.new)) result (first_of symbol (left text.now at.old)) }
     ensures stands { StandsIn text.now at.new }
     ensures fewer { length (left text.now at.new) ≤ length (left text.now at.old) }
     ensures onward { OnOk result (length (left text.now at.new) < length (left text.now at.old)) }
@@ -62,7 +63,7 @@ pub fn first(symbol: Symbol, text: &[u8], at: &mut Lexeme) -> Result<Lexeme, Pol
 pub fn passed(symbol: Symbol, text: &[u8], at: &mut Lexeme) -> Result<(), PolicyFault>
     requires sign { number_of symbol < number_of EndOfText }
     requires stands { StandsIn text.now at.old }
-    ensures read { Gives (λ _. left text.now at.new) result (after symbol (left text.now at.old)) }
+    ensures read { GivesUnless NoMemory (λ _. left text.now at.new) result (after symbol (left text.now at.old)) }
     ensures stands { StandsIn text.now at.new }
     ensures fewer { length (left text.now at.new) ≤ length (left text.now at.old) }
     ensures onward { OnOk result (length (left text.now at.new) < length (left text.now at.old)) }

@@ -10,8 +10,8 @@ use Rattle.net_base.specs.Network.{PlainNet}
 use Rattle.net_base.specs.Steps.{◌>>=◌}
 use Rattle.net_base.proofs.StepLemmas.{bind_ok, ok_same}
 use Rattle.policy_tokens.specs.declared.fault.PolicyFault.{PolicyFault}
-use Rattle.policy_tokens.specs.declared.fault.PolicyFault.TheVariants.{Deep}
-use Rattle.policy_tokens.specs.Gives.{Gives}
+use Rattle.policy_tokens.specs.declared.fault.PolicyFault.TheVariants.{Deep, NoMemory}
+use Rattle.net_base.specs.Gives.{GivesUnless}
 use Rattle.policy_tokens.specs.Places.{place_of}
 use Rattle.policy_tokens.specs.Tokens.{tokens_of}
 use Rattle.policy_base.specs.declared.call.SetCall.{SetCall}
@@ -149,6 +149,6 @@ built_shallow bytes net known items policy h nested =
 
 -- What is read is at most 321 deep: on one way down stand at most 255 operators with two sides, 65 `not` and a call.
 pub read-IsAtMostDeep : {X : Type 0} (view : X → PlainPolicy) (bytes : List ℕ) (net : PlainNet) (known : Names) (items : List Item) (result : Result X PolicyFault)
-    → items_spelled bytes ≡ Ok items → Gives view result (policy_built bytes net known items) → IfOk result (λ x. IsAtMostDeep 321 (view x))
+    → items_spelled bytes ≡ Ok items → GivesUnless NoMemory view result (policy_built bytes net known items) → IfOk result (λ x. IsAtMostDeep 321 (view x))
 read-IsAtMostDeep view bytes net known items (Ok x) e h = built_shallow bytes net known items (view x) h (items_nested bytes items e)
 read-IsAtMostDeep view bytes net known items (Err f) e h = tt

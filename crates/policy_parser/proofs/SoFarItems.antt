@@ -6,7 +6,8 @@ use Rattle.net_base.specs.Network.{PlainNet, IsNet}
 use Rattle.net_base.specs.Steps.{◌>>=◌}
 use Rattle.net_base.proofs.StepLemmas.{ok_same}
 use Rattle.policy_tokens.specs.declared.fault.PolicyFault.{PolicyFault}
-use Rattle.policy_tokens.specs.Gives.{Gives}
+use Rattle.net_base.specs.Gives.{GivesUnless}
+use Rattle.policy_tokens.specs.declared.fault.PolicyFault.TheVariants.{NoMemory}
 use Rattle.policy_grammar.specs.Raw.{Item}
 use Rattle.policy_rules.specs.KnownNames.{net_names}
 use Rattle.policy_rules.specs.KnownView.{plain_names}
@@ -76,7 +77,7 @@ module _ (bytes : List ℕ) (net : PlainNet) (items : List Item) (v : Verdicts) 
     }
 
     -- the item is kept
-    pub kept_so_far : (k : Kept) (r : Result ⊤ PolicyFault) → Gives (λ _. plain_kept k) r (Ok (kept_item (plain_kept v.kept) i)) → IsSoFar bytes net items v → IsItem bytes net (plain_names v.told.known) x i
+    pub kept_so_far : (k : Kept) (r : Result ⊤ PolicyFault) → GivesUnless NoMemory (λ _. plain_kept k) r (Ok (kept_item (plain_kept v.kept) i)) → IsSoFar bytes net items v → IsItem bytes net (plain_names v.told.known) x i
         → OnOk r (IsSoFar bytes net (items ++ x ∷ []) (record { told = next; kept = k }))
     kept_so_far k (Err e) gives so_far is = tt
     kept_so_far k (Ok u) gives so_far is = record {

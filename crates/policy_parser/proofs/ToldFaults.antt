@@ -10,8 +10,8 @@ use Rattle.net_base.specs.SetOperations.{no_location}
 use Rattle.net_base.specs.Steps.{◌>>=◌}
 use Rattle.net_base.proofs.StepLemmas.{bind_ok, ok_same}
 use Rattle.policy_tokens.specs.declared.fault.PolicyFault.{PolicyFault}
-use Rattle.policy_tokens.specs.declared.fault.PolicyFault.TheVariants.{Twice}
-use Rattle.policy_tokens.specs.Gives.{Gives}
+use Rattle.policy_tokens.specs.declared.fault.PolicyFault.TheVariants.{Twice, NoMemory}
+use Rattle.net_base.specs.Gives.{GivesUnless}
 use Rattle.policy_grammar.specs.declared.lexeme.Lexeme.{Lexeme}
 use Rattle.policy_grammar.specs.Raw.{Item}
 use Rattle.policy_grammar.specs.Raw.Item.{Define, Originate, State}
@@ -176,7 +176,7 @@ module _ (bytes : List ℕ) (net : PlainNet) (items : List Item) (k : Names) (t 
       is_policy bytes net k items p.origins p.statements (rw (figures, ranks, routers, once) refl) (rw (limits, kept.origins, fit) refl) kept.statements
 
 -- what a text spells is at most 321 deep
-pub spelled-IsAtMostDeep : {X : Type 0} (view : X → PlainPolicy) (bytes : List ℕ) (net : PlainNet) (result : Result X PolicyFault) → Gives view result (spelled net bytes) → IfOk result (λ x. IsAtMostDeep 321 (view x))
+pub spelled-IsAtMostDeep : {X : Type 0} (view : X → PlainPolicy) (bytes : List ℕ) (net : PlainNet) (result : Result X PolicyFault) → GivesUnless NoMemory view result (spelled net bytes) → IfOk result (λ x. IsAtMostDeep 321 (view x))
 unfolding spelled
 spelled-IsAtMostDeep view bytes net (Ok x) h =
     let items = bind_ok (items_spelled bytes) _ (view x) h in

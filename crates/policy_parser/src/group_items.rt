@@ -7,51 +7,42 @@ ghost use Rattle.policy_parser.specs.ItemReads.{ReadsGroup, ReadsOrigin};
 
 use crate::values::{GroupRead, OriginRead};
 use policy_grammar::{Lexeme, Symbol, first, passed};
-use policy_rules::{Known, prefix_at};
+use policy_rules::prefix_at;
 use policy_tokens::PolicyFault;
-use policy_values::{Whole, braced, origin_names};
+use policy_values::Reader;
 
 /// A group, behind `define`.
 #[tactic(auto, unfolding(policy_grammar::specs::Items::define_at))]
-pub(crate) fn define(
-    text: &[u8],
-    known: &Known<'_>,
-    at: &mut Lexeme,
-) -> Result<GroupRead, PolicyFault>
-    requires stands { StandsIn text.now at.old }
-    ensures read { (net : PlainNet) → ReadsGroup text.now net (plain_names known.now) (left text.now at.old) (left text.now at.new) result }
-    ensures stands { StandsIn text.now at.new }
-    ensures fewer { length (left text.now at.new) ≤ length (left text.now at.old) }
-    ensures onward { OnOk result (length (left text.now at.new) < length (left text.now at.old)) }
+pub(crate) fn define(reader: &Reader<'_>, at: &mut Lexeme) -> Result<GroupRead, PolicyFault>
+    requires stands { StandsIn reader.now.text.now at.old }
+    ensures read { (net : PlainNet) → ReadsGroup reader.now.text.now net (plain_names reader.now.known.now) (left reader.now.text.now at.old) (left reader.now.text.now at.new) result }
+    ensures stands { StandsIn reader.now.text.now at.new }
+    ensures fewer { length (left reader.now.text.now at.new) ≤ length (left reader.now.text.now at.old) }
+    ensures onward { OnOk result (length (left reader.now.text.now at.new) < length (left reader.now.text.now at.old)) }
 {
-    let name = first(Symbol::Name, text, at)?;
-    passed(Symbol::Equals, text, at)?;
-    let set = braced(text, known, at)?;
-    passed(Symbol::Semicolon, text, at)?;
+    let name = first(Symbol::Name, reader.text, at)?;
+    passed(Symbol::Equals, reader.text, at)?;
+    let set = reader.braced(at)?;
+    passed(Symbol::Semicolon, reader.text, at)?;
     Ok(GroupRead { name, set })
 }
 
 /// A prefix with its origins, behind `originate`.
 #[tactic(auto, unfolding(policy_grammar::specs::Items::originate_at))]
-pub(crate) fn originate(
-    text: &[u8],
-    whole: &Whole<'_>,
-    known: &Known<'_>,
-    at: &mut Lexeme,
-) -> Result<OriginRead, PolicyFault>
-    requires stands { StandsIn text.now at.old }
-    ensures read { ReadsOrigin text.now whole.now.net.now (plain_names known.now) (left text.now at.old) (left text.now at.new) result }
-    ensures stands { StandsIn text.now at.new }
-    ensures fewer { length (left text.now at.new) ≤ length (left text.now at.old) }
-    ensures onward { OnOk result (length (left text.now at.new) < length (left text.now at.old)) }
+pub(crate) fn originate(reader: &Reader<'_>, at: &mut Lexeme) -> Result<OriginRead, PolicyFault>
+    requires stands { StandsIn reader.now.text.now at.old }
+    ensures read { ReadsOrigin reader.now.text.now reader.now.whole.now.net.now (plain_names reader.now.known.now) (left reader.now.text.now at.old) (left reader.now.text.now at.new) result }
+    ensures stands { StandsIn reader.now.text.now at.new }
+    ensures fewer { length (left reader.now.text.now at.new) ≤ length (left reader.now.text.now at.old) }
+    ensures onward { OnOk result (length (left reader.now.text.now at.new) < length (left reader.now.text.now at.old)) }
 {
-    let figure = first(Symbol::Figure, text, at)?;
-    passed(Symbol::At, text, at)?;
-    let names = origin_names(text, whole, known, at)?;
-    passed(Symbol::Semicolon, text, at)?;
+    let figure = first(Symbol::Figure, reader.text, at)?;
+    passed(Symbol::At, reader.text, at)?;
+    let names = reader.origin_names(at)?;
+    passed(Symbol::Semicolon, reader.text, at)?;
     Ok(OriginRead {
         place: figure.place,
-        prefix: prefix_at(text, &figure),
+        prefix: prefix_at(reader.text, &figure),
         at: names.at,
         routers: names.routers,
     })

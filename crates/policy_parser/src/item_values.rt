@@ -1,7 +1,8 @@
 //! Statements and items, read to what they come to.
 ghost use Rattle.std.specs.Prelude.{◌≡◌, ◌≤◌, ◌<◌, ℕ, List as Items, [], length, OnOk};
 ghost use Rattle.net_base.specs.Network.{PlainNet};
-ghost use Rattle.policy_tokens.specs.Gives.{Gives};
+ghost use Rattle.net_base.specs.Gives.{GivesUnless};
+ghost use Rattle.policy_tokens.specs.declared.fault.PolicyFault.TheVariants.{NoMemory};
 ghost use Rattle.policy_grammar.specs.Raw.{RawStatement};
 ghost use Rattle.policy_grammar.specs.Left.{left, StandsIn};
 ghost use Rattle.policy_grammar.specs.Items.{from_at};
@@ -20,11 +21,10 @@ use crate::values::{ItemRead, StatementRead};
 use net_base::{List, LocSet};
 use policy_base::{CallWord, FromSet, Statement};
 use policy_grammar::{Lexeme, Symbol, passed, past};
-use policy_rules::{Known, within};
+use policy_rules::within;
 use policy_tokens::limits::CALLS;
 use policy_tokens::{Kind, PolicyFault};
-use policy_values::{Parts, PatternsRead, Whole, names, predicate, ranked};
-use std::alloc::Global;
+use policy_values::{Parts, PatternsRead, Reader, predicate};
 
 // The sources that are named.
 fn named(set: Result<LocSet, PolicyFault>) -> Result<FromSet, PolicyFault>
@@ -35,20 +35,16 @@ fn named(set: Result<LocSet, PolicyFault>) -> Result<FromSet, PolicyFault>
 
 // The sources that a statement claims, or the first of their names that is unknown.
 #[tactic(auto, unfolding(policy_grammar::specs::Items::from_at, policy_grammar::specs::Calls::set_at))]
-fn from(
-    text: &[u8],
-    known: &Known<'_>,
-    at: &mut Lexeme,
-) -> Result<Result<FromSet, PolicyFault>, PolicyFault>
-    requires stands { StandsIn text.now at.old }
-    ensures read { Gives (λ x. (x, left text.now at.new)) result (over (from_of text.now (plain_names known.now)) (from_at (left text.now at.old))) }
-    ensures stands { StandsIn text.now at.new }
-    ensures fewer { length (left text.now at.new) ≤ length (left text.now at.old) }
+fn from(reader: &Reader<'_>, at: &mut Lexeme) -> Result<Result<FromSet, PolicyFault>, PolicyFault>
+    requires stands { StandsIn reader.now.text.now at.old }
+    ensures read { GivesUnless NoMemory (λ x. (x, left reader.now.text.now at.new)) result (over (from_of reader.now.text.now (plain_names reader.now.known.now)) (from_at (left reader.now.text.now at.old))) }
+    ensures stands { StandsIn reader.now.text.now at.new }
+    ensures fewer { length (left reader.now.text.now at.new) ≤ length (left reader.now.text.now at.old) }
 {
-    if !past(Symbol::From, text, at) || past(Symbol::Call(CallWord::Any), text, at) {
+    if !past(Symbol::From, reader.text, at) || past(Symbol::Call(CallWord::Any), reader.text, at) {
         return Ok(Ok(FromSet::Any));
     }
-    let set = names(text, known, at)?;
+    let set = reader.names(at)?;
     Ok(named(set))
 }
 
@@ -77,47 +73,35 @@ fn judged(
 
 // A statement.
 #[tactic(auto, unfolding(policy_grammar::specs::Items::statement_at))]
-fn statement(
-    alloc: Global,
-    text: &[u8],
-    whole: &Whole<'_>,
-    known: &Known<'_>,
-    at: &mut Lexeme,
-) -> Result<StatementRead, PolicyFault>
-    requires stands { StandsIn text.now at.old }
-    ensures read { ReadsStatement text.now whole.now.net.now (plain_names known.now) (left text.now at.old) (left text.now at.new) result }
-    ensures stands { StandsIn text.now at.new }
-    ensures fewer { length (left text.now at.new) ≤ length (left text.now at.old) }
-    ensures onward { OnOk result (length (left text.now at.new) < length (left text.now at.old)) }
+fn statement(reader: &Reader<'_>, at: &mut Lexeme) -> Result<StatementRead, PolicyFault>
+    requires stands { StandsIn reader.now.text.now at.old }
+    ensures read { ReadsStatement reader.now.text.now reader.now.whole.now.net.now (plain_names reader.now.known.now) (left reader.now.text.now at.old) (left reader.now.text.now at.new) result }
+    ensures stands { StandsIn reader.now.text.now at.new }
+    ensures fewer { length (left reader.now.text.now at.new) ≤ length (left reader.now.text.now at.old) }
+    ensures onward { OnOk result (length (left reader.now.text.now at.new) < length (left reader.now.text.now at.old)) }
 {
-    let patterns = predicate(alloc, text, at)?;
-    passed(Symbol::Arrow, text, at)?;
-    let parts = ranked(alloc, text, whole, known, at)?;
-    let from = from(text, known, at)?;
-    passed(Symbol::Semicolon, text, at)?;
+    let patterns = predicate(reader.alloc, reader.text, at)?;
+    passed(Symbol::Arrow, reader.text, at)?;
+    let parts = reader.ranked(at)?;
+    let from = from(reader, at)?;
+    passed(Symbol::Semicolon, reader.text, at)?;
     Ok(judged(patterns, parts, from))
 }
 
 /// An item.
 #[tactic(auto, unfolding(policy_grammar::specs::Items::item_at))]
-pub(crate) fn item(
-    alloc: Global,
-    text: &[u8],
-    whole: &Whole<'_>,
-    known: &Known<'_>,
-    at: &mut Lexeme,
-) -> Result<ItemRead, PolicyFault>
-    requires stands { StandsIn text.now at.old }
-    ensures read { ReadsItem text.now whole.now.net.now (plain_names known.now) (left text.now at.old) (left text.now at.new) result }
-    ensures stands { StandsIn text.now at.new }
-    ensures fewer { length (left text.now at.new) ≤ length (left text.now at.old) }
-    ensures onward { OnOk result (length (left text.now at.new) < length (left text.now at.old)) }
+pub(crate) fn item(reader: &Reader<'_>, at: &mut Lexeme) -> Result<ItemRead, PolicyFault>
+    requires stands { StandsIn reader.now.text.now at.old }
+    ensures read { ReadsItem reader.now.text.now reader.now.whole.now.net.now (plain_names reader.now.known.now) (left reader.now.text.now at.old) (left reader.now.text.now at.new) result }
+    ensures stands { StandsIn reader.now.text.now at.new }
+    ensures fewer { length (left reader.now.text.now at.new) ≤ length (left reader.now.text.now at.old) }
+    ensures onward { OnOk result (length (left reader.now.text.now at.new) < length (left reader.now.text.now at.old)) }
 {
-    if past(Symbol::Define, text, at) {
-        return Ok(ItemRead::Group(define(text, known, at)?));
+    if past(Symbol::Define, reader.text, at) {
+        return Ok(ItemRead::Group(define(reader, at)?));
     }
-    if past(Symbol::Originate, text, at) {
-        return Ok(ItemRead::Origin(originate(text, whole, known, at)?));
+    if past(Symbol::Originate, reader.text, at) {
+        return Ok(ItemRead::Origin(originate(reader, at)?));
     }
-    Ok(ItemRead::State(statement(alloc, text, whole, known, at)?))
+    Ok(ItemRead::State(statement(reader, at)?))
 }

@@ -2,7 +2,8 @@
 ghost use Rattle.std.specs.Prelude.{◌≡◌, ◌++◌, ◌∷◌, [], IfOk, IfErr, IsTrue, Ok, false, not};
 ghost use Rattle.std.specs.List.{list_any};
 ghost use Rattle.net_base.specs.Prefixes.{same_prefix};
-ghost use Rattle.policy_tokens.specs.Gives.{Gives};
+ghost use Rattle.net_base.specs.Gives.{GivesUnless};
+ghost use Rattle.policy_tokens.specs.declared.fault.PolicyFault.TheVariants.{NoMemory};
 ghost use Rattle.policy_rules.specs.PrefixKeys.{prefixes_of};
 ghost use Rattle.policy_parser.specs.Told.{none_originated, plain_once, with_prefix};
 
@@ -46,7 +47,7 @@ impl Once {
         place: Place,
         prefix: Result<Prefix, PolicyFault>,
     ) -> Result<(), PolicyFault>
-        ensures { Gives (λ _. plain_once self.new) result (Ok (with_prefix (plain_once self.old) place prefix)) }
+        ensures { GivesUnless NoMemory (λ _. plain_once self.new) result (Ok (with_prefix (plain_once self.old) place prefix)) }
     {
         if self.fault.is_err() {
             return Ok(());

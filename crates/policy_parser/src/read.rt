@@ -1,7 +1,8 @@
 //! Reading policies.
 ghost use Rattle.std.specs.Prelude.{◌<◌, length, IfOk};
 ghost use Rattle.policy_tokens.specs.Ahead.{ahead_of};
-ghost use Rattle.policy_tokens.specs.Gives.{Gives};
+ghost use Rattle.net_base.specs.Gives.{GivesUnless};
+ghost use Rattle.policy_tokens.specs.declared.fault.PolicyFault.TheVariants.{NoMemory};
 ghost use Rattle.policy_tokens.specs.Places.{first_place};
 ghost use Rattle.policy_grammar.specs.Left.{lexemes_ahead};
 ghost use Rattle.policy_grammar.specs.Items.{items_of};
@@ -16,7 +17,7 @@ use net_base::Net;
 use policy_base::Policy;
 use policy_grammar::{Symbol, begins, first_deep, first_lexeme};
 use policy_tokens::{PolicyFault, is_text};
-use policy_values::Whole;
+use policy_values::{Reader, Whole};
 use std::alloc::Global;
 
 // What becomes of the items of a text, each of which is read with the names above it.
@@ -32,7 +33,13 @@ fn items_taken<'a>(
     let mut verdicts = Verdicts::of(alloc, net)?;
     let mut at = first_lexeme(bytes);
     'items: while !begins(Symbol::EndOfText, &at) {
-        let read = item(alloc, bytes, &whole, verdicts.known(), &mut at)?;
+        let reader = Reader {
+            alloc,
+            text: bytes,
+            whole: &whole,
+            known: verdicts.known(),
+        };
+        let read = item(&reader, &mut at)?;
         verdicts.take(bytes, read)?;
     }
     Ok(verdicts)
@@ -64,7 +71,7 @@ fn verdicts_of<'a>(
 /// with two sides, 65 are `not` and one is a call.
 pub fn read_policy(alloc: Global, bytes: &[u8], net: &Net) -> Result<Policy, PolicyFault>
     requires { length bytes.now < 4294967295 }
-    ensures read { Gives policy_of result (spelled net.now bytes.now) }
+    ensures read { GivesUnless NoMemory policy_of result (spelled net.now bytes.now) }
     ensures depth { IfOk result (λ policy. IsAtMostDeep 321 (policy_of policy)) }
 {
     let verdicts = verdicts_of(alloc, bytes, net)?;

@@ -2,7 +2,8 @@
 ghost use Rattle.std.specs.Prelude.{◌≡◌, ◌≤◌, length, IfOk, Ok};
 ghost use Rattle.net_base.specs.declared.limits.TheConstants.{LOCATIONS};
 ghost use Rattle.net_base.specs.Network.{IsNet};
-ghost use Rattle.policy_tokens.specs.Gives.{Gives};
+ghost use Rattle.net_base.specs.Gives.{GivesUnless};
+ghost use Rattle.policy_tokens.specs.declared.fault.PolicyFault.TheVariants.{NoMemory};
 ghost use Rattle.policy_rules.specs.KnownNames.{net_names};
 ghost use Rattle.policy_parser.specs.Told.{plain_told, nothing_told, first_told, figure_told, all_kept, no_amounts, rules_with_origin, rules_with_state, amounts_with_group, amounts_with_origin, amounts_with_state, with_members, with_origins, with_state, with_item, limits_fault, first_fault as fault_of};
 
@@ -178,7 +179,7 @@ impl Amounts {
 impl<'a> Told<'a> {
     /// Nothing is read yet: the names are those of a network.
     pub fn of(alloc: Global, net: &'a Net) -> Result<Told<'a>, PolicyFault>
-        ensures told { Gives plain_told result (Ok (nothing_told net.now)) }
+        ensures told { GivesUnless NoMemory plain_told result (Ok (nothing_told net.now)) }
         ensures few { IfOk result (λ _. length (net_names net.now).sets ≤ LOCATIONS) }
         ensures rules { IsNet net.now }
     {
@@ -200,7 +201,7 @@ impl<'a> Told<'a> {
 
     // A group more.
     fn group(&mut self, text: &'a [u8], group: &GroupRead) -> Result<(), PolicyFault>
-        ensures { Gives (λ _. plain_told self.new) result (Ok (with_members text.now (plain_told self.old) group.now.name group.now.set)) }
+        ensures { GivesUnless NoMemory (λ _. plain_told self.new) result (Ok (with_members text.now (plain_told self.old) group.now.name group.now.set)) }
     {
         match group.set {
             Ok(set) => {
@@ -215,7 +216,7 @@ impl<'a> Told<'a> {
 
     // A prefix more that is originated.
     fn origin(&mut self, origin: &OriginRead) -> Result<(), PolicyFault>
-        ensures { Gives (λ _. plain_told self.new) result (Ok (with_origins (plain_told self.old) origin.now origin.now.at)) }
+        ensures { GivesUnless NoMemory (λ _. plain_told self.new) result (Ok (with_origins (plain_told self.old) origin.now origin.now.at)) }
     {
         match origin.at {
             Ok(at) => {
@@ -239,7 +240,7 @@ impl<'a> Told<'a> {
 
     /// An item more. Nothing is told behind a name that is unknown.
     pub fn take(&mut self, text: &'a [u8], item: &ItemRead) -> Result<(), PolicyFault>
-        ensures { Gives (λ _. plain_told self.new) result (Ok (with_item text.now (plain_told self.old) item.now)) }
+        ensures { GivesUnless NoMemory (λ _. plain_told self.new) result (Ok (with_item text.now (plain_told self.old) item.now)) }
     {
         if self.names.is_err() {
             return Ok(());

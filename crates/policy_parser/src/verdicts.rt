@@ -1,7 +1,8 @@
 //! What becomes of the items of a text, one after another.
 ghost use Rattle.std.specs.Prelude.{◌≡◌, ◌++◌, ◌∷◌, [], ℕ, OnOk, IfOk, IfErr, Ok};
 ghost use Rattle.net_base.specs.Network.{PlainNet};
-ghost use Rattle.policy_tokens.specs.Gives.{Gives};
+ghost use Rattle.net_base.specs.Gives.{GivesUnless};
+ghost use Rattle.policy_tokens.specs.declared.fault.PolicyFault.TheVariants.{NoMemory};
 ghost use Rattle.policy_grammar.specs.Raw.{Item as PlainItem};
 ghost use Rattle.policy_rules.specs.KnownView.{plain_names};
 ghost use Rattle.policy_base.specs.Policies.{policy_of};
@@ -44,7 +45,7 @@ impl Kept {
 
     // An origin more, if its prefix and its set were read.
     fn origin(&mut self, origin: &OriginRead) -> Result<(), PolicyFault>
-        ensures { Gives (λ _. plain_kept self.new) result (Ok (kept_item (plain_kept self.old) (ItemRead.Origin origin.now))) }
+        ensures { GivesUnless NoMemory (λ _. plain_kept self.new) result (Ok (kept_item (plain_kept self.old) (ItemRead.Origin origin.now))) }
     {
         let (Ok(prefix), Ok(at)) = (origin.prefix, origin.at) else {
             return Ok(());
@@ -55,7 +56,7 @@ impl Kept {
 
     // An item more.
     fn take(&mut self, item: ItemRead) -> Result<(), PolicyFault>
-        ensures { Gives (λ _. plain_kept self.new) result (Ok (kept_item (plain_kept self.old) item)) }
+        ensures { GivesUnless NoMemory (λ _. plain_kept self.new) result (Ok (kept_item (plain_kept self.old) item)) }
     {
         match item {
             ItemRead::Group(_) => {}
@@ -108,7 +109,7 @@ impl<'a> Verdicts<'a> {
     /// The policy, or the first rule that is broken or limit that is passed.
     pub fn policy(self) -> Result<Policy, PolicyFault>
         requires { (bytes : List ℕ) × (net : PlainNet) × (items : List PlainItem) × IsSoFar bytes net items self }
-        ensures { (bytes : List ℕ) (net : PlainNet) (items : List PlainItem) → items_spelled bytes ≡ Ok items → IsSoFar bytes net items self.entry → Gives policy_of result (spelled net bytes) }
+        ensures { (bytes : List ℕ) (net : PlainNet) (items : List PlainItem) → items_spelled bytes ≡ Ok items → IsSoFar bytes net items self.entry → GivesUnless NoMemory policy_of result (spelled net bytes) }
     {
         self.told.first_fault()?;
         Ok(Policy::new(

@@ -5,9 +5,11 @@ ghost use Rattle.std.specs.Str.{bytes_eq};
 ghost use Rattle.policy_tokens.specs.declared.limits.TheConstants.{DEFINITIONS};
 ghost use Rattle.net_base.specs.declared.limits.TheConstants.{LOCATIONS};
 ghost use Rattle.net_base.specs.Network.{IsNet};
+ghost use Rattle.net_base.specs.NetSets.{peers as peers_of};
 ghost use Rattle.policy_rules.specs.KnownNames.{set_named, is_known as knows, with_new_name, with_sites, net_names, first_place as first_of_two};
 ghost use Rattle.policy_rules.specs.KeptNames.{texts, stand_in as stands_for, kept_set, with_set, with_kept_group};
-ghost use Rattle.policy_tokens.specs.Gives.{Gives};
+ghost use Rattle.net_base.specs.Gives.{GivesUnless};
+ghost use Rattle.policy_tokens.specs.declared.fault.PolicyFault.TheVariants.{NoMemory};
 
 use crate::origins::has_peer;
 use indexmap::IndexSet;
@@ -22,6 +24,8 @@ use std::alloc::Global;
 #[derive(Drop)]
 pub struct Known<'a> {
     net: &'a Net,
+    /// All peers of the network.
+    all_peers: LocSet,
     names: IndexSet<&'a [u8]>,
     /// The sets of the first names, which are as many as a policy may have.
     sets: Vec<LocSet>,
@@ -29,6 +33,7 @@ pub struct Known<'a> {
     peers: Vec<bool>,
     /// Where the first name stands that was defined again.
     twice: Option<Place>,
+    ghost all_peers_are: { all_peers ≡ peers_of net.now },
     ghost first: { length sets.items < LOCATIONS + DEFINITIONS → peers.items ≡ [] },
 }
 
@@ -103,21 +108,20 @@ impl<'a> Known<'a> {
 
     // The set of one name more: the set itself, as long as there are no more names than a policy may have.
     fn keep(&mut self, set: LocSet) -> Result<(), PolicyFault>
-        ensures known { Gives (λ _. plain_names self.new) result (Ok (with_set (plain_names self.old) (kept_set self.old.net.now (plain_names self.old) set))) }
+        ensures known { GivesUnless NoMemory (λ _. plain_names self.new) result (Ok (with_set (plain_names self.old) (kept_set self.old.net.now (plain_names self.old) set))) }
         ensures net { self.new.net.now ≡ self.old.net.now }
     {
         if (self.sets.len() as u64) < LOCATIONS + DEFINITIONS {
             self.sets.push(set)?;
         } else {
-            let peer = has_peer(self.net, &self.net.peer_set(), &set);
-            self.peers.push(peer)?;
+            self.peers.push(has_peer(self.net, &self.all_peers, &set))?;
         }
         Ok(())
     }
 
     // One name more, unless it is there; says whether it is new.
     fn add(&mut self, name: &'a [u8], set: LocSet) -> Result<bool, PolicyFault>
-        ensures known { Gives (λ _. plain_names self.new) result (Ok (with_new_name (plain_names self.old) name.now (kept_set self.old.net.now (plain_names self.old) set))) }
+        ensures known { GivesUnless NoMemory (λ _. plain_names self.new) result (Ok (with_new_name (plain_names self.old) name.now (kept_set self.old.net.now (plain_names self.old) set))) }
         ensures fresh { IfOk result (λ new. new ≡ not (knows (plain_names self.old) name.now)) }
         ensures net { self.new.net.now ≡ self.old.net.now }
     {
@@ -130,7 +134,7 @@ impl<'a> Known<'a> {
 
     /// The name of a group that is defined at this place. One that is known keeps its set.
     pub fn define(&mut self, place: Place, name: &'a [u8], set: LocSet) -> Result<(), PolicyFault>
-        ensures known { Gives (λ _. plain_names self.new) result (Ok (with_kept_group self.old.net.now (plain_names self.old) place name.now set)) }
+        ensures known { GivesUnless NoMemory (λ _. plain_names self.new) result (Ok (with_kept_group self.old.net.now (plain_names self.old) place name.now set)) }
         ensures net { self.new.net.now ≡ self.old.net.now }
     {
         if !self.add(name, set)? {
@@ -143,7 +147,7 @@ impl<'a> Known<'a> {
     fn add_sites(&mut self, first: u16, sites: &'a [Site]) -> Result<(), PolicyFault>
         requires few { length (plain_names self.old).sets ≤ first }
         requires fit { first + length sites.now ≤ LOCATIONS }
-        ensures known { Gives (λ _. plain_names self.new) result (Ok (with_sites first sites.now (plain_names self.old))) }
+        ensures known { GivesUnless NoMemory (λ _. plain_names self.new) result (Ok (with_sites first sites.now (plain_names self.old))) }
         ensures few { IfOk result (λ _. length (plain_names self.new).sets ≤ first + length sites.now) }
         ensures net { self.new.net.now ≡ self.old.net.now }
     {
@@ -158,13 +162,14 @@ impl<'a> Known<'a> {
 
     /// The names of a network.
     pub fn of(alloc: Global, net: &'a Net) -> Result<Known<'a>, PolicyFault>
-        ensures known { Gives plain_names result (Ok (net_names net.now)) }
+        ensures known { GivesUnless NoMemory plain_names result (Ok (net_names net.now)) }
         ensures few { IfOk result (λ _. length (net_names net.now).sets ≤ LOCATIONS) }
         ensures net { IfOk result (λ known. known.net.now ≡ net.now) }
         ensures rules { IsNet net.now }
     {
         let mut known = Known {
             net,
+            all_peers: net.peer_set(),
             names: IndexSet::new(alloc),
             sets: Vec::new(alloc),
             peers: Vec::new(alloc),

@@ -1,6 +1,7 @@
 //! Where ranks may stand: the marks of the expressions on a stack.
 ghost use Rattle.std.specs.Prelude.{◌≡◌, ◌∷◌, reverse, None, Ok};
-ghost use Rattle.policy_tokens.specs.Gives.{Gives};
+ghost use Rattle.net_base.specs.Gives.{GivesUnless};
+ghost use Rattle.policy_tokens.specs.declared.fault.PolicyFault.TheVariants.{NoMemory};
 ghost use Rattle.policy_rules.specs.Ranks.{earlier as first_of_two, top, under_top, marks_behind, or_broken};
 ghost use Rattle.policy_grammar.specs.Raw.{Step as step};
 
@@ -39,7 +40,7 @@ fn pop(marks: &mut Vec<Mark>) -> Mark
 }
 
 fn push(marks: &mut Vec<Mark>, mark: Mark) -> Result<(), PolicyFault>
-    ensures { Gives (λ _. reverse marks.new.items) result (Ok (mark ∷ reverse marks.old.items)) }
+    ensures { GivesUnless NoMemory (λ _. reverse marks.new.items) result (Ok (mark ∷ reverse marks.old.items)) }
 {
     marks.push(mark)?;
     Ok(())
@@ -47,7 +48,7 @@ fn push(marks: &mut Vec<Mark>, mark: Mark) -> Result<(), PolicyFault>
 
 /// The mark of a call whose first `>>` stands at this place.
 pub fn mark_call(marks: &mut Vec<Mark>, above: Option<Place>) -> Result<(), PolicyFault>
-    ensures { Gives (λ _. reverse marks.new.items) result (Ok (record { first = above; broken = None } ∷ reverse marks.old.items)) }
+    ensures { GivesUnless NoMemory (λ _. reverse marks.new.items) result (Ok (record { first = above; broken = None } ∷ reverse marks.old.items)) }
 {
     push(
         marks,
@@ -60,7 +61,7 @@ pub fn mark_call(marks: &mut Vec<Mark>, above: Option<Place>) -> Result<(), Poli
 
 /// The mark of `a >> b` in the place of those of its sides.
 pub fn mark_above(marks: &mut Vec<Mark>, place: Place) -> Result<(), PolicyFault>
-    ensures { Gives (λ _. reverse marks.new.items) result (Ok (marks_behind (step.Above place) (reverse marks.old.items))) }
+    ensures { GivesUnless NoMemory (λ _. reverse marks.new.items) result (Ok (marks_behind (step.Above place) (reverse marks.old.items))) }
 {
     let b = pop(marks);
     let a = pop(marks);
@@ -75,7 +76,7 @@ pub fn mark_above(marks: &mut Vec<Mark>, place: Place) -> Result<(), PolicyFault
 
 /// The mark of `a or b` in the place of those of its sides.
 pub fn mark_or(marks: &mut Vec<Mark>) -> Result<(), PolicyFault>
-    ensures { Gives (λ _. reverse marks.new.items) result (Ok (marks_behind step.Or (reverse marks.old.items))) }
+    ensures { GivesUnless NoMemory (λ _. reverse marks.new.items) result (Ok (marks_behind step.Or (reverse marks.old.items))) }
 {
     let b = pop(marks);
     let a = pop(marks);
@@ -91,7 +92,7 @@ pub fn mark_or(marks: &mut Vec<Mark>) -> Result<(), PolicyFault>
 
 /// The mark of `a and b` in the place of those of its sides.
 pub fn mark_and(marks: &mut Vec<Mark>) -> Result<(), PolicyFault>
-    ensures { Gives (λ _. reverse marks.new.items) result (Ok (marks_behind step.And (reverse marks.old.items))) }
+    ensures { GivesUnless NoMemory (λ _. reverse marks.new.items) result (Ok (marks_behind step.And (reverse marks.old.items))) }
 {
     let b = pop(marks);
     let a = pop(marks);
@@ -106,7 +107,7 @@ pub fn mark_and(marks: &mut Vec<Mark>) -> Result<(), PolicyFault>
 
 /// The mark of `not a` in the place of that of its side.
 pub fn mark_not(marks: &mut Vec<Mark>) -> Result<(), PolicyFault>
-    ensures { Gives (λ _. reverse marks.new.items) result (Ok (marks_behind step.Not (reverse marks.old.items))) }
+    ensures { GivesUnless NoMemory (λ _. reverse marks.new.items) result (Ok (marks_behind step.Not (reverse marks.old.items))) }
 {
     let a = pop(marks);
     push(

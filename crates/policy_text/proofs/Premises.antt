@@ -13,8 +13,7 @@ use Rattle.policy_base.specs.declared.policy.Origin.{Origin}
 use Rattle.policy_base.specs.Policies.{Ranking, call, calls, prefer, either, both, negated, PlainStatement}
 use Rattle.policy_base.specs.CallWords.{word_of}
 use Rattle.policy_text.specs.Printable.{IsCallSet, HasCallSets, has_one_set, IsWritable, IsWritableFrom, IsPrintableStatement, IsPrintableOrigin}
-use Rattle.policy_text.specs.Values.{IsLocSet, sets_in, HasLocSets, HasSources, IsStatementValue}
-use Rattle.net_base.specs.Prefixes.{IsPrefix}
+use Rattle.policy_text.specs.Values.{IsLocSet, sets_in, HasLocSets, HasSources, IsOriginValue, IsStatementValue}
 use Rattle.std.proofs.lemmas.Bool.{ltb-true, lt-ltb}
 use Rattle.list_laws.proofs.Each.{AllByRecursion-both}
 use Rattle.policy_text.proofs.ReadCalls.{IsFilled, set_in, IsReadable, HasOne}
@@ -111,8 +110,8 @@ module _ (bytes : List ℕ) (net : PlainNet) (apart : IsDistinct bytes_eq (site_
   routers_within : (l : ℕ) → IsTrue (is_router net l) → IsTrue (is_location net l)
   routers_within l router = lt-ltb l (length net.routers + length net.peers) (omega (arith, ltb-true l (length net.routers) router))
 
-  pub fine_origin : (o : Origin) → IsPrintableOrigin net o → IsLocSet o.at → IsPrefix o.prefix → IsFineOrigin bytes net apart small o
-  fine_origin o printable is prefix = record { prefix = prefix; set = record { words = is_words o.at is; within = λ l on. routers_within l (printable.0 l on) }; routers = printable.0 }
+  pub fine_origin : (o : Origin) → IsPrintableOrigin net o → IsOriginValue o → IsFineOrigin bytes net apart small o
+  fine_origin o printable is = record { prefix = is.prefix; set = record { words = is_words o.at is.at; within = λ l on. routers_within l (printable.0 l on) }; routers = printable.0 }
 
-  pub named_origin : (o : Origin) → IsPrintableOrigin net o → IsLocSet o.at → IsNamed net o.at
-  named_origin o printable is = named bytes net apart small o.at (record { words = is_words o.at is; within = λ l on. routers_within l (printable.0 l on) }) printable.1
+  pub named_origin : (o : Origin) → IsPrintableOrigin net o → IsOriginValue o → IsNamed net o.at
+  named_origin o printable is = named bytes net apart small o.at (record { words = is_words o.at is.at; within = λ l on. routers_within l (printable.0 l on) }) printable.1

@@ -19,7 +19,7 @@ use Rattle.policy_base.specs.Policies.{PlainStatement, PlainPolicy}
 use Rattle.policy_parser.specs.Spelled.{items_spelled, names_spelled, rules_kept, policy_built, spelled}
 use Rattle.policy_text.specs.PolicyText.{policy_text}
 use Rattle.policy_text.specs.Printable.{IsPrintable, IsPrintableStatement, IsPrintableOrigin}
-use Rattle.policy_text.specs.Values.{HasNames, IsLocSet, IsStatementValue, IsPolicyValue}
+use Rattle.policy_text.specs.Values.{HasNames, IsOriginValue, IsStatementValue, IsPolicyValue}
 use Rattle.policy_text.proofs.CutPolicies.{lexemes_are_words}
 use Rattle.policy_text.proofs.ReadItems.{IsNamed, IsReadableStatement}
 use Rattle.policy_text.proofs.ReadPolicies.{Reads-items}
@@ -52,12 +52,12 @@ spelled-policy_text net policy is named values printable =
     let small : length (sites net) ≤ 768 = small_net net is in
     let patterns = AllByRecursion-weaker IsStatementValue (λ (s : PlainStatement). AllByRecursion IsPattern s.patterns) policy.statements (λ s h. h.patterns) values.statements in
     let brackets = AllByRecursion-weaker (IsPrintableStatement net) _ policy.statements (λ s h. h.brackets) printable.statements in
-    let origins = AllByRecursion-both (IsPrintableOrigin net) (λ (o : Origin). IsLocSet o.at) (λ (o : Origin). IsNamed net o.at) (named_origin bytes net apart small) policy.origins printable.origins values.origins in
-    let sets = AllByRecursion-both (IsPrintableOrigin net) (λ (o : Origin). IsLocSet o.at) (λ (o : Origin). IsPrefix o.prefix → IsFineOrigin bytes net apart small o) (fine_origin bytes net apart small) policy.origins printable.origins values.origins in
-    let fine_origins = AllByRecursion-both (λ (o : Origin). IsPrefix o.prefix → IsFineOrigin bytes net apart small o) (λ (o : Origin). IsPrefix o.prefix) (IsFineOrigin bytes net apart small) (λ o f p. f p) policy.origins sets values.prefixes in
+    let prefixes = AllByRecursion-weaker IsOriginValue (λ (o : Origin). IsPrefix o.prefix) policy.origins (λ o h. h.prefix) values.origins in
+    let origins = AllByRecursion-both (IsPrintableOrigin net) IsOriginValue (λ (o : Origin). IsNamed net o.at) (named_origin bytes net apart small) policy.origins printable.origins values.origins in
+    let fine_origins = AllByRecursion-both (IsPrintableOrigin net) IsOriginValue (IsFineOrigin bytes net apart small) (fine_origin bytes net apart small) policy.origins printable.origins values.origins in
     let readable = AllByRecursion-both (IsPrintableStatement net) IsStatementValue (IsReadableStatement bytes net) (readable_statement bytes net apart small) policy.statements printable.statements values.statements in
     let fine = AllByRecursion-both (IsPrintableStatement net) IsStatementValue (IsFineStatement bytes net apart small) (fine_statement bytes net apart small) policy.statements printable.statements values.statements in
-    let lexemes = lexemes_are_words net policy named values.prefixes patterns in
+    let lexemes = lexemes_are_words net policy named prefixes patterns in
     let found = Reads-items bytes net policy origins readable _ lexemes.2 in
     let read = items_there bytes lexemes.0 found.0 lexemes.1 (first_deep-none bytes net policy brackets _ lexemes.2) found.1 in
     let names = names_there bytes net found.0 (net_names-sites net apart) (names_learnt bytes net apart small policy printable.limits fine_origins fine found.0 found.2) in

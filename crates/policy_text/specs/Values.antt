@@ -29,9 +29,12 @@ sets_in (Of c s) = s ∷ []
 sets_in (Link a b) = a ∷ b ∷ []
 sets_in (Path ps) = ps
 
+abbrev pub HaveLocSets : List Call → Type 0
+HaveLocSets cs = AllByRecursion (λ c. AllByRecursion IsLocSet (sets_in c)) cs
+
 abbrev pub HasLocSets : Ranking → Type 0
 HasLocSets (call c) = AllByRecursion IsLocSet (sets_in c)
-HasLocSets (calls cs) = AllByRecursion (λ c. AllByRecursion IsLocSet (sets_in c)) cs
+HasLocSets (calls cs) = HaveLocSets cs
 HasLocSets (prefer a b) = HasLocSets a × HasLocSets b
 HasLocSets (either a b) = HasLocSets a × HasLocSets b
 HasLocSets (both a b) = HasLocSets a × HasLocSets b
@@ -46,7 +49,10 @@ pub record IsStatementValue (s : PlainStatement) : Type 0 where
   pub ranked : HasLocSets s.ranked
   pub from : HasSources s.from
 
+pub record IsOriginValue (o : Origin) : Type 0 where
+  pub prefix : IsPrefix o.prefix
+  pub at : IsLocSet o.at
+
 pub record IsPolicyValue (policy : PlainPolicy) : Type 0 where
-  pub prefixes : AllByRecursion (λ (o : Origin). IsPrefix o.prefix) policy.origins
-  pub origins : AllByRecursion (λ (o : Origin). IsLocSet o.at) policy.origins
+  pub origins : AllByRecursion IsOriginValue policy.origins
   pub statements : AllByRecursion IsStatementValue policy.statements

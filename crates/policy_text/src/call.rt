@@ -1,7 +1,8 @@
 //! Calls.
 ghost use Rattle.std.specs.Prelude.{◌≡◌, ◌++◌, OnOk};
-ghost use Rattle.std.specs.List.{flat_map};
+ghost use Rattle.std.specs.List.{AllByRecursion, flat_map};
 ghost use Rattle.policy_text.specs.PolicyText.{has_sets as call_has_sets, sets_text, call_text, next_sets, calls_text};
+ghost use Rattle.policy_text.specs.Values.{HaveLocSets, IsLocSet, sets_in};
 
 use crate::names::{push_places, push_set};
 use net_base::Net;
@@ -19,7 +20,8 @@ fn has_sets(call: &Call) -> bool
 
 // Adds the sets of a call.
 fn push_sets(alloc: Global, text: &mut Vec<u8>, net: &Net, call: &Call) -> Result<(), NoMemory>
-    ensures { OnOk result (text.new.items ≡ text.old.items ++ sets_text net.now call.now) }
+    ensures text { OnOk result (text.new.items ≡ text.old.items ++ sets_text net.now call.now) }
+    ensures rules { OnOk result (AllByRecursion IsLocSet (sets_in call.now)) }
 {
     match call {
         Call::Any | Call::Drop | Call::Internal => Ok(()),
@@ -37,7 +39,8 @@ pub(crate) fn push_call(
     net: &Net,
     call: &Call,
 ) -> Result<(), NoMemory>
-    ensures { OnOk result (text.new.items ≡ text.old.items ++ call_text net.now call.now) }
+    ensures text { OnOk result (text.new.items ≡ text.old.items ++ call_text net.now call.now) }
+    ensures rules { OnOk result (AllByRecursion IsLocSet (sets_in call.now)) }
 {
     push_bytes(text, call.word().text())?;
     if !has_sets(call) {
@@ -55,7 +58,8 @@ fn push_more_sets(
     net: &Net,
     calls: &[Call],
 ) -> Result<(), NoMemory>
-    ensures { OnOk result (text.new.items ≡ text.old.items ++ flat_map (next_sets net.now) calls.now) }
+    ensures text { OnOk result (text.new.items ≡ text.old.items ++ flat_map (next_sets net.now) calls.now) }
+    ensures rules { OnOk result (HaveLocSets calls.now) }
 {
     for call in calls {
         push_bytes(text, b" >> ")?;
@@ -72,7 +76,8 @@ pub(crate) fn push_calls(
     net: &Net,
     calls: &[Call],
 ) -> Result<(), NoMemory>
-    ensures { OnOk result (text.new.items ≡ text.old.items ++ calls_text net.now calls.now) }
+    ensures text { OnOk result (text.new.items ≡ text.old.items ++ calls_text net.now calls.now) }
+    ensures rules { OnOk result (HaveLocSets calls.now) }
 {
     match calls {
         [] => Ok(()),

@@ -1,12 +1,36 @@
 //! Sets of locations, by their names.
-ghost use Rattle.std.specs.Prelude.{◌≡◌, ◌++◌, ◌+◌, ◌<◌, length, OnOk, IfOk};
-ghost use Rattle.std.specs.List.{flat_map};
+ghost use Rattle.std.specs.Prelude.{◌≡◌, ◌++◌, ◌+◌, ◌<◌, ◌^◌, length, OnOk, IfOk, IsTrue};
+ghost use Rattle.std.specs.List.{AllByRecursion, flat_map};
+ghost use Rattle.net_base.specs.NameRule.{is_name};
+ghost use Rattle.net_base.specs.declared.net.Site.{Site as SiteValue};
 ghost use Rattle.policy_text.specs.PolicyText.{names_from, names_in as names_of_set, next_name, joined_names, are_all as are_all_names, set_text, braced_names, place_text, next_place as place_after, joined_places};
+ghost use Rattle.policy_text.specs.Values.{IsLocSet};
 
 use net_base::{Loc, LocSet, Name, Net, Site};
 use outside::NoMemory;
 use std::alloc::Global;
 use text_words::{push_bytes, push_name};
+
+/// Each name keeps the rule of names, as its type says. It changes nothing: only what it says is asked for.
+pub(crate) fn have_names(sites: &[Site])
+    ensures { AllByRecursion (λ (s : SiteValue). IsTrue (is_name s.name)) sites.now }
+{
+    for site in sites {
+        site.name.as_bytes();
+    }
+}
+
+// A set has twelve words of 64 bits, as its type says. It does nothing: only what it says is asked for.
+fn is_set(set: &LocSet)
+    ensures { IsLocSet set.now }
+{
+    are_words(&set.words);
+}
+
+// Each word has 64 bits, as its type says. It does nothing: only what it says is asked for.
+fn are_words(words: &[u64])
+    ensures { AllByRecursion (λ w. w < 2 ^ 64) words.now }
+{}
 
 // Adds the names of those sites that are in the set; the first of them is the location `first`.
 fn add_names(
@@ -30,8 +54,10 @@ fn add_names(
 
 // The names of a set, in order of location.
 fn names_in(alloc: Global, net: &Net, set: &LocSet) -> Result<Vec<Name>, NoMemory>
-    ensures { IfOk result (λ v. v.items ≡ names_of_set net.now set.now) }
+    ensures names { IfOk result (λ v. v.items ≡ names_of_set net.now set.now) }
+    ensures rules { IsLocSet set.now }
 {
+    is_set(set);
     let mut names = Vec::new(alloc);
     add_names(&mut names, set, 0, net.routers())?;
     add_names(&mut names, set, net.routers().len() as u16, net.peers())?;
@@ -90,7 +116,8 @@ pub(crate) fn push_names(
     net: &Net,
     set: &LocSet,
 ) -> Result<(), NoMemory>
-    ensures { OnOk result (text.new.items ≡ text.old.items ++ joined_names (names_of_set net.now set.now)) }
+    ensures text { OnOk result (text.new.items ≡ text.old.items ++ joined_names (names_of_set net.now set.now)) }
+    ensures rules { IsLocSet set.now }
 {
     let names = names_in(alloc, net, set)?;
     push_joined(text, &names)
@@ -104,7 +131,8 @@ pub(crate) fn push_set(
     net: &Net,
     set: &LocSet,
 ) -> Result<(), NoMemory>
-    ensures { OnOk result (text.new.items ≡ text.old.items ++ set_text net.now (names_of_set net.now set.now)) }
+    ensures text { OnOk result (text.new.items ≡ text.old.items ++ set_text net.now (names_of_set net.now set.now)) }
+    ensures rules { IsLocSet set.now }
 {
     let names = names_in(alloc, net, set)?;
     if are_all(net, &names) {
@@ -116,7 +144,8 @@ pub(crate) fn push_set(
 // Adds a place of a `link` or of a `path`: `any` for all locations, and otherwise its names.
 #[tactic(auto, unfolding(crate::specs::PolicyText::place_text))]
 fn push_place(alloc: Global, text: &mut Vec<u8>, net: &Net, set: &LocSet) -> Result<(), NoMemory>
-    ensures { OnOk result (text.new.items ≡ text.old.items ++ place_text net.now (names_of_set net.now set.now)) }
+    ensures text { OnOk result (text.new.items ≡ text.old.items ++ place_text net.now (names_of_set net.now set.now)) }
+    ensures rules { IsLocSet set.now }
 {
     let names = names_in(alloc, net, set)?;
     if are_all(net, &names) {
@@ -132,7 +161,8 @@ fn push_more_places(
     net: &Net,
     sets: &[LocSet],
 ) -> Result<(), NoMemory>
-    ensures { OnOk result (text.new.items ≡ text.old.items ++ flat_map (place_after net.now) sets.now) }
+    ensures text { OnOk result (text.new.items ≡ text.old.items ++ flat_map (place_after net.now) sets.now) }
+    ensures rules { OnOk result (AllByRecursion IsLocSet sets.now) }
 {
     for set in sets {
         push_bytes(text, b", ")?;
@@ -149,7 +179,8 @@ pub(crate) fn push_places(
     net: &Net,
     sets: &[LocSet],
 ) -> Result<(), NoMemory>
-    ensures { OnOk result (text.new.items ≡ text.old.items ++ joined_places net.now sets.now) }
+    ensures text { OnOk result (text.new.items ≡ text.old.items ++ joined_places net.now sets.now) }
+    ensures rules { OnOk result (AllByRecursion IsLocSet sets.now) }
 {
     match sets {
         [] => Ok(()),

@@ -1,10 +1,14 @@
 //! Printing policies.
-ghost use Rattle.std.specs.Prelude.{◌≡◌, ◌++◌, OnOk, IfOk, map, codes};
-ghost use Rattle.std.specs.List.{flat_map};
+ghost use Rattle.std.specs.Prelude.{◌≡◌, ◌++◌, OnOk, IfOk, IsTrue, Ok, map, codes};
+ghost use Rattle.std.specs.List.{AllByRecursion, flat_map};
+ghost use Rattle.net_base.specs.Prefixes.{IsPattern};
 ghost use Rattle.policy_base.specs.Policies.{plain_statement, policy_of};
+ghost use Rattle.policy_parser.specs.Spelled.{spelled};
 ghost use Rattle.policy_text.specs.PolicyText.{is_everything as is_every_prefix, next_pattern, patterns_text, from_text, statement_line, origin_line, policy_text};
+ghost use Rattle.policy_text.specs.Printable.{IsPrintable};
+ghost use Rattle.policy_text.specs.Values.{HasSources, IsOriginValue, IsStatementValue};
 
-use crate::names::push_names;
+use crate::names::{have_names, push_names};
 use crate::ranked::{PREFER, push_ranked};
 use net_base::{Net, Pattern};
 use outside::NoMemory;
@@ -14,14 +18,16 @@ use text_words::{push_bytes, push_pattern, push_prefix};
 
 // Whether the pattern is that of all prefixes.
 fn is_everything(pattern: Pattern) -> bool
-    ensures { result ≡ is_every_prefix pattern }
+    ensures test { result ≡ is_every_prefix pattern }
+    ensures rules { IsTrue result → IsPattern pattern }
 {
     pattern.base().bits() == 0 && pattern.base().len() == 0 && pattern.upto() == 32
 }
 
 // Adds patterns, each after an `or`.
 fn push_more_patterns(text: &mut Vec<u8>, patterns: &[Pattern]) -> Result<(), NoMemory>
-    ensures { OnOk result (text.new.items ≡ text.old.items ++ flat_map next_pattern patterns.now) }
+    ensures text { OnOk result (text.new.items ≡ text.old.items ++ flat_map next_pattern patterns.now) }
+    ensures rules { OnOk result (AllByRecursion IsPattern patterns.now) }
 {
     for pattern in patterns {
         push_bytes(text, b" or ")?;
@@ -33,7 +39,8 @@ fn push_more_patterns(text: &mut Vec<u8>, patterns: &[Pattern]) -> Result<(), No
 // Adds the patterns, joined by `or`; all prefixes alone are `true`.
 #[tactic(auto, unfolding(crate::specs::PolicyText::patterns_text))]
 fn push_patterns(text: &mut Vec<u8>, patterns: &[Pattern]) -> Result<(), NoMemory>
-    ensures { OnOk result (text.new.items ≡ text.old.items ++ patterns_text patterns.now) }
+    ensures text { OnOk result (text.new.items ≡ text.old.items ++ patterns_text patterns.now) }
+    ensures rules { OnOk result (AllByRecursion IsPattern patterns.now) }
 {
     match patterns {
         [] => Ok(()),
@@ -47,7 +54,8 @@ fn push_patterns(text: &mut Vec<u8>, patterns: &[Pattern]) -> Result<(), NoMemor
 
 // Adds the sources that a statement names, if it names some.
 fn push_from(alloc: Global, text: &mut Vec<u8>, net: &Net, from: &FromSet) -> Result<(), NoMemory>
-    ensures { OnOk result (text.new.items ≡ text.old.items ++ from_text net.now from.now) }
+    ensures text { OnOk result (text.new.items ≡ text.old.items ++ from_text net.now from.now) }
+    ensures rules { OnOk result (HasSources from.now) }
 {
     match from {
         FromSet::Any => Ok(()),
@@ -73,7 +81,8 @@ fn push_statement(
     net: &Net,
     statement: &Statement,
 ) -> Result<(), NoMemory>
-    ensures { OnOk result (text.new.items ≡ text.old.items ++ statement_line net.now (plain_statement statement.now)) }
+    ensures text { OnOk result (text.new.items ≡ text.old.items ++ statement_line net.now (plain_statement statement.now)) }
+    ensures rules { OnOk result (IsStatementValue (plain_statement statement.now)) }
 {
     push_patterns(text, statement.patterns.as_slice())?;
     push_bytes(text, b" => ")?;
@@ -90,7 +99,8 @@ fn push_origin(
     net: &Net,
     origin: &Origin,
 ) -> Result<(), NoMemory>
-    ensures { OnOk result (text.new.items ≡ text.old.items ++ origin_line net.now origin.now) }
+    ensures text { OnOk result (text.new.items ≡ text.old.items ++ origin_line net.now origin.now) }
+    ensures rules { OnOk result (IsOriginValue origin.now) }
 {
     push_bytes(text, b"originate ")?;
     push_prefix(text, origin.prefix)?;
@@ -106,7 +116,8 @@ fn push_statements(
     net: &Net,
     statements: &[Statement],
 ) -> Result<(), NoMemory>
-    ensures { OnOk result (text.new.items ≡ text.old.items ++ flat_map (statement_line net.now) (map plain_statement statements.now)) }
+    ensures text { OnOk result (text.new.items ≡ text.old.items ++ flat_map (statement_line net.now) (map plain_statement statements.now)) }
+    ensures rules { OnOk result (AllByRecursion IsStatementValue (map plain_statement statements.now)) }
 {
     for statement in statements {
         push_statement(alloc, text, net, statement)?;
@@ -121,7 +132,8 @@ fn push_origins(
     net: &Net,
     origins: &[Origin],
 ) -> Result<(), NoMemory>
-    ensures { OnOk result (text.new.items ≡ text.old.items ++ flat_map (origin_line net.now) origins.now) }
+    ensures text { OnOk result (text.new.items ≡ text.old.items ++ flat_map (origin_line net.now) origins.now) }
+    ensures rules { OnOk result (AllByRecursion IsOriginValue origins.now) }
 {
     for origin in origins {
         push_origin(alloc, text, net, origin)?;
@@ -130,10 +142,13 @@ fn push_origins(
 }
 
 /// The text of a policy for a net: first the originated prefixes, then the statements, one per line, in order.
-/// Where the policy is printable, reading the text gives it again (`printed_policies_are_read`).
+/// Where the policy is printable for the net, the text is read as this policy again.
 pub fn print_policy(alloc: Global, policy: &Policy, net: &Net) -> Result<Vec<u8>, NoMemory>
-    ensures { IfOk result (λ v. v.items ≡ policy_text net.now (policy_of policy.now)) }
+    ensures text { IfOk result (λ v. v.items ≡ policy_text net.now (policy_of policy.now)) }
+    ensures read { IfOk result (λ v. IsPrintable net.now (policy_of policy.now) → spelled net.now v.items ≡ Ok (policy_of policy.now)) }
 {
+    have_names(net.routers());
+    have_names(net.peers());
     let mut text = Vec::new(alloc);
     push_origins(alloc, &mut text, net, policy.origins())?;
     push_statements(alloc, &mut text, net, policy.statements())?;

@@ -2,6 +2,7 @@
 ghost use Rattle.std.specs.Prelude.{◌≡◌, ◌++◌, OnOk};
 ghost use Rattle.policy_base.specs.Policies.{ranking_of};
 ghost use Rattle.policy_text.specs.PolicyText.{opening, closing, ranking_text};
+ghost use Rattle.policy_text.specs.Values.{HasLocSets};
 
 use crate::call::{push_call, push_calls};
 use net_base::Net;
@@ -47,7 +48,8 @@ pub(crate) fn push_ranked(
     least: u8,
     ranked: &Ranked,
 ) -> Result<(), NoMemory>
-    ensures { OnOk result (text.new.items ≡ text.old.items ++ ranking_text net.now least (ranking_of ranked.now)) }
+    ensures text { OnOk result (text.new.items ≡ text.old.items ++ ranking_text net.now least (ranking_of ranked.now)) }
+    ensures rules { OnOk result (HasLocSets (ranking_of ranked.now)) }
 {
     match ranked {
         Ranked::Call(call) => push_call(alloc, text, net, call),

@@ -1,6 +1,5 @@
 pub mod Ahead
 pub mod Faults
-pub mod Gives
 pub mod Kinds
 pub mod Places
 pub mod Tokens

@@ -2,7 +2,8 @@
 ghost use Rattle.std.specs.Prelude.{◌≡◌, ◌<◌, length};
 ghost use Rattle.std.specs.Str.{is_utf8};
 ghost use Rattle.policy_tokens.specs.Ahead.{behind_token, IsToken};
-ghost use Rattle.policy_tokens.specs.Gives.{Gives};
+ghost use Rattle.net_base.specs.Gives.{GivesUnless};
+ghost use Rattle.policy_tokens.specs.declared.fault.PolicyFault.TheVariants.{NoMemory};
 ghost use Rattle.policy_tokens.specs.Places.{first_place};
 ghost use Rattle.policy_tokens.specs.Tokens.{tokens_from, tokens_of};
 
@@ -15,7 +16,7 @@ use std::alloc::Global;
 // The tokens of bytes that are text.
 fn cut(alloc: Global, bytes: &[u8]) -> Result<Vec<Token>, PolicyFault>
     requires { length bytes.now < 4294967295 }
-    ensures { Gives (λ v. v.items) result (tokens_from (length bytes.now) 0 first_place bytes.now) }
+    ensures { GivesUnless NoMemory (λ v. v.items) result (tokens_from (length bytes.now) 0 first_place bytes.now) }
 {
     let mut found = Vec::new(alloc);
     let mut next = next_token(bytes, 0, Place { line: 1, column: 1 });
@@ -44,7 +45,7 @@ pub fn is_text(bytes: &[u8]) -> bool
 #[tactic(auto, unfolding(crate::specs::Tokens::tokens_of))]
 pub fn tokens(alloc: Global, bytes: &[u8]) -> Result<Vec<Token>, PolicyFault>
     requires { length bytes.now < 4294967295 }
-    ensures { Gives (λ v. v.items) result (tokens_of bytes.now) }
+    ensures { GivesUnless NoMemory (λ v. v.items) result (tokens_of bytes.now) }
 {
     if !is_text(bytes) {
         return Err(PolicyFault::NotText);

@@ -1,6 +1,7 @@
 //! Calls that are read straight to their values.
 ghost use Rattle.std.specs.Prelude.{◌≡◌, ◌≤◌, length, None, Ok};
-ghost use Rattle.policy_tokens.specs.Gives.{Gives};
+ghost use Rattle.net_base.specs.Gives.{GivesUnless};
+ghost use Rattle.policy_tokens.specs.declared.fault.PolicyFault.TheVariants.{NoMemory};
 ghost use Rattle.policy_base.specs.Policies.{call as call_of};
 ghost use Rattle.policy_grammar.specs.Left.{left, StandsIn};
 ghost use Rattle.policy_grammar.specs.Calls.{word_of as word, call_at};
@@ -9,15 +10,11 @@ ghost use Rattle.policy_values.specs.Reads.{over};
 ghost use Rattle.policy_values.specs.CallValues.{plain_call, call_value};
 ghost use Rattle.policy_values.specs.CallReaders.{placeless, behind_read};
 
-use crate::path_calls::{link_call, path_call};
-use crate::set_calls::sets_call;
-use crate::whole::Whole;
+use crate::reader::Reader;
 use net_base::Place;
 use policy_base::{Call, CallWord, Ranked};
 use policy_grammar::{Lexeme, Symbol, advance, refused};
-use policy_rules::Known;
 use policy_tokens::PolicyFault;
-use std::alloc::Global;
 
 /// What a call comes to.
 #[derive(Drop)]
@@ -50,47 +47,36 @@ fn alone(call: Call) -> CallRead
     }
 }
 
-// The call of a word, by what stands behind the word.
-fn call_behind(
-    alloc: Global,
-    word: CallWord,
-    text: &[u8],
-    whole: &Whole<'_>,
-    known: &Known<'_>,
-    at: &mut Lexeme,
-) -> Result<CallRead, PolicyFault>
-    requires stands { StandsIn text.now at.old }
-    ensures read { Gives (λ x. (plain_call x, left text.now at.new)) result (behind_read text.now whole.now.net.now (plain_names known.now) word (left text.now at.old)) }
-    ensures stands { StandsIn text.now at.new }
-    ensures fewer { length (left text.now at.new) ≤ length (left text.now at.old) }
-{
-    match word {
-        CallWord::Any => Ok(alone(Call::Any)),
-        CallWord::Drop => Ok(alone(Call::Drop)),
-        CallWord::Internal => Ok(alone(Call::Internal)),
-        CallWord::Link => link_call(text, whole, known, at),
-        CallWord::Path => path_call(alloc, text, whole, known, at),
-        CallWord::Of(call) => sets_call(alloc, call, text, whole, known, at),
+impl Reader<'_> {
+    // The call of a word, by what stands behind the word.
+    fn call_behind(&self, word: CallWord, at: &mut Lexeme) -> Result<CallRead, PolicyFault>
+        requires stands { StandsIn self.now.text.now at.old }
+        ensures read { GivesUnless NoMemory (λ x. (plain_call x, left self.now.text.now at.new)) result (behind_read self.now.text.now self.now.whole.now.net.now (plain_names self.now.known.now) word (left self.now.text.now at.old)) }
+        ensures stands { StandsIn self.now.text.now at.new }
+        ensures fewer { length (left self.now.text.now at.new) ≤ length (left self.now.text.now at.old) }
+    {
+        match word {
+            CallWord::Any => Ok(alone(Call::Any)),
+            CallWord::Drop => Ok(alone(Call::Drop)),
+            CallWord::Internal => Ok(alone(Call::Internal)),
+            CallWord::Link => self.link_call(at),
+            CallWord::Path => self.path_call(at),
+            CallWord::Of(call) => self.sets_call(call, at),
+        }
     }
-}
 
-/// A call.
-#[tactic(auto, using(crate::proofs::CallLaws::call_inside))]
-pub(crate) fn call(
-    alloc: Global,
-    text: &[u8],
-    whole: &Whole<'_>,
-    known: &Known<'_>,
-    at: &mut Lexeme,
-) -> Result<CallRead, PolicyFault>
-    requires stands { StandsIn text.now at.old }
-    ensures read { Gives (λ x. (plain_call x, left text.now at.new)) result (over (call_value text.now whole.now.net.now (plain_names known.now)) (call_at (left text.now at.old))) }
-    ensures stands { StandsIn text.now at.new }
-    ensures fewer { length (left text.now at.new) ≤ length (left text.now at.old) }
-{
-    let Some(word) = word_of(at.symbol) else {
-        return Err(refused(at));
-    };
-    advance(text, at);
-    call_behind(alloc, word, text, whole, known, at)
+    /// A call.
+    #[tactic(auto, using(crate::proofs::CallLaws::call_inside))]
+    pub(crate) fn call(&self, at: &mut Lexeme) -> Result<CallRead, PolicyFault>
+        requires stands { StandsIn self.now.text.now at.old }
+        ensures read { GivesUnless NoMemory (λ x. (plain_call x, left self.now.text.now at.new)) result (over (call_value self.now.text.now self.now.whole.now.net.now (plain_names self.now.known.now)) (call_at (left self.now.text.now at.old))) }
+        ensures stands { StandsIn self.now.text.now at.new }
+        ensures fewer { length (left self.now.text.now at.new) ≤ length (left self.now.text.now at.old) }
+    {
+        let Some(word) = word_of(at.symbol) else {
+            return Err(refused(at));
+        };
+        advance(self.text, at);
+        self.call_behind(word, at)
+    }
 }

@@ -8,12 +8,12 @@ mod origins;
 mod parts;
 mod path_calls;
 mod patterns;
+mod reader;
 mod set_calls;
 mod whole;
 
-pub use levels::ranked;
-pub use name_sets::{braced, names};
-pub use origins::{OriginNames, origin_names};
+pub use origins::OriginNames;
 pub use parts::Parts;
 pub use patterns::{PatternsRead, predicate};
+pub use reader::Reader;
 pub use whole::Whole;

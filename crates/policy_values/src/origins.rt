@@ -1,6 +1,7 @@
 //! The names of `originate` items.
 ghost use Rattle.std.specs.Prelude.{◌≡◌, ◌≤◌, [], ◌∷◌, length};
-ghost use Rattle.policy_tokens.specs.Gives.{Gives};
+ghost use Rattle.net_base.specs.Gives.{GivesUnless};
+ghost use Rattle.policy_tokens.specs.declared.fault.PolicyFault.TheVariants.{NoMemory};
 ghost use Rattle.policy_grammar.specs.Left.{left, StandsIn};
 ghost use Rattle.policy_grammar.specs.Reading.{chain};
 ghost use Rattle.policy_grammar.specs.Names.{names_at};
@@ -9,11 +10,10 @@ ghost use Rattle.policy_values.specs.NameSets.{link_by};
 ghost use Rattle.policy_values.specs.OriginNames.{origin_names as named, with_alone, with_origin as with_one};
 ghost use Rattle.policy_values.specs.Reads.{over};
 
-use crate::name_sets::with_named;
-use crate::whole::Whole;
+use crate::reader::Reader;
 use net_base::LocSet;
 use policy_grammar::{Lexeme, Symbol, first, past};
-use policy_rules::{Known, has_peer, set_at};
+use policy_rules::{has_peer, set_at};
 use policy_tokens::PolicyFault;
 
 /// The names of an `originate`.
@@ -25,86 +25,69 @@ pub struct OriginNames {
     pub routers: Result<(), PolicyFault>,
 }
 
-// Tests that the names so far and this one stand for routers alone.
-fn routers_alone(
-    text: &[u8],
-    whole: &Whole<'_>,
-    known: &Known<'_>,
-    so_far: Result<(), PolicyFault>,
-    name: &Lexeme,
-) -> Result<(), PolicyFault>
-    ensures { result ≡ with_alone text.now whole.now.net.now (plain_names known.now) so_far name.now }
-{
-    so_far?;
-    let set = set_at(text, known, name)?;
-    if has_peer(whole.net, &whole.peers, &set) {
-        return Err(PolicyFault::OriginPeer(name.place));
+impl Reader<'_> {
+    // Tests that the names so far and this one stand for routers alone.
+    fn routers_alone(
+        &self,
+        so_far: Result<(), PolicyFault>,
+        name: &Lexeme,
+    ) -> Result<(), PolicyFault>
+        ensures { result ≡ with_alone self.now.text.now self.now.whole.now.net.now (plain_names self.now.known.now) so_far name.now }
+    {
+        so_far?;
+        let set = set_at(self.text, self.known, name)?;
+        if has_peer(self.whole.net, &self.whole.peers, &set) {
+            return Err(PolicyFault::OriginPeer(name.place));
+        }
+        Ok(())
     }
-    Ok(())
-}
 
-// One name more.
-fn with_origin(
-    text: &[u8],
-    whole: &Whole<'_>,
-    known: &Known<'_>,
-    so_far: OriginNames,
-    name: &Lexeme,
-) -> OriginNames
-    ensures { result ≡ with_one text.now whole.now.net.now (plain_names known.now) so_far name.now }
-{
-    OriginNames {
-        at: with_named(text, known, so_far.at, name),
-        routers: routers_alone(text, whole, known, so_far.routers, name),
+    // One name more.
+    fn with_origin(&self, so_far: OriginNames, name: &Lexeme) -> OriginNames
+        ensures { result ≡ with_one self.now.text.now self.now.whole.now.net.now (plain_names self.now.known.now) so_far name.now }
+    {
+        OriginNames {
+            at: self.with_named(so_far.at, name),
+            routers: self.routers_alone(so_far.routers, name),
+        }
     }
-}
 
-// The first name.
-fn first_origin(text: &[u8], whole: &Whole<'_>, known: &Known<'_>, name: &Lexeme) -> OriginNames
-    ensures { result ≡ named text.now whole.now.net.now (plain_names known.now) (name.now ∷ []) }
-{
-    let none = OriginNames {
-        at: Ok(LocSet::new()),
-        routers: Ok(()),
-    };
-    with_origin(text, whole, known, none, name)
-}
-
-// More names, as long as a comma comes.
-fn more_origins(
-    text: &[u8],
-    whole: &Whole<'_>,
-    known: &Known<'_>,
-    found: &mut OriginNames,
-    at: &mut Lexeme,
-) -> Result<(), PolicyFault>
-    requires stands { StandsIn text.now at.old }
-    ensures read { Gives (λ _. (found.new, left text.now at.new)) result (chain Symbol.Comma (link_by (with_one text.now whole.now.net.now (plain_names known.now))) (length (left text.now at.old)) found.old (left text.now at.old)) }
-    ensures stands { StandsIn text.now at.new }
-    ensures fewer { length (left text.now at.new) ≤ length (left text.now at.old) }
-{
-    while past(Symbol::Comma, text, at) {
-        let name = first(Symbol::Name, text, at)?;
-        *found = with_origin(text, whole, known, *found, &name);
+    // The first name.
+    fn first_origin(&self, name: &Lexeme) -> OriginNames
+        ensures { result ≡ named self.now.text.now self.now.whole.now.net.now (plain_names self.now.known.now) (name.now ∷ []) }
+    {
+        let none = OriginNames {
+            at: Ok(LocSet::new()),
+            routers: Ok(()),
+        };
+        self.with_origin(none, name)
     }
-    Ok(())
-}
 
-/// The names of an `originate`, which are joined by commas.
-#[tactic(auto, unfolding(policy_grammar::specs::Names::names_at))]
-pub fn origin_names(
-    text: &[u8],
-    whole: &Whole<'_>,
-    known: &Known<'_>,
-    at: &mut Lexeme,
-) -> Result<OriginNames, PolicyFault>
-    requires stands { StandsIn text.now at.old }
-    ensures read { Gives (λ x. (x, left text.now at.new)) result (over (named text.now whole.now.net.now (plain_names known.now)) (names_at (left text.now at.old))) }
-    ensures stands { StandsIn text.now at.new }
-    ensures fewer { length (left text.now at.new) ≤ length (left text.now at.old) }
-{
-    let name = first(Symbol::Name, text, at)?;
-    let mut found = first_origin(text, whole, known, &name);
-    more_origins(text, whole, known, &mut found, at)?;
-    Ok(found)
+    // More names, as long as a comma comes.
+    fn more_origins(&self, found: &mut OriginNames, at: &mut Lexeme) -> Result<(), PolicyFault>
+        requires stands { StandsIn self.now.text.now at.old }
+        ensures read { GivesUnless NoMemory (λ _. (found.new, left self.now.text.now at.new)) result (chain Symbol.Comma (link_by (with_one self.now.text.now self.now.whole.now.net.now (plain_names self.now.known.now))) (length (left self.now.text.now at.old)) found.old (left self.now.text.now at.old)) }
+        ensures stands { StandsIn self.now.text.now at.new }
+        ensures fewer { length (left self.now.text.now at.new) ≤ length (left self.now.text.now at.old) }
+    {
+        while past(Symbol::Comma, self.text, at) {
+            let name = first(Symbol::Name, self.text, at)?;
+            *found = self.with_origin(*found, &name);
+        }
+        Ok(())
+    }
+
+    /// The names of an `originate`, which are joined by commas.
+    #[tactic(auto, unfolding(policy_grammar::specs::Names::names_at))]
+    pub fn origin_names(&self, at: &mut Lexeme) -> Result<OriginNames, PolicyFault>
+        requires stands { StandsIn self.now.text.now at.old }
+        ensures read { GivesUnless NoMemory (λ x. (x, left self.now.text.now at.new)) result (over (named self.now.text.now self.now.whole.now.net.now (plain_names self.now.known.now)) (names_at (left self.now.text.now at.old))) }
+        ensures stands { StandsIn self.now.text.now at.new }
+        ensures fewer { length (left self.now.text.now at.new) ≤ length (left self.now.text.now at.old) }
+    {
+        let name = first(Symbol::Name, self.text, at)?;
+        let mut found = self.first_origin(&name);
+        self.more_origins(&mut found, at)?;
+        Ok(found)
+    }
 }

@@ -1,6 +1,7 @@
 //! What the parts of an expression come to.
 ghost use Rattle.std.specs.Prelude.{◌≡◌, ◌∷◌, Ok};
-ghost use Rattle.policy_tokens.specs.Gives.{Gives};
+ghost use Rattle.net_base.specs.Gives.{GivesUnless};
+ghost use Rattle.policy_tokens.specs.declared.fault.PolicyFault.TheVariants.{NoMemory};
 ghost use Rattle.policy_grammar.specs.Raw.{Step as step};
 ghost use Rattle.policy_base.specs.Policies.{ranking_of, prefer, either, both};
 ghost use Rattle.policy_rules.specs.Ranks.{top as top_mark, or_broken};
@@ -67,7 +68,7 @@ fn pop(stack: &mut Vec<Ranked>) -> Ranked
 }
 
 fn push(stack: &mut Vec<Ranked>, ranked: Ranked) -> Result<(), PolicyFault>
-    ensures { Gives (λ _. rankings stack.new.items) result (Ok (ranking_of ranked ∷ rankings stack.old.items)) }
+    ensures { GivesUnless NoMemory (λ _. rankings stack.new.items) result (Ok (ranking_of ranked ∷ rankings stack.old.items)) }
 {
     stack.push(ranked)?;
     Ok(())
@@ -108,7 +109,7 @@ impl Parts {
 
     /// One call more.
     pub(crate) fn take_call(&mut self, call: CallRead) -> Result<(), PolicyFault>
-        ensures { Gives (λ _. parts_value self.new) result (Ok (call_onto (plain_call call) (parts_value self.old))) }
+        ensures { GivesUnless NoMemory (λ _. parts_value self.new) result (Ok (call_onto (plain_call call) (parts_value self.old))) }
     {
         self.calls = self.calls.saturating_add(1);
         self.places = behind(self.places, call.places);
@@ -124,7 +125,7 @@ impl Parts {
 
     /// `a >> b` of the two on top; the `>>` stands at this place.
     pub(crate) fn take_above(&mut self, alloc: Global, place: Place) -> Result<(), PolicyFault>
-        ensures { Gives (λ _. parts_value self.new) result (Ok (sides_onto (step.Above place) prefer (parts_value self.old))) }
+        ensures { GivesUnless NoMemory (λ _. parts_value self.new) result (Ok (sides_onto (step.Above place) prefer (parts_value self.old))) }
     {
         mark_above(&mut self.marks, place)?;
         if !self.settle() {
@@ -137,7 +138,7 @@ impl Parts {
 
     /// `a or b` of the two on top.
     pub(crate) fn take_or(&mut self, alloc: Global) -> Result<(), PolicyFault>
-        ensures { Gives (λ _. parts_value self.new) result (Ok (sides_onto step.Or either (parts_value self.old))) }
+        ensures { GivesUnless NoMemory (λ _. parts_value self.new) result (Ok (sides_onto step.Or either (parts_value self.old))) }
     {
         mark_or(&mut self.marks)?;
         if !self.settle() {
@@ -150,7 +151,7 @@ impl Parts {
 
     /// `a and b` of the two on top.
     pub(crate) fn take_and(&mut self, alloc: Global) -> Result<(), PolicyFault>
-        ensures { Gives (λ _. parts_value self.new) result (Ok (sides_onto step.And both (parts_value self.old))) }
+        ensures { GivesUnless NoMemory (λ _. parts_value self.new) result (Ok (sides_onto step.And both (parts_value self.old))) }
     {
         mark_and(&mut self.marks)?;
         if !self.settle() {
@@ -163,7 +164,7 @@ impl Parts {
 
     /// `not a` of the one on top.
     pub(crate) fn take_not(&mut self, alloc: Global) -> Result<(), PolicyFault>
-        ensures { Gives (λ _. parts_value self.new) result (Ok (not_onto (parts_value self.old))) }
+        ensures { GivesUnless NoMemory (λ _. parts_value self.new) result (Ok (not_onto (parts_value self.old))) }
     {
         mark_not(&mut self.marks)?;
         if !self.settle() {

@@ -2,7 +2,8 @@
 ghost use Rattle.std.specs.Prelude.{◌≡◌, ◌≤◌, ◌<◌, ◌+◌, length, Ok};
 ghost use Rattle.policy_tokens.specs.declared.limits.TheConstants.{PLACES};
 ghost use Rattle.policy_tokens.specs.declared.kind.Kind.TheVariants as kind;
-ghost use Rattle.policy_tokens.specs.Gives.{Gives};
+ghost use Rattle.net_base.specs.Gives.{GivesUnless};
+ghost use Rattle.policy_tokens.specs.declared.fault.PolicyFault.TheVariants.{NoMemory};
 ghost use Rattle.policy_base.specs.Policies.{ranking_of};
 ghost use Rattle.policy_grammar.specs.Left.{left, StandsIn};
 ghost use Rattle.policy_grammar.specs.Reading.{chain};
@@ -11,15 +12,13 @@ ghost use Rattle.policy_values.specs.CallValues.{plain_value, plain_call};
 ghost use Rattle.policy_values.specs.CallReaders.{linked as link_of_two, kept_within, with_place as places_with, path_ranking, path_value, place_link, link_read, path_read};
 
 use crate::call_values::CallRead;
-use crate::name_sets::one;
-use crate::whole::Whole;
+use crate::reader::Reader;
 use net_base::{List, LocSet};
 use policy_base::{Call, Ranked};
 use policy_grammar::{Lexeme, Symbol, passed, past};
-use policy_rules::{Known, within};
+use policy_rules::within;
 use policy_tokens::limits::PLACES;
 use policy_tokens::{Kind, PolicyFault};
-use std::alloc::Global;
 
 /// The places of a `path` that were read so far.
 #[derive(Drop)]
@@ -40,38 +39,13 @@ fn linked(
     Ok(Ranked::Call(Call::Link(a?, b?)))
 }
 
-/// The two places of a `link`.
-#[tactic(auto, unfolding(crate::specs::CallReaders::link_read))]
-pub(crate) fn link_call(
-    text: &[u8],
-    whole: &Whole<'_>,
-    known: &Known<'_>,
-    at: &mut Lexeme,
-) -> Result<CallRead, PolicyFault>
-    requires stands { StandsIn text.now at.old }
-    ensures read { Gives (λ x. (plain_call x, left text.now at.new)) result (link_read text.now whole.now.net.now (plain_names known.now) (left text.now at.old)) }
-    ensures stands { StandsIn text.now at.new }
-    ensures fewer { length (left text.now at.new) ≤ length (left text.now at.old) }
-{
-    passed(Symbol::RoundOpen, text, at)?;
-    let a = one(text, whole, known, at)?;
-    passed(Symbol::Comma, text, at)?;
-    let b = one(text, whole, known, at)?;
-    passed(Symbol::RoundClose, text, at)?;
-    Ok(CallRead {
-        above: None,
-        places: Ok(()),
-        value: linked(a, b),
-    })
-}
-
 // The sets of so many places that were read before, with that of one place more, if a `path` may have it.
 fn kept(
     count: u64,
     sets: Result<List<LocSet>, PolicyFault>,
     set: Result<LocSet, PolicyFault>,
 ) -> Result<Result<List<LocSet>, PolicyFault>, PolicyFault>
-    ensures { Gives (λ x. x) result (Ok (kept_within PLACES count sets set)) }
+    ensures { GivesUnless NoMemory (λ x. x) result (Ok (kept_within PLACES count sets set)) }
 {
     match (sets, set) {
         (Ok(mut found), Ok(set)) => {
@@ -90,34 +64,12 @@ fn with_place(
     set: Result<LocSet, PolicyFault>,
 ) -> Result<PathPlaces, PolicyFault>
     requires { places.count < 18446744073709551615 }
-    ensures { Gives (λ x. x) result (Ok (places_with places set)) }
+    ensures { GivesUnless NoMemory (λ x. x) result (Ok (places_with places set)) }
 {
     Ok(PathPlaces {
         count: places.count + 1,
         sets: kept(places.count, places.sets, set)?,
     })
-}
-
-// More places, as long as a comma comes.
-fn more_places(
-    places: PathPlaces,
-    text: &[u8],
-    whole: &Whole<'_>,
-    known: &Known<'_>,
-    at: &mut Lexeme,
-) -> Result<PathPlaces, PolicyFault>
-    requires stands { StandsIn text.now at.old }
-    requires room { places.count + length (left text.now at.old) ≤ 18446744073709551615 }
-    ensures read { Gives (λ x. (x, left text.now at.new)) result (chain Symbol.Comma (place_link text.now whole.now.net.now (plain_names known.now)) (length (left text.now at.old)) places (left text.now at.old)) }
-    ensures stands { StandsIn text.now at.new }
-    ensures fewer { length (left text.now at.new) ≤ length (left text.now at.old) }
-{
-    let mut found = places;
-    while past(Symbol::Comma, text, at) {
-        let set = one(text, whole, known, at)?;
-        found = with_place(found, set)?;
-    }
-    Ok(found)
 }
 
 // The value of a `path` with so many places.
@@ -147,30 +99,62 @@ fn of_places(places: PathPlaces) -> CallRead
     }
 }
 
-/// The places of a `path`, two at least.
-#[tactic(auto, unfolding(crate::specs::CallReaders::path_read))]
-pub(crate) fn path_call(
-    alloc: Global,
-    text: &[u8],
-    whole: &Whole<'_>,
-    known: &Known<'_>,
-    at: &mut Lexeme,
-) -> Result<CallRead, PolicyFault>
-    requires stands { StandsIn text.now at.old }
-    ensures read { Gives (λ x. (plain_call x, left text.now at.new)) result (path_read text.now whole.now.net.now (plain_names known.now) (left text.now at.old)) }
-    ensures stands { StandsIn text.now at.new }
-    ensures fewer { length (left text.now at.new) ≤ length (left text.now at.old) }
-{
-    passed(Symbol::RoundOpen, text, at)?;
-    let a = one(text, whole, known, at)?;
-    passed(Symbol::Comma, text, at)?;
-    let b = one(text, whole, known, at)?;
-    let none = PathPlaces {
-        count: 0,
-        sets: Ok(List::new(alloc)),
-    };
-    let two = with_place(with_place(none, a)?, b)?;
-    let places = more_places(two, text, whole, known, at)?;
-    passed(Symbol::RoundClose, text, at)?;
-    Ok(of_places(places))
+impl Reader<'_> {
+    /// The two places of a `link`.
+    #[tactic(auto, unfolding(crate::specs::CallReaders::link_read))]
+    pub(crate) fn link_call(&self, at: &mut Lexeme) -> Result<CallRead, PolicyFault>
+        requires stands { StandsIn self.now.text.now at.old }
+        ensures read { GivesUnless NoMemory (λ x. (plain_call x, left self.now.text.now at.new)) result (link_read self.now.text.now self.now.whole.now.net.now (plain_names self.now.known.now) (left self.now.text.now at.old)) }
+        ensures stands { StandsIn self.now.text.now at.new }
+        ensures fewer { length (left self.now.text.now at.new) ≤ length (left self.now.text.now at.old) }
+    {
+        passed(Symbol::RoundOpen, self.text, at)?;
+        let a = self.one(at)?;
+        passed(Symbol::Comma, self.text, at)?;
+        let b = self.one(at)?;
+        passed(Symbol::RoundClose, self.text, at)?;
+        Ok(CallRead {
+            above: None,
+            places: Ok(()),
+            value: linked(a, b),
+        })
+    }
+
+    // More places, as long as a comma comes.
+    fn more_places(&self, places: PathPlaces, at: &mut Lexeme) -> Result<PathPlaces, PolicyFault>
+        requires stands { StandsIn self.now.text.now at.old }
+        requires room { places.count + length (left self.now.text.now at.old) ≤ 18446744073709551615 }
+        ensures read { GivesUnless NoMemory (λ x. (x, left self.now.text.now at.new)) result (chain Symbol.Comma (place_link self.now.text.now self.now.whole.now.net.now (plain_names self.now.known.now)) (length (left self.now.text.now at.old)) places (left self.now.text.now at.old)) }
+        ensures stands { StandsIn self.now.text.now at.new }
+        ensures fewer { length (left self.now.text.now at.new) ≤ length (left self.now.text.now at.old) }
+    {
+        let mut found = places;
+        while past(Symbol::Comma, self.text, at) {
+            let set = self.one(at)?;
+            found = with_place(found, set)?;
+        }
+        Ok(found)
+    }
+
+    /// The places of a `path`, two at least.
+    #[tactic(auto, unfolding(crate::specs::CallReaders::path_read))]
+    pub(crate) fn path_call(&self, at: &mut Lexeme) -> Result<CallRead, PolicyFault>
+        requires stands { StandsIn self.now.text.now at.old }
+        ensures read { GivesUnless NoMemory (λ x. (plain_call x, left self.now.text.now at.new)) result (path_read self.now.text.now self.now.whole.now.net.now (plain_names self.now.known.now) (left self.now.text.now at.old)) }
+        ensures stands { StandsIn self.now.text.now at.new }
+        ensures fewer { length (left self.now.text.now at.new) ≤ length (left self.now.text.now at.old) }
+    {
+        passed(Symbol::RoundOpen, self.text, at)?;
+        let a = self.one(at)?;
+        passed(Symbol::Comma, self.text, at)?;
+        let b = self.one(at)?;
+        let none = PathPlaces {
+            count: 0,
+            sets: Ok(List::new(self.alloc)),
+        };
+        let two = with_place(with_place(none, a)?, b)?;
+        let places = self.more_places(two, at)?;
+        passed(Symbol::RoundClose, self.text, at)?;
+        Ok(of_places(places))
+    }
 }

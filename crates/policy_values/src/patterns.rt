@@ -1,6 +1,7 @@
 //! The prefixes that statements govern.
 ghost use Rattle.std.specs.Prelude.{◌≡◌, ◌≤◌, ◌<◌, ◌+◌, length, Ok, Err, OnOk};
-ghost use Rattle.policy_tokens.specs.Gives.{Gives};
+ghost use Rattle.net_base.specs.Gives.{GivesUnless};
+ghost use Rattle.policy_tokens.specs.declared.fault.PolicyFault.TheVariants.{NoMemory};
 ghost use Rattle.policy_grammar.specs.Left.{left, StandsIn};
 ghost use Rattle.policy_grammar.specs.Reading.{chain};
 ghost use Rattle.policy_grammar.specs.Items.{pattern_at as pattern_in, predicate_at};
@@ -41,7 +42,7 @@ impl PatternsRead {
     // Keeps a pattern behind those so far, if there is room in a policy.
     fn keep(&mut self, pattern: Pattern) -> Result<(), PolicyFault>
         requires few { self.old.count < 18446744073709551615 }
-        ensures { Gives (λ _. plain_patterns self.new) result (Ok (with_one (plain_patterns self.old) (Ok pattern))) }
+        ensures { GivesUnless NoMemory (λ _. plain_patterns self.new) result (Ok (with_one (plain_patterns self.old) (Ok pattern))) }
     {
         self.count += 1;
         self.figures = Ok(());
@@ -63,7 +64,7 @@ impl PatternsRead {
     // Takes a pattern more.
     fn take(&mut self, read: Result<Pattern, PolicyFault>) -> Result<(), PolicyFault>
         requires few { self.old.count < 18446744073709551615 }
-        ensures { Gives (λ _. plain_patterns self.new) result (Ok (with_pattern (plain_patterns self.old) read)) }
+        ensures { GivesUnless NoMemory (λ _. plain_patterns self.new) result (Ok (with_pattern (plain_patterns self.old) read)) }
     {
         match (self.figures, read) {
             (Ok(_), Ok(pattern)) => self.keep(pattern),
@@ -83,7 +84,7 @@ impl PatternsRead {
 #[tactic(auto, unfolding(policy_grammar::specs::Items::pattern_at))]
 fn pattern(text: &[u8], at: &mut Lexeme) -> Result<Result<Pattern, PolicyFault>, PolicyFault>
     requires stands { StandsIn text.now at.old }
-    ensures read { Gives (λ x. (x, left text.now at.new)) result (over (pattern_there text.now) (pattern_in (left text.now at.old))) }
+    ensures read { GivesUnless NoMemory (λ x. (x, left text.now at.new)) result (over (pattern_there text.now) (pattern_in (left text.now at.old))) }
     ensures stands { StandsIn text.now at.new }
     ensures onward { OnOk result (length (left text.now at.new) < length (left text.now at.old)) }
     ensures fewer { length (left text.now at.new) ≤ length (left text.now at.old) }
@@ -100,7 +101,7 @@ fn pattern(text: &[u8], at: &mut Lexeme) -> Result<Result<Pattern, PolicyFault>,
 fn more_patterns(text: &[u8], found: &mut PatternsRead, at: &mut Lexeme) -> Result<(), PolicyFault>
     requires stands { StandsIn text.now at.old }
     requires few { found.old.count + length (left text.now at.old) ≤ 18446744073709551615 }
-    ensures read { Gives (λ _. (plain_patterns found.new, left text.now at.new)) result (chain Symbol.Or (value_link text.now) (length (left text.now at.old)) (plain_patterns found.old) (left text.now at.old)) }
+    ensures read { GivesUnless NoMemory (λ _. (plain_patterns found.new, left text.now at.new)) result (chain Symbol.Or (value_link text.now) (length (left text.now at.old)) (plain_patterns found.old) (left text.now at.old)) }
     ensures stands { StandsIn text.now at.new }
     ensures fewer { length (left text.now at.new) ≤ length (left text.now at.old) }
 {
@@ -115,7 +116,7 @@ fn more_patterns(text: &[u8], found: &mut PatternsRead, at: &mut Lexeme) -> Resu
 #[tactic(auto, unfolding(policy_grammar::specs::Items::predicate_at))]
 pub fn predicate(alloc: Global, text: &[u8], at: &mut Lexeme) -> Result<PatternsRead, PolicyFault>
     requires stands { StandsIn text.now at.old }
-    ensures read { Gives (λ x. (plain_patterns x, left text.now at.new)) result (over (patterns_value text.now) (predicate_at (left text.now at.old))) }
+    ensures read { GivesUnless NoMemory (λ x. (plain_patterns x, left text.now at.new)) result (over (patterns_value text.now) (predicate_at (left text.now at.old))) }
     ensures stands { StandsIn text.now at.new }
     ensures fewer { length (left text.now at.new) ≤ length (left text.now at.old) }
     ensures onward { OnOk result (length (left text.now at.new) < length (left text.now at.old)) }

@@ -6,7 +6,7 @@ use Rattle.net_base.specs.Prefixes.{IsPrefix, IsPattern}
 use Rattle.policy_base.specs.declared.policy.Origin.{Origin}
 use Rattle.policy_base.specs.Policies.{PlainStatement, PlainPolicy, IsPolicyOf}
 use Rattle.policy_text.specs.Printable.{HoldsOnly, IsPrintableStatement, IsPrintableOrigin}
-use Rattle.policy_text.specs.Values.{IsLocSet, IsStatementValue}
+use Rattle.policy_text.specs.Values.{IsOriginValue, IsStatementValue}
 use Rattle.policy_text.proofs.PrintedPolicies.{spelled-policy_text}
 use Rattle.list_laws.proofs.Each.{AllByRecursion-both, AllByRecursion-weaker}
 use Rattle.policy_parser.proofs.FittingPolicies.{read_policies_fit, IsBuilt, is_built, origins_made, ranks_kept}
@@ -45,8 +45,9 @@ read_printable net text policy rules h =
         statements = AllByRecursion-weaker (IsReadStatement net) (IsPrintableStatement net) policy.statements (λ s is. is.0) statements;
       },
       record {
-        prefixes = has_prefixes net policy fits;
-        origins = AllByRecursion-weaker IsReadOrigin (λ (o : Origin). IsLocSet o.at) policy.origins (λ o is. is.1) origins;
+        origins =
+            AllByRecursion-both IsReadOrigin (λ (o : Origin). IsPrefix o.prefix) IsOriginValue (λ o is prefix. record { prefix = prefix; at = is.1 }) policy.origins origins
+            (has_prefixes net policy fits);
         statements = AllByRecursion-both (IsReadStatement net) (λ (s : PlainStatement). AllByRecursion IsPattern s.patterns) IsStatementValue (λ s is are. is.1 are) policy.statements statements (has_patterns net policy fits);
       },
     )

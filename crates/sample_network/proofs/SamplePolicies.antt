@@ -1,45 +1,29 @@
 -- The policy of the sample keeps the limits, and has a text.
 use Rattle.std.proofs.Common.{◌≡◌, ℕ, ◌+◌, ◌*◌, ◌≤◌, ◌<◌, true, false, List, [], ◌∷◌, map, length, refl, sym, ap, arith, subst, inl}
-use Rattle.std.specs.Prelude.{◌≢◌, IsTrue, Ok, sum_by}
+use Rattle.std.specs.Prelude.{◌≢◌, Ok, sum_by}
 use Rattle.std.specs.List.{IsDistinct}
 use Rattle.std.proofs.lemmas.Bool.{lt-ltb, ltb-true, ne_eqb}
 use Rattle.std.proofs.lemmas.List.Elements.{All-from_recursion}
 use Rattle.std.proofs.lemmas.List.{length-map}
 use Rattle.std.proofs.lemmas.List.Sums.{sum_by-le}
 use Rattle.list_laws.proofs.Changed.{map-map}
-use Rattle.list_laws.proofs.Each.{AllByRecursion-append}
 use Rattle.net_base.specs.Locations.{numbers_below}
-use Rattle.net_base.specs.NameRule.{is_name}
-use Rattle.net_base.specs.Network.{is_location, is_router}
-use Rattle.net_base.specs.Prefixes.{IsPattern, IsPrefix, same_prefix}
+use Rattle.net_base.specs.Network.{PlainNet, is_location, is_router}
+use Rattle.net_base.specs.Prefixes.{same_prefix}
 use Rattle.net_base.specs.SetOperations.{size_of}
-use Rattle.net_base.specs.declared.net.Site.{Site}
 use Rattle.net_base.proofs.NumbersBelow.{length-numbers_below}
 use Rattle.policy_base.specs.declared.policy.Origin.{Origin}
 use Rattle.policy_base.specs.declared.policy.Statement.{Statement}
-use Rattle.policy_base.specs.Policies.{IsPolicy, plain_statement, policy_of}
+use Rattle.policy_base.specs.Policies.{IsPolicy, PlainPolicy, plain_statement, policy_of}
 use Rattle.policy_parser.specs.Spelled.{spelled}
-use Rattle.policy_text.specs.PolicyText.{policy_text}
 use Rattle.policy_text.specs.Printable.{IsCallSet, IsPrintable, IsPrintableOrigin}
-use Rattle.policy_text.specs.Values.{IsLocSet, IsPolicyValue}
-use Rattle.policy_text.proofs.PrintedPolicies.{spelled-policy_text}
 use Rattle.sample_network.specs.Network.{IsSampleNumber, peer_at, sample_net}
 use Rattle.sample_network.specs.SamplePolicy.{all_prefixes, alone, inner_statement, leaf_origin, leaf_pattern, leaf_prefix, leaves, outer_statement, sample_policy}
 use Rattle.sample_network.proofs.Below.{distinct_below, each_below}
-use Rattle.sample_network.proofs.SampleNet.{is_net, router_count}
-use Rattle.sample_network.proofs.SampleSites.{peers_named, routers_named}
-use Rattle.sample_network.proofs.SampleSets.{alone_only, alone_size, alone_some, alone_words, leaves_only, leaves_some, leaves_words}
+use Rattle.sample_network.proofs.SampleNet.{router_count}
+use Rattle.sample_network.proofs.SampleSets.{alone_only, alone_size, alone_some, leaves_only, leaves_some}
 
 -- ---- prefixes
-
-pub leaf_prefix_is : (k : ℕ) → k < 96 → IsPrefix (leaf_prefix k)
-leaf_prefix_is k low = record { wide = omega (arith, low); within = omega arith; clean = omega (arith, low) }
-
-everything_is : IsPattern all_prefixes
-everything_is = record { prefix = record { wide = omega arith; within = omega arith; clean = refl }; least = omega arith; most = omega arith }
-
-leaf_pattern_is : (k : ℕ) → k < 96 → IsPattern (leaf_pattern k)
-leaf_pattern_is k low = record { prefix = leaf_prefix_is k low; least = omega arith; most = omega arith }
 
 prefixes_apart : (i j : ℕ) → i < j → same_prefix (leaf_prefix i) (leaf_prefix j) ≡ false
 prefixes_apart i j less = rw (ne_eqb (10 * 16777216 + 0 * 65536 + (i + 1) * 256 + 0) (10 * 16777216 + 0 * 65536 + (j + 1) * 256 + 0) (λ e. omega (arith, less, e))) refl
@@ -66,25 +50,6 @@ pub made_policy : (n : ℕ) → n ≤ 96 → (origins : List Origin) (statements
     → map plain_statement statements ≡ inner_statement n ∷ outer_statement n ∷ []
     → IsPolicy (policy_of (record { origins = origins; statements = statements }))
 made_policy n few origins statements a b = rw (a, b) (is_policy n few)
-
--- ---- what the program's types keep
-
-pub is_value : (n : ℕ) → n ≤ 96 → IsPolicyValue (sample_policy n)
-is_value n few = record {
-  prefixes = each_below (λ (o : Origin). IsPrefix o.prefix) leaf_origin n (λ k low. leaf_prefix_is k (omega (arith, few, low)));
-  origins = each_below (λ (o : Origin). IsLocSet o.at) leaf_origin n (λ k low. alone_words k (omega (arith, few, low)));
-  statements = (
-    record { patterns = each_below IsPattern leaf_pattern n (λ k low. leaf_pattern_is k (omega (arith, few, low))); ranked = (leaves_words n, tt); from = tt },
-    (
-      record {
-        patterns = (everything_is, tt);
-        ranked = (((alone_words (peer_at n 0) (omega (arith, few)), tt), ((alone_words (peer_at n 1) (omega (arith, few)), tt), tt)), (leaves_words n, tt));
-        from = tt;
-      },
-      tt,
-    ),
-  );
-}
 
 -- ---- the text
 
@@ -132,9 +97,9 @@ module _ (n : ℕ) (is : IsSampleNumber n) where
     );
   }
 
-  -- it is read as the policy
-  pub is_read : spelled (sample_net n) (policy_text (sample_net n) (sample_policy n)) ≡ Ok (sample_policy n)
-  is_read =
-      spelled-policy_text (sample_net n) (sample_policy n) (is_net n few)
-      (AllByRecursion-append (λ (s : Site). IsTrue (is_name s.name)) (sample_net n).routers (sample_net n).peers (routers_named n few) peers_named)
-      (is_value n few) is_printable
+-- a text that is read again where it can be is read as the policy
+pub is_read : (n : ℕ) → IsSampleNumber n → (net : PlainNet) (policy : PlainPolicy) (text : List ℕ) → net ≡ sample_net n → policy ≡ sample_policy n
+    → (IsPrintable net policy → spelled net text ≡ Ok policy) → spelled (sample_net n) text ≡ Ok (sample_policy n)
+is_read n is net policy text a b read =
+    let printable = subst (λ (m : PlainNet). IsPrintable m policy) (sym a) (subst (λ (p : PlainPolicy). IsPrintable (sample_net n) p) (sym b) (is_printable n is)) in
+    subst (λ (m : PlainNet). spelled m text ≡ Ok (sample_policy n)) a (subst (λ (p : PlainPolicy). spelled net text ≡ Ok p) b (read printable))

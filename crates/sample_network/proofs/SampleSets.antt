@@ -8,17 +8,12 @@ use Rattle.std.proofs.lemmas.List.Sums.{sum_by-set}
 use Rattle.std.proofs.lemmas.Nat.{or_lt, ones-le, ones_le_self}
 use Rattle.net_base.specs.SetOperations.{no_location, size_of}
 use Rattle.net_base.proofs.HeldSets.{one_held}
-use Rattle.net_base.proofs.SetLaws.{IsWords-none, IsWords-set_of, IsWords-with, holds-none, holds-with}
+use Rattle.net_base.proofs.SetLaws.{IsWords-none, holds-none, holds-with}
 use Rattle.net_base.proofs.SetOf.{holds-set_of, holds-set_of_past}
 use Rattle.policy_text.specs.Printable.{HoldsOnly, HoldsSome}
-use Rattle.policy_text.specs.Values.{IsLocSet}
-use Rattle.policy_text.proofs.LocSets.{words_set}
 use Rattle.sample_network.specs.SamplePolicy.{alone, leaves}
 
 -- ---- one location
-
-pub alone_words : (l : ℕ) → l < 768 → IsLocSet (alone l)
-alone_words l low = words_set (alone l) (IsWords-with no_location l low IsWords-none)
 
 pub alone_only : (test : ℕ → Bool) (l : ℕ) → test l ≡ true → HoldsOnly test (alone l)
 alone_only test l is m on = ap test (one_held l m on) ∙ is
@@ -38,9 +33,6 @@ alone_size l low =
     omega (arith, sum_by-set count_ones zeros (l / 64) word 0 place, sum_by-replicate count_ones 12 0, ones-le 64 word fits, none)
 
 -- ---- the leaves
-
-pub leaves_words : (n : ℕ) → IsLocSet (leaves n)
-leaves_words n = words_set (leaves n) (IsWords-set_of (λ l. nat_le 0 l && nat_lt l n))
 
 pub leaves_only : (test : ℕ → Bool) (n : ℕ) → ((l : ℕ) → nat_lt l n ≡ true → test l ≡ true) → HoldsOnly test (leaves n)
 leaves_only test n is l on = elim (cases_lt l 768) [

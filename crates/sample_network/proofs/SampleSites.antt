@@ -9,14 +9,13 @@ use Rattle.std.proofs.lemmas.List.{map-append}
 use Rattle.list_laws.proofs.Changed.{map-map}
 use Rattle.list_laws.proofs.Each.{AllByRecursion-append}
 use Rattle.net_base.specs.Locations.{numbers_below}
-use Rattle.net_base.specs.NameRule.{is_name}
 use Rattle.net_base.specs.Network.{sites}
 use Rattle.net_base.specs.Numbers.{is_router_as, is_peer_as}
 use Rattle.net_base.proofs.NumberRanges.{router_as-two_octets, peer_as-two_octets}
 use Rattle.net_base.specs.declared.net.Site.{Site}
 use Rattle.sample_network.specs.Network.{leaf, peer, sample_net, spine}
 use Rattle.sample_network.proofs.Below.{across_below, distinct_append, distinct_below, each_below}
-use Rattle.sample_network.proofs.SampleNames.{leaf_named, numbers_apart, peer_named, spine_named}
+use Rattle.sample_network.proofs.SampleNames.{numbers_apart}
 
 -- three groups that differ in themselves and from each other
 module _ {K : Type 0} (e : K → K → Bool) (n : ℕ) (f g h : ℕ → K) where
@@ -76,17 +75,6 @@ ids_apart n few =
     (λ i j p q. ne_eqb (identifier 1 (i + 1)) (identifier 2 (j + 1)) (λ e. omega (arith, p, e))))
 
 -- ---- each by itself
-
-abbrev IsNamed : Site → Type 0
-IsNamed s = IsTrue (is_name s.name)
-
-pub routers_named : (n : ℕ) → n ≤ 96 → AllByRecursion IsNamed (map leaf (numbers_below n) ++ map (spine n) (numbers_below 4))
-routers_named n few =
-    AllByRecursion-append IsNamed (map leaf (numbers_below n)) (map (spine n) (numbers_below 4))
-    (each_below IsNamed leaf n (λ k low. leaf_named k (omega (arith, few, low)))) (each_below IsNamed (spine n) 4 spine_named)
-
-pub peers_named : AllByRecursion IsNamed (map peer (numbers_below 2))
-peers_named = each_below IsNamed peer 2 peer_named
 
 pub router_numbers : (n : ℕ) → n ≤ 96 → AllByRecursion (λ (s : Site). IsTrue (is_router_as s.asn)) (map leaf (numbers_below n) ++ map (spine n) (numbers_below 4))
 router_numbers n few =
