@@ -10,9 +10,10 @@ use Rattle.graph_base.specs.Runs.{place_of, rank_at}
 use Rattle.graph_base.specs.Walks.{IsEnteredFromBefore}
 use Rattle.evidence_law.specs.Faithful.{IsFaithful}
 use Rattle.evidence_law.specs.Passes.{IsClaimed}
-use Rattle.node_quotient.specs.Quotient.{IsQuotient}
+use Rattle.node_quotient.specs.Quotient.{AreAllToldApart, IsQuotient}
 use Rattle.quotient_law.proofs.Faith.{quotient_entered, quotient_is_faithful, quotient_ranked}
 use Rattle.quotient_law.proofs.One.{one_quotient, quotient_is_graph}
+use Rattle.quotient_law.proofs.Reduced.{quotient_told_apart}
 use Rattle.case_core.specs.Refusals.{FitsCase}
 use Rattle.case_core.proofs.Given.{made_is_entered}
 use Rattle.case_core.proofs.OneCause as graphs
@@ -41,6 +42,11 @@ module _ (net : PlainNet) (room : ℕ) (s : PlainStatement) (c : Case) where
       let of = is.fits [] [] in
       let entered = made_is_entered net room s c is.graph.0 is.trimmed is.graph.1 in
       subst IsEnteredFromBefore (sym is.quotient.2) (quotient_entered net (holds c.origins) c.external is.quotient.0 is.trimmed of.graph of.faithful.formed is.quotient.1 entered)
+
+  pub given_told_apart : (g : PlainGraph) (used : ℕ) → IsGivenGraph net room s c g used → AreAllToldApart g
+  given_told_apart g used is =
+      let of = is.fits [] [] in
+      subst AreAllToldApart (sym is.quotient.2) (quotient_told_apart net (holds c.origins) c.external is.quotient.0 is.trimmed of.graph of.faithful.formed is.quotient.1)
 
   pub one_given : (g h : PlainGraph) (m n : ℕ) → IsGivenGraph net room s c g m → IsGivenGraph net room s c h n → (g ≡ h) × (m ≡ n)
   one_given g h m n a b =

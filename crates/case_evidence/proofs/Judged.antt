@@ -14,7 +14,7 @@ use Rattle.relation_law.proofs.Bridge.{rules_give_numbers}
 use Rattle.refutation_law.specs.Choosing.{IsRefutationOf}
 use Rattle.faithful_law.specs.Alike.{EndBoth}
 use Rattle.faithful_law.proofs.Carried.{total_there}
-use Rattle.faithful_law.proofs.Listeners.{rules_claimed}
+use Rattle.faithful_law.proofs.Claims.{rules_claimed}
 use Rattle.faithful_law.proofs.Tied.{are_alike}
 use Rattle.graph_base.specs.declared.refutation.Refutation.{Refutation}
 use Rattle.graph_base.specs.Refuting.{Refutes}
@@ -25,7 +25,8 @@ use Rattle.pref_inference.specs.Inferred as found
 use Rattle.evidence_law.specs.Faithful.{IsFaithful}
 use Rattle.evidence_law.specs.Passes.{IsClaimed}
 use Rattle.case_core.specs.declared.refusal.CompileRefusal.TheVariants.{NoEvidence}
-use Rattle.graph_law.proofs.Claimed.{claimed_where_ranked, listeners_ranked}
+use Rattle.evidence_law.proofs.Listeners.{listeners_ranked}
+use Rattle.graph_law.proofs.Claimed.{claimed_where_ranked}
 use Rattle.case_evidence.specs.declared.accepted.AcceptedCase.{AcceptedCase}
 use Rattle.case_evidence.proofs.Joined.{given_fits}
 use Rattle.graph_base.specs.Preferences.{number_in}
@@ -48,7 +49,7 @@ module _ (net : PlainNet) (s : PlainStatement) (c : Case) (g : PlainGraph) (grap
       let held : MeetsRules net (λ l. holds claimed l ≡ true) c.external other number = rules_claimed net (IsClaimed net s c)
       (λ l. holds claimed l ≡ true) c.external other number (λ l h. (claims l).0 h) rules in
       let numbers = rules_give_numbers net (holds c.origins) c.external other also.formed other_rules claimed (λ l h. ((claims l).0 h).at_router)
-      (listeners_ranked net s c other other_rules also) number held in
+      (listeners_ranked net s (holds c.origins) c.external other other_rules also) number held in
       let v = view_of g claimed in
       let open_pair = is.chosen.pair.is_open in
       let alike = are_alike net s (holds c.origins) c.external other g other_rules graph_rules also faithful claimed in

@@ -5,6 +5,7 @@ ghost use Rattle.policy_base.specs.Cases.{case_list};
 ghost use Rattle.policy_base.specs.Policies.{PlainStatement, policy_of};
 ghost use Rattle.graph_base.specs.Refuting.{HasSingleSteps};
 ghost use Rattle.policy_base.specs.CaseNumbers.{OfCase, OriginsAreRouters};
+ghost use Rattle.node_quotient.specs.Quotient.{AreAllToldApart};
 ghost use Rattle.case_core.specs.Automata.{AllFit};
 ghost use Rattle.case_evidence.specs.Accepted.{IsAccepted, IsCaseCause, IsGivenGraph};
 
@@ -56,8 +57,9 @@ fn numbered(
 
 /// The case with this number, from 1, with numbers for the nodes of its graph, or why the case is refused.
 /// The graph has at most `room` steps before it is trimmed. The refusals are tried in the order of
-/// `CompileRefusal`, and if memory is not refused the case is accepted exactly where none applies. The automaton
-/// that is kept for its statement serves this case, and then the later ones.
+/// `CompileRefusal`, and if memory is not refused the case is accepted exactly where none applies. Any two nodes of one
+/// location in the graph are told apart by a path. The automaton that is kept for the statement serves this case, and
+/// then the later ones.
 pub fn accepted_case(
     alloc: Global,
     net: &Net,
@@ -73,6 +75,7 @@ pub fn accepted_case(
     requires routers { OriginsAreRouters net.now policy.now.origins }
     requires kept { AllFit net.now (policy_of policy.now) kept.old }
     ensures accepted { IfOk result (λ given. OfCase net.now (policy_of policy.now) number (λ s c. IsAccepted net.now room s c given)) }
+    ensures apart { IfOk result (λ given. AreAllToldApart given.graph) }
     ensures refused { IfErr result (λ e. OfCase net.now (policy_of policy.now) number (λ s c. IsCaseCause net.now number room s c e)) }
     ensures room { IfOk result (λ given. given.used ≤ room) }
     ensures sized { IfOk result (λ given. length given.prefs.of ≡ length given.graph.nodes) }

@@ -12,10 +12,12 @@ use Rattle.graph_base.proofs.RunSteps.{IsInside}
 use Rattle.node_quotient.proofs.Inside.{inside_of}
 use Rattle.list_laws.proofs.Kept.{kept_below-same}
 use Rattle.graph_law.proofs.Kept.{step_kept, step_from_kept}
-use Rattle.node_quotient.specs.Quotient.{follow, end_of, AreLeast, IsReduced, is_least, led_to}
+use Rattle.node_quotient.specs.Quotient.{follow, end_of, AreAllToldApart, AreLeast, IsReduced, is_least, led_to}
 use Rattle.node_quotient.proofs.Least.{joined_steps, joined_sym, least_kept, least_same}
+use Rattle.node_quotient.proofs.Shorter.{told_apart}
 use Rattle.quotient_law.proofs.Led.{step_led, step_from_led}
 use Rattle.quotient_law.proofs.Faith.{joined_place, joined_ranks, node_before, quotient_formed}
+use Rattle.quotient_law.proofs.One.{quotient_is_graph}
 
 module _ (net : PlainNet) (origin : ℕ → Bool) (external : Bool) (least : ℕ → ℕ) (g : PlainGraph) (ok : IsGraph g) (wf : IsWellFormed net origin external g) (are : AreLeast g least) where
   abbrev q : PlainGraph
@@ -101,3 +103,6 @@ module _ (net : PlainNet) (origin : ℕ → Bool) (external : Bool) (least : ℕ
       let place : place_of g m.0 ≡ place_of g n.0 =
       sym (place_new m.0 m.1) ∙ ap (place_of q) (sym m.3) ∙ h.place ∙ ap (place_of q) n.3 ∙ place_new n.0 n.1 in
       m.3 ∙ ap (kept_below (is_least least)) (least_same g least are m.0 n.0 m.1 n.1 (record { place = place; ends = ends })) ∙ sym n.3
+
+  pub quotient_told_apart : AreAllToldApart q
+  quotient_told_apart = told_apart q (quotient_is_graph g ok least are) quotient_is_reduced

@@ -9,7 +9,7 @@ ghost use Rattle.graph_base.specs.Rules.{IsWellFormed};
 ghost use Rattle.graph_base.specs.Walks.{IsEnteredFromBefore};
 ghost use Rattle.evidence_law.specs.Faithful.{IsFaithful};
 ghost use Rattle.faithful_law.specs.Alike.{EndBoth};
-ghost use Rattle.node_quotient.specs.Quotient.{IsQuotient, IsReduced};
+ghost use Rattle.node_quotient.specs.Quotient.{AreAllToldApart, IsQuotient, IsReduced};
 
 /// The quotient of a faithful graph is faithful; and where each node that isn't a start is entered from one with a
 /// lesser number, that is so in the quotient.
@@ -20,9 +20,11 @@ pub fn quotients_are_faithful()
         → IsQuotient g q → IsEnteredFromBefore g → IsEnteredFromBefore q }
 {}
 
-/// Any two nodes of one location in a quotient are told apart.
+/// No two nodes of a quotient are joined: any two of one location are told apart by a path with fewer places than the
+/// quotient has nodes.
 pub fn quotients_are_reduced()
-    ensures { (net : PlainNet) (origin : ℕ → Bool) (external : Bool) (g q : PlainGraph) → IsGraph g → IsWellFormed net origin external g → IsQuotient g q → IsReduced q }
+    ensures reduced { (net : PlainNet) (origin : ℕ → Bool) (external : Bool) (g q : PlainGraph) → IsGraph g → IsWellFormed net origin external g → IsQuotient g q → IsReduced q }
+    ensures apart { (net : PlainNet) (origin : ℕ → Bool) (external : Bool) (g q : PlainGraph) → IsGraph g → IsWellFormed net origin external g → IsQuotient g q → AreAllToldApart q }
 {}
 
 /// A graph has one quotient, whose starts and steps name nodes.

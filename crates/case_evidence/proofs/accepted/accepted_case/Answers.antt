@@ -3,7 +3,7 @@ use Rattle.std.proofs.lemmas.Result.{err_from_is_err_and}
 use Rattle.net_base.specs.Sets.{holds}
 use Rattle.policy_base.specs.Policies.{policy_of}
 use Rattle.graph_base.proofs.WellFormed.{one_step}
-use Rattle.case_evidence.proofs.Joined.{quotient_fits}
+use Rattle.case_evidence.proofs.Joined.{given_told_apart, quotient_fits}
 use Rattle.case_evidence.proofs.OfCases.{case_there, used_within}
 use Rattle.case_evidence.proofs.accepted.accepted_case.Goals as goal
 
@@ -45,6 +45,13 @@ returns-clause-accepted c = λ s case at.
       paths = is.paths s case at;
       unmixed = is.unmixed s case at;
     })
+
+pub returns-clause-apart : goal.returns-clause-apart
+returns-clause-apart c =
+    let net = c.args.net.now in
+    let there = case_there net (policy_of c.args.policy.now) c.args.number c.requires.from_one (omega (arith, c.requires.within, ap length c.requires.cases)) in
+    let is = returns-clause-accepted c there.0 there.1 there.2 in
+    given_told_apart net c.args.room there.0 there.1 c.in_ok-accepted.accepted.graph c.in_ok-accepted.accepted.used is.graph
 
 pub returns-clause-room : goal.returns-clause-room
 returns-clause-room c =
