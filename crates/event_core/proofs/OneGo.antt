@@ -5,10 +5,11 @@ use Rattle.std.proofs.lemmas.Bool.{and_left, and_parts, cases_Bool, cond-false, 
 use Rattle.std.proofs.Math.Bool.{or-false, and-false}
 use Rattle.event_base.specs.World.{Speakers, World, choice, choose_again, emptied, exported, is, joins, live, offers, owes, received, running, tell, touches, with_cut, with_down}
 use Rattle.event_base.specs.Steps.{delivered}
+use Rattle.event_law.specs.Dead.{AreDead}
 use Rattle.event_law.specs.Kept.{among, nowhere}
 use Rattle.event_law.specs.Together.{at_once, with_choices}
 use Rattle.event_law.proofs.Together.{order_is_free}
-use Rattle.event_core.specs.AtOnce.{AreDead, EventsSettleAtOnce, settled, up_among, with_heard, with_queue}
+use Rattle.event_core.specs.AtOnce.{EventsSettleAtOnce, settled, up_among, with_heard, with_queue}
 
 module _ {R : Type 0} (net : Speakers R) where
   -- at once, and nothing further

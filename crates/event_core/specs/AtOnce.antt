@@ -1,8 +1,9 @@
 -- Each event as one settling: what changes at once, who chooses again, who is told further, and what is forgotten then.
 use Rattle.std.specs.Prelude.{◌≡◌, ◌≢◌, ℕ, Bool, true, false, ◌&&◌, ◌||◌, List, [], ◌∷◌, Option, if◌then◌else◌}
 use Rattle.event_base.specs.declared.event.Event.TheVariants.{Deliver, LinkDown, RouterDown, RouterUp}
-use Rattle.event_base.specs.World.{Speakers, World, emptied, is, joins, live, running, tell, touches, with_cut, with_down}
+use Rattle.event_base.specs.World.{Speakers, World, emptied, is, joins, running, tell, touches, with_cut, with_down}
 use Rattle.event_base.specs.Steps.{step}
+use Rattle.event_law.specs.Dead.{AreDead}
 use Rattle.event_law.specs.Kept.{among, nowhere}
 use Rattle.event_law.specs.Together.{AreDistinct, with_choices}
 
@@ -21,18 +22,14 @@ module _ {R : Type 0} (net : Speakers R) where
   abbrev pub with_queue : ℕ → ℕ → List (Option R) → World R → World R
   with_queue a b ms w = record { down = w.down; cut = w.cut; silent = w.silent; queue = λ x y. if is a b x y then ms else w.queue x y; heard = w.heard; queued = w.queued; route = w.route }
 
-  -- nothing is live there
-  abbrev pub AreDead : (ℕ → ℕ → Bool) → World R → Type 0
-  AreDead p w = (a b : ℕ) → p a b ≡ true → live net w a b ≡ false
-
   pub record EventsSettleAtOnce : Type 0 where
     -- a message that is delivered leaves its queue in the end
     pub deliver : (a b : ℕ) (m : Option R) (rest : List (Option R)) (w : World R) → a ≢ b → w.queue a b ≡ m ∷ rest
         → step net (Deliver a b) w ≡ with_queue a b rest (settled (up_among (b ∷ []) (with_heard a b m w)) (nowhere net) (with_heard a b m w))
     -- where both ends choose again, and what was on the link is forgotten in the end
-    pub link_down : (a b : ℕ) (w : World R) → a ≢ b → AreDead (joins a b) (with_cut net a b true w)
+    pub link_down : (a b : ℕ) (w : World R) → a ≢ b → AreDead net (joins a b) (with_cut net a b true w)
         → step net (LinkDown a b) w ≡ emptied net (joins a b) (settled (up_among (a ∷ b ∷ []) (with_cut net a b true w)) (nowhere net) (with_cut net a b true w))
-    pub router_down : (r : ℕ) (w : World R) → AreDistinct (net.neighbours r) → AreDead (touches r) (with_down net r true w)
+    pub router_down : (r : ℕ) (w : World R) → AreDistinct (net.neighbours r) → AreDead net (touches r) (with_down net r true w)
         → step net (RouterDown r) w ≡ emptied net (touches r) (settled (up_among (net.neighbours r) (with_down net r true w)) (nowhere net) (with_down net r true w))
     -- where it chooses, and then all its sessions are told, provided that each message is the same as itself
     pub router_up : (r : ℕ) (w : World R) → ((m : Option R) → net.same m m ≡ true)

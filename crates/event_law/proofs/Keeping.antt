@@ -41,7 +41,7 @@ module _ {R : Type 0} (net : Speakers R) (n : AreSpeakers net) where
   last-push [] m h = refl
   last-push (x ∷ xs) m h = last-push xs m x
 
-  fewer : (skip skip' : ℕ → Bool) (due due' : ℕ → ℕ → Bool) (w : World R) → Keeps net skip due w → ((r : ℕ) → skip' r ≡ false → skip r ≡ false)
+  pub fewer : (skip skip' : ℕ → Bool) (due due' : ℕ → ℕ → Bool) (w : World R) → Keeps net skip due w → ((r : ℕ) → skip' r ≡ false → skip r ≡ false)
       → ((a b : ℕ) → due' a b ≡ false → due a b ≡ false) → Keeps net skip' due' w
   fewer skip skip' due due' w k f g = record { both = k.both; last = k.last; told = λ a b u nd. k.told a b u (g a b nd); chosen = λ r s. k.chosen r (f r s); idle = k.idle; empty = k.empty }
 
@@ -95,7 +95,7 @@ module _ {R : Type 0} (net : Speakers R) (n : AreSpeakers net) where
   not_both false false h = refl
 
   -- who doesn't run has chosen
-  rests-keeps : (r : ℕ) (skip : ℕ → Bool) (due : ℕ → ℕ → Bool) (w : World R) → Keeps net skip due w → running net w r ≡ false → Keeps net (λ x. skip x && not (at r x)) due w
+  pub rests-keeps : (r : ℕ) (skip : ℕ → Bool) (due : ℕ → ℕ → Bool) (w : World R) → Keeps net skip due w → running net w r ≡ false → Keeps net (λ x. skip x && not (at r x)) due w
   rests-keeps r skip due w k rests = record {
     both = k.both;
     last = k.last;
@@ -160,7 +160,7 @@ module _ {R : Type 0} (net : Speakers R) (n : AreSpeakers net) where
 
   -- ---- directions go, and come
 
-  lost-keeps : (w v : World R) (p : ℕ → ℕ → Bool) (skip : ℕ → Bool) → IsKept net w → ((x y : ℕ) → v.cut x y ≡ v.cut y x)
+  pub lost-keeps : (w v : World R) (p : ℕ → ℕ → Bool) (skip : ℕ → Bool) → IsKept net w → ((x y : ℕ) → v.cut x y ≡ v.cut y x)
       → ((x y : ℕ) → v.queue x y ≡ w.queue x y) → ((x y : ℕ) → v.heard x y ≡ w.heard x y) → ((x y : ℕ) → v.queued x y ≡ w.queued x y) →
       ((x y : ℕ) → p x y ≡ true → live net v x y ≡ false) → ((x y : ℕ) → p x y ≡ false → live net v x y ≡ live net w x y) → ((x y : ℕ) → p x y ≡ false → exported net w x y ≡ exported net v x y) →
       ((x y : ℕ) → p x y ≡ true → live net w x y ≡ true → skip y ≡ true)
@@ -219,13 +219,13 @@ module _ {R : Type 0} (net : Speakers R) (n : AreSpeakers net) where
 
   -- ---- the events
 
-  cut_both : (a b : ℕ) (v : Bool) (w : World R) → IsKept net w → (x y : ℕ) → cond (joins a b x y) v (w.cut x y) ≡ cond (joins a b y x) v (w.cut y x)
+  pub cut_both : (a b : ℕ) (v : Bool) (w : World R) → IsKept net w → (x y : ℕ) → cond (joins a b x y) v (w.cut x y) ≡ cond (joins a b y x) v (w.cut y x)
   cut_both a b v w k x y = ap (λ z. cond z v (w.cut x y)) (joins-both a b x y) ∙ ap (cond (joins a b y x) v) (k.both x y)
 
   cut_off : (a b x y : ℕ) (w : World R) → joins a b x y ≡ true → live net (with_cut net a b true w) x y ≡ false
   cut_off a b x y w t = and_right (net.linked x y) _ (and_left (not (cond (joins a b x y) true (w.cut x y))) _ (ap not (cond-true (joins a b x y) true (w.cut x y) t)))
 
-  live_same_cut : (a b x y : ℕ) (v : Bool) (w : World R) → joins a b x y ≡ false → live net (with_cut net a b v w) x y ≡ live net w x y
+  pub live_same_cut : (a b x y : ℕ) (v : Bool) (w : World R) → joins a b x y ≡ false → live net (with_cut net a b v w) x y ≡ live net w x y
   live_same_cut a b x y v w f = ap (λ z. net.linked x y && (not z && (not (w.down x) && not (w.down y)))) (cond-false (joins a b x y) v (w.cut x y) f)
 
   two_ends : (a b : Bool) → (((a || b) && not a) && not b) ≡ false
@@ -233,7 +233,7 @@ module _ {R : Type 0} (net : Speakers R) (n : AreSpeakers net) where
   two_ends false true = refl
   two_ends false false = refl
 
-  none_left : (a : Bool) → (a && not a) ≡ false
+  pub none_left : (a : Bool) → (a && not a) ≡ false
   none_left true = refl
   none_left false = refl
 
@@ -271,21 +271,21 @@ module _ {R : Type 0} (net : Speakers R) (n : AreSpeakers net) where
   -- ---- a router goes down, and comes up
 
   module _ (r : ℕ) (v : Bool) (w : World R) where
-    live_same_down : (x y : ℕ) → touches r x y ≡ false → live net (with_down net r v w) x y ≡ live net w x y
+    pub live_same_down : (x y : ℕ) → touches r x y ≡ false → live net (with_down net r v w) x y ≡ live net w x y
     live_same_down x y f =
         let q : (eqb x r ≡ false) × (eqb y r ≡ false) = or_parts _ _ f in
         ap (λ z. net.linked x y && (not (w.cut x y) && (not z && not (cond (at r y) v (w.down y))))) (cond-false (eqb x r) v (w.down x) q.0)
         ∙ ap (λ z. net.linked x y && (not (w.cut x y) && (not (w.down x) && not z))) (cond-false (eqb y r) v (w.down y) q.1)
 
-    exported_same : (x y : ℕ) → touches r x y ≡ false → exported net w x y ≡ exported net (with_down net r v w) x y
+    pub exported_same : (x y : ℕ) → touches r x y ≡ false → exported net w x y ≡ exported net (with_down net r v w) x y
     exported_same x y f =
         let q : (eqb x r ≡ false) × (eqb y r ≡ false) = or_parts _ _ f in
         ap (λ z. cond (net.is_router x) (net.export x y z) (cond (w.silent y x) None (net.announced x))) (sym (cond-false (eqb x r) None (w.route x) q.0))
 
-    route_same : (x : ℕ) → at r x ≡ false → (cond (at r x) None (w.route x) ≡ w.route x) × (running net w x ≡ running net (with_down net r v w) x)
+    pub route_same : (x : ℕ) → at r x ≡ false → (cond (at r x) None (w.route x) ≡ w.route x) × (running net w x ≡ running net (with_down net r v w) x)
     route_same x f = (cond-false (at r x) None (w.route x) f, ap (λ z. net.is_router x && not z) (sym (cond-false (at r x) v (w.down x) f)))
 
-    idle_same : IsKept net w → (x : ℕ) → running net (with_down net r v w) x ≡ false → cond (at r x) None (w.route x) ≡ None
+    pub idle_same : IsKept net w → (x : ℕ) → running net (with_down net r v w) x ≡ false → cond (at r x) None (w.route x) ≡ None
     idle_same k x h = elim (cases_Bool (at r x)) [
       | inl t ↦ cond-true (at r x) None (w.route x) t
       | inr f ↦ (route_same x f).0 ∙ k.idle x ((route_same x f).1 ∙ h)
@@ -297,7 +297,7 @@ module _ {R : Type 0} (net : Speakers R) (n : AreSpeakers net) where
     | inr e ↦ and_right (not (down x)) _ (ap not (ap down (eqb-true y r e) ∙ h))
   ]))
 
-  put_here : (f : ℕ → Bool) (r : ℕ) (v : Bool) → cond (at r r) v (f r) ≡ v
+  pub put_here : (f : ℕ → Bool) (r : ℕ) (v : Bool) → cond (at r r) v (f r) ≡ v
   put_here f r v = cond-true (at r r) v (f r) (eq-eqb r r refl)
 
   router_down-keeps : (r : ℕ) (w : World R) → IsKept net w → IsKept net (step net (RouterDown r) w)
@@ -354,7 +354,7 @@ module _ {R : Type 0} (net : Speakers R) (n : AreSpeakers net) where
   step-keeps (PeerSpeak r p) w k m = silent-keeps r p false w k
   step-keeps (PeerSilent r p) w k m = silent-keeps r p true w k
 
-  happens-keeps : (e : Event) (w : World R) → IsKept net w → IsKept net (happens net e w)
+  pub happens-keeps : (e : Event) (w : World R) → IsKept net w → IsKept net (happens net e w)
   happens-keeps e w k = by (fault_of net e w) refl
     where
       by : (o : Option EventFault) → fault_of net e w ≡ o → IsKept net (or_as_before o (step net e w) w)

@@ -1,4 +1,6 @@
+pub mod Dead
 pub mod Downs
 pub mod Keeping
 pub mod KindsKept
+pub mod Still
 pub mod Together

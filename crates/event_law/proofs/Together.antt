@@ -1,10 +1,10 @@
 -- Routers that choose again in one event do so at once: none hears what another one queues.
 use Rattle.std.proofs.Common.{◌≡◌, ℕ, Bool, true, false, not, ◌&&◌, ◌||◌, List, [], ◌∷◌, ◌++◌, Option, None, refl, sym, ap, ◌∙◌, inl, inr}
 use Rattle.std.specs.Prelude.{if◌then◌else◌}
-use Rattle.std.proofs.lemmas.Bool.{both_ways, cases_Bool, cond-true, cond-false, eqb-true}
-use Rattle.event_base.specs.World.{Speakers, World, at, choice, choose_again, each_again, live, running, tell, with_choice}
+use Rattle.std.proofs.lemmas.Bool.{cases_Bool, cond-true, cond-false, eqb-true}
+use Rattle.event_base.specs.World.{Speakers, World, at, choice, each_again, live, running, tell, with_choice}
 use Rattle.event_law.specs.Kept.{among}
-use Rattle.event_law.specs.Together.{AreDistinct, OrderIsFree, at_once, with_choices}
+use Rattle.event_law.specs.Together.{OrderIsFree, at_once}
 
 module _ {R : Type 0} (net : Speakers R) where
   same_world : (v w : World R) → ((r : ℕ) → v.down r ≡ w.down r) → ((a b : ℕ) → v.cut a b ≡ w.cut a b) → ((a b : ℕ) → v.silent a b ≡ w.silent a b) → ((a b : ℕ) → v.queue a b ≡ w.queue a b)

@@ -1,3 +1,4 @@
+pub mod Dead
 pub mod Kept
 pub mod Kinds
 pub mod Together

@@ -1,10 +1,11 @@
 //! What every event keeps on a network of speakers of BGP, each law the contract of a function without a body.
 #![tactic(auto)]
 
-ghost use Rattle.std.specs.Prelude.{◌≡◌, List, None};
+ghost use Rattle.std.specs.Prelude.{◌≡◌, List, None, Option, true};
 ghost use Rattle.config_base.specs.declared.route.Route.{Route};
 ghost use Rattle.event_base.specs.declared.event.Event.{Event};
 ghost use Rattle.event_base.specs.Steps.{IsQuiet, fault_of, opening, run, step};
+ghost use Rattle.event_law.specs.Dead.{DeadSessionsStay, MarksAreAllThatChanges};
 ghost use Rattle.event_law.specs.Kept.{AreSpeakers, IsKept, IsStable};
 ghost use Rattle.event_law.specs.Together.{OrderIsFree};
 ghost use Rattle.event_base.specs.World.{Speakers, World};
@@ -20,4 +21,11 @@ pub fn events_keep()
 /// It doesn't matter in which order routers choose again in one event.
 pub fn choices_have_no_order()
     ensures { (net : Speakers Route) → OrderIsFree net }
+{}
+
+/// On a session that is live neither before an event nor after it, nothing is sent, heard or forgotten. An event that is about such
+/// sessions alone sets its mark and changes nothing else, provided that each message is the same as itself.
+pub fn dead_sessions_stay()
+    ensures sessions { (net : Speakers Route) → AreSpeakers net → DeadSessionsStay net }
+    ensures marks { (net : Speakers Route) → AreSpeakers net → ((m : Option Route) → net.same m m ≡ true) → MarksAreAllThatChanges net }
 {}

@@ -1,16 +1,14 @@
 -- Best ranks over the real types.
 use Rattle.std.proofs.Common.{◌≡◌, ℕ, ◌≤◌, suc, Bool, true, false, List, [], ◌∷◌, ◌++◌, Option, Some, None, refl, sym, ap, ◌∙◌, inl, inr, subst, arith}
-use Rattle.std.specs.Prelude.{◌&&◌, not, option_map, slice_get}
-use Rattle.std.proofs.lemmas.Option.{slice_get-map}
+use Rattle.std.specs.Prelude.{◌&&◌, not}
+use Rattle.std.proofs.lemmas.Option.{same_Some}
 use Rattle.std.specs.Option.{option_and_then}
 use Rattle.std.specs.List.{list_any}
 use Rattle.std.proofs.lemmas.Bool.{and_parts, and_from, or_parts, cases_Bool, not-true, not_from_false, true≢false}
 use Rattle.net_base.specs.Network.{PlainNet, IsNet, is_peer, is_router, linked}
 use Rattle.net_base.specs.Sets.{holds}
-use Rattle.net_base.specs.Prefixes.{PlainPrefix, IsPrefix}
-use Rattle.policy_base.specs.declared.case.Case.{Case}
-use Rattle.policy_base.specs.Cases.{case_list}
-use Rattle.policy_base.specs.Policies.{PlainPolicy, PlainStatement, statement_at, IsPolicyOf}
+use Rattle.net_base.specs.Prefixes.{PlainPrefix}
+use Rattle.policy_base.specs.Policies.{PlainPolicy, PlainStatement, IsPolicyOf}
 use Rattle.policy_base.specs.Meaning.{at_last, front, rank_of}
 use Rattle.policy_base.specs.Governing.{is_origin}
 use Rattle.policy_base.specs.Permitted.{from_holds, is_permitted, IsClaimedRouter, IsClaimedSession}
@@ -23,11 +21,10 @@ use Rattle.outcome_base.specs.Outcomes.{Failures, is_dead, is_dead_link, is_live
 use Rattle.evidence_law.specs.Passes.{Passes}
 use Rattle.outcome_base.specs.Right.{NoneSurvives}
 use Rattle.evidence_law.proofs.CaseOrigins.{case_permits, good, good_parts}
-use Rattle.evidence_law.proofs.CaseOfClass.{governed_case}
+use Rattle.evidence_law.proofs.MadeCases.{case_or_nobody}
 use Rattle.evidence_law.proofs.GraphForms.{same_run}
 use Rattle.evidence_law.proofs.GraphRanks.{ranks_of, meets_ranks}
 use Rattle.net_base.proofs.RoutersAndPeers.{router_no_peer, peer_no_router}
-use Rattle.evidence_law.proofs.RightLaw.{class_is}
 use Rattle.evidence_law.proofs.Setting.{network_of, alive_of, setup_of}
 use Rattle.list_laws.proofs.Options.{is_some_parts, when_parts, none_or_some}
 use Rattle.policy_base.proofs.WalkParts.{at_last-never}
@@ -38,29 +35,14 @@ use Rattle.routing_law.specs.Network as law
 use Rattle.routing_law.specs.Outcome as outcomes
 use Rattle.routing_law.proofs.Runs.{run_more}
 use Rattle.settled_law.specs.Greatest.{IsReachedAt}
-use Rattle.settled_law.proofs.SettledLaw.{CaseFound, case_or_bare}
+use Rattle.settled_law.proofs.SettledLaw.{CaseFound, case_of_class}
 use Rattle.impact_law.specs.Nodes.{IsTop, IsLeast}
 use Rattle.impact_law.specs.BestRanks.{AreToldByTops, BestRanksAreOne, IsBestRank, IsTopAt, NothingIsClaimedWithoutAClass, TopsTellBestRanks, TopsThatAreReachedStay, rank_over}
 use Rattle.impact_law.proofs.Tops.{routers, sessions}
 
 module _ (net : PlainNet) (policy : PlainPolicy) (config : PlainConfig) (cs : List PlainCaseEvidence) (rules : IsNet net)
     (kept : IsPolicyOf net policy) (passes : Passes net policy config cs) (f : Failures) (p : PlainPrefix)
-    (prefix : IsPrefix p) (c : CaseFound net policy config cs rules kept passes f p) where
-  of_case : slice_get (case_list net policy) c.k ≡ Some c.d.case
-  of_case = ap (λ (xs : List Case). slice_get xs c.k) (sym passes.made.cases) ∙ slice_get-map (λ (d : PlainCaseEvidence). d.case) cs c.k ∙ ap (option_map (λ (d : PlainCaseEvidence). d.case)) c.at
-
-  -- the statement that governs the prefix has the case's number
-  numbered : statement_at policy c.d.case.statement ≡ Some c.s
-  numbered = elim (governed_case net policy p rules kept prefix c.s c.governs) [
-    | inr nobody ↦ absurd (none_or_some (class_of config p) (suc c.k) (class_is net policy config cs rules kept passes.made p ∙ nobody.1) c.of_class)
-    | inl there ↦ (
-        let one : Some (suc c.k) ≡ Some (suc there.0) = sym c.of_class ∙ class_is net policy config cs rules kept passes.made p ∙ there.2 in
-        let same_k : c.k ≡ there.0 = cc in
-        let both : Some there.1 ≡ Some c.d.case = sym there.3.at ∙ ap (slice_get (case_list net policy)) (sym same_k) ∙ of_case in
-        let same : there.1 ≡ c.d.case = cc in
-        subst (λ (d : Case). statement_at policy d.statement ≡ Some c.s) same there.3.number)
-  ]
-
+    (c : CaseFound net policy config cs rules kept passes f p) where
   abbrev Origin : ℕ → Bool
   Origin = holds c.d.case.origins
 
@@ -68,7 +50,7 @@ module _ (net : PlainNet) (policy : PlainPolicy) (config : PlainConfig) (cs : Li
   Ranks = ranks_of net c.s Origin c.d.graph
 
   ranked : graph.MeetsRanks (network_of net Origin) (setup_of net f c.d).graph Ranks
-  ranked = meets_ranks net c.s c.d.case c.d.graph (number_at c.d) rules c.on.graph c.on.faithful (passes.rules c.k c.d c.s c.at numbered)
+  ranked = meets_ranks net c.s c.d.case c.d.graph (number_at c.d) rules c.on.graph c.on.faithful (passes.rules c.k c.d c.s c.at c.number)
 
   ranked_path : (path : List ℕ) (i : ℕ) → permits net Origin c.s path ≡ true → rank_of net c.s.ranked path ≡ Some i → Ranks.of_path path ≡ Some i
   ranked_path path i permitted rank = rw permitted rank
@@ -169,18 +151,11 @@ module _ (net : PlainNet) (policy : PlainPolicy) (config : PlainConfig) (cs : Li
   told = record { router = router; no_router = no_router; session = session; no_session = no_session }
 
 pub tops_tell_best_ranks : TopsTellBestRanks
-tops_tell_best_ranks net policy config cs rules kept passes p f s k d prefix governs of_class at = elim (case_or_bare net policy config cs rules kept passes f p prefix) [
-  | inr free ↦ (let none : None ≡ Some (suc k) = sym free ∙ of_class in absurd (cc))
-  | inl c ↦ (
-      let number : Some (suc c.k) ≡ Some (suc k) = sym c.of_class ∙ of_class in
-      let same_k : c.k ≡ k = cc in
-      let found : Some c.d ≡ Some d = sym c.at ∙ ap (slice_get cs) same_k ∙ at in
-      let same_d : c.d ≡ d = cc in
-      let by : Some c.s ≡ Some s = sym c.governs ∙ governs in
-      let same_s : c.s ≡ s = cc in
-      subst (λ (t : PlainStatement). AreToldByTops net policy f p t d) same_s
-      (subst (λ (e : PlainCaseEvidence). AreToldByTops net policy f p c.s e) same_d (told net policy config cs rules kept passes f p prefix c)))
-]
+tops_tell_best_ranks net policy config cs rules kept passes p f s k d prefix governs of_class at =
+    let c = case_of_class net policy config cs rules kept passes f p prefix k d of_class at in
+    let same_s = same_Some c.0.s s (sym c.0.governs ∙ governs) in
+    subst (λ (t : PlainStatement). AreToldByTops net policy f p t d) same_s
+    (subst (λ (e : PlainCaseEvidence). AreToldByTops net policy f p c.0.s e) c.1 (told net policy config cs rules kept passes f p c.0))
 
 pub tops_that_are_reached_stay : TopsThatAreReachedStay
 tops_that_are_reached_stay net f g c r n fewer top reached = record { reached = reached; over = λ m at. top.over m (at.0, at.1, fewer (r ∷ at.0) at.2) }
@@ -203,10 +178,10 @@ unclaimed net policy p s none path h =
     true≢false (sym last ∙ at_last-never (is_origin net policy p) path none)
 
 pub nothing_is_claimed : NothingIsClaimedWithoutAClass
-nothing_is_claimed net policy config cs rules kept passes p s prefix governs free = elim (governed_case net policy p rules kept prefix s governs) [
+nothing_is_claimed net policy config cs rules kept passes p s prefix governs free = elim (case_or_nobody net policy config cs rules kept passes.made p prefix s governs) [
   | inr nobody ↦ (
     λ r claimed. unclaimed net policy p s nobody.0 (r ∷ claimed.starts.0) claimed.starts.1,
     λ r peer claimed. unclaimed net policy p s nobody.0 (peer ∷ r ∷ claimed.starts.0) claimed.starts.1,
   )
-  | inl found ↦ (let clash : None ≡ Some (suc found.0) = sym free ∙ class_is net policy config cs rules kept passes.made p ∙ found.2 in absurd (cc))
+  | inl c ↦ absurd (none_or_some (class_of config p) (suc c.k) free c.of_class)
 ]

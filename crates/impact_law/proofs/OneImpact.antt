@@ -15,10 +15,9 @@ use Rattle.impact_law.specs.declared.impact.SourceRank.{SourceRank}
 use Rattle.impact_law.specs.declared.impact.Cut.{Cut}
 use Rattle.impact_law.specs.declared.impact.CutRow.{CutRow}
 use Rattle.impact_law.specs.declared.impact.Impact.{Impact}
-use Rattle.impact_law.specs.declared.impact.WhatIf.{WhatIf}
 use Rattle.impact_law.specs.BestRanks.{IsBestRank}
 use Rattle.impact_law.specs.Cuts.{live_cuts, with_cut}
-use Rattle.impact_law.specs.Impacts.{ImpactsAreOne, IsBareImpact, IsImpact, IsImpactBy, IsRanking, Precedes, RowsAreOfLiveCuts, begin_at, changed, row_of}
+use Rattle.impact_law.specs.Impacts.{ImpactsAreOne, IsBareImpact, IsImpact, IsImpactBy, IsRanking, Precedes, RankingsAreOne, RowsAreOfLiveCuts, begin_at, changed, row_of}
 use Rattle.impact_law.specs.Moves.{IsSettled, WhatIfsAreOne, moved}
 use Rattle.impact_law.proofs.BestRanks.{best_ranks_are_one}
 
@@ -52,14 +51,14 @@ module _ {A : Type 0} (Before : A → A → Type 0) (itself : (x : A) → Before
 
 -- ---- sources
 
-before : SourceRank → SourceRank → Type 0
+abbrev pub before : SourceRank → SourceRank → Type 0
 before x y = Precedes x.router x.peer y.router y.peer
 
-not_itself : (r : ℕ) (o : Option ℕ) → Precedes r o r o → ⊥
+pub not_itself : (r : ℕ) (o : Option ℕ) → Precedes r o r o → ⊥
 not_itself r None h = absurd (omega (arith, h))
 not_itself r (Some p) h = absurd (let low = h.1 refl in omega (arith, low))
 
-precedes_through : (r s t : ℕ) (a b c : Option ℕ) → Precedes r a s b → Precedes s b t c → Precedes r a t c
+pub precedes_through : (r s t : ℕ) (a b c : Option ℕ) → Precedes r a s b → Precedes s b t c → Precedes r a t c
 precedes_through r s t None None None h k = omega (arith, h, k)
 precedes_through r s t None None (Some q) h k = tt
 precedes_through r s t None (Some p) None h k = absurd k
@@ -83,11 +82,13 @@ module _ (net : PlainNet) (policy : PlainPolicy) (f : Failures) (p : PlainPrefix
       let same : found.0 ≡ x = λ i. record { router = found.2 i; peer = found.3 i; rank = rank i } in
       (found.1.0, found.1.1 ∙ ap Some same)
 
-  pub rankings_one : (xs ys : List SourceRank) → IsRanking net policy f p s xs → IsRanking net policy f p s ys → xs ≡ ys
-  unfolding before
+  rankings_one : (xs ys : List SourceRank) → IsRanking net policy f p s xs → IsRanking net policy f p s ys → xs ≡ ys
   rankings_one xs ys a b =
       one_list before (λ x h. not_itself x.router x.peer h) (λ x y z h k. precedes_through x.router y.router z.router x.peer y.peer z.peer h k) xs ys
       a.order b.order (members xs ys a b) (members ys xs b a)
+
+pub rankings_are_one : RankingsAreOne
+rankings_are_one net policy f p s xs ys a b = rankings_one net policy f p s xs ys a b
 
 module _ (net : PlainNet) (policy : PlainPolicy) (f : Failures) (p : PlainPrefix) where
   impact_by : (s : PlainStatement) (a b : Impact) → IsImpactBy net policy f p s a → IsImpactBy net policy f p s b → a ≡ b

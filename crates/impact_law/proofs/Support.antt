@@ -1,6 +1,6 @@
 -- What a cut spares is still reached, and tells the same ranks.
-use Rattle.std.proofs.Common.{◌≡◌, ℕ, zero, suc, ◌<◌, Bool, true, false, List, [], ◌∷◌, Option, Some, None, refl, sym, ap, ◌∙◌, subst, arith, inl, inr}
-use Rattle.std.specs.Prelude.{◌&&◌, ◌||◌, ◌==◌, not, slice_get, if◌then◌else◌}
+use Rattle.std.proofs.Common.{◌≡◌, ℕ, zero, suc, ◌<◌, Bool, true, false, List, [], ◌∷◌, Option, Some, None, refl, sym, ap, ◌∙◌, subst, arith}
+use Rattle.std.specs.Prelude.{◌&&◌, ◌||◌, ◌==◌, not, if◌then◌else◌}
 use Rattle.std.specs.Option.{option_and_then}
 use Rattle.std.specs.List.{list_any}
 use Rattle.std.proofs.lemmas.Bool.{and_from, or_parts, not-true}
@@ -14,13 +14,13 @@ use Rattle.graph_base.specs.Graphs.{IsGraph}
 use Rattle.graph_base.specs.Rules.{IsWellFormed}
 use Rattle.graph_base.specs.Runs.{place_of, step_at, run, rank_at}
 use Rattle.evidence_base.specs.Made.{PlainCaseEvidence}
-use Rattle.outcome_base.specs.Outcomes.{Failures, is_dead, is_dead_link, is_live, is_silent, passes_live, ends_heard, survives}
+use Rattle.outcome_base.specs.Outcomes.{Failures, is_dead, is_dead_link, is_live, is_silent, passes_live, ends_heard, survives, no_failures}
 use Rattle.graph_base.proofs.RunSteps.{run_begins}
 use Rattle.graph_base.proofs.WellFormed.{start_at-of, step_at-of}
 use Rattle.settled_law.specs.Greatest.{IsReachedAt}
-use Rattle.settled_law.proofs.SettledLaw.{case_or_bare}
+use Rattle.settled_law.proofs.SettledLaw.{case_of_class}
 use Rattle.impact_law.specs.BestRanks.{AreToldByTops, IsBestRank, IsTopAt, rank_over}
-use Rattle.impact_law.specs.Support.{CutsOffTheSupportChangeNothing, IsSpared, IsSupport, IsTopOf, no_failures}
+use Rattle.impact_law.specs.Support.{CutsOffTheSupportChangeNothing, IsSpared, IsSupport, IsTopOf}
 use Rattle.impact_law.proofs.BestRanks.{best_ranks_are_one, tops_tell_best_ranks, tops_that_are_reached_stay}
 
 -- without silent sessions every path ends heard
@@ -121,21 +121,14 @@ pub cuts_off_the_support_change_nothing : CutsOffTheSupportChangeNothing
 cuts_off_the_support_change_nothing net policy config cs rules kept passes p f s k d prefix governs of_class at on parent time support spared quiet top of_routers of_sessions =
     let before = tops_tell_best_ranks net policy config cs rules kept passes p no_failures s k d prefix governs of_class at in
     let after = tops_tell_best_ranks net policy config cs rules kept passes p f s k d prefix governs of_class at in
-    elim (case_or_bare net policy config cs rules kept passes f p prefix) [
-      | inr free ↦ (let none : None ≡ Some (suc k) = sym free ∙ of_class in absurd (cc))
-      | inl c ↦ (
-          let number : Some (suc c.k) ≡ Some (suc k) = sym c.of_class ∙ of_class in
-          let same_k : c.k ≡ k = cc in
-          let found : Some c.d ≡ Some d = sym c.at ∙ ap (slice_get cs) same_k ∙ at in
-          let same_d : c.d ≡ d = cc in
-          let graph = subst (λ (e : PlainCaseEvidence). IsGraph e.graph) same_d c.on.graph in
-          let formed = subst (λ (e : PlainCaseEvidence). IsWellFormed net (holds e.case.origins) e.case.external e.graph) same_d c.on.faithful.formed in
-          record {
-            router =
-                λ r rank claimed h. router net policy p f s d (holds d.case.origins) d.case.external graph formed on parent time support spared quiet
-                before after r rank claimed (top r) (of_routers r claimed) h;
-            session =
-                λ r peer rank claimed live h. session net policy p f s d (holds d.case.origins) d.case.external graph formed on parent time support
-                spared quiet before after r peer rank claimed live (top r) (of_sessions r peer claimed) h;
-          })
-    ]
+    let c = case_of_class net policy config cs rules kept passes f p prefix k d of_class at in
+    let graph = subst (λ (e : PlainCaseEvidence). IsGraph e.graph) c.1 c.0.on.graph in
+    let formed = subst (λ (e : PlainCaseEvidence). IsWellFormed net (holds e.case.origins) e.case.external e.graph) c.1 c.0.on.faithful.formed in
+    record {
+      router =
+          λ r rank claimed h. router net policy p f s d (holds d.case.origins) d.case.external graph formed on parent time support spared quiet
+          before after r rank claimed (top r) (of_routers r claimed) h;
+      session =
+          λ r peer rank claimed live h. session net policy p f s d (holds d.case.origins) d.case.external graph formed on parent time support
+          spared quiet before after r peer rank claimed live (top r) (of_sessions r peer claimed) h;
+    }

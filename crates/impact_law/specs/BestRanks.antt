@@ -6,6 +6,7 @@ use Rattle.policy_base.specs.Policies.{PlainPolicy, PlainStatement, IsPolicyOf}
 use Rattle.policy_base.specs.Meaning.{rank_of}
 use Rattle.policy_base.specs.Governing.{statement_of}
 use Rattle.policy_base.specs.Permitted.{IsClaimedRouter, IsClaimedSession}
+use Rattle.graph_base.specs.Graphs.{PlainGraph}
 use Rattle.graph_base.specs.Runs.{rank_at, step_at}
 use Rattle.config_base.specs.Configs.{PlainConfig}
 use Rattle.config_base.specs.Lines.{class_of}
@@ -32,9 +33,22 @@ pub record AreTops (net : PlainNet) (f : Failures) (c : PlainCaseEvidence) (top 
   pub some : (r n : ℕ) → top r ≡ Some n → IsTopAt net f c r n
   pub none : (r : ℕ) → IsTrue (is_router net r) → top r ≡ None → (n : ℕ) → ¬ IsReachedAt net f c r n
 
+-- the rank of the node to which a node steps at a peer
+abbrev pub rank_at_peer : PlainGraph → ℕ → ℕ → Option ℕ
+rank_at_peer g n peer = option_and_then (rank_at g) (step_at g n peer)
+
+-- the rank that a node tells of a router, or of its session to a peer
+abbrev pub rank_of_node : PlainGraph → Option ℕ → ℕ → Option ℕ
+rank_of_node g None n = rank_at g n
+rank_of_node g (Some peer) n = rank_at_peer g n peer
+
+-- the rank that a router's top tells
+abbrev pub rank_by : PlainGraph → (ℕ → Option ℕ) → ℕ → Option ℕ → Option ℕ
+rank_by g top r peer = option_and_then (rank_of_node g peer) (top r)
+
 -- the rank of the node to which a router's top steps at a peer, over a link that lives
 abbrev pub rank_over : PlainNet → Failures → PlainCaseEvidence → ℕ → ℕ → ℕ → Option ℕ
-rank_over net f c n r peer = if is_live net f r peer then option_and_then (rank_at c.graph) (step_at c.graph n peer) else None
+rank_over net f c n r peer = if is_live net f r peer then rank_at_peer c.graph n peer else None
 
 -- Best ranks are told by the numbers of the nodes that are reached, and by no path:
 pub record AreToldByTops (net : PlainNet) (policy : PlainPolicy) (f : Failures) (p : PlainPrefix) (s : PlainStatement) (c : PlainCaseEvidence) : Type 0 where

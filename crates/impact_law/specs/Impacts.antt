@@ -1,5 +1,5 @@
 -- What a cut besides some failures changes of the best ranks of claimed sources.
-use Rattle.std.specs.Prelude.{◌≡◌, ℕ, ◌<◌, ◌≤◌, Bool, true, false, ◌==◌, List, [], ◌∷◌, map, Option, Some, None, slice_get, if◌then◌else◌}
+use Rattle.std.specs.Prelude.{◌≡◌, ◌↔◌, ℕ, ◌<◌, ◌≤◌, Bool, true, false, ◌==◌, List, [], ◌∷◌, map, Option, Some, None, slice_get, if◌then◌else◌}
 use Rattle.net_base.specs.Network.{PlainNet}
 use Rattle.net_base.specs.Prefixes.{PlainPrefix}
 use Rattle.policy_base.specs.Policies.{PlainPolicy, PlainStatement}
@@ -74,6 +74,17 @@ IsImpact net policy f p impact = by_statement (statement_of policy p)
 -- two rankings have the same sources in the same order, and one rank for each
 abbrev pub RankingsAreOne : Type 0
 RankingsAreOne = (net : PlainNet) (policy : PlainPolicy) (f : Failures) (p : PlainPrefix) (s : PlainStatement) (xs ys : List SourceRank) → IsRanking net policy f p s xs → IsRanking net policy f p s ys → xs ≡ ys
+
+-- The cut leaves the source this best rank, which isn't its best without the cut.
+pub record GetsAnotherRank (net : PlainNet) (policy : PlainPolicy) (f : Failures) (p : PlainPrefix) (s : PlainStatement) (cut : Cut) (x : SourceRank) : Type 0 where
+  pub source : IsSource net policy p s x.router x.peer
+  pub after : IsBestRank net policy (with_cut cut f) p s (begin_at x.router x.peer) x.rank
+  pub before : IsBestRank net policy f p s (begin_at x.router x.peer) x.rank → ⊥
+
+-- a source stands in the row of a cut, with a rank, exactly where the cut gives it this rank and it had another
+abbrev pub RowsTellOtherRanks : Type 0
+RowsTellOtherRanks = (net : PlainNet) (policy : PlainPolicy) (f : Failures) (p : PlainPrefix) (s : PlainStatement) (impact : Impact) → IsImpactBy net policy f p s impact
+    → (row : CutRow) → IsIn impact.rows row → (x : SourceRank) → IsIn row.changed x ↔ GetsAnotherRank net policy f p s row.cut x
 
 abbrev pub ImpactsAreOne : Type 0
 ImpactsAreOne = (net : PlainNet) (policy : PlainPolicy) (f : Failures) (p : PlainPrefix) (a b : Impact) → IsImpact net policy f p a → IsImpact net policy f p b → a ≡ b

@@ -1,5 +1,5 @@
 -- Whom a cut moves: the routers whose settled route is another under it.
-use Rattle.std.specs.Prelude.{◌≡◌, ℕ, Bool, true, false, not, ◌&&◌, ◌==◌, List, length, map, Option, Some, None}
+use Rattle.std.specs.Prelude.{◌≡◌, ℕ, Bool, true, false, not, ◌&&◌, List, length, map, Option, Some, None}
 use Rattle.std.specs.List.{count_by}
 use Rattle.net_base.specs.Locations.{numbers_below}
 use Rattle.net_base.specs.Network.{PlainNet, IsNet}
@@ -13,20 +13,14 @@ use Rattle.outcome_base.specs.Outcomes.{Failures, Outcome, route_at}
 use Rattle.settled_law.specs.Settled.{IsFullyStable}
 use Rattle.stable_paths.specs.Tests.{same_route}
 use Rattle.impact_law.specs.declared.impact.Cut.{Cut}
-use Rattle.impact_law.specs.declared.impact.Cut.TheVariants.{Link, Router}
 use Rattle.impact_law.specs.declared.impact.WhatIf.{WhatIf}
-use Rattle.impact_law.specs.Cuts.{live_cuts, with_cut}
+use Rattle.impact_law.specs.Cuts.{is_cut, live_cuts, with_cut}
 use Rattle.impact_law.specs.Impacts.{IsImpact}
 
 -- the outcome to which a network settles under some failures: an entry for each router, stable, and ties are broken
 pub record IsSettled (net : PlainNet) (policy : PlainPolicy) (config : PlainConfig) (f : Failures) (p : PlainPrefix) (outcome : Outcome) : Type 0 where
   pub size : length outcome ≡ length net.routers
   pub stable : IsFullyStable net policy config f p outcome
-
--- the router is cut
-abbrev pub is_cut : Cut → ℕ → Bool
-is_cut (Link a b) r = false
-is_cut (Router c) r = c == r
 
 -- the same route, or none both times
 abbrev pub same_held : Option Route → Option Route → Bool

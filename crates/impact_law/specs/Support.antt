@@ -10,13 +10,10 @@ use Rattle.graph_base.specs.Runs.{place_of, is_start, has_step}
 use Rattle.config_base.specs.Configs.{PlainConfig}
 use Rattle.config_base.specs.Lines.{class_of}
 use Rattle.evidence_base.specs.Made.{PlainCaseEvidence}
-use Rattle.outcome_base.specs.Outcomes.{Failures, is_dead, is_dead_link}
+use Rattle.outcome_base.specs.Outcomes.{Failures, is_dead, is_dead_link, no_failures}
 use Rattle.evidence_law.specs.Passes.{Passes, IsCaseGraph}
 use Rattle.settled_law.specs.Greatest.{IsReachedAt}
 use Rattle.impact_law.specs.BestRanks.{IsBestRank, IsTopAt}
-
-abbrev pub no_failures : Failures
-no_failures = record { dead = []; dead_links = []; silent = [] }
 
 -- Nodes, each of which is a start or has a parent among them that steps to it and was found earlier.
 pub record IsSupport (g : PlainGraph) (on : ℕ → Bool) (parent : ℕ → Option ℕ) (time : ℕ → ℕ) : Type 0 where

@@ -21,16 +21,17 @@ use Rattle.event_base.specs.Speaking.{announced_by, chosen_by, exported_by, spea
 use Rattle.event_base.specs.Steps.{IsQuiet}
 use Rattle.event_base.specs.World.{Speakers, World, at, choice, emptied, exported, joins, live, offers, running, touches, with_cut, with_down}
 use Rattle.event_law.specs.Kept.{IsKept, last_of}
+use Rattle.event_law.proofs.Still.{IsStill}
 use Rattle.rounds_law.specs.Orders.{AreChoosers}
 use Rattle.rest_law.proofs.Choosers.{are_choosers, sent_parts, taken_parts}
 use Rattle.world_law.specs.Scenarios.{routes_of}
 use Rattle.world_law.proofs.First.{NoLater}
 use Rattle.world_law.proofs.Waiting.{same_routes}
+use Rattle.impact_law.specs.Cuts.{is_cut}
 use Rattle.impact_law.specs.declared.impact.Cut.{Cut}
 use Rattle.impact_law.specs.declared.impact.Cut.TheVariants.{Link, Router}
-use Rattle.drain_law.specs.Uses.{IsOffRoutes, goes_over, is_cut}
+use Rattle.drain_law.specs.Uses.{IsOffRoutes, goes_over}
 use Rattle.drain_law.proofs.Cutting.{cuts_flip, cuts_off, joins_turns, step_off}
-use Rattle.quiet_law.proofs.Still.{IsStill}
 
 -- the directions that fail
 abbrev pub touched : Cut → ℕ → ℕ → Bool

@@ -1,3 +1,2 @@
-pub mod Still
 pub mod Failing
 pub mod Quiet

@@ -10,6 +10,7 @@ use Rattle.event_base.specs.Speaking.{speakers_of}
 use Rattle.event_base.specs.Steps.{IsQuiet, fault_of, happens, opening, or_as_before, run, step}
 use Rattle.event_base.specs.World.{Speakers, World, choose_again}
 use Rattle.event_law.proofs.Keeping.{opening-keeps, run-keeps}
+use Rattle.event_law.proofs.Still.{IsStill, each_still, still}
 use Rattle.rest_law.proofs.Choosers.{are_choosers}
 use Rattle.world_law.specs.Laws.{world_after}
 use Rattle.world_law.specs.Scenarios.{routes_of, scenario_of}
@@ -21,7 +22,6 @@ use Rattle.impact_law.specs.declared.impact.Cut.TheVariants.{Link, Router}
 use Rattle.drain_law.proofs.Freeing.{free_is_unused}
 use Rattle.quiet_law.specs.Quiet.{FreeFailuresAreQuiet, UnusedFailuresAreQuiet, failing}
 use Rattle.quiet_law.proofs.Failing.{all_still, failed, failed_quiet}
-use Rattle.quiet_law.proofs.Still.{IsStill, each_still, still}
 
 module _ {R : Type 0} (net : Speakers R) where
   run_more : (es : List Event) (e : Event) (w : World R) → run net (es ++ e ∷ []) w ≡ happens net e (run net es w)
