@@ -1,5 +1,5 @@
 -- What peers can't do, of a configuration that is made of evidence.
-use Rattle.std.proofs.Common.{◌≡◌, ℕ, true, List, [], Option, Some, None, refl, ◌∙◌, inl, inr}
+use Rattle.std.proofs.Common.{◌≡◌, ℕ, true, List, [], Some, None, refl, ◌∙◌, inl, inr}
 use Rattle.std.specs.Prelude.{is_some}
 use Rattle.std.specs.Option.{is_none}
 use Rattle.std.proofs.lemmas.Bool.{or_cases}
@@ -17,8 +17,7 @@ use Rattle.outcome_base.specs.Outcomes.{Failures, IsStable}
 use Rattle.outcome_base.specs.Announcements.{Announcements, FullOutcome, FullRoute, full_at, inside, silenced, taken_under, given_under, IsStableUnder}
 use Rattle.outcome_base.specs.Withstanding.{LeaksNothing, RefusesOwn}
 use Rattle.evidence_law.specs.Passes.{IsMadeOf}
-use Rattle.evidence_law.proofs.CaseOfClass.{ungoverned_class}
-use Rattle.evidence_law.proofs.RightLaw.{class_is}
+use Rattle.evidence_law.proofs.MadeCases.{has_no_class}
 use Rattle.announce_law.proofs.Inside.{behind, given-parts, none_given, sent-router-none, sent-router-refused, stable_inside, taken-none}
 use Rattle.announce_law.proofs.Peers.{no_line, no_peer_originates, nothing_exported, peers_are_origins}
 
@@ -49,7 +48,7 @@ module _ (net : PlainNet) (policy : PlainPolicy) (config : PlainConfig) (cs : Li
         none_or_some (taken_under net config x.1 r peer x.3) t (taken-none net config x.1 r peer x.3 none) x.5)
 
     refused_ungoverned : statement_of policy p ≡ None → given_under net config f says p full peer r ≡ None
-    refused_ungoverned is = none_given net policy config f says p full (class_is net policy config cs rules kept made p ∙ ungoverned_class net policy p rules kept prefix is) peer r
+    refused_ungoverned is = none_given net policy config f says p full (has_no_class net policy config cs rules kept made p prefix is) peer r
 
   pub refuses_own : RefusesOwn net policy config
   refuses_own p f says full prefix which peer r at_peer router = elim (or_cases (is_some (originated_at policy.origins p)) (is_none (statement_of policy p)) which) [

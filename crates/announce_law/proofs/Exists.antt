@@ -1,29 +1,28 @@
 -- Whatever fails and the peers announce, there is an outcome that is stable under it: a plain one, with what is announced behind its paths.
 use Rattle.std.proofs.Common.{◌≡◌, ℕ, zero, suc, ◌≤◌, true, false, List, [], ◌∷◌, length, map, Option, Some, None, refl, sym, ap, ◌∙◌, inl, inr, arith}
-use Rattle.std.specs.Prelude.{◌&&◌, ◌⊎◌, not, slice_get, option_map, unwrap_or, if◌then◌else◌}
+use Rattle.std.specs.Prelude.{◌&&◌, not, slice_get, option_map, if◌then◌else◌}
 use Rattle.std.specs.List.{list_any}
 use Rattle.std.specs.Option.{option_and_then}
-use Rattle.std.proofs.lemmas.Bool.{and_from, and_parts, cases_Bool, not_from_false, or_parts, true≢false}
+use Rattle.std.proofs.lemmas.Bool.{and_parts, cases_Bool, or_parts, true≢false}
 use Rattle.std.proofs.lemmas.List.{length-map}
 use Rattle.std.proofs.lemmas.Option.{slice_get-map}
-use Rattle.list_laws.proofs.Options.{cases_Option, none_or_some, option_map_parts}
+use Rattle.list_laws.proofs.Options.{cases_Option, option_map_parts}
 use Rattle.net_base.specs.declared.numbers.Tag.{Tag}
 use Rattle.net_base.specs.Network.{PlainNet, IsNet, is_peer, is_router, linked}
-use Rattle.net_base.specs.Numbers.{no_tag}
 use Rattle.net_base.specs.Prefixes.{PlainPrefix}
 use Rattle.net_base.proofs.Links.{linked_known}
-use Rattle.net_base.proofs.RoutersAndPeers.{router_or_peer}
+use Rattle.net_base.proofs.RoutersAndPeers.{router_no_peer, router_or_peer}
 use Rattle.policy_base.specs.Policies.{PlainPolicy, IsPolicyOf}
 use Rattle.policy_base.specs.Governing.{is_origin}
 use Rattle.config_base.specs.declared.route.Route.{Route}
 use Rattle.config_base.specs.Configs.{PlainConfig}
-use Rattle.config_base.specs.Lines.{class_of, block_at, export_of, import_of, line_by, own_route}
-use Rattle.outcome_base.specs.Outcomes.{Failures, Outcome, is_dead, is_live, is_silent, route_at, sent, given, IsStable}
+use Rattle.config_base.specs.Lines.{class_of, block_at, line_by}
+use Rattle.outcome_base.specs.Outcomes.{Failures, Outcome, is_dead, is_live, is_silent, route_at, given, IsStable}
 use Rattle.outcome_base.specs.Withstanding.{HasOutcomesUnder}
 use Rattle.evidence_base.specs.Made.{PlainCaseEvidence}
 use Rattle.evidence_law.specs.Passes.{Passes}
 use Rattle.evidence_law.proofs.ExistenceLaw.{stable_outcomes_exist}
-use Rattle.evidence_law.proofs.Heard.{no_gift, given-unsent, given-refused, given-taken, sent-unrouted, sent-refused, sent-permitted}
+use Rattle.evidence_law.proofs.Hops as plain
 use Rattle.outcome_base.specs.Announcements.{Announced, Announcements, FullRoute, FullOutcome, Sent, full_at, inside, is_ours, sent_under, given_under, is_unusable, silenced, IsStableUnder}
 use Rattle.announce_law.proofs.Inside.{given_same, given-parts, route_in, router-sends, taken-parts}
 use Rattle.announce_law.proofs.Peers.{no_line}
@@ -74,54 +73,6 @@ module _ (net : PlainNet) (policy : PlainPolicy) (config : PlainConfig) (f : Fai
   abbrev Mute : Failures
   Mute = silenced net says f
 
-  -- ---- what is given in the plain sense, by its parts
-
-  plain-parts : (u v : ℕ) (h : Route) → given net policy config Mute p outcome u v ≡ Some h
-      → (is_live net f u v ≡ true) × (class : ℕ) × (class_of config p ≡ Some class) × (x : List ℕ × Tag) × (sent net policy config Mute p outcome u v ≡ Some x) × (h.path ≡ v ∷ x.0)
-  plain-parts u v h at = elim (cases_Bool (is_live net f u v)) [
-    | inr off ↦ let clash : None ≡ Some h = sym (rw off refl) ∙ at in absurd (cc)
-    | inl live ↦ elim (cases_Option (class_of config p)) [
-      | inl free ↦ absurd (none_or_some (given net policy config Mute p outcome u v) h (no_gift net policy config Mute p outcome free u v) at)
-      | inr c ↦ elim (cases_Option (sent net policy config Mute p outcome u v)) [
-        | inl none ↦ absurd (none_or_some (given net policy config Mute p outcome u v) h (given-unsent net policy config Mute p outcome c.0 rules c.1 u v live none) at)
-        | inr s ↦ elim (cases_Option (import_of net config c.0 v u s.0.0 s.0.1)) [
-          | inl none ↦ absurd (none_or_some (given net policy config Mute p outcome u v) h (given-refused net policy config Mute p outcome c.0 rules c.1 u v s.0.0 s.0.1 live s.1 none) at)
-          | inr q ↦
-              let same : Some (record { path = v ∷ s.0.0; tag = q.0.0; pref = q.0.1 }) ≡ Some h = sym (given-taken net policy config Mute p outcome c.0 rules c.1 u v s.0.0 s.0.1 q.0 live s.1 q.1) ∙ at in
-              let one : record { path = v ∷ s.0.0; tag = q.0.0; pref = q.0.1 } ≡ h = cc in
-              (live, c.0, c.1, s.0, s.1, ap (λ (x : Route). x.path) (sym one))
-        ]
-      ]
-    ]
-  ]
-
-  peer-sent : (u v : ℕ) (x : List ℕ × Tag) → is_peer net u ≡ true → sent net policy config Mute p outcome u v ≡ Some x → (is_silent Mute v u ≡ false) × (x.0 ≡ u ∷ [])
-  peer-sent u v x peer at = elim (cases_Bool (is_silent Mute v u)) [
-    | inl s ↦ elim (cases_Bool (is_origin net policy p u)) [
-      | inl o ↦ let clash : None ≡ Some x = sym (rw (peer, s, o) refl) ∙ at in absurd (cc)
-      | inr o ↦ let clash : None ≡ Some x = sym (rw (peer, s, o) refl) ∙ at in absurd (cc)
-    ]
-    | inr s ↦ elim (cases_Bool (is_origin net policy p u)) [
-      | inr o ↦ let clash : None ≡ Some x = sym (rw (peer, s, o) refl) ∙ at in absurd (cc)
-      | inl o ↦
-          let same : Some (u ∷ [], no_tag) ≡ Some x = sym (rw (peer, s, o) refl) ∙ at in
-          let one : (u ∷ [], no_tag) ≡ x = cc in
-          (s, ap (λ (y : List ℕ × Tag). y.0) (sym one))
-    ]
-  ]
-
-  router-sent : (u v class : ℕ) (x : List ℕ × Tag) → is_peer net u ≡ false → class_of config p ≡ Some class → sent net policy config Mute p outcome u v ≡ Some x → (h : Route) × (route_at outcome u ≡ Some h) × (x.0 ≡ h.path)
-  router-sent u v class x off of_class at = elim (cases_Option (route_at outcome u)) [
-    | inl none ↦ absurd (none_or_some (sent net policy config Mute p outcome u v) x (sent-unrouted net policy config Mute p outcome class rules of_class u v off none) at)
-    | inr h ↦ elim (cases_Option (export_of net config class u v h.0.tag)) [
-      | inl none ↦ absurd (none_or_some (sent net policy config Mute p outcome u v) x (sent-refused net policy config Mute p outcome class rules of_class u v h.0 off h.1 none) at)
-      | inr t ↦
-          let same : Some (h.0.path, t.0) ≡ Some x = sym (sent-permitted net policy config Mute p outcome class rules of_class u v h.0 t.0 off h.1 t.1) ∙ at in
-          let one : (h.0.path, t.0) ≡ x = cc in
-          (h.0, h.1, ap (λ (y : List ℕ × Tag). y.0) (sym one))
-    ]
-  ]
-
   link_of : (u v : ℕ) → is_live net f u v ≡ true → linked net u v ≡ true
   link_of u v live = (and_parts _ _ (and_parts _ _ (and_parts _ _ live).0).0).0
 
@@ -129,52 +80,30 @@ module _ (net : PlainNet) (policy : PlainPolicy) (config : PlainConfig) (f : Fai
   router_here u v live off = router_or_peer net u (linked_known net u v rules (link_of u v live)).0 off
 
   module _ (stable : IsStable net policy config Mute p outcome) where
-    abbrev From : ℕ → Route → Type 0
-    From r h = (h.path ≡ r ∷ []) ⊎ ((z : ℕ) × (given net policy config Mute p outcome z r ≡ Some h))
-
-    -- a route is the holder's own or given
-    from : (r : ℕ) (h : Route) → is_router net r ≡ true → route_at outcome r ≡ Some h → From r h
-    from r h router at = elim (cases_Bool (is_dead f r)) [
-      | inl dead ↦ absurd (none_or_some (route_at outcome r) h (stable.dead r dead) at)
-      | inr alive ↦ elim (cases_Bool (is_origin net policy p r)) [
-        | inl own ↦
-            let who = and_from (is_router net r && is_origin net policy p r) (not (is_dead f r)) (and_from (is_router net r) (is_origin net policy p r) router own) (not_from_false _ alive) in
-            let same : Some (own_route net config p r) ≡ Some h = sym (stable.own r who) ∙ at in
-            let one : own_route net config p r ≡ h = cc in
-            inl (ap (λ (x : Route). x.path) (sym one))
-        | inr other ↦
-            let who = and_from (is_router net r && not (is_origin net policy p r)) (not (is_dead f r)) (and_from (is_router net r) (not (is_origin net policy p r)) router (not_from_false _ other)) (not_from_false _ alive) in
-            inr ((stable.chooses r who).given_by h at)
-      ]
-    ]
-
     begins : (r : ℕ) (h : Route) → is_router net r ≡ true → route_at outcome r ≡ Some h → (rest : List ℕ) × (h.path ≡ r ∷ rest)
-    begins r h router at = elim (from r h router at) [
-      | inl own ↦ ([], own)
-      | inr by ↦ let parts = plain-parts by.0 r h by.1 in (parts.3.0, parts.5)
-    ]
+    begins = plain.begins net policy config Mute p outcome rules stable
 
     clean_each : (n r : ℕ) (h : Route) → is_router net r ≡ true → route_at outcome r ≡ Some h → suc (length h.path) ≤ n → list_any (is_ours net) (tail_of net says h.path) ≡ false
     clean_each zero r h router at short = absurd (omega (arith, short))
-    clean_each (suc n) r h router at short = elim (from r h router at) [
-      | inl own ↦ ap (λ (path : List ℕ). list_any (is_ours net) (tail_of net says path)) own
-      | inr by ↦
-          let parts = plain-parts by.0 r h by.1 in
-          elim (cases_Bool (is_peer net by.0)) [
+    clean_each (suc n) r h router at short = elim (cases_Bool (is_origin net policy p r)) [
+      | inl origin ↦ ap (λ (path : List ℕ). list_any (is_ours net) (tail_of net says path)) (plain.own_path net policy config Mute p outcome rules stable r h router origin at)
+      | inr other ↦
+          let by = plain.chosen net policy config Mute p outcome rules stable r h router other at in
+          let x = by.1 in
+          elim x.comes [
             | inl peer ↦
-                let out = peer-sent by.0 r parts.3 peer parts.4 in
-                let mute = sym (silenced_is net rules says by.0 r peer (link_of by.0 r parts.0) f) ∙ out.0 in
+                let mute = sym (silenced_is net rules says by.0 r peer.0 (link_of by.0 r x.live) f) ∙ peer.2 in
                 let heard = (or_parts (is_silent f r by.0) (is_unusable net (says by.0 r)) mute).1 in
-                ap (λ (path : List ℕ). list_any (is_ours net) (tail_of net says path)) (parts.5 ∙ ap (λ (path : List ℕ). r ∷ path) out.1)
-                ∙ ap (list_any (is_ours net)) (tail_peer net says r by.0 peer) ∙ usable net (says by.0 r) heard
-            | inr off ↦
-                let out = router-sent by.0 r parts.1 parts.3 off parts.2 parts.4 in
-                let at_router = router_here by.0 r parts.0 off in
-                let start = begins by.0 out.0 at_router out.1 in
-                let whole : h.path ≡ r ∷ out.0.path = parts.5 ∙ ap (λ (path : List ℕ). r ∷ path) out.2 in
-                let longer : length h.path ≡ suc (length out.0.path) = ap length whole in
-                let tail : tail_of net says h.path ≡ tail_of net says out.0.path = ap (tail_of net says) (whole ∙ ap (λ (path : List ℕ). r ∷ path) start.1) ∙ tail_same net says r by.0 start.0 off ∙ ap (tail_of net says) (sym start.1) in
-                ap (list_any (is_ours net)) tail ∙ clean_each n by.0 out.0 at_router out.1 (omega (arith, longer, short))
+                ap (λ (path : List ℕ). list_any (is_ours net) (tail_of net says path)) (x.begins ∙ ap (λ (path : List ℕ). r ∷ path) peer.3)
+                ∙ ap (list_any (is_ours net)) (tail_peer net says r by.0 peer.0) ∙ usable net (says by.0 r) heard
+            | inr from ↦
+                let g = from.1.0 in
+                let start = begins by.0 g from.0 from.1.1 in
+                let whole : h.path ≡ r ∷ g.path = x.begins ∙ ap (λ (path : List ℕ). r ∷ path) (sym from.1.2) in
+                let longer : length h.path ≡ suc (length g.path) = ap length whole in
+                let tail : tail_of net says h.path ≡ tail_of net says g.path =
+                ap (tail_of net says) (whole ∙ ap (λ (path : List ℕ). r ∷ path) start.1) ∙ tail_same net says r by.0 start.0 (router_no_peer net by.0 from.0) ∙ ap (tail_of net says) (sym start.1) in
+                ap (list_any (is_ours net)) tail ∙ clean_each n by.0 g from.0 from.1.1 (omega (arith, longer, short))
           ]
     ]
 

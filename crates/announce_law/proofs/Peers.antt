@@ -1,12 +1,12 @@
 -- In the block of a peer there is no import line for the class of a prefix of which the peer is no origin.
 use Rattle.std.proofs.Common.{◌≡◌, ℕ, suc, Bool, true, false, List, Option, Some, None, refl, sym, ap, ◌∙◌, inl, inr, subst}
-use Rattle.std.specs.Prelude.{◌||◌, ◌==◌, is_some, not, slice_get}
+use Rattle.std.specs.Prelude.{◌||◌, ◌==◌, is_some, not}
 use Rattle.std.specs.List.{find}
 use Rattle.std.specs.Option.{option_and_then}
 use Rattle.std.proofs.lemmas.Bool.{and_parts, eqb-true, false_from_ne_true, not-true, or_cases, true≢false}
-use Rattle.std.proofs.lemmas.Option.{slice_get-map, same_Some}
+use Rattle.std.proofs.lemmas.Option.{same_Some}
 use Rattle.list_laws.specs.Members.{IsIn}
-use Rattle.list_laws.proofs.Options.{cases_Option, none_from, none_or_some, option_and_then_parts, option_map_parts}
+use Rattle.list_laws.proofs.Options.{cases_Option, none_from, none_or_some, option_and_then_parts}
 use Rattle.list_laws.proofs.Tests.{find_parts, list_any_parts}
 use Rattle.net_base.specs.declared.loc.LocSet.{LocSet}
 use Rattle.net_base.specs.declared.numbers.Tag.{Tag}
@@ -14,9 +14,8 @@ use Rattle.net_base.specs.Network.{PlainNet, IsNet, is_peer, is_router, linked}
 use Rattle.net_base.specs.Sets.{holds}
 use Rattle.net_base.specs.Prefixes.{PlainPrefix, IsPrefix}
 use Rattle.net_base.proofs.RoutersAndPeers.{peer_no_router}
-use Rattle.policy_base.specs.declared.case.Case.{Case}
-use Rattle.policy_base.specs.Policies.{PlainPolicy, PlainStatement, IsPolicyOf, statement_at}
-use Rattle.policy_base.specs.Governing.{statement_of, is_origin, is_origin_by, originated_at}
+use Rattle.policy_base.specs.Policies.{PlainPolicy, PlainStatement, IsPolicyOf}
+use Rattle.policy_base.specs.Governing.{is_origin, is_origin_by, originated_at}
 use Rattle.graph_base.specs.Runs.{place_of, is_start}
 use Rattle.graph_base.proofs.StartsAndSteps.{step_nodes}
 use Rattle.config_base.specs.declared.config.Session.{Session}
@@ -27,9 +26,8 @@ use Rattle.config_base.specs.Lines.{class_of, block_at, export_of, line_by, same
 use Rattle.evidence_base.specs.Made.{PlainCaseEvidence, case_at}
 use Rattle.evidence_law.specs.Passes.{IsMadeOf, IsCaseGraph}
 use Rattle.evidence_law.proofs.Blocks.{block_only}
-use Rattle.evidence_law.proofs.CaseOfClass.{governed_case, ungoverned_class}
+use Rattle.evidence_law.proofs.MadeCases.{case_or_bare}
 use Rattle.evidence_law.proofs.ClassFound.{originated_by}
-use Rattle.evidence_law.proofs.RightLaw.{class_is}
 use Rattle.evidence_law.proofs.Spelled.{exports_tag, imports_tag, was_exported}
 use Rattle.announce_law.specs.Laws.{OriginsAloneAreTaken, OriginsAreToldNothing}
 
@@ -55,24 +53,16 @@ module _ (net : PlainNet) (policy : PlainPolicy) (config : PlainConfig) (cs : Li
     (p : PlainPrefix) (prefix : IsPrefix p) (class : ℕ) (of_class : class_of config p ≡ Some class) where
   -- the case of a prefix's class has the origins of the prefix
   case_origins : (d : PlainCaseEvidence) → case_at cs class ≡ Some d → (holds d.case.origins ≡ is_origin net policy p) × (s : PlainStatement) × IsCaseGraph net s d
-  case_origins d at = go (statement_of policy p) refl
-    where
-      clash : class_of config p ≡ None → ⊥
-      clash none = none_or_some (class_of config p) class none of_class
-
-      go : (o : Option PlainStatement) → statement_of policy p ≡ o → (holds d.case.origins ≡ is_origin net policy p) × (s : PlainStatement) × IsCaseGraph net s d
-      go None is = absurd (clash (class_is net policy config cs rules kept made p ∙ ungoverned_class net policy p rules kept prefix is))
-      go (Some s) is = elim (governed_case net policy p rules kept prefix s is) [
-        | inr nobody ↦ absurd (clash (class_is net policy config cs rules kept made p ∙ nobody.1))
-        | inl found ↦
-            let there = slice_get-map (λ (c : PlainCaseEvidence). c.case) cs found.0 in
-            let e = option_map_parts (λ (c : PlainCaseEvidence). c.case) (slice_get cs found.0) found.1 (sym there ∙ ap (λ (xs : List Case). slice_get xs found.0) made.cases ∙ found.3.at) in
-            let number : class ≡ suc found.0 = same_Some class (suc found.0) (sym of_class ∙ class_is net policy config cs rules kept made p ∙ found.2) in
-            let same : Some d ≡ Some e.0 = sym at ∙ ap (case_at cs) number ∙ e.1 in
-            let one : d ≡ e.0 = cc in
-            let graph = made.graphs found.0 e.0 s e.1 (ap (λ (c : Case). statement_at policy c.statement) e.2 ∙ found.3.number) in
-            (ap (λ (x : PlainCaseEvidence). holds x.case.origins) one ∙ ap (λ (c : Case). holds c.origins) e.2 ∙ found.3.same, s, subst (IsCaseGraph net s) (sym one) graph)
-      ]
+  case_origins d at = elim (case_or_bare net policy config cs rules kept made p prefix) [
+    | inr free ↦ absurd (none_or_some (class_of config p) class free of_class)
+    | inl found ↦
+        let s = found.0 in
+        let c = found.2 in
+        let number : class ≡ suc c.k = same_Some class (suc c.k) (sym of_class ∙ c.of_class) in
+        let same : Some d ≡ Some c.d = sym at ∙ ap (case_at cs) number ∙ c.at in
+        let one : d ≡ c.d = cc in
+        (ap (λ (x : PlainCaseEvidence). holds x.case.origins) one ∙ c.is.same, s, subst (IsCaseGraph net s) (sym one) (made.graphs c.k c.d s c.at c.is.number))
+  ]
 
   module _ (peer r : ℕ) (at_peer : is_peer net peer ≡ true) (router : is_router net r ≡ true) (other : is_origin net policy p peer ≡ false) where
     pub no_rule : (b : Session) (rule : Import) → block_at net config r peer ≡ Some b → IsIn b.imports rule → rule.class ≡ class → ⊥

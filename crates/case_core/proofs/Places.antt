@@ -9,8 +9,8 @@ use Rattle.policy_base.specs.declared.case.Case.{Case}
 use Rattle.policy_base.specs.declared.policy.Statement.{Statement}
 use Rattle.policy_base.specs.Cases.{case_list}
 use Rattle.policy_base.specs.Policies.{PlainPolicy, PlainStatement, PolicyLists, plain_statement, policy_of, statement_at}
-use Rattle.policy_base.specs.CaseNumbers.{OfCase, case_at}
-use Rattle.policy_base.proofs.KnownCases.{IsKnown, case_known}
+use Rattle.policy_base.specs.CaseNumbers.{FitsOrigins, IsCase, OfCase, OriginsAreRouters, case_at}
+use Rattle.policy_base.proofs.KnownCases.{IsKnown, case_known, known_origins}
 
 case_at-read : (items all cs : List Case) (number : ℕ) (c : Case) → items ≡ all → all ≡ cs → 1 ≤ number → number ≤ length all → c ≡ get_or items (number - 1) c → case_at cs number ≡ Some c
 case_at-read items all cs zero c same are from within read = absurd (omega (arith, from))
@@ -55,10 +55,13 @@ case_read net lists items all number c same are from within read =
     let place = statement_place lists c.statement known.statement.0 known.statement.1 in
     record { at = at; known = known; from_one = place.0; within = place.1 }
 
--- what holds of the one case with a number and of its statement is what holds of that case
-pub of_case : (net : PlainNet) (policy : PlainPolicy) (number : ℕ) (s : PlainStatement) (c : Case) (Says : PlainStatement → Case → Type 0)
-    → case_at (case_list net policy) number ≡ Some c → statement_at policy c.statement ≡ Some s → Says s c → OfCase net policy number Says
-of_case net policy number s c Says at of says other d is =
-    let one : c ≡ d = same_Some c d (sym at ∙ is.case) in
-    let statement : s ≡ other = same_Some s other (sym of ∙ ap (λ (x : Case). statement_at policy x.statement) one ∙ is.statement) in
-    subst (Says other) one (subst (λ x. Says x c) statement says)
+module _ {net : PlainNet} {policy : PlainPolicy} {number : ℕ} {s : PlainStatement} {c : Case} (this : IsCase net policy number s c) where
+  -- what holds of the one case with a number and of its statement is what holds of that case
+  pub of_case : (Says : PlainStatement → Case → Type 0) → Says s c → OfCase net policy number Says
+  of_case Says says other d is =
+      let one : c ≡ d = same_Some c d (sym this.case ∙ is.case) in
+      let statement : s ≡ other = same_Some s other (sym this.statement ∙ ap (λ (x : Case). statement_at policy x.statement) one ∙ is.statement) in
+      subst (Says other) one (subst (λ x. Says x c) statement says)
+
+  pub origins_fit : OriginsAreRouters net policy.origins → FitsOrigins net c
+  origins_fit routers rules = known_origins net policy c rules routers (case_known net policy (number - 1) c (case_at-place (case_list net policy) number c this.case))

@@ -1,11 +1,12 @@
 //! The graph of a case.
 ghost use Rattle.std.specs.Prelude.{◌≡◌, ◌<◌, ◌≤◌, ℕ, IfErr, IfOk, IfSome, OnOk, length};
+ghost use Rattle.net_base.specs.Network.{PlainNet};
 ghost use Rattle.policy_base.specs.declared.case.Case.{Case as PlainCase};
 ghost use Rattle.policy_base.specs.Cases.{case_list};
 ghost use Rattle.policy_base.specs.Policies.{plain_statement, policy_of};
 ghost use Rattle.graph_base.specs.Graphs.{IsGraph, PlainGraph};
 ghost use Rattle.graph_base.specs.Walks.{IsEnteredFromBefore};
-ghost use Rattle.policy_base.specs.CaseNumbers.{FitsOrigins, OfCase, OriginsAreRouters};
+ghost use Rattle.policy_base.specs.CaseNumbers.{FitsOrigins, IsCase, OfCase, OriginsAreRouters};
 ghost use Rattle.graph_law.specs.Limits.{IsBuiltWithin};
 ghost use Rattle.case_core.specs.Automata.{AllFit, FitsStatement, IsAutomatonOf};
 ghost use Rattle.case_core.specs.Refusals.{FitsCase, IsCause, IsGraphOf, IsMade, IsPastLimit, ShowsWalks};
@@ -133,6 +134,20 @@ fn trimmed_of(
     Ok((CaseGraph { graph, used }, next))
 }
 
+/// The case with this number, from 1, and its statement.
+fn case_of<'a>(policy: &'a Policy, cases: &'a CaseList, number: u32) -> (&'a Case, &'a Statement)
+    requires cases { (net : PlainNet) × (cases.now.cases ≡ case_list net (policy_of policy.now)) }
+    requires from_one { 1 ≤ number }
+    requires within { number ≤ length cases.now.cases }
+    ensures case { (net : PlainNet) → cases.now.cases ≡ case_list net (policy_of policy.now) → IsCase net (policy_of policy.now) number (plain_statement result.1.now) result.0.now }
+    ensures from_one { 1 ≤ result.0.now.statement }
+    ensures within { result.0.now.statement ≤ length policy.now.statements }
+{
+    let case = &cases.cases.as_slice()[number as usize - 1];
+    let statement = &policy.statements()[case.statement as usize - 1];
+    (case, statement)
+}
+
 /// The graph of the case with this number, from 1, whose sources are not judged, or which of the limits on alternatives, nodes and
 /// steps it passes. The automaton that is kept for its statement serves this case, and then the later ones.
 pub fn graph_within_limits(
@@ -153,8 +168,7 @@ pub fn graph_within_limits(
     ensures limits { IfErr result IsPastLimit }
     ensures refused { IfErr result (λ e. OfCase net.now (policy_of policy.now) number (λ s c. IsCause net.now number room s c e)) }
 {
-    let case = &cases.cases.as_slice()[number as usize - 1];
-    let statement = &policy.statements()[case.statement as usize - 1];
+    let (case, statement) = case_of(policy, cases, number);
     let own = kept.take(case.statement);
     let (given, next) = trimmed_of(alloc, net, number, case, statement, own, room)?;
     kept.keep(next);
@@ -185,8 +199,7 @@ pub fn case_graph_over(
     ensures refused { IfErr result (λ e. OfCase net.now (policy_of policy.now) number (λ s c. IsCause net.now number room s c e)) }
 {
     let given = graph_within_limits(alloc, net, policy, cases, number, room, kept)?;
-    let case = &cases.cases.as_slice()[number as usize - 1];
-    let statement = &policy.statements()[case.statement as usize - 1];
+    let (case, statement) = case_of(policy, cases, number);
     judged(alloc, net, number, case, statement, &given.graph)?;
     Ok(given)
 }

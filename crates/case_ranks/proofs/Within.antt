@@ -57,7 +57,7 @@ module _ (net : PlainNet) (policy : PlainPolicy) where
       → (g : PlainGraph) × IsBuiltAt net policy number room g × (given.used ≡ length g.steps)
   built_at number room given s c is each =
       let made = each s c is in
-      (made.0, of_case net policy number s c (λ t d. IsBuiltWithin net room t d made.0) is.case is.statement made.1.within, made.2)
+      (made.0, of_case is (λ t d. IsBuiltWithin net room t d made.0) made.1.within, made.2)
 
   one_more : (k room number left : ℕ) (before : List PlainGraph) (g : PlainGraph) → number ≡ k + length before → left ≡ room - steps_of before
       → AreWithinFrom net policy k room before → IsBuiltAt net policy number left g → AreWithinFrom net policy k room (before ++ g ∷ [])

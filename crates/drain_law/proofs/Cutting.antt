@@ -9,10 +9,10 @@ use Rattle.net_base.specs.Network.{PlainNet, joins, linked}
 use Rattle.net_base.proofs.Links.{joins_ends, joins_straight, joins_turned}
 use Rattle.policy_base.specs.Meaning.{some_step}
 use Rattle.outcome_base.specs.Outcomes.{Failures, is_dead, is_dead_link, is_live, passes_live}
-use Rattle.impact_law.specs.Cuts.{with_cut}
+use Rattle.impact_law.specs.Cuts.{is_cut, with_cut}
 use Rattle.impact_law.specs.declared.impact.Cut.{Cut}
 use Rattle.impact_law.specs.declared.impact.Cut.TheVariants.{Link, Router}
-use Rattle.drain_law.specs.Uses.{goes_over, is_cut}
+use Rattle.drain_law.specs.Uses.{goes_over}
 
 -- the cut is between two locations: their link, or one of them
 abbrev pub cuts_off : Cut → ℕ → ℕ → Bool

@@ -11,19 +11,18 @@ use Rattle.policy_base.specs.Policies.{PlainPolicy, IsPolicyOf}
 use Rattle.config_base.specs.Configs.{PlainConfig}
 use Rattle.evidence_base.specs.Made.{PlainCaseEvidence}
 use Rattle.evidence_law.specs.Passes.{Passes}
-use Rattle.evidence_law.proofs.Hops.{begins}
+use Rattle.evidence_law.proofs.Hops.{begins, offer_parts}
 use Rattle.outcome_base.specs.Outcomes.{Failures, Outcome, is_live, offered, sent}
 use Rattle.settled_law.specs.Settled.{IsFullyStable}
-use Rattle.impact_law.specs.Cuts.{live_cuts, with_cut}
+use Rattle.impact_law.specs.Cuts.{is_cut, live_cuts, with_cut}
 use Rattle.impact_law.specs.declared.impact.Cut.{Cut}
 use Rattle.drain_law.specs.declared.drain.Drain.{Drain}
 use Rattle.drain_law.specs.Free.{IsFree}
 use Rattle.drain_law.specs.Laws.{FreeIsUnused, DrainsAreOne}
-use Rattle.drain_law.specs.Uses.{IsOffRoutes, IsUnused, goes_over, is_cut}
+use Rattle.drain_law.specs.Uses.{IsOffRoutes, IsUnused, goes_over}
 use Rattle.drain_law.proofs.Cutting.{cuts_flip, cuts_off, live_from, live_parts, more_off, spares_ends, step_off}
 use Rattle.drain_law.proofs.Keeping.{after as left, after-size, others_hold, same_sent, still_settled}
 use Rattle.drain_law.proofs.Moving.{cuts_on_a_route_move_it}
-use Rattle.drain_law.proofs.Offers.{offer_parts}
 
 -- ---- offers
 

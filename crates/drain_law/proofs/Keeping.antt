@@ -14,10 +14,10 @@ use Rattle.outcome_base.specs.Outcomes.{Failures, Outcome, is_dead, is_live, giv
 use Rattle.evidence_law.proofs.Existence.{held, held_none, outcome-size, outcome_of, unheld}
 use Rattle.evidence_law.proofs.Hops.{comes_begins, given_parts}
 use Rattle.settled_law.specs.Settled.{IsFullyStable}
-use Rattle.impact_law.specs.Cuts.{with_cut}
+use Rattle.impact_law.specs.Cuts.{is_cut, with_cut}
 use Rattle.impact_law.specs.declared.impact.Cut.{Cut}
 use Rattle.impact_law.specs.declared.impact.Cut.TheVariants.{Link, Router}
-use Rattle.drain_law.specs.Uses.{IsOffRoutes, goes_over, is_cut}
+use Rattle.drain_law.specs.Uses.{IsOffRoutes, goes_over}
 use Rattle.drain_law.proofs.Cutting.{cuts_flip, cuts_off, dead_with, live_from, live_parts, spares_ends, step_off}
 
 -- ---- what is sent and given

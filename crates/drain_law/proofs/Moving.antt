@@ -17,10 +17,10 @@ use Rattle.outcome_base.specs.Outcomes.{Failures, Outcome, ends_heard, given, is
 use Rattle.settled_law.specs.Settled.{IsFullyStable}
 use Rattle.settled_law.proofs.Greatest.{numbers_are_greatest}
 use Rattle.settled_law.proofs.SettledLaw.{case_or_bare, settled_outcomes_are_one}
-use Rattle.impact_law.specs.Cuts.{with_cut}
+use Rattle.impact_law.specs.Cuts.{is_cut, with_cut}
 use Rattle.impact_law.specs.declared.impact.Cut.{Cut}
 use Rattle.drain_law.specs.Laws.{CutsOffRoutesMoveNothing, CutsOnARouteMoveIt}
-use Rattle.drain_law.specs.Uses.{IsOffRoutes, goes_over, is_cut}
+use Rattle.drain_law.specs.Uses.{IsOffRoutes, goes_over}
 use Rattle.drain_law.proofs.Cutting.{alone_off, surviving_off}
 use Rattle.drain_law.proofs.Keeping.{after as left, after-size, others_hold, still_settled}
 

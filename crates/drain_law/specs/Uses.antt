@@ -8,13 +8,9 @@ use Rattle.policy_base.specs.Policies.{PlainPolicy}
 use Rattle.config_base.specs.declared.route.Route.{Route}
 use Rattle.config_base.specs.Configs.{PlainConfig}
 use Rattle.outcome_base.specs.Outcomes.{Failures, Outcome, offered, route_at}
+use Rattle.impact_law.specs.Cuts.{is_cut}
 use Rattle.impact_law.specs.declared.impact.Cut.{Cut}
 use Rattle.impact_law.specs.declared.impact.Cut.TheVariants.{Link, Router}
-
--- this router is cut
-abbrev pub is_cut : Cut → ℕ → Bool
-is_cut (Link a b) r = false
-is_cut (Router x) r = x == r
 
 -- a router that isn't cut
 abbrev pub is_other : PlainNet → Cut → ℕ → Bool

@@ -1,14 +1,16 @@
 -- The first rule that fails in a case.
-use Rattle.std.proofs.Common.{◌≡◌, ◌↔◌, ℕ, ◌+◌, ◌<◌, ◌≤◌, Bool, not, List, length, Option, Some, None, sym, ap, subst, ◌∙◌, arith, inl, inr}
+use Rattle.std.proofs.Common.{◌≡◌, ◌↔◌, ℕ, ◌+◌, ◌<◌, ◌≤◌, Bool, true, not, List, length, Option, Some, None, sym, ap, subst, ◌∙◌, arith, inl, inr}
 use Rattle.std.specs.Prelude.{IsSome, IsTrue, option_map}
 use Rattle.std.proofs.lemmas.Bool.{and_parts, both_ways, cases_Bool, cases_lt, not-true}
 use Rattle.std.proofs.lemmas.Option.{same_Some}
+use Rattle.net_base.specs.declared.loc.LocSet.{LocSet}
 use Rattle.net_base.specs.Network.{PlainNet, IsNet, is_peer}
 use Rattle.net_base.specs.Sets.{holds}
 use Rattle.net_base.proofs.Links.{linked_known}
 use Rattle.net_base.proofs.RoutersAndPeers.{router_or_peer}
 use Rattle.policy_base.specs.Policies.{PlainPolicy, PlainStatement, statement_at}
 use Rattle.graph_base.specs.Graphs.{IsGraph, PlainGraph}
+use Rattle.graph_base.specs.Ranked.{IsRankedRouter}
 use Rattle.graph_base.specs.Rules.{IsWellFormed, KeepsListener, KeepsLoop, KeepsRank, KeepsStep}
 use Rattle.graph_base.specs.Runs.{has_step, is_listener, place_of, rank_at}
 use Rattle.graph_base.proofs.WellFormed.{heard_at_peers, linked_parts}
@@ -23,7 +25,7 @@ use Rattle.evidence_rules.specs.Rules.{AtCase, KeepsAt, rule_number}
 use Rattle.evidence_rules.proofs.OneVerdict.{rule_of, rule_of-number}
 use Rattle.evidence_check.specs.declared.case_rules.Fault.{Fault}
 use Rattle.evidence_check.specs.CaseFaults.{IsFaultFrom, IsFirstFault, KeepsIn}
-use Rattle.evidence_check.specs.CaseRules.{IsOfCase, LeadsToRouters}
+use Rattle.evidence_check.specs.CaseRules.{AreClaimedWhereRanked, IsOfCase, LeadsToRouters}
 
 pub same_rule : (r q : CheckRule) → rule_number r ≡ rule_number q → r ≡ q
 same_rule r q e = sym (rule_of-number r) ∙ ap rule_of e ∙ rule_of-number q
@@ -103,11 +105,17 @@ module _ (net : PlainNet) (policy : PlainPolicy) (cs : List PlainCaseEvidence) (
     mixed_first = by_nodes Mixed (λ n. IsClaimed net s c.case (place_of c.graph n) → IsSome (rank_at c.graph n)) (length c.graph.nodes)
         (λ m n h. at_case (λ t d. m < length d.graph.nodes → IsClaimed net t d.case (place_of d.graph m) → IsSome (rank_at d.graph m)) h) (λ m n keeps. keeps c s of.at of.statement)
 
-    pub rank_first : (claimed : ℕ → Bool) → ((l : ℕ) → IsTrue (claimed l) ↔ IsClaimed net s c.case l) → (o : Option (ℕ × ℕ))
-        → IsFirstPairOrNone (KeepsRank net (λ l. IsTrue (claimed l)) c.graph (number_at c)) o → IsFirstPairOrNone (KeepsAt PrefRank net policy cs k) o
-    rank_first claimed same = by_pairs PrefRank (KeepsRank net (λ l. IsTrue (claimed l)) c.graph (number_at c))
-        (λ m n h. at_case (λ t d. KeepsRank net (IsClaimed net t d.case) d.graph (number_at d) m n) (λ i over there rank. h i over ((same (place_of c.graph n)).1 there) rank))
-        (λ m n keeps. λ i over there rank. keeps c s of.at of.statement i over ((same (place_of c.graph n)).0 there) rank)
+    pub rank_first : AreClaimedWhereRanked net s c → (ranked : LocSet) → ((l : ℕ) → IsTrue (holds ranked l) ↔ IsRankedRouter net c.graph l) → (o : Option (ℕ × ℕ))
+        → IsFirstPairOrNone (KeepsRank net (λ l. IsTrue (holds ranked l)) c.graph (number_at c)) o → IsFirstPairOrNone (KeepsAt PrefRank net policy cs k) o
+    rank_first claims ranked are = by_pairs PrefRank (KeepsRank net (λ l. IsTrue (holds ranked l)) c.graph (number_at c))
+        (λ m n h. at_case (λ t d. KeepsRank net (IsClaimed net t d.case) d.graph (number_at d) m n) (λ i over there rank. h i over (from (place_of c.graph n) there) rank))
+        (λ m n keeps. λ i over there rank. keeps c s of.at of.statement i over (to (place_of c.graph n) there) rank)
+      where
+        to : (l : ℕ) → holds ranked l ≡ true → IsClaimed net s c.case l
+        to l h = (claims l).0 ((are l).0 h)
+
+        from : (l : ℕ) → IsClaimed net s c.case l → holds ranked l ≡ true
+        from l claimed = (are l).1 ((claims l).1 claimed)
 
     pub step_first : (o : Option (ℕ × ℕ)) → IsFirstPairOrNone (KeepsStep net c.graph (number_at c)) o → IsFirstPairOrNone (KeepsAt PrefStep net policy cs k) o
     step_first = by_pairs PrefStep (KeepsStep net c.graph (number_at c)) (λ m n h. at_case (λ t d. KeepsStep net d.graph (number_at d) m n) h) (λ m n keeps. keeps c s of.at of.statement)

@@ -5,4 +5,3 @@ pub mod Fold
 pub mod Limits
 pub mod Live
 pub mod SeenTags
-pub mod Texts

@@ -1,8 +1,9 @@
 //! The rules that are judged of one case.
-ghost use Rattle.std.specs.Prelude.{◌≡◌, ℕ, IfNone, IfOk, IfSome, IsSome, IsTrue, List, length};
+ghost use Rattle.std.specs.Prelude.{◌≡◌, ◌↔◌, ℕ, IfNone, IfOk, IfSome, IsSome, IsTrue, List, length};
 ghost use Rattle.net_base.specs.Network.{PlainNet};
 ghost use Rattle.net_base.specs.Sets.{holds};
 ghost use Rattle.policy_base.specs.Policies.{PlainPolicy, PlainStatement};
+ghost use Rattle.graph_base.specs.Ranked.{IsRankedRouter};
 ghost use Rattle.graph_base.specs.Rules.{KeepsListener, KeepsLoop, KeepsRank, KeepsStep};
 ghost use Rattle.graph_base.specs.Runs.{place_of, rank_at};
 ghost use Rattle.evidence_base.specs.Made.{PlainCaseEvidence, number_at};
@@ -54,6 +55,13 @@ impl Fault {
             second: pair.1,
         }
     }
+}
+
+/// The routers at which a node of a case has a rank.
+fn ranked_in(net: &Net, case: &CaseEvidence) -> LocSet
+    ensures { (l : ℕ) → IsTrue (holds result l) ↔ IsRankedRouter net.now case.now.graph l }
+{
+    ranked_routers(net, case.graph())
 }
 
 // The four rules of numbers are asked for alike; each names its own rule, and hands on what that rule speaks of.
@@ -172,7 +180,7 @@ fn number_rules(alloc: Global, net: &Net, case: &CaseEvidence) -> Result<Option<
     ensures { (policy : PlainPolicy) (cs : List PlainCaseEvidence) (k : ℕ) (s : PlainStatement) → IsOfCase policy cs k s case.now
         → AreClaimedWhereRanked net.now s case.now → IfOk result (IsFaultFrom 5 net.now policy cs k) }
 {
-    let claimed = ranked_routers(net, case.graph());
+    let claimed = ranked_in(net, case);
     if let Some(pair) = first_by_rank(alloc, net, case, &claimed)? {
         return Ok(Some(Fault::at_pair(CheckRule::PrefRank, pair)));
     }

@@ -7,7 +7,7 @@ ghost use Rattle.evidence_rules.specs.declared.rule.CheckRule.TheVariants.{Confi
 ghost use Rattle.evidence_rules.specs.declared.verdict.Verdict.TheVariants.{Holds};
 ghost use Rattle.evidence_rules.specs.Verdicts.{IsVerdict, KeepsBefore};
 
-use crate::difference::{block_of, first_difference};
+use crate::difference::block_of;
 use config_made::config_of;
 use config_text::print_config;
 use evidence_base::CaseEvidence;
@@ -16,6 +16,7 @@ use net_base::{Net, known_net};
 use outside::NoMemory;
 use policy_base::{Policy, known_policy};
 use std::alloc::Global;
+use text_difference::first_difference;
 
 // Whether two texts are the same.
 fn is_same_text(one: &[u8], other: &[u8]) -> bool

@@ -1,25 +1,9 @@
-//! Where two configurations differ.
+//! The block of a configuration in which a line stands.
 ghost use Rattle.std.specs.Prelude.{◌≡◌, ◌+◌, ◌-◌, ◌^◌, ◌<◌, length, nat_lt, Some, None, if◌then◌else◌};
-ghost use Rattle.evidence_rules.specs.Verdicts.{all_session_lines, block_after, block_of as block_with, first_difference as first_apart, router_lines, session_lines};
+ghost use Rattle.evidence_rules.specs.Verdicts.{all_session_lines, block_after, block_of as block_with, router_lines, session_lines};
 ghost use Rattle.evidence_check.specs.Difference.{lines_behind};
 
 use config_base::{Config, RouterConfig, Session};
-
-/// The first line, from 1, at which two texts differ; the one behind the shorter text where that is a front of the other.
-pub fn first_difference(one: &[u8], other: &[u8]) -> u64
-    ensures { result ≡ first_apart one.now other.now 1 }
-{
-    let mut line = 1;
-    for place in 0..one.len().min(other.len()) {
-        if one[place] != other[place] {
-            return line;
-        }
-        if one[place] == b'\n' {
-            line += 1;
-        }
-    }
-    line
-}
 
 /// How many of so many lines are left behind the block of a neighbour, or None where it has more lines.
 fn behind_session(lines: u64, session: &Session) -> Option<u64>

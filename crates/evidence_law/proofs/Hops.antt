@@ -1,6 +1,6 @@
 -- What a router holds in a stable outcome comes from a neighbour over a live link, which holds the rest of the path.
 use Rattle.std.proofs.Common.{◌≡◌, ℕ, true, false, List, [], ◌∷◌, Some, None, refl, sym, ap, ◌∙◌, inl, inr, subst}
-use Rattle.std.specs.Prelude.{◌&&◌, ◌==◌, ◌⊎◌, not, option_and_then}
+use Rattle.std.specs.Prelude.{◌&&◌, ◌==◌, ◌⊎◌, not, option_and_then, if◌then◌else◌}
 use Rattle.std.specs.List.{list_any}
 use Rattle.std.proofs.lemmas.Bool.{and_from, and_parts, cases_Bool, not-true, not_from_false, eqb-true, false_from_ne_true, or_from, true≢false}
 use Rattle.net_base.specs.declared.numbers.Tag.{Tag}
@@ -14,7 +14,7 @@ use Rattle.policy_base.specs.Governing.{is_origin}
 use Rattle.config_base.specs.declared.route.Route.{Route}
 use Rattle.config_base.specs.Configs.{PlainConfig}
 use Rattle.config_base.specs.Lines.{as_path, class_of, export_of, import_of, is_looped, line_by, block_at, own_route}
-use Rattle.outcome_base.specs.Outcomes.{Failures, Outcome, is_dead, is_dead_link, is_live, is_silent, route_at, sent, given, IsStable}
+use Rattle.outcome_base.specs.Outcomes.{Failures, Outcome, is_dead, is_dead_link, is_live, is_silent, offered, route_at, sent, given, IsStable}
 use Rattle.outcome_base.specs.Right.{IsPassedOn}
 use Rattle.list_laws.proofs.Options.{cases_Option, none_or_some, unless_parts}
 use Rattle.evidence_law.proofs.Heard.{no_gift, given-refused, given-taken, given-unsent, sent-permitted, sent-refused, sent-unrouted}
@@ -64,6 +64,55 @@ module _ (net : PlainNet) (policy : PlainPolicy) (config : PlainConfig) (f : Fai
         | inr t ↦ inr (live_router z r live off, (g.0, g.1, same_sent (g.0.path, t.0) s (sym (sent-permitted net policy config f p outcome class rules of_class z r g.0 t.0 off g.1 t.1) ∙ h)))
       ]
     ]
+  ]
+
+  -- a router sends the path of its route
+  sent_path : (z r : ℕ) (s : List ℕ × Tag) → is_router net z ≡ true → is_live net f z r ≡ true → sent net policy config f p outcome z r ≡ Some s → Holds z s.0
+  sent_path z r s router live h = elim (cases_Option (class_of config p)) [
+    | inl free ↦
+        let none : sent net policy config f p outcome z r ≡ None = rw (free, router_no_peer net z router) refl in
+        absurd (none_or_some (sent net policy config f p outcome z r) s none h)
+    | inr class ↦ elim (sent_comes class.0 class.1 z r s live h) [
+      | inl peer ↦ absurd (true≢false (sym peer.0 ∙ router_no_peer net z router))
+      | inr from ↦ from.1
+    ]
+  ]
+
+  -- what a peer is offered: over a live link, the path of the router's route, and not where the peer stands on it
+  pub record IsOffer (r peer : ℕ) (path : List ℕ) : Type 0 where
+    pub live : is_live net f r peer ≡ true
+    pub router : is_router net r ≡ true
+    pub peer_there : is_peer net peer ≡ true
+    pub route : Route
+    pub held : route_at outcome r ≡ Some route
+    pub off : list_any (λ l. l == peer) route.path ≡ false
+    pub is : path ≡ peer ∷ route.path
+
+  same_offer : (path rest : List ℕ) (peer : ℕ) → Some (peer ∷ rest) ≡ Some path → path ≡ peer ∷ rest
+  same_offer path rest peer h = cc
+
+  pub offer_parts : (r peer : ℕ) (path : List ℕ) → offered net policy config f p outcome r peer ≡ Some path → IsOffer r peer path
+  offer_parts r peer path h = elim (cases_Bool (is_live net f r peer && is_router net r && is_peer net peer)) [
+    | inr t ↦ (let none : offered net policy config f p outcome r peer ≡ None = rw t refl in absurd (none_or_some (offered net policy config f p outcome r peer) path none h))
+    | inl t ↦
+        let ends = and_parts (is_live net f r peer && is_router net r) (is_peer net peer) t in
+        let who = and_parts (is_live net f r peer) (is_router net r) ends.0 in
+        elim (cases_Option (sent net policy config f p outcome r peer)) [
+          | inl none ↦ (let no : offered net policy config f p outcome r peer ≡ None = rw (none, t) refl in absurd (none_or_some (offered net policy config f p outcome r peer) path no h))
+          | inr s ↦
+              let made : offered net policy config f p outcome r peer ≡ (if list_any (λ l. l == peer) s.0.0 then None else Some (peer ∷ s.0.0)) = rw (s.1, t) refl in
+              let parts = unless_parts (list_any (λ l. l == peer) s.0.0) (Some (peer ∷ s.0.0)) path (sym made ∙ h) in
+              let from = sent_path r peer s.0 who.1 who.0 s.1 in
+              record {
+                live = who.0;
+                router = who.1;
+                peer_there = ends.1;
+                route = from.0;
+                held = from.1;
+                off = ap (list_any (λ l. l == peer)) from.2 ∙ parts.0;
+                is = same_offer path s.0.0 peer parts.1 ∙ ap (λ (q : List ℕ). peer ∷ q) (sym from.2);
+              }
+        ]
   ]
 
   -- what is given: over a live link, and not where the taker stands on the path

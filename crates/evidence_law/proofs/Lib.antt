@@ -20,7 +20,9 @@ pub mod CaseLists
 pub mod ClassFound
 pub mod ExternalFound
 pub mod CaseOfClass
+pub mod MadeCases
 pub mod RightLaw
 pub mod Existence
 pub mod ExistenceLaw
 pub mod PermittedWalks
+pub mod Listeners

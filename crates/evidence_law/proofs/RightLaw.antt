@@ -1,23 +1,20 @@
 -- Evidence that passes makes the configuration right.
-use Rattle.std.proofs.Common.{◌≡◌, ℕ, suc, true, false, List, ◌∷◌, length, Option, Some, None, refl, arith, sym, ap, ◌∙◌, inl, inr, subst, map}
+use Rattle.std.proofs.Common.{◌≡◌, ℕ, true, false, List, ◌∷◌, length, Option, Some, None, refl, arith, sym, ap, ◌∙◌, inl, inr}
 use Rattle.std.specs.Prelude.{◌&&◌, ◌⊎◌, not, slice_get}
 use Rattle.std.specs.Option.{option_and_then}
 use Rattle.std.proofs.lemmas.Bool.{and_parts, and_from, cases_Bool, true≢false, not_from_false, lt-ltb}
-use Rattle.std.proofs.lemmas.Option.{slice_get-map, slice_get_within}
-use Rattle.list_laws.proofs.Options.{cases_Option, option_map_parts, none_or_some}
-use Rattle.list_laws.proofs.Changed.{map-map}
+use Rattle.std.proofs.lemmas.Option.{slice_get_within}
+use Rattle.list_laws.proofs.Options.{cases_Option, none_or_some}
 use Rattle.net_base.specs.Network.{PlainNet, IsNet, is_peer, is_router}
 use Rattle.net_base.specs.Prefixes.{PlainPrefix, IsPrefix}
-use Rattle.policy_base.specs.declared.case.Case.{Case}
 use Rattle.policy_base.specs.Policies.{PlainPolicy, PlainStatement, statement_at, IsPolicyOf}
 use Rattle.policy_base.specs.Meaning.{at_last}
 use Rattle.policy_base.specs.Governing.{statement_of, is_origin}
 use Rattle.policy_base.specs.Permitted.{is_permitted}
-use Rattle.policy_base.specs.Cases.{case_list}
 use Rattle.config_base.specs.declared.route.Route.{Route}
 use Rattle.config_base.specs.Configs.{PlainConfig}
-use Rattle.config_base.specs.Lines.{class_of, class_from}
-use Rattle.evidence_base.specs.Made.{PlainCaseEvidence, patterns_of, number_at}
+use Rattle.config_base.specs.Lines.{class_of}
+use Rattle.evidence_base.specs.Made.{PlainCaseEvidence, number_at}
 use Rattle.outcome_base.specs.Outcomes.{Failures, Outcome, is_dead, is_live, route_at, sent, given, offered, IsStable}
 use Rattle.outcome_base.specs.Right.{IsRight, IsRightBy, IsBare, IsRightOutcome}
 use Rattle.evidence_law.specs.Passes.{IsMadeOf, IsClaimed}
@@ -25,9 +22,8 @@ use Rattle.policy_base.proofs.WalkParts.{at_last-never}
 use Rattle.evidence_law.specs.Laws.{IsSoundBy, IsSoundOutcome, IsSound, UsedPathsAreAllowed, PassingEvidenceIsRight}
 use Rattle.graph_base.specs.Rules.{MeetsRules}
 use Rattle.net_base.proofs.RoutersAndPeers.{router_no_peer}
-use Rattle.evidence_law.proofs.ClassFound.{class_in}
-use Rattle.evidence_law.proofs.CaseOfClass.{IsCaseOf, governed_case, ungoverned_class}
 use Rattle.evidence_law.proofs.Heard.{no_gift}
+use Rattle.evidence_law.proofs.MadeCases.{HasCase, case_or_nobody, has_no_class}
 use Rattle.evidence_law.proofs.SoundCase.{IsCaseAt, sound_case}
 use Rattle.evidence_law.proofs.RightCase.{right_case}
 use Rattle.evidence_law.proofs.PermittedWalks.{permits_parts}
@@ -98,37 +94,27 @@ module _ (net : PlainNet) (policy : PlainPolicy) (config : PlainConfig) (f : Fai
             true≢false (sym last ∙ at_last-never (is_origin net policy p) path none)
 
 module _ (net : PlainNet) (policy : PlainPolicy) (config : PlainConfig) (cs : List PlainCaseEvidence) (rules : IsNet net) (kept : IsPolicyOf net policy) (made : IsMadeOf net policy config cs) where
-  -- the class of a prefix, by the cases of the policy
-  pub class_is : (p : PlainPrefix) → class_of config p ≡ class_in policy p (case_list net policy) 1
-  unfolding class_in
-  class_is p =
-      ap (λ ps. class_from ps p 1) (made.lines.classes ∙ sym (map-map (patterns_of policy) (λ (c : PlainCaseEvidence). c.case) cs) ∙ ap (map (patterns_of policy)) made.cases)
-
-  case_at_class : (p : PlainPrefix) (f : Failures) (outcome : Outcome) (s : PlainStatement) → IsStable net policy config f p outcome → (k : ℕ) (d : PlainCaseEvidence) → slice_get cs k ≡ Some d
-      → class_of config p ≡ Some (suc k) → IsCaseOf net policy p s k d.case → IsCaseAt net policy config f p outcome s cs k d
-  case_at_class p f outcome s stable k d at of_class of_case = record {
+  case_at_class : (p : PlainPrefix) (f : Failures) (outcome : Outcome) (s : PlainStatement) → IsStable net policy config f p outcome
+      → (c : HasCase net policy config cs p s) → IsCaseAt net policy config f p outcome s cs c.k c.d
+  case_at_class p f outcome s stable c = record {
     rules = rules;
     made = made.lines;
     tags = made.tags;
-    of_case = at;
-    of_class = of_class;
-    on = made.graphs k d s at of_case.number;
-    same = of_case.same;
-    known = of_case.known;
-    announced = of_case.announced;
+    of_case = c.at;
+    of_class = c.of_class;
+    on = made.graphs c.k c.d s c.at c.is.number;
+    same = c.is.same;
+    known = c.is.known;
+    announced = c.is.announced;
     stable = stable;
   }
 
   -- a prefix that a statement governs has its case, or nobody is an origin
   placed : (p : PlainPrefix) (f : Failures) (outcome : Outcome) (s : PlainStatement) → IsPrefix p → IsStable net policy config f p outcome → statement_of policy p ≡ Some s
       → ((k : ℕ) × (d : PlainCaseEvidence) × (slice_get cs k ≡ Some d) × (statement_at policy d.case.statement ≡ Some s) × IsCaseAt net policy config f p outcome s cs k d) ⊎ IsRightBy net policy config f p s outcome
-  placed p f outcome s prefix stable is = elim (governed_case net policy p rules kept prefix s is) [
-    | inr nobody ↦ inr (empty net policy config f p outcome (class_is p ∙ nobody.1) stable s nobody.0)
-    | inl found ↦
-        let there = slice_get-map (λ (c : PlainCaseEvidence). c.case) cs found.0 in
-        let d = option_map_parts (λ (c : PlainCaseEvidence). c.case) (slice_get cs found.0) found.1 (sym there ∙ ap (λ (xs : List Case). slice_get xs found.0) made.cases ∙ found.3.at) in
-        let of_case = subst (λ (c : Case). IsCaseOf net policy p s found.0 c) (sym d.2) found.3 in
-        inl (found.0, d.0, d.1, of_case.number, case_at_class p f outcome s stable found.0 d.0 d.1 (class_is p ∙ found.2) of_case)
+  placed p f outcome s prefix stable is = elim (case_or_nobody net policy config cs rules kept made p prefix s is) [
+    | inr nobody ↦ inr (empty net policy config f p outcome nobody.1 stable s nobody.0)
+    | inl c ↦ inl (c.k, c.d, c.at, c.is.number, case_at_class p f outcome s stable c)
   ]
 
   sound : (p : PlainPrefix) (f : Failures) (outcome : Outcome) (s : PlainStatement) → IsPrefix p → IsStable net policy config f p outcome → statement_of policy p ≡ Some s → IsSoundBy net policy config f p s outcome
@@ -141,7 +127,7 @@ module _ (net : PlainNet) (policy : PlainPolicy) (config : PlainConfig) (cs : Li
   is_sound p f outcome prefix size stable = go (statement_of policy p) refl
     where
       go : (o : Option PlainStatement) → statement_of policy p ≡ o → IsSoundOutcome net policy config f p outcome
-      go None is = rw is (bare net policy config f p outcome (class_is p ∙ ungoverned_class net policy p rules kept prefix is) stable size)
+      go None is = rw is (bare net policy config f p outcome (has_no_class net policy config cs rules kept made p prefix is) stable size)
       go (Some s) is = rw is (sound p f outcome s prefix stable is)
 
   Rules : Type 0
@@ -159,7 +145,7 @@ module _ (net : PlainNet) (policy : PlainPolicy) (config : PlainConfig) (cs : Li
   is_right numbers p f outcome prefix size stable = go (statement_of policy p) refl
     where
       go : (o : Option PlainStatement) → statement_of policy p ≡ o → IsRightOutcome net policy config f p outcome
-      go None is = rw is (bare net policy config f p outcome (class_is p ∙ ungoverned_class net policy p rules kept prefix is) stable size)
+      go None is = rw is (bare net policy config f p outcome (has_no_class net policy config cs rules kept made p prefix is) stable size)
       go (Some s) is = rw is (right numbers p f outcome s prefix stable is)
 
 pub used_paths_are_allowed : UsedPathsAreAllowed

@@ -16,7 +16,8 @@ use Rattle.evidence_rules.specs.Rules.{rule_number, KeepsAt}
 use Rattle.evidence_rules.specs.declared.verdict.Shown.{Shown}
 use Rattle.evidence_rules.specs.declared.verdict.Verdict.{Verdict}
 use Rattle.evidence_rules.specs.declared.verdict.Verdict.TheVariants.{Holds, Fails}
-use Rattle.evidence_rules.specs.Verdicts.{at_place, IsFault, first_difference, block_of, IsConfigFault, IsVerdict}
+use Rattle.text_difference.specs.Difference.{first_difference}
+use Rattle.evidence_rules.specs.Verdicts.{at_place, IsFault, block_of, IsConfigFault, IsVerdict}
 use Rattle.evidence_rules.proofs.TenRules.{passing}
 
 abbrev pub rule_of : ℕ → CheckRule
@@ -135,7 +136,7 @@ module _ (net : PlainNet) (policy : PlainPolicy) (config : PlainConfig) (cs : Li
   same_config_fault : (x y : Shown) → IsConfigFault net policy config cs x → IsConfigFault net policy config cs y → x ≡ y
   same_config_fault x y f g =
       let made : f.made ≡ g.made = one_configuration net policy cs f.made g.made f.lines g.lines in
-      let line : x.line ≡ y.line = f.line ∙ ap (λ c. first_difference (config_text c) (config_text config) 1) made ∙ sym g.line in
+      let line : x.line ≡ y.line = f.line ∙ ap (λ c. first_difference (config_text c) (config_text config)) made ∙ sym g.line in
       shown_from x y (f.no_case ∙ sym g.no_case) (f.router ∙ ap₂ block_of made line ∙ sym g.router) (f.no_second ∙ sym g.no_second) line
 
   same_known : (r q : CheckRule) (x y : Shown) → Known r x → Known q y → Fails r x ≡ Fails q y

@@ -1,11 +1,12 @@
 -- What is answered about evidence: it holds, or the first rule that fails, and where.
-use Rattle.std.specs.Prelude.{◌≡◌, ◌≢◌, ℕ, suc, ◌+◌, ◌-◌, ◌<◌, ◌==◌, nat_lt, List, [], ◌∷◌, length, if◌then◌else◌}
+use Rattle.std.specs.Prelude.{◌≡◌, ◌≢◌, ℕ, suc, ◌+◌, ◌-◌, ◌<◌, nat_lt, List, [], ◌∷◌, length, if◌then◌else◌}
 use Rattle.net_base.specs.Network.{PlainNet}
 use Rattle.policy_base.specs.Policies.{PlainPolicy}
 use Rattle.config_base.specs.declared.config.RouterConfig.{RouterConfig}
 use Rattle.config_base.specs.declared.config.Session.{Session}
 use Rattle.config_base.specs.Configs.{PlainConfig, Key, IsBelow}
 use Rattle.config_text.specs.ConfigText.{config_text}
+use Rattle.text_difference.specs.Difference.{first_difference}
 use Rattle.evidence_base.specs.Made.{PlainCaseEvidence, IsConfigOf}
 use Rattle.evidence_law.specs.Passes.{Passes}
 use Rattle.evidence_rules.specs.declared.rule.CheckRule.{CheckRule}
@@ -36,12 +37,6 @@ pub record IsFault (net : PlainNet) (policy : PlainPolicy) (cs : List PlainCaseE
 
 -- ---- a configuration that differs
 
--- the number, from k, of the first line at which two texts differ; the line after the shorter one where that is a front of the other
-abbrev pub first_difference : List ℕ → List ℕ → ℕ → ℕ
-first_difference [] ys k = k
-first_difference (a ∷ xs) [] k = k
-first_difference (a ∷ xs) (b ∷ ys) k = if a == b then first_difference xs ys (if a == 10 then suc k else k) else k
-
 -- how many lines there are in a neighbour's block, and in a router's
 abbrev pub session_lines : Session → ℕ
 session_lines s = 1 + length s.imports + length s.exports
@@ -69,7 +64,7 @@ pub record IsConfigFault (net : PlainNet) (policy : PlainPolicy) (config : Plain
   pub made : PlainConfig
   pub lines : IsConfigOf net policy cs made
   pub differs : made ≢ config
-  pub line : shown.line ≡ first_difference (config_text made) (config_text config) 1
+  pub line : shown.line ≡ first_difference (config_text made) (config_text config)
   pub router : shown.first ≡ block_of made shown.line
   pub no_case : shown.case ≡ 0
   pub no_second : shown.second ≡ 0

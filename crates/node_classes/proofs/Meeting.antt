@@ -4,6 +4,7 @@ use Rattle.std.specs.Prelude.{◌==◌, is_some, min, max, option_and_then}
 use Rattle.std.specs.List.{AllByRecursion}
 use Rattle.std.proofs.lemmas.Bool.{cases_Bool, cases_lt, ne_eqb}
 use Rattle.std.proofs.lemmas.List.{length-append}
+use Rattle.list_laws.proofs.Members.{AllByRecursion-from_IsIn}
 use Rattle.node_classes.specs.declared.way.Way.{Way}
 use Rattle.node_classes.specs.Classes.{AreApart}
 use Rattle.node_classes.specs.Classes as tied
@@ -40,8 +41,8 @@ stage_same ways a b old new todo forest same stage = record {
 abbrev pub StepsTo : List Way → List Way → ℕ → ℕ → ℕ → Type 0
 StepsTo vs ws u v l = (option_map (λ (w : Way). w.to) (find (at_place l) vs) ≡ Some u) × (option_map (λ (w : Way). w.to) (find (at_place l) ws) ≡ Some v)
 
-target_steps : (vs ws : List Way) (k u v : ℕ) → AscendAt vs → AllByRecursion (λ (w : Way). k < w.at) vs → map (λ (w : Way). w.at) vs ≡ map (λ (w : Way). w.at) ws →
-    InPairs u v (targets vs ws) → (l : ℕ) × (k < l) × StepsTo vs ws u v l
+target_steps : (vs ws : List Way) (k u v : ℕ) → AscendAt vs → AllByRecursion (λ (w : Way). k ≤ w.at) vs → map (λ (w : Way). w.at) vs ≡ map (λ (w : Way). w.at) ws →
+    InPairs u v (targets vs ws) → (l : ℕ) × (k ≤ l) × StepsTo vs ws u v l
 target_steps [] ws k u v up above same h = absurd h
 target_steps (x ∷ vs) [] k u v up above same h = absurd h
 target_steps (x ∷ vs) (y ∷ ws) k u v up above same (inl e) =
@@ -50,28 +51,12 @@ target_steps (x ∷ vs) (y ∷ ws) k u v up above same (inl e) =
 target_steps (x ∷ vs) (y ∷ ws) k u v up above same (inr h) =
     let first : x.at ≡ y.at = cc in
     let rest : map (λ (w : Way). w.at) vs ≡ map (λ (w : Way). w.at) ws = cc in
-    let r = target_steps vs ws x.at u v up.1 up.0 rest h in
+    let r = target_steps vs ws (suc x.at) u v up.1 up.0 rest h in
     let l = r.0 in
     let past : x.at < l = r.1 in
     let one : (x.at == l) ≡ false = ne_eqb x.at l (λ e. absurd (omega (arith, e, past))) in
     let two : (y.at == l) ≡ false = ne_eqb y.at l (λ e. absurd (omega (arith, e, past, first))) in
     (l, omega (arith, past, above.0), (rw one r.2.0, rw two r.2.1))
-
-zero_below : (vs : List Way) → AscendAt vs → (u v : ℕ) (ws : List Way) → map (λ (w : Way). w.at) vs ≡ map (λ (w : Way). w.at) ws → InPairs u v (targets vs ws) → (l : ℕ) × StepsTo vs ws u v l
-zero_below [] up u v ws same h = absurd h
-zero_below (x ∷ vs) up u v [] same h = absurd h
-zero_below (x ∷ vs) up u v (y ∷ ws) same (inl e) =
-    let first : x.at ≡ y.at = cc in
-    (x.at, (rw (eq-eqb x.at x.at refl) (ap Some (sym e.0)), rw (eq-eqb y.at x.at (sym first)) (ap Some (sym e.1))))
-zero_below (x ∷ vs) up u v (y ∷ ws) same (inr h) =
-    let first : x.at ≡ y.at = cc in
-    let rest : map (λ (w : Way). w.at) vs ≡ map (λ (w : Way). w.at) ws = cc in
-    let r = target_steps vs ws x.at u v up.1 up.0 rest h in
-    let l = r.0 in
-    let past : x.at < l = r.1 in
-    let one : (x.at == l) ≡ false = ne_eqb x.at l (λ e. absurd (omega (arith, e, past))) in
-    let two : (y.at == l) ≡ false = ne_eqb y.at l (λ e. absurd (omega (arith, e, past, first))) in
-    (l, (rw one r.2.0, rw two r.2.1))
 
 module _ (ways vs ws : List Way) (x y : ℕ) (order : Ascend ways) (of_x : vs ≡ filter (comes_from x) ways) (of_y : ws ≡ filter (comes_from y) ways) where
   -- targets of nodes that were met were met
@@ -79,10 +64,10 @@ module _ (ways vs ws : List Way) (x y : ℕ) (order : Ascend ways) (of_x : vs �
       (u v : ℕ) → InPairs u v (targets vs ws) → (path : List ℕ) × (follow ways a path ≡ Some u) × (follow ways b path ≡ Some v)
   met_targets a b path at_x at_y same u v h =
       let up : AscendAt vs = subst AscendAt (sym of_x) (filtered_ascend x ways order) in
-      let r = zero_below vs up u v ws same h in
+      let r = target_steps vs ws 0 u v up (AllByRecursion-from_IsIn (λ (w : Way). 0 ≤ w.at) vs (λ w at. omega arith)) same h in
       let l = r.0 in
-      let one : next ways x l ≡ Some u = next-own ways x l ∙ ap (λ zs. option_map (λ (w : Way). w.to) (find (at_place l) zs)) (sym of_x) ∙ r.1.0 in
-      let two : next ways y l ≡ Some v = next-own ways y l ∙ ap (λ zs. option_map (λ (w : Way). w.to) (find (at_place l) zs)) (sym of_y) ∙ r.1.1 in
+      let one : next ways x l ≡ Some u = next-own ways x l ∙ ap (λ zs. option_map (λ (w : Way). w.to) (find (at_place l) zs)) (sym of_x) ∙ r.2.0 in
+      let two : next ways y l ≡ Some v = next-own ways y l ∙ ap (λ zs. option_map (λ (w : Way). w.to) (find (at_place l) zs)) (sym of_y) ∙ r.2.1 in
       (l ∷ path, ap (option_and_then (λ m. next ways m l)) at_x ∙ one, ap (option_and_then (λ m. next ways m l)) at_y ∙ two)
 
   -- a place that only one of them has tells the first nodes apart

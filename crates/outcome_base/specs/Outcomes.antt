@@ -17,6 +17,10 @@ pub record Failures : Type 0 where
   pub dead_links : List (ℕ × ℕ)
   pub silent : List (ℕ × ℕ)
 
+-- nothing has failed
+abbrev pub no_failures : Failures
+no_failures = record { dead = []; dead_links = []; silent = [] }
+
 -- one optional route per router
 abbrev pub Outcome : Type 0
 Outcome = List (Option Route)

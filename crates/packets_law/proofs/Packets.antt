@@ -1,11 +1,10 @@
 -- Packets follow the paths of the routes.
-use Rattle.std.proofs.Common.{◌≡◌, ℕ, ◌≤◌, zero, suc, true, false, List, [], ◌∷◌, ◌++◌, length, Some, None, refl, arith, sym, ap, ◌∙◌, inl, inr, subst}
-use Rattle.std.specs.Prelude.{◌&&◌, ◌==◌, not, option_and_then, slice_get, if◌then◌else◌}
+use Rattle.std.proofs.Common.{◌≡◌, ℕ, ◌≤◌, zero, suc, true, false, List, [], ◌∷◌, ◌++◌, length, Some, refl, arith, sym, ap, ◌∙◌, inl, inr, subst}
+use Rattle.std.specs.Prelude.{◌&&◌, ◌==◌, not, option_and_then, slice_get}
 use Rattle.std.specs.List.{list_any}
 use Rattle.std.specs.Option.{option_map_or}
 use Rattle.std.proofs.lemmas.Bool.{and_from, and_parts, cases_Bool, leb-true, not_from_false, true≢false}
 use Rattle.std.proofs.lemmas.Option.{slice_get_past}
-use Rattle.net_base.specs.declared.numbers.Tag.{Tag}
 use Rattle.net_base.specs.Network.{PlainNet, IsNet, is_location, is_peer, is_router}
 use Rattle.net_base.specs.Prefixes.{PlainPrefix}
 use Rattle.net_base.proofs.RoutersAndPeers.{peer_no_router, router_no_peer}
@@ -14,12 +13,12 @@ use Rattle.policy_base.specs.Governing.{is_origin, statement_of}
 use Rattle.policy_base.specs.Walks.{is_loop_free}
 use Rattle.config_base.specs.declared.route.Route.{Route}
 use Rattle.config_base.specs.Configs.{PlainConfig}
-use Rattle.config_base.specs.Lines.{class_of, is_looped}
-use Rattle.outcome_base.specs.Outcomes.{Failures, Outcome, is_dead, is_live, is_silent, route_at, sent, IsStable, offered}
+use Rattle.config_base.specs.Lines.{is_looped}
+use Rattle.outcome_base.specs.Outcomes.{Failures, Outcome, is_dead, is_live, is_silent, route_at, IsStable, offered}
 use Rattle.outcome_base.specs.Right.{IsRightBy, IsRightOutcome}
-use Rattle.list_laws.proofs.Options.{cases_Option, none_or_some, unless_parts}
+use Rattle.list_laws.proofs.Options.{cases_Option}
 use Rattle.packets_law.specs.Packets.{next_hop, trail, IsHop, IsCarried, Follows, PacketsFollowPaths, PacketsTakeBestPaths, PeersFollowOffers}
-use Rattle.evidence_law.proofs.Hops.{Comes, Holds, apart, begins, chosen, comes_begins, lives, live_flips, own_path, sent_comes}
+use Rattle.evidence_law.proofs.Hops.{Comes, Holds, apart, begins, chosen, comes_begins, lives, live_flips, offer_parts, own_path}
 
 same_head : (a b : ℕ) (xs ys : List ℕ) → a ∷ xs ≡ b ∷ ys → a ≡ b
 same_head a b xs ys h = cc
@@ -137,45 +136,13 @@ module _ (net : PlainNet) (policy : PlainPolicy) (config : PlainConfig) (f : Fai
       let b = begins net policy config f p outcome rules stable r h router at in
       subst (Follows net policy f p outcome r) (sym b.1) (follows r b.0 (chained b.0 r h router at b.1))
 
-  -- what a router sends to a peer is the path of its route
-  sent_path : (r peer : ℕ) (s : List ℕ × Tag) → is_router net r ≡ true → is_live net f r peer ≡ true → sent net policy config f p outcome r peer ≡ Some s → Holds net policy config f p outcome rules r s.0
-  sent_path r peer s router live h = elim (cases_Option (class_of config p)) [
-    | inl free ↦
-        let none : sent net policy config f p outcome r peer ≡ None = rw (free, router_no_peer net r router) refl in
-        absurd (none_or_some (sent net policy config f p outcome r peer) s none h)
-    | inr class ↦ elim (sent_comes net policy config f p outcome rules class.0 class.1 r peer s live h) [
-      | inl off ↦ absurd (true≢false (sym off.0 ∙ router_no_peer net r router))
-      | inr from ↦ from.1
-    ]
-  ]
-
-  same_offer : (path rest : List ℕ) (peer : ℕ) → Some (peer ∷ rest) ≡ Some path → path ≡ peer ∷ rest
-  same_offer path rest peer h = cc
-
-  abbrev FollowsOffer : ℕ → ℕ → List ℕ → Type 0
-  FollowsOffer r peer path = (rest : List ℕ) × (path ≡ peer ∷ rest) × (is_live net f r peer ≡ true) × (is_loop_free path ≡ true) × Follows net policy f p outcome r rest
-
-  sent_offer : (r peer : ℕ) (path : List ℕ) (s : List ℕ × Tag) → is_router net r ≡ true → is_live net f r peer ≡ true → sent net policy config f p outcome r peer ≡ Some s
-      → list_any (λ l. l == peer) s.0 ≡ false → path ≡ peer ∷ s.0 → FollowsOffer r peer path
-  sent_offer r peer path s router live out apart is =
-      let g = sent_path r peer s router live out in
-      let way : Follows net policy f p outcome r s.0 = subst (Follows net policy f p outcome r) g.2 (packets r g.0 router g.1) in
-      let loose : is_loop_free (peer ∷ s.0) ≡ true = and_from (not (list_any (λ k. k == peer) s.0)) (is_loop_free s.0) (not_from_false _ apart) way.free in
-      (s.0, is, live, ap is_loop_free is ∙ loose, way)
-
-  pub offers : (r peer : ℕ) (path : List ℕ) → offered net policy config f p outcome r peer ≡ Some path → FollowsOffer r peer path
-  offers r peer path h = elim (cases_Bool (is_live net f r peer && is_router net r && is_peer net peer)) [
-    | inr t ↦ (let none : offered net policy config f p outcome r peer ≡ None = rw t refl in absurd (none_or_some (offered net policy config f p outcome r peer) path none h))
-    | inl t ↦
-        let who = and_parts (is_live net f r peer) (is_router net r) (and_parts (is_live net f r peer && is_router net r) (is_peer net peer) t).0 in
-        elim (cases_Option (sent net policy config f p outcome r peer)) [
-          | inl none ↦ (let no : offered net policy config f p outcome r peer ≡ None = rw (none, t) refl in absurd (none_or_some (offered net policy config f p outcome r peer) path no h))
-          | inr s ↦
-              let made : offered net policy config f p outcome r peer ≡ (if list_any (λ l. l == peer) s.0.0 then None else Some (peer ∷ s.0.0)) = rw (s.1, t) refl in
-              let parts = unless_parts (list_any (λ l. l == peer) s.0.0) (Some (peer ∷ s.0.0)) path (sym made ∙ h) in
-              sent_offer r peer path s.0 who.1 who.0 s.1 parts.0 (same_offer path s.0.0 peer parts.1)
-        ]
-  ]
+  pub offers : (r peer : ℕ) (path : List ℕ) → offered net policy config f p outcome r peer ≡ Some path
+      → (rest : List ℕ) × (path ≡ peer ∷ rest) × (is_live net f r peer ≡ true) × (is_loop_free path ≡ true) × Follows net policy f p outcome r rest
+  offers r peer path h =
+      let x = offer_parts net policy config f p outcome rules r peer path h in
+      let way = packets r x.route x.router x.held in
+      let loose : is_loop_free (peer ∷ x.route.path) ≡ true = and_from (not (list_any (λ k. k == peer) x.route.path)) (is_loop_free x.route.path) (not_from_false _ x.off) way.free in
+      (x.route.path, x.is, x.live, ap is_loop_free x.is ∙ loose, way)
 
 pub peers_follow_offers : PeersFollowOffers
 peers_follow_offers net policy config rules p f outcome size stable r peer path h = offers net policy config f p outcome rules stable size r peer path h

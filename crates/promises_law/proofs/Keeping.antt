@@ -1,15 +1,14 @@
 -- What is promised for a case is kept for every prefix of it.
 use Rattle.std.proofs.Common.{◌≡◌, ℕ, ◌≤◌, suc, Bool, true, false, List, [], ◌∷◌, ◌++◌, length, Option, Some, None, refl, sym, ap, ◌∙◌, inl, inr, subst, arith}
-use Rattle.std.specs.Prelude.{◌&&◌, not, is_some, option_map, slice_get}
+use Rattle.std.specs.Prelude.{◌&&◌, not, is_some, option_map}
 use Rattle.std.proofs.lemmas.Bool.{and_parts, and_from, not-true, true≢false}
-use Rattle.list_laws.proofs.Options.{cases_Option, is_some_from, is_some_parts, none_or_some}
+use Rattle.std.proofs.lemmas.Option.{same_Some}
+use Rattle.list_laws.proofs.Options.{cases_Option, is_some_from, is_some_parts}
 use Rattle.net_base.specs.declared.loc.LocSet.{LocSet}
 use Rattle.net_base.specs.Network.{PlainNet, IsNet, is_peer, is_router}
 use Rattle.net_base.specs.Prefixes.{IsPrefix, PlainPrefix}
 use Rattle.net_base.specs.Sets.{holds}
-use Rattle.policy_base.specs.declared.case.Case.{Case}
 use Rattle.policy_base.specs.CaseOrigins.{AreOrigins}
-use Rattle.policy_base.specs.Cases.{case_list}
 use Rattle.policy_base.specs.Governing.{is_origin, is_origin_by, originated_at, statement_of}
 use Rattle.policy_base.specs.Meaning.{rank_of}
 use Rattle.policy_base.specs.Permitted.{from_holds, is_allowed}
@@ -18,16 +17,14 @@ use Rattle.policy_base.specs.Walks.{is_loop_free}
 use Rattle.graph_base.specs.Runs.{run}
 use Rattle.config_base.specs.declared.route.Route.{Route}
 use Rattle.config_base.specs.Configs.{PlainConfig}
-use Rattle.config_base.specs.Lines.{class_of}
 use Rattle.evidence_base.specs.Made.{PlainCaseEvidence, number_at}
-use Rattle.outcome_base.specs.Outcomes.{IsStable, Outcome, offered, route_at, survives}
+use Rattle.outcome_base.specs.Outcomes.{IsStable, Outcome, offered, route_at, survives, no_failures}
 use Rattle.outcome_base.specs.Right.{IsGood, IsRightBy, IsRightOutcome}
 use Rattle.evidence_law.specs.Faithful.{permits}
 use Rattle.evidence_law.specs.Passes.{Passes}
-use Rattle.evidence_law.proofs.CaseOfClass.{governed_case}
 use Rattle.evidence_law.proofs.CaseOrigins.{case_permits, prefix_permits}
 use Rattle.evidence_law.proofs.GraphForms.{same_run}
-use Rattle.evidence_law.proofs.RightLaw.{class_is, passing_evidence_is_right}
+use Rattle.evidence_law.proofs.RightLaw.{passing_evidence_is_right}
 use Rattle.evidence_law.proofs.Setting.{alive_of, line_of, lines_at, lines_of, network_of, pairs_of, setup_of}
 use Rattle.evidence_law.proofs.Stability.{offered_lines, stable_lines}
 use Rattle.routing_law.specs.Laws as laws
@@ -36,15 +33,14 @@ use Rattle.routing_law.proofs.Used.{used_paths_are_sound}
 use Rattle.settled_law.specs.Greatest.{AreGreatest}
 use Rattle.settled_law.specs.Settled.{IsFullyStable}
 use Rattle.settled_law.proofs.Greatest.{numbers_are_greatest}
-use Rattle.settled_law.proofs.SettledLaw.{CaseFound, case_or_bare}
+use Rattle.settled_law.proofs.SettledLaw.{CaseFound, case_of_class}
 use Rattle.impact_law.specs.BestRanks.{AreTops, IsBestRank}
 use Rattle.impact_law.specs.Impacts.{IsSource, begin_at}
-use Rattle.impact_law.specs.Support.{no_failures}
 use Rattle.impact_law.proofs.Support.{survives_all}
 use Rattle.promises_law.specs.Claims.{IsLeastRank, IsPlace, IsSourceIn}
 use Rattle.promises_law.specs.Laws.{PromisesAreKept, told_by}
 use Rattle.promises_law.specs.Promises.{AreKept, ArePromises, IsHeld, IsPromised, IsPromisedFor, Promises}
-use Rattle.promises_law.proofs.Telling.{begins_late, of_case, origins, source_place, tops_tell_promises}
+use Rattle.promises_law.proofs.Telling.{begins_late, origins, source_place, tops_tell_promises}
 
 by_statement : (net : PlainNet) (policy : PlainPolicy) (config : PlainConfig) (p : PlainPrefix) (outcome : Outcome) (s : PlainStatement) → statement_of policy p ≡ Some s
     → IsRightOutcome net policy config no_failures p outcome ≡ IsRightBy net policy config no_failures p s outcome
@@ -55,18 +51,6 @@ module _ (net : PlainNet) (policy : PlainPolicy) (config : PlainConfig) (cs : Li
     (c : CaseFound net policy config cs rules kept passes no_failures p) where
   abbrev Origin : ℕ → Bool
   Origin = holds c.d.case.origins
-
-  -- the statement that governs the prefix has the case's number
-  pub numbered : statement_at policy c.d.case.statement ≡ Some c.s
-  numbered = elim (governed_case net policy p rules kept prefix c.s c.governs) [
-    | inr nobody ↦ absurd (none_or_some (class_of config p) (suc c.k) (class_is net policy config cs rules kept passes.made p ∙ nobody.1) c.of_class)
-    | inl there ↦ (
-        let one : Some (suc c.k) ≡ Some (suc there.0) = sym c.of_class ∙ class_is net policy config cs rules kept passes.made p ∙ there.2 in
-        let same_k : c.k ≡ there.0 = cc in
-        let both : Some there.1 ≡ Some c.d.case = sym there.3.at ∙ ap (slice_get (case_list net policy)) (sym same_k) ∙ of_case net policy config cs rules kept passes c.k c.d c.at in
-        let same : there.1 ≡ c.d.case = cc in
-        subst (λ (d : Case). statement_at policy d.statement ≡ Some c.s) same there.3.number)
-  ]
 
   -- ---- the sources of the prefix are those of the case
 
@@ -140,7 +124,7 @@ module _ (net : PlainNet) (policy : PlainPolicy) (config : PlainConfig) (cs : Li
     all = told_by c.d.graph top
 
     promised : ArePromises net c.s c.d.case all
-    promised = tops_tell_promises net policy config cs rules kept passes c.k c.d c.s c.at numbered top tops
+    promised = tops_tell_promises net policy config cs rules kept passes c.k c.d c.s c.at c.number top tops
 
     -- ---- a settled outcome
 
@@ -236,19 +220,12 @@ module _ (net : PlainNet) (policy : PlainPolicy) (config : PlainConfig) (cs : Li
     }
 
 pub promises_are_kept : PromisesAreKept
-promises_are_kept net policy config cs rules kept passes k d s at number top tops p prefix of_class = elim (case_or_bare net policy config cs rules kept passes no_failures p prefix) [
-  | inr free ↦ absurd (none_or_some (class_of config p) (suc k) free of_class)
-  | inl c ↦ (
-      let one : Some (suc c.k) ≡ Some (suc k) = sym c.of_class ∙ of_class in
-      let same_k : c.k ≡ k = cc in
-      let found : Some c.d ≡ Some d = sym c.at ∙ ap (slice_get cs) same_k ∙ at in
-      let same_d : c.d ≡ d = cc in
-      let by : Some c.s ≡ Some s = sym (numbered net policy config cs rules kept passes p prefix c) ∙ ap (λ (e : PlainCaseEvidence). statement_at policy e.case.statement) same_d ∙ number in
-      let same_s : c.s ≡ s = cc in
-      let tops_there = subst (λ (e : PlainCaseEvidence). AreTops net no_failures e top) (sym same_d) tops in
-      let told = are_kept net policy config cs rules kept passes p prefix c top tops_there in (
-        c.governs ∙ ap Some same_s,
-        subst (λ (t : PlainStatement). AreKept net policy config p t d.case (told_by d.graph top)) same_s
-            (subst (λ (e : PlainCaseEvidence). AreKept net policy config p c.s e.case (told_by e.graph top)) same_d told),
-      ))
-]
+promises_are_kept net policy config cs rules kept passes k d s at number top tops p prefix of_class =
+    let c = case_of_class net policy config cs rules kept passes no_failures p prefix k d of_class at in
+    let same_s = same_Some c.0.s s (sym c.0.number ∙ ap (λ (e : PlainCaseEvidence). statement_at policy e.case.statement) c.1 ∙ number) in
+    let tops_there = subst (λ (e : PlainCaseEvidence). AreTops net no_failures e top) (sym c.1) tops in
+    let told = are_kept net policy config cs rules kept passes p prefix c.0 top tops_there in (
+      c.0.governs ∙ ap Some same_s,
+      subst (λ (t : PlainStatement). AreKept net policy config p t d.case (told_by d.graph top)) same_s
+          (subst (λ (e : PlainCaseEvidence). AreKept net policy config p c.0.s e.case (told_by e.graph top)) c.1 told),
+    )

@@ -1,17 +1,15 @@
 -- The tops of a case's graph tell what is promised for it.
 use Rattle.std.proofs.Common.{◌≡◌, ℕ, ◌≤◌, Bool, true, List, [], ◌∷◌, ◌++◌, Option, Some, None, refl, sym, ap, ◌∙◌, inl, inr, subst}
-use Rattle.std.specs.Prelude.{not, is_some, option_map, slice_get}
+use Rattle.std.specs.Prelude.{not, is_some, slice_get}
 use Rattle.std.specs.Option.{option_and_then}
 use Rattle.std.specs.List.{list_any}
 use Rattle.std.proofs.lemmas.Bool.{and_parts, and_from, not-true, not_from_false, or_parts}
-use Rattle.std.proofs.lemmas.Option.{slice_get-map}
 use Rattle.list_laws.proofs.Options.{cases_Option, is_some_from, is_some_parts, none_or_some, option_and_then_parts, when_parts}
 use Rattle.net_base.specs.Network.{PlainNet, IsNet, is_location, is_peer, is_router}
 use Rattle.net_base.specs.Sets.{holds}
 use Rattle.net_base.proofs.RoutersAndPeers.{peer_no_router}
 use Rattle.policy_base.specs.declared.case.Case.{Case}
 use Rattle.policy_base.specs.CaseOrigins.{AreOrigins}
-use Rattle.policy_base.specs.Cases.{case_list}
 use Rattle.policy_base.specs.Meaning.{front, rank_of}
 use Rattle.policy_base.specs.Permitted.{from_holds}
 use Rattle.policy_base.specs.Policies.{IsPolicyOf, PlainPolicy, PlainStatement}
@@ -29,6 +27,7 @@ use Rattle.evidence_law.specs.Passes.{IsCaseGraph, IsClaimed, Passes}
 use Rattle.evidence_law.proofs.CaseOrigins.{same_free}
 use Rattle.evidence_law.proofs.GraphForms.{meets_rules, same_run, well_formed}
 use Rattle.evidence_law.proofs.GraphRanks.{meets_ranks, ranks_of}
+use Rattle.evidence_law.proofs.MadeCases.{case_listed}
 use Rattle.evidence_law.proofs.PermittedWalks.{permits_parts}
 use Rattle.evidence_law.proofs.RunWalks.{runs_are_walks}
 use Rattle.evidence_law.proofs.Setting.{alive_of, setup_of}
@@ -41,14 +40,14 @@ use Rattle.routing_law.specs.Settling.{Tops}
 use Rattle.routing_law.proofs.Reach.{tops}
 use Rattle.routing_law.proofs.Runs.{run_more, run_passes}
 use Rattle.settled_law.specs.Greatest.{IsReachedAt}
-use Rattle.impact_law.specs.BestRanks.{AreTops, IsTopAt}
+use Rattle.impact_law.specs.BestRanks.{AreTops, IsTopAt, rank_of_node}
 use Rattle.impact_law.specs.Impacts.{begin_at}
 use Rattle.impact_law.specs.Nodes.{IsLeast, IsTop}
-use Rattle.impact_law.specs.Support.{no_failures}
+use Rattle.outcome_base.specs.Outcomes.{no_failures}
 use Rattle.impact_law.proofs.Support.{survives_all}
 use Rattle.impact_law.proofs.Tops.{routers, sessions}
 use Rattle.promises_law.specs.Claims.{IsClaimedOver, IsLeastRank, IsPassed, IsPlace, IsSourceIn}
-use Rattle.promises_law.specs.Laws.{ClaimedSourcesHaveRanks, TopsTellPromises, rank_from, told_by}
+use Rattle.promises_law.specs.Laws.{ClaimedSourcesHaveRanks, TopsTellPromises, told_by}
 use Rattle.promises_law.specs.Promises.{ArePromises, IsPromised}
 
 -- where a permitted walk begins is no origin
@@ -228,7 +227,7 @@ module _ (net : PlainNet) (rules : IsNet net) (s : PlainStatement) (d : PlainCas
   -- ---- the promises
 
   -- a top tells the rank of its router and of its sessions
-  node_tells : (r n : ℕ) (peer : Option ℕ) → IsPlace net d.case r peer → IsTopAt net no_failures d r n → (o : Option ℕ) → rank_from g peer n ≡ o → IsPromised net s d.case r peer o
+  node_tells : (r n : ℕ) (peer : Option ℕ) → IsPlace net d.case r peer → IsTopAt net no_failures d r n → (o : Option ℕ) → rank_of_node g peer n ≡ o → IsPromised net s d.case r peer o
   node_tells r n None at top None is = λ claimed. let b = router_rank r n claimed top in none_or_some (rank_at g n) b.0 is b.1
   node_tells r n None at top (Some j) is =
       let claimed = router_claimed r n j (and_parts (is_router net r) (not (Origin r)) at).0 top is in
@@ -247,7 +246,7 @@ module _ (net : PlainNet) (rules : IsNet net) (s : PlainStatement) (d : PlainCas
 
   module _ (top : ℕ → Option ℕ) (tops : AreTops net no_failures d top) where
     -- a place tells what its router's top tells, and is not claimed without one
-    place_tells : (r : ℕ) (peer : Option ℕ) → IsPlace net d.case r peer → (o : Option ℕ) → top r ≡ o → IsPromised net s d.case r peer (option_and_then (rank_from g peer) o)
+    place_tells : (r : ℕ) (peer : Option ℕ) → IsPlace net d.case r peer → (o : Option ℕ) → top r ≡ o → IsPromised net s d.case r peer (option_and_then (rank_of_node g peer) o)
     place_tells r None at None is =
         λ claimed. none_starts r claimed.starts.0 (tops.none r (and_parts (is_router net r) (not (Origin r)) at).0 is) claimed.starts.1
     place_tells r None at (Some n) is = node_tells r n None at (tops.some r n is) (rank_at g n) refl
@@ -296,11 +295,8 @@ module _ (net : PlainNet) (rules : IsNet net) (s : PlainStatement) (d : PlainCas
 
 module _ (net : PlainNet) (policy : PlainPolicy) (config : PlainConfig) (cs : List PlainCaseEvidence) (rules : IsNet net)
     (kept : IsPolicyOf net policy) (passes : Passes net policy config cs) (k : ℕ) (d : PlainCaseEvidence) (at : slice_get cs k ≡ Some d) where
-  pub of_case : slice_get (case_list net policy) k ≡ Some d.case
-  of_case = ap (λ (xs : List Case). slice_get xs k) (sym passes.made.cases) ∙ slice_get-map (λ (c : PlainCaseEvidence). c.case) cs k ∙ ap (option_map (λ (c : PlainCaseEvidence). c.case)) at
-
   pub origins : AreOrigins net (holds d.case.origins) d.case.external
-  origins = known_origins net policy d.case rules kept.routers (case_known net policy k d.case of_case)
+  origins = known_origins net policy d.case rules kept.routers (case_known net policy k d.case (case_listed net policy config cs passes.made k d at))
 
   pub known : (l : ℕ) → holds d.case.origins l ≡ true → is_location net l ≡ true
   known = origins_known net (holds d.case.origins) d.case.external origins

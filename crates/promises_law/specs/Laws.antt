@@ -1,30 +1,24 @@
 -- The laws of promises.
-use Rattle.std.specs.Prelude.{◌≡◌, ℕ, suc, List, Option, Some, None, slice_get, is_some, option_and_then}
+use Rattle.std.specs.Prelude.{◌≡◌, ℕ, suc, List, Option, Some, slice_get, is_some}
 use Rattle.net_base.specs.Network.{PlainNet, IsNet}
 use Rattle.net_base.specs.Prefixes.{PlainPrefix, IsPrefix}
 use Rattle.policy_base.specs.Governing.{statement_of}
 use Rattle.policy_base.specs.Policies.{PlainPolicy, PlainStatement, IsPolicyOf, statement_at}
 use Rattle.graph_base.specs.Graphs.{PlainGraph}
-use Rattle.graph_base.specs.Runs.{rank_at, step_at}
 use Rattle.config_base.specs.Configs.{PlainConfig}
 use Rattle.config_base.specs.Lines.{class_of}
 use Rattle.evidence_base.specs.Made.{PlainCaseEvidence}
 use Rattle.evidence_law.specs.Passes.{Passes}
-use Rattle.impact_law.specs.BestRanks.{AreTops}
+use Rattle.impact_law.specs.BestRanks.{AreTops, rank_by}
 use Rattle.impact_law.specs.Impacts.{begin_at}
-use Rattle.impact_law.specs.Support.{no_failures}
+use Rattle.outcome_base.specs.Outcomes.{no_failures}
 use Rattle.promises_law.specs.Claims.{IsLeastRank, IsSourceIn}
 use Rattle.promises_law.specs.Promises.{AreKept, ArePromises, Promises}
-
--- the rank that a node tells of a router, or of its session to a peer
-abbrev pub rank_from : PlainGraph → Option ℕ → ℕ → Option ℕ
-rank_from g None n = rank_at g n
-rank_from g (Some peer) n = option_and_then (rank_at g) (step_at g n peer)
 
 -- the promises that tops tell
 abbrev pub told_by : PlainGraph → (ℕ → Option ℕ) → Promises
 told_by g top = record {
-  rank = λ r peer. option_and_then (rank_from g peer) (top r);
+  rank = rank_by g top;
   passes = λ r. is_some (top r);
 }
 

@@ -7,11 +7,10 @@ use Rattle.policy_base.specs.Policies.{PlainPolicy, PlainStatement}
 use Rattle.policy_base.specs.Meaning.{rank_of}
 use Rattle.config_base.specs.declared.route.Route.{Route}
 use Rattle.config_base.specs.Configs.{PlainConfig}
-use Rattle.outcome_base.specs.Outcomes.{Outcome, offered, route_at}
+use Rattle.outcome_base.specs.Outcomes.{Outcome, offered, route_at, no_failures}
 use Rattle.settled_law.specs.Settled.{IsFullyStable}
 use Rattle.impact_law.specs.BestRanks.{IsBestRank}
 use Rattle.impact_law.specs.Impacts.{IsSource, begin_at}
-use Rattle.impact_law.specs.Support.{no_failures}
 use Rattle.promises_law.specs.Claims.{IsLeastRank, IsPassed, IsPlace, IsSourceIn}
 
 -- for each router, or session of a router to a peer, its best rank, or none where it isn't claimed; and which routers permitted walks pass

@@ -172,7 +172,7 @@ fn fails_first(maps: &Maps, fallen: &Fallen, round: u32, m: u32, t: u32, first: 
     requires first { IfSome first (λ f. f < length maps.now.graph.now.nodes) }
     ensures { result ≡ (is_some (reason_there (shown maps.now.graph.now) (has_at fallen.now.onwards) (went fallen.now round) m t) && stands_before maps.now.graph.now t first) }
 {
-    fault_at(maps, fallen, round, m, t).is_some() && is_before(maps.graph(), t, first)
+    is_before(maps.graph(), t, first) && fault_at(maps, fallen, round, m, t).is_some()
 }
 
 /// The step of n, first in order of location, at which there is a reason against m.

@@ -68,7 +68,8 @@ fn is_parted_before(maps: &Maps, cells: &Cells, n: u32, first: Option<u32>) -> b
     ensures some { IsTrue result → ((m : ℕ) × Pair (shown maps.now.graph.now) m n × IsTrue (parted cells.now m n)) × IsTrue (stands_before maps.now.graph.now n first) }
     ensures none { result ≡ false → ((m : ℕ) × Pair (shown maps.now.graph.now) m n × IsTrue (parted cells.now m n)) → stands_before maps.now.graph.now n first ≡ false }
 {
-    has_parted(maps, cells, n) && is_before(maps.graph(), n, first)
+    // Where n stands is told at once, and spares all nodes behind the first one.
+    is_before(maps.graph(), n, first) && has_parted(maps, cells, n)
 }
 
 /// Of the nodes that went above one at their location, and it above them, the first by location, and there the least.

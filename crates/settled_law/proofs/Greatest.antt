@@ -1,6 +1,6 @@
 -- A router's preference is the greatest number of the nodes that are reached at it.
-use Rattle.std.proofs.Common.{◌≡◌, ℕ, ◌≤◌, suc, Bool, List, ◌∷◌, Some, None, sym, ap, ◌∙◌, subst, inl, inr}
-use Rattle.std.specs.Prelude.{not, option_map, slice_get}
+use Rattle.std.proofs.Common.{ℕ, ◌≤◌, suc, Bool, List, ◌∷◌, sym, ap, ◌∙◌, subst}
+use Rattle.std.specs.Prelude.{not, option_map}
 use Rattle.std.proofs.lemmas.Bool.{and_parts}
 use Rattle.net_base.specs.Network.{PlainNet, IsNet, is_router}
 use Rattle.net_base.specs.Sets.{holds}
@@ -22,7 +22,7 @@ use Rattle.routing_law.specs.Lines as line
 use Rattle.routing_law.specs.Outcome as outcomes
 use Rattle.routing_law.proofs.Used.{number_is_greatest, used_paths_are_sound}
 use Rattle.settled_law.specs.Greatest.{AreGreatest, NumbersAreGreatest}
-use Rattle.settled_law.proofs.SettledLaw.{CaseFound, case_or_bare}
+use Rattle.settled_law.proofs.SettledLaw.{CaseFound, case_of_class}
 
 module _ (net : PlainNet) (policy : PlainPolicy) (config : PlainConfig) (cs : List PlainCaseEvidence) (rules : IsNet net)
     (kept : IsPolicyOf net policy) (passes : Passes net policy config cs) (f : Failures) (p : PlainPrefix)
@@ -60,12 +60,6 @@ module _ (net : PlainNet) (policy : PlainPolicy) (config : PlainConfig) (cs : Li
   }
 
 pub numbers_are_greatest : NumbersAreGreatest
-numbers_are_greatest net policy config cs rules kept passes p f outcome k d prefix stable of_class at = elim (case_or_bare net policy config cs rules kept passes f p prefix) [
-  | inr free ↦ (let none : None ≡ Some (suc k) = sym free ∙ of_class in absurd (cc))
-  | inl c ↦ (
-      let number : Some (suc c.k) ≡ Some (suc k) = sym c.of_class ∙ of_class in
-      let same_k : c.k ≡ k = cc in
-      let found : Some c.d ≡ Some d = sym c.at ∙ ap (slice_get cs) same_k ∙ at in
-      let same_d : c.d ≡ d = cc in
-      subst (λ (e : PlainCaseEvidence). AreGreatest net policy f p e outcome) same_d (are_greatest net policy config cs rules kept passes f p c outcome stable))
-]
+numbers_are_greatest net policy config cs rules kept passes p f outcome k d prefix stable of_class at =
+    let c = case_of_class net policy config cs rules kept passes f p prefix k d of_class at in
+    subst (λ (e : PlainCaseEvidence). AreGreatest net policy f p e outcome) c.1 (are_greatest net policy config cs rules kept passes f p c.0 outcome stable)

@@ -2,14 +2,11 @@
 use Rattle.std.proofs.Common.{◌≡◌, ℕ, ◌<◌, suc, Bool, true, ◌⊎◌, List, length, Option, Some, None, refl, sym, ap, ◌∙◌, inl, inr, subst}
 use Rattle.std.specs.Prelude.{◌&&◌, not, option_map, slice_get}
 use Rattle.std.proofs.lemmas.Bool.{and_from, cases_Bool, lt-ltb, not_from_false}
-use Rattle.std.proofs.lemmas.Option.{slice_get-map}
 use Rattle.net_base.specs.Network.{PlainNet, IsNet, is_location, is_router}
 use Rattle.net_base.specs.Prefixes.{PlainPrefix, IsPrefix}
 use Rattle.net_base.specs.Sets.{holds}
-use Rattle.policy_base.specs.declared.case.Case.{Case}
-use Rattle.policy_base.specs.Policies.{PlainPolicy, PlainStatement, IsPolicyOf}
+use Rattle.policy_base.specs.Policies.{PlainPolicy, PlainStatement, IsPolicyOf, statement_at}
 use Rattle.policy_base.specs.Governing.{statement_of, is_origin}
-use Rattle.policy_base.specs.Cases.{case_list}
 use Rattle.config_base.specs.declared.route.Route.{Route}
 use Rattle.config_base.specs.Configs.{PlainConfig}
 use Rattle.config_base.specs.Lines.{class_of}
@@ -17,15 +14,13 @@ use Rattle.evidence_base.specs.Made.{PlainCaseEvidence, number_at}
 use Rattle.outcome_base.specs.Outcomes.{Failures, Outcome, is_dead, route_at, given, IsStable}
 use Rattle.evidence_law.specs.Passes.{IsCaseGraph, Passes, IsClaimed}
 use Rattle.evidence_law.proofs.Setting.{network_of, alive_of, lines_of, lines_at, line_of, setup_of, pairs_of}
-use Rattle.list_laws.proofs.Options.{cases_Option, option_map_parts, none_or_some}
-use Rattle.evidence_law.proofs.ClassFound.{class_in}
-use Rattle.evidence_law.proofs.CaseOfClass.{IsCaseOf, governed_case, ungoverned_class}
+use Rattle.list_laws.proofs.Options.{cases_Option, none_or_some}
+use Rattle.evidence_law.proofs.MadeCases.{HasCase, case_or_bare as evidence_or_bare}
 use Rattle.evidence_law.proofs.GraphForms.{meets_rules}
 use Rattle.evidence_law.proofs.ClassLines.{written}
 use Rattle.evidence_law.proofs.Existence.{outcome_of, outcome-size, route_of}
 use Rattle.evidence_law.proofs.ExistenceLaw.{lone_stable, own_alone}
 use Rattle.evidence_law.proofs.Heard.{no_gift}
-use Rattle.evidence_law.proofs.RightLaw.{class_is}
 use Rattle.routing_law.specs.Graph.{MeetsRules}
 use Rattle.routing_law.specs.Lines as line
 use Rattle.routing_law.specs.Outcome as outcomes
@@ -69,15 +64,13 @@ module _ (net : PlainNet) (policy : PlainPolicy) (config : PlainConfig) (f : Fai
 
 module _ (net : PlainNet) (policy : PlainPolicy) (config : PlainConfig) (cs : List PlainCaseEvidence) (rules : IsNet net)
     (kept : IsPolicyOf net policy) (passes : Passes net policy config cs) (f : Failures) (p : PlainPrefix) where
-  classed : class_of config p ≡ class_in policy p (case_list net policy) 1
-  classed = class_is net policy config cs rules kept passes.made p
-
   -- the case of a class: its lines are written, and its numbers meet the rules
   pub record CaseFound : Type 0 where
     pub s : PlainStatement
     pub k : ℕ
     pub d : PlainCaseEvidence
     pub governs : statement_of policy p ≡ Some s
+    pub number : statement_at policy d.case.statement ≡ Some s
     pub at : slice_get cs k ≡ Some d
     pub on : IsCaseGraph net s d
     pub of_class : class_of config p ≡ Some (suc k)
@@ -86,38 +79,44 @@ module _ (net : PlainNet) (policy : PlainPolicy) (config : PlainConfig) (cs : Li
     pub lines : spelled.Written (network_of net (holds d.case.origins)) (setup_of net f d).graph (pairs_of d) (lines_of net config p (suc k))
     pub numbers : MeetsRules (network_of net (holds d.case.origins)) (setup_of net f d).graph
 
-  case_here : (s : PlainStatement) → statement_of policy p ≡ Some s → (k : ℕ) (d : PlainCaseEvidence) → slice_get cs k ≡ Some d
-      → class_of config p ≡ Some (suc k) → IsCaseOf net policy p s k d.case → CaseFound
-  case_here s governs k d at of_class of_case =
-      let graph = passes.made.graphs k d s at of_case.number in
+  case_here : (s : PlainStatement) → statement_of policy p ≡ Some s → HasCase net policy config cs p s → CaseFound
+  case_here s governs c =
+      let d = c.d in
+      let graph = passes.made.graphs c.k d s c.at c.is.number in
       let origin = holds d.case.origins in
       record {
         s = s;
-        k = k;
+        k = c.k;
         d = d;
         governs = governs;
-        at = at;
+        number = c.is.number;
+        at = c.at;
         on = graph;
-        of_class = of_class;
-        same = of_case.same;
-        known = of_case.known;
-        lines = written net policy cs config p rules passes.made.lines passes.made.tags k d at of_class graph.graph origin d.case.external graph.faithful.formed of_case.announced of_case.known;
-        numbers = meets_rules net origin d.case.external d.graph (number_at d) rules graph.graph of_case.known graph.faithful.formed (IsClaimed net s d.case) (passes.rules k d s at of_case.number);
+        of_class = c.of_class;
+        same = c.is.same;
+        known = c.is.known;
+        lines = written net policy cs config p rules passes.made.lines passes.made.tags c.k d c.at c.of_class graph.graph origin d.case.external graph.faithful.formed c.is.announced c.is.known;
+        numbers = meets_rules net origin d.case.external d.graph (number_at d) rules graph.graph c.is.known graph.faithful.formed (IsClaimed net s d.case) (passes.rules c.k d s c.at c.is.number);
       }
 
   -- a prefix has a case, or no class
   pub case_or_bare : IsPrefix p → CaseFound ⊎ (class_of config p ≡ None)
-  case_or_bare prefix = go (statement_of policy p) refl
-    where
-      go : (o : Option PlainStatement) → statement_of policy p ≡ o → CaseFound ⊎ (class_of config p ≡ None)
-      go None is = inr (classed ∙ ungoverned_class net policy p rules kept prefix is)
-      go (Some s) is = elim (governed_case net policy p rules kept prefix s is) [
-        | inr nobody ↦ inr (classed ∙ nobody.1)
-        | inl found ↦ (
-            let there = slice_get-map (λ (c : PlainCaseEvidence). c.case) cs found.0 in
-            let d = option_map_parts (λ (c : PlainCaseEvidence). c.case) (slice_get cs found.0) found.1 (sym there ∙ ap (λ (xs : List Case). slice_get xs found.0) passes.made.cases ∙ found.3.at) in
-            inl (case_here s is found.0 d.0 d.1 (classed ∙ found.2) (subst (λ (c : Case). IsCaseOf net policy p s found.0 c) (sym d.2) found.3)))
-      ]
+  case_or_bare prefix = elim (evidence_or_bare net policy config cs rules kept passes.made p prefix) [
+    | inl c ↦ inl (case_here c.0 c.1 c.2)
+    | inr free ↦ inr free
+  ]
+
+  -- the case of the prefix's class is the one at its place
+  pub case_of_class : IsPrefix p → (k : ℕ) (d : PlainCaseEvidence) → class_of config p ≡ Some (suc k) → slice_get cs k ≡ Some d → (c : CaseFound) × (c.d ≡ d)
+  case_of_class prefix k d of_class at = elim (case_or_bare prefix) [
+    | inr free ↦ absurd (none_or_some (class_of config p) (suc k) free of_class)
+    | inl c ↦ (
+        let number : Some (suc c.k) ≡ Some (suc k) = sym c.of_class ∙ of_class in
+        let same_k : c.k ≡ k = cc in
+        let found : Some c.d ≡ Some d = sym c.at ∙ ap (slice_get cs) same_k ∙ at in
+        let same_d : c.d ≡ d = cc in
+        (c, same_d))
+  ]
 
   abbrev Settles : Type 0
   Settles = (outcome : Outcome) × (length outcome ≡ length net.routers) × IsFullyStable net policy config f p outcome

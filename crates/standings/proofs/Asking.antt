@@ -1,5 +1,5 @@
 -- The standings that were reached and asked where walks go on from them.
-use Rattle.std.proofs.Common.{◌≡◌, ℕ, zero, suc, ◌+◌, ◌<◌, ◌≤◌, List, [], ◌∷◌, ◌++◌, map, take, length, Some, ◌⊎◌, inl, inr, refl, sym, ap, subst, ◌∙◌, append_assoc, length-take-le, arith}
+use Rattle.std.proofs.Common.{◌≡◌, ℕ, zero, suc, ◌+◌, ◌<◌, ◌≤◌, List, [], ◌∷◌, ◌++◌, map, take, length, get_or, Some, ◌⊎◌, inl, inr, refl, sym, ap, subst, ◌∙◌, append_assoc, length-take-le, arith}
 use Rattle.std.specs.Prelude.{filter, slice_get, ◌&&◌, ◌||◌}
 use Rattle.std.specs.List.{flat_map, AllByRecursion, IsDistinct}
 use Rattle.std.proofs.lemmas.Bool.{cases_lt, cases_Bool, cond_both, false≢true}
@@ -14,9 +14,10 @@ use Rattle.policy_base.specs.declared.case.Case.{Case}
 use Rattle.path_exprs.specs.Expression.{Expression}
 use Rattle.path_exprs.specs.Derivative.{derivative}
 use Rattle.path_exprs.specs.Standings.{Standing, is_dead, moved, same_standing, AreReached}
-use Rattle.net_base.specs.Locations.{in_order}
+use Rattle.net_base.specs.Locations.{in_order, numbers_below}
 use Rattle.standings.specs.Growth.{AreAsked, AreWithin, each_live, gathered, left_in, live, may_enter, next_in, standing_in, standings_in, steps_over, steps_to, ways, with_standing}
 use Rattle.net_base.proofs.NumbersBelow.{numbers-below}
+use Rattle.standings.proofs.Below.{made-at}
 use Rattle.standings.proofs.SameStandings.{Among, among-first, among-head, among-later}
 use Rattle.standings.proofs.Gathering.{among-append, among-left, among-right, among-slice_get, gathered-among, gathered-append, gathered-distinct, gathered-extends, gathered-new, with-cases}
 use Rattle.standings.proofs.Numbering.{Key, slice_get-standings_in}
@@ -223,3 +224,11 @@ pub key-within : (net : PlainNet) (ss : List (List Expression)) (ks : List Key) 
 unfolding AreWithin
 key-within net ss ks n at from within key =
     within (standing_in ss (at, from)) (among-slice_get (standings_in ss ks) n (standing_in ss (at, from)) (slice_get-standings_in ss ks n (at, from) key))
+
+-- the location of the standing that is asked has its ways
+pub ways_here : {V : Type 0} (net : PlainNet) (case : Case) (items : V → List ℕ) (all : List V) (ss : List (List Expression)) (ks : List Key) (starts : List Standing) (steps : List (ℕ × ℕ))
+    (n at from : ℕ) (v d : V) → AreWithin net starts → AreAsked starts (next_in net case) (standings_in ss ks) steps n → slice_get ks n ≡ Some (at, from)
+    → map items all ≡ map (ways net case) (numbers_below (length net.routers + length net.peers)) → v ≡ get_or all at d → items v ≡ ways net case at
+ways_here net case items all ss ks starts steps n at from v d within asked key are is =
+    made-at items all (ways net case) (length net.routers + length net.peers) at v d are
+    (key-within net ss ks n at from (asked-within net case starts (standings_in ss ks) steps n within asked) key) is

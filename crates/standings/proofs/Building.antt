@@ -1,6 +1,6 @@
 -- The graph over the standings that were reached and asked.
 use Rattle.std.proofs.Common.{◌≡◌, ℕ, ◌+◌, ◌<◌, ◌≤◌, Bool, true, false, cond, List, [], ◌∷◌, ◌++◌, map, take, length, refl, sym, ap, subst, ◌∙◌, arith, length-append}
-use Rattle.std.specs.Prelude.{filter, ◌&&◌, ◌||◌, not}
+use Rattle.std.specs.Prelude.{filter, slice_get, Some, ◌&&◌, ◌||◌, not}
 use Rattle.std.specs.List.{flat_map, AllByRecursion}
 use Rattle.std.proofs.lemmas.List.{take_all, length-map}
 use Rattle.list_laws.proofs.Each.{AllByRecursion-append, AllByRecursion-weaker}
@@ -17,10 +17,11 @@ use Rattle.path_exprs.specs.Runs.{start_of}
 use Rattle.standings.specs.Built.{graph_over, node_of, place_in, steps_from}
 use Rattle.path_exprs.specs.Standings.{AreStandings, Plan, Standing, is_dead, may_go, moved, starts, targets, AreReached, plan_of}
 use Rattle.net_base.specs.Locations.{in_order, numbers_below}
-use Rattle.standings.specs.Growth.{AreAsked, each_live, gathered, live, may_enter, next_in, steps_over, steps_to, ways}
+use Rattle.standings.specs.Growth.{AreAsked, each_live, gathered, left_in, live, may_enter, next_in, steps_over, steps_to, ways}
 use Rattle.net_base.proofs.NumbersBelow.{numbers-below}
 use Rattle.standings.proofs.SameStandings.{Among, among-first, among-later}
 use Rattle.standings.proofs.Gathering.{among-left, among-right, gathered-among, gathered-append, place-within, without_repeats-gathered}
+use Rattle.standings.proofs.Numbering.{left_in-is}
 use Rattle.standings.proofs.Starting.{gathered-starts}
 
 -- targets
@@ -151,9 +152,16 @@ graph-inside net plan xs steps a few =
       steps = subst (λ n. AllByRecursion (Inside n) (steps_from net plan xs 0 xs)) (sym size) (inside-from net plan xs xs 0 (omega arith) targets_among);
     }
 
-pub starts-are : (net : PlainNet) (es : List Expression) (from : FromSet) (case : Case) (first : List Standing) (left : List Expression)
+starts-are : (net : PlainNet) (es : List Expression) (from : FromSet) (case : Case) (first : List Standing) (left : List Expression)
     → first ≡ map (moved left) (filter (holds case.origins) (in_order net)) → left ≡ start_of (locations net) es → first ≡ starts net (plan_of es from case)
 starts-are net es from case first left h e = h ∙ ap (λ l. map (moved l) (filter (holds case.origins) (in_order net))) e
+
+-- where the first state is the statement's own
+pub begun-starts : (net : PlainNet) (es : List Expression) (from : FromSet) (case : Case) (first : List Standing) (ss given : List (List Expression))
+    → first ≡ map (moved (left_in ss 0)) (filter (holds case.origins) (in_order net)) → ss ≡ given → slice_get given 0 ≡ Some (start_of (locations net) es)
+    → first ≡ starts net (plan_of es from case)
+begun-starts net es from case first ss given made same begins =
+    starts-are net es from case first (left_in ss 0) made (left_in-is ss 0 (start_of (locations net) es) (ap (λ xs. slice_get xs 0) same ∙ begins))
 
 -- what is made of the nodes, starts and steps is the graph
 pub graph-made : (net : PlainNet) (plan : Plan) (first xs : List Standing) (nodes : List Node) (begin : List ℕ) (steps given : List (ℕ × ℕ)) (count : ℕ) → AreAll net plan xs steps

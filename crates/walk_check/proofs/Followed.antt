@@ -1,6 +1,6 @@
 -- What is followed from a root along the ways of both graphs is the run of its graph.
 use Rattle.std.proofs.Common.{◌≡◌, ◌⊎◌, ℕ, ◌+◌, ◌<◌, ◌≤◌, List, [], ◌∷◌, length, Option, Some, None, refl, ap, sym, ◌∙◌, subst, inl, inr, arith}
-use Rattle.std.specs.Prelude.{option_map, option_and_then}
+use Rattle.std.specs.Prelude.{◌↔◌, option_map, option_and_then}
 use Rattle.std.proofs.lemmas.Option.{none-some}
 use Rattle.list_laws.specs.Members.{IsIn}
 use Rattle.list_laws.proofs.Members.{IsIn-append_cases, IsIn-append_left, IsIn-append_right}
@@ -103,7 +103,7 @@ module _ (t g : PlainGraph) (live_rules : IsGraph t) (rules : IsGraph g) (ways :
   abbrev graph_ways : List Way
   graph_ways = ways_of g (length t.nodes) (both_sizes t g + 1)
 
-  pub live_are : AreWaysOf ways t 0 (both_sizes t g)
+  live_are : AreWaysOf ways t 0 (both_sizes t g)
   live_are = record {
     order = order;
     has = λ w h. has w (IsIn-append_left live_ways graph_ways w h);
@@ -121,7 +121,7 @@ module _ (t g : PlainGraph) (live_rules : IsGraph t) (rules : IsGraph g) (ways :
       apart w (inr x) (inl y) = let below = x.1 in omega (arith, below, y)
       apart w (inr x) (inr y) = let below = x.1 in let low = y.0 in omega (arith, below, low)
 
-  pub graph_are : AreWaysOf ways g (length t.nodes) (both_sizes t g + 1)
+  graph_are : AreWaysOf ways g (length t.nodes) (both_sizes t g + 1)
   graph_are = record {
     order = order;
     has = λ w h. has w (IsIn-append_right live_ways graph_ways w h);
@@ -138,3 +138,11 @@ module _ (t g : PlainGraph) (live_rules : IsGraph t) (rules : IsGraph g) (ways :
       apart w (inl x) (inr y) = let below = y.1 in omega (arith, x, below)
       apart w (inr x) (inl y) = let up = x.1 in omega (arith, up, y)
       apart w (inr x) (inr y) = let low = x.0 in let below = y.1 in omega (arith, below, low)
+
+-- the ways of both graphs, in order, are those of each
+pub both_are : (t g : PlainGraph) → IsGraph t → IsGraph g → (ways : List Way) → Ascend ways → ((w : Way) → IsIn ways w ↔ IsIn (ways_of_both t g) w)
+    → AreWaysOf ways t 0 (both_sizes t g) × AreWaysOf ways g (length t.nodes) (both_sizes t g + 1)
+both_are t g live_rules rules ways order same = (
+  live_are t g live_rules rules ways order (λ w. (same w).0) (λ w. (same w).1),
+  graph_are t g live_rules rules ways order (λ w. (same w).0) (λ w. (same w).1),
+)

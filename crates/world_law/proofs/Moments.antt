@@ -1,28 +1,24 @@
 -- What routers hold and peers hear is allowed after every list of events.
 use Rattle.std.proofs.Common.{◌≡◌, ℕ, zero, suc, Bool, true, false, List, [], ◌∷◌, ◌++◌, Option, Some, None, refl, sym, ap, ◌∙◌, inl, inr, subst}
-use Rattle.std.specs.Prelude.{◌&&◌, not, is_some, slice_get}
-use Rattle.std.proofs.lemmas.Bool.{and_from, and_parts, not-true, not_from_false, true≢false}
+use Rattle.std.specs.Prelude.{is_some, slice_get}
+use Rattle.std.proofs.lemmas.Bool.{and_from, and_parts, not-true, true≢false}
 use Rattle.net_base.specs.Network.{PlainNet, IsNet, is_peer, is_router}
 use Rattle.net_base.specs.Sets.{holds}
 use Rattle.net_base.specs.Prefixes.{PlainPrefix, IsPrefix}
 use Rattle.policy_base.specs.Policies.{PlainPolicy, PlainStatement, IsPolicyOf}
-use Rattle.policy_base.specs.Meaning.{rank_of}
 use Rattle.policy_base.specs.Governing.{is_origin, statement_of}
-use Rattle.policy_base.specs.Permitted.{from_holds, is_permitted, is_allowed, IsClaimedRouter}
+use Rattle.policy_base.specs.Permitted.{is_permitted, is_allowed, IsClaimedRouter}
 use Rattle.policy_base.specs.Walks.{is_loop_free}
 use Rattle.graph_base.specs.Runs.{run}
-use Rattle.graph_base.proofs.RunSteps.{run_begins, run_inside}
 use Rattle.config_base.specs.Configs.{PlainConfig}
 use Rattle.config_base.specs.Lines.{class_of}
-use Rattle.evidence_base.specs.Made.{PlainCaseEvidence, number_at}
-use Rattle.outcome_base.specs.Outcomes.{Failures}
+use Rattle.evidence_base.specs.Made.{PlainCaseEvidence}
+use Rattle.outcome_base.specs.Outcomes.{Failures, no_failures}
 use Rattle.list_laws.proofs.Options.{none_from}
-use Rattle.evidence_law.specs.Faithful.{is_walk_to, may_start, permits}
-use Rattle.evidence_law.specs.Passes.{IsClaimed, Passes}
-use Rattle.evidence_law.proofs.CaseOfClass.{ungoverned_class}
-use Rattle.evidence_law.proofs.CaseOrigins.{case_permits, no_case_origin, prefix_permits}
+use Rattle.evidence_law.specs.Passes.{Passes}
+use Rattle.evidence_law.proofs.CaseOrigins.{prefix_permits}
 use Rattle.evidence_law.proofs.ClaimedPaths.{claimed_permits}
-use Rattle.evidence_law.proofs.RightLaw.{class_is}
+use Rattle.evidence_law.proofs.MadeCases.{has_no_class}
 use Rattle.evidence_law.proofs.RunWalks.{runs_are_walks}
 use Rattle.event_base.specs.declared.event.Event.{Event}
 use Rattle.event_law.specs.Kinds.{Each}
@@ -31,9 +27,6 @@ use Rattle.world_law.specs.Laws.{world_after}
 use Rattle.world_law.specs.Waiting.{HasRun, IsOnItsWay}
 use Rattle.world_law.proofs.Waiting.{held_and_waiting_routes_run, origins_alone_hold_routes}
 use Rattle.world_law.specs.Moments.{IsAllowedNow, IsBareNow, IsRightNow, EveryMomentIsRight}
-
-none_fail : Failures
-none_fail = record { dead = []; dead_links = []; silent = [] }
 
 -- a route among messages that are each of a kind is of that kind
 each_at : {R : Type 0} (P : R → Type 0) (ms : List (Option R)) (i : ℕ) (y : R) → Each P ms → slice_get ms i ≡ Some (Some y) → P y
@@ -99,19 +92,19 @@ module _ (net : PlainNet) (policy : PlainPolicy) (config : PlainConfig) (p : Pla
 
 module _ (net : PlainNet) (policy : PlainPolicy) (config : PlainConfig) (cs : List PlainCaseEvidence) (rules : IsNet net) (kept : IsPolicyOf net policy) (passes : Passes net policy config cs) (p : PlainPrefix) (prefix : IsPrefix p) (es : List Event) where
   governed_now : (s : PlainStatement) → statement_of policy p ≡ Some s → IsAllowedNow net policy config p s (world_after net policy config p es)
-  governed_now s governs = elim (case_or_bare net policy config cs rules kept passes none_fail p prefix) [
+  governed_now s governs = elim (case_or_bare net policy config cs rules kept passes no_failures p prefix) [
     | inr free ↦ empty_now net policy config p free es s
     | inl c ↦
         let found : Some c.s ≡ Some s = sym c.governs ∙ governs in
         let same : c.s ≡ s = cc in
-        subst (λ (z : PlainStatement). IsAllowedNow net policy config p z (world_after net policy config p es)) same (case_now net policy config cs rules kept passes none_fail p c prefix es)
+        subst (λ (z : PlainStatement). IsAllowedNow net policy config p z (world_after net policy config p es)) same (case_now net policy config cs rules kept passes no_failures p c prefix es)
   ]
 
   pub right_now : IsRightNow net policy config p (world_after net policy config p es)
   right_now = go (statement_of policy p) refl
     where
       go : (o : Option PlainStatement) → statement_of policy p ≡ o → IsRightNow net policy config p (world_after net policy config p es)
-      go None is = rw is (bare_now net policy config p (class_is net policy config cs rules kept passes.made p ∙ ungoverned_class net policy p rules kept prefix is) es)
+      go None is = rw is (bare_now net policy config p (has_no_class net policy config cs rules kept passes.made p prefix is) es)
       go (Some s) is = rw is (governed_now s is)
 
 pub every_moment_is_right : EveryMomentIsRight

@@ -1,10 +1,10 @@
 -- Held and waiting routes run in the graph of the case, in the words of the graph.
-use Rattle.std.proofs.Common.{◌≡◌, ℕ, ◌<◌, suc, true, false, not, List, [], ◌∷◌, length, Option, Some, None, refl, sym, ap, ◌∙◌, subst, inl, inr}
-use Rattle.std.specs.Prelude.{option_map, slice_get}
+use Rattle.std.proofs.Common.{◌≡◌, ℕ, ◌<◌, true, false, not, List, [], ◌∷◌, length, Option, Some, None, refl, sym, ap, ◌∙◌, subst, inl, inr}
+use Rattle.std.specs.Prelude.{option_map}
 use Rattle.std.specs.Option.{option_and_then}
 use Rattle.std.proofs.lemmas.Bool.{and_from, and_parts, cases_Bool, cond-true, cond-false, lt-ltb, not_from_false}
 use Rattle.std.proofs.lemmas.List.{length-map}
-use Rattle.std.proofs.lemmas.Option.{slice_get-map}
+use Rattle.std.proofs.lemmas.Option.{same_Some, slice_get-map}
 use Rattle.net_base.specs.Network.{PlainNet, IsNet, is_peer, is_router}
 use Rattle.net_base.specs.Prefixes.{PlainPrefix}
 use Rattle.policy_base.specs.Policies.{PlainPolicy, PlainStatement, IsPolicyOf}
@@ -17,7 +17,7 @@ use Rattle.config_base.specs.declared.route.Route.{Route}
 use Rattle.config_base.specs.Configs.{PlainConfig}
 use Rattle.config_base.specs.Lines.{class_of, own_route}
 use Rattle.evidence_base.specs.Made.{PlainCaseEvidence, number_at}
-use Rattle.outcome_base.specs.Outcomes.{Failures, Outcome, offered}
+use Rattle.outcome_base.specs.Outcomes.{Failures, Outcome, offered, no_failures}
 use Rattle.evidence_law.specs.Passes.{Passes}
 use Rattle.evidence_law.proofs.CaseOrigins.{prefix_permits, same_free}
 use Rattle.evidence_law.proofs.Existence.{held, outcome_of, outcome-size}
@@ -35,7 +35,7 @@ use Rattle.event_base.specs.Steps.{opening, run}
 use Rattle.event_base.specs.World.{Speakers, World}
 use Rattle.event_law.proofs.KindsKept.{opening-kinds, run-kinds}
 use Rattle.list_laws.proofs.Items.{same_options}
-use Rattle.settled_law.proofs.SettledLaw.{CaseFound, case_or_bare}
+use Rattle.settled_law.proofs.SettledLaw.{CaseFound, case_of_class}
 use Rattle.settled_law.specs.Settled.{IsFullyStable}
 use Rattle.world_law.specs.Laws.{QuietWorldsAreSettled, QuietWorldsOffer}
 use Rattle.world_law.specs.Scenarios.{routes_of}
@@ -104,24 +104,13 @@ module _ (net : PlainNet) (policy : PlainPolicy) (config : PlainConfig) (cs : Li
       (On_the_way net policy config cs rules kept passes p f c) (IsOnItsWay net policy p c.s c.d) held_said way_said
       (run (speakers_of net policy config p) es (opening (speakers_of net policy config p))) (way.held_and_waiting_routes_run net policy config cs rules kept passes p f c es)
 
-none_fail : Failures
-none_fail = record { dead = []; dead_links = []; silent = [] }
-
 pub held_and_waiting_routes_run : HeldAndWaitingRoutesRun
-held_and_waiting_routes_run net policy config cs rules kept passes p s k d prefix governs of_class at es = elim (case_or_bare net policy config cs rules kept passes none_fail p prefix) [
-  | inr free ↦ (let none : None ≡ Some (suc k) = sym free ∙ of_class in absurd (cc))
-  | inl c ↦ (
-      let number : Some (suc c.k) ≡ Some (suc k) = sym c.of_class ∙ of_class in
-      let same_k : c.k ≡ k = cc in
-      let found : Some c.d ≡ Some d = sym c.at ∙ ap (slice_get cs) same_k ∙ at in
-      let same_d : c.d ≡ d = cc in
-      let rule : Some c.s ≡ Some s = sym c.governs ∙ governs in
-      let same_s : c.s ≡ s = cc in
-      subst (λ (z : PlainStatement). AreKinds (IsHeld net policy config p d) (IsOnItsWay net policy p z d)
-      (run (speakers_of net policy config p) es (opening (speakers_of net policy config p)))) same_s
-      (subst (λ (e : PlainCaseEvidence). AreKinds (IsHeld net policy config p e) (IsOnItsWay net policy p c.s e) (run (speakers_of net policy config p) es (opening (speakers_of net policy config p)))) same_d
-      (all_said net policy config cs rules kept passes p none_fail c es)))
-]
+held_and_waiting_routes_run net policy config cs rules kept passes p s k d prefix governs of_class at es =
+    let c = case_of_class net policy config cs rules kept passes no_failures p prefix k d of_class at in
+    let same_s = same_Some c.0.s s (sym c.0.governs ∙ governs) in
+    let after = run (speakers_of net policy config p) es (opening (speakers_of net policy config p)) in
+    subst (λ (z : PlainStatement). AreKinds (IsHeld net policy config p d) (IsOnItsWay net policy p z d) after) same_s
+    (subst (λ (e : PlainCaseEvidence). AreKinds (IsHeld net policy config p e) (IsOnItsWay net policy p c.0.s e) after) c.1 (all_said net policy config cs rules kept passes p no_failures c.0 es))
 
 -- ---- without a class
 

@@ -8,7 +8,8 @@ use Rattle.relation_law.specs.Views.{view_of}
 use Rattle.relation_law.proofs.Bridge.{numbers_meet_rules, rules_at_routers, rules_give_numbers}
 use Rattle.relation_law.proofs.Counts.{counts_are_numbers}
 use Rattle.faithful_law.proofs.Each.{total_on_each}
-use Rattle.faithful_law.proofs.Listeners.{listeners_are_ranked, rules_claimed}
+use Rattle.evidence_law.proofs.Listeners.{listeners_ranked}
+use Rattle.faithful_law.proofs.Claims.{rules_claimed}
 use Rattle.faithful_law.proofs.evidence_carries_over.Goals as goal
 
 pub returns : goal.returns
@@ -16,7 +17,7 @@ returns c = λ net s case g q claimed reach number r gg qq fg fq claims exact gr
     let held : MeetsRules net (λ l. holds claimed l ≡ true) case.external g number =
     rules_claimed net (IsClaimed net s case) (λ l. holds claimed l ≡ true) case.external g number (λ l h. (claims l).0 h) rules in
     let are = rules_give_numbers net (holds case.origins) case.external g fg.formed gg claimed (λ l h. ((claims l).0 h).at_router)
-    (listeners_are_ranked net s (holds case.origins) case.external g gg fg) number held in
+    (listeners_ranked net s (holds case.origins) case.external g gg fg) number held in
     let total = total_on_each net s (holds case.origins) case.external g q claimed reach number r gg qq fg fq exact are greatest in
     let counts = number_of (length q.nodes) r in (
       total,

@@ -1,9 +1,5 @@
-use Rattle.std.proofs.Common.{◌↔◌, ℕ, Some, None, sym, subst, arith}
-use Rattle.std.specs.Prelude.{IsTrue}
+use Rattle.std.proofs.Common.{Some, None, sym, subst, arith}
 use Rattle.std.proofs.lemmas.Result.{IfOk-weaker}
-use Rattle.net_base.specs.Sets.{holds}
-use Rattle.graph_base.specs.Graphs.{PlainGraph}
-use Rattle.graph_base.specs.Ranked.{IsRankedRouter}
 use Rattle.evidence_rules.specs.declared.rule.CheckRule.TheVariants.{PrefRank, PrefStep}
 use Rattle.evidence_check.specs.CaseFaults.{IsFaultFrom, IsFirstFault}
 use Rattle.evidence_check.proofs.Faults.{passes, rank_first, step_first, stops}
@@ -13,10 +9,7 @@ pub returns-in-Some : goal.returns-in-Some
 returns-in-Some c = λ policy cs k s of claims.
     let net = c.args.net.now in
     let case = c.args.case.now in
-    let routers = c.ranked_routers-claimed.result in
-    let same : (l : ℕ) → IsTrue (holds routers l) ↔ IsRankedRouter net case.graph l =
-    λ l. subst (λ (g : PlainGraph). IsTrue (holds routers l) ↔ IsRankedRouter net g l) c.graph.ensures.graph (c.ranked_routers-claimed.ensures l) in
-    let first = rank_first net policy cs k s case of (holds routers) (λ l. (λ h. (claims l).0 ((same l).0 h), λ h. (same l).1 ((claims l).1 h))) in
+    let first = rank_first net policy cs k s case of claims c.ranked_in-claimed.result c.ranked_in-claimed.ensures in
     let h = rw c.in-Some.is at c.in_ok-pair.ensures in
     subst (IsFirstFault 5 net policy cs k) (sym c.at_pair.ensures) (stops net policy cs k PrefRank c.in-Some.pair (omega arith) (first (Some c.in-Some.pair) h))
 
@@ -24,10 +17,7 @@ pub returns-in-Some-2 : goal.returns-in-Some-2
 returns-in-Some-2 c = λ policy cs k s of claims.
     let net = c.args.net.now in
     let case = c.args.case.now in
-    let routers = c.ranked_routers-claimed.result in
-    let same : (l : ℕ) → IsTrue (holds routers l) ↔ IsRankedRouter net case.graph l =
-    λ l. subst (λ (g : PlainGraph). IsTrue (holds routers l) ↔ IsRankedRouter net g l) c.graph.ensures.graph (c.ranked_routers-claimed.ensures l) in
-    let first = rank_first net policy cs k s case of (holds routers) (λ l. (λ h. (claims l).0 ((same l).0 h), λ h. (same l).1 ((claims l).1 h))) in
+    let first = rank_first net policy cs k s case of claims c.ranked_in-claimed.result c.ranked_in-claimed.ensures in
     let none = rw c.in_default.is at c.in_ok-pair.ensures in
     let h = rw c.in-Some-2.is at c.in_ok-pair-2.ensures in
     let here = subst (IsFirstFault 6 net policy cs k) (sym c.at_pair-in-Some-2.ensures)
@@ -38,10 +28,7 @@ pub returns : goal.returns
 returns c = λ policy cs k s of claims.
     let net = c.args.net.now in
     let case = c.args.case.now in
-    let routers = c.ranked_routers-claimed.result in
-    let same : (l : ℕ) → IsTrue (holds routers l) ↔ IsRankedRouter net case.graph l =
-    λ l. subst (λ (g : PlainGraph). IsTrue (holds routers l) ↔ IsRankedRouter net g l) c.graph.ensures.graph (c.ranked_routers-claimed.ensures l) in
-    let first = rank_first net policy cs k s case of (holds routers) (λ l. (λ h. (claims l).0 ((same l).0 h), λ h. (same l).1 ((claims l).1 h))) in
+    let first = rank_first net policy cs k s case of claims c.ranked_in-claimed.result c.ranked_in-claimed.ensures in
     let none = rw c.in_default.is at c.in_ok-pair.ensures in
     let also = rw c.in_default-2.is at c.in_ok-pair-2.ensures in
     IfOk-weaker c.loop_or_listener.result (IsFaultFrom 7 net policy cs k) (IsFaultFrom 5 net policy cs k)

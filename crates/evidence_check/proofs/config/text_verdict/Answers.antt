@@ -7,7 +7,7 @@ use Rattle.config_lines.specs.declared.edition.Edition.TheVariants.{Second}
 use Rattle.config_text.specs.ConfigText.{config_text}
 use Rattle.config_text.specs.Spelled.{Spells}
 use Rattle.config_text.proofs.Lawful.{one_configuration}
-use Rattle.evidence_rules.specs.Verdicts.{first_difference}
+use Rattle.text_difference.specs.Difference.{first_difference}
 use Rattle.evidence_law.specs.Passes.{Passes}
 use Rattle.evidence_check.proofs.AllRules.{are_classes, are_single, are_tags}
 use Rattle.evidence_check.proofs.Fold.{holds}
@@ -54,8 +54,8 @@ returns-clause-verdict c = λ config spells.
       lines = c.in_ok-made.ensures;
       differs = apart;
       line = c.first_difference-line.ensures
-          ∙ ap (λ (xs : List ℕ). first_difference xs c.args.text.now 1) (c.deref-2.ensures.value ∙ wanted)
-          ∙ ap (λ (ys : List ℕ). first_difference (config_text made) ys 1) spells.written;
+          ∙ ap (λ (xs : List ℕ). first_difference xs c.args.text.now) (c.deref-2.ensures.value ∙ wanted)
+          ∙ ap (λ (ys : List ℕ). first_difference (config_text made) ys) spells.written;
       router = c.block_of.ensures;
       no_case = refl;
       no_second = refl;

@@ -1,13 +1,10 @@
 use Rattle.std.proofs.Common.{◌<◌, List, length, sym, ap, subst, ◌∙◌, arith, rules}
-use Rattle.std.specs.Prelude.{slice_get}
-use Rattle.net_base.specs.NetSets.{locations}
-use Rattle.path_exprs.specs.Runs.{start_of}
 use Rattle.path_automata.specs.States.{Extends, states_of}
 use Rattle.graph_base.specs.Graphs.{IsGraph, PlainGraph}
 use Rattle.path_exprs.specs.Standings.{AreReached, Standing, plan_of}
-use Rattle.standings.specs.Growth.{left_in, next_in, standings_of}
-use Rattle.standings.proofs.Numbering.{extends-further, left_in-is}
-use Rattle.standings.proofs.Building.{all-asked, graph-inside, graph-made, length-nodes, reached-all, starts-are}
+use Rattle.standings.specs.Growth.{next_in, standings_of}
+use Rattle.standings.proofs.Numbering.{extends-further}
+use Rattle.standings.proofs.Building.{all-asked, begun-starts, graph-inside, graph-made, length-nodes, reached-all}
 use Rattle.standings.proofs.case_graph.standings.Goals as goal
 
 pub returns-in_err-walk-clause-many : goal.returns-in_err-walk-clause-many
@@ -16,8 +13,7 @@ returns-in_err-walk-clause-many c = λ es h fault.
     let from = c.args.from.now in
     let case = c.args.case.now in
     let first = standings_of c.add_starts.new.self in
-    let begun = starts-are net es from case first (left_in (states_of c.new-reached.result.automata) 0) c.in_ok-add_starts.ensures.ok (left_in-is
-    (states_of c.new-reached.result.automata) 0 (start_of (locations net) es) (ap (λ ss. slice_get ss 0) c.new-reached.ensures.automata ∙ h)) in
+    let begun = begun-starts net es from case first (states_of c.new-reached.result.automata) _ c.in_ok-add_starts.ensures.ok c.new-reached.ensures.automata h in
     let passed : (xs : List Standing) × AreReached first (next_in net case) xs × (4096 < length xs) = search rules in
     (passed.0, reached-all net es from case first passed.0 begun passed.1, passed.2)
 
@@ -30,8 +26,7 @@ new-requires c =
     let case = c.args.case.now in
     let first = standings_of c.add_starts.new.self in
     let xs = standings_of c.walk.new.self in
-    let begun = starts-are net es from case first (left_in (states_of c.new-reached.result.automata) 0) c.in_ok-add_starts.ensures.ok (left_in-is
-    (states_of c.new-reached.result.automata) 0 (start_of (locations net) es) (ap (λ ss. slice_get ss 0) c.new-reached.ensures.automata ∙ h)) in
+    let begun = begun-starts net es from case first (states_of c.new-reached.result.automata) _ c.in_ok-add_starts.ensures.ok c.new-reached.ensures.automata h in
     let all = all-asked net es from case first xs c.walk.new.self.steps.items begun c.in_ok-walk.ensures.ok in
     subst IsGraph
     (sym (graph-made net (plan_of es from case) first xs c.in_ok-nodes.nodes c.in_ok-starts.starts c.walk.new.self.steps.items c.into_parts-steps.result.0 c.len.result
@@ -45,8 +40,7 @@ returns-clause-built c = λ es h.
     let case = c.args.case.now in
     let first = standings_of c.add_starts.new.self in
     let xs = standings_of c.walk.new.self in
-    let begun = starts-are net es from case first (left_in (states_of c.new-reached.result.automata) 0) c.in_ok-add_starts.ensures.ok (left_in-is
-    (states_of c.new-reached.result.automata) 0 (start_of (locations net) es) (ap (λ ss. slice_get ss 0) c.new-reached.ensures.automata ∙ h)) in
+    let begun = begun-starts net es from case first (states_of c.new-reached.result.automata) _ c.in_ok-add_starts.ensures.ok c.new-reached.ensures.automata h in
     let all = all-asked net es from case first xs c.walk.new.self.steps.items begun c.in_ok-walk.ensures.ok in (
       xs,
       all.standings,

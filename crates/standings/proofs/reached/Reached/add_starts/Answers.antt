@@ -66,30 +66,10 @@ all_starts net es p k before xs rules none added all =
     let size = ap length is in
     (is, subst (AreWithin net) (sym is) (starts-within net es p), subst (IsDistinct same_standing) (sym is) (starts-different es p n), omega (arith, size))
 
-pub returns-clause-ok : goal.returns-clause-ok
-returns-clause-ok c =
+pub returns : goal.returns
+returns c =
     let all : c.loop-number.number ≡ length c.args.net.now.routers + length c.args.net.now.peers =
     omega (arith, c.loop-number-test.false, c.loop-number.auto.number-end, ap length c.routers.ensures.routers, ap length c.peers.ensures.peers) in
-    (all_starts c.args.net.now (left_in (states_of c.args.self.now.automata) 0) (holds c.args.case.now.origins) c.loop-number.number (standings_of c.args.self.now)
-    (standings_of c.loop-number.self) c.routers.ensures.rules c.requires.none c.loop-number.invariant.added all).0
-
-pub returns-clause-within : goal.returns-clause-within
-returns-clause-within c =
-    let all : c.loop-number.number ≡ length c.args.net.now.routers + length c.args.net.now.peers =
-    omega (arith, c.loop-number-test.false, c.loop-number.auto.number-end, ap length c.routers.ensures.routers, ap length c.peers.ensures.peers) in
-    (all_starts c.args.net.now (left_in (states_of c.args.self.now.automata) 0) (holds c.args.case.now.origins) c.loop-number.number (standings_of c.args.self.now)
-    (standings_of c.loop-number.self) c.routers.ensures.rules c.requires.none c.loop-number.invariant.added all).1
-
-pub returns-clause-different : goal.returns-clause-different
-returns-clause-different c =
-    let all : c.loop-number.number ≡ length c.args.net.now.routers + length c.args.net.now.peers =
-    omega (arith, c.loop-number-test.false, c.loop-number.auto.number-end, ap length c.routers.ensures.routers, ap length c.peers.ensures.peers) in
-    (all_starts c.args.net.now (left_in (states_of c.args.self.now.automata) 0) (holds c.args.case.now.origins) c.loop-number.number (standings_of c.args.self.now)
-    (standings_of c.loop-number.self) c.routers.ensures.rules c.requires.none c.loop-number.invariant.added all).2
-
-pub returns-clause-few : goal.returns-clause-few
-returns-clause-few c =
-    let all : c.loop-number.number ≡ length c.args.net.now.routers + length c.args.net.now.peers =
-    omega (arith, c.loop-number-test.false, c.loop-number.auto.number-end, ap length c.routers.ensures.routers, ap length c.peers.ensures.peers) in
-    (all_starts c.args.net.now (left_in (states_of c.args.self.now.automata) 0) (holds c.args.case.now.origins) c.loop-number.number (standings_of c.args.self.now)
-    (standings_of c.loop-number.self) c.routers.ensures.rules c.requires.none c.loop-number.invariant.added all).3
+    let are = all_starts c.args.net.now (left_in (states_of c.args.self.now.automata) 0) (holds c.args.case.now.origins) c.loop-number.number (standings_of c.args.self.now)
+    (standings_of c.loop-number.self) c.routers.ensures.rules c.requires.none c.loop-number.invariant.added all in
+    record { ok = are.0; within = are.1; different = are.2; few = are.3; steps = c.loop-number.invariant.steps; kept = c.loop-number.invariant.kept }

@@ -2,10 +2,10 @@ use Rattle.std.proofs.Common.{◌≡◌, ℕ, ◌+◌, ◌<◌, refl, ap, sym, s
 use Rattle.path_automata.specs.States.{states_of}
 use Rattle.path_automata.proofs.StateLemmas.{extends-itself}
 use Rattle.standings.specs.Growth.{AreAsked, each_live, gathered, left_in, next_in, standings_of, ways}
-use Rattle.standings.proofs.Asking.{asked-key, asked-start, asked-within, key-within, reached-key}
+use Rattle.standings.proofs.Asking.{asked-key, asked-start, asked-within, key-within, reached-key, ways_here}
 use Rattle.standings.proofs.Gathering.{gathered-extends}
 use Rattle.standings.proofs.Numbering.{extends-further, known-at, length-standings_in}
-use Rattle.standings.proofs.Below.{length-made, made-at}
+use Rattle.standings.proofs.Below.{length-made}
 use Rattle.standings.proofs.reached.Reached.walk.Goals as goal
 
 pub loop-number-init : goal.loop-number-init
@@ -45,13 +45,9 @@ loop-number-preserved c =
     let steps = c.loop-number.self.steps.items in
     let n = c.loop-number.number in
     let at = c.standing-at.result.0 in
-    let all_within = asked-within net case first (standings_of c.loop-number.self) steps n c.requires.within c.loop-number.invariant.asked in
-    let within = key-within net states keys n at c.standing-at.result.1 all_within c.standing-at.ensures in
     let element = c.index.ensures ∙ ap (λ k. get_or c.in_ok-ways.ways.items k c.index.result.now) c.number.ensures in
-    let here : c.deref.result.now ≡ ways net case at =
-    c.deref.ensures.value
-    ∙ made-at (λ v. v.items) c.in_ok-ways.ways.items (ways net case) (length net.routers + length net.peers) at c.index.result.now
-    c.index.result.now c.in_ok-ways.ensures within element in
+    let here = c.deref.ensures.value ∙ ways_here net case (λ v. v.items) c.in_ok-ways.ways.items states keys first steps n at c.standing-at.result.1 c.index.result.now c.index.result.now
+    c.requires.within c.loop-number.invariant.asked c.standing-at.ensures c.in_ok-ways.ensures element in
     let size = length-standings_in states keys in
     let longer = gathered-extends (standings_of c.loop-number.self) (each_live (left_in states c.standing-at.result.1) c.deref.result.now) in
     let grown = ap length (c.in_ok-add_steps.ensures.ok ∙ longer.1) ∙ length-append (standings_of c.loop-number.self) longer.0 in
@@ -84,13 +80,9 @@ returns-in_err-add_steps-clause-many c = λ fault.
     let steps = c.loop-number.self.steps.items in
     let n = c.loop-number.number in
     let at = c.standing-at.result.0 in
-    let all_within = asked-within net case first (standings_of c.loop-number.self) steps n c.requires.within c.loop-number.invariant.asked in
-    let within = key-within net states keys n at c.standing-at.result.1 all_within c.standing-at.ensures in
     let element = c.index.ensures ∙ ap (λ k. get_or c.in_ok-ways.ways.items k c.index.result.now) c.number.ensures in
-    let here : c.deref.result.now ≡ ways net case at =
-    c.deref.ensures.value
-    ∙ made-at (λ v. v.items) c.in_ok-ways.ways.items (ways net case) (length net.routers + length net.peers) at c.index.result.now
-    c.index.result.now c.in_ok-ways.ensures within element in
+    let here = c.deref.ensures.value ∙ ways_here net case (λ v. v.items) c.in_ok-ways.ways.items states keys first steps n at c.standing-at.result.1 c.index.result.now c.index.result.now
+    c.requires.within c.loop-number.invariant.asked c.standing-at.ensures c.in_ok-ways.ensures element in
     let grown = λ (m : ℕ). gathered (standings_of c.loop-number.self) (each_live (left_in states c.standing-at.result.1) (take m c.deref.result.now)) in
     let part : (m : ℕ) × (4096 < length (grown m)) = search rules in (
       grown part.0,

@@ -1,30 +1,18 @@
 -- Listeners of a faithful graph have ranks.
-use Rattle.std.proofs.Common.{◌≡◌, ℕ, Bool, true, false, List, [], ◌∷◌, ◌++◌, Some, sym, ap, ◌∙◌}
+use Rattle.std.proofs.Common.{◌≡◌, ℕ, ◌<◌, Bool, true, false, List, [], ◌∷◌, ◌++◌, length, Some, sym, ap, ◌∙◌}
 use Rattle.std.specs.Prelude.{not, is_some}
 use Rattle.std.proofs.lemmas.Bool.{and_from, and_parts, not-true, true≢false}
 use Rattle.net_base.specs.Network.{PlainNet, is_peer}
 use Rattle.policy_base.specs.Policies.{PlainStatement}
 use Rattle.policy_base.specs.Permitted.{from_holds}
-use Rattle.graph_base.specs.Graphs.{PlainGraph, IsGraph}
-use Rattle.graph_base.specs.Rules.{MeetsRules}
-use Rattle.graph_base.specs.Runs.{is_start, place_of, rank_at, run}
-use Rattle.relation_law.specs.Evidence.{AreRanked}
-use Rattle.evidence_law.specs.Faithful.{IsFaithful, may_start, permits}
-use Rattle.graph_base.proofs.StartsAndSteps.{start_at-is}
-use Rattle.graph_base.proofs.RunSteps.{late_no_origin, run_begins}
 use Rattle.policy_base.proofs.Peers.{peer_inside}
 use Rattle.policy_base.proofs.WalkParts.{walk_parts}
+use Rattle.graph_base.specs.Graphs.{PlainGraph, IsGraph}
+use Rattle.graph_base.specs.Runs.{is_listener, is_start, place_of, rank_at, run}
+use Rattle.graph_base.proofs.RunSteps.{late_no_origin, run_begins}
+use Rattle.graph_base.proofs.StartsAndSteps.{start_at-is}
+use Rattle.evidence_law.specs.Faithful.{IsFaithful, may_start, permits}
 use Rattle.evidence_law.proofs.PermittedWalks.{permits_parts}
-
--- the rules ask for ranks at claimed routers alone
-pub rules_claimed : (net : PlainNet) (One Other : ℕ → Type 0) (external : Bool) (g : PlainGraph) (number : ℕ → ℕ) → ((l : ℕ) → Other l → One l)
-    → MeetsRules net One external g number → MeetsRules net Other external g number
-rules_claimed net One Other external g number to rules = record {
-  rank = λ m n i over claimed. rules.rank m n i over (to (place_of g n) claimed);
-  step = rules.step;
-  loop = rules.loop;
-  listener = rules.listener;
-}
 
 module _ (net : PlainNet) (s : PlainStatement) (origin : ℕ → Bool) (external : Bool) (g : PlainGraph) (graph_rules : IsGraph g) (faithful : IsFaithful net s origin external g) where
   -- a node at a peer at which a walk ends has the rank of that walk, since nothing stands in front of a peer
@@ -43,8 +31,8 @@ module _ (net : PlainNet) (s : PlainStatement) (origin : ℕ → Bool) (external
       let walk = walk_parts net (a ∷ above ++ l ∷ k ∷ ls) (permits_parts net origin s (a ∷ above ++ l ∷ k ∷ ls) permitted).0 in
       absurd (true≢false (sym (peer_inside net above l k ls (ap (is_peer net) (sym at) ∙ peer)) ∙ walk.1))
 
-  pub listeners_are_ranked : AreRanked g
-  listeners_are_ranked n node hears =
+  pub listeners_ranked : (n : ℕ) → n < length g.nodes → is_listener g n ≡ true → is_some (rank_at g n) ≡ true
+  listeners_ranked n node hears =
       let kind = and_parts (is_peer net (place_of g n)) (not (is_start g n)) (sym (faithful.formed.listeners n node) ∙ hears) in
       let ended = faithful.is_ended n node in
       let suffix = faithful.has_no_other ended.0 ended.1 (ap is_some ended.2) in
