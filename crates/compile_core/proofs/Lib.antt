@@ -8,3 +8,4 @@ pub mod Whole
 pub mod Agreement
 pub mod OneRefusal
 pub mod NoEvidence
+pub mod Configured

@@ -1,5 +1,5 @@
 -- What is made of the cases that are given.
-use Rattle.std.proofs.Common.{◌≡◌, ℕ, ◌<◌, ◌^◌, List, length, map, Some, sym, ap, subst, ◌∙◌}
+use Rattle.std.proofs.Common.{◌≡◌, ℕ, ◌<◌, ◌^◌, List, length, Some, sym, ap, subst, ◌∙◌}
 use Rattle.std.specs.Prelude.{slice_get}
 use Rattle.net_base.specs.declared.numbers.Tag.{Tag}
 use Rattle.net_base.specs.Network.{PlainNet, IsNet}
@@ -11,17 +11,18 @@ use Rattle.graph_base.specs.Graphs.{PlainGraph}
 use Rattle.config_base.specs.Configs.{PlainConfig}
 use Rattle.evidence_base.specs.Evidence.{IsCaseEvidence}
 use Rattle.evidence_base.specs.Made.{PlainCaseEvidence, AreTags, IsConfigOf}
-use Rattle.config_made.specs.Conditions.{AreClasses, IsSingle}
+use Rattle.config_made.specs.Conditions.{AreGraphs, AreSingle}
 use Rattle.config_made.proofs.CaseClasses.{case_lists}
+use Rattle.config_made.proofs.Possible.{configuration}
 use Rattle.tag_assign.specs.Tagging.{tags_of, all_nodes}
 use Rattle.evidence_law.specs.Passes.{Passes}
 use Rattle.policy_base.specs.CaseNumbers.{OriginsAreRouters}
 use Rattle.case_evidence.specs.declared.accepted.AcceptedCase.{AcceptedCase}
 use Rattle.compile_core.specs.Accepting.{AreAllGiven}
-use Rattle.compile_core.specs.Compiling.{evidence_of, IsMade, graphs_of}
-use Rattle.compile_core.proofs.Known.{are_tags, as_many_graphs, as_many_prefs, case_evidence, evidence_for, known_at, passing, single}
+use Rattle.compile_core.specs.Compiling.{evidence_of, IsEvidenceOfMade, IsMade, graphs_of}
+use Rattle.compile_core.proofs.Known.{are_tags, as_many_graphs, as_many_prefs, case_evidence, case_graph, evidence_for, known_at, passing, single}
 use Rattle.compile_core.proofs.Limits.{few_nodes}
-use Rattle.compile_core.proofs.Parts.{all_parts, as_many_tags}
+use Rattle.compile_core.proofs.Parts.{as_many_tags}
 
 -- there are few cases
 pub few_cases : (net : PlainNet) (policy : PlainPolicy) (cs : List Case) → IsPolicy policy → cs ≡ case_list net policy → length cs < 2 ^ 32
@@ -61,19 +62,21 @@ module _ (net : PlainNet) (rules : IsNet net) (policy : PlainPolicy) (kept : IsP
   pub tags_each : length ts ≡ length cs
   tags_each = ap length tags ∙ as_many_tags net graphs ∙ ap length (sym same_g) ∙ graph_each
 
-  pub classes : AreClasses policy (map (λ (e : PlainCaseEvidence). e.case) (evidence_of cs gs ps ts))
-  classes = subst (AreClasses policy) (sym ((all_parts cs gs ps ts graph_each prefs_each tags_each).cases ∙ cases)) (case_lists net policy kept)
+  singles : AreSingle net (evidence_of cs gs ps ts)
+  singles k e at = single net policy e (known_at net rules policy routers accepted given.1.count given.1.each k e (there k e at))
 
-  pub each_single : (k : ℕ) (e : PlainCaseEvidence) → slice_get (evidence_of cs gs ps ts) k ≡ Some e → IsSingle net e.graph
-  each_single k e at = single net policy e (known_at net rules policy routers accepted given.1.count given.1.each k e (there k e at))
+  each_graph : AreGraphs (evidence_of cs gs ps ts)
+  each_graph k e at =
+      let known = known_at net rules policy routers accepted given.1.count given.1.each k e (there k e at) in
+      (case_graph net policy e known known.statement known.of).graph
 
   pub each_kept : (k : ℕ) (e : PlainCaseEvidence) → slice_get (evidence_of cs gs ps ts) k ≡ Some e → IsCaseEvidence e
   each_kept k e at = case_evidence net policy e (known_at net rules policy routers accepted given.1.count given.1.each k e (there k e at)) rules
 
-  pub differ : AreTags net (evidence_of cs gs ps ts)
+  differ : AreTags net (evidence_of cs gs ps ts)
   differ = subst (AreTags net) (sym same) (are_tags net rules policy routers accepted given.1.count given.1.each kept)
 
-  pub made : (config : PlainConfig) → IsConfigOf net policy (evidence_of cs gs ps ts) config → IsMade net policy config (evidence_of cs gs ps ts)
+  made : (config : PlainConfig) → IsConfigOf net policy (evidence_of cs gs ps ts) config → IsMade net policy config (evidence_of cs gs ps ts)
   made config lines = record {
     accepted = accepted;
     all = given.1.count;
@@ -82,7 +85,13 @@ module _ (net : PlainNet) (rules : IsNet net) (policy : PlainPolicy) (kept : IsP
     lines = lines;
   }
 
-  pub passes : (config : PlainConfig) → IsConfigOf net policy (evidence_of cs gs ps ts) config → Passes net policy config (evidence_of cs gs ps ts)
+  passes : (config : PlainConfig) → IsConfigOf net policy (evidence_of cs gs ps ts) config → Passes net policy config (evidence_of cs gs ps ts)
   passes config lines =
       subst (Passes net policy config) (sym same)
       (passing net rules policy routers accepted given.1.count given.1.each config kept (subst (λ es. IsConfigOf net policy es config) same lines))
+
+  -- a configuration can be made of it, and so it is evidence
+  pub is_evidence : IsEvidenceOfMade net policy (evidence_of cs gs ps ts)
+  is_evidence =
+      let config = configuration net policy (evidence_of cs gs ps ts) rules each_graph singles differ in
+      (config.0, made config.0 config.1, passes config.0 config.1)

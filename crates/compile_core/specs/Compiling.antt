@@ -9,7 +9,7 @@ use Rattle.graph_base.specs.Graphs.{PlainGraph}
 use Rattle.graph_base.specs.declared.graph.Prefs.{Prefs}
 use Rattle.config_base.specs.Configs.{PlainConfig}
 use Rattle.evidence_base.specs.Made.{PlainCaseEvidence, IsConfigOf}
-use Rattle.evidence_law.specs.Passes.{all_steps}
+use Rattle.evidence_law.specs.Passes.{Passes, all_steps}
 use Rattle.tag_assign.specs.Tagging.{tags_of}
 use Rattle.policy_base.specs.CaseNumbers.{OfCase}
 use Rattle.case_core.specs.declared.refusal.CompileRefusal.{CompileRefusal}
@@ -49,6 +49,10 @@ pub record IsMade (net : PlainNet) (policy : PlainPolicy) (config : PlainConfig)
   pub each : AreAccepted net policy accepted
   pub evidence : cs ≡ evidence_of (case_list net policy) (graphs_of accepted) (prefs_of accepted) (tags_of net (graphs_of accepted))
   pub lines : IsConfigOf net policy cs config
+
+-- The evidence of what is made of a policy: it passes for the configuration that is made of it, whether that is written down or not.
+abbrev pub IsEvidenceOfMade : PlainNet → PlainPolicy → List PlainCaseEvidence → Type 0
+IsEvidenceOfMade net policy cs = (config : PlainConfig) × IsMade net policy config cs × Passes net policy config cs
 
 -- what a refusal says of the policy, where these cases are accepted before
 abbrev pub IsRefusalAfter : PlainNet → PlainPolicy → List AcceptedCase → CompileRefusal → Type 0

@@ -1,57 +1,33 @@
 //! The compiler.
-ghost use Rattle.std.specs.Prelude.{◌≡◌, IfErr, IfOk};
-ghost use Rattle.net_base.specs.Network.{IsNet};
-ghost use Rattle.policy_base.specs.Cases.{case_list};
-ghost use Rattle.policy_base.specs.Policies.{IsPolicy, policy_of};
-ghost use Rattle.tag_assign.specs.Tagging.{tags_of};
+ghost use Rattle.std.specs.Prelude.{IfErr, IfOk};
+ghost use Rattle.policy_base.specs.Policies.{policy_of};
 ghost use Rattle.evidence_law.specs.Passes.{Passes};
 ghost use Rattle.policy_base.specs.CaseNumbers.{OriginsAreRouters};
-ghost use Rattle.compile_core.specs.Accepting.{AreAllGiven};
-ghost use Rattle.compile_core.specs.Compiling.{IsMade, IsRefusal};
+ghost use Rattle.compile_core.specs.Compiling.{IsEvidenceOfMade, IsMade, IsRefusal};
 
-use crate::accept::{Accepted, accepted_cases};
+use crate::accept::accepted_cases;
 use crate::compiled::Compiled;
 use crate::evidence::evidence_of;
 use case_core::CompileRefusal;
 use config_made::config_of;
-use graph_base::Tags;
+use evidence_base::Evidence;
 use net_base::{Net, known_net};
-use policy_base::{Case, Policy, cases, known_policy};
+use outside::NoMemory;
+use policy_base::{Policy, cases, known_policy};
 use std::alloc::Global;
 use tag_assign::tags;
 
-/// The configuration and the evidence of all cases.
-fn compiled(
+/// The evidence of a policy, whose origins are routers, for a network: that of its cases, each with its own graph, numbers and
+/// tags, or why the policy is refused. The cases are judged in order, with room for 131,072 steps over all of them, and the first
+/// one that isn't accepted is refused. If memory is not refused, there is evidence exactly where none of them is. It passes for the
+/// configuration that is made of it; none is made here, for those who write nothing of it.
+pub fn compiled_evidence(
     alloc: Global,
     net: &Net,
     policy: &Policy,
-    cases: &[Case],
-    all: Accepted,
-    tags: &Tags,
-) -> Result<Compiled, CompileRefusal>
-    requires net { IsNet net.now }
-    requires policy { IsPolicy (policy_of policy.now) }
-    requires cases { cases.now ≡ case_list net.now (policy_of policy.now) }
-    requires routers { OriginsAreRouters net.now policy.now.origins }
-    requires given { AreAllGiven net.now (policy_of policy.now) all.graphs.items all.prefs.items }
-    requires tags { tags.now.of ≡ tags_of net.now all.graphs.items }
-    ensures made { IfOk result (λ given. IsMade net.now (policy_of policy.now) given.config given.evidence.cases) }
-    ensures passes { IfOk result (λ given. Passes net.now (policy_of policy.now) given.config given.evidence.cases) }
-    ensures refused { IfErr result (λ e. IsRefusal net.now (policy_of policy.now) e) }
-{
-    let evidence = evidence_of(alloc, cases, all.graphs, all.prefs, tags.of.as_slice())?;
-    let config = config_of(alloc, net, policy, evidence.cases.as_slice())?;
-    Ok(Compiled { config, evidence })
-}
-
-/// Compiles a policy, whose origins are routers, for a network: the configuration of its cases, each with its own
-/// graph, numbers and tags, and the evidence that this configuration is right, or why the policy is refused. The
-/// cases are judged in order, with room for 131,072 steps over all of them, and the first one that isn't accepted
-/// is refused. If memory is not refused, a policy is compiled exactly where none of them is.
-pub fn compile(alloc: Global, net: &Net, policy: &Policy) -> Result<Compiled, CompileRefusal>
+) -> Result<Evidence, CompileRefusal>
     requires { OriginsAreRouters net.now policy.now.origins }
-    ensures made { IfOk result (λ given. IsMade net.now (policy_of policy.now) given.config given.evidence.cases) }
-    ensures passes { IfOk result (λ given. Passes net.now (policy_of policy.now) given.config given.evidence.cases) }
+    ensures made { IfOk result (λ evidence. IsEvidenceOfMade net.now (policy_of policy.now) evidence.cases) }
     ensures refused { IfErr result (λ e. IsRefusal net.now (policy_of policy.now) e) }
 {
     known_net(net);
@@ -59,5 +35,42 @@ pub fn compile(alloc: Global, net: &Net, policy: &Policy) -> Result<Compiled, Co
     let list = cases(alloc, net, policy)?;
     let all = accepted_cases(alloc, net, policy, &list)?;
     let tags = tags(alloc, net, &all.graphs)?;
-    compiled(alloc, net, policy, list.cases.as_slice(), all, &tags)
+    Ok(evidence_of(
+        alloc,
+        list.cases.as_slice(),
+        all.graphs,
+        all.prefs,
+        tags.of.as_slice(),
+    )?)
+}
+
+// The evidence of a policy with the configuration that is made of it.
+fn with_config(
+    alloc: Global,
+    net: &Net,
+    policy: &Policy,
+    evidence: Evidence,
+) -> Result<Compiled, NoMemory>
+    requires routers { OriginsAreRouters net.now policy.now.origins }
+    requires made { IsEvidenceOfMade net.now (policy_of policy.now) evidence.cases }
+    ensures made { IfOk result (λ given. IsMade net.now (policy_of policy.now) given.config given.evidence.cases) }
+    ensures passes { IfOk result (λ given. Passes net.now (policy_of policy.now) given.config given.evidence.cases) }
+{
+    known_net(net);
+    known_policy(policy);
+    let config = config_of(alloc, net, policy, evidence.cases.as_slice())?;
+    Ok(Compiled { config, evidence })
+}
+
+/// Compiles a policy, whose origins are routers, for a network: the configuration of its cases, and the evidence that this
+/// configuration is right, or why the policy is refused. If memory is not refused, a policy is compiled exactly where none of its
+/// cases is.
+pub fn compile(alloc: Global, net: &Net, policy: &Policy) -> Result<Compiled, CompileRefusal>
+    requires { OriginsAreRouters net.now policy.now.origins }
+    ensures made { IfOk result (λ given. IsMade net.now (policy_of policy.now) given.config given.evidence.cases) }
+    ensures passes { IfOk result (λ given. Passes net.now (policy_of policy.now) given.config given.evidence.cases) }
+    ensures refused { IfErr result (λ e. IsRefusal net.now (policy_of policy.now) e) }
+{
+    let evidence = compiled_evidence(alloc, net, policy)?;
+    Ok(with_config(alloc, net, policy, evidence)?)
 }

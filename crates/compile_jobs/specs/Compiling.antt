@@ -4,7 +4,9 @@ use Rattle.net_base.specs.Network.{PlainNet}
 use Rattle.policy_base.specs.Policies.{PlainPolicy}
 use Rattle.config_base.specs.Configs.{PlainConfig}
 use Rattle.evidence_base.specs.Made.{PlainCaseEvidence}
+use Rattle.evidence_base.specs.declared.evidence.Evidence.{Evidence}
 use Rattle.case_core.specs.declared.refusal.CompileRefusal.{CompileRefusal}
+use Rattle.compile_core.specs.Compiling.{IsEvidenceOfMade}
 use Rattle.compile_core.specs.declared.compiled.Compiled.{Compiled}
 use Rattle.compile_jobs.specs.Compiled.{IsCompiled, IsRefusedFor}
 use Rattle.input_texts.specs.Texts.{OfAllTexts, OfRead}
@@ -17,10 +19,19 @@ use Rattle.run_base.specs.declared.outcome.Stop.{Stop}
 abbrev pub SaysRefusal : PlainNet → PlainPolicy → Said → Type 0
 SaysRefusal net policy what = (e : CompileRefusal) × IsRefusedFor net policy e × (what ≡ line Refused (refusal_line net e))
 
--- What was compiled from the policy; or a refusal is said that applies to it, or that memory ran out.
+-- A refusal is said that applies to the policy, or that memory ran out.
+abbrev pub IsRefusing : PlainNet → PlainPolicy → Stop → Type 0
+IsRefusing net policy s = (stop_said s ≡ no_memory) ⊎ SaysRefusal net policy (stop_said s)
+
+-- What was compiled from the policy, or why it is refused.
 abbrev pub IsCompiledOr : PlainNet → PlainPolicy → Result Compiled Stop → Type 0
 IsCompiledOr net policy (Ok compiled) = IsCompiled net policy compiled.config compiled.evidence.cases
-IsCompiledOr net policy (Err s) = (stop_said s ≡ no_memory) ⊎ SaysRefusal net policy (stop_said s)
+IsCompiledOr net policy (Err s) = IsRefusing net policy s
+
+-- The evidence of what is compiled from the policy, or why it is refused.
+abbrev pub IsCompiledEvidenceOr : PlainNet → PlainPolicy → Result Evidence Stop → Type 0
+IsCompiledEvidenceOr net policy (Ok evidence) = IsEvidenceOfMade net policy evidence.cases
+IsCompiledEvidenceOr net policy (Err s) = IsRefusing net policy s
 
 -- A text that is to be written of a configuration which is compiled from the policy, and of its evidence, or the line of a
 -- refusal that applies to it.

@@ -6,7 +6,7 @@ ghost use Rattle.compile_jobs.specs.Explained.{SaysOfPolicy};
 ghost use Rattle.input_texts.specs.Texts.{OfTexts};
 ghost use Rattle.run_base.specs.Said.{IsGiven, said};
 
-use compile_core::{CompileRefusal, compile};
+use compile_core::{CompileRefusal, compiled_evidence};
 use input_texts::{net_of, policy_for};
 use net_base::Net;
 use policy_base::Policy;
@@ -20,7 +20,7 @@ fn policy_text(alloc: Global, net: &Net, policy: &Policy) -> Result<Vec<u8>, Sto
     requires { OriginsAreRouters net.now policy.now.origins }
     ensures { IsGiven (SaysOfPolicy net.now (policy_of policy.now)) (said result) }
 {
-    match compile(alloc, net, policy) {
+    match compiled_evidence(alloc, net, policy) {
         Ok(_) => Ok(accepted_line(alloc)?),
         Err(CompileRefusal::NoMemory) => Err(Stop::NoMemory),
         Err(refusal) => Ok(explanation(alloc, net, &refusal)?),

@@ -7,7 +7,7 @@ ghost use Rattle.sample_network.specs.SamplePolicy.{sample_policy};
 ghost use Rattle.compile_jobs.specs.Sampled.{SaysOfNumber};
 ghost use Rattle.run_base.specs.Said.{IsGiven, said};
 
-use crate::pairs::compiled_for;
+use crate::pairs::compiled_evidence_for;
 use evidence_summary::summary;
 use input_texts::{net_of, policy_for};
 use net_base::Net;
@@ -23,8 +23,8 @@ fn summary_text(alloc: Global, leaves: u16, net: &Net, policy: &Policy) -> Resul
     requires routers { OriginsAreRouters net.now policy.now.origins }
     ensures { IsGiven (SaysOfNumber leaves) (said result) }
 {
-    let compiled = compiled_for(alloc, net, policy)?;
-    Ok(summary(alloc, leaves, net, compiled.evidence.cases.as_slice())?)
+    let evidence = compiled_evidence_for(alloc, net, policy)?;
+    Ok(summary(alloc, leaves, net, evidence.cases.as_slice())?)
 }
 
 /// What the number of a sample comes to: both texts are made and read, and what is compiled is told in numbers.

@@ -41,43 +41,33 @@ ascends key P R up (x ∷ xs) all sorted = (keys_above key P R x up all.0 xs all
 
 -- ---- the order by three numbers
 
-below_by_tag : (a b : Hop) → ordering_then (nat_cmp a.class b.class) (ordering_then (tag_order a.tag b.tag) (ordering_then (tag_order a.set b.set) (nat_cmp a.pref b.pref))) ≡ Less
-    → (a.class ≡ b.class → a.tag ≡ b.tag → ⊥) → IsBelow (tag_key a.class a.tag) (tag_key b.class b.tag)
-below_by_tag a b h apart = elim (ordering_then-Less (nat_cmp a.class b.class) _ h) [
-  | inl t ↦ let low : a.class < b.class = nat_cmp-Less a.class b.class t in (omega (arith, low), λ e. absurd (omega (arith, low, e)))
+below_by : (c d x y u v : ℕ) (rest : Ordering) → ordering_then (nat_cmp c d) (ordering_then (ordering_then (nat_cmp x y) (nat_cmp u v)) rest) ≡ Less
+    → (c ≡ d → ordering_then (nat_cmp x y) (nat_cmp u v) ≡ Equal → ⊥) → IsBelow (record { first = c; second = x; third = u }) (record { first = d; second = y; third = v })
+below_by c d x y u v rest h apart = elim (ordering_then-Less (nat_cmp c d) _ h) [
+  | inl t ↦ let low : c < d = nat_cmp-Less c d t in (omega (arith, low), λ e. absurd (omega (arith, low, e)))
   | inr t ↦
-      let same : a.class ≡ b.class = nat_cmp-Equal a.class b.class t.0 in
-      elim (ordering_then-Less (tag_order a.tag b.tag) _ t.1) [
-        | inr u ↦ absurd (apart same (tag_exact a.tag b.tag (ap is_eq u.0)))
-        | inl u ↦ elim (ordering_then-Less (nat_cmp a.tag.asn b.tag.asn) _ u) [
-          | inl v ↦ let low : a.tag.asn < b.tag.asn = nat_cmp-Less a.tag.asn b.tag.asn v in (omega (arith, same), λ e. (omega (arith, low), λ f. absurd (omega (arith, low, f))))
-          | inr v ↦
-              let asn : a.tag.asn ≡ b.tag.asn = nat_cmp-Equal a.tag.asn b.tag.asn v.0 in
-              let low : a.tag.value < b.tag.value = nat_cmp-Less a.tag.value b.tag.value v.1 in
-              (omega (arith, same), λ e. (omega (arith, asn), λ f. low))
+      let same : c ≡ d = nat_cmp-Equal c d t.0 in
+      elim (ordering_then-Less (ordering_then (nat_cmp x y) (nat_cmp u v)) _ t.1) [
+        | inr e ↦ absurd (apart same e.0)
+        | inl e ↦ elim (ordering_then-Less (nat_cmp x y) _ e) [
+          | inl l ↦ let low : x < y = nat_cmp-Less x y l in (omega (arith, same), λ e. (omega (arith, low), λ f. absurd (omega (arith, low, f))))
+          | inr l ↦
+              let second : x ≡ y = nat_cmp-Equal x y l.0 in
+              let low : u < v = nat_cmp-Less u v l.1 in
+              (omega (arith, same), λ e. (omega (arith, second), λ f. low))
         ]
       ]
 ]
+
+below_by_tag : (a b : Hop) → ordering_then (nat_cmp a.class b.class) (ordering_then (tag_order a.tag b.tag) (ordering_then (tag_order a.set b.set) (nat_cmp a.pref b.pref))) ≡ Less
+    → (a.class ≡ b.class → a.tag ≡ b.tag → ⊥) → IsBelow (tag_key a.class a.tag) (tag_key b.class b.tag)
+below_by_tag a b h apart = below_by a.class b.class a.tag.asn b.tag.asn a.tag.value b.tag.value _ h (λ same e. apart same (tag_exact a.tag b.tag (ap is_eq e)))
 
 below_by_prefix : (a b : Announced) → ordering_then (nat_cmp a.class b.class) (ordering_then (prefix_order a.prefix b.prefix) (tag_order a.tag b.tag)) ≡ Less
     → (a.class ≡ b.class → a.prefix ≡ b.prefix → ⊥)
     → IsBelow (record { first = a.class; second = a.prefix.bits; third = a.prefix.len })
     (record { first = b.class; second = b.prefix.bits; third = b.prefix.len })
-below_by_prefix a b h apart = elim (ordering_then-Less (nat_cmp a.class b.class) _ h) [
-  | inl t ↦ let low : a.class < b.class = nat_cmp-Less a.class b.class t in (omega (arith, low), λ e. absurd (omega (arith, low, e)))
-  | inr t ↦
-      let same : a.class ≡ b.class = nat_cmp-Equal a.class b.class t.0 in
-      elim (ordering_then-Less (prefix_order a.prefix b.prefix) _ t.1) [
-        | inr u ↦ absurd (apart same (prefix_exact a.prefix b.prefix (ap is_eq u.0)))
-        | inl u ↦ elim (ordering_then-Less (nat_cmp a.prefix.bits b.prefix.bits) _ u) [
-          | inl v ↦ let low : a.prefix.bits < b.prefix.bits = nat_cmp-Less a.prefix.bits b.prefix.bits v in (omega (arith, same), λ e. (omega (arith, low), λ f. absurd (omega (arith, low, f))))
-          | inr v ↦
-              let bits : a.prefix.bits ≡ b.prefix.bits = nat_cmp-Equal a.prefix.bits b.prefix.bits v.0 in
-              let low : a.prefix.len < b.prefix.len = nat_cmp-Less a.prefix.len b.prefix.len v.1 in
-              (omega (arith, same), λ e. (omega (arith, bits), λ f. low))
-        ]
-      ]
-]
+below_by_prefix a b h apart = below_by a.class b.class a.prefix.bits b.prefix.bits a.prefix.len b.prefix.len _ h (λ same e. apart same (prefix_exact a.prefix b.prefix (ap is_eq e)))
 
 -- ---- one step and one start
 

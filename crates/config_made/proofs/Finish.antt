@@ -1,6 +1,6 @@
 -- The configuration that is made, by what its parts were made of.
-use Rattle.std.proofs.Common.{◌≡◌, ◌≢◌, ℕ, ◌<◌, ◌≤◌, ◌^◌, List, [], length, map, Some, All, sym, ap, ◌∙◌, subst, arith}
-use Rattle.std.specs.Prelude.{◌↔◌, slice_get}
+use Rattle.std.proofs.Common.{◌≡◌, ◌≢◌, ◌<◌, ◌≤◌, ◌^◌, List, [], length, map, All, sym, ap, ◌∙◌, subst, arith}
+use Rattle.std.specs.Prelude.{◌↔◌}
 use Rattle.std.specs.List.{AllByRecursion}
 use Rattle.std.specs.List.Sorted.{IsStrictlySortedBy}
 use Rattle.std.proofs.lemmas.List.{length-map}
@@ -8,7 +8,6 @@ use Rattle.net_base.specs.Prefixes.{PlainPattern}
 use Rattle.net_base.specs.Network.{PlainNet, IsNet}
 use Rattle.policy_base.specs.declared.case.Case.{Case}
 use Rattle.policy_base.specs.Policies.{PlainPolicy}
-use Rattle.graph_base.specs.Graphs.{IsGraph}
 use Rattle.config_base.specs.declared.config.RouterConfig.{RouterConfig}
 use Rattle.config_base.specs.Configs.{IsConfig}
 use Rattle.evidence_base.specs.Made.{PlainCaseEvidence, patterns_of, IsConfigOf, AreTags}
@@ -17,7 +16,7 @@ use Rattle.list_laws.proofs.Each.{AllByRecursion-map}
 use Rattle.list_laws.proofs.Changed.{map-map}
 use Rattle.config_made.specs.declared.hop.Hop.{Hop}
 use Rattle.config_made.specs.declared.hop.Announced.{Announced}
-use Rattle.config_made.specs.Conditions.{IsSingle, AreClasses}
+use Rattle.config_made.specs.Conditions.{AreClasses, AreGraphs, AreSingle}
 use Rattle.config_made.specs.Hops.{HasPref, hop_order, announced_order, hops_from, announced_from}
 use Rattle.config_made.specs.Writing.{routers_of}
 use Rattle.config_made.proofs.Whole.{config_kept, config_of_cases}
@@ -30,8 +29,8 @@ pub few_cases : (policy : PlainPolicy) (es : List PlainCaseEvidence) → AreClas
 few_cases policy es fit = subst (λ n. n < 2 ^ 32) (length-map es (λ (c : PlainCaseEvidence). c.case)) fit.count
 
 module _ (net : PlainNet) (rules : IsNet net) (policy : PlainPolicy) (evidence : List PlainCaseEvidence) (fit : AreClasses policy (cases_of evidence))
-    (graphs : (k : ℕ) (c : PlainCaseEvidence) → slice_get evidence k ≡ Some c → IsGraph c.graph)
-    (single : (k : ℕ) (c : PlainCaseEvidence) → slice_get evidence k ≡ Some c → IsSingle net c.graph) (tags : AreTags net evidence)
+    (graphs : AreGraphs evidence)
+    (single : AreSingle net evidence) (tags : AreTags net evidence)
     (raw hops : List Hop) (gathered : raw ≡ hops_from 1 evidence) (fits : All HasPref raw) (same_h : (h : Hop) → IsIn hops h ↔ IsIn raw h)
     (hops_up : IsStrictlySortedBy hop_order hops) (bare all : List Announced) (heard : bare ≡ announced_from 1 evidence)
     (same_a : (a : Announced) → IsIn all a ↔ IsIn bare a) (all_up : IsStrictlySortedBy announced_order all) (classes : List (List PlainPattern)) (routers : List RouterConfig)
@@ -52,10 +51,10 @@ module _ (net : PlainNet) (rules : IsNet net) (policy : PlainPolicy) (evidence :
       let patterns : AllByRecursion (λ (qs : List PlainPattern). qs ≢ []) classes =
       subst (AllByRecursion (λ (qs : List PlainPattern). qs ≢ [])) (sym each) (AllByRecursion-map (patterns_of policy) (λ (qs : List PlainPattern). qs ≢ []) (cases_of evidence) fit.patterns) in
       subst (λ rs. IsConfig (record { classes = classes; routers = rs })) (sym of_hops)
-      (config_kept net rules evidence (length evidence) short graphs single tags hops hops_are hops_up (subst (All HasPref) gathered fits) all all_are
-      all_up classes long (few_cases policy evidence fit) patterns)
+      (config_kept net rules evidence graphs single tags hops hops_are hops_up all all_are all_up (length evidence) short (subst (All HasPref) gathered fits)
+      classes long (few_cases policy evidence fit) patterns)
 
   pub made_of_cases : IsConfigOf net policy evidence (record { classes = classes; routers = routers })
   made_of_cases =
       subst (λ rs. IsConfigOf net policy evidence (record { classes = classes; routers = rs })) (sym of_hops)
-      (config_of_cases net rules evidence (length evidence) short graphs single tags hops hops_are hops_up (subst (All HasPref) gathered fits) all all_are all_up policy classes of_cases)
+      (config_of_cases net rules evidence graphs single tags hops hops_are hops_up all all_are all_up policy classes of_cases)

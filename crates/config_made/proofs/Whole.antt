@@ -15,7 +15,6 @@ use Rattle.net_base.specs.Numbers.{is_tag, no_tag}
 use Rattle.net_base.specs.Prefixes.{PlainPattern}
 use Rattle.net_base.specs.Network.{PlainNet, IsNet, is_peer, asn_of, id_of}
 use Rattle.policy_base.specs.Policies.{PlainPolicy}
-use Rattle.graph_base.specs.Graphs.{IsGraph}
 use Rattle.net_base.specs.Locations.{numbers_below, neighbours}
 use Rattle.graph_base.specs.Runs.{place_of}
 use Rattle.config_base.specs.declared.config.RouterConfig.{RouterConfig}
@@ -30,7 +29,7 @@ use Rattle.list_laws.proofs.Changed.{map-map}
 use Rattle.list_laws.proofs.Keys.{IsDistinct-sorted_keys}
 use Rattle.config_made.specs.declared.hop.Hop.{Hop}
 use Rattle.config_made.specs.declared.hop.Announced.{Announced}
-use Rattle.config_made.specs.Conditions.{IsSingle}
+use Rattle.config_made.specs.Conditions.{AreGraphs, AreSingle}
 use Rattle.config_made.specs.Hops.{HasPref, hop_order, announced_order, hops_from, announced_from, goes, stands}
 use Rattle.config_made.specs.Writing.{export_line, import_line, own_line, name_of, session_of, router_of, routers_of}
 use Rattle.config_made.proofs.Made.{IsAnnounced, class_place, is_hop, is_announced, exports_are, imports_are, own_are}
@@ -42,22 +41,16 @@ use Rattle.net_base.proofs.SiteNumbers.{apart_sites, identifier_fits, number_fit
 use Rattle.net_base.proofs.Sites.{site_at}
 use Rattle.config_made.proofs.Runs.{goes_parts}
 
-module _ (net : PlainNet) (rules : IsNet net) (cs : List PlainCaseEvidence) (count : ℕ) (few : length cs ≤ count)
-    (graphs : (k : ℕ) (c : PlainCaseEvidence) → slice_get cs k ≡ Some c → IsGraph c.graph)
-    (single : (k : ℕ) (c : PlainCaseEvidence) → slice_get cs k ≡ Some c → IsSingle net c.graph) (tags : AreTags net cs)
-    (hops : List Hop) (hops_are : (h : Hop) → IsIn hops h ↔ IsIn (hops_from 1 cs) h) (hops_up : IsStrictlySortedBy hop_order hops) (fits : All HasPref (hops_from 1 cs))
+module _ (net : PlainNet) (rules : IsNet net) (cs : List PlainCaseEvidence)
+    (graphs : AreGraphs cs)
+    (single : AreSingle net cs) (tags : AreTags net cs)
+    (hops : List Hop) (hops_are : (h : Hop) → IsIn hops h ↔ IsIn (hops_from 1 cs) h) (hops_up : IsStrictlySortedBy hop_order hops)
     (all : List Announced) (all_are : (a : Announced) → IsIn all a ↔ IsIn (announced_from 1 cs) a) (all_up : IsStrictlySortedBy announced_order all) where
   abbrev total : ℕ
   total = length net.routers + length net.peers
 
   abbrev routers : ℕ
   routers = length net.routers
-
-  class_fits : (class : ℕ) (c : PlainCaseEvidence) → case_at cs class ≡ Some c → IsClass count class
-  class_fits class c at =
-      let place = class_place cs class c at in
-      let within = slice_get_within cs place.0 c place.2 in
-      (omega (arith, place.1), omega (arith, place.1, within, few))
 
   -- ---- the lines between two locations
 
@@ -77,78 +70,6 @@ module _ (net : PlainNet) (rules : IsNet net) (cs : List PlainCaseEvidence) (cou
   exports_ascend : (x z : ℕ) → Ascend (map (λ (e : Export). tag_key e.class e.tag) (map export_line (filter (goes x z) hops)))
   exports_ascend x z = subst Ascend (sym (map-map (λ (e : Export). tag_key e.class e.tag) export_line (filter (goes x z) hops))) (hops_ascend x z)
 
-  -- the tag of a node at a router is a tag
-  tag_fits : (l class n : ℕ) (c : PlainCaseEvidence) → case_at cs class ≡ Some c → n < length c.graph.nodes → place_of c.graph n ≡ l → is_peer net l ≡ false → is_tag (tag_at c n) ≡ true
-  tag_fits l class n c at within here no_peer =
-      let place = class_place cs class c at in
-      (tags.at_routers place.0 n c place.2 within (ap (is_peer net) here ∙ no_peer)).0
-
-  tag_none : (l class n : ℕ) (c : PlainCaseEvidence) → case_at cs class ≡ Some c → n < length c.graph.nodes → place_of c.graph n ≡ l → is_peer net l ≡ true → tag_at c n ≡ no_tag
-  tag_none l class n c at within here peer =
-      let place = class_place cs class c at in
-      tags.at_peers place.0 n c place.2 within (ap (is_peer net) here ∙ peer)
-
-  import_fits : (x z : ℕ) → x < routers → (h : Hop) → IsBetween net cs graphs single tags z x h → HasPref h → IsImport count (session_of net hops x z) (import_line h)
-  import_fits x z at_router h of_h pref =
-      let is = of_h.0 in
-      let ends = goes_parts z x h of_h.1 in
-      let place = class_place cs h.class is.case is.step.at_class in
-      let within = step_within net cs graphs single tags place.0 is.case place.2 is.node is.next is.step.step in
-      let from = is.step.from ∙ ends.0 in
-      let to = is.step.to ∙ ends.1 in
-      let tag : HasTag (session_of net hops x z) h.tag = elim (cases_Bool (is_peer net z)) [
-        | inl t ↦ rw t (is.tag ∙ tag_none z h.class is.node is.case is.step.at_class within.0 from t)
-        | inr t ↦ rw t (ap is_tag is.tag ∙ tag_fits z h.class is.node is.case is.step.at_class within.0 from t)
-      ] in (
-        class_fits h.class is.case is.step.at_class,
-        tag,
-        ap is_tag is.set
-            ∙ tag_fits x h.class is.next is.case is.step.at_class within.1 to (router_no_peer net x (lt-ltb x (length net.routers) at_router)),
-        pref,
-      )
-
-  export_fits : (x z : ℕ) → x < routers → (h : Hop) → IsBetween net cs graphs single tags x z h → IsExport count (export_line h)
-  export_fits x z at_router h of_h =
-      let is = of_h.0 in
-      let ends = goes_parts x z h of_h.1 in
-      let place = class_place cs h.class is.case is.step.at_class in
-      let within = step_within net cs graphs single tags place.0 is.case place.2 is.node is.next is.step.step in (
-        class_fits h.class is.case is.step.at_class,
-        ap is_tag is.tag
-            ∙ tag_fits x h.class is.node is.case is.step.at_class within.0 (is.step.from ∙ ends.0)
-            (router_no_peer net x (lt-ltb x (length net.routers) at_router)),
-      )
-
-  pref_fits : (h : Hop) → IsIn hops h → HasPref h
-  pref_fits h at = All-contains HasPref (hops_from 1 cs) h fits (Contains-from_IsIn (hops_from 1 cs) h ((hops_are h).0 at))
-
-  session_kept : (x z : ℕ) → x < routers → z < total → IsSession count (session_of net hops x z)
-  session_kept x z at_router known = record {
-    number = number_fits net rules z known;
-    imports = AllByRecursion-from_IsIn (IsImport count (session_of net hops x z)) (map import_line (filter (goes z x) hops)) (λ rule at.
-        let line = IsIn-map_parts import_line (filter (goes z x) hops) rule at in
-        let found = IsIn-filter_parts (goes z x) hops line.0 line.1 in
-        subst (IsImport count (session_of net hops x z)) line.2 (import_fits x z at_router line.0 (is_hop cs hops hops_are line.0 found.0, found.1) (pref_fits line.0 found.0)));
-    import_order = imports_ascend z x;
-    exports = AllByRecursion-from_IsIn (IsExport count) (map export_line (filter (goes x z) hops)) (λ e at.
-        let line = IsIn-map_parts export_line (filter (goes x z) hops) e at in
-        let found = IsIn-filter_parts (goes x z) hops line.0 line.1 in
-        subst (IsExport count) line.2 (export_fits x z at_router line.0 (is_hop cs hops hops_are line.0 found.0, found.1)));
-    export_order = exports_ascend x z;
-  }
-
-  -- ---- the block of a router
-
-  own_fits : (x : ℕ) → x < routers → (a : Announced) → IsAnnounced cs a → a.at ≡ x → IsOrigination count (own_line a)
-  own_fits x at_router a is here =
-      let place = class_place cs a.class is.case is.at_class in
-      let within = start_within net cs graphs single tags place.0 is.case place.2 is.node is.start in (
-        class_fits a.class is.case is.at_class,
-        ap is_tag is.tag
-            ∙ tag_fits x a.class is.node is.case is.at_class within (is.place ∙ here)
-            (router_no_peer net x (lt-ltb x (length net.routers) at_router)),
-      )
-
   abbrev Stands : ℕ → Announced → Type 0
   Stands x a = IsAnnounced cs a × (stands x a ≡ true)
 
@@ -160,51 +81,6 @@ module _ (net : PlainNet) (rules : IsNet net) (cs : List PlainCaseEvidence) (cou
       subst Ascend (sym (map-map origination_key own_line (filter (stands x) all)))
       (ascends (λ (a : Announced). record { first = a.class; second = a.prefix.bits; third = a.prefix.len }) (Stands x) announced_order (announced_up net cs graphs single tags x) (filter (stands x) all) (standing x)
       (IsStrictlySortedBy-filter announced_order (stands x) all all_up))
-
-  names_apart : (a b : ℕ) → a < b → b < total → bytes_eq (name_of net a) (name_of net b) ≡ false
-  names_apart = apart_sites net bytes_eq (λ (s : Site). s.name) [] rules.names
-
-  router_kept : (x : ℕ) → x < routers → IsRouter count (router_of net hops all x)
-  router_kept x at_router = record {
-    number = router_number net rules x at_router;
-    identifier = identifier_fits net rules x (omega (arith, at_router));
-    own = AllByRecursion-from_IsIn (IsOrigination count) (map own_line (filter (stands x) all)) (λ o at.
-        let line = IsIn-map_parts own_line (filter (stands x) all) o at in
-        let found = IsIn-filter_parts (stands x) all line.0 line.1 in
-        subst (IsOrigination count) line.2 (own_fits x at_router line.0 (is_announced cs all all_are line.0 found.0) (eqb-true line.0.at x found.1)));
-    own_order = own_ascend x;
-    sessions = AllByRecursion-from_IsIn (IsSession count) (map (session_of net hops x) (neighbours net x)) (λ b at.
-        let found = IsIn-map_parts (session_of net hops x) (neighbours net x) b at in
-        subst (IsSession count) found.2 (session_kept x found.0 at_router (neighbour_known net x found.0 found.1)));
-    names = subst (IsDistinct bytes_eq) (sym (map-map (λ (s : Session). s.name) (session_of net hops x) (neighbours net x)))
-        (IsDistinct-sorted_keys bytes_eq (name_of net) total (neighbours net x) (sorted_neighbours net x)
-        (AllByRecursion-from_IsIn (λ z. z < total) (neighbours net x) (neighbour_known net x)) names_apart);
-  }
-
-  -- ---- all blocks
-
-  each_router : (r : RouterConfig) → IsIn (routers_of net hops all) r → IsRouter count r
-  each_router r at =
-      let found = IsIn-map_parts (router_of net hops all) (numbers_below routers) r at in
-      let got = number_got routers found.1.0 found.0 found.1.1 in
-      subst (IsRouter count) found.2 (router_kept found.0 (omega (arith, got.0, got.1)))
-
-  pub config_kept : (classes : List (List PlainPattern)) → length classes ≡ count → count < 2 ^ 32 → AllByRecursion (λ (ps : List PlainPattern). ps ≢ []) classes
-      → IsConfig (record { classes = classes; routers = routers_of net hops all })
-  config_kept classes long low patterns = record {
-    count = omega (arith, long, low);
-    patterns = patterns;
-    routers = subst (λ n. AllByRecursion (IsRouter n) (routers_of net hops all)) (sym long) (AllByRecursion-from_IsIn (IsRouter count) (routers_of net hops all) each_router);
-    names = subst (IsDistinct bytes_eq) (sym (map-map (λ (r : RouterConfig). r.name) (router_of net hops all) (numbers_below routers)))
-        (IsDistinct-sorted_keys bytes_eq (name_of net) routers (numbers_below routers) (sorted_numbers routers) (numbers-below routers)
-        (λ a b less within. names_apart a b less (omega (arith, within))));
-    asns = subst (IsDistinct nat_eq) (sym (map-map (λ (r : RouterConfig). r.asn) (router_of net hops all) (numbers_below routers)))
-        (IsDistinct-sorted_keys nat_eq (asn_of net) routers (numbers_below routers) (sorted_numbers routers) (numbers-below routers)
-        (λ a b less within. apart_sites net nat_eq (λ (s : Site). s.asn) 0 rules.asns a b less (omega (arith, within))));
-    ids = subst (IsDistinct nat_eq) (sym (map-map (λ (r : RouterConfig). r.id) (router_of net hops all) (numbers_below routers)))
-        (IsDistinct-sorted_keys nat_eq (id_of net) routers (numbers_below routers) (sorted_numbers routers) (numbers-below routers)
-        (λ a b less within. apart_sites net nat_eq (λ (s : Site). s.id) 0 rules.ids a b less (omega (arith, within))));
-  }
 
   -- ---- the configuration of the cases
 
@@ -252,3 +128,129 @@ module _ (net : PlainNet) (rules : IsNet net) (cs : List PlainCaseEvidence) (cou
       some_of : (o : Option ℕ) (f : ℕ → RouterConfig) (r : RouterConfig) → option_map f o ≡ Some r → (y : ℕ) × (o ≡ Some y) × (f y ≡ r)
       some_of None f r e = absurd cc
       some_of (Some y) f r e = (y, refl, cc)
+
+  -- ---- what every configuration keeps
+
+  module _ (count : ℕ) (few : length cs ≤ count) (fits : All HasPref (hops_from 1 cs)) where
+    class_fits : (class : ℕ) (c : PlainCaseEvidence) → case_at cs class ≡ Some c → IsClass count class
+    class_fits class c at =
+        let place = class_place cs class c at in
+        let within = slice_get_within cs place.0 c place.2 in
+        (omega (arith, place.1), omega (arith, place.1, within, few))
+
+    -- the tag of a node at a router is a tag
+    tag_fits : (l class n : ℕ) (c : PlainCaseEvidence) → case_at cs class ≡ Some c → n < length c.graph.nodes → place_of c.graph n ≡ l → is_peer net l ≡ false → is_tag (tag_at c n) ≡ true
+    tag_fits l class n c at within here no_peer =
+        let place = class_place cs class c at in
+        (tags.at_routers place.0 n c place.2 within (ap (is_peer net) here ∙ no_peer)).0
+
+    tag_none : (l class n : ℕ) (c : PlainCaseEvidence) → case_at cs class ≡ Some c → n < length c.graph.nodes → place_of c.graph n ≡ l → is_peer net l ≡ true → tag_at c n ≡ no_tag
+    tag_none l class n c at within here peer =
+        let place = class_place cs class c at in
+        tags.at_peers place.0 n c place.2 within (ap (is_peer net) here ∙ peer)
+
+    import_fits : (x z : ℕ) → x < routers → (h : Hop) → IsBetween net cs graphs single tags z x h → HasPref h → IsImport count (session_of net hops x z) (import_line h)
+    import_fits x z at_router h of_h pref =
+        let is = of_h.0 in
+        let ends = goes_parts z x h of_h.1 in
+        let place = class_place cs h.class is.case is.step.at_class in
+        let within = step_within net cs graphs single tags place.0 is.case place.2 is.node is.next is.step.step in
+        let from = is.step.from ∙ ends.0 in
+        let to = is.step.to ∙ ends.1 in
+        let tag : HasTag (session_of net hops x z) h.tag = elim (cases_Bool (is_peer net z)) [
+          | inl t ↦ rw t (is.tag ∙ tag_none z h.class is.node is.case is.step.at_class within.0 from t)
+          | inr t ↦ rw t (ap is_tag is.tag ∙ tag_fits z h.class is.node is.case is.step.at_class within.0 from t)
+        ] in (
+          class_fits h.class is.case is.step.at_class,
+          tag,
+          ap is_tag is.set
+              ∙ tag_fits x h.class is.next is.case is.step.at_class within.1 to (router_no_peer net x (lt-ltb x (length net.routers) at_router)),
+          pref,
+        )
+
+    export_fits : (x z : ℕ) → x < routers → (h : Hop) → IsBetween net cs graphs single tags x z h → IsExport count (export_line h)
+    export_fits x z at_router h of_h =
+        let is = of_h.0 in
+        let ends = goes_parts x z h of_h.1 in
+        let place = class_place cs h.class is.case is.step.at_class in
+        let within = step_within net cs graphs single tags place.0 is.case place.2 is.node is.next is.step.step in (
+          class_fits h.class is.case is.step.at_class,
+          ap is_tag is.tag
+              ∙ tag_fits x h.class is.node is.case is.step.at_class within.0 (is.step.from ∙ ends.0)
+              (router_no_peer net x (lt-ltb x (length net.routers) at_router)),
+        )
+
+    pref_fits : (h : Hop) → IsIn hops h → HasPref h
+    pref_fits h at = All-contains HasPref (hops_from 1 cs) h fits (Contains-from_IsIn (hops_from 1 cs) h ((hops_are h).0 at))
+
+    session_kept : (x z : ℕ) → x < routers → z < total → IsSession count (session_of net hops x z)
+    session_kept x z at_router known = record {
+      number = number_fits net rules z known;
+      imports = AllByRecursion-from_IsIn (IsImport count (session_of net hops x z)) (map import_line (filter (goes z x) hops)) (λ rule at.
+          let line = IsIn-map_parts import_line (filter (goes z x) hops) rule at in
+          let found = IsIn-filter_parts (goes z x) hops line.0 line.1 in
+          subst (IsImport count (session_of net hops x z)) line.2 (import_fits x z at_router line.0 (is_hop cs hops hops_are line.0 found.0, found.1) (pref_fits line.0 found.0)));
+      import_order = imports_ascend z x;
+      exports = AllByRecursion-from_IsIn (IsExport count) (map export_line (filter (goes x z) hops)) (λ e at.
+          let line = IsIn-map_parts export_line (filter (goes x z) hops) e at in
+          let found = IsIn-filter_parts (goes x z) hops line.0 line.1 in
+          subst (IsExport count) line.2 (export_fits x z at_router line.0 (is_hop cs hops hops_are line.0 found.0, found.1)));
+      export_order = exports_ascend x z;
+    }
+
+    -- ---- the block of a router
+
+    own_fits : (x : ℕ) → x < routers → (a : Announced) → IsAnnounced cs a → a.at ≡ x → IsOrigination count (own_line a)
+    own_fits x at_router a is here =
+        let place = class_place cs a.class is.case is.at_class in
+        let within = start_within net cs graphs single tags place.0 is.case place.2 is.node is.start in (
+          class_fits a.class is.case is.at_class,
+          ap is_tag is.tag
+              ∙ tag_fits x a.class is.node is.case is.at_class within (is.place ∙ here)
+              (router_no_peer net x (lt-ltb x (length net.routers) at_router)),
+        )
+
+    names_apart : (a b : ℕ) → a < b → b < total → bytes_eq (name_of net a) (name_of net b) ≡ false
+    names_apart = apart_sites net bytes_eq (λ (s : Site). s.name) [] rules.names
+
+    router_kept : (x : ℕ) → x < routers → IsRouter count (router_of net hops all x)
+    router_kept x at_router = record {
+      number = router_number net rules x at_router;
+      identifier = identifier_fits net rules x (omega (arith, at_router));
+      own = AllByRecursion-from_IsIn (IsOrigination count) (map own_line (filter (stands x) all)) (λ o at.
+          let line = IsIn-map_parts own_line (filter (stands x) all) o at in
+          let found = IsIn-filter_parts (stands x) all line.0 line.1 in
+          subst (IsOrigination count) line.2 (own_fits x at_router line.0 (is_announced cs all all_are line.0 found.0) (eqb-true line.0.at x found.1)));
+      own_order = own_ascend x;
+      sessions = AllByRecursion-from_IsIn (IsSession count) (map (session_of net hops x) (neighbours net x)) (λ b at.
+          let found = IsIn-map_parts (session_of net hops x) (neighbours net x) b at in
+          subst (IsSession count) found.2 (session_kept x found.0 at_router (neighbour_known net x found.0 found.1)));
+      names = subst (IsDistinct bytes_eq) (sym (map-map (λ (s : Session). s.name) (session_of net hops x) (neighbours net x)))
+          (IsDistinct-sorted_keys bytes_eq (name_of net) total (neighbours net x) (sorted_neighbours net x)
+          (AllByRecursion-from_IsIn (λ z. z < total) (neighbours net x) (neighbour_known net x)) names_apart);
+    }
+
+    -- ---- all blocks
+
+    each_router : (r : RouterConfig) → IsIn (routers_of net hops all) r → IsRouter count r
+    each_router r at =
+        let found = IsIn-map_parts (router_of net hops all) (numbers_below routers) r at in
+        let got = number_got routers found.1.0 found.0 found.1.1 in
+        subst (IsRouter count) found.2 (router_kept found.0 (omega (arith, got.0, got.1)))
+
+    pub config_kept : (classes : List (List PlainPattern)) → length classes ≡ count → count < 2 ^ 32 → AllByRecursion (λ (ps : List PlainPattern). ps ≢ []) classes
+        → IsConfig (record { classes = classes; routers = routers_of net hops all })
+    config_kept classes long low patterns = record {
+      count = omega (arith, long, low);
+      patterns = patterns;
+      routers = subst (λ n. AllByRecursion (IsRouter n) (routers_of net hops all)) (sym long) (AllByRecursion-from_IsIn (IsRouter count) (routers_of net hops all) each_router);
+      names = subst (IsDistinct bytes_eq) (sym (map-map (λ (r : RouterConfig). r.name) (router_of net hops all) (numbers_below routers)))
+          (IsDistinct-sorted_keys bytes_eq (name_of net) routers (numbers_below routers) (sorted_numbers routers) (numbers-below routers)
+          (λ a b less within. names_apart a b less (omega (arith, within))));
+      asns = subst (IsDistinct nat_eq) (sym (map-map (λ (r : RouterConfig). r.asn) (router_of net hops all) (numbers_below routers)))
+          (IsDistinct-sorted_keys nat_eq (asn_of net) routers (numbers_below routers) (sorted_numbers routers) (numbers-below routers)
+          (λ a b less within. apart_sites net nat_eq (λ (s : Site). s.asn) 0 rules.asns a b less (omega (arith, within))));
+      ids = subst (IsDistinct nat_eq) (sym (map-map (λ (r : RouterConfig). r.id) (router_of net hops all) (numbers_below routers)))
+          (IsDistinct-sorted_keys nat_eq (id_of net) routers (numbers_below routers) (sorted_numbers routers) (numbers-below routers)
+          (λ a b less within. apart_sites net nat_eq (λ (s : Site). s.id) 0 rules.ids a b less (omega (arith, within))));
+    }

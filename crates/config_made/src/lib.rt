@@ -1,6 +1,7 @@
 //! The configuration of a policy's cases, with a graph for each and a number and a tag for each node.
 #![tactic(auto)]
 
+mod belonging;
 mod blocks;
 mod classes;
 mod find;
@@ -10,6 +11,7 @@ mod law;
 mod lay;
 mod make;
 
+pub use belonging::{case_of, is_of_case};
 pub use classes::statement_at;
-pub use law::{case_lists_are_classes, made_configurations_are_one};
+pub use law::{case_lists_are_classes, configurations_can_be_made, made_configurations_are_one};
 pub use make::config_of;

@@ -1,8 +1,8 @@
 //! Configurations.
-ghost use Rattle.std.specs.Prelude.{◌≡◌, ℕ, IfOk, Some, map, slice_get};
+ghost use Rattle.std.specs.Prelude.{IfOk, map};
 ghost use Rattle.policy_base.specs.Policies.{policy_of};
 ghost use Rattle.evidence_base.specs.Made.{PlainCaseEvidence, AreTags, IsConfigOf};
-ghost use Rattle.config_made.specs.Conditions.{AreClasses, IsSingle};
+ghost use Rattle.config_made.specs.Conditions.{AreClasses, AreSingle};
 
 use crate::blocks::routers_of;
 use crate::classes::classes_of;
@@ -24,7 +24,7 @@ pub fn config_of(
     evidence: &[CaseEvidence],
 ) -> Result<Config, NoMemory>
     requires classes { AreClasses (policy_of policy.now) (map (λ (c : PlainCaseEvidence). c.case) evidence.now) }
-    requires single { (k : ℕ) (c : PlainCaseEvidence) → slice_get evidence.now k ≡ Some c → IsSingle net.now c.graph }
+    requires single { AreSingle net.now evidence.now }
     requires differ { AreTags net.now evidence.now }
     ensures { IfOk result (λ config. IsConfigOf net.now (policy_of policy.now) evidence.now config) }
 {

@@ -12,10 +12,9 @@ use Rattle.stable_paths.specs.Scenarios.{failures_of}
 use Rattle.drain_law.specs.Free.{IsDrain}
 use Rattle.drain_law.specs.declared.drain.Drain.{Drain}
 use Rattle.drain_report.specs.Texts.{drain_text}
-use Rattle.compile_jobs.specs.Compiling.{SaysOfCompiled, SaysOfThree}
+use Rattle.compile_jobs.specs.Compiling.{SaysOfThree}
 use Rattle.run_base.specs.Said.{Said}
 use Rattle.input_texts.specs.FaultLines.{scenario_line}
-use Rattle.input_texts.specs.Texts.{OfScenarioText}
 
 -- The text tells what is free in an outcome of the scenario's prefix, which is stable under its failures, with ties broken.
 pub record IsDrained (net : PlainNet) (policy : PlainPolicy) (config : PlainConfig) (scenario : Scenario) (bytes : List ℕ) : Type 0 where
@@ -30,14 +29,6 @@ pub record IsDrained (net : PlainNet) (policy : PlainPolicy) (config : PlainConf
 abbrev pub WritesDrain : PlainNet → PlainPolicy → Scenario → PlainConfig → List PlainCaseEvidence → List ℕ → Type 0
 WritesDrain net policy scenario config evidence bytes = IsDrained net policy config scenario bytes
 
--- the text for the configuration that is compiled from the policy, or the line of a refusal that applies to it
-abbrev pub SaysOfScenario : PlainNet → PlainPolicy → Scenario → Said → Type 0
-SaysOfScenario net policy scenario = SaysOfCompiled (WritesDrain net policy scenario) net policy
-
--- what is said of the text of a scenario, for a network and a policy
-abbrev pub SaysOfPolicy : List ℕ → PlainNet → PlainPolicy → Said → Type 0
-SaysOfPolicy scenario_text net policy what = OfScenarioText (SaysOfScenario net policy) net scenario_text what
-
--- and of three texts
+-- what is said of three texts
 abbrev pub SaysOfTexts : List (List ℕ) → Said → Type 0
 SaysOfTexts = SaysOfThree scenario_line scenario_spelled WritesDrain

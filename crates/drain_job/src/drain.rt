@@ -1,68 +1,34 @@
 //! The command `drain`.
-ghost use Rattle.std.specs.Prelude.{◌<◌, length};
-ghost use Rattle.policy_base.specs.Policies.{IsPolicyOf, policy_of};
-ghost use Rattle.policy_base.specs.CaseNumbers.{OriginsAreRouters};
-ghost use Rattle.run_base.specs.Said.{IsGiven, said};
-ghost use Rattle.input_texts.specs.Texts.{OfTexts};
-ghost use Rattle.drain_job.specs.Drained.{SaysOfPolicy, SaysOfScenario};
-
-use compile_jobs::compiled_for;
+use compile_jobs::{Answer, Compiled};
 use drain_report::{drain, drain_text};
-use input_texts::{net_of, policy_for, scenario_for};
 use net_base::Net;
+use outside::NoMemory;
 use policy_base::Policy;
-use run_base::Stop;
 use settling::settle;
 use stable_paths::Scenario;
 use std::alloc::Global;
 
-// What carries nothing where the configuration that is compiled from the policy has settled, or why the policy is refused.
-fn free_text(
-    alloc: Global,
-    net: &Net,
-    policy: &Policy,
-    scenario: &Scenario,
-) -> Result<Vec<u8>, Stop>
-    requires routers { OriginsAreRouters net.now policy.now.origins }
-    requires fits { IsPolicyOf net.now (policy_of policy.now) }
-    ensures { IsGiven (SaysOfScenario net.now (policy_of policy.now) scenario.now) (said result) }
-{
-    let compiled = compiled_for(alloc, net, policy)?;
-    let config = &compiled.config;
-    let evidence = &compiled.evidence;
-    let outcome = settle(alloc, net, policy, config, evidence, scenario)?;
-    let drain = drain(alloc, net, policy, config, scenario, &outcome)?;
-    Ok(drain_text(alloc, net, config, scenario.prefix, &drain)?)
-}
+/// The links and routers that carry nothing in what the configuration that is compiled settles to under the failures of a scenario.
+pub struct DrainCommand;
 
-// What the text of a scenario comes to.
-fn scenario_text(
-    alloc: Global,
-    net: &Net,
-    policy: &Policy,
-    scenario: &[u8],
-) -> Result<Vec<u8>, Stop>
-    requires routers { OriginsAreRouters net.now policy.now.origins }
-    requires fits { IsPolicyOf net.now (policy_of policy.now) }
-    ensures { IsGiven (SaysOfPolicy scenario.now net.now (policy_of policy.now)) (said result) }
-{
-    let scenario = scenario_for(alloc, net, scenario)?;
-    free_text(alloc, net, policy, &scenario)
-}
+impl Answer for DrainCommand {
+    ghost use Rattle.drain_job.specs.Drained.{WritesDrain};
 
-/// What the texts of a topology, of a policy and of a scenario come to: the links and routers that carry nothing in what the configuration
-/// that is compiled settles to, or why the run stops.
-#[tactic(auto, unfolding(input_texts::specs::Texts::OfTexts))]
-pub fn drain_texts(
-    alloc: Global,
-    topology: &[u8],
-    policy: &[u8],
-    scenario: &[u8],
-) -> Result<Vec<u8>, Stop>
-    requires { length policy.now < 4294967295 }
-    ensures { IsGiven (OfTexts (SaysOfPolicy scenario.now) topology.now policy.now) (said result) }
-{
-    let net = net_of(alloc, topology)?;
-    let policy = policy_for(alloc, &net, policy)?;
-    scenario_text(alloc, &net, &policy, scenario)
+    type Asked = Scenario;
+
+    ghost writes = { WritesDrain };
+
+    fn answer(
+        alloc: Global,
+        net: &Net,
+        policy: &Policy,
+        compiled: &Compiled,
+        scenario: &Scenario,
+    ) -> Result<Vec<u8>, NoMemory> {
+        let config = &compiled.config;
+        let evidence = &compiled.evidence;
+        let outcome = settle(alloc, net, policy, config, evidence, scenario)?;
+        let drain = drain(alloc, net, policy, config, scenario, &outcome)?;
+        drain_text(alloc, net, config, scenario.prefix, &drain)
+    }
 }

@@ -3,4 +3,4 @@
 
 mod drain;
 
-pub use drain::drain_texts;
+pub use drain::DrainCommand;

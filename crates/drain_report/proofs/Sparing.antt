@@ -15,17 +15,17 @@ use Rattle.policy_base.specs.Policies.{PlainPolicy}
 use Rattle.policy_base.specs.Walks.{is_loop_free}
 use Rattle.config_base.specs.declared.route.Route.{Route}
 use Rattle.config_base.specs.Configs.{PlainConfig}
-use Rattle.evidence_law.proofs.Hops.{begins}
+use Rattle.evidence_law.proofs.Hops.{begins, offer_parts}
 use Rattle.outcome_base.specs.Outcomes.{Failures, Outcome, is_dead, is_dead_link, offered, route_at}
 use Rattle.packets_law.proofs.Packets.{packets_follow_paths}
 use Rattle.settled_law.specs.Settled.{IsFullyStable}
+use Rattle.impact_law.specs.Cuts.{is_cut}
 use Rattle.impact_law.specs.declared.impact.Cut.{Cut}
 use Rattle.impact_law.specs.declared.impact.Cut.TheVariants.{Link, Router}
-use Rattle.drain_law.specs.Uses.{IsUnused, goes_over, is_cut}
+use Rattle.drain_law.specs.Uses.{IsUnused, goes_over}
 use Rattle.drain_law.proofs.Cutting.{cuts_off, more_off, step_off}
 use Rattle.drain_law.proofs.Freeing.{offer_begins}
 use Rattle.drain_law.proofs.Keeping.{none_outside}
-use Rattle.drain_law.proofs.Offers.{offer_parts}
 use Rattle.drain_report.specs.Steps.{held_steps, offer_step, steps_of}
 use Rattle.drain_report.proofs.Walking.{begins_apart, between, over, path_over}
 

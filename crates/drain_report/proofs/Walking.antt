@@ -1,6 +1,6 @@
 -- A path goes over a cut where one of its steps does.
-use Rattle.std.proofs.Common.{◌≡◌, ℕ, zero, suc, ◌+◌, ◌-◌, ◌<◌, Bool, true, false, List, [], ◌∷◌, ◌++◌, length, take, get_or, refl, sym, ap, ap₂, ◌∙◌, arith, inl, inr}
-use Rattle.std.specs.Prelude.{◌&&◌, ◌||◌, ◌==◌, not}
+use Rattle.std.proofs.Common.{◌≡◌, ℕ, zero, suc, ◌+◌, ◌-◌, ◌<◌, Bool, true, false, List, [], ◌∷◌, ◌++◌, length, take, get_or, refl, sym, ap, ◌∙◌, arith}
+use Rattle.std.specs.Prelude.{◌||◌, ◌==◌, not}
 use Rattle.std.specs.List.{list_any}
 use Rattle.std.proofs.lemmas.Bool.{and_parts, eq-eqb, eqb-true, not-true, or_right, true≢false}
 use Rattle.list_laws.specs.Members.{IsIn}
@@ -10,9 +10,10 @@ use Rattle.list_laws.proofs.Truth.{same_tests}
 use Rattle.net_base.specs.Network.{joins}
 use Rattle.policy_base.specs.Meaning.{some_step}
 use Rattle.policy_base.specs.Walks.{is_loop_free}
+use Rattle.impact_law.specs.Cuts.{is_cut}
 use Rattle.impact_law.specs.declared.impact.Cut.{Cut}
 use Rattle.impact_law.specs.declared.impact.Cut.TheVariants.{Link, Router}
-use Rattle.drain_law.specs.Uses.{goes_over, is_cut}
+use Rattle.drain_law.specs.Uses.{goes_over}
 use Rattle.drain_law.proofs.Cutting.{cuts_off}
 use Rattle.drain_report.specs.Steps.{steps_of}
 

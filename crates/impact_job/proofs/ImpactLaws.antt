@@ -5,7 +5,7 @@ use Rattle.net_base.specs.Prefixes.{PlainPrefix}
 use Rattle.policy_base.specs.Policies.{PlainPolicy}
 use Rattle.run_base.proofs.Jobs.{IsJob}
 use Rattle.compile_jobs.proofs.Compiling.{job_of_compiled}
-use Rattle.impact_law.specs.Support.{no_failures}
+use Rattle.outcome_base.specs.Outcomes.{no_failures}
 use Rattle.impact_law.proofs.OneImpact.{impacts_are_one}
 use Rattle.impact_text.specs.Texts.{impact_text}
 use Rattle.impact_job.specs.Impacts.{IsImpactText, SaysOfTexts, WritesImpact}

@@ -3,13 +3,11 @@ use Rattle.std.proofs.Common.{◌≡◌, ℕ, false, List, [], ◌∷◌, refl, 
 use Rattle.std.specs.Prelude.{◌==◌, ◌||◌}
 use Rattle.std.specs.List.{list_any}
 use Rattle.std.proofs.lemmas.Bool.{eq-eqb, true≢false}
-use Rattle.net_base.specs.declared.loc.LocSet.{LocSet}
 use Rattle.net_base.specs.Sets.{holds}
-use Rattle.outcome_base.specs.Outcomes.{Failures}
+use Rattle.outcome_base.specs.Outcomes.{no_failures}
 use Rattle.stable_paths.specs.Scenarios.{failures_of, members}
 use Rattle.stable_paths.specs.declared.scenario.Scenario.{Scenario}
 use Rattle.stable_paths.proofs.Members.{any-members}
-use Rattle.impact_law.specs.Support.{no_failures}
 
 -- a list in which nothing is found
 nothing_in : (ls : List ℕ) → ((l : ℕ) → list_any (λ d. d == l) ls ≡ false) → ls ≡ []

@@ -7,7 +7,7 @@ use Rattle.config_base.specs.Configs.{PlainConfig}
 use Rattle.evidence_base.specs.Made.{PlainCaseEvidence}
 use Rattle.compile_jobs.specs.Compiling.{SaysOfCompiled}
 use Rattle.impact_law.specs.Impacts.{IsImpact}
-use Rattle.impact_law.specs.Support.{no_failures}
+use Rattle.outcome_base.specs.Outcomes.{no_failures}
 use Rattle.impact_law.specs.declared.impact.Impact.{Impact}
 use Rattle.impact_text.specs.Texts.{impact_text}
 use Rattle.input_texts.specs.Texts.{OfTwoTexts}

@@ -3,12 +3,12 @@ ghost use Rattle.std.specs.Prelude.{◌≡◌, ◌<◌, length};
 ghost use Rattle.policy_base.specs.Policies.{IsPolicyOf, policy_of};
 ghost use Rattle.policy_base.specs.CaseNumbers.{OriginsAreRouters};
 ghost use Rattle.stable_paths.specs.Scenarios.{failures_of};
-ghost use Rattle.impact_law.specs.Support.{no_failures};
+ghost use Rattle.outcome_base.specs.Outcomes.{no_failures};
 ghost use Rattle.impact_job.specs.Impacts.{SaysOfPolicy};
 ghost use Rattle.input_texts.specs.Texts.{OfTexts};
 ghost use Rattle.run_base.specs.Said.{IsGiven, said};
 
-use compile_jobs::compiled_for;
+use compile_jobs::compiled_evidence_for;
 use impact_report::impact;
 use impact_text::impact_text;
 use input_texts::{net_of, policy_for};
@@ -37,11 +37,9 @@ fn cuts_text(alloc: Global, net: &Net, policy: &Policy, prefix: Prefix) -> Resul
     requires fits { IsPolicyOf net.now (policy_of policy.now) }
     ensures { IsGiven (SaysOfPolicy prefix net.now (policy_of policy.now)) (said result) }
 {
-    let compiled = compiled_for(alloc, net, policy)?;
-    let config = &compiled.config;
-    let evidence = &compiled.evidence;
+    let evidence = compiled_evidence_for(alloc, net, policy)?;
     let scenario = nothing_fails(alloc, prefix);
-    let impact = impact(alloc, net, policy, config, evidence, &scenario)?;
+    let impact = impact(alloc, net, policy, &evidence, &scenario)?;
     Ok(impact_text(alloc, net, policy, prefix, &impact)?)
 }
 

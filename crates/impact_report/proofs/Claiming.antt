@@ -1,12 +1,12 @@
 -- What is claimed, in order, are the sources of the statement.
-use Rattle.std.proofs.Common.{◌≡◌, ℕ, suc, ◌+◌, ◌<◌, Bool, true, false, List, [], ◌∷◌, ◌++◌, append-nil, arith, length, map, filter, Option, Some, None, refl, sym, ap, ◌∙◌, subst, inl, inr, ltb-true}
-use Rattle.std.specs.Prelude.{slice_get, if◌then◌else◌}
+use Rattle.std.proofs.Common.{◌≡◌, ℕ, suc, ◌+◌, Bool, true, false, List, [], ◌∷◌, ◌++◌, append-nil, arith, length, map, filter, Option, Some, None, sym, ap, ◌∙◌, subst, inl, inr, ltb-true}
+use Rattle.std.specs.Prelude.{if◌then◌else◌}
 use Rattle.std.proofs.lemmas.List.{map-append}
 use Rattle.std.proofs.lemmas.List.Elements.{filter-append}
 use Rattle.list_laws.specs.Members.{IsIn}
 use Rattle.list_laws.proofs.Members.{IsIn-append_cases, IsIn-append_left, IsIn-append_right, IsIn-filter, IsIn-filter_parts, IsIn-map, IsIn-map_parts}
 use Rattle.net_base.specs.Locations.{numbers_below}
-use Rattle.net_base.specs.Network.{IsBefore, PlainNet}
+use Rattle.net_base.specs.Network.{PlainNet}
 use Rattle.net_base.specs.Prefixes.{PlainPrefix}
 use Rattle.net_base.proofs.NumbersBelow.{In-numbers_below}
 use Rattle.policy_base.specs.Governing.{statement_of}

@@ -1,18 +1,18 @@
 -- The step to a peer among the steps of a node.
-use Rattle.std.proofs.Common.{◌≡◌, ℕ, ◌<◌, Bool, true, false, List, [], length, get_or, Option, Some, None, refl, sym, ap, ◌∙◌, subst, inl, inr}
+use Rattle.std.proofs.Common.{◌≡◌, ℕ, ◌<◌, true, false, List, [], length, get_or, None, refl, sym, ap, ◌∙◌, inl, inr}
 use Rattle.std.specs.Prelude.{◌==◌, option_and_then}
 use Rattle.std.specs.List.{list_any}
 use Rattle.std.proofs.lemmas.Bool.{eq-eqb, eqb-true, true≢false}
 use Rattle.std.proofs.lemmas.List.Folds.{list_any_at}
 use Rattle.list_laws.proofs.Members.{list_any-from_IsIn, list_any_member}
 use Rattle.list_laws.proofs.Options.{cases_Option}
-use Rattle.list_laws.specs.Members.{IsIn}
 use Rattle.graph_base.specs.Graphs.{PlainGraph}
 use Rattle.graph_base.specs.Runs.{has_step, place_of, rank_at, step_at}
 use Rattle.graph_base.proofs.Determined.{step_at-step}
 use Rattle.graph_base.proofs.StartsAndSteps.{step_at-is}
 use Rattle.reach_prune.specs.Searches.{is_among}
-use Rattle.impact_report.specs.Paths.{AreStepLists, rank_at_peer}
+use Rattle.impact_law.specs.BestRanks.{rank_at_peer}
+use Rattle.impact_report.specs.Paths.{AreStepLists}
 
 module _ (g : PlainGraph) (lists : List (List ℕ)) (are : AreStepLists g lists) (node peer : ℕ) (nodes : List ℕ) (listed : nodes ≡ get_or lists node []) where
   steps_to : (n : ℕ) → is_among nodes n ≡ has_step g node n

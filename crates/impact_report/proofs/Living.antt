@@ -1,5 +1,5 @@
 -- The cuts that the tables tell are those of what lives.
-use Rattle.std.proofs.Common.{◌≡◌, ℕ, ◌+◌, Bool, true, false, not, List, [], ◌∷◌, ◌++◌, append-nil, length, map, filter, sym, ap, ap₂, ◌∙◌}
+use Rattle.std.proofs.Common.{◌≡◌, ℕ, ◌+◌, Bool, true, false, not, List, [], ◌∷◌, ◌++◌, append-nil, length, map, filter, ap, ap₂, ◌∙◌}
 use Rattle.std.specs.Prelude.{if◌then◌else◌}
 use Rattle.std.proofs.lemmas.List.{map-append}
 use Rattle.std.proofs.lemmas.List.Elements.{filter-append}
@@ -7,7 +7,7 @@ use Rattle.net_base.specs.Locations.{numbers_below}
 use Rattle.net_base.specs.Network.{PlainNet}
 use Rattle.net_base.specs.Sets.{holds}
 use Rattle.net_base.proofs.NumbersBelow.{filter_kept, filter_left}
-use Rattle.outcome_base.specs.Outcomes.{Failures, is_dead, is_live}
+use Rattle.outcome_base.specs.Outcomes.{Failures}
 use Rattle.stable_paths.specs.Surviving.{AreSurvivors, live_by}
 use Rattle.stable_paths.specs.declared.survivors.Survivors.{Survivors}
 use Rattle.stable_paths.proofs.Survived.{live_is}

@@ -1,5 +1,5 @@
 -- Rankings of sources.
-use Rattle.std.proofs.Common.{◌≡◌, ℕ, List, map, Option, Some, refl, sym, ap, ◌∙◌, subst}
+use Rattle.std.proofs.Common.{◌≡◌, ℕ, List, map, Option, refl, sym, ap, ◌∙◌, subst}
 use Rattle.std.specs.Prelude.{slice_get}
 use Rattle.list_laws.proofs.Changed.{map-map}
 use Rattle.std.proofs.lemmas.Option.{slice_get-map}
@@ -11,16 +11,15 @@ use Rattle.net_base.specs.Prefixes.{PlainPrefix}
 use Rattle.policy_base.specs.Policies.{PlainPolicy, PlainStatement}
 use Rattle.graph_base.specs.Graphs.{PlainGraph}
 use Rattle.evidence_base.specs.Made.{PlainCaseEvidence}
-use Rattle.outcome_base.specs.Outcomes.{Failures}
+use Rattle.outcome_base.specs.Outcomes.{Failures, no_failures}
 use Rattle.evidence_law.specs.Passes.{IsCaseGraph}
 use Rattle.settling.specs.Surviving.{left_by}
 use Rattle.impact_law.specs.BestRanks.{AreTops, IsBestRank}
 use Rattle.impact_law.specs.Cuts.{with_cut}
 use Rattle.impact_law.specs.Impacts.{IsRanking, IsSource, Precedes, begin_at, changed}
-use Rattle.impact_law.specs.Support.{no_failures}
 use Rattle.impact_law.specs.declared.impact.Cut.{Cut}
 use Rattle.impact_law.specs.declared.impact.SourceRank.{SourceRank}
-use Rattle.impact_law.proofs.OneImpact.{rankings_one}
+use Rattle.impact_law.proofs.OneImpact.{rankings_are_one}
 use Rattle.impact_report.specs.declared.sources.Source.{Source}
 use Rattle.impact_report.specs.Paths.{rank_under}
 use Rattle.impact_report.specs.Left.{IsOpened}
@@ -84,4 +83,4 @@ pub change_by_tops : (net : PlainNet) (c : PlainCaseEvidence) (opened : PlainGra
     → list ≡ changed base (map (reranked (rank_under opened (with_cut cut no_failures) top)) base) → IsChange net c opened base cut list
 change_by_tops net c opened base cut top list tops is policy f p s based after ranked =
     let mine = reranking net policy f p s c opened base based cut top (tops s f based.on based.left) in
-    is ∙ ap (changed base) (rankings_one net policy (with_cut cut f) p s _ after mine ranked)
+    is ∙ ap (changed base) (rankings_are_one net policy (with_cut cut f) p s _ after mine ranked)

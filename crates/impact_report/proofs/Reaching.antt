@@ -14,7 +14,7 @@ use Rattle.graph_base.proofs.RunSteps.{last_step, run_begins, run_inside}
 use Rattle.graph_base.proofs.StartsAndSteps.{start_at-is}
 use Rattle.graph_base.proofs.WellFormed.{start_at-of, step_at-of}
 use Rattle.evidence_base.specs.Made.{PlainCaseEvidence, number_at}
-use Rattle.outcome_base.specs.Outcomes.{Failures, is_dead, is_dead_link, is_live}
+use Rattle.outcome_base.specs.Outcomes.{Failures, is_dead, is_dead_link, is_live, no_failures}
 use Rattle.evidence_law.specs.Passes.{IsCaseGraph}
 use Rattle.evidence_law.proofs.Setting.{alive_of}
 use Rattle.evidence_law.proofs.Surviving.{run-survives, survives-alive}
@@ -27,7 +27,6 @@ use Rattle.settling.proofs.Surviving.{starts_are, steps_are}
 use Rattle.reach_prune.specs.Ways.{LeadsFrom}
 use Rattle.reach_prune.specs.declared.steps.Way.TheVariants.{Forward}
 use Rattle.impact_law.specs.BestRanks.{AreTops, IsTopAt}
-use Rattle.impact_law.specs.Support.{no_failures}
 use Rattle.impact_law.proofs.Existing.{nodes_are_reached_without_failures}
 use Rattle.impact_report.specs.Left.{IsLeft, IsOpened, IsOpenTrail, is_open_start, is_open_step, spares}
 use Rattle.impact_report.specs.Tops.{AreBest, AreNodes, entry_at}

@@ -16,10 +16,10 @@ use Rattle.outcome_base.specs.Outcomes.{Failures, is_live, is_silent}
 use Rattle.stable_paths.specs.Surviving.{AreSurvivors, carries}
 use Rattle.stable_paths.specs.declared.survivors.Survivors.{Survivors}
 use Rattle.settling.specs.Surviving.{left_by}
-use Rattle.impact_law.specs.BestRanks.{AreToldByTops, AreTops, IsBestRank, rank_over}
+use Rattle.impact_law.specs.BestRanks.{AreToldByTops, AreTops, IsBestRank, rank_at_peer, rank_over}
 use Rattle.impact_law.specs.Impacts.{IsSource, begin_at}
 use Rattle.impact_report.specs.Left.{spares}
-use Rattle.impact_report.specs.Paths.{rank_at_peer, rank_under}
+use Rattle.impact_report.specs.Paths.{rank_under}
 use Rattle.impact_report.proofs.Besides.{IsBesides, live_is}
 use Rattle.impact_report.proofs.Opening.{step_left}
 

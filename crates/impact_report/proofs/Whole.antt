@@ -1,6 +1,6 @@
 -- What is found by the graph of a prefix's case is the impact.
-use Rattle.std.proofs.Common.{◌≡◌, ℕ, suc, List, [], ◌∷◌, map, Option, Some, None, refl, sym, ap, ◌∙◌, subst, inl, inr}
-use Rattle.std.specs.Prelude.{option_and_then, slice_get}
+use Rattle.std.proofs.Common.{◌≡◌, ℕ, List, [], map, Option, Some, None, refl, sym, ap, ◌∙◌, subst, inl, inr}
+use Rattle.std.specs.Prelude.{option_and_then}
 use Rattle.list_laws.proofs.Members.{IsIn-nil}
 use Rattle.list_laws.proofs.Options.{cases_Option}
 use Rattle.net_base.specs.Network.{PlainNet, IsNet}
@@ -11,7 +11,7 @@ use Rattle.graph_base.specs.Graphs.{PlainGraph}
 use Rattle.config_base.specs.Configs.{PlainConfig}
 use Rattle.config_base.specs.Lines.{class_of}
 use Rattle.evidence_base.specs.Made.{PlainCaseEvidence, case_at}
-use Rattle.outcome_base.specs.Outcomes.{Failures}
+use Rattle.outcome_base.specs.Outcomes.{Failures, no_failures}
 use Rattle.evidence_law.specs.Passes.{IsCaseGraph, Passes}
 use Rattle.report_lines.specs.Claims.{AreClaimed}
 use Rattle.report_lines.specs.Lines.{Sources}
@@ -19,10 +19,9 @@ use Rattle.settled_law.proofs.SettledLaw.{case_or_bare}
 use Rattle.stable_paths.specs.Surviving.{AreSurvivors}
 use Rattle.stable_paths.specs.declared.survivors.Survivors.{Survivors}
 use Rattle.settling.specs.Surviving.{left_by}
-use Rattle.impact_law.specs.BestRanks.{AreToldByTops, AreTops}
+use Rattle.impact_law.specs.BestRanks.{AreToldByTops, AreTops, rank_by}
 use Rattle.impact_law.specs.Cuts.{live_cuts, with_cut}
 use Rattle.impact_law.specs.Impacts.{IsBareImpact, IsImpact, IsImpactBy, IsRanking, IsSource, changed, row_of}
-use Rattle.impact_law.specs.Support.{no_failures}
 use Rattle.impact_law.specs.declared.impact.Cut.{Cut}
 use Rattle.impact_law.specs.declared.impact.Impact.{Impact}
 use Rattle.impact_law.specs.declared.impact.SourceRank.{SourceRank}
@@ -31,7 +30,7 @@ use Rattle.impact_law.proofs.Existing.{tops_exist as case_tops}
 use Rattle.impact_report.specs.declared.sources.Source.{Source}
 use Rattle.impact_report.specs.Found.{IsFound}
 use Rattle.impact_report.specs.Left.{IsOpened}
-use Rattle.impact_report.specs.Paths.{StepsDiffer, rank_by, rank_under}
+use Rattle.impact_report.specs.Paths.{StepsDiffer, rank_under}
 use Rattle.impact_report.specs.Rows.{IsBase}
 use Rattle.impact_report.specs.Sources.{reranked, sources_in, with_rank}
 use Rattle.impact_report.proofs.Besides.{none_besides}
@@ -84,7 +83,7 @@ module _ (net : PlainNet) (policy : PlainPolicy) (config : PlainConfig) (cs : Li
         | inl c ↦ (
             let both : Some c.d ≡ Some d = sym c.at ∙ sym (ap (option_and_then (case_at cs)) c.of_class) ∙ found in
             let same : c.d ≡ d = cc in
-            let t = case_tops net policy config cs rules kept passes f p prefix c in
+            let t = case_tops net policy config cs rules kept passes f p c in
             (t.0, subst (λ (e : PlainCaseEvidence). AreTops net f e t.0) same t.1))
       ]
 

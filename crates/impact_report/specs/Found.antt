@@ -7,12 +7,11 @@ use Rattle.outcome_base.specs.Outcomes.{Failures}
 use Rattle.evidence_law.specs.Passes.{IsCaseGraph}
 use Rattle.stable_paths.specs.declared.survivors.Survivors.{Survivors}
 use Rattle.settling.specs.Surviving.{left_by}
-use Rattle.impact_law.specs.BestRanks.{AreTops}
+use Rattle.impact_law.specs.BestRanks.{AreTops, rank_by}
 use Rattle.impact_law.specs.declared.impact.Cut.{Cut}
 use Rattle.impact_law.specs.declared.impact.Impact.{Impact}
 use Rattle.impact_report.specs.declared.sources.Source.{Source}
 use Rattle.impact_report.specs.Left.{IsOpened}
-use Rattle.impact_report.specs.Paths.{rank_by}
 use Rattle.impact_report.specs.Rows.{AreRows}
 use Rattle.impact_report.specs.Sources.{with_rank}
 

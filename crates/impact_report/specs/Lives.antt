@@ -1,5 +1,5 @@
 -- The cuts that can come besides what has failed, by the tables of what lives.
-use Rattle.std.specs.Prelude.{ℕ, Bool, not, List, map, filter}
+use Rattle.std.specs.Prelude.{ℕ, not, List, map, filter}
 use Rattle.net_base.specs.Locations.{numbers_below}
 use Rattle.net_base.specs.Network.{PlainNet}
 use Rattle.net_base.specs.Sets.{holds}

@@ -1,11 +1,12 @@
 -- The ranks that tops tell.
-use Rattle.std.specs.Prelude.{◌≡◌, ℕ, Bool, true, List, length, map, Option, Some, None, option_and_then, if◌then◌else◌}
+use Rattle.std.specs.Prelude.{◌≡◌, ℕ, Bool, true, List, length, map, Option, Some, None, if◌then◌else◌}
 use Rattle.std.specs.List.{IsDistinct}
 use Rattle.graph_base.specs.Graphs.{PlainGraph}
 use Rattle.graph_base.specs.Rules.{same_pair}
-use Rattle.graph_base.specs.Runs.{has_step, place_of, rank_at, step_at}
+use Rattle.graph_base.specs.Runs.{has_step, place_of}
 use Rattle.outcome_base.specs.Outcomes.{Failures}
 use Rattle.reach_prune.specs.Searches.{AreLists, is_listed}
+use Rattle.impact_law.specs.BestRanks.{rank_by}
 use Rattle.impact_report.specs.Left.{spares}
 
 -- a node steps to one node at a location
@@ -23,19 +24,6 @@ pub record AreStepLists (g : PlainGraph) (lists : List (List ℕ)) : Type 0 wher
 pub record ArePaths (g opened : PlainGraph) (lists : List (List ℕ)) : Type 0 where
   pub nodes : opened.nodes ≡ g.nodes
   pub steps : AreStepLists opened lists
-
--- the rank of the node to which a node steps at a peer
-abbrev pub rank_at_peer : PlainGraph → ℕ → ℕ → Option ℕ
-rank_at_peer g n peer = option_and_then (rank_at g) (step_at g n peer)
-
--- the rank that a node tells of a router, or of its session to a peer
-abbrev pub rank_of_node : PlainGraph → Option ℕ → ℕ → Option ℕ
-rank_of_node g None n = rank_at g n
-rank_of_node g (Some peer) n = rank_at_peer g n peer
-
--- the rank that a router's top tells
-abbrev pub rank_by : PlainGraph → (ℕ → Option ℕ) → ℕ → Option ℕ → Option ℕ
-rank_by g top r peer = option_and_then (rank_of_node g peer) (top r)
 
 -- a source's session isn't dead, if it is one
 abbrev pub leaves : Failures → ℕ → Option ℕ → Bool

@@ -1,10 +1,9 @@
 //! What a cut spares, and which cuts can come.
 ghost use Rattle.std.specs.Prelude.{◌≡◌, ◌++◌, ℕ, not, IfOk, OnOk};
 ghost use Rattle.net_base.specs.Network.{joins};
-ghost use Rattle.outcome_base.specs.Outcomes.{Failures, is_dead};
+ghost use Rattle.outcome_base.specs.Outcomes.{Failures, is_dead, no_failures};
 ghost use Rattle.stable_paths.specs.Surviving.{AreSurvivors};
 ghost use Rattle.impact_law.specs.Cuts.{live_cuts as cuts_besides, with_cut};
-ghost use Rattle.impact_law.specs.Support.{no_failures};
 ghost use Rattle.impact_report.specs.Left.{spares as is_spared};
 ghost use Rattle.impact_report.specs.Lives.{link_cuts, router_cuts};
 

@@ -2,7 +2,7 @@
 ghost use Rattle.std.specs.Prelude.{◌≡◌, IfOk};
 ghost use Rattle.settling.specs.Surviving.{left_by};
 ghost use Rattle.impact_law.specs.Cuts.{with_cut};
-ghost use Rattle.impact_law.specs.Support.{no_failures};
+ghost use Rattle.outcome_base.specs.Outcomes.{no_failures};
 ghost use Rattle.impact_report.specs.Paths.{ArePaths, StepsDiffer, leaves as is_left};
 
 use crate::spares;

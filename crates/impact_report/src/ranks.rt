@@ -1,11 +1,20 @@
 //! The ranks that nodes tell of routers, and of their sessions to peers.
-ghost use Rattle.std.specs.Prelude.{◌≡◌, ◌<◌, length};
-ghost use Rattle.impact_report.specs.Paths.{AreStepLists, rank_at_peer as at_peer, rank_by, rank_of_node as of_node};
+ghost use Rattle.std.specs.Prelude.{◌≡◌, ◌<◌, [], length, slice_index_or};
+ghost use Rattle.impact_law.specs.BestRanks.{rank_at_peer as at_peer, rank_by, rank_of_node as of_node};
+ghost use Rattle.impact_report.specs.Paths.{AreStepLists};
 ghost use Rattle.impact_report.specs.Tops.{AreNodes, entry_at};
 
 use graph_base::Graph;
 use net_base::Loc;
 use node_list::NodeList;
+
+/// The nodes to which a node steps.
+fn nodes_from(lists: &[NodeList], node: u32) -> &[u32]
+    requires { node < length lists.now }
+    ensures { result.now ≡ slice_index_or lists.now node [] }
+{
+    lists[node as usize].as_slice()
+}
 
 /// The rank of the node to which a node steps at a peer, where it steps there.
 fn rank_at_peer(graph: &Graph, lists: &[NodeList], node: u32, peer: Loc) -> Option<u32>
@@ -13,7 +22,7 @@ fn rank_at_peer(graph: &Graph, lists: &[NodeList], node: u32, peer: Loc) -> Opti
     requires lists { AreStepLists graph.now lists.now }
     ensures { result ≡ at_peer graph.now node peer }
 {
-    for next in lists[node as usize].as_slice() {
+    for next in nodes_from(lists, node) {
         if graph.location(*next) == peer {
             return graph.rank(*next);
         }

@@ -1,13 +1,13 @@
 //! What cuts besides some failures change.
-ghost use Rattle.std.specs.Prelude.{◌≡◌, [], IfOk, map, option_and_then, option_map};
-ghost use Rattle.config_base.specs.Lines.{class_of as class};
-ghost use Rattle.evidence_base.specs.Made.{case_at};
+ghost use Rattle.std.specs.Prelude.{◌≡◌, [], IfOk, map};
+ghost use Rattle.config_base.specs.Configs.{PlainConfig};
 ghost use Rattle.policy_base.specs.Policies.{IsPolicyOf, policy_of};
 ghost use Rattle.evidence_law.specs.Passes.{Passes};
 ghost use Rattle.stable_paths.specs.Scenarios.{failures_of};
 ghost use Rattle.impact_report.specs.Tops.{AreNodes, entry_at};
+ghost use Rattle.impact_law.specs.BestRanks.{rank_by};
 ghost use Rattle.impact_law.specs.Impacts.{IsImpact, row_of};
-ghost use Rattle.impact_report.specs.Paths.{ArePaths, StepsDiffer, rank_by};
+ghost use Rattle.impact_report.specs.Paths.{ArePaths, StepsDiffer};
 ghost use Rattle.impact_report.specs.Found.{IsFound};
 ghost use Rattle.impact_report.specs.Sources.{with_rank};
 
@@ -17,23 +17,15 @@ use crate::ranks::rank_told;
 use crate::rows::Base;
 use crate::sources::{Source, claimed_sources};
 use crate::tops_left;
-use config_base::{Config, class_of};
+use config_made::case_of;
 use evidence_base::{CaseEvidence, Evidence};
 use impact_law::{Cut, CutRow, Impact, SourceRank};
-use net_base::{List, Net, Prefix, known_net, known_prefix};
+use net_base::{List, Net, known_net, known_prefix};
 use outside::NoMemory;
 use policy_base::Policy;
 use report_lines::claims_of;
 use stable_paths::{Scenario, Survivors};
 use std::alloc::{AllocError, Global};
-
-/// The case of a prefix's class.
-fn case_of<'a>(config: &Config, evidence: &'a Evidence, prefix: Prefix) -> Option<&'a CaseEvidence>
-    ensures { option_map (λ c. c.now) result ≡ option_and_then (case_at evidence.now.cases) (class config.now prefix) }
-{
-    let place = class_of(config, prefix)?.checked_sub(1)?;
-    evidence.cases.as_slice().get(place as usize)
-}
 
 /// Sources with the ranks that tops tell.
 fn ranked(
@@ -93,17 +85,16 @@ fn unchanged(alloc: Global, cuts: &[Cut]) -> Result<List<CutRow>, AllocError>
 }
 
 /// The impact of cuts on the sources that the policy claims for a scenario's prefix: their best ranks under its failures, and what each
-/// link and each router that lives changes where it is dead, too.
+/// link and each router that lives changes where it is dead, too. The evidence passes for some configuration.
 pub fn impact(
     alloc: Global,
     net: &Net,
     policy: &Policy,
-    config: &Config,
     evidence: &Evidence,
     scenario: &Scenario,
 ) -> Result<Impact, NoMemory>
     requires fits { IsPolicyOf net.now (policy_of policy.now) }
-    requires passes { Passes net.now (policy_of policy.now) config.now evidence.now.cases }
+    requires passes { (config : PlainConfig) × Passes net.now (policy_of policy.now) config evidence.now.cases }
     ensures { IfOk result (IsImpact net.now (policy_of policy.now) (failures_of scenario.now) scenario.now.prefix) }
 {
     let prefix = scenario.prefix;
@@ -111,13 +102,13 @@ pub fn impact(
     known_prefix(prefix);
     let survivors = Survivors::new(net, scenario);
     let cuts = live_cuts(alloc, net, &survivors)?;
-    match case_of(config, evidence, prefix) {
+    match case_of(policy, evidence, prefix) {
         None => Ok(Impact {
             base: List::new(alloc),
             rows: unchanged(alloc, &cuts)?,
         }),
         Some(case) => {
-            let claims = claims_of(alloc, net, policy, config, evidence, prefix)?;
+            let claims = claims_of(alloc, net, policy, evidence, prefix)?;
             let sources = claimed_sources(alloc, net, &claims)?;
             found_by(alloc, net, &survivors, case, &sources, &cuts)
         }

@@ -2,7 +2,7 @@
 ghost use Rattle.std.specs.Prelude.{◌≡◌};
 ghost use Rattle.impact_law.specs.Cuts.{with_cut};
 ghost use Rattle.impact_law.specs.Impacts.{changed};
-ghost use Rattle.impact_law.specs.Support.{no_failures};
+ghost use Rattle.outcome_base.specs.Outcomes.{no_failures};
 ghost use Rattle.impact_report.specs.Tops.{AreNodes, entry_at};
 ghost use Rattle.impact_report.specs.Paths.{ArePaths};
 ghost use Rattle.impact_report.specs.Rows.{AreRows, IsChange};

@@ -1,10 +1,9 @@
 //! The search for what a cut leaves.
 ghost use Rattle.std.specs.Prelude.{◌≡◌, ◌<◌, ◌&&◌, ◌==◌, ◌↔◌, All, ℕ, false, not, [], IfOk, OnOk, IsTrue, length, replicate, vec_len};
 ghost use Rattle.graph_base.specs.Runs.{has_step, place_of};
-ghost use Rattle.outcome_base.specs.Outcomes.{is_dead};
+ghost use Rattle.outcome_base.specs.Outcomes.{is_dead, no_failures};
 ghost use Rattle.reach_prune.specs.Searches.{AreLists, is_among, is_listed, is_marked};
 ghost use Rattle.impact_law.specs.Cuts.{with_cut};
-ghost use Rattle.impact_law.specs.Support.{no_failures};
 ghost use Rattle.impact_report.specs.Left.{IsLeft, spares as is_spared};
 
 use crate::cuts::{spares, spares_at};

@@ -1,11 +1,10 @@
 //! The tops that failures leave.
 ghost use Rattle.std.specs.Prelude.{◌≡◌, IfOk};
 ghost use Rattle.policy_base.specs.Policies.{PlainStatement};
-ghost use Rattle.outcome_base.specs.Outcomes.{Failures};
+ghost use Rattle.outcome_base.specs.Outcomes.{Failures, no_failures};
 ghost use Rattle.evidence_law.specs.Passes.{IsCaseGraph};
 ghost use Rattle.impact_law.specs.BestRanks.{AreTops};
 ghost use Rattle.impact_law.specs.Cuts.{with_cut};
-ghost use Rattle.impact_law.specs.Support.{no_failures};
 ghost use Rattle.impact_report.specs.Left.{IsOpened};
 ghost use Rattle.impact_report.specs.Paths.{ArePaths};
 ghost use Rattle.impact_report.specs.Tops.{AreNodes, entry_at};

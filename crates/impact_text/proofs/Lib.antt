@@ -1,3 +1,2 @@
 mod Counting
-mod Classing
 mod Telling

@@ -8,7 +8,7 @@ use Rattle.policy_base.specs.Cases.{case_list}
 use Rattle.policy_base.specs.Policies.{PlainPolicy}
 use Rattle.config_base.specs.Configs.{PlainConfig}
 use Rattle.evidence_base.specs.Made.{patterns_of}
-use Rattle.report_lines.specs.Lines.{head_lines, next_name}
+use Rattle.report_lines.specs.Lines.{head_lines, next_name, source_text}
 use Rattle.impact_law.specs.declared.impact.Cut.{Cut}
 use Rattle.impact_law.specs.declared.impact.Cut.TheVariants.{Link, Router}
 use Rattle.impact_law.specs.declared.impact.CutRow.{CutRow}
@@ -25,10 +25,6 @@ abbrev pub classes_alone : PlainNet → PlainPolicy → PlainConfig
 classes_alone net policy = record { classes = classes_for net policy; routers = [] }
 
 -- ---- parts of a line
-
-abbrev pub source_text : PlainNet → ℕ → Option ℕ → List ℕ
-source_text net r None = codes "router" ++ next_name net r
-source_text net r (Some peer) = codes "session" ++ next_name net r ++ next_name net peer
 
 abbrev pub rank_text : Option ℕ → List ℕ
 rank_text None = codes " none"

@@ -1,35 +1,13 @@
 //! The lines of an impact. Each `push_` function adds a text to the end of another.
 ghost use Rattle.std.specs.Prelude.{◌≡◌, ◌++◌, IfOk, OnOk, filter, length};
 ghost use Rattle.std.specs.List.{flat_map, zip};
-ghost use Rattle.impact_text.specs.Texts.{base_line, changes, changes_or_moves, count_line, cut_text, entry_line, moves_text, rank_text, row_text, source_text};
+ghost use Rattle.impact_text.specs.Texts.{base_line, changes, changes_or_moves, count_line, cut_text, entry_line, moves_text, rank_text, row_text};
 
 use impact_law::{Cut, CutRow, SourceRank};
-use net_base::{Loc, Net};
+use net_base::Net;
 use outside::NoMemory;
-use report_lines::push_next;
+use report_lines::{push_next, push_source};
 use text_words::{push_bytes, push_number};
-
-/// Adds what a source is: a router, or its session to a peer.
-fn push_source(
-    text: &mut Vec<u8>,
-    net: &Net,
-    router: Loc,
-    peer: Option<Loc>,
-) -> Result<(), NoMemory>
-    ensures { OnOk result (text.new.items ≡ text.old.items ++ source_text net.now router peer) }
-{
-    match peer {
-        None => {
-            push_bytes(text, b"router")?;
-            push_next(text, net, router)
-        }
-        Some(peer) => {
-            push_bytes(text, b"session")?;
-            push_next(text, net, router)?;
-            push_next(text, net, peer)
-        }
-    }
-}
 
 /// Adds a rank, or that there is none.
 fn push_rank(text: &mut Vec<u8>, rank: Option<u32>) -> Result<(), NoMemory>
@@ -144,7 +122,7 @@ fn push_moves(text: &mut Vec<u8>, net: &Net, row: &CutRow, moves: u32) -> Result
 }
 
 /// Whether a cut changes a rank or moves a router.
-fn changes_or_moves_any(row: &CutRow, moves: u32) -> bool
+fn has_effect(row: &CutRow, moves: u32) -> bool
     ensures { result ≡ changes_or_moves (row.now, moves) }
 {
     changes_rank(row) || moves != 0
@@ -165,7 +143,7 @@ pub fn push_moving_rows(
     for i in 0..rows.len() {
         let row = &rows[i];
         let count = moves[i];
-        if changes_or_moves_any(row, count) {
+        if has_effect(row, count) {
             push_moves(text, net, row, count)?;
             told += 1;
         }

@@ -1,5 +1,5 @@
 -- What follows from what was read and made.
-use Rattle.std.proofs.Common.{◌≡◌, ℕ, ◌<◌, ◌≤◌, List, [], ◌∷◌, length, Ok, inl, inr, refl, sym, ◌∙◌, ap, subst}
+use Rattle.std.proofs.Common.{◌≡◌, ℕ, ◌<◌, ◌≤◌, List, length, Ok, inl, inr, sym, ◌∙◌, ap, subst}
 use Rattle.net_base.proofs.StepLemmas.{ok_same}
 use Rattle.config_base.specs.Configs.{PlainConfig}
 use Rattle.run_base.specs.Said.{Said, text, failing}
@@ -10,7 +10,7 @@ use Rattle.route_map_text.specs.MapsLines.{maps_text}
 use Rattle.route_map_text.specs.MapsSpelled.{IsLawful, Spells}
 use Rattle.map_reader.specs.MapsRead.{spelled}
 use Rattle.map_reader.proofs.MapTaken.{spelled_is_read}
-use Rattle.map_jobs.specs.Difference.{first_apart, first_difference}
+use Rattle.text_difference.specs.Difference.{first_difference}
 use Rattle.map_jobs.specs.MapsSaid.{differs_line}
 use Rattle.map_jobs.specs.MapsJobs.{SaysOfConfig, SaysOfBoth, SaysOfBytes, SaysOfMaps}
 
@@ -32,13 +32,3 @@ bytes_said config maps bytes wanted what same few s both =
     let lawful : IsLawful (maps_of config) = subst IsLawful same s.lawful in
     let is : wanted ≡ maps_text (maps_of config) = s.written ∙ ap maps_text same in
     inl (few, lawful, subst (λ t. SaysOfBoth bytes t what) is both)
-
--- ---- the first lines that differ
-
-none_left : (xs : List (List ℕ)) → first_apart xs [] ≡ 1
-none_left [] = refl
-none_left (x ∷ xs) = refl
-
--- where the second text has no line more
-pub second_ended : (xs ys : List (List ℕ)) → ys ≡ [] → first_apart xs ys ≡ 1
-second_ended xs ys is = ap (first_apart xs) is ∙ none_left xs

@@ -20,7 +20,7 @@ use Rattle.maps_made.specs.declared.lists.TheConstants.{MAX_LINES}
 use Rattle.route_map_text.specs.MapsLines.{maps_text}
 use Rattle.route_map_text.specs.MapsSpelled.{IsLawful}
 use Rattle.map_reader.specs.MapsRead.{spelled}
-use Rattle.map_jobs.specs.Difference.{first_difference}
+use Rattle.text_difference.specs.Difference.{first_difference}
 use Rattle.map_jobs.specs.MapsSaid.{too_many_lines, same_line, differs_line}
 
 -- The maps of the configuration would have more lines than a text of maps may have, and the line of this refusal is said.

@@ -5,41 +5,17 @@ ghost use Rattle.maps_made.specs.Counts.{line_count};
 ghost use Rattle.route_map_text.specs.MapsLines.{maps_text};
 ghost use Rattle.route_map_text.specs.MapsSpelled.{Spells};
 ghost use Rattle.run_base.specs.Said.{IsGiven, said};
-ghost use Rattle.map_jobs.specs.Difference.{first_difference};
 ghost use Rattle.map_jobs.specs.MapsJobs.{SaysOfBoth, SaysOfBytes, SaysOfPair};
 
 use crate::lines::{differs_line, same_line};
 use crate::maps::maps_of_config;
 use config_base::Config;
-use config_lines::first_part;
 use input_texts::{config_for, maps_for};
 use route_map_text::print_maps;
 use route_maps::Maps;
 use run_base::Stop;
 use std::alloc::Global;
-
-// The number of the first line in which two texts differ, the next one where a text ends.
-fn difference(first: &[u8], second: &[u8]) -> u64
-    ensures { result ≡ first_difference first.now second.now }
-{
-    let mut number = 1;
-    let mut xs = Some(first);
-    let mut ys = Some(second);
-    while let Some(x_bytes) = xs {
-        let Some(y_bytes) = ys else {
-            return number;
-        };
-        let (x, more_xs) = first_part(b'\n', x_bytes);
-        let (y, more_ys) = first_part(b'\n', y_bytes);
-        if x != y {
-            return number;
-        }
-        number += 1;
-        xs = more_xs;
-        ys = more_ys;
-    }
-    number
-}
+use text_difference::first_difference;
 
 // What the text of maps and the wanted text come to.
 fn compared(alloc: Global, bytes: &[u8], wanted: &[u8]) -> Result<Vec<u8>, Stop>
@@ -48,7 +24,7 @@ fn compared(alloc: Global, bytes: &[u8], wanted: &[u8]) -> Result<Vec<u8>, Stop>
     if bytes == wanted {
         return Ok(same_line(alloc)?);
     }
-    let number = difference(bytes, wanted);
+    let number = first_difference(bytes, wanted);
     Err(Stop::Failing(differs_line(alloc, number)?))
 }
 

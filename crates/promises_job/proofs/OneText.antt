@@ -19,7 +19,8 @@ use Rattle.impact_report.specs.Sources.{router_source, router_sources, session_s
 use Rattle.promises_law.specs.Claims.{IsPlace}
 use Rattle.promises_law.specs.Promises.{ArePromises, IsPromised, Promises}
 use Rattle.promises_report.specs.Places.{is_other, places_of, sessions_of}
-use Rattle.promises_text.specs.Texts.{case_lines, case_text, cases_text, count_line, idle_line, is_idle, is_transit, is_unclaimed, promises_lines, source_line, transit_line, uncarried_line, unclaimed_count, unclaimed_in, unclaimed_line, ranked_line, source_text, is_uncarried}
+use Rattle.report_lines.specs.Lines.{source_text}
+use Rattle.promises_text.specs.Texts.{case_lines, case_text, cases_text, count_line, idle_line, is_idle, is_transit, is_unclaimed, promises_lines, source_line, transit_line, uncarried_line, unclaimed_count, unclaimed_in, unclaimed_line, ranked_line, is_uncarried}
 use Rattle.promises_job.specs.Promised.{IsPromisesText}
 
 -- ---- what is promised at a place is one thing
@@ -81,7 +82,7 @@ module _ (net : PlainNet) (policy : PlainPolicy) (s : PlainStatement) (c : Case)
 
   unclaimed_same : (x : Source) → IsIn places x → unclaimed_line net a x ≡ unclaimed_line net b x
   unfolding unclaimed_line
-  unclaimed_same x at = ap (λ t. if t then codes "unclaimed" ++ source_text net x.router x.peer ++ codes "\n" else []) (same_unclaimed x at)
+  unclaimed_same x at = ap (λ t. if t then codes "unclaimed " ++ source_text net x.router x.peer ++ codes "\n" else []) (same_unclaimed x at)
 
   passes_at : (r : ℕ) (peer : Option ℕ) → IsPlace net c r peer → (is_none peer && a.passes r) ≡ (is_none peer && b.passes r)
   passes_at r None here = one_test (a.passes r) (b.passes r) (one.walks r here) (other.walks r here)
@@ -97,7 +98,7 @@ module _ (net : PlainNet) (policy : PlainPolicy) (s : PlainStatement) (c : Case)
 
   transit_same : (x : Source) → IsIn places x → transit_line net a x ≡ transit_line net b x
   unfolding transit_line
-  transit_same x at = ap (λ t. if t then codes "transit" ++ source_text net x.router x.peer ++ codes "\n" else []) (same_transit x at)
+  transit_same x at = ap (λ t. if t then codes "transit " ++ source_text net x.router x.peer ++ codes "\n" else []) (same_transit x at)
 
   lines_same : promises_lines net policy c a places ≡ promises_lines net policy c b places
   lines_same =

@@ -2,19 +2,17 @@
 use Rattle.std.proofs.Common.{◌≡◌, ℕ, zero, suc, List, [], ◌∷◌, length, Some, sym, ap, ◌∙◌, subst}
 use Rattle.std.specs.Prelude.{slice_get}
 use Rattle.std.proofs.lemmas.List.{length-map}
-use Rattle.std.proofs.lemmas.Option.{slice_get-map}
-use Rattle.list_laws.proofs.Options.{option_map_parts}
 use Rattle.net_base.specs.Network.{IsNet, PlainNet}
 use Rattle.policy_base.specs.declared.case.Case.{Case}
-use Rattle.policy_base.specs.Cases.{case_list}
 use Rattle.policy_base.specs.Policies.{IsPolicyOf, PlainPolicy, PlainStatement, statement_at}
 use Rattle.policy_base.proofs.KnownCases.{case_known}
 use Rattle.config_base.specs.Configs.{PlainConfig}
 use Rattle.evidence_base.specs.Made.{PlainCaseEvidence}
 use Rattle.evidence_law.specs.Passes.{Passes}
+use Rattle.evidence_law.proofs.MadeCases.{case_listed, evidence_at}
 use Rattle.promises_law.specs.Promises.{Promises}
 use Rattle.promises_law.proofs.Keeping.{promises_are_kept}
-use Rattle.promises_law.proofs.Telling.{of_case, tops_tell_promises}
+use Rattle.promises_law.proofs.Telling.{tops_tell_promises}
 use Rattle.promises_report.specs.Telling.{IsTold}
 use Rattle.promises_text.specs.Texts.{promises_text}
 use Rattle.promises_text.proofs.Casing.{told_size}
@@ -34,7 +32,7 @@ module _ (net : PlainNet) (policy : PlainPolicy) (config : PlainConfig) (cs : Li
     (kept : IsPolicyOf net policy) (passes : Passes net policy config cs) where
   pub one_step : HaveOneStep cs
   one_step d at =
-      let s = (case_known net policy at.0 d.case (of_case net policy config cs rules kept passes at.0 d at.1)).statement in
+      let s = (case_known net policy at.0 d.case (case_listed net policy config cs passes.made at.0 d at.1)).statement in
       (passes.made.graphs at.0 d s.0 at.1 s.1).faithful.formed.one_step
 
   case_told : (k : ℕ) (d : PlainCaseEvidence) (s : PlainStatement) (a : Promises) → slice_get cs k ≡ Some d → statement_at policy d.case.statement ≡ Some s → IsTold net d a → IsOfCase net policy config k d.case s a
@@ -46,18 +44,12 @@ module _ (net : PlainNet) (policy : PlainPolicy) (config : PlainConfig) (cs : Li
         kept = promises_are_kept net policy config cs rules kept passes k d s at number told.0 tops;
       })
 
-  -- the evidence of a case
-  evidence_at : (k : ℕ) (c : Case) → slice_get (case_list net policy) k ≡ Some c → (d : PlainCaseEvidence) × (slice_get cs k ≡ Some d) × (d.case ≡ c)
-  evidence_at k c at =
-      option_map_parts (λ (d : PlainCaseEvidence). d.case) (slice_get cs k) c
-      (sym (slice_get-map (λ (d : PlainCaseEvidence). d.case) cs k) ∙ ap (λ (xs : List Case). slice_get xs k) passes.made.cases ∙ at)
-
   pub promised : (text : List ℕ) → IsTextOf net policy cs text → IsPromisesText net policy config text
   promised text is = record {
     promises = is.promises;
     size = sym (told_size net cs is.promises is.told) ∙ sym (length-map cs (λ (d : PlainCaseEvidence). d.case)) ∙ ap length passes.made.cases;
     each = λ k c s a at number one.
-        let d = evidence_at k c at in
+        let d = evidence_at net policy config cs passes.made k c at in
         subst (λ (e : Case). IsOfCase net policy config k e s a) d.2
         (case_told k d.0 s a d.1 (ap (λ (e : Case). statement_at policy e.statement) d.2 ∙ number) (told_at net cs is.promises k d.0 a is.told d.1 one));
     spelled = is.spelled ∙ ap (λ (xs : List Case). promises_text net policy xs is.promises) passes.made.cases;

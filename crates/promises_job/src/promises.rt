@@ -6,7 +6,7 @@ ghost use Rattle.promises_job.specs.Promised.{SaysOfPolicy};
 ghost use Rattle.input_texts.specs.Texts.{OfTexts};
 ghost use Rattle.run_base.specs.Said.{IsGiven, said};
 
-use compile_jobs::compiled_for;
+use compile_jobs::compiled_evidence_for;
 use input_texts::{net_of, policy_for};
 use net_base::{Net, known_net};
 use policy_base::Policy;
@@ -21,8 +21,8 @@ fn promised_text(alloc: Global, net: &Net, policy: &Policy) -> Result<Vec<u8>, S
     ensures { IsGiven (SaysOfPolicy net.now (policy_of policy.now)) (said result) }
 {
     known_net(net);
-    let compiled = compiled_for(alloc, net, policy)?;
-    let cases = compiled.evidence.cases.as_slice();
+    let evidence = compiled_evidence_for(alloc, net, policy)?;
+    let cases = evidence.cases.as_slice();
     Ok(promises_text(alloc, net, policy, cases)?)
 }
 

@@ -5,7 +5,7 @@ use Rattle.policy_base.specs.Policies.{PlainStatement}
 use Rattle.evidence_base.specs.Made.{PlainCaseEvidence}
 use Rattle.evidence_law.specs.Passes.{IsCaseGraph}
 use Rattle.impact_law.specs.BestRanks.{AreTops}
-use Rattle.impact_law.specs.Support.{no_failures}
+use Rattle.outcome_base.specs.Outcomes.{no_failures}
 use Rattle.impact_report.specs.Tops.{entry_at}
 use Rattle.promises_law.specs.Laws.{told_by}
 use Rattle.promises_law.specs.Promises.{Promises}

@@ -10,10 +10,10 @@ use Rattle.policy_base.specs.declared.case.Case.{Case}
 use Rattle.policy_base.specs.Policies.{PlainPolicy}
 use Rattle.impact_report.specs.declared.sources.Source.{Source}
 use Rattle.net_base.specs.Locations.{in_order}
-use Rattle.report_lines.specs.Lines.{next_name}
+use Rattle.report_lines.specs.Lines.{next_name, source_text}
 use Rattle.promises_law.specs.Promises.{Promises}
 use Rattle.promises_report.specs.Places.{places_of}
-use Rattle.promises_text.specs.Texts.{case_lines, case_text, idle_line, is_idle, is_unclaimed, peer_line, promises_lines, source_line, source_text, transit_line, unclaimed_count, unclaimed_line}
+use Rattle.promises_text.specs.Texts.{case_lines, case_text, idle_line, is_idle, is_unclaimed, peer_line, promises_lines, source_line, transit_line, unclaimed_count, unclaimed_line}
 
 one_within : (b : Bool) (n : ℕ) → (b ≡ true → 1 ≤ n) → cond b 1 0 ≤ n
 one_within true n h = h refl
@@ -30,7 +30,7 @@ lines_within p f each (x ∷ xs) =
 unclaimed_byte : (net : PlainNet) (a : Promises) (x : Source) → is_unclaimed a x ≡ true → 1 ≤ length (unclaimed_line net a x)
 unfolding unclaimed_line
 unclaimed_byte net a x h = rw h (
-    let size = length-append (codes "unclaimed" ++ source_text net x.router x.peer) (codes "\n") in
+    let size = length-append (codes "unclaimed " ++ source_text net x.router x.peer) (codes "\n") in
     omega (arith, size))
 
 peer_byte : (net : PlainNet) (l : ℕ) → 1 ≤ length (peer_line net l)

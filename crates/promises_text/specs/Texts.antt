@@ -14,7 +14,7 @@ use Rattle.policy_base.specs.Governing.{governing}
 use Rattle.policy_base.specs.Policies.{PlainPolicy, PlainStatement, statement_at}
 use Rattle.evidence_base.specs.Made.{patterns_of}
 use Rattle.text_words.specs.Texts.{pattern_text, prefix_text}
-use Rattle.report_lines.specs.Lines.{next_name}
+use Rattle.report_lines.specs.Lines.{next_name, source_text}
 use Rattle.impact_report.specs.declared.sources.Source.{Source}
 use Rattle.promises_law.specs.Promises.{Promises}
 use Rattle.promises_report.specs.Places.{places_of}
@@ -40,14 +40,10 @@ case_lines net policy number c = head_line number c ++ flat_map pattern_line (pa
 
 -- ---- what is promised
 
-abbrev pub source_text : PlainNet → ℕ → Option ℕ → List ℕ
-source_text net r None = codes " router" ++ next_name net r
-source_text net r (Some peer) = codes " session" ++ next_name net r ++ next_name net peer
-
 -- a source with its best rank
 abbrev pub ranked_line : PlainNet → Source → Option ℕ → List ℕ
 ranked_line net x None = []
-ranked_line net x (Some n) = codes "source" ++ source_text net x.router x.peer ++ codes " rank " ++ decimal n ++ codes "\n"
+ranked_line net x (Some n) = codes "source " ++ source_text net x.router x.peer ++ codes " rank " ++ decimal n ++ codes "\n"
 
 unfoldable pub source_line : PlainNet → Promises → Source → List ℕ
 source_line net a x = ranked_line net x (a.rank x.router x.peer)
@@ -57,7 +53,7 @@ abbrev pub is_unclaimed : Promises → Source → Bool
 is_unclaimed a x = is_none (a.rank x.router x.peer)
 
 unfoldable pub unclaimed_line : PlainNet → Promises → Source → List ℕ
-unclaimed_line net a x = if is_unclaimed a x then codes "unclaimed" ++ source_text net x.router x.peer ++ codes "\n" else []
+unclaimed_line net a x = if is_unclaimed a x then codes "unclaimed " ++ source_text net x.router x.peer ++ codes "\n" else []
 
 abbrev pub names : FromSet → ℕ → Bool
 names Any l = false
@@ -82,7 +78,7 @@ abbrev pub is_transit : Promises → Source → Bool
 is_transit a x = is_none x.peer && is_unclaimed a x && a.passes x.router
 
 unfoldable pub transit_line : PlainNet → Promises → Source → List ℕ
-transit_line net a x = if is_transit a x then codes "transit" ++ source_text net x.router x.peer ++ codes "\n" else []
+transit_line net a x = if is_transit a x then codes "transit " ++ source_text net x.router x.peer ++ codes "\n" else []
 
 -- The claimed sources with their best ranks; the routers and sessions that aren't claimed, and the peers that can't be; and the routers
 -- that carry routes of the case without a claim.

@@ -2,7 +2,7 @@
 ghost use Rattle.std.specs.Prelude.{◌≡◌, ◌++◌, OnOk};
 ghost use Rattle.policy_base.specs.Policies.{policy_of, statement_at as plain_statement_at};
 ghost use Rattle.promises_report.specs.Telling.{promises_in};
-ghost use Rattle.promises_text.specs.Texts.{count_line, head_line, idle_line, is_idle as is_idle_in, is_named_by, is_transit as is_transit_in, is_uncarried as is_uncarried_by, is_unclaimed as is_unclaimed_in, names as names_in, origin_line, pattern_line, peer_line, ranked_line, source_line, source_text, transit_line, uncarried_line, unclaimed_line};
+ghost use Rattle.promises_text.specs.Texts.{count_line, head_line, idle_line, is_idle as is_idle_in, is_named_by, is_transit as is_transit_in, is_uncarried as is_uncarried_by, is_unclaimed as is_unclaimed_in, names as names_in, origin_line, pattern_line, peer_line, ranked_line, source_line, transit_line, uncarried_line, unclaimed_line};
 
 use config_made::statement_at;
 use impact_report::Source;
@@ -10,7 +10,7 @@ use net_base::{Loc, Net, Pattern};
 use outside::NoMemory;
 use policy_base::{Case, FromSet, Origin, Policy, governing};
 use promises_report::Told;
-use report_lines::push_next;
+use report_lines::{push_next, push_source};
 use text_words::{push_bytes, push_number, push_pattern, push_prefix};
 
 /// Adds the line with the numbers of a case and of its statement.
@@ -48,23 +48,6 @@ pub fn push_origin(text: &mut Vec<u8>, net: &Net, case: &Case, router: Loc) -> R
     push_bytes(text, b"\n")
 }
 
-/// Adds what a source is: a router, or its session to a peer.
-fn push_source(text: &mut Vec<u8>, net: &Net, source: &Source) -> Result<(), NoMemory>
-    ensures { OnOk result (text.new.items ≡ text.old.items ++ source_text net.now source.now.router source.now.peer) }
-{
-    match source.peer {
-        None => {
-            push_bytes(text, b" router")?;
-            push_next(text, net, source.router)
-        }
-        Some(peer) => {
-            push_bytes(text, b" session")?;
-            push_next(text, net, source.router)?;
-            push_next(text, net, peer)
-        }
-    }
-}
-
 /// Adds the line of a source with its best rank, where it has one.
 fn push_ranked(
     text: &mut Vec<u8>,
@@ -77,8 +60,8 @@ fn push_ranked(
     match rank {
         None => Ok(()),
         Some(rank) => {
-            push_bytes(text, b"source")?;
-            push_source(text, net, source)?;
+            push_bytes(text, b"source ")?;
+            push_source(text, net, source.router, source.peer)?;
             push_bytes(text, b" rank ")?;
             push_number(text, u64::from(rank))?;
             push_bytes(text, b"\n")
@@ -119,8 +102,8 @@ pub fn push_unclaimed(
     if !is_unclaimed(told, source) {
         return Ok(());
     }
-    push_bytes(text, b"unclaimed")?;
-    push_source(text, net, source)?;
+    push_bytes(text, b"unclaimed ")?;
+    push_source(text, net, source.router, source.peer)?;
     push_bytes(text, b"\n")
 }
 
@@ -201,8 +184,8 @@ pub fn push_transit(
     if !is_transit(told, source) {
         return Ok(());
     }
-    push_bytes(text, b"transit")?;
-    push_source(text, net, source)?;
+    push_bytes(text, b"transit ")?;
+    push_source(text, net, source.router, source.peer)?;
     push_bytes(text, b"\n")
 }
 

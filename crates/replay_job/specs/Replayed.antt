@@ -10,10 +10,9 @@ use Rattle.scenario_reader.specs.Spelled.{spelled as scenario_spelled}
 use Rattle.settled_law.specs.Settled.{IsFullyStable}
 use Rattle.stable_paths.specs.declared.scenario.Scenario.{Scenario}
 use Rattle.stable_paths.specs.Scenarios.{failures_of}
-use Rattle.compile_jobs.specs.Compiling.{SaysOfCompiled, SaysOfThree}
+use Rattle.compile_jobs.specs.Compiling.{SaysOfThree}
 use Rattle.run_base.specs.Said.{Said}
 use Rattle.input_texts.specs.FaultLines.{scenario_line}
-use Rattle.input_texts.specs.Texts.{OfScenarioText}
 
 -- The text is the report of an outcome of the scenario's prefix, which is stable under its failures, with ties broken.
 pub record IsReplayed (net : PlainNet) (policy : PlainPolicy) (config : PlainConfig) (scenario : Scenario) (bytes : List ℕ) : Type 0 where
@@ -26,14 +25,6 @@ pub record IsReplayed (net : PlainNet) (policy : PlainPolicy) (config : PlainCon
 abbrev pub WritesReport : PlainNet → PlainPolicy → Scenario → PlainConfig → List PlainCaseEvidence → List ℕ → Type 0
 WritesReport net policy scenario config evidence bytes = IsReplayed net policy config scenario bytes
 
--- the report for the configuration that is compiled from the policy, or the line of a refusal that applies to it
-abbrev pub SaysOfScenario : PlainNet → PlainPolicy → Scenario → Said → Type 0
-SaysOfScenario net policy scenario = SaysOfCompiled (WritesReport net policy scenario) net policy
-
--- what is said of the text of a scenario, for a network and a policy
-abbrev pub SaysOfPolicy : List ℕ → PlainNet → PlainPolicy → Said → Type 0
-SaysOfPolicy scenario_text net policy what = OfScenarioText (SaysOfScenario net policy) net scenario_text what
-
--- and of three texts
+-- what is said of three texts
 abbrev pub SaysOfTexts : List (List ℕ) → Said → Type 0
 SaysOfTexts = SaysOfThree scenario_line scenario_spelled WritesReport

@@ -3,4 +3,4 @@
 
 mod replay;
 
-pub use replay::replay_texts;
+pub use replay::ReplayCommand;

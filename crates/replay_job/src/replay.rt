@@ -1,67 +1,33 @@
 //! The command `replay`.
-ghost use Rattle.std.specs.Prelude.{◌<◌, length};
-ghost use Rattle.policy_base.specs.Policies.{IsPolicyOf, policy_of};
-ghost use Rattle.policy_base.specs.CaseNumbers.{OriginsAreRouters};
-ghost use Rattle.run_base.specs.Said.{IsGiven, said};
-ghost use Rattle.input_texts.specs.Texts.{OfTexts};
-ghost use Rattle.replay_job.specs.Replayed.{SaysOfPolicy, SaysOfScenario};
-
-use compile_jobs::compiled_for;
-use input_texts::{net_of, policy_for, scenario_for};
+use compile_jobs::{Answer, Compiled};
 use net_base::Net;
+use outside::NoMemory;
 use policy_base::Policy;
 use report_lines::report;
-use run_base::Stop;
 use settling::settle;
 use stable_paths::Scenario;
 use std::alloc::Global;
 
-// The report of what the configuration that is compiled from the policy settles to, or why the policy is refused.
-fn settled_text(
-    alloc: Global,
-    net: &Net,
-    policy: &Policy,
-    scenario: &Scenario,
-) -> Result<Vec<u8>, Stop>
-    requires routers { OriginsAreRouters net.now policy.now.origins }
-    requires fits { IsPolicyOf net.now (policy_of policy.now) }
-    ensures { IsGiven (SaysOfScenario net.now (policy_of policy.now) scenario.now) (said result) }
-{
-    let compiled = compiled_for(alloc, net, policy)?;
-    let config = &compiled.config;
-    let evidence = &compiled.evidence;
-    let outcome = settle(alloc, net, policy, config, evidence, scenario)?;
-    Ok(report(alloc, net, policy, config, evidence, scenario, &outcome)?)
-}
+/// The report of what the configuration that is compiled settles to under the failures of a scenario.
+pub struct ReplayCommand;
 
-// What the text of a scenario comes to.
-fn scenario_text(
-    alloc: Global,
-    net: &Net,
-    policy: &Policy,
-    scenario: &[u8],
-) -> Result<Vec<u8>, Stop>
-    requires routers { OriginsAreRouters net.now policy.now.origins }
-    requires fits { IsPolicyOf net.now (policy_of policy.now) }
-    ensures { IsGiven (SaysOfPolicy scenario.now net.now (policy_of policy.now)) (said result) }
-{
-    let scenario = scenario_for(alloc, net, scenario)?;
-    settled_text(alloc, net, policy, &scenario)
-}
+impl Answer for ReplayCommand {
+    ghost use Rattle.replay_job.specs.Replayed.{WritesReport};
 
-/// What the texts of a topology, of a policy and of a scenario come to: the report of what the configuration that is compiled settles
-/// to, or why the run stops.
-#[tactic(auto, unfolding(input_texts::specs::Texts::OfTexts))]
-pub fn replay_texts(
-    alloc: Global,
-    topology: &[u8],
-    policy: &[u8],
-    scenario: &[u8],
-) -> Result<Vec<u8>, Stop>
-    requires { length policy.now < 4294967295 }
-    ensures { IsGiven (OfTexts (SaysOfPolicy scenario.now) topology.now policy.now) (said result) }
-{
-    let net = net_of(alloc, topology)?;
-    let policy = policy_for(alloc, &net, policy)?;
-    scenario_text(alloc, &net, &policy, scenario)
+    type Asked = Scenario;
+
+    ghost writes = { WritesReport };
+
+    fn answer(
+        alloc: Global,
+        net: &Net,
+        policy: &Policy,
+        compiled: &Compiled,
+        scenario: &Scenario,
+    ) -> Result<Vec<u8>, NoMemory> {
+        let config = &compiled.config;
+        let evidence = &compiled.evidence;
+        let outcome = settle(alloc, net, policy, config, evidence, scenario)?;
+        report(alloc, net, policy, config, evidence, scenario, &outcome)
+    }
 }

@@ -1,14 +1,14 @@
 -- What is read off the graph of a prefix's case is what the policy claims for the prefix.
 use Rattle.std.proofs.Common.{◌≡◌, ℕ, ◌≤◌, ◌-◌, zero, suc, Bool, true, false, List, [], ◌∷◌, Option, Some, None, refl, sym, ap, ◌∙◌, subst, inl, inr}
-use Rattle.std.specs.Prelude.{◌↔◌, ◌==◌, not, filter, option_and_then, option_map, slice_get}
+use Rattle.std.specs.Prelude.{◌↔◌, ◌==◌, not, filter, option_and_then, slice_get}
 use Rattle.std.specs.List.{items_where_true, position}
 use Rattle.std.specs.Option.{option_map_or}
 use Rattle.std.proofs.lemmas.Bool.{and_parts, eq-eqb, true≢false}
 use Rattle.std.proofs.lemmas.List.Quantifiers.{position-Some}
-use Rattle.std.proofs.lemmas.Option.{get_or_from_slice_get, slice_get-map, slice_get_within}
+use Rattle.std.proofs.lemmas.Option.{get_or_from_slice_get, slice_get_within}
 use Rattle.list_laws.specs.Members.{IsIn}
 use Rattle.list_laws.proofs.Members.{IsIn-filter, IsIn-filter_parts, IsIn-map, IsIn-map_parts, IsIn-nil, list_any-from_IsIn, list_any_member}
-use Rattle.list_laws.proofs.Options.{option_and_then_parts, option_map_or_equal, option_map_parts, none_or_some}
+use Rattle.list_laws.proofs.Options.{option_map_or_equal, none_or_some}
 use Rattle.policy_base.specs.declared.limits.TheConstants.{ALTERNATIVES}
 use Rattle.net_base.specs.Network.{PlainNet, IsNet, is_peer, joins, linked}
 use Rattle.net_base.specs.Prefixes.{PlainPrefix, IsPrefix}
@@ -27,10 +27,8 @@ use Rattle.config_base.specs.Configs.{PlainConfig}
 use Rattle.config_base.specs.Lines.{class_of}
 use Rattle.evidence_base.specs.Made.{PlainCaseEvidence, case_at}
 use Rattle.evidence_law.specs.Passes.{AreWithin, IsCaseGraph, Passes}
-use Rattle.evidence_law.proofs.CaseOfClass.{IsCaseOf, governed_case, ungoverned_class}
-use Rattle.evidence_law.proofs.ClassFound.{class_in}
+use Rattle.evidence_law.proofs.MadeCases.{HasCase, case_or_bare, case_or_nobody}
 use Rattle.evidence_law.proofs.PermittedWalks.{permits_parts}
-use Rattle.evidence_law.proofs.RightLaw.{class_is}
 use Rattle.report_lines.specs.Claims.{AreClaimed}
 use Rattle.report_lines.specs.Lines.{Sources}
 use Rattle.report_lines.specs.Marks.{AreMarks, heard_pairs, is_at}
@@ -55,9 +53,6 @@ few_at net policy (b ∷ cs) room (suc k) c s within at governs = few_at net pol
 
 module _ (net : PlainNet) (policy : PlainPolicy) (config : PlainConfig) (cs : List PlainCaseEvidence) (rules : IsNet net)
     (kept : IsPolicyOf net policy) (passes : Passes net policy config cs) (p : PlainPrefix) (prefix : IsPrefix p) where
-  classed : class_of config p ≡ class_in policy p (case_list net policy) 1
-  classed = class_is net policy config cs rules kept passes.made p
-
   abbrev case_found : Option PlainCaseEvidence
   case_found = option_and_then (case_at cs) (class_of config p)
 
@@ -69,48 +64,33 @@ module _ (net : PlainNet) (policy : PlainPolicy) (config : PlainConfig) (cs : Li
     pub same : holds d.case.origins ≡ is_origin net policy p
     pub few : alternative_count s.ranked ≤ ALTERNATIVES
 
-  of_case : (k : ℕ) (d : PlainCaseEvidence) → slice_get cs k ≡ Some d → slice_get (case_list net policy) k ≡ Some d.case
-  of_case k d at = ap (λ (xs : List Case). slice_get xs k) (sym passes.made.cases) ∙ slice_get-map (λ (c : PlainCaseEvidence). c.case) cs k ∙ ap (option_map (λ (c : PlainCaseEvidence). c.case)) at
-
-  at_case : (s : PlainStatement) → statement_of policy p ≡ Some s → (k : ℕ) (d : PlainCaseEvidence) → slice_get cs k ≡ Some d → IsCaseOf net policy p s k d.case → IsGoverned d
-  at_case s governs k d at is = record {
+  at_case : (s : PlainStatement) → statement_of policy p ≡ Some s → (c : HasCase net policy config cs p s) → IsGoverned c.d
+  at_case s governs c = record {
     s = s;
     governs = governs;
-    on = passes.made.graphs k d s at is.number;
-    same = is.same;
-    few = few_at net policy (case_list net policy) _ k d.case s passes.limits is.at is.number;
+    on = passes.made.graphs c.k c.d s c.at c.is.number;
+    same = c.is.same;
+    few = few_at net policy (case_list net policy) _ c.k c.d.case s passes.limits c.is.at c.is.number;
   }
 
   pub governed : (d : PlainCaseEvidence) → case_found ≡ Some d → IsGoverned d
-  governed d found = go (statement_of policy p) refl
-    where
-      parts : (k : ℕ) × (class_of config p ≡ Some k) × (case_at cs k ≡ Some d)
-      parts = option_and_then_parts (case_at cs) (class_of config p) d found
-
-      go : (o : Option PlainStatement) → statement_of policy p ≡ o → IsGoverned d
-      go None is = absurd (none_or_some (class_of config p) parts.0 (classed ∙ ungoverned_class net policy p rules kept prefix is) parts.1)
-      go (Some s) is = elim (governed_case net policy p rules kept prefix s is) [
-        | inr nobody ↦ absurd (none_or_some (class_of config p) parts.0 (classed ∙ nobody.1) parts.1)
-        | inl there ↦ (
-            let one : Some parts.0 ≡ Some (suc there.0) = sym parts.1 ∙ classed ∙ there.2 in
-            let number : parts.0 ≡ suc there.0 = cc in
-            let at : slice_get cs there.0 ≡ Some d = sym (ap (case_at cs) number) ∙ parts.2 in
-            let both : Some there.1 ≡ Some d.case = sym there.3.at ∙ of_case there.0 d at in
-            let same : there.1 ≡ d.case = cc in
-            at_case s is there.0 d at (subst (λ (c : Case). IsCaseOf net policy p s there.0 c) same there.3))
-      ]
+  governed d found = elim (case_or_bare net policy config cs rules kept passes.made p prefix) [
+    | inr free ↦ absurd (none_or_some case_found d (ap (option_and_then (case_at cs)) free) found)
+    | inl there ↦ (
+        let c = there.2 in
+        let both : Some c.d ≡ Some d = sym (ap (option_and_then (case_at cs)) c.of_class ∙ c.at) ∙ found in
+        let same : c.d ≡ d = cc in
+        subst IsGoverned same (at_case there.0 there.1 c))
+  ]
 
   -- ---- a prefix without a case
 
   none_permitted : (s : PlainStatement) → case_found ≡ None → statement_of policy p ≡ Some s → (path : List ℕ) → is_permitted net policy p s path ≡ true → ⊥
-  none_permitted s none governs path permitted = elim (governed_case net policy p rules kept prefix s governs) [
+  none_permitted s none governs path permitted = elim (case_or_nobody net policy config cs rules kept passes.made p prefix s governs) [
     | inr nobody ↦ (
         let ends = (permits_parts net (is_origin net policy p) s path permitted).1 in
         true≢false (sym (and_parts (at_last (is_origin net policy p) path) _ ends).0 ∙ at_last-never (is_origin net policy p) path nobody.0))
-    | inl there ↦ (
-        let mapped = sym (slice_get-map (λ (c : PlainCaseEvidence). c.case) cs there.0) ∙ ap (λ (xs : List Case). slice_get xs there.0) passes.made.cases ∙ there.3.at in
-        let d = option_map_parts (λ (c : PlainCaseEvidence). c.case) (slice_get cs there.0) there.1 mapped in
-        none_or_some case_found d.0 none (ap (option_and_then (case_at cs)) (classed ∙ there.2) ∙ d.1))
+    | inl c ↦ none_or_some case_found c.d none (ap (option_and_then (case_at cs)) c.of_class ∙ c.at)
   ]
 
   pub none_claimed : (sources : Sources) → case_found ≡ None → ((r : ℕ) → sources.routers r ≡ false) → sources.sessions ≡ [] → AreClaimed net policy p sources

@@ -19,7 +19,8 @@ use Rattle.graph_base.specs.Runs.{has_step, is_listener, is_start, place_of, run
 use Rattle.graph_base.proofs.RunSteps.{last_step, run_begins}
 use Rattle.graph_base.proofs.StartsAndSteps.{step_in, step_nodes}
 use Rattle.evidence_base.specs.Made.{PlainCaseEvidence}
-use Rattle.graph_law.proofs.Claimed.{claimed_where_ranked, listeners_ranked, ranked_may, ranked_permits}
+use Rattle.evidence_law.proofs.Listeners.{listeners_ranked}
+use Rattle.graph_law.proofs.Claimed.{claimed_where_ranked, ranked_may, ranked_permits}
 use Rattle.evidence_law.specs.Faithful.{is_walk_to}
 use Rattle.evidence_law.specs.Passes.{IsCaseGraph}
 use Rattle.evidence_law.proofs.CaseOrigins.{case_permits, prefix_permits}
@@ -119,7 +120,7 @@ module _ (net : PlainNet) (policy : PlainPolicy) (p : PlainPrefix) (s : PlainSta
       let node = (step_nodes g target.0 over.2 on.graph target.2).1 in
       let after = and_parts _ (not (is_start g over.2)) (formed.links target.0 over.2 target.2) in
       let listens : is_listener g over.2 ≡ true = formed.listeners over.2 node ∙ and_from (is_peer net (place_of g over.2)) (not (is_start g over.2)) (ap (is_peer net) over.5 ∙ kind.0) after.1 in
-      let ranked = listeners_ranked net s d.case g on.graph on.faithful over.2 node listens in
+      let ranked = listeners_ranked net s Origin d.case.external g on.graph on.faithful over.2 node listens in
       let may = ranked_may net s d.case g on.graph on.faithful over.2 node ranked in
       let permitted = ranked_permits net s d.case g on.graph on.faithful (place_of g over.2) over.2 (place_of g h.to ∷ over.0 ∷ over.1) refl may over.4 ranked in
       let names : place_of g over.2 ≡ peer = over.5 ∙ h.at in

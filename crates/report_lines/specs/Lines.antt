@@ -34,6 +34,11 @@ rank_by net s path = option_and_then (λ (t : PlainStatement). rank_of net t.ran
 abbrev pub next_name : PlainNet → ℕ → List ℕ
 next_name net l = codes " " ++ name_of net l
 
+-- a source of traffic: a router, or its session to a peer
+abbrev pub source_text : PlainNet → ℕ → Option ℕ → List ℕ
+source_text net r None = codes "router" ++ next_name net r
+source_text net r (Some peer) = codes "session" ++ next_name net r ++ next_name net peer
+
 -- the names along a path
 abbrev pub path_text : PlainNet → List ℕ → List ℕ
 path_text net path = codes " path" ++ flat_map (next_name net) path

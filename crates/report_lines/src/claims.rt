@@ -1,10 +1,9 @@
 //! The sources that a policy claims for a prefix.
-ghost use Rattle.std.specs.Prelude.{◌≡◌, ◌≤◌, Bool, List as Seq, IfOk, option_and_then, option_map};
+ghost use Rattle.std.specs.Prelude.{◌≡◌, ◌≤◌, Bool, List as Seq, IfOk};
 ghost use Rattle.std.specs.List.{items_where_true};
 ghost use Rattle.std.specs.Option.{ForSome};
 ghost use Rattle.policy_base.specs.declared.limits.TheConstants.{ALTERNATIVES};
-ghost use Rattle.config_base.specs.Lines.{class_of as class};
-ghost use Rattle.evidence_base.specs.Made.{case_at};
+ghost use Rattle.config_base.specs.Configs.{PlainConfig};
 ghost use Rattle.policy_base.specs.Meaning.{alternative_count};
 ghost use Rattle.policy_base.specs.Policies.{IsPolicyOf, policy_of};
 ghost use Rattle.evidence_law.specs.Passes.{Passes};
@@ -13,8 +12,8 @@ ghost use Rattle.report_lines.specs.Lines.{rank_by};
 ghost use Rattle.report_lines.specs.Marks.{AreMarks, heard_pairs as ends_heard};
 
 use crate::marks::{heard_pairs, marked_links, marks_of};
-use config_base::{Config, class_of};
-use evidence_base::{CaseEvidence, Evidence};
+use config_made::case_of;
+use evidence_base::Evidence;
 use graph_base::{Graph, ranked_routers};
 use net_base::{List, Loc, LocSet, Net, Prefix, known_net, known_prefix};
 use policy_base::{Policy, Statement, rank_of, statement_of};
@@ -42,14 +41,6 @@ impl Claims<'_> {
     }
 }
 
-/// The case of a prefix's class.
-fn case_of<'a>(config: &Config, evidence: &'a Evidence, prefix: Prefix) -> Option<&'a CaseEvidence>
-    ensures { option_map (λ c. c.now) result ≡ option_and_then (case_at evidence.now.cases) (class config.now prefix) }
-{
-    let place = class_of(config, prefix)?.checked_sub(1)?;
-    evidence.cases.as_slice().get(place as usize)
-}
-
 /// The sessions over which a peer hears a router in a graph.
 fn sessions(alloc: Global, net: &Net, graph: &Graph) -> Result<List<(Loc, Loc)>, AllocError>
     ensures { IfOk result (λ links. (marks : Seq Bool) × AreMarks net.now (ends_heard graph.now) marks × (links ≡ items_where_true marks net.now.links)) }
@@ -59,22 +50,22 @@ fn sessions(alloc: Global, net: &Net, graph: &Graph) -> Result<List<(Loc, Loc)>,
     marked_links(alloc, net, &marks)
 }
 
-/// The sources that the policy claims for a prefix. They are read off the graph of the prefix's case.
+/// The sources that the policy claims for a prefix. They are read off the graph of the prefix's case, in evidence that passes for some
+/// configuration.
 pub fn claims_of<'a>(
     alloc: Global,
     net: &Net,
     policy: &'a Policy,
-    config: &Config,
     evidence: &Evidence,
     prefix: Prefix,
 ) -> Result<Claims<'a>, AllocError>
     requires fits { IsPolicyOf net.now (policy_of policy.now) }
-    requires passes { Passes net.now (policy_of policy.now) config.now evidence.now.cases }
+    requires passes { (config : PlainConfig) × Passes net.now (policy_of policy.now) config evidence.now.cases }
     ensures { IfOk result (AreClaims net.now (policy_of policy.now) prefix) }
 {
     known_net(net);
     known_prefix(prefix);
-    match case_of(config, evidence, prefix) {
+    match case_of(policy, evidence, prefix) {
         None => Ok(Claims {
             statement: None,
             routers: LocSet::new(),

@@ -11,7 +11,7 @@ mod shown;
 mod situation;
 
 pub use claims::{Claims, claims_of};
-pub use lines::{push_head, push_held, push_next, push_offer};
+pub use lines::{push_head, push_held, push_next, push_offer, push_source};
 pub use reporting::{push_report, report};
 pub use scene::Scene;
 pub use shown::with_front;

@@ -9,7 +9,7 @@ ghost use Rattle.config_base.specs.Lines.{class_of};
 ghost use Rattle.config_made.specs.Writing.{name_of};
 ghost use Rattle.policy_base.specs.Meaning.{alternative_count};
 ghost use Rattle.report_lines.specs.Claims.{statement_in};
-ghost use Rattle.report_lines.specs.Lines.{class_text, head_lines, next_name, offered_text, path_text, rank_by, ranked_text, used_text};
+ghost use Rattle.report_lines.specs.Lines.{class_text, head_lines, next_name, offered_text, path_text, rank_by, ranked_text, source_text, used_text};
 
 use crate::claims::Claims;
 use net_base::{Loc, Net, Prefix};
@@ -33,6 +33,28 @@ pub fn push_next(text: &mut Vec<u8>, net: &Net, at: Loc) -> Result<(), NoMemory>
 {
     push_bytes(text, b" ")?;
     push_location(text, net, at)
+}
+
+/// Adds what a source is: a router, or its session to a peer.
+pub fn push_source(
+    text: &mut Vec<u8>,
+    net: &Net,
+    router: Loc,
+    peer: Option<Loc>,
+) -> Result<(), NoMemory>
+    ensures { OnOk result (text.new.items ≡ text.old.items ++ source_text net.now router peer) }
+{
+    match peer {
+        None => {
+            push_bytes(text, b"router")?;
+            push_next(text, net, router)
+        }
+        Some(peer) => {
+            push_bytes(text, b"session")?;
+            push_next(text, net, router)?;
+            push_next(text, net, peer)
+        }
+    }
 }
 
 /// Adds the names along a path, each after a space.

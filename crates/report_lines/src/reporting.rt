@@ -160,7 +160,7 @@ pub fn push_report<S: Scene>(
     requires passes { Passes net.now (policy_of policy.now) config.now evidence.now.cases }
     ensures { OnOk result (AddsReport net.now (policy_of policy.now) config.now prefix (S.shown scene.now) text.old.items text.new.items) }
 {
-    let claims = claims_of(alloc, net, policy, config, evidence, prefix)?;
+    let claims = claims_of(alloc, net, policy, evidence, prefix)?;
     let subject = Subject {
         net,
         policy,

@@ -3,4 +3,4 @@
 
 mod settle;
 
-pub use settle::settle_texts;
+pub use settle::SettleCommand;

@@ -9,12 +9,13 @@ ghost use Rattle.policy_base.specs.Policies.{IsPolicyOf, policy_of};
 ghost use Rattle.evidence_law.specs.Passes.{Passes};
 ghost use Rattle.outcome_base.specs.Outcomes.{Failures};
 ghost use Rattle.settled_law.specs.Settled.{IsFullyStable};
-ghost use Rattle.settling.specs.Outcomes.{AreSettled, case_of as case_of_class, held_by, tagged as with_tag};
+ghost use Rattle.settling.specs.Outcomes.{AreSettled, held_by, tagged as with_tag};
 ghost use Rattle.stable_paths.specs.Scenarios.{failures_of};
 ghost use Rattle.stable_paths.specs.Surviving.{AreSurvivors};
 
 use crate::left::{choosers, open_graph};
-use config_base::{Config, NO_TAG, Route, class_of, own_tag};
+use config_base::{Config, NO_TAG, Route, own_tag};
+use config_made::case_of;
 use evidence_base::{CaseEvidence, Evidence};
 use graph_settling::{Settled, settle_graph};
 use net_base::{List, Loc, LocSet, Net, Prefix, Tag, known_net, known_prefix};
@@ -22,14 +23,6 @@ use outside::NoMemory;
 use policy_base::Policy;
 use stable_paths::{Outcome, Scenario, Survivors, origins_at};
 use std::alloc::{AllocError, Global};
-
-/// The evidence of the case of a prefix's class.
-fn case_of<'a>(config: &Config, evidence: &'a Evidence, prefix: Prefix) -> Option<&'a CaseEvidence>
-    ensures { option_map (λ c. c.now) result ≡ case_of_class config.now evidence.now.cases prefix }
-{
-    let place = class_of(config, prefix)?.checked_sub(1)?;
-    evidence.cases.as_slice().get(place as usize)
-}
 
 /// The tag of a node.
 fn tag_of(case: &CaseEvidence, node: u32) -> Tag
@@ -176,7 +169,7 @@ pub fn settle_left(
     known_net(net);
     known_prefix(prefix);
     let origins = origins_at(net, policy, prefix);
-    let others = match case_of(config, evidence, prefix) {
+    let others = match case_of(policy, evidence, prefix) {
         None => no_routes(alloc, net.routers().len())?,
         Some(case) => case_routes(alloc, net, case, survivors, &origins)?,
     };

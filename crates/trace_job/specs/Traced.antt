@@ -13,24 +13,15 @@ use Rattle.event_reader.specs.Spelled.{spelled as events_spelled}
 use Rattle.stable_paths.specs.declared.scenario.Scenario.{Scenario}
 use Rattle.world_law.specs.Scenarios.{scenario_of}
 use Rattle.trace_lines.specs.Trace.{IsTraceOf}
-use Rattle.compile_jobs.specs.Compiling.{SaysOfCompiled, SaysOfThree}
+use Rattle.compile_jobs.specs.Compiling.{SaysOfThree}
 use Rattle.run_base.specs.Said.{Said}
 use Rattle.input_texts.specs.FaultLines.{events_line}
-use Rattle.input_texts.specs.Texts.{OfEventsText}
 
 -- the trace of the events for the configuration
 abbrev pub WritesTrace : PlainNet → PlainPolicy → Events → PlainConfig → List PlainCaseEvidence → List ℕ → Type 0
 WritesTrace net policy events config evidence bytes = IsTraceOf net policy config events.prefix events.events bytes
 
--- the trace for the configuration that is compiled from the policy, or the line of a refusal that applies to it
-abbrev pub SaysOfEvents : PlainNet → PlainPolicy → Events → Said → Type 0
-SaysOfEvents net policy events = SaysOfCompiled (WritesTrace net policy events) net policy
-
--- what is said of the text of events, for a network and a policy
-abbrev pub SaysOfPolicy : List ℕ → PlainNet → PlainPolicy → Said → Type 0
-SaysOfPolicy events_text net policy what = OfEventsText (SaysOfEvents net policy) net events_text what
-
--- and of three texts
+-- what is said of three texts
 abbrev pub SaysOfTexts : List (List ℕ) → Said → Type 0
 SaysOfTexts = SaysOfThree events_line events_spelled WritesTrace
 

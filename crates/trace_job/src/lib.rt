@@ -3,4 +3,4 @@
 
 mod trace;
 
-pub use trace::trace_texts;
+pub use trace::TraceCommand;

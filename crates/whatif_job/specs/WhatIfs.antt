@@ -10,10 +10,9 @@ use Rattle.stable_paths.specs.Scenarios.{failures_of}
 use Rattle.impact_law.specs.Moves.{IsWhatIf}
 use Rattle.impact_law.specs.declared.impact.WhatIf.{WhatIf}
 use Rattle.impact_text.specs.Texts.{what_if_text}
-use Rattle.compile_jobs.specs.Compiling.{SaysOfCompiled, SaysOfThree}
+use Rattle.compile_jobs.specs.Compiling.{SaysOfThree}
 use Rattle.run_base.specs.Said.{Said}
 use Rattle.input_texts.specs.FaultLines.{scenario_line}
-use Rattle.input_texts.specs.Texts.{OfScenarioText}
 
 -- The text tells what each cut besides the scenario's failures changes for its prefix, and how many routers it moves.
 pub record IsWhatIfText (net : PlainNet) (policy : PlainPolicy) (config : PlainConfig) (scenario : Scenario) (bytes : List ℕ) : Type 0 where
@@ -25,14 +24,6 @@ pub record IsWhatIfText (net : PlainNet) (policy : PlainPolicy) (config : PlainC
 abbrev pub WritesWhatIf : PlainNet → PlainPolicy → Scenario → PlainConfig → List PlainCaseEvidence → List ℕ → Type 0
 WritesWhatIf net policy scenario config evidence bytes = IsWhatIfText net policy config scenario bytes
 
--- the text for the configuration that is compiled from the policy, or the line of a refusal that applies to it
-abbrev pub SaysOfScenario : PlainNet → PlainPolicy → Scenario → Said → Type 0
-SaysOfScenario net policy scenario = SaysOfCompiled (WritesWhatIf net policy scenario) net policy
-
--- what is said of the text of a scenario, for a network and a policy
-abbrev pub SaysOfPolicy : List ℕ → PlainNet → PlainPolicy → Said → Type 0
-SaysOfPolicy scenario_text net policy what = OfScenarioText (SaysOfScenario net policy) net scenario_text what
-
--- and of three texts
+-- what is said of three texts
 abbrev pub SaysOfTexts : List (List ℕ) → Said → Type 0
 SaysOfTexts = SaysOfThree scenario_line scenario_spelled WritesWhatIf

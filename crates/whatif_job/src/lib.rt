@@ -3,4 +3,4 @@
 
 mod whatif;
 
-pub use whatif::whatif_texts;
+pub use whatif::WhatIfCommand;

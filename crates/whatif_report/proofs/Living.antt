@@ -1,5 +1,5 @@
 -- Cuts that can come are cuts of the network.
-use Rattle.std.proofs.Common.{◌≡◌, ℕ, List, ◌++◌, length, map, filter, ap, ◌∙◌, sym, subst, inl, inr}
+use Rattle.std.proofs.Common.{ℕ, List, length, map, filter, subst, inl, inr}
 use Rattle.std.specs.Prelude.{not}
 use Rattle.list_laws.specs.Members.{IsIn}
 use Rattle.list_laws.proofs.Members.{IsIn-append_cases, IsIn-filter_parts, IsIn-map, IsIn-map_parts}

@@ -1,5 +1,5 @@
 -- A cut over which no other router's route goes moves none.
-use Rattle.std.proofs.Common.{◌≡◌, ℕ, ◌<◌, Bool, true, false, List, length, Option, Some, None, refl, sym, ap, ◌∙◌, inl, inr, ltb-true, subst}
+use Rattle.std.proofs.Common.{◌≡◌, ℕ, ◌<◌, true, false, List, length, Option, Some, None, refl, sym, ap, ◌∙◌, inl, inr, ltb-true}
 use Rattle.std.specs.Prelude.{◌&&◌, not, if◌then◌else◌}
 use Rattle.std.proofs.lemmas.Bool.{and_from, and_parts, cases_Bool, lt-ltb, not-true, not_from_false}
 use Rattle.std.proofs.Math.Bool.{and-false}
@@ -13,24 +13,19 @@ use Rattle.evidence_law.specs.Passes.{Passes}
 use Rattle.outcome_base.specs.Outcomes.{Failures, Outcome, route_at}
 use Rattle.stable_paths.proofs.RouteTests.{is_route-refl}
 use Rattle.drain_law.specs.Free.{KeepsRoutes}
-use Rattle.drain_law.specs.Uses.{IsOffRoutes, is_cut as is_cut_there}
+use Rattle.drain_law.specs.Uses.{IsOffRoutes}
 use Rattle.drain_law.proofs.Moving.{cuts_off_routes_move_nothing}
-use Rattle.impact_law.specs.Cuts.{with_cut}
-use Rattle.impact_law.specs.Moves.{IsSettled, is_cut, is_moved, moved, same_held}
+use Rattle.impact_law.specs.Cuts.{is_cut, with_cut}
+use Rattle.impact_law.specs.Moves.{IsSettled, is_moved, moved, same_held}
 use Rattle.impact_law.specs.declared.impact.Cut.{Cut}
-use Rattle.impact_law.specs.declared.impact.Cut.TheVariants.{Link, Router}
 use Rattle.whatif_report.specs.Cutting.{passes_over, route_over}
 use Rattle.whatif_report.proofs.Counting.{count_none}
-
-same_cut : (cut : Cut) (r : ℕ) → is_cut_there cut r ≡ is_cut cut r
-same_cut (Link a b) r = refl
-same_cut (Router x) r = refl
 
 -- what passes over no cut, router by router
 pub off_routes : (net : PlainNet) (outcome : Outcome) (cut : Cut) → ((r : ℕ) → r < length net.routers → passes_over cut outcome r ≡ false) → IsOffRoutes net outcome cut
 off_routes net outcome cut none r h other at =
-    let parts = and_parts (is_router net r) (not (is_cut_there cut r)) other in
-    let apart : is_cut cut r ≡ false = sym (same_cut cut r) ∙ not-true _ parts.1 in
+    let parts = and_parts (is_router net r) (not (is_cut cut r)) other in
+    let apart = not-true (is_cut cut r) parts.1 in
     let passes = none r (ltb-true r (length net.routers) parts.0) in
     ap (route_over cut) (sym at) ∙ sym (ap (λ b. if b then false else route_over cut (route_at outcome r)) apart) ∙ passes
 
@@ -42,7 +37,7 @@ pub stays : (net : PlainNet) (cut : Cut) (before after : Outcome) → KeepsRoute
 stays net cut before after keeps r low = elim (cases_Bool (is_cut cut r)) [
   | inl gone ↦ ap (λ b. not b && not (same_held (route_at before r) (route_at after r))) gone
   | inr other ↦ (
-      let same = keeps r (and_from (is_router net r) (not (is_cut_there cut r)) (lt-ltb r (length net.routers) low) (not_from_false _ (same_cut cut r ∙ other))) in
+      let same = keeps r (and_from (is_router net r) (not (is_cut cut r)) (lt-ltb r (length net.routers) low) (not_from_false _ other)) in
       let held : same_held (route_at before r) (route_at after r) ≡ true = ap (same_held (route_at before r)) same ∙ same_held-refl (route_at before r) in
       ap (λ b. not (is_cut cut r) && not b) held ∙ and-false (not (is_cut cut r)))
 ]

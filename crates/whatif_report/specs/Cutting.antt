@@ -8,8 +8,8 @@ use Rattle.config_base.specs.Configs.{PlainConfig}
 use Rattle.config_base.specs.declared.route.Route.{Route}
 use Rattle.outcome_base.specs.Outcomes.{Failures, Outcome, is_dead, is_dead_link, is_silent, route_at}
 use Rattle.drain_law.specs.Uses.{goes_over}
-use Rattle.impact_law.specs.Cuts.{with_cut}
-use Rattle.impact_law.specs.Moves.{IsSettled, is_cut, moved}
+use Rattle.impact_law.specs.Cuts.{is_cut, with_cut}
+use Rattle.impact_law.specs.Moves.{IsSettled, moved}
 use Rattle.impact_law.specs.declared.impact.Cut.{Cut}
 use Rattle.impact_law.specs.declared.impact.Cut.TheVariants.{Link, Router}
 use Rattle.impact_law.specs.declared.impact.CutRow.{CutRow}

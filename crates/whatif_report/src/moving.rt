@@ -4,7 +4,8 @@ ghost use Rattle.std.specs.List.{list_any};
 ghost use Rattle.outcome_base.specs.Outcomes.{route_at};
 ghost use Rattle.stable_paths.specs.Tests.{same_route as is_same};
 ghost use Rattle.drain_law.specs.Uses.{IsOffRoutes};
-ghost use Rattle.impact_law.specs.Moves.{is_cut as is_cut_by, is_moved as is_moved_by, moved, same_held as is_same_held};
+ghost use Rattle.impact_law.specs.Cuts.{is_cut as is_cut_by};
+ghost use Rattle.impact_law.specs.Moves.{is_moved as is_moved_by, moved, same_held as is_same_held};
 ghost use Rattle.whatif_report.specs.Cutting.{passes_over};
 
 use crate::cut::goes_over;

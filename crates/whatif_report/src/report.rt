@@ -49,7 +49,7 @@ pub fn what_if(
 {
     known_net(net);
     known_prefix(scenario.prefix);
-    let impact = impact(alloc, net, policy, config, evidence, scenario)?;
+    let impact = impact(alloc, net, policy, evidence, scenario)?;
     let outcome = settle(alloc, net, policy, config, evidence, scenario)?;
     let settled = SettledNet {
         net,

@@ -1,6 +1,5 @@
-use Rattle.std.proofs.Common.{◌≡◌, List, length, ap, arith, filter, subst, ◌∙◌}
+use Rattle.std.proofs.Common.{◌≡◌, length, ap, arith, filter, subst, ◌∙◌}
 use Rattle.net_base.specs.Network.{PlainNet}
-use Rattle.outcome_base.specs.Outcomes.{Failures}
 use Rattle.policy_base.specs.Policies.{policy_of}
 use Rattle.stable_paths.specs.Scenarios.{failures_of}
 use Rattle.stable_paths.specs.Surviving.{AreSurvivors}

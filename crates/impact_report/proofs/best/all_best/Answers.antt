@@ -1,5 +1,4 @@
-use Rattle.std.proofs.Common.{rules, ◌≡◌, Bool, true, Vec, length, replicate, ap, ◌∙◌, sym, ℕ, List, Option}
-use Rattle.std.specs.declared.alloc.Global.{Global}
+use Rattle.std.proofs.Common.{rules, ◌≡◌, true, length, replicate, ap, ◌∙◌}
 use Rattle.std.proofs.lemmas.Result.{IfOk-weaker}
 use Rattle.graph_base.specs.Graphs.{PlainGraph}
 use Rattle.reach_prune.specs.Searches.{is_marked}

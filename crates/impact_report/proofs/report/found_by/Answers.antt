@@ -3,9 +3,8 @@ use Rattle.graph_base.specs.Graphs.{PlainGraph}
 use Rattle.evidence_base.specs.Made.{PlainCaseEvidence}
 use Rattle.evidence_law.specs.Passes.{IsCaseGraph}
 use Rattle.settling.specs.Surviving.{left_by}
-use Rattle.impact_law.specs.BestRanks.{AreTops}
+use Rattle.impact_law.specs.BestRanks.{AreTops, rank_by}
 use Rattle.impact_report.specs.Left.{IsOpened}
-use Rattle.impact_report.specs.Paths.{rank_by}
 use Rattle.impact_report.specs.Rows.{AreRows}
 use Rattle.impact_report.specs.Sources.{with_rank}
 use Rattle.impact_report.specs.Tops.{entry_at}

@@ -1,4 +1,4 @@
-use Rattle.std.proofs.Common.{◌≡◌, Some, None, option_map, sym, ap, ◌∙◌}
+use Rattle.std.proofs.Common.{◌≡◌, option_map, sym, ap, ◌∙◌}
 use Rattle.std.proofs.lemmas.Result.{IfOk-weaker}
 use Rattle.policy_base.specs.Policies.{policy_of}
 use Rattle.stable_paths.specs.Scenarios.{failures_of}
@@ -11,17 +11,17 @@ use Rattle.impact_report.proofs.report.impact.Goals as goal
 
 pub found_by-requires : goal.found_by-requires
 found_by-requires c =
-    steps_differ c.args.net.now (policy_of c.args.policy.now) c.args.config.now c.args.evidence.now.cases c.known_net.ensures c.requires.fits
-    c.requires.passes c.args.scenario.now.prefix c.known_prefix.ensures c.in-Some.case.now
-    (sym c.case_of.ensures ∙ ap (option_map (λ d. d.now)) c.in-Some.is)
+    steps_differ c.args.net.now (policy_of c.args.policy.now) c.requires.passes.0 c.args.evidence.now.cases c.known_net.ensures c.requires.fits
+    c.requires.passes.1 c.args.scenario.now.prefix c.known_prefix.ensures c.in-Some.case.now
+    (sym (c.case_of.ensures c.args.net.now c.requires.passes.0 c.requires.passes.1.made.lines) ∙ ap (option_map (λ d. d.now)) c.in-Some.is)
 
 pub returns-in-None : goal.returns-in-None
 returns-in-None c =
     let net = c.args.net.now in
     let f = failures_of c.args.scenario.now in
-    let none = sym c.case_of.ensures ∙ ap (option_map (λ d. d.now)) c.in-None.is in
+    let none = sym (c.case_of.ensures c.args.net.now c.requires.passes.0 c.requires.passes.1.made.lines) ∙ ap (option_map (λ d. d.now)) c.in-None.is in
     let besides : c.deref.result.now ≡ live_cuts net f = c.deref.ensures.value ∙ c.in_ok-cuts.ensures f c.new-survivors.ensures in
-    let first = bare net (policy_of c.args.policy.now) c.args.config.now c.args.evidence.now.cases c.known_net.ensures c.requires.fits c.requires.passes c.args.scenario.now.prefix
+    let first = bare net (policy_of c.args.policy.now) c.requires.passes.0 c.args.evidence.now.cases c.known_net.ensures c.requires.fits c.requires.passes.1 c.args.scenario.now.prefix
     c.known_prefix.ensures f c.deref.result.now none besides in
     rw (c.new.ensures, c.in_ok-unchanged-in-None.ensures) first
 
@@ -35,8 +35,8 @@ returns c =
     let case = c.in-Some.case.now in
     let sources = c.deref-in-Some.result.now in
     let cuts = c.deref-in-Some-2.result.now in
-    let at = sym c.case_of.ensures ∙ ap (option_map (λ d. d.now)) c.in-Some.is in
+    let at = sym (c.case_of.ensures c.args.net.now c.requires.passes.0 c.requires.passes.1.made.lines) ∙ ap (option_map (λ d. d.now)) c.in-Some.is in
     IfOk-weaker c.found_by.result (IsFound net t case sources cuts) (IsImpact net policy f p)
-    (λ found is. whole net policy c.args.config.now c.args.evidence.now.cases c.known_net.ensures c.requires.fits c.requires.passes p c.known_prefix.ensures
+    (λ found is. whole net policy c.requires.passes.0 c.args.evidence.now.cases c.known_net.ensures c.requires.fits c.requires.passes.1 p c.known_prefix.ensures
     case f t (sources_of c.in_ok-claims-in-Some.claims) sources cuts found at c.new-survivors.ensures c.in_ok-claims-in-Some.ensures.claimed
     (c.deref-in-Some.ensures.value ∙ c.in_ok-sources-in-Some.ensures) (c.deref-in-Some-2.ensures.value ∙ c.in_ok-cuts.ensures f c.new-survivors.ensures) is) c.found_by.ensures

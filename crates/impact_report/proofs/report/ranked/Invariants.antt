@@ -1,6 +1,6 @@
 use Rattle.std.proofs.Common.{◌≡◌, map, take}
 use Rattle.impact_report.specs.Tops.{entry_at}
-use Rattle.impact_report.specs.Paths.{rank_by}
+use Rattle.impact_law.specs.BestRanks.{rank_by}
 use Rattle.impact_report.specs.Sources.{with_rank}
 use Rattle.impact_report.proofs.report.ranked.Given as goal
 

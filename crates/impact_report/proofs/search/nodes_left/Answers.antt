@@ -1,7 +1,7 @@
 use Rattle.std.proofs.Common.{◌≡◌, ◌<◌, Bool, false, [], length, vec_len, ap, arith, ◌∙◌, refl}
 use Rattle.std.proofs.lemmas.List.{get_or_read, length-replicate, nil_from_length}
 use Rattle.impact_law.specs.Cuts.{with_cut}
-use Rattle.impact_law.specs.Support.{no_failures}
+use Rattle.outcome_base.specs.Outcomes.{no_failures}
 use Rattle.reach_prune.proofs.Visiting.{listed_below}
 use Rattle.impact_report.proofs.Visiting.{none_marked, stage_begun, stage_end, stage_next, stage_node}
 use Rattle.impact_report.proofs.search.nodes_left.Goals as goal

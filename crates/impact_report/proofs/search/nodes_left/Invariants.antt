@@ -1,5 +1,5 @@
 use Rattle.impact_law.specs.Cuts.{with_cut}
-use Rattle.impact_law.specs.Support.{no_failures}
+use Rattle.outcome_base.specs.Outcomes.{no_failures}
 use Rattle.impact_report.specs.Searching.{work_left}
 use Rattle.impact_report.proofs.Visiting.{Stage}
 use Rattle.impact_report.proofs.search.nodes_left.Given as goal

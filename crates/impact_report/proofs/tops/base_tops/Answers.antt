@@ -1,4 +1,4 @@
-use Rattle.std.proofs.Common.{◌≡◌, ℕ, true, length, ap, subst}
+use Rattle.std.proofs.Common.{ℕ, true, length, ap, subst}
 use Rattle.impact_report.specs.Tops.{AreBest}
 use Rattle.impact_report.proofs.Reaching.{base_are_tops, best_are_nodes}
 use Rattle.impact_report.proofs.tops.base_tops.Goals as goal

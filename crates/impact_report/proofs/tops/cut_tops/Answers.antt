@@ -1,11 +1,10 @@
 use Rattle.std.proofs.Common.{◌≡◌, ◌↔◌, ◌<◌, ℕ, Bool, List, true, length, ap, sym, subst}
-use Rattle.graph_base.specs.Graphs.{PlainGraph}
 use Rattle.graph_base.specs.declared.graph.Node.{Node}
 use Rattle.impact_law.specs.Cuts.{with_cut}
-use Rattle.impact_law.specs.Support.{no_failures}
+use Rattle.outcome_base.specs.Outcomes.{no_failures}
 use Rattle.reach_prune.specs.Searches.{is_marked}
 use Rattle.impact_report.specs.Left.{IsLeft}
-use Rattle.impact_report.specs.Tops.{AreBest, AreNodes}
+use Rattle.impact_report.specs.Tops.{AreBest}
 use Rattle.impact_report.proofs.Besides.{cut_besides}
 use Rattle.impact_report.proofs.Reaching.{are_tops, best_are_nodes}
 use Rattle.impact_report.proofs.tops.cut_tops.Goals as goal

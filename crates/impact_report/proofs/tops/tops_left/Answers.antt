@@ -1,10 +1,9 @@
 use Rattle.std.proofs.Common.{◌≡◌, ◌↔◌, ◌<◌, ℕ, Bool, List, true, length, ap, sym, subst}
-use Rattle.graph_base.specs.Graphs.{PlainGraph}
 use Rattle.graph_base.specs.declared.graph.Node.{Node}
-use Rattle.impact_law.specs.Support.{no_failures}
+use Rattle.outcome_base.specs.Outcomes.{no_failures}
 use Rattle.reach_prune.specs.Searches.{is_marked}
 use Rattle.impact_report.specs.Left.{IsLeft}
-use Rattle.impact_report.specs.Tops.{AreBest, AreNodes}
+use Rattle.impact_report.specs.Tops.{AreBest}
 use Rattle.impact_report.proofs.Besides.{none_besides}
 use Rattle.reach_prune.specs.Ways.{LeadsFrom}
 use Rattle.reach_prune.specs.declared.steps.Way.TheVariants.{Forward}

@@ -1,10 +1,11 @@
-use Rattle.std.proofs.Common.{◌≡◌, ℕ, ◌<◌, Vec, Global, List, [], length, Option, Some, None, ap, sym, subst, ◌∙◌}
+use Rattle.std.proofs.Common.{◌≡◌, ℕ, ◌<◌, Vec, Global, List, length, Option, Some, None, ap, sym, subst, ◌∙◌}
 use Rattle.std.specs.Prelude.{if◌then◌else◌}
 use Rattle.net_base.specs.Sets.{holds}
 use Rattle.policy_base.specs.Policies.{policy_of}
 use Rattle.graph_base.specs.Runs.{place_of}
 use Rattle.config_base.specs.Lines.{own_route}
 use Rattle.config_base.specs.declared.route.Route.{Route}
+use Rattle.outcome_base.specs.Outcomes.{no_failures}
 use Rattle.graph_settling.specs.Best.{entry_at}
 use Rattle.settling.specs.Outcomes.{AreSettled, held_by}
 use Rattle.settling.proofs.Routes.{bare_settles, case_settles, starts_at_origins}
@@ -16,8 +17,8 @@ case_routes-requires c = λ n start.
     let case = c.in-Some.case.now in
     c.origins_at-origins.ensures (place_of case.graph n)
     ∙ starts_at_origins c.args.net.now (policy_of c.args.policy.now) c.args.config.now c.args.evidence.now.cases c.known_net.ensures c.requires.fits
-    c.requires.passes (record { dead = []; dead_links = []; silent = [] }) c.args.prefix c.known_prefix.ensures
-    case (sym c.in-Some.ensures) n start
+    c.requires.passes no_failures c.args.prefix c.known_prefix.ensures
+    case (sym (c.in-Some.ensures c.args.net.now c.args.config.now c.requires.passes.made.lines)) n start
 
 pub returns-clause-settled : goal.returns-clause-settled
 returns-clause-settled c = λ f are.
@@ -36,11 +37,11 @@ returns-clause-settled c = λ f are.
       | in-None+in_ok-others-in-None w ↦ (
           let none : (r : ℕ) → entry_at others r ≡ None = λ r. ap (λ (v : Vec (Option Route) Global). entry_at v.items r) w.others-is ∙ w.in_ok-others-in-None.ensures.routes r in
           bare_settles net policy config cs c.known_net.ensures c.requires.fits c.requires.passes f p c.known_prefix.ensures s are origins c.origins_at-origins.ensures
-          c.from_vec.result (sym w.in-None.ensures) size
+          c.from_vec.result (sym (w.in-None.ensures net config c.requires.passes.made.lines)) size
           (λ r low. each r low ∙ ap (λ o. if holds origins r then (if holds s.dead r then None else Some (own_route net config p r)) else o) (none r)))
       | in-Some+in_ok-others-in-Some w ↦ (
           let case = w.in-Some.case.now in
           let settled = subst (λ (v : Vec (Option Route) Global). AreSettled net s origins case v.items) (sym w.others-is) w.in_ok-others-in-Some.ensures.settled in
           case_settles net policy config cs c.known_net.ensures c.requires.fits c.requires.passes f p c.known_prefix.ensures s are origins c.origins_at-origins.ensures
-          case others c.from_vec.result (sym w.in-Some.ensures) settled size each)
+          case others c.from_vec.result (sym (w.in-Some.ensures net config c.requires.passes.made.lines)) settled size each)
     ]

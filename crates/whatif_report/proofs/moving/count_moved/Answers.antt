@@ -1,7 +1,7 @@
-use Rattle.std.proofs.Common.{◌≡◌, ◌+◌, ◌<◌, ℕ, length, sym, ap, ◌∙◌, subst, arith}
+use Rattle.std.proofs.Common.{◌≡◌, ◌+◌, length, sym, ap, ◌∙◌, arith}
 use Rattle.std.specs.List.{count_by}
 use Rattle.net_base.specs.Locations.{numbers_below}
-use Rattle.impact_law.specs.Moves.{is_moved, moved}
+use Rattle.impact_law.specs.Moves.{is_moved}
 use Rattle.whatif_report.proofs.Counting.{count_more, count_same}
 use Rattle.whatif_report.proofs.moving.count_moved.Goals as goal
 use Rattle.whatif_report.proofs.moving.count_moved.Goals.{then-is_moved, else-is_moved}

@@ -1,4 +1,4 @@
-use Rattle.std.proofs.Common.{◌≡◌, ◌+◌, ◌<◌, ℕ, false, length, below_more, sym, ap, ◌∙◌, subst, arith}
+use Rattle.std.proofs.Common.{◌≡◌, false, length, below_more, sym, ap, ◌∙◌, arith}
 use Rattle.whatif_report.specs.Cutting.{passes_over}
 use Rattle.whatif_report.proofs.Staying.{off_routes}
 use Rattle.whatif_report.proofs.moving.is_off_routes.Goals as goal

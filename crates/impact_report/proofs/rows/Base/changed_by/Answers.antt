@@ -1,10 +1,10 @@
 use Rattle.std.proofs.Common.{ℕ, List, Option, sym, subst}
 use Rattle.std.proofs.lemmas.Result.{IfOk-weaker}
-use Rattle.std.specs.Prelude.{◌≡◌, Some, map}
+use Rattle.std.specs.Prelude.{◌≡◌, map}
 use Rattle.impact_law.specs.BestRanks.{AreTops}
 use Rattle.impact_law.specs.Cuts.{with_cut}
 use Rattle.impact_law.specs.Impacts.{changed}
-use Rattle.impact_law.specs.Support.{no_failures}
+use Rattle.outcome_base.specs.Outcomes.{no_failures}
 use Rattle.impact_law.specs.declared.impact.SourceRank.{SourceRank}
 use Rattle.impact_report.specs.Paths.{rank_under}
 use Rattle.impact_report.specs.Rows.{IsChange}

@@ -6,7 +6,7 @@ use Rattle.std.proofs.lemmas.List.{take_all}
 use Rattle.impact_report.specs.Tops.{entry_at}
 use Rattle.impact_law.specs.Cuts.{with_cut}
 use Rattle.impact_law.specs.Impacts.{changed, same_rank}
-use Rattle.impact_law.specs.Support.{no_failures}
+use Rattle.outcome_base.specs.Outcomes.{no_failures}
 use Rattle.impact_law.specs.declared.impact.SourceRank.{SourceRank}
 use Rattle.impact_report.specs.Paths.{rank_under}
 use Rattle.impact_report.specs.Sources.{reranked}

@@ -2,7 +2,7 @@ use Rattle.std.proofs.Common.{◌≡◌, map, take}
 use Rattle.impact_report.specs.Tops.{entry_at}
 use Rattle.impact_law.specs.Cuts.{with_cut}
 use Rattle.impact_law.specs.Impacts.{changed}
-use Rattle.impact_law.specs.Support.{no_failures}
+use Rattle.outcome_base.specs.Outcomes.{no_failures}
 use Rattle.impact_report.specs.Paths.{rank_under}
 use Rattle.impact_report.specs.Sources.{reranked}
 use Rattle.impact_report.proofs.rows.Base.changes.Given as goal

@@ -1,8 +1,6 @@
-use Rattle.std.proofs.Common.{◌+◌, ◌++◌, ◌∷◌, [], List, refl, sym, subst, take}
+use Rattle.std.proofs.Common.{◌+◌, List, sym, subst, take}
 use Rattle.std.proofs.lemmas.List.{take_all}
-use Rattle.impact_law.specs.Impacts.{row_of}
 use Rattle.impact_law.specs.declared.impact.Cut.{Cut}
-use Rattle.impact_law.specs.declared.impact.CutRow.{CutRow}
 use Rattle.impact_report.specs.Rows.{AreRows}
 use Rattle.impact_report.proofs.Rowing.{rows_next}
 use Rattle.impact_report.proofs.rows.Base.rows.Goals as goal

@@ -1,9 +1,8 @@
 use Rattle.std.proofs.Common.{get_or, refl, ap, ◌∙◌}
 use Rattle.std.specs.Prelude.{not}
 use Rattle.graph_base.specs.Runs.{place_of}
-use Rattle.outcome_base.specs.Outcomes.{is_dead}
+use Rattle.outcome_base.specs.Outcomes.{is_dead, no_failures}
 use Rattle.impact_law.specs.Cuts.{with_cut}
-use Rattle.impact_law.specs.Support.{no_failures}
 use Rattle.impact_report.proofs.Visits.{visits_more}
 use Rattle.impact_report.proofs.search.Search.begin.Goals as goal
 

@@ -1,10 +1,9 @@
 use Rattle.std.proofs.Common.{take}
 use Rattle.std.specs.Prelude.{not, ◌&&◌}
 use Rattle.graph_base.specs.Runs.{place_of}
-use Rattle.outcome_base.specs.Outcomes.{is_dead}
+use Rattle.outcome_base.specs.Outcomes.{is_dead, no_failures}
 use Rattle.reach_prune.specs.Searches.{is_among}
 use Rattle.impact_law.specs.Cuts.{with_cut}
-use Rattle.impact_law.specs.Support.{no_failures}
 use Rattle.impact_report.specs.Searching.{Visits}
 use Rattle.impact_report.proofs.search.Search.begin.Given as goal
 

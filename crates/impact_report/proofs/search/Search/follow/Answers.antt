@@ -1,7 +1,7 @@
 use Rattle.std.proofs.Common.{get_or, refl, ap, ◌∙◌}
 use Rattle.graph_base.specs.Runs.{place_of}
 use Rattle.impact_law.specs.Cuts.{with_cut}
-use Rattle.impact_law.specs.Support.{no_failures}
+use Rattle.outcome_base.specs.Outcomes.{no_failures}
 use Rattle.impact_report.specs.Left.{spares}
 use Rattle.impact_report.proofs.Visits.{visits_more}
 use Rattle.impact_report.proofs.search.Search.follow.Goals as goal

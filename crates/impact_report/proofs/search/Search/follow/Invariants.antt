@@ -3,7 +3,7 @@ use Rattle.std.specs.Prelude.{◌&&◌}
 use Rattle.graph_base.specs.Runs.{place_of}
 use Rattle.reach_prune.specs.Searches.{is_among}
 use Rattle.impact_law.specs.Cuts.{with_cut}
-use Rattle.impact_law.specs.Support.{no_failures}
+use Rattle.outcome_base.specs.Outcomes.{no_failures}
 use Rattle.impact_report.specs.Left.{spares}
 use Rattle.impact_report.specs.Searching.{Visits}
 use Rattle.impact_report.proofs.search.Search.follow.Given as goal

@@ -1,4 +1,4 @@
-use Rattle.std.proofs.Common.{◌≡◌, ℕ, List, Option, sym, ap, ◌∙◌}
+use Rattle.std.proofs.Common.{List, Option, sym, ap, ◌∙◌}
 use Rattle.config_base.specs.declared.route.Route.{Route}
 use Rattle.policy_base.specs.Policies.{policy_of}
 use Rattle.stable_paths.specs.Scenarios.{failures_of}

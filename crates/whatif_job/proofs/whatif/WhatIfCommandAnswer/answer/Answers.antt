@@ -1,7 +1,7 @@
 use Rattle.policy_base.specs.Policies.{policy_of}
 use Rattle.stable_paths.specs.Scenarios.{failures_of}
 use Rattle.whatif_job.proofs.Numbering.{as_many}
-use Rattle.whatif_job.proofs.whatif.cuts_text.Goals as goal
+use Rattle.whatif_job.proofs.whatif.WhatIfCommandAnswer.answer.Goals as goal
 
 pub what_if_text-requires : goal.what_if_text-requires
 what_if_text-requires c =

@@ -1,10 +1,10 @@
-use Rattle.std.proofs.Common.{◌≡◌, false, List, map, [], None, sym, ap, ◌∙◌}
+use Rattle.std.proofs.Common.{◌≡◌, false, map, [], sym, ap, ◌∙◌}
 use Rattle.std.specs.Prelude.{option_map, unwrap_or, if◌then◌else◌}
 use Rattle.std.specs.List.{list_any}
 use Rattle.list_laws.proofs.Tests.{list_any-map}
 use Rattle.net_base.specs.Prefixes.{PlainPattern, PlainPrefix, contains, only}
 use Rattle.policy_base.specs.Policies.{statement_at, PlainStatement, policy_of}
-use Rattle.impact_text.proofs.class.is_of_case.Goals as goal
+use Rattle.config_made.proofs.belonging.is_of_case.Goals as goal
 
 pub returns-then-not-case : goal.returns-then-not-case
 returns-then-not-case c =

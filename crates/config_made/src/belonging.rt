@@ -1,0 +1,63 @@
+//! To which case a prefix belongs.
+ghost use Rattle.std.specs.Prelude.{◌≡◌, option_and_then, option_map};
+ghost use Rattle.std.specs.List.{list_any};
+ghost use Rattle.net_base.specs.Network.{PlainNet};
+ghost use Rattle.net_base.specs.Prefixes.{contains, only};
+ghost use Rattle.policy_base.specs.Policies.{policy_of};
+ghost use Rattle.config_base.specs.Configs.{PlainConfig};
+ghost use Rattle.config_base.specs.Lines.{class_of};
+ghost use Rattle.evidence_base.specs.Made.{IsConfigOf, case_at, patterns_of};
+
+use crate::classes::statement_at;
+use evidence_base::{CaseEvidence, Evidence};
+use net_base::{Pattern, Prefix};
+use policy_base::{Case, Policy};
+
+/// Whether one of some patterns contains a prefix.
+fn is_matched(patterns: &[Pattern], prefix: Prefix) -> bool
+    ensures { result ≡ list_any (λ pattern. contains pattern prefix) patterns.now }
+{
+    patterns.iter().any(|pattern| pattern.contains(prefix))
+}
+
+/// Whether a prefix is one of some.
+fn is_named(prefixes: &[Prefix], prefix: Prefix) -> bool
+    ensures { result ≡ list_any (λ named. contains (only named) prefix) prefixes.now }
+{
+    prefixes
+        .iter()
+        .any(|named| Pattern::only(*named).contains(prefix))
+}
+
+/// Whether a prefix belongs to a case: whether the case names it or, where the case is external, a pattern of its statement contains it.
+pub fn is_of_case(policy: &Policy, case: &Case, prefix: Prefix) -> bool
+    ensures { result ≡ list_any (λ pattern. contains pattern prefix) (patterns_of (policy_of policy.now) case.now) }
+{
+    if !case.external {
+        return is_named(case.prefixes.as_slice(), prefix);
+    }
+    match statement_at(policy, case.statement) {
+        None => false,
+        Some(statement) => is_matched(statement.patterns.as_slice(), prefix),
+    }
+}
+
+/// The evidence of the case of a prefix's class, in the configuration that is made of it: that of the first case to which the prefix
+/// belongs. No configuration is needed for that.
+pub fn case_of<'a>(
+    policy: &Policy,
+    evidence: &'a Evidence,
+    prefix: Prefix,
+) -> Option<&'a CaseEvidence>
+    ensures { (net : PlainNet) (config : PlainConfig) → IsConfigOf net (policy_of policy.now) evidence.now.cases config
+        → option_map (λ c. c.now) result ≡ option_and_then (case_at evidence.now.cases) (class_of config prefix) }
+{
+    let cases = evidence.cases.as_slice();
+    for i in 0..cases.len() {
+        let case = &cases[i];
+        if is_of_case(policy, case.case(), prefix) {
+            return Some(case);
+        }
+    }
+    None
+}
