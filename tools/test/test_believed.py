@@ -32,6 +32,11 @@ class Believed(unittest.TestCase):
             wanted = tool("believed").shown(name, sources.reached(sources.find(name)))
             self.assertEqual(f"{name}: {counts[0]} definitions, {counts[1]} lines in {counts[2]} files", wanted)
 
+    def test_claim_is_short(self):
+        found = tool("believed").Sources(TOP)
+        for name in tool("believed").HEADLINE:
+            self.assertLessEqual(sum(it.lines for it in found.reached(found.find(name))), 1000, name)
+
     def test_names(self):
         self.assertEqual(ended([TOOL, "NoSuchDefinition"])[::2], (1, "tools/believed: no definition NoSuchDefinition\n"))
 

@@ -3,12 +3,14 @@ use Rattle.std.proofs.Common.{◌≡◌, ℕ, List, [], ◌++◌, Option, Some, 
 use Rattle.net_base.specs.Network.{PlainNet}
 use Rattle.outside.specs.Outside.{Grew, Rose}
 use Rattle.policy_base.specs.Policies.{PlainPolicy}
+use Rattle.config_text.specs.Spelled.{Spells}
 use Rattle.evidence_base.specs.Made.{PlainCaseEvidence}
 use Rattle.policy_parser.specs.Spelled.{spelled as policy_spelled}
 use Rattle.case_core.specs.declared.refusal.CompileRefusal.{CompileRefusal}
 use Rattle.compile_core.proofs.OneRefusal.{not_refused, one_refusal}
 use Rattle.propane_run.specs.declared.command.Command.{Command}
 use Rattle.propane_run.specs.declared.command.Command.TheVariants.{Compile}
+use Rattle.propane_run.specs.Asked.{AsksFor}
 use Rattle.propane_run.specs.Clauses.{FaultFound}
 use Rattle.compile_jobs.specs.Compiled.{IsCompiled, IsRefusedFor}
 use Rattle.propane_run.specs.Headline.{CompilesRight, IsKeptInMotion}
@@ -57,13 +59,14 @@ refusal_of_compile holds words is taken err err' c asks claim = of_compile words
 module _ (words : List (List ℕ)) (is : words ≡ compile_words) (holds : Holds) (topology policy_text : List ℕ)
     (topology_is : holds topology_name ≡ Some topology) (policy_is : holds policy_name ≡ Some policy_text) where
   pub right_text : {O : Type 0} (taken : O → Option (List ℕ)) (out out' : O) (claim : CompilesRight holds taken words out out') (evidence : List PlainCaseEvidence)
-      → IsCompiled claim.net claim.policy claim.config evidence → IsKeptInMotion claim.net claim.policy claim.config → (text : List ℕ) → claim.bytes ≡ text → IsRightText topology policy_text text
-  right_text taken out out' claim evidence compiled moving text same = record {
+      → IsCompiled claim.net claim.policy claim.config evidence → IsKeptInMotion claim.net claim.policy claim.config → AsksFor holds words Compile claim.net claim.policy
+      → Spells claim.bytes claim.config → (text : List ℕ) → claim.bytes ≡ text → IsRightText topology policy_text text
+  right_text taken out out' claim evidence compiled moving asks spells text same = record {
     net = claim.net;
     policy = claim.policy;
-    spell = spelled_by words is holds topology policy_text topology_is policy_is claim.net claim.policy claim.asked;
+    spell = spelled_by words is holds topology policy_text topology_is policy_is claim.net claim.policy asks;
     config = claim.config;
-    spelled = rw same at claim.spelled;
+    spelled = rw same at spells;
     right = claim.right;
     outcomes = claim.outcomes;
     moving = moving;

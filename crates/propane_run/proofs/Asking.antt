@@ -1,18 +1,27 @@
 -- Words that ask for what the texts under their names spell.
-use Rattle.std.proofs.Common.{◌≡◌, ℕ, List, Some, Result}
+use Rattle.std.proofs.Common.{◌≡◌, ℕ, List, [], ◌∷◌, Some, Result, refl, subst}
+use Rattle.std.specs.Prelude.{codes}
 use Rattle.net_base.specs.Network.{PlainNet}
 use Rattle.policy_base.specs.Policies.{PlainPolicy}
-use Rattle.run_base.specs.Reading.{Holds}
+use Rattle.run_base.specs.Reading.{Holds, AllHeld}
 use Rattle.topology_meaning.proofs.Read.{networks_are_meant}
 use Rattle.topology_meaning.proofs.Written.{network_is_spelled}
+use Rattle.claim_texts.proofs.Policies.{read_policies_are_meant}
 use Rattle.policy_meaning.proofs.Texts.{policies_are_meant, policy_is_spelled}
 use Rattle.input_texts.specs.Asked.{SpellAlso, SpellFor}
 use Rattle.audit_job.specs.Asked.{Audited, SpellAudit}
 use Rattle.propane_run.specs.declared.command.Command.{Command}
-use Rattle.propane_run.specs.declared.command.Command.TheVariants.{Audit, Replay, Trace, Sample, Drain, Settle, WhatIf}
+use Rattle.propane_run.specs.declared.command.Command.TheVariants.{Compile, Audit, Replay, Trace, Sample, Drain, Settle, WhatIf}
 use Rattle.propane_run.specs.Asked.{AsksAlso, AsksFor, IsFor}
 use Rattle.propane_run.specs.Auditing.{AsksAudit}
+use Rattle.propane_run.specs.Headline.{NamesTexts}
 use Rattle.propane_run.specs.Words.{names_read, words_are}
+use Rattle.propane_run.proofs.Naming.{compile_words}
+
+-- no names hold no texts
+no_more : (holds : Holds) (more : List (List ℕ)) → AllHeld holds [] more → more ≡ []
+no_more holds [] held = refl
+no_more holds (b ∷ bs) held = absurd held
 
 module _ (holds : Holds) (words : List (List ℕ)) where
   abbrev pub spells : (c : Command) (net : PlainNet) (policy : PlainPolicy) → AsksFor holds words c net policy → SpellFor holds (names_read words c) net policy
@@ -29,6 +38,23 @@ module _ (holds : Holds) (words : List (List ℕ)) where
 
   abbrev pub asks_for : (c : Command) (net : PlainNet) (policy : PlainPolicy) → words_are words ≡ Some c → SpellFor holds (names_read words c) net policy → AsksFor holds words c net policy
   asks_for c net policy is spell = record { asked = is; topology = spell.topology; policy_text = spell.policy_text; more = spell.more; held = spell.held; net_meant = networks_are_meant spell.topology net spell.net_spelled; policy_meant = policies_are_meant net spell.policy_text policy spell.policy_spelled }
+
+  module _ (net : PlainNet) (policy : PlainPolicy) where
+    -- the words are this one, and the names that the command reads
+    pub names_texts : (c : Command) (word : List ℕ) (more : List (List ℕ)) → words ≡ word ∷ names_read words c → (spell : SpellFor holds (names_read words c) net policy) → spell.more ≡ more
+        → NamesTexts holds word words net policy more
+    names_texts c word more said spell is = record {
+      names = names_read words c;
+      said = said;
+      topology = spell.topology;
+      policy_text = spell.policy_text;
+      held = subst (λ (m : List (List ℕ)). AllHeld holds (names_read words c) (spell.topology ∷ spell.policy_text ∷ m)) is spell.held;
+      net_meant = networks_are_meant spell.topology net spell.net_spelled;
+      policy_meant = read_policies_are_meant net spell.policy_text policy spell.policy_spelled;
+    }
+
+    pub names_two : words_are words ≡ Some Compile → SpellFor holds (names_read words Compile) net policy → NamesTexts holds (codes "compile") words net policy []
+    names_two asks spell = names_texts Compile (codes "compile") [] (compile_words words asks) spell (no_more holds spell.more spell.held.1.1)
 
   module _ {V F : Type 0} (spelled_by : PlainNet → List ℕ → Result V F) (c : Command) (net : PlainNet) (policy : PlainPolicy) where
     pub spells_also : (value : V) → AsksAlso spelled_by holds words c net policy value → SpellAlso spelled_by holds (names_read words c) net policy value

@@ -1,3 +1,4 @@
+mod Naming
 pub mod Moving
 pub mod Asking
 pub mod ByCommand

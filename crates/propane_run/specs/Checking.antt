@@ -1,8 +1,9 @@
 -- What a run of `check` has written, and for what.
-use Rattle.std.specs.Prelude.{◌≡◌, ℕ, List, [], ◌∷◌, Option, Ok}
+use Rattle.std.specs.Prelude.{◌≡◌, ℕ, List, [], ◌∷◌, Option, Ok, codes}
 use Rattle.net_base.specs.Network.{PlainNet}
 use Rattle.policy_base.specs.Policies.{PlainPolicy}
 use Rattle.config_base.specs.Configs.{PlainConfig}
+use Rattle.claim_texts.specs.ConfigText.{IsTextOf}
 use Rattle.config_text.specs.Spelled.{Spells}
 use Rattle.evidence_base.specs.Made.{PlainCaseEvidence}
 use Rattle.evidence_text.specs.Spelled.{spelled as evidence_spelled_by}
@@ -13,7 +14,7 @@ use Rattle.evidence_rules.specs.Verdicts.{IsVerdict}
 use Rattle.outcome_base.specs.Right.{IsRight}
 use Rattle.propane_run.specs.declared.command.Command.TheVariants.{Check}
 use Rattle.propane_run.specs.Asked.{AsksFor}
-use Rattle.propane_run.specs.Headline.{HasOutcomes}
+use Rattle.propane_run.specs.Headline.{HasOutcomes, NamesTexts}
 use Rattle.run_base.specs.Reading.{Holds}
 use Rattle.run_base.specs.Said.{Whole}
 use Rattle.check_job.specs.VerdictLines.{holds_line, fails_line}
@@ -28,15 +29,18 @@ pub record AsksOf (holds : Holds) (words : List (List ℕ)) (net : PlainNet) (po
   pub config_spelled : Spells config_text config
   pub evidence_spelled : evidence_spelled_by evidence_text ≡ Ok evidence
 
--- `out` grew by exactly the line `holds`. The configuration that was asked of is right for the network and the policy: under all
--- failures, in every stable outcome, of which there is one whatever fails.
+-- The words are `check` and the names of a topology, of a policy, of a configuration and of one more text. `out` grew by exactly the
+-- line `holds`. The configuration is right for the network and the policy: under all failures, in every stable outcome, of which
+-- there is one whatever fails.
 pub record ChecksRight {O : Type 0} (holds : Holds) (taken : O → Option (List ℕ)) (words : List (List ℕ)) (out out' : O) : Type 0 where
   pub net : PlainNet
   pub policy : PlainPolicy
-  pub config : PlainConfig
-  pub evidence : List PlainCaseEvidence
-  pub asked : AsksOf holds words net policy config evidence
+  pub config_text : List ℕ
+  pub evidence_text : List ℕ
+  pub asked : NamesTexts holds (codes "check") words net policy (config_text ∷ evidence_text ∷ [])
   pub written : Whole taken holds_line out out'
+  pub config : PlainConfig
+  pub text : IsTextOf config_text config
   pub right : IsRight net policy config
   pub outcomes : HasOutcomes net policy config
 

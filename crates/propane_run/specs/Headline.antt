@@ -1,21 +1,23 @@
 -- What a run of `compile`, or of `evidence`, that ends with Done has written, and for what.
-use Rattle.std.specs.Prelude.{◌≡◌, ℕ, List, length, Option}
+use Rattle.std.specs.Prelude.{◌≡◌, ℕ, List, [], ◌∷◌, length, Option, codes}
 use Rattle.net_base.specs.Network.{PlainNet}
 use Rattle.net_base.specs.Prefixes.{PlainPrefix, IsPrefix}
 use Rattle.policy_base.specs.Policies.{PlainPolicy}
 use Rattle.config_base.specs.Configs.{PlainConfig}
-use Rattle.config_text.specs.Spelled.{Spells}
+use Rattle.claim_texts.specs.ConfigText.{IsTextOf}
+use Rattle.claim_texts.specs.PolicyText.{MeansPolicy}
 use Rattle.evidence_base.specs.Made.{PlainCaseEvidence}
 use Rattle.evidence_text.specs.Text.{evidence_text}
 use Rattle.outcome_base.specs.Outcomes.{Failures, Outcome, IsStable}
 use Rattle.outcome_base.specs.Right.{IsRight}
 use Rattle.outcome_base.specs.Withstanding.{WithstandsPeers}
+use Rattle.topology_meaning.specs.Meaning.{IsTopologyOf}
 use Rattle.world_law.specs.Moments.{IsRightAlways}
 use Rattle.rest_law.specs.Rest.{AlwaysComesToRest}
-use Rattle.propane_run.specs.declared.command.Command.TheVariants.{Compile, Evidence}
+use Rattle.propane_run.specs.declared.command.Command.TheVariants.{Evidence}
 use Rattle.propane_run.specs.Asked.{AsksFor}
 use Rattle.compile_jobs.specs.Compiled.{IsCompiled}
-use Rattle.run_base.specs.Reading.{Holds}
+use Rattle.run_base.specs.Reading.{Holds, AllHeld}
 use Rattle.run_base.specs.Said.{Whole}
 
 -- whatever fails, there is a stable outcome for every prefix
@@ -32,16 +34,26 @@ pub record IsKeptInMotion (net : PlainNet) (policy : PlainPolicy) (config : Plai
   -- and where messages are delivered the network comes to rest in its one settled outcome.
   pub rests : AlwaysComesToRest net policy config
 
--- `out` grew by exactly a text that spells a configuration. It is right for the network and the policy that were asked for:
--- under all failures, in every stable outcome, of which there is one whatever fails.
+-- The words are this word and some names, under which lie the text of this network, that of this policy for it, and these texts.
+pub record NamesTexts (holds : Holds) (word : List ℕ) (words : List (List ℕ)) (net : PlainNet) (policy : PlainPolicy) (more : List (List ℕ)) : Type 0 where
+  pub names : List (List ℕ)
+  pub said : words ≡ word ∷ names
+  pub topology : List ℕ
+  pub policy_text : List ℕ
+  pub held : AllHeld holds names (topology ∷ policy_text ∷ more)
+  pub net_meant : IsTopologyOf topology net
+  pub policy_meant : MeansPolicy net policy_text policy
+
+-- The words are `compile` and the names of a topology and of a policy. `out` grew by exactly the text of a configuration. It is right
+-- for the network and the policy: under all failures, in every stable outcome, of which there is one whatever fails.
 pub record CompilesRight {O : Type 0} (holds : Holds) (taken : O → Option (List ℕ)) (words : List (List ℕ)) (out out' : O) : Type 0 where
   pub net : PlainNet
   pub policy : PlainPolicy
-  pub asked : AsksFor holds words Compile net policy
+  pub asked : NamesTexts holds (codes "compile") words net policy []
   pub bytes : List ℕ
   pub written : Whole taken bytes out out'
   pub config : PlainConfig
-  pub spelled : Spells bytes config
+  pub text : IsTextOf bytes config
   pub right : IsRight net policy config
   pub outcomes : HasOutcomes net policy config
 

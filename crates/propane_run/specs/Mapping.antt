@@ -15,7 +15,7 @@ use Rattle.maps_made.specs.declared.lists.TheConstants.{MAX_LINES}
 use Rattle.route_map_text.specs.MapsLines.{maps_text}
 use Rattle.route_map_text.specs.MapsSpelled.{Spells}
 use Rattle.map_reader.specs.MapsRead.{spelled as maps_spelled_by}
-use Rattle.map_jobs.specs.Difference.{first_difference}
+use Rattle.text_difference.specs.Difference.{first_difference}
 use Rattle.map_jobs.specs.MapsSaid.{differs_line, same_line, too_many_lines}
 use Rattle.run_base.specs.Reading.{Holds, AllHeld}
 use Rattle.run_base.specs.Said.{Whole}

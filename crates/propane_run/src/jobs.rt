@@ -1,6 +1,7 @@
 //! The job of each command: what the bytes of its names come to.
 ghost use Rattle.std.specs.Prelude.{◌≡◌, ◌<◌, ◌≤◌, length};
 ghost use Rattle.std.specs.List.{AllByRecursion};
+ghost use Rattle.compile_jobs.specs.Compiling.{SaysOfThree};
 ghost use Rattle.run_base.specs.Reading.{most, word_at};
 ghost use Rattle.run_base.specs.Said.{IsGiven, said, text as text_said};
 ghost use Rattle.propane_run.specs.Run.{Job};
@@ -9,8 +10,8 @@ ghost use Rattle.propane_run.specs.Words.{places_of, HasNumber};
 use crate::command::Command;
 use audit_job::audit_texts;
 use check_job::check_texts;
-use compile_jobs::{Part, explain_texts, sample_summary, written_texts};
-use drain_job::drain_texts;
+use compile_jobs::{Answer, Part, answered_texts, explain_texts, sample_summary, written_texts};
+use drain_job::DrainCommand;
 use help_texts::{help, version};
 use impact_job::impact_texts;
 use lint_job::lint_texts;
@@ -18,12 +19,12 @@ use map_jobs::{check_map_texts, route_map_texts};
 use migrate_job::migrate_text;
 use net_base::List;
 use promises_job::promises_texts;
-use replay_job::replay_texts;
+use replay_job::ReplayCommand;
 use run_base::Stop;
-use settle_job::settle_texts;
+use settle_job::SettleCommand;
 use std::alloc::Global;
-use trace_job::trace_texts;
-use whatif_job::whatif_texts;
+use trace_job::TraceCommand;
+use whatif_job::WhatIfCommand;
 
 // The text at a place.
 fn text(texts: &[List<u8>], place: usize) -> &[u8]
@@ -40,6 +41,15 @@ fn written(alloc: Global, text: &str) -> Result<Vec<u8>, Stop>
     ensures { IsGiven (λ what. what ≡ text_said text.now) (said result) }
 {
     Ok(text.as_bytes().to_vec(alloc)?)
+}
+
+// What a command comes to that answers what a third text asks.
+fn answer_texts<A: Answer>(alloc: Global, texts: &[List<u8>]) -> Result<Vec<u8>, Stop>
+    requires count { length texts.now ≡ 3 }
+    requires short { AllByRecursion (λ bytes. length bytes ≤ most) texts.now }
+    ensures { IsGiven (SaysOfThree A.Asked.line_of A.Asked.spelled A.writes texts.now) (said result) }
+{
+    answered_texts::<A>(alloc, text(texts, 0), text(texts, 1), text(texts, 2))
 }
 
 /// What a command comes to, from the bytes of its names.
@@ -62,8 +72,8 @@ pub fn job(alloc: Global, command: &Command, texts: &[List<u8>]) -> Result<Vec<u
             text(texts, 3),
         ),
         Command::Explain => explain_texts(alloc, text(texts, 0), text(texts, 1)),
-        Command::Replay => { replay_texts(alloc, text(texts, 0), text(texts, 1), text(texts, 2)) }
-        Command::Trace => { trace_texts(alloc, text(texts, 0), text(texts, 1), text(texts, 2)) }
+        Command::Replay => answer_texts::<ReplayCommand>(alloc, texts),
+        Command::Trace => answer_texts::<TraceCommand>(alloc, texts),
         Command::Sample(leaves) => sample_summary(alloc, leaves),
         Command::Migrate => migrate_text(alloc, text(texts, 0)),
         Command::Impact(prefix) => { impact_texts(alloc, text(texts, 0), text(texts, 1), prefix) }
@@ -81,9 +91,9 @@ pub fn job(alloc: Global, command: &Command, texts: &[List<u8>]) -> Result<Vec<u
         ),
         Command::Help(topic) => written(alloc, help(topic)),
         Command::Version => written(alloc, version()),
-        Command::Drain => { drain_texts(alloc, text(texts, 0), text(texts, 1), text(texts, 2)) }
-        Command::Settle => { settle_texts(alloc, text(texts, 0), text(texts, 1), text(texts, 2)) }
+        Command::Drain => answer_texts::<DrainCommand>(alloc, texts),
+        Command::Settle => answer_texts::<SettleCommand>(alloc, texts),
         Command::Promises => promises_texts(alloc, text(texts, 0), text(texts, 1)),
-        Command::WhatIf => { whatif_texts(alloc, text(texts, 0), text(texts, 1), text(texts, 2)) }
+        Command::WhatIf => answer_texts::<WhatIfCommand>(alloc, texts),
     }
 }

@@ -1,8 +1,10 @@
 -- What a run of `check` has written: that evidence holds, or the first rule that fails.
-use Rattle.std.proofs.Common.{◌≡◌, ◌≢◌, ◌⊎◌, ℕ, List, ◌∷◌, Option, inl, inr, ap, subst, ◌∙◌, arith}
+use Rattle.std.proofs.Common.{◌≡◌, ◌≢◌, ◌⊎◌, ℕ, List, [], ◌∷◌, Option, inl, inr, ap, subst, ◌∙◌, arith}
+use Rattle.std.specs.Prelude.{codes}
 use Rattle.net_base.specs.Network.{PlainNet}
 use Rattle.outside.specs.Outside.{Rose}
 use Rattle.policy_base.specs.Policies.{PlainPolicy}
+use Rattle.claim_texts.proofs.Configurations.{spellings_are_texts}
 use Rattle.config_base.specs.Configs.{PlainConfig}
 use Rattle.config_lines.specs.declared.edition.Edition.TheVariants.{Second}
 use Rattle.config_reader.proofs.ReadTexts.{read_is_spelled}
@@ -32,8 +34,9 @@ use Rattle.propane_run.specs.Checking.{AsksOf, ChecksRight, TellsFault}
 use Rattle.propane_run.specs.Headline.{IsKeptInMotion}
 use Rattle.propane_run.specs.Run.{Job, Comes}
 use Rattle.propane_run.specs.Words.{names_read}
-use Rattle.propane_run.proofs.Asking.{asks_for, spells}
+use Rattle.propane_run.proofs.Asking.{asks_for, names_texts, spells}
 use Rattle.propane_run.proofs.Moving.{kept_in_motion}
+use Rattle.propane_run.proofs.Naming.{check_words}
 
 module _ (holds : Holds) (words : List (List ℕ)) where
   -- the command
@@ -72,9 +75,11 @@ module _ (holds : Holds) (words : List (List ℕ)) where
       }
 
   module _ {S : Type 0} (taken : S → Option (List ℕ)) (before now : S) (b : List ℕ) (written : Whole taken b before now) where
-    -- the claim, that the evidence passes, and that the configuration is kept in motion
+    -- the claim, the evidence that passes, and that the configuration is kept in motion
     abbrev pub Held : Type 0
-    Held = (claim : ChecksRight holds taken words before now) × Passes claim.net claim.policy claim.config claim.evidence × IsKeptInMotion claim.net claim.policy claim.config
+    Held =
+        (claim : ChecksRight holds taken words before now) × (evidence : List PlainCaseEvidence) × AsksOf holds words claim.net claim.policy claim.config evidence
+        × Passes claim.net claim.policy claim.config evidence × IsKeptInMotion claim.net claim.policy claim.config
 
     module _ (net : PlainNet) (policy : PlainPolicy) (config : PlainConfig) (evidence : List PlainCaseEvidence) (asks : AsksOf holds words net policy config evidence) where
       holds_of : (v : Verdict) → IsVerdict net policy config evidence v → text b ≡ verdict_said v → Held
@@ -84,13 +89,17 @@ module _ (holds : Holds) (words : List (List ℕ)) where
             record {
               net = net;
               policy = policy;
-              config = config;
-              evidence = evidence;
-              asked = asks;
+              config_text = asks.config_text;
+              evidence_text = asks.evidence_text;
+              asked = names_texts holds words net policy c (codes "check") (asks.config_text ∷ asks.evidence_text ∷ []) (check_words words asks.asked.asked) spell asks.more;
               written = rw (out_is _ _ is) at written;
+              config = config;
+              text = spellings_are_texts asks.config_text config asks.config_spelled;
               right = passing_evidence_is_right net policy config evidence (net_of_spelled spell) (policy_of_spelled spell) passes;
               outcomes = stable_outcomes_exist net policy config evidence (net_of_spelled spell) (policy_of_spelled spell) passes;
             },
+            evidence,
+            asks,
             passes,
             kept_in_motion net policy config evidence (net_of_spelled spell) (policy_of_spelled spell) passes,
           )

@@ -1,5 +1,5 @@
 -- What a run of `checkmap` has written: that maps are those of the configuration, or where they differ.
-use Rattle.std.proofs.Common.{◌≡◌, ◌≢◌, ◌⊎◌, ℕ, ◌<◌, ◌≤◌, List, [], ◌∷◌, Option, inl, inr, ◌∙◌, sym, ap, subst, arith, min}
+use Rattle.std.proofs.Common.{◌≡◌, ◌≢◌, ◌⊎◌, ℕ, ◌<◌, ◌≤◌, List, [], ◌∷◌, Option, inl, inr, sym, subst, arith, min}
 use Rattle.outside.specs.Outside.{Rose}
 use Rattle.config_base.specs.Configs.{PlainConfig}
 use Rattle.run_base.specs.declared.outcome.Status.{Status}
@@ -15,7 +15,7 @@ use Rattle.route_maps.proofs.Means.{MeansAs-maps_of}
 use Rattle.maps_made.specs.Counts.{line_count}
 use Rattle.maps_made.specs.Earlier.{top}
 use Rattle.route_map_text.specs.MapsLines.{maps_text}
-use Rattle.map_jobs.specs.Difference.{first_difference}
+use Rattle.text_difference.specs.Difference.{first_difference}
 use Rattle.map_jobs.specs.MapsJobs.{SaysOfMaps, SaysOfTexts}
 use Rattle.map_jobs.specs.MapsSaid.{differs_line, same_line, too_many_lines}
 use Rattle.map_jobs.proofs.CheckMapLaws.{at_maps, of_maps}

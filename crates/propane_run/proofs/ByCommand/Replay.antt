@@ -7,12 +7,13 @@ use Rattle.stable_paths.specs.declared.scenario.Scenario.{Scenario}
 use Rattle.run_base.specs.Reading.{Holds}
 use Rattle.run_base.specs.Said.{text, Whole}
 use Rattle.run_base.proofs.Jobs.{status_is, out_is}
+use Rattle.compile_jobs.specs.Compiling.{SaysOfValue}
 use Rattle.compile_jobs.proofs.ThirdText.{said_for}
 use Rattle.input_texts.specs.Asked.{SpellAlso}
 use Rattle.input_texts.specs.FaultLines.{scenario_line}
 use Rattle.input_texts.proofs.Asking.{net_of_spelled, policy_of_spelled}
 use Rattle.scenario_reader.specs.Spelled.{spelled as scenario_spelled}
-use Rattle.replay_job.specs.Replayed.{SaysOfScenario, WritesReport}
+use Rattle.replay_job.specs.Replayed.{WritesReport}
 use Rattle.replay_job.proofs.ReplayLaws.{one_outcome}
 use Rattle.scenario_reader.proofs.ReadPrefixes.{spelled_prefix}
 use Rattle.propane_run.specs.declared.command.Command.TheVariants.{Replay}
@@ -23,7 +24,7 @@ use Rattle.propane_run.proofs.Asking.{asks_also}
 
 module _ {S : Type 0} (holds : Holds) (words : List (List ℕ)) (taken : S → Option (List ℕ)) (before now : S) (b : List ℕ) (written : Whole taken b before now) where
   replays_of : Comes holds words Replay (text b) → (net : PlainNet) (policy : PlainPolicy) (scenario : Scenario) → SpellAlso scenario_spelled holds (names_read words Replay) net policy scenario
-      → SaysOfScenario net policy scenario (text b) → ReplaysRight holds taken words before now
+      → SaysOfValue scenario_line scenario_spelled WritesReport net policy scenario (text b) → ReplaysRight holds taken words before now
   replays_of comes net policy scenario under (inr h) = absurd (let s = status_is _ _ h.2 in cc)
   replays_of comes net policy scenario under (inl h) =
       let rules = net_of_spelled under.spell in

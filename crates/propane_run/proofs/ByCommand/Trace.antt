@@ -9,12 +9,13 @@ use Rattle.propane_run.proofs.Moving.{kept_in_motion}
 use Rattle.run_base.specs.Reading.{Holds}
 use Rattle.run_base.specs.Said.{text, Whole}
 use Rattle.run_base.proofs.Jobs.{status_is, out_is}
+use Rattle.compile_jobs.specs.Compiling.{SaysOfValue}
 use Rattle.compile_jobs.proofs.ThirdText.{said_for}
 use Rattle.event_reader.specs.Spelled.{spelled as events_spelled}
 use Rattle.input_texts.specs.Asked.{SpellAlso}
 use Rattle.input_texts.specs.FaultLines.{events_line}
 use Rattle.input_texts.proofs.Asking.{net_of_spelled, policy_of_spelled}
-use Rattle.trace_job.specs.Traced.{SaysOfEvents, WritesTrace}
+use Rattle.trace_job.specs.Traced.{WritesTrace}
 use Rattle.event_reader.proofs.ReadPrefixes.{spelled_prefix}
 use Rattle.trace_job.proofs.Replays.{quiet_replays}
 use Rattle.propane_run.specs.declared.command.Command.TheVariants.{Trace}
@@ -25,7 +26,7 @@ use Rattle.propane_run.proofs.Asking.{asks_also}
 
 module _ {S : Type 0} (holds : Holds) (words : List (List ℕ)) (taken : S → Option (List ℕ)) (before now : S) (b : List ℕ) (written : Whole taken b before now) where
   traces_of : Comes holds words Trace (text b) → (net : PlainNet) (policy : PlainPolicy) (events : Events) → SpellAlso events_spelled holds (names_read words Trace) net policy events
-      → SaysOfEvents net policy events (text b) → TracesRight holds taken words before now
+      → SaysOfValue events_line events_spelled WritesTrace net policy events (text b) → TracesRight holds taken words before now
   traces_of comes net policy events spell (inr h) = absurd (let s = status_is _ _ h.2 in cc)
   traces_of comes net policy events spell (inl h) =
       let rules = net_of_spelled spell.spell in

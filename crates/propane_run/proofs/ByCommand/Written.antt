@@ -2,6 +2,8 @@
 use Rattle.std.proofs.Common.{◌≡◌, ℕ, List, Option, Ok, inl, inr, sym, subst, ◌∙◌}
 use Rattle.net_base.specs.Network.{PlainNet}
 use Rattle.policy_base.specs.Policies.{PlainPolicy}
+use Rattle.claim_texts.proofs.Configurations.{spellings_are_texts}
+use Rattle.config_text.specs.Spelled.{Spells}
 use Rattle.evidence_base.specs.Made.{PlainCaseEvidence}
 use Rattle.policy_parser.specs.Spelled.{spelled as policy_spelled}
 use Rattle.evidence_law.proofs.ExistenceLaw.{stable_outcomes_exist}
@@ -20,19 +22,20 @@ use Rattle.compile_jobs.specs.declared.written.Part.TheVariants as part
 use Rattle.compile_jobs.specs.Compiled.{IsCompiled}
 use Rattle.compile_jobs.specs.Written.{SaysOfPart}
 use Rattle.propane_run.specs.declared.command.Command.TheVariants.{Compile, Evidence}
+use Rattle.propane_run.specs.Asked.{AsksFor}
 use Rattle.propane_run.specs.Headline.{CompilesRight, GivesEvidence, IsKeptInMotion}
 use Rattle.propane_run.specs.Pairs.{ArePair}
 use Rattle.propane_run.specs.Run.{Comes}
 use Rattle.propane_run.specs.Words.{names_read}
-use Rattle.propane_run.proofs.Asking.{asks_for}
+use Rattle.propane_run.proofs.Asking.{asks_for, names_two}
 use Rattle.propane_run.proofs.Moving.{kept_in_motion}
 
 module _ {S : Type 0} (holds : Holds) (words : List (List ℕ)) (taken : S → Option (List ℕ)) (before now : S) (b : List ℕ) (written : Whole taken b before now) where
-  -- the claim, the evidence that passes, and that it is kept in motion
+  -- the claim, the evidence that passes, that it is kept in motion, and what the texts spell
   abbrev pub Claimed : Type 0
   Claimed =
       (claim : CompilesRight holds taken words before now) × (evidence : List PlainCaseEvidence) × IsCompiled claim.net claim.policy claim.config evidence
-      × IsKeptInMotion claim.net claim.policy claim.config
+      × IsKeptInMotion claim.net claim.policy claim.config × AsksFor holds words Compile claim.net claim.policy × Spells claim.bytes claim.config
 
   -- the evidence, and the same
   abbrev pub Given : Type 0
@@ -44,17 +47,19 @@ module _ {S : Type 0} (holds : Holds) (words : List (List ℕ)) (taken : S → O
     record {
       net = net;
       policy = policy;
-      asked = asks_for holds words Compile net policy comes.is spell;
+      asked = names_two holds words net policy comes.is spell;
       bytes = h.2;
       written = rw (out_is _ _ h.5) at written;
       config = h.0;
-      spelled = h.4;
+      text = spellings_are_texts h.2 h.0 h.4;
       right = passing_evidence_is_right net policy h.0 h.1 (net_of_spelled spell) (policy_of_spelled spell) h.3.1;
       outcomes = stable_outcomes_exist net policy h.0 h.1 (net_of_spelled spell) (policy_of_spelled spell) h.3.1;
     },
     h.1,
     h.3,
     kept_in_motion net policy h.0 h.1 (net_of_spelled spell) (policy_of_spelled spell) h.3.1,
+    asks_for holds words Compile net policy comes.is spell,
+    h.4,
   )
 
   pub compiled : Comes holds words Compile (text b) → Claimed

@@ -39,7 +39,7 @@ type Row = (
     (&'static str, &'static str),
 );
 
-const ROWS: [Row; 15] = [
+const ROWS: [Row; 16] = [
     (
         "a way around a dead link",
         (TRIANGLE, ANY_PATH),
@@ -110,6 +110,16 @@ router C none
         ),
         Status::CheckFails,
         ("unstable router C missing A\n", ""),
+    ),
+    (
+        "no route, where the neighbour over the live link gives one",
+        (TRIANGLE, ANY_PATH),
+        (
+            CUT_LINK,
+            "{\"routes\":[{\"path\":[\"A\"],\"pref\":0,\"tag\":[64512,1]},{\"path\":[\"B\",\"A\"],\"pref\":100,\"tag\":[64513,1]},null]}",
+        ),
+        Status::CheckFails,
+        ("unstable router C missing B\n", ""),
     ),
     (
         "a route over a dead link",

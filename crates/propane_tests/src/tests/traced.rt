@@ -21,7 +21,7 @@ type Row = (
     (&'static str, &'static str),
 );
 
-const ROWS: [Row; 12] = [
+const ROWS: [Row; 14] = [
     (
         "a link that goes down before the other router has heard",
         (TRIANGLE, ANY_PATH),
@@ -70,6 +70,23 @@ class 1
 router A origin
 router B none
 router C none
+",
+            "",
+        ),
+    ),
+    (
+        "a link that comes up while it is up",
+        (TRIANGLE, ANY_PATH),
+        "{\"prefix\":\"10.0.1.0/24\",\"events\":[[\"link_down\",\"A\",\"C\"],[\"deliver\",\"A\",\"B\"],[\"deliver\",\"B\",\"C\"],[\"link_up\",\"B\",\"C\"],[\"deliver\",\"C\",\"B\"]]}",
+        Status::Done,
+        (
+            "event 4 not-down
+quiet yes
+prefix 10.0.1.0/24
+class 1
+router A origin
+router B rank 1 path B A
+router C rank 1 path C B A
 ",
             "",
         ),
@@ -199,6 +216,13 @@ router R2 none
         "{\"prefix\":\"x\",\"events\":[[\"deliver\",\"Q\",\"R2\"]]}",
         Status::BadInput,
         ("", "propane: events 4 unknown place 1\n"),
+    ),
+    (
+        "a link to a router that isn't in the network",
+        (TRIANGLE, ANY_PATH),
+        "{\"prefix\":\"10.0.1.0/24\",\"events\":[[\"link_down\",\"A\",\"C\"],[\"deliver\",\"A\",\"B\"],[\"deliver\",\"B\",\"C\"],[\"link_up\",\"B\",\"D\"],[\"deliver\",\"C\",\"B\"]]}",
+        Status::BadInput,
+        ("", "propane: events 4 unknown place 4\n"),
     ),
     (
         "a prefix with a bit past its length",

@@ -1,0 +1,3 @@
+pub mod PolicyText
+pub mod ConfigText
+pub mod Laws
