@@ -23,9 +23,11 @@ use Rattle.announce_law.proofs.Peers.{no_line, no_peer_originates, nothing_expor
 
 module _ (net : PlainNet) (policy : PlainPolicy) (config : PlainConfig) (cs : List PlainCaseEvidence) (rules : IsNet net) (kept : IsPolicyOf net policy) (made : IsMadeOf net policy config cs) where
   -- an outcome that is stable under announcements is stable in the plain sense, while the sessions of no use are silent besides
-  pub announcements_are_silences : (p : PlainPrefix) (f : Failures) (says : Announcements) (full : FullOutcome) → IsPrefix p → IsStableUnder net policy config f says p full → IsStable net policy config (silenced net says f) p (inside full)
+  pub announcements_are_silences : (p : PlainPrefix) (f : Failures) (says : Announcements) (full : FullOutcome) → IsPrefix p
+      → IsStableUnder net policy config f says p full → IsStable net policy config (silenced net says f) p (inside full)
   announcements_are_silences p f says full prefix stable =
-      stable_inside net policy config f says p full rules stable (λ class of_class u v peer router other tag. no_line net policy config cs rules kept made p prefix class of_class u v peer router other tag)
+      stable_inside net policy config f says p full rules stable
+      (λ class of_class u v peer router other tag. no_line net policy config cs rules kept made p prefix class of_class u v peer router other tag)
 
   pub leaks_nothing : LeaksNothing net policy config
   leaks_nothing p f says full prefix outside r peer router at_peer = elim (cases_Option (full_at full r)) [
@@ -57,7 +59,8 @@ module _ (net : PlainNet) (policy : PlainPolicy) (config : PlainConfig) (cs : Li
   ]
 
   -- of an originated prefix nothing that a peer announces stands behind any path
-  pub originated_paths_are_own : (p : PlainPrefix) (at : LocSet) (f : Failures) (says : Announcements) (full : FullOutcome) → IsPrefix p → originated_at policy.origins p ≡ Some at → IsStableUnder net policy config f says p full
+  pub originated_paths_are_own : (p : PlainPrefix) (at : LocSet) (f : Failures) (says : Announcements) (full : FullOutcome) → IsPrefix p
+      → originated_at policy.origins p ≡ Some at → IsStableUnder net policy config f says p full
       → (r : ℕ) (t : FullRoute) → is_router net r ≡ true → full_at full r ≡ Some t → t.behind ≡ []
   originated_paths_are_own p at f says full prefix is stable r t router has =
       behind net policy config f says p full rules stable (λ b. b ≡ []) refl

@@ -58,7 +58,8 @@ cut_raised net says [] = refl
 cut_raised net says (None ∷ os) = ap (λ (xs : Outcome). None ∷ xs) (cut_raised net says os)
 cut_raised net says (Some h ∷ os) = ap (λ (xs : Outcome). Some h ∷ xs) (cut_raised net says os)
 
-raised_joined : (g : Route → FullRoute) (o : Option (Option Route)) → option_and_then (λ (x : Option FullRoute). x) (option_map (option_map g) o) ≡ option_map g (option_and_then (λ (x : Option Route). x) o)
+raised_joined : (g : Route → FullRoute) (o : Option (Option Route))
+    → option_and_then (λ (x : Option FullRoute). x) (option_map (option_map g) o) ≡ option_map g (option_and_then (λ (x : Option Route). x) o)
 raised_joined g None = refl
 raised_joined g (Some x) = refl
 
@@ -176,10 +177,12 @@ module _ (net : PlainNet) (policy : PlainPolicy) (config : PlainConfig) (f : Fai
             };
       }
 
-pub stable_under_exist : (net : PlainNet) (policy : PlainPolicy) (config : PlainConfig) (cs : List PlainCaseEvidence) → IsNet net → IsPolicyOf net policy → Passes net policy config cs → HasOutcomesUnder net policy config
+pub stable_under_exist : (net : PlainNet) (policy : PlainPolicy) (config : PlainConfig) (cs : List PlainCaseEvidence) → IsNet net
+    → IsPolicyOf net policy → Passes net policy config cs → HasOutcomesUnder net policy config
 stable_under_exist net policy config cs rules kept passes p f says prefix =
     let found = stable_outcomes_exist net policy config cs rules kept passes p (silenced net says f) prefix in (
       raised net says found.0,
       length-map found.0 (option_map (lifted net says)) ∙ found.1,
-      stable_up net policy config f says p found.0 rules found.2 (λ class of_class u v peer router other tag. no_line net policy config cs rules kept passes.made p prefix class of_class u v peer router other tag),
+      stable_up net policy config f says p found.0 rules found.2
+          (λ class of_class u v peer router other tag. no_line net policy config cs rules kept passes.made p prefix class of_class u v peer router other tag),
     )

@@ -44,7 +44,8 @@ module _ (net : PlainNet) (policy : PlainPolicy) (config : PlainConfig) (cs : Li
   plain_unsent : sent net policy config Mute p (inside full) r peer ≡ None → offered net policy config Mute p (inside full) r peer ≡ None
   plain_unsent s = rw (s, live, router, at_peer) refl
 
-  plain_sent : (path : List ℕ) (t : Tag) → sent net policy config Mute p (inside full) r peer ≡ Some (path, t) → offered net policy config Mute p (inside full) r peer ≡ (if stands_on peer path then None else Some (peer ∷ path))
+  plain_sent : (path : List ℕ) (t : Tag) → sent net policy config Mute p (inside full) r peer ≡ Some (path, t)
+      → offered net policy config Mute p (inside full) r peer ≡ (if stands_on peer path then None else Some (peer ∷ path))
   plain_sent path t s = rw (s, live, router, at_peer) refl
 
   under_unsent : sent_under net config f says p full r peer ≡ None → offered_under net config f says p full r peer ≡ None
@@ -81,14 +82,18 @@ module _ (net : PlainNet) (policy : PlainPolicy) (config : PlainConfig) (cs : Li
   live_same = elim (cases_Option (full_at full r)) [
     | inl none ↦ elim (cases_Option (class_of config p)) [
       | inl free ↦ both_none (unclassed free) (unclassed_under free)
-      | inr c ↦ both_none (sent-unrouted net policy config Mute p (inside full) c.0 rules c.1 r peer off (route_at-inside full r ∙ ap (option_map route_in) none)) (sent-router-none net policy config f says p full r peer off none)
+      | inr c ↦
+          both_none (sent-unrouted net policy config Mute p (inside full) c.0 rules c.1 r peer off (route_at-inside full r ∙ ap (option_map route_in) none))
+          (sent-router-none net policy config f says p full r peer off none)
     ]
     | inr t ↦ elim (cases_Option (class_of config p)) [
       | inl free ↦ both_none (unclassed free) (unclassed_under free)
       | inr c ↦
           let at : route_at (inside full) r ≡ Some t.0.route = route_at-inside full r ∙ ap (option_map route_in) t.1 in
           elim (cases_Option (export_of net config c.0 r peer t.0.route.tag)) [
-            | inl e ↦ both_none (sent-refused net policy config Mute p (inside full) c.0 rules c.1 r peer t.0.route off at e) (sent-router-refused net policy config f says p full c.0 c.1 r peer t.0 off t.1 e)
+            | inl e ↦
+                both_none (sent-refused net policy config Mute p (inside full) c.0 rules c.1 r peer t.0.route off at e)
+                (sent-router-refused net policy config f says p full c.0 c.1 r peer t.0 off t.1 e)
             | inr e ↦ elim (cases_Option (originated_at policy.origins p)) [
               | inl outside ↦ absurd (none_or_some (export_of net config c.0 r peer t.0.route.tag) e.0
                   (nothing_exported net policy config cs rules kept made p prefix c.0 c.1 peer r t.0.route.tag router (peers_are_origins net policy p peer outside ∙ at_peer)) e.1)
@@ -103,7 +108,8 @@ module _ (net : PlainNet) (policy : PlainPolicy) (config : PlainConfig) (cs : Li
     ]
   ]
 
-pub offers_are_taken : (net : PlainNet) (policy : PlainPolicy) (config : PlainConfig) (cs : List PlainCaseEvidence) → IsNet net → IsPolicyOf net policy → IsMadeOf net policy config cs → OffersAreTaken net policy config
+pub offers_are_taken : (net : PlainNet) (policy : PlainPolicy) (config : PlainConfig) (cs : List PlainCaseEvidence) → IsNet net
+    → IsPolicyOf net policy → IsMadeOf net policy config cs → OffersAreTaken net policy config
 offers_are_taken net policy config cs rules kept made p f says full prefix stable r peer = elim (cases_Bool (is_live net f r peer && is_router net r && is_peer net peer)) [
   | inr none ↦ rw none refl
   | inl t ↦

@@ -29,7 +29,8 @@ use Rattle.config_base.specs.Lines.{class_of, block_at, export_of, import_of, is
 use Rattle.outcome_base.specs.Outcomes.{Failures, is_dead, is_live, is_silent, route_at, sent, given, IsStable}
 use Rattle.evidence_law.proofs.Spelled.{imports_tag}
 use Rattle.evidence_law.proofs.Heard.{no_gift, given-unsent, given-refused, given-taken, sent-unrouted, sent-refused, sent-permitted}
-use Rattle.outcome_base.specs.Announcements.{Announced, Announcements, FullRoute, FullOutcome, Sent, full_at, inside, is_ours, refuses, sent_under, taken_under, given_under, is_unusable, silenced, IsStableUnder}
+use Rattle.outcome_base.specs.Announcements.{Announced, Announcements, FullRoute, FullOutcome, Sent, full_at, inside, is_ours, refuses, sent_under, taken_under}
+use Rattle.outcome_base.specs.Announcements.{given_under, is_unusable, silenced, IsStableUnder}
 use Rattle.announce_law.proofs.Silenced.{silenced_is}
 
 abbrev pub route_in : FullRoute → Route
@@ -52,7 +53,8 @@ not_its_own net v behind router clean = false_from_ne_true (list_any (λ n. n ==
     true≢false (sym (list_any-from_IsIn (is_ours net) behind x.1 (x.0, x.2) ours) ∙ clean))
 
 -- numbers of no router change nothing
-refuses_same : (net : PlainNet) (v u : ℕ) (path behind : List ℕ) → is_router net v ≡ true → list_any (is_ours net) behind ≡ false → refuses net v u (as_path net path ++ behind) ≡ is_looped net v u path
+refuses_same : (net : PlainNet) (v u : ℕ) (path behind : List ℕ) → is_router net v ≡ true → list_any (is_ours net) behind ≡ false
+    → refuses net v u (as_path net path ++ behind) ≡ is_looped net v u path
 refuses_same net v u path behind router clean = by (is_peer net u)
   where
     by : (b : Bool) → (if b then list_any (is_ours net) (as_path net path ++ behind) else list_any (λ n. n == asn_of net v) (as_path net path ++ behind))
@@ -62,7 +64,9 @@ refuses_same net v u path behind router clean = by (is_peer net u)
 
 -- from a peer one number of a router is enough
 refuses_ours : (net : PlainNet) (v u : ℕ) (path behind : List ℕ) → is_peer net u ≡ true → list_any (is_ours net) behind ≡ true → refuses net v u (as_path net path ++ behind) ≡ true
-refuses_ours net v u path behind peer ours = rw peer (list_any-append (is_ours net) (as_path net path) behind ∙ or_right (list_any (is_ours net) (as_path net path)) (list_any (is_ours net) behind) ours)
+refuses_ours net v u path behind peer ours =
+    rw peer (list_any-append (is_ours net) (as_path net path) behind
+    ∙ or_right (list_any (is_ours net) (as_path net path)) (list_any (is_ours net) behind) ours)
 
 -- ---- what is taken
 
@@ -149,7 +153,8 @@ module _ (net : PlainNet) (policy : PlainPolicy) (config : PlainConfig) (f : Fai
   ]
 
   module _ (class : ℕ) (of_class : class_of config p ≡ Some class) where
-    pub sent-router-refused : (u v : ℕ) (t : FullRoute) → is_peer net u ≡ false → full_at full u ≡ Some t → export_of net config class u v t.route.tag ≡ None → sent_under net config f says p full u v ≡ None
+    pub sent-router-refused : (u v : ℕ) (t : FullRoute) → is_peer net u ≡ false → full_at full u ≡ Some t
+        → export_of net config class u v t.route.tag ≡ None → sent_under net config f says p full u v ≡ None
     sent-router-refused u v t off r e = rw (of_class, r, e, off) refl
 
     pub sent-router : (u v : ℕ) (t : FullRoute) (tag : Tag) → is_peer net u ≡ false → full_at full u ≡ Some t → export_of net config class u v t.route.tag ≡ Some tag
@@ -182,14 +187,17 @@ module _ (net : PlainNet) (policy : PlainPolicy) (config : PlainConfig) (f : Fai
           elim (cases_Bool (is_looped net v u path)) [
             | inl t ↦
                 let none : import_of net config class v u path tag ≡ None = rw t refl in
-                out ∙ ap (option_map route_in) (taken-refused net config class v u m (loop ∙ t)) ∙ sym (given-refused net policy config Mute p (inside full) class rules of_class u v path tag live b none)
+                out ∙ ap (option_map route_in) (taken-refused net config class v u m (loop ∙ t))
+                ∙ sym (given-refused net policy config Mute p (inside full) class rules of_class u v path tag live b none)
             | inr t ↦ elim (cases_Option (line_at tag)) [
               | inl l ↦
                   let none : import_of net config class v u path tag ≡ None = rw (t, l) refl in
-                  out ∙ ap (option_map route_in) (taken-none net config class v u m (alike ∙ l)) ∙ sym (given-refused net policy config Mute p (inside full) class rules of_class u v path tag live b none)
+                  out ∙ ap (option_map route_in) (taken-none net config class v u m (alike ∙ l))
+                  ∙ sym (given-refused net policy config Mute p (inside full) class rules of_class u v path tag live b none)
               | inr l ↦
                   let some : import_of net config class v u path tag ≡ Some l.0 = rw (t, l.1) refl in
-                  out ∙ ap (option_map route_in) (taken-some net config class v u m l.0 (loop ∙ t) (alike ∙ l.1)) ∙ sym (given-taken net policy config Mute p (inside full) class rules of_class u v path tag l.0 live b some)
+                  out ∙ ap (option_map route_in) (taken-some net config class v u m l.0 (loop ∙ t) (alike ∙ l.1))
+                  ∙ sym (given-taken net policy config Mute p (inside full) class rules of_class u v path tag l.0 live b some)
             ]
           ]
 
@@ -204,7 +212,9 @@ module _ (net : PlainNet) (policy : PlainPolicy) (config : PlainConfig) (f : Fai
             let at : route_at (inside full) u ≡ Some r.0.route = route_at-inside full u ∙ ap (option_map route_in) r.1 in
             elim (cases_Option (export_of net config class u v r.0.route.tag)) [
               | inl e ↦ same_unsent (sent-router-refused u v r.0 off r.1 e) (sent-refused net policy config Mute p (inside full) class rules of_class u v r.0.route off at e)
-              | inr e ↦ same_sent r.0.route.path r.0.behind e.0 e.0 refl (sent-router u v r.0 e.0 off r.1 e.1) (sent-permitted net policy config Mute p (inside full) class rules of_class u v r.0.route e.0 off at e.1) (clean r.0 r.1)
+              | inr e ↦
+                  same_sent r.0.route.path r.0.behind e.0 e.0 refl (sent-router u v r.0 e.0 off r.1 e.1)
+                  (sent-permitted net policy config Mute p (inside full) class rules of_class u v r.0.route e.0 off at e.1) (clean r.0 r.1)
             ]
       ]
 
@@ -251,7 +261,8 @@ module _ (net : PlainNet) (policy : PlainPolicy) (config : PlainConfig) (f : Fai
             | inr some ↦ elim (cases_Bool (list_any (is_ours net) some.0.behind)) [
               | inl ours ↦
                   let mute = mute_is ∙ ap (λ (o : Option Announced). is_silent f v u || is_unusable net o) some.1 ∙ or_right (is_silent f v u) (list_any (is_ours net) some.0.behind) ours in
-                  same_unused (said some.0) (told_says (Some some.0) s some.1) (taken-refused net config class v u (said some.0) (refuses_ours net v u (u ∷ []) some.0.behind peer ours)) (unsent_mute mute)
+                  same_unused (said some.0) (told_says (Some some.0) s some.1)
+                  (taken-refused net config class v u (said some.0) (refuses_ours net v u (u ∷ []) some.0.behind peer ours)) (unsent_mute mute)
               | inr clean ↦ elim (cases_Bool (is_origin net policy p u)) [
                 | inl o ↦
                     let heard = mute_is ∙ ap (λ (o : Option Announced). is_silent f v u || is_unusable net o) some.1 ∙ or_failed (is_silent f v u) (list_any (is_ours net) some.0.behind) clean ∙ s in
@@ -297,7 +308,8 @@ module _ (net : PlainNet) (policy : PlainPolicy) (config : PlainConfig) (f : Fai
   ]
 
   -- a router sends what it holds
-  pub router-sends : (u v : ℕ) (m : Sent) → is_peer net u ≡ false → sent_under net config f says p full u v ≡ Some m → (t : FullRoute) × (full_at full u ≡ Some t) × (m.path ≡ t.route.path) × (m.behind ≡ t.behind)
+  pub router-sends : (u v : ℕ) (m : Sent) → is_peer net u ≡ false → sent_under net config f says p full u v ≡ Some m
+      → (t : FullRoute) × (full_at full u ≡ Some t) × (m.path ≡ t.route.path) × (m.behind ≡ t.behind)
   router-sends u v m off h = elim (cases_Option (full_at full u)) [
     | inl none ↦ absurd (none_or_some (sent_under net config f says p full u v) m (sent-router-none u v off none) h)
     | inr t ↦ elim (cases_Option (class_of config p)) [
@@ -315,36 +327,41 @@ module _ (net : PlainNet) (policy : PlainPolicy) (config : PlainConfig) (f : Fai
   module _ (rules : IsNet net) (stable : IsStableUnder net policy config f says p full) where
     -- What holds of the numbers that routers take from peers, and of none, holds behind each route: they are passed on as they are.
     module _ (P : List ℕ → Type 0) (none : P [])
-        (taken : (u v class : ℕ) (m : Sent) (t : FullRoute) → is_peer net u ≡ true → is_router net v ≡ true → is_origin net policy p v ≡ false → class_of config p ≡ Some class → sent_under net config f says p full u v ≡ Some m → taken_under net config class v u m ≡ Some t → P m.behind) where
-      behind_each : (n r : ℕ) (t : FullRoute) → is_router net r ≡ true → full_at full r ≡ Some t → suc (length t.route.path) ≤ n → P t.behind
-      behind_each zero r t router at short = absurd (omega (arith, short))
-      behind_each (suc n) r t router at short = elim (cases_Bool (is_dead f r)) [
-        | inl dead ↦ absurd (none_or_some (full_at full r) t (stable.dead r dead) at)
-        | inr alive ↦ elim (cases_Bool (is_origin net policy p r)) [
-          | inl own ↦
-              let who = and_from (is_router net r && is_origin net policy p r) (not (is_dead f r)) (and_from (is_router net r) (is_origin net policy p r) router own) (not_from_false _ alive) in
-              let same : Some (record { route = own_route net config p r; behind = [] }) ≡ Some t = sym (stable.own r who) ∙ at in
-              let one : record { route = own_route net config p r; behind = [] } ≡ t = cc in
-              subst (λ (x : FullRoute). P x.behind) one none
-          | inr other ↦
-              let who = and_from (is_router net r && not (is_origin net policy p r)) (not (is_dead f r)) (and_from (is_router net r) (not (is_origin net policy p r)) router (not_from_false _ other)) (not_from_false _ alive) in
-              let by = (stable.chooses r who).given_by t at in
-              let parts = given-parts by.0 r t by.1 in
-              let made = taken-parts net config parts.1 r by.0 parts.3 t parts.5 in
-              elim (cases_Bool (is_peer net by.0)) [
-                | inl peer ↦ subst P (sym made.2) (taken by.0 r parts.1 parts.3 t peer router other parts.2 parts.4 parts.5)
-                | inr off ↦
-                    let from = router-sends by.0 r parts.3 off parts.4 in
-                    let link = (and_parts _ _ (and_parts _ _ (and_parts _ _ parts.0).0).0).0 in
-                    let at_router = router_or_peer net by.0 (linked_known net by.0 r rules link).0 off in
-                    let longer : length t.route.path ≡ suc (length from.0.route.path) = ap length (made.1 ∙ ap (λ (path : List ℕ). r ∷ path) from.2) in
-                    subst P (sym (made.2 ∙ from.3)) (behind_each n by.0 from.0 at_router from.1 (omega (arith, longer, short)))
-              ]
+        (taken : (u v class : ℕ) (m : Sent) (t : FullRoute) → is_peer net u ≡ true → is_router net v ≡ true → is_origin net policy p v ≡ false
+        → class_of config p ≡ Some class → sent_under net config f says p full u v ≡ Some m → taken_under net config class v u m ≡ Some t
+        → P m.behind)
+      where
+        behind_each : (n r : ℕ) (t : FullRoute) → is_router net r ≡ true → full_at full r ≡ Some t → suc (length t.route.path) ≤ n → P t.behind
+        behind_each zero r t router at short = absurd (omega (arith, short))
+        behind_each (suc n) r t router at short = elim (cases_Bool (is_dead f r)) [
+          | inl dead ↦ absurd (none_or_some (full_at full r) t (stable.dead r dead) at)
+          | inr alive ↦ elim (cases_Bool (is_origin net policy p r)) [
+            | inl own ↦
+                let who = and_from (is_router net r && is_origin net policy p r) (not (is_dead f r)) (and_from (is_router net r) (is_origin net policy p r) router own) (not_from_false _ alive) in
+                let same : Some (record { route = own_route net config p r; behind = [] }) ≡ Some t = sym (stable.own r who) ∙ at in
+                let one : record { route = own_route net config p r; behind = [] } ≡ t = cc in
+                subst (λ (x : FullRoute). P x.behind) one none
+            | inr other ↦
+                let who =
+                and_from (is_router net r && not (is_origin net policy p r)) (not (is_dead f r))
+                (and_from (is_router net r) (not (is_origin net policy p r)) router (not_from_false _ other)) (not_from_false _ alive) in
+                let by = (stable.chooses r who).given_by t at in
+                let parts = given-parts by.0 r t by.1 in
+                let made = taken-parts net config parts.1 r by.0 parts.3 t parts.5 in
+                elim (cases_Bool (is_peer net by.0)) [
+                  | inl peer ↦ subst P (sym made.2) (taken by.0 r parts.1 parts.3 t peer router other parts.2 parts.4 parts.5)
+                  | inr off ↦
+                      let from = router-sends by.0 r parts.3 off parts.4 in
+                      let link = (and_parts _ _ (and_parts _ _ (and_parts _ _ parts.0).0).0).0 in
+                      let at_router = router_or_peer net by.0 (linked_known net by.0 r rules link).0 off in
+                      let longer : length t.route.path ≡ suc (length from.0.route.path) = ap length (made.1 ∙ ap (λ (path : List ℕ). r ∷ path) from.2) in
+                      subst P (sym (made.2 ∙ from.3)) (behind_each n by.0 from.0 at_router from.1 (omega (arith, longer, short)))
+                ]
+          ]
         ]
-      ]
 
-      pub behind : (r : ℕ) (t : FullRoute) → is_router net r ≡ true → full_at full r ≡ Some t → P t.behind
-      behind r t router at = behind_each (suc (length t.route.path)) r t router at (omega arith)
+        pub behind : (r : ℕ) (t : FullRoute) → is_router net r ≡ true → full_at full r ≡ Some t → P t.behind
+        behind r t router at = behind_each (suc (length t.route.path)) r t router at (omega arith)
 
     -- no number of a router stands behind a route
     pub clean_behind : (r : ℕ) (t : FullRoute) → is_router net r ≡ true → full_at full r ≡ Some t → list_any (is_ours net) t.behind ≡ false

@@ -36,14 +36,16 @@ pub peers_are_origins : (net : PlainNet) (policy : PlainPolicy) (p : PlainPrefix
 peers_are_origins net policy p l none = ap (λ (o : Option LocSet). is_origin_by net o l) none
 
 -- the origins of an originated prefix are routers
-pub no_peer_originates : (net : PlainNet) (policy : PlainPolicy) (p : PlainPrefix) (at : LocSet) (peer : ℕ) → IsPolicyOf net policy → originated_at policy.origins p ≡ Some at → is_peer net peer ≡ true → is_origin net policy p peer ≡ false
+pub no_peer_originates : (net : PlainNet) (policy : PlainPolicy) (p : PlainPrefix) (at : LocSet) (peer : ℕ) → IsPolicyOf net policy
+    → originated_at policy.origins p ≡ Some at → is_peer net peer ≡ true → is_origin net policy p peer ≡ false
 no_peer_originates net policy p at peer kept is at_peer = false_from_ne_true (is_origin net policy p peer) (λ h.
     let item = originated_by policy.origins p at is in
     let holds_it : holds item.0.at peer ≡ true = ap (λ (x : LocSet). holds x peer) item.3 ∙ sym (ap (λ (o : Option LocSet). is_origin_by net o peer) is) ∙ h in
     true≢false (sym (kept.routers item.0 peer item.1 holds_it) ∙ peer_no_router net peer at_peer))
 
 -- a line that applies stands in the block
-line_rule : (net : PlainNet) (class from : ℕ) (tag : Tag) (b : Session) (q : Tag × ℕ) → line_by net class from tag b ≡ Some q → (rule : Import) × (find (imports_tag net from class tag) b.imports ≡ Some rule)
+line_rule : (net : PlainNet) (class from : ℕ) (tag : Tag) (b : Session) (q : Tag × ℕ) → line_by net class from tag b ≡ Some q
+    → (rule : Import) × (find (imports_tag net from class tag) b.imports ≡ Some rule)
 line_rule net class from tag b q h = elim (cases_Option (find (imports_tag net from class tag) b.imports)) [
   | inl e ↦ let clash : None ≡ Some q = sym (rw e refl) ∙ h in absurd (cc)
   | inr e ↦ e
@@ -88,7 +90,8 @@ module _ (net : PlainNet) (policy : PlainPolicy) (config : PlainConfig) (cs : Li
         no_rule b.0 rule.0 b.1 (back.0, back.1) (eqb-true rule.0.class class parts.0))
 
   -- and in the block of a peer that is an origin there is no export line for it
-  pub no_export_line : (peer r : ℕ) → is_router net r ≡ true → is_origin net policy p peer ≡ true → (b : Session) (e : Export) → block_at net config r peer ≡ Some b → IsIn b.exports e → e.class ≡ class → ⊥
+  pub no_export_line : (peer r : ℕ) → is_router net r ≡ true → is_origin net policy p peer ≡ true → (b : Session) (e : Export)
+      → block_at net config r peer ≡ Some b → IsIn b.exports e → e.class ≡ class → ⊥
   no_export_line peer r router origin b e at item same =
       let block = (block_only net policy cs config rules made.lines r peer b router at).1 in
       let line = (block.exports e).0 item in
@@ -97,7 +100,10 @@ module _ (net : PlainNet) (policy : PlainPolicy) (config : PlainConfig) (cs : Li
       let within = (step_nodes line.case.graph line.node line.next case.2.graph line.step.step).1 in
       let there : holds line.case.case.origins (place_of line.case.graph line.next) ≡ true = ap (holds line.case.case.origins) line.step.to ∙ ap (λ (o : ℕ → Bool). o peer) case.0 ∙ origin in
       let start = formed.alone line.next within there in
-      let none = not-true _ (and_parts (linked net (place_of line.case.graph line.node) (place_of line.case.graph line.next)) (not (is_start line.case.graph line.next)) (formed.links line.node line.next line.step.step)).1 in
+      let none =
+      not-true _ (and_parts (linked net (place_of line.case.graph line.node) (place_of line.case.graph line.next))
+      (not (is_start line.case.graph line.next)) (formed.links line.node line.next line.step.step)).1
+      in
       true≢false (sym start ∙ none)
 
   pub nothing_exported : (peer r : ℕ) (tag : Tag) → is_router net r ≡ true → is_origin net policy p peer ≡ true → export_of net config class r peer tag ≡ None

@@ -18,7 +18,9 @@ use Rattle.evidence_law.specs.Passes.{IsMadeOf, Passes}
 
 -- Where the evidence passes the configuration is right whatever the peers announce.
 abbrev pub PassingEvidenceWithstandsPeers : Type 0
-PassingEvidenceWithstandsPeers = (net : PlainNet) (policy : PlainPolicy) (config : PlainConfig) (cs : List PlainCaseEvidence) → IsNet net → IsPolicyOf net policy → Passes net policy config cs → WithstandsPeers net policy config
+PassingEvidenceWithstandsPeers =
+    (net : PlainNet) (policy : PlainPolicy) (config : PlainConfig) (cs : List PlainCaseEvidence) → IsNet net → IsPolicyOf net policy
+    → Passes net policy config cs → WithstandsPeers net policy config
 
 -- The sessions that count as silent: those that are, and those over which a peer announces nothing, or a number of a router.
 abbrev pub SilencedSessions : Type 0

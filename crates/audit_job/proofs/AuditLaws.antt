@@ -94,7 +94,8 @@ one_under s t net policy config evidence one other a b =
     (λ scenario is. one_of_read tables_line (tables_spelled_by net t) (SaysOfRoutes net policy config evidence scenario)
     (λ routes also. one_of_routes net policy config evidence scenario routes)) one other a b
 
-one_of_more : (more : List (List ℕ)) (net : PlainNet) (policy : PlainPolicy) → IsNet net → IsPolicyOf net policy → (one other : Said) → SaysOfMore more net policy one → SaysOfMore more net policy other → one ≡ other
+one_of_more : (more : List (List ℕ)) (net : PlainNet) (policy : PlainPolicy) → IsNet net → IsPolicyOf net policy → (one other : Said)
+    → SaysOfMore more net policy one → SaysOfMore more net policy other → one ≡ other
 one_of_more [] net policy rules fits one other a b = absurd a
 one_of_more (z ∷ []) net policy rules fits one other a b = absurd a
 one_of_more (z ∷ w ∷ []) net policy rules fits one other a b = absurd a
@@ -139,7 +140,9 @@ module _ (holds : HeldBy) (names : List (List ℕ)) where
         says = t.2;
       }
 
-  said_of : (what : Said) → what.status ≢ BadInput → (net : PlainNet) (policy : PlainPolicy) (spell : SpellFor holds names net policy) (more : List (List ℕ)) → spell.more ≡ more → SaysOfMore more net policy what → SaidFor what
+  said_of : (what : Said) → what.status ≢ BadInput
+      → (net : PlainNet) (policy : PlainPolicy) (spell : SpellFor holds names net policy) (more : List (List ℕ)) → spell.more ≡ more
+      → SaysOfMore more net policy what → SaidFor what
   said_of what lawful net policy spell [] is says = absurd says
   said_of what lawful net policy spell (z ∷ []) is says = absurd says
   said_of what lawful net policy spell (z ∷ w ∷ []) is says = absurd says
@@ -161,4 +164,5 @@ module _ (holds : HeldBy) (names : List (List ℕ)) where
       let pair = at_pair (SaysUnder asked.scenario_text asked.tables_text net policy) asked.config_text asked.evidence_text a.config a.evidence what asked.config_spelled asked.evidence_spelled
       (subst P asked.more (texts_told SaysOfMore holds names net policy what asked.spell said)) in
       at_read tables_line (tables_spelled_by net asked.tables_text) (SaysOfRoutes net policy a.config a.evidence a.scenario) a.routes what asked.tables_spelled
-      (at_read scenario_line (scenario_spelled_by net asked.scenario_text) (λ scenario. OfTablesText (SaysOfRoutes net policy a.config a.evidence scenario) net asked.tables_text) a.scenario what asked.scenario_spelled pair)
+      (at_read scenario_line (scenario_spelled_by net asked.scenario_text)
+      (λ scenario. OfTablesText (SaysOfRoutes net policy a.config a.evidence scenario) net asked.tables_text) a.scenario what asked.scenario_spelled pair)

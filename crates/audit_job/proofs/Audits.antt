@@ -102,7 +102,8 @@ module _ (net : PlainNet) (policy : PlainPolicy) (a : Audited) where
         absurd (never ((stable_is_told net policy a.config (failures_of a.scenario) a.scenario.prefix a.routes Stable size all).0 refl))
     ill_by_line v (Some l) some is never says = status_is _ _ says
 
-    ill_by_check : (v : Verdict) → IsVerdictOnEvidence net policy a.config a.evidence v → (Passes net policy a.config a.evidence × AreStable → ⊥) → SaysOfChecked net policy a.config a.scenario a.routes v what
+    ill_by_check : (v : Verdict) → IsVerdictOnEvidence net policy a.config a.evidence v → (Passes net policy a.config a.evidence × AreStable → ⊥)
+        → SaysOfChecked net policy a.config a.scenario a.routes v what
         → what.status ≡ CheckFails
     ill_by_check Holds is never says = ill_by_line says.verdict (unstable_line net says.verdict) refl says.is (λ stable. never (is, stable)) says.says
     ill_by_check (Fails rule shown) is never says = status_is _ _ says

@@ -41,9 +41,12 @@ abbrev pub Fails : PlainNet → PlainPolicy → PlainConfig → Failures → Pla
 Fails net policy config f p outcome Stable = ⊥
 Fails net policy config f p outcome (Dead r) = IsTrue (is_dead f r) × ¬ (route_at outcome r ≡ None)
 Fails net policy config f p outcome (Own r) = IsTrue (is_live_origin net policy f p r) × ¬ (route_at outcome r ≡ Some (own_route net config p r))
-Fails net policy config f p outcome (NotGiven r) = IsTrue (is_choosing net policy f p r) × (h : Route) × (route_at outcome r ≡ Some h) × ((z : ℕ) → ¬ (given net policy config f p outcome z r ≡ Some h))
+Fails net policy config f p outcome (NotGiven r) =
+    IsTrue (is_choosing net policy f p r) × (h : Route) × (route_at outcome r ≡ Some h)
+    × ((z : ℕ) → ¬ (given net policy config f p outcome z r ≡ Some h))
 Fails net policy config f p outcome (Better r z pref) = IsTrue (is_choosing net policy f p r)
-    × (h : Route) × (g : Route) × (y : ℕ) × (route_at outcome r ≡ Some h) × (given net policy config f p outcome y r ≡ Some h) × IsTopGiver net policy config f p outcome r z g × (g.pref ≡ pref) × (h.pref < pref)
+    × (h : Route) × (g : Route) × (y : ℕ) × (route_at outcome r ≡ Some h) × (given net policy config f p outcome y r ≡ Some h)
+    × IsTopGiver net policy config f p outcome r z g × (g.pref ≡ pref) × (h.pref < pref)
 Fails net policy config f p outcome (Missing r z) = IsTrue (is_choosing net policy f p r) × (route_at outcome r ≡ None) × (g : Route) × IsTopGiver net policy config f p outcome r z g
 
 -- each router is settled
@@ -72,4 +75,5 @@ StableIsTold = (net : PlainNet) (policy : PlainPolicy) (config : PlainConfig) (f
 -- Recorded routes that are stable are right, where the evidence passes.
 abbrev pub StableTablesAreRight : Type 0
 StableTablesAreRight = (net : PlainNet) (policy : PlainPolicy) (config : PlainConfig) (cs : List PlainCaseEvidence) → IsNet net → IsPolicyOf net policy → Passes net policy config cs
-    → (p : PlainPrefix) (f : Failures) (outcome : Outcome) → IsPrefix p → length outcome ≡ length net.routers → IsVerdict net policy config f p outcome Stable → IsRightOutcome net policy config f p outcome
+    → (p : PlainPrefix) (f : Failures) (outcome : Outcome) → IsPrefix p → length outcome ≡ length net.routers
+    → IsVerdict net policy config f p outcome Stable → IsRightOutcome net policy config f p outcome

@@ -32,7 +32,8 @@ one_of_verdicts : (net : PlainNet) (policy : PlainPolicy) (config : PlainConfig)
     → SaysOfPair net policy config evidence other → one ≡ other
 one_of_verdicts net policy config evidence one other a b = a.2 ∙ ap verdict_said (one_verdict net policy config evidence a.0 b.0 a.1 b.1) ∙ sym b.2
 
-one_of_more : (more : List (List ℕ)) (net : PlainNet) (policy : PlainPolicy) → IsNet net → IsPolicyOf net policy → (one other : Said) → SaysOfMore more net policy one → SaysOfMore more net policy other → one ≡ other
+one_of_more : (more : List (List ℕ)) (net : PlainNet) (policy : PlainPolicy) → IsNet net → IsPolicyOf net policy → (one other : Said)
+    → SaysOfMore more net policy one → SaysOfMore more net policy other → one ≡ other
 one_of_more [] net policy rules fits one other a b = absurd a
 one_of_more (z ∷ []) net policy rules fits one other a b = absurd a
 one_of_more (z ∷ w ∷ []) net policy rules fits one other a b = one_of_pair (SaysOfPair net policy) (one_of_verdicts net policy) z w one other a b

@@ -17,14 +17,16 @@ use Rattle.input_texts.specs.Texts.{OfPairTexts}
 use Rattle.check_job.specs.Checked.{OfConfigText, SaysOfPair}
 use Rattle.check_job.specs.VerdictLines.{verdict_said}
 
-module _ (net : PlainNet) (policy : PlainPolicy) (text : List ℕ) (evidence : List PlainCaseEvidence) (verdict : Verdict) (judges : (config : PlainConfig) → Spells text config → IsVerdict net policy config evidence verdict) where
+module _ (net : PlainNet) (policy : PlainPolicy) (text : List ℕ) (evidence : List PlainCaseEvidence) (verdict : Verdict)
+    (judges : (config : PlainConfig) → Spells text config → IsVerdict net policy config evidence verdict) where
   -- the evidence holds with the configuration that the text spells
   pub held : (what : Said) → (config : PlainConfig) × Spells text config → IsGiven (λ w. w ≡ verdict_said verdict) what → IsGiven (OfConfigText (SaysOfPair net policy) text evidence) what
   held what found (inl none) = inl none
   held what found (inr same) = inr (inr (found.0, spelled_is_read Second text found.0 found.1, (verdict, judges found.0 found.1, same)))
 
   -- a verdict on the configuration that was read
-  pub judged : (what : Said) (config : PlainConfig) → length text < 4294967295 → config_spelled text ≡ Ok config → IsGiven (λ w. w ≡ verdict_said verdict) what → IsGiven (OfConfigText (SaysOfPair net policy) text evidence) what
+  pub judged : (what : Said) (config : PlainConfig) → length text < 4294967295 → config_spelled text ≡ Ok config
+      → IsGiven (λ w. w ≡ verdict_said verdict) what → IsGiven (OfConfigText (SaysOfPair net policy) text evidence) what
   judged what config short read given = held what (config, read_is_spelled Second text config short read) given
 
 -- the evidence was read before

@@ -18,12 +18,14 @@ use Rattle.config_lines.specs.declared.edition.Edition.TheVariants.{Second}
 use Rattle.config_lines.specs.LineText.{import_text, read_tag}
 use Rattle.config_lines.proofs.Ranges.{router_low, peer_low, tag_low}
 use Rattle.config_lines.proofs.Tags.{IsShort}
-use Rattle.config_text.specs.ConfigText.{class_line, class_lines as class_lines_in, import_line as import_line_in, session_line, session_text as session_text_in, router_line, router_text as router_text_in, text_in}
+use Rattle.config_text.specs.ConfigText.{class_line, class_lines as class_lines_in, import_line as import_line_in, session_line, session_text as session_text_in}
+use Rattle.config_text.specs.ConfigText.{router_line, router_text as router_text_in, text_in}
 use Rattle.config_text.specs.Spelled.{ArePatterns, HasPrefix, IsNamed, HasLawfulParts, Spells}
 use Rattle.config_text.proofs.Classes.{IsFullClass}
 use Rattle.config_text.proofs.Lines.{IsShortOrigination, IsShortImport, IsShortExport}
 use Rattle.config_text.proofs.Blocks.{IsReadableSession, IsReadableRouter, IsReadable, config_cut}
-use Rattle.claim_texts.specs.ConfigText.{class_lines, own_line, import_line, export_line, session_text, router_text, config_text, IsTag, IsOrigination, IsImport, IsExport, IsSession, IsRouter, IsTextOf}
+use Rattle.claim_texts.specs.ConfigText.{class_lines, own_line, import_line, export_line, session_text, router_text, config_text, IsTag, IsOrigination, IsImport, IsExport}
+use Rattle.claim_texts.specs.ConfigText.{IsSession, IsRouter, IsTextOf}
 
 -- ---- the text of the second edition
 

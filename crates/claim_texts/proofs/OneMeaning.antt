@@ -17,7 +17,8 @@ use Rattle.policy_grammar.specs.Lexemes.{lexeme_of}
 use Rattle.policy_grammar.specs.Raw.{Arg, Arg as arg, RawPattern, RawPattern as pattern, Step, Step as step, Item, Item as item}
 use Rattle.policy_rules.specs.Checks.{text}
 use Rattle.policy_values.specs.Built.{top}
-use Rattle.grammar_law.specs.Grammar.{IsName as IsNameToken, IsSet as IsSetOf, IsPattern as IsPatternOf, IsPredicate, IsFrom as IsFromOf, IsRanked as IsRankedOf, IsChoice, IsJoint, IsUnit, IsAtom, IsItem, IsPolicy}
+use Rattle.grammar_law.specs.Grammar.{IsName as IsNameToken, IsSet as IsSetOf, IsPattern as IsPatternOf, IsPredicate, IsFrom as IsFromOf, IsRanked as IsRankedOf, IsChoice}
+use Rattle.grammar_law.specs.Grammar.{IsJoint, IsUnit, IsAtom, IsItem, IsPolicy}
 use Rattle.grammar_law.proofs.Cuts.{cut-tokens}
 use Rattle.grammar_law.proofs.TextLaws.{one_policy}
 use Rattle.policy_meaning.specs.Senses.{Sense, set_of_names, location_named}

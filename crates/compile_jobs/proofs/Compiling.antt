@@ -22,7 +22,8 @@ pub only : (net : PlainNet) (policy : PlainPolicy) (e f : CompileRefusal) → Is
 only net policy e f left right = elim (one_refusal net policy e f left.0 right.0) [ inl m ↦ absurd (left.1 m) | inr rest ↦ elim rest [ inl m ↦ absurd (right.1 m) | inr same ↦ same ] ]
 
 -- what is compiled is refused for nothing
-pub never_refused : (net : PlainNet) (policy : PlainPolicy) (config : PlainConfig) (evidence : List PlainCaseEvidence) → IsCompiled net policy config evidence → (e : CompileRefusal) → IsRefusedFor net policy e → ⊥
+pub never_refused : (net : PlainNet) (policy : PlainPolicy) (config : PlainConfig) (evidence : List PlainCaseEvidence)
+    → IsCompiled net policy config evidence → (e : CompileRefusal) → IsRefusedFor net policy e → ⊥
 never_refused net policy config evidence compiled e applies = applies.1 (not_refused net policy config evidence e compiled.0 applies.0)
 
 -- a text of some kind
@@ -75,16 +76,18 @@ module _ (Writes : PlainConfig → List PlainCaseEvidence → List ℕ → Type 
   -- ---- one thing is said, where one text is written of what is compiled
 
   module _ (net : PlainNet) (policy : PlainPolicy)
-      (each : (config : PlainConfig) (evidence : List PlainCaseEvidence) → IsCompiled net policy config evidence → (one other : List ℕ) → Writes config evidence one → Writes config evidence other → one ≡ other) where
-    pub one_of_compiled : (one other : Said) → SaysOfCompiled Writes net policy one → SaysOfCompiled Writes net policy other → one ≡ other
-    one_of_compiled one other (inl a) (inl b) =
-        let pair = one_pair net policy a.0 b.0 a.1 b.1 a.3.0 b.3.0 in
-        let P : PlainConfig → Type 0 = λ x. Writes x b.1 b.2 in
-        let Q : List PlainCaseEvidence → Type 0 = λ x. Writes a.0 x b.2 in
-        a.5 ∙ ap text (each a.0 a.1 a.3 a.2 b.2 a.4 (subst Q (sym pair.0) (subst P (sym pair.1) b.4))) ∙ sym b.5
-    one_of_compiled one other (inl a) (inr b) = absurd (never_refused net policy a.0 a.1 a.3 b.0 b.1)
-    one_of_compiled one other (inr a) (inl b) = absurd (never_refused net policy b.0 b.1 b.3 a.0 a.1)
-    one_of_compiled one other (inr a) (inr b) = a.2 ∙ ap (λ f. line Refused (refusal_line net f)) (only net policy a.0 b.0 a.1 b.1) ∙ sym b.2
+      (each : (config : PlainConfig) (evidence : List PlainCaseEvidence) → IsCompiled net policy config evidence → (one other : List ℕ)
+      → Writes config evidence one → Writes config evidence other → one ≡ other)
+    where
+      pub one_of_compiled : (one other : Said) → SaysOfCompiled Writes net policy one → SaysOfCompiled Writes net policy other → one ≡ other
+      one_of_compiled one other (inl a) (inl b) =
+          let pair = one_pair net policy a.0 b.0 a.1 b.1 a.3.0 b.3.0 in
+          let P : PlainConfig → Type 0 = λ x. Writes x b.1 b.2 in
+          let Q : List PlainCaseEvidence → Type 0 = λ x. Writes a.0 x b.2 in
+          a.5 ∙ ap text (each a.0 a.1 a.3 a.2 b.2 a.4 (subst Q (sym pair.0) (subst P (sym pair.1) b.4))) ∙ sym b.5
+      one_of_compiled one other (inl a) (inr b) = absurd (never_refused net policy a.0 a.1 a.3 b.0 b.1)
+      one_of_compiled one other (inr a) (inl b) = absurd (never_refused net policy b.0 b.1 b.3 a.0 a.1)
+      one_of_compiled one other (inr a) (inr b) = a.2 ∙ ap (λ f. line Refused (refusal_line net f)) (only net policy a.0 b.0 a.1 b.1) ∙ sym b.2
 
 -- ---- of two texts
 

@@ -14,9 +14,11 @@ use Rattle.compile_jobs.specs.Sampled.{SaysOfNumber, WritesSummary}
 use Rattle.compile_jobs.proofs.Compiling.{AnyText, IsCompiler, any_text, compiled_form, one_of_compiled, refusal_said}
 
 -- what is given of the network and the policy of the sample is given of its number
-pub given_for : (n : ℕ) (net : PlainNet) (policy : PlainPolicy) → net ≡ sample_net n → policy ≡ sample_policy n → (what : Said) → IsGiven (SaysOfCompiled (WritesSummary n) net policy) what → IsGiven (SaysOfNumber n) what
+pub given_for : (n : ℕ) (net : PlainNet) (policy : PlainPolicy) → net ≡ sample_net n → policy ≡ sample_policy n → (what : Said)
+    → IsGiven (SaysOfCompiled (WritesSummary n) net policy) what → IsGiven (SaysOfNumber n) what
 given_for n net policy net_is policy_is what given =
-    subst (λ (x : PlainNet). IsGiven (SaysOfCompiled (WritesSummary n) x (sample_policy n)) what) net_is (subst (λ (p : PlainPolicy). IsGiven (SaysOfCompiled (WritesSummary n) net p) what) policy_is given)
+    subst (λ (x : PlainNet). IsGiven (SaysOfCompiled (WritesSummary n) x (sample_policy n)) what) net_is
+    (subst (λ (p : PlainPolicy). IsGiven (SaysOfCompiled (WritesSummary n) net p) what) policy_is given)
 
 -- these are the network and the policy of the sample
 abbrev pub AreSample : ℕ → PlainNet → PlainPolicy → Type 0

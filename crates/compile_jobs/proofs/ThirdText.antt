@@ -23,7 +23,8 @@ module _ {V F : Type 0} (told_by : F → List ℕ) (spelled_by : PlainNet → Li
     more_form : (more : List (List ℕ)) (net : PlainNet) (policy : PlainPolicy) (what : Said) → SaysOfMore told_by spelled_by Writes more net policy what → IsJobSaid Refuses Checks what
     more_form [] net policy what h = absurd h
     more_form (z ∷ []) net policy what h =
-        read_form told_by (spelled_by net z) (SaysOfValue told_by spelled_by Writes net policy) Refuses Checks (λ value. compiled_form (Writes net policy value) Refuses Checks refuses net policy) what h
+        read_form told_by (spelled_by net z) (SaysOfValue told_by spelled_by Writes net policy) Refuses Checks
+        (λ value. compiled_form (Writes net policy value) Refuses Checks refuses net policy) what h
     more_form (z ∷ w ∷ more) net policy what h = absurd h
 
   -- ---- one thing is said, where one text is written for a value
@@ -31,7 +32,8 @@ module _ {V F : Type 0} (told_by : F → List ℕ) (spelled_by : PlainNet → Li
   -- of what is compiled one text is written for each value that a text spells
   abbrev pub IsOneText : Type 0
   IsOneText = (net : PlainNet) (policy : PlainPolicy) → IsNet net → IsPolicyOf net policy → (third : List ℕ) (value : V) → spelled_by net third ≡ Ok value
-      → (config : PlainConfig) (evidence : List PlainCaseEvidence) → IsCompiled net policy config evidence → (one other : List ℕ) → Writes net policy value config evidence one → Writes net policy value config evidence other
+      → (config : PlainConfig) (evidence : List PlainCaseEvidence) → IsCompiled net policy config evidence → (one other : List ℕ)
+      → Writes net policy value config evidence one → Writes net policy value config evidence other
       → one ≡ other
 
   one_of_more : IsOneText → (more : List (List ℕ)) (net : PlainNet) (policy : PlainPolicy) → IsNet net → IsPolicyOf net policy → (one other : Said)

@@ -36,9 +36,12 @@ named_by net z name other h = by (site_of net z) h
     by (Some s) h = let one : s.name ≡ name = cc in ap (λ n. bytes_eq n other) one
 
 unnamed : (net : PlainNet) (z : ℕ) (name : List ℕ) → is_location net z ≡ false → is_named net name z ≡ false
-unnamed net z name unknown = ap (λ o. option_map_or (λ (s : Site). bytes_eq s.name name) o false) (slice_get_past (sites net) z (omega (arith, ltb-false _ _ unknown, length-append net.routers net.peers)))
+unnamed net z name unknown =
+    ap (λ o. option_map_or (λ (s : Site). bytes_eq s.name name) o false)
+    (slice_get_past (sites net) z (omega (arith, ltb-false _ _ unknown, length-append net.routers net.peers)))
 
-pub block_by_name : (net : PlainNet) (config : PlainConfig) (r z : ℕ) (c : RouterConfig) (name : List ℕ) → Some c ≡ router_at net config r → option_map (λ (s : Site). s.name) (site_of net z) ≡ Some name
+pub block_by_name : (net : PlainNet) (config : PlainConfig) (r z : ℕ) (c : RouterConfig) (name : List ℕ) → Some c ≡ router_at net config r
+    → option_map (λ (s : Site). s.name) (site_of net z) ≡ Some name
     → block_at net config r z ≡ find (is_it name (is_peer net z)) c.sessions
 block_by_name net config r z c name at named =
     rw (sym at) (find-same _ (is_it name (is_peer net z)) (λ b. of_kind _ _ b.peer (is_peer net z) (named_by net z name b.name named)) c.sessions)

@@ -27,7 +27,8 @@ use Rattle.config_lines.specs.declared.number.Figure.TheVariants.{LeadingZero, L
 use Rattle.config_lines.specs.declared.number.Setting.{Setting}
 use Rattle.config_lines.specs.Editions.{tag_text, fits_router, fits_peer}
 use Rattle.config_lines.specs.LineText.{line_text, IsLine, IsNumbered, next_pattern}
-use Rattle.config_lines.specs.Lines.{class_line, router_line, own_line, neighbour, session_line, peer_line, setting, tagged_line, untagged_line, import_line, export_line, end_line, form_line, words_line, pieces_line, line_of}
+use Rattle.config_lines.specs.Lines.{class_line, router_line, own_line, neighbour, session_line, peer_line, setting, tagged_line, untagged_line, import_line, export_line}
+use Rattle.config_lines.specs.Lines.{end_line, form_line, words_line, pieces_line, line_of}
 use Rattle.config_lines.specs.Numbers.{number_of, in_range, class_in, class_number, tag_in_range}
 use Rattle.config_lines.specs.Patterns.{pattern_of, later_patterns}
 use Rattle.config_lines.specs.Words.{is_word, name_of, identifier_of, as_prefix, tag_of}

@@ -18,7 +18,8 @@ use Rattle.config_lines.specs.declared.line.Line.{Line}
 use Rattle.config_lines.specs.declared.line.Line.TheVariants as line
 use Rattle.config_lines.specs.Editions.{tag_text, fits_router, fits_peer}
 use Rattle.config_lines.specs.LineText.{line_text, IsLine, next_pattern}
-use Rattle.config_lines.specs.Lines.{class_line, router_line, own_line, neighbour, session_line, peer_line, setting, tagged_line, untagged_line, import_line, export_line, end_line, form_line, words_line, pieces_line, line_of}
+use Rattle.config_lines.specs.Lines.{class_line, router_line, own_line, neighbour, session_line, peer_line, setting, tagged_line, untagged_line, import_line, export_line}
+use Rattle.config_lines.specs.Lines.{end_line, form_line, words_line, pieces_line, line_of}
 use Rattle.config_lines.proofs.Digits.{number_there}
 use Rattle.config_lines.proofs.JoinedLines.{router_joined, own_joined, session_joined, peer_joined, export_joined, tagged_joined, untagged_joined}
 use Rattle.config_lines.proofs.PartLaws.{class_there, name_there}

@@ -1,7 +1,23 @@
 //! Lines are read.
 ghost use Rattle.std.specs.Prelude.{◌≡◌, map, option_map};
 ghost use Rattle.net_base.specs.Gives.{GivesUnless};
-ghost use Rattle.config_lines.specs.Lines.{class_line, router_line, own_line, neighbour, session_line, peer_line, setting, tagged_line, untagged_line, import_line, export_line, end_line, form_line, words_line, line_of};
+ghost use Rattle.config_lines.specs.Lines.{
+  class_line,
+  router_line,
+  own_line,
+  neighbour,
+  session_line,
+  peer_line,
+  setting,
+  tagged_line,
+  untagged_line,
+  import_line,
+  export_line,
+  end_line,
+  form_line,
+  words_line,
+  line_of,
+};
 ghost use Rattle.config_lines.specs.Parts.{parts_left};
 
 use crate::cut::first_part;

@@ -12,7 +12,8 @@ use Rattle.config_base.specs.declared.config.Export.{Export}
 use Rattle.config_base.specs.declared.config.Origination.{Origination}
 use Rattle.evidence_base.specs.Made.{PlainCaseEvidence, number_at, tag_at, case_at, IsStep, IsExportTo, IsImportFrom, IsOriginationAt, AreTags}
 use Rattle.list_laws.specs.Members.{IsIn}
-use Rattle.list_laws.proofs.Members.{AllByRecursion-IsIn, IsIn-append_cases, IsIn-append_left, IsIn-append_right, IsIn-filter, IsIn-filter_parts, IsIn-flat_map, IsIn-flat_map_parts, IsIn-map, IsIn-map_parts}
+use Rattle.list_laws.proofs.Members.{AllByRecursion-IsIn, IsIn-append_cases, IsIn-append_left, IsIn-append_right, IsIn-filter, IsIn-filter_parts, IsIn-flat_map}
+use Rattle.list_laws.proofs.Members.{IsIn-flat_map_parts, IsIn-map, IsIn-map_parts}
 use Rattle.config_made.specs.declared.hop.Hop.{Hop}
 use Rattle.config_made.specs.declared.hop.Announced.{Announced}
 use Rattle.config_made.specs.Conditions.{IsSingle}

@@ -11,7 +11,8 @@ use Rattle.config_made.proofs.Ordered.{ordered}
 use Rattle.config_made.proofs.Settling.{announced_exact, announced_total, hop_exact, hop_total}
 use Rattle.config_made.proofs.Whole.{config_of_cases}
 
-pub configuration : (net : PlainNet) (policy : PlainPolicy) (cs : List PlainCaseEvidence) → IsNet net → AreGraphs cs → AreSingle net cs → AreTags net cs → (config : PlainConfig) × IsConfigOf net policy cs config
+pub configuration : (net : PlainNet) (policy : PlainPolicy) (cs : List PlainCaseEvidence) → IsNet net → AreGraphs cs → AreSingle net cs
+    → AreTags net cs → (config : PlainConfig) × IsConfigOf net policy cs config
 configuration net policy cs rules graphs single tags =
     let hops = ordered hop_total hop_exact (hops_from 1 cs) in
     let all = ordered announced_total announced_exact (announced_from 1 cs) in

@@ -79,7 +79,8 @@ module _ (net : PlainNet) (rules : IsNet net) (cs : List PlainCaseEvidence)
   own_ascend : (x : ℕ) → Ascend (map origination_key (map own_line (filter (stands x) all)))
   own_ascend x =
       subst Ascend (sym (map-map origination_key own_line (filter (stands x) all)))
-      (ascends (λ (a : Announced). record { first = a.class; second = a.prefix.bits; third = a.prefix.len }) (Stands x) announced_order (announced_up net cs graphs single tags x) (filter (stands x) all) (standing x)
+      (ascends (λ (a : Announced). record { first = a.class; second = a.prefix.bits; third = a.prefix.len }) (Stands x) announced_order
+      (announced_up net cs graphs single tags x) (filter (stands x) all) (standing x)
       (IsStrictlySortedBy-filter announced_order (stands x) all all_up))
 
   -- ---- the configuration of the cases

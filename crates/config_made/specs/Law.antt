@@ -13,8 +13,12 @@ CaseListsAreClasses = (net : PlainNet) (policy : PlainPolicy) → IsPolicy polic
 
 -- Two configurations that are made of the same cases are one.
 abbrev pub MadeConfigurationsAreOne : Type 0
-MadeConfigurationsAreOne = (net : PlainNet) (policy : PlainPolicy) (cs : List PlainCaseEvidence) (config other : PlainConfig) → IsConfigOf net policy cs config → IsConfigOf net policy cs other → config ≡ other
+MadeConfigurationsAreOne =
+    (net : PlainNet) (policy : PlainPolicy) (cs : List PlainCaseEvidence) (config other : PlainConfig) → IsConfigOf net policy cs config
+    → IsConfigOf net policy cs other → config ≡ other
 
 -- Of cases with such graphs, and with tags that differ, a configuration can be made.
 abbrev pub ConfigurationsCanBeMade : Type 0
-ConfigurationsCanBeMade = (net : PlainNet) (policy : PlainPolicy) (cs : List PlainCaseEvidence) → IsNet net → AreGraphs cs → AreSingle net cs → AreTags net cs → (config : PlainConfig) × IsConfigOf net policy cs config
+ConfigurationsCanBeMade =
+    (net : PlainNet) (policy : PlainPolicy) (cs : List PlainCaseEvidence) → IsNet net → AreGraphs cs → AreSingle net cs → AreTags net cs
+    → (config : PlainConfig) × IsConfigOf net policy cs config

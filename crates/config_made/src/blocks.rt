@@ -5,7 +5,15 @@ ghost use Rattle.net_base.specs.Network.{IsNet, is_location, is_router, linked};
 ghost use Rattle.net_base.specs.Sets.{holds};
 ghost use Rattle.net_base.specs.Locations.{neighbours};
 ghost use Rattle.config_made.specs.Hops.{stands, hop_order, announced_order, AreReached};
-ghost use Rattle.config_made.specs.Writing.{import_line, export_line, own_line, session_with as plain_session_with, session_of as plain_session_of, router_of as plain_router_of, routers_of as plain_routers_of};
+ghost use Rattle.config_made.specs.Writing.{
+  import_line,
+  export_line,
+  own_line,
+  session_with as plain_session_with,
+  session_of as plain_session_of,
+  router_of as plain_router_of,
+  routers_of as plain_routers_of,
+};
 
 use crate::find::{announced_at, first_from, first_places, next_hops};
 use crate::hop::{Announced, Hop};

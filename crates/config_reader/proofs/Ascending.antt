@@ -15,7 +15,9 @@ below_back a b h = by (nat_lt a.first b.first) (a.first == b.first) (nat_lt a.se
     by : (p q r s t : Bool) → nat_lt a.first b.first ≡ p → (a.first == b.first) ≡ q → nat_lt a.second b.second ≡ r → (a.second == b.second) ≡ s → nat_lt a.third b.third ≡ t
         → (p || (q && (r || (s && t)))) ≡ true → IsBelow a b
     by true q r s t ep eq er es et k = let low = ltb-true a.first b.first ep in (omega (arith, low), (λ e. absurd (omega (arith, low, e))))
-    by false true true s t ep eq er es et k = let same = eqb-true a.first b.first eq in let low = ltb-true a.second b.second er in (omega (arith, same), (λ _. (omega (arith, low), (λ e. absurd (omega (arith, low, e))))))
+    by false true true s t ep eq er es et k =
+        let same = eqb-true a.first b.first eq in let low = ltb-true a.second b.second er
+        in (omega (arith, same), (λ _. (omega (arith, low), (λ e. absurd (omega (arith, low, e))))))
     by false true false true true ep eq er es et k =
         let same = eqb-true a.first b.first eq in
         let alike = eqb-true a.second b.second es in
@@ -35,7 +37,8 @@ below_trans a b c x y = (
       thirds (x.1 ab) (y.1 bc)),
 )
   where
-    thirds : (a.second ≤ b.second) × (a.second ≡ b.second → a.third < b.third) → (b.second ≤ c.second) × (b.second ≡ c.second → b.third < c.third) → (a.second ≤ c.second) × (a.second ≡ c.second → a.third < c.third)
+    thirds : (a.second ≤ b.second) × (a.second ≡ b.second → a.third < b.third) → (b.second ≤ c.second) × (b.second ≡ c.second → b.third < c.third)
+        → (a.second ≤ c.second) × (a.second ≡ c.second → a.third < c.third)
     thirds u v = (
       omega (arith, u.0, v.0),
       (λ f.

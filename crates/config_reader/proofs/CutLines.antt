@@ -44,7 +44,8 @@ unfolding in_lines
 other_heading edition bytes line rest cut other =
     ap (in_lines edition) (split_there 10 bytes line rest cut) ∙ rw (ne_eqb (length (lines_of rest)) 0 (λ e. omega (arith, e, lines_of-some rest)), other) refl
 
-pub behind_first : (edition : Edition) (bytes line rest : List ℕ) → halves line rest ≡ cut_at 10 bytes → bytes_eq line (first_line edition) ≡ true → spelled_in edition bytes ≡ behind_heading edition (lines_of rest)
+pub behind_first : (edition : Edition) (bytes line rest : List ℕ) → halves line rest ≡ cut_at 10 bytes → bytes_eq line (first_line edition) ≡ true
+    → spelled_in edition bytes ≡ behind_heading edition (lines_of rest)
 unfolding in_lines
 behind_first edition bytes line rest cut same =
     ap (in_lines edition) (split_there 10 bytes line rest cut) ∙ rw (ne_eqb (length (lines_of rest)) 0 (λ e. omega (arith, e, lines_of-some rest)), same) refl

@@ -43,7 +43,8 @@ bytes_sound : (a b : List ℕ) → bytes_eq a b ≡ true → a ≡ b
 bytes_sound a b e = (bytes_eq-Decides a b).0 e
 
 -- names with one more, unless it is there
-pub names_more : (old new : List (List ℕ)) (name : List ℕ) (fresh : Bool) → fresh ≡ not (list_any (bytes_eq name) old) → (IsTrue fresh → new ≡ old ++ name ∷ []) → (fresh ≡ false → new ≡ old) → new ≡ insert_key bytes_eq old name
+pub names_more : (old new : List (List ℕ)) (name : List ℕ) (fresh : Bool) → fresh ≡ not (list_any (bytes_eq name) old)
+    → (IsTrue fresh → new ≡ old ++ name ∷ []) → (fresh ≡ false → new ≡ old) → new ≡ insert_key bytes_eq old name
 names_more old new name fresh is added kept = by fresh (list_any (bytes_eq name) old) refl refl
   where
     by : (f b : Bool) → fresh ≡ f → list_any (bytes_eq name) old ≡ b → new ≡ (if b then old else old ++ name ∷ [])
@@ -79,10 +80,13 @@ shuffle false false true false false z = refl
 shuffle false false false x y z = refl
 
 module _ (name : List ℕ) (asn id : ℕ) where
-  any_of_three : (all : List RouterConfig) → ((list_any (λ (r : RouterConfig). nat_eq asn r.asn) all || list_any (λ (r : RouterConfig). nat_eq id r.id) all) || list_any (λ (r : RouterConfig). bytes_eq name r.name) all) ≡ stood_before name asn id all
+  any_of_three : (all : List RouterConfig)
+      → ((list_any (λ (r : RouterConfig). nat_eq asn r.asn) all || list_any (λ (r : RouterConfig). nat_eq id r.id) all) || list_any (λ (r : RouterConfig). bytes_eq name r.name) all)
+      ≡ stood_before name asn id all
   any_of_three [] = refl
   any_of_three (r ∷ rs) =
-      shuffle (nat_eq asn r.asn) (nat_eq id r.id) (bytes_eq name r.name) (list_any (λ (r : RouterConfig). nat_eq asn r.asn) rs) (list_any (λ (r : RouterConfig). nat_eq id r.id) rs) (list_any (λ (r : RouterConfig). bytes_eq name r.name) rs)
+      shuffle (nat_eq asn r.asn) (nat_eq id r.id) (bytes_eq name r.name) (list_any (λ (r : RouterConfig). nat_eq asn r.asn) rs)
+      (list_any (λ (r : RouterConfig). nat_eq id r.id) rs) (list_any (λ (r : RouterConfig). bytes_eq name r.name) rs)
       ∙ rw (eqb_comm asn r.asn, eqb_comm id r.id, bytes_comm name r.name, any_of_three rs) refl
 
   pub known_like : (names : List (List ℕ)) (asns ids : List ℕ) (all : List RouterConfig) → AreKnown names asns ids all

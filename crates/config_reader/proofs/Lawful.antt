@@ -27,7 +27,8 @@ use Rattle.config_reader.specs.declared.reading.OpenRouter.{OpenRouter}
 use Rattle.config_reader.specs.declared.reading.Reading.{Reading}
 use Rattle.config_reader.specs.Reading.{after, closed, same_router, stood_before, same_kind}
 use Rattle.config_reader.proofs.Ascending.{ascend_push, distinct_push}
-use Rattle.config_reader.proofs.Steps.{class_ok, router_ok, own_ok, neighbour_ok, import_ok, export_ok, end_ok, new_router, with_open, router_with_own, new_session, with_session, with_block, session_with_import, session_with_export}
+use Rattle.config_reader.proofs.Steps.{class_ok, router_ok, own_ok, neighbour_ok, import_ok, export_ok, end_ok, new_router, with_open, router_with_own, new_session}
+use Rattle.config_reader.proofs.Steps.{with_session, with_block, session_with_import, session_with_export}
 
 -- a router's block that keeps the rules
 pub record IsGood (count : ℕ) (r : RouterConfig) : Type 0 where
@@ -61,7 +62,8 @@ unfolding IsDistinct
 no_routers count = record { good = tt; names = tt; asns = tt; ids = tt }
 
 -- the last router is another, with the same name and numbers
-replaced : (count : ℕ) (rs : List RouterConfig) (q p : RouterConfig) → AreRouters count (rs ++ q ∷ []) → q.name ≡ p.name → q.asn ≡ p.asn → q.id ≡ p.id → IsGood count p → AreRouters count (rs ++ p ∷ [])
+replaced : (count : ℕ) (rs : List RouterConfig) (q p : RouterConfig) → AreRouters count (rs ++ q ∷ []) → q.name ≡ p.name → q.asn ≡ p.asn → q.id ≡ p.id
+    → IsGood count p → AreRouters count (rs ++ p ∷ [])
 replaced count rs q p are en ea ei good =
     let parts = AllByRecursion-append_parts (IsGood count) rs (q ∷ []) are.good in
     record {
@@ -99,13 +101,16 @@ opened_as : (r s : Reading) (o q : OpenRouter) → IsReading r → r.opened ≡ 
     → (closed o.router o.block).name ≡ (closed q.router q.block).name → (closed o.router o.block).asn ≡ (closed q.router q.block).asn → (closed o.router o.block).id ≡ (closed q.router q.block).id
     → IsGood (length r.classes) (closed q.router q.block) → KnowsNames (Some q) → IsReading s
 opened_as r s o q is at made en ea ei good known =
-    let before : AreRouters (length r.classes) (r.routers ++ closed o.router o.block ∷ []) = subst (λ (x : Option OpenRouter). AreRouters (length r.classes) (r.routers ++ open_routers x)) at is.routers in
-    subst IsReading made (record { filled = is.filled; are = is.are; routers = replaced (length r.classes) r.routers (closed o.router o.block) (closed q.router q.block) before en ea ei good; known = known })
+    let before : AreRouters (length r.classes) (r.routers ++ closed o.router o.block ∷ []) =
+    subst (λ (x : Option OpenRouter). AreRouters (length r.classes) (r.routers ++ open_routers x)) at is.routers in
+    subst IsReading made
+    (record { filled = is.filled; are = is.are; routers = replaced (length r.classes) r.routers (closed o.router o.block) (closed q.router q.block) before en ea ei good; known = known })
 
 -- the open router as it is
 pub open_good : (r : Reading) (o : OpenRouter) → IsReading r → r.opened ≡ Some o → IsGood (length r.classes) (closed o.router o.block) × KnowsNames (Some o)
 open_good r o is at =
-    let before : AreRouters (length r.classes) (r.routers ++ closed o.router o.block ∷ []) = subst (λ (x : Option OpenRouter). AreRouters (length r.classes) (r.routers ++ open_routers x)) at is.routers in
+    let before : AreRouters (length r.classes) (r.routers ++ closed o.router o.block ∷ []) =
+    subst (λ (x : Option OpenRouter). AreRouters (length r.classes) (r.routers ++ open_routers x)) at is.routers in
     ((AllByRecursion-append_parts (IsGood (length r.classes)) r.routers (closed o.router o.block ∷ []) before.good).1.0, subst KnowsNames at is.known)
 
 -- ---- each line
@@ -165,7 +170,9 @@ own_keeps r s own is l h =
     } in
     let parts : HasLawfulParts q.router = record { name = good.parts.name; prefixes = AllByRecursion-push HasPrefix o.router.own own good.parts.prefixes l.1; names = good.parts.names } in
     opened_as r s o q is k.1 k.3
-    (ap (λ (x : RouterConfig). x.name) (shut ∙ refl) ∙ sym (ap (λ (x : RouterConfig). x.name) shut_q)) (ap (λ (x : RouterConfig). x.asn) shut ∙ sym (ap (λ (x : RouterConfig). x.asn) shut_q)) (ap (λ (x : RouterConfig). x.id) shut ∙ sym (ap (λ (x : RouterConfig). x.id) shut_q))
+    (ap (λ (x : RouterConfig). x.name) (shut ∙ refl) ∙ sym (ap (λ (x : RouterConfig). x.name) shut_q))
+    (ap (λ (x : RouterConfig). x.asn) shut ∙ sym (ap (λ (x : RouterConfig). x.asn) shut_q))
+    (ap (λ (x : RouterConfig). x.id) shut ∙ sym (ap (λ (x : RouterConfig). x.id) shut_q))
     (subst (IsGood (length r.classes)) (sym shut_q) (record { rules = rules; parts = parts }))
     (now.1.0 ∙ ap (λ (x : RouterConfig). map (λ (s : Session). s.name) x.sessions) shut ∙ sym (ap (λ (x : RouterConfig). map (λ (s : Session). s.name) x.sessions) shut_q), now.1.1)
 
@@ -193,7 +200,9 @@ neighbour_keeps peer r s name asn is named number o at unlike made =
       sessions = AllByRecursion-push (IsSession (length r.classes)) p.sessions new now.0.rules.sessions session;
       names = distinct_push bytes_eq (λ (s : Session). s.name) p.sessions new each now.0.rules.names;
     } in
-    let parts : HasLawfulParts (with_sessions p (p.sessions ++ new ∷ [])) = record { name = now.0.parts.name; prefixes = now.0.parts.prefixes; names = AllByRecursion-push IsNamed p.sessions new now.0.parts.names named } in
+    let parts : HasLawfulParts (with_sessions p (p.sessions ++ new ∷ [])) =
+    record { name = now.0.parts.name; prefixes = now.0.parts.prefixes; names = AllByRecursion-push IsNamed p.sessions new now.0.parts.names named }
+    in
     opened_as r s o (with_session o peer name asn) is at made refl refl refl (record { rules = rules; parts = parts })
     (ap (λ (ns : List (List ℕ)). ns ++ name ∷ []) now.1.0 ∙ sym (map-append (λ (s : Session). s.name) p.sessions (new ∷ [])), (λ e. absurd (some_not_none e)))
   where
@@ -217,7 +226,9 @@ block_as r s o b c is at held made same keeps =
     let sessions = AllByRecursion-append_parts (IsSession (length r.classes)) o.router.sessions (b ∷ []) good.rules.sessions in
     let names = AllByRecursion-append_parts IsNamed o.router.sessions (b ∷ []) good.parts.names in
     let alike : map (λ (s : Session). s.name) (o.router.sessions ++ b ∷ []) ≡ map (λ (s : Session). s.name) (o.router.sessions ++ c ∷ []) =
-    map-append (λ (s : Session). s.name) o.router.sessions (b ∷ []) ∙ ap (λ (n : List ℕ). map (λ (s : Session). s.name) o.router.sessions ++ n ∷ []) same ∙ sym (map-append (λ (s : Session). s.name) o.router.sessions (c ∷ [])) in
+    map-append (λ (s : Session). s.name) o.router.sessions (b ∷ [])
+    ∙ ap (λ (n : List ℕ). map (λ (s : Session). s.name) o.router.sessions ++ n ∷ []) same
+    ∙ sym (map-append (λ (s : Session). s.name) o.router.sessions (c ∷ [])) in
     let rules : IsRouter (length r.classes) (with_sessions o.router (o.router.sessions ++ c ∷ [])) = record {
       number = good.rules.number;
       identifier = good.rules.identifier;
@@ -227,7 +238,8 @@ block_as r s o b c is at held made same keeps =
       names = subst (IsDistinct bytes_eq) alike good.rules.names;
     } in
     let named : IsTrue (is_name c.name) = subst (λ (n : List ℕ). IsTrue (is_name n)) same names.1.0 in
-    let parts : HasLawfulParts (with_sessions o.router (o.router.sessions ++ c ∷ [])) = record { name = good.parts.name; prefixes = good.parts.prefixes; names = AllByRecursion-push IsNamed o.router.sessions c names.0 named } in
+    let parts : HasLawfulParts (with_sessions o.router (o.router.sessions ++ c ∷ [])) =
+    record { name = good.parts.name; prefixes = good.parts.prefixes; names = AllByRecursion-push IsNamed o.router.sessions c names.0 named } in
     opened_as r s o (with_block o c) is at made
     (ap (λ (x : RouterConfig). x.name) shut) (ap (λ (x : RouterConfig). x.asn) shut) (ap (λ (x : RouterConfig). x.id) shut)
     (record { rules = rules; parts = parts })
@@ -239,8 +251,10 @@ kind_same true false h = absurd cc
 kind_same false true h = absurd cc
 kind_same false false h = refl
 
-import_keeps : (peer : Bool) (r s : Reading) (rule : Import) → IsReading r → MatchBool peer (rule.tag ≡ no_tag) (IsTrue (is_tag rule.tag)) → IsClass (length r.classes) rule.class → IsTrue (is_tag rule.set) → rule.pref < 2 ^ 32
-    → (o : OpenRouter) (b : Session) → r.opened ≡ Some o → o.block ≡ Some b → same_kind b.peer peer ≡ true → ascends import_key b.imports (import_key rule) ≡ true → with_open r (with_block o (session_with_import b rule)) ≡ s → IsReading s
+import_keeps : (peer : Bool) (r s : Reading) (rule : Import) → IsReading r → MatchBool peer (rule.tag ≡ no_tag) (IsTrue (is_tag rule.tag))
+    → IsClass (length r.classes) rule.class → IsTrue (is_tag rule.set) → rule.pref < 2 ^ 32
+    → (o : OpenRouter) (b : Session) → r.opened ≡ Some o → o.block ≡ Some b → same_kind b.peer peer ≡ true
+    → ascends import_key b.imports (import_key rule) ≡ true → with_open r (with_block o (session_with_import b rule)) ≡ s → IsReading s
 import_keeps peer r s rule is tagged class set pref o b at held kind up made =
     let tag : HasTag b rule.tag = subst (λ (p : Bool). MatchBool p (rule.tag ≡ no_tag) (IsTrue (is_tag rule.tag))) (sym (kind_same b.peer peer kind)) tagged in
     block_as r s o b (session_with_import b rule) is at held made refl (λ (k : IsSession (length r.classes) b). record {
@@ -252,7 +266,8 @@ import_keeps peer r s rule is tagged class set pref o b at held kind up made =
     })
 
 export_keeps : (r s : Reading) (export : Export) → IsReading r → IsExport (length r.classes) export
-    → (o : OpenRouter) (b : Session) → r.opened ≡ Some o → o.block ≡ Some b → ascends export_key b.exports (export_key export) ≡ true → with_open r (with_block o (session_with_export b export)) ≡ s → IsReading s
+    → (o : OpenRouter) (b : Session) → r.opened ≡ Some o → o.block ≡ Some b → ascends export_key b.exports (export_key export) ≡ true
+    → with_open r (with_block o (session_with_export b export)) ≡ s → IsReading s
 export_keeps r s export is l o b at held up made =
     block_as r s o b (session_with_export b export) is at held made refl (λ (k : IsSession (length r.classes) b). record {
       number = k.number;
@@ -266,7 +281,8 @@ end_keeps : (r s : Reading) → IsReading r → after r line.End ≡ Ok s → Is
 end_keeps r s is h =
     let k = end_ok r s h in
     let o : OpenRouter = k.0 in
-    let before : AreRouters (length r.classes) (r.routers ++ closed o.router o.block ∷ []) = subst (λ (x : Option OpenRouter). AreRouters (length r.classes) (r.routers ++ open_routers x)) k.1 is.routers in
+    let before : AreRouters (length r.classes) (r.routers ++ closed o.router o.block ∷ []) =
+    subst (λ (x : Option OpenRouter). AreRouters (length r.classes) (r.routers ++ open_routers x)) k.1 is.routers in
     subst IsReading k.2 (record { filled = is.filled; are = is.are; routers = subst (AreRouters (length r.classes)) (sym (append-nil (r.routers ++ closed o.router o.block ∷ []))) before; known = tt })
 
 -- what was read keeps the rules with a line more that keeps its own
@@ -276,8 +292,12 @@ after_keeps r s (line.Router name asn id) is l h = router_keeps r s name asn id 
 after_keeps r s (line.Origination own) is l h = own_keeps r s own is l h
 after_keeps r s (line.Session name asn) is l h = let k = neighbour_ok false r s name asn h in neighbour_keeps false r s name asn is l.0 l.1 k.0 k.1 k.2 k.3
 after_keeps r s (line.Peer name asn) is l h = let k = neighbour_ok true r s name asn h in neighbour_keeps true r s name asn is l.0 l.1 k.0 k.1 k.2 k.3
-after_keeps r s (line.Import rule) is l h = let k = import_ok false r s rule h in import_keeps false r s rule is l.0 l.1.0 l.1.1 l.1.2 k.0 k.1 k.2 k.3 (and_parts (same_kind k.1.peer false) _ k.4).0 k.5 k.6
-after_keeps r s (line.PeerImport rule) is l h = let k = import_ok true r s rule h in import_keeps true r s rule is l.0 l.1.0 l.1.1 l.1.2 k.0 k.1 k.2 k.3 (and_parts (same_kind k.1.peer true) _ k.4).0 k.5 k.6
+after_keeps r s (line.Import rule) is l h =
+    let k = import_ok false r s rule h in import_keeps false r s rule is l.0 l.1.0 l.1.1 l.1.2 k.0 k.1 k.2 k.3
+    (and_parts (same_kind k.1.peer false) _ k.4).0 k.5 k.6
+after_keeps r s (line.PeerImport rule) is l h =
+    let k = import_ok true r s rule h in import_keeps true r s rule is l.0 l.1.0 l.1.1 l.1.2 k.0 k.1 k.2 k.3
+    (and_parts (same_kind k.1.peer true) _ k.4).0 k.5 k.6
 after_keeps r s (line.Export export) is l h = let k = export_ok r s export h in export_keeps r s export is l k.0 k.1 k.2 k.3 k.4 k.5
 after_keeps r s line.End is l h = end_keeps r s is h
 

@@ -105,7 +105,8 @@ lines_back edition n r s (t ∷ ts) is h =
       few = omega (arith, rest.few, count.1);
     }
 
-pub finished_ok : (r : Reading) (rest : List ℕ) (c : PlainConfig) → finished r rest ≡ Ok c → (r.opened ≡ None) × (rest ≡ []) × ((let d : PlainConfig = record { classes = r.classes; routers = r.routers } in d) ≡ c)
+pub finished_ok : (r : Reading) (rest : List ℕ) (c : PlainConfig) → finished r rest ≡ Ok c
+    → (r.opened ≡ None) × (rest ≡ []) × ((let d : PlainConfig = record { classes = r.classes; routers = r.routers } in d) ≡ c)
 unfolding finished
 finished_ok r rest c h =
     let a = bind_ok (unless fault.Unfinished (is_none r.opened && length rest == 0)) _ c h in
@@ -146,12 +147,14 @@ behind_text edition more c some b =
     let feeds : List (List ℕ) → List ℕ = flat_map (λ (t : List ℕ). t ++ 10 ∷ []) in
     ap (λ (x : List (List ℕ)). join_with_byte 10 (first_line edition ∷ x)) split
     ∙ join_front (first_line edition) [] ts
-    ∙ ap (λ (x : List ℕ). first_line edition ++ (10 ∷ x)) (fed_lines ts ∙ ap feeds (sym b.read.written) ∙ sym (fed_texts (line_text edition) b.read.ls) ∙ ap (flat_map (fed edition)) (behind_lines edition more c b))
+    ∙ ap (λ (x : List ℕ). first_line edition ++ (10 ∷ x))
+    (fed_lines ts ∙ ap feeds (sym b.read.written) ∙ sym (fed_texts (line_text edition) b.read.ls) ∙ ap (flat_map (fed edition)) (behind_lines edition more c b))
     ∙ sym (append_assoc (first_line edition) (10 ∷ []) (flat_map (fed edition) (lines d)))
     ∙ sym (text_of_lines edition d)
     ∙ ap (text_in edition) b.made
 
-pub behind_lawful : (edition : Edition) (more : List (List ℕ)) (s : Reading) → length more < 4294967295 → with_lines edition 2 opening (whole_lines more) ≡ Ok s → s.opened ≡ None → IsLawful (record { classes = s.classes; routers = s.routers })
+pub behind_lawful : (edition : Edition) (more : List (List ℕ)) (s : Reading) → length more < 4294967295
+    → with_lines edition 2 opening (whole_lines more) ≡ Ok s → s.opened ≡ None → IsLawful (record { classes = s.classes; routers = s.routers })
 behind_lawful edition more s short h none =
     let read = lines_back edition 2 opening s (whole_lines more) opening_keeps h in
     let long : length (whole_lines more) ≡ min (length more - 1) (length more) = length-take (length more - 1) more in
@@ -192,6 +195,7 @@ read_is_spelled edition bytes c short h = by (lines_of bytes) refl h
         record { lawful = back.1; fits = back.2; written = sym (join_with_byte-slice_split 10 bytes) ∙ ap (join_with_byte 10) e ∙ back.0 }
 
 -- what comes back is spelled so
-pub what_is_read : (edition : Edition) (bytes : List ℕ) (r : Result PlainConfig ConfigFault) → length bytes < 4294967295 → GivesUnless fault.NoMemory (λ c. c) r (spelled_in edition bytes) → IfOk r (λ c. SpellsIn edition bytes c)
+pub what_is_read : (edition : Edition) (bytes : List ℕ) (r : Result PlainConfig ConfigFault) → length bytes < 4294967295
+    → GivesUnless fault.NoMemory (λ c. c) r (spelled_in edition bytes) → IfOk r (λ c. SpellsIn edition bytes c)
 what_is_read edition bytes (Ok c) short h = read_is_spelled edition bytes c short h
 what_is_read edition bytes (Err e) short h = tt

@@ -1,5 +1,6 @@
 -- The lines of a configuration are taken one after another.
-use Rattle.std.proofs.Common.{◌≡◌, ℕ, ◌+◌, ◌<◌, ◌≤◌, List, [], ◌∷◌, ◌++◌, length, map, Bool, true, false, Option, Some, None, Result, Ok, refl, sym, ◌∙◌, ap, subst, arith, inl, inr, append-nil, append_assoc, length-append}
+use Rattle.std.proofs.Common.{◌≡◌, ℕ, ◌+◌, ◌<◌, ◌≤◌, List, [], ◌∷◌, ◌++◌, length, map, Bool, true, false, Option, Some, None, Result, Ok, refl, sym, ◌∙◌, ap, subst, arith}
+use Rattle.std.proofs.Common.{inl, inr, append-nil, append_assoc, length-append}
 use Rattle.std.specs.Prelude.{◌&&◌, ◌||◌, ◌==◌, nat_eq, nat_lt, if◌then◌else◌}
 use Rattle.std.specs.List.{list_any, flat_map, AllByRecursion, IsDistinct}
 use Rattle.std.specs.Option.{option_map}
@@ -23,7 +24,8 @@ use Rattle.config_reader.specs.Order.{is_below, is_above, ascends, import_key, e
 use Rattle.config_reader.specs.declared.reading.OpenRouter.{OpenRouter}
 use Rattle.config_reader.specs.declared.reading.Reading.{Reading}
 use Rattle.config_reader.specs.declared.reading.Misplaced.{Misplaced}
-use Rattle.config_reader.specs.Reading.{after, with_class, with_router, with_own, own_into, with_neighbour, neighbour_into, with_import, import_in_block, import_into, with_export, export_in_block, export_into, with_end, closed, stood_before}
+use Rattle.config_reader.specs.Reading.{after, with_class, with_router, with_own, own_into, with_neighbour, neighbour_into, with_import, import_in_block, import_into}
+use Rattle.config_reader.specs.Reading.{with_export, export_in_block, export_into, with_end, closed, stood_before}
 use Rattle.line_laws.proofs.Runs.{run as run_by, run_step, run_append}
 use Rattle.config_reader.proofs.Ascending.{last_later}
 use Rattle.config_reader.proofs.Steps.{with_block}
@@ -101,7 +103,8 @@ module _ (cs : List (List PlainPattern)) (rs : List RouterConfig) where
   head_step o s fresh = by s.peer
     where
       by : (b : Bool) → after (at cs rs (Some o)) (if b then line.Peer s.name s.asn else line.Session s.name s.asn)
-          ≡ Ok (at cs rs (Some (record { router = closed o.router o.block; names = o.names ++ s.name ∷ []; block = Some (record { name = s.name; asn = s.asn; peer = b; imports = []; exports = [] }) })))
+          ≡ Ok (at cs rs
+          (Some (record { router = closed o.router o.block; names = o.names ++ s.name ∷ []; block = Some (record { name = s.name; asn = s.asn; peer = b; imports = []; exports = [] }) })))
       by true = rw fresh refl
       by false = rw fresh refl
 
@@ -119,13 +122,15 @@ module _ (cs : List (List PlainPattern)) (rs : List RouterConfig) where
   unfolding with_export export_in_block export_into
   export_step o s imports done x up = rw up refl
 
-  run_session : (count : ℕ) (o : OpenRouter) (s : Session) → list_any (bytes_eq s.name) o.names ≡ false → IsSession count s → run (at cs rs (Some o)) (lines_of_session s) ≡ Ok (at cs rs (Some (ended o s)))
+  run_session : (count : ℕ) (o : OpenRouter) (s : Session) → list_any (bytes_eq s.name) o.names ≡ false → IsSession count s
+      → run (at cs rs (Some o)) (lines_of_session s) ≡ Ok (at cs rs (Some (ended o s)))
   run_session count o s fresh is =
       let imported : Reading = at cs rs (Some (with_block (begun o s) (block_of s s.imports []))) in
       run_step after (at cs rs (Some o)) (at cs rs (Some (begun o s))) (at cs rs (Some (ended o s))) (head_of s) (map (import_of s.peer) s.imports ++ map line.Export s.exports) (head_step o s fresh)
       (run_append after (at cs rs (Some (begun o s))) imported (at cs rs (Some (ended o s))) (map (import_of s.peer) s.imports) (map line.Export s.exports)
       (run_each (import_of s.peer) import_key (λ (done : List Import). at cs rs (Some (with_block (begun o s) (block_of s done [])))) (import_step (begun o s) s) [] s.imports is.import_order)
-      (run_each line.Export export_key (λ (done : List Export). at cs rs (Some (with_block (begun o s) (block_of s s.imports done)))) (export_step (begun o s) s s.imports) [] s.exports is.export_order))
+      (run_each line.Export export_key (λ (done : List Export). at cs rs (Some (with_block (begun o s) (block_of s s.imports done))))
+      (export_step (begun o s) s s.imports) [] s.exports is.export_order))
 
   abbrev with_sessions : RouterConfig → List Session → RouterConfig
   with_sessions r ss = record { name = r.name; asn = r.asn; id = r.id; own = r.own; sessions = ss }
@@ -139,7 +144,8 @@ module _ (cs : List (List PlainPattern)) (rs : List RouterConfig) where
     ran : run (at cs rs (Some o)) (flat_map lines_of_session ss) ≡ Ok (at cs rs (Some q))
     made : closed q.router q.block ≡ with_sessions (closed o.router o.block) ((closed o.router o.block).sessions ++ ss)
 
-  run_sessions : (count : ℕ) (o : OpenRouter) (ss : List Session) → o.names ≡ names_of (closed o.router o.block).sessions → IsDistinct bytes_eq (names_of ((closed o.router o.block).sessions ++ ss)) → AllByRecursion (IsSession count) ss → Ran o ss
+  run_sessions : (count : ℕ) (o : OpenRouter) (ss : List Session) → o.names ≡ names_of (closed o.router o.block).sessions
+      → IsDistinct bytes_eq (names_of ((closed o.router o.block).sessions ++ ss)) → AllByRecursion (IsSession count) ss → Ran o ss
   run_sessions count o [] known apart all =
       let p : RouterConfig = closed o.router o.block in
       record { q = o; ran = refl; made = ap (with_sessions p) (sym (append-nil p.sessions)) }
@@ -147,12 +153,16 @@ module _ (cs : List (List PlainPattern)) (rs : List RouterConfig) where
       let p : RouterConfig = closed o.router o.block in
       let named : IsDistinct bytes_eq (names_of p.sessions ++ s.name ∷ names_of ss) = subst (IsDistinct bytes_eq) (map-append (λ (s : Session). s.name) p.sessions (s ∷ ss)) apart in
       let fresh : list_any (bytes_eq s.name) o.names ≡ false = ap (list_any (bytes_eq s.name)) known ∙ others_before bytes_eq bytes_eq_apart (names_of p.sessions) s.name (names_of ss) named in
-      let next_names : o.names ++ s.name ∷ [] ≡ names_of (p.sessions ++ s ∷ []) = ap (λ (ns : List (List ℕ)). ns ++ s.name ∷ []) known ∙ sym (map-append (λ (s : Session). s.name) p.sessions (s ∷ [])) in
-      let next_apart : IsDistinct bytes_eq (names_of ((p.sessions ++ s ∷ []) ++ ss)) = subst (λ (l : List Session). IsDistinct bytes_eq (names_of l)) (sym (append_assoc p.sessions (s ∷ []) ss)) apart in
+      let next_names : o.names ++ s.name ∷ [] ≡ names_of (p.sessions ++ s ∷ []) =
+      ap (λ (ns : List (List ℕ)). ns ++ s.name ∷ []) known ∙ sym (map-append (λ (s : Session). s.name) p.sessions (s ∷ [])) in
+      let next_apart : IsDistinct bytes_eq (names_of ((p.sessions ++ s ∷ []) ++ ss)) =
+      subst (λ (l : List Session). IsDistinct bytes_eq (names_of l)) (sym (append_assoc p.sessions (s ∷ []) ss)) apart in
       let rest = run_sessions count (ended o s) ss next_names next_apart all.1 in
       record {
         q = rest.q;
-        ran = run_append after (at cs rs (Some o)) (at cs rs (Some (ended o s))) (at cs rs (Some rest.q)) (lines_of_session s) (flat_map lines_of_session ss) (run_session count o s fresh all.0) rest.ran;
+        ran =
+            run_append after (at cs rs (Some o)) (at cs rs (Some (ended o s))) (at cs rs (Some rest.q)) (lines_of_session s)
+            (flat_map lines_of_session ss) (run_session count o s fresh all.0) rest.ran;
         made = rest.made ∙ ap (with_sessions p) (append_assoc p.sessions (s ∷ []) ss);
       }
 
@@ -165,7 +175,8 @@ module _ (cs : List (List PlainPattern)) (rs : List RouterConfig) where
   unfolding with_router
   router_step r fresh = rw fresh refl
 
-  own_step : (r : RouterConfig) (done : List Origination) (x : Origination) → ascends origination_key done (origination_key x) ≡ true → after (at cs rs (Some (headed r done))) (line.Origination x) ≡ Ok (at cs rs (Some (headed r (done ++ x ∷ []))))
+  own_step : (r : RouterConfig) (done : List Origination) (x : Origination) → ascends origination_key done (origination_key x) ≡ true
+      → after (at cs rs (Some (headed r done))) (line.Origination x) ≡ Ok (at cs rs (Some (headed r (done ++ x ∷ []))))
   unfolding with_own own_into
   own_step r done x up = rw up refl
 
@@ -179,14 +190,16 @@ module _ (cs : List (List PlainPattern)) (rs : List RouterConfig) where
       let b = run_sessions count o r.sessions refl is.names is.sessions in
       let whole : closed b.q.router b.q.block ≡ r = b.made in
       run_append after (at cs rs None) (at cs rs (Some b.q)) (at cs (rs ++ r ∷ []) None) (lines_before_end r) (line.End ∷ [])
-      (run_step after (at cs rs None) (at cs rs (Some (headed r []))) (at cs rs (Some b.q)) (line.Router r.name r.asn r.id) (map line.Origination r.own ++ flat_map lines_of_session r.sessions) (router_step r fresh)
+      (run_step after (at cs rs None) (at cs rs (Some (headed r []))) (at cs rs (Some b.q)) (line.Router r.name r.asn r.id)
+      (map line.Origination r.own ++ flat_map lines_of_session r.sessions) (router_step r fresh)
       (run_append after (at cs rs (Some (headed r []))) (at cs rs (Some o)) (at cs rs (Some b.q)) (map line.Origination r.own) (flat_map lines_of_session r.sessions)
       (run_each line.Origination origination_key (λ (done : List Origination). at cs rs (Some (headed r done))) (own_step r) [] r.own is.own_order) b.ran))
       (run_step after (at cs rs (Some b.q)) (at cs (rs ++ closed b.q.router b.q.block ∷ []) None) (at cs (rs ++ r ∷ []) None) line.End [] (end_step b.q)
       (ap (λ (x : RouterConfig). let q : Result Reading Misplaced = Ok (at cs (rs ++ x ∷ []) None) in q) whole))
 
 -- none is like it
-unlike : (name : List ℕ) (asn id : ℕ) (rs : List RouterConfig) → list_any (bytes_eq name) (map (λ (r : RouterConfig). r.name) rs) ≡ false → list_any (nat_eq asn) (map (λ (r : RouterConfig). r.asn) rs) ≡ false → list_any (nat_eq id) (map (λ (r : RouterConfig). r.id) rs) ≡ false
+unlike : (name : List ℕ) (asn id : ℕ) (rs : List RouterConfig) → list_any (bytes_eq name) (map (λ (r : RouterConfig). r.name) rs) ≡ false
+    → list_any (nat_eq asn) (map (λ (r : RouterConfig). r.asn) rs) ≡ false → list_any (nat_eq id) (map (λ (r : RouterConfig). r.id) rs) ≡ false
     → stood_before name asn id rs ≡ false
 unlike name asn id [] a b c = refl
 unlike name asn id (r ∷ rs) a b c =
@@ -206,13 +219,18 @@ pub record AreApart (rs : List RouterConfig) : Type 0 where
   pub asns : IsDistinct nat_eq (map (λ (r : RouterConfig). r.asn) rs)
   pub ids : IsDistinct nat_eq (map (λ (r : RouterConfig). r.id) rs)
 
-pub run_routers : (count : ℕ) (cs : List (List PlainPattern)) (done rs : List RouterConfig) → AreApart (done ++ rs) → AllByRecursion (IsRouter count) rs → run (at cs done None) (flat_map lines_of_router rs) ≡ Ok (at cs (done ++ rs) None)
+pub run_routers : (count : ℕ) (cs : List (List PlainPattern)) (done rs : List RouterConfig) → AreApart (done ++ rs)
+    → AllByRecursion (IsRouter count) rs → run (at cs done None) (flat_map lines_of_router rs) ≡ Ok (at cs (done ++ rs) None)
 run_routers count cs done [] apart all = ap (λ (x : List RouterConfig). let q : Result Reading Misplaced = Ok (at cs x None) in q) (sym (append-nil done))
 run_routers count cs done (r ∷ rs) apart all =
     let fresh : stood_before r.name r.asn r.id done ≡ false = unlike r.name r.asn r.id done
-    (others_before bytes_eq bytes_eq_apart (map (λ (r : RouterConfig). r.name) done) r.name (map (λ (r : RouterConfig). r.name) rs) (subst (IsDistinct bytes_eq) (map-append (λ (r : RouterConfig). r.name) done (r ∷ rs)) apart.names))
-    (others_before nat_eq nat_eq_apart (map (λ (r : RouterConfig). r.asn) done) r.asn (map (λ (r : RouterConfig). r.asn) rs) (subst (IsDistinct nat_eq) (map-append (λ (r : RouterConfig). r.asn) done (r ∷ rs)) apart.asns))
-    (others_before nat_eq nat_eq_apart (map (λ (r : RouterConfig). r.id) done) r.id (map (λ (r : RouterConfig). r.id) rs) (subst (IsDistinct nat_eq) (map-append (λ (r : RouterConfig). r.id) done (r ∷ rs)) apart.ids)) in
+    (others_before bytes_eq bytes_eq_apart (map (λ (r : RouterConfig). r.name) done) r.name (map (λ (r : RouterConfig). r.name) rs)
+    (subst (IsDistinct bytes_eq) (map-append (λ (r : RouterConfig). r.name) done (r ∷ rs)) apart.names))
+    (others_before nat_eq nat_eq_apart (map (λ (r : RouterConfig). r.asn) done) r.asn (map (λ (r : RouterConfig). r.asn) rs)
+    (subst (IsDistinct nat_eq) (map-append (λ (r : RouterConfig). r.asn) done (r ∷ rs)) apart.asns))
+    (others_before nat_eq nat_eq_apart (map (λ (r : RouterConfig). r.id) done) r.id (map (λ (r : RouterConfig). r.id) rs)
+    (subst (IsDistinct nat_eq) (map-append (λ (r : RouterConfig). r.id) done (r ∷ rs)) apart.ids))
+    in
     let later : AreApart ((done ++ r ∷ []) ++ rs) = subst AreApart (sym (append_assoc done (r ∷ []) rs)) apart in
     run_append after (at cs done None) (at cs (done ++ r ∷ []) None) (at cs (done ++ r ∷ rs) None) (lines_of_router r) (flat_map lines_of_router rs) (run_router cs done count r fresh all.0)
     (run_routers count cs (done ++ r ∷ []) rs later all.1 ∙ ap (λ (x : List RouterConfig). let q : Result Reading Misplaced = Ok (at cs x None) in q) (append_assoc done (r ∷ []) rs))

@@ -19,7 +19,8 @@ use Rattle.config_reader.specs.declared.reading.OpenRouter.{OpenRouter}
 use Rattle.config_reader.specs.declared.reading.Reading.{Reading}
 use Rattle.config_reader.specs.Reading.{after, closed, is_next, same_kind}
 use Rattle.config_reader.proofs.Lawful.{IsReading, open_good, kind_same}
-use Rattle.config_reader.proofs.Steps.{class_ok, router_ok, own_ok, neighbour_ok, import_ok, export_ok, end_ok, with_open, router_with_own, new_session, with_session, with_block, session_with_import, session_with_export}
+use Rattle.config_reader.proofs.Steps.{class_ok, router_ok, own_ok, neighbour_ok, import_ok, export_ok, end_ok, with_open, router_with_own, new_session, with_session}
+use Rattle.config_reader.proofs.Steps.{with_block, session_with_import, session_with_export}
 
 -- those of the open router, without its end
 abbrev pub open_lines : Option OpenRouter → List Line
@@ -64,7 +65,8 @@ session_grown r b c l e =
     let owns : List Line = map line.Origination r.own in
     let before : List Line = flat_map lines_of_session r.sessions in
     let inner : flat_map lines_of_session (r.sessions ++ c ∷ []) ≡ flat_map lines_of_session (r.sessions ++ b ∷ []) ++ l ∷ [] =
-    flat_push lines_of_session r.sessions c ∙ ap (λ (t : List Line). before ++ t) e ∙ sym (append_assoc before (lines_of_session b) (l ∷ [])) ∙ ap (λ (t : List Line). t ++ l ∷ []) (sym (flat_push lines_of_session r.sessions b)) in
+    flat_push lines_of_session r.sessions c ∙ ap (λ (t : List Line). before ++ t) e ∙ sym (append_assoc before (lines_of_session b) (l ∷ []))
+    ∙ ap (λ (t : List Line). t ++ l ∷ []) (sym (flat_push lines_of_session r.sessions b)) in
     ap (λ (t : List Line). line.Router r.name r.asn r.id ∷ (owns ++ t)) inner
     ∙ ap (λ (t : List Line). line.Router r.name r.asn r.id ∷ t) (sym (append_assoc owns (flat_map lines_of_session (r.sessions ++ b ∷ [])) (l ∷ [])))
 
@@ -95,7 +97,8 @@ router_adds r s name asn id h =
     ∙ sym (append_assoc cs rs (line.Router name asn id ∷ []))
     ∙ ap (λ (t : List Line). (cs ++ t) ++ line.Router name asn id ∷ []) (sym (append-nil rs) ∙ ap (λ (x : Option OpenRouter). rs ++ open_lines x) (sym none))
 
-own_adds : (r s : Reading) (own : Origination) → (o : OpenRouter) → r.opened ≡ Some o → o.router.sessions ≡ [] → o.block ≡ None → with_open r (router_with_own o own) ≡ s → so_far s ≡ so_far r ++ line.Origination own ∷ []
+own_adds : (r s : Reading) (own : Origination) → (o : OpenRouter) → r.opened ≡ Some o → o.router.sessions ≡ [] → o.block ≡ None
+    → with_open r (router_with_own o own) ≡ s → so_far s ≡ so_far r ++ line.Origination own ∷ []
 own_adds r s own o at alone none made =
     ap so_far (sym made) ∙ grown r o (router_with_own o own) at (line.Origination own)
     (ap (λ (b : Option Session). lines_before_end (closed (router_with_own o own).router b)) none
@@ -110,11 +113,13 @@ own_adds r s own o at alone none made =
         ∙ ap (λ (t : List Line). first ∷ t) (append-nil (map line.Origination (o.router.own ++ own ∷ [])) ∙ map-append line.Origination o.router.own (own ∷ []))
         ∙ ap (λ (t : List Line). first ∷ (t ++ line.Origination own ∷ [])) (sym (append-nil owns) ∙ ap (λ (ss : List Session). owns ++ flat_map lines_of_session ss) (sym alone))
 
-neighbour_adds : (peer : Bool) (r s : Reading) (name : List ℕ) (asn : ℕ) (l : Line) → head_of (new_session name asn peer) ≡ l → (o : OpenRouter) → r.opened ≡ Some o → with_open r (with_session o peer name asn) ≡ s → so_far s ≡ so_far r ++ l ∷ []
+neighbour_adds : (peer : Bool) (r s : Reading) (name : List ℕ) (asn : ℕ) (l : Line) → head_of (new_session name asn peer) ≡ l → (o : OpenRouter)
+    → r.opened ≡ Some o → with_open r (with_session o peer name asn) ≡ s → so_far s ≡ so_far r ++ l ∷ []
 neighbour_adds peer r s name asn l e o at made =
     ap so_far (sym made) ∙ grown r o (with_session o peer name asn) at l (session_line_more (closed o.router o.block) (new_session name asn peer) l (ap (λ (x : Line). x ∷ []) e))
 
-block_adds : (r s : Reading) (l : Line) (o : OpenRouter) (b c : Session) → r.opened ≡ Some o → o.block ≡ Some b → with_open r (with_block o c) ≡ s → lines_of_session c ≡ lines_of_session b ++ l ∷ [] → so_far s ≡ so_far r ++ l ∷ []
+block_adds : (r s : Reading) (l : Line) (o : OpenRouter) (b c : Session) → r.opened ≡ Some o → o.block ≡ Some b → with_open r (with_block o c) ≡ s
+    → lines_of_session c ≡ lines_of_session b ++ l ∷ [] → so_far s ≡ so_far r ++ l ∷ []
 block_adds r s l o b c at held made e =
     ap so_far (sym made) ∙ grown r o (with_block o c) at l (session_grown o.router b c l e ∙ ap (λ (x : Option Session). lines_before_end (closed o.router x) ++ l ∷ []) (sym held))
 
@@ -131,7 +136,9 @@ export_lines b export =
     ap (λ (t : List Line). head_of b ∷ (is ++ t)) (map-append line.Export b.exports (export ∷ []))
     ∙ ap (λ (t : List Line). head_of b ∷ t) (sym (append_assoc is (map line.Export b.exports) (line.Export export ∷ [])))
 
-import_adds : (peer : Bool) (r s : Reading) (rule : Import) (l : Line) → import_of peer rule ≡ l → (o : OpenRouter) (b : Session) → r.opened ≡ Some o → o.block ≡ Some b → (same_kind b.peer peer && length b.exports == 0) ≡ true → with_open r (with_block o (session_with_import b rule)) ≡ s → so_far s ≡ so_far r ++ l ∷ []
+import_adds : (peer : Bool) (r s : Reading) (rule : Import) (l : Line) → import_of peer rule ≡ l → (o : OpenRouter) (b : Session) → r.opened ≡ Some o
+    → o.block ≡ Some b → (same_kind b.peer peer && length b.exports == 0) ≡ true → with_open r (with_block o (session_with_import b rule)) ≡ s
+    → so_far s ≡ so_far r ++ l ∷ []
 import_adds peer r s rule l e o b at held both made =
     let k = and_parts (same_kind b.peer peer) (length b.exports == 0) both in
     block_adds r s l o b (session_with_import b rule) at held made
@@ -145,7 +152,8 @@ end_adds r s h =
     let rs : List Line = flat_map lines_of_router r.routers in
     let now : List Line = lines_before_end (closed o.router o.block) in
     ap so_far (sym k.2)
-    ∙ ap (λ (t : List Line). cs ++ t) (append-nil (flat_map lines_of_router (r.routers ++ closed o.router o.block ∷ [])) ∙ flat_push lines_of_router r.routers (closed o.router o.block) ∙ sym (append_assoc rs now (line.End ∷ [])))
+    ∙ ap (λ (t : List Line). cs ++ t)
+    (append-nil (flat_map lines_of_router (r.routers ++ closed o.router o.block ∷ [])) ∙ flat_push lines_of_router r.routers (closed o.router o.block) ∙ sym (append_assoc rs now (line.End ∷ [])))
     ∙ sym (append_assoc cs (rs ++ now) (line.End ∷ []))
     ∙ ap (λ (x : Option OpenRouter). (cs ++ (rs ++ open_lines x)) ++ line.End ∷ []) (sym k.1)
 

@@ -23,7 +23,8 @@ use Rattle.config_reader.specs.declared.reading.OpenRouter.{OpenRouter}
 use Rattle.config_reader.specs.declared.reading.Reading.{Reading}
 use Rattle.config_reader.specs.declared.reading.Misplaced.{Misplaced}
 use Rattle.config_reader.specs.declared.reading.Misplaced.TheVariants as misplaced
-use Rattle.config_reader.specs.Reading.{with_class, with_router, with_own, own_into, with_neighbour, neighbour_into, with_import, import_in_block, with_export, export_in_block, with_end, after, is_next, stood_before, closed, same_kind, import_into, export_into}
+use Rattle.config_reader.specs.Reading.{with_class, with_router, with_own, own_into, with_neighbour, neighbour_into, with_import, import_in_block, with_export}
+use Rattle.config_reader.specs.Reading.{export_in_block, with_end, after, is_next, stood_before, closed, same_kind, import_into, export_into}
 use Rattle.config_reader.specs.Text.{read_at, placed_at, with_line}
 
 pub read_at_ok : (n : ℕ) (r : Result Line LineFault) (l : Line) → read_at n r ≡ Ok l → r ≡ Ok l
@@ -39,7 +40,8 @@ placed_at_ok n (Err misplaced.Twice) s h = absurd cc
 placed_at_ok n (Err misplaced.NoMemory) s h = absurd cc
 
 -- the line that was read, and what it made
-pub with_line_ok : (edition : Edition) (n : ℕ) (r s : Reading) (bytes : List ℕ) → with_line edition n r bytes ≡ Ok s → (l : Line) × (line_of edition bytes (length r.classes) ≡ Ok l) × (after r l ≡ Ok s)
+pub with_line_ok : (edition : Edition) (n : ℕ) (r s : Reading) (bytes : List ℕ) → with_line edition n r bytes ≡ Ok s
+    → (l : Line) × (line_of edition bytes (length r.classes) ≡ Ok l) × (after r l ≡ Ok s)
 unfolding with_line
 with_line_ok edition n r s bytes h =
     let l = bind_ok (read_at n (line_of edition bytes (length r.classes))) _ s h in
@@ -48,7 +50,8 @@ with_line_ok edition n r s bytes h =
 -- ---- what each line wanted, and what it made
 
 pub class_ok : (r s : Reading) (number : Option ℕ) (patterns : List PlainPattern) → with_class r number patterns ≡ Ok s
-    → ((is_none r.opened && length r.routers == 0) ≡ true) × (is_next number (length r.classes) ≡ true) × ((let q : Reading = record { classes = r.classes ++ patterns ∷ []; routers = r.routers; opened = r.opened } in q) ≡ s)
+    → ((is_none r.opened && length r.routers == 0) ≡ true) × (is_next number (length r.classes) ≡ true)
+    × ((let q : Reading = record { classes = r.classes ++ patterns ∷ []; routers = r.routers; opened = r.opened } in q) ≡ s)
 unfolding with_class
 class_ok r s number patterns h =
     let a = bind_ok (unless misplaced.Order (is_none r.opened && length r.routers == 0)) _ s h in
@@ -70,7 +73,13 @@ router_ok r s name asn id h =
     (unless_ok misplaced.Order _ a.0 a.1, unless_ok misplaced.Twice _ b.0 b.1, ok_same _ s b.2)
 
 abbrev pub router_with_own : OpenRouter → Origination → OpenRouter
-router_with_own o own = record { router = record { name = o.router.name; asn = o.router.asn; id = o.router.id; own = o.router.own ++ own ∷ []; sessions = o.router.sessions }; names = o.names; block = o.block }
+router_with_own o own =
+    record {
+      router = record
+          { name = o.router.name; asn = o.router.asn; id = o.router.id; own = o.router.own ++ own ∷ []; sessions = o.router.sessions };
+      names = o.names;
+      block = o.block;
+    }
 
 pub own_ok : (r s : Reading) (own : Origination) → with_own r own ≡ Ok s
     → (o : OpenRouter) × (r.opened ≡ Some o) × ((is_none o.block && ascends origination_key o.router.own (origination_key own)) ≡ true) × (with_open r (router_with_own o own) ≡ s)
@@ -105,7 +114,8 @@ abbrev pub session_with_import : Session → Import → Session
 session_with_import b rule = record { name = b.name; asn = b.asn; peer = b.peer; imports = b.imports ++ rule ∷ []; exports = b.exports }
 
 pub import_ok : (peer : Bool) (r s : Reading) (rule : Import) → with_import peer r rule ≡ Ok s
-    → (o : OpenRouter) × (b : Session) × (r.opened ≡ Some o) × (o.block ≡ Some b) × ((same_kind b.peer peer && length b.exports == 0) ≡ true) × (ascends import_key b.imports (import_key rule) ≡ true) × (with_open r (with_block o (session_with_import b rule)) ≡ s)
+    → (o : OpenRouter) × (b : Session) × (r.opened ≡ Some o) × (o.block ≡ Some b) × ((same_kind b.peer peer && length b.exports == 0) ≡ true)
+    × (ascends import_key b.imports (import_key rule) ≡ true) × (with_open r (with_block o (session_with_import b rule)) ≡ s)
 unfolding with_import import_in_block import_into
 import_ok peer r s rule h =
     let a = bind_ok (or_fault misplaced.Order r.opened) _ s h in
@@ -129,7 +139,8 @@ abbrev pub session_with_export : Session → Export → Session
 session_with_export b export = record { name = b.name; asn = b.asn; peer = b.peer; imports = b.imports; exports = b.exports ++ export ∷ [] }
 
 pub export_ok : (r s : Reading) (export : Export) → with_export r export ≡ Ok s
-    → (o : OpenRouter) × (b : Session) × (r.opened ≡ Some o) × (o.block ≡ Some b) × (ascends export_key b.exports (export_key export) ≡ true) × (with_open r (with_block o (session_with_export b export)) ≡ s)
+    → (o : OpenRouter) × (b : Session) × (r.opened ≡ Some o) × (o.block ≡ Some b) × (ascends export_key b.exports (export_key export) ≡ true)
+    × (with_open r (with_block o (session_with_export b export)) ≡ s)
 unfolding with_export export_in_block export_into
 export_ok r s export h =
     let a = bind_ok (or_fault misplaced.Order r.opened) _ s h in

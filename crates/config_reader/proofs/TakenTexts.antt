@@ -38,7 +38,8 @@ use Rattle.config_reader.specs.Text.{with_line, with_lines, finished, behind_hea
 use Rattle.config_reader.proofs.Runs.{at, run_classes, run_routers}
 use Rattle.config_reader.proofs.Steps.{router_ok, own_ok, neighbour_ok, import_ok, export_ok, end_ok}
 
-line_taken : (edition : Edition) (n : ℕ) (r s : Reading) (l : Line) → line_of edition (line_text edition l) (length r.classes) ≡ Ok l → after r l ≡ Ok s → with_line edition n r (line_text edition l) ≡ Ok s
+line_taken : (edition : Edition) (n : ℕ) (r s : Reading) (l : Line) → line_of edition (line_text edition l) (length r.classes) ≡ Ok l
+    → after r l ≡ Ok s → with_line edition n r (line_text edition l) ≡ Ok s
 unfolding with_line
 line_taken edition n r s l h k = rw (h, k) refl
 
@@ -86,13 +87,19 @@ head_other s = by s.peer
     by false = tt
 
 session_other : (s : Session) → AllByRecursion IsOther (lines_of_session s)
-session_other s =
-    (head_other s, AllByRecursion-append IsOther (map (import_of s.peer) s.imports) (map line.Export s.exports) (each_other (import_of s.peer) (import_other s.peer) s.imports) (each_other line.Export (λ e. tt) s.exports))
+session_other s = (
+  head_other s,
+  AllByRecursion-append IsOther (map (import_of s.peer) s.imports) (map line.Export s.exports)
+      (each_other (import_of s.peer) (import_other s.peer) s.imports) (each_other line.Export (λ e. tt) s.exports),
+)
 
 pub router_other : (r : RouterConfig) → AllByRecursion IsOther (lines_of_router r)
 router_other r =
-    AllByRecursion-append IsOther (lines_before_end r) (line.End ∷ [])
-    (tt, AllByRecursion-append IsOther (map line.Origination r.own) (flat_map lines_of_session r.sessions) (each_other line.Origination (λ o. tt) r.own) (flat_other lines_of_session session_other r.sessions))
+    AllByRecursion-append IsOther (lines_before_end r) (line.End ∷ []) (
+      tt,
+      AllByRecursion-append IsOther (map line.Origination r.own) (flat_map lines_of_session r.sessions)
+          (each_other line.Origination (λ o. tt) r.own) (flat_other lines_of_session session_other r.sessions),
+    )
     (tt, tt)
 
 -- a line of a router's block
@@ -109,7 +116,8 @@ class_one : (edition : Edition) (count n : ℕ) (ps : List PlainPattern) → IsL
 class_one edition count n [] is k = absurd (is.1 refl)
 class_one edition count n (p ∷ ps) is k = class_there_by edition k n p ps is.0 is.2.0 is.2.1
 
-class_ones : (edition : Edition) (count n : ℕ) (cs : List (List PlainPattern)) → AllByRecursion (IsLine edition count) (lines_of_classes n cs) → AllByRecursion (IsClassLine edition) (lines_of_classes n cs)
+class_ones : (edition : Edition) (count n : ℕ) (cs : List (List PlainPattern)) → AllByRecursion (IsLine edition count) (lines_of_classes n cs)
+    → AllByRecursion (IsClassLine edition) (lines_of_classes n cs)
 class_ones edition count n [] fits = tt
 class_ones edition count n (c ∷ cs) fits = (class_one edition count n c fits.0, class_ones edition count (n + 1) cs fits.1)
 
@@ -125,7 +133,9 @@ are_lines edition c fits =
     let parts = AllByRecursion-append_parts (IsLine edition count) (lines_of_classes 1 c.classes) (flat_map lines_of_router c.routers) fits in
     record {
       classes = class_ones edition count 1 c.classes parts.0;
-      routers = AllByRecursion-both (IsLine edition count) IsOther (IsOne edition count) (λ l is other. (is, other)) (flat_map lines_of_router c.routers) parts.1 (flat_other lines_of_router router_other c.routers);
+      routers =
+          AllByRecursion-both (IsLine edition count) IsOther (IsOne edition count) (λ l is other. (is, other))
+          (flat_map lines_of_router c.routers) parts.1 (flat_other lines_of_router router_other c.routers);
     }
 
 -- ---- the whole text
@@ -139,7 +149,9 @@ config_taken edition c is fits =
     let are = are_lines edition c fits in
     map_texts classes routers
     ∙ line_by_line-append (with_line edition) 2 opening (at c.classes [] None) (at c.classes c.routers None) (map (line_text edition) classes) (map (line_text edition) routers)
-    (run_taken after (with_line edition) (line_text edition) (λ _. Unit {0}) (IsClassLine edition) (λ n r s l p q. line_taken edition n r s l (q (length r.classes)).0) (λ r s l p q h. tt) 2 opening (at c.classes [] None) classes tt are.classes (run_classes [] c.classes))
+    (run_taken after (with_line edition) (line_text edition) (λ _. Unit {0}) (IsClassLine edition)
+    (λ n r s l p q. line_taken edition n r s l (q (length r.classes)).0) (λ r s l p q h. tt) 2 opening
+    (at c.classes [] None) classes tt are.classes (run_classes [] c.classes))
     (λ m. run_taken after (with_line edition) (line_text edition) (λ (r : Reading). r.classes ≡ c.classes) (IsOne edition count)
     (λ n r s l p q. line_taken edition n r s l (ap (λ (k : ℕ). line_of edition (line_text edition l) k) (ap length p) ∙ (lines_read edition count l few q.0).0))
     (λ r s l p q h. same_classes r s l q.1 h ∙ p)
@@ -173,12 +185,14 @@ spelled_is_read edition bytes c s =
     let ts : List (List ℕ) = map (line_text edition) (lines c) in
     let whole = whole_push ts [] in
     let cut : lines_of bytes ≡ first_line edition ∷ (ts ++ [] ∷ []) =
-    ap lines_of (s.written ∙ text_of_lines edition c ∙ append_assoc (first_line edition) (codes "\n") (flat_map (fed edition) (lines c))) ∙ cut_lines (line_text edition) (first_line edition) (lines c) (first_no_feed edition) (no_feeds edition c s.lawful s.fits) in
+    ap lines_of (s.written ∙ text_of_lines edition c ∙ append_assoc (first_line edition) (codes "\n") (flat_map (fed edition) (lines c)))
+    ∙ cut_lines (line_text edition) (first_line edition) (lines c) (first_no_feed edition) (no_feeds edition c s.lawful s.fits) in
     let long : length (ts ++ [] ∷ []) ≡ length ts + 1 = length-append ts ([] ∷ []) in
     let some : (length (ts ++ [] ∷ []) == 0) ≡ false = ne_eqb (length (ts ++ [] ∷ [])) 0 (λ e. omega (arith, e, long)) in
     let same : bytes_eq (first_line edition) (first_line edition) ≡ true = (bytes_eq-Decides (first_line edition) (first_line edition)).1 refl in
     ap (in_lines edition) cut ∙ rw (some, same, whole.0, whole.1, config_taken edition c s.lawful s.fits) refl
 
 -- what comes back of such a text
-pub what_is_spelled : (edition : Edition) (bytes : List ℕ) (c : PlainConfig) (r : Result PlainConfig ConfigFault) → SpellsIn edition bytes c → GivesUnless NoMemory (λ d. d) r (spelled_in edition bytes) → GivesUnless NoMemory (λ d. d) r (Ok c)
+pub what_is_spelled : (edition : Edition) (bytes : List ℕ) (c : PlainConfig) (r : Result PlainConfig ConfigFault) → SpellsIn edition bytes c
+    → GivesUnless NoMemory (λ d. d) r (spelled_in edition bytes) → GivesUnless NoMemory (λ d. d) r (Ok c)
 what_is_spelled edition bytes c r s h = subst (λ (o : Result PlainConfig ConfigFault). GivesUnless NoMemory (λ d. d) r o) (spelled_is_read edition bytes c s) h

@@ -21,5 +21,7 @@ pub fn texts_are_read()
 /// and the line of the fault can't follow them, whatever comes behind it.
 pub fn first_fault_of_a_text()
     ensures only { (edition : Edition) (texts : List (List ℕ)) (e : ConfigFault) → with_lines edition 2 opening texts ≡ Err e → IsFirstFault edition texts e }
-    ensures all { (edition : Edition) (taken more : List (List ℕ)) (line : List ℕ) (r : Reading) (e : ConfigFault) → with_lines edition 2 opening taken ≡ Ok r → with_line edition (length taken + 2) r line ≡ Err e → with_lines edition 2 opening (taken ++ line ∷ more) ≡ Err e }
+    ensures all { (edition : Edition) (taken more : List (List ℕ)) (line : List ℕ) (r : Reading) (e : ConfigFault)
+        → with_lines edition 2 opening taken ≡ Ok r → with_line edition (length taken + 2) r line ≡ Err e
+        → with_lines edition 2 opening (taken ++ line ∷ more) ≡ Err e }
 {}

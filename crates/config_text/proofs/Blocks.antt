@@ -87,7 +87,8 @@ lists_cut edition peer s t rest more ps pt hs ht fr fm e =
     let m = and_parts (not (begins 105 more)) (not (begins_export more)) fm in
     let is : AllByRecursion (IsShortImport peer) s.imports = subst (λ (p : Bool). AllByRecursion (IsShortImport p) s.imports) ps hs.imports in
     let it : AllByRecursion (IsShortImport peer) t.imports = subst (λ (p : Bool). AllByRecursion (IsShortImport p) t.imports) pt ht.imports in
-    let e1 : flat_map (import_line edition peer) s.imports ++ (flat_map (export_line edition) s.exports ++ rest) ≡ flat_map (import_line edition peer) t.imports ++ (flat_map (export_line edition) t.exports ++ more) =
+    let e1 : flat_map (import_line edition peer) s.imports ++ (flat_map (export_line edition) s.exports ++ rest)
+    ≡ flat_map (import_line edition peer) t.imports ++ (flat_map (export_line edition) t.exports ++ more) =
     ap (λ (p : Bool). flat_map (import_line edition p) s.imports ++ (flat_map (export_line edition) s.exports ++ rest)) (sym ps) ∙ e
     ∙ ap (λ (p : Bool). flat_map (import_line edition p) t.imports ++ (flat_map (export_line edition) t.exports ++ more)) pt in
     let a = imports_cut edition peer s.imports t.imports _ _ is it (exports_follow edition s.exports rest (not-true (begins 105 rest) r.0))

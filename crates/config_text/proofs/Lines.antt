@@ -72,7 +72,8 @@ set_parts edition r rest = parts_by (tag_text edition r.set) (decimal r.pref)
     parts_by : (a b : List ℕ) → (codes " set " ++ a ++ codes " pref " ++ b) ++ rest ≡ codes " set " ++ (a ++ (codes " pref " ++ (b ++ rest)))
     parts_by a b = simp append_assoc refl
 
-set_cut : (edition : Edition) (r q : Import) (rest more : List ℕ) → IsShort r.set → IsShort q.set → r.pref < 2 ^ 32 → q.pref < 2 ^ 32 → set_text edition r ++ 10 ∷ rest ≡ set_text edition q ++ 10 ∷ more
+set_cut : (edition : Edition) (r q : Import) (rest more : List ℕ) → IsShort r.set → IsShort q.set → r.pref < 2 ^ 32 → q.pref < 2 ^ 32
+    → set_text edition r ++ 10 ∷ rest ≡ set_text edition q ++ 10 ∷ more
     → (r.set ≡ q.set) × (r.pref ≡ q.pref) × (rest ≡ more)
 set_cut edition r q rest more hr hq lr lq e =
     let parts = sym (set_parts edition r (10 ∷ rest)) ∙ e ∙ set_parts edition q (10 ∷ more) in

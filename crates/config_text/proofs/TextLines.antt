@@ -47,7 +47,8 @@ fed_session : (edition : Edition) (s : Session) → session_text edition s ≡ f
 fed_session edition s =
     append_assoc (session_line s) (flat_map (import_line edition s.peer) s.imports) (flat_map (export_line edition) s.exports)
     ∙ ap₂ (λ (a b : List ℕ). a ++ b) (fed_head edition s)
-    (ap₂ (λ (a b : List ℕ). a ++ b) (fed_map edition (import_line edition s.peer) (import_of s.peer) (fed_import edition s.peer) s.imports) (fed_map edition (export_line edition) line.Export (λ e. refl) s.exports)
+    (ap₂ (λ (a b : List ℕ). a ++ b) (fed_map edition (import_line edition s.peer) (import_of s.peer) (fed_import edition s.peer) s.imports)
+    (fed_map edition (export_line edition) line.Export (λ e. refl) s.exports)
     ∙ sym (fed_append edition (map (import_of s.peer) s.imports) (map line.Export s.exports)))
 
 fed_router : (edition : Edition) (r : RouterConfig) → router_text edition r ≡ flat_map (fed edition) (lines_of_router r)

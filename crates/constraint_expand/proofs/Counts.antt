@@ -25,5 +25,6 @@ length-expressions net (either a b) = refl
 length-expressions net (negated a) = refl
 
 -- as many numbers as expressions, where there are few
-pub few : (net : PlainNet) (r : Ranking) (vs : List Expression) (ns : List ℕ) (count : ℕ) → map (at vs) ns ≡ expressions net r → count ≡ min (alternative_count r) (2 ^ 64 - 1) → count ≤ 64 → length ns ≤ 64
+pub few : (net : PlainNet) (r : Ranking) (vs : List Expression) (ns : List ℕ) (count : ℕ) → map (at vs) ns ≡ expressions net r
+    → count ≡ min (alternative_count r) (2 ^ 64 - 1) → count ≤ 64 → length ns ≤ 64
 few net r vs ns count is counted small = omega (arith, sym (length-map ns (at vs)) ∙ ap length is ∙ length-expressions net r, counted)

@@ -41,5 +41,6 @@ row-turn old cur new ns ms es fs i d put first second lt row =
     let rows : Expression → List Expression = λ x. map (both_of_two x) (map (at old) fs) in
     let same = ap (λ l. map (both_of_two (at cur e)) l) (map-extends old cur fs put.2 second) ∙ ap rows (at-extends old cur e put.2 (known-at (length old) es i d lt first)) in
     subst (Puts old new (ns ++ ms))
-    (sym (ap (flat_map rows) (map-turn (at old) es i d lt) ∙ flat_map-append rows (map (at old) (take i es)) (at old e ∷ []) ∙ ap (λ l. pairs (map (at old) fs) (map (at old) (take i es)) ++ l) (append-nil (rows (at old e)))))
+    (sym (ap (flat_map rows) (map-turn (at old) es i d lt) ∙ flat_map-append rows (map (at old) (take i es)) (at old e ∷ [])
+    ∙ ap (λ l. pairs (map (at old) fs) (map (at old) (take i es)) ++ l) (append-nil (rows (at old e)))))
     (puts-append old cur new ns ms _ _ put (subst (Puts cur new ms) same row))

@@ -84,7 +84,8 @@ module _ (net : PlainNet) (policy : PlainPolicy) (config : PlainConfig) (f : Fai
     }
 
   -- where routes don't go over the cut, and the offer stays, it doesn't either
-  offer_off : (after : Outcome) (r peer : ℕ) (path : List ℕ) → IsOffRoutes net before cut → offered net policy config f p before r peer ≡ Some path → offered net policy config g p after r peer ≡ Some path → goes_over cut path ≡ false
+  offer_off : (after : Outcome) (r peer : ℕ) (path : List ℕ) → IsOffRoutes net before cut → offered net policy config f p before r peer ≡ Some path
+      → offered net policy config g p after r peer ≡ Some path → goes_over cut path ≡ false
   offer_off after r peer path off was now =
       let x = offer_parts net policy config f p before rules r peer path was in
       let apart = (live_parts net cut f r peer (offer_parts net policy config g p after rules r peer path now).live).1 in
@@ -93,7 +94,8 @@ module _ (net : PlainNet) (policy : PlainPolicy) (config : PlainConfig) (f : Fai
       let rest = more_off cut peer r y.0 (cuts_flip cut peer r ∙ apart) (subst (λ (q : List ℕ). goes_over cut q ≡ false) y.1 clear) in
       subst (λ (q : List ℕ). goes_over cut q ≡ false) (sym (x.is ∙ ap (λ (q : List ℕ). peer ∷ q) y.1)) rest
 
-  pub free_unused : (cs : List PlainCaseEvidence) → IsPolicyOf net policy → Passes net policy config cs → IsPrefix p → IsFree net policy config f p before cut → IsUnused net policy config f p before cut
+  pub free_unused : (cs : List PlainCaseEvidence) → IsPolicyOf net policy → Passes net policy config cs → IsPrefix p
+      → IsFree net policy config f p before cut → IsUnused net policy config f p before cut
   free_unused cs fits passes prefix free =
       let off : IsOffRoutes net before cut = λ r h other at. false_from_ne_true (goes_over cut h.path)
       (λ over. cuts_on_a_route_move_it net policy config cs rules fits passes p f cut before free.after prefix settled free.settled r h other at over (free.routes r other)) in

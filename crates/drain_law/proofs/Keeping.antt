@@ -74,7 +74,8 @@ module _ (net : PlainNet) (policy : PlainPolicy) (config : PlainConfig) (f : Fai
 
   module _ (off : IsOffRoutes net before cut) where
     -- and each route that is held is given as it was
-    down : (z r : ℕ) (h : Route) → is_router net r ≡ true → is_cut cut r ≡ false → route_at before r ≡ Some h → given net policy config f p before z r ≡ Some h → given net policy config g p after z r ≡ Some h
+    down : (z r : ℕ) (h : Route) → is_router net r ≡ true → is_cut cut r ≡ false → route_at before r ≡ Some h
+        → given net policy config f p before z r ≡ Some h → given net policy config g p after z r ≡ Some h
     down z r h router other at by =
         let x = given_parts net policy config f p before rules z r h by in
         let y = comes_begins net policy config f p before rules settled.stable z r x.path x.comes in

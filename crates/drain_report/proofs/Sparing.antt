@@ -5,7 +5,8 @@ use Rattle.std.specs.List.{flat_map, list_any}
 use Rattle.std.specs.Option.{option_and_then}
 use Rattle.std.proofs.lemmas.Bool.{and_from, and_parts, cases_Bool, eqb-true, false_from_ne_true, lt-ltb, not-true, not_from_false, or_from, true≢false}
 use Rattle.list_laws.specs.Members.{IsIn}
-use Rattle.list_laws.proofs.Members.{AllByRecursion-IsIn, IsIn-append_cases, IsIn-append_left, IsIn-append_right, IsIn-filter, IsIn-filter_parts, IsIn-flat_map, IsIn-flat_map_parts, IsIn-map, IsIn-map_parts, IsIn-nil, list_any-from_IsIn, list_any_member}
+use Rattle.list_laws.proofs.Members.{AllByRecursion-IsIn, IsIn-append_cases, IsIn-append_left, IsIn-append_right, IsIn-filter, IsIn-filter_parts, IsIn-flat_map}
+use Rattle.list_laws.proofs.Members.{IsIn-flat_map_parts, IsIn-map, IsIn-map_parts, IsIn-nil, list_any-from_IsIn, list_any_member}
 use Rattle.list_laws.proofs.Options.{is_some_from, is_some_parts, none_or_some, option_and_then_parts}
 use Rattle.net_base.specs.Network.{PlainNet, IsLink, IsNet, is_peer, is_router, joins, linked}
 use Rattle.net_base.specs.Prefixes.{PlainPrefix}

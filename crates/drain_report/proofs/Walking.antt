@@ -69,4 +69,6 @@ begins_apart (Router x) l rest e at free in_path h =
     let met : list_any (λ m. x == m) rest ≡ true = router_steps x l rest ∙ list_any-from_IsIn (over (Router x)) (steps_of (l ∷ rest)) e in_path h in
     let none : list_any (λ k. k == l) rest ≡ false = not-true _ (and_parts (not (list_any (λ k. k == l) rest)) (is_loop_free rest) free).0 in
     let here : x ≡ l = eqb-true x l at in
-    true≢false (sym met ∙ list_any-same (λ m. x == m) (λ k. k == l) (λ m. same_tests (x == m) (m == l) (λ e. eq-eqb m l (sym (eqb-true x m e) ∙ here)) (λ e. eq-eqb x m (here ∙ sym (eqb-true m l e)))) rest ∙ none)
+    true≢false (sym met
+    ∙ list_any-same (λ m. x == m) (λ k. k == l) (λ m. same_tests (x == m) (m == l) (λ e. eq-eqb m l (sym (eqb-true x m e) ∙ here)) (λ e. eq-eqb x m (here ∙ sym (eqb-true m l e)))) rest
+    ∙ none)

@@ -145,7 +145,9 @@ fn hear(
     to: Loc,
 ) -> Result<(), AllocError>
     requires { IsTrue (linked world.old.net.now from to) }
-    ensures ok { OnOk result ((m : Option Route) (rest : List (Option Route)) → (state world.old).queue from to ≡ m ∷ rest → state world.new ≡ chosen_again (speakers world.old) to (with_heard from to m (state world.old))) }
+    ensures ok { OnOk result
+        ((m : Option Route) (rest : List (Option Route)) → (state world.old).queue from to ≡ m ∷ rest
+        → state world.new ≡ chosen_again (speakers world.old) to (with_heard from to m (state world.old))) }
     ensures follows { Follows log.old.items world.old log.new.items world.new }
 {
     let message = world.first(alloc, from, to)?;

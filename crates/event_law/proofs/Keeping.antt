@@ -1,11 +1,13 @@
 -- Each event keeps what is kept.
 use Rattle.std.proofs.Common.{◌≡◌, ℕ, Bool, true, false, cond, not, ◌&&◌, ◌||◌, eqb, ◌⊎◌, List, [], ◌∷◌, ◌++◌, Option, Some, None, refl, sym, ap, ◌∙◌, subst, inl, inr}
-use Rattle.std.proofs.lemmas.Bool.{cases_Bool, and_left, and_right, and_cases, and_parts, and_from, or_cases, or_parts, or_left, or_right, not-false, both_ways, eqb-true, eq-eqb, ne_eqb, true_from_ne_false, false_from_ne_true, cond-true, cond-false}
+use Rattle.std.proofs.lemmas.Bool.{cases_Bool, and_left, and_right, and_cases, and_parts, and_from, or_cases, or_parts, or_left, or_right, not-false, both_ways, eqb-true}
+use Rattle.std.proofs.lemmas.Bool.{eq-eqb, ne_eqb, true_from_ne_false, false_from_ne_true, cond-true, cond-false}
 use Rattle.std.proofs.Math.Bool.{and_comm, or_comm, and-true}
 use Rattle.event_base.specs.declared.event.Event.{Event}
 use Rattle.event_base.specs.declared.event.Event.TheVariants.{Deliver, LinkDown, LinkUp, RouterDown, RouterUp, PeerSpeak, PeerSilent}
 use Rattle.event_base.specs.declared.event.EventFault.{EventFault}
-use Rattle.event_base.specs.World.{Speakers, World, at, is, joins, touches, live, running, offers, choice, exported, owes, tell, with_choice, choose_again, each_again, emptied, with_cut, with_down, with_silent, received}
+use Rattle.event_base.specs.World.{Speakers, World, at, is, joins, touches, live, running, offers, choice, exported, owes, tell, with_choice, choose_again, each_again}
+use Rattle.event_base.specs.World.{emptied, with_cut, with_down, with_silent, received}
 use Rattle.event_base.specs.Steps.{IsQuiet, before_all, delivered, fault_of, happens, if_there, opening, or_as_before, run, step, unless_down}
 use Rattle.event_law.specs.Kept.{AreSpeakers, IsKept, IsStable, Keeps, among, given, last_of, nobody, nowhere}
 

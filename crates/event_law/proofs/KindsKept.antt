@@ -4,7 +4,8 @@ use Rattle.std.proofs.lemmas.Bool.{cases_Bool, and_parts, eqb-true, cond-true, c
 use Rattle.event_base.specs.declared.event.Event.{Event}
 use Rattle.event_base.specs.declared.event.Event.TheVariants.{Deliver, LinkDown, LinkUp, RouterDown, RouterUp, PeerSpeak, PeerSilent}
 use Rattle.event_base.specs.declared.event.EventFault.{EventFault}
-use Rattle.event_base.specs.World.{Speakers, World, at, is, joins, touches, live, running, offers, choice, exported, owes, tell, with_choice, choose_again, each_again, emptied, with_cut, with_down, with_silent, received}
+use Rattle.event_base.specs.World.{Speakers, World, at, is, joins, touches, live, running, offers, choice, exported, owes, tell, with_choice, choose_again, each_again}
+use Rattle.event_base.specs.World.{emptied, with_cut, with_down, with_silent, received}
 use Rattle.event_base.specs.Steps.{before_all, delivered, fault_of, happens, opening, or_as_before, run, step}
 use Rattle.event_law.specs.Kinds.{Held, Each, IsKind, AreKinds}
 

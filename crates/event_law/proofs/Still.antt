@@ -48,7 +48,9 @@ module _ {R : Type 0} (net : Speakers R) (alike : (m : Option R) → net.same m 
 
     pub still : choose_again net r w ≡ w
     still = elim (cases_Bool (running net w r)) [
-      | inl on ↦ cond-true (running net w r) (tell net (λ a b. at r a) (with_choice net r w)) w on ∙ ap (tell net (λ a b. at r a)) (same_routes net w r (is.chosen on)) ∙ untold net (λ a b. at r a) w owes_nothing
+      | inl on ↦
+          cond-true (running net w r) (tell net (λ a b. at r a) (with_choice net r w)) w on
+          ∙ ap (tell net (λ a b. at r a)) (same_routes net w r (is.chosen on)) ∙ untold net (λ a b. at r a) w owes_nothing
       | inr off ↦ cond-false (running net w r) (tell net (λ a b. at r a) (with_choice net r w)) w off
     ]
 

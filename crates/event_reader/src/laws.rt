@@ -27,13 +27,17 @@ pub fn texts_that_are_no_json()
 /// A text has a fault of the shape exactly where it is a JSON value that has not the shape of an event text; the fault names the
 /// first event that differs.
 pub fn texts_of_another_shape()
-    ensures only { (net : PlainNet) (bytes : List ℕ) (place : ℕ) → spelled net bytes ≡ Err (EventsFault.Shape place) → (d : Data) × IsUtf8 bytes × (read bytes ≡ Some d) × (shape_of d ≡ Err (EventsFault.Shape place)) }
-    ensures all { (net : PlainNet) (bytes : List ℕ) (place : ℕ) (d : Data) → IsUtf8 bytes → read bytes ≡ Some d → shape_of d ≡ Err (EventsFault.Shape place) → spelled net bytes ≡ Err (EventsFault.Shape place) }
+    ensures only { (net : PlainNet) (bytes : List ℕ) (place : ℕ) → spelled net bytes ≡ Err (EventsFault.Shape place)
+        → (d : Data) × IsUtf8 bytes × (read bytes ≡ Some d) × (shape_of d ≡ Err (EventsFault.Shape place)) }
+    ensures all { (net : PlainNet) (bytes : List ℕ) (place : ℕ) (d : Data) → IsUtf8 bytes → read bytes ≡ Some d
+        → shape_of d ≡ Err (EventsFault.Shape place) → spelled net bytes ≡ Err (EventsFault.Shape place) }
 {}
 
 /// Of a text with the shape of an event text, a fault is told exactly where the rule of its number is broken and every rule with
 /// a lesser number is kept.
 pub fn first_broken_rule()
-    ensures only { (net : PlainNet) (bytes : List ℕ) (said : Said) (e : EventsFault) → Says shape_of bytes said → spelled net bytes ≡ Err e → KeepsBelow (rules net said) (number_of e) × (Keeps (rules net said) (number_of e) → ⊥) }
-    ensures all { (net : PlainNet) (bytes : List ℕ) (said : Said) (k : ℕ) → Says shape_of bytes said → KeepsBelow (rules net said) k → (Keeps (rules net said) k → ⊥) → (e : EventsFault) × (spelled net bytes ≡ Err e) × (number_of e ≡ k) }
+    ensures only { (net : PlainNet) (bytes : List ℕ) (said : Said) (e : EventsFault) → Says shape_of bytes said → spelled net bytes ≡ Err e
+        → KeepsBelow (rules net said) (number_of e) × (Keeps (rules net said) (number_of e) → ⊥) }
+    ensures all { (net : PlainNet) (bytes : List ℕ) (said : Said) (k : ℕ) → Says shape_of bytes said → KeepsBelow (rules net said) k
+        → (Keeps (rules net said) k → ⊥) → (e : EventsFault) × (spelled net bytes ≡ Err e) × (number_of e ≡ k) }
 {}

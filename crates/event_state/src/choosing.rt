@@ -101,7 +101,8 @@ fn route(alloc: Global, gift: &Gift<'_>) -> Result<Route, AllocError>
 impl<'a> World<'a> {
     // What a router's import lines make of what a neighbour was heard to say over a live session.
     fn gift(&self, at: Loc, from: Loc) -> Option<Gift<'_>>
-        ensures { option_map gift_of result ≡ option_map (λ h. (from, h)) (taken_by self.now.net.now self.now.config.now self.now.prefix at from (offers (speakers self.now) (state self.now) at from)) }
+        ensures { option_map gift_of result
+            ≡ option_map (λ h. (from, h)) (taken_by self.now.net.now self.now.config.now self.now.prefix at from (offers (speakers self.now) (state self.now) at from)) }
     {
         let class = self.class?;
         let heard = self.offer(at, from)?;
@@ -119,7 +120,8 @@ impl<'a> World<'a> {
     // The first gift of a router's neighbours.
     fn best(&self, at: Loc) -> Option<Gift<'_>>
         requires { IsTrue (is_location self.now.net.now at) }
-        ensures { option_map gift_of result ≡ first_of self.now.net.now (λ u. taken_by self.now.net.now self.now.config.now self.now.prefix at u (offers (speakers self.now) (state self.now) at u)) (neighbours self.now.net.now at) }
+        ensures { option_map gift_of result
+            ≡ first_of self.now.net.now (λ u. taken_by self.now.net.now self.now.config.now self.now.prefix at u (offers (speakers self.now) (state self.now) at u)) (neighbours self.now.net.now at) }
     {
         let mut best = None;
         for from in self.neighbours(at) {

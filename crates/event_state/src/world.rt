@@ -32,7 +32,8 @@ pub struct World<'a> {
     ghost of_class: { class ≡ class_of config.now prefix },
     ghost of_near: { near.items ≡ map (neighbours net.now) (in_order net.now) },
     ghost by_location: { IsByLocation net.now down.items × IsByLocation net.now routes.items },
-    ghost by_direction: { IsByDirection net.now cut.items × IsByDirection net.now silent.items × IsByDirection net.now queues.items × IsByDirection net.now heard.items × IsByDirection net.now queued.items },
+    ghost by_direction: { IsByDirection net.now cut.items × IsByDirection net.now silent.items × IsByDirection net.now queues.items
+        × IsByDirection net.now heard.items × IsByDirection net.now queued.items },
 }
 
 // Whether nothing waits at a place.

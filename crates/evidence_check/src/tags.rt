@@ -77,7 +77,10 @@ fn is_kept(
     seen: &mut IndexSet<Tag>,
 ) -> Result<bool, NoMemory>
     requires { node < length case.now.graph.nodes }
-    ensures kept { IfOk result (λ kept. kept ≡ (is_right_tag net.now (place_of case.now.graph node) (tag_at case.now node) && (is_peer net.now (place_of case.now.graph node) || not (list_any (same_tag (tag_at case.now node)) seen.old.keys)))) }
+    ensures kept { IfOk result
+        (λ kept. kept
+        ≡ (is_right_tag net.now (place_of case.now.graph node) (tag_at case.now node)
+        && (is_peer net.now (place_of case.now.graph node) || not (list_any (same_tag (tag_at case.now node)) seen.old.keys)))) }
     ensures at_peer { IfOk result (λ kept. IsTrue kept → IsTrue (is_peer net.now (place_of case.now.graph node)) → seen.new.keys ≡ seen.old.keys) }
     ensures at_router { IfOk result (λ kept. IsTrue kept → IsTrue (not (is_peer net.now (place_of case.now.graph node))) → seen.new.keys ≡ seen.old.keys ++ tag_at case.now node ∷ []) }
 {

@@ -52,13 +52,15 @@ one_name net k l name rules h g =
 
 -- ---- the block of a neighbour among the blocks
 
-block_there : (net : PlainNet) (cs : List PlainCaseEvidence) (x : ℕ) (zs : List ℕ) (bs : List Session) (i z : ℕ) → AreBlocks net cs x zs bs → slice_get zs i ≡ Some z → (b : Session) × (slice_get bs i ≡ Some b) × IsBlock net cs x z b
+block_there : (net : PlainNet) (cs : List PlainCaseEvidence) (x : ℕ) (zs : List ℕ) (bs : List Session) (i z : ℕ) → AreBlocks net cs x zs bs
+    → slice_get zs i ≡ Some z → (b : Session) × (slice_get bs i ≡ Some b) × IsBlock net cs x z b
 block_there net cs x [] bs i z all at = absurd cc
 block_there net cs x (k ∷ zs) [] i z all at = absurd all
 block_there net cs x (k ∷ zs) (b ∷ bs) zero z all at = let same : k ≡ z = cc in (b, refl, subst (λ l. IsBlock net cs x l b) same all.0)
 block_there net cs x (k ∷ zs) (b ∷ bs) (suc i) z all at = block_there net cs x zs bs i z all.1 at
 
-place_there : (net : PlainNet) (cs : List PlainCaseEvidence) (x : ℕ) (zs : List ℕ) (bs : List Session) (i : ℕ) (b : Session) → AreBlocks net cs x zs bs → slice_get bs i ≡ Some b → (z : ℕ) × (slice_get zs i ≡ Some z) × IsBlock net cs x z b
+place_there : (net : PlainNet) (cs : List PlainCaseEvidence) (x : ℕ) (zs : List ℕ) (bs : List Session) (i : ℕ) (b : Session)
+    → AreBlocks net cs x zs bs → slice_get bs i ≡ Some b → (z : ℕ) × (slice_get zs i ≡ Some z) × IsBlock net cs x z b
 place_there net cs x zs [] i b all at = absurd cc
 place_there net cs x [] (c ∷ bs) i b all at = absurd all
 place_there net cs x (k ∷ zs) (c ∷ bs) zero b all at = let same : c ≡ b = cc in (k, refl, subst (λ d. IsBlock net cs x k d) same all.0)

@@ -72,7 +72,8 @@ joined_case policy k o c kept known governed number origins = record {
   ];
 }
 
-with_prefix_kept : (policy : PlainPolicy) (k : ℕ) (o : Origin) (cs : List Case) → IsIn policy.origins o → governing policy o.prefix ≡ Some k → AreOriginated policy cs → AreOriginated policy (with_prefix k o cs)
+with_prefix_kept : (policy : PlainPolicy) (k : ℕ) (o : Origin) (cs : List Case) → IsIn policy.origins o → governing policy o.prefix ≡ Some k
+    → AreOriginated policy cs → AreOriginated policy (with_prefix k o cs)
 with_prefix_kept policy k o [] known governed kept = (new_case policy k o known governed, tt)
 with_prefix_kept policy k o (c ∷ cs) known governed kept = elim (cases_Bool (c.statement == k && same_set c.origins o.at)) [
   | inl t ↦
@@ -81,7 +82,8 @@ with_prefix_kept policy k o (c ∷ cs) known governed kept = elim (cases_Bool (c
   | inr t ↦ rw t (kept.0, with_prefix_kept policy k o cs known governed kept.1)
 ]
 
-originated_kept : (policy : PlainPolicy) (os : List Origin) (cs : List Case) → ((o : Origin) → IsIn os o → IsIn policy.origins o) → AreOriginated policy cs → AreOriginated policy (originated_cases policy os cs)
+originated_kept : (policy : PlainPolicy) (os : List Origin) (cs : List Case) → ((o : Origin) → IsIn os o → IsIn policy.origins o)
+    → AreOriginated policy cs → AreOriginated policy (originated_cases policy os cs)
 originated_kept policy [] cs known kept = kept
 originated_kept policy (o ∷ os) cs known kept =
     originated_kept policy os (with_governed (governing policy o.prefix) o cs) (λ x h. known x (suc h.0, h.1)) (go (governing policy o.prefix) refl)

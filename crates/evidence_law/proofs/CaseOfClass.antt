@@ -39,7 +39,8 @@ holds_peers net rules = λ i. λ l. at l i
     at l = elim (cases_lt l 768) [
       | inl in_reach ↦ holds-set_of (is_peer net) l in_reach
       | inr past ↦ holds-set_of_past (is_peer net) l past
-          ∙ sym (false_from_ne_true (is_peer net l) (λ h. absurd (omega (arith, past, ltb-true l (length net.routers + length net.peers) (and_parts (nat_le (length net.routers) l) (is_location net l) h).1, rules.routers, rules.peers))))
+          ∙ sym (false_from_ne_true (is_peer net l)
+          (λ h. absurd (omega (arith, past, ltb-true l (length net.routers + length net.peers) (and_parts (nat_le (length net.routers) l) (is_location net l) h).1, rules.routers, rules.peers))))
     ]
 
 one_more : (o : Option ℕ) (n m : ℕ) → o ≡ Some (1 + n) → n ≡ m → o ≡ Some (suc m)

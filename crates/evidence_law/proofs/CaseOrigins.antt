@@ -33,7 +33,9 @@ module _ (net : PlainNet) (policy : PlainPolicy) (p : PlainPrefix) (s : PlainSta
   module _ (f : Failures) where
     pub good : (path : List ℕ) → permits net origin s path ≡ true → law.loop_free path ≡ true → law.survives (alive_of net f) path ≡ true → IsGood net policy f p s path
     good path permitted free lives =
-        and_from (is_allowed net policy p s path) (survives net f path) (and_from (is_permitted net policy p s path) (is_loop_free path) (prefix_permits path permitted) (sym (same_free path) ∙ free)) (survives-alive net f path lives)
+        and_from (is_allowed net policy p s path) (survives net f path)
+        (and_from (is_permitted net policy p s path) (is_loop_free path) (prefix_permits path permitted) (sym (same_free path) ∙ free))
+        (survives-alive net f path lives)
 
     -- a good path, as the laws see it
     pub good_parts : (l : ℕ) (rest : List ℕ) → IsGood net policy f p s (l ∷ rest) → (permits net origin s (l ∷ rest) ≡ true) × (law.survives (alive_of net f) (l ∷ rest) ≡ true)

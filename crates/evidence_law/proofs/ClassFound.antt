@@ -56,7 +56,8 @@ names_kept policy [] cs q h = h
 names_kept policy (o ∷ os) cs q h = names_kept policy os (with_governed (governing policy o.prefix) o cs) q (names_governed (governing policy o.prefix) o cs q h)
 
 -- each originated prefix that is governed stands in a case
-pub names_each : (policy : PlainPolicy) (os : List Origin) (cs : List Case) (i k : ℕ) (o : Origin) → slice_get os i ≡ Some o → governing policy o.prefix ≡ Some k → Names (originated_cases policy os cs) o.prefix
+pub names_each : (policy : PlainPolicy) (os : List Origin) (cs : List Case) (i k : ℕ) (o : Origin) → slice_get os i ≡ Some o
+    → governing policy o.prefix ≡ Some k → Names (originated_cases policy os cs) o.prefix
 names_each policy [] cs i k o at governed = absurd cc
 names_each policy (x ∷ os) cs zero k o at governed =
     let same : x ≡ o = cc in
@@ -113,7 +114,11 @@ module _ (policy : PlainPolicy) (p : PlainPrefix) (prefix : IsPrefix p) (known :
   hit_names : (c : Case) → IsOriginatedCase policy c → hits policy p c ≡ true → IsIn c.prefixes p
   unfolding hits
   hit_names c kept h =
-      let inner : list_any (λ pattern. contains pattern p) (map only c.prefixes) ≡ true = subst (λ (b : Bool). list_any (λ pattern. contains pattern p) (if b then unwrap_or (option_map (λ (s : PlainStatement). s.patterns) (statement_at policy c.statement)) [] else map only c.prefixes) ≡ true) kept.inner h in
+      let inner : list_any (λ pattern. contains pattern p) (map only c.prefixes) ≡ true =
+      subst (λ (b : Bool). list_any (λ pattern. contains pattern p)
+      (if b then unwrap_or (option_map (λ (s : PlainStatement). s.patterns) (statement_at policy c.statement)) [] else map only c.prefixes)
+      ≡ true)
+      kept.inner h in
       let found = list_any_parts (λ pattern. contains pattern p) (map only c.prefixes) inner in
       let q = option_map_parts only (slice_get c.prefixes found.0) found.1 (sym (slice_get-map only c.prefixes found.0) ∙ found.2) in
       let item = kept.each q.0 (found.0, q.1) in
@@ -122,7 +127,8 @@ module _ (policy : PlainPolicy) (p : PlainPrefix) (prefix : IsPrefix p) (known :
       (found.0, q.1 ∙ ap Some (sym same))
 
   -- the class of a prefix that stands in a case is that of the first case that names it
-  pub class_named : (cs rest : List Case) (n : ℕ) → AreOriginated policy cs → Names cs p → (i : ℕ) × (c : Case) × (class_in policy p (cs ++ rest) n ≡ Some (n + i)) × (slice_get cs i ≡ Some c) × IsIn c.prefixes p
+  pub class_named : (cs rest : List Case) (n : ℕ) → AreOriginated policy cs → Names cs p
+      → (i : ℕ) × (c : Case) × (class_in policy p (cs ++ rest) n ≡ Some (n + i)) × (slice_get cs i ≡ Some c) × IsIn c.prefixes p
   unfolding Names hits class_in
   class_named [] rest n kept h = absurd h
   class_named (c ∷ cs) rest n kept h = elim (cases_Bool (hits policy p c)) [
@@ -136,7 +142,8 @@ module _ (policy : PlainPolicy) (p : PlainPrefix) (prefix : IsPrefix p) (known :
   ]
 
   -- and that of one that no case names is none of theirs
-  pub class_passed : (cs rest : List Case) (n : ℕ) → AreOriginated policy cs → ((c : Case) → IsOriginatedCase policy c → IsIn c.prefixes p → ⊥) → class_in policy p (cs ++ rest) n ≡ class_in policy p rest (n + length cs)
+  pub class_passed : (cs rest : List Case) (n : ℕ) → AreOriginated policy cs → ((c : Case) → IsOriginatedCase policy c → IsIn c.prefixes p → ⊥)
+      → class_in policy p (cs ++ rest) n ≡ class_in policy p rest (n + length cs)
   unfolding hits class_in
   class_passed [] rest n kept absent = ap (class_in policy p rest) (sym (add-zero n))
   class_passed (c ∷ cs) rest n kept absent = elim (cases_Bool (hits policy p c)) [

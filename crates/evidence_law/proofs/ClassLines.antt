@@ -34,7 +34,8 @@ use Rattle.graph_base.proofs.StartsAndSteps.{step_nodes, start_at-is, step_at-is
 use Rattle.graph_base.proofs.WellFormed.{heard_at_peers, linked_parts, start_at-of, step_at-of}
 use Rattle.config_base.proofs.SameTags.{same_tag-is, is-same_tag}
 
-module _ (net : PlainNet) (policy : PlainPolicy) (cs : List PlainCaseEvidence) (config : PlainConfig) (p : PlainPrefix) (rules : IsNet net) (made : IsConfigOf net policy cs config) (tags : AreTags net cs)
+module _ (net : PlainNet) (policy : PlainPolicy) (cs : List PlainCaseEvidence) (config : PlainConfig) (p : PlainPrefix) (rules : IsNet net)
+    (made : IsConfigOf net policy cs config) (tags : AreTags net cs)
     (k : ℕ) (c : PlainCaseEvidence) (of_case : slice_get cs k ≡ Some c) (of_class : class_of config p ≡ Some (suc k)) (graph_rules : IsGraph c.graph)
     (origin : ℕ → Bool) (external : Bool) (formed : IsWellFormed net origin external c.graph) where
   abbrev Over : ℕ → ℕ → ℕ → ℕ → Type 0
@@ -71,7 +72,16 @@ module _ (net : PlainNet) (policy : PlainPolicy) (cs : List PlainCaseEvidence) (
       let step = link_of u v n m over in
       let b = block_found net policy cs config rules made u v router step.0 in
       let e : Export = record { class = suc k; tag = tag_at c n } in
-      let line : IsExportTo net cs u v e = record { case = c; node = n; next = m; step = step.1; heard = λ peer. heard_at_peers net origin external c.graph graph_rules formed n m step.1.step (ap (is_peer net) step.1.to ∙ peer); tag = refl } in
+      let line : IsExportTo net cs u v e =
+      record {
+        case = c;
+        node = n;
+        next = m;
+        step = step.1;
+        heard = λ peer. heard_at_peers net origin external c.graph graph_rules formed n m step.1.step
+            (ap (is_peer net) step.1.to ∙ peer);
+        tag = refl;
+      } in
       let there = (b.2.exports e).1 line in
       let test = and_from (suc k == suc k) (same_tag (tag_at c n) (tag_at c n)) (eq-eqb (suc k) (suc k) refl) (is-same_tag (tag_at c n) (tag_at c n) refl) in
       is_exported net config (suc k) u v b.0 b.1 (tag_at c n) (any_passes_from_place (exports_tag (suc k) (tag_at c n)) b.0.exports there.0 e there.1 test)
@@ -104,7 +114,8 @@ module _ (net : PlainNet) (policy : PlainPolicy) (cs : List PlainCaseEvidence) (
 
   -- the first import that a step's tag meets, and the step that it's made of
   import_found : (u v n m : ℕ) (tag : Tag) → is_router net v ≡ true → Over u v n m → (is_peer net u || same_tag (if is_peer net u then no_tag else tag_at c n) tag) ≡ true
-      → (a l : ℕ) × Over u v a l × ((is_peer net u || same_tag (if is_peer net u then no_tag else tag_at c a) tag) ≡ true) × (import_of net config (suc k) v u [] tag ≡ Some (tag_at c l, number_at c l))
+      → (a l : ℕ) × Over u v a l × ((is_peer net u || same_tag (if is_peer net u then no_tag else tag_at c a) tag) ≡ true)
+      × (import_of net config (suc k) v u [] tag ≡ Some (tag_at c l, number_at c l))
   import_found u v n m tag router over meets =
       let step = link_of u v n m over in
       let b = block_found net policy cs config rules made v u router (linked_flips net v u ∙ step.0) in
@@ -155,14 +166,16 @@ module _ (net : PlainNet) (policy : PlainPolicy) (cs : List PlainCaseEvidence) (
   given_pair : (o : Option (Tag × ℕ)) (l m : ℕ) → o ≡ Some (tag_at c l, number_at c l) → l ≡ m → option_map gift_of o ≡ Some (pair_of (tag_at c m), number_at c m)
   given_pair o l m h same = ap (option_map gift_of) h ∙ ap (λ x. Some (pair_of (tag_at c x), number_at c x)) same
 
-  pub imports : (u v n m : ℕ) → is_router net u ≡ true → is_router net v ≡ true → Over u v n m → (lines_of net config p (suc k)).imported v u (pair_of (tag_at c n)) ≡ Some (pair_of (tag_at c m), number_at c m)
+  pub imports : (u v n m : ℕ) → is_router net u ≡ true → is_router net v ≡ true → Over u v n m
+      → (lines_of net config p (suc k)).imported v u (pair_of (tag_at c n)) ≡ Some (pair_of (tag_at c m), number_at c m)
   imports u v n m from to over =
       let found = import_found u v n m (tag_at c n) to over (tagged (is_peer net u) (tag_at c n) no_tag) in
       let same = untagged (is_peer net u) (tag_at c found.0) (tag_at c n) no_tag (router_no_peer net u from) found.3 in
       let node = tag_tells u v n m found.0 found.1 from over found.2 same in
       given_pair (import_of net config (suc k) v u [] (tag_at c n)) found.1 m found.4 (next_same n found.0 v m found.1 node over.step found.2.step)
 
-  pub peers : (u v n m : ℕ) → is_router net u ≡ false → is_router net v ≡ true → is_peer net u ≡ true → Over u v n m → (lines_of net config p (suc k)).from_peer v u ≡ Some (pair_of (tag_at c m), number_at c m)
+  pub peers : (u v n m : ℕ) → is_router net u ≡ false → is_router net v ≡ true → is_peer net u ≡ true → Over u v n m
+      → (lines_of net config p (suc k)).from_peer v u ≡ Some (pair_of (tag_at c m), number_at c m)
   peers u v n m off to peer over =
       let found = import_found u v n m no_tag to over (or_left (is_peer net u) _ peer) in
       let node = peer_tells u v n m found.0 found.1 off over found.2 in
@@ -200,7 +213,9 @@ module _ (net : PlainNet) (policy : PlainPolicy) (cs : List PlainCaseEvidence) (
       let made_of = (r.2.own found.0).0 (back.0, back.1) in
       let same : Some made_of.case ≡ Some c = sym made_of.at_class ∙ ap (case_at cs) class ∙ of_case in
       let case_is : made_of.case ≡ c = cc in
-      let node : start_at c.graph v ≡ Some made_of.node = one_start v made_of.node (subst (λ (d : PlainCaseEvidence). is_start d.graph made_of.node ≡ true) case_is made_of.start) (subst (λ (d : PlainCaseEvidence). place_of d.graph made_of.node ≡ v) case_is made_of.at) in
+      let node : start_at c.graph v ≡ Some made_of.node =
+      one_start v made_of.node (subst (λ (d : PlainCaseEvidence). is_start d.graph made_of.node ≡ true) case_is made_of.start)
+      (subst (λ (d : PlainCaseEvidence). place_of d.graph made_of.node ≡ v) case_is made_of.at) in
       let one : Some made_of.node ≡ Some s = sym node ∙ start in
       let node_is : made_of.node ≡ s = cc in
       let tag : found.0.tag ≡ tag_at c s = made_of.tag ∙ ap (λ (d : PlainCaseEvidence). tag_at d made_of.node) case_is ∙ ap (tag_at c) node_is in

@@ -75,7 +75,8 @@ route-line (Some x) = refl
 line-route : (h : Route) → route_of (line_of h) ≡ h
 line-route h = refl
 
-module _ (net : PlainNet) (policy : PlainPolicy) (config : PlainConfig) (f : Failures) (p : PlainPrefix) (class : ℕ) (rules : IsNet net) (of_class : class_of config p ≡ Some class) (r : line.LineRoutes) where
+module _ (net : PlainNet) (policy : PlainPolicy) (config : PlainConfig) (f : Failures) (p : PlainPrefix) (class : ℕ) (rules : IsNet net)
+    (of_class : class_of config p ≡ Some class) (r : line.LineRoutes) where
   abbrev Net : law.Network
   Net = network_of net (is_origin net policy p)
 

@@ -17,10 +17,16 @@ use Rattle.evidence_law.proofs.CaseLists.{inside_itself}
 use Rattle.evidence_law.proofs.ClassFound.{hits, class_in}
 
 -- the statement that governs, with its number
-pub statement_number : (ss : List PlainStatement) (p : PlainPrefix) (k : ℕ) (s : PlainStatement) → statement_from ss p ≡ Some s → (i : ℕ) × (governing_from ss p k ≡ Some (k + i)) × (slice_get ss i ≡ Some s)
+pub statement_number : (ss : List PlainStatement) (p : PlainPrefix) (k : ℕ) (s : PlainStatement) → statement_from ss p ≡ Some s
+    → (i : ℕ) × (governing_from ss p k ≡ Some (k + i)) × (slice_get ss i ≡ Some s)
 statement_number [] p k s h = absurd cc
 statement_number (x ∷ ss) p k s h = elim (cases_Bool (some_contains x.patterns p)) [
-  | inl t ↦ (0, cond-true (some_contains x.patterns p) (Some k) (governing_from ss p (k + 1)) t ∙ ap Some (sym (add-zero k)), sym (cond-true (some_contains x.patterns p) (Some x) (statement_from ss p) t) ∙ h)
+  | inl t ↦ (
+    0,
+    cond-true (some_contains x.patterns p) (Some k) (governing_from ss p (k + 1)) t
+        ∙ ap Some (sym (add-zero k)),
+    sym (cond-true (some_contains x.patterns p) (Some x) (statement_from ss p) t) ∙ h,
+  )
   | inr t ↦
       let rest : statement_from ss p ≡ Some s = sym (cond-false (some_contains x.patterns p) (Some x) (statement_from ss p) t) ∙ h in
       let later = statement_number ss p (k + 1) s rest in
@@ -95,7 +101,8 @@ module _ (net : PlainNet) (policy : PlainPolicy) (p : PlainPrefix) where
     has_case k s rules h =
         let found = list_any_parts (λ pattern. contains pattern p) s.patterns h in
         let plain = not_single found.1 (rules found.1 (found.0, found.2)) found.3 in
-        let there : list_any (λ pattern. not (is_originated policy pattern)) s.patterns ≡ true = any_passes_from_place (λ pattern. not (is_originated policy pattern)) s.patterns found.0 found.1 found.2 (not_from_false _ plain) in
+        let there : list_any (λ pattern. not (is_originated policy pattern)) s.patterns ≡ true =
+        any_passes_from_place (λ pattern. not (is_originated policy pattern)) s.patterns found.0 found.1 found.2 (not_from_false _ plain) in
         rw there refl
 
     abbrev pub Found : ℕ → ℕ → List PlainStatement → ℕ → Type 0

@@ -47,7 +47,8 @@ no_gift net policy config f p outcome free z r = elim (cases_Bool (is_live net f
   | inr t ↦ rw t refl
 ]
 
-module _ (net : PlainNet) (policy : PlainPolicy) (config : PlainConfig) (f : Failures) (p : PlainPrefix) (outcome : Outcome) (class : ℕ) (rules : IsNet net) (of_class : class_of config p ≡ Some class) where
+module _ (net : PlainNet) (policy : PlainPolicy) (config : PlainConfig) (f : Failures) (p : PlainPrefix) (outcome : Outcome) (class : ℕ)
+    (rules : IsNet net) (of_class : class_of config p ≡ Some class) where
   abbrev pub heard : ℕ → ℕ → Option line.LineRoute
   heard v u = line.line_heard (network_of net (is_origin net policy p)) (alive_of net f) (lines_of net config p class) (lines_at outcome) v u
 
@@ -62,7 +63,8 @@ module _ (net : PlainNet) (policy : PlainPolicy) (config : PlainConfig) (f : Fai
   pub sent-refused : (u v : ℕ) (h : Route) → is_peer net u ≡ false → route_at outcome u ≡ Some h → export_of net config class u v h.tag ≡ None → sent net policy config f p outcome u v ≡ None
   sent-refused u v h off r e = rw (of_class, r, e, off) refl
 
-  pub sent-permitted : (u v : ℕ) (h : Route) (t : Tag) → is_peer net u ≡ false → route_at outcome u ≡ Some h → export_of net config class u v h.tag ≡ Some t → sent net policy config f p outcome u v ≡ Some (h.path, t)
+  pub sent-permitted : (u v : ℕ) (h : Route) (t : Tag) → is_peer net u ≡ false → route_at outcome u ≡ Some h
+      → export_of net config class u v h.tag ≡ Some t → sent net policy config f p outcome u v ≡ Some (h.path, t)
   sent-permitted u v h t off r e = rw (of_class, r, e, off) refl
 
   pub given-unsent : (u v : ℕ) → is_live net f u v ≡ true → sent net policy config f p outcome u v ≡ None → given net policy config f p outcome u v ≡ None

@@ -166,7 +166,9 @@ module _ (net : PlainNet) (policy : PlainPolicy) (config : PlainConfig) (f : Fai
 
     pub chosen : (r : ℕ) (h : Route) → is_router net r ≡ true → is_origin net policy p r ≡ false → route_at outcome r ≡ Some h → (z : ℕ) × IsGiven z r h
     chosen r h router other at =
-        let who = and_from (is_router net r && not (is_origin net policy p r)) (not (is_dead f r)) (and_from (is_router net r) (not (is_origin net policy p r)) router (not_from_false _ other)) (not_from_false _ (lives r h at)) in
+        let who =
+        and_from (is_router net r && not (is_origin net policy p r)) (not (is_dead f r))
+        (and_from (is_router net r) (not (is_origin net policy p r)) router (not_from_false _ other)) (not_from_false _ (lives r h at)) in
         let by = (stable.chooses r who).given_by h at in
         (by.0, given_parts by.0 r h by.1)
 

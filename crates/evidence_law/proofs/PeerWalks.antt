@@ -21,7 +21,8 @@ nothing_above net [] peer u rest at walk = refl
 nothing_above net (a ∷ more) peer u rest at walk =
     absurd (true≢false (sym (peer_inside net more peer u rest at) ∙ (walk_parts net (a ∷ more ++ peer ∷ u ∷ rest) walk).1))
 
-pub peer_permits : (net : PlainNet) (s : PlainStatement) (c : PlainCaseEvidence) → IsCaseGraph net s c → (peer u n : ℕ) (rest : List ℕ) → is_peer net peer ≡ true → run c.graph (peer ∷ u ∷ rest) ≡ Some n
+pub peer_permits : (net : PlainNet) (s : PlainStatement) (c : PlainCaseEvidence) → IsCaseGraph net s c → (peer u n : ℕ) (rest : List ℕ)
+    → is_peer net peer ≡ true → run c.graph (peer ∷ u ∷ rest) ≡ Some n
     → permits net (holds c.case.origins) s (peer ∷ u ∷ rest) ≡ true
 peer_permits net s c on peer u n rest at runs =
     let path = runs_are_walks net (holds c.case.origins) c.case.external c.graph on.graph on.faithful.formed (peer ∷ u ∷ rest) n runs in

@@ -31,7 +31,9 @@ use Rattle.routing_law.specs.Laws as laws
 use Rattle.routing_law.proofs.Used.{lines_are_right}
 use Rattle.evidence_law.proofs.PermittedWalks.{permits_parts}
 
-module _ {net : PlainNet} {policy : PlainPolicy} {config : PlainConfig} {f : Failures} {p : PlainPrefix} {outcome : Outcome} {s : PlainStatement} {cs : List PlainCaseEvidence} {k : ℕ} {c : PlainCaseEvidence} (inst : IsCaseAt net policy config f p outcome s cs k c) (numbers : MeetsRules net (IsClaimed net s c.case) c.case.external c.graph (number_at c)) where
+module _ {net : PlainNet} {policy : PlainPolicy} {config : PlainConfig} {f : Failures} {p : PlainPrefix} {outcome : Outcome} {s : PlainStatement}
+    {cs : List PlainCaseEvidence} {k : ℕ} {c : PlainCaseEvidence} (inst : IsCaseAt net policy config f p outcome s cs k c)
+    (numbers : MeetsRules net (IsClaimed net s c.case) c.case.external c.graph (number_at c)) where
   abbrev Origin : ℕ → Bool
   Origin = holds c.case.origins
 
@@ -55,7 +57,9 @@ module _ {net : PlainNet} {policy : PlainPolicy} {config : PlainConfig} {f : Fai
         n.1,
         λ rest m fine rank.
             let parts = good_parts net policy p s inst.same f r rest fine in
-            let b = best.routers r rest m claimed.at_router (no_case_origin inst.same r claimed.no_origin) (claimed_here net policy p s c inst.same r claimed).0 (ranked_path (r ∷ rest) m parts.0 rank) parts.1 in
+            let b =
+            best.routers r rest m claimed.at_router (no_case_origin inst.same r claimed.no_origin)
+            (claimed_here net policy p s c inst.same r claimed).0 (ranked_path (r ∷ rest) m parts.0 rank) parts.1 in
             let one : Some b.0 ≡ Some (line_of h) = sym b.2 ∙ route_line inst r h at in
             let route : b.0 ≡ line_of h = cc in
             let rank_is = path_rank h.path n.0 b.1 ok.0 n.1 (ap (λ (y : line.LineRoute). (ranks_of net s Origin c.graph).of_path y.path) (sym route) ∙ b.3) in
@@ -66,7 +70,9 @@ module _ {net : PlainNet} {policy : PlainPolicy} {config : PlainConfig} {f : Fai
   none_router r claimed at rest fine =
       let parts = good_parts net policy p s inst.same f r rest fine in
       let rank = is_some_parts (rank_of net s.ranked (r ∷ rest)) (permits_parts net Origin s (r ∷ rest) parts.0).3 in
-      let b = best.routers r rest rank.0 claimed.at_router (no_case_origin inst.same r claimed.no_origin) (claimed_here net policy p s c inst.same r claimed).0 (ranked_path (r ∷ rest) rank.0 parts.0 rank.1) parts.1 in
+      let b =
+      best.routers r rest rank.0 claimed.at_router (no_case_origin inst.same r claimed.no_origin)
+      (claimed_here net policy p s c inst.same r claimed).0 (ranked_path (r ∷ rest) rank.0 parts.0 rank.1) parts.1 in
       let clash : None ≡ Some b.0 = sym (ap (option_map line_of) at) ∙ b.2 in
       absurd (cc)
 

@@ -49,7 +49,9 @@ module _ (net : PlainNet) (policy : PlainPolicy) (config : PlainConfig) (f : Fai
       | inr live ↦ elim (cases_Bool (is_origin net policy p r)) [
         | inl own ↦ and_from (is_origin net policy p r) (not (is_dead f r)) own (not_from_false _ live)
         | inr other ↦
-            let who = and_from (is_router net r && not (is_origin net policy p r)) (not (is_dead f r)) (and_from (is_router net r) (not (is_origin net policy p r)) router (not_from_false _ other)) (not_from_false _ live) in
+            let who =
+            and_from (is_router net r && not (is_origin net policy p r)) (not (is_dead f r))
+            (and_from (is_router net r) (not (is_origin net policy p r)) router (not_from_false _ other)) (not_from_false _ live) in
             let by = (stable.chooses r who).given_by h at in
             absurd (none_or_some (given net policy config f p outcome by.0 r) h (no_gift net policy config f p outcome free by.0 r) by.1)
       ]
@@ -111,13 +113,15 @@ module _ (net : PlainNet) (policy : PlainPolicy) (config : PlainConfig) (cs : Li
 
   -- a prefix that a statement governs has its case, or nobody is an origin
   placed : (p : PlainPrefix) (f : Failures) (outcome : Outcome) (s : PlainStatement) → IsPrefix p → IsStable net policy config f p outcome → statement_of policy p ≡ Some s
-      → ((k : ℕ) × (d : PlainCaseEvidence) × (slice_get cs k ≡ Some d) × (statement_at policy d.case.statement ≡ Some s) × IsCaseAt net policy config f p outcome s cs k d) ⊎ IsRightBy net policy config f p s outcome
+      → ((k : ℕ) × (d : PlainCaseEvidence) × (slice_get cs k ≡ Some d) × (statement_at policy d.case.statement ≡ Some s) × IsCaseAt net policy config f p outcome s cs k d)
+      ⊎ IsRightBy net policy config f p s outcome
   placed p f outcome s prefix stable is = elim (case_or_nobody net policy config cs rules kept made p prefix s is) [
     | inr nobody ↦ inr (empty net policy config f p outcome nobody.1 stable s nobody.0)
     | inl c ↦ inl (c.k, c.d, c.at, c.is.number, case_at_class p f outcome s stable c)
   ]
 
-  sound : (p : PlainPrefix) (f : Failures) (outcome : Outcome) (s : PlainStatement) → IsPrefix p → IsStable net policy config f p outcome → statement_of policy p ≡ Some s → IsSoundBy net policy config f p s outcome
+  sound : (p : PlainPrefix) (f : Failures) (outcome : Outcome) (s : PlainStatement) → IsPrefix p → IsStable net policy config f p outcome
+      → statement_of policy p ≡ Some s → IsSoundBy net policy config f p s outcome
   sound p f outcome s prefix stable is = elim (placed p f outcome s prefix stable is) [
     | inl found ↦ sound_case found.4
     | inr none ↦ record { used = λ r h claimed at. (none.used r h claimed at).0; offers = none.offers; transit = none.transit }
@@ -131,16 +135,21 @@ module _ (net : PlainNet) (policy : PlainPolicy) (config : PlainConfig) (cs : Li
       go (Some s) is = rw is (sound p f outcome s prefix stable is)
 
   Rules : Type 0
-  Rules = (k : ℕ) (c : PlainCaseEvidence) (s : PlainStatement) → slice_get cs k ≡ Some c → statement_at policy c.case.statement ≡ Some s → MeetsRules net (IsClaimed net s c.case) c.case.external c.graph (number_at c)
+  Rules =
+      (k : ℕ) (c : PlainCaseEvidence) (s : PlainStatement) → slice_get cs k ≡ Some c → statement_at policy c.case.statement ≡ Some s
+      → MeetsRules net (IsClaimed net s c.case) c.case.external c.graph (number_at c)
 
-  right : Rules → (p : PlainPrefix) (f : Failures) (outcome : Outcome) (s : PlainStatement) → IsPrefix p → IsStable net policy config f p outcome → statement_of policy p ≡ Some s → IsRightBy net policy config f p s outcome
+  right : Rules → (p : PlainPrefix) (f : Failures) (outcome : Outcome) (s : PlainStatement) → IsPrefix p → IsStable net policy config f p outcome
+      → statement_of policy p ≡ Some s → IsRightBy net policy config f p s outcome
   unfolding Rules
   right numbers p f outcome s prefix stable is = elim (placed p f outcome s prefix stable is) [
     | inl found ↦ right_case found.4 (numbers found.0 found.1 s found.2 found.3)
     | inr none ↦ none
   ]
 
-  pub is_right : ((k : ℕ) (c : PlainCaseEvidence) (s : PlainStatement) → slice_get cs k ≡ Some c → statement_at policy c.case.statement ≡ Some s → MeetsRules net (IsClaimed net s c.case) c.case.external c.graph (number_at c)) → IsRight net policy config
+  pub is_right : ((k : ℕ) (c : PlainCaseEvidence) (s : PlainStatement) → slice_get cs k ≡ Some c → statement_at policy c.case.statement ≡ Some s
+      → MeetsRules net (IsClaimed net s c.case) c.case.external c.graph (number_at c))
+      → IsRight net policy config
   unfolding Rules
   is_right numbers p f outcome prefix size stable = go (statement_of policy p) refl
     where

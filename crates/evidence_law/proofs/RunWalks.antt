@@ -51,7 +51,9 @@ module _ (net : PlainNet) (origin : ℕ → Bool) (external : Bool) (g : PlainGr
       let path = l ∷ k ∷ ls in
       let two : nat_le 2 (length path) ≡ true = le-leb 2 (length path) (omega arith) in
       let long = and_from (nat_le 2 (length path)) (steps_linked net path) two (run_linked path n h) in
-      let walk : is_walk net path ≡ true = and_from (nat_le 2 (length path) && steps_linked net path) (not (list_any (is_peer net) (front (k ∷ ls)))) long (not_from_false _ (run_inner l n (k ∷ ls) h)) in
+      let walk : is_walk net path ≡ true =
+      and_from (nat_le 2 (length path) && steps_linked net path) (not (list_any (is_peer net) (front (k ∷ ls)))) long
+      (not_from_false _ (run_inner l n (k ∷ ls) h)) in
       let ends : ends_at_origin origin path ≡ true = and_from (at_last origin path) (not (list_any origin (front path))) (run_last path n h) (not_from_false _ (run_only path n h)) in
       and_from (is_walk net path) (ends_at_origin origin path) walk ends
 

@@ -35,7 +35,8 @@ use Rattle.routing_law.proofs.Used.{used_paths_are_sound}
 use Rattle.graph_base.proofs.RunSteps.{run_begins, run_inside}
 
 -- a prefix of a case, with a stable outcome for it
-pub record IsCaseAt (net : PlainNet) (policy : PlainPolicy) (config : PlainConfig) (f : Failures) (p : PlainPrefix) (outcome : Outcome) (s : PlainStatement) (cs : List PlainCaseEvidence) (k : ℕ) (c : PlainCaseEvidence) : Type 0 where
+pub record IsCaseAt (net : PlainNet) (policy : PlainPolicy) (config : PlainConfig) (f : Failures) (p : PlainPrefix) (outcome : Outcome)
+    (s : PlainStatement) (cs : List PlainCaseEvidence) (k : ℕ) (c : PlainCaseEvidence) : Type 0 where
   pub rules : IsNet net
   pub made : IsConfigOf net policy cs config
   pub tags : AreTags net cs
@@ -47,12 +48,15 @@ pub record IsCaseAt (net : PlainNet) (policy : PlainPolicy) (config : PlainConfi
   pub announced : (v : ℕ) → is_router net v ≡ true → holds c.case.origins v ≡ true → IsIn c.case.prefixes p
   pub stable : IsStable net policy config f p outcome
 
-module _ {net : PlainNet} {policy : PlainPolicy} {config : PlainConfig} {f : Failures} {p : PlainPrefix} {outcome : Outcome} {s : PlainStatement} {cs : List PlainCaseEvidence} {k : ℕ} {c : PlainCaseEvidence} (inst : IsCaseAt net policy config f p outcome s cs k c) where
+module _ {net : PlainNet} {policy : PlainPolicy} {config : PlainConfig} {f : Failures} {p : PlainPrefix} {outcome : Outcome} {s : PlainStatement}
+    {cs : List PlainCaseEvidence} {k : ℕ} {c : PlainCaseEvidence} (inst : IsCaseAt net policy config f p outcome s cs k c) where
   abbrev Origin : ℕ → Bool
   Origin = holds c.case.origins
 
   pub as_lines : line.LinesStable (network_of net Origin) (alive_of net f) (lines_of net config p (suc k)) (lines_at outcome)
-  as_lines = subst (λ (o : ℕ → Bool). line.LinesStable (network_of net o) (alive_of net f) (lines_of net config p (suc k)) (lines_at outcome)) (sym inst.same) (stable_lines net policy config f p outcome (suc k) inst.rules inst.of_class inst.stable)
+  as_lines =
+      subst (λ (o : ℕ → Bool). line.LinesStable (network_of net o) (alive_of net f) (lines_of net config p (suc k)) (lines_at outcome))
+      (sym inst.same) (stable_lines net policy config f p outcome (suc k) inst.rules inst.of_class inst.stable)
 
   pub as_written : spelled.Written (network_of net Origin) (graph_of c.graph (number_at c)) (pairs_of c) (lines_of net config p (suc k))
   as_written = written net policy cs config p inst.rules inst.made inst.tags k c inst.of_case inst.of_class inst.on.graph Origin c.case.external inst.on.faithful.formed inst.announced inst.known
@@ -73,7 +77,8 @@ module _ {net : PlainNet} {policy : PlainPolicy} {config : PlainConfig} {f : Fai
       let permitted = claimed_permits net policy p s c inst.same inst.rules inst.on r x.node x.rest claimed runs in
       (subst (λ path. permits net Origin s path ≡ true) (sym x.begins) permitted, x.free, x.lives)
 
-  pub transit_router : (r : ℕ) (h : Route) → (is_router net r && not (is_origin net policy p r)) ≡ true → route_at outcome r ≡ Some h → (above : List ℕ) × (is_permitted net policy p s (above ++ h.path) ≡ true)
+  pub transit_router : (r : ℕ) (h : Route) → (is_router net r && not (is_origin net policy p r)) ≡ true → route_at outcome r ≡ Some h
+      → (above : List ℕ) × (is_permitted net policy p s (above ++ h.path) ≡ true)
   transit_router r h who at =
       let parts = and_parts (is_router net r) (not (is_origin net policy p r)) who in
       let x = used.routes r (line_of h) parts.0 (no_case_origin inst.same r parts.1) (route_line r h at) in
@@ -94,7 +99,8 @@ module _ {net : PlainNet} {policy : PlainPolicy} {config : PlainConfig} {f : Fai
     | inr t ↦ let clash : None ≡ Some path = sym (rw t refl) ∙ h in absurd (cc)
   ]
 
-  pub offer_line : (r peer : ℕ) → is_router net r ≡ true → is_peer net peer ≡ true → offered net policy config f p outcome r peer ≡ line.offered (alive_of net f) (lines_of net config p (suc k)) (lines_at outcome) r peer
+  pub offer_line : (r peer : ℕ) → is_router net r ≡ true → is_peer net peer ≡ true
+      → offered net policy config f p outcome r peer ≡ line.offered (alive_of net f) (lines_of net config p (suc k)) (lines_at outcome) r peer
   offer_line r peer router at_peer = offered_lines net policy config f p outcome (suc k) inst.rules inst.of_class r peer router at_peer
 
   pub offer_good : (r peer : ℕ) (path : List ℕ) → offered net policy config f p outcome r peer ≡ Some path

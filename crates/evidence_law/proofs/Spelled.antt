@@ -58,7 +58,8 @@ module _ (net : PlainNet) (config : PlainConfig) (class at from : ℕ) (tag : Ta
     | inr t ↦ rw (e, f, t) refl
   ]
 
-  pub import_some : (b : Session) (rule : Import) → block_at net config at from ≡ Some b → find (imports_tag net from class tag) b.imports ≡ Some rule → import_of net config class at from [] tag ≡ Some (gift rule)
+  pub import_some : (b : Session) (rule : Import) → block_at net config at from ≡ Some b → find (imports_tag net from class tag) b.imports ≡ Some rule
+      → import_of net config class at from [] tag ≡ Some (gift rule)
   import_some b rule e f = elim (cases_Bool (is_peer net from)) [
     | inl t ↦ rw (e, f, t) refl
     | inr t ↦ rw (e, f, t) refl

@@ -18,7 +18,8 @@ use Rattle.evidence_law.proofs.Heard.{given-heard, sent-unrouted, sent-refused, 
 use Rattle.routing_law.specs.Network as law
 use Rattle.routing_law.specs.Lines as line
 
-module _ (net : PlainNet) (policy : PlainPolicy) (config : PlainConfig) (f : Failures) (p : PlainPrefix) (outcome : Outcome) (class : ℕ) (rules : IsNet net) (of_class : class_of config p ≡ Some class) where
+module _ (net : PlainNet) (policy : PlainPolicy) (config : PlainConfig) (f : Failures) (p : PlainPrefix) (outcome : Outcome) (class : ℕ)
+    (rules : IsNet net) (of_class : class_of config p ≡ Some class) where
   abbrev pub Origin : ℕ → Bool
   Origin = is_origin net policy p
 
@@ -60,7 +61,8 @@ module _ (net : PlainNet) (policy : PlainPolicy) (config : PlainConfig) (f : Fai
     law_unrouted : route_at outcome u ≡ None → line.offered (alive_of net f) (lines_of net config p class) (lines_at outcome) u peer ≡ None
     law_unrouted r = rw (r, live, off) refl
 
-    law_refused : (h : Route) → route_at outcome u ≡ Some h → export_of net config class u peer h.tag ≡ None → line.offered (alive_of net f) (lines_of net config p class) (lines_at outcome) u peer ≡ None
+    law_refused : (h : Route) → route_at outcome u ≡ Some h → export_of net config class u peer h.tag ≡ None
+        → line.offered (alive_of net f) (lines_of net config p class) (lines_at outcome) u peer ≡ None
     law_refused h r e = rw (r, e, live, off) refl
 
     law_permitted : (h : Route) (t : Tag) → route_at outcome u ≡ Some h → export_of net config class u peer h.tag ≡ Some t

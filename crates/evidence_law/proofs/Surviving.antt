@@ -25,7 +25,10 @@ module _ (net : PlainNet) (f : Failures) where
       let parts = and_parts (not (is_dead f v)) _ h in
       let rest = and_parts (is_live net f u v && not (is_peer net u && is_silent f v u)) (law.survives (alive_of net f) (u ∷ p)) parts.1 in
       let live = (and_parts (is_live net f u v) (not (is_peer net u && is_silent f v u)) rest.0).0 in
-      let link = (and_parts (linked net u v) (not (is_dead_link f u v)) (and_parts (linked net u v && not (is_dead_link f u v)) (not (is_dead f u)) (and_parts (linked net u v && not (is_dead_link f u v) && not (is_dead f u)) (not (is_dead f v)) live).0).0).1 in
+      let link =
+      (and_parts (linked net u v) (not (is_dead_link f u v))
+      (and_parts (linked net u v && not (is_dead_link f u v)) (not (is_dead f u)) (and_parts (linked net u v && not (is_dead_link f u v) && not (is_dead f u)) (not (is_dead f v)) live).0).0).1
+      in
       let other : not (is_dead_link f v u) ≡ true = ap not (any_flips v u f.dead_links) ∙ link in
       and_from (not (is_dead f v) && not (is_dead_link f v u)) (passes_live f (u ∷ p)) (and_from (not (is_dead f v)) (not (is_dead_link f v u)) parts.0 other) (passes_alive (u ∷ p) rest.1)
 
@@ -91,6 +94,8 @@ module _ (net : PlainNet) (f : Failures) where
       alive_walk v rest linked_all peers parts.0 parts.1
 
   -- a path that has a run is a walk
-  pub run-survives : (origin : ℕ → Bool) (external : Bool) (g : PlainGraph) → IsGraph g → IsWellFormed net origin external g → (r n : ℕ) (rest : List ℕ) → run g (r ∷ rest) ≡ Some n → survives net f (r ∷ rest) ≡ true
+  pub run-survives : (origin : ℕ → Bool) (external : Bool) (g : PlainGraph) → IsGraph g → IsWellFormed net origin external g
+      → (r n : ℕ) (rest : List ℕ) → run g (r ∷ rest) ≡ Some n → survives net f (r ∷ rest) ≡ true
       → law.survives (alive_of net f) (r ∷ rest) ≡ true
-  run-survives origin external g ok formed r n rest runs h = alive-survives r rest (run_linked net origin external g ok formed (r ∷ rest) n runs) (run_inner net origin external g ok formed r n rest runs) h
+  run-survives origin external g ok formed r n rest runs h =
+      alive-survives r rest (run_linked net origin external g ok formed (r ∷ rest) n runs) (run_inner net origin external g ok formed r n rest runs) h

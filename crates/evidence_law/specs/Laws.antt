@@ -38,11 +38,15 @@ IsSound net policy config =
 
 -- Whatever the numbers are, a configuration that is made of the graphs of its cases lets only allowed paths be used.
 abbrev pub UsedPathsAreAllowed : Type 0
-UsedPathsAreAllowed = (net : PlainNet) (policy : PlainPolicy) (config : PlainConfig) (cs : List PlainCaseEvidence) → IsNet net → IsPolicyOf net policy → IsMadeOf net policy config cs → IsSound net policy config
+UsedPathsAreAllowed =
+    (net : PlainNet) (policy : PlainPolicy) (config : PlainConfig) (cs : List PlainCaseEvidence) → IsNet net → IsPolicyOf net policy
+    → IsMadeOf net policy config cs → IsSound net policy config
 
 -- Where the evidence passes, the configuration is right.
 abbrev pub PassingEvidenceIsRight : Type 0
-PassingEvidenceIsRight = (net : PlainNet) (policy : PlainPolicy) (config : PlainConfig) (cs : List PlainCaseEvidence) → IsNet net → IsPolicyOf net policy → Passes net policy config cs → IsRight net policy config
+PassingEvidenceIsRight =
+    (net : PlainNet) (policy : PlainPolicy) (config : PlainConfig) (cs : List PlainCaseEvidence) → IsNet net → IsPolicyOf net policy
+    → Passes net policy config cs → IsRight net policy config
 
 -- And whatever fails, there is a stable outcome for every prefix.
 abbrev pub StableOutcomesExist : Type 0

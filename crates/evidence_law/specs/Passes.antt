@@ -56,4 +56,5 @@ AreWithin net policy room (c ∷ cs) =
 pub record Passes (net : PlainNet) (policy : PlainPolicy) (config : PlainConfig) (cs : List PlainCaseEvidence) : Type 0 where
   pub limits : AreWithin net policy all_steps (case_list net policy)
   pub made : IsMadeOf net policy config cs
-  pub rules : (k : ℕ) (c : PlainCaseEvidence) (s : PlainStatement) → slice_get cs k ≡ Some c → statement_at policy c.case.statement ≡ Some s → MeetsRules net (IsClaimed net s c.case) c.case.external c.graph (number_at c)
+  pub rules : (k : ℕ) (c : PlainCaseEvidence) (s : PlainStatement) → slice_get cs k ≡ Some c → statement_at policy c.case.statement ≡ Some s
+      → MeetsRules net (IsClaimed net s c.case) c.case.external c.graph (number_at c)

@@ -14,7 +14,8 @@ use Rattle.evidence_text.specs.declared.fault.EvidenceFault.{EvidenceFault}
 use Rattle.evidence_text.specs.declared.fault.EvidenceFault.TheVariants.{Shape, Number}
 use Rattle.evidence_text.specs.declared.raw.RawCase.{RawCase}
 use Rattle.evidence_text.specs.declared.raw.RawEvidence.{RawEvidence}
-use Rattle.evidence_text.specs.Shape.{each, number_of, number_at, node_of, origins_of, member_of, list_of, row_of, prefix_or, prefix_of, step_of, are_in_order, is_case, is_evidence, case_of, shape_of, greatest}
+use Rattle.evidence_text.specs.Shape.{each, number_of, number_at, node_of, origins_of, member_of, list_of, row_of, prefix_or, prefix_of, step_of, are_in_order, is_case}
+use Rattle.evidence_text.specs.Shape.{is_evidence, case_of, shape_of, greatest}
 use Rattle.evidence_text.specs.Spelled.{numbered_case, numbered}
 
 abbrev pub IsShape : EvidenceFault → Type 0
@@ -55,7 +56,9 @@ list_only f key d = only_bind IsShape (member_of f key d) _ (shape_or f (get key
 
 row_only : (f : Field) (n : ℕ) (d : Data) → IfErr (row_of f n d) IsShape
 unfolding row_of
-row_only f n d = only_bind IsShape (or_fault (Shape f) (list_at d)) _ (shape_or f (list_at d)) (λ row. only_bind IsShape (unless (Shape f) (length row == n)) _ (shape_unless f (length row == n)) (λ _. tt))
+row_only f n d =
+    only_bind IsShape (or_fault (Shape f) (list_at d)) _ (shape_or f (list_at d))
+    (λ row. only_bind IsShape (unless (Shape f) (length row == n)) _ (shape_unless f (length row == n)) (λ _. tt))
 
 node_only : (d : Data) → IfErr (node_of d) IsShape
 unfolding node_of

@@ -39,10 +39,12 @@ ok_weaker : {A : Type 0} (P Q : A → Type 0) (r : Result A EvidenceFault) → (
 ok_weaker P Q (Ok x) f h = f x h
 ok_weaker P Q (Err e) f h = tt
 
-each_ok_of : {A B : Type 0} (P : A → Type 0) (Q : B → Type 0) (f : A → Result B EvidenceFault) → ((x : A) → P x → IfOk (f x) Q) → (xs : List A) → AllByRecursion P xs → IfOk (each f xs) (AllByRecursion Q)
+each_ok_of : {A B : Type 0} (P : A → Type 0) (Q : B → Type 0) (f : A → Result B EvidenceFault) → ((x : A) → P x → IfOk (f x) Q) → (xs : List A)
+    → AllByRecursion P xs → IfOk (each f xs) (AllByRecursion Q)
 each_ok_of P Q f one [] all = tt
 each_ok_of P Q f one (x ∷ xs) all =
-    on_ok (AllByRecursion Q) (f x) _ (λ y is. on_ok (AllByRecursion Q) (each f xs) _ (λ ys are. (of_ok Q (f x) y (one x all.0) is, of_ok (AllByRecursion Q) (each f xs) ys (each_ok_of P Q f one xs all.1) are)))
+    on_ok (AllByRecursion Q) (f x) _
+    (λ y is. on_ok (AllByRecursion Q) (each f xs) _ (λ ys are. (of_ok Q (f x) y (one x all.0) is, of_ok (AllByRecursion Q) (each f xs) ys (each_ok_of P Q f one xs all.1) are)))
 
 anything : {A : Type 0} (xs : List A) → AllByRecursion (λ _. Unit {0}) xs
 anything [] = tt

@@ -1,5 +1,6 @@
 -- Items that are written one after another.
-use Rattle.std.proofs.Common.{◌≡◌, ℕ, zero, suc, ◌+◌, ◌^◌, ◌<◌, ◌≤◌, Bool, true, List, [], ◌∷◌, ◌++◌, length, map, take, drop, subst, get_or, Result, Ok, Err, refl, sym, ap, ◌∙◌, append_assoc, add-one, drop-cons, arith}
+use Rattle.std.proofs.Common.{◌≡◌, ℕ, zero, suc, ◌+◌, ◌^◌, ◌<◌, ◌≤◌, Bool, true, List, [], ◌∷◌, ◌++◌, length, map, take, drop, subst, get_or, Result, Ok, Err, refl, sym}
+use Rattle.std.proofs.Common.{ap, ◌∙◌, append_assoc, add-one, drop-cons, arith}
 use Rattle.std.specs.Prelude.{nat_lt, codes, OnOk, ⊤}
 use Rattle.std.proofs.lemmas.Bool.{lt-ltb}
 use Rattle.std.proofs.lemmas.List.{drop_all}
@@ -57,8 +58,10 @@ pub and_then : (old here new piece others : List ℕ) → here ≡ old ++ piece 
 and_then old here new piece others first rest = rest ∙ ap (λ t. t ++ others) first ∙ append_assoc old piece others
 
 -- the pieces of a case
-pub case_as : (c : PlainCaseEvidence) (external : Bool) (nodes : List Node) (numbers : List ℕ) (tags : List Tag) (origins : List ℕ) (prefixes : List PlainPrefix) (starts : List ℕ) (statement : ℕ) (steps : List (ℕ × ℕ))
-    → external ≡ c.case.external → nodes ≡ c.graph.nodes → numbers ≡ c.numbers → tags ≡ c.tags → origins ≡ members c.case.origins → prefixes ≡ c.case.prefixes → starts ≡ c.graph.starts → statement ≡ c.case.statement → steps ≡ c.graph.steps
+pub case_as : (c : PlainCaseEvidence) (external : Bool) (nodes : List Node) (numbers : List ℕ) (tags : List Tag) (origins : List ℕ)
+    (prefixes : List PlainPrefix) (starts : List ℕ) (statement : ℕ) (steps : List (ℕ × ℕ))
+    → external ≡ c.case.external → nodes ≡ c.graph.nodes → numbers ≡ c.numbers → tags ≡ c.tags → origins ≡ members c.case.origins
+    → prefixes ≡ c.case.prefixes → starts ≡ c.graph.starts → statement ≡ c.case.statement → steps ≡ c.graph.steps
     → codes "{\"external\":" ++ (compact_text (boolean external)
     ++ (codes ",\"nodes\":" ++ (compact_text (array_of (nodes_data nodes numbers tags))
     ++ (codes ",\"origins\":" ++ (compact_text (numbers_data origins)
@@ -91,7 +94,8 @@ whole_text cs =
     ∙ ap (λ t. codes "{\"cases\":" ++ t) (sym (append_assoc cases (codes ",\"version\":" ++ (decimal 1 ++ codes "}")) (codes "\n")
     ∙ ap (λ t. cases ++ (codes ",\"version\":" ++ t)) (append_assoc (decimal 1) (codes "}") (codes "\n"))))
 
-pub whole_pushed : (cs : List PlainCaseEvidence) (t1 t2 t3 : List ℕ) → t1 ≡ codes "{\"cases\":" → t2 ≡ t1 ++ compact_text (array_of (map case_data cs)) → t3 ≡ t2 ++ codes ",\"version\":1}\n" → t3 ≡ evidence_text cs
+pub whole_pushed : (cs : List PlainCaseEvidence) (t1 t2 t3 : List ℕ) → t1 ≡ codes "{\"cases\":"
+    → t2 ≡ t1 ++ compact_text (array_of (map case_data cs)) → t3 ≡ t2 ++ codes ",\"version\":1}\n" → t3 ≡ evidence_text cs
 whole_pushed cs t1 t2 t3 first second third =
     let cases = compact_text (array_of (map case_data cs)) in
     and_then t1 t2 t3 cases (codes ",\"version\":1}\n") second third ∙ ap (λ t. t ++ (cases ++ codes ",\"version\":1}\n")) first ∙ whole_text cs

@@ -42,7 +42,8 @@ use Rattle.evidence_text.proofs.Told.{says}
 use Rattle.evidence_text.proofs.SetMembers.{members_in_order, members_below, set_of_members}
 
 -- what is read of items that are written
-each_map : {A B C : Type 0} (P : A → Type 0) (f : B → Result C EvidenceFault) (g : A → B) (h : A → C) → ((x : A) → P x → f (g x) ≡ Ok (h x)) → (xs : List A) → AllByRecursion P xs → each f (map g xs) ≡ Ok (map h xs)
+each_map : {A B C : Type 0} (P : A → Type 0) (f : B → Result C EvidenceFault) (g : A → B) (h : A → C) → ((x : A) → P x → f (g x) ≡ Ok (h x))
+    → (xs : List A) → AllByRecursion P xs → each f (map g xs) ≡ Ok (map h xs)
 each_map P f g h one [] all = refl
 each_map P f g h one (x ∷ xs) all = rw (one x all.0, each_map P f g h one xs all.1) refl
 
@@ -196,10 +197,12 @@ case_again c is =
       items_as_list-items_of (map string (map prefix_text c.case.prefixes)),
       prefixes_again c.case.prefixes is.prefixes,
       items_as_list-items_of (map (λ n. number (unsigned n)) c.graph.starts),
-      numbers_again field.Starts greatest c.graph.starts (AllByRecursion-weaker (λ n. n < length c.graph.nodes) (λ n. n ≤ greatest) c.graph.starts (λ n low. omega (arith, low, count)) is.graph.starts),
+      numbers_again field.Starts greatest c.graph.starts
+          (AllByRecursion-weaker (λ n. n < length c.graph.nodes) (λ n. n ≤ greatest) c.graph.starts (λ n low. omega (arith, low, count)) is.graph.starts),
       number_ok field.Statement 1 greatest c.case.statement is.rules.stated (omega (arith, is.statement)),
       items_as_list-items_of (map step_data c.graph.steps),
-      each_map (λ (s : ℕ × ℕ). (s.0 < length c.graph.nodes) × (s.1 < length c.graph.nodes)) step_of step_data (λ s. Some s) (λ s low. step_again s (omega (arith, low.0, count), omega (arith, low.1, count))) c.graph.steps is.graph.steps,
+      each_map (λ (s : ℕ × ℕ). (s.0 < length c.graph.nodes) × (s.1 < length c.graph.nodes)) step_of step_data (λ s. Some s)
+          (λ s low. step_again s (omega (arith, low.0, count), omega (arith, low.1, count))) c.graph.steps is.graph.steps,
     )
     refl
 
@@ -252,7 +255,12 @@ made_again : (c : PlainCaseEvidence) → IsWritable c → evidence_of (read_case
 unfolding read_case
 made_again c is =
     let vs = c.graph.nodes in
-    rw (entries_nodes vs c.numbers c.tags is.rules.sized is.rules.tagged, entries_numbers vs c.numbers c.tags is.rules.sized is.rules.tagged, entries_tags vs c.numbers c.tags is.rules.sized is.rules.tagged) refl
+    rw (
+      entries_nodes vs c.numbers c.tags is.rules.sized is.rules.tagged,
+      entries_numbers vs c.numbers c.tags is.rules.sized is.rules.tagged,
+      entries_tags vs c.numbers c.tags is.rules.sized is.rules.tagged,
+    )
+    refl
 
 all_made : (cs : List PlainCaseEvidence) → AllByRecursion IsWritable cs → map evidence_of (map read_case cs) ≡ cs
 all_made [] are = refl
@@ -319,7 +327,8 @@ plain_case c is =
                 (refl, tt),
                 (
                   IsUtf8-are_ascii _ refl,
-                  plain_map (λ (s : ℕ × ℕ). (s.0 < length c.graph.nodes) × (s.1 < length c.graph.nodes)) step_data (λ s low. plain_numbers (s.0 ∷ s.1 ∷ []) (omega (arith, low.0, count), (omega (arith, low.1, count), tt))) c.graph.steps is.graph.steps,
+                  plain_map (λ (s : ℕ × ℕ). (s.0 < length c.graph.nodes) × (s.1 < length c.graph.nodes)) step_data
+                      (λ s low. plain_numbers (s.0 ∷ s.1 ∷ []) (omega (arith, low.0, count), (omega (arith, low.1, count), tt))) c.graph.steps is.graph.steps,
                   tt,
                   tt,
                 ),
@@ -369,5 +378,9 @@ text_depth cs = omega (arith, cases_depth cs)
 pub read_again : (cs : List PlainCaseEvidence) → AllByRecursion IsWritable cs → spelled (evidence_text cs) ≡ Ok cs
 unfolding read_text
 read_again cs are =
-    says (evidence_text cs) cs
-    (read_text cs, ((raw_text cs, (evidence_data cs, json_of-line (evidence_data cs) (plain_text cs are) (text_depth cs), shape_again cs are), text_again cs are), all_placed cs are), refl, all_made cs are)
+    says (evidence_text cs) cs (
+      read_text cs,
+      ((raw_text cs, (evidence_data cs, json_of-line (evidence_data cs) (plain_text cs are) (text_depth cs), shape_again cs are), text_again cs are), all_placed cs are),
+      refl,
+      all_made cs are,
+    )

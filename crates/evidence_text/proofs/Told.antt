@@ -107,4 +107,5 @@ module _ (bytes : List ℕ) where
   says_rules cs is =
       let s = told_by (Ok cs) is in
       subst (AllByRecursion IsCaseEvidence) s.3
-      (AllByRecursion-map evidence_of IsCaseEvidence s.0.cases (AllByRecursion-weaker IsReadCase (λ c. IsCaseEvidence (evidence_of c)) s.0.cases is_case_evidence (read_in bytes s.1.0.0 s.0 (raw_from s.1.0.0 s.1.0.1) s.1.0.2)))
+      (AllByRecursion-map evidence_of IsCaseEvidence s.0.cases
+      (AllByRecursion-weaker IsReadCase (λ c. IsCaseEvidence (evidence_of c)) s.0.cases is_case_evidence (read_in bytes s.1.0.0 s.0 (raw_from s.1.0.0 s.1.0.1) s.1.0.2)))

@@ -4,7 +4,26 @@ ghost use Rattle.std.specs.List.{list_any};
 ghost use Rattle.std.specs.Option.{ForSome};
 ghost use Rattle.serde_json.specs.View.{view};
 ghost use Rattle.net_base.specs.Gives.{GivesUnless};
-ghost use Rattle.evidence_text.specs.Shape.{are_in_order as in_order, ascend_from, case_of, each, has_size as is_of_size, is_case as has_case_keys, is_evidence as has_evidence_keys, list_of, member_of, node_of, number_at as number_at_place, number_of, origins_of, prefix_of, row_of, shape_of, step_of, greatest};
+ghost use Rattle.evidence_text.specs.Shape.{
+  are_in_order as in_order,
+  ascend_from,
+  case_of,
+  each,
+  has_size as is_of_size,
+  is_case as has_case_keys,
+  is_evidence as has_evidence_keys,
+  list_of,
+  member_of,
+  node_of,
+  number_at as number_at_place,
+  number_of,
+  origins_of,
+  prefix_of,
+  row_of,
+  shape_of,
+  step_of,
+  greatest,
+};
 
 use crate::fault::EvidenceFault;
 use crate::numbers::{Numbers, number, pair};

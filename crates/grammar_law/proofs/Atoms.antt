@@ -132,7 +132,8 @@ Inner G (suc n) = ReadsAt G n (ranked_with (inner_at n))
 atom_is : (n : ℕ) (out : List Step) (o : Lexeme) (ls : List Lexeme) → Is symbol.RoundOpen o → atom_with (inner_at n) out (o ∷ ls) ≡ enclosed n out ls
 atom_is n out o ls i = choose-is symbol.RoundOpen (λ t. enclosed n out) (call_step out) o ls i
 
-atom_isnt : (n : ℕ) (out : List Step) (ls : List Lexeme) (l : Lexeme) (rest : List Lexeme) → Isnt symbol.RoundOpen (head ls l) → atom_with (inner_at n) out (ls ++ l ∷ rest) ≡ call_step out (ls ++ l ∷ rest)
+atom_isnt : (n : ℕ) (out : List Step) (ls : List Lexeme) (l : Lexeme) (rest : List Lexeme) → Isnt symbol.RoundOpen (head ls l)
+    → atom_with (inner_at n) out (ls ++ l ∷ rest) ≡ call_step out (ls ++ l ∷ rest)
 atom_isnt n out ls l rest i = choose-isnt symbol.RoundOpen (λ t. enclosed n out) (call_step out) ls l rest i
 
 enclosed-reads : (G : List Step → Before (List Step)) → Encloses G → (n : ℕ) → ReadsAt G n (ranked_with (inner_at n)) → (out xs : List Step) (ts : List Lexeme) (c l : Lexeme) (rest : List Lexeme)

@@ -66,7 +66,8 @@ path_balanced =
     (closes_then OneSet (λ a. Then (Token symbol.Comma) (λ t. Then OneSet (λ b. Rest a b))) place_balanced
     (λ a. closes_then (Token symbol.Comma) (λ t. Then OneSet (λ b. Rest a b)) comma_balanced
     (λ t. closes_then OneSet (λ b. Rest a b) place_balanced
-    (λ b. closes_then _ (λ xs. Closed (path_of xs)) (more_read brackets symbol.Comma OneSet IsOne (λ n. one_at) (brackets.passes symbol.Comma (refl, refl)) refl (one_exact brackets) (a ∷ b ∷ [])).known.balanced
+    (λ b. closes_then _ (λ xs. Closed (path_of xs))
+    (more_read brackets symbol.Comma OneSet IsOne (λ n. one_at) (brackets.passes symbol.Comma (refl, refl)) refl (one_exact brackets) (a ∷ b ∷ [])).known.balanced
     (λ xs. closes_end (path_of xs))))))
 
 nothing_balanced : {A : Type 0} (v : A) → Balanced brackets (Nothing v)
@@ -97,7 +98,8 @@ around n o c ls ms i j inside fits =
     let room = opened n o ((ls ++ c ∷ []) ++ ms) i fits in
     subst (λ k. brackets.Fits k ms) (sym room.1) (closed room.0 c ms j (inside room.0 (c ∷ ms) (subst (brackets.Fits room.0) (append_assoc ls (c ∷ []) ms) room.2)))
 
-joined : (s : Symbol) → IsFlat s → (n : ℕ) (j : Lexeme) (ls ks ms : List Lexeme) → Is s j → ((ns : List Lexeme) → brackets.Fits n (ls ++ ns) → brackets.Fits n ns) → ((ns : List Lexeme) → brackets.Fits n (ks ++ ns) → brackets.Fits n ns)
+joined : (s : Symbol) → IsFlat s → (n : ℕ) (j : Lexeme) (ls ks ms : List Lexeme) → Is s j
+    → ((ns : List Lexeme) → brackets.Fits n (ls ++ ns) → brackets.Fits n ns) → ((ns : List Lexeme) → brackets.Fits n (ks ++ ns) → brackets.Fits n ns)
     → brackets.Fits n ((ls ++ j ∷ ks) ++ ms) → brackets.Fits n ms
 joined s flat n j ls ks ms i left right fits = right ms (brackets.passes s flat n j (ks ++ ms) i (left (j ∷ ks ++ ms) (subst (brackets.Fits n) (append_assoc ls (j ∷ ks) ms) fits)))
 

@@ -47,9 +47,11 @@ link_exact r opens closes =
     behind r symbol.RoundOpen (Then OneSet (λ a. Then (Token symbol.Comma) (λ t. Then OneSet (λ b. Closed (link_of a b)))))
     (ThenPlain IsOne (λ a. ThenPlain (OneToken symbol.Comma) (λ t. ThenPlain IsOne (λ b. ClosedPlain (link_of a b)))))
     (λ n. then one_at (λ a ls. after symbol.Comma ls >>= then one_at (λ b. closing (link_of a b)))) opens refl
-    (in_turn r OneSet IsOne (λ a. Then (Token symbol.Comma) (λ t. Then OneSet (λ b. Closed (link_of a b)))) (λ a. ThenPlain (OneToken symbol.Comma) (λ t. ThenPlain IsOne (λ b. ClosedPlain (link_of a b))))
+    (in_turn r OneSet IsOne (λ a. Then (Token symbol.Comma) (λ t. Then OneSet (λ b. Closed (link_of a b))))
+    (λ a. ThenPlain (OneToken symbol.Comma) (λ t. ThenPlain IsOne (λ b. ClosedPlain (link_of a b))))
     (λ n. one_at) (λ a n ls. after symbol.Comma ls >>= then one_at (λ b. closing (link_of a b))) (one_exact r)
-    (λ a. behind r symbol.Comma (Then OneSet (λ b. Closed (link_of a b))) (ThenPlain IsOne (λ b. ClosedPlain (link_of a b))) (λ n. then one_at (λ b. closing (link_of a b))) (r.passes symbol.Comma (refl, refl)) refl
+    (λ a. behind r symbol.Comma (Then OneSet (λ b. Closed (link_of a b))) (ThenPlain IsOne (λ b. ClosedPlain (link_of a b)))
+    (λ n. then one_at (λ b. closing (link_of a b))) (r.passes symbol.Comma (refl, refl)) refl
     (in_turn r OneSet IsOne (λ b. Closed (link_of a b)) (λ b. ClosedPlain (link_of a b)) (λ n. one_at) (λ b n. closing (link_of a b)) (one_exact r) (λ b. closing_exact r closes (link_of a b)))))
 
 pub link_words : (x : RawCall) (ls : List Lexeme) → LinkPlain x ls → (w : Lexeme) → Is (symbol.Call Link) w → IsCall x (w ∷ ls)
@@ -104,7 +106,8 @@ rest_exact r closes a b =
 path_exact : (r : Room) → Passes r symbol.RoundOpen → Passes r symbol.RoundClose → Exact r PathCall PathPlain (λ n. path_call)
 unfolding path_call
 path_exact r opens closes =
-    behind r symbol.RoundOpen (Then OneSet (λ a. Then (Token symbol.Comma) (λ t. Then OneSet (λ b. Rest a b)))) (ThenPlain IsOne (λ a. ThenPlain (OneToken symbol.Comma) (λ t. ThenPlain IsOne (λ b. RestPlain a b))))
+    behind r symbol.RoundOpen (Then OneSet (λ a. Then (Token symbol.Comma) (λ t. Then OneSet (λ b. Rest a b))))
+    (ThenPlain IsOne (λ a. ThenPlain (OneToken symbol.Comma) (λ t. ThenPlain IsOne (λ b. RestPlain a b))))
     (λ n. then one_at (λ a ls. after symbol.Comma ls >>= then one_at (λ b. rest_at a b))) opens refl
     (in_turn r OneSet IsOne (λ a. Then (Token symbol.Comma) (λ t. Then OneSet (λ b. Rest a b))) (λ a. ThenPlain (OneToken symbol.Comma) (λ t. ThenPlain IsOne (λ b. RestPlain a b)))
     (λ n. one_at) (λ a n ls. after symbol.Comma ls >>= then one_at (λ b. rest_at a b)) (one_exact r)

@@ -40,7 +40,8 @@ choose s f g ls = either (past s ls) (λ l rest. f l rest) (g ls)
 pub choose-is : {A : Type 0} (s : Symbol) (f : Lexeme → List Lexeme → Read A) (g : List Lexeme → Read A) (l : Lexeme) (ls : List Lexeme) → Is s l → choose s f g (l ∷ ls) ≡ f l ls
 choose-is s f g l ls i = ap (λ o. either o (λ l rest. f l rest) (g (l ∷ ls))) (past-is s l ls i)
 
-pub choose-isnt : {A : Type 0} (s : Symbol) (f : Lexeme → List Lexeme → Read A) (g : List Lexeme → Read A) (ls : List Lexeme) (l : Lexeme) (rest : List Lexeme) → Isnt s (head ls l) → choose s f g (ls ++ l ∷ rest) ≡ g (ls ++ l ∷ rest)
+pub choose-isnt : {A : Type 0} (s : Symbol) (f : Lexeme → List Lexeme → Read A) (g : List Lexeme → Read A) (ls : List Lexeme) (l : Lexeme) (rest : List Lexeme)
+    → Isnt s (head ls l) → choose s f g (ls ++ l ∷ rest) ≡ g (ls ++ l ∷ rest)
 choose-isnt s f g ls l rest i =
     ap (λ o. either o (λ l rest. f l rest) (g (ls ++ l ∷ rest))) (ap (past s) (head-tail ls l rest) ∙ past-isnt s (head ls l) (tail ls l rest) i)
 

@@ -1,5 +1,6 @@
 -- Tokens that fit a text are those that it is cut into.
-use Rattle.std.proofs.Common.{◌≡◌, ℕ, zero, suc, ◌+◌, ◌-◌, ◌≤◌, ◌<◌, true, ◌⊎◌, inl, inr, List, [], ◌∷◌, ◌++◌, length, take, drop, Result, Ok, Err, IsUtf8, refl, sym, ap, ◌∙◌, append_assoc, append-nil, length-append, length-drop, take-append-drop, drop-drop, length-take-le, arith}
+use Rattle.std.proofs.Common.{◌≡◌, ℕ, zero, suc, ◌+◌, ◌-◌, ◌≤◌, ◌<◌, true, ◌⊎◌, inl, inr, List, [], ◌∷◌, ◌++◌, length, take, drop, Result, Ok, Err, IsUtf8, refl, sym, ap}
+use Rattle.std.proofs.Common.{◌∙◌, append_assoc, append-nil, length-append, length-drop, take-append-drop, drop-drop, length-take-le, arith}
 use Rattle.std.proofs.Math.Seq.{drop-append_seam, take-append_seam}
 use Rattle.std.proofs.lemmas.Str.{is_utf8-from_IsUtf8}
 use Rattle.std.specs.List.{AllByRecursion, prefix_len}
@@ -65,8 +66,13 @@ pass_gap (IsGap.blank {b = b} {bs = bs} is g) zero from place rest le = absurd (
 pass_gap (IsGap.blank {b = b} {bs = bs} is g) (suc n) from place rest le =
     let piece = blank_piece from place b (bs ++ rest) is in
     let p = pass_gap g n (from + 1) (place_after place (b ∷ [])) rest (omega arith) in
-    let far : from + 1 + length bs ≡ from + length (b ∷ bs) = omega arith in
-    (p.0, p.1, piece_step n from 1 place b (bs ++ rest) [] piece.0 piece.1 ∙ put_nothing (tokens_from n (from + 1) (place_after place (b ∷ [])) (bs ++ rest)) ∙ p.2 ∙ ap (λ z. tokens_from p.0 z (place_after place (b ∷ bs)) rest) far)
+    let far : from + 1 + length bs ≡ from + length (b ∷ bs) = omega arith in (
+      p.0,
+      p.1,
+      piece_step n from 1 place b (bs ++ rest) [] piece.0 piece.1
+          ∙ put_nothing (tokens_from n (from + 1) (place_after place (b ∷ [])) (bs ++ rest)) ∙ p.2
+          ∙ ap (λ z. tokens_from p.0 z (place_after place (b ∷ bs)) rest) far,
+    )
 pass_gap (IsGap.comment {bs = bs} line all g) zero from place rest le = absurd (omega arith)
 pass_gap (IsGap.comment {bs = bs} line all g) (suc n) from place rest le =
     let joined : (35 ∷ line ++ 10 ∷ bs) ++ rest ≡ 35 ∷ line ++ (10 ∷ bs ++ rest) = append_assoc (35 ∷ line) (10 ∷ bs) rest in
@@ -101,7 +107,8 @@ token_taken text t b bs e stands = by (piece_taken place (piece_at (b ∷ bs))) 
         let same : t ≡ u.0 = cc in
         ap (λ (v : Token). v.to) same ∙ u.3
 
-    by : (r : Result ℕ PolicyFault) → piece_taken place (piece_at (b ∷ bs)) ≡ r → (k : ℕ) × (t.to ≡ t.from + k) × (piece_taken place (piece_at (b ∷ bs)) ≡ Ok k) × (token_in t.from place (piece_at (b ∷ bs)) ≡ t ∷ [])
+    by : (r : Result ℕ PolicyFault) → piece_taken place (piece_at (b ∷ bs)) ≡ r
+        → (k : ℕ) × (t.to ≡ t.from + k) × (piece_taken place (piece_at (b ∷ bs)) ≡ Ok k) × (token_in t.from place (piece_at (b ∷ bs)) ≡ t ∷ [])
     by (Err f) is = let never = sym ((piece_parts t.from place b bs).1 f is) ∙ here in absurd cc
     by (Ok k) is = (k, to k ((piece_parts t.from place b bs).0 k is).2, is, here)
 
@@ -109,7 +116,8 @@ put_token : (t : Token) (r : Result (List Token) PolicyFault) (ts : List Token) 
 put_token t r ts e = ap (λ r. r >>= λ more. Ok (t ∷ [] ++ more)) e
 
 -- the token is cut, and what is behind it
-token_step : (text : List ℕ) (t : Token) (ts : List Token) (n : ℕ) → StandsIn text t → t.from < length text → length (drop t.from text) ≤ suc n → tokens_from n t.to (place_of text t.to) (drop t.to text) ≡ Ok ts
+token_step : (text : List ℕ) (t : Token) (ts : List Token) (n : ℕ) → StandsIn text t → t.from < length text → length (drop t.from text) ≤ suc n
+    → tokens_from n t.to (place_of text t.to) (drop t.to text) ≡ Ok ts
     → tokens_from (suc n) t.from (place_of text t.from) (drop t.from text) ≡ Ok (t ∷ ts)
 token_step text t ts n stands some le rest = by (drop t.from text) refl
   where

@@ -67,11 +67,13 @@ unit_at : (n : ℕ) (inner : Reader) → ReadsAt Atom n (atom_with inner) → Re
 unit_at n inner at = record {
   reads = λ out.
       choose-reads brackets n symbol.Not (λ t. Negated out) (Atom out) (λ t. negated (atom_with inner) out) (atom_with inner out) not_passes
-      (λ t. then-reads brackets n (Atom out) (λ y. Nothing (y ++ step.Not ∷ [])) (atom_with inner out) (λ y. nothing (y ++ step.Not ∷ [])) (atom_written.balanced out) (at.reads out) (λ y. (no_token brackets (y ++ step.Not ∷ [])).known.reads n))
+      (λ t. then-reads brackets n (Atom out) (λ y. Nothing (y ++ step.Not ∷ [])) (atom_with inner out) (λ y. nothing (y ++ step.Not ∷ []))
+      (atom_written.balanced out) (at.reads out) (λ y. (no_token brackets (y ++ step.Not ∷ [])).known.reads n))
       (at.reads out);
   sound = λ out.
       choose-sound symbol.Not (λ t. Negated out) (Atom out) (λ t. negated (atom_with inner) out) (atom_with inner out) refl
-      (λ t. then-sound (Atom out) (λ y. Nothing (y ++ step.Not ∷ [])) (atom_with inner out) (λ y. nothing (y ++ step.Not ∷ [])) (at.sound out) (λ y. (no_token brackets (y ++ step.Not ∷ [])).known.sound n))
+      (λ t. then-sound (Atom out) (λ y. Nothing (y ++ step.Not ∷ [])) (atom_with inner out) (λ y. nothing (y ++ step.Not ∷ [])) (at.sound out)
+      (λ y. (no_token brackets (y ++ step.Not ∷ [])).known.sound n))
       (at.sound out);
 }
 
@@ -207,7 +209,8 @@ atom_known = known_of Atom IsAtom (λ n. atom_with (inner_at n)) atom_written (�
 
 -- ---- where they stop
 
-unit_stops : (n : ℕ) → ((out : List Step) → Stops brackets (Onto out IsAtom) n (λ m. atom_with (inner_at m) out)) → (out : List Step) → Stops brackets (Onto out IsUnit) n (λ m. unit_with (inner_at m) out)
+unit_stops : (n : ℕ) → ((out : List Step) → Stops brackets (Onto out IsAtom) n (λ m. atom_with (inner_at m) out)) → (out : List Step)
+    → Stops brackets (Onto out IsUnit) n (λ m. unit_with (inner_at m) out)
 unit_stops n stops out =
     stops_in_words brackets n (UnitPlain out) (Onto out IsUnit) (λ m. unit_with (inner_at m) out) (unit_words out)
     (choose-stops brackets n symbol.Not (λ t. NegatedPlain out) (Onto out IsAtom) (λ t m. negated (atom_with (inner_at m)) out) (λ m. atom_with (inner_at m) out) not_passes refl
@@ -215,7 +218,8 @@ unit_stops n stops out =
     (atom_known out) (stops out) (λ y. (no_token brackets (y ++ step.Not ∷ [])).known.some) (λ y. (no_token brackets (y ++ step.Not ∷ [])).stops n))
     (stops out))
 
-ranked_stops_from : (n : ℕ) → ((out : List Step) → Stops brackets (Onto out IsAtom) n (λ m. atom_with (inner_at m) out)) → (out : List Step) → Stops brackets (Onto out IsRanked) n (λ m. ranked_with (inner_at m) out)
+ranked_stops_from : (n : ℕ) → ((out : List Step) → Stops brackets (Onto out IsAtom) n (λ m. atom_with (inner_at m) out)) → (out : List Step)
+    → Stops brackets (Onto out IsRanked) n (λ m. ranked_with (inner_at m) out)
 ranked_stops_from n atoms =
     let units = unit_stops n atoms in
     let joints = joined_stops and_sign UnitBefore IsUnit IsJoint and_built (λ m. unit_with (inner_at m)) unit_known n units in

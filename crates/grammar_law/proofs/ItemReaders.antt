@@ -47,9 +47,11 @@ pattern_exact : Exact brackets Pattern IsPattern (λ n. pattern_at)
 unfolding pattern_at
 pattern_exact = exact_in_words brackets Pattern (ThenPlain (OneToken symbol.Figure) UpperPlain) IsPattern (λ n. pattern_at) pattern_words
     (in_turn brackets (Token symbol.Figure) (OneToken symbol.Figure) Upper UpperPlain (λ n. first_of symbol.Figure) (λ f n. upper f) figure
-    (λ f. one_of brackets symbol.Le (λ t. Then (Token symbol.Figure) (λ g. Nothing (UpTo f g))) (Nothing (Only f)) (λ t. ThenPlain (OneToken symbol.Figure) (λ g. NoToken (UpTo f g))) (NoToken (Only f))
+    (λ f. one_of brackets symbol.Le (λ t. Then (Token symbol.Figure) (λ g. Nothing (UpTo f g))) (Nothing (Only f))
+    (λ t. ThenPlain (OneToken symbol.Figure) (λ g. NoToken (UpTo f g))) (NoToken (Only f))
     (λ t n. then (first_of symbol.Figure) (λ g. nothing (UpTo f g))) (λ n. nothing (Only f)) (brackets.passes symbol.Le (refl, refl)) refl
-    (λ t. in_turn brackets (Token symbol.Figure) (OneToken symbol.Figure) (λ g. Nothing (UpTo f g)) (λ g. NoToken (UpTo f g)) (λ n. first_of symbol.Figure) (λ g n. nothing (UpTo f g)) figure (λ g. no_token brackets (UpTo f g)))
+    (λ t. in_turn brackets (Token symbol.Figure) (OneToken symbol.Figure) (λ g. Nothing (UpTo f g)) (λ g. NoToken (UpTo f g))
+    (λ n. first_of symbol.Figure) (λ g n. nothing (UpTo f g)) figure (λ g. no_token brackets (UpTo f g)))
     (no_token brackets (Only f))))
 
 pattern_of : (x : RawPattern) (ls : List Lexeme) (l : Lexeme) → IsPattern x ls → Isnt symbol.Le l → Pattern x ls l
@@ -78,7 +80,8 @@ pub predicate_exact : Exact brackets Predicate IsPredicate (λ n. predicate_at)
 unfolding predicate_at
 predicate_exact = exact_in_words brackets Predicate PredicatePlain IsPredicate (λ n. predicate_at) predicate_words
     (one_of brackets symbol.True (λ t. Nothing (All ∷ [])) Patterns (λ t. NoToken (All ∷ [])) (IsList symbol.Or IsPattern) (λ t n. nothing (All ∷ [])) (λ n. listed symbol.Or pattern_at)
-    (brackets.passes symbol.True (refl, refl)) refl (λ t. no_token brackets (All ∷ [])) (list_read brackets symbol.Or Pattern IsPattern (λ n. pattern_at) (brackets.passes symbol.Or (refl, refl)) refl pattern_exact))
+    (brackets.passes symbol.True (refl, refl)) refl (λ t. no_token brackets (All ∷ []))
+    (list_read brackets symbol.Or Pattern IsPattern (λ n. pattern_at) (brackets.passes symbol.Or (refl, refl)) refl pattern_exact))
 
 patterns_head : (l : Lexeme) {xs : List RawPattern} {ls : List Lexeme} → IsList symbol.Or IsPattern xs ls → Is symbol.Figure (head ls l)
 patterns_head l (IsList.list {ts = ts} {us = us} p m) = subst (Is symbol.Figure) (sym (head-append ts us l)) (pattern_head (head us l) p)
@@ -87,7 +90,8 @@ pub predicate_of : (l : Lexeme) → Is symbol.Arrow l → {xs : List RawPattern}
 predicate_of l arrow (IsPredicate.all {l = t} i) = inl (t, [], refl, i, (refl, refl))
 predicate_of l arrow (IsPredicate.patterns {ps = ps} {ts = ts} is) =
     inr (
-      listed_of symbol.Or IsPattern Pattern (Isnt symbol.Le) pattern_of (λ j i. is_other symbol.Or symbol.Le j i refl) l (is_other symbol.Arrow symbol.Le l arrow refl) (is_other symbol.Arrow symbol.Or l arrow refl) is,
+      listed_of symbol.Or IsPattern Pattern (Isnt symbol.Le) pattern_of (λ j i. is_other symbol.Or symbol.Le j i refl) l
+          (is_other symbol.Arrow symbol.Le l arrow refl) (is_other symbol.Arrow symbol.Or l arrow refl) is,
       is_other symbol.Figure symbol.True (head ts l) (patterns_head l is) refl,
     )
 
@@ -127,7 +131,8 @@ sources_exact v =
     (λ t. in_turn brackets Set IsSet (λ x. Ending (v x)) (λ x. EndingPlain (v x)) (λ n. set_at) (λ x n. ending (v x)) (set_exact brackets) (λ x. ending_exact (v x)))
     (ending_exact (v arg.Any))
 
-pub sources_words : (v : Arg → Item) (y : Item) (ls : List Lexeme) → SourcesPlain v y ls → (x : Arg) × (ts : List Lexeme) × (s : Lexeme) × IsFrom x ts × Is symbol.Semicolon s × (y ≡ v x) × (ls ≡ ts ++ s ∷ [])
+pub sources_words : (v : Arg → Item) (y : Item) (ls : List Lexeme) → SourcesPlain v y ls
+    → (x : Arg) × (ts : List Lexeme) × (s : Lexeme) × IsFrom x ts × Is symbol.Semicolon s × (y ≡ v x) × (ls ≡ ts ++ s ∷ [])
 sources_words v y ls (inr p) = let c = closed_words symbol.Semicolon (v arg.Any) y ls p in (arg.Any, [], c.0, IsFrom.left_out, c.1, c.2, c.3)
 sources_words v y ls (inl (t, back, e, i, p)) =
     let c = closed_words symbol.Semicolon (v p.0) y p.2 p.5 in
@@ -147,6 +152,7 @@ pub same_sources : (v : Arg → Item) (ls : List Lexeme) → sources v ls ≡ (f
 unfolding from_at
 same_sources v ls = by (past symbol.From ls)
   where
-    by : (o : Option (Lexeme × List Lexeme)) → either o (λ l rest. set_at rest >>= λ x. ending (v x.0) x.1) (ending (v arg.Any) ls) ≡ (either o (λ l rest. set_at rest) (Ok (arg.Any, ls)) >>= λ x. ending (v x.0) x.1)
+    by : (o : Option (Lexeme × List Lexeme))
+        → either o (λ l rest. set_at rest >>= λ x. ending (v x.0) x.1) (ending (v arg.Any) ls) ≡ (either o (λ l rest. set_at rest) (Ok (arg.Any, ls)) >>= λ x. ending (v x.0) x.1)
     by (Some p) = refl
     by None = refl

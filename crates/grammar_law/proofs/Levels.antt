@@ -57,7 +57,8 @@ side-balanced : (level : Operator) (G : Family) → ((out : List Step) → Balan
 side-balanced level G balanced j so_far =
     then-balanced brackets (G so_far) (λ z. Nothing (z ++ level.step j ∷ [])) (balanced so_far) (λ z. (no_token brackets (z ++ level.step j ∷ [])).known.balanced)
 
-side-plain : (level : Operator) (G : Family) (C : Rule (List Step)) → Written G C → (j : Lexeme) (so_far y : List Step) (ls : List Lexeme) (l : Lexeme) → Side level G j so_far y ls l → SidePlain level C j so_far y ls
+side-plain : (level : Operator) (G : Family) (C : Rule (List Step)) → Written G C
+    → (j : Lexeme) (so_far y : List Step) (ls : List Lexeme) (l : Lexeme) → Side level G j so_far y ls l → SidePlain level C j so_far y ls
 side-plain level G C w j so_far y ls l t = (t.0, t.1, t.2, t.3, w.plain so_far t.0 t.1 (head t.2 l) t.4, t.5)
 
 pub joined_at : (level : Operator) (G : Family) (C : Rule (List Step)) → Written G C → (n : ℕ) (side : Reader) → ReadsAt G n side → ReadsAt (Joined level G) n (joined level side)
@@ -118,7 +119,8 @@ joined_stops level G C Up b side known n stops out =
     (then-stops brackets n (G out) (Onto out C) (λ y. Linked level.sign (SidePlain level C) y) (λ m. side m out) (λ y m. repeat level.sign (linked level (side m)) y)
     (known out) (stops out) (λ y. (y, [], Linked.none))
     (repeat-stops brackets n level.sign (Side level G) (SidePlain level C) (λ j so_far m. linked level (side m) j so_far) (operator_passes level) (level.inner)
-    (λ j so_far. then-known brackets (G so_far) (Onto so_far C) (λ z. Nothing (z ++ level.step j ∷ [])) (λ z. NoToken (z ++ level.step j ∷ [])) (λ m. side m so_far) (λ z m. nothing (z ++ level.step j ∷ []))
+    (λ j so_far. then-known brackets (G so_far) (Onto so_far C) (λ z. Nothing (z ++ level.step j ∷ [])) (λ z. NoToken (z ++ level.step j ∷ []))
+    (λ m. side m so_far) (λ z m. nothing (z ++ level.step j ∷ []))
     (known so_far) (λ z. (no_token brackets (z ++ level.step j ∷ [])).known))
     (λ j so_far. then-stops brackets n (G so_far) (Onto so_far C) (λ z. NoToken (z ++ level.step j ∷ [])) (λ m. side m so_far) (λ z m. nothing (z ++ level.step j ∷ []))
     (known so_far) (stops so_far) (λ z. (no_token brackets (z ++ level.step j ∷ [])).known.some) (λ z. (no_token brackets (z ++ level.step j ∷ [])).stops n))))
@@ -133,7 +135,8 @@ Stands G C Good = (out : List Step) (k : Lexeme) → Good k → (xs : List Step)
 abbrev pub Open : Operator → Family → Family
 Open level G out y ls k = (x : List Step) × (front back : List Lexeme) × (ls ≡ front ++ back) × G out x front (head back k) × Links level.sign (Side level G) k x y back
 
-pub open_base : (level : Operator) (G : Family) (C : Rule (List Step)) (Good : Lexeme → Type 0) → Stands G C Good → (out : List Step) (k : Lexeme) → Good k → {xs : List Step} {ls : List Lexeme} → C xs ls → Open level G out (out ++ xs) ls k
+pub open_base : (level : Operator) (G : Family) (C : Rule (List Step)) (Good : Lexeme → Type 0) → Stands G C Good → (out : List Step) (k : Lexeme)
+    → Good k → {xs : List Step} {ls : List Lexeme} → C xs ls → Open level G out (out ++ xs) ls k
 open_base level G C Good stands out k good {xs} {ls} c = (out ++ xs, ls, [], sym (append-nil ls), stands out k good xs ls c, Links.none)
 
 pub open_step : (level : Operator) (G : Family) (C : Rule (List Step)) (Good : Lexeme → Type 0) → Stands G C Good → (out : List Step) (j k : Lexeme) → Is level.sign j → Good k

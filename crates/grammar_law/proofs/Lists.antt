@@ -69,18 +69,21 @@ more_read r joint G C one passes d x so_far =
     (repeated r joint (λ j. Adding G) (λ j. AddingPlain C) (λ j acc n. adding (one n) acc) passes d (λ j. added r G C one x) so_far)
 
 -- what is there is linked, where each thing may stand before the next token
-pub good_head : {A : Type 0} (joint : Symbol) (One : Rule A) (Good : Lexeme → Type 0) → ((j : Lexeme) → Is joint j → Good j) → (l : Lexeme) → Good l → {xs : List A} {ls : List Lexeme} → IsMore joint One xs ls → Good (head ls l)
+pub good_head : {A : Type 0} (joint : Symbol) (One : Rule A) (Good : Lexeme → Type 0) → ((j : Lexeme) → Is joint j → Good j) → (l : Lexeme) → Good l
+    → {xs : List A} {ls : List Lexeme} → IsMore joint One xs ls → Good (head ls l)
 good_head joint One Good joints l good IsMore.none = good
 good_head joint One Good joints l good (IsMore.more {j = j} i o m) = joints j i
 
-links_of : {A : Type 0} (joint : Symbol) (One : Rule A) (G : Before A) (Good : Lexeme → Type 0) → ((x : A) (ls : List Lexeme) (l : Lexeme) → One x ls → Good l → G x ls l) → ((j : Lexeme) → Is joint j → Good j)
+links_of : {A : Type 0} (joint : Symbol) (One : Rule A) (G : Before A) (Good : Lexeme → Type 0)
+    → ((x : A) (ls : List Lexeme) (l : Lexeme) → One x ls → Good l → G x ls l) → ((j : Lexeme) → Is joint j → Good j)
     → (l : Lexeme) → Good l → {xs : List A} {ls : List Lexeme} → IsMore joint One xs ls → (so_far : List A) → Links joint (λ j. Adding G) l so_far (so_far ++ xs) ls
 links_of joint One G Good each joints l good IsMore.none so_far = subst (λ z. Links joint (λ j. Adding G) l so_far z []) (sym (append-nil so_far)) Links.none
 links_of joint One G Good each joints l good (IsMore.more {j = j} {x = x} {xs = xs} {ts = ts} {us = us} i o m) so_far =
     let here : Adding G so_far (so_far ++ x ∷ []) ts (head us l) = (x, ts, [], sym (append-nil ts), each x ts (head us l) o (good_head joint One Good joints l good m), (refl, refl)) in
     subst (λ z. Links joint (λ j. Adding G) l so_far z (j ∷ ts ++ us)) (append_assoc so_far (x ∷ []) xs) (Links.more i here (links_of joint One G Good each joints l good m (so_far ++ x ∷ [])))
 
-pub many_of : {A : Type 0} (joint : Symbol) (One : Rule A) (G : Before A) (Good : Lexeme → Type 0) → ((x : A) (ls : List Lexeme) (l : Lexeme) → One x ls → Good l → G x ls l) → ((j : Lexeme) → Is joint j → Good j)
+pub many_of : {A : Type 0} (joint : Symbol) (One : Rule A) (G : Before A) (Good : Lexeme → Type 0)
+    → ((x : A) (ls : List Lexeme) (l : Lexeme) → One x ls → Good l → G x ls l) → ((j : Lexeme) → Is joint j → Good j)
     → (l : Lexeme) → Good l → Isnt joint l → {xs : List A} {ls : List Lexeme} → IsMore joint One xs ls → (so_far : List A) → Many joint G so_far (so_far ++ xs) ls l
 many_of joint One G Good each joints l good over m so_far = (links_of joint One G Good each joints l good m so_far, over)
 
@@ -102,7 +105,8 @@ list_read r joint G C one passes d x =
     exact_in_words r (Listed joint G) (ThenPlain C (λ y. Extends joint C (y ∷ []))) (IsList joint C) (λ n. listed joint (one n)) (list_words joint C)
     (in_turn r G C (λ y. Many joint G (y ∷ [])) (λ y. Extends joint C (y ∷ [])) one (λ y n. many joint (one n) (y ∷ [])) x (λ y. more_read r joint G C one passes d x (y ∷ [])))
 
-pub listed_of : {A : Type 0} (joint : Symbol) (One : Rule A) (G : Before A) (Good : Lexeme → Type 0) → ((x : A) (ls : List Lexeme) (l : Lexeme) → One x ls → Good l → G x ls l) → ((j : Lexeme) → Is joint j → Good j)
+pub listed_of : {A : Type 0} (joint : Symbol) (One : Rule A) (G : Before A) (Good : Lexeme → Type 0)
+    → ((x : A) (ls : List Lexeme) (l : Lexeme) → One x ls → Good l → G x ls l) → ((j : Lexeme) → Is joint j → Good j)
     → (l : Lexeme) → Good l → Isnt joint l → {xs : List A} {ls : List Lexeme} → IsList joint One xs ls → Listed joint G xs ls l
 listed_of joint One G Good each joints l good over (IsList.list {x = x} {xs = xs} {ts = ts} {us = us} o m) =
     (x, ts, us, refl, each x ts (head us l) o (good_head joint One Good joints l good m), many_of joint One G Good each joints l good over m (x ∷ []))

@@ -4,7 +4,8 @@ use Rattle.std.specs.Prelude.{◌==◌}
 use lib.ListN.{get_or}
 use Rattle.policy_grammar.specs.declared.lexeme.Lexeme.{Lexeme}
 use Rattle.policy_grammar.specs.declared.symbol.Symbol.{Symbol}
-use Rattle.policy_grammar.specs.declared.symbol.Symbol.TheVariants.{Define, Originate, At, From, True, Le, Or, And, Not, Call, Name, Figure, Arrow, Above, Equals, BraceOpen, BraceClose, RoundOpen, RoundClose, Comma, Semicolon, EndOfText}
+use Rattle.policy_grammar.specs.declared.symbol.Symbol.TheVariants.{Define, Originate, At, From, True, Le, Or, And, Not, Call, Name, Figure, Arrow, Above, Equals}
+use Rattle.policy_grammar.specs.declared.symbol.Symbol.TheVariants.{BraceOpen, BraceClose, RoundOpen, RoundClose, Comma, Semicolon, EndOfText}
 use Rattle.policy_base.specs.declared.call.SetCall.{SetCall}
 use Rattle.policy_base.specs.declared.call.SetCall.TheVariants.{Avoid, Through, NoTransit, Start, End, Exit, Enter}
 use Rattle.policy_base.specs.declared.call.CallWord.{CallWord}

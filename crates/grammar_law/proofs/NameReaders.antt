@@ -79,7 +79,8 @@ inside_at ls = names_at ls >>= λ names. after BraceClose names.1 >>= λ rest. O
 
 inside_exact : (r : Room) → Exact r Inside InsidePlain (λ n. inside_at)
 inside_exact r =
-    in_turn r Names IsNames (λ ns. Then (Token BraceClose) (λ t. Nothing ns)) (λ ns. ThenPlain (OneToken BraceClose) (λ t. NoToken ns)) (λ n. names_at) (λ ns n ls. after BraceClose ls >>= λ rest. Ok (ns, rest))
+    in_turn r Names IsNames (λ ns. Then (Token BraceClose) (λ t. Nothing ns)) (λ ns. ThenPlain (OneToken BraceClose) (λ t. NoToken ns))
+    (λ n. names_at) (λ ns n ls. after BraceClose ls >>= λ rest. Ok (ns, rest))
     (names_exact r) (λ ns. behind r BraceClose (Nothing ns) (NoToken ns) (λ n. nothing ns) (r.passes BraceClose (refl, refl)) refl (no_token r ns))
 
 inside_words : (ns ls : List Lexeme) → InsidePlain ns ls → (o : Lexeme) → Is BraceOpen o → IsGroup ns (o ∷ ls)
@@ -151,12 +152,16 @@ place_exact : (r : Room) → Exact r OneSet PlacePlain (λ n. place_at)
 place_exact r =
     one_of r (Call Any) (λ t. Nothing arg.Any) (Choose BraceOpen (λ t. Then Inside (λ ns. Nothing (arg.Names ns))) (Then (Token Name) (λ n. Nothing (arg.Names (n ∷ [])))))
     (λ t. NoToken arg.Any) (ChoosePlain BraceOpen (λ t. ThenPlain InsidePlain (λ ns. NoToken (arg.Names ns))) (ThenPlain IsName (λ n. NoToken (arg.Names (n ∷ [])))))
-    (λ t n. nothing arg.Any) (λ n. choose BraceOpen (λ t. then inside_at (λ ns. nothing (arg.Names ns))) (then (first_of Name) (λ n. nothing (arg.Names (n ∷ []))))) (r.passes (Call Any) (refl, refl)) refl (λ t. no_token r arg.Any)
+    (λ t n. nothing arg.Any)
+    (λ n. choose BraceOpen (λ t. then inside_at (λ ns. nothing (arg.Names ns))) (then (first_of Name) (λ n. nothing (arg.Names (n ∷ [])))))
+    (r.passes (Call Any) (refl, refl)) refl (λ t. no_token r arg.Any)
     (one_of r BraceOpen (λ t. Then Inside (λ ns. Nothing (arg.Names ns))) (Then (Token Name) (λ n. Nothing (arg.Names (n ∷ []))))
     (λ t. ThenPlain InsidePlain (λ ns. NoToken (arg.Names ns))) (ThenPlain IsName (λ n. NoToken (arg.Names (n ∷ []))))
     (λ t n. then inside_at (λ ns. nothing (arg.Names ns))) (λ n. then (first_of Name) (λ n. nothing (arg.Names (n ∷ [])))) (r.passes BraceOpen (refl, refl)) refl
-    (λ t. in_turn r Inside InsidePlain (λ ns. Nothing (arg.Names ns)) (λ ns. NoToken (arg.Names ns)) (λ n. inside_at) (λ ns n. nothing (arg.Names ns)) (inside_exact r) (λ ns. no_token r (arg.Names ns)))
-    (in_turn r (Token Name) IsName (λ n. Nothing (arg.Names (n ∷ []))) (λ n. NoToken (arg.Names (n ∷ []))) (λ n. first_of Name) (λ x n. nothing (arg.Names (x ∷ []))) (named r) (λ n. no_token r (arg.Names (n ∷ [])))))
+    (λ t. in_turn r Inside InsidePlain (λ ns. Nothing (arg.Names ns)) (λ ns. NoToken (arg.Names ns)) (λ n. inside_at) (λ ns n. nothing (arg.Names ns))
+    (inside_exact r) (λ ns. no_token r (arg.Names ns)))
+    (in_turn r (Token Name) IsName (λ n. Nothing (arg.Names (n ∷ []))) (λ n. NoToken (arg.Names (n ∷ []))) (λ n. first_of Name)
+    (λ x n. nothing (arg.Names (x ∷ []))) (named r) (λ n. no_token r (arg.Names (n ∷ [])))))
 
 place_words : (x : Arg) (ls : List Lexeme) → PlacePlain x ls → IsOne x ls
 place_words x ls (inl p) = subst (λ z. IsOne z ls) (sym p.4.0) (subst (IsOne arg.Any) (sym (p.2 ∙ ap (λ z. p.0 ∷ z) p.4.1)) (IsOne.any p.3))

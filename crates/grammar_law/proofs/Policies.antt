@@ -151,7 +151,8 @@ item_stops m so_far l ls e i s = record {
         ∙ ap (λ z. z >>= λ x. items_up n c (so_far ++ x.0 ∷ []) x.1) (s.always n other le)
 
 -- in a later one
-later_stops : (m : ℕ) (so_far : List Item) (x : Item) (ls mid : List Lexeme) (e : PolicyFault) → brackets.Fits m ls → WasRead ItemBefore ls x mid → PolicyStop m (so_far ++ x ∷ []) mid e → PolicyStop m so_far ls e
+later_stops : (m : ℕ) (so_far : List Item) (x : Item) (ls mid : List Lexeme) (e : PolicyFault) → brackets.Fits m ls → WasRead ItemBefore ls x mid
+    → PolicyStop m (so_far ++ x ∷ []) mid e → PolicyStop m so_far ls e
 later_stops m so_far x ls mid e fits w s = record {
   front = w.front ++ s.front;
   here = s.here;
@@ -187,7 +188,8 @@ policy_stops m zero so_far (l ∷ ls) e le ended fits h = absurd (omega arith)
 policy_stops m (suc c) so_far (l ∷ ls) e le ended fits h =
     by (λ x mid short ended fits h. policy_stops m c (so_far ++ x ∷ []) mid e short ended fits h) (is_or_isnt EndOfText l)
   where
-    rest_stops : Isnt EndOfText l → ((x : Item) (mid : List Lexeme) → length mid ≤ c → Ended mid → brackets.Fits m mid → items_up m c (so_far ++ x ∷ []) mid ≡ Err e → PolicyStop m (so_far ++ x ∷ []) mid e)
+    rest_stops : Isnt EndOfText l
+        → ((x : Item) (mid : List Lexeme) → length mid ≤ c → Ended mid → brackets.Fits m mid → items_up m c (so_far ++ x ∷ []) mid ≡ Err e → PolicyStop m (so_far ++ x ∷ []) mid e)
         → (read : Read Item) → item m (l ∷ ls) ≡ read → (read >>= λ x. items_up m c (so_far ++ x.0 ∷ []) x.1) ≡ Err e → PolicyStop m so_far (l ∷ ls) e
     rest_stops i on (Err f) is stuck = item_stops m so_far l ls e i (item_exact.stops m (l ∷ ls) e ended fits (is ∙ ap Err (err_same {A = List Item} f e stuck)))
     rest_stops i on (Ok p) is stuck =

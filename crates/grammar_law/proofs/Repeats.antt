@@ -61,7 +61,9 @@ links-sound joint Link link d sound zero x (l ∷ ls) y after le ended h = absur
 links-sound {A} joint Link link d sound (suc c) x (l ∷ ls) y after le ended h = by (is_or_isnt joint l)
     (λ mid z short ended h. links-sound joint Link link d sound c z mid y after short ended h)
   where
-    by : Is joint l ⊎ Isnt joint l → ((mid : List Lexeme) (z : A) → length mid ≤ c → Ended mid → chain joint link c z mid ≡ Ok (y, after) → WasRead (Chained joint Link z) mid y after) → WasRead (Chained joint Link x) (l ∷ ls) y after
+    by : Is joint l ⊎ Isnt joint l
+        → ((mid : List Lexeme) (z : A) → length mid ≤ c → Ended mid → chain joint link c z mid ≡ Ok (y, after) → WasRead (Chained joint Link z) mid y after)
+        → WasRead (Chained joint Link x) (l ∷ ls) y after
     by (inr i) on =
         let same = read_same x y (l ∷ ls) after (sym (chain_over joint link (suc c) x l ls i) ∙ h) in
         record {
@@ -121,7 +123,8 @@ first_halts joint C link n x j ls e i s = record {
 }
 
 -- the first link is there, and a later one isn't
-later_halts : {A : Type 0} (r : Room) (joint : Symbol) (Link : Lexeme → A → Before A) (C : Lexeme → A → Rule A) (link : Lexeme → A → ℕ → List Lexeme → Read A) (n : ℕ) (x y : A) (j : Lexeme) (ls mid : List Lexeme) (e : PolicyFault)
+later_halts : {A : Type 0} (r : Room) (joint : Symbol) (Link : Lexeme → A → Before A) (C : Lexeme → A → Rule A)
+    (link : Lexeme → A → ℕ → List Lexeme → Read A) (n : ℕ) (x y : A) (j : Lexeme) (ls mid : List Lexeme) (e : PolicyFault)
     → Is joint j → Known r (Link j x) (C j x) (link j x) → r.Fits n ls → WasRead (Link j x) ls y mid → Halt joint C n link y mid e → Halt joint C n link x (j ∷ ls) e
 later_halts r joint Link C link n x y j ls mid e i known room w t =
     let parts : w.next ∷ w.rest ≡ t.front ++ t.here ∷ t.rest = sym w.left ∙ t.all in
@@ -135,8 +138,11 @@ later_halts r joint Link C link n x y j ls mid e i known room w t =
       fault = t.fault;
       always = λ m c other le short.
           let step = chain_here joint (λ j y. link j y m) c x j ((w.front ++ t.front) ++ t.here ∷ other) i short in
-          let shorter : length (t.front ++ t.here ∷ other) ≤ step.0 = omega (arith, short, step.1, ap length (append_assoc w.front t.front (t.here ∷ other)), length-append w.front (t.front ++ t.here ∷ other)) in
-          step.2 ∙ ap (λ z. z >>= λ p. chain joint (λ j y. link j y m) step.0 p.0 p.1) (reads_on r m (Link j x) (link j x m) (known.reads m) y w.front t.front t.here other by (r.more n m w.front le fits))
+          let shorter : length (t.front ++ t.here ∷ other) ≤ step.0 =
+          omega (arith, short, step.1, ap length (append_assoc w.front t.front (t.here ∷ other)), length-append w.front (t.front ++ t.here ∷ other))
+          in
+          step.2 ∙ ap (λ z. z >>= λ p. chain joint (λ j y. link j y m) step.0 p.0 p.1)
+          (reads_on r m (Link j x) (link j x m) (known.reads m) y w.front t.front t.here other by (r.more n m w.front le fits))
           ∙ t.always m step.0 other le shorter;
       back = t.back;
       thing = t.thing;

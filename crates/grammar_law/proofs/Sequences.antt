@@ -59,7 +59,8 @@ first_stops C D n f g ls e some s =
     }
 
 -- the first thing is there, and the second one isn't
-second_stops : {A B : Type 0} (r : Room) (G : Before A) (C : Rule A) (D : A → Rule B) (n : ℕ) (f : ℕ → List Lexeme → Read A) (g : A → ℕ → List Lexeme → Read B) (ls : List Lexeme) (e : PolicyFault) (x : A) (mid : List Lexeme)
+second_stops : {A B : Type 0} (r : Room) (G : Before A) (C : Rule A) (D : A → Rule B) (n : ℕ) (f : ℕ → List Lexeme → Read A)
+    (g : A → ℕ → List Lexeme → Read B) (ls : List Lexeme) (e : PolicyFault) (x : A) (mid : List Lexeme)
     → Known r G C f → r.Fits n ls → WasRead G ls x mid → Stop (D x) n (g x) mid e → Stop (ThenPlain C D) n (λ m. then (f m) (λ x. g x m)) ls e
 second_stops r G C D n f g ls e x mid k fits w s =
     let parts : w.next ∷ w.rest ≡ s.front ++ s.here ∷ s.rest = sym w.left ∙ s.all in

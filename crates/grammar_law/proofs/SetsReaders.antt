@@ -73,7 +73,8 @@ seeing-later q (suc c) so_far ls = by (past Above ls)
     (λ j rest. seeing_on q j so_far c (set_at rest) (λ more ms. seeing-later q c more ms))
   where
     by : (o : Option (Lexeme × List Lexeme))
-        → ((j : Lexeme) (rest : List Lexeme) → (seeing j (so_far, Some q) rest >>= λ p. chain Above seeing c p.0 p.1) ≡ with_place (Some q) (set_link j so_far rest >>= λ p. chain Above set_link c p.0 p.1))
+        → ((j : Lexeme) (rest : List Lexeme)
+        → (seeing j (so_far, Some q) rest >>= λ p. chain Above seeing c p.0 p.1) ≡ with_place (Some q) (set_link j so_far rest >>= λ p. chain Above set_link c p.0 p.1))
         → either o (λ l rest. seeing l (so_far, Some q) rest >>= λ p. chain Above seeing c p.0 p.1) (Ok ((so_far, Some q), ls))
         ≡ with_place (Some q) (either o (λ l rest. set_link l so_far rest >>= λ p. chain Above set_link c p.0 p.1) (Ok (so_far, ls)))
     by None on = refl

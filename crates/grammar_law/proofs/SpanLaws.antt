@@ -1,5 +1,6 @@
 -- Where the tokens of a text stand.
-use Rattle.std.proofs.Common.{◌≡◌, ℕ, zero, suc, ◌+◌, ◌-◌, ◌≤◌, ◌<◌, Bool, true, false, ◌⊎◌, inl, inr, List, [], ◌∷◌, ◌++◌, length, take, drop, Ok, refl, sym, ap, ◌∙◌, subst, length-drop, length-take-le, take-add, drop-drop, arith, le-leb}
+use Rattle.std.proofs.Common.{◌≡◌, ℕ, zero, suc, ◌+◌, ◌-◌, ◌≤◌, ◌<◌, Bool, true, false, ◌⊎◌, inl, inr, List, [], ◌∷◌, ◌++◌, length, take, drop, Ok, refl, sym, ap, ◌∙◌}
+use Rattle.std.proofs.Common.{subst, length-drop, length-take-le, take-add, drop-drop, arith, le-leb}
 use Rattle.std.proofs.lemmas.List.{nil_from_length}
 use Rattle.std.specs.Prelude.{◌==◌}
 use Rattle.std.specs.List.{AllByRecursion}
@@ -69,7 +70,9 @@ known_from text (suc n) i ts le all h = by (drop i text) refl (λ k ts some le h
     place : Place
     place = place_of text i
 
-    by : (bytes : List ℕ) → drop i text ≡ bytes → ((k : ℕ) (ts : List Token) → 0 < k → i + k ≤ length text → tokens_from n (i + k) (place_of text (i + k)) (drop (i + k) text) ≡ Ok ts → Known text (i + k) ts) → Known text i ts
+    by : (bytes : List ℕ) → drop i text ≡ bytes
+        → ((k : ℕ) (ts : List Token) → 0 < k → i + k ≤ length text → tokens_from n (i + k) (place_of text (i + k)) (drop (i + k) text) ≡ Ok ts → Known text (i + k) ts)
+        → Known text i ts
     by [] e on =
         let stops : tokens_from (suc n) i place (drop i text) ≡ Ok [] = ap (tokens_from (suc n) i place) e in
         subst (Known text i) (ok_same {F = PolicyFault} [] ts (sym stops ∙ h)) (le, tt, inl (subst IsGap (sym e) IsGap.none))
@@ -144,7 +147,8 @@ before_later : (text : List ℕ) (i j : ℕ) → i < j → j ≤ length text →
 before_later text i j lt le =
     let far : i + (j - i) ≡ j = omega arith in
     let long : length (take (j - i) (drop i text)) ≡ j - i = length-take-le (j - i) (drop i text) (omega (arith, length-drop i text)) in
-    subst (λ z. ComesBefore (place_of text i) (place_of text z)) far (subst (ComesBefore (place_of text i)) (sym (place_of-add text i (j - i))) (before_after (place_of text i) (take (j - i) (drop i text)) (omega (arith, long))))
+    subst (λ z. ComesBefore (place_of text i) (place_of text z)) far
+    (subst (ComesBefore (place_of text i)) (sym (place_of-add text i (j - i))) (before_after (place_of text i) (take (j - i) (drop i text)) (omega (arith, long))))
 
 all_ascend : (text : List ℕ) (i : ℕ) (ts : List Token) → SpansAscend i ts (length text) → AllByRecursion (Stands text) ts → PlacesAscend ts (place_of text (length text))
 all_ascend text i [] s all = tt

@@ -60,7 +60,8 @@ read-policy bytes tokens end items h =
     subst (λ z. IsPolicy z ts) (sym r.given) (subst (IsPolicy r.items) (sym same) r.policy)
 
 -- a policy and an end are read with room enough
-read_with : (m : ℕ) (end : Lexeme) → Is EndOfText end → (items : List Item) (ts : List Lexeme) → IsPolicy items ts → brackets.Fits m ts → items_up m (length (ts ++ end ∷ [])) [] (ts ++ end ∷ []) ≡ Ok items
+read_with : (m : ℕ) (end : Lexeme) → Is EndOfText end → (items : List Item) (ts : List Lexeme) → IsPolicy items ts → brackets.Fits m ts
+    → items_up m (length (ts ++ end ∷ [])) [] (ts ++ end ∷ []) ≡ Ok items
 read_with m end i items ts p fits = reads_policy m end [] i p fits (length (ts ++ end ∷ [])) [] (le_refl (length (ts ++ end ∷ [])))
 
 pub policy-read : (bytes : List ℕ) (tokens : List Token) (end : Place) (items : List Item) → IsPolicy items (map (lexeme_of bytes) tokens) → first_deep 0 (lexemes_of bytes tokens end) ≡ None
@@ -81,7 +82,8 @@ text_parts : {items : List Item} {ls : List Lexeme} → IsText items ls → (ts 
 text_parts (IsText.text {ts = ts} {end = end} p i) = (ts, end, p, i, refl)
 
 -- where it always stops, no text goes on
-never_goes_on : (front : List Lexeme) (here : Lexeme) (e : PolicyFault) → ((n c : ℕ) (other : List Lexeme) → 64 ≤ n → length (front ++ here ∷ other) ≤ c → items_up n c [] (front ++ here ∷ other) ≡ Err e)
+never_goes_on : (front : List Lexeme) (here : Lexeme) (e : PolicyFault)
+    → ((n c : ℕ) (other : List Lexeme) → 64 ≤ n → length (front ++ here ∷ other) ≤ c → items_up n c [] (front ++ here ∷ other) ≡ Err e)
     → IsFront (front ++ here ∷ []) → ⊥
 never_goes_on front here e always is =
     let t = text_parts is.2 in

@@ -21,7 +21,8 @@ use Rattle.grammar_law.proofs.Lists.{exact_in_words}
 use Rattle.grammar_law.proofs.NameReaders.{named, Names, names_exact, names_of, Group, group_exact, group_of, behind_words, closed_words, behind_of, closed_of}
 use Rattle.grammar_law.proofs.Atoms.{Onto}
 use Rattle.grammar_law.proofs.Expressions.{RankedBefore, ranked_exact, ranked_stands, EndsRanked}
-use Rattle.grammar_law.proofs.ItemReaders.{Predicate, predicate_exact, predicate_of, predicate_head, figure, Ending, EndingPlain, ending, ending_exact, Sources, SourcesPlain, sources, sources_exact, sources_words, sources_of, sources_head, same_sources}
+use Rattle.grammar_law.proofs.ItemReaders.{Predicate, predicate_exact, predicate_of, predicate_head, figure, Ending, EndingPlain, ending, ending_exact, Sources}
+use Rattle.grammar_law.proofs.ItemReaders.{SourcesPlain, sources, sources_exact, sources_words, sources_of, sources_head, same_sources}
 use Rattle.grammar_law.proofs.Nesting.{brackets}
 
 -- ---- a group
@@ -35,10 +36,13 @@ DefinitionPlain = ThenPlain IsName (λ n. ThenPlain (OneToken symbol.Equals) (λ
 define_exact : Exact brackets Definition DefinitionPlain (λ m. define_at)
 unfolding define_at
 define_exact =
-    in_turn brackets (Token symbol.Name) IsName (λ n. Then (Token symbol.Equals) (λ t. Then Group (λ ns. Ending (Define n ns)))) (λ n. ThenPlain (OneToken symbol.Equals) (λ t. ThenPlain IsGroup (λ ns. EndingPlain (Define n ns))))
+    in_turn brackets (Token symbol.Name) IsName (λ n. Then (Token symbol.Equals) (λ t. Then Group (λ ns. Ending (Define n ns))))
+    (λ n. ThenPlain (OneToken symbol.Equals) (λ t. ThenPlain IsGroup (λ ns. EndingPlain (Define n ns))))
     (λ m. first_of symbol.Name) (λ n m ls. after symbol.Equals ls >>= then braced_at (λ ns. ending (Define n ns))) (named brackets)
-    (λ n. behind brackets symbol.Equals (Then Group (λ ns. Ending (Define n ns))) (ThenPlain IsGroup (λ ns. EndingPlain (Define n ns))) (λ m. then braced_at (λ ns. ending (Define n ns))) (brackets.passes symbol.Equals (refl, refl)) refl
-    (in_turn brackets Group IsGroup (λ ns. Ending (Define n ns)) (λ ns. EndingPlain (Define n ns)) (λ m. braced_at) (λ ns m. ending (Define n ns)) (group_exact brackets) (λ ns. ending_exact (Define n ns))))
+    (λ n. behind brackets symbol.Equals (Then Group (λ ns. Ending (Define n ns))) (ThenPlain IsGroup (λ ns. EndingPlain (Define n ns)))
+    (λ m. then braced_at (λ ns. ending (Define n ns))) (brackets.passes symbol.Equals (refl, refl)) refl
+    (in_turn brackets Group IsGroup (λ ns. Ending (Define n ns)) (λ ns. EndingPlain (Define n ns)) (λ m. braced_at) (λ ns m. ending (Define n ns))
+    (group_exact brackets) (λ ns. ending_exact (Define n ns))))
 
 define_words : (x : Item) (ls : List Lexeme) → DefinitionPlain x ls → (d : Lexeme) → Is symbol.Define d → IsItem x (d ∷ ls)
 define_words x ls p d i =
@@ -60,10 +64,13 @@ OriginPlain = ThenPlain (OneToken symbol.Figure) (λ f. ThenPlain (OneToken symb
 originate_exact : Exact brackets Origin OriginPlain (λ m. originate_at)
 unfolding originate_at
 originate_exact =
-    in_turn brackets (Token symbol.Figure) (OneToken symbol.Figure) (λ f. Then (Token symbol.At) (λ t. Then Names (λ ns. Ending (Originate f ns)))) (λ f. ThenPlain (OneToken symbol.At) (λ t. ThenPlain IsNames (λ ns. EndingPlain (Originate f ns))))
+    in_turn brackets (Token symbol.Figure) (OneToken symbol.Figure) (λ f. Then (Token symbol.At) (λ t. Then Names (λ ns. Ending (Originate f ns))))
+    (λ f. ThenPlain (OneToken symbol.At) (λ t. ThenPlain IsNames (λ ns. EndingPlain (Originate f ns))))
     (λ m. first_of symbol.Figure) (λ f m ls. after symbol.At ls >>= then names_at (λ ns. ending (Originate f ns))) figure
-    (λ f. behind brackets symbol.At (Then Names (λ ns. Ending (Originate f ns))) (ThenPlain IsNames (λ ns. EndingPlain (Originate f ns))) (λ m. then names_at (λ ns. ending (Originate f ns))) (brackets.passes symbol.At (refl, refl)) refl
-    (in_turn brackets Names IsNames (λ ns. Ending (Originate f ns)) (λ ns. EndingPlain (Originate f ns)) (λ m. names_at) (λ ns m. ending (Originate f ns)) (names_exact brackets) (λ ns. ending_exact (Originate f ns))))
+    (λ f. behind brackets symbol.At (Then Names (λ ns. Ending (Originate f ns))) (ThenPlain IsNames (λ ns. EndingPlain (Originate f ns)))
+    (λ m. then names_at (λ ns. ending (Originate f ns))) (brackets.passes symbol.At (refl, refl)) refl
+    (in_turn brackets Names IsNames (λ ns. Ending (Originate f ns)) (λ ns. EndingPlain (Originate f ns)) (λ m. names_at)
+    (λ ns m. ending (Originate f ns)) (names_exact brackets) (λ ns. ending_exact (Originate f ns))))
 
 originate_words : (x : Item) (ls : List Lexeme) → OriginPlain x ls → (o : Lexeme) → Is symbol.Originate o → IsItem x (o ∷ ls)
 originate_words x ls p o i =
@@ -91,11 +98,13 @@ statement m = then predicate_at (λ ps ls. after symbol.Arrow ls >>= then (ranke
 
 statement_exact : Exact brackets Statement StatementPlain statement
 statement_exact =
-    in_turn brackets Predicate IsPredicate (λ ps. Then (Token symbol.Arrow) (λ t. Then (RankedBefore []) (λ xs. Sources (stated ps xs)))) (λ ps. ThenPlain (OneToken symbol.Arrow) (λ t. ThenPlain (Onto [] IsRanked) (λ xs. SourcesPlain (stated ps xs))))
+    in_turn brackets Predicate IsPredicate (λ ps. Then (Token symbol.Arrow) (λ t. Then (RankedBefore []) (λ xs. Sources (stated ps xs))))
+    (λ ps. ThenPlain (OneToken symbol.Arrow) (λ t. ThenPlain (Onto [] IsRanked) (λ xs. SourcesPlain (stated ps xs))))
     (λ m. predicate_at) (λ ps m ls. after symbol.Arrow ls >>= then (ranked_with (inner_at m) []) (λ xs. sources (stated ps xs))) predicate_exact
     (λ ps. behind brackets symbol.Arrow (Then (RankedBefore []) (λ xs. Sources (stated ps xs))) (ThenPlain (Onto [] IsRanked) (λ xs. SourcesPlain (stated ps xs)))
     (λ m. then (ranked_with (inner_at m) []) (λ xs. sources (stated ps xs))) (brackets.passes symbol.Arrow (refl, refl)) refl
-    (in_turn brackets (RankedBefore []) (Onto [] IsRanked) (λ xs. Sources (stated ps xs)) (λ xs. SourcesPlain (stated ps xs)) (λ m. ranked_with (inner_at m) []) (λ xs m. sources (stated ps xs)) (ranked_exact []) (λ xs. sources_exact (stated ps xs))))
+    (in_turn brackets (RankedBefore []) (Onto [] IsRanked) (λ xs. Sources (stated ps xs)) (λ xs. SourcesPlain (stated ps xs))
+    (λ m. ranked_with (inner_at m) []) (λ xs m. sources (stated ps xs)) (ranked_exact []) (λ xs. sources_exact (stated ps xs))))
 
 statement_words : (x : Item) (ls : List Lexeme) → StatementPlain x ls → IsItem x ls
 statement_words x ls p =
@@ -110,7 +119,8 @@ same_statement : (ls : List Lexeme) → statement 64 ls ≡ statement_at ls
 unfolding statement_at
 same_statement ls =
     ap (λ (k : List RawPattern × List Lexeme → Read Item). predicate_at ls >>= k)
-    (fun_ext (λ ps. ap (λ (k : List Step × List Lexeme → Read Item). after symbol.Arrow ps.1 >>= λ behind. ranked_with (inner_at 64) [] behind >>= k) (fun_ext (λ xs. same_sources (stated ps.0 xs.0) xs.1))))
+    (fun_ext (λ ps. ap (λ (k : List Step × List Lexeme → Read Item). after symbol.Arrow ps.1 >>= λ behind. ranked_with (inner_at 64) [] behind >>= k)
+    (fun_ext (λ xs. same_sources (stated ps.0 xs.0) xs.1))))
 
 -- ---- an item
 
@@ -133,7 +143,8 @@ pub item_exact : Exact brackets ItemBefore IsItem item
 item_exact = exact_in_words brackets ItemBefore ItemPlain IsItem item item_words
     (one_of brackets symbol.Define (λ t. Definition) (Choose symbol.Originate (λ t. Origin) Statement) (λ t. DefinitionPlain) (ChoosePlain symbol.Originate (λ t. OriginPlain) StatementPlain)
     (λ t m. define_at) (λ m. choose symbol.Originate (λ t. originate_at) (statement m)) (brackets.passes symbol.Define (refl, refl)) refl (λ t. define_exact)
-    (one_of brackets symbol.Originate (λ t. Origin) Statement (λ t. OriginPlain) StatementPlain (λ t m. originate_at) statement (brackets.passes symbol.Originate (refl, refl)) refl (λ t. originate_exact) statement_exact))
+    (one_of brackets symbol.Originate (λ t. Origin) Statement (λ t. OriginPlain) StatementPlain (λ t m. originate_at) statement
+    (brackets.passes symbol.Originate (refl, refl)) refl (λ t. originate_exact) statement_exact))
 
 pub same_item : (ls : List Lexeme) → item 64 ls ≡ item_at ls
 unfolding item_at
@@ -201,7 +212,11 @@ item_of l (IsItem.state {ps = ps} {xs = xs} {x = x} {a = a} {s = s} {ts = ts} {u
       behind_of symbol.Arrow (Then (RankedBefore []) (λ xs. Sources (stated ps xs))) (stated ps xs x) a (us ++ (vs ++ s ∷ [])) l i
           (xs, us, vs ++ s ∷ [], refl, ranked_stands [] (head (vs ++ s ∷ []) l) next r, sources_of (stated ps xs) s l m f),
     ) in
-    inr (inr (read, subst (Isnt symbol.Originate) (sym first) (unlike symbol.Originate (head ts a) refl refl begins)), subst (Isnt symbol.Define) (sym first) (unlike symbol.Define (head ts a) refl refl begins))
+    inr (
+      inr (read, subst (Isnt symbol.Originate) (sym first) (unlike symbol.Originate (head ts a) refl refl begins)),
+      subst (Isnt symbol.Define)
+          (sym first) (unlike symbol.Define (head ts a) refl refl begins),
+    )
 
 -- an item has a first token, and that isn't the end of the text
 pub item_begins : {x : Item} {ls : List Lexeme} → IsItem x ls → (t : Lexeme) × (rest : List Lexeme) × (ls ≡ t ∷ rest) × Isnt symbol.EndOfText t

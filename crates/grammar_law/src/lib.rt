@@ -43,7 +43,8 @@ pub fn what_is_read_is_a_policy()
 
 /// Tokens that are written as some items by the grammar are read as these, where no bracket is too deep.
 pub fn every_policy_is_read()
-    ensures { (bytes : List ℕ) (tokens : List Token) (end : Place) (items : List Item) → IsPolicy items (map (lexeme_of bytes) tokens) → first_deep 0 (lexemes_of bytes tokens end) ≡ None → items_of (lexemes_of bytes tokens end) ≡ Ok items }
+    ensures { (bytes : List ℕ) (tokens : List Token) (end : Place) (items : List Item) → IsPolicy items (map (lexeme_of bytes) tokens)
+        → first_deep 0 (lexemes_of bytes tokens end) ≡ None → items_of (lexemes_of bytes tokens end) ≡ Ok items }
 {}
 
 /// No tokens are written as two policies.
@@ -55,8 +56,11 @@ pub fn tokens_are_one_policy()
 /// before it begin some policy, and with it they begin none. The end of the text counts as a token, so that a text which ends too
 /// early is a front of a policy and none itself.
 pub fn syntax_names_the_first_wrong_token()
-    ensures only { (bytes : List ℕ) (tokens : List Token) (end : Place) (e : PolicyFault) → first_deep 0 (lexemes_of bytes tokens end) ≡ None → items_of (lexemes_of bytes tokens end) ≡ Err e → (place : Place) × (e ≡ PolicyFault.Syntax place) × FirstWrong (lexemes_of bytes tokens end) place }
-    ensures all { (bytes : List ℕ) (tokens : List Token) (end place : Place) → first_deep 0 (lexemes_of bytes tokens end) ≡ None → FirstWrong (lexemes_of bytes tokens end) place → items_of (lexemes_of bytes tokens end) ≡ Err (PolicyFault.Syntax place) }
+    ensures only { (bytes : List ℕ) (tokens : List Token) (end : Place) (e : PolicyFault) → first_deep 0 (lexemes_of bytes tokens end) ≡ None
+        → items_of (lexemes_of bytes tokens end) ≡ Err e
+        → (place : Place) × (e ≡ PolicyFault.Syntax place) × FirstWrong (lexemes_of bytes tokens end) place }
+    ensures all { (bytes : List ℕ) (tokens : List Token) (end place : Place) → first_deep 0 (lexemes_of bytes tokens end) ≡ None
+        → FirstWrong (lexemes_of bytes tokens end) place → items_of (lexemes_of bytes tokens end) ≡ Err (PolicyFault.Syntax place) }
 {}
 
 /// The tokens of a text are exactly those that it is cut into: their spans stand in order, each is the piece of the text that

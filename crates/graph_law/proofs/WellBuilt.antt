@@ -1,5 +1,6 @@
 -- The graph that is built is well formed.
-use Rattle.std.proofs.Common.{◌≡◌, ℕ, ◌+◌, ◌<◌, ◌≤◌, true, false, not, ◌&&◌, ◌||◌, ◌==◌, IsTrue, nat_eq, List, [], ◌∷◌, map, length, slice_get, flat_map, Some, refl, sym, ap, ◌∙◌, subst, inl, inr, ⊎_elim, arith, eqb-true}
+use Rattle.std.proofs.Common.{◌≡◌, ℕ, ◌+◌, ◌<◌, ◌≤◌, true, false, not, ◌&&◌, ◌||◌, ◌==◌, IsTrue, nat_eq, List, [], ◌∷◌, map, length, slice_get, flat_map, Some, refl, sym}
+use Rattle.std.proofs.Common.{ap, ◌∙◌, subst, inl, inr, ⊎_elim, arith, eqb-true}
 use Rattle.std.proofs.lemmas.Bool.{and_parts, and_from, or_cases, not-true, false≢true}
 use Rattle.std.proofs.lemmas.Option.{same_Some}
 use Rattle.list_laws.proofs.Apart.{Apart, Apart-append, Apart-weaken, Apart-map, IsDistinct-from_apart, place_is_one}
@@ -21,7 +22,8 @@ use Rattle.net_base.proofs.NumbersBelow.{below_from_In, Apart-numbers_below}
 use Rattle.graph_law.proofs.Standings.{slice_get-place_in}
 use Rattle.graph_law.proofs.Targets.{IsBegin, IsNext, begin_from_In, next_from_In, Apart-targets}
 use Rattle.net_base.proofs.RoutersAndPeers.{peer_no_router}
-use Rattle.graph_law.proofs.Nodes.{node_at, place_at, standing_at, standings_apart, start_at_front, start_or_target, In-next, start_below, start_from_below, step_parts, step_made, steps_from_parts, node_within}
+use Rattle.graph_law.proofs.Nodes.{node_at, place_at, standing_at, standings_apart, start_at_front, start_or_target, In-next, start_below, start_from_below, step_parts}
+use Rattle.graph_law.proofs.Nodes.{step_made, steps_from_parts, node_within}
 use Rattle.graph_base.proofs.StartsAndSteps.{in_step}
 use Rattle.standings.proofs.SameStandings.{same-equal}
 

@@ -1,5 +1,6 @@
 -- Entries of tables, and the best nodes as far as a loop has come.
-use Rattle.std.proofs.Common.{◌≡◌, ◌≢◌, ◌++◌, cond, ℕ, zero, suc, ◌+◌, ◌<◌, ◌≤◌, Bool, true, false, List, [], ◌∷◌, length, get_or, set, replicate, get_or-set_same, get_or-set_other, length-set, Option, Some, None, refl, sym, ap, ◌∙◌, subst, inl, inr, arith, ltb-true, ltb-false}
+use Rattle.std.proofs.Common.{◌≡◌, ◌≢◌, ◌++◌, cond, ℕ, zero, suc, ◌+◌, ◌<◌, ◌≤◌, Bool, true, false, List, [], ◌∷◌, length, get_or, set, replicate, get_or-set_same}
+use Rattle.std.proofs.Common.{get_or-set_other, length-set, Option, Some, None, refl, sym, ap, ◌∙◌, subst, inl, inr, arith, ltb-true, ltb-false}
 use Rattle.std.specs.Prelude.{◌&&◌, nat_lt, option_map, slice_get, unwrap_or}
 use Rattle.std.specs.List.{AllByRecursion}
 use Rattle.std.proofs.lemmas.Bool.{and_right, both_ways, cases_eq, cases_lt}

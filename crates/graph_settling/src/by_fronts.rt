@@ -13,5 +13,6 @@ ghost use Rattle.graph_settling.specs.ByFronts.{IsFirstOf, gives, is_fresh, step
 pub fn routers_are_settled_by_fronts()
     ensures next { (w : Setup) (t : Tops w) (k v n : ℕ) (o : Option ℕ) → WellFormed w.net w.graph → NamesDiffer w.net → chooses w.net w.alive v ≡ true → rounds w t.top k v ≡ None → t.top v ≡ Some n
         → IsFirstOf w (gives w t.top k v (w.graph.number n)) o → rounds w t.top (suc k) v ≡ option_and_then (stepped w (rounds w t.top k) v) o }
-    ensures end { (w : Setup) (t : Tops w) (k : ℕ) → WellFormed w.net w.graph → MeetsRules w.net w.graph → ((u : ℕ) → u < w.net.size → is_fresh w t.top k u ≡ false) → FullyStable w (rounds w t.top k) }
+    ensures end { (w : Setup) (t : Tops w) (k : ℕ) → WellFormed w.net w.graph → MeetsRules w.net w.graph
+        → ((u : ℕ) → u < w.net.size → is_fresh w t.top k u ≡ false) → FullyStable w (rounds w t.top k) }
 {}

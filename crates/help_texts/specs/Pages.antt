@@ -6,7 +6,8 @@ use Rattle.help_texts.specs.declared.pages.judging.TheConstants.{AUDIT, CHECK, C
 use Rattle.help_texts.specs.declared.pages.program.TheConstants.{COMMANDS, HELP, VERSION, VERSION_PAGE}
 use Rattle.help_texts.specs.declared.pages.telling.TheConstants.{DRAIN, IMPACT, PROMISES, REPLAY, SETTLE, TRACE, WHATIF}
 use Rattle.help_texts.specs.declared.topic.Topic.{Topic}
-use Rattle.help_texts.specs.declared.topic.Topic.TheVariants.{Compile, Evidence, Check, Explain, Replay, Trace, Sample, Migrate, Impact, RouteMap, CheckMap, Lint, Audit, Help, Version, Drain, Settle, Promises, WhatIf}
+use Rattle.help_texts.specs.declared.topic.Topic.TheVariants.{Compile, Evidence, Check, Explain, Replay, Trace, Sample, Migrate, Impact, RouteMap, CheckMap, Lint, Audit}
+use Rattle.help_texts.specs.declared.topic.Topic.TheVariants.{Help, Version, Drain, Settle, Promises, WhatIf}
 
 -- the command of this word
 abbrev pub topic_named : List ℕ → Option Topic

@@ -85,7 +85,8 @@ to_changed (b ∷ xs) (a ∷ ys) (suc i) x y h k other = go (to_changed xs ys i 
 -- ---- two rankings have their sources in the same places
 
 module _ (net : PlainNet) (policy : PlainPolicy) (p : PlainPrefix) (s : PlainStatement) where
-  bare_order : (f : Failures) (xs : List SourceRank) → IsRanking net policy f p s xs → Ordered before (λ x h. not_itself x.router x.peer h) (λ x y z h k. precedes_through x.router y.router z.router x.peer y.peer z.peer h k) (map bare xs)
+  bare_order : (f : Failures) (xs : List SourceRank) → IsRanking net policy f p s xs
+      → Ordered before (λ x h. not_itself x.router x.peer h) (λ x y z h k. precedes_through x.router y.router z.router x.peer y.peer z.peer h k) (map bare xs)
   bare_order f xs a i j x y low h k =
       let mine = mapped_at bare xs i x h in
       let theirs = mapped_at bare xs j y k in

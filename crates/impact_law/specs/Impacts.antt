@@ -73,7 +73,9 @@ IsImpact net policy f p impact = by_statement (statement_of policy p)
 
 -- two rankings have the same sources in the same order, and one rank for each
 abbrev pub RankingsAreOne : Type 0
-RankingsAreOne = (net : PlainNet) (policy : PlainPolicy) (f : Failures) (p : PlainPrefix) (s : PlainStatement) (xs ys : List SourceRank) → IsRanking net policy f p s xs → IsRanking net policy f p s ys → xs ≡ ys
+RankingsAreOne =
+    (net : PlainNet) (policy : PlainPolicy) (f : Failures) (p : PlainPrefix) (s : PlainStatement) (xs ys : List SourceRank)
+    → IsRanking net policy f p s xs → IsRanking net policy f p s ys → xs ≡ ys
 
 -- The cut leaves the source this best rank, which isn't its best without the cut.
 pub record GetsAnotherRank (net : PlainNet) (policy : PlainPolicy) (f : Failures) (p : PlainPrefix) (s : PlainStatement) (cut : Cut) (x : SourceRank) : Type 0 where
@@ -91,4 +93,6 @@ ImpactsAreOne = (net : PlainNet) (policy : PlainPolicy) (f : Failures) (p : Plai
 
 -- an impact has a row for each cut, in their order
 abbrev pub RowsAreOfLiveCuts : Type 0
-RowsAreOfLiveCuts = (net : PlainNet) (policy : PlainPolicy) (f : Failures) (p : PlainPrefix) (impact : Impact) → IsImpact net policy f p impact → map (λ (row : CutRow). row.cut) impact.rows ≡ live_cuts net f
+RowsAreOfLiveCuts =
+    (net : PlainNet) (policy : PlainPolicy) (f : Failures) (p : PlainPrefix) (impact : Impact) → IsImpact net policy f p impact
+    → map (λ (row : CutRow). row.cut) impact.rows ≡ live_cuts net f

@@ -1,5 +1,6 @@
 -- The best nodes as far as a loop has come.
-use Rattle.std.proofs.Common.{◌≡◌, ◌≢◌, ℕ, ◌+◌, ◌<◌, ◌≤◌, Bool, true, false, List, length, set, replicate, get_or-set_same, get_or-set_other, length-set, Option, Some, None, sym, ap, ◌∙◌, subst, inl, inr, refl, arith, ltb-true, ltb-false}
+use Rattle.std.proofs.Common.{◌≡◌, ◌≢◌, ℕ, ◌+◌, ◌<◌, ◌≤◌, Bool, true, false, List, length, set, replicate, get_or-set_same, get_or-set_other, length-set, Option, Some}
+use Rattle.std.proofs.Common.{None, sym, ap, ◌∙◌, subst, inl, inr, refl, arith, ltb-true, ltb-false}
 use Rattle.std.proofs.lemmas.Bool.{both_ways, cases_eq, cases_lt}
 use Rattle.std.proofs.lemmas.List.{get_or-replicate, get_or_past, length-replicate}
 use Rattle.graph_base.specs.Runs.{place_of}

@@ -23,7 +23,8 @@ links_next net s links link =
     let lives : ℕ × ℕ → Bool = λ (l : ℕ × ℕ). live_by net s l.0 l.1 in
     ap (map link_cut) (filter-append lives links (link ∷ [])) ∙ map-append link_cut (filter lives links) (filter lives (link ∷ []))
 
-pub link_more : (net : PlainNet) (s : Survivors) (links : List (ℕ × ℕ)) (link : ℕ × ℕ) → live_by net s link.0 link.1 ≡ true → link_cuts net s (links ++ link ∷ []) ≡ link_cuts net s links ++ link_cut link ∷ []
+pub link_more : (net : PlainNet) (s : Survivors) (links : List (ℕ × ℕ)) (link : ℕ × ℕ) → live_by net s link.0 link.1 ≡ true
+    → link_cuts net s (links ++ link ∷ []) ≡ link_cuts net s links ++ link_cut link ∷ []
 link_more net s links link is = links_next net s links link ∙ ap (λ b. link_cuts net s links ++ map link_cut (if b then link ∷ [] else [])) is
 
 pub link_same : (net : PlainNet) (s : Survivors) (links : List (ℕ × ℕ)) (link : ℕ × ℕ) → live_by net s link.0 link.1 ≡ false → link_cuts net s (links ++ link ∷ []) ≡ link_cuts net s links

@@ -66,9 +66,11 @@ module _ (net : PlainNet) (policy : PlainPolicy) (p : PlainPrefix) (s : PlainSta
         subst (λ (z : Source). Precedes z.router z.peer y.router y.peer) a.2 (subst (λ (z : Source). Precedes a.0.router a.0.peer z.router z.peer) b.2 (is.order i j a.0 b.0 low a.1 b.1));
   }
 
-module _ (net : PlainNet) (policy : PlainPolicy) (f : Failures) (p : PlainPrefix) (s : PlainStatement) (c : PlainCaseEvidence) (opened : PlainGraph) (base : List SourceRank) (is : IsBase net policy f p s c opened base) where
+module _ (net : PlainNet) (policy : PlainPolicy) (f : Failures) (p : PlainPrefix) (s : PlainStatement) (c : PlainCaseEvidence) (opened : PlainGraph)
+    (base : List SourceRank) (is : IsBase net policy f p s c opened base) where
   -- the base with the ranks that tops tell under a cut
-  pub reranking : (cut : Cut) (top : ℕ → Option ℕ) → AreTops net (with_cut cut f) c top → IsRanking net policy (with_cut cut f) p s (map (reranked (rank_under opened (with_cut cut no_failures) top)) base)
+  pub reranking : (cut : Cut) (top : ℕ → Option ℕ) → AreTops net (with_cut cut f) c top
+      → IsRanking net policy (with_cut cut f) p s (map (reranked (rank_under opened (with_cut cut no_failures) top)) base)
   reranking cut top tops =
       let left = left_by net is.left.survivors c.graph in
       let rank = rank_under left (with_cut cut no_failures) top in

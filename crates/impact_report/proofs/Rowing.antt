@@ -15,7 +15,8 @@ module _ (net : PlainNet) (c : PlainCaseEvidence) (opened : PlainGraph) (base : 
       → AreRows net c opened base (cuts ++ cut ∷ []) (rows ++ row_of cut list ∷ [])
   rows_more cuts rows cut list are one policy f p s is after ranked =
       let Of : Cut → CutRow = λ (k : Cut). row_of k (changed base (after k)) in
-      ap₂ (λ (xs : List CutRow) (ys : List SourceRank). xs ++ row_of cut ys ∷ []) (are policy f p s is after ranked) (one policy f p s is (after cut) (ranked cut)) ∙ sym (map-append Of cuts (cut ∷ []))
+      ap₂ (λ (xs : List CutRow) (ys : List SourceRank). xs ++ row_of cut ys ∷ []) (are policy f p s is after ranked) (one policy f p s is (after cut) (ranked cut))
+      ∙ sym (map-append Of cuts (cut ∷ []))
 
   -- the next of some cuts
   pub rows_next : (cuts : List Cut) (i : ℕ) (cut : Cut) (rows : List CutRow) (list : List SourceRank) → i < length cuts → cut ≡ get_or cuts i cut

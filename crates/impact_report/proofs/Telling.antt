@@ -23,7 +23,8 @@ use Rattle.impact_report.specs.Paths.{rank_under}
 use Rattle.impact_report.proofs.Besides.{IsBesides, live_is}
 use Rattle.impact_report.proofs.Opening.{step_left}
 
-module _ (net : PlainNet) (policy : PlainPolicy) (p : PlainPrefix) (s : PlainStatement) (c : PlainCaseEvidence) (f k h : Failures) (besides : IsBesides f k h) (t : Survivors) (are : AreSurvivors net f t)
+module _ (net : PlainNet) (policy : PlainPolicy) (p : PlainPrefix) (s : PlainStatement) (c : PlainCaseEvidence) (f k h : Failures)
+    (besides : IsBesides f k h) (t : Survivors) (are : AreSurvivors net f t)
     (told : AreToldByTops net policy h p s c) (top : ℕ → Option ℕ) (tops : AreTops net h c top) where
   abbrev left : PlainGraph
   left = left_by net t c.graph
@@ -58,7 +59,8 @@ module _ (net : PlainNet) (policy : PlainPolicy) (p : PlainPrefix) (s : PlainSta
       (told.no_session r peer claimed (tops.none r claimed.at_router is))
   of_session r peer (Some n) is claimed =
       let at = tops.some r n is in
-      subst (λ (o : Option ℕ). IsBestRank net policy h p s (peer ∷ r ∷ []) o) (over_spared r peer n claimed.at_router (run_begins c.graph r n at.reached.0 at.reached.1)) (told.session r peer n claimed at)
+      subst (λ (o : Option ℕ). IsBestRank net policy h p s (peer ∷ r ∷ []) o)
+      (over_spared r peer n claimed.at_router (run_begins c.graph r n at.reached.0 at.reached.1)) (told.session r peer n claimed at)
 
   pub ranks_told : (r : ℕ) (peer : Option ℕ) → IsSource net policy p s r peer → IsBestRank net policy h p s (begin_at r peer) (rank_under left k top r peer)
   ranks_told r None claimed = of_router r (top r) refl claimed

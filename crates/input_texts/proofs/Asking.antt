@@ -30,7 +30,8 @@ module _ (Next : List (List ℕ) → PlainNet → PlainPolicy → Said → Type 
     said_form each (x ∷ []) what h = absurd h
     said_form each (x ∷ y ∷ more) what h = form_of (Next more) Refuses Checks (each more) x y what h
 
-    one_said : ((more : List (List ℕ)) (net : PlainNet) (policy : PlainPolicy) → IsNet net → IsPolicyOf net policy → (one other : Said) → Next more net policy one → Next more net policy other → one ≡ other)
+    one_said : ((more : List (List ℕ)) (net : PlainNet) (policy : PlainPolicy) → IsNet net → IsPolicyOf net policy → (one other : Said)
+        → Next more net policy one → Next more net policy other → one ≡ other)
         → (bs : List (List ℕ)) (one other : Said) → OfAllTexts Next bs one → OfAllTexts Next bs other → one ≡ other
     one_said each [] one other a b = absurd a
     one_said each (x ∷ []) one other a b = absurd a
@@ -39,7 +40,8 @@ module _ (Next : List (List ℕ) → PlainNet → PlainPolicy → Said → Type 
 
     -- a job, where what follows has such a form and is one thing
     pub job_of : ((more : List (List ℕ)) (net : PlainNet) (policy : PlainPolicy) (what : Said) → Next more net policy what → IsJobSaid Refuses Checks what)
-        → ((more : List (List ℕ)) (net : PlainNet) (policy : PlainPolicy) → IsNet net → IsPolicyOf net policy → (one other : Said) → Next more net policy one → Next more net policy other → one ≡ other)
+        → ((more : List (List ℕ)) (net : PlainNet) (policy : PlainPolicy) → IsNet net → IsPolicyOf net policy → (one other : Said)
+        → Next more net policy one → Next more net policy other → one ≡ other)
         → IsJob Refuses Checks (OfAllTexts Next)
     job_of form one = record { form = said_form form; one = one_said one }
 
@@ -81,7 +83,8 @@ module _ (Next : PlainNet → PlainPolicy → Said → Type 0) where
   alone_form Refuses Checks each (x ∷ more) net policy what says = absurd says
 
   alone_one : ((net : PlainNet) (policy : PlainPolicy) (one other : Said) → Next net policy one → Next net policy other → one ≡ other)
-      → (more : List (List ℕ)) (net : PlainNet) (policy : PlainPolicy) → IsNet net → IsPolicyOf net policy → (one other : Said) → Alone Next more net policy one → Alone Next more net policy other → one ≡ other
+      → (more : List (List ℕ)) (net : PlainNet) (policy : PlainPolicy) → IsNet net → IsPolicyOf net policy → (one other : Said)
+      → Alone Next more net policy one → Alone Next more net policy other → one ≡ other
   alone_one each [] net policy rules fits one other a b = each net policy one other a b
   alone_one each (x ∷ more) net policy rules fits one other a b = absurd a
 

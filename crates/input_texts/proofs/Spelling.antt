@@ -37,7 +37,8 @@ module _ {Y F : Type 0} (line_of : F → List ℕ) (read : Result Y F) (Next : Y
   of_read what lawful (inr h) = h
 
   -- one thing is said, where one thing follows
-  pub one_of_read : ((y : Y) → read ≡ Ok y → (one other : Said) → Next y one → Next y other → one ≡ other) → (one other : Said) → OfRead line_of read Next one → OfRead line_of read Next other → one ≡ other
+  pub one_of_read : ((y : Y) → read ≡ Ok y → (one other : Said) → Next y one → Next y other → one ≡ other) → (one other : Said)
+      → OfRead line_of read Next one → OfRead line_of read Next other → one ≡ other
   one_of_read each one other (inl a) (inl b) =
       let e = a.1 in
       let f = b.1 in
@@ -80,7 +81,8 @@ module _ (Next : PlainNet → PlainPolicy → Said → Type 0) where
 
   -- where what follows is one thing for the network and the policy that the texts spell, so is what is said of the texts
   pub one_of_spelled : (topology policy_text : List ℕ)
-      → ((net : PlainNet) (policy : PlainPolicy) → spelled topology ≡ Ok net → policy_spelled net policy_text ≡ Ok policy → (one other : Said) → Next net policy one → Next net policy other → one ≡ other)
+      → ((net : PlainNet) (policy : PlainPolicy) → spelled topology ≡ Ok net → policy_spelled net policy_text ≡ Ok policy → (one other : Said)
+      → Next net policy one → Next net policy other → one ≡ other)
       → (one other : Said) → OfTexts Next topology policy_text one → OfTexts Next topology policy_text other → one ≡ other
   unfolding OfTexts
   one_of_spelled topology policy_text each one other a b =

@@ -94,7 +94,8 @@ module _ (holds : Holds) (names : List (List ℕ)) where
   of_pair net policy what spell (z ∷ more) says = absurd says
 
   -- and of those that are spelled, where the names are told
-  pub told_says : (net : PlainNet) (policy : PlainPolicy) (what : Said) (spell : SpellFor holds names net policy) → SaidOfTold holds names SaysOfTexts what → SaysOfPolicy spell.policy_text net policy what
+  pub told_says : (net : PlainNet) (policy : PlainPolicy) (what : Said) (spell : SpellFor holds names net policy)
+      → SaidOfTold holds names SaysOfTexts what → SaysOfPolicy spell.policy_text net policy what
   told_says net policy what spell said =
       of_pair net policy what spell spell.more (told_is holds names SaysOfTexts (spell.topology ∷ spell.policy_text ∷ spell.more) what spell.held said)
 

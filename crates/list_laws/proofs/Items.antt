@@ -1,5 +1,6 @@
 -- The items of a list by their places.
-use Rattle.std.proofs.Common.{◌++◌, ◌+◌, ◌-◌, Bool, Option, drop-cons, ◌<◌, ◌∙◌, ◌∷◌, ◌≡◌, ◌≤◌, ◌⊎◌, List, None, Some, [], ap, arith, drop, get_or, inl, inr, length, refl, replicate, set, suc, sym, zero, ℕ}
+use Rattle.std.proofs.Common.{◌++◌, ◌+◌, ◌-◌, Bool, Option, drop-cons, ◌<◌, ◌∙◌, ◌∷◌, ◌≡◌, ◌≤◌, ◌⊎◌, List, None, Some, [], ap, arith, drop, get_or, inl, inr, length, refl}
+use Rattle.std.proofs.Common.{replicate, set, suc, sym, zero, ℕ}
 use Rattle.std.specs.Option.{option_and_then}
 use Rattle.std.specs.List.{AllByRecursion}
 use Rattle.std.specs.Prelude.{slice_get, slice_index}

@@ -1,5 +1,6 @@
 -- The place at which a test is first passed.
-use Rattle.std.proofs.Common.{◌++◌, ◌+◌, ◌<◌, ◌∙◌, ◌∷◌, ◌≡◌, Bool, List, None, Option, Some, [], ap, arith, cond, false, get_or, length, length-append, lt-ltb, ltb-false, ltb-true, map, refl, sym, take, true, ℕ}
+use Rattle.std.proofs.Common.{◌++◌, ◌+◌, ◌<◌, ◌∙◌, ◌∷◌, ◌≡◌, Bool, List, None, Option, Some, [], ap, arith, cond, false, get_or, length, length-append, lt-ltb, ltb-false}
+use Rattle.std.proofs.Common.{ltb-true, map, refl, sym, take, true, ℕ}
 use Rattle.std.specs.List.{find, list_all, list_any, position, position_or_len, prefix_len}
 use Rattle.std.specs.Prelude.{nat_lt, not, slice_get}
 use Rattle.std.proofs.lemmas.Bool.{and_parts, or_parts}

@@ -26,7 +26,8 @@ module _ (Refuses Checks : Type 0) (refuses : Refuses) (checks : Checks) where
 
   pair_form : (config_text maps_bytes : List ℕ) (what : Said) → SaysOfPair config_text maps_bytes what → IsJobSaid Refuses Checks what
   pair_form config_text maps_bytes what h =
-      read_form config_line (config_spelled_by config_text) (OfMapsText maps_bytes) Refuses Checks (λ config. read_form maps_line (spelled maps_bytes) (SaysOfMaps config) Refuses Checks (maps_form config)) what h
+      read_form config_line (config_spelled_by config_text) (OfMapsText maps_bytes) Refuses Checks
+      (λ config. read_form maps_line (spelled maps_bytes) (SaysOfMaps config) Refuses Checks (maps_form config)) what h
 
   texts_form : (bs : List (List ℕ)) (what : Said) → SaysOfTexts bs what → IsJobSaid Refuses Checks what
   texts_form [] what h = absurd h
@@ -47,7 +48,8 @@ one_of_maps config maps one other (inr a) (inr b) = a.said ∙ sym b.said
 
 one_of_pair : (config_text maps_bytes : List ℕ) (one other : Said) → SaysOfPair config_text maps_bytes one → SaysOfPair config_text maps_bytes other → one ≡ other
 one_of_pair config_text maps_bytes =
-    one_of_read config_line (config_spelled_by config_text) (OfMapsText maps_bytes) (λ config config_is. one_of_read maps_line (spelled maps_bytes) (SaysOfMaps config) (λ maps maps_are. one_of_maps config maps))
+    one_of_read config_line (config_spelled_by config_text) (OfMapsText maps_bytes)
+    (λ config config_is. one_of_read maps_line (spelled maps_bytes) (SaysOfMaps config) (λ maps maps_are. one_of_maps config maps))
 
 one_of_texts : (bs : List (List ℕ)) (one other : Said) → SaysOfTexts bs one → SaysOfTexts bs other → one ≡ other
 one_of_texts [] one other a b = absurd a

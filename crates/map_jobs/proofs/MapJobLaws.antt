@@ -18,7 +18,8 @@ pub config_said : (config : PlainConfig) (maps : PlainMaps) (bytes : List ℕ) �
 config_said config maps bytes same few s = inl (few, subst IsLawful same s.lawful, ap text (s.written ∙ ap maps_text same))
 
 -- what is said of a text of maps is said of the maps that it spells
-pub maps_said : (config : PlainConfig) (m : PlainMaps) (bytes : List ℕ) (what : Said) → length bytes < 4294967295 → spelled bytes ≡ Ok m → Spells bytes m → SaysOfBytes config bytes what → SaysOfMaps config m what
+pub maps_said : (config : PlainConfig) (m : PlainMaps) (bytes : List ℕ) (what : Said) → length bytes < 4294967295 → spelled bytes ≡ Ok m
+    → Spells bytes m → SaysOfBytes config bytes what → SaysOfMaps config m what
 maps_said config m bytes what short h s (inr many) = inr many
 maps_said config m bytes what short h s (inl (few, lawful, inl (same, w))) =
     let other : Spells bytes (maps_of config) = record { lawful = lawful; written = same } in
@@ -27,7 +28,8 @@ maps_said config m bytes what short h s (inl (few, lawful, inr (apart, w))) =
     inl (few, inr (λ e. apart (s.written ∙ ap maps_text e), w ∙ ap (λ t. failing (differs_line (first_difference t (maps_text (maps_of config))))) s.written))
 
 -- what is said beside the wanted text
-pub bytes_said : (config : PlainConfig) (maps : PlainMaps) (bytes wanted : List ℕ) (what : Said) → maps ≡ maps_of config → line_count (maps_of config) ≤ 1000000 → Spells wanted maps → SaysOfBoth bytes wanted what → SaysOfBytes config bytes what
+pub bytes_said : (config : PlainConfig) (maps : PlainMaps) (bytes wanted : List ℕ) (what : Said) → maps ≡ maps_of config
+    → line_count (maps_of config) ≤ 1000000 → Spells wanted maps → SaysOfBoth bytes wanted what → SaysOfBytes config bytes what
 bytes_said config maps bytes wanted what same few s both =
     let lawful : IsLawful (maps_of config) = subst IsLawful same s.lawful in
     let is : wanted ≡ maps_text (maps_of config) = s.written ∙ ap maps_text same in

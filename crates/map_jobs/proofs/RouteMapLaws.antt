@@ -35,7 +35,8 @@ one_of_config config one other (inr a) (inl b) = absurd (omega (arith, b.0, a.ma
 one_of_config config one other (inr a) (inr b) = a.said ∙ sym b.said
 
 -- of this configuration, where it is what is compiled
-pub said_of : (net : PlainNet) (policy : PlainPolicy) (config : PlainConfig) (evidence : List PlainCaseEvidence) (what : Said) → IsCompiled net policy config evidence → SaysOfPolicy net policy what → SaysOfConfig config what
+pub said_of : (net : PlainNet) (policy : PlainPolicy) (config : PlainConfig) (evidence : List PlainCaseEvidence) (what : Said)
+    → IsCompiled net policy config evidence → SaysOfPolicy net policy what → SaysOfConfig config what
 said_of net policy config evidence what compiled (inl h) =
     let P : PlainConfig → Type 0 = λ c. SaysOfConfig c what in
     subst P (one_pair net policy h.0 config h.1 evidence h.2.0 compiled.0).1 h.3

@@ -24,7 +24,8 @@ faulty n r bytes line rest all e cut here before =
 
 -- all whole lines are read
 pub finished_behind : (n : ℕ) (r : MapsReading) (bytes all : List ℕ) → no_halves ≡ cut_at 10 bytes
-    → with_lines n r (whole_lines (lines_of bytes)) ≡ with_lines 2 opening (whole_lines (lines_of all)) → last_line (lines_of bytes) ≡ last_line (lines_of all) → behind_heading (lines_of all) ≡ finished r bytes
+    → with_lines n r (whole_lines (lines_of bytes)) ≡ with_lines 2 opening (whole_lines (lines_of all))
+    → last_line (lines_of bytes) ≡ last_line (lines_of all) → behind_heading (lines_of all) ≡ finished r bytes
 unfolding behind_heading
 finished_behind n r bytes all cut before last =
     let read = all_taken with_line n r bytes (with_lines 2 opening (whole_lines (lines_of all))) cut before in

@@ -12,5 +12,6 @@ first_fault texts e h =
     let f = first_from with_line 2 opening texts e h in
     record { taken = f.taken; line = f.line; more = f.more; reading = f.reading; whole = f.whole; fine = f.fine; wrong = f.wrong }
 
-pub fault_told : (taken more : List (List ℕ)) (line : List ℕ) (r : MapsReading) (e : ConfigFault) → with_lines 2 opening taken ≡ Ok r → with_line (length taken + 2) r line ≡ Err e → with_lines 2 opening (taken ++ line ∷ more) ≡ Err e
+pub fault_told : (taken more : List (List ℕ)) (line : List ℕ) (r : MapsReading) (e : ConfigFault) → with_lines 2 opening taken ≡ Ok r
+    → with_line (length taken + 2) r line ≡ Err e → with_lines 2 opening (taken ++ line ∷ more) ≡ Err e
 fault_told taken more line r e h k = fault_from with_line 2 opening r taken more line e h k

@@ -1,5 +1,6 @@
 -- The text of lawful maps is read.
-use Rattle.std.proofs.Common.{◌≡◌, ℕ, ◌+◌, ◌*◌, ◌<◌, ◌≤◌, ◌^◌, List, [], ◌∷◌, ◌++◌, length, map, true, false, Some, None, Result, Ok, refl, sym, ◌∙◌, ap, subst, arith, append-nil, append_assoc, length-append}
+use Rattle.std.proofs.Common.{◌≡◌, ℕ, ◌+◌, ◌*◌, ◌<◌, ◌≤◌, ◌^◌, List, [], ◌∷◌, ◌++◌, length, map, true, false, Some, None, Result, Ok, refl, sym, ◌∙◌, ap, subst, arith}
+use Rattle.std.proofs.Common.{append-nil, append_assoc, length-append}
 use Rattle.std.specs.Prelude.{◌≢◌, ◌==◌, nat_lt, codes}
 use Rattle.std.specs.List.{flat_map, AllByRecursion}
 use Rattle.std.proofs.lemmas.Bool.{ne_eqb, eq-eqb, lt-ltb}
@@ -79,7 +80,8 @@ listed lists cs = made lists (at cs [] None)
 
 -- ---- lists
 
-list_first : (done : List (List ListLine)) (l : ListLine) → after_map (listed done (firsts done)) (written.List (Some (length done + 1)) l) ≡ Ok (listed (done ++ (l ∷ []) ∷ []) (firsts done ++ (l.pattern ∷ []) ∷ []))
+list_first : (done : List (List ListLine)) (l : ListLine)
+    → after_map (listed done (firsts done)) (written.List (Some (length done + 1)) l) ≡ Ok (listed (done ++ (l ∷ []) ∷ []) (firsts done ++ (l.pattern ∷ []) ∷ []))
 unfolding with_list
 list_first done l =
     let off : (length done + 1 == length done) ≡ false = ne_eqb (length done + 1) (length done) (λ e. omega (arith, e)) in
@@ -100,22 +102,29 @@ run_list : (done : List (List ListLine)) (x ls : List ListLine) (cs : List (List
     → run_map (listed (done ++ x ∷ []) cs) (lines_of_list (length done + 1) ls) ≡ Ok (listed (done ++ (x ++ ls) ∷ []) cs)
 run_list done x [] cs = ok_map (listed (done ++ x ∷ []) cs) (listed (done ++ (x ++ []) ∷ []) cs) (ap (λ (y : List ListLine). listed (done ++ y ∷ []) cs) (sym (append-nil x)))
 run_list done x (l ∷ ls) cs =
-    run_step after_map (listed (done ++ x ∷ []) cs) (listed (done ++ (x ++ l ∷ []) ∷ []) cs) (listed (done ++ (x ++ l ∷ ls) ∷ []) cs) (written.List (Some (length done + 1)) l) (lines_of_list (length done + 1) ls) (list_more done x cs l)
-    (run_list done (x ++ l ∷ []) ls cs ∙ ok_map (listed (done ++ ((x ++ l ∷ []) ++ ls) ∷ []) cs) (listed (done ++ (x ++ l ∷ ls) ∷ []) cs) (ap (λ (y : List ListLine). listed (done ++ y ∷ []) cs) (append_assoc x (l ∷ []) ls)))
+    run_step after_map (listed (done ++ x ∷ []) cs) (listed (done ++ (x ++ l ∷ []) ∷ []) cs) (listed (done ++ (x ++ l ∷ ls) ∷ []) cs)
+    (written.List (Some (length done + 1)) l) (lines_of_list (length done + 1) ls) (list_more done x cs l)
+    (run_list done (x ++ l ∷ []) ls cs
+    ∙ ok_map (listed (done ++ ((x ++ l ∷ []) ++ ls) ∷ []) cs) (listed (done ++ (x ++ l ∷ ls) ∷ []) cs) (ap (λ (y : List ListLine). listed (done ++ y ∷ []) cs) (append_assoc x (l ∷ []) ls)))
 
-run_lists : (done lists : List (List ListLine)) → AllByRecursion (λ (ls : List ListLine). ls ≢ []) lists → run_map (listed done (firsts done)) (lines_of_lists (length done + 1) lists) ≡ Ok (listed (done ++ lists) (firsts (done ++ lists)))
+run_lists : (done lists : List (List ListLine)) → AllByRecursion (λ (ls : List ListLine). ls ≢ []) lists
+    → run_map (listed done (firsts done)) (lines_of_lists (length done + 1) lists) ≡ Ok (listed (done ++ lists) (firsts (done ++ lists)))
 run_lists done [] all = ok_map (listed done (firsts done)) (listed (done ++ []) (firsts (done ++ []))) (ap (λ (ls : List (List ListLine)). listed ls (firsts ls)) (sym (append-nil done)))
 run_lists done ([] ∷ lists) all = absurd (all.0 refl)
 run_lists done ((l ∷ ls) ∷ lists) all =
     let next : List (List ListLine) = done ++ (l ∷ ls) ∷ [] in
     let cs : firsts done ++ (l.pattern ∷ []) ∷ [] ≡ firsts next = sym (firsts-append done ((l ∷ ls) ∷ [])) in
     let number : length done + 1 + 1 ≡ length next + 1 = omega (arith, length-append done ((l ∷ ls) ∷ [])) in
-    run_append after_map (listed done (firsts done)) (listed next (firsts next)) (listed (done ++ (l ∷ ls) ∷ lists) (firsts (done ++ (l ∷ ls) ∷ lists))) (lines_of_list (length done + 1) (l ∷ ls)) (lines_of_lists (length done + 1 + 1) lists)
-    (run_step after_map (listed done (firsts done)) (listed (done ++ (l ∷ []) ∷ []) (firsts done ++ (l.pattern ∷ []) ∷ [])) (listed next (firsts next)) (written.List (Some (length done + 1)) l) (lines_of_list (length done + 1) ls) (list_first done l)
+    run_append after_map (listed done (firsts done)) (listed next (firsts next))
+    (listed (done ++ (l ∷ ls) ∷ lists) (firsts (done ++ (l ∷ ls) ∷ lists))) (lines_of_list (length done + 1) (l ∷ ls))
+    (lines_of_lists (length done + 1 + 1) lists)
+    (run_step after_map (listed done (firsts done)) (listed (done ++ (l ∷ []) ∷ []) (firsts done ++ (l.pattern ∷ []) ∷ []))
+    (listed next (firsts next)) (written.List (Some (length done + 1)) l) (lines_of_list (length done + 1) ls) (list_first done l)
     (run_list done (l ∷ []) ls (firsts done ++ (l.pattern ∷ []) ∷ []) ∙ ok_map (listed next (firsts done ++ (l.pattern ∷ []) ∷ [])) (listed next (firsts next)) (ap (listed next) cs)))
     (ap (λ n. run_map (listed next (firsts next)) (lines_of_lists n lists)) number
     ∙ run_lists next lists all.1
-    ∙ ok_map (listed (next ++ lists) (firsts (next ++ lists))) (listed (done ++ (l ∷ ls) ∷ lists) (firsts (done ++ (l ∷ ls) ∷ lists))) (ap (λ (xs : List (List ListLine)). listed xs (firsts xs)) (append_assoc done ((l ∷ ls) ∷ []) lists)))
+    ∙ ok_map (listed (next ++ lists) (firsts (next ++ lists))) (listed (done ++ (l ∷ ls) ∷ lists) (firsts (done ++ (l ∷ ls) ∷ lists)))
+    (ap (λ (xs : List (List ListLine)). listed xs (firsts xs)) (append_assoc done ((l ∷ ls) ∷ []) lists)))
 
 -- ---- blocks
 
@@ -127,7 +136,8 @@ entry_taken : (lists : List (List ListLine)) (b d : Reading) (l : Line) (n : ℕ
 unfolding with_entry
 entry_taken lists b d l n h e =
     let on : is_number_of (Some (10 * n)) (entries_of (is_out l) d) ≡ true = eq-eqb (10 * n) (10 * entries_of (is_out l) d) (ap (λ m. 10 * m) (sym e)) in
-    ap (λ (o : Result MapsReading Misplaced). o >>= (λ next. unless Order (is_number_of (Some (10 * n)) (entries_of (is_out l) next.blocks)) >>= (λ _. Ok next))) (block_taken lists b d l h) ∙ rw on refl
+    ap (λ (o : Result MapsReading Misplaced). o >>= (λ next. unless Order (is_number_of (Some (10 * n)) (entries_of (is_out l) next.blocks)) >>= (λ _. Ok next))) (block_taken lists b d l h)
+    ∙ rw on refl
 
 numbered_taken : (lists : List (List ListLine)) (b d : Reading) (l : Line) → IsOther l → after b l ≡ Ok d → after_map (made lists b) (number_line (counts b) l) ≡ Ok (made lists d)
 numbered_taken lists b d (line.Import r) is h = entry_taken lists b d (line.Import r) ((counts b).ins + 1) h (ap (λ (c : Counts). c.ins) (counts-after b d (line.Import r) is h))
@@ -165,7 +175,9 @@ list_reads n (l ∷ ls) low all = (λ k. list_there k n l low all.0, list_reads 
 
 lists_reads : (n : ℕ) (lists : List (List ListLine)) → n + length lists ≤ 2 ^ 32 → AllByRecursion HavePatterns lists → AllByRecursion IsListRead (lines_of_lists n lists)
 lists_reads n [] few all = tt
-lists_reads n (x ∷ xs) few all = AllByRecursion-append IsListRead (lines_of_list n x) (lines_of_lists (n + 1) xs) (list_reads n x (omega (arith, few)) all.0) (lists_reads (n + 1) xs (omega (arith, few)) all.1)
+lists_reads n (x ∷ xs) few all =
+    AllByRecursion-append IsListRead (lines_of_list n x) (lines_of_lists (n + 1) xs) (list_reads n x (omega (arith, few)) all.0)
+    (lists_reads (n + 1) xs (omega (arith, few)) all.1)
 
 -- the configuration with the classes that stand for the lists
 firsts_some : (xs : List (List ListLine)) → AllByRecursion (λ (ls : List ListLine). ls ≢ []) xs → AllByRecursion (λ (ps : List PlainPattern). ps ≢ []) (firsts xs)
@@ -211,10 +223,13 @@ map_block_lines m is short =
     let w = weight_below none ls in
     let same : number_from none ls ≡ flat_map map_lines_of_router m.routers = routers_numbered none m.routers in
     let inner : length (flat_map fed (flat_map map_lines_of_router m.routers)) ≤ length (flat_map fed (map_lines m)) =
-    subst (λ (t : List ℕ). length (flat_map fed (flat_map map_lines_of_router m.routers)) ≤ length t) (sym (flat_map-append fed (lines_of_lists 1 m.lists) (flat_map map_lines_of_router m.routers))) (behind (flat_map fed (lines_of_lists 1 m.lists)) (flat_map fed (flat_map map_lines_of_router m.routers))) in
+    subst (λ (t : List ℕ). length (flat_map fed (flat_map map_lines_of_router m.routers)) ≤ length t)
+    (sym (flat_map-append fed (lines_of_lists 1 m.lists) (flat_map map_lines_of_router m.routers)))
+    (behind (flat_map fed (lines_of_lists 1 m.lists)) (flat_map fed (flat_map map_lines_of_router m.routers))) in
     let outer : length (flat_map fed (map_lines m)) ≤ length (maps_text m) = behind (first_line ++ codes "\n") (flat_map fed (map_lines m)) in
     let low : weight ls < 2 ^ 32 = omega (arith, ap (λ (xs : List MapLine). length (flat_map fed xs)) same, w, inner, outer, short) in
-    subst (AllByRecursion (IsMapLine (length m.lists))) same (numbered_are (length m.lists) (weight ls) low none ls (omega arith) (omega arith) (block_lines m is) (flat_other lines_of_router router_other m.routers))
+    subst (AllByRecursion (IsMapLine (length m.lists))) same
+    (numbered_are (length m.lists) (weight ls) low none ls (omega arith) (omega arith) (block_lines m is) (flat_other lines_of_router router_other m.routers))
 
 -- ---- the whole text
 
@@ -259,11 +274,14 @@ maps_taken m is short =
     (run_routers count (firsts m.lists) [] m.routers (record { names = is.rules.names; asns = is.rules.asns; ids = is.rules.ids }) is.rules.routers) in
     ap (with_lines 2 opening) (map-append map_line_text lists blocks)
     ∙ line_by_line-append with_line 2 opening (listed m.lists (firsts m.lists)) (made m.lists (at (firsts m.lists) m.routers None)) (map map_line_text lists) (map map_line_text blocks)
-    (run_taken after_map with_line map_line_text (λ _. Unit {0}) IsListRead (λ n r s l p q. line_taken n r s l (q (length r.lists)).0) (λ r s l p q h. tt) 2 opening (listed m.lists (firsts m.lists)) lists tt (lists_reads 1 m.lists (omega (arith, is.rules.count)) is.patterns) (run_lists [] m.lists is.rules.lines))
+    (run_taken after_map with_line map_line_text (λ _. Unit {0}) IsListRead (λ n r s l p q. line_taken n r s l (q (length r.lists)).0)
+    (λ r s l p q h. tt) 2 opening (listed m.lists (firsts m.lists)) lists tt (lists_reads 1 m.lists (omega (arith, is.rules.count)) is.patterns)
+    (run_lists [] m.lists is.rules.lines))
     (λ n. run_taken after_map with_line map_line_text (λ (r : MapsReading). r.lists ≡ m.lists) (λ l. IsMapLine count l × IsNoList l)
     (λ n r s l p q. line_taken n r s l (ap (λ (k : ℕ). map_line_of (map_line_text l) k) (ap length p) ∙ (map_lines_read count l is.rules.count q.0).0))
     (λ r s l p q h. kept_lists r s l m.lists p q.1 h)
-    n (listed m.lists (firsts m.lists)) (made m.lists (at (firsts m.lists) m.routers None)) blocks refl (AllByRecursion-both (IsMapLine count) IsNoList (λ l. IsMapLine count l × IsNoList l) (λ l a b. (a, b)) blocks are none_lists) ran)
+    n (listed m.lists (firsts m.lists)) (made m.lists (at (firsts m.lists) m.routers None)) blocks refl
+    (AllByRecursion-both (IsMapLine count) IsNoList (λ l. IsMapLine count l × IsNoList l) (λ l a b. (a, b)) blocks are none_lists) ran)
 
 -- no line feed stands in a line
 abbrev HasNoFeed : MapLine → Type 0
@@ -289,5 +307,6 @@ spelled_is_read bytes m short s =
     ap in_lines cut ∙ rw (some, whole.0, whole.1, maps_taken m s.lawful few) refl
 
 -- what comes back of such a text
-pub what_is_spelled : (bytes : List ℕ) (m : PlainMaps) (r : Result PlainMaps ConfigFault) → length bytes < 4294967295 → Spells bytes m → GivesUnless NoMemory (λ n. n) r (spelled bytes) → GivesUnless NoMemory (λ n. n) r (Ok m)
+pub what_is_spelled : (bytes : List ℕ) (m : PlainMaps) (r : Result PlainMaps ConfigFault) → length bytes < 4294967295 → Spells bytes m
+    → GivesUnless NoMemory (λ n. n) r (spelled bytes) → GivesUnless NoMemory (λ n. n) r (Ok m)
 what_is_spelled bytes m r short s h = subst (λ (o : Result PlainMaps ConfigFault). GivesUnless NoMemory (λ n. n) r o) (spelled_is_read bytes m short s) h

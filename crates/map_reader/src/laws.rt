@@ -19,5 +19,6 @@ pub fn texts_are_read()
 /// and the line of the fault can't follow them, whatever comes behind it.
 pub fn first_fault_of_a_text()
     ensures only { (texts : List (List ℕ)) (e : ConfigFault) → with_lines 2 opening texts ≡ Err e → IsFirstFault texts e }
-    ensures all { (taken more : List (List ℕ)) (line : List ℕ) (r : MapsReading) (e : ConfigFault) → with_lines 2 opening taken ≡ Ok r → with_line (length taken + 2) r line ≡ Err e → with_lines 2 opening (taken ++ line ∷ more) ≡ Err e }
+    ensures all { (taken more : List (List ℕ)) (line : List ℕ) (r : MapsReading) (e : ConfigFault) → with_lines 2 opening taken ≡ Ok r
+        → with_line (length taken + 2) r line ≡ Err e → with_lines 2 opening (taken ++ line ∷ more) ≡ Err e }
 {}

@@ -40,7 +40,8 @@ pub fn no_pattern(alloc: Global) -> Earlier
 pub fn count_denied(earlier: &Earlier, spans: &[Span]) -> u64
     requires index { IsIndexed earlier.now }
     requires apart { AreApart spans.now }
-    ensures { (class : List PlainPattern) → AllByRecursion (λ q. in_some spans.now (key_of q) ≡ meets_some class q) earlier.now.patterns → result ≡ min (length (filter (meets_some class) earlier.now.patterns)) top }
+    ensures { (class : List PlainPattern) → AllByRecursion (λ q. in_some spans.now (key_of q) ≡ meets_some class q) earlier.now.patterns
+        → result ≡ min (length (filter (meets_some class) earlier.now.patterns)) top }
 {
     count(earlier.blocks.as_slice(), spans)
 }

@@ -49,7 +49,8 @@ of_compile words is Told c asks told =
     let P : List (List ℕ) → Type 0 = λ ws. words_are ws ≡ Some c in
     subst Told (sym (command_is c (subst P is asks))) told
 
-pub fault_of_compile : (holds : Holds) (words : List (List ℕ)) → words ≡ compile_words → (c : Command) → words_are words ≡ Some c → (l : List ℕ) → FaultFound holds words c l → FaultFound holds words Compile l
+pub fault_of_compile : (holds : Holds) (words : List (List ℕ)) → words ≡ compile_words → (c : Command) → words_are words ≡ Some c → (l : List ℕ)
+    → FaultFound holds words c l → FaultFound holds words Compile l
 fault_of_compile holds words is c asks l found = of_compile words is (λ d. FaultFound holds words d l) c asks found
 
 pub refusal_of_compile : {E : Type 0} (holds : Holds) (words : List (List ℕ)) → words ≡ compile_words → (taken : E → Option (List ℕ)) (err err' : E) (c : Command)

@@ -116,7 +116,9 @@ module _ (e : ℕ × ℕ) (xs : List (ℕ × ℕ)) (i : ℕ) (up : Ascend xs) (p
 
   -- no link stands at the place
   pub none_past : length xs ≤ i → position (same_ends e) xs ≡ None
-  none_past past = position-none (same_ends e) xs (position_or_len_is (same_ends e) xs (length xs) (0, 0) (omega arith) (λ k less. before k (0, 0) (omega (arith, less, past))) (λ within. absurd (omega arith)))
+  none_past past =
+      position-none (same_ends e) xs
+      (position_or_len_is (same_ends e) xs (length xs) (0, 0) (omega arith) (λ k less. before k (0, 0) (omega (arith, less, past))) (λ within. absurd (omega arith)))
 
   -- a link stands there, which has the ends or hasn't
   pub found_at : i < length xs → (x : ℕ × ℕ) → get_or xs i (0, 0) ≡ x → position (same_ends e) xs ≡ (if same_ends e x then Some i else None)

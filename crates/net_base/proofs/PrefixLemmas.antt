@@ -28,9 +28,12 @@ after_length q len p octets short h =
     (record { wide = bits_below q octets; within = leb-true len 32 short; clean = clean })
 
 after_shape : (q : Quad) (len : ℕ) (p : PlainPrefix)
-    → (unless Octet (are_octets q) >>= (λ _. unless Length (nat_le len 32) >>= (λ _. unless HostBits (bits_of q % 2 ^ (32 - len) == 0) >>= (λ _. Ok (record { bits = bits_of q; len = len }))))) ≡ Ok p → IsPrefix p
+    → (unless Octet (are_octets q) >>= (λ _. unless Length (nat_le len 32) >>= (λ _. unless HostBits (bits_of q % 2 ^ (32 - len) == 0) >>= (λ _. Ok (record { bits = bits_of q; len = len }))))) ≡ Ok p
+    → IsPrefix p
 after_shape q len p h =
-    let a = bind_ok (unless Octet (are_octets q)) (λ _. unless Length (nat_le len 32) >>= (λ _. unless HostBits (bits_of q % 2 ^ (32 - len) == 0) >>= (λ _. Ok (record { bits = bits_of q; len = len })))) p h in
+    let a =
+    bind_ok (unless Octet (are_octets q))
+    (λ _. unless Length (nat_le len 32) >>= (λ _. unless HostBits (bits_of q % 2 ^ (32 - len) == 0) >>= (λ _. Ok (record { bits = bits_of q; len = len })))) p h in
     let b = bind_ok (unless Length (nat_le len 32)) (λ _. unless HostBits (bits_of q % 2 ^ (32 - len) == 0) >>= (λ _. Ok (record { bits = bits_of q; len = len }))) p a.2 in
     after_length q len p (unless_ok Octet _ a.0 a.1) (unless_ok Length _ b.0 b.1) b.2
 

@@ -60,7 +60,9 @@ IsWords-with s l low is = record { size = length-set s.words (l / 64) _ ∙ is.s
 
   fits : (i : ℕ) → slice_index (set s.words (l / 64) word) i < 2 ^ 64
   fits i = elim (cases_eq i (l / 64)) [
-    | inl same ↦ rw (same, get_or-set_same s.words (l / 64) word 0 (omega (arith, low, is.size))) (or_lt 64 (slice_index s.words (l / 64)) (2 ^ (l % 64)) (is.fit (l / 64)) (let p : l % 64 < 64 = omega arith in pow-lt p))
+    | inl same ↦
+        rw (same, get_or-set_same s.words (l / 64) word 0 (omega (arith, low, is.size)))
+        (or_lt 64 (slice_index s.words (l / 64)) (2 ^ (l % 64)) (is.fit (l / 64)) (let p : l % 64 < 64 = omega arith in pow-lt p))
     | inr other ↦ rw (get_or-set_other s.words (l / 64) i word 0 other) (is.fit i)
   ]
 
@@ -98,10 +100,12 @@ module _ (s t : LocSet) where
       ∙ or_one (bit_at (slice_index s.words (l / 64)) (l % 64)) (bit_at (slice_index t.words (l / 64)) (l % 64)) (bit_at-lt _ _) (bit_at-lt _ _)
 
 -- twelve words are given by what they are
-pub same_words : (s t ws : List ℕ) → length ws ≡ 12 → ((k : ℕ) → k < 12 → slice_index ws k ≡ bit_or (slice_index s k) (slice_index t k)) → record { words = ws } ≡ union_of (record { words = s }) (record { words = t })
+pub same_words : (s t ws : List ℕ) → length ws ≡ 12 → ((k : ℕ) → k < 12 → slice_index ws k ≡ bit_or (slice_index s k) (slice_index t k))
+    → record { words = ws } ≡ union_of (record { words = s }) (record { words = t })
 same_words s t ws size each =
     let word = λ (i : ℕ). bit_or (slice_index s i) (slice_index t i) in
-    ap (λ (w : List ℕ). let x : LocSet = record { words = w } in x) (same_number_lists ws (map word (range_with_len 0 12)) size (λ k lt. each k (omega (arith, size)) ∙ sym (get_or-map-range_with_len word 0 12 k k 0 (omega (arith, size)) (omega arith))))
+    ap (λ (w : List ℕ). let x : LocSet = record { words = w } in x)
+    (same_number_lists ws (map word (range_with_len 0 12)) size (λ k lt. each k (omega (arith, size)) ∙ sym (get_or-map-range_with_len word 0 12 k k 0 (omega (arith, size)) (omega arith))))
 
 -- no set holds a location from 768 on
 pub holds_past : (s : LocSet) (l : ℕ) → 64 * length s.words ≤ l → holds s l ≡ false

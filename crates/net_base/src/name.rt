@@ -2,7 +2,16 @@
 ghost use Rattle.std.specs.Prelude.{◌≡◌, ◌≤◌, ◌↔◌, length, IsTrue, IsSome, IfSome};
 ghost use Rattle.std.specs.List.{list_all};
 ghost use Rattle.std.specs.Str.{bytes_eq};
-ghost use Rattle.net_base.specs.NameRule.{is_name, is_letter as letter, is_name_byte as name_byte, is_item_word as item_word, is_operator as operator, is_path_call as path_call, is_place_call as place_call, is_reserved as reserved};
+ghost use Rattle.net_base.specs.NameRule.{
+  is_name,
+  is_letter as letter,
+  is_name_byte as name_byte,
+  is_item_word as item_word,
+  is_operator as operator,
+  is_path_call as path_call,
+  is_place_call as place_call,
+  is_reserved as reserved,
+};
 
 use std::marker::Model;
 

@@ -20,7 +20,8 @@ next_name net i s rules at =
     let before = map name (take i (sites net)) in
     let more = map name (drop (i + 1) (sites net)) in
     let split : map name (sites net) ≡ before ++ s.name ∷ more =
-    ap (map name) (sym (take-append-drop i (sites net)) ∙ ap (λ (l : List Site). take i (sites net) ++ l) (drop_from (sites net) i s at)) ∙ map-append name (take i (sites net)) (s ∷ drop (i + 1) (sites net)) in (
+    ap (map name) (sym (take-append-drop i (sites net)) ∙ ap (λ (l : List Site). take i (sites net) ++ l) (drop_from (sites net) i s at))
+    ∙ map-append name (take i (sites net)) (s ∷ drop (i + 1) (sites net)) in (
       others_before bytes_eq bytes_eq_apart before s.name more (subst (IsDistinct bytes_eq) split rules.names),
       map_next name (sites net) i s.name (ap (option_map name) at),
     )

@@ -1,5 +1,6 @@
 -- What is written of a network keeps the rules of topologies, and is that network.
-use Rattle.std.proofs.Common.{◌≡◌, ℕ, ◌+◌, ◌<◌, List, [], ◌∷◌, ◌++◌, length, map, take, drop, Option, Some, None, Result, Ok, Err, Bool, true, false, ◌||◌, ◌&&◌, refl, sym, ap, ◌∙◌, arith, map-id, append-nil, append_assoc, length-append, length-take-le, subst}
+use Rattle.std.proofs.Common.{◌≡◌, ℕ, ◌+◌, ◌<◌, List, [], ◌∷◌, ◌++◌, length, map, take, drop, Option, Some, None, Result, Ok, Err, Bool, true, false, ◌||◌, ◌&&◌, refl, sym}
+use Rattle.std.proofs.Common.{ap, ◌∙◌, arith, map-id, append-nil, append_assoc, length-append, length-take-le, subst}
 use Rattle.std.specs.Prelude.{⊤, IsTrue, ◌==◌, nat_eq, nat_lt, nat_le, fold, option_map, position, slice_get}
 use Rattle.std.specs.List.{AllByRecursion, IsDistinct}
 use Rattle.std.specs.Str.{bytes_eq}
@@ -21,7 +22,8 @@ use Rattle.net_base.proofs.Links.{same_ends-swap}
 use Rattle.topology.specs.declared.fault.TopoFault.{TopoFault}
 use Rattle.topology.specs.declared.fault.TopoFault.TheVariants.{LinkTwice, SelfLink, PeerLink}
 use Rattle.topology.specs.declared.sites.Number.TheVariants as which
-use Rattle.topology.specs.Rules.{no_fault, named, site_of, is_lawful_as, joined, put, ascending, links_differ, ends_differ, routers_linked, links_of, counted, names_differ, numbers_differ, names_of, judged}
+use Rattle.topology.specs.Rules.{no_fault, named, site_of, is_lawful_as, joined, put, ascending, links_differ, ends_differ, routers_linked, links_of, counted, names_differ}
+use Rattle.topology.specs.Rules.{numbers_differ, names_of, judged}
 use Rattle.topology.specs.Shape.{each, Entry}
 use Rattle.topology.proofs.EntryFaults.{names_break, asns_break, ids_break}
 use Rattle.topology.proofs.Networks.{judged-links}

@@ -30,7 +30,8 @@ no_end : (front back : List ℕ) (u : ℕ) → [] ≡ front ++ u ∷ back → �
 no_end [] back u h = cc
 no_end (a ∷ front) back u h = cc
 
-module _ (net : PlainNet) (policy : PlainPolicy) (config : PlainConfig) (f : Failures) (p : PlainPrefix) (outcome : Outcome) (rules : IsNet net) (stable : IsStable net policy config f p outcome) (size : length outcome ≡ length net.routers) where
+module _ (net : PlainNet) (policy : PlainPolicy) (config : PlainConfig) (f : Failures) (p : PlainPrefix) (outcome : Outcome) (rules : IsNet net)
+    (stable : IsStable net policy config f p outcome) (size : length outcome ≡ length net.routers) where
   -- what stands at a place of a path
   record IsAt (r : ℕ) (tail : List ℕ) : Type 0 where
     pub held : is_router net r ≡ true → Holds net policy config f p outcome rules r (r ∷ tail)
@@ -92,7 +93,9 @@ module _ (net : PlainNet) (policy : PlainPolicy) (config : PlainConfig) (f : Fai
         let there = subst (λ (q : List ℕ). Comes net policy config f p outcome rules x.0 r q) same x.1.comes in
         let comes = subst (λ (l : ℕ). Comes net policy config f p outcome rules l r (k ∷ ks)) z there in
         let live = subst (λ (l : ℕ). is_live net f l r ≡ true) z x.1.live in
-        let free = apart net policy config f p outcome rules stable k r (k ∷ ks) router comes (subst (λ (l : ℕ). is_looped net r l (k ∷ ks) ≡ false) z (subst (λ (q : List ℕ). is_looped net r x.0 q ≡ false) same x.1.unlooped)) in
+        let free =
+        apart net policy config f p outcome rules stable k r (k ∷ ks) router comes
+        (subst (λ (l : ℕ). is_looped net r l (k ∷ ks) ≡ false) z (subst (λ (q : List ℕ). is_looped net r x.0 q ≡ false) same x.1.unlooped)) in
         let onward : Chained k ks = elim comes [
           | inl peer ↦
               let last : ks ≡ [] = same_tail k k ks [] peer.3 in
@@ -117,9 +120,13 @@ module _ (net : PlainNet) (policy : PlainPolicy) (config : PlainConfig) (f : Fai
   free (z ∷ rest) r x = and_from (not (list_any (λ k. k == r) (z ∷ rest))) (is_loop_free (z ∷ rest)) (not_from_false _ x.2) (free rest z x.3)
 
   rests : (tail : List ℕ) (r : ℕ) (front back : List ℕ) (u : ℕ) → Chained r tail → r ∷ tail ≡ front ++ u ∷ back → is_router net u ≡ true → Holds net policy config f p outcome rules u (u ∷ back)
-  rests [] r [] back u x e router = subst (λ (q : List ℕ). Holds net policy config f p outcome rules u q) e (subst (λ (l : ℕ). Holds net policy config f p outcome rules l (r ∷ [])) (same_head r u [] back e) (x.0.held (ap (is_router net) (same_head r u [] back e) ∙ router)))
+  rests [] r [] back u x e router =
+      subst (λ (q : List ℕ). Holds net policy config f p outcome rules u q) e
+      (subst (λ (l : ℕ). Holds net policy config f p outcome rules l (r ∷ [])) (same_head r u [] back e) (x.0.held (ap (is_router net) (same_head r u [] back e) ∙ router)))
   rests [] r (a ∷ front) back u x e router = absurd (no_end front back u (same_tail r a [] (front ++ u ∷ back) e))
-  rests (z ∷ rest) r [] back u x e router = subst (λ (q : List ℕ). Holds net policy config f p outcome rules u q) e (subst (λ (l : ℕ). Holds net policy config f p outcome rules l (r ∷ z ∷ rest)) (same_head r u (z ∷ rest) back e) (x.0.held (ap (is_router net) (same_head r u (z ∷ rest) back e) ∙ router)))
+  rests (z ∷ rest) r [] back u x e router =
+      subst (λ (q : List ℕ). Holds net policy config f p outcome rules u q) e
+      (subst (λ (l : ℕ). Holds net policy config f p outcome rules l (r ∷ z ∷ rest)) (same_head r u (z ∷ rest) back e) (x.0.held (ap (is_router net) (same_head r u (z ∷ rest) back e) ∙ router)))
   rests (z ∷ rest) r (a ∷ front) back u x e router = rests rest z front back u x.3 (same_tail r a (z ∷ rest) (front ++ u ∷ back) e) router
 
   follows : (r : ℕ) (tail : List ℕ) → Chained r tail → Follows net policy f p outcome r (r ∷ tail)
@@ -149,7 +156,8 @@ peers_follow_offers net policy config rules p f outcome size stable r peer path 
 
 -- ---- a configuration that is right
 
-by_statement : (net : PlainNet) (policy : PlainPolicy) (config : PlainConfig) (f : Failures) (p : PlainPrefix) (outcome : Outcome) (s : PlainStatement) → statement_of policy p ≡ Some s → IsRightOutcome net policy config f p outcome ≡ IsRightBy net policy config f p s outcome
+by_statement : (net : PlainNet) (policy : PlainPolicy) (config : PlainConfig) (f : Failures) (p : PlainPrefix) (outcome : Outcome) (s : PlainStatement)
+    → statement_of policy p ≡ Some s → IsRightOutcome net policy config f p outcome ≡ IsRightBy net policy config f p s outcome
 by_statement net policy config f p outcome s is = rw is refl
 
 pub packets_take_best_paths : PacketsTakeBestPaths

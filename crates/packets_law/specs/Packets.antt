@@ -68,7 +68,8 @@ TakesBestPath net policy f p s outcome r =
 -- For every prefix that a statement governs, all failures and every stable outcome, so it is for every router that the statement claims.
 abbrev pub CarriesBestPaths : PlainNet → PlainPolicy → PlainConfig → Type 0
 CarriesBestPaths net policy config =
-    (p : PlainPrefix) (f : Failures) (outcome : Outcome) (s : PlainStatement) → IsPrefix p → statement_of policy p ≡ Some s → length outcome ≡ length net.routers → IsStable net policy config f p outcome
+    (p : PlainPrefix) (f : Failures) (outcome : Outcome) (s : PlainStatement) → IsPrefix p → statement_of policy p ≡ Some s
+    → length outcome ≡ length net.routers → IsStable net policy config f p outcome
     → (r : ℕ) → IsClaimedRouter net policy p s r → TakesBestPath net policy f p s outcome r
 
 -- Where the configuration is right.

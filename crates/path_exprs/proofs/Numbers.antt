@@ -90,7 +90,8 @@ earlier-push k (q ∷ ps) p h g =
 are_earlier-push : (ps : List Part) (p : Part) → are_earlier 0 ps ≡ true → is_earlier (length (expressions_of_parts ps)) p ≡ true → are_earlier 0 (ps ++ p ∷ []) ≡ true
 are_earlier-push ps p h g = earlier-push 0 ps p h (subst (λ m. is_earlier m p ≡ true) (let l = length-parts ps in omega (arith, l)) g)
 
-pub are_earlier-put : (b : Bool) (ps new : List Part) (p : Part) → new ≡ cond b (ps ++ p ∷ []) ps → are_earlier 0 ps ≡ true → is_earlier (length (expressions_of_parts ps)) p ≡ true → are_earlier 0 new ≡ true
+pub are_earlier-put : (b : Bool) (ps new : List Part) (p : Part) → new ≡ cond b (ps ++ p ∷ []) ps → are_earlier 0 ps ≡ true
+    → is_earlier (length (expressions_of_parts ps)) p ≡ true → are_earlier 0 new ≡ true
 are_earlier-put true ps new p is h g = subst (λ l. are_earlier 0 l ≡ true) (sym is) (are_earlier-push ps p h g)
 are_earlier-put false ps new p is h g = subst (λ l. are_earlier 0 l ≡ true) (sym is) h
 

@@ -57,7 +57,8 @@ mutual
   spell_each-cmp none (more f fs) x y = refl
   spell_each-cmp (more e es) none x y = refl
   spell_each-cmp (more e es) (more f fs) x y =
-      spell-cmp e f (spell_each es x) (spell_each fs y) ∙ ap (ordering_then (compare e f)) (spell_each-cmp es fs x y) ∙ sym (ordering_then_assoc (compare e f) (compare_lists es fs) (slice_cmp nat_cmp x y))
+      spell-cmp e f (spell_each es x) (spell_each fs y) ∙ ap (ordering_then (compare e f)) (spell_each-cmp es fs x y)
+      ∙ sym (ordering_then_assoc (compare e f) (compare_lists es fs) (slice_cmp nat_cmp x y))
 
 spelling-cmp : (e f : Expression) → slice_cmp nat_cmp (spell e []) (spell f []) ≡ compare e f
 spelling-cmp e f = spell-cmp e f [] [] ∙ ordering_then-last (compare e f)

@@ -46,14 +46,16 @@ all_statements policy i s at = let same : 1 + i ≡ suc i = omega arith in ap (s
 
 -- ---- originated prefixes
 
-with_prefix_known : (net : PlainNet) (policy : PlainPolicy) (k : ℕ) (o : Origin) (cs : List Case) → IsIn policy.origins o → ((s : PlainStatement) × (statement_at policy k ≡ Some s)) → AreKnown net policy cs → AreKnown net policy (with_prefix k o cs)
+with_prefix_known : (net : PlainNet) (policy : PlainPolicy) (k : ℕ) (o : Origin) (cs : List Case) → IsIn policy.origins o
+    → ((s : PlainStatement) × (statement_at policy k ≡ Some s)) → AreKnown net policy cs → AreKnown net policy (with_prefix k o cs)
 with_prefix_known net policy k o [] item statement known = (record { statement = statement; origins = inl (refl, (o, item, refl)) }, tt)
 with_prefix_known net policy k o (c ∷ cs) item statement known = elim (cases_Bool (c.statement == k && same_set c.origins o.at)) [
   | inl t ↦ rw t (record { statement = known.0.statement; origins = known.0.origins }, known.1)
   | inr t ↦ rw t (known.0, with_prefix_known net policy k o cs item statement known.1)
 ]
 
-originated_known : (net : PlainNet) (policy : PlainPolicy) (os : List Origin) (cs : List Case) → ((o : Origin) → IsIn os o → IsIn policy.origins o) → AreKnown net policy cs → AreKnown net policy (originated_cases policy os cs)
+originated_known : (net : PlainNet) (policy : PlainPolicy) (os : List Origin) (cs : List Case) → ((o : Origin) → IsIn os o → IsIn policy.origins o)
+    → AreKnown net policy cs → AreKnown net policy (originated_cases policy os cs)
 originated_known net policy [] cs items known = known
 originated_known net policy (o ∷ os) cs items known =
     originated_known net policy os (with_governed (governing policy o.prefix) o cs) (λ x h. items x (suc h.0, h.1)) (go (governing policy o.prefix) refl)
@@ -64,7 +66,9 @@ originated_known net policy (o ∷ os) cs items known =
 
 -- ---- external cases
 
-external_known : (net : PlainNet) (policy : PlainPolicy) (k : ℕ) (ss : List PlainStatement) → ((i : ℕ) (s : PlainStatement) → slice_get ss i ≡ Some s → statement_at policy (k + i) ≡ Some s) → AreKnown net policy (external_cases net policy k ss)
+external_known : (net : PlainNet) (policy : PlainPolicy) (k : ℕ) (ss : List PlainStatement)
+    → ((i : ℕ) (s : PlainStatement) → slice_get ss i ≡ Some s → statement_at policy (k + i) ≡ Some s)
+    → AreKnown net policy (external_cases net policy k ss)
 external_known net policy k [] known = tt
 external_known net policy k (s ∷ ss) known =
     let later = external_known net policy (k + 1) ss (λ i x at. let same : k + suc i ≡ k + 1 + i = omega arith in ap (statement_at policy) (sym same) ∙ known (suc i) x at) in
@@ -96,7 +100,8 @@ holds_peers : (net : PlainNet) → IsNet net → (l : ℕ) → holds (set_of (is
 holds_peers net rules l = elim (cases_lt l 768) [
   | inl in_reach ↦ holds-set_of (is_peer net) l in_reach
   | inr past ↦ holds-set_of_past (is_peer net) l past
-      ∙ sym (false_from_ne_true (is_peer net l) (λ h. absurd (omega (arith, past, ltb-true l (length net.routers + length net.peers) (and_parts _ (is_location net l) h).1, rules.routers, rules.peers))))
+      ∙ sym (false_from_ne_true (is_peer net l)
+      (λ h. absurd (omega (arith, past, ltb-true l (length net.routers + length net.peers) (and_parts _ (is_location net l) h).1, rules.routers, rules.peers))))
 ]
 
 pub known_origins : (net : PlainNet) (policy : PlainPolicy) (c : Case) → IsNet net → OriginsAreRouters net policy.origins → IsKnown net policy c → AreOrigins net (holds c.origins) c.external

@@ -62,7 +62,8 @@ pub first-Prefer : (net : PlainNet) (r : Ranked) (a b : Box Ranked Global) (path
 first-Prefer net r a b path is =
     ap (λ v. place_of (alternatives net (ranking_of v)) path 0) is ∙ ap (λ k. place_of (alternatives net k) path 0) (ranking_of-Prefer a b)
     ∙ place_of-append (alternatives net (ranking_of a.value)) (alternatives net (ranking_of b.value)) path
-    ∙ ap (λ n. option_or (place_of (alternatives net (ranking_of a.value)) path 0) (option_map (λ j. n + j) (place_of (alternatives net (ranking_of b.value)) path 0))) (length-alternatives net (ranking_of a.value))
+    ∙ ap (λ n. option_or (place_of (alternatives net (ranking_of a.value)) path 0) (option_map (λ j. n + j) (place_of (alternatives net (ranking_of b.value)) path 0)))
+    (length-alternatives net (ranking_of a.value))
 
 pub first-And : (net : PlainNet) (r : Ranked) (a b : Box Ranked Global) (path : List ℕ) → r ≡ And a b
     → place_of (alternatives net (ranking_of r)) path 0
@@ -71,7 +72,8 @@ pub first-And : (net : PlainNet) (r : Ranked) (a b : Box Ranked Global) (path : 
 first-And net r a b path is =
     ap (λ v. place_of (alternatives net (ranking_of v)) path 0) is ∙ ap (λ k. place_of (alternatives net k) path 0) (ranking_of-And a b)
     ∙ place_of-pairs (alternatives net (ranking_of a.value)) (alternatives net (ranking_of b.value)) path
-    ∙ ap (λ n. option_and_then (λ i. option_map (λ j. i * n + j) (place_of (alternatives net (ranking_of b.value)) path 0)) (place_of (alternatives net (ranking_of a.value)) path 0)) (length-alternatives net (ranking_of b.value))
+    ∙ ap (λ n. option_and_then (λ i. option_map (λ j. i * n + j) (place_of (alternatives net (ranking_of b.value)) path 0)) (place_of (alternatives net (ranking_of a.value)) path 0))
+    (length-alternatives net (ranking_of b.value))
 
 pub first-And_none : (net : PlainNet) (r : Ranked) (a b : Box Ranked Global) (path : List ℕ) → r ≡ And a b
     → (alternative_count (ranking_of a.value) ≡ 0) ⊎ (alternative_count (ranking_of b.value) ≡ 0) → None ≡ place_of (alternatives net (ranking_of r)) path 0

@@ -21,7 +21,8 @@ use Rattle.policy_grammar.proofs.Symbols.{word_plain}
 
 -- ---- one token more
 
-pub uncounted_symbol : (k : TokenKind) (bytes : List ℕ) (n : ℕ) → (k ≡ kind.RoundOpen → ⊥) → (k ≡ kind.RoundClose → ⊥) → (is_too_deep n (symbol_of k bytes) ≡ false) × (open_behind n (symbol_of k bytes) ≡ n)
+pub uncounted_symbol : (k : TokenKind) (bytes : List ℕ) (n : ℕ) → (k ≡ kind.RoundOpen → ⊥) → (k ≡ kind.RoundClose → ⊥)
+    → (is_too_deep n (symbol_of k bytes) ≡ false) × (open_behind n (symbol_of k bytes) ≡ n)
 uncounted_symbol kind.Word bytes n not_open not_close = word_plain bytes n
 uncounted_symbol kind.Figure bytes n not_open not_close = (refl, refl)
 uncounted_symbol kind.Arrow bytes n not_open not_close = (refl, refl)
@@ -66,7 +67,9 @@ all_counted text ts deep count p is so_far =
     ap (deep_found text) is ∙ ap Ok (sym (ap (λ a. first_deep 0 (lexemes_ahead text a)) (tokens_ahead text ts is)) ∙ sym so_far ∙ end_shallow deep count p)
 
 pub counted : (text : List ℕ) (deep : Option Place) (count : ℕ) (x : Next) → ((t : Token) → x ≡ next.Token t → ⊥) → ((p : Place) → x ≡ next.Stray p → ⊥)
-    → (from_next text x).1 ≡ (ahead_of text 0 first_place).1 → deep_from deep count (lexemes_ahead text (from_next text x)) ≡ deep_from None 0 (lexemes_ahead text (ahead_of text 0 first_place)) → Found text ≡ Ok deep
+    → (from_next text x).1 ≡ (ahead_of text 0 first_place).1
+    → deep_from deep count (lexemes_ahead text (from_next text x)) ≡ deep_from None 0 (lexemes_ahead text (ahead_of text 0 first_place))
+    → Found text ≡ Ok deep
 counted text deep count (next.Token t) not_token not_stray end so_far = absurd (not_token t refl)
 counted text deep count (next.Stray p) not_token not_stray end so_far = absurd (not_stray p refl)
 counted text deep count (next.End p) not_token not_stray end so_far =

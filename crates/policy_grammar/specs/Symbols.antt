@@ -9,7 +9,8 @@ use Rattle.policy_base.specs.CallWords.{call_words, word_text}
 use Rattle.policy_tokens.specs.declared.token.TokenKind.{TokenKind}
 use Rattle.policy_tokens.specs.declared.token.TokenKind.TheVariants as kind
 use Rattle.policy_grammar.specs.declared.symbol.Symbol.{Symbol}
-use Rattle.policy_grammar.specs.declared.symbol.Symbol.TheVariants.{Define, Originate, At, From, True, Le, Or, And, Not, Call, Name, Figure, Arrow, Above, Equals, BraceOpen, BraceClose, RoundOpen, RoundClose, Comma, Semicolon, EndOfText}
+use Rattle.policy_grammar.specs.declared.symbol.Symbol.TheVariants.{Define, Originate, At, From, True, Le, Or, And, Not, Call, Name, Figure, Arrow, Above, Equals}
+use Rattle.policy_grammar.specs.declared.symbol.Symbol.TheVariants.{BraceOpen, BraceClose, RoundOpen, RoundClose, Comma, Semicolon, EndOfText}
 
 abbrev pub set_number : SetCall → ℕ
 set_number Avoid = 0

@@ -65,7 +65,8 @@ module _ (bytes : List ℕ) (tokens : List Token) (net : PlainNet) (policy : Pla
 
     module _ (ranks : PlainRows) (reached : AreReached net policy ranks) where
       -- the alternatives of one statement
-      one_are : (n : ℕ) (s : PlainStatement) → n ≤ count → AreThose Holds (map (Unreached n) (numbers (alternative_count s.ranked))) (if marked have n then told_unreached ranks n (alternative_count s.ranked) else [])
+      one_are : (n : ℕ) (s : PlainStatement) → n ≤ count
+          → AreThose Holds (map (Unreached n) (numbers (alternative_count s.ranked))) (if marked have n then told_unreached ranks n (alternative_count s.ranked) else [])
       one_are n s within = elim (cases_Bool (marked have n)) [
         | inl has ↦
             let not_ = not_idle net policy n (sym (marks n within) ∙ has) in

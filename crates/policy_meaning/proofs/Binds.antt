@@ -25,7 +25,8 @@ pub told_gives : {A B C : Type 0} (fault : A → PolicyFault) (xs : List A) (y :
 told_gives fault [] y k = refl
 told_gives fault (x ∷ xs) y k = refl
 
-pub told_bind : {A B C : Type 0} (fault : A → PolicyFault) (xs : List A) (r : Result B PolicyFault) (k : B → Result C PolicyFault) → ((told fault xs >>= λ _. r) >>= k) ≡ (told fault xs >>= λ _. (r >>= k))
+pub told_bind : {A B C : Type 0} (fault : A → PolicyFault) (xs : List A) (r : Result B PolicyFault) (k : B → Result C PolicyFault)
+    → ((told fault xs >>= λ _. r) >>= k) ≡ (told fault xs >>= λ _. (r >>= k))
 told_bind fault [] r k = refl
 told_bind fault (x ∷ xs) r k = refl
 
@@ -77,5 +78,6 @@ none_other [] = refl
 none_other (x ∷ xs) = none_other xs
 
 -- each check tells what is found
-pub each_told : {A B : Type 0} (check : A → Result ⊤ PolicyFault) (fault : B → PolicyFault) (found : A → List B) → ((x : A) → check x ≡ told fault (found x)) → (xs : List A) → each check xs ≡ told fault (flat_map found xs)
+pub each_told : {A B : Type 0} (check : A → Result ⊤ PolicyFault) (fault : B → PolicyFault) (found : A → List B)
+    → ((x : A) → check x ≡ told fault (found x)) → (xs : List A) → each check xs ≡ told fault (flat_map found xs)
 each_told check fault found one xs = each_where check fault found no_other (λ x none. one x) xs (none_other xs)

@@ -51,18 +51,23 @@ origin_is bytes known sense has prefix names fine none =
     ap₂ (λ (r : Result PlainPrefix PolicyFault) (t : Result LocSet PolicyFault). r >>= λ p. t >>= λ s. Ok (let o : Origin = record { prefix = p; at = s } in o))
     (silent PrefixBad (no_prefix bytes prefix) p (Ok (prefix_of bytes prefix)) fine (prefix_told bytes prefix)) (list_set bytes known sense has names none)
 
-origins_are : (bytes : List ℕ) (known : Names) (sense : Sense) → HasSense bytes known sense → (so_far : List Origin) (xs : List Written) → flat_map (wrong_figures bytes) xs ≡ [] → flat_map (unknown_in_item sense) xs ≡ []
+origins_are : (bytes : List ℕ) (known : Names) (sense : Sense) → HasSense bytes known sense → (so_far : List Origin) (xs : List Written)
+    → flat_map (wrong_figures bytes) xs ≡ [] → flat_map (unknown_in_item sense) xs ≡ []
     → origins_of bytes known so_far (map item_of xs) ≡ Ok (so_far ++ origins bytes sense xs)
 origins_are bytes known sense has so_far [] fine none = ap Ok (sym (append-nil so_far))
 origins_are bytes known sense has so_far (define group members ∷ xs) fine none =
     origins_are bytes known sense has so_far xs fine (nil_back (unknown_in_item sense (define group members)) (flat_map (unknown_in_item sense) xs) none)
 origins_are bytes known sense has so_far (state patterns e from ∷ xs) fine none =
-    origins_are bytes known sense has so_far xs (nil_back (wrong_figures bytes (state patterns e from)) (flat_map (wrong_figures bytes) xs) fine) (nil_back (unknown_in_item sense (state patterns e from)) (flat_map (unknown_in_item sense) xs) none)
+    origins_are bytes known sense has so_far xs (nil_back (wrong_figures bytes (state patterns e from)) (flat_map (wrong_figures bytes) xs) fine)
+    (nil_back (unknown_in_item sense (state patterns e from)) (flat_map (unknown_in_item sense) xs) none)
 origins_are bytes known sense has so_far (originate prefix names ∷ xs) fine none =
     let o : Origin = record { prefix = prefix_of bytes prefix; at = set_of_names sense names } in
-    let here = origin_is bytes known sense has prefix names (nil_front (no_prefix bytes prefix) (flat_map (wrong_figures bytes) xs) fine) (nil_front (flat_map (unknown sense) names) (flat_map (unknown_in_item sense) xs) none) in
+    let here =
+    origin_is bytes known sense has prefix names (nil_front (no_prefix bytes prefix) (flat_map (wrong_figures bytes) xs) fine)
+    (nil_front (flat_map (unknown sense) names) (flat_map (unknown_in_item sense) xs) none) in
     ap (λ (r : Result Origin PolicyFault). r >>= λ o. origins_of bytes known (so_far ++ o ∷ []) (map item_of xs)) here
-    ∙ origins_are bytes known sense has (so_far ++ o ∷ []) xs (nil_back (no_prefix bytes prefix) (flat_map (wrong_figures bytes) xs) fine) (nil_back (flat_map (unknown sense) names) (flat_map (unknown_in_item sense) xs) none)
+    ∙ origins_are bytes known sense has (so_far ++ o ∷ []) xs (nil_back (no_prefix bytes prefix) (flat_map (wrong_figures bytes) xs) fine)
+    (nil_back (flat_map (unknown sense) names) (flat_map (unknown_in_item sense) xs) none)
     ∙ ap Ok (append_assoc so_far (o ∷ []) (origins bytes sense xs))
 
 -- ---- statements
@@ -83,22 +88,30 @@ statement_is net bytes known sense has ps e a fine none others =
     let first = silent PrefixBad (flat_map (wrong_in_pattern bytes) ps) (patterns_of bytes [] ps) (Ok qs) fine (patterns_told bytes [] ps) in
     let second = silent Unknown (unknown_in sense e) (ranking_of_steps bytes net known (postfix e)) (Ok (ranking net sense e)) none (expression_value net bytes known sense has e) in
     let third = from_is bytes known sense has a others in
-    ap (λ (r : Result (List PlainPattern) PolicyFault). r >>= λ patterns. ranking_of_steps bytes net known (postfix e) >>= λ ranked. from_of bytes known a >>= λ from. Ok (let s : PlainStatement = record { patterns = patterns; ranked = ranked; from = from } in s)) first
-    ∙ ap₂ (λ (r : Result Ranking PolicyFault) (t : Result FromSet PolicyFault). r >>= λ ranked. t >>= λ from. Ok (let s : PlainStatement = record { patterns = qs; ranked = ranked; from = from } in s)) second third
+    ap (λ (r : Result (List PlainPattern) PolicyFault). r >>= λ patterns. ranking_of_steps bytes net known
+    (postfix e) >>= λ ranked. from_of bytes known a >>= λ from. Ok
+    (let s : PlainStatement = record { patterns = patterns; ranked = ranked; from = from } in s)) first
+    ∙ ap₂ (λ (r : Result Ranking PolicyFault) (t : Result FromSet PolicyFault). r >>= λ ranked. t >>= λ from. Ok
+    (let s : PlainStatement = record { patterns = qs; ranked = ranked; from = from } in s)) second third
 
-statements_are : (net : PlainNet) (bytes : List ℕ) (known : Names) (sense : Sense) → HasSense bytes known sense → (so_far : List PlainStatement) (xs : List Written) → flat_map (wrong_figures bytes) xs ≡ [] → flat_map (unknown_in_item sense) xs ≡ []
+statements_are : (net : PlainNet) (bytes : List ℕ) (known : Names) (sense : Sense) → HasSense bytes known sense
+    → (so_far : List PlainStatement) (xs : List Written) → flat_map (wrong_figures bytes) xs ≡ [] → flat_map (unknown_in_item sense) xs ≡ []
     → statements_of bytes net known so_far (map item_of xs) ≡ Ok (so_far ++ flat_map (statement net bytes sense) xs)
 statements_are net bytes known sense has so_far [] fine none = ap Ok (sym (append-nil so_far))
 statements_are net bytes known sense has so_far (define group members ∷ xs) fine none =
     statements_are net bytes known sense has so_far xs fine (nil_back (unknown_in_item sense (define group members)) (flat_map (unknown_in_item sense) xs) none)
 statements_are net bytes known sense has so_far (originate prefix names ∷ xs) fine none =
-    statements_are net bytes known sense has so_far xs (nil_back (no_prefix bytes prefix) (flat_map (wrong_figures bytes) xs) fine) (nil_back (flat_map (unknown sense) names) (flat_map (unknown_in_item sense) xs) none)
+    statements_are net bytes known sense has so_far xs (nil_back (no_prefix bytes prefix) (flat_map (wrong_figures bytes) xs) fine)
+    (nil_back (flat_map (unknown sense) names) (flat_map (unknown_in_item sense) xs) none)
 statements_are net bytes known sense has so_far (state ps e a ∷ xs) fine none =
     let s : PlainStatement = statement_value net bytes sense ps e a in
     let here : List Place = unknown_in_item sense (state ps e a) in
     let known_here = nil_front here (flat_map (unknown_in_item sense) xs) none in
     let wrong : List Place = flat_map (wrong_in_pattern bytes) ps in
-    let is = statement_is net bytes known sense has ps e a (nil_front wrong (flat_map (wrong_figures bytes) xs) fine) (nil_front (unknown_in sense e) (unknown_in_set sense a) known_here) (nil_back (unknown_in sense e) (unknown_in_set sense a) known_here) in
+    let is =
+    statement_is net bytes known sense has ps e a (nil_front wrong (flat_map (wrong_figures bytes) xs) fine)
+    (nil_front (unknown_in sense e) (unknown_in_set sense a) known_here)
+    (nil_back (unknown_in sense e) (unknown_in_set sense a) known_here) in
     ap (λ (r : Result PlainStatement PolicyFault). r >>= λ t. statements_of bytes net known (so_far ++ t ∷ []) (map item_of xs)) is
     ∙ statements_are net bytes known sense has (so_far ++ s ∷ []) xs (nil_back wrong (flat_map (wrong_figures bytes) xs) fine) (nil_back here (flat_map (unknown_in_item sense) xs) none)
     ∙ ap Ok (append_assoc so_far (s ∷ []) (flat_map (statement net bytes sense) xs))
@@ -115,7 +128,8 @@ all_limits : (os : List Origin) (xs : List Written) → limits_passed os xs ≡ 
 unfolding many_items many_pairs
 all_limits os xs = refl
 
-four : {B : Type 0} (a b c d : List PolicyFault) (r : Result B PolicyFault) → (told self a >>= λ _. (told self b >>= λ _. (told self c >>= λ _. (told self d >>= λ _. r)))) ≡ (told self (a ++ b ++ c ++ d) >>= λ _. r)
+four : {B : Type 0} (a b c d : List PolicyFault) (r : Result B PolicyFault)
+    → (told self a >>= λ _. (told self b >>= λ _. (told self c >>= λ _. (told self d >>= λ _. r)))) ≡ (told self (a ++ b ++ c ++ d) >>= λ _. r)
 four [] [] [] d r = refl
 four [] [] (z ∷ c) d r = refl
 four [] (y ∷ b) c d r = refl
@@ -126,11 +140,14 @@ origins_built : (bytes : List ℕ) (known : Names) (sense : Sense) → HasSense 
 unfolding origins_spelled many_items many_pairs
 origins_built bytes known sense has xs fine none =
     let os : List Origin = origins bytes sense xs in
-    ap₂ (λ (r : Result ⊤ PolicyFault) (t : Result (List Origin) PolicyFault). r >>= λ _. t >>= λ origins. within kind.Origins 16384 (pairs_read origins) >>= λ _. Ok origins) (items_told xs) (origins_are bytes known sense has [] xs fine none)
-    ∙ ap (λ (r : Result ⊤ PolicyFault). told self (many kind.Definitions 256 xs ++ many kind.Statements 256 xs ++ many kind.Patterns 16384 xs ++ many kind.Prefixes 4096 xs) >>= λ _. r >>= λ _. Ok os) (within_told kind.Origins 16384 (pairs_read os))
+    ap₂ (λ (r : Result ⊤ PolicyFault) (t : Result (List Origin) PolicyFault). r >>= λ _. t >>= λ origins. within kind.Origins 16384 (pairs_read origins) >>= λ _. Ok origins)
+    (items_told xs) (origins_are bytes known sense has [] xs fine none)
+    ∙ ap (λ (r : Result ⊤ PolicyFault). told self (many kind.Definitions 256 xs ++ many kind.Statements 256 xs ++ many kind.Patterns 16384 xs ++ many kind.Prefixes 4096 xs) >>= λ _. r >>= λ _. Ok os)
+    (within_told kind.Origins 16384 (pairs_read os))
 
 -- Items that keep the rules on names and figures make the policy that they mean, within the limits.
-pub policy_is : (net : PlainNet) (bytes : List ℕ) (known : Names) (sense : Sense) → HasSense bytes known sense → (xs : List Written) → flat_map (wrong_figures bytes) xs ≡ [] → flat_map (unknown_in_item sense) xs ≡ []
+pub policy_is : (net : PlainNet) (bytes : List ℕ) (known : Names) (sense : Sense) → HasSense bytes known sense → (xs : List Written)
+    → flat_map (wrong_figures bytes) xs ≡ [] → flat_map (unknown_in_item sense) xs ≡ []
     → policy_built bytes net known (map item_of xs) ≡ (told self (limits_passed (origins bytes sense xs) xs) >>= λ _. Ok (policy net bytes sense xs))
 unfolding policy_built
 policy_is net bytes known sense has xs fine none =
@@ -139,10 +156,16 @@ policy_is net bytes known sense has xs fine none =
     let b : List PolicyFault = many_pairs os in
     let c : List PolicyFault = flat_map many_calls xs in
     let d : List PolicyFault = flat_map long_paths xs in
-    let rest : List Origin → Result PlainPolicy PolicyFault = λ os. each calls_within (map item_of xs) >>= λ _. each paths_within (map item_of xs) >>= λ _. statements_of bytes net known [] (map item_of xs) >>= λ statements. Ok (record { origins = os; statements = statements }) in
+    let rest : List Origin → Result PlainPolicy PolicyFault =
+    λ os. each calls_within (map item_of xs) >>= λ _. each paths_within (map item_of xs) >>= λ _. statements_of bytes net known []
+    (map item_of xs) >>= λ statements. Ok (record { origins = os; statements = statements }) in
     let last : rest os ≡ (told self c >>= λ _. (told self d >>= λ _. Ok (policy net bytes sense xs))) =
-    ap (λ (r : Result ⊤ PolicyFault). r >>= λ _. each paths_within (map item_of xs) >>= λ _. statements_of bytes net known [] (map item_of xs) >>= λ statements. Ok (let p : PlainPolicy = record { origins = os; statements = statements } in p)) (calls_told xs)
-    ∙ ap₂ (λ (r : Result ⊤ PolicyFault) (t : Result (List PlainStatement) PolicyFault). told self c >>= λ _. r >>= λ _. t >>= λ statements. Ok (let p : PlainPolicy = record { origins = os; statements = statements } in p)) (paths_told xs) (statements_are net bytes known sense has [] xs fine none) in
+    ap (λ (r : Result ⊤ PolicyFault). r >>= λ _. each paths_within (map item_of xs) >>= λ _. statements_of bytes net known []
+    (map item_of xs) >>= λ statements. Ok (let p : PlainPolicy = record { origins = os; statements = statements } in p))
+    (calls_told xs)
+    ∙ ap₂ (λ (r : Result ⊤ PolicyFault) (t : Result (List PlainStatement) PolicyFault). told self c >>= λ _. r >>= λ _. t >>= λ statements. Ok
+    (let p : PlainPolicy = record { origins = os; statements = statements } in p))
+    (paths_told xs) (statements_are net bytes known sense has [] xs fine none) in
     ap (λ (r : Result (List Origin) PolicyFault). r >>= rest) (origins_built bytes known sense has xs fine none)
     ∙ told_bind self a (told self b >>= λ _. Ok os) rest
     ∙ ap (λ (r : Result PlainPolicy PolicyFault). told self a >>= λ _. r) (told_gives self b os rest ∙ ap (λ (r : Result PlainPolicy PolicyFault). told self b >>= λ _. r) last)

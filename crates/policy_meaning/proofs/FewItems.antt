@@ -75,13 +75,15 @@ module _ (net : PlainNet) (bytes : List ℕ) (sense : Sense) where
   prefixes xs = map (λ (o : Origin). o.prefix) (origins bytes sense xs)
 
   -- none of these is among the items above, nor is it the one before them
-  with_this : (above' : List Written) (p : Lexeme) (names : List Lexeme) (ps : List PlainPrefix) → AllByRecursion (λ q. same_prefix (prefix_of bytes p) q ≡ false) ps → AllByRecursion (λ q. list_any (originates bytes q) above' ≡ false) ps
+  with_this : (above' : List Written) (p : Lexeme) (names : List Lexeme) (ps : List PlainPrefix)
+      → AllByRecursion (λ q. same_prefix (prefix_of bytes p) q ≡ false) ps → AllByRecursion (λ q. list_any (originates bytes q) above' ≡ false) ps
       → AllByRecursion (λ q. list_any (originates bytes q) (originate p names ∷ above') ≡ false) ps
   with_this above' p names [] apart none = tt
   with_this above' p names (q ∷ qs) apart none =
       (ap₂ (λ (a b : Bool). a || b) (same_prefix_equiv.symm q (prefix_of bytes p) ∙ apart.0) none.0, with_this above' p names qs apart.1 none.1)
 
-  pub none_again : (above' xs : List Written) → IsDistinct same_prefix (prefixes xs) → AllByRecursion (λ q. list_any (originates bytes q) above' ≡ false) (prefixes xs) → item_by_item (originated_again bytes) above' xs ≡ []
+  pub none_again : (above' xs : List Written) → IsDistinct same_prefix (prefixes xs)
+      → AllByRecursion (λ q. list_any (originates bytes q) above' ≡ false) (prefixes xs) → item_by_item (originated_again bytes) above' xs ≡ []
   unfolding IsDistinct
   none_again above' [] apart none = refl
   none_again above' (define group members ∷ xs) apart none = none_again (define group members ∷ above') xs apart none

@@ -16,7 +16,8 @@ use Rattle.policy_meaning.specs.Limits.{calls, many_calls, long_paths}
 use Rattle.policy_meaning.specs.Texts.{IsKnown, AreRouters, IsPatternText, IsFineBelow, AreFine}
 use Rattle.policy_meaning.proofs.Binds.{nil_front, nil_back, both_nil}
 use Rattle.policy_meaning.proofs.Learnt.{turned, unknown_from, again_from}
-use Rattle.policy_meaning.proofs.NothingBroken.{all_kept, none_found, many_none, many_kept, name_kept, name_none, set_kept, set_none, prefix_kept, prefix_none, pattern_kept, pattern_none, fine_where, none_where}
+use Rattle.policy_meaning.proofs.NothingBroken.{all_kept, none_found, many_none, many_kept, name_kept, name_none, set_kept, set_none, prefix_kept, prefix_none}
+use Rattle.policy_meaning.proofs.NothingBroken.{pattern_kept, pattern_none, fine_where, none_where}
 
 -- ---- a name goes on to stand for what it does
 

@@ -30,9 +30,15 @@ sides_more a b c d p q none = both_nil c d (p (nil_front a b none)) (q (nil_back
 
 expression_more : (sense other : Sense) → KnowsMore sense other → (e : Expression) → unknown_in sense e ≡ [] → unknown_in other e ≡ []
 expression_more sense other more (call c) none = all_more (unknown_in_set sense) (unknown_in_set other) (set_more sense other more) c.args none
-expression_more sense other more (above a p b) none = sides_more (unknown_in sense a) (unknown_in sense b) (unknown_in other a) (unknown_in other b) (expression_more sense other more a) (expression_more sense other more b) none
-expression_more sense other more (either a b) none = sides_more (unknown_in sense a) (unknown_in sense b) (unknown_in other a) (unknown_in other b) (expression_more sense other more a) (expression_more sense other more b) none
-expression_more sense other more (both a b) none = sides_more (unknown_in sense a) (unknown_in sense b) (unknown_in other a) (unknown_in other b) (expression_more sense other more a) (expression_more sense other more b) none
+expression_more sense other more (above a p b) none =
+    sides_more (unknown_in sense a) (unknown_in sense b) (unknown_in other a) (unknown_in other b) (expression_more sense other more a)
+    (expression_more sense other more b) none
+expression_more sense other more (either a b) none =
+    sides_more (unknown_in sense a) (unknown_in sense b) (unknown_in other a) (unknown_in other b) (expression_more sense other more a)
+    (expression_more sense other more b) none
+expression_more sense other more (both a b) none =
+    sides_more (unknown_in sense a) (unknown_in sense b) (unknown_in other a) (unknown_in other b) (expression_more sense other more a)
+    (expression_more sense other more b) none
 expression_more sense other more (negated a) none = expression_more sense other more a none
 
 item_more : (sense other : Sense) → KnowsMore sense other → (x : Written) → unknown_in_item sense x ≡ [] → unknown_in_item other x ≡ []

@@ -36,7 +36,8 @@ behind_item bytes sense known (define group members) = with_group known group.pl
 behind_item bytes sense known (originate prefix names) = known
 behind_item bytes sense known (state patterns e from) = known
 
-item_learnt : (bytes : List ℕ) (known : Names) (sense : Sense) → HasSense bytes known sense → (x : Written) → learnt bytes known (item_of x) ≡ (told Unknown (unknown_in_item sense x) >>= λ _. Ok (behind_item bytes sense known x))
+item_learnt : (bytes : List ℕ) (known : Names) (sense : Sense) → HasSense bytes known sense → (x : Written)
+    → learnt bytes known (item_of x) ≡ (told Unknown (unknown_in_item sense x) >>= λ _. Ok (behind_item bytes sense known x))
 item_learnt bytes known sense has (define group members) =
     let xs : List Place = flat_map (unknown sense) members in
     ap (λ (r : Result LocSet PolicyFault). r >>= λ s. Ok (with_group known group.place (text bytes group) s)) (names_set bytes known sense has members)
@@ -52,7 +53,9 @@ group_known : (known : Names) (place : Place) (name : List ℕ) (s : LocSet) (ot
     → set_named (with_group known place name s) other ≡ or_else (set_named known other) (if bytes_eq other name then Some s else None)
 group_known known place name s other paired = by (is_known known name) refl
   where
-    by : (b : Bool) → is_known known name ≡ b → set_named (if b then record { names = known.names; sets = known.sets; twice = first_place known.twice place } else with_name known name s) other ≡ or_else (set_named known other) (if bytes_eq other name then Some s else None)
+    by : (b : Bool) → is_known known name ≡ b
+        → set_named (if b then record { names = known.names; sets = known.sets; twice = first_place known.twice place } else with_name known name s) other
+        ≡ or_else (set_named known other) (if bytes_eq other name then Some s else None)
     by true e = known_more known name s other paired e
     by false e = name_more known name s other paired
 
@@ -63,12 +66,15 @@ group_paired known place name s paired = by (is_known known name)
     by true = paired
     by false = paired_more known name s paired
 
-item_means : (net : PlainNet) (bytes : List ℕ) (above : List Written) (known : Names) (x : Written) → Means net bytes above known → Means net bytes (x ∷ above) (behind_item bytes (below net bytes above) known x)
+item_means : (net : PlainNet) (bytes : List ℕ) (above : List Written) (known : Names) (x : Written) → Means net bytes above known
+    → Means net bytes (x ∷ above) (behind_item bytes (below net bytes above) known x)
 item_means net bytes above known (define group members) m =
     let s : LocSet = set_of_names (below net bytes above) members in
     record {
       paired = group_paired known group.place (text bytes group) s m.paired;
-      named = λ name. group_known known group.place (text bytes group) s name m.paired ∙ ap (λ (o : Option LocSet). or_else o (if bytes_eq name (text bytes group) then Some s else None)) (m.named name);
+      named =
+          λ name. group_known known group.place (text bytes group) s name m.paired
+          ∙ ap (λ (o : Option LocSet). or_else o (if bytes_eq name (text bytes group) then Some s else None)) (m.named name);
     }
 item_means net bytes above known (originate prefix names) m = record { paired = m.paired; named = m.named }
 item_means net bytes above known (state patterns e from) m = record { paired = m.paired; named = m.named }
@@ -91,7 +97,8 @@ group_twice known place name s o paired is = by o (known_some known name paired 
     by (Some t) e = rw e (told_first known.twice)
     by None e = rw e (earlier-nil known.twice)
 
-item_twice : (bytes : List ℕ) (sense : Sense) (known : Names) (x : Written) → IsPaired known → HasSense bytes known sense → (behind_item bytes sense known x).twice ≡ or_else known.twice (first (named_again sense x))
+item_twice : (bytes : List ℕ) (sense : Sense) (known : Names) (x : Written) → IsPaired known → HasSense bytes known sense
+    → (behind_item bytes sense known x).twice ≡ or_else known.twice (first (named_again sense x))
 item_twice bytes sense known (define group members) paired has = group_twice known group.place (text bytes group) (set_of_names sense members) (sense group) paired (has group)
 item_twice bytes sense known (originate prefix names) paired has = earlier-nil known.twice
 item_twice bytes sense known (state patterns e from) paired has = earlier-nil known.twice
@@ -134,7 +141,8 @@ items_learnt net bytes above known (x ∷ xs) m =
     ∙ ap (λ (r : Result Names PolicyFault). told Unknown here >>= λ _. r) (items_learnt net bytes (x ∷ above) next xs (item_means net bytes above known x m))
     ∙ told_join Unknown here (unknown_from net bytes (x ∷ above) xs) (Ok (behind_items net bytes (x ∷ above) next xs))
 
-items_mean : (net : PlainNet) (bytes : List ℕ) (above : List Written) (known : Names) (xs : List Written) → Means net bytes above known → Means net bytes (turned above xs) (behind_items net bytes above known xs)
+items_mean : (net : PlainNet) (bytes : List ℕ) (above : List Written) (known : Names) (xs : List Written) → Means net bytes above known
+    → Means net bytes (turned above xs) (behind_items net bytes above known xs)
 unfolding behind_items
 items_mean net bytes above known [] m = m
 items_mean net bytes above known (x ∷ xs) m = items_mean net bytes (x ∷ above) (behind_item bytes (below net bytes above) known x) xs (item_means net bytes above known x m)
@@ -166,7 +174,9 @@ names_of net bytes xs = behind_items net bytes [] (net_names net) xs
 
 pub names_sense : (net : PlainNet) (bytes : List ℕ) (xs : List Written) → HasSense bytes (names_of net bytes xs) (sense_of net bytes xs)
 unfolding names_of
-names_sense net bytes xs l = (items_mean net bytes [] (net_names net) xs (net_means net bytes)).named (text bytes l) ∙ ap (λ (above : List Written). stands_for net bytes above (text bytes l)) (turned-all xs)
+names_sense net bytes xs l =
+    (items_mean net bytes [] (net_names net) xs (net_means net bytes)).named (text bytes l)
+    ∙ ap (λ (above : List Written). stands_for net bytes above (text bytes l)) (turned-all xs)
 
 all_told : (net : PlainNet) (bytes : List ℕ) (xs : List Written) → all_learnt bytes (net_names net) (map item_of xs) ≡ (told Unknown (unknown_from net bytes [] xs) >>= λ _. Ok (names_of net bytes xs))
 unfolding names_of

@@ -116,10 +116,13 @@ call_places word.Link n = refl
 call_places word.Path n = within_told kind.Places 256 n ∙ sym (told_end self (over kind.Places 256 n)) ∙ told_append self (over kind.Places 256 n) []
 call_places (word.Of c) n = refl
 
-places_in_turn : (a b : List Step) (s : Step) (xs ys : List ℕ) → places_within s ≡ Ok tt → each places_within a ≡ told self (long xs) → each places_within b ≡ told self (long ys) → each places_within (a ++ b ++ s ∷ []) ≡ told self (long (xs ++ ys))
+places_in_turn : (a b : List Step) (s : Step) (xs ys : List ℕ) → places_within s ≡ Ok tt → each places_within a ≡ told self (long xs)
+    → each places_within b ≡ told self (long ys) → each places_within (a ++ b ++ s ∷ []) ≡ told self (long (xs ++ ys))
 places_in_turn a b s xs ys silent p q =
     each_append places_within (a ++ b) (s ∷ [])
-    ∙ ap₂ (λ (r t : Result ⊤ PolicyFault). r >>= λ _. t) (each_append places_within a b ∙ ap₂ (λ (r t : Result ⊤ PolicyFault). r >>= λ _. t) p q ∙ told_append self (long xs) (long ys)) (ap (λ (r : Result ⊤ PolicyFault). r >>= λ _. Ok tt) silent)
+    ∙ ap₂ (λ (r t : Result ⊤ PolicyFault). r >>= λ _. t)
+    (each_append places_within a b ∙ ap₂ (λ (r t : Result ⊤ PolicyFault). r >>= λ _. t) p q ∙ told_append self (long xs) (long ys))
+    (ap (λ (r : Result ⊤ PolicyFault). r >>= λ _. Ok tt) silent)
     ∙ told_end self (long xs ++ long ys)
     ∙ ap (told self) (sym (flat_map-append (over kind.Places 256) xs ys))
 

@@ -41,7 +41,8 @@ IsPaired known = length known.names ≡ length known.sets
 pub found : (known : Names) (name : List ℕ) → IsPaired known → set_named known name ≡ lookup (bytes_eq name) known.names known.sets
 found known name paired = ap (option_and_then (slice_get known.sets)) (position_from-zero (bytes_eq name) known.names) ∙ from_place (bytes_eq name) known.names known.sets [] paired
 
-lookup-more : {N S : Type 0} (p : N → Bool) (ns : List N) (ss : List S) (n : N) (s : S) → length ns ≡ length ss → lookup p (ns ++ n ∷ []) (ss ++ s ∷ []) ≡ or_else (lookup p ns ss) (if p n then Some s else None)
+lookup-more : {N S : Type 0} (p : N → Bool) (ns : List N) (ss : List S) (n : N) (s : S) → length ns ≡ length ss
+    → lookup p (ns ++ n ∷ []) (ss ++ s ∷ []) ≡ or_else (lookup p ns ss) (if p n then Some s else None)
 unfolding lookup
 lookup-more p [] [] n s size = refl
 lookup-more p [] (t ∷ ss) n s size = absurd (omega (arith, size))
@@ -54,7 +55,8 @@ lookup-more p (m ∷ ns) (t ∷ ss) n s size = by (p m) refl (lookup-more p ns s
     by false e again = rw e again
 
 -- a name more stands for its set, where it stood for none
-pub name_more : (known : Names) (n : List ℕ) (s : LocSet) (name : List ℕ) → IsPaired known → set_named (with_name known n s) name ≡ or_else (set_named known name) (if bytes_eq name n then Some s else None)
+pub name_more : (known : Names) (n : List ℕ) (s : LocSet) (name : List ℕ) → IsPaired known
+    → set_named (with_name known n s) name ≡ or_else (set_named known name) (if bytes_eq name n then Some s else None)
 name_more known n s name paired =
     found (with_name known n s) name (omega (arith, paired, length-append known.names (n ∷ []), length-append known.sets (s ∷ [])))
     ∙ lookup-more (bytes_eq name) known.names known.sets n s paired
@@ -87,7 +89,8 @@ none_more (Some s) = refl
 none_more None = refl
 
 -- a name that is known is not known anew
-pub known_more : (known : Names) (n : List ℕ) (s : LocSet) (name : List ℕ) → IsPaired known → is_known known n ≡ true → set_named known name ≡ or_else (set_named known name) (if bytes_eq name n then Some s else None)
+pub known_more : (known : Names) (n : List ℕ) (s : LocSet) (name : List ℕ) → IsPaired known → is_known known n ≡ true
+    → set_named known name ≡ or_else (set_named known name) (if bytes_eq name n then Some s else None)
 known_more known n s name paired there = by (bytes_eq name n) refl
   where
     by : (b : Bool) → bytes_eq name n ≡ b → set_named known name ≡ or_else (set_named known name) (if b then Some s else None)

@@ -31,16 +31,19 @@ peer_told : (net : PlainNet) (p : Place) (o : Option LocSet) → unless_some p o
 peer_told net p (Some s) none = unless_told OriginPeer p (has_peer net s)
 peer_told net p None none = absurd cc
 
-name_told : (bytes : List ℕ) (net : PlainNet) (known : Names) (sense : Sense) → HasSense bytes known sense → (l : Lexeme) → unknown sense l ≡ [] → routers_alone bytes net known l ≡ told OriginPeer (peer_named net sense l)
+name_told : (bytes : List ℕ) (net : PlainNet) (known : Names) (sense : Sense) → HasSense bytes known sense → (l : Lexeme) → unknown sense l ≡ []
+    → routers_alone bytes net known l ≡ told OriginPeer (peer_named net sense l)
 name_told bytes net known sense has l none =
     ap (λ (r : Result LocSet PolicyFault). r >>= λ s. unless (OriginPeer l.place) (not (has_peer net s))) (set_found bytes known sense has l)
     ∙ told_gives Unknown (unknown sense l) (located (sense l)) (λ s. unless (OriginPeer l.place) (not (has_peer net s)))
     ∙ ap (λ (ps : List Place). told Unknown ps >>= λ _. unless (OriginPeer l.place) (not (has_peer net (located (sense l))))) none
     ∙ peer_told net l.place (sense l) none
 
-item_told : (bytes : List ℕ) (net : PlainNet) (known : Names) (sense : Sense) → HasSense bytes known sense → (x : Written) → unknown_in_item sense x ≡ [] → origins_fine bytes net known (item_of x) ≡ told OriginPeer (peers_named net sense x)
+item_told : (bytes : List ℕ) (net : PlainNet) (known : Names) (sense : Sense) → HasSense bytes known sense → (x : Written)
+    → unknown_in_item sense x ≡ [] → origins_fine bytes net known (item_of x) ≡ told OriginPeer (peers_named net sense x)
 item_told bytes net known sense has (define group members) none = refl
-item_told bytes net known sense has (originate prefix names) none = each_where (routers_alone bytes net known) OriginPeer (peer_named net sense) (unknown sense) (name_told bytes net known sense has) names none
+item_told bytes net known sense has (originate prefix names) none =
+    each_where (routers_alone bytes net known) OriginPeer (peer_named net sense) (unknown sense) (name_told bytes net known sense has) names none
 item_told bytes net known sense has (state patterns e from) none = refl
 
 -- where each name stands for something, the first is told that stands for a peer too
@@ -64,7 +67,9 @@ once_told : (bytes : List ℕ) (before : List PlainPrefix) (above : List Written
     → once_from bytes before (map item_of xs) ≡ told OriginTwice (item_by_item (originated_again bytes) above xs)
 once_told bytes before above [] are none = refl
 once_told bytes before above (define group members ∷ xs) are none = once_told bytes before (define group members ∷ above) xs are none
-once_told bytes before above (state patterns e from ∷ xs) are none = once_told bytes before (state patterns e from ∷ above) xs are (nil_back (wrong_figures bytes (state patterns e from)) (flat_map (wrong_figures bytes) xs) none)
+once_told bytes before above (state patterns e from ∷ xs) are none =
+    once_told bytes before (state patterns e from ∷ above) xs are
+    (nil_back (wrong_figures bytes (state patterns e from)) (flat_map (wrong_figures bytes) xs) none)
 once_told bytes before above (originate prefix names ∷ xs) are none =
     let p : PlainPrefix = prefix_of bytes prefix in
     let here : List Place = no_prefix bytes prefix in

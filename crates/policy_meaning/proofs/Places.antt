@@ -99,10 +99,13 @@ call_found sense x ts (IsCall.alone s i) = no_place ts
 call_found sense x ts (IsCall.sets {w = w} {o = o} {c = c} {x = y} {xs = ys} {ts = us} {us = vs} i j a m k) =
     two_parts (unknown_in_set sense y) (flat_map (unknown_in_set sense) ys) us vs (set_found sense y us a) (more_found (unknown_in_set sense) symbol.Above IsSet (set_found sense) ys vs m) w o c
 call_found sense x ts (IsCall.link {w = w} {o = o} {m = m} {c = c} {x = y} {y = z} {ts = us} {us = vs} i j a k b e) =
-    two_parts (unknown_in_set sense y) (unknown_in_set sense z ++ []) us (m ∷ vs) (one_found sense y us a) (StandIn.other (subst (StandIn (unknown_in_set sense z ++ [])) (append-nil vs) (stand_append (one_found sense z vs b) [] [] StandIn.none))) w o c
+    two_parts (unknown_in_set sense y) (unknown_in_set sense z ++ []) us (m ∷ vs) (one_found sense y us a)
+    (StandIn.other (subst (StandIn (unknown_in_set sense z ++ [])) (append-nil vs) (stand_append (one_found sense z vs b) [] [] StandIn.none))) w o c
 call_found sense x ts (IsCall.path {w = w} {o = o} {m = m} {c = c} {x = y} {y = z} {zs = zs} {ts = us} {us = vs} {vs = rs} i j a k b others e) =
     let later : List Place = flat_map (unknown_in_set sense) zs in
-    let behind : StandIn (unknown_in_set sense z ++ later) (m ∷ vs ++ rs) = StandIn.other (stand_append (one_found sense z vs b) later rs (more_found (unknown_in_set sense) symbol.Comma IsOne (one_found sense) zs rs others)) in
+    let behind : StandIn (unknown_in_set sense z ++ later) (m ∷ vs ++ rs) =
+    StandIn.other
+    (stand_append (one_found sense z vs b) later rs (more_found (unknown_in_set sense) symbol.Comma IsOne (one_found sense) zs rs others)) in
     subst (λ (ls : List Lexeme). StandIn (unknown_in_set sense y ++ (unknown_in_set sense z ++ later)) (w ∷ o ∷ ls ++ c ∷ [])) (sym (append_assoc us (m ∷ vs) rs))
     (two_parts (unknown_in_set sense y) (unknown_in_set sense z ++ later) us (m ∷ vs ++ rs) (one_found sense y us a) behind w o c)
 

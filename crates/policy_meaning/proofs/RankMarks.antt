@@ -57,7 +57,8 @@ pub first_rank_told : (e : Expression) → broken_rank (postfix e) ≡ first (ra
 unfolding mark
 first_rank_told e = ap (λ (steps : List Step). broken_rank steps) (sym (append-nil (postfix e))) ∙ ap (λ (ms : List Mark). (top ms).broken) (marks_behind_expression e [] [])
 
-fine_where : (steps : List Step) (patterns : List RawPattern) (from : Arg) (ps : List Place) → broken_rank steps ≡ first ps → ranks_fine (item.State (record { patterns = patterns; ranked = steps; from = from })) ≡ told RankUnder ps
+fine_where : (steps : List Step) (patterns : List RawPattern) (from : Arg) (ps : List Place) → broken_rank steps ≡ first ps
+    → ranks_fine (item.State (record { patterns = patterns; ranked = steps; from = from })) ≡ told RankUnder ps
 fine_where steps patterns from [] h = rw h refl
 fine_where steps patterns from (p ∷ ps) h = rw h refl
 

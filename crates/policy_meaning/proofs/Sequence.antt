@@ -50,7 +50,8 @@ list_found found joint One one xs ts (IsList.list {x = x} {xs = ys} {ts = us} {u
 abbrev pub FoundInItems : (List Written → Written → List Place) → Type 0
 FoundInItems found = (above : List Written) (x : Item) (ts : List Lexeme) (p : IsItem x ts) → StandIn (found above (item_tree p)) ts
 
-pub items_found : (found : List Written → Written → List Place) → FoundInItems found → (above : List Written) (xs : List Item) (ts : List Lexeme) (p : IsPolicy xs ts) → StandIn (item_by_item found above (policy_tree p)) ts
+pub items_found : (found : List Written → Written → List Place) → FoundInItems found
+    → (above : List Written) (xs : List Item) (ts : List Lexeme) (p : IsPolicy xs ts) → StandIn (item_by_item found above (policy_tree p)) ts
 items_found found one above xs ts IsPolicy.none = StandIn.none
 items_found found one above xs ts (IsPolicy.more {x = y} {xs = ys} {ts = us} {us = vs} i p) =
     stand_append (one above y us i) (item_by_item found (item_tree i ∷ above) (policy_tree p)) vs (items_found found one (item_tree i ∷ above) ys vs p)

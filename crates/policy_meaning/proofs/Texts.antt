@@ -97,9 +97,13 @@ module _ (net : PlainNet) (bytes : List ℕ) (items : List Written) where
       (record { unknown = n.unknown; again = n.twice; figures = n.figures; ranks = n.ranks; peers = n.peers; calls = calls_none n.limits; places = places_none n.limits }))
 
   few_groups : NothingTold → length items ≤ 256 + length (policy net bytes sense items).statements + length (policy net bytes sense items).origins
-  few_groups n = groups_are_few net bytes sense items (many_kept kind.Definitions 256 (sum_by (amount kind.Definitions) items) (omega arith) (nil_front _ _ (nil_front _ _ (nil_front _ _ (nil_front _ _ (nil_front _ _ (nil_front _ _ n.limits)))))))
+  few_groups n =
+      groups_are_few net bytes sense items
+      (many_kept kind.Definitions 256 (sum_by (amount kind.Definitions) items) (omega arith)
+      (nil_front _ _ (nil_front _ _ (nil_front _ _ (nil_front _ _ (nil_front _ _ (nil_front _ _ n.limits)))))))
 
-  none_told : AreFine net bytes [] items → IsLawful (policy net bytes sense items) → length items ≤ 256 + length (policy net bytes sense items).statements + length (policy net bytes sense items).origins → NothingTold
+  none_told : AreFine net bytes [] items → IsLawful (policy net bytes sense items)
+      → length items ≤ 256 + length (policy net bytes sense items).statements + length (policy net bytes sense items).origins → NothingTold
   none_told fine lawful groups =
       let n : NoneOfAll net bytes sense [] items = subst (λ (s : Sense). NoneOfAll net bytes s [] items) whole_sense (items_none net bytes [] items fine) in
       record {
@@ -142,7 +146,8 @@ policy_is_spelled net bytes p m =
     let same : policy_tree m.written ≡ m.items = items_same (policy_tree m.written) m.items (policy_written m.written) in
     text_spells policy-read net bytes m.tokens (map item_of m.items) tokens shallow m.written
     ∙ ap (meaning net bytes) same
-    ∙ meant net bytes m.items (none_told net bytes m.items m.fine (subst IsLawful (sym m.value) m.lawful) (subst (λ (q : PlainPolicy). length m.items ≤ 256 + length q.statements + length q.origins) (sym m.value) m.groups))
+    ∙ meant net bytes m.items
+    (none_told net bytes m.items m.fine (subst IsLawful (sym m.value) m.lawful) (subst (λ (q : PlainPolicy). length m.items ≤ 256 + length q.statements + length q.origins) (sym m.value) m.groups))
     ∙ ap Ok m.value
 
 pub texts_mean_one_policy : (net : PlainNet) (bytes : List ℕ) (p q : PlainPolicy) → IsPolicyTextOf net bytes p → IsPolicyTextOf net bytes q → p ≡ q

@@ -56,7 +56,8 @@ names_set bytes known sense has ls = joined_is bytes known sense has _ ls
 
 name_told : (bytes : List ℕ) (known : Names) (sense : Sense) → HasSense bytes known sense → (l : Lexeme) → name_known bytes known l ≡ told Unknown (unknown sense l)
 name_told bytes known sense has l =
-    ap (λ (r : Result LocSet PolicyFault). r >>= λ _. Ok tt) (set_found bytes known sense has l) ∙ told_gives Unknown (unknown sense l) (located (sense l)) (λ _. Ok tt) ∙ told_end Unknown (unknown sense l)
+    ap (λ (r : Result LocSet PolicyFault). r >>= λ _. Ok tt) (set_found bytes known sense has l)
+    ∙ told_gives Unknown (unknown sense l) (located (sense l)) (λ _. Ok tt) ∙ told_end Unknown (unknown sense l)
 
 pub names_told : (bytes : List ℕ) (known : Names) (sense : Sense) → HasSense bytes known sense → (ls : List Lexeme) → each (name_known bytes known) ls ≡ told Unknown (flat_map (unknown sense) ls)
 names_told bytes known sense has ls = each_told (name_known bytes known) Unknown (unknown sense) (name_told bytes known sense has) ls
@@ -66,12 +67,15 @@ set_told bytes known sense has arg.Any = refl
 set_told bytes known sense has (arg.Names ls) = names_told bytes known sense has ls
 
 -- steps in turn, each of which tells what is found
-in_turn : (bytes : List ℕ) (known : Names) (a b : List Step) (s : Step) (xs ys : List Place) → step_known bytes known s ≡ Ok tt → each (step_known bytes known) a ≡ told Unknown xs → each (step_known bytes known) b ≡ told Unknown ys
+in_turn : (bytes : List ℕ) (known : Names) (a b : List Step) (s : Step) (xs ys : List Place) → step_known bytes known s ≡ Ok tt
+    → each (step_known bytes known) a ≡ told Unknown xs → each (step_known bytes known) b ≡ told Unknown ys
     → each (step_known bytes known) (a ++ b ++ s ∷ []) ≡ told Unknown (xs ++ ys)
 in_turn bytes known a b s xs ys silent p q =
     let check = step_known bytes known in
     each_append check (a ++ b) (s ∷ [])
-    ∙ ap₂ (λ (r t : Result ⊤ PolicyFault). r >>= λ _. t) (each_append check a b ∙ ap₂ (λ (r t : Result ⊤ PolicyFault). r >>= λ _. t) p q ∙ told_append Unknown xs ys) (ap (λ (r : Result ⊤ PolicyFault). r >>= λ _. Ok tt) silent)
+    ∙ ap₂ (λ (r t : Result ⊤ PolicyFault). r >>= λ _. t)
+    (each_append check a b ∙ ap₂ (λ (r t : Result ⊤ PolicyFault). r >>= λ _. t) p q ∙ told_append Unknown xs ys)
+    (ap (λ (r : Result ⊤ PolicyFault). r >>= λ _. Ok tt) silent)
     ∙ told_end Unknown (xs ++ ys)
 
 pub expression_told : (bytes : List ℕ) (known : Names) (sense : Sense) → HasSense bytes known sense → (e : Expression) → each (step_known bytes known) (postfix e) ≡ told Unknown (unknown_in sense e)
@@ -93,7 +97,8 @@ expression_told bytes known sense has (negated a) =
 
 -- ---- the value of an expression
 
-arg_set : (bytes : List ℕ) (net : PlainNet) (known : Names) (sense : Sense) → HasSense bytes known sense → (a : Arg) → set_of_arg bytes net known a ≡ (told Unknown (unknown_in_set sense a) >>= λ _. Ok (set_of net sense a))
+arg_set : (bytes : List ℕ) (net : PlainNet) (known : Names) (sense : Sense) → HasSense bytes known sense → (a : Arg)
+    → set_of_arg bytes net known a ≡ (told Unknown (unknown_in_set sense a) >>= λ _. Ok (set_of net sense a))
 arg_set bytes net known sense has arg.Any = refl
 arg_set bytes net known sense has (arg.Names ls) = names_set bytes known sense has ls
 
@@ -114,7 +119,8 @@ abbrev OnStack : List ℕ → PlainNet → Names → Sense → Expression → Li
 OnStack bytes net known sense e rs rest =
     all_behind bytes net known rs (postfix e ++ rest) ≡ (told Unknown (unknown_in sense e) >>= λ _. all_behind bytes net known (ranking net sense e ∷ rs) rest)
 
-call_stack : (bytes : List ℕ) (net : PlainNet) (known : Names) (sense : Sense) → HasSense bytes known sense → (c : RawCall) (rs : List Ranking) (rest : List Step) → OnStack bytes net known sense (call c) rs rest
+call_stack : (bytes : List ℕ) (net : PlainNet) (known : Names) (sense : Sense) → HasSense bytes known sense
+    → (c : RawCall) (rs : List Ranking) (rest : List Step) → OnStack bytes net known sense (call c) rs rest
 call_stack bytes net known sense has c rs rest =
     let xs : List Place = flat_map (unknown_in_set sense) c.args in
     let sets : List LocSet = map (set_of net sense) c.args in
@@ -125,20 +131,25 @@ call_stack bytes net known sense has c rs rest =
 -- two sides, and what the step makes of them
 two_stacked : (bytes : List ℕ) (net : PlainNet) (known : Names) (sense : Sense) (a b : Expression) (s : Step) (rs : List Ranking) (rest : List Step)
     → OnStack bytes net known sense a rs (postfix b ++ s ∷ rest) → OnStack bytes net known sense b (ranking net sense a ∷ rs) (s ∷ rest)
-    → all_behind bytes net known rs ((postfix a ++ postfix b ++ s ∷ []) ++ rest) ≡ (told Unknown (unknown_in sense a ++ unknown_in sense b) >>= λ _. all_behind bytes net known (ranking net sense b ∷ ranking net sense a ∷ rs) (s ∷ rest))
+    → all_behind bytes net known rs ((postfix a ++ postfix b ++ s ∷ []) ++ rest)
+    ≡ (told Unknown (unknown_in sense a ++ unknown_in sense b) >>= λ _. all_behind bytes net known (ranking net sense b ∷ ranking net sense a ∷ rs) (s ∷ rest))
 two_stacked bytes net known sense a b s rs rest p q =
     ap (all_behind bytes net known rs) (two_sides (postfix a) (postfix b) s rest) ∙ p
     ∙ ap (λ (r : Result (List Ranking) PolicyFault). told Unknown (unknown_in sense a) >>= λ _. r) q
     ∙ told_join Unknown (unknown_in sense a) (unknown_in sense b) (all_behind bytes net known (ranking net sense b ∷ ranking net sense a ∷ rs) (s ∷ rest))
 
-on_stack : (bytes : List ℕ) (net : PlainNet) (known : Names) (sense : Sense) → HasSense bytes known sense → (e : Expression) (rs : List Ranking) (rest : List Step) → OnStack bytes net known sense e rs rest
+on_stack : (bytes : List ℕ) (net : PlainNet) (known : Names) (sense : Sense) → HasSense bytes known sense
+    → (e : Expression) (rs : List Ranking) (rest : List Step) → OnStack bytes net known sense e rs rest
 on_stack bytes net known sense has (call c) rs rest = call_stack bytes net known sense has c rs rest
 on_stack bytes net known sense has (above a p b) rs rest =
-    two_stacked bytes net known sense a b (step.Above p) rs rest (on_stack bytes net known sense has a rs (postfix b ++ step.Above p ∷ rest)) (on_stack bytes net known sense has b (ranking net sense a ∷ rs) (step.Above p ∷ rest))
+    two_stacked bytes net known sense a b (step.Above p) rs rest (on_stack bytes net known sense has a rs (postfix b ++ step.Above p ∷ rest))
+    (on_stack bytes net known sense has b (ranking net sense a ∷ rs) (step.Above p ∷ rest))
 on_stack bytes net known sense has (either a b) rs rest =
-    two_stacked bytes net known sense a b step.Or rs rest (on_stack bytes net known sense has a rs (postfix b ++ step.Or ∷ rest)) (on_stack bytes net known sense has b (ranking net sense a ∷ rs) (step.Or ∷ rest))
+    two_stacked bytes net known sense a b step.Or rs rest (on_stack bytes net known sense has a rs (postfix b ++ step.Or ∷ rest))
+    (on_stack bytes net known sense has b (ranking net sense a ∷ rs) (step.Or ∷ rest))
 on_stack bytes net known sense has (both a b) rs rest =
-    two_stacked bytes net known sense a b step.And rs rest (on_stack bytes net known sense has a rs (postfix b ++ step.And ∷ rest)) (on_stack bytes net known sense has b (ranking net sense a ∷ rs) (step.And ∷ rest))
+    two_stacked bytes net known sense a b step.And rs rest (on_stack bytes net known sense has a rs (postfix b ++ step.And ∷ rest))
+    (on_stack bytes net known sense has b (ranking net sense a ∷ rs) (step.And ∷ rest))
 on_stack bytes net known sense has (negated a) rs rest =
     ap (all_behind bytes net known rs) (append_assoc (postfix a) (step.Not ∷ []) rest) ∙ on_stack bytes net known sense has a rs (step.Not ∷ rest)
 

@@ -45,9 +45,11 @@ use Rattle.policy_meaning.proofs.Building.{policy_is}
 use Rattle.policy_parser.proofs.Steps.{none_at_ok}
 
 -- the rules on figures, ranks and origins, where each name stands for something
-kept : (net : PlainNet) (bytes : List ℕ) (known : Names) (sense : Sense) → HasSense bytes known sense → (xs : List Written) → flat_map (unknown_in_item sense) xs ≡ [] → (more : Result PlainPolicy PolicyFault)
+kept : (net : PlainNet) (bytes : List ℕ) (known : Names) (sense : Sense) → HasSense bytes known sense → (xs : List Written)
+    → flat_map (unknown_in_item sense) xs ≡ [] → (more : Result PlainPolicy PolicyFault)
     → (rules_kept bytes net known (map item_of xs) >>= λ _. more)
-    ≡ (told PrefixBad (flat_map (wrong_figures bytes) xs) >>= λ _. told RankUnder (flat_map ranks_under_in xs) >>= λ _. told OriginPeer (flat_map (peers_named net sense) xs) >>= λ _. told OriginTwice (item_by_item (originated_again bytes) [] xs) >>= λ _. more)
+    ≡ (told PrefixBad (flat_map (wrong_figures bytes) xs) >>= λ _. told RankUnder (flat_map ranks_under_in xs) >>= λ _. told OriginPeer
+    (flat_map (peers_named net sense) xs) >>= λ _. told OriginTwice (item_by_item (originated_again bytes) [] xs) >>= λ _. more)
 unfolding rules_kept
 kept net bytes known sense has xs none more =
     let items : List Item = map item_of xs in
@@ -58,7 +60,8 @@ kept net bytes known sense has xs none more =
     ap₂ (λ (r s : Result ⊤ PolicyFault). (r >>= λ _. s >>= λ _. each (origins_fine bytes net known) items >>= λ _. once_from bytes [] items) >>= λ _. more)
     (each_map (figures_fine bytes) item_of xs ∙ each_told (λ x. figures_fine bytes (item_of x)) PrefixBad (wrong_figures bytes) (figures_told bytes) xs)
     (each_map ranks_fine item_of xs ∙ each_told (λ x. ranks_fine (item_of x)) RankUnder ranks_under_in ranks_told xs)
-    ∙ ap (λ (r : Result ⊤ PolicyFault). (told PrefixBad figures >>= λ _. told RankUnder ranks >>= λ _. r >>= λ _. once_from bytes [] items) >>= λ _. more) (peers_told bytes net known sense has xs none)
+    ∙ ap (λ (r : Result ⊤ PolicyFault). (told PrefixBad figures >>= λ _. told RankUnder ranks >>= λ _. r >>= λ _. once_from bytes [] items) >>= λ _. more)
+    (peers_told bytes net known sense has xs none)
     ∙ told_bind PrefixBad figures (told RankUnder ranks >>= λ _. told OriginPeer peers >>= λ _. once_from bytes [] items) (λ _. more)
     ∙ told_where PrefixBad figures _ _
     (λ fine. ap (λ (r : Result ⊤ PolicyFault). (told RankUnder ranks >>= λ _. told OriginPeer peers >>= λ _. r) >>= λ _. more) (origins_told bytes xs fine)
@@ -68,13 +71,15 @@ kept net bytes known sense has xs none more =
 -- all rules behind those on names
 rules_and_policy : (net : PlainNet) (bytes : List ℕ) (known : Names) (sense : Sense) → HasSense bytes known sense → (xs : List Written) → flat_map (unknown_in_item sense) xs ≡ []
     → (rules_kept bytes net known (map item_of xs) >>= λ _. policy_built bytes net known (map item_of xs))
-    ≡ (told PrefixBad (flat_map (wrong_figures bytes) xs) >>= λ _. told RankUnder (flat_map ranks_under_in xs) >>= λ _. told OriginPeer (flat_map (peers_named net sense) xs) >>= λ _. told OriginTwice (item_by_item (originated_again bytes) [] xs)
+    ≡ (told PrefixBad (flat_map (wrong_figures bytes) xs) >>= λ _. told RankUnder (flat_map ranks_under_in xs) >>= λ _. told OriginPeer
+    (flat_map (peers_named net sense) xs) >>= λ _. told OriginTwice (item_by_item (originated_again bytes) [] xs)
     >>= λ _. told self (limits_passed (origins bytes sense xs) xs) >>= λ _. Ok (policy net bytes sense xs))
 rules_and_policy net bytes known sense has xs none =
     let figures : List Place = flat_map (wrong_figures bytes) xs in
     kept net bytes known sense has xs none (policy_built bytes net known (map item_of xs))
     ∙ told_where PrefixBad figures _ _
-    (λ fine. ap (λ (r : Result PlainPolicy PolicyFault). told RankUnder (flat_map ranks_under_in xs) >>= λ _. told OriginPeer (flat_map (peers_named net sense) xs) >>= λ _. told OriginTwice (item_by_item (originated_again bytes) [] xs) >>= λ _. r)
+    (λ fine. ap (λ (r : Result PlainPolicy PolicyFault). told RankUnder (flat_map ranks_under_in xs) >>= λ _. told OriginPeer
+    (flat_map (peers_named net sense) xs) >>= λ _. told OriginTwice (item_by_item (originated_again bytes) [] xs) >>= λ _. r)
     (policy_is net bytes known sense has xs fine none))
 
 -- items spell what they mean
@@ -94,7 +99,9 @@ items_mean net bytes xs =
 
 -- each policy is read where no bracket is too deep
 abbrev pub EachIsRead : Type 0
-EachIsRead = (bytes : List ℕ) (tokens : List Token) (end : Place) (items : List Item) → IsPolicy items (map (lexeme_of bytes) tokens) → first_deep 0 (lexemes_of bytes tokens end) ≡ None → items_of (lexemes_of bytes tokens end) ≡ Ok items
+EachIsRead =
+    (bytes : List ℕ) (tokens : List Token) (end : Place) (items : List Item) → IsPolicy items (map (lexeme_of bytes) tokens)
+    → first_deep 0 (lexemes_of bytes tokens end) ≡ None → items_of (lexemes_of bytes tokens end) ≡ Ok items
 
 items_are : EachIsRead → (bytes : List ℕ) (tokens : List Token) (items : List Item) → tokens_of bytes ≡ Ok tokens → first_deep 0 (lexemes_of bytes tokens (place_of bytes (length bytes))) ≡ None
     → IsPolicy items (map (lexeme_of bytes) tokens) → items_spelled bytes ≡ Ok items
@@ -105,7 +112,8 @@ items_are read bytes tokens items cut shallow p =
     ∙ ap (λ (o : Option Place). none_at Deep o >>= λ _. items_of (lexemes_of bytes tokens end)) shallow
     ∙ read bytes tokens end items p shallow
 
-pub text_spells : EachIsRead → (net : PlainNet) (bytes : List ℕ) (tokens : List Token) (items : List Item) → tokens_of bytes ≡ Ok tokens → first_deep 0 (lexemes_of bytes tokens (place_of bytes (length bytes))) ≡ None
+pub text_spells : EachIsRead → (net : PlainNet) (bytes : List ℕ) (tokens : List Token) (items : List Item) → tokens_of bytes ≡ Ok tokens
+    → first_deep 0 (lexemes_of bytes tokens (place_of bytes (length bytes))) ≡ None
     → (p : IsPolicy items (map (lexeme_of bytes) tokens)) → spelled net bytes ≡ meaning net bytes (policy_tree p)
 unfolding spelled
 text_spells read net bytes tokens items cut shallow p =
@@ -122,7 +130,8 @@ IsReadAsPolicy = (bytes : List ℕ) (tokens : List Token) (end : Place) (items :
 
 -- what the items of a text are read of
 items_read : (bytes : List ℕ) (items : List Item) → items_spelled bytes ≡ Ok items
-    → (tokens : List Token) × (tokens_of bytes ≡ Ok tokens) × (first_deep 0 (lexemes_of bytes tokens (place_of bytes (length bytes))) ≡ None) × (items_of (lexemes_of bytes tokens (place_of bytes (length bytes))) ≡ Ok items)
+    → (tokens : List Token) × (tokens_of bytes ≡ Ok tokens) × (first_deep 0 (lexemes_of bytes tokens (place_of bytes (length bytes))) ≡ None)
+    × (items_of (lexemes_of bytes tokens (place_of bytes (length bytes))) ≡ Ok items)
 unfolding items_spelled
 items_read bytes items e =
     let end : Place = place_of bytes (length bytes) in

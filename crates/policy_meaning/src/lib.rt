@@ -22,7 +22,20 @@ ghost use Rattle.policy_grammar.specs.Raw.{RawCall};
 ghost use Rattle.policy_meaning.specs.Trees.{Expression, Written};
 ghost use Rattle.policy_meaning.specs.Ranks.{ranks, ranks_under};
 ghost use Rattle.policy_meaning.specs.Meaning.{unknown_names, meaning};
-ghost use Rattle.policy_meaning.specs.Laws.{StepsAreTrees, ItemsAreTrees, FirstRankIsTold, NamesHaveTheirSense, ListsHoldTheirNames, ExpressionsHaveTheirValue, PlacesAreInOrder, TextsSpellTheirMeaning, SpelledPoliciesAreMeant, PoliciesAreMeant, MeantPoliciesAreSpelled, TextsMeanOnePolicy};
+ghost use Rattle.policy_meaning.specs.Laws.{
+  StepsAreTrees,
+  ItemsAreTrees,
+  FirstRankIsTold,
+  NamesHaveTheirSense,
+  ListsHoldTheirNames,
+  ExpressionsHaveTheirValue,
+  PlacesAreInOrder,
+  TextsSpellTheirMeaning,
+  SpelledPoliciesAreMeant,
+  PoliciesAreMeant,
+  MeantPoliciesAreSpelled,
+  TextsMeanOnePolicy,
+};
 
 use grammar_law::{every_policy_is_read, what_is_read_is_a_policy};
 use policy_tokens::PolicyFault;
@@ -84,5 +97,6 @@ pub fn ranks_stand_beside_calls()
 
 /// Where a name stands for nothing, the first such is told, whatever other rule is broken.
 pub fn unknown_names_come_first()
-    ensures { (net : PlainNet) (bytes : List ℕ) (items : List Written) (p : Place) (others : List Place) → unknown_names net bytes items ≡ p ∷ others → meaning net bytes items ≡ Err (PolicyFault.Unknown p) }
+    ensures { (net : PlainNet) (bytes : List ℕ) (items : List Written) (p : Place) (others : List Place) → unknown_names net bytes items ≡ p ∷ others
+        → meaning net bytes items ≡ Err (PolicyFault.Unknown p) }
 {}

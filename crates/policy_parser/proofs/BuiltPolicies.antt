@@ -78,7 +78,9 @@ patterns_count bytes so_far (r ∷ raw) ps e =
 statement_patterns : (bytes : List ℕ) (net : PlainNet) (known : Names) (s : RawStatement) (t : PlainStatement) → statement_of bytes net known s ≡ Ok t → length t.patterns ≡ length s.patterns
 unfolding statement_of
 statement_patterns bytes net known s t e =
-    let a = bind_ok (patterns_of bytes [] s.patterns) (λ ps. ranking_of_steps bytes net known s.ranked >>= λ r. from_of bytes known s.from >>= λ f. Ok (record { patterns = ps; ranked = r; from = f })) t e in
+    let a =
+    bind_ok (patterns_of bytes [] s.patterns)
+    (λ ps. ranking_of_steps bytes net known s.ranked >>= λ r. from_of bytes known s.from >>= λ f. Ok (record { patterns = ps; ranked = r; from = f })) t e in
     let b = bind_ok (ranking_of_steps bytes net known s.ranked) (λ r. from_of bytes known s.from >>= λ f. Ok (record { patterns = a.0; ranked = r; from = f })) t a.2 in
     let c = bind_ok (from_of bytes known s.from) (λ f. Ok (record { patterns = a.0; ranked = b.0; from = f })) t b.2 in
     let made : PlainStatement = record { patterns = a.0; ranked = b.0; from = c.0 } in
@@ -103,7 +105,9 @@ statements_count bytes net known so_far (State s ∷ items) ts e =
     let b = bind_ok (statement_of bytes net known s) (λ t. statements_of bytes net known (so_far ++ t ∷ []) items) ts e in
     let h = statements_count bytes net known (so_far ++ b.0 ∷ []) items ts b.2 in
     let size = statement_patterns bytes net known s b.0 b.1 in
-    let sums : pattern_sum (so_far ++ b.0 ∷ []) ≡ pattern_sum so_far + length b.0.patterns = sum_by-append (λ (t : PlainStatement). length t.patterns) so_far (b.0 ∷ []) ∙ ap (λ (n : ℕ). pattern_sum so_far + n) (sum_by-cons (λ (t : PlainStatement). length t.patterns) b.0 [] ∙ omega arith) in
+    let sums : pattern_sum (so_far ++ b.0 ∷ []) ≡ pattern_sum so_far + length b.0.patterns =
+    sum_by-append (λ (t : PlainStatement). length t.patterns) so_far (b.0 ∷ [])
+    ∙ ap (λ (n : ℕ). pattern_sum so_far + n) (sum_by-cons (λ (t : PlainStatement). length t.patterns) b.0 [] ∙ omega arith) in
     rw (sum_by-cons (amount kind.Statements) (State s) items, sum_by-cons (amount kind.Patterns) (State s) items) (omega (arith, h.0, length-append so_far (b.0 ∷ [])), omega (arith, h.1, sums, size))
 
 -- a count within its limit
@@ -124,8 +128,13 @@ is_policy bytes net known items os ts kept originated stated =
     let q = bind_ok (within kind.Origins 16384 (pairs p.0)) (λ _. Ok p.0) os p.2 in
     let same : p.0 ≡ os = cc in
     let made : origins_of bytes known [] items ≡ Ok os = p.1 ∙ ap Ok same in
-    let l1 = bind_ok (within kind.Definitions 256 (counted kind.Definitions items)) (λ _. within kind.Statements 256 (counted kind.Statements items) >>= λ _. within kind.Patterns 16384 (counted kind.Patterns items) >>= λ _. within kind.Prefixes 4096 (counted kind.Prefixes items)) o.0 o.1 in
-    let l2 = bind_ok (within kind.Statements 256 (counted kind.Statements items)) (λ _. within kind.Patterns 16384 (counted kind.Patterns items) >>= λ _. within kind.Prefixes 4096 (counted kind.Prefixes items)) o.0 l1.2 in
+    let l1 =
+    bind_ok (within kind.Definitions 256 (counted kind.Definitions items))
+    (λ _. within kind.Statements 256 (counted kind.Statements items) >>= λ _. within kind.Patterns 16384
+    (counted kind.Patterns items) >>= λ _. within kind.Prefixes 4096 (counted kind.Prefixes items)) o.0 o.1 in
+    let l2 =
+    bind_ok (within kind.Statements 256 (counted kind.Statements items))
+    (λ _. within kind.Patterns 16384 (counted kind.Patterns items) >>= λ _. within kind.Prefixes 4096 (counted kind.Prefixes items)) o.0 l1.2 in
     let l3 = bind_ok (within kind.Patterns 16384 (counted kind.Patterns items)) (λ _. within kind.Prefixes 4096 (counted kind.Prefixes items)) o.0 l2.2 in
     let h = statements_count bytes net known [] items ts stated in
     record {

@@ -91,7 +91,13 @@ module _ (bytes : List ℕ) (net : PlainNet) (known : Names) where
       let a = bind_ok (behind bytes net known (step.Call c) rs) (λ next. all_behind bytes net known next []) out e in
       let b = bind_ok (sets_of bytes net known [] c.args) (λ sets. Ok (call_of c.word sets ∷ rs)) a.0 a.1 in
       let same = ok_same (call_of c.word b.0 ∷ rs) a.0 b.2 in
-      record { ranked = call_of c.word b.0; there = sym (same ∙ ok_same a.0 out a.2); shallow = omega (arith, call_depth c.word b.0, sum_by-cons call_amount (step.Call c) []); some = omega (arith, sum_by-cons call_amount (step.Call c) []) }
+      record {
+        ranked = call_of c.word b.0;
+        there = sym (same ∙ ok_same a.0 out a.2);
+        shallow = omega
+            (arith, call_depth c.word b.0, sum_by-cons call_amount (step.Call c) []);
+        some = omega (arith, sum_by-cons call_amount (step.Call c) []);
+      }
   put_on_top {n} (IsNested.sides {xs = xs} {ys = ys} {s = s} two a b) rs out e =
       let both_sides = halves (xs ++ ys) (s ∷ []) rs out e in
       let each_side = halves xs ys rs both_sides.0 both_sides.1 in
@@ -137,7 +143,8 @@ items_nested bytes items e =
     let b = bind_ok (none_at Deep (first_deep 0 (lexemes_of bytes a.0 (place_of bytes _)))) _ items a.2 in
     items-nested _ [] (lexemes_of bytes a.0 (place_of bytes _)) items b.2 tt
 
-built_shallow : (bytes : List ℕ) (net : PlainNet) (known : Names) (items : List Item) (policy : PlainPolicy) → policy_built bytes net known items ≡ Ok policy → AllByRecursion HasNestedSteps items → IsAtMostDeep 321 policy
+built_shallow : (bytes : List ℕ) (net : PlainNet) (known : Names) (items : List Item) (policy : PlainPolicy)
+    → policy_built bytes net known items ≡ Ok policy → AllByRecursion HasNestedSteps items → IsAtMostDeep 321 policy
 unfolding policy_built
 built_shallow bytes net known items policy h nested =
     let a = bind_ok (origins_spelled bytes known items) _ policy h in

@@ -39,7 +39,8 @@ set_at_below bytes n known l s below found = named_below n known (text bytes l) 
 abbrev pub StandsBelow : List ℕ → Names → ℕ → Lexeme → Type 0
 StandsBelow bytes known n l = (s : LocSet) → set_at bytes known l ≡ Ok s → AreBelow n s
 
-joined_below : (bytes : List ℕ) (n : ℕ) (known : Names) (so_far s : LocSet) (ls : List Lexeme) → AreBelow n so_far → AllByRecursion (StandsBelow bytes known n) ls → joined bytes known so_far ls ≡ Ok s → AreBelow n s
+joined_below : (bytes : List ℕ) (n : ℕ) (known : Names) (so_far s : LocSet) (ls : List Lexeme) → AreBelow n so_far
+    → AllByRecursion (StandsBelow bytes known n) ls → joined bytes known so_far ls ≡ Ok s → AreBelow n s
 joined_below bytes n known so_far s [] before all e = let same : so_far ≡ s = cc in subst (AreBelow n) same before
 joined_below bytes n known so_far s (l ∷ ls) before all e =
     let b = bind_ok (set_at bytes known l) (λ t. joined bytes known (union_of so_far t) ls) s e in
@@ -87,7 +88,9 @@ learnt_below : (bytes : List ℕ) (n : ℕ) (known next : Names) (item : Item) �
 learnt_below bytes n known next (Define name members) below e =
     let b = bind_ok (set_of_names bytes known members) (λ s. Ok (with_group known name.place (text bytes name) s)) next e in
     let same : with_group known name.place (text bytes name) b.0 ≡ next = cc in
-    subst (NamesBelow n) same (group_more n known (first_place known.twice name.place) (text bytes name) b.0 (is_known known (text bytes name)) below (set_below bytes n known b.0 members (all_stand bytes n known members below) b.1))
+    subst (NamesBelow n) same
+    (group_more n known (first_place known.twice name.place) (text bytes name) b.0 (is_known known (text bytes name)) below
+    (set_below bytes n known b.0 members (all_stand bytes n known members below) b.1))
 learnt_below bytes n known next (Originate prefix names) below e =
     let b = bind_ok (each (name_known bytes known) names) (λ _. Ok known) next e in
     let same : known ≡ next = cc in

@@ -34,7 +34,9 @@ only_is p is = record { prefix = is; least = omega arith; most = is.within }
 
 upto_is : (bytes : List ℕ) (base : PlainPrefix) (l : Lexeme) (t : PlainPattern) → IsPrefix base → upto_at bytes base l ≡ Ok t → IsPattern t
 upto_is bytes base l t is e =
-    let a = bind_ok (or_fault (PrefixBad l.place) (length_number (text bytes l))) (λ n. unless (PrefixBad l.place) (nat_le base.len n && nat_le n 32) >>= λ _. Ok (record { base = base; upto = n })) t e in
+    let a =
+    bind_ok (or_fault (PrefixBad l.place) (length_number (text bytes l)))
+    (λ n. unless (PrefixBad l.place) (nat_le base.len n && nat_le n 32) >>= λ _. Ok (record { base = base; upto = n })) t e in
     let b = bind_ok (unless (PrefixBad l.place) (nat_le base.len a.0 && nat_le a.0 32)) (λ _. Ok (record { base = base; upto = a.0 })) t a.2 in
     let h = and_parts (nat_le base.len a.0) (nat_le a.0 32) (unless_ok (PrefixBad l.place) _ b.0 b.1) in
     let made : PlainPattern = record { base = base; upto = a.0 } in
@@ -54,7 +56,8 @@ pattern_is bytes (UpTo l m) t e =
     let b = bind_ok (prefix_at bytes l) (λ p. upto_at bytes p m) t e in
     upto_is bytes b.0 m t (prefix_is bytes l b.0 b.1) b.2
 
-patterns_are : (bytes : List ℕ) (so_far : List PlainPattern) (raw : List RawPattern) (ts : List PlainPattern) → patterns_of bytes so_far raw ≡ Ok ts → AllByRecursion IsPattern so_far → AllByRecursion IsPattern ts
+patterns_are : (bytes : List ℕ) (so_far : List PlainPattern) (raw : List RawPattern) (ts : List PlainPattern) → patterns_of bytes so_far raw ≡ Ok ts
+    → AllByRecursion IsPattern so_far → AllByRecursion IsPattern ts
 patterns_are bytes so_far [] ts e before = let same : so_far ≡ ts = cc in subst (AllByRecursion IsPattern) same before
 patterns_are bytes so_far (r ∷ raw) ts e before =
     let b = bind_ok (pattern_at bytes r) (λ t. patterns_of bytes (so_far ++ t ∷ []) raw) ts e in
@@ -63,7 +66,9 @@ patterns_are bytes so_far (r ∷ raw) ts e before =
 statement_patterns_are : (bytes : List ℕ) (net : PlainNet) (known : Names) (s : RawStatement) (t : PlainStatement) → statement_of bytes net known s ≡ Ok t → AllByRecursion IsPattern t.patterns
 unfolding statement_of
 statement_patterns_are bytes net known s t e =
-    let a = bind_ok (patterns_of bytes [] s.patterns) (λ ps. ranking_of_steps bytes net known s.ranked >>= λ r. from_of bytes known s.from >>= λ f. Ok (record { patterns = ps; ranked = r; from = f })) t e in
+    let a =
+    bind_ok (patterns_of bytes [] s.patterns)
+    (λ ps. ranking_of_steps bytes net known s.ranked >>= λ r. from_of bytes known s.from >>= λ f. Ok (record { patterns = ps; ranked = r; from = f })) t e in
     let b = bind_ok (ranking_of_steps bytes net known s.ranked) (λ r. from_of bytes known s.from >>= λ f. Ok (record { patterns = a.0; ranked = r; from = f })) t a.2 in
     let c = bind_ok (from_of bytes known s.from) (λ f. Ok (record { patterns = a.0; ranked = b.0; from = f })) t b.2 in
     let made : PlainStatement = record { patterns = a.0; ranked = b.0; from = c.0 } in

@@ -67,7 +67,8 @@ is_built net bytes policy h =
 
 -- ---- the rules on ranks and on origins were kept
 
-rules_parts : (bytes : List ℕ) (net : PlainNet) (known : Names) (items : List Item) → rules_kept bytes net known items ≡ Ok tt → (each ranks_fine items ≡ Ok tt) × (each (origins_fine bytes net known) items ≡ Ok tt)
+rules_parts : (bytes : List ℕ) (net : PlainNet) (known : Names) (items : List Item) → rules_kept bytes net known items ≡ Ok tt
+    → (each ranks_fine items ≡ Ok tt) × (each (origins_fine bytes net known) items ≡ Ok tt)
 unfolding rules_kept
 rules_parts bytes net known items kept =
     let a = bind_ok (each (figures_fine bytes) items) (λ _. each ranks_fine items >>= λ _. each (origins_fine bytes net known) items >>= λ _. once_from bytes [] items) tt kept in
@@ -100,7 +101,9 @@ at_routers net bytes policy b =
 pub read_routers : (net : PlainNet) (bytes : List ℕ) (policy : PlainPolicy) → spelled net bytes ≡ Ok policy
     → (o : Origin) (l : ℕ) → IsIn policy.origins o → IsTrue (holds o.at l) → IsTrue (is_router net l)
 read_routers net bytes policy h o l in_origins on =
-    let here : AreBelow (length net.routers) o.at = AllByRecursion_at (λ (x : Origin). AreBelow (length net.routers) x.at) policy.origins in_origins.0 o (at_routers net bytes policy (is_built net bytes policy h)) in_origins.1 in
+    let here : AreBelow (length net.routers) o.at =
+    AllByRecursion_at (λ (x : Origin). AreBelow (length net.routers) x.at) policy.origins in_origins.0 o
+    (at_routers net bytes policy (is_built net bytes policy h)) in_origins.1 in
     lt-ltb l (length net.routers) (here l on)
 
 -- each of its patterns is one

@@ -39,7 +39,8 @@ no_peer net s below none m on = elim (cases_lt m (length net.routers)) [
   | inr high ↦ absurd (absent s (length net.routers) (length net.peers) m none high (below m on) on)
 ]
 
-router_name : (bytes : List ℕ) (net : PlainNet) (known : Names) (l : Lexeme) (x : ⊤) → NamesBelow (length net.routers + length net.peers) known → routers_alone bytes net known l ≡ Ok x → StandsBelow bytes known (length net.routers) l
+router_name : (bytes : List ℕ) (net : PlainNet) (known : Names) (l : Lexeme) (x : ⊤) → NamesBelow (length net.routers + length net.peers) known
+    → routers_alone bytes net known l ≡ Ok x → StandsBelow bytes known (length net.routers) l
 router_name bytes net known l x below e s found =
     let b = bind_ok (set_at bytes known l) (λ t. unless (OriginPeer l.place) (not (has_peer net t))) x e in
     let same : b.0 ≡ s = cc in
@@ -67,7 +68,8 @@ origin_set bytes known p ns o e =
 abbrev pub AreAtRouters : PlainNet → List Origin → Type 0
 AreAtRouters net os = AllByRecursion (λ (o : Origin). AreBelow (length net.routers) o.at) os
 
-pub origins_at_routers : (bytes : List ℕ) (net : PlainNet) (known : Names) (so_far : List Origin) (items : List Item) (os : List Origin) (x : ⊤) → NamesBelow (length net.routers + length net.peers) known
+pub origins_at_routers : (bytes : List ℕ) (net : PlainNet) (known : Names) (so_far : List Origin) (items : List Item) (os : List Origin) (x : ⊤)
+    → NamesBelow (length net.routers + length net.peers) known
     → each (origins_fine bytes net known) items ≡ Ok x → origins_of bytes known so_far items ≡ Ok os → AreAtRouters net so_far → AreAtRouters net os
 origins_at_routers bytes net known so_far [] os x below fine e before = let same : so_far ≡ os = cc in subst (AreAtRouters net) same before
 origins_at_routers bytes net known so_far (Define n m ∷ items) os x below fine e before = origins_at_routers bytes net known so_far items os x below fine e before

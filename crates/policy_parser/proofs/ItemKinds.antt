@@ -30,11 +30,14 @@ unfolding item_at
 stated ls away too = rw (away, too) refl
 
 module _ (bytes : List ℕ) (net : PlainNet) (known : Names) where
-  pub group_item : (ls a rest : List Lexeme) (l : Lexeme) (v : GroupRead) → past symbol.Define ls ≡ Some (l, a) → ReadsGroup bytes net known a rest (Ok v) → ReadsItem bytes net known ls rest (Ok (read.Group v))
+  pub group_item : (ls a rest : List Lexeme) (l : Lexeme) (v : GroupRead) → past symbol.Define ls ≡ Some (l, a)
+      → ReadsGroup bytes net known a rest (Ok v) → ReadsItem bytes net known ls rest (Ok (read.Group v))
   group_item ls a rest l v is x = (Define x.0 x.1, defined ls a l is ∙ x.2, x.3)
 
-  pub origin_item : (ls a rest : List Lexeme) (l : Lexeme) (v : OriginRead) → past symbol.Define ls ≡ None → past symbol.Originate ls ≡ Some (l, a) → ReadsOrigin bytes net known a rest (Ok v) → ReadsItem bytes net known ls rest (Ok (read.Origin v))
+  pub origin_item : (ls a rest : List Lexeme) (l : Lexeme) (v : OriginRead) → past symbol.Define ls ≡ None → past symbol.Originate ls ≡ Some (l, a)
+      → ReadsOrigin bytes net known a rest (Ok v) → ReadsItem bytes net known ls rest (Ok (read.Origin v))
   origin_item ls a rest l v away is x = (Originate x.0 x.1, originated ls a l away is ∙ x.2, x.3)
 
-  pub statement_item : (ls rest : List Lexeme) (v : StatementRead) → past symbol.Define ls ≡ None → past symbol.Originate ls ≡ None → ReadsStatement bytes net known ls rest (Ok v) → ReadsItem bytes net known ls rest (Ok (read.State v))
+  pub statement_item : (ls rest : List Lexeme) (v : StatementRead) → past symbol.Define ls ≡ None → past symbol.Originate ls ≡ None
+      → ReadsStatement bytes net known ls rest (Ok v) → ReadsItem bytes net known ls rest (Ok (read.State v))
   statement_item ls rest v away too x = (State x.0, stated ls away too ∙ x.1, x.2)

@@ -114,7 +114,8 @@ module _ (bytes : List ℕ) (net : PlainNet) (m n : Names) (keeps : Keeps m n) w
       let one = sym (origin_kept bytes net k m b.0 p ls a.0 a.1) ∙ origin_kept bytes net k n b.1 p ls a.0 a.1 in
       rw one (same_behind (origin_of bytes n p ls) _ _ (λ o. all_origins_kept a.0 (so_far ++ o ∷ []) items a.2))
 
-  pub all_statements_kept : (k : Names) (so_far : List PlainStatement) (items : List Item) → all_learnt bytes k items ≡ Ok m → statements_of bytes net m so_far items ≡ statements_of bytes net n so_far items
+  pub all_statements_kept : (k : Names) (so_far : List PlainStatement) (items : List Item) → all_learnt bytes k items ≡ Ok m
+      → statements_of bytes net m so_far items ≡ statements_of bytes net n so_far items
   all_statements_kept k so_far [] h = refl
   all_statements_kept k so_far (Define name members ∷ items) h =
       let a = bind_ok (learnt bytes k (Define name members)) (λ next. all_learnt bytes next items) m h in

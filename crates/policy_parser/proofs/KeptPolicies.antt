@@ -33,7 +33,8 @@ figure_ok (Err e) h = absurd cc
 
 module _ (bytes : List ℕ) (net : PlainNet) (items : List Item) (k : Names) (t : PlainTold) (p : PlainPolicy) where
   -- a group leaves it as it was
-  group_kept : (name called : Lexeme) (members : List Lexeme) (r : Result LocSet PolicyFault) → t.names ≡ Ok tt → IsToldOf bytes net k items t → IsKept bytes net t.known items p → IsWhole (with_members bytes t called r)
+  group_kept : (name called : Lexeme) (members : List Lexeme) (r : Result LocSet PolicyFault) → t.names ≡ Ok tt → IsToldOf bytes net k items t
+      → IsKept bytes net t.known items p → IsWhole (with_members bytes t called r)
       → IsKept bytes net (with_members bytes t called r).known (items ++ Define name members ∷ []) p
   group_kept name called members (Ok s) known told kept w =
       let next = with_group t.known called.place (text bytes called) s in
@@ -47,12 +48,14 @@ module _ (bytes : List ℕ) (net : PlainNet) (items : List Item) (k : Names) (t 
       })
   group_kept name called members (Err e) known told kept w = let n = w.names in absurd cc
 
-  origin_read : (f : Lexeme) (ns : List Lexeme) (v : OriginRead) (q : PlainPrefix) (s : LocSet) → IsOrigin bytes net t.known f ns v → v.prefix ≡ Ok q → v.at ≡ Ok s → origin_of bytes t.known f ns ≡ Ok (record { prefix = q; at = s })
+  origin_read : (f : Lexeme) (ns : List Lexeme) (v : OriginRead) (q : PlainPrefix) (s : LocSet) → IsOrigin bytes net t.known f ns v → v.prefix ≡ Ok q
+      → v.at ≡ Ok s → origin_of bytes t.known f ns ≡ Ok (record { prefix = q; at = s })
   unfolding origin_of
   origin_read f ns v q s is prefix at = rw (← is.prefix, ← is.at, prefix, at) refl
 
   -- an origin more
-  origin_kept_at : (f : Lexeme) (ns : List Lexeme) (v : OriginRead) (q : PlainPrefix) (s : LocSet) → v.prefix ≡ Ok q → v.at ≡ Ok s → IsOrigin bytes net t.known f ns v → IsKept bytes net t.known items p
+  origin_kept_at : (f : Lexeme) (ns : List Lexeme) (v : OriginRead) (q : PlainPrefix) (s : LocSet) → v.prefix ≡ Ok q → v.at ≡ Ok s
+      → IsOrigin bytes net t.known f ns v → IsKept bytes net t.known items p
       → IsKept bytes net t.known (items ++ Originate f ns ∷ []) (kept_item p (read.Origin v))
   origin_kept_at f ns v q s prefix at is kept =
       let here = origin_read f ns v q s is prefix at in record {
@@ -60,7 +63,8 @@ module _ (bytes : List ℕ) (net : PlainNet) (items : List Item) (k : Names) (t 
         statements = rw (statements_push bytes net t.known [] items (Originate f ns), kept.statements) refl;
       }
 
-  origin_kept : (f : Lexeme) (ns : List Lexeme) (v : OriginRead) (r : Result LocSet PolicyFault) → v.at ≡ r → IsOrigin bytes net t.known f ns v → IsKept bytes net t.known items p → IsWhole (with_origins t v r)
+  origin_kept : (f : Lexeme) (ns : List Lexeme) (v : OriginRead) (r : Result LocSet PolicyFault) → v.at ≡ r → IsOrigin bytes net t.known f ns v
+      → IsKept bytes net t.known items p → IsWhole (with_origins t v r)
       → IsKept bytes net (with_origins t v r).known (items ++ Originate f ns ∷ []) (kept_item p (read.Origin v))
   origin_kept f ns v (Ok s) at is kept w =
       let fine = figure_ok v.prefix (first_ok t.rules.figures (figure_told v.prefix) w.figures).1 in
@@ -93,7 +97,8 @@ module _ (bytes : List ℕ) (net : PlainNet) (items : List Item) (k : Names) (t 
   At x v r = first_fault (unless_broken r t (with_known_item bytes t v)) ≡ Ok tt → IsKept bytes net (unless_broken r t (with_known_item bytes t v)).known (items ++ x ∷ []) (kept_item p v)
 
   -- as long as no rule is broken and no limit is passed
-  pub item_kept : (x : Item) (v : ItemRead) → IsItem bytes net t.known x v → IsToldOf bytes net k items t → (first_fault t ≡ Ok tt → IsKept bytes net t.known items p) → first_fault (with_item bytes t v) ≡ Ok tt
+  pub item_kept : (x : Item) (v : ItemRead) → IsItem bytes net t.known x v → IsToldOf bytes net k items t
+      → (first_fault t ≡ Ok tt → IsKept bytes net t.known items p) → first_fault (with_item bytes t v) ≡ Ok tt
       → IsKept bytes net (with_item bytes t v).known (items ++ x ∷ []) (kept_item p v)
   item_kept x v is told kept = by t.names refl
     where

@@ -80,7 +80,8 @@ pub peer_err : (net : PlainNet) (r : Result LocSet PolicyFault) (e : PolicyFault
 peer_err net (Ok s) e h = absurd cc
 peer_err net (Err d) e h = ap (λ (f : PolicyFault). Err f) (err_same d e h)
 
-told_behind : (net : PlainNet) (r q : Result LocSet PolicyFault) (f g : LocSet → Result LocSet PolicyFault) → peer_told net r ≡ peer_told net q → ((s t : LocSet) → has_peer net s ≡ has_peer net t → peer_told net (f s) ≡ peer_told net (g t))
+told_behind : (net : PlainNet) (r q : Result LocSet PolicyFault) (f g : LocSet → Result LocSet PolicyFault) → peer_told net r ≡ peer_told net q
+    → ((s t : LocSet) → has_peer net s ≡ has_peer net t → peer_told net (f s) ≡ peer_told net (g t))
     → peer_told net (r >>= f) ≡ peer_told net (q >>= g)
 told_behind net (Ok s) (Ok t) f g same next = next s t (ok_same (has_peer net s) (has_peer net t) same)
 told_behind net (Ok s) (Err e) f g same next = absurd cc
@@ -176,7 +177,8 @@ module _ (net : PlainNet) (is : IsNet net) (k known : Names) (p : Place) (name :
       by false e = rw e (omega (arith, length-append known.sets (kept_set net known t ∷ [])))
 
   -- as long as there are no more groups than a policy may have, a group more keeps its set
-  pub group_known : (definitions next : ℕ) → (next ≤ 256 → definitions + 1 ≡ next) → has_peer net s ≡ has_peer net t → (k ≡ known → s ≡ t) → IsKnown net k known definitions → IsKnown net (with_group k p name s) (with_kept_group net known p name t) next
+  pub group_known : (definitions next : ℕ) → (next ≤ 256 → definitions + 1 ≡ next) → has_peer net s ≡ has_peer net t → (k ≡ known → s ≡ t)
+      → IsKnown net k known definitions → IsKnown net (with_group k p name s) (with_kept_group net known p name t) next
   group_known definitions next one peer set i = record {
     like = group_like peer i.like;
     same = λ fits.

@@ -177,7 +177,9 @@ unfolding items_from
 items-nested zero items ls all e before = absurd cc
 items-nested (suc n) items ls all e before = by (λ xs ls. items-nested n xs ls all) (past symbol.EndOfText ls) e
   where
-    by : ((xs : List Item) (ls : List Lexeme) → items_from n xs ls ≡ Ok all → AllByRecursion HasNestedSteps xs → AllByRecursion HasNestedSteps all) → (o : Option (Lexeme × List Lexeme)) → either o (λ l rest. Ok items) (item_at ls >>= λ x. items_from n (items ++ x.0 ∷ []) x.1) ≡ Ok all → AllByRecursion HasNestedSteps all
+    by : ((xs : List Item) (ls : List Lexeme) → items_from n xs ls ≡ Ok all → AllByRecursion HasNestedSteps xs → AllByRecursion HasNestedSteps all)
+        → (o : Option (Lexeme × List Lexeme)) → either o (λ l rest. Ok items) (item_at ls >>= λ x. items_from n (items ++ x.0 ∷ []) x.1) ≡ Ok all
+        → AllByRecursion HasNestedSteps all
     by more (Some q) e = subst (λ z. AllByRecursion HasNestedSteps z) (ok_same items all e) before
     by more None e =
         let a = bind_ok (item_at ls) (λ x. items_from n (items ++ x.0 ∷ []) x.1) all e in

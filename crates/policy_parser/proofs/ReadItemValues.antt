@@ -96,7 +96,8 @@ module _ (bytes : List ℕ) (net : PlainNet) (known : Names) where
 
   -- a statement with no sources behind `from`
   pub statement_unclaimed : (ls a b c : List Lexeme) (p : PatternsValue) (q : PartsValue) (e : PolicyFault)
-      → over (patterns_value bytes) (predicate_at ls) ≡ Ok (p, a) → after Arrow a ≡ Ok b → over (parts_of bytes net known) (ranked_with (inner_at BRACKETS) [] b) ≡ Ok (q, c) → over (from_of bytes known) (from_at c) ≡ Err e
+      → over (patterns_value bytes) (predicate_at ls) ≡ Ok (p, a) → after Arrow a ≡ Ok b
+      → over (parts_of bytes net known) (ranked_with (inner_at BRACKETS) [] b) ≡ Ok (q, c) → over (from_of bytes known) (from_at c) ≡ Err e
       → statement_at ls ≡ Err e
   unfolding statement_at
   statement_unclaimed ls a b c p q e governs arrow ranked claims =

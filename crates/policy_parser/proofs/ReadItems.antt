@@ -47,7 +47,8 @@ unfolding items_in
 deep_in bytes (Ok ts) p is = rw (ok_same {F = PolicyFault} _ _ is) refl
 deep_in bytes (Err f) p is = absurd cc
 
-shallow_in : (bytes : List ℕ) (read : Result (List Token) PolicyFault) → Cut bytes ≡ read → deep_found bytes read ≡ Ok None → items_in bytes read ≡ items_of (lexemes_ahead bytes (ahead_of bytes 0 first_place))
+shallow_in : (bytes : List ℕ) (read : Result (List Token) PolicyFault) → Cut bytes ≡ read → deep_found bytes read ≡ Ok None
+    → items_in bytes read ≡ items_of (lexemes_ahead bytes (ahead_of bytes 0 first_place))
 unfolding items_in
 shallow_in bytes (Ok ts) cut is = rw (ok_same {F = PolicyFault} _ _ is, tokens_ahead bytes ts cut) refl
 shallow_in bytes (Err f) cut is = absurd cc

@@ -55,7 +55,8 @@ module _ (bytes : List ℕ) (net : PlainNet) (is : IsNet net) (fit : length (net
     },
   )
 
-  pub none_so_far : (v : Verdicts) → (let r : Result PlainTold PolicyFault = Ok (nothing_told net) in r ≡ Ok (plain_told v.told)) → plain_kept v.kept ≡ record { origins = []; statements = [] } → IsSoFar bytes net [] v
+  pub none_so_far : (v : Verdicts) → (let r : Result PlainTold PolicyFault = Ok (nothing_told net) in r ≡ Ok (plain_told v.told))
+      → plain_kept v.kept ≡ record { origins = []; statements = [] } → IsSoFar bytes net [] v
   none_so_far v told kept = record {
     told = subst (IsTold bytes net []) (ok_same _ (plain_told v.told) told) none_told;
     kept = λ fine. subst (IsKept bytes net (plain_told v.told).known []) (sym kept) (record { origins = refl; statements = refl });
@@ -77,7 +78,8 @@ module _ (bytes : List ℕ) (net : PlainNet) (items : List Item) (v : Verdicts) 
     }
 
     -- the item is kept
-    pub kept_so_far : (k : Kept) (r : Result ⊤ PolicyFault) → GivesUnless NoMemory (λ _. plain_kept k) r (Ok (kept_item (plain_kept v.kept) i)) → IsSoFar bytes net items v → IsItem bytes net (plain_names v.told.known) x i
+    pub kept_so_far : (k : Kept) (r : Result ⊤ PolicyFault) → GivesUnless NoMemory (λ _. plain_kept k) r (Ok (kept_item (plain_kept v.kept) i))
+        → IsSoFar bytes net items v → IsItem bytes net (plain_names v.told.known) x i
         → OnOk r (IsSoFar bytes net (items ++ x ∷ []) (record { told = next; kept = k }))
     kept_so_far k (Err e) gives so_far is = tt
     kept_so_far k (Ok u) gives so_far is = record {

@@ -38,27 +38,37 @@ module _ (bytes : List ℕ) where
       alone (Err e) = refl
   all_learnt_push k (y ∷ items) x = behind (learnt bytes k y) (λ l. all_learnt_push l items x)
     where
-      behind : (r : Result Names PolicyFault) → ((l : Names) → all_learnt bytes l (items ++ x ∷ []) ≡ (all_learnt bytes l items >>= λ m. learnt bytes m x)) → (r >>= λ l. all_learnt bytes l (items ++ x ∷ [])) ≡ ((r >>= λ l. all_learnt bytes l items) >>= λ m. learnt bytes m x)
+      behind : (r : Result Names PolicyFault)
+          → ((l : Names) → all_learnt bytes l (items ++ x ∷ []) ≡ (all_learnt bytes l items >>= λ m. learnt bytes m x))
+          → (r >>= λ l. all_learnt bytes l (items ++ x ∷ [])) ≡ ((r >>= λ l. all_learnt bytes l items) >>= λ m. learnt bytes m x)
       behind (Ok l) same = same l
       behind (Err e) same = refl
 
-  pub origins_push : (k : Names) (so_far : List Origin) (items : List Item) (x : Item) → origins_of bytes k so_far (items ++ x ∷ []) ≡ (origins_of bytes k so_far items >>= λ os. origins_of bytes k os (x ∷ []))
+  pub origins_push : (k : Names) (so_far : List Origin) (items : List Item) (x : Item)
+      → origins_of bytes k so_far (items ++ x ∷ []) ≡ (origins_of bytes k so_far items >>= λ os. origins_of bytes k os (x ∷ []))
   origins_push k so_far [] x = refl
   origins_push k so_far (Define n m ∷ items) x = origins_push k so_far items x
   origins_push k so_far (State s ∷ items) x = origins_push k so_far items x
   origins_push k so_far (Originate p ns ∷ items) x = behind (origin_of bytes k p ns) (λ o. origins_push k (so_far ++ o ∷ []) items x)
     where
-      behind : (r : Result Origin PolicyFault) → ((o : Origin) → origins_of bytes k (so_far ++ o ∷ []) (items ++ x ∷ []) ≡ (origins_of bytes k (so_far ++ o ∷ []) items >>= λ os. origins_of bytes k os (x ∷ []))) → (r >>= λ o. origins_of bytes k (so_far ++ o ∷ []) (items ++ x ∷ [])) ≡ ((r >>= λ o. origins_of bytes k (so_far ++ o ∷ []) items) >>= λ os. origins_of bytes k os (x ∷ []))
+      behind : (r : Result Origin PolicyFault)
+          → ((o : Origin) → origins_of bytes k (so_far ++ o ∷ []) (items ++ x ∷ []) ≡ (origins_of bytes k (so_far ++ o ∷ []) items >>= λ os. origins_of bytes k os (x ∷ [])))
+          → (r >>= λ o. origins_of bytes k (so_far ++ o ∷ []) (items ++ x ∷ [])) ≡ ((r >>= λ o. origins_of bytes k (so_far ++ o ∷ []) items) >>= λ os. origins_of bytes k os (x ∷ []))
       behind (Ok o) same = same o
       behind (Err e) same = refl
 
-  pub statements_push : (net : PlainNet) (k : Names) (so_far : List PlainStatement) (items : List Item) (x : Item) → statements_of bytes net k so_far (items ++ x ∷ []) ≡ (statements_of bytes net k so_far items >>= λ ts. statements_of bytes net k ts (x ∷ []))
+  pub statements_push : (net : PlainNet) (k : Names) (so_far : List PlainStatement) (items : List Item) (x : Item)
+      → statements_of bytes net k so_far (items ++ x ∷ []) ≡ (statements_of bytes net k so_far items >>= λ ts. statements_of bytes net k ts (x ∷ []))
   statements_push net k so_far [] x = refl
   statements_push net k so_far (Define n m ∷ items) x = statements_push net k so_far items x
   statements_push net k so_far (Originate p ns ∷ items) x = statements_push net k so_far items x
   statements_push net k so_far (State s ∷ items) x = behind (statement_of bytes net k s) (λ t. statements_push net k (so_far ++ t ∷ []) items x)
     where
-      behind : (r : Result PlainStatement PolicyFault) → ((t : PlainStatement) → statements_of bytes net k (so_far ++ t ∷ []) (items ++ x ∷ []) ≡ (statements_of bytes net k (so_far ++ t ∷ []) items >>= λ ts. statements_of bytes net k ts (x ∷ []))) → (r >>= λ t. statements_of bytes net k (so_far ++ t ∷ []) (items ++ x ∷ [])) ≡ ((r >>= λ t. statements_of bytes net k (so_far ++ t ∷ []) items) >>= λ ts. statements_of bytes net k ts (x ∷ []))
+      behind : (r : Result PlainStatement PolicyFault)
+          → ((t : PlainStatement)
+          → statements_of bytes net k (so_far ++ t ∷ []) (items ++ x ∷ []) ≡ (statements_of bytes net k (so_far ++ t ∷ []) items >>= λ ts. statements_of bytes net k ts (x ∷ [])))
+          → (r >>= λ t. statements_of bytes net k (so_far ++ t ∷ []) (items ++ x ∷ []))
+          ≡ ((r >>= λ t. statements_of bytes net k (so_far ++ t ∷ []) items) >>= λ ts. statements_of bytes net k ts (x ∷ []))
       behind (Ok t) same = same t
       behind (Err e) same = refl
 
@@ -68,7 +78,8 @@ module _ (bytes : List ℕ) where
       ≡ ((with_prefix o place figure).fault >>= λ _. once_from bytes (with_prefix o place figure).before rest)
   once_push o place figure rest = by o.fault refl figure
     where
-      one : (p : PlainPrefix) (b : Bool) → (unless (OriginTwice place) (not b) >>= λ _. once_from bytes (o.before ++ p ∷ []) rest) ≡ ((with_one o place p b).fault >>= λ _. once_from bytes (with_one o place p b).before rest)
+      one : (p : PlainPrefix) (b : Bool)
+          → (unless (OriginTwice place) (not b) >>= λ _. once_from bytes (o.before ++ p ∷ []) rest) ≡ ((with_one o place p b).fault >>= λ _. once_from bytes (with_one o place p b).before rest)
       one p true = refl
       one p false = refl
 

@@ -45,7 +45,8 @@ pub takes_all : (bytes : List ℕ) (net : PlainNet) (v : Verdicts) (l : Lexeme) 
 takes_all bytes net v l ls total here (items, lead, so_far) = (items, ends items l ls total here lead, so_far)
 
 -- what is read of one text is so of the whole
-pub reads_same : (bytes : List ℕ) (net : PlainNet) (read whole : Result (List Item) PolicyFault) (r : Result Verdicts PolicyFault) → whole ≡ read → ReadsItems bytes net read r → ReadsItems bytes net whole r
+pub reads_same : (bytes : List ℕ) (net : PlainNet) (read whole : Result (List Item) PolicyFault) (r : Result Verdicts PolicyFault) → whole ≡ read
+    → ReadsItems bytes net read r → ReadsItems bytes net whole r
 reads_same bytes net read whole r same is = subst (λ (z : Result (List Item) PolicyFault). ReadsItems bytes net z r) (sym same) is
 
 -- a text with no items spells no policy

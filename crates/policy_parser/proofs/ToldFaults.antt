@@ -44,7 +44,8 @@ passes_ok (Ok x) u h = (x, refl)
 passes_ok (Err e) u h = absurd cc
 
 module _ (bytes : List ℕ) (net : PlainNet) where
-  origin_made : (k : Names) (p : Lexeme) (ns : List Lexeme) (q : PlainPrefix) (s : LocSet) → prefix_at bytes p ≡ Ok q → set_of_names bytes k ns ≡ Ok s → origin_of bytes k p ns ≡ Ok (record { prefix = q; at = s })
+  origin_made : (k : Names) (p : Lexeme) (ns : List Lexeme) (q : PlainPrefix) (s : LocSet) → prefix_at bytes p ≡ Ok q → set_of_names bytes k ns ≡ Ok s
+      → origin_of bytes k p ns ≡ Ok (record { prefix = q; at = s })
   unfolding origin_of
   origin_made k p ns q s prefix at = rw (prefix, at) refl
 
@@ -55,7 +56,8 @@ module _ (bytes : List ℕ) (net : PlainNet) where
       let q = passes_ok (prefix_at bytes p) u fine in
       (record { prefix = q.0; at = s.0 }, origin_made k p ns q.0 s.0 q.1 s.1)
 
-  origins_there : (k m : Names) (so_far : List Origin) (items : List Item) (u : ⊤) → all_learnt bytes k items ≡ Ok m → each (figures_fine bytes) items ≡ Ok u → (os : List Origin) × (origins_of bytes m so_far items ≡ Ok os)
+  origins_there : (k m : Names) (so_far : List Origin) (items : List Item) (u : ⊤) → all_learnt bytes k items ≡ Ok m
+      → each (figures_fine bytes) items ≡ Ok u → (os : List Origin) × (origins_of bytes m so_far items ≡ Ok os)
   origins_there k m so_far [] u known fine = (so_far, refl)
   origins_there k m so_far (Define name members ∷ items) u known fine =
       let a = bind_ok (learnt bytes k (Define name members)) (λ next. all_learnt bytes next items) m known in
@@ -75,10 +77,15 @@ module _ (bytes : List ℕ) (net : PlainNet) where
 -- ---- one step after another
 
 -- the steps of a policy, told first and then built, or told as it is built
-all_steps : (twice figures ranks routers once limits : Result ⊤ PolicyFault) (origins : Result (List Origin) PolicyFault) (few : List Origin → Result ⊤ PolicyFault) (fit calls places : Result ⊤ PolicyFault) (statements : Result (List PlainStatement) PolicyFault) (p : PlainPolicy)
+all_steps : (twice figures ranks routers once limits : Result ⊤ PolicyFault) (origins : Result (List Origin) PolicyFault)
+    (few : List Origin → Result ⊤ PolicyFault) (fit calls places : Result ⊤ PolicyFault) (statements : Result (List PlainStatement) PolicyFault)
+    (p : PlainPolicy)
     → (figures ≡ Ok tt → limits ≡ Ok tt → (os : List Origin) × (origins ≡ Ok os) × (few os ≡ fit))
-    → ((twice >>= λ _. figures >>= λ _. ranks >>= λ _. routers >>= λ _. once >>= λ _. limits >>= λ _. fit >>= λ _. calls >>= λ _. places) ≡ Ok tt → (origins ≡ Ok p.origins) × (statements ≡ Ok p.statements))
-    → (twice >>= λ _. ((figures >>= λ _. ranks >>= λ _. routers >>= λ _. once) >>= λ _. ((limits >>= λ _. origins >>= λ os. few os >>= λ _. Ok os) >>= λ os. calls >>= λ _. places >>= λ _. statements >>= λ ts. Ok (record { origins = os; statements = ts }))))
+    → ((twice >>= λ _. figures >>= λ _. ranks >>= λ _. routers >>= λ _. once >>= λ _. limits >>= λ _. fit >>= λ _. calls >>= λ _. places) ≡ Ok tt
+    → (origins ≡ Ok p.origins) × (statements ≡ Ok p.statements))
+    → (twice >>= λ _.
+    ((figures >>= λ _. ranks >>= λ _. routers >>= λ _. once) >>= λ _.
+    ((limits >>= λ _. origins >>= λ os. few os >>= λ _. Ok os) >>= λ os. calls >>= λ _. places >>= λ _. statements >>= λ ts. Ok (record { origins = os; statements = ts }))))
     ≡ ((twice >>= λ _. figures >>= λ _. ranks >>= λ _. routers >>= λ _. once >>= λ _. limits >>= λ _. fit >>= λ _. calls >>= λ _. places) >>= λ _. Ok p)
 all_steps (Err e) figures ranks routers once limits origins few fit calls places statements p there kept = refl
 all_steps (Ok t) (Err e) ranks routers once limits origins few fit calls places statements p there kept = refl
@@ -117,7 +124,10 @@ module _ (bytes : List ℕ) (net : PlainNet) (items : List Item) (k : Names) (t 
   limits_told j = rw (j.definitions, j.statements, j.patterns, j.prefixes) refl
 
   abbrev in_order : Result ⊤ PolicyFault
-  in_order = none_at Twice k.twice >>= λ _. each (figures_fine bytes) items >>= λ _. each ranks_fine items >>= λ _. each (origins_fine bytes net k) items >>= λ _. once_from bytes [] items >>= λ _. items_within items >>= λ _. within kind.Origins 16384 t.amounts.pairs >>= λ _. each calls_within items >>= λ _. each paths_within items
+  in_order =
+      none_at Twice k.twice >>= λ _. each (figures_fine bytes) items >>= λ _. each ranks_fine items >>= λ _. each
+      (origins_fine bytes net k) items >>= λ _. once_from bytes
+      [] items >>= λ _. items_within items >>= λ _. within kind.Origins 16384 t.amounts.pairs >>= λ _. each calls_within items >>= λ _. each paths_within items
 
   first_known : t.names ≡ Ok tt → IsToldOf bytes net k items t → first_fault t ≡ in_order
   unfolding first_fault
@@ -140,7 +150,8 @@ module _ (bytes : List ℕ) (net : PlainNet) (items : List Item) (k : Names) (t 
   kept_names : IsToldOf bytes net k items t → IsKept bytes net t.known items p → first_fault t ≡ Ok tt → IsKept bytes net k items p
   kept_names told kept fine = subst (λ (l : Names). IsKept bytes net l items p) (sym (told.known.same (whole t fine).definitions)) kept
 
-  known_gives : t.names ≡ Ok tt → IsToldOf bytes net k items t → (first_fault t ≡ Ok tt → IsKept bytes net t.known items p) → items_spelled bytes ≡ Ok items → spelled net bytes ≡ (first_fault t >>= λ _. Ok p)
+  known_gives : t.names ≡ Ok tt → IsToldOf bytes net k items t → (first_fault t ≡ Ok tt → IsKept bytes net t.known items p)
+      → items_spelled bytes ≡ Ok items → spelled net bytes ≡ (first_fault t >>= λ _. Ok p)
   unfolding rules_kept origins_spelled policy_built
   known_gives known told kept read =
       let j = told.judged known in
@@ -150,7 +161,8 @@ module _ (bytes : List ℕ) (net : PlainNet) (items : List Item) (k : Names) (t 
       let h = kept_names told (kept (first ∙ fine)) (first ∙ fine) in (h.origins, h.statements) in
       rw (first, spelled_known read names)
       (all_steps (none_at Twice k.twice) (each (figures_fine bytes) items) (each ranks_fine items) (each (origins_fine bytes net k) items) (once_from bytes [] items) (items_within items)
-      (origins_of bytes k [] items) (λ os. within kind.Origins 16384 (pairs os)) (within kind.Origins 16384 t.amounts.pairs) (each calls_within items) (each paths_within items) (statements_of bytes net k [] items) p (there j names) built)
+      (origins_of bytes k [] items) (λ os. within kind.Origins 16384 (pairs os)) (within kind.Origins 16384 t.amounts.pairs) (each calls_within items)
+      (each paths_within items) (statements_of bytes net k [] items) p (there j names) built)
 
   -- what is told first is what the text spells
   pub told_gives : IsToldOf bytes net k items t → (first_fault t ≡ Ok tt → IsKept bytes net t.known items p) → items_spelled bytes ≡ Ok items → spelled net bytes ≡ (first_fault t >>= λ _. Ok p)
@@ -171,12 +183,25 @@ module _ (bytes : List ℕ) (net : PlainNet) (items : List Item) (k : Names) (t 
       let ranks = sym j.ranks ∙ w.ranks in
       let routers = sym j.routers ∙ w.routers in
       let once = sym (once_told j) ∙ w.once in
-      let limits : items_within items ≡ Ok tt = sym (limits_told j) ∙ rw (within_of kind.Definitions 256 t.amounts.definitions w.definitions, within_of kind.Statements 256 t.amounts.statements w.statements, within_of kind.Patterns 16384 t.amounts.patterns w.patterns, within_of kind.Prefixes 4096 t.amounts.prefixes w.prefixes) refl in
-      let fit : within kind.Origins 16384 (pairs p.origins) ≡ Ok tt = ap (within kind.Origins 16384) (sym (j.pairs w.definitions p.origins kept.origins)) ∙ within_of kind.Origins 16384 t.amounts.pairs w.pairs in
+      let limits : items_within items ≡ Ok tt =
+      sym (limits_told j)
+      ∙ rw (
+        within_of kind.Definitions 256 t.amounts.definitions w.definitions,
+        within_of kind.Statements 256 t.amounts.statements
+            w.statements,
+        within_of kind.Patterns 16384 t.amounts.patterns w.patterns,
+        within_of kind.Prefixes 4096 t.amounts.prefixes
+            w.prefixes,
+      )
+      refl in
+      let fit : within kind.Origins 16384 (pairs p.origins) ≡ Ok tt =
+      ap (within kind.Origins 16384) (sym (j.pairs w.definitions p.origins kept.origins))
+      ∙ within_of kind.Origins 16384 t.amounts.pairs w.pairs in
       is_policy bytes net k items p.origins p.statements (rw (figures, ranks, routers, once) refl) (rw (limits, kept.origins, fit) refl) kept.statements
 
 -- what a text spells is at most 321 deep
-pub spelled-IsAtMostDeep : {X : Type 0} (view : X → PlainPolicy) (bytes : List ℕ) (net : PlainNet) (result : Result X PolicyFault) → GivesUnless NoMemory view result (spelled net bytes) → IfOk result (λ x. IsAtMostDeep 321 (view x))
+pub spelled-IsAtMostDeep : {X : Type 0} (view : X → PlainPolicy) (bytes : List ℕ) (net : PlainNet) (result : Result X PolicyFault)
+    → GivesUnless NoMemory view result (spelled net bytes) → IfOk result (λ x. IsAtMostDeep 321 (view x))
 unfolding spelled
 spelled-IsAtMostDeep view bytes net (Ok x) h =
     let items = bind_ok (items_spelled bytes) _ (view x) h in

@@ -95,7 +95,8 @@ module _ (bytes : List ℕ) (net : PlainNet) (items : List Item) (k : Names) (t 
 
   -- ---- a group
 
-  group_judged : (name : Lexeme) (members : List Lexeme) (s r : LocSet) → t.names ≡ Ok tt → IsToldOf bytes net k items t → IsJudged bytes net (with_group k name.place (text bytes name) s) (items ++ Define name members ∷ []) (with_members bytes t name (Ok r))
+  group_judged : (name : Lexeme) (members : List Lexeme) (s r : LocSet) → t.names ≡ Ok tt → IsToldOf bytes net k items t
+      → IsJudged bytes net (with_group k name.place (text bytes name) s) (items ++ Define name members ∷ []) (with_members bytes t name (Ok r))
   group_judged name members s r known told =
       let j = told.judged known in
       let x = Define name members in
@@ -118,7 +119,8 @@ module _ (bytes : List ℕ) (net : PlainNet) (items : List Item) (k : Names) (t 
         places = each_same paths_within items x t.rules.places j.places refl;
       }
 
-  group_told_of : (name : Lexeme) (members : List Lexeme) (s r : LocSet) → set_of_names bytes k members ≡ Ok s → set_of_names bytes t.known members ≡ Ok r → has_peer net s ≡ has_peer net r → t.names ≡ Ok tt → IsToldOf bytes net k items t
+  group_told_of : (name : Lexeme) (members : List Lexeme) (s r : LocSet) → set_of_names bytes k members ≡ Ok s
+      → set_of_names bytes t.known members ≡ Ok r → has_peer net s ≡ has_peer net r → t.names ≡ Ok tt → IsToldOf bytes net k items t
       → IsToldOf bytes net (with_group k name.place (text bytes name) s) (items ++ Define name members ∷ []) (with_members bytes t name (Ok r))
   group_told_of name members s r made read peer known told = record {
     of = told.of;
@@ -129,7 +131,8 @@ module _ (bytes : List ℕ) (net : PlainNet) (items : List Item) (k : Names) (t 
     judged = λ ok. group_judged name members s r known told;
   }
 
-  group_told : (name : Lexeme) (members : List Lexeme) (r : Result LocSet PolicyFault) → r ≡ set_of_names bytes t.known members → t.names ≡ Ok tt → IsToldOf bytes net k items t → IsTold bytes net (items ++ Define name members ∷ []) (with_members bytes t name r)
+  group_told : (name : Lexeme) (members : List Lexeme) (r : Result LocSet PolicyFault) → r ≡ set_of_names bytes t.known members → t.names ≡ Ok tt
+      → IsToldOf bytes net k items t → IsTold bytes net (items ++ Define name members ∷ []) (with_members bytes t name r)
   group_told name members (Ok r) is known told =
       let like = joined_like bytes net k t.known told.known.like told.rules no_location no_location refl members in
       let made = peer_ok net (set_of_names bytes k members) (has_peer net r) (like ∙ ap (peer_told net) (sym is)) in
@@ -141,7 +144,8 @@ module _ (bytes : List ℕ) (net : PlainNet) (items : List Item) (k : Names) (t 
 
   -- ---- a prefix with its origins
 
-  origin_pairs : (p : Lexeme) (ns : List Lexeme) (s : LocSet) (os : List Origin) → set_of_names bytes k ns ≡ Ok s → ((before : List Origin) → origins_of bytes k [] items ≡ Ok before → t.amounts.pairs ≡ pairs before)
+  origin_pairs : (p : Lexeme) (ns : List Lexeme) (s : LocSet) (os : List Origin) → set_of_names bytes k ns ≡ Ok s
+      → ((before : List Origin) → origins_of bytes k [] items ≡ Ok before → t.amounts.pairs ≡ pairs before)
       → origins_of bytes k [] (items ++ Originate p ns ∷ []) ≡ Ok os → capped (t.amounts.pairs + size_of s) ≡ pairs os
   origin_pairs p ns s os at before made =
       let a = bind_ok (origins_of bytes k [] items) (λ all. origins_of bytes k all (Originate p ns ∷ [])) os (sym (origins_push bytes k [] items (Originate p ns)) ∙ made) in
@@ -170,9 +174,11 @@ module _ (bytes : List ℕ) (net : PlainNet) (items : List Item) (k : Names) (t 
       }
 
   -- the names behind it
-  learnt_origin : (p : Lexeme) (ns : List Lexeme) (r : Result LocSet PolicyFault) → r ≡ set_of_names bytes t.known ns → IsToldOf bytes net k items t → learnt bytes k (Originate p ns) ≡ (passes r >>= λ _. Ok k)
+  learnt_origin : (p : Lexeme) (ns : List Lexeme) (r : Result LocSet PolicyFault) → r ≡ set_of_names bytes t.known ns → IsToldOf bytes net k items t
+      → learnt bytes k (Originate p ns) ≡ (passes r >>= λ _. Ok k)
   learnt_origin p ns r is told =
-      ap (λ (u : Result ⊤ PolicyFault). u >>= λ _. Ok k) (names_like bytes net k t.known told.known.like ns ∙ sym (joined_known bytes t.known no_location ns) ∙ ap (λ (z : Result LocSet PolicyFault). passes z) (sym is))
+      ap (λ (u : Result ⊤ PolicyFault). u >>= λ _. Ok k)
+      (names_like bytes net k t.known told.known.like ns ∙ sym (joined_known bytes t.known no_location ns) ∙ ap (λ (z : Result LocSet PolicyFault). passes z) (sym is))
 
   origin_told : (p : Lexeme) (ns : List Lexeme) (v : OriginRead) (r : Result LocSet PolicyFault) → v.at ≡ r → IsOrigin bytes net t.known p ns v → t.names ≡ Ok tt → IsToldOf bytes net k items t
       → IsToldOf bytes net k (items ++ Originate p ns ∷ []) (with_origins t v r)
@@ -187,7 +193,8 @@ module _ (bytes : List ℕ) (net : PlainNet) (items : List Item) (k : Names) (t 
 
   -- ---- a statement
 
-  state_judged : (s : RawStatement) (v : StatementRead) → IsStatement bytes net t.known s v → t.names ≡ Ok tt → IsToldOf bytes net k items t → IsJudged bytes net k (items ++ State s ∷ []) (with_state t v)
+  state_judged : (s : RawStatement) (v : StatementRead) → IsStatement bytes net t.known s v → t.names ≡ Ok tt → IsToldOf bytes net k items t
+      → IsJudged bytes net k (items ++ State s ∷ []) (with_state t v)
   state_judged s v is known told =
       let j = told.judged known in
       let x = State s in record {
@@ -211,9 +218,12 @@ module _ (bytes : List ℕ) (net : PlainNet) (items : List Item) (k : Names) (t 
   both_known (Err e) q = refl
 
   learnt_state : (s : RawStatement) → IsToldOf bytes net k items t → learnt bytes k (State s) ≡ ((each (step_known bytes t.known) s.ranked >>= λ _. arg_known bytes t.known s.from) >>= λ _. Ok k)
-  learnt_state s told = rw (steps_like bytes net k t.known told.known.like s.ranked, arg_like bytes net k t.known told.known.like s.from) (both_known (each (step_known bytes t.known) s.ranked) (arg_known bytes t.known s.from))
+  learnt_state s told =
+      rw (steps_like bytes net k t.known told.known.like s.ranked, arg_like bytes net k t.known told.known.like s.from)
+      (both_known (each (step_known bytes t.known) s.ranked) (arg_known bytes t.known s.from))
 
-  state_told : (s : RawStatement) (v : StatementRead) → IsStatement bytes net t.known s v → t.names ≡ Ok tt → IsToldOf bytes net k items t → IsToldOf bytes net k (items ++ State s ∷ []) (with_state t v)
+  state_told : (s : RawStatement) (v : StatementRead) → IsStatement bytes net t.known s v → t.names ≡ Ok tt → IsToldOf bytes net k items t
+      → IsToldOf bytes net k (items ++ State s ∷ []) (with_state t v)
   state_told s v is known told = record {
     of = told.of;
     rules = told.rules;

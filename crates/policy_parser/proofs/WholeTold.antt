@@ -78,7 +78,24 @@ whole t h =
 pub first_fault-whole : (t : PlainTold) → IsWhole t → first_fault t ≡ Ok tt
 unfolding first_fault
 first_fault-whole t w =
-    rw (w.names, w.twice, w.figures, w.ranks, w.routers, w.once, within_of kind.Definitions 256 t.amounts.definitions w.definitions, within_of kind.Statements 256 t.amounts.statements w.statements, within_of kind.Patterns 16384 t.amounts.patterns w.patterns, within_of kind.Prefixes 4096 t.amounts.prefixes w.prefixes, within_of kind.Origins 16384 t.amounts.pairs w.pairs, w.calls, w.places) refl
+    rw (
+      w.names,
+      w.twice,
+      w.figures,
+      w.ranks,
+      w.routers,
+      w.once,
+      within_of kind.Definitions 256 t.amounts.definitions w.definitions,
+      within_of
+          kind.Statements 256 t.amounts.statements w.statements,
+      within_of kind.Patterns 16384 t.amounts.patterns w.patterns,
+      within_of
+          kind.Prefixes 4096 t.amounts.prefixes w.prefixes,
+      within_of kind.Origins 16384 t.amounts.pairs w.pairs,
+      w.calls,
+      w.places,
+    )
+    refl
 
 -- ---- whole behind an item, whole before it
 

@@ -92,7 +92,15 @@ abbrev pub rules_with_origin : Rules → OriginRead → Rules
 rules_with_origin r o = record { figures = first_told r.figures (figure_told o.prefix); ranks = r.ranks; routers = first_told r.routers o.routers; calls = r.calls; places = r.places }
 
 abbrev pub rules_with_state : Rules → StatementRead → Rules
-rules_with_state r s = record { figures = first_told r.figures s.figures; ranks = first_told r.ranks s.ranks; routers = r.routers; calls = first_told r.calls s.calls; places = first_told r.places s.places }
+rules_with_state r s =
+    record {
+      figures = first_told r.figures s.figures;
+      ranks = first_told r.ranks s.ranks;
+      routers = r.routers;
+      calls = first_told r.calls
+          s.calls;
+      places = first_told r.places s.places;
+    }
 
 abbrev pub amounts_with_group : Amounts → Amounts
 amounts_with_group a = record { definitions = capped (a.definitions + 1); statements = a.statements; patterns = a.patterns; prefixes = a.prefixes; pairs = a.pairs }
@@ -109,12 +117,30 @@ with_unknown t e = record { net = t.net; known = t.known; names = Err e; rules =
 
 -- a group more, with the set of its members
 abbrev pub with_members : List ℕ → PlainTold → Lexeme → Result LocSet PolicyFault → PlainTold
-with_members bytes t name (Ok s) = record { net = t.net; known = with_kept_group t.net t.known name.place (text bytes name) s; names = t.names; rules = t.rules; once = t.once; amounts = amounts_with_group t.amounts }
+with_members bytes t name (Ok s) =
+    record {
+      net = t.net;
+      known = with_kept_group t.net t.known name.place
+          (text bytes name) s;
+      names = t.names;
+      rules = t.rules;
+      once = t.once;
+      amounts = amounts_with_group t.amounts;
+    }
 with_members bytes t name (Err e) = with_unknown t e
 
 -- a prefix more, with the set of its origins
 abbrev pub with_origins : PlainTold → OriginRead → Result LocSet PolicyFault → PlainTold
-with_origins t o (Ok s) = record { net = t.net; known = t.known; names = t.names; rules = rules_with_origin t.rules o; once = with_prefix t.once o.place o.prefix; amounts = amounts_with_origin t.amounts s }
+with_origins t o (Ok s) =
+    record {
+      net = t.net;
+      known = t.known;
+      names = t.names;
+      rules = rules_with_origin t.rules o;
+      once = with_prefix t.once o.place
+          o.prefix;
+      amounts = amounts_with_origin t.amounts s;
+    }
 with_origins t o (Err e) = with_unknown t e
 
 -- a statement more

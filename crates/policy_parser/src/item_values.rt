@@ -37,7 +37,8 @@ fn named(set: Result<LocSet, PolicyFault>) -> Result<FromSet, PolicyFault>
 #[tactic(auto, unfolding(policy_grammar::specs::Items::from_at, policy_grammar::specs::Calls::set_at))]
 fn from(reader: &Reader<'_>, at: &mut Lexeme) -> Result<Result<FromSet, PolicyFault>, PolicyFault>
     requires stands { StandsIn reader.now.text.now at.old }
-    ensures read { GivesUnless NoMemory (λ x. (x, left reader.now.text.now at.new)) result (over (from_of reader.now.text.now (plain_names reader.now.known.now)) (from_at (left reader.now.text.now at.old))) }
+    ensures read { GivesUnless NoMemory (λ x. (x, left reader.now.text.now at.new)) result
+        (over (from_of reader.now.text.now (plain_names reader.now.known.now)) (from_at (left reader.now.text.now at.old))) }
     ensures stands { StandsIn reader.now.text.now at.new }
     ensures fewer { length (left reader.now.text.now at.new) ≤ length (left reader.now.text.now at.old) }
 {
@@ -54,7 +55,8 @@ fn judged(
     mut parts: Parts,
     from: Result<FromSet, PolicyFault>,
 ) -> StatementRead
-    ensures { (bytes : Items ℕ) (net : PlainNet) (known : PlainNames) (s : RawStatement) → plain_patterns patterns ≡ patterns_value bytes s.patterns → parts_value parts ≡ parts_of bytes net known s.ranked → from ≡ from_of bytes known s.from → IsStatement bytes net known s result }
+    ensures { (bytes : Items ℕ) (net : PlainNet) (known : PlainNames) (s : RawStatement) → plain_patterns patterns ≡ patterns_value bytes s.patterns
+        → parts_value parts ≡ parts_of bytes net known s.ranked → from ≡ from_of bytes known s.from → IsStatement bytes net known s result }
 {
     StatementRead {
         names: parts.names_and(&from),

@@ -5,7 +5,25 @@ ghost use Rattle.net_base.specs.Network.{IsNet};
 ghost use Rattle.net_base.specs.Gives.{GivesUnless};
 ghost use Rattle.policy_tokens.specs.declared.fault.PolicyFault.TheVariants.{NoMemory};
 ghost use Rattle.policy_rules.specs.KnownNames.{net_names};
-ghost use Rattle.policy_parser.specs.Told.{plain_told, nothing_told, first_told, figure_told, all_kept, no_amounts, rules_with_origin, rules_with_state, amounts_with_group, amounts_with_origin, amounts_with_state, with_members, with_origins, with_state, with_item, limits_fault, first_fault as fault_of};
+ghost use Rattle.policy_parser.specs.Told.{
+  plain_told,
+  nothing_told,
+  first_told,
+  figure_told,
+  all_kept,
+  no_amounts,
+  rules_with_origin,
+  rules_with_state,
+  amounts_with_group,
+  amounts_with_origin,
+  amounts_with_state,
+  with_members,
+  with_origins,
+  with_state,
+  with_item,
+  limits_fault,
+  first_fault as fault_of,
+};
 
 use crate::once::Once;
 use crate::values::{GroupRead, ItemRead, OriginRead, StatementRead};

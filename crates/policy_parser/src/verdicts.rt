@@ -95,7 +95,8 @@ impl<'a> Verdicts<'a> {
 
     /// An item more.
     pub fn take(&mut self, text: &'a [u8], item: ItemRead) -> Result<(), PolicyFault>
-        ensures so_far { (net : PlainNet) (items : List PlainItem) (x : PlainItem) → IsSoFar text.now net items self.old → IsItem text.now net (plain_names self.old.told.known) x item → OnOk result (IsSoFar text.now net (items ++ x ∷ []) self.new) }
+        ensures so_far { (net : PlainNet) (items : List PlainItem) (x : PlainItem) → IsSoFar text.now net items self.old
+            → IsItem text.now net (plain_names self.old.told.known) x item → OnOk result (IsSoFar text.now net (items ++ x ∷ []) self.new) }
         ensures err { IfErr result (λ e. e ≡ PolicyFault.NoMemory) }
     {
         self.told.take(text, &item)?;
@@ -109,7 +110,8 @@ impl<'a> Verdicts<'a> {
     /// The policy, or the first rule that is broken or limit that is passed.
     pub fn policy(self) -> Result<Policy, PolicyFault>
         requires { (bytes : List ℕ) × (net : PlainNet) × (items : List PlainItem) × IsSoFar bytes net items self }
-        ensures { (bytes : List ℕ) (net : PlainNet) (items : List PlainItem) → items_spelled bytes ≡ Ok items → IsSoFar bytes net items self.entry → GivesUnless NoMemory policy_of result (spelled net bytes) }
+        ensures { (bytes : List ℕ) (net : PlainNet) (items : List PlainItem) → items_spelled bytes ≡ Ok items → IsSoFar bytes net items self.entry
+            → GivesUnless NoMemory policy_of result (spelled net bytes) }
     {
         self.told.first_fault()?;
         Ok(Policy::new(

@@ -17,4 +17,7 @@ none_of s l zero absent = refl
 none_of s l (suc n) absent = rw (absent l (omega arith) (omega arith)) (none_of s (l + 1) n (λ k from to. absent k (omega (arith, from)) (omega (arith, to))))
 
 pub no_peer : (net : PlainNet) (s : LocSet) → length net.routers + length net.peers ≤ 768 → ((l : ℕ) → (holds s l && holds (peers net) l) ≡ false) → has_peer net s ≡ false
-no_peer net s few none = none_of s (length net.routers) (length net.peers) (λ k from to. one_absent (holds s k) (holds (peers net) k) (none k) (holds-set_of (is_peer net) k (omega (arith, few, to)) ∙ rw (le-leb (length net.routers) k from, lt-ltb k (length net.routers + length net.peers) to) refl))
+no_peer net s few none =
+    none_of s (length net.routers) (length net.peers)
+    (λ k from to. one_absent (holds s k) (holds (peers net) k) (none k)
+    (holds-set_of (is_peer net) k (omega (arith, few, to)) ∙ rw (le-leb (length net.routers) k from, lt-ltb k (length net.routers + length net.peers) to) refl))

@@ -42,7 +42,9 @@ whole_pattern : (p : PlainPattern) → is_everything p ≡ true → record { bas
 whole_pattern p all =
     let h = and_parts (p.base.bits == 0) (p.base.len == 0 && p.upto == 32) all in
     let k = and_parts (p.base.len == 0) (p.upto == 32) h.1 in
-    let base : record { bits = 0; len = 0 } ≡ p.base = ap₂ (λ (b l : ℕ). let q : PlainPrefix = record { bits = b; len = l } in q) (sym (eqb-true p.base.bits 0 h.0)) (sym (eqb-true p.base.len 0 k.0)) in
+    let base : record { bits = 0; len = 0 } ≡ p.base =
+    ap₂ (λ (b l : ℕ). let q : PlainPrefix = record { bits = b; len = l } in q) (sym (eqb-true p.base.bits 0 h.0))
+    (sym (eqb-true p.base.len 0 k.0)) in
     ap₂ (λ (b : PlainPrefix) (n : ℕ). let q : PlainPattern = record { base = b; upto = n } in q) base (sym (eqb-true p.upto 32 k.1))
 
 -- a pattern is read from its figures
@@ -54,11 +56,13 @@ pattern_there bytes (Only l) p is there =
 pattern_there bytes (UpTo l m) p is there =
     rw (prefix_there bytes l p.base is.prefix there.0, there.1, length_number-decimal p.upto is.most, le-leb p.base.len p.upto is.least, le-leb p.upto 32 is.most) refl
 
-patterns_there : (bytes : List ℕ) (raws : List RawPattern) (ps so_far : List PlainPattern) → AllByRecursion IsPattern ps → Pairs (IsRawPattern bytes) raws ps → patterns_of bytes so_far raws ≡ Ok (so_far ++ ps)
+patterns_there : (bytes : List ℕ) (raws : List RawPattern) (ps so_far : List PlainPattern) → AllByRecursion IsPattern ps
+    → Pairs (IsRawPattern bytes) raws ps → patterns_of bytes so_far raws ≡ Ok (so_far ++ ps)
 patterns_there bytes [] [] so_far fine are = ap Ok (sym (append-nil so_far))
 patterns_there bytes [] (p ∷ ps) so_far fine are = absurd are
 patterns_there bytes (r ∷ raws) [] so_far fine are = absurd are
-patterns_there bytes (r ∷ raws) (p ∷ ps) so_far fine are = rw (pattern_there bytes r p fine.0 are.0) (patterns_there bytes raws ps (so_far ++ p ∷ []) fine.1 are.1 ∙ ap Ok (append_assoc so_far (p ∷ []) ps))
+patterns_there bytes (r ∷ raws) (p ∷ ps) so_far fine are =
+    rw (pattern_there bytes r p fine.0 are.0) (patterns_there bytes raws ps (so_far ++ p ∷ []) fine.1 are.1 ∙ ap Ok (append_assoc so_far (p ∷ []) ps))
 
 patterns_fine : (bytes : List ℕ) (raws : List RawPattern) (ps : List PlainPattern) → AllByRecursion IsPattern ps → Pairs (IsRawPattern bytes) raws ps → each (pattern_fine bytes) raws ≡ Ok tt
 patterns_fine bytes [] [] fine are = refl
@@ -97,7 +101,13 @@ module _ (bytes : List ℕ) (net : PlainNet) (apart : IsDistinct bytes_eq (site_
   pub statement_there : (raw : RawStatement) (s : PlainStatement) → IsFineStatement s → IsRawStatement bytes net raw s → statement_of bytes net names raw ≡ Ok s
   unfolding statement_of
   statement_there raw s fine is =
-      rw (patterns_there bytes raw.patterns s.patterns [] fine.patterns is.patterns, ranking_there bytes net apart small s.ranked fine.ranked raw.ranked is.ranked, from_there raw.from s.from fine.from is.from) refl
+      rw (
+        patterns_there bytes raw.patterns s.patterns
+            [] fine.patterns is.patterns,
+        ranking_there bytes net apart small s.ranked fine.ranked raw.ranked is.ranked,
+        from_there raw.from s.from fine.from is.from,
+      )
+      refl
 
   module _ (l : Lexeme) (ls : List Lexeme) (o : Origin) (fine : IsFineOrigin o) (prefix : text bytes l ≡ prefix_text o.prefix) (named : AreNamesOf bytes ls (names_in net o.at)) where
     pub origin_there : origin_of bytes names l ls ≡ Ok o

@@ -34,8 +34,11 @@ module _ (bytes : List ℕ) (net : PlainNet) (apart : IsDistinct bytes_eq (site_
   abbrev Routers : LocSet → ℕ → List Site → Type 0
   Routers s l xs = (ls : List Lexeme) → AreNamesOf bytes ls (names_from s l xs) → each (routers_alone bytes net (sites_known (sites net))) ls ≡ Ok tt
 
-  by_held : (s : LocSet) (l : ℕ) (x : Site) (xs : List Site) → (holds s l ≡ true → l < length net.routers) → set_named (sites_known (sites net)) x.name ≡ Some (with_location no_location l) → Routers s (l + 1) xs
-      → (b : Bool) → holds s l ≡ b → (ls : List Lexeme) → AreNamesOf bytes ls (if b then x.name ∷ names_from s (l + 1) xs else names_from s (l + 1) xs) → each (routers_alone bytes net (sites_known (sites net))) ls ≡ Ok tt
+  by_held : (s : LocSet) (l : ℕ) (x : Site) (xs : List Site) → (holds s l ≡ true → l < length net.routers)
+      → set_named (sites_known (sites net)) x.name ≡ Some (with_location no_location l) → Routers s (l + 1) xs
+      → (b : Bool) → holds s l ≡ b → (ls : List Lexeme)
+      → AreNamesOf bytes ls (if b then x.name ∷ names_from s (l + 1) xs else names_from s (l + 1) xs)
+      → each (routers_alone bytes net (sites_known (sites net))) ls ≡ Ok tt
   by_held s l x xs router found rest false off ls are = rest ls are
   by_held s l x xs router found rest true on [] are = absurd are
   by_held s l x xs router found rest true on (k ∷ ks) are =

@@ -115,16 +115,20 @@ module _ (bytes : List ℕ) (net : PlainNet) (apart : IsDistinct bytes_eq (site_
   taken : (s : Step) (ss : List Step) (rs next : List Ranking) → behind bytes net names s rs ≡ Ok next → all_behind bytes net names rs (s ∷ ss) ≡ all_behind bytes net names next ss
   taken s ss rs next is = rw is refl
 
-  call_taken : (raw : RawCall) (w : CallWord) (sets : List LocSet) (rs : List Ranking) → IsRawCall bytes net w sets raw → AllByRecursion IsFineSet sets → behind bytes net names (step.Call raw) rs ≡ Ok (call_of w sets ∷ rs)
+  call_taken : (raw : RawCall) (w : CallWord) (sets : List LocSet) (rs : List Ranking) → IsRawCall bytes net w sets raw
+      → AllByRecursion IsFineSet sets → behind bytes net names (step.Call raw) rs ≡ Ok (call_of w sets ∷ rs)
   call_taken raw w sets rs is fine = rw (sets_stand bytes net apart small raw.args sets [] fine is.args, is.word) refl
 
   -- the steps of an expression put it on the stack
-  all_there : (r : Ranking) → IsFine r → (ss : List Step) → AreSteps bytes net r ss → (rs : List Ranking) (more : List Step) → all_behind bytes net names rs (ss ++ more) ≡ all_behind bytes net names (r ∷ rs) more
+  all_there : (r : Ranking) → IsFine r → (ss : List Step) → AreSteps bytes net r ss → (rs : List Ranking) (more : List Step)
+      → all_behind bytes net names rs (ss ++ more) ≡ all_behind bytes net names (r ∷ rs) more
   all_there (call c) fine ss is rs more =
-      rw is.1 (taken (step.Call is.0) more rs (call_of (word_of c) (sets_in c) ∷ rs) (call_taken is.0 (word_of c) (sets_in c) rs is.2.0 fine.0) ∙ ap (λ (r : Ranking). all_behind bytes net names (r ∷ rs) more) (call_there c))
+      rw is.1 (taken (step.Call is.0) more rs (call_of (word_of c) (sets_in c) ∷ rs) (call_taken is.0 (word_of c) (sets_in c) rs is.2.0 fine.0)
+      ∙ ap (λ (r : Ranking). all_behind bytes net names (r ∷ rs) more) (call_there c))
   all_there (calls []) fine ss is rs more = absurd fine
   all_there (calls (c ∷ cs)) fine ss is rs more =
-      rw is.1 (taken (step.Call is.0) more rs (call_of (word_of c) (map set_in (c ∷ cs)) ∷ rs) (call_taken is.0 (word_of c) (map set_in (c ∷ cs)) rs is.2 (sets_fine c (c ∷ cs) fine.1)) ∙ ap (λ (r : Ranking). all_behind bytes net names (r ∷ rs) more) (calls_there c cs fine.0 fine.1))
+      rw is.1 (taken (step.Call is.0) more rs (call_of (word_of c) (map set_in (c ∷ cs)) ∷ rs) (call_taken is.0 (word_of c) (map set_in (c ∷ cs)) rs is.2 (sets_fine c (c ∷ cs) fine.1))
+      ∙ ap (λ (r : Ranking). all_behind bytes net names (r ∷ rs) more) (calls_there c cs fine.0 fine.1))
   all_there (prefer a b) fine ss is rs more =
       rw (is.3, append_assoc (is.0 ++ is.1) (step.Above is.2 ∷ []) more, append_assoc is.0 is.1 (step.Above is.2 ∷ more))
       (all_there a fine.0 is.0 is.4 rs (is.1 ++ step.Above is.2 ∷ more) ∙ all_there b fine.1 is.1 is.5 (a ∷ rs) (step.Above is.2 ∷ more))
@@ -151,8 +155,12 @@ module _ (bytes : List ℕ) (net : PlainNet) (apart : IsDistinct bytes_eq (site_
     passes (call c) fine ss is = rw is.1 (alone (step.Call is.0) (one is.0 c is.2.0 fine))
     passes (calls []) fine ss is = absurd fine
     passes (calls (c ∷ cs)) fine ss is = rw is.1 (alone (step.Call is.0) (ranked is.0 c cs is.2 fine.1))
-    passes (prefer a b) fine ss is = rw is.3 (each-append check (is.0 ++ is.1) (step.Above is.2 ∷ []) (each-append check is.0 is.1 (passes a fine.0 is.0 is.4) (passes b fine.1 is.1 is.5)) (alone (step.Above is.2) (above is.2)))
-    passes (either a b) fine ss is = rw is.2 (each-append check (is.0 ++ is.1) (step.Or ∷ []) (each-append check is.0 is.1 (passes a fine.0.0 is.0 is.3) (passes b fine.0.1 is.1 is.4)) (alone step.Or or))
+    passes (prefer a b) fine ss is =
+        rw is.3 (each-append check (is.0 ++ is.1) (step.Above is.2 ∷ [])
+        (each-append check is.0 is.1 (passes a fine.0 is.0 is.4) (passes b fine.1 is.1 is.5)) (alone (step.Above is.2) (above is.2)))
+    passes (either a b) fine ss is =
+        rw is.2 (each-append check (is.0 ++ is.1) (step.Or ∷ [])
+        (each-append check is.0 is.1 (passes a fine.0.0 is.0 is.3) (passes b fine.0.1 is.1 is.4)) (alone step.Or or))
     passes (both a b) fine ss is = rw is.2 (each-append check (is.0 ++ is.1) (step.And ∷ []) (each-append check is.0 is.1 (passes a fine.0 is.0 is.3) (passes b fine.1 is.1 is.4)) (alone step.And and))
     passes (negated a) fine ss is = rw is.1 (each-append check is.0 (step.Not ∷ []) (passes a fine.0 is.0 is.2) (alone step.Not not))
 

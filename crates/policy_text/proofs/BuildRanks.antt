@@ -30,7 +30,9 @@ module _ (bytes : List ℕ) (net : PlainNet) (apart : IsDistinct bytes_eq (site_
       let y = marked b fine.1 is.1 is.5 in
       record {
         mark = above_mark is.2 x.mark y.mark;
-        is = λ ms more. rw (is.3, append_assoc (is.0 ++ is.1) (step.Above is.2 ∷ []) more, append_assoc is.0 is.1 (step.Above is.2 ∷ more)) (x.is ms (is.1 ++ step.Above is.2 ∷ more) ∙ y.is (x.mark ∷ ms) (step.Above is.2 ∷ more));
+        is =
+            λ ms more. rw (is.3, append_assoc (is.0 ++ is.1) (step.Above is.2 ∷ []) more, append_assoc is.0 is.1 (step.Above is.2 ∷ more))
+            (x.is ms (is.1 ++ step.Above is.2 ∷ more) ∙ y.is (x.mark ∷ ms) (step.Above is.2 ∷ more));
         broken = rw (x.broken, y.broken) refl;
         first = λ none. absurd none;
       }
@@ -48,7 +50,9 @@ module _ (bytes : List ℕ) (net : PlainNet) (apart : IsDistinct bytes_eq (site_
       let y = marked b fine.1 is.1 is.4 in
       record {
         mark = and_mark x.mark y.mark;
-        is = λ ms more. rw (is.2, append_assoc (is.0 ++ is.1) (step.And ∷ []) more, append_assoc is.0 is.1 (step.And ∷ more)) (x.is ms (is.1 ++ step.And ∷ more) ∙ y.is (x.mark ∷ ms) (step.And ∷ more));
+        is =
+            λ ms more. rw (is.2, append_assoc (is.0 ++ is.1) (step.And ∷ []) more, append_assoc is.0 is.1 (step.And ∷ more))
+            (x.is ms (is.1 ++ step.And ∷ more) ∙ y.is (x.mark ∷ ms) (step.And ∷ more));
         broken = rw (x.broken, y.broken) refl;
         first = λ none. rw (x.first none.0, y.first none.1) refl;
       }

@@ -20,11 +20,15 @@ use Rattle.policy_base.specs.declared.policy.FromSet.TheVariants as from_set
 use Rattle.policy_base.specs.declared.policy.Origin.{Origin}
 use Rattle.policy_base.specs.Policies.{Ranking, call, calls, prefer, either, both, negated, PlainStatement, PlainPolicy}
 use Rattle.policy_text.specs.PolicyText as text
-use Rattle.policy_text.specs.PolicyText.{names_from, names_in, are_all, joined_names, set_text, braced_names, place_text, joined_places, has_sets, sets_text, call_text, calls_text, opening, closing, ranking_text, is_everything, patterns_text, from_text, statement_line, origin_line, policy_text}
+use Rattle.policy_text.specs.PolicyText.{names_from, names_in, are_all, joined_names, set_text, braced_names, place_text, joined_places, has_sets, sets_text, call_text}
+use Rattle.policy_text.specs.PolicyText.{calls_text, opening, closing, ranking_text, is_everything, patterns_text, from_text, statement_line, origin_line, policy_text}
 use Rattle.policy_text.proofs.Words as words
-use Rattle.policy_text.proofs.Words.{Word, sign, name, figure, name_words, set_words, braced_words, place_words, places_words, call_symbol, sets_words, call_words, calls_words, ranking_words, pattern_words, patterns_words, from_words, statement_words, origin_words, policy_words}
+use Rattle.policy_text.proofs.Words.{Word, sign, name, figure, name_words, set_words, braced_words, place_words, places_words, call_symbol, sets_words, call_words}
+use Rattle.policy_text.proofs.Words.{calls_words, ranking_words, pattern_words, patterns_words, from_words, statement_words, origin_words, policy_words}
 use Rattle.policy_text.proofs.Pieces.{is_free}
-use Rattle.policy_text.proofs.CutWords.{Cuts, CutsBefore, Ends, in_turn, before, ended, both_before, weaker, nothing, chosen, each_before, each_in_turn, CutsBefore-name, Cuts-comma, Cuts-end, Cuts-open, Cuts-close, Cuts-brace_open, Cuts-brace_close, Cuts-arrow, Cuts-above, Cuts-or, Cuts-and, Cuts-not, Cuts-le, Cuts-at, Cuts-from, Cuts-originate, CutsBefore-true, CutsBefore-any, CutsBefore-call}
+use Rattle.policy_text.proofs.CutWords.{Cuts, CutsBefore, Ends, in_turn, before, ended, both_before, weaker, nothing, chosen, each_before, each_in_turn, CutsBefore-name}
+use Rattle.policy_text.proofs.CutWords.{Cuts-comma, Cuts-end, Cuts-open, Cuts-close, Cuts-brace_open, Cuts-brace_close, Cuts-arrow, Cuts-above, Cuts-or, Cuts-and, Cuts-not}
+use Rattle.policy_text.proofs.CutWords.{Cuts-le, Cuts-at, Cuts-from, Cuts-originate, CutsBefore-true, CutsBefore-any, CutsBefore-call}
 use Rattle.policy_text.proofs.Figures.{is_figure_text-prefix, is_figure_text-number, CutsBefore-figure_text}
 
 abbrev pub AreNames : List (List ℕ) → Type 0
@@ -70,7 +74,8 @@ bracketed false {a} {v} f = rw (append-nil a) f
 bracketed true f = weaker (ended (before Cuts-open f) Cuts-close (λ t. refl))
 
 -- two sides of an operator
-sides : {a o c : List ℕ} {v w : List Word} {s : Symbol} → CutsBefore a v → Cuts o (sign s ∷ []) → ((t : List ℕ) → is_free (o ++ t) ≡ true) → CutsBefore c w → CutsBefore (a ++ o ++ c) (v ++ sign s ∷ [] ++ w)
+sides : {a o c : List ℕ} {v w : List Word} {s : Symbol} → CutsBefore a v → Cuts o (sign s ∷ []) → ((t : List ℕ) → is_free (o ++ t) ≡ true)
+    → CutsBefore c w → CutsBefore (a ++ o ++ c) (v ++ sign s ∷ [] ++ w)
 sides left joint stop right = before (ended left joint stop) right
 
 module _ (net : PlainNet) (named : AreNamed (sites net)) where
@@ -101,11 +106,13 @@ module _ (net : PlainNet) (named : AreNamed (sites net)) where
   Cuts-sets (Path ps) = Cuts-places ps
 
   -- a word with sets in brackets
-  in_round : (c : Call) {a : List ℕ} {v : List Word} → CutsBefore a v → CutsBefore (word_text (word_of c) ++ codes "(" ++ a ++ codes ")") (sign (call_symbol c) ∷ sign symbol.RoundOpen ∷ (v ++ sign symbol.RoundClose ∷ []))
+  in_round : (c : Call) {a : List ℕ} {v : List Word} → CutsBefore a v
+      → CutsBefore (word_text (word_of c) ++ codes "(" ++ a ++ codes ")") (sign (call_symbol c) ∷ sign symbol.RoundOpen ∷ (v ++ sign symbol.RoundClose ∷ []))
   in_round c inside = weaker (ended (before (ended (CutsBefore-call c) Cuts-open (λ t. refl)) inside) Cuts-close (λ t. refl))
 
   by_sets : (c : Call) (b : Bool)
-      → CutsBefore (word_text (word_of c) ++ (if b then codes "(" ++ sets_text net c ++ codes ")" else [])) (sign (call_symbol c) ∷ (if b then sign symbol.RoundOpen ∷ (sets_words net c ++ sign symbol.RoundClose ∷ []) else []))
+      → CutsBefore (word_text (word_of c) ++ (if b then codes "(" ++ sets_text net c ++ codes ")" else []))
+      (sign (call_symbol c) ∷ (if b then sign symbol.RoundOpen ∷ (sets_words net c ++ sign symbol.RoundClose ∷ []) else []))
   by_sets c true =
       let whole : word_text (word_of c) ++ codes "(" ++ sets_text net c ++ codes ")" ≡ word_text (word_of c) ++ (codes "(" ++ sets_text net c ++ codes ")") = simp append_assoc refl in
       subst (λ (a : List ℕ). CutsBefore a (sign (call_symbol c) ∷ sign symbol.RoundOpen ∷ (sets_words net c ++ sign symbol.RoundClose ∷ []))) whole (in_round c (Cuts-sets c))
@@ -120,8 +127,10 @@ module _ (net : PlainNet) (named : AreNamed (sites net)) where
   Cuts-calls [] = nothing
   Cuts-calls (c ∷ cs) =
       let rest = each_before Holds (text.next_sets net) (words.next_sets net) (λ x h. before Cuts-above (Cuts-sets x)) (λ x t. refl) cs (all_hold cs) in
-      let whole : word_text (word_of c) ++ codes "(" ++ (sets_text net c ++ flat_map (text.next_sets net) cs) ++ codes ")" ≡ word_text (word_of c) ++ codes "(" ++ sets_text net c ++ flat_map (text.next_sets net) cs ++ codes ")" = simp append_assoc refl in
-      subst (λ (b : List ℕ). CutsBefore b (sign (call_symbol c) ∷ sign symbol.RoundOpen ∷ (sets_words net c ++ flat_map (words.next_sets net) cs ++ sign symbol.RoundClose ∷ []))) whole (in_round c (both_before (Cuts-sets c) rest.0 rest.1))
+      let whole : word_text (word_of c) ++ codes "(" ++ (sets_text net c ++ flat_map (text.next_sets net) cs) ++ codes ")"
+      ≡ word_text (word_of c) ++ codes "(" ++ sets_text net c ++ flat_map (text.next_sets net) cs ++ codes ")" = simp append_assoc refl in
+      subst (λ (b : List ℕ). CutsBefore b (sign (call_symbol c) ∷ sign symbol.RoundOpen ∷ (sets_words net c ++ flat_map (words.next_sets net) cs ++ sign symbol.RoundClose ∷ []))) whole
+      (in_round c (both_before (Cuts-sets c) rest.0 rest.1))
 
   Cuts-ranking : (least : ℕ) (r : Ranking) → CutsBefore (ranking_text net least r) (ranking_words net least r)
   Cuts-ranking least (call c) = Cuts-call c
@@ -136,11 +145,13 @@ module _ (net : PlainNet) (named : AreNamed (sites net)) where
   Cuts-from_set (from_set.Named s) = (before Cuts-from (Cuts-names (names_in net s) (names_fine s)), record { ends = λ t free. refl })
 
 by_length : (p : PlainPattern) → IsPattern p → (b : Bool)
-    → CutsBefore (if b then prefix_text p.base else prefix_text p.base ++ codes " le " ++ decimal p.upto) (if b then figure (prefix_text p.base) ∷ [] else figure (prefix_text p.base) ∷ sign symbol.Le ∷ figure (decimal p.upto) ∷ [])
+    → CutsBefore (if b then prefix_text p.base else prefix_text p.base ++ codes " le " ++ decimal p.upto)
+    (if b then figure (prefix_text p.base) ∷ [] else figure (prefix_text p.base) ∷ sign symbol.Le ∷ figure (decimal p.upto) ∷ [])
 by_length p is true = CutsBefore-figure_text (prefix_text p.base) (is_figure_text-prefix p.base is.prefix)
 by_length p is false =
     let most : p.upto ≤ 32 = is.most in
-    sides (CutsBefore-figure_text (prefix_text p.base) (is_figure_text-prefix p.base is.prefix)) Cuts-le (λ t. refl) (CutsBefore-figure_text (decimal p.upto) (is_figure_text-number p.upto (omega arith)))
+    sides (CutsBefore-figure_text (prefix_text p.base) (is_figure_text-prefix p.base is.prefix)) Cuts-le (λ t. refl)
+    (CutsBefore-figure_text (decimal p.upto) (is_figure_text-number p.upto (omega arith)))
 
 Cuts-pattern : (p : PlainPattern) → IsPattern p → CutsBefore (pattern_text p) (pattern_words p)
 Cuts-pattern p is = by_length p is (p.upto == p.base.len)
@@ -166,7 +177,8 @@ module _ (net : PlainNet) (named : AreNamed (sites net)) where
       let prefix = CutsBefore-figure_text (prefix_text o.prefix) (is_figure_text-prefix o.prefix is) in
       ended (sides (before Cuts-originate prefix) Cuts-at (λ t. refl) (Cuts-names (names_in net o.at) (names_fine net named o.at))) Cuts-end (λ t. refl)
 
-  pub Cuts-policy : (policy : PlainPolicy) → AllByRecursion (λ (o : Origin). IsPrefix o.prefix) policy.origins → AllByRecursion (λ (s : PlainStatement). AllByRecursion IsPattern s.patterns) policy.statements
+  pub Cuts-policy : (policy : PlainPolicy) → AllByRecursion (λ (o : Origin). IsPrefix o.prefix) policy.origins
+      → AllByRecursion (λ (s : PlainStatement). AllByRecursion IsPattern s.patterns) policy.statements
       → Cuts (policy_text net policy) (policy_words net policy)
   Cuts-policy policy prefixes patterns =
       in_turn

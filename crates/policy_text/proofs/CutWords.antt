@@ -106,7 +106,9 @@ three false false false u v w h = refl
 
 no_item_word : (bs : List ℕ) → is_item_word bs ≡ false → item_word bs ≡ None
 unfolding is_item_word item_word
-no_item_word bs h = six (bytes_eq bs (codes "define")) (bytes_eq bs (codes "originate")) (bytes_eq bs (codes "at")) (bytes_eq bs (codes "from")) (bytes_eq bs (codes "true")) (bytes_eq bs (codes "le")) symbol.Define symbol.Originate symbol.At symbol.From symbol.True symbol.Le h
+no_item_word bs h =
+    six (bytes_eq bs (codes "define")) (bytes_eq bs (codes "originate")) (bytes_eq bs (codes "at")) (bytes_eq bs (codes "from"))
+    (bytes_eq bs (codes "true")) (bytes_eq bs (codes "le")) symbol.Define symbol.Originate symbol.At symbol.From symbol.True symbol.Le h
 
 no_operator : (bs : List ℕ) → is_operator bs ≡ false → operator bs ≡ None
 unfolding is_operator operator
@@ -169,19 +171,39 @@ comma : Cuts (44 ∷ []) (sign symbol.Comma ∷ [])
 comma = record { cut = λ t ws rest. IsCut-token kind.Comma 44 [] t (sign symbol.Comma) ws (BeginsWith-sign 44 kind.Comma refl refl refl refl refl refl refl t) (omega arith, tt) refl rest }
 
 semicolon : Cuts (59 ∷ []) (sign symbol.Semicolon ∷ [])
-semicolon = record { cut = λ t ws rest. IsCut-token kind.Semicolon 59 [] t (sign symbol.Semicolon) ws (BeginsWith-sign 59 kind.Semicolon refl refl refl refl refl refl refl t) (omega arith, tt) refl rest }
+semicolon =
+    record {
+      cut = λ t ws rest. IsCut-token kind.Semicolon 59 [] t (sign symbol.Semicolon) ws
+          (BeginsWith-sign 59 kind.Semicolon refl refl refl refl refl refl refl t) (omega arith, tt) refl rest;
+    }
 
 pub Cuts-open : Cuts (40 ∷ []) (sign symbol.RoundOpen ∷ [])
-Cuts-open = record { cut = λ t ws rest. IsCut-token kind.RoundOpen 40 [] t (sign symbol.RoundOpen) ws (BeginsWith-sign 40 kind.RoundOpen refl refl refl refl refl refl refl t) (omega arith, tt) refl rest }
+Cuts-open =
+    record {
+      cut = λ t ws rest. IsCut-token kind.RoundOpen 40 [] t (sign symbol.RoundOpen) ws
+          (BeginsWith-sign 40 kind.RoundOpen refl refl refl refl refl refl refl t) (omega arith, tt) refl rest;
+    }
 
 pub Cuts-close : Cuts (41 ∷ []) (sign symbol.RoundClose ∷ [])
-Cuts-close = record { cut = λ t ws rest. IsCut-token kind.RoundClose 41 [] t (sign symbol.RoundClose) ws (BeginsWith-sign 41 kind.RoundClose refl refl refl refl refl refl refl t) (omega arith, tt) refl rest }
+Cuts-close =
+    record {
+      cut = λ t ws rest. IsCut-token kind.RoundClose 41 [] t (sign symbol.RoundClose) ws
+          (BeginsWith-sign 41 kind.RoundClose refl refl refl refl refl refl refl t) (omega arith, tt) refl rest;
+    }
 
 brace_open : Cuts (123 ∷ []) (sign symbol.BraceOpen ∷ [])
-brace_open = record { cut = λ t ws rest. IsCut-token kind.BraceOpen 123 [] t (sign symbol.BraceOpen) ws (BeginsWith-sign 123 kind.BraceOpen refl refl refl refl refl refl refl t) (omega arith, tt) refl rest }
+brace_open =
+    record {
+      cut = λ t ws rest. IsCut-token kind.BraceOpen 123 [] t (sign symbol.BraceOpen) ws
+          (BeginsWith-sign 123 kind.BraceOpen refl refl refl refl refl refl refl t) (omega arith, tt) refl rest;
+    }
 
 brace_close : Cuts (125 ∷ []) (sign symbol.BraceClose ∷ [])
-brace_close = record { cut = λ t ws rest. IsCut-token kind.BraceClose 125 [] t (sign symbol.BraceClose) ws (BeginsWith-sign 125 kind.BraceClose refl refl refl refl refl refl refl t) (omega arith, tt) refl rest }
+brace_close =
+    record {
+      cut = λ t ws rest. IsCut-token kind.BraceClose 125 [] t (sign symbol.BraceClose) ws
+          (BeginsWith-sign 125 kind.BraceClose refl refl refl refl refl refl refl t) (omega arith, tt) refl rest;
+    }
 
 arrow : Cuts (61 ∷ 62 ∷ []) (sign symbol.Arrow ∷ [])
 arrow = record { cut = λ t ws rest. IsCut-token kind.Arrow 61 (62 ∷ []) t (sign symbol.Arrow) ws (BeginsWith-arrow t) (omega arith, (omega arith, tt)) refl rest }

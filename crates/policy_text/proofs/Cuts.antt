@@ -77,7 +77,9 @@ IsCut-token kind b bs t v ws front ascii means behind = record { ascii = AreAsci
   cut_at : (bytes before : List ℕ) (from n : ℕ) (place : Place) → bytes ≡ before ++ (w ++ t) → from ≡ length before → length (w ++ t) ≤ suc n
       → (ts : List Token) × (tokens_from (suc n) from place (w ++ t) ≡ Ok ts) × AreWords bytes (map (lexeme_of bytes) ts) (v ∷ ws)
   cut_at bytes before from n place is at room =
-      let rest = behind.cut bytes (before ++ w) (from + length w) n (place_after place w) (is ∙ sym (append_assoc before w t)) (omega (arith, length-append before w)) (omega (arith, length-append w t)) in (
+      let rest =
+      behind.cut bytes (before ++ w) (from + length w) n (place_after place w) (is ∙ sym (append_assoc before w t))
+      (omega (arith, length-append before w)) (omega (arith, length-append w t)) in (
         record { kind = kind; from = from; to = from + length w; place = place } ∷ rest.0,
         tokens_step n from place b (bs ++ t) (length w) _ rest.0 (front.0 place) (front.1 from place) (rw (take-append_seam w t, drop-append_seam w t) rest.1),
         (stands bytes kind w v from (from + length w) place (slice_there bytes before w t from is at) means, rest.2),

@@ -21,7 +21,9 @@ use Rattle.policy_base.specs.declared.policy.Origin.{Origin}
 use Rattle.policy_base.specs.Policies.{Ranking, call, calls, prefer, either, both, negated, PlainStatement, PlainPolicy}
 use Rattle.policy_text.specs.PolicyText.{names_in, are_all, has_sets, is_everything}
 use Rattle.policy_text.specs.Printable.{open_brackets}
-use Rattle.policy_text.proofs.Words.{Word, sign, name, figure, AreWords, next_name, name_words, set_words, braced_words, place_words, next_place, places_words, call_symbol, sets_words, next_sets, calls_words, in_brackets, ranking_words, pattern_words, next_pattern, patterns_words, from_words, statement_words, origin_words, policy_words}
+use Rattle.policy_text.proofs.Words.{Word, sign, name, figure, AreWords, next_name, name_words, set_words, braced_words, place_words, next_place, places_words, call_symbol}
+use Rattle.policy_text.proofs.Words.{sets_words, next_sets, calls_words, in_brackets, ranking_words, pattern_words, next_pattern, patterns_words, from_words}
+use Rattle.policy_text.proofs.Words.{statement_words, origin_words, policy_words}
 use Rattle.policy_text.proofs.Readings.{symbol_in, has_symbol}
 
 -- these words open no more than so many brackets at once, and close what they open
@@ -68,7 +70,9 @@ module _ (bytes : List ℕ) where
     close n [] ws are = absurd are
     close n (l ∷ ls) ws are = (ls, close_step n l ls are.0, are.1)
 
-    step : (n : ℕ) (ls : List Lexeme) (ws : List Word) → n + (1 + most) ≤ 64 → AreWords bytes ls (sign symbol.RoundOpen ∷ (v ++ sign symbol.RoundClose ∷ []) ++ ws) → (rest : List Lexeme) × (first_deep n ls ≡ first_deep n rest) × AreWords bytes rest ws
+    step : (n : ℕ) (ls : List Lexeme) (ws : List Word) → n + (1 + most) ≤ 64
+        → AreWords bytes ls (sign symbol.RoundOpen ∷ (v ++ sign symbol.RoundClose ∷ []) ++ ws)
+        → (rest : List Lexeme) × (first_deep n ls ≡ first_deep n rest) × AreWords bytes rest ws
     step n [] ws room are = absurd are
     step n (l ∷ ls) ws room are =
         let x = f.skip (n + 1) ls (sign symbol.RoundClose ∷ ws) (omega (arith, room)) (subst (λ (u : List Word). AreWords bytes ls u) (append_assoc v (sign symbol.RoundClose ∷ []) ws) are.1) in
@@ -158,7 +162,10 @@ module _ (bytes : List ℕ) where
 
     statement : (s : PlainStatement) → open_brackets 1 s.ranked ≤ 64 → IsShallow bytes (statement_words net s) 64
     statement s few =
-        in_turn (in_turn (in_turn (in_turn (lower (omega arith) (patterns s.patterns)) (one (sign symbol.Arrow) (λ k. (refl, refl)) 64)) (lower few (ranking 1 s.ranked))) (lower (omega arith) (sources s.from))) (one (sign symbol.Semicolon) (λ k. (refl, refl)) 64)
+        in_turn (in_turn
+        (in_turn (in_turn (lower (omega arith) (patterns s.patterns)) (one (sign symbol.Arrow) (λ k. (refl, refl)) 64)) (lower few (ranking 1 s.ranked)))
+        (lower (omega arith) (sources s.from)))
+        (one (sign symbol.Semicolon) (λ k. (refl, refl)) 64)
 
     origin : (o : Origin) → IsShallow bytes (origin_words net o) 64
     origin o =
@@ -170,7 +177,8 @@ module _ (bytes : List ℕ) where
     each_statement (s ∷ ss) all = in_turn (statement s all.0) (each_statement ss all.1)
 
     -- no bracket of a printed text is too deep
-    pub first_deep-none : (policy : PlainPolicy) → AllByRecursion (λ (s : PlainStatement). open_brackets 1 s.ranked ≤ 64) policy.statements → (ls : List Lexeme) → AreWords bytes ls (policy_words net policy ++ sign symbol.EndOfText ∷ []) → first_deep 0 ls ≡ None
+    pub first_deep-none : (policy : PlainPolicy) → AllByRecursion (λ (s : PlainStatement). open_brackets 1 s.ranked ≤ 64) policy.statements
+        → (ls : List Lexeme) → AreWords bytes ls (policy_words net policy ++ sign symbol.EndOfText ∷ []) → first_deep 0 ls ≡ None
     first_deep-none policy few ls are =
         let whole : IsShallow bytes (policy_words net policy) 64 = in_turn (each 64 (origin_words net) origin policy.origins) (each_statement policy.statements few) in
         let end = in_turn whole (one (sign symbol.EndOfText) (λ k. (refl, refl)) 64) in

@@ -73,7 +73,9 @@ pub set_named-there : (pre : List Site) (x : Site) (post : List Site) → IsDist
 set_named-there pre x post apart =
     let order : site_names (pre ++ x ∷ post) ≡ site_names pre ++ x.name ∷ site_names post = names-append pre (x ∷ post) in
     let split : IsDistinct bytes_eq (site_names pre ++ x.name ∷ site_names post) = subst (λ (v : List (List ℕ)). IsDistinct bytes_eq v) order apart in
-    let found = position-there (bytes_eq x.name) (site_names pre) x.name (site_names post) (others_before bytes_eq bytes_eq_apart (site_names pre) x.name (site_names post) split) (bytes_eq_self x.name) in
+    let found =
+    position-there (bytes_eq x.name) (site_names pre) x.name (site_names post)
+    (others_before bytes_eq bytes_eq_apart (site_names pre) x.name (site_names post) split) (bytes_eq_self x.name) in
     let size : length (site_names pre) ≡ length (singles 0 pre) = sizes 0 pre in
     let start : 0 + length pre ≡ length pre = omega arith in
     let sets : singles 0 (pre ++ x ∷ post) ≡ singles 0 pre ++ with_location no_location (length pre) ∷ singles (length pre + 1) post =

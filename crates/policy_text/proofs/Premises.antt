@@ -105,7 +105,14 @@ module _ (bytes : List ℕ) (net : PlainNet) (apart : IsDistinct bytes_eq (site_
   fine_statement s printable is = record { patterns = is.patterns; ranked = fine_ranking s.ranked printable.ranked is.ranked; calls = printable.calls; from = fine_from s.from printable.from is.from }
 
   pub readable_statement : (s : PlainStatement) → IsPrintableStatement net s → IsStatementValue s → IsReadableStatement bytes net s
-  readable_statement s printable is = record { patterns = printable.patterns; ranked = readable_ranking s.ranked printable.ranked is.ranked; brackets = printable.brackets; from = named_from s.from printable.from is.from }
+  readable_statement s printable is =
+      record {
+        patterns = printable.patterns;
+        ranked = readable_ranking s.ranked printable.ranked
+            is.ranked;
+        brackets = printable.brackets;
+        from = named_from s.from printable.from is.from;
+      }
 
   routers_within : (l : ℕ) → IsTrue (is_router net l) → IsTrue (is_location net l)
   routers_within l router = lt-ltb l (length net.routers + length net.peers) (omega (arith, ltb-true l (length net.routers) router))

@@ -30,16 +30,20 @@ use Rattle.policy_text.proofs.BuildItems.{IsFineStatement, IsFineOrigin}
 use Rattle.policy_text.proofs.BuildPolicies.{names_learnt, keeps_rules, builds}
 use Rattle.policy_text.proofs.Premises.{small_net, fine_statement, readable_statement, fine_origin, named_origin}
 
-items_there : (bytes : List ℕ) (ts : List Token) (items : List Item) → tokens_of bytes ≡ Ok ts → first_deep 0 (lexemes_of bytes ts (place_of bytes (length bytes))) ≡ None → items_of (lexemes_of bytes ts (place_of bytes (length bytes))) ≡ Ok items
+items_there : (bytes : List ℕ) (ts : List Token) (items : List Item) → tokens_of bytes ≡ Ok ts
+    → first_deep 0 (lexemes_of bytes ts (place_of bytes (length bytes))) ≡ None
+    → items_of (lexemes_of bytes ts (place_of bytes (length bytes))) ≡ Ok items
     → items_spelled bytes ≡ Ok items
 unfolding items_spelled
 items_there bytes ts items tokens deep read = rw (tokens, deep, read) refl
 
-names_there : (bytes : List ℕ) (net : PlainNet) (items : List Item) → net_names net ≡ sites_known (sites net) → all_learnt bytes (sites_known (sites net)) items ≡ Ok (sites_known (sites net)) → names_spelled bytes net items ≡ Ok (sites_known (sites net))
+names_there : (bytes : List ℕ) (net : PlainNet) (items : List Item) → net_names net ≡ sites_known (sites net)
+    → all_learnt bytes (sites_known (sites net)) items ≡ Ok (sites_known (sites net)) → names_spelled bytes net items ≡ Ok (sites_known (sites net))
 unfolding names_spelled
 names_there bytes net items names learnt = rw (names, learnt) refl
 
-policy_there : (bytes : List ℕ) (net : PlainNet) (items : List Item) (known : Names) (policy : PlainPolicy) → items_spelled bytes ≡ Ok items → names_spelled bytes net items ≡ Ok known → rules_kept bytes net known items ≡ Ok tt
+policy_there : (bytes : List ℕ) (net : PlainNet) (items : List Item) (known : Names) (policy : PlainPolicy) → items_spelled bytes ≡ Ok items
+    → names_spelled bytes net items ≡ Ok known → rules_kept bytes net known items ≡ Ok tt
     → policy_built bytes net known items ≡ Ok policy → spelled net bytes ≡ Ok policy
 unfolding spelled
 policy_there bytes net items known policy read names rules built = rw (read, names, rules) built
@@ -54,9 +58,15 @@ spelled-policy_text net policy is named values printable =
     let brackets = AllByRecursion-weaker (IsPrintableStatement net) _ policy.statements (λ s h. h.brackets) printable.statements in
     let prefixes = AllByRecursion-weaker IsOriginValue (λ (o : Origin). IsPrefix o.prefix) policy.origins (λ o h. h.prefix) values.origins in
     let origins = AllByRecursion-both (IsPrintableOrigin net) IsOriginValue (λ (o : Origin). IsNamed net o.at) (named_origin bytes net apart small) policy.origins printable.origins values.origins in
-    let fine_origins = AllByRecursion-both (IsPrintableOrigin net) IsOriginValue (IsFineOrigin bytes net apart small) (fine_origin bytes net apart small) policy.origins printable.origins values.origins in
-    let readable = AllByRecursion-both (IsPrintableStatement net) IsStatementValue (IsReadableStatement bytes net) (readable_statement bytes net apart small) policy.statements printable.statements values.statements in
-    let fine = AllByRecursion-both (IsPrintableStatement net) IsStatementValue (IsFineStatement bytes net apart small) (fine_statement bytes net apart small) policy.statements printable.statements values.statements in
+    let fine_origins =
+    AllByRecursion-both (IsPrintableOrigin net) IsOriginValue (IsFineOrigin bytes net apart small)
+    (fine_origin bytes net apart small) policy.origins printable.origins values.origins in
+    let readable =
+    AllByRecursion-both (IsPrintableStatement net) IsStatementValue (IsReadableStatement bytes net)
+    (readable_statement bytes net apart small) policy.statements printable.statements values.statements in
+    let fine =
+    AllByRecursion-both (IsPrintableStatement net) IsStatementValue (IsFineStatement bytes net apart small)
+    (fine_statement bytes net apart small) policy.statements printable.statements values.statements in
     let lexemes = lexemes_are_words net policy named prefixes patterns in
     let found = Reads-items bytes net policy origins readable _ lexemes.2 in
     let read = items_there bytes lexemes.0 found.0 lexemes.1 (first_deep-none bytes net policy brackets _ lexemes.2) found.1 in

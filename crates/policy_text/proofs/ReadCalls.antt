@@ -47,7 +47,8 @@ module _ (bytes : List ℕ) (net : PlainNet) where
   unfolding call_at
   with_word c l ls is = rw is refl
 
-  reads_set : (c : Call) → IsTrue (has_one_set c) → IsFilled net (set_in c) → ReaderOf bytes set_at (sets_words net) (λ (a : Arg) (d : Call). IsSetArg bytes net a (set_in d)) (λ ws. IsPast symbol.Comma ws) c
+  reads_set : (c : Call) → IsTrue (has_one_set c) → IsFilled net (set_in c)
+      → ReaderOf bytes set_at (sets_words net) (λ (a : Arg) (d : Call). IsSetArg bytes net a (set_in d)) (λ ws. IsPast symbol.Comma ws) c
   reads_set Any one filled = absurd (cc)
   reads_set Drop one filled = absurd (cc)
   reads_set Internal one filled = absurd (cc)
@@ -58,7 +59,8 @@ module _ (bytes : List ℕ) (net : PlainNet) where
   abbrev pub HasOne : Call → Type 0
   HasOne c = IsTrue (has_one_set c) × IsFilled net (set_in c)
 
-  reads_sets : (cs : List Call) → AllByRecursion HasOne cs → AllByRecursion (ReaderOf bytes set_at (sets_words net) (λ (a : Arg) (d : Call). IsSetArg bytes net a (set_in d)) (λ ws. IsPast symbol.Comma ws)) cs
+  reads_sets : (cs : List Call) → AllByRecursion HasOne cs
+      → AllByRecursion (ReaderOf bytes set_at (sets_words net) (λ (a : Arg) (d : Call). IsSetArg bytes net a (set_in d)) (λ ws. IsPast symbol.Comma ws)) cs
   reads_sets [] all = tt
   reads_sets (c ∷ cs) all = (reads_set c all.0.0 all.0.1, reads_sets cs all.1)
 
@@ -80,9 +82,14 @@ module _ (bytes : List ℕ) (net : PlainNet) where
       let more : List Word = flat_map (next_sets net) cs in
       let close : List Word = sign symbol.RoundClose ∷ ws in
       let inside = passes bytes symbol.RoundOpen ls (sign symbol.RoundOpen) (sets_words net c ++ more ++ sign symbol.RoundClose ∷ [] ++ ws) are refl in
-      let left : AreWords bytes inside.rest (sets_words net c ++ (more ++ close)) = subst (λ (v : List Word). AreWords bytes inside.rest v) (append_assoc (sets_words net c ++ more) (sign symbol.RoundClose ∷ []) ws ∙ append_assoc (sets_words net c) more close) inside.left in
+      let left : AreWords bytes inside.rest (sets_words net c ++ (more ++ close)) =
+      subst (λ (v : List Word). AreWords bytes inside.rest v)
+      (append_assoc (sets_words net c ++ more) (sign symbol.RoundClose ∷ []) ws ∙ append_assoc (sets_words net c) more close) inside.left in
       let first = reads_set c one.0 one.1 inside.rest (more ++ close) left (follows cs ws) in
-      let more_sets = Reads-chain bytes symbol.Above set_at (sets_words net) (λ (a : Arg) (d : Call). IsSetArg bytes net a (set_in d)) (λ v. IsPast symbol.Comma v) (λ v. refl) cs (reads_sets cs all) (length first.rest) (first.out ∷ []) first.rest close first.left refl refl (omega arith) in
+      let more_sets =
+      Reads-chain bytes symbol.Above set_at (sets_words net) (λ (a : Arg) (d : Call). IsSetArg bytes net a (set_in d))
+      (λ v. IsPast symbol.Comma v) (λ v. refl) cs (reads_sets cs all) (length first.rest)
+      (first.out ∷ []) first.rest close first.left refl refl (omega arith) in
       let rest = passes bytes symbol.RoundClose more_sets.rest (sign symbol.RoundClose) ws more_sets.left refl in
       record {
         out = record { word = word.Of k; args = more_sets.out; above = above_at first.rest };
@@ -109,11 +116,15 @@ module _ (bytes : List ℕ) (net : PlainNet) where
       let first : List Word = place_words net (names_in net a) in
       let second : List Word = place_words net (names_in net b) in
       let inside = passes bytes symbol.RoundOpen ls (sign symbol.RoundOpen) (places_words net (a ∷ b ∷ ss) ++ sign symbol.RoundClose ∷ [] ++ ws) are refl in
-      let left : AreWords bytes inside.rest (first ++ (sign symbol.Comma ∷ (second ++ more ++ close))) = subst (λ (v : List Word). AreWords bytes inside.rest v) (append_assoc (places_words net (a ∷ b ∷ ss)) (sign symbol.RoundClose ∷ []) ws ∙ append_assoc first (sign symbol.Comma ∷ second ++ more) close) inside.left in
+      let left : AreWords bytes inside.rest (first ++ (sign symbol.Comma ∷ (second ++ more ++ close))) =
+      subst (λ (v : List Word). AreWords bytes inside.rest v)
+      (append_assoc (places_words net (a ∷ b ∷ ss)) (sign symbol.RoundClose ∷ []) ws ∙ append_assoc first (sign symbol.Comma ∷ second ++ more) close) inside.left in
       let one = Reads-place bytes net (names_in net a) all.0 inside.rest _ left tt in
       let comma = passes bytes symbol.Comma one.rest (sign symbol.Comma) (second ++ more ++ close) one.left refl in
       let two = Reads-place bytes net (names_in net b) all.1.0 comma.rest (more ++ close) (subst (λ (v : List Word). AreWords bytes comma.rest v) (append_assoc second more close) comma.left) tt in
-      let more_sets = Reads-chain bytes symbol.Comma one_at (λ (s : LocSet). place_words net (names_in net s)) (IsSetArg bytes net) Anything (λ v. tt) ss (reads_places ss all.1.1) (length two.rest) (one.out ∷ two.out ∷ []) two.rest close two.left tt refl (omega arith) in
+      let more_sets =
+      Reads-chain bytes symbol.Comma one_at (λ (s : LocSet). place_words net (names_in net s)) (IsSetArg bytes net) Anything (λ v. tt) ss
+      (reads_places ss all.1.1) (length two.rest) (one.out ∷ two.out ∷ []) two.rest close two.left tt refl (omega arith) in
       let rest = passes bytes symbol.RoundClose more_sets.rest (sign symbol.RoundClose) ws more_sets.left refl in
       record {
         out = record { word = word.Path; args = more_sets.out; above = None };
@@ -132,7 +143,9 @@ module _ (bytes : List ℕ) (net : PlainNet) where
       let first : List Word = place_words net (names_in net a) in
       let second : List Word = place_words net (names_in net b) in
       let inside = passes bytes symbol.RoundOpen ls (sign symbol.RoundOpen) (places_words net (a ∷ b ∷ []) ++ sign symbol.RoundClose ∷ [] ++ ws) are refl in
-      let left : AreWords bytes inside.rest (first ++ (sign symbol.Comma ∷ (second ++ [] ++ close))) = subst (λ (v : List Word). AreWords bytes inside.rest v) (append_assoc (places_words net (a ∷ b ∷ [])) (sign symbol.RoundClose ∷ []) ws ∙ append_assoc first (sign symbol.Comma ∷ second ++ []) close) inside.left in
+      let left : AreWords bytes inside.rest (first ++ (sign symbol.Comma ∷ (second ++ [] ++ close))) =
+      subst (λ (v : List Word). AreWords bytes inside.rest v)
+      (append_assoc (places_words net (a ∷ b ∷ [])) (sign symbol.RoundClose ∷ []) ws ∙ append_assoc first (sign symbol.Comma ∷ second ++ []) close) inside.left in
       let one = Reads-place bytes net (names_in net a) fill inside.rest _ left tt in
       let comma = passes bytes symbol.Comma one.rest (sign symbol.Comma) (second ++ [] ++ close) one.left refl in
       let two = Reads-place bytes net (names_in net b) fill' comma.rest close (subst (λ (v : List Word). AreWords bytes comma.rest v) (append_assoc second [] close) comma.left) tt in
@@ -153,13 +166,17 @@ module _ (bytes : List ℕ) (net : PlainNet) where
   alone : (k : SetCall) (c : Call) → HasOne c → (ls : List Lexeme) (ws : List Word) → AreWords bytes ls (sign symbol.RoundOpen ∷ (sets_words net c ++ sign symbol.RoundClose ∷ []) ++ ws)
       → Reads bytes (sets_call k ls) (IsLoneCall bytes net (word.Of k) (set_in c ∷ [])) ws
   alone k c one ls ws are =
-      let x = Reads-sets_call k c [] one tt ls ws (subst (λ (v : List Word). AreWords bytes ls (sign symbol.RoundOpen ∷ (v ++ sign symbol.RoundClose ∷ []) ++ ws)) (sym (append-nil (sets_words net c))) are) in
+      let x =
+      Reads-sets_call k c [] one tt ls ws
+      (subst (λ (v : List Word). AreWords bytes ls (sign symbol.RoundOpen ∷ (v ++ sign symbol.RoundClose ∷ []) ++ ws)) (sym (append-nil (sets_words net c))) are) in
       record { out = x.out; rest = x.rest; is = x.is; right = (x.right.0, x.right.1 refl); left = x.left }
 
-  bare : (w : CallWord) (ls : List Lexeme) (ws : List Word) → AreWords bytes ls ws → Reads bytes (let r : Read RawCall = Ok (record { word = w; args = []; above = None }, ls) in r) (IsLoneCall bytes net w []) ws
+  bare : (w : CallWord) (ls : List Lexeme) (ws : List Word) → AreWords bytes ls ws
+      → Reads bytes (let r : Read RawCall = Ok (record { word = w; args = []; above = None }, ls) in r) (IsLoneCall bytes net w []) ws
   bare w ls ws are = record { out = record { word = w; args = []; above = None }; rest = ls; is = refl; right = (record { word = refl; args = tt }, refl); left = are }
 
-  by_call : (c : Call) → IsReadable c → (ls : List Lexeme) (ws : List Word) → AreWords bytes ls ((if has_sets c then sign symbol.RoundOpen ∷ (sets_words net c ++ sign symbol.RoundClose ∷ []) else []) ++ ws)
+  by_call : (c : Call) → IsReadable c → (ls : List Lexeme) (ws : List Word)
+      → AreWords bytes ls ((if has_sets c then sign symbol.RoundOpen ∷ (sets_words net c ++ sign symbol.RoundClose ∷ []) else []) ++ ws)
       → Reads bytes (call_behind (word_of c) ls) (IsLoneCall bytes net (word_of c) (sets_in c)) ws
   by_call Any filled ls ws are = bare word.Any ls ws are
   by_call Drop filled ls ws are = bare word.Drop ls ws are
@@ -171,7 +188,8 @@ module _ (bytes : List ℕ) (net : PlainNet) where
   by_call (Path (a ∷ b ∷ ss)) filled ls ws are = Reads-path_call a b ss filled.1 ls ws are
 
   -- a call
-  pub Reads-call : (c : Call) → IsReadable c → (ls : List Lexeme) (ws : List Word) → AreWords bytes ls (call_words net c ++ ws) → Reads bytes (call_at ls) (IsLoneCall bytes net (word_of c) (sets_in c)) ws
+  pub Reads-call : (c : Call) → IsReadable c → (ls : List Lexeme) (ws : List Word) → AreWords bytes ls (call_words net c ++ ws)
+      → Reads bytes (call_at ls) (IsLoneCall bytes net (word_of c) (sets_in c)) ws
   Reads-call c fine [] ws are = absurd are
   Reads-call c fine (l ∷ ls) ws are =
       let x = by_call c fine ls ws are.1 in

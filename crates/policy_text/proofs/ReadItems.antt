@@ -54,7 +54,8 @@ IsOriginItem bytes net item o = (l : Lexeme) × (ls : List Lexeme) × (item ≡ 
 abbrev pub IsNamed : PlainNet → LocSet → Type 0
 IsNamed net s = (n : List ℕ) × (ns : List (List ℕ)) × (names_in net s ≡ n ∷ ns)
 
-statement_parts : (ls behind body sources end rest : List Lexeme) (ps : List RawPattern) (ss : List Step) (f : Arg) → predicate_at ls ≡ Ok (ps, behind) → after symbol.Arrow behind ≡ Ok body → ranked_with (inner_at 64) [] body ≡ Ok (ss, sources)
+statement_parts : (ls behind body sources end rest : List Lexeme) (ps : List RawPattern) (ss : List Step) (f : Arg)
+    → predicate_at ls ≡ Ok (ps, behind) → after symbol.Arrow behind ≡ Ok body → ranked_with (inner_at 64) [] body ≡ Ok (ss, sources)
     → from_at sources ≡ Ok (f, end) → after symbol.Semicolon end ≡ Ok rest → statement_at ls ≡ Ok (State (record { patterns = ps; ranked = ss; from = f }), rest)
 unfolding statement_at
 statement_parts ls behind body sources end rest ps ss f a b c d e = rw (a, b, c, d, e) refl
@@ -70,7 +71,8 @@ module _ (bytes : List ℕ) (net : PlainNet) where
   by_upto p false same ls ws are other =
       let x = Reads-first bytes symbol.Figure ls (figure (prefix_text p.base)) (sign symbol.Le ∷ figure (decimal p.upto) ∷ ws) are refl in
       upto p x.out x.rest x.right.1 ls ws x.is x.left where
-        upto : (p : PlainPattern) (l : Lexeme) (rest : List Lexeme) → text bytes l ≡ prefix_text p.base → (ls : List Lexeme) (ws : List Word) → first_of symbol.Figure ls ≡ Ok (l, rest) → AreWords bytes rest (sign symbol.Le ∷ figure (decimal p.upto) ∷ ws)
+        upto : (p : PlainPattern) (l : Lexeme) (rest : List Lexeme) → text bytes l ≡ prefix_text p.base → (ls : List Lexeme) (ws : List Word)
+            → first_of symbol.Figure ls ≡ Ok (l, rest) → AreWords bytes rest (sign symbol.Le ∷ figure (decimal p.upto) ∷ ws)
             → Reads bytes (pattern_at ls) (λ a. IsRawPattern bytes a p) ws
         upto p l [] base ls ws first are = absurd are
         upto p l (m ∷ rest) base ls ws first are =
@@ -84,30 +86,44 @@ module _ (bytes : List ℕ) (net : PlainNet) where
   reads_each [] = tt
   reads_each (p ∷ ps) = (reads_pattern p, reads_each ps)
 
-  reads_patterns : (p : PlainPattern) (ps : List PlainPattern) (ls : List Lexeme) (ws : List Word) → AreWords bytes ls (pattern_words p ++ flat_map (with_joint symbol.Or pattern_words) ps ++ ws) → IsPast symbol.Le ws → IsPast symbol.Or ws
+  reads_patterns : (p : PlainPattern) (ps : List PlainPattern) (ls : List Lexeme) (ws : List Word)
+      → AreWords bytes ls (pattern_words p ++ flat_map (with_joint symbol.Or pattern_words) ps ++ ws) → IsPast symbol.Le ws → IsPast symbol.Or ws
       → Reads bytes (patterns_at ls) (λ xs. Pairs (IsRawPattern bytes) xs (p ∷ ps)) ws
-  reads_patterns p ps ls ws are le or = Reads-list bytes symbol.Or pattern_at pattern_words (IsRawPattern bytes) (λ v. IsPast symbol.Le v) (λ v. refl) p ps (reads_pattern p) (reads_each ps) ls ws are le or
+  reads_patterns p ps ls ws are le or =
+      Reads-list bytes symbol.Or pattern_at pattern_words (IsRawPattern bytes) (λ v. IsPast symbol.Le v) (λ v. refl) p ps (reads_pattern p)
+      (reads_each ps) ls ws are le or
 
   figure_first : (p : PlainPattern) (b : Bool) (ws : List Word)
       → IsPast symbol.True ((if b then figure (prefix_text p.base) ∷ [] else figure (prefix_text p.base) ∷ sign symbol.Le ∷ figure (decimal p.upto) ∷ []) ++ ws)
   figure_first p true ws = refl
   figure_first p false ws = refl
 
-  several : (p : PlainPattern) (ps : List PlainPattern) (ls : List Lexeme) (ws : List Word) → AreWords bytes ls (pattern_words p ++ flat_map (with_joint symbol.Or pattern_words) ps ++ ws) → IsPast symbol.Le ws → IsPast symbol.Or ws
+  several : (p : PlainPattern) (ps : List PlainPattern) (ls : List Lexeme) (ws : List Word)
+      → AreWords bytes ls (pattern_words p ++ flat_map (with_joint symbol.Or pattern_words) ps ++ ws) → IsPast symbol.Le ws → IsPast symbol.Or ws
       → Reads bytes (predicate_at ls) (λ xs. Pairs (IsRawPattern bytes) xs (p ∷ ps)) ws
   unfolding predicate_at
   several p ps ls ws are le or =
       let x = reads_patterns p ps ls ws are le or in
       let front : IsPast symbol.True (pattern_words p ++ flat_map (with_joint symbol.Or pattern_words) ps ++ ws) =
-      subst (λ (v : List Word). IsPast symbol.True v) (sym (append_assoc (pattern_words p) (flat_map (with_joint symbol.Or pattern_words) ps) ws)) (figure_first p (p.upto == p.base.len) (flat_map (with_joint symbol.Or pattern_words) ps ++ ws)) in
-      record { out = x.out; rest = x.rest; is = either-not bytes symbol.True ls (pattern_words p ++ flat_map (with_joint symbol.Or pattern_words) ps ++ ws) _ _ are front ∙ x.is; right = x.right; left = x.left }
+      subst (λ (v : List Word). IsPast symbol.True v) (sym (append_assoc (pattern_words p) (flat_map (with_joint symbol.Or pattern_words) ps) ws))
+      (figure_first p (p.upto == p.base.len) (flat_map (with_joint symbol.Or pattern_words) ps ++ ws)) in
+      record {
+        out = x.out;
+        rest = x.rest;
+        is = either-not bytes symbol.True ls (pattern_words p ++ flat_map (with_joint symbol.Or pattern_words) ps ++ ws) _ _ are front
+            ∙ x.is;
+        right = x.right;
+        left = x.left;
+      }
 
-  everything : (p : PlainPattern) (ls : List Lexeme) (ws : List Word) → is_everything p ≡ true → AreWords bytes ls (sign symbol.True ∷ ws) → Reads bytes (predicate_at ls) (λ xs. Pairs (IsRawPattern bytes) xs (p ∷ [])) ws
+  everything : (p : PlainPattern) (ls : List Lexeme) (ws : List Word) → is_everything p ≡ true → AreWords bytes ls (sign symbol.True ∷ ws)
+      → Reads bytes (predicate_at ls) (λ xs. Pairs (IsRawPattern bytes) xs (p ∷ [])) ws
   unfolding predicate_at
   everything p [] ws all are = absurd are
   everything p (l ∷ ls) ws all are = record { out = All ∷ []; rest = ls; is = either-here bytes symbol.True l ls (sign symbol.True) _ _ are.0 refl; right = (all, tt); left = are.1 }
 
-  by_everything : (b : Bool) (p : PlainPattern) (ls : List Lexeme) (ws : List Word) → is_everything p ≡ b → AreWords bytes ls ((if b then sign symbol.True ∷ [] else pattern_words p) ++ ws) → IsPast symbol.Le ws → IsPast symbol.Or ws
+  by_everything : (b : Bool) (p : PlainPattern) (ls : List Lexeme) (ws : List Word) → is_everything p ≡ b
+      → AreWords bytes ls ((if b then sign symbol.True ∷ [] else pattern_words p) ++ ws) → IsPast symbol.Le ws → IsPast symbol.Or ws
       → Reads bytes (predicate_at ls) (λ xs. Pairs (IsRawPattern bytes) xs (p ∷ [])) ws
   by_everything true p ls ws all are le or = everything p ls ws all are
   by_everything false p ls ws all are le or = several p [] ls ws (subst (λ (v : List Word). AreWords bytes ls (v ++ ws)) (sym (append-nil (pattern_words p))) are) le or
@@ -118,7 +134,8 @@ module _ (bytes : List ℕ) (net : PlainNet) where
   Reads-predicate (p ∷ []) some ls ws are le or = by_everything (is_everything p) p ls ws refl are le or
   Reads-predicate (p ∷ q ∷ ps) some ls ws are le or = several p (q ∷ ps) ls ws are le or
 
-  named_from : (s : LocSet) → IsNamed net s → (ls : List Lexeme) (ws : List Word) → AreWords bytes ls (name_words (names_in net s) ++ ws) → IsPast symbol.Comma ws → Reads bytes (set_at ls) (λ a. IsRawFrom bytes net a (from_set.Named s)) ws
+  named_from : (s : LocSet) → IsNamed net s → (ls : List Lexeme) (ws : List Word) → AreWords bytes ls (name_words (names_in net s) ++ ws)
+      → IsPast symbol.Comma ws → Reads bytes (set_at ls) (λ a. IsRawFrom bytes net a (from_set.Named s)) ws
   unfolding set_at
   named_from s has ls ws are other =
       let here : AreWords bytes ls (name_words (has.0 ∷ has.1) ++ ws) = subst (λ (ns : List (List ℕ)). AreWords bytes ls (name_words ns ++ ws)) has.2 are in
@@ -136,7 +153,8 @@ module _ (bytes : List ℕ) (net : PlainNet) where
   HasSources from_set.Any = Unit {0}
   HasSources (from_set.Named s) = IsNamed net s
 
-  Reads-from : (f : FromSet) → HasSources f → (ls : List Lexeme) (ws : List Word) → AreWords bytes ls (from_words net f ++ ws) → IsPast symbol.From ws → IsPast symbol.Comma ws → Reads bytes (from_at ls) (λ a. IsRawFrom bytes net a f) ws
+  Reads-from : (f : FromSet) → HasSources f → (ls : List Lexeme) (ws : List Word) → AreWords bytes ls (from_words net f ++ ws) → IsPast symbol.From ws
+      → IsPast symbol.Comma ws → Reads bytes (from_at ls) (λ a. IsRawFrom bytes net a f) ws
   unfolding from_at
   Reads-from from_set.Any has ls ws are other comma = record { out = arg.Any; rest = ls; is = either-not bytes symbol.From ls ws _ _ are other; right = refl; left = are }
   Reads-from (from_set.Named s) has [] ws are other comma = absurd are
@@ -155,7 +173,8 @@ module _ (bytes : List ℕ) (net : PlainNet) where
     pub brackets : open_brackets 1 s.ranked ≤ 64
     pub from : HasSources s.from
 
-  pub Reads-statement : (s : PlainStatement) → IsReadableStatement s → (ls : List Lexeme) (ws : List Word) → AreWords bytes ls (statement_words net s ++ ws) → Reads bytes (statement_at ls) (λ item. IsStatementItem bytes net item s) ws
+  pub Reads-statement : (s : PlainStatement) → IsReadableStatement s → (ls : List Lexeme) (ws : List Word)
+      → AreWords bytes ls (statement_words net s ++ ws) → Reads bytes (statement_at ls) (λ item. IsStatementItem bytes net item s) ws
   Reads-statement s fine ls ws are =
       let p : List Word = patterns_words s.patterns in
       let r : List Word = ranking_words net 1 s.ranked in
@@ -176,7 +195,8 @@ module _ (bytes : List ℕ) (net : PlainNet) where
         left = rest.left;
       }
 
-  pub Reads-originate : (o : Origin) → IsNamed net o.at → (ls : List Lexeme) (ws : List Word) → AreWords bytes ls (figure (prefix_text o.prefix) ∷ sign symbol.At ∷ (name_words (names_in net o.at) ++ sign symbol.Semicolon ∷ []) ++ ws)
+  pub Reads-originate : (o : Origin) → IsNamed net o.at → (ls : List Lexeme) (ws : List Word)
+      → AreWords bytes ls (figure (prefix_text o.prefix) ∷ sign symbol.At ∷ (name_words (names_in net o.at) ++ sign symbol.Semicolon ∷ []) ++ ws)
       → Reads bytes (originate_at ls) (λ item. IsOriginItem bytes net item o) ws
   unfolding originate_at
   Reads-originate o has ls ws are =
@@ -184,7 +204,9 @@ module _ (bytes : List ℕ) (net : PlainNet) where
       let semi : List Word = sign symbol.Semicolon ∷ ws in
       let prefix = Reads-first bytes symbol.Figure ls (figure (prefix_text o.prefix)) (sign symbol.At ∷ (name_words (names_in net o.at) ++ sign symbol.Semicolon ∷ []) ++ ws) are refl in
       let at = passes bytes symbol.At prefix.rest (sign symbol.At) (name_words (names_in net o.at) ++ sign symbol.Semicolon ∷ [] ++ ws) prefix.left refl in
-      let here : AreWords bytes at.rest (name_words ns ++ semi) = subst (λ (v : List Word). AreWords bytes at.rest v) (append_assoc (name_words ns) (sign symbol.Semicolon ∷ []) ws) (subst (λ (m : List (List ℕ)). AreWords bytes at.rest (name_words m ++ sign symbol.Semicolon ∷ [] ++ ws)) has.2 at.left) in
+      let here : AreWords bytes at.rest (name_words ns ++ semi) =
+      subst (λ (v : List Word). AreWords bytes at.rest v) (append_assoc (name_words ns) (sign symbol.Semicolon ∷ []) ws)
+      (subst (λ (m : List (List ℕ)). AreWords bytes at.rest (name_words m ++ sign symbol.Semicolon ∷ [] ++ ws)) has.2 at.left) in
       let names = Reads-names bytes net has.0 has.1 at.rest semi here refl in
       let rest = passes bytes symbol.Semicolon names.rest (sign symbol.Semicolon) ws names.left refl in
       record {

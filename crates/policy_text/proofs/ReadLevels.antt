@@ -115,7 +115,8 @@ module _ (bytes : List ℕ) (net : PlainNet) where
         left = x.left;
       }
 
-  calls_atom : (c : Call) (cs : List Call) → HasOne bytes net c → AllByRecursion (HasOne bytes net) cs → (most : ℕ) → ReadsFrom bytes net atoms Anywhere most (calls_words net (c ∷ cs)) (calls (c ∷ cs))
+  calls_atom : (c : Call) (cs : List Call) → HasOne bytes net c → AllByRecursion (HasOne bytes net) cs → (most : ℕ)
+      → ReadsFrom bytes net atoms Anywhere most (calls_words net (c ∷ cs)) (calls (c ∷ cs))
   calls_atom c cs one all most d out ls ws room are fits =
       let x = Reads-calls bytes net c cs one all ls ws are in
       record {
@@ -169,7 +170,8 @@ module _ (bytes : List ℕ) (net : PlainNet) where
       record { atom = atom; unit = unit; joint = joint; choice = choice; ranked = ranked_from 1 v (calls (c ∷ cs)) choice }
 
   -- what is read without brackets is read in brackets too
-  in_brackets : (r : Ranking) (most most' : ℕ) (v : List Word) → most ≤ most' → RankedOpens most v r → ReadsFrom bytes net atoms Anywhere (1 + most') (sign symbol.RoundOpen ∷ (v ++ sign symbol.RoundClose ∷ [])) r
+  in_brackets : (r : Ranking) (most most' : ℕ) (v : List Word) → most ≤ most' → RankedOpens most v r
+      → ReadsFrom bytes net atoms Anywhere (1 + most') (sign symbol.RoundOpen ∷ (v ++ sign symbol.RoundClose ∷ [])) r
   in_brackets r most most' v less f d out ls ws room are fits = bracketed most v r f d out ls ws (omega (arith, room, less)) are fits
 
   AreRead-prefer : (a b : Ranking) → AreRead a → AreRead b → AreRead (prefer a b)

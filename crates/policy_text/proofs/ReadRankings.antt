@@ -52,7 +52,9 @@ pub record IsOpen (bytes : List ℕ) (net : PlainNet) (op : Symbol) (mark : Lexe
 
 module _ (bytes : List ℕ) (net : PlainNet) (op : Symbol) (mark : Lexeme → Step) (side : ℕ → Reader) (Fits : List Word → Type 0) where
   abbrev pub Opens : ℕ → List Word → Ranking → Type 0
-  Opens most v r = (d : ℕ) (out : List Step) (ls : List Lexeme) (ws : List Word) → most ≤ d → AreWords bytes ls (v ++ ws) → Fits ws → IsOpen bytes net op mark (side d) r (joins op mark (side d) out ls) out ws
+  Opens most v r =
+      (d : ℕ) (out : List Step) (ls : List Lexeme) (ws : List Word) → most ≤ d → AreWords bytes ls (v ++ ws) → Fits ws
+      → IsOpen bytes net op mark (side d) r (joins op mark (side d) out ls) out ws
 
   -- one side alone
   pub open_side : (most : ℕ) (v : List Word) (r : Ranking) → ReadsFrom bytes net side Fits most v r → Opens most v r
@@ -64,7 +66,14 @@ module _ (bytes : List ℕ) (net : PlainNet) (op : Symbol) (mark : Lexeme → St
   pub closed : (most : ℕ) (v : List Word) (r : Ranking) → Opens most v r → ReadsFrom bytes net (λ d. joins op mark (side d)) (λ ws. Fits ws × IsPast op ws) most v r
   closed most v r f d out ls ws room are fits =
       let x = f d out ls ws room are fits.0 in
-      record { out = out ++ x.steps; rest = x.rest; is = x.is ∙ chain_done op (link_of mark (side d)) x.count (out ++ x.steps) x.rest (past-not bytes op x.rest ws x.left fits.1); right = (x.steps, refl, x.right); left = x.left }
+      record {
+        out = out ++ x.steps;
+        rest = x.rest;
+        is = x.is
+            ∙ chain_done op (link_of mark (side d)) x.count (out ++ x.steps) x.rest (past-not bytes op x.rest ws x.left fits.1);
+        right = (x.steps, refl, x.right);
+        left = x.left;
+      }
 
   -- one side more
   module _ (whole a b : Ranking) (made : (l : Lexeme) (ss ts : List Step) → AreSteps bytes net a ss → AreSteps bytes net b ts → AreSteps bytes net whole (ss ++ ts ++ mark l ∷ [])) where
@@ -90,8 +99,10 @@ module _ (bytes : List ℕ) (net : PlainNet) (op : Symbol) (mark : Lexeme → St
           left = y.left;
         }
 
-    pub open_more : (most most' : ℕ) (v w : List Word) → ((ws : List Word) → Fits (sign op ∷ ws)) → Opens most v a → ReadsFrom bytes net side Fits most' w b → Opens (max most most') (v ++ sign op ∷ [] ++ w) whole
+    pub open_more : (most most' : ℕ) (v w : List Word) → ((ws : List Word) → Fits (sign op ∷ ws)) → Opens most v a
+        → ReadsFrom bytes net side Fits most' w b → Opens (max most most') (v ++ sign op ∷ [] ++ w) whole
     open_more most most' v w follow f g d out ls ws room are fits =
-        let left : AreWords bytes ls (v ++ (sign op ∷ (w ++ ws))) = subst (λ (u : List Word). AreWords bytes ls u) (append_assoc (v ++ sign op ∷ []) w ws ∙ append_assoc v (sign op ∷ []) (w ++ ws)) are in
+        let left : AreWords bytes ls (v ++ (sign op ∷ (w ++ ws))) =
+        subst (λ (u : List Word). AreWords bytes ls u) (append_assoc (v ++ sign op ∷ []) w ws ∙ append_assoc v (sign op ∷ []) (w ++ ws)) are in
         let x = f d out ls (sign op ∷ (w ++ ws)) (omega (arith, room)) left (follow (w ++ ws)) in
         side_more d out (joins op mark (side d) out ls) w ws most' g (omega (arith, room)) fits x.count x.rest x.steps x.is x.room x.right x.left

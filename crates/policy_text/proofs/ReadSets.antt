@@ -44,29 +44,35 @@ module _ (bytes : List ℕ) (net : PlainNet) where
       → Reads bytes (names_at ls) (λ out. AreNamesOf bytes out (n ∷ ns)) ws
   unfolding names_at
   Reads-names n ns ls ws are other =
-      Reads-list bytes symbol.Comma (first_of symbol.Name) (λ (m : List ℕ). name m ∷ []) (λ (l : Lexeme) (m : List ℕ). text bytes l ≡ m) Anything (λ w. tt) n ns (reads_name n) (reads_each ns) ls ws are tt other
+      Reads-list bytes symbol.Comma (first_of symbol.Name) (λ (m : List ℕ). name m ∷ []) (λ (l : Lexeme) (m : List ℕ). text bytes l ≡ m) Anything
+      (λ w. tt) n ns (reads_name n) (reads_each ns) ls ws are tt other
 
   Reads-braced : (n : List ℕ) (ns : List (List ℕ)) (ls : List Lexeme) (ws : List Word) → AreWords bytes ls (sign symbol.BraceOpen ∷ (name_words (n ∷ ns) ++ sign symbol.BraceClose ∷ []) ++ ws)
       → Reads bytes (braced_at ls) (λ out. AreNamesOf bytes out (n ∷ ns)) ws
   unfolding braced_at
   Reads-braced n ns ls ws are =
       let inside = passes bytes symbol.BraceOpen ls (sign symbol.BraceOpen) (name_words (n ∷ ns) ++ sign symbol.BraceClose ∷ [] ++ ws) are refl in
-      let names = Reads-names n ns inside.rest (sign symbol.BraceClose ∷ ws) (subst (λ (w : List Word). AreWords bytes inside.rest w) (append_assoc (name_words (n ∷ ns)) (sign symbol.BraceClose ∷ []) ws) inside.left) refl in
+      let names =
+      Reads-names n ns inside.rest (sign symbol.BraceClose ∷ ws)
+      (subst (λ (w : List Word). AreWords bytes inside.rest w) (append_assoc (name_words (n ∷ ns)) (sign symbol.BraceClose ∷ []) ws) inside.left) refl in
       let rest = passes bytes symbol.BraceClose names.rest (sign symbol.BraceClose) ws names.left refl in
       record { out = names.out; rest = rest.rest; is = rw (inside.is, names.is, rest.is) refl; right = names.right; left = rest.left }
 
-  any_set : (names : List (List ℕ)) (ls : List Lexeme) (ws : List Word) → are_all net names ≡ true → AreWords bytes ls (sign (symbol.Call word.Any) ∷ ws) → Reads bytes (set_at ls) (λ a. IsArgOf bytes net a names) ws
+  any_set : (names : List (List ℕ)) (ls : List Lexeme) (ws : List Word) → are_all net names ≡ true
+      → AreWords bytes ls (sign (symbol.Call word.Any) ∷ ws) → Reads bytes (set_at ls) (λ a. IsArgOf bytes net a names) ws
   unfolding set_at
   any_set names [] ws all are = absurd are
   any_set names (l ∷ ls) ws all are = record { out = arg.Any; rest = ls; is = either-here bytes (symbol.Call word.Any) l ls (sign (symbol.Call word.Any)) _ _ are.0 refl; right = all; left = are.1 }
 
-  named_set : (n : List ℕ) (ns : List (List ℕ)) (ls : List Lexeme) (ws : List Word) → AreWords bytes ls (name_words (n ∷ ns) ++ ws) → IsPast symbol.Comma ws → Reads bytes (set_at ls) (λ a. IsArgOf bytes net a (n ∷ ns)) ws
+  named_set : (n : List ℕ) (ns : List (List ℕ)) (ls : List Lexeme) (ws : List Word) → AreWords bytes ls (name_words (n ∷ ns) ++ ws)
+      → IsPast symbol.Comma ws → Reads bytes (set_at ls) (λ a. IsArgOf bytes net a (n ∷ ns)) ws
   unfolding set_at
   named_set n ns ls ws are other =
       let x = Reads-names n ns ls ws are other in
       record { out = arg.Names x.out; rest = x.rest; is = either-not bytes (symbol.Call word.Any) ls (name_words (n ∷ ns) ++ ws) _ _ are refl ∙ rw x.is refl; right = x.right; left = x.left }
 
-  by_all : (b : Bool) (names : List (List ℕ)) (ls : List Lexeme) (ws : List Word) → are_all net names ≡ b → AreFilled net names → AreWords bytes ls ((if b then sign (symbol.Call word.Any) ∷ [] else name_words names) ++ ws) → IsPast symbol.Comma ws
+  by_all : (b : Bool) (names : List (List ℕ)) (ls : List Lexeme) (ws : List Word) → are_all net names ≡ b → AreFilled net names
+      → AreWords bytes ls ((if b then sign (symbol.Call word.Any) ∷ [] else name_words names) ++ ws) → IsPast symbol.Comma ws
       → Reads bytes (set_at ls) (λ a. IsArgOf bytes net a names) ws
   by_all true names ls ws all filled are other = any_set names ls ws all are
   by_all false [] ls ws all filled are other = absurd (let e : true ≡ false = sym filled ∙ all in cc)
@@ -76,7 +82,8 @@ module _ (bytes : List ℕ) (net : PlainNet) where
       → Reads bytes (set_at ls) (λ a. IsArgOf bytes net a names) ws
   Reads-set names ls ws filled are other = by_all (are_all net names) names ls ws refl filled are other
 
-  any_place : (names : List (List ℕ)) (ls : List Lexeme) (ws : List Word) → are_all net names ≡ true → AreWords bytes ls (sign (symbol.Call word.Any) ∷ ws) → Reads bytes (one_at ls) (λ a. IsArgOf bytes net a names) ws
+  any_place : (names : List (List ℕ)) (ls : List Lexeme) (ws : List Word) → are_all net names ≡ true
+      → AreWords bytes ls (sign (symbol.Call word.Any) ∷ ws) → Reads bytes (one_at ls) (λ a. IsArgOf bytes net a names) ws
   unfolding one_at
   any_place names [] ws all are = absurd are
   any_place names (l ∷ ls) ws all are = record { out = arg.Any; rest = ls; is = either-here bytes (symbol.Call word.Any) l ls (sign (symbol.Call word.Any)) _ _ are.0 refl; right = all; left = are.1 }
@@ -93,7 +100,8 @@ module _ (bytes : List ℕ) (net : PlainNet) where
         left = x.left;
       }
 
-  braced_place : (n m : List ℕ) (ns : List (List ℕ)) (ls : List Lexeme) (ws : List Word) → AreWords bytes ls (braced_words (n ∷ m ∷ ns) ++ ws) → Reads bytes (one_at ls) (λ a. IsArgOf bytes net a (n ∷ m ∷ ns)) ws
+  braced_place : (n m : List ℕ) (ns : List (List ℕ)) (ls : List Lexeme) (ws : List Word) → AreWords bytes ls (braced_words (n ∷ m ∷ ns) ++ ws)
+      → Reads bytes (one_at ls) (λ a. IsArgOf bytes net a (n ∷ m ∷ ns)) ws
   unfolding one_at
   braced_place n m ns [] ws are = absurd are
   braced_place n m ns (l ∷ ls) ws are =
@@ -101,12 +109,15 @@ module _ (bytes : List ℕ) (net : PlainNet) where
       record {
         out = arg.Names x.out;
         rest = x.rest;
-        is = either-not bytes (symbol.Call word.Any) (l ∷ ls) (braced_words (n ∷ m ∷ ns) ++ ws) _ _ are refl ∙ either-here bytes symbol.BraceOpen l ls (sign symbol.BraceOpen) _ _ are.0 refl ∙ rw x.is refl;
+        is =
+            either-not bytes (symbol.Call word.Any) (l ∷ ls) (braced_words (n ∷ m ∷ ns) ++ ws) _ _ are refl
+            ∙ either-here bytes symbol.BraceOpen l ls (sign symbol.BraceOpen) _ _ are.0 refl ∙ rw x.is refl;
         right = x.right;
         left = x.left;
       }
 
-  by_place : (b : Bool) (names : List (List ℕ)) (ls : List Lexeme) (ws : List Word) → are_all net names ≡ b → AreFilled net names → AreWords bytes ls ((if b then sign (symbol.Call word.Any) ∷ [] else braced_words names) ++ ws)
+  by_place : (b : Bool) (names : List (List ℕ)) (ls : List Lexeme) (ws : List Word) → are_all net names ≡ b → AreFilled net names
+      → AreWords bytes ls ((if b then sign (symbol.Call word.Any) ∷ [] else braced_words names) ++ ws)
       → Reads bytes (one_at ls) (λ a. IsArgOf bytes net a names) ws
   by_place true names ls ws all filled are = any_place names ls ws all are
   by_place false [] ls ws all filled are = absurd (let e : true ≡ false = sym filled ∙ all in cc)

@@ -88,7 +88,8 @@ abbrev pub with_joint : {B : Type 0} → Symbol → (B → List Word) → B → 
 with_joint joint words b = sign joint ∷ words b
 
 -- a chain ends where its joint doesn't come, and else goes on with one link
-pub chain_done : {A : Type 0} (joint : Symbol) (link : Lexeme → A → List Lexeme → Read A) (n : ℕ) (so_far : A) (ls : List Lexeme) → past joint ls ≡ None → chain joint link n so_far ls ≡ Ok (so_far, ls)
+pub chain_done : {A : Type 0} (joint : Symbol) (link : Lexeme → A → List Lexeme → Read A) (n : ℕ) (so_far : A) (ls : List Lexeme)
+    → past joint ls ≡ None → chain joint link n so_far ls ≡ Ok (so_far, ls)
 unfolding chain
 chain_done joint link zero so_far ls none = refl
 chain_done joint link (suc n) so_far ls none = rw none refl
@@ -139,7 +140,9 @@ module _ {A B : Type 0} (bytes : List ℕ) (joint : Symbol) (reader : List Lexem
       → Reads bytes (reader ls >>= λ x. chain joint (linked reader) (length x.1) (x.0 ∷ []) x.1) (λ xs. Pairs R xs (b ∷ bs)) ws
   Reads-list b bs first all ls ws are fits other =
       let behind : List Word = flat_map (with_joint joint words) bs ++ ws in
-      let one : Reads bytes (reader ls) (λ a. R a b) behind = first ls behind (subst (λ (w : List Word). AreWords bytes ls w) (append_assoc (words b) (flat_map (with_joint joint words) bs) ws) are) (fits_next bs ws fits) in
+      let one : Reads bytes (reader ls) (λ a. R a b) behind =
+      first ls behind (subst (λ (w : List Word). AreWords bytes ls w) (append_assoc (words b) (flat_map (with_joint joint words) bs) ws) are)
+      (fits_next bs ws fits) in
       let more = Reads-chain bs all (length one.rest) (one.out ∷ []) one.rest ws one.left fits other (omega arith) in
       record { out = more.out; rest = more.rest; is = rw one.is more.is; right = rw more.right.1 (one.right, more.right.2); left = more.left }
 

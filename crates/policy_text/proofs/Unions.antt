@@ -78,7 +78,8 @@ module _ (bytes : List ℕ) (whole : List Site) (apart : IsDistinct bytes_eq (si
   abbrev Rest : LocSet → ℕ → List Site → Type 0
   Rest s l xs = (so_far : LocSet) → IsWords so_far → (ls : List Lexeme) → AreNamesOf bytes ls (names_from s l xs) → IsJoined bytes known so_far s l xs ls
 
-  absent : (s : LocSet) (l : ℕ) (x : Site) (xs : List Site) → holds s l ≡ false → Rest s (l + 1) xs → (so_far : LocSet) → IsWords so_far → (ls : List Lexeme) → AreNamesOf bytes ls (names_from s (l + 1) xs) → IsJoined bytes known so_far s l (x ∷ xs) ls
+  absent : (s : LocSet) (l : ℕ) (x : Site) (xs : List Site) → holds s l ≡ false → Rest s (l + 1) xs → (so_far : LocSet) → IsWords so_far
+      → (ls : List Lexeme) → AreNamesOf bytes ls (names_from s (l + 1) xs) → IsJoined bytes known so_far s l (x ∷ xs) ls
   absent s l x xs off rest so_far fine ls are =
       let y = rest so_far fine ls are in
       record {
@@ -91,7 +92,8 @@ module _ (bytes : List ℕ) (whole : List Site) (apart : IsDistinct bytes_eq (si
   joined_more : (so_far t all : LocSet) (k : Lexeme) (ks : List Lexeme) → set_at bytes known k ≡ Ok t → joined bytes known (union_of so_far t) ks ≡ Ok all → joined bytes known so_far (k ∷ ks) ≡ Ok all
   joined_more so_far t all k ks first more = rw (first, more) refl
 
-  present : (s : LocSet) (l : ℕ) (x : Site) (xs : List Site) → l < 768 → set_named known x.name ≡ Some (with_location no_location l) → holds s l ≡ true → Rest s (l + 1) xs → (so_far : LocSet) → IsWords so_far → (ls : List Lexeme)
+  present : (s : LocSet) (l : ℕ) (x : Site) (xs : List Site) → l < 768 → set_named known x.name ≡ Some (with_location no_location l)
+      → holds s l ≡ true → Rest s (l + 1) xs → (so_far : LocSet) → IsWords so_far → (ls : List Lexeme)
       → AreNamesOf bytes ls (x.name ∷ names_from s (l + 1) xs) → IsJoined bytes known so_far s l (x ∷ xs) ls
   present s l x xs small found on rest so_far fine [] are = absurd are
   present s l x xs small found on rest so_far fine (k ∷ ks) are =
@@ -107,7 +109,8 @@ module _ (bytes : List ℕ) (whole : List Site) (apart : IsDistinct bytes_eq (si
             ∙ take_in (holds so_far m) (m == l) (is_among s (l + 1) xs m) ∙ ap (λ (b : Bool). holds so_far m || ((m == l && b) || is_among s (l + 1) xs m)) (sym on);
       }
 
-  by_held : (s : LocSet) (l : ℕ) (x : Site) (xs : List Site) → l < 768 → set_named known x.name ≡ Some (with_location no_location l) → Rest s (l + 1) xs → (so_far : LocSet) → IsWords so_far → (ls : List Lexeme) (b : Bool) → holds s l ≡ b
+  by_held : (s : LocSet) (l : ℕ) (x : Site) (xs : List Site) → l < 768 → set_named known x.name ≡ Some (with_location no_location l)
+      → Rest s (l + 1) xs → (so_far : LocSet) → IsWords so_far → (ls : List Lexeme) (b : Bool) → holds s l ≡ b
       → AreNamesOf bytes ls (if b then x.name ∷ names_from s (l + 1) xs else names_from s (l + 1) xs) → IsJoined bytes known so_far s l (x ∷ xs) ls
   by_held s l x xs small found rest so_far fine ls true on are = present s l x xs small found on rest so_far fine ls are
   by_held s l x xs small found rest so_far fine ls false off are = absent s l x xs off rest so_far fine ls are
@@ -123,7 +126,8 @@ module _ (bytes : List ℕ) (whole : List Site) (apart : IsDistinct bytes_eq (si
       so_far fine ls (holds s l) refl are
 
   -- the names of a set stand for it
-  pub set_of_names-there : (s : LocSet) → IsWords s → ((l : ℕ) → IsTrue (holds s l) → l < length whole) → (ls : List Lexeme) → AreNamesOf bytes ls (names_from s 0 whole) → set_of_names bytes known ls ≡ Ok s
+  pub set_of_names-there : (s : LocSet) → IsWords s → ((l : ℕ) → IsTrue (holds s l) → l < length whole) → (ls : List Lexeme)
+      → AreNamesOf bytes ls (names_from s 0 whole) → set_of_names bytes known ls ≡ Ok s
   set_of_names-there s fine within ls are =
       let y = joins s whole [] 0 refl refl no_location IsWords-none ls are in
       y.is ∙ ap Ok (same_sets y.all s y.words fine (λ m low. y.has m low ∙ ap (λ (b : Bool). b || is_among s 0 whole m) (holds-none m low) ∙ held m)) where

@@ -3,7 +3,18 @@ ghost use Rattle.std.specs.Prelude.{◌≡◌, ◌++◌, ◌+◌, ◌<◌, ◌^�
 ghost use Rattle.std.specs.List.{AllByRecursion, flat_map};
 ghost use Rattle.net_base.specs.NameRule.{is_name};
 ghost use Rattle.net_base.specs.declared.net.Site.{Site as SiteValue};
-ghost use Rattle.policy_text.specs.PolicyText.{names_from, names_in as names_of_set, next_name, joined_names, are_all as are_all_names, set_text, braced_names, place_text, next_place as place_after, joined_places};
+ghost use Rattle.policy_text.specs.PolicyText.{
+  names_from,
+  names_in as names_of_set,
+  next_name,
+  joined_names,
+  are_all as are_all_names,
+  set_text,
+  braced_names,
+  place_text,
+  next_place as place_after,
+  joined_places,
+};
 ghost use Rattle.policy_text.specs.Values.{IsLocSet};
 
 use net_base::{Loc, LocSet, Name, Net, Site};

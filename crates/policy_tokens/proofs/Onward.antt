@@ -1,5 +1,6 @@
 -- One token of a text after another.
-use Rattle.std.proofs.Common.{◌≡◌, ℕ, zero, suc, ◌-◌, ◌+◌, ◌≤◌, ◌<◌, Bool, true, false, List, [], ◌∷◌, ◌++◌, length, take, drop, Result, Ok, Err, refl, sym, ap, ◌∙◌, subst, eqb-true, length-drop, drop-drop, take-append-drop, slice_index_or, arith}
+use Rattle.std.proofs.Common.{◌≡◌, ℕ, zero, suc, ◌-◌, ◌+◌, ◌≤◌, ◌<◌, Bool, true, false, List, [], ◌∷◌, ◌++◌, length, take, drop, Result, Ok, Err, refl, sym, ap, ◌∙◌, subst}
+use Rattle.std.proofs.Common.{eqb-true, length-drop, drop-drop, take-append-drop, slice_index_or, arith}
 use Rattle.std.proofs.lemmas.List.{append-nil, take_all}
 use Rattle.std.specs.Prelude.{◌==◌}
 use Rattle.net_base.specs.declared.place.Place.{Place}
@@ -41,7 +42,8 @@ ahead-any (suc n) (suc m) from place (b ∷ bs) le le' =
 
 -- what is ahead of a piece
 pub ahead_step : (text : List ℕ) (from : ℕ) (place : Place) (b : ℕ) (bs : List ℕ) → drop from text ≡ b ∷ bs
-    → ahead_of text from place ≡ with_piece (piece_taken place (piece_at (b ∷ bs))) (token_in from place (piece_at (b ∷ bs))) place (λ k. ahead_of text (from + k) (place_after place (take k (b ∷ bs))))
+    → ahead_of text from place
+    ≡ with_piece (piece_taken place (piece_at (b ∷ bs))) (token_in from place (piece_at (b ∷ bs))) place (λ k. ahead_of text (from + k) (place_after place (take k (b ∷ bs))))
 unfolding ahead
 ahead_step text from place b bs e =
     ap (λ z. ahead (length z) from place z) e
@@ -53,7 +55,8 @@ ahead_step text from place b bs e =
         ahead-any (length bs) (length (drop k (b ∷ bs))) (from + k) (place_after place (take k (b ∷ bs))) (drop k (b ∷ bs)) (omega (arith, length-drop k (b ∷ bs))) (omega arith)
         ∙ ap (λ z. ahead (length z) (from + k) (place_after place (take k (b ∷ bs))) z) left
 
-gap_step : (text : List ℕ) (from k : ℕ) (place : Place) (b : ℕ) (bs : List ℕ) → drop from text ≡ b ∷ bs → piece_at (b ∷ bs) ≡ piece.Gap k → ahead_of text from place ≡ ahead_of text (from + k) (behind_piece place b k)
+gap_step : (text : List ℕ) (from k : ℕ) (place : Place) (b : ℕ) (bs : List ℕ) → drop from text ≡ b ∷ bs → piece_at (b ∷ bs) ≡ piece.Gap k
+    → ahead_of text from place ≡ ahead_of text (from + k) (behind_piece place b k)
 gap_step text from k place b bs e is =
     let there : place_after place (take k (b ∷ bs)) ≡ behind_piece place b k = piece_placed place b bs k (ap (piece_taken place) is) in
     ahead_step text from place b bs e
@@ -73,10 +76,12 @@ token_step : (text : List ℕ) (from k : ℕ) (place : Place) (b : ℕ) (bs : Li
 token_step text from k place b bs kind e is =
     let len : k ≡ from + k - from = omega arith in
     let there : place_after place (take k (b ∷ bs)) ≡ behind_piece place b k = piece_placed place b bs k (ap (piece_taken place) is) in
-    let right : behind_piece place b k ≡ behind_token (record { kind = kind; from = from; to = from + k; place = place }) = rw (no_feed b bs kind k is) (ap (λ c. let q : Place = record { line = place.line; column = place.column + c } in q) len) in
+    let right : behind_piece place b k ≡ behind_token (record { kind = kind; from = from; to = from + k; place = place }) =
+    rw (no_feed b bs kind k is) (ap (λ c. let q : Place = record { line = place.line; column = place.column + c } in q) len) in
     ahead_step text from place b bs e
     ∙ ap (λ p. with_piece (piece_taken place p) (token_in from place p) place (λ k. ahead_of text (from + k) (place_after place (take k (b ∷ bs))))) is
-    ∙ ap (λ p. let t : Token = record { kind = kind; from = from; to = from + k; place = place } in let a : Ahead = (t ∷ (ahead_of text (from + k) p).0, (ahead_of text (from + k) p).1) in a) (there ∙ right)
+    ∙ ap (λ p. let t : Token = record { kind = kind; from = from; to = from + k; place = place } in let a : Ahead = (t ∷ (ahead_of text (from + k) p).0, (ahead_of text (from + k) p).1) in a)
+    (there ∙ right)
 
 stray_step : (text : List ℕ) (from : ℕ) (place : Place) (b : ℕ) (bs : List ℕ) → drop from text ≡ b ∷ bs → piece_at (b ∷ bs) ≡ piece.Stray → ahead_of text from place ≡ ([], next.Stray place)
 stray_step text from place b bs e is =
@@ -151,7 +156,8 @@ found_all found p a is = ap told (sym is) ∙ ap Ok (append-nil found)
 pub found_stray : (found : List Token) (p : Place) (a : Ahead) → with_found found ([], next.Stray p) ≡ a → told a ≡ Err (fault.Token p)
 found_stray found p a is = ap told (sym is)
 
-pub found_end : (text : List ℕ) (found : List Token) (x : Next) (a : Ahead) → ((t : Token) → x ≡ next.Token t → ⊥) → ((p : Place) → x ≡ next.Stray p → ⊥) → with_found found (from_next text x) ≡ a → told a ≡ Ok found
+pub found_end : (text : List ℕ) (found : List Token) (x : Next) (a : Ahead) → ((t : Token) → x ≡ next.Token t → ⊥)
+    → ((p : Place) → x ≡ next.Stray p → ⊥) → with_found found (from_next text x) ≡ a → told a ≡ Ok found
 found_end text found (next.Token t) a not_token not_stray is = absurd (not_token t refl)
 found_end text found (next.End p) a not_token not_stray is = found_all found p a is
 found_end text found (next.Stray p) a not_token not_stray is = absurd (not_stray p refl)
@@ -164,16 +170,19 @@ Ends place bytes (ts, next.End p) = p ≡ place_after place bytes
 Ends place bytes (ts, next.Stray p) = Unit {0}
 Ends place bytes (ts, next.Token t) = ⊥
 
-ends_more : (place next_place : Place) (bytes left : List ℕ) (tokens : List Token) (a : Ahead) → place_after next_place left ≡ place_after place bytes → Ends next_place left a → Ends place bytes (tokens ++ a.0, a.1)
+ends_more : (place next_place : Place) (bytes left : List ℕ) (tokens : List Token) (a : Ahead) → place_after next_place left ≡ place_after place bytes
+    → Ends next_place left a → Ends place bytes (tokens ++ a.0, a.1)
 ends_more place next_place bytes left tokens (ts, next.End p) same ends = ends ∙ same
 ends_more place next_place bytes left tokens (ts, next.Stray p) same ends = tt
 ends_more place next_place bytes left tokens (ts, next.Token t) same ends = ends
 
-ends_piece : (place : Place) (bytes : List ℕ) (tokens : List Token) (r : Result ℕ PolicyFault) (more : ℕ → Ahead) → ((k : ℕ) → r ≡ Ok k → Ends (place_after place (take k bytes)) (drop k bytes) (more k))
+ends_piece : (place : Place) (bytes : List ℕ) (tokens : List Token) (r : Result ℕ PolicyFault) (more : ℕ → Ahead)
+    → ((k : ℕ) → r ≡ Ok k → Ends (place_after place (take k bytes)) (drop k bytes) (more k))
     → Ends place bytes (with_piece r tokens place more)
 ends_piece place bytes tokens (Err e) more ends = tt
 ends_piece place bytes tokens (Ok k) more ends =
-    let same : place_after (place_after place (take k bytes)) (drop k bytes) ≡ place_after place bytes = sym (place_after-append place (take k bytes) (drop k bytes)) ∙ ap (place_after place) (take-append-drop k bytes) in
+    let same : place_after (place_after place (take k bytes)) (drop k bytes) ≡ place_after place bytes =
+    sym (place_after-append place (take k bytes) (drop k bytes)) ∙ ap (place_after place) (take-append-drop k bytes) in
     ends_more place (place_after place (take k bytes)) bytes (drop k bytes) tokens (more k) same (ends k refl)
 
 ahead_ends : (n from : ℕ) (place : Place) (bytes : List ℕ) → length bytes ≤ n → Ends place bytes (ahead n from place bytes)

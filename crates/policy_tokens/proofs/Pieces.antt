@@ -1,5 +1,6 @@
 -- The pieces of a text.
-use Rattle.std.proofs.Common.{◌≡◌, ℕ, suc, ◌+◌, ◌≤◌, ◌<◌, Bool, true, false, ◌⊎◌, inl, inr, List, [], ◌∷◌, length, Option, Some, None, Result, Ok, Err, refl, arith, ap, ◌∙◌, ◌++◌, subst, eqb-true, not}
+use Rattle.std.proofs.Common.{◌≡◌, ℕ, suc, ◌+◌, ◌≤◌, ◌<◌, Bool, true, false, ◌⊎◌, inl, inr, List, [], ◌∷◌, length, Option, Some, None, Result, Ok, Err, refl, arith, ap}
+use Rattle.std.proofs.Common.{◌∙◌, ◌++◌, subst, eqb-true, not}
 use Rattle.std.specs.Prelude.{◌==◌, nat_le}
 use Rattle.std.specs.List.{prefix_len, AllByRecursion}
 use Rattle.std.proofs.lemmas.List.Sums.{prefix_len-le-length}
@@ -51,7 +52,8 @@ gap_parts from place j n Gap some le gap = (parts, λ e h. refl)
     parts : (k : ℕ) → (let r : Result ℕ PolicyFault = Ok j in r ≡ Ok k) → Part from place n Gap [] k
     parts k e = let same = ok_same {F = PolicyFault} j k e in (omega arith, omega arith, inl (refl, subst Gap same gap))
 
-token_parts : (from : ℕ) (place : Place) (kind : TokenKind) (j n : ℕ) (Gap : ℕ → Type 0) → 0 < j → j ≤ n → Parts from place n Gap (Ok j) (record { kind = kind; from = from; to = from + j; place = place } ∷ [])
+token_parts : (from : ℕ) (place : Place) (kind : TokenKind) (j n : ℕ) (Gap : ℕ → Type 0) → 0 < j → j ≤ n
+    → Parts from place n Gap (Ok j) (record { kind = kind; from = from; to = from + j; place = place } ∷ [])
 token_parts from place kind j n Gap some le = (parts, λ e h. absurd cc)
   where
     here : Token

@@ -62,7 +62,8 @@ placed_ok place b bs j is k e = let same = ok_same {F = PolicyFault} j k e in su
 placed_err : (place : Place) (b : ℕ) (bs : List ℕ) (e : PolicyFault) → Placed place b bs (Err e)
 placed_err place b bs e k h = absurd cc
 
-run_placed : (test : ℕ → Bool) → NoFeed test → (place : Place) (b : ℕ) (bs : List ℕ) → (b == 10) ≡ false → place_after place (take (1 + prefix_len test bs) (b ∷ bs)) ≡ behind_piece place b (1 + prefix_len test bs)
+run_placed : (test : ℕ → Bool) → NoFeed test → (place : Place) (b : ℕ) (bs : List ℕ) → (b == 10) ≡ false
+    → place_after place (take (1 + prefix_len test bs) (b ∷ bs)) ≡ behind_piece place b (1 + prefix_len test bs)
 run_placed test none place b bs e =
     let there = first_passed place b (prefix_len test bs) bs e ∙ run_place test none (right_of place 1) bs ∙ right_of-more place (prefix_len test bs) in
     rw e there

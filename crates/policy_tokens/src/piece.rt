@@ -2,7 +2,18 @@
 ghost use Rattle.std.specs.Prelude.{◌≡◌, ◌≤◌, ◌<◌, ◌+◌, ℕ, length};
 ghost use Rattle.std.specs.List.{prefix_len};
 ghost use Rattle.net_base.specs.NameRule.{is_letter as letter, is_name_byte as word_byte};
-ghost use Rattle.policy_tokens.specs.Tokens.{is_blank as blank, in_line as line_byte, is_figure_byte as figure_byte, two_signs as pair, one_sign as single, word_piece as word, sign_at, piece_at, IsWithin};
+ghost use Rattle.policy_tokens.specs.Tokens.{
+  is_blank as blank,
+  in_line as line_byte,
+  is_figure_byte as figure_byte,
+  two_signs as pair,
+  one_sign as
+      single,
+  word_piece as word,
+  sign_at,
+  piece_at,
+  IsWithin,
+};
 
 use crate::token::TokenKind;
 

@@ -105,7 +105,8 @@ module _ (bytes : List ℕ) (net : PlainNet) (known : Names) where
       over_read (set_of_arg bytes net known) (call_value bytes net known) (one_at inside) _ _ (λ a.
       over_step (call_value bytes net known) (after symbol.Comma a.1) _ _ (λ second.
       over_read (set_of_arg bytes net known) (call_value bytes net known) (one_at second) _ _ (λ b.
-      over_links (places_of bytes net known) (call_value bytes net known) symbol.Comma one_link (place_link bytes net known) place_linked (length b.1) (a.0 ∷ b.0 ∷ []) _ b.1 (two_places bytes net known a.0 b.0) _ _ (λ sets.
+      over_links (places_of bytes net known) (call_value bytes net known) symbol.Comma one_link (place_link bytes net known) place_linked (length b.1)
+      (a.0 ∷ b.0 ∷ []) _ b.1 (two_places bytes net known a.0 b.0) _ _ (λ sets.
       over_step (call_value bytes net known) (after symbol.RoundClose sets.1) _ _ (λ rest.
       read_same _ _ rest (path_same bytes net known sets.0)))))))
 

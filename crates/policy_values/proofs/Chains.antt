@@ -12,7 +12,8 @@ abbrev pub LeadsTo : {A : Type 0} → Symbol → (Lexeme → A → List Lexeme �
 LeadsTo joint link so_far ls total = (n : ℕ) × (length ls ≤ n) × (chain joint link n so_far ls ≡ total)
 
 -- one link more
-pub goes_on : {A : Type 0} (joint : Symbol) (link : Lexeme → A → List Lexeme → Read A) (so_far : A) (ls : List Lexeme) (l : Lexeme) (rest : List Lexeme) (next : A) (after : List Lexeme) (total : Read A)
+pub goes_on : {A : Type 0} (joint : Symbol) (link : Lexeme → A → List Lexeme → Read A) (so_far : A) (ls : List Lexeme) (l : Lexeme)
+    (rest : List Lexeme) (next : A) (after : List Lexeme) (total : Read A)
     → past joint ls ≡ Some (l, rest) → link l so_far rest ≡ Ok (next, after) → length after < length ls → LeadsTo joint link so_far ls total → LeadsTo joint link next after total
 unfolding chain
 goes_on joint link so_far ls l rest next after total here read fewer (zero, le, is) = absurd (omega (arith, le, fewer))
@@ -30,7 +31,8 @@ stops joint link so_far ls l rest e total here read some (suc n, le, is) =
     sym is ∙ one
 
 -- no joint comes at once
-pub unjoined : {A : Type 0} (joint : Symbol) (link : Lexeme → A → List Lexeme → Read A) (n : ℕ) (so_far : A) (l : Lexeme) (ls : List Lexeme) → (number_of l.symbol == number_of joint) ≡ false → chain joint link n so_far (l ∷ ls) ≡ Ok (so_far, l ∷ ls)
+pub unjoined : {A : Type 0} (joint : Symbol) (link : Lexeme → A → List Lexeme → Read A) (n : ℕ) (so_far : A) (l : Lexeme) (ls : List Lexeme)
+    → (number_of l.symbol == number_of joint) ≡ false → chain joint link n so_far (l ∷ ls) ≡ Ok (so_far, l ∷ ls)
 unfolding chain
 unjoined joint link zero so_far l ls none = refl
 unjoined joint link (suc n) so_far l ls none = rw none refl

@@ -23,7 +23,8 @@ module _ (bytes : List ℕ) (net : PlainNet) (known : Names) where
   names_passed so_far [] = refl
   names_passed so_far (l ∷ ls) = by (λ more. names_passed more ls) (set_at bytes known l)
     where
-      by : ((more : LocSet) → names_of (joined bytes known more ls) ≡ each (name_known bytes known) ls) → (s : Result LocSet PolicyFault) → names_of (s >>= λ x. joined bytes known (union_of so_far x) ls) ≡ (names_of s >>= λ _. each (name_known bytes known) ls)
+      by : ((more : LocSet) → names_of (joined bytes known more ls) ≡ each (name_known bytes known) ls) → (s : Result LocSet PolicyFault)
+          → names_of (s >>= λ x. joined bytes known (union_of so_far x) ls) ≡ (names_of s >>= λ _. each (name_known bytes known) ls)
       by rest (Ok x) = rest (union_of so_far x)
       by rest (Err e) = refl
 
@@ -35,7 +36,9 @@ module _ (bytes : List ℕ) (net : PlainNet) (known : Names) where
   args_passed so_far [] = refl
   args_passed so_far (a ∷ as') = by (λ more. args_passed more as') (set_of_arg bytes net known a) (arg_known bytes known a) (arg_passed a)
     where
-      by : ((more : List LocSet) → names_of (sets_of bytes net known more as') ≡ each (arg_known bytes known) as') → (s : Result LocSet PolicyFault) (k : Result ⊤ PolicyFault) → names_of s ≡ k → names_of (s >>= λ x. sets_of bytes net known (so_far ++ x ∷ []) as') ≡ (k >>= λ _. each (arg_known bytes known) as')
+      by : ((more : List LocSet) → names_of (sets_of bytes net known more as') ≡ each (arg_known bytes known) as')
+          → (s : Result LocSet PolicyFault) (k : Result ⊤ PolicyFault) → names_of s ≡ k
+          → names_of (s >>= λ x. sets_of bytes net known (so_far ++ x ∷ []) as') ≡ (k >>= λ _. each (arg_known bytes known) as')
       by rest (Ok x) (Ok t) is = rest (so_far ++ x ∷ [])
       by rest (Ok x) (Err e) is = absurd cc
       by rest (Err e) (Ok t) is = absurd cc

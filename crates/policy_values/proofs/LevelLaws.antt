@@ -57,7 +57,8 @@ module _ {A : Type 0} (act : Step → A → A) (done : List Step → A) (follows
       by (Some q) = ap (levels.with_step act Not) (atom acting reading does out q.1) ∙ stepped Not (steps.atom_with reading out q.1)
       by None = atom acting reading does out ls
 
-  linked : (level : Level) (acting : levels.Reader A) (reading : steps.Reader) → Does acting reading → (joint : Lexeme) → Does (levels.side_link act level acting joint) (steps.side_link level reading joint)
+  linked : (level : Level) (acting : levels.Reader A) (reading : steps.Reader) → Does acting reading → (joint : Lexeme)
+      → Does (levels.side_link act level acting joint) (steps.side_link level reading joint)
   linked level acting reading does joint out ls = ap (levels.with_step act (step_of level joint)) (does out ls) ∙ stepped (step_of level joint) (reading out ls)
 
   -- what goes on does so from what was done
@@ -83,7 +84,8 @@ module _ {A : Type 0} (act : Step → A → A) (done : List Step → A) (follows
   joined : (level : Level) (acting : levels.Reader A) (reading : steps.Reader) → Does acting reading → Does (levels.joined act level acting) (steps.joined level reading)
   joined level acting reading does out ls =
       ap (λ z. z >>= λ x. chain (operator_of level) (levels.side_link act level acting) (length x.1) x.0 x.1) (does out ls)
-      ∙ goes_on (λ z rest. chain (operator_of level) (levels.side_link act level acting) (length rest) z rest) (λ z rest. chain (operator_of level) (steps.side_link level reading) (length rest) z rest)
+      ∙ goes_on (λ z rest. chain (operator_of level) (levels.side_link act level acting) (length rest) z rest)
+      (λ z rest. chain (operator_of level) (steps.side_link level reading) (length rest) z rest)
       (λ z rest. chained level acting reading does (length rest) z rest) (reading out ls)
 
   ranked : (acting : levels.Reader A) (reading : steps.Reader) → Does acting reading → Does (levels.ranked_with act acting) (steps.ranked_with reading)

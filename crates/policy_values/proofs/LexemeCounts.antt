@@ -21,7 +21,8 @@ one_at_most from place (piece.Gap k) = omega arith
 one_at_most from place (piece.Token kind k) = omega arith
 one_at_most from place piece.Stray = omega arith
 
-with_few : (n : ℕ) (r : Result ℕ PolicyFault) (tokens : List Token) (place : Place) (more : ℕ → Ahead) → length tokens ≤ 1 → ((k : ℕ) → length (more k).0 ≤ n) → length (with_piece r tokens place more).0 ≤ suc n
+with_few : (n : ℕ) (r : Result ℕ PolicyFault) (tokens : List Token) (place : Place) (more : ℕ → Ahead) → length tokens ≤ 1
+    → ((k : ℕ) → length (more k).0 ≤ n) → length (with_piece r tokens place more).0 ≤ suc n
 with_few n (Ok k) tokens place more one few = omega (arith, length-append tokens (more k).0, one, few k)
 with_few n (Err e) tokens place more one few = omega arith
 

@@ -146,7 +146,8 @@ module _ (bytes : List ℕ) (net : PlainNet) (known : Names) where
         calls = omega (arith, calls, k.calls);
       }
 
-  stack_from : (v : PartsValue) (ss : List Step) → v.calls ≤ 18446744073709551615 → Keeps (parts_from bytes net known v ss) → all_behind bytes net known v.stack ss ≡ Ok (parts_from bytes net known v ss).stack
+  stack_from : (v : PartsValue) (ss : List Step) → v.calls ≤ 18446744073709551615 → Keeps (parts_from bytes net known v ss)
+      → all_behind bytes net known v.stack ss ≡ Ok (parts_from bytes net known v ss).stack
   stack_from v [] le k = refl
   stack_from v (s ∷ ss) le k =
       let one = calls_onto s v le in
@@ -183,5 +184,6 @@ module _ (bytes : List ℕ) (net : PlainNet) (known : Names) where
   expression_read n ls = ranked_read (step_onto bytes net known) (parts_of bytes net known) (λ out s. followed no_parts out s) n [] ls
 
   -- what is read on from no part is what all steps come to
-  pub parts_read : (n : ℕ) (v : PartsValue) (ls : List Lexeme) (r : Read PartsValue) → v ≡ no_parts → levels.ranked_at (step_onto bytes net known) n v ls ≡ r → over (parts_of bytes net known) (steps.ranked_with (steps.inner_at n) [] ls) ≡ r
+  pub parts_read : (n : ℕ) (v : PartsValue) (ls : List Lexeme) (r : Read PartsValue) → v ≡ no_parts
+      → levels.ranked_at (step_onto bytes net known) n v ls ≡ r → over (parts_of bytes net known) (steps.ranked_with (steps.inner_at n) [] ls) ≡ r
   parts_read n v ls r none is = sym (expression_read n ls) ∙ ap (λ (x : PartsValue). levels.ranked_at (step_onto bytes net known) n x ls) (sym none) ∙ is

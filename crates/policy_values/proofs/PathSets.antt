@@ -73,5 +73,6 @@ module _ (bytes : List ℕ) (net : PlainNet) (known : Names) where
   pub path_same : (args : List Arg) → path_value (places_of args) ≡ call_value bytes net known (record { word = word.Path; args = args; above = None })
   path_same args =
       ap (λ (v : Result Ranking PolicyFault). let c : CallValue = record { above = None; places = within kind.Places PLACES (length args); value = v } in c)
-      (ranked_same PLACES (length args) (nat_le (length args) PLACES) refl (sets_of bytes net known [] args) (each (arg_known bytes known) args >>= λ _. Ok (call Drop)) (TooMany kind.Places (length args))
+      (ranked_same PLACES (length args) (nat_le (length args) PLACES) refl (sets_of bytes net known [] args)
+      (each (arg_known bytes known) args >>= λ _. Ok (call Drop)) (TooMany kind.Places (length args))
       (λ ss e. omega (arith, sets_length bytes net known [] args ss e)) (sets_known bytes net known (call Drop) args))

@@ -46,7 +46,9 @@ module _ (bytes : List ℕ) where
   -- a link, where its pattern was read
   pub link_ok : (joint : Lexeme) (v w : PatternsValue) (ls rest : List Lexeme) (r : Result PlainPattern PolicyFault) → over (pattern_at bytes) (pattern_in ls) ≡ Ok (r, rest)
       → (let told : Result PatternsValue PolicyFault = Ok (with_pattern v r) in told ≡ Ok w) → value_link bytes joint v ls ≡ Ok (w, rest)
-  link_ok joint v w ls rest r read is = rw read (ap (λ (x : PatternsValue). let y : PatternsValue × List Lexeme = (x, rest) in let z : Read PatternsValue = Ok y in z) (ok_same (with_pattern v r) w is))
+  link_ok joint v w ls rest r read is =
+      rw read (ap (λ (x : PatternsValue). let y : PatternsValue × List Lexeme = (x, rest) in let z : Read PatternsValue = Ok y in z)
+      (ok_same (with_pattern v r) w is))
 
   -- a link, where no pattern is
   pub link_err : (joint : Lexeme) (v : PatternsValue) (ls : List Lexeme) (e : PolicyFault) → over (pattern_at bytes) (pattern_in ls) ≡ Err e → value_link bytes joint v ls ≡ Err e
@@ -69,7 +71,8 @@ module _ (bytes : List ℕ) where
 
   -- patterns that are joined by `or`
   pub predicate_with : (ls rest : List Lexeme) (first : Result PlainPattern PolicyFault) (none v : PatternsValue) (r : Read PatternsValue)
-      → none ≡ no_patterns → past True ls ≡ None → over (pattern_at bytes) (pattern_in ls) ≡ Ok (first, rest) → (let told : Result PatternsValue PolicyFault = Ok (with_pattern none first) in told ≡ Ok v)
+      → none ≡ no_patterns → past True ls ≡ None → over (pattern_at bytes) (pattern_in ls) ≡ Ok (first, rest)
+      → (let told : Result PatternsValue PolicyFault = Ok (with_pattern none first) in told ≡ Ok v)
       → chain Or (value_link bytes) (length rest) v rest ≡ r → over (patterns_value bytes) (predicate_at ls) ≡ r
   unfolding predicate_at
   predicate_with ls rest first none v r begins absent read is e =
@@ -101,7 +104,8 @@ module _ (bytes : List ℕ) where
   pub patterns_figures : (ps : List RawPattern) → (patterns_value bytes ps).figures ≡ each (pattern_fine bytes) ps
   patterns_figures ps = figures_behind no_patterns ps
 
-  list_behind : (v : PatternsValue) (ps : List RawPattern) → v.figures ≡ Ok tt → each (pattern_fine bytes) ps ≡ Ok tt → v.count + length ps ≤ 16384 → patterns_of bytes v.list ps ≡ Ok (patterns_behind bytes v ps).list
+  list_behind : (v : PatternsValue) (ps : List RawPattern) → v.figures ≡ Ok tt → each (pattern_fine bytes) ps ≡ Ok tt → v.count + length ps ≤ 16384
+      → patterns_of bytes v.list ps ≡ Ok (patterns_behind bytes v ps).list
   list_behind v [] fine each_fine few = refl
   list_behind v (p ∷ ps) fine each_fine few = by (pattern_at bytes p) refl each_fine (λ w. list_behind w ps)
     where
@@ -110,7 +114,9 @@ module _ (bytes : List ℕ) where
           → patterns_of bytes v.list (p ∷ ps) ≡ Ok (patterns_behind bytes v (p ∷ ps)).list
       by (Ok q) is rest more =
           let w : PatternsValue = record { count = v.count + 1; figures = Ok tt; list = v.list ++ q ∷ [] } in
-          rw is (more w refl rest (omega (arith, few)) ∙ ap (λ (x : PatternsValue). let r : Result (List PlainPattern) PolicyFault = Ok (patterns_behind bytes x ps).list in r) (sym (ap (with_pattern v) is ∙ kept_fine v q fine (omega (arith, few)))))
+          rw is (more w refl rest (omega (arith, few))
+          ∙ ap (λ (x : PatternsValue). let r : Result (List PlainPattern) PolicyFault = Ok (patterns_behind bytes x ps).list in r)
+          (sym (ap (with_pattern v) is ∙ kept_fine v q fine (omega (arith, few)))))
       by (Err e) is rest more = absurd cc
 
   -- the patterns, where each figure is fine and there are no more than a policy may have

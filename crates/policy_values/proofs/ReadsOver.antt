@@ -22,14 +22,16 @@ pub over_read : {A B C D : Type 0} (f : A → B) (v : C → D) (r : Read A) (k :
 over_read f v (Ok x) k k' same = same x
 over_read f v (Err e) k k' same = refl
 
-over_link : {A B : Type 0} (f : A → B) (link : Lexeme → A → List Lexeme → Read A) (seen : Lexeme → B → List Lexeme → Read B) → ((l : Lexeme) (x : A) (ls : List Lexeme) → seen l (f x) ls ≡ over f (link l x ls))
+over_link : {A B : Type 0} (f : A → B) (link : Lexeme → A → List Lexeme → Read A) (seen : Lexeme → B → List Lexeme → Read B)
+    → ((l : Lexeme) (x : A) (ls : List Lexeme) → seen l (f x) ls ≡ over f (link l x ls))
     → (x : A) (ls : List Lexeme) (o : Option (Lexeme × List Lexeme)) (k : B × List Lexeme → Read B) (k' : A × List Lexeme → Read A) → ((y : A × List Lexeme) → k (f y.0, y.1) ≡ over f (k' y))
     → either o (λ l rest. seen l (f x) rest >>= k) (Ok (f x, ls)) ≡ over f (either o (λ l rest. link l x rest >>= k') (Ok (x, ls)))
 over_link f link seen same x ls None k k' more = refl
 over_link f link seen same x ls (Some (l, rest)) k k' more = rw (same l x rest) (over_read f f (link l x rest) k k' more)
 
 -- A chain whose links work on what the links so far come to.
-pub over_chain : {A B : Type 0} (f : A → B) (joint : Symbol) (link : Lexeme → A → List Lexeme → Read A) (seen : Lexeme → B → List Lexeme → Read B) → ((l : Lexeme) (x : A) (ls : List Lexeme) → seen l (f x) ls ≡ over f (link l x ls))
+pub over_chain : {A B : Type 0} (f : A → B) (joint : Symbol) (link : Lexeme → A → List Lexeme → Read A) (seen : Lexeme → B → List Lexeme → Read B)
+    → ((l : Lexeme) (x : A) (ls : List Lexeme) → seen l (f x) ls ≡ over f (link l x ls))
     → (n : ℕ) (x : A) (ls : List Lexeme) → chain joint seen n (f x) ls ≡ over f (chain joint link n x ls)
 unfolding chain
 over_chain f joint link seen same zero x ls = refl
@@ -37,7 +39,8 @@ over_chain f joint link seen same (suc n) x ls =
     over_link f link seen same x ls (past joint ls) (λ y. chain joint seen n y.0 y.1) (λ y. chain joint link n y.0 y.1) (λ y. over_chain f joint link seen same n y.0 y.1)
 
 -- behind such a chain
-pub over_links : {A B C D : Type 0} (f : A → B) (v : C → D) (joint : Symbol) (link : Lexeme → A → List Lexeme → Read A) (seen : Lexeme → B → List Lexeme → Read B) → ((l : Lexeme) (x : A) (ls : List Lexeme) → seen l (f x) ls ≡ over f (link l x ls))
+pub over_links : {A B C D : Type 0} (f : A → B) (v : C → D) (joint : Symbol) (link : Lexeme → A → List Lexeme → Read A) (seen : Lexeme → B → List Lexeme → Read B)
+    → ((l : Lexeme) (x : A) (ls : List Lexeme) → seen l (f x) ls ≡ over f (link l x ls))
     → (n : ℕ) (x : A) (y : B) (ls : List Lexeme) → y ≡ f x → (k : B × List Lexeme → Read D) (k' : A × List Lexeme → Read C) → ((z : A × List Lexeme) → k (f z.0, z.1) ≡ over v (k' z))
     → (chain joint seen n y ls >>= k) ≡ over v (chain joint link n x ls >>= k')
 over_links {A} {B} {C} {D} f v joint link seen same n x y ls is k k' more =

@@ -51,7 +51,8 @@ impl Reader<'_> {
     // The call of a word, by what stands behind the word.
     fn call_behind(&self, word: CallWord, at: &mut Lexeme) -> Result<CallRead, PolicyFault>
         requires stands { StandsIn self.now.text.now at.old }
-        ensures read { GivesUnless NoMemory (λ x. (plain_call x, left self.now.text.now at.new)) result (behind_read self.now.text.now self.now.whole.now.net.now (plain_names self.now.known.now) word (left self.now.text.now at.old)) }
+        ensures read { GivesUnless NoMemory (λ x. (plain_call x, left self.now.text.now at.new)) result
+            (behind_read self.now.text.now self.now.whole.now.net.now (plain_names self.now.known.now) word (left self.now.text.now at.old)) }
         ensures stands { StandsIn self.now.text.now at.new }
         ensures fewer { length (left self.now.text.now at.new) ≤ length (left self.now.text.now at.old) }
     {
@@ -69,7 +70,8 @@ impl Reader<'_> {
     #[tactic(auto, using(crate::proofs::CallLaws::call_inside))]
     pub(crate) fn call(&self, at: &mut Lexeme) -> Result<CallRead, PolicyFault>
         requires stands { StandsIn self.now.text.now at.old }
-        ensures read { GivesUnless NoMemory (λ x. (plain_call x, left self.now.text.now at.new)) result (over (call_value self.now.text.now self.now.whole.now.net.now (plain_names self.now.known.now)) (call_at (left self.now.text.now at.old))) }
+        ensures read { GivesUnless NoMemory (λ x. (plain_call x, left self.now.text.now at.new)) result
+            (over (call_value self.now.text.now self.now.whole.now.net.now (plain_names self.now.known.now)) (call_at (left self.now.text.now at.old))) }
         ensures stands { StandsIn self.now.text.now at.new }
         ensures fewer { length (left self.now.text.now at.new) ≤ length (left self.now.text.now at.old) }
     {

@@ -25,7 +25,8 @@ impl Reader<'_> {
     #[cycle(expression)]
     fn inner(&self, depth: u64, parts: &mut Parts, at: &mut Lexeme) -> Result<(), PolicyFault>
         requires stands { StandsIn self.now.text.now at.old }
-        ensures read { GivesUnless NoMemory (λ _. (parts_value parts.new, left self.now.text.now at.new)) result (inner_at (step_onto self.now.text.now self.now.whole.now.net.now (plain_names self.now.known.now)) depth (parts_value parts.old) (left self.now.text.now at.old)) }
+        ensures read { GivesUnless NoMemory (λ _. (parts_value parts.new, left self.now.text.now at.new)) result
+            (inner_at (step_onto self.now.text.now self.now.whole.now.net.now (plain_names self.now.known.now)) depth (parts_value parts.old) (left self.now.text.now at.old)) }
         ensures stands { StandsIn self.now.text.now at.new }
         ensures fewer { length (left self.now.text.now at.new) ≤ length (left self.now.text.now at.old) }
     {
@@ -39,7 +40,8 @@ impl Reader<'_> {
     #[cycle(expression)]
     fn atom(&self, depth: u64, parts: &mut Parts, at: &mut Lexeme) -> Result<(), PolicyFault>
         requires stands { StandsIn self.now.text.now at.old }
-        ensures read { GivesUnless NoMemory (λ _. (parts_value parts.new, left self.now.text.now at.new)) result (atom_at (step_onto self.now.text.now self.now.whole.now.net.now (plain_names self.now.known.now)) depth (parts_value parts.old) (left self.now.text.now at.old)) }
+        ensures read { GivesUnless NoMemory (λ _. (parts_value parts.new, left self.now.text.now at.new)) result
+            (atom_at (step_onto self.now.text.now self.now.whole.now.net.now (plain_names self.now.known.now)) depth (parts_value parts.old) (left self.now.text.now at.old)) }
         ensures stands { StandsIn self.now.text.now at.new }
         ensures fewer { length (left self.now.text.now at.new) ≤ length (left self.now.text.now at.old) }
     {
@@ -55,7 +57,8 @@ impl Reader<'_> {
     #[cycle(expression)]
     fn unit(&self, depth: u64, parts: &mut Parts, at: &mut Lexeme) -> Result<(), PolicyFault>
         requires stands { StandsIn self.now.text.now at.old }
-        ensures read { GivesUnless NoMemory (λ _. (parts_value parts.new, left self.now.text.now at.new)) result (unit_at (step_onto self.now.text.now self.now.whole.now.net.now (plain_names self.now.known.now)) depth (parts_value parts.old) (left self.now.text.now at.old)) }
+        ensures read { GivesUnless NoMemory (λ _. (parts_value parts.new, left self.now.text.now at.new)) result
+            (unit_at (step_onto self.now.text.now self.now.whole.now.net.now (plain_names self.now.known.now)) depth (parts_value parts.old) (left self.now.text.now at.old)) }
         ensures stands { StandsIn self.now.text.now at.new }
         ensures fewer { length (left self.now.text.now at.new) ≤ length (left self.now.text.now at.old) }
     {
@@ -70,7 +73,11 @@ impl Reader<'_> {
     #[cycle(expression)]
     fn more_units(&self, depth: u64, parts: &mut Parts, at: &mut Lexeme) -> Result<(), PolicyFault>
         requires stands { StandsIn self.now.text.now at.old }
-        ensures read { GivesUnless NoMemory (λ _. (parts_value parts.new, left self.now.text.now at.new)) result (chain Symbol.And (side_link (step_onto self.now.text.now self.now.whole.now.net.now (plain_names self.now.known.now)) Joint (unit_at (step_onto self.now.text.now self.now.whole.now.net.now (plain_names self.now.known.now)) depth)) (length (left self.now.text.now at.old)) (parts_value parts.old) (left self.now.text.now at.old)) }
+        ensures read { GivesUnless NoMemory (λ _. (parts_value parts.new, left self.now.text.now at.new)) result
+            (chain Symbol.And
+            (side_link (step_onto self.now.text.now self.now.whole.now.net.now (plain_names self.now.known.now)) Joint
+            (unit_at (step_onto self.now.text.now self.now.whole.now.net.now (plain_names self.now.known.now)) depth))
+            (length (left self.now.text.now at.old)) (parts_value parts.old) (left self.now.text.now at.old)) }
         ensures stands { StandsIn self.now.text.now at.new }
         ensures fewer { length (left self.now.text.now at.new) ≤ length (left self.now.text.now at.old) }
     {
@@ -85,7 +92,8 @@ impl Reader<'_> {
     #[cycle(expression)]
     fn joint(&self, depth: u64, parts: &mut Parts, at: &mut Lexeme) -> Result<(), PolicyFault>
         requires stands { StandsIn self.now.text.now at.old }
-        ensures read { GivesUnless NoMemory (λ _. (parts_value parts.new, left self.now.text.now at.new)) result (joint_at (step_onto self.now.text.now self.now.whole.now.net.now (plain_names self.now.known.now)) depth (parts_value parts.old) (left self.now.text.now at.old)) }
+        ensures read { GivesUnless NoMemory (λ _. (parts_value parts.new, left self.now.text.now at.new)) result
+            (joint_at (step_onto self.now.text.now self.now.whole.now.net.now (plain_names self.now.known.now)) depth (parts_value parts.old) (left self.now.text.now at.old)) }
         ensures stands { StandsIn self.now.text.now at.new }
         ensures fewer { length (left self.now.text.now at.new) ≤ length (left self.now.text.now at.old) }
     {
@@ -97,7 +105,11 @@ impl Reader<'_> {
     #[cycle(expression)]
     fn more_joints(&self, depth: u64, parts: &mut Parts, at: &mut Lexeme) -> Result<(), PolicyFault>
         requires stands { StandsIn self.now.text.now at.old }
-        ensures read { GivesUnless NoMemory (λ _. (parts_value parts.new, left self.now.text.now at.new)) result (chain Symbol.Or (side_link (step_onto self.now.text.now self.now.whole.now.net.now (plain_names self.now.known.now)) Choice (joint_at (step_onto self.now.text.now self.now.whole.now.net.now (plain_names self.now.known.now)) depth)) (length (left self.now.text.now at.old)) (parts_value parts.old) (left self.now.text.now at.old)) }
+        ensures read { GivesUnless NoMemory (λ _. (parts_value parts.new, left self.now.text.now at.new)) result
+            (chain Symbol.Or
+            (side_link (step_onto self.now.text.now self.now.whole.now.net.now (plain_names self.now.known.now)) Choice
+            (joint_at (step_onto self.now.text.now self.now.whole.now.net.now (plain_names self.now.known.now)) depth))
+            (length (left self.now.text.now at.old)) (parts_value parts.old) (left self.now.text.now at.old)) }
         ensures stands { StandsIn self.now.text.now at.new }
         ensures fewer { length (left self.now.text.now at.new) ≤ length (left self.now.text.now at.old) }
     {
@@ -112,7 +124,8 @@ impl Reader<'_> {
     #[cycle(expression)]
     fn choice(&self, depth: u64, parts: &mut Parts, at: &mut Lexeme) -> Result<(), PolicyFault>
         requires stands { StandsIn self.now.text.now at.old }
-        ensures read { GivesUnless NoMemory (λ _. (parts_value parts.new, left self.now.text.now at.new)) result (choice_at (step_onto self.now.text.now self.now.whole.now.net.now (plain_names self.now.known.now)) depth (parts_value parts.old) (left self.now.text.now at.old)) }
+        ensures read { GivesUnless NoMemory (λ _. (parts_value parts.new, left self.now.text.now at.new)) result
+            (choice_at (step_onto self.now.text.now self.now.whole.now.net.now (plain_names self.now.known.now)) depth (parts_value parts.old) (left self.now.text.now at.old)) }
         ensures stands { StandsIn self.now.text.now at.new }
         ensures fewer { length (left self.now.text.now at.new) ≤ length (left self.now.text.now at.old) }
     {
@@ -129,7 +142,11 @@ impl Reader<'_> {
         at: &mut Lexeme,
     ) -> Result<(), PolicyFault>
         requires stands { StandsIn self.now.text.now at.old }
-        ensures read { GivesUnless NoMemory (λ _. (parts_value parts.new, left self.now.text.now at.new)) result (chain Symbol.Above (side_link (step_onto self.now.text.now self.now.whole.now.net.now (plain_names self.now.known.now)) Ranked (choice_at (step_onto self.now.text.now self.now.whole.now.net.now (plain_names self.now.known.now)) depth)) (length (left self.now.text.now at.old)) (parts_value parts.old) (left self.now.text.now at.old)) }
+        ensures read { GivesUnless NoMemory (λ _. (parts_value parts.new, left self.now.text.now at.new)) result
+            (chain Symbol.Above
+            (side_link (step_onto self.now.text.now self.now.whole.now.net.now (plain_names self.now.known.now)) Ranked
+            (choice_at (step_onto self.now.text.now self.now.whole.now.net.now (plain_names self.now.known.now)) depth))
+            (length (left self.now.text.now at.old)) (parts_value parts.old) (left self.now.text.now at.old)) }
         ensures stands { StandsIn self.now.text.now at.new }
         ensures fewer { length (left self.now.text.now at.new) ≤ length (left self.now.text.now at.old) }
     {
@@ -151,7 +168,8 @@ impl Reader<'_> {
         at: &mut Lexeme,
     ) -> Result<(), PolicyFault>
         requires stands { StandsIn self.now.text.now at.old }
-        ensures read { GivesUnless NoMemory (λ _. (parts_value parts.new, left self.now.text.now at.new)) result (ranked_at (step_onto self.now.text.now self.now.whole.now.net.now (plain_names self.now.known.now)) depth (parts_value parts.old) (left self.now.text.now at.old)) }
+        ensures read { GivesUnless NoMemory (λ _. (parts_value parts.new, left self.now.text.now at.new)) result
+            (ranked_at (step_onto self.now.text.now self.now.whole.now.net.now (plain_names self.now.known.now)) depth (parts_value parts.old) (left self.now.text.now at.old)) }
         ensures stands { StandsIn self.now.text.now at.new }
         ensures fewer { length (left self.now.text.now at.new) ≤ length (left self.now.text.now at.old) }
     {
@@ -162,7 +180,8 @@ impl Reader<'_> {
     /// A ranked expression, in its parts. At most 64 brackets are open at once.
     pub fn ranked(&self, at: &mut Lexeme) -> Result<Parts, PolicyFault>
         requires stands { StandsIn self.now.text.now at.old }
-        ensures read { GivesUnless NoMemory (λ x. (parts_value x, left self.now.text.now at.new)) result (over (parts_of self.now.text.now self.now.whole.now.net.now (plain_names self.now.known.now)) (ranked_with (bracket_at BRACKETS) [] (left self.now.text.now at.old))) }
+        ensures read { GivesUnless NoMemory (λ x. (parts_value x, left self.now.text.now at.new)) result
+            (over (parts_of self.now.text.now self.now.whole.now.net.now (plain_names self.now.known.now)) (ranked_with (bracket_at BRACKETS) [] (left self.now.text.now at.old))) }
         ensures stands { StandsIn self.now.text.now at.new }
         ensures fewer { length (left self.now.text.now at.new) ≤ length (left self.now.text.now at.old) }
     {

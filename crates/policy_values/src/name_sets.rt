@@ -47,7 +47,8 @@ impl Reader<'_> {
         at: &mut Lexeme,
     ) -> Result<(), PolicyFault>
         requires stands { StandsIn self.now.text.now at.old }
-        ensures read { GivesUnless NoMemory (λ _. (joined.new, left self.now.text.now at.new)) result (chain Symbol.Comma (link_by (with_one self.now.text.now (plain_names self.now.known.now))) (length (left self.now.text.now at.old)) joined.old (left self.now.text.now at.old)) }
+        ensures read { GivesUnless NoMemory (λ _. (joined.new, left self.now.text.now at.new)) result
+            (chain Symbol.Comma (link_by (with_one self.now.text.now (plain_names self.now.known.now))) (length (left self.now.text.now at.old)) joined.old (left self.now.text.now at.old)) }
         ensures stands { StandsIn self.now.text.now at.new }
         ensures fewer { length (left self.now.text.now at.new) ≤ length (left self.now.text.now at.old) }
     {
@@ -62,7 +63,8 @@ impl Reader<'_> {
     #[tactic(auto, unfolding(policy_grammar::specs::Names::names_at))]
     pub fn names(&self, at: &mut Lexeme) -> Result<Result<LocSet, PolicyFault>, PolicyFault>
         requires stands { StandsIn self.now.text.now at.old }
-        ensures read { GivesUnless NoMemory (λ x. (x, left self.now.text.now at.new)) result (over (set_of_names self.now.text.now (plain_names self.now.known.now)) (names_at (left self.now.text.now at.old))) }
+        ensures read { GivesUnless NoMemory (λ x. (x, left self.now.text.now at.new)) result
+            (over (set_of_names self.now.text.now (plain_names self.now.known.now)) (names_at (left self.now.text.now at.old))) }
         ensures stands { StandsIn self.now.text.now at.new }
         ensures fewer { length (left self.now.text.now at.new) ≤ length (left self.now.text.now at.old) }
     {
@@ -76,7 +78,8 @@ impl Reader<'_> {
     #[tactic(auto, unfolding(policy_grammar::specs::Names::braced_at))]
     pub fn braced(&self, at: &mut Lexeme) -> Result<Result<LocSet, PolicyFault>, PolicyFault>
         requires stands { StandsIn self.now.text.now at.old }
-        ensures read { GivesUnless NoMemory (λ x. (x, left self.now.text.now at.new)) result (over (set_of_names self.now.text.now (plain_names self.now.known.now)) (braced_at (left self.now.text.now at.old))) }
+        ensures read { GivesUnless NoMemory (λ x. (x, left self.now.text.now at.new)) result
+            (over (set_of_names self.now.text.now (plain_names self.now.known.now)) (braced_at (left self.now.text.now at.old))) }
         ensures stands { StandsIn self.now.text.now at.new }
         ensures fewer { length (left self.now.text.now at.new) ≤ length (left self.now.text.now at.old) }
     {
@@ -90,7 +93,8 @@ impl Reader<'_> {
     #[tactic(auto, unfolding(policy_grammar::specs::Calls::set_at))]
     pub(crate) fn set(&self, at: &mut Lexeme) -> Result<Result<LocSet, PolicyFault>, PolicyFault>
         requires stands { StandsIn self.now.text.now at.old }
-        ensures read { GivesUnless NoMemory (λ x. (x, left self.now.text.now at.new)) result (over (set_of_arg self.now.text.now self.now.whole.now.net.now (plain_names self.now.known.now)) (set_at (left self.now.text.now at.old))) }
+        ensures read { GivesUnless NoMemory (λ x. (x, left self.now.text.now at.new)) result
+            (over (set_of_arg self.now.text.now self.now.whole.now.net.now (plain_names self.now.known.now)) (set_at (left self.now.text.now at.old))) }
         ensures stands { StandsIn self.now.text.now at.new }
         ensures fewer { length (left self.now.text.now at.new) ≤ length (left self.now.text.now at.old) }
     {
@@ -104,7 +108,8 @@ impl Reader<'_> {
     #[tactic(auto, unfolding(policy_grammar::specs::Calls::one_at))]
     pub(crate) fn one(&self, at: &mut Lexeme) -> Result<Result<LocSet, PolicyFault>, PolicyFault>
         requires stands { StandsIn self.now.text.now at.old }
-        ensures read { GivesUnless NoMemory (λ x. (x, left self.now.text.now at.new)) result (over (set_of_arg self.now.text.now self.now.whole.now.net.now (plain_names self.now.known.now)) (one_at (left self.now.text.now at.old))) }
+        ensures read { GivesUnless NoMemory (λ x. (x, left self.now.text.now at.new)) result
+            (over (set_of_arg self.now.text.now self.now.whole.now.net.now (plain_names self.now.known.now)) (one_at (left self.now.text.now at.old))) }
         ensures stands { StandsIn self.now.text.now at.new }
         ensures fewer { length (left self.now.text.now at.new) ≤ length (left self.now.text.now at.old) }
     {

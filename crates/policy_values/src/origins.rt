@@ -66,7 +66,9 @@ impl Reader<'_> {
     // More names, as long as a comma comes.
     fn more_origins(&self, found: &mut OriginNames, at: &mut Lexeme) -> Result<(), PolicyFault>
         requires stands { StandsIn self.now.text.now at.old }
-        ensures read { GivesUnless NoMemory (λ _. (found.new, left self.now.text.now at.new)) result (chain Symbol.Comma (link_by (with_one self.now.text.now self.now.whole.now.net.now (plain_names self.now.known.now))) (length (left self.now.text.now at.old)) found.old (left self.now.text.now at.old)) }
+        ensures read { GivesUnless NoMemory (λ _. (found.new, left self.now.text.now at.new)) result
+            (chain Symbol.Comma (link_by (with_one self.now.text.now self.now.whole.now.net.now (plain_names self.now.known.now)))
+            (length (left self.now.text.now at.old)) found.old (left self.now.text.now at.old)) }
         ensures stands { StandsIn self.now.text.now at.new }
         ensures fewer { length (left self.now.text.now at.new) ≤ length (left self.now.text.now at.old) }
     {
@@ -81,7 +83,8 @@ impl Reader<'_> {
     #[tactic(auto, unfolding(policy_grammar::specs::Names::names_at))]
     pub fn origin_names(&self, at: &mut Lexeme) -> Result<OriginNames, PolicyFault>
         requires stands { StandsIn self.now.text.now at.old }
-        ensures read { GivesUnless NoMemory (λ x. (x, left self.now.text.now at.new)) result (over (named self.now.text.now self.now.whole.now.net.now (plain_names self.now.known.now)) (names_at (left self.now.text.now at.old))) }
+        ensures read { GivesUnless NoMemory (λ x. (x, left self.now.text.now at.new)) result
+            (over (named self.now.text.now self.now.whole.now.net.now (plain_names self.now.known.now)) (names_at (left self.now.text.now at.old))) }
         ensures stands { StandsIn self.now.text.now at.new }
         ensures fewer { length (left self.now.text.now at.new) ≤ length (left self.now.text.now at.old) }
     {

@@ -104,7 +104,8 @@ impl Reader<'_> {
     #[tactic(auto, unfolding(crate::specs::CallReaders::link_read))]
     pub(crate) fn link_call(&self, at: &mut Lexeme) -> Result<CallRead, PolicyFault>
         requires stands { StandsIn self.now.text.now at.old }
-        ensures read { GivesUnless NoMemory (λ x. (plain_call x, left self.now.text.now at.new)) result (link_read self.now.text.now self.now.whole.now.net.now (plain_names self.now.known.now) (left self.now.text.now at.old)) }
+        ensures read { GivesUnless NoMemory (λ x. (plain_call x, left self.now.text.now at.new)) result
+            (link_read self.now.text.now self.now.whole.now.net.now (plain_names self.now.known.now) (left self.now.text.now at.old)) }
         ensures stands { StandsIn self.now.text.now at.new }
         ensures fewer { length (left self.now.text.now at.new) ≤ length (left self.now.text.now at.old) }
     {
@@ -124,7 +125,9 @@ impl Reader<'_> {
     fn more_places(&self, places: PathPlaces, at: &mut Lexeme) -> Result<PathPlaces, PolicyFault>
         requires stands { StandsIn self.now.text.now at.old }
         requires room { places.count + length (left self.now.text.now at.old) ≤ 18446744073709551615 }
-        ensures read { GivesUnless NoMemory (λ x. (x, left self.now.text.now at.new)) result (chain Symbol.Comma (place_link self.now.text.now self.now.whole.now.net.now (plain_names self.now.known.now)) (length (left self.now.text.now at.old)) places (left self.now.text.now at.old)) }
+        ensures read { GivesUnless NoMemory (λ x. (x, left self.now.text.now at.new)) result
+            (chain Symbol.Comma (place_link self.now.text.now self.now.whole.now.net.now (plain_names self.now.known.now))
+            (length (left self.now.text.now at.old)) places (left self.now.text.now at.old)) }
         ensures stands { StandsIn self.now.text.now at.new }
         ensures fewer { length (left self.now.text.now at.new) ≤ length (left self.now.text.now at.old) }
     {
@@ -140,7 +143,8 @@ impl Reader<'_> {
     #[tactic(auto, unfolding(crate::specs::CallReaders::path_read))]
     pub(crate) fn path_call(&self, at: &mut Lexeme) -> Result<CallRead, PolicyFault>
         requires stands { StandsIn self.now.text.now at.old }
-        ensures read { GivesUnless NoMemory (λ x. (plain_call x, left self.now.text.now at.new)) result (path_read self.now.text.now self.now.whole.now.net.now (plain_names self.now.known.now) (left self.now.text.now at.old)) }
+        ensures read { GivesUnless NoMemory (λ x. (plain_call x, left self.now.text.now at.new)) result
+            (path_read self.now.text.now self.now.whole.now.net.now (plain_names self.now.known.now) (left self.now.text.now at.old)) }
         ensures stands { StandsIn self.now.text.now at.new }
         ensures fewer { length (left self.now.text.now at.new) ≤ length (left self.now.text.now at.old) }
     {

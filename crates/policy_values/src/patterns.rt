@@ -101,7 +101,8 @@ fn pattern(text: &[u8], at: &mut Lexeme) -> Result<Result<Pattern, PolicyFault>,
 fn more_patterns(text: &[u8], found: &mut PatternsRead, at: &mut Lexeme) -> Result<(), PolicyFault>
     requires stands { StandsIn text.now at.old }
     requires few { found.old.count + length (left text.now at.old) ≤ 18446744073709551615 }
-    ensures read { GivesUnless NoMemory (λ _. (plain_patterns found.new, left text.now at.new)) result (chain Symbol.Or (value_link text.now) (length (left text.now at.old)) (plain_patterns found.old) (left text.now at.old)) }
+    ensures read { GivesUnless NoMemory (λ _. (plain_patterns found.new, left text.now at.new)) result
+        (chain Symbol.Or (value_link text.now) (length (left text.now at.old)) (plain_patterns found.old) (left text.now at.old)) }
     ensures stands { StandsIn text.now at.new }
     ensures fewer { length (left text.now at.new) ≤ length (left text.now at.old) }
 {

@@ -67,7 +67,9 @@ impl Reader<'_> {
         at: &mut Lexeme,
     ) -> Result<Result<List<Call>, PolicyFault>, PolicyFault>
         requires stands { StandsIn self.now.text.now at.old }
-        ensures read { GivesUnless NoMemory (λ x. (x, left self.now.text.now at.new)) result (chain Symbol.Above (call_link self.now.text.now self.now.whole.now.net.now (plain_names self.now.known.now) call) (length (left self.now.text.now at.old)) calls (left self.now.text.now at.old)) }
+        ensures read { GivesUnless NoMemory (λ x. (x, left self.now.text.now at.new)) result
+            (chain Symbol.Above (call_link self.now.text.now self.now.whole.now.net.now (plain_names self.now.known.now) call)
+            (length (left self.now.text.now at.old)) calls (left self.now.text.now at.old)) }
         ensures stands { StandsIn self.now.text.now at.new }
         ensures fewer { length (left self.now.text.now at.new) ≤ length (left self.now.text.now at.old) }
     {
@@ -83,7 +85,8 @@ impl Reader<'_> {
     #[tactic(auto, unfolding(crate::specs::CallReaders::sets_read))]
     pub(crate) fn sets_call(&self, call: SetCall, at: &mut Lexeme) -> Result<CallRead, PolicyFault>
         requires stands { StandsIn self.now.text.now at.old }
-        ensures read { GivesUnless NoMemory (λ x. (plain_call x, left self.now.text.now at.new)) result (sets_read self.now.text.now self.now.whole.now.net.now (plain_names self.now.known.now) call (left self.now.text.now at.old)) }
+        ensures read { GivesUnless NoMemory (λ x. (plain_call x, left self.now.text.now at.new)) result
+            (sets_read self.now.text.now self.now.whole.now.net.now (plain_names self.now.known.now) call (left self.now.text.now at.old)) }
         ensures stands { StandsIn self.now.text.now at.new }
         ensures fewer { length (left self.now.text.now at.new) ≤ length (left self.now.text.now at.old) }
     {

@@ -1,5 +1,6 @@
 -- Nodes that keep the loop rule with themselves, and so with each node over which they stand.
-use Rattle.std.proofs.Common.{◌≡◌, ◌↔◌, ◌≢◌, ℕ, ◌<◌, ◌≤◌, Bool, true, false, not, ◌||◌, eqb, ltb, List, [], ◌∷◌, Option, length, set, refl, sym, ap, ◌∙◌, inl, inr, arith, IsTrue, subst, lt-ltb, ltb-true}
+use Rattle.std.proofs.Common.{◌≡◌, ◌↔◌, ◌≢◌, ℕ, ◌<◌, ◌≤◌, Bool, true, false, not, ◌||◌, eqb, ltb, List, [], ◌∷◌, Option, length, set, refl, sym, ap, ◌∙◌, inl, inr, arith}
+use Rattle.std.proofs.Common.{IsTrue, subst, lt-ltb, ltb-true}
 use Rattle.std.proofs.lemmas.Bool.{cases_eq, or_cases, and_from, and_parts, both_ways, eq-eqb, eqb-true, not-true, not_from_false}
 use Rattle.std.proofs.lemmas.List.{get_or-set_same, get_or-set_other}
 use Rattle.net_base.specs.Network.{PlainNet, is_router}

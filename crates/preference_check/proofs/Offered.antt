@@ -1,5 +1,6 @@
 -- A node keeps a rule with another exactly where it offers at least as well.
-use Rattle.std.proofs.Common.{◌≡◌, ◌↔◌, ℕ, ◌-◌, ◌<◌, ◌≤◌, Bool, true, false, not, ◌&&◌, cond, eqb, leb, List, Option, Some, None, length, get_or, inl, inr, refl, sym, ap, ◌∙◌, arith, IsTrue, le-leb, leb-true}
+use Rattle.std.proofs.Common.{◌≡◌, ◌↔◌, ℕ, ◌-◌, ◌<◌, ◌≤◌, Bool, true, false, not, ◌&&◌, cond, eqb, leb, List, Option, Some, None, length, get_or, inl, inr, refl, sym, ap}
+use Rattle.std.proofs.Common.{◌∙◌, arith, IsTrue, le-leb, leb-true}
 use Rattle.std.specs.List.{list_any}
 use Rattle.std.specs.Option.{option_map, unwrap_or}
 use Rattle.std.proofs.lemmas.Option.{slice_get-get_or, slice_get_past}

@@ -73,7 +73,9 @@ pub fn offers_by_steps(
 ) -> Result<Vec<OfferList>, NoMemory>
     requires { length numbers.now ≡ length graph.now.nodes }
     ensures size { IfOk result (λ offers. length offers.items ≡ length graph.now.nodes) }
-    ensures offers { IfOk result (λ offers. (n at cost : ℕ) → is_offered (offers_of offers.items n) at cost ≡ list_any (λ s. s.0 == n && is_good (offer_by_step graph.now numbers.now towards s.1) at cost) graph.now.steps) }
+    ensures offers { IfOk result
+        (λ offers. (n at cost : ℕ)
+        → is_offered (offers_of offers.items n) at cost ≡ list_any (λ s. s.0 == n && is_good (offer_by_step graph.now numbers.now towards s.1) at cost) graph.now.steps) }
 {
     let mut offers = no_offers(alloc, graph.nodes().len())?;
     for (from, to) in graph.steps() {

@@ -100,7 +100,18 @@ module _ (net : PlainNet) (c : SetCall) where
 link_good : (net : PlainNet) (above : Option Place) (ss : List LocSet) → length ss ≡ 2 → AllByRecursion (IsGoodSet net) ss → IsGoodCall net above true (call (link_of ss))
 link_good net above [] two all = absurd (omega (arith, two))
 link_good net above (a ∷ []) two all = absurd (omega (arith, two))
-link_good net above (a ∷ b ∷ []) two all = record { sets = (all.0.0, all.1.0.0); writable = (all.0.0, all.1.0.0); values = (all.0.1, (all.1.0.1, tt)); rank = λ none. tt; brackets = λ least. refl; count = refl }
+link_good net above (a ∷ b ∷ []) two all =
+    record {
+      sets = (all.0.0, all.1.0.0);
+      writable = (all.0.0, all.1.0.0);
+      values = (
+        all.0.1,
+        (all.1.0.1, tt),
+      );
+      rank = λ none. tt;
+      brackets = λ least. refl;
+      count = refl;
+    }
 link_good net above (a ∷ b ∷ c ∷ ss) two all = absurd (omega (arith, two))
 
 -- a call of so many good sets

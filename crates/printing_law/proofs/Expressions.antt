@@ -44,8 +44,12 @@ unfolding mark_of
 marks_there (Tree.leaf c) ms more = refl
 marks_there (Tree.above p a b) ms more =
     ap (marks_of ms) (sides_first (steps_of a) (steps_of b) (step.Above p) more) ∙ marks_there a ms (steps_of b ++ step.Above p ∷ more) ∙ marks_there b (mark_of a ∷ ms) (step.Above p ∷ more)
-marks_there (Tree.or a b) ms more = ap (marks_of ms) (sides_first (steps_of a) (steps_of b) step.Or more) ∙ marks_there a ms (steps_of b ++ step.Or ∷ more) ∙ marks_there b (mark_of a ∷ ms) (step.Or ∷ more)
-marks_there (Tree.and a b) ms more = ap (marks_of ms) (sides_first (steps_of a) (steps_of b) step.And more) ∙ marks_there a ms (steps_of b ++ step.And ∷ more) ∙ marks_there b (mark_of a ∷ ms) (step.And ∷ more)
+marks_there (Tree.or a b) ms more =
+    ap (marks_of ms) (sides_first (steps_of a) (steps_of b) step.Or more) ∙ marks_there a ms (steps_of b ++ step.Or ∷ more)
+    ∙ marks_there b (mark_of a ∷ ms) (step.Or ∷ more)
+marks_there (Tree.and a b) ms more =
+    ap (marks_of ms) (sides_first (steps_of a) (steps_of b) step.And more) ∙ marks_there a ms (steps_of b ++ step.And ∷ more)
+    ∙ marks_there b (mark_of a ∷ ms) (step.And ∷ more)
 marks_there (Tree.not a) ms more = ap (marks_of ms) (append_assoc (steps_of a) (step.Not ∷ []) more) ∙ marks_there a ms (step.Not ∷ more)
 
 earlier_none : (p q : Option Place) → earlier p q ≡ None → (p ≡ None) × (q ≡ None)
@@ -213,7 +217,8 @@ pub record IsReadExpression (net : PlainNet) (r : Ranking) : Type 0 where
   pub calls : call_count r ≤ 256
 
 pub expression_read : (net : PlainNet) → IsNet net → (bytes : List ℕ) (known : Names) → NamesStand (length net.routers + length net.peers) known
-    → (steps : List Step) (t : Tree) (r : Ranking) (x : ⊤) → steps ≡ steps_of t → brackets_of 1 t ≤ 64 → AllCalls IsCallForm t → (top_mark (marks_of [] steps)).broken ≡ None → sum_by call_amount steps ≤ 256 → each places_within steps ≡ Ok x
+    → (steps : List Step) (t : Tree) (r : Ranking) (x : ⊤) → steps ≡ steps_of t → brackets_of 1 t ≤ 64 → AllCalls IsCallForm t
+    → (top_mark (marks_of [] steps)).broken ≡ None → sum_by call_amount steps ≤ 256 → each places_within steps ≡ Ok x
     → ranking_of_steps bytes net known steps ≡ Ok r → IsReadExpression net r
 expression_read net rules bytes known stand steps t r x is few form broken size places e =
     let b : IsBuilt net t r = tree_built net rules bytes known stand t r form (few_places t x (ap (each places_within) (sym is) ∙ places)) (ap (ranking_of_steps bytes net known) (sym is) ∙ e) in

@@ -1,5 +1,6 @@
 -- What is read of a text has its form: the grammar says so, and no bracket of the text is too deep.
-use Rattle.std.proofs.Common.{◌≡◌, ℕ, suc, ◌+◌, ◌≤◌, Bool, true, false, List, [], ◌∷◌, ◌++◌, length, Some, None, Option, Ok, refl, sym, ap, ◌∙◌, subst, arith, append_assoc, inl, inr, ltb-true, leb-false}
+use Rattle.std.proofs.Common.{◌≡◌, ℕ, suc, ◌+◌, ◌≤◌, Bool, true, false, List, [], ◌∷◌, ◌++◌, length, Some, None, Option, Ok, refl, sym, ap, ◌∙◌, subst, arith, append_assoc}
+use Rattle.std.proofs.Common.{inl, inr, ltb-true, leb-false}
 use Rattle.std.specs.Prelude.{◌-◌, ◌<◌, nat_lt, nat_le, if◌then◌else◌}
 use Rattle.std.specs.List.{AllByRecursion}
 use Rattle.std.proofs.lemmas.Bool.{cases_lt, lt-ltb}
@@ -18,7 +19,8 @@ use Rattle.policy_grammar.specs.Deep.{open_behind, is_too_deep, first_deep}
 use Rattle.policy_grammar.specs.Items.{items_of}
 use Rattle.policy_grammar.specs.Lexemes.{lexemes_of, end_of}
 use Rattle.policy_parser.specs.Spelled.{none_at, items_spelled}
-use Rattle.grammar_law.specs.Grammar.{Is, Rule, IsMore, IsList, IsName, IsNames, IsGroup, IsSet, IsOne, StandsAlone, IsCall, front_place, IsRanked, IsChoice, IsJoint, IsUnit, IsAtom, IsPattern, IsPredicate, IsFrom, IsItem, IsPolicy}
+use Rattle.grammar_law.specs.Grammar.{Is, Rule, IsMore, IsList, IsName, IsNames, IsGroup, IsSet, IsOne, StandsAlone, IsCall, front_place, IsRanked, IsChoice, IsJoint}
+use Rattle.grammar_law.specs.Grammar.{IsUnit, IsAtom, IsPattern, IsPredicate, IsFrom, IsItem, IsPolicy}
 use Rattle.grammar_law.proofs.TextLaws.{read-policy}
 use Rattle.printing_law.proofs.Forms.{Tree, steps_of, has_brackets, one_if, brackets_of, AllCalls, IsNamed, IsArg, HasArgs, IsCallForm, HasForm}
 use Rattle.policy_parser.proofs.Steps.{none_at_ok}
@@ -68,11 +70,14 @@ round_leaves o c ls i j inside k ms fits =
 name_leaves : {n : Lexeme} {ts : List Lexeme} → IsName n ts → Leaves ts
 name_leaves (IsName.name i) = one_leaves symbol.Name (λ n. (refl, refl)) i
 
-more_leave : {A : Type 0} (joint : Symbol) → IsPlain joint → {One : Rule A} → ((x : A) (ts : List Lexeme) → One x ts → Leaves ts) → {xs : List A} {ts : List Lexeme} → IsMore joint One xs ts → Leaves ts
+more_leave : {A : Type 0} (joint : Symbol) → IsPlain joint → {One : Rule A} → ((x : A) (ts : List Lexeme) → One x ts → Leaves ts)
+    → {xs : List A} {ts : List Lexeme} → IsMore joint One xs ts → Leaves ts
 more_leave joint plain one IsMore.none = λ k ms fits. fits
-more_leave joint plain one (IsMore.more {j = j} {x = y} {ts = ts} {us = us} i x xs) = both_leave (j ∷ ts) us (both_leave (j ∷ []) ts (one_leaves joint plain i) (one y ts x)) (more_leave joint plain one xs)
+more_leave joint plain one (IsMore.more {j = j} {x = y} {ts = ts} {us = us} i x xs) =
+    both_leave (j ∷ ts) us (both_leave (j ∷ []) ts (one_leaves joint plain i) (one y ts x)) (more_leave joint plain one xs)
 
-list_leaves : {A : Type 0} (joint : Symbol) → IsPlain joint → {One : Rule A} → ((x : A) (ts : List Lexeme) → One x ts → Leaves ts) → {xs : List A} {ts : List Lexeme} → IsList joint One xs ts → Leaves ts
+list_leaves : {A : Type 0} (joint : Symbol) → IsPlain joint → {One : Rule A} → ((x : A) (ts : List Lexeme) → One x ts → Leaves ts)
+    → {xs : List A} {ts : List Lexeme} → IsList joint One xs ts → Leaves ts
 list_leaves joint plain one (IsList.list {x = y} {ts = ts} {us = us} x xs) = both_leave ts us (one y ts x) (more_leave joint plain one xs)
 
 names_leave : {ns ts : List Lexeme} → IsNames ns ts → Leaves ts
@@ -105,10 +110,12 @@ call_leaves (IsCall.sets {one = one} {w = w} {o = o} {c = c} {ts = ts} {us = us}
     both_leave (w ∷ []) (o ∷ ((ts ++ us) ++ c ∷ [])) (one_leaves (symbol.Call (word.Of one)) (λ n. (refl, refl)) iw)
     (round_leaves o c (ts ++ us) io ic (both_leave ts us (set_leaves x) (more_leave symbol.Above (λ n. (refl, refl)) (λ x ts is. set_leaves is) rest)))
 call_leaves (IsCall.link {w = w} {o = o} {m = m} {c = c} {ts = ts} {us = us} iw io x im y ic) =
-    both_leave (w ∷ []) (o ∷ ((ts ++ m ∷ us) ++ c ∷ [])) (one_leaves (symbol.Call word.Link) (λ n. (refl, refl)) iw) (round_leaves o c (ts ++ m ∷ us) io ic (two_leave ts us m (place_leaves x) im (place_leaves y)))
+    both_leave (w ∷ []) (o ∷ ((ts ++ m ∷ us) ++ c ∷ [])) (one_leaves (symbol.Call word.Link) (λ n. (refl, refl)) iw)
+    (round_leaves o c (ts ++ m ∷ us) io ic (two_leave ts us m (place_leaves x) im (place_leaves y)))
 call_leaves (IsCall.path {w = w} {o = o} {m = m} {c = c} {ts = ts} {us = us} {vs = vs} iw io x im y rest ic) =
     both_leave (w ∷ []) (o ∷ ((ts ++ m ∷ us ++ vs) ++ c ∷ [])) (one_leaves (symbol.Call word.Path) (λ n. (refl, refl)) iw)
-    (round_leaves o c (ts ++ m ∷ us ++ vs) io ic (both_leave (ts ++ m ∷ us) vs (two_leave ts us m (place_leaves x) im (place_leaves y)) (more_leave symbol.Comma (λ n. (refl, refl)) (λ x ts is. place_leaves is) rest)))
+    (round_leaves o c (ts ++ m ∷ us ++ vs) io ic
+    (both_leave (ts ++ m ∷ us) vs (two_leave ts us m (place_leaves x) im (place_leaves y)) (more_leave symbol.Comma (λ n. (refl, refl)) (λ x ts is. place_leaves is) rest)))
 
 -- ---- names, sets and calls
 
@@ -160,7 +167,8 @@ call_brackets (IsCall.alone StandsAlone.drop i) k ms fits = omega arith
 call_brackets (IsCall.alone StandsAlone.internal i) k ms fits = omega arith
 call_brackets (IsCall.sets {one = one} {w = w} {o = o} {c = c} {ts = ts} {us = us} iw io x rest ic) k ms fits =
     one_open (symbol.Call (word.Of one)) (λ n. (refl, refl)) k w o (ts ++ us ++ c ∷ [] ++ ms) true iw io fits
-call_brackets (IsCall.link {w = w} {o = o} {m = m} {c = c} {ts = ts} {us = us} iw io x im y ic) k ms fits = one_open (symbol.Call word.Link) (λ n. (refl, refl)) k w o (ts ++ m ∷ us ++ c ∷ [] ++ ms) true iw io fits
+call_brackets (IsCall.link {w = w} {o = o} {m = m} {c = c} {ts = ts} {us = us} iw io x im y ic) k ms fits =
+    one_open (symbol.Call word.Link) (λ n. (refl, refl)) k w o (ts ++ m ∷ us ++ c ∷ [] ++ ms) true iw io fits
 call_brackets (IsCall.path {w = w} {o = o} {m = m} {c = c} {ts = ts} {us = us} {vs = vs} iw io x im y rest ic) k ms fits =
     one_open (symbol.Call word.Path) (λ n. (refl, refl)) k w o (ts ++ m ∷ us ++ vs ++ c ∷ [] ++ ms) true iw io fits
 
@@ -215,21 +223,42 @@ mutual
   ranked_read (IsRanked.above {xs = xs} {ys = ys} {j = j} {ts = ts} {us = us} r i c) k ms fits =
       let a : WasRead 1 k xs (j ∷ us ++ ms) = ranked_read r k (j ∷ us ++ ms) (subst (Fits k) (append_assoc ts (j ∷ us) ms) fits) in
       let b : WasRead 2 k ys ms = choice_read c k ms (passes symbol.Above (λ n. (refl, refl)) k j (us ++ ms) i a.room) in
-      record { tree = Tree.above j.place a.tree b.tree; steps = two_sides xs ys (steps_of a.tree) (steps_of b.tree) (step.Above j.place) a.steps b.steps; few = omega (arith, a.few, b.few); calls = (a.calls, b.calls); room = b.room }
+      record {
+        tree = Tree.above j.place a.tree b.tree;
+        steps = two_sides xs ys (steps_of a.tree) (steps_of b.tree)
+            (step.Above j.place) a.steps b.steps;
+        few = omega (arith, a.few, b.few);
+        calls = (a.calls, b.calls);
+        room = b.room;
+      }
 
   choice_read : {xs : List Step} {ls : List Lexeme} → IsChoice xs ls → (k : ℕ) (ms : List Lexeme) → Fits k (ls ++ ms) → WasRead 2 k xs ms
   choice_read (IsChoice.joint {xs = xs} c) k ms fits = lower 2 3 k xs ms (omega arith) (joint_read c k ms fits)
   choice_read (IsChoice.or {xs = xs} {ys = ys} {j = j} {ts = ts} {us = us} r i c) k ms fits =
       let a : WasRead 2 k xs (j ∷ us ++ ms) = choice_read r k (j ∷ us ++ ms) (subst (Fits k) (append_assoc ts (j ∷ us) ms) fits) in
       let b : WasRead 3 k ys ms = joint_read c k ms (passes symbol.Or (λ n. (refl, refl)) k j (us ++ ms) i a.room) in
-      record { tree = Tree.or a.tree b.tree; steps = two_sides xs ys (steps_of a.tree) (steps_of b.tree) step.Or a.steps b.steps; few = omega (arith, a.few, b.few); calls = (a.calls, b.calls); room = b.room }
+      record {
+        tree = Tree.or a.tree b.tree;
+        steps = two_sides xs ys (steps_of a.tree) (steps_of b.tree) step.Or a.steps b.steps;
+        few = omega
+            (arith, a.few, b.few);
+        calls = (a.calls, b.calls);
+        room = b.room;
+      }
 
   joint_read : {xs : List Step} {ls : List Lexeme} → IsJoint xs ls → (k : ℕ) (ms : List Lexeme) → Fits k (ls ++ ms) → WasRead 3 k xs ms
   joint_read (IsJoint.unit {xs = xs} c) k ms fits = lower 3 4 k xs ms (omega arith) (unit_read c k ms fits)
   joint_read (IsJoint.and {xs = xs} {ys = ys} {j = j} {ts = ts} {us = us} r i c) k ms fits =
       let a : WasRead 3 k xs (j ∷ us ++ ms) = joint_read r k (j ∷ us ++ ms) (subst (Fits k) (append_assoc ts (j ∷ us) ms) fits) in
       let b : WasRead 4 k ys ms = unit_read c k ms (passes symbol.And (λ n. (refl, refl)) k j (us ++ ms) i a.room) in
-      record { tree = Tree.and a.tree b.tree; steps = two_sides xs ys (steps_of a.tree) (steps_of b.tree) step.And a.steps b.steps; few = omega (arith, a.few, b.few); calls = (a.calls, b.calls); room = b.room }
+      record {
+        tree = Tree.and a.tree b.tree;
+        steps = two_sides xs ys (steps_of a.tree) (steps_of b.tree) step.And a.steps b.steps;
+        few = omega
+            (arith, a.few, b.few);
+        calls = (a.calls, b.calls);
+        room = b.room;
+      }
 
   unit_read : {xs : List Step} {ls : List Lexeme} → IsUnit xs ls → (k : ℕ) (ms : List Lexeme) → Fits k (ls ++ ms) → WasRead 4 k xs ms
   unit_read (IsUnit.atom {xs = xs} a) k ms fits = lower 4 5 k xs ms (omega arith) (atom_read a k ms fits)
@@ -249,7 +278,8 @@ mutual
 pattern_leaves : {p : RawPattern} {ts : List Lexeme} → IsPattern p ts → Leaves ts
 pattern_leaves (IsPattern.only i) = one_leaves symbol.Figure (λ n. (refl, refl)) i
 pattern_leaves (IsPattern.up_to {f = f} {l = l} {g = g} i j h) =
-    both_leave (f ∷ []) (l ∷ g ∷ []) (one_leaves symbol.Figure (λ n. (refl, refl)) i) (both_leave (l ∷ []) (g ∷ []) (one_leaves symbol.Le (λ n. (refl, refl)) j) (one_leaves symbol.Figure (λ n. (refl, refl)) h))
+    both_leave (f ∷ []) (l ∷ g ∷ []) (one_leaves symbol.Figure (λ n. (refl, refl)) i)
+    (both_leave (l ∷ []) (g ∷ []) (one_leaves symbol.Le (λ n. (refl, refl)) j) (one_leaves symbol.Figure (λ n. (refl, refl)) h))
 
 predicate_leaves : {ps : List RawPattern} {ts : List Lexeme} → IsPredicate ps ts → Leaves ts
 predicate_leaves (IsPredicate.all i) = one_leaves symbol.True (λ n. (refl, refl)) i
@@ -265,11 +295,13 @@ ranked_leaves r k ms fits = (ranked_read r k ms fits).room
 item_leaves : {x : Item} {ts : List Lexeme} → IsItem x ts → Leaves ts
 item_leaves (IsItem.define {d = d} {e = e} {s = s} {ts = ts} {us = us} i x j names h) =
     both_leave (d ∷ ts ++ e ∷ us) (s ∷ [])
-    (both_leave (d ∷ ts) (e ∷ us) (both_leave (d ∷ []) ts (one_leaves symbol.Define (λ n. (refl, refl)) i) (name_leaves x)) (both_leave (e ∷ []) us (one_leaves symbol.Equals (λ n. (refl, refl)) j) (group_leaves names)))
+    (both_leave (d ∷ ts) (e ∷ us) (both_leave (d ∷ []) ts (one_leaves symbol.Define (λ n. (refl, refl)) i) (name_leaves x))
+    (both_leave (e ∷ []) us (one_leaves symbol.Equals (λ n. (refl, refl)) j) (group_leaves names)))
     (one_leaves symbol.Semicolon (λ n. (refl, refl)) h)
 item_leaves (IsItem.originate {o = o} {f = f} {t = t} {s = s} {ts = ts} i j h names e) =
     both_leave (o ∷ f ∷ t ∷ ts) (s ∷ [])
-    (both_leave (o ∷ []) (f ∷ t ∷ ts) (one_leaves symbol.Originate (λ n. (refl, refl)) i) (both_leave (f ∷ []) (t ∷ ts) (one_leaves symbol.Figure (λ n. (refl, refl)) j) (both_leave (t ∷ []) ts (one_leaves symbol.At (λ n. (refl, refl)) h) (names_leave names))))
+    (both_leave (o ∷ []) (f ∷ t ∷ ts) (one_leaves symbol.Originate (λ n. (refl, refl)) i)
+    (both_leave (f ∷ []) (t ∷ ts) (one_leaves symbol.Figure (λ n. (refl, refl)) j) (both_leave (t ∷ []) ts (one_leaves symbol.At (λ n. (refl, refl)) h) (names_leave names))))
     (one_leaves symbol.Semicolon (λ n. (refl, refl)) e)
 item_leaves (IsItem.state {a = a} {s = s} {ts = ts} {us = us} {vs = vs} ps i r z j) =
     both_leave (ts ++ a ∷ us ++ vs) (s ∷ [])
@@ -289,7 +321,9 @@ item_form (IsItem.define i x j members h) ms fits = group_named members
 item_form (IsItem.originate i j h names e) ms fits = are_named names
 item_form (IsItem.state {a = a} {s = s} {ts = ts} {us = us} {vs = vs} ps i r z j) ms fits =
     let split : ((ts ++ a ∷ us ++ vs) ++ s ∷ []) ++ ms ≡ ts ++ (a ∷ (us ++ ((vs ++ s ∷ []) ++ ms))) = simp append_assoc in
-    let behind : Fits 0 (us ++ ((vs ++ s ∷ []) ++ ms)) = passes symbol.Arrow (λ n. (refl, refl)) 0 a (us ++ ((vs ++ s ∷ []) ++ ms)) i (predicate_leaves ps 0 (a ∷ (us ++ ((vs ++ s ∷ []) ++ ms))) (subst (Fits 0) split fits)) in
+    let behind : Fits 0 (us ++ ((vs ++ s ∷ []) ++ ms)) =
+    passes symbol.Arrow (λ n. (refl, refl)) 0 a (us ++ ((vs ++ s ∷ []) ++ ms)) i
+    (predicate_leaves ps 0 (a ∷ (us ++ ((vs ++ s ∷ []) ++ ms))) (subst (Fits 0) split fits)) in
     let x = ranked_read r 0 ((vs ++ s ∷ []) ++ ms) behind in
     record { patterns = some_patterns ps; tree = x.tree; steps = x.steps; few = x.few; calls = x.calls; from = from_arg z }
 

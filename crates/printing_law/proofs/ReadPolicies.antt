@@ -27,7 +27,9 @@ has_prefixes : (net : PlainNet) (policy : PlainPolicy) → IsPolicyOf net policy
 has_prefixes net policy fits = AllByRecursion-from_IsIn (λ (o : Origin). IsPrefix o.prefix) policy.origins (λ o here. fits.prefixes o here)
 
 has_patterns : (net : PlainNet) (policy : PlainPolicy) → IsPolicyOf net policy → AllByRecursion (λ (s : PlainStatement). AllByRecursion IsPattern s.patterns) policy.statements
-has_patterns net policy fits = AllByRecursion-from_IsIn (λ (s : PlainStatement). AllByRecursion IsPattern s.patterns) policy.statements (λ s here. AllByRecursion-from_IsIn IsPattern s.patterns (λ t there. fits.patterns s t here there))
+has_patterns net policy fits =
+    AllByRecursion-from_IsIn (λ (s : PlainStatement). AllByRecursion IsPattern s.patterns) policy.statements
+    (λ s here. AllByRecursion-from_IsIn IsPattern s.patterns (λ t there. fits.patterns s t here there))
 
 -- ---- the laws
 
@@ -41,14 +43,18 @@ read_printable net text policy rules h =
     let origins = origins_read net rules text b.known stand [] b.items policy.origins forms (origins_made text b.known b.items policy.origins b.origins) tt in (
       record {
         limits = fits.rules;
-        origins = AllByRecursion-both (λ (o : Origin). HoldsOnly (is_router net) o.at) IsReadOrigin (IsPrintableOrigin net) (λ o routers is. (routers, is.0)) policy.origins (is_at_routers net policy fits) origins;
+        origins =
+            AllByRecursion-both (λ (o : Origin). HoldsOnly (is_router net) o.at) IsReadOrigin (IsPrintableOrigin net)
+            (λ o routers is. (routers, is.0)) policy.origins (is_at_routers net policy fits) origins;
         statements = AllByRecursion-weaker (IsReadStatement net) (IsPrintableStatement net) policy.statements (λ s is. is.0) statements;
       },
       record {
         origins =
             AllByRecursion-both IsReadOrigin (λ (o : Origin). IsPrefix o.prefix) IsOriginValue (λ o is prefix. record { prefix = prefix; at = is.1 }) policy.origins origins
             (has_prefixes net policy fits);
-        statements = AllByRecursion-both (IsReadStatement net) (λ (s : PlainStatement). AllByRecursion IsPattern s.patterns) IsStatementValue (λ s is are. is.1 are) policy.statements statements (has_patterns net policy fits);
+        statements =
+            AllByRecursion-both (IsReadStatement net) (λ (s : PlainStatement). AllByRecursion IsPattern s.patterns) IsStatementValue
+            (λ s is are. is.1 are) policy.statements statements (has_patterns net policy fits);
       },
     )
 

@@ -76,10 +76,13 @@ module _ (net : PlainNet) (rules : IsNet net) (bytes : List ℕ) (known : Names)
       let same : from_set.Named b.0 ≡ f = cc in
       subst (λ (x : FromSet). IsWritableFrom net x × HasSources x) same ((part_within net b.0 x.part, x.some), part_set n b.0 x.part)
 
-  statement_read : (s : RawStatement) (t : PlainStatement) (x y z : ⊤) → IsStatementForm s → ranks_fine (State s) ≡ Ok x → calls_within (State s) ≡ Ok y → paths_within (State s) ≡ Ok z → statement_of bytes net known s ≡ Ok t → IsReadStatement net t
+  statement_read : (s : RawStatement) (t : PlainStatement) (x y z : ⊤) → IsStatementForm s → ranks_fine (State s) ≡ Ok x
+      → calls_within (State s) ≡ Ok y → paths_within (State s) ≡ Ok z → statement_of bytes net known s ≡ Ok t → IsReadStatement net t
   unfolding statement_of
   statement_read s t x y z form ranks calls places e =
-      let a = bind_ok (patterns_of bytes [] s.patterns) (λ ps. ranking_of_steps bytes net known s.ranked >>= λ r. from_of bytes known s.from >>= λ f. Ok (record { patterns = ps; ranked = r; from = f })) t e in
+      let a =
+      bind_ok (patterns_of bytes [] s.patterns)
+      (λ ps. ranking_of_steps bytes net known s.ranked >>= λ r. from_of bytes known s.from >>= λ f. Ok (record { patterns = ps; ranked = r; from = f })) t e in
       let b = bind_ok (ranking_of_steps bytes net known s.ranked) (λ r. from_of bytes known s.from >>= λ f. Ok (record { patterns = a.0; ranked = r; from = f })) t a.2 in
       let c = bind_ok (from_of bytes known s.from) (λ f. Ok (record { patterns = a.0; ranked = b.0; from = f })) t b.2 in
       let made : PlainStatement = record { patterns = a.0; ranked = b.0; from = c.0 } in

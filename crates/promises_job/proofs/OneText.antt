@@ -20,7 +20,8 @@ use Rattle.promises_law.specs.Claims.{IsPlace}
 use Rattle.promises_law.specs.Promises.{ArePromises, IsPromised, Promises}
 use Rattle.promises_report.specs.Places.{is_other, places_of, sessions_of}
 use Rattle.report_lines.specs.Lines.{source_text}
-use Rattle.promises_text.specs.Texts.{case_lines, case_text, cases_text, count_line, idle_line, is_idle, is_transit, is_unclaimed, promises_lines, source_line, transit_line, uncarried_line, unclaimed_count, unclaimed_in, unclaimed_line, ranked_line, is_uncarried}
+use Rattle.promises_text.specs.Texts.{case_lines, case_text, cases_text, count_line, idle_line, is_idle, is_transit, is_unclaimed, promises_lines, source_line}
+use Rattle.promises_text.specs.Texts.{transit_line, uncarried_line, unclaimed_count, unclaimed_in, unclaimed_line, ranked_line, is_uncarried}
 use Rattle.promises_job.specs.Promised.{IsPromisesText}
 
 -- ---- what is promised at a place is one thing
@@ -94,7 +95,9 @@ module _ (net : PlainNet) (policy : PlainPolicy) (s : PlainStatement) (c : Case)
   test_same false u v p q is same = refl
 
   same_transit : (x : Source) → IsIn places x → is_transit a x ≡ is_transit b x
-  same_transit x at = test_same (is_none x.peer) (is_unclaimed a x) (is_unclaimed b x) (a.passes x.router) (b.passes x.router) (same_unclaimed x at) (passes_at x.router x.peer (place_there net c x at))
+  same_transit x at =
+      test_same (is_none x.peer) (is_unclaimed a x) (is_unclaimed b x) (a.passes x.router) (b.passes x.router) (same_unclaimed x at)
+      (passes_at x.router x.peer (place_there net c x at))
 
   transit_same : (x : Source) → IsIn places x → transit_line net a x ≡ transit_line net b x
   unfolding transit_line

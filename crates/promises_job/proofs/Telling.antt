@@ -19,7 +19,8 @@ use Rattle.promises_text.proofs.Casing.{told_size}
 use Rattle.promises_text.specs.Written.{AreTold, HaveOneStep, IsTextOf}
 use Rattle.promises_job.specs.Promised.{IsOfCase, IsPromisesText}
 
-told_at : (net : PlainNet) (ds : List PlainCaseEvidence) (xs : List Promises) (k : ℕ) (d : PlainCaseEvidence) (a : Promises) → AreTold net ds xs → slice_get ds k ≡ Some d → slice_get xs k ≡ Some a → IsTold net d a
+told_at : (net : PlainNet) (ds : List PlainCaseEvidence) (xs : List Promises) (k : ℕ) (d : PlainCaseEvidence) (a : Promises) → AreTold net ds xs
+    → slice_get ds k ≡ Some d → slice_get xs k ≡ Some a → IsTold net d a
 told_at net [] xs k d a told at one = absurd (cc)
 told_at net (e ∷ ds) [] k d a told at one = absurd told
 told_at net (e ∷ ds) (b ∷ xs) zero d a told at one =
@@ -35,7 +36,8 @@ module _ (net : PlainNet) (policy : PlainPolicy) (config : PlainConfig) (cs : Li
       let s = (case_known net policy at.0 d.case (case_listed net policy config cs passes.made at.0 d at.1)).statement in
       (passes.made.graphs at.0 d s.0 at.1 s.1).faithful.formed.one_step
 
-  case_told : (k : ℕ) (d : PlainCaseEvidence) (s : PlainStatement) (a : Promises) → slice_get cs k ≡ Some d → statement_at policy d.case.statement ≡ Some s → IsTold net d a → IsOfCase net policy config k d.case s a
+  case_told : (k : ℕ) (d : PlainCaseEvidence) (s : PlainStatement) (a : Promises) → slice_get cs k ≡ Some d
+      → statement_at policy d.case.statement ≡ Some s → IsTold net d a → IsOfCase net policy config k d.case s a
   case_told k d s a at number told =
       let tops = told.1 s (passes.made.graphs k d s at number) in
       subst (IsOfCase net policy config k d.case s) (sym told.2)

@@ -133,7 +133,9 @@ module _ (net : PlainNet) (policy : PlainPolicy) (config : PlainConfig) (cs : Li
       stable = settled.stable
 
       right : IsRightBy net policy config no_failures p c.s outcome
-      right = subst (λ (x : Type 0). x) (by_statement net policy config p outcome c.s c.governs) (passing_evidence_is_right net policy config cs rules kept passes p no_failures outcome prefix size stable)
+      right =
+          subst (λ (x : Type 0). x) (by_statement net policy config p outcome c.s c.governs)
+          (passing_evidence_is_right net policy config cs rules kept passes p no_failures outcome prefix size stable)
 
       as_lines : line.LinesStable (network_of net Origin) (alive_of net no_failures) (lines_of net config p (suc c.k)) (lines_at outcome)
       as_lines =

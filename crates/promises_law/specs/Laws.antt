@@ -35,7 +35,9 @@ TopsTellPromises = OfEachCase (λ net policy config k s d top. ArePromises net s
 
 -- and these are kept for every prefix of the case.
 abbrev pub PromisesAreKept : Type 0
-PromisesAreKept = OfEachCase (λ net policy config k s d top. (p : PlainPrefix) → IsPrefix p → class_of config p ≡ Some (suc k) → (statement_of policy p ≡ Some s) × AreKept net policy config p s d.case (told_by d.graph top))
+PromisesAreKept =
+    OfEachCase (λ net policy config k s d top. (p : PlainPrefix) → IsPrefix p → class_of config p ≡ Some (suc k)
+    → (statement_of policy p ≡ Some s) × AreKept net policy config p s d.case (told_by d.graph top))
 
 -- While nothing has failed every claimed source has an allowed path, so a best rank.
 abbrev pub ClaimedSourcesHaveRanks : Type 0

@@ -10,7 +10,8 @@ use Rattle.promises_report.specs.Telling.{IsTold}
 use Rattle.promises_text.specs.Texts.{case_text, cases_text, unclaimed_count, unclaimed_in}
 use Rattle.promises_text.specs.Written.{AddsCase, AddsCases, AreTold}
 
-pub told_more : (net : PlainNet) (ds : List PlainCaseEvidence) (xs : List Promises) (d : PlainCaseEvidence) (a : Promises) → AreTold net ds xs → IsTold net d a → AreTold net (ds ++ d ∷ []) (xs ++ a ∷ [])
+pub told_more : (net : PlainNet) (ds : List PlainCaseEvidence) (xs : List Promises) (d : PlainCaseEvidence) (a : Promises) → AreTold net ds xs
+    → IsTold net d a → AreTold net (ds ++ d ∷ []) (xs ++ a ∷ [])
 told_more net [] [] d a told one = (one, tt)
 told_more net [] (b ∷ xs) d a told one = absurd told
 told_more net (e ∷ ds) [] d a told one = absurd told
@@ -65,7 +66,8 @@ module _ (net : PlainNet) (policy : PlainPolicy) where
       let whole : cases_text net policy 1 (map case_of (ds ++ d ∷ [])) (x.promises ++ y.promises ∷ []) ≡ front ++ one =
       ap (λ cs. cases_text net policy 1 cs (x.promises ++ y.promises ∷ [])) all ∙ cases_more 1 (map case_of ds) x.promises d.case y.promises same
       ∙ ap (λ k. front ++ case_text net policy k d.case y.promises) (sym place) in
-      let counted : unclaimed_in net policy (map case_of (ds ++ d ∷ [])) (x.promises ++ y.promises ∷ []) ≡ unclaimed_in net policy (map case_of ds) x.promises + unclaimed_count net policy d.case y.promises =
+      let counted : unclaimed_in net policy (map case_of (ds ++ d ∷ [])) (x.promises ++ y.promises ∷ [])
+      ≡ unclaimed_in net policy (map case_of ds) x.promises + unclaimed_count net policy d.case y.promises =
       ap (λ cs. unclaimed_in net policy cs (x.promises ++ y.promises ∷ [])) all ∙ count_more (map case_of ds) x.promises d.case y.promises same in
       record {
         promises = x.promises ++ y.promises ∷ [];

@@ -7,7 +7,19 @@ ghost use Rattle.net_base.specs.Prefixes.{only};
 ghost use Rattle.policy_base.specs.Policies.{policy_of};
 ghost use Rattle.promises_report.specs.Places.{places_of as places_in, sessions_of};
 ghost use Rattle.promises_report.specs.Telling.{promises_in};
-ghost use Rattle.promises_text.specs.Texts.{case_lines, idle_line, is_idle as is_idle_in, is_unclaimed as is_unclaimed_in, origin_line, origin_lines, pattern_line, promises_lines, source_line, transit_line, unclaimed_line};
+ghost use Rattle.promises_text.specs.Texts.{
+  case_lines,
+  idle_line,
+  is_idle as is_idle_in,
+  is_unclaimed as is_unclaimed_in,
+  origin_line,
+  origin_lines,
+  pattern_line,
+  promises_lines,
+  source_line,
+  transit_line,
+  unclaimed_line,
+};
 ghost use Rattle.promises_text.specs.Written.{AddsCase, HasOneStep};
 
 use crate::lines::{

@@ -2,7 +2,25 @@
 ghost use Rattle.std.specs.Prelude.{◌≡◌, ◌++◌, OnOk};
 ghost use Rattle.policy_base.specs.Policies.{policy_of, statement_at as plain_statement_at};
 ghost use Rattle.promises_report.specs.Telling.{promises_in};
-ghost use Rattle.promises_text.specs.Texts.{count_line, head_line, idle_line, is_idle as is_idle_in, is_named_by, is_transit as is_transit_in, is_uncarried as is_uncarried_by, is_unclaimed as is_unclaimed_in, names as names_in, origin_line, pattern_line, peer_line, ranked_line, source_line, transit_line, uncarried_line, unclaimed_line};
+ghost use Rattle.promises_text.specs.Texts.{
+  count_line,
+  head_line,
+  idle_line,
+  is_idle as is_idle_in,
+  is_named_by,
+  is_transit as is_transit_in,
+  is_uncarried as is_uncarried_by,
+  is_unclaimed as is_unclaimed_in,
+  names as names_in,
+  origin_line,
+  pattern_line,
+  peer_line,
+  ranked_line,
+  source_line,
+  transit_line,
+  uncarried_line,
+  unclaimed_line,
+};
 
 use config_made::statement_at;
 use impact_report::Source;

@@ -25,7 +25,16 @@ no_more holds (b ∷ bs) held = absurd held
 
 module _ (holds : Holds) (words : List (List ℕ)) where
   abbrev pub spells : (c : Command) (net : PlainNet) (policy : PlainPolicy) → AsksFor holds words c net policy → SpellFor holds (names_read words c) net policy
-  spells c net policy asks = record { topology = asks.topology; policy_text = asks.policy_text; more = asks.more; held = asks.held; net_spelled = network_is_spelled asks.topology net asks.net_meant; policy_spelled = policy_is_spelled net asks.policy_text policy asks.policy_meant }
+  spells c net policy asks =
+      record {
+        topology = asks.topology;
+        policy_text = asks.policy_text;
+        more = asks.more;
+        held = asks.held;
+        net_spelled = network_is_spelled
+            asks.topology net asks.net_meant;
+        policy_spelled = policy_is_spelled net asks.policy_text policy asks.policy_meant;
+      }
 
   pub asked_by : (c : Command) (net : PlainNet) (policy : PlainPolicy) → IsFor holds words c net policy → words_are words ≡ Some c
   asked_by Replay net policy is = is.1.asked.asked
@@ -37,7 +46,17 @@ module _ (holds : Holds) (words : List (List ℕ)) where
   asked_by c net policy is = is.asked
 
   abbrev pub asks_for : (c : Command) (net : PlainNet) (policy : PlainPolicy) → words_are words ≡ Some c → SpellFor holds (names_read words c) net policy → AsksFor holds words c net policy
-  asks_for c net policy is spell = record { asked = is; topology = spell.topology; policy_text = spell.policy_text; more = spell.more; held = spell.held; net_meant = networks_are_meant spell.topology net spell.net_spelled; policy_meant = policies_are_meant net spell.policy_text policy spell.policy_spelled }
+  asks_for c net policy is spell =
+      record {
+        asked = is;
+        topology = spell.topology;
+        policy_text = spell.policy_text;
+        more = spell.more;
+        held = spell.held;
+        net_meant = networks_are_meant
+            spell.topology net spell.net_spelled;
+        policy_meant = policies_are_meant net spell.policy_text policy spell.policy_spelled;
+      }
 
   module _ (net : PlainNet) (policy : PlainPolicy) where
     -- the words are this one, and the names that the command reads

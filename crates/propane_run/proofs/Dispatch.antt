@@ -41,7 +41,8 @@ use Rattle.promises_job.specs.Promised.{WritesPromises}
 use Rattle.whatif_job.proofs.WhatIfLaws.{whatif_job}
 use Rattle.whatif_job.specs.WhatIfs.{WritesWhatIf}
 use Rattle.propane_run.specs.declared.command.Command.{Command}
-use Rattle.propane_run.specs.declared.command.Command.TheVariants.{Compile, Evidence, Check, Explain, Replay, Trace, Impact, RouteMap, CheckMap, Lint, Audit, Migrate, Sample, Help, Version, Drain, Settle, Promises, WhatIf}
+use Rattle.propane_run.specs.declared.command.Command.TheVariants.{Compile, Evidence, Check, Explain, Replay, Trace, Impact, RouteMap, CheckMap, Lint, Audit, Migrate}
+use Rattle.propane_run.specs.declared.command.Command.TheVariants.{Sample, Help, Version, Drain, Settle, Promises, WhatIf}
 use Rattle.propane_run.specs.Asked.{AsksAlso, AsksFor, IsFor}
 use Rattle.propane_run.specs.Run.{Job}
 use Rattle.propane_run.specs.Words.{names_read, words_are}
@@ -76,11 +77,13 @@ job_is WhatIf = whatif_job (Unit {0}) ⊥ tt
 
 module _ (holds : Holds) (words : List (List ℕ)) where
   -- of two texts
-  of_two : (c : Command) → words_are words ≡ Some c → IsCompiler holds (names_read words c) (Job c) (SpellFor holds (names_read words c)) → IsCompiler holds (names_read words c) (Job c) (AsksFor holds words c)
+  of_two : (c : Command) → words_are words ≡ Some c → IsCompiler holds (names_read words c) (Job c) (SpellFor holds (names_read words c))
+      → IsCompiler holds (names_read words c) (Job c) (AsksFor holds words c)
   of_two c is compiler = in_words compiler (λ net policy. asks_for holds words c net policy is) (λ net policy. spells holds words c net policy)
 
   -- of three
-  of_three : {V F : Type 0} (told : F → List ℕ) (spelled_by : PlainNet → List ℕ → Result V F) (Writes : PlainNet → PlainPolicy → V → PlainConfig → List PlainCaseEvidence → List ℕ → Type 0) (c : Command)
+  of_three : {V F : Type 0} (told : F → List ℕ) (spelled_by : PlainNet → List ℕ → Result V F)
+      (Writes : PlainNet → PlainPolicy → V → PlainConfig → List PlainCaseEvidence → List ℕ → Type 0) (c : Command)
       → words_are words ≡ Some c → IsCompiler holds (names_read words c) (SaysOfThree told spelled_by Writes) (λ net policy. (value : V) × AsksAlso spelled_by holds words c net policy value)
   of_three told spelled_by Writes c is =
       in_words (compiler_of_three told spelled_by Writes holds (names_read words c)) (λ net policy asked. (asked.0, asks_also holds words spelled_by c net policy is asked.0 asked.1))

@@ -8,7 +8,8 @@ use Rattle.run_base.specs.Reading.{Holds, SaidOfTold}
 use Rattle.run_base.specs.Said.{text, Whole}
 use Rattle.run_base.proofs.Sent.{Gives, text_sent}
 use Rattle.propane_run.specs.declared.command.Command.{Command}
-use Rattle.propane_run.specs.declared.command.Command.TheVariants.{Compile, Evidence, Check, Explain, Replay, Trace, Sample, Migrate, Impact, RouteMap, CheckMap, Lint, Audit, Help, Version, Drain, Settle, Promises, WhatIf}
+use Rattle.propane_run.specs.declared.command.Command.TheVariants.{Compile, Evidence, Check, Explain, Replay, Trace, Sample, Migrate, Impact, RouteMap, CheckMap, Lint}
+use Rattle.propane_run.specs.declared.command.Command.TheVariants.{Audit, Help, Version, Drain, Settle, Promises, WhatIf}
 use Rattle.propane_run.specs.Ends.{EndsRight, Compiles as EndsCompiling}
 use Rattle.propane_run.specs.Run.{Job}
 use Rattle.propane_run.specs.Words.{names_read}

@@ -10,7 +10,8 @@ use Rattle.world_law.proofs.Moments.{every_moment_is_right}
 use Rattle.rest_law.proofs.Ended.{passing_evidence_comes_to_rest}
 use Rattle.propane_run.specs.Headline.{IsKeptInMotion}
 
-pub kept_in_motion : (net : PlainNet) (policy : PlainPolicy) (config : PlainConfig) (evidence : List PlainCaseEvidence) → IsNet net → IsPolicyOf net policy → Passes net policy config evidence → IsKeptInMotion net policy config
+pub kept_in_motion : (net : PlainNet) (policy : PlainPolicy) (config : PlainConfig) (evidence : List PlainCaseEvidence) → IsNet net
+    → IsPolicyOf net policy → Passes net policy config evidence → IsKeptInMotion net policy config
 kept_in_motion net policy config evidence rules fits passes = record {
   peers = passing_evidence_withstands_peers net policy config evidence rules fits passes;
   moments = every_moment_is_right net policy config evidence rules fits passes;

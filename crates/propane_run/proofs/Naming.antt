@@ -5,8 +5,10 @@ use Rattle.std.specs.Str.{bytes_eq}
 use Rattle.std.proofs.lemmas.Slice.Eq.{bytes_eq-Decides}
 use Rattle.help_texts.specs.Pages.{topic_named}
 use Rattle.propane_run.specs.declared.command.Command.{Command}
-use Rattle.propane_run.specs.declared.command.Command.TheVariants.{Compile, Evidence, Check, Explain, Replay, Trace, Impact, RouteMap, CheckMap, Lint, Audit, Migrate, Sample, Help, Version, Drain, Settle, Promises, WhatIf}
-use Rattle.propane_run.specs.Words.{asks_for_help, asks_for_version, names_read, prefix_word, sample_number, word_alone, with_one_word, with_two_names, with_three_words, with_four_names, with_six_names, words_are}
+use Rattle.propane_run.specs.declared.command.Command.TheVariants.{Compile, Evidence, Check, Explain, Replay, Trace, Impact, RouteMap, CheckMap, Lint, Audit, Migrate}
+use Rattle.propane_run.specs.declared.command.Command.TheVariants.{Sample, Help, Version, Drain, Settle, Promises, WhatIf}
+use Rattle.propane_run.specs.Words.{asks_for_help, asks_for_version, names_read, prefix_word, sample_number, word_alone, with_one_word, with_two_names, with_three_words}
+use Rattle.propane_run.specs.Words.{with_four_names, with_six_names, words_are}
 
 -- one of the two
 abbrev is_one : Command → Bool

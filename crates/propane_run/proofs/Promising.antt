@@ -11,7 +11,8 @@ use Rattle.scenario_reader.specs.Spelled.{spelled as scenario_spelled}
 use Rattle.settle_job.specs.Settles.{WritesSettlement}
 use Rattle.whatif_job.specs.WhatIfs.{WritesWhatIf}
 use Rattle.propane_run.specs.declared.command.Command.{Command}
-use Rattle.propane_run.specs.declared.command.Command.TheVariants.{Compile, Evidence, Check, Explain, Replay, Trace, Sample, Migrate, Impact, RouteMap, CheckMap, Lint, Audit, Help, Version, Drain, Settle, Promises, WhatIf}
+use Rattle.propane_run.specs.declared.command.Command.TheVariants.{Compile, Evidence, Check, Explain, Replay, Trace, Sample, Migrate, Impact, RouteMap, CheckMap, Lint}
+use Rattle.propane_run.specs.declared.command.Command.TheVariants.{Audit, Help, Version, Drain, Settle, Promises, WhatIf}
 use Rattle.propane_run.specs.Promises.{Promised}
 use Rattle.propane_run.specs.Run.{Comes}
 use Rattle.propane_run.proofs.ByCommand.Answered as answered

@@ -88,6 +88,7 @@ pub many_words : {X : Type 0} (bytes_of : X → List ℕ) (words : List X) → 8
 many_words bytes_of words h = many_of (map bytes_of words) (omega (arith, h, length-map words bytes_of))
 
 -- the bytes of the word that was read at a place
-pub word_read : {X : Type 0} (bytes_of : X → List ℕ) (words : List X) (k : ℕ) (word : X) (bytes : List ℕ) → k < length words → word ≡ get_or words k word → bytes ≡ bytes_of word → bytes ≡ word_at (map bytes_of words) k
+pub word_read : {X : Type 0} (bytes_of : X → List ℕ) (words : List X) (k : ℕ) (word : X) (bytes : List ℕ) → k < length words
+    → word ≡ get_or words k word → bytes ≡ bytes_of word → bytes ≡ word_at (map bytes_of words) k
 word_read bytes_of words k word bytes low read is =
     is ∙ sym (ap (λ o. unwrap_or o []) (slice_get-map bytes_of words k ∙ ap (option_map bytes_of) (slice_get_read words (length words) k word refl low read)))

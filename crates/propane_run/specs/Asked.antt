@@ -26,7 +26,8 @@ pub record AsksFor (holds : Holds) (words : List (List ℕ)) (c : Command) (net 
   pub policy_meant : IsPolicyTextOf net policy_text policy
 
 -- The words are this command, and the bytes of the third and last name that it reads spell this value for the network, too.
-pub record AsksAlso {V F : Type 0} (spelled_by : PlainNet → List ℕ → Result V F) (holds : Holds) (words : List (List ℕ)) (c : Command) (net : PlainNet) (policy : PlainPolicy) (value : V) : Type 0 where
+pub record AsksAlso {V F : Type 0} (spelled_by : PlainNet → List ℕ → Result V F) (holds : Holds) (words : List (List ℕ)) (c : Command)
+    (net : PlainNet) (policy : PlainPolicy) (value : V) : Type 0 where
   pub asked : AsksFor holds words c net policy
   pub third : List ℕ
   pub more : asked.more ≡ third ∷ []

@@ -1,7 +1,8 @@
 -- What the words and the inputs come to.
 use Rattle.std.specs.Prelude.{◌≡◌, ℕ, List, Option, Some, None}
 use Rattle.propane_run.specs.declared.command.Command.{Command}
-use Rattle.propane_run.specs.declared.command.Command.TheVariants.{Compile, Evidence, Check, Explain, Replay, Trace, Impact, RouteMap, CheckMap, Lint, Audit, Migrate, Sample, Help, Version, Drain, Settle, Promises, WhatIf}
+use Rattle.propane_run.specs.declared.command.Command.TheVariants.{Compile, Evidence, Check, Explain, Replay, Trace, Impact, RouteMap, CheckMap, Lint, Audit, Migrate}
+use Rattle.propane_run.specs.declared.command.Command.TheVariants.{Sample, Help, Version, Drain, Settle, Promises, WhatIf}
 use Rattle.propane_run.specs.Words.{names_read, usage, words_are}
 use Rattle.run_base.specs.Reading.{Holds, ReadsAll, AllHeld}
 use Rattle.input_texts.specs.Texts.{OfTwoTexts}

@@ -11,7 +11,8 @@ use Rattle.run_base.specs.declared.outcome.Status.TheVariants.{Usage}
 use Rattle.run_base.specs.Reading.{names_at}
 use Rattle.run_base.specs.Said.{Said, line}
 use Rattle.propane_run.specs.declared.command.Command.{Command}
-use Rattle.propane_run.specs.declared.command.Command.TheVariants.{Compile, Evidence, Check, Explain, Replay, Trace, Impact, RouteMap, CheckMap, Lint, Audit, Migrate, Sample, Help, Version, Drain, Settle, Promises, WhatIf}
+use Rattle.propane_run.specs.declared.command.Command.TheVariants.{Compile, Evidence, Check, Explain, Replay, Trace, Impact, RouteMap, CheckMap, Lint, Audit, Migrate}
+use Rattle.propane_run.specs.declared.command.Command.TheVariants.{Sample, Help, Version, Drain, Settle, Promises, WhatIf}
 
 -- a number from 2 to 96, of at most two digits, without a leading zero
 abbrev pub sample_number : List ℕ → Option ℕ
@@ -124,4 +125,5 @@ names_read words c = names_at words (places_of c)
 
 -- what is said of words that are no command
 abbrev pub usage : Said
-usage = line Usage (codes "propane: usage: compile TOPO POLICY, evidence TOPO POLICY, check TOPO POLICY CONFIG EVIDENCE, explain TOPO POLICY, replay TOPO POLICY SCENARIO, trace TOPO POLICY EVENTS, sample N, migrate CONFIG, impact TOPO POLICY PREFIX, routemap TOPO POLICY, checkmap CONFIG MAPS, lint TOPO POLICY, audit TOPO POLICY CONFIG EVIDENCE SCENARIO TABLES, help [COMMAND], version, drain TOPO POLICY SCENARIO, settle TOPO POLICY EVENTS, promises TOPO POLICY, whatif TOPO POLICY SCENARIO\n")
+usage =
+    line Usage (codes "propane: usage: compile TOPO POLICY, evidence TOPO POLICY, check TOPO POLICY CONFIG EVIDENCE, explain TOPO POLICY, replay TOPO POLICY SCENARIO, trace TOPO POLICY EVENTS, sample N, migrate CONFIG, impact TOPO POLICY PREFIX, routemap TOPO POLICY, checkmap CONFIG MAPS, lint TOPO POLICY, audit TOPO POLICY CONFIG EVIDENCE SCENARIO TABLES, help [COMMAND], version, drain TOPO POLICY SCENARIO, settle TOPO POLICY EVENTS, promises TOPO POLICY, whatif TOPO POLICY SCENARIO\n")

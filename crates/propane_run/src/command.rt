@@ -1,6 +1,20 @@
 //! Which command the words are.
 ghost use Rattle.std.specs.Prelude.{◌≡◌, IfSome, length, map, string_bytes};
-ghost use Rattle.propane_run.specs.Words.{words_are, asks_for_help, sample_number, word_alone, with_one_word, with_two_names, prefix_word, with_three_words, with_four_names, with_six_names, name_count, places_of, IsWithin};
+ghost use Rattle.propane_run.specs.Words.{
+  words_are,
+  asks_for_help,
+  sample_number,
+  word_alone,
+  with_one_word,
+  with_two_names,
+  prefix_word,
+  with_three_words,
+  with_four_names,
+  with_six_names,
+  name_count,
+  places_of,
+  IsWithin,
+};
 
 use help_texts::Topic;
 use net_base::{Prefix, read_length, read_prefix};

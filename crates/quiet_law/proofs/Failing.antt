@@ -145,7 +145,9 @@ module _ (net : PlainNet) (policy : PlainPolicy) (config : PlainConfig) (p : Pla
   sent_begins : (u r : ℕ) (m : Route) → exported S w u r ≡ Some m → (rest : List ℕ) × (m.path ≡ u ∷ rest)
   sent_begins u r m e = elim (cases_Bool (is_router net u)) [
     | inl router ↦
-        let x = sent_parts net policy config p u r (w.route u) m (sym (cond-true (is_router net u) (exported_by net config p u r (w.route u)) (if w.silent r u then None else announced_by net policy p u) router) ∙ e) in
+        let x =
+        sent_parts net policy config p u r (w.route u) m
+        (sym (cond-true (is_router net u) (exported_by net config p u r (w.route u)) (if w.silent r u then None else announced_by net policy p u) router) ∙ e) in
         let y = begins net policy config f p (routes_of net w) rules stable u x.0 router (at_router u router ∙ x.1) in
         (y.0, x.2 ∙ y.1)
     | inr other ↦

@@ -1,6 +1,7 @@
 -- A search that takes finished rows over finds what the lists lead to.
 use Rattle.std.proofs.Common.{◌≡◌, ◌≢◌, ℕ, ◌+◌, ◌<◌, Bool, true, false, cond, not, ◌&&◌, ◌||◌, eqb, List, [], ◌∷◌, ◌++◌, length, refl, sym, ap, ◌∙◌, inl, inr, ◌⊎◌, ◌↔◌, arith, ltb, vec_len}
-use Rattle.std.proofs.lemmas.Bool.{cases_Bool, cases_eq, cases_lt, or_cases, or_left, or_parts, or_right, and_from, and_parts, not_from_false, not-true, both_ways, eqb-true, eq-eqb, cond-true, cond-false, ltb-true, lt-ltb, le-ltb, ne_eqb}
+use Rattle.std.proofs.lemmas.Bool.{cases_Bool, cases_eq, cases_lt, or_cases, or_left, or_parts, or_right, and_from, and_parts, not_from_false, not-true, both_ways}
+use Rattle.std.proofs.lemmas.Bool.{eqb-true, eq-eqb, cond-true, cond-false, ltb-true, lt-ltb, le-ltb, ne_eqb}
 use Rattle.std.specs.List.{count_by, range_with_len}
 use Rattle.std.proofs.Math.Bool.{or-false, and-false}
 use Rattle.bit_rows.specs.Tables.{IsSameSize, has_at}

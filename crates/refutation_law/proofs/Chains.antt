@@ -1,7 +1,8 @@
 -- Chains of removed pairs are lines that refute.
 use Rattle.std.proofs.Common.{◌≡◌, ℕ, zero, suc, ◌<◌, ◌≤◌, Bool, true, false, not, ◌&&◌, ◌||◌, List, [], ◌∷◌, ◌++◌, Option, Some, None, inl, inr, arith, refl, sym, ap, ◌∙◌, subst}
 use Rattle.std.specs.Prelude.{is_some, option_map}
-use Rattle.std.proofs.lemmas.Bool.{and_parts, and_from, and_cases, or_left, both_ways, cases_Bool, cases_lt, cond-true, cond-false, eqb-true, eq-eqb, leb-false, not-true, not-false, not_from_false, not_from_true}
+use Rattle.std.proofs.lemmas.Bool.{and_parts, and_from, and_cases, or_left, both_ways, cases_Bool, cases_lt, cond-true, cond-false, eqb-true, eq-eqb, leb-false, not-true}
+use Rattle.std.proofs.lemmas.Bool.{not-false, not_from_false, not_from_true}
 use Rattle.list_laws.proofs.Options.{option_map_parts}
 use Rattle.net_base.specs.declared.loc.LocSet.{LocSet}
 use Rattle.net_base.specs.Sets.{holds}
@@ -146,7 +147,8 @@ module _ (g : PlainGraph) (claimed : LocSet) (ok : IsGraph g) (reach : ℕ → �
         told t (NoStep z) e st h = (
           (t, (h.0, h.1)),
           λ s step.
-              both_ways (has_answer V none l.better t) h.2 (any_at V.size (λ s. steps_on V l.better s && (same_place V s t && not (none s t))) s (step_nodes g l.better s ok (and_parts (has_step g l.better s) _ step.0).0).1
+              both_ways (has_answer V none l.better t) h.2
+              (any_at V.size (λ s. steps_on V l.better s && (same_place V s t && not (none s t))) s (step_nodes g l.better s ok (and_parts (has_step g l.better s) _ step.0).0).1
               (and_from (steps_on V l.better s) _ step.0 (and_from (same_place V s t) true (eq-eqb (place_of g s) (place_of g t) (step.1 ∙ sym h.1)) refl))),
         )
         told t (StepWorse z) e st h =

@@ -1,6 +1,7 @@
 -- Numbers that meet the rules exist exactly where the greatest closed relation is total.
 use Rattle.std.proofs.Common.{◌≡◌, ℕ, zero, suc, ◌<◌, ◌≤◌, Bool, true, false, not, ◌&&◌, nat_le, inl, inr, arith, refl, sym, ap, ◌∙◌}
-use Rattle.std.proofs.lemmas.Bool.{or_cases, cases_Bool, cases_lt, and_parts, and_from, and_right, not-true, not_from_true, not_from_false, both_ways, leb-true, le-leb, true_from_ne_false, false_from_ne_true}
+use Rattle.std.proofs.lemmas.Bool.{or_cases, cases_Bool, cases_lt, and_parts, and_from, and_right, not-true, not_from_true, not_from_false, both_ways, leb-true, le-leb}
+use Rattle.std.proofs.lemmas.Bool.{true_from_ne_false, false_from_ne_true}
 use Rattle.relation_law.specs.Numbers.{AreNumbers, any_below, count_below, is_lower, is_first, number_of}
 use Rattle.relation_law.specs.Relations.{Meets, Pair, IsClosed, IsGreatest, IsTotal}
 use Rattle.relation_law.specs.Rounds.{is_pair}

@@ -1,6 +1,7 @@
 -- What the rounds leave is the greatest closed relation.
 use Rattle.std.proofs.Common.{◌≡◌, ℕ, zero, suc, ◌<◌, Bool, true, false, not, ◌&&◌, ◌||◌, inl, inr, refl, sym, ◌∙◌}
-use Rattle.std.proofs.lemmas.Bool.{or_cases, or_parts, or_from, cases_Bool, and_parts, and_from, and_cases, not-true, not-false, not_from_false, both_ways, eqb-true, eq-eqb, ltb-true, lt-ltb, false_from_ne_true, cond-true, cond-false}
+use Rattle.std.proofs.lemmas.Bool.{or_cases, or_parts, or_from, cases_Bool, and_parts, and_from, and_cases, not-true, not-false, not_from_false, both_ways, eqb-true}
+use Rattle.std.proofs.lemmas.Bool.{eq-eqb, ltb-true, lt-ltb, false_from_ne_true, cond-true, cond-false}
 use Rattle.relation_law.specs.Relations.{Pair, Meets, IsClosed, IsGreatest, IsTotal, no_worse, steps_on, is_heard}
 use Rattle.relation_law.specs.Rounds.{IsReach, same_place, has_answer, is_heard_there, is_looped, fails_at, fails, gone_after, is_pair, left_after, IsSettled}
 use Rattle.relation_law.specs.Views.{View}

@@ -55,7 +55,8 @@ pub fails_by_either : (v : View) (one other gone : ℕ → ℕ → Bool) (m t : 
 fails_by_either v one other gone m t same = elim (cases_Bool (v.hears t)) [
   | inl h ↦ fails_heard v one gone m t h ∙ sym (fails_heard v other gone m t h)
   | inr h ↦ fails_stepped v one gone m t h
-      ∙ ap (λ z. not (has_answer v gone m t) || z) (any_alike v.size (λ k. same_place v k t && (one k m && gone k t)) (λ k. same_place v k t && (other k m && gone k t)) (λ k lk. elim (cases_Bool (same_place v k t)) [
+      ∙ ap (λ z. not (has_answer v gone m t) || z)
+      (any_alike v.size (λ k. same_place v k t && (one k m && gone k t)) (λ k. same_place v k t && (other k m && gone k t)) (λ k lk. elim (cases_Bool (same_place v k t)) [
         | inl e ↦ ap (λ z. same_place v k t && z) (same k lk e)
         | inr e ↦ and_left _ _ e ∙ sym (and_left _ _ e)
       ]))

@@ -1,6 +1,7 @@
 -- What the cells tell, round by round.
 use Rattle.std.proofs.Common.{◌≡◌, ℕ, suc, ◌<◌, ◌≤◌, Bool, true, false, cond, not, ◌&&◌, ◌||◌, eqb, ltb, leb, List, length, arith, sym, ap, ◌∙◌, inl, inr}
-use Rattle.std.proofs.lemmas.Bool.{and_from, and_left, and_right, and_parts, both_ways, cases_Bool, cases_eq, cases_lt, cond-true, cond-false, eq-eqb, le-leb, le-ltb, leb-true, lt-ltb, ne_eqb, false_from_ne_true, or_cases, or_left, or_parts}
+use Rattle.std.proofs.lemmas.Bool.{and_from, and_left, and_right, and_parts, both_ways, cases_Bool, cases_eq, cases_lt, cond-true, cond-false, eq-eqb, le-leb, le-ltb}
+use Rattle.std.proofs.lemmas.Bool.{leb-true, lt-ltb, ne_eqb, false_from_ne_true, or_cases, or_left, or_parts}
 use Rattle.std.proofs.Math.Bool.{not-not}
 use Rattle.bit_rows.specs.Tables.{PlainRows, has_at}
 use Rattle.graph_base.specs.Graphs.{PlainGraph}

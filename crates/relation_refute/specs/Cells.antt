@@ -53,7 +53,8 @@ pub record IsFallen (g : PlainGraph) (claimed : LocSet) (f : Fallen) : Type 0 wh
   pub before : ℕ
   pub next : f.last ≡ suc before
   -- in the rounds before there are no such two
-  pub bound : (m n : ℕ) → Pair (view_of g claimed) m n → IsTrue (gone_after (view_of g claimed) (has_at f.onwards) before m n) → IsTrue (gone_after (view_of g claimed) (has_at f.onwards) before n m) → ⊥
+  pub bound : (m n : ℕ) → Pair (view_of g claimed) m n → IsTrue (gone_after (view_of g claimed) (has_at f.onwards) before m n)
+      → IsTrue (gone_after (view_of g claimed) (has_at f.onwards) before n m) → ⊥
   pub parted : (m n : ℕ) × Pair (view_of g claimed) m n × IsTrue (gone_after (view_of g claimed) (has_at f.onwards) f.last m n) × IsTrue (gone_after (view_of g claimed) (has_at f.onwards) f.last n m)
 
 -- a went above b before this round

@@ -31,4 +31,5 @@ pub record IsLineOf (g : PlainGraph) (claimed : LocSet) (f : Fallen) (l : Line) 
 -- each line has its pair and round, and the reason for which that pair goes
 pub record AreLinesOf (v : View) (reach : ℕ → ℕ → Bool) (lines : List Line) (removed : List Removed) : Type 0 where
   pub len : length removed ≡ length lines
-  pub each : (i : ℕ) (l : Line) → slice_get lines i ≡ Some l → (r : Removed) × (slice_get removed i ≡ Some r) × (r.better ≡ l.better) × (r.worse ≡ l.worse) × (r.round ≡ l.round) × Goes v reach r.better r.worse r.round r.why
+  pub each : (i : ℕ) (l : Line) → slice_get lines i ≡ Some l
+      → (r : Removed) × (slice_get removed i ≡ Some r) × (r.better ≡ l.better) × (r.worse ≡ l.worse) × (r.round ≡ l.round) × Goes v reach r.better r.worse r.round r.why

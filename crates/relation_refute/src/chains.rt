@@ -44,7 +44,8 @@ pub fn add_chain(
     ensures kept { OnOk result ((l : PlainLine) → IsIn lines.old.items l → IsIn lines.new.items l) }
     ensures each { OnOk result ((l : PlainLine) → IsIn lines.new.items l → IsIn lines.old.items l
         ⊎ IsLineOf maps.now.graph.now claimed.now fallen.now l × Led (view_of maps.now.graph.now claimed.now) (has_at fallen.now.onwards) m n l.better l.worse) }
-    ensures all { OnOk result ((a b : ℕ) → Led (view_of maps.now.graph.now claimed.now) (has_at fallen.now.onwards) m n a b → (l : PlainLine) × IsIn lines.new.items l × (l.better ≡ a) × (l.worse ≡ b)) }
+    ensures all { OnOk result
+        ((a b : ℕ) → Led (view_of maps.now.graph.now claimed.now) (has_at fallen.now.onwards) m n a b → (l : PlainLine) × IsIn lines.new.items l × (l.better ≡ a) × (l.worse ≡ b)) }
 {
     let mut next = Some((m, n));
     'chain: while let Some((better, worse)) = next {

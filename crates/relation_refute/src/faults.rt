@@ -183,7 +183,8 @@ fn first_failing(maps: &Maps, fallen: &Fallen, round: u32, m: u32, n: u32) -> Op
     requires m { m < length maps.now.graph.now.nodes }
     requires n { n < length maps.now.graph.now.nodes }
     ensures some { IfSome result (IsFirstFailing (shown maps.now.graph.now) (has_at fallen.now.onwards) (went fallen.now round) m n) }
-    ensures none { IfNone result ((t : ℕ) → IsTrue (has_step maps.now.graph.now n t) → is_some (reason_there (shown maps.now.graph.now) (has_at fallen.now.onwards) (went fallen.now round) m t) ≡ false) }
+    ensures none { IfNone result
+        ((t : ℕ) → IsTrue (has_step maps.now.graph.now n t) → is_some (reason_there (shown maps.now.graph.now) (has_at fallen.now.onwards) (went fallen.now round) m t) ≡ false) }
 {
     let mut first = None;
     for t in maps.successors(n) {

@@ -22,7 +22,8 @@ use Rattle.replay_job.specs.Replayed.{IsReplayed, SaysOfTexts, WritesReport}
 use Rattle.scenario_reader.proofs.ReadPrefixes.{spelled_prefix}
 
 -- one outcome is stable with ties broken
-pub one_outcome : (net : PlainNet) (policy : PlainPolicy) (config : PlainConfig) (evidence : List PlainCaseEvidence) (scenario : Scenario) → IsNet net → IsPolicyOf net policy → IsPrefix scenario.prefix
+pub one_outcome : (net : PlainNet) (policy : PlainPolicy) (config : PlainConfig) (evidence : List PlainCaseEvidence) (scenario : Scenario) → IsNet net
+    → IsPolicyOf net policy → IsPrefix scenario.prefix
     → Passes net policy config evidence → (a b : Outcome) → length a ≡ length net.routers → length b ≡ length net.routers
     → IsFullyStable net policy config (failures_of scenario) scenario.prefix a → IsFullyStable net policy config (failures_of scenario) scenario.prefix b → a ≡ b
 one_outcome net policy config evidence scenario rules fits prefix passes =

@@ -9,5 +9,6 @@ ghost use Rattle.report_lines.specs.Report.{IsReport};
 
 /// What is shown for a prefix has one report.
 pub fn reports_are_one()
-    ensures { (net : PlainNet) (policy : PlainPolicy) (config : PlainConfig) (p : PlainPrefix) (shown : Shown) (a b : List ℕ) → IsReport net policy config p shown a → IsReport net policy config p shown b → a ≡ b }
+    ensures { (net : PlainNet) (policy : PlainPolicy) (config : PlainConfig) (p : PlainPrefix) (shown : Shown) (a b : List ℕ)
+        → IsReport net policy config p shown a → IsReport net policy config p shown b → a ≡ b }
 {}

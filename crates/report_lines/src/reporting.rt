@@ -42,7 +42,10 @@ fn push_state<S: Scene>(
     at: Loc,
 ) -> Result<(), NoMemory>
     requires { ForSome (statement_in subject.now.claims) (λ s. alternative_count s.ranked ≤ ALTERNATIVES) }
-    ensures { OnOk result (text.new.items ≡ text.old.items ++ state_text subject.now.net.now (policy_of subject.now.policy.now) subject.now.prefix (statement_in subject.now.claims) (sources_of subject.now.claims) (S.shown scene.now) at) }
+    ensures { OnOk result
+        (text.new.items
+        ≡ text.old.items
+        ++ state_text subject.now.net.now (policy_of subject.now.policy.now) subject.now.prefix (statement_in subject.now.claims) (sources_of subject.now.claims) (S.shown scene.now) at) }
 {
     if scene.is_dead(at) {
         return push_bytes(text, b" dead");
@@ -65,7 +68,10 @@ fn push_router<S: Scene>(
     at: Loc,
 ) -> Result<(), NoMemory>
     requires { ForSome (statement_in subject.now.claims) (λ s. alternative_count s.ranked ≤ ALTERNATIVES) }
-    ensures { OnOk result (text.new.items ≡ text.old.items ++ router_line subject.now.net.now (policy_of subject.now.policy.now) subject.now.prefix (statement_in subject.now.claims) (sources_of subject.now.claims) (S.shown scene.now) at) }
+    ensures { OnOk result
+        (text.new.items
+        ≡ text.old.items
+        ++ router_line subject.now.net.now (policy_of subject.now.policy.now) subject.now.prefix (statement_in subject.now.claims) (sources_of subject.now.claims) (S.shown scene.now) at) }
 {
     push_bytes(text, b"router")?;
     push_next(text, subject.net, at)?;
@@ -81,7 +87,8 @@ fn push_routers<S: Scene>(
 ) -> Result<(), NoMemory>
     requires { ForSome (statement_in subject.now.claims) (λ s. alternative_count s.ranked ≤ ALTERNATIVES) }
     ensures { OnOk result (text.new.items ≡ text.old.items
-        ++ flat_map (router_line subject.now.net.now (policy_of subject.now.policy.now) subject.now.prefix (statement_in subject.now.claims) (sources_of subject.now.claims) (S.shown scene.now)) (numbers_below (length subject.now.net.now.routers))) }
+        ++ flat_map (router_line subject.now.net.now (policy_of subject.now.policy.now) subject.now.prefix (statement_in subject.now.claims) (sources_of subject.now.claims) (S.shown scene.now))
+        (numbers_below (length subject.now.net.now.routers))) }
 {
     for place in 0..subject.net.routers().len() {
         push_router(text, subject, scene, Loc::new(place as u16))?;

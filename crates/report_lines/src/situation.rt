@@ -75,7 +75,9 @@ impl<'a> Situation<'a> {
     /// The path that a router sends to a neighbour.
     pub fn path_sent(&self, router: Loc, to: Loc) -> Option<&[Loc]>
         ensures { IsTrue (is_router self.now.net.now router)
-            → option_map (λ path. path.now) result ≡ option_map (λ s. s.0) (sent self.now.net.now (policy_of self.now.policy.now) self.now.config.now (failures_of self.now.scenario.now) self.now.scenario.now.prefix self.now.outcome.now.routes router to) }
+            → option_map (λ path. path.now) result
+            ≡ option_map (λ s. s.0)
+            (sent self.now.net.now (policy_of self.now.policy.now) self.now.config.now (failures_of self.now.scenario.now) self.now.scenario.now.prefix self.now.outcome.now.routes router to) }
     {
         let class = self.class?;
         let route = self.outcome.route_at(router)?;

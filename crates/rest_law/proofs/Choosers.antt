@@ -35,7 +35,8 @@ module _ (net : PlainNet) (policy : PlainPolicy) (config : PlainConfig) (p : Pla
   unsent a b = option_and_then-never (λ (k : ℕ). option_and_then (λ (h : Route). option_map (message h) (export_of net config k a b h.tag)) None) (class_of config p) (λ k. refl)
 
   -- what is taken was said, and has one more in front
-  pub taken_parts : (r u : ℕ) (o : Option Route) (h : Route) → taken_by net config p r u o ≡ Some h → (k : ℕ) × (m : Route) × (o ≡ Some m) × ((line : _) × (import_of net config k r u m.path m.tag ≡ Some line)) × (h.path ≡ r ∷ m.path)
+  pub taken_parts : (r u : ℕ) (o : Option Route) (h : Route) → taken_by net config p r u o ≡ Some h
+      → (k : ℕ) × (m : Route) × (o ≡ Some m) × ((line : _) × (import_of net config k r u m.path m.tag ≡ Some line)) × (h.path ≡ r ∷ m.path)
   taken_parts r u o h e =
       let k = option_and_then_parts (λ (k : ℕ). option_and_then (λ (m : Route). option_map (extended r m) (import_of net config k r u m.path m.tag)) o) (class_of config p) h e in
       let m = option_and_then_parts (λ (m : Route). option_map (extended r m) (import_of net config k.0 r u m.path m.tag)) o h k.2 in

@@ -55,26 +55,35 @@ module _ (net : PlainNet) (policy : PlainPolicy) (config : PlainConfig) (p : Pla
   AnOrder = (outcome : ℕ → Option Route) × HasOrder net policy config p w outcome
 
   -- over a graph whose lines these are
-  module _ (f : Failures) (scenario : IsScenarioOf net w f) (class : ℕ) (of_class : class_of config p ≡ Some class) (g : graph.Graph) (tag : ℕ → _) (written : spelled.Written (network_of net (is_origin net policy p)) g tag (lines_of net config p class))
+  module _ (f : Failures) (scenario : IsScenarioOf net w f) (class : ℕ) (of_class : class_of config p ≡ Some class) (g : graph.Graph) (tag : ℕ → _)
+      (written : spelled.Written (network_of net (is_origin net policy p)) g tag (lines_of net config p class))
       (known : (l : ℕ) → is_origin net policy p l ≡ true → is_location net l ≡ true) (meets : graph.MeetsRules (network_of net (is_origin net policy p)) g) where
     over_graph : AnOrder
     over_graph =
         let within = setup net policy config p class rules of_class g tag written known w f scenario in
         let to = route_of net policy config p class rules of_class g tag written known in
         let settled = exists within written.formed meets in
-        let has = ordered S w (taken_by net config p) (NoLater net) (λ (h : Route). length h.path) (are_choosers net policy config p rules) within to (are_of_graph net policy config p class rules of_class g tag written known w f scenario)
+        let has =
+        ordered S w (taken_by net config p) (NoLater net) (λ (h : Route). length h.path) (are_choosers net policy config p rules) within to
+        (are_of_graph net policy config p class rules of_class g tag written known w f scenario)
         (names_differ net (is_origin net policy p) rules) written.formed settled.0 meets settled.1 in
         (held_in S w to settled.0, record { rested = λ r t. cond-true (rests S w r) (at_rest S w r) (option_map to (settled.0 r)) t; routers = has.0; order = has.1 })
 
   -- without a class
   bare_over : class_of config p ≡ None → AnOrder
   bare_over free =
-      let nothing : (r u : ℕ) (o : Option Route) → taken_by net config p r u o ≡ None = λ r u o. ap (option_and_then (λ (k : ℕ). option_and_then (λ (m : Route). option_map (extended r m) (import_of net config k r u m.path m.tag)) o)) free in
-      let has = bare_order S w (taken_by net config p) (NoLater net) (length net.routers) (λ r t. ltb-true r (length net.routers) t) nothing in
-      (bare S w (taken_by net config p) (NoLater net) (length net.routers) (λ r t. ltb-true r (length net.routers) t) nothing, record { rested = λ r t. cond-true (rests S w r) (at_rest S w r) None t; routers = has.0; order = has.1 })
+      let nothing : (r u : ℕ) (o : Option Route) → taken_by net config p r u o ≡ None =
+      λ r u o. ap (option_and_then (λ (k : ℕ). option_and_then (λ (m : Route). option_map (extended r m) (import_of net config k r u m.path m.tag)) o))
+      free in
+      let has = bare_order S w (taken_by net config p) (NoLater net) (length net.routers) (λ r t. ltb-true r (length net.routers) t) nothing in (
+        bare S w (taken_by net config p) (NoLater net) (length net.routers) (λ r t. ltb-true r (length net.routers) t) nothing,
+        record
+            { rested = λ r t. cond-true (rests S w r) (at_rest S w r) None t; routers = has.0; order = has.1 },
+      )
 
 -- each world has an order
-has_order : (net : PlainNet) (policy : PlainPolicy) (config : PlainConfig) (cs : List PlainCaseEvidence) → IsNet net → IsPolicyOf net policy → Passes net policy config cs → (p : PlainPrefix) → IsPrefix p → (w : World Route) (f : Failures) → IsScenarioOf net w f
+has_order : (net : PlainNet) (policy : PlainPolicy) (config : PlainConfig) (cs : List PlainCaseEvidence) → IsNet net → IsPolicyOf net policy
+    → Passes net policy config cs → (p : PlainPrefix) → IsPrefix p → (w : World Route) (f : Failures) → IsScenarioOf net w f
     → (outcome : ℕ → Option Route) × HasOrder net policy config p w outcome
 has_order net policy config cs rules kept passes p prefix w f scenario = elim (case_or_bare net policy config cs rules kept passes f p prefix) [
   | inr free ↦ bare_over net policy config p rules w free
@@ -93,7 +102,8 @@ same_scenario net w v f same scenario = record {
   silent = λ r q t. scenario.silent r q t ∙ ap (λ (d : ℕ → ℕ → Bool). d r q) (sym same.silent);
 }
 
-pub still_scenario : (net : PlainNet) (policy : PlainPolicy) (config : PlainConfig) (p : PlainPrefix) (es : List Event) (f : Failures) (ds : List (ℕ × ℕ)) → IsScenarioOf net (world_after net policy config p es) f → IsScenarioOf net (world_after net policy config p (es ++ deliveries ds)) f
+pub still_scenario : (net : PlainNet) (policy : PlainPolicy) (config : PlainConfig) (p : PlainPrefix) (es : List Event) (f : Failures) (ds : List (ℕ × ℕ))
+    → IsScenarioOf net (world_after net policy config p es) f → IsScenarioOf net (world_after net policy config p (es ++ deliveries ds)) f
 still_scenario net policy config p es f ds scenario =
     let S = speakers_of net policy config p in
     let w : World Route = world_after net policy config p es in
@@ -110,7 +120,8 @@ ways_listed (l ∷ ls) a b h = elim (or_cases (joins a b l) (list_any (joins a b
   | inr later ↦ inr (inr (ways_listed ls a b later))
 ]
 
-module _ (net : PlainNet) (policy : PlainPolicy) (config : PlainConfig) (cs : List PlainCaseEvidence) (rules : IsNet net) (kept : IsPolicyOf net policy) (passes : Passes net policy config cs) (p : PlainPrefix) (prefix : IsPrefix p) (es : List Event) where
+module _ (net : PlainNet) (policy : PlainPolicy) (config : PlainConfig) (cs : List PlainCaseEvidence) (rules : IsNet net)
+    (kept : IsPolicyOf net policy) (passes : Passes net policy config cs) (p : PlainPrefix) (prefix : IsPrefix p) (es : List Event) where
   abbrev Here : Speakers Route
   Here = speakers_of net policy config p
 

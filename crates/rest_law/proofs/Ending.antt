@@ -53,10 +53,13 @@ messages_end_on_networks net policy config p es outcome ds rules has rounds =
     let speak = are_speakers net policy config p rules in
     let kept = run-keeps S speak es (opening S) (opening-keeps S speak) in
     let kinds : (ds : List (ℕ × ℕ)) → AreKinds (IsHolding net) (IsSaying net) (run S (deliveries ds) w) = λ ds.
-    run-kinds S (IsHolding net) (IsSaying net) (trails net policy config p) (deliveries ds) w (run-kinds S (IsHolding net) (IsSaying net) (trails net policy config p) es (opening S) (opening-kinds S (IsHolding net) (IsSaying net) (trails net policy config p))) in
+    run-kinds S (IsHolding net) (IsSaying net) (trails net policy config p) (deliveries ds) w
+    (run-kinds S (IsHolding net) (IsSaying net) (trails net policy config p) es (opening S) (opening-kinds S (IsHolding net) (IsSaying net) (trails net policy config p))) in
     let short : (ds : List (ℕ × ℕ)) (r : ℕ) (h : Route) → (run S (deliveries ds) w).route r ≡ Some h → length h.path ≤ suc (length net.routers) = λ ds r h e.
     (let k = (kinds ds).route r h e in subst (λ (z : List ℕ). length z ≤ suc (length net.routers)) (sym k.1) (trail_short net (r ∷ k.0) k.2)) in
     let few = order_short S w (taken_by net config p) (NoLater net) outcome (length net.routers) (λ r t. ltb-true r (length net.routers) t) has.routers has.order in
-    let end = comes_to_rest S w (taken_by net config p) (NoLater net) (λ (h : Route). length h.path) (are_choosers net policy config p rules) outcome has.rested (suc (length net.routers)) speak has.routers ds kept short has.order
+    let end =
+    comes_to_rest S w (taken_by net config p) (NoLater net) (λ (h : Route). length h.path)
+    (are_choosers net policy config p rules) outcome has.rested (suc (length net.routers)) speak has.routers ds kept short has.order
     (fewer_rounds S _ _ w ds (enough (length has.routers) (length net.routers) few) rounds) in
     subst (λ (u : World Route). IsQuiet u × ((r : ℕ) → u.route r ≡ outcome r)) (run_on S es (deliveries ds) (opening S)) end

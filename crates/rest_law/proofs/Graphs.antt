@@ -36,7 +36,8 @@ pub record AreOfGraph {R : Type 0} (net : Speakers R) (w : World R) (takes : Tak
   pub own_up : (x v : ℕ) (y : Route) (m : ℕ) → setup.net.origin x ≡ true → own_route setup x ≡ Some y → chooses setup.net setup.alive v ≡ true → Steps setup x v y m
       → (rests net w x ≡ true) × (live net w x v ≡ true) × (takes v x (said net w x v (at_rest net w x)) ≡ Some (route_of (stepped v y m)))
   -- and of the others
-  pub down : (x v : ℕ) (y : Route) (h : R) → chooses setup.net setup.alive x ≡ true → chooses setup.net setup.alive v ≡ true → Runs setup x y → live net w x v ≡ true → takes v x (said net w x v (Some (route_of y))) ≡ Some h
+  pub down : (x v : ℕ) (y : Route) (h : R) → chooses setup.net setup.alive x ≡ true → chooses setup.net setup.alive v ≡ true → Runs setup x y
+      → live net w x v ≡ true → takes v x (said net w x v (Some (route_of y))) ≡ Some h
       → (m : ℕ) × Steps setup x v y m × (h ≡ route_of (stepped v y m))
   pub up : (x v : ℕ) (y : Route) (m : ℕ) → chooses setup.net setup.alive x ≡ true → chooses setup.net setup.alive v ≡ true → Runs setup x y → Steps setup x v y m
       → (live net w x v ≡ true) × (takes v x (said net w x v (Some (route_of y))) ≡ Some (route_of (stepped v y m)))

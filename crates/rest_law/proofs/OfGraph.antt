@@ -2,7 +2,8 @@
 use Rattle.std.proofs.Common.{◌≡◌, ℕ, ◌≤◌, ◌<◌, Bool, true, false, not, ◌&&◌, List, [], ◌∷◌, length, Option, Some, None, refl, sym, ap, ◌∙◌, subst, inl, inr, arith}
 use Rattle.std.specs.Prelude.{is_some, option_map, if◌then◌else◌, ◌==◌}
 use Rattle.std.specs.Option.{option_and_then}
-use Rattle.std.proofs.lemmas.Bool.{and_from, and_left, and_parts, cases_Bool, cond-true, cond-false, eqb-true, false_from_ne_true, true_from_ne_false, le-leb, ltb-false, ltb-true, not-false, not-true, not_from_false, or_cases, or_from, or_left, or_parts, or_right, true≢false}
+use Rattle.std.proofs.lemmas.Bool.{and_from, and_left, and_parts, cases_Bool, cond-true, cond-false, eqb-true, false_from_ne_true, true_from_ne_false, le-leb, ltb-false}
+use Rattle.std.proofs.lemmas.Bool.{ltb-true, not-false, not-true, not_from_false, or_cases, or_from, or_left, or_parts, or_right, true≢false}
 use Rattle.std.proofs.Math.Bool.{and_assoc}
 use Rattle.net_base.specs.declared.numbers.Tag.{Tag}
 use Rattle.net_base.specs.Network.{PlainNet, IsNet, id_of, is_location, is_peer, is_router, linked}
@@ -74,9 +75,11 @@ module _ (net : PlainNet) (policy : PlainPolicy) (config : PlainConfig) (p : Pla
   extended_is : (v : ℕ) (m : Route) (q : Tag × ℕ) (n : ℕ) (path : List ℕ) → m.path ≡ path → gift_of q ≡ (tag n, g.number n) → extended v m q ≡ route_of (record { path = v ∷ path; node = n })
   extended_is v m q n path same gift = λ i. record { path = v ∷ same i; tag = tag_of ((gift i).0); pref = (gift i).1 }
 
-  module _ (x v : ℕ) (from : is_router net x ≡ true) (to : is_router net v ≡ true) (h : Route) (rest : List ℕ) (n : ℕ) (begins : h.path ≡ x ∷ rest) (runs : graph.run g (x ∷ rest) ≡ Some n) (tagged : pair_of h.tag ≡ tag n) where
+  module _ (x v : ℕ) (from : is_router net x ≡ true) (to : is_router net v ≡ true) (h : Route) (rest : List ℕ) (n : ℕ) (begins : h.path ≡ x ∷ rest)
+      (runs : graph.run g (x ∷ rest) ≡ Some n) (tagged : pair_of h.tag ≡ tag n) where
     -- what v takes of a route of the router x is a step
-    router_down : (k : Route) → taken_by net config p v x (exported_by net config p x v (Some h)) ≡ Some k → (m : ℕ) × (law.stands_on v h.path ≡ false) × (g.next n v ≡ Some m) × (k ≡ route_of (record { path = v ∷ h.path; node = m }))
+    router_down : (k : Route) → taken_by net config p v x (exported_by net config p x v (Some h)) ≡ Some k
+        → (m : ℕ) × (law.stands_on v h.path ≡ false) × (g.next n v ≡ Some m) × (k ≡ route_of (record { path = v ∷ h.path; node = m }))
     router_down k e = elim (cases_Option (export_of net config class x v h.tag)) [
       | inl none ↦ (
           let no : None ≡ Some k = sym (ap (taken_by net config p v x) (exported_is x v h ∙ ap (option_map (message h)) none) ∙ untaken net policy config p v x) ∙ e in
@@ -86,21 +89,27 @@ module _ (net : PlainNet) (policy : PlainPolicy) (config : PlainConfig) (p : Pla
           let heard : option_map (extended v (message h t.0)) (import_of net config class v x h.path t.0) ≡ Some k =
           sym (taken_is v x (message h t.0)) ∙ ap (taken_by net config p v x) (sym (exported_is x v h ∙ ap (option_map (message h)) t.1)) ∙ e in
           let q = option_map_parts (extended v (message h t.0)) (import_of net config class v x h.path t.0) k heard in
-          let parts = unless (law.stands_on v h.path) (import_of net config class v x [] t.0) q.0 (sym (import_from_router net config class v x h.path t.0 rules (router_known net v to) (router_no_peer net x from)) ∙ q.1) in
+          let parts =
+          unless (law.stands_on v h.path) (import_of net config class v x [] t.0) q.0
+          (sym (import_from_router net config class v x h.path t.0 rules (router_known net v to) (router_no_peer net x from)) ∙ q.1) in
           let imported : lines.imported v x (tag n) ≡ Some (gift_of q.0) = ap (lines.imported v x) (sym (ap pair_of same ∙ tagged)) ∙ ap (option_map gift_of) parts.1 in
           let next = imports_are_steps Net g tag lines written x v n rest (gift_of q.0) from to runs imported in
           (next.0, parts.0, next.1, sym q.2 ∙ extended_is v (message h t.0) q.0 next.0 h.path refl next.2))
     ]
 
     -- and a step is taken
-    router_up : (m : ℕ) → law.stands_on v h.path ≡ false → g.next n v ≡ Some m → taken_by net config p v x (exported_by net config p x v (Some h)) ≡ Some (route_of (record { path = v ∷ h.path; node = m }))
+    router_up : (m : ℕ) → law.stands_on v h.path ≡ false → g.next n v ≡ Some m
+        → taken_by net config p v x (exported_by net config p x v (Some h)) ≡ Some (route_of (record { path = v ∷ h.path; node = m }))
     router_up m off step =
         let over : spelled.StepOver g x v n m = record { node = node_below written.formed rest x n runs; place = run_place written.formed x rest n runs; step = step } in
         let t = is_some_parts (export_of net config class x v h.tag) (ap (lines.exported x v) tagged ∙ written.lines.exports x v n m from over) in
         let same : t.0 ≡ h.tag = export_to_router net config class x v h.tag t.0 (router_no_peer net v to) t.1 in
-        let q = option_map_parts gift_of (import_of net config class v x [] t.0) (tag m, g.number m) (ap (lines.imported v x) (ap pair_of same ∙ tagged) ∙ written.lines.imports x v n m from to over) in
+        let q =
+        option_map_parts gift_of (import_of net config class v x [] t.0) (tag m, g.number m)
+        (ap (lines.imported v x) (ap pair_of same ∙ tagged) ∙ written.lines.imports x v n m from to over) in
         let imported : import_of net config class v x h.path t.0 ≡ Some q.0 =
-        import_from_router net config class v x h.path t.0 rules (router_known net v to) (router_no_peer net x from) ∙ cond-false (law.stands_on v h.path) None (import_of net config class v x [] t.0) off ∙ q.1 in
+        import_from_router net config class v x h.path t.0 rules (router_known net v to) (router_no_peer net x from)
+        ∙ cond-false (law.stands_on v h.path) None (import_of net config class v x [] t.0) off ∙ q.1 in
         ap (taken_by net config p v x) (exported_is x v h ∙ ap (option_map (message h)) t.1) ∙ taken_is v x (message h t.0) ∙ ap (option_map (extended v (message h t.0))) imported
         ∙ ap Some (extended_is v (message h t.0) q.0 m h.path refl q.2)
 
@@ -116,7 +125,8 @@ module _ (net : PlainNet) (policy : PlainPolicy) (config : PlainConfig) (p : Pla
   a_peer x off origin = and_from _ _ (le-leb _ _ (ltb-false _ _ off)) (known x origin)
 
   module _ (x v : ℕ) (off : is_router net x ≡ false) (origin : is_origin net policy p x ≡ true) (to : is_router net v ≡ true) where
-    peer_down : (k : Route) → taken_by net config p v x (Some (announcement x)) ≡ Some k → (s : ℕ) × (m : ℕ) × (g.start x ≡ Some s) × (g.next s v ≡ Some m) × (k ≡ route_of (record { path = v ∷ x ∷ []; node = m }))
+    peer_down : (k : Route) → taken_by net config p v x (Some (announcement x)) ≡ Some k
+        → (s : ℕ) × (m : ℕ) × (g.start x ≡ Some s) × (g.next s v ≡ Some m) × (k ≡ route_of (record { path = v ∷ x ∷ []; node = m }))
     peer_down k e =
         let q = option_map_parts (extended v (announcement x)) (import_of net config class v x (x ∷ []) no_tag) k (sym (taken_is v x (announcement x)) ∙ e) in
         let given : lines.from_peer v x ≡ Some (gift_of q.0) = ap (option_map gift_of) (sym (import_from_peer net config class v x no_tag rules (a_peer x off origin)) ∙ q.1) in
@@ -127,7 +137,9 @@ module _ (net : PlainNet) (policy : PlainPolicy) (config : PlainConfig) (p : Pla
     peer_up s m start step =
         let over : spelled.StepOver g x v s m = record { node = (written.formed.start_below x s start).1; place = written.formed.start_place x s start; step = step } in
         let q = option_map_parts gift_of (import_of net config class v x [] no_tag) (tag m, g.number m) (written.lines.peers x v s m off to over) in
-        taken_is v x (announcement x) ∙ ap (option_map (extended v (announcement x))) (import_from_peer net config class v x no_tag rules (a_peer x off origin) ∙ q.1) ∙ ap Some (extended_is v (announcement x) q.0 m (x ∷ []) refl q.2)
+        taken_is v x (announcement x)
+        ∙ ap (option_map (extended v (announcement x))) (import_from_peer net config class v x no_tag rules (a_peer x off origin) ∙ q.1)
+        ∙ ap Some (extended_is v (announcement x) q.0 m (x ∷ []) refl q.2)
 
   -- ---- over what lives
 
@@ -158,7 +170,8 @@ module _ (net : PlainNet) (policy : PlainPolicy) (config : PlainConfig) (p : Pla
     chooser r h =
         let a = or_parts (not (running S w r)) (is_some (chosen_by net policy config p r (λ u. None))) h in
         let b = and_parts (is_router net r) (not (w.down r)) (not-false (running S w r) a.0) in
-        and_from (is_router net r) _ b.0 (and_from (not (is_dead f r)) (not (is_origin net policy p r)) (ap not (scenario.dead r) ∙ b.1) (not_from_false _ (no_origin net policy config p r (no_more _ a.1))))
+        and_from (is_router net r) _ b.0
+        (and_from (not (is_dead f r)) (not (is_origin net policy p r)) (ap not (scenario.dead r) ∙ b.1) (not_from_false _ (no_origin net policy config p r (no_more _ a.1))))
 
     chooser_parts : (r : ℕ) → law.chooses Net setup.alive r ≡ true → (is_router net r ≡ true) × (w.down r ≡ false) × (is_origin net policy p r ≡ false)
     chooser_parts r h =
@@ -169,7 +182,8 @@ module _ (net : PlainNet) (policy : PlainPolicy) (config : PlainConfig) (p : Pla
     rester : (r : ℕ) → law.chooses Net setup.alive r ≡ true → rests S w r ≡ false
     rester r h =
         let a = chooser_parts r h in
-        or_from (not (running S w r)) (is_some (chosen_by net policy config p r (λ u. None))) (ap not (and_from (is_router net r) (not (w.down r)) a.0 (not_from_false _ a.1))) (ap is_some (choose_none r a.2))
+        or_from (not (running S w r)) (is_some (chosen_by net policy config p r (λ u. None)))
+        (ap not (and_from (is_router net r) (not (w.down r)) a.0 (not_from_false _ a.1))) (ap is_some (choose_none r a.2))
 
     below : (r : ℕ) → law.chooses Net setup.alive r ≡ true → r < Net.size
     below r h = (let l = ltb-true r (length net.routers) (chooser_parts r h).0 in omega (arith, l))
@@ -202,11 +216,15 @@ module _ (net : PlainNet) (policy : PlainPolicy) (config : PlainConfig) (p : Pla
     announced : (x v : ℕ) (o : Option Route) → is_router net x ≡ false → said S w x v o ≡ (if w.silent v x then None else announced_by net policy p x)
     announced x v o off = cond-false (is_router net x) (exported_by net config p x v o) (if w.silent v x then None else announced_by net policy p x) off
 
-    down : (x v : ℕ) (y : outcomes.Route) (h : Route) → law.chooses Net setup.alive x ≡ true → law.chooses Net setup.alive v ≡ true → Runs setup x y → live S w x v ≡ true → taken_by net config p v x (said S w x v (Some (route_of y))) ≡ Some h
+    down : (x v : ℕ) (y : outcomes.Route) (h : Route) → law.chooses Net setup.alive x ≡ true → law.chooses Net setup.alive v ≡ true → Runs setup x y
+        → live S w x v ≡ true → taken_by net config p v x (said S w x v (Some (route_of y))) ≡ Some h
         → (m : ℕ) × Steps setup x v y m × (h ≡ route_of (stepped v y m))
     down x v y h from to runs on e =
         let router = (chooser_parts x from).0 in
-        let a = router_down x v router (chooser_parts v to).0 (route_of y) runs.rest y.node runs.begins (ap (graph.run g) (sym runs.begins) ∙ runs.runs) refl h (ap (taken_by net config p v x) (sym (sent x v (Some (route_of y)) router)) ∙ e) in
+        let a =
+        router_down x v router (chooser_parts v to).0 (route_of y) runs.rest y.node runs.begins
+        (ap (graph.run g) (sym runs.begins) ∙ runs.runs) refl h
+        (ap (taken_by net config p v x) (sym (sent x v (Some (route_of y)) router)) ∙ e) in
         (a.0, record { carries = carries_router x v router on; off = a.1; step = a.2 }, a.3)
 
     up : (x v : ℕ) (y : outcomes.Route) (m : ℕ) → law.chooses Net setup.alive x ≡ true → law.chooses Net setup.alive v ≡ true → Runs setup x y → Steps setup x v y m
@@ -227,29 +245,68 @@ module _ (net : PlainNet) (policy : PlainPolicy) (config : PlainConfig) (p : Pla
     own_down x v h rest to on e = elim (cases_Bool (is_router net x)) [
       | inl router ↦ (
           let runs : running S w x ≡ true = and_from (is_router net x) (not (w.down x)) router (not_from_false _ (ups x v on)) in
-          let origin : is_origin net policy p x ≡ true = true_from_ne_false (is_origin net policy p x) (λ other. elim (or_cases (not (running S w x)) (is_some (chosen_by net policy config p x (λ u. None))) rest) [
+          let origin : is_origin net policy p x ≡ true =
+          true_from_ne_false (is_origin net policy p x)
+          (λ other. elim (or_cases (not (running S w x)) (is_some (chosen_by net policy config p x (λ u. None))) rest) [
             | inl down ↦ true≢false (sym runs ∙ not-true (running S w x) down)
             | inr own ↦ true≢false (sym own ∙ ap is_some (choose_none x other))
           ]) in
-          let own : at_rest S w x ≡ Some (own_route net config p x) = cond-true (running S w x) (chosen_by net policy config p x (λ u. None)) None runs ∙ chosen_own net policy config p x (λ u. None) origin in
-          let t : taken_by net config p v x (exported_by net config p x v (Some (own_route net config p x))) ≡ Some h = ap (λ (o : Option Route). taken_by net config p v x (exported_by net config p x v o)) (sym own) ∙ ap (taken_by net config p v x) (sym (sent x v (at_rest S w x) router)) ∙ e in
+          let own : at_rest S w x ≡ Some (own_route net config p x) =
+          cond-true (running S w x) (chosen_by net policy config p x (λ u. None)) None runs
+          ∙ chosen_own net policy config p x (λ u. None) origin in
+          let t : taken_by net config p v x (exported_by net config p x v (Some (own_route net config p x))) ≡ Some h =
+          ap (λ (o : Option Route). taken_by net config p v x (exported_by net config p x v o)) (sym own)
+          ∙ ap (taken_by net config p v x) (sym (sent x v (at_rest S w x) router)) ∙ e in
           let s = started x v h router t origin in
-          let a = router_down x v router (chooser_parts v to).0 (own_route net config p x) [] s.0 refl (own_run x s.0 s.1) s.2 h t in
-          (origin, (record { path = x ∷ []; node = s.0 }, a.0, own_from setup x s.0 (ap not (scenario.dead x) ∙ not_from_false _ (ups x v on)) s.1, refl, record { carries = carries_router x v router on; off = a.1; step = a.2 }, a.3)))
+          let a = router_down x v router (chooser_parts v to).0 (own_route net config p x) [] s.0 refl (own_run x s.0 s.1) s.2 h t in (
+            origin,
+            (
+              record { path = x ∷ []; node = s.0 },
+              a.0,
+              own_from setup x s.0
+                  (ap not (scenario.dead x) ∙ not_from_false _ (ups x v on)) s.1,
+              refl,
+              record
+                  { carries = carries_router x v router on; off = a.1; step = a.2 },
+              a.3,
+            ),
+          ))
       | inr off ↦ (
           let t : taken_by net config p v x (if w.silent v x then None else announced_by net policy p x) ≡ Some h = ap (taken_by net config p v x) (sym (announced x v (at_rest S w x) off)) ∙ e in
           elim (cases_Bool (w.silent v x)) [
-            | inl mute ↦ (let no : None ≡ Some h = sym (ap (taken_by net config p v x) (cond-true (w.silent v x) None (announced_by net policy p x) mute) ∙ untaken net policy config p v x) ∙ t in absurd (cc))
+            | inl mute ↦
+                (let no : None
+                ≡ Some h = sym (ap (taken_by net config p v x) (cond-true (w.silent v x) None (announced_by net policy p x) mute) ∙ untaken net policy config p v x) ∙ t in absurd (cc))
             | inr speaks ↦ elim (cases_Bool (is_origin net policy p x)) [
               | inr other ↦ (
-                  let no : None ≡ Some h = sym (ap (taken_by net config p v x) (cond-false (w.silent v x) None (announced_by net policy p x) speaks ∙ cond-false (is_origin net policy p x) (Some (announcement x)) None other) ∙ untaken net policy config p v x) ∙ t in
+                  let no : None ≡ Some h =
+                  sym (ap (taken_by net config p v x)
+                  (cond-false (w.silent v x) None (announced_by net policy p x) speaks ∙ cond-false (is_origin net policy p x) (Some (announcement x)) None other)
+                  ∙ untaken net policy config p v x)
+                  ∙ t in
                   absurd (cc))
               | inl origin ↦ (
                   let to_router = (chooser_parts v to).0 in
-                  let a = peer_down x v off origin to_router h (ap (taken_by net config p v x) (sym (cond-false (w.silent v x) None (announced_by net policy p x) speaks ∙ cond-true (is_origin net policy p x) (Some (announcement x)) None origin)) ∙ t) in
+                  let a =
+                  peer_down x v off origin to_router h
+                  (ap (taken_by net config p v x)
+                  (sym (cond-false (w.silent v x) None (announced_by net policy p x) speaks ∙ cond-true (is_origin net policy p x) (Some (announcement x)) None origin))
+                  ∙ t)
+                  in
                   let carries : setup.alive.carries x v ≡ true =
-                  and_from (is_live net f x v) _ (live_same x v ∙ on) (ap (λ (b : Bool). not (is_peer net x && b)) (silent_same x v on ∙ speaks) ∙ quiet_not (is_peer net x)) in
-                  (origin, (record { path = x ∷ []; node = a.0 }, a.1, own_from setup x a.0 (ap not (scenario.dead x) ∙ not_from_false _ (ups x v on)) a.2, refl, record { carries = carries; off = apart x v off to_router; step = a.3 }, a.4)))
+                  and_from (is_live net f x v) _ (live_same x v ∙ on) (ap (λ (b : Bool). not (is_peer net x && b)) (silent_same x v on ∙ speaks) ∙ quiet_not (is_peer net x)) in (
+                    origin,
+                    (
+                      record { path = x ∷ []; node = a.0 },
+                      a.1,
+                      own_from setup x a.0
+                          (ap not (scenario.dead x) ∙ not_from_false _ (ups x v on)) a.2,
+                      refl,
+                      record
+                          { carries = carries; off = apart x v off to_router; step = a.3 },
+                      a.4,
+                    ),
+                  ))
             ]
           ])
     ]
@@ -259,10 +316,14 @@ module _ (net : PlainNet) (policy : PlainPolicy) (config : PlainConfig) (p : Pla
         quiet_not false = refl
 
         -- what is exported of an own route has a start
-        started : (x v : ℕ) (h : Route) → is_router net x ≡ true → taken_by net config p v x (exported_by net config p x v (Some (own_route net config p x))) ≡ Some h → is_origin net policy p x ≡ true → (s : ℕ) × (g.start x ≡ Some s) × (pair_of (own_route net config p x).tag ≡ tag s)
+        started : (x v : ℕ) (h : Route) → is_router net x ≡ true
+            → taken_by net config p v x (exported_by net config p x v (Some (own_route net config p x))) ≡ Some h → is_origin net policy p x ≡ true
+            → (s : ℕ) × (g.start x ≡ Some s) × (pair_of (own_route net config p x).tag ≡ tag s)
         started x v h router t origin = elim (cases_Option (export_of net config class x v (own_route net config p x).tag)) [
           | inl none ↦ (
-              let no : None ≡ Some h = sym (ap (taken_by net config p v x) (exported_is x v (own_route net config p x) ∙ ap (option_map (message (own_route net config p x))) none) ∙ untaken net policy config p v x) ∙ t in
+              let no : None ≡ Some h =
+              sym (ap (taken_by net config p v x) (exported_is x v (own_route net config p x) ∙ ap (option_map (message (own_route net config p x))) none) ∙ untaken net policy config p v x)
+              ∙ t in
               absurd (cc))
           | inr k ↦ own_routes_are_starts Net g tag lines written x v router origin (ap is_some k.1)
         ]
@@ -291,7 +352,8 @@ module _ (net : PlainNet) (policy : PlainPolicy) (config : PlainConfig) (p : Pla
               sym (silent_same x v on) ∙ not-true (is_silent f v x) (ap (λ (b : Bool). not (b && is_silent f v x)) (sym peer) ∙ (and_parts (is_live net f x v) _ steps.carries).1) in (
                 or_left (not (running S w x)) _ (ap not (and_left (is_router net x) _ off)),
                 on,
-                ap (taken_by net config p v x) (announced x v (at_rest S w x) off ∙ cond-false (w.silent v x) None (announced_by net policy p x) speaks ∙ cond-true (is_origin net policy p x) (Some (announcement x)) None origin)
+                ap (taken_by net config p v x)
+                    (announced x v (at_rest S w x) off ∙ cond-false (w.silent v x) None (announced_by net policy p x) speaks ∙ cond-true (is_origin net policy p x) (Some (announcement x)) None origin)
                     ∙ peer_up x v off origin to_router y.node m a.1 steps.step ∙ ap Some here,
               ))
         ]

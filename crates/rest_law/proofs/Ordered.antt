@@ -77,7 +77,8 @@ module _ {R : Type 0} (net : Speakers R) (w : World R) (takes : Takes R) (no_lat
       pub held : CanHold setup r (v ∷ u ∷ path) node
       pub candidate : IsCandidate setup r v (record { path = v ∷ u ∷ path; node = node })
 
-    holds_of : (v u : ℕ) (h : R) (y : Route) (rest : List ℕ) (m : ℕ) → y.path ≡ u ∷ rest → IsOpen setup r v → Steps setup u v y m → h ≡ route_of (stepped v y m) → (r u ≡ Some y) ⊎ CanHold setup r y.path y.node → Holds v u h
+    holds_of : (v u : ℕ) (h : R) (y : Route) (rest : List ℕ) (m : ℕ) → y.path ≡ u ∷ rest → IsOpen setup r v → Steps setup u v y m
+        → h ≡ route_of (stepped v y m) → (r u ≡ Some y) ⊎ CanHold setup r y.path y.node → Holds v u h
     holds_of v u h y rest m begins opens steps is from =
         let whole : (r u ≡ Some (record { path = u ∷ rest; node = y.node })) ⊎ CanHold setup r (u ∷ rest) y.node = elim from [
           | inl e ↦ inl (e ∙ ap Some (route_is y (u ∷ rest) begins))
@@ -296,7 +297,8 @@ module _ {R : Type 0} (net : Speakers R) (w : World R) (takes : Takes R) (no_lat
 
 -- ---- speakers that take nothing
 
-module _ {R : Type 0} (net : Speakers R) (w : World R) (takes : Takes R) (no_later : Order R) (bound : ℕ) (below : (r : ℕ) → net.is_router r ≡ true → r < bound) (nothing : (r u : ℕ) (o : Option R) → takes r u o ≡ None) where
+module _ {R : Type 0} (net : Speakers R) (w : World R) (takes : Takes R) (no_later : Order R) (bound : ℕ)
+    (below : (r : ℕ) → net.is_router r ≡ true → r < bound) (nothing : (r u : ℕ) (o : Option R) → takes r u o ≡ None) where
   abbrev pub bare : ℕ → Option R
   bare r = if rests net w r then at_rest net w r else None
 

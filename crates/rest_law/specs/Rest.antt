@@ -38,7 +38,8 @@ pub record ComesToRest (net : PlainNet) (policy : PlainPolicy) (config : PlainCo
   pub rounds : (es : List Event) (f : Failures) (ds : List (ℕ × ℕ)) → IsScenarioOf net (world_after net policy config p es) f
       → AreRounds (speakers_of net policy config p) (rounds_enough net) (world_after net policy config p es) ds → IsAtRest net policy config p f (world_after net policy config p (es ++ deliveries ds))
   -- some deliveries lead to rest;
-  pub reached : (es : List Event) (f : Failures) → IsScenarioOf net (world_after net policy config p es) f → (ds : List (ℕ × ℕ)) × IsAtRest net policy config p f (world_after net policy config p (es ++ deliveries ds))
+  pub reached : (es : List Event) (f : Failures) → IsScenarioOf net (world_after net policy config p es) f
+      → (ds : List (ℕ × ℕ)) × IsAtRest net policy config p f (world_after net policy config p (es ++ deliveries ds))
   -- and each endless schedule that forgets no direction of a link for ever leads there, and stays.
   pub fair : (es : List Event) (f : Failures) (schedule : ℕ → ℕ × ℕ) → IsScenarioOf net (world_after net policy config p es) f → IsFair (speakers_of net policy config p) schedule
       → (n : ℕ) × ((m : ℕ) → n ≤ m → IsAtRest net policy config p f (world_after net policy config p (es ++ deliveries (stretch schedule 0 m))))
@@ -49,4 +50,6 @@ AlwaysComesToRest net policy config = (p : PlainPrefix) → IsPrefix p → Comes
 
 -- So it is where the evidence passes.
 abbrev pub PassingEvidenceComesToRest : Type 0
-PassingEvidenceComesToRest = (net : PlainNet) (policy : PlainPolicy) (config : PlainConfig) (cs : List PlainCaseEvidence) → IsNet net → IsPolicyOf net policy → Passes net policy config cs → AlwaysComesToRest net policy config
+PassingEvidenceComesToRest =
+    (net : PlainNet) (policy : PlainPolicy) (config : PlainConfig) (cs : List PlainCaseEvidence) → IsNet net → IsPolicyOf net policy
+    → Passes net policy config cs → AlwaysComesToRest net policy config

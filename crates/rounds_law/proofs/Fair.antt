@@ -90,7 +90,14 @@ module _ {R : Type 0} (net : Speakers R) (n : AreSpeakers net) (f : ℕ → ℕ 
 -- rounds and further deliveries behind them
 more_behind : {R : Type 0} (net : Speakers R) (k : ℕ) (w : World R) (ds es : List (ℕ × ℕ)) → AreRounds net k w ds → AreRounds net k w (ds ++ es)
 more_behind net zero w ds es rounds = tt
-more_behind net (suc k) w ds es rounds = (rounds.0, rounds.1 ++ es, sym (append_assoc rounds.0 rounds.1 es) ∙ ap (λ (z : List (ℕ × ℕ)). z ++ es) rounds.2, rounds.3, more_behind net k (run net (deliveries rounds.0) w) rounds.1 es rounds.4)
+more_behind net (suc k) w ds es rounds = (
+  rounds.0,
+  rounds.1 ++ es,
+  sym (append_assoc rounds.0 rounds.1 es)
+      ∙ ap (λ (z : List (ℕ × ℕ)). z ++ es) rounds.2,
+  rounds.3,
+  more_behind net k (run net (deliveries rounds.0) w) rounds.1 es rounds.4,
+)
 
 pub rounds_before : {R : Type 0} (net : Speakers R) (f : ℕ → ℕ × ℕ) (k n m : ℕ) (w : World R) → n ≤ m → AreRounds net k w (stretch f 0 n) → AreRounds net k w (stretch f 0 m)
 rounds_before net f k n m w le rounds =

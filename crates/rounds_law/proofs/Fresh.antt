@@ -96,11 +96,16 @@ module _ {R : Type 0} (net : Speakers R) (n : AreSpeakers net) where
     -- a delivery that finds nothing
     nothing-fresh : (k : ℕ) (c : Bool) (v : World R) → (c ≡ true → v.queue a b ≡ []) → IsKept net v → live net v a b ≡ true → Q (exported net v a b) → Fresh k v → Fresh (left c k) v
     nothing-fresh k false v none kept on q f = f
-    nothing-fresh k true v none kept on q f = subst (λ (ms : List (Option R)). Behind (one_less k) Q (v.heard a b ∷ ms)) (sym (none refl)) (behind_one (one_less k) Q (v.heard a b) (heard_now v kept on (none refl) q))
+    nothing-fresh k true v none kept on q f =
+        subst (λ (ms : List (Option R)). Behind (one_less k) Q (v.heard a b ∷ ms)) (sym (none refl))
+        (behind_one (one_less k) Q (v.heard a b) (heard_now v kept on (none refl) q))
 
-    delivered-fresh : (k x y : ℕ) (ms : List (Option R)) (v : World R) → v.queue x y ≡ ms → IsKept net v → live net v a b ≡ true → Q (exported net v a b) → Q (exported net (delivered net x y ms v) a b)
+    delivered-fresh : (k x y : ℕ) (ms : List (Option R)) (v : World R) → v.queue x y ≡ ms → IsKept net v → live net v a b ≡ true
+        → Q (exported net v a b) → Q (exported net (delivered net x y ms v) a b)
         → Fresh k v → Fresh (left (is x y a b) k) (delivered net x y ms v)
-    delivered-fresh k x y [] v e kept on q q' f = nothing-fresh k (is x y a b) v (λ t. (let p = and_parts (a == x) (b == y) t in ap (λ z. v.queue z b) (eqb-true a x p.0) ∙ ap (v.queue x) (eqb-true b y p.1) ∙ e)) kept on q f
+    delivered-fresh k x y [] v e kept on q q' f =
+        nothing-fresh k (is x y a b) v
+        (λ t. (let p = and_parts (a == x) (b == y) t in ap (λ z. v.queue z b) (eqb-true a x p.0) ∙ ap (v.queue x) (eqb-true b y p.1) ∙ e)) kept on q f
     delivered-fresh k x y (m ∷ rest) v e kept on q q' f = choose_again-fresh (left (is x y a b) k) y (received net x y m rest v) (received-fresh k x y m rest v e f) q'
 
     refused : (there : Bool) (ms : List (Option R)) (z : EventFault) → there ≡ true → if_there there (unless_waiting ms) ≡ Some z → ms ≡ []
@@ -108,10 +113,12 @@ module _ {R : Type 0} (net : Speakers R) (n : AreSpeakers net) where
     refused true (m ∷ ms) z t h = absurd (cc)
     refused false ms z t h = absurd (cc)
 
-    happens-fresh : (k x y : ℕ) (v : World R) → IsKept net v → live net v a b ≡ true → Q (exported net v a b) → Q (exported net (happens net (Deliver x y) v) a b) → Fresh k v → Fresh (left (is x y a b) k) (happens net (Deliver x y) v)
+    happens-fresh : (k x y : ℕ) (v : World R) → IsKept net v → live net v a b ≡ true → Q (exported net v a b)
+        → Q (exported net (happens net (Deliver x y) v) a b) → Fresh k v → Fresh (left (is x y a b) k) (happens net (Deliver x y) v)
     happens-fresh k x y v kept on q q' f = by (fault_of net (Deliver x y) v) refl q'
       where
-        by : (o : Option EventFault) → fault_of net (Deliver x y) v ≡ o → Q (exported net (or_as_before o (step net (Deliver x y) v) v) a b) → Fresh (left (is x y a b) k) (or_as_before o (step net (Deliver x y) v) v)
+        by : (o : Option EventFault) → fault_of net (Deliver x y) v ≡ o → Q (exported net (or_as_before o (step net (Deliver x y) v) v) a b)
+            → Fresh (left (is x y a b) k) (or_as_before o (step net (Deliver x y) v) v)
         by None e p = delivered-fresh k x y (v.queue x y) v refl kept on q p f
         by (Some z) e p = nothing-fresh k (is x y a b) v (λ t.
             let c = and_parts (a == x) (b == y) t in
@@ -119,7 +126,8 @@ module _ {R : Type 0} (net : Speakers R) (n : AreSpeakers net) where
             ap (λ i. v.queue i b) (eqb-true a x c.0) ∙ ap (v.queue x) (eqb-true b y c.1) ∙ refused (net.linked x y) (v.queue x y) z there e) kept on q f
 
     -- after as many deliveries nothing old is left
-    pub run-fresh : (ds : List (ℕ × ℕ)) (k : ℕ) (w v : World R) → SameFailures w v → IsKept net v → live net w a b ≡ true → ((es : List (ℕ × ℕ)) → Q (exported net (run net (deliveries es) v) a b)) → Fresh k v → k ≤ times a b ds
+    pub run-fresh : (ds : List (ℕ × ℕ)) (k : ℕ) (w v : World R) → SameFailures w v → IsKept net v → live net w a b ≡ true
+        → ((es : List (ℕ × ℕ)) → Q (exported net (run net (deliveries es) v) a b)) → Fresh k v → k ≤ times a b ds
         → EachOne Q ((run net (deliveries ds) v).heard a b ∷ (run net (deliveries ds) v).queue a b)
     run-fresh [] zero w v s kept on q f h = f
     run-fresh [] (suc k) w v s kept on q f h = absurd (omega (arith, h))

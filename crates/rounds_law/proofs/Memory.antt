@@ -52,7 +52,8 @@ module _ {R : Type 0} (net : Speakers R) (n : AreSpeakers net) (w : World R) whe
       (chooses_now P (run net (deliveries (ds ++ es)) v) (same_run net (ds ++ es) w v same) (run-keeps net n (deliveries (ds ++ es)) v kept)
       (λ a b on. (memory P v (ds ++ es) same kept always (λ x y. (let h = round x y in let k = times_more x y ds es in omega (arith, h, k))) a b on).0) r)
 
-  pub round-after : (P : Holding R) (j : ℕ) (v : World R) (ds : List (ℕ × ℕ)) → SameFailures w v → IsKept net v → Always net (After net w P j) v → IsRound v ds → Always net (After net w P (suc j)) (run net (deliveries ds) v)
+  pub round-after : (P : Holding R) (j : ℕ) (v : World R) (ds : List (ℕ × ℕ)) → SameFailures w v → IsKept net v → Always net (After net w P j) v
+      → IsRound v ds → Always net (After net w P (suc j)) (run net (deliveries ds) v)
   round-after P j v ds same kept always round es r = (first j (later (After net w P j) ds v always es r), round-chooses (After net w P j) v ds same kept always round es r)
     where
       first : (j : ℕ) {x : Option R} → After net w P j r x → P r x
@@ -60,7 +61,8 @@ module _ {R : Type 0} (net : Speakers R) (n : AreSpeakers net) (w : World R) whe
       first (suc j) a = a.0
 
   -- after j rounds and k more
-  pub rounds-after : (k : ℕ) (P : Holding R) (j : ℕ) (v : World R) (ds : List (ℕ × ℕ)) → SameFailures w v → IsKept net v → Always net (After net w P j) v → AreRounds net k v ds → Always net (After net w P (j + k)) (run net (deliveries ds) v)
+  pub rounds-after : (k : ℕ) (P : Holding R) (j : ℕ) (v : World R) (ds : List (ℕ × ℕ)) → SameFailures w v → IsKept net v
+      → Always net (After net w P j) v → AreRounds net k v ds → Always net (After net w P (j + k)) (run net (deliveries ds) v)
   rounds-after zero P j v ds same kept always rounds =
       let count : j ≡ j + 0 = omega arith in
       subst (λ (i : ℕ). Always net (After net w P i) (run net (deliveries ds) v)) count (later (After net w P j) ds v always)

@@ -43,7 +43,8 @@ module _ {R : Type 0} (w : World R) (a b : ℕ) where
   waiting [] h = absurd h
   waiting (d ∷ links) (inl here) =
       let count = times_sum a b (replicate (length (w.queue d.0 d.1)) d) (each_waiting w links) in
-      let all : times a b (replicate (length (w.queue d.0 d.1)) d) ≡ length (w.queue a b) = ap (λ (e : ℕ × ℕ). times a b (replicate (length (w.queue e.0 e.1)) e)) here ∙ times_all a b (length (w.queue a b)) in
+      let all : times a b (replicate (length (w.queue d.0 d.1)) d) ≡ length (w.queue a b) =
+      ap (λ (e : ℕ × ℕ). times a b (replicate (length (w.queue e.0 e.1)) e)) here ∙ times_all a b (length (w.queue a b)) in
       omega (arith, count, all)
   waiting (d ∷ links) (inr later) =
       let count = times_sum a b (replicate (length (w.queue d.0 d.1)) d) (each_waiting w links) in
@@ -62,7 +63,8 @@ fewer_rounds net zero k w ds less rounds = tt
 fewer_rounds net (suc j) zero w ds less rounds = absurd (omega (arith, less))
 fewer_rounds net (suc j) (suc k) w ds less rounds = (rounds.0, rounds.1, rounds.2, rounds.3, fewer_rounds net j k (run net (deliveries rounds.0) w) rounds.1 (omega (arith, less)) rounds.4)
 
-pub rounds_go_on : {R : Type 0} (net : Speakers R) → AreSpeakers net → (links : List (ℕ × ℕ)) → ((a b : ℕ) → net.linked a b ≡ true → Lists links a b) → (k : ℕ) (w : World R) → IsKept net w → AreRounds net k w (each_round net links k w)
+pub rounds_go_on : {R : Type 0} (net : Speakers R) → AreSpeakers net → (links : List (ℕ × ℕ)) → ((a b : ℕ) → net.linked a b ≡ true → Lists links a b)
+    → (k : ℕ) (w : World R) → IsKept net w → AreRounds net k w (each_round net links k w)
 rounds_go_on net n links all zero w kept = tt
 rounds_go_on net n links all (suc k) w kept =
     let round = each_waiting w links in

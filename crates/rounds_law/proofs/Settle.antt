@@ -111,7 +111,8 @@ module _ {R : Type 0} (net : Speakers R) (w : World R) (takes : Takes R) (no_lat
             | inr h ↦ (let g = choosers.given v choice.offer h.0 (ownless S all v off) h.1 in absurd (f.never g.0 h.0 (now_from i x choice le g.0 h.0 g.1)))
           ]
 
-      next-settles : IsFirst net w takes no_later outcome S v ⊎ IsUnreached net w takes no_later outcome S v → (i : ℕ) (x : Option R) → from + (bound + 2) ≤ i → After net w Starts i v x → x ≡ outcome v
+      next-settles : IsFirst net w takes no_later outcome S v ⊎ IsUnreached net w takes no_later outcome S v → (i : ℕ) (x : Option R)
+          → from + (bound + 2) ≤ i → After net w Starts i v x → x ≡ outcome v
       next-settles (inl f) i x le a = first-settles f i x le a
       next-settles (inr f) i x le a = unreached-settles f i x le a
 
@@ -137,7 +138,8 @@ module _ {R : Type 0} (net : Speakers R) (w : World R) (takes : Takes R) (no_lat
     -- whoever rests holds that in every world with these failures
     rests_now : (v : World R) → SameFailures w v → IsKept net v → (r : ℕ) → rests net w r ≡ true → v.route r ≡ at_rest net w r
     rests_now v same kept r t =
-        kept.chosen r refl ∙ ap (λ (b : Bool). if b then net.choose r (offers net v r) else None) (same_running net w v same r) ∙ elim (or_cases (not (running net w r)) (is_some (net.choose r (λ u. None))) t) [
+        kept.chosen r refl ∙ ap (λ (b : Bool). if b then net.choose r (offers net v r) else None) (same_running net w v same r)
+        ∙ elim (or_cases (not (running net w r)) (is_some (net.choose r (λ u. None))) t) [
           | inl down ↦ (
               let f : running net w r ≡ false = not-true (running net w r) down in
               cond-false (running net w r) (net.choose r (offers net v r)) None f ∙ sym (cond-false (running net w r) (net.choose r (λ u. None)) None f))
@@ -151,7 +153,8 @@ module _ {R : Type 0} (net : Speakers R) (w : World R) (takes : Takes R) (no_lat
     starts_now v same kept short es r = (rests_now (run net (deliveries es) v) (same_run net es w v same) (run-keeps net n (deliveries es) v kept) r, short es r)
 
     -- when only the outcome is possible, one more round ends it
-    ends : (k j : ℕ) (v : World R) (ds : List (ℕ × ℕ)) → SameFailures w v → IsKept net v → Always net (After net w Starts j) v → ((i r : ℕ) (x : Option R) → j + k ≤ i → After net w Starts i r x → x ≡ outcome r)
+    ends : (k j : ℕ) (v : World R) (ds : List (ℕ × ℕ)) → SameFailures w v → IsKept net v → Always net (After net w Starts j) v
+        → ((i r : ℕ) (x : Option R) → j + k ≤ i → After net w Starts i r x → x ≡ outcome r)
         → AreRounds net (suc k) v ds → IsQuiet (run net (deliveries ds) v) × ((r : ℕ) → (run net (deliveries ds) v).route r ≡ outcome r)
     ends zero j v ds same kept always single rounds =
         let round = rounds.0 in
@@ -160,7 +163,9 @@ module _ {R : Type 0} (net : Speakers R) (w : World R) (takes : Takes R) (no_lat
         let holds : (es : List (ℕ × ℕ)) (r : ℕ) → (run net (deliveries es) v).route r ≡ outcome r = λ es r. single j r _ (omega arith) (always es r) in
         let quiet : IsQuiet next = still-quiet net n choosers.alike v round kept (λ es r. holds es r ∙ sym (holds [] r)) rounds.3 in
         let also : (es : List (ℕ × ℕ)) (r : ℕ) → (run net (deliveries es) next).route r ≡ outcome r = λ es r. ap (λ (u : World R). u.route r) (run_more net round es v) ∙ holds (round ++ es) r in
-        let over : IsQuiet (run net (deliveries rest) next) = still-quiet net n choosers.alike next rest (run-keeps net n (deliveries round) v kept) (λ es r. also es r ∙ sym (also [] r)) (λ a b. subst (λ (ms : List (Option R)). length ms ≤ times a b rest) (sym (quiet a b)) (omega arith)) in
+        let over : IsQuiet (run net (deliveries rest) next) =
+        still-quiet net n choosers.alike next rest (run-keeps net n (deliveries round) v kept) (λ es r. also es r ∙ sym (also [] r))
+        (λ a b. subst (λ (ms : List (Option R)). length ms ≤ times a b rest) (sym (quiet a b)) (omega arith)) in
         let here : run net (deliveries rest) next ≡ run net (deliveries ds) v = run_more net round rest v ∙ ap (λ (es : List (ℕ × ℕ)). run net (deliveries es) v) rounds.2 in
         (subst IsQuiet here over, holds ds)
     ends (suc k) j v ds same kept always single rounds =

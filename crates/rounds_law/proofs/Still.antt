@@ -14,7 +14,8 @@ use Rattle.rounds_law.proofs.Fresh.{left, left_of, one_less}
 
 module _ {R : Type 0} (net : Speakers R) (n : AreSpeakers net) (alike : (m : Option R) → net.same m m ≡ true) (a b : ℕ) where
   -- what is told already isn't told again
-  unowed : (r : ℕ) (v : World R) → (live net v a b ≡ true → v.queued a b ≡ exported net v a b) → (if at r r then choice net v r else v.route r) ≡ v.route r → (at r a && owes net (with_choice net r v) a b) ≡ false
+  unowed : (r : ℕ) (v : World R) → (live net v a b ≡ true → v.queued a b ≡ exported net v a b)
+      → (if at r r then choice net v r else v.route r) ≡ v.route r → (at r a && owes net (with_choice net r v) a b) ≡ false
   unowed r v told same = elim (cases_Bool (at r a)) [
     | inr f ↦ and_left _ _ f
     | inl t ↦ and_right (at r a) _ (elim (cases_Bool (live net v a b)) [
@@ -33,7 +34,8 @@ module _ {R : Type 0} (net : Speakers R) (n : AreSpeakers net) (alike : (m : Opt
     | inl t ↦ (
         let e : choose_again net r v ≡ tell net (λ x y. at r x) (with_choice net r v) = cond-true (running net v r) (tell net (λ x y. at r x) (with_choice net r v)) v t in
         ap (λ (u : World R). u.queue a b) e
-        ∙ cond-false (at r a && owes net (with_choice net r v) a b) (v.queue a b ++ exported net (with_choice net r v) a b ∷ []) (v.queue a b) (unowed r v told (sym (ap (λ (u : World R). u.route r) e) ∙ same)))
+        ∙ cond-false (at r a && owes net (with_choice net r v) a b) (v.queue a b ++ exported net (with_choice net r v) a b ∷ []) (v.queue a b)
+        (unowed r v told (sym (ap (λ (u : World R). u.route r) e) ∙ same)))
   ]
 
   -- how many wait, once k did
@@ -51,7 +53,8 @@ module _ {R : Type 0} (net : Speakers R) (n : AreSpeakers net) (alike : (m : Opt
   here_queue : (x y : ℕ) (v : World R) (t : is x y a b ≡ true) → v.queue a b ≡ v.queue x y
   here_queue x y v t = (let p = and_parts (a == x) (b == y) t in ap (λ z. v.queue z b) (eqb-true a x p.0) ∙ ap (v.queue x) (eqb-true b y p.1))
 
-  delivered-few : (k x y : ℕ) (ms : List (Option R)) (v : World R) → v.queue x y ≡ ms → IsKept net v → (delivered net x y ms v).route y ≡ v.route y → Few k v → Few (left (is x y a b) k) (delivered net x y ms v)
+  delivered-few : (k x y : ℕ) (ms : List (Option R)) (v : World R) → v.queue x y ≡ ms → IsKept net v → (delivered net x y ms v).route y ≡ v.route y
+      → Few k v → Few (left (is x y a b) k) (delivered net x y ms v)
   delivered-few k x y [] v e kept same h = none_few k (is x y a b) (v.queue a b) (λ t. here_queue x y v t ∙ e) h
   delivered-few k x y (m ∷ rest) v e kept same h =
       subst (λ (ms : List (Option R)). length ms ≤ left (is x y a b) k) (sym (choose_again-still y (received net x y m rest v) (λ on. kept.told a b on refl) same)) (elim (cases_Bool (is x y a b)) [
@@ -67,14 +70,16 @@ module _ {R : Type 0} (net : Speakers R) (n : AreSpeakers net) (alike : (m : Opt
   happens-few : (k x y : ℕ) (v : World R) → IsKept net v → (happens net (Deliver x y) v).route y ≡ v.route y → Few k v → Few (left (is x y a b) k) (happens net (Deliver x y) v)
   happens-few k x y v kept same h = by (fault_of net (Deliver x y) v) refl same
     where
-      by : (o : Option EventFault) → fault_of net (Deliver x y) v ≡ o → (or_as_before o (step net (Deliver x y) v) v).route y ≡ v.route y → Few (left (is x y a b) k) (or_as_before o (step net (Deliver x y) v) v)
+      by : (o : Option EventFault) → fault_of net (Deliver x y) v ≡ o → (or_as_before o (step net (Deliver x y) v) v).route y ≡ v.route y
+          → Few (left (is x y a b) k) (or_as_before o (step net (Deliver x y) v) v)
       by None e q = delivered-few k x y (v.queue x y) v refl kept q h
       by (Some z) e q = none_few k (is x y a b) (v.queue a b) (λ t. here_queue x y v t ∙ elim (refused (net.linked x y) (v.queue x y) z e) [
         | inr none ↦ none
         | inl off ↦ (kept.empty x y (and_left _ _ off)).0
       ]) h
 
-  run-few : (ds : List (ℕ × ℕ)) (k : ℕ) (v : World R) → IsKept net v → ((es : List (ℕ × ℕ)) (r : ℕ) → (run net (deliveries es) v).route r ≡ v.route r) → Few k v → k ≤ times a b ds → (run net (deliveries ds) v).queue a b ≡ []
+  run-few : (ds : List (ℕ × ℕ)) (k : ℕ) (v : World R) → IsKept net v → ((es : List (ℕ × ℕ)) (r : ℕ) → (run net (deliveries es) v).route r ≡ v.route r)
+      → Few k v → k ≤ times a b ds → (run net (deliveries ds) v).queue a b ≡ []
   run-few [] k v kept still h t = nothing (v.queue a b) (omega (arith, h, t))
     where
       nothing : (ms : List (Option R)) → length ms ≤ 0 → ms ≡ []

@@ -22,7 +22,9 @@ RoundsNarrow = (net : Speakers Route) (w : World Route) (holds : ℕ → Option 
 -- Where the routers have an order, no message waits after bound + 2 rounds for each router of it and one more, and each holds what the
 -- outcome has for it. The bound is on the size of routes.
 abbrev pub MessagesEnd : Type 0
-MessagesEnd = (net : Speakers Route) (w : World Route) (takes : Takes Route) (before : ℕ × Route → ℕ × Route → Bool) (size : Route → ℕ) (outcome : ℕ → Option Route) (bound : ℕ) (vs : List ℕ) (ds : List (ℕ × ℕ))
+MessagesEnd =
+    (net : Speakers Route) (w : World Route) (takes : Takes Route) (before : ℕ × Route → ℕ × Route → Bool) (size : Route → ℕ)
+    (outcome : ℕ → Option Route) (bound : ℕ) (vs : List ℕ) (ds : List (ℕ × ℕ))
     → AreSpeakers net → AreChoosers net takes (λ x y. before y x ≡ false) size → IsKept net w
     → Always net (λ r x. (h : Route) → x ≡ Some h → size h ≤ bound) w
     → ((r : ℕ) → rests net w r ≡ true → outcome r ≡ at_rest net w r)
@@ -53,9 +55,13 @@ each_round net links zero w = []
 each_round net links (suc k) w = each_waiting w links ++ each_round net links k (run net (deliveries (each_waiting w links)) w)
 
 abbrev pub RoundsGoOn : Type 0
-RoundsGoOn = (net : Speakers Route) (w : World Route) (links : List (ℕ × ℕ)) (k : ℕ) → AreSpeakers net → IsKept net w → ((a b : ℕ) → net.linked a b ≡ true → Lists links a b) → AreRounds net k w (each_round net links k w)
+RoundsGoOn =
+    (net : Speakers Route) (w : World Route) (links : List (ℕ × ℕ)) (k : ℕ) → AreSpeakers net → IsKept net w
+    → ((a b : ℕ) → net.linked a b ≡ true → Lists links a b) → AreRounds net k w (each_round net links k w)
 
 -- a schedule in which each direction comes again and again has so many rounds in its beginning
 abbrev pub FairSchedulesHaveRounds : Type 0
-FairSchedulesHaveRounds = (net : Speakers Route) (w : World Route) (links : List (ℕ × ℕ)) (schedule : ℕ → ℕ × ℕ) (k : ℕ) → AreSpeakers net → IsKept net w → ((a b : ℕ) → net.linked a b ≡ true → Lists links a b)
+FairSchedulesHaveRounds =
+    (net : Speakers Route) (w : World Route) (links : List (ℕ × ℕ)) (schedule : ℕ → ℕ × ℕ) (k : ℕ) → AreSpeakers net → IsKept net w
+    → ((a b : ℕ) → net.linked a b ≡ true → Lists links a b)
     → IsFair net schedule → (n : ℕ) × AreRounds net k w (stretch schedule 0 n)

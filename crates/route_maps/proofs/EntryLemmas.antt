@@ -56,7 +56,8 @@ module _ (net : PlainNet) (maps : PlainMaps) (p : PlainPrefix) where
   pub in_nowhere : (at from : ℕ) (path : List ℕ) (tag : Tag) → block_at net (blocks maps) at from ≡ None → map_in net maps p at from path tag ≡ None
   in_nowhere at from path tag none = none_either_way (is_looped net at from path) (ap (option_and_then (in_by net maps p from tag)) none)
 
-  pub in_unfound : (at from : ℕ) (path : List ℕ) (tag : Tag) (b : Session) → block_at net (blocks maps) at from ≡ Some b → find (applies from tag) b.imports ≡ None → map_in net maps p at from path tag ≡ None
+  pub in_unfound : (at from : ℕ) (path : List ℕ) (tag : Tag) (b : Session) → block_at net (blocks maps) at from ≡ Some b
+      → find (applies from tag) b.imports ≡ None → map_in net maps p at from path tag ≡ None
   in_unfound at from path tag b block none = none_either_way (is_looped net at from path) (ap (option_and_then (in_by net maps p from tag)) block ∙ rw none refl)
 
   pub in_found : (at from : ℕ) (path : List ℕ) (tag : Tag) (b : Session) (r : Import) → block_at net (blocks maps) at from ≡ Some b → find (applies from tag) b.imports ≡ Some r
@@ -73,6 +74,8 @@ module _ (net : PlainNet) (maps : PlainMaps) (p : PlainPrefix) where
   pub out_found : (from to : ℕ) (tag : Tag) (b : Session) (e : Export) → block_at net (blocks maps) from to ≡ Some b → find (sent tag) b.exports ≡ Some e
       → export_by net e.class to tag b ≡ map_out net maps p from to tag
   out_found from to tag b e block found =
-      let of_class = list_any-found (λ (q : Export). q.class == e.class && same_tag q.tag tag) b.exports e (find_class (λ (q : Export). q.class) (λ n. list_permits maps n p) (λ (q : Export). same_tag q.tag tag) b.exports e found) in
+      let of_class =
+      list_any-found (λ (q : Export). q.class == e.class && same_tag q.tag tag) b.exports e
+      (find_class (λ (q : Export). q.class) (λ n. list_permits maps n p) (λ (q : Export). same_tag q.tag tag) b.exports e found) in
       let any = list_any-found (sent tag) b.exports e found in
       rw of_class (sym (ap (option_and_then (out_by net maps p to tag)) block ∙ rw any refl))

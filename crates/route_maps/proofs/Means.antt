@@ -93,7 +93,9 @@ module _ (net : PlainNet) (config : PlainConfig) (p : PlainPrefix) (within : p.l
     where
       at_router : (b : Option RouterConfig)
           → unwrap_or (option_and_then (λ (c : RouterConfig). own_value (find (λ (o : Origination). list_permits (maps_of config) o.class p && same_prefix o.prefix p) c.own)) b) no_tag
-          ≡ unwrap_or (option_and_then (λ (c : RouterConfig). option_and_then (λ class. own_value (find (λ (o : Origination). o.class == class && same_prefix o.prefix p) c.own)) (class_of config p)) b) no_tag
+          ≡ unwrap_or (option_and_then
+          (λ (c : RouterConfig). option_and_then (λ class. own_value (find (λ (o : Origination). o.class == class && same_prefix o.prefix p) c.own)) (class_of config p)) b)
+          no_tag
       at_router None = refl
       at_router (Some c) = ap (λ o. unwrap_or o no_tag) (own_as (class_of config p) refl c)
 

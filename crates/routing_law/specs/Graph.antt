@@ -70,4 +70,5 @@ pub record MeetsRanks (net : Network) (g : Graph) (k : Ranks) : Type 0 where
   -- the rank rule: of two nodes at a source the better one has no worse a rank
   pub ranks : (m n i : ℕ) → net.router (g.place n) ≡ true → k.source (g.place n) ≡ true → AtLeast g m n → k.of_node n ≡ Some i → (j : ℕ) × (k.of_node m ≡ Some j) × (j ≤ i)
   -- the listener rule: of two nodes at a router the better one steps to a peer where the worse one does, and to no worse a rank
-  pub listeners : (m n p l i : ℕ) → net.router (g.place n) ≡ true → AtLeast g m n → net.router p ≡ false → g.next n p ≡ Some l → k.of_node l ≡ Some i → (h j : ℕ) × (g.next m p ≡ Some h) × (k.of_node h ≡ Some j) × (j ≤ i)
+  pub listeners : (m n p l i : ℕ) → net.router (g.place n) ≡ true → AtLeast g m n → net.router p ≡ false → g.next n p ≡ Some l → k.of_node l ≡ Some i
+      → (h j : ℕ) × (g.next m p ≡ Some h) × (k.of_node h ≡ Some j) × (j ≤ i)

@@ -49,12 +49,15 @@ pub record BestPaths (w : Setup) (k : Ranks) (c : Lines) (r : LineRoutes) : Type
   pub routers : (v : ℕ) (rest : List ℕ) (i : ℕ) → w.net.router v ≡ true → w.net.origin v ≡ false → k.source v ≡ true → k.of_path (v ∷ rest) ≡ Some i → survives w.alive (v ∷ rest) ≡ true
       → (x : LineRoute) × (j : ℕ) × (r v ≡ Some x) × (k.of_path x.path ≡ Some j) × (j ≤ i)
   -- and where one survives from a peer that is a source over its session with u, u offers one of no worse a rank
-  pub sessions : (u p : ℕ) (rest : List ℕ) (i : ℕ) → w.net.router u ≡ true → w.net.router p ≡ false → w.net.origin p ≡ false → k.source p ≡ true → k.of_path (p ∷ u ∷ rest) ≡ Some i → survives w.alive (p ∷ u ∷ rest) ≡ true
+  pub sessions : (u p : ℕ) (rest : List ℕ) (i : ℕ) → w.net.router u ≡ true → w.net.router p ≡ false → w.net.origin p ≡ false → k.source p ≡ true
+      → k.of_path (p ∷ u ∷ rest) ≡ Some i → survives w.alive (p ∷ u ∷ rest) ≡ true
       → (q : List ℕ) × (j : ℕ) × (offered w.alive c r u p ≡ Some q) × (k.of_path q ≡ Some j) × (j ≤ i)
 
 -- Under all rules every source gets the best rank that survives, and gets none only where none survives.
 abbrev pub LinesAreRight : Type 0
-LinesAreRight = (w : Setup) (tag : ℕ → Tag) (k : Ranks) (c : Lines) (r : LineRoutes) → Written w.net w.graph tag c → MeetsRules w.net w.graph → MeetsRanks w.net w.graph k → LinesStable w.net w.alive c r → BestPaths w k c r
+LinesAreRight =
+    (w : Setup) (tag : ℕ → Tag) (k : Ranks) (c : Lines) (r : LineRoutes) → Written w.net w.graph tag c → MeetsRules w.net w.graph
+    → MeetsRanks w.net w.graph k → LinesStable w.net w.alive c r → BestPaths w k c r
 
 -- Whatever fails, there is an outcome with ties broken.
 abbrev pub OutcomeExists : Type 0
@@ -62,7 +65,9 @@ OutcomeExists = (w : Setup) (tag : ℕ → Tag) (c : Lines) → Written w.net w.
 
 -- And any two give each router the same.
 abbrev pub OutcomeIsUnique : Type 0
-OutcomeIsUnique = (w : Setup) (tag : ℕ → Tag) (c : Lines) (r s : LineRoutes) → NamesDiffer w.net → Written w.net w.graph tag c → MeetsRules w.net w.graph → LinesFullyStable w.net w.alive c r → LinesFullyStable w.net w.alive c s → (v : ℕ) → w.net.router v ≡ true → r v ≡ s v
+OutcomeIsUnique =
+    (w : Setup) (tag : ℕ → Tag) (c : Lines) (r s : LineRoutes) → NamesDiffer w.net → Written w.net w.graph tag c → MeetsRules w.net w.graph
+    → LinesFullyStable w.net w.alive c r → LinesFullyStable w.net w.alive c s → (v : ℕ) → w.net.router v ≡ true → r v ≡ s v
 
 -- Tags differ, so lines and steps say the same: a stable outcome of the lines is one of the graph.
 abbrev pub LinesAreGraph : Type 0
@@ -74,20 +79,28 @@ GraphIsLines = (w : Setup) (tag : ℕ → Tag) (c : Lines) (s : Routes) → Writ
 
 -- A router's route is exported only where its node steps on,
 abbrev pub ExportsAreSteps : Type 0
-ExportsAreSteps = (net : Network) (g : Graph) (tag : ℕ → Tag) (c : Lines) → Written net g tag c → (u v n : ℕ) (rest : List ℕ) → net.router u ≡ true → run g (u ∷ rest) ≡ Some n → c.exported u v (tag n) ≡ true → (m : ℕ) × (g.next n v ≡ Some m)
+ExportsAreSteps =
+    (net : Network) (g : Graph) (tag : ℕ → Tag) (c : Lines) → Written net g tag c → (u v n : ℕ) (rest : List ℕ) → net.router u ≡ true
+    → run g (u ∷ rest) ≡ Some n → c.exported u v (tag n) ≡ true → (m : ℕ) × (g.next n v ≡ Some m)
 
 -- an import line gives it the tag and the number of the next node,
 abbrev pub ImportsAreSteps : Type 0
-ImportsAreSteps = (net : Network) (g : Graph) (tag : ℕ → Tag) (c : Lines) → Written net g tag c → (u v n : ℕ) (rest : List ℕ) (q : Tag × ℕ) → net.router u ≡ true → net.router v ≡ true → run g (u ∷ rest) ≡ Some n → c.imported v u (tag n) ≡ Some q
+ImportsAreSteps =
+    (net : Network) (g : Graph) (tag : ℕ → Tag) (c : Lines) → Written net g tag c → (u v n : ℕ) (rest : List ℕ) (q : Tag × ℕ) → net.router u ≡ true
+    → net.router v ≡ true → run g (u ∷ rest) ≡ Some n → c.imported v u (tag n) ≡ Some q
     → (m : ℕ) × (g.next n v ≡ Some m) × (q ≡ (tag m, g.number m))
 
 -- an origin's own route is exported only where it has a start, whose tag it has,
 abbrev pub OwnRoutesAreStarts : Type 0
-OwnRoutesAreStarts = (net : Network) (g : Graph) (tag : ℕ → Tag) (c : Lines) → Written net g tag c → (u v : ℕ) → net.router u ≡ true → net.origin u ≡ true → c.exported u v (c.own u) ≡ true → (s : ℕ) × (g.start u ≡ Some s) × (c.own u ≡ tag s)
+OwnRoutesAreStarts =
+    (net : Network) (g : Graph) (tag : ℕ → Tag) (c : Lines) → Written net g tag c → (u v : ℕ) → net.router u ≡ true → net.origin u ≡ true
+    → c.exported u v (c.own u) ≡ true → (s : ℕ) × (g.start u ≡ Some s) × (c.own u ≡ tag s)
 
 -- and what a peer announces is a start that steps on.
 abbrev pub AnnouncementsAreSteps : Type 0
-AnnouncementsAreSteps = (net : Network) (g : Graph) (tag : ℕ → Tag) (c : Lines) → Written net g tag c → (u v : ℕ) (q : Tag × ℕ) → net.router u ≡ false → net.router v ≡ true → net.origin u ≡ true → c.from_peer v u ≡ Some q
+AnnouncementsAreSteps =
+    (net : Network) (g : Graph) (tag : ℕ → Tag) (c : Lines) → Written net g tag c → (u v : ℕ) (q : Tag × ℕ) → net.router u ≡ false
+    → net.router v ≡ true → net.origin u ≡ true → c.from_peer v u ≡ Some q
     → (s m : ℕ) × (g.start u ≡ Some s) × (g.next s v ≡ Some m) × (q ≡ (tag m, g.number m))
 
 -- what holds of the route of v in the graph
@@ -106,7 +119,9 @@ GraphPathsAreSound = (w : Setup) (r : Routes) → Stable w r → (v : ℕ) (x : 
 
 -- The number of a router's node is the greatest of all that are reached at it.
 abbrev pub GraphNumberIsGreatest : Type 0
-GraphNumberIsGreatest = (w : Setup) (r : Routes) → WellFormed w.net w.graph → MeetsRules w.net w.graph → Stable w r → (v n : ℕ) → w.net.router v ≡ true → ReachedAt w v n → (x : Route) × (r v ≡ Some x) × (w.graph.number n ≤ w.graph.number x.node)
+GraphNumberIsGreatest =
+    (w : Setup) (r : Routes) → WellFormed w.net w.graph → MeetsRules w.net w.graph → Stable w r → (v n : ℕ) → w.net.router v ≡ true → ReachedAt w v n
+    → (x : Route) × (r v ≡ Some x) × (w.graph.number n ≤ w.graph.number x.node)
 
 -- The node of a route is reached.
 abbrev pub GraphNodeIsReached : Type 0
@@ -121,7 +136,8 @@ RankIsBest = (w : Setup) (k : Ranks) (r : Routes) → WellFormed w.net w.graph �
 -- The route of u, with the peer p in front, has the best rank that survives over their session, and p isn't on it.
 abbrev pub OfferIsBest : Type 0
 OfferIsBest = (w : Setup) (k : Ranks) (r : Routes) → WellFormed w.net w.graph → MeetsRules w.net w.graph → MeetsRanks w.net w.graph k → Stable w r
-    → (u p : ℕ) (rest : List ℕ) (i : ℕ) → w.net.router u ≡ true → w.net.router p ≡ false → w.net.origin p ≡ false → k.source p ≡ true → k.of_path (p ∷ u ∷ rest) ≡ Some i → survives w.alive (u ∷ rest) ≡ true
+    → (u p : ℕ) (rest : List ℕ) (i : ℕ) → w.net.router u ≡ true → w.net.router p ≡ false → w.net.origin p ≡ false → k.source p ≡ true
+    → k.of_path (p ∷ u ∷ rest) ≡ Some i → survives w.alive (u ∷ rest) ≡ true
     → (x : Route) × (h j : ℕ) × (r u ≡ Some x) × (w.graph.next x.node p ≡ Some h) × (stands_on p x.path ≡ false) × (k.of_path (p ∷ x.path) ≡ Some j) × (j ≤ i)
 
 abbrev pub GraphOutcomeExists : Type 0

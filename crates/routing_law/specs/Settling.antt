@@ -90,4 +90,6 @@ ReachEnds = (w : Setup) → WellFormed w.net w.graph → (time : ℕ) → Within
 
 -- a round after which nobody is settled is an outcome
 abbrev pub SettlingEnds : Type 0
-SettlingEnds = (w : Setup) → WellFormed w.net w.graph → MeetsRules w.net w.graph → (t : Tops w) (j : ℕ) → Within w.net.size (λ v. is_some (rounds w t.top (suc j) v)) (λ v. is_some (rounds w t.top j v)) → FullyStable w (rounds w t.top j)
+SettlingEnds =
+    (w : Setup) → WellFormed w.net w.graph → MeetsRules w.net w.graph → (t : Tops w) (j : ℕ)
+    → Within w.net.size (λ v. is_some (rounds w t.top (suc j) v)) (λ v. is_some (rounds w t.top j v)) → FullyStable w (rounds w t.top j)

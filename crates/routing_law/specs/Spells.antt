@@ -16,7 +16,8 @@ pub record Spells (net : Network) (g : Graph) (tag : ℕ → Tag) (c : Lines) : 
   pub exports : (u v n m : ℕ) → net.router u ≡ true → StepOver g u v n m → c.exported u v (tag n) ≡ true
   pub exports_only : (u v : ℕ) (t : Tag) → net.router u ≡ true → c.exported u v t ≡ true → (n m : ℕ) × StepOver g u v n m × (tag n ≡ t)
   pub imports : (u v n m : ℕ) → net.router u ≡ true → net.router v ≡ true → StepOver g u v n m → c.imported v u (tag n) ≡ Some (tag m, g.number m)
-  pub imports_only : (u v : ℕ) (t : Tag) (q : Tag × ℕ) → net.router u ≡ true → net.router v ≡ true → c.imported v u t ≡ Some q → (n m : ℕ) × StepOver g u v n m × (tag n ≡ t) × (q ≡ (tag m, g.number m))
+  pub imports_only : (u v : ℕ) (t : Tag) (q : Tag × ℕ) → net.router u ≡ true → net.router v ≡ true → c.imported v u t ≡ Some q
+      → (n m : ℕ) × StepOver g u v n m × (tag n ≡ t) × (q ≡ (tag m, g.number m))
   pub peers : (u v n m : ℕ) → net.router u ≡ false → net.router v ≡ true → StepOver g u v n m → c.from_peer v u ≡ Some (tag m, g.number m)
   pub peers_only : (u v : ℕ) (q : Tag × ℕ) → net.router u ≡ false → net.router v ≡ true → c.from_peer v u ≡ Some q → (n m : ℕ) × StepOver g u v n m × (q ≡ (tag m, g.number m))
 

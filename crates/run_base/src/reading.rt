@@ -25,7 +25,8 @@ fn line_about(alloc: Global, what: &[u8], name: &str) -> Result<Vec<u8>, NoMemor
 
 // The bytes of a name.
 fn read_named<I: Inputs>(alloc: Global, inputs: &mut I, name: &str) -> Result<Vec<u8>, Stop>
-    ensures read { MatchResult result (λ v. IsHeld (I.holds inputs.old) name.now v.items) (λ stop. IsStop (I.holds inputs.old) (RoseOf (I.faults inputs.old) (I.faults inputs.new)) name.now (said (Err stop))) }
+    ensures read { MatchResult result (λ v. IsHeld (I.holds inputs.old) name.now v.items)
+        (λ stop. IsStop (I.holds inputs.old) (RoseOf (I.faults inputs.old) (I.faults inputs.new)) name.now (said (Err stop))) }
     ensures kept { AreOnlyRead (I.holds inputs.old) (I.holds inputs.new) (I.faults inputs.old) (I.faults inputs.new) (I.sure inputs.old) (I.sure inputs.new) }
 {
     match inputs.read(alloc, name, INPUT_BYTES) {

@@ -17,7 +17,8 @@ use Rattle.net_base.proofs.NumbersBelow.{length-numbers_below}
 use Rattle.policy_base.specs.declared.call.SetCall.TheVariants.{Exit, NoTransit}
 use Rattle.policy_base.specs.declared.call.Call.TheVariants.{Of}
 use Rattle.policy_base.specs.declared.policy.Origin.{Origin}
-use Rattle.policy_text.specs.PolicyText.{are_all, call_text, calls_text, joined_names, names_from, names_in, next_name, is_everything, next_pattern, origin_line, patterns_text, policy_text, set_text, statement_line}
+use Rattle.policy_text.specs.PolicyText.{are_all, call_text, calls_text, joined_names, names_from, names_in, next_name, is_everything, next_pattern, origin_line}
+use Rattle.policy_text.specs.PolicyText.{patterns_text, policy_text, set_text, statement_line}
 use Rattle.text_words.specs.Texts.{pattern_text, prefix_text}
 use Rattle.sample_network.specs.Network.{leaf, peer, peer_at, sample_net, spine}
 use Rattle.sample_network.specs.SamplePolicy.{alone, inner_statement, leaf_origin, leaf_pattern, leaf_prefix, leaves, outer_statement, sample_policy}

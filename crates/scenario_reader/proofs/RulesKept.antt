@@ -66,15 +66,20 @@ module _ (net : PlainNet) where
   both-keeps : (f : Field) (k : ℕ) (e : Ends) (p : ℕ × ℕ) → both_located (names_of net) f e ≡ Ok p → are_known net e ≡ true
   both-keeps f k e p h =
       let at = both-at f e p h in
-      and_from (is_known (names_of net) e.from) (is_known (names_of net) e.to) (list_any-at_position (bytes_eq e.from) (names_of net) p.0 at.0) (list_any-at_position (bytes_eq e.to) (names_of net) p.1 at.1)
+      and_from (is_known (names_of net) e.from) (is_known (names_of net) e.to) (list_any-at_position (bytes_eq e.from) (names_of net) p.0 at.0)
+      (list_any-at_position (bytes_eq e.to) (names_of net) p.1 at.1)
 
   both-breaks : (f : Field) (k : ℕ) (e : Ends) (d : ScenarioFault) → both_located (names_of net) f e ≡ Err d → (are_known net e ≡ true → ⊥) × (number_of d ≡ 3)
   unfolding both_located
   both-breaks f k e d h =
       bind_case ((are_known net e ≡ true → ⊥) × (number_of d ≡ 3)) (or_fault (Unknown f) (place e.from)) _ (Err d) h
-      (λ c p same. let q = name_err (Unknown f) c (names_of net) e.from p in ((λ t. q.0 (and_parts (is_known (names_of net) e.from) (is_known (names_of net) e.to) t).0), ap number_of (err_same d c same ∙ sym q.1)))
+      (λ c p same. let q =
+      name_err (Unknown f) c
+      (names_of net) e.from p in ((λ t. q.0 (and_parts (is_known (names_of net) e.from) (is_known (names_of net) e.to) t).0), ap number_of (err_same d c same ∙ sym q.1)))
       (λ a _ g. bind_case ((are_known net e ≡ true → ⊥) × (number_of d ≡ 3)) (or_fault (Unknown f) (place e.to)) _ (Err d) g
-      (λ c p same. let q = name_err (Unknown f) c (names_of net) e.to p in ((λ t. q.0 (and_parts (is_known (names_of net) e.from) (is_known (names_of net) e.to) t).1), ap number_of (err_same d c same ∙ sym q.1)))
+      (λ c p same. let q =
+      name_err (Unknown f) c
+      (names_of net) e.to p in ((λ t. q.0 (and_parts (is_known (names_of net) e.from) (is_known (names_of net) e.to) t).1), ap number_of (err_same d c same ∙ sym q.1)))
       (λ b _ k. absurd (ok_not_err (a, b) d k)))
 
   -- ---- pairs
@@ -107,27 +112,35 @@ module _ (net : PlainNet) where
       told-keeps : no_fault (option_map told (position (λ p. not (test p)) ps)) ≡ Ok tt → AllByRecursion (λ e. IsTrue (passes net test e)) es
       told-keeps h =
           AllByRecursion-from_not (passes net test) es
-          (AllByRecursion-from_list_any (λ e. not (passes net test e)) es (sym (any_at es ps at) ∙ list_any-no_position (λ p. not (test p)) ps (no_fault-ok told (position (λ p. not (test p)) ps) tt h)))
+          (AllByRecursion-from_list_any (λ e. not (passes net test e)) es
+          (sym (any_at es ps at) ∙ list_any-no_position (λ p. not (test p)) ps (no_fault-ok told (position (λ p. not (test p)) ps) tt h)))
 
       told-breaks : (e : ScenarioFault) → no_fault (option_map told (position (λ p. not (test p)) ps)) ≡ Err e → (AllByRecursion (λ e. IsTrue (passes net test e)) es → ⊥) × ((i : ℕ) × (told i ≡ e))
       told-breaks e h =
-          let q = no_fault-err told (position (λ p. not (test p)) ps) e h in
-          ((λ a. list_any_breaks (λ e. not (passes net test e)) es (sym (any_at es ps at) ∙ list_any-at_position (λ p. not (test p)) ps q.0 q.1) (AllByRecursion-not (passes net test) es a)), (q.0, q.2))
+          let q = no_fault-err told (position (λ p. not (test p)) ps) e h in (
+            (λ a. list_any_breaks (λ e. not (passes net test e)) es (sym (any_at es ps at) ∙ list_any-at_position (λ p. not (test p)) ps q.0 q.1) (AllByRecursion-not (passes net test) es a)),
+            (q.0, q.2),
+          )
 
 -- ---- one rule after the other
 
 -- the rules behind the names
-located_outcome : (net : PlainNet) (said : Said) (dead : List ℕ) (links pairs : List (ℕ × ℕ)) → AllAt net said.dead_links links → AllAt net said.silent pairs → KeepsBelow (rules net said) 4 → (y : Result Scenario ScenarioFault)
+located_outcome : (net : PlainNet) (said : Said) (dead : List ℕ) (links pairs : List (ℕ × ℕ)) → AllAt net said.dead_links links
+    → AllAt net said.silent pairs → KeepsBelow (rules net said) 4 → (y : Result Scenario ScenarioFault)
     → (links_known net links >>= (λ _. sessions_known net pairs >>= (λ _. or_fault BadPrefix (result_ok (prefix_spelled said.prefix)) >>= (λ prefix.
     Ok (record { prefix = prefix; dead = set_of_all dead; dead_links = links; silent = map (turned net) pairs }))))) ≡ y → Outcome (rules net said) number_of y
 unfolding links_known sessions_known
 located_outcome net said dead links pairs at others below y h =
     bind_case (Outcome (rules net said) number_of y) (links_known net links) _ y h
-    (λ e p same. let q = told-breaks net (λ p. linked net p.0 p.1) (λ i. NoLink (i + 1)) said.dead_links links at e p in broken (rules net said) number_of 4 y e below (q.0, ap number_of (sym q.1.1)) same)
+    (λ e p same. let q =
+    told-breaks net (λ p. linked net p.0 p.1) (λ i. NoLink (i + 1)) said.dead_links links at e p in broken (rules net said) number_of 4 y e below
+    (q.0, ap number_of (sym q.1.1)) same)
     (λ _ p g.
     let below_5 = next (rules net said) 4 below (told-keeps net (λ p. linked net p.0 p.1) (λ i. NoLink (i + 1)) said.dead_links links at p) in
     bind_case (Outcome (rules net said) number_of y) (sessions_known net pairs) _ y g
-    (λ e p same. let q = told-breaks net (is_session net) (λ i. NotPeerLink (i + 1)) said.silent pairs others e p in broken (rules net said) number_of 5 y e below_5 (q.0, ap number_of (sym q.1.1)) same)
+    (λ e p same. let q =
+    told-breaks net (is_session net) (λ i. NotPeerLink (i + 1)) said.silent pairs others e p in broken (rules net said) number_of 5 y e below_5
+    (q.0, ap number_of (sym q.1.1)) same)
     (λ _ p g.
     let below_6 = next (rules net said) 5 below_5 (told-keeps net (is_session net) (λ i. NotPeerLink (i + 1)) said.silent pairs others p) in
     bind_case (Outcome (rules net said) number_of y) (or_fault BadPrefix (result_ok (prefix_spelled said.prefix))) _ y g
@@ -144,17 +157,24 @@ judged_outcome net said y h =
     let one = λ (name : List ℕ). is_known names name ≡ true in
     let two = λ (e : Ends). are_known net e ≡ true in
     bind_case (Outcome (rules net said) number_of y) (each (located names field.Dead) said.dead) _ y h
-    (λ e p same. let q = each_from-breaks one three (λ _. located names field.Dead) (located-breaks net field.Dead) 1 said.dead e p in broken (rules net said) number_of 3 y e (below_3 (rules net said)) ((λ k. q.0 k.0), q.1) same)
+    (λ e p same. let q =
+    each_from-breaks one three (λ _. located names field.Dead) (located-breaks net field.Dead) 1 said.dead e p in broken
+    (rules net said) number_of 3 y e (below_3 (rules net said)) ((λ k. q.0 k.0), q.1) same)
     (λ dead dp g.
     bind_case (Outcome (rules net said) number_of y) (each (both_located names field.DeadLinks) said.dead_links) _ y g
-    (λ e p same. let q = each_from-breaks two three (λ _. both_located names field.DeadLinks) (both-breaks net field.DeadLinks) 1 said.dead_links e p in broken (rules net said) number_of 3 y e (below_3 (rules net said)) ((λ k. q.0 k.1), q.1) same)
+    (λ e p same. let q =
+    each_from-breaks two three (λ _. both_located names field.DeadLinks) (both-breaks net field.DeadLinks) 1 said.dead_links e p in broken
+    (rules net said) number_of 3 y e (below_3 (rules net said)) ((λ k. q.0 k.1), q.1) same)
     (λ links lp g.
     bind_case (Outcome (rules net said) number_of y) (each (both_located names field.Silent) said.silent) _ y g
-    (λ e p same. let q = each_from-breaks two three (λ _. both_located names field.Silent) (both-breaks net field.Silent) 1 said.silent e p in broken (rules net said) number_of 3 y e (below_3 (rules net said)) ((λ k. q.0 k.2), q.1) same)
+    (λ e p same. let q =
+    each_from-breaks two three (λ _. both_located names field.Silent) (both-breaks net field.Silent) 1 said.silent e p in broken
+    (rules net said) number_of 3 y e (below_3 (rules net said)) ((λ k. q.0 k.2), q.1) same)
     (λ pairs pp g.
     let keeps : NamesAreKnown net said = (
       each_from-keeps one (λ _. located names field.Dead) (located-keeps net field.Dead) 1 said.dead dead dp,
       each_from-keeps two (λ _. both_located names field.DeadLinks) (both-keeps net field.DeadLinks) 1 said.dead_links links lp,
       each_from-keeps two (λ _. both_located names field.Silent) (both-keeps net field.Silent) 1 said.silent pairs pp,
     ) in
-    located_outcome net said dead links pairs (all-at net field.DeadLinks 1 said.dead_links links lp) (all-at net field.Silent 1 said.silent pairs pp) (next (rules net said) 3 (below_3 (rules net said)) keeps) y g)))
+    located_outcome net said dead links pairs (all-at net field.DeadLinks 1 said.dead_links links lp) (all-at net field.Silent 1 said.silent pairs pp)
+    (next (rules net said) 3 (below_3 (rules net said)) keeps) y g)))

@@ -28,13 +28,17 @@ pub fn texts_that_are_no_json()
 /// A text has a fault of the shape exactly where it is a JSON value that has not the shape of a scenario; the fault names the
 /// first part that differs.
 pub fn texts_of_another_shape()
-    ensures only { (net : PlainNet) (bytes : List ℕ) (f : Field) → spelled net bytes ≡ Err (ScenarioFault.Shape f) → (d : Data) × IsUtf8 bytes × (read bytes ≡ Some d) × (shape_of d ≡ Err (ScenarioFault.Shape f)) }
-    ensures all { (net : PlainNet) (bytes : List ℕ) (f : Field) (d : Data) → IsUtf8 bytes → read bytes ≡ Some d → shape_of d ≡ Err (ScenarioFault.Shape f) → spelled net bytes ≡ Err (ScenarioFault.Shape f) }
+    ensures only { (net : PlainNet) (bytes : List ℕ) (f : Field) → spelled net bytes ≡ Err (ScenarioFault.Shape f)
+        → (d : Data) × IsUtf8 bytes × (read bytes ≡ Some d) × (shape_of d ≡ Err (ScenarioFault.Shape f)) }
+    ensures all { (net : PlainNet) (bytes : List ℕ) (f : Field) (d : Data) → IsUtf8 bytes → read bytes ≡ Some d
+        → shape_of d ≡ Err (ScenarioFault.Shape f) → spelled net bytes ≡ Err (ScenarioFault.Shape f) }
 {}
 
 /// Of a text with the shape of a scenario, a fault is told exactly where the rule of its number is broken and every rule with
 /// a lesser number is kept.
 pub fn first_broken_rule()
-    ensures only { (net : PlainNet) (bytes : List ℕ) (said : Said) (e : ScenarioFault) → Says shape_of bytes said → spelled net bytes ≡ Err e → KeepsBelow (rules net said) (number_of e) × (Keeps (rules net said) (number_of e) → ⊥) }
-    ensures all { (net : PlainNet) (bytes : List ℕ) (said : Said) (k : ℕ) → Says shape_of bytes said → KeepsBelow (rules net said) k → (Keeps (rules net said) k → ⊥) → (e : ScenarioFault) × (spelled net bytes ≡ Err e) × (number_of e ≡ k) }
+    ensures only { (net : PlainNet) (bytes : List ℕ) (said : Said) (e : ScenarioFault) → Says shape_of bytes said → spelled net bytes ≡ Err e
+        → KeepsBelow (rules net said) (number_of e) × (Keeps (rules net said) (number_of e) → ⊥) }
+    ensures all { (net : PlainNet) (bytes : List ℕ) (said : Said) (k : ℕ) → Says shape_of bytes said → KeepsBelow (rules net said) k
+        → (Keeps (rules net said) k → ⊥) → (e : ScenarioFault) × (spelled net bytes ≡ Err e) × (number_of e ≡ k) }
 {}

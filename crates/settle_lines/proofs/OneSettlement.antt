@@ -24,7 +24,11 @@ one_settlement net policy config p es rules one other a b =
     let more = b.first.no_sooner a.rounds a.first.quiet in
     let same : a.rounds ≡ b.rounds = omega (arith, less, more) in
     let shown = subst (λ (k : ℕ). IsReportOf net policy config f p (routes_of net (world_at net policy config p es k)) a.report) same (a.shown f scenario) in
-    let reports : a.report ≡ b.report = one_report net policy p (shown_of net policy config f p (routes_of net (world_at net policy config p es b.rounds))) config a.report b.report shown (b.shown f scenario) in
+    let reports : a.report ≡ b.report =
+    one_report net policy p
+    (shown_of net policy config f p (routes_of net (world_at net policy config p es b.rounds))) config a.report b.report shown
+    (b.shown f scenario) in
     a.spelled
-    ∙ ap₂ (λ (k : ℕ) (report : List ℕ). flat_map refused_line (refused_from S 1 es (opening S)) ++ rounds_line k ++ deliveries_line (length (deliveries_in net policy config p es k)) ++ report) same reports
+    ∙ ap₂ (λ (k : ℕ) (report : List ℕ). flat_map refused_line (refused_from S 1 es (opening S)) ++ rounds_line k ++ deliveries_line (length (deliveries_in net policy config p es k)) ++ report)
+    same reports
     ∙ sym b.spelled

@@ -35,7 +35,8 @@ pub record HasRested (links : List (ℕ × ℕ)) (S : Speakers Route) (w : World
   pub counted : count ≡ length (rounds_in links S rounds w)
   pub world : v ≡ world_in links S rounds w
 
-module _ (net : PlainNet) (policy : PlainPolicy) (config : PlainConfig) (cs : List PlainCaseEvidence) (rules : IsNet net) (kept : IsPolicyOf net policy) (passes : Passes net policy config cs) (p : PlainPrefix) (prefix : IsPrefix p) (es : List Event) where
+module _ (net : PlainNet) (policy : PlainPolicy) (config : PlainConfig) (cs : List PlainCaseEvidence) (rules : IsNet net)
+    (kept : IsPolicyOf net policy) (passes : Passes net policy config cs) (p : PlainPrefix) (prefix : IsPrefix p) (es : List Event) where
   abbrev S : Speakers Route
   S = speakers_of net policy config p
 

@@ -154,7 +154,8 @@ module _ (net : PlainNet) (policy : PlainPolicy) (config : PlainConfig) (cs : Li
 
   case_one : CaseFound → (a b : Outcome) → IsFullyStable net policy config f p a → IsFullyStable net policy config f p b → (r : ℕ) → is_router net r ≡ true → route_at a r ≡ route_at b r
   case_one c a b x y r router =
-      let lined : (o : Outcome) → IsFullyStable net policy config f p o → line.LinesFullyStable (network_of net (holds c.d.case.origins)) (alive_of net f) (lines_of net config p (suc c.k)) (lines_at o) =
+      let lined : (o : Outcome) → IsFullyStable net policy config f p o
+      → line.LinesFullyStable (network_of net (holds c.d.case.origins)) (alive_of net f) (lines_of net config p (suc c.k)) (lines_at o) =
       λ o full. subst (λ (q : ℕ → Bool). line.LinesFullyStable (network_of net q) (alive_of net f) (lines_of net config p (suc c.k)) (lines_at o))
       (sym c.same) (fully_lines net policy config f p (suc c.k) rules c.of_class o full) in
       let same = lines_unique (setup_of net f c.d) (pairs_of c.d) (lines_of net config p (suc c.k)) (lines_at a) (lines_at b)

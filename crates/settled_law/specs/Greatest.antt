@@ -27,5 +27,6 @@ pub record AreGreatest (net : PlainNet) (policy : PlainPolicy) (f : Failures) (p
 -- In every stable outcome.
 abbrev pub NumbersAreGreatest : Type 0
 NumbersAreGreatest = (net : PlainNet) (policy : PlainPolicy) (config : PlainConfig) (cs : List PlainCaseEvidence) → IsNet net → IsPolicyOf net policy → Passes net policy config cs
-    → (p : PlainPrefix) (f : Failures) (outcome : Outcome) (k : ℕ) (c : PlainCaseEvidence) → IsPrefix p → IsStable net policy config f p outcome → class_of config p ≡ Some (suc k) → slice_get cs k ≡ Some c
+    → (p : PlainPrefix) (f : Failures) (outcome : Outcome) (k : ℕ) (c : PlainCaseEvidence) → IsPrefix p → IsStable net policy config f p outcome
+    → class_of config p ≡ Some (suc k) → slice_get cs k ≡ Some c
     → AreGreatest net policy f p c outcome

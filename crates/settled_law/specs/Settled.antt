@@ -19,7 +19,8 @@ pub record IsNoLater (net : PlainNet) (h g : Route) : Type 0 where
 
 pub record IsFullyStable (net : PlainNet) (policy : PlainPolicy) (config : PlainConfig) (f : Failures) (p : PlainPrefix) (outcome : Outcome) : Type 0 where
   pub stable : IsStable net policy config f p outcome
-  pub first : (r z : ℕ) (h g : Route) → IsTrue (is_router net r && not (is_origin net policy p r) && not (is_dead f r)) → route_at outcome r ≡ Some h → given net policy config f p outcome z r ≡ Some g → IsNoLater net h g
+  pub first : (r z : ℕ) (h g : Route) → IsTrue (is_router net r && not (is_origin net policy p r) && not (is_dead f r)) → route_at outcome r ≡ Some h
+      → given net policy config f p outcome z r ≡ Some g → IsNoLater net h g
 
 -- Whatever fails, there is such an outcome for every prefix,
 abbrev pub SettledOutcomesExist : Type 0

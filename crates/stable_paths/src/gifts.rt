@@ -54,7 +54,8 @@ impl<'a> Situation<'a> {
     // What a peer announces where its session isn't silent: the path of itself alone, where it is an origin.
     fn announced<'s>(&self, peer: &'s Loc) -> Option<Announcement<'s>>
         requires { IsSituation self.now }
-        ensures { option_map plain_announcement result ≡ (if origin self.now.net.now (policy_of self.now.policy.now) self.now.scenario.now.prefix peer.now then Some (peer.now ∷ [], no_tag) else None) }
+        ensures { option_map plain_announcement result
+            ≡ (if origin self.now.net.now (policy_of self.now.policy.now) self.now.scenario.now.prefix peer.now then Some (peer.now ∷ [], no_tag) else None) }
     {
         if self.is_origin(*peer) {
             Some(Announcement {
@@ -70,7 +71,8 @@ impl<'a> Situation<'a> {
     pub(crate) fn sent<'s>(&'s self, from: &'s Loc, to: Loc) -> Option<Announcement<'s>>
         requires situation { IsSituation self.now }
         requires heard { IsTrue (not (is_peer self.now.net.now from.now && is_silent (failures_of self.now.scenario.now) to from.now)) }
-        ensures { option_map plain_announcement result ≡ sent_by self.now.net.now (policy_of self.now.policy.now) self.now.config.now (failures_of self.now.scenario.now) self.now.scenario.now.prefix self.now.outcome.now.routes from.now to }
+        ensures { option_map plain_announcement result
+            ≡ sent_by self.now.net.now (policy_of self.now.policy.now) self.now.config.now (failures_of self.now.scenario.now) self.now.scenario.now.prefix self.now.outcome.now.routes from.now to }
     {
         if self.net.is_peer(*from) {
             return self.announced(from);

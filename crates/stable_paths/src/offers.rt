@@ -34,7 +34,8 @@ impl<'a> Situation<'a> {
     /// The path along which a router sends what it offers a peer: what the peer hears is this path with the peer in front.
     pub fn offered(&self, router: Loc, peer: Loc) -> Option<&[Loc]>
         requires { IsSituation self.now }
-        ensures { option_map (λ path. peer ∷ path.now) result ≡ offered_by self.now.net.now (policy_of self.now.policy.now) self.now.config.now (failures_of self.now.scenario.now) self.now.scenario.now.prefix self.now.outcome.now.routes router peer }
+        ensures { option_map (λ path. peer ∷ path.now) result
+            ≡ offered_by self.now.net.now (policy_of self.now.policy.now) self.now.config.now (failures_of self.now.scenario.now) self.now.scenario.now.prefix self.now.outcome.now.routes router peer }
     {
         if !self.is_live_session(router, peer) {
             return None;

@@ -39,7 +39,8 @@ impl<'a> Situation<'a> {
     // Whether a router's route is among what it is given, with no higher preference given, and none only where nothing is.
     fn chooses(&self, choices: &Choices, at: Loc) -> bool
         requires { AreChoices self.now choices.now }
-        ensures { IsTrue result ↔ Chooses self.now.net.now (policy_of self.now.policy.now) self.now.config.now (failures_of self.now.scenario.now) self.now.scenario.now.prefix self.now.outcome.now.routes at }
+        ensures { IsTrue result
+            ↔ Chooses self.now.net.now (policy_of self.now.policy.now) self.now.config.now (failures_of self.now.scenario.now) self.now.scenario.now.prefix self.now.outcome.now.routes at }
     {
         match self.outcome.route_at(at) {
             None => !choices.outdone.holds(at),
@@ -66,7 +67,8 @@ impl<'a> Situation<'a> {
     fn are_settled(&self) -> bool
         requires situation { IsSituation self.now }
         requires size { length self.now.outcome.now.routes ≡ length self.now.net.now.routers }
-        ensures { IsTrue result ↔ IsStable self.now.net.now (policy_of self.now.policy.now) self.now.config.now (failures_of self.now.scenario.now) self.now.scenario.now.prefix self.now.outcome.now.routes }
+        ensures { IsTrue result
+            ↔ IsStable self.now.net.now (policy_of self.now.policy.now) self.now.config.now (failures_of self.now.scenario.now) self.now.scenario.now.prefix self.now.outcome.now.routes }
     {
         let choices = self.choices();
         for at in 0..self.net.routers().len() {
@@ -89,7 +91,8 @@ pub fn is_stable(
     scenario: &Scenario,
     outcome: &Outcome,
 ) -> bool
-    ensures { IsTrue result ↔ ((length outcome.now.routes ≡ length net.now.routers) × IsStable net.now (policy_of policy.now) config.now (failures_of scenario.now) scenario.now.prefix outcome.now.routes) }
+    ensures { IsTrue result
+        ↔ ((length outcome.now.routes ≡ length net.now.routers) × IsStable net.now (policy_of policy.now) config.now (failures_of scenario.now) scenario.now.prefix outcome.now.routes) }
 {
     if outcome.routes.as_slice().len() != net.routers().len() {
         return false;

@@ -152,7 +152,8 @@ impl Reached {
         ensures ok { OnOk result (standings_of self.new ≡ gathered (standings_of self.old) (each_live (left_in (states_of self.old.automata) from) ways.now)) }
         ensures steps { OnOk result (self.new.steps.items ≡ self.old.steps.items ++ steps_to (standings_of self.new) number (each_live (left_in (states_of self.old.automata) from) ways.now)) }
         ensures few { length (standings_of self.new) ≤ NODES }
-        ensures many { IsErrOf result StandingsFault.TooMany → (n : ℕ) × (NODES < length (gathered (standings_of self.old) (each_live (left_in (states_of self.old.automata) from) (take n ways.now)))) }
+        ensures many { IsErrOf result StandingsFault.TooMany
+            → (n : ℕ) × (NODES < length (gathered (standings_of self.old) (each_live (left_in (states_of self.old.automata) from) (take n ways.now)))) }
         ensures kept { OnOk result (Extends (states_of self.old.automata) (states_of self.new.automata)) }
     {
         for next in ways {

@@ -1,5 +1,6 @@
 -- From round to round.
-use Rattle.std.proofs.Common.{◌≡◌, ℕ, zero, suc, ◌+◌, ◌*◌, ◌/◌, ◌%◌, ◌<◌, ◌≤◌, Bool, true, false, cond, not, ◌&&◌, ◌||◌, ltb, mod-lt, List, Option, None, Some, length, arith, refl, sym, ap, ◌∙◌, inl, inr}
+use Rattle.std.proofs.Common.{◌≡◌, ℕ, zero, suc, ◌+◌, ◌*◌, ◌/◌, ◌%◌, ◌<◌, ◌≤◌, Bool, true, false, cond, not, ◌&&◌, ◌||◌, ltb, mod-lt, List, Option, None, Some, length}
+use Rattle.std.proofs.Common.{arith, refl, sym, ap, ◌∙◌, inl, inr}
 use Rattle.std.proofs.lemmas.Bool.{cases_Bool, and_parts, and_from, and_left, and_right, or_left, both_ways, eqb-true, eq-eqb, lt-ltb, not-true, false_from_ne_true}
 use Rattle.std.proofs.Math.Nat.{div-lt_iff_lt-mul}
 use Rattle.std.proofs.lemmas.Nat.{div-mul-add, mod-mul-add, mul-add-lt}
@@ -51,7 +52,8 @@ module _ (v : View) (reach : ℕ → ℕ → Bool) (left next : PlainRows) (touc
     goes = λ m n lm ln h.
         let pair = pair_from v m n (and_parts (is_pair v m n) (not (gone_after v reach 0 m n)) h).0 in
         let same : same_place v m n ≡ true = eq-eqb _ _ pair.place in
-        ap (λ z. is_outranked v m n || z) (any_alike v.size (λ t. v.step n t && fails_at v reach (gone_after v reach 0) m t) (λ t. touched t && (v.step n t && fails_at v reach (gone_after v reach 0) m t))
+        ap (λ z. is_outranked v m n || z)
+        (any_alike v.size (λ t. v.step n t && fails_at v reach (gone_after v reach 0) m t) (λ t. touched t && (v.step n t && fails_at v reach (gone_after v reach 0) m t))
         (λ t lt. sym (ap (λ z. z && (v.step n t && fails_at v reach (gone_after v reach 0) m t)) (each t lt))))
         ∙ ap (λ z. z || goes_by v reach (gone_after v reach 0) touched m n) (sym (ap not (ranked m n lm ln ∙ ap (λ z. z && not (is_outranked v m n)) same) ∙ not-not (is_outranked v m n)));
   }

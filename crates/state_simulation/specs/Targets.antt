@@ -49,7 +49,8 @@ AreLeft v reach rounds rows = (m n : ℕ) → m < v.size → n < v.size → has_
 pub record AtRound (v : View) (reach : ℕ → ℕ → Bool) (rounds : ℕ) (left next : PlainRows) (touched : ℕ → Bool) : Type 0 where
   pub exact : AreLeft v reach rounds left
   pub within : (m n : ℕ) → m < v.size → n < v.size → IsTrue (has_at next n m) → IsTrue (has_at left n m)
-  pub goes : (m n : ℕ) → m < v.size → n < v.size → IsTrue (left_after v reach rounds m n) → fails v reach (gone_after v reach rounds) m n ≡ (not (has_at next n m) || goes_by v reach (gone_after v reach rounds) touched m n)
+  pub goes : (m n : ℕ) → m < v.size → n < v.size → IsTrue (left_after v reach rounds m n)
+      → fails v reach (gone_after v reach rounds) m n ≡ (not (has_at next n m) || goes_by v reach (gone_after v reach rounds) touched m n)
 
 -- the rows of the first table have no bits of nodes that those of the second don't
 abbrev pub AreWithin : ℕ → PlainRows → PlainRows → Type 0

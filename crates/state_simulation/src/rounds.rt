@@ -73,7 +73,8 @@ impl Rounds {
             → AreAt maps.now.graph.now claimed reach (suc k) self.new }
         ensures settled { result ≡ false → (claimed : Claimed) (reach : ℕ → ℕ → Bool) (k : ℕ) → Knows maps.now.graph.now reach k self.old.onwards → AreAt maps.now.graph.now claimed reach k self.old
             → IsSettled (view_of maps.now.graph.now claimed) reach k × AreLeft (view_of maps.now.graph.now claimed) reach k self.new.left }
-        ensures quiet { (n b : ℕ) → n < length maps.now.graph.now.nodes → b < length maps.now.graph.now.nodes → is_touched self.new.touched.items n ≡ false → has_at self.new.left n b ≡ has_at self.old.left n b }
+        ensures quiet { (n b : ℕ) → n < length maps.now.graph.now.nodes → b < length maps.now.graph.now.nodes → is_touched self.new.touched.items n ≡ false
+            → has_at self.new.left n b ≡ has_at self.old.left n b }
         ensures fewer { bits_set (length maps.now.graph.now.nodes) self.new.left + (if result then 1 else 0) ≤ bits_set (length maps.now.graph.now.nodes) self.old.left }
     {
         take_each(
@@ -110,7 +111,8 @@ fn has_open(maps: &Maps, left: &Rows, touched: &[bool], n: u32) -> bool
     requires touched { length touched.now ≡ length maps.now.graph.now.nodes }
     requires n { n < length maps.now.graph.now.nodes }
     ensures open { IsTrue result → (m : ℕ) × IsOpen maps.now.graph.now left.now m n }
-    ensures bound { result ≡ false → (m : ℕ) → m < length maps.now.graph.now.nodes → place_of maps.now.graph.now m ≡ place_of maps.now.graph.now n → asks_later_in touched.now m n ≡ false → IsTrue (has_either left.now m n) }
+    ensures bound { result ≡ false → (m : ℕ) → m < length maps.now.graph.now.nodes → place_of maps.now.graph.now m ≡ place_of maps.now.graph.now n
+        → asks_later_in touched.now m n ≡ false → IsTrue (has_either left.now m n) }
 {
     let row = left.row(n);
     for m in maps.peers(n) {

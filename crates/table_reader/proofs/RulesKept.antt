@@ -69,7 +69,8 @@ module _ (net : PlainNet) where
       same : (a b : List ℕ) → Some a ≡ Some b → a ≡ b
       same a b e = cc
 
-  begins : (place r : ℕ) (entry : Option Said) (held : Option Route) → held_by names place entry ≡ Ok held → (begins_at r held ≡ true → BeginsAt net r entry) × (BeginsAt net r entry → begins_at r held ≡ true)
+  begins : (place r : ℕ) (entry : Option Said) (held : Option Route) → held_by names place entry ≡ Ok held
+      → (begins_at r held ≡ true → BeginsAt net r entry) × (BeginsAt net r entry → begins_at r held ≡ true)
   unfolding held_by
   begins place r None held h = ((λ _. tt), λ _. subst (λ o. begins_at r o ≡ true) (ok_same None held h) refl)
   begins place r (Some said) held h =

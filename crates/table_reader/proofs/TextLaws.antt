@@ -32,7 +32,8 @@ module _ (net : PlainNet) where
   unfolding spelled
   read_where_kept = texts.read_all NotJson shape_of (judged net) number_of (rules net) (judged_outcome net)
 
-  pub first_broken : (bytes : List ℕ) (said : List (Option Said)) (e : TablesFault) → Says shape_of bytes said → spelled net bytes ≡ Err e → KeepsBelow (rules net said) (number_of e) × (Keeps (rules net said) (number_of e) → ⊥)
+  pub first_broken : (bytes : List ℕ) (said : List (Option Said)) (e : TablesFault) → Says shape_of bytes said → spelled net bytes ≡ Err e
+      → KeepsBelow (rules net said) (number_of e) × (Keeps (rules net said) (number_of e) → ⊥)
   unfolding spelled
   first_broken = texts.broken_only NotJson shape_of (judged net) number_of (rules net) (judged_outcome net)
 

@@ -33,7 +33,9 @@ module _ {A B : Type 0} (key : A → B) (eq : B → B → Bool) (swap : (x y : B
   unfolding IsDistinct
   all_unlike-distinct before [] u h = (tt, tt)
   all_unlike-distinct before (x ∷ xs) u h =
-      let p = bind_ok (no_fault (option_map (λ earlier. told (length before + 1) earlier x) (find (λ b. eq (key x) (key b)) before))) (λ _. all_unlike (λ a b. eq (key a) (key b)) told (before ++ x ∷ []) xs) u h in
+      let p =
+      bind_ok (no_fault (option_map (λ earlier. told (length before + 1) earlier x) (find (λ b. eq (key x) (key b)) before)))
+      (λ _. all_unlike (λ a b. eq (key a) (key b)) told (before ++ x ∷ []) xs) u h in
       let none = list_any-not_found (λ b. eq (key x) (key b)) before (no_fault-ok _ _ _ p.1) in
       let q = all_unlike-distinct (before ++ x ∷ []) xs u p.2 in
       let r = none_it (map key before) (key x) (map key xs) (rw (map-append key before (x ∷ [])) at q.1) in

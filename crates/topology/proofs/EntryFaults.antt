@@ -31,9 +31,12 @@ Breaks k t e = (Keeps (rules t) k → ⊥) × (number_of e ≡ k)
 pub counted_breaks : (t : Topology) (e : TopoFault) → counted t ≡ Err e → Breaks 3 t e
 unfolding counted
 counted_breaks t e h =
-    bind_case (Breaks 3 t e) (unless (TooMany kind.Routers (length t.routers)) (nat_le (length t.routers) 512)) (λ _. unless (TooMany kind.Peers (length t.peers)) (nat_le (length t.peers) 256) >>= (λ _. unless (TooMany kind.Links (length t.links)) (nat_le (length t.links) 8192))) (Err e) h
+    bind_case (Breaks 3 t e) (unless (TooMany kind.Routers (length t.routers)) (nat_le (length t.routers) 512))
+    (λ _. unless (TooMany kind.Peers (length t.peers)) (nat_le (length t.peers) 256) >>= (λ _. unless (TooMany kind.Links (length t.links)) (nat_le (length t.links) 8192)))
+    (Err e) h
     (λ d p same. let q = unless_err _ d _ p in ((λ k. omega (arith, k.0, leb-false _ _ q.1)), ap number_of (err_same {A = ⊤} e d same ∙ sym q.0)))
-    (λ _ _ g. bind_case (Breaks 3 t e) (unless (TooMany kind.Peers (length t.peers)) (nat_le (length t.peers) 256)) (λ _. unless (TooMany kind.Links (length t.links)) (nat_le (length t.links) 8192)) (Err e) g
+    (λ _ _ g. bind_case (Breaks 3 t e) (unless (TooMany kind.Peers (length t.peers)) (nat_le (length t.peers) 256))
+    (λ _. unless (TooMany kind.Links (length t.links)) (nat_le (length t.links) 8192)) (Err e) g
     (λ d p same. let q = unless_err _ d _ p in ((λ k. omega (arith, k.1, leb-false _ _ q.1)), ap number_of (err_same {A = ⊤} e d same ∙ sym q.0)))
     (λ _ _ p. let q = unless_err _ e _ p in ((λ k. omega (arith, k.2, leb-false _ _ q.1)), ap number_of (sym q.0))))
 

@@ -61,8 +61,13 @@ module _ (rs qs : List Entry) (es : List Ends) (ps : List (ℕ × ℕ)) (j : All
   routers_break : (e : TopoFault) → routers_linked (length rs) ps ≡ Err e → (AllByRecursion (λ l. IsTrue (is_among rs l.from || is_among rs l.to)) es → ⊥) × (number_of e ≡ 12)
   unfolding routers_linked
   routers_break e h =
-      let q = no_fault-err (λ i. PeerLink (i + 1)) (position (λ (l : ℕ × ℕ). nat_le (length rs) l.0) ps) e h in
-      ((λ a. list_any_breaks (λ l. not (is_among rs l.from || is_among rs l.to)) es (sym router_ends ∙ list_any-at_position (λ l. nat_le (length rs) l.0) ps q.0 q.1) (AllByRecursion-not (λ l. is_among rs l.from || is_among rs l.to) es a)), ap number_of (sym q.2))
+      let q = no_fault-err (λ i. PeerLink (i + 1)) (position (λ (l : ℕ × ℕ). nat_le (length rs) l.0) ps) e h in (
+        (λ a. list_any_breaks (λ l. not (is_among rs l.from || is_among rs l.to)) es
+            (sym router_ends ∙ list_any-at_position (λ l. nat_le (length rs) l.0) ps q.0 q.1)
+            (AllByRecursion-not (λ l. is_among rs l.from || is_among rs l.to) es a)),
+        ap number_of
+            (sym q.2),
+      )
 
   routers_keep : routers_linked (length rs) ps ≡ Ok tt → AllByRecursion (λ l. IsTrue (is_among rs l.from || is_among rs l.to)) es
   unfolding routers_linked
@@ -76,8 +81,10 @@ links_outcome : (t : Topology) → KeepsBelow (rules t) 9 → (y : Result (List 
 unfolding links_of
 links_outcome t below y h =
     let names = names_of (entries t) in
-    bind_case (Outcome (rules t) number_of y) (each_from (joined names) 1 t.links) (λ links. links_differ links >>= (λ _. ends_differ links >>= (λ _. routers_linked (length t.routers) links >>= (λ _. Ok (ascending links))))) y h
-    (λ e p same. broken (rules t) number_of 9 y e below (each_from-breaks (λ (l : Ends). IsTrue (list_any (bytes_eq l.from) names && list_any (bytes_eq l.to) names)) (λ f. number_of f ≡ 9) (joined names) (joined-breaks names) 1 t.links e p) same)
+    bind_case (Outcome (rules t) number_of y) (each_from (joined names) 1 t.links)
+    (λ links. links_differ links >>= (λ _. ends_differ links >>= (λ _. routers_linked (length t.routers) links >>= (λ _. Ok (ascending links))))) y h
+    (λ e p same. broken (rules t) number_of 9 y e below
+    (each_from-breaks (λ (l : Ends). IsTrue (list_any (bytes_eq l.from) names && list_any (bytes_eq l.to) names)) (λ f. number_of f ≡ 9) (joined names) (joined-breaks names) 1 t.links e p) same)
     (λ ps p g.
     let j = all_join names 1 t.links ps p in
     let below_10 = next (rules t) 9 below (ends_known names t.links ps j) in
@@ -105,7 +112,9 @@ named_outcome t below y h =
     (λ _ p g.
     let below_6 = next (rules t) 5 below (names_keep (entries t) p) in
     bind_case (Outcome (rules t) number_of y) (each_from (λ _. site_of kind.Routers) 1 t.routers) _ y g
-    (λ e p same. let q = each_from-breaks (λ (x : Entry). IsTrue (is_lawful_as kind.Routers x.asn)) (λ f. number_of f ≡ 6) (λ _. site_of kind.Routers) (λ _. site_breaks kind.Routers) 1 t.routers e p in
+    (λ e p same. let q =
+    each_from-breaks (λ (x : Entry). IsTrue (is_lawful_as kind.Routers x.asn)) (λ f. number_of f ≡ 6) (λ _. site_of kind.Routers)
+    (λ _. site_breaks kind.Routers) 1 t.routers e p in
     broken (rules t) number_of 6 y e below_6 ((λ k. q.0 k.0), q.1) same)
     (λ ss rp g.
     bind_case (Outcome (rules t) number_of y) (each_from (λ _. site_of kind.Peers) 1 t.peers) _ y g

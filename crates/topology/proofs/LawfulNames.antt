@@ -54,7 +54,8 @@ judged_named t net h =
     let k = bind_ok (links_of (names_of (b.0 ++ c.0)) (length b.0) t.links) _ net i.2 in
     let made : PlainNet = record { routers = e.0; peers = f.0; links = k.0 } in
     let same : made ≡ net = ok_same made net k.2 in
-    subst (λ (x : PlainNet). AllByRecursion IsNamed (sites x)) same (AllByRecursion-append IsNamed e.0 f.0 (sites_named kind.Routers t.routers b.0 e.0 b.1 e.1) (sites_named kind.Peers t.peers c.0 f.0 c.1 f.1))
+    subst (λ (x : PlainNet). AllByRecursion IsNamed (sites x)) same
+    (AllByRecursion-append IsNamed e.0 f.0 (sites_named kind.Routers t.routers b.0 e.0 b.1 e.1) (sites_named kind.Peers t.peers c.0 f.0 c.1 f.1))
 
 -- each name is lawful
 pub names_read : (bytes : List ℕ) (net : PlainNet) → spelled bytes ≡ Ok net → AllByRecursion (λ (s : Site). IsTrue (is_name s.name)) (sites net)

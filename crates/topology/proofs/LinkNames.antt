@@ -1,5 +1,6 @@
 -- What links between names say of links between locations.
-use Rattle.std.proofs.Common.{◌≡◌, ℕ, ◌+◌, ◌≤◌, ◌⊎◌, inl, inr, List, [], ◌∷◌, ◌++◌, length, get_or, Some, Ok, Err, Bool, true, false, ◌||◌, ◌&&◌, not, refl, sym, ap, ◌∙◌, arith, ltb-true, ltb-false, eq-eqb, true≢false}
+use Rattle.std.proofs.Common.{◌≡◌, ℕ, ◌+◌, ◌≤◌, ◌⊎◌, inl, inr, List, [], ◌∷◌, ◌++◌, length, get_or, Some, Ok, Err, Bool, true, false, ◌||◌, ◌&&◌, not, refl, sym, ap, ◌∙◌}
+use Rattle.std.proofs.Common.{arith, ltb-true, ltb-false, eq-eqb, true≢false}
 use Rattle.std.specs.Prelude.{⊤, IsTrue, ◌==◌, nat_lt, nat_le, if◌then◌else◌, position}
 use Rattle.std.specs.List.{list_any, position_or_len, AllByRecursion, IsDistinct}
 use Rattle.std.specs.Str.{bytes_eq}
@@ -148,15 +149,24 @@ module _ (names : List (List ℕ)) where
   pair_same : (a b : Ends) (p q : ℕ × ℕ) → Joins names a p → Joins names b q → same_ends p q ≡ same_link a b
   pair_same a b p q x y =
       same_pairs x.from x.to y.from y.to p q x.orders y.orders
-      ∙ rw (same_place a.from b.from names x.from y.from x.from_is y.from_is, same_place a.to b.to names x.to y.to x.to_is y.to_is, same_place a.from b.to names x.from y.to x.from_is y.to_is, same_place a.to b.from names x.to y.from x.to_is y.from_is) refl
+      ∙ rw (
+        same_place a.from b.from names x.from y.from x.from_is y.from_is,
+        same_place a.to b.to names x.to y.to x.to_is y.to_is,
+        same_place a.from
+            b.to names x.from y.to x.from_is y.to_is,
+        same_place a.to b.from names x.to y.from x.to_is y.from_is,
+      )
+      refl
 
-  all_apart : (a : Ends) (p : ℕ × ℕ) → Joins names a p → (es : List Ends) (ps : List (ℕ × ℕ)) → AllJoin names es ps → AllByRecursion (λ b. same_link a b ≡ false) es → AllByRecursion (λ q. same_ends p q ≡ false) ps
+  all_apart : (a : Ends) (p : ℕ × ℕ) → Joins names a p → (es : List Ends) (ps : List (ℕ × ℕ)) → AllJoin names es ps
+      → AllByRecursion (λ b. same_link a b ≡ false) es → AllByRecursion (λ q. same_ends p q ≡ false) ps
   all_apart a p x [] [] j h = tt
   all_apart a p x (b ∷ es) (q ∷ ps) j h = (pair_same a b p q x j.0 ∙ h.0, all_apart a p x es ps j.1 h.1)
   all_apart a p x [] (q ∷ ps) j h = absurd j
   all_apart a p x (b ∷ es) [] j h = absurd j
 
-  all_apart_back : (a : Ends) (p : ℕ × ℕ) → Joins names a p → (es : List Ends) (ps : List (ℕ × ℕ)) → AllJoin names es ps → AllByRecursion (λ q. same_ends p q ≡ false) ps → AllByRecursion (λ b. same_link a b ≡ false) es
+  all_apart_back : (a : Ends) (p : ℕ × ℕ) → Joins names a p → (es : List Ends) (ps : List (ℕ × ℕ)) → AllJoin names es ps
+      → AllByRecursion (λ q. same_ends p q ≡ false) ps → AllByRecursion (λ b. same_link a b ≡ false) es
   all_apart_back a p x [] [] j h = tt
   all_apart_back a p x (b ∷ es) (q ∷ ps) j h = (sym (pair_same a b p q x j.0) ∙ h.0, all_apart_back a p x es ps j.1 h.1)
   all_apart_back a p x [] (q ∷ ps) j h = absurd j
@@ -178,7 +188,8 @@ module _ (names : List (List ℕ)) where
   distinct_links (b ∷ es) [] j h = absurd j
 
   -- a test of locations that answers as one of names does
-  pub any_join : (test : ℕ × ℕ → Bool) (named : Ends → Bool) → ((e : Ends) (p : ℕ × ℕ) → Joins names e p → test p ≡ named e) → (es : List Ends) (ps : List (ℕ × ℕ)) → AllJoin names es ps → list_any test ps ≡ list_any named es
+  pub any_join : (test : ℕ × ℕ → Bool) (named : Ends → Bool) → ((e : Ends) (p : ℕ × ℕ) → Joins names e p → test p ≡ named e)
+      → (es : List Ends) (ps : List (ℕ × ℕ)) → AllJoin names es ps → list_any test ps ≡ list_any named es
   any_join test named same [] [] j = refl
   any_join test named same (e ∷ es) (p ∷ ps) j = rw (same e p j.0, any_join test named same es ps j.1) refl
   any_join test named same [] (q ∷ ps) j = absurd j
@@ -200,11 +211,14 @@ module _ (names : List (List ℕ)) where
   pub joined-breaks : (k : ℕ) (e : Ends) (f : TopoFault) → joined names k e ≡ Err f → (IsTrue (list_any (bytes_eq e.from) names && list_any (bytes_eq e.to) names) → ⊥) × (number_of f ≡ 9)
   unfolding joined
   joined-breaks k e f h =
-      bind_case ((IsTrue (list_any (bytes_eq e.from) names && list_any (bytes_eq e.to) names) → ⊥) × (number_of f ≡ 9)) (or_fault (UnknownEnd k) (position (bytes_eq e.from) names)) (λ a. or_fault (UnknownEnd k) (position (bytes_eq e.to) names) >>= (λ b. Ok (ordered a b))) (Err f) h
+      bind_case ((IsTrue (list_any (bytes_eq e.from) names && list_any (bytes_eq e.to) names) → ⊥) × (number_of f ≡ 9))
+      (or_fault (UnknownEnd k) (position (bytes_eq e.from) names))
+      (λ a. or_fault (UnknownEnd k) (position (bytes_eq e.to) names) >>= (λ b. Ok (ordered a b))) (Err f) h
       (λ d p same. let q = or_fault_err (UnknownEnd k) d (position (bytes_eq e.from) names) p in
       let none = list_any-no_position (bytes_eq e.from) names q.1 in
       ((λ is. true≢false (sym (and_parts _ _ is).0 ∙ none)), ap number_of (err_same f d same ∙ sym q.0)))
-      (λ a _ g. bind_case ((IsTrue (list_any (bytes_eq e.from) names && list_any (bytes_eq e.to) names) → ⊥) × (number_of f ≡ 9)) (or_fault (UnknownEnd k) (position (bytes_eq e.to) names)) (λ b. Ok (ordered a b)) (Err f) g
+      (λ a _ g. bind_case ((IsTrue (list_any (bytes_eq e.from) names && list_any (bytes_eq e.to) names) → ⊥) × (number_of f ≡ 9))
+      (or_fault (UnknownEnd k) (position (bytes_eq e.to) names)) (λ b. Ok (ordered a b)) (Err f) g
       (λ d p same. let q = or_fault_err (UnknownEnd k) d (position (bytes_eq e.to) names) p in
       let none = list_any-no_position (bytes_eq e.to) names q.1 in
       ((λ is. true≢false (sym (and_parts _ _ is).1 ∙ none)), ap number_of (err_same f d same ∙ sym q.0)))

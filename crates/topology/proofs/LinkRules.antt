@@ -55,7 +55,8 @@ before_true a b c d h = by (nat_lt a c) (a == c) (nat_lt b d) refl refl refl h
 before_false : (a b c d : ℕ) → (nat_lt a c || (a == c && nat_lt b d)) ≡ false → (a == c && b == d) ≡ false → (c ≤ a) × (c ≡ a → d < b)
 before_false a b c d h apart = by (nat_lt a c) (a == c) (nat_lt b d) (b == d) refl refl refl refl h apart
   where
-    by : (less same less2 same2 : Bool) → nat_lt a c ≡ less → (a == c) ≡ same → nat_lt b d ≡ less2 → (b == d) ≡ same2 → (less || (same && less2)) ≡ false → (same && same2) ≡ false → (c ≤ a) × (c ≡ a → d < b)
+    by : (less same less2 same2 : Bool) → nat_lt a c ≡ less → (a == c) ≡ same → nat_lt b d ≡ less2 → (b == d) ≡ same2
+        → (less || (same && less2)) ≡ false → (same && same2) ≡ false → (c ≤ a) × (c ≡ a → d < b)
     by true same less2 same2 e f g k t u = absurd cc
     by false true true same2 e f g k t u = absurd cc
     by false true false true e f g k t u = absurd cc
@@ -79,7 +80,9 @@ ascend_put (x ∷ xs) link a none = by (is_before link x) refl (ascend_put xs li
 ascending_ascends : (before xs : List (ℕ × ℕ)) (u : ⊤) → all_unlike same_ends (λ place _ _. LinkTwice place) before xs ≡ Ok u → Ascend (ascending before) → Ascend (ascending (before ++ xs))
 ascending_ascends before [] u h a = rw (append-nil before) a
 ascending_ascends before (x ∷ xs) u h a =
-    let p = bind_ok (no_fault (option_map (λ (earlier : ℕ × ℕ). LinkTwice (length before + 1)) (find (same_ends x) before))) (λ _. all_unlike same_ends (λ place _ _. LinkTwice place) (before ++ x ∷ []) xs) u h in
+    let p =
+    bind_ok (no_fault (option_map (λ (earlier : ℕ × ℕ). LinkTwice (length before + 1)) (find (same_ends x) before)))
+    (λ _. all_unlike same_ends (λ place _ _. LinkTwice place) (before ++ x ∷ []) xs) u h in
     let none = list_any-not_found (same_ends x) before (no_fault-ok _ _ _ p.1) in
     let next : Ascend (ascending (before ++ x ∷ [])) = rw (fold-append put [] before (x ∷ [])) (ascend_put (ascending before) x a (list_any-ascending (same_ends x) before ∙ none)) in
     rw (append_assoc before (x ∷ []) xs) at (ascending_ascends (before ++ x ∷ []) xs u p.2 next)
@@ -88,7 +91,9 @@ ascending_ascends before (x ∷ xs) u h a =
 abbrev pub IsLinkOf : ℕ → ℕ → ℕ × ℕ → Type 0
 IsLinkOf locations routers l = (l.0 < l.1) × (l.1 < locations) × (l.0 < routers)
 
-all_links : (n routers : ℕ) (links : List (ℕ × ℕ)) → AllByRecursion (λ l. (l.0 ≤ l.1) × (l.1 < n)) links → AllByRecursion (λ l. (l.0 == l.1) ≡ false) links → AllByRecursion (λ l. nat_le routers l.0 ≡ false) links → AllByRecursion (IsLinkOf n routers) links
+all_links : (n routers : ℕ) (links : List (ℕ × ℕ)) → AllByRecursion (λ l. (l.0 ≤ l.1) × (l.1 < n)) links
+    → AllByRecursion (λ l. (l.0 == l.1) ≡ false) links → AllByRecursion (λ l. nat_le routers l.0 ≡ false) links
+    → AllByRecursion (IsLinkOf n routers) links
 all_links n routers [] a b c = tt
 all_links n routers (l ∷ ls) a b c =
     let apart = eqb-false l.0 l.1 b.0 in

@@ -60,7 +60,9 @@ each_named k es ys h = sym (map-id ys) ∙ each_from-view (λ e. e) (λ e. e) (n
 pub counted_holds : (t : Topology) → counted t ≡ Ok tt → (length t.routers ≤ 512) × (length t.peers ≤ 256) × (length t.links ≤ 8192)
 unfolding counted
 counted_holds t h =
-    let p = bind_ok (unless (TooMany kind.Routers (length t.routers)) (nat_le (length t.routers) 512)) (λ _. unless (TooMany kind.Peers (length t.peers)) (nat_le (length t.peers) 256) >>= (λ _. unless (TooMany kind.Links (length t.links)) (nat_le (length t.links) 8192))) tt h in
+    let p =
+    bind_ok (unless (TooMany kind.Routers (length t.routers)) (nat_le (length t.routers) 512))
+    (λ _. unless (TooMany kind.Peers (length t.peers)) (nat_le (length t.peers) 256) >>= (λ _. unless (TooMany kind.Links (length t.links)) (nat_le (length t.links) 8192))) tt h in
     let q = bind_ok (unless (TooMany kind.Peers (length t.peers)) (nat_le (length t.peers) 256)) (λ _. unless (TooMany kind.Links (length t.links)) (nat_le (length t.links) 8192)) tt p.2 in
     (leb-true _ _ (unless_ok _ _ _ p.1), leb-true _ _ (unless_ok _ _ _ q.1), leb-true _ _ (unless_ok _ _ _ q.2))
 
@@ -96,12 +98,15 @@ module _ (t : Topology) (routers peers : List Entry) (router_sites peer_sites : 
       let locations : length (names_of (routers ++ peers)) ≡ length router_sites + length peer_sites =
       length-map (routers ++ peers) (λ (e : Entry). e.name) ∙ length-append routers peers ∙ rw (count_routers, count_peers) refl in
       let ranges : AllByRecursion (λ e. IsIdentifier e.id) (routers ++ peers) =
-      AllByRecursion-append (λ (e : Entry). IsIdentifier e.id) routers peers (rw (each_named kind.Routers t.routers routers named_routers) id_routers) (rw (each_named kind.Peers t.peers peers named_peers) id_peers) in
+      AllByRecursion-append (λ (e : Entry). IsIdentifier e.id) routers peers (rw (each_named kind.Routers t.routers routers named_routers) id_routers)
+      (rw (each_named kind.Peers t.peers peers named_peers) id_peers) in
       record {
         routers = rw (count_routers, each_named kind.Routers t.routers routers named_routers) c.0;
         peers = rw (count_peers, each_named kind.Peers t.peers peers named_peers) c.1;
         count = rw l.2 c.2;
-        names = rw (map_entry (λ e. e.name) (router_sites ++ peer_sites), all) (all_unlike-distinct (λ (e : Entry). e.name) bytes_eq bytes_eq_apart (λ _ _ later. Twice later.name) [] (routers ++ peers) tt names).0;
+        names =
+            rw (map_entry (λ e. e.name) (router_sites ++ peer_sites), all)
+            (all_unlike-distinct (λ (e : Entry). e.name) bytes_eq bytes_eq_apart (λ _ _ later. Twice later.name) [] (routers ++ peers) tt names).0;
         router_asns = r.1;
         peer_asns = p.1;
         asns = rw (map_entry (λ e. e.asn) (router_sites ++ peer_sites), all) (all_unlike-distinct (λ (e : Entry). e.asn) nat_eq nat_eq_apart (λ _. shared which.As) [] (routers ++ peers) tt asns).0;

@@ -43,7 +43,8 @@ pub first_broken : (bytes : List ℕ) (t : Topology) (e : TopoFault) → Says sh
 unfolding spelled
 first_broken = texts.broken_only NotJson shape_of judged number_of rules judged_outcome
 
-pub told_where_broken : (bytes : List ℕ) (t : Topology) (k : ℕ) → Says shape_of bytes t → KeepsBelow (rules t) k → (Keeps (rules t) k → ⊥) → (e : TopoFault) × (spelled bytes ≡ Err e) × (number_of e ≡ k)
+pub told_where_broken : (bytes : List ℕ) (t : Topology) (k : ℕ) → Says shape_of bytes t → KeepsBelow (rules t) k → (Keeps (rules t) k → ⊥)
+    → (e : TopoFault) × (spelled bytes ≡ Err e) × (number_of e ≡ k)
 unfolding spelled
 told_where_broken = texts.broken_all NotJson shape_of judged number_of rules judged_outcome
 

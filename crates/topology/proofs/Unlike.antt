@@ -1,5 +1,6 @@
 -- Which items are like an earlier one, so far and to come.
-use Rattle.std.proofs.Common.{◌≡◌, ℕ, ◌+◌, ◌<◌, List, [], ◌∷◌, ◌++◌, length, map, take, drop, get_or, Some, None, Result, Err, Bool, refl, sym, ap, ◌∙◌, add-one, drop-cons, length-take-le, map-id, arith}
+use Rattle.std.proofs.Common.{◌≡◌, ℕ, ◌+◌, ◌<◌, List, [], ◌∷◌, ◌++◌, length, map, take, drop, get_or, Some, None, Result, Err, Bool, refl, sym, ap, ◌∙◌, add-one, drop-cons}
+use Rattle.std.proofs.Common.{length-take-le, map-id, arith}
 use Rattle.std.specs.Prelude.{⊤}
 use Rattle.std.specs.List.{list_any, find}
 use Rattle.std.specs.Str.{bytes_eq}
@@ -41,7 +42,8 @@ module _ {A : Type 0} (like : A → A → Bool) (told : ℕ → A → A → Topo
       let l : length (take i ys) ≡ i = length-take-le i ys (omega (arith, within)) in
       (rw (map-id (take i ys), map-id (drop i ys), l) at h) found before
 
-  pub unlike-here : (whole : Result ⊤ TopoFault) → find (like x) (take i ys) ≡ None → all_unlike like told (take i ys) (drop i ys) ≡ whole → all_unlike like told (take (i + 1) ys) (drop (i + 1) ys) ≡ whole
+  pub unlike-here : (whole : Result ⊤ TopoFault) → find (like x) (take i ys) ≡ None → all_unlike like told (take i ys) (drop i ys) ≡ whole
+      → all_unlike like told (take (i + 1) ys) (drop (i + 1) ys) ≡ whole
   unlike-here whole not_found before =
       let h = unlike (λ y. y) like told ys i x within is whole in
       (rw (map-id (take i ys), map-id (drop i ys), map-id (take (i + 1) ys), map-id (drop (i + 1) ys)) at h) not_found before

@@ -64,7 +64,8 @@ pub items_there : (d : Data) (ds : List Data) → list_at d ≡ Some ds → (is 
 items_there d ds h = let p = option_map_parts list_of (as_array d) ds h in (p.0, is_array d p.0 p.1, p.2)
 
 -- exactly two texts
-pub two_there : (is : Items) (from to : List ℕ) → (length (list_of is) == 2) ≡ true → option_and_then as_str (slice_get (list_of is) 0) ≡ Some from → option_and_then as_str (slice_get (list_of is) 1) ≡ Some to
+pub two_there : (is : Items) (from to : List ℕ) → (length (list_of is) == 2) ≡ true → option_and_then as_str (slice_get (list_of is) 0) ≡ Some from
+    → option_and_then as_str (slice_get (list_of is) 1) ≡ Some to
     → is ≡ item (string from) (item (string to) no_items)
 two_there no_items from to two first second = absurd cc
 two_there (item a no_items) from to two first second = absurd cc

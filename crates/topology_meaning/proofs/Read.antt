@@ -108,7 +108,8 @@ module _ (net : PlainNet) where
   abbrev names : List (List ℕ)
   names = map (λ (s : Site). s.name) (sites net)
 
-  ends_there : (d : Data) (e : Ends) (a b : ℕ) → d ≡ array (item (string e.from) (item (string e.to) no_items)) → position (bytes_eq e.from) names ≡ Some a → position (bytes_eq e.to) names ≡ Some b → SaysEnds net d a b
+  ends_there : (d : Data) (e : Ends) (a b : ℕ) → d ≡ array (item (string e.from) (item (string e.to) no_items))
+      → position (bytes_eq e.from) names ≡ Some a → position (bytes_eq e.to) names ≡ Some b → SaysEnds net d a b
   ends_there d e a b is from to =
       let f = named_there (sites net) e.from a from in
       let t = named_there (sites net) e.to b to in
@@ -121,7 +122,9 @@ module _ (net : PlainNet) where
       by (inl first) = let second : l.1 ≡ j.to = omega (arith, first, j.orders.1) in inl (rw (first, second) (ends_there d e j.from j.to is j.from_is j.to_is))
       by (inr first) = let second : l.1 ≡ j.from = omega (arith, first, j.orders.1) in inr (rw (first, second) (ends_there d e j.from j.to is j.from_is j.to_is))
 
-  links_said : (ds : Items) (es : List Ends) (ls : List (ℕ × ℕ)) → EachSays (λ d (e : Ends). d ≡ array (item (string e.from) (item (string e.to) no_items))) ds es → AllJoin names es ls → EachSays (SaysLink net) ds ls
+  links_said : (ds : Items) (es : List Ends) (ls : List (ℕ × ℕ))
+      → EachSays (λ d (e : Ends). d ≡ array (item (string e.from) (item (string e.to) no_items))) ds es → AllJoin names es ls
+      → EachSays (SaysLink net) ds ls
   links_said no_items [] [] s j = tt
   links_said no_items [] (l ∷ ls) s j = absurd j
   links_said no_items (e ∷ es) ls s j = absurd s
@@ -211,10 +214,13 @@ shape_says d t h =
       keys = (a.0, is_object d a.0 (or_fault_ok _ _ _ a.1), eqb-true _ _ (unless_ok _ _ _ f.1));
       routers = array_said SaysEntry entry_of entry_says (codes "routers") d b.0 g.0 k.0 (or_fault_ok _ _ _ b.1) (or_fault_ok _ _ _ g.1) k.1;
       peers = array_said SaysEntry entry_of entry_says (codes "peers") d c.0 l.0 m.0 (or_fault_ok _ _ _ c.1) (or_fault_ok _ _ _ l.1) m.1;
-      links = array_said (λ l (e : Ends). l ≡ array (item (string e.from) (item (string e.to) no_items))) ends_of ends_say (codes "links") d e.0 n.0 o.0 (or_fault_ok _ _ _ e.1) (or_fault_ok _ _ _ n.1) o.1;
+      links =
+          array_said (λ l (e : Ends). l ≡ array (item (string e.from) (item (string e.to) no_items))) ends_of ends_say (codes "links") d e.0 n.0 o.0
+          (or_fault_ok _ _ _ e.1) (or_fault_ok _ _ _ n.1) o.1;
     })
 
-array_of_sites : (key : List ℕ) (d : Data) (es : List Entry) (ss : List Site) → map entry ss ≡ es → AllByRecursion (λ (e : Entry). IsTrue (is_name e.name)) es → HasArray key d SaysEntry es → HasArray key d SaysSite ss
+array_of_sites : (key : List ℕ) (d : Data) (es : List Entry) (ss : List Site) → map entry ss ≡ es
+    → AllByRecursion (λ (e : Entry). IsTrue (is_name e.name)) es → HasArray key d SaysEntry es → HasArray key d SaysSite ss
 array_of_sites key d es ss same named s =
     (s.0, s.1, sites_said s.0 ss (subst (EachSays SaysEntry s.0) (sym same) s.2) (subst (AllByRecursion (λ (e : Entry). IsTrue (is_name e.name))) (sym same) named))
 

@@ -1,5 +1,6 @@
 -- A text that means a network spells it.
-use Rattle.std.proofs.Common.{◌≡◌, ◌≢◌, ℕ, ◌+◌, ◌<◌, ◌≤◌, ◌^◌, inl, inr, List, [], ◌∷◌, ◌++◌, length, map, Option, None, Some, Ok, Err, Result, Bool, true, false, refl, sym, ap, subst, ◌∙◌, arith, map-id, eqb-true, eq-eqb, ltb-true, lt-ltb, le-leb}
+use Rattle.std.proofs.Common.{◌≡◌, ◌≢◌, ℕ, ◌+◌, ◌<◌, ◌≤◌, ◌^◌, inl, inr, List, [], ◌∷◌, ◌++◌, length, map, Option, None, Some, Ok, Err, Result, Bool, true, false, refl}
+use Rattle.std.proofs.Common.{sym, ap, subst, ◌∙◌, arith, map-id, eqb-true, eq-eqb, ltb-true, lt-ltb, le-leb}
 use Rattle.std.specs.Prelude.{⊤, ◌==◌, nat_lt, nat_le, nat_eq, slice_get, option_map, IsTrue, position, if◌then◌else◌}
 use Rattle.std.specs.List.{AllByRecursion, IsDistinct}
 use Rattle.std.specs.Str.{bytes_eq}
@@ -26,7 +27,8 @@ use Rattle.topology.specs.declared.fault.TopoFault.{TopoFault}
 use Rattle.topology.specs.declared.fault.TopoFault.TheVariants.{LinkTwice, SelfLink, PeerLink}
 use Rattle.topology.specs.declared.parts.Kind.{Kind}
 use Rattle.topology.specs.declared.parts.Kind.TheVariants as kind
-use Rattle.topology.specs.Rules.{ascending, no_fault, counted, names_differ, numbers_differ, named, site_of, names_of, joined, links_differ, ends_differ, routers_linked, links_of, judged, is_lawful_as}
+use Rattle.topology.specs.Rules.{ascending, no_fault, counted, names_differ, numbers_differ, named, site_of, names_of, joined, links_differ, ends_differ, routers_linked}
+use Rattle.topology.specs.Rules.{links_of, judged, is_lawful_as}
 use Rattle.topology.specs.Shape.{Entry, Ends, Topology, each, entry_of, ends_of, identifier_of, shape_of}
 use Rattle.topology.specs.Topology.{spelled}
 use Rattle.topology.proofs.EntryFaults.{names_break, asns_break, ids_break}
@@ -184,7 +186,14 @@ links_kept : (names : List (List ℕ)) (routers : ℕ) (es : List Ends) (ls : Li
     → AllByRecursion (λ (l : ℕ × ℕ). l.0 < l.1) ls → AllByRecursion (λ (l : ℕ × ℕ). l.0 < routers) ls → links_of names routers es ≡ Ok (ascending ls)
 unfolding links_of ends_differ routers_linked
 links_kept names routers es ls joins d less routed =
-    rw (joins, links_differ_kept ls d, never_there (λ i. SelfLink (i + 1)) (λ (l : ℕ × ℕ). l.0 == l.1) ls (apart_ends ls less), never_there (λ i. PeerLink (i + 1)) (λ (l : ℕ × ℕ). nat_le routers l.0) ls (router_ends routers ls routed)) refl
+    rw (
+      joins,
+      links_differ_kept ls d,
+      never_there (λ i. SelfLink (i + 1)) (λ (l : ℕ × ℕ). l.0 == l.1) ls (apart_ends ls less),
+      never_there
+          (λ i. PeerLink (i + 1)) (λ (l : ℕ × ℕ). nat_le routers l.0) ls (router_ends routers ls routed),
+    )
+    refl
 
 -- ---- the network
 
@@ -214,7 +223,8 @@ module _ (bytes : List ℕ) (net : PlainNet) (m : IsTopologyOf bytes net) where
   unfolding text ends rules
   linked =
       links_kept (names_of (text.routers ++ text.peers)) (length text.routers) text.links m.links
-      (subst (λ names. each_from (joined names) 1 text.links ≡ Ok m.links) (sym site_names) (links_read net rules.names 1 m.said.0 m.links m.said.2 (AllByRecursion-weaker (IsLink net) (λ (l : ℕ × ℕ). l.0 < l.1) m.links (λ l is. is.0) of_links)))
+      (subst (λ names. each_from (joined names) 1 text.links ≡ Ok m.links) (sym site_names)
+      (links_read net rules.names 1 m.said.0 m.links m.said.2 (AllByRecursion-weaker (IsLink net) (λ (l : ℕ × ℕ). l.0 < l.1) m.links (λ l is. is.0) of_links)))
       (distinct_in_text m.links (subst Ascend (sym m.ascend) rules.order))
       (AllByRecursion-weaker (IsLink net) (λ (l : ℕ × ℕ). l.0 < l.1) m.links (λ l is. is.0) of_links)
       (AllByRecursion-weaker (IsLink net) (λ (l : ℕ × ℕ). l.0 < length (map entry net.routers)) m.links (λ l is. subst (λ n. l.0 < n) (sym (length-map net.routers entry)) is.2) of_links)

@@ -21,7 +21,9 @@ use Rattle.replay_job.specs.Replayed.{IsReplayed}
 
 pub quiet_replays : (net : PlainNet) (policy : PlainPolicy) (config : PlainConfig) (cs : List PlainCaseEvidence) → IsNet net → IsPolicyOf net policy → Passes net policy config cs
     → (events : Events) → IsPrefix events.prefix → (bytes : List ℕ) (traced : IsTraceOf net policy config events.prefix events.events bytes) → IsTrue traced.quiet
-    → (scenario : Scenario) → events.prefix ≡ scenario.prefix → IsScenarioOf net (world_after net policy config events.prefix events.events) (failures_of scenario) → IsReplayed net policy config scenario traced.report
+    → (scenario : Scenario) → events.prefix ≡ scenario.prefix
+    → IsScenarioOf net (world_after net policy config events.prefix events.events) (failures_of scenario)
+    → IsReplayed net policy config scenario traced.report
 quiet_replays net policy config cs rules kept passes events prefix bytes traced quiet scenario same failed =
     let w = world_after net policy config events.prefix events.events in
     let f = failures_of scenario in

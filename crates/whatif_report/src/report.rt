@@ -24,7 +24,9 @@ fn moves_of(alloc: Global, settled: &SettledNet<'_>, rows: &[CutRow]) -> Result<
     requires passes { Passes settled.now.net.now (policy_of settled.now.policy.now) settled.now.config.now settled.now.evidence.now.cases }
     requires settled { IsSettled settled.now.net.now (policy_of settled.now.policy.now) settled.now.config.now (failures_of settled.now.scenario.now) settled.now.scenario.now.prefix settled.now.outcome.routes }
     requires cuts { AreCutsOf settled.now.net.now rows.now }
-    ensures { IfOk result (AreMoves settled.now.net.now (policy_of settled.now.policy.now) settled.now.config.now (failures_of settled.now.scenario.now) settled.now.scenario.now.prefix settled.now.outcome.routes rows.now) }
+    ensures { IfOk result
+        (AreMoves settled.now.net.now (policy_of settled.now.policy.now) settled.now.config.now
+        (failures_of settled.now.scenario.now) settled.now.scenario.now.prefix settled.now.outcome.routes rows.now) }
 {
     let mut moves = List::new(alloc);
     for row in rows {

@@ -39,7 +39,9 @@ impl SettledNet<'_> {
         requires passes { Passes self.now.net.now (policy_of self.now.policy.now) self.now.config.now self.now.evidence.now.cases }
         requires settled { IsSettled self.now.net.now (policy_of self.now.policy.now) self.now.config.now (failures_of self.now.scenario.now) self.now.scenario.now.prefix self.now.outcome.routes }
         requires cut { IsCutOf self.now.net.now cut.now }
-        ensures { IfOk result (λ moves. (after : List (Option Route)) → IsSettled self.now.net.now (policy_of self.now.policy.now) self.now.config.now (with_cut cut.now (failures_of self.now.scenario.now)) self.now.scenario.now.prefix after
+        ensures { IfOk result
+            (λ moves. (after : List (Option Route))
+            → IsSettled self.now.net.now (policy_of self.now.policy.now) self.now.config.now (with_cut cut.now (failures_of self.now.scenario.now)) self.now.scenario.now.prefix after
             → moves ≡ moved self.now.net.now cut.now self.now.outcome.routes after) }
     {
         known_net(self.net);

@@ -34,7 +34,8 @@ each_at P [] i y all at = absurd cc
 each_at P (m ∷ ms) zero y all at = (let same : m ≡ Some y = cc in all.0 y same)
 each_at P (m ∷ ms) (suc i) y all at = each_at P ms i y all.1 at
 
-module _ (net : PlainNet) (policy : PlainPolicy) (config : PlainConfig) (cs : List PlainCaseEvidence) (rules : IsNet net) (kept : IsPolicyOf net policy) (passes : Passes net policy config cs) (f : Failures) (p : PlainPrefix)
+module _ (net : PlainNet) (policy : PlainPolicy) (config : PlainConfig) (cs : List PlainCaseEvidence) (rules : IsNet net)
+    (kept : IsPolicyOf net policy) (passes : Passes net policy config cs) (f : Failures) (p : PlainPrefix)
     (c : CaseFound net policy config cs rules kept passes f p) where
   abbrev Origin : ℕ → Bool
   Origin = holds c.d.case.origins
@@ -42,7 +43,9 @@ module _ (net : PlainNet) (policy : PlainPolicy) (config : PlainConfig) (cs : Li
   claimed_allowed : (r n : ℕ) (path : List ℕ) → IsClaimedRouter net policy p c.s r → HasRun c.d r path n → is_allowed net policy p c.s path ≡ true
   claimed_allowed r n path claimed x =
       let permitted = claimed_permits net policy p c.s c.d c.same rules c.on r n x.rest claimed (ap (run c.d.graph) (sym x.begins) ∙ x.runs) in
-      let there : is_permitted net policy p c.s path ≡ true = subst (λ (q : List ℕ). is_permitted net policy p c.s q ≡ true) (sym x.begins) (prefix_permits net policy p c.s c.same (r ∷ x.rest) permitted) in
+      let there : is_permitted net policy p c.s path ≡ true =
+      subst (λ (q : List ℕ). is_permitted net policy p c.s q ≡ true) (sym x.begins)
+      (prefix_permits net policy p c.s c.same (r ∷ x.rest) permitted) in
       and_from (is_permitted net policy p c.s path) (is_loop_free path) there x.free
 
   -- a path with a run ends a permitted walk
@@ -74,7 +77,9 @@ module _ (net : PlainNet) (policy : PlainPolicy) (config : PlainConfig) (p : Pla
       record {
         routes = λ r h at. all.route r h at;
         heard = λ r x router. none_from ((world_after net policy config p es).heard r x) (λ m at. true≢false (sym router ∙ (all.heard r x m at).0));
-        waiting = λ r x i m router at. true≢false (sym router ∙ (each_at (λ m. (is_router net r ≡ false) × (is_origin net policy p r ≡ true)) ((world_after net policy config p es).queue r x) i m (all.queue r x) at).0);
+        waiting =
+            λ r x i m router at. true≢false
+            (sym router ∙ (each_at (λ m. (is_router net r ≡ false) × (is_origin net policy p r ≡ true)) ((world_after net policy config p es).queue r x) i m (all.queue r x) at).0);
       }
 
   -- without a class nobody but an origin has anything
@@ -90,7 +95,8 @@ module _ (net : PlainNet) (policy : PlainPolicy) (config : PlainConfig) (p : Pla
             ∙ (each_at (λ m. (is_router net r ≡ false) × (is_origin net policy p r ≡ true)) ((world_after net policy config p es).queue r peer) i m (all.queue r peer) at).0));
       }
 
-module _ (net : PlainNet) (policy : PlainPolicy) (config : PlainConfig) (cs : List PlainCaseEvidence) (rules : IsNet net) (kept : IsPolicyOf net policy) (passes : Passes net policy config cs) (p : PlainPrefix) (prefix : IsPrefix p) (es : List Event) where
+module _ (net : PlainNet) (policy : PlainPolicy) (config : PlainConfig) (cs : List PlainCaseEvidence) (rules : IsNet net)
+    (kept : IsPolicyOf net policy) (passes : Passes net policy config cs) (p : PlainPrefix) (prefix : IsPrefix p) (es : List Event) where
   governed_now : (s : PlainStatement) → statement_of policy p ≡ Some s → IsAllowedNow net policy config p s (world_after net policy config p es)
   governed_now s governs = elim (case_or_bare net policy config cs rules kept passes no_failures p prefix) [
     | inr free ↦ empty_now net policy config p free es s

@@ -46,4 +46,6 @@ IsRightAlways net policy config = (p : PlainPrefix) → IsPrefix p → (es : Lis
 
 -- Where the evidence passes, so it is after every list of events.
 abbrev pub EveryMomentIsRight : Type 0
-EveryMomentIsRight = (net : PlainNet) (policy : PlainPolicy) (config : PlainConfig) (cs : List PlainCaseEvidence) → IsNet net → IsPolicyOf net policy → Passes net policy config cs → IsRightAlways net policy config
+EveryMomentIsRight =
+    (net : PlainNet) (policy : PlainPolicy) (config : PlainConfig) (cs : List PlainCaseEvidence) → IsNet net → IsPolicyOf net policy
+    → Passes net policy config cs → IsRightAlways net policy config

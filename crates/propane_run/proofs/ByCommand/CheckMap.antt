@@ -44,7 +44,16 @@ module _ (holds : Holds) (words : List (List ℕ)) where
       record {
         config = f.config;
         maps = f.maps;
-        asked = record { asked = comes.is; config_text = f.config_text; maps_bytes = f.maps_bytes; held = subst P f.texts comes.held; config_spelled = f.config_spelled; maps_spelled = f.maps_spelled };
+        asked =
+            record {
+              asked = comes.is;
+              config_text = f.config_text;
+              maps_bytes = f.maps_bytes;
+              held = subst P f.texts
+                  comes.held;
+              config_spelled = f.config_spelled;
+              maps_spelled = f.maps_spelled;
+            };
         says = f.says;
       }
 
@@ -79,7 +88,8 @@ module _ (holds : Holds) (words : List (List ℕ)) where
 
   -- ---- where the inputs are told
 
-  module _ (config : PlainConfig) (maps : PlainMaps) (asks : AsksOfMaps holds words config maps) {O E : Type 0} (ot : O → Option (List ℕ)) (of : O → ℕ) (et : E → Option (List ℕ)) (ef : E → ℕ) (out out' : O) (err err' : E) (ended : Status) where
+  module _ (config : PlainConfig) (maps : PlainMaps) (asks : AsksOfMaps holds words config maps) {O E : Type 0} (ot : O → Option (List ℕ))
+      (of : O → ℕ) (et : E → Option (List ℕ)) (ef : E → ℕ) (out out' : O) (err err' : E) (ended : Status) where
     told : (wanted : Said) → SaidOfTold holds (names_read words c) (Job c) wanted → SaysOfMaps config maps wanted
     told wanted said =
         at_maps asks.config_text asks.maps_bytes config maps wanted asks.config_spelled asks.maps_spelled

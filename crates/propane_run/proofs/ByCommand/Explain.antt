@@ -39,7 +39,8 @@ module _ {S : Type 0} (holds : Holds) (words : List (List ℕ)) (taken : S → O
 -- ---- where the inputs are told
 
 module _ {O E : Type 0} (ot : O → Option (List ℕ)) (of : O → ℕ) (et : E → Option (List ℕ)) (ef : E → ℕ) (out out' : O) (err err' : E) (ended : Status) where
-  done_by : (net : PlainNet) (policy : PlainPolicy) → (Rose (of out) (of out') → ⊥) → (wanted : Said) → SaysOfPolicy net policy wanted → Delivered ot of et ef wanted out out' err err' ended → ended ≡ Done
+  done_by : (net : PlainNet) (policy : PlainPolicy) → (Rose (of out) (of out') → ⊥) → (wanted : Said) → SaysOfPolicy net policy wanted
+      → Delivered ot of et ef wanted out out' err err' ended → ended ≡ Done
   done_by net policy calm wanted (inl h) sent = let is = h.3 in text_sent ot of et ef out out' err err' ended accepted_line calm (rw is at sent)
   done_by net policy calm wanted (inr h) sent = let is = h.2 in text_sent ot of et ef out out' err err' ended (explanation net h.0) calm (rw is at sent)
 

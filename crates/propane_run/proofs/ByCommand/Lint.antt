@@ -50,11 +50,13 @@ module _ (holds : Holds) (words : List (List ℕ)) where
 
   -- ---- where the inputs are told
 
-  module _ (net : PlainNet) (policy : PlainPolicy) (asks : AsksFor holds words c net policy) {O E : Type 0} (ot : O → Option (List ℕ)) (of : O → ℕ) (et : E → Option (List ℕ)) (ef : E → ℕ) (out out' : O) (err err' : E) (ended : Status) where
+  module _ (net : PlainNet) (policy : PlainPolicy) (asks : AsksFor holds words c net policy) {O E : Type 0} (ot : O → Option (List ℕ)) (of : O → ℕ)
+      (et : E → Option (List ℕ)) (ef : E → ℕ) (out out' : O) (err err' : E) (ended : Status) where
     told : (wanted : Said) → SaidOfTold holds (names_read words c) (Job c) wanted → SaysOfPolicy asks.policy_text net policy wanted
     told wanted said = told_says holds (names_read words c) net policy wanted (spells holds words c net policy asks) said
 
-    done_by : (Rose (of out) (of out') → ⊥) → AreAllWithin net policy → (wanted : Said) → SaysOfPolicy asks.policy_text net policy wanted → Delivered ot of et ef wanted out out' err err' ended → ended ≡ Done
+    done_by : (Rose (of out) (of out') → ⊥) → AreAllWithin net policy → (wanted : Said) → SaysOfPolicy asks.policy_text net policy wanted
+        → Delivered ot of et ef wanted out out' err err' ended → ended ≡ Done
     done_by calm within wanted (inl h) sent = let is = h.2 in text_sent ot of et ef out out' err err' ended h.0 calm (rw is at sent)
     done_by calm within wanted (inr h) sent =
         let e : wanted.status ≡ Done = ends_well asks.policy_text net policy wanted within (inr h) in

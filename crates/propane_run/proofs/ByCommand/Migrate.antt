@@ -36,11 +36,13 @@ module _ (holds : Holds) (words : List (List ℕ)) where
 
   -- ---- where the inputs are told
 
-  module _ (config : PlainConfig) (asks : AsksOfOld holds words config) {O E : Type 0} (ot : O → Option (List ℕ)) (of : O → ℕ) (et : E → Option (List ℕ)) (ef : E → ℕ) (out out' : O) (err err' : E) (ended : Status) (calm : Rose (of out) (of out') → ⊥) where
+  module _ (config : PlainConfig) (asks : AsksOfOld holds words config) {O E : Type 0} (ot : O → Option (List ℕ)) (of : O → ℕ)
+      (et : E → Option (List ℕ)) (ef : E → ℕ) (out out' : O) (err err' : E) (ended : Status) (calm : Rose (of out) (of out') → ⊥) where
     done_by : (wanted : Said) → SaidOfTold holds (names_read words c) (Job c) wanted → Delivered ot of et ef wanted out out' err err' ended → ended ≡ Done
     done_by wanted said sent =
         let is : wanted ≡ text (config_text config) =
-        (migrate_job ⊥ ⊥).one (asks.old ∷ []) wanted (text (config_text config)) (told_is holds (names_read words c) (Job c) (asks.old ∷ []) wanted asks.held said) (migrates asks.old config asks.spelled) in
+        (migrate_job ⊥ ⊥).one (asks.old ∷ []) wanted (text (config_text config))
+        (told_is holds (names_read words c) (Job c) (asks.old ∷ []) wanted asks.held said) (migrates asks.old config asks.spelled) in
         text_sent ot of et ef out out' err err' ended (config_text config) calm (rw is at sent)
 
     pub migrated_where : Gives ot of et ef out out' err err' ended (SaidOfTold holds (names_read words c) (Job c)) → (ended ≡ NoMemory) ⊎ (ended ≡ Done)

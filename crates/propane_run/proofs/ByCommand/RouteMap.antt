@@ -89,22 +89,26 @@ module _ (holds : Holds) (words : List (List ℕ)) where
 
   -- ---- where the inputs are told
 
-  module _ (net : PlainNet) (policy : PlainPolicy) (asks : AsksFor holds words c net policy) {O E : Type 0} (ot : O → Option (List ℕ)) (of : O → ℕ) (et : E → Option (List ℕ)) (ef : E → ℕ) (out out' : O) (err err' : E) (ended : Status) where
+  module _ (net : PlainNet) (policy : PlainPolicy) (asks : AsksFor holds words c net policy) {O E : Type 0} (ot : O → Option (List ℕ)) (of : O → ℕ)
+      (et : E → Option (List ℕ)) (ef : E → ℕ) (out out' : O) (err err' : E) (ended : Status) where
     told : (wanted : Said) → SaidOfTold holds (names_read words c) (Job c) wanted → SaysOfPolicy net policy wanted
     told wanted said =
         let spell = spells holds words c net policy asks in
         alone SaysOfPolicy spell.more net policy wanted (told_says (Alone SaysOfPolicy) holds (names_read words c) net policy wanted spell said)
 
-    done_with : (config : PlainConfig) → line_count (maps_of config) ≤ 1000000 → (Rose (of out) (of out') → ⊥) → (wanted : Said) → SaysOfConfig config wanted → Delivered ot of et ef wanted out out' err err' ended → ended ≡ Done
+    done_with : (config : PlainConfig) → line_count (maps_of config) ≤ 1000000 → (Rose (of out) (of out') → ⊥) → (wanted : Said)
+        → SaysOfConfig config wanted → Delivered ot of et ef wanted out out' err err' ended → ended ≡ Done
     done_with config few calm wanted (inl h) sent = let is = h.2 in text_sent ot of et ef out out' err err' ended (maps_text (maps_of config)) calm (rw is at sent)
     done_with config few calm wanted (inr many) sent = absurd (omega (arith, few, many.many))
 
-    done_by : ((e : CompileRefusal) → IsRefusedFor net policy e → ⊥) → ((config : PlainConfig) (evidence : List PlainCaseEvidence) → IsCompiled net policy config evidence → line_count (maps_of config) ≤ 1000000)
+    done_by : ((e : CompileRefusal) → IsRefusedFor net policy e → ⊥)
+        → ((config : PlainConfig) (evidence : List PlainCaseEvidence) → IsCompiled net policy config evidence → line_count (maps_of config) ≤ 1000000)
         → (Rose (of out) (of out') → ⊥) → (wanted : Said) → SaysOfPolicy net policy wanted → Delivered ot of et ef wanted out out' err err' ended → ended ≡ Done
     done_by none few calm wanted (inl h) sent = done_with h.0 (few h.0 h.1 h.2) calm wanted h.3 sent
     done_by none few calm wanted (inr h) sent = absurd (none h.0 h.1)
 
-    pub mapped_where : ((e : CompileRefusal) → IsRefusedFor net policy e → ⊥) → ((config : PlainConfig) (evidence : List PlainCaseEvidence) → IsCompiled net policy config evidence → line_count (maps_of config) ≤ 1000000)
+    pub mapped_where : ((e : CompileRefusal) → IsRefusedFor net policy e → ⊥)
+        → ((config : PlainConfig) (evidence : List PlainCaseEvidence) → IsCompiled net policy config evidence → line_count (maps_of config) ≤ 1000000)
         → (Rose (of out) (of out') → ⊥) → Gives ot of et ef out out' err err' ended (SaidOfTold holds (names_read words c) (Job c)) → (ended ≡ NoMemory) ⊎ (ended ≡ Done)
     mapped_where none few calm (inl m) = inl m
     mapped_where none few calm (inr w) = inr (done_by none few calm w.0 (told w.0 w.1) w.2)

@@ -67,7 +67,8 @@ module _ {S : Type 0} (holds : Holds) (words : List (List ℕ)) (taken : S → O
       let f = said_for (Alone (SaysOfPart part.Config)) holds (names_read words Compile) (text b) (λ x. cc) comes.bytes comes.held comes.says in
       claim_of comes f.net f.policy f.spell (alone (SaysOfPart part.Config) f.spell.more f.net f.policy (text b) f.says)
 
-  given_of : Comes holds words Evidence (text b) → (net : PlainNet) (policy : PlainPolicy) → SpellFor holds (names_read words Evidence) net policy → SaysOfPart part.Evidence net policy (text b) → Given
+  given_of : Comes holds words Evidence (text b) → (net : PlainNet) (policy : PlainPolicy) → SpellFor holds (names_read words Evidence) net policy
+      → SaysOfPart part.Evidence net policy (text b) → Given
   given_of comes net policy spell (inr h) = absurd (let s = status_is _ _ h.2 in cc)
   given_of comes net policy spell (inl h) = (
     record {
@@ -109,7 +110,8 @@ pair_of topology policy_text net policy c e net_is policy_is (inl a) (inl b) =
       passes = subst (Passes net policy a.0) same.0 a.3.1;
     }
 
-pub pair : (topology policy_text c e : List ℕ) → OfTexts (SaysOfPart part.Config) topology policy_text (text c) → OfTexts (SaysOfPart part.Evidence) topology policy_text (text e) → ArePair topology policy_text c e
+pub pair : (topology policy_text c e : List ℕ) → OfTexts (SaysOfPart part.Config) topology policy_text (text c)
+    → OfTexts (SaysOfPart part.Evidence) topology policy_text (text e) → ArePair topology policy_text c e
 pair topology policy_text c e one other =
     let f = of_spelled (SaysOfPart part.Config) topology policy_text (text c) (λ x. cc) one in
     let g = at_spelled (SaysOfPart part.Evidence) topology policy_text f.net f.policy (text e) f.net_spelled f.policy_spelled other in

@@ -14,4 +14,5 @@ returns-clause-round c = λ net w holds ds n kept always round a b on. (memory n
 
 pub returns-clause-rounds : goal.returns-clause-rounds
 returns-clause-rounds c = λ net w holds k ds n kept always rounds.
-    subst (λ (i : ℕ). Always net (After net w (λ r x. holds r x ≡ true) i) (run net (deliveries ds) w)) (zero-add k) (rounds-after net n w k (λ r x. holds r x ≡ true) 0 w ds (same_self net w) kept always rounds)
+    subst (λ (i : ℕ). Always net (After net w (λ r x. holds r x ≡ true) i) (run net (deliveries ds) w)) (zero-add k)
+    (rounds-after net n w k (λ r x. holds r x ≡ true) 0 w ds (same_self net w) kept always rounds)

@@ -13,7 +13,9 @@ pub returns-in-Some-clause-refused : goal.returns-in-Some-clause-refused
 returns-in-Some-clause-refused c = λ room built is.
     let case = c.args.case.now in
     let of = made_table c.routers.ensures.rules c.requires.origins c.requires.graph c.requires.made c.routers.ensures.routers c.in_ok-table.ensures in
-    let found = subst (λ (t : List Firsts). least_below (length t) (lacks_path (plain_statement c.args.statement.now).from case.origins t) ≡ Some c.in-Some.at) c.deref.ensures.value (sym c.without_path.ensures ∙ c.in-Some.is) in
+    let found =
+    subst (λ (t : List Firsts). least_below (length t) (lacks_path (plain_statement c.args.statement.now).from case.origins t) ≡ Some c.in-Some.at) c.deref.ensures.value
+    (sym c.without_path.ensures ∙ c.in-Some.is) in
     (refl, (built, is.within), least_without_path of c.in-Some.at found)
 
 pub mixed_source-requires-clause-ranked : goal.mixed_source-requires-clause-ranked

@@ -14,5 +14,6 @@ returns-in_ok-holds_line-in-Holds c =
 pub returns-in_ok-fails_line-in-Fails : goal.returns-in_ok-fails_line-in-Fails
 returns-in_ok-fails_line-in-Fails c =
     let verdict = rw c.in-Fails.is at c.in_ok-check_text.ensures.verdict in
-    judged c.args.net.now (policy_of c.args.policy.now) c.args.config.now c.args.evidence.now (Fails c.in-Fails.rule c.in-Fails.shown) verdict _ c.in_ok-_config-in-Fails._config c.requires.short c.in_ok-_config-in-Fails.ensures
+    judged c.args.net.now (policy_of c.args.policy.now) c.args.config.now c.args.evidence.now
+    (Fails c.in-Fails.rule c.in-Fails.shown) verdict _ c.in_ok-_config-in-Fails._config c.requires.short c.in_ok-_config-in-Fails.ensures
     (inr (ap failing c.in_ok-fails_line-in-Fails.ensures))

@@ -20,7 +20,9 @@ returns-clause-block c =
 pub returns-clause-rules : goal.returns-clause-rules
 returns-clause-rules c count all =
     let found = c.block_named.ensures ∙ ap (find (is_it c.name_of.result c.is_peer-peer.result)) c.as_slice.ensures in
-    if_each_found (λ b. b.now) (IsSession count) (is_it c.name_of.result c.is_peer-peer.result) c.in_ok-block.block.now.sessions c.block_named.result found (c.in_ok-block.ensures.rules count all).sessions
+    if_each_found (λ b. b.now) (IsSession count)
+    (is_it c.name_of.result c.is_peer-peer.result) c.in_ok-block.block.now.sessions c.block_named.result found
+    (c.in_ok-block.ensures.rules count all).sessions
 
 pub returns-clause-kind : goal.returns-clause-kind
 returns-clause-kind c =

@@ -17,7 +17,9 @@ pub returns-in_err-reading : goal.returns-in_err-reading
 returns-in_err-reading c =
     let p = err_from_is_err_and c.from_residual.result c.from_residual.ensures.1 in
     let l = c.loop-line in
-    rw (p.1, p.2) (λ memory. faulty c.args.edition l.number l.reading l.rest.now c.in-Some.line.now c.in-Some.more.now c.args.bytes.now c.in_err-reading.field-0.0 c.in-Some.ensures (c.in_err-reading.ensures memory) l.invariant.read)
+    rw (p.1, p.2)
+    (λ memory. faulty c.args.edition l.number l.reading l.rest.now c.in-Some.line.now c.in-Some.more.now c.args.bytes.now c.in_err-reading.field-0.0 c.in-Some.ensures
+    (c.in_err-reading.ensures memory) l.invariant.read)
 
 pub overflow_add-number : goal.overflow_add-number
 overflow_add-number c =

@@ -54,7 +54,9 @@ returns-in_ok-second-in-And t c =
     let ns = c.in_ok-first-in-And.first.items in
     let ms = c.in_ok-second-in-And.second.items in
     let is = ap (of net) c.in-And.is ∙ ap (expressions net) (ranking_of-And c.in-And.a c.in-And.b) in
-    let same = ap (λ l. pairs (map (at up) l) (map (at up) c.deref-in-And-3.result.now)) c.deref-in-And-4.ensures.value ∙ ap (λ l. pairs (map (at up) ms) (map (at up) l)) c.deref-in-And-3.ensures.value in
+    let same =
+    ap (λ l. pairs (map (at up) l) (map (at up) c.deref-in-And-3.result.now)) c.deref-in-And-4.ensures.value
+    ∙ ap (λ l. pairs (map (at up) ms) (map (at up) l)) c.deref-in-And-3.ensures.value in
     IfOk-weaker c.pairs_of.result _ _
     (λ r q. subst (Puts old new r.items) (sym is)
     (pairs-put net old (values c.expressions_in_order-in-And.new.parts) up new ns ms r.items c.deref-in-And.result.now c.deref-in-And-2.result.now c.in-And.a.value c.in-And.b.value

@@ -34,7 +34,9 @@ returns c = λ cs passes.
     let cuts : c.in_ok-cuts.cuts.items ≡ live_cuts net f = c.in_ok-cuts.ensures f survivors in
     record {
       is_listed = spared_by net left ends;
-      each = λ cut at. spared_free net steps left ends c.new-spared.ensures.left c.new-spared.ensures.ends policy config cs f p rules outcome size settled are c.requires.fits passes c.known_prefix.ensures cut at;
+      each =
+          λ cut at. spared_free net steps left ends c.new-spared.ensures.left c.new-spared.ensures.ends policy config cs f p rules outcome size
+          settled are c.requires.fits passes c.known_prefix.ensures cut at;
       free = c.in_ok-among.ensures ∙ ap (filter (spared_by net left ends)) (c.deref.ensures.value ∙ cuts);
       live = omega (arith, c.len.ensures, c.in_ok-cuts.cuts.ok.0, ap length cuts);
     }

@@ -15,7 +15,9 @@ loop-place-preserved c =
     let low : place < 768 = all_at (λ l. l < 768) c.args.places.now c.loop-place.place-index 0 c.requires within in
     record {
       words = rw (c.with-set.ensures.set, c.new.ensures) (IsWords-with c.loop-place.set place low c.loop-place.invariant.words);
-      taken = λ m small. c.with-set.ensures.holds m ∙ ap (λ b. b || m == c.new.result) (c.loop-place.invariant.taken m small) ∙ ap (λ n. list_any (nat_eq m) (take c.loop-place.place-index c.args.places.now) || m == n) c.new.ensures
+      taken =
+          λ m small. c.with-set.ensures.holds m ∙ ap (λ b. b || m == c.new.result) (c.loop-place.invariant.taken m small)
+          ∙ ap (λ n. list_any (nat_eq m) (take c.loop-place.place-index c.args.places.now) || m == n) c.new.ensures
           ∙ sym (list_any-take_more m c.args.places.now c.loop-place.place-index within);
     }
 

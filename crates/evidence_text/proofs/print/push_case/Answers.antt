@@ -47,12 +47,43 @@ returns-clause-text c =
     (decimal statement, c.push_short.new.text.items) ∷
     (codes ",\"steps\":", c.push_bytes-7.new.text.items) ∷
     (compact_text (array_of (map step_data steps)), c.push_steps.new.text.items) ∷
-    (codes "}", c.push_bytes-8.new.text.items) ∷ [])
-    (c.in_ok-push_bytes.ensures, (c.in_ok-push_truth.ensures, (c.in_ok-push_bytes-2.ensures, (c.in_ok-push_nodes.ensures.text, (c.in_ok-push_bytes-3.ensures, (c.in_ok-push_numbers.ensures.text, (c.in_ok-push_bytes-4.ensures, (c.in_ok-push_prefixes.ensures.text, (c.in_ok-push_bytes-5.ensures, (c.in_ok-push_numbers-2.ensures.text, (c.in_ok-push_bytes-6.ensures, (c.in_ok-push_short.ensures.text, (c.in_ok-push_bytes-7.ensures, (c.in_ok-push_steps.ensures, (last, tt)))))))))))))))
+    (codes "}", c.push_bytes-8.new.text.items) ∷ []) (
+      c.in_ok-push_bytes.ensures,
+      (
+        c.in_ok-push_truth.ensures,
+        (
+          c.in_ok-push_bytes-2.ensures,
+          (
+            c.in_ok-push_nodes.ensures.text,
+            (
+              c.in_ok-push_bytes-3.ensures,
+              (
+                c.in_ok-push_numbers.ensures.text,
+                (
+                  c.in_ok-push_bytes-4.ensures,
+                  (
+                    c.in_ok-push_prefixes.ensures.text,
+                    (
+                      c.in_ok-push_bytes-5.ensures,
+                      (
+                        c.in_ok-push_numbers-2.ensures.text,
+                        (c.in_ok-push_bytes-6.ensures, (c.in_ok-push_short.ensures.text, (c.in_ok-push_bytes-7.ensures, (c.in_ok-push_steps.ensures, (last, tt))))),
+                      ),
+                    ),
+                  ),
+                ),
+              ),
+            ),
+          ),
+        ),
+      ),
+    )
     ∙ ap (λ t. c.args.text.now.items ++ t)
     (case_as c.args.case.now external nodes numbers tags origins prefixes starts statement steps
-    (ap (λ (k : Case). k.external) of) (c.nodes.ensures.nodes ∙ ap (λ (g : PlainGraph). g.nodes) graph) c.prefs.ensures c.tags.ensures (c.deref.ensures.value ∙ c.in_ok-origins.ensures.items ∙ ap (λ (k : Case). members k.origins) of)
-    (c.as_slice.ensures ∙ ap (λ (k : Case). k.prefixes) of) (c.starts.ensures.starts ∙ ap (λ (g : PlainGraph). g.starts) graph) (ap (λ (k : Case). k.statement) of) (c.steps.ensures.steps ∙ ap (λ (g : PlainGraph). g.steps) graph)))
+    (ap (λ (k : Case). k.external) of) (c.nodes.ensures.nodes ∙ ap (λ (g : PlainGraph). g.nodes) graph) c.prefs.ensures c.tags.ensures
+    (c.deref.ensures.value ∙ c.in_ok-origins.ensures.items ∙ ap (λ (k : Case). members k.origins) of)
+    (c.as_slice.ensures ∙ ap (λ (k : Case). k.prefixes) of) (c.starts.ensures.starts ∙ ap (λ (g : PlainGraph). g.starts) graph)
+    (ap (λ (k : Case). k.statement) of) (c.steps.ensures.steps ∙ ap (λ (g : PlainGraph). g.steps) graph)))
     c.push_bytes-8.ensures
 
 pub returns-clause-rules : goal.returns-clause-rules

@@ -7,7 +7,9 @@ use Rattle.graph_base.specs.Runs.{place_of}
 use Rattle.impact_report.specs.Tops.{AreBest, entry_at, is_better}
 use Rattle.impact_report.proofs.Choosing.{best_first, best_kept, best_taken}
 use Rattle.impact_report.proofs.best.best_marked.Goals as goal
-use Rattle.impact_report.proofs.best.best_marked.Goals.{then-at-routers+then-marks-node+then-is_over, else-at-routers, else-at-routers-via-then-at-routers+then-marks-node+else-is_over, else-at-routers-via-then-at-routers+else-marks-node, else-at-routers-via-else-at-routers}
+use Rattle.impact_report.proofs.best.best_marked.Goals.{then-at-routers+then-marks-node+then-is_over, else-at-routers}
+use Rattle.impact_report.proofs.best.best_marked.Goals.{else-at-routers-via-then-at-routers+then-marks-node+else-is_over}
+use Rattle.impact_report.proofs.best.best_marked.Goals.{else-at-routers-via-then-at-routers+else-marks-node, else-at-routers-via-else-at-routers}
 
 pub loop-node-init : goal.loop-node-init
 loop-node-init c = best_first c.args.case.now (is_marked c.args.marks.now) c.args.routers c.in_ok-tops.tops.items (c.in_ok-tops.ensures.items_if_clones_equal (λ y h. search rules))

@@ -11,7 +11,8 @@ search-init c =
     let g = c.args.graph.now in
     let size : vec_len c.in_ok-search.search.marks ≡ length g.nodes = c.in_ok-search.search.marks.ok.0 ∙ ap length c.in_ok-search.ensures.marks
     ∙ length-replicate {A = Bool} _ false ∙ ap length c.nodes.ensures.nodes in
-    stage_begun g (with_cut c.args.cut.now no_failures) c.in_ok-search.search c.begin.new.self size (λ n. none_marked _ _ n c.in_ok-search.ensures.marks) c.in_ok-search.ensures.waiting c.in_ok-begin.ensures
+    stage_begun g (with_cut c.args.cut.now no_failures) c.in_ok-search.search c.begin.new.self size
+    (λ n. none_marked _ _ n c.in_ok-search.ensures.marks) c.in_ok-search.ensures.waiting c.in_ok-begin.ensures
 
 pub location-from-requires : goal.location-from-requires
 location-from-requires c = stage_node c.args.graph.now (with_cut c.args.cut.now no_failures) c.in-Some.node c.search.search _ c.search.invariant c.in-Some.ensures.items

@@ -11,4 +11,5 @@ returns-in_ok-push_counted-in-Unreached c =
     let first = codes "unreached statement " ++ decimal c.in-Unreached.statement in
     let second = codes " alternative " ++ decimal c.in-Unreached.alternative in
     on_ok_weaker c.push_counted-in-Unreached-2.result
-    (λ added. added ∙ ap (λ x. x ++ second) c.in_ok-push_counted-in-Unreached.ensures ∙ append_assoc old first second ∙ ap (λ (f : Finding). old ++ finding_text f) (sym c.in-Unreached.is)) c.push_counted-in-Unreached-2.ensures
+    (λ added. added ∙ ap (λ x. x ++ second) c.in_ok-push_counted-in-Unreached.ensures ∙ append_assoc old first second ∙ ap (λ (f : Finding). old ++ finding_text f) (sym c.in-Unreached.is))
+    c.push_counted-in-Unreached-2.ensures

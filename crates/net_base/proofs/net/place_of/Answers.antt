@@ -11,4 +11,6 @@ pub returns : goal.returns
 returns c =
     let within : c.partition_point-place.result < length c.args.links.now = search rules in
     let at : get_or c.args.links.now c.partition_point-place.result (0, 0) ≡ c.in_ok-link.field-0.now = search rules in
-    c.place_if.ensures ∙ sym (searched_at c.args.ends c.args.links.now c.partition_point-place.result c.requires c.partition_point-place.ensures.partitioned (λ a r f h. search rules) within c.in_ok-link.field-0.now at)
+    c.place_if.ensures
+    ∙ sym (searched_at c.args.ends c.args.links.now c.partition_point-place.result c.requires c.partition_point-place.ensures.partitioned
+    (λ a r f h. search rules) within c.in_ok-link.field-0.now at)

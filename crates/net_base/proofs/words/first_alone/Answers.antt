@@ -7,10 +7,13 @@ use Rattle.net_base.proofs.words.first_alone.Goals as goal
 pub loop-i-preserved : goal.loop-i-preserved
 loop-i-preserved c = record {
   len = omega (arith, length-set c.loop-i.words, c.loop-i.invariant.len);
-  rest = words_step outside_words (λ v w. bit_and v (bit_xor v w)) (λ v w vs ws. refl) c.args.a.now.words c.args.b.now.words c.loop-i.words _ c.loop-i.i (omega arith) (omega arith) (omega arith) c.loop-i.invariant.rest;
+  rest =
+      words_step outside_words (λ v w. bit_and v (bit_xor v w)) (λ v w vs ws. refl) c.args.a.now.words c.args.b.now.words c.loop-i.words _ c.loop-i.i
+      (omega arith) (omega arith) (omega arith) c.loop-i.invariant.rest;
 }
 
 pub returns : goal.returns
 returns c =
     ap (λ (ws : List ℕ). record { words = ws })
-    (words_end outside_words (λ v w. bit_and v (bit_xor v w)) (λ v w vs ws. refl) c.args.a.now.words c.args.b.now.words c.loop-i.words _ c.loop-i.i (omega arith) (omega arith) (omega arith) refl c.loop-i.invariant.rest)
+    (words_end outside_words (λ v w. bit_and v (bit_xor v w)) (λ v w vs ws. refl) c.args.a.now.words c.args.b.now.words c.loop-i.words _ c.loop-i.i
+    (omega arith) (omega arith) (omega arith) refl c.loop-i.invariant.rest)

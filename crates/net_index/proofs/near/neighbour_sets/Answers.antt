@@ -20,7 +20,9 @@ loop-link-preserved c =
       len = c.loop-link.invariant.len;
       sets = λ x l.
           ap (λ sets. is_held sets x l) second
-          ∙ link_put (is_held items x l) (is_held one x l) (is_held two x l) x l c.links-link-items.result.now c.loop-link.link-index c.link-item.result c.loop-link-test.true c.link-item.is (c.loop-link.invariant.sets x l)
+          ∙ link_put (is_held items x l) (is_held one x l)
+          (is_held two x l) x l c.links-link-items.result.now c.loop-link.link-index c.link-item.result c.loop-link-test.true c.link-item.is
+          (c.loop-link.invariant.sets x l)
           (c.put.ensures.sets x l ∙ ap (λ sets. is_held sets x l || (x == c.link-item.result.0 && l == c.link-item.result.1)) c.deref_mut.ensures.value)
           (c.put-in-loop-link.ensures.sets x l ∙ ap (λ sets. is_held sets x l || (x == c.link-item.result.1 && l == c.link-item.result.0)) (c.deref_mut-in-loop-link.ensures.value ∙ first));
     }

@@ -21,8 +21,28 @@ returns c =
     (compact_text (array_of (map site_data net.peers)), c.push_sites.new.text.items) ∷
     (codes ",\"routers\":", c.push_bytes-3.new.text.items) ∷
     (compact_text (array_of (map site_data net.routers)), c.push_sites-2.new.text.items) ∷
-    (codes "}\n", c.push_bytes-4.new.text.items) ∷ [])
-    (c.in_ok-push_bytes.ensures ∙ ap (λ (t : List ℕ). t ++ codes "{\"links\":") c.new-text.ensures.items, (c.in_ok-push_links.ensures, (c.in_ok-push_bytes-2.ensures, (c.in_ok-push_sites.ensures.text ∙ ap (λ (ss : List Site). c.push_bytes-2.new.text.items ++ compact_text (array_of (map site_data ss))) c.peers.ensures.peers, (c.in_ok-push_bytes-3.ensures, (c.in_ok-push_sites-2.ensures.text ∙ ap (λ (ss : List Site). c.push_bytes-3.new.text.items ++ compact_text (array_of (map site_data ss))) c.routers.ensures.routers, (c.in_ok-push_bytes-4.ensures, tt)))))))
+    (codes "}\n", c.push_bytes-4.new.text.items) ∷ []) (
+      c.in_ok-push_bytes.ensures
+          ∙ ap (λ (t : List ℕ). t ++ codes "{\"links\":") c.new-text.ensures.items,
+      (
+        c.in_ok-push_links.ensures,
+        (
+          c.in_ok-push_bytes-2.ensures,
+          (
+            c.in_ok-push_sites.ensures.text
+                ∙ ap (λ (ss : List Site). c.push_bytes-2.new.text.items ++ compact_text (array_of (map site_data ss))) c.peers.ensures.peers,
+            (
+              c.in_ok-push_bytes-3.ensures,
+              (
+                c.in_ok-push_sites-2.ensures.text
+                    ∙ ap (λ (ss : List Site). c.push_bytes-3.new.text.items ++ compact_text (array_of (map site_data ss))) c.routers.ensures.routers,
+                (c.in_ok-push_bytes-4.ensures, tt),
+              ),
+            ),
+          ),
+        ),
+      ),
+    )
     ∙ net_as net in
     record {
       text = text;

@@ -22,7 +22,9 @@ loop-turn-preserved c =
             clear = rw w.marks-is w.in_ok-split_by.ensures.clear;
             partition = rw w.partition-is (subst (λ n. IsPartition n w.split_by.new.self) rows w.in_ok-split_by.ensures.partition);
             classes =
-                rw w.partition-is (split_are_classes g c.requires.graph c.requires.single c.args.before.now c.requires.steps c.loop-turn.partition.classes.items c.loop-turn.partition.members.items old.groups inv.classes
+                rw w.partition-is
+                (split_are_classes g c.requires.graph c.requires.single c.args.before.now c.requires.steps c.loop-turn.partition.classes.items
+                c.loop-turn.partition.members.items old.groups inv.classes
                 w.in-Some.class w.split_by.new.self.classes.items old.size new.size new.named w.in_ok-split_by.ensures.classes);
           }
       | in_default w ↦ record {

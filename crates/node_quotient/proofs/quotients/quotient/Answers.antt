@@ -21,7 +21,9 @@ led g least nodes starts steps a b d = λ i. record { nodes = a i; starts = b i;
 pub new-led-requires : goal.new-led-requires
 new-led-requires c =
     let least = c.in_ok-least.least.items in
-    subst IsGraph (sym (led c.args.graph.now least _ _ _ (c.from_vec-nodes.ensures ∙ c.in_ok-from_slice.ensures.items ∙ c.nodes.ensures.nodes) (c.from_vec-starts.ensures ∙ c.in_ok-from_slice-2.ensures.items ∙ c.starts.ensures.starts)
+    subst IsGraph
+    (sym (led c.args.graph.now least _ _ _ (c.from_vec-nodes.ensures ∙ c.in_ok-from_slice.ensures.items ∙ c.nodes.ensures.nodes)
+    (c.from_vec-starts.ensures ∙ c.in_ok-from_slice-2.ensures.items ∙ c.starts.ensures.starts)
     (c.in_ok-steps.ensures ∙ rw (c.deref-4.ensures.value, c.steps.ensures.steps) refl)))
     (led_is_graph c.args.graph.now c.nodes.ensures.rules least c.in_ok-least.ensures.least)
 

@@ -8,7 +8,8 @@ use Rattle.policy_base.proofs.rank.+first_met.Goals.{then-alternatives-eq0-via-t
 
 pub place_in_row-requires-clause-second : goal.place_in_row-requires-clause-second
 place_in_row-requires-clause-second t c =
-    place_of-below c.args.net.now (ranking_of c.deref-in-Prefer-2.result.now) c.args.path.now 64 (rw c.deref-in-Prefer-2.ensures (omega (arith, alternative_count-Prefer c.args.ranked.now c.in-Prefer.a c.in-Prefer.b c.in-Prefer.is))) c.first_met.result c.first_met.ensures
+    place_of-below c.args.net.now (ranking_of c.deref-in-Prefer-2.result.now) c.args.path.now 64
+    (rw c.deref-in-Prefer-2.ensures (omega (arith, alternative_count-Prefer c.args.ranked.now c.in-Prefer.a c.in-Prefer.b c.in-Prefer.is))) c.first_met.result c.first_met.ensures
 
 pub returns-then-alternatives-eq0 : goal.returns-then-alternatives-eq0
 returns-then-alternatives-eq0 t c =

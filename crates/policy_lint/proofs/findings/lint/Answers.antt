@@ -36,7 +36,8 @@ marks_of : (net : PlainNet) (policy : PlainPolicy) (have : List Bool) (cases : L
     → ((n : ℕ) → n ≤ most → marked have n ≡ list_any (λ (c : Case). c.statement == n) cases) → (n : ℕ) → n ≤ length policy.statements → marked have n ≡ has_case net policy n
 marks_of net policy have cases most many is marks n within = marks n (omega (arith, within, many)) ∙ ap (list_any (λ (c : Case). c.statement == n)) is
 
-few_of : (net : PlainNet) (policy : PlainPolicy) (have view : List Bool) (cases : List Case) (statements : List PlainStatement) (most : ℕ) → statements ≡ policy.statements → most ≡ length policy.statements → cases ≡ case_list net policy → view ≡ have
+few_of : (net : PlainNet) (policy : PlainPolicy) (have view : List Bool) (cases : List Case) (statements : List PlainStatement) (most : ℕ)
+    → statements ≡ policy.statements → most ≡ length policy.statements → cases ≡ case_list net policy → view ≡ have
     → AreAllWithin net policy → ((n : ℕ) → n ≤ most → marked have n ≡ list_any (λ (c : Case). c.statement == n) cases)
     → (k : ℕ) (s : PlainStatement) → slice_get statements k ≡ Some s → marked view (k + 1) ≡ true → alternative_count s.ranked ≤ ALTERNATIVES
 few_of net policy have view cases statements most same many is seen within marks k s at has =
@@ -46,7 +47,9 @@ few_of net policy have view cases statements most same many is seen within marks
 pub push_unreached-requires-clause-few : goal.push_unreached-requires-clause-few
 push_unreached-requires-clause-few c =
     let statements = c.statements-statements.ensures.statements in
-    few_of c.args.net.now (policy_of c.args.policy.now) c.in_ok-have.have.items _ _ _ _ (ap (map plain_statement) statements) (omega (arith, ap length statements, length-map c.args.policy.now.statements plain_statement)) (c.as_slice.ensures ∙ c.in_ok-list.ensures) c.deref-4.ensures.value
+    few_of c.args.net.now (policy_of c.args.policy.now) c.in_ok-have.have.items _ _ _ _ (ap (map plain_statement) statements)
+    (omega (arith, ap length statements, length-map c.args.policy.now.statements plain_statement))
+    (c.as_slice.ensures ∙ c.in_ok-list.ensures) c.deref-4.ensures.value
     c.in_ok-ranks.ensures.within c.in_ok-have.ensures.marks
 
 -- what was added piece by piece
@@ -63,9 +66,15 @@ returns-clause-found c =
     let have = c.in_ok-have.have.items in
     let marks = marks_of c.args.net.now policy have _ _ many (c.as_slice.ensures ∙ c.in_ok-list.ensures) c.in_ok-have.ensures.marks in
     let are = subst (λ (ss : List PlainStatement). AreMarked ss c.in_ok-covered.covered.items) same c.in_ok-covered.ensures in
-    let groups = c.in_ok-push_unused.ensures ∙ ap (λ (ts : List Token). c.new-findings.result.items ++ map UnusedGroup (filter (is_unused c.args.bytes.now ts) (group_names c.args.bytes.now ts))) c.deref.ensures.value in
-    let covers = c.in_ok-push_covered.ensures ∙ ap₂ (λ (xs : List Bool) (n : ℕ). c.push_unused.new.findings.items ++ told_covered xs n) c.deref-2.ensures.value (ap length c.deref-2.ensures.value ∙ are.size) in
+    let groups =
+    c.in_ok-push_unused.ensures
+    ∙ ap (λ (ts : List Token). c.new-findings.result.items ++ map UnusedGroup (filter (is_unused c.args.bytes.now ts) (group_names c.args.bytes.now ts))) c.deref.ensures.value in
+    let covers =
+    c.in_ok-push_covered.ensures
+    ∙ ap₂ (λ (xs : List Bool) (n : ℕ). c.push_unused.new.findings.items ++ told_covered xs n) c.deref-2.ensures.value (ap length c.deref-2.ensures.value ∙ are.size) in
     let idles = c.in_ok-push_idle.ensures ∙ ap₂ (λ (xs : List Bool) (n : ℕ). c.push_covered.new.findings.items ++ told_idle xs n) c.deref-3.ensures.value many in
-    let rest = c.in_ok-push_unreached.ensures ∙ ap₂ (λ (xs : List Bool) (ss : List PlainStatement). c.push_idle.new.findings.items ++ told_from c.in_ok-ranks.ranks xs 1 ss) c.deref-4.ensures.value same in
+    let rest =
+    c.in_ok-push_unreached.ensures
+    ∙ ap₂ (λ (xs : List Bool) (ss : List PlainStatement). c.push_idle.new.findings.items ++ told_from c.in_ok-ranks.ranks xs 1 ss) c.deref-4.ensures.value same in
     all_are c.args.bytes.now c.in_ok-tokens.tokens.items c.args.net.now policy have marks c.in_ok-ranks.ranks c.in_ok-ranks.ensures.reached c.in_ok-covered.covered.items are c.in_ok-tokens.ensures _
     (joined _ _ _ _ _ _ _ _ _ c.new-findings.ensures.items groups covers idles rest)

@@ -14,4 +14,5 @@ returns c =
     c.in_ok-push_once.ensures
     ∙ ap (λ (fs : List Finding). c.args.findings.now.items ++ fs)
     (ap (λ ns. map UnusedGroup (filter (λ name. count_of c.in_ok-counts.counts name == 1) ns)) names
-    ∙ ap (map UnusedGroup) (filter_agree (λ name. count_of c.in_ok-counts.counts name == 1) (is_unused bytes tokens) (λ name. ap (λ n. n == 1) (c.in_ok-counts.ensures name)) (group_names bytes tokens)))
+    ∙ ap (map UnusedGroup)
+    (filter_agree (λ name. count_of c.in_ok-counts.counts name == 1) (is_unused bytes tokens) (λ name. ap (λ n. n == 1) (c.in_ok-counts.ensures name)) (group_names bytes tokens)))

@@ -32,5 +32,6 @@ loop-place-preserved c =
     (c.args.findings.now.items ++ told_from ranks have 1 (map plain_statement statements))
     (if marked have (place + 1) then told_unreached ranks (place + 1) (alternative_count (ranking_of item.ranked)) else []) at refl
     (c.in_ok-push_unreached_if.ensures
-    ∙ ap (λ (s : Statement). c.loop-place.findings.items ++ (if marked have (place + 1) then told_unreached ranks (place + 1) (alternative_count (ranking_of s.ranked)) else [])) (sym c.index-statements-place.is))
+    ∙ ap (λ (s : Statement). c.loop-place.findings.items ++ (if marked have (place + 1) then told_unreached ranks (place + 1) (alternative_count (ranking_of s.ranked)) else []))
+    (sym c.index-statements-place.is))
     c.loop-place.invariant

@@ -11,7 +11,8 @@ returns-in_err-parts-clause-read c =
     let net = c.args.reader.now.whole.now.net.now in
     let known = plain_names c.args.reader.now.known.now in
     let p = err_from_is_err_and c.from_residual-in_err-parts.result c.from_residual-in_err-parts.ensures.1 in
-    rw (p.1, p.2) (λ memory. statement_unread bytes net known _ _ _ (plain_patterns c.in_ok-patterns.patterns) _ c.in_ok-patterns.ensures.read c.in_ok-passed.ensures.read (c.in_err-parts.ensures.read memory))
+    rw (p.1, p.2)
+    (λ memory. statement_unread bytes net known _ _ _ (plain_patterns c.in_ok-patterns.patterns) _ c.in_ok-patterns.ensures.read c.in_ok-passed.ensures.read (c.in_err-parts.ensures.read memory))
 
 pub returns-in_err-from-clause-read : goal.returns-in_err-from-clause-read
 returns-in_err-from-clause-read c =
@@ -19,12 +20,17 @@ returns-in_err-from-clause-read c =
     let net = c.args.reader.now.whole.now.net.now in
     let known = plain_names c.args.reader.now.known.now in
     let p = err_from_is_err_and c.from_residual-in_err-from.result c.from_residual-in_err-from.ensures.1 in
-    rw (p.1, p.2) (λ memory. statement_unclaimed bytes net known _ _ _ _ (plain_patterns c.in_ok-patterns.patterns) (parts_value c.in_ok-parts.parts) _ c.in_ok-patterns.ensures.read c.in_ok-passed.ensures.read c.in_ok-parts.ensures.read (c.in_err-from.ensures.read memory))
+    rw (p.1, p.2)
+    (λ memory. statement_unclaimed bytes net known _ _ _ _ (plain_patterns c.in_ok-patterns.patterns)
+    (parts_value c.in_ok-parts.parts) _ c.in_ok-patterns.ensures.read c.in_ok-passed.ensures.read c.in_ok-parts.ensures.read
+    (c.in_err-from.ensures.read memory))
 
 pub returns-clause-read : goal.returns-clause-read
 returns-clause-read c =
     let bytes = c.args.reader.now.text.now in
     let net = c.args.reader.now.whole.now.net.now in
     let known = plain_names c.args.reader.now.known.now in
-    statement_read bytes net known _ _ _ _ _ _ (plain_patterns c.in_ok-patterns.patterns) (parts_value c.in_ok-parts.parts) c.in_ok-from.from c.judged.result c.in_ok-patterns.ensures.read c.in_ok-passed.ensures.read c.in_ok-parts.ensures.read c.in_ok-from.ensures.read c.in_ok-passed-2.ensures.read
+    statement_read bytes net known _ _ _ _ _ _ (plain_patterns c.in_ok-patterns.patterns)
+    (parts_value c.in_ok-parts.parts) c.in_ok-from.from c.judged.result c.in_ok-patterns.ensures.read c.in_ok-passed.ensures.read
+    c.in_ok-parts.ensures.read c.in_ok-from.ensures.read c.in_ok-passed-2.ensures.read
     (λ s governs ranked claims. c.judged.ensures bytes net known s governs ranked claims)

@@ -18,7 +18,10 @@ returns-in_err-read c =
 
 pub items-preserved : goal.items-preserved
 items-preserved c = record {
-  so_far = takes_on c.args.bytes.now c.args.net.now _ c.items.verdicts c.take.new.self _ c.items.at _ _ c.in_ok-read.read _ c.of-whole.ensures (ap plain_names c.known.ensures) (sym c.begins.ensures ∙ c.items-test.true) c.in_ok-read.ensures.read c.in_ok-read.ensures.onward c.in_ok-take.ensures.so_far c.items.invariant.so_far;
+  so_far =
+      takes_on c.args.bytes.now c.args.net.now _ c.items.verdicts c.take.new.self _ c.items.at _ _ c.in_ok-read.read _ c.of-whole.ensures
+      (ap plain_names c.known.ensures)
+      (sym c.begins.ensures ∙ c.items-test.true) c.in_ok-read.ensures.read c.in_ok-read.ensures.onward c.in_ok-take.ensures.so_far c.items.invariant.so_far;
   whole = c.of-whole.ensures;
   stands = c.item.ensures.stands;
 }

@@ -16,4 +16,6 @@ pub returns-in-Some : goal.returns-in-Some
 returns-in-Some c = λ memory. deep_next c.args.bytes.now _ (sym c.is_text.ensures ∙ c.if-not-is_text.false) (c.in_ok-place.ensures ∙ ap Ok c.in-Some.is)
 
 pub returns : goal.returns
-returns c = reads_same c.args.bytes.now c.args.net.now _ _ c.items_taken.result (items_last c.args.bytes.now (sym c.is_text.ensures ∙ c.if-not-is_text.false) (c.in_ok-place.ensures ∙ ap Ok c.in_default.is)) c.items_taken.ensures
+returns c =
+    reads_same c.args.bytes.now c.args.net.now _ _ c.items_taken.result
+    (items_last c.args.bytes.now (sym c.is_text.ensures ∙ c.if-not-is_text.false) (c.in_ok-place.ensures ∙ ap Ok c.in_default.is)) c.items_taken.ensures

@@ -9,14 +9,20 @@ use Rattle.policy_values.proofs.patterns.more_patterns.Goals as goal
 pub returns-in_err-next-clause-read : goal.returns-in_err-next-clause-read
 returns-in_err-next-clause-read c =
     let p = err_from_is_err_and c.from_residual.result c.from_residual.ensures.1 in
-    rw (p.1, p.2) (λ memory. stops Or (value_link c.args.text.now) (plain_patterns c.loop-at.found) _ _ _ _ _ (c.loop-at-test.ensures.here refl) (link_err c.args.text.now c.loop-at.at (plain_patterns c.loop-at.found) _ _ (c.in_err-next.ensures.read memory)) (omega arith) c.loop-at.invariant.so_far)
+    rw (p.1, p.2)
+    (λ memory. stops Or (value_link c.args.text.now) (plain_patterns c.loop-at.found) _ _ _ _ _ (c.loop-at-test.ensures.here refl)
+    (link_err c.args.text.now c.loop-at.at (plain_patterns c.loop-at.found) _ _ (c.in_err-next.ensures.read memory))
+    (omega arith) c.loop-at.invariant.so_far)
 
 pub loop-at-preserved : goal.loop-at-preserved
 loop-at-preserved c =
     let onward = c.loop-at-test.ensures.onward refl in
     let fewer = c.pattern.ensures.fewer in
     let more = count_more (plain_patterns c.loop-at.found) (plain_patterns c.take.new.self) c.in_ok-next.next c.in_ok-take.ensures in record {
-      so_far = goes_on Or (value_link c.args.text.now) (plain_patterns c.loop-at.found) _ _ _ _ _ _ (c.loop-at-test.ensures.here refl) (link_ok c.args.text.now c.loop-at.at (plain_patterns c.loop-at.found) (plain_patterns c.take.new.self) _ _ c.in_ok-next.next c.in_ok-next.ensures.read c.in_ok-take.ensures) (omega (arith, onward, fewer)) c.loop-at.invariant.so_far;
+      so_far =
+          goes_on Or (value_link c.args.text.now) (plain_patterns c.loop-at.found) _ _ _ _ _ _ (c.loop-at-test.ensures.here refl)
+          (link_ok c.args.text.now c.loop-at.at (plain_patterns c.loop-at.found) (plain_patterns c.take.new.self) _ _ c.in_ok-next.next c.in_ok-next.ensures.read c.in_ok-take.ensures)
+          (omega (arith, onward, fewer)) c.loop-at.invariant.so_far;
       few = omega (arith, onward, fewer, more, c.loop-at.invariant.few);
       stands = c.pattern.ensures.stands;
       fewer = omega (arith, onward, fewer, c.loop-at.invariant.fewer);

@@ -16,10 +16,14 @@ returns-in_err-more_patterns-clause-read c =
     let p = err_from_is_err_and c.from_residual-in_err-more_patterns.result c.from_residual-in_err-more_patterns.ensures.1 in
     let away = c.if-past.ensures.away refl in
     let read = rw away.1 at c.in_ok-first.ensures.read in
-    rw (p.1, p.2) (λ memory. predicate_with c.args.text.now _ _ c.in_ok-first.first (plain_patterns c.none-found.result) (plain_patterns c.take-2.new.self) _ c.none-found.ensures away.0 read c.in_ok-take-2.ensures (c.in_err-more_patterns.ensures.read memory))
+    rw (p.1, p.2)
+    (λ memory. predicate_with c.args.text.now _ _ c.in_ok-first.first (plain_patterns c.none-found.result)
+    (plain_patterns c.take-2.new.self) _ c.none-found.ensures away.0 read c.in_ok-take-2.ensures
+    (c.in_err-more_patterns.ensures.read memory))
 
 pub returns-clause-read : goal.returns-clause-read
 returns-clause-read c =
     let away = c.if-past.ensures.away refl in
     let read = rw away.1 at c.in_ok-first.ensures.read in
-    predicate_with c.args.text.now _ _ c.in_ok-first.first (plain_patterns c.none-found.result) (plain_patterns c.take-2.new.self) _ c.none-found.ensures away.0 read c.in_ok-take-2.ensures c.in_ok-more_patterns.ensures.read
+    predicate_with c.args.text.now _ _ c.in_ok-first.first (plain_patterns c.none-found.result)
+    (plain_patterns c.take-2.new.self) _ c.none-found.ensures away.0 read c.in_ok-take-2.ensures c.in_ok-more_patterns.ensures.read

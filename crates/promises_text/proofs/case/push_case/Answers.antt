@@ -11,7 +11,16 @@ use Rattle.promises_text.proofs.case.push_case.Goals as goal
 
 pub overflow_add-result : goal.overflow_add-result
 overflow_add-result c =
-    omega (arith, c.unclaimed_places.ensures.within, c.deref-2.ensures.len, c.in_ok-places.places.ok, c.in_ok-places.places.small, c.idle_peers.ensures.within, c.known_net.ensures.routers, c.known_net.ensures.peers)
+    omega (
+      arith,
+      c.unclaimed_places.ensures.within,
+      c.deref-2.ensures.len,
+      c.in_ok-places.places.ok,
+      c.in_ok-places.places.small,
+      c.idle_peers.ensures.within,
+      c.known_net.ensures.routers,
+      c.known_net.ensures.peers,
+    )
 
 pub returns : goal.returns
 returns c =

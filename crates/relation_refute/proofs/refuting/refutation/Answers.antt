@@ -80,7 +80,8 @@ add_chain-requires-clause-pair c =
 pub add_chain-requires-clause-went : goal.add_chain-requires-clause-went
 add_chain-requires-clause-went c =
     let g : PlainGraph = c.in_ok-maps.maps.graph.now in
-    (went_found g c.args.claimed.now (subst IsGraph (sym c.in_ok-maps.ensures) c.nodes.ensures.rules) (subst HasSingleSteps (sym c.in_ok-maps.ensures) c.requires.single) c.in_ok-fallen.fallen c.in_ok-fallen.ensures
+    (went_found g c.args.claimed.now (subst IsGraph (sym c.in_ok-maps.ensures) c.nodes.ensures.rules)
+    (subst HasSingleSteps (sym c.in_ok-maps.ensures) c.requires.single) c.in_ok-fallen.fallen c.in_ok-fallen.ensures
     c.unwrap-first.result c.unwrap-second.result c.first_parted.result c.least_parted.result c.unwrap-first.ensures c.unwrap-second.ensures
     c.first_parted.ensures.some c.first_parted.ensures.first c.least_parted.ensures).0
 
@@ -102,7 +103,8 @@ add_chain-requires-2-clause-pair c =
 pub add_chain-requires-2-clause-went : goal.add_chain-requires-2-clause-went
 add_chain-requires-2-clause-went c =
     let g : PlainGraph = c.in_ok-maps.maps.graph.now in
-    (went_found g c.args.claimed.now (subst IsGraph (sym c.in_ok-maps.ensures) c.nodes.ensures.rules) (subst HasSingleSteps (sym c.in_ok-maps.ensures) c.requires.single) c.in_ok-fallen.fallen c.in_ok-fallen.ensures
+    (went_found g c.args.claimed.now (subst IsGraph (sym c.in_ok-maps.ensures) c.nodes.ensures.rules)
+    (subst HasSingleSteps (sym c.in_ok-maps.ensures) c.requires.single) c.in_ok-fallen.fallen c.in_ok-fallen.ensures
     c.unwrap-first.result c.unwrap-second.result c.first_parted.result c.least_parted.result c.unwrap-first.ensures c.unwrap-second.ensures
     c.first_parted.ensures.some c.first_parted.ensures.first c.least_parted.ensures).1
 
@@ -116,7 +118,8 @@ pub reasoned-requires-clause-lines : goal.reasoned-requires-clause-lines
 reasoned-requires-clause-lines c = λ l is.
     let g : PlainGraph = c.in_ok-maps.maps.graph.now in
     let here = subst (λ (ls : List Line). IsIn ls l) c.deref.ensures.value is in
-    (gathered_each g c.args.claimed.now c.in_ok-fallen.fallen c.unwrap-first.result c.unwrap-second.result c.new-lines.result.items c.add_chain.new.lines.items c.add_chain-2.new.lines.items c.settle_lines.new.lines.items c.new-lines.ensures.items
+    (gathered_each g c.args.claimed.now c.in_ok-fallen.fallen c.unwrap-first.result c.unwrap-second.result c.new-lines.result.items
+    c.add_chain.new.lines.items c.add_chain-2.new.lines.items c.settle_lines.new.lines.items c.new-lines.ensures.items
     c.settle_lines.ensures.same c.in_ok-add_chain-2.ensures.kept c.in_ok-add_chain.ensures.each c.in_ok-add_chain-2.ensures.each l here).0
 
 -- what is given is the refutation of the graph of the maps

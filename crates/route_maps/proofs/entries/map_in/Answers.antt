@@ -17,7 +17,8 @@ returns-in_err-block c =
 pub returns-in_err-entry : goal.returns-in_err-entry
 returns-in_err-entry c =
     let block : block_at c.args.net.now (blocks c.args.maps.now) c.args.at c.args.from ≡ Some c.in_ok-block.block.now = search rules in
-    let none : find (λ (e : Import). list_permits c.args.maps.now e.class c.args.prefix && (is_peer c.args.net.now c.args.from || same_tag e.tag c.args.tag)) c.in_ok-block.block.now.imports ≡ None = search rules in
+    let none : find (λ (e : Import). list_permits c.args.maps.now e.class c.args.prefix && (is_peer c.args.net.now c.args.from || same_tag e.tag c.args.tag)) c.in_ok-block.block.now.imports
+    ≡ None = search rules in
     c.from_residual-in_err-entry.ensures ∙ sym (in_unfound c.args.net.now c.args.maps.now c.args.prefix c.args.at c.args.from c.args.path.now c.args.tag c.in_ok-block.block.now block none)
 
 pub import_by-requires-clause-order : goal.import_by-requires-clause-order
@@ -34,5 +35,6 @@ import_by-requires-clause-tags c =
 pub returns : goal.returns
 returns c =
     let block : block_at c.args.net.now (blocks c.args.maps.now) c.args.at c.args.from ≡ Some c.in_ok-block.block.now = search rules in
-    let found : find (λ (e : Import). list_permits c.args.maps.now e.class c.args.prefix && (is_peer c.args.net.now c.args.from || same_tag e.tag c.args.tag)) c.in_ok-block.block.now.imports ≡ Some c.in_ok-entry.entry = search rules in
+    let found : find (λ (e : Import). list_permits c.args.maps.now e.class c.args.prefix && (is_peer c.args.net.now c.args.from || same_tag e.tag c.args.tag)) c.in_ok-block.block.now.imports
+    ≡ Some c.in_ok-entry.entry = search rules in
     c.import_by.ensures ∙ in_found c.args.net.now c.args.maps.now c.args.prefix c.args.at c.args.from c.args.path.now c.args.tag c.in_ok-block.block.now c.in_ok-entry.entry block found

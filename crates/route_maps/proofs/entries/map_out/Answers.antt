@@ -22,5 +22,6 @@ export_by-requires c =
 pub returns : goal.returns
 returns c =
     let block : block_at c.args.net.now (blocks c.args.maps.now) c.args.from c.args.to ≡ Some c.in_ok-block.block.now = search rules in
-    let found : find (λ (e : Export). list_permits c.args.maps.now e.class c.args.prefix && same_tag e.tag c.args.route.now.tag) c.in_ok-block.block.now.exports ≡ Some c.in_ok-entry.entry = search rules in
+    let found : find (λ (e : Export). list_permits c.args.maps.now e.class c.args.prefix && same_tag e.tag c.args.route.now.tag) c.in_ok-block.block.now.exports
+    ≡ Some c.in_ok-entry.entry = search rules in
     c.export_by.ensures ∙ out_found c.args.net.now c.args.maps.now c.args.prefix c.args.from c.args.to c.args.route.now.tag c.in_ok-block.block.now c.in_ok-entry.entry block found

@@ -10,7 +10,8 @@ returns-in_err-text-clause-read g c =
     let kept = c.loop-place.invariant.kept in
     let at_name = stop_before _ _ _ _ _ _ kept (g.I.Inputs.faults c.read_named.new.inputs) _ _ c.in_err-text.ensures.read in
     rw (stop.1, stop.2) (
-    stopped_at (g.I.Inputs.holds c.args.inputs.now) (map string_bytes c.args.words.now) _ _ c.args.places.now c.loop-place.place-index c.loop-place.texts c.loop-place-test.true c.loop-place.invariant.held
+    stopped_at (g.I.Inputs.holds c.args.inputs.now)
+    (map string_bytes c.args.words.now) _ _ c.args.places.now c.loop-place.place-index c.loop-place.texts c.loop-place-test.true c.loop-place.invariant.held
     (rw c.word.ensures at at_name)
     )
 
@@ -21,7 +22,8 @@ loop-place-preserved g c =
     let added = c.in_ok-push.ensures.ok in
     record {
       held = rw (added, c.from_vec.ensures) (
-          held_more (g.I.Inputs.holds c.args.inputs.now) (map string_bytes c.args.words.now) c.args.places.now c.loop-place.place-index c.loop-place.texts _ c.loop-place-test.true c.loop-place.invariant.held
+          held_more (g.I.Inputs.holds c.args.inputs.now)
+          (map string_bytes c.args.words.now) c.args.places.now c.loop-place.place-index c.loop-place.texts _ c.loop-place-test.true c.loop-place.invariant.held
           (rw c.word.ensures at at_name)
           );
       kept = read_twice _ _ _ _ _ _ _ _ _ kept c.in_ok-text.ensures.kept;

@@ -6,4 +6,6 @@ use Rattle.item_laws.proofs.ItemsRead.{with_front}
 use Rattle.scenario_reader.proofs.judge.locate_pairs.Given as goal
 
 abbrev pub invariant-loop-ends : goal.invariant-loop-ends
-invariant-loop-ends l = with_front l.all.items (each_from (λ _. both_located l.names l.field) (l.ends-index + 1) (map raw_ends (drop l.ends-index l.raw))) ≡ each_from (λ _. both_located l.names l.field) 1 (map raw_ends l.raw)
+invariant-loop-ends l =
+    with_front l.all.items (each_from (λ _. both_located l.names l.field) (l.ends-index + 1) (map raw_ends (drop l.ends-index l.raw)))
+    ≡ each_from (λ _. both_located l.names l.field) 1 (map raw_ends l.raw)

@@ -7,4 +7,6 @@ use Rattle.item_laws.proofs.ItemsRead.{with_front}
 use Rattle.scenario_reader.proofs.shape.each_text.Given as goal
 
 abbrev pub invariant-loop-value : goal.invariant-loop-value
-invariant-loop-value l = with_front (texts l.all.items) (each_from (λ _. text_of l.field) (l.value-index + 1) (map view (drop l.value-index l.values))) ≡ each_from (λ _. text_of l.field) 1 (map view l.values)
+invariant-loop-value l =
+    with_front (texts l.all.items) (each_from (λ _. text_of l.field) (l.value-index + 1) (map view (drop l.value-index l.values)))
+    ≡ each_from (λ _. text_of l.field) 1 (map view l.values)

@@ -19,7 +19,8 @@ use Rattle.settle_lines.proofs.settling.settle_events.Goals as goal
 pub come_to_rest-requires-clause-rests : goal.come_to_rest-requires-clause-rests
 come_to_rest-requires-clause-rests c =
     subst (λ s. ComesToRest s.0 s.1 s.2 s.3) (sym (c.in_ok-refused.ensures.setting ∙ c.in_ok-world.ensures.setting))
-    (passing_evidence_comes_to_rest c.args.net.now (policy_of c.args.policy.now) c.args.config.now c.args.evidence.now.cases c.known_net.ensures c.requires.fits c.requires.passes c.args.prefix c.known_prefix.ensures)
+    (passing_evidence_comes_to_rest c.args.net.now
+    (policy_of c.args.policy.now) c.args.config.now c.args.evidence.now.cases c.known_net.ensures c.requires.fits c.requires.passes c.args.prefix c.known_prefix.ensures)
 
 pub returns : goal.returns
 returns c =
@@ -51,5 +52,6 @@ returns c =
     let told = c.in_ok-push_rest.ensures
     ∙ ap (λ t. t ++ rounds_line rest.rounds ++ deliveries_line rest.deliveries) (c.in_ok-push_each_refused.ensures ∙ ap (λ t. t ++ flat_map refused_line c.deref.result.now) c.new-text.ensures.items
     ∙ ap (λ (all : List Refused). flat_map refused_line all) refused) in
-    settlement net policy config c.args.evidence.now.cases c.known_net.ensures c.requires.fits c.requires.passes p c.known_prefix.ensures es rest.rounds rest.deliveries last added.0 c.push_report.new.text.items
+    settlement net policy config c.args.evidence.now.cases c.known_net.ensures c.requires.fits c.requires.passes p c.known_prefix.ensures es
+    rest.rounds rest.deliveries last added.0 c.push_report.new.text.items
     enough rested added.1 (added.2 ∙ ap (λ t. t ++ added.0) told)

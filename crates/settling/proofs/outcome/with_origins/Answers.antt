@@ -1,4 +1,5 @@
-use Rattle.std.proofs.Common.{◌≡◌, ◌≢◌, ℕ, ◌+◌, ◌<◌, ◌≤◌, true, false, refl, Vec, Global, List, length, Option, Some, None, set, get_or-set_other, get_or-set_same, length-set, below_more, ap, sym, ◌∙◌, arith, rules}
+use Rattle.std.proofs.Common.{◌≡◌, ◌≢◌, ℕ, ◌+◌, ◌<◌, ◌≤◌, true, false, refl, Vec, Global, List, length, Option, Some, None, set, get_or-set_other, get_or-set_same}
+use Rattle.std.proofs.Common.{length-set, below_more, ap, sym, ◌∙◌, arith, rules}
 use Rattle.std.specs.Prelude.{if◌then◌else◌}
 use Rattle.net_base.specs.Sets.{holds}
 use Rattle.config_base.specs.Lines.{own_route}

@@ -27,6 +27,7 @@ returns-clause-bits c = λ m.
     c.loop-s.invariant.bits m
     ∙ ap (λ l. has c.args.mask.now m || list_any (λ s. (is_listener g s && no_worse (rank_at g s) (rank_at g t)) && has_step g m s) l)
     (take_all c.loop-s.s-index c.peers-s-items.result.now (omega (arith, c.loop-s-test.false)))
-    ∙ ap (λ z. has c.args.mask.now m || z) (located_any c.peers-s-items.result.now (length g.nodes) (λ s. eqb (place_of g s) (place_of g t)) (λ s. (is_listener g s && no_worse (rank_at g s) (rank_at g t)) && has_step g m s)
+    ∙ ap (λ z. has c.args.mask.now m || z)
+    (located_any c.peers-s-items.result.now (length g.nodes) (λ s. eqb (place_of g s) (place_of g t)) (λ s. (is_listener g s && no_worse (rank_at g s) (rank_at g t)) && has_step g m s)
     (λ s. (has_step g m s && is_listener g s) && (eqb (place_of g s) (place_of g t) && no_worse (rank_at g s) (rank_at g t)))
     c.peers-s-items.ensures.within c.peers-s-items.ensures.members (λ s lt. moved (eqb (place_of g s) (place_of g t)) (is_listener g s) (no_worse (rank_at g s) (rank_at g t)) (has_step g m s)))

@@ -11,7 +11,8 @@ use Rattle.graph_base.specs.Runs.{place_of}
 use Rattle.state_simulation.specs.Targets.{gone_in}
 use Rattle.state_simulation.proofs.Masking.{covered, leads_on, located_any}
 use Rattle.state_simulation.proofs.masks.add_loops.Goals as goal
-use Rattle.state_simulation.proofs.masks.add_loops.Goals.{then-not-is_set+then-not-is_set-2, else-not-is_set, else-not-is_set-via-then-not-is_set+else-not-is_set-2, else-not-is_set-via-else-not-is_set}
+use Rattle.state_simulation.proofs.masks.add_loops.Goals.{then-not-is_set+then-not-is_set-2, else-not-is_set, else-not-is_set-via-then-not-is_set+else-not-is_set-2}
+use Rattle.state_simulation.proofs.masks.add_loops.Goals.{else-not-is_set-via-else-not-is_set}
 
 moved : (f g r : Bool) → (f && (g && r)) ≡ (f && (r && g))
 moved true true true = refl

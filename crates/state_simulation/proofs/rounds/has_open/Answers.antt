@@ -8,7 +8,8 @@ use Rattle.graph_base.specs.Runs.{place_of}
 use Rattle.reach_prune.specs.Searches.{is_among}
 use Rattle.state_simulation.specs.Stages.{asks_later, has_either}
 use Rattle.state_simulation.proofs.rounds.has_open.Goals as goal
-use Rattle.state_simulation.proofs.rounds.has_open.Goals.{else-not-asks_later-via-then-not-asks_later+then-not-is_set+else-not-get, else-not-asks_later-via-then-not-asks_later+else-not-is_set, else-not-asks_later-via-else-not-asks_later}
+use Rattle.state_simulation.proofs.rounds.has_open.Goals.{else-not-asks_later-via-then-not-asks_later+then-not-is_set+else-not-get}
+use Rattle.state_simulation.proofs.rounds.has_open.Goals.{else-not-asks_later-via-then-not-asks_later+else-not-is_set, else-not-asks_later-via-else-not-asks_later}
 
 pub returns-then-not-get-clause-open : goal.returns-then-not-get-clause-open
 returns-then-not-get-clause-open c = λ h.

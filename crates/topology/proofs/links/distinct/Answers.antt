@@ -17,7 +17,8 @@ returns-then-not-branch-clause-err c = λ _.
     let seen : list_any (same_ends link) before ≡ true =
     sym (list_any-ascending (same_ends link) before) ∙ (rw c.loop-link.invariant.1 at (not-false _ (sym c.in_ok-put.ensures.fresh ∙ c.if-not-branch.true))) in
     let found = find-any (same_ends link) before seen in
-    rw c.loop-link.invariant.0 (alike-here same_ends (λ place _ _. LinkTwice place) c.args.links.now c.loop-link.link-index link c.loop-link-test.true c.link-item.is found.0 _ found.1 c.loop-link.invariant.2)
+    rw c.loop-link.invariant.0
+    (alike-here same_ends (λ place _ _. LinkTwice place) c.args.links.now c.loop-link.link-index link c.loop-link-test.true c.link-item.is found.0 _ found.1 c.loop-link.invariant.2)
 
 pub loop-link-preserved : goal.loop-link-preserved
 loop-link-preserved c =
@@ -27,5 +28,6 @@ loop-link-preserved c =
     sym (list_any-ascending (same_ends link) before) ∙ (rw c.loop-link.invariant.1 at (not-true _ (sym c.in_ok-put.ensures.fresh ∙ c.if-not-branch.false))) in (
       omega (arith, c.loop-link.invariant.0),
       c.in_ok-put.ensures.added c.if-not-branch.false ∙ rw c.loop-link.invariant.1 (sym (ascending-next c.args.links.now c.loop-link.link-index link c.loop-link-test.true c.link-item.is)),
-      unlike-here same_ends (λ place _ _. LinkTwice place) c.args.links.now c.loop-link.link-index link c.loop-link-test.true c.link-item.is _ (find-none (same_ends link) before unseen) c.loop-link.invariant.2,
+      unlike-here same_ends (λ place _ _. LinkTwice place) c.args.links.now c.loop-link.link-index link c.loop-link-test.true c.link-item.is _
+          (find-none (same_ends link) before unseen) c.loop-link.invariant.2,
     )

@@ -10,7 +10,9 @@ pub new-requires : goal.new-requires
 new-requires c =
     let rs = map named_entry c.in_ok-routers.routers.items in
     let ps = map named_entry c.in_ok-peers.peers.items in
-    let both : map named_entry c.in_ok-entries.entries.items ≡ rs ++ ps = rw (c.in_ok-entries.ensures.items, c.deref-3.ensures.value, c.deref-4.ensures.value) (map-append named_entry c.in_ok-routers.routers.items c.in_ok-peers.peers.items) in
+    let both : map named_entry c.in_ok-entries.entries.items ≡ rs ++ ps =
+    rw (c.in_ok-entries.ensures.items, c.deref-3.ensures.value, c.deref-4.ensures.value)
+    (map-append named_entry c.in_ok-routers.routers.items c.in_ok-peers.peers.items) in
     let count : c.len.result ≡ length rs = omega (arith, c.len.ensures, c.in_ok-routers.routers.ok, length-map c.in_ok-routers.routers.items named_entry) in
     let linked : links_of (names_of (rs ++ ps)) (length rs) (map raw_ends c.args.raw.now.links.items) ≡ Ok c.in_ok-links.links.items =
     rw (c.in_ok-names.ensures.names, c.deref-5.ensures.value, both, c.deref-10.ensures.value, count) at c.in_ok-links.ensures in
@@ -30,7 +32,9 @@ pub returns-in_err-links : goal.returns-in_err-links
 returns-in_err-links c =
     let rs = map named_entry c.in_ok-routers.routers.items in
     let ps = map named_entry c.in_ok-peers.peers.items in
-    let both : map named_entry c.in_ok-entries.entries.items ≡ rs ++ ps = rw (c.in_ok-entries.ensures.items, c.deref-3.ensures.value, c.deref-4.ensures.value) (map-append named_entry c.in_ok-routers.routers.items c.in_ok-peers.peers.items) in
+    let both : map named_entry c.in_ok-entries.entries.items ≡ rs ++ ps =
+    rw (c.in_ok-entries.ensures.items, c.deref-3.ensures.value, c.deref-4.ensures.value)
+    (map-append named_entry c.in_ok-routers.routers.items c.in_ok-peers.peers.items) in
     let count : c.len.result ≡ length rs = omega (arith, c.len.ensures, c.in_ok-routers.routers.ok, length-map c.in_ok-routers.routers.items named_entry) in
     let told : c.in_err-links.field-0.0 ≢ NoMemory → links_of (names_of (rs ++ ps)) (length rs) (map raw_ends c.args.raw.now.links.items) ≡ Err c.in_err-links.field-0.0 =
     rw (c.in_ok-names.ensures.names, c.deref-5.ensures.value, both, c.deref-10.ensures.value, count) at c.in_err-links.ensures in
@@ -50,7 +54,9 @@ pub returns : goal.returns
 returns c =
     let rs = map named_entry c.in_ok-routers.routers.items in
     let ps = map named_entry c.in_ok-peers.peers.items in
-    let both : map named_entry c.in_ok-entries.entries.items ≡ rs ++ ps = rw (c.in_ok-entries.ensures.items, c.deref-3.ensures.value, c.deref-4.ensures.value) (map-append named_entry c.in_ok-routers.routers.items c.in_ok-peers.peers.items) in
+    let both : map named_entry c.in_ok-entries.entries.items ≡ rs ++ ps =
+    rw (c.in_ok-entries.ensures.items, c.deref-3.ensures.value, c.deref-4.ensures.value)
+    (map-append named_entry c.in_ok-routers.routers.items c.in_ok-peers.peers.items) in
     let count : c.len.result ≡ length rs = omega (arith, c.len.ensures, c.in_ok-routers.routers.ok, length-map c.in_ok-routers.routers.items named_entry) in
     let linked : links_of (names_of (rs ++ ps)) (length rs) (map raw_ends c.args.raw.now.links.items) ≡ Ok c.in_ok-links.links.items =
     rw (c.in_ok-names.ensures.names, c.deref-5.ensures.value, both, c.deref-10.ensures.value, count) at c.in_ok-links.ensures in

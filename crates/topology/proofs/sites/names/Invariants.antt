@@ -7,4 +7,5 @@ use Rattle.topology.proofs.sites.names.Given as goal
 abbrev pub invariant-loop-entry : goal.invariant-loop-entry
 invariant-loop-entry l =
     (texts l.names.keys ≡ names_of (map named_entry (take l.entry-index l.entries)))
-    × (all_unlike same_name (λ _ _ later. Twice later.name) (map named_entry (take l.entry-index l.entries)) (map named_entry (drop l.entry-index l.entries)) ≡ all_unlike same_name (λ _ _ later. Twice later.name) [] (map named_entry l.entries))
+    × (all_unlike same_name (λ _ _ later. Twice later.name) (map named_entry (take l.entry-index l.entries)) (map named_entry (drop l.entry-index l.entries))
+    ≡ all_unlike same_name (λ _ _ later. Twice later.name) [] (map named_entry l.entries))

@@ -6,4 +6,6 @@ use Rattle.item_laws.proofs.ItemsRead.{with_front}
 use Rattle.topology.proofs.sites.sites.Given as goal
 
 abbrev pub invariant-loop-entry : goal.invariant-loop-entry
-invariant-loop-entry l = with_front l.all.items (each_from (λ _. site_of l.kind) (l.entry-index + 1) (map named_entry (drop l.entry-index l.entries))) ≡ each_from (λ _. site_of l.kind) 1 (map named_entry l.entries)
+invariant-loop-entry l =
+    with_front l.all.items (each_from (λ _. site_of l.kind) (l.entry-index + 1) (map named_entry (drop l.entry-index l.entries)))
+    ≡ each_from (λ _. site_of l.kind) 1 (map named_entry l.entries)

@@ -20,4 +20,5 @@ loop-cut-preserved c =
 pub returns : goal.returns
 returns c =
     let base = c.args.self.now in
-    subst (λ (ks : List Cut). AreRows base.net.now base.paths.case.now base.paths.left base.ranks ks c.loop-cut.rows) (take_all c.loop-cut.cut-index c.args.cuts.now c.loop-cut-test.false) c.loop-cut.invariant
+    subst (λ (ks : List Cut). AreRows base.net.now base.paths.case.now base.paths.left base.ranks ks c.loop-cut.rows)
+    (take_all c.loop-cut.cut-index c.args.cuts.now c.loop-cut-test.false) c.loop-cut.invariant

@@ -9,7 +9,9 @@ loop-place-init c = record { size = refl; words = no_words _ 0 }
 pub loop-place-preserved : goal.loop-place-preserved
 loop-place-preserved c = record {
   size = omega (arith, length-set c.loop-place.words, c.loop-place.invariant.size);
-  words = words_next (λ l. nat_le c.args.from l && nat_lt l c.args.to) c.loop-place.words c.loop-place.place c.word_of_range.result c.loop-place.invariant.size c.loop-place-test.true c.loop-place.invariant.words c.word_of_range.ensures;
+  words =
+      words_next (λ l. nat_le c.args.from l && nat_lt l c.args.to) c.loop-place.words c.loop-place.place c.word_of_range.result
+      c.loop-place.invariant.size c.loop-place-test.true c.loop-place.invariant.words c.word_of_range.ensures;
 }
 
 pub returns : goal.returns

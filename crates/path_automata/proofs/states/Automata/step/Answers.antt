@@ -14,7 +14,8 @@ use Rattle.path_automata.specs.Derived.{AreDerivatives}
 use Rattle.path_automata.specs.Found.{states_in, facts_of, AreFacts}
 use Rattle.path_automata.specs.Memo.{AreAlike, IsRight, NoTwice}
 use Rattle.path_automata.proofs.MemoLemmas.{alike-grown, alike-kept, known, right-grown, right-kept}
-use Rattle.path_automata.proofs.StateLemmas.{Key, IsKnown, all-at, all-inserted, all-weaker, apart-from_distinct, extends-grown, facts-cover, facts-grown, facts-kept, grown-insert_key, state-get, state-stored, states-extend}
+use Rattle.path_automata.proofs.StateLemmas.{Key, IsKnown, all-at, all-inserted, all-weaker, apart-from_distinct, extends-grown, facts-cover, facts-grown, facts-kept}
+use Rattle.path_automata.proofs.StateLemmas.{grown-insert_key, state-get, state-stored, states-extend}
 use Rattle.path_automata.proofs.states.Automata.step.Goals as goal
 
 -- the keys are known still as further terms come

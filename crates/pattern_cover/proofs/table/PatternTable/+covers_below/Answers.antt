@@ -12,7 +12,8 @@ returns-else-covers_below t c = λ qs held is.
     let told = around_low qs p c.low-lower.result c.args.around c.max.result c.end_at.result held.lawful c.len.ensures.rules below is c.low-lower.ensures
     (c.end_at.ensures ∙ held.ends c.low-lower.result) most in
     let low = c.covers_below.ensures qs held told ∙ ap (λ half. covered_below qs half (c.args.more - 1)) c.low-lower.ensures in
-    first_off qs p c.args.more c.covers_below.result (omega (arith, is, c.if-around-len.false, c.len.ensures.len)) (omega (arith, is, c.if-len-more.false, c.len-2.ensures.len)) low c.if-covers_below.false
+    first_off qs p c.args.more c.covers_below.result (omega (arith, is, c.if-around-len.false, c.len.ensures.len))
+    (omega (arith, is, c.if-len-more.false, c.len-2.ensures.len)) low c.if-covers_below.false
 
 pub returns-then-covers_below : goal.returns-then-covers_below
 returns-then-covers_below t c = λ qs held is.

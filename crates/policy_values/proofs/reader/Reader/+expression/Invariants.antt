@@ -38,7 +38,13 @@ decreases-expression l = 10 * l.depth + 8
 
 abbrev pub invariant-more_units-loop-parts : goal.invariant-more_units-loop-parts
 invariant-more_units-loop-parts l = record {
-  so_far : LeadsTo And (side_link (step_onto l.self.text.now l.self.whole.now.net.now (plain_names l.self.known.now)) Joint (unit_at (step_onto l.self.text.now l.self.whole.now.net.now (plain_names l.self.known.now)) l.depth)) (parts_value l.parts) (left l.self.text.now l.at) (chain And (side_link (step_onto l.self.text.now l.self.whole.now.net.now (plain_names l.self.known.now)) Joint (unit_at (step_onto l.self.text.now l.self.whole.now.net.now (plain_names l.self.known.now)) l.depth)) (length (left l.self.text.now l.fn.at)) (parts_value l.fn.parts) (left l.self.text.now l.fn.at));
+  so_far : LeadsTo And
+      (side_link (step_onto l.self.text.now l.self.whole.now.net.now (plain_names l.self.known.now)) Joint
+      (unit_at (step_onto l.self.text.now l.self.whole.now.net.now (plain_names l.self.known.now)) l.depth))
+      (parts_value l.parts) (left l.self.text.now l.at)
+      (chain And (side_link (step_onto l.self.text.now l.self.whole.now.net.now (plain_names l.self.known.now)) Joint
+      (unit_at (step_onto l.self.text.now l.self.whole.now.net.now (plain_names l.self.known.now)) l.depth))
+      (length (left l.self.text.now l.fn.at)) (parts_value l.fn.parts) (left l.self.text.now l.fn.at));
   stands : StandsIn l.self.text.now l.at;
   fewer : length (left l.self.text.now l.at) ≤ length (left l.self.text.now l.fn.at);
 }
@@ -48,7 +54,13 @@ decreases-more_units-loop-parts l = length (left l.self.text.now l.at)
 
 abbrev pub invariant-more_joints-loop-parts : goal.invariant-more_joints-loop-parts
 invariant-more_joints-loop-parts l = record {
-  so_far : LeadsTo Or (side_link (step_onto l.self.text.now l.self.whole.now.net.now (plain_names l.self.known.now)) Choice (joint_at (step_onto l.self.text.now l.self.whole.now.net.now (plain_names l.self.known.now)) l.depth)) (parts_value l.parts) (left l.self.text.now l.at) (chain Or (side_link (step_onto l.self.text.now l.self.whole.now.net.now (plain_names l.self.known.now)) Choice (joint_at (step_onto l.self.text.now l.self.whole.now.net.now (plain_names l.self.known.now)) l.depth)) (length (left l.self.text.now l.fn.at)) (parts_value l.fn.parts) (left l.self.text.now l.fn.at));
+  so_far : LeadsTo Or
+      (side_link (step_onto l.self.text.now l.self.whole.now.net.now (plain_names l.self.known.now)) Choice
+      (joint_at (step_onto l.self.text.now l.self.whole.now.net.now (plain_names l.self.known.now)) l.depth))
+      (parts_value l.parts) (left l.self.text.now l.at)
+      (chain Or (side_link (step_onto l.self.text.now l.self.whole.now.net.now (plain_names l.self.known.now)) Choice
+      (joint_at (step_onto l.self.text.now l.self.whole.now.net.now (plain_names l.self.known.now)) l.depth))
+      (length (left l.self.text.now l.fn.at)) (parts_value l.fn.parts) (left l.self.text.now l.fn.at));
   stands : StandsIn l.self.text.now l.at;
   fewer : length (left l.self.text.now l.at) ≤ length (left l.self.text.now l.fn.at);
 }
@@ -58,7 +70,13 @@ decreases-more_joints-loop-parts l = length (left l.self.text.now l.at)
 
 abbrev pub invariant-more_choices-loop-place : goal.invariant-more_choices-loop-place
 invariant-more_choices-loop-place l = record {
-  so_far : LeadsTo Above (side_link (step_onto l.self.text.now l.self.whole.now.net.now (plain_names l.self.known.now)) Ranked (choice_at (step_onto l.self.text.now l.self.whole.now.net.now (plain_names l.self.known.now)) l.depth)) (parts_value l.parts) (left l.self.text.now l.at) (chain Above (side_link (step_onto l.self.text.now l.self.whole.now.net.now (plain_names l.self.known.now)) Ranked (choice_at (step_onto l.self.text.now l.self.whole.now.net.now (plain_names l.self.known.now)) l.depth)) (length (left l.self.text.now l.fn.at)) (parts_value l.fn.parts) (left l.self.text.now l.fn.at));
+  so_far : LeadsTo Above
+      (side_link (step_onto l.self.text.now l.self.whole.now.net.now (plain_names l.self.known.now)) Ranked
+      (choice_at (step_onto l.self.text.now l.self.whole.now.net.now (plain_names l.self.known.now)) l.depth))
+      (parts_value l.parts) (left l.self.text.now l.at)
+      (chain Above (side_link (step_onto l.self.text.now l.self.whole.now.net.now (plain_names l.self.known.now)) Ranked
+      (choice_at (step_onto l.self.text.now l.self.whole.now.net.now (plain_names l.self.known.now)) l.depth))
+      (length (left l.self.text.now l.fn.at)) (parts_value l.fn.parts) (left l.self.text.now l.fn.at));
   place : l.place ≡ l.at.place;
   stands : StandsIn l.self.text.now l.at;
   fewer : length (left l.self.text.now l.at) ≤ length (left l.self.text.now l.fn.at);

@@ -11,14 +11,21 @@ use Rattle.policy_values.proofs.reader.Reader.more_calls.Goals as goal
 pub returns-in_err-set-clause-read : goal.returns-in_err-set-clause-read
 returns-in_err-set-clause-read c =
     let p = err_from_is_err_and c.from_residual.result c.from_residual.ensures.1 in
-    rw (p.1, p.2) (λ memory. stops Above (call_link c.args.self.now.text.now c.args.self.now.whole.now.net.now (plain_names c.args.self.now.known.now) c.args.call) c.loop-call.found _ _ _ _ _ (c.loop-call-test.ensures.here refl) (rw (c.in_err-set.ensures.read memory) refl) (omega arith) c.loop-call.invariant.so_far)
+    rw (p.1, p.2)
+    (λ memory. stops Above
+    (call_link c.args.self.now.text.now c.args.self.now.whole.now.net.now (plain_names c.args.self.now.known.now) c.args.call) c.loop-call.found _ _ _ _ _
+    (c.loop-call-test.ensures.here refl) (rw (c.in_err-set.ensures.read memory) refl) (omega arith) c.loop-call.invariant.so_far)
 
 pub loop-call-preserved : goal.loop-call-preserved
 loop-call-preserved c =
     let onward = c.loop-call-test.ensures.onward refl in
     let fewer = c.set.ensures.fewer in
     let made : with_call c.args.call c.loop-call.found c.in_ok-set.set ≡ c.in_ok-found.found = ok_same _ _ c.in_ok-found.ensures in record {
-      so_far = goes_on Above (call_link c.args.self.now.text.now c.args.self.now.whole.now.net.now (plain_names c.args.self.now.known.now) c.args.call) c.loop-call.found _ _ _ c.in_ok-found.found _ _ (c.loop-call-test.ensures.here refl) (rw c.in_ok-set.ensures.read (read_same _ _ _ made)) (omega (arith, onward, fewer)) c.loop-call.invariant.so_far;
+      so_far =
+          goes_on Above
+          (call_link c.args.self.now.text.now c.args.self.now.whole.now.net.now (plain_names c.args.self.now.known.now) c.args.call) c.loop-call.found _ _ _ c.in_ok-found.found _ _
+          (c.loop-call-test.ensures.here refl) (rw c.in_ok-set.ensures.read (read_same _ _ _ made))
+          (omega (arith, onward, fewer)) c.loop-call.invariant.so_far;
       stands = c.set.ensures.stands;
       fewer = omega (arith, onward, fewer, c.loop-call.invariant.fewer);
     }
@@ -26,4 +33,5 @@ loop-call-preserved c =
 pub returns-clause-read : goal.returns-clause-read
 returns-clause-read c =
     let away = c.loop-call-test.ensures.away refl in
-    rw away.1 (ends Above (call_link c.args.self.now.text.now c.args.self.now.whole.now.net.now (plain_names c.args.self.now.known.now) c.args.call) c.loop-call.found _ _ away.0 c.loop-call.invariant.so_far)
+    rw away.1 (ends Above
+    (call_link c.args.self.now.text.now c.args.self.now.whole.now.net.now (plain_names c.args.self.now.known.now) c.args.call) c.loop-call.found _ _ away.0 c.loop-call.invariant.so_far)

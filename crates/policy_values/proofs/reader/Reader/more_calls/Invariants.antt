@@ -9,7 +9,9 @@ use Rattle.policy_values.proofs.reader.Reader.more_calls.Given as goal
 
 abbrev pub invariant-loop-call : goal.invariant-loop-call
 invariant-loop-call l = record {
-  so_far : LeadsTo Above (call_link l.self.text.now l.self.whole.now.net.now (plain_names l.self.known.now) l.call) l.found (left l.self.text.now l.at) (chain Above (call_link l.self.text.now l.self.whole.now.net.now (plain_names l.self.known.now) l.call) (length (left l.self.text.now l.fn.at)) l.fn.calls (left l.self.text.now l.fn.at));
+  so_far : LeadsTo Above (call_link l.self.text.now l.self.whole.now.net.now (plain_names l.self.known.now) l.call) l.found
+      (left l.self.text.now l.at)
+      (chain Above (call_link l.self.text.now l.self.whole.now.net.now (plain_names l.self.known.now) l.call) (length (left l.self.text.now l.fn.at)) l.fn.calls (left l.self.text.now l.fn.at));
   stands : StandsIn l.self.text.now l.at;
   fewer : length (left l.self.text.now l.at) ≤ length (left l.self.text.now l.fn.at);
 }

@@ -9,13 +9,18 @@ use Rattle.policy_values.proofs.reader.Reader.more_names.Goals as goal
 pub returns-in_err-name-clause-read : goal.returns-in_err-name-clause-read
 returns-in_err-name-clause-read c =
     let p = err_from_is_err_and c.from_residual.result c.from_residual.ensures.1 in
-    rw (p.1, p.2) (λ memory. stops Comma (link_by (with_named c.args.self.now.text.now (plain_names c.args.self.now.known.now))) c.loop-at.joined _ _ _ _ _ (c.loop-at-test.ensures.here refl) (rw (c.in_err-name.ensures.read memory) refl) (omega arith) c.loop-at.invariant.so_far)
+    rw (p.1, p.2)
+    (λ memory. stops Comma (link_by (with_named c.args.self.now.text.now (plain_names c.args.self.now.known.now))) c.loop-at.joined _ _ _ _ _
+    (c.loop-at-test.ensures.here refl) (rw (c.in_err-name.ensures.read memory) refl) (omega arith) c.loop-at.invariant.so_far)
 
 pub loop-at-preserved : goal.loop-at-preserved
 loop-at-preserved c =
     let onward = c.loop-at-test.ensures.onward refl in
     let fewer = c.first.ensures.fewer in record {
-      so_far = rw c.with_named.ensures (goes_on Comma (link_by (with_named c.args.self.now.text.now (plain_names c.args.self.now.known.now))) c.loop-at.joined _ _ _ _ _ _ (c.loop-at-test.ensures.here refl) (rw c.in_ok-name.ensures.read refl) (omega (arith, onward, fewer)) c.loop-at.invariant.so_far);
+      so_far =
+          rw c.with_named.ensures
+          (goes_on Comma (link_by (with_named c.args.self.now.text.now (plain_names c.args.self.now.known.now))) c.loop-at.joined _ _ _ _ _ _
+          (c.loop-at-test.ensures.here refl) (rw c.in_ok-name.ensures.read refl) (omega (arith, onward, fewer)) c.loop-at.invariant.so_far);
       stands = c.first.ensures.stands;
       fewer = omega (arith, onward, fewer, c.loop-at.invariant.fewer);
     }

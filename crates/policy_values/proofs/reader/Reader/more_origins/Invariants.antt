@@ -10,7 +10,9 @@ use Rattle.policy_values.proofs.reader.Reader.more_origins.Given as goal
 
 abbrev pub invariant-loop-at : goal.invariant-loop-at
 invariant-loop-at l = record {
-  so_far : LeadsTo Comma (link_by (with_origin l.self.text.now l.self.whole.now.net.now (plain_names l.self.known.now))) l.found (left l.self.text.now l.at) (chain Comma (link_by (with_origin l.self.text.now l.self.whole.now.net.now (plain_names l.self.known.now))) (length (left l.self.text.now l.fn.at)) l.fn.found (left l.self.text.now l.fn.at));
+  so_far : LeadsTo Comma (link_by (with_origin l.self.text.now l.self.whole.now.net.now (plain_names l.self.known.now))) l.found
+      (left l.self.text.now l.at)
+      (chain Comma (link_by (with_origin l.self.text.now l.self.whole.now.net.now (plain_names l.self.known.now))) (length (left l.self.text.now l.fn.at)) l.fn.found (left l.self.text.now l.fn.at));
   stands : StandsIn l.self.text.now l.at;
   fewer : length (left l.self.text.now l.at) ≤ length (left l.self.text.now l.fn.at);
 }

@@ -11,10 +11,14 @@ returns-in_err-more_names-clause-read c =
     let p = err_from_is_err_and c.from_residual-in_err-more_names.result c.from_residual-in_err-more_names.ensures.1 in
     let bytes = c.args.self.now.text.now in
     let known = plain_names c.args.self.now.known.now in
-    rw (p.1, p.2) (λ memory. over_names (set_of_names bytes known) (with_named bytes known) (set_of_names_push bytes known) _ c.in_ok-name.name _ c.alone-joined.result _ c.in_ok-name.ensures.read c.alone-joined.ensures (c.in_err-more_names.ensures.read memory))
+    rw (p.1, p.2)
+    (λ memory. over_names (set_of_names bytes known) (with_named bytes known)
+    (set_of_names_push bytes known) _ c.in_ok-name.name _ c.alone-joined.result _ c.in_ok-name.ensures.read c.alone-joined.ensures
+    (c.in_err-more_names.ensures.read memory))
 
 pub returns-clause-read : goal.returns-clause-read
 returns-clause-read c =
     let bytes = c.args.self.now.text.now in
     let known = plain_names c.args.self.now.known.now in
-    over_names (set_of_names bytes known) (with_named bytes known) (set_of_names_push bytes known) _ c.in_ok-name.name _ c.alone-joined.result _ c.in_ok-name.ensures.read c.alone-joined.ensures c.in_ok-more_names.ensures.read
+    over_names (set_of_names bytes known) (with_named bytes known)
+    (set_of_names_push bytes known) _ c.in_ok-name.name _ c.alone-joined.result _ c.in_ok-name.ensures.read c.alone-joined.ensures c.in_ok-more_names.ensures.read

@@ -11,11 +11,15 @@ returns-in_err-more_origins-clause-read c =
     let bytes = c.args.self.now.text.now in
     let net = c.args.self.now.whole.now.net.now in
     let known = plain_names c.args.self.now.known.now in
-    rw (p.1, p.2) (λ memory. over_names (origin_names bytes net known) (with_origin bytes net known) (origin_names_push bytes known net) _ c.in_ok-name.name _ c.first_origin-found.result _ c.in_ok-name.ensures.read c.first_origin-found.ensures (c.in_err-more_origins.ensures.read memory))
+    rw (p.1, p.2)
+    (λ memory. over_names (origin_names bytes net known) (with_origin bytes net known)
+    (origin_names_push bytes known net) _ c.in_ok-name.name _ c.first_origin-found.result _ c.in_ok-name.ensures.read c.first_origin-found.ensures
+    (c.in_err-more_origins.ensures.read memory))
 
 pub returns-clause-read : goal.returns-clause-read
 returns-clause-read c =
     let bytes = c.args.self.now.text.now in
     let net = c.args.self.now.whole.now.net.now in
     let known = plain_names c.args.self.now.known.now in
-    over_names (origin_names bytes net known) (with_origin bytes net known) (origin_names_push bytes known net) _ c.in_ok-name.name _ c.first_origin-found.result _ c.in_ok-name.ensures.read c.first_origin-found.ensures c.in_ok-more_origins.ensures.read
+    over_names (origin_names bytes net known) (with_origin bytes net known)
+    (origin_names_push bytes known net) _ c.in_ok-name.name _ c.first_origin-found.result _ c.in_ok-name.ensures.read c.first_origin-found.ensures c.in_ok-more_origins.ensures.read

@@ -81,7 +81,9 @@ rounds-preserved c =
     let is : last ≡ suc k = omega (arith, bumped) in
     let at : AreAt g claimed (has_at onwards) (suc k) new = next.next claimed (has_at onwards) k (knows_own g k old onwards inv.at.1) come.at in
     let at_last : AreAt g claimed (has_at onwards) last new = subst (λ z. AreAt g claimed (has_at onwards) z new) (sym is) at in
-    let noted : (m n : ℕ) → Pair (shown g) m n → round_in c.mark.new.self m n ≡ cond (is_touched new.touched.items n) (cond (eqb (round_in c.rounds.cells m n) 0 && not (has_at new.left n m)) (suc k) (round_in c.rounds.cells m n)) (round_in c.rounds.cells m n) =
+    let noted : (m n : ℕ) → Pair (shown g) m n
+    → round_in c.mark.new.self m n
+    ≡ cond (is_touched new.touched.items n) (cond (eqb (round_in c.rounds.cells m n) 0 && not (has_at new.left n m)) (suc k) (round_in c.rounds.cells m n)) (round_in c.rounds.cells m n) =
     λ m n p. c.mark.ensures.rounds m n p
     ∙ ap (λ (l : List Bool). cond (is_touched l n)
     (cond (eqb (round_in c.rounds.cells m n) 0 && not (has_at new.left n m)) last (round_in c.rounds.cells m n))
