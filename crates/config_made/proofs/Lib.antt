@@ -11,6 +11,5 @@ pub mod Runs
 pub mod Settling
 pub mod Whole
 pub mod OneConfiguration
-pub mod Ordered
 pub mod Possible
 pub mod Classing

@@ -7,7 +7,7 @@ use Rattle.evidence_base.specs.Made.{PlainCaseEvidence, patterns_of, IsConfigOf,
 use Rattle.config_made.specs.Conditions.{AreGraphs, AreSingle}
 use Rattle.config_made.specs.Hops.{hops_from, announced_from}
 use Rattle.config_made.specs.Writing.{routers_of}
-use Rattle.config_made.proofs.Ordered.{ordered}
+use Rattle.list_laws.proofs.Ordered.{ordered}
 use Rattle.config_made.proofs.Settling.{announced_exact, announced_total, hop_exact, hop_total}
 use Rattle.config_made.proofs.Whole.{config_of_cases}
 

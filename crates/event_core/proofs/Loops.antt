@@ -5,7 +5,8 @@ use Rattle.event_base.specs.Speaking.{speakers_of}
 use Rattle.event_base.specs.World.{choose_again, each_again, emptied, tell}
 use Rattle.event_state.specs.declared.world.World.{World}
 use Rattle.event_state.specs.States.{setting, speakers, state}
-use Rattle.event_core.proofs.Steps.{each_more, same_as_itself}
+use Rattle.event_core.proofs.Steps.{each_more}
+use Rattle.event_law.proofs.Messages.{same_as_itself}
 use Rattle.event_core.proofs.Tellings.{emptied_next, some, told_next}
 
 -- what speaks and chooses in a world is told by what no event changes

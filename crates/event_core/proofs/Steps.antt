@@ -20,11 +20,6 @@ use Rattle.event_state.specs.States.{speakers, state}
 use Rattle.event_state.proofs.Idleness.{unlinked}
 use Rattle.event_core.proofs.Tellings.{some, told_alike}
 
--- a message is the same as itself
-pub same_as_itself : (m : Option Route) → same_message m m ≡ true
-same_as_itself None = refl
-same_as_itself (Some h) = and_from _ _ (bytes_eq_self h.path) (and_from _ _ (and_from _ _ (eq-eqb h.tag.asn h.tag.asn refl) (eq-eqb h.tag.value h.tag.value refl)) (eq-eqb h.pref h.pref refl))
-
 module _ (net : PlainNet) (rules : IsNet net) where
   near : (r u : ℕ) → linked net r u ≡ true → IsIn (neighbours net r) u
   near r u h = linked_neighbour net r u rules h

@@ -109,10 +109,6 @@ OfPairTexts Next config_text evidence_text what = OfRead config_line (config_spe
 abbrev pub OfScenarioText : (Scenario → Said → Type 0) → PlainNet → List ℕ → Said → Type 0
 OfScenarioText Next net scenario_text = OfRead scenario_line (scenario_spelled net scenario_text) Next
 
--- The events for a network are read.
-abbrev pub OfEventsText : (Events → Said → Type 0) → PlainNet → List ℕ → Said → Type 0
-OfEventsText Next net events_text = OfRead events_line (events_spelled net events_text) Next
-
 -- The tables for a network are read.
 abbrev pub OfTablesText : (List (Option Route) → Said → Type 0) → PlainNet → List ℕ → Said → Type 0
 OfTablesText Next net tables_text = OfRead tables_line (tables_spelled net tables_text) Next

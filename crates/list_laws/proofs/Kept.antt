@@ -1,6 +1,6 @@
 -- Numbers that are kept ascend.
-use Rattle.std.proofs.Common.{◌+◌, ◌-◌, ◌<◌, ◌≡◌, ◌≤◌, Bool, ap, arith, cond, false, refl, subst, suc, sym, true, zero, ℕ, ⊎_elim}
-use Rattle.std.proofs.lemmas.Bool.{cases_Bool, cases_order}
+use Rattle.std.proofs.Common.{◌+◌, ◌-◌, ◌<◌, ◌∙◌, ◌≡◌, ◌≤◌, Bool, ap, arith, cond, false, inl, inr, refl, subst, suc, sym, true, zero, ℕ, ⊎_elim}
+use Rattle.std.proofs.lemmas.Bool.{cases_Bool, cases_lt, cases_order}
 use Rattle.list_laws.specs.Counts.{kept_below}
 
 module _ (keep : ℕ → Bool) where
@@ -38,3 +38,31 @@ module _ (keep : ℕ → Bool) where
 pub kept_below_alike : (keep also : ℕ → Bool) (n : ℕ) → ((i : ℕ) → i < n → keep i ≡ also i) → kept_below keep n ≡ kept_below also n
 kept_below_alike keep also zero same = refl
 kept_below_alike keep also (suc n) same = λ i. kept_below_alike keep also n (λ k lt. same k (omega (arith, lt))) i + cond (same n (omega arith) i) 1 0
+
+-- how many are kept, where others are kept besides
+module _ (keep also : ℕ → Bool) where
+  one_besides : (b c : Bool) → (b ≡ true → c ≡ true) → cond b 1 0 ≤ cond c 1 0
+  one_besides true c h = let at = ap {B = ℕ} (λ d. cond d 1 0) (h refl) in omega (arith, at)
+  one_besides false c h = omega arith
+
+  pub kept_below-besides : (n : ℕ) → ((i : ℕ) → i < n → keep i ≡ true → also i ≡ true) → kept_below keep n ≤ kept_below also n
+  kept_below-besides zero h = omega arith
+  kept_below-besides (suc n) h =
+      let rest = kept_below-besides n (λ i lt. h i (omega (arith, lt))) in
+      let here = one_besides (keep n) (also n) (h n (omega arith)) in
+      omega (arith, rest, here)
+
+  pub kept_below-one_more : (n x : ℕ) → ((i : ℕ) → i < n → keep i ≡ true → also i ≡ true) → x < n → keep x ≡ false → also x ≡ true → kept_below keep n < kept_below also n
+  kept_below-one_more zero x h lt f t = absurd (omega (arith, lt))
+  kept_below-one_more (suc n) x h lt f t = elim (cases_lt x n) [
+    | inl less ↦
+        let rest = kept_below-one_more n x (λ i under. h i (omega (arith, under))) less f t in
+        let here = one_besides (keep n) (also n) (h n (omega arith)) in
+        omega (arith, rest, here)
+    | inr ge ↦
+        let same : x ≡ n = omega (arith, lt, ge) in
+        let rest = kept_below-besides n (λ i under. h i (omega (arith, under))) in
+        let off = ap {B = ℕ} (λ b. cond b 1 0) (ap keep (sym same) ∙ f) in
+        let on = ap {B = ℕ} (λ b. cond b 1 0) (ap also (sym same) ∙ t) in
+        omega (arith, rest, off, on)
+  ]

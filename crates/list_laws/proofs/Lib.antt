@@ -8,6 +8,7 @@ pub mod Keys
 pub mod Members
 pub mod Numbers
 pub mod Options
+pub mod Ordered
 pub mod Orders
 pub mod Pieces
 pub mod Positions

@@ -4,7 +4,7 @@ use Rattle.std.proofs.Common.{◌≡◌, ◌≢◌, ◌⊎◌, ℕ, zero, suc, �
 use Rattle.std.specs.Prelude.{◌&&◌, is_none, is_some}
 use Rattle.std.proofs.lemmas.Bool.{and_from, and_parts, both_ways, cases_Bool, cases_lt, cases_order, false_from_ne_true, not-true, not_from_false}
 use Rattle.list_laws.specs.Counts.{kept_below}
-use Rattle.list_laws.proofs.Kept.{kept_below-less}
+use Rattle.list_laws.proofs.Kept.{kept_below-less, kept_below-one_more}
 use Rattle.list_laws.proofs.Options.{cases_Option, is_none_from, is_none_parts, is_some_from, is_some_parts, none_or_some}
 use Rattle.graph_base.specs.Graphs.{PlainGraph, IsGraph}
 use Rattle.graph_base.specs.Least.{least_below}
@@ -13,34 +13,6 @@ use Rattle.graph_base.proofs.Least.{least_exists, least_is_least, least_passes}
 use Rattle.reach_prune.proofs.Keeping.{kept_below_le}
 use Rattle.node_quotient.specs.Quotient.{AreAllToldApart, AreToldApart, IsReduced}
 use Rattle.node_quotient.proofs.Paths.{apart, ends_alike, none_longer, not_apart, path_apart}
-
--- how many are kept, where others are kept besides
-module _ (keep also : ℕ → Bool) where
-  one_besides : (b c : Bool) → (b ≡ true → c ≡ true) → cond b 1 0 ≤ cond c 1 0
-  one_besides true c h = let at = ap {B = ℕ} (λ d. cond d 1 0) (h refl) in omega (arith, at)
-  one_besides false c h = omega arith
-
-  kept_besides : (n : ℕ) → ((i : ℕ) → i < n → keep i ≡ true → also i ≡ true) → kept_below keep n ≤ kept_below also n
-  kept_besides zero h = omega arith
-  kept_besides (suc n) h =
-      let rest = kept_besides n (λ i lt. h i (omega (arith, lt))) in
-      let here = one_besides (keep n) (also n) (h n (omega arith)) in
-      omega (arith, rest, here)
-
-  kept_one_more : (n x : ℕ) → ((i : ℕ) → i < n → keep i ≡ true → also i ≡ true) → x < n → keep x ≡ false → also x ≡ true → kept_below keep n < kept_below also n
-  kept_one_more zero x h lt f t = absurd (omega (arith, lt))
-  kept_one_more (suc n) x h lt f t = elim (cases_lt x n) [
-    | inl less ↦
-        let rest = kept_one_more n x (λ i under. h i (omega (arith, under))) less f t in
-        let here = one_besides (keep n) (also n) (h n (omega arith)) in
-        omega (arith, rest, here)
-    | inr ge ↦
-        let same : x ≡ n = omega (arith, lt, ge) in
-        let rest = kept_besides n (λ i under. h i (omega (arith, under))) in
-        let off = ap {B = ℕ} (λ b. cond b 1 0) (ap keep (sym same) ∙ f) in
-        let on = ap {B = ℕ} (λ b. cond b 1 0) (ap also (sym same) ∙ t) in
-        omega (arith, rest, off, on)
-  ]
 
 module _ (g : PlainGraph) (ok : IsGraph g) where
   -- nodes that no path of so many places tells apart
@@ -103,7 +75,7 @@ module _ (g : PlainGraph) (ok : IsGraph g) where
 
   more_by : (k a b : ℕ) → a < b → b < length g.nodes → apart g ok k a b ≡ false → leads (suc k) b ≡ true → classes k < classes (suc k)
   more_by k a b lt lb e h =
-      kept_one_more (leads k) (leads (suc k)) (length g.nodes) b (leads_longer k) lb (false_from_ne_true _ (λ t. leads_none k b a t lt e)) h
+      kept_below-one_more (leads k) (leads (suc k)) (length g.nodes) b (leads_longer k) lb (false_from_ne_true _ (λ t. leads_none k b a t lt e)) h
 
   more_classes : (k m n : ℕ) → m < length g.nodes → n < length g.nodes → apart g ok k m n ≡ false → apart g ok (suc k) m n ≡ true → classes k < classes (suc k)
   more_classes k m n lm ln e t =

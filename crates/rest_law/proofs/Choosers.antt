@@ -17,15 +17,11 @@ use Rattle.config_base.specs.Lines.{class_of, export_of, import_of, own_route, s
 use Rattle.config_base.proofs.SameTags.{is-same_tag}
 use Rattle.list_laws.proofs.Options.{option_and_then_parts, option_map_parts, option_and_then-never}
 use Rattle.event_base.specs.Speaking.{chosen_by, exported_by, extended, first_of, message, same_message, speakers_of, taken_by}
+use Rattle.event_law.proofs.Messages.{same_as_itself}
 use Rattle.rounds_law.specs.Orders.{AreChoosers}
 use Rattle.world_law.proofs.First.{NoLater, first_covers}
 use Rattle.world_law.proofs.Running.{first_is_given}
 use Rattle.world_law.proofs.Quiet.{are_speakers}
-
--- a message is the same as itself
-alike : (m : Option Route) → same_message m m ≡ true
-alike None = refl
-alike (Some h) = and_from (bytes_eq h.path h.path) _ ((bytes_eq-Decides h.path h.path).1 refl) (and_from (same_tag h.tag h.tag) _ (is-same_tag h.tag h.tag refl) (eq-eqb h.pref h.pref refl))
 
 module _ (net : PlainNet) (policy : PlainPolicy) (config : PlainConfig) (p : PlainPrefix) where
   pub untaken : (r u : ℕ) → taken_by net config p r u None ≡ None
@@ -102,7 +98,7 @@ module _ (net : PlainNet) (policy : PlainPolicy) (config : PlainConfig) (p : Pla
 
   pub are_choosers : IsNet net → AreChoosers (speakers_of net policy config p) (taken_by net config p) (NoLater net) (λ h. length h.path)
   are_choosers rules = record {
-    alike = alike;
+    alike = same_as_itself;
     unsent = unsent;
     untaken = untaken;
     own = own;

@@ -4,7 +4,7 @@ use Rattle.event_base.specs.World.{at, tell}
 use Rattle.event_state.specs.States.{speakers, state}
 use Rattle.event_core.proofs.Loops.{same_speakers}
 use Rattle.event_core.proofs.Opened.{told_below_next, told_everywhere}
-use Rattle.event_core.proofs.Steps.{same_as_itself}
+use Rattle.event_law.proofs.Messages.{same_as_itself}
 use Rattle.event_core.proofs.start.tell_all.Goals as goal
 
 pub loop-number-preserved : goal.loop-number-preserved

@@ -3,7 +3,7 @@ use Rattle.std.proofs.lemmas.Result.{on_ok_weaker}
 use Rattle.event_base.specs.World.{is, tell}
 use Rattle.event_state.specs.States.{speakers, state}
 use Rattle.event_core.proofs.Loops.{same_speakers}
-use Rattle.event_core.proofs.Steps.{same_as_itself}
+use Rattle.event_law.proofs.Messages.{same_as_itself}
 use Rattle.event_core.proofs.Tellings.{told_both}
 use Rattle.event_core.proofs.telling.tell_both.Goals as goal
 
