@@ -1,5 +1,5 @@
 -- Where the nodes of a graph stand, and how a path is followed in it.
-use Rattle.std.specs.Prelude.{◌≡◌, ℕ, Bool, true, false, ◌&&◌, ◌==◌, IsTrue, List, [], ◌∷◌, Option, Some, None, option_map, option_and_then, unwrap_or, slice_get}
+use Rattle.std.specs.Prelude.{◌≡◌, ℕ, Bool, false, ◌&&◌, ◌==◌, IsTrue, List, [], ◌∷◌, Option, None, option_map, option_and_then, unwrap_or, slice_get}
 use Rattle.std.specs.List.{list_any, find}
 use Rattle.graph_base.specs.declared.graph.Node.{Node}
 use Rattle.graph_base.specs.Graphs.{PlainGraph}

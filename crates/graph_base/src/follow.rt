@@ -1,12 +1,12 @@
 //! Steps that are followed one by one.
-ghost use Rattle.std.specs.Prelude.{◌≡◌, ℕ, ◌<◌, IfOk, IsTrue, length};
+ghost use Rattle.std.specs.Prelude.{◌≡◌, ℕ, ◌<◌, IfOk, IsTrue, length, slice_index_or};
 ghost use Rattle.graph_base.specs.Runs.{has_step, is_start as is_start_of, step_at};
 ghost use Rattle.graph_base.specs.Walks.{IsEnteredFromBefore, IsFirstBefore, IsShownWalk};
 
 use crate::graph::Graph;
 use net_base::{List, Loc};
 use outside::NoMemory;
-use std::alloc::Global;
+use std::alloc::{AllocError, Global};
 
 /// The node to which a node steps at a location.
 pub fn step_of(graph: &Graph, node: u32, at: Loc) -> Option<u32>
@@ -28,11 +28,12 @@ pub fn walk_of(alloc: Global, graph: &Graph, node: u32) -> Result<List<Loc>, NoM
     requires entered { IsEnteredFromBefore graph.now }
     ensures { IfOk result (λ walk. IsShownWalk graph.now node walk) }
 {
+    let firsts = firsts_before(alloc, graph)?;
     let mut walk = List::new(alloc);
     let mut last = node;
     'back: while !is_start(graph, last) {
         walk.push(graph.location(last))?;
-        last = first_before(graph, last);
+        last = firsts[last as usize];
     }
     walk.push(graph.location(last))?;
     Ok(walk)
@@ -44,18 +45,15 @@ fn is_start(graph: &Graph, node: u32) -> bool
     graph.starts().contains(&node)
 }
 
-/// The least-numbered node that steps to a node, which is less than the node.
-fn first_before(graph: &Graph, node: u32) -> u32
-    requires node { node < length graph.now.nodes }
-    requires lesser { (m : ℕ) × (m < node) × IsTrue (has_step graph.now m node) }
-    ensures lesser { result < node }
-    ensures first { IsFirstBefore graph.now result node }
+/// For each node the least-numbered node that steps to it, and the greatest number where no node does.
+fn firsts_before(alloc: Global, graph: &Graph) -> Result<Vec<u32>, AllocError>
+    ensures size { IfOk result (λ firsts. length firsts.items ≡ length graph.now.nodes) }
+    ensures first { IfOk result (λ firsts. (m n : ℕ) → IsTrue (has_step graph.now m n) → IsFirstBefore graph.now (slice_index_or firsts.items n 0) n) }
 {
-    let mut first = node;
+    let mut firsts = vec![in alloc; u32::MAX; graph.nodes().len()]?;
     for (from, to) in graph.steps() {
-        if *to == node {
-            first = first.min(*from);
-        }
+        let first = &mut firsts[*to as usize];
+        *first = (*first).min(*from);
     }
-    first
+    Ok(firsts)
 }

@@ -1,7 +1,7 @@
 //! Lists of nodes, most of which are short.
 #![tactic(auto)]
 
-ghost use Rattle.std.specs.Prelude.{◌≡◌, [], ◌∷◌, ◌++◌, IfOk, OnErr, OnOk, replicate};
+ghost use Rattle.std.specs.Prelude.{◌≡◌, [], ◌∷◌, ◌++◌, IfOk, OnErr, OnOk, length, replicate};
 
 use smallvec::SmallVec;
 use std::alloc::{AllocError, Global};
@@ -34,6 +34,15 @@ impl NodeList {
         }
     }
 
+    /// A list with no node that has room for so many.
+    pub fn with_room(alloc: Global, room: usize) -> Result<NodeList, AllocError>
+        ensures { IfOk result (λ list. list ≡ []) }
+    {
+        Ok(NodeList {
+            nodes: SmallVec::with_capacity(alloc, room)?,
+        })
+    }
+
     /// Puts a node behind the others. After an error the list is as before.
     pub fn push(&mut self, node: u32) -> Result<(), AllocError>
         ensures ok { OnOk result (self.new ≡ self.old ++ node ∷ []) }
@@ -58,6 +67,17 @@ pub fn empty_lists(alloc: Global, size: usize) -> Result<Vec<NodeList>, AllocErr
     let mut lists = Vec::new(alloc);
     for _ in 0..size {
         lists.push(NodeList::new(alloc))?;
+    }
+    Ok(lists)
+}
+
+/// Lists with no node, each with room for so many.
+pub fn lists_with_room(alloc: Global, rooms: &[u32]) -> Result<Vec<NodeList>, AllocError>
+    ensures { IfOk result (λ lists. lists.items ≡ replicate (length rooms.now) []) }
+{
+    let mut lists = Vec::with_capacity(alloc, rooms.len())?;
+    for room in rooms {
+        lists.push(NodeList::with_room(alloc, *room as usize)?)?;
     }
     Ok(lists)
 }

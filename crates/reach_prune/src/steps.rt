@@ -4,9 +4,9 @@ ghost use Rattle.reach_prune.specs.Searches.{AreLists, is_listed};
 ghost use Rattle.reach_prune.specs.Ways.{ends, nth, step_along};
 
 use graph_base::Graph;
-use node_list::{NodeList, empty_lists};
+use node_list::{NodeList, lists_with_room};
 use outside::NoMemory;
-use std::alloc::Global;
+use std::alloc::{AllocError, Global};
 
 /// Which way steps are followed.
 #[derive(Clone, Copy)]
@@ -47,10 +47,23 @@ pub fn neighbours(alloc: Global, graph: &Graph, way: Way) -> Result<Vec<NodeList
     ensures lists { IfOk result (λ lists. AreLists lists.items) }
     ensures steps { IfOk result (λ lists. (a b : ℕ) → is_listed lists.items a b ≡ step_along way graph.now a b) }
 {
-    let mut lists = empty_lists(alloc, graph.nodes().len())?;
+    let mut lists = lists_with_room(alloc, &step_counts(alloc, graph, way)?)?;
     for step in graph.steps() {
         let (node, neighbour) = way.ends(*step);
         lists[node as usize].push(neighbour)?;
     }
     Ok(lists)
+}
+
+/// How many steps lead from each node this way: the room that its list of neighbours needs.
+fn step_counts(alloc: Global, graph: &Graph, way: Way) -> Result<Vec<u32>, AllocError>
+    ensures { IfOk result (λ counts. length counts.items ≡ length graph.now.nodes) }
+{
+    let mut counts = vec![in alloc; 0u32; graph.nodes().len()]?;
+    for step in graph.steps() {
+        let (node, _) = way.ends(*step);
+        let count = &mut counts[node as usize];
+        *count = count.saturating_add(1);
+    }
+    Ok(counts)
 }

@@ -6,5 +6,5 @@ pub returns-clause-lists : goal.returns-clause-lists
 returns-clause-lists c = λ a b h.
     let g = c.args.graph.now in
     let steps = listed_steps c.args.way g _ _ _ a b c.steps-step-items.ensures.steps c.loop-step-test.false (c.loop-step.invariant.steps a b) in
-    let node : b < length g.nodes = step_along_node c.args.way g a b c.nodes.ensures.rules (sym steps ∙ h) in
+    let node : b < length g.nodes = step_along_node c.args.way g a b c.steps-step-items.ensures.rules (sym steps ∙ h) in
     omega (arith, c.loop-step.invariant.size)
