@@ -1,6 +1,7 @@
 -- Nodes that are joined step to the same classes, so a split by those that step to a class keeps them together.
 use Rattle.std.proofs.Common.{◌≡◌, ℕ, ◌<◌, Bool, true, false, List, length, refl, sym, ap, ◌∙◌, subst, arith}
-use Rattle.std.specs.Prelude.{All, if◌then◌else◌, slice_index_or}
+use Rattle.std.specs.Prelude.{All, if◌then◌else◌, not, slice_index_or}
+use mathlib.Core.Bool.{beq}
 use Rattle.list_laws.proofs.Truth.{same_tests}
 use Rattle.graph_base.specs.Graphs.{PlainGraph, IsGraph}
 use Rattle.graph_base.specs.Refuting.{HasSingleSteps}
@@ -16,6 +17,13 @@ use Rattle.node_quotient.proofs.Least.{joined_steps, joined_sym}
 use Rattle.node_quotient.proofs.Turns.{among_get}
 
 -- where no other node was marked, those that are marked now are these, and none is once their marks are taken away
+-- a mark is as it is meant to be where the two are one
+pub marked_as : (mark meant : Bool) → (if meant then mark else not mark) ≡ beq mark meant
+marked_as true true = refl
+marked_as true false = refl
+marked_as false true = refl
+marked_as false false = refl
+
 pub marked_alone : (b m : Bool) → m ≡ false → (if b then true else m) ≡ b
 marked_alone true m h = refl
 marked_alone false m h = h

@@ -3,20 +3,21 @@ ghost use Rattle.std.specs.Prelude.{◌≡◌, ◌≤◌, ◌<◌, ℕ, IfOk, le
 ghost use Rattle.graph_base.specs.Refuting.{HasSingleSteps};
 ghost use Rattle.graph_base.specs.Graphs.{IsGraph, PlainGraph};
 ghost use Rattle.graph_base.specs.Runs.{has_step};
-ghost use Rattle.reach_prune.specs.Searches.{AreLists, is_listed};
-ghost use Rattle.node_quotient.specs.Alike.{AreInside, class_in};
+ghost use Rattle.reach_prune.specs.Searches.{is_listed};
+ghost use Rattle.node_quotient.specs.Alike.{AreFirstSame, AreInside, class_in};
 ghost use Rattle.node_quotient.specs.Quotient.{AreLeast};
 ghost use Rattle.node_quotient.specs.Rounds.{AreClasses};
 
-use crate::first::first_classes;
 use crate::partition::split_classes;
 use crate::round::next_round;
 use graph_base::Graph;
 use node_list::NodeList;
+use outside::NoMemory;
+use reach_prune::{Way, neighbours};
 use std::alloc::{AllocError, Global};
 
 /// For each node the least one that nothing tells apart from it, where `classes` are the first ones.
-pub fn settled_classes(
+fn settled_classes(
     alloc: Global,
     graph: &Graph,
     lists: &[NodeList],
@@ -42,25 +43,17 @@ pub fn settled_classes(
     Ok(least)
 }
 
-/// For each node the least one that nothing tells apart from it; `lists` are its steps, and `before` the nodes that step to it.
-pub fn least_joined(
-    alloc: Global,
-    graph: &Graph,
-    lists: &[NodeList],
-    before: &[NodeList],
-) -> Result<Vec<u32>, AllocError>
+/// For each node the least one that nothing tells apart from it, where `first` are the first ones of their location and rank.
+pub fn least_joined(alloc: Global, graph: &Graph, first: Vec<u32>) -> Result<Vec<u32>, NoMemory>
     requires graph { IsGraph graph.now }
     requires single { HasSingleSteps graph.now }
-    requires size { length lists.now ≡ length graph.now.nodes }
-    requires inside { AreInside lists.now (length graph.now.nodes) }
-    requires steps { (a b : ℕ) → is_listed lists.now a b ≡ has_step graph.now a b }
-    requires rows { length before.now ≡ length graph.now.nodes }
-    requires nodes { AreLists before.now }
-    requires before { (a b : ℕ) → is_listed before.now a b ≡ has_step graph.now b a }
+    requires first { AreFirstSame graph.now (length graph.now.nodes) first.items }
     ensures size { IfOk result (λ least. length least.items ≡ length graph.now.nodes) }
     ensures least { IfOk result (λ least. AreLeast graph.now (class_in least.items)) }
 {
-    let first = first_classes(alloc, graph)?;
-    let classes = split_classes(alloc, graph, before, first)?;
-    settled_classes(alloc, graph, lists, classes)
+    let before = neighbours(alloc, graph, Way::Backward)?;
+    let classes = split_classes(alloc, graph, &before, first)?;
+    let lists = neighbours(alloc, graph, Way::Forward)?;
+    let least = settled_classes(alloc, graph, &lists, classes)?;
+    Ok(least)
 }

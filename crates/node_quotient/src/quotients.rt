@@ -4,13 +4,14 @@ ghost use Rattle.graph_base.specs.Refuting.{HasSingleSteps};
 ghost use Rattle.graph_base.specs.Graphs.{IsGraph};
 ghost use Rattle.reach_prune.specs.Searches.{is_marked};
 ghost use Rattle.node_quotient.specs.Alike.{class_in};
-ghost use Rattle.node_quotient.specs.Quotient.{IsQuotient};
+ghost use Rattle.node_quotient.specs.Quotient.{AreLeast, IsQuotient};
 
+use crate::first::{first_classes, is_each_alone};
 use crate::joined::least_joined;
 use graph_base::{Graph, Node};
 use net_base::List;
 use outside::NoMemory;
-use reach_prune::{Way, kept, neighbours};
+use reach_prune::kept;
 use std::alloc::{AllocError, Global};
 
 /// Marks the nodes that are the least of their classes.
@@ -41,20 +42,33 @@ fn steps_led(
     Ok(led)
 }
 
+/// The graph in which steps lead to the least nodes alone, and only these are left.
+fn led_to_least(alloc: Global, graph: &Graph, least: &[u32]) -> Result<Graph, NoMemory>
+    requires size { length least.now ≡ length graph.now.nodes }
+    requires least { AreLeast graph.now (class_in least.now) }
+    ensures { IfOk result (IsQuotient graph.now) }
+{
+    let nodes = List::from_vec(Vec::from_slice(alloc, graph.nodes())?);
+    let starts = List::from_vec(Vec::from_slice(alloc, graph.starts())?);
+    let steps = steps_led(alloc, graph.steps(), least)?;
+    let led = Graph::new(nodes, starts, steps);
+    let marks = are_least(alloc, least)?;
+    let joined = kept(alloc, &led, &marks)?;
+    Ok(joined)
+}
+
 /// The graph in which the nodes of one location are joined that nothing onward tells apart. A joined node has the
-/// least number of its members, and the numbers close up in order.
+/// least number of its members, and the numbers close up in order. Where no two nodes have one location and one rank,
+/// nothing can be joined.
 pub fn quotient(alloc: Global, graph: &Graph) -> Result<Graph, NoMemory>
     requires { HasSingleSteps graph.now }
     ensures { IfOk result (λ q. IsQuotient graph.now q) }
 {
-    let nodes = List::from_vec(Vec::from_slice(alloc, graph.nodes())?);
-    let starts = List::from_vec(Vec::from_slice(alloc, graph.starts())?);
-    let lists = neighbours(alloc, graph, Way::Forward)?;
-    let before = neighbours(alloc, graph, Way::Backward)?;
-    let least = least_joined(alloc, graph, &lists, &before)?;
-    let marks = are_least(alloc, &least)?;
-    let steps = steps_led(alloc, graph.steps(), &least)?;
-    let led = Graph::new(nodes, starts, steps);
-    let joined = kept(alloc, &led, &marks)?;
-    Ok(joined)
+    let first = first_classes(alloc, graph)?;
+    if is_each_alone(&first) {
+        let same = graph.copy(alloc)?;
+        return Ok(same);
+    }
+    let least = least_joined(alloc, graph, first)?;
+    led_to_least(alloc, graph, &least)
 }

@@ -1,10 +1,24 @@
-use Rattle.std.proofs.Common.{◌≡◌, ◌<◌, length, ap, sym, subst, ◌∙◌, arith}
+use Rattle.std.proofs.Common.{◌≡◌, ◌<◌, length, ap, sym, subst, ◌∙◌, arith, rules}
 use Rattle.std.specs.List.{AllByRecursion}
 use Rattle.list_laws.proofs.Each.{AllByRecursion-append_parts}
+use Rattle.std.proofs.lemmas.Grind.{common_steps}
+use Rattle.node_quotient.specs.Alike.{class_in}
+use Rattle.node_quotient.specs.Rounds.{AreClasses}
 use Rattle.node_quotient.specs.Partitions.{IsPartition}
 use Rattle.node_quotient.proofs.Hits.{split_are_classes}
 use Rattle.node_quotient.proofs.partition.split_classes.Goals as goal
 use Rattle.node_quotient.proofs.partition.split_classes.Goals.{in-Some+in_ok-split_by, in_default}
+
+pub loop-turn-init : goal.loop-turn-init
+loop-turn-init c =
+    let given : length c.args.classes.items ≡ length c.nodes-size.result.now = c.requires.given ∙ sym (ap length c.nodes-size.ensures.nodes) in
+    record {
+      end = omega arith;
+      marks = first_of (search rules, grind (arith, common_steps));
+      clear = first_of (search rules, grind (arith, common_steps));
+      partition = subst (λ n. IsPartition n c.in_ok-partition.partition) given c.in_ok-partition.ensures.partition;
+      classes = subst (λ xs. AreClasses c.args.graph.now (class_in xs)) (sym c.in_ok-partition.ensures.classes) c.requires.classes;
+    }
 
 pub loop-turn-preserved : goal.loop-turn-preserved
 loop-turn-preserved c =

@@ -1,6 +1,7 @@
 use Rattle.std.proofs.Common.{◌≡◌, ◌<◌, [], ℕ, length, List, ◌∷◌, ◌++◌, slice_index_or, ap, ◌∙◌, arith}
 use Rattle.node_quotient.specs.Alike.{class_in, list_of}
 use Rattle.std.proofs.lemmas.List.{get_or_default}
+use Rattle.node_quotient.proofs.Stages.{ended}
 use Rattle.node_quotient.proofs.Turns.{founders_inside, read, turn_found, turn_founder}
 use Rattle.node_quotient.proofs.round.next_round.Goals as goal
 use Rattle.node_quotient.proofs.round.next_round.Goals.{in-Some+in_ok-push-in-Some, in-None+in_ok-push-in-None+in_ok-push-in-None-2}
@@ -42,3 +43,8 @@ loop-node-preserved c =
             ∙ got_list c.loop-node.founders.items (class_in c.args.least.now c.loop-node.node) _ (omega (arith, rows, inside)))));
       }
     ]
+
+pub returns : goal.returns
+returns c =
+    ended c.args.lists.now c.args.least.now c.loop-node.node c.loop-node.founders.items c.loop-node.next.items c.loop-node-test.false
+    c.loop-node.invariant.end c.loop-node.invariant.stage
