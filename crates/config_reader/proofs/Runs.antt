@@ -24,8 +24,7 @@ use Rattle.config_reader.specs.Order.{is_below, is_above, ascends, import_key, e
 use Rattle.config_reader.specs.declared.reading.OpenRouter.{OpenRouter}
 use Rattle.config_reader.specs.declared.reading.Reading.{Reading}
 use Rattle.config_reader.specs.declared.reading.Misplaced.{Misplaced}
-use Rattle.config_reader.specs.Reading.{after, with_class, with_router, with_own, own_into, with_neighbour, neighbour_into, with_import, import_in_block, import_into}
-use Rattle.config_reader.specs.Reading.{with_export, export_in_block, export_into, with_end, closed, stood_before}
+use Rattle.config_reader.specs.Reading.{after, with_class, with_router, own_into, neighbour_into, import_into, export_into, in_neighbour, in_router, with_end, closed, stood_before}
 use Rattle.line_laws.proofs.Runs.{run as run_by, run_step, run_append}
 use Rattle.config_reader.proofs.Ascending.{last_later}
 use Rattle.config_reader.proofs.Steps.{with_block}
@@ -99,7 +98,7 @@ ended o s = record { router = closed o.router o.block; names = o.names ++ s.name
 
 module _ (cs : List (List PlainPattern)) (rs : List RouterConfig) where
   head_step : (o : OpenRouter) (s : Session) → list_any (bytes_eq s.name) o.names ≡ false → after (at cs rs (Some o)) (head_of s) ≡ Ok (at cs rs (Some (begun o s)))
-  unfolding with_neighbour neighbour_into
+  unfolding in_router neighbour_into
   head_step o s fresh = by s.peer
     where
       by : (b : Bool) → after (at cs rs (Some o)) (if b then line.Peer s.name s.asn else line.Session s.name s.asn)
@@ -110,7 +109,7 @@ module _ (cs : List (List PlainPattern)) (rs : List RouterConfig) where
 
   import_step : (o : OpenRouter) (s : Session) (done : List Import) (x : Import) → ascends import_key done (import_key x) ≡ true
       → after (at cs rs (Some (with_block o (block_of s done [])))) (import_of s.peer x) ≡ Ok (at cs rs (Some (with_block o (block_of s (done ++ x ∷ []) []))))
-  unfolding with_import import_in_block import_into
+  unfolding in_router in_neighbour import_into
   import_step o s done x up = by s.peer
     where
       by : (b : Bool) → after (at cs rs (Some (with_block o (block_by b s done)))) (import_of b x) ≡ Ok (at cs rs (Some (with_block o (block_by b s (done ++ x ∷ [])))))
@@ -119,7 +118,7 @@ module _ (cs : List (List PlainPattern)) (rs : List RouterConfig) where
 
   export_step : (o : OpenRouter) (s : Session) (imports : List Import) (done : List Export) (x : Export) → ascends export_key done (export_key x) ≡ true
       → after (at cs rs (Some (with_block o (block_of s imports done)))) (line.Export x) ≡ Ok (at cs rs (Some (with_block o (block_of s imports (done ++ x ∷ [])))))
-  unfolding with_export export_in_block export_into
+  unfolding in_router in_neighbour export_into
   export_step o s imports done x up = rw up refl
 
   run_session : (count : ℕ) (o : OpenRouter) (s : Session) → list_any (bytes_eq s.name) o.names ≡ false → IsSession count s
@@ -177,7 +176,7 @@ module _ (cs : List (List PlainPattern)) (rs : List RouterConfig) where
 
   own_step : (r : RouterConfig) (done : List Origination) (x : Origination) → ascends origination_key done (origination_key x) ≡ true
       → after (at cs rs (Some (headed r done))) (line.Origination x) ≡ Ok (at cs rs (Some (headed r (done ++ x ∷ []))))
-  unfolding with_own own_into
+  unfolding in_router own_into
   own_step r done x up = rw up refl
 
   end_step : (q : OpenRouter) → after (at cs rs (Some q)) line.End ≡ Ok (at cs (rs ++ closed q.router q.block ∷ []) None)

@@ -1,5 +1,5 @@
 -- The numbers of the faults, their words and their values.
-use Rattle.std.specs.Prelude.{ℕ, List, [], ◌++◌, Result, codes}
+use Rattle.std.specs.Prelude.{ℕ, List, [], ◌++◌, codes}
 use Rattle.std.specs.Fmt.{decimal}
 use Rattle.text_faults.specs.Telling.{Telling}
 use Rattle.config_reader.specs.declared.fault.ConfigFault.{ConfigFault}

@@ -1,5 +1,5 @@
 -- What was read so far, and what the next line makes of it.
-use Rattle.std.specs.Prelude.{ℕ, ◌+◌, ◌&&◌, ◌||◌, ◌==◌, not, Bool, true, false, List, [], ◌∷◌, ◌++◌, length, is_none, Option, Some, None, Result, Ok}
+use Rattle.std.specs.Prelude.{ℕ, ◌+◌, ◌&&◌, ◌||◌, ◌==◌, not, Bool, true, false, List, [], ◌∷◌, ◌++◌, length, is_none, Option, Some, None, Result, Ok, Err, ⊤}
 use Rattle.std.specs.List.{list_any}
 use Rattle.std.specs.Str.{bytes_eq}
 use Rattle.net_base.specs.Prefixes.{PlainPattern}
@@ -15,7 +15,7 @@ use Rattle.config_lines.specs.declared.line.Line.TheVariants as line
 use Rattle.config_reader.specs.declared.reading.OpenRouter.{OpenRouter}
 use Rattle.config_reader.specs.declared.reading.Reading.{Reading}
 use Rattle.config_reader.specs.declared.reading.Misplaced.{Misplaced}
-use Rattle.config_reader.specs.declared.reading.Misplaced.TheVariants.{Order, Twice, NoMemory}
+use Rattle.config_reader.specs.declared.reading.Misplaced.TheVariants.{Order, Twice}
 use Rattle.config_reader.specs.Order.{ascends, import_key, export_key}
 
 -- nothing was read
@@ -28,10 +28,12 @@ is_next None classes = false
 is_next (Some n) classes = n == classes + 1
 
 -- the lines of the classes come first, numbered from 1
+abbrev pub takes_class : Reading → Option ℕ → Bool
+takes_class r number = (is_none r.opened && length r.routers == 0) && is_next number (length r.classes)
+
 unfoldable pub with_class : Reading → Option ℕ → List PlainPattern → Result Reading Misplaced
 with_class r number patterns = do
-  _ ← unless Order (is_none r.opened && length r.routers == 0)
-  _ ← unless Order (is_next number (length r.classes))
+  _ ← unless Order (takes_class r number)
   Ok (record { classes = r.classes ++ patterns ∷ []; routers = r.routers; opened = r.opened })
 
 -- the name, the AS number or the identifier is that of this router
@@ -43,10 +45,14 @@ abbrev pub stood_before : List ℕ → ℕ → ℕ → List RouterConfig → Boo
 stood_before name asn id routers = list_any (same_router name asn id) routers
 
 -- a router's block begins where none is open
+abbrev pub takes_router : Reading → List ℕ → ℕ → ℕ → Result ⊤ Misplaced
+takes_router r name asn id = do
+  _ ← unless Order (is_none r.opened)
+  unless Twice (not (stood_before name asn id r.routers))
+
 unfoldable pub with_router : Reading → List ℕ → ℕ → ℕ → Result Reading Misplaced
 with_router r name asn id = do
-  _ ← unless Order (is_none r.opened)
-  _ ← unless Twice (not (stood_before name asn id r.routers))
+  _ ← takes_router r name asn id
   Ok (record { classes = r.classes; routers = r.routers; opened = Some (record { router = record { name = name; asn = asn; id = id; own = []; sessions = [] }; names = []; block = None }) })
 
 -- the originate lines come before the neighbours, and ascend
@@ -54,13 +60,6 @@ unfoldable pub own_into : OpenRouter → Origination → Result OpenRouter Mispl
 own_into now own = do
   _ ← unless Order (is_none now.block && ascends origination_key now.router.own (origination_key own))
   Ok (record { router = record now.router { own = now.router.own ++ own ∷ [] }; names = now.names; block = now.block })
-
--- into the router's block that is open
-unfoldable pub with_own : Reading → Origination → Result Reading Misplaced
-with_own r own = do
-  now ← or_fault Order r.opened
-  now ← own_into now own
-  Ok (record { classes = r.classes; routers = r.routers; opened = Some now })
 
 -- with the block that was open
 abbrev pub closed : RouterConfig → Option Session → RouterConfig
@@ -72,13 +71,6 @@ unfoldable pub neighbour_into : Bool → OpenRouter → List ℕ → ℕ → Res
 neighbour_into peer now name asn = do
   _ ← unless Twice (not (list_any (bytes_eq name) now.names))
   Ok (record { router = closed now.router now.block; names = now.names ++ name ∷ []; block = Some (record { name = name; asn = asn; peer = peer; imports = []; exports = [] }) })
-
--- in the router's block that is open
-unfoldable pub with_neighbour : Bool → Reading → List ℕ → ℕ → Result Reading Misplaced
-with_neighbour peer r name asn = do
-  now ← or_fault Order r.opened
-  now ← neighbour_into peer now name asn
-  Ok (record { classes = r.classes; routers = r.routers; opened = Some now })
 
 abbrev pub same_kind : Bool → Bool → Bool
 same_kind true b = b
@@ -97,30 +89,32 @@ export_into s export = do
   _ ← unless Order (ascends export_key s.exports (export_key export))
   Ok (record s { exports = s.exports ++ export ∷ [] })
 
+-- a neighbour's block has entries alone
+abbrev pub entry_into : Session → Line → Result Session Misplaced
+entry_into s (line.Import rule) = import_into false s rule
+entry_into s (line.PeerImport rule) = import_into true s rule
+entry_into s (line.Export export) = export_into s export
+entry_into s _ = Err Order
+
 -- into the neighbour's block that is open
-unfoldable pub import_in_block : Bool → OpenRouter → Import → Result OpenRouter Misplaced
-import_in_block peer now rule = do
+unfoldable pub in_neighbour : OpenRouter → Line → Result OpenRouter Misplaced
+in_neighbour now l = do
   s ← or_fault Order now.block
-  s ← import_into peer s rule
+  s ← entry_into s l
   Ok (record { router = now.router; names = now.names; block = Some s })
 
-unfoldable pub export_in_block : OpenRouter → Export → Result OpenRouter Misplaced
-export_in_block now export = do
-  s ← or_fault Order now.block
-  s ← export_into s export
-  Ok (record { router = now.router; names = now.names; block = Some s })
+-- a router's block goes on: with a route of its own, with a neighbour, or in a neighbour's block
+abbrev pub inside : OpenRouter → Line → Result OpenRouter Misplaced
+inside now (line.Origination own) = own_into now own
+inside now (line.Session name asn) = neighbour_into false now name asn
+inside now (line.Peer name asn) = neighbour_into true now name asn
+inside now l = in_neighbour now l
 
--- in the router's block that is open
-unfoldable pub with_import : Bool → Reading → Import → Result Reading Misplaced
-with_import peer r rule = do
+-- into the router's block that is open
+unfoldable pub in_router : Reading → Line → Result Reading Misplaced
+in_router r l = do
   now ← or_fault Order r.opened
-  now ← import_in_block peer now rule
-  Ok (record { classes = r.classes; routers = r.routers; opened = Some now })
-
-unfoldable pub with_export : Reading → Export → Result Reading Misplaced
-with_export r export = do
-  now ← or_fault Order r.opened
-  now ← export_in_block now export
+  now ← inside now l
   Ok (record { classes = r.classes; routers = r.routers; opened = Some now })
 
 -- the router's block that is open ends
@@ -133,10 +127,5 @@ with_end r = do
 abbrev pub after : Reading → Line → Result Reading Misplaced
 after r (line.Class number patterns) = with_class r number patterns
 after r (line.Router name asn id) = with_router r name asn id
-after r (line.Origination own) = with_own r own
-after r (line.Session name asn) = with_neighbour false r name asn
-after r (line.Peer name asn) = with_neighbour true r name asn
-after r (line.Import rule) = with_import false r rule
-after r (line.PeerImport rule) = with_import true r rule
-after r (line.Export export) = with_export r export
 after r line.End = with_end r
+after r l = in_router r l

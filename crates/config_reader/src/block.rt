@@ -1,17 +1,19 @@
 //! The block of a router that is being read, and what the next line makes of it.
 ghost use Rattle.std.specs.Prelude.{◌≡◌};
 ghost use Rattle.net_base.specs.Gives.{GivesUnless};
-ghost use Rattle.config_reader.specs.Reading.{closed, own_into, neighbour_into, import_into, export_into, import_in_block, export_in_block};
+ghost use Rattle.config_reader.specs.Reading.{closed, own_into, neighbour_into, import_into, export_into, entry_into};
+ghost use Rattle.config_reader.specs.Reading.{in_neighbour as within_neighbour, inside as inside_block};
 
 use crate::order::{export_ascends, import_ascends, origination_ascends};
 use crate::reading::{Misplaced, OpenRouter};
 use config_base::{Export, Import, Origination, RouterConfig, Session};
+use config_lines::Line;
 use net_base::{List, Name};
 use std::alloc::Global;
 
-/// The block of a router with one more route of its own.
+// The block of a router with one more route of its own.
 #[tactic(auto, unfolding(crate::specs::Reading::own_into))]
-pub fn push_origination(current: OpenRouter, line: Origination) -> Result<OpenRouter, Misplaced>
+fn push_origination(current: OpenRouter, line: Origination) -> Result<OpenRouter, Misplaced>
     ensures { GivesUnless Misplaced.NoMemory (λ o. o) result (own_into current line) }
 {
     let OpenRouter {
@@ -46,9 +48,9 @@ fn close(mut router: RouterConfig, block: Option<Session>) -> Result<RouterConfi
     }
 }
 
-/// The block of a router, in which that of a neighbour begins.
+// The block of a router, in which that of a neighbour begins.
 #[tactic(auto, unfolding(crate::specs::Reading::neighbour_into))]
-pub fn begin_block(
+fn begin_block(
     alloc: Global,
     current: OpenRouter,
     peer: bool,
@@ -106,10 +108,22 @@ fn add_export(mut session: Session, line: Export) -> Result<Session, Misplaced>
     Ok(session)
 }
 
-/// The block of a router with one more import in that of a neighbour.
-#[tactic(auto, unfolding(crate::specs::Reading::import_in_block))]
-pub fn push_import(current: OpenRouter, peer: bool, line: Import) -> Result<OpenRouter, Misplaced>
-    ensures { GivesUnless Misplaced.NoMemory (λ o. o) result (import_in_block peer current line) }
+// The block of a neighbour with one more line.
+fn add_entry(session: Session, line: Line) -> Result<Session, Misplaced>
+    ensures { GivesUnless Misplaced.NoMemory (λ s. s) result (entry_into session line) }
+{
+    match line {
+        Line::Import(rule) => add_import(session, false, rule),
+        Line::PeerImport(rule) => add_import(session, true, rule),
+        Line::Export(export) => add_export(session, export),
+        _ => Err(Misplaced::Order),
+    }
+}
+
+// The block of a router with one more line in that of a neighbour.
+#[tactic(auto, unfolding(crate::specs::Reading::in_neighbour))]
+fn in_neighbour(current: OpenRouter, line: Line) -> Result<OpenRouter, Misplaced>
+    ensures { GivesUnless Misplaced.NoMemory (λ o. o) result (within_neighbour current line) }
 {
     let OpenRouter {
         router,
@@ -119,7 +133,7 @@ pub fn push_import(current: OpenRouter, peer: bool, line: Import) -> Result<Open
     let Some(session) = block else {
         return Err(Misplaced::Order);
     };
-    let session = add_import(session, peer, line)?;
+    let session = add_entry(session, line)?;
     Ok(OpenRouter {
         router,
         names,
@@ -127,25 +141,16 @@ pub fn push_import(current: OpenRouter, peer: bool, line: Import) -> Result<Open
     })
 }
 
-/// The block of a router with one more export in that of a neighbour.
-#[tactic(auto, unfolding(crate::specs::Reading::export_in_block))]
-pub fn push_export(current: OpenRouter, line: Export) -> Result<OpenRouter, Misplaced>
-    ensures { GivesUnless Misplaced.NoMemory (λ o. o) result (export_in_block current line) }
+/// The block of a router with one more line, which doesn't end it.
+pub fn inside(alloc: Global, current: OpenRouter, line: Line) -> Result<OpenRouter, Misplaced>
+    ensures { GivesUnless Misplaced.NoMemory (λ o. o) result (inside_block current line) }
 {
-    let OpenRouter {
-        router,
-        names,
-        block,
-    } = current;
-    let Some(session) = block else {
-        return Err(Misplaced::Order);
-    };
-    let session = add_export(session, line)?;
-    Ok(OpenRouter {
-        router,
-        names,
-        block: Some(session),
-    })
+    match line {
+        Line::Origination(own) => push_origination(current, own),
+        Line::Session(name, asn) => begin_block(alloc, current, false, name, asn),
+        Line::Peer(name, asn) => begin_block(alloc, current, true, name, asn),
+        line => in_neighbour(current, line),
+    }
 }
 
 /// The router whose block ends.

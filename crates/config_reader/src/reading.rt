@@ -1,12 +1,13 @@
 //! What was read so far, and what the next line makes of it.
 ghost use Rattle.std.specs.Prelude.{◌≡◌, ◌==◌, ◌&&◌, is_none, length};
 ghost use Rattle.net_base.specs.Gives.{GivesUnless};
-ghost use Rattle.config_reader.specs.Reading.{opening, is_next as next, with_class, with_router, with_own, with_neighbour, with_import, with_export, with_end, after as after_line};
+ghost use Rattle.config_reader.specs.Reading.{opening, is_next as next, takes_class as takes_class_line, takes_router as takes_router_line, after as after_line};
+ghost use Rattle.config_reader.specs.Reading.{with_class, with_router, in_router, with_end};
 
-use crate::block::{begin_block, closed_router, push_export, push_import, push_origination};
+use crate::block::{closed_router, inside};
 use crate::names::Names;
 use crate::routers::Routers;
-use config_base::{Export, Import, Origination, RouterConfig, Session};
+use config_base::{RouterConfig, Session};
 use config_lines::Line;
 use net_base::{List, Name, Pattern};
 use std::alloc::{AllocError, AllocFailed, Global};
@@ -93,23 +94,49 @@ fn is_before_routers(reading: &Reading) -> bool
     reading.opened.is_none() && reading.routers.is_empty()
 }
 
+// Whether the line of a class with this number may follow.
+fn takes_class(reading: &Reading, number: Option<u32>) -> bool
+    ensures { result ≡ takes_class_line reading.now number }
+{
+    is_before_routers(reading) && is_next(number, reading.classes.as_slice().len())
+}
+
 // The line of a class.
 #[tactic(auto, unfolding(crate::specs::Reading::with_class))]
 fn add_class(
-    mut reading: Reading,
+    reading: Reading,
     number: Option<u32>,
     patterns: List<Pattern>,
 ) -> Result<Reading, Misplaced>
     ensures { GivesUnless Misplaced.NoMemory (λ r. r) result (with_class reading number patterns) }
 {
-    if !is_before_routers(&reading) {
+    if !takes_class(&reading, number) {
         return Err(Misplaced::Order);
     }
-    if !is_next(number, reading.classes.as_slice().len()) {
+    let Reading {
+        mut classes,
+        routers,
+        opened,
+    } = reading;
+    classes.push(patterns)?;
+    Ok(Reading {
+        classes,
+        routers,
+        opened,
+    })
+}
+
+// Whether the head line of a router may follow.
+fn takes_router(reading: &Reading, name: &Name, asn: u32, id: u32) -> Result<(), Misplaced>
+    ensures { result ≡ takes_router_line reading.now name.now asn id }
+{
+    if reading.opened.is_some() {
         return Err(Misplaced::Order);
     }
-    reading.classes.push(patterns)?;
-    Ok(reading)
+    if reading.routers.are_like(name, asn, id) {
+        return Err(Misplaced::Twice);
+    }
+    Ok(())
 }
 
 // The head line of a router.
@@ -123,17 +150,12 @@ fn begin_router(
 ) -> Result<Reading, Misplaced>
     ensures { GivesUnless Misplaced.NoMemory (λ r. r) result (with_router reading name asn id) }
 {
+    takes_router(&reading, &name, asn, id)?;
     let Reading {
         classes,
         routers,
-        opened,
+        opened: _,
     } = reading;
-    if opened.is_some() {
-        return Err(Misplaced::Order);
-    }
-    if routers.are_like(&name, asn, id) {
-        return Err(Misplaced::Twice);
-    }
     let router = RouterConfig {
         name,
         asn,
@@ -153,10 +175,10 @@ fn begin_router(
     })
 }
 
-// An originate line.
-#[tactic(auto, unfolding(crate::specs::Reading::with_own))]
-fn add_origination(reading: Reading, line: Origination) -> Result<Reading, Misplaced>
-    ensures { GivesUnless Misplaced.NoMemory (λ r. r) result (with_own reading line) }
+// A line inside the block of a router.
+#[tactic(auto, unfolding(crate::specs::Reading::in_router))]
+fn continue_router(alloc: Global, reading: Reading, line: Line) -> Result<Reading, Misplaced>
+    ensures { GivesUnless Misplaced.NoMemory (λ r. r) result (in_router reading line) }
 {
     let Reading {
         classes,
@@ -166,76 +188,7 @@ fn add_origination(reading: Reading, line: Origination) -> Result<Reading, Mispl
     let Some(current) = opened else {
         return Err(Misplaced::Order);
     };
-    let current = push_origination(current, line)?;
-    Ok(Reading {
-        classes,
-        routers,
-        opened: Some(current),
-    })
-}
-
-// The head line of a neighbour.
-#[tactic(auto, unfolding(crate::specs::Reading::with_neighbour))]
-fn begin_neighbour(
-    alloc: Global,
-    reading: Reading,
-    peer: bool,
-    name: Name,
-    asn: u32,
-) -> Result<Reading, Misplaced>
-    ensures { GivesUnless Misplaced.NoMemory (λ r. r) result (with_neighbour peer reading name asn) }
-{
-    let Reading {
-        classes,
-        routers,
-        opened,
-    } = reading;
-    let Some(current) = opened else {
-        return Err(Misplaced::Order);
-    };
-    let current = begin_block(alloc, current, peer, name, asn)?;
-    Ok(Reading {
-        classes,
-        routers,
-        opened: Some(current),
-    })
-}
-
-// An import line, in the block of a peer or of a router.
-#[tactic(auto, unfolding(crate::specs::Reading::with_import))]
-fn import(reading: Reading, peer: bool, line: Import) -> Result<Reading, Misplaced>
-    ensures { GivesUnless Misplaced.NoMemory (λ r. r) result (with_import peer reading line) }
-{
-    let Reading {
-        classes,
-        routers,
-        opened,
-    } = reading;
-    let Some(current) = opened else {
-        return Err(Misplaced::Order);
-    };
-    let current = push_import(current, peer, line)?;
-    Ok(Reading {
-        classes,
-        routers,
-        opened: Some(current),
-    })
-}
-
-// An export line.
-#[tactic(auto, unfolding(crate::specs::Reading::with_export))]
-fn export(reading: Reading, line: Export) -> Result<Reading, Misplaced>
-    ensures { GivesUnless Misplaced.NoMemory (λ r. r) result (with_export reading line) }
-{
-    let Reading {
-        classes,
-        routers,
-        opened,
-    } = reading;
-    let Some(current) = opened else {
-        return Err(Misplaced::Order);
-    };
-    let current = push_export(current, line)?;
+    let current = inside(alloc, current, line)?;
     Ok(Reading {
         classes,
         routers,
@@ -271,12 +224,7 @@ pub fn after(alloc: Global, reading: Reading, line: Line) -> Result<Reading, Mis
     match line {
         Line::Class(number, patterns) => add_class(reading, number, patterns),
         Line::Router(name, asn, id) => begin_router(alloc, reading, name, asn, id),
-        Line::Origination(own) => add_origination(reading, own),
-        Line::Session(name, asn) => begin_neighbour(alloc, reading, false, name, asn),
-        Line::Peer(name, asn) => begin_neighbour(alloc, reading, true, name, asn),
-        Line::Import(rule) => import(reading, false, rule),
-        Line::PeerImport(rule) => import(reading, true, rule),
-        Line::Export(line) => export(reading, line),
         Line::End => end_router(alloc, reading),
+        line => continue_router(alloc, reading, line),
     }
 }
