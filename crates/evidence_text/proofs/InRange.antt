@@ -9,14 +9,13 @@ use Rattle.list_laws.proofs.Each.{AllByRecursion-map, AllByRecursion-weaker, All
 use Rattle.list_laws.proofs.Options.{option_and_then_parts, when_parts, unless_parts}
 use Rattle.serde_json.specs.Data.{Data}
 use Rattle.serde_json.specs.Find.{as_number, as_bool, as_u64}
-use Rattle.json_words.specs.Json.{json_of}
 use Rattle.net_base.specs.Steps.{◌>>=◌, or_fault, unless}
 use Rattle.evidence_text.specs.declared.parts.Field.{Field}
 use Rattle.evidence_text.specs.declared.parts.Field.TheVariants as field
 use Rattle.graph_base.specs.Graphs.{IsGraph}
 use Rattle.evidence_base.specs.Evidence.{IsCaseEvidence}
 use Rattle.evidence_text.specs.declared.fault.EvidenceFault.{EvidenceFault}
-use Rattle.evidence_text.specs.declared.fault.EvidenceFault.TheVariants.{NotJson, Shape, Number}
+use Rattle.evidence_text.specs.declared.fault.EvidenceFault.TheVariants.{Shape, Number}
 use Rattle.evidence_text.specs.declared.raw.NodeEntry.{NodeEntry}
 use Rattle.evidence_text.specs.declared.raw.RawCase.{RawCase}
 use Rattle.evidence_text.specs.declared.raw.RawEvidence.{RawEvidence}
@@ -25,7 +24,7 @@ use Rattle.evidence_text.specs.declared.raw.ReadText.{ReadText}
 use Rattle.evidence_text.specs.Entries.{entry, rank_of, within}
 use Rattle.evidence_text.specs.Ranges.{IsEntry, HasRanges, IsReadCase}
 use Rattle.evidence_text.specs.Shape.{each, number_of, number_at, node_of, origins_of, member_of, list_of, row_of, prefix_of, step_of, are_in_order, is_case, is_evidence, case_of, shape_of, greatest}
-use Rattle.evidence_text.specs.Spelled.{raw_of, numbered_case, numbered, is_placed, evidence_of}
+use Rattle.evidence_text.specs.Spelled.{numbered_case, numbered, is_placed, evidence_of}
 
 -- what a chain of steps gives has a property, where each way to its end gives it
 pub on_ok : {A B : Type 0} (P : B → Type 0) (r : Result A EvidenceFault) (f : A → Result B EvidenceFault) → ((x : A) → r ≡ Ok x → IfOk (f x) P) → IfOk (r >>= f) P
@@ -209,14 +208,3 @@ is_case_evidence c is = record {
   places = AllByRecursion-map (λ (e : NodeEntry). e.node) (λ n. n.loc < 768) c.nodes (AllByRecursion-weaker IsEntry (λ e. e.node.loc < 768) c.nodes (λ e h. h.0) is.nodes);
   ranks = AllByRecursion-map (λ (e : NodeEntry). e.node) (λ n. n.rank ≢ Some 0) c.nodes (AllByRecursion-weaker IsEntry (λ e. e.node.rank ≢ Some 0) c.nodes (λ e h. h.1) is.nodes);
 }
-
--- ---- what a text spells
-
-pub raw_in : (bytes : List ℕ) (raw : RawEvidence) → raw_of bytes ≡ Ok raw → AllByRecursion HasRanges raw.cases
-unfolding raw_of
-raw_in bytes raw is =
-    let P : RawEvidence → Type 0 = λ t. AllByRecursion HasRanges t.cases in
-    of_ok P (or_fault NotJson (json_of bytes) >>= shape_of) raw (on_ok P (or_fault NotJson (json_of bytes)) shape_of (λ d _. shape_in d)) is
-
-pub read_in : (bytes : List ℕ) (raw : RawEvidence) (text : ReadText) → raw_of bytes ≡ Ok raw → numbered raw ≡ Ok text → AllByRecursion IsReadCase text.cases
-read_in bytes raw text is are = of_ok (λ (r : ReadText). AllByRecursion IsReadCase r.cases) (numbered raw) text (numbered_in raw (raw_in bytes raw is)) are

@@ -6,4 +6,4 @@ mod PlaceSets
 mod PrefixLetters
 mod Rewritten
 mod SetMembers
-mod Told
+mod TextLaws

@@ -38,7 +38,7 @@ use Rattle.evidence_text.specs.Text.{members, case_data, evidence_data, evidence
 use Rattle.evidence_text.specs.Writable.{IsWritable}
 use Rattle.evidence_text.proofs.Items.{prefix_data, texts-prefixes}
 use Rattle.evidence_text.proofs.PrefixLetters.{ascii-prefix_text}
-use Rattle.evidence_text.proofs.Told.{says}
+use Rattle.evidence_text.proofs.TextLaws.{spelled_as}
 use Rattle.evidence_text.proofs.SetMembers.{members_in_order, members_below, set_of_members}
 
 -- what is read of items that are written
@@ -378,9 +378,6 @@ text_depth cs = omega (arith, cases_depth cs)
 pub read_again : (cs : List PlainCaseEvidence) → AllByRecursion IsWritable cs → spelled (evidence_text cs) ≡ Ok cs
 unfolding read_text
 read_again cs are =
-    says (evidence_text cs) cs (
-      read_text cs,
-      ((raw_text cs, (evidence_data cs, json_of-line (evidence_data cs) (plain_text cs are) (text_depth cs), shape_again cs are), text_again cs are), all_placed cs are),
-      refl,
-      all_made cs are,
-    )
+    spelled_as (evidence_text cs) (evidence_data cs) (raw_text cs) (read_text cs) (json_of-line (evidence_data cs) (plain_text cs are) (text_depth cs)) (shape_again cs are) (text_again cs are)
+    (all_placed cs are) refl
+    ∙ ap Ok (all_made cs are)

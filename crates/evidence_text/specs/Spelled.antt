@@ -15,12 +15,6 @@ use Rattle.evidence_text.specs.declared.raw.ReadCase.{ReadCase}
 use Rattle.evidence_text.specs.declared.raw.ReadText.{ReadText}
 use Rattle.evidence_text.specs.Shape.{each, shape_of}
 
--- the bytes are a JSON value with the shape of evidence
-unfoldable pub raw_of : List ℕ → Result RawEvidence EvidenceFault
-raw_of bytes = do
-  value ← or_fault NotJson (json_of bytes)
-  shape_of value
-
 -- a case all of whose numbers are in their ranges
 unfoldable pub numbered_case : RawCase → Result ReadCase EvidenceFault
 numbered_case c = do
@@ -57,12 +51,19 @@ evidence_of c = record {
   tags = map (λ (e : NodeEntry). e.tag) c.nodes;
 }
 
--- The bytes are a JSON value with the shape of evidence, its numbers are in their ranges, its starts and steps name
--- nodes, and its version is 1; else the least rule that is broken.
-unfoldable pub spelled : List ℕ → Result (List PlainCaseEvidence) EvidenceFault
-spelled bytes = do
-  raw ← raw_of bytes
+-- what has the shape, where the numbers are in their ranges, the starts and steps name nodes, and the version is 1; else
+-- the least rule that is broken
+unfoldable pub judged : RawEvidence → Result (List PlainCaseEvidence) EvidenceFault
+judged raw = do
   text ← numbered raw
   _ ← unless Place (list_all is_placed text.cases)
   _ ← unless Version (text.version == 1)
   Ok (map evidence_of text.cases)
+
+-- the bytes are a JSON value, the value has the shape of evidence, and it keeps the rules; else the least rule that is
+-- broken
+unfoldable pub spelled : List ℕ → Result (List PlainCaseEvidence) EvidenceFault
+spelled bytes = do
+  value ← or_fault NotJson (json_of bytes)
+  raw ← shape_of value
+  judged raw

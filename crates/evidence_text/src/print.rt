@@ -155,14 +155,17 @@ fn locations(alloc: Global, set: &LocSet) -> Result<Vec<u32>, NoMemory>
     Ok(all)
 }
 
+// How a truth value is written.
+fn truth(value: bool) -> &'static [u8]
+    ensures { result.now ≡ compact_text (Data.boolean value) }
+{
+    if value { b"true" } else { b"false" }
+}
+
 fn push_truth(text: &mut Vec<u8>, value: bool) -> Result<(), NoMemory>
     ensures { OnOk result (text.new.items ≡ text.old.items ++ compact_text (Data.boolean value)) }
 {
-    if value {
-        push_bytes(text, b"true")
-    } else {
-        push_bytes(text, b"false")
-    }
+    push_bytes(text, truth(value))
 }
 
 // Adds a case, its keys in the order of their bytes.

@@ -1,9 +1,11 @@
 //! Which evidence a text spells.
+ghost use Rattle.std.specs.List.{AllByRecursion};
 ghost use Rattle.json_words.specs.Json.{json_of};
 ghost use Rattle.serde_json.specs.View.{view};
 ghost use Rattle.net_base.specs.Gives.{GivesUnless};
 ghost use Rattle.net_base.specs.Steps.{or_fault};
-ghost use Rattle.evidence_text.specs.Spelled.{raw_of, spelled};
+ghost use Rattle.evidence_text.specs.Ranges.{HasRanges};
+ghost use Rattle.evidence_text.specs.Spelled.{judged, spelled};
 
 use crate::fault::EvidenceFault;
 use crate::judge::{are_placed, evidence, numbered};
@@ -25,22 +27,12 @@ fn value_of(alloc: Global, bytes: &[u8]) -> Result<Value, EvidenceFault>
     }
 }
 
-// What the text says. Its JSON value, which takes far more memory, is given back on the way out.
-#[tactic(auto, unfolding(crate::specs::Spelled::raw_of))]
-fn raw_evidence(alloc: Global, bytes: &[u8]) -> Result<RawEvidence, EvidenceFault>
-    ensures { GivesUnless EvidenceFault.NoMemory (λ raw. raw) result (raw_of bytes.now) }
+// The evidence of what has the shape, or the least rule that is broken.
+#[tactic(auto, unfolding(crate::specs::Spelled::judged))]
+fn judge(alloc: Global, raw: RawEvidence) -> Result<Evidence, EvidenceFault>
+    requires { AllByRecursion HasRanges raw.cases }
+    ensures { GivesUnless EvidenceFault.NoMemory (λ evidence. evidence.cases) result (judged raw) }
 {
-    let value = value_of(alloc, bytes)?;
-    shape(alloc, &value)
-}
-
-/// The evidence that the bytes spell, or the least rule that they break. Any bytes are read or refused, in time and
-/// memory in proportion to their number.
-#[tactic(auto, unfolding(crate::specs::Spelled::spelled))]
-pub fn read_evidence(alloc: Global, bytes: &[u8]) -> Result<Evidence, EvidenceFault>
-    ensures exact { GivesUnless EvidenceFault.NoMemory (λ evidence. evidence.cases) result (spelled bytes.now) }
-{
-    let raw = raw_evidence(alloc, bytes)?;
     let text = numbered(alloc, raw)?;
     if !are_placed(text.cases.as_slice()) {
         return Err(EvidenceFault::Place);
@@ -49,4 +41,18 @@ pub fn read_evidence(alloc: Global, bytes: &[u8]) -> Result<Evidence, EvidenceFa
         return Err(EvidenceFault::Version);
     }
     evidence(alloc, text.cases)
+}
+
+/// The evidence that the bytes spell, or the least rule that they break. Any bytes are read or refused, in time and
+/// memory in proportion to their number. The JSON value, which takes far more memory than what it says, is given back
+/// before the rules are judged.
+#[tactic(auto, unfolding(crate::specs::Spelled::spelled))]
+pub fn read_evidence(alloc: Global, bytes: &[u8]) -> Result<Evidence, EvidenceFault>
+    ensures exact { GivesUnless EvidenceFault.NoMemory (λ evidence. evidence.cases) result (spelled bytes.now) }
+{
+    let raw = {
+        let value = value_of(alloc, bytes)?;
+        shape(alloc, &value)?
+    };
+    judge(alloc, raw)
 }

@@ -1,8 +1,9 @@
 //! The shape of evidence.
-ghost use Rattle.std.specs.Prelude.{◌≡◌, ◌≤◌, ◌+◌, map, length, is_none, IfOk};
+ghost use Rattle.std.specs.Prelude.{◌≡◌, ◌≤◌, ◌+◌, ◌&&◌, codes, map, length, is_none, IfOk};
 ghost use Rattle.std.specs.List.{list_any};
 ghost use Rattle.std.specs.Option.{ForSome};
 ghost use Rattle.serde_json.specs.View.{view};
+ghost use Rattle.json_words.specs.Json.{has as has_key};
 ghost use Rattle.net_base.specs.Gives.{GivesUnless};
 ghost use Rattle.evidence_text.specs.Shape.{
   are_in_order as in_order,
@@ -234,15 +235,19 @@ fn has_size(value: &Value, size: usize) -> bool
     }
 }
 
+// Whether the value is an object of as many keys as a case has, with the first of them.
+fn begins_as_case(value: &Value) -> bool
+    ensures { result ≡ (is_of_size 7 (view value.now) && has_key (codes "external") (view value.now) && has_key (codes "nodes") (view value.now) && has_key (codes "origins") (view value.now)) }
+{
+    has_size(value, 7) && has(value, "external") && has(value, "nodes") && has(value, "origins")
+}
+
 // Whether the value is an object with exactly the keys of a case.
 #[tactic(auto, unfolding(crate::specs::Shape::is_case))]
 fn is_case(value: &Value) -> bool
     ensures { result ≡ has_case_keys (view value.now) }
 {
-    has_size(value, 7)
-        && has(value, "external")
-        && has(value, "nodes")
-        && has(value, "origins")
+    begins_as_case(value)
         && has(value, "prefixes")
         && has(value, "starts")
         && has(value, "statement")

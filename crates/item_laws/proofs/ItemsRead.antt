@@ -1,6 +1,6 @@
 -- What is read one after another, so far and to come.
-use Rattle.std.proofs.Common.{◌≡◌, ℕ, ◌+◌, ◌<◌, List, [], ◌∷◌, ◌++◌, length, map, drop, get_or, Result, Ok, Err, refl, sym, ap, ◌∙◌, append_assoc, add-one, drop-cons}
-use Rattle.std.proofs.lemmas.List.{map-append}
+use Rattle.std.proofs.Common.{◌≡◌, ℕ, ◌+◌, ◌<◌, ◌≤◌, List, [], ◌∷◌, ◌++◌, length, map, drop, get_or, Result, Ok, Err, refl, sym, ap, ◌∙◌, append_assoc, append-nil, add-one, drop-cons}
+use Rattle.std.proofs.lemmas.List.{drop_all, map-append}
 use Rattle.net_base.specs.Steps.{◌>>=◌, each_from}
 
 -- these, and then what is still to be read
@@ -10,6 +10,19 @@ with_front front read = read >>= (λ xs. Ok (front ++ xs))
 one_more : {B F : Type 0} (front : List B) (y : B) (read : Result (List B) F) → with_front front (read >>= (λ ys. Ok (y ∷ ys))) ≡ with_front (front ++ y ∷ []) read
 one_more front y (Ok ys) = ap Ok (sym (append_assoc front (y ∷ []) ys))
 one_more front y (Err e) = refl
+
+module _ {V A B F : Type 0} (view : V → A) (f : ℕ → A → Result B F) (vs : List V) (front : List B) where
+  -- nothing has been read
+  pub each_from-start : front ≡ [] → with_front front (each_from f (0 + 1) (map view (drop 0 vs))) ≡ each_from f 1 (map view vs)
+  each_from-start none = rw none (same (each_from f 1 (map view vs)))
+    where
+      same : (read : Result (List B) F) → with_front [] read ≡ read
+      same (Ok ys) = refl
+      same (Err e) = refl
+
+  -- all has been read
+  pub each_from-end : (i : ℕ) (whole : Result (List B) F) → length vs ≤ i → with_front front (each_from f (i + 1) (map view (drop i vs))) ≡ whole → whole ≡ Ok front
+  each_from-end i whole past before = sym (rw (drop_all i vs past) at before) ∙ ap Ok (append-nil front)
 
 module _ {V A B F : Type 0} (view : V → A) (f : ℕ → A → Result B F) (vs : List V) (i : ℕ) (x : V) (within : i < length vs) (is : x ≡ get_or vs i x) where
   at : drop i vs ≡ x ∷ drop (i + 1) vs
@@ -26,3 +39,8 @@ module _ {V A B F : Type 0} (view : V → A) (f : ℕ → A → Result B F) (vs 
       → with_front (map show front) (each_from f (i + 1) (map view (drop i vs))) ≡ whole
       → with_front (map show (front ++ y ∷ [])) (each_from f ((i + 1) + 1) (map view (drop (i + 1) vs))) ≡ whole
   each_from-ok show front y whole here before = rw (map-append show front (y ∷ [])) (each_from-next (map show front) (show y) whole here before)
+
+  -- or it has a fault
+  pub each_from-stop : (front : List B) (e : F) (whole : Result (List B) F) → f (i + 1) (view x) ≡ Err e
+      → with_front front (each_from f (i + 1) (map view (drop i vs))) ≡ whole → whole ≡ Err e
+  each_from-stop front e whole here before = sym (rw (at, here) at before)

@@ -14,7 +14,8 @@ use Rattle.topology.specs.declared.fault.TopoFault.TheVariants.{LinkTwice, SelfL
 use Rattle.topology.specs.declared.sites.Number.TheVariants as which
 use Rattle.topology.specs.Faults.{number_of}
 use Rattle.topology.specs.Laws.{entries, is_among, rules, same_link}
-use Rattle.topology.specs.Rules.{named, site_of, counted, names_differ, numbers_differ, names_of, joined, links_differ, ends_differ, routers_linked, links_of, ascending, judged, is_lawful_as}
+use Rattle.topology.specs.Rules.{named, site_of, counted, names_differ, numbers_differ, names_of, joined, links_differ, ends_differ, routers_linked, links_of, ascending}
+use Rattle.topology.specs.Rules.{judged, network_of, is_lawful_as}
 use Rattle.topology.specs.Shape.{each, Entry, Ends, Topology, IsIdentifier}
 use Rattle.topology.proofs.Distinct.{all_unlike-distinct}
 use Rattle.topology.proofs.EntryFaults.{counted_breaks, named_breaks, all_named, site_breaks, all_lawful, names_break, names_keep, asns_break, asns_keep, ids_break, ids_keep}
@@ -135,7 +136,7 @@ named_outcome t below y h =
     (λ links p g. rw (← g) (links_outcome t below_9 (Ok links) p)))))))
 
 pub judged_outcome : (t : Topology) (y : Result PlainNet TopoFault) → judged t ≡ y → Outcome (rules t) number_of y
-unfolding judged
+unfolding judged network_of
 judged_outcome t y h =
     let lawful = λ (x : Entry). IsTrue (is_name x.name) in
     bind_case (Outcome (rules t) number_of y) (counted t) _ y h
@@ -154,7 +155,7 @@ judged_outcome t y h =
 
 -- a topology that breaks no rule is a network
 pub judged_net : (t : Topology) (net : PlainNet) → AllByRecursion (λ e. IsIdentifier e.id) t.routers → AllByRecursion (λ e. IsIdentifier e.id) t.peers → judged t ≡ Ok net → IsNet net
-unfolding judged
+unfolding judged network_of
 judged_net t net router_ids peer_ids h =
     let a = bind_ok (counted t) _ net h in
     let b = bind_ok (each_from (named kind.Routers) 1 t.routers) _ net a.2 in

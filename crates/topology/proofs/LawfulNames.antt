@@ -13,7 +13,7 @@ use Rattle.topology.specs.declared.parts.Kind.TheVariants as kind
 use Rattle.net_base.proofs.StepLemmas.{bind_ok, unless_ok, ok_same}
 use Rattle.topology.specs.declared.fault.TopoFault.TheVariants.{BadName, NotJson}
 use Rattle.topology.specs.declared.sites.Number.TheVariants as which
-use Rattle.topology.specs.Rules.{named, site_of, counted, names_differ, numbers_differ, names_of, links_of, judged}
+use Rattle.topology.specs.Rules.{named, site_of, counted, names_differ, numbers_differ, names_of, links_of, judged, network_of}
 use Rattle.topology.specs.Shape.{each, Entry, Topology, shape_of}
 use Rattle.topology.specs.Topology.{spelled}
 use Rattle.topology.proofs.Networks.{each_site}
@@ -41,7 +41,7 @@ sites_named k raw es ss named_all lawful =
     of_entries ss (subst (AllByRecursion HasName) (sym (each_site k es ss lawful).0) (each_from-all HasName (named k) (name_kept k) 1 raw es named_all))
 
 judged_named : (t : Topology) (net : PlainNet) → judged t ≡ Ok net → AllByRecursion IsNamed (sites net)
-unfolding judged
+unfolding judged network_of
 judged_named t net h =
     let a = bind_ok (counted t) _ net h in
     let b = bind_ok (each_from (named kind.Routers) 1 t.routers) _ net a.2 in

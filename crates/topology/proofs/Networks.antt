@@ -16,12 +16,12 @@ use Rattle.net_base.specs.Steps.{◌>>=◌, each_from, unless}
 use Rattle.net_base.specs.declared.net.Site.{Site}
 use Rattle.topology.specs.declared.parts.Kind.TheVariants as kind
 use Rattle.topology.specs.declared.sites.Number.TheVariants as which
-use Rattle.topology.specs.Shape.{each, Entry, Topology, IsIdentifier}
+use Rattle.topology.specs.Shape.{each, Entry, Ends, Topology, IsIdentifier}
 use Rattle.topology.proofs.Distinct.{all_unlike-distinct}
 use Rattle.net_base.proofs.StepLemmas.{bind_ok, unless_ok, ok_same}
 use Rattle.topology.proofs.Results.{each_from-view, each_from-all}
 use Rattle.topology.proofs.LinkRules.{links_hold}
-use Rattle.topology.specs.Rules.{named, site_of, counted, names_differ, numbers_differ, names_of, links_of, judged, is_lawful_as, shared}
+use Rattle.topology.specs.Rules.{named, site_of, counted, names_differ, numbers_differ, names_of, links_of, network_of, judged, is_lawful_as, shared}
 
 -- ---- what is kept of an entry
 
@@ -68,6 +68,18 @@ counted_holds t h =
 
 -- ---- the rules that come before those of links are kept
 
+module _ (routers peers : List Entry) (ends : List Ends) (router_sites peer_sites : List Site)
+    (names : names_differ (routers ++ peers) ≡ Ok tt)
+    (lawful_routers : each (site_of kind.Routers) routers ≡ Ok router_sites)
+    (lawful_peers : each (site_of kind.Peers) peers ≡ Ok peer_sites)
+    (asns : numbers_differ which.As (routers ++ peers) ≡ Ok tt)
+    (ids : numbers_differ which.Id (routers ++ peers) ≡ Ok tt) where
+  -- those of links decide
+  pub network_of-links : network_of routers peers ends
+      ≡ (links_of (names_of (routers ++ peers)) (length routers) ends >>= (λ links. Ok (record { routers = router_sites; peers = peer_sites; links = links })))
+  unfolding network_of
+  network_of-links = rw (names, lawful_routers, lawful_peers, asns, ids) refl
+
 module _ (t : Topology) (routers peers : List Entry) (router_sites peer_sites : List Site)
     (few : counted t ≡ Ok tt)
     (named_routers : each_from (named kind.Routers) 1 t.routers ≡ Ok routers)
@@ -80,9 +92,9 @@ module _ (t : Topology) (routers peers : List Entry) (router_sites peer_sites : 
   -- those of links decide
   pub judged-links : judged t ≡ (links_of (names_of (routers ++ peers)) (length routers) t.links >>= (λ links. Ok (record { routers = router_sites; peers = peer_sites; links = links })))
   unfolding judged
-  judged-links = rw (few, named_routers, named_peers, names, lawful_routers, lawful_peers, asns, ids) refl
+  judged-links = rw (few, named_routers, named_peers) (network_of-links routers peers t.links router_sites peer_sites names lawful_routers lawful_peers asns ids)
 
-  -- and where they are kept too, the topology is a network
+  -- where they are kept too, the topology is a network
   pub kept_IsNet : (links : List (ℕ × ℕ)) → links_of (names_of (routers ++ peers)) (length routers) t.links ≡ Ok links
       → AllByRecursion (λ e. IsIdentifier e.id) t.routers → AllByRecursion (λ e. IsIdentifier e.id) t.peers
       → IsNet (record { routers = router_sites; peers = peer_sites; links = links })

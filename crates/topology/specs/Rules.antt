@@ -116,16 +116,21 @@ numbers_differ n entries = all_unlike (same_number n) (λ _. shared n) [] entrie
 abbrev pub names_of : List Entry → List (List ℕ)
 names_of entries = map (λ (e : Entry). e.name) entries
 
+-- the network of routers and peers with names, and of links between them, or the least rule that is broken
+unfoldable pub network_of : List Entry → List Entry → List Ends → Result PlainNet TopoFault
+network_of routers peers links = do
+  _ ← names_differ (routers ++ peers)
+  router_sites ← each (site_of kind.Routers) routers
+  peer_sites ← each (site_of kind.Peers) peers
+  _ ← numbers_differ which.As (routers ++ peers)
+  _ ← numbers_differ which.Id (routers ++ peers)
+  links ← links_of (names_of (routers ++ peers)) (length routers) links
+  Ok (record { routers = router_sites; peers = peer_sites; links = links })
+
 -- the network of a topology, or the least rule that is broken
 unfoldable pub judged : Topology → Result PlainNet TopoFault
 judged t = do
   _ ← counted t
   routers ← each_from (named kind.Routers) 1 t.routers
   peers ← each_from (named kind.Peers) 1 t.peers
-  _ ← names_differ (routers ++ peers)
-  router_sites ← each (site_of kind.Routers) routers
-  peer_sites ← each (site_of kind.Peers) peers
-  _ ← numbers_differ which.As (routers ++ peers)
-  _ ← numbers_differ which.Id (routers ++ peers)
-  links ← links_of (names_of (routers ++ peers)) (length routers) t.links
-  Ok (record { routers = router_sites; peers = peer_sites; links = links })
+  network_of routers peers t.links

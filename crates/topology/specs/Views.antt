@@ -1,9 +1,11 @@
 -- What borrowed parts of a text say.
 use Rattle.std.specs.Prelude.{ℕ, List, map}
 use Rattle.std.proofs.Common.{Bor}
+use Rattle.net_base.specs.Network.{PlainNet}
 use Rattle.topology.specs.declared.shape.RawEntry.{RawEntry}
 use Rattle.topology.specs.declared.shape.RawEnds.{RawEnds}
 use Rattle.topology.specs.declared.shape.RawTopology.{RawTopology}
+use Rattle.topology.specs.declared.rules.NetParts.{NetParts}
 use Rattle.topology.specs.declared.sites.Named.{Named}
 use Rattle.topology.specs.Shape.{Entry, Ends, Topology}
 
@@ -18,6 +20,9 @@ raw_topology r = record { routers = map raw_entry r.routers.items; peers = map r
 
 abbrev pub named_entry : Named → Entry
 named_entry n = record { name = n.name; asn = n.asn; id = n.id }
+
+abbrev pub net_parts : NetParts → PlainNet
+net_parts p = record { routers = p.routers; peers = p.peers; links = p.links }
 
 -- what borrowed texts say
 abbrev pub texts : List (Bor (List ℕ)) → List (List ℕ)

@@ -1,19 +1,32 @@
 //! The rules of a topology.
-ghost use Rattle.std.specs.Prelude.{◌≡◌, ◌≤◌, ◌++◌, IfOk, IfErr, OnOk, length};
+ghost use Rattle.std.specs.Prelude.{◌≡◌, ◌≤◌, ◌++◌, IfOk, IfErr, OnOk, length, map, nat_le};
 ghost use Rattle.std.specs.List.{AllByRecursion};
 ghost use Rattle.net_base.specs.Gives.{GivesUnless};
+ghost use Rattle.net_base.specs.Steps.{unless};
 ghost use Rattle.net_base.specs.declared.limits.TheConstants.{ROUTERS, PEERS, LINKS};
-ghost use Rattle.topology.specs.Rules.{counted, judged};
+ghost use Rattle.topology.specs.Rules.{counted, judged, network_of};
 ghost use Rattle.topology.specs.Shape.{IsIdentifier};
-ghost use Rattle.topology.specs.Views.{raw_topology};
+ghost use Rattle.topology.specs.Views.{named_entry, net_parts, raw_ends, raw_topology};
 
 use crate::fault::TopoFault;
 use crate::links::links;
 use crate::parts::Kind;
-use crate::shape::RawTopology;
+use crate::shape::{RawEnds, RawTopology};
 use crate::sites::{Named, Number, names, sites, unshared, with_names};
-use net_base::{List, Net, limits};
+use net_base::{List, Loc, Net, Site, limits};
 use std::alloc::Global;
+
+// There are at most so many of them.
+fn at_most(kind: Kind, most: u64, number: usize) -> Result<(), TopoFault>
+    ensures rule { GivesUnless TopoFault.NoMemory (λ u. u) result (unless (TopoFault.TooMany kind number) (nat_le number most)) }
+    ensures few { OnOk result (number ≤ most) }
+{
+    let number = number as u64;
+    if number > most {
+        return Err(TopoFault::TooMany(kind, number));
+    }
+    Ok(())
+}
 
 // There are not too many routers, peers and links.
 #[tactic(auto, unfolding(crate::specs::Rules::counted))]
@@ -23,19 +36,9 @@ fn count(raw: &RawTopology<'_>) -> Result<(), TopoFault>
     ensures peers { OnOk result (length raw.now.peers.items ≤ PEERS) }
     ensures links { OnOk result (length raw.now.links.items ≤ LINKS) }
 {
-    let routers = raw.routers.len() as u64;
-    if routers > limits::ROUTERS {
-        return Err(TopoFault::TooMany(Kind::Routers, routers));
-    }
-    let peers = raw.peers.len() as u64;
-    if peers > limits::PEERS {
-        return Err(TopoFault::TooMany(Kind::Peers, peers));
-    }
-    let links = raw.links.len() as u64;
-    if links > limits::LINKS {
-        return Err(TopoFault::TooMany(Kind::Links, links));
-    }
-    Ok(())
+    at_most(Kind::Routers, limits::ROUTERS, raw.routers.len())?;
+    at_most(Kind::Peers, limits::PEERS, raw.peers.len())?;
+    at_most(Kind::Links, limits::LINKS, raw.links.len())
 }
 
 // The entries of the routers, and then those of the peers.
@@ -48,6 +51,41 @@ fn both(alloc: Global, routers: &[Named], peers: &[Named]) -> Result<Vec<Named>,
     Ok(entries)
 }
 
+// What a network is made of.
+#[derive(Drop)]
+struct NetParts {
+    routers: List<Site>,
+    peers: List<Site>,
+    links: List<(Loc, Loc)>,
+}
+
+// The network of routers and peers with names, and of links between them, or the least rule that they break.
+#[tactic(auto, unfolding(crate::specs::Rules::network_of))]
+fn network(
+    alloc: Global,
+    routers: &[Named],
+    peers: &[Named],
+    ends: &[RawEnds<'_>],
+) -> Result<NetParts, TopoFault>
+    requires routers { length routers.now ≤ ROUTERS }
+    requires peers { length peers.now ≤ PEERS }
+    requires links { length ends.now ≤ LINKS }
+    ensures { GivesUnless TopoFault.NoMemory net_parts result (network_of (map named_entry routers.now) (map named_entry peers.now) (map raw_ends ends.now)) }
+{
+    let entries = both(alloc, routers, peers)?;
+    let names = names(alloc, &entries)?;
+    let router_sites = sites(alloc, Kind::Routers, routers)?;
+    let peer_sites = sites(alloc, Kind::Peers, peers)?;
+    unshared(alloc, Number::As, &entries)?;
+    unshared(alloc, Number::Id, &entries)?;
+    let links = links(alloc, &names, routers.len() as u16, ends)?;
+    Ok(NetParts {
+        routers: List::from_vec(router_sites),
+        peers: List::from_vec(peer_sites),
+        links: List::from_vec(links),
+    })
+}
+
 /// The network of a topology, or the least rule that it breaks.
 #[tactic(auto, unfolding(crate::specs::Rules::judged))]
 pub fn judge(alloc: Global, raw: &RawTopology<'_>) -> Result<Net, TopoFault>
@@ -58,16 +96,6 @@ pub fn judge(alloc: Global, raw: &RawTopology<'_>) -> Result<Net, TopoFault>
     count(raw)?;
     let routers = with_names(alloc, Kind::Routers, &raw.routers)?;
     let peers = with_names(alloc, Kind::Peers, &raw.peers)?;
-    let entries = both(alloc, &routers, &peers)?;
-    let names = names(alloc, &entries)?;
-    let router_sites = sites(alloc, Kind::Routers, &routers)?;
-    let peer_sites = sites(alloc, Kind::Peers, &peers)?;
-    unshared(alloc, Number::As, &entries)?;
-    unshared(alloc, Number::Id, &entries)?;
-    let links = links(alloc, &names, routers.len() as u16, &raw.links)?;
-    Ok(Net::new(
-        List::from_vec(router_sites),
-        List::from_vec(peer_sites),
-        List::from_vec(links),
-    ))
+    let net = network(alloc, &routers, &peers, &raw.links)?;
+    Ok(Net::new(net.routers, net.peers, net.links))
 }

@@ -39,10 +39,8 @@ pub struct RawTopology<'a> {
 fn identifier(text: &str) -> Option<u32>
     ensures { result ≡ identifier_of text.now }
 {
-    match read_address(text.as_bytes()) {
-        Some(0) => None,
-        id => id,
-    }
+    let id = read_address(text.as_bytes())?;
+    if id == 0 { None } else { Some(id) }
 }
 
 // The router or peer that an entry spells, or the first part that is not as it should be.

@@ -25,7 +25,7 @@ use Rattle.topology.specs.declared.fault.TopoFault.TheVariants.{NotJson, Shape}
 use Rattle.topology.specs.declared.parts.Field.TheVariants as field
 use Rattle.topology.specs.declared.parts.Kind.TheVariants as kind
 use Rattle.topology.specs.declared.sites.Number.TheVariants as which
-use Rattle.topology.specs.Rules.{ascending, counted, names_differ, numbers_differ, named, site_of, names_of, joined, links_differ, ends_differ, routers_linked, links_of, judged}
+use Rattle.topology.specs.Rules.{ascending, counted, names_differ, numbers_differ, named, site_of, names_of, joined, links_differ, ends_differ, routers_linked, links_of, network_of, judged}
 use Rattle.topology.specs.Shape.{Entry, Ends, Topology, each, entry_of, ends_of, identifier_of, shape_of}
 use Rattle.topology.specs.Topology.{spelled}
 use Rattle.topology.proofs.EntryFaults.{all_named}
@@ -158,7 +158,7 @@ links_say names routers es links h =
     (a.0, all_join names 1 es a.0 a.1, ok_same (ascending a.0) links d.2)
 
 judged_says : (t : Topology) (net : PlainNet) → judged t ≡ Ok net → SaysNet t net
-unfolding judged
+unfolding judged network_of
 judged_says t net h =
     let a = bind_ok (counted t) _ net h in
     let b = bind_ok (each_from (named kind.Routers) 1 t.routers) _ net a.2 in

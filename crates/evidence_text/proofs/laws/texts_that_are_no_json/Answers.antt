@@ -1,10 +1,8 @@
-use Rattle.std.proofs.Common.{Err}
-use Rattle.evidence_text.specs.declared.fault.EvidenceFault.TheVariants.{NotJson}
-use Rattle.evidence_text.proofs.Told.{told_by, not_json}
+use Rattle.evidence_text.proofs.TextLaws.{not_json-only, not_json-all}
 use Rattle.evidence_text.proofs.laws.texts_that_are_no_json.Goals as goal
 
 pub returns-clause-only : goal.returns-clause-only
-returns-clause-only c = λ bytes is. told_by bytes (Err NotJson) is
+returns-clause-only c = not_json-only
 
 pub returns-clause-all : goal.returns-clause-all
-returns-clause-all c = not_json
+returns-clause-all c = not_json-all

@@ -1,10 +1,8 @@
-use Rattle.std.proofs.Common.{Err}
-use Rattle.evidence_text.specs.declared.fault.EvidenceFault.TheVariants.{Number}
-use Rattle.evidence_text.proofs.Told.{told_by, out_of_range}
+use Rattle.evidence_text.proofs.TextLaws.{number-only, number-all}
 use Rattle.evidence_text.proofs.laws.texts_with_numbers_out_of_range.Goals as goal
 
 pub returns-clause-only : goal.returns-clause-only
-returns-clause-only c = λ bytes f is. told_by bytes (Err (Number f)) is
+returns-clause-only c = number-only
 
 pub returns-clause-all : goal.returns-clause-all
-returns-clause-all c = out_of_range
+returns-clause-all c = number-all

@@ -1,8 +1,11 @@
-use Rattle.evidence_text.proofs.InRange.{raw_in, read_in}
+use Rattle.std.specs.List.{AllByRecursion}
+use Rattle.serde_json.specs.View.{view}
+use Rattle.evidence_text.specs.declared.raw.RawEvidence.{RawEvidence}
+use Rattle.evidence_text.specs.Ranges.{HasRanges}
+use Rattle.evidence_text.specs.Shape.{shape_of}
+use Rattle.evidence_text.proofs.InRange.{shape_in, of_ok}
 use Rattle.evidence_text.proofs.read.read_evidence.Goals as goal
 
-pub numbered-requires : goal.numbered-requires
-numbered-requires c = raw_in c.args.bytes.now _ c.in_ok-raw.ensures
-
-pub evidence-requires-clause-ranges : goal.evidence-requires-clause-ranges
-evidence-requires-clause-ranges c = read_in c.args.bytes.now _ _ c.in_ok-raw.ensures c.in_ok-text.ensures
+pub judge-requires : goal.judge-requires
+judge-requires c =
+    of_ok (λ (t : RawEvidence). AllByRecursion HasRanges t.cases) (shape_of (view c.in_ok-value.value)) c.in_ok-raw.raw (shape_in (view c.in_ok-value.value)) c.in_ok-raw.ensures

@@ -1,10 +1,27 @@
+use Rattle.std.proofs.Common.{rules, ◌≡◌, ◌≢◌, Err, ap, map}
 use Rattle.serde_json.specs.View.{view}
-use Rattle.topology.specs.Shape.{ends_of}
+use Rattle.net_base.specs.Steps.{each_from}
+use Rattle.topology.specs.declared.fault.TopoFault.TheVariants.{NoMemory}
+use Rattle.topology.specs.Shape.{each, ends_of}
 use Rattle.topology.specs.Views.{raw_ends}
-use Rattle.item_laws.proofs.ItemsRead.{each_from-ok}
+use Rattle.item_laws.proofs.ItemsRead.{each_from-start, each_from-ok, each_from-stop, each_from-end}
 use Rattle.topology.proofs.shape.links.Goals as goal
+
+pub loop-value-init : goal.loop-value-init
+loop-value-init c = each_from-start view (λ _. ends_of) c.args.values.now _ (ap (map raw_ends) c.new-all.ensures.items)
 
 pub loop-value-preserved : goal.loop-value-preserved
 loop-value-preserved c =
     rw c.in_ok-push.ensures.items
     (each_from-ok view (λ _. ends_of) c.args.values.now c.loop-value.value-index _ c.loop-value-test.true c.value-item.is raw_ends _ _ _ c.in_ok-read.ensures c.loop-value.invariant)
+
+pub returns-in_err-read : goal.returns-in_err-read
+unfolding each
+returns-in_err-read c =
+    let told : c.in_err-read.field-0.0 ≢ NoMemory → each_from (λ _. ends_of) 1 (map view c.args.values.now) ≡ Err c.in_err-read.field-0.0 = λ n.
+    each_from-stop view (λ _. ends_of) c.args.values.now c.loop-value.value-index _ c.loop-value-test.true c.value-item.is _ _ _ (c.in_err-read.ensures n) c.loop-value.invariant in
+    search (rules, told)
+
+pub returns : goal.returns
+unfolding each
+returns c = each_from-end view (λ _. ends_of) c.args.values.now (map raw_ends c.loop-value.all.items) c.loop-value.value-index _ c.loop-value-test.false c.loop-value.invariant

@@ -1,9 +1,18 @@
-use Rattle.std.proofs.Common.{arith, length-append, refl, ◌∙◌}
+use Rattle.std.proofs.Common.{rules, arith, ◌≡◌, ◌≢◌, Err, map, length, length-append, refl, ap, ◌∙◌}
 use Rattle.std.proofs.lemmas.List.{get_or_default}
+use Rattle.net_base.specs.Steps.{each_from}
+use Rattle.topology.specs.declared.fault.TopoFault.TheVariants.{NoMemory}
 use Rattle.topology.specs.Rules.{named}
 use Rattle.topology.specs.Views.{raw_entry, named_entry}
-use Rattle.item_laws.proofs.ItemsRead.{each_from-ok}
+use Rattle.item_laws.proofs.ItemsRead.{each_from-start, each_from-ok, each_from-stop, each_from-end}
 use Rattle.topology.proofs.sites.with_names.Goals as goal
+
+pub loop-entry-init : goal.loop-entry-init
+loop-entry-init c = (
+  omega arith,
+  ap length c.new-all.ensures.items,
+  each_from-start raw_entry (named c.args.kind) c.args.raw.now _ (ap (map named_entry) c.new-all.ensures.items),
+)
 
 pub loop-entry-preserved : goal.loop-entry-preserved
 loop-entry-preserved c = (
@@ -13,3 +22,14 @@ loop-entry-preserved c = (
       (each_from-ok raw_entry (named c.args.kind) c.args.raw.now c.loop-entry.entry-index _ c.loop-entry-test.true (get_or_default _ _ _ _ c.loop-entry-test.true) named_entry _ _ _
       (rw c.loop-entry.invariant.0 at c.in_ok-read.ensures) c.loop-entry.invariant.2),
 )
+
+pub returns-in_err-read-clause-entries : goal.returns-in_err-read-clause-entries
+returns-in_err-read-clause-entries c =
+    let told : c.in_err-read.field-0.0 ≢ NoMemory → each_from (named c.args.kind) 1 (map raw_entry c.args.raw.now) ≡ Err c.in_err-read.field-0.0 = λ n.
+    each_from-stop raw_entry (named c.args.kind) c.args.raw.now c.loop-entry.entry-index _ c.loop-entry-test.true (get_or_default _ _ _ _ c.loop-entry-test.true) _ _ _
+    ((rw c.loop-entry.invariant.0 at c.in_err-read.ensures) n) c.loop-entry.invariant.2 in
+    search (rules, told)
+
+pub returns-clause-entries : goal.returns-clause-entries
+returns-clause-entries c =
+    each_from-end raw_entry (named c.args.kind) c.args.raw.now (map named_entry c.loop-entry.all.items) c.loop-entry.entry-index _ c.loop-entry-test.false c.loop-entry.invariant.2
