@@ -11,6 +11,11 @@ use Rattle.policy_grammar.specs.Reading.{Read, past, chain}
 abbrev pub LeadsTo : {A : Type 0} → Symbol → (Lexeme → A → List Lexeme → Read A) → A → List Lexeme → Read A → Type 0
 LeadsTo joint link so_far ls total = (n : ℕ) × (length ls ≤ n) × (chain joint link n so_far ls ≡ total)
 
+-- no link was read yet
+pub begins : {A : Type 0} (symbol joint : Symbol) (link : Lexeme → A → List Lexeme → Read A) (so_far : A) (ls : List Lexeme)
+    → symbol ≡ joint → LeadsTo symbol link so_far ls (chain joint link (length ls) so_far ls)
+begins symbol joint link so_far ls is = (length ls, omega arith, rw is refl)
+
 -- one link more
 pub goes_on : {A : Type 0} (joint : Symbol) (link : Lexeme → A → List Lexeme → Read A) (so_far : A) (ls : List Lexeme) (l : Lexeme)
     (rest : List Lexeme) (next : A) (after : List Lexeme) (total : Read A)

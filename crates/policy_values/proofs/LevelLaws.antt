@@ -100,5 +100,5 @@ module _ {A : Type 0} (act : Step → A → A) (done : List Step → A) (follows
   inner (suc n) out ls = ranked (levels.inner_at act n) (steps.inner_at n) (inner n) out ls
 
   -- an expression in which so many brackets may be open
-  pub ranked_read : (n : ℕ) (out : List Step) (ls : List Lexeme) → levels.ranked_at act n (done out) ls ≡ over done (steps.ranked_with (steps.inner_at n) out ls)
+  pub ranked_read : (n : ℕ) (out : List Step) (ls : List Lexeme) → levels.joined_at act Ranked n (done out) ls ≡ over done (steps.ranked_with (steps.inner_at n) out ls)
   ranked_read n out ls = ranked (levels.inner_at act n) (steps.inner_at n) (inner n) out ls

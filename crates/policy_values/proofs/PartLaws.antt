@@ -180,10 +180,10 @@ module _ (bytes : List ℕ) (net : PlainNet) (known : Names) where
   followed v (x ∷ xs) s = followed (step_onto bytes net known x v) xs s
 
   -- an expression that is read to its parts is what its steps come to
-  expression_read : (n : ℕ) (ls : List Lexeme) → levels.ranked_at (step_onto bytes net known) n no_parts ls ≡ over (parts_of bytes net known) (steps.ranked_with (steps.inner_at n) [] ls)
+  expression_read : (n : ℕ) (ls : List Lexeme) → levels.joined_at (step_onto bytes net known) steps.Ranked n no_parts ls ≡ over (parts_of bytes net known) (steps.ranked_with (steps.inner_at n) [] ls)
   expression_read n ls = ranked_read (step_onto bytes net known) (parts_of bytes net known) (λ out s. followed no_parts out s) n [] ls
 
   -- what is read on from no part is what all steps come to
   pub parts_read : (n : ℕ) (v : PartsValue) (ls : List Lexeme) (r : Read PartsValue) → v ≡ no_parts
-      → levels.ranked_at (step_onto bytes net known) n v ls ≡ r → over (parts_of bytes net known) (steps.ranked_with (steps.inner_at n) [] ls) ≡ r
-  parts_read n v ls r none is = sym (expression_read n ls) ∙ ap (λ (x : PartsValue). levels.ranked_at (step_onto bytes net known) n x ls) (sym none) ∙ is
+      → levels.joined_at (step_onto bytes net known) steps.Ranked n v ls ≡ r → over (parts_of bytes net known) (steps.ranked_with (steps.inner_at n) [] ls) ≡ r
+  parts_read n v ls r none is = sym (expression_read n ls) ∙ ap (λ (x : PartsValue). levels.joined_at (step_onto bytes net known) steps.Ranked n x ls) (sym none) ∙ is

@@ -61,18 +61,21 @@ module _ {A : Type 0} (act : Step → A → A) where
   inner_at zero out ls = Err (refused ls)
   inner_at (suc n) out ls = ranked_with (inner_at n) out ls
 
-  -- each level, where so many brackets may be open
+  -- what stands on the sides of the operators of a level
+  abbrev pub side_with : Level → Reader A → Reader A
+  side_with Ranked inner = choice_with inner
+  side_with Choice inner = joint_with inner
+  side_with Joint inner = unit_with inner
+
+  -- each part of an expression, where so many brackets may be open
   abbrev pub atom_at : ℕ → Reader A
   atom_at n = atom_with (inner_at n)
 
   abbrev pub unit_at : ℕ → Reader A
   unit_at n = unit_with (inner_at n)
 
-  abbrev pub joint_at : ℕ → Reader A
-  joint_at n = joint_with (inner_at n)
+  abbrev pub side_at : Level → ℕ → Reader A
+  side_at level n = side_with level (inner_at n)
 
-  abbrev pub choice_at : ℕ → Reader A
-  choice_at n = choice_with (inner_at n)
-
-  abbrev pub ranked_at : ℕ → Reader A
-  ranked_at n = ranked_with (inner_at n)
+  abbrev pub joined_at : Level → ℕ → Reader A
+  joined_at level n = joined level (side_at level n)

@@ -3,6 +3,7 @@ pub mod CallReaders
 pub mod CallValues
 pub mod Levels
 pub mod NameSets
+pub mod Operators
 pub mod OriginNames
 pub mod Parts
 pub mod PatternValues

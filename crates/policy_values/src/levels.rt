@@ -5,12 +5,14 @@ ghost use Rattle.net_base.specs.Gives.{GivesUnless};
 ghost use Rattle.policy_tokens.specs.declared.fault.PolicyFault.TheVariants.{NoMemory};
 ghost use Rattle.policy_grammar.specs.Left.{left, StandsIn};
 ghost use Rattle.policy_grammar.specs.Reading.{chain};
-ghost use Rattle.policy_grammar.specs.Ranked.{Ranked, Choice, Joint, ranked_with, inner_at as bracket_at};
+ghost use Rattle.policy_grammar.specs.Ranked.{operator_of, ranked_with, inner_at as bracket_at};
 ghost use Rattle.policy_rules.specs.KnownView.{plain_names};
 ghost use Rattle.policy_values.specs.Parts.{parts_value, parts_of, step_onto};
 ghost use Rattle.policy_values.specs.Reads.{over};
-ghost use Rattle.policy_values.specs.Levels.{atom_at, unit_at, joint_at, choice_at, ranked_at, side_link, inner_at};
+ghost use Rattle.policy_values.specs.Levels.{atom_at, unit_at, side_at, joined_at, side_link, inner_at};
+ghost use Rattle.policy_values.specs.Operators.{level_of};
 
+use crate::operators::Operator;
 use crate::parts::Parts;
 use crate::reader::Reader;
 use policy_grammar::{Lexeme, Symbol, passed, past, refused};
@@ -18,9 +20,6 @@ use policy_tokens::PolicyFault;
 use policy_tokens::limits::BRACKETS;
 
 impl Reader<'_> {
-    // Each level of operators has functions of its own, though they read alike: no call has to look up which operator it is
-    // about, and most expressions have few operators.
-
     // What a bracket holds, where `depth` brackets more may be open.
     #[cycle(expression)]
     fn inner(&self, depth: u64, parts: &mut Parts, at: &mut Lexeme) -> Result<(), PolicyFault>
@@ -33,7 +32,7 @@ impl Reader<'_> {
         if depth == 0 {
             return Err(refused(at));
         }
-        self.expression(depth - 1, parts, at)
+        self.joined(Operator::Above, depth - 1, parts, at)
     }
 
     // An expression in brackets, or a call.
@@ -69,112 +68,73 @@ impl Reader<'_> {
         self.atom(depth, parts, at)
     }
 
-    // More units, as long as an `and` comes.
+    // What stands on the sides of an operator.
     #[cycle(expression)]
-    fn more_units(&self, depth: u64, parts: &mut Parts, at: &mut Lexeme) -> Result<(), PolicyFault>
-        requires stands { StandsIn self.now.text.now at.old }
-        ensures read { GivesUnless NoMemory (λ _. (parts_value parts.new, left self.now.text.now at.new)) result
-            (chain Symbol.And
-            (side_link (step_onto self.now.text.now self.now.whole.now.net.now (plain_names self.now.known.now)) Joint
-            (unit_at (step_onto self.now.text.now self.now.whole.now.net.now (plain_names self.now.known.now)) depth))
-            (length (left self.now.text.now at.old)) (parts_value parts.old) (left self.now.text.now at.old)) }
-        ensures stands { StandsIn self.now.text.now at.new }
-        ensures fewer { length (left self.now.text.now at.new) ≤ length (left self.now.text.now at.old) }
-    {
-        while past(Symbol::And, self.text, at) {
-            self.unit(depth, parts, at)?;
-            parts.take_and(self.alloc)?;
-        }
-        Ok(())
-    }
-
-    // Units that are joined by `and`.
-    #[cycle(expression)]
-    fn joint(&self, depth: u64, parts: &mut Parts, at: &mut Lexeme) -> Result<(), PolicyFault>
-        requires stands { StandsIn self.now.text.now at.old }
-        ensures read { GivesUnless NoMemory (λ _. (parts_value parts.new, left self.now.text.now at.new)) result
-            (joint_at (step_onto self.now.text.now self.now.whole.now.net.now (plain_names self.now.known.now)) depth (parts_value parts.old) (left self.now.text.now at.old)) }
-        ensures stands { StandsIn self.now.text.now at.new }
-        ensures fewer { length (left self.now.text.now at.new) ≤ length (left self.now.text.now at.old) }
-    {
-        self.unit(depth, parts, at)?;
-        self.more_units(depth, parts, at)
-    }
-
-    // More sides of `or`, as long as one comes.
-    #[cycle(expression)]
-    fn more_joints(&self, depth: u64, parts: &mut Parts, at: &mut Lexeme) -> Result<(), PolicyFault>
-        requires stands { StandsIn self.now.text.now at.old }
-        ensures read { GivesUnless NoMemory (λ _. (parts_value parts.new, left self.now.text.now at.new)) result
-            (chain Symbol.Or
-            (side_link (step_onto self.now.text.now self.now.whole.now.net.now (plain_names self.now.known.now)) Choice
-            (joint_at (step_onto self.now.text.now self.now.whole.now.net.now (plain_names self.now.known.now)) depth))
-            (length (left self.now.text.now at.old)) (parts_value parts.old) (left self.now.text.now at.old)) }
-        ensures stands { StandsIn self.now.text.now at.new }
-        ensures fewer { length (left self.now.text.now at.new) ≤ length (left self.now.text.now at.old) }
-    {
-        while past(Symbol::Or, self.text, at) {
-            self.joint(depth, parts, at)?;
-            parts.take_or(self.alloc)?;
-        }
-        Ok(())
-    }
-
-    // What is joined by `or`.
-    #[cycle(expression)]
-    fn choice(&self, depth: u64, parts: &mut Parts, at: &mut Lexeme) -> Result<(), PolicyFault>
-        requires stands { StandsIn self.now.text.now at.old }
-        ensures read { GivesUnless NoMemory (λ _. (parts_value parts.new, left self.now.text.now at.new)) result
-            (choice_at (step_onto self.now.text.now self.now.whole.now.net.now (plain_names self.now.known.now)) depth (parts_value parts.old) (left self.now.text.now at.old)) }
-        ensures stands { StandsIn self.now.text.now at.new }
-        ensures fewer { length (left self.now.text.now at.new) ≤ length (left self.now.text.now at.old) }
-    {
-        self.joint(depth, parts, at)?;
-        self.more_joints(depth, parts, at)
-    }
-
-    // More ranks, as long as a `>>` comes.
-    #[cycle(expression)]
-    fn more_choices(
+    fn side(
         &self,
+        operator: Operator,
         depth: u64,
         parts: &mut Parts,
         at: &mut Lexeme,
     ) -> Result<(), PolicyFault>
         requires stands { StandsIn self.now.text.now at.old }
         ensures read { GivesUnless NoMemory (λ _. (parts_value parts.new, left self.now.text.now at.new)) result
-            (chain Symbol.Above
-            (side_link (step_onto self.now.text.now self.now.whole.now.net.now (plain_names self.now.known.now)) Ranked
-            (choice_at (step_onto self.now.text.now self.now.whole.now.net.now (plain_names self.now.known.now)) depth))
+            (side_at (step_onto self.now.text.now self.now.whole.now.net.now (plain_names self.now.known.now)) (level_of operator) depth (parts_value parts.old) (left self.now.text.now at.old)) }
+        ensures stands { StandsIn self.now.text.now at.new }
+        ensures fewer { length (left self.now.text.now at.new) ≤ length (left self.now.text.now at.old) }
+    {
+        match operator {
+            Operator::Above => self.joined(Operator::Or, depth, parts, at),
+            Operator::Or => self.joined(Operator::And, depth, parts, at),
+            Operator::And => self.unit(depth, parts, at),
+        }
+    }
+
+    // More sides, as long as their operator comes.
+    #[cycle(expression)]
+    fn more_sides(
+        &self,
+        operator: Operator,
+        depth: u64,
+        parts: &mut Parts,
+        at: &mut Lexeme,
+    ) -> Result<(), PolicyFault>
+        requires stands { StandsIn self.now.text.now at.old }
+        ensures read { GivesUnless NoMemory (λ _. (parts_value parts.new, left self.now.text.now at.new)) result
+            (chain (operator_of (level_of operator))
+            (side_link (step_onto self.now.text.now self.now.whole.now.net.now (plain_names self.now.known.now)) (level_of operator)
+            (side_at (step_onto self.now.text.now self.now.whole.now.net.now (plain_names self.now.known.now)) (level_of operator) depth))
             (length (left self.now.text.now at.old)) (parts_value parts.old) (left self.now.text.now at.old)) }
         ensures stands { StandsIn self.now.text.now at.new }
         ensures fewer { length (left self.now.text.now at.new) ≤ length (left self.now.text.now at.old) }
     {
+        let symbol = operator.symbol();
         let mut place = at.place;
-        while past(Symbol::Above, self.text, at) {
-            self.choice(depth, parts, at)?;
-            parts.take_above(self.alloc, place)?;
+        while past(symbol, self.text, at) {
+            self.side(operator, depth, parts, at)?;
+            parts.take_sides(self.alloc, operator, place)?;
             place = at.place;
         }
         Ok(())
     }
 
-    // A ranked expression, where `depth` brackets may be open.
+    // Sides that are joined by an operator, where `depth` brackets may be open.
     #[cycle(expression)]
-    pub(crate) fn expression(
+    fn joined(
         &self,
+        operator: Operator,
         depth: u64,
         parts: &mut Parts,
         at: &mut Lexeme,
     ) -> Result<(), PolicyFault>
         requires stands { StandsIn self.now.text.now at.old }
         ensures read { GivesUnless NoMemory (λ _. (parts_value parts.new, left self.now.text.now at.new)) result
-            (ranked_at (step_onto self.now.text.now self.now.whole.now.net.now (plain_names self.now.known.now)) depth (parts_value parts.old) (left self.now.text.now at.old)) }
+            (joined_at (step_onto self.now.text.now self.now.whole.now.net.now (plain_names self.now.known.now)) (level_of operator) depth (parts_value parts.old) (left self.now.text.now at.old)) }
         ensures stands { StandsIn self.now.text.now at.new }
         ensures fewer { length (left self.now.text.now at.new) ≤ length (left self.now.text.now at.old) }
     {
-        self.choice(depth, parts, at)?;
-        self.more_choices(depth, parts, at)
+        self.side(operator, depth, parts, at)?;
+        self.more_sides(operator, depth, parts, at)
     }
 
     /// A ranked expression, in its parts. At most 64 brackets are open at once.
@@ -186,7 +146,7 @@ impl Reader<'_> {
         ensures fewer { length (left self.now.text.now at.new) ≤ length (left self.now.text.now at.old) }
     {
         let mut parts = Parts::of(self.alloc);
-        self.expression(BRACKETS, &mut parts, at)?;
+        self.joined(Operator::Above, BRACKETS, &mut parts, at)?;
         Ok(parts)
     }
 }

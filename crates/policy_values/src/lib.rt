@@ -4,6 +4,7 @@
 mod call_values;
 mod levels;
 mod name_sets;
+mod operators;
 mod origins;
 mod parts;
 mod path_calls;

@@ -2,18 +2,19 @@
 ghost use Rattle.std.specs.Prelude.{◌≡◌, ◌∷◌, Ok};
 ghost use Rattle.net_base.specs.Gives.{GivesUnless};
 ghost use Rattle.policy_tokens.specs.declared.fault.PolicyFault.TheVariants.{NoMemory};
-ghost use Rattle.policy_grammar.specs.Raw.{Step as step};
-ghost use Rattle.policy_base.specs.Policies.{ranking_of, prefer, either, both};
+ghost use Rattle.policy_base.specs.Policies.{ranking_of};
 ghost use Rattle.policy_rules.specs.Ranks.{top as top_mark, or_broken};
 ghost use Rattle.policy_values.specs.Built.{top, under_top};
+ghost use Rattle.policy_values.specs.Operators.{level_of, step_at, join_of};
 ghost use Rattle.policy_values.specs.Views.{rankings};
 ghost use Rattle.policy_values.specs.CallValues.{plain_call, plain_value};
 ghost use Rattle.policy_values.specs.Parts.{parts_value, no_parts, first_fault, names_of as names_in, is_kept as are_kept, settled, call_onto, sides_onto, not_onto};
 
 use crate::call_values::CallRead;
+use crate::operators::Operator;
 use net_base::Place;
 use policy_base::{Call, FromSet, Ranked};
-use policy_rules::{Mark, mark_above, mark_and, mark_call, mark_not, mark_or, ranks_fine};
+use policy_rules::{Mark, mark_call, mark_not, ranks_fine};
 use policy_tokens::PolicyFault;
 use policy_tokens::limits::CALLS;
 use std::alloc::Global;
@@ -123,43 +124,22 @@ impl Parts {
         Ok(())
     }
 
-    /// `a >> b` of the two on top; the `>>` stands at this place.
-    pub(crate) fn take_above(&mut self, alloc: Global, place: Place) -> Result<(), PolicyFault>
-        ensures { GivesUnless NoMemory (λ _. parts_value self.new) result (Ok (sides_onto (step.Above place) prefer (parts_value self.old))) }
+    /// What an operator that stands at this place makes of the two on top.
+    pub(crate) fn take_sides(
+        &mut self,
+        alloc: Global,
+        operator: Operator,
+        place: Place,
+    ) -> Result<(), PolicyFault>
+        ensures { GivesUnless NoMemory (λ _. parts_value self.new) result (Ok (sides_onto (step_at (level_of operator) place) (join_of (level_of operator)) (parts_value self.old))) }
     {
-        mark_above(&mut self.marks, place)?;
+        operator.mark(&mut self.marks, place)?;
         if !self.settle() {
             return Ok(());
         }
-        let b = Box::new(alloc, pop(&mut self.stack))?;
-        let a = Box::new(alloc, pop(&mut self.stack))?;
-        push(&mut self.stack, Ranked::Prefer(a, b))
-    }
-
-    /// `a or b` of the two on top.
-    pub(crate) fn take_or(&mut self, alloc: Global) -> Result<(), PolicyFault>
-        ensures { GivesUnless NoMemory (λ _. parts_value self.new) result (Ok (sides_onto step.Or either (parts_value self.old))) }
-    {
-        mark_or(&mut self.marks)?;
-        if !self.settle() {
-            return Ok(());
-        }
-        let b = Box::new(alloc, pop(&mut self.stack))?;
-        let a = Box::new(alloc, pop(&mut self.stack))?;
-        push(&mut self.stack, Ranked::Or(a, b))
-    }
-
-    /// `a and b` of the two on top.
-    pub(crate) fn take_and(&mut self, alloc: Global) -> Result<(), PolicyFault>
-        ensures { GivesUnless NoMemory (λ _. parts_value self.new) result (Ok (sides_onto step.And both (parts_value self.old))) }
-    {
-        mark_and(&mut self.marks)?;
-        if !self.settle() {
-            return Ok(());
-        }
-        let b = Box::new(alloc, pop(&mut self.stack))?;
-        let a = Box::new(alloc, pop(&mut self.stack))?;
-        push(&mut self.stack, Ranked::And(a, b))
+        let b = pop(&mut self.stack);
+        let a = pop(&mut self.stack);
+        push(&mut self.stack, operator.join(alloc, a, b)?)
     }
 
     /// `not a` of the one on top.

@@ -6,15 +6,15 @@ use Rattle.policy_values.specs.Parts.{parts_value}
 use Rattle.policy_values.proofs.PartLaws.{parts_read}
 use Rattle.policy_values.proofs.reader.Reader.ranked.Goals as goal
 
-pub returns-in_err-expression-clause-read : goal.returns-in_err-expression-clause-read
-returns-in_err-expression-clause-read c =
+pub returns-in_err-joined-clause-read : goal.returns-in_err-joined-clause-read
+returns-in_err-joined-clause-read c =
     let p = err_from_is_err_and c.from_residual.result c.from_residual.ensures.1 in
     rw (p.1, p.2)
     (λ memory. parts_read c.args.self.now.text.now c.args.self.now.whole.now.net.now (plain_names c.args.self.now.known.now) BRACKETS
     (parts_value c.of-parts.result) (left c.args.self.now.text.now c.args.at.now) _ c.of-parts.ensures
-    (c.in_err-expression.ensures.read memory))
+    (c.in_err-joined.ensures.read memory))
 
 pub returns-clause-read : goal.returns-clause-read
 returns-clause-read c =
     parts_read c.args.self.now.text.now c.args.self.now.whole.now.net.now (plain_names c.args.self.now.known.now) BRACKETS
-    (parts_value c.of-parts.result) (left c.args.self.now.text.now c.args.at.now) _ c.of-parts.ensures c.in_ok-expression.ensures.read
+    (parts_value c.of-parts.result) (left c.args.self.now.text.now c.args.at.now) _ c.of-parts.ensures c.in_ok-joined.ensures.read
