@@ -18,7 +18,8 @@ not_both w x y (inl l) a = omega (arith, l, a.number)
 not_both w x y (inr l) a = omega (arith, l.1, a.fewer (sym l.0))
 
 -- of two that are given neither of which comes later, both are one
-one_giver : (w : Setup) (r : Routes) → NamesDiffer w.net → WellFormed w.net w.graph → PartlySettled w r → (v u t : ℕ) (x y : Route) → heard w r v u ≡ Some x → heard w r v t ≡ Some y → NoLater w x y → NoLater w y x → y ≡ x
+one_giver : (w : Setup) (r : Routes) → NamesDiffer w.net → WellFormed w.net w.graph → PartlySettled w r → (v u t : ℕ) (x y : Route)
+    → heard w r v u ≡ Some x → heard w r v t ≡ Some y → NoLater w x y → NoLater w y x → y ≡ x
 one_giver w r differ wf ps v u t x y h g a b =
     let bk = backed_of w r ps in
     let even : w.graph.number y.node ≡ w.graph.number x.node = omega (arith, a.number, b.number) in
@@ -71,7 +72,8 @@ module _ (w : Setup) (r : Routes) (bk : Backed w r) where
       some_is : {a b : ℕ} → Some a ≡ Some b → a ≡ b
       some_is e = cc
 
-  way_is_held : (vs : List ℕ) (v u n : ℕ) (y : Route) → AllOpen w r (v ∷ vs) → r u ≡ Some y → survives w.alive (v ∷ vs ++ y.path) ≡ true → run w.graph (v ∷ vs ++ y.path) ≡ Some n → CanHold w r (v ∷ vs ++ y.path) n
+  way_is_held : (vs : List ℕ) (v u n : ℕ) (y : Route) → AllOpen w r (v ∷ vs) → r u ≡ Some y → survives w.alive (v ∷ vs ++ y.path) ≡ true
+      → run w.graph (v ∷ vs ++ y.path) ≡ Some n → CanHold w r (v ∷ vs ++ y.path) n
   way_is_held [] v u n y o e l h = next_to_settled v u n y o.0 e l h
   way_is_held (t ∷ vs) v u n y o e l h =
       let a = run_more w.graph v t (vs ++ y.path) n h in

@@ -1,5 +1,6 @@
 -- What open routers can come to hold is found by a search, path length by path length.
-use Rattle.std.proofs.Common.{◌≡◌, ℕ, zero, suc, ◌+◌, ◌<◌, ◌≤◌, Bool, true, false, not, ◌&&◌, ◌||◌, ◌⊎◌, inl, inr, ⊎_elim, List, [], ◌∷◌, ◌++◌, length, Option, Some, None, eqb, refl, sym, ap, ◌∙◌, subst, arith, length-append}
+use Rattle.std.proofs.Common.{◌≡◌, ℕ, zero, suc, ◌+◌, ◌<◌, ◌≤◌, Bool, true, false, not, ◌&&◌, ◌||◌, ◌⊎◌, inl, inr, ⊎_elim, List, [], ◌∷◌, ◌++◌, length, Option, Some, None}
+use Rattle.std.proofs.Common.{eqb, refl, sym, ap, ◌∙◌, subst, arith, length-append}
 use Rattle.std.specs.Option.{is_none, option_and_then}
 use Rattle.std.proofs.lemmas.Bool.{and_from, and_parts, cases_lt, eq-eqb, eqb-true, false≢true, false_from_ne_true, not-true, or_cases, or_left, or_right}
 use Rattle.list_laws.proofs.Options.{is_none_from, is_none_parts}
@@ -43,7 +44,9 @@ counted : (bound : ℕ) (p : List ℕ) → AllBelow bound p → loop_free p ≡ 
 counted bound [] a h = omega arith
 counted bound (v ∷ p) a h =
     let b = and_parts (not (stands_on v p)) (loop_free p) h in
-    let more = count_more (λ n. stands_on n p) (λ n. stands_on n (v ∷ p)) (λ n e. or_right (eqb v n) (stands_on n p) e) bound v a.0 (not-true (stands_on v p) b.0) (or_left (eqb v v) (stands_on v p) (eq-eqb v v refl)) in
+    let more =
+    count_more (λ n. stands_on n p) (λ n. stands_on n (v ∷ p)) (λ n e. or_right (eqb v n) (stands_on n p) e) bound v a.0
+    (not-true (stands_on v p) b.0) (or_left (eqb v v) (stands_on v p) (eq-eqb v v refl)) in
     omega (arith, counted bound p a.1 b.1, more)
 
 pub loop_free_short : {net : Network} {g : Graph} → WellFormed net g → (p : List ℕ) (n : ℕ) → run g p ≡ Some n → loop_free p ≡ true → length p ≤ net.size
@@ -64,7 +67,9 @@ gives_node w size n u (Some y) = eqb (length y.path) size && step_to w u y.node 
 -- the nodes that open routers can come to hold with paths of so many locations
 abbrev pub comes_with : Setup → Routes → ℕ → Marks
 comes_with w r zero n = false
-comes_with w r (suc size) n = is_open w r (w.graph.place n) && (any_below (λ u. gives_node w size n u (r u)) w.net.size || any_below (λ m. comes_with w r size m && step_to w (w.graph.place m) m n) w.graph.nodes)
+comes_with w r (suc size) n =
+    is_open w r (w.graph.place n)
+    && (any_below (λ u. gives_node w size n u (r u)) w.net.size || any_below (λ m. comes_with w r size m && step_to w (w.graph.place m) m n) w.graph.nodes)
 
 -- and by open neighbours, with one location more
 abbrev pub comes_through : Setup → Routes → ℕ → Marks
@@ -143,10 +148,16 @@ module _ (w : Setup) (wf : WellFormed w.net w.graph) (r : Routes) (bk : Backed w
   pub arc_with : (size n : ℕ) → comes_with w r size n ≡ true → Arc w r size n 0
   arc_with zero n h = absurd (false≢true h)
   arc_with (suc size) n h =
-      let a = and_parts (is_open w r (w.graph.place n)) (any_below (λ u. gives_node w size n u (r u)) w.net.size || any_below (λ m. comes_with w r size m && step_to w (w.graph.place m) m n) w.graph.nodes) h in
-      by (open_at (w.graph.place n) a.0) (or_cases (any_below (λ u. gives_node w size n u (r u)) w.net.size) (any_below (λ m. comes_with w r size m && step_to w (w.graph.place m) m n) w.graph.nodes) a.1) (arc_with size)
+      let a =
+      and_parts (is_open w r (w.graph.place n))
+      (any_below (λ u. gives_node w size n u (r u)) w.net.size || any_below (λ m. comes_with w r size m && step_to w (w.graph.place m) m n) w.graph.nodes) h in
+      by (open_at (w.graph.place n) a.0)
+      (or_cases (any_below (λ u. gives_node w size n u (r u)) w.net.size) (any_below (λ m. comes_with w r size m && step_to w (w.graph.place m) m n) w.graph.nodes) a.1)
+      (arc_with size)
     where
-      by : IsOpen w r (w.graph.place n) → (any_below (λ u. gives_node w size n u (r u)) w.net.size ≡ true) ⊎ (any_below (λ m. comes_with w r size m && step_to w (w.graph.place m) m n) w.graph.nodes ≡ true) → ((m : ℕ) → comes_with w r size m ≡ true → Arc w r size m 0) → Arc w r (suc size) n 0
+      by : IsOpen w r (w.graph.place n)
+          → (any_below (λ u. gives_node w size n u (r u)) w.net.size ≡ true) ⊎ (any_below (λ m. comes_with w r size m && step_to w (w.graph.place m) m n) w.graph.nodes ≡ true)
+          → ((m : ℕ) → comes_with w r size m ≡ true → Arc w r size m 0) → Arc w r (suc size) n 0
       by o (inl e) again = let b = any_at (λ u. gives_node w size n u (r u)) w.net.size e in offered_arc size n b.0 o (r b.0) refl b.2
       by o (inr e) again =
           let b = any_at (λ m. comes_with w r size m && step_to w (w.graph.place m) m n) w.graph.nodes e in
@@ -171,11 +182,13 @@ module _ (w : Setup) (wf : WellFormed w.net w.graph) (r : Routes) (bk : Backed w
       by (inr c) again = ap (option_and_then (λ m. w.graph.next m v)) (again c) ∙ h.2.1
 
   -- one more step from what is come to
-  stepped_mark : (size u v m n : ℕ) → w.graph.place m ≡ u → w.graph.place n ≡ v → w.alive.carries u v ≡ true → w.graph.next m v ≡ Some n → comes_with w r size m ≡ true → any_below (λ m. comes_with w r size m && step_to w (w.graph.place m) m n) w.graph.nodes ≡ true
+  stepped_mark : (size u v m n : ℕ) → w.graph.place m ≡ u → w.graph.place n ≡ v → w.alive.carries u v ≡ true → w.graph.next m v ≡ Some n
+      → comes_with w r size m ≡ true → any_below (λ m. comes_with w r size m && step_to w (w.graph.place m) m n) w.graph.nodes ≡ true
   stepped_mark size u v m n mu nv c st h =
       let carried : w.alive.carries (w.graph.place m) (w.graph.place n) ≡ true = rw (mu, nv) c in
       let steps : w.graph.next m (w.graph.place n) ≡ Some n = rw nv st in
-      any_from (λ m. comes_with w r size m && step_to w (w.graph.place m) m n) w.graph.nodes m (wf.next_below m v n st).0 (and_from (comes_with w r size m) (step_to w (w.graph.place m) m n) h (step_from (w.graph.place m) m n carried steps))
+      any_from (λ m. comes_with w r size m && step_to w (w.graph.place m) m n) w.graph.nodes m (wf.next_below m v n st).0
+      (and_from (comes_with w r size m) (step_to w (w.graph.place m) m n) h (step_from (w.graph.place m) m n carried steps))
 
   -- and what can be held is found
   pub held_comes : (p : List ℕ) (n : ℕ) → CanHold w r p n → comes_with w r (length p) n ≡ true
@@ -189,12 +202,15 @@ module _ (w : Setup) (wf : WellFormed w.net w.graph) (r : Routes) (bk : Backed w
       opens : is_open w r (w.graph.place n) ≡ true
       opens = rw at (open_from v h.0)
 
-      by : (r u ≡ Some (record { path = u ∷ p; node = h.2.0 })) ⊎ CanHold w r (u ∷ p) h.2.0 → (CanHold w r (u ∷ p) h.2.0 → comes_with w r (length (u ∷ p)) h.2.0 ≡ true) → comes_with w r (length (v ∷ u ∷ p)) n ≡ true
+      by : (r u ≡ Some (record { path = u ∷ p; node = h.2.0 })) ⊎ CanHold w r (u ∷ p) h.2.0
+          → (CanHold w r (u ∷ p) h.2.0 → comes_with w r (length (u ∷ p)) h.2.0 ≡ true) → comes_with w r (length (v ∷ u ∷ p)) n ≡ true
       by (inl e) again =
           let s = sound_of w r bk u (record { path = u ∷ p; node = h.2.0 }) e in
           let carried : w.alive.carries u (w.graph.place n) ≡ true = rw at h.1 in
           let steps : w.graph.next h.2.0 (w.graph.place n) ≡ Some n = rw at h.2.1 in
-          let given : gives_node w (length (u ∷ p)) n u (r u) ≡ true = rw e (and_from (eqb (length (u ∷ p)) (length (u ∷ p))) (step_to w u h.2.0 n) (eq-eqb (length (u ∷ p)) (length (u ∷ p)) refl) (step_from u h.2.0 n carried steps)) in
+          let given : gives_node w (length (u ∷ p)) n u (r u) ≡ true =
+          rw e (and_from (eqb (length (u ∷ p)) (length (u ∷ p))) (step_to w u h.2.0 n) (eq-eqb (length (u ∷ p)) (length (u ∷ p)) refl) (step_from u h.2.0 n carried steps))
+          in
           let some = any_from (λ z. gives_node w (length (u ∷ p)) n z (r z)) w.net.size u (place_below wf p u h.2.0 s.runs) given in
           and_from (is_open w r (w.graph.place n)) _ opens (or_left (any_below (λ z. gives_node w (length (u ∷ p)) n z (r z)) w.net.size) _ some)
       by (inr c) again =
@@ -206,7 +222,10 @@ module _ (w : Setup) (wf : WellFormed w.net w.graph) (r : Routes) (bk : Backed w
   detour_comes v y o d =
       let at = wf.next_place d.node v y.node d.step in
       let opens : is_open w r (w.graph.place y.node) ≡ true = rw at (open_from v o) in
-      and_from (is_open w r (w.graph.place y.node)) _ opens (stepped_mark (length (d.by ∷ d.rest)) d.by v d.node y.node (run_place wf d.by d.rest d.node (held_runs (d.by ∷ d.rest) d.node d.held)) at d.carries d.step (held_comes (d.by ∷ d.rest) d.node d.held))
+      and_from (is_open w r (w.graph.place y.node)) _ opens
+      (stepped_mark (length (d.by ∷ d.rest)) d.by v d.node y.node
+      (run_place wf d.by d.rest d.node (held_runs (d.by ∷ d.rest) d.node d.held)) at d.carries d.step
+      (held_comes (d.by ∷ d.rest) d.node d.held))
 
   -- settled paths are short
   pub settled_short : (u : ℕ) (y : Route) → r u ≡ Some y → length y.path ≤ w.net.size
@@ -237,10 +256,15 @@ module _ (w : Setup) (wf : WellFormed w.net w.graph) (r : Routes) (bk : Backed w
   all_found k rests zero n h = absurd (false≢true h)
   all_found k rests (suc size) n h = by (cases_lt (suc size) (suc (suc (w.net.size + k)))) (all_found k rests size)
     where
-      at : (is_open w r (w.graph.place n) ≡ true) × ((any_below (λ u. gives_node w size n u (r u)) w.net.size || any_below (λ m. comes_with w r size m && step_to w (w.graph.place m) m n) w.graph.nodes) ≡ true)
-      at = and_parts (is_open w r (w.graph.place n)) (any_below (λ u. gives_node w size n u (r u)) w.net.size || any_below (λ m. comes_with w r size m && step_to w (w.graph.place m) m n) w.graph.nodes) h
+      at : (is_open w r (w.graph.place n) ≡ true)
+          × ((any_below (λ u. gives_node w size n u (r u)) w.net.size || any_below (λ m. comes_with w r size m && step_to w (w.graph.place m) m n) w.graph.nodes) ≡ true)
+      at =
+          and_parts (is_open w r (w.graph.place n))
+          (any_below (λ u. gives_node w size n u (r u)) w.net.size || any_below (λ m. comes_with w r size m && step_to w (w.graph.place m) m n) w.graph.nodes) h
 
-      by_kind : suc (suc (w.net.size + k)) ≤ suc size → (any_below (λ u. gives_node w size n u (r u)) w.net.size ≡ true) ⊎ (any_below (λ m. comes_with w r size m && step_to w (w.graph.place m) m n) w.graph.nodes ≡ true) → ((m : ℕ) → comes_with w r size m ≡ true → found k m ≡ true) → found k n ≡ true
+      by_kind : suc (suc (w.net.size + k)) ≤ suc size
+          → (any_below (λ u. gives_node w size n u (r u)) w.net.size ≡ true) ⊎ (any_below (λ m. comes_with w r size m && step_to w (w.graph.place m) m n) w.graph.nodes ≡ true)
+          → ((m : ℕ) → comes_with w r size m ≡ true → found k m ≡ true) → found k n ≡ true
       by_kind l (inl e) again = let b = any_at (λ u. gives_node w size n u (r u)) w.net.size e in absurd (omega (arith, l, gives_short size n b.0 (r b.0) refl b.2))
       by_kind l (inr e) again =
           let b = any_at (λ m. comes_with w r size m && step_to w (w.graph.place m) m n) w.graph.nodes e in
@@ -253,7 +277,9 @@ module _ (w : Setup) (wf : WellFormed w.net w.graph) (r : Routes) (bk : Backed w
 
       by : (suc size < suc (suc (w.net.size + k))) ⊎ (suc (suc (w.net.size + k)) ≤ suc size) → ((m : ℕ) → comes_with w r size m ≡ true → found k m ≡ true) → found k n ≡ true
       by (inl l) again = found_from k n (suc size) l h
-      by (inr l) again = by_kind l (or_cases (any_below (λ u. gives_node w size n u (r u)) w.net.size) (any_below (λ m. comes_with w r size m && step_to w (w.graph.place m) m n) w.graph.nodes) at.1) again
+      by (inr l) again =
+          by_kind l (or_cases (any_below (λ u. gives_node w size n u (r u)) w.net.size) (any_below (λ m. comes_with w r size m && step_to w (w.graph.place m) m n) w.graph.nodes) at.1)
+          again
 
   -- a length by which all that comes through open neighbours comes
   pub record Enough : Type 0 where
@@ -268,7 +294,8 @@ module _ (w : Setup) (wf : WellFormed w.net w.graph) (r : Routes) (bk : Backed w
     all = all a.0 a.1;
   }
     where
-      all : (k : ℕ) → Within w.graph.nodes (found (suc k)) (found k) → (size n : ℕ) → comes_through w r size n ≡ true → (less : ℕ) × (less < suc (suc (w.net.size + k))) × (comes_through w r less n ≡ true)
+      all : (k : ℕ) → Within w.graph.nodes (found (suc k)) (found k) → (size n : ℕ) → comes_through w r size n ≡ true
+          → (less : ℕ) × (less < suc (suc (w.net.size + k))) × (comes_through w r less n ≡ true)
       all k rests size n h =
           let a = and_parts (is_open w r (w.graph.place n)) (any_below (λ m. comes_with w r size m && step_to w (w.graph.place m) m n) w.graph.nodes) h in
           let b = any_at (λ m. comes_with w r size m && step_to w (w.graph.place m) m n) w.graph.nodes a.1 in

@@ -7,7 +7,9 @@ use Rattle.secure_law.specs.Partial.{AllOpen, CanHold, FirmlySettled, IsCandidat
 
 -- Where a settled neighbour gives an open router a route, some open router is secure.
 abbrev pub SomeoneIsSecure : Type 0
-SomeoneIsSecure = (w : Setup) (r : Routes) → WellFormed w.net w.graph → MeetsRules w.net w.graph → PartlySettled w r → (v u : ℕ) (x : Route) → IsOpen w r v → heard w r v u ≡ Some x → (z : ℕ) × (y : Route) × IsSecure w r z y
+SomeoneIsSecure =
+    (w : Setup) (r : Routes) → WellFormed w.net w.graph → MeetsRules w.net w.graph → PartlySettled w r → (v u : ℕ) (x : Route) → IsOpen w r v
+    → heard w r v u ≡ Some x → (z : ℕ) × (y : Route) × IsSecure w r z y
 
 -- In the beginning the settlement is firm,
 abbrev pub FirmAtFirst : Type 0
@@ -27,15 +29,21 @@ FirmAtLast = (w : Setup) (r : Routes) → FirmlySettled w r → ((v u : ℕ) (x 
 
 -- No candidate comes sooner than a firm route that a settled neighbour gives, and none but itself as soon.
 abbrev pub FirmComesFirst : Type 0
-FirmComesFirst = (w : Setup) (r : Routes) → NamesDiffer w.net → WellFormed w.net w.graph → PartlySettled w r → (v u : ℕ) (x y : Route) → IsFirm w r v x → heard w r v u ≡ Some x → IsCandidate w r v y → NoLater w x y × (NoLater w y x → y ≡ x)
+FirmComesFirst =
+    (w : Setup) (r : Routes) → NamesDiffer w.net → WellFormed w.net w.graph → PartlySettled w r → (v u : ℕ) (x y : Route) → IsFirm w r v x
+    → heard w r v u ≡ Some x → IsCandidate w r v y → NoLater w x y × (NoLater w y x → y ≡ x)
 
 -- What leads through open routers to a settled path, survives and has a run can be held.
 abbrev pub OpenWaysAreHeld : Type 0
-OpenWaysAreHeld = (w : Setup) (r : Routes) → PartlySettled w r → (v : ℕ) (vs : List ℕ) (u n : ℕ) (y : Route) → AllOpen w r (v ∷ vs) → r u ≡ Some y → survives w.alive (v ∷ vs ++ y.path) ≡ true → run w.graph (v ∷ vs ++ y.path) ≡ Some n → CanHold w r (v ∷ vs ++ y.path) n
+OpenWaysAreHeld =
+    (w : Setup) (r : Routes) → PartlySettled w r → (v : ℕ) (vs : List ℕ) (u n : ℕ) (y : Route) → AllOpen w r (v ∷ vs) → r u ≡ Some y
+    → survives w.alive (v ∷ vs ++ y.path) ≡ true → run w.graph (v ∷ vs ++ y.path) ≡ Some n → CanHold w r (v ∷ vs ++ y.path) n
 
 -- What is given by a settled neighbour, or by an open one that can come to hold it, is a candidate.
 abbrev pub GivenAreCandidates : Type 0
-GivenAreCandidates = (w : Setup) (r : Routes) (v u m n : ℕ) (p : List ℕ) → w.alive.carries u v ≡ true → stands_on v (u ∷ p) ≡ false → w.graph.next m v ≡ Some n → (r u ≡ Some (record { path = u ∷ p; node = m })) ⊎ CanHold w r (u ∷ p) m → IsCandidate w r v (record { path = v ∷ u ∷ p; node = n })
+GivenAreCandidates =
+    (w : Setup) (r : Routes) (v u m n : ℕ) (p : List ℕ) → w.alive.carries u v ≡ true → stands_on v (u ∷ p) ≡ false → w.graph.next m v ≡ Some n
+    → (r u ≡ Some (record { path = u ∷ p; node = m })) ⊎ CanHold w r (u ∷ p) m → IsCandidate w r v (record { path = v ∷ u ∷ p; node = n })
 
 -- Where no open router is given a route by a settled neighbour, none can come to hold one.
 abbrev pub NothingIsLeft : Type 0
@@ -43,7 +51,9 @@ NothingIsLeft = (w : Setup) (r : Routes) → PartlySettled w r → ((v u : ℕ) 
 
 -- So what is settled firmly is the outcome's,
 abbrev pub FirmIsOutcome : Type 0
-FirmIsOutcome = (w : Setup) (r s : Routes) → NamesDiffer w.net → WellFormed w.net w.graph → MeetsRules w.net w.graph → FirmlySettled w r → FullyStable w s → (v : ℕ) (x : Route) → r v ≡ Some x → s v ≡ Some x
+FirmIsOutcome =
+    (w : Setup) (r s : Routes) → NamesDiffer w.net → WellFormed w.net w.graph → MeetsRules w.net w.graph → FirmlySettled w r → FullyStable w s
+    → (v : ℕ) (x : Route) → r v ≡ Some x → s v ≡ Some x
 
 -- and until all of the outcome is settled, some open router is secure, with its route of the outcome.
 abbrev pub NextSettles : Type 0

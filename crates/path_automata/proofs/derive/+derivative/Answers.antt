@@ -1,8 +1,9 @@
-use Rattle.std.proofs.Common.{◌≡◌, arith, ap, sym, ◌∙◌, true, [], subst, length, map, ◌≤◌}
+use Rattle.std.proofs.Common.{◌≡◌, arith, ap, sym, ◌∙◌, true, [], subst, length, map, ◌≤◌, ◌<◌}
 use Rattle.path_terms.specs.Terms.{node, are_known, ascending, is_sound, at}
 use Rattle.path_terms.specs.Values.{values, value}
 use Rattle.std.proofs.lemmas.Result.{IfOk-weaker}
 use Rattle.std.proofs.lemmas.List.{append-nil, length-append}
+use Rattle.path_exprs.specs.Expression.{seq}
 use Rattle.path_exprs.specs.Membership.{member}
 use Rattle.path_exprs.specs.Normal.{either_of, both_of}
 use Rattle.path_exprs.specs.Derivative.{derivative}
@@ -252,3 +253,115 @@ made-returns-in_ok-all-in-Both-clause-made t c =
     (λ n r. both-made c.args.at (map (at old) ms) (at old c.args.e) _ (c.term.ensures.node ∙ ap (node old) c.in-Both.is)
     (r ∙ ap both_of (ap (map (at one)) c.deref-in-Both-3.ensures.value ∙ c.in_ok-all-in-Both.ensures.made ∙ ap (λ l. map (derivative c.args.at) (map (at old) l)) same)))
     c.both_of.ensures.made
+
+pub made-front-requires-clause-term : goal.made-front-requires-clause-term
+made-front-requires-clause-term t c =
+    let old = values c.args.terms.now in
+    let one = values c.derivative-in-Seq.new.terms in
+    let x1 = c.derivative-in-Seq.ensures.extends in
+    let below = seq-below c.args.e c.term.result.now c.in-Seq.a c.in-Seq.b c.in-Seq.is c.term.ensures.sound in
+    let la : c.in-Seq.a < length old = omega (arith, below.0, c.requires.known) in
+    let lb : c.in-Seq.b < length old = omega (arith, below.1, c.requires.known) in
+    at-extends old one c.args.e x1 c.requires.known ∙ c.term.ensures.node ∙ ap (node old) c.in-Seq.is
+    ∙ ap (λ v. seq v (at old c.in-Seq.b)) (sym (at-extends old one c.in-Seq.a x1 la)) ∙ ap (seq (at one c.in-Seq.a)) (sym (at-extends old one c.in-Seq.b x1 lb))
+
+pub made-front-requires-clause-e : goal.made-front-requires-clause-e
+made-front-requires-clause-e t c =
+    longer (values c.args.terms.now) (values c.derivative-in-Seq.new.terms) c.args.e c.derivative-in-Seq.ensures.extends c.requires.known
+
+pub made-front-requires-clause-a : goal.made-front-requires-clause-a
+made-front-requires-clause-a t c =
+    let old = values c.args.terms.now in
+    let below = seq-below c.args.e c.term.result.now c.in-Seq.a c.in-Seq.b c.in-Seq.is c.term.ensures.sound in
+    let la : c.in-Seq.a < length old = omega (arith, below.0, c.requires.known) in
+    longer old (values c.derivative-in-Seq.new.terms) c.in-Seq.a c.derivative-in-Seq.ensures.extends la
+
+pub made-front-requires-clause-b : goal.made-front-requires-clause-b
+made-front-requires-clause-b t c =
+    let old = values c.args.terms.now in
+    let below = seq-below c.args.e c.term.result.now c.in-Seq.a c.in-Seq.b c.in-Seq.is c.term.ensures.sound in
+    let lb : c.in-Seq.b < length old = omega (arith, below.1, c.requires.known) in
+    longer old (values c.derivative-in-Seq.new.terms) c.in-Seq.b c.derivative-in-Seq.ensures.extends lb
+
+pub made-front-requires-clause-first : goal.made-front-requires-clause-first
+made-front-requires-clause-first t c =
+    c.in_ok-first-in-Seq.ensures.known
+
+pub made-returns-in_err-kept-in-Seq-clause-extends : goal.made-returns-in_err-kept-in-Seq-clause-extends
+made-returns-in_err-kept-in-Seq-clause-extends t c =
+    let old = values c.args.terms.now in
+    extends-trans old (values c.derivative-in-Seq.new.terms) (values c.front.new.terms) c.derivative-in-Seq.ensures.extends c.front.ensures.extends
+
+pub made-holds_empty-requires : goal.made-holds_empty-requires
+made-holds_empty-requires t c =
+    let old = values c.args.terms.now in
+    let one = values c.derivative-in-Seq.new.terms in
+    let two = values c.front.new.terms in
+    let below = seq-below c.args.e c.term.result.now c.in-Seq.a c.in-Seq.b c.in-Seq.is c.term.ensures.sound in
+    let la : c.in-Seq.a < length old = omega (arith, below.0, c.requires.known) in
+    record { known = longer old two c.in-Seq.a (extends-trans old one two c.derivative-in-Seq.ensures.extends c.front.ensures.extends) la }
+
+pub made-returns-in_err-back-in-Seq-clause-extends : goal.made-returns-in_err-back-in-Seq-clause-extends
+made-returns-in_err-back-in-Seq-clause-extends t c =
+    let old = values c.args.terms.now in
+    let one = values c.derivative-in-Seq.new.terms in
+    let two = values c.front.new.terms in
+    let x1 = c.derivative-in-Seq.ensures.extends in
+    let x2 = extends-trans old one two x1 c.front.ensures.extends in
+    extends-trans old two (values c.derivative-then-holds_empty.new.terms) x2 c.derivative-then-holds_empty.ensures.extends
+
+pub made-joined-requires-clause-first : goal.made-joined-requires-clause-first
+made-joined-requires-clause-first t c =
+    longer (values c.front.new.terms) (values c.derivative-then-holds_empty.new.terms) c.in_ok-kept-in-Seq.kept c.derivative-then-holds_empty.ensures.extends c.in_ok-kept-in-Seq.ensures.known
+
+pub made-joined-requires-clause-second : goal.made-joined-requires-clause-second
+made-joined-requires-clause-second t c =
+    c.in_ok-back-in-Seq.ensures.known
+
+pub made-returns-in_ok-back-in-Seq-clause-extends : goal.made-returns-in_ok-back-in-Seq-clause-extends
+made-returns-in_ok-back-in-Seq-clause-extends t c =
+    let old = values c.args.terms.now in
+    let one = values c.derivative-in-Seq.new.terms in
+    let two = values c.front.new.terms in
+    let three = values c.derivative-then-holds_empty.new.terms in
+    let x1 = c.derivative-in-Seq.ensures.extends in
+    let x2 = extends-trans old one two x1 c.front.ensures.extends in
+    let x3 = extends-trans old two three x2 c.derivative-then-holds_empty.ensures.extends in
+    extends-trans old three (values c.joined.new.terms) x3 c.joined.ensures.extends
+
+pub made-returns-else-holds_empty-clause-extends : goal.made-returns-else-holds_empty-clause-extends
+made-returns-else-holds_empty-clause-extends t c =
+    let old = values c.args.terms.now in
+    extends-trans old (values c.derivative-in-Seq.new.terms) (values c.front.new.terms) c.derivative-in-Seq.ensures.extends c.front.ensures.extends
+
+pub made-returns-else-holds_empty-clause-known : goal.made-returns-else-holds_empty-clause-known
+made-returns-else-holds_empty-clause-known t c =
+    c.in_ok-kept-in-Seq.ensures.known
+
+pub made-seq_of-requires-clause-first : goal.made-seq_of-requires-clause-first
+made-seq_of-requires-clause-first t c =
+    c.in_ok-first-in-Star.ensures.known
+
+pub made-seq_of-requires-clause-second : goal.made-seq_of-requires-clause-second
+made-seq_of-requires-clause-second t c =
+    longer (values c.args.terms.now) (values c.derivative-in-Star.new.terms) c.args.e c.derivative-in-Star.ensures.extends c.requires.known
+
+pub made-returns-in_ok-inner-in-Not-clause-extends : goal.made-returns-in_ok-inner-in-Not-clause-extends
+made-returns-in_ok-inner-in-Not-clause-extends t c =
+    let old = values c.args.terms.now in
+    extends-trans old (values c.derivative.new.terms) (values c.complement_of.new.terms) c.derivative.ensures.extends c.complement_of.ensures.extends
+
+pub made-returns-in_ok-first-in-Star-clause-extends : goal.made-returns-in_ok-first-in-Star-clause-extends
+made-returns-in_ok-first-in-Star-clause-extends t c =
+    let old = values c.args.terms.now in
+    extends-trans old (values c.derivative-in-Star.new.terms) (values c.seq_of.new.self) c.derivative-in-Star.ensures.extends c.seq_of.ensures.extends
+
+pub made-returns-in_ok-all-in-Either-clause-extends : goal.made-returns-in_ok-all-in-Either-clause-extends
+made-returns-in_ok-all-in-Either-clause-extends t c =
+    let old = values c.args.terms.now in
+    extends-trans old (values c.derivative_each.new.terms) (values c.either_of.new.terms) c.derivative_each.ensures.extends c.either_of.ensures.extends
+
+pub made-returns-in_ok-all-in-Both-clause-extends : goal.made-returns-in_ok-all-in-Both-clause-extends
+made-returns-in_ok-all-in-Both-clause-extends t c =
+    let old = values c.args.terms.now in
+    extends-trans old (values c.derivative_each-in-Both.new.terms) (values c.both_of.new.terms) c.derivative_each-in-Both.ensures.extends c.both_of.ensures.extends

@@ -106,3 +106,125 @@ reversed_onto-returns-in_ok-first-in-Star-clause-made t c =
     IfOk-weaker c.seq_of-in-Star.result _ _
     (λ n q. q ∙ ap (λ e. seq_of e (at three c.args.tail)) first ∙ ap (seq_of (normal full (reversed (view c.args.e.now)))) (at-extends old three c.args.tail x c.requires.tail))
     c.seq_of-in-Star.ensures.made
+
+pub reversed_onto-seq_of-requires-clause-first : goal.reversed_onto-seq_of-requires-clause-first
+reversed_onto-seq_of-requires-clause-first t c =
+    c.in_ok-first-in-Set.ensures.known
+
+pub reversed_onto-seq_of-requires-clause-second : goal.reversed_onto-seq_of-requires-clause-second
+reversed_onto-seq_of-requires-clause-second t c =
+    longer (values c.args.terms.now) (values c.set_of.new.terms) c.args.tail c.set_of.ensures.extends c.requires.tail
+
+pub reversed_onto-returns-in_ok-first-in-Set-clause-extends : goal.reversed_onto-returns-in_ok-first-in-Set-clause-extends
+reversed_onto-returns-in_ok-first-in-Set-clause-extends t c =
+    extends-trans (values c.args.terms.now) (values c.set_of.new.terms) (values c.seq_of.new.self) c.set_of.ensures.extends c.seq_of.ensures.extends
+
+pub reversed_onto-returns-in_err-first-in-Either-clause-extends : goal.reversed_onto-returns-in_err-first-in-Either-clause-extends
+reversed_onto-returns-in_err-first-in-Either-clause-extends t c =
+    extends-trans (values c.args.terms.now) (values c.starts.new.terms) (values c.either_of.new.terms) c.starts.ensures.extends c.either_of.ensures.extends
+
+pub reversed_onto-seq_of-requires-in-Either-clause-first : goal.reversed_onto-seq_of-requires-in-Either-clause-first
+reversed_onto-seq_of-requires-in-Either-clause-first t c =
+    c.in_ok-first-in-Either.ensures.known
+
+pub reversed_onto-seq_of-requires-in-Either-clause-second : goal.reversed_onto-seq_of-requires-in-Either-clause-second
+reversed_onto-seq_of-requires-in-Either-clause-second t c =
+    longer (values c.args.terms.now) (values c.either_of.new.terms) c.args.tail
+    (extends-trans (values c.args.terms.now) (values c.starts.new.terms) (values c.either_of.new.terms) c.starts.ensures.extends c.either_of.ensures.extends)
+    c.requires.tail
+
+pub reversed_onto-returns-in_ok-first-in-Either-clause-extends : goal.reversed_onto-returns-in_ok-first-in-Either-clause-extends
+reversed_onto-returns-in_ok-first-in-Either-clause-extends t c =
+    extends-trans (values c.args.terms.now) (values c.either_of.new.terms) (values c.seq_of-in-Either.new.self)
+    (extends-trans (values c.args.terms.now) (values c.starts.new.terms) (values c.either_of.new.terms) c.starts.ensures.extends c.either_of.ensures.extends)
+    c.seq_of-in-Either.ensures.extends
+
+pub reversed_onto-returns-in_err-first-in-Both-clause-extends : goal.reversed_onto-returns-in_err-first-in-Both-clause-extends
+reversed_onto-returns-in_err-first-in-Both-clause-extends t c =
+    extends-trans (values c.args.terms.now) (values c.starts-in-Both.new.terms) (values c.both_of.new.terms) c.starts-in-Both.ensures.extends c.both_of.ensures.extends
+
+pub reversed_onto-seq_of-requires-in-Both-clause-first : goal.reversed_onto-seq_of-requires-in-Both-clause-first
+reversed_onto-seq_of-requires-in-Both-clause-first t c =
+    c.in_ok-first-in-Both.ensures.known
+
+pub reversed_onto-seq_of-requires-in-Both-clause-second : goal.reversed_onto-seq_of-requires-in-Both-clause-second
+reversed_onto-seq_of-requires-in-Both-clause-second t c =
+    longer (values c.args.terms.now) (values c.both_of.new.terms) c.args.tail
+    (extends-trans (values c.args.terms.now) (values c.starts-in-Both.new.terms) (values c.both_of.new.terms) c.starts-in-Both.ensures.extends c.both_of.ensures.extends)
+    c.requires.tail
+
+pub reversed_onto-returns-in_ok-first-in-Both-clause-extends : goal.reversed_onto-returns-in_ok-first-in-Both-clause-extends
+reversed_onto-returns-in_ok-first-in-Both-clause-extends t c =
+    extends-trans (values c.args.terms.now) (values c.both_of.new.terms) (values c.seq_of-in-Both.new.self)
+    (extends-trans (values c.args.terms.now) (values c.starts-in-Both.new.terms) (values c.both_of.new.terms) c.starts-in-Both.ensures.extends c.both_of.ensures.extends)
+    c.seq_of-in-Both.ensures.extends
+
+pub reversed_onto-returns-in_err-first-in-Not-clause-extends : goal.reversed_onto-returns-in_err-first-in-Not-clause-extends
+reversed_onto-returns-in_err-first-in-Not-clause-extends t c =
+    extends-trans (values c.args.terms.now) (values c.reversed_onto-in-Not.new.terms) (values c.complement_of.new.terms)
+    (extends-trans (values c.args.terms.now) (values c.intern-in-Not.new.self) (values c.reversed_onto-in-Not.new.terms) c.intern-in-Not.ensures.extends
+    c.reversed_onto-in-Not.ensures.extends)
+    c.complement_of.ensures.extends
+
+pub reversed_onto-returns-in_err-inner-in-Not-clause-extends : goal.reversed_onto-returns-in_err-inner-in-Not-clause-extends
+reversed_onto-returns-in_err-inner-in-Not-clause-extends t c =
+    extends-trans (values c.args.terms.now) (values c.intern-in-Not.new.self) (values c.reversed_onto-in-Not.new.terms) c.intern-in-Not.ensures.extends c.reversed_onto-in-Not.ensures.extends
+
+pub reversed_onto-seq_of-requires-in-Not-clause-first : goal.reversed_onto-seq_of-requires-in-Not-clause-first
+reversed_onto-seq_of-requires-in-Not-clause-first t c =
+    c.in_ok-first-in-Not.ensures.known
+
+pub reversed_onto-seq_of-requires-in-Not-clause-second : goal.reversed_onto-seq_of-requires-in-Not-clause-second
+reversed_onto-seq_of-requires-in-Not-clause-second t c =
+    longer (values c.args.terms.now) (values c.complement_of.new.terms) c.args.tail
+    (extends-trans (values c.args.terms.now) (values c.reversed_onto-in-Not.new.terms) (values c.complement_of.new.terms)
+    (extends-trans (values c.args.terms.now) (values c.intern-in-Not.new.self) (values c.reversed_onto-in-Not.new.terms) c.intern-in-Not.ensures.extends
+    c.reversed_onto-in-Not.ensures.extends)
+    c.complement_of.ensures.extends)
+    c.requires.tail
+
+pub reversed_onto-returns-in_ok-first-in-Not-clause-extends : goal.reversed_onto-returns-in_ok-first-in-Not-clause-extends
+reversed_onto-returns-in_ok-first-in-Not-clause-extends t c =
+    extends-trans (values c.args.terms.now) (values c.complement_of.new.terms) (values c.seq_of-in-Not.new.self)
+    (extends-trans (values c.args.terms.now) (values c.reversed_onto-in-Not.new.terms) (values c.complement_of.new.terms)
+    (extends-trans (values c.args.terms.now) (values c.intern-in-Not.new.self) (values c.reversed_onto-in-Not.new.terms) c.intern-in-Not.ensures.extends
+    c.reversed_onto-in-Not.ensures.extends)
+    c.complement_of.ensures.extends)
+    c.seq_of-in-Not.ensures.extends
+
+pub reversed_onto-returns-in_err-first-in-Star-clause-extends : goal.reversed_onto-returns-in_err-first-in-Star-clause-extends
+reversed_onto-returns-in_err-first-in-Star-clause-extends t c =
+    extends-trans (values c.args.terms.now) (values c.reversed_onto-in-Star.new.terms) (values c.star_of.new.terms)
+    (extends-trans (values c.args.terms.now) (values c.intern-in-Star.new.self) (values c.reversed_onto-in-Star.new.terms) c.intern-in-Star.ensures.extends
+    c.reversed_onto-in-Star.ensures.extends)
+    c.star_of.ensures.extends
+
+pub reversed_onto-returns-in_err-inner-in-Star-clause-extends : goal.reversed_onto-returns-in_err-inner-in-Star-clause-extends
+reversed_onto-returns-in_err-inner-in-Star-clause-extends t c =
+    extends-trans (values c.args.terms.now) (values c.intern-in-Star.new.self) (values c.reversed_onto-in-Star.new.terms) c.intern-in-Star.ensures.extends c.reversed_onto-in-Star.ensures.extends
+
+pub reversed_onto-seq_of-requires-in-Star-clause-first : goal.reversed_onto-seq_of-requires-in-Star-clause-first
+reversed_onto-seq_of-requires-in-Star-clause-first t c =
+    c.in_ok-first-in-Star.ensures.known
+
+pub reversed_onto-seq_of-requires-in-Star-clause-second : goal.reversed_onto-seq_of-requires-in-Star-clause-second
+reversed_onto-seq_of-requires-in-Star-clause-second t c =
+    longer (values c.args.terms.now) (values c.star_of.new.terms) c.args.tail
+    (extends-trans (values c.args.terms.now) (values c.reversed_onto-in-Star.new.terms) (values c.star_of.new.terms)
+    (extends-trans (values c.args.terms.now) (values c.intern-in-Star.new.self) (values c.reversed_onto-in-Star.new.terms) c.intern-in-Star.ensures.extends
+    c.reversed_onto-in-Star.ensures.extends)
+    c.star_of.ensures.extends)
+    c.requires.tail
+
+pub reversed_onto-returns-in_ok-first-in-Star-clause-extends : goal.reversed_onto-returns-in_ok-first-in-Star-clause-extends
+reversed_onto-returns-in_ok-first-in-Star-clause-extends t c =
+    extends-trans (values c.args.terms.now) (values c.star_of.new.terms) (values c.seq_of-in-Star.new.self)
+    (extends-trans (values c.args.terms.now) (values c.reversed_onto-in-Star.new.terms) (values c.star_of.new.terms)
+    (extends-trans (values c.args.terms.now) (values c.intern-in-Star.new.self) (values c.reversed_onto-in-Star.new.terms) c.intern-in-Star.ensures.extends
+    c.reversed_onto-in-Star.ensures.extends)
+    c.star_of.ensures.extends)
+    c.seq_of-in-Star.ensures.extends
+
+pub reversed_onto-returns-in_ok-rest-in-Seq-clause-extends : goal.reversed_onto-returns-in_ok-rest-in-Seq-clause-extends
+reversed_onto-returns-in_ok-rest-in-Seq-clause-extends t c =
+    extends-trans (values c.args.terms.now) (values c.reversed_onto.new.terms) (values c.reversed_onto-in-Seq.new.terms) c.reversed_onto.ensures.extends c.reversed_onto-in-Seq.ensures.extends
