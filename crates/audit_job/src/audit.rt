@@ -42,7 +42,7 @@ fn passing_text(
     if let Some(line) = unstable_line(alloc, net, verdict)? {
         return Err(Stop::Failing(line));
     }
-    let report = report(alloc, net, policy, config, evidence, scenario, outcome)?;
+    let report = report(alloc, net, policy, evidence, scenario, outcome)?;
     let mut text = stable_line(alloc)?;
     push_bytes(&mut text, &report)?;
     Ok(text)

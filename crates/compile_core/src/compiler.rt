@@ -9,6 +9,7 @@ use crate::accept::accepted_cases;
 use crate::compiled::Compiled;
 use crate::evidence::evidence_of;
 use case_core::CompileRefusal;
+use config_base::Config;
 use config_made::config_of;
 use evidence_base::Evidence;
 use net_base::{Net, known_net};
@@ -44,22 +45,21 @@ pub fn compiled_evidence(
     )?)
 }
 
-// The evidence of a policy with the configuration that is made of it.
-fn with_config(
+/// The configuration that is made of the evidence of a policy.
+pub fn config_for(
     alloc: Global,
     net: &Net,
     policy: &Policy,
-    evidence: Evidence,
-) -> Result<Compiled, NoMemory>
+    evidence: &Evidence,
+) -> Result<Config, NoMemory>
     requires routers { OriginsAreRouters net.now policy.now.origins }
-    requires made { IsEvidenceOfMade net.now (policy_of policy.now) evidence.cases }
-    ensures made { IfOk result (λ given. IsMade net.now (policy_of policy.now) given.config given.evidence.cases) }
-    ensures passes { IfOk result (λ given. Passes net.now (policy_of policy.now) given.config given.evidence.cases) }
+    requires made { IsEvidenceOfMade net.now (policy_of policy.now) evidence.now.cases }
+    ensures made { IfOk result (λ config. IsMade net.now (policy_of policy.now) config evidence.now.cases) }
+    ensures passes { IfOk result (λ config. Passes net.now (policy_of policy.now) config evidence.now.cases) }
 {
     known_net(net);
     known_policy(policy);
-    let config = config_of(alloc, net, policy, evidence.cases.as_slice())?;
-    Ok(Compiled { config, evidence })
+    config_of(alloc, net, policy, evidence.cases.as_slice())
 }
 
 /// Compiles a policy, whose origins are routers, for a network: the configuration of its cases, and the evidence that this
@@ -72,5 +72,6 @@ pub fn compile(alloc: Global, net: &Net, policy: &Policy) -> Result<Compiled, Co
     ensures refused { IfErr result (λ e. IsRefusal net.now (policy_of policy.now) e) }
 {
     let evidence = compiled_evidence(alloc, net, policy)?;
-    Ok(with_config(alloc, net, policy, evidence)?)
+    let config = config_for(alloc, net, policy, &evidence)?;
+    Ok(Compiled { config, evidence })
 }

@@ -40,6 +40,10 @@ SaysOfCompiled Writes net policy what =
     ((config : PlainConfig) × (evidence : List PlainCaseEvidence) × (bytes : List ℕ) × IsCompiled net policy config evidence × Writes config evidence bytes × (what ≡ text bytes))
     ⊎ SaysRefusal net policy what
 
+-- The text is written of a configuration which is compiled from the policy, with this evidence.
+abbrev pub Answers : {V : Type 0} → (PlainNet → PlainPolicy → V → PlainConfig → List PlainCaseEvidence → List ℕ → Type 0) → PlainNet → PlainPolicy → V → List PlainCaseEvidence → List ℕ → Type 0
+Answers Writes net policy value evidence bytes = (config : PlainConfig) × IsCompiled net policy config evidence × Writes net policy value config evidence bytes
+
 -- The same of three texts, of which the third spells a value for the network: what is written depends on the value.
 module _ {V F : Type 0} (told : F → List ℕ) (spelled_by : PlainNet → List ℕ → Result V F) (Writes : PlainNet → PlainPolicy → V → PlainConfig → List PlainCaseEvidence → List ℕ → Type 0) where
   abbrev pub SaysOfValue : PlainNet → PlainPolicy → V → Said → Type 0

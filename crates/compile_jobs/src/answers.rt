@@ -5,14 +5,14 @@ ghost use Rattle.policy_base.specs.CaseNumbers.{OriginsAreRouters};
 ghost use Rattle.policy_base.specs.Policies.{IsPolicyOf, PlainPolicy, policy_of};
 ghost use Rattle.config_base.specs.Configs.{PlainConfig};
 ghost use Rattle.evidence_base.specs.Made.{PlainCaseEvidence};
-ghost use Rattle.compile_jobs.specs.Compiled.{IsCompiled};
-ghost use Rattle.compile_jobs.specs.Compiling.{SaysOfThird, SaysOfValue};
+ghost use Rattle.compile_core.specs.Compiling.{IsEvidenceOfMade};
+ghost use Rattle.compile_jobs.specs.Compiling.{Answers, SaysOfThird, SaysOfValue};
 ghost use Rattle.input_texts.specs.Texts.{IsReadOr, OfTexts};
 ghost use Rattle.run_base.specs.Said.{IsGiven, said};
 
-use crate::pairs::compiled_for;
-use compile_core::Compiled;
+use crate::pairs::compiled_evidence_for;
 use event_reader::{Events, EventsFault};
+use evidence_base::Evidence;
 use input_texts::{events_for, net_of, policy_for, scenario_for};
 use net_base::Net;
 use outside::NoMemory;
@@ -70,7 +70,8 @@ impl Question for Events {
     }
 }
 
-/// A command that answers what a third text asks, by what is compiled from the policy.
+/// A command that answers what a third text asks, of the configuration that is compiled from the policy. It is given the evidence, of which
+/// it makes the configuration where it needs one (`compile_core::config_for`).
 pub trait Answer {
     /// What is asked.
     type Asked: Question + Drop;
@@ -83,12 +84,13 @@ pub trait Answer {
         alloc: Global,
         net: &Net,
         policy: &Policy,
-        compiled: &Compiled,
+        evidence: &Evidence,
         asked: &Self::Asked,
     ) -> Result<Vec<u8>, NoMemory>
+        requires routers { OriginsAreRouters net.now policy.now.origins }
         requires fits { IsPolicyOf net.now (policy_of policy.now) }
-        requires compiled { IsCompiled net.now (policy_of policy.now) compiled.now.config compiled.now.evidence.cases }
-        ensures { IfOk result (λ bytes. writes net.now (policy_of policy.now) asked.now compiled.now.config compiled.now.evidence.cases bytes.items) };
+        requires evidence { IsEvidenceOfMade net.now (policy_of policy.now) evidence.now.cases }
+        ensures { IfOk result (λ bytes. Answers writes net.now (policy_of policy.now) asked.now evidence.now.cases bytes.items) };
 }
 
 // The answer to what is asked, or why the policy is refused.
@@ -102,8 +104,8 @@ fn answer_to<A: Answer>(
     requires fits { IsPolicyOf net.now (policy_of policy.now) }
     ensures { IsGiven (SaysOfValue A.Asked.line_of A.Asked.spelled A.writes net.now (policy_of policy.now) asked.now) (said result) }
 {
-    let compiled = compiled_for(alloc, net, policy)?;
-    Ok(A::answer(alloc, net, policy, &compiled, asked)?)
+    let evidence = compiled_evidence_for(alloc, net, policy)?;
+    Ok(A::answer(alloc, net, policy, &evidence, asked)?)
 }
 
 // What the third text comes to.

@@ -9,7 +9,7 @@ mod sample;
 mod written;
 
 pub use answers::{Answer, Question, answered_texts};
-pub use compile_core::Compiled;
+pub use compile_core::config_for;
 pub use explain::explain_texts;
 pub use pairs::{compiled_evidence_for, compiled_for};
 pub use sample::sample_summary;

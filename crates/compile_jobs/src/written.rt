@@ -6,7 +6,7 @@ ghost use Rattle.compile_jobs.specs.Written.{SaysOfPart};
 ghost use Rattle.input_texts.specs.Texts.{OfTexts};
 ghost use Rattle.run_base.specs.Said.{IsGiven, said};
 
-use crate::pairs::compiled_for;
+use crate::pairs::{compiled_evidence_for, compiled_for};
 use config_text::print_config;
 use evidence_text::print_evidence;
 use input_texts::{net_of, policy_for};
@@ -29,10 +29,15 @@ fn part_text(alloc: Global, part: Part, net: &Net, policy: &Policy) -> Result<Ve
     requires { OriginsAreRouters net.now policy.now.origins }
     ensures { IsGiven (SaysOfPart part net.now (policy_of policy.now)) (said result) }
 {
-    let compiled = compiled_for(alloc, net, policy)?;
     match part {
-        Part::Config => Ok(print_config(alloc, &compiled.config)?),
-        Part::Evidence => Ok(print_evidence(alloc, &compiled.evidence)?),
+        Part::Config => {
+            let compiled = compiled_for(alloc, net, policy)?;
+            Ok(print_config(alloc, &compiled.config)?)
+        }
+        Part::Evidence => {
+            let evidence = compiled_evidence_for(alloc, net, policy)?;
+            Ok(print_evidence(alloc, &evidence)?)
+        }
     }
 }
 

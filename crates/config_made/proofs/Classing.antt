@@ -40,9 +40,7 @@ module _ (policy : PlainPolicy) (p : PlainPrefix) (cs : List PlainCaseEvidence) 
     class_is : class_of config p ≡ class_from (map patterns_at cs) p 1
     class_is = ap (λ classes. class_from classes p 1) lines.classes
 
-    pub case_found : (i : ℕ) (c : PlainCaseEvidence) → i < length cs → c ≡ get_or cs i c → IsPast i → list_any (λ pattern. contains pattern p) (patterns_at c) ≡ true
-        → Some c ≡ option_and_then (case_at cs) (class_of config p)
-    case_found i c within is past has =
-        let next : i + 1 ≡ suc i = omega arith in
-        let class = class_is ∙ past ∙ class_here patterns_at p cs i c within is has in
-        sym (ap (option_and_then (case_at cs)) class ∙ ap (case_at cs) next ∙ slice_get_read cs (length cs) i c refl within is)
+    -- the class is the number of the first case that has the prefix
+    pub class_found : (i : ℕ) (c : PlainCaseEvidence) → i < length cs → c ≡ get_or cs i c → IsPast i
+        → list_any (λ pattern. contains pattern p) (patterns_at c) ≡ true → Some (i + 1) ≡ class_of config p
+    class_found i c within is past has = sym (class_is ∙ past ∙ class_here patterns_at p cs i c within is has)

@@ -1,6 +1,8 @@
 //! The command `drain`.
-use compile_jobs::{Answer, Compiled};
+use compile_jobs::Answer;
+use config_made::class_of;
 use drain_report::{drain, drain_text};
+use evidence_base::Evidence;
 use net_base::Net;
 use outside::NoMemory;
 use policy_base::Policy;
@@ -22,13 +24,12 @@ impl Answer for DrainCommand {
         alloc: Global,
         net: &Net,
         policy: &Policy,
-        compiled: &Compiled,
+        evidence: &Evidence,
         scenario: &Scenario,
     ) -> Result<Vec<u8>, NoMemory> {
-        let config = &compiled.config;
-        let evidence = &compiled.evidence;
-        let outcome = settle(alloc, net, policy, config, evidence, scenario)?;
-        let drain = drain(alloc, net, policy, config, scenario, &outcome)?;
-        drain_text(alloc, net, config, scenario.prefix, &drain)
+        let outcome = settle(alloc, net, policy, evidence, scenario)?;
+        let drain = drain(alloc, net, policy, evidence, scenario, &outcome)?;
+        let class = class_of(policy, evidence, scenario.prefix);
+        drain_text(alloc, net, scenario.prefix, class, &drain)
     }
 }

@@ -1,5 +1,5 @@
 -- What no step is of is free.
-use Rattle.std.proofs.Common.{◌≡◌, ℕ, Bool, true, List, length, map, filter, sym, ap, ◌∙◌, inl, inr, subst}
+use Rattle.std.proofs.Common.{◌≡◌, ℕ, Bool, true, List, length, map, filter, Option, sym, ap, ◌∙◌, inl, inr, subst}
 use Rattle.std.specs.Prelude.{◌&&◌, ◌↔◌, ◌++◌, is_some, not}
 use Rattle.std.specs.List.{flat_map, list_any}
 use Rattle.std.proofs.lemmas.Bool.{and_parts, lt-ltb, not-true, not_from_false}
@@ -16,13 +16,11 @@ use Rattle.policy_base.specs.Policies.{PlainPolicy, IsPolicyOf}
 use Rattle.config_base.specs.Configs.{PlainConfig}
 use Rattle.evidence_base.specs.Made.{PlainCaseEvidence}
 use Rattle.evidence_law.specs.Passes.{Passes}
-use Rattle.outcome_base.specs.Outcomes.{Failures, Outcome, is_dead, is_dead_link, is_live, offered}
+use Rattle.outcome_base.specs.Outcomes.{Failures, Outcome, is_dead, is_dead_link, is_live}
 use Rattle.settled_law.specs.Settled.{IsFullyStable}
-use Rattle.stable_paths.specs.Scenarios.{failures_of}
 use Rattle.stable_paths.specs.Surviving.{live_by}
-use Rattle.stable_paths.specs.declared.outcome.Outcome.{Outcome as Held}
-use Rattle.stable_paths.specs.declared.scenario.Scenario.{Scenario}
 use Rattle.stable_paths.specs.declared.survivors.Survivors.{Survivors}
+use Rattle.report_lines.specs.Offers.{offered_by}
 use Rattle.impact_law.specs.Cuts.{live_cuts}
 use Rattle.impact_law.specs.declared.impact.Cut.{Cut}
 use Rattle.impact_law.specs.declared.impact.Cut.TheVariants.{Link, Router}
@@ -35,10 +33,8 @@ use Rattle.drain_report.proofs.Sparing.{IsKnown, no_step, no_use, steps as steps
 use Rattle.drain_report.proofs.Walking.{over}
 
 -- the steps of a situation, by what it is of
-abbrev pub steps_at : PlainNet → PlainPolicy → PlainConfig → Scenario → Held → List (ℕ × ℕ)
-steps_at net policy config scenario held =
-    flat_map held_steps held.routes
-    ++ map offer_step (filter (λ (link : ℕ × ℕ). is_some (offered net policy config (failures_of scenario) scenario.prefix held.routes link.0 link.1)) net.links)
+abbrev pub steps_by : PlainNet → Failures → Outcome → Option PlainCaseEvidence → List (ℕ × ℕ)
+steps_by net f outcome case = flat_map held_steps outcome ++ map offer_step (filter (λ (link : ℕ × ℕ). is_some (offered_by net f outcome case link.0 link.1)) net.links)
 
 -- what lives is of the network
 cut_known : (net : PlainNet) (f : Failures) (cut : Cut) → IsIn (live_cuts net f) cut → IsKnown net cut

@@ -1,11 +1,9 @@
 -- The steps of all paths of an outcome.
 use Rattle.std.specs.Prelude.{ℕ, Bool, List, [], ◌∷◌, ◌++◌, Option, Some, None, filter, is_some, map}
 use Rattle.std.specs.List.{flat_map}
-use Rattle.policy_base.specs.Policies.{policy_of}
 use Rattle.config_base.specs.declared.route.Route.{Route}
-use Rattle.outcome_base.specs.Outcomes.{offered}
-use Rattle.stable_paths.specs.Scenarios.{failures_of}
-use Rattle.stable_paths.specs.declared.situation.Situation.{Situation}
+use Rattle.report_lines.specs.Situations.{offered_in}
+use Rattle.report_lines.specs.declared.situation.Situation.{Situation}
 
 -- from each place of a path to the next one
 abbrev pub steps_of : List ℕ → List (ℕ × ℕ)
@@ -19,7 +17,7 @@ held_steps (Some h) = steps_of h.path
 
 -- over the link a router offers a peer something
 abbrev pub is_offer : Situation → ℕ × ℕ → Bool
-is_offer s link = is_some (offered s.net.now (policy_of s.policy.now) s.config.now (failures_of s.scenario.now) s.scenario.now.prefix s.outcome.now.routes link.0 link.1)
+is_offer s link = is_some (offered_in s link.0 link.1)
 
 -- the first step of what the peer is offered
 abbrev pub offer_step : ℕ × ℕ → ℕ × ℕ

@@ -1,11 +1,11 @@
 //! The steps of all paths.
 ghost use Rattle.std.specs.Prelude.{◌≡◌, ◌++◌, IfOk, OnOk, filter, is_some, map};
 ghost use Rattle.std.specs.List.{flat_map};
-ghost use Rattle.stable_paths.specs.Situations.{IsSituation};
 ghost use Rattle.drain_report.specs.Steps.{held_steps, is_offer, offer_step, steps_in, steps_of};
 
 use net_base::{List, Loc};
-use stable_paths::{Outcome, Situation};
+use report_lines::Situation;
+use stable_paths::Outcome;
 use std::alloc::{AllocError, Global};
 
 /// Adds the steps of a path.
@@ -33,7 +33,6 @@ fn route_steps(alloc: Global, outcome: &Outcome) -> Result<List<(Loc, Loc)>, All
 
 /// Whether the first end of a link, a router, offers the second, a peer, something.
 fn offers(situation: &Situation<'_>, link: (Loc, Loc)) -> bool
-    requires { IsSituation situation.now }
     ensures { result ≡ is_offer situation.now link }
 {
     situation.offered(link.0, link.1).is_some()
@@ -41,7 +40,6 @@ fn offers(situation: &Situation<'_>, link: (Loc, Loc)) -> bool
 
 /// Adds the first step of what each peer is offered, from the peer to the router.
 fn push_offers(steps: &mut List<(Loc, Loc)>, situation: &Situation<'_>) -> Result<(), AllocError>
-    requires { IsSituation situation.now }
     ensures { OnOk result (steps.new ≡ steps.old ++ map offer_step (filter (is_offer situation.now) situation.now.net.now.links)) }
 {
     for link in situation.net.links() {
@@ -57,7 +55,6 @@ pub(crate) fn steps(
     alloc: Global,
     situation: &Situation<'_>,
 ) -> Result<List<(Loc, Loc)>, AllocError>
-    requires { IsSituation situation.now }
     ensures { IfOk result (λ steps. steps ≡ steps_in situation.now) }
 {
     let mut steps = route_steps(alloc, situation.outcome)?;

@@ -1,9 +1,10 @@
 //! The text of what carries nothing. Each `push_` function adds a text to the end of another.
 ghost use Rattle.std.specs.Prelude.{◌≡◌, ◌++◌, IfOk, OnOk};
 ghost use Rattle.std.specs.List.{flat_map};
+ghost use Rattle.config_base.specs.Configs.{PlainConfig};
+ghost use Rattle.config_base.specs.Lines.{class_of};
 ghost use Rattle.drain_report.specs.Texts.{count_line, drain_text as text_of_drain, free_line, free_text};
 
-use config_base::{Config, class_of};
 use drain_law::Drain;
 use impact_law::Cut;
 use net_base::{Net, Prefix};
@@ -59,20 +60,20 @@ fn push_count(text: &mut Vec<u8>, free: usize, live: usize) -> Result<(), NoMemo
     push_bytes(text, b"\n")
 }
 
-/// The text of what carries nothing for a prefix: the prefix and its class, each free link and router, and how many there are of how many
-/// that live.
+/// The text of what carries nothing for a prefix of a class: both, each free link and router, and how many there are of how many that
+/// live.
 pub fn drain_text(
     alloc: Global,
     net: &Net,
-    config: &Config,
     prefix: Prefix,
+    class: Option<usize>,
     drain: &Drain,
 ) -> Result<Vec<u8>, NoMemory>
-    ensures { IfOk result (λ v. v.items ≡ text_of_drain net.now config.now prefix drain.now) }
+    ensures { IfOk result (λ v. (config : PlainConfig) → class ≡ class_of config prefix → v.items ≡ text_of_drain net.now config prefix drain.now) }
 {
     let free = drain.free.as_slice();
     let mut text = Vec::new(alloc);
-    push_head(&mut text, prefix, class_of(config, prefix))?;
+    push_head(&mut text, prefix, class)?;
     push_lines(&mut text, net, free)?;
     push_count(&mut text, free.len(), drain.live)?;
     Ok(text)

@@ -1,5 +1,6 @@
 //! The command `replay`.
-use compile_jobs::{Answer, Compiled};
+use compile_jobs::Answer;
+use evidence_base::Evidence;
 use net_base::Net;
 use outside::NoMemory;
 use policy_base::Policy;
@@ -22,12 +23,10 @@ impl Answer for ReplayCommand {
         alloc: Global,
         net: &Net,
         policy: &Policy,
-        compiled: &Compiled,
+        evidence: &Evidence,
         scenario: &Scenario,
     ) -> Result<Vec<u8>, NoMemory> {
-        let config = &compiled.config;
-        let evidence = &compiled.evidence;
-        let outcome = settle(alloc, net, policy, config, evidence, scenario)?;
-        report(alloc, net, policy, config, evidence, scenario, &outcome)
+        let outcome = settle(alloc, net, policy, evidence, scenario)?;
+        report(alloc, net, policy, evidence, scenario, &outcome)
     }
 }

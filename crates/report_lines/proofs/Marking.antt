@@ -56,7 +56,7 @@ module _ (net : PlainNet) (pairs : List (ℕ × ℕ)) (i : ℕ) (d : ℕ × ℕ)
     at = λ j inside. before.at j inside ∙ sym (more j ∙ or_failed (list_any (is_at net j) (take i pairs)) (is_at net j pair) (ap (λ o. option_map_or (λ k. k == j) o false) none));
   }
 
--- ---- what marks of dead links tell of two locations
+-- ---- what marks of links tell of two locations
 
 module _ (net : PlainNet) (a b : ℕ) where
   -- the pairs whose link is that of the two are those that join them
@@ -83,17 +83,21 @@ module _ (net : PlainNet) (a b : ℕ) where
         both (inr x) (inl y) = joins_turned a b e (sym y.0 ∙ x.0) (sym y.1 ∙ x.1)
         both (inr x) (inr y) = joins_straight a b e (sym y.1 ∙ x.1) (sym y.0 ∙ x.0)
 
-    -- so the mark of their link tells whether it is dead
-    mark_tells : (pairs : List (ℕ × ℕ)) (marks : List Bool) → AreMarks net pairs marks → not (get_or marks i false) ≡ (linked net a b && not (list_any (joins a b) pairs))
-    mark_tells pairs marks are =
+    joined : linked net a b ≡ true
+    joined = list_any-at_position (joins a b) net.links i found
+
+    -- so the mark of their link tells whether one of the pairs joins them
+    pub mark_is : (pairs : List (ℕ × ℕ)) (marks : List Bool) (d : Bool) → AreMarks net pairs marks → get_or marks i d ≡ (linked net a b && list_any (joins a b) pairs)
+    mark_is pairs marks d are =
         let within = (position-Some (joins a b) net.links i (0, 0) found).0 in
         let same = list_any-same (is_at net i) (joins a b) (λ e. same_tests (is_at net i e) (joins a b e) (at_joined e) (joined_at e)) pairs in
-        ap not (are.at i within ∙ same) ∙ sym (ap (λ o. o && not (list_any (joins a b) pairs)) (list_any-at_position (joins a b) net.links i found))
+        get_or_default marks i d false (omega (arith, within, are.size)) ∙ are.at i within ∙ same ∙ sym (ap (λ o. o && list_any (joins a b) pairs) joined)
 
+    -- or none of them does
     pub mark_read : (pairs : List (ℕ × ℕ)) (marks : List Bool) (d : Bool) → AreMarks net pairs marks → not (get_or marks i d) ≡ (linked net a b && not (list_any (joins a b) pairs))
     mark_read pairs marks d are =
-        let within = (position-Some (joins a b) net.links i (0, 0) found).0 in
-        ap not (get_or_default marks i d false (omega (arith, within, are.size))) ∙ mark_tells pairs marks are
+        let found_one = list_any (joins a b) pairs in
+        ap not (mark_is pairs marks d are ∙ ap (λ o. o && found_one) joined) ∙ sym (ap (λ o. o && not found_one) joined)
 
 -- ---- the items where the marks are true, as far as a loop has come
 

@@ -133,21 +133,21 @@ pub fn push_offer(
 }
 
 /// Adds a class, or that there is none.
-fn push_class(text: &mut Vec<u8>, class: Option<u32>) -> Result<(), NoMemory>
+fn push_class(text: &mut Vec<u8>, class: Option<usize>) -> Result<(), NoMemory>
     ensures { OnOk result (text.new.items ≡ text.old.items ++ class_text class) }
 {
     match class {
         None => push_bytes(text, b" none"),
         Some(number) => {
             push_bytes(text, b" ")?;
-            push_number(text, u64::from(number))
+            push_number(text, number as u64)
         }
     }
 }
 
 /// Adds the lines of a prefix and of its class in a configuration.
 #[tactic(auto, unfolding(crate::specs::Lines::head_lines))]
-pub fn push_head(text: &mut Vec<u8>, prefix: Prefix, class: Option<u32>) -> Result<(), NoMemory>
+pub fn push_head(text: &mut Vec<u8>, prefix: Prefix, class: Option<usize>) -> Result<(), NoMemory>
     ensures { OnOk result ((config : PlainConfig) → class ≡ class_of config prefix → text.new.items ≡ text.old.items ++ head_lines config prefix) }
 {
     push_bytes(text, b"prefix ")?;

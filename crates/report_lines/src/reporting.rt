@@ -3,6 +3,7 @@ ghost use Rattle.std.specs.Prelude.{◌≡◌, ◌++◌, ◌≤◌, IfOk, OnOk, 
 ghost use Rattle.std.specs.List.{flat_map};
 ghost use Rattle.std.specs.Option.{ForSome};
 ghost use Rattle.policy_base.specs.declared.limits.TheConstants.{ALTERNATIVES};
+ghost use Rattle.config_base.specs.Configs.{PlainConfig};
 ghost use Rattle.net_base.specs.Locations.{numbers_below};
 ghost use Rattle.policy_base.specs.Meaning.{alternative_count};
 ghost use Rattle.policy_base.specs.Policies.{IsPolicyOf, policy_of};
@@ -16,9 +17,9 @@ use crate::claims::{Claims, claims_of};
 use crate::lines::{push_head, push_held, push_next, push_offer};
 use crate::scene::Scene;
 use crate::situation::Situation;
-use config_base::{Config, class_of};
+use config_made::{case_of, class_of};
 use evidence_base::Evidence;
-use net_base::{Loc, Net, Prefix};
+use net_base::{Loc, Net, Prefix, known_net, known_prefix};
 use outside::NoMemory;
 use policy_base::{Policy, is_origin};
 use stable_paths::{Outcome, Scenario};
@@ -149,23 +150,23 @@ fn push_sessions<S: Scene>(
     Ok(())
 }
 
-/// Adds the report of a scene for a prefix: the prefix, its class in the configuration, a line for each router in order of location, and
-/// a line for each session that the policy claims, by router and then by peer. A router is told as dead, else as an origin, else by its
-/// path: with its rank where the policy claims the router and the path has one, and else as transit. A session is told with its path,
-/// where that has a rank.
+/// Adds the report of a scene for a prefix: the prefix, its class in the configuration that is made of the evidence, a line for each router
+/// in order of location, and a line for each session that the policy claims, by router and then by peer. A router is told as dead, else as
+/// an origin, else by its path: with its rank where the policy claims the router and the path has one, and else as transit. A session is
+/// told with its path, where that has a rank.
 pub fn push_report<S: Scene>(
     alloc: Global,
     text: &mut Vec<u8>,
     net: &Net,
     policy: &Policy,
-    config: &Config,
     evidence: &Evidence,
     prefix: Prefix,
     scene: &S,
 ) -> Result<(), NoMemory>
     requires fits { IsPolicyOf net.now (policy_of policy.now) }
-    requires passes { Passes net.now (policy_of policy.now) config.now evidence.now.cases }
-    ensures { OnOk result (AddsReport net.now (policy_of policy.now) config.now prefix (S.shown scene.now) text.old.items text.new.items) }
+    requires passes { (config : PlainConfig) × Passes net.now (policy_of policy.now) config evidence.now.cases }
+    ensures { OnOk result ((config : PlainConfig) → Passes net.now (policy_of policy.now) config evidence.now.cases
+        → AddsReport net.now (policy_of policy.now) config prefix (S.shown scene.now) text.old.items text.new.items) }
 {
     let claims = claims_of(alloc, net, policy, evidence, prefix)?;
     let subject = Subject {
@@ -174,31 +175,33 @@ pub fn push_report<S: Scene>(
         prefix,
         claims,
     };
-    push_head(text, prefix, class_of(config, prefix))?;
+    push_head(text, prefix, class_of(policy, evidence, prefix))?;
     push_routers(text, &subject, scene)?;
     push_sessions(alloc, text, &subject, scene)?;
     Ok(())
 }
 
-/// The report of an outcome for the prefix of a scenario. Of a session it tells the path that its peer is offered.
+/// The report of an outcome for the prefix of a scenario, under the configuration that is made of the evidence. Of a session it tells the path
+/// that its peer is offered.
 pub fn report(
     alloc: Global,
     net: &Net,
     policy: &Policy,
-    config: &Config,
     evidence: &Evidence,
     scenario: &Scenario,
     outcome: &Outcome,
 ) -> Result<Vec<u8>, NoMemory>
     requires fits { IsPolicyOf net.now (policy_of policy.now) }
-    requires passes { Passes net.now (policy_of policy.now) config.now evidence.now.cases }
-    ensures { IfOk result (λ text. IsReportOf net.now (policy_of policy.now) config.now (failures_of scenario.now) scenario.now.prefix outcome.now.routes text.items) }
+    requires passes { (config : PlainConfig) × Passes net.now (policy_of policy.now) config evidence.now.cases }
+    ensures { IfOk result (λ text. (config : PlainConfig) → Passes net.now (policy_of policy.now) config evidence.now.cases
+        → IsReportOf net.now (policy_of policy.now) config (failures_of scenario.now) scenario.now.prefix outcome.now.routes text.items) }
 {
-    let situation = Situation::new(alloc, net, policy, config, scenario, outcome)?;
-    let mut text = Vec::new(alloc);
     let prefix = scenario.prefix;
-    push_report(
-        alloc, &mut text, net, policy, config, evidence, prefix, &situation,
-    )?;
+    known_net(net);
+    known_prefix(prefix);
+    let case = case_of(policy, evidence, prefix);
+    let situation = Situation::new(alloc, net, case, scenario, outcome)?;
+    let mut text = Vec::new(alloc);
+    push_report(alloc, &mut text, net, policy, evidence, prefix, &situation)?;
     Ok(text)
 }

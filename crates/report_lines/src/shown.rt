@@ -1,6 +1,5 @@
 //! What an outcome shows.
-ghost use Rattle.std.specs.Prelude.{◌≡◌, ◌∷◌, IfOk, option_map};
-ghost use Rattle.stable_paths.specs.Tests.{unlooped};
+ghost use Rattle.std.specs.Prelude.{◌≡◌, ◌∷◌, IfOk};
 
 use crate::scene::Scene;
 use crate::situation::Situation;
@@ -15,17 +14,6 @@ pub fn with_front(alloc: Global, first: Loc, rest: &[Loc]) -> Result<Vec<Loc>, A
     path.push(first)?;
     path.extend_from_slice(rest)?;
     Ok(path)
-}
-
-/// A path with a peer in front, which isn't on it.
-fn offer_of(alloc: Global, peer: Loc, path: &[Loc]) -> Result<Option<Vec<Loc>>, AllocError>
-    ensures { IfOk result (λ offer. option_map (λ v. v.items) offer ≡ unlooped peer path.now) }
-{
-    if path.contains(&peer) {
-        Ok(None)
-    } else {
-        Ok(Some(with_front(alloc, peer, path)?))
-    }
 }
 
 impl Scene for Situation<'_> {
@@ -43,12 +31,9 @@ impl Scene for Situation<'_> {
 
     /// The path that the peer is offered.
     fn offer(&self, alloc: Global, router: Loc, peer: Loc) -> Result<Option<Vec<Loc>>, AllocError> {
-        if !self.is_live_session(router, peer) {
-            return Ok(None);
-        }
-        match self.path_sent(router, peer) {
+        match self.offered(router, peer) {
             None => Ok(None),
-            Some(path) => offer_of(alloc, peer, path),
+            Some(path) => Ok(Some(with_front(alloc, peer, path)?)),
         }
     }
 }

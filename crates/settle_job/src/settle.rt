@@ -1,6 +1,7 @@
 //! The command `settle`.
-use compile_jobs::{Answer, Compiled};
+use compile_jobs::{Answer, config_for};
 use event_reader::Events;
+use evidence_base::Evidence;
 use net_base::Net;
 use outside::NoMemory;
 use policy_base::Policy;
@@ -21,17 +22,16 @@ impl Answer for SettleCommand {
         alloc: Global,
         net: &Net,
         policy: &Policy,
-        compiled: &Compiled,
+        evidence: &Evidence,
         events: &Events,
     ) -> Result<Vec<u8>, NoMemory> {
-        let config = &compiled.config;
-        let evidence = &compiled.evidence;
+        let config = config_for(alloc, net, policy, evidence)?;
         let happened = events.events.as_slice();
         settle_events(
             alloc,
             net,
             policy,
-            config,
+            &config,
             evidence,
             events.prefix,
             happened,

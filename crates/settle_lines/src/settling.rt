@@ -63,8 +63,6 @@ pub fn settle_events(
     push_each_refused(&mut text, &refused)?;
     push_rest(&mut text, rest)?;
     let scene = Standing { world: &world };
-    push_report(
-        alloc, &mut text, net, policy, config, evidence, prefix, &scene,
-    )?;
+    push_report(alloc, &mut text, net, policy, evidence, prefix, &scene)?;
     Ok(text)
 }

@@ -1,3 +1,4 @@
 pub mod Grounds
+pub mod Owns
 pub mod Routes
 pub mod Surviving

@@ -12,7 +12,7 @@ use Rattle.policy_base.specs.Governing.{is_origin}
 use Rattle.policy_base.specs.Policies.{PlainPolicy, IsPolicyOf}
 use Rattle.graph_base.specs.Runs.{is_start, place_of}
 use Rattle.config_base.specs.Configs.{PlainConfig}
-use Rattle.config_base.specs.Lines.{class_of}
+use Rattle.config_base.specs.Lines.{class_of, own_route}
 use Rattle.config_base.specs.declared.route.Route.{Route}
 use Rattle.evidence_base.specs.Made.{PlainCaseEvidence, case_at}
 use Rattle.outcome_base.specs.Outcomes.{Failures, Outcome, IsStable, given, is_dead, route_at}
@@ -28,10 +28,11 @@ use Rattle.graph_settling.specs.declared.settled.Settled.{Settled}
 use Rattle.settled_law.specs.Settled.{IsFullyStable}
 use Rattle.list_laws.proofs.Items.{same_options}
 use Rattle.settled_law.proofs.SettledLaw.{CaseFound, bare_fully, case_or_bare, from_graph}
-use Rattle.settling.specs.Outcomes.{AreSettled, case_of, held_by, tagged}
+use Rattle.settling.specs.Outcomes.{AreSettled, case_of, held_by, started_route, tagged}
 use Rattle.stable_paths.specs.Surviving.{AreSurvivors}
 use Rattle.stable_paths.specs.declared.survivors.Survivors.{Survivors}
 use Rattle.settling.proofs.Grounds.{is_ground}
+use Rattle.settling.proofs.Owns.{held_same}
 
 -- an outcome is told by what its routers hold
 same_outcome : (net : PlainNet) (held_at : ℕ → Option Route) (routes : Outcome) → length routes ≡ length net.routers
@@ -85,7 +86,7 @@ module _ (net : PlainNet) (policy : PlainPolicy) (config : PlainConfig) (cs : Li
         | inr has ↦ (let by = (stable.chooses r h).given_by has.0 has.1 in absurd (none_or_some (given net policy config f p lone by.0 r) has.0 (no_gift net policy config f p lone free by.0 r) by.1))
       ]
 
-      bare_held : (r : ℕ) → is_router net r ≡ true → held_by net config s origins p (λ k. None) r ≡ route_at lone r
+      bare_held : (r : ℕ) → is_router net r ≡ true → held_by s origins (own_route net config p) (λ k. None) r ≡ route_at lone r
       bare_held r router = elim (cases_Bool (is_origin net policy p r)) [
         | inr off ↦ (
             let here : holds origins r ≡ false = same r ∙ off in
@@ -106,17 +107,25 @@ module _ (net : PlainNet) (policy : PlainPolicy) (config : PlainConfig) (cs : Li
             ])
       ]
 
-      bare_routes : (routes : Outcome) → length routes ≡ length net.routers → ((r : ℕ) → r < length net.routers → entry_at routes r ≡ held_by net config s origins p (λ k. None) r) → routes ≡ lone
+      bare_routes : (routes : Outcome) → length routes ≡ length net.routers
+          → ((r : ℕ) → r < length net.routers → entry_at routes r ≡ held_by s origins (own_route net config p) (λ k. None) r) → routes ≡ lone
       bare_routes routes size each =
           same_options routes lone (size ∙ sym (outcome-size net (own_alone net policy config f p free))) (λ r low.
           let below : r < length net.routers = omega (arith, low, size) in
           entry_route routes r ∙ each r below ∙ bare_held r (lt-ltb r (length net.routers) below))
 
+    by_lines_too : (others : ℕ → Option Route) (routes : Outcome)
+        → ((r : ℕ) → r < length net.routers → entry_at routes r ≡ held_by s origins (started_route (case_of config cs p)) others r)
+        → (r : ℕ) → r < length net.routers → entry_at routes r ≡ held_by s origins (own_route net config p) others r
+    by_lines_too others routes each r low = each r low ∙ held_same net policy config cs rules kept passes p prefix s origins same others r (lt-ltb r (length net.routers) low)
+
     pub bare_settles : (routes : Outcome) → case_of config cs p ≡ None → length routes ≡ length net.routers
-        → ((r : ℕ) → r < length net.routers → entry_at routes r ≡ held_by net config s origins p (λ k. None) r) → IsFullyStable net policy config f p routes
+        → ((r : ℕ) → r < length net.routers → entry_at routes r ≡ held_by s origins (started_route (case_of config cs p)) (λ k. None) r) → IsFullyStable net policy config f p routes
     bare_settles routes none size each = elim (case_or_bare net policy config cs rules kept passes f p prefix) [
       | inl c ↦ (let clash : None ≡ Some c.d = sym none ∙ case_found c in absurd (cc))
-      | inr free ↦ subst (IsFullyStable net policy config f p) (sym (bare_routes free routes size each)) (bare_fully net policy config f p free (lone free) (stable free))
+      | inr free ↦
+          subst (IsFullyStable net policy config f p) (sym (bare_routes free routes size (by_lines_too (λ k. None) routes each)))
+          (bare_fully net policy config f p free (lone free) (stable free))
     ]
 
     -- ---- by the graph of a case
@@ -132,7 +141,7 @@ module _ (net : PlainNet) (policy : PlainPolicy) (config : PlainConfig) (cs : Li
       retagged None = refl
       retagged (Some x) = refl
 
-      case_held : (others : ℕ → Option Route) (r : ℕ) → others r ≡ option_map (tagged c.d) (entry_at settled r) → held_by net config s origins p others r ≡ by_lines r
+      case_held : (others : ℕ → Option Route) (r : ℕ) → others r ≡ option_map (tagged c.d) (entry_at settled r) → held_by s origins (own_route net config p) others r ≡ by_lines r
       case_held others r is = elim (cases_Bool (is_origin net policy p r)) [
         | inr off ↦ (
             let here : holds origins r ≡ false = same r ∙ off in
@@ -148,7 +157,7 @@ module _ (net : PlainNet) (policy : PlainPolicy) (config : PlainConfig) (cs : Li
       ]
 
     pub case_settles : (d : PlainCaseEvidence) (others routes : Outcome) → case_of config cs p ≡ Some d → AreSettled net s origins d others → length routes ≡ length net.routers
-        → ((r : ℕ) → r < length net.routers → entry_at routes r ≡ held_by net config s origins p (entry_at others) r) → IsFullyStable net policy config f p routes
+        → ((r : ℕ) → r < length net.routers → entry_at routes r ≡ held_by s origins (started_route (case_of config cs p)) (entry_at others) r) → IsFullyStable net policy config f p routes
     case_settles d others routes is settled size each = by (found_of d is).0 (found_of d is).1
       where
         by : (c : Found) → c.d ≡ d → IsFullyStable net policy config f p routes
@@ -156,5 +165,5 @@ module _ (net : PlainNet) (policy : PlainPolicy) (config : PlainConfig) (cs : Li
             let mine : AreSettled net s origins c.d others = subst (λ (e : PlainCaseEvidence). AreSettled net s origins e others) (sym here) settled in
             let full = mine.stable (setup_of net f c.d) (is_ground net policy config cs rules kept passes f p c s are origins mine.choosers same mine.choose) in
             subst (IsFullyStable net policy config f p) (sym (same_outcome net (by_lines c mine.settled) routes size
-            (λ r low. entry_route routes r ∙ each r low ∙ case_held c mine.settled (entry_at others) r (mine.each r low))))
+            (λ r low. entry_route routes r ∙ by_lines_too (entry_at others) routes each r low ∙ case_held c mine.settled (entry_at others) r (mine.each r low))))
             (from_graph net policy config cs rules kept passes f p c (held_in mine.settled) full)

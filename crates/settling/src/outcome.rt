@@ -1,22 +1,23 @@
 //! The settled outcome.
 ghost use Rattle.std.specs.Prelude.{◌≡◌, ◌<◌, ◌≤◌, ℕ, Some, None, IfOk, IsTrue, length, option_map, if◌then◌else◌};
-ghost use Rattle.config_base.specs.Lines.{own_route};
+ghost use Rattle.config_base.specs.Configs.{PlainConfig};
 ghost use Rattle.evidence_base.specs.Made.{number_at, tag_at};
-ghost use Rattle.graph_base.specs.Runs.{is_start, place_of};
+ghost use Rattle.graph_base.specs.Runs.{is_start, place_of, start_at};
 ghost use Rattle.graph_settling.specs.Best.{entry_at};
 ghost use Rattle.net_base.specs.Sets.{holds};
 ghost use Rattle.policy_base.specs.Policies.{IsPolicyOf, policy_of};
 ghost use Rattle.evidence_law.specs.Passes.{Passes};
 ghost use Rattle.outcome_base.specs.Outcomes.{Failures};
 ghost use Rattle.settled_law.specs.Settled.{IsFullyStable};
-ghost use Rattle.settling.specs.Outcomes.{AreSettled, held_by, tagged as with_tag};
+ghost use Rattle.settling.specs.Outcomes.{AreSettled, held_by, own_tag as tag_of_own, started_route, tagged as with_tag};
 ghost use Rattle.stable_paths.specs.Scenarios.{failures_of};
 ghost use Rattle.stable_paths.specs.Surviving.{AreSurvivors};
 
 use crate::left::{choosers, open_graph};
-use config_base::{Config, NO_TAG, Route, own_tag};
+use config_base::{NO_TAG, Route};
 use config_made::case_of;
 use evidence_base::{CaseEvidence, Evidence};
+use graph_base::Graph;
 use graph_settling::{Settled, settle_graph};
 use net_base::{List, Loc, LocSet, Net, Prefix, Tag, known_net, known_prefix};
 use outside::NoMemory;
@@ -101,16 +102,39 @@ fn no_routes(alloc: Global, count: usize) -> Result<Vec<Option<Route>>, AllocErr
     Ok(routes)
 }
 
+/// The start of a graph at a location.
+fn start_of(graph: &Graph, at: Loc) -> Option<u32>
+    ensures { result ≡ start_at graph.now at }
+{
+    for start in graph.starts() {
+        if graph.location(*start) == at {
+            return Some(*start);
+        }
+    }
+    None
+}
+
+/// The tag of the start at an origin in the case of a prefix, or none.
+fn own_tag(case: Option<&CaseEvidence>, at: Loc) -> Tag
+    ensures { result ≡ tag_of_own (option_map (λ c. c.now) case.entry) at }
+{
+    match case {
+        None => NO_TAG,
+        Some(case) => match start_of(case.graph(), at) {
+            None => NO_TAG,
+            Some(start) => tag_of(case, start),
+        },
+    }
+}
+
 /// An origin's own route, where it is live.
 fn own(
     alloc: Global,
-    net: &Net,
-    config: &Config,
+    case: Option<&CaseEvidence>,
     survivors: &Survivors,
-    prefix: Prefix,
     at: Loc,
 ) -> Result<Option<Route>, AllocError>
-    ensures { IfOk result (λ route. route ≡ (if holds survivors.now.dead at then None else Some (own_route net.now config.now prefix at))) }
+    ensures { IfOk result (λ route. route ≡ (if holds survivors.now.dead at then None else Some (started_route (option_map (λ c. c.now) case.entry) at))) }
 {
     if survivors.is_dead(at) {
         return Ok(None);
@@ -119,7 +143,7 @@ fn own(
     path.push(at)?;
     Ok(Some(Route {
         path,
-        tag: own_tag(net, config, prefix, at),
+        tag: own_tag(case, at),
         pref: 0,
     }))
 }
@@ -128,22 +152,21 @@ fn own(
 fn with_origins(
     alloc: Global,
     net: &Net,
-    config: &Config,
+    case: Option<&CaseEvidence>,
     survivors: &Survivors,
     origins: &LocSet,
-    prefix: Prefix,
     others: Vec<Option<Route>>,
 ) -> Result<Vec<Option<Route>>, AllocError>
     requires { length others.items ≡ length net.now.routers }
     ensures size { IfOk result (λ routes. length routes.items ≡ length net.now.routers) }
     ensures routes { IfOk result (λ routes. (r : ℕ) → r < length net.now.routers
-        → entry_at routes.items r ≡ held_by net.now config.now survivors.now origins.now prefix (entry_at others.items) r) }
+        → entry_at routes.items r ≡ held_by survivors.now origins.now (started_route (option_map (λ c. c.now) case.entry)) (entry_at others.items) r) }
 {
     let mut routes = others;
     for place in 0..net.routers().len() {
         let router = Loc::new(place as u16);
         if origins.holds(router) {
-            routes[place] = own(alloc, net, config, survivors, prefix, router)?;
+            routes[place] = own(alloc, case, survivors, router)?;
         }
     }
     Ok(routes)
@@ -151,29 +174,31 @@ fn with_origins(
 
 /// The settled outcome of a prefix, by what failures leave: it is stable, and each router that isn't an origin holds the first of all
 /// routes that it is given, by preference, then by the fewest AS numbers, then by the lowest identifier of the neighbour (RFC 4271,
-/// 9.1.2.2). There is one such outcome: `settled_law::settled_outcomes_are_one`.
+/// 9.1.2.2). There is one such outcome: `settled_law::settled_outcomes_are_one`. It is that of the configuration that is made of the
+/// evidence, which is not needed for it.
 pub fn settle_left(
     alloc: Global,
     net: &Net,
     policy: &Policy,
-    config: &Config,
     evidence: &Evidence,
     survivors: &Survivors,
     prefix: Prefix,
 ) -> Result<Outcome, NoMemory>
     requires fits { IsPolicyOf net.now (policy_of policy.now) }
-    requires passes { Passes net.now (policy_of policy.now) config.now evidence.now.cases }
+    requires passes { (config : PlainConfig) × Passes net.now (policy_of policy.now) config evidence.now.cases }
     ensures size { IfOk result (λ outcome. length outcome.routes ≡ length net.now.routers) }
-    ensures settled { IfOk result (λ outcome. (f : Failures) → AreSurvivors net.now f survivors.now → IsFullyStable net.now (policy_of policy.now) config.now f prefix outcome.routes) }
+    ensures settled { IfOk result (λ outcome. (config : PlainConfig) → Passes net.now (policy_of policy.now) config evidence.now.cases
+        → (f : Failures) → AreSurvivors net.now f survivors.now → IsFullyStable net.now (policy_of policy.now) config f prefix outcome.routes) }
 {
     known_net(net);
     known_prefix(prefix);
     let origins = origins_at(net, policy, prefix);
-    let others = match case_of(policy, evidence, prefix) {
+    let case = case_of(policy, evidence, prefix);
+    let others = match case {
         None => no_routes(alloc, net.routers().len())?,
         Some(case) => case_routes(alloc, net, case, survivors, &origins)?,
     };
-    let routes = with_origins(alloc, net, config, survivors, &origins, prefix, others)?;
+    let routes = with_origins(alloc, net, case, survivors, &origins, others)?;
     Ok(Outcome {
         routes: List::from_vec(routes),
     })
@@ -184,23 +209,15 @@ pub fn settle(
     alloc: Global,
     net: &Net,
     policy: &Policy,
-    config: &Config,
     evidence: &Evidence,
     scenario: &Scenario,
 ) -> Result<Outcome, NoMemory>
     requires fits { IsPolicyOf net.now (policy_of policy.now) }
-    requires passes { Passes net.now (policy_of policy.now) config.now evidence.now.cases }
+    requires passes { (config : PlainConfig) × Passes net.now (policy_of policy.now) config evidence.now.cases }
     ensures size { IfOk result (λ outcome. length outcome.routes ≡ length net.now.routers) }
-    ensures settled { IfOk result (λ outcome. IsFullyStable net.now (policy_of policy.now) config.now (failures_of scenario.now) scenario.now.prefix outcome.routes) }
+    ensures settled { IfOk result (λ outcome. (config : PlainConfig) → Passes net.now (policy_of policy.now) config evidence.now.cases
+        → IsFullyStable net.now (policy_of policy.now) config (failures_of scenario.now) scenario.now.prefix outcome.routes) }
 {
     let survivors = Survivors::new(net, scenario);
-    settle_left(
-        alloc,
-        net,
-        policy,
-        config,
-        evidence,
-        &survivors,
-        scenario.prefix,
-    )
+    settle_left(alloc, net, policy, evidence, &survivors, scenario.prefix)
 }

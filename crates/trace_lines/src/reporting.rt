@@ -1,5 +1,6 @@
 //! The trace of a world.
 ghost use Rattle.std.specs.Prelude.{◌≡◌, ◌++◌, IfOk, OnOk};
+ghost use Rattle.config_base.specs.Configs.{PlainConfig};
 ghost use Rattle.policy_base.specs.Policies.{IsPolicyOf, policy_of};
 ghost use Rattle.event_state.specs.States.{setting, state};
 ghost use Rattle.evidence_law.specs.Passes.{Passes};
@@ -7,7 +8,6 @@ ghost use Rattle.trace_lines.specs.Lines.{quiet_line};
 ghost use Rattle.trace_lines.specs.Trace.{IsTrace};
 
 use crate::refused::{Refused, push_each_refused};
-use config_base::Config;
 use event_state::World;
 use evidence_base::Evidence;
 use net_base::{Loc, Net, Prefix};
@@ -62,22 +62,20 @@ pub fn trace_report(
     alloc: Global,
     net: &Net,
     policy: &Policy,
-    config: &Config,
     evidence: &Evidence,
     prefix: Prefix,
     world: &World<'_>,
     refused: &[Refused],
 ) -> Result<Vec<u8>, NoMemory>
     requires fits { IsPolicyOf net.now (policy_of policy.now) }
-    requires passes { Passes net.now (policy_of policy.now) config.now evidence.now.cases }
-    ensures { IfOk result (λ text. IsTrace net.now (policy_of policy.now) config.now prefix refused.now (state world.now) text.items) }
+    requires passes { (config : PlainConfig) × Passes net.now (policy_of policy.now) config evidence.now.cases }
+    ensures { IfOk result (λ text. (config : PlainConfig) → Passes net.now (policy_of policy.now) config evidence.now.cases
+        → IsTrace net.now (policy_of policy.now) config prefix refused.now (state world.now) text.items) }
 {
     let mut text = Vec::new(alloc);
     push_each_refused(&mut text, refused)?;
     push_quiet(&mut text, world.is_quiet())?;
     let scene = Standing { world };
-    push_report(
-        alloc, &mut text, net, policy, config, evidence, prefix, &scene,
-    )?;
+    push_report(alloc, &mut text, net, policy, evidence, prefix, &scene)?;
     Ok(text)
 }

@@ -31,7 +31,5 @@ pub fn trace(
 {
     let mut world = opening(alloc, net, policy, config, prefix)?;
     let refused = happen(alloc, &mut world, events)?;
-    trace_report(
-        alloc, net, policy, config, evidence, prefix, &world, &refused,
-    )
+    trace_report(alloc, net, policy, evidence, prefix, &world, &refused)
 }

@@ -1,5 +1,6 @@
 //! The command `whatif`.
-use compile_jobs::{Answer, Compiled};
+use compile_jobs::Answer;
+use evidence_base::Evidence;
 use impact_text::what_if_text;
 use net_base::Net;
 use outside::NoMemory;
@@ -23,12 +24,10 @@ impl Answer for WhatIfCommand {
         alloc: Global,
         net: &Net,
         policy: &Policy,
-        compiled: &Compiled,
+        evidence: &Evidence,
         scenario: &Scenario,
     ) -> Result<Vec<u8>, NoMemory> {
-        let config = &compiled.config;
-        let evidence = &compiled.evidence;
-        let what_if = what_if(alloc, net, policy, config, evidence, scenario)?;
+        let what_if = what_if(alloc, net, policy, evidence, scenario)?;
         what_if_text(alloc, net, policy, scenario.prefix, &what_if)
     }
 }

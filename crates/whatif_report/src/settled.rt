@@ -1,7 +1,6 @@
 //! A network that has settled under a scenario.
 use crate::cut::survivors_of;
 use crate::moving::{count_moved, is_off_routes};
-use config_base::Config;
 use evidence_base::Evidence;
 use impact_law::Cut;
 use net_base::{Net, known_net, known_prefix};
@@ -11,12 +10,11 @@ use settling::settle_left;
 use stable_paths::{Outcome, Scenario};
 use std::alloc::Global;
 
-/// A configured network, a scenario, and the outcome to which it settles.
+/// A network with evidence for its configuration, a scenario, and the outcome to which it settles.
 #[derive(Drop)]
 pub(crate) struct SettledNet<'a> {
     pub(crate) net: &'a Net,
     pub(crate) policy: &'a Policy,
-    pub(crate) config: &'a Config,
     pub(crate) evidence: &'a Evidence,
     pub(crate) scenario: &'a Scenario,
     pub(crate) outcome: Outcome,
@@ -25,23 +23,26 @@ pub(crate) struct SettledNet<'a> {
 impl SettledNet<'_> {
     ghost use Rattle.std.specs.Prelude.{◌≡◌, List, Option, IfOk};
     ghost use Rattle.policy_base.specs.Policies.{IsPolicyOf, policy_of};
+    ghost use Rattle.config_base.specs.Configs.{PlainConfig};
     ghost use Rattle.config_base.specs.declared.route.Route.{Route};
     ghost use Rattle.evidence_law.specs.Passes.{Passes};
     ghost use Rattle.stable_paths.specs.Scenarios.{failures_of};
     ghost use Rattle.impact_law.specs.Cuts.{with_cut};
     ghost use Rattle.impact_law.specs.Moves.{IsSettled, moved};
     ghost use Rattle.whatif_report.specs.Cutting.{IsCutOf};
+    ghost use Rattle.whatif_report.specs.Settling.{HasSettled};
 
     /// How many routers hold another route where this network settles with a cut besides. A cut over which no other router's route goes
     /// moves none, so nothing is settled for it.
     pub(crate) fn moves(&self, alloc: Global, cut: &Cut) -> Result<u32, NoMemory>
         requires fits { IsPolicyOf self.now.net.now (policy_of self.now.policy.now) }
-        requires passes { Passes self.now.net.now (policy_of self.now.policy.now) self.now.config.now self.now.evidence.now.cases }
-        requires settled { IsSettled self.now.net.now (policy_of self.now.policy.now) self.now.config.now (failures_of self.now.scenario.now) self.now.scenario.now.prefix self.now.outcome.routes }
+        requires passes { (config : PlainConfig) × Passes self.now.net.now (policy_of self.now.policy.now) config self.now.evidence.now.cases }
+        requires settled { HasSettled self.now }
         requires cut { IsCutOf self.now.net.now cut.now }
         ensures { IfOk result
-            (λ moves. (after : List (Option Route))
-            → IsSettled self.now.net.now (policy_of self.now.policy.now) self.now.config.now (with_cut cut.now (failures_of self.now.scenario.now)) self.now.scenario.now.prefix after
+            (λ moves. (config : PlainConfig) → Passes self.now.net.now (policy_of self.now.policy.now) config self.now.evidence.now.cases
+            → (after : List (Option Route))
+            → IsSettled self.now.net.now (policy_of self.now.policy.now) config (with_cut cut.now (failures_of self.now.scenario.now)) self.now.scenario.now.prefix after
             → moves ≡ moved self.now.net.now cut.now self.now.outcome.routes after) }
     {
         known_net(self.net);
@@ -54,7 +55,6 @@ impl SettledNet<'_> {
             alloc,
             self.net,
             self.policy,
-            self.config,
             self.evidence,
             &survivors,
             self.scenario.prefix,

@@ -1,37 +1,48 @@
-use Rattle.std.proofs.Common.{◌≡◌, length, ap, arith, filter, subst, ◌∙◌}
-use Rattle.net_base.specs.Network.{PlainNet}
+use Rattle.std.proofs.Common.{◌≡◌, ◌++◌, ℕ, List, Option, length, map, ap, arith, filter, ◌∙◌}
+use Rattle.std.specs.Prelude.{is_some}
+use Rattle.std.specs.List.{flat_map}
+use Rattle.std.proofs.lemmas.List.Elements.{filter_agree}
+use Rattle.std.specs.Option.{option_and_then}
 use Rattle.policy_base.specs.Policies.{policy_of}
+use Rattle.config_base.specs.Lines.{class_of}
+use Rattle.evidence_base.specs.Made.{case_at}
+use Rattle.outcome_base.specs.Outcomes.{offered}
 use Rattle.stable_paths.specs.Scenarios.{failures_of}
-use Rattle.stable_paths.specs.Surviving.{AreSurvivors}
-use Rattle.stable_paths.specs.declared.scenario.Scenario.{Scenario}
+use Rattle.report_lines.specs.Offers.{offered_by}
+use Rattle.report_lines.proofs.Offering.{offers_are}
 use Rattle.impact_law.specs.Cuts.{live_cuts}
 use Rattle.drain_report.specs.Free.{spared_by}
+use Rattle.drain_report.specs.Steps.{held_steps, offer_step, steps_in}
 use Rattle.drain_report.proofs.Sparing.{steps as steps_for}
-use Rattle.drain_report.proofs.Telling.{spared_free, steps_at}
+use Rattle.drain_report.proofs.Telling.{spared_free, steps_by}
 use Rattle.drain_report.proofs.report.drain.Goals as goal
 
 pub returns : goal.returns
-returns c = λ cs passes.
+returns c = λ config passes.
     let net = c.args.net.now in
     let policy = policy_of c.args.policy.now in
-    let config = c.args.config.now in
+    let cs = c.args.evidence.now.cases in
     let f = failures_of c.args.scenario.now in
     let p = c.args.scenario.now.prefix in
     let outcome = c.args.outcome.now.routes in
     let rules = c.known_net.ensures in
     let size = c.requires.size in
-    let settled = c.requires.settled in
-    let s = c.new-situation.result in
-    let of = c.new-situation.ensures in
+    let settled = c.requires.settled config passes in
+    let of = c.in_ok-situation.ensures in
     let steps = c.in_ok-steps.steps in
     let left = c.new-spared.result.left in
     let ends = c.new-spared.result.ends in
-    let same : steps_at s.net.now (policy_of s.policy.now) s.config.now s.scenario.now s.outcome.now ≡ steps_at net policy config c.args.scenario.now c.args.outcome.now =
-    λ i. steps_at (of.net i) (policy_of (of.policy i)) (of.config i) (of.scenario i) (of.outcome i) in
-    let are : steps ≡ steps_for net policy config f p rules outcome size settled = c.in_ok-steps.ensures ∙ same in
-    let survivors : AreSurvivors net f s.survivors =
-    subst (λ (x : Scenario). AreSurvivors net (failures_of x) s.survivors) of.scenario (subst (λ (n : PlainNet). AreSurvivors n (failures_of s.scenario.now) s.survivors) of.net of.rules.survivors) in
-    let cuts : c.in_ok-cuts.cuts.items ≡ live_cuts net f = c.in_ok-cuts.ensures f survivors in
+    let case = of.case ∙ c.case_of-case.ensures net config passes.made.lines in
+    let case_here = option_and_then (case_at cs) (class_of config p) in
+    let same : steps_in c.in_ok-situation.situation ≡ steps_by net f outcome case_here = λ i. steps_by (of.net i) (failures_of (of.scenario i)) ((of.outcome i).routes) (case i) in
+    let offers = offers_are net policy config cs rules c.requires.fits passes p c.known_prefix.ensures outcome f in
+    let told : steps_by net f outcome case_here ≡ steps_for net policy config f p rules outcome size settled =
+    ap (λ (links : List (ℕ × ℕ)). flat_map held_steps outcome ++ map offer_step links)
+    (filter_agree (λ (link : ℕ × ℕ). is_some (offered_by net f outcome case_here link.0 link.1))
+    (λ (link : ℕ × ℕ). is_some (offered net policy config f p outcome link.0 link.1)) (λ link. ap is_some (offers link.0 link.1)) net.links)
+    in
+    let are : steps ≡ steps_for net policy config f p rules outcome size settled = c.in_ok-steps.ensures ∙ same ∙ told in
+    let cuts : c.in_ok-cuts.cuts.items ≡ live_cuts net f = c.in_ok-cuts.ensures f c.new-survivors.ensures in
     record {
       is_listed = spared_by net left ends;
       each =

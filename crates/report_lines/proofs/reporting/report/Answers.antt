@@ -1,21 +1,30 @@
-use Rattle.std.proofs.Common.{◌≡◌, ℕ, List, ◌++◌, ap, sym, subst, ◌∙◌}
+use Rattle.std.proofs.Common.{◌≡◌, ◌++◌, ap, sym, subst, ◌∙◌}
+use Rattle.std.specs.Option.{option_and_then}
 use Rattle.policy_base.specs.Policies.{policy_of}
+use Rattle.config_base.specs.Lines.{class_of}
+use Rattle.evidence_base.specs.Made.{case_at}
 use Rattle.stable_paths.specs.Scenarios.{failures_of}
 use Rattle.report_lines.specs.Lines.{Shown}
 use Rattle.report_lines.specs.Report.{IsReport, shown_of}
-use Rattle.report_lines.specs.Situations.{shown_in}
+use Rattle.report_lines.specs.Situations.{shown_by, shown_in}
+use Rattle.report_lines.proofs.Alike.{same_reports}
+use Rattle.report_lines.proofs.Situations.{shows_alike}
 use Rattle.report_lines.proofs.reporting.report.Goals as goal
 
 pub returns : goal.returns
-returns c =
-    let net = c.in_ok-situation.ensures.net in
-    let policy = c.in_ok-situation.ensures.policy in
-    let config = c.in_ok-situation.ensures.config in
-    let scenario = c.in_ok-situation.ensures.scenario in
-    let outcome = c.in_ok-situation.ensures.outcome in
-    let given = shown_of c.args.net.now (policy_of c.args.policy.now) c.args.config.now (failures_of c.args.scenario.now) c.args.scenario.now.prefix c.args.outcome.now.routes in
-    let shown : shown_in c.in_ok-situation.situation ≡ given = λ i. shown_of (net i) (policy_of (policy i)) (config i) (failures_of (scenario i)) ((scenario i).prefix) ((outcome i).routes) in
-    let added = c.in_ok-push_report.ensures in
-    let Reports : Shown → List ℕ → Type 0 = IsReport c.args.net.now (policy_of c.args.policy.now) c.args.config.now c.args.scenario.now.prefix in
+returns c = λ config passes.
+    let net = c.args.net.now in
+    let policy = policy_of c.args.policy.now in
+    let f = failures_of c.args.scenario.now in
+    let p = c.args.scenario.now.prefix in
+    let routes = c.args.outcome.now.routes in
+    let of = c.in_ok-situation.ensures in
+    let situation = c.in_ok-situation.situation in
+    let case = of.case ∙ c.case_of-case.ensures net config passes.made.lines in
+    let added = c.in_ok-push_report.ensures config passes in
     let text : c.push_report.new.text.items ≡ added.0 = added.2 ∙ ap (λ t. t ++ added.0) c.new-text.ensures.items in
-    subst (λ (s : Shown). Reports s c.push_report.new.text.items) shown (subst (Reports (shown_in c.in_ok-situation.situation)) (sym text) added.1)
+    let case_here = option_and_then (case_at c.args.evidence.now.cases) (class_of config p) in
+    let alike = shows_alike net policy config c.args.evidence.now.cases c.known_net.ensures c.requires.fits passes p c.known_prefix.ensures routes f in
+    let shown : shown_in situation ≡ shown_by net f routes case_here = λ i. shown_by (of.net i) (failures_of (of.scenario i)) ((of.outcome i).routes) (case i) in
+    (same_reports net policy config p (shown_by net f routes case_here) (shown_of net policy config f p routes) alike c.push_report.new.text.items).0
+    (subst (λ (s : Shown). IsReport net policy config p s c.push_report.new.text.items) shown (subst (IsReport net policy config p (shown_in situation)) (sym text) added.1))

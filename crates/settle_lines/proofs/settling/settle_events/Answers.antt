@@ -48,7 +48,7 @@ returns c =
     let spoken = subst (λ (s : Speakers Route). HasRested net.links s (state c.happen.new.world) rest.rounds rest.deliveries last) speak linked in
     let rested = subst (λ (w : World Route). HasRested net.links S w rest.rounds rest.deliveries last) world spoken in
     let enough = subst (λ (m : PlainNet). rest.rounds ≤ rounds_enough m) (ap (λ s. s.0) set) c.in_ok-rest.ensures.enough in
-    let added = c.in_ok-push_report.ensures in
+    let added = c.in_ok-push_report.ensures config c.requires.passes in
     let told = c.in_ok-push_rest.ensures
     ∙ ap (λ t. t ++ rounds_line rest.rounds ++ deliveries_line rest.deliveries) (c.in_ok-push_each_refused.ensures ∙ ap (λ t. t ++ flat_map refused_line c.deref.result.now) c.new-text.ensures.items
     ∙ ap (λ (all : List Refused). flat_map refused_line all) refused) in

@@ -1,11 +1,10 @@
 use Rattle.std.proofs.Common.{◌≡◌, ◌≢◌, ℕ, ◌+◌, ◌<◌, ◌≤◌, true, false, refl, Vec, Global, List, length, Option, Some, None, set, get_or-set_other, get_or-set_same}
 use Rattle.std.proofs.Common.{length-set, below_more, ap, sym, ◌∙◌, arith, rules}
-use Rattle.std.specs.Prelude.{if◌then◌else◌}
+use Rattle.std.specs.Prelude.{if◌then◌else◌, option_map}
 use Rattle.net_base.specs.Sets.{holds}
-use Rattle.config_base.specs.Lines.{own_route}
 use Rattle.config_base.specs.declared.route.Route.{Route}
 use Rattle.graph_settling.specs.Best.{entry_at}
-use Rattle.settling.specs.Outcomes.{held_by}
+use Rattle.settling.specs.Outcomes.{held_by, started_route}
 use Rattle.settling.proofs.outcome.with_origins.Goals as goal
 use Rattle.settling.proofs.outcome.with_origins.Goals.{then-holds+in_ok-routes+in-Some-1, then-holds+in_ok-routes+in-None-1, else-holds}
 
@@ -31,7 +30,6 @@ module _ (routes next : List (Option Route)) (place : ℕ) (held others : ℕ �
 
 pub loop-place-preserved : goal.loop-place-preserved
 loop-place-preserved c =
-    let net = c.args.net.now in
     let s = c.args.survivors.now in
     let origins = c.args.origins.now in
     let place = c.loop-place.place in
@@ -39,7 +37,8 @@ loop-place-preserved c =
     let routes = c.loop-place.routes.items in
     let next = c.if-holds.routes.items in
     let others = entry_at c.args.others.items in
-    let held = held_by net c.args.config.now s origins c.args.prefix others in
+    let own = started_route (option_map (λ d. d.now) c.args.case) in
+    let held = held_by s origins own others in
     let at : c.new-router.result ≡ place = search rules in
     let within : place < length routes = omega (arith, c.loop-place-test.true, ap length c.routers-place-end.ensures.routers, before.size) in
     elim c.if-holds.branch [
@@ -47,7 +46,7 @@ loop-place-preserved c =
           let x = w.in_ok-routes.field-0 in
           let same = ap (λ (v : Vec (Option Route) Global). v.items) w.routes-is in
           let on : holds origins place ≡ true = ap (holds origins) (sym at) ∙ sym c.holds.ensures ∙ w.if-holds.true in
-          let is : x ≡ held place = w.in_ok-routes.ensures ∙ ap (λ k. if holds s.dead k then None else Some (own_route net c.args.config.now c.args.prefix k)) at ∙ rw on refl in
+          let is : x ≡ held place = w.in_ok-routes.ensures ∙ ap (λ k. if holds s.dead k then None else Some (own k)) at ∙ rw on refl in
           record {
             few = before.few;
             size = ap length same ∙ length-set routes place x ∙ before.size;
@@ -58,7 +57,7 @@ loop-place-preserved c =
           let x = w.in_ok-routes.field-0 in
           let same = ap (λ (v : Vec (Option Route) Global). v.items) w.routes-is in
           let on : holds origins place ≡ true = ap (holds origins) (sym at) ∙ sym c.holds.ensures ∙ w.if-holds.true in
-          let is : x ≡ held place = w.in_ok-routes.ensures ∙ ap (λ k. if holds s.dead k then None else Some (own_route net c.args.config.now c.args.prefix k)) at ∙ rw on refl in
+          let is : x ≡ held place = w.in_ok-routes.ensures ∙ ap (λ k. if holds s.dead k then None else Some (own k)) at ∙ rw on refl in
           record {
             few = before.few;
             size = ap length same ∙ length-set routes place x ∙ before.size;

@@ -1,12 +1,12 @@
-use Rattle.std.proofs.Common.{◌≡◌, ℕ, ◌≤◌, ◌<◌, length}
+use Rattle.std.proofs.Common.{◌≡◌, ℕ, ◌≤◌, ◌<◌, length, option_map}
 use Rattle.graph_settling.specs.Best.{entry_at}
-use Rattle.settling.specs.Outcomes.{held_by}
+use Rattle.settling.specs.Outcomes.{held_by, started_route}
 use Rattle.settling.proofs.outcome.with_origins.Given as goal
 
 abbrev pub invariant-loop-place : goal.invariant-loop-place
 invariant-loop-place l = record {
   few : length l.net.routers ≤ 512;
   size : length l.routes.items ≡ length l.net.routers;
-  done : (r : ℕ) → r < l.place → entry_at l.routes.items r ≡ held_by l.net l.config l.survivors l.origins l.prefix (entry_at l.fn.others.items) r;
+  done : (r : ℕ) → r < l.place → entry_at l.routes.items r ≡ held_by l.survivors l.origins (started_route (option_map (λ c. c.now) l.case)) (entry_at l.fn.others.items) r;
   left : (r : ℕ) → l.place ≤ r → entry_at l.routes.items r ≡ entry_at l.fn.others.items r;
 }

@@ -4,8 +4,8 @@ use Rattle.trace_lines.specs.Lines.{quiet_line, refused_line}
 use Rattle.trace_lines.proofs.reporting.trace_report.Goals as goal
 
 pub returns : goal.returns
-returns c =
-    let added = c.in_ok-push_report.ensures in
+returns c = λ config passes.
+    let added = c.in_ok-push_report.ensures config passes in
     let lines = flat_map refused_line c.args.refused.now in
     let quiet = quiet_line c.is_quiet.result in
     let told = c.in_ok-push_quiet.ensures ∙ ap (λ t. t ++ quiet) (c.in_ok-push_each_refused.ensures ∙ ap (λ t. t ++ lines) c.new-text.ensures.items) in

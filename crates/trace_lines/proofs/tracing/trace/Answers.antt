@@ -1,5 +1,6 @@
 use Rattle.std.proofs.Common.{◌≡◌, ap, ap₂, subst, ◌∙◌}
 use Rattle.std.specs.Prelude.{IfOk, List}
+use Rattle.std.proofs.lemmas.Result.{IfOk-weaker}
 use Rattle.config_base.specs.declared.route.Route.{Route}
 use Rattle.policy_base.specs.Policies.{policy_of}
 use Rattle.event_base.specs.Speaking.{speakers_of}
@@ -25,4 +26,5 @@ returns c =
     ∙ ap₂ (λ (s : Speakers Route) (w : World Route). refused_from s 1 es w) speak start in
     let world : state c.happen.new.world ≡ run S es (opening S) = c.in_ok-refused.ensures.world ∙ ap₂ (λ (s : Speakers Route) (w : World Route). run s es w) speak start in
     subst (λ (w : World Route). IfOk c.trace_report.result (λ text. IsTrace net policy config p (refused_from S 1 es (opening S)) w text.items)) world
-    (subst (λ (all : List Refused). IfOk c.trace_report.result (λ text. IsTrace net policy config p all (state c.happen.new.world) text.items)) refused c.trace_report.ensures)
+    (subst (λ (all : List Refused). IfOk c.trace_report.result (λ text. IsTrace net policy config p all (state c.happen.new.world) text.items)) refused
+    (IfOk-weaker c.trace_report.result _ _ (λ text told. told config c.requires.passes) c.trace_report.ensures))

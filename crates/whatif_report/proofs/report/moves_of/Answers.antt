@@ -16,16 +16,16 @@ moves-requires-clause-cut c =
     c.requires.cuts row (c.loop-row.row-index, slice_get_read rows (length rows) c.loop-row.row-index row refl c.loop-row-test.true c.row-item.is)
 
 pub loop-row-preserved : goal.loop-row-preserved
-loop-row-preserved c = λ after settled.
+loop-row-preserved c = λ config passes after settled.
     let s = c.args.settled.now in
     let rows = c.args.rows.now in
     let row = c.row-item.result in
     let Of : CutRow → ℕ = λ (r : CutRow). moved s.net.now r.cut s.outcome.routes (after r.cut) in
-    c.in_ok-push.ensures.ok ∙ ap₂ (λ (xs : List ℕ) (m : ℕ). xs ++ m ∷ []) (c.loop-row.invariant after settled) (c.in_ok-moves.ensures (after row.cut) (settled row.cut))
+    c.in_ok-push.ensures.ok ∙ ap₂ (λ (xs : List ℕ) (m : ℕ). xs ++ m ∷ []) (c.loop-row.invariant config passes after settled) (c.in_ok-moves.ensures config passes (after row.cut) (settled row.cut))
     ∙ sym (map_so_far Of rows c.loop-row.row-index row c.loop-row-test.true c.row-item.is)
 
 pub returns : goal.returns
-returns c =
+returns c = λ config passes.
     let s = c.args.settled.now in
-    subst (λ (rows : List CutRow). AreMoves s.net.now (policy_of s.policy.now) s.config.now (failures_of s.scenario.now) s.scenario.now.prefix s.outcome.routes rows c.loop-row.moves)
-    (take_all c.loop-row.row-index c.args.rows.now c.loop-row-test.false) c.loop-row.invariant
+    subst (λ (rows : List CutRow). AreMoves s.net.now (policy_of s.policy.now) config (failures_of s.scenario.now) s.scenario.now.prefix s.outcome.routes rows c.loop-row.moves)
+    (take_all c.loop-row.row-index c.args.rows.now c.loop-row-test.false) (c.loop-row.invariant config passes)

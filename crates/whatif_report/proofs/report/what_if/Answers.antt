@@ -20,26 +20,25 @@ moves_of-requires-clause-cuts c = λ row at.
     row (subst (λ (rows : List CutRow). IsIn rows row) c.as_slice.ensures at)
 
 pub returns : goal.returns
-returns c =
+returns c = λ config passes.
     let net = c.args.net.now in
     let policy = policy_of c.args.policy.now in
-    let config = c.args.config.now in
     let f = failures_of c.args.scenario.now in
     let p = c.args.scenario.now.prefix in
     let before = c.in_ok-outcome.outcome.routes in
     let impact = c.in_ok-impact.impact in
     let rest : (cut : Cut) → (o : Outcome) × (length o ≡ length net.routers) × IsFullyStable net policy config (with_cut cut f) p o =
-    λ cut. settled_outcomes_exist net policy config c.args.evidence.now.cases c.known_net.ensures c.requires.fits c.requires.passes p (with_cut cut f) c.known_prefix.ensures in
+    λ cut. settled_outcomes_exist net policy config c.args.evidence.now.cases c.known_net.ensures c.requires.fits passes p (with_cut cut f) c.known_prefix.ensures in
     let after : Cut → Outcome = λ cut. (rest cut).0 in
     let resettled : (cut : Cut) → IsSettled net policy config (with_cut cut f) p (after cut) = λ cut. record { size = (rest cut).1; stable = (rest cut).2 } in
     let Of : Cut → ℕ = λ (cut : Cut). moved net cut before (after cut) in
     record {
       impact = c.in_ok-impact.ensures;
       before = before;
-      settled = record { size = c.in_ok-outcome.ensures.size; stable = c.in_ok-outcome.ensures.settled };
+      settled = record { size = c.in_ok-outcome.ensures.size; stable = c.in_ok-outcome.ensures.settled config passes };
       after = after;
       resettled = resettled;
       moves =
-          c.in_ok-moves.ensures after resettled ∙ ap (map (λ (row : CutRow). Of row.cut)) c.as_slice.ensures
+          c.in_ok-moves.ensures config passes after resettled ∙ ap (map (λ (row : CutRow). Of row.cut)) c.as_slice.ensures
           ∙ sym (map-map Of (λ (row : CutRow). row.cut) impact.rows) ∙ ap (map Of) (rows_are_of_live_cuts net policy f p impact c.in_ok-impact.ensures);
     }

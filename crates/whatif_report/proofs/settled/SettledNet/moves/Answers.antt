@@ -9,17 +9,17 @@ use Rattle.whatif_report.proofs.Staying.{moves_none}
 use Rattle.whatif_report.proofs.settled.SettledNet.moves.Goals as goal
 
 pub returns-then-is_off_routes : goal.returns-then-is_off_routes
-returns-then-is_off_routes c = λ after settled.
+returns-then-is_off_routes c = λ config passes after settled.
     let s = c.args.self.now in
-    sym (moves_none s.net.now (policy_of s.policy.now) s.config.now s.evidence.now.cases c.known_net.ensures c.requires.fits c.requires.passes (failures_of s.scenario.now) s.scenario.now.prefix
-    c.known_prefix.ensures c.args.cut.now s.outcome.routes after c.requires.settled settled (c.is_off_routes.ensures c.if-is_off_routes.true))
+    sym (moves_none s.net.now (policy_of s.policy.now) config s.evidence.now.cases c.known_net.ensures c.requires.fits passes (failures_of s.scenario.now) s.scenario.now.prefix
+    c.known_prefix.ensures c.args.cut.now s.outcome.routes after (c.requires.settled config passes) settled (c.is_off_routes.ensures c.if-is_off_routes.true))
 
 pub returns : goal.returns
-returns c = λ after settled.
+returns c = λ config passes after settled.
     let s = c.args.self.now in
     let f = with_cut c.args.cut.now (failures_of s.scenario.now) in
-    let mine : IsSettled s.net.now (policy_of s.policy.now) s.config.now f s.scenario.now.prefix c.in_ok-after.after.routes =
-    record { size = c.in_ok-after.ensures.size; stable = c.in_ok-after.ensures.settled f c.in_ok-survivors.ensures } in
-    let same = settled_one s.net.now (policy_of s.policy.now) s.config.now s.evidence.now.cases c.known_net.ensures c.requires.fits c.requires.passes s.scenario.now.prefix c.known_prefix.ensures f
+    let mine : IsSettled s.net.now (policy_of s.policy.now) config f s.scenario.now.prefix c.in_ok-after.after.routes =
+    record { size = c.in_ok-after.ensures.size; stable = c.in_ok-after.ensures.settled config passes f c.in_ok-survivors.ensures } in
+    let same = settled_one s.net.now (policy_of s.policy.now) config s.evidence.now.cases c.known_net.ensures c.requires.fits passes s.scenario.now.prefix c.known_prefix.ensures f
     c.in_ok-after.after.routes after mine settled in
     c.count_moved.ensures ∙ ap (λ (o : List (Option Route)). moved s.net.now c.args.cut.now s.outcome.routes o) same
