@@ -73,6 +73,20 @@ class Install(unittest.TestCase):
             for part in ended([PROGRAM, "help", form.split()[0]])[1].partition("\nreads\n")[0].split("\n\n")[1:]:
                 self.assertIn(joined(part), joined(text))
 
+    def test_pages(self):
+        told = ended([PROGRAM, "help"])
+        for word in ("--help", "-h"):
+            self.assertEqual(ended([PROGRAM, word]), told)
+        lines = told[1].partition("\n\ncommands\n")[2].splitlines()
+        self.assertGreaterEqual(len(lines), len(self.commands))
+        for form, line in zip(self.commands, lines):
+            with self.subTest(form):
+                word = form.split()[0]
+                self.assertEqual(line.split()[0], word)
+                page = ended([PROGRAM, "help", word])[1]
+                self.assertTrue(page.startswith(f"usage: propane {form}\n\n"))
+                self.assertRegex(page, r"(?s)\n\nreads\n  .*\n\nwrites\n  .*\n\nstatus\n  .*\n\nexample\n  ")
+
     def test_bash(self):
         file = os.path.join(self.prefix, "share/bash-completion/completions/propane")
         every = sorted(form.split()[0] for form in self.commands)

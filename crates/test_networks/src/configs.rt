@@ -244,8 +244,5 @@ end
 
 /// The evidence for the configuration of two routers.
 pub const TWO_ROUTERS_EVIDENCE: &str =
-    "{\"cases\":[{\"external\":false,\"nodes\":[[0,0,0,100,64512,1],[1,0,1,100,64513,1]],\"origins\":[0],\"prefixes\":[\"10.0.1.0/24\"],\"starts\":[0],\"statement\":1,\"steps\":[[0,1]]}],\"version\":1}\n";
-
-/// Evidence for two exits whose preference numbers are exchanged.
-pub const EXCHANGED_EVIDENCE: &str =
-    "{\"cases\":[{\"external\":true,\"nodes\":[[2,0,0,0,0,0],[3,0,0,0,0,0],[0,0,1,100,64512,1],[1,0,2,100,64513,1],[1,0,1,101,64513,2],[0,0,2,101,64512,2]],\"origins\":[2,3],\"prefixes\":[],\"starts\":[0,1],\"statement\":1,\"steps\":[[0,2],[1,3],[2,4],[3,5],[4,2],[5,3]]}],\"version\":1}\n";
+    r#"{"cases":[{"external":false,"nodes":[[0,0,0,100,64512,1],[1,0,1,100,64513,1]],"origins":[0],"prefixes":["10.0.1.0/24"],"starts":[0],"statement":1,"steps":[[0,1]]}],"version":1}
+"#;

@@ -8,16 +8,16 @@ use policy_parser::read_policy;
 use std::alloc::Global;
 use topology::read_topology;
 
-/// The network of a text, where it is one.
-pub fn net_of(alloc: Global, topology: &[u8]) -> Option<Net> {
+// The network of a text, where it is one.
+fn net_of(alloc: Global, topology: &str) -> Option<Net> {
     if topology.len() > 65536 {
         return None;
     }
-    read_topology(alloc, topology).ok()
+    read_topology(alloc, topology.as_bytes()).ok()
 }
 
 /// The network and the policy of two texts, where they are such.
-pub fn read(alloc: Global, topology: &[u8], policy: &str) -> Option<(Net, Policy)>
+pub fn read(alloc: Global, topology: &str, policy: &str) -> Option<(Net, Policy)>
     ensures { IfSome result (λ r. OriginsAreRouters r.0 r.1.origins) }
 {
     if policy.len() > 65536 {

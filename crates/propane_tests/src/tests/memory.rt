@@ -1,5 +1,5 @@
 //! Runs over memory, as its callers have them.
-use super::{ANY_PATH, COMPILE, inputs_of, words_of};
+use super::{ANY_PATH, run_of};
 use memory_run::{Came, compile_in_memory, compile_twice, count_compiled, run_again, run_surely};
 use outside::{CountSink, MemSink, NoMemory, SureInputs};
 use propane_run::Status;
@@ -7,18 +7,18 @@ use std::alloc::Global;
 use std::test::Fail;
 use test_networks::{TWO_ROUTERS, TWO_ROUTERS_CONFIG};
 
-const NO_PATH: &[u8] = b"originate 10.0.1.0/24 at A; 10.0.1.0/24 => drop from B;";
+const NO_PATH: &str = "originate 10.0.1.0/24 at A; 10.0.1.0/24 => drop from B;";
 
 const REFUSAL: &str = "propane: refused 4 source-without-path case 1 router B\n";
 
-const UNREAD: &str = "propane: cannot read t.json\n";
+const UNREAD: &str = "propane: cannot read first\n";
 
 const FAULT: &str = "propane: policy 4 syntax at 1:1\n";
 
 // A policy for two routers, the room, what is told, and its bytes.
 type Row = (
     &'static str,
-    &'static [u8],
+    &'static str,
     usize,
     &'static str,
     &'static str,
@@ -35,7 +35,7 @@ const ROWS: [Row; 5] = [
     ),
     ("too little room", ANY_PATH, 257, "no room", ""),
     ("no path", NO_PATH, 4096, "refused", REFUSAL),
-    ("no policy", b"=>", 4096, "faulty", FAULT),
+    ("no policy", "=>", 4096, "faulty", FAULT),
 ];
 
 // Whether this is told, with these bytes.
@@ -51,7 +51,7 @@ fn is_told(came: &Came, kind: &str, words: &str) -> bool {
 // The name of the first row that comes to something else.
 fn wrong_row(alloc: Global, rows: &[Row]) -> Result<Option<&'static str>, NoMemory> {
     for row in rows {
-        let came = compile_in_memory(alloc, TWO_ROUTERS, row.1, row.2)?;
+        let came = compile_in_memory(alloc, TWO_ROUTERS.as_bytes(), row.1.as_bytes(), row.2)?;
         if !is_told(&came, row.3, row.4) {
             return Ok(Some(row.0));
         }
@@ -67,15 +67,16 @@ fn two_routers_in_memory(rt: HostRuntime) -> Result<(), Fail> {
 
 #[test]
 fn two_routers_counted(rt: HostRuntime) -> Result<(), Fail> {
-    let alloc = rt.alloc();
-    assert!(rt; count_compiled(alloc, TWO_ROUTERS, ANY_PATH)? == Some(258));
-    assert!(rt; count_compiled(alloc, TWO_ROUTERS, NO_PATH)? == None);
+    let (alloc, net) = (rt.alloc(), TWO_ROUTERS.as_bytes());
+    assert!(rt; count_compiled(alloc, net, ANY_PATH.as_bytes())? == Some(258));
+    assert!(rt; count_compiled(alloc, net, NO_PATH.as_bytes())? == None);
     Ok(())
 }
 
 #[test]
 fn two_routers_twice(rt: HostRuntime) -> Result<(), Fail> {
-    let (first, again) = compile_twice(rt.alloc(), TWO_ROUTERS, ANY_PATH, 4096)?;
+    let (net, policy) = (TWO_ROUTERS.as_bytes(), ANY_PATH.as_bytes());
+    let (first, again) = compile_twice(rt.alloc(), net, policy, 4096)?;
     assert!(rt; is_told(&first, "compiled", TWO_ROUTERS_CONFIG));
     assert!(rt; is_told(&again, "compiled", TWO_ROUTERS_CONFIG));
     Ok(())
@@ -84,8 +85,8 @@ fn two_routers_twice(rt: HostRuntime) -> Result<(), Fail> {
 #[test]
 fn a_failed_read_is_tried_again(rt: HostRuntime) -> Result<(), Fail> {
     let alloc = rt.alloc();
-    let words = words_of(alloc, COMPILE)?;
-    let mut inputs = inputs_of(alloc, TWO_ROUTERS, ANY_PATH)?;
+    let texts = [TWO_ROUTERS.as_bytes(), ANY_PATH.as_bytes()];
+    let (words, mut inputs) = run_of(alloc, &["compile"], &texts)?;
     inputs.fail(1)?;
     let mut out = MemSink::new(alloc, 4096, 4096)?;
     let mut err = MemSink::new(alloc, 4096, 4096)?;

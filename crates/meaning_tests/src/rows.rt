@@ -1,0 +1,226 @@
+//! Networks under failures, with the routes that their routers settle on.
+use crate::exit_rows::{ENTERED, EXITS, EXPORTED, SILENT_EXIT};
+use crate::values::Held;
+use test_networks::{
+    LINE, LINE_CONFIG, RING, RING_CONFIG, TRIANGLE, TRIANGLE_CONFIG, TWO_ROUTERS,
+    TWO_ROUTERS_CONFIG, TWO_SPINES, TWO_SPINES_CONFIG, TWO_WAYS, TWO_WAYS_CONFIG,
+};
+
+/// A network with a policy, its configuration and failures; the routes that the routers settle on; and single
+/// routes in whose place the outcome isn't stable. Locations go by their numbers.
+#[derive(Clone, Copy)]
+pub(crate) struct Row {
+    pub(crate) name: &'static str,
+    pub(crate) topology: &'static str,
+    pub(crate) policy: &'static str,
+    pub(crate) config: &'static str,
+    pub(crate) prefix: &'static str,
+    /// Dead locations, as bits.
+    pub(crate) dead: u64,
+    pub(crate) dead_links: &'static [(u16, u16)],
+    pub(crate) silent: &'static [(u16, u16)],
+    pub(crate) settled: &'static [Held],
+    pub(crate) unstable: &'static [(u16, Held)],
+}
+
+const ANY_FROM_A: &str = "originate 10.0.1.0/24 at A; 10.0.1.0/24 => any;";
+
+const DEAD_LINK: Row = Row {
+    name: "a triangle with a dead link",
+    topology: TRIANGLE,
+    policy: ANY_FROM_A,
+    config: TRIANGLE_CONFIG,
+    prefix: "10.0.1.0/24",
+    dead: 0,
+    dead_links: &[(2, 0)],
+    silent: &[],
+    settled: &[
+        Some((&[0], 1, 0)),
+        Some((&[1, 0], 1, 100)),
+        Some((&[2, 1, 0], 1, 100)),
+    ],
+    unstable: &[
+        (0, None),
+        (0, Some((&[0], 1, 1))),
+        (0, Some((&[0], 0, 0))),
+        (1, None),
+        (1, Some((&[1, 0], 1, 101))),
+        (1, Some((&[1, 0], 2, 100))),
+        (1, Some((&[1, 2, 1, 0], 1, 100))),
+        (2, None),
+        (2, Some((&[2, 0], 1, 100))),
+    ],
+};
+
+const TIE: Row = Row {
+    name: "a tie, where C takes the longer of two routes with one preference",
+    topology: TRIANGLE,
+    policy: ANY_FROM_A,
+    config: TRIANGLE_CONFIG,
+    prefix: "10.0.1.0/24",
+    dead: 0,
+    dead_links: &[],
+    silent: &[],
+    settled: &[
+        Some((&[0], 1, 0)),
+        Some((&[1, 0], 1, 100)),
+        Some((&[2, 1, 0], 1, 100)),
+    ],
+    unstable: &[(2, None), (1, Some((&[1, 2, 0], 1, 100)))],
+};
+
+const DEAD_ORIGIN: Row = Row {
+    name: "a triangle with its origin dead",
+    topology: TRIANGLE,
+    policy: ANY_FROM_A,
+    config: TRIANGLE_CONFIG,
+    prefix: "10.0.1.0/24",
+    dead: 0b1,
+    dead_links: &[],
+    silent: &[],
+    settled: &[None, None, None],
+    unstable: &[(0, Some((&[0], 1, 0))), (1, Some((&[1, 0], 1, 100)))],
+};
+
+const RANKED_DETOUR: Row = Row {
+    name: "a detour that is ranked second",
+    topology: RING,
+    policy: "originate 10.0.1.0/24 at D; 10.0.1.0/24 => avoid(X) >> any;",
+    config: RING_CONFIG,
+    prefix: "10.0.1.0/24",
+    dead: 0,
+    dead_links: &[(0, 1)],
+    silent: &[],
+    settled: &[
+        Some((&[0], 1, 0)),
+        Some((&[1, 2, 3, 0], 2, 100)),
+        Some((&[2, 3, 0], 1, 100)),
+        Some((&[3, 0], 1, 101)),
+    ],
+    unstable: &[
+        (0, None),
+        (1, None),
+        (1, Some((&[1, 0], 1, 101))),
+        (2, None),
+        (2, Some((&[2, 1, 0], 1, 100))),
+        (3, None),
+        (3, Some((&[3, 2, 1, 0], 2, 100))),
+    ],
+};
+
+const RANKED_FALLBACK: Row = Row {
+    name: "a fallback path that is ranked second",
+    topology: TWO_WAYS,
+    policy: "originate 10.0.1.0/24 at D; 10.0.1.0/24 => path(A, B, C, D) >> path(A, E, D) from A;",
+    config: TWO_WAYS_CONFIG,
+    prefix: "10.0.1.0/24",
+    dead: 0,
+    dead_links: &[(1, 2)],
+    silent: &[],
+    settled: &[
+        Some((&[0, 4, 3], 1, 100)),
+        None,
+        Some((&[2, 3], 1, 100)),
+        Some((&[3], 1, 0)),
+        Some((&[4, 3], 1, 100)),
+    ],
+    unstable: &[
+        (0, None),
+        (0, Some((&[0, 1, 2, 3], 2, 101))),
+        (1, Some((&[1, 2, 3], 1, 100))),
+        (2, None),
+        (3, None),
+        (4, None),
+    ],
+};
+
+const UNGOVERNED: Row = Row {
+    name: "a prefix that nothing governs",
+    topology: TWO_ROUTERS,
+    policy: "originate 10.0.1.0/24 at A; originate 10.0.9.0/24 at A; 10.0.1.0/24 => any;",
+    config: TWO_ROUTERS_CONFIG,
+    prefix: "10.0.9.0/24",
+    dead: 0,
+    dead_links: &[],
+    silent: &[],
+    settled: &[Some((&[0], 0, 0)), None],
+    unstable: &[
+        (0, None),
+        (0, Some((&[0], 1, 0))),
+        (1, Some((&[1, 0], 1, 100))),
+    ],
+};
+
+const DEAD_SPINE: Row = Row {
+    name: "the valley-free policy with a dead router",
+    topology: TWO_SPINES,
+    policy: "originate 10.0.1.0/24 at T1;
+10.0.1.0/24 => through(S1, S2) and notransit(T1, T3, T4) from T3, T4;",
+    config: TWO_SPINES_CONFIG,
+    prefix: "10.0.1.0/24",
+    dead: 0b100,
+    dead_links: &[],
+    silent: &[],
+    settled: &[
+        Some((&[0], 1, 0)),
+        Some((&[1, 0], 1, 100)),
+        None,
+        Some((&[3, 1, 0], 1, 100)),
+        Some((&[4, 3, 1, 0], 1, 100)),
+        Some((&[5, 4, 3, 1, 0], 1, 100)),
+        Some((&[6, 4, 3, 1, 0], 1, 100)),
+    ],
+    unstable: &[
+        (0, None),
+        (1, None),
+        (2, Some((&[2, 1, 0], 1, 100))),
+        (3, None),
+        (4, None),
+        (4, Some((&[4, 2, 1, 0], 1, 100))),
+        (5, None),
+        (6, Some((&[6, 4, 2, 1, 0], 1, 100))),
+    ],
+};
+
+const SEVERAL_ORIGINS: Row = Row {
+    name: "two origins, of which one announces",
+    topology: LINE,
+    policy: "originate 10.0.5.0/24 at A, D; 10.0.5.0/24 => end(A >> D);",
+    config: LINE_CONFIG,
+    prefix: "10.0.5.0/24",
+    dead: 0,
+    dead_links: &[],
+    silent: &[],
+    settled: &[
+        Some((&[0], 0, 0)),
+        Some((&[1], 1, 0)),
+        Some((&[2, 1], 1, 100)),
+    ],
+    unstable: &[
+        (0, None),
+        (0, Some((&[0], 1, 0))),
+        (1, None),
+        (1, Some((&[1, 0], 1, 100))),
+        (2, None),
+        (2, Some((&[2, 1, 0], 1, 100))),
+    ],
+};
+
+/// The row of this number.
+pub(crate) fn nth_row(number: usize) -> Option<Row> {
+    Some(match number {
+        0 => DEAD_LINK,
+        1 => TIE,
+        2 => DEAD_ORIGIN,
+        3 => EXITS,
+        4 => SILENT_EXIT,
+        5 => RANKED_DETOUR,
+        6 => RANKED_FALLBACK,
+        7 => UNGOVERNED,
+        8 => DEAD_SPINE,
+        9 => SEVERAL_ORIGINS,
+        10 => ENTERED,
+        11 => EXPORTED,
+        _ => return None,
+    })
+}

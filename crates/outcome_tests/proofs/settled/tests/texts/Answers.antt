@@ -1,6 +1,0 @@
-use Rattle.policy_base.specs.Policies.{policy_of}
-use Rattle.policy_parser.proofs.FittingPolicies.{read_policies_fit}
-use Rattle.outcome_tests.proofs.settled.tests.texts.Goals as goal
-
-pub returns-in-Ok : goal.returns-in-Ok
-returns-in-Ok c = read_policies_fit c.in_ok-net.net c.as_bytes.result.now (policy_of c.in-Ok.policy) c.in-Ok.ensures.read

@@ -1,3 +1,0 @@
-//! Settled outcomes of compiled policies.
-mod rows;
-mod tests;
