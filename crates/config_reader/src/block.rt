@@ -1,8 +1,8 @@
 //! The block of a router that is being read, and what the next line makes of it.
 ghost use Rattle.std.specs.Prelude.{◌≡◌};
 ghost use Rattle.net_base.specs.Gives.{GivesUnless};
-ghost use Rattle.config_reader.specs.Reading.{closed, own_into, neighbour_into, import_into, export_into, entry_into};
-ghost use Rattle.config_reader.specs.Reading.{in_neighbour as within_neighbour, inside as inside_block};
+ghost use Rattle.config_reader.specs.Reading.{closed, own_into, neighbour_into, import_into, export_into, entry_into, inside};
+ghost use Rattle.config_reader.specs.Reading.{in_neighbour as within_neighbour};
 
 use crate::order::{export_ascends, import_ascends, origination_ascends};
 use crate::reading::{Misplaced, OpenRouter};
@@ -11,60 +11,43 @@ use config_lines::Line;
 use net_base::{List, Name};
 use std::alloc::Global;
 
-// The block of a router with one more route of its own.
+// One more route of its own in the block of a router.
 #[tactic(auto, unfolding(crate::specs::Reading::own_into))]
-fn push_origination(current: OpenRouter, line: Origination) -> Result<OpenRouter, Misplaced>
-    ensures { GivesUnless Misplaced.NoMemory (λ o. o) result (own_into current line) }
+fn push_origination(current: &mut OpenRouter, line: Origination) -> Result<(), Misplaced>
+    ensures { GivesUnless Misplaced.NoMemory (λ _. current.new) result (own_into current.old line) }
 {
-    let OpenRouter {
-        mut router,
-        names,
-        block,
-    } = current;
-    if block.is_some() {
+    if current.block.is_some() {
         return Err(Misplaced::Order);
     }
-    if !origination_ascends(router.own.as_slice(), &line) {
+    if !origination_ascends(current.router.own.as_slice(), &line) {
         return Err(Misplaced::Order);
     }
-    router.own.push(line)?;
-    Ok(OpenRouter {
-        router,
-        names,
-        block,
-    })
+    current.router.own.push(line)?;
+    Ok(())
 }
 
-// The router, with the block of a neighbour that was open.
-fn close(mut router: RouterConfig, block: Option<Session>) -> Result<RouterConfig, Misplaced>
-    ensures { GivesUnless Misplaced.NoMemory (λ r. r) result (Ok (closed router block)) }
+// Ends the block of a neighbour in that of a router, if one was open.
+fn close(router: &mut RouterConfig, block: Option<Session>) -> Result<(), Misplaced>
+    ensures { GivesUnless Misplaced.NoMemory (λ _. router.new) result (Ok (closed router.old block)) }
 {
-    match block {
-        Some(session) => {
-            router.sessions.push(session)?;
-            Ok(router)
-        }
-        None => Ok(router),
+    if let Some(session) = block {
+        router.sessions.push(session)?;
     }
+    Ok(())
 }
 
-// The block of a router, in which that of a neighbour begins.
+// Begins the block of a neighbour in that of a router.
 #[tactic(auto, unfolding(crate::specs::Reading::neighbour_into))]
 fn begin_block(
     alloc: Global,
-    current: OpenRouter,
+    current: &mut OpenRouter,
     peer: bool,
     name: Name,
     asn: u32,
-) -> Result<OpenRouter, Misplaced>
-    ensures { GivesUnless Misplaced.NoMemory (λ o. o) result (neighbour_into peer current name asn) }
+) -> Result<(), Misplaced>
+    ensures { GivesUnless Misplaced.NoMemory (λ _. current.new) result (neighbour_into peer current.old name asn) }
 {
-    let OpenRouter {
-        router,
-        mut names,
-        block,
-    } = current;
-    if !names.insert(alloc, &name)? {
+    if !current.names.insert(alloc, &name)? {
         return Err(Misplaced::Twice);
     }
     let session = Session {
@@ -74,17 +57,14 @@ fn begin_block(
         imports: List::new(alloc),
         exports: List::new(alloc),
     };
-    Ok(OpenRouter {
-        router: close(router, block)?,
-        names,
-        block: Some(session),
-    })
+    let before = current.block.replace(session);
+    close(&mut current.router, before)
 }
 
-// The block of a neighbour with one more import.
+// One more import in the block of a neighbour.
 #[tactic(auto, unfolding(crate::specs::Reading::import_into))]
-fn add_import(mut session: Session, peer: bool, line: Import) -> Result<Session, Misplaced>
-    ensures { GivesUnless Misplaced.NoMemory (λ s. s) result (import_into peer session line) }
+fn add_import(session: &mut Session, peer: bool, line: Import) -> Result<(), Misplaced>
+    ensures { GivesUnless Misplaced.NoMemory (λ _. session.new) result (import_into peer session.old line) }
 {
     if session.peer != peer || !session.exports.as_slice().is_empty() {
         return Err(Misplaced::Order);
@@ -93,24 +73,24 @@ fn add_import(mut session: Session, peer: bool, line: Import) -> Result<Session,
         return Err(Misplaced::Order);
     }
     session.imports.push(line)?;
-    Ok(session)
+    Ok(())
 }
 
-// The block of a neighbour with one more export.
+// One more export in the block of a neighbour.
 #[tactic(auto, unfolding(crate::specs::Reading::export_into))]
-fn add_export(mut session: Session, line: Export) -> Result<Session, Misplaced>
-    ensures { GivesUnless Misplaced.NoMemory (λ s. s) result (export_into session line) }
+fn add_export(session: &mut Session, line: Export) -> Result<(), Misplaced>
+    ensures { GivesUnless Misplaced.NoMemory (λ _. session.new) result (export_into session.old line) }
 {
     if !export_ascends(session.exports.as_slice(), &line) {
         return Err(Misplaced::Order);
     }
     session.exports.push(line)?;
-    Ok(session)
+    Ok(())
 }
 
-// The block of a neighbour with one more line.
-fn add_entry(session: Session, line: Line) -> Result<Session, Misplaced>
-    ensures { GivesUnless Misplaced.NoMemory (λ s. s) result (entry_into session line) }
+// One more line in the block of a neighbour.
+fn add_entry(session: &mut Session, line: Line) -> Result<(), Misplaced>
+    ensures { GivesUnless Misplaced.NoMemory (λ _. session.new) result (entry_into session.old line) }
 {
     match line {
         Line::Import(rule) => add_import(session, false, rule),
@@ -120,30 +100,20 @@ fn add_entry(session: Session, line: Line) -> Result<Session, Misplaced>
     }
 }
 
-// The block of a router with one more line in that of a neighbour.
+// One more line in the block of a neighbour that is open in that of a router.
 #[tactic(auto, unfolding(crate::specs::Reading::in_neighbour))]
-fn in_neighbour(current: OpenRouter, line: Line) -> Result<OpenRouter, Misplaced>
-    ensures { GivesUnless Misplaced.NoMemory (λ o. o) result (within_neighbour current line) }
+fn in_neighbour(current: &mut OpenRouter, line: Line) -> Result<(), Misplaced>
+    ensures { GivesUnless Misplaced.NoMemory (λ _. current.new) result (within_neighbour current.old line) }
 {
-    let OpenRouter {
-        router,
-        names,
-        block,
-    } = current;
-    let Some(session) = block else {
-        return Err(Misplaced::Order);
-    };
-    let session = add_entry(session, line)?;
-    Ok(OpenRouter {
-        router,
-        names,
-        block: Some(session),
-    })
+    match &mut current.block {
+        Some(session) => add_entry(session, line),
+        None => Err(Misplaced::Order),
+    }
 }
 
-/// The block of a router with one more line, which doesn't end it.
-pub fn inside(alloc: Global, current: OpenRouter, line: Line) -> Result<OpenRouter, Misplaced>
-    ensures { GivesUnless Misplaced.NoMemory (λ o. o) result (inside_block current line) }
+/// One more line in the block of a router, which doesn't end it. After an error the block may lack what it had.
+pub fn add_inside(alloc: Global, current: &mut OpenRouter, line: Line) -> Result<(), Misplaced>
+    ensures { GivesUnless Misplaced.NoMemory (λ _. current.new) result (inside current.old line) }
 {
     match line {
         Line::Origination(own) => push_origination(current, own),
@@ -158,9 +128,10 @@ pub fn closed_router(current: OpenRouter) -> Result<RouterConfig, Misplaced>
     ensures { GivesUnless Misplaced.NoMemory (λ r. r) result (Ok (closed current.router current.block)) }
 {
     let OpenRouter {
-        router,
+        mut router,
         names: _,
         block,
     } = current;
-    close(router, block)
+    close(&mut router, block)?;
+    Ok(router)
 }

@@ -12,7 +12,7 @@ ghost use Rattle.config_lines.specs.Lines.{line_of};
 ghost use Rattle.config_lines.specs.declared.edition.Edition.TheVariants.{First};
 
 use crate::fault::ConfigFault;
-use crate::reading::{Misplaced, Reading, after, nothing_read};
+use crate::reading::{Misplaced, Reading, follow, nothing_read};
 use config_base::Config;
 use config_lines::{Edition, Line, LineFault, halves, read_line};
 use std::alloc::Global;
@@ -35,38 +35,54 @@ fn line_at(
     }
 }
 
-// What was read with one line more, which has this number.
-fn after_at(
+// Reads one line more, which has this number.
+fn follow_at(
     alloc: Global,
     number: u32,
-    reading: Reading,
+    reading: &mut Reading,
     line: Line,
-) -> Result<Reading, ConfigFault>
-    ensures { GivesUnless ConfigFault.NoMemory (λ r. r) result (placed_at number (after_line reading line)) }
+) -> Result<(), ConfigFault>
+    ensures { GivesUnless ConfigFault.NoMemory (λ _. reading.new) result (placed_at number (after_line reading.old line)) }
 {
-    match after(alloc, reading, line) {
-        Ok(next) => Ok(next),
+    match follow(alloc, reading, line) {
+        Ok(()) => Ok(()),
         Err(Misplaced::Order) => Err(ConfigFault::Order(number)),
         Err(Misplaced::Twice) => Err(ConfigFault::Twice(number)),
         Err(Misplaced::NoMemory) => Err(ConfigFault::NoMemory),
     }
 }
 
-// What was read with the bytes of one line more, which has this number.
+// How many classes were read.
+fn count_of_classes(reading: &Reading) -> u32
+    requires { length reading.now.classes < 2 ^ 32 }
+    ensures { result ≡ length reading.now.classes }
+{
+    reading.classes.as_slice().len() as u32
+}
+
+// Reads the bytes of one line more, which has this number.
 #[tactic(auto, unfolding(crate::specs::Text::with_line))]
 fn take_line(
     alloc: Global,
     edition: Edition,
     number: u32,
-    reading: Reading,
+    reading: &mut Reading,
     bytes: &[u8],
-) -> Result<Reading, ConfigFault>
-    requires { length reading.classes < 2 ^ 32 }
-    ensures { GivesUnless ConfigFault.NoMemory (λ r. r) result (with_line edition number reading bytes.now) }
+) -> Result<(), ConfigFault>
+    requires { length reading.old.classes < 2 ^ 32 }
+    ensures { GivesUnless ConfigFault.NoMemory (λ _. reading.new) result (with_line edition number reading.old bytes.now) }
 {
-    let classes = reading.classes.as_slice().len() as u32;
+    let classes = count_of_classes(reading);
     let line = line_at(alloc, edition, number, bytes, classes)?;
-    after_at(alloc, number, reading, line)
+    follow_at(alloc, number, reading, line)
+}
+
+// The configuration that was read, which keeps the rules.
+fn config_of(reading: Reading) -> Config
+    requires { IsConfig (record { classes = reading.classes; routers = reading.routers }) }
+    ensures { result ≡ record { classes = reading.classes; routers = reading.routers } }
+{
+    Config::new(reading.classes, reading.routers.into_list())
 }
 
 // The configuration that was read, where nothing is open and nothing follows the last line feed.
@@ -75,15 +91,10 @@ fn finish(reading: Reading, rest: &[u8]) -> Result<Config, ConfigFault>
     requires { reading.opened ≡ None → IsConfig (record { classes = reading.classes; routers = reading.routers }) }
     ensures { GivesUnless ConfigFault.NoMemory (λ c. c) result (finished reading rest.now) }
 {
-    let Reading {
-        classes,
-        routers,
-        opened,
-    } = reading;
-    if opened.is_some() || !rest.is_empty() {
+    if reading.opened.is_some() || !rest.is_empty() {
         return Err(ConfigFault::Unfinished);
     }
-    Ok(Config::new(classes, routers.into_list()))
+    Ok(config_of(reading))
 }
 
 // The configuration of the bytes behind the first line, which has the number 1.
@@ -95,7 +106,7 @@ fn read_behind_heading(alloc: Global, edition: Edition, bytes: &[u8]) -> Result<
     let mut number = 2;
     let mut rest = bytes;
     while let Some((line, more)) = halves(b'\n', rest) {
-        reading = take_line(alloc, edition, number, reading, line)?;
+        take_line(alloc, edition, number, &mut reading, line)?;
         number += 1;
         rest = more;
     }

@@ -1,16 +1,17 @@
 //! What was read so far, and what the next line makes of it.
-ghost use Rattle.std.specs.Prelude.{◌≡◌, ◌==◌, ◌&&◌, is_none, length};
+ghost use Rattle.std.specs.Prelude.{◌≡◌, ◌==◌, ◌&&◌, ◌++◌, ◌∷◌, [], None, Ok, is_none, length};
 ghost use Rattle.net_base.specs.Gives.{GivesUnless};
 ghost use Rattle.config_reader.specs.Reading.{opening, is_next as next, takes_class as takes_class_line, takes_router as takes_router_line, after as after_line};
 ghost use Rattle.config_reader.specs.Reading.{with_class, with_router, in_router, with_end};
 
-use crate::block::{closed_router, inside};
+use crate::block::{add_inside, closed_router};
 use crate::names::Names;
 use crate::routers::Routers;
 use config_base::{RouterConfig, Session};
 use config_lines::Line;
 use net_base::{List, Name, Pattern};
 use std::alloc::{AllocError, AllocFailed, Global};
+use std::mem::replace;
 
 /// The block of a router that is being read.
 #[derive(Drop)]
@@ -104,26 +105,17 @@ fn takes_class(reading: &Reading, number: Option<u32>) -> bool
 // The line of a class.
 #[tactic(auto, unfolding(crate::specs::Reading::with_class))]
 fn add_class(
-    reading: Reading,
+    reading: &mut Reading,
     number: Option<u32>,
     patterns: List<Pattern>,
-) -> Result<Reading, Misplaced>
-    ensures { GivesUnless Misplaced.NoMemory (λ r. r) result (with_class reading number patterns) }
+) -> Result<(), Misplaced>
+    ensures { GivesUnless Misplaced.NoMemory (λ _. reading.new) result (with_class reading.old number patterns) }
 {
-    if !takes_class(&reading, number) {
+    if !takes_class(reading, number) {
         return Err(Misplaced::Order);
     }
-    let Reading {
-        mut classes,
-        routers,
-        opened,
-    } = reading;
-    classes.push(patterns)?;
-    Ok(Reading {
-        classes,
-        routers,
-        opened,
-    })
+    reading.classes.push(patterns)?;
+    Ok(())
 }
 
 // Whether the head line of a router may follow.
@@ -139,23 +131,10 @@ fn takes_router(reading: &Reading, name: &Name, asn: u32, id: u32) -> Result<(),
     Ok(())
 }
 
-// The head line of a router.
-#[tactic(auto, unfolding(crate::specs::Reading::with_router))]
-fn begin_router(
-    alloc: Global,
-    reading: Reading,
-    name: Name,
-    asn: u32,
-    id: u32,
-) -> Result<Reading, Misplaced>
-    ensures { GivesUnless Misplaced.NoMemory (λ r. r) result (with_router reading name asn id) }
+// The block of a router, of which the head line was read.
+fn open_router(alloc: Global, name: Name, asn: u32, id: u32) -> OpenRouter
+    ensures { result ≡ record { router = record { name = name; asn = asn; id = id; own = []; sessions = [] }; names = []; block = None } }
 {
-    takes_router(&reading, &name, asn, id)?;
-    let Reading {
-        classes,
-        routers,
-        opened: _,
-    } = reading;
     let router = RouterConfig {
         name,
         asn,
@@ -163,63 +142,64 @@ fn begin_router(
         own: List::new(alloc),
         sessions: List::new(alloc),
     };
-    let current = OpenRouter {
+    OpenRouter {
         router,
         names: Names::new(alloc),
         block: None,
-    };
-    Ok(Reading {
-        classes,
-        routers,
-        opened: Some(current),
-    })
+    }
+}
+
+// The head line of a router.
+#[tactic(auto, unfolding(crate::specs::Reading::with_router))]
+fn begin_router(
+    alloc: Global,
+    reading: &mut Reading,
+    name: Name,
+    asn: u32,
+    id: u32,
+) -> Result<(), Misplaced>
+    ensures { GivesUnless Misplaced.NoMemory (λ _. reading.new) result (with_router reading.old name asn id) }
+{
+    takes_router(reading, &name, asn, id)?;
+    reading.opened = Some(open_router(alloc, name, asn, id));
+    Ok(())
 }
 
 // A line inside the block of a router.
 #[tactic(auto, unfolding(crate::specs::Reading::in_router))]
-fn continue_router(alloc: Global, reading: Reading, line: Line) -> Result<Reading, Misplaced>
-    ensures { GivesUnless Misplaced.NoMemory (λ r. r) result (in_router reading line) }
+fn continue_router(alloc: Global, reading: &mut Reading, line: Line) -> Result<(), Misplaced>
+    ensures { GivesUnless Misplaced.NoMemory (λ _. reading.new) result (in_router reading.old line) }
 {
-    let Reading {
-        classes,
-        routers,
-        opened,
-    } = reading;
-    let Some(current) = opened else {
-        return Err(Misplaced::Order);
-    };
-    let current = inside(alloc, current, line)?;
-    Ok(Reading {
-        classes,
-        routers,
-        opened: Some(current),
-    })
+    match &mut reading.opened {
+        Some(current) => add_inside(alloc, current, line),
+        None => Err(Misplaced::Order),
+    }
+}
+
+// Puts a router behind the others. After an error they are gone.
+fn add_router(alloc: Global, routers: &mut Routers, router: RouterConfig) -> Result<(), Misplaced>
+    ensures { GivesUnless Misplaced.NoMemory (λ _. routers.new) result (Ok (routers.old ++ router ∷ [])) }
+{
+    let others = replace(routers, Routers::new(alloc));
+    *routers = others.with(alloc, router)?;
+    Ok(())
 }
 
 // The end of a router's block.
 #[tactic(auto, unfolding(crate::specs::Reading::with_end))]
-fn end_router(alloc: Global, reading: Reading) -> Result<Reading, Misplaced>
-    ensures { GivesUnless Misplaced.NoMemory (λ r. r) result (with_end reading) }
+fn end_router(alloc: Global, reading: &mut Reading) -> Result<(), Misplaced>
+    ensures { GivesUnless Misplaced.NoMemory (λ _. reading.new) result (with_end reading.old) }
 {
-    let Reading {
-        classes,
-        routers,
-        opened,
-    } = reading;
-    let Some(current) = opened else {
+    let Some(current) = reading.opened.take() else {
         return Err(Misplaced::Order);
     };
     let router = closed_router(current)?;
-    Ok(Reading {
-        classes,
-        routers: routers.with(alloc, router)?,
-        opened: None,
-    })
+    add_router(alloc, &mut reading.routers, router)
 }
 
-/// What was read so far with one more line, or why the line can't follow.
-pub fn after(alloc: Global, reading: Reading, line: Line) -> Result<Reading, Misplaced>
-    ensures { GivesUnless Misplaced.NoMemory (λ r. r) result (after_line reading line) }
+/// Reads one more line, or says why it can't follow. After an error some of what was read may be gone.
+pub fn follow(alloc: Global, reading: &mut Reading, line: Line) -> Result<(), Misplaced>
+    ensures { GivesUnless Misplaced.NoMemory (λ _. reading.new) result (after_line reading.old line) }
 {
     match line {
         Line::Class(number, patterns) => add_class(reading, number, patterns),
@@ -227,4 +207,13 @@ pub fn after(alloc: Global, reading: Reading, line: Line) -> Result<Reading, Mis
         Line::End => end_router(alloc, reading),
         line => continue_router(alloc, reading, line),
     }
+}
+
+/// What was read so far with one more line, or why the line can't follow.
+pub fn after(alloc: Global, reading: Reading, line: Line) -> Result<Reading, Misplaced>
+    ensures { GivesUnless Misplaced.NoMemory (λ r. r) result (after_line reading line) }
+{
+    let mut next = reading;
+    follow(alloc, &mut next, line)?;
+    Ok(next)
 }

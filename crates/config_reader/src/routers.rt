@@ -1,6 +1,7 @@
 //! The routers that are read.
-ghost use Rattle.std.specs.Prelude.{◌≡◌, ◌++◌, ◌∷◌, [], IfOk, IfErr, length, nat_eq};
-ghost use Rattle.std.specs.List.{list_any};
+ghost use Rattle.std.specs.Prelude.{◌≡◌, ◌++◌, ◌∷◌, [], IfErr, OnOk, length, nat_eq};
+ghost use Rattle.std.specs.Str.{bytes_eq};
+ghost use Rattle.indexmap.specs.IndexSet.{insert_key};
 ghost use Rattle.net_base.specs.Gives.{GivesUnless};
 ghost use Rattle.config_reader.specs.Reading.{stood_before};
 
@@ -12,14 +13,46 @@ use net_base::{List, Name};
 use std::alloc::Global;
 use std::marker::Model;
 
+/// What differs from router to router, so that what stood before is found without a look at each of them.
+#[derive(Drop)]
+struct Known {
+    names: Names,
+    asns: IndexSet<u32>,
+    ids: IndexSet<u32>,
+}
+
+// What is known where there is no router.
+fn nothing_known(alloc: Global) -> Known
+    ensures names { result.names ≡ [] }
+    ensures asns { result.asns.keys ≡ [] }
+    ensures ids { result.ids.keys ≡ [] }
+{
+    Known {
+        names: Names::new(alloc),
+        asns: IndexSet::new(alloc),
+        ids: IndexSet::new(alloc),
+    }
+}
+
+// Notes what is a router's own.
+fn note(known: &mut Known, alloc: Global, router: &RouterConfig) -> Result<(), Misplaced>
+    ensures names { OnOk result (known.new.names ≡ insert_key bytes_eq known.old.names router.now.name) }
+    ensures asns { OnOk result (known.new.asns.keys ≡ insert_key nat_eq known.old.asns.keys router.now.asn) }
+    ensures ids { OnOk result (known.new.ids.keys ≡ insert_key nat_eq known.old.ids.keys router.now.id) }
+    ensures err { IfErr result (λ e. e ≡ Misplaced.NoMemory) }
+{
+    known.names.insert(alloc, &router.name)?;
+    known.asns.insert(router.asn)?;
+    known.ids.insert(router.id)?;
+    Ok(())
+}
+
 /// Routers in the order in which they came. Whether a name, an AS number or an identifier stood before is found
 /// without a look at each of them.
 #[derive(Drop)]
 pub struct Routers {
     all: List<RouterConfig>,
-    names: Names,
-    asns: IndexSet<u32>,
-    ids: IndexSet<u32>,
+    known: Known,
 }
 
 impl Model for Routers {
@@ -31,7 +64,7 @@ impl Model for Routers {
 
     ghost view = { λ r. r.all };
 
-    ghost invariant = { λ r. AreKnown r.names r.asns.keys r.ids.keys r.all };
+    ghost invariant = { λ r. AreKnown r.known.names r.known.asns.keys r.known.ids.keys r.all };
 }
 
 impl Routers {
@@ -41,9 +74,7 @@ impl Routers {
     {
         Routers {
             all: List::new(alloc),
-            names: Names::new(alloc),
-            asns: IndexSet::new(alloc),
-            ids: IndexSet::new(alloc),
+            known: nothing_known(alloc),
         }
     }
 
@@ -58,35 +89,23 @@ impl Routers {
     pub fn are_like(&self, name: &Name, asn: u32, id: u32) -> bool
         ensures { result ≡ stood_before name.now asn id self.now }
     {
-        if self.asns.contains(&asn) {
+        if self.known.asns.contains(&asn) {
             return true;
         }
-        if self.ids.contains(&id) {
+        if self.known.ids.contains(&id) {
             return true;
         }
-        self.names.contains(name)
+        self.known.names.contains(name)
     }
 
     /// These routers and one more.
     pub fn with(self, alloc: Global, router: RouterConfig) -> Result<Routers, Misplaced>
         ensures { GivesUnless Misplaced.NoMemory (λ r. r) result (Ok (self ++ router ∷ [])) }
     {
-        let Routers {
-            mut all,
-            mut names,
-            mut asns,
-            mut ids,
-        } = self;
-        names.insert(alloc, &router.name)?;
-        asns.insert(router.asn)?;
-        ids.insert(router.id)?;
+        let Routers { mut all, mut known } = self;
+        note(&mut known, alloc, &router)?;
         all.push(router)?;
-        Ok(Routers {
-            all,
-            names,
-            asns,
-            ids,
-        })
+        Ok(Routers { all, known })
     }
 
     /// The list of the routers.

@@ -1,5 +1,5 @@
 //! A text is read line by line.
-ghost use Rattle.std.specs.Prelude.{◌≡◌, ◌==◌, ◌<◌, ◌^◌, None, Ok, IfOk, length};
+ghost use Rattle.std.specs.Prelude.{◌≡◌, ◌==◌, ◌<◌, ◌^◌, ◌&&◌, is_none, None, Ok, IfOk, length};
 ghost use Rattle.std.specs.List.{slice_split};
 ghost use Rattle.std.specs.Str.{bytes_eq};
 ghost use Rattle.net_base.specs.Gives.{GivesUnless};
@@ -11,10 +11,12 @@ ghost use Rattle.map_reader.specs.MapsReading.{after_map};
 ghost use Rattle.map_reader.specs.MapsRead.{read_at, placed_at, with_line, finished, behind_heading, in_lines, spelled};
 
 use crate::MapsFault;
-use crate::reading::{MapsReading, after_line, no_line};
+use crate::reading::{MapsReading, after_line, beside, no_line};
+use config_base::RouterConfig;
 use config_lines::{LineFault, halves};
-use config_reader::Misplaced;
+use config_reader::{Misplaced, Reading};
 use map_lines::{MapLine, read_map_line};
+use net_base::List;
 use route_maps::Maps;
 use std::alloc::Global;
 
@@ -59,8 +61,24 @@ fn take_line(
     ensures { GivesUnless MapsFault.NoMemory (λ r. r) result (with_line number reading bytes.now) }
 {
     let lists = reading.lists.as_slice().len() as u32;
-    let line = line_at(number, bytes, lists)?;
+    let (reading, line) = beside(reading, line_at(number, bytes, lists))?;
     after_at(alloc, number, reading, line)
+}
+
+// Whether nothing is open and nothing follows the last line feed.
+fn is_whole(reading: &MapsReading, rest: &[u8]) -> bool
+    ensures { result ≡ (is_none reading.now.blocks.opened && length rest.now == 0) }
+{
+    reading.blocks.opened.is_none() && rest.is_empty()
+}
+
+// The routers whose blocks are read. What is open is dropped by a call, since the proof of a drop in place goes through
+// all its parts.
+fn read_routers(blocks: Reading) -> List<RouterConfig>
+    ensures { result ≡ blocks.routers }
+{
+    drop(blocks.opened);
+    blocks.routers.into_list()
 }
 
 // The maps that were read, where nothing is open and nothing follows the last line feed.
@@ -69,11 +87,10 @@ fn finish(reading: MapsReading, rest: &[u8]) -> Result<Maps, MapsFault>
     requires { reading.blocks.opened ≡ None → IsMaps (record { lists = reading.lists; routers = reading.blocks.routers }) }
     ensures { GivesUnless MapsFault.NoMemory (λ m. m) result (finished reading rest.now) }
 {
-    let MapsReading { lists, blocks } = reading;
-    if blocks.opened.is_some() || !rest.is_empty() {
-        return Err(MapsFault::Unfinished);
-    }
-    Ok(Maps::new(lists, blocks.routers.into_list()))
+    let MapsReading { lists, blocks } = is_whole(&reading, rest)
+        .then_some(reading)
+        .ok_or(MapsFault::Unfinished)?;
+    Ok(Maps::new(lists, read_routers(blocks)))
 }
 
 // The maps of the bytes behind the first line, which has the number 1.

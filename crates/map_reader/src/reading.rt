@@ -1,6 +1,8 @@
 //! What was read so far, and what the next line makes of it.
-ghost use Rattle.std.specs.Prelude.{◌≡◌, [], ◌∷◌, ◌++◌, IfOk};
+ghost use Rattle.std.specs.Prelude.{◌≡◌, [], ◌∷◌, ◌++◌, IfOk, IfErr, Ok, Err};
 ghost use Rattle.net_base.specs.Gives.{GivesUnless};
+ghost use Rattle.net_base.specs.Steps.{◌>>=◌ as and_then, unless};
+ghost use Rattle.config_reader.specs.Reading.{after as after_blocks};
 ghost use Rattle.map_reader.specs.MapsReading.{opening, continues as continues_last, on_last, with_list, in_blocks, is_out, entries_of, is_number_of, with_entry, after_map};
 
 use config_lines::Line;
@@ -26,6 +28,19 @@ pub fn no_line(alloc: Global) -> MapsReading
     MapsReading {
         lists: List::new(alloc),
         blocks: nothing_read(alloc),
+    }
+}
+
+/// A value with what else was made, or why that wasn't. The value is dropped here and not where it stood, since the proof
+/// of a drop in place goes through all its parts.
+pub fn beside<T: Drop, U, E>(value: T, made: Result<U, E>) -> Result<(T, U), E>
+    ensures value { IfOk result (λ both. both.0 ≡ value) }
+    ensures made { IfOk result (λ both. made ≡ Ok both.1) }
+    ensures fault { IfErr result (λ e. made ≡ Err e) }
+{
+    match made {
+        Ok(other) => Ok((value, other)),
+        Err(fault) => Err(fault),
     }
 }
 
@@ -83,6 +98,44 @@ fn with_new_list(
     Ok(lists)
 }
 
+// One line more of the last list.
+fn continue_list(reading: MapsReading, line: ListLine) -> Result<MapsReading, Misplaced>
+    ensures { GivesUnless Misplaced.NoMemory (λ r. r) result (Ok (record { lists = on_last reading.lists line; blocks = reading.blocks })) }
+{
+    let MapsReading { lists, blocks } = reading;
+    let (blocks, lists) = beside(blocks, add_to_last(lists, line))?;
+    Ok(MapsReading { lists, blocks })
+}
+
+// The blocks with the class that stands for one list more.
+fn with_class(
+    alloc: Global,
+    blocks: Reading,
+    number: Option<u32>,
+    pattern: Pattern,
+) -> Result<Reading, Misplaced>
+    ensures { GivesUnless Misplaced.NoMemory (λ r. r) result (after_blocks blocks (Line.Class number (pattern ∷ []))) }
+{
+    let (blocks, patterns) = beside(blocks, one_pattern(alloc, pattern))?;
+    after(alloc, blocks, Line::Class(number, patterns))
+}
+
+// The first line of the next list.
+fn begin_list(
+    alloc: Global,
+    reading: MapsReading,
+    number: Option<u32>,
+    line: ListLine,
+) -> Result<MapsReading, Misplaced>
+    ensures { GivesUnless Misplaced.NoMemory (λ r. r) result
+        (and_then (after_blocks reading.blocks (Line.Class number (line.pattern ∷ []))) (λ blocks. Ok (record { lists = reading.lists ++ (line ∷ []) ∷ []; blocks = blocks }))) }
+{
+    let MapsReading { lists, blocks } = reading;
+    let blocks = with_class(alloc, blocks, number, line.pattern)?;
+    let (blocks, lists) = beside(blocks, with_new_list(alloc, lists, line))?;
+    Ok(MapsReading { lists, blocks })
+}
+
 // A line of the list with this number.
 #[tactic(auto, unfolding(crate::specs::MapsReading::with_list))]
 fn add_list_line(
@@ -93,15 +146,10 @@ fn add_list_line(
 ) -> Result<MapsReading, Misplaced>
     ensures { GivesUnless Misplaced.NoMemory (λ r. r) result (with_list reading number line) }
 {
-    let MapsReading { lists, blocks } = reading;
-    if continues(number, lists.as_slice().len(), &blocks) {
-        let lists = add_to_last(lists, line)?;
-        return Ok(MapsReading { lists, blocks });
+    if continues(number, reading.lists.as_slice().len(), &reading.blocks) {
+        return continue_list(reading, line);
     }
-    let patterns = one_pattern(alloc, line.pattern)?;
-    let blocks = after(alloc, blocks, Line::Class(number, patterns))?;
-    let lists = with_new_list(alloc, lists, line)?;
-    Ok(MapsReading { lists, blocks })
+    begin_list(alloc, reading, number, line)
 }
 
 // A line of a router's block.
@@ -148,6 +196,19 @@ fn is_number(number: Option<u32>, count: usize) -> bool
     }
 }
 
+// What was read, where the last entry has this number.
+fn numbered(
+    reading: MapsReading,
+    exports: bool,
+    number: Option<u32>,
+) -> Result<MapsReading, Misplaced>
+    ensures { result ≡ and_then (unless Misplaced.Order (is_number_of number (entries_of exports reading.blocks))) (λ _. Ok reading) }
+{
+    is_number(number, count_of_entries(exports, &reading.blocks))
+        .then_some(reading)
+        .ok_or(Misplaced::Order)
+}
+
 // An entry with this number.
 #[tactic(auto, unfolding(crate::specs::MapsReading::with_entry))]
 fn add_entry(
@@ -160,10 +221,7 @@ fn add_entry(
 {
     let exports = is_export(&line);
     let next = add_to_blocks(alloc, reading, line)?;
-    if !is_number(number, count_of_entries(exports, &next.blocks)) {
-        return Err(Misplaced::Order);
-    }
-    Ok(next)
+    numbered(next, exports, number)
 }
 
 /// What was read so far with one more line, or why the line can't follow.

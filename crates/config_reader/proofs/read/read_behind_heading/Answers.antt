@@ -13,13 +13,13 @@ use Rattle.config_reader.proofs.read.read_behind_heading.Goals as goal
 pub take_line-requires : goal.take_line-requires
 take_line-requires c = omega (arith, c.loop-line.invariant.feeds, c.loop-line.invariant.classes)
 
-pub returns-in_err-reading : goal.returns-in_err-reading
-returns-in_err-reading c =
+pub returns-in_err-take_line : goal.returns-in_err-take_line
+returns-in_err-take_line c =
     let p = err_from_is_err_and c.from_residual.result c.from_residual.ensures.1 in
     let l = c.loop-line in
     rw (p.1, p.2)
-    (λ memory. faulty c.args.edition l.number l.reading l.rest.now c.in-Some.line.now c.in-Some.more.now c.args.bytes.now c.in_err-reading.field-0.0 c.in-Some.ensures
-    (c.in_err-reading.ensures memory) l.invariant.read)
+    (λ memory. faulty c.args.edition l.number l.reading l.rest.now c.in-Some.line.now c.in-Some.more.now c.args.bytes.now c.in_err-take_line.field-0.0 c.in-Some.ensures
+    (c.in_err-take_line.ensures memory) l.invariant.read)
 
 pub overflow_add-number : goal.overflow_add-number
 overflow_add-number c =
@@ -32,13 +32,13 @@ loop-line-smaller c = omega (arith, cut_shorter 10 c.loop-line.rest.now c.in-Som
 pub loop-line-preserved : goal.loop-line-preserved
 loop-line-preserved c =
     let l = c.loop-line in
-    let s = c.in_ok-reading.reading in
+    let s = c.take_line.new.reading in
     let shorter = cut_shorter 10 l.rest.now c.in-Some.line.now c.in-Some.more.now c.in-Some.ensures in
-    let more = with_line-classes c.args.edition l.number l.reading s c.in-Some.line.now c.in_ok-reading.ensures in
+    let more = with_line-classes c.args.edition l.number l.reading s c.in-Some.line.now c.in_ok-take_line.ensures in
     record {
       feeds = omega (arith, l.invariant.feeds, shorter);
       classes = omega (arith, l.invariant.classes, more.1);
-      read = taken (with_line c.args.edition) l.number l.reading s l.rest.now c.in-Some.line.now c.in-Some.more.now _ c.in-Some.ensures c.in_ok-reading.ensures l.invariant.read;
+      read = taken (with_line c.args.edition) l.number l.reading s l.rest.now c.in-Some.line.now c.in-Some.more.now _ c.in-Some.ensures c.in_ok-take_line.ensures l.invariant.read;
       last = sym (last_line_there l.rest.now c.in-Some.line.now c.in-Some.more.now c.in-Some.ensures) ∙ l.invariant.last;
     }
 
