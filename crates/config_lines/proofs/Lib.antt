@@ -5,6 +5,7 @@ pub mod Digits
 pub mod JoinedLines
 pub mod KeptWords
 pub mod LongLines
+pub mod OtherLengths
 pub mod PartLaws
 pub mod PatternLaws
 pub mod Ranges

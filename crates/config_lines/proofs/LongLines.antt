@@ -1,6 +1,6 @@
 -- A line of more than ten words has none of the forms.
 use Rattle.std.proofs.Common.{Bor, ◌≡◌, ℕ, ◌<◌, List, [], ◌∷◌, length, map, get_or, Bool, true, false, Result, Ok, Err, refl, arith, inl, inr}
-use Rattle.std.specs.Prelude.{◌==◌, ◌⊎◌, codes, if◌then◌else◌}
+use Rattle.std.specs.Prelude.{◌==◌, ◌⊎◌, codes}
 use Rattle.std.specs.Str.{bytes_eq}
 use Rattle.std.proofs.lemmas.Bool.{ne_eqb}
 use Rattle.list_laws.proofs.Truth.{either_way}

@@ -1,4 +1,5 @@
 pub mod Editions
+pub mod Fitting
 pub mod LineText
 pub mod Lines
 pub mod Numbers

@@ -1,6 +1,7 @@
 //! Lines are read.
 ghost use Rattle.std.specs.Prelude.{◌≡◌, map, option_map};
 ghost use Rattle.net_base.specs.Gives.{GivesUnless};
+ghost use Rattle.config_lines.specs.Fitting.{fitting_router as router_fitting, fitting_origination as origination_fitting, fitting_import as import_fitting};
 ghost use Rattle.config_lines.specs.Lines.{
   class_line,
   router_line,
@@ -23,12 +24,14 @@ ghost use Rattle.config_lines.specs.Parts.{parts_left};
 use crate::cut::first_part;
 use crate::edition::Edition;
 use crate::line::{Line, LineFault};
-use crate::number::{Setting, class_number, fitting_tag, in_range, read_class, read_number};
+use crate::number::{
+    Figure, RawTag, Setting, class_number, fitting_tag, in_range, read_class, read_number,
+};
 use crate::parts::{expect, is_word, prefix, read_identifier, read_name, read_tag};
 use crate::pattern::{read_pattern, read_patterns};
 use crate::words::Words;
 use config_base::{Export, Import, NO_TAG, Origination};
-use net_base::Name;
+use net_base::{Name, Prefix};
 use std::alloc::Global;
 
 // A `class` line, by what follows its first word up to the first comma, and what stands behind that.
@@ -45,6 +48,17 @@ fn read_class_line(alloc: Global, words: &[&[u8]], pieces: Option<&[u8]>) -> Res
     Ok(Line::Class(class_number(number)?, patterns))
 }
 
+// The line of a router of this name, the range of whose AS number is judged.
+fn fitting_router(edition: Edition, name: Name, asn: Figure, id: u32) -> Result<Line, LineFault>
+    ensures { result ≡ router_fitting edition name asn id }
+{
+    let asn = in_range(asn)?;
+    if !edition.router_as(asn) {
+        return Err(LineFault::Number);
+    }
+    Ok(Line::Router(name, asn, id))
+}
+
 /// A `router` line, by what follows its first word.
 #[tactic(auto, unfolding(crate::specs::Lines::router_line))]
 pub fn read_router_line(edition: Edition, words: &[&[u8]]) -> Result<Line, LineFault>
@@ -58,11 +72,22 @@ pub fn read_router_line(edition: Edition, words: &[&[u8]]) -> Result<Line, LineF
     let asn = read_number(asn)?;
     let id = read_identifier(id)?;
     let name = read_name(name)?;
-    let asn = in_range(asn)?;
-    if !edition.router_as(asn) {
-        return Err(LineFault::Number);
-    }
-    Ok(Line::Router(name, asn, id))
+    fitting_router(edition, name, asn, id)
+}
+
+// The line of a route of a router's own, the ranges of whose numbers are judged.
+fn fitting_origination(
+    edition: Edition,
+    classes: u32,
+    class: Figure,
+    prefix: Prefix,
+    tag: RawTag,
+) -> Result<Line, LineFault>
+    ensures { result ≡ origination_fitting edition classes class prefix tag }
+{
+    let class = read_class(classes, class)?;
+    let tag = fitting_tag(edition, tag)?;
+    Ok(Line::Origination(Origination { class, prefix, tag }))
 }
 
 // An `originate` line, by what follows its first word.
@@ -77,9 +102,7 @@ fn read_originate_line(edition: Edition, classes: u32, words: &[&[u8]]) -> Resul
     let prefix = prefix(base)?;
     expect("tag", tag_word)?;
     let tag = read_tag(edition, tag)?;
-    let class = read_class(classes, class)?;
-    let tag = fitting_tag(edition, tag)?;
-    Ok(Line::Origination(Origination { class, prefix, tag }))
+    fitting_origination(edition, classes, class, prefix, tag)
 }
 
 // The name and the AS number of a neighbour, by what follows the first word of its line.
@@ -136,6 +159,24 @@ pub fn read_setting(edition: Edition, words: &[&[u8]]) -> Result<Setting, LineFa
     Ok(Setting { set, pref })
 }
 
+// The line of an import of a router, the ranges of whose numbers are judged.
+fn fitting_import(
+    edition: Edition,
+    classes: u32,
+    class: Figure,
+    tag: RawTag,
+    setting: Setting,
+) -> Result<Line, LineFault>
+    ensures { result ≡ import_fitting edition classes class tag setting }
+{
+    Ok(Line::Import(Import {
+        class: read_class(classes, class)?,
+        tag: fitting_tag(edition, tag)?,
+        set: fitting_tag(edition, setting.set)?,
+        pref: in_range(setting.pref)?,
+    }))
+}
+
 // An `import` line in the block of a router, by what follows its first word.
 #[tactic(auto, unfolding(crate::specs::Lines::tagged_line))]
 fn read_tagged_line(edition: Edition, classes: u32, words: &[&[u8]]) -> Result<Line, LineFault>
@@ -148,12 +189,7 @@ fn read_tagged_line(edition: Edition, classes: u32, words: &[&[u8]]) -> Result<L
     expect("tag", tag_word)?;
     let tag = read_tag(edition, tag)?;
     let setting = read_setting(edition, setting)?;
-    Ok(Line::Import(Import {
-        class: read_class(classes, class)?,
-        tag: fitting_tag(edition, tag)?,
-        set: fitting_tag(edition, setting.set)?,
-        pref: in_range(setting.pref)?,
-    }))
+    fitting_import(edition, classes, class, tag, setting)
 }
 
 // An `import` line in the block of a peer, by what follows its first word.
