@@ -1,5 +1,5 @@
 -- Entries of the memo stay right as terms come, and serve each location of a class.
-use Rattle.std.proofs.Common.{◌≡◌, ℕ, ◌<◌, Bool, true, false, cond, List, [], ◌∷◌, length, Some, None, Option, refl, sym, ap, subst, ◌∙◌}
+use Rattle.std.proofs.Common.{◌≡◌, ℕ, ◌<◌, Bool, true, false, cond, List, [], ◌∷◌, length, Some, None, Option, refl, sym, ap, subst, ◌∙◌, arith}
 use Rattle.std.specs.Prelude.{IfSome, slice_get, ◌==◌, nat_lt}
 use Rattle.std.proofs.lemmas.Bool.{and_parts, eqb-true, ltb-true}
 use Rattle.std.specs.Ordering.{is_eq}
@@ -9,8 +9,10 @@ use Rattle.path_exprs.specs.Ordered.{compare-equal}
 use Rattle.path_exprs.specs.Total.{compare_itself}
 use Rattle.indexmap.specs.IndexMap.{IndexMap, get}
 use Rattle.path_exprs.specs.Membership.{member}
-use Rattle.path_exprs.specs.Normal.{seq_of, either_of}
-use Rattle.path_exprs.specs.Expression.{Expression, complement, star, seq}
+use Rattle.path_exprs.specs.Normal.{complement_of, either_of, seq_of}
+use Rattle.path_exprs.specs.Expression.{Expression, never, empty, set, complement, star, seq}
+use Rattle.net_base.specs.declared.loc.LocSet.{LocSet}
+use Rattle.net_base.specs.Sets.{holds}
 use Rattle.path_automata.specs.Sets.{agrees, sets_pass}
 use Rattle.path_terms.specs.declared.term.Term.{Term}
 use Rattle.path_terms.specs.declared.term.Term.TheVariants.{Seq, Not, Star}
@@ -80,6 +82,9 @@ seq-below n t a b q h =
     let u = and_parts (nat_lt a n) (nat_lt b n) (subst (λ t. is_sound n t ≡ true) q h) in
     (ltb-true a n u.0, ltb-true b n u.1)
 
+pub seq-known : (n k : ℕ) (t : Term) (a b : ℕ) → t ≡ Seq a b → is_sound n t ≡ true → n < k → (a < k) × (b < k)
+seq-known n k t a b q h lt = let u = seq-below n t a b q h in (omega (arith, u.0, lt), omega (arith, u.1, lt))
+
 pub classed-not : (cs : List ℕ) (e a : Expression) → e ≡ complement a → IsClassed cs e → IsClassed cs a
 classed-not cs e a q h = λ x y c. subst (λ e. sets_pass (agrees x y) e ≡ true) q (h x y c)
 
@@ -94,6 +99,15 @@ classed-second cs e a b q h = λ x y c. (and_parts (sets_pass (agrees x y) a) (s
 
 pub classed-same : (cs : List ℕ) (e f : Expression) → f ≡ e → IsClassed cs e → IsClassed cs f
 classed-same cs e f q h = λ x y c. subst (λ e. sets_pass (agrees x y) e ≡ true) (sym q) (h x y c)
+
+pub never-made : (x : ℕ) (e v r : Expression) → e ≡ v → derivative x v ≡ never → r ≡ never → r ≡ derivative x e
+never-made x e v r q1 q2 q3 = q3 ∙ sym (ap (derivative x) q1 ∙ q2)
+
+pub set-made : (x : ℕ) (e r : Expression) (s : LocSet) (b : Bool) → e ≡ set s → holds s x ≡ b → r ≡ cond b empty never → r ≡ derivative x e
+set-made x e r s b q1 q2 q3 = q3 ∙ sym (ap (derivative x) q1 ∙ ap (λ b. cond b empty never) q2)
+
+pub not-made : (x : ℕ) (e va da r : Expression) → e ≡ complement va → da ≡ derivative x va → r ≡ complement_of da → r ≡ derivative x e
+not-made x e va da r q1 q2 q3 = q3 ∙ ap complement_of q2 ∙ sym (ap (derivative x) q1)
 
 pub star-made : (x : ℕ) (e va da e' r : Expression) → e ≡ star va → da ≡ derivative x va → e' ≡ e → r ≡ seq_of da e' → r ≡ derivative x e
 star-made x e va da e' r q1 q2 q3 q4 = q4 ∙ ap (λ d. seq_of d e') q2 ∙ ap (seq_of (derivative x va)) (q3 ∙ q1) ∙ sym (ap (derivative x) q1)

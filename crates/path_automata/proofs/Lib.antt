@@ -5,5 +5,6 @@ pub mod Kept
 pub mod Lists
 pub mod MemoLemmas
 pub mod Reversals
+pub mod Sizes
 pub mod StateLemmas
 pub mod Views

@@ -1,8 +1,18 @@
--- The expression of each value that has parts.
+-- The expression of each value.
 use Rattle.std.proofs.Common.{◌≡◌, Box, Vec, Global, rules}
-use Rattle.path_exprs.specs.declared.expr.Expr.{Expr, Seq, Either, Both, Not, Star, the_lemmas}
-use Rattle.path_exprs.specs.Expression.{seq, either, both, complement, star, expressions_of}
+use Rattle.net_base.specs.declared.loc.LocSet.{LocSet}
+use Rattle.path_exprs.specs.declared.expr.Expr.{Expr, Never, Empty, Set, Seq, Either, Both, Not, Star, the_lemmas}
+use Rattle.path_exprs.specs.Expression.{never, empty, set, seq, either, both, complement, star, expressions_of}
 use Rattle.path_exprs.specs.View.{view, views}
+
+pub view-Never : view Never ≡ never
+view-Never = search (rules, the_lemmas)
+
+pub view-Empty : view Empty ≡ empty
+view-Empty = search (rules, the_lemmas)
+
+pub view-Set : (s : LocSet) → view (Set s) ≡ set s
+view-Set s = search (rules, the_lemmas)
 
 pub view-Seq : (a b : Box Expr Global) → view (Seq a b) ≡ seq (view a.value) (view b.value)
 view-Seq a b = search (rules, the_lemmas)

@@ -63,7 +63,6 @@ pub fn derivative(
 
 /// The derivative of a term by a location, made anew.
 #[cycle(derivative)]
-#[tactic(auto, using(crate::proofs::Entries::derived_extends))]
 fn made(
     terms: &mut Terms,
     classes: &[usize],

@@ -11,7 +11,7 @@ use outside::NoMemory;
 use path_terms::Terms;
 
 /// The class of a location, where it has one.
-fn class_of(classes: &[usize], at: Loc) -> Option<usize>
+pub fn class_of(classes: &[usize], at: Loc) -> Option<usize>
     ensures { result ≡ slice_get classes.now at }
 {
     match classes.get(at.number() as usize) {

@@ -4,6 +4,7 @@ ghost use Rattle.path_terms.specs.Values.{values};
 ghost use Rattle.path_automata.specs.Classes.{AreBelow, AreSorted, SameClass};
 
 use crate::classes::classes_of;
+use crate::derived::class_of;
 use net_base::Loc;
 use path_terms::Terms;
 use std::alloc::{AllocError, Global};
@@ -24,7 +25,7 @@ pub struct Memo {
 }
 
 impl Memo {
-    ghost use Rattle.std.specs.Prelude.{ℕ, ◌⊎◌};
+    ghost use Rattle.std.specs.Prelude.{ℕ, ◌+◌, ◌*◌, ◌⊎◌};
     ghost use Rattle.path_automata.specs.Memo.{IsPlace, Notes};
 
     /// The memo of the automaton whose first state has these terms alone, in a network of so many locations: no next
@@ -52,7 +53,8 @@ impl Memo {
     pub fn get(&self, state: u64, at: Loc) -> Option<u64>
         ensures { IfSome result (λ next. Notes self.now state at next) }
     {
-        let next = *self.next.get(self.place(state, at)?)?;
+        let place = self.place(state, at)?;
+        let next = *self.next.get(place)?;
         if next < UNKNOWN {
             Some(next as u64)
         } else {
@@ -65,12 +67,19 @@ impl Memo {
         ensures classes { self.new.classes ≡ self.old.classes }
         ensures kept { (s at next : ℕ) → Notes self.new s at next → Notes self.old s at next }
     {
-        let row = (state as usize).checked_add(1).ok_or(AllocError)?;
-        let room = row.checked_mul(self.count).ok_or(AllocError)?;
-        if self.next.len() < room {
-            self.next.resize(room, UNKNOWN)?;
+        let room = self.room(state).ok_or(AllocError)?;
+        if room <= self.next.len() {
+            return Ok(());
         }
-        Ok(())
+        self.next.resize(room, UNKNOWN)
+    }
+
+    /// How many places the rows up to that of the state take, if they can be counted.
+    fn room(&self, state: u64) -> Option<usize>
+        ensures { IfSome result (λ room. room ≡ (state + 1) * self.now.count) }
+    {
+        let rows = (state as usize).checked_add(1)?;
+        rows.checked_mul(self.count)
     }
 
     /// Notes the next state, if there is room for it.
@@ -90,7 +99,7 @@ impl Memo {
     fn place(&self, state: u64, at: Loc) -> Option<usize>
         ensures { IfSome result (λ place. IsPlace self.now state at place) }
     {
-        let class = *self.classes.get(at.number() as usize)?;
+        let class = class_of(&self.classes, at)?;
         let row = (state as usize).checked_mul(self.count)?;
         row.checked_add(class)
     }

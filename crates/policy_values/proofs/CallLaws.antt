@@ -26,8 +26,8 @@ use Rattle.policy_rules.specs.KnownNames.{Names}
 use Rattle.policy_values.specs.declared.path_calls.PathPlaces.{PathPlaces}
 use Rattle.policy_values.specs.Built.{set_of_arg, sets_of, ranked_sets, link_of, call_of}
 use Rattle.policy_values.specs.Reads.{over}
-use Rattle.policy_values.specs.CallValues.{call_value}
-use Rattle.policy_values.specs.CallReaders.{with_call, of_calls, placeless, linked, no_places, with_place, call_link, place_link, sets_read, link_read, path_read, behind_read}
+use Rattle.policy_values.specs.CallValues.{CallValue, call_value}
+use Rattle.policy_values.specs.CallReaders.{with_call, of_calls, placeless, linked, no_places, with_place, call_link, place_link, sets_read, link_read, path_value, path_read, behind_read}
 use Rattle.policy_values.proofs.ReadsOver.{over_step, over_read, over_links, read_same}
 use Rattle.policy_values.proofs.SetLists.{sets_pushed}
 use Rattle.policy_values.proofs.PathSets.{places_of, places_pushed, two_places, path_same}
@@ -110,14 +110,33 @@ module _ (bytes : List ℕ) (net : PlainNet) (known : Names) where
       over_step (call_value bytes net known) (after symbol.RoundClose sets.1) _ _ (λ rest.
       read_same _ _ rest (path_same bytes net known sets.0)))))))
 
-  -- a `path` of which a place behind the first two has a fault
-  pub path_faulty : (ls inside first second both : List Lexeme) (a b : Result LocSet PolicyFault) (two : PathPlaces) (e : PolicyFault)
+  -- ranked sets whose first set was read, by what stands behind it
+  pub sets_begun : (c : SetCall) (ls inside rest : List Lexeme) (set : Result LocSet PolicyFault) (first : Result (List Call) PolicyFault) (r : Read CallValue)
+      → after symbol.RoundOpen ls ≡ Ok inside → over (set_of_arg bytes net known) (set_at inside) ≡ Ok (set, rest) → with_call c (Ok []) set ≡ first
+      → (chain symbol.Above (call_link bytes net known c) (length rest) first rest >>= λ all.
+      after symbol.RoundClose all.1 >>= λ behind. Ok (placeless (above_at rest) (all.0 >>= λ cs. Ok (of_calls cs)), behind)) ≡ r
+      → sets_read bytes net known c ls ≡ r
+  unfolding sets_read
+  sets_begun c ls inside rest set first r opens one calls behind = rw (opens, one, calls) behind
+
+  -- a `link` whose two places were read, by what stands behind them
+  pub link_begun : (ls inside first second both : List Lexeme) (a b : Result LocSet PolicyFault) (r : Read CallValue)
       → after symbol.RoundOpen ls ≡ Ok inside → over (set_of_arg bytes net known) (one_at inside) ≡ Ok (a, first)
       → after symbol.Comma first ≡ Ok second → over (set_of_arg bytes net known) (one_at second) ≡ Ok (b, both)
-      → with_place (with_place no_places a) b ≡ two → chain symbol.Comma (place_link bytes net known) (length both) two both ≡ Err e
-      → path_read bytes net known ls ≡ Err e
+      → (after symbol.RoundClose both >>= λ rest. Ok (placeless None (linked a b), rest)) ≡ r
+      → link_read bytes net known ls ≡ r
+  unfolding link_read
+  link_begun ls inside first second both a b r opens one joins other behind = rw (opens, one, joins, other) behind
+
+  -- a `path` whose first two places were read, by what stands behind them
+  pub path_begun : (ls inside first second both : List Lexeme) (a b : Result LocSet PolicyFault) (two : PathPlaces) (r : Read CallValue)
+      → after symbol.RoundOpen ls ≡ Ok inside → over (set_of_arg bytes net known) (one_at inside) ≡ Ok (a, first)
+      → after symbol.Comma first ≡ Ok second → over (set_of_arg bytes net known) (one_at second) ≡ Ok (b, both)
+      → with_place (with_place no_places a) b ≡ two
+      → (chain symbol.Comma (place_link bytes net known) (length both) two both >>= λ places. after symbol.RoundClose places.1 >>= λ rest. Ok (path_value places.0, rest)) ≡ r
+      → path_read bytes net known ls ≡ r
   unfolding path_read
-  path_faulty ls inside first second both a b two e opens one joins other places faulty = rw (opens, one, joins, other, places, faulty) refl
+  path_begun ls inside first second both a b two r opens one joins other places behind = rw (opens, one, joins, other, places) behind
 
   behind_same : (w : CallWord) (ls : List Lexeme) → behind_read bytes net known w ls ≡ over (call_value bytes net known) (call_behind w ls)
   behind_same word.Any ls = refl

@@ -1,15 +1,17 @@
-use Rattle.std.proofs.Common.{◌≡◌, ◌≤◌, map, length, true, sym, ap, subst, ◌∙◌, arith}
-use Rattle.std.proofs.lemmas.List.{length-append}
+use Rattle.std.proofs.Common.{◌≡◌, [], ◌<◌, ◌≤◌, map, length, true, sym, ap, subst, ◌∙◌, arith}
+use Rattle.std.proofs.lemmas.List.{append-nil, length-append, take_all}
 use Rattle.std.proofs.lemmas.Result.{IfOk-weaker}
-use Rattle.path_exprs.specs.Normal.{both_of, complement_of, either_of, normal, reversed, seq_of, star_of}
+use Rattle.path_exprs.specs.Normal.{both_of, complement_of, either_of, normal, normal_set, reversed, seq_of, star_of}
 use Rattle.path_exprs.specs.Runs.{start_of}
 use Rattle.path_exprs.specs.View.{view, views}
+use Rattle.path_exprs.proofs.expr.Expr.TheLaws.{the_size}
 use Rattle.path_exprs.proofs.Numbers.{at-extends, extends-trans, known-append, known-more, known-one, longer}
 use Rattle.path_terms.specs.Terms.{at, are_known}
 use Rattle.path_terms.specs.Values.{values}
 use Rattle.path_terms.proofs.Sequences.{seq-seq}
 use Rattle.path_automata.proofs.Reversals.{onto-nothing, start-each, start-turn}
-use Rattle.path_automata.proofs.Views.{view-Seq, view-Either, view-Both, view-Not, view-Star}
+use Rattle.path_automata.proofs.Sizes.{smaller-Seq, smaller-Not, smaller-Star}
+use Rattle.path_automata.proofs.Views.{view-Never, view-Empty, view-Set, view-Seq, view-Either, view-Both, view-Not, view-Star}
 use Rattle.path_automata.proofs.reversal.+reversal.Goals as goal
 
 pub starts-loop-i-preserved : goal.starts-loop-i-preserved
@@ -31,6 +33,39 @@ starts-loop-i-preserved t c =
       here = longer cur new c.in_ok-empty.empty x here;
       nothing = at-extends cur new c.in_ok-empty.empty x here ∙ c.loop-i.invariant.nothing;
     }
+
+pub reversed_onto-returns-in-Never-clause-made : goal.reversed_onto-returns-in-Never-clause-made
+reversed_onto-returns-in-Never-clause-made t c =
+    let tail = at (values c.args.terms.now) c.args.tail in
+    IfOk-weaker c.intern.result _ _
+    (λ n q. q ∙ sym (ap (λ e. seq_of (normal c.args.full.now (reversed e)) tail) (ap view c.in-Never.is ∙ view-Never)))
+    c.intern.ensures.made
+
+pub reversed_onto-returns-in-Empty-clause-made : goal.reversed_onto-returns-in-Empty-clause-made
+reversed_onto-returns-in-Empty-clause-made t c =
+    sym (ap (λ e. seq_of (normal c.args.full.now (reversed e)) (at (values c.args.terms.now) c.args.tail)) (ap view c.in-Empty.is ∙ view-Empty))
+
+pub reversed_onto-returns-in-Empty-clause-extends : goal.reversed_onto-returns-in-Empty-clause-extends
+reversed_onto-returns-in-Empty-clause-extends t c =
+    ([], sym (append-nil (values c.args.terms.now)))
+
+pub reversed_onto-returns-in_ok-first-in-Set-clause-made : goal.reversed_onto-returns-in_ok-first-in-Set-clause-made
+reversed_onto-returns-in_ok-first-in-Set-clause-made t c =
+    let old = values c.args.terms.now in
+    let one = values c.set_of.new.terms in
+    IfOk-weaker c.seq_of.result _ _
+    (λ n q. q ∙ ap (λ e. seq_of e (at one c.args.tail)) c.in_ok-first-in-Set.ensures.made
+    ∙ ap (seq_of (normal_set c.in-Set.set)) (at-extends old one c.args.tail c.set_of.ensures.extends c.requires.tail)
+    ∙ sym (ap (λ e. seq_of (normal c.args.full.now (reversed e)) (at old c.args.tail)) (ap view c.in-Set.is ∙ view-Set c.in-Set.set)))
+    c.seq_of.ensures.made
+
+pub reversed_onto-either_of-requires : goal.reversed_onto-either_of-requires
+reversed_onto-either_of-requires t c =
+    record { known = subst (λ l. are_known (length (values c.starts.new.terms)) l ≡ true) (sym c.deref-in-Either-2.ensures.value) c.in_ok-members-in-Either.ensures.known }
+
+pub reversed_onto-both_of-requires : goal.reversed_onto-both_of-requires
+reversed_onto-both_of-requires t c =
+    record { known = subst (λ l. are_known (length (values c.starts-in-Both.new.terms)) l ≡ true) (sym c.deref-in-Both-2.ensures.value) c.in_ok-members-in-Both.ensures.known }
 
 pub reversed_onto-returns-in_ok-rest-in-Seq-clause-made : goal.reversed_onto-returns-in_ok-rest-in-Seq-clause-made
 reversed_onto-returns-in_ok-rest-in-Seq-clause-made t c =
@@ -228,3 +263,39 @@ reversed_onto-returns-in_ok-first-in-Star-clause-extends t c =
 pub reversed_onto-returns-in_ok-rest-in-Seq-clause-extends : goal.reversed_onto-returns-in_ok-rest-in-Seq-clause-extends
 reversed_onto-returns-in_ok-rest-in-Seq-clause-extends t c =
     extends-trans (values c.args.terms.now) (values c.reversed_onto.new.terms) (values c.reversed_onto-in-Seq.new.terms) c.reversed_onto.ensures.extends c.reversed_onto-in-Seq.ensures.extends
+
+pub reversed_onto-reversed_onto-requires : goal.reversed_onto-reversed_onto-requires
+reversed_onto-reversed_onto-requires t c =
+    let below : the_size c.deref.result.now < the_size c.args.e.now = rw (c.deref.ensures, c.in-Seq.is) (smaller-Seq c.in-Seq.a c.in-Seq.b).0 in
+    (omega (arith, below), c.requires.tail)
+
+pub reversed_onto-reversed_onto-requires-in-Seq : goal.reversed_onto-reversed_onto-requires-in-Seq
+reversed_onto-reversed_onto-requires-in-Seq t c =
+    let below : the_size c.deref-in-Seq.result.now < the_size c.args.e.now = rw (c.deref-in-Seq.ensures, c.in-Seq.is) (smaller-Seq c.in-Seq.a c.in-Seq.b).1 in
+    (omega (arith, below), c.in_ok-rest-in-Seq.ensures.known)
+
+pub reversed_onto-reversed_onto-requires-in-Not : goal.reversed_onto-reversed_onto-requires-in-Not
+reversed_onto-reversed_onto-requires-in-Not t c =
+    let below : the_size c.deref-in-Not.result.now < the_size c.args.e.now = rw (c.deref-in-Not.ensures, c.in-Not.is) (smaller-Not c.in-Not.a) in
+    (omega (arith, below), c.in_ok-empty-in-Not.ensures.known)
+
+pub reversed_onto-reversed_onto-requires-in-Star : goal.reversed_onto-reversed_onto-requires-in-Star
+reversed_onto-reversed_onto-requires-in-Star t c =
+    let below : the_size c.deref-in-Star.result.now < the_size c.args.e.now = rw (c.deref-in-Star.ensures, c.in-Star.is) (smaller-Star c.in-Star.a) in
+    (omega (arith, below), c.in_ok-empty-in-Star.ensures.known)
+
+pub starts-loop-i-init : goal.starts-loop-i-init
+starts-loop-i-init t c =
+    let vs = values c.intern.new.self in
+    record {
+      made = ap (map (at vs)) c.new-all.ensures.items;
+      known = ap (are_known (length vs)) c.new-all.ensures.items;
+      len = c.new-all.ensures.len;
+      extends = c.intern.ensures.extends;
+      here = c.in_ok-empty.ensures.known;
+      nothing = c.in_ok-empty.ensures.made;
+    }
+
+pub starts-returns-clause-made : goal.starts-returns-clause-made
+starts-returns-clause-made t c =
+    c.loop-i.invariant.made ∙ ap (λ l. start_of c.args.full.now (views l)) (take_all c.loop-i.i c.args.es.now c.loop-i-test.false)
