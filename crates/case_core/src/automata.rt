@@ -1,5 +1,5 @@
 //! The automaton of a statement, which all its cases share.
-ghost use Rattle.std.specs.Prelude.{◌≡◌, ◌≤◌, ℕ, IfErr, IfOk, IfSome, OnOk};
+ghost use Rattle.std.specs.Prelude.{◌≡◌, ◌≤◌, ℕ, IfErr, IfOk, IfSome, OnOk, Some};
 ghost use Rattle.policy_base.specs.declared.limits.TheConstants.{ALTERNATIVES};
 ghost use Rattle.policy_base.specs.declared.case.Case.{Case as PlainCase};
 ghost use Rattle.policy_base.specs.Meaning.{alternative_count};
@@ -46,19 +46,39 @@ fn expressions_of(
     }
 }
 
-/// A new automaton of a statement.
+/// A new automaton of a case's statement, which has served no node yet.
 fn new_automata(
     alloc: Global,
     net: &Net,
     number: u32,
+    case: &Case,
     statement: &Statement,
-) -> Result<Automata, CompileRefusal>
-    ensures made { IfOk result (IsAutomatonOf net.now (plain_statement statement.now)) }
+) -> Result<StatementAutomata, CompileRefusal>
+    ensures automata { IfOk result (λ made. IsAutomatonOf net.now (plain_statement statement.now) made.automata) }
+    ensures statement { IfOk result (λ made. made.statement ≡ case.now.statement) }
     ensures limits { IfErr result IsPastLimit }
     ensures refused { (room : ℕ) (c : PlainCase) → IfErr result (λ e. IsCause net.now number room (plain_statement statement.now) c e) }
 {
     let ranked = expressions_of(alloc, net, number, statement)?;
-    Ok(Automata::new(alloc, &ranked, net)?)
+    let automata = Automata::new(alloc, &ranked, net)?;
+    Ok(StatementAutomata {
+        statement: case.statement,
+        automata,
+        nodes: NODES as usize,
+    })
+}
+
+/// The automaton that is kept, where it is of the case's statement and has served few nodes.
+fn serving(kept: Option<StatementAutomata>, case: &Case) -> Option<StatementAutomata>
+    ensures kept { IfSome result (λ given. kept ≡ Some given) }
+    ensures statement { IfSome result (λ given. given.statement ≡ case.now.statement) }
+{
+    let kept = kept?;
+    if kept.statement == case.statement && kept.nodes > 0 {
+        Some(kept)
+    } else {
+        None
+    }
 }
 
 /// The automaton of a case's statement, or why the case is refused: the one that is kept, where it is of this statement
@@ -77,15 +97,8 @@ pub fn automata_for(
     ensures limits { IfErr result IsPastLimit }
     ensures refused { (room : ℕ) (c : PlainCase) → IfErr result (λ e. IsCause net.now number room (plain_statement statement.now) c e) }
 {
-    if let Some(kept) = kept {
-        if kept.statement == case.statement && kept.nodes > 0 {
-            return Ok(kept);
-        }
+    match serving(kept, case) {
+        Some(kept) => Ok(kept),
+        None => new_automata(alloc, net, number, case, statement),
     }
-    let automata = new_automata(alloc, net, number, statement)?;
-    Ok(StatementAutomata {
-        statement: case.statement,
-        automata,
-        nodes: NODES as usize,
-    })
 }

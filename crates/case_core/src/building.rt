@@ -37,11 +37,11 @@ pub fn build_over(
         → IsErrOf result BuildFault.TooManySteps → PassesSteps net.now (plan_of es from.now case.now) NODES room }
     ensures kept { IfOk result (λ r. Extends (states_of automata) (states_of r.1)) }
 {
-    let (graph, automata) = standings(alloc, net, case, from, automata)?;
-    if graph.steps().len() > room as usize {
+    let given = standings(alloc, net, case, from, automata)?;
+    if given.0.steps().len() > room as usize {
         return Err(BuildFault::TooManySteps);
     }
-    Ok((graph, automata))
+    Ok(given)
 }
 
 /// The graph of a single case of a network, for the sources that the case's statement claims and for what its
@@ -61,6 +61,6 @@ pub fn build(
     ensures many_steps { IsErrOf result BuildFault.TooManySteps → PassesSteps net.now (plan_of ranked.now from.now case.now) NODES room }
 {
     let automata = Automata::new(alloc, ranked, net)?;
-    let (graph, _) = build_over(alloc, net, case, from, automata, room)?;
-    Ok(graph)
+    let given = build_over(alloc, net, case, from, automata, room)?;
+    Ok(given.0)
 }

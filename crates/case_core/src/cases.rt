@@ -34,7 +34,6 @@ pub struct CaseGraph {
 }
 
 /// The graph that is built of a case by the automaton of its statement, which is given back.
-#[tactic(auto, using(crate::proofs::LentAutomata::automaton_extends))]
 fn built(
     alloc: Global,
     net: &Net,
@@ -104,6 +103,13 @@ fn judged(
     Ok(())
 }
 
+/// The automaton that was given back with a graph.
+fn automaton_of(given: (Graph, Automata)) -> Automata
+    ensures { result ≡ given.1 }
+{
+    given.1
+}
+
 /// The graph of a case with its statement, its sources not judged, and the automaton for the statement's next case, or which
 /// limit the case passes.
 fn trimmed_of(
@@ -123,13 +129,14 @@ fn trimmed_of(
     ensures refused { IfErr result (λ e. IsCause net.now number room (plain_statement statement.now) case.now e) }
 {
     let kept = automata_for(alloc, net, number, case, statement, kept)?;
-    let (all, automata) = built(alloc, net, number, case, statement, kept.automata, room)?;
-    let graph = trim(alloc, &all)?;
-    let used = all.steps().len() as u32;
+    let given = built(alloc, net, number, case, statement, kept.automata, room)?;
+    let graph = trim(alloc, &given.0)?;
+    let used = given.0.steps().len() as u32;
+    let nodes = kept.nodes.saturating_sub(given.0.nodes().len());
     let next = StatementAutomata {
         statement: kept.statement,
-        automata,
-        nodes: kept.nodes.saturating_sub(all.nodes().len()),
+        automata: automaton_of(given),
+        nodes,
     };
     Ok((CaseGraph { graph, used }, next))
 }

@@ -43,8 +43,15 @@ module _ {X : Type 0} (f : X → Data) (xs : List X) (i : ℕ) (x : X) (within :
       ap (λ t. t ++ rest_text (i + 1) (map f (drop (i + 1) xs))) made ∙ rest_text-cons i (f x) (map f (drop (i + 1) xs)) text ∙ ap (λ ys. text ++ rest_text i (map f ys)) (sym at) ∙ before
 
 -- none is left
-pub all_written : {X : Type 0} (f : X → Data) (xs : List X) (i : ℕ) → length xs ≤ i → (text whole : List ℕ) → text ++ rest_text i (map f (drop i xs)) ≡ whole → text ++ 93 ∷ [] ≡ whole
+all_written : {X : Type 0} (f : X → Data) (xs : List X) (i : ℕ) → length xs ≤ i → (text whole : List ℕ) → text ++ rest_text i (map f (drop i xs)) ≡ whole → text ++ 93 ∷ [] ≡ whole
 all_written f xs i past text whole before = ap (λ ys. text ++ rest_text i (map f ys)) (sym (drop_all i xs past)) ∙ before
+
+-- and so the array is
+pub array_written : {X : Type 0} (f : X → Data) (xs : List X) (i : ℕ) → length xs ≤ i → (text opened last new : List ℕ) → opened ≡ text ++ 91 ∷ []
+    → last ++ rest_text i (map f (drop i xs)) ≡ opened ++ rest_text 0 (map f xs) → new ≡ last ++ 93 ∷ [] → new ≡ text ++ compact_text (array_of (map f xs))
+array_written f xs i past text opened last new first before end =
+    end ∙ all_written f xs i past last (opened ++ rest_text 0 (map f xs)) before ∙ ap (λ (t : List ℕ). t ++ rest_text 0 (map f xs)) first
+    ∙ append_assoc text (91 ∷ []) (rest_text 0 (map f xs))
 
 abbrev pub prefix_data : PlainPrefix → Data
 prefix_data p = string (prefix_text p)

@@ -1,5 +1,6 @@
 mod Each
 mod FaultKinds
+mod Halves
 mod InRange
 mod Items
 mod PlaceSets

@@ -1,5 +1,6 @@
 pub mod Entries
 pub mod Faults
+pub mod Halves
 pub mod Laws
 pub mod Parts
 pub mod Ranges

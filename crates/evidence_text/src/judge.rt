@@ -1,11 +1,11 @@
 //! The numbers of a text and its nodes.
-ghost use Rattle.std.specs.Prelude.{◌≡◌, ◌<◌, ◌&&◌, nat_eq, nat_lt, Ok, length, map, IfOk, IfErr, IsTrue, true};
+ghost use Rattle.std.specs.Prelude.{◌≡◌, ◌<◌, ◌≤◌, ◌&&◌, nat_eq, nat_lt, Ok, length, map, IfOk, IfErr, true};
 ghost use Rattle.std.specs.List.{AllByRecursion, list_all, list_any};
 ghost use Rattle.net_base.specs.Gives.{GivesUnless};
 ghost use Rattle.net_base.specs.declared.limits.TheConstants.{LOCATIONS};
 ghost use Rattle.net_base.specs.Sets.{set_of};
 ghost use Rattle.net_base.specs.Steps.{or_fault};
-ghost use Rattle.evidence_base.specs.Evidence.{IsCaseEvidence};
+ghost use Rattle.graph_base.specs.declared.graph.TheConstants.{MAX_NODES};
 ghost use Rattle.evidence_text.specs.Shape.{each};
 ghost use Rattle.evidence_text.specs.Spelled.{evidence_of, is_placed as is_placed_case, numbered as numbered_text, numbered_case};
 ghost use Rattle.evidence_text.specs.Ranges.{HasRanges, IsReadCase};
@@ -170,6 +170,25 @@ fn tags_of(alloc: Global, entries: &List<NodeEntry>) -> Result<List<Tag>, Eviden
     Ok(all)
 }
 
+// The evidence of a case with the columns of its nodes.
+fn with_columns(
+    read: ReadCase,
+    nodes: List<Node>,
+    numbers: List<u32>,
+    tags: List<Tag>,
+) -> CaseEvidence
+    requires ranges { IsReadCase read }
+    requires placed { is_placed_case read ≡ true }
+    requires few { length read.nodes ≤ MAX_NODES }
+    requires nodes { nodes ≡ map (λ e. e.node) read.nodes }
+    requires numbers { numbers ≡ map (λ e. e.number) read.nodes }
+    requires tags { tags ≡ map (λ e. e.tag) read.nodes }
+    ensures { result ≡ evidence_of read }
+{
+    let graph = Graph::new(nodes, read.starts, read.steps);
+    CaseEvidence::new(read.case, graph, Prefs { of: numbers }, tags)
+}
+
 // The evidence of a case whose starts and steps name nodes. No text that memory holds has so many nodes that a graph
 // can't number them, and where one had, memory is said to be short.
 fn case_evidence(alloc: Global, read: ReadCase) -> Result<CaseEvidence, EvidenceFault>
@@ -184,8 +203,7 @@ fn case_evidence(alloc: Global, read: ReadCase) -> Result<CaseEvidence, Evidence
     let nodes = nodes_of(alloc, &read.nodes)?;
     let numbers = numbers_of(alloc, &read.nodes)?;
     let tags = tags_of(alloc, &read.nodes)?;
-    let graph = Graph::new(nodes, read.starts, read.steps);
-    Ok(CaseEvidence::new(read.case, graph, Prefs { of: numbers }, tags))
+    Ok(with_columns(read, nodes, numbers, tags))
 }
 
 /// The evidence of a text whose starts and steps name nodes.

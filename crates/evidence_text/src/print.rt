@@ -155,6 +155,15 @@ fn locations(alloc: Global, set: &LocSet) -> Result<Vec<u32>, NoMemory>
     Ok(all)
 }
 
+// Adds an array of the locations of a set.
+fn push_locations(alloc: Global, text: &mut Vec<u8>, set: &LocSet) -> Result<(), NoMemory>
+    ensures text { OnOk result (text.new.items ≡ text.old.items ++ compact_text (numbers_data (members set.now))) }
+    ensures rules { OnOk result (IsWords set.now) }
+{
+    let locations = locations(alloc, set)?;
+    push_numbers(text, &locations)
+}
+
 // How a truth value is written.
 fn truth(value: bool) -> &'static [u8]
     ensures { result.now ≡ compact_text (Data.boolean value) }
@@ -175,13 +184,12 @@ fn push_case(alloc: Global, text: &mut Vec<u8>, case: &CaseEvidence) -> Result<(
 {
     let of = case.case();
     let graph = case.graph();
-    let origins = locations(alloc, &of.origins)?;
     push_bytes(text, b"{\"external\":")?;
     push_truth(text, of.external)?;
     push_bytes(text, b",\"nodes\":")?;
     push_nodes(text, graph.nodes(), case.prefs(), case.tags())?;
     push_bytes(text, b",\"origins\":")?;
-    push_numbers(text, &origins)?;
+    push_locations(alloc, text, &of.origins)?;
     push_bytes(text, b",\"prefixes\":")?;
     push_prefixes(text, of.prefixes.as_slice())?;
     push_bytes(text, b",\"starts\":")?;

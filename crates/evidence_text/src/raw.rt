@@ -24,6 +24,22 @@ pub struct RawCase {
     pub steps: List<Option<(u32, u32)>>,
 }
 
+/// The first half of a case whose numbers are still to be judged.
+#[derive(Drop)]
+pub struct RawPlaces {
+    pub nodes: List<Option<NodeEntry>>,
+    pub origins: List<Option<u32>>,
+    pub prefixes: List<Prefix>,
+}
+
+/// And the second half.
+#[derive(Drop)]
+pub struct RawWays {
+    pub starts: List<Option<u32>>,
+    pub statement: Option<u32>,
+    pub steps: List<Option<(u32, u32)>>,
+}
+
 /// A text that has the shape of evidence.
 #[derive(Drop)]
 pub struct RawEvidence {

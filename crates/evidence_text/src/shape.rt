@@ -5,6 +5,7 @@ ghost use Rattle.std.specs.Option.{ForSome};
 ghost use Rattle.serde_json.specs.View.{view};
 ghost use Rattle.json_words.specs.Json.{has as has_key};
 ghost use Rattle.net_base.specs.Gives.{GivesUnless};
+ghost use Rattle.evidence_text.specs.Halves.{places_of, ways_of};
 ghost use Rattle.evidence_text.specs.Shape.{
   are_in_order as in_order,
   ascend_from,
@@ -29,7 +30,7 @@ ghost use Rattle.evidence_text.specs.Shape.{
 use crate::fault::EvidenceFault;
 use crate::numbers::{Numbers, number, pair};
 use crate::parts::Field;
-use crate::raw::{NodeEntry, RawCase, RawEvidence};
+use crate::raw::{NodeEntry, RawCase, RawEvidence, RawPlaces, RawWays};
 use json_words::{has, list, member_count};
 use net_base::{List, Prefix, read_prefix};
 use serde_json::Value;
@@ -254,6 +255,38 @@ fn is_case(value: &Value) -> bool
         && has(value, "steps")
 }
 
+// The nodes, origins and prefixes of a case.
+#[tactic(auto, unfolding(crate::specs::Halves::places_of))]
+fn places(alloc: Global, value: &Value) -> Result<RawPlaces, EvidenceFault>
+    ensures { GivesUnless EvidenceFault.NoMemory (λ p. p) result (places_of (view value.now)) }
+{
+    let nodes = nodes(alloc, items(value, Field::Nodes, "nodes")?)?;
+    let origins = origins(alloc, items(value, Field::Origins, "origins")?)?;
+    let prefixes = prefixes(alloc, items(value, Field::Prefixes, "prefixes")?)?;
+    Ok(RawPlaces {
+        nodes,
+        origins,
+        prefixes,
+    })
+}
+
+// The starts, statement and steps of a case.
+#[tactic(auto, unfolding(crate::specs::Halves::ways_of))]
+fn ways(alloc: Global, value: &Value) -> Result<RawWays, EvidenceFault>
+    ensures { GivesUnless EvidenceFault.NoMemory (λ w. w) result (ways_of (view value.now)) }
+{
+    let starts = items(value, Field::Starts, "starts")?;
+    let starts = numbers(alloc, Field::Starts, u32::MAX, starts)?;
+    let statement = member(value, Field::Statement, "statement")?;
+    let statement = number(Field::Statement, 1, u32::MAX, statement)?;
+    let steps = steps(alloc, items(value, Field::Steps, "steps")?)?;
+    Ok(RawWays {
+        starts,
+        statement,
+        steps,
+    })
+}
+
 // The case that an entry of `cases` says.
 #[tactic(auto, unfolding(crate::specs::Shape::case_of))]
 fn case(alloc: Global, value: &Value) -> Result<RawCase, EvidenceFault>
@@ -265,22 +298,16 @@ fn case(alloc: Global, value: &Value) -> Result<RawCase, EvidenceFault>
     let Some(external) = member(value, Field::External, "external")?.as_bool() else {
         return Err(EvidenceFault::Shape(Field::External));
     };
-    let nodes = nodes(alloc, items(value, Field::Nodes, "nodes")?)?;
-    let origins = origins(alloc, items(value, Field::Origins, "origins")?)?;
-    let prefixes = prefixes(alloc, items(value, Field::Prefixes, "prefixes")?)?;
-    let starts = items(value, Field::Starts, "starts")?;
-    let starts = numbers(alloc, Field::Starts, u32::MAX, starts)?;
-    let statement = member(value, Field::Statement, "statement")?;
-    let statement = number(Field::Statement, 1, u32::MAX, statement)?;
-    let steps = steps(alloc, items(value, Field::Steps, "steps")?)?;
+    let places = places(alloc, value)?;
+    let ways = ways(alloc, value)?;
     Ok(RawCase {
         external,
-        nodes,
-        origins,
-        prefixes,
-        starts,
-        statement,
-        steps,
+        nodes: places.nodes,
+        origins: places.origins,
+        prefixes: places.prefixes,
+        starts: ways.starts,
+        statement: ways.statement,
+        steps: ways.steps,
     })
 }
 

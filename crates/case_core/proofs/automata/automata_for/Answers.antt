@@ -1,7 +1,4 @@
-use Rattle.std.proofs.lemmas.Result.{err_from_is_err_and}
 use Rattle.case_core.proofs.automata.automata_for.Goals as goal
 
-pub returns-in_err-automata-clause-refused : goal.returns-in_err-automata-clause-refused
-returns-in_err-automata-clause-refused c = λ room case.
-    let p = err_from_is_err_and c.from_residual.result c.from_residual.ensures.1 in
-    rw (p.1, p.2) (c.in_err-automata.ensures.refused room case)
+pub returns-in-Some-clause-automata : goal.returns-in-Some-clause-automata
+returns-in-Some-clause-automata c = (rw c.in-Some.ensures.kept at c.requires.kept) c.in-Some.ensures.statement

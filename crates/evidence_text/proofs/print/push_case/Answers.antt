@@ -25,7 +25,7 @@ returns-clause-text c =
     let nodes = c.nodes.result.now in
     let numbers = c.prefs.result.now in
     let tags = c.tags.result.now in
-    let origins = c.deref.result.now in
+    let origins = members c.case-of.result.now.origins in
     let prefixes = c.as_slice.result.now in
     let starts = c.starts.result.now in
     let statement = c.case-of.result.now.statement in
@@ -38,11 +38,11 @@ returns-clause-text c =
     (codes ",\"nodes\":", c.push_bytes-2.new.text.items) ∷
     (compact_text (array_of (nodes_data nodes numbers tags)), c.push_nodes.new.text.items) ∷
     (codes ",\"origins\":", c.push_bytes-3.new.text.items) ∷
-    (compact_text (numbers_data origins), c.push_numbers.new.text.items) ∷
+    (compact_text (numbers_data origins), c.push_locations.new.text.items) ∷
     (codes ",\"prefixes\":", c.push_bytes-4.new.text.items) ∷
     (compact_text (texts_data (map prefix_text prefixes)), c.push_prefixes.new.text.items) ∷
     (codes ",\"starts\":", c.push_bytes-5.new.text.items) ∷
-    (compact_text (numbers_data starts), c.push_numbers-2.new.text.items) ∷
+    (compact_text (numbers_data starts), c.push_numbers.new.text.items) ∷
     (codes ",\"statement\":", c.push_bytes-6.new.text.items) ∷
     (decimal statement, c.push_short.new.text.items) ∷
     (codes ",\"steps\":", c.push_bytes-7.new.text.items) ∷
@@ -58,7 +58,7 @@ returns-clause-text c =
             (
               c.in_ok-push_bytes-3.ensures,
               (
-                c.in_ok-push_numbers.ensures.text,
+                c.in_ok-push_locations.ensures.text,
                 (
                   c.in_ok-push_bytes-4.ensures,
                   (
@@ -66,7 +66,7 @@ returns-clause-text c =
                     (
                       c.in_ok-push_bytes-5.ensures,
                       (
-                        c.in_ok-push_numbers-2.ensures.text,
+                        c.in_ok-push_numbers.ensures.text,
                         (c.in_ok-push_bytes-6.ensures, (c.in_ok-push_short.ensures.text, (c.in_ok-push_bytes-7.ensures, (c.in_ok-push_steps.ensures, (last, tt))))),
                       ),
                     ),
@@ -81,7 +81,7 @@ returns-clause-text c =
     ∙ ap (λ t. c.args.text.now.items ++ t)
     (case_as c.args.case.now external nodes numbers tags origins prefixes starts statement steps
     (ap (λ (k : Case). k.external) of) (c.nodes.ensures.nodes ∙ ap (λ (g : PlainGraph). g.nodes) graph) c.prefs.ensures c.tags.ensures
-    (c.deref.ensures.value ∙ c.in_ok-origins.ensures.items ∙ ap (λ (k : Case). members k.origins) of)
+    (ap (λ (k : Case). members k.origins) of)
     (c.as_slice.ensures ∙ ap (λ (k : Case). k.prefixes) of) (c.starts.ensures.starts ∙ ap (λ (g : PlainGraph). g.starts) graph)
     (ap (λ (k : Case). k.statement) of) (c.steps.ensures.steps ∙ ap (λ (g : PlainGraph). g.steps) graph)))
     c.push_bytes-8.ensures
@@ -93,7 +93,7 @@ returns-clause-rules c =
     on_ok _ c.push_bytes-8.result (record {
       rules = c.case-of.ensures.rules;
       graph = subst IsGraph graph c.nodes.ensures.rules;
-      origins = subst IsWords (ap (λ (k : Case). k.origins) of) c.in_ok-origins.ensures.rules;
+      origins = subst IsWords (ap (λ (k : Case). k.origins) of) c.in_ok-push_locations.ensures.rules;
       prefixes = subst (AllByRecursion IsPrefix) (c.as_slice.ensures ∙ ap (λ (k : Case). k.prefixes) of) c.in_ok-push_prefixes.ensures.rules;
       statement = subst IsShort (ap (λ (k : Case). k.statement) of) c.in_ok-push_short.ensures.rules;
       ranks = subst (AllByRecursion HasShortRank) (c.nodes.ensures.nodes ∙ ap (λ (g : PlainGraph). g.nodes) graph) c.in_ok-push_nodes.ensures.ranks;

@@ -1,18 +1,26 @@
-use Rattle.std.proofs.Common.{◌++◌, ◌∷◌, [], ◌∙◌, ap, map, arith, append_assoc, sym, false}
+use Rattle.std.proofs.Common.{◌++◌, ◌∙◌, List, ℕ, ap, arith, sym}
 use Rattle.std.proofs.lemmas.Result.{on_ok_weaker}
-use Rattle.serde_json.specs.View.{items_of}
-use Rattle.serde_json.specs.Written.{items_text}
-use Rattle.evidence_text.proofs.Items.{all_written, prefix_data, rest_text, texts-prefixes}
+use Rattle.serde_json.specs.Data.{Data}
+use Rattle.serde_json.specs.Written.{compact_text}
+use Rattle.json_words.specs.Json.{array_of}
+use Rattle.net_base.specs.Prefixes.{IsPrefix}
+use Rattle.evidence_text.proofs.Items.{array_written, one_kept, one_more, prefix_data, texts-prefixes}
 use Rattle.evidence_text.proofs.print.push_prefixes.Goals as goal
+
+pub loop-i-preserved : goal.loop-i-preserved
+loop-i-preserved c =
+    let prefixes = c.args.prefixes.now in
+    let prefix = c.index-prefixes-i.result in (
+      one_more prefix_data prefixes c.loop-i.i prefix c.loop-i-test.true c.index-prefixes-i.is c.loop-i.text.items c.push_prefix_text.new.text.items _
+          (c.in_ok-push_prefix_text.ensures.text ∙ ap (λ (t : List ℕ). t ++ compact_text (prefix_data prefix)) c.in_ok-push_comma.ensures) c.loop-i.invariant.0,
+      one_kept IsPrefix prefixes c.loop-i.i prefix c.loop-i-test.true c.index-prefixes-i.is c.loop-i.invariant.1 c.push_prefix_text.ensures.rules,
+    )
 
 pub returns-clause-text : goal.returns-clause-text
 returns-clause-text c =
     let prefixes = c.args.prefixes.now in
     on_ok_weaker c.push_bytes-2.result
     (λ last.
-    last
-    ∙ all_written prefix_data prefixes c.loop-i.i (omega arith) c.loop-i.text.items (c.push_bytes.new.text.items ++ rest_text 0 (map prefix_data prefixes)) c.loop-i.invariant.0
-    ∙ ap (λ t. t ++ rest_text 0 (map prefix_data prefixes)) c.in_ok-push_bytes.ensures
-    ∙ append_assoc c.args.text.now.items (91 ∷ []) (rest_text 0 (map prefix_data prefixes))
-    ∙ ap (λ ds. c.args.text.now.items ++ 91 ∷ items_text false (items_of ds)) (sym (texts-prefixes prefixes)))
+    array_written prefix_data prefixes c.loop-i.i (omega arith) c.args.text.now.items c.push_bytes.new.text.items c.loop-i.text.items _ c.in_ok-push_bytes.ensures c.loop-i.invariant.0 last
+    ∙ ap (λ (ds : List Data). c.args.text.now.items ++ compact_text (array_of ds)) (sym (texts-prefixes prefixes)))
     c.push_bytes-2.ensures
