@@ -5,6 +5,7 @@ ghost use Rattle.event_reader.specs.declared.limits.TheConstants.{EVENTS as LIMI
 ghost use Rattle.net_base.specs.Gives.{GivesUnless};
 ghost use Rattle.net_base.specs.PrefixText.{prefix_spelled};
 ghost use Rattle.net_base.specs.Steps.{each_from, or_fault, unless};
+ghost use Rattle.net_index.specs.Names.{names_of};
 ghost use Rattle.event_reader.specs.Rules.{judged, located, placed};
 ghost use Rattle.event_reader.specs.Views.{raw_event, raw_events};
 
@@ -74,6 +75,14 @@ fn events(
     Ok(all)
 }
 
+/// The events, their names those of locations of a network.
+fn placed_events(alloc: Global, net: &Net, raw: &[RawEvent<'_>]) -> Result<Vec<Event>, EventsFault>
+    ensures { GivesUnless EventsFault.NoMemory (λ v. v.items) result (each_from (placed (names_of net.now)) 1 (map raw_event raw.now)) }
+{
+    let names = LocationNames::of(alloc, net)?;
+    events(alloc, &names, raw)
+}
+
 /// The prefix of a text.
 fn prefix_of(text: &str) -> Result<Prefix, EventsFault>
     ensures { GivesUnless EventsFault.NoMemory (λ p. p) result (or_fault EventsFault.BadPrefix (result_ok (prefix_spelled text.now))) }
@@ -90,8 +99,7 @@ pub fn judge(alloc: Global, net: &Net, raw: &RawEvents<'_>) -> Result<Events, Ev
     ensures { GivesUnless EventsFault.NoMemory (λ events. events) result (judged net.now (raw_events raw.now)) }
 {
     are_few(&raw.events)?;
-    let names = LocationNames::of(alloc, net)?;
-    let events = events(alloc, &names, &raw.events)?;
+    let events = placed_events(alloc, net, &raw.events)?;
     let prefix = prefix_of(raw.prefix)?;
     Ok(Events {
         prefix,

@@ -1,16 +1,16 @@
 //! The rules of a scenario.
-ghost use Rattle.std.specs.Prelude.{◌≡◌, ◌<◌, IfOk, All, map, not};
+ghost use Rattle.std.specs.Prelude.{◌≡◌, ◌≢◌, ◌<◌, Err, IfOk, IfErr, All, map, not};
 ghost use Rattle.std.specs.List.{position};
 ghost use Rattle.std.specs.Result.{result_ok};
 ghost use Rattle.net_base.specs.Gives.{GivesUnless};
 ghost use Rattle.net_base.specs.declared.limits.TheConstants.{LOCATIONS};
-ghost use Rattle.net_base.specs.Network.{linked};
+ghost use Rattle.net_base.specs.Network.{PlainNet, linked};
 ghost use Rattle.net_base.specs.PrefixText.{prefix_spelled};
 ghost use Rattle.net_base.specs.Steps.{or_fault};
 ghost use Rattle.scenario_reader.specs.Rules.{both_located, is_session, judged, links_known, located, sessions_known, set_of_all, turned as with_router_first};
 ghost use Rattle.scenario_reader.specs.Shape.{each};
-ghost use Rattle.net_index.specs.Names.{texts};
-ghost use Rattle.scenario_reader.specs.Views.{raw_ends, raw_scenario};
+ghost use Rattle.net_index.specs.Names.{names_of, texts};
+ghost use Rattle.scenario_reader.specs.Views.{raw_ends, raw_scenario, scenario_of, Locates};
 
 use crate::fault::ScenarioFault;
 use crate::parts::Field;
@@ -176,23 +176,63 @@ fn prefix_of(text: &str) -> Result<Prefix, ScenarioFault>
     }
 }
 
-/// The scenario of what is said, or the least rule that it breaks.
+/// The locations that a scenario names.
+#[derive(Drop)]
+struct Located {
+    dead: Vec<Loc>,
+    links: Vec<(Loc, Loc)>,
+    pairs: Vec<(Loc, Loc)>,
+}
+
+/// The locations of all names, which are found among those of a network.
 #[tactic(auto, unfolding(crate::specs::Rules::judged))]
+fn locate_all(
+    alloc: Global,
+    names: &LocationNames<'_>,
+    raw: &RawScenario<'_>,
+) -> Result<Located, ScenarioFault>
+    ensures locations { IfOk result (λ all. Locates names.now (raw_scenario raw.now) all) }
+    ensures within { IfOk result (λ all. All (λ l. l < LOCATIONS) all.dead.items) }
+    ensures fault { IfErr result (λ e. e ≢ ScenarioFault.NoMemory → (net : PlainNet) → names.now ≡ names_of net → judged net (raw_scenario raw.now) ≡ Err e) }
+{
+    let dead = locate_each(alloc, names, Field::Dead, &raw.dead)?;
+    let links = locate_pairs(alloc, names, Field::DeadLinks, &raw.dead_links)?;
+    let pairs = locate_pairs(alloc, names, Field::Silent, &raw.silent)?;
+    Ok(Located { dead, links, pairs })
+}
+
+/// The locations of all names in a network.
+fn find_all(alloc: Global, net: &Net, raw: &RawScenario<'_>) -> Result<Located, ScenarioFault>
+    ensures locations { IfOk result (λ all. Locates (names_of net.now) (raw_scenario raw.now) all) }
+    ensures within { IfOk result (λ all. All (λ l. l < LOCATIONS) all.dead.items) }
+    ensures fault { IfErr result (λ e. e ≢ ScenarioFault.NoMemory → judged net.now (raw_scenario raw.now) ≡ Err e) }
+{
+    let names = LocationNames::of(alloc, net)?;
+    locate_all(alloc, &names, raw)
+}
+
+/// The prefix of a scenario whose pairs are as they should be.
+#[tactic(auto, unfolding(crate::specs::Rules::judged))]
+fn checked(net: &Net, raw: &RawScenario<'_>, all: &Located) -> Result<Prefix, ScenarioFault>
+    requires { Locates (names_of net.now) (raw_scenario raw.now) all.now }
+    ensures { GivesUnless ScenarioFault.NoMemory (scenario_of net.now all.now) result (judged net.now (raw_scenario raw.now)) }
+{
+    are_links(net, &all.links)?;
+    are_sessions(net, &all.pairs)?;
+    prefix_of(raw.prefix)
+}
+
+/// The scenario of what is said, or the least rule that it breaks.
 pub fn judge(alloc: Global, net: &Net, raw: &RawScenario<'_>) -> Result<Scenario, ScenarioFault>
     ensures { GivesUnless ScenarioFault.NoMemory (λ scenario. scenario) result (judged net.now (raw_scenario raw.now)) }
 {
-    let names = LocationNames::of(alloc, net)?;
-    let dead = locate_each(alloc, &names, Field::Dead, &raw.dead)?;
-    let links = locate_pairs(alloc, &names, Field::DeadLinks, &raw.dead_links)?;
-    let pairs = locate_pairs(alloc, &names, Field::Silent, &raw.silent)?;
-    are_links(net, &links)?;
-    are_sessions(net, &pairs)?;
-    let prefix = prefix_of(raw.prefix)?;
-    let silent = turned_each(alloc, net, &pairs)?;
+    let all = find_all(alloc, net, raw)?;
+    let prefix = checked(net, raw, &all)?;
+    let silent = turned_each(alloc, net, &all.pairs)?;
     Ok(Scenario {
         prefix,
-        dead: set_of(&dead),
-        dead_links: List::from_vec(links),
+        dead: set_of(&all.dead),
+        dead_links: List::from_vec(all.links),
         silent,
     })
 }

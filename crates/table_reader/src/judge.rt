@@ -2,7 +2,7 @@
 ghost use Rattle.std.specs.Prelude.{◌≡◌, map};
 ghost use Rattle.net_base.specs.Gives.{GivesUnless};
 ghost use Rattle.net_base.specs.Steps.{each_from};
-ghost use Rattle.net_index.specs.Names.{texts};
+ghost use Rattle.net_index.specs.Names.{names_of, texts};
 ghost use Rattle.table_reader.specs.Rules.{at_holders, begins_at as does_begin_at, held_by, judged, located};
 ghost use Rattle.table_reader.specs.Shape.{each};
 ghost use Rattle.table_reader.specs.Views.{raw_entry};
@@ -80,6 +80,18 @@ fn each_held(
     Ok(all)
 }
 
+/// What the routers of a network hold.
+fn all_held(
+    alloc: Global,
+    net: &Net,
+    raw: &[Option<RawRoute<'_>>],
+) -> Result<List<Option<Route>>, TablesFault>
+    ensures { GivesUnless TablesFault.NoMemory (λ v. v) result (each_from (held_by (names_of net.now)) 1 (map raw_entry raw.now)) }
+{
+    let names = LocationNames::of(alloc, net)?;
+    each_held(alloc, &names, raw)
+}
+
 /// Whether the path of a route begins with this location. Where there is no route it does.
 fn begins_at(place: usize, held: &Option<Route>) -> bool
     ensures { result ≡ does_begin_at place held.now }
@@ -117,8 +129,7 @@ pub fn judge(
     if raw.len() != net.routers().len() {
         return Err(TablesFault::Count(raw.len() as u64));
     }
-    let names = LocationNames::of(alloc, net)?;
-    let routes = each_held(alloc, &names, raw)?;
+    let routes = all_held(alloc, net, raw)?;
     begin_at_holders(routes.as_slice())?;
     Ok(routes)
 }

@@ -1,5 +1,5 @@
 -- The shape is judged by faults of the shape alone.
-use Rattle.std.proofs.Common.{◌≡◌, ℕ, List, [], ◌∷◌, Option, Some, None, Result, Ok, Err, Bool, true, false, ◌+◌, refl}
+use Rattle.std.proofs.Common.{◌≡◌, List, Option, Result, Bool, refl}
 use Rattle.std.specs.Prelude.{◌==◌, codes, length, slice_get, option_and_then}
 use Rattle.serde_json.specs.Data.{Data}
 use Rattle.serde_json.specs.Find.{get, as_object, as_str}

@@ -1,12 +1,12 @@
 //! The rules of a topology.
-ghost use Rattle.std.specs.Prelude.{◌≡◌, ◌≤◌, ◌++◌, IfOk, IfErr, OnOk, length, map, nat_le};
+ghost use Rattle.std.specs.Prelude.{◌≡◌, ◌≢◌, ◌≤◌, ◌++◌, List, Ok, Err, IfOk, IfErr, OnOk, length, map, nat_le};
 ghost use Rattle.std.specs.List.{AllByRecursion};
 ghost use Rattle.net_base.specs.Gives.{GivesUnless};
 ghost use Rattle.net_base.specs.Steps.{unless};
 ghost use Rattle.net_base.specs.declared.limits.TheConstants.{ROUTERS, PEERS, LINKS};
-ghost use Rattle.topology.specs.Rules.{counted, judged, network_of};
-ghost use Rattle.topology.specs.Shape.{IsIdentifier};
-ghost use Rattle.topology.specs.Views.{named_entry, net_parts, raw_ends, raw_topology};
+ghost use Rattle.topology.specs.Rules.{counted, judged, names_differ, network_of};
+ghost use Rattle.topology.specs.Shape.{Ends, IsIdentifier};
+ghost use Rattle.topology.specs.Views.{named_entry, net_parts, raw_ends, raw_topology, AreLawful};
 
 use crate::fault::TopoFault;
 use crate::links::links;
@@ -43,7 +43,7 @@ fn count(raw: &RawTopology<'_>) -> Result<(), TopoFault>
 
 // The entries of the routers, and then those of the peers.
 fn both(alloc: Global, routers: &[Named], peers: &[Named]) -> Result<Vec<Named>, TopoFault>
-    ensures items { IfOk result (λ v. v.items ≡ routers.now ++ peers.now) }
+    ensures entries { IfOk result (λ v. map named_entry v.items ≡ map named_entry routers.now ++ map named_entry peers.now) }
     ensures err { IfErr result (λ e. e ≡ TopoFault.NoMemory) }
 {
     let mut entries = Vec::from_slice(alloc, routers)?;
@@ -59,8 +59,62 @@ struct NetParts {
     links: List<(Loc, Loc)>,
 }
 
-// The network of routers and peers with names, and of links between them, or the least rule that they break.
+// The routers and peers of a network.
+#[derive(Drop)]
+struct Sites {
+    routers: Vec<Site>,
+    peers: Vec<Site>,
+}
+
+// The routers and peers, whose AS numbers are in their ranges, and none of whose numbers two of them share.
 #[tactic(auto, unfolding(crate::specs::Rules::network_of))]
+fn lawful(
+    alloc: Global,
+    entries: &[Named],
+    routers: &[Named],
+    peers: &[Named],
+) -> Result<Sites, TopoFault>
+    requires { map named_entry entries.now ≡ map named_entry routers.now ++ map named_entry peers.now }
+    ensures sites { IfOk result (λ s. AreLawful (map named_entry routers.now) (map named_entry peers.now) s) }
+    ensures fault { IfErr result (λ e. e ≢ TopoFault.NoMemory → (ends : List Ends) → names_differ (map named_entry routers.now ++ map named_entry peers.now) ≡ Ok tt
+        → network_of (map named_entry routers.now) (map named_entry peers.now) ends ≡ Err e) }
+{
+    let router_sites = sites(alloc, Kind::Routers, routers)?;
+    let peer_sites = sites(alloc, Kind::Peers, peers)?;
+    unshared(alloc, Number::As, entries)?;
+    unshared(alloc, Number::Id, entries)?;
+    Ok(Sites {
+        routers: router_sites,
+        peers: peer_sites,
+    })
+}
+
+// The network of entries, which are those of the routers and then those of the peers.
+#[tactic(auto, unfolding(crate::specs::Rules::network_of))]
+fn network_among(
+    alloc: Global,
+    entries: &[Named],
+    routers: &[Named],
+    peers: &[Named],
+    ends: &[RawEnds<'_>],
+) -> Result<NetParts, TopoFault>
+    requires entries { map named_entry entries.now ≡ map named_entry routers.now ++ map named_entry peers.now }
+    requires routers { length routers.now ≤ ROUTERS }
+    requires peers { length peers.now ≤ PEERS }
+    requires links { length ends.now ≤ LINKS }
+    ensures { GivesUnless TopoFault.NoMemory net_parts result (network_of (map named_entry routers.now) (map named_entry peers.now) (map raw_ends ends.now)) }
+{
+    let names = names(alloc, entries)?;
+    let sites = lawful(alloc, entries, routers, peers)?;
+    let links = links(alloc, &names, routers.len() as u16, ends)?;
+    Ok(NetParts {
+        routers: List::from_vec(sites.routers),
+        peers: List::from_vec(sites.peers),
+        links: List::from_vec(links),
+    })
+}
+
+// The network of routers and peers with names, and of links between them, or the least rule that they break.
 fn network(
     alloc: Global,
     routers: &[Named],
@@ -73,17 +127,7 @@ fn network(
     ensures { GivesUnless TopoFault.NoMemory net_parts result (network_of (map named_entry routers.now) (map named_entry peers.now) (map raw_ends ends.now)) }
 {
     let entries = both(alloc, routers, peers)?;
-    let names = names(alloc, &entries)?;
-    let router_sites = sites(alloc, Kind::Routers, routers)?;
-    let peer_sites = sites(alloc, Kind::Peers, peers)?;
-    unshared(alloc, Number::As, &entries)?;
-    unshared(alloc, Number::Id, &entries)?;
-    let links = links(alloc, &names, routers.len() as u16, ends)?;
-    Ok(NetParts {
-        routers: List::from_vec(router_sites),
-        peers: List::from_vec(peer_sites),
-        links: List::from_vec(links),
-    })
+    network_among(alloc, &entries, routers, peers, ends)
 }
 
 /// The network of a topology, or the least rule that it breaks.
