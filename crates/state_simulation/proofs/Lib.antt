@@ -1,4 +1,5 @@
 pub mod Answering
+pub mod Aparting
 pub mod Holding
 pub mod Locating
 pub mod Masking

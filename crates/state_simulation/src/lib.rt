@@ -1,6 +1,7 @@
 //! Which of two nodes at one location of a graph may stand at least as high as the other.
 #![tactic(auto)]
 
+mod apart;
 mod grouping;
 mod laws;
 mod located;

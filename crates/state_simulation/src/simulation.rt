@@ -1,13 +1,17 @@
 //! The relation of a graph.
 ghost use Rattle.std.specs.Prelude.{◌≡◌, ℕ, Bool, IfNone, IfOk, IfSome, map};
 ghost use Rattle.reach_prune.specs.Reachable.{IsReachOf, can_reach};
-ghost use Rattle.relation_law.specs.Relations.{IsClosed, IsTotal};
+ghost use Rattle.relation_law.specs.Relations.{IsClosed, IsGreatest, IsTotal};
 ghost use Rattle.relation_law.specs.Views.{view_of};
 ghost use Rattle.state_simulation.specs.Held.{HasEach, IsLeftByRounds, IsRelationOf};
+ghost use Rattle.state_simulation.specs.Stages.{AreBound, above_in};
+ghost use Rattle.state_simulation.specs.Targets.{AreNodeRows};
 
+use crate::apart::{own_rows, stand_apart};
 use crate::maps::Maps;
 use crate::rounds::{all_rounds, total_rounds};
 use crate::table::Relation;
+use bit_rows::Rows;
 use graph_base::Graph;
 use net_base::{List, Loc, LocSet};
 use outside::NoMemory;
@@ -46,12 +50,27 @@ pub fn total_relation(
     ensures total { IfOk result (λ r. IfSome r HasEach) }
     ensures none { IfOk result (λ r. IfNone r ((s : ℕ → ℕ → Bool) → IsClosed (view_of graph.now claimed.now) s → ¬ IsTotal (view_of graph.now claimed.now) s)) }
 {
-    let maps = Maps::new(alloc, graph)?;
-    let Some(rows) = total_rounds(alloc, &maps, claimed)? else {
+    let Some(rows) = total_rows(alloc, graph, claimed)? else {
         return Ok(None);
     };
     let places = places(alloc, graph)?;
     Ok(Some(Relation::new(places, *claimed, rows)))
+}
+
+/// The rows of that relation. Where no two nodes stand at one location, each stands as high as itself alone, and no rounds
+/// are needed.
+fn total_rows(alloc: Global, graph: &Graph, claimed: &LocSet) -> Result<Option<Rows>, NoMemory>
+    ensures rows { IfOk result (λ left. IfSome left (AreNodeRows graph.now)) }
+    ensures greatest { IfOk result (λ left. IfSome left (λ rows. IsGreatest (view_of graph.now claimed.now) (above_in (view_of graph.now claimed.now) rows))) }
+    ensures total { IfOk result (λ left. IfSome left (AreBound graph.now)) }
+    ensures open { IfOk result (λ left. IfNone left ((r : ℕ → ℕ → Bool) → IsClosed (view_of graph.now claimed.now) r → ¬ IsTotal (view_of graph.now claimed.now) r)) }
+{
+    if stand_apart(alloc, graph)? {
+        let rows = own_rows(alloc, graph.nodes().len() as u32)?;
+        return Ok(Some(rows));
+    }
+    let maps = Maps::new(alloc, graph)?;
+    total_rounds(alloc, &maps, claimed)
 }
 
 /// The location of each node.

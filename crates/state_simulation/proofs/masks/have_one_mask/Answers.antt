@@ -3,7 +3,6 @@ use Rattle.std.proofs.lemmas.Bool.{eqb-true, not-false}
 use Rattle.std.proofs.lemmas.Bool.Decides.{Decides-eqb}
 use Rattle.std.proofs.lemmas.Slice.Eq.{slice_eq-Decides}
 use Rattle.std.specs.Cmp.{booleans_Decides}
-use Rattle.std.specs.Option.{option_eq}
 use Rattle.list_laws.proofs.Options.{option_eq-is}
 use Rattle.bit_rows.specs.Tables.{row_of}
 use Rattle.graph_base.specs.Runs.{is_listener, place_of, rank_at}
