@@ -64,7 +64,7 @@ impl NodeList {
 pub fn empty_lists(alloc: Global, size: usize) -> Result<Vec<NodeList>, AllocError>
     ensures { IfOk result (λ lists. lists.items ≡ replicate size []) }
 {
-    let mut lists = Vec::new(alloc);
+    let mut lists = Vec::with_capacity(alloc, size)?;
     for _ in 0..size {
         lists.push(NodeList::new(alloc))?;
     }

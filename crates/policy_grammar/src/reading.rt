@@ -19,6 +19,7 @@ pub fn refused(at: &Lexeme) -> PolicyFault
 }
 
 /// Whether this lexeme has this symbol.
+#[inline(always)]
 pub fn begins(symbol: Symbol, at: &Lexeme) -> bool
     ensures { result ≡ (number_of at.now.symbol == number_of symbol) }
 {
@@ -26,6 +27,7 @@ pub fn begins(symbol: Symbol, at: &Lexeme) -> bool
 }
 
 /// Whether this lexeme has this symbol, which isn't the end of the text. If so, the next one comes.
+#[inline(always)]
 pub fn past(symbol: Symbol, text: &[u8], at: &mut Lexeme) -> bool
     requires sign { number_of symbol < number_of EndOfText }
     requires stands { StandsIn text.now at.old }

@@ -66,7 +66,7 @@ fn new_numbers(alloc: Global, kept: &[bool]) -> Result<Vec<Option<u32>>, AllocEr
     ensures size { IfOk result (λ numbers. length numbers.items ≡ length kept.now) }
     ensures numbers { IfOk result (λ numbers. (n : ℕ) → number_in numbers.items n ≡ number_kept (is_marked kept.now) n) }
 {
-    let mut numbers = Vec::new(alloc);
+    let mut numbers = Vec::with_capacity(alloc, kept.len())?;
     let mut count = 0;
     for keep in kept {
         if *keep {

@@ -6,7 +6,12 @@ ghost use Rattle.standings.specs.Growth.{may_enter as is_entered, sends_on as is
 use net_base::{Loc, Net};
 use outside::NoMemory;
 use policy_base::Case;
+use smallvec::SmallVec;
 use std::alloc::Global;
+
+/// The numbers of the locations to which walks go on from one location. A few take no memory of their own, since a network has
+/// many routers with few neighbours.
+pub(crate) type Ways = SmallVec<u16, 12>;
 
 /// Whether a walk may enter a location.
 fn may_enter(net: &Net, case: &Case, at: Loc) -> bool
@@ -30,37 +35,31 @@ fn is_way(net: &Net, case: &Case, from: Loc, to: Loc) -> bool
 }
 
 /// Adds a way from one location to another, where walks go on from the one and may enter the other.
-fn add_way(
-    ways: &mut Vec<Vec<Loc>>,
-    net: &Net,
-    case: &Case,
-    from: Loc,
-    to: Loc,
-) -> Result<(), NoMemory>
+fn add_way(ways: &mut Vec<Ways>, net: &Net, case: &Case, from: Loc, to: Loc) -> Result<(), NoMemory>
     requires within { from < vec_len ways.old }
     ensures added { OnOk result ((at : ℕ) → ways_in (map (λ v. v.items) ways.new.items) at ≡ ways_in (map (λ v. v.items) ways.old.items) at ++ way_between net.now case.now from to at) }
     ensures len { vec_len ways.new ≡ vec_len ways.old }
 {
     if is_way(net, case, from, to) {
-        ways[from.number() as usize].push(to)?;
+        ways[from.number() as usize].push(to.number())?;
     }
     Ok(())
 }
 
 /// No way from any of so many locations.
-fn no_ways(alloc: Global, count: usize) -> Result<Vec<Vec<Loc>>, NoMemory>
+fn no_ways(alloc: Global, count: usize) -> Result<Vec<Ways>, NoMemory>
     ensures none { IfOk result (λ r. (at : ℕ) → ways_in (map (λ v. v.items) r.items) at ≡ []) }
     ensures len { IfOk result (λ r. vec_len r ≡ count) }
 {
-    let mut ways = Vec::new(alloc);
+    let mut ways = Vec::with_capacity(alloc, count)?;
     for _ in 0..count {
-        ways.push(Vec::new(alloc))?;
+        ways.push(Ways::new(alloc))?;
     }
     Ok(ways)
 }
 
 /// Where walks go on from each location of the network, in order of location.
-pub(crate) fn all_ways(alloc: Global, net: &Net, case: &Case) -> Result<Vec<Vec<Loc>>, NoMemory>
+pub(crate) fn all_ways(alloc: Global, net: &Net, case: &Case) -> Result<Vec<Ways>, NoMemory>
     ensures { IfOk result (λ r. map (λ v. v.items) r.items ≡ map (ways net.now case.now) (in_order net.now)) }
 {
     let mut ways = no_ways(alloc, net.routers().len() + net.peers().len())?;

@@ -59,6 +59,17 @@ impl Reached {
         }
     }
 
+    /// Makes room for what one state at each location takes.
+    fn make_room(&mut self, net: &Net) -> Result<(), NoMemory>
+        ensures standings { standings_of self.new ≡ standings_of self.old }
+        ensures steps { self.new.steps.items ≡ self.old.steps.items }
+        ensures states { states_of self.new.automata ≡ states_of self.old.automata }
+    {
+        self.found.reserve(net.routers().len() + net.peers().len())?;
+        self.steps.reserve(2 * net.links().len())?;
+        Ok(())
+    }
+
     /// The number of standings.
     pub(crate) fn len(&self) -> usize
         ensures { result ≡ length (standings_of self.now) }
@@ -146,7 +157,7 @@ impl Reached {
     }
 
     /// Adds the steps of a standing.
-    fn add_steps(&mut self, number: u32, from: State, ways: &[Loc]) -> Result<(), StandingsFault>
+    fn add_steps(&mut self, number: u32, from: State, ways: &[u16]) -> Result<(), StandingsFault>
         requires known { from < length (states_of self.old.automata) }
         requires few { length (standings_of self.old) ≤ NODES }
         ensures ok { OnOk result (standings_of self.new ≡ gathered (standings_of self.old) (each_live (left_in (states_of self.old.automata) from) ways.now)) }
@@ -157,7 +168,7 @@ impl Reached {
         ensures kept { OnOk result (Extends (states_of self.old.automata) (states_of self.new.automata)) }
     {
         for next in ways {
-            self.add_step(number, from, *next)?;
+            self.add_step(number, from, Loc::new(*next))?;
         }
         Ok(())
     }
@@ -189,11 +200,26 @@ impl Reached {
         ensures many { IsErrOf result StandingsFault.TooMany → (xs : Items Standing) × AreReached (standings_of self.old) (next_in net.now case.now) xs × (NODES < length xs) }
         ensures kept { OnOk result (Extends (states_of self.old.automata) (states_of self.new.automata)) }
     {
+        self.make_room(net)?;
+        self.walk_on(alloc, net, case)
+    }
+
+    /// The same, with as much room as there is.
+    fn walk_on(&mut self, alloc: Global, net: &Net, case: &Case) -> Result<(), StandingsFault>
+        requires within { AreWithin net.now (standings_of self.old) }
+        requires different { IsDistinct same_standing (standings_of self.old) }
+        requires few { length (standings_of self.old) ≤ NODES }
+        requires no_steps { self.old.steps.items ≡ [] }
+        ensures ok { OnOk result (AreAsked (standings_of self.old) (next_in net.now case.now) (standings_of self.new) self.new.steps.items (length (standings_of self.new))) }
+        ensures few { length (standings_of self.new) ≤ NODES }
+        ensures many { IsErrOf result StandingsFault.TooMany → (xs : Items Standing) × AreReached (standings_of self.old) (next_in net.now case.now) xs × (NODES < length xs) }
+        ensures kept { OnOk result (Extends (states_of self.old.automata) (states_of self.new.automata)) }
+    {
         let ways = all_ways(alloc, net, case)?;
         let mut number = 0;
         while number < self.found.len() {
             let (at, from) = self.standing(number);
-            self.add_steps(number as u32, from, &ways[at.number() as usize])?;
+            self.add_steps(number as u32, from, ways[at.number() as usize].as_slice())?;
             number += 1;
         }
         Ok(())
@@ -242,10 +268,10 @@ impl Reached {
     ) -> Result<List<Node>, NoMemory>
         ensures { (es : Items Expression) → IfOk result (λ nodes. nodes ≡ map (node_of net.now (plan_of es from.now case.now)) (standings_of self.now)) }
     {
-        let mut nodes = List::new(alloc);
+        let mut nodes = Vec::with_capacity(alloc, self.found.len())?;
         for number in 0..self.found.len() {
             nodes.push(self.node(net, case, from, number))?;
         }
-        Ok(nodes)
+        Ok(List::from_vec(nodes))
     }
 }

@@ -5,7 +5,7 @@ use Rattle.standings.proofs.neighbours.no_ways.Goals as goal
 
 pub loop-init : goal.loop-init
 loop-init c = record {
-  none = λ at. ap (λ l. ways_in (map (λ v. v.items) l) at) c.new-ways.ensures.items ∙ ways_in-nil at;
+  none = λ at. ap (λ l. ways_in (map (λ v. v.items) l) at) c.in_ok-ways.ensures.items ∙ ways_in-nil at;
   len = search rules;
 }
 

@@ -1,5 +1,5 @@
 use Rattle.std.proofs.Common.{◌≡◌, ◌<◌, ◌++◌, ◌+◌, refl, sym, ap, subst, ◌∙◌, length, take, rules}
-use Rattle.std.proofs.lemmas.List.{append-nil}
+use Rattle.std.proofs.lemmas.List.{append-nil, get_or_default}
 use Rattle.path_automata.specs.States.{states_of}
 use Rattle.path_automata.proofs.StateLemmas.{extends-itself}
 use Rattle.standings.specs.Growth.{each_live, gathered, left_in, live, standings_of, steps_to}
@@ -24,11 +24,12 @@ loop-next-preserved c =
     let first = states_of c.args.self.now.automata in
     let left = left_in first c.args.from in
     let same : left_in (states_of c.loop-next.self.automata) c.args.from ≡ left = left_in-extends first (states_of c.loop-next.self.automata) c.args.from c.loop-next.invariant.kept c.requires.known in
-    let next = c.next-item.result in
+    let next = c.new.result in
     let old = standings_of c.loop-next.self in
     let new = standings_of c.add_step.new.self in
     let before = each_live left (take c.loop-next.next-index c.args.ways.now) in
-    let more = each_live-more left c.args.ways.now c.loop-next.next-index next c.loop-next-test.true c.next-item.is in
+    let here = c.new.ensures ∙ get_or_default c.args.ways.now c.loop-next.next-index 0 next c.loop-next-test.true in
+    let more = each_live-more left c.args.ways.now c.loop-next.next-index next c.loop-next-test.true here in
     let added : new ≡ gathered old (live left next) = c.in_ok-add_step.ensures.ok ∙ ap (λ l. gathered old (live l next)) same in
     let steps : c.add_step.new.self.steps.items ≡ c.loop-next.self.steps.items ++ steps_to new c.args.number (live left next) =
     c.in_ok-add_step.ensures.steps ∙ ap (λ l. c.loop-next.self.steps.items ++ steps_to new c.args.number (live l next)) same in
@@ -47,11 +48,12 @@ returns-in_err-add_step-clause-many c = λ fault.
     let first = states_of c.args.self.now.automata in
     let left = left_in first c.args.from in
     let same : left_in (states_of c.loop-next.self.automata) c.args.from ≡ left = left_in-extends first (states_of c.loop-next.self.automata) c.args.from c.loop-next.invariant.kept c.requires.known in
-    let next = c.next-item.result in
+    let next = c.new.result in
     let begin = standings_of c.args.self.now in
     let old = standings_of c.loop-next.self in
     let before = each_live left (take c.loop-next.next-index c.args.ways.now) in
-    let more = each_live-more left c.args.ways.now c.loop-next.next-index next c.loop-next-test.true c.next-item.is in
+    let here = c.new.ensures ∙ get_or_default c.args.ways.now c.loop-next.next-index 0 next c.loop-next-test.true in
+    let more = each_live-more left c.args.ways.now c.loop-next.next-index next c.loop-next-test.true here in
     let by_step : 4096 < length (gathered old (live (left_in (states_of c.loop-next.self.automata) c.args.from) next)) = search rules in
     let grown = gathered old (live left next) in (
       c.loop-next.next-index + 1,

@@ -10,12 +10,12 @@ use Rattle.standings.proofs.reached.Reached.nodes.Goals as goal
 
 pub loop-number-preserved : goal.loop-number-preserved
 loop-number-preserved c = λ es.
-    c.in_ok-push.ensures.ok ∙ ap (λ l. l ++ c.node.result ∷ []) (c.loop-number.invariant es)
+    c.in_ok-push.ensures.items ∙ ap (λ l. l ++ c.node.result ∷ []) (c.loop-number.invariant es)
     ∙ sym (map_next (node_of c.args.net.now (plan_of es c.args.from.now c.args.case.now)) (standings_of c.args.self.now) c.loop-number.number c.node.result (c.node.ensures es))
 
 pub returns : goal.returns
 returns c = λ es.
     let size = length-standings_in (states_of c.args.self.now.automata) c.args.self.now.found.keys in
     let all : length (standings_of c.args.self.now) ≤ c.loop-number.number = omega (arith, c.loop-number-test.false, c.len-number-end.ensures.len) in
-    c.loop-number.invariant es
+    c.from_vec.ensures ∙ c.loop-number.invariant es
     ∙ ap (map (node_of c.args.net.now (plan_of es c.args.from.now c.args.case.now))) (take_all c.loop-number.number (standings_of c.args.self.now) all)

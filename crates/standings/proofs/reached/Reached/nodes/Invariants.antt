@@ -6,4 +6,4 @@ use Rattle.standings.specs.Growth.{standings_of}
 use Rattle.standings.proofs.reached.Reached.nodes.Given as goal
 
 abbrev pub invariant-loop-number : goal.invariant-loop-number
-invariant-loop-number l = (es : List Expression) → l.nodes ≡ map (node_of l.net (plan_of es l.from l.case)) (take l.number (standings_of l.self))
+invariant-loop-number l = (es : List Expression) → l.nodes.items ≡ map (node_of l.net (plan_of es l.from l.case)) (take l.number (standings_of l.self))

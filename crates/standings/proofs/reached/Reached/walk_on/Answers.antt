@@ -6,7 +6,7 @@ use Rattle.standings.proofs.Asking.{asked-key, asked-start, asked-within, key-wi
 use Rattle.standings.proofs.Gathering.{gathered-extends}
 use Rattle.standings.proofs.Numbering.{extends-further, known-at, length-standings_in}
 use Rattle.standings.proofs.Below.{length-made}
-use Rattle.standings.proofs.reached.Reached.walk.Goals as goal
+use Rattle.standings.proofs.reached.Reached.walk_on.Goals as goal
 
 pub loop-number-init : goal.loop-number-init
 loop-number-init c =
@@ -46,13 +46,13 @@ loop-number-preserved c =
     let n = c.loop-number.number in
     let at = c.standing-at.result.0 in
     let element = c.index.ensures ∙ ap (λ k. get_or c.in_ok-ways.ways.items k c.index.result.now) c.number.ensures in
-    let here = c.deref.ensures.value ∙ ways_here net case (λ v. v.items) c.in_ok-ways.ways.items states keys first steps n at c.standing-at.result.1 c.index.result.now c.index.result.now
+    let here = c.as_slice.ensures ∙ ways_here net case (λ v. v.items) c.in_ok-ways.ways.items states keys first steps n at c.standing-at.result.1 c.index.result.now c.index.result.now
     c.requires.within c.loop-number.invariant.asked c.standing-at.ensures c.in_ok-ways.ensures element in
     let size = length-standings_in states keys in
-    let longer = gathered-extends (standings_of c.loop-number.self) (each_live (left_in states c.standing-at.result.1) c.deref.result.now) in
+    let longer = gathered-extends (standings_of c.loop-number.self) (each_live (left_in states c.standing-at.result.1) c.as_slice.result.now) in
     let grown = ap length (c.in_ok-add_steps.ensures.ok ∙ longer.1) ∙ length-append (standings_of c.loop-number.self) longer.0 in
     record {
-      asked = asked-key net case first states keys n at c.standing-at.result.1 c.deref.result.now (standings_of c.add_steps.new.self) steps c.add_steps.new.self.steps.items
+      asked = asked-key net case first states keys n at c.standing-at.result.1 c.as_slice.result.now (standings_of c.add_steps.new.self) steps c.add_steps.new.self.steps.items
           c.loop-number.invariant.asked c.standing-at.ensures here c.in_ok-add_steps.ensures.ok c.in_ok-add_steps.ensures.steps;
       few = c.in_ok-add_steps.ensures.few;
       within = omega (arith, grown, c.loop-number-test.true, c.len.ensures.len);
@@ -81,12 +81,12 @@ returns-in_err-add_steps-clause-many c = λ fault.
     let n = c.loop-number.number in
     let at = c.standing-at.result.0 in
     let element = c.index.ensures ∙ ap (λ k. get_or c.in_ok-ways.ways.items k c.index.result.now) c.number.ensures in
-    let here = c.deref.ensures.value ∙ ways_here net case (λ v. v.items) c.in_ok-ways.ways.items states keys first steps n at c.standing-at.result.1 c.index.result.now c.index.result.now
+    let here = c.as_slice.ensures ∙ ways_here net case (λ v. v.items) c.in_ok-ways.ways.items states keys first steps n at c.standing-at.result.1 c.index.result.now c.index.result.now
     c.requires.within c.loop-number.invariant.asked c.standing-at.ensures c.in_ok-ways.ensures element in
-    let grown = λ (m : ℕ). gathered (standings_of c.loop-number.self) (each_live (left_in states c.standing-at.result.1) (take m c.deref.result.now)) in
+    let grown = λ (m : ℕ). gathered (standings_of c.loop-number.self) (each_live (left_in states c.standing-at.result.1) (take m c.as_slice.result.now)) in
     let part : (m : ℕ) × (4096 < length (grown m)) = search rules in (
       grown part.0,
-      reached-key net case first states keys n at c.standing-at.result.1 part.0 c.deref.result.now (grown part.0) steps
+      reached-key net case first states keys n at c.standing-at.result.1 part.0 c.as_slice.result.now (grown part.0) steps
           c.loop-number.invariant.asked c.standing-at.ensures here refl,
       part.1,
     )

@@ -1,7 +1,7 @@
 use Rattle.std.proofs.Common.{◌≤◌, ◌-◌, length}
 use Rattle.path_automata.specs.States.{Extends, states_of}
 use Rattle.standings.specs.Growth.{AreAsked, next_in, standings_of}
-use Rattle.standings.proofs.reached.Reached.walk.Given as goal
+use Rattle.standings.proofs.reached.Reached.walk_on.Given as goal
 
 abbrev pub invariant-loop-number : goal.invariant-loop-number
 invariant-loop-number l = record {
