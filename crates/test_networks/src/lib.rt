@@ -14,4 +14,4 @@ pub use networks::{
     CHAIN, LINE, RING, ROW_BETWEEN_PEERS, TRIANGLE, TWO_EXITS, TWO_ROUTERS, TWO_SPINES, TWO_WAYS,
     WAYPOINT_RING,
 };
-pub use reading::read;
+pub use reading::{config_of, read};

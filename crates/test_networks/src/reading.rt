@@ -2,6 +2,8 @@
 ghost use Rattle.std.specs.Prelude.{IfSome};
 ghost use Rattle.policy_base.specs.CaseNumbers.{OriginsAreRouters};
 
+use config_base::Config;
+use config_reader::read_config;
 use net_base::Net;
 use policy_base::Policy;
 use policy_parser::read_policy;
@@ -28,4 +30,12 @@ pub fn read(alloc: Global, topology: &str, policy: &str) -> Option<(Net, Policy)
         Ok(policy) => Some((net, policy)),
         Err(_) => None,
     }
+}
+
+/// The configuration of a short text, where it is one.
+pub fn config_of(alloc: Global, text: &str) -> Option<Config> {
+    if text.len() > 65536 {
+        return None;
+    }
+    read_config(alloc, text.as_bytes()).ok()
 }

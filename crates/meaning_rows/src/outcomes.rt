@@ -5,7 +5,6 @@ use crate::values::{Held, outcome};
 use outside::NoMemory;
 use stable_paths::is_stable;
 use std::alloc::Global;
-use std::test::Fail;
 
 // Whether the routes of a row are stable, where one router may hold something else.
 fn settles(alloc: Global, setting: &Setting, other: Option<(u16, Held)>) -> Result<bool, NoMemory> {
@@ -32,8 +31,8 @@ fn is_right(alloc: Global, row: &Row) -> Result<bool, NoMemory> {
     settles(alloc, &setting, None)
 }
 
-// The name of the first row that is wrong.
-fn wrong_row(alloc: Global) -> Result<Option<&'static str>, NoMemory> {
+/// The name of the first row whose routes aren't stable, or that is stable with a single change.
+pub fn wrong_outcome(alloc: Global) -> Result<Option<&'static str>, NoMemory> {
     for number in 0..100 {
         let Some(row) = nth_row(number) else {
             return Ok(None);
@@ -43,10 +42,4 @@ fn wrong_row(alloc: Global) -> Result<Option<&'static str>, NoMemory> {
         }
     }
     Ok(Some("a table that doesn't end"))
-}
-
-#[test]
-fn rows_settle_on_their_routes_alone(rt: HostRuntime) -> Result<(), Fail> {
-    assert_eq!(rt; wrong_row(rt.alloc())?, None);
-    Ok(())
 }

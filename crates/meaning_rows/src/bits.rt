@@ -4,7 +4,6 @@ ghost use Rattle.std.specs.Prelude.{◌≡◌, ◌≤◌, length};
 use bit_rows::{Rows, add_row, clear_row, count_outside, keep_row, outside_is_empty};
 use outside::NoMemory;
 use std::alloc::Global;
-use std::test::Fail;
 
 // Whether a bit is set in the first row, and in the second before the first is added to it.
 fn in_first(bit: u32) -> bool {
@@ -46,12 +45,14 @@ fn wrong_bit(alloc: Global, bits: u32) -> Result<Option<u32>, NoMemory>
     })
 }
 
-#[test]
-fn bits_of_rows(rt: HostRuntime) -> Result<(), Fail> {
+/// The first of some lengths, in bits, at which a row isn't what a plain loop says.
+pub fn wrong_bits(alloc: Global) -> Result<Option<usize>, NoMemory> {
     for bits in [0, 1, 63, 64, 65, 4096] {
-        assert_eq!(rt; wrong_bit(rt.alloc(), bits)?, None, "of {bits}");
+        if wrong_bit(alloc, bits)?.is_some() {
+            return Ok(Some(bits as usize));
+        }
     }
-    Ok(())
+    Ok(None)
 }
 
 // So many words, each of its own.
@@ -101,16 +102,17 @@ fn wrong_word_of(alloc: Global, count: usize) -> Result<Option<usize>, NoMemory>
     wrong_word(alloc, &a, &b, &c)
 }
 
-#[test]
-fn words_of_rows(rt: HostRuntime) -> Result<(), Fail> {
+/// The first of some lengths, in words, at which rows aren't what a plain loop says.
+pub fn wrong_words(alloc: Global) -> Result<Option<usize>, NoMemory> {
     for count in [0, 1, 2, 4, 5, 64] {
-        assert_eq!(rt; wrong_word_of(rt.alloc(), count)?, None, "of {count}");
+        if wrong_word_of(alloc, count)?.is_some() {
+            return Ok(Some(count));
+        }
     }
-    Ok(())
+    Ok(None)
 }
 
-#[test]
-fn a_bit_outside_is_found(rt: HostRuntime) {
-    assert!(rt; outside_is_empty(&[12], &[6], &[4]));
-    assert!(rt; !outside_is_empty(&[12], &[6], &[1]));
+/// Whether a bit outside is found where there is one.
+pub fn outside_is_told() -> bool {
+    outside_is_empty(&[12], &[6], &[4]) && !outside_is_empty(&[12], &[6], &[1])
 }

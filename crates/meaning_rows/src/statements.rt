@@ -7,7 +7,6 @@ use policy_base::{
     is_permitted, is_walk, rank_of, statement_of,
 };
 use std::alloc::Global;
-use std::test::Fail;
 use test_networks::{ROW_BETWEEN_PEERS, read};
 
 // The routers A to D are 0 to 3, the peers P and Q are 4 and 5.
@@ -87,8 +86,8 @@ fn ranks_by_text(alloc: Global, text: &str, figures: &[u8; 15]) -> Result<bool, 
     }
 }
 
-// The first statement that ranks otherwise.
-fn wrong_rank(alloc: Global) -> Result<Option<&'static str>, NoMemory> {
+/// The first statement that ranks otherwise.
+pub fn wrong_rank(alloc: Global) -> Result<Option<&'static str>, NoMemory> {
     for row in &RANKS {
         if !ranks_by_text(alloc, row.0, row.1)? {
             return Ok(Some(row.0));
@@ -97,11 +96,14 @@ fn wrong_rank(alloc: Global) -> Result<Option<&'static str>, NoMemory> {
     Ok(None)
 }
 
-// The first of the paths at which walks or loops are told wrongly.
-fn wrong_walk(alloc: Global, net: &Net) -> Result<Option<usize>, NoMemory> {
+/// The place of the first path of which a walk or a loop is told wrongly.
+pub fn wrong_walk(alloc: Global) -> Result<Option<usize>, NoMemory> {
+    let Some((net, _)) = read(alloc, ROW_BETWEEN_PEERS, POLICY) else {
+        return Ok(Some(15));
+    };
     for i in 0..15 {
         let walk = path(alloc, PATHS[i])?;
-        if is_walk(&walk, net) != (WALKS[i] == b'1')
+        if is_walk(&walk, &net) != (WALKS[i] == b'1')
             || is_loop_free(&walk) != (LOOP_FREE[i] == b'1')
         {
             return Ok(Some(i));
@@ -119,34 +121,55 @@ originate 10.2.0.0/16 at A, B;
 10.0.0.0/8 le 24 => any;";
 
 // Prefixes, and the numbers of the statements that govern them.
-const GOVERNED: [(&[u8], Option<u32>); 6] = [
-    (b"10.0.0.0/8", Some(1)),
-    (b"10.1.0.0/16", Some(1)),
-    (b"10.1.1.0/24", Some(3)),
-    (b"11.0.0.0/8", Some(2)),
-    (b"11.1.0.0/16", None),
-    (b"12.0.0.0/8", None),
+const GOVERNED: [(&str, Option<u32>); 6] = [
+    ("10.0.0.0/8", Some(1)),
+    ("10.1.0.0/16", Some(1)),
+    ("10.1.1.0/24", Some(3)),
+    ("11.0.0.0/8", Some(2)),
+    ("11.1.0.0/16", None),
+    ("12.0.0.0/8", None),
 ];
 
-// The first of these rows that is wrong.
-fn wrong_statement(policy: &Policy) -> Option<usize> {
-    GOVERNED.iter().position(|row| match read_prefix(row.0) {
-        Ok(prefix) => governing(policy, prefix) != row.1,
-        Err(_) => true,
-    })
+// Whether a prefix is governed by the statement with this number.
+fn is_governed(policy: &Policy, text: &str, number: Option<u32>) -> bool {
+    match read_prefix(text.as_bytes()) {
+        Ok(prefix) => governing(policy, prefix) == number,
+        Err(_) => false,
+    }
+}
+
+/// The first of these prefixes that another statement governs.
+pub fn wrong_statement(alloc: Global) -> Option<&'static str> {
+    let Some((_, policy)) = read(alloc, ROW_BETWEEN_PEERS, POLICY) else {
+        return Some("texts that aren't read");
+    };
+    for row in &GOVERNED {
+        if !is_governed(&policy, row.0, row.1) {
+            return Some(row.0);
+        }
+    }
+    None
 }
 
 // A location, and whether it is an origin of 10.0.0.0/8 and of 10.1.0.0/16.
 const ORIGINS: [(u16, bool, bool); 3] = [(0, true, false), (2, false, false), (4, false, true)];
 
-// The first of these rows that is wrong.
-fn wrong_origin(net: &Net, policy: &Policy) -> Option<usize> {
+/// The place of the first of these rows that is wrong.
+pub fn wrong_origin(alloc: Global) -> Option<usize> {
+    let Some((net, policy)) = read(alloc, ROW_BETWEEN_PEERS, POLICY) else {
+        return Some(3);
+    };
     let originated = Prefix::new(0x0A00_0000, 8);
     let other = Prefix::new(0x0A01_0000, 16);
-    ORIGINS.iter().position(|row| {
-        is_origin(net, policy, originated, Loc::new(row.0)) != row.1
-            || is_origin(net, policy, other, Loc::new(row.0)) != row.2
-    })
+    for i in 0..3 {
+        let at = Loc::new(ORIGINS[i].0);
+        if is_origin(&net, &policy, originated, at) != ORIGINS[i].1
+            || is_origin(&net, &policy, other, at) != ORIGINS[i].2
+        {
+            return Some(i);
+        }
+    }
+    None
 }
 
 // A path, and whether the statement of 10.0.0.0/8 permits and allows it.
@@ -159,14 +182,14 @@ const ALLOWED: [(&[u16], bool, bool); 6] = [
     (&[2, 3, 2, 1], true, false),
 ];
 
-// The first of these rows that is wrong.
-fn wrong_path(alloc: Global, net: &Net, policy: &Policy) -> Result<Option<usize>, NoMemory> {
+// The place of the first of these rows that is wrong by the policy.
+fn wrong_path_by(alloc: Global, net: &Net, policy: &Policy) -> Result<Option<usize>, NoMemory> {
     let prefix = Prefix::new(0x0A00_0000, 8);
     let Some(statement) = statement_of(policy, prefix) else {
-        return Ok(Some(0));
+        return Ok(Some(6));
     };
     if alternatives(&statement.ranked) > 64 {
-        return Ok(Some(0));
+        return Ok(Some(6));
     }
     for i in 0..6 {
         let walk = path(alloc, ALLOWED[i].0)?;
@@ -177,6 +200,14 @@ fn wrong_path(alloc: Global, net: &Net, policy: &Policy) -> Result<Option<usize>
         }
     }
     Ok(None)
+}
+
+/// The place of the first path that is permitted or allowed wrongly.
+pub fn wrong_path(alloc: Global) -> Result<Option<usize>, NoMemory> {
+    match read(alloc, ROW_BETWEEN_PEERS, POLICY) {
+        Some((net, policy)) => wrong_path_by(alloc, &net, &policy),
+        None => Ok(Some(6)),
+    }
 }
 
 // The statement of a case, whether its origins are peers, the origins as bits, and how many prefixes it has.
@@ -198,27 +229,24 @@ fn is_case(case: &Case, row: &(u32, bool, u64, usize)) -> bool {
         && case.prefixes.as_slice().len() == row.3
 }
 
-// Whether the policy has these cases.
-fn has_cases(alloc: Global, net: &Net, policy: &Policy) -> Result<bool, NoMemory> {
-    let list = cases(alloc, net, policy)?;
-    let all = list.cases.as_slice();
-    Ok(all.len() == 5 && all.iter().zip(&CASES).all(|(case, row)| is_case(case, row)))
+// Whether these are the cases.
+fn are_cases(all: &[Case]) -> bool {
+    if all.len() != 5 {
+        return false;
+    }
+    for i in 0..5 {
+        if !is_case(&all[i], &CASES[i]) {
+            return false;
+        }
+    }
+    true
 }
 
-#[test]
-fn ranks_by_hand(rt: HostRuntime) -> Result<(), Fail> {
-    assert_eq!(rt; wrong_rank(rt.alloc())?, None);
-    Ok(())
-}
-
-#[test]
-fn walks_statements_origins_paths_and_cases(rt: HostRuntime) -> Result<(), Fail> {
-    let alloc = rt.alloc();
-    let (net, policy) = read(alloc, ROW_BETWEEN_PEERS, POLICY).expect(&rt, "texts that are read");
-    assert_eq!(rt; wrong_walk(alloc, &net)?, None);
-    assert_eq!(rt; wrong_statement(&policy), None);
-    assert_eq!(rt; wrong_origin(&net, &policy), None);
-    assert_eq!(rt; wrong_path(alloc, &net, &policy)?, None);
-    assert!(rt; has_cases(alloc, &net, &policy)?, "the list of cases");
-    Ok(())
+/// Whether the policy has these cases.
+pub fn has_cases(alloc: Global) -> Result<bool, NoMemory> {
+    let Some((net, policy)) = read(alloc, ROW_BETWEEN_PEERS, POLICY) else {
+        return Ok(false);
+    };
+    let list = cases(alloc, &net, &policy)?;
+    Ok(are_cases(list.cases.as_slice()))
 }

@@ -27,7 +27,7 @@ export 1 tag 64513:0:2
 end
 ";
 
-pub(crate) const EXITS: Row = Row {
+const EXITS: Row = Row {
     name: "two exits",
     topology: TWO_EXITS,
     policy: "true => exit(P1 >> P2);",
@@ -46,7 +46,7 @@ pub(crate) const EXITS: Row = Row {
     ],
 };
 
-pub(crate) const SILENT_EXIT: Row = Row {
+const SILENT_EXIT: Row = Row {
     name: "two exits, the preferred one silent",
     topology: TWO_EXITS,
     policy: "true => exit(P1 >> P2);",
@@ -64,7 +64,7 @@ pub(crate) const SILENT_EXIT: Row = Row {
     ],
 };
 
-pub(crate) const ENTERED: Row = Row {
+const ENTERED: Row = Row {
     name: "r2 originates a prefix, which P1 hears of over R1",
     topology: TWO_EXITS,
     policy: "originate 10.0.1.0/24 at R2; 10.0.1.0/24 => enter(R1);",
@@ -82,7 +82,7 @@ pub(crate) const ENTERED: Row = Row {
     ],
 };
 
-pub(crate) const EXPORTED: Row = Row {
+const EXPORTED: Row = Row {
     name: "the row of two exits, with lines that export to the peers what came from P1",
     topology: TWO_EXITS,
     policy: "true => exit(P1 >> P2);",
@@ -94,3 +94,23 @@ pub(crate) const EXPORTED: Row = Row {
     settled: &[Some((&[0, 2], 1, 101)), Some((&[1, 0, 2], 2, 101))],
     unstable: &[],
 };
+
+/// Two exits, of which P1's is preferred.
+pub(crate) fn exits() -> Row {
+    EXITS
+}
+
+/// The same where P1's session is silent.
+pub(crate) fn silent_exit() -> Row {
+    SILENT_EXIT
+}
+
+/// A prefix at R2, of which P1 hears.
+pub(crate) fn entered() -> Row {
+    ENTERED
+}
+
+/// Two exits that are exported to the peers.
+pub(crate) fn exported() -> Row {
+    EXPORTED
+}

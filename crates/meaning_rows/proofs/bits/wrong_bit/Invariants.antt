@@ -1,5 +1,5 @@
 use Rattle.std.proofs.Common.{◌≡◌, ◌≤◌}
-use Rattle.meaning_tests.proofs.bits.wrong_bit.Given as goal
+use Rattle.meaning_rows.proofs.bits.wrong_bit.Given as goal
 
 abbrev pub invariant-loop-bit : goal.invariant-loop-bit
 invariant-loop-bit l = record { count : l.rows.count ≡ 2; bits : l.rows.bits ≡ l.bits }

@@ -1,12 +1,16 @@
 //! What single lines say, and what is given, offered and left alive.
-use crate::exit_rows::{ENTERED, EXITS, EXPORTED};
-use crate::setting::{Setting, config_of, set_up};
+use crate::exit_rows::{entered, exits, exported};
+use crate::setting::{Setting, set_up};
 use crate::values::{Held, outcome, path, route, scenario, tag};
 use config_base::{Config, Route, class_of, export_of, import_of, own_tag};
 use net_base::{List, Loc, Prefix, read_prefix};
 use outside::NoMemory;
 use stable_paths::{Outcome, Scenario, Situation, Survivors, survives};
 use std::alloc::Global;
+use test_networks::config_of;
+
+// What is told in place of a row.
+const UNREAD: &str = "texts that aren't read";
 
 const TWO_CLASSES: &str = "propane-config 2
 class 1 10.0.0.0/8 le 16
@@ -14,25 +18,32 @@ class 2 10.0.0.0/8 le 16, 10.0.0.0/8 le 24
 ";
 
 // Prefixes and their classes.
-const CLASSES: [(&[u8], Option<u32>); 5] = [
-    (b"10.0.0.0/8", Some(1)),
-    (b"10.1.0.0/16", Some(1)),
-    (b"10.1.1.0/24", Some(2)),
-    (b"10.1.1.4/30", None),
-    (b"11.0.0.0/8", None),
+const CLASSES: [(&str, Option<u32>); 5] = [
+    ("10.0.0.0/8", Some(1)),
+    ("10.1.0.0/16", Some(1)),
+    ("10.1.1.0/24", Some(2)),
+    ("10.1.1.4/30", None),
+    ("11.0.0.0/8", None),
 ];
 
-fn wrong_class(config: &Config) -> Option<usize> {
-    CLASSES.iter().position(|row| match read_prefix(row.0) {
-        Ok(prefix) => class_of(config, prefix) != row.1,
-        Err(_) => true,
-    })
+fn is_in_class(config: &Config, text: &str, class: Option<u32>) -> bool {
+    match read_prefix(text.as_bytes()) {
+        Ok(prefix) => class_of(config, prefix) == class,
+        Err(_) => false,
+    }
 }
 
-#[test]
-fn classes_go_by_first_match(rt: HostRuntime) {
-    let config = config_of(rt.alloc(), TWO_CLASSES).expect(&rt, "a configuration");
-    assert_eq!(rt; wrong_class(&config), None);
+/// The first prefix that has another class: classes go by first match.
+pub fn wrong_class(alloc: Global) -> Option<&'static str> {
+    let Some(config) = config_of(alloc, TWO_CLASSES) else {
+        return Some(UNREAD);
+    };
+    for row in &CLASSES {
+        if !is_in_class(&config, row.0, row.1) {
+            return Some(row.0);
+        }
+    }
+    None
 }
 
 // A class, a router, a neighbour and the value of the router's tag, and the value that goes out.
@@ -47,21 +58,31 @@ const EXPORTS: [Sent; 6] = [
     (1, 0, 1, 1, None),
 ];
 
-fn wrong_export(alloc: Global, setting: &Setting, rows: &[Sent]) -> Option<usize> {
-    rows.iter().position(|row| {
-        let (from, to) = (Loc::new(row.1), Loc::new(row.2));
-        let held = Route {
-            path: List::new(alloc),
-            tag: tag(row.1, row.3),
-            pref: 100,
-        };
-        let sent = export_of(&setting.net, &setting.config, row.0, from, to, &held);
-        let wanted = match row.4 {
-            None => None,
-            Some(value) => Some(tag(row.1, value)),
-        };
-        sent != wanted
-    })
+fn is_sent(alloc: Global, setting: &Setting, row: &Sent) -> bool {
+    let (from, to) = (Loc::new(row.1), Loc::new(row.2));
+    let held = Route {
+        path: List::new(alloc),
+        tag: tag(row.1, row.3),
+        pref: 100,
+    };
+    let sent = export_of(&setting.net, &setting.config, row.0, from, to, &held);
+    match row.4 {
+        None => sent.is_none(),
+        Some(value) => sent == Some(tag(row.1, value)),
+    }
+}
+
+/// The place of the first of these rows that is wrong.
+pub fn wrong_export(alloc: Global) -> Option<usize> {
+    let Some(setting) = set_up(alloc, &entered()) else {
+        return Some(6);
+    };
+    for i in 0..6 {
+        if !is_sent(alloc, &setting, &EXPORTS[i]) {
+            return Some(i);
+        }
+    }
+    None
 }
 
 // A class, a router, a neighbour, the path that begins with it, whose tag comes with it and its value, and what
@@ -90,23 +111,25 @@ const IMPORTS: [Read; 12] = [
     (1, 1, 3, &[3], (3, 0), Some((1, 100))),
 ];
 
-fn wrong_import(
-    alloc: Global,
-    setting: &Setting,
-    rows: &[Read],
-) -> Result<Option<usize>, NoMemory> {
-    for i in 0..rows.len() {
-        let (class, at, from, numbers, sent, wanted) = rows[i];
-        let path = path(alloc, numbers)?;
-        let (router, neighbour) = (Loc::new(at), Loc::new(from));
-        let tag_sent = tag(sent.0, sent.1);
-        let (net, config) = (&setting.net, &setting.config);
-        let held = import_of(net, config, class, router, neighbour, &path, tag_sent);
-        let made = match wanted {
-            None => None,
-            Some((value, pref)) => Some((tag(at, value), pref)),
-        };
-        if held != made {
+fn is_imported(alloc: Global, setting: &Setting, row: &Read) -> Result<bool, NoMemory> {
+    let path = path(alloc, row.3)?;
+    let (router, neighbour) = (Loc::new(row.1), Loc::new(row.2));
+    let sent = tag(row.4.0, row.4.1);
+    let (net, config) = (&setting.net, &setting.config);
+    let held = import_of(net, config, row.0, router, neighbour, &path, sent);
+    Ok(match row.5 {
+        None => held.is_none(),
+        Some((value, pref)) => held == Some((tag(row.1, value), pref)),
+    })
+}
+
+/// The place of the first of these rows that is wrong.
+pub fn wrong_import(alloc: Global) -> Result<Option<usize>, NoMemory> {
+    let Some(setting) = set_up(alloc, &exits()) else {
+        return Ok(Some(12));
+    };
+    for i in 0..12 {
+        if !is_imported(alloc, &setting, &IMPORTS[i])? {
             return Ok(Some(i));
         }
     }
@@ -121,21 +144,15 @@ fn are_own_tags_right(setting: &Setting, named: Prefix, other: Prefix) -> bool {
         && own_tag(net, config, other, Loc::new(1)) == tag(1, 0)
 }
 
-#[test]
-fn own_tags_and_exports_by_hand(rt: HostRuntime) {
-    let alloc = rt.alloc();
-    let setting = set_up(alloc, &ENTERED).expect(&rt, "texts that are read");
-    assert_eq!(rt; wrong_export(alloc, &setting, &EXPORTS), None);
-    let other = Prefix::new(0x0A00_0200, 24);
-    assert!(rt; are_own_tags_right(&setting, setting.scenario.prefix, other));
-}
-
-#[test]
-fn imports_by_hand(rt: HostRuntime) {
-    let alloc = rt.alloc();
-    let setting = set_up(alloc, &EXITS).expect(&rt, "texts that are read");
-    let wrong = wrong_import(alloc, &setting, &IMPORTS).expect(&rt, "memory");
-    assert_eq!(rt; wrong, None);
+/// Whether routers tag their own routes as the lines say.
+pub fn own_tags_are_told(alloc: Global) -> bool {
+    match set_up(alloc, &entered()) {
+        Some(setting) => {
+            let other = Prefix::new(0x0A00_0200, 24);
+            are_own_tags_right(&setting, setting.scenario.prefix, other)
+        }
+        None => false,
+    }
 }
 
 // Whether a path is another one with a location in front, where there is another one.
@@ -204,20 +221,20 @@ fn are_offers_right(alloc: Global, setting: &Setting) -> Result<bool, NoMemory> 
     Ok(alive.is_none() && silent.is_none() && dead == Some(0))
 }
 
-#[test]
-fn offers_by_hand(rt: HostRuntime) {
-    let alloc = rt.alloc();
-    let setting = set_up(alloc, &ENTERED).expect(&rt, "texts that are read");
-    let right = are_offers_right(alloc, &setting).expect(&rt, "memory");
-    assert!(rt; right);
+/// Whether these paths are offered and no others.
+pub fn entries_are_offered(alloc: Global) -> Result<bool, NoMemory> {
+    match set_up(alloc, &entered()) {
+        Some(setting) => are_offers_right(alloc, &setting),
+        None => Ok(false),
+    }
 }
 
-#[test]
-fn a_peer_on_the_path_is_offered_nothing(rt: HostRuntime) {
-    let alloc = rt.alloc();
-    let setting = set_up(alloc, &EXPORTED).expect(&rt, "texts that are read");
-    let wrong = wrong_offer_after(alloc, &setting, 0, &[], &LOOPS).expect(&rt, "memory");
-    assert_eq!(rt; wrong, None);
+/// The place of the first of these offers that is told wrongly: a peer on the path is offered nothing.
+pub fn wrong_loop(alloc: Global) -> Result<Option<usize>, NoMemory> {
+    match set_up(alloc, &exported()) {
+        Some(setting) => wrong_offer_after(alloc, &setting, 0, &[], &LOOPS),
+        None => Ok(Some(3)),
+    }
 }
 
 // A neighbour, a router and a route, and whether the one gives it to the other.
@@ -233,16 +250,15 @@ const GIVEN: [Gift; 7] = [
     (3, 1, Some((&[1, 3], 1, 100)), true),
 ];
 
-fn wrong_given(
+fn wrong_gift(
     alloc: Global,
     setting: &Setting,
     outcome: &Outcome,
-    rows: &[Gift],
 ) -> Result<Option<usize>, NoMemory> {
     let (net, policy, config) = (&setting.net, &setting.policy, &setting.config);
     let situation = Situation::new(net, policy, config, &setting.scenario, outcome);
-    for i in 0..rows.len() {
-        let (from, to, held, wanted) = rows[i];
+    for i in 0..7 {
+        let (from, to, held, wanted) = GIVEN[i];
         let Some(route) = route(alloc, to, held)? else {
             return Ok(Some(i));
         };
@@ -251,6 +267,25 @@ fn wrong_given(
         }
     }
     Ok(None)
+}
+
+/// The place of the first route that is given wrongly.
+pub fn wrong_given(alloc: Global) -> Result<Option<usize>, NoMemory> {
+    let Some(setting) = set_up(alloc, &exits()) else {
+        return Ok(Some(7));
+    };
+    let routes = outcome(alloc, setting.settled, None)?;
+    wrong_gift(alloc, &setting, &routes)
+}
+
+// The scenario where the link R1-R2 is dead and the session R1-P1 silent.
+fn cut_of(alloc: Global, setting: &Setting) -> Result<Scenario, NoMemory> {
+    scenario(alloc, setting.scenario.prefix, 0, &[(1, 0)], &[(0, 2)])
+}
+
+// The scenario where P2 is dead.
+fn death_of(alloc: Global, setting: &Setting) -> Result<Scenario, NoMemory> {
+    scenario(alloc, setting.scenario.prefix, 0b1000, &[], &[])
 }
 
 // Paths, and whether they survive where the link R1-R2 is dead and the session R1-P1 silent, and where P2 is dead.
@@ -266,18 +301,18 @@ const SURVIVORS: [Survivor; 7] = [
     (&[1, 0, 2], false, true),
 ];
 
-fn wrong_survivor(
-    alloc: Global,
-    setting: &Setting,
-    cut: &Scenario,
-    dead: &Scenario,
-    rows: &[Survivor],
-) -> Result<Option<usize>, NoMemory> {
-    for i in 0..rows.len() {
-        let (numbers, after_cut, after_death) = rows[i];
+/// The place of the first path of which it is told wrongly whether it survives.
+pub fn wrong_survivor(alloc: Global) -> Result<Option<usize>, NoMemory> {
+    let Some(setting) = set_up(alloc, &exits()) else {
+        return Ok(Some(7));
+    };
+    let cut = cut_of(alloc, &setting)?;
+    let dead = death_of(alloc, &setting)?;
+    for i in 0..7 {
+        let (numbers, after_cut, after_death) = SURVIVORS[i];
         let path = path(alloc, numbers)?;
-        if survives(&setting.net, cut, &path) != after_cut
-            || survives(&setting.net, dead, &path) != after_death
+        if survives(&setting.net, &cut, &path) != after_cut
+            || survives(&setting.net, &dead, &path) != after_death
         {
             return Ok(Some(i));
         }
@@ -293,42 +328,21 @@ const LIVE: [(u16, u16, bool, bool); 4] = [
     (1, 3, true, false),
 ];
 
-fn wrong_live(setting: &Setting, cut: &Scenario, dead: &Scenario) -> Option<usize> {
+/// The place of the first pair of which it is told wrongly whether it lives.
+pub fn wrong_live(alloc: Global) -> Result<Option<usize>, NoMemory> {
+    let Some(setting) = set_up(alloc, &exits()) else {
+        return Ok(Some(4));
+    };
     let net = &setting.net;
-    let after_cut = Survivors::new(net, cut);
-    let after_death = Survivors::new(net, dead);
-    LIVE.iter().position(|row| {
-        let (a, b) = (Loc::new(row.0), Loc::new(row.1));
-        after_cut.is_live(net, a, b) != row.2 || after_death.is_live(net, a, b) != row.3
-    })
-}
-
-#[test]
-fn routes_that_are_given_by_hand(rt: HostRuntime) {
-    let alloc = rt.alloc();
-    let setting = set_up(alloc, &EXITS).expect(&rt, "texts that are read");
-    let routes = outcome(alloc, setting.settled, None).expect(&rt, "memory");
-    let wrong = wrong_given(alloc, &setting, &routes, &GIVEN).expect(&rt, "memory");
-    assert_eq!(rt; wrong, None);
-}
-
-// The first path and the first pair of locations that are told wrongly.
-fn wrong_failures(
-    alloc: Global,
-    setting: &Setting,
-) -> Result<(Option<usize>, Option<usize>), NoMemory> {
-    let prefix = setting.scenario.prefix;
-    let cut = scenario(alloc, prefix, 0, &[(1, 0)], &[(0, 2)])?;
-    let dead = scenario(alloc, prefix, 0b1000, &[], &[])?;
-    let path = wrong_survivor(alloc, setting, &cut, &dead, &SURVIVORS)?;
-    Ok((path, wrong_live(setting, &cut, &dead)))
-}
-
-#[test]
-fn survivors_by_hand(rt: HostRuntime) {
-    let alloc = rt.alloc();
-    let setting = set_up(alloc, &EXITS).expect(&rt, "texts that are read");
-    let (path, link) = wrong_failures(alloc, &setting).expect(&rt, "memory");
-    assert_eq!(rt; path, None, "paths");
-    assert_eq!(rt; link, None, "links");
+    let after_cut = Survivors::new(net, &cut_of(alloc, &setting)?);
+    let after_death = Survivors::new(net, &death_of(alloc, &setting)?);
+    for i in 0..4 {
+        let (a, b) = (Loc::new(LIVE[i].0), Loc::new(LIVE[i].1));
+        if after_cut.is_live(net, a, b) != LIVE[i].2
+            || after_death.is_live(net, a, b) != LIVE[i].3
+        {
+            return Ok(Some(i));
+        }
+    }
+    Ok(None)
 }

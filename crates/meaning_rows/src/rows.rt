@@ -1,5 +1,5 @@
 //! Networks under failures, with the routes that their routers settle on.
-use crate::exit_rows::{ENTERED, EXITS, EXPORTED, SILENT_EXIT};
+use crate::exit_rows::{entered, exits, exported, silent_exit};
 use crate::values::Held;
 use test_networks::{
     LINE, LINE_CONFIG, RING, RING_CONFIG, TRIANGLE, TRIANGLE_CONFIG, TWO_ROUTERS,
@@ -206,21 +206,61 @@ const SEVERAL_ORIGINS: Row = Row {
     ],
 };
 
+// A triangle with a dead link.
+fn dead_link() -> Row {
+    DEAD_LINK
+}
+
+// A triangle with a tie.
+fn tie() -> Row {
+    TIE
+}
+
+// A triangle with its origin dead.
+fn dead_origin() -> Row {
+    DEAD_ORIGIN
+}
+
+// A ring with a detour.
+fn ranked_detour() -> Row {
+    RANKED_DETOUR
+}
+
+// Two ways, of which one is a fallback.
+fn ranked_fallback() -> Row {
+    RANKED_FALLBACK
+}
+
+// A prefix that nothing governs.
+fn ungoverned() -> Row {
+    UNGOVERNED
+}
+
+// Two spines, one of them dead.
+fn dead_spine() -> Row {
+    DEAD_SPINE
+}
+
+// Two origins.
+fn several_origins() -> Row {
+    SEVERAL_ORIGINS
+}
+
 /// The row of this number.
 pub(crate) fn nth_row(number: usize) -> Option<Row> {
     Some(match number {
-        0 => DEAD_LINK,
-        1 => TIE,
-        2 => DEAD_ORIGIN,
-        3 => EXITS,
-        4 => SILENT_EXIT,
-        5 => RANKED_DETOUR,
-        6 => RANKED_FALLBACK,
-        7 => UNGOVERNED,
-        8 => DEAD_SPINE,
-        9 => SEVERAL_ORIGINS,
-        10 => ENTERED,
-        11 => EXPORTED,
+        0 => dead_link(),
+        1 => tie(),
+        2 => dead_origin(),
+        3 => exits(),
+        4 => silent_exit(),
+        5 => ranked_detour(),
+        6 => ranked_fallback(),
+        7 => ungoverned(),
+        8 => dead_spine(),
+        9 => several_origins(),
+        10 => entered(),
+        11 => exported(),
         _ => return None,
     })
 }

@@ -1,25 +1,23 @@
-//! Policies and topologies that are printed, and what is printed read again; the texts of a sample.
-use net_text::print_net;
+//! Policies that are printed, and what is printed read again; the texts of a sample.
+use net_base::Net;
 use outside::NoMemory;
+use policy_base::Policy;
 use policy_text::print_policy;
 use sample_network::sample;
 use std::alloc::Global;
-use std::test::Fail;
 use test_networks::{TWO_EXITS, TWO_WAYS, read};
 
-// Whether a text is printed like this, and what is printed once more as itself.
+// Whether a policy is printed like this.
+fn is_printed(alloc: Global, net: &Net, policy: &Policy, wanted: &str) -> Result<bool, NoMemory> {
+    Ok(print_policy(alloc, policy, net)?.as_slice() == wanted.as_bytes())
+}
+
+// Whether a text is read, and printed like this.
 fn prints(alloc: Global, topology: &str, text: &str, wanted: &str) -> Result<bool, NoMemory> {
-    let Some((net, policy)) = read(alloc, topology, text) else {
-        return Ok(false);
-    };
-    let Some((_, again)) = read(alloc, topology, wanted) else {
-        return Ok(false);
-    };
-    let printed = print_policy(alloc, &policy, &net)?;
-    Ok(
-        printed.as_slice() == wanted.as_bytes()
-            && print_policy(alloc, &again, &net)?.as_slice() == wanted.as_bytes(),
-    )
+    match read(alloc, topology, text) {
+        Some((net, policy)) => is_printed(alloc, &net, &policy, wanted),
+        None => Ok(false),
+    }
 }
 
 const BRACKETS: &str =
@@ -51,20 +49,14 @@ const ROWS: [(&str, &str, &str, &str); 5] = [
     ("brackets and lists", TWO_EXITS, BRACKETS, FEWER_BRACKETS),
 ];
 
-// The name of the first policy of which something else is printed.
-fn wrong_text(alloc: Global) -> Result<Option<&'static str>, NoMemory> {
+/// The name of the first policy of which something else is printed, or that is printed as another one once it was printed.
+pub fn wrong_text(alloc: Global) -> Result<Option<&'static str>, NoMemory> {
     for row in &ROWS {
-        if !prints(alloc, row.1, row.2, row.3)? {
+        if !prints(alloc, row.1, row.2, row.3)? || !prints(alloc, row.1, row.3, row.3)? {
             return Ok(Some(row.0));
         }
     }
     Ok(None)
-}
-
-#[test]
-fn policies_are_printed(rt: HostRuntime) -> Result<(), Fail> {
-    assert_eq!(rt; wrong_text(rt.alloc())?, None);
-    Ok(())
 }
 
 // The texts of the sample of two leaves, as `bench/make leaf-spine-2` writes them.
@@ -78,36 +70,13 @@ originate 10.0.2.0/24 at L2;
 true => exit(W1 >> W2) and notransit(L1, L2);
 ";
 
-// Whether these are the texts of the sample.
-fn has_texts(alloc: Global, leaves: u16, topology: &str, policy: &str) -> bool {
-    match sample(alloc, leaves) {
-        Ok((net, rules)) => {
-            net.as_slice() == topology.as_bytes() && rules.as_slice() == policy.as_bytes()
+/// Whether the sample has these texts.
+pub fn sample_has_its_texts(alloc: Global) -> bool {
+    match sample(alloc, 2) {
+        Ok((net, policy)) => {
+            net.as_slice() == SAMPLE_TOPOLOGY.as_bytes()
+                && policy.as_slice() == SAMPLE_POLICY.as_bytes()
         }
         Err(_) => false,
     }
-}
-
-// Whether both texts are read, and printed as they were.
-fn are_printed_again(alloc: Global, topology: &str, policy: &str) -> Result<bool, NoMemory> {
-    let Some((net, rules)) = read(alloc, topology, policy) else {
-        return Ok(false);
-    };
-    Ok(
-        print_net(alloc, &net)?.as_slice() == topology.as_bytes()
-            && print_policy(alloc, &rules, &net)?.as_slice() == policy.as_bytes(),
-    )
-}
-
-#[test]
-fn the_sample_has_these_texts(rt: HostRuntime) -> Result<(), Fail> {
-    assert!(rt; has_texts(rt.alloc(), 2, SAMPLE_TOPOLOGY, SAMPLE_POLICY));
-    Ok(())
-}
-
-#[test]
-fn its_texts_are_printed_as_they_were_read(rt: HostRuntime) -> Result<(), Fail> {
-    let again = are_printed_again(rt.alloc(), SAMPLE_TOPOLOGY, SAMPLE_POLICY)?;
-    assert!(rt; again);
-    Ok(())
 }
