@@ -1,11 +1,11 @@
 -- What a sequence and an alternation are in the common cases.
-use Rattle.std.proofs.Common.{◌≡◌, ℕ, true, false, List, [], ◌∷◌, refl, sym, ap, ◌∙◌, Vec, Global}
+use Rattle.std.proofs.Common.{◌≡◌, ℕ, false, List, [], ◌∷◌, refl, sym, ap, ◌∙◌, Vec, Global}
 use Rattle.path_exprs.specs.Expression.{Expression, never, empty, set, seq, either, both, complement, star}
 use Rattle.path_exprs.specs.Normal.{after, seq_of, either_of, is_never}
 use Rattle.path_terms.specs.declared.term.Term.{Term}
 use Rattle.path_terms.specs.declared.term.Term.TheVariants.{Never, Empty, Set, Seq, Either, Both, Not, Star}
 use Rattle.path_terms.specs.Terms.{at, node, is_empty}
-use Rattle.path_terms.proofs.Sequences.{seq-after, never-is}
+use Rattle.path_terms.proofs.Sequences.{seq-after}
 
 complement-alone : (e : Expression) → complement e ≡ either_of (complement e ∷ never ∷ [])
 complement-alone never = refl
@@ -32,6 +32,3 @@ alone vs e t q k = q ∙ by_term t k ∙ ap (λ e. either_of (e ∷ never ∷ []
 
 pub seq-kept : (e a b : Expression) → e ≡ seq a b → ((c : Expression) → after a c ≡ seq a c) → is_never a ≡ false → is_empty a ≡ false → is_never b ≡ false → is_empty b ≡ false → e ≡ seq_of a b
 seq-kept e a b q h na ea nb eb = q ∙ sym (h b) ∙ seq-after a b na ea nb eb
-
-pub joined-never : (e f : Expression) → is_never f ≡ true → e ≡ either_of (e ∷ never ∷ []) → e ≡ either_of (e ∷ f ∷ [])
-joined-never e f h q = q ∙ ap (λ f. either_of (e ∷ f ∷ [])) (sym (never-is f h))

@@ -64,10 +64,6 @@ derived-insert cs vs old new k d h e m q = subst (λ o. IfSome o (λ d. IsDeriva
         subst (λ q. IsDerivative cs vs q d) is e
     by_key false t = m q
 
-pub derived-same : {S : Type 0} (cs : List ℕ) (vs : List Expression) (old new : IndexMap (ℕ × ℕ) ℕ S)
-    → ((q : ℕ × ℕ) → get same_key new q ≡ get same_key old q) → AreDerivatives cs vs old → AreDerivatives cs vs new
-derived-same cs vs old new h m q = subst (λ o. IfSome o (λ d. IsDerivative cs vs q d)) (sym (h q)) (m q)
-
 pub derived-read : {S : Type 0} (cs : List ℕ) (vs : List Expression) (m : IndexMap (ℕ × ℕ) ℕ S) (k : ℕ × ℕ) (d : ℕ) → AreDerivatives cs vs m → get same_key m k ≡ Some d → IsDerivative cs vs k d
 derived-read cs vs m k d h q = subst (λ o. IfSome o (λ d. IsDerivative cs vs k d)) q (h k)
 

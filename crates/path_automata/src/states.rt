@@ -41,6 +41,15 @@ impl Model for State {
     ghost inverse = { λ n. record { 0 = n } };
 }
 
+impl State {
+    /// The number of the state.
+    pub fn number(self) -> u64
+        ensures { result ≡ self }
+    {
+        self.0
+    }
+}
+
 /// What is left of ranked expressions after lists of locations that are read from the origin end. Each
 /// state that was found has a number, and equal states have equal numbers.
 #[derive(Drop)]

@@ -1,8 +1,8 @@
 -- The standings that were reached and asked where walks go on from them.
-use Rattle.std.proofs.Common.{◌≡◌, ℕ, zero, suc, ◌+◌, ◌<◌, ◌≤◌, List, [], ◌∷◌, ◌++◌, map, take, length, get_or, Some, ◌⊎◌, inl, inr, refl, sym, ap, subst, ◌∙◌, append_assoc, length-take-le, arith}
+use Rattle.std.proofs.Common.{◌≡◌, ℕ, zero, suc, ◌+◌, ◌<◌, ◌≤◌, List, [], ◌∷◌, ◌++◌, map, take, length, get_or, Some, inl, inr, refl, sym, ap, subst, ◌∙◌, append_assoc, length-take-le, arith}
 use Rattle.std.specs.Prelude.{filter, slice_get, ◌&&◌, ◌||◌}
 use Rattle.std.specs.List.{flat_map, AllByRecursion, IsDistinct}
-use Rattle.std.proofs.lemmas.Bool.{cases_lt, cases_Bool, cond_both, false≢true}
+use Rattle.std.proofs.lemmas.Bool.{cases_lt, cond_both, false≢true}
 use Rattle.std.proofs.lemmas.Grind.{flat_map-append}
 use Rattle.std.proofs.lemmas.List.{append-nil, take_more, take-append-le}
 use Rattle.std.proofs.lemmas.Option.{slice_get_within, get_or_from_slice_get}
@@ -12,16 +12,16 @@ use Rattle.net_base.specs.Network.{PlainNet, is_router, linked}
 use Rattle.net_base.specs.Sets.{holds}
 use Rattle.policy_base.specs.declared.case.Case.{Case}
 use Rattle.path_exprs.specs.Expression.{Expression}
-use Rattle.path_exprs.specs.Derivative.{derivative}
-use Rattle.path_exprs.specs.Standings.{Standing, is_dead, moved, same_standing, AreReached}
+use Rattle.path_exprs.specs.Standings.{Standing, same_standing, AreReached}
 use Rattle.net_base.specs.Locations.{in_order, numbers_below}
-use Rattle.standings.specs.Growth.{AreAsked, AreWithin, each_live, gathered, left_in, live, may_enter, next_in, standing_in, standings_in, steps_over, steps_to, ways, with_standing}
+use Rattle.standings.specs.Growth.{AreAsked, each_live, gathered, left_in, live, may_enter, next_in, standing_in, standings_in, steps_over, steps_to, ways}
+use Rattle.standings.specs.Table.{Key}
 use Rattle.net_base.proofs.NumbersBelow.{numbers-below}
 use Rattle.standings.proofs.Below.{made-at}
-use Rattle.standings.proofs.SameStandings.{Among, among-first, among-head, among-later}
-use Rattle.standings.proofs.Gathering.{among-append, among-left, among-right, among-slice_get, gathered-among, gathered-append, gathered-distinct, gathered-extends, gathered-new, with-cases}
-use Rattle.standings.proofs.Numbering.{Key, slice_get-standings_in}
-use Rattle.standings.proofs.Stepping.{gathered-nil, live-alive, live-dead, steps_to-kept}
+use Rattle.standings.proofs.SameStandings.{Among}
+use Rattle.standings.proofs.Gathering.{among-append, among-left, among-right, gathered-among, gathered-append, gathered-distinct, gathered-extends, gathered-new}
+use Rattle.standings.proofs.Numbering.{slice_get-standings_in}
+use Rattle.standings.proofs.Stepping.{gathered-nil, steps_to-kept}
 
 -- more targets of a standing that was reached
 pub reached-more : (starts : List Standing) (next : Standing → List Standing) (xs ts : List Standing) (k : ℕ) (x : Standing) → AreReached starts next xs
@@ -118,36 +118,6 @@ asked-start next xs d = record {
   numbered = refl;
 }
 
--- what is gathered was there or is added
-among-with : (xs : List Standing) (y x : Standing) → Among (with_standing xs y) x → Among xs x ⊎ (x ≡ y)
-among-with xs y x h = elim (with-cases xs y) [
-  | inl t ↦ inl (subst (λ l. Among l x) t.1 h)
-  | inr f ↦ elim (among-append x xs (y ∷ []) (subst (λ l. Among l x) f.1 h)) [
-    | inl e ↦ inl e
-    | inr e ↦ elim (among-head x y [] e) [ inl q ↦ inr q | inr q ↦ absurd (false≢true q) ]
-  ]
-]
-
-pub among-gathered : (xs ts : List Standing) (x : Standing) → Among (gathered xs ts) x → Among xs x ⊎ Among ts x
-unfolding gathered
-among-gathered xs [] x h = inl h
-among-gathered xs (t ∷ ts) x h = elim (among-gathered (with_standing xs t) ts x h) [
-  | inl e ↦ elim (among-with xs t x e) [
-    | inl q ↦ inl q
-    | inr q ↦ inr (subst (Among (t ∷ ts)) (sym q) (among-first t ts))
-  ]
-  | inr e ↦ inr (among-later x t ts e)
-]
-
--- a fact of all targets
-among-flat_map : (next : Standing → List Standing) (P : Standing → Type 0) (ys : List Standing) → ((y t : Standing) → Among (next y) t → P t)
-    → (t : Standing) → Among (flat_map next ys) t → P t
-among-flat_map next P [] f t h = absurd (false≢true h)
-among-flat_map next P (y ∷ ys) f t h = elim (among-append t (next y) (flat_map next ys) h) [
-  | inl e ↦ f y t e
-  | inr e ↦ among-flat_map next P ys f t e
-]
-
 -- locations
 
 ways-below : (net : PlainNet) (case : Case) (at : ℕ) → AllByRecursion (λ l. l < length net.routers + length net.peers) (ways net case at)
@@ -158,33 +128,6 @@ ways-below net case at =
     cond_both (holds case.origins at || is_router net at) some [] (AllByRecursion (λ l. l < n))
     (λ _. AllByRecursion-filter (λ l. l < n) (λ l. linked net at l && may_enter net case l) (in_order net) (numbers-below n))
     (λ _. tt)
-
-live-at : (left : List Expression) (l : ℕ) (x : Standing) → Among (live left l) x → x.at ≡ l
-live-at left l x h = elim (cases_Bool (is_dead (map (derivative l) left))) [
-  | inl t ↦ absurd (false≢true (subst (λ ys. Among ys x) (live-dead left l t) h))
-  | inr f ↦ elim (among-head x (moved left l) [] (subst (λ ys. Among ys x) (live-alive left l f) h)) [
-    | inl e ↦ ap (λ (y : Standing). y.at) e
-    | inr e ↦ absurd (false≢true e)
-  ]
-]
-
-each_live-below : (n : ℕ) (left : List Expression) (ls : List ℕ) → AllByRecursion (λ l. l < n) ls → (x : Standing) → Among (each_live left ls) x → x.at < n
-unfolding each_live
-each_live-below n left [] low x h = absurd (false≢true h)
-each_live-below n left (l ∷ ls) low x h = elim (among-append x (live left l) (flat_map (live left) ls) h) [
-  | inl e ↦ subst (λ k. k < n) (sym (live-at left l x e)) low.0
-  | inr e ↦ each_live-below n left ls low.1 x e
-]
-
-pub asked-within : (net : PlainNet) (case : Case) (starts xs : List Standing) (steps : List (ℕ × ℕ)) (k : ℕ) → AreWithin net starts
-    → AreAsked starts (next_in net case) xs steps k → AreWithin net xs
-unfolding AreWithin next_in
-asked-within net case starts xs steps k within a = λ x h.
-    elim (among-gathered starts (flat_map (next_in net case) (take k xs)) x (subst (λ l. Among l x) a.order h)) [
-      | inl e ↦ within x e
-      | inr e ↦ among-flat_map (next_in net case) (λ t. t.at < length net.routers + length net.peers) (take k xs)
-          (λ y t g. each_live-below (length net.routers + length net.peers) y.left (ways net case y.at) (ways-below net case y.at) t g) x e
-    ]
 
 -- a part of a standing's targets
 pub each_live-part : (left : List Expression) (n : ℕ) (ls : List ℕ) (t : Standing) → Among (each_live left (take n ls)) t → Among (each_live left ls) t
@@ -219,16 +162,10 @@ reached-key net case starts ss ks n at from m ls ys steps a key is grown =
     (slice_get-standings_in ss ks n (at, from) key)
     (λ t h. each_live-part (left_in ss from) m (ways net case at) t (subst (λ l. Among (each_live (left_in ss from) (take m l)) t) is h)))
 
-pub key-within : (net : PlainNet) (ss : List (List Expression)) (ks : List Key) (n at from : ℕ) → AreWithin net (standings_in ss ks) → slice_get ks n ≡ Some (at, from)
-    → at < length net.routers + length net.peers
-unfolding AreWithin
-key-within net ss ks n at from within key =
-    within (standing_in ss (at, from)) (among-slice_get (standings_in ss ks) n (standing_in ss (at, from)) (slice_get-standings_in ss ks n (at, from) key))
-
 -- the location of the standing that is asked has its ways
-pub ways_here : {V : Type 0} (net : PlainNet) (case : Case) (items : V → List ℕ) (all : List V) (ss : List (List Expression)) (ks : List Key) (starts : List Standing) (steps : List (ℕ × ℕ))
-    (n at from : ℕ) (v d : V) → AreWithin net starts → AreAsked starts (next_in net case) (standings_in ss ks) steps n → slice_get ks n ≡ Some (at, from)
+pub ways_here : {V : Type 0} (net : PlainNet) (case : Case) (items : V → List ℕ) (all : List V) (n at : ℕ) (v d : V) → n ≡ length net.routers + length net.peers → at < n
     → map items all ≡ map (ways net case) (numbers_below (length net.routers + length net.peers)) → v ≡ get_or all at d → items v ≡ ways net case at
-ways_here net case items all ss ks starts steps n at from v d within asked key are is =
-    made-at items all (ways net case) (length net.routers + length net.peers) at v d are
-    (key-within net ss ks n at from (asked-within net case starts (standings_in ss ks) steps n within asked) key) is
+ways_here net case items all n at v d size low are is = made-at items all (ways net case) (length net.routers + length net.peers) at v d are (omega (arith, size, low)) is
+
+pub ways_below : (net : PlainNet) (case : Case) (n at : ℕ) (ls : List ℕ) → n ≡ length net.routers + length net.peers → ls ≡ ways net case at → AllByRecursion (λ l. l < n) ls
+ways_below net case n at ls size is = subst (AllByRecursion (λ l. l < n)) (sym is) (subst (λ m. AllByRecursion (λ l. l < m) (ways net case at)) (sym size) (ways-below net case at))

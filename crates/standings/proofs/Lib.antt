@@ -3,6 +3,7 @@ pub mod Below
 pub mod Building
 pub mod Gathering
 pub mod LinkLemmas
+pub mod Lookups
 pub mod Numbering
 pub mod OneGraph
 pub mod SameStandings

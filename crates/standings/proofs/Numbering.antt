@@ -1,22 +1,23 @@
 -- Standings and the keys that stand for them.
-use Rattle.std.proofs.Common.{◌≡◌, ℕ, zero, suc, ◌<◌, ◌≤◌, Bool, true, false, List, [], ◌∷◌, ◌++◌, map, length, All, Some, ◌⊎◌, inl, inr, refl, sym, ap, subst, ◌∙◌, arith, append_assoc, length-append}
-use Rattle.std.specs.Prelude.{◌&&◌, ◌||◌, ◌==◌, slice_get, option_map, unwrap_or}
+use Rattle.std.proofs.Common.{◌≡◌, ℕ, zero, suc, ◌<◌, ◌≤◌, true, false, List, [], ◌∷◌, ◌++◌, map, length, All, Some, ◌⊎◌, inl, inr, refl, sym, ap, subst, ◌∙◌, arith, append_assoc, length-append}
+use Rattle.std.specs.Prelude.{◌||◌, ◌==◌, slice_get, option_map, unwrap_or}
 use Rattle.std.specs.List.{list_any, AllByRecursion, IsDistinct}
-use Rattle.std.proofs.lemmas.Bool.{and_parts, and_from, eqb-true, eq-eqb, cases_Bool, cond-true, cond-false, cond_both, false≢true}
+use Rattle.std.proofs.lemmas.Bool.{and_from, eq-eqb, cases_Bool, cond-true, cond-false, cond_both, false≢true}
 use Rattle.std.proofs.lemmas.List.{map-append, length-map}
 use Rattle.std.proofs.lemmas.List.Elements.{All-tail, All-push}
 use Rattle.std.proofs.lemmas.Map.Keys.{IsDistinct-head, IsDistinct-tail, IsDistinct-cons}
 use Rattle.std.proofs.lemmas.Option.{same_Some, slice_get-get_or, slice_get-map, slice_get_within, get_or_from_slice_get, unwrap_or-slice_get}
 use Rattle.list_laws.proofs.Truth.{same_tests}
 use Rattle.list_laws.proofs.Items.{slice_get-append_left}
-use Rattle.indexmap.specs.IndexSet.{insert_key}
 use Rattle.path_exprs.specs.Expression.{Expression}
 use Rattle.path_exprs.specs.Derivative.{derivative}
 use Rattle.path_automata.specs.States.{AreApart, Extends}
 use Rattle.standings.specs.Built.{place_in}
 use Rattle.path_exprs.specs.Standings.{Standing, moved, same_standing}
 use Rattle.standings.specs.Growth.{left_in, standing_in, standings_in, with_standing}
+use Rattle.standings.specs.Table.{Key, same_key, with_key}
 use Rattle.standings.proofs.Gathering.{with-cases}
+use Rattle.standings.proofs.Lookups.{same_key-equal}
 use Rattle.standings.proofs.SameStandings.{same-equal, equal-same}
 
 -- states by their numbers
@@ -32,22 +33,11 @@ slice_get-left_in ss n lt = slice_get-get_or ss n [] lt ∙ ap Some (sym (unwrap
 pub left_in-extends : (old new : List (List Expression)) (n : ℕ) → Extends old new → n < length old → left_in new n ≡ left_in old n
 left_in-extends old new n e lt = left_in-is new n (left_in old n) (ap (λ ss. slice_get ss n) e.1 ∙ slice_get-append_left old e.0 n lt ∙ slice_get-left_in old n lt)
 
--- keys, each a location and a state
-
-abbrev pub Key : Type 0
-Key = ℕ × ℕ
-
-abbrev pub same_key : Key → Key → Bool
-same_key a b = a.0 == b.0 && a.1 == b.1
+-- keys
 
 -- the states of these keys were found
 abbrev pub AreKnown : List (List Expression) → List Key → Type 0
 AreKnown ss ks = All (λ (k : Key). k.1 < length ss) ks
-
-same_key-equal : (a b : Key) → same_key a b ≡ true → a ≡ b
-same_key-equal a b h =
-    let parts = and_parts (a.0 == b.0) (a.1 == b.1) h in
-    λ i. (eqb-true a.0 b.0 parts.0 i, eqb-true a.1 b.1 parts.1 i)
 
 -- keys stand for different standings
 pub same_standing-keys : (ss : List (List Expression)) (a b : Key) → AreApart ss → a.1 < length ss → b.1 < length ss
@@ -92,10 +82,10 @@ list_any-keys ss k (j ∷ js) apart lk known =
     λ i. head i || rest i
 
 -- a key is put in where its standing is
-pub standings_in-insert_key : (ss : List (List Expression)) (ks new : List Key) (k : Key) → AreApart ss → k.1 < length ss → AreKnown ss ks
-    → new ≡ insert_key same_key ks k → standings_in ss new ≡ with_standing (standings_in ss ks) (standing_in ss k)
+pub standings_in-with_key : (ss : List (List Expression)) (ks new : List Key) (k : Key) → AreApart ss → k.1 < length ss → AreKnown ss ks
+    → new ≡ with_key ks k → standings_in ss new ≡ with_standing (standings_in ss ks) (standing_in ss k)
 unfolding standings_in with_standing
-standings_in-insert_key ss ks new k apart lk known e = ap (map (standing_in ss)) e ∙ elim (cases_Bool (list_any (same_key k) ks)) [
+standings_in-with_key ss ks new k apart lk known e = ap (map (standing_in ss)) e ∙ elim (cases_Bool (list_any (same_key k) ks)) [
   | inl t ↦ ap (map (standing_in ss)) (cond-true _ _ _ t) ∙ sym (cond-true _ _ _ (alike ∙ t))
   | inr f ↦ ap (map (standing_in ss)) (cond-false _ _ _ f) ∙ map-append (standing_in ss) ks (k ∷ []) ∙ sym (cond-false _ _ _ (alike ∙ f))
 ]
@@ -157,14 +147,13 @@ place-at (y ∷ ys) (suc n) x d h =
     unlike (z ∷ zs) (suc n) a h = unlike zs n a.1 h
 
 -- the place of the standing of a key is the key's
-pub place-key : (ss : List (List Expression)) (ks : List Key) (n : ℕ) (k j : Key) → AreApart ss → AreKnown ss ks → IsDistinct same_key ks
-    → slice_get ks n ≡ Some j → same_key k j ≡ true → place_in (standings_in ss ks) (standing_in ss k) ≡ n
-place-key ss ks n k j apart known d h e =
-    place-at (standings_in ss ks) n (standing_in ss k) (standings_in-distinct ss ks apart known d)
-    (slice_get-standings_in ss ks n j h ∙ ap (λ l. Some (standing_in ss l)) (sym (same_key-equal k j e)))
+pub place-key : (ss : List (List Expression)) (ks : List Key) (n : ℕ) (k : Key) → AreApart ss → AreKnown ss ks → IsDistinct same_key ks → slice_get ks n ≡ Some k
+    → place_in (standings_in ss ks) (standing_in ss k) ≡ n
+place-key ss ks n k apart known d h =
+    place-at (standings_in ss ks) n (standing_in ss k) (standings_in-distinct ss ks apart known d) (slice_get-standings_in ss ks n k h)
 
-pub known-insert_key : (ss : List (List Expression)) (ks new : List Key) (k : Key) → k.1 < length ss → AreKnown ss ks → new ≡ insert_key same_key ks k → AreKnown ss new
-known-insert_key ss ks new k lk known e =
+pub known-with_key : (ss : List (List Expression)) (ks new : List Key) (k : Key) → k.1 < length ss → AreKnown ss ks → new ≡ with_key ks k → AreKnown ss new
+known-with_key ss ks new k lk known e =
     subst (AreKnown ss) (sym e)
     (cond_both (list_any (same_key k) ks) ks (ks ++ k ∷ []) (AreKnown ss) (λ _. known) (λ _. All-push (λ (k : Key). k.1 < length ss) ks k known lk))
 
@@ -184,7 +173,6 @@ standing-after ss new at state from h =
     let left = left_in-is new state (map (derivative at) (left_in ss from)) h in
     λ i. record { at = at; left = left i }
 
-pub known-at : (ss : List (List Expression)) (ks : List Key) (n : ℕ) (k : Key) → AreKnown ss ks → slice_get ks n ≡ Some k → k.1 < length ss
-known-at ss ks n k known h =
-    let here = known n k (slice_get_within ks n k h) in
-    subst (λ (j : Key). j.1 < length ss) (get_or_from_slice_get ks n k k h) here
+-- what holds of all keys holds of each
+pub key-at : (P : Key → Type 0) (ks : List Key) (n : ℕ) (k : Key) → All P ks → slice_get ks n ≡ Some k → P k
+key-at P ks n k all h = subst P (get_or_from_slice_get ks n k k h) (all n k (slice_get_within ks n k h))

@@ -1,17 +1,15 @@
 -- The starts: the origins in order of location.
-use Rattle.std.proofs.Common.{◌≡◌, ℕ, zero, suc, ◌+◌, ◌<◌, ◌≤◌, Bool, true, false, List, [], ◌∷◌, ◌++◌, map, length, inl, inr, sym, ap, subst, ◌∙◌, add-one, length-append, arith}
+use Rattle.std.proofs.Common.{◌≡◌, ℕ, zero, suc, ◌+◌, ◌<◌, ◌≤◌, Bool, true, false, List, [], ◌∷◌, ◌++◌, map, length, inl, inr, refl, sym, ap, subst, ◌∙◌, add-one, length-append, arith}
 use Rattle.std.specs.Prelude.{filter}
-use Rattle.std.specs.List.{IsDistinct}
 use Rattle.std.proofs.lemmas.Bool.{cases_Bool, false≢true}
 use Rattle.std.proofs.lemmas.List.{map-append}
-use Rattle.net_base.specs.Network.{PlainNet}
 use Rattle.path_exprs.specs.Expression.{Expression}
-use Rattle.path_exprs.specs.Standings.{Standing, moved, same_standing}
+use Rattle.path_exprs.specs.Standings.{Standing, moved}
 use Rattle.net_base.specs.Locations.{numbers_below}
 use Rattle.net_base.proofs.NumbersBelow.{filter_kept, filter_left}
-use Rattle.standings.specs.Growth.{AreWithin, gathered, with_standing}
+use Rattle.standings.specs.Growth.{gathered, with_standing}
 use Rattle.standings.proofs.SameStandings.{Among, among-head}
-use Rattle.standings.proofs.Gathering.{among-append, gathered-append, gathered-distinct, with-cases}
+use Rattle.standings.proofs.Gathering.{among-append, gathered-append, with-cases}
 use Rattle.standings.proofs.Stepping.{gathered-nil, gathered-one}
 
 -- the standings of the locations below n that pass a test
@@ -73,14 +71,6 @@ gathered-starts es p (suc n) = elim (cases_Bool (p n)) [
 pub starts-all : (es : List Expression) (p : ℕ → Bool) (n k : ℕ) (before xs : List Standing) → before ≡ [] → xs ≡ gathered before (starts_below es p k) → k ≡ n → xs ≡ starts_below es p n
 starts-all es p n k before xs none added all = added ∙ ap (λ l. gathered l (starts_below es p k)) none ∙ gathered-starts es p k ∙ ap (starts_below es p) all
 
-pub starts-within : (net : PlainNet) (es : List Expression) (p : ℕ → Bool) → AreWithin net (starts_below es p (length net.routers + length net.peers))
-unfolding AreWithin
-starts-within net es p = λ x h. (starts_below-at es p (length net.routers + length net.peers) x h).0
-
-pub starts-different : (es : List Expression) (p : ℕ → Bool) (n : ℕ) → IsDistinct same_standing (starts_below es p n)
-unfolding IsDistinct
-starts-different es p n = subst (IsDistinct same_standing) (gathered-starts es p n) (gathered-distinct [] (starts_below es p n) tt)
-
 pub length-starts_below : (es : List Expression) (p : ℕ → Bool) (n : ℕ) → length (starts_below es p n) ≤ n
 length-starts_below es p zero = omega arith
 length-starts_below es p (suc n) = elim (cases_Bool (p n)) [
@@ -93,3 +83,9 @@ length-starts_below es p (suc n) = elim (cases_Bool (p n)) [
       let rest = length-starts_below es p n in
       omega (arith, same)
 ]
+
+-- there are no more of them than locations
+pub starts-few : (es : List Expression) (p : ℕ → Bool) (k : ℕ) (before xs : List Standing) → before ≡ [] → xs ≡ gathered before (starts_below es p k) → length xs ≤ k
+starts-few es p k before xs none added =
+    let size = ap length (starts-all es p k k before xs none added refl) in
+    omega (arith, size, length-starts_below es p k)

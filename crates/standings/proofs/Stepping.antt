@@ -11,8 +11,9 @@ use Rattle.path_automata.specs.States.{Extends}
 use Rattle.standings.specs.Built.{place_in}
 use Rattle.path_exprs.specs.Standings.{Standing, is_dead, moved}
 use Rattle.standings.specs.Growth.{each_live, gathered, left_in, live, standing_in, standings_in, steps_to, with_standing}
+use Rattle.standings.specs.Table.{Key}
 use Rattle.standings.proofs.SameStandings.{Among, among-first, among-later}
-use Rattle.standings.proofs.Numbering.{Key, AreKnown, standing-after, standings_in-extends}
+use Rattle.standings.proofs.Numbering.{AreKnown, standing-after, standings_in-extends}
 use Rattle.standings.proofs.Gathering.{gathered-append, gathered-among, gathered-extends, place-kept}
 
 pub live-dead : (left : List Expression) (l : ℕ) → is_dead (map (derivative l) left) ≡ true → live left l ≡ []

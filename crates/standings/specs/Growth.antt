@@ -1,5 +1,5 @@
 -- How the standings are gathered, one location after another.
-use Rattle.std.specs.Prelude.{◌≡◌, ℕ, ◌+◌, ◌<◌, Bool, not, ◌&&◌, ◌||◌, ◌==◌, IsTrue, List, [], ◌∷◌, ◌++◌, length, map, filter, take, unwrap_or, slice_get, if◌then◌else◌}
+use Rattle.std.specs.Prelude.{◌≡◌, ℕ, ◌+◌, Bool, not, ◌&&◌, ◌||◌, ◌==◌, List, [], ◌∷◌, ◌++◌, length, map, filter, take, unwrap_or, slice_get, if◌then◌else◌}
 use Rattle.std.specs.List.{list_any, flat_map}
 use Rattle.net_base.specs.Network.{PlainNet, is_router, linked}
 use Rattle.net_base.specs.Sets.{holds}
@@ -71,14 +71,14 @@ standings_in ss ks = map (standing_in ss) ks
 
 -- the standings that were found, in the order of their numbers
 abbrev pub standings_of : Reached → List Standing
-standings_of r = standings_in (states_of r.automata) r.found.keys
+standings_of r = standings_in (states_of r.automata) r.found.keys.items
+
+-- they are at locations of the network
+abbrev pub IsOver : PlainNet → Reached → Type 0
+IsOver net r = r.found.locations ≡ length net.routers + length net.peers
 
 -- The first k of these standings, which walks reach, were asked where walks go on from them.
 pub record AreAsked (starts : List Standing) (next : Standing → List Standing) (xs : List Standing) (steps : List (ℕ × ℕ)) (k : ℕ) : Type 0 where
   pub reached : AreReached starts next xs
   pub order : xs ≡ gathered starts (flat_map next (take k xs))
   pub numbered : steps ≡ steps_over next xs 0 (take k xs)
-
--- the standings are at locations of the network
-unfoldable pub AreWithin : PlainNet → List Standing → Type 0
-AreWithin net xs = (x : Standing) → IsTrue (list_any (same_standing x) xs) → x.at < length net.routers + length net.peers

@@ -3,6 +3,7 @@
 
 mod case_graph;
 mod fault;
+mod found;
 mod laws;
 mod neighbours;
 mod reached;

@@ -24,7 +24,8 @@ fn may_enter(net: &Net, case: &Case, at: Loc) -> bool
 fn sends_on(net: &Net, case: &Case, at: Loc) -> bool
     ensures { result ≡ is_sending net.now case.now at }
 {
-    case.origins.holds(at) || net.is_router(at)
+    // Most are routers, and these are told by their number alone.
+    net.is_router(at) || case.origins.holds(at)
 }
 
 /// Whether walks go on from one location and may enter another.

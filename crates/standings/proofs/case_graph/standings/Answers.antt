@@ -1,63 +1,39 @@
-use Rattle.std.proofs.Common.{◌<◌, List, length, sym, ap, subst, ◌∙◌, arith, rules}
+use Rattle.std.proofs.Common.{ℕ, List, length, sym, ap, subst, ◌∙◌, arith, rules}
+use Rattle.std.specs.Prelude.{slice_get}
 use Rattle.path_automata.specs.States.{Extends, states_of}
+use Rattle.graph_base.specs.declared.graph.Node.{Node}
 use Rattle.graph_base.specs.Graphs.{IsGraph, PlainGraph}
-use Rattle.path_exprs.specs.Standings.{AreReached, Standing, plan_of}
-use Rattle.standings.specs.Growth.{next_in, standings_of}
-use Rattle.standings.proofs.Numbering.{extends-further}
-use Rattle.standings.proofs.Building.{all-asked, begun-starts, graph-inside, graph-made, length-nodes, reached-all}
+use Rattle.path_exprs.specs.Standings.{plan_of}
+use Rattle.standings.specs.Built.{IsBuilt}
 use Rattle.standings.proofs.case_graph.standings.Goals as goal
 
-pub returns-in_err-walk-clause-many : goal.returns-in_err-walk-clause-many
-returns-in_err-walk-clause-many c = λ es h fault.
-    let net = c.args.net.now in
-    let from = c.args.from.now in
-    let case = c.args.case.now in
-    let first = standings_of c.add_starts.new.self in
-    let begun = begun-starts net es from case first (states_of c.new-reached.result.automata) _ c.in_ok-add_starts.ensures.ok c.new-reached.ensures.automata h in
-    let passed : (xs : List Standing) × AreReached first (next_in net case) xs × (4096 < length xs) = search rules in
-    (passed.0, reached-all net es from case first passed.0 begun passed.1, passed.2)
+abbrev graph_of : List Node → List ℕ → List (ℕ × ℕ) → PlainGraph
+graph_of nodes starts steps = record { nodes = nodes; starts = starts; steps = steps }
+
+pub gather-requires-clause-begun : goal.gather-requires-clause-begun
+gather-requires-clause-begun c = (c.requires.begun.0, ap (λ ss. slice_get ss 0) c.new-reached.ensures.automata ∙ c.requires.begun.1)
+
+pub returns-in_err-nodes-clause-many : goal.returns-in_err-nodes-clause-many
+returns-in_err-nodes-clause-many c = λ es h fault.
+    let many = c.gather.ensures.many es (ap (λ ss. slice_get ss 0) c.new-reached.ensures.automata ∙ h) in
+    search rules
 
 pub new-requires : goal.new-requires
 new-requires c =
-    let es = c.requires.begun.0 in
-    let h = c.requires.begun.1 in
-    let net = c.args.net.now in
-    let from = c.args.from.now in
-    let case = c.args.case.now in
-    let first = standings_of c.add_starts.new.self in
-    let xs = standings_of c.walk.new.self in
-    let begun = begun-starts net es from case first (states_of c.new-reached.result.automata) _ c.in_ok-add_starts.ensures.ok c.new-reached.ensures.automata h in
-    let all = all-asked net es from case first xs c.walk.new.self.steps.items begun c.in_ok-walk.ensures.ok in
-    subst IsGraph
-    (sym (graph-made net (plan_of es from case) first xs c.in_ok-nodes.nodes c.in_ok-starts.starts c.walk.new.self.steps.items c.into_parts-steps.result.0 c.len.result
-    all begun (c.in_ok-nodes.ensures es) c.in_ok-starts.ensures c.len.ensures c.into_parts-steps.ensures.steps))
-    (graph-inside net (plan_of es from case) xs c.walk.new.self.steps.items all c.in_ok-walk.ensures.few)
+    subst (λ l. IsGraph (graph_of c.in_ok-nodes.nodes c.in_ok-nodes.starts l)) (sym c.into_parts-steps.ensures.steps) c.in_ok-nodes.ensures.graph
 
 pub returns-clause-built : goal.returns-clause-built
 returns-clause-built c = λ es h.
-    let net = c.args.net.now in
-    let from = c.args.from.now in
-    let case = c.args.case.now in
-    let first = standings_of c.add_starts.new.self in
-    let xs = standings_of c.walk.new.self in
-    let begun = begun-starts net es from case first (states_of c.new-reached.result.automata) _ c.in_ok-add_starts.ensures.ok c.new-reached.ensures.automata h in
-    let all = all-asked net es from case first xs c.walk.new.self.steps.items begun c.in_ok-walk.ensures.ok in (
-      xs,
-      all.standings,
-      c.new.ensures
-          ∙ graph-made net (plan_of es from case) first xs c.in_ok-nodes.nodes c.in_ok-starts.starts c.walk.new.self.steps.items c.into_parts-steps.result.0 c.len.result
-          all begun (c.in_ok-nodes.ensures es) c.in_ok-starts.ensures c.len.ensures c.into_parts-steps.ensures.steps,
-    )
+    subst (IsBuilt c.args.net.now (plan_of es c.args.from.now c.args.case.now))
+    (sym (c.new.ensures ∙ ap (graph_of c.in_ok-nodes.nodes c.in_ok-nodes.starts) c.into_parts-steps.ensures.steps))
+    (c.in_ok-nodes.ensures.built es (ap (λ ss. slice_get ss 0) c.new-reached.ensures.automata ∙ h))
 
 pub returns-clause-few : goal.returns-clause-few
 returns-clause-few c =
-    let plan = plan_of c.requires.begun.0 c.args.from.now c.args.case.now in
-    let same = ap (λ (g : PlainGraph). length g.nodes) c.new.ensures ∙ ap length (c.in_ok-nodes.ensures c.requires.begun.0) ∙ length-nodes c.args.net.now plan (standings_of c.walk.new.self) in
-    omega (arith, same, c.in_ok-walk.ensures.few)
+    let same = ap (λ (g : PlainGraph). length g.nodes) c.new.ensures in
+    omega (arith, same, c.in_ok-nodes.ensures.few)
 
 pub returns-clause-kept : goal.returns-clause-kept
 returns-clause-kept c =
-    let given = states_of c.args.automata in
-    let same = subst (λ ss. Extends ss (states_of c.add_starts.new.self.automata)) c.new-reached.ensures.automata c.in_ok-add_starts.ensures.kept in
-    subst (Extends given) (sym c.into_parts-steps.ensures.automata)
-    (extends-further given (states_of c.add_starts.new.self.automata) (states_of c.walk.new.self.automata) same c.in_ok-walk.ensures.kept)
+    subst (Extends (states_of c.args.automata)) (sym c.into_parts-steps.ensures.automata)
+    (subst (λ ss. Extends ss (states_of c.gather.new.reached.automata)) c.new-reached.ensures.automata c.in_ok-nodes.ensures.kept)

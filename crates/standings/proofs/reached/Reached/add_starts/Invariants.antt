@@ -10,4 +10,5 @@ invariant-loop-number l = record {
   added : standings_of l.self ≡ gathered (standings_of l.initial.self) (starts_below (left_in (states_of l.initial.self.automata) 0) (holds l.case.origins) l.number);
   steps : l.self.steps ≡ l.initial.self.steps;
   kept : Extends (states_of l.initial.self.automata) (states_of l.self.automata);
+  locations : l.self.found.locations ≡ l.initial.self.found.locations;
 }

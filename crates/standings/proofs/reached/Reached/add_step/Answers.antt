@@ -9,8 +9,8 @@ use Rattle.standings.proofs.reached.Reached.add_step.Goals as goal
 
 pub number_of-requires-clause-few : goal.number_of-requires-clause-few
 number_of-requires-clause-few c =
-    let e = length-standings_in (states_of c.args.self.now.automata) c.args.self.now.found.keys in
-    let f = length-standings_in (states_of c.step.new.self) c.args.self.now.found.keys in
+    let e = length-standings_in (states_of c.args.self.now.automata) c.args.self.now.found.keys.items in
+    let f = length-standings_in (states_of c.step.new.self) c.args.self.now.found.keys.items in
     omega (arith, c.requires.few)
 
 pub returns-then-is_dead-clause-ok : goal.returns-then-is_dead-clause-ok
@@ -19,8 +19,8 @@ returns-then-is_dead-clause-ok c =
     let left = left_in ss c.args.from in
     let state = c.in_ok-state.ensures.ok left (slice_get-left_in ss c.args.from c.requires.known) in
     let dead = sym (c.is_dead.ensures (map (derivative c.args.at) left) state) ∙ c.if-is_dead.true in
-    standings_in-extends ss (states_of c.step.new.self) c.args.self.now.found.keys c.in_ok-state.ensures.extends c.args.self.now.known
-    ∙ sym (gathered-dead (standings_in ss c.args.self.now.found.keys) left c.args.at dead)
+    standings_in-extends ss (states_of c.step.new.self) c.args.self.now.found.keys.items c.in_ok-state.ensures.extends c.args.self.now.known
+    ∙ sym (gathered-dead (standings_in ss c.args.self.now.found.keys.items) left c.args.at dead)
 
 pub returns-then-is_dead-clause-steps : goal.returns-then-is_dead-clause-steps
 returns-then-is_dead-clause-steps c =
@@ -29,12 +29,12 @@ returns-then-is_dead-clause-steps c =
     let state = c.in_ok-state.ensures.ok left (slice_get-left_in ss c.args.from c.requires.known) in
     let dead = sym (c.is_dead.ensures (map (derivative c.args.at) left) state) ∙ c.if-is_dead.true in
     sym (append-nil c.args.self.now.steps.items)
-    ∙ ap (λ l. c.args.self.now.steps.items ++ l) (sym (stepped-dead (standings_in (states_of c.step.new.self) c.args.self.now.found.keys) left c.args.at c.args.number dead))
+    ∙ ap (λ l. c.args.self.now.steps.items ++ l) (sym (stepped-dead (standings_in (states_of c.step.new.self) c.args.self.now.found.keys.items) left c.args.at c.args.number dead))
 
 pub returns-then-is_dead-clause-few : goal.returns-then-is_dead-clause-few
 returns-then-is_dead-clause-few c =
-    let e = length-standings_in (states_of c.args.self.now.automata) c.args.self.now.found.keys in
-    let f = length-standings_in (states_of c.step.new.self) c.args.self.now.found.keys in
+    let e = length-standings_in (states_of c.args.self.now.automata) c.args.self.now.found.keys.items in
+    let f = length-standings_in (states_of c.step.new.self) c.args.self.now.found.keys.items in
     omega (arith, c.requires.few)
 
 pub returns-in_err-target-clause-many : goal.returns-in_err-target-clause-many
@@ -43,7 +43,7 @@ returns-in_err-target-clause-many c = λ fault.
     let left = left_in ss c.args.from in
     let state = c.in_ok-state.ensures.ok left (slice_get-left_in ss c.args.from c.requires.known) in
     let alive = sym (c.is_dead.ensures (map (derivative c.args.at) left) state) ∙ c.if-is_dead.false in
-    let ks = c.args.self.now.found.keys in
+    let ks = c.args.self.now.found.keys.items in
     let new = states_of c.step.new.self in
     let grown = with_standing (standings_in new ks) (standing_in new (c.args.at, c.in_ok-state.state)) in
     let many : 4096 < length grown = search rules in
@@ -55,7 +55,7 @@ returns-clause-ok c =
     let left = left_in ss c.args.from in
     let state = c.in_ok-state.ensures.ok left (slice_get-left_in ss c.args.from c.requires.known) in
     let alive = sym (c.is_dead.ensures (map (derivative c.args.at) left) state) ∙ c.if-is_dead.false in
-    added-alive ss (states_of c.step.new.self) c.args.self.now.found.keys c.args.at c.in_ok-state.state c.args.from _
+    added-alive ss (states_of c.step.new.self) c.args.self.now.found.keys.items c.args.at c.in_ok-state.state c.args.from _
     c.in_ok-state.ensures.extends c.args.self.now.known state alive c.in_ok-target.ensures.ok
 
 pub returns-clause-steps : goal.returns-clause-steps

@@ -1,5 +1,7 @@
-use Rattle.std.proofs.Common.{◌≡◌, ◌<◌, ◌++◌, ◌+◌, refl, sym, ap, subst, ◌∙◌, length, take, rules}
+use Rattle.std.proofs.Common.{◌≡◌, ◌<◌, ◌++◌, ◌+◌, refl, sym, ap, subst, ◌∙◌, length, take, rules, arith}
 use Rattle.std.proofs.lemmas.List.{append-nil, get_or_default}
+use Rattle.std.proofs.lemmas.Option.{slice_get_read}
+use Rattle.list_laws.proofs.Each.{AllByRecursion_at}
 use Rattle.path_automata.specs.States.{states_of}
 use Rattle.path_automata.proofs.StateLemmas.{extends-itself}
 use Rattle.standings.specs.Growth.{each_live, gathered, left_in, live, standings_of, steps_to}
@@ -17,7 +19,18 @@ loop-next-init c =
       steps = sym (append-nil steps) ∙ ap (λ l. steps ++ l) (sym (steps_to-nil xs c.args.number) ∙ ap (steps_to xs c.args.number) (sym nothing));
       few = c.requires.few;
       kept = extends-itself (states_of c.args.self.now.automata);
+      locations = refl;
     }
+
+pub add_step-requires-clause-within : goal.add_step-requires-clause-within
+add_step-requires-clause-within c =
+    let ways = c.args.ways.now in
+    let n = c.args.self.now.found.locations in
+    let next = c.new.result in
+    let here = c.new.ensures ∙ get_or_default ways c.loop-next.next-index 0 next c.loop-next-test.true in
+    let low : next < n = AllByRecursion_at (λ at. at < n) ways c.loop-next.next-index next c.requires.within
+    (slice_get_read ways (length ways) c.loop-next.next-index next refl c.loop-next-test.true here) in
+    omega (arith, low, c.loop-next.invariant.locations)
 
 pub loop-next-preserved : goal.loop-next-preserved
 loop-next-preserved c =
@@ -41,6 +54,7 @@ loop-next-preserved c =
           ∙ ap (λ ts. c.args.self.now.steps.items ++ steps_to new c.args.number ts) (sym more);
       few = c.in_ok-add_step.ensures.few;
       kept = extends-further first (states_of c.loop-next.self.automata) (states_of c.add_step.new.self.automata) c.loop-next.invariant.kept c.add_step.ensures.kept;
+      locations = c.add_step.ensures.locations ∙ c.loop-next.invariant.locations;
     }
 
 pub returns-in_err-add_step-clause-many : goal.returns-in_err-add_step-clause-many

@@ -10,4 +10,5 @@ invariant-loop-next l = record {
       ≡ l.initial.self.steps.items ++ steps_to (standings_of l.self) l.number (each_live (left_in (states_of l.initial.self.automata) l.from) (take l.next-index l.ways));
   few : length (standings_of l.self) ≤ 4096;
   kept : Extends (states_of l.initial.self.automata) (states_of l.self.automata);
+  locations : l.self.found.locations ≡ l.initial.self.found.locations;
 }

@@ -5,4 +5,4 @@ use Rattle.standings.proofs.Numbering.{standings_in-nil}
 use Rattle.standings.proofs.reached.Reached.new.Goals as goal
 
 pub returns-clause-none : goal.returns-clause-none
-returns-clause-none c = ap (standings_in (states_of c.args.automata)) c.new.ensures.empty ∙ standings_in-nil (states_of c.args.automata)
+returns-clause-none c = ap (standings_in (states_of c.args.automata)) c.new.ensures.none ∙ standings_in-nil (states_of c.args.automata)

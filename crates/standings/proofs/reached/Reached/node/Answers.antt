@@ -10,5 +10,5 @@ pub returns : goal.returns
 returns c = λ es.
     let at = c.standing-at.result.0 in
     ap (option_map (node_of c.args.net.now (plan_of es c.args.from.now c.args.case.now)))
-    (slice_get-standings_in (states_of c.args.self.now.automata) c.args.self.now.found.keys c.args.number c.standing-at.result c.standing-at.ensures)
+    (slice_get-standings_in (states_of c.args.self.now.automata) c.args.self.now.found.keys.items c.args.number c.standing-at.result c.standing-at.ensures)
     ∙ sym (λ i. Some (record { loc = at; listener = c.is_listener.ensures i; rank = c.rank.ensures es i }))

@@ -15,7 +15,7 @@ loop-number-preserved c = λ es.
 
 pub returns : goal.returns
 returns c = λ es.
-    let size = length-standings_in (states_of c.args.self.now.automata) c.args.self.now.found.keys in
-    let all : length (standings_of c.args.self.now) ≤ c.loop-number.number = omega (arith, c.loop-number-test.false, c.len-number-end.ensures.len) in
+    let size = length-standings_in (states_of c.args.self.now.automata) c.args.self.now.found.keys.items in
+    let all : length (standings_of c.args.self.now) ≤ c.loop-number.number = omega (arith, c.loop-number-test.false, c.len-number-end.ensures) in
     c.from_vec.ensures ∙ c.loop-number.invariant es
     ∙ ap (map (node_of c.args.net.now (plan_of es c.args.from.now c.args.case.now))) (take_all c.loop-number.number (standings_of c.args.self.now) all)

@@ -1,7 +1,7 @@
 use Rattle.std.proofs.Common.{◌≤◌, ◌-◌, length}
 use Rattle.path_automata.specs.States.{Extends, states_of}
-use Rattle.standings.specs.Growth.{AreAsked, next_in, standings_of}
-use Rattle.standings.proofs.reached.Reached.walk_on.Given as goal
+use Rattle.standings.specs.Growth.{AreAsked, IsOver, next_in, standings_of}
+use Rattle.standings.proofs.reached.Reached.walk.Given as goal
 
 abbrev pub invariant-loop-number : goal.invariant-loop-number
 invariant-loop-number l = record {
@@ -9,6 +9,7 @@ invariant-loop-number l = record {
   few : length (standings_of l.self) ≤ 4096;
   within : l.number ≤ length (standings_of l.self);
   kept : Extends (states_of l.initial.self.automata) (states_of l.self.automata);
+  over : IsOver l.net l.self;
 }
 
 abbrev pub decreases-loop-number : goal.decreases-loop-number
