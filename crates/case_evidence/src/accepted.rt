@@ -16,7 +16,7 @@ use node_quotient::quotient;
 use policy_base::{CaseList, Policy};
 use pref_inference::infer;
 use relation_refute::refutation;
-use state_simulation::total_relation;
+use state_simulation::{Search, total_relation};
 use std::alloc::Global;
 
 /// A case that is accepted: its graph, in which nodes are one that nothing onward tells apart, how many steps that had
@@ -43,16 +43,21 @@ fn numbered(
     ensures sized { IfOk result (λ made. length made.prefs.of ≡ length made.graph.nodes) }
 {
     let claimed = ranked_routers(net, &given.graph);
-    let Some(relation) = total_relation(alloc, &given.graph, &claimed)? else {
-        let refutation = refutation(alloc, &given.graph, &claimed)?;
-        return Err(CompileRefusal::NoEvidence(number, given.graph, refutation));
-    };
-    let prefs = infer(alloc, net, &given.graph, &relation)?;
-    Ok(AcceptedCase {
-        graph: given.graph,
-        used: given.used,
-        prefs,
-    })
+    let search = total_relation(alloc, &given.graph, &claimed)?;
+    match search {
+        Search::Total(relation) => {
+            let prefs = infer(alloc, net, &given.graph, &relation)?;
+            Ok(AcceptedCase {
+                graph: given.graph,
+                used: given.used,
+                prefs,
+            })
+        }
+        Search::Partial(begun) => {
+            let refutation = refutation(alloc, begun, &claimed)?;
+            Err(CompileRefusal::NoEvidence(number, given.graph, refutation))
+        }
+    }
 }
 
 /// The case with this number, from 1, with numbers for the nodes of its graph, or why the case is refused.

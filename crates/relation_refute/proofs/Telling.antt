@@ -1,5 +1,5 @@
 -- What the cells tell, round by round.
-use Rattle.std.proofs.Common.{◌≡◌, ℕ, suc, ◌<◌, ◌≤◌, Bool, true, false, cond, not, ◌&&◌, ◌||◌, eqb, ltb, leb, List, length, arith, sym, ap, ◌∙◌, inl, inr}
+use Rattle.std.proofs.Common.{◌≡◌, ℕ, suc, ◌<◌, ◌≤◌, Bool, true, false, cond, not, ◌&&◌, ◌||◌, eqb, ltb, leb, List, arith, sym, ap, ◌∙◌, inl, inr}
 use Rattle.std.proofs.lemmas.Bool.{and_from, and_left, and_right, and_parts, both_ways, cases_Bool, cases_eq, cases_lt, cond-true, cond-false, eq-eqb, le-leb, le-ltb}
 use Rattle.std.proofs.lemmas.Bool.{leb-true, lt-ltb, ne_eqb, false_from_ne_true, or_cases, or_left, or_parts}
 use Rattle.std.proofs.Math.Bool.{not-not}
@@ -101,27 +101,34 @@ module _ (g : PlainGraph) (claimed : LocSet) (reach : ℕ → ℕ → Bool) wher
   left_is : (j : ℕ) (rows : PlainRows) → AreLeft V reach j rows → (m n : ℕ) → Pair V m n → has_at rows n m ≡ not (gone_after V reach j m n)
   left_is j rows are m n p = are m n p.left p.right ∙ ap (λ z. z && not (gone_after V reach j m n)) (pair_to V m n p)
 
-  pub marks_next : (k : ℕ) (left new_left : PlainRows) (old new : ℕ → ℕ → ℕ) (touched : List Bool) → Tells V reach k old → AreLeft V reach k left → AreLeft V reach (suc k) new_left →
-      ((n b : ℕ) → n < length g.nodes → b < length g.nodes → is_touched touched n ≡ false → has_at new_left n b ≡ has_at left n b) →
+  pub marks_next : (k : ℕ) (new_left : PlainRows) (old new : ℕ → ℕ → ℕ) (touched : List Bool) → Tells V reach k old → AreLeft V reach (suc k) new_left →
+      ((m n : ℕ) → Pair V m n → is_touched touched n ≡ false → gone_after V reach (suc k) m n ≡ gone_after V reach k m n) →
       ((m n : ℕ) → Pair (shown g) m n → new m n ≡ cond (is_touched touched n) (marked_round (old m n) (has_at new_left n m) (suc k)) (old m n)) →
       (m n : ℕ) → Pair V m n → new m n ≡ cond (eqb (old m n) 0 && gone_after V reach (suc k) m n) (suc k) (old m n)
-  marks_next k left new_left old new touched tells before after quiet marked m n p =
+  marks_next k new_left old new touched tells after quiet marked m n p =
       let pair : Pair (shown g) m n = record { left = p.left; right = p.right; place = p.place } in
       let noted : (x : ℕ) → marked_round x (has_at new_left n m) (suc k) ≡ cond (eqb x 0 && gone_after V reach (suc k) m n) (suc k) x = λ x.
       ap (λ z. cond (eqb x 0 && not z) (suc k) x) (left_is (suc k) new_left after m n p) ∙ ap (λ z. cond (eqb x 0 && z) (suc k) x) (not-not (gone_after V reach (suc k) m n)) in
       elim (cases_Bool (is_touched touched n)) [
         | inl e ↦ marked m n pair ∙ cond-true (is_touched touched n) _ _ e ∙ noted (old m n)
-        | inr e ↦ (
-            let same : not (gone_after V reach (suc k) m n) ≡ not (gone_after V reach k m n) = sym (left_is (suc k) new_left after m n p) ∙ quiet n m p.right p.left e ∙ left_is k left before m n p in
-            let went : gone_after V reach (suc k) m n ≡ gone_after V reach k m n = sym (not-not _) ∙ ap not same ∙ not-not _ in
-            marked m n pair ∙ cond-false (is_touched touched n) _ _ e ∙ elim (cases_eq (old m n) 0) [
-              | inl none ↦ (
-                  let still : gone_after V reach (suc k) m n ≡ false = went ∙ tells.gone m n k p (omega arith)
-                  ∙ and_left (ltb 0 (old m n)) (leb (old m n) k) (le-ltb 0 (old m n) (omega (arith, none))) in
-                  sym (cond-false (eqb (old m n) 0 && gone_after V reach (suc k) m n) (suc k) (old m n) (and_right _ _ still)))
-              | inr some ↦ sym (cond-false (eqb (old m n) 0 && gone_after V reach (suc k) m n) (suc k) (old m n) (and_left _ _ (ne_eqb (old m n) 0 some)))
-            ])
+        | inr e ↦ marked m n pair ∙ cond-false (is_touched touched n) _ _ e ∙ elim (cases_eq (old m n) 0) [
+          | inl none ↦ (
+              let still : gone_after V reach (suc k) m n ≡ false = quiet m n p e ∙ tells.gone m n k p (omega arith)
+              ∙ and_left (ltb 0 (old m n)) (leb (old m n) k) (le-ltb 0 (old m n) (omega (arith, none))) in
+              sym (cond-false (eqb (old m n) 0 && gone_after V reach (suc k) m n) (suc k) (old m n) (and_right _ _ still)))
+          | inr some ↦ sym (cond-false (eqb (old m n) 0 && gone_after V reach (suc k) m n) (suc k) (old m n) (and_left _ _ (ne_eqb (old m n) 0 some)))
+        ]
       ]
+
+  -- above a node whose row is as it was nothing goes
+  pub quiet_next : (k : ℕ) (left new_left : PlainRows) → AreLeft V reach k left → AreLeft V reach (suc k) new_left → (m n : ℕ) → Pair V m n → has_at new_left n m ≡ has_at left n m
+      → gone_after V reach (suc k) m n ≡ gone_after V reach k m n
+  quiet_next k left new_left before after m n p same =
+      sym (not-not _) ∙ ap not (sym (left_is (suc k) new_left after m n p) ∙ same ∙ left_is k left before m n p) ∙ not-not _
+
+  -- nor in the first round above one whose row has all nodes at its location
+  pub quiet_first : (left : PlainRows) → AreLeft V reach 1 left → (m n : ℕ) → Pair V m n → has_at left n m ≡ true → gone_after V reach 1 m n ≡ gone_after V reach 0 m n
+  quiet_first left are m n p has = sym (not-not _) ∙ ap not (sym (left_is 1 left are m n p) ∙ has)
 
   pub bound_gone : (k : ℕ) (left : PlainRows) → AreLeft V reach k left → AreBound g left → (m n : ℕ) → Pair V m n → gone_after V reach k m n ≡ true → gone_after V reach k n m ≡ true → ⊥
   bound_gone k left are bound m n p one other =
@@ -154,16 +161,16 @@ pub record HasCome (g : PlainGraph) (claimed : LocSet) (onwards : PlainRows) (la
   pub bound : is_open ≡ false → AreBound g s.left
   pub stopped : is_open ≡ true → HasStopped (view_of g claimed) (has_at onwards) last
 
-pub open_stops : (g : PlainGraph) (claimed : LocSet) (reach : ℕ → ℕ → Bool) (k last : ℕ) (old left next : PlainRows) (touched : ℕ → Bool)
-    → last ≡ suc k → AreLeft (view_of g claimed) reach k old → AreBound g old →
+pub open_stops : (g : PlainGraph) (claimed : LocSet) (reach : ℕ → ℕ → Bool) (k last : ℕ) (left next : PlainRows) (touched : ℕ → Bool) → last ≡ suc k
+    → ((m n : ℕ) → Pair (view_of g claimed) m n → gone_after (view_of g claimed) reach k m n ≡ true → gone_after (view_of g claimed) reach k n m ≡ true → ⊥) →
     AtRound (view_of g claimed) reach last left next touched → (m n : ℕ) → IsOpen g left m n → HasStopped (view_of g claimed) reach last
-open_stops g claimed reach k last old left next touched is before bound at m n are =
+open_stops g claimed reach k last left next touched is before at m n are =
     let pair : Pair (view_of g claimed) m n = record { left = are.one; right = are.other; place = are.place } in
     let back : Pair (view_of g claimed) n m = record { left = are.other; right = are.one; place = sym are.place } in
     let clear = or_parts (has_at left n m) (has_at left m n) are.neither in (
       k,
       is,
-      bound_gone g claimed reach k old before bound,
+      before,
       (
         m,
         n,

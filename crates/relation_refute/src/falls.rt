@@ -4,6 +4,7 @@ ghost use Rattle.relation_law.specs.Relations.{IsClosed, IsTotal, Pair};
 ghost use Rattle.relation_law.specs.Views.{view_of};
 ghost use Rattle.relation_refute.specs.Cells.{AreCells, IsFallen, went};
 ghost use Rattle.state_simulation.specs.Looked.{shown};
+ghost use Rattle.state_simulation.specs.Stages.{AreFirst};
 
 use crate::cells::Cells;
 use bit_rows::Rows;
@@ -21,16 +22,23 @@ pub struct Fallen {
 }
 
 impl Fallen {
-    /// The rounds of a graph of which no relation that keeps the rules has a direction of each two nodes at one location.
-    pub fn new(alloc: Global, maps: &Maps, claimed: &LocSet) -> Result<Fallen, NoMemory>
-        requires { (s : ℕ → ℕ → Bool) → IsClosed (view_of maps.now.graph.now claimed.now) s → ¬ IsTotal (view_of maps.now.graph.now claimed.now) s }
+    /// The rounds, from behind the first one on, of a graph of which no relation that keeps the rules has a direction of each two
+    /// nodes at one location.
+    pub fn new(
+        alloc: Global,
+        maps: &Maps,
+        mut rounds: Rounds,
+        claimed: &LocSet,
+    ) -> Result<Fallen, NoMemory>
+        requires first { AreFirst maps.now.graph.now claimed.now rounds }
+        requires partial { (s : ℕ → ℕ → Bool) → IsClosed (view_of maps.now.graph.now claimed.now) s → ¬ IsTotal (view_of maps.now.graph.now claimed.now) s }
         ensures { IfOk result (IsFallen maps.now.graph.now claimed.now) }
     {
-        let mut rounds = Rounds::new(alloc, maps, claimed)?;
         rounds.look_onwards(alloc, maps)?;
         let mut cells = Cells::new(alloc, maps)?;
-        let mut last: u32 = 0;
-        let mut is_open = false;
+        let mut last: u32 = 1;
+        cells.mark(maps, &rounds.left, &rounds.touched, last);
+        let mut is_open = rounds.is_open(maps);
         'rounds: while !is_open {
             rounds.advance(maps);
             last = next_round(last)?;

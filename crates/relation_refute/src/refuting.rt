@@ -6,6 +6,8 @@ ghost use Rattle.reach_prune.specs.Reachable.{IsReachOf};
 ghost use Rattle.refutation_law.specs.Choosing.{IsRefutationOf};
 ghost use Rattle.relation_law.specs.Relations.{IsClosed, IsTotal};
 ghost use Rattle.relation_law.specs.Views.{view_of};
+ghost use Rattle.relation_refute.specs.Cells.{IsFallen};
+ghost use Rattle.state_simulation.specs.Found.{IsFirstRound};
 ghost use Rattle.state_simulation.specs.Held.{HasEach, IsRelationOf};
 
 use crate::chains::{add_chain, reasoned, settle_lines};
@@ -15,27 +17,50 @@ use graph_base::{Graph, Refutation};
 use net_base::LocSet;
 use outside::NoMemory;
 use reach_prune::Reach;
-use state_simulation::{Maps, Relation};
+use state_simulation::{FirstRound, Maps, Relation};
 use std::alloc::Global;
 
 /// Why no preference numbers meet the rules on a graph of which no relation that keeps the rules has a direction of each
-/// two nodes at one location. The rounds are those of the relation, up to the first one that leaves two such nodes.
-pub fn refutation(alloc: Global, graph: &Graph, claimed: &LocSet) -> Result<Refutation, NoMemory>
-    requires single { HasSingleSteps graph.now }
-    requires partial { (s : ℕ → ℕ → Bool) → IsClosed (view_of graph.now claimed.now) s → ¬ IsTotal (view_of graph.now claimed.now) s }
-    ensures chosen { IfOk result (IsRefutationOf graph.now claimed.now) }
-    ensures refutes { IfOk result (λ r. Refutes graph.now (holds claimed.now) r.first r.second r.lines) }
+/// two nodes at one location. The rounds are those of the relation, up to the first one that leaves two such nodes. They go
+/// on from the first round.
+pub fn refutation(
+    alloc: Global,
+    begun: FirstRound,
+    claimed: &LocSet,
+) -> Result<Refutation, NoMemory>
+    requires first { IsFirstRound begun.maps.graph.now claimed.now begun }
+    requires single { HasSingleSteps begun.maps.graph.now }
+    requires partial { (s : ℕ → ℕ → Bool) → IsClosed (view_of begun.maps.graph.now claimed.now) s → ¬ IsTotal (view_of begun.maps.graph.now claimed.now) s }
+    ensures chosen { IfOk result (IsRefutationOf begun.entry.maps.graph.now claimed.now) }
+    ensures refutes { IfOk result (λ r. Refutes begun.entry.maps.graph.now (holds claimed.now) r.first r.second r.lines) }
 {
-    let maps = Maps::new(alloc, graph)?;
-    let fallen = Fallen::new(alloc, &maps, claimed)?;
-    let first = first_parted(&maps, &fallen.cells).unwrap();
-    let second = least_parted(&maps, &fallen.cells, first).unwrap();
-    let router = graph.nodes()[first as usize].loc;
+    let rounds = begun.rounds;
+    let fallen = Fallen::new(alloc, &begun.maps, rounds, claimed)?;
+    let refutation = told(alloc, &begun.maps, &fallen, claimed)?;
+    Ok(refutation)
+}
+
+/// The refutation that the rounds tell.
+fn told(
+    alloc: Global,
+    maps: &Maps,
+    fallen: &Fallen,
+    claimed: &LocSet,
+) -> Result<Refutation, NoMemory>
+    requires fallen { IsFallen maps.now.graph.now claimed.now fallen.now }
+    requires single { HasSingleSteps maps.now.graph.now }
+    ensures chosen { IfOk result (IsRefutationOf maps.now.graph.now claimed.now) }
+    ensures refutes { IfOk result (λ r. Refutes maps.now.graph.now (holds claimed.now) r.first r.second r.lines) }
+{
+    let nodes = maps.graph().nodes();
+    let first = first_parted(maps, &fallen.cells).unwrap();
+    let second = least_parted(maps, &fallen.cells, first).unwrap();
+    let router = nodes[first as usize].loc;
     let mut lines = Vec::new(alloc);
-    add_chain(&mut lines, &maps, &fallen, claimed, first, second)?;
-    add_chain(&mut lines, &maps, &fallen, claimed, second, first)?;
+    add_chain(&mut lines, maps, fallen, claimed, first, second)?;
+    add_chain(&mut lines, maps, fallen, claimed, second, first)?;
     settle_lines(&mut lines);
-    let lines = reasoned(alloc, &maps, &fallen, claimed, &lines)?;
+    let lines = reasoned(alloc, maps, fallen, claimed, &lines)?;
     Ok(Refutation {
         router,
         first,
@@ -63,5 +88,7 @@ pub fn refute(
     if relation.is_total() {
         return Ok(None);
     }
-    Ok(Some(refutation(alloc, graph, claimed)?))
+    let begun = FirstRound::new(alloc, graph, claimed)?;
+    let refutation = refutation(alloc, begun, claimed)?;
+    Ok(Some(refutation))
 }

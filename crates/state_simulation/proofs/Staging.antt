@@ -8,10 +8,11 @@ use Rattle.graph_base.specs.Graphs.{PlainGraph}
 use Rattle.graph_base.specs.Runs.{place_of}
 use Rattle.net_base.specs.declared.loc.LocSet.{LocSet}
 use Rattle.relation_law.specs.Relations.{IsClosed, IsGreatest, IsTotal, Pair}
-use Rattle.relation_law.specs.Rounds.{IsReach, IsSettled, gone_after, is_pair, left_after}
-use Rattle.relation_law.specs.Views.{view_of}
+use Rattle.relation_law.specs.Rounds.{IsReach, IsSettled, gone_after, goes_by, is_pair, left_after}
+use Rattle.relation_law.specs.Views.{View, view_of}
 use Rattle.relation_law.proofs.Rounds.{IsSound, greatest_between, open_pair, pair_from, pair_to, settled_is_greatest}
 use Rattle.state_simulation.specs.declared.rounds.Rounds.{Rounds}
+use Rattle.state_simulation.specs.Looked.{shown}
 use Rattle.state_simulation.specs.Stages.{AreBound, AreSized, IsOpen, Knows, above_in, asks_later, has_either}
 use Rattle.state_simulation.specs.Targets.{AreLeft, AreTold, AtRound, is_touched}
 
@@ -82,6 +83,25 @@ bound_next g old new touched before quiet bound m n lm ln place = elim (cases_Bo
     | inr f ↦ ap (λ z. z || has_at new m n) (quiet n m ln lm e) ∙ ap (λ z. has_at old n m || z) (quiet m n lm ln f) ∙ before m n lm ln place
   ]
 ]
+
+-- where a row that isn't touched has all nodes at its location, it is enough to ask of the touched ones
+pub bound_touched : (g : PlainGraph) (left : PlainRows) (touched : List Bool) → ((m n : ℕ) → Pair (shown g) m n → is_touched touched n ≡ false → has_at left n m ≡ true) →
+    ((n m : ℕ) → n < length g.nodes → m < length g.nodes → is_touched touched n ≡ true → place_of g m ≡ place_of g n → has_either left m n ≡ true) → AreBound g left
+bound_touched g left touched quiet bound m n lm ln place = elim (cases_Bool (is_touched touched n)) [
+  | inl e ↦ bound n m ln lm e place
+  | inr e ↦ or_left _ _ (quiet m n (record { left = lm; right = ln; place = place }) e)
+]
+
+-- ---- back at a round
+
+pub same_at : (v : View) (reach : ℕ → ℕ → Bool) (k : ℕ) (left next left_now next_now : PlainRows) (touched : ℕ → Bool) → AtRound v reach k left next touched
+    → ((n b : ℕ) → n < v.size → b < v.size → has_at left_now n b ≡ has_at left n b) →
+    ((n b : ℕ) → n < v.size → b < v.size → has_at next_now n b ≡ has_at next n b) → AtRound v reach k left_now next_now touched
+same_at v reach k left next left_now next_now touched at lefts nexts = record {
+  exact = λ m n lm ln. lefts n m ln lm ∙ at.exact m n lm ln;
+  within = λ m n lm ln h. lefts n m ln lm ∙ at.within m n lm ln (sym (nexts n m ln lm) ∙ h);
+  goes = λ m n lm ln h. at.goes m n lm ln h ∙ ap (λ z. not z || goes_by v reach (gone_after v reach k) touched m n) (sym (nexts n m ln lm));
+}
 
 -- ---- what is left at the end
 

@@ -1,4 +1,5 @@
 pub mod Apart
+pub mod Found
 pub mod Held
 pub mod Looked
 pub mod Stages

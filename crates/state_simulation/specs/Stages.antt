@@ -5,9 +5,11 @@ use Rattle.graph_base.specs.Graphs.{PlainGraph}
 use Rattle.graph_base.specs.Runs.{place_of}
 use Rattle.net_base.specs.declared.loc.LocSet.{LocSet}
 use Rattle.relation_law.specs.Numbers.{count_below}
+use Rattle.relation_law.specs.Relations.{Pair}
 use Rattle.relation_law.specs.Rounds.{is_pair}
 use Rattle.relation_law.specs.Views.{View, view_of}
 use Rattle.state_simulation.specs.declared.rounds.Rounds.{Rounds}
+use Rattle.state_simulation.specs.Looked.{shown}
 use Rattle.state_simulation.specs.Targets.{AreNodeRows, AreTold, AreWithin, AtRound, IsWide, is_touched}
 
 -- its rows are of the nodes of the graph
@@ -24,6 +26,15 @@ pub record AreSized (g : PlainGraph) (s : Rounds) : Type 0 where
 -- they have come past so many rounds
 abbrev pub AreAt : PlainGraph → LocSet → (ℕ → ℕ → Bool) → ℕ → Rounds → Type 0
 AreAt g claimed reach rounds s = AtRound (view_of g claimed) reach rounds s.left s.next (is_touched s.touched.items)
+
+-- they have come past the first round
+pub record AreFirst (g : PlainGraph) (claimed : LocSet) (s : Rounds) : Type 0 where
+  pub sized : AreSized g s
+  pub at : (reach : ℕ → ℕ → Bool) → AreAt g claimed reach 1 s
+  -- a row that it didn't touch has all nodes at its location
+  pub quiet : (m n : ℕ) → Pair (shown g) m n → is_touched s.touched.items n ≡ false → IsTrue (has_at s.left n m)
+  -- the next round begins with what is left
+  pub even : (n b : ℕ) → n < length g.nodes → b < length g.nodes → has_at s.next n b ≡ has_at s.left n b
 
 -- the first round needs to know nothing of what can be reached
 abbrev pub Knows : PlainGraph → (ℕ → ℕ → Bool) → ℕ → Option PlainRows → Type 0

@@ -2,6 +2,8 @@
 #![tactic(auto)]
 
 mod apart;
+mod copies;
+mod first;
 mod grouping;
 mod laws;
 mod located;
@@ -14,11 +16,12 @@ mod simulation;
 mod table;
 mod taking;
 
+pub use first::FirstRound;
 pub use laws::evidence_needs_a_total_relation;
 pub use located::located_rows;
 pub use maps::{Maps, location_count};
 pub use masks::is_hearer;
 pub use pairs::is_outranked;
 pub use rounds::Rounds;
-pub use simulation::{relation, total_relation};
+pub use simulation::{Search, relation, total_relation};
 pub use table::Relation;

@@ -1,14 +1,16 @@
 //! The rounds.
-ghost use Rattle.std.specs.Prelude.{◌≡◌, ◌+◌, ◌<◌, ◌≤◌, ℕ, suc, Bool, None, Some, false, if◌then◌else◌, IfNone, IfOk, IfSome, IsTrue, OnOk, length};
-ghost use Rattle.bit_rows.specs.Tables.{PlainRows, has_at};
+ghost use Rattle.std.specs.Prelude.{◌≡◌, ◌+◌, ◌<◌, ◌≤◌, ℕ, suc, Bool, None, Some, false, if◌then◌else◌, IfOk, IsTrue, OnOk, length};
+ghost use Rattle.bit_rows.specs.Tables.{IsSameSize, PlainRows, has_at};
+ghost use Rattle.graph_base.specs.Graphs.{PlainGraph};
 ghost use Rattle.graph_base.specs.Runs.{place_of};
 ghost use Rattle.net_base.specs.declared.loc.LocSet.{LocSet as Claimed};
-ghost use Rattle.relation_law.specs.Relations.{IsClosed, IsGreatest, IsTotal};
 ghost use Rattle.relation_law.specs.Rounds.{IsReach, IsSettled};
 ghost use Rattle.relation_law.specs.Views.{view_of};
-ghost use Rattle.state_simulation.specs.Stages.{AreAt, AreBound, AreSized, IsOpen, Knows, above_in, asks_later as asks_later_in, bits_set, has_either};
+ghost use Rattle.state_simulation.specs.Held.{IsSquare};
+ghost use Rattle.state_simulation.specs.Stages.{AreAt, AreFirst, AreSized, IsOpen, Knows, asks_later as asks_later_in, bits_set, has_either};
 ghost use Rattle.state_simulation.specs.Targets.{AreLeft, AreNodeRows, is_touched};
 
+use crate::copies::put_rows;
 use crate::maps::Maps;
 use crate::pairs::ranked_pairs;
 use crate::taking::{put_each, take_each};
@@ -51,14 +53,18 @@ impl Rounds {
         })
     }
 
-    /// Finds what can be reached from each node. The first round doesn't ask for it.
+    /// Finds what can be reached from each node, unless that is known. The first round doesn't ask for it.
     pub fn look_onwards(&mut self, alloc: Global, maps: &Maps) -> Result<(), NoMemory>
         requires { AreSized maps.now.graph.now self.old }
         ensures sized { OnOk result (AreSized maps.now.graph.now self.new) }
         ensures onwards { OnOk result ((onwards : PlainRows) × (self.new.onwards ≡ Some onwards)) }
         ensures left { OnOk result (self.new.left ≡ self.old.left) }
         ensures at { OnOk result ((claimed : Claimed) (reach : ℕ → ℕ → Bool) (k : ℕ) → AreAt maps.now.graph.now claimed reach k self.old → AreAt maps.now.graph.now claimed reach k self.new) }
+        ensures first { OnOk result ((claimed : Claimed) → AreFirst maps.now.graph.now claimed self.old → AreFirst maps.now.graph.now claimed self.new) }
     {
+        if self.onwards.is_some() {
+            return Ok(());
+        }
         let onwards = rows_along(alloc, maps.graph(), Way::Forward)?;
         self.onwards = Some(onwards);
         Ok(())
@@ -75,6 +81,7 @@ impl Rounds {
             → IsSettled (view_of maps.now.graph.now claimed) reach k × AreLeft (view_of maps.now.graph.now claimed) reach k self.new.left }
         ensures quiet { (n b : ℕ) → n < length maps.now.graph.now.nodes → b < length maps.now.graph.now.nodes → is_touched self.new.touched.items n ≡ false
             → has_at self.new.left n b ≡ has_at self.old.left n b }
+        ensures even { (n b : ℕ) → n < length maps.now.graph.now.nodes → b < length maps.now.graph.now.nodes → has_at self.new.next n b ≡ has_at self.new.left n b }
         ensures fewer { bits_set (length maps.now.graph.now.nodes) self.new.left + (if result then 1 else 0) ≤ bits_set (length maps.now.graph.now.nodes) self.old.left }
     {
         take_each(
@@ -88,6 +95,21 @@ impl Rounds {
         );
         put_each(&mut self.left, &self.next, &mut self.touched)
     }
+
+    /// Goes back to a round that left these rows, of which it touched these.
+    pub(crate) fn go_back(&mut self, left: Rows, touched: Vec<bool>)
+        requires square { IsSquare (length touched.items) self.old.next }
+        requires left { IsSameSize left self.old.next }
+        ensures left { self.new.left ≡ left }
+        ensures touched { self.new.touched ≡ touched }
+        ensures even { (n b : ℕ) → n < length touched.items → has_at self.new.next n b ≡ has_at left n b }
+        ensures sized { (g : PlainGraph) → AreSized g self.old → length touched.items ≡ length g.nodes → AreSized g self.new }
+    {
+        put_rows(&mut self.next, &left, touched.len() as u32);
+        self.left = left;
+        self.touched = touched;
+    }
+
     /// Whether some node of a touched row and another at its location are each not in the row of the other.
     pub fn is_open(&self, maps: &Maps) -> bool
         requires { AreSized maps.now.graph.now self.now }
@@ -144,45 +166,4 @@ pub fn all_rounds(alloc: Global, maps: &Maps, claimed: &LocSet) -> Result<Rows, 
         changed = rounds.advance(maps);
     }
     Ok(rounds.left)
-}
-
-/// The same, or none where two nodes at one location are left without a direction. It stops at the first round that leaves
-/// such nodes, and finds what can be reached only where the first round took something away.
-pub fn total_rounds(alloc: Global, maps: &Maps, claimed: &LocSet) -> Result<Option<Rows>, NoMemory>
-    ensures rows { IfOk result (λ left. IfSome left (AreNodeRows maps.now.graph.now)) }
-    ensures greatest { IfOk result (λ left. IfSome left (λ rows. IsGreatest (view_of maps.now.graph.now claimed.now) (above_in (view_of maps.now.graph.now claimed.now) rows))) }
-    ensures total { IfOk result (λ left. IfSome left (AreBound maps.now.graph.now)) }
-    ensures open { IfOk result (λ left. IfNone left ((r : ℕ → ℕ → Bool) → IsClosed (view_of maps.now.graph.now claimed.now) r → ¬ IsTotal (view_of maps.now.graph.now claimed.now) r)) }
-{
-    let mut rounds = Rounds::new(alloc, maps, claimed)?;
-    let changed = rounds.advance(maps);
-    if rounds.is_open(maps) {
-        return Ok(None);
-    }
-    if !changed {
-        return Ok(Some(rounds.left));
-    }
-    rounds.look_onwards(alloc, maps)?;
-    Ok(total_rest(rounds, maps, claimed))
-}
-
-/// What the rounds leave behind the first one, or none where they leave two nodes at one location without a direction.
-fn total_rest(mut rounds: Rounds, maps: &Maps, claimed: &LocSet) -> Option<Rows>
-    requires sized { AreSized maps.now.graph.now rounds }
-    requires onwards { (onwards : PlainRows) × (rounds.onwards ≡ Some onwards) }
-    requires bound { AreBound maps.now.graph.now rounds.left }
-    requires first { (reach : ℕ → ℕ → Bool) → AreAt maps.now.graph.now claimed.now reach 1 rounds }
-    ensures rows { IfSome result (AreNodeRows maps.now.graph.now) }
-    ensures greatest { IfSome result (λ rows. IsGreatest (view_of maps.now.graph.now claimed.now) (above_in (view_of maps.now.graph.now claimed.now) rows)) }
-    ensures total { IfSome result (AreBound maps.now.graph.now) }
-    ensures open { IfNone result ((r : ℕ → ℕ → Bool) → IsClosed (view_of maps.now.graph.now claimed.now) r → ¬ IsTotal (view_of maps.now.graph.now claimed.now) r) }
-{
-    let mut changed = true;
-    'rounds: while changed {
-        changed = rounds.advance(maps);
-        if rounds.is_open(maps) {
-            return None;
-        }
-    }
-    Some(rounds.left)
 }

@@ -1,15 +1,16 @@
 //! The relation of a graph.
-ghost use Rattle.std.specs.Prelude.{◌≡◌, ℕ, Bool, IfNone, IfOk, IfSome, map};
+ghost use Rattle.std.specs.Prelude.{◌≡◌, ℕ, Bool, IfOk, map};
 ghost use Rattle.reach_prune.specs.Reachable.{IsReachOf, can_reach};
-ghost use Rattle.relation_law.specs.Relations.{IsClosed, IsGreatest, IsTotal};
+ghost use Rattle.relation_law.specs.Relations.{IsClosed, IsTotal};
 ghost use Rattle.relation_law.specs.Views.{view_of};
+ghost use Rattle.state_simulation.specs.Found.{IfPartial, IfTotal, IsFirstRound};
 ghost use Rattle.state_simulation.specs.Held.{HasEach, IsLeftByRounds, IsRelationOf};
-ghost use Rattle.state_simulation.specs.Stages.{AreBound, above_in};
 ghost use Rattle.state_simulation.specs.Targets.{AreNodeRows};
 
 use crate::apart::{own_rows, stand_apart};
+use crate::first::FirstRound;
 use crate::maps::Maps;
-use crate::rounds::{all_rounds, total_rounds};
+use crate::rounds::all_rounds;
 use crate::table::Relation;
 use bit_rows::Rows;
 use graph_base::Graph;
@@ -33,44 +34,69 @@ pub fn relation(
 {
     let maps = Maps::new(alloc, graph)?;
     let rows = all_rounds(alloc, &maps, claimed)?;
-    let places = places(alloc, graph)?;
-    Ok(Relation::new(places, *claimed, rows))
+    let relation = held(alloc, graph, claimed, rows)?;
+    Ok(relation)
 }
 
-/// The same relation where it has a direction of each two nodes at one location. There is none where it has not: then no
-/// relation that keeps the rules has. That is told as soon as two nodes are left without a direction, and what can be
-/// reached is found only where the first round took something away.
-pub fn total_relation(
+/// What the search for a relation that has a direction of each two nodes at one location finds.
+#[derive(Drop)]
+pub enum Search<'a> {
+    /// The relation.
+    Total(Relation),
+    /// There is none. A refutation begins with the first round.
+    Partial(FirstRound<'a>),
+}
+
+/// The same relation where it has a direction of each two nodes at one location, or else the first round: then no relation that
+/// keeps the rules has. Where no two nodes stand at one location, each stands as high as itself alone, and no rounds are needed.
+pub fn total_relation<'a>(
     alloc: Global,
-    graph: &Graph,
+    graph: &'a Graph,
     claimed: &LocSet,
-) -> Result<Option<Relation>, NoMemory>
-    ensures relation { IfOk result (λ r. IfSome r (IsRelationOf graph.now)) }
-    ensures claimed { IfOk result (λ r. IfSome r (λ r. r.claimed ≡ claimed.now)) }
-    ensures total { IfOk result (λ r. IfSome r HasEach) }
-    ensures none { IfOk result (λ r. IfNone r ((s : ℕ → ℕ → Bool) → IsClosed (view_of graph.now claimed.now) s → ¬ IsTotal (view_of graph.now claimed.now) s)) }
-{
-    let Some(rows) = total_rows(alloc, graph, claimed)? else {
-        return Ok(None);
-    };
-    let places = places(alloc, graph)?;
-    Ok(Some(Relation::new(places, *claimed, rows)))
-}
-
-/// The rows of that relation. Where no two nodes stand at one location, each stands as high as itself alone, and no rounds
-/// are needed.
-fn total_rows(alloc: Global, graph: &Graph, claimed: &LocSet) -> Result<Option<Rows>, NoMemory>
-    ensures rows { IfOk result (λ left. IfSome left (AreNodeRows graph.now)) }
-    ensures greatest { IfOk result (λ left. IfSome left (λ rows. IsGreatest (view_of graph.now claimed.now) (above_in (view_of graph.now claimed.now) rows))) }
-    ensures total { IfOk result (λ left. IfSome left (AreBound graph.now)) }
-    ensures open { IfOk result (λ left. IfNone left ((r : ℕ → ℕ → Bool) → IsClosed (view_of graph.now claimed.now) r → ¬ IsTotal (view_of graph.now claimed.now) r)) }
+) -> Result<Search<'a>, NoMemory>
+    ensures relation { IfOk result (λ s. IfTotal s (IsRelationOf graph.now)) }
+    ensures claimed { IfOk result (λ s. IfTotal s (λ r. r.claimed ≡ claimed.now)) }
+    ensures total { IfOk result (λ s. IfTotal s HasEach) }
+    ensures first { IfOk result (λ s. IfPartial s (IsFirstRound graph.now claimed.now)) }
+    ensures partial { IfOk result (λ s. IfPartial s (λ first. (s : ℕ → ℕ → Bool) → IsClosed (view_of graph.now claimed.now) s → ¬ IsTotal (view_of graph.now claimed.now) s)) }
 {
     if stand_apart(alloc, graph)? {
         let rows = own_rows(alloc, graph.nodes().len() as u32)?;
-        return Ok(Some(rows));
+        let relation = held(alloc, graph, claimed, rows)?;
+        return Ok(Search::Total(relation));
     }
-    let maps = Maps::new(alloc, graph)?;
-    total_rounds(alloc, &maps, claimed)
+    search_rounds(alloc, graph, claimed)
+}
+
+/// The same by rounds.
+fn search_rounds<'a>(
+    alloc: Global,
+    graph: &'a Graph,
+    claimed: &LocSet,
+) -> Result<Search<'a>, NoMemory>
+    ensures relation { IfOk result (λ s. IfTotal s (IsRelationOf graph.now)) }
+    ensures claimed { IfOk result (λ s. IfTotal s (λ r. r.claimed ≡ claimed.now)) }
+    ensures total { IfOk result (λ s. IfTotal s HasEach) }
+    ensures first { IfOk result (λ s. IfPartial s (IsFirstRound graph.now claimed.now)) }
+    ensures partial { IfOk result (λ s. IfPartial s (λ first. (s : ℕ → ℕ → Bool) → IsClosed (view_of graph.now claimed.now) s → ¬ IsTotal (view_of graph.now claimed.now) s)) }
+{
+    let mut first = FirstRound::new(alloc, graph, claimed)?;
+    let is_total = first.find_total(alloc, claimed)?;
+    if !is_total {
+        return Ok(Search::Partial(first));
+    }
+    let rounds = first.rounds;
+    let relation = held(alloc, graph, claimed, rounds.left)?;
+    Ok(Search::Total(relation))
+}
+
+/// The relation of these rows of a graph's nodes.
+fn held(alloc: Global, graph: &Graph, claimed: &LocSet, rows: Rows) -> Result<Relation, NoMemory>
+    requires { AreNodeRows graph.now rows }
+    ensures { IfOk result (λ r. r ≡ record { places = map (λ node. node.loc) graph.now.nodes; claimed = claimed.now; rows = rows }) }
+{
+    let places = places(alloc, graph)?;
+    Ok(Relation::new(places, *claimed, rows))
 }
 
 /// The location of each node.

@@ -1,30 +1,25 @@
-use Rattle.std.proofs.Common.{ℕ, Bool, Option, ap, refl, subst, ◌∙◌}
-use Rattle.std.specs.Option.{IfNone, IfSome}
-use Rattle.bit_rows.specs.Tables.{PlainRows}
-use Rattle.relation_law.specs.Relations.{IsClosed, IsGreatest, IsTotal}
-use Rattle.relation_law.specs.Views.{view_of}
-use Rattle.state_simulation.specs.Stages.{AreBound, above_in}
+use Rattle.std.proofs.Common.{List, length, refl, ap, subst}
+use Rattle.graph_base.specs.declared.graph.Node.{Node}
+use Rattle.state_simulation.specs.Held.{PlainRelation}
+use Rattle.state_simulation.proofs.Aparting.{AreOwn, own_bound, own_greatest}
 use Rattle.state_simulation.proofs.Holding.{made_relation, made_total}
 use Rattle.state_simulation.proofs.simulation.total_relation.Goals as goal
 
-pub returns-in_default-clause-none : goal.returns-in_default-clause-none
-returns-in_default-clause-none c =
-    let v = view_of c.args.graph.now c.args.claimed.now in
-    subst (λ (o : Option PlainRows). IfNone o ((s : ℕ → ℕ → Bool) → IsClosed v s → IsTotal v s → ⊥)) c.in_default.is c.in_ok-rows.ensures.«open»
-
-pub returns-clause-relation : goal.returns-clause-relation
-returns-clause-relation c =
+pub returns-then-branch-clause-relation : goal.returns-then-branch-clause-relation
+returns-then-branch-clause-relation c =
     let g = c.args.graph.now in
-    let claimed = c.args.claimed.now in
-    let rows = c.in-Some.rows in
-    let r = c.new.ensures ∙ ap (λ places. record { places = places; claimed = claimed; rows = rows }) c.in_ok-places.ensures in
-    made_relation g g claimed c.new.result rows refl r
-    (subst (λ (o : Option PlainRows). IfSome o (λ rows. IsGreatest (view_of g claimed) (above_in (view_of g claimed) rows))) c.in-Some.is c.in_ok-rows.ensures.greatest)
+    let rows = c.in_ok-rows.rows in
+    made_relation g g c.args.claimed.now c.in_ok-relation.relation rows refl c.in_ok-relation.ensures
+    (own_greatest g c.args.claimed.now rows (c.in_ok-stand_apart.ensures.apart c.if-branch.true)
+    (subst (λ (nodes : List Node). AreOwn (length nodes) rows) c.nodes.ensures.nodes c.in_ok-rows.ensures.own))
 
-pub returns-clause-total : goal.returns-clause-total
-returns-clause-total c =
+pub returns-then-branch-clause-claimed : goal.returns-then-branch-clause-claimed
+returns-then-branch-clause-claimed c = ap (λ (r : PlainRelation). r.claimed) c.in_ok-relation.ensures
+
+pub returns-then-branch-clause-total : goal.returns-then-branch-clause-total
+returns-then-branch-clause-total c =
     let g = c.args.graph.now in
-    let claimed = c.args.claimed.now in
-    let rows = c.in-Some.rows in
-    let r = c.new.ensures ∙ ap (λ places. record { places = places; claimed = claimed; rows = rows }) c.in_ok-places.ensures in
-    made_total g g claimed c.new.result rows refl r (subst (λ (o : Option PlainRows). IfSome o (AreBound g)) c.in-Some.is c.in_ok-rows.ensures.total)
+    let rows = c.in_ok-rows.rows in
+    made_total g g c.args.claimed.now c.in_ok-relation.relation rows refl c.in_ok-relation.ensures
+    (own_bound g rows (c.in_ok-stand_apart.ensures.apart c.if-branch.true)
+    (subst (λ (nodes : List Node). AreOwn (length nodes) rows) c.nodes.ensures.nodes c.in_ok-rows.ensures.own))

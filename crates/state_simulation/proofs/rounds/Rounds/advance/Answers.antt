@@ -101,6 +101,11 @@ returns-clause-quiet c = λ n b ln lb none.
     advanced_quiet g old.onwards old.left old.next mid c.put_each.new.left old.touched.items marked c.put_each.result taken put within n b ln lb
     (ap (λ (l : List Bool). is_touched l n) (sym back) ∙ none)
 
+pub returns-clause-even : goal.returns-clause-even
+returns-clause-even c = λ n b ln lb.
+    let count : length c.deref_mut-3.result.now ≡ length c.args.maps.now.graph.now.nodes = ap length c.deref_mut-3.ensures.value ∙ c.requires.touched in
+    sym (c.put_each.ensures.put.rows n b (omega (arith, ln, count)))
+
 pub returns-clause-fewer : goal.returns-clause-fewer
 returns-clause-fewer c =
     let g = c.args.maps.now.graph.now in

@@ -2,7 +2,7 @@ use Rattle.std.proofs.Common.{◌≡◌, ℕ, suc, cond, arith, ap, ◌∙◌}
 use Rattle.bit_rows.specs.Tables.{has_at}
 use Rattle.state_simulation.proofs.Staging.{bound_next, greatest_left, knows_own, open_is_partial, told_reach}
 use Rattle.state_simulation.specs.Targets.{is_touched}
-use Rattle.state_simulation.proofs.rounds.total_rest.Goals as goal
+use Rattle.state_simulation.proofs.first.stay_total.Goals as goal
 
 pub rounds-init : goal.rounds-init
 rounds-init c =
@@ -39,8 +39,8 @@ rounds-preserved c =
       );
     }
 
-pub returns-then-is_open-clause-open : goal.returns-then-is_open-clause-open
-returns-then-is_open-clause-open c = λ r greatest total.
+pub returns-then-is_open-clause-partial : goal.returns-then-is_open-clause-partial
+returns-then-is_open-clause-partial c = λ none r closed total.
     let g = c.args.maps.now.graph.now in
     let claimed = c.args.claimed.now in
     let inv = c.rounds.invariant in
@@ -51,10 +51,10 @@ returns-then-is_open-clause-open c = λ r greatest total.
     let knows = knows_own g k c.rounds.rounds onwards inv.at.1 in
     let pair = c.is_open.ensures.«open» c.if-is_open.true in
     open_is_partial g claimed (has_at onwards) (suc k) new.left new.next (is_touched new.touched.items) (next.next claimed (has_at onwards) k knows inv.at.3)
-    (λ a b la lb h. (told_reach g claimed c.rounds.rounds onwards inv.sized inv.at.1 a b la lb).0 h) pair.0 pair.1 pair.2 r greatest total
+    (λ a b la lb h. (told_reach g claimed c.rounds.rounds onwards inv.sized inv.at.1 a b la lb).0 h) pair.0 pair.1 pair.2 r closed total
 
 pub returns-clause-greatest : goal.returns-clause-greatest
-returns-clause-greatest c =
+returns-clause-greatest c = λ yes.
     let g = c.args.maps.now.graph.now in
     let inv = c.rounds.invariant in
     let onwards = inv.at.0 in

@@ -4,7 +4,7 @@ use Rattle.relation_law.specs.Rounds.{IsSettled}
 use Rattle.relation_law.specs.Views.{view_of}
 use Rattle.state_simulation.specs.Stages.{AreAt, AreBound, AreSized, bits_set}
 use Rattle.state_simulation.specs.Targets.{AreLeft}
-use Rattle.state_simulation.proofs.rounds.total_rest.Given as goal
+use Rattle.state_simulation.proofs.first.stay_total.Given as goal
 
 abbrev pub invariant-rounds : goal.invariant-rounds
 invariant-rounds l = record {
