@@ -1,33 +1,37 @@
 -- Reading a call straight to its value gives what the call comes to that the grammar reads.
-use Rattle.std.proofs.Common.{◌≡◌, ℕ, List, [], ◌∷◌, ◌++◌, ◌<◌, length, Option, Some, None, Result, Ok, Err, refl, sym, ap}
-use Rattle.std.specs.Prelude.{map}
+use Rattle.std.proofs.Common.{◌≡◌, ℕ, List, [], ◌∷◌, ◌++◌, ◌<◌, length, Option, Some, None, Result, Ok, Err, refl, sym, ap, ◌∙◌}
+use Rattle.std.specs.Prelude.{⊤, map}
 use Rattle.std.proofs.lemmas.List.{map-append}
 use Rattle.net_base.specs.declared.loc.LocSet.{LocSet}
 use Rattle.net_base.specs.declared.place.Place.{Place}
 use Rattle.net_base.specs.Network.{PlainNet}
+use Rattle.net_base.specs.Gives.{GivesUnless}
 use Rattle.net_base.specs.Steps.{◌>>=◌}
+use Rattle.net_base.proofs.StepLemmas.{ok_same, ok_not_err}
 use Rattle.policy_base.specs.declared.call.SetCall.{SetCall}
 use Rattle.policy_base.specs.declared.call.Call.{Call}
 use Rattle.policy_base.specs.declared.call.Call.TheVariants.{Of}
 use Rattle.policy_base.specs.Policies.{call}
 use Rattle.policy_tokens.specs.declared.fault.PolicyFault.{PolicyFault}
-use Rattle.policy_tokens.specs.declared.fault.PolicyFault.TheVariants.{Syntax}
+use Rattle.policy_tokens.specs.declared.fault.PolicyFault.TheVariants.{NoMemory, Syntax}
 use Rattle.policy_grammar.specs.declared.lexeme.Lexeme.{Lexeme}
 use Rattle.policy_grammar.specs.declared.symbol.Symbol.{Symbol}
 use Rattle.policy_grammar.specs.declared.symbol.Symbol.TheVariants as symbol
 use Rattle.policy_grammar.specs.Symbols.{number_of}
 use Rattle.policy_grammar.proofs.Symbols.{call_before_end}
-use Rattle.policy_grammar.specs.Raw.{Arg}
+use Rattle.policy_grammar.specs.Raw.{Arg, RawCall, Step as step}
 use Rattle.policy_base.specs.declared.call.CallWord.{CallWord}
 use Rattle.policy_base.specs.declared.call.CallWord.TheVariants as word
 use Rattle.policy_grammar.specs.Reading.{Read, after, chain}
 use Rattle.policy_grammar.specs.Calls.{set_at, one_at, set_link, one_link, above_at, sets_call, link_call, path_call, word_of, call_behind, call_at}
 use Rattle.policy_rules.specs.KnownNames.{Names}
-use Rattle.policy_values.specs.declared.path_calls.PathPlaces.{PathPlaces}
 use Rattle.policy_values.specs.Built.{set_of_arg, sets_of, ranked_sets, link_of, call_of}
 use Rattle.policy_values.specs.Reads.{over}
 use Rattle.policy_values.specs.CallValues.{CallValue, call_value}
-use Rattle.policy_values.specs.CallReaders.{with_call, of_calls, placeless, linked, no_places, with_place, call_link, place_link, sets_read, link_read, path_value, path_read, behind_read}
+use Rattle.policy_values.specs.CallReaders.{PlacesValue, with_call, of_calls, calls_value, placeless, linked, no_places, with_place, call_link}
+use Rattle.policy_values.specs.CallReaders.{one_behind, place_link, sets_read, link_read, path_value, path_read, behind_read, taken}
+use Rattle.policy_values.specs.Levels.{call_step}
+use Rattle.policy_values.specs.Parts.{PartsValue, call_onto, step_onto}
 use Rattle.policy_values.proofs.ReadsOver.{over_step, over_read, over_links, read_same}
 use Rattle.policy_values.proofs.SetLists.{sets_pushed}
 use Rattle.policy_values.proofs.PathSets.{places_of, places_pushed, two_places, path_same}
@@ -76,7 +80,7 @@ module _ (bytes : List ℕ) (net : PlainNet) (known : Names) where
       over_read (set_of_arg bytes net known) (places_of bytes net known) (one_at ls) _ _ (λ x. rw (places_pushed bytes net known args x.0) refl)
 
   ranked_same : (c : SetCall) (args : List Arg) (above : Option Place)
-      → placeless above (calls_of c args >>= λ cs. Ok (of_calls cs)) ≡ call_value bytes net known (record { word = word.Of c; args = args; above = above })
+      → placeless above (calls_value (calls_of c args)) ≡ call_value bytes net known (record { word = word.Of c; args = args; above = above })
   ranked_same c args above = ap (placeless above) (ranked_value c (sets_of bytes net known [] args))
 
   sets_same : (c : SetCall) (ls : List Lexeme) → sets_read bytes net known c ls ≡ over (call_value bytes net known) (sets_call c ls)
@@ -88,55 +92,66 @@ module _ (bytes : List ℕ) (net : PlainNet) (known : Names) where
       over_step (call_value bytes net known) (after symbol.RoundClose sets.1) _ _ (λ rest.
       read_same _ _ rest (ranked_same c sets.0 (above_at x.1))))))
 
+  -- behind a place
+  over_one : (s : Symbol) (ls : List Lexeme) (k : Result LocSet PolicyFault × List Lexeme → Read CallValue) (k' : Arg × List Lexeme → Read RawCall)
+      → ((x : Arg × List Lexeme) → k (set_of_arg bytes net known x.0, x.1) ≡ over (call_value bytes net known) (k' x))
+      → (one_behind bytes net known s ls >>= k) ≡ over (call_value bytes net known) (after s ls >>= λ rest. one_at rest >>= k')
+  over_one s ls k k' same = by (after s ls)
+    where
+      by : (r : Result (List Lexeme) PolicyFault)
+          → ((r >>= λ rest. over (set_of_arg bytes net known) (one_at rest)) >>= k) ≡ over (call_value bytes net known) (r >>= λ rest. one_at rest >>= k')
+      by (Ok rest) = over_read (set_of_arg bytes net known) (call_value bytes net known) (one_at rest) k k' same
+      by (Err e) = refl
+
   link_same : (ls : List Lexeme) → link_read bytes net known ls ≡ over (call_value bytes net known) (link_call ls)
   unfolding link_read link_call
   link_same ls =
-      over_step (call_value bytes net known) (after symbol.RoundOpen ls) _ _ (λ inside.
-      over_read (set_of_arg bytes net known) (call_value bytes net known) (one_at inside) _ _ (λ a.
-      over_step (call_value bytes net known) (after symbol.Comma a.1) _ _ (λ second.
-      over_read (set_of_arg bytes net known) (call_value bytes net known) (one_at second) _ _ (λ b.
+      over_one symbol.RoundOpen ls _ _ (λ a.
+      over_one symbol.Comma a.1 _ _ (λ b.
       over_step (call_value bytes net known) (after symbol.RoundClose b.1) _ _ (λ rest.
-      rw (linked_value (set_of_arg bytes net known a.0) (set_of_arg bytes net known b.0)) refl)))))
+      rw (linked_value (set_of_arg bytes net known a.0) (set_of_arg bytes net known b.0)) refl)))
 
   path_read_same : (ls : List Lexeme) → path_read bytes net known ls ≡ over (call_value bytes net known) (path_call ls)
   unfolding path_read path_call
   path_read_same ls =
-      over_step (call_value bytes net known) (after symbol.RoundOpen ls) _ _ (λ inside.
-      over_read (set_of_arg bytes net known) (call_value bytes net known) (one_at inside) _ _ (λ a.
-      over_step (call_value bytes net known) (after symbol.Comma a.1) _ _ (λ second.
-      over_read (set_of_arg bytes net known) (call_value bytes net known) (one_at second) _ _ (λ b.
+      over_one symbol.RoundOpen ls _ _ (λ a.
+      over_one symbol.Comma a.1 _ _ (λ b.
       over_links (places_of bytes net known) (call_value bytes net known) symbol.Comma one_link (place_link bytes net known) place_linked (length b.1)
       (a.0 ∷ b.0 ∷ []) _ b.1 (two_places bytes net known a.0 b.0) _ _ (λ sets.
       over_step (call_value bytes net known) (after symbol.RoundClose sets.1) _ _ (λ rest.
-      read_same _ _ rest (path_same bytes net known sets.0)))))))
+      read_same _ _ rest (path_same bytes net known sets.0)))))
 
   -- ranked sets whose first set was read, by what stands behind it
-  pub sets_begun : (c : SetCall) (ls inside rest : List Lexeme) (set : Result LocSet PolicyFault) (first : Result (List Call) PolicyFault) (r : Read CallValue)
-      → after symbol.RoundOpen ls ≡ Ok inside → over (set_of_arg bytes net known) (set_at inside) ≡ Ok (set, rest) → with_call c (Ok []) set ≡ first
+  pub sets_begun : (c : SetCall) (ls inside rest : List Lexeme) (set : Result LocSet PolicyFault) (none first : Result (List Call) PolicyFault) (r : Read CallValue)
+      → after symbol.RoundOpen ls ≡ Ok inside → over (set_of_arg bytes net known) (set_at inside) ≡ Ok (set, rest) → none ≡ Ok []
+      → (let made : Result (Result (List Call) PolicyFault) PolicyFault = Ok (with_call c none set) in made ≡ Ok first)
       → (chain symbol.Above (call_link bytes net known c) (length rest) first rest >>= λ all.
-      after symbol.RoundClose all.1 >>= λ behind. Ok (placeless (above_at rest) (all.0 >>= λ cs. Ok (of_calls cs)), behind)) ≡ r
+      after symbol.RoundClose all.1 >>= λ behind. Ok (placeless (above_at rest) (calls_value all.0), behind)) ≡ r
       → sets_read bytes net known c ls ≡ r
   unfolding sets_read
-  sets_begun c ls inside rest set first r opens one calls behind = rw (opens, one, calls) behind
+  sets_begun c ls inside rest set none first r opens one empty made behind =
+      let calls = ap (λ (z : Result (List Call) PolicyFault). with_call c z set) (sym empty) ∙ ok_same _ _ made in
+      rw (opens, one, calls) behind
 
   -- a `link` whose two places were read, by what stands behind them
-  pub link_begun : (ls inside first second both : List Lexeme) (a b : Result LocSet PolicyFault) (r : Read CallValue)
-      → after symbol.RoundOpen ls ≡ Ok inside → over (set_of_arg bytes net known) (one_at inside) ≡ Ok (a, first)
-      → after symbol.Comma first ≡ Ok second → over (set_of_arg bytes net known) (one_at second) ≡ Ok (b, both)
+  pub link_begun : (ls first both : List Lexeme) (a b : Result LocSet PolicyFault) (r : Read CallValue)
+      → one_behind bytes net known symbol.RoundOpen ls ≡ Ok (a, first) → one_behind bytes net known symbol.Comma first ≡ Ok (b, both)
       → (after symbol.RoundClose both >>= λ rest. Ok (placeless None (linked a b), rest)) ≡ r
       → link_read bytes net known ls ≡ r
   unfolding link_read
-  link_begun ls inside first second both a b r opens one joins other behind = rw (opens, one, joins, other) behind
+  link_begun ls first both a b r one other behind = rw (one, other) behind
 
   -- a `path` whose first two places were read, by what stands behind them
-  pub path_begun : (ls inside first second both : List Lexeme) (a b : Result LocSet PolicyFault) (two : PathPlaces) (r : Read CallValue)
-      → after symbol.RoundOpen ls ≡ Ok inside → over (set_of_arg bytes net known) (one_at inside) ≡ Ok (a, first)
-      → after symbol.Comma first ≡ Ok second → over (set_of_arg bytes net known) (one_at second) ≡ Ok (b, both)
-      → with_place (with_place no_places a) b ≡ two
+  pub path_begun : (ls first both : List Lexeme) (a b : Result LocSet PolicyFault) (none one two : PlacesValue) (r : Read CallValue)
+      → one_behind bytes net known symbol.RoundOpen ls ≡ Ok (a, first) → one_behind bytes net known symbol.Comma first ≡ Ok (b, both)
+      → none ≡ no_places
+      → (let made : Result PlacesValue PolicyFault = Ok (with_place none a) in made ≡ Ok one) → (let made : Result PlacesValue PolicyFault = Ok (with_place one b) in made ≡ Ok two)
       → (chain symbol.Comma (place_link bytes net known) (length both) two both >>= λ places. after symbol.RoundClose places.1 >>= λ rest. Ok (path_value places.0, rest)) ≡ r
       → path_read bytes net known ls ≡ r
   unfolding path_read
-  path_begun ls inside first second both a b two r opens one joins other places behind = rw (opens, one, joins, other, places) behind
+  path_begun ls first both a b none one two r here there empty made more behind =
+      let two_made = ap (λ (p : PlacesValue). with_place p b) (ap (λ (p : PlacesValue). with_place p a) (sym empty) ∙ ok_same _ _ made) ∙ ok_same _ _ more in
+      rw (here, there, two_made) behind
 
   behind_same : (w : CallWord) (ls : List Lexeme) → behind_read bytes net known w ls ≡ over (call_value bytes net known) (call_behind w ls)
   behind_same word.Any ls = refl
@@ -146,12 +161,32 @@ module _ (bytes : List ℕ) (net : PlainNet) (known : Names) where
   behind_same word.Path ls = path_read_same ls
   behind_same (word.Of c) ls = sets_same c ls
 
+  called : (r : Read RawCall) (v : PartsValue) → (r >>= λ x. Ok (step_onto bytes net known (step.Call x.0) v, x.1)) ≡ taken (over (call_value bytes net known) r) v
+  called (Ok x) v = refl
+  called (Err e) v = refl
+
   -- a call: its word and what stands behind it
-  pub call_begun : (l : Lexeme) (ls : List Lexeme) (w : CallWord) → word_of l.symbol ≡ Some w → over (call_value bytes net known) (call_at (l ∷ ls)) ≡ behind_read bytes net known w ls
+  pub call_begun : (l : Lexeme) (ls : List Lexeme) (w : CallWord) (v : PartsValue) → word_of l.symbol ≡ Some w
+      → call_step (step_onto bytes net known) v (l ∷ ls) ≡ taken (behind_read bytes net known w ls) v
   unfolding call_at
-  call_begun l ls w is = rw is (sym (behind_same w ls))
+  call_begun l ls w v is = called (call_at (l ∷ ls)) v ∙ rw is (ap (λ (r : Read CallValue). taken r v) (sym (behind_same w ls)))
 
   -- no call begins with it
-  pub no_call : (l : Lexeme) (ls : List Lexeme) → word_of l.symbol ≡ None → over (call_value bytes net known) (call_at (l ∷ ls)) ≡ Err (Syntax l.place)
+  pub no_call : (l : Lexeme) (ls : List Lexeme) (v : PartsValue) → word_of l.symbol ≡ None → call_step (step_onto bytes net known) v (l ∷ ls) ≡ Err (Syntax l.place)
   unfolding call_at
-  no_call l ls is = rw is refl
+  no_call l ls v is = rw is refl
+
+-- what a call comes to, on what was read before it
+pub taken_ok : (v w : PartsValue) (r : Result ⊤ PolicyFault) (read : Read CallValue) (y : CallValue) (rest : List Lexeme)
+    → read ≡ Ok (y, rest) → GivesUnless NoMemory (λ (_ : ⊤). w) r (Ok (call_onto y v)) → GivesUnless {Y = PartsValue × List Lexeme} NoMemory (λ (_ : ⊤). (w, rest)) r (taken read v)
+taken_ok v w (Ok x) read y rest is done = ap (λ (z : Read CallValue). taken z v) is ∙ read_same _ _ rest (ok_same _ _ done)
+taken_ok v w (Err e) read y rest is done = λ memory. absurd (ok_not_err _ e (done memory))
+
+pub taken_err : (v : PartsValue) (read : Read CallValue) (e : PolicyFault) → read ≡ Err e → taken read v ≡ Err e
+taken_err v read e is = ap (λ (z : Read CallValue). taken z v) is
+
+-- a value of which nothing but the rest was still to be read
+pub valued : {A : Type 0} (x : A) (read : Result (List Lexeme) PolicyFault) (rest : List Lexeme) (r : Result ⊤ PolicyFault)
+    → GivesUnless NoMemory (λ (_ : ⊤). rest) r read → GivesUnless {Y = A × List Lexeme} NoMemory (λ (_ : ⊤). (x, rest)) r (read >>= λ q. Ok (x, q))
+valued {A} x read rest (Ok t) h = ap (λ (z : Result (List Lexeme) PolicyFault). z >>= λ q. let y : Read A = Ok (x, q) in y) h
+valued {A} x read rest (Err e) h = λ memory. ap (λ (z : Result (List Lexeme) PolicyFault). z >>= λ q. let y : Read A = Ok (x, q) in y) (h memory)

@@ -18,10 +18,9 @@ use Rattle.policy_base.specs.declared.call.CallWord.TheVariants as word
 use Rattle.policy_rules.specs.KnownNames.{Names}
 use Rattle.policy_rules.specs.Checks.{each, arg_known}
 use Rattle.policy_rules.specs.Counts.{within}
-use Rattle.policy_values.specs.declared.path_calls.PathPlaces.{PathPlaces}
 use Rattle.policy_values.specs.Built.{set_of_arg, sets_of}
 use Rattle.policy_values.specs.CallValues.{CallValue, call_value}
-use Rattle.policy_values.specs.CallReaders.{no_places, kept_within, with_place, path_value}
+use Rattle.policy_values.specs.CallReaders.{PlacesValue, no_places, kept_within, with_place, path_value}
 use Rattle.policy_values.proofs.SetLists.{sets_pushed, sets_length, sets_known}
 
 take_more : (most : ℕ) (ss : List LocSet) (x : LocSet) (b : Bool) → nat_le most (length ss) ≡ b → take most (ss ++ x ∷ []) ≡ (if b then take most ss else (take most ss ++ x ∷ []))
@@ -48,7 +47,7 @@ ranked_same most n false few (Err f) known e count same = same
 
 module _ (bytes : List ℕ) (net : PlainNet) (known : Names) where
   -- what some places come to
-  abbrev pub places_of : List Arg → PathPlaces
+  abbrev pub places_of : List Arg → PlacesValue
   places_of args = record { count = length args; sets = sets_of bytes net known [] args >>= λ sets. Ok (take PLACES sets) }
 
   -- one place more
@@ -58,15 +57,15 @@ module _ (bytes : List ℕ) (net : PlainNet) (known : Names) where
       let kept = more_kept PLACES (length args) r (set_of_arg bytes net known a) (λ ss e. omega (arith, sets_length bytes net known [] args ss e)) in
       let one = ap (λ (q : Result (List LocSet) PolicyFault). q >>= λ ss. Ok (take PLACES ss)) (sets_pushed bytes net known [] args a) in
       let count : length args + 1 ≡ length (args ++ a ∷ []) = omega (arith, length-append args (a ∷ [])) in
-      ap (λ (n : ℕ). let p : PathPlaces = record { count = n; sets = kept_within PLACES (length args) (r >>= λ ss. Ok (take PLACES ss)) (set_of_arg bytes net known a) } in p) count
-      ∙ ap (λ (q : Result (List LocSet) PolicyFault). let p : PathPlaces = record { count = length (args ++ a ∷ []); sets = q } in p) (sym (one ∙ kept))
+      ap (λ (n : ℕ). let p : PlacesValue = record { count = n; sets = kept_within PLACES (length args) (r >>= λ ss. Ok (take PLACES ss)) (set_of_arg bytes net known a) } in p) count
+      ∙ ap (λ (q : Result (List LocSet) PolicyFault). let p : PlacesValue = record { count = length (args ++ a ∷ []); sets = q } in p) (sym (one ∙ kept))
 
   -- the first two places
   pub two_places : (a b : Arg) → with_place (with_place no_places (set_of_arg bytes net known a)) (set_of_arg bytes net known b) ≡ places_of (a ∷ b ∷ [])
   two_places a b =
-      let none : no_places ≡ places_of [] = ap (λ (ss : List LocSet). let p : PathPlaces = record { count = 0; sets = Ok ss } in p) (sym (take_all PLACES [] (omega arith))) in
-      ap (λ (p : PathPlaces). with_place (with_place p (set_of_arg bytes net known a)) (set_of_arg bytes net known b)) none
-      ∙ ap (λ (p : PathPlaces). with_place p (set_of_arg bytes net known b)) (places_pushed [] a)
+      let none : no_places ≡ places_of [] = ap (λ (ss : List LocSet). let p : PlacesValue = record { count = 0; sets = Ok ss } in p) (sym (take_all PLACES [] (omega arith))) in
+      ap (λ (p : PlacesValue). with_place (with_place p (set_of_arg bytes net known a)) (set_of_arg bytes net known b)) none
+      ∙ ap (λ (p : PlacesValue). with_place p (set_of_arg bytes net known b)) (places_pushed [] a)
       ∙ places_pushed (a ∷ []) b
 
   -- a `path` with these places

@@ -12,6 +12,7 @@ use Rattle.policy_base.specs.declared.call.Call.TheVariants.{Any, Drop, Internal
 use Rattle.policy_base.specs.Policies.{Ranking, call, calls}
 use Rattle.policy_tokens.specs.declared.fault.PolicyFault.{PolicyFault}
 use Rattle.policy_grammar.specs.declared.lexeme.Lexeme.{Lexeme}
+use Rattle.policy_grammar.specs.declared.symbol.Symbol.{Symbol}
 use Rattle.policy_grammar.specs.declared.symbol.Symbol.TheVariants as symbol
 use Rattle.policy_base.specs.declared.call.CallWord.{CallWord}
 use Rattle.policy_base.specs.declared.call.CallWord.TheVariants as word
@@ -19,10 +20,24 @@ use Rattle.policy_grammar.specs.Reading.{Read, after, chain}
 use Rattle.policy_grammar.specs.Calls.{set_at, one_at, above_at}
 use Rattle.policy_rules.specs.KnownNames.{Names}
 use Rattle.policy_rules.specs.Counts.{within}
+use Rattle.policy_values.specs.declared.call_values.LoneCall.{LoneCall}
+use Rattle.policy_values.specs.declared.call_values.LoneCall.TheVariants as lone
+use Rattle.policy_values.specs.declared.set_calls.CallsRead.{CallsRead}
 use Rattle.policy_values.specs.declared.path_calls.PathPlaces.{PathPlaces}
 use Rattle.policy_values.specs.Built.{set_of_arg}
 use Rattle.policy_values.specs.CallValues.{CallValue}
+use Rattle.policy_values.specs.Parts.{PartsValue, call_onto}
 use Rattle.policy_values.specs.Reads.{over}
+
+-- the call that is a word alone
+abbrev pub lone_call : LoneCall → Call
+lone_call lone.Any = Any
+lone_call lone.Drop = Drop
+lone_call lone.Internal = Internal
+
+-- the calls of the sets that the program read, or their first unknown name
+abbrev pub plain_calls : CallsRead → Result (List Call) PolicyFault
+plain_calls read = read.names >>= λ _. Ok read.list
 
 -- the calls of the sets so far, with that of one set more: the first unknown name stays
 abbrev pub with_call : SetCall → Result (List Call) PolicyFault → Result LocSet PolicyFault → Result (List Call) PolicyFault
@@ -36,6 +51,9 @@ abbrev pub of_calls : List Call → Ranking
 of_calls (c ∷ []) = call c
 of_calls cs = calls cs
 
+abbrev pub calls_value : Result (List Call) PolicyFault → Result Ranking PolicyFault
+calls_value read = read >>= λ cs. Ok (of_calls cs)
+
 -- a call without places, with this value
 abbrev pub placeless : Option Place → Result Ranking PolicyFault → CallValue
 placeless above value = record { above = above; places = Ok tt; value = value }
@@ -47,8 +65,16 @@ linked a b = do
   y ← b
   Ok (call (Link x y))
 
+-- how many places of a `path` were read so far, and their sets or their first unknown name
+pub record PlacesValue : Type 0 where
+  pub count : ℕ
+  pub sets : Result (List LocSet) PolicyFault
+
+abbrev pub plain_places : PathPlaces → PlacesValue
+plain_places p = record { count = p.count; sets = p.names >>= λ _. Ok p.list }
+
 -- no place was read so far
-abbrev pub no_places : PathPlaces
+abbrev pub no_places : PlacesValue
 no_places = record { count = 0; sets = Ok [] }
 
 -- the sets of so many places that were read before, with that of one place more, if a `path` may have it
@@ -58,15 +84,19 @@ kept_within most n sets set = do
   s ← set
   Ok (if nat_le most n then ss else ss ++ s ∷ [])
 
-abbrev pub with_place : PathPlaces → Result LocSet PolicyFault → PathPlaces
+abbrev pub with_place : PlacesValue → Result LocSet PolicyFault → PlacesValue
 with_place so_far set = record { count = so_far.count + 1; sets = kept_within PLACES so_far.count so_far.sets set }
 
 -- the value of a `path` with so many places
 abbrev pub path_ranking : ℕ → List LocSet → Ranking
 path_ranking n sets = if nat_le n PLACES then call (Path sets) else call Drop
 
-abbrev pub path_value : PathPlaces → CallValue
+abbrev pub path_value : PlacesValue → CallValue
 path_value p = record { above = None; places = within kind.Places PLACES p.count; value = p.sets >>= λ sets. Ok (path_ranking p.count sets) }
+
+-- a call that was read, on what was read before it
+abbrev pub taken : Read CallValue → PartsValue → Read PartsValue
+taken read v = read >>= λ x. Ok (call_onto x.0 v, x.1)
 
 module _ (bytes : List ℕ) (net : PlainNet) (known : Names) where
   abbrev pub call_link : SetCall → Lexeme → Result (List Call) PolicyFault → List Lexeme → Read (Result (List Call) PolicyFault)
@@ -74,7 +104,7 @@ module _ (bytes : List ℕ) (net : PlainNet) (known : Names) where
     x ← over (set_of_arg bytes net known) (set_at ls)
     Ok (with_call c so_far x.0, x.1)
 
-  abbrev pub place_link : Lexeme → PathPlaces → List Lexeme → Read PathPlaces
+  abbrev pub place_link : Lexeme → PlacesValue → List Lexeme → Read PlacesValue
   place_link joint places ls = do
     x ← over (set_of_arg bytes net known) (one_at ls)
     Ok (with_place places x.0, x.1)
@@ -86,25 +116,27 @@ module _ (bytes : List ℕ) (net : PlainNet) (known : Names) where
     x ← over (set_of_arg bytes net known) (set_at inside)
     all ← chain symbol.Above (call_link c) (length x.1) (with_call c (Ok []) x.0) x.1
     rest ← after symbol.RoundClose all.1
-    Ok (placeless (above_at x.1) (all.0 >>= λ cs. Ok (of_calls cs)), rest)
+    Ok (placeless (above_at x.1) (calls_value all.0), rest)
+
+  -- the set of a place behind a symbol
+  abbrev pub one_behind : Symbol → List Lexeme → Read (Result LocSet PolicyFault)
+  one_behind s ls = do
+    rest ← after s ls
+    over (set_of_arg bytes net known) (one_at rest)
 
   -- "(" one "," one ")"
   unfoldable pub link_read : List Lexeme → Read CallValue
   link_read ls = do
-    inside ← after symbol.RoundOpen ls
-    a ← over (set_of_arg bytes net known) (one_at inside)
-    second ← after symbol.Comma a.1
-    b ← over (set_of_arg bytes net known) (one_at second)
+    a ← one_behind symbol.RoundOpen ls
+    b ← one_behind symbol.Comma a.1
     rest ← after symbol.RoundClose b.1
     Ok (placeless None (linked a.0 b.0), rest)
 
   -- "(" one "," one { "," one } ")"
   unfoldable pub path_read : List Lexeme → Read CallValue
   path_read ls = do
-    inside ← after symbol.RoundOpen ls
-    a ← over (set_of_arg bytes net known) (one_at inside)
-    second ← after symbol.Comma a.1
-    b ← over (set_of_arg bytes net known) (one_at second)
+    a ← one_behind symbol.RoundOpen ls
+    b ← one_behind symbol.Comma a.1
     places ← chain symbol.Comma place_link (length b.1) (with_place (with_place no_places a.0) b.0) b.1
     rest ← after symbol.RoundClose places.1
     Ok (path_value places.0, rest)

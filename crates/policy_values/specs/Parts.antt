@@ -67,16 +67,20 @@ call_onto c v = settled (record {
   stack = value_onto c.value v.stack;
 })
 
+-- what is made of the two expressions on top of a stack, in their place
+abbrev pub joined_on_top : (Ranking → Ranking → Ranking) → List Ranking → List Ranking
+joined_on_top join rs = join (top (under_top rs)) (top rs) ∷ under_top (under_top rs)
+
+abbrev pub negated_on_top : List Ranking → List Ranking
+negated_on_top rs = negated (top rs) ∷ under_top rs
+
 -- an operator with two sides, which takes them from the stack
 abbrev pub sides_onto : Step → (Ranking → Ranking → Ranking) → PartsValue → PartsValue
-sides_onto s join v = settled (record v {
-  marks = marks_behind s v.marks;
-  stack = join (top (under_top v.stack)) (top v.stack) ∷ under_top (under_top v.stack);
-})
+sides_onto s join v = settled (record v { marks = marks_behind s v.marks; stack = joined_on_top join v.stack })
 
 -- `not`
 abbrev pub not_onto : PartsValue → PartsValue
-not_onto v = settled (record v { marks = marks_behind step.Not v.marks; stack = negated (top v.stack) ∷ under_top v.stack })
+not_onto v = settled (record v { marks = marks_behind step.Not v.marks; stack = negated_on_top v.stack })
 
 module _ (bytes : List ℕ) (net : PlainNet) (known : Names) where
   -- one part more

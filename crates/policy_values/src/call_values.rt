@@ -1,22 +1,30 @@
 //! Calls that are read straight to their values.
-ghost use Rattle.std.specs.Prelude.{◌≡◌, ◌≤◌, length, None, Ok};
+ghost use Rattle.std.specs.Prelude.{◌≡◌, ◌≤◌, length};
 ghost use Rattle.net_base.specs.Gives.{GivesUnless};
 ghost use Rattle.policy_tokens.specs.declared.fault.PolicyFault.TheVariants.{NoMemory};
-ghost use Rattle.policy_base.specs.Policies.{call as call_of};
 ghost use Rattle.policy_grammar.specs.Left.{left, StandsIn};
-ghost use Rattle.policy_grammar.specs.Calls.{word_of as word, call_at};
+ghost use Rattle.policy_grammar.specs.Calls.{word_of as word};
 ghost use Rattle.policy_rules.specs.KnownView.{plain_names};
-ghost use Rattle.policy_values.specs.Reads.{over};
-ghost use Rattle.policy_values.specs.CallValues.{plain_call, call_value};
-ghost use Rattle.policy_values.specs.CallReaders.{placeless, behind_read};
+ghost use Rattle.policy_values.specs.CallReaders.{lone_call, behind_read, taken};
+ghost use Rattle.policy_values.specs.Levels.{call_step};
+ghost use Rattle.policy_values.specs.Parts.{parts_value, step_onto};
 
+use crate::parts::Parts;
 use crate::reader::Reader;
 use net_base::Place;
 use policy_base::{Call, CallWord, Ranked};
 use policy_grammar::{Lexeme, Symbol, advance, refused};
 use policy_tokens::PolicyFault;
 
-/// What a call comes to.
+/// A call that is a word alone.
+#[derive(Clone, Copy)]
+pub(crate) enum LoneCall {
+    Any,
+    Drop,
+    Internal,
+}
+
+/// What a call with sets comes to.
 #[derive(Drop)]
 pub(crate) struct CallRead {
     /// Where its first `>>` stands, if there is one.
@@ -25,6 +33,19 @@ pub(crate) struct CallRead {
     pub places: Result<(), PolicyFault>,
     /// Its value, or its first unknown name.
     pub value: Result<Ranked, PolicyFault>,
+}
+
+impl LoneCall {
+    /// The call itself.
+    pub fn call(self) -> Call
+        ensures { result ≡ lone_call self }
+    {
+        match self {
+            LoneCall::Any => Call::Any,
+            LoneCall::Drop => Call::Drop,
+            LoneCall::Internal => Call::Internal,
+        }
+    }
 }
 
 fn word_of(symbol: Symbol) -> Option<CallWord>
@@ -36,42 +57,36 @@ fn word_of(symbol: Symbol) -> Option<CallWord>
     }
 }
 
-// A call of a word that stands alone.
-fn alone(call: Call) -> CallRead
-    ensures { plain_call result ≡ placeless None (Ok (call_of call)) }
-{
-    CallRead {
-        above: None,
-        places: Ok(()),
-        value: Ok(Ranked::Call(call)),
-    }
-}
-
 impl Reader<'_> {
     // The call of a word, by what stands behind the word.
-    fn call_behind(&self, word: CallWord, at: &mut Lexeme) -> Result<CallRead, PolicyFault>
+    fn call_behind(
+        &self,
+        word: CallWord,
+        parts: &mut Parts,
+        at: &mut Lexeme,
+    ) -> Result<(), PolicyFault>
         requires stands { StandsIn self.now.text.now at.old }
-        ensures read { GivesUnless NoMemory (λ x. (plain_call x, left self.now.text.now at.new)) result
-            (behind_read self.now.text.now self.now.whole.now.net.now (plain_names self.now.known.now) word (left self.now.text.now at.old)) }
+        ensures read { GivesUnless NoMemory (λ _. (parts_value parts.new, left self.now.text.now at.new)) result
+            (taken (behind_read self.now.text.now self.now.whole.now.net.now (plain_names self.now.known.now) word (left self.now.text.now at.old)) (parts_value parts.old)) }
         ensures stands { StandsIn self.now.text.now at.new }
         ensures fewer { length (left self.now.text.now at.new) ≤ length (left self.now.text.now at.old) }
     {
         match word {
-            CallWord::Any => Ok(alone(Call::Any)),
-            CallWord::Drop => Ok(alone(Call::Drop)),
-            CallWord::Internal => Ok(alone(Call::Internal)),
-            CallWord::Link => self.link_call(at),
-            CallWord::Path => self.path_call(at),
-            CallWord::Of(call) => self.sets_call(call, at),
+            CallWord::Any => parts.take_lone(LoneCall::Any),
+            CallWord::Drop => parts.take_lone(LoneCall::Drop),
+            CallWord::Internal => parts.take_lone(LoneCall::Internal),
+            CallWord::Link => self.link_call(parts, at),
+            CallWord::Path => self.path_call(parts, at),
+            CallWord::Of(call) => self.sets_call(call, parts, at),
         }
     }
 
-    /// A call.
+    /// A call more.
     #[tactic(auto, using(crate::proofs::CallLaws::call_inside))]
-    pub(crate) fn call(&self, at: &mut Lexeme) -> Result<CallRead, PolicyFault>
+    pub(crate) fn call(&self, parts: &mut Parts, at: &mut Lexeme) -> Result<(), PolicyFault>
         requires stands { StandsIn self.now.text.now at.old }
-        ensures read { GivesUnless NoMemory (λ x. (plain_call x, left self.now.text.now at.new)) result
-            (over (call_value self.now.text.now self.now.whole.now.net.now (plain_names self.now.known.now)) (call_at (left self.now.text.now at.old))) }
+        ensures read { GivesUnless NoMemory (λ _. (parts_value parts.new, left self.now.text.now at.new)) result
+            (call_step (step_onto self.now.text.now self.now.whole.now.net.now (plain_names self.now.known.now)) (parts_value parts.old) (left self.now.text.now at.old)) }
         ensures stands { StandsIn self.now.text.now at.new }
         ensures fewer { length (left self.now.text.now at.new) ≤ length (left self.now.text.now at.old) }
     {
@@ -79,6 +94,6 @@ impl Reader<'_> {
             return Err(refused(at));
         };
         advance(self.text, at);
-        self.call_behind(word, at)
+        self.call_behind(word, parts, at)
     }
 }

@@ -48,8 +48,7 @@ impl Reader<'_> {
             self.inner(depth, parts, at)?;
             return passed(Symbol::RoundClose, self.text, at);
         }
-        let read = self.call(at)?;
-        parts.take_call(read)
+        self.call(parts, at)
     }
 
     // An atom, with a `not` before it or without.

@@ -21,23 +21,25 @@ use policy_tokens::PolicyFault;
 
 impl Reader<'_> {
     /// The locations of one name more. The first name that is unknown stays the answer.
-    pub(crate) fn with_named(
-        &self,
-        so_far: Result<LocSet, PolicyFault>,
-        name: &Lexeme,
-    ) -> Result<LocSet, PolicyFault>
-        ensures { result ≡ with_one self.now.text.now (plain_names self.now.known.now) so_far name.now }
+    pub(crate) fn add_named(&self, joined: &mut Result<LocSet, PolicyFault>, name: &Lexeme)
+        ensures { joined.new ≡ with_one self.now.text.now (plain_names self.now.known.now) joined.old name.now }
     {
-        let set = so_far?;
-        let more = set_at(self.text, self.known, name)?;
-        Ok(set.union(&more))
+        let Ok(set) = *joined else {
+            return;
+        };
+        *joined = match set_at(self.text, self.known, name) {
+            Ok(more) => Ok(set.union(&more)),
+            Err(fault) => Err(fault),
+        };
     }
 
     // The locations of a name.
     fn alone(&self, name: &Lexeme) -> Result<LocSet, PolicyFault>
         ensures { result ≡ set_of_names self.now.text.now (plain_names self.now.known.now) (name.now ∷ []) }
     {
-        self.with_named(Ok(LocSet::new()), name)
+        let mut joined = Ok(LocSet::new());
+        self.add_named(&mut joined, name);
+        joined
     }
 
     // More names, as long as a comma comes.
@@ -54,7 +56,7 @@ impl Reader<'_> {
     {
         while past(Symbol::Comma, self.text, at) {
             let name = first(Symbol::Name, self.text, at)?;
-            *joined = self.with_named(*joined, &name);
+            self.add_named(joined, &name);
         }
         Ok(())
     }

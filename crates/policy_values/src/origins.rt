@@ -43,24 +43,23 @@ impl Reader<'_> {
     }
 
     // One name more.
-    fn with_origin(&self, so_far: OriginNames, name: &Lexeme) -> OriginNames
-        ensures { result ≡ with_one self.now.text.now self.now.whole.now.net.now (plain_names self.now.known.now) so_far name.now }
+    fn add_origin(&self, found: &mut OriginNames, name: &Lexeme)
+        ensures { found.new ≡ with_one self.now.text.now self.now.whole.now.net.now (plain_names self.now.known.now) found.old name.now }
     {
-        OriginNames {
-            at: self.with_named(so_far.at, name),
-            routers: self.routers_alone(so_far.routers, name),
-        }
+        self.add_named(&mut found.at, name);
+        found.routers = self.routers_alone(found.routers, name);
     }
 
     // The first name.
     fn first_origin(&self, name: &Lexeme) -> OriginNames
         ensures { result ≡ named self.now.text.now self.now.whole.now.net.now (plain_names self.now.known.now) (name.now ∷ []) }
     {
-        let none = OriginNames {
+        let mut found = OriginNames {
             at: Ok(LocSet::new()),
             routers: Ok(()),
         };
-        self.with_origin(none, name)
+        self.add_origin(&mut found, name);
+        found
     }
 
     // More names, as long as a comma comes.
@@ -74,7 +73,7 @@ impl Reader<'_> {
     {
         while past(Symbol::Comma, self.text, at) {
             let name = first(Symbol::Name, self.text, at)?;
-            *found = self.with_origin(*found, &name);
+            self.add_origin(found, &name);
         }
         Ok(())
     }

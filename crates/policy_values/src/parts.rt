@@ -1,16 +1,18 @@
 //! What the parts of an expression come to.
-ghost use Rattle.std.specs.Prelude.{◌≡◌, ◌∷◌, Ok};
+ghost use Rattle.std.specs.Prelude.{◌≡◌, ◌∷◌, None, Ok};
 ghost use Rattle.net_base.specs.Gives.{GivesUnless};
 ghost use Rattle.policy_tokens.specs.declared.fault.PolicyFault.TheVariants.{NoMemory};
-ghost use Rattle.policy_base.specs.Policies.{ranking_of};
+ghost use Rattle.policy_base.specs.Policies.{call as call_of, ranking_of};
 ghost use Rattle.policy_rules.specs.Ranks.{top as top_mark, or_broken};
 ghost use Rattle.policy_values.specs.Built.{top, under_top};
 ghost use Rattle.policy_values.specs.Operators.{level_of, step_at, join_of};
 ghost use Rattle.policy_values.specs.Views.{rankings};
+ghost use Rattle.policy_values.specs.CallReaders.{lone_call, placeless};
 ghost use Rattle.policy_values.specs.CallValues.{plain_call, plain_value};
-ghost use Rattle.policy_values.specs.Parts.{parts_value, no_parts, first_fault, names_of as names_in, is_kept as are_kept, settled, call_onto, sides_onto, not_onto};
+ghost use Rattle.policy_values.specs.Parts.{parts_value, no_parts, first_fault, names_of as names_in, is_kept as are_kept, settled, value_onto};
+ghost use Rattle.policy_values.specs.Parts.{joined_on_top, negated_on_top, call_onto, sides_onto, not_onto};
 
-use crate::call_values::CallRead;
+use crate::call_values::{CallRead, LoneCall};
 use crate::operators::Operator;
 use net_base::Place;
 use policy_base::{Call, FromSet, Ranked};
@@ -75,6 +77,43 @@ fn push(stack: &mut Vec<Ranked>, ranked: Ranked) -> Result<(), PolicyFault>
     Ok(())
 }
 
+// The value of a call on top of the stack; there is none if a name is unknown.
+fn push_value(
+    stack: &mut Vec<Ranked>,
+    value: Result<Ranked, PolicyFault>,
+) -> Result<(), PolicyFault>
+    ensures { GivesUnless NoMemory (λ _. rankings stack.new.items) result (Ok (value_onto (plain_value value) (rankings stack.old.items))) }
+{
+    match value {
+        Ok(ranked) => push(stack, ranked),
+        Err(_) => Ok(()),
+    }
+}
+
+// A call that is a word alone on top of the stack.
+fn push_lone(stack: &mut Vec<Ranked>, lone: LoneCall) -> Result<(), PolicyFault>
+    ensures { GivesUnless NoMemory (λ _. rankings stack.new.items) result (Ok (call_of (lone_call lone) ∷ rankings stack.old.items)) }
+{
+    push(stack, Ranked::Call(lone.call()))
+}
+
+// What an operator makes of the two on top of the stack.
+fn join_top(alloc: Global, operator: Operator, stack: &mut Vec<Ranked>) -> Result<(), PolicyFault>
+    ensures { GivesUnless NoMemory (λ _. rankings stack.new.items) result (Ok (joined_on_top (join_of (level_of operator)) (rankings stack.old.items))) }
+{
+    let b = pop(stack);
+    let a = pop(stack);
+    push(stack, operator.join(alloc, a, b)?)
+}
+
+// `not a` of the one on top of the stack.
+fn negate_top(alloc: Global, stack: &mut Vec<Ranked>) -> Result<(), PolicyFault>
+    ensures { GivesUnless NoMemory (λ _. rankings stack.new.items) result (Ok (negated_on_top (rankings stack.old.items))) }
+{
+    let a = Box::new(alloc, pop(stack))?;
+    push(stack, Ranked::Not(a))
+}
+
 impl Parts {
     /// No part.
     pub(crate) fn of(alloc: Global) -> Parts
@@ -108,6 +147,18 @@ impl Parts {
         kept
     }
 
+    /// One call more that is a word alone. A value is made of it only where it is kept.
+    pub(crate) fn take_lone(&mut self, lone: LoneCall) -> Result<(), PolicyFault>
+        ensures { GivesUnless NoMemory (λ _. parts_value self.new) result (Ok (call_onto (placeless None (Ok (call_of (lone_call lone)))) (parts_value self.old))) }
+    {
+        self.calls = self.calls.saturating_add(1);
+        mark_call(&mut self.marks, None)?;
+        if !self.settle() {
+            return Ok(());
+        }
+        push_lone(&mut self.stack, lone)
+    }
+
     /// One call more.
     pub(crate) fn take_call(&mut self, call: CallRead) -> Result<(), PolicyFault>
         ensures { GivesUnless NoMemory (λ _. parts_value self.new) result (Ok (call_onto (plain_call call) (parts_value self.old))) }
@@ -115,12 +166,9 @@ impl Parts {
         self.calls = self.calls.saturating_add(1);
         self.places = behind(self.places, call.places);
         self.names = behind(self.names, known(&call.value));
+        push_value(&mut self.stack, call.value)?;
         mark_call(&mut self.marks, call.above)?;
-        if self.settle()
-            && let Ok(ranked) = call.value
-        {
-            push(&mut self.stack, ranked)?;
-        }
+        self.settle();
         Ok(())
     }
 
@@ -137,9 +185,7 @@ impl Parts {
         if !self.settle() {
             return Ok(());
         }
-        let b = pop(&mut self.stack);
-        let a = pop(&mut self.stack);
-        push(&mut self.stack, operator.join(alloc, a, b)?)
+        join_top(alloc, operator, &mut self.stack)
     }
 
     /// `not a` of the one on top.
@@ -150,8 +196,7 @@ impl Parts {
         if !self.settle() {
             return Ok(());
         }
-        let a = Box::new(alloc, pop(&mut self.stack))?;
-        push(&mut self.stack, Ranked::Not(a))
+        negate_top(alloc, &mut self.stack)
     }
 
     /// The first unknown name of the expression, or else that of a value behind it.

@@ -1,17 +1,32 @@
 //! Calls with places, place by place.
 ghost use Rattle.std.specs.Prelude.{◌≡◌, ◌≤◌, ◌<◌, ◌+◌, length, Ok};
 ghost use Rattle.policy_tokens.specs.declared.limits.TheConstants.{PLACES};
-ghost use Rattle.policy_tokens.specs.declared.kind.Kind.TheVariants as kind;
 ghost use Rattle.net_base.specs.Gives.{GivesUnless};
 ghost use Rattle.policy_tokens.specs.declared.fault.PolicyFault.TheVariants.{NoMemory};
 ghost use Rattle.policy_base.specs.Policies.{ranking_of};
+ghost use Rattle.policy_grammar.specs.declared.symbol.Symbol.TheVariants.{EndOfText};
 ghost use Rattle.policy_grammar.specs.Left.{left, StandsIn};
 ghost use Rattle.policy_grammar.specs.Reading.{chain};
+ghost use Rattle.policy_grammar.specs.Symbols.{number_of};
 ghost use Rattle.policy_rules.specs.KnownView.{plain_names};
-ghost use Rattle.policy_values.specs.CallValues.{plain_value, plain_call};
-ghost use Rattle.policy_values.specs.CallReaders.{linked as link_of_two, kept_within, with_place as places_with, path_ranking, path_value, place_link, link_read, path_read};
+ghost use Rattle.policy_values.specs.CallValues.{plain_call, plain_value};
+ghost use Rattle.policy_values.specs.CallReaders.{
+  linked as link_of_two,
+  plain_places,
+  no_places,
+  with_place,
+  path_ranking,
+  path_value,
+  one_behind as one_there,
+  place_link,
+  link_read,
+  path_read,
+  taken,
+};
+ghost use Rattle.policy_values.specs.Parts.{parts_value};
 
 use crate::call_values::CallRead;
+use crate::parts::Parts;
 use crate::reader::Reader;
 use net_base::{List, LocSet};
 use policy_base::{Call, Ranked};
@@ -19,14 +34,17 @@ use policy_grammar::{Lexeme, Symbol, passed, past};
 use policy_rules::within;
 use policy_tokens::limits::PLACES;
 use policy_tokens::{Kind, PolicyFault};
+use std::alloc::Global;
 
 /// The places of a `path` that were read so far.
 #[derive(Drop)]
 pub(crate) struct PathPlaces {
     /// How many there are.
     pub count: u64,
-    /// Their sets, of which no more are kept than a `path` may have, or the first unknown name.
-    pub sets: Result<List<LocSet>, PolicyFault>,
+    /// The first name that is unknown.
+    pub names: Result<(), PolicyFault>,
+    /// The sets of the places up to there, of which no more are kept than a `path` may have.
+    pub list: List<LocSet>,
 }
 
 // A `link` of two sets.
@@ -37,39 +55,6 @@ fn linked(
     ensures { plain_value result ≡ link_of_two a b }
 {
     Ok(Ranked::Call(Call::Link(a?, b?)))
-}
-
-// The sets of so many places that were read before, with that of one place more, if a `path` may have it.
-fn kept(
-    count: u64,
-    sets: Result<List<LocSet>, PolicyFault>,
-    set: Result<LocSet, PolicyFault>,
-) -> Result<Result<List<LocSet>, PolicyFault>, PolicyFault>
-    ensures { GivesUnless NoMemory (λ x. x) result (Ok (kept_within PLACES count sets set)) }
-{
-    match (sets, set) {
-        (Ok(mut found), Ok(set)) => {
-            if count < PLACES {
-                found.push(set)?;
-            }
-            Ok(Ok(found))
-        }
-        (Err(fault), _) | (Ok(_), Err(fault)) => Ok(Err(fault)),
-    }
-}
-
-// One place more.
-fn with_place(
-    places: PathPlaces,
-    set: Result<LocSet, PolicyFault>,
-) -> Result<PathPlaces, PolicyFault>
-    requires { places.count < 18446744073709551615 }
-    ensures { GivesUnless NoMemory (λ x. x) result (Ok (places_with places set)) }
-{
-    Ok(PathPlaces {
-        count: places.count + 1,
-        sets: kept(places.count, places.sets, set)?,
-    })
 }
 
 // The value of a `path` with so many places.
@@ -83,38 +68,88 @@ fn ranked(count: u64, sets: List<LocSet>) -> Ranked
     }
 }
 
-// The `path` with these places.
-fn of_places(places: PathPlaces) -> CallRead
-    ensures { plain_call result ≡ path_value places }
-{
-    let PathPlaces { count, sets } = places;
-    let value = match sets {
-        Ok(sets) => Ok(ranked(count, sets)),
-        Err(fault) => Err(fault),
-    };
-    CallRead {
-        above: None,
-        places: within(Kind::Places, PLACES, count),
-        value,
+impl PathPlaces {
+    // No place.
+    fn none(alloc: Global) -> PathPlaces
+        ensures { plain_places result ≡ no_places }
+    {
+        PathPlaces {
+            count: 0,
+            names: Ok(()),
+            list: List::new(alloc),
+        }
+    }
+
+    // One place more. Its set is kept if a `path` may have it.
+    fn take(&mut self, set: Result<LocSet, PolicyFault>) -> Result<(), PolicyFault>
+        requires few { self.old.count < 18446744073709551615 }
+        ensures { GivesUnless NoMemory (λ _. plain_places self.new) result (Ok (with_place (plain_places self.old) set)) }
+    {
+        let before = self.count;
+        self.count += 1;
+        match (self.names, set) {
+            (Ok(_), Ok(set)) => {
+                if before < PLACES {
+                    self.list.push(set)?;
+                }
+            }
+            (Ok(_), Err(fault)) => self.names = Err(fault),
+            (Err(_), _) => {}
+        }
+        Ok(())
+    }
+
+    // The value of the `path`.
+    fn value(self) -> Result<Ranked, PolicyFault>
+        ensures { plain_value result ≡ (path_value (plain_places self)).value }
+    {
+        self.names?;
+        Ok(ranked(self.count, self.list))
+    }
+
+    // The `path` with these places.
+    fn read(self) -> CallRead
+        ensures { plain_call result ≡ path_value (plain_places self) }
+    {
+        CallRead {
+            above: None,
+            places: within(Kind::Places, PLACES, self.count),
+            value: self.value(),
+        }
     }
 }
 
 impl Reader<'_> {
-    /// The two places of a `link`.
-    #[tactic(auto, unfolding(crate::specs::CallReaders::link_read))]
-    pub(crate) fn link_call(&self, at: &mut Lexeme) -> Result<CallRead, PolicyFault>
+    // The place behind a symbol.
+    fn one_behind(
+        &self,
+        symbol: Symbol,
+        at: &mut Lexeme,
+    ) -> Result<Result<LocSet, PolicyFault>, PolicyFault>
+        requires sign { number_of symbol < number_of EndOfText }
         requires stands { StandsIn self.now.text.now at.old }
-        ensures read { GivesUnless NoMemory (λ x. (plain_call x, left self.now.text.now at.new)) result
-            (link_read self.now.text.now self.now.whole.now.net.now (plain_names self.now.known.now) (left self.now.text.now at.old)) }
+        ensures read { GivesUnless NoMemory (λ x. (x, left self.now.text.now at.new)) result
+            (one_there self.now.text.now self.now.whole.now.net.now (plain_names self.now.known.now) symbol (left self.now.text.now at.old)) }
         ensures stands { StandsIn self.now.text.now at.new }
         ensures fewer { length (left self.now.text.now at.new) ≤ length (left self.now.text.now at.old) }
     {
-        passed(Symbol::RoundOpen, self.text, at)?;
-        let a = self.one(at)?;
-        passed(Symbol::Comma, self.text, at)?;
-        let b = self.one(at)?;
+        passed(symbol, self.text, at)?;
+        self.one(at)
+    }
+
+    /// A `link` more, behind its word.
+    #[tactic(auto, unfolding(crate::specs::CallReaders::link_read))]
+    pub(crate) fn link_call(&self, parts: &mut Parts, at: &mut Lexeme) -> Result<(), PolicyFault>
+        requires stands { StandsIn self.now.text.now at.old }
+        ensures read { GivesUnless NoMemory (λ _. (parts_value parts.new, left self.now.text.now at.new)) result
+            (taken (link_read self.now.text.now self.now.whole.now.net.now (plain_names self.now.known.now) (left self.now.text.now at.old)) (parts_value parts.old)) }
+        ensures stands { StandsIn self.now.text.now at.new }
+        ensures fewer { length (left self.now.text.now at.new) ≤ length (left self.now.text.now at.old) }
+    {
+        let a = self.one_behind(Symbol::RoundOpen, at)?;
+        let b = self.one_behind(Symbol::Comma, at)?;
         passed(Symbol::RoundClose, self.text, at)?;
-        Ok(CallRead {
+        parts.take_call(CallRead {
             above: None,
             places: Ok(()),
             value: linked(a, b),
@@ -122,43 +157,50 @@ impl Reader<'_> {
     }
 
     // More places, as long as a comma comes.
-    fn more_places(&self, places: PathPlaces, at: &mut Lexeme) -> Result<PathPlaces, PolicyFault>
+    fn more_places(&self, places: &mut PathPlaces, at: &mut Lexeme) -> Result<(), PolicyFault>
         requires stands { StandsIn self.now.text.now at.old }
-        requires room { places.count + length (left self.now.text.now at.old) ≤ 18446744073709551615 }
-        ensures read { GivesUnless NoMemory (λ x. (x, left self.now.text.now at.new)) result
+        requires room { places.old.count + length (left self.now.text.now at.old) ≤ 18446744073709551615 }
+        ensures read { GivesUnless NoMemory (λ _. (plain_places places.new, left self.now.text.now at.new)) result
             (chain Symbol.Comma (place_link self.now.text.now self.now.whole.now.net.now (plain_names self.now.known.now))
-            (length (left self.now.text.now at.old)) places (left self.now.text.now at.old)) }
+            (length (left self.now.text.now at.old)) (plain_places places.old) (left self.now.text.now at.old)) }
         ensures stands { StandsIn self.now.text.now at.new }
         ensures fewer { length (left self.now.text.now at.new) ≤ length (left self.now.text.now at.old) }
     {
-        let mut found = places;
         while past(Symbol::Comma, self.text, at) {
             let set = self.one(at)?;
-            found = with_place(found, set)?;
+            places.take(set)?;
         }
-        Ok(found)
+        Ok(())
     }
 
-    /// The places of a `path`, two at least.
+    // The places of a `path`, two at least, in brackets.
     #[tactic(auto, unfolding(crate::specs::CallReaders::path_read))]
-    pub(crate) fn path_call(&self, at: &mut Lexeme) -> Result<CallRead, PolicyFault>
+    fn path_places(&self, places: &mut PathPlaces, at: &mut Lexeme) -> Result<(), PolicyFault>
+        requires none { plain_places places.old ≡ no_places }
         requires stands { StandsIn self.now.text.now at.old }
-        ensures read { GivesUnless NoMemory (λ x. (plain_call x, left self.now.text.now at.new)) result
+        ensures read { GivesUnless NoMemory (λ _. (path_value (plain_places places.new), left self.now.text.now at.new)) result
             (path_read self.now.text.now self.now.whole.now.net.now (plain_names self.now.known.now) (left self.now.text.now at.old)) }
         ensures stands { StandsIn self.now.text.now at.new }
         ensures fewer { length (left self.now.text.now at.new) ≤ length (left self.now.text.now at.old) }
     {
-        passed(Symbol::RoundOpen, self.text, at)?;
-        let a = self.one(at)?;
-        passed(Symbol::Comma, self.text, at)?;
-        let b = self.one(at)?;
-        let none = PathPlaces {
-            count: 0,
-            sets: Ok(List::new(self.alloc)),
-        };
-        let two = with_place(with_place(none, a)?, b)?;
-        let places = self.more_places(two, at)?;
-        passed(Symbol::RoundClose, self.text, at)?;
-        Ok(of_places(places))
+        let a = self.one_behind(Symbol::RoundOpen, at)?;
+        places.take(a)?;
+        let b = self.one_behind(Symbol::Comma, at)?;
+        places.take(b)?;
+        self.more_places(places, at)?;
+        passed(Symbol::RoundClose, self.text, at)
+    }
+
+    /// A `path` more, behind its word.
+    pub(crate) fn path_call(&self, parts: &mut Parts, at: &mut Lexeme) -> Result<(), PolicyFault>
+        requires stands { StandsIn self.now.text.now at.old }
+        ensures read { GivesUnless NoMemory (λ _. (parts_value parts.new, left self.now.text.now at.new)) result
+            (taken (path_read self.now.text.now self.now.whole.now.net.now (plain_names self.now.known.now) (left self.now.text.now at.old)) (parts_value parts.old)) }
+        ensures stands { StandsIn self.now.text.now at.new }
+        ensures fewer { length (left self.now.text.now at.new) ≤ length (left self.now.text.now at.old) }
+    {
+        let mut places = PathPlaces::none(self.alloc);
+        self.path_places(&mut places, at)?;
+        parts.take_call(places.read())
     }
 }

@@ -1,5 +1,5 @@
 //! Calls with ranked sets, set by set.
-ghost use Rattle.std.specs.Prelude.{◌≡◌, ◌≤◌, ℕ, List as Items, length, Ok};
+ghost use Rattle.std.specs.Prelude.{◌≡◌, ◌≤◌, ℕ, List as Items, [], length, Ok};
 ghost use Rattle.net_base.specs.Gives.{GivesUnless};
 ghost use Rattle.policy_tokens.specs.declared.fault.PolicyFault.TheVariants.{NoMemory};
 ghost use Rattle.policy_base.specs.Policies.{ranking_of};
@@ -7,31 +7,26 @@ ghost use Rattle.policy_grammar.specs.Left.{left, StandsIn};
 ghost use Rattle.policy_grammar.specs.Reading.{chain};
 ghost use Rattle.policy_grammar.specs.Calls.{above_at};
 ghost use Rattle.policy_rules.specs.KnownView.{plain_names};
-ghost use Rattle.policy_values.specs.CallValues.{plain_call};
-ghost use Rattle.policy_values.specs.CallReaders.{with_call as calls_with, of_calls as of_all, call_link, sets_read};
+ghost use Rattle.policy_values.specs.CallValues.{plain_value};
+ghost use Rattle.policy_values.specs.CallReaders.{plain_calls, with_call, of_calls as of_all, calls_value, call_link, placeless, sets_read, taken};
+ghost use Rattle.policy_values.specs.Parts.{parts_value};
 
 use crate::call_values::CallRead;
+use crate::parts::Parts;
 use crate::reader::Reader;
 use net_base::{List, LocSet, Place};
 use policy_base::{Call, Ranked, SetCall};
 use policy_grammar::{Lexeme, Symbol, begins, passed, past};
 use policy_tokens::PolicyFault;
+use std::alloc::Global;
 
-// The calls of the sets so far, with that of one set more. Once a name is unknown, the first one stays.
-fn with_call(
-    call: SetCall,
-    calls: Result<List<Call>, PolicyFault>,
-    set: Result<LocSet, PolicyFault>,
-) -> Result<Result<List<Call>, PolicyFault>, PolicyFault>
-    ensures { GivesUnless NoMemory (λ x. x) result (Ok (calls_with call calls set)) }
-{
-    match (calls, set) {
-        (Ok(mut found), Ok(set)) => {
-            found.push(Call::Of(call, set))?;
-            Ok(Ok(found))
-        }
-        (Err(fault), _) | (Ok(_), Err(fault)) => Ok(Err(fault)),
-    }
+/// The calls of the sets of a call that were read so far.
+#[derive(Drop)]
+pub(crate) struct CallsRead {
+    /// The first name that is unknown.
+    pub names: Result<(), PolicyFault>,
+    /// The calls of the sets up to there.
+    pub list: List<Call>,
 }
 
 // A call with ranked sets, by the calls of its sets.
@@ -45,6 +40,38 @@ fn of_calls(calls: List<Call>) -> Ranked
         return Ranked::Call(call);
     }
     Ranked::Calls(List::from_vec(calls))
+}
+
+impl CallsRead {
+    // No set.
+    fn none(alloc: Global) -> CallsRead
+        ensures { plain_calls result ≡ Ok [] }
+    {
+        CallsRead {
+            names: Ok(()),
+            list: List::new(alloc),
+        }
+    }
+
+    // The call of one set more. Once a name is unknown, the first one stays.
+    fn take(&mut self, call: SetCall, set: Result<LocSet, PolicyFault>) -> Result<(), PolicyFault>
+        ensures { GivesUnless NoMemory (λ _. plain_calls self.new) result (Ok (with_call call (plain_calls self.old) set)) }
+    {
+        match (self.names, set) {
+            (Ok(_), Ok(set)) => self.list.push(Call::Of(call, set))?,
+            (Ok(_), Err(fault)) => self.names = Err(fault),
+            (Err(_), _) => {}
+        }
+        Ok(())
+    }
+
+    // What they come to.
+    fn value(self) -> Result<Ranked, PolicyFault>
+        ensures { plain_value result ≡ calls_value (plain_calls self) }
+    {
+        self.names?;
+        Ok(of_calls(self.list))
+    }
 }
 
 // Where the `>>` stands that is this lexeme, if it is one.
@@ -63,29 +90,34 @@ impl Reader<'_> {
     fn more_calls(
         &self,
         call: SetCall,
-        calls: Result<List<Call>, PolicyFault>,
+        calls: &mut CallsRead,
         at: &mut Lexeme,
-    ) -> Result<Result<List<Call>, PolicyFault>, PolicyFault>
+    ) -> Result<(), PolicyFault>
         requires stands { StandsIn self.now.text.now at.old }
-        ensures read { GivesUnless NoMemory (λ x. (x, left self.now.text.now at.new)) result
+        ensures read { GivesUnless NoMemory (λ _. (plain_calls calls.new, left self.now.text.now at.new)) result
             (chain Symbol.Above (call_link self.now.text.now self.now.whole.now.net.now (plain_names self.now.known.now) call)
-            (length (left self.now.text.now at.old)) calls (left self.now.text.now at.old)) }
+            (length (left self.now.text.now at.old)) (plain_calls calls.old) (left self.now.text.now at.old)) }
         ensures stands { StandsIn self.now.text.now at.new }
         ensures fewer { length (left self.now.text.now at.new) ≤ length (left self.now.text.now at.old) }
     {
-        let mut found = calls;
         while past(Symbol::Above, self.text, at) {
             let set = self.set(at)?;
-            found = with_call(call, found, set)?;
+            calls.take(call, set)?;
         }
-        Ok(found)
+        Ok(())
     }
 
-    /// The ranked sets of a call.
+    // The ranked sets of a call, in brackets, and where the first `>>` between them stands.
     #[tactic(auto, unfolding(crate::specs::CallReaders::sets_read))]
-    pub(crate) fn sets_call(&self, call: SetCall, at: &mut Lexeme) -> Result<CallRead, PolicyFault>
+    fn ranked_calls(
+        &self,
+        call: SetCall,
+        calls: &mut CallsRead,
+        at: &mut Lexeme,
+    ) -> Result<Option<Place>, PolicyFault>
+        requires none { plain_calls calls.old ≡ Ok [] }
         requires stands { StandsIn self.now.text.now at.old }
-        ensures read { GivesUnless NoMemory (λ x. (plain_call x, left self.now.text.now at.new)) result
+        ensures read { GivesUnless NoMemory (λ above. (placeless above (calls_value (plain_calls calls.new)), left self.now.text.now at.new)) result
             (sets_read self.now.text.now self.now.whole.now.net.now (plain_names self.now.known.now) call (left self.now.text.now at.old)) }
         ensures stands { StandsIn self.now.text.now at.new }
         ensures fewer { length (left self.now.text.now at.new) ≤ length (left self.now.text.now at.old) }
@@ -93,13 +125,31 @@ impl Reader<'_> {
         passed(Symbol::RoundOpen, self.text, at)?;
         let set = self.set(at)?;
         let above = above(at);
-        let first = with_call(call, Ok(List::new(self.alloc)), set)?;
-        let calls = self.more_calls(call, first, at)?;
+        calls.take(call, set)?;
+        self.more_calls(call, calls, at)?;
         passed(Symbol::RoundClose, self.text, at)?;
-        Ok(CallRead {
+        Ok(above)
+    }
+
+    /// A call with ranked sets more, behind its word.
+    pub(crate) fn sets_call(
+        &self,
+        call: SetCall,
+        parts: &mut Parts,
+        at: &mut Lexeme,
+    ) -> Result<(), PolicyFault>
+        requires stands { StandsIn self.now.text.now at.old }
+        ensures read { GivesUnless NoMemory (λ _. (parts_value parts.new, left self.now.text.now at.new)) result
+            (taken (sets_read self.now.text.now self.now.whole.now.net.now (plain_names self.now.known.now) call (left self.now.text.now at.old)) (parts_value parts.old)) }
+        ensures stands { StandsIn self.now.text.now at.new }
+        ensures fewer { length (left self.now.text.now at.new) ≤ length (left self.now.text.now at.old) }
+    {
+        let mut calls = CallsRead::none(self.alloc);
+        let above = self.ranked_calls(call, &mut calls, at)?;
+        parts.take_call(CallRead {
             above,
             places: Ok(()),
-            value: calls.map(of_calls),
+            value: calls.value(),
         })
     }
 }

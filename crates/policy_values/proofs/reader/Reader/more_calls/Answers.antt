@@ -3,7 +3,7 @@ use Rattle.std.proofs.lemmas.Result.{err_from_is_err_and}
 use Rattle.net_base.proofs.StepLemmas.{ok_same}
 use Rattle.policy_grammar.specs.declared.symbol.Symbol.TheVariants.{Above}
 use Rattle.policy_rules.specs.KnownView.{plain_names}
-use Rattle.policy_values.specs.CallReaders.{with_call, call_link}
+use Rattle.policy_values.specs.CallReaders.{plain_calls, with_call, call_link}
 use Rattle.policy_values.proofs.Chains.{goes_on, stops, ends}
 use Rattle.policy_values.proofs.ReadsOver.{read_same}
 use Rattle.policy_values.proofs.reader.Reader.more_calls.Goals as goal
@@ -13,17 +13,18 @@ returns-in_err-set-clause-read c =
     let p = err_from_is_err_and c.from_residual.result c.from_residual.ensures.1 in
     rw (p.1, p.2)
     (λ memory. stops Above
-    (call_link c.args.self.now.text.now c.args.self.now.whole.now.net.now (plain_names c.args.self.now.known.now) c.args.call) c.loop-call.found _ _ _ _ _
+    (call_link c.args.self.now.text.now c.args.self.now.whole.now.net.now (plain_names c.args.self.now.known.now) c.args.call) (plain_calls c.loop-call.calls) _ _ _ _ _
     (c.loop-call-test.ensures.here refl) (rw (c.in_err-set.ensures.read memory) refl) (omega arith) c.loop-call.invariant.so_far)
 
 pub loop-call-preserved : goal.loop-call-preserved
 loop-call-preserved c =
     let onward = c.loop-call-test.ensures.onward refl in
     let fewer = c.set.ensures.fewer in
-    let made : with_call c.args.call c.loop-call.found c.in_ok-set.set ≡ c.in_ok-found.found = ok_same _ _ c.in_ok-found.ensures in record {
+    let made : with_call c.args.call (plain_calls c.loop-call.calls) c.in_ok-set.set ≡ plain_calls c.take.new.self = ok_same _ _ c.in_ok-take.ensures in record {
       so_far =
           goes_on Above
-          (call_link c.args.self.now.text.now c.args.self.now.whole.now.net.now (plain_names c.args.self.now.known.now) c.args.call) c.loop-call.found _ _ _ c.in_ok-found.found _ _
+          (call_link c.args.self.now.text.now c.args.self.now.whole.now.net.now (plain_names c.args.self.now.known.now) c.args.call)
+          (plain_calls c.loop-call.calls) _ _ _ (plain_calls c.take.new.self) _ _
           (c.loop-call-test.ensures.here refl) (rw c.in_ok-set.ensures.read (read_same _ _ _ made))
           (omega (arith, onward, fewer)) c.loop-call.invariant.so_far;
       stands = c.set.ensures.stands;
@@ -34,4 +35,5 @@ pub returns-clause-read : goal.returns-clause-read
 returns-clause-read c =
     let away = c.loop-call-test.ensures.away refl in
     rw away.1 (ends Above
-    (call_link c.args.self.now.text.now c.args.self.now.whole.now.net.now (plain_names c.args.self.now.known.now) c.args.call) c.loop-call.found _ _ away.0 c.loop-call.invariant.so_far)
+    (call_link c.args.self.now.text.now c.args.self.now.whole.now.net.now (plain_names c.args.self.now.known.now) c.args.call)
+    (plain_calls c.loop-call.calls) _ _ away.0 c.loop-call.invariant.so_far)

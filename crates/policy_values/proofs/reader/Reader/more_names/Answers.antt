@@ -18,7 +18,7 @@ loop-at-preserved c =
     let onward = c.loop-at-test.ensures.onward refl in
     let fewer = c.first.ensures.fewer in record {
       so_far =
-          rw c.with_named.ensures
+          rw c.add_named.ensures
           (goes_on Comma (link_by (with_named c.args.self.now.text.now (plain_names c.args.self.now.known.now))) c.loop-at.joined _ _ _ _ _ _
           (c.loop-at-test.ensures.here refl) (rw c.in_ok-name.ensures.read refl) (omega (arith, onward, fewer)) c.loop-at.invariant.so_far);
       stands = c.first.ensures.stands;

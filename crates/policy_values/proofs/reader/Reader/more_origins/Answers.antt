@@ -19,7 +19,7 @@ loop-at-preserved c =
     let fewer = c.first.ensures.fewer in
     let link = link_by (with_origin c.args.self.now.text.now c.args.self.now.whole.now.net.now (plain_names c.args.self.now.known.now)) in record {
       so_far =
-          rw c.with_origin.ensures
+          rw c.add_origin.ensures
           (goes_on Comma link c.loop-at.found _ _ _ _ _ _ (c.loop-at-test.ensures.here refl) (rw c.in_ok-name.ensures.read refl) (omega (arith, onward, fewer)) c.loop-at.invariant.so_far);
       stands = c.first.ensures.stands;
       fewer = omega (arith, onward, fewer, c.loop-at.invariant.fewer);
