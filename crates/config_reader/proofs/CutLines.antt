@@ -1,7 +1,12 @@
 -- The answer at the first fault of a text, and where all its lines are taken.
-use Rattle.std.proofs.Common.{◌≡◌, ℕ, List, length, true, false, Err, refl, sym, ◌∙◌, ap, arith}
+use Rattle.std.proofs.Common.{◌≡◌, ℕ, List, length, Bool, true, false, Option, None, Result, Ok, Err, refl, sym, ◌∙◌, ap, arith}
 use Rattle.std.specs.Str.{bytes_eq}
-use Rattle.std.proofs.lemmas.Bool.{ne_eqb}
+use Rattle.std.specs.Prelude.{◌&&◌, ◌==◌, is_none}
+use Rattle.std.specs.Bool.{then_some}
+use Rattle.std.specs.Option.{ok_or}
+use Rattle.std.proofs.lemmas.Bool.{ne_eqb, and_parts}
+use Rattle.list_laws.proofs.Options.{is_none_parts}
+use Rattle.net_base.proofs.StepLemmas.{ok_same}
 use Rattle.net_base.specs.Addresses.{cut_at}
 use Rattle.config_lines.specs.declared.edition.Edition.{Edition}
 use Rattle.config_lines.specs.Editions.{first_line}
@@ -49,3 +54,11 @@ pub behind_first : (edition : Edition) (bytes line rest : List ℕ) → halves l
 unfolding in_lines
 behind_first edition bytes line rest cut same =
     ap (in_lines edition) (split_there 10 bytes line rest cut) ∙ rw (ne_eqb (length (lines_of rest)) 0 (λ e. omega (arith, e, lines_of-some rest)), same) refl
+
+-- what is kept of a text that is whole
+pub whole_kept : (r s : Reading) (rest : List ℕ) (whole : Bool) (o : Option Reading) (x : Result Reading ConfigFault) → whole ≡ (is_none r.opened && length rest == 0)
+    → o ≡ then_some whole r → x ≡ ok_or o fault.Unfinished → x ≡ Ok s → (r.opened ≡ None) × (r ≡ s)
+whole_kept r s rest true o x is some ok kept =
+    let both = and_parts (is_none r.opened) (length rest == 0) (sym is) in
+    (is_none_parts r.opened both.0, ok_same r s (sym (ok ∙ ap (λ (p : Option Reading). ok_or p fault.Unfinished) some) ∙ kept))
+whole_kept r s rest false o x is some ok kept = absurd (let e = sym (ok ∙ ap (λ (p : Option Reading). ok_or p fault.Unfinished) some) ∙ kept in cc)

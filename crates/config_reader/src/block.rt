@@ -89,21 +89,21 @@ fn add_export(session: &mut Session, line: Export) -> Result<(), Misplaced>
 }
 
 // One more line in the block of a neighbour.
-fn add_entry(session: &mut Session, line: Line) -> Result<(), Misplaced>
-    ensures { GivesUnless Misplaced.NoMemory (λ _. session.new) result (entry_into session.old line) }
+fn add_entry(session: &mut Session, line: &Line) -> Result<(), Misplaced>
+    ensures { GivesUnless Misplaced.NoMemory (λ _. session.new) result (entry_into session.old line.now) }
 {
     match line {
-        Line::Import(rule) => add_import(session, false, rule),
-        Line::PeerImport(rule) => add_import(session, true, rule),
-        Line::Export(export) => add_export(session, export),
+        Line::Import(rule) => add_import(session, false, *rule),
+        Line::PeerImport(rule) => add_import(session, true, *rule),
+        Line::Export(export) => add_export(session, *export),
         _ => Err(Misplaced::Order),
     }
 }
 
 // One more line in the block of a neighbour that is open in that of a router.
 #[tactic(auto, unfolding(crate::specs::Reading::in_neighbour))]
-fn in_neighbour(current: &mut OpenRouter, line: Line) -> Result<(), Misplaced>
-    ensures { GivesUnless Misplaced.NoMemory (λ _. current.new) result (within_neighbour current.old line) }
+fn in_neighbour(current: &mut OpenRouter, line: &Line) -> Result<(), Misplaced>
+    ensures { GivesUnless Misplaced.NoMemory (λ _. current.new) result (within_neighbour current.old line.now) }
 {
     match &mut current.block {
         Some(session) => add_entry(session, line),
@@ -119,7 +119,7 @@ pub fn add_inside(alloc: Global, current: &mut OpenRouter, line: Line) -> Result
         Line::Origination(own) => push_origination(current, own),
         Line::Session(name, asn) => begin_block(alloc, current, false, name, asn),
         Line::Peer(name, asn) => begin_block(alloc, current, true, name, asn),
-        line => in_neighbour(current, line),
+        line => in_neighbour(current, &line),
     }
 }
 

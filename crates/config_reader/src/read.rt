@@ -1,5 +1,5 @@
 //! A text is read line by line.
-ghost use Rattle.std.specs.Prelude.{◌≡◌, ◌==◌, ◌<◌, ◌^◌, None, Ok, IfOk, length};
+ghost use Rattle.std.specs.Prelude.{◌≡◌, ◌==◌, ◌&&◌, ◌<◌, ◌^◌, None, Ok, IfOk, is_none, length};
 ghost use Rattle.std.specs.List.{slice_split};
 ghost use Rattle.net_base.specs.Gives.{GivesUnless};
 ghost use Rattle.config_reader.specs.Reading.{after as after_line};
@@ -85,16 +85,23 @@ fn config_of(reading: Reading) -> Config
     Config::new(reading.classes, reading.routers.into_list())
 }
 
+// Whether nothing is open and nothing follows the last line feed.
+fn is_whole(reading: &Reading, rest: &[u8]) -> bool
+    ensures { result ≡ (is_none reading.now.opened && length rest.now == 0) }
+{
+    reading.opened.is_none() && rest.is_empty()
+}
+
 // The configuration that was read, where nothing is open and nothing follows the last line feed.
 #[tactic(auto, unfolding(crate::specs::Text::finished))]
 fn finish(reading: Reading, rest: &[u8]) -> Result<Config, ConfigFault>
     requires { reading.opened ≡ None → IsConfig (record { classes = reading.classes; routers = reading.routers }) }
     ensures { GivesUnless ConfigFault.NoMemory (λ c. c) result (finished reading rest.now) }
 {
-    if reading.opened.is_some() || !rest.is_empty() {
-        return Err(ConfigFault::Unfinished);
-    }
-    Ok(config_of(reading))
+    let whole = is_whole(&reading, rest)
+        .then_some(reading)
+        .ok_or(ConfigFault::Unfinished)?;
+    Ok(config_of(whole))
 }
 
 // The configuration of the bytes behind the first line, which has the number 1.

@@ -181,7 +181,8 @@ fn add_router(alloc: Global, routers: &mut Routers, router: RouterConfig) -> Res
     ensures { GivesUnless Misplaced.NoMemory (λ _. routers.new) result (Ok (routers.old ++ router ∷ [])) }
 {
     let others = replace(routers, Routers::new(alloc));
-    *routers = others.with(alloc, router)?;
+    let more = others.with(alloc, router)?;
+    drop(replace(routers, more));
     Ok(())
 }
 
@@ -214,6 +215,6 @@ pub fn after(alloc: Global, reading: Reading, line: Line) -> Result<Reading, Mis
     ensures { GivesUnless Misplaced.NoMemory (λ r. r) result (after_line reading line) }
 {
     let mut next = reading;
-    follow(alloc, &mut next, line)?;
-    Ok(next)
+    let followed = follow(alloc, &mut next, line);
+    followed.and(Ok(next))
 }

@@ -112,6 +112,8 @@ impl Routers {
     pub fn into_list(self) -> List<RouterConfig>
         ensures { result ≡ self }
     {
-        self.all
+        let Routers { all, known } = self;
+        drop(known);
+        all
     }
 }

@@ -1,10 +1,10 @@
 -- Which faults each pass tells.
-use Rattle.std.proofs.Common.{◌≡◌, ℕ, List, [], ◌∷◌, Option, Result, Ok, Err, Bool, refl}
+use Rattle.std.proofs.Common.{◌≡◌, ℕ, List, Option, Result, Ok, Err, Bool, refl}
 use Rattle.std.specs.Prelude.{codes, length, slice_get, ◌==◌}
 use Rattle.serde_json.specs.Data.{Data}
 use Rattle.serde_json.specs.Find.{get, as_bool, as_number, as_str}
 use Rattle.json_words.specs.Json.{list_at}
-use Rattle.item_laws.proofs.OnlyFaults.{Only, only_bind, only_or, only_unless}
+use Rattle.item_laws.proofs.OnlyFaults.{Only, only_bind, only_each, only_or, only_unless}
 use Rattle.net_base.specs.Prefixes.{PlainPrefix}
 use Rattle.net_base.specs.PrefixText.{prefix_spelled}
 use Rattle.net_base.specs.declared.prefix_text.PrefixFault.{PrefixFault}
@@ -16,7 +16,7 @@ use Rattle.evidence_text.specs.declared.fault.EvidenceFault.TheVariants.{Shape, 
 use Rattle.evidence_text.specs.declared.raw.RawCase.{RawCase}
 use Rattle.evidence_text.specs.declared.raw.RawEvidence.{RawEvidence}
 use Rattle.evidence_text.specs.Shape.{each, number_of, number_at, node_of, origins_of, member_of, list_of, row_of, prefix_or, prefix_of, step_of, are_in_order, is_case}
-use Rattle.evidence_text.specs.Shape.{is_evidence, case_of, shape_of, greatest}
+use Rattle.evidence_text.specs.Shape.{is_evidence, places_of, ways_of, case_of, version_of, shape_of, greatest}
 use Rattle.evidence_text.specs.Spelled.{numbered_case, numbered}
 
 abbrev pub IsShape : EvidenceFault → Type 0
@@ -27,8 +27,7 @@ IsNumber e = (f : Field) × (e ≡ Number f)
 
 -- each of some items has such faults alone
 each_only : {A B : Type 0} (P : EvidenceFault → Type 0) (f : A → Result B EvidenceFault) → ((x : A) → Only P (f x)) → (xs : List A) → Only P (each f xs)
-each_only P f one [] = tt
-each_only P f one (x ∷ xs) = only_bind P (f x) _ (one x) (λ y. only_bind P (each f xs) _ (each_only P f one xs) (λ ys. tt))
+each_only P f one xs = only_each P f one 1 xs
 
 -- ---- the shape
 
@@ -88,24 +87,38 @@ origins_only ds =
     only_bind IsShape (each (number_of field.Origins 0 767) ds) _ (each_only IsShape (number_of field.Origins 0 767) (number_only field.Origins 0 767) ds) (λ os.
     only_bind IsShape (unless (Shape field.Origins) (are_in_order os)) _ (shape_unless field.Origins (are_in_order os)) (λ _. tt))
 
+places_only : (d : Data) → Only IsShape (places_of d)
+unfolding places_of
+places_only d =
+    only_bind IsShape (list_of field.Nodes (codes "nodes") d) _ (list_only field.Nodes (codes "nodes") d) (λ ns.
+    only_bind IsShape (each node_of ns) _ (each_only IsShape node_of node_only ns) (λ _.
+    only_bind IsShape (list_of field.Origins (codes "origins") d) _ (list_only field.Origins (codes "origins") d) (λ os.
+    only_bind IsShape (origins_of os) _ (origins_only os) (λ _.
+    only_bind IsShape (list_of field.Prefixes (codes "prefixes") d) _ (list_only field.Prefixes (codes "prefixes") d) (λ ps.
+    only_bind IsShape (each prefix_of ps) _ (each_only IsShape prefix_of prefix_only ps) (λ _. tt))))))
+
+ways_only : (d : Data) → Only IsShape (ways_of d)
+unfolding ways_of
+ways_only d =
+    only_bind IsShape (list_of field.Starts (codes "starts") d) _ (list_only field.Starts (codes "starts") d) (λ ss.
+    only_bind IsShape (each (number_of field.Starts 0 greatest) ss) _ (each_only IsShape (number_of field.Starts 0 greatest) (number_only field.Starts 0 greatest) ss) (λ _.
+    only_bind IsShape (member_of field.Statement (codes "statement") d) _ (shape_or field.Statement (get (codes "statement") d)) (λ k.
+    only_bind IsShape (number_of field.Statement 1 greatest k) _ (number_only field.Statement 1 greatest k) (λ _.
+    only_bind IsShape (list_of field.Steps (codes "steps") d) _ (list_only field.Steps (codes "steps") d) (λ ts.
+    only_bind IsShape (each step_of ts) _ (each_only IsShape step_of step_only ts) (λ _. tt))))))
+
 case_only : (d : Data) → Only IsShape (case_of d)
 unfolding case_of
 case_only d =
     only_bind IsShape (unless (Shape field.Case) (is_case d)) _ (shape_unless field.Case (is_case d)) (λ _.
     only_bind IsShape (member_of field.External (codes "external") d) _ (shape_or field.External (get (codes "external") d)) (λ value.
     only_bind IsShape (or_fault (Shape field.External) (as_bool value)) _ (shape_or field.External (as_bool value)) (λ _.
-    only_bind IsShape (list_of field.Nodes (codes "nodes") d) _ (list_only field.Nodes (codes "nodes") d) (λ ns.
-    only_bind IsShape (each node_of ns) _ (each_only IsShape node_of node_only ns) (λ _.
-    only_bind IsShape (list_of field.Origins (codes "origins") d) _ (list_only field.Origins (codes "origins") d) (λ os.
-    only_bind IsShape (origins_of os) _ (origins_only os) (λ _.
-    only_bind IsShape (list_of field.Prefixes (codes "prefixes") d) _ (list_only field.Prefixes (codes "prefixes") d) (λ ps.
-    only_bind IsShape (each prefix_of ps) _ (each_only IsShape prefix_of prefix_only ps) (λ _.
-    only_bind IsShape (list_of field.Starts (codes "starts") d) _ (list_only field.Starts (codes "starts") d) (λ ss.
-    only_bind IsShape (each (number_of field.Starts 0 greatest) ss) _ (each_only IsShape (number_of field.Starts 0 greatest) (number_only field.Starts 0 greatest) ss) (λ _.
-    only_bind IsShape (member_of field.Statement (codes "statement") d) _ (shape_or field.Statement (get (codes "statement") d)) (λ k.
-    only_bind IsShape (number_of field.Statement 1 greatest k) _ (number_only field.Statement 1 greatest k) (λ _.
-    only_bind IsShape (list_of field.Steps (codes "steps") d) _ (list_only field.Steps (codes "steps") d) (λ ts.
-    only_bind IsShape (each step_of ts) _ (each_only IsShape step_of step_only ts) (λ _. tt)))))))))))))))
+    only_bind IsShape (places_of d) _ (places_only d) (λ _.
+    only_bind IsShape (ways_of d) _ (ways_only d) (λ _. tt)))))
+
+version_only : (d : Data) → Only IsShape (version_of d)
+unfolding version_of
+version_only d = only_bind IsShape (member_of field.Version (codes "version") d) _ (shape_or field.Version (get (codes "version") d)) (λ v. number_only field.Version 0 greatest v)
 
 pub shape_only : (d : Data) → Only IsShape (shape_of d)
 unfolding shape_of
@@ -113,8 +126,7 @@ shape_only d =
     only_bind IsShape (unless (Shape field.Top) (is_evidence d)) _ (shape_unless field.Top (is_evidence d)) (λ _.
     only_bind IsShape (list_of field.Cases (codes "cases") d) _ (list_only field.Cases (codes "cases") d) (λ cs.
     only_bind IsShape (each case_of cs) _ (each_only IsShape case_of case_only cs) (λ _.
-    only_bind IsShape (member_of field.Version (codes "version") d) _ (shape_or field.Version (get (codes "version") d)) (λ v.
-    only_bind IsShape (number_of field.Version 0 greatest v) _ (number_only field.Version 0 greatest v) (λ _. tt)))))
+    only_bind IsShape (version_of d) _ (version_only d) (λ _. tt))))
 
 -- ---- the numbers
 

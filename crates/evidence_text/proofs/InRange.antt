@@ -1,5 +1,5 @@
 -- What is read of numbers is in their ranges.
-use Rattle.std.proofs.Common.{◌≡◌, ◌≢◌, ℕ, ◌<◌, ◌≤◌, true, List, [], ◌∷◌, Option, Some, None, Result, Ok, Err, refl, sym, ◌∙◌, subst, arith, length}
+use Rattle.std.proofs.Common.{◌≡◌, ◌≢◌, ℕ, ◌+◌, ◌<◌, ◌≤◌, true, List, [], ◌∷◌, Option, Some, None, Result, Ok, Err, refl, sym, ◌∙◌, subst, arith, length}
 use Rattle.std.specs.Prelude.{◌&&◌, ◌==◌, codes, IfOk, nat_le, nat_lt}
 use Rattle.std.specs.List.{AllByRecursion, list_all}
 use Rattle.std.specs.Option.{ForSome}
@@ -9,7 +9,7 @@ use Rattle.list_laws.proofs.Each.{AllByRecursion-map, AllByRecursion-weaker, All
 use Rattle.list_laws.proofs.Options.{option_and_then_parts, when_parts, unless_parts}
 use Rattle.serde_json.specs.Data.{Data}
 use Rattle.serde_json.specs.Find.{as_number, as_bool, as_u64}
-use Rattle.net_base.specs.Steps.{◌>>=◌, or_fault, unless}
+use Rattle.net_base.specs.Steps.{◌>>=◌, each_from, or_fault, unless}
 use Rattle.evidence_text.specs.declared.parts.Field.{Field}
 use Rattle.evidence_text.specs.declared.parts.Field.TheVariants as field
 use Rattle.graph_base.specs.Graphs.{IsGraph}
@@ -19,11 +19,14 @@ use Rattle.evidence_text.specs.declared.fault.EvidenceFault.TheVariants.{Shape, 
 use Rattle.evidence_text.specs.declared.raw.NodeEntry.{NodeEntry}
 use Rattle.evidence_text.specs.declared.raw.RawCase.{RawCase}
 use Rattle.evidence_text.specs.declared.raw.RawEvidence.{RawEvidence}
+use Rattle.evidence_text.specs.declared.raw.RawPlaces.{RawPlaces}
+use Rattle.evidence_text.specs.declared.raw.RawWays.{RawWays}
 use Rattle.evidence_text.specs.declared.raw.ReadCase.{ReadCase}
 use Rattle.evidence_text.specs.declared.raw.ReadText.{ReadText}
 use Rattle.evidence_text.specs.Entries.{entry, rank_of, within}
 use Rattle.evidence_text.specs.Ranges.{IsEntry, HasRanges, IsReadCase}
-use Rattle.evidence_text.specs.Shape.{each, number_of, number_at, node_of, origins_of, member_of, list_of, row_of, prefix_of, step_of, are_in_order, is_case, is_evidence, case_of, shape_of, greatest}
+use Rattle.evidence_text.specs.Shape.{each, number_of, number_at, node_of, origins_of, member_of, list_of, row_of, prefix_of, step_of}
+use Rattle.evidence_text.specs.Shape.{are_in_order, is_case, is_evidence, places_of, ways_of, case_of, version_of, shape_of, greatest}
 use Rattle.evidence_text.specs.Spelled.{numbered_case, numbered, is_placed, evidence_of}
 
 -- what a chain of steps gives has a property, where each way to its end gives it
@@ -38,12 +41,17 @@ ok_weaker : {A : Type 0} (P Q : A → Type 0) (r : Result A EvidenceFault) → (
 ok_weaker P Q (Ok x) f h = f x h
 ok_weaker P Q (Err e) f h = tt
 
+each_ok_from : {A B : Type 0} (P : A → Type 0) (Q : B → Type 0) (f : A → Result B EvidenceFault) → ((x : A) → P x → IfOk (f x) Q) → (k : ℕ) (xs : List A)
+    → AllByRecursion P xs → IfOk (each_from (λ _. f) k xs) (AllByRecursion Q)
+each_ok_from P Q f one k [] all = tt
+each_ok_from P Q f one k (x ∷ xs) all =
+    let more = each_from (λ _. f) (k + 1) xs in
+    on_ok (AllByRecursion Q) (f x) _ (λ y is. on_ok (AllByRecursion Q) more _
+    (λ ys are. (of_ok Q (f x) y (one x all.0) is, of_ok (AllByRecursion Q) more ys (each_ok_from P Q f one (k + 1) xs all.1) are)))
+
 each_ok_of : {A B : Type 0} (P : A → Type 0) (Q : B → Type 0) (f : A → Result B EvidenceFault) → ((x : A) → P x → IfOk (f x) Q) → (xs : List A)
     → AllByRecursion P xs → IfOk (each f xs) (AllByRecursion Q)
-each_ok_of P Q f one [] all = tt
-each_ok_of P Q f one (x ∷ xs) all =
-    on_ok (AllByRecursion Q) (f x) _
-    (λ y is. on_ok (AllByRecursion Q) (each f xs) _ (λ ys are. (of_ok Q (f x) y (one x all.0) is, of_ok (AllByRecursion Q) (each f xs) ys (each_ok_of P Q f one xs all.1) are)))
+each_ok_of P Q f one xs all = each_ok_from P Q f one 1 xs all
 
 anything : {A : Type 0} (xs : List A) → AllByRecursion (λ _. Unit {0}) xs
 anything [] = tt
@@ -128,29 +136,47 @@ statement_in : (d : Data) → IfOk (number_of field.Statement 1 greatest d) (λ 
 statement_in d =
     ok_weaker (IsWithin 1 greatest) (λ o. ForSome o (λ k. 1 ≤ k)) (number_of field.Statement 1 greatest d) (λ o h k is. (h k is).0) (number_in field.Statement 1 greatest d)
 
+-- what a case says of places and of ways, where its numbers are in their ranges
+abbrev ArePlaces : RawPlaces → Type 0
+ArePlaces p = AllByRecursion (λ o. ForSome o IsEntry) p.nodes × AllByRecursion (λ o. ForSome o (λ l. l < 768)) p.origins
+
+abbrev AreWays : RawWays → Type 0
+AreWays w = ForSome w.statement (λ k. 1 ≤ k)
+
+places_in : (d : Data) → IfOk (places_of d) ArePlaces
+unfolding places_of
+places_in d =
+    on_ok ArePlaces (list_of field.Nodes (codes "nodes") d) _ (λ ns _.
+    on_ok ArePlaces (each node_of ns) _ (λ nodes nodes_are.
+    on_ok ArePlaces (list_of field.Origins (codes "origins") d) _ (λ os _.
+    on_ok ArePlaces (origins_of os) _ (λ origins origins_are.
+    on_ok ArePlaces (list_of field.Prefixes (codes "prefixes") d) _ (λ ps _.
+    on_ok ArePlaces (each prefix_of ps) _ (λ prefixes _. (
+      of_ok (AllByRecursion (λ o. ForSome o IsEntry)) (each node_of ns) nodes (each_ok (λ o. ForSome o IsEntry) node_of node_in ns) nodes_are,
+      of_ok (AllByRecursion (λ o. ForSome o (λ l. l < 768))) (origins_of os) origins (origins_in os) origins_are,
+    )))))))
+
+ways_in : (d : Data) → IfOk (ways_of d) AreWays
+unfolding ways_of
+ways_in d =
+    on_ok AreWays (list_of field.Starts (codes "starts") d) _ (λ ss _.
+    on_ok AreWays (each (number_of field.Starts 0 greatest) ss) _ (λ starts _.
+    on_ok AreWays (member_of field.Statement (codes "statement") d) _ (λ k _.
+    on_ok AreWays (number_of field.Statement 1 greatest k) _ (λ statement statement_is.
+    on_ok AreWays (list_of field.Steps (codes "steps") d) _ (λ ts _.
+    on_ok AreWays (each step_of ts) _ (λ steps _.
+    of_ok (λ o. ForSome o (λ k. 1 ≤ k)) (number_of field.Statement 1 greatest k) statement (statement_in k) statement_is))))))
+
 case_in : (d : Data) → IfOk (case_of d) HasRanges
 unfolding case_of
 case_in d =
     on_ok HasRanges (unless (Shape field.Case) (is_case d)) _ (λ _ _.
     on_ok HasRanges (member_of field.External (codes "external") d) _ (λ value _.
     on_ok HasRanges (or_fault (Shape field.External) (as_bool value)) _ (λ external _.
-    on_ok HasRanges (list_of field.Nodes (codes "nodes") d) _ (λ ns _.
-    on_ok HasRanges (each node_of ns) _ (λ nodes nodes_are.
-    on_ok HasRanges (list_of field.Origins (codes "origins") d) _ (λ os _.
-    on_ok HasRanges (origins_of os) _ (λ origins origins_are.
-    on_ok HasRanges (list_of field.Prefixes (codes "prefixes") d) _ (λ ps _.
-    on_ok HasRanges (each prefix_of ps) _ (λ prefixes _.
-    on_ok HasRanges (list_of field.Starts (codes "starts") d) _ (λ ss _.
-    on_ok HasRanges (each (number_of field.Starts 0 greatest) ss) _ (λ starts _.
-    on_ok HasRanges (member_of field.Statement (codes "statement") d) _ (λ k _.
-    on_ok HasRanges (number_of field.Statement 1 greatest k) _ (λ statement statement_is.
-    on_ok HasRanges (list_of field.Steps (codes "steps") d) _ (λ ts _.
-    on_ok HasRanges (each step_of ts) _ (λ steps _.
-    record {
-      nodes = of_ok (AllByRecursion (λ o. ForSome o IsEntry)) (each node_of ns) nodes (each_ok (λ o. ForSome o IsEntry) node_of node_in ns) nodes_are;
-      origins = of_ok (AllByRecursion (λ o. ForSome o (λ l. l < 768))) (origins_of os) origins (origins_in os) origins_are;
-      statement = of_ok (λ o. ForSome o (λ k. 1 ≤ k)) (number_of field.Statement 1 greatest k) statement (statement_in k) statement_is;
-    })))))))))))))))
+    on_ok HasRanges (places_of d) _ (λ places places_are.
+    on_ok HasRanges (ways_of d) _ (λ ways ways_are.
+    let p = of_ok ArePlaces (places_of d) places (places_in d) places_are in
+    record { nodes = p.0; origins = p.1; statement = of_ok AreWays (ways_of d) ways (ways_in d) ways_are })))))
 
 pub shape_in : (d : Data) → IfOk (shape_of d) (λ t. AllByRecursion HasRanges t.cases)
 unfolding shape_of
@@ -159,9 +185,8 @@ shape_in d =
     on_ok P (unless (Shape field.Top) (is_evidence d)) _ (λ _ _.
     on_ok P (list_of field.Cases (codes "cases") d) _ (λ cs _.
     on_ok P (each case_of cs) _ (λ cases are.
-    on_ok P (member_of field.Version (codes "version") d) _ (λ v _.
-    on_ok P (number_of field.Version 0 greatest v) _ (λ version _.
-    of_ok (AllByRecursion HasRanges) (each case_of cs) cases (each_ok HasRanges case_of case_in cs) are)))))
+    on_ok P (version_of d) _ (λ version _.
+    of_ok (AllByRecursion HasRanges) (each case_of cs) cases (each_ok HasRanges case_of case_in cs) are))))
 
 -- ---- the numbers
 

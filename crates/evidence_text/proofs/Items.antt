@@ -1,6 +1,6 @@
 -- Items that are written one after another.
 use Rattle.std.proofs.Common.{◌≡◌, ℕ, zero, suc, ◌+◌, ◌^◌, ◌<◌, ◌≤◌, Bool, true, List, [], ◌∷◌, ◌++◌, length, map, take, drop, subst, get_or, Result, Ok, Err, refl, sym}
-use Rattle.std.proofs.Common.{ap, ◌∙◌, append_assoc, add-one, drop-cons, arith}
+use Rattle.std.proofs.Common.{ap, ◌∙◌, append-nil, append_assoc, add-one, drop-cons, arith}
 use Rattle.std.specs.Prelude.{nat_lt, codes, OnOk, ⊤}
 use Rattle.std.proofs.lemmas.Bool.{lt-ltb}
 use Rattle.std.proofs.lemmas.List.{drop_all}
@@ -14,7 +14,7 @@ use Rattle.graph_base.specs.declared.graph.Node.{Node}
 use Rattle.text_words.specs.Texts.{prefix_text}
 use Rattle.evidence_base.specs.Made.{PlainCaseEvidence}
 use Rattle.evidence_text.specs.Writable.{IsShort}
-use Rattle.evidence_text.specs.Text.{case_data, evidence_data, evidence_text, members, nodes_data, step_data}
+use Rattle.evidence_text.specs.Text.{case_data, evidence_data, evidence_text, members, nodes_data, places_text, step_data, ways_text}
 use Rattle.serde_json.specs.Data.{Data, boolean, string}
 use Rattle.serde_json.specs.View.{items_of}
 use Rattle.serde_json.specs.Written.{comma_if, compact_text, items_text}
@@ -64,30 +64,49 @@ texts-prefixes (p ∷ ps) = ap (λ ds. prefix_data p ∷ ds) (texts-prefixes ps)
 pub and_then : (old here new piece others : List ℕ) → here ≡ old ++ piece → new ≡ here ++ others → new ≡ old ++ (piece ++ others)
 and_then old here new piece others first rest = rest ∙ ap (λ t. t ++ others) first ∙ append_assoc old piece others
 
--- the pieces of a case
-pub case_as : (c : PlainCaseEvidence) (external : Bool) (nodes : List Node) (numbers : List ℕ) (tags : List Tag) (origins : List ℕ)
-    (prefixes : List PlainPrefix) (starts : List ℕ) (statement : ℕ) (steps : List (ℕ × ℕ))
-    → external ≡ c.case.external → nodes ≡ c.graph.nodes → numbers ≡ c.numbers → tags ≡ c.tags → origins ≡ members c.case.origins
-    → prefixes ≡ c.case.prefixes → starts ≡ c.graph.starts → statement ≡ c.case.statement → steps ≡ c.graph.steps
+-- the pieces of a case as far as its prefixes
+pub places_as : (c : PlainCaseEvidence) (external : Bool) (nodes : List Node) (numbers : List ℕ) (tags : List Tag) (origins : List ℕ) (prefixes : List PlainPrefix)
+    → external ≡ c.case.external → nodes ≡ c.graph.nodes → numbers ≡ c.numbers → tags ≡ c.tags → origins ≡ members c.case.origins → prefixes ≡ c.case.prefixes
     → codes "{\"external\":" ++ (compact_text (boolean external)
     ++ (codes ",\"nodes\":" ++ (compact_text (array_of (nodes_data nodes numbers tags))
     ++ (codes ",\"origins\":" ++ (compact_text (numbers_data origins)
-    ++ (codes ",\"prefixes\":" ++ (compact_text (texts_data (map prefix_text prefixes))
-    ++ (codes ",\"starts\":" ++ (compact_text (numbers_data starts)
-    ++ (codes ",\"statement\":" ++ (decimal statement
-    ++ (codes ",\"steps\":" ++ (compact_text (array_of (map step_data steps))
-    ++ codes "}")))))))))))))
-    ≡ compact_text (case_data c)
-unfolding case_data escape_byte
-case_as c external nodes numbers tags origins prefixes starts statement steps e1 e2 e3 e4 e5 e6 e7 e8 e9 =
+    ++ (codes ",\"prefixes\":" ++ (compact_text (texts_data (map prefix_text prefixes)) ++ [])))))))
+    ≡ places_text c
+places_as c external nodes numbers tags origins prefixes e1 e2 e3 e4 e5 e6 =
     λ i. codes "{\"external\":" ++ (compact_text (boolean (e1 i))
     ++ (codes ",\"nodes\":" ++ (compact_text (array_of (nodes_data (e2 i) (e3 i) (e4 i)))
     ++ (codes ",\"origins\":" ++ (compact_text (numbers_data (e5 i))
-    ++ (codes ",\"prefixes\":" ++ (compact_text (texts_data (map prefix_text (e6 i)))
-    ++ (codes ",\"starts\":" ++ (compact_text (numbers_data (e7 i))
-    ++ (codes ",\"statement\":" ++ (decimal (e8 i)
-    ++ (codes ",\"steps\":" ++ (compact_text (array_of (map step_data (e9 i)))
-    ++ codes "}")))))))))))))
+    ++ (codes ",\"prefixes\":" ++ append-nil (compact_text (texts_data (map prefix_text (e6 i)))) i))))))
+
+-- and from its starts on
+pub ways_as : (c : PlainCaseEvidence) (starts : List ℕ) (statement : ℕ) (steps : List (ℕ × ℕ))
+    → starts ≡ c.graph.starts → statement ≡ c.case.statement → steps ≡ c.graph.steps
+    → codes ",\"starts\":" ++ (compact_text (numbers_data starts)
+    ++ (codes ",\"statement\":" ++ (decimal statement
+    ++ (codes ",\"steps\":" ++ (compact_text (array_of (map step_data steps))
+    ++ codes "}")))))
+    ≡ ways_text c
+ways_as c starts statement steps e1 e2 e3 =
+    λ i. codes ",\"starts\":" ++ (compact_text (numbers_data (e1 i))
+    ++ (codes ",\"statement\":" ++ (decimal (e2 i)
+    ++ (codes ",\"steps\":" ++ (compact_text (array_of (map step_data (e3 i)))
+    ++ codes "}")))))
+
+eight : (a b c d e f g h others : List ℕ) → (a ++ (b ++ (c ++ (d ++ (e ++ (f ++ (g ++ h))))))) ++ others ≡ a ++ (b ++ (c ++ (d ++ (e ++ (f ++ (g ++ (h ++ others)))))))
+eight a b c d e f g h others = simp append_assoc
+
+-- both are the text of the case
+halves : (c : PlainCaseEvidence) → places_text c ++ ways_text c ≡ compact_text (case_data c)
+unfolding case_data escape_byte
+halves c =
+    eight (codes "{\"external\":") (compact_text (boolean c.case.external))
+    (codes ",\"nodes\":") (compact_text (array_of (nodes_data c.graph.nodes c.numbers c.tags)))
+    (codes ",\"origins\":") (compact_text (numbers_data (members c.case.origins)))
+    (codes ",\"prefixes\":") (compact_text (texts_data (map prefix_text c.case.prefixes)))
+    (ways_text c)
+
+pub case_pushed : (c : PlainCaseEvidence) (old here new : List ℕ) → here ≡ old ++ places_text c → new ≡ here ++ ways_text c → new ≡ old ++ compact_text (case_data c)
+case_pushed c old here new first rest = and_then old here new (places_text c) (ways_text c) first rest ∙ ap (λ t. old ++ t) (halves c)
 
 one_written : decimal 1 ≡ codes "1"
 unfolding digits

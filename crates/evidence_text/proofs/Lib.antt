@@ -1,6 +1,4 @@
-mod Each
 mod FaultKinds
-mod Halves
 mod InRange
 mod Items
 mod PlaceSets

@@ -1,6 +1,6 @@
 -- Evidence is read again from its text.
-use Rattle.std.proofs.Common.{◌≡◌, ◌≢◌, ℕ, zero, suc, ◌<◌, ◌≤◌, ◌^◌, Bool, true, false, List, [], ◌∷◌, length, map, Option, Some, None, Result, Ok, refl, sym, ap, ◌∙◌, arith}
-use Rattle.std.specs.Prelude.{nat_lt, ◌&&◌, ◌==◌, unwrap_or, if◌then◌else◌}
+use Rattle.std.proofs.Common.{◌≡◌, ◌≢◌, ℕ, zero, suc, ◌+◌, ◌<◌, ◌≤◌, ◌^◌, Bool, true, false, List, [], ◌∷◌, length, map, Option, Some, None, Result, Ok, refl, sym, ap, ◌∙◌, arith}
+use Rattle.std.specs.Prelude.{codes, nat_lt, ◌&&◌, ◌==◌, unwrap_or, if◌then◌else◌}
 use Rattle.std.specs.List.{AllByRecursion, list_all}
 use Rattle.std.proofs.lemmas.Bool.{le-leb, lt-ltb, ne_eqb}
 use Rattle.std.specs.Str.{IsUtf8}
@@ -9,7 +9,8 @@ use Rattle.json.proofs.Printed.Utf8.{IsUtf8-are_ascii, are_ascii}
 use Rattle.json_words.specs.Plain.{IsPlain, ArePlain}
 use Rattle.json_words.proofs.PlainItems.{plain_map}
 use Rattle.json_words.proofs.ReadAgain.{json_of-line}
-use Rattle.serde_json.specs.Data.{Data, number, string, unsigned, depth, items_depth}
+use Rattle.serde_json.specs.Data.{Data, boolean, number, string, unsigned, depth, items_depth}
+use Rattle.serde_json.specs.Find.{get}
 use Rattle.serde_json.specs.View.{items_of}
 use Rattle.serde_json.proofs.OnLiterals.{serde_json_on_literals}
 use Rattle.list_laws.proofs.Each.{AllByRecursion-weaker}
@@ -19,7 +20,7 @@ use Rattle.evidence_text.specs.declared.parts.Field.{Field}
 use Rattle.evidence_text.specs.declared.parts.Field.TheVariants as field
 use Rattle.net_base.specs.declared.numbers.Tag.{Tag}
 use Rattle.net_base.specs.Prefixes.{PlainPrefix, IsPrefix}
-use Rattle.net_base.specs.Steps.{or_fault}
+use Rattle.net_base.specs.Steps.{each_from, or_fault}
 use Rattle.text_words.specs.Texts.{prefix_text}
 use Rattle.text_words.proofs.PrefixTexts.{prefix_spelled-prefix_text}
 use Rattle.graph_base.specs.declared.graph.Node.{Node}
@@ -29,10 +30,13 @@ use Rattle.evidence_text.specs.declared.fault.EvidenceFault.TheVariants.{Number}
 use Rattle.evidence_text.specs.declared.raw.NodeEntry.{NodeEntry}
 use Rattle.evidence_text.specs.declared.raw.RawCase.{RawCase}
 use Rattle.evidence_text.specs.declared.raw.RawEvidence.{RawEvidence}
+use Rattle.evidence_text.specs.declared.raw.RawPlaces.{RawPlaces}
+use Rattle.evidence_text.specs.declared.raw.RawWays.{RawWays}
 use Rattle.evidence_text.specs.declared.raw.ReadText.{ReadText}
 use Rattle.evidence_text.specs.declared.raw.ReadCase.{ReadCase}
 use Rattle.evidence_text.specs.Entries.{entry, pair, rank_of}
-use Rattle.evidence_text.specs.Shape.{each, greatest, number_of, number_at, row_of, node_of, step_of, prefix_of, origins_of, prefix_or, is_case, is_evidence, list_of, case_of, shape_of}
+use Rattle.evidence_text.specs.Shape.{each, greatest, number_of, number_at, row_of, node_of, step_of, prefix_of, origins_of, prefix_or}
+use Rattle.evidence_text.specs.Shape.{begins_as_case, is_case, is_evidence, list_of, places_of, ways_of, case_of, version_of, shape_of}
 use Rattle.evidence_text.specs.Spelled.{numbered_case, numbered, is_placed, evidence_of, spelled}
 use Rattle.evidence_text.specs.Text.{members, case_data, evidence_data, evidence_text, node_data, nodes_data, step_data}
 use Rattle.evidence_text.specs.Writable.{IsWritable}
@@ -43,13 +47,13 @@ use Rattle.evidence_text.proofs.SetMembers.{members_in_order, members_below, set
 
 -- what is read of items that are written
 each_map : {A B C : Type 0} (P : A → Type 0) (f : B → Result C EvidenceFault) (g : A → B) (h : A → C) → ((x : A) → P x → f (g x) ≡ Ok (h x))
-    → (xs : List A) → AllByRecursion P xs → each f (map g xs) ≡ Ok (map h xs)
-each_map P f g h one [] all = refl
-each_map P f g h one (x ∷ xs) all = rw (one x all.0, each_map P f g h one xs all.1) refl
+    → (k : ℕ) (xs : List A) → AllByRecursion P xs → each_from (λ _. f) k (map g xs) ≡ Ok (map h xs)
+each_map P f g h one k [] all = refl
+each_map P f g h one k (x ∷ xs) all = rw (one x all.0, each_map P f g h one (k + 1) xs all.1) refl
 
-pub all_some : {A : Type 0} (e : EvidenceFault) (xs : List A) → each (or_fault e) (map (λ x. Some x) xs) ≡ Ok xs
-all_some e [] = refl
-all_some e (x ∷ xs) = rw (all_some e xs) refl
+pub all_some : {A : Type 0} (e : EvidenceFault) (k : ℕ) (xs : List A) → each_from (λ _. or_fault e) k (map (λ x. Some x) xs) ≡ Ok xs
+all_some e k [] = refl
+all_some e k (x ∷ xs) = rw (all_some e (k + 1) xs) refl
 
 number_ok : (f : Field) (least most n : ℕ) → least ≤ n → n ≤ most → number_of f least most (number (unsigned n)) ≡ Ok (Some n)
 unfolding number_of
@@ -117,16 +121,16 @@ entries_tags (v ∷ vs) [] tags a b = absurd (omega arith)
 entries_tags (v ∷ vs) (n ∷ ns) [] a b = absurd (omega arith)
 entries_tags (v ∷ vs) (n ∷ ns) (tag ∷ tags) a b = ap (λ xs. tag ∷ xs) (entries_tags vs ns tags (omega arith) (omega arith))
 
-nodes_again : (vs : List Node) (ns : List ℕ) (tags : List Tag)
+nodes_again : (k : ℕ) (vs : List Node) (ns : List ℕ) (tags : List Tag)
     → AllByRecursion (λ (v : Node). v.loc < 768) vs → AllByRecursion (λ (v : Node). v.rank ≢ Some 0) vs → AllByRecursion (λ (v : Node). unwrap_or v.rank 0 < 2 ^ 32) vs
     → AllByRecursion (λ n. n < 2 ^ 32) ns → AllByRecursion (λ (t : Tag). (t.asn < 2 ^ 32) × (t.value < 2 ^ 32)) tags
-    → each node_of (nodes_data vs ns tags) ≡ Ok (map (λ e. Some e) (entries vs ns tags))
+    → each_from (λ _. node_of) k (nodes_data vs ns tags) ≡ Ok (map (λ e. Some e) (entries vs ns tags))
 unfolding entries IsWritten
-nodes_again [] ns tags a b c d e = refl
-nodes_again (v ∷ vs) [] tags a b c d e = refl
-nodes_again (v ∷ vs) (n ∷ ns) [] a b c d e = refl
-nodes_again (v ∷ vs) (n ∷ ns) (tag ∷ tags) a b c d e =
-    rw (node_again v n tag (a.0, b.0, c.0, d.0, e.0.0, e.0.1), nodes_again vs ns tags a.1 b.1 c.1 d.1 e.1) refl
+nodes_again k [] ns tags a b c d e = refl
+nodes_again k (v ∷ vs) [] tags a b c d e = refl
+nodes_again k (v ∷ vs) (n ∷ ns) [] a b c d e = refl
+nodes_again k (v ∷ vs) (n ∷ ns) (tag ∷ tags) a b c d e =
+    rw (node_again v n tag (a.0, b.0, c.0, d.0, e.0.0, e.0.1), nodes_again (k + 1) vs ns tags a.1 b.1 c.1 d.1 e.1) refl
 
 -- ---- the other parts
 
@@ -139,7 +143,7 @@ unfolding prefix_of
 prefix_again p is = ap prefix_or (prefix_spelled-prefix_text p is)
 
 numbers_again : (f : Field) (most : ℕ) (ns : List ℕ) → AllByRecursion (λ n. n ≤ most) ns → each (number_of f 0 most) (map (λ n. number (unsigned n)) ns) ≡ Ok (map (λ n. Some n) ns)
-numbers_again f most ns small = each_map (λ n. n ≤ most) (number_of f 0 most) (λ n. number (unsigned n)) (λ n. Some n) (λ n low. number_ok f 0 most n (omega arith) low) ns small
+numbers_again f most ns small = each_map (λ n. n ≤ most) (number_of f 0 most) (λ n. number (unsigned n)) (λ n. Some n) (λ n low. number_ok f 0 most n (omega arith) low) 1 ns small
 
 pub items_as_list-items_of : (ds : List Data) → items_as_list (items_of ds) ≡ ds
 items_as_list-items_of [] = refl
@@ -165,54 +169,77 @@ pub numbered_again : (c : PlainCaseEvidence) → IsWritable c → numbered_case 
 unfolding numbered_case raw_case read_case
 numbered_again c is =
     rw (
-      all_some (Number field.Nodes) (entries c.graph.nodes c.numbers c.tags),
-      all_some (Number field.Origins) (members c.case.origins),
-      all_some (Number field.Starts) c.graph.starts,
-      all_some (Number field.Steps) c.graph.steps,
+      all_some (Number field.Nodes) 1 (entries c.graph.nodes c.numbers c.tags),
+      all_some (Number field.Origins) 1 (members c.case.origins),
+      all_some (Number field.Starts) 1 c.graph.starts,
+      all_some (Number field.Steps) 1 c.graph.steps,
       set_of_members c.case.origins is.origins,
     )
     refl
 
-map_same : {A : Type 0} (xs : List A) → map (λ x. x) xs ≡ xs
+pub map_same : {A : Type 0} (xs : List A) → map (λ x. x) xs ≡ xs
 map_same [] = refl
 map_same (x ∷ xs) = ap (λ ys. x ∷ ys) (map_same xs)
 
 prefixes_again : (ps : List PlainPrefix) → AllByRecursion IsPrefix ps → each prefix_of (map string (map prefix_text ps)) ≡ Ok ps
-prefixes_again ps are = ap (each prefix_of) (texts-prefixes ps) ∙ each_map IsPrefix prefix_of prefix_data (λ p. p) prefix_again ps are ∙ ap Ok (map_same ps)
+prefixes_again ps are = ap (each prefix_of) (texts-prefixes ps) ∙ each_map IsPrefix prefix_of prefix_data (λ p. p) prefix_again 1 ps are ∙ ap Ok (map_same ps)
 
 origins_again : (s : LocSet) → origins_of (map (λ n. number (unsigned n)) (members s)) ≡ Ok (map (λ n. Some n) (members s))
 unfolding origins_of
 origins_again s =
     rw (numbers_again field.Origins 767 (members s) (AllByRecursion-weaker (λ l. l < 768) (λ l. l ≤ 767) (members s) (λ l low. omega (arith, low)) (members_below s)), members_in_order s) refl
 
-case_again : (c : PlainCaseEvidence) → IsWritable c → case_of (case_data c) ≡ Ok (raw_case c)
-unfolding case_of case_data is_case list_of raw_case serde_json_on_literals
-case_again c is =
-    let count = is.graph.count in
+-- the nodes, origins and prefixes of a case, and its starts, statement and steps
+pub raw_places : PlainCaseEvidence → RawPlaces
+raw_places c = record { nodes = map (λ e. Some e) (entries c.graph.nodes c.numbers c.tags); origins = map (λ n. Some n) (members c.case.origins); prefixes = c.case.prefixes }
+
+pub raw_ways : PlainCaseEvidence → RawWays
+raw_ways c = record { starts = map (λ n. Some n) c.graph.starts; statement = Some c.case.statement; steps = map (λ s. Some s) c.graph.steps }
+
+places_again : (c : PlainCaseEvidence) → IsWritable c → places_of (case_data c) ≡ Ok (raw_places c)
+unfolding places_of case_data list_of raw_places serde_json_on_literals
+places_again c is =
     rw (
       items_as_list-items_of (nodes_data c.graph.nodes c.numbers c.tags),
-      nodes_again c.graph.nodes c.numbers c.tags is.rules.places is.rules.ranks is.ranks is.numbers is.tags,
+      nodes_again 1 c.graph.nodes c.numbers c.tags is.rules.places is.rules.ranks is.ranks is.numbers is.tags,
       items_as_list-items_of (map (λ n. number (unsigned n)) (members c.case.origins)),
       origins_again c.case.origins,
       items_as_list-items_of (map string (map prefix_text c.case.prefixes)),
       prefixes_again c.case.prefixes is.prefixes,
+    )
+    refl
+
+ways_again : (c : PlainCaseEvidence) → IsWritable c → ways_of (case_data c) ≡ Ok (raw_ways c)
+unfolding ways_of case_data list_of raw_ways serde_json_on_literals
+ways_again c is =
+    let count = is.graph.count in
+    rw (
       items_as_list-items_of (map (λ n. number (unsigned n)) c.graph.starts),
       numbers_again field.Starts greatest c.graph.starts
           (AllByRecursion-weaker (λ n. n < length c.graph.nodes) (λ n. n ≤ greatest) c.graph.starts (λ n low. omega (arith, low, count)) is.graph.starts),
       number_ok field.Statement 1 greatest c.case.statement is.rules.stated (omega (arith, is.statement)),
       items_as_list-items_of (map step_data c.graph.steps),
       each_map (λ (s : ℕ × ℕ). (s.0 < length c.graph.nodes) × (s.1 < length c.graph.nodes)) step_of step_data (λ s. Some s)
-          (λ s low. step_again s (omega (arith, low.0, count), omega (arith, low.1, count))) c.graph.steps is.graph.steps,
+          (λ s low. step_again s (omega (arith, low.0, count), omega (arith, low.1, count))) 1 c.graph.steps is.graph.steps,
     )
     refl
+
+-- what stands beside the nodes and steps of a case
+case_opens : (c : PlainCaseEvidence) → (is_case (case_data c) ≡ true) × (get (codes "external") (case_data c) ≡ Some (boolean c.case.external))
+unfolding case_data begins_as_case is_case serde_json_on_literals
+case_opens c = (refl, refl)
+
+case_again : (c : PlainCaseEvidence) → IsWritable c → case_of (case_data c) ≡ Ok (raw_case c)
+unfolding case_of raw_case raw_places raw_ways
+case_again c is = rw ((case_opens c).0, (case_opens c).1, places_again c is, ways_again c is) refl
 
 -- ---- the whole text
 
 cases_again : (cs : List PlainCaseEvidence) → AllByRecursion IsWritable cs → each case_of (map case_data cs) ≡ Ok (map raw_case cs)
-cases_again cs are = each_map IsWritable case_of case_data raw_case case_again cs are
+cases_again cs are = each_map IsWritable case_of case_data raw_case case_again 1 cs are
 
 all_numbered : (cs : List PlainCaseEvidence) → AllByRecursion IsWritable cs → each numbered_case (map raw_case cs) ≡ Ok (map read_case cs)
-all_numbered cs are = each_map IsWritable numbered_case raw_case read_case numbered_again cs are
+all_numbered cs are = each_map IsWritable numbered_case raw_case read_case numbered_again 1 cs are
 
 raw_text : List PlainCaseEvidence → RawEvidence
 raw_text cs = record { cases = map raw_case cs; version = Some 1 }
@@ -221,7 +248,7 @@ read_text : List PlainCaseEvidence → ReadText
 read_text cs = record { cases = map read_case cs; version = 1 }
 
 shape_again : (cs : List PlainCaseEvidence) → AllByRecursion IsWritable cs → shape_of (evidence_data cs) ≡ Ok (raw_text cs)
-unfolding shape_of evidence_data is_evidence list_of raw_text serde_json_on_literals
+unfolding shape_of version_of evidence_data is_evidence list_of raw_text serde_json_on_literals
 shape_again cs are =
     rw (items_as_list-items_of (map case_data cs), cases_again cs are, number_ok field.Version 0 greatest 1 (omega arith) (omega arith)) refl
 

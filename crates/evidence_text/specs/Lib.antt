@@ -1,6 +1,5 @@
 pub mod Entries
 pub mod Faults
-pub mod Halves
 pub mod Laws
 pub mod Parts
 pub mod Ranges

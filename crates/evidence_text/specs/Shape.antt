@@ -11,21 +11,19 @@ use Rattle.evidence_text.specs.declared.parts.Field.TheVariants as field
 use Rattle.net_base.specs.declared.prefix_text.PrefixFault.{PrefixFault}
 use Rattle.net_base.specs.Prefixes.{PlainPrefix}
 use Rattle.net_base.specs.PrefixText.{prefix_spelled}
-use Rattle.net_base.specs.Steps.{◌>>=◌, or_fault, unless}
+use Rattle.net_base.specs.Steps.{◌>>=◌, or_fault, unless, each_from}
 use Rattle.evidence_text.specs.declared.fault.EvidenceFault.{EvidenceFault}
 use Rattle.evidence_text.specs.declared.fault.EvidenceFault.TheVariants.{Shape}
 use Rattle.evidence_text.specs.declared.raw.NodeEntry.{NodeEntry}
 use Rattle.evidence_text.specs.declared.raw.RawCase.{RawCase}
 use Rattle.evidence_text.specs.declared.raw.RawEvidence.{RawEvidence}
+use Rattle.evidence_text.specs.declared.raw.RawPlaces.{RawPlaces}
+use Rattle.evidence_text.specs.declared.raw.RawWays.{RawWays}
 use Rattle.evidence_text.specs.Entries.{entry, pair, within}
 
 -- what each of them gives, or the first fault
 abbrev pub each : {A B : Type 0} → (A → Result B EvidenceFault) → List A → Result (List B) EvidenceFault
-each f [] = Ok []
-each f (x ∷ xs) = do
-  y ← f x
-  ys ← each f xs
-  Ok (y ∷ ys)
+each f = each_from (λ _. f) 1
 
 -- the greatest number of 32 bits
 abbrev pub greatest : ℕ
@@ -111,40 +109,67 @@ origins_of ds = do
 abbrev pub has_size : ℕ → Data → Bool
 has_size n d = option_map_or (λ ms. members_len ms == n) (as_object d) false
 
+-- an object of as many keys as a case has, with the first of them
+unfoldable pub begins_as_case : Data → Bool
+begins_as_case d = has_size 7 d && has (codes "external") d && has (codes "nodes") d && has (codes "origins") d
+
 -- an object with exactly the keys of a case
 unfoldable pub is_case : Data → Bool
-is_case d =
-    has_size 7 d && has (codes "external") d && has (codes "nodes") d && has (codes "origins") d && has (codes "prefixes") d && has (codes "starts") d
-    && has (codes "statement") d && has (codes "steps") d
+is_case d = begins_as_case d && has (codes "prefixes") d && has (codes "starts") d && has (codes "statement") d && has (codes "steps") d
 
-unfoldable pub case_of : Data → Result RawCase EvidenceFault
-case_of d = do
-  _ ← unless (Shape field.Case) (is_case d)
-  value ← member_of field.External (codes "external") d
-  external ← or_fault (Shape field.External) (as_bool value)
+-- the nodes, origins and prefixes of a case
+unfoldable pub places_of : Data → Result RawPlaces EvidenceFault
+places_of d = do
   nodes ← list_of field.Nodes (codes "nodes") d
   nodes ← each node_of nodes
   origins ← list_of field.Origins (codes "origins") d
   origins ← origins_of origins
   prefixes ← list_of field.Prefixes (codes "prefixes") d
   prefixes ← each prefix_of prefixes
+  Ok (record { nodes = nodes; origins = origins; prefixes = prefixes })
+
+-- and its starts, statement and steps
+unfoldable pub ways_of : Data → Result RawWays EvidenceFault
+ways_of d = do
   starts ← list_of field.Starts (codes "starts") d
   starts ← each (number_of field.Starts 0 greatest) starts
   statement ← member_of field.Statement (codes "statement") d
   statement ← number_of field.Statement 1 greatest statement
   steps ← list_of field.Steps (codes "steps") d
   steps ← each step_of steps
-  Ok (record { external = external; nodes = nodes; origins = origins; prefixes = prefixes; starts = starts; statement = statement; steps = steps })
+  Ok (record { starts = starts; statement = statement; steps = steps })
+
+unfoldable pub case_of : Data → Result RawCase EvidenceFault
+case_of d = do
+  _ ← unless (Shape field.Case) (is_case d)
+  value ← member_of field.External (codes "external") d
+  external ← or_fault (Shape field.External) (as_bool value)
+  places ← places_of d
+  ways ← ways_of d
+  Ok (record {
+    external = external;
+    nodes = places.nodes;
+    origins = places.origins;
+    prefixes = places.prefixes;
+    starts = ways.starts;
+    statement = ways.statement;
+    steps = ways.steps;
+  })
 
 -- an object with exactly the keys of evidence
 unfoldable pub is_evidence : Data → Bool
 is_evidence d = has_size 2 d && has (codes "cases") d && has (codes "version") d
+
+-- its version
+unfoldable pub version_of : Data → Result (Option ℕ) EvidenceFault
+version_of d = do
+  version ← member_of field.Version (codes "version") d
+  number_of field.Version 0 greatest version
 
 unfoldable pub shape_of : Data → Result RawEvidence EvidenceFault
 shape_of d = do
   _ ← unless (Shape field.Top) (is_evidence d)
   cases ← list_of field.Cases (codes "cases") d
   cases ← each case_of cases
-  version ← member_of field.Version (codes "version") d
-  version ← number_of field.Version 0 greatest version
+  version ← version_of d
   Ok (record { cases = cases; version = version })

@@ -1,5 +1,6 @@
 -- The text of evidence.
 use Rattle.std.specs.Prelude.{ℕ, List, [], ◌∷◌, ◌++◌, map, filter, codes, unwrap_or, if◌then◌else◌}
+use Rattle.std.specs.Fmt.{decimal}
 use Rattle.std.specs.List.{range_with_len}
 use Rattle.serde_json.specs.Data.{Data, unsigned, boolean, number, object, no_members, member}
 use Rattle.serde_json.specs.Written.{compact_text}
@@ -41,6 +42,21 @@ case_data c =
     (member (codes "statement") (number (unsigned c.case.statement))
     (member (codes "steps") (array_of (map step_data c.graph.steps))
     no_members)))))))
+
+-- the text of a case, as far as its prefixes, and from its starts on
+abbrev pub places_text : PlainCaseEvidence → List ℕ
+places_text c =
+    codes "{\"external\":" ++ (compact_text (boolean c.case.external)
+    ++ (codes ",\"nodes\":" ++ (compact_text (array_of (nodes_data c.graph.nodes c.numbers c.tags))
+    ++ (codes ",\"origins\":" ++ (compact_text (numbers_data (members c.case.origins))
+    ++ (codes ",\"prefixes\":" ++ compact_text (texts_data (map prefix_text c.case.prefixes))))))))
+
+abbrev pub ways_text : PlainCaseEvidence → List ℕ
+ways_text c =
+    codes ",\"starts\":" ++ (compact_text (numbers_data c.graph.starts)
+    ++ (codes ",\"statement\":" ++ (decimal c.case.statement
+    ++ (codes ",\"steps\":" ++ (compact_text (array_of (map step_data c.graph.steps))
+    ++ codes "}")))))
 
 unfoldable pub evidence_data : List PlainCaseEvidence → Data
 evidence_data cs = object (member (codes "cases") (array_of (map case_data cs)) (member (codes "version") (number (unsigned 1)) no_members))

@@ -19,22 +19,39 @@ use net_base::{List, Loc, LocSet, Tag};
 use policy_base::Case;
 use std::alloc::Global;
 
+// What is there, where it isn't out of its range.
+fn there<T: Copy + Drop>(field: Field, item: &Option<T>) -> Result<T, EvidenceFault>
+    ensures { GivesUnless EvidenceFault.NoMemory (λ n. n) result (or_fault (EvidenceFault.Number field) item.now) }
+{
+    match item {
+        Some(item) => Ok(*item),
+        None => Err(EvidenceFault::Number(field)),
+    }
+}
+
 // All of these, where none of them is out of its range.
 fn all_of<T: Copy + Drop>(
     alloc: Global,
     field: Field,
-    items: &List<Option<T>>,
+    list: &List<Option<T>>,
 ) -> Result<List<T>, EvidenceFault>
-    ensures { GivesUnless EvidenceFault.NoMemory (λ v. v) result (each (or_fault (EvidenceFault.Number field)) items.now) }
+    ensures { GivesUnless EvidenceFault.NoMemory (λ v. v) result (each (or_fault (EvidenceFault.Number field)) list.now) }
 {
-    let mut all = List::new(alloc);
-    for item in items.as_slice() {
-        let Some(item) = item else {
-            return Err(EvidenceFault::Number(field));
-        };
-        all.push(*item)?;
+    let items = list.as_slice();
+    let mut all = Vec::with_capacity(alloc, items.len())?;
+    for item in items {
+        let read = there(field, item)?;
+        all.push(read)?;
     }
-    Ok(all)
+    Ok(List::from_vec(all))
+}
+
+// The location of this number.
+fn location(place: u32) -> Loc
+    requires { place < LOCATIONS }
+    ensures { result ≡ place }
+{
+    Loc::new(place as u16)
 }
 
 // The set of these locations.
@@ -44,19 +61,9 @@ fn set_of_places(places: &[u32]) -> LocSet
 {
     let mut set = LocSet::new();
     for place in places {
-        set = set.with(Loc::new(*place as u16));
+        set = set.with(location(*place));
     }
     set
-}
-
-// The number of the statement, where it is in its range.
-fn statement_of(number: Option<u32>) -> Result<u32, EvidenceFault>
-    ensures { GivesUnless EvidenceFault.NoMemory (λ n. n) result (or_fault (EvidenceFault.Number Field.Statement) number) }
-{
-    match number {
-        Some(number) => Ok(number),
-        None => Err(EvidenceFault::Number(Field::Statement)),
-    }
 }
 
 // The case, where all of its numbers are in their ranges.
@@ -68,7 +75,7 @@ fn read_case(alloc: Global, raw: &RawCase) -> Result<ReadCase, EvidenceFault>
     let nodes = all_of(alloc, Field::Nodes, &raw.nodes)?;
     let origins = all_of(alloc, Field::Origins, &raw.origins)?;
     let starts = all_of(alloc, Field::Starts, &raw.starts)?;
-    let statement = statement_of(raw.statement)?;
+    let statement = there(Field::Statement, &raw.statement)?;
     let steps = all_of(alloc, Field::Steps, &raw.steps)?;
     let case = Case {
         statement,
@@ -88,19 +95,19 @@ fn read_cases(alloc: Global, raw: &[RawCase]) -> Result<List<ReadCase>, Evidence
     requires { AllByRecursion HasRanges raw.now }
     ensures { GivesUnless EvidenceFault.NoMemory (λ v. v) result (each numbered_case raw.now) }
 {
-    let mut all = List::new(alloc);
+    let mut all = Vec::with_capacity(alloc, raw.len())?;
     for case in raw {
         let read = read_case(alloc, case)?;
         all.push(read)?;
     }
-    Ok(all)
+    Ok(List::from_vec(all))
 }
 
 /// The text, where all of its numbers are in their ranges; else the first part that holds one that isn't.
 #[tactic(auto, unfolding(crate::specs::Spelled::numbered))]
-pub fn numbered(alloc: Global, raw: RawEvidence) -> Result<ReadText, EvidenceFault>
-    requires { AllByRecursion HasRanges raw.cases }
-    ensures { GivesUnless EvidenceFault.NoMemory (λ t. t) result (numbered_text raw) }
+pub fn numbered(alloc: Global, raw: &RawEvidence) -> Result<ReadText, EvidenceFault>
+    requires { AllByRecursion HasRanges raw.now.cases }
+    ensures { GivesUnless EvidenceFault.NoMemory (λ t. t) result (numbered_text raw.now) }
 {
     let cases = read_cases(alloc, raw.cases.as_slice())?;
     match raw.version {
@@ -137,73 +144,92 @@ pub fn are_placed(cases: &[ReadCase]) -> bool
     cases.iter().all(|case| is_placed(case))
 }
 
-fn nodes_of(alloc: Global, entries: &List<NodeEntry>) -> Result<List<Node>, EvidenceFault>
+fn nodes_of(alloc: Global, entries: &[NodeEntry]) -> Result<List<Node>, EvidenceFault>
     ensures values { IfOk result (λ v. v ≡ map (λ e. e.node) entries.now) }
     ensures err { IfErr result (λ e. e ≡ EvidenceFault.NoMemory) }
 {
-    let mut all = List::new(alloc);
-    for entry in entries.as_slice() {
+    let mut all = Vec::with_capacity(alloc, entries.len())?;
+    for entry in entries {
         all.push(entry.node)?;
     }
-    Ok(all)
+    Ok(List::from_vec(all))
 }
 
-fn numbers_of(alloc: Global, entries: &List<NodeEntry>) -> Result<List<u32>, EvidenceFault>
+fn numbers_of(alloc: Global, entries: &[NodeEntry]) -> Result<List<u32>, EvidenceFault>
     ensures values { IfOk result (λ v. v ≡ map (λ e. e.number) entries.now) }
     ensures err { IfErr result (λ e. e ≡ EvidenceFault.NoMemory) }
 {
-    let mut all = List::new(alloc);
-    for entry in entries.as_slice() {
+    let mut all = Vec::with_capacity(alloc, entries.len())?;
+    for entry in entries {
         all.push(entry.number)?;
     }
-    Ok(all)
+    Ok(List::from_vec(all))
 }
 
-fn tags_of(alloc: Global, entries: &List<NodeEntry>) -> Result<List<Tag>, EvidenceFault>
+fn tags_of(alloc: Global, entries: &[NodeEntry]) -> Result<List<Tag>, EvidenceFault>
     ensures values { IfOk result (λ v. v ≡ map (λ e. e.tag) entries.now) }
     ensures err { IfErr result (λ e. e ≡ EvidenceFault.NoMemory) }
 {
-    let mut all = List::new(alloc);
-    for entry in entries.as_slice() {
+    let mut all = Vec::with_capacity(alloc, entries.len())?;
+    for entry in entries {
         all.push(entry.tag)?;
     }
-    Ok(all)
+    Ok(List::from_vec(all))
 }
 
-// The evidence of a case with the columns of its nodes.
-fn with_columns(
-    read: ReadCase,
+// The columns of the nodes of a case.
+#[derive(Drop)]
+struct Columns {
     nodes: List<Node>,
     numbers: List<u32>,
     tags: List<Tag>,
-) -> CaseEvidence
+}
+
+// The columns of these nodes. No text that memory holds has so many nodes that a graph can't number them, and where one
+// had, memory is said to be short.
+fn columns_of(alloc: Global, entries: &[NodeEntry]) -> Result<Columns, EvidenceFault>
+    ensures few { IfOk result (λ _. length entries.now ≤ MAX_NODES) }
+    ensures nodes { IfOk result (λ c. c.nodes ≡ map (λ e. e.node) entries.now) }
+    ensures numbers { IfOk result (λ c. c.numbers ≡ map (λ e. e.number) entries.now) }
+    ensures tags { IfOk result (λ c. c.tags ≡ map (λ e. e.tag) entries.now) }
+    ensures err { IfErr result (λ e. e ≡ EvidenceFault.NoMemory) }
+{
+    if entries.len() > MAX_NODES {
+        return Err(EvidenceFault::NoMemory);
+    }
+    Ok(Columns {
+        nodes: nodes_of(alloc, entries)?,
+        numbers: numbers_of(alloc, entries)?,
+        tags: tags_of(alloc, entries)?,
+    })
+}
+
+// The evidence of a case with the columns of its nodes.
+fn with_columns(read: ReadCase, columns: Columns) -> CaseEvidence
     requires ranges { IsReadCase read }
     requires placed { is_placed_case read ≡ true }
     requires few { length read.nodes ≤ MAX_NODES }
-    requires nodes { nodes ≡ map (λ e. e.node) read.nodes }
-    requires numbers { numbers ≡ map (λ e. e.number) read.nodes }
-    requires tags { tags ≡ map (λ e. e.tag) read.nodes }
+    requires nodes { columns.nodes ≡ map (λ e. e.node) read.nodes }
+    requires numbers { columns.numbers ≡ map (λ e. e.number) read.nodes }
+    requires tags { columns.tags ≡ map (λ e. e.tag) read.nodes }
     ensures { result ≡ evidence_of read }
 {
-    let graph = Graph::new(nodes, read.starts, read.steps);
-    CaseEvidence::new(read.case, graph, Prefs { of: numbers }, tags)
+    let graph = Graph::new(columns.nodes, read.starts, read.steps);
+    let prefs = Prefs {
+        of: columns.numbers,
+    };
+    CaseEvidence::new(read.case, graph, prefs, columns.tags)
 }
 
-// The evidence of a case whose starts and steps name nodes. No text that memory holds has so many nodes that a graph
-// can't number them, and where one had, memory is said to be short.
+// The evidence of a case whose starts and steps name nodes.
 fn case_evidence(alloc: Global, read: ReadCase) -> Result<CaseEvidence, EvidenceFault>
     requires ranges { IsReadCase read }
     requires placed { is_placed_case read ≡ true }
     ensures evidence { IfOk result (λ c. c ≡ evidence_of read) }
     ensures err { IfErr result (λ e. e ≡ EvidenceFault.NoMemory) }
 {
-    if read.nodes.as_slice().len() > MAX_NODES {
-        return Err(EvidenceFault::NoMemory);
-    }
-    let nodes = nodes_of(alloc, &read.nodes)?;
-    let numbers = numbers_of(alloc, &read.nodes)?;
-    let tags = tags_of(alloc, &read.nodes)?;
-    Ok(with_columns(read, nodes, numbers, tags))
+    let columns = columns_of(alloc, read.nodes.as_slice())?;
+    Ok(with_columns(read, columns))
 }
 
 /// The evidence of a text whose starts and steps name nodes.

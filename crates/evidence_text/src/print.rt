@@ -9,7 +9,7 @@ ghost use Rattle.serde_json.specs.Written.{comma_if, compact_text};
 ghost use Rattle.json_words.specs.Json.{array_of, numbers_data, texts_data};
 ghost use Rattle.text_words.specs.Texts.{prefix_text};
 ghost use Rattle.evidence_text.specs.Spelled.{spelled};
-ghost use Rattle.evidence_text.specs.Text.{case_data, evidence_text, members, node_data, nodes_data, step_data};
+ghost use Rattle.evidence_text.specs.Text.{case_data, evidence_text, members, node_data, nodes_data, places_text, step_data, ways_text};
 ghost use Rattle.evidence_text.specs.Writable.{HasShortRank, IsShort, IsShortTag, IsWritable};
 
 use evidence_base::{CaseEvidence, Evidence};
@@ -177,28 +177,44 @@ fn push_truth(text: &mut Vec<u8>, value: bool) -> Result<(), NoMemory>
     push_bytes(text, truth(value))
 }
 
+// Adds a case as far as its prefixes.
+fn push_places(alloc: Global, text: &mut Vec<u8>, case: &CaseEvidence) -> Result<(), NoMemory>
+    ensures text { OnOk result (text.new.items ≡ text.old.items ++ places_text case.now) }
+    ensures rules { OnOk result (IsShort case.now.case.statement → IsWritable case.now) }
+{
+    let of = case.case();
+    push_bytes(text, b"{\"external\":")?;
+    push_truth(text, of.external)?;
+    push_bytes(text, b",\"nodes\":")?;
+    push_nodes(text, case.graph().nodes(), case.prefs(), case.tags())?;
+    push_bytes(text, b",\"origins\":")?;
+    push_locations(alloc, text, &of.origins)?;
+    push_bytes(text, b",\"prefixes\":")?;
+    push_prefixes(text, of.prefixes.as_slice())
+}
+
+// Adds a case from its starts on.
+fn push_ways(text: &mut Vec<u8>, case: &CaseEvidence) -> Result<(), NoMemory>
+    ensures text { OnOk result (text.new.items ≡ text.old.items ++ ways_text case.now) }
+    ensures rules { OnOk result (IsShort case.now.case.statement) }
+{
+    let graph = case.graph();
+    push_bytes(text, b",\"starts\":")?;
+    push_numbers(text, graph.starts())?;
+    push_bytes(text, b",\"statement\":")?;
+    push_short(text, case.case().statement)?;
+    push_bytes(text, b",\"steps\":")?;
+    push_steps(text, graph.steps())?;
+    push_bytes(text, b"}")
+}
+
 // Adds a case, its keys in the order of their bytes.
 fn push_case(alloc: Global, text: &mut Vec<u8>, case: &CaseEvidence) -> Result<(), NoMemory>
     ensures text { OnOk result (text.new.items ≡ text.old.items ++ compact_text (case_data case.now)) }
     ensures rules { OnOk result (IsWritable case.now) }
 {
-    let of = case.case();
-    let graph = case.graph();
-    push_bytes(text, b"{\"external\":")?;
-    push_truth(text, of.external)?;
-    push_bytes(text, b",\"nodes\":")?;
-    push_nodes(text, graph.nodes(), case.prefs(), case.tags())?;
-    push_bytes(text, b",\"origins\":")?;
-    push_locations(alloc, text, &of.origins)?;
-    push_bytes(text, b",\"prefixes\":")?;
-    push_prefixes(text, of.prefixes.as_slice())?;
-    push_bytes(text, b",\"starts\":")?;
-    push_numbers(text, graph.starts())?;
-    push_bytes(text, b",\"statement\":")?;
-    push_short(text, of.statement)?;
-    push_bytes(text, b",\"steps\":")?;
-    push_steps(text, graph.steps())?;
-    push_bytes(text, b"}")
+    push_places(alloc, text, case)?;
+    push_ways(text, case)
 }
 
 // Adds the cases.

@@ -29,9 +29,9 @@ fn value_of(alloc: Global, bytes: &[u8]) -> Result<Value, EvidenceFault>
 
 // The evidence of what has the shape, or the least rule that is broken.
 #[tactic(auto, unfolding(crate::specs::Spelled::judged))]
-fn judge(alloc: Global, raw: RawEvidence) -> Result<Evidence, EvidenceFault>
-    requires { AllByRecursion HasRanges raw.cases }
-    ensures { GivesUnless EvidenceFault.NoMemory (λ evidence. evidence.cases) result (judged raw) }
+fn judge(alloc: Global, raw: &RawEvidence) -> Result<Evidence, EvidenceFault>
+    requires { AllByRecursion HasRanges raw.now.cases }
+    ensures { GivesUnless EvidenceFault.NoMemory (λ evidence. evidence.cases) result (judged raw.now) }
 {
     let text = numbered(alloc, raw)?;
     if !are_placed(text.cases.as_slice()) {
@@ -54,5 +54,5 @@ pub fn read_evidence(alloc: Global, bytes: &[u8]) -> Result<Evidence, EvidenceFa
         let value = value_of(alloc, bytes)?;
         shape(alloc, &value)?
     };
-    judge(alloc, raw)
+    judge(alloc, &raw)
 }

@@ -1,14 +1,13 @@
 //! The shape of evidence.
-ghost use Rattle.std.specs.Prelude.{◌≡◌, ◌≤◌, ◌+◌, ◌&&◌, codes, map, length, is_none, IfOk};
+ghost use Rattle.std.specs.Prelude.{◌≡◌, ◌≤◌, ◌==◌, map, length, is_none, IfOk};
 ghost use Rattle.std.specs.List.{list_any};
 ghost use Rattle.std.specs.Option.{ForSome};
 ghost use Rattle.serde_json.specs.View.{view};
-ghost use Rattle.json_words.specs.Json.{has as has_key};
 ghost use Rattle.net_base.specs.Gives.{GivesUnless};
-ghost use Rattle.evidence_text.specs.Halves.{places_of, ways_of};
 ghost use Rattle.evidence_text.specs.Shape.{
   are_in_order as in_order,
   ascend_from,
+  begins_as_case as begins_with_keys,
   case_of,
   each,
   has_size as is_of_size,
@@ -20,10 +19,13 @@ ghost use Rattle.evidence_text.specs.Shape.{
   number_at as number_at_place,
   number_of,
   origins_of,
+  places_of,
   prefix_of,
   row_of,
   shape_of,
   step_of,
+  version_of,
+  ways_of,
   greatest,
 };
 
@@ -58,16 +60,21 @@ fn items<'a>(value: &'a Value, field: Field, key: &str) -> Result<&'a [Value], E
     }
 }
 
+// Whether there are so many items.
+fn has_length(items: &[Value], size: usize) -> bool
+    ensures { result ≡ (length (map view items.now) == size) }
+{
+    items.len() == size
+}
+
 // The items of an array that has exactly so many.
-#[tactic(auto, unfolding(crate::specs::Shape::row_of))]
 fn row(field: Field, size: usize, value: &Value) -> Result<&[Value], EvidenceFault>
-    ensures row { GivesUnless EvidenceFault.NoMemory (λ s. map view s.now) result (row_of field size (view value.now)) }
-    ensures size { IfOk result (λ s. length s.now ≡ size) }
+    ensures { GivesUnless EvidenceFault.NoMemory (λ s. map view s.now) result (row_of field size (view value.now)) }
 {
     let Some(items) = list(value) else {
         return Err(EvidenceFault::Shape(field));
     };
-    if items.len() != size {
+    if !has_length(items, size) {
         return Err(EvidenceFault::Shape(field));
     }
     Ok(items)
@@ -136,34 +143,34 @@ fn prefix(value: &Value) -> Result<Prefix, EvidenceFault>
 fn nodes(alloc: Global, values: &[Value]) -> Result<List<Option<NodeEntry>>, EvidenceFault>
     ensures { GivesUnless EvidenceFault.NoMemory (λ v. v) result (each node_of (map view values.now)) }
 {
-    let mut all = List::new(alloc);
+    let mut all = Vec::with_capacity(alloc, values.len())?;
     for value in values {
         let read = node(value)?;
         all.push(read)?;
     }
-    Ok(all)
+    Ok(List::from_vec(all))
 }
 
 fn steps(alloc: Global, values: &[Value]) -> Result<List<Option<(u32, u32)>>, EvidenceFault>
     ensures { GivesUnless EvidenceFault.NoMemory (λ v. v) result (each step_of (map view values.now)) }
 {
-    let mut all = List::new(alloc);
+    let mut all = Vec::with_capacity(alloc, values.len())?;
     for value in values {
         let read = step(value)?;
         all.push(read)?;
     }
-    Ok(all)
+    Ok(List::from_vec(all))
 }
 
 fn prefixes(alloc: Global, values: &[Value]) -> Result<List<Prefix>, EvidenceFault>
     ensures { GivesUnless EvidenceFault.NoMemory (λ v. v) result (each prefix_of (map view values.now)) }
 {
-    let mut all = List::new(alloc);
+    let mut all = Vec::with_capacity(alloc, values.len())?;
     for value in values {
         let read = prefix(value)?;
         all.push(read)?;
     }
-    Ok(all)
+    Ok(List::from_vec(all))
 }
 
 // The numbers of an array, each of which is at most so great.
@@ -175,12 +182,12 @@ fn numbers(
 ) -> Result<List<Option<u32>>, EvidenceFault>
     ensures { GivesUnless EvidenceFault.NoMemory (λ v. v) result (each (number_of field 0 most) (map view values.now)) }
 {
-    let mut all = List::new(alloc);
+    let mut all = Vec::with_capacity(alloc, values.len())?;
     for value in values {
         let read = number(field, 0, most, value)?;
         all.push(read)?;
     }
-    Ok(all)
+    Ok(List::from_vec(all))
 }
 
 // Whether each number is greater than those before it.
@@ -237,8 +244,9 @@ fn has_size(value: &Value, size: usize) -> bool
 }
 
 // Whether the value is an object of as many keys as a case has, with the first of them.
+#[tactic(auto, unfolding(crate::specs::Shape::begins_as_case))]
 fn begins_as_case(value: &Value) -> bool
-    ensures { result ≡ (is_of_size 7 (view value.now) && has_key (codes "external") (view value.now) && has_key (codes "nodes") (view value.now) && has_key (codes "origins") (view value.now)) }
+    ensures { result ≡ begins_with_keys (view value.now) }
 {
     has_size(value, 7) && has(value, "external") && has(value, "nodes") && has(value, "origins")
 }
@@ -256,7 +264,7 @@ fn is_case(value: &Value) -> bool
 }
 
 // The nodes, origins and prefixes of a case.
-#[tactic(auto, unfolding(crate::specs::Halves::places_of))]
+#[tactic(auto, unfolding(crate::specs::Shape::places_of))]
 fn places(alloc: Global, value: &Value) -> Result<RawPlaces, EvidenceFault>
     ensures { GivesUnless EvidenceFault.NoMemory (λ p. p) result (places_of (view value.now)) }
 {
@@ -271,7 +279,7 @@ fn places(alloc: Global, value: &Value) -> Result<RawPlaces, EvidenceFault>
 }
 
 // The starts, statement and steps of a case.
-#[tactic(auto, unfolding(crate::specs::Halves::ways_of))]
+#[tactic(auto, unfolding(crate::specs::Shape::ways_of))]
 fn ways(alloc: Global, value: &Value) -> Result<RawWays, EvidenceFault>
     ensures { GivesUnless EvidenceFault.NoMemory (λ w. w) result (ways_of (view value.now)) }
 {
@@ -330,6 +338,15 @@ fn is_evidence(value: &Value) -> bool
     has_size(value, 2) && has(value, "cases") && has(value, "version")
 }
 
+// The version of evidence.
+#[tactic(auto, unfolding(crate::specs::Shape::version_of))]
+fn version(value: &Value) -> Result<Option<u32>, EvidenceFault>
+    ensures { GivesUnless EvidenceFault.NoMemory (λ n. n) result (version_of (view value.now)) }
+{
+    let version = member(value, Field::Version, "version")?;
+    number(Field::Version, 0, u32::MAX, version)
+}
+
 /// The text that a value has the shape of, or the first part that is not as it should be.
 #[tactic(auto, unfolding(crate::specs::Shape::shape_of))]
 pub fn shape(alloc: Global, value: &Value) -> Result<RawEvidence, EvidenceFault>
@@ -339,7 +356,6 @@ pub fn shape(alloc: Global, value: &Value) -> Result<RawEvidence, EvidenceFault>
         return Err(EvidenceFault::Shape(Field::Top));
     }
     let cases = cases(alloc, items(value, Field::Cases, "cases")?)?;
-    let version = member(value, Field::Version, "version")?;
-    let version = number(Field::Version, 0, u32::MAX, version)?;
+    let version = version(value)?;
     Ok(RawEvidence { cases, version })
 }

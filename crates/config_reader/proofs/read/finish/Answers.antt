@@ -1,15 +1,12 @@
-use Rattle.std.proofs.Common.{◌≡◌, ◌∙◌, ap, sym, true, None, Ok, length}
-use Rattle.std.specs.Prelude.{◌==◌}
-use Rattle.list_laws.proofs.Options.{none_from_not_some}
-use Rattle.config_reader.specs.Text.{finished}
+use Rattle.std.proofs.Common.{subst}
+use Rattle.config_base.specs.Configs.{IsConfig}
+use Rattle.config_reader.specs.declared.reading.Reading.{Reading}
+use Rattle.config_reader.proofs.CutLines.{whole_kept}
 use Rattle.config_reader.proofs.read.finish.Goals as goal
 
 pub config_of-requires : goal.config_of-requires
-config_of-requires c = c.requires (none_from_not_some c.args.reading.opened (sym c.is_some.ensures ∙ c.if-is_some.false))
-
-pub returns : goal.returns
-unfolding finished
-returns c =
-    let none : c.args.reading.opened ≡ None = none_from_not_some c.args.reading.opened (sym c.is_some.ensures ∙ c.if-is_some.false) in
-    let empty : (length c.args.rest.now == 0) ≡ true = sym c.is_empty.ensures ∙ c.if-not-is_empty.false in
-    rw (none, empty) (ap Ok (sym c.config_of.ensures))
+config_of-requires c =
+    let kept =
+    whole_kept c.args.reading c.in_ok-whole.whole c.args.rest.now c.is_whole.result c.then_some.result c.ok_or.result
+    c.is_whole.ensures c.then_some.ensures c.ok_or.ensures.value c.in_ok-whole.was in
+    subst (λ (r : Reading). IsConfig (record { classes = r.classes; routers = r.routers })) kept.1 (c.requires kept.0)

@@ -3,4 +3,4 @@ use Rattle.evidence_text.specs.declared.raw.NodeEntry.{NodeEntry}
 use Rattle.evidence_text.proofs.judge.numbers_of.Given as goal
 
 abbrev pub invariant-loop-entry : goal.invariant-loop-entry
-invariant-loop-entry l = l.all ≡ map (λ (e : NodeEntry). e.number) (take l.entry-index l.entries)
+invariant-loop-entry l = l.all.items ≡ map (λ (e : NodeEntry). e.number) (take l.entry-index l.entries)

@@ -7,4 +7,4 @@ use Rattle.evidence_text.proofs.read.judge.Goals as goal
 
 pub evidence-requires-clause-ranges : goal.evidence-requires-clause-ranges
 evidence-requires-clause-ranges c =
-    of_ok (λ (t : ReadText). AllByRecursion IsReadCase t.cases) (numbered c.args.raw) c.in_ok-text.text (numbered_in c.args.raw c.requires) c.in_ok-text.ensures
+    of_ok (λ (t : ReadText). AllByRecursion IsReadCase t.cases) (numbered c.args.raw.now) c.in_ok-text.text (numbered_in c.args.raw.now c.requires) c.in_ok-text.ensures

@@ -1,9 +1,24 @@
+use Rattle.std.proofs.Common.{rules, ◌≡◌, ◌≢◌, Err, map}
 use Rattle.serde_json.specs.View.{view}
+use Rattle.net_base.specs.Steps.{each_from}
+use Rattle.evidence_text.specs.declared.fault.EvidenceFault.TheVariants.{NoMemory}
 use Rattle.evidence_text.specs.Shape.{case_of}
-use Rattle.evidence_text.proofs.Each.{each-next}
+use Rattle.item_laws.proofs.ItemsRead.{each_from-start, each_from-next, each_from-stop, each_from-end}
 use Rattle.evidence_text.proofs.shape.cases.Goals as goal
+
+pub loop-value-init : goal.loop-value-init
+loop-value-init c = each_from-start view (λ _. case_of) c.args.values.now _ c.new-all.ensures
 
 pub loop-value-preserved : goal.loop-value-preserved
 loop-value-preserved c =
     rw c.in_ok-push.ensures.ok
-    (each-next view case_of c.args.values.now c.loop-value.value-index _ c.loop-value-test.true c.value-item.is _ _ _ c.in_ok-read.ensures c.loop-value.invariant)
+    (each_from-next view (λ _. case_of) c.args.values.now c.loop-value.value-index _ c.loop-value-test.true c.value-item.is _ _ _ c.in_ok-read.ensures c.loop-value.invariant)
+
+pub returns-in_err-read : goal.returns-in_err-read
+returns-in_err-read c =
+    let told : c.in_err-read.field-0.0 ≢ NoMemory → each_from (λ _. case_of) 1 (map view c.args.values.now) ≡ Err c.in_err-read.field-0.0 = λ n.
+    each_from-stop view (λ _. case_of) c.args.values.now c.loop-value.value-index _ c.loop-value-test.true c.value-item.is _ _ _ (c.in_err-read.ensures n) c.loop-value.invariant in
+    search (rules, told)
+
+pub returns : goal.returns
+returns c = each_from-end view (λ _. case_of) c.args.values.now c.loop-value.all c.loop-value.value-index _ c.loop-value-test.false c.loop-value.invariant

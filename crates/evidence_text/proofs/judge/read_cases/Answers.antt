@@ -1,0 +1,27 @@
+use Rattle.std.proofs.Common.{rules, ◌≡◌, ◌≢◌, ◌∙◌, Err, ap}
+use Rattle.net_base.specs.Steps.{each_from}
+use Rattle.evidence_text.specs.declared.fault.EvidenceFault.TheVariants.{NoMemory}
+use Rattle.evidence_text.specs.Spelled.{numbered_case}
+use Rattle.item_laws.proofs.ItemsRead.{each_from-start, each_from-next, each_from-stop, each_from-end}
+use Rattle.evidence_text.proofs.Rewritten.{map_same}
+use Rattle.evidence_text.proofs.judge.read_cases.Goals as goal
+
+pub loop-case-init : goal.loop-case-init
+loop-case-init c =
+    each_from-start (λ x. x) (λ _. numbered_case) c.args.raw.now _ c.in_ok-all.ensures.items ∙ ap (each_from (λ _. numbered_case) 1) (map_same c.args.raw.now)
+
+pub loop-case-preserved : goal.loop-case-preserved
+loop-case-preserved c =
+    rw c.in_ok-push.ensures.items
+    (each_from-next (λ x. x) (λ _. numbered_case) c.args.raw.now c.loop-case.case-index _ c.loop-case-test.true c.case-item.is _ _ _ c.in_ok-read.ensures c.loop-case.invariant)
+
+pub returns-in_err-read : goal.returns-in_err-read
+returns-in_err-read c =
+    let told : c.in_err-read.field-0.0 ≢ NoMemory → each_from (λ _. numbered_case) 1 c.args.raw.now ≡ Err c.in_err-read.field-0.0 = λ n.
+    each_from-stop (λ x. x) (λ _. numbered_case) c.args.raw.now c.loop-case.case-index _ c.loop-case-test.true c.case-item.is _ _ _ (c.in_err-read.ensures n) c.loop-case.invariant in
+    search (rules, told)
+
+pub returns : goal.returns
+returns c =
+    rw c.from_vec.ensures
+    (each_from-end (λ x. x) (λ _. numbered_case) c.args.raw.now c.loop-case.all.items c.loop-case.case-index _ c.loop-case-test.false c.loop-case.invariant)
