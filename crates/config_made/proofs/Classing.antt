@@ -1,15 +1,14 @@
 -- The class of a prefix among items that have patterns.
-use Rattle.std.proofs.Common.{◌≡◌, ℕ, suc, ◌+◌, ◌<◌, arith, true, false, List, ◌∷◌, drop, length, get_or, map, Some, refl, sym, ap, ◌∙◌}
-use Rattle.std.specs.Prelude.{if◌then◌else◌, option_and_then}
+use Rattle.std.proofs.Common.{◌≡◌, ℕ, suc, ◌+◌, ◌<◌, arith, true, false, List, ◌∷◌, drop, length, get_or, map, Some, sym, ap, ◌∙◌}
+use Rattle.std.specs.Prelude.{if◌then◌else◌}
 use Rattle.std.specs.List.{list_any}
 use Rattle.std.proofs.Math.Seq.{drop-cons}
-use Rattle.std.proofs.lemmas.Option.{slice_get_read}
 use Rattle.net_base.specs.Network.{PlainNet}
 use Rattle.net_base.specs.Prefixes.{PlainPattern, PlainPrefix, contains}
 use Rattle.policy_base.specs.Policies.{PlainPolicy}
 use Rattle.config_base.specs.Configs.{PlainConfig}
 use Rattle.config_base.specs.Lines.{class_from, class_of}
-use Rattle.evidence_base.specs.Made.{IsConfigOf, PlainCaseEvidence, case_at, patterns_of}
+use Rattle.evidence_base.specs.Made.{IsConfigOf, PlainCaseEvidence, patterns_of}
 
 module _ {A : Type 0} (patterns : A → List PlainPattern) (p : PlainPrefix) (items : List A) (i : ℕ) (item : A) (within : i < length items) (is : item ≡ get_or items i item) where
   -- the items from this one on

@@ -1,12 +1,30 @@
 -- What is gathered of the cases one by one.
-use Rattle.std.proofs.Common.{◌≡◌, ℕ, ◌+◌, ◌≤◌, List, ◌∷◌, ◌++◌, length, map, drop, Some, sym, ap, ◌∙◌, append_assoc, append-nil}
+use Rattle.std.proofs.Common.{◌≡◌, ℕ, ◌+◌, ◌<◌, ◌≤◌, List, ◌∷◌, ◌++◌, length, get_or, map, drop, Some, sym, ap, ◌∙◌, append_assoc, append-nil, subst}
 use Rattle.std.specs.Prelude.{slice_get}
+use Rattle.std.specs.List.{AllByRecursion}
 use Rattle.std.proofs.lemmas.List.{drop_all}
+use Rattle.std.proofs.lemmas.Option.{slice_get-get_or}
+use Rattle.list_laws.proofs.Each.{AllByRecursion_at}
 use Rattle.list_laws.proofs.Items.{drop_from}
+use Rattle.graph_base.specs.Graphs.{IsGraph, PlainGraph}
 use Rattle.evidence_base.specs.Made.{PlainCaseEvidence}
 use Rattle.config_made.specs.declared.hop.Hop.{Hop}
 use Rattle.config_made.specs.declared.hop.Announced.{Announced}
 use Rattle.config_made.specs.Hops.{hop_of, hops_from, announced_by, announced_from}
+
+-- a step of a graph is between nodes
+abbrev IsBetween : PlainGraph → ℕ × ℕ → Type 0
+IsBetween g s = (s.0 < length g.nodes) × (s.1 < length g.nodes)
+
+pub step_ends : (g : PlainGraph) (steps : List (ℕ × ℕ)) (i : ℕ) → IsGraph g → steps ≡ g.steps → i < length steps
+    → ((get_or steps i (0, 0)).0 < length g.nodes) × ((get_or steps i (0, 0)).1 < length g.nodes)
+step_ends g steps i is same within =
+    AllByRecursion_at (IsBetween g) steps i (get_or steps i (0, 0)) (subst (AllByRecursion (IsBetween g)) (sym same) is.steps) (slice_get-get_or steps i (0, 0) within)
+
+-- and a start is a node
+pub start_node : (g : PlainGraph) (starts : List ℕ) (i : ℕ) → IsGraph g → starts ≡ g.starts → i < length starts → get_or starts i 0 < length g.nodes
+start_node g starts i is same within =
+    AllByRecursion_at (λ n. n < length g.nodes) starts i (get_or starts i 0) (subst (AllByRecursion (λ n. n < length g.nodes)) (sym same) is.starts) (slice_get-get_or starts i 0 within)
 
 module _ (all : List PlainCaseEvidence) where
   module _ (i : ℕ) (c : PlainCaseEvidence) (here : slice_get all i ≡ Some c) where

@@ -1,12 +1,13 @@
 -- Places up to which the hops stand before those from one location to another.
-use Rattle.std.proofs.Common.{◌≡◌, ℕ, ◌+◌, ◌-◌, ◌<◌, ◌≤◌, true, false, List, [], ◌∷◌, length, drop, get_or, Some, zero, suc, ap, subst, sym, ◌∙◌, arith, inl, inr}
+use Rattle.std.proofs.Common.{◌≡◌, ℕ, ◌+◌, ◌-◌, ◌<◌, ◌≤◌, true, false, List, [], ◌∷◌, ◌++◌, length, length-append, drop, get_or, Some, zero, suc, ap, subst, sym, ◌∙◌, arith, inl, inr}
 use Rattle.std.specs.Prelude.{slice_get, slice_set, nat_lt}
 use Rattle.std.specs.List.{prefix_len}
 use Rattle.std.specs.List.Sorted.{IsStrictlySortedBy, IsPartitionedBy, IsPartitionPoint}
 use Rattle.std.proofs.lemmas.Bool.{cases_lt, cases_eq, ltb-true, lt-ltb, true≢false, false_from_ne_true}
-use Rattle.std.proofs.lemmas.List.{get_or-drop, length-drop}
+use Rattle.std.proofs.lemmas.List.{get_or-drop, get_or_push, length-drop}
 use Rattle.std.proofs.lemmas.List.Sums.{prefix_len_passes, prefix_len_stops}
 use Rattle.std.proofs.lemmas.Option.{slice_get-get_or, get_or_from_slice_get, slice_get_within}
+use Rattle.list_laws.proofs.Items.{slice_get-append_left}
 use Rattle.list_laws.proofs.SortedRuns.{IsPartitionedBy-from_sorted}
 use Rattle.config_made.specs.declared.hop.Hop.{Hop}
 use Rattle.config_made.specs.Hops.{hop_order, is_before, IsReached, AreReached}
@@ -42,6 +43,16 @@ all_set hops places at place to all one from p here = elim (cases_eq at from) [
     off_set (p ∷ ps) zero x (suc j) y ne h = h
     off_set (p ∷ ps) (suc i) x zero y ne h = h
     off_set (p ∷ ps) (suc i) x (suc j) y ne h = off_set ps i x j y (λ e. ne (omega (arith, e))) h
+
+-- one more is put
+pub all_pushed : (hops : List Hop) (places : List ℕ) (place to : ℕ) → AreReached hops places to → IsReached hops place (length places) to → AreReached hops (places ++ place ∷ []) to
+all_pushed hops places place to all one from p at = elim (cases_lt from (length places)) [
+  | inl less ↦ all from p (sym (slice_get-append_left places (place ∷ []) from less) ∙ at)
+  | inr past ↦ (
+      let last : from ≡ length places = omega (arith, past, slice_get_within (places ++ place ∷ []) from p at, length-append places (place ∷ [])) in
+      let same : place ≡ p = sym (get_or_push places place 0 from (sym last)) ∙ get_or_from_slice_get (places ++ place ∷ []) from p 0 at in
+      subst (λ k. IsReached hops k from to) same (subst (λ n. IsReached hops place n to) (sym last) one))
+]
 
 -- where the hops from a location begin
 pub first_reached : (hops : List Hop) (place from : ℕ) → place ≤ length hops

@@ -2,9 +2,11 @@ pub mod FirstPairs
 pub mod JustOffers
 pub mod Looping
 pub mod Lowest
+pub mod Marked
 pub mod Matching
 pub mod OneNumber
 pub mod Offered
+pub mod Put
 pub mod RowLemmas
 pub mod RunLemmas
 pub mod Spreading

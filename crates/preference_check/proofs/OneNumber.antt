@@ -1,13 +1,14 @@
 -- Where the nodes at each location have one number, the loop rule holds.
-use Rattle.std.proofs.Common.{◌≡◌, ℕ, ◌+◌, ◌<◌, true, leb, not, List, Option, length, sym, ap, ◌∙◌, inl, inr, arith, IsTrue, subst, le-leb, leb-true}
-use Rattle.std.proofs.lemmas.Bool.{and_parts, cases_lt}
+use Rattle.std.proofs.Common.{◌≡◌, ℕ, ◌+◌, ◌<◌, ◌&&◌, ◌||◌, true, eqb, leb, not, List, Option, None, Some, length, get_or, refl, sym, ap, ◌∙◌, inl, inr, arith, IsTrue, subst, le-leb, leb-true}
+use Rattle.std.proofs.Math.Bool.{or-false}
+use Rattle.std.proofs.lemmas.Bool.{and_parts, both_ways, cases_eq, cases_lt, eq-eqb, eqb-true, ne_eqb}
 use Rattle.net_base.specs.Network.{PlainNet}
 use Rattle.graph_base.specs.Graphs.{PlainGraph, IsGraph}
 use Rattle.graph_base.specs.Rules.{KeepsLoop}
 use Rattle.graph_base.specs.Runs.{has_step, is_listener, place_of}
 use Rattle.graph_base.proofs.StartsAndSteps.{step_nodes}
 use Rattle.preference_check.specs.Floods.{HaveOneNumber}
-use Rattle.preference_check.specs.Rows.{has_upto}
+use Rattle.preference_check.specs.Rows.{has_upto, is_upto}
 
 -- the number of each of the first nodes is the one that is noted at its location
 abbrev pub AreNoted : PlainGraph → (ℕ → ℕ) → List (Option ℕ) → ℕ → Type 0
@@ -16,6 +17,23 @@ AreNoted g number row count = (k v : ℕ) → k < count → has_upto row (place_
 -- what is noted once stays so
 abbrev pub KeepsNotes : List (Option ℕ) → List (Option ℕ) → Type 0
 KeepsNotes old new = (l v w : ℕ) → IsTrue (has_upto old l w) → has_upto new l v ≡ has_upto old l v
+
+-- a number that is noted already
+pub noted_there : (row : List (Option ℕ)) (at other number v : ℕ) → get_or row at None ≡ Some other → IsTrue (eqb other number) → has_upto row at v ≡ leb number v
+noted_there row at other number v is same = ap (λ o. is_upto o v) is ∙ ap (λ n. leb n v) (eqb-true other number same)
+
+-- the first one that is noted at a location
+module _ (old new : List (Option ℕ)) (at number : ℕ) (none : get_or old at None ≡ None)
+    (noted : (p n : ℕ) → has_upto new p n ≡ (has_upto old p n || (eqb at p && leb number n))) where
+  pub noted_here : (l v : ℕ) → at ≡ l → has_upto new l v ≡ leb number v
+  noted_here l v e =
+      ap (λ k. has_upto new k v) (sym e) ∙ noted at v ∙ ap (λ o. is_upto o v || (eqb at at && leb number v)) none ∙ ap (λ b. b && leb number v) (eq-eqb at at refl)
+
+  pub noted_elsewhere : KeepsNotes old new
+  noted_elsewhere l v w low = elim (cases_eq at l) [
+    | inl e ↦ absurd (both_ways _ (ap (λ k. has_upto old k w) (sym e) ∙ ap (λ o. is_upto o w) none) low)
+    | inr ne ↦ noted l v ∙ ap (λ b. has_upto old l v || (b && leb number v)) (ne_eqb at l ne) ∙ or-false (has_upto old l v)
+  ]
 
 pub noted_more : (g : PlainGraph) (number : ℕ → ℕ) (old new : List (Option ℕ)) (node : ℕ) → AreNoted g number old node → KeepsNotes old new
     → ((v : ℕ) → has_upto new (place_of g node) v ≡ leb (number node) v)

@@ -5,7 +5,8 @@ ghost use Rattle.graph_base.specs.Rules.{IsOver, KeepsListener, KeepsRank, Keeps
 ghost use Rattle.graph_base.specs.Runs.{is_listener};
 ghost use Rattle.graph_base.specs.Preferences.{number_in};
 ghost use Rattle.preference_check.specs.FirstPair.{IsFirstOrNone, IsFirstPairOrNone};
-ghost use Rattle.preference_check.specs.Offers.{KeepsOffers};
+ghost use Rattle.preference_check.specs.Offers.{KeepsOffers, is_offered, offers_of};
+ghost use Rattle.preference_check.specs.Rows.{has_upto};
 
 use crate::low_row::LowRow;
 use crate::offer_list::OfferList;
@@ -29,6 +30,31 @@ pub fn is_over(net: &Net, graph: &Graph, numbers: &[u32], first: u32, second: u3
         && numbers[second as usize] <= numbers[first as usize]
 }
 
+/// The first node over which a node stands and whose offers its own row doesn't meet.
+fn first_unmet(
+    net: &Net,
+    graph: &Graph,
+    numbers: &[u32],
+    offers: &[OfferList],
+    node: u32,
+    own: &LowRow,
+) -> Option<u32>
+    requires numbers { length numbers.now ≡ length graph.now.nodes }
+    requires offers { length offers.now ≡ length graph.now.nodes }
+    requires node { node < length graph.now.nodes }
+    requires own { (at cost : ℕ) → has_upto own.now.least.items at cost ≡ is_offered (offers_of offers.now node) at cost }
+    ensures { IsFirstOrNone (KeepsOffers net.now graph.now (number_in numbers.now) offers.now node) result }
+{
+    for other in 0..graph.nodes().len() as u32 {
+        if is_over(net, graph, numbers, node, other)
+            && !own.meets(offers[other as usize].as_slice())
+        {
+            return Some(other);
+        }
+    }
+    None
+}
+
 /// The first node over which a node stands and that it doesn't match.
 fn first_unmatched(
     alloc: Global,
@@ -48,14 +74,7 @@ fn first_unmatched(
     }
     let mut own = LowRow::new(alloc);
     own.take_in(offers[node as usize].as_slice())?;
-    for other in 0..graph.nodes().len() as u32 {
-        if is_over(net, graph, numbers, node, other)
-            && !own.meets(offers[other as usize].as_slice())
-        {
-            return Ok(Some(other));
-        }
-    }
-    Ok(None)
+    Ok(first_unmet(net, graph, numbers, offers, node, &own))
 }
 
 /// The first pair of nodes of which the first stands over the second and doesn't match it.

@@ -4,7 +4,6 @@
 mod faults;
 mod flood;
 mod laws;
-mod lists;
 mod loops;
 mod low_row;
 mod offer_list;

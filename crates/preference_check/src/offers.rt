@@ -1,5 +1,5 @@
 //! What nodes offer at locations.
-ghost use Rattle.std.specs.Prelude.{◌≡◌, ◌<◌, ◌&&◌, ◌==◌, ℕ, IfOk, length};
+ghost use Rattle.std.specs.Prelude.{◌≡◌, ◌<◌, ◌&&◌, ◌||◌, ◌==◌, ℕ, IfOk, OnOk, length};
 ghost use Rattle.std.specs.List.{list_any};
 ghost use Rattle.preference_check.specs.Offers.{is_good, is_offered, offer_by_rank, offer_by_step, offer_of_rank, offers_of};
 
@@ -7,10 +7,10 @@ use crate::offer_list::{OfferList, no_offers};
 use graph_base::Graph;
 use net_base::{Loc, LocSet};
 use outside::NoMemory;
-use std::alloc::Global;
+use std::alloc::{AllocError, Global};
 
 /// Something that a node offers at a location: the less it costs, the better.
-#[derive(Clone, Copy, Debug, PartialEq, Eq)]
+#[derive(Clone, Copy)]
 pub struct Offer {
     pub at: Loc,
     pub cost: u32,
@@ -64,6 +64,33 @@ fn offer_by_step(graph: &Graph, numbers: &[u32], towards: Towards, node: u32) ->
     }
 }
 
+/// What a node is worth at a claimed location.
+fn offer_by_rank(graph: &Graph, claimed: &LocSet, node: u32) -> Option<Offer>
+    requires { node < length graph.now.nodes }
+    ensures { result ≡ offer_by_rank graph.now claimed.now node }
+{
+    if claimed.holds(graph.location(node)) {
+        offer_of_rank(graph, node)
+    } else {
+        None
+    }
+}
+
+/// Puts an offer, if there is one, behind the others of a node.
+#[inline(always)]
+fn put(offers: &mut Vec<OfferList>, node: u32, offer: Option<Offer>) -> Result<(), AllocError>
+    requires { node < length offers.old.items }
+    ensures size { length offers.new.items ≡ length offers.old.items }
+    ensures offers { OnOk result
+        ((n at cost : ℕ)
+        → is_offered (offers_of offers.new.items n) at cost ≡ (is_offered (offers_of offers.old.items n) at cost || (node == n && is_good offer at cost))) }
+{
+    match offer {
+        None => Ok(()),
+        Some(offer) => offers[node as usize].push(offer),
+    }
+}
+
 /// What each node offers by its steps: a greater number at a router costs less, and so does a lesser rank at a peer.
 pub fn offers_by_steps(
     alloc: Global,
@@ -78,10 +105,9 @@ pub fn offers_by_steps(
         → is_offered (offers_of offers.items n) at cost ≡ list_any (λ s. s.0 == n && is_good (offer_by_step graph.now numbers.now towards s.1) at cost) graph.now.steps) }
 {
     let mut offers = no_offers(alloc, graph.nodes().len())?;
-    for (from, to) in graph.steps() {
-        if let Some(offer) = offer_by_step(graph, numbers, towards, *to) {
-            offers[*from as usize].push(offer)?;
-        }
+    for step in graph.steps() {
+        let offer = offer_by_step(graph, numbers, towards, step.1);
+        put(&mut offers, step.0, offer)?;
     }
     Ok(offers)
 }
@@ -97,11 +123,7 @@ pub fn offers_by_rank(
 {
     let mut offers = no_offers(alloc, graph.nodes().len())?;
     for node in 0..graph.nodes().len() as u32 {
-        if claimed.holds(graph.location(node)) {
-            if let Some(offer) = offer_of_rank(graph, node) {
-                offers[node as usize].push(offer)?;
-            }
-        }
+        put(&mut offers, node, offer_by_rank(graph, claimed, node))?;
     }
     Ok(offers)
 }

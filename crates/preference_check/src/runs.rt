@@ -1,16 +1,15 @@
 //! The nodes of each router in ascending order of number.
-ghost use Rattle.std.specs.Prelude.{◌≡◌, ◌&&◌, ◌<◌, ℕ, [], nat_lt, IfOk, length, slice_index_or};
+ghost use Rattle.std.specs.Prelude.{◌≡◌, ◌&&◌, ◌<◌, ℕ, [], nat_lt, IfOk, length, replicate, slice_index_or};
 ghost use Rattle.graph_base.specs.Preferences.{number_in};
 ghost use Rattle.preference_check.specs.Runs.{IsAscending, has_node, is_node_at};
 
-use crate::lists::empty_lists;
 use graph_base::Graph;
 use net_base::{List, Net};
 use outside::NoMemory;
-use std::alloc::Global;
+use std::alloc::{AllocError, Global};
 
 /// A node with its preference number.
-#[derive(Clone, Copy, Debug, PartialEq, Eq)]
+#[derive(Clone, Copy)]
 pub struct Numbered {
     pub number: u32,
     pub node: u32,
@@ -27,6 +26,17 @@ fn with_number(numbers: &[u32], node: u32) -> Numbered
     }
 }
 
+/// So many lists without nodes.
+fn no_nodes(alloc: Global, size: usize) -> Result<Vec<List<Numbered>>, AllocError>
+    ensures { IfOk result (λ lists. lists.items ≡ replicate size []) }
+{
+    let mut lists = Vec::with_capacity(alloc, size)?;
+    for _ in 0..size {
+        lists.push(List::new(alloc))?;
+    }
+    Ok(lists)
+}
+
 /// The nodes of each router, with their numbers.
 pub fn nodes_of_routers(
     alloc: Global,
@@ -38,7 +48,7 @@ pub fn nodes_of_routers(
     ensures size { IfOk result (λ all. length all.items ≡ length net.now.routers) }
     ensures nodes { IfOk result (λ all. (l n number : ℕ) → l < length net.now.routers → has_node (slice_index_or all.items l []) n number ≡ is_node_at graph.now numbers.now l n number) }
 {
-    let mut all = empty_lists(alloc, net.routers().len())?;
+    let mut all = no_nodes(alloc, net.routers().len())?;
     for node in 0..graph.nodes().len() as u32 {
         let at = graph.location(node).number() as usize;
         if at < all.len() {

@@ -1,11 +1,13 @@
 -- Marks of links as far as a loop has come, and the links that are marked.
-use Rattle.std.proofs.Common.{◌≡◌, ℕ, ◌+◌, ◌<◌, zero, suc, Bool, true, false, List, [], ◌∷◌, ◌++◌, length, get_or, set, take, replicate, Some, None, add-one, ◌⊎◌, refl, sym, ap, ◌∙◌, arith, inl, inr}
-use Rattle.std.specs.Prelude.{◌&&◌, ◌||◌, ◌==◌, not, slice_get}
+use Rattle.std.proofs.Common.{◌≡◌, ℕ, ◌+◌, ◌<◌, zero, suc, Bool, true, false, List, [], ◌∷◌, ◌++◌, length, get_or, set}
+use Rattle.std.proofs.Common.{take, replicate, Some, None, add-one, ◌⊎◌, map, append-nil, refl, sym, ap, ◌∙◌, arith, inl, inr}
+use Rattle.std.specs.Prelude.{◌&&◌, ◌||◌, ◌==◌, filter, if◌then◌else◌, not, slice_get}
 use Rattle.std.specs.List.{items_where_true, list_any, position}
 use Rattle.std.specs.Option.{option_map_or}
 use Rattle.std.proofs.Math.Bool.{or-true}
 use Rattle.std.proofs.lemmas.Bool.{cases_eq, eq-eqb, eqb-true, false_from_ne_true}
-use Rattle.std.proofs.lemmas.List.{get_or-set_other, get_or-set_same, get_or_default, length-replicate}
+use Rattle.std.proofs.lemmas.List.{get_or-set_other, get_or-set_same, get_or_default, length-replicate, map-append}
+use Rattle.std.proofs.lemmas.List.Elements.{filter_more}
 use Rattle.std.proofs.lemmas.List.Folds.{list_any_more}
 use Rattle.std.proofs.lemmas.List.Quantifiers.{position-Some}
 use Rattle.list_laws.specs.Members.{IsIn}
@@ -145,3 +147,14 @@ module _ {A : Type 0} where
   picked_in (false ∷ ms) (y ∷ xs) zero x at on = absurd cc
   picked_in (true ∷ ms) (y ∷ xs) (suc i) x at on = IsIn-later y x (items_where_true ms xs) (picked_in ms xs i x at on)
   picked_in (false ∷ ms) (y ∷ xs) (suc i) x at on = picked_in ms xs i x at on
+
+-- ---- what is made of the items that pass a test, as far as a loop has come
+
+module _ {X Y : Type 0} (f : X → Y) (p : X → Bool) (xs : List X) (i : ℕ) (d : X) (within : i < length xs) where
+  pub picked_step : p (get_or xs i d) ≡ true → map f (filter p (take (i + 1) xs)) ≡ map f (filter p (take i xs)) ++ f (get_or xs i d) ∷ []
+  picked_step on =
+      ap (map f) (filter_more p xs i d within ∙ ap (λ b. filter p (take i xs) ++ (if b then get_or xs i d ∷ [] else [])) on) ∙ map-append f (filter p (take i xs)) (get_or xs i d ∷ [])
+
+  pub passed_step : p (get_or xs i d) ≡ false → map f (filter p (take (i + 1) xs)) ≡ map f (filter p (take i xs))
+  passed_step off =
+      ap (map f) (filter_more p xs i d within ∙ ap (λ b. filter p (take i xs) ++ (if b then get_or xs i d ∷ [] else [])) off ∙ append-nil (filter p (take i xs)))

@@ -1,25 +1,24 @@
 -- What a peer is offered by the graph of a prefix's case is what the configuration offers it.
-use Rattle.std.proofs.Common.{◌≡◌, ℕ, suc, Bool, true, false, List, [], ◌∷◌, Option, Some, None, refl, sym, ap, ◌∙◌, inl, inr, subst}
-use Rattle.std.specs.Prelude.{◌&&◌, ◌⊎◌, filter, is_some, not, slice_get}
+use Rattle.std.proofs.Common.{◌≡◌, ℕ, suc, true, List, Option, Some, None, refl, sym, ap, ◌∙◌, inl, inr, subst}
+use Rattle.std.specs.Prelude.{◌&&◌, filter, is_some, not}
 use Rattle.std.specs.List.{list_any}
 use Rattle.std.specs.Option.{option_and_then}
 use Rattle.std.proofs.lemmas.Bool.{and_from, and_parts, cases_Bool, true≢false}
-use Rattle.list_laws.specs.Members.{IsIn}
 use Rattle.list_laws.proofs.Members.{IsIn-filter, IsIn-filter_parts, IsIn-map, IsIn-map_parts, list_any-from_IsIn, list_any_member}
-use Rattle.list_laws.proofs.Options.{cases_Option, is_some_from, is_some_parts}
+use Rattle.list_laws.proofs.Options.{cases_Option, is_some_from}
 use Rattle.net_base.specs.declared.numbers.Tag.{Tag}
 use Rattle.net_base.specs.Network.{PlainNet, IsNet, is_peer, is_router, joins}
 use Rattle.net_base.specs.Prefixes.{PlainPrefix, IsPrefix}
 use Rattle.net_base.specs.Sets.{holds}
 use Rattle.net_base.proofs.Links.{joins_ends, joins_straight}
-use Rattle.net_base.proofs.RoutersAndPeers.{peer_no_router, router_no_peer}
+use Rattle.net_base.proofs.RoutersAndPeers.{router_no_peer}
 use Rattle.policy_base.specs.Policies.{PlainPolicy, PlainStatement, IsPolicyOf}
 use Rattle.graph_base.specs.Runs.{has_step, is_listener, is_start, place_of, step_at}
 use Rattle.graph_base.proofs.StartsAndSteps.{in_step, step_at-is, step_in, step_nodes}
 use Rattle.graph_base.proofs.WellFormed.{heard_at_peers, step_at-of}
 use Rattle.config_base.specs.declared.route.Route.{Route}
 use Rattle.config_base.specs.Configs.{PlainConfig}
-use Rattle.config_base.specs.Lines.{class_of, export_of, same_tag}
+use Rattle.config_base.specs.Lines.{class_of, export_of}
 use Rattle.config_base.proofs.SameTags.{same_tag-is, is-same_tag}
 use Rattle.evidence_base.specs.Made.{PlainCaseEvidence, case_at, number_at, tag_at}
 use Rattle.evidence_law.specs.Passes.{IsCaseGraph, Passes}
@@ -27,7 +26,7 @@ use Rattle.evidence_law.proofs.ClassLines.{exports, exports_only}
 use Rattle.evidence_law.proofs.Heard.{sent-permitted, sent-refused, sent-unrouted}
 use Rattle.evidence_law.proofs.MadeCases.{HasCase, case_or_bare}
 use Rattle.evidence_law.proofs.Setting.{graph_of, pair_of, tag_of}
-use Rattle.outcome_base.specs.Outcomes.{Failures, Outcome, is_live, offered, route_at, sent}
+use Rattle.outcome_base.specs.Outcomes.{Failures, Outcome, is_live, offered, route_at}
 use Rattle.routing_law.specs.Spells.{StepOver}
 use Rattle.stable_paths.specs.Tests.{unlooped}
 use Rattle.report_lines.specs.Offers.{has_tag, is_told, offered_by, told_pairs}

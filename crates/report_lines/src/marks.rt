@@ -1,6 +1,7 @@
 //! Marks of links.
-ghost use Rattle.std.specs.Prelude.{◌≡◌, IfOk, length};
+ghost use Rattle.std.specs.Prelude.{◌≡◌, ◌<◌, IfOk, length};
 ghost use Rattle.std.specs.List.{items_where_true};
+ghost use Rattle.graph_base.specs.Runs.{place_of};
 ghost use Rattle.report_lines.specs.Marks.{AreMarks, heard_pairs as ends_heard};
 
 use graph_base::Graph;
@@ -39,6 +40,15 @@ pub fn marked_links(
     Ok(links)
 }
 
+/// The locations of the ends of a step.
+pub fn ends(graph: &Graph, step: (u32, u32)) -> (Loc, Loc)
+    requires from { step.0 < length graph.now.nodes }
+    requires to { step.1 < length graph.now.nodes }
+    ensures { result ≡ (place_of graph.now step.0, place_of graph.now step.1) }
+{
+    (graph.location(step.0), graph.location(step.1))
+}
+
 /// The ends of the steps into nodes that hear, a router's first.
 pub fn heard_pairs(alloc: Global, graph: &Graph) -> Result<Vec<(Loc, Loc)>, AllocError>
     ensures { IfOk result (λ pairs. pairs.items ≡ ends_heard graph.now) }
@@ -46,7 +56,7 @@ pub fn heard_pairs(alloc: Global, graph: &Graph) -> Result<Vec<(Loc, Loc)>, Allo
     let mut pairs = Vec::new(alloc);
     for step in graph.steps() {
         if graph.hears(step.1) {
-            pairs.push((graph.location(step.0), graph.location(step.1)))?;
+            pairs.push(ends(graph, *step))?;
         }
     }
     Ok(pairs)

@@ -2,6 +2,7 @@
 ghost use Rattle.std.specs.Prelude.{◌≡◌, ◌<◌, IfOk, Some, length, option_map};
 ghost use Rattle.report_lines.specs.Offers.{has_tag as route_has_tag, is_told as is_told_by, told_pairs as ends_told};
 
+use crate::marks::ends;
 use config_base::Route;
 use evidence_base::CaseEvidence;
 use net_base::{Loc, Tag};
@@ -44,7 +45,7 @@ fn case_pairs(
     let mut pairs = Vec::new(alloc);
     for step in graph.steps() {
         if is_told(case, outcome, *step) {
-            pairs.push((graph.location(step.0), graph.location(step.1)))?;
+            pairs.push(ends(graph, *step))?;
         }
     }
     Ok(pairs)

@@ -7,4 +7,4 @@ use Rattle.report_lines.proofs.offers.case_pairs.Given as goal
 abbrev pub invariant-loop-step : goal.invariant-loop-step
 invariant-loop-step l =
     l.pairs.items
-    ≡ map (λ (s : ℕ × ℕ). (place_of l.case.graph s.0, place_of l.case.graph s.1)) (filter (is_told l.case l.outcome.routes) (take l.step-index l.graph.steps))
+    ≡ map (λ (s : ℕ × ℕ). (place_of l.case.graph s.0, place_of l.case.graph s.1)) (filter (is_told l.case l.outcome.routes) (take l.step-index l.step-items))

@@ -1,4 +1,4 @@
-use Rattle.std.proofs.Common.{ℕ, List, ◌++◌, append_assoc, length, refl, ap, ◌∙◌}
+use Rattle.std.proofs.Common.{◌++◌, append_assoc, length, refl, ap, ◌∙◌}
 use Rattle.std.specs.List.{flat_map}
 use Rattle.net_base.specs.Locations.{numbers_below}
 use Rattle.policy_base.specs.Policies.{policy_of}

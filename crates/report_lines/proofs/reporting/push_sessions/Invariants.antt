@@ -9,4 +9,4 @@ invariant-loop-session g l =
     l.text.items
     ≡ l.initial.text.items
     ++ flat_map (session_line l.subject.net.now (statement_in l.subject.claims) (g.S.Scene.shown l.scene))
-    (take l.session-index l.subject.claims.sessions)
+    (take l.session-index l.session-items)
