@@ -61,14 +61,14 @@ impl<'a> World<'a> {
             config,
             prefix,
             class: class_of(config, prefix),
-            near: all_neighbours(alloc, net)?,
             down: marks(alloc, locations)?,
-            routes: no_routes(alloc, locations)?,
             cut: marks(alloc, directions)?,
             silent: marks(alloc, directions)?,
-            queues: queues(alloc, directions)?,
+            near: all_neighbours(alloc, net)?,
+            routes: no_routes(alloc, locations)?,
             heard: no_routes(alloc, directions)?,
             queued: no_routes(alloc, directions)?,
+            queues: queues(alloc, directions)?,
         })
     }
 }

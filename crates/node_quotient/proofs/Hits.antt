@@ -1,6 +1,10 @@
 -- Nodes that are joined step to the same classes, so a split by those that step to a class keeps them together.
-use Rattle.std.proofs.Common.{◌≡◌, ℕ, ◌<◌, Bool, true, false, List, length, refl, sym, ap, ◌∙◌, subst, arith}
+use Rattle.std.proofs.Common.{◌≡◌, ℕ, ◌+◌, ◌<◌, ◌||◌, Bool, true, false, eqb, List, get_or, length, set, take, refl, sym, ap, ◌∙◌, inl, inr, subst, arith}
 use Rattle.std.specs.Prelude.{All, if◌then◌else◌, not, slice_index_or}
+use Rattle.std.proofs.Math.Bool.{or-false, or-true}
+use Rattle.std.proofs.lemmas.Bool.{cond-true}
+use Rattle.std.proofs.lemmas.Bool.Decides.{eqb_tells}
+use Rattle.std.proofs.lemmas.List.{get_or-set_other, get_or-set_same, take_more}
 use mathlib.Core.Bool.{beq}
 use Rattle.list_laws.proofs.Truth.{same_tests}
 use Rattle.graph_base.specs.Graphs.{PlainGraph, IsGraph}
@@ -9,6 +13,7 @@ use Rattle.graph_base.specs.Runs.{has_step, place_of, rank_at}
 use Rattle.graph_base.proofs.StartsAndSteps.{step_nodes}
 use Rattle.reach_prune.specs.Searches.{AreLists, is_among, is_listed}
 use Rattle.reach_prune.proofs.Among.{member_passes, passing_member}
+use Rattle.reach_prune.proofs.Trails.{waited}
 use Rattle.node_quotient.specs.Alike.{class_in, list_of}
 use Rattle.node_quotient.specs.Quotient.{AreJoined}
 use Rattle.node_quotient.specs.Rounds.{AreClasses}
@@ -31,6 +36,22 @@ marked_alone false m h = h
 pub unmarked : (b m n : Bool) → n ≡ (if b then true else m) → m ≡ false → (if b then false else n) ≡ false
 unmarked true m n e h = refl
 unmarked false m n e h = e ∙ h
+
+-- one more of the listed items is set
+pub set_more : {A : Type 0} (d : A) (old now : List A) (list : List ℕ) (i : ℕ) (x : A) → i < length list → get_or list i 0 < length now
+    → ((n : ℕ) → get_or now n d ≡ (if is_among (take i list) n then x else get_or old n d))
+    → (n : ℕ) → get_or (set now (get_or list i 0) x) n d ≡ (if is_among (take (i + 1) list) n then x else get_or old n d)
+set_more d old now list i x within inside before n = elim (eqb_tells (get_or list i 0) n) [
+  | inl here ↦
+      ap (λ k. get_or (set now (get_or list i 0) x) k d) (sym here.1) ∙ get_or-set_same now (get_or list i 0) x d inside
+      ∙ sym (cond-true (is_among (take (i + 1) list) n) x (get_or old n d) (more ∙ ap (λ b. is_among (take i list) n || b) here.0 ∙ or-true (is_among (take i list) n)))
+  | inr other ↦
+      get_or-set_other now (get_or list i 0) n x d (λ e. other.1 (sym e)) ∙ before n
+      ∙ ap (λ b. if b then x else get_or old n d) (sym (more ∙ ap (λ b. is_among (take i list) n || b) other.0 ∙ or-false (is_among (take i list) n)))
+]
+  where
+    more : is_among (take (i + 1) list) n ≡ (is_among (take i list) n || eqb (get_or list i 0) n)
+    more = waited (take (i + 1) list) (take i list) (get_or list i 0) n (take_more list i 0 within)
 
 -- what is listed for some nodes is a node
 pub hits_below : (before : List (List ℕ)) (nodes all list : List ℕ) → AreLists before → ((m : ℕ) → is_among all m ≡ is_hit before nodes m) → list ≡ all → All (λ n. n < length before) list

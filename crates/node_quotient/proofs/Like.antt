@@ -1,7 +1,8 @@
 -- What the test of two nodes says.
-use Rattle.std.proofs.Common.{◌≡◌, ℕ, suc, true, false, not, ◌&&◌, ◌==◌, List, [], ◌∷◌, length, refl, sym, ap, ◌∙◌, inl, inr}
+use Rattle.std.proofs.Common.{◌≡◌, ℕ, ◌+◌, ◌<◌, suc, true, false, not, ◌&&◌, ◌==◌, List, [], ◌∷◌, drop, get_or, length, refl, sym, ap, ◌∙◌, inl, inr}
 use Rattle.std.specs.List.{list_any}
 use Rattle.std.proofs.lemmas.Bool.{and_parts, and_from, cases_Bool, or_cases, or_left, or_right, not-true, not_from_false, both_ways, eq-eqb, eqb-true, false_from_ne_true}
+use Rattle.std.proofs.lemmas.List.{drop_more}
 use Rattle.reach_prune.specs.Searches.{is_among}
 use Rattle.reach_prune.proofs.Among.{member_passes, passing_member}
 use Rattle.node_quotient.specs.Alike.{class_in, list_of, has_class, lacks_class, are_alike, are_in_step}
@@ -61,6 +62,11 @@ in_step_length least (m ∷ ms) (n ∷ ns) h = ap suc (in_step_length least ms n
 
 pub lengths_apart : (least ms ns : List ℕ) → (length ms ≡ length ns → ⊥) → are_in_step least ms ns ≡ false
 lengths_apart least ms ns h = false_from_ne_true _ (λ t. h (in_step_length least ms ns t))
+
+-- what is left of two lists, one node on
+pub in_step_more : (least ms ns : List ℕ) (i : ℕ) → i < length ms → i < length ns → are_in_step least (drop i ms) (drop i ns)
+    ≡ (class_in least (get_or ms i 0) == class_in least (get_or ns i 0) && are_in_step least (drop (i + 1) ms) (drop (i + 1) ns))
+in_step_more least ms ns i within others = rw (drop_more ms i 0 within, drop_more ns i 0 others) refl
 
 in_step_forth : (least ms ns : List ℕ) → are_in_step least ms ns ≡ true → (a : ℕ) → is_among ms a ≡ true → (b : ℕ) × (is_among ns b ≡ true) × (class_in least a ≡ class_in least b)
 in_step_forth least [] ns h a there = absurd (cc)

@@ -101,10 +101,10 @@ impl Partition {
     {
         let size = classes.len();
         Ok(Partition {
-            members: grouped(alloc, &classes, size)?,
             waiting: names(alloc, &classes)?,
             waits: vec![in alloc; true; size]?,
             met: vec![in alloc; u32::MAX; size]?,
+            members: grouped(alloc, &classes, size)?,
             classes,
         })
     }
@@ -204,8 +204,8 @@ pub fn split_classes(
     ensures classes { IfOk result (λ split. AreClasses graph.now (class_in split.items)) }
 {
     let size = graph.nodes().len();
-    let mut partition = Partition::new(alloc, classes)?;
     let mut marks = vec![in alloc; false; size]?;
+    let mut partition = Partition::new(alloc, classes)?;
     for turn in 0..size as u32 {
         if let Some(class) = partition.waiting.pop() {
             partition.split_by(alloc, before, &mut marks, class, turn)?;

@@ -4,7 +4,7 @@ ghost use Rattle.graph_base.specs.Refuting.{HasSingleSteps};
 ghost use Rattle.graph_base.specs.Graphs.{IsGraph};
 ghost use Rattle.reach_prune.specs.Searches.{is_marked};
 ghost use Rattle.node_quotient.specs.Alike.{class_in};
-ghost use Rattle.node_quotient.specs.Quotient.{AreLeast, IsQuotient};
+ghost use Rattle.node_quotient.specs.Quotient.{AreLeast, IsQuotient, led_to};
 
 use crate::first::{first_classes, is_each_alone};
 use crate::joined::least_joined;
@@ -42,19 +42,28 @@ fn steps_led(
     Ok(led)
 }
 
+/// The graph with each step led to the least node of its target's class.
+fn graph_led(alloc: Global, graph: &Graph, least: &[u32]) -> Result<Graph, AllocError>
+    requires size { length least.now ≡ length graph.now.nodes }
+    requires least { AreLeast graph.now (class_in least.now) }
+    ensures rules { IsGraph graph.now }
+    ensures led { IfOk result (λ led. led ≡ led_to (class_in least.now) graph.now) }
+{
+    let nodes = List::from_vec(Vec::from_slice(alloc, graph.nodes())?);
+    let starts = List::from_vec(Vec::from_slice(alloc, graph.starts())?);
+    let steps = steps_led(alloc, graph.steps(), least)?;
+    Ok(Graph::new(nodes, starts, steps))
+}
+
 /// The graph in which steps lead to the least nodes alone, and only these are left.
 fn led_to_least(alloc: Global, graph: &Graph, least: &[u32]) -> Result<Graph, NoMemory>
     requires size { length least.now ≡ length graph.now.nodes }
     requires least { AreLeast graph.now (class_in least.now) }
     ensures { IfOk result (IsQuotient graph.now) }
 {
-    let nodes = List::from_vec(Vec::from_slice(alloc, graph.nodes())?);
-    let starts = List::from_vec(Vec::from_slice(alloc, graph.starts())?);
-    let steps = steps_led(alloc, graph.steps(), least)?;
-    let led = Graph::new(nodes, starts, steps);
+    let led = graph_led(alloc, graph, least)?;
     let marks = are_least(alloc, least)?;
-    let joined = kept(alloc, &led, &marks)?;
-    Ok(joined)
+    kept(alloc, &led, &marks)
 }
 
 /// The graph in which the nodes of one location are joined that nothing onward tells apart. A joined node has the

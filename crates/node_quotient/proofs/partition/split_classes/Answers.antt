@@ -1,7 +1,9 @@
-use Rattle.std.proofs.Common.{◌≡◌, ◌<◌, length, ap, sym, subst, ◌∙◌, arith, rules}
+use Rattle.std.proofs.Common.{◌≡◌, ◌<◌, [], ◌∷◌, false, length, replicate, ap, sym, subst, ◌∙◌, arith}
 use Rattle.std.specs.List.{AllByRecursion}
 use Rattle.list_laws.proofs.Each.{AllByRecursion-append_parts}
-use Rattle.std.proofs.lemmas.Grind.{common_steps}
+use Rattle.list_laws.proofs.Items.{get_or-replicate_same}
+use Rattle.std.proofs.lemmas.List.{length-replicate}
+use Rattle.reach_prune.specs.Searches.{is_marked}
 use Rattle.node_quotient.specs.Alike.{class_in}
 use Rattle.node_quotient.specs.Rounds.{AreClasses}
 use Rattle.node_quotient.specs.Partitions.{IsPartition}
@@ -12,10 +14,12 @@ use Rattle.node_quotient.proofs.partition.split_classes.Goals.{in-Some+in_ok-spl
 pub loop-turn-init : goal.loop-turn-init
 loop-turn-init c =
     let given : length c.args.classes.items ≡ length c.nodes-size.result.now = c.requires.given ∙ sym (ap length c.nodes-size.ensures.nodes) in
+    let size = length c.nodes-size.result.now in
+    let items : c.in_ok-marks.marks.items ≡ replicate size false = c.in_ok-marks.ensures.items_if_clones_equal (λ y clone. clone) in
     record {
       end = omega arith;
-      marks = first_of (search rules, grind (arith, common_steps));
-      clear = first_of (search rules, grind (arith, common_steps));
+      marks = ap length items ∙ length-replicate size false;
+      clear = λ n. ap (λ marks. is_marked marks n) items ∙ get_or-replicate_same size n false;
       partition = subst (λ n. IsPartition n c.in_ok-partition.partition) given c.in_ok-partition.ensures.partition;
       classes = subst (λ xs. AreClasses c.args.graph.now (class_in xs)) (sym c.in_ok-partition.ensures.classes) c.requires.classes;
     }
@@ -59,3 +63,38 @@ loop-turn-preserved c =
         classes = rw w.partition-is inv.classes;
       }
     ]
+
+pub split_by-requires-clause-class : goal.split_by-requires-clause-class
+split_by-requires-clause-class c =
+    let size = length c.nodes-size.result.now in
+    let rows : length c.args.before.now ≡ size = c.requires.size ∙ sym (ap length c.nodes-size.ensures.nodes) in
+    let waiting = subst (AllByRecursion (λ n. n < size)) c.in-Some.ensures.items c.loop-turn.invariant.partition.waiting in
+    omega (arith, rows, (AllByRecursion-append_parts (λ n. n < size) c.pop.new.self.items (c.in-Some.class ∷ []) waiting).1.0)
+
+pub split_by-requires-clause-partition : goal.split_by-requires-clause-partition
+split_by-requires-clause-partition c =
+    let inv = c.loop-turn.invariant.partition in
+    let size = length c.nodes-size.result.now in
+    let rows : size ≡ length c.args.before.now = ap length c.nodes-size.ensures.nodes ∙ sym c.requires.size in
+    let waiting = subst (AllByRecursion (λ n. n < size)) c.in-Some.ensures.items inv.waiting in
+    subst (λ n. IsPartition n (record {
+      classes = c.loop-turn.partition.classes;
+      members = c.loop-turn.partition.members;
+      waiting = c.pop.new.self;
+      waits = c.loop-turn.partition.waits;
+      met = c.loop-turn.partition.met;
+    })) rows (record {
+      size = inv.size;
+      rows = inv.rows;
+      waits = inv.waits;
+      met = inv.met;
+      waiting = (AllByRecursion-append_parts (λ n. n < size) c.pop.new.self.items (c.in-Some.class ∷ []) waiting).0;
+      named = inv.named;
+      groups = inv.groups;
+    })
+
+pub returns-clause-size : goal.returns-clause-size
+returns-clause-size c = c.loop-turn.invariant.partition.size ∙ ap length c.nodes-size.ensures.nodes
+
+pub returns-clause-classes : goal.returns-clause-classes
+returns-clause-classes c = c.loop-turn.invariant.classes
