@@ -66,46 +66,94 @@ fn words(alloc: Global, count: usize, first: u64) -> Result<Vec<u64>, NoMemory> 
     Ok(words)
 }
 
-// The first word of three rows at which they aren't added, kept, cleared or counted as a plain loop does it.
-fn wrong_word(alloc: Global, a: &[u64], b: &[u64], c: &[u64]) -> Result<Option<usize>, NoMemory>
+// The word of a row at a place, or none of its bits past its end.
+fn word(row: &[u64], at: usize) -> u64 {
+    match row.get(at) {
+        Some(word) => *word,
+        None => 0,
+    }
+}
+
+// Whether a sum has the bits of both rows.
+fn is_sum(sum: &[u64], a: &[u64], b: &[u64]) -> bool {
+    for i in 0..a.len() {
+        if word(sum, i) != word(a, i) | word(b, i) {
+            return false;
+        }
+    }
+    true
+}
+
+// Whether a row has the bits that both have.
+fn is_common(common: &[u64], a: &[u64], b: &[u64]) -> bool {
+    for i in 0..a.len() {
+        if word(common, i) != word(a, i) & word(b, i) {
+            return false;
+        }
+    }
+    true
+}
+
+// Whether a row has the bits of the first that the second lacks.
+fn is_rest(rest: &[u64], a: &[u64], b: &[u64]) -> bool {
+    for i in 0..a.len() {
+        if word(rest, i) != word(a, i) & !word(b, i) {
+            return false;
+        }
+    }
+    true
+}
+
+// How many bits the first two rows have and the third lacks.
+fn bits_outside(a: &[u64], b: &[u64], c: &[u64]) -> u32 {
+    let mut count = 0u32;
+    for i in 0..a.len() {
+        let bits = word(a, i) & word(b, i) & !word(c, i);
+        count = count.wrapping_add(bits.count_ones());
+    }
+    count
+}
+
+// Whether a row is added to another one, kept and cleared word by word.
+fn are_changed(alloc: Global, a: &[u64], b: &[u64]) -> Result<bool, NoMemory>
+    requires { length b.now ≡ length a.now }
+{
+    let mut row = a.to_vec(alloc)?;
+    add_row(&mut row, b);
+    let is_added = is_sum(&row, a, b);
+    row.copy_from_slice(a);
+    keep_row(&mut row, b);
+    let is_kept = is_common(&row, a, b) && outside_is_empty(a, b, &row);
+    row.copy_from_slice(a);
+    clear_row(&mut row, b);
+    Ok(is_added && is_kept && is_rest(&row, a, b))
+}
+
+// Whether the bits of the first two rows that the third lacks are counted.
+fn are_counted(a: &[u64], b: &[u64], c: &[u64]) -> bool
     requires second { length b.now ≡ length a.now }
     requires third { length c.now ≡ length a.now }
     requires few { length a.now ≤ 64 }
 {
-    let mut added = a.to_vec(alloc)?;
-    add_row(&mut added, b);
-    let mut kept = a.to_vec(alloc)?;
-    keep_row(&mut kept, b);
-    let mut cleared = a.to_vec(alloc)?;
-    clear_row(&mut cleared, b);
-    let mut count = 0u32;
-    for i in 0..a.len() {
-        if added[i] != a[i] | b[i] || kept[i] != a[i] & b[i] || cleared[i] != a[i] & !b[i] {
-            return Ok(Some(i));
-        }
-        count = count.wrapping_add((a[i] & b[i] & !c[i]).count_ones());
-    }
-    let is_right = count_outside(a, b, c) == count
-        && outside_is_empty(a, b, c) == (count == 0)
-        && outside_is_empty(a, b, &kept);
-    Ok(if is_right { None } else { Some(a.len()) })
+    let count = bits_outside(a, b, c);
+    count_outside(a, b, c) == count && outside_is_empty(a, b, c) == (count == 0)
 }
 
-// The first such word of rows of so many words.
-fn wrong_word_of(alloc: Global, count: usize) -> Result<Option<usize>, NoMemory> {
+// Whether rows of so many words are changed and counted as plain loops do it.
+fn are_right(alloc: Global, count: usize) -> Result<bool, NoMemory> {
     let a = words(alloc, count, 1)?;
     let b = words(alloc, count, 2)?;
     let c = words(alloc, count, 3)?;
     if b.len() != a.len() || c.len() != a.len() || a.len() > 64 {
-        return Ok(Some(0));
+        return Ok(false);
     }
-    wrong_word(alloc, &a, &b, &c)
+    Ok(are_counted(&a, &b, &c) && are_changed(alloc, &a, &b)?)
 }
 
 /// The first of some lengths, in words, at which rows aren't what a plain loop says.
 pub fn wrong_words(alloc: Global) -> Result<Option<usize>, NoMemory> {
     for count in [0, 1, 2, 4, 5, 64] {
-        if wrong_word_of(alloc, count)?.is_some() {
+        if !are_right(alloc, count)? {
             return Ok(Some(count));
         }
     }

@@ -1,6 +1,6 @@
 //! Rows over the network of two routers with a peer each.
-use crate::rows::Row;
-use test_networks::{ENTERED_CONFIG, TWO_EXITS, TWO_EXITS_CONFIG};
+use crate::rows::{Row, Tables};
+use test_networks::{ENTERED_CONFIG, Network, TWO_EXITS_CONFIG};
 
 // Two exits, where each router also exports to its peer what came from P1.
 const EXPORTED_CONFIG: &str = "propane-config 2
@@ -29,11 +29,11 @@ end
 
 const EXITS: Row = Row {
     name: "two exits",
-    topology: TWO_EXITS,
+    network: Network::TwoExits,
     policy: "true => exit(P1 >> P2);",
     config: TWO_EXITS_CONFIG,
     prefix: "198.51.100.0/24",
-    dead: 0,
+    dead: (0, 0),
     dead_links: &[],
     silent: &[],
     settled: &[Some((&[0, 2], 1, 101)), Some((&[1, 0, 2], 2, 101))],
@@ -44,15 +44,16 @@ const EXITS: Row = Row {
         (1, None),
         (1, Some((&[1, 3], 1, 100))),
     ],
+    tables: Tables::Exits,
 };
 
 const SILENT_EXIT: Row = Row {
     name: "two exits, the preferred one silent",
-    topology: TWO_EXITS,
+    network: Network::TwoExits,
     policy: "true => exit(P1 >> P2);",
     config: TWO_EXITS_CONFIG,
     prefix: "198.51.100.0/24",
-    dead: 0,
+    dead: (0, 0),
     dead_links: &[],
     silent: &[(0, 2)],
     settled: &[Some((&[0, 1, 3], 2, 100)), Some((&[1, 3], 1, 100))],
@@ -62,15 +63,16 @@ const SILENT_EXIT: Row = Row {
         (1, None),
         (1, Some((&[1, 0, 2], 2, 101))),
     ],
+    tables: Tables::None,
 };
 
 const ENTERED: Row = Row {
     name: "r2 originates a prefix, which P1 hears of over R1",
-    topology: TWO_EXITS,
+    network: Network::TwoExits,
     policy: "originate 10.0.1.0/24 at R2; 10.0.1.0/24 => enter(R1);",
     config: ENTERED_CONFIG,
     prefix: "10.0.1.0/24",
-    dead: 0,
+    dead: (0, 0),
     dead_links: &[],
     silent: &[],
     settled: &[Some((&[0, 1], 1, 100)), Some((&[1], 1, 0))],
@@ -80,19 +82,21 @@ const ENTERED: Row = Row {
         (0, Some((&[0, 1], 0, 100))),
         (1, None),
     ],
+    tables: Tables::Entered,
 };
 
 const EXPORTED: Row = Row {
     name: "the row of two exits, with lines that export to the peers what came from P1",
-    topology: TWO_EXITS,
+    network: Network::TwoExits,
     policy: "true => exit(P1 >> P2);",
     config: EXPORTED_CONFIG,
     prefix: "198.51.100.0/24",
-    dead: 0,
+    dead: (0, 0),
     dead_links: &[],
     silent: &[],
     settled: &[Some((&[0, 2], 1, 101)), Some((&[1, 0, 2], 2, 101))],
     unstable: &[],
+    tables: Tables::Exported,
 };
 
 /// Two exits, of which P1's is preferred.

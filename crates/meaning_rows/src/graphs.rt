@@ -1,12 +1,16 @@
 //! Graphs of small networks, worked by hand.
+ghost use Rattle.std.specs.Prelude.{◌≡◌};
+ghost use Rattle.policy_base.specs.Policies.{policy_of};
+ghost use Rattle.policy_base.specs.Cases.{case_list};
 ghost use Rattle.policy_base.specs.CaseNumbers.{OriginsAreRouters};
 
+use crate::wrong::Wrong;
 use case_core::case_graph;
 use graph_base::{Graph, Node};
 use net_base::{Loc, Net};
-use policy_base::{Policy, cases};
+use policy_base::{CaseList, Policy, cases};
 use std::alloc::Global;
-use test_networks::{CHAIN, RING, TWO_EXITS, TWO_ROUTERS, TWO_SPINES, read};
+use test_networks::{Network, read};
 
 // A graph: the location of each node, whether it hears, and its rank; the starts; the steps.
 #[derive(Clone, Copy)]
@@ -57,7 +61,7 @@ fn is_drawn(graph: &Graph, drawing: &Drawing) -> bool {
 #[derive(Clone, Copy)]
 struct Row {
     name: &'static str,
-    topology: &'static str,
+    network: Network,
     policy: &'static str,
     built: u32,
     graph: Drawing,
@@ -80,7 +84,7 @@ fn nth_row(number: usize) -> Option<Row> {
     Some(match number {
         0 => Row {
             name: "two exits in order",
-            topology: TWO_EXITS,
+            network: Network::TwoExits,
             policy: "true => exit(P1 >> P2);",
             built: 6,
             graph: Drawing {
@@ -98,7 +102,7 @@ fn nth_row(number: usize) -> Option<Row> {
         },
         1 => Row {
             name: "dropped paths",
-            topology: TWO_ROUTERS,
+            network: Network::TwoRouters,
             policy: "originate 10.0.1.0/24 at A; 10.0.1.0/24 => drop;",
             built: 0,
             graph: Drawing {
@@ -109,7 +113,7 @@ fn nth_row(number: usize) -> Option<Row> {
         },
         2 => Row {
             name: "a detour",
-            topology: RING,
+            network: Network::Ring,
             policy: "originate 10.0.1.0/24 at D; 10.0.1.0/24 => avoid(X) >> any;",
             built: 8,
             graph: Drawing {
@@ -127,7 +131,7 @@ fn nth_row(number: usize) -> Option<Row> {
         },
         3 => Row {
             name: "a waypoint",
-            topology: RING,
+            network: Network::Ring,
             policy: "originate 10.0.1.0/24 at D; 10.0.1.0/24 => through(X) >> any;",
             built: 8,
             graph: Drawing {
@@ -145,7 +149,7 @@ fn nth_row(number: usize) -> Option<Row> {
         },
         4 => Row {
             name: "a waypoint at the end",
-            topology: CHAIN,
+            network: Network::Chain,
             policy: "originate 10.0.1.0/24 at D; 10.0.1.0/24 => through(W) >> any;",
             built: 4,
             graph: Drawing {
@@ -161,7 +165,7 @@ fn nth_row(number: usize) -> Option<Row> {
         },
         5 => Row {
             name: "no way through the leaves: A1 has a node before a spine was passed and one after",
-            topology: TWO_SPINES,
+            network: Network::TwoSpines,
             policy: "originate 10.0.1.0/24 at T1; 10.0.1.0/24 => through(S1, S2) and notransit(T1, T3, T4) from T3, T4;",
             built: 13,
             graph: Drawing {
@@ -195,7 +199,7 @@ fn nth_row(number: usize) -> Option<Row> {
         },
         6 => Row {
             name: "two origins: no path goes over one, so the first has no node",
-            topology: CHAIN,
+            network: Network::Chain,
             policy: "originate 10.0.5.0/24 at D, X; 10.0.5.0/24 => end(D >> X);",
             built: 1,
             graph: Drawing {
@@ -206,7 +210,7 @@ fn nth_row(number: usize) -> Option<Row> {
         },
         7 => Row {
             name: "the peer at the entry hears, and the other one is pruned",
-            topology: TWO_EXITS,
+            network: Network::TwoExits,
             policy: "originate 10.0.1.0/24 at R2; 10.0.1.0/24 => enter(R1);",
             built: 3,
             graph: Drawing {
@@ -219,37 +223,45 @@ fn nth_row(number: usize) -> Option<Row> {
     })
 }
 
-// Whether the first case of a policy has a row's graph where there is just room for what is built of it.
-fn has_graph(alloc: Global, net: &Net, policy: &Policy, row: &Row) -> bool
-    requires { OriginsAreRouters net.now policy.now.origins }
+// Whether the first of these cases has a row's graph where there is just room for what is built of it.
+fn is_first_graph(alloc: Global, net: &Net, policy: &Policy, cases: &CaseList, row: &Row) -> bool
+    requires cases { cases.now.cases ≡ case_list net.now (policy_of policy.now) }
+    requires routers { OriginsAreRouters net.now policy.now.origins }
 {
-    let Ok(cases) = cases(alloc, net, policy) else {
-        return false;
-    };
     if cases.cases.as_slice().is_empty() {
         return false;
     }
-    match case_graph(alloc, net, policy, &cases, 1, row.built) {
+    match case_graph(alloc, net, policy, cases, 1, row.built) {
         Ok(given) => given.used == row.built && is_drawn(&given.graph, &row.graph),
+        Err(_) => false,
+    }
+}
+
+// Whether the first case of a policy has a row's graph.
+fn has_graph(alloc: Global, net: &Net, policy: &Policy, row: &Row) -> bool
+    requires { OriginsAreRouters net.now policy.now.origins }
+{
+    match cases(alloc, net, policy) {
+        Ok(cases) => is_first_graph(alloc, net, policy, &cases, row),
         Err(_) => false,
     }
 }
 
 // Whether the texts of a row are read, and their first case has its graph.
 fn is_right(alloc: Global, row: &Row) -> bool {
-    match read(alloc, row.topology, row.policy) {
+    match read(alloc, row.network, row.policy) {
         Some((net, policy)) => has_graph(alloc, &net, &policy, row),
         None => false,
     }
 }
 
-/// The name of the first row whose graph is another one.
-pub fn wrong_graph(alloc: Global) -> Option<&'static str> {
+/// The first row whose graph is another one.
+pub fn wrong_graph(alloc: Global) -> Option<Wrong> {
     for number in 0..100 {
         let row = nth_row(number)?;
         if !is_right(alloc, &row) {
-            return Some(row.name);
+            return Some((row.name, number));
         }
     }
-    Some("a table that doesn't end")
+    Some(("a table that doesn't end", 100))
 }

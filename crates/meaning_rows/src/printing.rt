@@ -1,11 +1,12 @@
 //! Policies that are printed, and what is printed read again; the texts of a sample.
+use crate::wrong::Wrong;
 use net_base::Net;
 use outside::NoMemory;
 use policy_base::Policy;
 use policy_text::print_policy;
 use sample_network::sample;
 use std::alloc::Global;
-use test_networks::{TWO_EXITS, TWO_WAYS, read};
+use test_networks::{Network, read};
 
 // Whether a policy is printed like this.
 fn is_printed(alloc: Global, net: &Net, policy: &Policy, wanted: &str) -> Result<bool, NoMemory> {
@@ -13,8 +14,8 @@ fn is_printed(alloc: Global, net: &Net, policy: &Policy, wanted: &str) -> Result
 }
 
 // Whether a text is read, and printed like this.
-fn prints(alloc: Global, topology: &str, text: &str, wanted: &str) -> Result<bool, NoMemory> {
-    match read(alloc, topology, text) {
+fn prints(alloc: Global, network: Network, text: &str, wanted: &str) -> Result<bool, NoMemory> {
+    match read(alloc, network, text) {
         Some((net, policy)) => is_printed(alloc, &net, &policy, wanted),
         None => Ok(false),
     }
@@ -35,25 +36,48 @@ const GROUP: &str = "define G = { R2, R1 }; true => link(G, P1);";
 
 const EXITS: &str = "true => exit(P1 >> P2);\n";
 
-// Each policy with its network and what is printed of it.
-const ROWS: [(&str, &str, &str, &str); 5] = [
+// A name, a network, a policy and what is printed of it.
+type Row = (&'static str, Network, &'static str, &'static str);
+
+const ROWS: [Row; 5] = [
     (
         "groups are sets",
-        TWO_EXITS,
+        Network::TwoExits,
         GROUP,
         "true => link({ R1, R2 }, P1);\n",
     ),
-    ("two exits", TWO_EXITS, EXITS, EXITS),
-    ("a listener that is entered", TWO_EXITS, ENTERED, ENTERED),
-    ("a ranked fallback path", TWO_WAYS, FALLBACK, FALLBACK),
-    ("brackets and lists", TWO_EXITS, BRACKETS, FEWER_BRACKETS),
+    ("two exits", Network::TwoExits, EXITS, EXITS),
+    (
+        "a listener that is entered",
+        Network::TwoExits,
+        ENTERED,
+        ENTERED,
+    ),
+    (
+        "a ranked fallback path",
+        Network::TwoWays,
+        FALLBACK,
+        FALLBACK,
+    ),
+    (
+        "brackets and lists",
+        Network::TwoExits,
+        BRACKETS,
+        FEWER_BRACKETS,
+    ),
 ];
 
-/// The name of the first policy of which something else is printed, or that is printed as another one once it was printed.
-pub fn wrong_text(alloc: Global) -> Result<Option<&'static str>, NoMemory> {
-    for row in &ROWS {
-        if !prints(alloc, row.1, row.2, row.3)? || !prints(alloc, row.1, row.3, row.3)? {
-            return Ok(Some(row.0));
+// Whether a policy is printed as its row says, and as itself once it was printed.
+fn is_right(alloc: Global, row: &Row) -> Result<bool, NoMemory> {
+    Ok(prints(alloc, row.1, row.2, row.3)? && prints(alloc, row.1, row.3, row.3)?)
+}
+
+/// The first policy of which something else is printed, or that is printed as another one once it was printed.
+pub fn wrong_text(alloc: Global) -> Result<Option<Wrong>, NoMemory> {
+    for i in 0..ROWS.len() {
+        let row = &ROWS[i];
+        if !is_right(alloc, row)? {
+            return Ok(Some((row.0, i)));
         }
     }
     Ok(None)

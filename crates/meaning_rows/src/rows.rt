@@ -1,37 +1,46 @@
 //! Networks under failures, with the routes that their routers settle on.
 use crate::exit_rows::{entered, exits, exported, silent_exit};
-use crate::values::Held;
+use crate::values::{Held, Range};
 use test_networks::{
-    LINE, LINE_CONFIG, RING, RING_CONFIG, TRIANGLE, TRIANGLE_CONFIG, TWO_ROUTERS,
-    TWO_ROUTERS_CONFIG, TWO_SPINES, TWO_SPINES_CONFIG, TWO_WAYS, TWO_WAYS_CONFIG,
+    LINE_CONFIG, Network, RING_CONFIG, TRIANGLE_CONFIG, TWO_ROUTERS_CONFIG, TWO_SPINES_CONFIG,
+    TWO_WAYS_CONFIG,
 };
+
+/// The tables that are tried in the setting of a row besides.
+#[derive(Clone, Copy)]
+pub(crate) enum Tables {
+    None,
+    Exits,
+    Entered,
+    Exported,
+}
 
 /// A network with a policy, its configuration and failures; the routes that the routers settle on; and single
 /// routes in whose place the outcome isn't stable. Locations go by their numbers.
 #[derive(Clone, Copy)]
 pub(crate) struct Row {
     pub(crate) name: &'static str,
-    pub(crate) topology: &'static str,
+    pub(crate) network: Network,
     pub(crate) policy: &'static str,
     pub(crate) config: &'static str,
     pub(crate) prefix: &'static str,
-    /// Dead locations, as bits.
-    pub(crate) dead: u64,
+    pub(crate) dead: Range,
     pub(crate) dead_links: &'static [(u16, u16)],
     pub(crate) silent: &'static [(u16, u16)],
     pub(crate) settled: &'static [Held],
     pub(crate) unstable: &'static [(u16, Held)],
+    pub(crate) tables: Tables,
 }
 
 const ANY_FROM_A: &str = "originate 10.0.1.0/24 at A; 10.0.1.0/24 => any;";
 
 const DEAD_LINK: Row = Row {
     name: "a triangle with a dead link",
-    topology: TRIANGLE,
+    network: Network::Triangle,
     policy: ANY_FROM_A,
     config: TRIANGLE_CONFIG,
     prefix: "10.0.1.0/24",
-    dead: 0,
+    dead: (0, 0),
     dead_links: &[(2, 0)],
     silent: &[],
     settled: &[
@@ -50,15 +59,16 @@ const DEAD_LINK: Row = Row {
         (2, None),
         (2, Some((&[2, 0], 1, 100))),
     ],
+    tables: Tables::None,
 };
 
 const TIE: Row = Row {
     name: "a tie, where C takes the longer of two routes with one preference",
-    topology: TRIANGLE,
+    network: Network::Triangle,
     policy: ANY_FROM_A,
     config: TRIANGLE_CONFIG,
     prefix: "10.0.1.0/24",
-    dead: 0,
+    dead: (0, 0),
     dead_links: &[],
     silent: &[],
     settled: &[
@@ -67,28 +77,30 @@ const TIE: Row = Row {
         Some((&[2, 1, 0], 1, 100)),
     ],
     unstable: &[(2, None), (1, Some((&[1, 2, 0], 1, 100)))],
+    tables: Tables::None,
 };
 
 const DEAD_ORIGIN: Row = Row {
     name: "a triangle with its origin dead",
-    topology: TRIANGLE,
+    network: Network::Triangle,
     policy: ANY_FROM_A,
     config: TRIANGLE_CONFIG,
     prefix: "10.0.1.0/24",
-    dead: 0b1,
+    dead: (0, 1),
     dead_links: &[],
     silent: &[],
     settled: &[None, None, None],
     unstable: &[(0, Some((&[0], 1, 0))), (1, Some((&[1, 0], 1, 100)))],
+    tables: Tables::None,
 };
 
 const RANKED_DETOUR: Row = Row {
     name: "a detour that is ranked second",
-    topology: RING,
+    network: Network::Ring,
     policy: "originate 10.0.1.0/24 at D; 10.0.1.0/24 => avoid(X) >> any;",
     config: RING_CONFIG,
     prefix: "10.0.1.0/24",
-    dead: 0,
+    dead: (0, 0),
     dead_links: &[(0, 1)],
     silent: &[],
     settled: &[
@@ -106,15 +118,16 @@ const RANKED_DETOUR: Row = Row {
         (3, None),
         (3, Some((&[3, 2, 1, 0], 2, 100))),
     ],
+    tables: Tables::None,
 };
 
 const RANKED_FALLBACK: Row = Row {
     name: "a fallback path that is ranked second",
-    topology: TWO_WAYS,
+    network: Network::TwoWays,
     policy: "originate 10.0.1.0/24 at D; 10.0.1.0/24 => path(A, B, C, D) >> path(A, E, D) from A;",
     config: TWO_WAYS_CONFIG,
     prefix: "10.0.1.0/24",
-    dead: 0,
+    dead: (0, 0),
     dead_links: &[(1, 2)],
     silent: &[],
     settled: &[
@@ -132,15 +145,16 @@ const RANKED_FALLBACK: Row = Row {
         (3, None),
         (4, None),
     ],
+    tables: Tables::None,
 };
 
 const UNGOVERNED: Row = Row {
     name: "a prefix that nothing governs",
-    topology: TWO_ROUTERS,
+    network: Network::TwoRouters,
     policy: "originate 10.0.1.0/24 at A; originate 10.0.9.0/24 at A; 10.0.1.0/24 => any;",
     config: TWO_ROUTERS_CONFIG,
     prefix: "10.0.9.0/24",
-    dead: 0,
+    dead: (0, 0),
     dead_links: &[],
     silent: &[],
     settled: &[Some((&[0], 0, 0)), None],
@@ -149,16 +163,17 @@ const UNGOVERNED: Row = Row {
         (0, Some((&[0], 1, 0))),
         (1, Some((&[1, 0], 1, 100))),
     ],
+    tables: Tables::None,
 };
 
 const DEAD_SPINE: Row = Row {
     name: "the valley-free policy with a dead router",
-    topology: TWO_SPINES,
+    network: Network::TwoSpines,
     policy: "originate 10.0.1.0/24 at T1;
 10.0.1.0/24 => through(S1, S2) and notransit(T1, T3, T4) from T3, T4;",
     config: TWO_SPINES_CONFIG,
     prefix: "10.0.1.0/24",
-    dead: 0b100,
+    dead: (2, 3),
     dead_links: &[],
     silent: &[],
     settled: &[
@@ -180,15 +195,16 @@ const DEAD_SPINE: Row = Row {
         (5, None),
         (6, Some((&[6, 4, 2, 1, 0], 1, 100))),
     ],
+    tables: Tables::None,
 };
 
 const SEVERAL_ORIGINS: Row = Row {
     name: "two origins, of which one announces",
-    topology: LINE,
+    network: Network::Line,
     policy: "originate 10.0.5.0/24 at A, D; 10.0.5.0/24 => end(A >> D);",
     config: LINE_CONFIG,
     prefix: "10.0.5.0/24",
-    dead: 0,
+    dead: (0, 0),
     dead_links: &[],
     silent: &[],
     settled: &[
@@ -204,6 +220,7 @@ const SEVERAL_ORIGINS: Row = Row {
         (2, None),
         (2, Some((&[2, 1, 0], 1, 100))),
     ],
+    tables: Tables::None,
 };
 
 // A triangle with a dead link.

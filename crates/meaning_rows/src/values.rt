@@ -8,6 +8,9 @@ use std::alloc::Global;
 /// What a router holds: none, or a path, the value of its tag, and a preference.
 pub(crate) type Held = Option<(&'static [u16], u32, u32)>;
 
+/// The locations from the first number on, below the second.
+pub(crate) type Range = (u16, u16);
+
 /// The tag of a location with this value. Routers have the AS numbers from 64512 on.
 pub(crate) fn tag(at: u16, value: u32) -> Tag {
     if value == 0 {
@@ -37,22 +40,21 @@ fn pairs(alloc: Global, numbers: &[(u16, u16)]) -> Result<List<(Loc, Loc)>, NoMe
     Ok(List::from_vec(pairs))
 }
 
-/// The scenario of a prefix in which these locations, as bits, and these links are dead, and these sessions
-/// silent.
+/// The scenario of a prefix in which these locations and these links are dead, and these sessions silent.
 pub(crate) fn scenario(
     alloc: Global,
     prefix: Prefix,
-    dead: u64,
+    dead: Range,
     dead_links: &[(u16, u16)],
     silent: &[(u16, u16)],
 ) -> Result<Scenario, NoMemory> {
+    let dead_links = pairs(alloc, dead_links)?;
+    let silent = pairs(alloc, silent)?;
     Ok(Scenario {
         prefix,
-        dead: LocSet {
-            words: [dead, 0, 0, 0, 0, 0, 0, 0, 0, 0, 0, 0],
-        },
-        dead_links: pairs(alloc, dead_links)?,
-        silent: pairs(alloc, silent)?,
+        dead: LocSet::of_range(dead.0, dead.1),
+        dead_links,
+        silent,
     })
 }
 
@@ -68,6 +70,29 @@ pub(crate) fn route(alloc: Global, router: u16, held: Held) -> Result<Option<Rou
     }
 }
 
+// What a router holds, where one of them may hold something else.
+fn held_at(router: u16, held: Held, other: Option<(u16, Held)>) -> Held {
+    match other {
+        Some((at, instead)) if at == router => instead,
+        _ => held,
+    }
+}
+
+// What the routers hold, onto what others hold.
+fn push_routes(
+    alloc: Global,
+    routes: &mut Vec<Option<Route>>,
+    all: &[Held],
+    other: Option<(u16, Held)>,
+) -> Result<(), NoMemory> {
+    let mut at = 0u16;
+    for held in all {
+        routes.push(route(alloc, at, held_at(at, *held, other))?)?;
+        at = at.wrapping_add(1);
+    }
+    Ok(())
+}
+
 /// What the routers hold, where one of them may hold something else.
 pub(crate) fn outcome(
     alloc: Global,
@@ -75,15 +100,7 @@ pub(crate) fn outcome(
     other: Option<(u16, Held)>,
 ) -> Result<Outcome, NoMemory> {
     let mut routes = Vec::new(alloc);
-    let mut at = 0u16;
-    for held in all {
-        let held = match other {
-            Some((router, instead)) if router == at => instead,
-            _ => *held,
-        };
-        routes.push(route(alloc, at, held)?)?;
-        at = at.wrapping_add(1);
-    }
+    push_routes(alloc, &mut routes, all, other)?;
     Ok(Outcome {
         routes: List::from_vec(routes),
     })

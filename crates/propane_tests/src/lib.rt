@@ -1,5 +1,4 @@
-//! Runs over memory: every command with each read and each write failing in turn, and as callers have runs; a file that is read, and a
-//! writer.
+//! The rows of `meaning_rows` and `run_rows`, none of which is wrong; and a file that is read.
 #![tactic(auto)]
 
 #[cfg(test)]

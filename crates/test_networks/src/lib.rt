@@ -10,8 +10,5 @@ pub use configs::{
     TWO_ROUTERS_CONFIG, TWO_ROUTERS_CONFIG_1, TWO_ROUTERS_EVIDENCE, TWO_SPINES_CONFIG,
     TWO_WAYS_CONFIG,
 };
-pub use networks::{
-    CHAIN, LINE, RING, ROW_BETWEEN_PEERS, TRIANGLE, TWO_EXITS, TWO_ROUTERS, TWO_SPINES, TWO_WAYS,
-    WAYPOINT_RING,
-};
+pub use networks::Network;
 pub use reading::{config_of, read};

@@ -2,6 +2,7 @@
 ghost use Rattle.std.specs.Prelude.{IfSome};
 ghost use Rattle.policy_base.specs.CaseNumbers.{OriginsAreRouters};
 
+use crate::networks::Network;
 use config_base::Config;
 use config_reader::read_config;
 use net_base::Net;
@@ -11,21 +12,21 @@ use std::alloc::Global;
 use topology::read_topology;
 
 // The network of a text, where it is one.
-fn net_of(alloc: Global, topology: &str) -> Option<Net> {
-    if topology.len() > 65536 {
+fn net_of(alloc: Global, text: &str) -> Option<Net> {
+    if text.len() > 65536 {
         return None;
     }
-    read_topology(alloc, topology.as_bytes()).ok()
+    read_topology(alloc, text.as_bytes()).ok()
 }
 
-/// The network and the policy of two texts, where they are such.
-pub fn read(alloc: Global, topology: &str, policy: &str) -> Option<(Net, Policy)>
+/// A small network and the policy of a text for it, where the texts are such.
+pub fn read(alloc: Global, network: Network, policy: &str) -> Option<(Net, Policy)>
     ensures { IfSome result (λ r. OriginsAreRouters r.0 r.1.origins) }
 {
     if policy.len() > 65536 {
         return None;
     }
-    let net = net_of(alloc, topology)?;
+    let net = net_of(alloc, network.text())?;
     match read_policy(alloc, policy.as_bytes(), &net) {
         Ok(policy) => Some((net, policy)),
         Err(_) => None,

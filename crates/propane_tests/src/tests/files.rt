@@ -1,5 +1,5 @@
-//! The real outside: a file, and a writer.
-use outside::{FileInputs, InputFail, Inputs, OutSink, write_whole};
+//! The real outside: a file.
+use outside::{FileInputs, InputFail, Inputs};
 use std::fs;
 use std::test::Fail;
 
@@ -16,12 +16,4 @@ fn a_file_is_read_whole(rt: HostRuntime) -> Result<(), Fail> {
     assert_eq!(rt; long, Some(InputFail::TooLong));
     assert_eq!(rt; none, Some(InputFail::Failed));
     Ok(())
-}
-
-#[test]
-fn a_writer_gets_all(rt: HostRuntime) {
-    let mut written = Vec::new(rt.alloc());
-    let mut sink = OutSink::new(&mut written);
-    assert!(rt; write_whole(&mut sink, b"propane").is_ok());
-    assert!(rt; written.as_slice() == b"propane".as_slice());
 }
