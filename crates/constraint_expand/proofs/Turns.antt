@@ -4,7 +4,9 @@ use Rattle.std.specs.List.{flat_map}
 use Rattle.std.proofs.lemmas.List.{append-nil, map-append, take_more}
 use Rattle.std.proofs.lemmas.Grind.{flat_map-append}
 use Rattle.net_base.specs.Network.{PlainNet}
-use Rattle.policy_base.specs.declared.call.Call.{Call}
+use Rattle.net_base.specs.declared.loc.LocSet.{LocSet}
+use Rattle.policy_base.specs.declared.call.SetCall.{SetCall}
+use Rattle.policy_base.specs.declared.call.Call.TheVariants.{Of}
 use Rattle.path_exprs.specs.Expression.{Expression}
 use Rattle.path_exprs.specs.Forward.{both_of_two, forward}
 use Rattle.path_exprs.specs.Parts.{at, are_known, Puts}
@@ -13,11 +15,13 @@ use Rattle.path_exprs.proofs.Numbers.{at-extends, known-at, map-extends, puts-ap
 map-turn : {A B : Type 0} (f : A → B) (xs : List A) (i : ℕ) (d : A) → i < length xs → map f (take (i + 1) xs) ≡ map f (take i xs) ++ f (get_or xs i d) ∷ []
 map-turn f xs i d lt = ap (map f) (take_more xs i d lt) ∙ map-append f (take i xs) (get_or xs i d ∷ [])
 
-pub call-turn : (net : PlainNet) (old cur new : List Expression) (ns : List ℕ) (cs : List Call) (i n : ℕ) (c : Call) (e : Expression) → Puts old cur ns (map (forward net) (take i cs)) → i < length cs
-    → c ≡ get_or cs i c → e ≡ forward net c → new ≡ cur ++ e ∷ [] → n ≡ length cur → Puts old new (ns ++ n ∷ []) (map (forward net) (take (i + 1) cs))
-call-turn net old cur new ns cs i n c e put lt this call is number =
-    subst (Puts old new (ns ++ n ∷ [])) (sym (map-turn (forward net) cs i c lt))
-    (puts-append old cur new ns (n ∷ []) _ _ put (subst (λ x. Puts cur new (n ∷ []) (x ∷ [])) (call ∙ ap (forward net) this) (puts-one cur new e n is number)))
+pub set-turn : (net : PlainNet) (old cur new : List Expression) (ns : List ℕ) (c : SetCall) (sets : List LocSet) (i n : ℕ) (d : LocSet) (e : Expression)
+    → Puts old cur ns (map (forward net) (map (Of c) (take i sets))) → i < length sets → e ≡ forward net (Of c (get_or sets i d)) → new ≡ cur ++ e ∷ [] → n ≡ length cur
+    → Puts old new (ns ++ n ∷ []) (map (forward net) (map (Of c) (take (i + 1) sets)))
+set-turn net old cur new ns c sets i n d e put lt called is number =
+    subst (Puts old new (ns ++ n ∷ []))
+    (sym (ap (map (forward net)) (map-turn (Of c) sets i d lt) ∙ map-append (forward net) (map (Of c) (take i sets)) (Of c (get_or sets i d) ∷ [])))
+    (puts-append old cur new ns (n ∷ []) _ _ put (subst (λ x. Puts cur new (n ∷ []) (x ∷ [])) called (puts-one cur new e n is number)))
 
 pub pair-turn : (old cur new : List Expression) (ns : List ℕ) (e : ℕ) (fs : List ℕ) (i n d : ℕ) → Puts old cur ns (map (both_of_two (at old e)) (map (at old) (take i fs)))
     → e < length old → are_known (length old) fs ≡ true → i < length fs → new ≡ cur ++ both_of_two (at cur e) (at cur (get_or fs i d)) ∷ [] → n ≡ length cur

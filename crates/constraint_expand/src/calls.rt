@@ -105,7 +105,12 @@ fn link(alloc: Global, first: LocSet, second: LocSet) -> Result<Expr, AllocError
 }
 
 /// The expression of a call of one set.
-fn forward_set(alloc: Global, net: &Net, call: SetCall, set: &LocSet) -> Result<Expr, AllocError>
+pub(crate) fn forward_set(
+    alloc: Global,
+    net: &Net,
+    call: SetCall,
+    set: &LocSet,
+) -> Result<Expr, AllocError>
     ensures { IfOk result (λ r. view r ≡ forward_set_of net.now call set.now) }
 {
     match call {

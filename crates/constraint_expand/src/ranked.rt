@@ -3,17 +3,18 @@ ghost use Rattle.std.specs.Prelude.{◌≡◌, ◌<◌, ◌≤◌, ◌-◌, ◌^
 ghost use Rattle.std.specs.List.{flat_map};
 ghost use Rattle.policy_base.specs.Meaning.{alternative_count};
 ghost use Rattle.policy_base.specs.Policies.{ranking_of};
+ghost use Rattle.policy_base.specs.declared.call.Call.TheVariants.{Of};
 ghost use Rattle.path_exprs.specs.Forward.{both_of_two, expressions, forward as forward_of};
 ghost use Rattle.path_exprs.specs.Parts.{are_known, at, expression_of, is_earlier, Puts};
 ghost use Rattle.path_exprs.specs.Shared.{values};
 ghost use Rattle.constraint_expand.specs.declared.fault.ExpandFault.TheVariants.{NoMemory, TooManyRanks};
 
-use crate::calls::forward;
+use crate::calls::{forward, forward_set};
 use crate::fault::ExpandFault;
-use net_base::Net;
+use net_base::{LocSet, Net};
 use path_exprs::{Part, Parts, RankedExpr};
 use policy_base::limits::ALTERNATIVES;
-use policy_base::{Call, Ranked, alternatives};
+use policy_base::{Ranked, SetCall, alternatives};
 use std::alloc::{AllocError, Global};
 
 /// The number of a part that is put behind the others, alone.
@@ -25,19 +26,20 @@ fn alone(alloc: Global, parts: &mut Parts, part: Part) -> Result<Vec<usize>, All
     Ok(vec![in alloc; number]?)
 }
 
-/// The expressions of calls.
+/// The expressions of the call of each set.
 fn forward_each(
     alloc: Global,
     parts: &mut Parts,
     net: &Net,
-    calls: &[Call],
+    call: SetCall,
+    sets: &[LocSet],
 ) -> Result<Vec<usize>, AllocError>
-    ensures { IfOk result (λ r. Puts (values parts.old) (values parts.new) r.items (map (forward_of net.now) calls.now)) }
+    ensures { IfOk result (λ r. Puts (values parts.old) (values parts.new) r.items (map (forward_of net.now) (map (Of call) sets.now))) }
 {
     let mut all = Vec::new(alloc);
-    for i in 0..calls.len() {
-        let call = forward(alloc, net, &calls[i])?;
-        all.push(parts.add(Part::Own(call))?)?;
+    for i in 0..sets.len() {
+        let one = forward_set(alloc, net, call, &sets[i])?;
+        all.push(parts.add(Part::Own(one))?)?;
     }
     Ok(all)
 }
@@ -94,7 +96,7 @@ fn expressions_in_order(
             let only = forward(alloc, net, call)?;
             alone(alloc, parts, Part::Own(only))
         }
-        Ranked::Calls(calls) => forward_each(alloc, parts, net, calls.as_slice()),
+        Ranked::Calls(call, sets) => forward_each(alloc, parts, net, *call, sets.as_slice()),
         Ranked::Prefer(a, b) => {
             let mut first = expressions_in_order(alloc, parts, a, net)?;
             let mut second = expressions_in_order(alloc, parts, b, net)?;

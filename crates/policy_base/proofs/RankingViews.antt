@@ -1,9 +1,12 @@
 -- The expression of each value.
-use Rattle.std.proofs.Common.{◌≡◌, ℕ, ◌+◌, ◌*◌, ◌<◌, ◌≤◌, ◌≢◌, ◌^◌, ◌-◌, min, arith, List, Box, Global, Bool, ◌&&◌, ◌⊎◌, inl, inr, ap, ◌∙◌, rules}
+use Rattle.std.proofs.Common.{◌≡◌, ℕ, ◌+◌, ◌*◌, ◌<◌, ◌≤◌, ◌≢◌, ◌^◌, ◌-◌, min, arith, List, map, Box, Global, Bool, ◌&&◌, ◌⊎◌, inl, inr, ap, ◌∙◌, rules}
 use Rattle.std.specs.Prelude.{None, option_map, option_and_then}
 use Rattle.std.specs.Option.{option_or}
 use Rattle.net_base.specs.Network.{PlainNet}
+use Rattle.net_base.specs.declared.loc.LocSet.{LocSet}
+use Rattle.policy_base.specs.declared.call.SetCall.{SetCall}
 use Rattle.policy_base.specs.declared.call.Call.{Call}
+use Rattle.policy_base.specs.declared.call.Call.TheVariants.{Of}
 use Rattle.policy_base.specs.declared.ranked.Ranked.{Ranked, Call as OneCall, Calls, Prefer, Or, And, Not, the_lemmas}
 use Rattle.policy_base.specs.Policies.{Ranking, call, calls, prefer, either, both, negated, ranking_of}
 use Rattle.policy_base.specs.Meaning.{alternatives, alternative_count, some_test, place_of}
@@ -15,8 +18,8 @@ use Rattle.list_laws.proofs.Numbers.{le-mul_left, le-mul_right}
 pub ranking_of-Call : (c : Call) → ranking_of (OneCall c) ≡ call c
 ranking_of-Call c = search (rules, the_lemmas)
 
-pub ranking_of-Calls : (cs : List Call) → ranking_of (Calls cs) ≡ calls cs
-ranking_of-Calls cs = search (rules, the_lemmas)
+pub ranking_of-Calls : (c : SetCall) (sets : List LocSet) → ranking_of (Calls c sets) ≡ calls (map (Of c) sets)
+ranking_of-Calls c sets = search (rules, the_lemmas)
 
 pub ranking_of-Prefer : (a b : Box Ranked Global) → ranking_of (Prefer a b) ≡ prefer (ranking_of a.value) (ranking_of b.value)
 ranking_of-Prefer a b = search (rules, the_lemmas)

@@ -8,6 +8,7 @@ use Rattle.net_base.specs.Prefixes.{PlainPattern, IsPattern, IsPrefix, same_pref
 use Rattle.net_base.specs.SetOperations.{size_of}
 use Rattle.net_base.specs.Sets.{holds}
 use Rattle.policy_base.specs.declared.call.Call.{Call}
+use Rattle.policy_base.specs.declared.call.Call.TheVariants.{Of}
 use Rattle.policy_base.specs.declared.ranked.Ranked.{Ranked}
 use Rattle.policy_base.specs.declared.ranked.Ranked.TheOpen.{Ranked-F}
 use Rattle.policy_base.specs.declared.ranked.Ranked.TheFolds.{fold-Ranked}
@@ -27,7 +28,7 @@ pub data Ranking : Type 0 where
 -- one level of a value, with the expression of each side in its place
 abbrev pub ranking_step : Ranked-F Ranking → Ranking
 ranking_step (Ranked-F.Call c) = call c
-ranking_step (Ranked-F.Calls cs) = calls cs
+ranking_step (Ranked-F.Calls c sets) = calls (map (Of c) sets)
 ranking_step (Ranked-F.Prefer a b) = prefer a.value b.value
 ranking_step (Ranked-F.Or a b) = either a.value b.value
 ranking_step (Ranked-F.And a b) = both a.value b.value

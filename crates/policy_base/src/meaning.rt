@@ -98,8 +98,8 @@ fn is_each_in(sets: &[LocSet], path: &[Loc]) -> bool
     true
 }
 
-// Whether a path meets a call of one set.
-fn meets_set(call: SetCall, set: &LocSet, path: &[Loc], net: &Net) -> bool
+/// Whether a path meets a call of one set.
+pub(crate) fn meets_set(call: SetCall, set: &LocSet, path: &[Loc], net: &Net) -> bool
     ensures { result ≡ meets_set_call net.now call set.now path.now }
 {
     match call {

@@ -1,14 +1,15 @@
 //! Ranks of paths.
-ghost use Rattle.std.specs.Prelude.{◌≡◌, ◌+◌, ◌*◌, ◌<◌, ◌≤◌, ◌^◌, ◌-◌, min, length, option_map, option_and_then, if◌then◌else◌};
+ghost use Rattle.std.specs.Prelude.{◌≡◌, ◌+◌, ◌*◌, ◌<◌, ◌≤◌, ◌^◌, ◌-◌, min, length, map, option_map, option_and_then, if◌then◌else◌};
 ghost use Rattle.std.specs.Option.{ForSome, option_or};
 ghost use Rattle.policy_base.specs.declared.limits.TheConstants.{ALTERNATIVES};
+ghost use Rattle.policy_base.specs.declared.call.Call.TheVariants.{Of};
 ghost use Rattle.policy_base.specs.Policies.{ranking_of, Ranking};
 ghost use Rattle.policy_base.specs.Meaning.{alternative_count, alternatives as tests, some_test, place_of, rank_of as rank};
 
-use crate::call::Call;
-use crate::meaning::meets;
+use crate::call::SetCall;
+use crate::meaning::{meets, meets_set};
 use crate::ranked::Ranked;
-use net_base::{Loc, Net};
+use net_base::{Loc, LocSet, Net};
 
 /// How many alternatives a ranked expression stands for; 18,446,744,073,709,551,615 where there are more.
 pub fn alternatives(ranked: &Ranked) -> u64
@@ -16,18 +17,18 @@ pub fn alternatives(ranked: &Ranked) -> u64
 {
     match ranked {
         Ranked::Call(_) | Ranked::Or(_, _) | Ranked::Not(_) => 1,
-        Ranked::Calls(calls) => calls.as_slice().len() as u64,
+        Ranked::Calls(_, sets) => sets.as_slice().len() as u64,
         Ranked::Prefer(a, b) => alternatives(a).saturating_add(alternatives(b)),
         Ranked::And(a, b) => alternatives(a).saturating_mul(alternatives(b)),
     }
 }
 
-// Whether some of the calls is met.
-fn meets_any(calls: &[Call], path: &[Loc], net: &Net) -> bool
-    ensures { result ≡ some_test (tests net.now (Ranking.calls calls.now)) path.now }
+// Whether the call of some of the sets is met.
+fn meets_any(call: SetCall, sets: &[LocSet], path: &[Loc], net: &Net) -> bool
+    ensures { result ≡ some_test (tests net.now (Ranking.calls (map (Of call) sets.now))) path.now }
 {
-    for call in calls {
-        if meets(call, path, net) {
+    for set in sets {
+        if meets_set(call, set, path, net) {
             return true;
         }
     }
@@ -40,7 +41,7 @@ fn meets_some(ranked: &Ranked, path: &[Loc], net: &Net) -> bool
 {
     match ranked {
         Ranked::Call(call) => meets(call, path, net),
-        Ranked::Calls(calls) => meets_any(calls.as_slice(), path, net),
+        Ranked::Calls(call, sets) => meets_any(*call, sets.as_slice(), path, net),
         Ranked::Prefer(a, b) => meets_some(a, path, net) || meets_some(b, path, net),
         Ranked::Or(a, b) => meets_some(a, path, net) || meets_some(b, path, net),
         Ranked::And(a, b) => meets_some(a, path, net) && meets_some(b, path, net),
@@ -48,13 +49,13 @@ fn meets_some(ranked: &Ranked, path: &[Loc], net: &Net) -> bool
     }
 }
 
-// The place, from 0, of the first call that is met.
-fn first_call(calls: &[Call], path: &[Loc], net: &Net) -> Option<u32>
-    requires { length calls.now ≤ ALTERNATIVES }
-    ensures { result ≡ place_of (tests net.now (Ranking.calls calls.now)) path.now 0 }
+// The place, from 0, of the first set whose call is met.
+fn first_set(call: SetCall, sets: &[LocSet], path: &[Loc], net: &Net) -> Option<u32>
+    requires { length sets.now ≤ ALTERNATIVES }
+    ensures { result ≡ place_of (tests net.now (Ranking.calls (map (Of call) sets.now))) path.now 0 }
 {
-    for i in 0..calls.len() {
-        if meets(&calls[i], path, net) {
+    for i in 0..sets.len() {
+        if meets_set(call, &sets[i], path, net) {
             return Some(i as u32);
         }
     }
@@ -100,7 +101,7 @@ fn first_met(ranked: &Ranked, path: &[Loc], net: &Net) -> Option<u32>
         Ranked::Call(_) | Ranked::Or(_, _) | Ranked::Not(_) => {
             place_if(meets_some(ranked, path, net))
         }
-        Ranked::Calls(calls) => first_call(calls.as_slice(), path, net),
+        Ranked::Calls(call, sets) => first_set(*call, sets.as_slice(), path, net),
         Ranked::Prefer(a, b) => {
             let first = first_met(a, path, net);
             place_in_row(first, alternatives(a) as u32, first_met(b, path, net))

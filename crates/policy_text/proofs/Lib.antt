@@ -1,3 +1,4 @@
+pub mod Adding
 pub mod Words
 pub mod NameLists
 pub mod Cuts
@@ -23,5 +24,6 @@ pub mod BuildOrigins
 pub mod BuildItems
 pub mod BuildPolicies
 pub mod LocSets
+pub mod SetTexts
 pub mod Premises
 pub mod PrintedPolicies

@@ -77,6 +77,10 @@ sets_text net (Path ps) = joined_places net ps
 unfoldable pub call_text : PlainNet → Call → List ℕ
 call_text net c = word_text (word_of c) ++ (if has_sets c then codes "(" ++ sets_text net c ++ codes ")" else [])
 
+-- a further set of a call
+abbrev pub next_set : PlainNet → LocSet → List ℕ
+next_set net s = codes " >> " ++ set_text net (names_in net s)
+
 abbrev pub next_sets : PlainNet → Call → List ℕ
 next_sets net c = codes " >> " ++ sets_text net c
 

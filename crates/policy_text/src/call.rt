@@ -1,13 +1,14 @@
 //! Calls.
-ghost use Rattle.std.specs.Prelude.{◌≡◌, ◌++◌, OnOk};
+ghost use Rattle.std.specs.Prelude.{◌≡◌, ◌++◌, OnOk, map};
 ghost use Rattle.std.specs.List.{AllByRecursion, flat_map};
-ghost use Rattle.policy_text.specs.PolicyText.{has_sets as call_has_sets, sets_text, call_text, next_sets, calls_text};
+ghost use Rattle.policy_base.specs.declared.call.Call.TheVariants.{Of};
+ghost use Rattle.policy_text.specs.PolicyText.{has_sets as call_has_sets, sets_text, call_text, next_set, calls_text};
 ghost use Rattle.policy_text.specs.Values.{HaveLocSets, IsLocSet, sets_in};
 
 use crate::names::{push_places, push_set};
-use net_base::Net;
+use net_base::{LocSet, Net};
 use outside::NoMemory;
-use policy_base::Call;
+use policy_base::{Call, SetCall};
 use std::alloc::Global;
 use text_words::push_bytes;
 
@@ -51,40 +52,41 @@ pub(crate) fn push_call(
     push_bytes(text, b")")
 }
 
-// Adds the sets of more calls, each after a `>>`.
+// Adds more sets of a call, each after a `>>`.
 fn push_more_sets(
     alloc: Global,
     text: &mut Vec<u8>,
     net: &Net,
-    calls: &[Call],
+    sets: &[LocSet],
 ) -> Result<(), NoMemory>
-    ensures text { OnOk result (text.new.items ≡ text.old.items ++ flat_map (next_sets net.now) calls.now) }
-    ensures rules { OnOk result (HaveLocSets calls.now) }
+    ensures text { OnOk result (text.new.items ≡ text.old.items ++ flat_map (next_set net.now) sets.now) }
+    ensures rules { OnOk result (AllByRecursion IsLocSet sets.now) }
 {
-    for call in calls {
+    for set in sets {
         push_bytes(text, b" >> ")?;
-        push_sets(alloc, text, net, call)?;
+        push_set(alloc, text, net, set)?;
     }
     Ok(())
 }
 
-/// Adds a call with ranked sets: the word of the first one, and the sets of all.
+/// Adds a call with ranked sets: its word, and the sets in brackets.
 #[tactic(auto, unfolding(crate::specs::PolicyText::calls_text))]
 pub(crate) fn push_calls(
     alloc: Global,
     text: &mut Vec<u8>,
     net: &Net,
-    calls: &[Call],
+    call: SetCall,
+    sets: &[LocSet],
 ) -> Result<(), NoMemory>
-    ensures text { OnOk result (text.new.items ≡ text.old.items ++ calls_text net.now calls.now) }
-    ensures rules { OnOk result (HaveLocSets calls.now) }
+    ensures text { OnOk result (text.new.items ≡ text.old.items ++ calls_text net.now (map (Of call) sets.now)) }
+    ensures rules { OnOk result (HaveLocSets (map (Of call) sets.now)) }
 {
-    match calls {
+    match sets {
         [] => Ok(()),
         [first, rest @ ..] => {
-            push_bytes(text, first.word().text())?;
+            push_bytes(text, call.word())?;
             push_bytes(text, b"(")?;
-            push_sets(alloc, text, net, first)?;
+            push_set(alloc, text, net, first)?;
             push_more_sets(alloc, text, net, rest)?;
             push_bytes(text, b")")
         }

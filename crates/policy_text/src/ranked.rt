@@ -53,7 +53,7 @@ pub(crate) fn push_ranked(
 {
     match ranked {
         Ranked::Call(call) => push_call(alloc, text, net, call),
-        Ranked::Calls(calls) => push_calls(alloc, text, net, calls.as_slice()),
+        Ranked::Calls(call, sets) => push_calls(alloc, text, net, *call, sets.as_slice()),
         Ranked::Prefer(a, b) => {
             push_opening(text, PREFER < least)?;
             push_ranked(alloc, text, net, PREFER, a)?;

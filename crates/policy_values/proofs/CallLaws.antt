@@ -28,7 +28,7 @@ use Rattle.policy_rules.specs.KnownNames.{Names}
 use Rattle.policy_values.specs.Built.{set_of_arg, sets_of, ranked_sets, link_of, call_of}
 use Rattle.policy_values.specs.Reads.{over}
 use Rattle.policy_values.specs.CallValues.{CallValue, call_value}
-use Rattle.policy_values.specs.CallReaders.{PlacesValue, with_call, of_calls, calls_value, placeless, linked, no_places, with_place, call_link}
+use Rattle.policy_values.specs.CallReaders.{PlacesValue, with_set, sets_value, placeless, linked, no_places, with_place, set_link as kept_link}
 use Rattle.policy_values.specs.CallReaders.{one_behind, place_link, sets_read, link_read, path_value, path_read, behind_read, taken}
 use Rattle.policy_values.specs.Levels.{call_step}
 use Rattle.policy_values.specs.Parts.{PartsValue, call_onto, step_onto}
@@ -41,56 +41,32 @@ pub call_inside : (s : Symbol) (w : CallWord) → word_of s ≡ Some w → numbe
 call_inside (symbol.Call v) w is = call_before_end v
 call_inside _ w is = absurd cc
 
-call_pushed : (c : SetCall) (r : Result (List LocSet) PolicyFault) (s : Result LocSet PolicyFault)
-    → with_call c (r >>= λ sets. Ok (map (Of c) sets)) s ≡ ((r >>= λ sets. s >>= λ x. Ok (sets ++ x ∷ [])) >>= λ sets. Ok (map (Of c) sets))
-call_pushed c (Err e) s = refl
-call_pushed c (Ok sets) (Err e) = refl
-call_pushed c (Ok sets) (Ok x) = ap Ok (simp map-append refl)
-
-of_sets : (c : SetCall) (sets : List LocSet) → of_calls (map (Of c) sets) ≡ ranked_sets c sets
-of_sets c [] = refl
-of_sets c (s ∷ []) = refl
-of_sets c (s ∷ t ∷ sets) = refl
-
-ranked_value : (c : SetCall) (r : Result (List LocSet) PolicyFault)
-    → ((r >>= λ sets. Ok (map (Of c) sets)) >>= λ cs. Ok (of_calls cs)) ≡ (r >>= λ sets. Ok (call_of (word.Of c) sets))
-ranked_value c (Err e) = refl
-ranked_value c (Ok sets) = ap Ok (of_sets c sets)
-
 linked_value : (a b : Result LocSet PolicyFault) → linked a b ≡ ((a >>= λ x. b >>= λ y. Ok (x ∷ y ∷ [])) >>= λ sets. Ok (call (link_of sets)))
 linked_value (Err e) b = refl
 linked_value (Ok x) (Err e) = refl
 linked_value (Ok x) (Ok y) = refl
 
 module _ (bytes : List ℕ) (net : PlainNet) (known : Names) where
-  -- the calls of some sets
-  abbrev calls_of : SetCall → List Arg → Result (List Call) PolicyFault
-  calls_of c args = sets_of bytes net known [] args >>= λ sets. Ok (map (Of c) sets)
+  abbrev sets_in : List Arg → Result (List LocSet) PolicyFault
+  sets_in = sets_of bytes net known []
 
-  calls_pushed : (c : SetCall) (args : List Arg) (a : Arg) → with_call c (calls_of c args) (set_of_arg bytes net known a) ≡ calls_of c (args ++ a ∷ [])
-  calls_pushed c args a = rw (sets_pushed bytes net known [] args a) (call_pushed c (sets_of bytes net known [] args) (set_of_arg bytes net known a))
-
-  call_linked : (c : SetCall) (l : Lexeme) (args : List Arg) (ls : List Lexeme) → call_link bytes net known c l (calls_of c args) ls ≡ over (calls_of c) (set_link l args ls)
-  call_linked c l args ls =
-      over_read (set_of_arg bytes net known) (calls_of c) (set_at ls) _ _
-      (λ x. ap (λ (cs : Result (List Call) PolicyFault). let y : Read (Result (List Call) PolicyFault) = Ok (cs, x.1) in y) (calls_pushed c args x.0))
+  set_linked : (l : Lexeme) (args : List Arg) (ls : List Lexeme) → kept_link bytes net known l (sets_in args) ls ≡ over sets_in (set_link l args ls)
+  set_linked l args ls =
+      over_read (set_of_arg bytes net known) sets_in (set_at ls) _ _
+      (λ x. ap (λ (sets : Result (List LocSet) PolicyFault). let y : Read (Result (List LocSet) PolicyFault) = Ok (sets, x.1) in y) (sym (sets_pushed bytes net known [] args x.0)))
 
   place_linked : (l : Lexeme) (args : List Arg) (ls : List Lexeme) → place_link bytes net known l (places_of bytes net known args) ls ≡ over (places_of bytes net known) (one_link l args ls)
   place_linked l args ls =
       over_read (set_of_arg bytes net known) (places_of bytes net known) (one_at ls) _ _ (λ x. rw (places_pushed bytes net known args x.0) refl)
-
-  ranked_same : (c : SetCall) (args : List Arg) (above : Option Place)
-      → placeless above (calls_value (calls_of c args)) ≡ call_value bytes net known (record { word = word.Of c; args = args; above = above })
-  ranked_same c args above = ap (placeless above) (ranked_value c (sets_of bytes net known [] args))
 
   sets_same : (c : SetCall) (ls : List Lexeme) → sets_read bytes net known c ls ≡ over (call_value bytes net known) (sets_call c ls)
   unfolding sets_read sets_call
   sets_same c ls =
       over_step (call_value bytes net known) (after symbol.RoundOpen ls) _ _ (λ inside.
       over_read (set_of_arg bytes net known) (call_value bytes net known) (set_at inside) _ _ (λ x.
-      over_links (calls_of c) (call_value bytes net known) symbol.Above set_link (call_link bytes net known c) (call_linked c) (length x.1) (x.0 ∷ []) _ x.1 (calls_pushed c [] x.0) _ _ (λ sets.
-      over_step (call_value bytes net known) (after symbol.RoundClose sets.1) _ _ (λ rest.
-      read_same _ _ rest (ranked_same c sets.0 (above_at x.1))))))
+      over_links sets_in (call_value bytes net known) symbol.Above set_link (kept_link bytes net known) set_linked (length x.1) (x.0 ∷ []) _ x.1
+      (sym (sets_pushed bytes net known [] [] x.0)) _ _ (λ sets.
+      over_step (call_value bytes net known) (after symbol.RoundClose sets.1) _ _ (λ rest. refl))))
 
   -- behind a place
   over_one : (s : Symbol) (ls : List Lexeme) (k : Result LocSet PolicyFault × List Lexeme → Read CallValue) (k' : Arg × List Lexeme → Read RawCall)
@@ -122,16 +98,16 @@ module _ (bytes : List ℕ) (net : PlainNet) (known : Names) where
       read_same _ _ rest (path_same bytes net known sets.0)))))
 
   -- ranked sets whose first set was read, by what stands behind it
-  pub sets_begun : (c : SetCall) (ls inside rest : List Lexeme) (set : Result LocSet PolicyFault) (none first : Result (List Call) PolicyFault) (r : Read CallValue)
+  pub sets_begun : (c : SetCall) (ls inside rest : List Lexeme) (set : Result LocSet PolicyFault) (none first : Result (List LocSet) PolicyFault) (r : Read CallValue)
       → after symbol.RoundOpen ls ≡ Ok inside → over (set_of_arg bytes net known) (set_at inside) ≡ Ok (set, rest) → none ≡ Ok []
-      → (let made : Result (Result (List Call) PolicyFault) PolicyFault = Ok (with_call c none set) in made ≡ Ok first)
-      → (chain symbol.Above (call_link bytes net known c) (length rest) first rest >>= λ all.
-      after symbol.RoundClose all.1 >>= λ behind. Ok (placeless (above_at rest) (calls_value all.0), behind)) ≡ r
+      → (let made : Result (Result (List LocSet) PolicyFault) PolicyFault = Ok (with_set none set) in made ≡ Ok first)
+      → (chain symbol.Above (kept_link bytes net known) (length rest) first rest >>= λ all.
+      after symbol.RoundClose all.1 >>= λ behind. Ok (placeless (above_at rest) (sets_value c all.0), behind)) ≡ r
       → sets_read bytes net known c ls ≡ r
   unfolding sets_read
   sets_begun c ls inside rest set none first r opens one empty made behind =
-      let calls = ap (λ (z : Result (List Call) PolicyFault). with_call c z set) (sym empty) ∙ ok_same _ _ made in
-      rw (opens, one, calls) behind
+      let sets = ap (λ (z : Result (List LocSet) PolicyFault). with_set z set) (sym empty) ∙ ok_same _ _ made in
+      rw (opens, one, sets) behind
 
   -- a `link` whose two places were read, by what stands behind them
   pub link_begun : (ls first both : List Lexeme) (a b : Result LocSet PolicyFault) (r : Read CallValue)

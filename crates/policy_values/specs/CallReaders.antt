@@ -8,8 +8,8 @@ use Rattle.net_base.specs.Network.{PlainNet}
 use Rattle.net_base.specs.Steps.{◌>>=◌}
 use Rattle.policy_base.specs.declared.call.SetCall.{SetCall}
 use Rattle.policy_base.specs.declared.call.Call.{Call}
-use Rattle.policy_base.specs.declared.call.Call.TheVariants.{Any, Drop, Internal, Link, Path, Of}
-use Rattle.policy_base.specs.Policies.{Ranking, call, calls}
+use Rattle.policy_base.specs.declared.call.Call.TheVariants.{Any, Drop, Internal, Link, Path}
+use Rattle.policy_base.specs.Policies.{Ranking, call}
 use Rattle.policy_tokens.specs.declared.fault.PolicyFault.{PolicyFault}
 use Rattle.policy_grammar.specs.declared.lexeme.Lexeme.{Lexeme}
 use Rattle.policy_grammar.specs.declared.symbol.Symbol.{Symbol}
@@ -22,9 +22,9 @@ use Rattle.policy_rules.specs.KnownNames.{Names}
 use Rattle.policy_rules.specs.Counts.{within}
 use Rattle.policy_values.specs.declared.call_values.LoneCall.{LoneCall}
 use Rattle.policy_values.specs.declared.call_values.LoneCall.TheVariants as lone
-use Rattle.policy_values.specs.declared.set_calls.CallsRead.{CallsRead}
+use Rattle.policy_values.specs.declared.set_calls.SetsRead.{SetsRead}
 use Rattle.policy_values.specs.declared.path_calls.PathPlaces.{PathPlaces}
-use Rattle.policy_values.specs.Built.{set_of_arg}
+use Rattle.policy_values.specs.Built.{set_of_arg, ranked_sets}
 use Rattle.policy_values.specs.CallValues.{CallValue}
 use Rattle.policy_values.specs.Parts.{PartsValue, call_onto}
 use Rattle.policy_values.specs.Reads.{over}
@@ -35,24 +35,20 @@ lone_call lone.Any = Any
 lone_call lone.Drop = Drop
 lone_call lone.Internal = Internal
 
--- the calls of the sets that the program read, or their first unknown name
-abbrev pub plain_calls : CallsRead → Result (List Call) PolicyFault
-plain_calls read = read.names >>= λ _. Ok read.list
+-- the ranked sets that the program read, or their first unknown name
+abbrev pub plain_sets : SetsRead → Result (List LocSet) PolicyFault
+plain_sets read = read.names >>= λ _. Ok read.list
 
--- the calls of the sets so far, with that of one set more: the first unknown name stays
-abbrev pub with_call : SetCall → Result (List Call) PolicyFault → Result LocSet PolicyFault → Result (List Call) PolicyFault
-with_call c so_far set = do
-  cs ← so_far
+-- the sets so far, with one set more: the first unknown name stays
+abbrev pub with_set : Result (List LocSet) PolicyFault → Result LocSet PolicyFault → Result (List LocSet) PolicyFault
+with_set so_far set = do
+  ss ← so_far
   s ← set
-  Ok (cs ++ Of c s ∷ [])
+  Ok (ss ++ s ∷ [])
 
--- a call with ranked sets, by the calls of its sets: one alone is that call
-abbrev pub of_calls : List Call → Ranking
-of_calls (c ∷ []) = call c
-of_calls cs = calls cs
-
-abbrev pub calls_value : Result (List Call) PolicyFault → Result Ranking PolicyFault
-calls_value read = read >>= λ cs. Ok (of_calls cs)
+-- a call with these ranked sets
+abbrev pub sets_value : SetCall → Result (List LocSet) PolicyFault → Result Ranking PolicyFault
+sets_value c read = read >>= λ sets. Ok (ranked_sets c sets)
 
 -- a call without places, with this value
 abbrev pub placeless : Option Place → Result Ranking PolicyFault → CallValue
@@ -99,10 +95,10 @@ abbrev pub taken : Read CallValue → PartsValue → Read PartsValue
 taken read v = read >>= λ x. Ok (call_onto x.0 v, x.1)
 
 module _ (bytes : List ℕ) (net : PlainNet) (known : Names) where
-  abbrev pub call_link : SetCall → Lexeme → Result (List Call) PolicyFault → List Lexeme → Read (Result (List Call) PolicyFault)
-  call_link c joint so_far ls = do
+  abbrev pub set_link : Lexeme → Result (List LocSet) PolicyFault → List Lexeme → Read (Result (List LocSet) PolicyFault)
+  set_link joint so_far ls = do
     x ← over (set_of_arg bytes net known) (set_at ls)
-    Ok (with_call c so_far x.0, x.1)
+    Ok (with_set so_far x.0, x.1)
 
   abbrev pub place_link : Lexeme → PlacesValue → List Lexeme → Read PlacesValue
   place_link joint places ls = do
@@ -114,9 +110,9 @@ module _ (bytes : List ℕ) (net : PlainNet) (known : Names) where
   sets_read c ls = do
     inside ← after symbol.RoundOpen ls
     x ← over (set_of_arg bytes net known) (set_at inside)
-    all ← chain symbol.Above (call_link c) (length x.1) (with_call c (Ok []) x.0) x.1
+    all ← chain symbol.Above set_link (length x.1) (with_set (Ok []) x.0) x.1
     rest ← after symbol.RoundClose all.1
-    Ok (placeless (above_at x.1) (calls_value all.0), rest)
+    Ok (placeless (above_at x.1) (sets_value c all.0), rest)
 
   -- the set of a place behind a symbol
   abbrev pub one_behind : Symbol → List Lexeme → Read (Result LocSet PolicyFault)

@@ -8,7 +8,8 @@ ghost use Rattle.policy_grammar.specs.Reading.{chain};
 ghost use Rattle.policy_grammar.specs.Calls.{above_at};
 ghost use Rattle.policy_rules.specs.KnownView.{plain_names};
 ghost use Rattle.policy_values.specs.CallValues.{plain_value};
-ghost use Rattle.policy_values.specs.CallReaders.{plain_calls, with_call, of_calls as of_all, calls_value, call_link, placeless, sets_read, taken};
+ghost use Rattle.policy_values.specs.Built.{ranked_sets as ranked_by};
+ghost use Rattle.policy_values.specs.CallReaders.{plain_sets, with_set, sets_value, set_link, placeless, sets_read, taken};
 ghost use Rattle.policy_values.specs.Parts.{parts_value};
 
 use crate::call_values::CallRead;
@@ -20,57 +21,54 @@ use policy_grammar::{Lexeme, Symbol, begins, passed, past};
 use policy_tokens::PolicyFault;
 use std::alloc::Global;
 
-/// The calls of the sets of a call that were read so far.
+/// The ranked sets of a call that were read so far.
 #[derive(Drop)]
-pub(crate) struct CallsRead {
+pub(crate) struct SetsRead {
     /// The first name that is unknown.
     pub names: Result<(), PolicyFault>,
-    /// The calls of the sets up to there.
-    pub list: List<Call>,
+    /// The sets up to there.
+    pub list: List<LocSet>,
 }
 
-// A call with ranked sets, by the calls of its sets.
-fn of_calls(calls: List<Call>) -> Ranked
-    ensures { ranking_of result ≡ of_all calls }
+// A call with these ranked sets: with one set it is that call.
+fn ranked_sets(call: SetCall, sets: List<LocSet>) -> Ranked
+    ensures { ranking_of result ≡ ranked_by call sets }
 {
-    let mut calls = calls.into_vec();
-    if calls.len() == 1
-        && let Some(call) = calls.pop()
-    {
-        return Ranked::Call(call);
+    match sets.as_slice() {
+        [only] => Ranked::Call(Call::Of(call, *only)),
+        _ => Ranked::Calls(call, sets),
     }
-    Ranked::Calls(List::from_vec(calls))
 }
 
-impl CallsRead {
+impl SetsRead {
     // No set.
-    fn none(alloc: Global) -> CallsRead
-        ensures { plain_calls result ≡ Ok [] }
+    fn none(alloc: Global) -> SetsRead
+        ensures { plain_sets result ≡ Ok [] }
     {
-        CallsRead {
+        SetsRead {
             names: Ok(()),
             list: List::new(alloc),
         }
     }
 
-    // The call of one set more. Once a name is unknown, the first one stays.
-    fn take(&mut self, call: SetCall, set: Result<LocSet, PolicyFault>) -> Result<(), PolicyFault>
-        ensures { GivesUnless NoMemory (λ _. plain_calls self.new) result (Ok (with_call call (plain_calls self.old) set)) }
+    // One set more. Once a name is unknown, the first one stays.
+    fn take(&mut self, set: Result<LocSet, PolicyFault>) -> Result<(), PolicyFault>
+        ensures { GivesUnless NoMemory (λ _. plain_sets self.new) result (Ok (with_set (plain_sets self.old) set)) }
     {
         match (self.names, set) {
-            (Ok(_), Ok(set)) => self.list.push(Call::Of(call, set))?,
+            (Ok(_), Ok(set)) => self.list.push(set)?,
             (Ok(_), Err(fault)) => self.names = Err(fault),
             (Err(_), _) => {}
         }
         Ok(())
     }
 
-    // What they come to.
-    fn value(self) -> Result<Ranked, PolicyFault>
-        ensures { plain_value result ≡ calls_value (plain_calls self) }
+    // What the call comes to.
+    fn value(self, call: SetCall) -> Result<Ranked, PolicyFault>
+        ensures { plain_value result ≡ sets_value call (plain_sets self) }
     {
         self.names?;
-        Ok(of_calls(self.list))
+        Ok(ranked_sets(call, self.list))
     }
 }
 
@@ -86,38 +84,33 @@ fn above(at: &Lexeme) -> Option<Place>
 }
 
 impl Reader<'_> {
-    // The calls of more sets, as long as a `>>` comes.
-    fn more_calls(
-        &self,
-        call: SetCall,
-        calls: &mut CallsRead,
-        at: &mut Lexeme,
-    ) -> Result<(), PolicyFault>
+    // More sets, as long as a `>>` comes.
+    fn more_sets(&self, sets: &mut SetsRead, at: &mut Lexeme) -> Result<(), PolicyFault>
         requires stands { StandsIn self.now.text.now at.old }
-        ensures read { GivesUnless NoMemory (λ _. (plain_calls calls.new, left self.now.text.now at.new)) result
-            (chain Symbol.Above (call_link self.now.text.now self.now.whole.now.net.now (plain_names self.now.known.now) call)
-            (length (left self.now.text.now at.old)) (plain_calls calls.old) (left self.now.text.now at.old)) }
+        ensures read { GivesUnless NoMemory (λ _. (plain_sets sets.new, left self.now.text.now at.new)) result
+            (chain Symbol.Above (set_link self.now.text.now self.now.whole.now.net.now (plain_names self.now.known.now))
+            (length (left self.now.text.now at.old)) (plain_sets sets.old) (left self.now.text.now at.old)) }
         ensures stands { StandsIn self.now.text.now at.new }
         ensures fewer { length (left self.now.text.now at.new) ≤ length (left self.now.text.now at.old) }
     {
         while past(Symbol::Above, self.text, at) {
             let set = self.set(at)?;
-            calls.take(call, set)?;
+            sets.take(set)?;
         }
         Ok(())
     }
 
     // The ranked sets of a call, in brackets, and where the first `>>` between them stands.
     #[tactic(auto, unfolding(crate::specs::CallReaders::sets_read))]
-    fn ranked_calls(
+    fn ranked_sets(
         &self,
         call: SetCall,
-        calls: &mut CallsRead,
+        sets: &mut SetsRead,
         at: &mut Lexeme,
     ) -> Result<Option<Place>, PolicyFault>
-        requires none { plain_calls calls.old ≡ Ok [] }
+        requires none { plain_sets sets.old ≡ Ok [] }
         requires stands { StandsIn self.now.text.now at.old }
-        ensures read { GivesUnless NoMemory (λ above. (placeless above (calls_value (plain_calls calls.new)), left self.now.text.now at.new)) result
+        ensures read { GivesUnless NoMemory (λ above. (placeless above (sets_value call (plain_sets sets.new)), left self.now.text.now at.new)) result
             (sets_read self.now.text.now self.now.whole.now.net.now (plain_names self.now.known.now) call (left self.now.text.now at.old)) }
         ensures stands { StandsIn self.now.text.now at.new }
         ensures fewer { length (left self.now.text.now at.new) ≤ length (left self.now.text.now at.old) }
@@ -125,8 +118,8 @@ impl Reader<'_> {
         passed(Symbol::RoundOpen, self.text, at)?;
         let set = self.set(at)?;
         let above = above(at);
-        calls.take(call, set)?;
-        self.more_calls(call, calls, at)?;
+        sets.take(set)?;
+        self.more_sets(sets, at)?;
         passed(Symbol::RoundClose, self.text, at)?;
         Ok(above)
     }
@@ -144,12 +137,12 @@ impl Reader<'_> {
         ensures stands { StandsIn self.now.text.now at.new }
         ensures fewer { length (left self.now.text.now at.new) ≤ length (left self.now.text.now at.old) }
     {
-        let mut calls = CallsRead::none(self.alloc);
-        let above = self.ranked_calls(call, &mut calls, at)?;
+        let mut sets = SetsRead::none(self.alloc);
+        let above = self.ranked_sets(call, &mut sets, at)?;
         parts.take_call(CallRead {
             above,
             places: Ok(()),
-            value: calls.value(),
+            value: sets.value(call),
         })
     }
 }

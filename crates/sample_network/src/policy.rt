@@ -79,10 +79,8 @@ fn ranked_exits(alloc: Global, leaves: u16) -> Result<Ranked, NoMemory>
     requires { leaves ≤ 96 }
     ensures { IfOk result (λ r. ranking_of r ≡ exits leaves) }
 {
-    let first = Call::Of(SetCall::Exit, alone(leaves + SPINES));
-    let second = Call::Of(SetCall::Exit, alone(leaves + SPINES + 1));
-    let calls = vec![in alloc; first, second]?;
-    Ok(Ranked::Calls(List::from_vec(calls)))
+    let sets = vec![in alloc; alone(leaves + SPINES), alone(leaves + SPINES + 1)]?;
+    Ok(Ranked::Calls(SetCall::Exit, List::from_vec(sets)))
 }
 
 // The statement for the leaves' prefixes.

@@ -1,12 +1,22 @@
 use Rattle.std.proofs.Common.{◌≡◌, ap, length, map, subst, sym, true, ◌∙◌}
 use Rattle.std.proofs.lemmas.Result.{IfOk-weaker}
-use Rattle.policy_base.proofs.RankingViews.{ranking_of-Prefer, ranking_of-Or, ranking_of-And, ranking_of-Not}
-use Rattle.path_exprs.specs.Forward.{expressions}
+use Rattle.policy_base.proofs.RankingViews.{ranking_of-Calls, ranking_of-Prefer, ranking_of-Or, ranking_of-And, ranking_of-Not}
+use Rattle.policy_base.specs.declared.call.Call.TheVariants.{Of}
+use Rattle.path_exprs.specs.Forward.{expressions, forward}
 use Rattle.path_exprs.specs.Parts.{are_known, at, Puts}
 use Rattle.path_exprs.specs.Shared.{values}
 use Rattle.constraint_expand.proofs.Sides.{first-known, none-put, of, pairs-put, sides, some-put}
 use Rattle.constraint_expand.proofs.Turns.{pairs}
 use Rattle.constraint_expand.proofs.ranked.+expressions_in_order.Goals as goal
+
+pub returns-in-Calls : goal.returns-in-Calls
+returns-in-Calls t c =
+    let net = c.args.net.now in
+    let is = ap (of net) c.in-Calls.is ∙ ap (expressions net) (ranking_of-Calls c.in-Calls.call c.in-Calls.sets) in
+    IfOk-weaker c.forward_each.result _ _
+    (λ r q. subst (Puts (values c.args.parts.now) (values c.forward_each.new.parts) r.items) (sym is)
+    (subst (λ sets. Puts (values c.args.parts.now) (values c.forward_each.new.parts) r.items (map (forward net) (map (Of c.in-Calls.call) sets))) c.as_slice.ensures q))
+    c.forward_each.ensures
 
 pub returns-in_ok-append-in-Prefer : goal.returns-in_ok-append-in-Prefer
 returns-in_ok-append-in-Prefer t c =
