@@ -1,8 +1,9 @@
 -- Offers as far as the loops have come.
-use Rattle.std.proofs.Common.{◌≡◌, ◌≢◌, ℕ, ◌+◌, ◌<◌, ◌≤◌, Bool, true, false, List, [], length, get_or, set, take, eqb, get_or-set_same, get_or-set_other, length-set}
+use Rattle.std.proofs.Common.{◌≡◌, ◌≢◌, ℕ, ◌+◌, ◌<◌, ◌≤◌, Bool, true, false, List, [], length, get_or, replicate, set, take, eqb, get_or-set_same, get_or-set_other, length-set}
 use Rattle.std.proofs.Common.{Option, Some, None, refl, sym, ap, ◌∙◌, subst, inl, inr, ◌⊎◌, arith, ltb-true, ltb-false}
 use Rattle.std.specs.Prelude.{◌&&◌, ◌||◌}
 use Rattle.std.proofs.lemmas.Bool.{and_from, and_parts, cases_eq, eqb-true, eq-eqb, or_cases, or_left, or_right, false≢true}
+use Rattle.std.proofs.lemmas.List.{length-replicate}
 use Rattle.std.proofs.lemmas.List.Folds.{list_any_more}
 use Rattle.std.proofs.Math.Bool.{or-false}
 use Rattle.net_base.specs.Network.{PlainNet, id_of}
@@ -13,6 +14,7 @@ use Rattle.graph_settling.specs.declared.offers.Offer.{Offer}
 use Rattle.graph_base.specs.Preferences.{number_in}
 use Rattle.graph_settling.specs.Best.{entry_at}
 use Rattle.graph_settling.specs.Offers.{AreLowest, AreOfNodes, IsLowest, IsLowestOrNone, is_lower}
+use Rattle.graph_settling.proofs.Tables.{no_entry}
 
 abbrev pub more : (ℕ → ℕ → Bool) → ℕ → ℕ → ℕ → ℕ → Bool
 more passes from to f t = passes f t || (eqb from f && eqb to t)
@@ -169,3 +171,14 @@ of_nodes_there g offers at from to low node are l o is = elim (cases_eq l at) [
       subst (λ (x : Offer). x.from < length g.nodes) same node)
   | inr there ↦ are l o (sym (get_or-set_other offers at l (Some (record { from = from; to = to })) None there) ∙ is)
 ]
+
+-- a table without offers has the lowest ones where no step passes
+pub lowest_first : (net : PlainNet) (g : PlainGraph) (numbers : List ℕ) (wanted : List (Option ℕ)) (passes : ℕ → ℕ → Bool) (count : ℕ) (offers : List (Option Offer))
+    → count ≡ 768 → offers ≡ replicate count None → ((f t : ℕ) → passes f t ≡ true → ⊥) → AreLowest net g numbers wanted passes offers
+lowest_first net g numbers wanted passes count offers all empty none = record {
+  size = ap length empty ∙ length-replicate {A = Option Offer} count None ∙ all;
+  each = λ l low. subst (IsLowestOrNone net g numbers wanted passes l) (sym (no_entry offers count empty l)) (λ f t step place number. none f t step);
+}
+
+pub of_nodes_first : (g : PlainGraph) (count : ℕ) (offers : List (Option Offer)) → offers ≡ replicate count None → AreOfNodes g offers
+of_nodes_first g count offers empty l o is = let clash : None ≡ Some o = sym (no_entry offers count empty l) ∙ is in absurd (cc)

@@ -1,8 +1,8 @@
 -- Where no two nodes are joined, paths with fewer places than the graph has nodes tell them apart: as long as longer paths tell
 -- more nodes apart there are more classes for each place, and there are at most as many as nodes.
-use Rattle.std.proofs.Common.{◌≡◌, ◌≢◌, ◌⊎◌, ℕ, zero, suc, ◌<◌, ◌≤◌, Bool, true, false, not, cond, length, refl, sym, ap, ◌∙◌, subst, inl, inr, arith}
+use Rattle.std.proofs.Common.{◌≡◌, ◌≢◌, ◌⊎◌, ℕ, zero, suc, ◌<◌, ◌≤◌, Bool, true, false, not, length, refl, sym, ◌∙◌, subst, inl, inr, arith}
 use Rattle.std.specs.Prelude.{◌&&◌, is_none, is_some}
-use Rattle.std.proofs.lemmas.Bool.{and_from, and_parts, both_ways, cases_Bool, cases_lt, cases_order, false_from_ne_true, not-true, not_from_false}
+use Rattle.std.proofs.lemmas.Bool.{and_from, and_parts, both_ways, cases_Bool, cases_order, false_from_ne_true, not-true, not_from_false}
 use Rattle.list_laws.specs.Counts.{kept_below}
 use Rattle.list_laws.proofs.Kept.{kept_below-less, kept_below-one_more}
 use Rattle.list_laws.proofs.Options.{cases_Option, is_none_from, is_none_parts, is_some_from, is_some_parts, none_or_some}

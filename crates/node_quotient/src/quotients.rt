@@ -61,8 +61,8 @@ fn led_to_least(alloc: Global, graph: &Graph, least: &[u32]) -> Result<Graph, No
     requires least { AreLeast graph.now (class_in least.now) }
     ensures { IfOk result (IsQuotient graph.now) }
 {
-    let led = graph_led(alloc, graph, least)?;
     let marks = are_least(alloc, least)?;
+    let led = graph_led(alloc, graph, least)?;
     kept(alloc, &led, &marks)
 }
 

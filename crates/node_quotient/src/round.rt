@@ -19,13 +19,14 @@ pub fn next_round(alloc: Global, lists: &[NodeList], least: &[u32]) -> Result<Ve
     let mut next = Vec::new(alloc);
     for node in 0..least.len() {
         let class = least[node] as usize;
-        match first_alike(founders[class].as_slice(), lists, least, node as u32) {
-            Some(first) => next.push(first)?,
+        let first = match first_alike(founders[class].as_slice(), lists, least, node as u32) {
+            Some(first) => first,
             None => {
                 founders[class].push(node as u32)?;
-                next.push(node as u32)?;
+                node as u32
             }
-        }
+        };
+        next.push(first)?;
     }
     Ok(next)
 }

@@ -1,6 +1,8 @@
 -- The numbers of the nodes that are kept close up.
-use Rattle.std.proofs.Common.{◌≡◌, ℕ, ◌+◌, ◌<◌, Bool, List, [], ◌∷◌, length, map, Option, refl, ap, inl, inr, arith, suc, cond, add-one}
-use Rattle.std.proofs.lemmas.Bool.{cases_Bool, cond-false, cond-true}
+use Rattle.std.proofs.Common.{◌≡◌, ℕ, ◌+◌, ◌<◌, Bool, List, [], ◌∷◌, ◌++◌, length, map, Option, None, refl, sym, ap, ◌∙◌, inl, inr, arith, suc, cond, add-one}
+use Rattle.std.proofs.lemmas.Bool.{cases_Bool, cases_lt, cond-false, cond-true}
+use Rattle.std.proofs.lemmas.List.{get_or_push}
+use Rattle.std.proofs.Math.ListN.{get_or-append}
 use Rattle.std.specs.List.{AllByRecursion, filter, filter_map}
 use Rattle.graph_base.specs.declared.graph.Node.{Node}
 use Rattle.graph_base.specs.Graphs.{PlainGraph, IsGraph}
@@ -79,3 +81,14 @@ pub graph_kept_of : (keep : ℕ → Bool) (g : PlainGraph) (numbers : List (Opti
     nodes ≡ nodes_kept keep 0 g.nodes → starts ≡ filter_map (number_in numbers) g.starts → steps ≡ filter_map (step_in numbers) g.steps
     → graph_kept keep g ≡ record { nodes = nodes; starts = starts; steps = steps }
 graph_kept_of keep g numbers nodes starts steps same n s t = rw (n, s, t, starts_renumbered keep numbers same g.starts, steps_renumbered keep numbers same g.steps) refl
+
+-- the number of one more node is pushed
+pub numbers_more : (keep : ℕ → Bool) (numbers : List (Option ℕ)) (i : ℕ) (next : Option ℕ) → length numbers ≡ i
+    → ((n : ℕ) → n < i → number_in numbers n ≡ number_kept keep n) → next ≡ number_kept keep i
+    → (n : ℕ) → n < i + 1 → number_in (numbers ++ next ∷ []) n ≡ number_kept keep n
+numbers_more keep numbers i next size before is n lt = elim (cases_lt n i) [
+  | inl low ↦ get_or-append numbers (next ∷ []) None n (omega (arith, low, size)) ∙ before n low
+  | inr past ↦ (
+      let same : n ≡ i = omega (arith, lt, past) in
+      get_or_push numbers next None n (omega (arith, same, size)) ∙ is ∙ ap (number_kept keep) (sym same))
+]

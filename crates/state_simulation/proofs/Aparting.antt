@@ -1,6 +1,7 @@
 -- Where no two nodes stand at one location, each stands as high as itself alone.
-use Rattle.std.proofs.Common.{◌≡◌, ℕ, ◌<◌, true, eqb, length, refl, sym, ◌∙◌, subst}
-use Rattle.std.proofs.lemmas.Bool.{and_from, and_parts, eq-eqb, or_left}
+use Rattle.std.proofs.Common.{◌≡◌, ℕ, ◌+◌, ◌<◌, Bool, true, false, eqb, List, length, get_or, set, arith, refl, sym, ap, ◌∙◌, subst, inl, inr}
+use Rattle.std.proofs.lemmas.Bool.{and_from, and_parts, both_ways, cases_eq, eq-eqb, or_left}
+use Rattle.std.proofs.lemmas.List.{get_or-set_other, get_or-set_same}
 use Rattle.bit_rows.specs.Tables.{PlainRows, has_at}
 use Rattle.graph_base.specs.Graphs.{PlainGraph}
 use Rattle.net_base.specs.declared.loc.LocSet.{LocSet}
@@ -49,3 +50,43 @@ own_greatest g claimed rows apart are = record {
 -- and it has a direction of each two nodes at one location
 pub own_bound : (g : PlainGraph) (rows : PlainRows) → StandApart g → AreOwn (length g.nodes) rows → AreBound g rows
 own_bound g rows apart are m n lm ln place = or_left _ _ (subst (λ z. has_at rows n z ≡ true) (sym (apart m n lm ln place)) (own (length g.nodes) n rows are ln))
+
+-- the locations of the nodes before one are marked, and no others, and that one's is marked too
+module _ (place : ℕ → ℕ) (met : List Bool) (i : ℕ) (inside : place i < length met) where
+  marked_here : (p : ℕ) → p ≡ place i → get_or (set met (place i) true) p false ≡ true
+  marked_here p e = ap (λ k. get_or (set met (place i) true) k false) e ∙ get_or-set_same met (place i) true false inside
+
+  marked_there : (p : ℕ) → (p ≡ place i → ⊥) → get_or (set met (place i) true) p false ≡ get_or met p false
+  marked_there p ne = get_or-set_other met (place i) p true false ne
+
+  pub marked_more : ((n : ℕ) → n < i → get_or met (place n) false ≡ true) → (n : ℕ) → n < i + 1 → get_or (set met (place i) true) (place n) false ≡ true
+  marked_more before n lt = elim (cases_eq (place n) (place i)) [
+    | inl e ↦ marked_here (place n) e
+    | inr ne ↦ marked_there (place n) ne ∙ before n (earlier n lt (λ e. ne (ap place e)))
+  ]
+    where
+      earlier : (n : ℕ) → n < i + 1 → (n ≡ i → ⊥) → n < i
+      earlier n lt ne = omega arith
+
+  pub only_more : ((p : ℕ) → get_or met p false ≡ true → (n : ℕ) × (n < i) × (place n ≡ p))
+      → (p : ℕ) → get_or (set met (place i) true) p false ≡ true → (n : ℕ) × (n < i + 1) × (place n ≡ p)
+  only_more before p h = elim (cases_eq p (place i)) [
+    | inl e ↦ (i, omega arith, sym e)
+    | inr ne ↦ (let x = before p (sym (marked_there p ne) ∙ h) in (x.0, omega (arith, x.1), x.2))
+  ]
+
+  pub apart_more : get_or met (place i) false ≡ false → ((n : ℕ) → n < i → get_or met (place n) false ≡ true)
+      → ((m n : ℕ) → m < i → n < i → place m ≡ place n → m ≡ n) → (m n : ℕ) → m < i + 1 → n < i + 1 → place m ≡ place n → m ≡ n
+  apart_more none before apart m n lm ln same = elim (cases_eq m i) [
+    | inl em ↦ elim (cases_eq n i) [
+      | inl en ↦ em ∙ sym en
+      | inr nn ↦ absurd (taken n (omega arith) (sym same ∙ ap place em))
+    ]
+    | inr nm ↦ elim (cases_eq n i) [
+      | inl en ↦ absurd (taken m (omega arith) (same ∙ ap place en))
+      | inr nn ↦ apart m n (omega arith) (omega arith) same
+    ]
+  ]
+    where
+      taken : (k : ℕ) → k < i → place k ≡ place i → ⊥
+      taken k lt e = both_ways _ none (ap (λ p. get_or met p false) (sym e) ∙ before k lt)

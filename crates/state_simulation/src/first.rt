@@ -9,6 +9,7 @@ ghost use Rattle.state_simulation.specs.Stages.{AreAt, AreBound, AreFirst, AreSi
 use crate::copies::copied;
 use crate::maps::Maps;
 use crate::rounds::Rounds;
+use bit_rows::Rows;
 use graph_base::Graph;
 use net_base::LocSet;
 use outside::NoMemory;
@@ -65,6 +66,13 @@ impl<'a> FirstRound<'a> {
             return Ok(true);
         }
         find_rest(alloc, &self.maps, claimed, &mut self.rounds)
+    }
+
+    /// What the rounds left.
+    pub(crate) fn into_left(self) -> Rows
+        ensures { result ≡ self.entry.rounds.left }
+    {
+        self.rounds.into_left()
     }
 }
 

@@ -16,6 +16,7 @@ mod simulation;
 mod table;
 mod taking;
 
+pub use apart::stand_apart;
 pub use first::FirstRound;
 pub use laws::evidence_needs_a_total_relation;
 pub use located::located_rows;

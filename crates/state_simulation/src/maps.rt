@@ -1,6 +1,7 @@
 //! A graph's nodes as they are looked up.
 ghost use Rattle.std.specs.Prelude.{◌≡◌, ◌<◌, ◌≤◌, ◌&&◌, ◌==◌, All, ℕ, IfOk, length, nat_lt};
 ghost use Rattle.graph_base.specs.Runs.{has_step, place_of};
+ghost use Rattle.reach_prune.specs.Searches.{is_listed};
 ghost use Rattle.relation_law.specs.Rounds.{is_in};
 ghost use Rattle.state_simulation.specs.Looked.{AreMaps, IsOrder};
 
@@ -32,13 +33,12 @@ impl<'a> Maps<'a> {
     pub fn new(alloc: Global, graph: &'a Graph) -> Result<Maps<'a>, NoMemory>
         ensures { IfOk result (λ maps. maps.graph.now ≡ graph.now) }
     {
-        let placed = placed_nodes(alloc, graph)?;
         Ok(Maps {
             graph,
+            order: by_location(alloc, graph)?,
             successors: neighbours(alloc, graph, Way::Forward)?,
             before: neighbours(alloc, graph, Way::Backward)?,
-            peers: grouped(alloc, location_count(graph) as usize, &placed)?,
-            order: by_location(alloc, graph)?,
+            peers: nodes_by_place(alloc, graph)?,
         })
     }
 
@@ -98,6 +98,16 @@ pub fn location_count(graph: &Graph) -> u32
         }
     }
     count
+}
+
+/// The nodes of each location.
+fn nodes_by_place(alloc: Global, graph: &Graph) -> Result<Vec<NodeList>, AllocError>
+    ensures located { IfOk result (λ peers. (n : ℕ) → n < length graph.now.nodes → place_of graph.now n < length peers.items) }
+    ensures placed { IfOk result (λ peers. (p n : ℕ) → is_listed peers.items p n ≡ (nat_lt n (length graph.now.nodes) && place_of graph.now n == p)) }
+{
+    let placed = placed_nodes(alloc, graph)?;
+    let peers = grouped(alloc, location_count(graph) as usize, &placed)?;
+    Ok(peers)
 }
 
 /// Each node's location and the node.

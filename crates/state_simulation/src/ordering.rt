@@ -13,8 +13,16 @@ pub fn by_location(alloc: Global, graph: &Graph) -> Result<Vec<u32>, AllocError>
 {
     let mut keyed = keyed_nodes(alloc, graph)?;
     keyed.sort_unstable();
+    let order = nodes_of(alloc, &keyed)?;
+    Ok(order)
+}
+
+/// The nodes of a list in which each stands with its location and rank.
+fn nodes_of(alloc: Global, keyed: &[(Loc, Option<u32>, u32)]) -> Result<Vec<u32>, AllocError>
+    ensures { IfOk result (λ order. (n : ℕ) → is_among order.items n ≡ is_keyed keyed.now n) }
+{
     let mut order = Vec::new(alloc);
-    for (_, _, node) in &keyed {
+    for (_, _, node) in keyed {
         order.push(*node)?;
     }
     Ok(order)

@@ -110,6 +110,13 @@ impl Rounds {
         self.touched = touched;
     }
 
+    /// What the rounds left.
+    pub(crate) fn into_left(self) -> Rows
+        ensures { result ≡ self.left }
+    {
+        self.left
+    }
+
     /// Whether some node of a touched row and another at its location are each not in the row of the other.
     pub fn is_open(&self, maps: &Maps) -> bool
         requires { AreSized maps.now.graph.now self.now }
@@ -165,5 +172,5 @@ pub fn all_rounds(alloc: Global, maps: &Maps, claimed: &LocSet) -> Result<Rows, 
     'rounds: while changed {
         changed = rounds.advance(maps);
     }
-    Ok(rounds.left)
+    Ok(rounds.into_left())
 }

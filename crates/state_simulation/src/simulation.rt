@@ -2,10 +2,11 @@
 ghost use Rattle.std.specs.Prelude.{◌≡◌, ℕ, Bool, IfOk, map};
 ghost use Rattle.reach_prune.specs.Reachable.{IsReachOf, can_reach};
 ghost use Rattle.relation_law.specs.Relations.{IsClosed, IsTotal};
+ghost use Rattle.relation_law.specs.Rounds.{IsReach, IsSettled};
 ghost use Rattle.relation_law.specs.Views.{view_of};
 ghost use Rattle.state_simulation.specs.Found.{IfPartial, IfTotal, IsFirstRound};
 ghost use Rattle.state_simulation.specs.Held.{HasEach, IsLeftByRounds, IsRelationOf};
-ghost use Rattle.state_simulation.specs.Targets.{AreNodeRows};
+ghost use Rattle.state_simulation.specs.Targets.{AreLeft, AreNodeRows};
 
 use crate::apart::{own_rows, stand_apart};
 use crate::first::FirstRound;
@@ -32,10 +33,19 @@ pub fn relation(
     ensures claimed { IfOk result (λ r. r.claimed ≡ claimed.now) }
     ensures rounds { IfOk result (IsLeftByRounds graph.now (can_reach reach.now)) }
 {
-    let maps = Maps::new(alloc, graph)?;
-    let rows = all_rounds(alloc, &maps, claimed)?;
+    let rows = rows_left(alloc, graph, claimed)?;
     let relation = held(alloc, graph, claimed, rows)?;
     Ok(relation)
+}
+
+/// For each node of the graph the nodes that the rounds leave above it.
+fn rows_left(alloc: Global, graph: &Graph, claimed: &LocSet) -> Result<Rows, NoMemory>
+    ensures rows { IfOk result (AreNodeRows graph.now) }
+    ensures rounds { IfOk result (λ left. (reach : ℕ → ℕ → Bool) → IsReach (view_of graph.now claimed.now) reach
+        → (rounds : ℕ) × IsSettled (view_of graph.now claimed.now) reach rounds × AreLeft (view_of graph.now claimed.now) reach rounds left) }
+{
+    let maps = Maps::new(alloc, graph)?;
+    all_rounds(alloc, &maps, claimed)
 }
 
 /// What the search for a relation that has a direction of each two nodes at one location finds.
@@ -85,8 +95,7 @@ fn search_rounds<'a>(
     if !is_total {
         return Ok(Search::Partial(first));
     }
-    let rounds = first.rounds;
-    let relation = held(alloc, graph, claimed, rounds.left)?;
+    let relation = held(alloc, graph, claimed, first.into_left())?;
     Ok(Search::Total(relation))
 }
 

@@ -1,6 +1,10 @@
-use Rattle.std.proofs.Common.{◌≡◌, None, Option, replicate, ap, ◌∙◌, arith}
+use Rattle.std.proofs.Common.{◌≡◌, ◌∷◌, [], ◌++◌, List, None, Option, replicate, ap, ◌∙◌, arith}
+use Rattle.std.proofs.lemmas.List.{replicate_more}
 use Rattle.graph_settling.specs.declared.settled.Settled.{Settled}
 use Rattle.graph_settling.proofs.fronts.no_routes.Goals as goal
+
+pub loop-preserved : goal.loop-preserved
+loop-preserved c = c.in_ok-push.ensures.items ∙ ap (λ (l : List (Option Settled)). l ++ None ∷ []) c.loop.invariant ∙ replicate_more c.loop.counter None
 
 pub returns : goal.returns
 returns c =

@@ -1,4 +1,5 @@
 use Rattle.std.proofs.Common.{◌≡◌, [], List, get_or, eqb, eq-eqb, eqb-true, vec_len, sym, ap, ◌∙◌, subst, refl, arith, ℕ}
+use Rattle.std.proofs.lemmas.Bool.{eqb-false}
 use Rattle.std.proofs.lemmas.List.{nil_from_length}
 use Rattle.std.proofs.lemmas.List.Folds.{list_any_at}
 use Rattle.reach_prune.specs.Searches.{is_among}
@@ -28,6 +29,11 @@ settle_offers-requires-clause-fit c =
     subst (AreFit c.args.graph.now c.fronts.wanted.items) (sym c.deref-in-fronts-3.ensures.value)
     (all_fit c.args.net.now c.args.graph.now c.args.numbers.now c.args.choosers.now c.in_ok-lists.lists.items c.in_ok-lists.ensures.lists c.in_ok-lists.ensures.size c.in_ok-lists.ensures.steps
     c.fronts.routes.items c.fronts.wanted.items c.fronts.front.items c.fronts.invariant c.in_ok-offers.offers.items lowest)
+
+pub fronts-smaller : goal.fronts-smaller
+fronts-smaller c =
+    let some = eqb-false (vec_len c.fronts.front) 0 (sym c.is_empty.ensures ∙ c.fronts-test.true) in
+    omega (arith, some, c.fronts.front.ok.0, c.in_ok-front-2.ensures.round.fewer)
 
 pub fronts-preserved : goal.fronts-preserved
 fronts-preserved c =

@@ -1,12 +1,17 @@
 use Rattle.std.proofs.Common.{◌≡◌, ◌++◌, ◌∷◌, [], None, Some, set, refl, arith}
 use Rattle.graph_settling.specs.Best.{entry_at}
 use Rattle.graph_settling.specs.Rounds.{taken}
-use Rattle.graph_settling.proofs.Taking.{so_far_all, so_far_none, so_far_taken}
+use Rattle.graph_settling.proofs.Taking.{so_far_all, so_far_first, so_far_none, so_far_taken}
 use Rattle.graph_settling.proofs.fronts.settle_offers.Goals as goal
 use Rattle.graph_settling.proofs.fronts.settle_offers.Goals.{in-Some+in_ok-routes+in_ok-push, in_default}
 
 pub take-requires-clause-from : goal.take-requires-clause-from
 take-requires-clause-from c = (c.requires.fit c.loop-place.place c.in-Some.offer c.in-Some.is).from
+
+pub loop-place-init : goal.loop-place-init
+loop-place-init c =
+    rw c.new-front.ensures.items
+    (so_far_first c.args.graph.now c.args.offers.now c.args.routes.now.items c.args.wanted.now.items c.requires.offers c.requires.fit c.requires.routes c.requires.wanted)
 
 pub loop-place-preserved : goal.loop-place-preserved
 loop-place-preserved c =

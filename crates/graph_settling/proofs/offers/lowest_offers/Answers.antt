@@ -1,9 +1,18 @@
-use Rattle.std.proofs.Common.{◌<◌, [], length, take, take_all, get_or, ◌∙◌, subst, refl, arith, List, ℕ}
+use Rattle.std.proofs.Common.{rules, ◌≡◌, ◌<◌, [], length, None, replicate, take, take_all, get_or, ◌∙◌, subst, refl, arith, List, ℕ}
+use Rattle.std.proofs.lemmas.Bool.{false≢true}
 use Rattle.std.proofs.lemmas.List.{get_or_read}
 use Rattle.reach_prune.proofs.Visiting.{listed_below}
 use Rattle.graph_settling.specs.Offers.{AreLowest}
-use Rattle.graph_settling.proofs.Lowest.{along, along_next}
+use Rattle.graph_settling.proofs.Lowest.{along, along_next, lowest_first, of_nodes_first}
 use Rattle.graph_settling.proofs.offers.lowest_offers.Goals as goal
+
+pub loop-node-init : goal.loop-node-init
+loop-node-init c =
+    let g = c.args.graph.now in
+    let offers = c.in_ok-offers.offers.items in
+    let empty : offers ≡ replicate 768 None = c.in_ok-offers.ensures.items_if_clones_equal (λ y h. search rules) in
+    let lowest = lowest_first c.args.net.now g c.args.numbers.now c.args.wanted.now (along [] c.args.lists.now) 768 offers refl empty (λ f t h. false≢true h) in
+    record { size = lowest.size; nodes = of_nodes_first g 768 offers empty; lowest = lowest }
 
 pub visit_each-requires-clause-to : goal.visit_each-requires-clause-to
 visit_each-requires-clause-to c = λ k d less.

@@ -4,7 +4,7 @@ use Rattle.graph_base.specs.Runs.{place_of}
 use Rattle.graph_base.specs.Preferences.{number_in}
 use Rattle.graph_settling.specs.Best.{entry_at}
 use Rattle.graph_settling.specs.Offers.{AreLowest, is_lower}
-use Rattle.graph_settling.proofs.Lowest.{lowest_kept, lowest_there, more}
+use Rattle.graph_settling.proofs.Lowest.{lowest_kept, lowest_there, more, of_nodes_there}
 use Rattle.graph_settling.proofs.Tables.{entry_read, number_read, place_low}
 use Rattle.graph_settling.proofs.offers.visit.Goals as goal
 use Rattle.graph_settling.proofs.offers.visit.Goals.{else-waits_for-via-then-waits_for+else-comes_before, else-waits_for-via-else-waits_for}
@@ -14,6 +14,13 @@ comes_before-requires-clause-offer c = λ o e.
     let low = place_low c.args.graph.now c.args.step.to c.requires.places c.requires.to in
     let read = entry_read c.args.offers.now.items c.number-at.result c.index.result.now (omega (arith, low, c.number-at.ensures, c.location.ensures, c.requires.size)) c.index.ensures in
     c.requires.nodes c.number-at.result o (sym read ∙ e)
+
+pub returns-then-comes_before-clause-nodes : goal.returns-then-comes_before-clause-nodes
+returns-then-comes_before-clause-nodes c =
+    let g = c.args.graph.now in
+    let low = place_low g c.args.step.to c.requires.places c.requires.to in
+    of_nodes_there g c.args.offers.now.items c.number-at.result c.args.step.from c.args.step.to (omega (arith, low, c.number-at.ensures, c.location.ensures, c.requires.size))
+    c.requires.from c.requires.nodes
 
 pub returns-then-comes_before-clause-lowest : goal.returns-then-comes_before-clause-lowest
 returns-then-comes_before-clause-lowest c = λ passes are.

@@ -18,6 +18,11 @@ never_looped v gone m t =
     none_below v.size (λ k. same_place v k t && (false && gone k t))
     (λ k lt e. let no : false ≡ true = (and_parts (same_place v k t) (false && gone k t) e).1 in both_ways false refl no)
 
+pub returns-then-have_one_mask-clause-bits : goal.returns-then-have_one_mask-clause-bits
+returns-then-have_one_mask-clause-bits c = λ m lm.
+    let was = rw c.in-Some.is at c.requires.mask in
+    was m lm ∙ ap not (c.have_one_mask.ensures c.if-have_one_mask.true (tells c.args.onwards.now) m)
+
 pub returns-in-Some-onwards-clause-bits : goal.returns-in-Some-onwards-clause-bits
 returns-in-Some-onwards-clause-bits c = λ m lm.
     let g = c.args.maps.now.graph.now in

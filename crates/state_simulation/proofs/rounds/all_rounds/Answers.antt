@@ -27,3 +27,6 @@ rounds-preserved c =
           let knows = knows_exact g c.args.claimed.now reach before.0 c.rounds.rounds inv.onwards.0 exact inv.sized inv.onwards.1 in
           (suc before.0, next.next c.args.claimed.now reach before.0 knows before.1, λ e. (let done = next.settled e c.args.claimed.now reach before.0 knows before.1 in (before.0, done.0, done.1)));
     }
+
+pub returns-clause-rounds : goal.returns-clause-rounds
+returns-clause-rounds c = λ reach exact. rw c.into_left.ensures ((c.rounds.invariant.at reach exact).2 c.rounds-test.false)

@@ -32,12 +32,12 @@ returns-then-not-is_total-clause-partial c =
     (c.in_ok-is_total.ensures.partial c.if-not-is_total.true)
 
 pub held-requires : goal.held-requires
-held-requires c = subst (λ (z : PlainGraph). AreNodeRows z c.find_total.new.self.rounds.left) c.in_ok-first.ensures.first.graph c.in_ok-is_total.ensures.sized.left
+held-requires c = rw c.into_left.ensures (subst (λ (z : PlainGraph). AreNodeRows z c.find_total.new.self.rounds.left) c.in_ok-first.ensures.first.graph c.in_ok-is_total.ensures.sized.left)
 
 pub returns-clause-relation : goal.returns-clause-relation
 returns-clause-relation c =
     made_relation c.in_ok-first.first.maps.graph.now c.args.graph.now c.args.claimed.now c.in_ok-relation.relation c.find_total.new.self.rounds.left
-    c.in_ok-first.ensures.first.graph c.in_ok-relation.ensures (c.in_ok-is_total.ensures.greatest c.if-not-is_total.false)
+    c.in_ok-first.ensures.first.graph (rw c.into_left.ensures at c.in_ok-relation.ensures) (c.in_ok-is_total.ensures.greatest c.if-not-is_total.false)
 
 pub returns-clause-claimed : goal.returns-clause-claimed
 returns-clause-claimed c = ap (λ (r : PlainRelation). r.claimed) c.in_ok-relation.ensures
@@ -45,4 +45,4 @@ returns-clause-claimed c = ap (λ (r : PlainRelation). r.claimed) c.in_ok-relati
 pub returns-clause-total : goal.returns-clause-total
 returns-clause-total c =
     made_total c.in_ok-first.first.maps.graph.now c.args.graph.now c.args.claimed.now c.in_ok-relation.relation c.find_total.new.self.rounds.left
-    c.in_ok-first.ensures.first.graph c.in_ok-relation.ensures (c.in_ok-is_total.ensures.bound c.if-not-is_total.false)
+    c.in_ok-first.ensures.first.graph (rw c.into_left.ensures at c.in_ok-relation.ensures) (c.in_ok-is_total.ensures.bound c.if-not-is_total.false)
