@@ -8,4 +8,4 @@ mod faults;
 mod parted;
 mod refuting;
 
-pub use refuting::{refutation, refute};
+pub use refuting::refutation;
