@@ -1,7 +1,9 @@
 -- Numbers that are no greater than others, where they are there.
-use Rattle.std.proofs.Common.{◌≡◌, ◌↔◌, ℕ, ◌≤◌, true, false, leb, ltb, Option, Some, None, refl, sym, ap, ◌∙◌, arith, IsTrue, le-leb, leb-true, ltb-true, ltb-false}
+use Rattle.std.proofs.Common.{◌≡◌, ◌↔◌, ◌||◌, ℕ, ◌<◌, ◌≤◌, Bool, true, false, cond, eqb, leb, ltb, List, length, get_or, set, Option, Some, None, refl, sym, ap, subst}
+use Rattle.std.proofs.Common.{◌∙◌, arith, IsTrue, le-leb, leb-true, ltb-true, ltb-false, get_or-set_same, get_or-set_other}
 use Rattle.std.specs.Option.{is_some}
-use Rattle.std.proofs.lemmas.Bool.{false_from_ne_true, false≢true}
+use Rattle.std.proofs.lemmas.Bool.{eqb-true, eqb-false, false_from_ne_true, false≢true}
+use Rattle.std.proofs.lemmas.List.{get_or_past}
 use Rattle.preference_check.specs.Rows.{is_upto}
 
 -- what is no greater than a number is no greater than a greater one
@@ -32,3 +34,30 @@ not_less o low number is = (
   λ h v up. omega (arith, ltb-false low number h, leb-true low v (sym (ap (λ x. is_upto x v) is) ∙ up)),
   λ h. false_from_ne_true _ (λ t. let le = h low (ap (λ x. is_upto x low) is ∙ le-leb low low (omega arith)) in absurd (omega (arith, ltb-true low number t, le))),
 )
+
+-- what holds of the first of a list's elements and of the next one
+pub one_more : {Q : Type 0} → (before here : Bool) → (before ≡ true → Q) → (here ≡ true → Q) → (before || here) ≡ true → Q
+one_more true here first next t = first refl
+one_more false here first next t = next t
+
+-- a place that is taken out now, and others that were before
+pub out_more : (before here : Bool) (new old : Option ℕ) → new ≡ cond here None old → (before ≡ true → old ≡ None) → (before || here) ≡ true → new ≡ None
+out_more before true new old is first t = is
+out_more true false new old is first t = is ∙ first refl
+out_more false false new old is first t = absurd (false≢true t)
+
+-- a place that is kept now and was before
+pub kept_more : (before here : Bool) (new old start : Option ℕ) → new ≡ cond here None old → (before ≡ false → old ≡ start) → (before || here) ≡ false → new ≡ start
+kept_more false false new old start is first t = is ∙ first refl
+kept_more false true new old start is first t = absurd (false≢true (sym t))
+kept_more true here new old start is first t = absurd (false≢true (sym t))
+
+-- a row without the number at a place
+pub number_out : (row : List (Option ℕ)) (place p : ℕ) (here : Bool) → place < length row → eqb place p ≡ here → get_or (set row place None) p None ≡ cond here None (get_or row p None)
+number_out row place p true within is = subst (λ k. get_or (set row place None) k None ≡ None) (eqb-true place p is) (get_or-set_same row place None None within)
+number_out row place p false within is = get_or-set_other row place p None None (λ e. eqb-false place p is (sym e))
+
+-- a place behind a row has none
+pub none_past : (row : List (Option ℕ)) (place p : ℕ) (here : Bool) → length row ≤ place → eqb place p ≡ here → get_or row p None ≡ cond here None (get_or row p None)
+none_past row place p true past is = get_or_past row p None (omega (arith, past, eqb-true place p is))
+none_past row place p false past is = refl

@@ -40,10 +40,11 @@ fn make_room(least: &mut Vec<Option<u32>>, place: usize) -> Result<(), AllocErro
     ensures same { (p : ℕ) → slice_index_or least.new.items p None ≡ slice_index_or least.old.items p None }
     ensures room { OnOk result (place < vec_len least.new) }
 {
-    'room: while least.len() <= place {
-        least.push(None)?;
+    if place < least.len() {
+        return Ok(());
     }
-    Ok(())
+    let room = place.checked_add(1).ok_or(AllocError)?;
+    least.resize(room, None)
 }
 
 /// Takes the numbers at some places out.
