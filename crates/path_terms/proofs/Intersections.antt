@@ -1,9 +1,9 @@
 -- Members of intersections.
-use Rattle.std.proofs.Common.{◌≡◌, ℕ, true, false, List, [], ◌∷◌, ◌++◌, map, ◌+◌, refl, sym, ap, ◌∙◌, Vec, Global}
+use Rattle.std.proofs.Common.{◌≡◌, ℕ, true, false, List, [], ◌∷◌, ◌++◌, map, refl, sym, ap, ◌∙◌, Vec, Global}
 use Rattle.std.proofs.lemmas.Bool.{true≢false}
 use Rattle.std.proofs.lemmas.List.{append-nil, map-append}
 use Rattle.path_exprs.specs.Expression.{Expression, never, complement}
-use Rattle.path_exprs.specs.Normal.{sorted, all, is_all, both_parts}
+use Rattle.path_exprs.specs.Normal.{sorted, is_all, both_parts}
 use Rattle.path_terms.specs.declared.term.Term.{Term}
 use Rattle.path_terms.specs.declared.term.Term.TheVariants.{Never, Empty, Set, Seq, Either, Both, Not, Star}
 use Rattle.path_terms.specs.Terms.{at, node}

@@ -1,5 +1,5 @@
 use Rattle.std.proofs.Common.{◌≡◌, ℕ, ◌+◌, ◌<◌, Bool, List, [], ◌∷◌, ◌++◌, length, get_or, map, take, sym, ap, ◌∙◌}
-use Rattle.std.proofs.lemmas.List.{map-append, take_more}
+use Rattle.std.proofs.lemmas.List.{map-append, take_all, take_more}
 use Rattle.net_base.specs.declared.loc.LocSet.{LocSet}
 use Rattle.net_base.specs.Sets.{holds}
 use Rattle.path_automata.proofs.classes.signature_of.Goals as goal
@@ -14,3 +14,6 @@ one_more ss i x d old new b lt is q h =
 pub loop-set-preserved : goal.loop-set-preserved
 loop-set-preserved c =
     one_more c.args.sets.now c.loop-set.set-index _ _ _ _ _ c.loop-set-test.true c.holds.ensures c.in_ok-push.ensures.items c.loop-set.invariant
+
+pub returns : goal.returns
+returns c = c.loop-set.invariant ∙ ap (map (λ s. holds s c.args.at)) (take_all c.loop-set.set-index c.args.sets.now c.loop-set-test.false)

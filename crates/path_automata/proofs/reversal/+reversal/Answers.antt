@@ -1,4 +1,4 @@
-use Rattle.std.proofs.Common.{◌≡◌, [], ◌<◌, ◌≤◌, map, length, true, sym, ap, subst, ◌∙◌, arith}
+use Rattle.std.proofs.Common.{◌≡◌, [], ◌<◌, ◌≤◌, map, length, true, refl, sym, ap, subst, ◌∙◌, arith}
 use Rattle.std.proofs.lemmas.List.{append-nil, length-append, take_all}
 use Rattle.std.proofs.lemmas.Result.{IfOk-weaker}
 use Rattle.path_exprs.specs.Normal.{both_of, complement_of, either_of, normal, normal_set, reversed, seq_of, star_of}
@@ -299,3 +299,63 @@ starts-loop-i-init t c =
 pub starts-returns-clause-made : goal.starts-returns-clause-made
 starts-returns-clause-made t c =
     c.loop-i.invariant.made ∙ ap (λ l. start_of c.args.full.now (views l)) (take_all c.loop-i.i c.args.es.now c.loop-i-test.false)
+
+pub reversed_onto-intern-requires : goal.reversed_onto-intern-requires
+reversed_onto-intern-requires t c = record { sound = refl }
+
+pub reversed_onto-intern-requires-in-Not : goal.reversed_onto-intern-requires-in-Not
+reversed_onto-intern-requires-in-Not t c = record { sound = refl }
+
+pub reversed_onto-intern-requires-in-Star : goal.reversed_onto-intern-requires-in-Star
+reversed_onto-intern-requires-in-Star t c = record { sound = refl }
+
+pub reversed_onto-complement_of-requires : goal.reversed_onto-complement_of-requires
+reversed_onto-complement_of-requires t c = record { known = c.in_ok-inner-in-Not.ensures.known }
+
+pub reversed_onto-star_of-requires : goal.reversed_onto-star_of-requires
+reversed_onto-star_of-requires t c = record { known = c.in_ok-inner-in-Star.ensures.known }
+
+pub reversed_onto-returns-in-Never-clause-known : goal.reversed_onto-returns-in-Never-clause-known
+reversed_onto-returns-in-Never-clause-known t c = c.intern.ensures.known
+
+pub reversed_onto-returns-in-Never-clause-extends : goal.reversed_onto-returns-in-Never-clause-extends
+reversed_onto-returns-in-Never-clause-extends t c = c.intern.ensures.extends
+
+pub reversed_onto-returns-in-Empty-clause-known : goal.reversed_onto-returns-in-Empty-clause-known
+reversed_onto-returns-in-Empty-clause-known t c = c.requires.tail
+
+pub reversed_onto-returns-in_err-first-in-Set-clause-extends : goal.reversed_onto-returns-in_err-first-in-Set-clause-extends
+reversed_onto-returns-in_err-first-in-Set-clause-extends t c = c.set_of.ensures.extends
+
+pub reversed_onto-returns-in_err-rest-in-Seq-clause-extends : goal.reversed_onto-returns-in_err-rest-in-Seq-clause-extends
+reversed_onto-returns-in_err-rest-in-Seq-clause-extends t c = c.reversed_onto.ensures.extends
+
+pub reversed_onto-returns-in_err-members-in-Either-clause-extends : goal.reversed_onto-returns-in_err-members-in-Either-clause-extends
+reversed_onto-returns-in_err-members-in-Either-clause-extends t c = c.starts.ensures.extends
+
+pub reversed_onto-returns-in_err-members-in-Both-clause-extends : goal.reversed_onto-returns-in_err-members-in-Both-clause-extends
+reversed_onto-returns-in_err-members-in-Both-clause-extends t c = c.starts-in-Both.ensures.extends
+
+pub reversed_onto-returns-in_err-empty-in-Not-clause-extends : goal.reversed_onto-returns-in_err-empty-in-Not-clause-extends
+reversed_onto-returns-in_err-empty-in-Not-clause-extends t c = c.intern-in-Not.ensures.extends
+
+pub reversed_onto-returns-in_err-empty-in-Star-clause-extends : goal.reversed_onto-returns-in_err-empty-in-Star-clause-extends
+reversed_onto-returns-in_err-empty-in-Star-clause-extends t c = c.intern-in-Star.ensures.extends
+
+pub reversed_onto-returns-in_ok-first-in-Set-clause-known : goal.reversed_onto-returns-in_ok-first-in-Set-clause-known
+reversed_onto-returns-in_ok-first-in-Set-clause-known t c = c.seq_of.ensures.known
+
+pub reversed_onto-returns-in_ok-rest-in-Seq-clause-known : goal.reversed_onto-returns-in_ok-rest-in-Seq-clause-known
+reversed_onto-returns-in_ok-rest-in-Seq-clause-known t c = c.reversed_onto-in-Seq.ensures.known
+
+pub reversed_onto-returns-in_ok-first-in-Either-clause-known : goal.reversed_onto-returns-in_ok-first-in-Either-clause-known
+reversed_onto-returns-in_ok-first-in-Either-clause-known t c = c.seq_of-in-Either.ensures.known
+
+pub reversed_onto-returns-in_ok-first-in-Both-clause-known : goal.reversed_onto-returns-in_ok-first-in-Both-clause-known
+reversed_onto-returns-in_ok-first-in-Both-clause-known t c = c.seq_of-in-Both.ensures.known
+
+pub reversed_onto-returns-in_ok-first-in-Not-clause-known : goal.reversed_onto-returns-in_ok-first-in-Not-clause-known
+reversed_onto-returns-in_ok-first-in-Not-clause-known t c = c.seq_of-in-Not.ensures.known
+
+pub reversed_onto-returns-in_ok-first-in-Star-clause-known : goal.reversed_onto-returns-in_ok-first-in-Star-clause-known
+reversed_onto-returns-in_ok-first-in-Star-clause-known t c = c.seq_of-in-Star.ensures.known

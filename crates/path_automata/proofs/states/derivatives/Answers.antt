@@ -1,5 +1,6 @@
-use Rattle.std.proofs.Common.{◌≡◌, ◌≤◌, arith, ap, sym, ◌∙◌, length, map, subst, true}
-use Rattle.std.proofs.lemmas.List.{length-append}
+use Rattle.std.proofs.Common.{◌≡◌, ◌≤◌, [], arith, ap, sym, ◌∙◌, length, map, subst, true}
+use Rattle.std.proofs.lemmas.List.{append-nil, length-append, take_all}
+use Rattle.path_exprs.specs.Derivative.{derivative}
 use Rattle.path_exprs.proofs.Numbers.{at-extends, extends-trans, known-append, known-at, known-more, known-one, longer}
 use Rattle.path_terms.specs.Terms.{are_known, at}
 use Rattle.path_terms.specs.Values.{values}
@@ -16,6 +17,17 @@ derivative-requires c =
       known = longer old (values c.loop-i.terms) _ c.loop-i.invariant.extends lo;
       classed = classed-same c.args.classes.now _ _ (at-extends old (values c.loop-i.terms) _ c.loop-i.invariant.extends lo)
           (classed-at c.args.classes.now old c.args.numbers.now c.loop-i.i 0 c.loop-i-test.true c.requires.classed);
+    }
+
+pub loop-i-init : goal.loop-i-init
+loop-i-init c =
+    let old = values c.args.terms.now in
+    record {
+      derived = c.requires.derived;
+      extends = ([], sym (append-nil old));
+      made = ap (map (at old)) c.new-all.ensures.items;
+      known = ap (are_known (length old)) c.new-all.ensures.items;
+      len = c.new-all.ensures.len;
     }
 
 pub loop-i-preserved : goal.loop-i-preserved
@@ -36,3 +48,11 @@ loop-i-preserved c =
           (known-one (length new) _ c.in_ok-derivative.ensures.known));
       len = omega (arith, c.in_ok-push.ensures.len, c.loop-i.invariant.len);
     }
+
+pub returns-clause-made : goal.returns-clause-made
+returns-clause-made c =
+    c.loop-i.invariant.made
+    ∙ ap (λ l. map (derivative c.args.at) (map (at (values c.args.terms.now)) l)) (take_all c.loop-i.i c.args.numbers.now c.loop-i-test.false)
+
+pub returns-clause-len : goal.returns-clause-len
+returns-clause-len c = omega (arith, c.loop-i.invariant.len, c.loop-i-test.false, c.loop-i.auto.i-end)

@@ -1,5 +1,9 @@
+use Rattle.std.proofs.Common.{◌++◌, ℕ, List, ap, length, map, sym, ◌∙◌}
+use Rattle.std.specs.List.{flat_map}
+use Rattle.std.proofs.lemmas.List.{append-nil, at_drop_all}
+use Rattle.path_terms.specs.Terms.{are_known, at}
 use Rattle.path_terms.specs.Values.{values}
-use Rattle.path_exprs.specs.Normal.{either_parts}
+use Rattle.path_exprs.specs.Normal.{either_parts, sorted}
 use Rattle.path_terms.proofs.Joins.{flat-turn}
 use Rattle.path_terms.proofs.alternation.flat.Goals as goal
 
@@ -11,3 +15,17 @@ loop-i-preserved c =
           c.loop-i-test.true c.loop-i.invariant.same c.in_ok-add_parts.ensures.added;
       known = c.in_ok-add_parts.ensures.known;
     }
+
+pub loop-i-init : goal.loop-i-init
+loop-i-init c =
+    let vs = values c.args.terms.now in
+    record {
+      same = ap (λ (l : List ℕ). sorted (map (at vs) l ++ flat_map either_parts (map (at vs) c.args.members.now))) (sym c.new-all.ensures.items);
+      known = ap (are_known (length vs)) c.new-all.ensures.items;
+    }
+
+pub returns-clause-same : goal.returns-clause-same
+returns-clause-same c =
+    let vs = values c.args.terms.now in
+    let all = map (at vs) c.loop-i.all.items in
+    sym (c.loop-i.invariant.same ∙ at_drop_all (λ (l : List ℕ). sorted (all ++ flat_map either_parts (map (at vs) l))) c.args.members.now c.loop-i.i c.loop-i-test.false ∙ ap sorted (append-nil all))
