@@ -2,6 +2,7 @@ pub mod Addresses
 pub mod Chains
 pub mod CutParts
 pub mod Digits
+pub mod FormWords
 pub mod JoinedLines
 pub mod KeptWords
 pub mod LongLines

@@ -7,3 +7,4 @@ pub mod LawfulLines
 pub mod TextLines
 pub mod ShortNames
 pub mod Tails
+pub mod Rows

@@ -1,4 +1,5 @@
 pub mod LongMapLines
 pub mod MapForms
 pub mod MapJoined
+pub mod MapWords
 pub mod MapWritten
