@@ -33,14 +33,16 @@ rest_text-cons i d ds text =
     ∙ append_assoc text (comma_if (nat_lt 0 i)) (compact_text d ++ rest_text (i + 1) ds)
     ∙ ap (λ b. text ++ (comma_if (nat_lt 0 i) ++ (compact_text d ++ items_text b (items_of ds)))) (later i)
 
-module _ {X : Type 0} (f : X → Data) (xs : List X) (i : ℕ) (x : X) (within : i < length xs) (is : x ≡ get_or xs i x) where
-  at : drop i xs ≡ x ∷ drop (i + 1) xs
-  at = drop-cons xs i x within ∙ rw (add-one, ← is) refl
+-- the items from a place on begin with the item there
+pub drop_here : {X : Type 0} (xs : List X) (i : ℕ) (x : X) → i < length xs → x ≡ get_or xs i x → drop i xs ≡ x ∷ drop (i + 1) xs
+drop_here xs i x within is = drop-cons xs i x within ∙ rw (add-one, ← is) refl
 
+module _ {X : Type 0} (f : X → Data) (xs : List X) (i : ℕ) (x : X) (within : i < length xs) (is : x ≡ get_or xs i x) where
   pub one_more : (text new whole : List ℕ) → new ≡ (text ++ comma_if (nat_lt 0 i)) ++ compact_text (f x) → text ++ rest_text i (map f (drop i xs)) ≡ whole
       → new ++ rest_text (i + 1) (map f (drop (i + 1) xs)) ≡ whole
   one_more text new whole made before =
-      ap (λ t. t ++ rest_text (i + 1) (map f (drop (i + 1) xs))) made ∙ rest_text-cons i (f x) (map f (drop (i + 1) xs)) text ∙ ap (λ ys. text ++ rest_text i (map f ys)) (sym at) ∙ before
+      ap (λ t. t ++ rest_text (i + 1) (map f (drop (i + 1) xs))) made ∙ rest_text-cons i (f x) (map f (drop (i + 1) xs)) text
+      ∙ ap (λ ys. text ++ rest_text i (map f ys)) (sym (drop_here xs i x within is)) ∙ before
 
 -- none is left
 all_written : {X : Type 0} (f : X → Data) (xs : List X) (i : ℕ) → length xs ≤ i → (text whole : List ℕ) → text ++ rest_text i (map f (drop i xs)) ≡ whole → text ++ 93 ∷ [] ≡ whole

@@ -1,4 +1,5 @@
-use Rattle.std.proofs.Common.{rules, arith, ◌≡◌, ◌≢◌, ◌∙◌, Err, refl, map, length-append}
+use Rattle.std.proofs.Common.{arith, ◌≡◌, ◌≢◌, ◌∙◌, Err, refl, map, length-append}
+use Rattle.std.proofs.lemmas.Result.{err_from_is_err_and}
 use Rattle.std.proofs.lemmas.List.{get_or_default}
 use Rattle.net_base.specs.Steps.{each_from}
 use Rattle.item_laws.proofs.ItemsRead.{each_from-next, each_from-stop, each_from-end}
@@ -23,7 +24,13 @@ returns-in_err-placed c =
     let told : c.in_err-placed.field-0.0 ≢ NoMemory → each_from (placed c.args.names.now) 1 (map raw_event c.args.raw.now) ≡ Err c.in_err-placed.field-0.0 = λ n.
     each_from-stop raw_event (placed c.args.names.now) c.args.raw.now c.loop-said.said-index _ c.loop-said-test.true (get_or_default _ _ _ _ c.loop-said-test.true) _ _ _
     ((rw here at c.in_err-placed.ensures) n) c.loop-said.invariant.read in
-    search (rules, told)
+    let p = err_from_is_err_and c.from_residual.result c.from_residual.ensures.1 in
+    rw (p.1, p.2) told
 
 pub returns : goal.returns
 returns c = each_from-end raw_event (placed c.args.names.now) c.args.raw.now c.loop-said.all.items c.loop-said.said-index _ c.loop-said-test.false c.loop-said.invariant.read
+
+pub returns-in_err-push : goal.returns-in_err-push
+returns-in_err-push c =
+    let p = err_from_is_err_and c.from_residual-in_err-push.result c.from_residual-in_err-push.ensures.1 in
+    rw p.1 (λ n. absurd (n p.2))

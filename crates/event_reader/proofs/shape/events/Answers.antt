@@ -1,4 +1,5 @@
-use Rattle.std.proofs.Common.{rules, arith, ◌≡◌, ◌≢◌, ◌∙◌, Err, refl, map, length-append}
+use Rattle.std.proofs.Common.{arith, ◌≡◌, ◌≢◌, ◌∙◌, Err, refl, map, length-append}
+use Rattle.std.proofs.lemmas.Result.{err_from_is_err_and}
 use Rattle.serde_json.specs.View.{view}
 use Rattle.net_base.specs.Steps.{each_from}
 use Rattle.item_laws.proofs.ItemsRead.{each_from-ok, each_from-stop, each_from-end}
@@ -23,7 +24,13 @@ returns-in_err-read c =
     let told : c.in_err-read.field-0.0 ≢ NoMemory → each_from event_of 1 (map view c.args.values.now) ≡ Err c.in_err-read.field-0.0 = λ n.
     each_from-stop view event_of c.args.values.now c.loop-value.value-index _ c.loop-value-test.true c.value-item.is _ _ _
     ((rw here at c.in_err-read.ensures) n) c.loop-value.invariant.read in
-    search (rules, told)
+    let p = err_from_is_err_and c.from_residual.result c.from_residual.ensures.1 in
+    rw (p.1, p.2) told
 
 pub returns : goal.returns
 returns c = each_from-end view event_of c.args.values.now (map raw_event c.loop-value.all.items) c.loop-value.value-index _ c.loop-value-test.false c.loop-value.invariant.read
+
+pub returns-in_err-push : goal.returns-in_err-push
+returns-in_err-push c =
+    let p = err_from_is_err_and c.from_residual-in_err-push.result c.from_residual-in_err-push.ensures.1 in
+    rw p.1 (λ n. absurd (n p.2))

@@ -1,4 +1,4 @@
-use Rattle.std.proofs.Common.{◌++◌, ◌∷◌, [], ◌∙◌, ap, arith, map, sym}
+use Rattle.std.proofs.Common.{◌++◌, ◌∷◌, [], ◌∙◌, ap, map, sym}
 use Rattle.std.proofs.lemmas.List.{take_all}
 use Rattle.list_laws.proofs.Changed.{map_so_far}
 use Rattle.evidence_text.specs.declared.raw.NodeEntry.{NodeEntry}
@@ -14,4 +14,4 @@ loop-entry-preserved c =
 
 pub returns-clause-values : goal.returns-clause-values
 returns-clause-values c =
-    rw c.from_vec.ensures (c.loop-entry.invariant ∙ ap (map (λ (e : NodeEntry). e.number)) (take_all c.loop-entry.entry-index c.args.entries.now (omega arith)))
+    rw c.from_vec.ensures (c.loop-entry.invariant ∙ ap (map (λ (e : NodeEntry). e.number)) (take_all c.loop-entry.entry-index c.args.entries.now c.loop-entry-test.false))

@@ -1,6 +1,10 @@
-use Rattle.std.proofs.Common.{rules, ◌≡◌, ◌≢◌, ◌∙◌, Err, ap}
+use Rattle.std.proofs.Common.{length, refl, ◌≡◌, ◌≢◌, ◌∙◌, Err, ap}
+use Rattle.std.proofs.lemmas.Option.{slice_get_read}
+use Rattle.std.proofs.lemmas.Result.{err_from_is_err_and}
+use Rattle.list_laws.proofs.Each.{AllByRecursion_at}
 use Rattle.net_base.specs.Steps.{each_from}
 use Rattle.evidence_text.specs.declared.fault.EvidenceFault.TheVariants.{NoMemory}
+use Rattle.evidence_text.specs.Ranges.{HasRanges}
 use Rattle.evidence_text.specs.Spelled.{numbered_case}
 use Rattle.item_laws.proofs.ItemsRead.{each_from-start, each_from-next, each_from-stop, each_from-end}
 use Rattle.evidence_text.proofs.Rewritten.{map_same}
@@ -19,9 +23,26 @@ pub returns-in_err-read : goal.returns-in_err-read
 returns-in_err-read c =
     let told : c.in_err-read.field-0.0 ≢ NoMemory → each_from (λ _. numbered_case) 1 c.args.raw.now ≡ Err c.in_err-read.field-0.0 = λ n.
     each_from-stop (λ x. x) (λ _. numbered_case) c.args.raw.now c.loop-case.case-index _ c.loop-case-test.true c.case-item.is _ _ _ (c.in_err-read.ensures n) c.loop-case.invariant in
-    search (rules, told)
+    let p = err_from_is_err_and c.from_residual-in_err-read.result c.from_residual-in_err-read.ensures.1 in
+    rw (p.1, p.2) told
 
 pub returns : goal.returns
 returns c =
     rw c.from_vec.ensures
     (each_from-end (λ x. x) (λ _. numbered_case) c.args.raw.now c.loop-case.all.items c.loop-case.case-index _ c.loop-case-test.false c.loop-case.invariant)
+
+pub returns-in_err-all : goal.returns-in_err-all
+returns-in_err-all c =
+    let p = err_from_is_err_and c.from_residual.result c.from_residual.ensures.1 in
+    rw p.1 (λ n. absurd (n p.2))
+
+pub returns-in_err-push : goal.returns-in_err-push
+returns-in_err-push c =
+    let p = err_from_is_err_and c.from_residual-in_err-push.result c.from_residual-in_err-push.ensures.1 in
+    rw p.1 (λ n. absurd (n p.2))
+
+pub read_case-requires : goal.read_case-requires
+read_case-requires c =
+    let raw = c.args.raw.now in
+    let at = slice_get_read raw (length raw) c.loop-case.case-index c.case-item.result refl c.loop-case-test.true c.case-item.is in
+    AllByRecursion_at HasRanges raw c.loop-case.case-index c.case-item.result c.requires at

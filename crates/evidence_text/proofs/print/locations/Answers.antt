@@ -1,4 +1,4 @@
-use Rattle.std.proofs.Common.{rules, ◌≡◌, ◌<◌, ◌∙◌, ◌++◌, ◌∷◌, [], refl, sym, ap, arith}
+use Rattle.std.proofs.Common.{rules, ◌≡◌, ◌<◌, ◌∙◌, ◌++◌, ◌∷◌, [], refl, sym, ap}
 use Rattle.net_base.specs.Sets.{holds}
 use Rattle.evidence_text.specs.Text.{members}
 use Rattle.evidence_text.proofs.SetMembers.{not_member, one_member}
@@ -14,7 +14,7 @@ loop-l-init c = rw c.new-all.ensures.items refl
 
 pub loop-l-preserved : goal.loop-l-preserved
 loop-l-preserved c =
-    let low : c.loop-l.l < 768 = omega arith in
+    let low : c.loop-l.l < 768 = c.loop-l-test.true in
     let at : c.new.result ≡ c.loop-l.l = c.new.ensures in
     elim c.if-holds.branch [
       | then-holds+in_ok-push w ↦

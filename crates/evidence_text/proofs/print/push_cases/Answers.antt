@@ -1,9 +1,11 @@
-use Rattle.std.proofs.Common.{◌++◌, ◌∙◌, List, ℕ, ap, arith}
+use Rattle.std.proofs.Common.{subst, ◌++◌, ◌∙◌, List, ℕ, ap}
+use Rattle.std.specs.List.{AllByRecursion}
+use Rattle.std.proofs.lemmas.List.{take_all}
 use Rattle.std.proofs.lemmas.Result.{on_ok_weaker}
 use Rattle.serde_json.specs.Written.{compact_text}
 use Rattle.evidence_text.specs.Text.{case_data}
 use Rattle.evidence_text.specs.Writable.{IsWritable}
-use Rattle.evidence_text.proofs.Items.{array_written, one_kept, one_more}
+use Rattle.evidence_text.proofs.Items.{on_ok, array_written, one_kept, one_more}
 use Rattle.evidence_text.proofs.print.push_cases.Goals as goal
 
 pub loop-i-preserved : goal.loop-i-preserved
@@ -18,5 +20,9 @@ loop-i-preserved c =
 pub returns-clause-text : goal.returns-clause-text
 returns-clause-text c =
     on_ok_weaker c.push_bytes-2.result
-    (array_written case_data c.args.cases.now c.loop-i.i (omega arith) c.args.text.now.items c.push_bytes.new.text.items c.loop-i.text.items _ c.in_ok-push_bytes.ensures c.loop-i.invariant.0)
+    (array_written case_data c.args.cases.now c.loop-i.i c.loop-i-test.false c.args.text.now.items c.push_bytes.new.text.items c.loop-i.text.items _ c.in_ok-push_bytes.ensures c.loop-i.invariant.0)
     c.push_bytes-2.ensures
+
+pub returns-clause-rules : goal.returns-clause-rules
+returns-clause-rules c =
+    on_ok _ c.push_bytes-2.result (subst (AllByRecursion IsWritable) (take_all c.loop-i.i c.args.cases.now c.loop-i-test.false) c.loop-i.invariant.1)

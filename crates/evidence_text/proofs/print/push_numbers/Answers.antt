@@ -16,7 +16,7 @@ loop-i-preserved c =
 pub returns-clause-text : goal.returns-clause-text
 returns-clause-text c =
     on_ok_weaker c.push_bytes-2.result
-    (array_written (λ k. number (unsigned k)) c.args.numbers.now c.loop-i.i (omega arith) c.args.text.now.items c.push_bytes.new.text.items c.loop-i.text.items _
+    (array_written (λ k. number (unsigned k)) c.args.numbers.now c.loop-i.i c.loop-i-test.false c.args.text.now.items c.push_bytes.new.text.items c.loop-i.text.items _
     c.in_ok-push_bytes.ensures c.loop-i.invariant)
     c.push_bytes-2.ensures
 

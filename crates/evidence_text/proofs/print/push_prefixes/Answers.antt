@@ -1,10 +1,12 @@
-use Rattle.std.proofs.Common.{◌++◌, ◌∙◌, List, ℕ, ap, arith, sym}
+use Rattle.std.proofs.Common.{subst, ◌++◌, ◌∙◌, List, ℕ, ap, sym}
+use Rattle.std.specs.List.{AllByRecursion}
+use Rattle.std.proofs.lemmas.List.{take_all}
 use Rattle.std.proofs.lemmas.Result.{on_ok_weaker}
 use Rattle.serde_json.specs.Data.{Data}
 use Rattle.serde_json.specs.Written.{compact_text}
 use Rattle.json_words.specs.Json.{array_of}
 use Rattle.net_base.specs.Prefixes.{IsPrefix}
-use Rattle.evidence_text.proofs.Items.{array_written, one_kept, one_more, prefix_data, texts-prefixes}
+use Rattle.evidence_text.proofs.Items.{on_ok, array_written, one_kept, one_more, prefix_data, texts-prefixes}
 use Rattle.evidence_text.proofs.print.push_prefixes.Goals as goal
 
 pub loop-i-preserved : goal.loop-i-preserved
@@ -21,6 +23,10 @@ returns-clause-text c =
     let prefixes = c.args.prefixes.now in
     on_ok_weaker c.push_bytes-2.result
     (λ last.
-    array_written prefix_data prefixes c.loop-i.i (omega arith) c.args.text.now.items c.push_bytes.new.text.items c.loop-i.text.items _ c.in_ok-push_bytes.ensures c.loop-i.invariant.0 last
+    array_written prefix_data prefixes c.loop-i.i c.loop-i-test.false c.args.text.now.items c.push_bytes.new.text.items c.loop-i.text.items _ c.in_ok-push_bytes.ensures c.loop-i.invariant.0 last
     ∙ ap (λ (ds : List Data). c.args.text.now.items ++ compact_text (array_of ds)) (sym (texts-prefixes prefixes)))
     c.push_bytes-2.ensures
+
+pub returns-clause-rules : goal.returns-clause-rules
+returns-clause-rules c =
+    on_ok _ c.push_bytes-2.result (subst (AllByRecursion IsPrefix) (take_all c.loop-i.i c.args.prefixes.now c.loop-i-test.false) c.loop-i.invariant.1)

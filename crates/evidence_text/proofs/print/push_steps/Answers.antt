@@ -1,4 +1,4 @@
-use Rattle.std.proofs.Common.{◌++◌, ◌∙◌, List, ℕ, ap, arith, get_or}
+use Rattle.std.proofs.Common.{◌++◌, ◌∙◌, List, ℕ, ap, get_or}
 use Rattle.std.proofs.lemmas.List.{get_or_default}
 use Rattle.std.proofs.lemmas.Result.{on_ok_weaker}
 use Rattle.serde_json.specs.Written.{compact_text}
@@ -16,5 +16,5 @@ loop-i-preserved c =
 pub returns : goal.returns
 returns c =
     on_ok_weaker c.push_bytes-2.result
-    (array_written step_data c.args.steps.now c.loop-i.i (omega arith) c.args.text.now.items c.push_bytes.new.text.items c.loop-i.text.items _ c.in_ok-push_bytes.ensures c.loop-i.invariant)
+    (array_written step_data c.args.steps.now c.loop-i.i c.loop-i-test.false c.args.text.now.items c.push_bytes.new.text.items c.loop-i.text.items _ c.in_ok-push_bytes.ensures c.loop-i.invariant)
     c.push_bytes-2.ensures

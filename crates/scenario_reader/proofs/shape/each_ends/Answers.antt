@@ -1,10 +1,32 @@
+use Rattle.std.proofs.Common.{◌≡◌, ◌≢◌, Err, ap, map}
+use Rattle.std.proofs.lemmas.Result.{err_from_is_err_and}
 use Rattle.serde_json.specs.View.{view}
+use Rattle.net_base.specs.Steps.{each_from}
+use Rattle.item_laws.proofs.ItemsRead.{each_from-ok, each_from-start, each_from-stop, each_from-end}
+use Rattle.scenario_reader.specs.declared.fault.ScenarioFault.TheVariants.{NoMemory}
 use Rattle.scenario_reader.specs.Shape.{ends_of}
 use Rattle.scenario_reader.specs.Views.{raw_ends}
-use Rattle.item_laws.proofs.ItemsRead.{each_from-ok}
 use Rattle.scenario_reader.proofs.shape.each_ends.Goals as goal
 
 pub loop-value-preserved : goal.loop-value-preserved
 loop-value-preserved c =
     rw c.in_ok-push.ensures.items
     (each_from-ok view (λ _. ends_of c.args.field) c.args.values.now c.loop-value.value-index _ c.loop-value-test.true c.value-item.is raw_ends _ _ _ c.in_ok-read.ensures c.loop-value.invariant)
+
+pub loop-value-init : goal.loop-value-init
+loop-value-init c = each_from-start view (λ _. ends_of c.args.field) c.args.values.now _ (ap (map raw_ends) c.new-all.ensures.items)
+
+pub returns-in_err-read : goal.returns-in_err-read
+returns-in_err-read c =
+    let told : c.in_err-read.field-0.0 ≢ NoMemory → each_from (λ _. ends_of c.args.field) 1 (map view c.args.values.now) ≡ Err c.in_err-read.field-0.0 = λ n.
+    each_from-stop view (λ _. ends_of c.args.field) c.args.values.now c.loop-value.value-index _ c.loop-value-test.true c.value-item.is _ _ _ (c.in_err-read.ensures n) c.loop-value.invariant in
+    let p = err_from_is_err_and c.from_residual.result c.from_residual.ensures.1 in
+    rw (p.1, p.2) told
+
+pub returns-in_err-push : goal.returns-in_err-push
+returns-in_err-push c =
+    let p = err_from_is_err_and c.from_residual-in_err-push.result c.from_residual-in_err-push.ensures.1 in
+    rw p.1 (λ n. absurd (n p.2))
+
+pub returns : goal.returns
+returns c = each_from-end view (λ _. ends_of c.args.field) c.args.values.now (map raw_ends c.loop-value.all.items) c.loop-value.value-index _ c.loop-value-test.false c.loop-value.invariant

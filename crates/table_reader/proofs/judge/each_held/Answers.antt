@@ -1,5 +1,8 @@
-use Rattle.std.proofs.Common.{arith}
-use Rattle.item_laws.proofs.ItemsRead.{each_from-next}
+use Rattle.std.proofs.Common.{arith, ◌≡◌, ◌≢◌, Err, map}
+use Rattle.std.proofs.lemmas.Result.{err_from_is_err_and}
+use Rattle.net_base.specs.Steps.{each_from}
+use Rattle.item_laws.proofs.ItemsRead.{each_from-next, each_from-start, each_from-stop, each_from-end}
+use Rattle.table_reader.specs.declared.fault.TablesFault.TheVariants.{NoMemory}
 use Rattle.table_reader.specs.Rules.{held_by}
 use Rattle.table_reader.specs.Views.{raw_entry}
 use Rattle.table_reader.proofs.judge.each_held.Goals as goal
@@ -8,3 +11,21 @@ pub loop-i-preserved : goal.loop-i-preserved
 loop-i-preserved c =
     rw c.in_ok-push.ensures.ok
     (each_from-next raw_entry (held_by c.args.names.now) c.args.raw.now c.loop-i.i _ (omega arith) c.index-raw-i.is _ _ _ c.in_ok-held.ensures c.loop-i.invariant)
+
+pub loop-i-init : goal.loop-i-init
+loop-i-init c = each_from-start raw_entry (held_by c.args.names.now) c.args.raw.now _ c.new-all.ensures
+
+pub returns-in_err-held : goal.returns-in_err-held
+returns-in_err-held c =
+    let told : c.in_err-held.field-0.0 ≢ NoMemory → each_from (held_by c.args.names.now) 1 (map raw_entry c.args.raw.now) ≡ Err c.in_err-held.field-0.0 = λ n.
+    each_from-stop raw_entry (held_by c.args.names.now) c.args.raw.now c.loop-i.i _ c.loop-i-test.true c.index-raw-i.is _ _ _ (c.in_err-held.ensures n) c.loop-i.invariant in
+    let p = err_from_is_err_and c.from_residual.result c.from_residual.ensures.1 in
+    rw (p.1, p.2) told
+
+pub returns-in_err-push : goal.returns-in_err-push
+returns-in_err-push c =
+    let p = err_from_is_err_and c.from_residual-in_err-push.result c.from_residual-in_err-push.ensures.1 in
+    rw p.1 (λ n. absurd (n p.2))
+
+pub returns : goal.returns
+returns c = each_from-end raw_entry (held_by c.args.names.now) c.args.raw.now c.loop-i.all c.loop-i.i _ (omega arith) c.loop-i.invariant

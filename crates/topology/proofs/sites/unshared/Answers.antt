@@ -1,4 +1,4 @@
-use Rattle.std.proofs.lemmas.List.{map-append}
+use Rattle.std.proofs.lemmas.List.{drop_all, map-append}
 use Rattle.std.proofs.Common.{◌≡◌, ◌∙◌, [], ◌∷◌, ap, sym, map, take, Some, None, false}
 use Rattle.std.specs.Prelude.{nat_eq}
 use Rattle.std.specs.List.{list_any, position}
@@ -38,3 +38,7 @@ loop-entry-preserved c =
           ∙ map-append (number c.args.which) before (entry ∷ [])))),
       unlike named_entry (same_number c.args.which) (λ _. shared c.args.which) c.args.entries.now c.loop-entry.entry-index _ c.loop-entry-test.true c.entry-item.is _ none c.loop-entry.invariant.1,
     )
+
+pub returns : goal.returns
+unfolding numbers_differ
+returns c = sym (rw (drop_all c.loop-entry.entry-index c.args.entries.now c.loop-entry-test.false) at c.loop-entry.invariant.1)
