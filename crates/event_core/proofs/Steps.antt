@@ -1,18 +1,16 @@
 -- What is done with the neighbours of a location, one after another, is done all around it.
-use Rattle.std.proofs.Common.{◌≡◌, ℕ, Bool, true, false, ◌||◌, List, [], ◌∷◌, ◌++◌, Option, Some, None, inl, inr, refl, sym, ap, ◌∙◌}
+use Rattle.std.proofs.Common.{◌≡◌, ℕ, Bool, true, false, ◌||◌, List, [], ◌∷◌, ◌++◌, None, inl, inr, refl, sym, ap, ◌∙◌}
 use Rattle.std.specs.Prelude.{if◌then◌else◌, ◌==◌}
 use Rattle.std.specs.List.{list_any}
 use Rattle.std.proofs.lemmas.Bool.{and_parts, and_from, cases_Bool, eq-eqb, eqb-true, or_cases, or_left, or_right}
 use Rattle.list_laws.specs.Members.{IsIn}
 use Rattle.list_laws.proofs.Members.{list_any-from_IsIn, list_any_member}
-use Rattle.list_laws.proofs.Texts.{bytes_eq_self}
 use Rattle.list_laws.proofs.Truth.{same_tests}
 use Rattle.config_base.specs.declared.route.Route.{Route}
 use Rattle.net_base.specs.Locations.{neighbours}
 use Rattle.net_base.specs.Network.{PlainNet, IsNet, linked}
 use Rattle.net_base.proofs.Links.{linked_flips}
 use Rattle.net_base.proofs.Neighbours.{linked_neighbour}
-use Rattle.event_base.specs.Speaking.{same_message}
 use Rattle.event_base.specs.World.{Speakers, World, at, choose_again, each_again, emptied, is, joins, live, tell, touches, with_cut}
 use Rattle.event_state.specs.declared.world.World.{World as Kept}
 use Rattle.event_state.specs.Changes.{with_cut_way}

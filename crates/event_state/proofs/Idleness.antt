@@ -1,6 +1,6 @@
 -- Where nothing waits on any link, nothing waits anywhere.
 use Rattle.std.proofs.Common.{◌≡◌, ℕ, Bool, true, false, ◌&&◌, List, [], ◌∷◌, inl, inr, refl, sym, ap, ◌∙◌}
-use Rattle.std.specs.Prelude.{is_some, option_map, slice_index_or, nat_lt, if◌then◌else◌, ◌+◌, length}
+use Rattle.std.specs.Prelude.{option_map, slice_index_or, nat_lt, if◌then◌else◌, ◌+◌, length}
 use Rattle.std.specs.List.{list_all, position}
 use Rattle.std.specs.Option.{option_map_or}
 use Rattle.std.proofs.lemmas.Bool.{and_parts, and_from, cases_Bool}

@@ -1,9 +1,9 @@
 -- A world in whose lists one entry is written.
-use Rattle.std.proofs.Common.{◌≡◌, ℕ, ◌<◌, Bool, true, false, ◌||◌, eqb, List, [], length, get_or, Option, None, refl, sym, ap, ◌∙◌, inl, inr, arith}
+use Rattle.std.proofs.Common.{◌≡◌, ℕ, ◌<◌, Bool, false, eqb, List, [], length, get_or, Option, None, sym, ap, ◌∙◌, inl, inr}
 use Rattle.std.specs.Prelude.{slice_index_or, slice_set, Some, if◌then◌else◌}
 use Rattle.std.proofs.lemmas.Bool.{both_ways, cases_Bool, cond-true, cond-false, eq-eqb, eqb-true}
 use Rattle.std.specs.Option.{option_map_or}
-use Rattle.std.proofs.lemmas.List.{get_or_default, length-set}
+use Rattle.std.proofs.lemmas.List.{get_or_default}
 use Rattle.net_base.specs.Network.{PlainNet, IsNet}
 use Rattle.config_base.specs.declared.route.Route.{Route}
 use Rattle.event_base.specs.World.{World, at, is}

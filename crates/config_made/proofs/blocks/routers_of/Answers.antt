@@ -1,4 +1,5 @@
-use Rattle.std.proofs.Common.{◌≡◌, ◌+◌, ap, ◌∙◌, length, arith, subst, sym}
+use Rattle.std.proofs.Common.{◌≡◌, ◌+◌, ap, ◌∙◌, length, map, arith, subst, sym}
+use Rattle.net_base.specs.Locations.{numbers_below}
 use Rattle.config_made.specs.Hops.{AreReached}
 use Rattle.config_made.specs.Writing.{router_of}
 use Rattle.net_base.proofs.NumbersBelow.{map_next_number}
@@ -22,3 +23,9 @@ loop-number-preserved c =
           subst (λ ps. AreReached c.args.hops.now ps (number + 1)) (sym (written_back c.loop-number.places.len places c.loop-number.places.items long size))
           (all_later c.args.hops.now places number (number + 1) (omega arith) (subst (λ n. AreReached c.args.hops.now places n) c.new-at.ensures c.in_ok-router_of.ensures.reached));
     }
+
+pub returns-clause-routers : goal.returns-clause-routers
+returns-clause-routers c =
+    let net = c.args.net.now in
+    let all : c.loop-number.number ≡ length net.routers = omega (arith, c.loop-number-test.false, c.loop-number.auto.number-end, ap length c.routers-count.ensures.routers) in
+    c.loop-number.invariant.routers ∙ ap (λ n. map (router_of net c.args.hops.now c.args.announced.now) (numbers_below n)) all

@@ -1,6 +1,9 @@
-use Rattle.std.proofs.Common.{◌≡◌, ◌+◌, ◌∙◌, ap, arith, subst, sym}
+use Rattle.std.proofs.Common.{◌≡◌, ◌+◌, ◌∙◌, ap, arith, length, map, subst, sym}
+use Rattle.std.specs.Prelude.{filter}
+use Rattle.net_base.specs.Locations.{numbers_below}
 use Rattle.net_base.specs.Network.{linked}
 use Rattle.config_made.specs.Hops.{IsReached, AreReached}
+use Rattle.config_made.specs.Writing.{session_of}
 use Rattle.config_made.proofs.InOrder.{sessions_next, sessions_same}
 use Rattle.config_made.proofs.Reached.{all_set, reached_later}
 use Rattle.config_made.proofs.blocks.sessions_of.Goals as goal
@@ -43,3 +46,10 @@ loop-number-preserved c =
             (reached_later hops c.loop-number.departure at number (number + 1) (omega arith) c.loop-number.invariant.departed);
       }
     ]
+
+pub returns-clause-sessions : goal.returns-clause-sessions
+returns-clause-sessions c =
+    let net = c.args.net.now in
+    let all : c.loop-number.number ≡ length net.routers + length net.peers =
+    omega (arith, c.loop-number-test.false, c.loop-number.auto.number-end, ap length c.routers.ensures.routers, ap length c.peers.ensures.peers) in
+    c.loop-number.invariant.sessions ∙ ap (λ n. map (session_of net c.args.hops.now c.args.at) (filter (linked net c.args.at) (numbers_below n))) all

@@ -1,5 +1,5 @@
 use Rattle.std.proofs.Common.{◌++◌, ◌∷◌, [], List, append_assoc, ap, map, sym, take, ◌∙◌}
-use Rattle.std.proofs.lemmas.List.{map_more}
+use Rattle.std.proofs.lemmas.List.{map_more, take_all}
 use Rattle.config_made.specs.declared.hop.Announced.{Announced}
 use Rattle.config_made.specs.Hops.{announced_of}
 use Rattle.config_made.proofs.gather.add_prefixes.Goals as goal
@@ -16,3 +16,8 @@ loop-prefix-preserved c =
     ∙ ap (λ x. (first ++ map one (take i prefixes)) ++ one x ∷ []) c.prefix-item.is
     ∙ append_assoc first (map one (take i prefixes)) _
     ∙ ap (λ (xs : List Announced). first ++ xs) (sym (map_more one prefixes i p c.loop-prefix-test.true))
+
+pub returns : goal.returns
+returns c =
+    c.loop-prefix.invariant
+    ∙ ap (λ ps. c.args.all.now.items ++ map (announced_of c.args.class c.args.at c.args.tag) ps) (take_all c.loop-prefix.prefix-index c.args.prefixes.now c.loop-prefix-test.false)

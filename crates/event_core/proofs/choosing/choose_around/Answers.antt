@@ -1,5 +1,8 @@
 use Rattle.std.proofs.Common.{◌≡◌, ◌+◌, length, take, ap, ◌∙◌, arith}
+use Rattle.std.proofs.lemmas.List.{take_all}
 use Rattle.net_base.specs.Locations.{neighbours}
+use Rattle.event_base.specs.World.{each_again}
+use Rattle.event_state.specs.States.{speakers, state}
 use Rattle.event_core.proofs.Loops.{choose_step, item_more}
 use Rattle.event_core.proofs.Undoing.{follows_then}
 use Rattle.event_core.proofs.choosing.choose_around.Goals as goal
@@ -19,3 +22,10 @@ loop-place-preserved c =
           (item_more us c.neighbours.result.now c.loop-place.place c.index-neighbours-place.result near (omega (arith, long, c.loop-place-test.true)) c.index-neighbours-place.is)
           c.loop-place.invariant.done c.in_ok-choose_again.ensures.ok;
     }
+
+pub returns-clause-ok : goal.returns-clause-ok
+returns-clause-ok c =
+    let w = c.args.world.now in
+    let us = neighbours w.net.now c.args.at in
+    let long : length c.neighbours-place-end.result.now ≡ length us = ap length c.neighbours-place-end.ensures in
+    c.loop-place.invariant.done ∙ ap (λ xs. each_again (speakers w) xs (state w)) (take_all c.loop-place.place us (omega (arith, long, c.loop-place-test.false)))

@@ -1,11 +1,14 @@
-use Rattle.std.proofs.Common.{◌≡◌, true, length, ap, ◌∙◌, arith, rules, tests}
+use Rattle.std.proofs.Common.{◌≡◌, true, length, refl, ap, ◌∙◌, arith, rules, tests}
 use Rattle.std.proofs.lemmas.Bool.{lt-ltb}
 use Rattle.net_base.specs.Network.{is_router}
 use Rattle.event_base.specs.World.{with_choice}
 use Rattle.event_state.specs.States.{speakers, state}
 use Rattle.event_core.proofs.Loops.{same_speakers}
-use Rattle.event_core.proofs.Opened.{opened_next}
+use Rattle.event_core.proofs.Opened.{opened, opened_first, opened_next}
 use Rattle.event_core.proofs.start.choose_all.Goals as goal
+
+pub loop-number-init : goal.loop-number-init
+loop-number-init c = record { setting = refl; done = c.requires ∙ opened_first (speakers c.args.world.now) }
 
 pub loop-number-preserved : goal.loop-number-preserved
 loop-number-preserved c =
@@ -23,3 +26,10 @@ loop-number-preserved c =
           ∙ ap (with_choice (speakers w) n) c.loop-number.invariant.done
           ∙ opened_next (speakers w) n up;
     }
+
+pub returns-clause-ok : goal.returns-clause-ok
+returns-clause-ok c =
+    let w = c.args.world.now in
+    let long : length c.routers-number-end.result.now ≡ length w.net.now.routers = ap length c.routers-number-end.ensures.routers ∙ ap (λ net. length net.routers) c.net.ensures in
+    let all : c.loop-number.number ≡ length w.net.now.routers = omega (arith, long, c.loop-number-test.false, c.loop-number.auto.number-end) in
+    c.loop-number.invariant.done ∙ ap (opened (speakers w)) all
