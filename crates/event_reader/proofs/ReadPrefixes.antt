@@ -2,7 +2,7 @@
 use Rattle.std.proofs.Common.{◌≡◌, ℕ, List, length, Ok, subst}
 use Rattle.std.specs.Prelude.{nat_le}
 use Rattle.std.specs.Result.{result_ok}
-use Rattle.json_words.specs.Json.{json_of}
+use Rattle.item_laws.proofs.TextLaws.{says_read}
 use Rattle.net_base.proofs.PrefixLemmas.{prefix_spelled-IsPrefix}
 use Rattle.net_base.proofs.StepLemmas.{bind_ok, or_fault_result_ok}
 use Rattle.event_reader.specs.declared.limits.TheConstants.{EVENTS}
@@ -29,7 +29,4 @@ judged_prefix net said es h =
 
 pub spelled_prefix : (net : PlainNet) (bytes : List ℕ) (es : Events) → spelled net bytes ≡ Ok es → IsPrefix es.prefix
 unfolding spelled
-spelled_prefix net bytes es h =
-    let value = bind_ok (or_fault NotJson (json_of bytes)) _ es h in
-    let said = bind_ok (shape_of value.0) _ es value.2 in
-    judged_prefix net said.0 es said.2
+spelled_prefix net bytes es h = let r = says_read NotJson shape_of (judged net) bytes es h in judged_prefix net r.0 es r.2

@@ -1,5 +1,5 @@
 //! The rules of an event text.
-ghost use Rattle.std.specs.Prelude.{◌≡◌, length, map, nat_le};
+ghost use Rattle.std.specs.Prelude.{length, map, nat_le};
 ghost use Rattle.std.specs.Result.{result_ok};
 ghost use Rattle.event_reader.specs.declared.limits.TheConstants.{EVENTS as LIMIT};
 ghost use Rattle.net_base.specs.Gives.{GivesUnless};

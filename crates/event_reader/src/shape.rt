@@ -1,5 +1,5 @@
 //! The shape of an event text.
-ghost use Rattle.std.specs.Prelude.{◌≡◌, map, option_map};
+ghost use Rattle.std.specs.Prelude.{map};
 ghost use Rattle.net_base.specs.Gives.{GivesUnless};
 ghost use Rattle.net_base.specs.Steps.{each_from};
 ghost use Rattle.serde_json.specs.View.{view};

@@ -1,6 +1,6 @@
 -- Items that are written one after another.
 use Rattle.std.proofs.Common.{◌≡◌, ℕ, zero, suc, ◌+◌, ◌^◌, ◌<◌, ◌≤◌, Bool, true, List, [], ◌∷◌, ◌++◌, length, map, take, drop, subst, get_or, Result, Ok, Err, refl, sym}
-use Rattle.std.proofs.Common.{ap, ◌∙◌, append-nil, append_assoc, add-one, drop-cons, arith}
+use Rattle.std.proofs.Common.{ap, ◌∙◌, append-nil, append_assoc, add-one, arith}
 use Rattle.std.specs.Prelude.{nat_lt, codes, OnOk, ⊤}
 use Rattle.std.proofs.lemmas.Bool.{lt-ltb}
 use Rattle.std.proofs.lemmas.List.{drop_all}
@@ -8,6 +8,7 @@ use Rattle.std.specs.List.{AllByRecursion}
 use Rattle.std.specs.Fmt.{decimal, digits}
 use Rattle.json.specs.Print.{escape_byte}
 use Rattle.json_words.specs.Json.{array_of, numbers_data, texts_data}
+use Rattle.item_laws.proofs.ItemsRead.{drop_here}
 use Rattle.net_base.specs.Prefixes.{PlainPrefix}
 use Rattle.net_base.specs.declared.numbers.Tag.{Tag}
 use Rattle.graph_base.specs.declared.graph.Node.{Node}
@@ -32,10 +33,6 @@ rest_text-cons i d ds text =
     append_assoc (text ++ comma_if (nat_lt 0 i)) (compact_text d) (rest_text (i + 1) ds)
     ∙ append_assoc text (comma_if (nat_lt 0 i)) (compact_text d ++ rest_text (i + 1) ds)
     ∙ ap (λ b. text ++ (comma_if (nat_lt 0 i) ++ (compact_text d ++ items_text b (items_of ds)))) (later i)
-
--- the items from a place on begin with the item there
-pub drop_here : {X : Type 0} (xs : List X) (i : ℕ) (x : X) → i < length xs → x ≡ get_or xs i x → drop i xs ≡ x ∷ drop (i + 1) xs
-drop_here xs i x within is = drop-cons xs i x within ∙ rw (add-one, ← is) refl
 
 module _ {X : Type 0} (f : X → Data) (xs : List X) (i : ℕ) (x : X) (within : i < length xs) (is : x ≡ get_or xs i x) where
   pub one_more : (text new whole : List ℕ) → new ≡ (text ++ comma_if (nat_lt 0 i)) ++ compact_text (f x) → text ++ rest_text i (map f (drop i xs)) ≡ whole

@@ -2,6 +2,7 @@ mod FaultKinds
 mod InRange
 mod Items
 mod PlaceSets
+mod PlainText
 mod PrefixLetters
 mod Rewritten
 mod SetMembers

@@ -1,21 +1,16 @@
 -- Evidence is read again from its text.
-use Rattle.std.proofs.Common.{◌≡◌, ◌≢◌, ℕ, zero, suc, ◌+◌, ◌<◌, ◌≤◌, ◌^◌, Bool, true, false, List, [], ◌∷◌, length, map, Option, Some, None, Result, Ok, refl, sym, ap, ◌∙◌, arith}
+use Rattle.std.proofs.Common.{◌≡◌, ◌≢◌, ℕ, zero, suc, ◌+◌, ◌<◌, ◌≤◌, ◌^◌, Bool, true, false, List, [], ◌∷◌, length, map, Option, Some, None, Result, Ok, refl, sym, ap, ◌∙◌, arith, map-id}
 use Rattle.std.specs.Prelude.{codes, nat_lt, ◌&&◌, ◌==◌, unwrap_or, if◌then◌else◌}
 use Rattle.std.specs.List.{AllByRecursion, list_all}
 use Rattle.std.proofs.lemmas.Bool.{le-leb, lt-ltb, ne_eqb}
-use Rattle.std.specs.Str.{IsUtf8}
 use Rattle.std.proofs.lemmas.List.{length-map}
-use Rattle.json.proofs.Printed.Utf8.{IsUtf8-are_ascii, are_ascii}
-use Rattle.json_words.specs.Plain.{IsPlain, ArePlain}
-use Rattle.json_words.proofs.PlainItems.{plain_map}
+use Rattle.json_words.proofs.JsonLists.{list_of-items_of}
 use Rattle.json_words.proofs.ReadAgain.{json_of-line}
-use Rattle.serde_json.specs.Data.{Data, boolean, number, string, unsigned, depth, items_depth}
+use Rattle.serde_json.specs.Data.{boolean, number, string, unsigned}
 use Rattle.serde_json.specs.Find.{get}
-use Rattle.serde_json.specs.View.{items_of}
 use Rattle.serde_json.proofs.OnLiterals.{serde_json_on_literals}
 use Rattle.list_laws.proofs.Each.{AllByRecursion-weaker}
 use Rattle.net_base.specs.declared.loc.LocSet.{LocSet}
-use Rattle.json_words.specs.Json.{list_of as items_as_list}
 use Rattle.evidence_text.specs.declared.parts.Field.{Field}
 use Rattle.evidence_text.specs.declared.parts.Field.TheVariants as field
 use Rattle.net_base.specs.declared.numbers.Tag.{Tag}
@@ -41,7 +36,7 @@ use Rattle.evidence_text.specs.Spelled.{numbered_case, numbered, is_placed, evid
 use Rattle.evidence_text.specs.Text.{members, case_data, evidence_data, evidence_text, node_data, nodes_data, step_data}
 use Rattle.evidence_text.specs.Writable.{IsWritable}
 use Rattle.evidence_text.proofs.Items.{prefix_data, texts-prefixes}
-use Rattle.evidence_text.proofs.PrefixLetters.{ascii-prefix_text}
+use Rattle.evidence_text.proofs.PlainText.{mark_low, plain_text, text_depth}
 use Rattle.evidence_text.proofs.TextLaws.{spelled_as}
 use Rattle.evidence_text.proofs.SetMembers.{members_in_order, members_below, set_of_members}
 
@@ -64,10 +59,6 @@ number_ok f least most n low high = rw (le-leb least n low, le-leb n most high) 
 mark : (b : Bool) → ((if b then 1 else 0) == 1) ≡ b
 mark true = refl
 mark false = refl
-
-mark_low : (b : Bool) → (if b then 1 else 0) ≤ 1
-mark_low true = omega arith
-mark_low false = omega arith
 
 rank_again : (r : Option ℕ) → r ≢ Some 0 → rank_of (unwrap_or r 0) ≡ r
 rank_again None h = refl
@@ -145,10 +136,6 @@ prefix_again p is = ap prefix_or (prefix_spelled-prefix_text p is)
 numbers_again : (f : Field) (most : ℕ) (ns : List ℕ) → AllByRecursion (λ n. n ≤ most) ns → each (number_of f 0 most) (map (λ n. number (unsigned n)) ns) ≡ Ok (map (λ n. Some n) ns)
 numbers_again f most ns small = each_map (λ n. n ≤ most) (number_of f 0 most) (λ n. number (unsigned n)) (λ n. Some n) (λ n low. number_ok f 0 most n (omega arith) low) 1 ns small
 
-pub items_as_list-items_of : (ds : List Data) → items_as_list (items_of ds) ≡ ds
-items_as_list-items_of [] = refl
-items_as_list-items_of (d ∷ ds) = ap (λ xs. d ∷ xs) (items_as_list-items_of ds)
-
 -- ---- a case whose numbers are judged
 
 pub raw_case : PlainCaseEvidence → RawCase
@@ -177,12 +164,8 @@ numbered_again c is =
     )
     refl
 
-pub map_same : {A : Type 0} (xs : List A) → map (λ x. x) xs ≡ xs
-map_same [] = refl
-map_same (x ∷ xs) = ap (λ ys. x ∷ ys) (map_same xs)
-
 prefixes_again : (ps : List PlainPrefix) → AllByRecursion IsPrefix ps → each prefix_of (map string (map prefix_text ps)) ≡ Ok ps
-prefixes_again ps are = ap (each prefix_of) (texts-prefixes ps) ∙ each_map IsPrefix prefix_of prefix_data (λ p. p) prefix_again 1 ps are ∙ ap Ok (map_same ps)
+prefixes_again ps are = ap (each prefix_of) (texts-prefixes ps) ∙ each_map IsPrefix prefix_of prefix_data (λ p. p) prefix_again 1 ps are ∙ ap Ok (map-id ps)
 
 origins_again : (s : LocSet) → origins_of (map (λ n. number (unsigned n)) (members s)) ≡ Ok (map (λ n. Some n) (members s))
 unfolding origins_of
@@ -200,11 +183,11 @@ places_again : (c : PlainCaseEvidence) → IsWritable c → places_of (case_data
 unfolding places_of case_data list_of raw_places serde_json_on_literals
 places_again c is =
     rw (
-      items_as_list-items_of (nodes_data c.graph.nodes c.numbers c.tags),
+      list_of-items_of (nodes_data c.graph.nodes c.numbers c.tags),
       nodes_again 1 c.graph.nodes c.numbers c.tags is.rules.places is.rules.ranks is.ranks is.numbers is.tags,
-      items_as_list-items_of (map (λ n. number (unsigned n)) (members c.case.origins)),
+      list_of-items_of (map (λ n. number (unsigned n)) (members c.case.origins)),
       origins_again c.case.origins,
-      items_as_list-items_of (map string (map prefix_text c.case.prefixes)),
+      list_of-items_of (map string (map prefix_text c.case.prefixes)),
       prefixes_again c.case.prefixes is.prefixes,
     )
     refl
@@ -214,11 +197,11 @@ unfolding ways_of case_data list_of raw_ways serde_json_on_literals
 ways_again c is =
     let count = is.graph.count in
     rw (
-      items_as_list-items_of (map (λ n. number (unsigned n)) c.graph.starts),
+      list_of-items_of (map (λ n. number (unsigned n)) c.graph.starts),
       numbers_again field.Starts greatest c.graph.starts
           (AllByRecursion-weaker (λ n. n < length c.graph.nodes) (λ n. n ≤ greatest) c.graph.starts (λ n low. omega (arith, low, count)) is.graph.starts),
       number_ok field.Statement 1 greatest c.case.statement is.rules.stated (omega (arith, is.statement)),
-      items_as_list-items_of (map step_data c.graph.steps),
+      list_of-items_of (map step_data c.graph.steps),
       each_map (λ (s : ℕ × ℕ). (s.0 < length c.graph.nodes) × (s.1 < length c.graph.nodes)) step_of step_data (λ s. Some s)
           (λ s low. step_again s (omega (arith, low.0, count), omega (arith, low.1, count))) 1 c.graph.steps is.graph.steps,
     )
@@ -250,7 +233,7 @@ read_text cs = record { cases = map read_case cs; version = 1 }
 shape_again : (cs : List PlainCaseEvidence) → AllByRecursion IsWritable cs → shape_of (evidence_data cs) ≡ Ok (raw_text cs)
 unfolding shape_of version_of evidence_data is_evidence list_of raw_text serde_json_on_literals
 shape_again cs are =
-    rw (items_as_list-items_of (map case_data cs), cases_again cs are, number_ok field.Version 0 greatest 1 (omega arith) (omega arith)) refl
+    rw (list_of-items_of (map case_data cs), cases_again cs are, number_ok field.Version 0 greatest 1 (omega arith) (omega arith)) refl
 
 text_again : (cs : List PlainCaseEvidence) → AllByRecursion IsWritable cs → numbered (raw_text cs) ≡ Ok (read_text cs)
 unfolding numbered raw_text read_text
@@ -293,114 +276,7 @@ all_made : (cs : List PlainCaseEvidence) → AllByRecursion IsWritable cs → ma
 all_made [] are = refl
 all_made (c ∷ cs) are = λ i. made_again c are.0 i ∷ all_made cs are.1 i
 
--- ---- the JSON value
-
-plain_items : (ds : List Data) → AllByRecursion IsPlain ds → ArePlain (items_of ds)
-plain_items [] are = tt
-plain_items (d ∷ ds) are = (are.0, plain_items ds are.1)
-
-plain_numbers : (ns : List ℕ) → AllByRecursion (λ n. n < 4294967296) ns → ArePlain (items_of (map (λ n. number (unsigned n)) ns))
-plain_numbers ns are = plain_map (λ n. n < 4294967296) (λ n. number (unsigned n)) (λ n low. omega (arith, low)) ns are
-
-plain_nodes : (vs : List Node) (ns : List ℕ) (tags : List Tag)
-    → AllByRecursion (λ (v : Node). v.loc < 768) vs → AllByRecursion (λ (v : Node). unwrap_or v.rank 0 < 2 ^ 32) vs
-    → AllByRecursion (λ n. n < 2 ^ 32) ns → AllByRecursion (λ (t : Tag). (t.asn < 2 ^ 32) × (t.value < 2 ^ 32)) tags
-    → ArePlain (items_of (nodes_data vs ns tags))
-plain_nodes [] ns tags a c d e = tt
-plain_nodes (v ∷ vs) [] tags a c d e = tt
-plain_nodes (v ∷ vs) (n ∷ ns) [] a c d e = tt
-plain_nodes (v ∷ vs) (n ∷ ns) (tag ∷ tags) a c d e = (
-  plain_numbers (v.loc ∷ (if v.listener then 1 else 0) ∷ unwrap_or v.rank 0 ∷ n ∷ tag.asn ∷ tag.value ∷ [])
-      (omega (arith, a.0), (omega (arith, mark_low v.listener), (c.0, (d.0, (e.0.0, (e.0.1, tt)))))),
-  plain_nodes vs ns tags a.1 c.1 d.1 e.1,
-)
-
-prefix_utf8 : (p : PlainPrefix) → IsPrefix p → IsUtf8 (prefix_text p)
-prefix_utf8 p is = IsUtf8-are_ascii (prefix_text p) (ascii (prefix_text p) (ascii-prefix_text p is))
-  where
-    ascii : (s : List ℕ) → AllByRecursion (λ x. x < 128) s → are_ascii s ≡ true
-    ascii [] are = refl
-    ascii (x ∷ xs) are = rw (lt-ltb x 128 are.0, ascii xs are.1) refl
-
-plain_prefixes : (ps : List PlainPrefix) → AllByRecursion IsPrefix ps → ArePlain (items_of (map string (map prefix_text ps)))
-plain_prefixes ps are = rw (texts-prefixes ps) (plain_map IsPrefix prefix_data prefix_utf8 ps are)
-
-plain_case : (c : PlainCaseEvidence) → IsWritable c → IsPlain (case_data c)
-unfolding case_data serde_json_on_literals
-plain_case c is =
-    let count = is.graph.count in (
-      IsUtf8-are_ascii _ refl,
-      tt,
-      (refl, (refl, (refl, (refl, (refl, (refl, tt)))))),
-      (
-        IsUtf8-are_ascii _ refl,
-        plain_nodes c.graph.nodes c.numbers c.tags is.rules.places is.ranks is.numbers is.tags,
-        (refl, (refl, (refl, (refl, (refl, tt))))),
-        (
-          IsUtf8-are_ascii _ refl,
-          plain_numbers (members c.case.origins) (AllByRecursion-weaker (λ l. l < 768) (λ l. l < 4294967296) (members c.case.origins) (λ l low. omega (arith, low)) (members_below c.case.origins)),
-          (refl, (refl, (refl, (refl, tt)))),
-          (
-            IsUtf8-are_ascii _ refl,
-            plain_prefixes c.case.prefixes is.prefixes,
-            (refl, (refl, (refl, tt))),
-            (
-              IsUtf8-are_ascii _ refl,
-              plain_numbers c.graph.starts (AllByRecursion-weaker (λ n. n < length c.graph.nodes) (λ n. n < 4294967296) c.graph.starts (λ n low. omega (arith, low, count)) is.graph.starts),
-              (refl, (refl, tt)),
-              (
-                IsUtf8-are_ascii _ refl,
-                omega (arith, is.statement),
-                (refl, tt),
-                (
-                  IsUtf8-are_ascii _ refl,
-                  plain_map (λ (s : ℕ × ℕ). (s.0 < length c.graph.nodes) × (s.1 < length c.graph.nodes)) step_data
-                      (λ s low. plain_numbers (s.0 ∷ s.1 ∷ []) (omega (arith, low.0, count), (omega (arith, low.1, count), tt))) c.graph.steps is.graph.steps,
-                  tt,
-                  tt,
-                ),
-              ),
-            ),
-          ),
-        ),
-      ),
-    )
-
-plain_text : (cs : List PlainCaseEvidence) → AllByRecursion IsWritable cs → IsPlain (evidence_data cs)
-unfolding evidence_data serde_json_on_literals
-plain_text cs are =
-    (IsUtf8-are_ascii _ refl, plain_map IsWritable case_data plain_case cs are, (refl, tt), (IsUtf8-are_ascii _ refl, omega arith, tt, tt))
-
-flat_numbers : (ns : List ℕ) → items_depth (items_of (map (λ n. number (unsigned n)) ns)) ≡ 0
-flat_numbers [] = refl
-flat_numbers (n ∷ ns) = omega (arith, flat_numbers ns)
-
-flat_texts : (ts : List (List ℕ)) → items_depth (items_of (map string ts)) ≡ 0
-flat_texts [] = refl
-flat_texts (t ∷ ts) = omega (arith, flat_texts ts)
-
-flat_nodes : (vs : List Node) (ns : List ℕ) (tags : List Tag) → items_depth (items_of (nodes_data vs ns tags)) ≤ 1
-flat_nodes [] ns tags = omega arith
-flat_nodes (v ∷ vs) [] tags = omega arith
-flat_nodes (v ∷ vs) (n ∷ ns) [] = omega arith
-flat_nodes (v ∷ vs) (n ∷ ns) (tag ∷ tags) = omega (arith, flat_nodes vs ns tags)
-
-flat_steps : (ss : List (ℕ × ℕ)) → items_depth (items_of (map step_data ss)) ≤ 1
-flat_steps [] = omega arith
-flat_steps (s ∷ ss) = omega (arith, flat_steps ss)
-
-case_depth : (c : PlainCaseEvidence) → depth (case_data c) ≤ 3
-unfolding case_data
-case_depth c =
-    omega (arith, flat_nodes c.graph.nodes c.numbers c.tags, flat_numbers (members c.case.origins), flat_texts (map prefix_text c.case.prefixes), flat_numbers c.graph.starts, flat_steps c.graph.steps)
-
-cases_depth : (cs : List PlainCaseEvidence) → items_depth (items_of (map case_data cs)) ≤ 3
-cases_depth [] = omega arith
-cases_depth (c ∷ cs) = omega (arith, case_depth c, cases_depth cs)
-
-text_depth : (cs : List PlainCaseEvidence) → depth (evidence_data cs) ≤ 127
-unfolding evidence_data
-text_depth cs = omega (arith, cases_depth cs)
+-- ---- the whole text is read
 
 pub read_again : (cs : List PlainCaseEvidence) → AllByRecursion IsWritable cs → spelled (evidence_text cs) ≡ Ok cs
 unfolding read_text

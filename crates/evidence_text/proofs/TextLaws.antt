@@ -2,18 +2,16 @@
 use Rattle.std.proofs.Common.{◌≡◌, ℕ, List, Some, Result, Ok, Err, true, sym, ap, ◌∙◌, subst, map, refl, arith, true≢false}
 use Rattle.std.specs.Prelude.{◌==◌}
 use Rattle.std.specs.List.{AllByRecursion, list_all}
-use Rattle.std.specs.Str.{IsUtf8}
 use Rattle.std.proofs.Common.{eq-eqb}
 use Rattle.std.proofs.lemmas.Bool.{eqb-true, eqb-false}
 use Rattle.std.proofs.lemmas.Option.{same_Some}
 use Rattle.list_laws.proofs.Each.{AllByRecursion-map, AllByRecursion-weaker}
 use Rattle.serde_json.specs.Data.{Data}
-use Rattle.serde_json.specs.Read.{read}
 use Rattle.json_words.specs.Json.{json_of}
 use Rattle.json_words.proofs.JsonTexts.{json_of-read, json_of-value}
-use Rattle.item_laws.specs.TextRules.{Says, Keeps, KeepsBelow}
+use Rattle.item_laws.specs.TextRules.{Says, KeepsBelow}
 use Rattle.item_laws.proofs.FirstRule.{Outcome, below_3, next, broken}
-use Rattle.item_laws.proofs.OnlyFaults.{only_err}
+use Rattle.item_laws.proofs.OnlyFaults.{IsOf, only_err}
 use Rattle.item_laws.proofs.TextLaws as texts
 use Rattle.net_base.specs.Steps.{◌>>=◌, or_fault, unless}
 use Rattle.net_base.proofs.StepLemmas.{bind_ok, err_same, ok_not_err, ok_same, or_fault_ok, unless_ok}
@@ -31,7 +29,7 @@ use Rattle.evidence_text.specs.Laws.{IsEvidenceOf, rules}
 use Rattle.evidence_text.specs.Ranges.{HasRanges, IsReadCase}
 use Rattle.evidence_text.specs.Shape.{each, shape_of}
 use Rattle.evidence_text.specs.Spelled.{numbered_case, numbered, is_placed, evidence_of, judged, spelled}
-use Rattle.evidence_text.proofs.FaultKinds.{IsShape, IsNumber, shape_only, numbered_only}
+use Rattle.evidence_text.proofs.FaultKinds.{shape_only, numbered_only}
 use Rattle.evidence_text.proofs.InRange.{is_case_evidence, numbered_in, of_ok, shape_in}
 
 -- ---- the rules are judged in their order
@@ -48,7 +46,8 @@ judged_outcome : (raw : RawEvidence) (y : Result (List PlainCaseEvidence) Eviden
 unfolding judged
 judged_outcome raw y h =
     bind_case (Outcome (rules raw) number_of y) (numbered raw) _ y h
-    (λ e p same. broken (rules raw) number_of 3 y e (below_3 (rules raw)) ((λ has. ok_not_err has.0 e (sym has.1 ∙ p)), ap number_of (only_err IsNumber (numbered raw) e (numbered_only raw) p).1) same)
+    (λ e p same. broken (rules raw) number_of 3 y e (below_3 (rules raw)) ((λ has. ok_not_err has.0 e (sym has.1 ∙ p)), ap number_of (only_err (IsOf Number) (numbered raw) e (numbered_only raw) p).1)
+    same)
     (λ text p g.
     let below_4 = next (rules raw) 3 (below_3 (rules raw)) (text, p) in
     bind_case (Outcome (rules raw) number_of y) (unless Place (list_all is_placed text.cases)) _ y g
@@ -71,6 +70,10 @@ judged_evidence raw cs h =
     let b = bind_ok (unless Place (list_all is_placed a.0.cases)) _ cs a.2 in
     let c = bind_ok (unless Version (a.0.version == 1)) _ cs b.2 in
     (a.0, a.1, ok_same (map evidence_of a.0.cases) cs c.2)
+
+pub answers : texts.Answers NotJson Shape number_of shape_of rules spelled
+unfolding spelled
+answers = texts.answers NotJson Shape number_of shape_of rules judged judged_outcome shape_only (λ _ same. cc) (λ _. tt) (λ _ _. tt)
 
 -- ---- texts that are read
 
@@ -103,46 +106,10 @@ rules_read bytes cs h =
     subst (AllByRecursion IsCaseEvidence) of.2
     (AllByRecursion-map evidence_of IsCaseEvidence of.0.cases (AllByRecursion-weaker IsReadCase (λ c. IsCaseEvidence (evidence_of c)) of.0.cases is_case_evidence cases))
 
--- ---- texts with a broken rule
-
-pub first_broken : (bytes : List ℕ) (raw : RawEvidence) (e : EvidenceFault) → Says shape_of bytes raw → spelled bytes ≡ Err e
-    → KeepsBelow (rules raw) (number_of e) × (Keeps (rules raw) (number_of e) → ⊥)
-unfolding spelled
-first_broken = texts.broken_only NotJson shape_of judged number_of rules judged_outcome
-
-pub told_where_broken : (bytes : List ℕ) (raw : RawEvidence) (k : ℕ) → Says shape_of bytes raw → KeepsBelow (rules raw) k → (Keeps (rules raw) k → ⊥)
-    → (e : EvidenceFault) × (spelled bytes ≡ Err e) × (number_of e ≡ k)
-unfolding spelled
-told_where_broken = texts.broken_all NotJson shape_of judged number_of rules judged_outcome
-
--- ---- no JSON, and another shape
-
-apart : (e : EvidenceFault) → IsShape e → NotJson ≡ e → ⊥
-apart e shape same = let is = shape.1 in cc
-
-early : (raw : RawEvidence) (e : EvidenceFault) → IsShape e → Keeps (rules raw) (number_of e)
-early raw e shape = rw shape.1 tt
-
-pub not_json-only : (bytes : List ℕ) → spelled bytes ≡ Err NotJson → (d : Data) → IsUtf8 bytes → read bytes ≡ Some d → ⊥
-unfolding spelled
-not_json-only = texts.not_json-only NotJson shape_of judged number_of rules judged_outcome IsShape shape_only apart (λ _. tt) early
-
-pub not_json-all : (bytes : List ℕ) → ((d : Data) → IsUtf8 bytes → read bytes ≡ Some d → ⊥) → spelled bytes ≡ Err NotJson
-unfolding spelled
-not_json-all = texts.not_json-all NotJson shape_of judged
-
-pub shape-only : (bytes : List ℕ) (f : Field) → spelled bytes ≡ Err (Shape f) → (d : Data) × IsUtf8 bytes × (read bytes ≡ Some d) × (shape_of d ≡ Err (Shape f))
-unfolding spelled
-shape-only bytes f = texts.shape-only NotJson shape_of judged number_of rules judged_outcome IsShape shape_only apart (λ _. tt) early bytes (Shape f) (f, refl)
-
-pub shape-all : (bytes : List ℕ) (f : Field) (d : Data) → IsUtf8 bytes → read bytes ≡ Some d → shape_of d ≡ Err (Shape f) → spelled bytes ≡ Err (Shape f)
-unfolding spelled
-shape-all bytes f = texts.shape-all NotJson shape_of judged bytes (Shape f)
-
 -- ---- numbers out of their ranges
 
 -- a fault of a number is no other fault
-not_shape : (f : Field) (e : EvidenceFault) → IsShape e → Number f ≡ e → ⊥
+not_shape : (f : Field) (e : EvidenceFault) → IsOf Shape e → Number f ≡ e → ⊥
 not_shape f e shape same = let is = shape.1 in cc
 
 not_place : (f : Field) → Number f ≡ Place → ⊥
@@ -175,7 +142,7 @@ number-only bytes f h =
     (λ e p same. absurd (not_no_json f (err_same (Number f) e same ∙ sym (or_fault_err NotJson e (json_of bytes) p).0)))
     (λ d p g. let v = json_of-value bytes d (or_fault_ok NotJson (json_of bytes) d p) in
     bind_case ((raw : RawEvidence) × Says shape_of bytes raw × (numbered raw ≡ Err (Number f))) (shape_of d) judged (Err (Number f)) g
-    (λ e q same. absurd (not_shape f e (only_err IsShape (shape_of d) e (shape_only d) q) (err_same (Number f) e same)))
+    (λ e q same. absurd (not_shape f e (only_err (IsOf Shape) (shape_of d) e (shape_only d) q) (err_same (Number f) e same)))
     (λ raw q g. (raw, (d, v.0, v.1, q), judged_number raw f g)))
 
 pub number-all : (bytes : List ℕ) (f : Field) (raw : RawEvidence) → Says shape_of bytes raw → numbered raw ≡ Err (Number f) → spelled bytes ≡ Err (Number f)

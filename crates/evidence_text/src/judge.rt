@@ -144,39 +144,6 @@ pub fn are_placed(cases: &[ReadCase]) -> bool
     cases.iter().all(|case| is_placed(case))
 }
 
-fn nodes_of(alloc: Global, entries: &[NodeEntry]) -> Result<List<Node>, EvidenceFault>
-    ensures values { IfOk result (λ v. v ≡ map (λ e. e.node) entries.now) }
-    ensures err { IfErr result (λ e. e ≡ EvidenceFault.NoMemory) }
-{
-    let mut all = Vec::with_capacity(alloc, entries.len())?;
-    for entry in entries {
-        all.push(entry.node)?;
-    }
-    Ok(List::from_vec(all))
-}
-
-fn numbers_of(alloc: Global, entries: &[NodeEntry]) -> Result<List<u32>, EvidenceFault>
-    ensures values { IfOk result (λ v. v ≡ map (λ e. e.number) entries.now) }
-    ensures err { IfErr result (λ e. e ≡ EvidenceFault.NoMemory) }
-{
-    let mut all = Vec::with_capacity(alloc, entries.len())?;
-    for entry in entries {
-        all.push(entry.number)?;
-    }
-    Ok(List::from_vec(all))
-}
-
-fn tags_of(alloc: Global, entries: &[NodeEntry]) -> Result<List<Tag>, EvidenceFault>
-    ensures values { IfOk result (λ v. v ≡ map (λ e. e.tag) entries.now) }
-    ensures err { IfErr result (λ e. e ≡ EvidenceFault.NoMemory) }
-{
-    let mut all = Vec::with_capacity(alloc, entries.len())?;
-    for entry in entries {
-        all.push(entry.tag)?;
-    }
-    Ok(List::from_vec(all))
-}
-
 // The columns of the nodes of a case.
 #[derive(Drop)]
 struct Columns {
@@ -197,10 +164,18 @@ fn columns_of(alloc: Global, entries: &[NodeEntry]) -> Result<Columns, EvidenceF
     if entries.len() > MAX_NODES {
         return Err(EvidenceFault::NoMemory);
     }
+    let mut nodes = Vec::with_capacity(alloc, entries.len())?;
+    let mut numbers = Vec::with_capacity(alloc, entries.len())?;
+    let mut tags = Vec::with_capacity(alloc, entries.len())?;
+    for entry in entries {
+        nodes.push(entry.node)?;
+        numbers.push(entry.number)?;
+        tags.push(entry.tag)?;
+    }
     Ok(Columns {
-        nodes: nodes_of(alloc, entries)?,
-        numbers: numbers_of(alloc, entries)?,
-        tags: tags_of(alloc, entries)?,
+        nodes: List::from_vec(nodes),
+        numbers: List::from_vec(numbers),
+        tags: List::from_vec(tags),
     })
 }
 

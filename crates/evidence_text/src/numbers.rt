@@ -1,12 +1,11 @@
 //! The numbers of a text, and what they make.
-ghost use Rattle.std.specs.Prelude.{◌≡◌, ◌≤◌, ◌<◌, option_and_then, length, slice_get, map, IfOk};
+ghost use Rattle.std.specs.Prelude.{◌≡◌, ◌≤◌, ◌<◌, option_and_then, IfOk};
 ghost use Rattle.std.specs.Option.{ForSome};
 ghost use Rattle.serde_json.specs.Find.{as_number, as_u64};
 ghost use Rattle.serde_json.specs.View.{view};
 ghost use Rattle.net_base.specs.Gives.{GivesUnless};
-ghost use Rattle.net_base.specs.Steps.{or_fault};
 ghost use Rattle.evidence_text.specs.Entries.{entry as entry_of, pair as pair_of, rank_of, within};
-ghost use Rattle.evidence_text.specs.Shape.{number_at as number_at_place, number_of};
+ghost use Rattle.evidence_text.specs.Shape.{number_of};
 
 use crate::fault::EvidenceFault;
 use crate::parts::Field;

@@ -1,5 +1,5 @@
 //! How evidence is written.
-ghost use Rattle.std.specs.Prelude.{◌≡◌, ℕ, ◌<◌, ◌^◌, ◌++◌, ◌∷◌, [], codes, map, length, nat_lt, filter, IfOk, OnOk, Ok};
+ghost use Rattle.std.specs.Prelude.{◌≡◌, ℕ, ◌<◌, ◌^◌, ◌++◌, ◌∷◌, [], codes, map, length, nat_lt, IfOk, OnOk, Ok};
 ghost use Rattle.std.specs.Fmt.{decimal};
 ghost use Rattle.std.specs.List.{AllByRecursion, slice_index};
 ghost use Rattle.serde_json.specs.Data.{Data};

@@ -26,7 +26,6 @@ ghost use Rattle.evidence_text.specs.Shape.{
   step_of,
   version_of,
   ways_of,
-  greatest,
 };
 
 use crate::fault::EvidenceFault;

@@ -3,6 +3,10 @@ use Rattle.std.proofs.Common.{◌≡◌, ℕ, ◌+◌, ◌<◌, ◌≤◌, List,
 use Rattle.std.proofs.lemmas.List.{drop_all, map-append}
 use Rattle.net_base.specs.Steps.{◌>>=◌, each_from}
 
+-- the items from a place on begin with the item there
+pub drop_here : {A : Type 0} (xs : List A) (i : ℕ) (x : A) → i < length xs → x ≡ get_or xs i x → drop i xs ≡ x ∷ drop (i + 1) xs
+drop_here xs i x within is = drop-cons xs i x within ∙ rw (add-one, ← is) refl
+
 -- these, and then what is still to be read
 abbrev pub with_front : {B F : Type 0} → List B → Result (List B) F → Result (List B) F
 with_front front read = read >>= (λ xs. Ok (front ++ xs))
@@ -26,7 +30,7 @@ module _ {V A B F : Type 0} (view : V → A) (f : ℕ → A → Result B F) (vs 
 
 module _ {V A B F : Type 0} (view : V → A) (f : ℕ → A → Result B F) (vs : List V) (i : ℕ) (x : V) (within : i < length vs) (is : x ≡ get_or vs i x) where
   at : drop i vs ≡ x ∷ drop (i + 1) vs
-  at = drop-cons vs i x within ∙ rw (add-one, ← is) refl
+  at = drop_here vs i x within is
 
   -- the item here was read
   pub each_from-next : (front : List B) (y : B) (whole : Result (List B) F) → f (i + 1) (view x) ≡ Ok y

@@ -1,6 +1,6 @@
 -- Steps that tell faults of one kind alone.
-use Rattle.std.proofs.Common.{◌≡◌, ℕ, ◌+◌, List, [], ◌∷◌, Option, Some, None, Result, Ok, Err, Bool, true, false, subst}
-use Rattle.std.specs.Prelude.{if◌then◌else◌}
+use Rattle.std.proofs.Common.{◌≡◌, ℕ, ◌+◌, List, [], ◌∷◌, Option, Some, None, Result, Ok, Err, Bool, true, false, refl, subst}
+use Rattle.std.specs.Prelude.{⊤, if◌then◌else◌}
 use Rattle.net_base.specs.Steps.{◌>>=◌, or_fault, unless, each_from}
 use Rattle.net_base.proofs.StepLemmas.{err_same}
 
@@ -38,3 +38,19 @@ only_each P f one k xs = only_each_from P (λ _. f) (λ _. one) k xs
 pub only_err : {A F : Type 0} (P : F → Type 0) (r : Result A F) (e : F) → Only P r → r ≡ Err e → P e
 only_err P (Ok x) e only h = absurd cc
 only_err P (Err d) e only h = subst P (err_same d e h) only
+
+-- ---- faults of one kind, each of which names a part
+
+module _ {P F : Type 0} (fault : P → F) where
+  abbrev pub IsOf : F → Type 0
+  IsOf e = (part : P) × (e ≡ fault part)
+
+  pub or_only : {A : Type 0} (part : P) (o : Option A) → Only IsOf (or_fault (fault part) o)
+  or_only part o = only_or IsOf (fault part) o (part, refl)
+
+  -- a step has such faults alone, and so have those behind it
+  pub or_then : {A B : Type 0} (part : P) (o : Option A) (f : A → Result B F) → ((x : A) → Only IsOf (f x)) → Only IsOf (or_fault (fault part) o >>= f)
+  or_then part o f later = only_bind IsOf (or_fault (fault part) o) f (or_only part o) later
+
+  pub unless_then : {B : Type 0} (part : P) (b : Bool) (f : ⊤ → Result B F) → ((x : ⊤) → Only IsOf (f x)) → Only IsOf (unless (fault part) b >>= f)
+  unless_then part b f later = only_bind IsOf (unless (fault part) b) f (only_unless IsOf (fault part) b (part, refl)) later

@@ -2,6 +2,7 @@ pub mod Apart
 pub mod Changed
 pub mod Counts
 pub mod Each
+pub mod Exits
 pub mod Items
 pub mod Kept
 pub mod Keys

@@ -1,7 +1,7 @@
 -- The prefix of each scenario that a text spells.
 use Rattle.std.proofs.Common.{◌≡◌, ℕ, List, Ok, subst}
 use Rattle.std.specs.Result.{result_ok}
-use Rattle.json_words.specs.Json.{json_of}
+use Rattle.item_laws.proofs.TextLaws.{says_read}
 use Rattle.net_base.proofs.PrefixLemmas.{prefix_spelled-IsPrefix}
 use Rattle.net_base.proofs.StepLemmas.{bind_ok, or_fault_result_ok}
 use Rattle.net_base.specs.Network.{PlainNet}
@@ -31,7 +31,4 @@ judged_prefix net said s h =
 
 pub spelled_prefix : (net : PlainNet) (bytes : List ℕ) (s : Scenario) → spelled net bytes ≡ Ok s → IsPrefix s.prefix
 unfolding spelled
-spelled_prefix net bytes s h =
-    let value = bind_ok (or_fault NotJson (json_of bytes)) _ s h in
-    let said = bind_ok (shape_of value.0) _ s value.2 in
-    judged_prefix net said.0 s said.2
+spelled_prefix net bytes s h = let r = says_read NotJson shape_of (judged net) bytes s h in judged_prefix net r.0 s r.2

@@ -1,5 +1,5 @@
 //! The shape of a scenario.
-ghost use Rattle.std.specs.Prelude.{◌≡◌, map};
+ghost use Rattle.std.specs.Prelude.{map};
 ghost use Rattle.serde_json.specs.View.{view};
 ghost use Rattle.net_base.specs.Gives.{GivesUnless};
 ghost use Rattle.scenario_reader.specs.Shape.{each, ends_of, shape_of, text_of};

@@ -1,61 +1,15 @@
 -- What a text's answer says of it.
-use Rattle.std.proofs.Common.{◌≡◌, ℕ, List, Option, Some, Ok, Err, refl}
-use Rattle.std.specs.Str.{IsUtf8}
-use Rattle.serde_json.specs.Data.{Data}
-use Rattle.serde_json.specs.Read.{read}
-use Rattle.item_laws.specs.TextRules.{Says, Keeps, KeepsBelow}
 use Rattle.item_laws.proofs.TextLaws as texts
 use Rattle.net_base.specs.Network.{PlainNet}
-use Rattle.config_base.specs.declared.route.Route.{Route}
-use Rattle.table_reader.specs.declared.fault.TablesFault.{TablesFault}
 use Rattle.table_reader.specs.declared.fault.TablesFault.TheVariants.{NotJson, Shape}
 use Rattle.table_reader.specs.Faults.{number_of}
 use Rattle.table_reader.specs.Laws.{rules}
 use Rattle.table_reader.specs.Rules.{judged}
-use Rattle.table_reader.specs.Shape.{Said, shape_of}
+use Rattle.table_reader.specs.Shape.{shape_of}
 use Rattle.table_reader.specs.Spelled.{spelled}
 use Rattle.table_reader.proofs.RulesKept.{judged_outcome}
-use Rattle.table_reader.proofs.ShapeFaults.{IsShape, shape_only}
+use Rattle.table_reader.proofs.ShapeFaults.{shape_only}
 
-apart : (e : TablesFault) → IsShape e → NotJson ≡ e → ⊥
-apart e shape same = let is = shape.1 in cc
-
-early : (net : PlainNet) (said : List (Option Said)) (e : TablesFault) → IsShape e → Keeps (rules net said) (number_of e)
-early net said e shape = rw shape.1 tt
-
-module _ (net : PlainNet) where
-  pub says_read : (bytes : List ℕ) (routes : List (Option Route)) → spelled net bytes ≡ Ok routes → (said : List (Option Said)) × Says shape_of bytes said × KeepsBelow (rules net said) 6
-  unfolding spelled
-  says_read = texts.read_only NotJson shape_of (judged net) number_of (rules net) (judged_outcome net)
-
-  pub read_where_kept : (bytes : List ℕ) (said : List (Option Said)) → Says shape_of bytes said → KeepsBelow (rules net said) 6 → (routes : List (Option Route)) × (spelled net bytes ≡ Ok routes)
-  unfolding spelled
-  read_where_kept = texts.read_all NotJson shape_of (judged net) number_of (rules net) (judged_outcome net)
-
-  pub first_broken : (bytes : List ℕ) (said : List (Option Said)) (e : TablesFault) → Says shape_of bytes said → spelled net bytes ≡ Err e
-      → KeepsBelow (rules net said) (number_of e) × (Keeps (rules net said) (number_of e) → ⊥)
-  unfolding spelled
-  first_broken = texts.broken_only NotJson shape_of (judged net) number_of (rules net) (judged_outcome net)
-
-  pub told_where_broken : (bytes : List ℕ) (said : List (Option Said)) (k : ℕ) → Says shape_of bytes said → KeepsBelow (rules net said) k → (Keeps (rules net said) k → ⊥)
-      → (e : TablesFault) × (spelled net bytes ≡ Err e) × (number_of e ≡ k)
-  unfolding spelled
-  told_where_broken = texts.broken_all NotJson shape_of (judged net) number_of (rules net) (judged_outcome net)
-
-  -- ---- no JSON, and another shape
-
-  pub not_json-only : (bytes : List ℕ) → spelled net bytes ≡ Err NotJson → (d : Data) → IsUtf8 bytes → read bytes ≡ Some d → ⊥
-  unfolding spelled
-  not_json-only = texts.not_json-only NotJson shape_of (judged net) number_of (rules net) (judged_outcome net) IsShape shape_only apart (λ _. tt) (early net)
-
-  pub not_json-all : (bytes : List ℕ) → ((d : Data) → IsUtf8 bytes → read bytes ≡ Some d → ⊥) → spelled net bytes ≡ Err NotJson
-  unfolding spelled
-  not_json-all = texts.not_json-all NotJson shape_of (judged net)
-
-  pub shape-only : (bytes : List ℕ) (place : ℕ) → spelled net bytes ≡ Err (Shape place) → (d : Data) × IsUtf8 bytes × (read bytes ≡ Some d) × (shape_of d ≡ Err (Shape place))
-  unfolding spelled
-  shape-only bytes place = texts.shape-only NotJson shape_of (judged net) number_of (rules net) (judged_outcome net) IsShape shape_only apart (λ _. tt) (early net) bytes (Shape place) (place, refl)
-
-  pub shape-all : (bytes : List ℕ) (place : ℕ) (d : Data) → IsUtf8 bytes → read bytes ≡ Some d → shape_of d ≡ Err (Shape place) → spelled net bytes ≡ Err (Shape place)
-  unfolding spelled
-  shape-all bytes place = texts.shape-all NotJson shape_of (judged net) bytes (Shape place)
+pub answers : (net : PlainNet) → texts.Answers NotJson Shape number_of shape_of (rules net) (spelled net)
+unfolding spelled
+answers net = texts.answers NotJson Shape number_of shape_of (rules net) (judged net) (judged_outcome net) shape_only (λ _ same. cc) (λ _. tt) (λ _ _. tt)

@@ -1,5 +1,5 @@
 -- Which entries the faults 3 to 8 are about.
-use Rattle.std.proofs.Common.{◌≡◌, ℕ, ◌+◌, List, [], ◌∷◌, length, map, Ok, Err, refl, sym, ap, ◌∙◌, arith, true≢false}
+use Rattle.std.proofs.Common.{◌≡◌, ℕ, List, [], length, map, Ok, Err, refl, sym, ap, ◌∙◌, arith, true≢false}
 use Rattle.std.specs.Prelude.{⊤, IsTrue, nat_eq, nat_le}
 use Rattle.std.specs.List.{AllByRecursion, IsDistinct}
 use Rattle.std.specs.Str.{bytes_eq}
@@ -7,6 +7,7 @@ use Rattle.std.proofs.lemmas.Bool.{leb-false}
 use Rattle.list_laws.proofs.Texts.{bytes_eq_apart}
 use Rattle.list_laws.proofs.Numbers.{nat_eq_apart}
 use Rattle.item_laws.specs.TextRules.{Keeps}
+use Rattle.item_laws.proofs.EachStep.{each_from-keeps}
 use Rattle.net_base.specs.NameRule.{is_name}
 use Rattle.net_base.specs.Steps.{◌>>=◌, unless, each_from}
 use Rattle.net_base.specs.declared.net.Site.{Site}
@@ -14,10 +15,11 @@ use Rattle.topology.specs.declared.parts.Kind.{Kind}
 use Rattle.topology.specs.declared.parts.Kind.TheVariants as kind
 use Rattle.topology.specs.declared.fault.TopoFault.{TopoFault}
 use Rattle.topology.specs.declared.fault.TopoFault.TheVariants.{TooMany, BadName, Twice, AsRange}
+use Rattle.topology.specs.declared.sites.Number.{Number}
 use Rattle.topology.specs.declared.sites.Number.TheVariants as which
 use Rattle.topology.specs.Faults.{number_of}
 use Rattle.topology.specs.Laws.{rules}
-use Rattle.topology.specs.Rules.{named, site_of, counted, names_differ, numbers_differ, names_of, is_lawful_as, shared}
+use Rattle.topology.specs.Rules.{named, site_of, counted, names_differ, numbers_differ, names_of, is_lawful_as, number, shared}
 use Rattle.topology.specs.Shape.{Entry, Topology}
 use Rattle.topology.proofs.Distinct.{all_unlike-distinct}
 use Rattle.topology.proofs.Outcomes.{all_unlike-breaks, all_nothing}
@@ -52,11 +54,7 @@ unfolding named
 named_keeps k place x y h = unless_ok _ _ _ (bind_ok (unless (BadName k place) (is_name x.name)) (λ _. Ok x) y h).1
 
 pub all_named : (k : Kind) (place : ℕ) (xs ys : List Entry) → each_from (named k) place xs ≡ Ok ys → AllByRecursion (λ e. IsTrue (is_name e.name)) xs
-all_named k place [] ys h = tt
-all_named k place (x ∷ xs) ys h =
-    let p = bind_ok (named k place x) (λ y. each_from (named k) (place + 1) xs >>= (λ ys. Ok (y ∷ ys))) ys h in
-    let q = bind_ok (each_from (named k) (place + 1) xs) (λ ys. Ok (p.0 ∷ ys)) ys p.2 in
-    (named_keeps k place x p.0 p.1, all_named k (place + 1) xs q.0 q.1)
+all_named k = each_from-keeps (λ e. IsTrue (is_name e.name)) (named k) (named_keeps k)
 
 pub site_breaks : (k : Kind) (x : Entry) (e : TopoFault) → site_of k x ≡ Err e → (IsTrue (is_lawful_as k x.asn) → ⊥) × (number_of e ≡ 6)
 unfolding site_of
@@ -71,11 +69,7 @@ unfolding site_of
 site_keeps k x s h = unless_ok _ _ _ (bind_ok (unless (AsRange x.name) (is_lawful_as k x.asn)) (λ _. Ok (let s : Site = record { name = x.name; asn = x.asn; id = x.id } in s)) s h).1
 
 pub all_lawful : (k : Kind) (place : ℕ) (xs : List Entry) (ys : List Site) → each_from (λ _. site_of k) place xs ≡ Ok ys → AllByRecursion (λ e. IsTrue (is_lawful_as k e.asn)) xs
-all_lawful k place [] ys h = tt
-all_lawful k place (x ∷ xs) ys h =
-    let p = bind_ok (site_of k x) (λ y. each_from (λ _. site_of k) (place + 1) xs >>= (λ ys. Ok (y ∷ ys))) ys h in
-    let q = bind_ok (each_from (λ _. site_of k) (place + 1) xs) (λ ys. Ok (p.0 ∷ ys)) ys p.2 in
-    (site_keeps k x p.0 p.1, all_lawful k (place + 1) xs q.0 q.1)
+all_lawful k = each_from-keeps (λ e. IsTrue (is_lawful_as k e.asn)) (λ _. site_of k) (λ _. site_keeps k)
 
 pub names_break : (es : List Entry) (e : TopoFault) → names_differ es ≡ Err e → (IsDistinct bytes_eq (names_of es) → ⊥) × (number_of e ≡ 5)
 unfolding names_differ
@@ -87,22 +81,19 @@ pub names_keep : (es : List Entry) → names_differ es ≡ Ok tt → IsDistinct 
 unfolding names_differ
 names_keep es h = (all_unlike-distinct (λ (e : Entry). e.name) bytes_eq bytes_eq_apart (λ _ _ later. Twice later.name) [] es tt h).0
 
-pub asns_break : (es : List Entry) (e : TopoFault) → numbers_differ which.As es ≡ Err e → (IsDistinct nat_eq (map (λ (e : Entry). e.asn) es) → ⊥) × (number_of e ≡ 7)
+numbers_break : (n : Number) (k : ℕ) → ((a b : Entry) → number_of (shared n a b) ≡ k) → (es : List Entry) (e : TopoFault) → numbers_differ n es ≡ Err e
+    → (IsDistinct nat_eq (map (number n) es) → ⊥) × (number_of e ≡ k)
 unfolding numbers_differ
-asns_break es e h =
-    let q = all_unlike-breaks (λ (e : Entry). e.asn) nat_eq nat_eq_apart (λ _. shared which.As) (λ f. number_of f ≡ 7) (λ k a b. refl) [] es e h in
-    ((λ d. q.0 d (all_nothing nat_eq (map (λ (e : Entry). e.asn) es))), q.1)
+numbers_break n k told es e h =
+    let q = all_unlike-breaks (number n) nat_eq nat_eq_apart (λ _. shared n) (λ f. number_of f ≡ k) (λ _. told) [] es e h in
+    ((λ d. q.0 d (all_nothing nat_eq (map (number n) es))), q.1)
 
-pub asns_keep : (es : List Entry) → numbers_differ which.As es ≡ Ok tt → IsDistinct nat_eq (map (λ (e : Entry). e.asn) es)
-unfolding numbers_differ
-asns_keep es h = (all_unlike-distinct (λ (e : Entry). e.asn) nat_eq nat_eq_apart (λ _. shared which.As) [] es tt h).0
+pub asns_break : (es : List Entry) (e : TopoFault) → numbers_differ which.As es ≡ Err e → (IsDistinct nat_eq (map (λ (e : Entry). e.asn) es) → ⊥) × (number_of e ≡ 7)
+asns_break = numbers_break which.As 7 (λ _ _. refl)
 
 pub ids_break : (es : List Entry) (e : TopoFault) → numbers_differ which.Id es ≡ Err e → (IsDistinct nat_eq (map (λ (e : Entry). e.id) es) → ⊥) × (number_of e ≡ 8)
-unfolding numbers_differ
-ids_break es e h =
-    let q = all_unlike-breaks (λ (e : Entry). e.id) nat_eq nat_eq_apart (λ _. shared which.Id) (λ f. number_of f ≡ 8) (λ k a b. refl) [] es e h in
-    ((λ d. q.0 d (all_nothing nat_eq (map (λ (e : Entry). e.id) es))), q.1)
+ids_break = numbers_break which.Id 8 (λ _ _. refl)
 
-pub ids_keep : (es : List Entry) → numbers_differ which.Id es ≡ Ok tt → IsDistinct nat_eq (map (λ (e : Entry). e.id) es)
+pub numbers_keep : (n : Number) (es : List Entry) → numbers_differ n es ≡ Ok tt → IsDistinct nat_eq (map (number n) es)
 unfolding numbers_differ
-ids_keep es h = (all_unlike-distinct (λ (e : Entry). e.id) nat_eq nat_eq_apart (λ _. shared which.Id) [] es tt h).0
+numbers_keep n es h = (all_unlike-distinct (number n) nat_eq nat_eq_apart (λ _. shared n) [] es tt h).0

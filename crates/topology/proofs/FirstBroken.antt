@@ -18,13 +18,12 @@ use Rattle.topology.specs.Rules.{named, site_of, counted, names_differ, numbers_
 use Rattle.topology.specs.Rules.{judged, network_of, is_lawful_as}
 use Rattle.topology.specs.Shape.{each, Entry, Ends, Topology, IsIdentifier}
 use Rattle.topology.proofs.Distinct.{all_unlike-distinct}
-use Rattle.topology.proofs.EntryFaults.{counted_breaks, named_breaks, all_named, site_breaks, all_lawful, names_break, names_keep, asns_break, asns_keep, ids_break, ids_keep}
-use Rattle.topology.proofs.LinkNames.{AllJoin, all_join, distinct_ends, distinct_links, any_join, to_itself, ends_known, joined-breaks, routers_first}
-use Rattle.topology.proofs.Networks.{each_named, counted_holds, kept_IsNet}
+use Rattle.topology.proofs.EntryFaults.{counted_breaks, named_breaks, all_named, site_breaks, all_lawful, names_break, names_keep, asns_break, ids_break, numbers_keep}
+use Rattle.topology.proofs.LinkNames.{AllJoin, all_join, distinct_alike, any_join, to_itself, ends_known, joined-breaks, routers_first}
+use Rattle.topology.proofs.Networks.{each_named, counted_holds, judged_steps, kept_IsNet}
 use Rattle.topology.proofs.Outcomes.{no_fault-err, all_unlike-breaks, all_nothing}
 use Rattle.item_laws.specs.TextRules.{KeepsBelow}
 use Rattle.item_laws.proofs.FirstRule.{below_3, broken, next, Outcome}
-use Rattle.net_base.proofs.StepLemmas.{bind_ok}
 use Rattle.net_base.proofs.Links.{same_ends-swap}
 use Rattle.net_base.proofs.StepOutcomes.{bind_case, each_from-breaks}
 use Rattle.topology.proofs.Results.{no_fault-ok}
@@ -36,11 +35,11 @@ module _ (names : List (List ℕ)) (es : List Ends) (ps : List (ℕ × ℕ)) (j 
   unfolding links_differ
   links_break e h =
       let q = all_unlike-breaks (λ (p : ℕ × ℕ). p) same_ends same_ends-swap (λ place _ _. LinkTwice place) (λ f. number_of f ≡ 10) (λ k a b. refl) [] ps e h in
-      ((λ d. q.0 (rw (map-id ps) (distinct_ends names es ps j d)) (all_nothing same_ends (map (λ (p : ℕ × ℕ). p) ps))), q.1)
+      ((λ d. q.0 (rw (map-id ps) ((distinct_alike names es ps j).0 d)) (all_nothing same_ends (map (λ (p : ℕ × ℕ). p) ps))), q.1)
 
   links_keep : links_differ ps ≡ Ok tt → IsDistinct same_link es
   unfolding links_differ
-  links_keep h = distinct_links names es ps j (rw (map-id ps) at (all_unlike-distinct (λ (p : ℕ × ℕ). p) same_ends same_ends-swap (λ place _ _. LinkTwice place) [] ps tt h).0)
+  links_keep h = (distinct_alike names es ps j).1 (rw (map-id ps) at (all_unlike-distinct (λ (p : ℕ × ℕ). p) same_ends same_ends-swap (λ place _ _. LinkTwice place) [] ps tt h).0)
 
   ends_same : list_any (λ l. l.0 == l.1) ps ≡ list_any (λ l. bytes_eq l.from l.to) es
   ends_same = any_join names (λ l. l.0 == l.1) (λ l. bytes_eq l.from l.to) (to_itself names) es ps j
@@ -126,11 +125,11 @@ named_outcome t below y h =
     bind_case (Outcome (rules t) number_of y) (numbers_differ which.As (entries t)) _ y g
     (λ e p same. broken (rules t) number_of 7 y e below_7 (asns_break (entries t) e p) same)
     (λ _ p g.
-    let below_8 = next (rules t) 7 below_7 (asns_keep (entries t) p) in
+    let below_8 = next (rules t) 7 below_7 (numbers_keep which.As (entries t) p) in
     bind_case (Outcome (rules t) number_of y) (numbers_differ which.Id (entries t)) _ y g
     (λ e p same. broken (rules t) number_of 8 y e below_8 (ids_break (entries t) e p) same)
     (λ _ p g.
-    let below_9 = next (rules t) 8 below_8 (ids_keep (entries t) p) in
+    let below_9 = next (rules t) 8 below_8 (numbers_keep which.Id (entries t) p) in
     bind_case (Outcome (rules t) number_of y) (links_of (names_of (entries t)) (length t.routers) t.links) _ y g
     (λ e p same. rw same (links_outcome t below_9 (Err e) p))
     (λ links p g. rw (← g) (links_outcome t below_9 (Ok links) p)))))))
@@ -155,18 +154,4 @@ judged_outcome t y h =
 
 -- a topology that breaks no rule is a network
 pub judged_net : (t : Topology) (net : PlainNet) → AllByRecursion (λ e. IsIdentifier e.id) t.routers → AllByRecursion (λ e. IsIdentifier e.id) t.peers → judged t ≡ Ok net → IsNet net
-unfolding judged network_of
-judged_net t net router_ids peer_ids h =
-    let a = bind_ok (counted t) _ net h in
-    let b = bind_ok (each_from (named kind.Routers) 1 t.routers) _ net a.2 in
-    let c = bind_ok (each_from (named kind.Peers) 1 t.peers) _ net b.2 in
-    let d = bind_ok (names_differ (b.0 ++ c.0)) _ net c.2 in
-    let e = bind_ok (each (site_of kind.Routers) b.0) _ net d.2 in
-    let f = bind_ok (each (site_of kind.Peers) c.0) _ net e.2 in
-    let g = bind_ok (numbers_differ which.As (b.0 ++ c.0)) _ net f.2 in
-    let i = bind_ok (numbers_differ which.Id (b.0 ++ c.0)) _ net g.2 in
-    let k = bind_ok (links_of (names_of (b.0 ++ c.0)) (length b.0) t.links) _ net i.2 in
-    rw (← ok_is net (record { routers = e.0; peers = f.0; links = k.0 }) k.2) (kept_IsNet t b.0 c.0 e.0 f.0 a.1 b.1 c.1 d.1 e.1 f.1 g.1 i.1 k.0 k.1 router_ids peer_ids)
-  where
-    ok_is : (x y : PlainNet) → (let r : Result PlainNet TopoFault = Ok y in r ≡ Ok x) → y ≡ x
-    ok_is x y h = cc
+judged_net t net router_ids peer_ids h = kept_IsNet t net (judged_steps t net h) router_ids peer_ids

@@ -1,7 +1,7 @@
 -- What links between names say of links between locations.
 use Rattle.std.proofs.Common.{◌≡◌, ℕ, ◌+◌, ◌≤◌, ◌⊎◌, inl, inr, List, [], ◌∷◌, ◌++◌, length, get_or, Some, Ok, Err, Bool, true, false, ◌||◌, ◌&&◌, not, refl, sym, ap, ◌∙◌}
 use Rattle.std.proofs.Common.{arith, ltb-true, ltb-false, eq-eqb, true≢false}
-use Rattle.std.specs.Prelude.{⊤, IsTrue, ◌==◌, nat_lt, nat_le, if◌then◌else◌, position}
+use Rattle.std.specs.Prelude.{⊤, IsTrue, ◌==◌, nat_lt, nat_le, if◌then◌else◌, position, ◌↔◌}
 use Rattle.std.specs.List.{list_any, position_or_len, AllByRecursion, IsDistinct}
 use Rattle.std.specs.Str.{bytes_eq}
 use Rattle.std.proofs.lemmas.Bool.{eqb-false, eqb-true, leb-false, leb-true, and_parts}
@@ -159,33 +159,25 @@ module _ (names : List (List ℕ)) where
       refl
 
   all_apart : (a : Ends) (p : ℕ × ℕ) → Joins names a p → (es : List Ends) (ps : List (ℕ × ℕ)) → AllJoin names es ps
-      → AllByRecursion (λ b. same_link a b ≡ false) es → AllByRecursion (λ q. same_ends p q ≡ false) ps
-  all_apart a p x [] [] j h = tt
-  all_apart a p x (b ∷ es) (q ∷ ps) j h = (pair_same a b p q x j.0 ∙ h.0, all_apart a p x es ps j.1 h.1)
-  all_apart a p x [] (q ∷ ps) j h = absurd j
-  all_apart a p x (b ∷ es) [] j h = absurd j
-
-  all_apart_back : (a : Ends) (p : ℕ × ℕ) → Joins names a p → (es : List Ends) (ps : List (ℕ × ℕ)) → AllJoin names es ps
-      → AllByRecursion (λ q. same_ends p q ≡ false) ps → AllByRecursion (λ b. same_link a b ≡ false) es
-  all_apart_back a p x [] [] j h = tt
-  all_apart_back a p x (b ∷ es) (q ∷ ps) j h = (sym (pair_same a b p q x j.0) ∙ h.0, all_apart_back a p x es ps j.1 h.1)
-  all_apart_back a p x [] (q ∷ ps) j h = absurd j
-  all_apart_back a p x (b ∷ es) [] j h = absurd j
+      → AllByRecursion (λ b. same_link a b ≡ false) es ↔ AllByRecursion (λ q. same_ends p q ≡ false) ps
+  all_apart a p x [] [] j = ((λ _. tt), λ _. tt)
+  all_apart a p x (b ∷ es) (q ∷ ps) j =
+      let here = pair_same a b p q x j.0 in
+      let more = all_apart a p x es ps j.1 in
+      ((λ h. (here ∙ h.0, more.0 h.1)), λ h. (sym here ∙ h.0, more.1 h.1))
+  all_apart a p x [] (q ∷ ps) j = absurd j
+  all_apart a p x (b ∷ es) [] j = absurd j
 
   -- links of names differ exactly where those of locations do
-  pub distinct_ends : (es : List Ends) (ps : List (ℕ × ℕ)) → AllJoin names es ps → IsDistinct same_link es → IsDistinct same_ends ps
+  pub distinct_alike : (es : List Ends) (ps : List (ℕ × ℕ)) → AllJoin names es ps → IsDistinct same_link es ↔ IsDistinct same_ends ps
   unfolding IsDistinct
-  distinct_ends [] [] j h = tt
-  distinct_ends (e ∷ es) (p ∷ ps) j h = (all_apart e p j.0 es ps j.1 h.0, distinct_ends es ps j.1 h.1)
-  distinct_ends [] (q ∷ ps) j h = absurd j
-  distinct_ends (b ∷ es) [] j h = absurd j
-
-  pub distinct_links : (es : List Ends) (ps : List (ℕ × ℕ)) → AllJoin names es ps → IsDistinct same_ends ps → IsDistinct same_link es
-  unfolding IsDistinct
-  distinct_links [] [] j h = tt
-  distinct_links (e ∷ es) (p ∷ ps) j h = (all_apart_back e p j.0 es ps j.1 h.0, distinct_links es ps j.1 h.1)
-  distinct_links [] (q ∷ ps) j h = absurd j
-  distinct_links (b ∷ es) [] j h = absurd j
+  distinct_alike [] [] j = ((λ _. tt), λ _. tt)
+  distinct_alike (e ∷ es) (p ∷ ps) j =
+      let here = all_apart e p j.0 es ps j.1 in
+      let more = distinct_alike es ps j.1 in
+      ((λ h. (here.0 h.0, more.0 h.1)), λ h. (here.1 h.0, more.1 h.1))
+  distinct_alike [] (q ∷ ps) j = absurd j
+  distinct_alike (b ∷ es) [] j = absurd j
 
   -- a test of locations that answers as one of names does
   pub any_join : (test : ℕ × ℕ → Bool) (named : Ends → Bool) → ((e : Ends) (p : ℕ × ℕ) → Joins names e p → test p ≡ named e)

@@ -1,27 +1,24 @@
 -- A topology that breaks no rule is a network.
-use Rattle.std.proofs.Common.{◌≡◌, ℕ, ◌+◌, ◌≤◌, List, [], ◌∷◌, ◌++◌, length, map, Ok, refl, sym, ap, ◌∙◌, map-id, length-append}
-use Rattle.std.specs.Prelude.{IsTrue, nat_eq, nat_le}
+use Rattle.std.proofs.Common.{◌≡◌, ℕ, ◌+◌, ◌≤◌, List, [], ◌∷◌, ◌++◌, length, map, Ok, refl, sym, ap, ap₂, ◌∙◌, map-id, length-append}
+use Rattle.std.specs.Prelude.{IsTrue, nat_le}
 use Rattle.std.specs.List.{AllByRecursion}
-use Rattle.std.specs.Str.{bytes_eq}
 use Rattle.std.proofs.lemmas.List.{map-append, length-map}
 use Rattle.std.proofs.lemmas.Bool.{leb-true}
 use Rattle.list_laws.proofs.Each.{AllByRecursion-append}
-use Rattle.list_laws.proofs.Texts.{bytes_eq_apart}
-use Rattle.list_laws.proofs.Numbers.{nat_eq_apart}
 use Rattle.net_base.specs.NameRule.{is_name}
-use Rattle.net_base.specs.Network.{IsNet}
+use Rattle.net_base.specs.Network.{PlainNet, IsNet}
 use Rattle.topology.specs.declared.parts.Kind.{Kind}
-use Rattle.topology.specs.declared.fault.TopoFault.TheVariants.{AsRange, Twice, BadName, TooMany}
+use Rattle.topology.specs.declared.fault.TopoFault.TheVariants.{AsRange, BadName, TooMany}
 use Rattle.net_base.specs.Steps.{◌>>=◌, each_from, unless}
 use Rattle.net_base.specs.declared.net.Site.{Site}
 use Rattle.topology.specs.declared.parts.Kind.TheVariants as kind
 use Rattle.topology.specs.declared.sites.Number.TheVariants as which
 use Rattle.topology.specs.Shape.{each, Entry, Ends, Topology, IsIdentifier}
-use Rattle.topology.proofs.Distinct.{all_unlike-distinct}
+use Rattle.topology.proofs.EntryFaults.{names_keep, numbers_keep}
 use Rattle.net_base.proofs.StepLemmas.{bind_ok, unless_ok, ok_same}
 use Rattle.topology.proofs.Results.{each_from-view, each_from-all}
 use Rattle.topology.proofs.LinkRules.{links_hold}
-use Rattle.topology.specs.Rules.{named, site_of, counted, names_differ, numbers_differ, names_of, links_of, network_of, judged, is_lawful_as, shared}
+use Rattle.topology.specs.Rules.{named, site_of, counted, names_differ, numbers_differ, names_of, links_of, network_of, judged, is_lawful_as, number}
 
 -- ---- what is kept of an entry
 
@@ -94,36 +91,72 @@ module _ (t : Topology) (routers peers : List Entry) (router_sites peer_sites : 
   unfolding judged
   judged-links = rw (few, named_routers, named_peers) (network_of-links routers peers t.links router_sites peer_sites names lawful_routers lawful_peers asns ids)
 
-  -- where they are kept too, the topology is a network
-  pub kept_IsNet : (links : List (ℕ × ℕ)) → links_of (names_of (routers ++ peers)) (length routers) t.links ≡ Ok links
-      → AllByRecursion (λ e. IsIdentifier e.id) t.routers → AllByRecursion (λ e. IsIdentifier e.id) t.peers
-      → IsNet (record { routers = router_sites; peers = peer_sites; links = links })
-  unfolding names_differ numbers_differ
-  kept_IsNet links linked id_routers id_peers =
-      let c = counted_holds t few in
-      let r = each_site kind.Routers routers router_sites lawful_routers in
-      let p = each_site kind.Peers peers peer_sites lawful_peers in
-      let l = links_hold (names_of (routers ++ peers)) (length routers) t.links links linked in
-      let all : map site_entry (router_sites ++ peer_sites) ≡ routers ++ peers = map-append site_entry router_sites peer_sites ∙ rw (r.0, p.0) refl in
-      let count_routers : length router_sites ≡ length routers = sym (length-map router_sites site_entry) ∙ ap length r.0 in
-      let count_peers : length peer_sites ≡ length peers = sym (length-map peer_sites site_entry) ∙ ap length p.0 in
-      let locations : length (names_of (routers ++ peers)) ≡ length router_sites + length peer_sites =
-      length-map (routers ++ peers) (λ (e : Entry). e.name) ∙ length-append routers peers ∙ rw (count_routers, count_peers) refl in
-      let ranges : AllByRecursion (λ e. IsIdentifier e.id) (routers ++ peers) =
-      AllByRecursion-append (λ (e : Entry). IsIdentifier e.id) routers peers (rw (each_named kind.Routers t.routers routers named_routers) id_routers)
-      (rw (each_named kind.Peers t.peers peers named_peers) id_peers) in
-      record {
-        routers = rw (count_routers, each_named kind.Routers t.routers routers named_routers) c.0;
-        peers = rw (count_peers, each_named kind.Peers t.peers peers named_peers) c.1;
-        count = rw l.2 c.2;
-        names =
-            rw (map_entry (λ e. e.name) (router_sites ++ peer_sites), all)
-            (all_unlike-distinct (λ (e : Entry). e.name) bytes_eq bytes_eq_apart (λ _ _ later. Twice later.name) [] (routers ++ peers) tt names).0;
-        router_asns = r.1;
-        peer_asns = p.1;
-        asns = rw (map_entry (λ e. e.asn) (router_sites ++ peer_sites), all) (all_unlike-distinct (λ (e : Entry). e.asn) nat_eq nat_eq_apart (λ _. shared which.As) [] (routers ++ peers) tt asns).0;
-        ids = rw (map_entry (λ e. e.id) (router_sites ++ peer_sites), all) (all_unlike-distinct (λ (e : Entry). e.id) nat_eq nat_eq_apart (λ _. shared which.Id) [] (routers ++ peers) tt ids).0;
-        id_ranges = all_entry (λ e. IsIdentifier e.id) (router_sites ++ peer_sites) (rw all ranges);
-        links = rw (locations, ← count_routers) at l.0;
-        order = l.1;
-      }
+-- ---- those of links are kept too
+
+-- the steps of a topology that is judged as this network
+pub record Judged (t : Topology) (net : PlainNet) : Type 0 where
+  pub few : counted t ≡ Ok tt
+  pub named_routers : each_from (named kind.Routers) 1 t.routers ≡ Ok t.routers
+  pub named_peers : each_from (named kind.Peers) 1 t.peers ≡ Ok t.peers
+  pub names : names_differ (t.routers ++ t.peers) ≡ Ok tt
+  pub lawful_routers : each (site_of kind.Routers) t.routers ≡ Ok net.routers
+  pub lawful_peers : each (site_of kind.Peers) t.peers ≡ Ok net.peers
+  pub asns : numbers_differ which.As (t.routers ++ t.peers) ≡ Ok tt
+  pub ids : numbers_differ which.Id (t.routers ++ t.peers) ≡ Ok tt
+  pub linked : links_of (names_of (t.routers ++ t.peers)) (length t.routers) t.links ≡ Ok net.links
+
+pub judged_steps : (t : Topology) (net : PlainNet) → judged t ≡ Ok net → Judged t net
+unfolding judged network_of
+judged_steps t net h =
+    let a = bind_ok (counted t) _ net h in
+    let b = bind_ok (each_from (named kind.Routers) 1 t.routers) _ net a.2 in
+    let c = bind_ok (each_from (named kind.Peers) 1 t.peers) _ net b.2 in
+    let rs : b.0 ≡ t.routers = each_named kind.Routers t.routers b.0 b.1 in
+    let ps : c.0 ≡ t.peers = each_named kind.Peers t.peers c.0 c.1 in
+    let all = t.routers ++ t.peers in
+    let d = bind_ok (names_differ all) _ net (sym (ap₂ (λ (xs ys : List Entry). network_of xs ys t.links) rs ps) ∙ c.2) in
+    let e = bind_ok (each (site_of kind.Routers) t.routers) _ net d.2 in
+    let f = bind_ok (each (site_of kind.Peers) t.peers) _ net e.2 in
+    let g = bind_ok (numbers_differ which.As all) _ net f.2 in
+    let i = bind_ok (numbers_differ which.Id all) _ net g.2 in
+    let k = bind_ok (links_of (names_of all) (length t.routers) t.links) _ net i.2 in
+    let same = ok_same (record { routers = e.0; peers = f.0; links = k.0 }) net k.2 in
+    record {
+      few = a.1;
+      named_routers = b.1 ∙ ap (λ es. Ok es) rs;
+      named_peers = c.1 ∙ ap (λ es. Ok es) ps;
+      names = d.1;
+      lawful_routers = e.1 ∙ ap (λ (n : PlainNet). Ok n.routers) same;
+      lawful_peers = f.1 ∙ ap (λ (n : PlainNet). Ok n.peers) same;
+      asns = g.1;
+      ids = i.1;
+      linked = k.1 ∙ ap (λ (n : PlainNet). Ok n.links) same;
+    }
+
+-- so the topology is a network
+pub kept_IsNet : (t : Topology) (net : PlainNet) → Judged t net → AllByRecursion (λ e. IsIdentifier e.id) t.routers → AllByRecursion (λ e. IsIdentifier e.id) t.peers → IsNet net
+kept_IsNet t net s id_routers id_peers =
+    let entries = t.routers ++ t.peers in
+    let sites = net.routers ++ net.peers in
+    let c = counted_holds t s.few in
+    let r = each_site kind.Routers t.routers net.routers s.lawful_routers in
+    let p = each_site kind.Peers t.peers net.peers s.lawful_peers in
+    let l = links_hold (names_of entries) (length t.routers) t.links net.links s.linked in
+    let all : map site_entry sites ≡ entries = map-append site_entry net.routers net.peers ∙ rw (r.0, p.0) refl in
+    let count_routers : length net.routers ≡ length t.routers = sym (length-map net.routers site_entry) ∙ ap length r.0 in
+    let count_peers : length net.peers ≡ length t.peers = sym (length-map net.peers site_entry) ∙ ap length p.0 in
+    let locations : length (names_of entries) ≡ length net.routers + length net.peers =
+    length-map entries (λ (e : Entry). e.name) ∙ length-append t.routers t.peers ∙ rw (count_routers, count_peers) refl in
+    record {
+      routers = rw count_routers c.0;
+      peers = rw count_peers c.1;
+      count = rw l.2 c.2;
+      names = rw (map_entry (λ e. e.name) sites, all) (names_keep entries s.names);
+      router_asns = r.1;
+      peer_asns = p.1;
+      asns = rw (map_entry (number which.As) sites, all) (numbers_keep which.As entries s.asns);
+      ids = rw (map_entry (number which.Id) sites, all) (numbers_keep which.Id entries s.ids);
+      id_ranges = all_entry (λ e. IsIdentifier e.id) sites (rw all (AllByRecursion-append (λ (e : Entry). IsIdentifier e.id) t.routers t.peers id_routers id_peers));
+      links = rw (locations, ← count_routers) at l.0;
+      order = l.1;
+    }

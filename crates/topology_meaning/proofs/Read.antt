@@ -12,25 +12,24 @@ use Rattle.list_laws.proofs.Tests.{find-any, find_parts}
 use Rattle.serde_json.specs.Data.{Data, number, string, array, Items, no_items, item, unsigned}
 use Rattle.serde_json.specs.Events.{members_len}
 use Rattle.serde_json.specs.Find.{get, as_object, as_str}
-use Rattle.json_words.specs.Json.{json_of, list_at, text_at, number_at}
-use Rattle.json_words.proofs.JsonTexts.{json_of-value}
+use Rattle.json_words.specs.Json.{list_at, text_at, number_at}
+use Rattle.item_laws.proofs.TextLaws.{says_read}
 use Rattle.net_base.specs.declared.net.Site.{Site}
 use Rattle.net_base.specs.Addresses.{address_of}
 use Rattle.net_base.specs.NameRule.{is_name}
 use Rattle.net_base.specs.Network.{PlainNet, sites}
-use Rattle.net_base.specs.Steps.{◌>>=◌, or_fault, unless, each_from}
+use Rattle.net_base.specs.Steps.{or_fault, unless, each_from}
 use Rattle.net_base.proofs.StepLemmas.{bind_ok, or_fault_ok, unless_ok, ok_same}
 use Rattle.topology.specs.declared.fault.TopoFault.{TopoFault}
 use Rattle.topology.specs.declared.fault.TopoFault.TheVariants.{NotJson, Shape}
 use Rattle.topology.specs.declared.parts.Field.TheVariants as field
 use Rattle.topology.specs.declared.parts.Kind.TheVariants as kind
-use Rattle.topology.specs.declared.sites.Number.TheVariants as which
-use Rattle.topology.specs.Rules.{ascending, counted, names_differ, numbers_differ, named, site_of, names_of, joined, links_differ, ends_differ, routers_linked, links_of, network_of, judged}
+use Rattle.topology.specs.Rules.{ascending, named, names_of, joined, links_differ, ends_differ, routers_linked, links_of, judged}
 use Rattle.topology.specs.Shape.{Entry, Ends, Topology, each, entry_of, ends_of, identifier_of, shape_of}
 use Rattle.topology.specs.Topology.{spelled}
 use Rattle.topology.proofs.EntryFaults.{all_named}
 use Rattle.topology.proofs.LinkNames.{Joins, AllJoin, all_join}
-use Rattle.topology.proofs.Networks.{each_named, each_site}
+use Rattle.topology.proofs.Networks.{each_site, judged_steps}
 use Rattle.topology.proofs.TextLaws.{net_read}
 use Rattle.topology_meaning.specs.Meaning.{HasKeys, EachSays, HasArray, SaysSite, SaysEnds, SaysLink, IsTopologyOf}
 use Rattle.topology_meaning.proofs.Parts.{is_object, text_there, number_there, items_there, two_there, each_says}
@@ -158,29 +157,18 @@ links_say names routers es links h =
     (a.0, all_join names 1 es a.0 a.1, ok_same (ascending a.0) links d.2)
 
 judged_says : (t : Topology) (net : PlainNet) → judged t ≡ Ok net → SaysNet t net
-unfolding judged network_of
 judged_says t net h =
-    let a = bind_ok (counted t) _ net h in
-    let b = bind_ok (each_from (named kind.Routers) 1 t.routers) _ net a.2 in
-    let c = bind_ok (each_from (named kind.Peers) 1 t.peers) _ net b.2 in
-    let d = bind_ok (names_differ (b.0 ++ c.0)) _ net c.2 in
-    let e = bind_ok (each (site_of kind.Routers) b.0) _ net d.2 in
-    let f = bind_ok (each (site_of kind.Peers) c.0) _ net e.2 in
-    let g = bind_ok (numbers_differ which.As (b.0 ++ c.0)) _ net f.2 in
-    let i = bind_ok (numbers_differ which.Id (b.0 ++ c.0)) _ net g.2 in
-    let k = bind_ok (links_of (names_of (b.0 ++ c.0)) (length b.0) t.links) _ net i.2 in
-    let rs : b.0 ≡ t.routers = each_named kind.Routers t.routers b.0 b.1 in
-    let ps : c.0 ≡ t.peers = each_named kind.Peers t.peers c.0 c.1 in
-    let l = links_say (names_of (b.0 ++ c.0)) (length b.0) t.links k.0 k.1 in
-    rw (← ok_same _ net k.2) (record {
-      routers = (each_site kind.Routers b.0 e.0 e.1).0 ∙ rs;
-      peers = (each_site kind.Peers c.0 f.0 f.1).0 ∙ ps;
-      named_routers = all_named kind.Routers 1 t.routers b.0 b.1;
-      named_peers = all_named kind.Peers 1 t.peers c.0 c.1;
+    let s = judged_steps t net h in
+    let l = links_say (names_of (t.routers ++ t.peers)) (length t.routers) t.links net.links s.linked in
+    record {
+      routers = (each_site kind.Routers t.routers net.routers s.lawful_routers).0;
+      peers = (each_site kind.Peers t.peers net.peers s.lawful_peers).0;
+      named_routers = all_named kind.Routers 1 t.routers t.routers s.named_routers;
+      named_peers = all_named kind.Peers 1 t.peers t.peers s.named_peers;
       links = l.0;
-      joins = subst (λ names. AllJoin names t.links l.0) (ap names_of (ap₂ (λ (xs ys : List Entry). xs ++ ys) rs ps)) l.1;
+      joins = l.1;
       ascend = l.2;
-    })
+    }
 
 -- the arrays of a value
 pub record SaysTopology (d : Data) (t : Topology) : Type 0 where
@@ -227,22 +215,21 @@ array_of_sites key d es ss same named s =
 pub networks_are_meant : (bytes : List ℕ) (net : PlainNet) → spelled bytes ≡ Ok net → IsTopologyOf bytes net
 unfolding spelled
 networks_are_meant bytes net h =
-    let a = bind_ok (or_fault NotJson (json_of bytes)) (λ d. shape_of d >>= (λ t. judged t)) net h in
-    let b = bind_ok (shape_of a.0) (λ t. judged t) net a.2 in
-    let v = json_of-value bytes a.0 (or_fault_ok NotJson (json_of bytes) a.0 a.1) in
-    let s = shape_says a.0 b.0 b.1 in
-    let n = judged_says b.0 net b.2 in
-    let names : names_of (b.0.routers ++ b.0.peers) ≡ map (λ (x : Site). x.name) (sites net) =
+    let r = says_read NotJson shape_of judged bytes net h in
+    let said = r.0 in
+    let s = shape_says r.1.0 said r.1.3 in
+    let n = judged_says said net r.2 in
+    let names : names_of (said.routers ++ said.peers) ≡ map (λ (x : Site). x.name) (sites net) =
     ap names_of (ap₂ (λ (xs ys : List Entry). xs ++ ys) (sym n.routers) (sym n.peers) ∙ sym (map-append entry net.routers net.peers)) ∙ names_entries (sites net) in
     record {
-      utf8 = v.0;
-      value = a.0;
-      json = v.1;
+      utf8 = r.1.1;
+      value = r.1.0;
+      json = r.1.2;
       keys = s.keys;
-      routers = array_of_sites (codes "routers") a.0 b.0.routers net.routers n.routers n.named_routers s.routers;
-      peers = array_of_sites (codes "peers") a.0 b.0.peers net.peers n.peers n.named_peers s.peers;
+      routers = array_of_sites (codes "routers") r.1.0 said.routers net.routers n.routers n.named_routers s.routers;
+      peers = array_of_sites (codes "peers") r.1.0 said.peers net.peers n.peers n.named_peers s.peers;
       links = n.links;
-      said = (s.links.0, s.links.1, links_said net s.links.0 b.0.links n.links s.links.2 (subst (λ x. AllJoin x b.0.links n.links) names n.joins));
+      said = (s.links.0, s.links.1, links_said net s.links.0 said.links n.links s.links.2 (subst (λ x. AllJoin x said.links n.links) names n.joins));
       ascend = n.ascend;
       lawful = net_read bytes net h;
     }

@@ -1,9 +1,7 @@
-use Rattle.std.proofs.Common.{arith, ◌≡◌, ◌≢◌, ◌∙◌, Err, refl, map, length-append}
-use Rattle.std.proofs.lemmas.Result.{err_from_is_err_and}
+use Rattle.std.proofs.Common.{arith, ◌≡◌, ◌∙◌, refl, map, length-append}
 use Rattle.serde_json.specs.View.{view}
-use Rattle.net_base.specs.Steps.{each_from}
+use Rattle.list_laws.proofs.Exits.{passed_on}
 use Rattle.item_laws.proofs.ItemsRead.{each_from-ok, each_from-stop, each_from-end}
-use Rattle.event_reader.specs.declared.fault.EventsFault.TheVariants.{NoMemory}
 use Rattle.event_reader.specs.Shape.{event_of}
 use Rattle.event_reader.specs.Views.{raw_event}
 use Rattle.event_reader.proofs.shape.events.Goals as goal
@@ -21,16 +19,12 @@ loop-value-preserved c =
 pub returns-in_err-read : goal.returns-in_err-read
 returns-in_err-read c =
     let here : c.len.result ≡ c.loop-value.value-index = omega (arith, c.loop-value.invariant.count) in
-    let told : c.in_err-read.field-0.0 ≢ NoMemory → each_from event_of 1 (map view c.args.values.now) ≡ Err c.in_err-read.field-0.0 = λ n.
+    rw (passed_on c.from_residual.result c.from_residual.ensures.1) (λ n.
     each_from-stop view event_of c.args.values.now c.loop-value.value-index _ c.loop-value-test.true c.value-item.is _ _ _
-    ((rw here at c.in_err-read.ensures) n) c.loop-value.invariant.read in
-    let p = err_from_is_err_and c.from_residual.result c.from_residual.ensures.1 in
-    rw (p.1, p.2) told
+    ((rw here at c.in_err-read.ensures) n) c.loop-value.invariant.read)
 
 pub returns : goal.returns
 returns c = each_from-end view event_of c.args.values.now (map raw_event c.loop-value.all.items) c.loop-value.value-index _ c.loop-value-test.false c.loop-value.invariant.read
 
 pub returns-in_err-push : goal.returns-in_err-push
-returns-in_err-push c =
-    let p = err_from_is_err_and c.from_residual-in_err-push.result c.from_residual-in_err-push.ensures.1 in
-    rw p.1 (λ n. absurd (n p.2))
+returns-in_err-push c = rw (passed_on c.from_residual-in_err-push.result c.from_residual-in_err-push.ensures.1) (λ n. absurd (n refl))

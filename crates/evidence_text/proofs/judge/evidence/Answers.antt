@@ -1,4 +1,4 @@
-use Rattle.std.proofs.Common.{◌≡◌, ◌++◌, ◌∷◌, ◌∙◌, [], ap, length, map, refl, rules, sym, true}
+use Rattle.std.proofs.Common.{◌≡◌, ◌++◌, ◌∷◌, ◌∙◌, [], ap, length, map, refl, rules, sym, true, map-id}
 use Rattle.std.proofs.lemmas.Iterator.Adapters.{YieldsList-from_vec}
 use Rattle.std.proofs.lemmas.Iterator.Consumers.{YieldsList-turn, YieldsList-end}
 use Rattle.std.proofs.lemmas.List.{map-append}
@@ -6,7 +6,6 @@ use Rattle.std.proofs.lemmas.Option.{slice_get_read}
 use Rattle.list_laws.proofs.Each.{AllByRecursion_at, AllByRecursion-from_list_all}
 use Rattle.evidence_text.specs.Ranges.{IsReadCase}
 use Rattle.evidence_text.specs.Spelled.{evidence_of, is_placed}
-use Rattle.evidence_text.proofs.Rewritten.{map_same}
 use Rattle.evidence_text.proofs.judge.evidence.Goals as goal
 
 pub case_evidence-requires-clause-ranges : goal.case_evidence-requires-clause-ranges
@@ -39,4 +38,4 @@ pub returns-clause-evidence : goal.returns-clause-evidence
 returns-clause-evidence c =
     let end = YieldsList-end (YieldsList-from_vec {s = c.into_iter-case-iterator.result} c.args.cases (search rules) (search rules))
     c.loop-case.yielded c.loop-case.case-iterator c.loop-case.yielded_by c.next.result c.next.new.self c.in-None.is c.next.ensures.steps in
-    c.loop-case.invariant ∙ ap (map evidence_of) (sym (map_same c.loop-case.yielded) ∙ end.0)
+    c.loop-case.invariant ∙ ap (map evidence_of) (sym (map-id c.loop-case.yielded) ∙ end.0)

@@ -1,18 +1,16 @@
-use Rattle.std.proofs.Common.{length, refl, ◌≡◌, ◌≢◌, ◌∙◌, Err, ap}
+use Rattle.std.proofs.Common.{length, refl, ◌∙◌, ap, map-id}
 use Rattle.std.proofs.lemmas.Option.{slice_get_read}
-use Rattle.std.proofs.lemmas.Result.{err_from_is_err_and}
 use Rattle.list_laws.proofs.Each.{AllByRecursion_at}
 use Rattle.net_base.specs.Steps.{each_from}
-use Rattle.evidence_text.specs.declared.fault.EvidenceFault.TheVariants.{NoMemory}
 use Rattle.evidence_text.specs.Ranges.{HasRanges}
 use Rattle.evidence_text.specs.Spelled.{numbered_case}
+use Rattle.list_laws.proofs.Exits.{passed_on}
 use Rattle.item_laws.proofs.ItemsRead.{each_from-start, each_from-next, each_from-stop, each_from-end}
-use Rattle.evidence_text.proofs.Rewritten.{map_same}
 use Rattle.evidence_text.proofs.judge.read_cases.Goals as goal
 
 pub loop-case-init : goal.loop-case-init
 loop-case-init c =
-    each_from-start (λ x. x) (λ _. numbered_case) c.args.raw.now _ c.in_ok-all.ensures.items ∙ ap (each_from (λ _. numbered_case) 1) (map_same c.args.raw.now)
+    each_from-start (λ x. x) (λ _. numbered_case) c.args.raw.now _ c.in_ok-all.ensures.items ∙ ap (each_from (λ _. numbered_case) 1) (map-id c.args.raw.now)
 
 pub loop-case-preserved : goal.loop-case-preserved
 loop-case-preserved c =
@@ -21,10 +19,8 @@ loop-case-preserved c =
 
 pub returns-in_err-read : goal.returns-in_err-read
 returns-in_err-read c =
-    let told : c.in_err-read.field-0.0 ≢ NoMemory → each_from (λ _. numbered_case) 1 c.args.raw.now ≡ Err c.in_err-read.field-0.0 = λ n.
-    each_from-stop (λ x. x) (λ _. numbered_case) c.args.raw.now c.loop-case.case-index _ c.loop-case-test.true c.case-item.is _ _ _ (c.in_err-read.ensures n) c.loop-case.invariant in
-    let p = err_from_is_err_and c.from_residual-in_err-read.result c.from_residual-in_err-read.ensures.1 in
-    rw (p.1, p.2) told
+    rw (passed_on c.from_residual-in_err-read.result c.from_residual-in_err-read.ensures.1) (λ n.
+    each_from-stop (λ x. x) (λ _. numbered_case) c.args.raw.now c.loop-case.case-index _ c.loop-case-test.true c.case-item.is _ _ _ (c.in_err-read.ensures n) c.loop-case.invariant)
 
 pub returns : goal.returns
 returns c =
@@ -32,14 +28,10 @@ returns c =
     (each_from-end (λ x. x) (λ _. numbered_case) c.args.raw.now c.loop-case.all.items c.loop-case.case-index _ c.loop-case-test.false c.loop-case.invariant)
 
 pub returns-in_err-all : goal.returns-in_err-all
-returns-in_err-all c =
-    let p = err_from_is_err_and c.from_residual.result c.from_residual.ensures.1 in
-    rw p.1 (λ n. absurd (n p.2))
+returns-in_err-all c = rw (passed_on c.from_residual.result c.from_residual.ensures.1) (λ n. absurd (n refl))
 
 pub returns-in_err-push : goal.returns-in_err-push
-returns-in_err-push c =
-    let p = err_from_is_err_and c.from_residual-in_err-push.result c.from_residual-in_err-push.ensures.1 in
-    rw p.1 (λ n. absurd (n p.2))
+returns-in_err-push c = rw (passed_on c.from_residual-in_err-push.result c.from_residual-in_err-push.ensures.1) (λ n. absurd (n refl))
 
 pub read_case-requires : goal.read_case-requires
 read_case-requires c =

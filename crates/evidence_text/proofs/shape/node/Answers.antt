@@ -1,37 +1,35 @@
 use Rattle.std.proofs.Common.{refl}
-use Rattle.std.proofs.lemmas.Result.{err_from_is_err_and}
 use Rattle.evidence_text.specs.Shape.{node_of}
+use Rattle.list_laws.proofs.Exits.{passed_on}
 use Rattle.evidence_text.proofs.shape.node.Goals as goal
 
 pub returns-in_err-row : goal.returns-in_err-row
 unfolding node_of
-returns-in_err-row c =
-    let p = err_from_is_err_and c.from_residual.result c.from_residual.ensures.1 in
-    rw (p.1, p.2) (λ n. rw (c.in_err-row.ensures n) refl)
+returns-in_err-row c = rw (passed_on c.from_residual.result c.from_residual.ensures.1) (λ n. rw (c.in_err-row.ensures n) refl)
 
 pub returns-in_err-number_at : goal.returns-in_err-number_at
 unfolding node_of
 returns-in_err-number_at c =
-    let p = err_from_is_err_and c.from_residual-in_err-number_at.result c.from_residual-in_err-number_at.ensures.1 in
-    rw (p.1, p.2) (λ n. rw (c.in_ok-row.ensures, c.in_err-number_at.ensures.number n) refl)
+    rw (passed_on c.from_residual-in_err-number_at.result c.from_residual-in_err-number_at.ensures.1)
+    (λ n. rw (c.in_ok-row.ensures, c.in_err-number_at.ensures.number n) refl)
 
 pub returns-in_err-number_at-2 : goal.returns-in_err-number_at-2
 unfolding node_of
 returns-in_err-number_at-2 c =
-    let p = err_from_is_err_and c.from_residual-in_err-number_at-2.result c.from_residual-in_err-number_at-2.ensures.1 in
-    rw (p.1, p.2) (λ n. rw (c.in_ok-row.ensures, c.in_ok-number_at.ensures.number, c.in_err-number_at-2.ensures.number n) refl)
+    rw (passed_on c.from_residual-in_err-number_at-2.result c.from_residual-in_err-number_at-2.ensures.1)
+    (λ n. rw (c.in_ok-row.ensures, c.in_ok-number_at.ensures.number, c.in_err-number_at-2.ensures.number n) refl)
 
 pub returns-in_err-number_at-3 : goal.returns-in_err-number_at-3
 unfolding node_of
 returns-in_err-number_at-3 c =
-    let p = err_from_is_err_and c.from_residual-in_err-number_at-3.result c.from_residual-in_err-number_at-3.ensures.1 in
-    rw (p.1, p.2) (λ n. rw (c.in_ok-row.ensures, c.in_ok-number_at.ensures.number, c.in_ok-number_at-2.ensures.number, c.in_err-number_at-3.ensures.number n) refl)
+    rw (passed_on c.from_residual-in_err-number_at-3.result c.from_residual-in_err-number_at-3.ensures.1)
+    (λ n. rw (c.in_ok-row.ensures, c.in_ok-number_at.ensures.number, c.in_ok-number_at-2.ensures.number, c.in_err-number_at-3.ensures.number n) refl)
 
 pub returns-in_err-number_at-4 : goal.returns-in_err-number_at-4
 unfolding node_of
 returns-in_err-number_at-4 c =
-    let p = err_from_is_err_and c.from_residual-in_err-number_at-4.result c.from_residual-in_err-number_at-4.ensures.1 in
-    rw (p.1, p.2) (λ n. rw (
+    rw (passed_on c.from_residual-in_err-number_at-4.result c.from_residual-in_err-number_at-4.ensures.1)
+    (λ n. rw (
       c.in_ok-row.ensures,
       c.in_ok-number_at.ensures.number,
       c.in_ok-number_at-2.ensures.number,
@@ -42,8 +40,8 @@ returns-in_err-number_at-4 c =
 pub returns-in_err-number_at-5 : goal.returns-in_err-number_at-5
 unfolding node_of
 returns-in_err-number_at-5 c =
-    let p = err_from_is_err_and c.from_residual-in_err-number_at-5.result c.from_residual-in_err-number_at-5.ensures.1 in
-    rw (p.1, p.2) (λ n. rw (
+    rw (passed_on c.from_residual-in_err-number_at-5.result c.from_residual-in_err-number_at-5.ensures.1)
+    (λ n. rw (
       c.in_ok-row.ensures,
       c.in_ok-number_at.ensures.number,
       c.in_ok-number_at-2.ensures.number,
@@ -55,8 +53,8 @@ returns-in_err-number_at-5 c =
 pub returns-in_err-number_at-6 : goal.returns-in_err-number_at-6
 unfolding node_of
 returns-in_err-number_at-6 c =
-    let p = err_from_is_err_and c.from_residual-in_err-number_at-6.result c.from_residual-in_err-number_at-6.ensures.1 in
-    rw (p.1, p.2) (λ n. rw (
+    rw (passed_on c.from_residual-in_err-number_at-6.result c.from_residual-in_err-number_at-6.ensures.1)
+    (λ n. rw (
       c.in_ok-row.ensures,
       c.in_ok-number_at.ensures.number,
       c.in_ok-number_at-2.ensures.number,

@@ -1,9 +1,7 @@
-use Rattle.std.proofs.Common.{◌≡◌, ◌≢◌, Err, map}
-use Rattle.std.proofs.lemmas.Result.{err_from_is_err_and}
+use Rattle.std.proofs.Common.{refl}
 use Rattle.serde_json.specs.View.{view}
-use Rattle.net_base.specs.Steps.{each_from}
-use Rattle.evidence_text.specs.declared.fault.EvidenceFault.TheVariants.{NoMemory}
 use Rattle.evidence_text.specs.Shape.{number_of}
+use Rattle.list_laws.proofs.Exits.{passed_on}
 use Rattle.item_laws.proofs.ItemsRead.{each_from-start, each_from-next, each_from-stop, each_from-end}
 use Rattle.evidence_text.proofs.shape.numbers.Goals as goal
 
@@ -18,22 +16,16 @@ loop-value-preserved c =
 
 pub returns-in_err-read : goal.returns-in_err-read
 returns-in_err-read c =
-    let told : c.in_err-read.field-0.0 ≢ NoMemory → each_from (λ _. number_of c.args.field 0 c.args.most) 1 (map view c.args.values.now) ≡ Err c.in_err-read.field-0.0 = λ n.
+    rw (passed_on c.from_residual-in_err-read.result c.from_residual-in_err-read.ensures.1) (λ n.
     each_from-stop view (λ _. number_of c.args.field 0 c.args.most) c.args.values.now
-    c.loop-value.value-index _ c.loop-value-test.true c.value-item.is _ _ _ (c.in_err-read.ensures.number n) c.loop-value.invariant in
-    let p = err_from_is_err_and c.from_residual-in_err-read.result c.from_residual-in_err-read.ensures.1 in
-    rw (p.1, p.2) told
+    c.loop-value.value-index _ c.loop-value-test.true c.value-item.is _ _ _ (c.in_err-read.ensures.number n) c.loop-value.invariant)
 
 pub returns : goal.returns
 returns c = rw c.from_vec.ensures (each_from-end view (λ _. number_of c.args.field 0 c.args.most) c.args.values.now c.loop-value.all.items
     c.loop-value.value-index _ c.loop-value-test.false c.loop-value.invariant)
 
 pub returns-in_err-all : goal.returns-in_err-all
-returns-in_err-all c =
-    let p = err_from_is_err_and c.from_residual.result c.from_residual.ensures.1 in
-    rw p.1 (λ n. absurd (n p.2))
+returns-in_err-all c = rw (passed_on c.from_residual.result c.from_residual.ensures.1) (λ n. absurd (n refl))
 
 pub returns-in_err-push : goal.returns-in_err-push
-returns-in_err-push c =
-    let p = err_from_is_err_and c.from_residual-in_err-push.result c.from_residual-in_err-push.ensures.1 in
-    rw p.1 (λ n. absurd (n p.2))
+returns-in_err-push c = rw (passed_on c.from_residual-in_err-push.result c.from_residual-in_err-push.ensures.1) (λ n. absurd (n refl))

@@ -1,12 +1,9 @@
-use Rattle.std.proofs.Common.{◌<◌, ◌≡◌, ◌≢◌, Err}
-use Rattle.std.proofs.lemmas.Result.{err_from_is_err_and}
+use Rattle.std.proofs.Common.{◌<◌, refl}
 use Rattle.std.proofs.lemmas.List.{get_or_default}
 use Rattle.std.proofs.lemmas.List.Elements.{All-push}
-use Rattle.net_base.specs.Steps.{each_from}
 use Rattle.net_base.specs.declared.limits.TheConstants.{LOCATIONS}
+use Rattle.list_laws.proofs.Exits.{passed_on}
 use Rattle.item_laws.proofs.ItemsRead.{each_from-next, each_from-stop, each_from-end}
-use Rattle.net_index.specs.Names.{texts}
-use Rattle.scenario_reader.specs.declared.fault.ScenarioFault.TheVariants.{NoMemory}
 use Rattle.scenario_reader.specs.Rules.{located}
 use Rattle.scenario_reader.proofs.judge.locate_each.Goals as goal
 
@@ -21,16 +18,12 @@ loop-name-preserved c = record {
 
 pub returns-in_err-at-clause-locations : goal.returns-in_err-at-clause-locations
 returns-in_err-at-clause-locations c =
-    let told : c.in_err-at.field-0.0 ≢ NoMemory → each_from (λ _. located c.args.names.now c.args.field) 1 (texts c.args.raw.now) ≡ Err c.in_err-at.field-0.0 = λ n.
+    rw (passed_on c.from_residual.result c.from_residual.ensures.1) (λ n.
     each_from-stop (λ k. k.now) (λ _. located c.args.names.now c.args.field) c.args.raw.now c.loop-name.name-index _ c.loop-name-test.true (get_or_default _ _ _ _ c.loop-name-test.true) _ _ _
-    (c.in_err-at.ensures.location n) c.loop-name.invariant.read in
-    let p = err_from_is_err_and c.from_residual.result c.from_residual.ensures.1 in
-    rw (p.1, p.2) told
+    (c.in_err-at.ensures.location n) c.loop-name.invariant.read)
 
 pub returns-in_err-push-clause-locations : goal.returns-in_err-push-clause-locations
-returns-in_err-push-clause-locations c =
-    let p = err_from_is_err_and c.from_residual-in_err-push.result c.from_residual-in_err-push.ensures.1 in
-    rw p.1 (λ n. absurd (n p.2))
+returns-in_err-push-clause-locations c = rw (passed_on c.from_residual-in_err-push.result c.from_residual-in_err-push.ensures.1) (λ n. absurd (n refl))
 
 pub returns-clause-locations : goal.returns-clause-locations
 returns-clause-locations c = each_from-end (λ k. k.now) (λ _. located c.args.names.now c.args.field) c.args.raw.now c.loop-name.all.items

@@ -1,9 +1,7 @@
-use Rattle.std.proofs.Common.{◌≡◌, ◌≢◌, Err, map}
-use Rattle.std.proofs.lemmas.Result.{err_from_is_err_and}
+use Rattle.std.proofs.Common.{refl}
 use Rattle.std.proofs.lemmas.List.{get_or_default}
-use Rattle.net_base.specs.Steps.{each_from}
+use Rattle.list_laws.proofs.Exits.{passed_on}
 use Rattle.item_laws.proofs.ItemsRead.{each_from-next, each_from-start, each_from-stop, each_from-end}
-use Rattle.scenario_reader.specs.declared.fault.ScenarioFault.TheVariants.{NoMemory}
 use Rattle.scenario_reader.specs.Rules.{both_located}
 use Rattle.scenario_reader.specs.Views.{raw_ends}
 use Rattle.scenario_reader.proofs.judge.locate_pairs.Goals as goal
@@ -19,16 +17,12 @@ loop-ends-init c = each_from-start raw_ends (λ _. both_located c.args.names.now
 
 pub returns-in_err-pair : goal.returns-in_err-pair
 returns-in_err-pair c =
-    let told : c.in_err-pair.field-0.0 ≢ NoMemory → each_from (λ _. both_located c.args.names.now c.args.field) 1 (map raw_ends c.args.raw.now) ≡ Err c.in_err-pair.field-0.0 = λ n.
+    rw (passed_on c.from_residual.result c.from_residual.ensures.1) (λ n.
     each_from-stop raw_ends (λ _. both_located c.args.names.now c.args.field) c.args.raw.now c.loop-ends.ends-index _ c.loop-ends-test.true (get_or_default _ _ _ _ c.loop-ends-test.true) _ _ _
-    (c.in_err-pair.ensures n) c.loop-ends.invariant in
-    let p = err_from_is_err_and c.from_residual.result c.from_residual.ensures.1 in
-    rw (p.1, p.2) told
+    (c.in_err-pair.ensures n) c.loop-ends.invariant)
 
 pub returns-in_err-push : goal.returns-in_err-push
-returns-in_err-push c =
-    let p = err_from_is_err_and c.from_residual-in_err-push.result c.from_residual-in_err-push.ensures.1 in
-    rw p.1 (λ n. absurd (n p.2))
+returns-in_err-push c = rw (passed_on c.from_residual-in_err-push.result c.from_residual-in_err-push.ensures.1) (λ n. absurd (n refl))
 
 pub returns : goal.returns
 returns c = each_from-end raw_ends (λ _. both_located c.args.names.now c.args.field) c.args.raw.now c.loop-ends.all.items c.loop-ends.ends-index _ c.loop-ends-test.false c.loop-ends.invariant

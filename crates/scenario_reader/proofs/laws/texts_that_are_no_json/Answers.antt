@@ -1,8 +1,8 @@
-use Rattle.scenario_reader.proofs.TextLaws.{not_json-only, not_json-all}
+use Rattle.scenario_reader.proofs.TextLaws.{answers}
 use Rattle.scenario_reader.proofs.laws.texts_that_are_no_json.Goals as goal
 
 pub returns-clause-only : goal.returns-clause-only
-returns-clause-only c = not_json-only
+returns-clause-only c = λ net. (answers net).not_json_only
 
 pub returns-clause-all : goal.returns-clause-all
-returns-clause-all c = not_json-all
+returns-clause-all c = λ net. (answers net).not_json_all

@@ -1,8 +1,8 @@
-use Rattle.scenario_reader.proofs.TextLaws.{says_read, read_where_kept}
+use Rattle.scenario_reader.proofs.TextLaws.{answers}
 use Rattle.scenario_reader.proofs.laws.texts_that_are_read.Goals as goal
 
 pub returns-clause-only : goal.returns-clause-only
-returns-clause-only c = says_read
+returns-clause-only c = λ net. (answers net).read_only
 
 pub returns-clause-all : goal.returns-clause-all
-returns-clause-all c = read_where_kept
+returns-clause-all c = λ net. (answers net).read_all

@@ -1,19 +1,17 @@
-use Rattle.std.proofs.Common.{◌≡◌, ℕ, ◌+◌, ◌<◌, ◌∷◌, ◌∙◌, List, Option, Err, add-one, ap, arith, drop, drop-cons, get_or, length, refl, sym, true, false}
+use Rattle.std.proofs.Common.{◌≡◌, ℕ, ◌+◌, ◌<◌, ◌∙◌, List, Option, Err, ap, arith, drop, get_or, length, refl, sym, true, false}
 use Rattle.std.proofs.lemmas.List.{drop_all}
+use Rattle.item_laws.proofs.ItemsRead.{drop_here}
 use Rattle.config_base.specs.declared.route.Route.{Route}
 use Rattle.table_reader.specs.declared.fault.TablesFault.TheVariants.{Holder}
 use Rattle.table_reader.specs.Rules.{at_holders, begins_at}
 use Rattle.table_reader.proofs.judge.begin_at_holders.Goals as goal
 
 module _ (routes : List (Option Route)) (i : ℕ) (held : Option Route) (within : i < length routes) (is : held ≡ get_or routes i held) where
-  at : drop i routes ≡ held ∷ drop (i + 1) routes
-  at = drop-cons routes i held within ∙ rw (add-one, ← is) refl
-
   begins : begins_at i held ≡ true → at_holders i (drop i routes) ≡ at_holders (i + 1) (drop (i + 1) routes)
-  begins h = ap (at_holders i) at ∙ rw h refl
+  begins h = ap (at_holders i) (drop_here routes i held within is) ∙ rw h refl
 
   stops : begins_at i held ≡ false → at_holders i (drop i routes) ≡ Err (Holder (i + 1))
-  stops h = ap (at_holders i) at ∙ rw h refl
+  stops h = ap (at_holders i) (drop_here routes i held within is) ∙ rw h refl
 
 pub loop-i-preserved : goal.loop-i-preserved
 loop-i-preserved c =

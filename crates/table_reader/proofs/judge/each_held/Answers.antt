@@ -1,8 +1,6 @@
-use Rattle.std.proofs.Common.{arith, ◌≡◌, ◌≢◌, Err, map}
-use Rattle.std.proofs.lemmas.Result.{err_from_is_err_and}
-use Rattle.net_base.specs.Steps.{each_from}
+use Rattle.std.proofs.Common.{arith, refl}
+use Rattle.list_laws.proofs.Exits.{passed_on}
 use Rattle.item_laws.proofs.ItemsRead.{each_from-next, each_from-start, each_from-stop, each_from-end}
-use Rattle.table_reader.specs.declared.fault.TablesFault.TheVariants.{NoMemory}
 use Rattle.table_reader.specs.Rules.{held_by}
 use Rattle.table_reader.specs.Views.{raw_entry}
 use Rattle.table_reader.proofs.judge.each_held.Goals as goal
@@ -17,15 +15,11 @@ loop-i-init c = each_from-start raw_entry (held_by c.args.names.now) c.args.raw.
 
 pub returns-in_err-held : goal.returns-in_err-held
 returns-in_err-held c =
-    let told : c.in_err-held.field-0.0 ≢ NoMemory → each_from (held_by c.args.names.now) 1 (map raw_entry c.args.raw.now) ≡ Err c.in_err-held.field-0.0 = λ n.
-    each_from-stop raw_entry (held_by c.args.names.now) c.args.raw.now c.loop-i.i _ c.loop-i-test.true c.index-raw-i.is _ _ _ (c.in_err-held.ensures n) c.loop-i.invariant in
-    let p = err_from_is_err_and c.from_residual.result c.from_residual.ensures.1 in
-    rw (p.1, p.2) told
+    rw (passed_on c.from_residual.result c.from_residual.ensures.1) (λ n.
+    each_from-stop raw_entry (held_by c.args.names.now) c.args.raw.now c.loop-i.i _ c.loop-i-test.true c.index-raw-i.is _ _ _ (c.in_err-held.ensures n) c.loop-i.invariant)
 
 pub returns-in_err-push : goal.returns-in_err-push
-returns-in_err-push c =
-    let p = err_from_is_err_and c.from_residual-in_err-push.result c.from_residual-in_err-push.ensures.1 in
-    rw p.1 (λ n. absurd (n p.2))
+returns-in_err-push c = rw (passed_on c.from_residual-in_err-push.result c.from_residual-in_err-push.ensures.1) (λ n. absurd (n refl))
 
 pub returns : goal.returns
 returns c = each_from-end raw_entry (held_by c.args.names.now) c.args.raw.now c.loop-i.all c.loop-i.i _ (omega arith) c.loop-i.invariant

@@ -1,10 +1,7 @@
-use Rattle.std.proofs.Common.{◌≡◌, ◌≢◌, Err}
-use Rattle.std.proofs.lemmas.Result.{err_from_is_err_and}
+use Rattle.std.proofs.Common.{refl}
 use Rattle.std.proofs.lemmas.List.{get_or_default}
-use Rattle.net_base.specs.Steps.{each_from}
+use Rattle.list_laws.proofs.Exits.{passed_on}
 use Rattle.item_laws.proofs.ItemsRead.{each_from-next, each_from-start, each_from-stop, each_from-end}
-use Rattle.net_index.specs.Names.{texts}
-use Rattle.table_reader.specs.declared.fault.TablesFault.TheVariants.{NoMemory}
 use Rattle.table_reader.specs.Rules.{located}
 use Rattle.table_reader.proofs.judge.path.Goals as goal
 
@@ -19,16 +16,12 @@ loop-name-init c = each_from-start (λ k. k.now) (λ _. located c.args.names.now
 
 pub returns-in_err-at : goal.returns-in_err-at
 returns-in_err-at c =
-    let told : c.in_err-at.field-0.0 ≢ NoMemory → each_from (λ _. located c.args.names.now c.args.place) 1 (texts c.args.raw.now) ≡ Err c.in_err-at.field-0.0 = λ n.
+    rw (passed_on c.from_residual.result c.from_residual.ensures.1) (λ n.
     each_from-stop (λ k. k.now) (λ _. located c.args.names.now c.args.place) c.args.raw.now c.loop-name.name-index _ c.loop-name-test.true (get_or_default _ _ _ _ c.loop-name-test.true) _ _ _
-    (c.in_err-at.ensures n) c.loop-name.invariant in
-    let p = err_from_is_err_and c.from_residual.result c.from_residual.ensures.1 in
-    rw (p.1, p.2) told
+    (c.in_err-at.ensures n) c.loop-name.invariant)
 
 pub returns-in_err-push : goal.returns-in_err-push
-returns-in_err-push c =
-    let p = err_from_is_err_and c.from_residual-in_err-push.result c.from_residual-in_err-push.ensures.1 in
-    rw p.1 (λ n. absurd (n p.2))
+returns-in_err-push c = rw (passed_on c.from_residual-in_err-push.result c.from_residual-in_err-push.ensures.1) (λ n. absurd (n refl))
 
 pub returns : goal.returns
 returns c = each_from-end (λ k. k.now) (λ _. located c.args.names.now c.args.place) c.args.raw.now c.loop-name.all c.loop-name.name-index _ c.loop-name-test.false c.loop-name.invariant

@@ -1,8 +1,8 @@
-use Rattle.table_reader.proofs.TextLaws.{first_broken, told_where_broken}
+use Rattle.table_reader.proofs.TextLaws.{answers}
 use Rattle.table_reader.proofs.laws.first_broken_rule.Goals as goal
 
 pub returns-clause-only : goal.returns-clause-only
-returns-clause-only c = first_broken
+returns-clause-only c = λ net. (answers net).broken_only
 
 pub returns-clause-all : goal.returns-clause-all
-returns-clause-all c = told_where_broken
+returns-clause-all c = λ net. (answers net).broken_all

@@ -1,10 +1,10 @@
 use Rattle.std.proofs.Common.{◌≡◌, ◌≢◌, ◌++◌, ◌∙◌, refl, length, map, Ok, Err}
 use Rattle.std.proofs.lemmas.List.{length-map}
-use Rattle.std.proofs.lemmas.Result.{err_from_is_err_and}
 use Rattle.topology.specs.declared.fault.TopoFault.TheVariants.{NoMemory}
 use Rattle.topology.specs.Rules.{network_of, links_of, names_of}
 use Rattle.topology.specs.Views.{named_entry, raw_ends}
 use Rattle.topology.proofs.Networks.{network_of-links}
+use Rattle.list_laws.proofs.Exits.{passed_on}
 use Rattle.topology.proofs.rules.network_among.Goals as goal
 
 pub returns-in_err-sites : goal.returns-in_err-sites
@@ -13,8 +13,8 @@ returns-in_err-sites c =
     let ps = map named_entry c.args.peers.now in
     let whole : c.in_err-sites.field-0.0 ≢ NoMemory → network_of rs ps (map raw_ends c.args.ends.now) ≡ Err c.in_err-sites.field-0.0 = λ n.
     c.in_err-sites.ensures.fault n (map raw_ends c.args.ends.now) (rw c.requires.entries at c.in_ok-names.ensures.ok) in
-    let p = err_from_is_err_and c.from_residual-in_err-sites.result c.from_residual-in_err-sites.ensures.1 in
-    rw (p.1, p.2) whole
+    rw (passed_on c.from_residual-in_err-sites.result c.from_residual-in_err-sites.ensures.1)
+    whole
 
 pub returns-in_err-links : goal.returns-in_err-links
 returns-in_err-links c =
@@ -26,8 +26,8 @@ returns-in_err-links c =
     let whole : c.in_err-links.field-0.0 ≢ NoMemory → network_of rs ps (map raw_ends c.args.ends.now) ≡ Err c.in_err-links.field-0.0 = λ n.
     network_of-links rs ps (map raw_ends c.args.ends.now) _ _ (rw c.requires.entries at c.in_ok-names.ensures.ok) lawful.0 lawful.1 lawful.2 lawful.3
     ∙ rw (linked n) refl in
-    let p = err_from_is_err_and c.from_residual-in_err-links.result c.from_residual-in_err-links.ensures.1 in
-    rw (p.1, p.2) whole
+    rw (passed_on c.from_residual-in_err-links.result c.from_residual-in_err-links.ensures.1)
+    whole
 
 pub returns : goal.returns
 returns c =

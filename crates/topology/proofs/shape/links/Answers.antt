@@ -1,10 +1,8 @@
-use Rattle.std.proofs.Common.{◌≡◌, ◌≢◌, Err, ap, map}
-use Rattle.std.proofs.lemmas.Result.{err_from_is_err_and}
+use Rattle.std.proofs.Common.{ap, map, refl}
 use Rattle.serde_json.specs.View.{view}
-use Rattle.net_base.specs.Steps.{each_from}
-use Rattle.topology.specs.declared.fault.TopoFault.TheVariants.{NoMemory}
 use Rattle.topology.specs.Shape.{each, ends_of}
 use Rattle.topology.specs.Views.{raw_ends}
+use Rattle.list_laws.proofs.Exits.{passed_on}
 use Rattle.item_laws.proofs.ItemsRead.{each_from-start, each_from-ok, each_from-stop, each_from-end}
 use Rattle.topology.proofs.shape.links.Goals as goal
 
@@ -19,16 +17,12 @@ loop-value-preserved c =
 pub returns-in_err-read : goal.returns-in_err-read
 unfolding each
 returns-in_err-read c =
-    let told : c.in_err-read.field-0.0 ≢ NoMemory → each_from (λ _. ends_of) 1 (map view c.args.values.now) ≡ Err c.in_err-read.field-0.0 = λ n.
-    each_from-stop view (λ _. ends_of) c.args.values.now c.loop-value.value-index _ c.loop-value-test.true c.value-item.is _ _ _ (c.in_err-read.ensures n) c.loop-value.invariant in
-    let p = err_from_is_err_and c.from_residual.result c.from_residual.ensures.1 in
-    rw (p.1, p.2) told
+    rw (passed_on c.from_residual.result c.from_residual.ensures.1) (λ n.
+    each_from-stop view (λ _. ends_of) c.args.values.now c.loop-value.value-index _ c.loop-value-test.true c.value-item.is _ _ _ (c.in_err-read.ensures n) c.loop-value.invariant)
 
 pub returns : goal.returns
 unfolding each
 returns c = each_from-end view (λ _. ends_of) c.args.values.now (map raw_ends c.loop-value.all.items) c.loop-value.value-index _ c.loop-value-test.false c.loop-value.invariant
 
 pub returns-in_err-push : goal.returns-in_err-push
-returns-in_err-push c =
-    let p = err_from_is_err_and c.from_residual-in_err-push.result c.from_residual-in_err-push.ensures.1 in
-    rw p.1 (λ n. absurd (n p.2))
+returns-in_err-push c = rw (passed_on c.from_residual-in_err-push.result c.from_residual-in_err-push.ensures.1) (λ n. absurd (n refl))

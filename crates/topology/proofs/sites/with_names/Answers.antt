@@ -1,10 +1,8 @@
-use Rattle.std.proofs.Common.{arith, ◌≡◌, ◌≢◌, Err, map, length, length-append, refl, ap, ◌∙◌}
+use Rattle.std.proofs.Common.{arith, map, length, length-append, refl, ap, ◌∙◌}
 use Rattle.std.proofs.lemmas.List.{get_or_default}
-use Rattle.std.proofs.lemmas.Result.{err_from_is_err_and}
-use Rattle.net_base.specs.Steps.{each_from}
-use Rattle.topology.specs.declared.fault.TopoFault.TheVariants.{NoMemory}
 use Rattle.topology.specs.Rules.{named}
 use Rattle.topology.specs.Views.{raw_entry, named_entry}
+use Rattle.list_laws.proofs.Exits.{passed_on}
 use Rattle.item_laws.proofs.ItemsRead.{each_from-start, each_from-ok, each_from-stop, each_from-end}
 use Rattle.topology.proofs.sites.with_names.Goals as goal
 
@@ -26,20 +24,16 @@ loop-entry-preserved c = (
 
 pub returns-in_err-read-clause-entries : goal.returns-in_err-read-clause-entries
 returns-in_err-read-clause-entries c =
-    let told : c.in_err-read.field-0.0 ≢ NoMemory → each_from (named c.args.kind) 1 (map raw_entry c.args.raw.now) ≡ Err c.in_err-read.field-0.0 = λ n.
+    rw (passed_on c.from_residual.result c.from_residual.ensures.1) (λ n.
     each_from-stop raw_entry (named c.args.kind) c.args.raw.now c.loop-entry.entry-index _ c.loop-entry-test.true (get_or_default _ _ _ _ c.loop-entry-test.true) _ _ _
-    ((rw c.loop-entry.invariant.0 at c.in_err-read.ensures) n) c.loop-entry.invariant.2 in
-    let p = err_from_is_err_and c.from_residual.result c.from_residual.ensures.1 in
-    rw (p.1, p.2) told
+    ((rw c.loop-entry.invariant.0 at c.in_err-read.ensures) n) c.loop-entry.invariant.2)
 
 pub returns-clause-entries : goal.returns-clause-entries
 returns-clause-entries c =
     each_from-end raw_entry (named c.args.kind) c.args.raw.now (map named_entry c.loop-entry.all.items) c.loop-entry.entry-index _ c.loop-entry-test.false c.loop-entry.invariant.2
 
 pub returns-in_err-push-clause-entries : goal.returns-in_err-push-clause-entries
-returns-in_err-push-clause-entries c =
-    let p = err_from_is_err_and c.from_residual-in_err-push.result c.from_residual-in_err-push.ensures.1 in
-    rw p.1 (λ n. absurd (n p.2))
+returns-in_err-push-clause-entries c = rw (passed_on c.from_residual-in_err-push.result c.from_residual-in_err-push.ensures.1) (λ n. absurd (n refl))
 
 pub overflow_add-place : goal.overflow_add-place
 overflow_add-place c = omega (arith, c.loop-entry.invariant.0, c.loop-entry-test.true, c.requires)
