@@ -1,5 +1,5 @@
 -- A line of more than ten words has none of the forms.
-use Rattle.std.proofs.Common.{Bor, ◌≡◌, ℕ, ◌<◌, List, [], ◌∷◌, length, map, get_or, Bool, true, false, Result, Ok, Err, refl, arith, inl, inr}
+use Rattle.std.proofs.Common.{Bor, ◌≡◌, ℕ, ◌<◌, List, [], ◌∷◌, length, map, get_or, Bool, true, false, Result, Ok, Err, refl, sym, arith, inl, inr}
 use Rattle.std.specs.Prelude.{◌==◌, ◌⊎◌, codes}
 use Rattle.std.specs.Str.{bytes_eq}
 use Rattle.std.proofs.lemmas.Bool.{ne_eqb}
@@ -8,10 +8,11 @@ use Rattle.net_base.specs.Steps.{◌>>=◌, unless}
 use Rattle.config_lines.specs.declared.edition.Edition.{Edition}
 use Rattle.config_lines.specs.declared.line.LineFault.{LineFault}
 use Rattle.config_lines.specs.declared.line.LineFault.TheVariants.{Form}
-use Rattle.config_lines.specs.Lines.{class_line, router_line, own_line, neighbour, session_line, peer_line, setting, untagged_line, import_line, export_line, end_line, form_line, words_line}
+use Rattle.config_lines.specs.Lines.{class_line, router_line, neighbour, session_line, peer_line, setting, untagged_line, import_line, end_line, form_line, words_line}
 use Rattle.config_lines.specs.Numbers.{is_number, number_of, figure_of}
 use Rattle.config_lines.specs.Patterns.{pattern_of, behind_space}
 use Rattle.config_lines.specs.Words.{is_word}
+use Rattle.config_lines.proofs.OtherLengths.{other_router, other_own, other_neighbour, other_setting, other_export}
 
 -- what is read has its form, or else this is its fault
 abbrev pub IsFormal : {A : Type 0} → Result A LineFault → Type 0
@@ -50,9 +51,7 @@ long_piece [] long = refl
 long_piece (gap ∷ ws) long = no_form_behind (is_word [] gap) (λ _. pattern_of ws) (is_word-formal [] gap) (λ _. long_pattern ws (omega (arith, long)))
 
 pub long_setting : (edition : Edition) (ws : List (List ℕ)) → 4 < length ws → setting edition ws ≡ Err Form
-unfolding setting
-long_setting edition (a ∷ b ∷ c ∷ d ∷ e ∷ ws) long = refl
-long_setting edition _ long = absurd (omega (arith, long))
+long_setting edition ws long = sym (other_setting edition ws (λ e. omega (arith, e, long)))
 
 long_class : (ws ps : List (List ℕ)) → 9 < length ws → class_line ws ps ≡ Err Form
 unfolding class_line
@@ -69,19 +68,10 @@ unfolding import_line
 long_import edition classes ws long = rw (ne_eqb (length ws) 7 (λ e. omega (arith, e, long))) (long_untagged edition classes ws long)
 
 pub long_router : (edition : Edition) (ws : List (List ℕ)) → 9 < length ws → router_line edition ws ≡ Err Form
-unfolding router_line
-long_router edition (a ∷ b ∷ c ∷ d ∷ e ∷ f ∷ ws) long = refl
-long_router edition _ long = absurd (omega (arith, long))
-
-long_own : (edition : Edition) (classes : ℕ) (ws : List (List ℕ)) → 9 < length ws → own_line edition classes ws ≡ Err Form
-unfolding own_line
-long_own edition classes (a ∷ b ∷ c ∷ d ∷ e ∷ ws) long = refl
-long_own edition classes _ long = absurd (omega (arith, long))
+long_router edition ws long = sym (other_router edition ws (λ e. omega (arith, e, long)))
 
 long_neighbour : (ws : List (List ℕ)) → 9 < length ws → neighbour ws ≡ Err Form
-unfolding neighbour
-long_neighbour (a ∷ b ∷ c ∷ d ∷ ws) long = refl
-long_neighbour _ long = absurd (omega (arith, long))
+long_neighbour ws long = sym (other_neighbour ws (λ e. omega (arith, e, long)))
 
 pub long_session : (edition : Edition) (ws : List (List ℕ)) → 9 < length ws → session_line edition ws ≡ Err Form
 unfolding session_line
@@ -90,11 +80,6 @@ long_session edition ws long = rw (long_neighbour ws long) refl
 pub long_peer : (edition : Edition) (ws : List (List ℕ)) → 9 < length ws → peer_line edition ws ≡ Err Form
 unfolding peer_line
 long_peer edition ws long = rw (long_neighbour ws long) refl
-
-long_export : (edition : Edition) (classes : ℕ) (ws : List (List ℕ)) → 9 < length ws → export_line edition classes ws ≡ Err Form
-unfolding export_line
-long_export edition classes (a ∷ b ∷ c ∷ d ∷ ws) long = refl
-long_export edition classes _ long = absurd (omega (arith, long))
 
 pub long_end : (ws : List (List ℕ)) → 9 < length ws → end_line ws ≡ Err Form
 unfolding end_line
@@ -105,11 +90,11 @@ long_form : (edition : Edition) (classes : ℕ) (w : List ℕ) (ws : List (List 
 unfolding form_line
 long_form edition classes w ws long =
     either_way (bytes_eq w (codes "router")) _ _ (Err Form) (long_router edition ws long)
-    (either_way (bytes_eq w (codes "originate")) _ _ (Err Form) (long_own edition classes ws long)
+    (either_way (bytes_eq w (codes "originate")) _ _ (Err Form) (sym (other_own edition classes ws (λ e. omega (arith, e, long))))
     (either_way (bytes_eq w (codes "session")) _ _ (Err Form) (long_session edition ws long)
     (either_way (bytes_eq w (codes "peer")) _ _ (Err Form) (long_peer edition ws long)
     (either_way (bytes_eq w (codes "import")) _ _ (Err Form) (long_import edition classes ws long)
-    (either_way (bytes_eq w (codes "export")) _ _ (Err Form) (long_export edition classes ws long)
+    (either_way (bytes_eq w (codes "export")) _ _ (Err Form) (sym (other_export edition classes ws (λ e. omega (arith, e, long))))
     (either_way (bytes_eq w (codes "end")) _ _ (Err Form) (long_end ws long) refl))))))
 
 pub long_line : (edition : Edition) (classes : ℕ) (ws ps : List (List ℕ)) → 10 < length ws → words_line edition classes ws ps ≡ Err Form

@@ -46,6 +46,9 @@ pub class_there : (count n : ℕ) → IsClass count n → class_in count (Value 
 unfolding class_in
 class_there count n is = rw (le-leb 1 n is.0, le-leb n count is.1) refl
 
+pub class_low : (count n : ℕ) → count < 2 ^ 32 → IsClass count n → n < 2 ^ 32
+class_low count n few is = omega (arith, is.1, few)
+
 -- ---- words
 
 pub word_back : (fixed word : List ℕ) (u : ⊤) → is_word fixed word ≡ Ok u → word ≡ fixed

@@ -1,6 +1,6 @@
 -- Lines that are read are written so.
-use Rattle.std.proofs.Common.{◌≡◌, ℕ, List, [], ◌∷◌, ◌++◌, length, Bool, true, false, Option, Some, None, Ok, refl, sym, ◌∙◌, ap, ap₂, subst, arith, append_assoc}
-use Rattle.std.specs.Prelude.{◌==◌, IsTrue, Err, codes, if◌then◌else◌}
+use Rattle.std.proofs.Common.{◌≡◌, ℕ, ◌<◌, ◌^◌, List, [], ◌∷◌, ◌++◌, length, Bool, true, false, Option, Some, None, Ok, refl, sym, ◌∙◌, ap, ap₂, subst, arith, append_assoc}
+use Rattle.std.specs.Prelude.{◌==◌, IsTrue, Result, Err, codes, if◌then◌else◌}
 use Rattle.std.specs.List.{slice_split, join_with_byte, flat_map, AllByRecursion}
 use Rattle.std.specs.Fmt.{decimal}
 use Rattle.std.specs.Str.{bytes_eq}
@@ -13,6 +13,7 @@ use Rattle.net_base.specs.Numbers.{no_tag}
 use Rattle.net_base.specs.Prefixes.{PlainPattern, IsPattern}
 use Rattle.net_base.specs.PrefixText.{prefix_spelled}
 use Rattle.net_base.specs.Steps.{unless}
+use Rattle.net_base.specs.declared.numbers.Tag.{Tag}
 use Rattle.net_base.proofs.StepLemmas.{bind_ok, unless_ok, ok_same}
 use Rattle.text_words.specs.Texts.{address_text, prefix_text, pattern_text}
 use Rattle.config_base.specs.declared.config.Import.{Import}
@@ -25,7 +26,7 @@ use Rattle.config_lines.specs.declared.line.LineFault.TheVariants.{Form, Number}
 use Rattle.config_lines.specs.declared.number.Figure.{Figure}
 use Rattle.config_lines.specs.declared.number.Figure.TheVariants.{LeadingZero, Large, Value}
 use Rattle.config_lines.specs.declared.number.Setting.{Setting}
-use Rattle.config_lines.specs.Editions.{tag_text, fits_router, fits_peer}
+use Rattle.config_lines.specs.Editions.{tag_text, fits_router, fits_peer, fits_tag}
 use Rattle.config_lines.specs.LineText.{line_text, IsLine, IsNumbered, next_pattern}
 use Rattle.config_lines.specs.Lines.{class_line, router_line, own_line, neighbour, session_line, peer_line, setting, tagged_line, untagged_line, import_line, export_line}
 use Rattle.config_lines.specs.Lines.{end_line, form_line, words_line, pieces_line, line_of}
@@ -33,7 +34,7 @@ use Rattle.config_lines.specs.Numbers.{number_of, in_range, class_in, class_numb
 use Rattle.config_lines.specs.Patterns.{pattern_of, later_patterns}
 use Rattle.config_lines.specs.Words.{is_word, name_of, identifier_of, as_prefix, tag_of}
 use Rattle.config_lines.proofs.Digits.{number_back}
-use Rattle.config_lines.proofs.JoinedLines.{router_joined, own_joined, session_joined, peer_joined, export_joined, tagged_joined, untagged_joined}
+use Rattle.config_lines.proofs.JoinedLines.{router_joined, own_joined, neighbour_text, neighbour_joined, setting_words, export_joined, tagged_joined, untagged_joined}
 use Rattle.config_lines.proofs.PartLaws.{ranged_back, class_back, word_back, name_back, identifier_back, as_prefix_back}
 use Rattle.config_lines.proofs.Tags.{tag_back}
 use Rattle.config_lines.proofs.PatternLaws.{no_words, pattern_back, patterns_back, join_pieces}
@@ -42,15 +43,11 @@ use Rattle.config_lines.proofs.PatternLaws.{no_words, pattern_back, patterns_bac
 abbrev pub Says : Edition → ℕ → List (List ℕ) → Line → Type 0
 Says edition count words l = (join_with_byte 32 words ≡ line_text edition l) × IsLine edition count l
 
-pub router_back : (edition : Edition) (count : ℕ) (ws : List (List ℕ)) (l : Line) → router_line edition ws ≡ Ok l → Says edition count (codes "router" ∷ ws) l
+-- what is so of each router that the words say is so of the line
+pub router_back : (edition : Edition) (count : ℕ) (ws : List (List ℕ)) (l : Line) (P : Line → Type 0) → router_line edition ws ≡ Ok l
+    → ((name : List ℕ) (asn id : ℕ) → Says edition count (codes "router" ∷ ws) (line.Router name asn id) → P (line.Router name asn id)) → P l
 unfolding router_line
-router_back edition count [] l h = absurd cc
-router_back edition count (a ∷ []) l h = absurd cc
-router_back edition count (a ∷ b ∷ []) l h = absurd cc
-router_back edition count (a ∷ b ∷ c ∷ []) l h = absurd cc
-router_back edition count (a ∷ b ∷ c ∷ d ∷ []) l h = absurd cc
-router_back edition count (a ∷ b ∷ c ∷ d ∷ e ∷ f ∷ ws) l h = absurd cc
-router_back edition count (name ∷ asn ∷ n ∷ id ∷ address ∷ []) l h =
+router_back edition count (name ∷ asn ∷ n ∷ id ∷ address ∷ []) l P h said =
     let a = bind_ok (is_word (codes "asn") asn) _ l h in
     let b = bind_ok (is_word (codes "id") id) _ l a.2 in
     let f = bind_ok (number_of n) _ l b.2 in
@@ -61,18 +58,14 @@ router_back edition count (name ∷ asn ∷ n ∷ id ∷ address ∷ []) l h =
     let named = name_back name m.0 m.1 in
     let number = ranged_back n f.0 v.0 f.1 v.1 in
     let at = identifier_back address i.0 i.1 in
-    subst (Says edition count (codes "router" ∷ name ∷ asn ∷ n ∷ id ∷ address ∷ [])) (ok_same (line.Router m.0 v.0 i.0) l u.2) (
+    subst P (ok_same (line.Router m.0 v.0 i.0) l u.2) (said m.0 v.0 i.0 (
       router_joined name asn n id address m.0 (decimal v.0) (address_text i.0) (word_back (codes "asn") asn a.0 a.1) (word_back (codes "id") id b.0 b.1) named.0 number.0 at.0,
       (named.1, unless_ok Number (fits_router edition v.0) u.0 u.1, at.1, at.2),
-    )
+    ))
+router_back edition count _ l P h said = absurd cc
 
 own_back : (edition : Edition) (count : ℕ) (ws : List (List ℕ)) (l : Line) → own_line edition count ws ≡ Ok l → Says edition count (codes "originate" ∷ ws) l
 unfolding own_line
-own_back edition count [] l h = absurd cc
-own_back edition count (a ∷ []) l h = absurd cc
-own_back edition count (a ∷ b ∷ []) l h = absurd cc
-own_back edition count (a ∷ b ∷ c ∷ []) l h = absurd cc
-own_back edition count (a ∷ b ∷ c ∷ d ∷ e ∷ ws) l h = absurd cc
 own_back edition count (n ∷ prefix ∷ tag ∷ t ∷ []) l h =
     let f = bind_ok (number_of n) _ l h in
     let p = bind_ok (as_prefix (prefix_spelled prefix)) _ l f.2 in
@@ -88,20 +81,15 @@ own_back edition count (n ∷ prefix ∷ tag ∷ t ∷ []) l h =
       own_joined n prefix tag t (decimal c.0) (prefix_text p.0) (tag_text edition g.0) (word_back (codes "tag") tag w.0 w.1) class.0 base.0 tagged.0,
       ((class.1, tagged.1), base.1),
     )
+own_back edition count _ l h = absurd cc
 
 -- a neighbour's name and number
-pub record SaysNeighbour (ws : List (List ℕ)) (name : List ℕ) (asn : ℕ) : Type 0 where
-  pub session : join_with_byte 32 (codes "session" ∷ ws) ≡ codes "session " ++ name ++ codes " asn " ++ decimal asn
-  pub peer : join_with_byte 32 (codes "peer" ∷ ws) ≡ codes "peer " ++ name ++ codes " asn " ++ decimal asn
-  pub named : IsTrue (is_name name)
+abbrev pub SaysNeighbour : List ℕ → List (List ℕ) → List ℕ × ℕ → Type 0
+SaysNeighbour word ws x = (join_with_byte 32 (word ∷ ws) ≡ neighbour_text word x.0 x.1) × IsTrue (is_name x.0)
 
-pub neighbour_back : (ws : List (List ℕ)) (x : List ℕ × ℕ) → neighbour ws ≡ Ok x → SaysNeighbour ws x.0 x.1
+neighbour_back : (word : List ℕ) (ws : List (List ℕ)) (x : List ℕ × ℕ) → neighbour ws ≡ Ok x → SaysNeighbour word ws x
 unfolding neighbour
-neighbour_back [] x h = absurd cc
-neighbour_back (a ∷ []) x h = absurd cc
-neighbour_back (a ∷ b ∷ []) x h = absurd cc
-neighbour_back (a ∷ b ∷ c ∷ d ∷ ws) x h = absurd cc
-neighbour_back (name ∷ asn ∷ n ∷ []) x h =
+neighbour_back word (name ∷ asn ∷ n ∷ []) x h =
     let a = bind_ok (is_word (codes "asn") asn) _ x h in
     let m = bind_ok (name_of name) _ x a.2 in
     let f = bind_ok (number_of n) _ x m.2 in
@@ -109,71 +97,51 @@ neighbour_back (name ∷ asn ∷ n ∷ []) x h =
     let pair : (let q : List ℕ × ℕ = (m.0, v.0) in q) ≡ x = ok_same _ x v.2 in
     let named = name_back name m.0 m.1 in
     let number = (ranged_back n f.0 v.0 f.1 v.1).0 in
-    let word = word_back (codes "asn") asn a.0 a.1 in
-    subst (λ (q : List ℕ × ℕ). SaysNeighbour (name ∷ asn ∷ n ∷ []) q.0 q.1) pair (record {
-      session = session_joined name asn n m.0 (decimal v.0) word named.0 number;
-      peer = peer_joined name asn n m.0 (decimal v.0) word named.0 number;
-      named = named.1;
-    })
+    subst (SaysNeighbour word (name ∷ asn ∷ n ∷ [])) pair (neighbour_joined word name asn n m.0 (decimal v.0) (word_back (codes "asn") asn a.0 a.1) named.0 number, named.1)
+neighbour_back word _ x h = absurd cc
 
-session_back : (edition : Edition) (count : ℕ) (ws : List (List ℕ)) (l : Line) → session_line edition ws ≡ Ok l → Says edition count (codes "session" ∷ ws) l
+-- and of each session, behind this word
+pub session_back : (edition : Edition) (count : ℕ) (word : List ℕ) (ws : List (List ℕ)) (l : Line) (P : Line → Type 0) → session_line edition ws ≡ Ok l
+    → ((name : List ℕ) (asn : ℕ) → join_with_byte 32 (word ∷ ws) ≡ neighbour_text word name asn → IsLine edition count (line.Session name asn) → P (line.Session name asn)) → P l
 unfolding session_line
-session_back edition count ws l h =
+session_back edition count word ws l P h said =
     let x = bind_ok (neighbour ws) _ l h in
     let u = bind_ok (unless Number (fits_router edition x.0.1)) _ l x.2 in
-    let says = neighbour_back ws x.0 x.1 in
-    subst (Says edition count (codes "session" ∷ ws)) (ok_same (line.Session x.0.0 x.0.1) l u.2) (says.session, (says.named, unless_ok Number (fits_router edition x.0.1) u.0 u.1))
+    let says = neighbour_back word ws x.0 x.1 in
+    subst P (ok_same (line.Session x.0.0 x.0.1) l u.2) (said x.0.0 x.0.1 says.0 (says.1, unless_ok Number (fits_router edition x.0.1) u.0 u.1))
 
-pub peer_back : (edition : Edition) (count : ℕ) (ws : List (List ℕ)) (l : Line) → peer_line edition ws ≡ Ok l → Says edition count (codes "peer" ∷ ws) l
+-- and of each peer
+pub peer_back : (edition : Edition) (count : ℕ) (ws : List (List ℕ)) (l : Line) (P : Line → Type 0) → peer_line edition ws ≡ Ok l
+    → ((name : List ℕ) (asn : ℕ) → Says edition count (codes "peer" ∷ ws) (line.Peer name asn) → P (line.Peer name asn)) → P l
 unfolding peer_line
-peer_back edition count ws l h =
+peer_back edition count ws l P h said =
     let x = bind_ok (neighbour ws) _ l h in
     let u = bind_ok (unless Number (fits_peer edition x.0.1)) _ l x.2 in
-    let says = neighbour_back ws x.0 x.1 in
-    subst (Says edition count (codes "peer" ∷ ws)) (ok_same (line.Peer x.0.0 x.0.1) l u.2) (says.peer, (says.named, unless_ok Number (fits_peer edition x.0.1) u.0 u.1))
+    let says = neighbour_back (codes "peer") ws x.0 x.1 in
+    subst P (ok_same (line.Peer x.0.0 x.0.1) l u.2) (said x.0.0 x.0.1 (says.0, (says.1, unless_ok Number (fits_peer edition x.0.1) u.0 u.1)))
 
--- the words of a setting
-pub record SaysSetting (edition : Edition) (ws : List (List ℕ)) (s : Setting) : Type 0 where
-  pub set : List ℕ
-  pub tag : List ℕ
-  pub pref : List ℕ
-  pub number : List ℕ
-  pub words : ws ≡ set ∷ tag ∷ pref ∷ number ∷ []
-  pub is_set : set ≡ codes "set"
-  pub is_pref : pref ≡ codes "pref"
-  pub is_tag_text : tag_of edition tag ≡ Ok s.set
-  pub is_number_text : number_of number ≡ Ok s.pref
+-- the words of a setting, whose numbers fit
+pub record SaysSetting (edition : Edition) (ws : List (List ℕ)) (set : Tag) (pref : ℕ) : Type 0 where
+  pub words : ws ≡ setting_words edition set pref
+  pub fits : IsTrue (fits_tag edition set)
+  pub small : pref < 2 ^ 32
 
-pub setting_back : (edition : Edition) (ws : List (List ℕ)) (s : Setting) → setting edition ws ≡ Ok s → SaysSetting edition ws s
+pub setting_back : (edition : Edition) (ws : List (List ℕ)) (s : Setting) (tag : Tag) (pref : ℕ) → setting edition ws ≡ Ok s → tag_in_range edition s.set ≡ Ok tag
+    → in_range s.pref ≡ Ok pref → SaysSetting edition ws tag pref
 unfolding setting
-setting_back edition [] s h = absurd cc
-setting_back edition (a ∷ []) s h = absurd cc
-setting_back edition (a ∷ b ∷ []) s h = absurd cc
-setting_back edition (a ∷ b ∷ c ∷ []) s h = absurd cc
-setting_back edition (a ∷ b ∷ c ∷ d ∷ e ∷ ws) s h = absurd cc
-setting_back edition (set ∷ t ∷ pref ∷ n ∷ []) s h =
+setting_back edition (set ∷ t ∷ by ∷ n ∷ []) s tag pref h fits small =
     let a = bind_ok (is_word (codes "set") set) _ s h in
     let r = bind_ok (tag_of edition t) _ s a.2 in
-    let b = bind_ok (is_word (codes "pref") pref) _ s r.2 in
+    let b = bind_ok (is_word (codes "pref") by) _ s r.2 in
     let f = bind_ok (number_of n) _ s b.2 in
     let same : (let q : Setting = record { set = r.0; pref = f.0 } in q) ≡ s = ok_same _ s f.2 in
-    record {
-      set = set;
-      tag = t;
-      pref = pref;
-      number = n;
-      words = refl;
-      is_set = word_back (codes "set") set a.0 a.1;
-      is_pref = word_back (codes "pref") pref b.0 b.1;
-      is_tag_text = r.1 ∙ ap (λ (q : Setting). Ok q.set) same;
-      is_number_text = f.1 ∙ ap (λ (q : Setting). Ok q.pref) same;
-    }
+    let tagged = tag_back edition t s.set tag (r.1 ∙ ap (λ (q : Setting). Ok q.set) same) fits in
+    let number = ranged_back n s.pref pref (f.1 ∙ ap (λ (q : Setting). Ok q.pref) same) small in
+    record { words = rw (word_back (codes "set") set a.0 a.1, tagged.0, word_back (codes "pref") by b.0 b.1, number.0) refl; fits = tagged.1; small = number.1 }
+setting_back edition _ s tag pref h fits small = absurd cc
 
 tagged_back : (edition : Edition) (count : ℕ) (ws : List (List ℕ)) (l : Line) → tagged_line edition count ws ≡ Ok l → Says edition count (codes "import" ∷ ws) l
 unfolding tagged_line
-tagged_back edition count [] l h = absurd cc
-tagged_back edition count (a ∷ []) l h = absurd cc
-tagged_back edition count (a ∷ b ∷ []) l h = absurd cc
 tagged_back edition count (n ∷ tag ∷ t ∷ words) l h =
     let f = bind_ok (number_of n) _ l h in
     let w = bind_ok (is_word (codes "tag") tag) _ l f.2 in
@@ -184,15 +152,14 @@ tagged_back edition count (n ∷ tag ∷ t ∷ words) l h =
     let k = bind_ok (tag_in_range edition s.0.set) _ l g.2 in
     let p = bind_ok (in_range s.0.pref) _ l k.2 in
     let made : Import = record { class = c.0; tag = g.0; set = k.0; pref = p.0 } in
-    let says = setting_back edition words s.0 s.1 in
+    let says = setting_back edition words s.0 k.0 p.0 s.1 k.1 p.1 in
     let class = class_back count n f.0 c.0 f.1 c.1 in
     let own = tag_back edition t r.0 g.0 r.1 g.1 in
-    let set = tag_back edition says.tag s.0.set k.0 says.is_tag_text k.1 in
-    let pref = ranged_back says.number s.0.pref p.0 says.is_number_text p.1 in
     let text : join_with_byte 32 (codes "import" ∷ n ∷ tag ∷ t ∷ words) ≡ line_text edition (line.Import made) =
     ap (λ (v : List (List ℕ)). join_with_byte 32 (codes "import" ∷ n ∷ tag ∷ t ∷ v)) says.words
-    ∙ tagged_joined edition n tag t says.set says.tag says.pref says.number made (word_back (codes "tag") tag w.0 w.1) says.is_set says.is_pref class.0 own.0 set.0 pref.0 in
-    subst (Says edition count (codes "import" ∷ n ∷ tag ∷ t ∷ words)) (ok_same (line.Import made) l p.2) (text, (own.1, (class.1, set.1, pref.1)))
+    ∙ tagged_joined edition n tag t made (word_back (codes "tag") tag w.0 w.1) class.0 own.0 in
+    subst (Says edition count (codes "import" ∷ n ∷ tag ∷ t ∷ words)) (ok_same (line.Import made) l p.2) (text, (own.1, (class.1, says.fits, says.small)))
+tagged_back edition count _ l h = absurd cc
 
 untagged_back : (edition : Edition) (count : ℕ) (ws : List (List ℕ)) (l : Line) → untagged_line edition count ws ≡ Ok l → Says edition count (codes "import" ∷ ws) l
 unfolding untagged_line
@@ -204,14 +171,12 @@ untagged_back edition count (n ∷ words) l h =
     let k = bind_ok (tag_in_range edition s.0.set) _ l c.2 in
     let p = bind_ok (in_range s.0.pref) _ l k.2 in
     let made : Import = record { class = c.0; tag = no_tag; set = k.0; pref = p.0 } in
-    let says = setting_back edition words s.0 s.1 in
+    let says = setting_back edition words s.0 k.0 p.0 s.1 k.1 p.1 in
     let class = class_back count n f.0 c.0 f.1 c.1 in
-    let set = tag_back edition says.tag s.0.set k.0 says.is_tag_text k.1 in
-    let pref = ranged_back says.number s.0.pref p.0 says.is_number_text p.1 in
     let text : join_with_byte 32 (codes "import" ∷ n ∷ words) ≡ line_text edition (line.PeerImport made) =
     ap (λ (v : List (List ℕ)). join_with_byte 32 (codes "import" ∷ n ∷ v)) says.words
-    ∙ untagged_joined edition n says.set says.tag says.pref says.number made says.is_set says.is_pref class.0 set.0 pref.0 in
-    subst (Says edition count (codes "import" ∷ n ∷ words)) (ok_same (line.PeerImport made) l p.2) (text, (refl, (class.1, set.1, pref.1)))
+    ∙ untagged_joined edition n made class.0 in
+    subst (Says edition count (codes "import" ∷ n ∷ words)) (ok_same (line.PeerImport made) l p.2) (text, (refl, (class.1, says.fits, says.small)))
 
 import_back : (edition : Edition) (count : ℕ) (ws : List (List ℕ)) (l : Line) → import_line edition count ws ≡ Ok l → Says edition count (codes "import" ∷ ws) l
 unfolding import_line
@@ -223,10 +188,6 @@ import_back edition count ws l h = by (length ws == 7) h
 
 export_back : (edition : Edition) (count : ℕ) (ws : List (List ℕ)) (l : Line) → export_line edition count ws ≡ Ok l → Says edition count (codes "export" ∷ ws) l
 unfolding export_line
-export_back edition count [] l h = absurd cc
-export_back edition count (a ∷ []) l h = absurd cc
-export_back edition count (a ∷ b ∷ []) l h = absurd cc
-export_back edition count (a ∷ b ∷ c ∷ d ∷ ws) l h = absurd cc
 export_back edition count (n ∷ tag ∷ t ∷ []) l h =
     let f = bind_ok (number_of n) _ l h in
     let w = bind_ok (is_word (codes "tag") tag) _ l f.2 in
@@ -238,70 +199,34 @@ export_back edition count (n ∷ tag ∷ t ∷ []) l h =
     let tagged = tag_back edition t r.0 g.0 r.1 g.1 in
     subst (Says edition count (codes "export" ∷ n ∷ tag ∷ t ∷ [])) (ok_same (line.Export made) l g.2)
     (export_joined n tag t (decimal c.0) (tag_text edition g.0) (word_back (codes "tag") tag w.0 w.1) class.0 tagged.0, (class.1, tagged.1))
+export_back edition count _ l h = absurd cc
 
-pub end_back : (edition : Edition) (count : ℕ) (ws : List (List ℕ)) (l : Line) → end_line ws ≡ Ok l → Says edition count (codes "end" ∷ ws) l
+pub end_back : (edition : Edition) (count : ℕ) (ws : List (List ℕ)) (l : Line) (P : Line → Type 0) → end_line ws ≡ Ok l
+    → (Says edition count (codes "end" ∷ ws) line.End → P line.End) → P l
 unfolding end_line
-end_back edition count [] l h = subst (Says edition count (codes "end" ∷ [])) (ok_same line.End l h) (refl, tt)
-end_back edition count (a ∷ ws) l h = absurd cc
+end_back edition count [] l P h said = subst P (ok_same line.End l h) (said (refl, tt))
+end_back edition count (a ∷ ws) l P h said = absurd cc
 
--- by the first word
-pub word_is : (fixed word : List ℕ) → bytes_eq word fixed ≡ true → word ≡ fixed
-word_is fixed word h = (bytes_eq-Decides word fixed).0 h
+-- by whether a word is this one
+pub by_word : {A F : Type 0} (word fixed : List ℕ) (this other : Result A F) (x : A) (P : List ℕ → Type 0) → (this ≡ Ok x → P fixed) → (other ≡ Ok x → P word)
+    → (if bytes_eq word fixed then this else other) ≡ Ok x → P word
+by_word word fixed this other x P same apart h = by (bytes_eq word fixed) refl h
+  where
+    by : (b : Bool) → bytes_eq word fixed ≡ b → (if b then this else other) ≡ Ok x → P word
+    by true e k = subst P (sym ((bytes_eq-Decides word fixed).0 e)) (same k)
+    by false e k = apart k
 
 form_back : (edition : Edition) (count : ℕ) (word : List ℕ) (ws : List (List ℕ)) (l : Line) → form_line edition count word ws ≡ Ok l → Says edition count (word ∷ ws) l
 unfolding form_line
-form_back edition count word ws l h =
-    router (bytes_eq word (codes "router")) refl h
-  where
-    said : (fixed : List ℕ) → bytes_eq word fixed ≡ true → Says edition count (fixed ∷ ws) l → Says edition count (word ∷ ws) l
-    said fixed e s = subst (λ (w : List ℕ). Says edition count (w ∷ ws) l) (sym (word_is fixed word e)) s
-
-    last : (b : Bool) → bytes_eq word (codes "end") ≡ b → (if b then end_line ws else Err Form) ≡ Ok l → Says edition count (word ∷ ws) l
-    last true e k = said (codes "end") e (end_back edition count ws l k)
-    last false e k = absurd cc
-
-    export : (b : Bool) → bytes_eq word (codes "export") ≡ b
-        → (if b then export_line edition count ws else (if bytes_eq word (codes "end") then end_line ws else Err Form)) ≡ Ok l
-        → Says edition count (word ∷ ws) l
-    export true e k = said (codes "export") e (export_back edition count ws l k)
-    export false e k = last (bytes_eq word (codes "end")) refl k
-
-    import : (b : Bool) → bytes_eq word (codes "import") ≡ b
-        → (if b then import_line edition count ws else (if bytes_eq word (codes "export") then export_line edition count ws else
-        (if bytes_eq word (codes "end") then end_line ws else Err Form))) ≡ Ok l → Says edition count (word ∷ ws) l
-    import true e k = said (codes "import") e (import_back edition count ws l k)
-    import false e k = export (bytes_eq word (codes "export")) refl k
-
-    peer : (b : Bool) → bytes_eq word (codes "peer") ≡ b
-        → (if b then peer_line edition ws else (if bytes_eq word (codes "import") then import_line edition count ws else (if bytes_eq word
-        (codes "export") then export_line edition count ws else (if bytes_eq word (codes "end") then end_line ws else Err Form))))
-        ≡ Ok l → Says edition count (word ∷ ws) l
-    peer true e k = said (codes "peer") e (peer_back edition count ws l k)
-    peer false e k = import (bytes_eq word (codes "import")) refl k
-
-    session : (b : Bool) → bytes_eq word (codes "session") ≡ b
-        → (if b then session_line edition ws else (if bytes_eq word (codes "peer") then peer_line edition ws else (if bytes_eq word (codes "import")
-        then import_line edition count ws else (if bytes_eq word (codes "export") then export_line edition count ws else
-        (if bytes_eq word (codes "end") then end_line ws else Err Form))))) ≡ Ok l → Says edition count (word ∷ ws) l
-    session true e k = said (codes "session") e (session_back edition count ws l k)
-    session false e k = peer (bytes_eq word (codes "peer")) refl k
-
-    own : (b : Bool) → bytes_eq word (codes "originate") ≡ b
-        → (if b then own_line edition count ws else (if bytes_eq word (codes "session") then session_line edition ws else (if bytes_eq word
-        (codes "peer") then peer_line edition ws else (if bytes_eq word (codes "import") then import_line edition count ws else (if
-        bytes_eq word (codes "export") then export_line edition count ws else
-        (if bytes_eq word (codes "end") then end_line ws else Err Form)))))) ≡ Ok l → Says edition count (word ∷ ws) l
-    own true e k = said (codes "originate") e (own_back edition count ws l k)
-    own false e k = session (bytes_eq word (codes "session")) refl k
-
-    router : (b : Bool) → bytes_eq word (codes "router") ≡ b
-        → (if b then router_line edition ws else (if bytes_eq word (codes "originate") then own_line edition count ws else (if bytes_eq word
-        (codes "session") then session_line edition ws else (if bytes_eq word (codes "peer") then peer_line edition ws else (if
-        bytes_eq word (codes "import") then import_line edition count ws else (if bytes_eq word (codes "export") then
-        export_line edition count ws else (if bytes_eq word (codes "end") then end_line ws else Err Form))))))) ≡ Ok l
-        → Says edition count (word ∷ ws) l
-    router true e k = said (codes "router") e (router_back edition count ws l k)
-    router false e k = own (bytes_eq word (codes "originate")) refl k
+form_back edition count word ws l =
+    let said : List ℕ → Type 0 = λ w. Says edition count (w ∷ ws) l in
+    by_word word (codes "router") _ _ l said (λ k. router_back edition count ws l (Says edition count (codes "router" ∷ ws)) k (λ name asn id says. says))
+    (by_word word (codes "originate") _ _ l said (own_back edition count ws l)
+    (by_word word (codes "session") _ _ l said (λ k. session_back edition count (codes "session") ws l (Says edition count (codes "session" ∷ ws)) k (λ name asn text is. (text, is)))
+    (by_word word (codes "peer") _ _ l said (λ k. peer_back edition count ws l (Says edition count (codes "peer" ∷ ws)) k (λ name asn says. says))
+    (by_word word (codes "import") _ _ l said (import_back edition count ws l)
+    (by_word word (codes "export") _ _ l said (export_back edition count ws l)
+    (by_word word (codes "end") _ _ l said (λ k. end_back edition count ws l (Says edition count (codes "end" ∷ ws)) k (λ says. says)) (λ k. absurd cc)))))))
 
 -- ---- the line of a class
 
@@ -352,7 +277,8 @@ words_back : (edition : Edition) (count : ℕ) (ws pieces : List (List ℕ)) (l 
     → (join_with_byte 44 (join_with_byte 32 ws ∷ pieces) ≡ line_text edition l) × IsLine edition count l
 unfolding words_line
 words_back edition count [] pieces l h is = absurd cc
-words_back edition count (word ∷ ws) pieces l h is = class (bytes_eq word (codes "class")) refl h
+words_back edition count (word ∷ ws) pieces l h is =
+    by_word word (codes "class") _ _ l (λ w. (join_with_byte 44 (join_with_byte 32 (w ∷ ws) ∷ pieces) ≡ line_text edition l) × IsLine edition count l) (of_class ws) (alone pieces) h
   where
     apart : (b : Bool) → b ≡ false → (if b then form_line edition count word ws else Err Form) ≡ Ok l → ⊥
     apart false e k = cc
@@ -366,13 +292,6 @@ words_back edition count (word ∷ ws) pieces l h is = class (bytes_eq word (cod
     of_class : (ws : List (List ℕ)) → class_line ws pieces ≡ Ok l → (join_with_byte 44 (join_with_byte 32 (codes "class" ∷ ws) ∷ pieces) ≡ line_text edition l) × IsLine edition count l
     of_class [] k = absurd (no_number pieces l k)
     of_class (number ∷ pattern) k = class_text edition count number pattern pieces l k is
-
-    class : (b : Bool) → bytes_eq word (codes "class") ≡ b → (if b then class_line ws pieces else (if length pieces == 0 then form_line edition count word ws else Err Form)) ≡ Ok l
-        → (join_with_byte 44 (join_with_byte 32 (word ∷ ws) ∷ pieces) ≡ line_text edition l) × IsLine edition count l
-    class true e k =
-        subst (λ (w : List ℕ). (join_with_byte 44 (join_with_byte 32 (w ∷ ws) ∷ pieces) ≡ line_text edition l) × IsLine edition count l)
-        (sym (word_is (codes "class") word e)) (of_class ws k)
-    class false e k = alone pieces k
 
 -- a line that is read is written so, and keeps its rules
 pub lines_written : (edition : Edition) (bytes : List ℕ) (count : ℕ) (l : Line) → line_of edition bytes count ≡ Ok l → IsNumbered l → (bytes ≡ line_text edition l) × IsLine edition count l

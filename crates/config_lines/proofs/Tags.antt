@@ -130,13 +130,16 @@ tag_there e t is =
     let fits : fits_tag e t ≡ true = is in
     (tag_read e t low.0 low.1, rw fits refl)
 
-pub solid_tag : (e : Edition) (t : Tag) → t.asn < 2 ^ 32 → t.value < 2 ^ 32 → solid (tag_text e t) ≡ true
-solid_tag First t a v =
+solid_low : (e : Edition) (t : Tag) → t.asn < 2 ^ 32 → t.value < 2 ^ 32 → solid (tag_text e t) ≡ true
+solid_low First t a v =
     solid_append (decimal t.asn ++ codes ":") (decimal t.value)
     (solid_append (decimal t.asn) (codes ":") (solid_number t.asn (omega (arith, a))) refl) (solid_number t.value (omega (arith, v)))
-solid_tag Second t a v =
+solid_low Second t a v =
     solid_append (decimal t.asn ++ codes ":0:") (decimal t.value)
     (solid_append (decimal t.asn) (codes ":0:") (solid_number t.asn (omega (arith, a))) refl) (solid_number t.value (omega (arith, v)))
+
+pub solid_tag : (e : Edition) (t : Tag) → IsTrue (fits_tag e t) → solid (tag_text e t) ≡ true
+solid_tag e t is = let low = tag_low e t is in solid_low e t low.0 low.1
 
 -- ---- at the front of a text
 

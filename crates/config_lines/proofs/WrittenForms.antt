@@ -12,7 +12,6 @@ use Rattle.text_words.proofs.PrefixTexts.{address_of-address_text, prefix_spelle
 use Rattle.config_base.specs.declared.config.Import.{Import}
 use Rattle.config_base.specs.declared.config.Origination.{Origination}
 use Rattle.config_base.specs.declared.config.Export.{Export}
-use Rattle.config_base.specs.Configs.{IsClass}
 use Rattle.config_lines.specs.declared.edition.Edition.{Edition}
 use Rattle.config_lines.specs.declared.line.Line.{Line}
 use Rattle.config_lines.specs.declared.line.Line.TheVariants as line
@@ -21,10 +20,10 @@ use Rattle.config_lines.specs.LineText.{line_text, IsLine, next_pattern}
 use Rattle.config_lines.specs.Lines.{class_line, router_line, own_line, neighbour, session_line, peer_line, setting, tagged_line, untagged_line, import_line, export_line}
 use Rattle.config_lines.specs.Lines.{end_line, form_line, words_line, pieces_line, line_of}
 use Rattle.config_lines.proofs.Digits.{number_there}
-use Rattle.config_lines.proofs.JoinedLines.{router_joined, own_joined, session_joined, peer_joined, export_joined, tagged_joined, untagged_joined}
-use Rattle.config_lines.proofs.PartLaws.{class_there, name_there}
+use Rattle.config_lines.proofs.JoinedLines.{router_joined, own_joined, neighbour_text, neighbour_joined, setting_words, export_joined, tagged_joined, untagged_joined}
+use Rattle.config_lines.proofs.PartLaws.{class_there, class_low, name_there}
 use Rattle.config_lines.proofs.PatternLaws.{pattern_words, pattern_words-some, joined_pattern, solid_pattern, pattern_there, behind, split_pieces, patterns_there, patterns_no_feed}
-use Rattle.config_lines.proofs.Ranges.{router_low, peer_low, tag_low}
+use Rattle.config_lines.proofs.Ranges.{router_low, peer_low}
 use Rattle.config_lines.proofs.Solid.{solid, solid_name, solid_number, solid_address, solid_prefix, split_last, split_joined, solid_words, joined_no_comma, joined_no_feed}
 use Rattle.config_lines.proofs.Tags.{tag_there, solid_tag}
 
@@ -47,93 +46,109 @@ by_words edition count l w ws text all read = (
   ap (have_no 10) (sym text) ∙ joined_no_feed (w ∷ ws) all,
 )
 
+-- ---- routers and neighbours: what stands behind their first word
+
+abbrev pub router_words : List ℕ → ℕ → ℕ → List (List ℕ)
+router_words name asn id = name ∷ codes "asn" ∷ decimal asn ∷ codes "id" ∷ address_text id ∷ []
+
+pub router_written : (name : List ℕ) (asn id : ℕ) → join_with_byte 32 (codes "router" ∷ router_words name asn id)
+    ≡ codes "router " ++ name ++ codes " asn " ++ decimal asn ++ codes " id " ++ address_text id
+router_written name asn id = router_joined name (codes "asn") (decimal asn) (codes "id") (address_text id) name (decimal asn) (address_text id) refl refl refl refl refl
+
+pub router_solid : (name : List ℕ) (asn id : ℕ) → IsTrue (is_name name) → asn < 2 ^ 32 → id < 2 ^ 32 → list_all solid (router_words name asn id) ≡ true
+router_solid name asn id named low wide = rw (solid_name name named, solid_number asn (omega (arith, low)), solid_address id wide) refl
+
+pub router_read : (edition : Edition) (name : List ℕ) (asn id : ℕ) → IsTrue (is_name name) → IsTrue (fits_router edition asn) → id ≢ 0 → id < 2 ^ 32
+    → router_line edition (router_words name asn id) ≡ Ok (line.Router name asn id)
+unfolding router_line
+router_read edition name asn id named number apart wide =
+    let is : fits_router edition asn ≡ true = number in
+    rw (number_there asn (router_low edition asn number), address_of-address_text id wide, ne_eqb id 0 apart, name_there name named, is) refl
+
+abbrev pub neighbour_words : List ℕ → ℕ → List (List ℕ)
+neighbour_words name asn = name ∷ codes "asn" ∷ decimal asn ∷ []
+
+pub neighbour_written : (word name : List ℕ) (asn : ℕ) → join_with_byte 32 (word ∷ neighbour_words name asn) ≡ neighbour_text word name asn
+neighbour_written word name asn = neighbour_joined word name (codes "asn") (decimal asn) name (decimal asn) refl refl refl
+
+pub neighbour_solid : (name : List ℕ) (asn : ℕ) → IsTrue (is_name name) → asn < 2 ^ 32 → list_all solid (neighbour_words name asn) ≡ true
+neighbour_solid name asn named low = rw (solid_name name named, solid_number asn (omega (arith, low))) refl
+
+neighbour_read : (name : List ℕ) (asn : ℕ) → IsTrue (is_name name) → asn < 2 ^ 32 → neighbour (neighbour_words name asn) ≡ Ok (name, asn)
+unfolding neighbour
+neighbour_read name asn named low = rw (name_there name named, number_there asn low) refl
+
+pub session_read : (edition : Edition) (name : List ℕ) (asn : ℕ) → IsTrue (is_name name) → IsTrue (fits_router edition asn)
+    → session_line edition (neighbour_words name asn) ≡ Ok (line.Session name asn)
+unfolding session_line
+session_read edition name asn named number = let is : fits_router edition asn ≡ true = number in rw (neighbour_read name asn named (router_low edition asn number), is) refl
+
+pub peer_read : (edition : Edition) (name : List ℕ) (asn : ℕ) → IsTrue (is_name name) → IsTrue (fits_peer edition asn)
+    → peer_line edition (neighbour_words name asn) ≡ Ok (line.Peer name asn)
+unfolding peer_line
+peer_read edition name asn named number = let is : fits_peer edition asn ≡ true = number in rw (neighbour_read name asn named (peer_low edition asn number), is) refl
+
+-- ---- each form
+
 router_there : (edition : Edition) (count : ℕ) (name : List ℕ) (asn id : ℕ) → IsTrue (is_name name) → IsTrue (fits_router edition asn) → id ≢ 0
     → id < 2 ^ 32 → IsReadAgain edition count (line.Router name asn id)
-unfolding words_line form_line router_line
+unfolding words_line form_line
 router_there edition count name asn id named number apart wide =
-    let low = router_low edition asn number in
-    let is : fits_router edition asn ≡ true = number in
-    by_words edition count (line.Router name asn id) (codes "router") (name ∷ codes "asn" ∷ decimal asn ∷ codes "id" ∷ address_text id ∷ [])
-    (router_joined name (codes "asn") (decimal asn) (codes "id") (address_text id) name (decimal asn) (address_text id) refl refl refl refl refl)
-    (rw (solid_name name named, solid_number asn (omega (arith, low)), solid_address id wide) refl)
-    (rw (number_there asn low, address_of-address_text id wide, ne_eqb id 0 apart, name_there name named, is) refl)
+    by_words edition count (line.Router name asn id) (codes "router") (router_words name asn id) (router_written name asn id)
+    (router_solid name asn id named (router_low edition asn number) wide) (router_read edition name asn id named number apart wide)
 
 own_there : (edition : Edition) (count : ℕ) (o : Origination) → count < 2 ^ 32 → IsLine edition count (line.Origination o) → IsReadAgain edition count (line.Origination o)
 unfolding words_line form_line own_line
 own_there edition count o few is =
-    let class : IsClass count o.class = is.0.0 in
-    let low : o.class < 2 ^ 32 = omega (arith, class.1, few) in
-    let parts = tag_low edition o.tag is.0.1 in
+    let low = class_low count o.class few is.0.0 in
     let tag = tag_there edition o.tag is.0.1 in
     by_words edition count (line.Origination o) (codes "originate") (decimal o.class ∷ prefix_text o.prefix ∷ codes "tag" ∷ tag_text edition o.tag ∷ [])
     (own_joined (decimal o.class) (prefix_text o.prefix) (codes "tag") (tag_text edition o.tag) (decimal o.class) (prefix_text o.prefix) (tag_text edition o.tag) refl refl refl refl)
-    (rw (solid_number o.class (omega (arith, low)), solid_prefix o.prefix is.1, solid_tag edition o.tag parts.0 parts.1) refl)
-    (rw (number_there o.class low, prefix_spelled-prefix_text o.prefix is.1, tag.0, class_there count o.class class, tag.1) refl)
-
-pub neighbour_there : (name : List ℕ) (asn : ℕ) → IsTrue (is_name name) → asn < 2 ^ 32 → neighbour (name ∷ codes "asn" ∷ decimal asn ∷ []) ≡ Ok (name, asn)
-unfolding neighbour
-neighbour_there name asn named low = rw (name_there name named, number_there asn low) refl
-
-pub neighbour_solid : (name : List ℕ) (asn : ℕ) → IsTrue (is_name name) → asn < 2 ^ 32 → list_all solid (name ∷ codes "asn" ∷ decimal asn ∷ []) ≡ true
-neighbour_solid name asn named low = rw (solid_name name named, solid_number asn (omega (arith, low))) refl
+    (rw (solid_number o.class (omega (arith, low)), solid_prefix o.prefix is.1, solid_tag edition o.tag is.0.1) refl)
+    (rw (number_there o.class low, prefix_spelled-prefix_text o.prefix is.1, tag.0, class_there count o.class is.0.0, tag.1) refl)
 
 session_there : (edition : Edition) (count : ℕ) (name : List ℕ) (asn : ℕ) → IsTrue (is_name name) → IsTrue (fits_router edition asn) → IsReadAgain edition count (line.Session name asn)
-unfolding words_line form_line session_line
+unfolding words_line form_line
 session_there edition count name asn named number =
-    let low = router_low edition asn number in
-    let is : fits_router edition asn ≡ true = number in
-    by_words edition count (line.Session name asn) (codes "session") (name ∷ codes "asn" ∷ decimal asn ∷ [])
-    (session_joined name (codes "asn") (decimal asn) name (decimal asn) refl refl refl)
-    (neighbour_solid name asn named low)
-    (rw (neighbour_there name asn named low, is) refl)
+    by_words edition count (line.Session name asn) (codes "session") (neighbour_words name asn) (neighbour_written (codes "session") name asn)
+    (neighbour_solid name asn named (router_low edition asn number)) (session_read edition name asn named number)
 
 peer_there : (edition : Edition) (count : ℕ) (name : List ℕ) (asn : ℕ) → IsTrue (is_name name) → IsTrue (fits_peer edition asn) → IsReadAgain edition count (line.Peer name asn)
-unfolding words_line form_line peer_line
+unfolding words_line form_line
 peer_there edition count name asn named number =
-    let low = peer_low edition asn number in
-    let is : fits_peer edition asn ≡ true = number in
-    by_words edition count (line.Peer name asn) (codes "peer") (name ∷ codes "asn" ∷ decimal asn ∷ [])
-    (peer_joined name (codes "asn") (decimal asn) name (decimal asn) refl refl refl)
-    (neighbour_solid name asn named low)
-    (rw (neighbour_there name asn named low, is) refl)
+    by_words edition count (line.Peer name asn) (codes "peer") (neighbour_words name asn) (neighbour_written (codes "peer") name asn)
+    (neighbour_solid name asn named (peer_low edition asn number)) (peer_read edition name asn named number)
 
 tagged_there : (edition : Edition) (count : ℕ) (r : Import) → count < 2 ^ 32 → IsLine edition count (line.Import r) → IsReadAgain edition count (line.Import r)
 unfolding words_line form_line import_line tagged_line setting
 tagged_there edition count r few is =
-    let class : IsClass count r.class = is.1.0 in
-    let low : r.class < 2 ^ 32 = omega (arith, class.1, few) in
-    let own = tag_low edition r.tag is.0 in
-    let given = tag_low edition r.set is.1.1 in
+    let low = class_low count r.class few is.1.0 in
     let tag = tag_there edition r.tag is.0 in
     let set = tag_there edition r.set is.1.1 in
-    by_words edition count (line.Import r) (codes "import") (decimal r.class ∷ codes "tag" ∷ tag_text edition r.tag ∷ codes "set" ∷ tag_text edition r.set ∷ codes "pref" ∷ decimal r.pref ∷ [])
-    (tagged_joined edition (decimal r.class) (codes "tag") (tag_text edition r.tag) (codes "set") (tag_text edition r.set) (codes "pref") (decimal r.pref) r refl refl refl refl refl refl refl)
-    (rw (solid_number r.class (omega (arith, low)), solid_tag edition r.tag own.0 own.1, solid_tag edition r.set given.0 given.1, solid_number r.pref (omega (arith, is.1.2))) refl)
-    (rw (number_there r.class low, tag.0, set.0, number_there r.pref is.1.2, class_there count r.class class, tag.1, set.1) refl)
+    by_words edition count (line.Import r) (codes "import") (decimal r.class ∷ codes "tag" ∷ tag_text edition r.tag ∷ setting_words edition r.set r.pref)
+    (tagged_joined edition (decimal r.class) (codes "tag") (tag_text edition r.tag) r refl refl refl)
+    (rw (solid_number r.class (omega (arith, low)), solid_tag edition r.tag is.0, solid_tag edition r.set is.1.1, solid_number r.pref (omega (arith, is.1.2))) refl)
+    (rw (number_there r.class low, tag.0, set.0, number_there r.pref is.1.2, class_there count r.class is.1.0, tag.1, set.1) refl)
 
 untagged_there : (edition : Edition) (count : ℕ) (r : Import) → count < 2 ^ 32 → IsLine edition count (line.PeerImport r) → IsReadAgain edition count (line.PeerImport r)
 unfolding words_line form_line import_line untagged_line setting
 untagged_there edition count r few is =
-    let class : IsClass count r.class = is.1.0 in
-    let low : r.class < 2 ^ 32 = omega (arith, class.1, few) in
-    let given = tag_low edition r.set is.1.1 in
+    let low = class_low count r.class few is.1.0 in
     let set = tag_there edition r.set is.1.1 in
-    by_words edition count (line.PeerImport r) (codes "import") (decimal r.class ∷ codes "set" ∷ tag_text edition r.set ∷ codes "pref" ∷ decimal r.pref ∷ [])
-    (untagged_joined edition (decimal r.class) (codes "set") (tag_text edition r.set) (codes "pref") (decimal r.pref) r refl refl refl refl refl)
-    (rw (solid_number r.class (omega (arith, low)), solid_tag edition r.set given.0 given.1, solid_number r.pref (omega (arith, is.1.2))) refl)
-    (rw (number_there r.class low, set.0, number_there r.pref is.1.2, class_there count r.class class, set.1, sym is.0) refl)
+    by_words edition count (line.PeerImport r) (codes "import") (decimal r.class ∷ setting_words edition r.set r.pref)
+    (untagged_joined edition (decimal r.class) r refl)
+    (rw (solid_number r.class (omega (arith, low)), solid_tag edition r.set is.1.1, solid_number r.pref (omega (arith, is.1.2))) refl)
+    (rw (number_there r.class low, set.0, number_there r.pref is.1.2, class_there count r.class is.1.0, set.1, sym is.0) refl)
 
 export_there : (edition : Edition) (count : ℕ) (e : Export) → count < 2 ^ 32 → IsLine edition count (line.Export e) → IsReadAgain edition count (line.Export e)
 unfolding words_line form_line export_line
 export_there edition count e few is =
-    let class : IsClass count e.class = is.0 in
-    let low : e.class < 2 ^ 32 = omega (arith, class.1, few) in
-    let parts = tag_low edition e.tag is.1 in
+    let low = class_low count e.class few is.0 in
     let tag = tag_there edition e.tag is.1 in
     by_words edition count (line.Export e) (codes "export") (decimal e.class ∷ codes "tag" ∷ tag_text edition e.tag ∷ [])
     (export_joined (decimal e.class) (codes "tag") (tag_text edition e.tag) (decimal e.class) (tag_text edition e.tag) refl refl refl)
-    (rw (solid_number e.class (omega (arith, low)), solid_tag edition e.tag parts.0 parts.1) refl)
-    (rw (number_there e.class low, tag.0, class_there count e.class class, tag.1) refl)
+    (rw (solid_number e.class (omega (arith, low)), solid_tag edition e.tag is.1) refl)
+    (rw (number_there e.class low, tag.0, class_there count e.class is.0, tag.1) refl)
 
 end_there : (edition : Edition) (count : ℕ) → IsReadAgain edition count line.End
 unfolding words_line form_line end_line

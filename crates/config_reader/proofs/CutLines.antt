@@ -15,28 +15,22 @@ use Rattle.config_reader.specs.declared.fault.ConfigFault.{ConfigFault}
 use Rattle.config_reader.specs.declared.fault.ConfigFault.TheVariants as fault
 use Rattle.config_reader.specs.declared.reading.Reading.{Reading}
 use Rattle.config_reader.specs.Reading.{opening}
-use Rattle.line_laws.specs.Lines.{lines_of, whole_lines, last_line}
-use Rattle.line_laws.proofs.CutLines.{lines_of-some, last_line_nowhere}
-use Rattle.line_laws.proofs.LineByLine.{fault_stops, all_taken}
-use Rattle.config_reader.specs.Text.{with_line, with_lines, finished, behind_heading, in_lines, spelled_in}
+use Rattle.line_laws.specs.Lines.{lines_of}
+use Rattle.line_laws.proofs.CutLines.{lines_of-some}
+use Rattle.line_laws.proofs.LineByLine.{IsTaken, fault_stops, all_taken}
+use Rattle.config_reader.specs.Text.{with_line, finished, behind_heading, in_lines, spelled_in}
 
 -- the line has a fault
-pub faulty : (edition : Edition) (n : ℕ) (r : Reading) (bytes line rest all : List ℕ) (e : ConfigFault) → halves line rest ≡ cut_at 10 bytes → with_line edition n r line ≡ Err e
-    → with_lines edition n r (whole_lines (lines_of bytes)) ≡ with_lines edition 2 opening (whole_lines (lines_of all)) → behind_heading edition (lines_of all) ≡ Err e
+pub faulty : (edition : Edition) {n : ℕ} {r : Reading} {text left : List ℕ} (line rest : List ℕ) (e : ConfigFault) → IsTaken (with_line edition) 2 opening text n r left
+    → halves line rest ≡ cut_at 10 left → with_line edition n r line ≡ Err e → behind_heading edition (lines_of text) ≡ Err e
 unfolding behind_heading
-faulty edition n r bytes line rest all e cut here before =
-    let stops = fault_stops (with_line edition) n r bytes line rest (with_lines edition 2 opening (whole_lines (lines_of all))) e cut here before in
-    rw stops refl
+faulty edition line rest e so_far cut here = rw (fault_stops (with_line edition) so_far line rest e cut here) refl
 
 -- all whole lines are read
-pub finished_behind : (edition : Edition) (n : ℕ) (r : Reading) (bytes all : List ℕ) → no_halves ≡ cut_at 10 bytes
-    → with_lines edition n r (whole_lines (lines_of bytes)) ≡ with_lines edition 2 opening (whole_lines (lines_of all)) → last_line (lines_of bytes) ≡ last_line (lines_of all)
-    → behind_heading edition (lines_of all) ≡ finished r bytes
+pub finished_behind : (edition : Edition) {n : ℕ} {r : Reading} {text left : List ℕ} → IsTaken (with_line edition) 2 opening text n r left → no_halves ≡ cut_at 10 left
+    → behind_heading edition (lines_of text) ≡ finished r left
 unfolding behind_heading
-finished_behind edition n r bytes all cut before last =
-    let read = all_taken (with_line edition) n r bytes (with_lines edition 2 opening (whole_lines (lines_of all))) cut before in
-    let rest : last_line (lines_of all) ≡ bytes = sym last ∙ last_line_nowhere bytes cut in
-    rw read (ap (finished r) rest)
+finished_behind edition {r = r} so_far cut = let all = all_taken (with_line edition) so_far cut in rw all.0 (ap (finished r) all.1)
 
 -- ---- the first line
 
@@ -56,9 +50,9 @@ behind_first edition bytes line rest cut same =
     ap (in_lines edition) (split_there 10 bytes line rest cut) ∙ rw (ne_eqb (length (lines_of rest)) 0 (λ e. omega (arith, e, lines_of-some rest)), same) refl
 
 -- what is kept of a text that is whole
-pub whole_kept : (r s : Reading) (rest : List ℕ) (whole : Bool) (o : Option Reading) (x : Result Reading ConfigFault) → whole ≡ (is_none r.opened && length rest == 0)
-    → o ≡ then_some whole r → x ≡ ok_or o fault.Unfinished → x ≡ Ok s → (r.opened ≡ None) × (r ≡ s)
-whole_kept r s rest true o x is some ok kept =
-    let both = and_parts (is_none r.opened) (length rest == 0) (sym is) in
-    (is_none_parts r.opened both.0, ok_same r s (sym (ok ∙ ap (λ (p : Option Reading). ok_or p fault.Unfinished) some) ∙ kept))
-whole_kept r s rest false o x is some ok kept = absurd (let e = sym (ok ∙ ap (λ (p : Option Reading). ok_or p fault.Unfinished) some) ∙ kept in cc)
+pub whole_kept : {A R : Type 0} (opened : Option A) (r s : R) (rest : List ℕ) (whole : Bool) (o : Option R) (x : Result R ConfigFault) → whole ≡ (is_none opened && length rest == 0)
+    → o ≡ then_some whole r → x ≡ ok_or o fault.Unfinished → x ≡ Ok s → (opened ≡ None) × (r ≡ s)
+whole_kept {R = R} opened r s rest true o x is some ok kept =
+    let both = and_parts (is_none opened) (length rest == 0) (sym is) in
+    (is_none_parts opened both.0, ok_same r s (sym (ok ∙ ap (λ (p : Option R). ok_or p fault.Unfinished) some) ∙ kept))
+whole_kept {R = R} opened r s rest false o x is some ok kept = absurd (let e = sym (ok ∙ ap (λ (p : Option R). ok_or p fault.Unfinished) some) ∙ kept in cc)

@@ -1,5 +1,5 @@
 -- A text that is read is that of its configuration, which is lawful.
-use Rattle.std.proofs.Common.{◌≡◌, ℕ, ◌+◌, ◌-◌, ◌<◌, ◌≤◌, List, [], ◌∷◌, ◌++◌, length, map, min, true, false, Option, Some, None, Ok, refl, sym, ◌∙◌, ap, ap₂, subst, arith, append-nil, append_assoc}
+use Rattle.std.proofs.Common.{◌≡◌, ℕ, ◌+◌, ◌-◌, ◌<◌, ◌≤◌, List, [], ◌∷◌, ◌++◌, length, map, min, true, false, Option, None, Ok, refl, sym, ◌∙◌, ap, ap₂, subst, arith, append-nil, append_assoc}
 use Rattle.std.specs.Prelude.{◌≢◌, ◌&&◌, ◌==◌, not, is_none, Result, Err, IfOk}
 use Rattle.std.specs.List.{join_with_byte, flat_map, AllByRecursion}
 use Rattle.std.specs.Str.{bytes_eq}
@@ -43,27 +43,15 @@ false_not_true e = cc
 -- the number of a class that was read is one
 pub numbered : (r s : Reading) (l : Line) → after r l ≡ Ok s → IsNumbered l
 numbered r s (line.Class None patterns) h = false_not_true (class_ok r s None patterns h).1
-numbered r s (line.Class (Some n) patterns) h = tt
-numbered r s (line.Router name asn id) h = tt
-numbered r s (line.Origination own) h = tt
-numbered r s (line.Session name asn) h = tt
-numbered r s (line.Peer name asn) h = tt
-numbered r s (line.Import rule) h = tt
-numbered r s (line.PeerImport rule) h = tt
-numbered r s (line.Export export) h = tt
-numbered r s line.End h = tt
+numbered r s _ h = tt
 
 -- a line keeps its rules below more classes
 line_below : (edition : Edition) (k m : ℕ) (l : Line) → k ≤ m → IsLine edition k l → IsLine edition m l
-line_below edition k m (line.Class number patterns) le is = is
-line_below edition k m (line.Router name asn id) le is = is
 line_below edition k m (line.Origination o) le is = (((is.0.0.0, omega (arith, is.0.0.1, le)), is.0.1), is.1)
-line_below edition k m (line.Session name asn) le is = is
-line_below edition k m (line.Peer name asn) le is = is
 line_below edition k m (line.Import r) le is = (is.0, ((is.1.0.0, omega (arith, is.1.0.1, le)), is.1.1, is.1.2))
 line_below edition k m (line.PeerImport r) le is = (is.0, ((is.1.0.0, omega (arith, is.1.0.1, le)), is.1.1, is.1.2))
 line_below edition k m (line.Export e) le is = ((is.0.0, omega (arith, is.0.1, le)), is.1)
-line_below edition k m line.End le is = is
+line_below edition k m _ le is = is
 
 -- the lines that were read, one after another
 pub record AreRead (edition : Edition) (r s : Reading) (texts : List (List ℕ)) : Type 0 where

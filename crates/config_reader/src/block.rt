@@ -1,5 +1,4 @@
 //! The block of a router that is being read, and what the next line makes of it.
-ghost use Rattle.std.specs.Prelude.{◌≡◌};
 ghost use Rattle.net_base.specs.Gives.{GivesUnless};
 ghost use Rattle.config_reader.specs.Reading.{closed, own_into, neighbour_into, import_into, export_into, entry_into, inside};
 ghost use Rattle.config_reader.specs.Reading.{in_neighbour as within_neighbour};

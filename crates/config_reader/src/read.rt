@@ -3,7 +3,7 @@ ghost use Rattle.std.specs.Prelude.{◌≡◌, ◌==◌, ◌&&◌, ◌<◌, ◌^
 ghost use Rattle.std.specs.List.{slice_split};
 ghost use Rattle.net_base.specs.Gives.{GivesUnless};
 ghost use Rattle.config_reader.specs.Reading.{after as after_line};
-ghost use Rattle.config_reader.specs.Text.{read_at, placed_at, with_line, finished, behind_heading, in_lines, spelled_in, spelled};
+ghost use Rattle.config_reader.specs.Text.{read_at, placed_at, with_line, finished, behind_heading, spelled_in, spelled};
 ghost use Rattle.std.specs.Str.{bytes_eq};
 ghost use Rattle.config_base.specs.Configs.{PlainConfig, IsConfig};
 ghost use Rattle.config_text.specs.Spelled.{SpellsIn, Spells};

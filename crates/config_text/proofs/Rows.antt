@@ -7,22 +7,31 @@ use Rattle.net_base.specs.Prefixes.{PlainPattern}
 use Rattle.config_lines.specs.declared.edition.Edition.TheVariants.{Second}
 use Rattle.config_text.specs.ConfigText.{class_line, class_lines}
 
-pub line_more : {X : Type 0} (line : X → List ℕ) (first before after : List ℕ) (xs : List X) (i : ℕ) (d : X) → i < length xs
-    → before ≡ first ++ flat_map line (take i xs) → after ≡ before ++ line (get_or xs i d) → after ≡ first ++ flat_map line (take (i + 1) xs)
-line_more line first before after xs i d less old new =
-    new
-    ∙ ap (λ (t : List ℕ). t ++ line (get_or xs i d)) old
-    ∙ flat_map_more line first (take i xs) (get_or xs i d)
-    ∙ ap (λ ys. first ++ flat_map line ys) (sym (take_more xs i d less))
-
-pub all_lines : {X : Type 0} (line : X → List ℕ) (first text : List ℕ) (xs : List X) (i : ℕ) → length xs ≤ i → text ≡ first ++ flat_map line (take i xs) → text ≡ first ++ flat_map line xs
-all_lines line first text xs i past old = old ∙ ap (λ ys. first ++ flat_map line ys) (take_all i xs past)
-
 pub rule_more : {X : Type 0} (P : X → Type 0) (xs : List X) (i : ℕ) (d : X) → i < length xs → AllByRecursion P (take i xs) → P (get_or xs i d) → AllByRecursion P (take (i + 1) xs)
 rule_more P xs i d less old here = subst (AllByRecursion P) (sym (take_more xs i d less)) (AllByRecursion-push P (take i xs) (get_or xs i d) old here)
 
 pub all_rules : {X : Type 0} (P : X → Type 0) (xs : List X) (i : ℕ) → length xs ≤ i → AllByRecursion P (take i xs) → AllByRecursion P xs
 all_rules P xs i past = subst (AllByRecursion P) (take_all i xs past)
+
+module _ {X : Type 0} (line : X → List ℕ) (P : X → Type 0) (first : List ℕ) (xs : List X) where
+  -- so many items are written behind the first text, and each of them keeps the rule
+  pub record Written (so_far : List ℕ) (i : ℕ) : Type 0 where
+    pub text : so_far ≡ first ++ flat_map line (take i xs)
+    pub rules : AllByRecursion P (take i xs)
+
+  pub one_more : (before after : List ℕ) (i : ℕ) (x : X) → i < length xs → x ≡ get_or xs i x → Written before i → after ≡ before ++ line x → P x → Written after (i + 1)
+  one_more before after i x less is old new rule = record {
+    text =
+        new
+        ∙ ap (λ (y : X). before ++ line y) is
+        ∙ ap (λ (t : List ℕ). t ++ line (get_or xs i x)) old.text
+        ∙ flat_map_more line first (take i xs) (get_or xs i x)
+        ∙ ap (λ ys. first ++ flat_map line ys) (sym (take_more xs i x less));
+    rules = rule_more P xs i x less old.rules (subst P is rule);
+  }
+
+  pub all_written : (so_far : List ℕ) (i : ℕ) → length xs ≤ i → Written so_far i → (so_far ≡ first ++ flat_map line xs) × AllByRecursion P xs
+  all_written so_far i past old = (old.text ∙ ap (λ ys. first ++ flat_map line ys) (take_all i xs past), all_rules P xs i past old.rules)
 
 -- two texts, one after the other
 pub both_behind : (before middle after one other : List ℕ) → middle ≡ before ++ one → after ≡ middle ++ other → after ≡ before ++ (one ++ other)

@@ -3,8 +3,7 @@
 
 ghost use Rattle.std.specs.Prelude.{◌≡◌, ◌++◌, ◌+◌, ◌≤◌, codes, length, if◌then◌else◌, OnOk, IfOk};
 ghost use Rattle.std.specs.List.{flat_map, AllByRecursion};
-ghost use Rattle.std.specs.Fmt.{decimal};
-ghost use Rattle.config_text.specs.ConfigText.{class_line, class_lines, router_line, own_line, session_line, import_line, export_line, session_text, router_text, config_text};
+ghost use Rattle.config_text.specs.ConfigText.{class_line, class_lines, own_line, session_line, import_line, export_line, session_text, router_text, config_text};
 ghost use Rattle.config_lines.specs.Editions.{tag_text};
 ghost use Rattle.config_lines.specs.LineText.{read_tag, set_text, next_pattern, joined_patterns};
 ghost use Rattle.config_lines.specs.declared.edition.Edition.TheVariants.{Second};

@@ -1,11 +1,11 @@
 -- Lines are taken one after another, as they are cut off a text.
-use Rattle.std.proofs.Common.{◌≡◌, ℕ, ◌+◌, List, [], ◌∷◌, ◌++◌, Result, Ok, Err, refl, sym, ◌∙◌, ap}
+use Rattle.std.proofs.Common.{◌≡◌, ℕ, ◌+◌, ◌≤◌, List, [], ◌∷◌, ◌++◌, length, Result, Ok, Err, refl, sym, ◌∙◌, ap, arith}
 use Rattle.net_base.specs.Addresses.{cut_at}
 use Rattle.net_base.specs.Steps.{◌>>=◌}
 use Rattle.net_base.proofs.StepLemmas.{bind_ok, ok_same}
-use Rattle.config_lines.proofs.CutParts.{halves, no_halves}
-use Rattle.line_laws.specs.Lines.{lines_of, whole_lines, line_by_line}
-use Rattle.line_laws.proofs.CutLines.{whole_lines_there, whole_lines_nowhere}
+use Rattle.config_lines.proofs.CutParts.{halves, no_halves, cut_shorter}
+use Rattle.line_laws.specs.Lines.{lines_of, whole_lines, last_line, line_by_line}
+use Rattle.line_laws.proofs.CutLines.{whole_lines_there, last_line_there, whole_lines_nowhere, last_line_nowhere}
 
 module _ {R F : Type 0} (with_line : ℕ → R → List ℕ → Result R F) where
   pub line_by_line-next : (n : ℕ) (r s : R) (line : List ℕ) (more : List (List ℕ)) (whole : Result R F) → with_line n r line ≡ Ok s
@@ -19,18 +19,27 @@ module _ {R F : Type 0} (with_line : ℕ → R → List ℕ → Result R F) wher
       let b = bind_ok (with_line n r x) (λ q. line_by_line with_line (n + 1) q xs) s h in
       ap (λ (o : Result R F). o >>= (λ q. line_by_line with_line (n + 1) q (xs ++ ys))) b.1 ∙ line_by_line-append (n + 1) b.0 s t xs ys b.2 k
 
-  -- the line here makes what was read more
-  pub taken : (n : ℕ) (r s : R) (bytes line rest : List ℕ) (whole : Result R F) → halves line rest ≡ cut_at 10 bytes → with_line n r line ≡ Ok s
-      → line_by_line with_line n r (whole_lines (lines_of bytes)) ≡ whole → line_by_line with_line (n + 1) s (whole_lines (lines_of rest)) ≡ whole
-  taken n r s bytes line rest whole cut here before =
-      line_by_line-next n r s line (whole_lines (lines_of rest)) whole here
-      (sym (ap (line_by_line with_line n r) (whole_lines_there bytes line rest cut)) ∙ before)
+  -- how far a text is taken: what is left, from this number and this reading on, gives what the text gives from the first ones on
+  pub record IsTaken (first : ℕ) (start : R) (text : List ℕ) (n : ℕ) (r : R) (left : List ℕ) : Type 0 where
+    pub feeds : n + length left ≤ length text + first
+    pub read : line_by_line with_line n r (whole_lines (lines_of left)) ≡ line_by_line with_line first start (whole_lines (lines_of text))
+    pub last : last_line (lines_of left) ≡ last_line (lines_of text)
 
-  -- it has a fault
-  pub fault_stops : (n : ℕ) (r : R) (bytes line rest : List ℕ) (whole : Result R F) (e : F) → halves line rest ≡ cut_at 10 bytes → with_line n r line ≡ Err e
-      → line_by_line with_line n r (whole_lines (lines_of bytes)) ≡ whole → whole ≡ Err e
-  fault_stops n r bytes line rest whole e cut here before = sym before ∙ ap (line_by_line with_line n r) (whole_lines_there bytes line rest cut) ∙ rw here refl
+  module _ {first : ℕ} {start : R} {text : List ℕ} {n : ℕ} {r : R} {left : List ℕ} (so_far : IsTaken first start text n r left) where
+    -- the line here makes what was read more
+    pub one_taken : (s : R) (line rest : List ℕ) → halves line rest ≡ cut_at 10 left → with_line n r line ≡ Ok s → IsTaken first start text (n + 1) s rest
+    one_taken s line rest cut here = record {
+      feeds = omega (arith, so_far.feeds, cut_shorter 10 left line rest cut);
+      read =
+          line_by_line-next n r s line (whole_lines (lines_of rest)) _ here
+          (sym (ap (line_by_line with_line n r) (whole_lines_there left line rest cut)) ∙ so_far.read);
+      last = sym (last_line_there left line rest cut) ∙ so_far.last;
+    }
 
-  -- there is none
-  pub all_taken : (n : ℕ) (r : R) (bytes : List ℕ) (whole : Result R F) → no_halves ≡ cut_at 10 bytes → line_by_line with_line n r (whole_lines (lines_of bytes)) ≡ whole → whole ≡ Ok r
-  all_taken n r bytes whole cut before = sym before ∙ ap (line_by_line with_line n r) (whole_lines_nowhere bytes cut)
+    -- it has a fault
+    pub fault_stops : (line rest : List ℕ) (e : F) → halves line rest ≡ cut_at 10 left → with_line n r line ≡ Err e → line_by_line with_line first start (whole_lines (lines_of text)) ≡ Err e
+    fault_stops line rest e cut here = sym so_far.read ∙ ap (line_by_line with_line n r) (whole_lines_there left line rest cut) ∙ rw here refl
+
+    -- there is none
+    pub all_taken : no_halves ≡ cut_at 10 left → (line_by_line with_line first start (whole_lines (lines_of text)) ≡ Ok r) × (last_line (lines_of text) ≡ left)
+    all_taken cut = (sym so_far.read ∙ ap (line_by_line with_line n r) (whole_lines_nowhere left cut), sym so_far.last ∙ last_line_nowhere left cut)

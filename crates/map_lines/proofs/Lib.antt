@@ -1,5 +1,6 @@
+pub mod Entries
 pub mod LongMapLines
 pub mod MapForms
 pub mod MapJoined
-pub mod MapWords
 pub mod MapWritten
+pub mod OtherMapLengths

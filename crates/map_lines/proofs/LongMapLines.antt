@@ -1,5 +1,5 @@
 -- A line of more than ten words has none of the forms.
-use Rattle.std.proofs.Common.{◌≡◌, ℕ, ◌<◌, List, [], ◌∷◌, length, Bool, true, false, Result, Ok, Err, refl, arith, inl, inr}
+use Rattle.std.proofs.Common.{◌≡◌, ℕ, ◌<◌, List, [], ◌∷◌, length, Bool, true, false, Result, Ok, Err, refl, sym, arith, inl, inr}
 use Rattle.std.specs.Prelude.{◌==◌, codes, if◌then◌else◌}
 use Rattle.std.specs.Str.{bytes_eq}
 use Rattle.std.proofs.lemmas.Bool.{ne_eqb}
@@ -9,10 +9,11 @@ use Rattle.config_lines.specs.declared.line.LineFault.{LineFault}
 use Rattle.config_lines.specs.declared.line.LineFault.TheVariants.{Form}
 use Rattle.config_lines.specs.declared.number.Figure.{Figure}
 use Rattle.config_lines.specs.Numbers.{number_of}
-use Rattle.config_lines.specs.Words.{is_word}
-use Rattle.config_lines.proofs.LongLines.{IsFormal, no_form_behind, number_of-formal, is_word-formal, long_pattern, long_setting, long_router, long_session, long_peer, long_end}
+use Rattle.config_lines.proofs.LongLines.{IsFormal, no_form_behind, number_of-formal, long_pattern, long_setting, long_router, long_session, long_peer, long_end}
 use Rattle.list_laws.proofs.Truth.{either_way}
-use Rattle.map_lines.specs.MapLines.{kind_of, list_line, network_line, matched, unmatched, in_line, exported, out_line, as_block, form_line, words_line}
+use Rattle.map_lines.specs.MapLines.{kind_of, list_line, matched, unmatched, in_line, exported, out_line, as_block, form_line, words_line}
+use Rattle.map_lines.proofs.Entries.{no_entry}
+use Rattle.map_lines.proofs.OtherMapLengths.{other_network, other_exported}
 
 kind_of-formal : (w : List ℕ) → IsFormal (kind_of w)
 unfolding kind_of
@@ -29,11 +30,6 @@ long_list (n ∷ kind ∷ ws) long =
     no_form_behind (number_of n) _ (number_of-formal n) (λ _. no_form_behind (kind_of kind) _ (kind_of-formal kind) (λ _. rw (long_pattern ws (omega (arith, long))) refl))
 long_list _ long = absurd (omega (arith, long))
 
-long_network : (lists : ℕ) (ws : List (List ℕ)) → 9 < length ws → network_line lists ws ≡ Err Form
-unfolding network_line
-long_network lists (a ∷ b ∷ c ∷ d ∷ e ∷ f ∷ ws) long = refl
-long_network lists _ long = absurd (omega (arith, long))
-
 long_unmatched : (lists : ℕ) (n : Figure) (ws : List (List ℕ)) → 6 < length ws → unmatched lists n ws ≡ Err Form
 unfolding unmatched
 long_unmatched lists n ws long = rw (long_setting Second ws (omega (arith, long))) refl
@@ -45,22 +41,12 @@ long_imported lists n ws long = rw (ne_eqb (length ws) 6 (λ e. omega (arith, e,
 long_in : (lists : ℕ) (ws : List (List ℕ)) → 9 < length ws → in_line lists ws ≡ Err Form
 unfolding in_line
 long_in lists (k ∷ list ∷ n ∷ ws) long =
-    no_form_behind (number_of k) _ (number_of-formal k)
-    (λ _. no_form_behind (is_word (codes "list") list) _ (is_word-formal (codes "list") list)
-    (λ _. no_form_behind (number_of n) _ (number_of-formal n) (λ f. rw (long_imported lists f ws (omega (arith, long))) refl)))
+    no_entry k list n (λ m. if length ws == 6 then matched lists m ws else unmatched lists m ws) (λ m. long_imported lists m ws (omega (arith, long)))
 long_in lists _ long = absurd (omega (arith, long))
-
-long_exported : (lists : ℕ) (n : Figure) (ws : List (List ℕ)) → 6 < length ws → exported lists n ws ≡ Err Form
-unfolding exported
-long_exported lists n (a ∷ b ∷ c ∷ ws) long = refl
-long_exported lists n _ long = absurd (omega (arith, long))
 
 long_out : (lists : ℕ) (ws : List (List ℕ)) → 9 < length ws → out_line lists ws ≡ Err Form
 unfolding out_line
-long_out lists (k ∷ list ∷ n ∷ ws) long =
-    no_form_behind (number_of k) _ (number_of-formal k)
-    (λ _. no_form_behind (is_word (codes "list") list) _ (is_word-formal (codes "list") list)
-    (λ _. no_form_behind (number_of n) _ (number_of-formal n) (λ f. rw (long_exported lists f ws (omega (arith, long))) refl)))
+long_out lists (k ∷ list ∷ n ∷ ws) long = no_entry k list n (λ m. exported lists m ws) (λ m. sym (other_exported lists m ws (λ e. omega (arith, e, long))))
 long_out lists _ long = absurd (omega (arith, long))
 
 block : (r : Result Line LineFault) → r ≡ Err Form → as_block r ≡ Err Form
@@ -71,7 +57,7 @@ unfolding form_line
 long_form lists w ws long =
     either_way (bytes_eq w (codes "list")) _ _ (Err Form) (long_list ws long)
     (either_way (bytes_eq w (codes "router")) _ _ (Err Form) (block _ (long_router Second ws long))
-    (either_way (bytes_eq w (codes "network")) _ _ (Err Form) (block _ (long_network lists ws long))
+    (either_way (bytes_eq w (codes "network")) _ _ (Err Form) (block _ (sym (other_network lists ws (λ e. omega (arith, e, long)))))
     (either_way (bytes_eq w (codes "neighbor")) _ _ (Err Form) (block _ (long_session Second ws long))
     (either_way (bytes_eq w (codes "peer")) _ _ (Err Form) (block _ (long_peer Second ws long))
     (either_way (bytes_eq w (codes "in")) _ _ (Err Form) (long_in lists ws long)

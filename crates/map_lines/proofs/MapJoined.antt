@@ -2,6 +2,11 @@
 use Rattle.std.proofs.Common.{◌≡◌, ℕ, Bool, true, false, List, [], ◌∷◌, ◌++◌, refl, append_assoc}
 use Rattle.std.specs.Prelude.{codes}
 use Rattle.std.specs.List.{join_with_byte}
+use Rattle.std.specs.Fmt.{decimal}
+use Rattle.net_base.specs.declared.numbers.Tag.{Tag}
+use Rattle.config_lines.specs.declared.edition.Edition.TheVariants.{Second}
+use Rattle.config_lines.specs.Editions.{tag_text}
+use Rattle.config_lines.proofs.JoinedLines.{setting_words}
 use Rattle.map_lines.specs.MapLineText.{kind_text}
 
 abbrev pub kind_word : Bool → List ℕ
@@ -17,10 +22,6 @@ pub network_joined : (prefix list n set t a b c : List ℕ) → list ≡ codes "
     → join_with_byte 32 (codes "network" ∷ prefix ∷ list ∷ n ∷ set ∷ t ∷ []) ≡ codes "network " ++ a ++ codes " list " ++ b ++ codes " set " ++ c
 network_joined prefix list n set t a b c e1 e2 e3 e4 e5 = rw (e1, e2, e3, e4, e5) (simp append_assoc refl)
 
-pub neighbor_joined : (name asn n v a : List ℕ) → asn ≡ codes "asn" → name ≡ v → n ≡ a
-    → join_with_byte 32 (codes "neighbor" ∷ name ∷ asn ∷ n ∷ []) ≡ codes "neighbor " ++ v ++ codes " asn " ++ a
-neighbor_joined name asn n v a e1 e2 e3 = rw (e1, e2, e3) (simp append_assoc refl)
-
 matched_by : (a b c d e : List ℕ) → join_with_byte 32 (codes "in" ∷ a ∷ codes "list" ∷ b ∷ codes "match" ∷ c ∷ codes "set" ∷ d ∷ codes "pref" ∷ e ∷ [])
     ≡ codes "in " ++ a ++ (codes " list " ++ b ++ codes " match " ++ c ++ (codes " set " ++ d ++ codes " pref " ++ e))
 matched_by a b c d e =
@@ -30,15 +31,15 @@ matched_by a b c d e =
       append_assoc d (codes " pref ") e,
     ) refl
 
-pub matched_joined : (k list n match' t set u pref m a b c d e : List ℕ) → list ≡ codes "list" → match' ≡ codes "match" → set ≡ codes "set"
-    → pref ≡ codes "pref" → k ≡ a → n ≡ b → t ≡ c → u ≡ d → m ≡ e
-    → join_with_byte 32 (codes "in" ∷ k ∷ list ∷ n ∷ match' ∷ t ∷ set ∷ u ∷ pref ∷ m ∷ [])
-    ≡ codes "in " ++ a ++ (codes " list " ++ b ++ codes " match " ++ c ++ (codes " set " ++ d ++ codes " pref " ++ e))
-matched_joined k list n match' t set u pref m a b c d e e1 e2 e3 e4 e5 e6 e7 e8 e9 = rw (e1, e2, e3, e4, e5, e6, e7, e8, e9) (matched_by a b c d e)
+pub matched_joined : (k list n match' t a b c : List ℕ) (set : Tag) (pref : ℕ) → list ≡ codes "list" → match' ≡ codes "match" → k ≡ a → n ≡ b → t ≡ c
+    → join_with_byte 32 (codes "in" ∷ k ∷ list ∷ n ∷ match' ∷ t ∷ setting_words Second set pref)
+    ≡ codes "in " ++ a ++ (codes " list " ++ b ++ codes " match " ++ c ++ (codes " set " ++ tag_text Second set ++ codes " pref " ++ decimal pref))
+matched_joined k list n match' t a b c set pref e1 e2 e3 e4 e5 = rw (e1, e2, e3, e4, e5) (matched_by a b c (tag_text Second set) (decimal pref))
 
-pub unmatched_joined : (k list n set u pref m a b d e : List ℕ) → list ≡ codes "list" → set ≡ codes "set" → pref ≡ codes "pref" → k ≡ a → n ≡ b → u ≡ d → m ≡ e
-    → join_with_byte 32 (codes "in" ∷ k ∷ list ∷ n ∷ set ∷ u ∷ pref ∷ m ∷ []) ≡ codes "in " ++ a ++ (codes " list " ++ b ++ (codes " set " ++ d ++ codes " pref " ++ e))
-unmatched_joined k list n set u pref m a b d e e1 e2 e3 e4 e5 e6 e7 = rw (e1, e2, e3, e4, e5, e6, e7) (simp append_assoc refl)
+pub unmatched_joined : (k list n a b : List ℕ) (set : Tag) (pref : ℕ) → list ≡ codes "list" → k ≡ a → n ≡ b
+    → join_with_byte 32 (codes "in" ∷ k ∷ list ∷ n ∷ setting_words Second set pref)
+    ≡ codes "in " ++ a ++ (codes " list " ++ b ++ (codes " set " ++ tag_text Second set ++ codes " pref " ++ decimal pref))
+unmatched_joined k list n a b set pref e1 e2 e3 = rw (e1, e2, e3) (simp append_assoc refl)
 
 pub out_joined : (k list n match' t a b c : List ℕ) → list ≡ codes "list" → match' ≡ codes "match" → k ≡ a → n ≡ b → t ≡ c
     → join_with_byte 32 (codes "out" ∷ k ∷ list ∷ n ∷ match' ∷ t ∷ []) ≡ codes "out " ++ a ++ (codes " list " ++ b ++ codes " match " ++ c)

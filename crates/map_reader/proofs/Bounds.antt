@@ -53,42 +53,19 @@ entry_long k (line.Export e) is =
     omega (arith, listed e.class, front (codes " list " ++ decimal e.class) (codes " match "), front (codes " list " ++ decimal e.class ++ codes " match ") (tag_text Second e.tag)) in
     let head : 4 ≤ length (codes "out " ++ decimal k) = front (codes "out ") (decimal k) in
     omega (arith, rest, head, both (codes "out " ++ decimal k) (entry_text (line.Export e)), both (codes "out " ++ decimal k ++ entry_text (line.Export e)) (codes "\n"))
-entry_long k (line.Class n ps) is = absurd is
-entry_long k (line.Router name asn id) is = absurd is
-entry_long k (line.Origination o) is = absurd is
-entry_long k (line.Session name asn) is = absurd is
-entry_long k (line.Peer name asn) is = absurd is
-entry_long k line.End is = absurd is
+entry_long k _ is = absurd is
+
+-- an entry more
+one_below : (k : Counts) (l : Line) (ls : List Line) → 10 ≤ length (fed (number_line k l)) → weight ls ≤ length (flat_map fed (number_from (step k l) ls))
+    → 10 + weight ls ≤ length (flat_map fed (number_from k (l ∷ ls)))
+one_below k l ls long later = omega (arith, long, later, both (fed (number_line k l)) (flat_map fed (number_from (step k l) ls)))
 
 pub weight_below : (k : Counts) (ls : List Line) → weight ls ≤ length (flat_map fed (number_from k ls))
 weight_below k [] = omega arith
-weight_below k (line.Import r ∷ ls) =
-    omega (
-      arith,
-      weight_below (step k (line.Import r)) ls,
-      entry_long (10 * (k.ins + 1)) (line.Import r) tt,
-      both (fed (number_line k (line.Import r))) (flat_map fed (number_from (step k (line.Import r)) ls)),
-    )
-weight_below k (line.PeerImport r ∷ ls) =
-    omega (
-      arith,
-      weight_below (step k (line.PeerImport r)) ls,
-      entry_long (10 * (k.ins + 1)) (line.PeerImport r) tt,
-      both (fed (number_line k (line.PeerImport r))) (flat_map fed (number_from (step k (line.PeerImport r)) ls)),
-    )
-weight_below k (line.Export e ∷ ls) =
-    omega (
-      arith,
-      weight_below (step k (line.Export e)) ls,
-      entry_long (10 * (k.outs + 1)) (line.Export e) tt,
-      both (fed (number_line k (line.Export e))) (flat_map fed (number_from (step k (line.Export e)) ls)),
-    )
-weight_below k (line.Class n ps ∷ ls) = omega (arith, weight_below none ls, both (fed (number_line k (line.Class n ps))) (flat_map fed (number_from none ls)))
-weight_below k (line.Router name asn id ∷ ls) = omega (arith, weight_below none ls, both (fed (number_line k (line.Router name asn id))) (flat_map fed (number_from none ls)))
-weight_below k (line.Origination o ∷ ls) = omega (arith, weight_below none ls, both (fed (number_line k (line.Origination o))) (flat_map fed (number_from none ls)))
-weight_below k (line.Session name asn ∷ ls) = omega (arith, weight_below none ls, both (fed (number_line k (line.Session name asn))) (flat_map fed (number_from none ls)))
-weight_below k (line.Peer name asn ∷ ls) = omega (arith, weight_below none ls, both (fed (number_line k (line.Peer name asn))) (flat_map fed (number_from none ls)))
-weight_below k (line.End ∷ ls) = omega (arith, weight_below none ls, both (fed (number_line k line.End)) (flat_map fed (number_from none ls)))
+weight_below k (line.Import r ∷ ls) = one_below k (line.Import r) ls (entry_long (10 * (k.ins + 1)) (line.Import r) tt) (weight_below (step k (line.Import r)) ls)
+weight_below k (line.PeerImport r ∷ ls) = one_below k (line.PeerImport r) ls (entry_long (10 * (k.ins + 1)) (line.PeerImport r) tt) (weight_below (step k (line.PeerImport r)) ls)
+weight_below k (line.Export e ∷ ls) = one_below k (line.Export e) ls (entry_long (10 * (k.outs + 1)) (line.Export e) tt) (weight_below (step k (line.Export e)) ls)
+weight_below k (l ∷ ls) = omega (arith, weight_below none ls, both (fed (number_line k l)) (flat_map fed (number_from none ls)))
 
 -- numbered lines keep the rules where their numbers are below a bound
 pub numbered_are : (count bound : ℕ) → bound < 2 ^ 32 → (k : Counts) (ls : List Line) → 10 * k.ins + weight ls ≤ bound → 10 * k.outs + weight ls ≤ bound
@@ -103,8 +80,4 @@ numbered_are count bound low k (line.PeerImport r ∷ ls) i o all other = (
 numbered_are count bound low k (line.Export e ∷ ls) i o all other =
     ((omega (arith, o, low), tt, all.0), numbered_are count bound low (step k (line.Export e)) ls (omega (arith, i)) (omega (arith, o)) all.1 other.1)
 numbered_are count bound low k (line.Class n ps ∷ ls) i o all other = absurd other.0
-numbered_are count bound low k (line.Router name asn id ∷ ls) i o all other = ((tt, all.0), numbered_are count bound low none ls (omega (arith, i)) (omega (arith, o)) all.1 other.1)
-numbered_are count bound low k (line.Origination own ∷ ls) i o all other = ((tt, all.0), numbered_are count bound low none ls (omega (arith, i)) (omega (arith, o)) all.1 other.1)
-numbered_are count bound low k (line.Session name asn ∷ ls) i o all other = ((tt, all.0), numbered_are count bound low none ls (omega (arith, i)) (omega (arith, o)) all.1 other.1)
-numbered_are count bound low k (line.Peer name asn ∷ ls) i o all other = ((tt, all.0), numbered_are count bound low none ls (omega (arith, i)) (omega (arith, o)) all.1 other.1)
-numbered_are count bound low k (line.End ∷ ls) i o all other = ((tt, all.0), numbered_are count bound low none ls (omega (arith, i)) (omega (arith, o)) all.1 other.1)
+numbered_are count bound low k (l ∷ ls) i o all other = ((tt, all.0), numbered_are count bound low none ls (omega (arith, i)) (omega (arith, o)) all.1 other.1)

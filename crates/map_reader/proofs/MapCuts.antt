@@ -1,18 +1,13 @@
 -- The answer at the first fault of a maps text, and where all its lines are taken.
-use Rattle.std.proofs.Common.{◌≡◌, ℕ, List, length, Bool, true, false, Option, None, Result, Ok, Err, refl, sym, ◌∙◌, ap, arith}
-use Rattle.std.specs.Prelude.{◌&&◌, ◌==◌, is_none}
-use Rattle.std.specs.Bool.{then_some}
-use Rattle.std.specs.Option.{ok_or}
+use Rattle.std.proofs.Common.{◌≡◌, ℕ, List, length, true, false, Result, Ok, Err, refl, sym, ◌∙◌, ap, arith}
 use Rattle.std.specs.Str.{bytes_eq}
-use Rattle.std.proofs.lemmas.Bool.{ne_eqb, and_parts}
-use Rattle.list_laws.proofs.Options.{is_none_parts}
-use Rattle.net_base.proofs.StepLemmas.{ok_same}
+use Rattle.std.proofs.lemmas.Bool.{ne_eqb}
 use Rattle.config_base.specs.declared.config.RouterConfig.{RouterConfig}
 use Rattle.net_base.specs.Addresses.{cut_at}
 use Rattle.config_lines.proofs.CutParts.{halves, no_halves, split_there, split_nowhere}
-use Rattle.line_laws.specs.Lines.{lines_of, whole_lines, last_line}
-use Rattle.line_laws.proofs.CutLines.{lines_of-some, last_line_nowhere}
-use Rattle.line_laws.proofs.LineByLine.{fault_stops, all_taken}
+use Rattle.line_laws.specs.Lines.{lines_of}
+use Rattle.line_laws.proofs.CutLines.{lines_of-some}
+use Rattle.line_laws.proofs.LineByLine.{IsTaken, fault_stops, all_taken}
 use Rattle.route_maps.specs.declared.maps.ListLine.{ListLine}
 use Rattle.route_maps.specs.Maps.{PlainMaps}
 use Rattle.map_lines.specs.declared.line.MapLine.{MapLine}
@@ -22,25 +17,19 @@ use Rattle.config_reader.specs.declared.fault.ConfigFault.{ConfigFault}
 use Rattle.config_reader.specs.declared.fault.ConfigFault.TheVariants as fault
 use Rattle.map_reader.specs.declared.reading.MapsReading.{MapsReading}
 use Rattle.map_reader.specs.MapsReading.{opening, after_map}
-use Rattle.map_reader.specs.MapsRead.{read_at, placed_at, with_line, with_lines, finished, behind_heading, in_lines, spelled}
+use Rattle.map_reader.specs.MapsRead.{read_at, placed_at, with_line, finished, behind_heading, in_lines, spelled}
 
 -- the line has a fault
-pub faulty : (n : ℕ) (r : MapsReading) (bytes line rest all : List ℕ) (e : ConfigFault) → halves line rest ≡ cut_at 10 bytes → with_line n r line ≡ Err e
-    → with_lines n r (whole_lines (lines_of bytes)) ≡ with_lines 2 opening (whole_lines (lines_of all)) → behind_heading (lines_of all) ≡ Err e
+pub faulty : {n : ℕ} {r : MapsReading} {text left : List ℕ} (line rest : List ℕ) (e : ConfigFault) → IsTaken with_line 2 opening text n r left → halves line rest ≡ cut_at 10 left
+    → with_line n r line ≡ Err e → behind_heading (lines_of text) ≡ Err e
 unfolding behind_heading
-faulty n r bytes line rest all e cut here before =
-    let stops = fault_stops with_line n r bytes line rest (with_lines 2 opening (whole_lines (lines_of all))) e cut here before in
-    rw stops refl
+faulty line rest e so_far cut here = rw (fault_stops with_line so_far line rest e cut here) refl
 
 -- all whole lines are read
-pub finished_behind : (n : ℕ) (r : MapsReading) (bytes all : List ℕ) → no_halves ≡ cut_at 10 bytes
-    → with_lines n r (whole_lines (lines_of bytes)) ≡ with_lines 2 opening (whole_lines (lines_of all))
-    → last_line (lines_of bytes) ≡ last_line (lines_of all) → behind_heading (lines_of all) ≡ finished r bytes
+pub finished_behind : {n : ℕ} {r : MapsReading} {text left : List ℕ} → IsTaken with_line 2 opening text n r left → no_halves ≡ cut_at 10 left
+    → behind_heading (lines_of text) ≡ finished r left
 unfolding behind_heading
-finished_behind n r bytes all cut before last =
-    let read = all_taken with_line n r bytes (with_lines 2 opening (whole_lines (lines_of all))) cut before in
-    let rest : last_line (lines_of all) ≡ bytes = sym last ∙ last_line_nowhere bytes cut in
-    rw read (ap (finished r) rest)
+finished_behind {r = r} so_far cut = let all = all_taken with_line so_far cut in rw all.0 (ap (finished r) all.1)
 
 -- a line that is read where it stands
 pub line_placed : (n : ℕ) (r same : MapsReading) (bytes : List ℕ) (lists : List (List ListLine)) (l : MapLine) (read : Result MapLine ConfigFault) → lists ≡ r.lists
@@ -50,14 +39,7 @@ line_placed n r same bytes lists l read count is ok kept =
     let here : read_at n (map_line_of bytes (length r.lists)) ≡ Ok l = ap (λ (ls : List (List ListLine)). read_at n (map_line_of bytes (length ls))) (sym count) ∙ sym is ∙ ok in
     rw here (ap (λ (q : MapsReading). placed_at n (after_map q l)) (sym kept))
 
--- what is kept of a text that is whole
-pub whole_kept : (r s : MapsReading) (rest : List ℕ) (whole : Bool) (o : Option MapsReading) (x : Result MapsReading ConfigFault) → whole ≡ (is_none r.blocks.opened && length rest == 0)
-    → o ≡ then_some whole r → x ≡ ok_or o fault.Unfinished → x ≡ Ok s → (r.blocks.opened ≡ None) × (r ≡ s)
-whole_kept r s rest true o x is some ok kept =
-    let both = and_parts (is_none r.blocks.opened) (length rest == 0) (sym is) in
-    (is_none_parts r.blocks.opened both.0, ok_same r s (sym (ok ∙ ap (λ (p : Option MapsReading). ok_or p fault.Unfinished) some) ∙ kept))
-whole_kept r s rest false o x is some ok kept = absurd (let e = sym (ok ∙ ap (λ (p : Option MapsReading). ok_or p fault.Unfinished) some) ∙ kept in cc)
-
+-- the maps of what is kept
 pub as_maps : (r s : MapsReading) (routers : List RouterConfig) → r ≡ s → routers ≡ s.blocks.routers
     → (let m : PlainMaps = record { lists = r.lists; routers = r.blocks.routers } in m) ≡ record { lists = s.lists; routers = routers }
 as_maps r s routers same are =

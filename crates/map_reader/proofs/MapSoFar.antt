@@ -175,26 +175,12 @@ new_added r s number l k is m =
 -- ---- lines of blocks
 
 entry_other : (l : Line) → IsEntry l → IsOther l
-entry_other (line.Import r) is = tt
-entry_other (line.PeerImport r) is = tt
-entry_other (line.Export e) is = tt
 entry_other (line.Class n ps) is = is
-entry_other (line.Router name asn id) is = tt
-entry_other (line.Origination o) is = tt
-entry_other (line.Session name asn) is = tt
-entry_other (line.Peer name asn) is = tt
-entry_other line.End is = tt
+entry_other _ is = tt
 
 block_other : (l : Line) → IsBlock l → IsOther l
-block_other (line.Import r) is = tt
-block_other (line.PeerImport r) is = tt
-block_other (line.Export e) is = tt
 block_other (line.Class n ps) is = is
-block_other (line.Router name asn id) is = tt
-block_other (line.Origination o) is = tt
-block_other (line.Session name asn) is = tt
-block_other (line.Peer name asn) is = tt
-block_other line.End is = tt
+block_other _ is = tt
 
 -- a line of a configuration more, with its number
 taken_added : (r s : MapsReading) (l : Line) (b : Reading) → AreKept r → IsOther l → IsLine Second (length r.lists) l → after r.blocks l ≡ Ok b
@@ -222,37 +208,27 @@ taken_added r s l b k other is h e =
 
 -- a block's line has no number
 block_line : (k : Counts) (l : Line) → IsBlock l → number_line k l ≡ written.Block l
-block_line k (line.Router name asn id) is = refl
-block_line k (line.Origination o) is = refl
-block_line k (line.Session name asn) is = refl
-block_line k (line.Peer name asn) is = refl
-block_line k line.End is = refl
-block_line k (line.Class n ps) is = absurd is
 block_line k (line.Import r) is = absurd is
 block_line k (line.PeerImport r) is = absurd is
 block_line k (line.Export e) is = absurd is
+block_line k _ is = refl
 
 number_is : (number : Option ℕ) (n : ℕ) → is_number_of number n ≡ true → number ≡ Some (10 * n)
 number_is None n h = absurd cc
 number_is (Some k) n h = ap Some (eqb-true k (10 * n) h)
 
+numbered_entry : (number : Option ℕ) (n m : ℕ) (l : Line) → m ≡ n + 1 → is_number_of number m ≡ true → written.Entry (Some (10 * (n + 1))) l ≡ written.Entry number l
+numbered_entry number n m l e is = ap (λ (o : Option ℕ). written.Entry o l) (ap (λ k. Some (10 * k)) (sym e) ∙ sym (number_is number m is))
+
 -- an entry's number is that of its place
 entry_line : (r b : Reading) (number : Option ℕ) (l : Line) → IsEntry l → after r l ≡ Ok b → is_number_of number (entries_of (is_out l) b) ≡ true → number_line (counts r) l ≡ written.Entry number l
 entry_line r b number (line.Import rule) is h n =
-    let e : entries_of false b ≡ (counts r).ins + 1 = ap (λ (c : Counts). c.ins) (counts-after r b (line.Import rule) tt h) in
-    ap (λ (o : Option ℕ). written.Entry o (line.Import rule)) (ap (λ m. Some (10 * m)) (sym e) ∙ sym (number_is number (entries_of false b) n))
+    numbered_entry number (counts r).ins (entries_of false b) (line.Import rule) (ap (λ (c : Counts). c.ins) (counts-after r b (line.Import rule) tt h)) n
 entry_line r b number (line.PeerImport rule) is h n =
-    let e : entries_of false b ≡ (counts r).ins + 1 = ap (λ (c : Counts). c.ins) (counts-after r b (line.PeerImport rule) tt h) in
-    ap (λ (o : Option ℕ). written.Entry o (line.PeerImport rule)) (ap (λ m. Some (10 * m)) (sym e) ∙ sym (number_is number (entries_of false b) n))
+    numbered_entry number (counts r).ins (entries_of false b) (line.PeerImport rule) (ap (λ (c : Counts). c.ins) (counts-after r b (line.PeerImport rule) tt h)) n
 entry_line r b number (line.Export export) is h n =
-    let e : entries_of true b ≡ (counts r).outs + 1 = ap (λ (c : Counts). c.outs) (counts-after r b (line.Export export) tt h) in
-    ap (λ (o : Option ℕ). written.Entry o (line.Export export)) (ap (λ m. Some (10 * m)) (sym e) ∙ sym (number_is number (entries_of true b) n))
-entry_line r b number (line.Class m ps) is h n = absurd is
-entry_line r b number (line.Router name asn id) is h n = absurd is
-entry_line r b number (line.Origination o) is h n = absurd is
-entry_line r b number (line.Session name asn) is h n = absurd is
-entry_line r b number (line.Peer name asn) is h n = absurd is
-entry_line r b number line.End is h n = absurd is
+    numbered_entry number (counts r).outs (entries_of true b) (line.Export export) (ap (λ (c : Counts). c.outs) (counts-after r b (line.Export export) tt h)) n
+entry_line r b number _ is h n = absurd is
 
 -- a line more was read
 pub after_added : (r s : MapsReading) (l : MapLine) → AreKept r → IsMapLine (length r.lists) l → after_map r l ≡ Ok s → IsAdded r s l

@@ -252,12 +252,7 @@ numbered_no_list k (l ∷ ls) = (by l, numbered_no_list (step k l) ls)
     by (line.Import r) = tt
     by (line.PeerImport r) = tt
     by (line.Export e) = tt
-    by (line.Class n ps) = tt
-    by (line.Router name asn id) = tt
-    by (line.Origination o) = tt
-    by (line.Session name asn) = tt
-    by (line.Peer name asn) = tt
-    by line.End = tt
+    by _ = tt
 
 maps_taken : (m : PlainMaps) → IsLawful m → length (maps_text m) < 2 ^ 32 → with_lines 2 opening (map map_line_text (map_lines m)) ≡ Ok (made m.lists (at (firsts m.lists) m.routers None))
 maps_taken m is short =

@@ -60,24 +60,22 @@ number_from-append k (x ∷ xs) ys = ap (λ (ls : List MapLine). number_line k x
 
 -- ---- the blocks of routers
 
+import_numbered : (b : Bool) (k : Counts) (r : Import) → (number_line k (import_of b r) ≡ written.Entry (Some (10 * (k.ins + 1))) (import_of b r))
+    × (step k (import_of b r) ≡ record { ins = k.ins + 1; outs = k.outs })
+import_numbered true k r = (refl, refl)
+import_numbered false k r = (refl, refl)
+
 ins_numbered : (b : Bool) (i o : ℕ) (rules : List Import) → (number_from (record { ins = i; outs = o }) (map (import_of b) rules) ≡ numbered (10 * (i + 1)) (map (import_of b) rules))
     × (steps (record { ins = i; outs = o }) (map (import_of b) rules) ≡ record { ins = i + length rules; outs = o })
 ins_numbered b i o [] = (refl, let e : i ≡ i + 0 = omega arith in ap (λ n. let k : Counts = record { ins = n; outs = o } in k) e)
-ins_numbered true i o (r ∷ rules) =
-    let later = ins_numbered true (i + 1) o rules in
+ins_numbered b i o (r ∷ rules) =
+    let here = import_numbered b (record { ins = i; outs = o }) r in
+    let later = ins_numbered b (i + 1) o rules in
     let e : 10 * (i + 1 + 1) ≡ 10 * (i + 1) + 10 = omega arith in
     let c : i + 1 + length rules ≡ i + length (r ∷ rules) = omega arith in (
-      ap (λ (ls : List MapLine). written.Entry (Some (10 * (i + 1))) (line.PeerImport r) ∷ ls)
-          (later.0 ∙ ap (λ n. numbered n (map (import_of true) rules)) e),
-      later.1 ∙ ap (λ n. let k : Counts = record { ins = n; outs = o } in k) c,
-    )
-ins_numbered false i o (r ∷ rules) =
-    let later = ins_numbered false (i + 1) o rules in
-    let e : 10 * (i + 1 + 1) ≡ 10 * (i + 1) + 10 = omega arith in
-    let c : i + 1 + length rules ≡ i + length (r ∷ rules) = omega arith in (
-      ap (λ (ls : List MapLine). written.Entry (Some (10 * (i + 1))) (line.Import r) ∷ ls)
-          (later.0 ∙ ap (λ n. numbered n (map (import_of false) rules)) e),
-      later.1 ∙ ap (λ n. let k : Counts = record { ins = n; outs = o } in k) c,
+      ap₂ (λ (l : MapLine) (k : Counts). l ∷ number_from k (map (import_of b) rules)) here.0 here.1
+          ∙ ap (λ (ls : List MapLine). written.Entry (Some (10 * (i + 1))) (import_of b r) ∷ ls) (later.0 ∙ ap (λ n. numbered n (map (import_of b) rules)) e),
+      ap (λ (k : Counts). steps k (map (import_of b) rules)) here.1 ∙ later.1 ∙ ap (λ n. let k : Counts = record { ins = n; outs = o } in k) c,
     )
 
 outs_numbered : (i o : ℕ) (exports : List Export) → number_from (record { ins = i; outs = o }) (map line.Export exports) ≡ numbered (10 * (o + 1)) (map line.Export exports)

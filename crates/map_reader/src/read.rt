@@ -8,7 +8,7 @@ ghost use Rattle.map_lines.specs.MapLines.{map_line_of};
 ghost use Rattle.route_map_text.specs.MapsLines.{first_line};
 ghost use Rattle.route_map_text.specs.MapsSpelled.{Spells};
 ghost use Rattle.map_reader.specs.MapsReading.{after_map};
-ghost use Rattle.map_reader.specs.MapsRead.{read_at, placed_at, with_line, finished, behind_heading, in_lines, spelled};
+ghost use Rattle.map_reader.specs.MapsRead.{read_at, placed_at, with_line, finished, behind_heading, spelled};
 
 use crate::MapsFault;
 use crate::reading::{MapsReading, after_line, beside, no_line};

@@ -1,8 +1,8 @@
 -- The text of lines, one after another.
-use Rattle.std.proofs.Common.{◌≡◌, ℕ, zero, suc, ◌+◌, ◌*◌, ◌<◌, List, [], ◌∷◌, ◌++◌, length, map, take, drop, drop-cons, add-one, get_or, Some, refl, sym, ◌∙◌, ap, ap₂}
+use Rattle.std.proofs.Common.{◌≡◌, ℕ, ◌+◌, ◌*◌, ◌<◌, List, [], ◌∷◌, ◌++◌, length, map, take, drop, drop-cons, add-one, get_or, Some, refl, sym, ◌∙◌, ap, ap₂}
 use Rattle.std.proofs.Common.{arith, append-nil, append_assoc}
 use Rattle.std.specs.Prelude.{codes}
-use Rattle.std.specs.List.{flat_map, AllByRecursion}
+use Rattle.std.specs.List.{flat_map}
 use Rattle.std.proofs.lemmas.List.{take_more, map-append, length-map, length-take-le}
 use Rattle.std.proofs.lemmas.List.Concat.{flat_map-append}
 use Rattle.config_base.specs.declared.config.RouterConfig.{RouterConfig}
@@ -100,10 +100,3 @@ maps_made m none first lists routers z a b c =
     (sym (fed-flat_map lines_of_router m.routers))
     ∙ append_assoc (codes "propane-maps 1\n") (flat_map fed (lines_of_lists 1 m.lists)) (flat_map fed (flat_map lines_of_router m.routers))
     ∙ ap (λ (t : List ℕ). codes "propane-maps 1\n" ++ t) (sym (flat_map-append fed (lines_of_lists 1 m.lists) (flat_map lines_of_router m.routers)))
-
--- what holds of the first ones and of the next
-pub all_next : {X : Type 0} (P : X → Type 0) (i : ℕ) (xs : List X) (d : X) → i < length xs → AllByRecursion P (take i xs) → P (get_or xs i d) → AllByRecursion P (take (suc i) xs)
-all_next P zero [] d h a p = absurd (omega (arith, h))
-all_next P zero (x ∷ xs) d h a p = (p, tt)
-all_next P (suc i) [] d h a p = absurd (omega (arith, h))
-all_next P (suc i) (x ∷ xs) d h a p = (a.0, all_next P i xs d (omega (arith, h)) a.1 p)

@@ -1,15 +1,13 @@
-use Rattle.std.proofs.Common.{◌≡◌, ◌+◌, ◌≤◌, length}
+use Rattle.std.proofs.Common.{◌+◌, ◌≤◌, length}
 use Rattle.config_reader.specs.Reading.{opening}
-use Rattle.line_laws.specs.Lines.{lines_of, whole_lines, last_line}
-use Rattle.config_reader.specs.Text.{with_lines}
+use Rattle.line_laws.proofs.LineByLine.{IsTaken}
+use Rattle.config_reader.specs.Text.{with_line}
 use Rattle.config_reader.proofs.read.read_behind_heading.Given as goal
 
 abbrev pub invariant-loop-line : goal.invariant-loop-line
 invariant-loop-line l = record {
-  feeds : l.number + length l.rest ≤ length l.bytes + 2;
   classes : length l.reading.classes + 2 ≤ l.number;
-  read : with_lines l.edition l.number l.reading (whole_lines (lines_of l.rest)) ≡ with_lines l.edition 2 opening (whole_lines (lines_of l.bytes));
-  last : last_line (lines_of l.rest) ≡ last_line (lines_of l.bytes);
+  so_far : IsTaken (with_line l.edition) 2 opening l.bytes l.number l.reading l.rest;
 }
 
 abbrev pub decreases-loop-line : goal.decreases-loop-line

@@ -1,9 +1,9 @@
-use Rattle.std.proofs.Common.{◌<◌, length, arith, sym, ◌∙◌}
-use Rattle.std.proofs.lemmas.Result.{err_from_is_err_and}
+use Rattle.std.proofs.Common.{◌<◌, length, arith}
+use Rattle.list_laws.proofs.Exits.{passed_on}
 use Rattle.config_lines.proofs.CutParts.{cut_shorter}
 use Rattle.line_laws.specs.Lines.{lines_of}
-use Rattle.line_laws.proofs.CutLines.{lines_of-few, last_line_there}
-use Rattle.line_laws.proofs.LineByLine.{taken, all_taken}
+use Rattle.line_laws.proofs.CutLines.{lines_of-few}
+use Rattle.line_laws.proofs.LineByLine.{one_taken, all_taken}
 use Rattle.map_reader.specs.MapsRead.{with_line}
 use Rattle.map_reader.proofs.MapCuts.{faulty, finished_behind}
 use Rattle.map_reader.proofs.MapReadTexts.{behind_lawful}
@@ -11,20 +11,18 @@ use Rattle.map_reader.proofs.MapSteps.{with_line-lists}
 use Rattle.map_reader.proofs.read.read_behind_heading.Goals as goal
 
 pub take_line-requires : goal.take_line-requires
-take_line-requires c = omega (arith, c.loop-line.invariant.feeds, c.loop-line.invariant.lists)
+take_line-requires c = omega (arith, c.loop-line.invariant.so_far.feeds, c.loop-line.invariant.lists)
 
 pub returns-in_err-reading : goal.returns-in_err-reading
 returns-in_err-reading c =
-    let p = err_from_is_err_and c.from_residual.result c.from_residual.ensures.1 in
     let l = c.loop-line in
-    rw (p.1, p.2)
-    (λ memory. faulty l.number l.reading l.rest.now c.in-Some.line.now c.in-Some.more.now c.args.bytes.now c.in_err-reading.field-0.0 c.in-Some.ensures
-    (c.in_err-reading.ensures memory) l.invariant.read)
+    rw (passed_on c.from_residual.result c.from_residual.ensures.1)
+    (λ memory. faulty c.in-Some.line.now c.in-Some.more.now c.in_err-reading.field-0.0 l.invariant.so_far c.in-Some.ensures (c.in_err-reading.ensures memory))
 
 pub overflow_add-number : goal.overflow_add-number
 overflow_add-number c =
     let shorter = cut_shorter 10 c.loop-line.rest.now c.in-Some.line.now c.in-Some.more.now c.in-Some.ensures in
-    omega (arith, c.loop-line.invariant.feeds, shorter)
+    omega (arith, c.loop-line.invariant.so_far.feeds, shorter)
 
 pub loop-line-smaller : goal.loop-line-smaller
 loop-line-smaller c = omega (arith, cut_shorter 10 c.loop-line.rest.now c.in-Some.line.now c.in-Some.more.now c.in-Some.ensures)
@@ -33,23 +31,20 @@ pub loop-line-preserved : goal.loop-line-preserved
 loop-line-preserved c =
     let l = c.loop-line in
     let s = c.in_ok-reading.reading in
-    let shorter = cut_shorter 10 l.rest.now c.in-Some.line.now c.in-Some.more.now c.in-Some.ensures in
     let more = with_line-lists l.number l.reading s c.in-Some.line.now c.in_ok-reading.ensures in
     record {
-      feeds = omega (arith, l.invariant.feeds, shorter);
       lists = omega (arith, l.invariant.lists, more.1);
-      read = taken with_line l.number l.reading s l.rest.now c.in-Some.line.now c.in-Some.more.now _ c.in-Some.ensures c.in_ok-reading.ensures l.invariant.read;
-      last = sym (last_line_there l.rest.now c.in-Some.line.now c.in-Some.more.now c.in-Some.ensures) ∙ l.invariant.last;
+      so_far = one_taken with_line l.invariant.so_far s c.in-Some.line.now c.in-Some.more.now c.in-Some.ensures c.in_ok-reading.ensures;
     }
 
 pub finish-requires : goal.finish-requires
 finish-requires c = λ none.
     let l = c.loop-line in
-    let read = all_taken with_line l.number l.reading l.rest.now _ c.in_default.ensures l.invariant.read in
+    let all = all_taken with_line l.invariant.so_far c.in_default.ensures in
     let few : length (lines_of c.args.bytes.now) < 4294967295 = omega (arith, lines_of-few c.args.bytes.now, c.requires) in
-    (behind_lawful (lines_of c.args.bytes.now) l.reading few read none).rules
+    (behind_lawful (lines_of c.args.bytes.now) l.reading few all.0 none).rules
 
 pub returns : goal.returns
 returns c =
     let l = c.loop-line in
-    rw (finished_behind l.number l.reading l.rest.now c.args.bytes.now c.in_default.ensures l.invariant.read l.invariant.last) c.finish.ensures
+    rw (finished_behind l.invariant.so_far c.in_default.ensures) c.finish.ensures

@@ -1,4 +1,4 @@
-use Rattle.std.proofs.Common.{◌≡◌, ◌+◌, ◌*◌, ◌∙◌, ◌++◌, get_or, Some, arith, rules}
+use Rattle.std.proofs.Common.{arith}
 use Rattle.config_base.specs.declared.config.Import.{Import}
 use Rattle.config_text.specs.ConfigLines.{import_of}
 use Rattle.route_map_text.proofs.PrintLaws.{entry_more}

@@ -1,6 +1,5 @@
 use Rattle.std.proofs.Common.{◌≡◌, ◌+◌, ◌*◌, ◌++◌, map, take}
 use Rattle.std.specs.List.{flat_map}
-use Rattle.config_lines.specs.declared.line.Line.TheVariants.{Export as ExportLine}
 use Rattle.config_text.specs.ConfigLines.{import_of}
 use Rattle.route_map_text.specs.MapsLines.{fed, numbered}
 use Rattle.route_map_text.proofs.blocks.push_ins.Given as goal

@@ -1,7 +1,8 @@
-use Rattle.std.proofs.Common.{rules, ◌≡◌, add-one, get_or, subst, List}
+use Rattle.std.proofs.Common.{rules, ◌≡◌, get_or, subst, List}
 use Rattle.route_maps.specs.declared.maps.ListLine.{ListLine}
 use Rattle.route_map_text.specs.MapsSpelled.{HavePatterns}
-use Rattle.route_map_text.proofs.PrintLaws.{all_next, list_more}
+use Rattle.config_text.proofs.Rows.{rule_more}
+use Rattle.route_map_text.proofs.PrintLaws.{list_more}
 use Rattle.route_map_text.proofs.blocks.push_lists.Goals as goal
 
 pub loop-lines-preserved : goal.loop-lines-preserved
@@ -13,5 +14,5 @@ loop-lines-preserved c =
     record {
       number = search rules;
       rest = list_more lists i c.loop-lines.number x x _ c.loop-lines.text.items c.push_list.new.text.items c.loop-lines-test.true this c.loop-lines.invariant.rest c.in_ok-push_list.ensures.text;
-      rules = rw add-one (all_next HavePatterns i lists x c.loop-lines-test.true c.loop-lines.invariant.rules (subst HavePatterns this c.in_ok-push_list.ensures.rules));
+      rules = rule_more HavePatterns lists i x c.loop-lines-test.true c.loop-lines.invariant.rules (subst HavePatterns this c.in_ok-push_list.ensures.rules);
     }

@@ -1,4 +1,4 @@
-use Rattle.std.proofs.Common.{◌≡◌, ◌+◌, ◌*◌, ◌∙◌, ◌++◌, get_or, Some, arith, rules}
+use Rattle.std.proofs.Common.{arith}
 use Rattle.config_base.specs.declared.config.Export.{Export}
 use Rattle.config_lines.specs.declared.line.Line.TheVariants as line
 use Rattle.route_map_text.proofs.PrintLaws.{entry_more}

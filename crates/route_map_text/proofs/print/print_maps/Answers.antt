@@ -1,7 +1,6 @@
-use Rattle.std.proofs.Common.{◌≡◌, subst}
+use Rattle.std.proofs.Common.{subst}
 use Rattle.std.specs.List.{AllByRecursion}
 use Rattle.config_text.specs.Spelled.{HasLawfulParts}
-use Rattle.route_map_text.specs.MapsLines.{maps_text}
 use Rattle.route_map_text.specs.MapsSpelled.{HavePatterns, IsLawful}
 use Rattle.route_map_text.proofs.PrintLaws.{maps_made}
 use Rattle.route_map_text.proofs.print.print_maps.Goals as goal
