@@ -1,5 +1,5 @@
 -- A row to which another row of its table is added.
-use Rattle.std.proofs.Common.{◌≡◌, ◌≢◌, ◌⊎◌, ℕ, ◌+◌, ◌*◌, ◌<◌, ◌≤◌, false, ◌&&◌, ◌||◌, eqb, List, length, get_or, take, drop, set, get_or-set_same, get_or-set_other, arith, sym, ap, ◌∙◌, inl, inr}
+use Rattle.std.proofs.Common.{◌≡◌, ◌≢◌, ◌⊎◌, ℕ, ◌+◌, ◌*◌, ◌<◌, ◌≤◌, ◌&&◌, ◌||◌, eqb, List, length, get_or, take, drop, set, get_or-set_same, get_or-set_other, arith, sym, ap, ◌∙◌, inl, inr}
 use Rattle.std.specs.Prelude.{bit_or, ◌/◌, ◌%◌}
 use Rattle.std.specs.Int.{bit_at}
 use Rattle.std.proofs.lemmas.Bool.{cases_order, cases_eq, cases_lt, eq-eqb, ne_eqb}

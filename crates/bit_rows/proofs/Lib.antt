@@ -4,3 +4,4 @@ pub mod Lanes
 pub mod Setting
 pub mod Tables
 pub mod Words
+pub mod Writing

@@ -51,12 +51,19 @@ has_and_not old new other fit each b =
     ∙ ap (λ z. eqb (bit_at x (b % 64)) 1 && eqb z 1) (bit_at_not w64 y (b % 64) (fit (b / 64)) (omega arith))
     ∙ ap (λ z. eqb (bit_at x (b % 64)) 1 && z) (other_tests (bit_at y (b % 64)) (bit_at-lt _ _))
 
--- a loop that has come to i
-pub all_words : (f : ℕ → ℕ → ℕ) (old new other : List ℕ) (i : ℕ) → length new ≡ length old → length other ≡ length old → length old ≤ i → f 0 0 ≡ 0 →
-    ((j : ℕ) → j < i → j < length old → get_or new j 0 ≡ f (get_or old j 0) (get_or other j 0)) → (j : ℕ) → get_or new j 0 ≡ f (get_or old j 0) (get_or other j 0)
-all_words f old new other i a b past z each j = elim (cases_lt j (length old)) [
-  | inl lt ↦ each j (omega arith) lt
-  | inr over ↦ get_or_past new j 0 (omega arith) ∙ sym z ∙ ap (λ x. f x 0) (sym (get_or_past old j 0 over)) ∙ ap (f (get_or old j 0)) (sym (get_or_past other j 0 (omega arith)))
+-- a loop that has come to i, and joins words of two rows by f
+pub record AreJoined (f : ℕ → ℕ → ℕ) (old other new : List ℕ) (i : ℕ) : Type 0 where
+  pub len : length new ≡ length old
+  pub done : (j : ℕ) → j < i → j < length old → get_or new j 0 ≡ f (get_or old j 0) (get_or other j 0)
+  pub rest : (j : ℕ) → i ≤ j → get_or new j 0 ≡ get_or old j 0
+
+pub all_words : (f : ℕ → ℕ → ℕ) (old new other : List ℕ) (i : ℕ) → AreJoined f old other new i → length other ≡ length old → length old ≤ i → f 0 0 ≡ 0
+    → (j : ℕ) → get_or new j 0 ≡ f (get_or old j 0) (get_or other j 0)
+all_words f old new other i joined b past z j = elim (cases_lt j (length old)) [
+  | inl lt ↦ joined.done j (omega arith) lt
+  | inr over ↦
+      get_or_past new j 0 (omega (arith, joined.len)) ∙ sym z ∙ ap (λ x. f x 0) (sym (get_or_past old j 0 over))
+      ∙ ap (f (get_or old j 0)) (sym (get_or_past other j 0 (omega arith)))
 ]
 
 -- ---- the bits of a word, one after another

@@ -1,8 +1,8 @@
 -- What is gathered of the cases one by one.
-use Rattle.std.proofs.Common.{◌≡◌, ℕ, ◌+◌, ◌<◌, ◌≤◌, List, ◌∷◌, ◌++◌, length, get_or, map, drop, Some, sym, ap, ◌∙◌, append_assoc, append-nil, subst}
+use Rattle.std.proofs.Common.{◌≡◌, ℕ, ◌+◌, ◌<◌, ◌≤◌, List, [], ◌∷◌, ◌++◌, length, get_or, map, take, drop, Some, sym, ap, ◌∙◌, append_assoc, append-nil, subst}
 use Rattle.std.specs.Prelude.{slice_get}
 use Rattle.std.specs.List.{AllByRecursion}
-use Rattle.std.proofs.lemmas.List.{drop_all}
+use Rattle.std.proofs.lemmas.List.{drop_all, map_more}
 use Rattle.std.proofs.lemmas.Option.{slice_get-get_or}
 use Rattle.list_laws.proofs.Each.{AllByRecursion_at}
 use Rattle.list_laws.proofs.Items.{drop_from}
@@ -25,6 +25,16 @@ step_ends g steps i is same within =
 pub start_node : (g : PlainGraph) (starts : List ℕ) (i : ℕ) → IsGraph g → starts ≡ g.starts → i < length starts → get_or starts i 0 < length g.nodes
 start_node g starts i is same within =
     AllByRecursion_at (λ n. n < length g.nodes) starts i (get_or starts i 0) (subst (AllByRecursion (λ n. n < length g.nodes)) (sym same) is.starts) (slice_get-get_or starts i 0 within)
+
+-- what one more item gives stands behind what those before it gave
+pub one_more : {A B : Type 0} (f : A → B) (first : List B) {old new : List B} (xs : List A) (i : ℕ) (nothing item : A) → i < length xs → item ≡ get_or xs i nothing
+    → new ≡ old ++ f item ∷ [] → old ≡ first ++ map f (take i xs) → new ≡ first ++ map f (take (i + 1) xs)
+one_more f first {old} {new} xs i nothing item less is pushed before =
+    pushed
+    ∙ ap (λ ys. ys ++ f item ∷ []) before
+    ∙ ap (λ x. (first ++ map f (take i xs)) ++ f x ∷ []) is
+    ∙ append_assoc first (map f (take i xs)) (f (get_or xs i nothing) ∷ [])
+    ∙ ap (λ ys. first ++ ys) (sym (map_more f xs i nothing less))
 
 module _ (all : List PlainCaseEvidence) where
   module _ (i : ℕ) (c : PlainCaseEvidence) (here : slice_get all i ≡ Some c) where

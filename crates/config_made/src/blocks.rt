@@ -1,7 +1,7 @@
 //! The blocks of routers.
 ghost use Rattle.std.specs.Prelude.{◌≡◌, ◌<◌, ◌+◌, ℕ, IsTrue, IfOk, length, map, filter};
 ghost use Rattle.std.specs.List.Sorted.{IsStrictlySortedBy};
-ghost use Rattle.net_base.specs.Network.{IsNet, is_location, is_router, linked};
+ghost use Rattle.net_base.specs.Network.{IsNet, is_location, linked};
 ghost use Rattle.net_base.specs.Sets.{holds};
 ghost use Rattle.net_base.specs.Locations.{neighbours};
 ghost use Rattle.config_made.specs.Hops.{stands, hop_order, announced_order, AreReached};

@@ -1,8 +1,10 @@
--- One more neighbour, in a loop over the neighbours of a location.
-use Rattle.std.proofs.Common.{◌≡◌, ℕ, ◌+◌, ◌<◌, Bool, List, [], ◌∷◌, ◌++◌, take, length, get_or, sym, ap, ◌∙◌}
-use Rattle.std.proofs.lemmas.List.{take_more}
+-- One more neighbour, in a loop over the neighbours of a location, and all of them.
+use Rattle.std.proofs.Common.{◌≡◌, ℕ, ◌+◌, ◌<◌, ◌≤◌, Bool, List, [], ◌∷◌, ◌++◌, take, length, get_or, sym, ap, ◌∙◌, arith}
+use Rattle.std.proofs.lemmas.List.{take_all, take_more}
+use Rattle.net_base.specs.Locations.{neighbours}
+use Rattle.config_base.specs.declared.route.Route.{Route}
 use Rattle.event_base.specs.Speaking.{speakers_of}
-use Rattle.event_base.specs.World.{choose_again, each_again, emptied, tell}
+use Rattle.event_base.specs.World.{Speakers, World as Plain, choose_again, each_again, emptied, tell}
 use Rattle.event_state.specs.declared.world.World.{World}
 use Rattle.event_state.specs.States.{setting, speakers, state}
 use Rattle.event_core.proofs.Steps.{each_more}
@@ -13,16 +15,31 @@ use Rattle.event_core.proofs.Tellings.{emptied_next, some, told_next}
 pub same_speakers : (v w : World) → setting v ≡ setting w → speakers v ≡ speakers w
 same_speakers v w same = ap (λ s. speakers_of s.0 s.1 s.2 s.3) same
 
-pub item_more : (us xs : List ℕ) (i u : ℕ) → xs ≡ us → i < length us → u ≡ get_or xs i u → take (i + 1) us ≡ take i us ++ u ∷ []
-item_more us xs i u same less item = take_more us i u less ∙ ap (λ v. take i us ++ v ∷ []) (sym (item ∙ ap (λ ys. get_or ys i u) same))
+-- so a later step is one of those who spoke and chose before
+pub step_on : (f : Speakers Route → Plain Route → Plain Route) (mid before : World) → setting mid ≡ setting before → {was after : Plain Route}
+    → state mid ≡ was → after ≡ f (speakers mid) (state mid) → after ≡ f (speakers before) was
+step_on f mid before same so_far e = e ∙ ap (λ S. f S (state mid)) (same_speakers mid before same) ∙ ap (f (speakers before)) so_far
 
-module _ (before mid after : World) (same : setting mid ≡ setting before) (us more : List ℕ) (u : ℕ) (one : more ≡ us ++ u ∷ []) where
+module _ (before : World) (at : ℕ) {place : ℕ} {near : List ℕ} (first : near ≡ neighbours before.net.now at) where
+  -- one more neighbour, which is looked up in the world as it stands
+  pub neighbour_more : (mid : World) → setting mid ≡ setting before → {here : List ℕ} {u : ℕ} → here ≡ neighbours mid.net.now at → place < length near
+      → u ≡ get_or here place u → take (place + 1) (neighbours before.net.now at) ≡ take place (neighbours before.net.now at) ++ u ∷ []
+  neighbour_more mid same {here} {u} now less item =
+      let us = neighbours before.net.now at in
+      let long : length near ≡ length us = ap length first in
+      take_more us place u (omega (arith, long, less))
+      ∙ ap (λ v. take place us ++ v ∷ []) (sym (item ∙ ap (λ xs. get_or xs place u) (now ∙ ap (λ s. neighbours s.0 at) same)))
+
+  pub all_neighbours : length near ≤ place → take place (neighbours before.net.now at) ≡ neighbours before.net.now at
+  all_neighbours past =
+      let long : length near ≡ length (neighbours before.net.now at) = ap length first in
+      take_all place (neighbours before.net.now at) (omega (arith, long, past))
+
+module _ (before mid after : World) (same : setting mid ≡ setting before) (us : List ℕ) (u : ℕ) {more : List ℕ} (one : more ≡ us ++ u ∷ []) where
   pub tell_step : (p : ℕ → ℕ → ℕ → Bool) → state mid ≡ tell (speakers before) (some p us) (state before)
       → state after ≡ tell (speakers mid) (p u) (state mid) → state after ≡ tell (speakers before) (some p more) (state before)
   tell_step p so_far e =
-      e
-      ∙ ap (λ S. tell S (p u) (state mid)) (same_speakers mid before same)
-      ∙ ap (tell (speakers before) (p u)) so_far
+      step_on (λ S. tell S (p u)) mid before same so_far e
       ∙ told_next (speakers before) same_as_itself p us u (state before)
       ∙ ap (λ xs. tell (speakers before) (some p xs) (state before)) (sym one)
 
@@ -37,8 +54,6 @@ module _ (before mid after : World) (same : setting mid ≡ setting before) (us 
   pub choose_step : state mid ≡ each_again (speakers before) us (state before) → state after ≡ choose_again (speakers mid) u (state mid)
       → state after ≡ each_again (speakers before) more (state before)
   choose_step so_far e =
-      e
-      ∙ ap (λ S. choose_again S u (state mid)) (same_speakers mid before same)
-      ∙ ap (choose_again (speakers before) u) so_far
+      step_on (λ S. choose_again S u) mid before same so_far e
       ∙ sym (each_more (speakers before) us u (state before))
       ∙ ap (λ xs. each_again (speakers before) xs (state before)) (sym one)

@@ -31,8 +31,8 @@ follows_same log longer w v same more e = record {
   back = ap (λ cs. undone w.net.now cs (state v)) more ∙ ap (undone w.net.now log) e;
 }
 
-pub follows_then : (k l m : List Change) (w v u : World) → Follows k w l v → Follows l v m u → Follows k w m u
-follows_then k l m w v u f g = record {
+pub follows_then : {k l m : List Change} {w v u : World} → Follows k w l v → Follows l v m u → Follows k w m u
+follows_then {k} {l} {m} {w} {v} {u} f g = record {
   setting = g.setting ∙ f.setting;
   back =
       sym (ap (λ s. undone s.0 m (state u)) f.setting)

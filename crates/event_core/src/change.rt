@@ -4,7 +4,7 @@ ghost use Rattle.net_base.specs.Network.{is_router, linked};
 ghost use Rattle.event_core.specs.Changes.{IsSwap, changed, is_on as is_on_net, undone, with_change};
 ghost use Rattle.event_core.specs.Followed.{Follows};
 ghost use Rattle.event_state.specs.Changes.{with_queue};
-ghost use Rattle.event_state.specs.States.{setting, speakers, state};
+ghost use Rattle.event_state.specs.States.{setting, state};
 
 use config_base::Route;
 use event_state::{Queue, World};

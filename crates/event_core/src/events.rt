@@ -3,10 +3,10 @@ ghost use Rattle.std.specs.Prelude.{◌≡◌, ◌∷◌, List, Option, None, Is
 ghost use Rattle.net_base.specs.Network.{is_router, linked};
 ghost use Rattle.config_base.specs.declared.route.Route.{Route};
 ghost use Rattle.event_base.specs.Steps.{fault_of, step, unless_waiting};
-ghost use Rattle.event_base.specs.World.{choose_again as chosen_again, with_cut, with_down};
-ghost use Rattle.event_base.specs.declared.event.Event.TheVariants.{Deliver, LinkDown, LinkUp, PeerSilent, PeerSpeak, RouterDown, RouterUp};
+ghost use Rattle.event_base.specs.World.{choose_again as chosen_again, is, tell as told, with_cut, with_down};
+ghost use Rattle.event_base.specs.declared.event.Event.TheVariants.{Deliver, LinkDown, LinkUp, RouterDown, RouterUp};
 ghost use Rattle.event_core.specs.Followed.{Follows};
-ghost use Rattle.event_state.specs.Changes.{with_heard};
+ghost use Rattle.event_state.specs.Changes.{with_heard, with_silence};
 ghost use Rattle.event_state.specs.States.{setting, speakers, state};
 
 use crate::change::{Change, make};
@@ -106,33 +106,20 @@ fn router_up(
     tell_around(alloc, world, log, at)
 }
 
-fn peer_speaks(
+// Whether a peer is silent towards a router, to which it queues what is new then.
+fn silence(
     alloc: Global,
     world: &mut World<'_>,
     log: &mut Vec<Change>,
     router: Loc,
     peer: Loc,
+    silent: bool,
 ) -> Result<(), AllocError>
     requires { IsTrue (linked world.old.net.now router peer) }
-    ensures ok { OnOk result (state world.new ≡ step (speakers world.old) (PeerSpeak router peer) (state world.old)) }
+    ensures ok { OnOk result (state world.new ≡ told (speakers world.old) (is peer router) (with_silence router peer silent (state world.old))) }
     ensures follows { Follows log.old.items world.old log.new.items world.new }
 {
-    make(world, log, Change::Silent(router, peer, false))?;
-    tell(alloc, world, log, peer, router)
-}
-
-fn peer_is_silent(
-    alloc: Global,
-    world: &mut World<'_>,
-    log: &mut Vec<Change>,
-    router: Loc,
-    peer: Loc,
-) -> Result<(), AllocError>
-    requires { IsTrue (linked world.old.net.now router peer) }
-    ensures ok { OnOk result (state world.new ≡ step (speakers world.old) (PeerSilent router peer) (state world.old)) }
-    ensures follows { Follows log.old.items world.old log.new.items world.new }
-{
-    make(world, log, Change::Silent(router, peer, true))?;
+    make(world, log, Change::Silent(router, peer, silent))?;
     tell(alloc, world, log, peer, router)
 }
 
@@ -193,7 +180,7 @@ pub(crate) fn happen(
         Event::LinkUp(a, b) => link_up(alloc, world, log, a, b),
         Event::RouterDown(r) => router_down(alloc, world, log, r),
         Event::RouterUp(r) => router_up(alloc, world, log, r),
-        Event::PeerSpeak(r, p) => peer_speaks(alloc, world, log, r, p),
-        Event::PeerSilent(r, p) => peer_is_silent(alloc, world, log, r, p),
+        Event::PeerSpeak(r, p) => silence(alloc, world, log, r, p, false),
+        Event::PeerSilent(r, p) => silence(alloc, world, log, r, p, true),
     }
 }

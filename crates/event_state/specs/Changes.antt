@@ -1,5 +1,5 @@
 -- A world in which one thing has changed.
-use Rattle.std.specs.Prelude.{ℕ, Bool, List, [], Option, None, if◌then◌else◌}
+use Rattle.std.specs.Prelude.{ℕ, Bool, List, Option, if◌then◌else◌}
 use Rattle.config_base.specs.declared.route.Route.{Route}
 use Rattle.event_base.specs.World.{World, at, is}
 

@@ -1,5 +1,5 @@
 //! What a router chooses.
-ghost use Rattle.std.specs.Prelude.{◌≡◌, ◌&&◌, ◌||◌, ◌==◌, ◌∷◌, [], IfOk, IsTrue, Some, None, option_map, nat_lt};
+ghost use Rattle.std.specs.Prelude.{◌≡◌, ◌&&◌, ◌||◌, ◌==◌, ◌∷◌, [], IfOk, IsTrue, Some, None, option_map};
 ghost use Rattle.net_base.specs.Locations.{neighbours};
 ghost use Rattle.net_base.specs.Network.{id_of, is_location};
 ghost use Rattle.config_base.specs.Lines.{own_route};

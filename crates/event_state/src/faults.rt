@@ -1,5 +1,5 @@
 //! Why an event is refused.
-ghost use Rattle.std.specs.Prelude.{◌≡◌, ◌&&◌, ◌↔◌, not, IsTrue, Some, None, [], slice_index_or, if◌then◌else◌};
+ghost use Rattle.std.specs.Prelude.{◌≡◌, ◌&&◌, Some, None, [], slice_index_or, if◌then◌else◌};
 ghost use Rattle.event_base.specs.declared.event.EventFault.TheVariants.{NotDown, NotUp};
 ghost use Rattle.event_base.specs.Steps.{fault_of, if_there, is_session, unless_down, unless_up, unless_waiting};
 ghost use Rattle.event_state.specs.Directions.{at_direction};

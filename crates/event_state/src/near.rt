@@ -1,6 +1,6 @@
 //! The neighbours of each location, found once.
-ghost use Rattle.std.specs.Prelude.{◌≡◌, ◌<◌, IfOk, map, filter};
-ghost use Rattle.net_base.specs.Locations.{in_order, neighbours as neighbours_in, numbers_below};
+ghost use Rattle.std.specs.Prelude.{◌≡◌, ◌<◌, IfOk, map};
+ghost use Rattle.net_base.specs.Locations.{in_order, neighbours as neighbours_in};
 ghost use Rattle.net_base.specs.Network.{linked};
 
 use net_base::{List, Loc, Net};

@@ -1,5 +1,5 @@
 //! Messages that wait.
-ghost use Rattle.std.specs.Prelude.{◌≡◌, ◌↔◌, ◌++◌, ◌∷◌, [], List, Option, None, IfOk, IsTrue, OnOk, OnErr, drop, length, slice_index_or};
+ghost use Rattle.std.specs.Prelude.{◌≡◌, ◌++◌, ◌∷◌, [], List, Option, None, IfOk, OnOk, OnErr, drop, length, slice_index_or};
 ghost use Rattle.config_base.specs.declared.route.Route.{Route as PlainRoute};
 ghost use Rattle.event_state.specs.Idle.{is_idle, without_last};
 ghost use Rattle.event_base.specs.Steps.{unless_waiting};

@@ -1,6 +1,5 @@
 //! Whether any message waits.
 ghost use Rattle.std.specs.Prelude.{◌≡◌, ◌↔◌, ◌&&◌, IsTrue};
-ghost use Rattle.std.specs.List.{list_all};
 ghost use Rattle.event_base.specs.Steps.{IsQuiet};
 ghost use Rattle.event_state.specs.Idle.{is_idle};
 ghost use Rattle.event_state.specs.States.{state};

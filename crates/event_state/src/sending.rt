@@ -1,5 +1,5 @@
 //! What is to be sent.
-ghost use Rattle.std.specs.Prelude.{◌≡◌, ◌&&◌, ◌∷◌, [], not, Some, None, IfOk, option_map, option_and_then, if◌then◌else◌};
+ghost use Rattle.std.specs.Prelude.{◌≡◌, ◌&&◌, ◌∷◌, [], Some, None, IfOk, option_map, if◌then◌else◌};
 ghost use Rattle.policy_base.specs.Policies.{policy_of};
 ghost use Rattle.event_base.specs.World.{exported, owes as owes_by};
 ghost use Rattle.event_base.specs.Speaking.{announced_by, exported_by, same_message};

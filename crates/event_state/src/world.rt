@@ -1,5 +1,5 @@
 //! The world of the events on a configured network.
-ghost use Rattle.std.specs.Prelude.{◌≡◌, ◌↔◌, ◌&&◌, not, length, map, option_map, slice_index_or, IsTrue, []};
+ghost use Rattle.std.specs.Prelude.{◌≡◌, ◌&&◌, length, map, option_map, slice_index_or, IsTrue, []};
 ghost use Rattle.net_base.specs.Locations.{in_order, neighbours};
 ghost use Rattle.net_base.specs.Network.{is_location};
 ghost use Rattle.config_base.specs.Lines.{class_of};

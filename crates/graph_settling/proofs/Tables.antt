@@ -50,6 +50,11 @@ low_at (node ∷ nodes) (suc n) all less = low_at nodes n all.1 (omega (arith, l
 pub place_low : (g : PlainGraph) (n : ℕ) → AllByRecursion (λ (node : Node). node.loc < 768) g.nodes → n < length g.nodes → place_of g n < 768
 place_low g n all less = low_at g.nodes n all less
 
+-- what is read at the place of a node's location is the entry there
+pub entry_there : {A : Type 0} (g : PlainGraph) (table : List (Option A)) (n i : ℕ) (x : Option A) → AllByRecursion (λ (node : Node). node.loc < 768) g.nodes → n < length g.nodes
+    → length table ≡ 768 → i ≡ place_of g n → x ≡ get_or table i x → x ≡ entry_at table (place_of g n)
+entry_there g table n i x all less size at read = let low = place_low g n all less in entry_read table i x (omega (arith, at, low, size)) read ∙ ap (entry_at table) at
+
 -- no node is below 0
 pub best_first : (g : PlainGraph) (numbers : List ℕ) (marked : ℕ → Bool) (count : ℕ) (best : List (Option ℕ)) → count ≡ 768 → best ≡ replicate count None → AreBest g numbers marked 0 best
 best_first g numbers marked count best all empty = record {
@@ -137,12 +142,11 @@ module _ (g : PlainGraph) (numbers : List ℕ) (marked : ℕ → Bool) (n : ℕ)
       → marked n ≡ true → is_better numbers n old ≡ true → AreBest g numbers marked n best → AreBest g numbers marked (n + 1) next
   best_taken at old next places node is read taken on better are =
       let low = place_low g n places node in
-      let here : old ≡ entry_at best (place_of g n) = entry_read best at old (omega (arith, is, low, are.size)) read ∙ ap (entry_at best) is in
+      let here = entry_there g best n at old places node are.size is read in
       subst (AreBest g numbers marked (n + 1)) (sym (taken ∙ ap (λ l. set best l (Some n)) is)) (best_there on (ap (is_better numbers n) (sym here) ∙ better) low are)
 
   pub best_passed : (at : ℕ) (old : Option ℕ) → AllByRecursion (λ (node : Node). node.loc < 768) g.nodes → n < length g.nodes → at ≡ place_of g n → old ≡ get_or best at old
       → is_better numbers n old ≡ false → AreBest g numbers marked n best → AreBest g numbers marked (n + 1) best
   best_passed at old places node is read worse are =
-      let low = place_low g n places node in
-      let here : old ≡ entry_at best (place_of g n) = entry_read best at old (omega (arith, is, low, are.size)) read ∙ ap (entry_at best) is in
+      let here = entry_there g best n at old places node are.size is read in
       best_kept (and_right (marked n) _ (ap (is_better numbers n) (sym here) ∙ worse)) are

@@ -1,5 +1,5 @@
 -- The nodes with the greatest numbers.
-use Rattle.std.specs.Prelude.{◌≡◌, ◌↔◌, ℕ, ◌<◌, ◌≤◌, Bool, true, nat_lt, IsTrue, List, length, Option, Some, None, option_map, slice_get, slice_index_or, unwrap_or, if◌then◌else◌}
+use Rattle.std.specs.Prelude.{◌≡◌, ◌↔◌, ℕ, ◌<◌, ◌≤◌, Bool, true, nat_lt, IsTrue, List, length, Option, Some, None, option_map, slice_index_or, if◌then◌else◌}
 use Rattle.net_base.specs.declared.loc.LocSet.{LocSet}
 use Rattle.net_base.specs.Sets.{holds}
 use Rattle.net_base.specs.declared.limits.TheConstants.{LOCATIONS}

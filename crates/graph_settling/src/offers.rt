@@ -1,12 +1,9 @@
 //! What the locations that were settled last offer to those that are left.
-ghost use Rattle.std.specs.Prelude.{◌≡◌, ◌↔◌, ◌<◌, ◌==◌, ◌&&◌, ◌||◌, All, ℕ, Bool, IfOk, IsTrue, Some, length, vec_len};
+ghost use Rattle.std.specs.Prelude.{◌≡◌, ◌↔◌, ◌<◌, ◌==◌, ◌&&◌, ◌||◌, All, ℕ, Bool, IfOk, IsTrue, Some, length};
 ghost use Rattle.std.specs.List.{AllByRecursion};
 ghost use Rattle.net_base.specs.declared.limits.TheConstants.{LOCATIONS};
 ghost use Rattle.net_base.specs.Network.{id_of};
-ghost use Rattle.graph_base.specs.Runs.{place_of};
 ghost use Rattle.reach_prune.specs.Searches.{AreLists, is_among, is_listed};
-ghost use Rattle.graph_base.specs.Preferences.{number_in};
-ghost use Rattle.graph_settling.specs.Best.{entry_at};
 ghost use Rattle.graph_settling.specs.Offers.{AreLowest, AreOfNodes, is_lower};
 
 use graph_base::Graph;

@@ -1,5 +1,5 @@
 -- The numbers that are inferred from a relation.
-use Rattle.std.specs.Prelude.{◌≡◌, ℕ, ◌&&◌, List, length, nat_lt, slice_index_or}
+use Rattle.std.specs.Prelude.{◌≡◌, ℕ, ◌&&◌, length, nat_lt}
 use Rattle.bit_rows.specs.Tables.{PlainRows, has_at}
 use Rattle.graph_base.specs.Graphs.{PlainGraph}
 use Rattle.net_base.specs.Network.{PlainNet}

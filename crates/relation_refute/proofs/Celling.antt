@@ -3,7 +3,7 @@ use Rattle.std.proofs.Common.{◌≡◌, ℕ, zero, suc, ◌+◌, ◌<◌, ◌�
 use Rattle.std.proofs.Common.{refl, sym, ap, ◌∙◌, inl, inr, ◌⊎◌}
 use Rattle.std.proofs.lemmas.Bool.{lt-ltb, le-ltb, and_right, cases_Bool, cases_eq, cases_lt, cases_order, cond-true, cond-false, eq-eqb, eqb-true, ne_eqb, and_from, and_left, and_parts, or_right}
 use Rattle.std.proofs.lemmas.List.Folds.{list_any_at}
-use Rattle.std.proofs.lemmas.List.{get_or_append_left, get_or_at, get_or-set_same, get_or-set_other, get_or_read}
+use Rattle.std.proofs.lemmas.List.{get_or_append_left, get_or_at, get_or-set_same, get_or-set_other}
 use Rattle.graph_base.specs.Graphs.{PlainGraph}
 use Rattle.graph_base.specs.Runs.{place_of}
 use Rattle.reach_prune.specs.Searches.{is_among}
@@ -16,21 +16,14 @@ use Rattle.state_simulation.proofs.Masking.{among_more}
 
 -- ---- counts
 
+count_next : (n : ℕ) (p : ℕ → Bool) → count_below (n + 1) p ≡ cond (p n) 1 0 + count_below n p
+count_next n p = let up : n + 1 ≡ suc n = omega arith in ap (λ k. count_below k p) up
+
 count_step : (n : ℕ) (p : ℕ → Bool) → p n ≡ true → count_below (n + 1) p ≡ count_below n p + 1
-count_step n p e =
-    let one : ◌≡◌ {A = ℕ} (cond (p n) 1 0) 1 = ap (λ z. cond z 1 0) e in
-    let is : count_below (suc n) p ≡ cond (p n) 1 0 + count_below n p = refl in
-    let up : n + 1 ≡ suc n = omega arith in
-    let same : count_below (n + 1) p ≡ count_below (suc n) p = ap (λ k. count_below k p) up in
-    omega (arith, one, is, same)
+count_step n p e = let one : ◌≡◌ {A = ℕ} (cond (p n) 1 0) 1 = ap (λ z. cond z 1 0) e in omega (arith, one, count_next n p)
 
 count_still : (n : ℕ) (p : ℕ → Bool) → p n ≡ false → count_below (n + 1) p ≡ count_below n p
-count_still n p e =
-    let none : ◌≡◌ {A = ℕ} (cond (p n) 1 0) 0 = ap (λ z. cond z 1 0) e in
-    let is : count_below (suc n) p ≡ cond (p n) 1 0 + count_below n p = refl in
-    let up : n + 1 ≡ suc n = omega arith in
-    let same : count_below (n + 1) p ≡ count_below (suc n) p = ap (λ k. count_below k p) up in
-    omega (arith, none, is, same)
+count_still n p e = let none : ◌≡◌ {A = ℕ} (cond (p n) 1 0) 0 = ap (λ z. cond z 1 0) e in omega (arith, none, count_next n p)
 
 count_less : (m n : ℕ) (p : ℕ → Bool) → m < n → p m ≡ true → count_below m p < count_below n p
 count_less m zero p lt e = absurd (omega (arith, lt))
@@ -217,20 +210,13 @@ pair_at g nodes i n lt ln ls members =
     let s : ℕ = get_or nodes i 0 in
     record { left = ls; right = ln; place = eqb-true _ _ (sym (members s ls) ∙ list_any_at (λ x. eqb x s) nodes i 0 lt (eq-eqb s s refl)) }
 
--- the cell that is read
-pub cell_is : (c now : Cells) (s n x y : ℕ) → now.spots.items ≡ c.spots.items → now.bases.items ≡ c.bases.items → s < length c.spots.items
-    → n < length c.bases.items → x ≡ get_or now.spots.items s x → y ≡ get_or now.bases.items n y →
-    x + y ≡ cell_at c s n
-cell_is c now s n x y spots bases ls ln one other =
-    let len : length now.spots.items ≡ length c.spots.items = ap length spots in
-    let lens : length now.bases.items ≡ length c.bases.items = ap length bases in
-    let a : x ≡ get_or c.spots.items s 0 = get_or_read now.spots.items s x (omega (arith, ls, len)) one 0 ∙ ap (λ l. get_or l s 0) spots in
-    let b : y ≡ get_or c.bases.items n 0 = get_or_read now.bases.items n y (omega (arith, ln, lens)) other 0 ∙ ap (λ l. get_or l n 0) bases in
-    omega (arith, a, b)
+-- where only rounds have changed
+pub same_cell : (c new : Cells) → new.spots.items ≡ c.spots.items → new.bases.items ≡ c.bases.items → (m n : ℕ) → cell_at new m n ≡ cell_at c m n
+same_cell c new spots bases m n = ap (λ l. get_or l m 0 + get_or new.bases.items n 0) spots ∙ ap (λ l. get_or c.spots.items m 0 + get_or l n 0) bases
 
 pub cells_kept : (g : PlainGraph) (c new : Cells) → AreCells g c → new.spots.items ≡ c.spots.items → new.bases.items ≡ c.bases.items → length new.rounds.items ≡ length c.rounds.items → AreCells g new
 cells_kept g c new are spots bases len =
-    let at : (m n : ℕ) → cell_at new m n ≡ cell_at c m n = λ m n. ap (λ l. get_or l m 0 + get_or new.bases.items n 0) spots ∙ ap (λ l. get_or c.spots.items m 0 + get_or l n 0) bases in
+    let at : (m n : ℕ) → cell_at new m n ≡ cell_at c m n = same_cell c new spots bases in
     record {
       spots = ap length spots ∙ are.spots;
       bases = ap length bases ∙ are.bases;
@@ -241,15 +227,15 @@ cells_kept g c new are spots bases len =
 -- ---- rows that are noted one after another
 
 module _ (t : ℕ → Bool) (k n now old new : ℕ) (l : Bool) (r : ℕ) (before : now ≡ cond (ltb k n && t k) (marked_round old l r) old) where
+  other : (k < n) ⊎ (n < k) → ltb k (n + 1) ≡ ltb k n
+  other (inl less) = lt-ltb _ _ (omega (arith, less)) ∙ sym (lt-ltb _ _ less)
+  other (inr more) = le-ltb _ _ (omega (arith, more)) ∙ sym (le-ltb _ _ (omega (arith, more)))
+
   below_more : t n ≡ false → (ltb k (n + 1) && t k) ≡ (ltb k n && t k)
   below_more none = elim (cases_order k n) [
     | inl e ↦ and_right (ltb k (n + 1)) (t k) (ap t e ∙ none) ∙ sym (and_right (ltb k n) (t k) (ap t e ∙ none))
     | inr o ↦ ap (λ z. z && t k) (other o)
   ]
-    where
-      other : (k < n) ⊎ (n < k) → ltb k (n + 1) ≡ ltb k n
-      other (inl less) = lt-ltb _ _ (omega (arith, less)) ∙ sym (lt-ltb _ _ less)
-      other (inr more) = le-ltb _ _ (omega (arith, more)) ∙ sym (le-ltb _ _ (omega (arith, more)))
 
   pub noted_same : t n ≡ false → new ≡ now → new ≡ cond (ltb k (n + 1) && t k) (marked_round old l r) old
   noted_same none is = is ∙ before ∙ ap (λ z. cond z (marked_round old l r) old) (sym (below_more none))
@@ -268,7 +254,3 @@ module _ (t : ℕ → Bool) (k n now old new : ℕ) (l : Bool) (r : ℕ) (before
       apart : (k < n) ⊎ (n < k) → k ≡ n → ⊥
       apart (inl less) e = absurd (omega (arith, less, e))
       apart (inr more) e = absurd (omega (arith, more, e))
-
-      other : (k < n) ⊎ (n < k) → ltb k (n + 1) ≡ ltb k n
-      other (inl less) = lt-ltb _ _ (omega (arith, less)) ∙ sym (lt-ltb _ _ less)
-      other (inr more) = le-ltb _ _ (omega (arith, more)) ∙ sym (le-ltb _ _ (omega (arith, more)))

@@ -78,6 +78,10 @@ module _ (g : PlainGraph) (claimed : LocSet) (ok : IsGraph g) (single : HasSingl
             (λ s t q. went_is before s t (omega (arith, is, most)) q) m n why p.left reason;
       }
 
+  pub goes_there : (round m n : ℕ) (why : Why) → Pair V m n → round ≡ round_in f.cells m n → 0 < round_in f.cells m n
+      → IsReason V reach (went f round) m n why → Goes V reach m n (round_in f.cells m n) why
+  goes_there round m n why p is over reason = subst (λ r. Goes V reach m n r why) is (goes_told round m n why p (omega (arith, is, over)) is reason)
+
   -- the pair on which a reason rests went in an earlier round
   pub earlier_round : (m n round a b : ℕ) (why : Why) (goes : Goes V reach m n round why) → round ≡ round_in f.cells m n → Rests V m n why a b
       → Pair V a b × (0 < round_in f.cells a b) × (round_in f.cells a b < round)

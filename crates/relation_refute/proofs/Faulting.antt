@@ -1,7 +1,9 @@
 -- The reasons for which pairs go.
-use Rattle.std.proofs.Common.{◌≡◌, ℕ, ◌<◌, Bool, true, false, not, ◌&&◌, length, Option, None, Some, arith, refl, sym, ap, ◌∙◌, inl, inr}
+use Rattle.std.proofs.Common.{◌≡◌, ℕ, ◌+◌, ◌<◌, Bool, true, false, not, ◌&&◌, eqb, List, length, get_or, Option, None, Some, arith, refl, sym, ap, subst, ◌∙◌, inl, inr}
+use Rattle.std.specs.Option.{IfSome}
 use Rattle.std.specs.Prelude.{is_some, option_map}
 use Rattle.std.proofs.lemmas.Bool.{and_from, and_parts, both_ways, cases_Bool, cases_lt, cond-true, cond-false, eq-eqb, eqb-true, not-true, not_from_false, not_from_true, or_cases}
+use Rattle.std.proofs.lemmas.List.Folds.{list_any_at}
 use Rattle.graph_base.specs.Graphs.{PlainGraph, IsGraph}
 use Rattle.net_base.specs.declared.loc.LocSet.{LocSet}
 use Rattle.graph_base.specs.Least.{least_below}
@@ -10,6 +12,7 @@ use Rattle.graph_base.specs.Runs.{has_step, is_listener, place_of, rank_at}
 use Rattle.graph_base.specs.declared.refutation.Why.{Why}
 use Rattle.graph_base.specs.declared.refutation.Why.TheVariants.{NoStep, StepWorse, LoopWorse, ListenerWorse}
 use Rattle.graph_base.proofs.Least.{least_exists, least_is_least, least_passes}
+use Rattle.reach_prune.specs.Searches.{is_among}
 use Rattle.refutation_law.specs.Choosing.{Rests}
 use Rattle.refutation_law.specs.Reasons.{is_outranked, none as nobody, reason_at}
 use Rattle.refutation_law.proofs.Falling.{reason_where_failing}
@@ -40,7 +43,17 @@ least_at n p k lt e before =
       | inr t ↦ (let same : k ≡ found.0 = omega (arith, le, t) in ap (λ (z : ℕ). Some z) same ∙ sym found.1)
     ]
 
+pub none_more : (p : ℕ → Bool) (k : ℕ) → ((j : ℕ) → j < k → p j ≡ false) → p k ≡ false → (j : ℕ) → j < k + 1 → p j ≡ false
+none_more p k before here j lt = elim (cases_lt j k) [
+  | inl t ↦ before j t
+  | inr t ↦ (let same : j ≡ k = omega (arith, lt, t) in ap p same ∙ here)
+]
+
 -- ---- who hears, and who answers
+
+-- a node that is listed among those to which m steps
+pub step_at : (g : PlainGraph) (m : ℕ) (nodes : List ℕ) (i : ℕ) → ((s : ℕ) → is_among nodes s ≡ has_step g m s) → i < length nodes → has_step g m (get_or nodes i 0) ≡ true
+step_at g m nodes i members lt = let s = get_or nodes i 0 in sym (members s) ∙ list_any_at (λ x. eqb x s) nodes i 0 lt (eq-eqb s s refl)
 
 module _ (g : PlainGraph) (m t : ℕ) where
   abbrev V : View
@@ -90,12 +103,29 @@ module _ (g : PlainGraph) (m t : ℕ) where
     pub reason_alone : is_listener g t ≡ false → has_answer V nobody m t ≡ false → Some (NoStep (place_of g t)) ≡ reason_at V reach gone m t
     reason_alone l e = sym (cond-false (is_listener g t) _ _ l ∙ cond-true (not (has_answer V nobody m t)) _ _ (not_from_false _ e))
 
-    pub reason_step : is_listener g t ≡ false → has_answer V nobody m t ≡ true → has_answer V gone m t ≡ false → Some (StepWorse (place_of g t)) ≡ reason_at V reach gone m t
-    reason_step l a e = sym (cond-false (is_listener g t) _ _ l ∙ cond-false (not (has_answer V nobody m t)) _ _ (not_from_true _ a) ∙ cond-true (not (has_answer V gone m t)) _ _ (not_from_false _ e))
+    -- where s answers
+    module _ (l : is_listener g t ≡ false) (single : HasSingleSteps g) (s : ℕ) (answers : (s < length g.nodes) × (steps_on V m s ≡ true) × (place_of g s ≡ place_of g t)) where
+      answered : has_answer V nobody m t ≡ true
+      answered = answer_alone single nobody s answers.0 answers.1 answers.2
 
-    pub reason_loop : is_listener g t ≡ false → has_answer V nobody m t ≡ true → has_answer V gone m t ≡ true →
-        option_map (LoopWorse (place_of g t)) (least_below (length g.nodes) (λ k. same_place V k t && (reach k m && gone k t))) ≡ reason_at V reach gone m t
-    reason_loop l a e = sym (cond-false (is_listener g t) _ _ l ∙ cond-false (not (has_answer V nobody m t)) _ _ (not_from_true _ a) ∙ cond-false (not (has_answer V gone m t)) _ _ (not_from_true _ e))
+      still : has_answer V gone m t ≡ not (gone s t)
+      still = answer_alone single gone s answers.0 answers.1 answers.2
+
+      pub reason_step : gone s t ≡ true → Some (StepWorse (place_of g t)) ≡ reason_at V reach gone m t
+      reason_step went =
+          sym (cond-false (is_listener g t) _ _ l ∙ cond-false (not (has_answer V nobody m t)) _ _ (not_from_true _ answered)
+          ∙ cond-true (not (has_answer V gone m t)) _ _ (not_from_false _ (still ∙ ap not went)))
+
+      pub reason_loop : gone s t ≡ false → option_map (LoopWorse (place_of g t)) (least_below (length g.nodes) (λ k. same_place V k t && (reach k m && gone k t))) ≡ reason_at V reach gone m t
+      reason_loop stays =
+          sym (cond-false (is_listener g t) _ _ l ∙ cond-false (not (has_answer V nobody m t)) _ _ (not_from_true _ answered)
+          ∙ cond-false (not (has_answer V gone m t)) _ _ (not_from_true _ (still ∙ ap not stays)))
+
+-- the node that answers, if there is one
+pub answers : (g : PlainGraph) (m t : ℕ) {s : ℕ} {o : Option ℕ} → o ≡ Some s
+    → IfSome o (λ s. (s < length g.nodes) × (steps_on (shown g) m s ≡ true) × (place_of g s ≡ place_of g t))
+    → (s < length g.nodes) × (steps_on (shown g) m s ≡ true) × (place_of g s ≡ place_of g t)
+answers g m t e h = subst (λ (o : Option ℕ). IfSome o (λ s. (s < length g.nodes) × (steps_on (shown g) m s ≡ true) × (place_of g s ≡ place_of g t))) e h
 
 -- ---- on what a reason rests
 

@@ -41,7 +41,18 @@ impl Cells {
         requires cell { cell_at self.now m n < length self.now.rounds.items }
         ensures { result ≡ round_in self.now m n }
     {
-        self.rounds[self.spots[m as usize] as usize + self.bases[n as usize]]
+        self.rounds[self.cell(m, n)]
+    }
+
+    /// The cell of m above n.
+    fn cell(&self, m: u32, n: u32) -> usize
+        requires m { m < length self.now.spots.items }
+        requires n { n < length self.now.bases.items }
+        requires cell { cell_at self.now m n < length self.now.rounds.items }
+        ensures is { result ≡ cell_at self.now m n }
+        ensures within { result < length self.now.rounds.items }
+    {
+        self.spots[m as usize] as usize + self.bases[n as usize]
     }
 
     /// Notes the round at each pair of the touched rows that has none yet and isn't left.
@@ -73,8 +84,8 @@ impl Cells {
         let row = left.row(n);
         for m in maps.peers(n) {
             if !is_set(row, *m) {
-                let cell = self.spots[*m as usize] as usize + self.bases[n as usize];
-                self.rounds[cell] = marked(self.rounds[cell], round);
+                let place = self.cell(*m, n);
+                self.rounds[place] = marked(self.rounds[place], round);
             }
         }
     }

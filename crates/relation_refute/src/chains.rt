@@ -1,5 +1,5 @@
 //! The lines of a refutation.
-ghost use Rattle.std.specs.Prelude.{◌≡◌, ◌⊎◌, ◌↔◌, ◌<◌, ℕ, IfOk, IsTrue, OnOk, Some, length, nat_lt, slice_get};
+ghost use Rattle.std.specs.Prelude.{◌≡◌, ◌⊎◌, ◌↔◌, ◌<◌, ℕ, IfOk, IsTrue, OnOk, Some, nat_lt};
 ghost use Rattle.std.specs.List.Sorted.{IsStrictlySortedBy};
 ghost use Rattle.bit_rows.specs.Tables.{has_at};
 ghost use Rattle.graph_base.specs.Graphs.{IsGraph};

@@ -4,7 +4,7 @@ ghost use Rattle.graph_base.specs.Least.{least_below};
 ghost use Rattle.graph_base.specs.Runs.{place_of};
 ghost use Rattle.relation_law.specs.Relations.{Pair};
 ghost use Rattle.relation_law.specs.Rounds.{same_place};
-ghost use Rattle.relation_refute.specs.Cells.{AreCells, are_parted as parted, cell_at};
+ghost use Rattle.relation_refute.specs.Cells.{AreCells, are_parted as parted};
 ghost use Rattle.relation_refute.specs.Faults.{stands_before};
 ghost use Rattle.state_simulation.specs.Looked.{shown};
 

@@ -1,5 +1,5 @@
 //! The refutation of a graph.
-ghost use Rattle.std.specs.Prelude.{◌≡◌, ℕ, Bool, IfOk};
+ghost use Rattle.std.specs.Prelude.{ℕ, Bool, IfOk};
 ghost use Rattle.graph_base.specs.Refuting.{HasSingleSteps, Refutes};
 ghost use Rattle.net_base.specs.Sets.{holds};
 ghost use Rattle.refutation_law.specs.Choosing.{IsRefutationOf};

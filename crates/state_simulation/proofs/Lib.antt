@@ -5,5 +5,6 @@ pub mod Locating
 pub mod Masking
 pub mod Putting
 pub mod Rounding
+pub mod Sizes
 pub mod Staging
 pub mod Targeting

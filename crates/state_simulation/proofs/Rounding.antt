@@ -1,9 +1,12 @@
 -- From round to round.
 use Rattle.std.proofs.Common.{◌≡◌, ℕ, zero, suc, ◌+◌, ◌*◌, ◌/◌, ◌%◌, ◌<◌, ◌≤◌, Bool, true, false, cond, not, ◌&&◌, ◌||◌, ltb, mod-lt, List, Option, None, Some, length}
-use Rattle.std.proofs.Common.{arith, refl, sym, ap, ◌∙◌, inl, inr}
+use Rattle.std.proofs.Common.{arith, refl, sym, ap, subst, ◌∙◌, inl, inr}
 use Rattle.std.proofs.lemmas.Bool.{cases_Bool, and_parts, and_from, and_left, and_right, or_left, both_ways, eqb-true, eq-eqb, lt-ltb, not-true, false_from_ne_true}
 use Rattle.std.proofs.Math.Nat.{div-lt_iff_lt-mul}
+use Rattle.std.proofs.lemmas.List.{with_items_is}
 use Rattle.std.proofs.lemmas.Nat.{div-mul-add, mod-mul-add, mul-add-lt}
+use Rattle.std.specs.Vec.{with_items}
+use Rattle.std.specs.declared.vec.Vec.{Vec}
 use Rattle.std.proofs.Math.Bool.{and-true, not-not}
 use Rattle.bit_rows.specs.Tables.{PlainRows, has_at}
 use Rattle.relation_law.specs.Relations.{Pair}
@@ -12,10 +15,11 @@ use Rattle.relation_law.specs.Views.{View, view_of}
 use Rattle.relation_law.proofs.Rounds.{pair_from, pair_to}
 use Rattle.relation_law.proofs.Targets.{any_alike, by_targets, fails_alike, fails_by_either}
 use Rattle.relation_law.proofs.Tests.{count_le, count_lt}
-use Rattle.state_simulation.specs.Stages.{Knows, bits_set}
+use Rattle.state_simulation.specs.Stages.{AreAt, AreSized, Knows, bits_set}
 use Rattle.state_simulation.proofs.Putting.{same_bit}
 use Rattle.state_simulation.specs.Targets.{AreLeft, AreWithin, AtRound, Put, differs, gone_in, is_outranked, is_touched, tells}
 use Rattle.state_simulation.specs.Looked.{shown}
+use Rattle.state_simulation.specs.declared.rounds.Rounds.{Rounds}
 use Rattle.graph_base.specs.Graphs.{PlainGraph}
 use Rattle.net_base.specs.declared.loc.LocSet.{LocSet}
 
@@ -164,42 +168,67 @@ pub taken_within : (size : ℕ) (left next new : PlainRows) (goes : ℕ → ℕ 
     → ((n m : ℕ) → n < size → m < size → has_at new n m ≡ (has_at next n m && not (goes n m))) → AreWithin size new left
 taken_within size left next new goes within taken n b ln lb h = within n b ln lb (and_parts (has_at next n b) _ (sym (taken n b ln lb) ∙ h)).0
 
-module _ (g : PlainGraph) (onwards : Option PlainRows) (left next new after : PlainRows) (touched marked : List Bool) (changed : Bool)
-    (taken : (n m : ℕ) → n < length g.nodes → m < length g.nodes → has_at new n m ≡ (has_at next n m && not (goes_by (shown g) (tells onwards) (gone_in left) (is_touched touched) m n)))
-    (put : Put (length g.nodes) new left after marked changed) where
-  module _ (claimed : LocSet) (reach : ℕ → ℕ → Bool) (k : ℕ) (knows : Knows g reach k onwards) (at : AtRound (view_of g claimed) reach k left next (is_touched touched)) where
-    taken_told : (n m : ℕ) → n < length g.nodes → m < length g.nodes → has_at new n m ≡ (has_at next n m && not (goes_by (view_of g claimed) reach (gone_in left) (is_touched touched) m n))
-    taken_told n m ln lm = taken n m ln lm
-        ∙ ap (λ z. has_at next n m && not z) (goes_told (view_of g claimed) reach k left next (is_touched touched) at (tells onwards)
-        (known g claimed reach k left next (is_touched touched) at onwards knows) m n lm)
+-- what the next round takes away from what there was, and puts there
+pub record Advances (g : PlainGraph) (old : Rounds) (new after : PlainRows) (marked : List Bool) (changed : Bool) : Type 0 where
+  pub taken : (n m : ℕ) → n < length g.nodes → m < length g.nodes
+      → has_at new n m ≡ (has_at old.next n m && not (goes_by (shown g) (tells old.onwards) (gone_in old.left) (is_touched old.touched.items) m n))
+  pub put : Put (length g.nodes) new old.left after marked changed
+
+-- as it is told with the marks that are lent for it
+pub advances : (g : PlainGraph) (old : Rounds) {new after : PlainRows} {marked read lent : List Bool} {changed : Bool}
+    → read ≡ old.touched.items → lent ≡ old.touched.items → length old.touched.items ≡ length g.nodes
+    → ((n m : ℕ) → n < length g.nodes → m < length g.nodes
+    → has_at new n m ≡ (has_at old.next n m && not (goes_by (shown g) (tells old.onwards) (gone_in old.left) (is_touched read) m n)))
+    → Put (length lent) new old.left after marked changed → Advances g old new after marked changed
+advances g old {new} {after} {marked} {read} {lent} {changed} same is size taken put = record {
+  taken = λ n m ln lm. taken n m ln lm ∙ ap (λ l. has_at old.next n m && not (goes_by (shown g) (tells old.onwards) (gone_in old.left) (is_touched l) m n)) same;
+  put = subst (λ (n : ℕ). Put n new old.left after marked changed) (ap length is ∙ size) put;
+}
+
+-- what is lent of a vector stands in it afterwards
+pub lent_back : {A Z : Type 0} (v : Vec A Z) {lent now : List A} → lent ≡ v.items → length now ≡ length lent → (with_items v now).items ≡ now
+lent_back v {lent} {now} value len = let same = ap length value in with_items_is v now (omega (arith, len, same, v.ok.0))
+
+module _ {g : PlainGraph} {old : Rounds} {new after : PlainRows} {marked : List Bool} {changed : Bool} (by : Advances g old new after marked changed) where
+  module _ (claimed : LocSet) (reach : ℕ → ℕ → Bool) (k : ℕ) (knows : Knows g reach k old.onwards) (at : AreAt g claimed reach k old) where
+    taken_told : (n m : ℕ) → n < length g.nodes → m < length g.nodes
+        → has_at new n m ≡ (has_at old.next n m && not (goes_by (view_of g claimed) reach (gone_in old.left) (is_touched old.touched.items) m n))
+    taken_told n m ln lm = by.taken n m ln lm
+        ∙ ap (λ z. has_at old.next n m && not z) (goes_told (view_of g claimed) reach k old.left old.next (is_touched old.touched.items) at (tells old.onwards)
+        (known g claimed reach k old.left old.next (is_touched old.touched.items) at old.onwards knows) m n lm)
 
     pub advanced : AtRound (view_of g claimed) reach (suc k) after new (is_touched marked)
-    advanced = at_next (view_of g claimed) reach k left next new (is_touched touched) at taken_told after (is_touched marked) put.rows put.quiet
+    advanced = at_next (view_of g claimed) reach k old.left old.next new (is_touched old.touched.items) at taken_told after (is_touched marked) by.put.rows by.put.quiet
 
     pub advanced_settled : changed ≡ false → IsSettled (view_of g claimed) reach k × AreLeft (view_of g claimed) reach k after
     advanced_settled e =
-        let same : (n b : ℕ) → n < length g.nodes → differs left new n b ≡ false = put.same e in
-        let rows : AreLeft (view_of g claimed) reach k new = left_where_same (view_of g claimed) reach k left next new (is_touched touched) at taken_told same in
-        (settled_where_same (view_of g claimed) reach k left next new (is_touched touched) at taken_told same, λ m n lm ln. put.rows n m ln ∙ rows m n lm ln)
+        let same : (n b : ℕ) → n < length g.nodes → differs old.left new n b ≡ false = by.put.same e in
+        let rows : AreLeft (view_of g claimed) reach k new = left_where_same (view_of g claimed) reach k old.left old.next new (is_touched old.touched.items) at taken_told same in
+        (settled_where_same (view_of g claimed) reach k old.left old.next new (is_touched old.touched.items) at taken_told same, λ m n lm ln. by.put.rows n m ln ∙ rows m n lm ln)
 
-  -- a row that isn't touched is as it was
-  pub advanced_quiet : AreWithin (length g.nodes) new left → (n b : ℕ) → n < length g.nodes → b < length g.nodes → is_touched marked n ≡ false → has_at after n b ≡ has_at left n b
-  advanced_quiet within n b ln lb none = put.rows n b ln ∙ sym (same_bit (has_at left n b) (has_at new n b) (within n b ln lb) (put.quiet n b ln none))
+  module _ (sized : AreSized g old) where
+    within : AreWithin (length g.nodes) new old.left
+    within = taken_within (length g.nodes) old.left old.next new (λ n m. goes_by (shown g) (tells old.onwards) (gone_in old.left) (is_touched old.touched.items) m n) sized.within by.taken
 
-  pub advanced_fewer : AreWithin (length g.nodes) new left → left.bits ≡ length g.nodes → bits_set (length g.nodes) after + cond changed 1 0 ≤ bits_set (length g.nodes) left
-  advanced_fewer within bits =
-      let lower : (n b : ℕ) → n < length g.nodes → b < length g.nodes → has_at after n b ≡ true → has_at left n b ≡ true = λ n b ln lb h. within n b ln lb (sym (put.rows n b ln) ∙ h) in
-      elim (cases_Bool changed) [
-        | inl e ↦ (
-            let x = put.lost e in
-            let lb : x.1 < length g.nodes = omega (arith, x.3, bits) in
-            let both = and_parts (has_at left x.0 x.1) (has_at left x.0 x.1 && not (has_at new x.0 x.1)) x.4 in
-            let gone : has_at after x.0 x.1 ≡ false = put.rows x.0 x.1 x.2 ∙ not-true _ (and_parts (has_at left x.0 x.1) (not (has_at new x.0 x.1)) both.1).1 in
-            let strict : bits_set (length g.nodes) after < bits_set (length g.nodes) left = fewer (length g.nodes) left after lower x.0 x.1 x.2 lb gone both.0 in
-            let one : ◌≡◌ {A = ℕ} (cond changed 1 0) 1 = ap (λ z. cond z 1 0) e in
-            omega (arith, strict, one))
-        | inr e ↦ (
-            let most : bits_set (length g.nodes) after ≤ bits_set (length g.nodes) left = no_more (length g.nodes) left after lower in
-            let none : ◌≡◌ {A = ℕ} (cond changed 1 0) 0 = ap (λ z. cond z 1 0) e in
-            omega (arith, most, none))
-      ]
+    -- a row that isn't touched is as it was
+    pub advanced_quiet : (n b : ℕ) → n < length g.nodes → b < length g.nodes → is_touched marked n ≡ false → has_at after n b ≡ has_at old.left n b
+    advanced_quiet n b ln lb none = by.put.rows n b ln ∙ sym (same_bit (has_at old.left n b) (has_at new n b) (within n b ln lb) (by.put.quiet n b ln none))
+
+    pub advanced_fewer : bits_set (length g.nodes) after + cond changed 1 0 ≤ bits_set (length g.nodes) old.left
+    advanced_fewer =
+        let lower : (n b : ℕ) → n < length g.nodes → b < length g.nodes → has_at after n b ≡ true → has_at old.left n b ≡ true =
+        λ n b ln lb h. within n b ln lb (sym (by.put.rows n b ln) ∙ h) in
+        elim (cases_Bool changed) [
+          | inl e ↦ (
+              let x = by.put.lost e in
+              let lb : x.1 < length g.nodes = omega (arith, x.3, sized.left.bits) in
+              let both = and_parts (has_at old.left x.0 x.1) (has_at old.left x.0 x.1 && not (has_at new x.0 x.1)) x.4 in
+              let gone : has_at after x.0 x.1 ≡ false = by.put.rows x.0 x.1 x.2 ∙ not-true _ (and_parts (has_at old.left x.0 x.1) (not (has_at new x.0 x.1)) both.1).1 in
+              let strict : bits_set (length g.nodes) after < bits_set (length g.nodes) old.left = fewer (length g.nodes) old.left after lower x.0 x.1 x.2 lb gone both.0 in
+              let one : ◌≡◌ {A = ℕ} (cond changed 1 0) 1 = ap (λ z. cond z 1 0) e in
+              omega (arith, strict, one))
+          | inr e ↦ (
+              let most : bits_set (length g.nodes) after ≤ bits_set (length g.nodes) old.left = no_more (length g.nodes) old.left after lower in
+              let none : ◌≡◌ {A = ℕ} (cond changed 1 0) 0 = ap (λ z. cond z 1 0) e in
+              omega (arith, most, none))
+        ]

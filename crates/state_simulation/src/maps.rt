@@ -1,5 +1,5 @@
 //! A graph's nodes as they are looked up.
-ghost use Rattle.std.specs.Prelude.{◌≡◌, ◌<◌, ◌≤◌, ◌&&◌, ◌==◌, All, ℕ, IfOk, length, nat_lt};
+ghost use Rattle.std.specs.Prelude.{◌≡◌, ◌<◌, ◌&&◌, ◌==◌, All, ℕ, IfOk, length, nat_lt};
 ghost use Rattle.graph_base.specs.Runs.{has_step, place_of};
 ghost use Rattle.reach_prune.specs.Searches.{is_listed};
 ghost use Rattle.relation_law.specs.Rounds.{is_in};
@@ -26,7 +26,7 @@ pub struct Maps<'a> {
 }
 
 impl<'a> Maps<'a> {
-    ghost use Rattle.std.specs.Prelude.{Bool, IsTrue, List as Items};
+    ghost use Rattle.std.specs.Prelude.{IsTrue};
     ghost use Rattle.reach_prune.specs.Searches.{is_among};
 
     /// The maps of a graph.

@@ -1,10 +1,9 @@
 //! Rows of the nodes that a round leaves above the nodes that step to a target.
-ghost use Rattle.std.specs.Prelude.{◌≡◌, ◌*◌, ◌<◌, ◌≤◌, ◌==◌, ◌&&◌, ◌||◌, ℕ, Bool, All, IfSome, IsTrue, false, length, not};
+ghost use Rattle.std.specs.Prelude.{◌≡◌, ◌*◌, ◌<◌, ◌≤◌, ◌==◌, ◌&&◌, ◌||◌, ℕ, Bool, All, IfSome, IsTrue, false, length};
 ghost use Rattle.bit_rows.specs.Bits.{has};
 ghost use Rattle.bit_rows.specs.Tables.{has_at};
-ghost use Rattle.graph_base.specs.Runs.{has_step, is_listener, place_of, rank_at};
+ghost use Rattle.graph_base.specs.Runs.{is_listener, rank_at};
 ghost use Rattle.reach_prune.specs.Searches.{is_among};
-ghost use Rattle.relation_law.specs.Numbers.{any_below};
 ghost use Rattle.relation_law.specs.Relations.{no_worse};
 ghost use Rattle.relation_law.specs.Rounds.{fails_at, has_answer, is_heard_there, is_looped};
 ghost use Rattle.state_simulation.specs.Looked.{shown};

@@ -1,5 +1,5 @@
 //! The nodes of a graph, one location after another.
-ghost use Rattle.std.specs.Prelude.{◌≡◌, ◌<◌, ◌==◌, All, ℕ, IfOk, length, nat_lt};
+ghost use Rattle.std.specs.Prelude.{◌≡◌, ◌<◌, ℕ, IfOk, length, nat_lt};
 ghost use Rattle.reach_prune.specs.Searches.{is_among};
 ghost use Rattle.state_simulation.specs.Looked.{IsOrder, is_keyed};
 

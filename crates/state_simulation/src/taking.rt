@@ -1,5 +1,5 @@
 //! What a round takes away, target by target.
-ghost use Rattle.std.specs.Prelude.{◌≡◌, ◌*◌, ◌<◌, ◌≤◌, ◌&&◌, ◌||◌, ◌==◌, ℕ, All, IfSome, length, not};
+ghost use Rattle.std.specs.Prelude.{◌≡◌, ◌*◌, ◌<◌, ◌&&◌, ◌||◌, ℕ, All, IfSome, length, not};
 ghost use Rattle.bit_rows.specs.Bits.{has};
 ghost use Rattle.bit_rows.specs.Tables.{IsSameSize, has_at};
 ghost use Rattle.reach_prune.specs.Searches.{is_among};

@@ -6,6 +6,5 @@ use Rattle.bit_rows.proofs.kernels.clear_row.Goals as goal
 
 pub returns-clause-bits : goal.returns-clause-bits
 returns-clause-bits c =
-    let inv = c.loop-i.invariant in
     has_and_not c.args.row.now c.loop-i.row c.args.other.now (λ j. (c.type_inv.other j).fits) (all_words (λ x y. bit_and x (bit_not w64 y))
-    c.args.row.now c.loop-i.row c.args.other.now c.loop-i.i inv.len c.requires (omega arith) refl inv.done)
+    c.args.row.now c.loop-i.row c.args.other.now c.loop-i.i c.loop-i.invariant c.requires (omega arith) refl)

@@ -5,5 +5,4 @@ use Rattle.bit_rows.proofs.kernels.keep_row.Goals as goal
 
 pub returns-clause-bits : goal.returns-clause-bits
 returns-clause-bits c =
-    let inv = c.loop-i.invariant in
-    has_and c.args.row.now c.loop-i.row c.args.other.now (all_words bit_and c.args.row.now c.loop-i.row c.args.other.now c.loop-i.i inv.len c.requires (omega arith) refl inv.done)
+    has_and c.args.row.now c.loop-i.row c.args.other.now (all_words bit_and c.args.row.now c.loop-i.row c.args.other.now c.loop-i.i c.loop-i.invariant c.requires (omega arith) refl)

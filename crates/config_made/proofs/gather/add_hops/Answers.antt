@@ -1,10 +1,9 @@
-use Rattle.std.proofs.Common.{◌++◌, ◌∷◌, [], All, List, append_assoc, ap, get_or, length, map, subst, sym, take, ◌∙◌}
-use Rattle.std.proofs.lemmas.List.{map_more}
+use Rattle.std.proofs.Common.{◌++◌, ◌∷◌, [], All, ap, get_or, length, refl, subst, sym, ◌∙◌}
 use Rattle.std.proofs.lemmas.List.Elements.{All-push}
 use Rattle.graph_base.specs.Graphs.{PlainGraph}
 use Rattle.config_made.specs.declared.hop.Hop.{Hop}
 use Rattle.config_made.specs.Hops.{HasPref, hop_of}
-use Rattle.config_made.proofs.Gathering.{step_ends}
+use Rattle.config_made.proofs.Gathering.{one_more, step_ends}
 use Rattle.config_made.proofs.gather.add_hops.Goals as goal
 
 pub hop_of-requires-clause-from : goal.hop_of-requires-clause-from
@@ -29,18 +28,12 @@ loop-step-preserved c =
     let i = c.loop-step.step-index in
     let step = get_or steps i (0, 0) in
     let before = c.loop-step.hops.items in
-    let first = c.args.hops.now.items in
     let hops = hop_of c.args.class g case.numbers case.tags in
     let hop =
     c.hop_of.ensures.hop
     ∙ ap (λ ns. hop_of c.args.class g ns c.tags.result.now step) c.prefs.ensures
     ∙ ap (λ ts. hop_of c.args.class g case.numbers ts step) c.tags.ensures in
     record {
-      hops =
-          c.in_ok-push.ensures.items
-          ∙ ap (λ (h : Hop). before ++ h ∷ []) hop
-          ∙ ap (λ (hs : List Hop). hs ++ hops step ∷ []) c.loop-step.invariant.hops
-          ∙ append_assoc first (map hops (take i steps)) (hops step ∷ [])
-          ∙ ap (λ (hs : List Hop). first ++ hs) (sym (map_more hops steps i (0, 0) c.loop-step-test.true));
+      hops = one_more hops c.args.hops.now.items steps i (0, 0) step c.loop-step-test.true refl (c.in_ok-push.ensures.items ∙ ap (λ (h : Hop). before ++ h ∷ []) hop) c.loop-step.invariant.hops;
       fits = λ old. subst (All HasPref) (sym c.in_ok-push.ensures.items) (All-push HasPref before c.hop_of.result (c.loop-step.invariant.fits old) c.hop_of.ensures.fits);
     }

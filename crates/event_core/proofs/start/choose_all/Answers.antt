@@ -2,8 +2,8 @@ use Rattle.std.proofs.Common.{◌≡◌, true, length, refl, ap, ◌∙◌, arit
 use Rattle.std.proofs.lemmas.Bool.{lt-ltb}
 use Rattle.net_base.specs.Network.{is_router}
 use Rattle.event_base.specs.World.{with_choice}
-use Rattle.event_state.specs.States.{speakers, state}
-use Rattle.event_core.proofs.Loops.{same_speakers}
+use Rattle.event_state.specs.States.{speakers}
+use Rattle.event_core.proofs.Loops.{step_on}
 use Rattle.event_core.proofs.Opened.{opened, opened_first, opened_next}
 use Rattle.event_core.proofs.start.choose_all.Goals as goal
 
@@ -20,10 +20,8 @@ loop-number-preserved c =
     record {
       setting = c.choose.ensures.follows.setting ∙ same;
       done =
-          c.in_ok-choose.ensures.ok
-          ∙ ap (λ T. with_choice T c.new.result (state c.loop-number.world)) (same_speakers c.loop-number.world w same)
-          ∙ ap (λ k. with_choice (speakers w) k (state c.loop-number.world)) (search (rules, tests))
-          ∙ ap (with_choice (speakers w) n) c.loop-number.invariant.done
+          step_on (λ S. with_choice S c.new.result) c.loop-number.world w same c.loop-number.invariant.done c.in_ok-choose.ensures.ok
+          ∙ ap (λ k. with_choice (speakers w) k (opened (speakers w) n)) (search (rules, tests))
           ∙ opened_next (speakers w) n up;
     }
 

@@ -1,8 +1,9 @@
 use Rattle.std.proofs.Common.{◌≡◌, ◌+◌, ◌<◌, length, ap, ◌∙◌, arith, rules, tests}
+use Rattle.std.specs.Prelude.{nat_lt}
 use Rattle.std.proofs.lemmas.Bool.{lt-ltb, ltb-true}
 use Rattle.event_base.specs.World.{at, tell}
 use Rattle.event_state.specs.States.{speakers, state}
-use Rattle.event_core.proofs.Loops.{same_speakers}
+use Rattle.event_core.proofs.Loops.{step_on}
 use Rattle.event_core.proofs.Opened.{told_below_next, told_everywhere}
 use Rattle.event_law.proofs.Messages.{same_as_itself}
 use Rattle.event_core.proofs.start.tell_all.Goals as goal
@@ -15,10 +16,8 @@ loop-number-preserved c =
     record {
       setting = c.tell_out.ensures.follows.setting ∙ same;
       done =
-          c.in_ok-tell_out.ensures.ok
-          ∙ ap (λ T. tell T (λ a b. at c.new.result a) (state c.loop-number.world)) (same_speakers c.loop-number.world w same)
-          ∙ ap (λ k. tell (speakers w) (λ a b. at k a) (state c.loop-number.world)) (search (rules, tests))
-          ∙ ap (tell (speakers w) (λ a b. at n a)) c.loop-number.invariant.done
+          step_on (λ S. tell S (λ a b. at c.new.result a)) c.loop-number.world w same c.loop-number.invariant.done c.in_ok-tell_out.ensures.ok
+          ∙ ap (λ k. tell (speakers w) (λ a b. at k a) (tell (speakers w) (λ a b. nat_lt a n) (state w))) (search (rules, tests))
           ∙ told_below_next (speakers w) same_as_itself n (state w);
     }
 

@@ -1,12 +1,11 @@
-use Rattle.std.proofs.Common.{◌≡◌, ◌+◌, ◌<◌, Some, length, take, sym, ap, ◌∙◌, arith}
+use Rattle.std.proofs.Common.{◌≡◌, ◌<◌, Some, length, sym, ap, ◌∙◌, arith}
 use Rattle.std.specs.Prelude.{slice_get}
-use Rattle.std.proofs.lemmas.List.{take_all}
 use Rattle.std.proofs.lemmas.Option.{slice_get-get_or}
 use Rattle.net_base.specs.Locations.{neighbours}
 use Rattle.net_base.proofs.Neighbours.{neighbour_linked}
 use Rattle.event_base.specs.World.{emptied, joins}
 use Rattle.event_state.specs.States.{speakers, state}
-use Rattle.event_core.proofs.Loops.{empty_step, item_more}
+use Rattle.event_core.proofs.Loops.{all_neighbours, empty_step, neighbour_more}
 use Rattle.event_core.proofs.Steps.{emptied_around}
 use Rattle.event_core.proofs.Tellings.{some}
 use Rattle.event_core.proofs.Undoing.{follows_then}
@@ -26,25 +25,17 @@ forget_both-requires c =
 
 pub loop-place-preserved : goal.loop-place-preserved
 loop-place-preserved c =
-    let w = c.args.world.now in
-    let us = neighbours w.net.now c.args.at in
-    let same = c.loop-place.invariant.follows.setting in
-    let long : length c.neighbours-place-end.result.now ≡ length us = ap length c.neighbours-place-end.ensures in
-    let near : c.neighbours.result.now ≡ us = c.neighbours.ensures ∙ ap (λ s. neighbours s.0 c.args.at) same in
+    let inv = c.loop-place.invariant in
+    let more = neighbour_more c.args.world.now c.args.at c.neighbours-place-end.ensures c.loop-place.world inv.follows.setting
+    c.neighbours.ensures c.loop-place-test.true c.index-neighbours-place.is in
     record {
-      follows =
-          follows_then c.args.log.now.items c.loop-place.log.items c.forget_both.new.log.items w c.loop-place.world c.forget_both.new.world
-          c.loop-place.invariant.follows c.forget_both.ensures.follows;
-      done = empty_step w c.loop-place.world c.forget_both.new.world same (take c.loop-place.place us) (take (c.loop-place.place + 1) us) c.index-neighbours-place.result
-          (item_more us c.neighbours.result.now c.loop-place.place c.index-neighbours-place.result near (omega (arith, long, c.loop-place-test.true)) c.index-neighbours-place.is)
-          (joins c.args.at) c.loop-place.invariant.done c.in_ok-forget_both.ensures.ok;
+      follows = follows_then inv.follows c.forget_both.ensures.follows;
+      done = empty_step c.args.world.now c.loop-place.world c.forget_both.new.world inv.follows.setting _ _ more (joins c.args.at) inv.done c.in_ok-forget_both.ensures.ok;
     }
 
 pub returns-clause-ok : goal.returns-clause-ok
 returns-clause-ok c =
     let w = c.args.world.now in
-    let us = neighbours w.net.now c.args.at in
-    let long : length c.neighbours-place-end.result.now ≡ length us = ap length c.neighbours-place-end.ensures in
     c.loop-place.invariant.done
-    ∙ ap (λ xs. emptied (speakers w) (some (joins c.args.at) xs) (state w)) (take_all c.loop-place.place us (omega (arith, long, c.loop-place-test.false)))
+    ∙ ap (λ xs. emptied (speakers w) (some (joins c.args.at) xs) (state w)) (all_neighbours w c.args.at c.neighbours-place-end.ensures c.loop-place-test.false)
     ∙ emptied_around w c.known_net.ensures c.args.at

@@ -5,7 +5,7 @@ use Rattle.graph_base.specs.Preferences.{number_in}
 use Rattle.graph_settling.specs.Best.{entry_at}
 use Rattle.graph_settling.specs.Offers.{AreLowest, is_lower}
 use Rattle.graph_settling.proofs.Lowest.{lowest_kept, lowest_there, more, of_nodes_there}
-use Rattle.graph_settling.proofs.Tables.{entry_read, number_read, place_low}
+use Rattle.graph_settling.proofs.Tables.{entry_read, entry_there, number_read, place_low}
 use Rattle.graph_settling.proofs.offers.visit.Goals as goal
 use Rattle.graph_settling.proofs.offers.visit.Goals.{else-waits_for-via-then-waits_for+else-comes_before, else-waits_for-via-else-waits_for}
 
@@ -33,8 +33,7 @@ returns-then-comes_before-clause-lowest c = λ passes are.
     let offers = c.args.offers.now.items in
     let at : c.number-at.result ≡ place_of g to = c.number-at.ensures ∙ c.location.ensures in
     let low = place_low g to c.requires.places c.requires.to in
-    let read : c.index.result.now ≡ entry_at offers (place_of g to) = entry_read offers c.number-at.result c.index.result.now
-    (omega (arith, low, at, c.requires.size)) c.index.ensures ∙ ap (entry_at offers) at in
+    let read = entry_there g offers to c.number-at.result c.index.result.now c.requires.places c.requires.to c.requires.size at c.index.ensures in
     let wants : entry_at wanted (place_of g to) ≡ Some (number_in numbers to) = ap (entry_at wanted) (sym at) ∙ c.waits_for.ensures.0 c.if-waits_for.true ∙ ap Some (number_read numbers to) in
     let lower : is_lower net g from (entry_at offers (place_of g to)) ≡ true = ap (is_lower net g from) (sym read) ∙ sym c.comes_before.ensures ∙ c.if-comes_before.true in
     subst (λ l. AreLowest net g numbers wanted (more passes from to) (set offers l (Some c.args.step))) (sym at) (lowest_there net g numbers wanted passes from to offers wants lower low are)
@@ -49,11 +48,9 @@ returns-else-waits_for-clause-lowest c = λ passes are.
     let to = c.args.step.to in
     let offers = c.args.offers.now.items in
     let at : c.number-at.result ≡ place_of g to = c.number-at.ensures ∙ c.location.ensures in
-    let low = place_low g to c.requires.places c.requires.to in
     lowest_kept net g numbers wanted passes from to offers (elim c.else-waits_for.branch [
       | else-waits_for-via-then-waits_for+else-comes_before w ↦ (λ (_ : entry_at wanted (place_of g to) ≡ Some (number_in numbers to)).
-          let read : w.index.result.now ≡ entry_at offers (place_of g to) = entry_read offers c.number-at.result w.index.result.now
-          (omega (arith, low, at, c.requires.size)) w.index.ensures ∙ ap (entry_at offers) at in
+          let read = entry_there g offers to c.number-at.result w.index.result.now c.requires.places c.requires.to c.requires.size at w.index.ensures in
           ap (is_lower net g from) (sym read) ∙ sym w.comes_before.ensures ∙ w.if-comes_before.false)
       | else-waits_for-via-else-waits_for w ↦ (λ (wants : entry_at wanted (place_of g to) ≡ Some (number_in numbers to)).
           absurd (both_ways _ w.if-waits_for.false (c.waits_for.ensures.1 (ap (entry_at wanted) at ∙ wants ∙ ap Some (sym (number_read numbers to))))))

@@ -1,11 +1,9 @@
 use Rattle.std.proofs.Common.{◌<◌, ℕ, List, length, Option, arith, refl, sym, ap, subst, ◌∙◌}
 use Rattle.std.specs.Option.{option_map_or}
 use Rattle.std.proofs.lemmas.Bool.{ltb-true}
-use Rattle.bit_rows.specs.Tables.{has_at}
 use Rattle.graph_base.specs.Graphs.{PlainGraph}
 use Rattle.graph_base.specs.Runs.{place_of}
 use Rattle.net_base.specs.declared.loc.LocSet.{LocSet}
-use Rattle.refutation_law.specs.Choosing.{Goes}
 use Rattle.relation_law.specs.Views.{view_of}
 use Rattle.relation_refute.specs.declared.chains.Line.{Line}
 use Rattle.relation_refute.specs.declared.falls.Fallen.{Fallen}
@@ -14,7 +12,7 @@ use Rattle.relation_refute.specs.Cells.{round_in}
 use Rattle.relation_refute.specs.Faults.{RestsOn}
 use Rattle.relation_refute.specs.Lines.{IsLineOf}
 use Rattle.state_simulation.specs.Looked.{shown}
-use Rattle.relation_refute.proofs.Chaining.{fails_told, goes_told}
+use Rattle.relation_refute.proofs.Chaining.{fails_told, goes_there}
 use Rattle.relation_refute.proofs.Linking.{IsLinked, chain_falls, falls_to, linked_all, linked_first, linked_more}
 use Rattle.relation_refute.proofs.chains.add_chain.Goals as goal
 
@@ -71,9 +69,7 @@ chain-smaller c =
     let is = c.round-round.ensures in
     let over = x.1 in
     let fault : Fault = c.fault_of-fault.result in
-    let goes : Goes (view_of g claimed) (has_at f.onwards) a b (round_in f.cells a b) fault.why =
-    subst (λ r. Goes (view_of g claimed) (has_at f.onwards) a b r fault.why) is (goes_told g claimed c.requires.graph c.requires.single f
-    c.requires.fallen c.round-round.result a b fault.why x.0 (omega (arith, is, over)) is c.fault_of-fault.ensures.reason) in
+    let goes = goes_there g claimed c.requires.graph c.requires.single f c.requires.fallen c.round-round.result a b fault.why x.0 is over c.fault_of-fault.ensures.reason in
     let rests = rests_there g claimed f a b fault c.fault_of-fault.ensures.rests in
     subst (λ (o : Option (ℕ × ℕ)). option_map_or (λ (y : ℕ × ℕ). round_in f.cells y.0 y.1) fault.rests 0 < option_map_or (λ (y : ℕ × ℕ). round_in f.cells y.0 y.1) o 0) (sym c.in-Some.is)
     (chain_falls (round_in f.cells) fault.rests (round_in f.cells a b) over (λ y e. falls_to g claimed c.requires.graph c.requires.single f c.requires.fallen a b fault goes rests y e))
@@ -91,9 +87,7 @@ chain-preserved c =
     let is = c.round-round.ensures in
     let over = x.1 in
     let fault : Fault = c.fault_of-fault.result in
-    let goes : Goes (view_of g claimed) (has_at f.onwards) a b (round_in f.cells a b) fault.why =
-    subst (λ r. Goes (view_of g claimed) (has_at f.onwards) a b r fault.why) is (goes_told g claimed c.requires.graph c.requires.single f
-    c.requires.fallen c.round-round.result a b fault.why x.0 (omega (arith, is, over)) is c.fault_of-fault.ensures.reason) in
+    let goes = goes_there g claimed c.requires.graph c.requires.single f c.requires.fallen c.round-round.result a b fault.why x.0 is over c.fault_of-fault.ensures.reason in
     let rests = rests_there g claimed f a b fault c.fault_of-fault.ensures.rests in
     let line : Line = record { round = c.round-round.result; router = c.location.result; better = a; worse = b } in
     let line_is : IsLineOf g claimed f line = record { pair = x.0; went = omega (arith, is, over); round = is; router = c.location.ensures ∙ ap (λ z. place_of z b) c.graph.ensures } in

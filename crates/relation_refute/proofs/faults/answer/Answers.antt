@@ -1,12 +1,11 @@
-use Rattle.std.proofs.Common.{◌≡◌, ℕ, true, not, eqb, get_or, arith, refl, sym, ap, ◌∙◌}
-use Rattle.std.proofs.lemmas.Bool.{and_from, and_parts, eq-eqb, eqb-true, not-true}
+use Rattle.std.proofs.Common.{◌≡◌, ℕ, not, eqb, get_or, arith, sym, ap, ◌∙◌}
+use Rattle.std.proofs.lemmas.Bool.{and_from, and_parts, eqb-true, not-true}
 use Rattle.std.proofs.lemmas.List.{take_all}
-use Rattle.std.proofs.lemmas.List.Folds.{list_any_at}
 use Rattle.graph_base.specs.Graphs.{PlainGraph}
-use Rattle.graph_base.specs.Runs.{has_step, is_listener, place_of}
+use Rattle.graph_base.specs.Runs.{is_listener, place_of}
 use Rattle.reach_prune.specs.Searches.{is_among}
 use Rattle.relation_refute.specs.Faults.{answers_there}
-use Rattle.relation_refute.proofs.Faulting.{answer_none}
+use Rattle.relation_refute.proofs.Faulting.{answer_none, step_at}
 use Rattle.state_simulation.proofs.Masking.{each_more}
 use Rattle.relation_refute.proofs.faults.answer.Goals as goal
 
@@ -18,7 +17,7 @@ returns-then-answers_there-clause-some c =
     let s : ℕ = get_or nodes i 0 in
     let ls = c.successors-s-items.ensures.within i 0 c.loop-s-test.true in
     let is : c.answers_there.result ≡ answers_there g s c.args.t = rw c.graph.ensures at c.answers_there.ensures in
-    let step : has_step g c.args.m s ≡ true = sym (c.successors-s-items.ensures.members s) ∙ list_any_at (λ x. eqb x s) nodes i 0 c.loop-s-test.true (eq-eqb s s refl) in
+    let step = step_at g c.args.m nodes i c.successors-s-items.ensures.members c.loop-s-test.true in
     let parts = and_parts (eqb (place_of g s) (place_of g c.args.t)) (not (is_listener g s)) (sym is ∙ c.if-answers_there.true) in
     (ls, and_from _ _ step parts.1, eqb-true _ _ parts.0)
 

@@ -1,18 +1,17 @@
-use Rattle.std.proofs.Common.{◌≡◌, ◌<◌, ℕ, true, false, not, length, Option, Some, sym, ap, subst, ◌∙◌}
-use Rattle.std.specs.Option.{IfNone, IfSome}
+use Rattle.std.proofs.Common.{◌≡◌, ℕ, true, false, Option, Some, sym, ap, subst, ◌∙◌}
+use Rattle.std.specs.Option.{IfNone}
 use Rattle.std.specs.Prelude.{option_map}
 use Rattle.bit_rows.specs.Tables.{has_at}
 use Rattle.graph_base.specs.Graphs.{PlainGraph}
 use Rattle.graph_base.specs.Runs.{is_listener, place_of}
 use Rattle.graph_base.specs.declared.refutation.Why.TheVariants.{NoStep, StepWorse, LoopWorse, ListenerWorse}
 use Rattle.refutation_law.specs.Reasons.{none as nobody}
-use Rattle.relation_law.specs.Relations.{steps_on}
 use Rattle.relation_law.specs.Rounds.{has_answer}
 use Rattle.relation_refute.specs.declared.faults.Fault.{Fault}
 use Rattle.relation_refute.specs.Cells.{went}
 use Rattle.relation_refute.specs.Faults.{RestsOn}
 use Rattle.state_simulation.specs.Looked.{shown}
-use Rattle.relation_refute.proofs.Faulting.{alone_rests, answer_alone, loop_rests, reason_alone, reason_deaf, reason_heard, reason_loop, reason_step, step_rests}
+use Rattle.relation_refute.proofs.Faulting.{alone_rests, answers, loop_rests, reason_alone, reason_deaf, reason_heard, reason_loop, reason_step, step_rests}
 use Rattle.relation_refute.proofs.faults.fault_at.Goals as goal
 
 pub returns-then-is_heard_at-clause-why : goal.returns-then-is_heard_at-clause-why
@@ -48,78 +47,55 @@ pub returns-in_default-clause-rests : goal.returns-in_default-clause-rests
 returns-in_default-clause-rests c = λ n st.
     subst (RestsOn (shown c.args.maps.now.graph.now) c.args.m n) (sym c.alone-in_default.ensures) (alone_rests (shown c.args.maps.now.graph.now) c.args.m n (NoStep c.location-at.result) (λ a b r. r))
 
--- the node that answers
-answered : (g : PlainGraph) (m t s : ℕ) (o : Option ℕ) → o ≡ Some s
-    → IfSome o (λ s. (s < length g.nodes) × (steps_on (shown g) m s ≡ true) × (place_of g s ≡ place_of g t))
-    → (s < length g.nodes) × (steps_on (shown g) m s ≡ true) × (place_of g s ≡ place_of g t)
-answered g m t s o e h = subst (λ (o : Option ℕ). IfSome o (λ s. (s < length g.nodes) × (steps_on (shown g) m s ≡ true) × (place_of g s ≡ place_of g t))) e h
-
 pub went_before-requires-clause-pair : goal.went_before-requires-clause-pair
 went_before-requires-clause-pair c =
-    let a = answered c.args.maps.now.graph.now c.args.m c.args.t c.in-Some.s c.answer.result c.in-Some.is c.answer.ensures.some in
+    let a = answers c.args.maps.now.graph.now c.args.m c.args.t c.in-Some.is c.answer.ensures.some in
     record { left = a.0; right = c.requires.t; place = a.2 }
 
 pub returns-then-went_before-clause-why : goal.returns-then-went_before-clause-why
 returns-then-went_before-clause-why c =
     let g : PlainGraph = c.args.maps.now.graph.now in
     let f = c.args.fallen.now in
-    let m : ℕ = c.args.m in
     let t : ℕ = c.args.t in
-    let s : ℕ = c.in-Some.s in
     let l : is_listener g t ≡ false = ap (λ z. is_listener z t) (sym c.graph-graph.ensures) ∙ sym c.if-hears.ensures in
     let place : c.location-at.result ≡ place_of g t = c.location-at.ensures ∙ ap (λ z. place_of z t) c.graph-graph.ensures in
-    let a = answered g m t s c.answer.result c.in-Some.is c.answer.ensures.some in
-    let gone : went f c.args.round s t ≡ true = sym c.if-went_before.ensures in
     ap (λ (x : Fault). Some x.why) c.resting.ensures ∙ ap (λ z. Some (StepWorse z)) place
-    ∙ reason_step g m t (has_at f.onwards) (went f c.args.round) l (answer_alone g m t c.requires.single nobody s a.0 a.1 a.2)
-    (answer_alone g m t c.requires.single (went f c.args.round) s a.0 a.1 a.2 ∙ ap not gone)
+    ∙ reason_step g c.args.m t (has_at f.onwards) (went f c.args.round) l c.requires.single c.in-Some.s (answers g c.args.m t c.in-Some.is c.answer.ensures.some) (sym c.if-went_before.ensures)
 
 pub returns-then-went_before-clause-rests : goal.returns-then-went_before-clause-rests
 returns-then-went_before-clause-rests c = λ n st.
     let g : PlainGraph = c.args.maps.now.graph.now in
-    let m : ℕ = c.args.m in
     let t : ℕ = c.args.t in
     let s : ℕ = c.in-Some.s in
     let l : is_listener g t ≡ false = ap (λ z. is_listener z t) (sym c.graph-graph.ensures) ∙ sym c.if-hears.ensures in
     let place : c.location-at.result ≡ place_of g t = c.location-at.ensures ∙ ap (λ z. place_of z t) c.graph-graph.ensures in
-    let a = answered g m t s c.answer.result c.in-Some.is c.answer.ensures.some in
-    subst (RestsOn (shown g) m n) (sym (c.resting.ensures ∙ ap (λ z. record { why = StepWorse z; rests = Some (s, t) }) place)) (step_rests g m n t st l s a.1 a.2)
+    let a = answers g c.args.m t c.in-Some.is c.answer.ensures.some in
+    subst (RestsOn (shown g) c.args.m n) (sym (c.resting.ensures ∙ ap (λ z. record { why = StepWorse z; rests = Some (s, t) }) place)) (step_rests g c.args.m n t st l s a.1 a.2)
 
 pub returns-in_err-k-clause-why : goal.returns-in_err-k-clause-why
 returns-in_err-k-clause-why c =
     let g : PlainGraph = c.args.maps.now.graph.now in
     let f = c.args.fallen.now in
-    let m : ℕ = c.args.m in
     let t : ℕ = c.args.t in
-    let s : ℕ = c.in-Some.s in
     let l : is_listener g t ≡ false = ap (λ z. is_listener z t) (sym c.graph-graph.ensures) ∙ sym c.if-hears.ensures in
-    let a = answered g m t s c.answer.result c.in-Some.is c.answer.ensures.some in
-    let stays : went f c.args.round s t ≡ false = sym c.if-went_before.ensures in
     ap (option_map (λ (x : Fault). x.why)) c.from_residual.ensures ∙ ap (option_map (LoopWorse (place_of g t))) c.in_err-k.ensures
-    ∙ reason_loop g m t (has_at f.onwards) (went f c.args.round) l (answer_alone g m t c.requires.single nobody s a.0 a.1 a.2)
-    (answer_alone g m t c.requires.single (went f c.args.round) s a.0 a.1 a.2 ∙ ap not stays)
+    ∙ reason_loop g c.args.m t (has_at f.onwards) (went f c.args.round) l c.requires.single c.in-Some.s (answers g c.args.m t c.in-Some.is c.answer.ensures.some) (sym c.if-went_before.ensures)
 
 pub returns-clause-why : goal.returns-clause-why
 returns-clause-why c =
     let g : PlainGraph = c.args.maps.now.graph.now in
     let f = c.args.fallen.now in
-    let m : ℕ = c.args.m in
     let t : ℕ = c.args.t in
-    let s : ℕ = c.in-Some.s in
     let l : is_listener g t ≡ false = ap (λ z. is_listener z t) (sym c.graph-graph.ensures) ∙ sym c.if-hears.ensures in
     let place : c.location-at.result ≡ place_of g t = c.location-at.ensures ∙ ap (λ z. place_of z t) c.graph-graph.ensures in
-    let a = answered g m t s c.answer.result c.in-Some.is c.answer.ensures.some in
-    let stays : went f c.args.round s t ≡ false = sym c.if-went_before.ensures in
     ap (λ (x : Fault). Some x.why) c.resting-2.ensures ∙ ap (λ z. Some (LoopWorse z c.in_ok-k.k)) place ∙ ap (option_map (LoopWorse (place_of g t))) c.in_ok-k.ensures
-    ∙ reason_loop g m t (has_at f.onwards) (went f c.args.round) l (answer_alone g m t c.requires.single nobody s a.0 a.1 a.2)
-    (answer_alone g m t c.requires.single (went f c.args.round) s a.0 a.1 a.2 ∙ ap not stays)
+    ∙ reason_loop g c.args.m t (has_at f.onwards) (went f c.args.round) l c.requires.single c.in-Some.s (answers g c.args.m t c.in-Some.is c.answer.ensures.some) (sym c.if-went_before.ensures)
 
 pub returns-clause-rests : goal.returns-clause-rests
 returns-clause-rests c = λ n st.
     let g : PlainGraph = c.args.maps.now.graph.now in
-    let m : ℕ = c.args.m in
     let t : ℕ = c.args.t in
     let k : ℕ = c.in_ok-k.k in
     let l : is_listener g t ≡ false = ap (λ z. is_listener z t) (sym c.graph-graph.ensures) ∙ sym c.if-hears.ensures in
     let place : c.location-at.result ≡ place_of g t = c.location-at.ensures ∙ ap (λ z. place_of z t) c.graph-graph.ensures in
-    subst (RestsOn (shown g) m n) (sym (c.resting-2.ensures ∙ ap (λ z. record { why = LoopWorse z k; rests = Some (k, t) }) place)) (loop_rests g m n t st l k)
+    subst (RestsOn (shown g) c.args.m n) (sym (c.resting-2.ensures ∙ ap (λ z. record { why = LoopWorse z k; rests = Some (k, t) }) place)) (loop_rests g c.args.m n t st l k)

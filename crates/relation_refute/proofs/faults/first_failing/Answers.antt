@@ -1,9 +1,8 @@
-use Rattle.std.proofs.Common.{◌≡◌, ◌+◌, ◌<◌, ℕ, Bool, true, eqb, get_or, length, take, Option, arith, refl, sym, subst, ◌∙◌}
+use Rattle.std.proofs.Common.{◌≡◌, ◌+◌, ◌<◌, ℕ, Bool, true, get_or, length, take, Option, arith, sym, subst, ◌∙◌}
 use Rattle.std.specs.Option.{IfSome}
 use Rattle.std.specs.Prelude.{is_some}
-use Rattle.std.proofs.lemmas.Bool.{and_parts, eq-eqb}
+use Rattle.std.proofs.lemmas.Bool.{and_parts}
 use Rattle.std.proofs.lemmas.List.{take_all}
-use Rattle.std.proofs.lemmas.List.Folds.{list_any_at}
 use Rattle.bit_rows.specs.Tables.{has_at}
 use Rattle.graph_base.specs.Graphs.{PlainGraph}
 use Rattle.graph_base.specs.Runs.{has_step}
@@ -11,6 +10,7 @@ use Rattle.refutation_law.specs.Reasons.{reason_at}
 use Rattle.relation_refute.specs.Cells.{went}
 use Rattle.relation_refute.specs.Faults.{stands_before}
 use Rattle.state_simulation.specs.Looked.{shown}
+use Rattle.relation_refute.proofs.Faulting.{step_at}
 use Rattle.relation_refute.proofs.Firsts.{IsFirstOf, failing_first, failing_none, kept_first, taken_first}
 use Rattle.relation_refute.proofs.faults.first_failing.Goals as goal
 use Rattle.relation_refute.proofs.faults.first_failing.Goals.{then-fails, else-fails}
@@ -26,7 +26,7 @@ loop-t-preserved c =
     let i = c.loop-t.t-index in
     let s : ℕ = get_or nodes i 0 in
     let ls = c.successors-t-items.ensures.within i 0 c.loop-t-test.true in
-    let step : has_step g n s ≡ true = sym (c.successors-t-items.ensures.members s) ∙ list_any_at (λ x. eqb x s) nodes i 0 c.loop-t-test.true (eq-eqb s s refl) in
+    let step = step_at g n nodes i c.successors-t-items.ensures.members c.loop-t-test.true in
     elim c.if-fails.branch [
       | then-fails w ↦ (
           let hit = sym c.fails_first-fails.ensures ∙ w.if-fails.true in

@@ -1,12 +1,10 @@
-use Rattle.std.proofs.Common.{◌≡◌, ℕ, true, not, eqb, get_or, arith, refl, sym, ap, ◌∙◌}
-use Rattle.std.proofs.lemmas.Bool.{eq-eqb, not-true}
+use Rattle.std.proofs.Common.{◌≡◌, ℕ, not, get_or, arith, sym, ap, ◌∙◌}
+use Rattle.std.proofs.lemmas.Bool.{not-true}
 use Rattle.std.proofs.lemmas.List.{take_all}
-use Rattle.std.proofs.lemmas.List.Folds.{list_any_at}
 use Rattle.graph_base.specs.Graphs.{PlainGraph}
-use Rattle.graph_base.specs.Runs.{has_step}
 use Rattle.reach_prune.specs.Searches.{is_among}
 use Rattle.relation_refute.specs.Faults.{hears_there}
-use Rattle.relation_refute.proofs.Faulting.{heard_at, heard_none}
+use Rattle.relation_refute.proofs.Faulting.{heard_at, heard_none, step_at}
 use Rattle.state_simulation.proofs.Masking.{each_more}
 use Rattle.relation_refute.proofs.faults.is_heard_at.Goals as goal
 
@@ -18,7 +16,7 @@ returns-then-hears_there c =
     let s : ℕ = get_or nodes i 0 in
     let ls = c.successors-s-items.ensures.within i 0 c.loop-s-test.true in
     let is : c.hears_there.result ≡ hears_there g s c.args.t = rw c.graph.ensures at c.hears_there.ensures in
-    let step : has_step g c.args.m s ≡ true = sym (c.successors-s-items.ensures.members s) ∙ list_any_at (λ x. eqb x s) nodes i 0 c.loop-s-test.true (eq-eqb s s refl) in
+    let step = step_at g c.args.m nodes i c.successors-s-items.ensures.members c.loop-s-test.true in
     sym (heard_at g c.args.m c.args.t s ls step (sym is ∙ c.if-hears_there.true))
 
 pub loop-s-preserved : goal.loop-s-preserved

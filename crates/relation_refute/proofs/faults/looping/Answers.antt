@@ -1,8 +1,7 @@
-use Rattle.std.proofs.Common.{◌≡◌, length, arith, sym, ap, ◌∙◌, inl, inr}
-use Rattle.std.proofs.lemmas.Bool.{cases_lt}
+use Rattle.std.proofs.Common.{length, arith, sym, ap, ◌∙◌}
 use Rattle.graph_base.specs.Graphs.{PlainGraph}
 use Rattle.relation_refute.specs.Faults.{loops_there}
-use Rattle.relation_refute.proofs.Faulting.{least_at, least_none}
+use Rattle.relation_refute.proofs.Faulting.{least_at, least_none, none_more}
 use Rattle.relation_refute.proofs.faults.looping.Goals as goal
 
 pub returns-then-loops_there : goal.returns-then-loops_there
@@ -14,12 +13,9 @@ returns-then-loops_there c =
     least_at (length g.nodes) p c.loop-k.k (omega (arith, c.loop-k-test.true, nodes, same)) (sym c.loops_there.ensures ∙ c.if-loops_there.true) c.loop-k.invariant
 
 pub loop-k-preserved : goal.loop-k-preserved
-loop-k-preserved c = λ j lt. elim (cases_lt j c.loop-k.k) [
-  | inl t ↦ c.loop-k.invariant j t
-  | inr t ↦ (
-      let same : j ≡ c.loop-k.k = omega (arith, lt, t) in
-      ap (loops_there c.args.maps.now.graph.now c.args.fallen.now c.args.round c.args.m c.args.t) same ∙ sym c.loops_there.ensures ∙ c.if-loops_there.false)
-]
+loop-k-preserved c =
+    none_more (loops_there c.args.maps.now.graph.now c.args.fallen.now c.args.round c.args.m c.args.t) c.loop-k.k c.loop-k.invariant
+    (sym c.loops_there.ensures ∙ c.if-loops_there.false)
 
 pub returns : goal.returns
 returns c =

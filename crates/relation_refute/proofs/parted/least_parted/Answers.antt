@@ -1,10 +1,9 @@
-use Rattle.std.proofs.Common.{◌≡◌, ◌&&◌, ℕ, Bool, length, arith, sym, ap, ◌∙◌, inl, inr}
-use Rattle.std.proofs.lemmas.Bool.{cases_lt}
+use Rattle.std.proofs.Common.{◌&&◌, ℕ, Bool, length, arith, sym, ap, ◌∙◌}
 use Rattle.graph_base.specs.Graphs.{PlainGraph}
 use Rattle.relation_law.specs.Rounds.{same_place}
 use Rattle.relation_refute.specs.Cells.{are_parted}
 use Rattle.state_simulation.specs.Looked.{shown}
-use Rattle.relation_refute.proofs.Faulting.{least_at, least_none}
+use Rattle.relation_refute.proofs.Faulting.{least_at, least_none, none_more}
 use Rattle.relation_refute.proofs.parted.least_parted.Goals as goal
 
 pub returns-then-is_parted_from : goal.returns-then-is_parted_from
@@ -16,12 +15,9 @@ returns-then-is_parted_from c =
     least_at (length g.nodes) p c.loop-m.m (omega (arith, c.loop-m-test.true, nodes, same)) (sym c.is_parted_from.ensures ∙ c.if-is_parted_from.true) c.loop-m.invariant
 
 pub loop-m-preserved : goal.loop-m-preserved
-loop-m-preserved c = λ j lt. elim (cases_lt j c.loop-m.m) [
-  | inl t ↦ c.loop-m.invariant j t
-  | inr t ↦ (
-      let same : j ≡ c.loop-m.m = omega (arith, lt, t) in
-      ap (λ m. same_place (shown c.args.maps.now.graph.now) m c.args.n && are_parted c.args.cells.now m c.args.n) same ∙ sym c.is_parted_from.ensures ∙ c.if-is_parted_from.false)
-]
+loop-m-preserved c =
+    none_more (λ m. same_place (shown c.args.maps.now.graph.now) m c.args.n && are_parted c.args.cells.now m c.args.n) c.loop-m.m c.loop-m.invariant
+    (sym c.is_parted_from.ensures ∙ c.if-is_parted_from.false)
 
 pub returns : goal.returns
 returns c =

@@ -1,5 +1,6 @@
 use Rattle.std.proofs.Common.{◌<◌, ◌||◌, ◌&&◌, eqb, arith, ap, ◌∙◌}
 use Rattle.list_laws.proofs.Numbers.{next_below}
+use Rattle.state_simulation.proofs.Sizes.{size_then}
 use Rattle.state_simulation.proofs.apart.own_rows.Goals as goal
 
 pub loop-node-preserved : goal.loop-node-preserved
@@ -9,7 +10,7 @@ loop-node-preserved c =
     let node = c.loop-node.node in
     let size = c.set.ensures.size in
     record {
-      size = record { count = size.count ∙ inv.size.count; bits = size.bits ∙ inv.size.bits; width = size.width ∙ inv.size.width };
+      size = size_then size inv.size;
       bits = λ n b ln.
           let before : n < old.count = omega (arith, ln, size.count) in
           c.set.ensures.bits n b before ∙ ap (λ z. z || (eqb n node && eqb b node)) (inv.bits n b before) ∙ next_below n node (λ y. eqb b y);

@@ -2,6 +2,7 @@ use Rattle.std.proofs.Common.{◌<◌, ℕ, eqb, arith, sym, ap, ◌∙◌, inl,
 use Rattle.std.proofs.lemmas.Bool.{cases_eq, cond-false, cond-true, eq-eqb, ne_eqb}
 use Rattle.bit_rows.specs.Bits.{has}
 use Rattle.bit_rows.specs.Tables.{has_at}
+use Rattle.state_simulation.proofs.Sizes.{size_then}
 use Rattle.state_simulation.proofs.copies.put_rows.Goals as goal
 
 pub put-requires-clause-words : goal.put-requires-clause-words
@@ -20,7 +21,7 @@ loop-n-preserved c =
     let n : ℕ = c.loop-n.n in
     let put = c.put.ensures in
     record {
-      size = record { count = put.size.count ∙ inv.size.count; bits = put.size.bits ∙ inv.size.bits; width = put.size.width ∙ inv.size.width };
+      size = size_then put.size inv.size;
       bits = λ r b lr.
           let inside : r < c.loop-n.into.count = omega (arith, lr, c.loop-n-test.true, inv.size.count, c.requires.square.count) in
           put.bits r b inside ∙ elim (cases_eq r n) [

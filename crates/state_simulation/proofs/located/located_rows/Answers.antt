@@ -2,6 +2,7 @@ use Rattle.std.proofs.Common.{◌||◌, ◌&&◌, eqb, arith, ap, ◌∙◌}
 use Rattle.bit_rows.specs.Tables.{has_at}
 use Rattle.graph_base.specs.Runs.{place_of}
 use Rattle.state_simulation.proofs.Locating.{row_more}
+use Rattle.state_simulation.proofs.Sizes.{size_then}
 use Rattle.state_simulation.proofs.located.located_rows.Goals as goal
 
 pub loop-node-preserved : goal.loop-node-preserved
@@ -12,7 +13,7 @@ loop-node-preserved c =
     let node = c.loop-node.node in
     let size = c.set.ensures.size in
     record {
-      size = record { count = size.count ∙ inv.size.count; bits = size.bits ∙ inv.size.bits; width = size.width ∙ inv.size.width };
+      size = size_then size inv.size;
       nodes = λ p n lp. row_more (place_of c.args.graph.now) node p n (has_at old p n) (has_at new p n) (inv.nodes p n (omega (arith, lp, size.count)))
           (c.set.ensures.bits p n (omega (arith, lp, size.count)) ∙ ap (λ z. has_at old p n || (eqb p z && eqb n node)) (c.number.ensures ∙ c.location.ensures));
     }

@@ -3,6 +3,7 @@ use Rattle.bit_rows.specs.Tables.{PlainRows, has_at}
 use Rattle.relation_law.specs.Views.{view_of}
 use Rattle.state_simulation.specs.Targets.{is_outranked}
 use Rattle.state_simulation.proofs.Masking.{above_more, above_same}
+use Rattle.state_simulation.proofs.Sizes.{size_then, size_where}
 use Rattle.state_simulation.proofs.pairs.add_each.Goals as goal
 use Rattle.state_simulation.proofs.pairs.add_each.Goals.{then-not-is_outranked, else-not-is_outranked}
 
@@ -18,11 +19,7 @@ loop-m-preserved c =
       | then-not-is_outranked w ↦ (
           let same = w.rows-is in
           record {
-            size = record {
-              count = ap (λ (z : PlainRows). z.count) same ∙ w.set.ensures.size.count ∙ inv.size.count;
-              bits = ap (λ (z : PlainRows). z.bits) same ∙ w.set.ensures.size.bits ∙ inv.size.bits;
-              width = ap (λ (z : PlainRows). z.width) same ∙ w.set.ensures.size.width ∙ inv.size.width;
-            };
+            size = size_where same (size_then w.set.ensures.size inv.size);
             bits = λ r b lt. ap (λ (z : PlainRows). has_at z r b) same
                 ∙ above_more nodes i b n r hit (has_at c.args.rows.now r b) (has_at c.loop-m.rows r b) c.loop-m-test.true (inv.bits r b lt) (has_at w.set.new.self r b)
                 (ap not (sym asked ∙ w.if-not-is_outranked.true)) (w.set.ensures.bits r b (omega (arith, lt, inv.size.count, c.requires.rows.count)));
@@ -30,11 +27,7 @@ loop-m-preserved c =
       | else-not-is_outranked w ↦ (
           let same = w.rows-is in
           record {
-            size = record {
-              count = ap (λ (z : PlainRows). z.count) same ∙ inv.size.count;
-              bits = ap (λ (z : PlainRows). z.bits) same ∙ inv.size.bits;
-              width = ap (λ (z : PlainRows). z.width) same ∙ inv.size.width;
-            };
+            size = size_where same inv.size;
             bits = λ r b lt. ap (λ (z : PlainRows). has_at z r b) same
                 ∙ above_same nodes i b n r hit (has_at c.args.rows.now r b) (has_at c.loop-m.rows r b) c.loop-m-test.true (inv.bits r b lt) (ap not (sym asked ∙ w.if-not-is_outranked.false));
           })

@@ -3,6 +3,7 @@ use Rattle.bit_rows.specs.Bits.{has}
 use Rattle.bit_rows.specs.Tables.{has_at}
 use Rattle.reach_prune.specs.Searches.{is_among}
 use Rattle.state_simulation.proofs.Masking.{among_more, kept_more}
+use Rattle.state_simulation.proofs.Sizes.{size_then}
 use Rattle.state_simulation.proofs.taking.keep_each.Goals as goal
 
 pub loop-n-preserved : goal.loop-n-preserved
@@ -11,7 +12,7 @@ loop-n-preserved c =
     let nodes = c.args.nodes.now in
     let i = c.loop-n.n-index in
     record {
-      size = record { count = c.keep.ensures.size.count ∙ inv.size.count; bits = c.keep.ensures.size.bits ∙ inv.size.bits; width = c.keep.ensures.size.width ∙ inv.size.width };
+      size = size_then c.keep.ensures.size inv.size;
       bits = λ r b lt.
           c.keep.ensures.bits r b (omega (arith, lt, inv.size.count)) ∙ ap (λ z. z && (not (eqb r (get_or nodes i 0)) || has c.args.mask.now b)) (inv.bits r b lt)
           ∙ kept_more (has_at c.args.rows.now r b) (is_among (take i nodes) r) (eqb r (get_or nodes i 0)) (has c.args.mask.now b)

@@ -1,9 +1,10 @@
 use Rattle.std.proofs.Common.{◌≡◌, ◌<◌, ℕ, Bool, true, false, cond, not, ◌&&◌, ◌||◌, eqb, length, length-set, arith, inl, inr, sym, ap, ◌∙◌}
 use Rattle.std.proofs.lemmas.Bool.{and_left, both_ways, cases_eq, cases_lt, cond-false, cond-true, eq-eqb, ne_eqb, not-true, not-false}
 use Rattle.bit_rows.specs.Bits.{has}
-use Rattle.bit_rows.specs.Tables.{PlainRows, has_at, row_of}
+use Rattle.bit_rows.specs.Tables.{IsSameSize, PlainRows, has_at, row_of}
 use Rattle.state_simulation.specs.Targets.{differs}
 use Rattle.state_simulation.proofs.Putting.{put_more, same_bit, some_bit}
+use Rattle.state_simulation.proofs.Sizes.{size_then, size_where}
 use Rattle.state_simulation.proofs.taking.put_each.Goals as goal
 use Rattle.state_simulation.proofs.taking.put_each.Goals.{then-is_lost, else-is_lost}
 
@@ -33,42 +34,30 @@ loop-n-preserved c =
           absurd (both_ways _ (c.row-in-loop-n-2.ensures.table.clear n b (omega (arith, lt, c.requires.next.count, c.requires.left.count))
           (omega (arith, past, c.requires.next.bits, c.requires.left.bits))) h)
     ]) (none e b) in
-    elim c.if-is_lost.branch [
+    let turned : IsSameSize c.if-is_lost.left c.args.left.now
+    × ((r b : ℕ) → r < size → has_at c.if-is_lost.left r b ≡ cond (eqb r n) (has_at next n b) (has_at left r b))
+    × (c.if-is_lost.changed ≡ (lost || c.loop-n.changed)) = elim c.if-is_lost.branch [
       | then-is_lost w ↦ (
-          let is : lost ≡ true = ap not w.if-is_lost.true in
-          let size_put = w.put.ensures.size in
-          let bits : (r b : ℕ) → r < size → has_at c.if-is_lost.left r b ≡ cond (eqb r n) (has_at next n b) (has_at left r b) = λ r b lr.
-          ap (λ (z : PlainRows). has_at z r b) w.left-is ∙ w.put.ensures.bits r b (omega (arith, lr, inv.size.count, c.requires.left.count))
-          ∙ ap (λ l. cond (eqb r n) (has l b) (has_at left r b)) w.row-then-is_lost.ensures.words in
-          let changed : c.if-is_lost.changed ≡ (lost || c.loop-n.changed) = w.changed-is ∙ sym (ap (λ z. z || c.loop-n.changed) is) in
-          record {
-            size =
-                record {
-                  count = ap (λ (z : PlainRows). z.count) w.left-is ∙ size_put.count ∙ inv.size.count;
-                  bits = ap (λ (z : PlainRows). z.bits) w.left-is ∙ size_put.bits ∙ inv.size.bits;
-                  width = ap (λ (z : PlainRows). z.width) w.left-is ∙ size_put.width ∙ inv.size.width;
-                };
-            len = length-set c.loop-n.touched n lost ∙ inv.len;
-            put = rw changed (put_more next c.args.left.now left c.if-is_lost.left c.loop-n.touched c.loop-n.changed lost size n lt inv.len inv.put inv.rest bits none some);
-            rest = λ r b le lr. bits r b lr ∙ cond-false (eqb r n) (has_at next n b) (has_at left r b) (ne_eqb _ _ (λ e. omega (arith, le, e))) ∙ inv.rest r b (omega (arith, le)) lr;
-          })
+          let is : lost ≡ true = ap not w.if-is_lost.true in (
+            size_where w.left-is (size_then w.put.ensures.size inv.size),
+            λ r b lr. ap (λ (z : PlainRows). has_at z r b) w.left-is ∙ w.put.ensures.bits r b (omega (arith, lr, inv.size.count, c.requires.left.count))
+                ∙ ap (λ l. cond (eqb r n) (has l b) (has_at left r b)) w.row-then-is_lost.ensures.words,
+            w.changed-is ∙ sym (ap (λ z. z || c.loop-n.changed) is),
+          ))
       | else-is_lost w ↦ (
-          let is : lost ≡ false = ap not w.if-is_lost.false in
-          let bits : (r b : ℕ) → r < size → has_at c.if-is_lost.left r b ≡ cond (eqb r n) (has_at next n b) (has_at left r b) = λ r b lr.
-          ap (λ (z : PlainRows). has_at z r b) w.left-is ∙ elim (cases_eq r n) [
-            | inl e ↦ ap (λ z. has_at left z b) e ∙ same is b ∙ sym (cond-true (eqb r n) (has_at next n b) (has_at left r b) (eq-eqb _ _ e))
-            | inr ne ↦ sym (cond-false (eqb r n) (has_at next n b) (has_at left r b) (ne_eqb _ _ ne))
-          ] in
-          let changed : c.if-is_lost.changed ≡ (lost || c.loop-n.changed) = w.changed-is ∙ sym (ap (λ z. z || c.loop-n.changed) is) in
-          record {
-            size =
-                record {
-                  count = ap (λ (z : PlainRows). z.count) w.left-is ∙ inv.size.count;
-                  bits = ap (λ (z : PlainRows). z.bits) w.left-is ∙ inv.size.bits;
-                  width = ap (λ (z : PlainRows). z.width) w.left-is ∙ inv.size.width;
-                };
-            len = length-set c.loop-n.touched n lost ∙ inv.len;
-            put = rw changed (put_more next c.args.left.now left c.if-is_lost.left c.loop-n.touched c.loop-n.changed lost size n lt inv.len inv.put inv.rest bits none some);
-            rest = λ r b le lr. bits r b lr ∙ cond-false (eqb r n) (has_at next n b) (has_at left r b) (ne_eqb _ _ (λ e. omega (arith, le, e))) ∙ inv.rest r b (omega (arith, le)) lr;
-          })
-    ]
+          let is : lost ≡ false = ap not w.if-is_lost.false in (
+            size_where w.left-is inv.size,
+            λ r b lr. ap (λ (z : PlainRows). has_at z r b) w.left-is ∙ elim (cases_eq r n) [
+              | inl e ↦ ap (λ z. has_at left z b) e ∙ same is b ∙ sym (cond-true (eqb r n) (has_at next n b) (has_at left r b) (eq-eqb _ _ e))
+              | inr ne ↦ sym (cond-false (eqb r n) (has_at next n b) (has_at left r b) (ne_eqb _ _ ne))
+            ],
+            w.changed-is ∙ sym (ap (λ z. z || c.loop-n.changed) is),
+          ))
+    ] in
+    let changed = turned.2 in
+    record {
+      size = turned.0;
+      len = length-set c.loop-n.touched n lost ∙ inv.len;
+      put = rw changed (put_more next c.args.left.now left c.if-is_lost.left c.loop-n.touched c.loop-n.changed lost size n lt inv.len inv.put inv.rest turned.1 none some);
+      rest = λ r b le lr. turned.1 r b lr ∙ cond-false (eqb r n) (has_at next n b) (has_at left r b) (ne_eqb _ _ (λ e. omega (arith, le, e))) ∙ inv.rest r b (omega (arith, le)) lr;
+    }

@@ -12,6 +12,7 @@ use Rattle.relation_law.specs.Rounds.{fails_at}
 use Rattle.state_simulation.specs.Looked.{shown}
 use Rattle.state_simulation.specs.Targets.{IsMaskOf, gone_in, is_touched, tells}
 use Rattle.state_simulation.proofs.Masking.{located_any, taken_more}
+use Rattle.state_simulation.proofs.Sizes.{size_then, size_where}
 use Rattle.state_simulation.proofs.taking.take_each.Goals as goal
 use Rattle.state_simulation.proofs.taking.take_each.Goals.{then-touched-t, else-touched-t}
 
@@ -31,13 +32,8 @@ loop-t-preserved c =
     elim c.if-touched-t.branch [
       | then-touched-t w ↦ (
           let is : is_touched c.args.touched.now t ≡ true = w.if-touched-t.true in
-          let size = w.keep_each.ensures.size in
           record {
-            size = record {
-              count = ap (λ (z : PlainRows). z.count) w.next-is ∙ size.count ∙ inv.size.count;
-              bits = ap (λ (z : PlainRows). z.bits) w.next-is ∙ size.bits ∙ inv.size.bits;
-              width = ap (λ (z : PlainRows). z.width) w.next-is ∙ size.width ∙ inv.size.width;
-            };
+            size = size_where w.next-is (size_then w.keep_each.ensures.size inv.size);
             mask = ap length w.mask-is ∙ w.make_mask.ensures.len ∙ inv.mask;
             looped = ap length w.looped-is ∙ w.make_mask.ensures.looped ∙ inv.looped;
             held = subst (λ (o : Option ℕ). IfSome o (λ s. s < length g.nodes)) (sym w.held-is) lt;
@@ -55,11 +51,7 @@ loop-t-preserved c =
       | else-touched-t w ↦ (
           let is : is_touched c.args.touched.now t ≡ false = w.if-touched-t.false in
           record {
-            size = record {
-              count = ap (λ (z : PlainRows). z.count) w.next-is ∙ inv.size.count;
-              bits = ap (λ (z : PlainRows). z.bits) w.next-is ∙ inv.size.bits;
-              width = ap (λ (z : PlainRows). z.width) w.next-is ∙ inv.size.width;
-            };
+            size = size_where w.next-is inv.size;
             mask = ap length w.mask-is ∙ inv.mask;
             looped = ap length w.looped-is ∙ inv.looped;
             held = subst (λ (o : Option ℕ). IfSome o (λ s. s < length g.nodes)) (sym w.held-is) inv.held;

@@ -4,36 +4,28 @@ use Rattle.std.proofs.lemmas.List.{get_or_default}
 use Rattle.bit_rows.specs.Bits.{has}
 use Rattle.bit_rows.specs.Tables.{IsTable, PlainRows, has_at}
 use Rattle.bit_rows.proofs.Joining.{joined_bits, joined_more, joined_rest, joined_table, rows_apart}
-use Rattle.bit_rows.proofs.Tables.{row_ends}
+use Rattle.bit_rows.proofs.Writing.{plain, row_inside}
 use Rattle.bit_rows.proofs.rows.Rows.or_row.Goals as goal
 use Rattle.bit_rows.proofs.rows.Rows.or_row.Goals.{After-loop-i}
 
 pub index-requires : goal.index-requires
 index-requires c =
-    let r : PlainRows = record { count = c.self.inside.count; bits = c.self.inside.bits; width = c.self.inside.width; words = c.self.inside.words.items } in
-    let view : r ≡ c.args.self.now = c.self.view_is in
-    let lt : c.args.from < r.count = omega (arith, c.requires.from, ap (λ (t : PlainRows). t.count) view) in
-    omega (arith, row_ends r c.args.from c.self.invariant lt, c.loop-i.invariant.len, ap (λ (t : PlainRows). length t.words) view, c.loop-i.self-inside.words.ok.0)
+    let ends = row_inside c.self.inside c.args.self.now c.self.view_is c.self.invariant c.args.from c.requires.from in
+    omega (arith, ends, c.loop-i.invariant.len, c.loop-i.self-inside.words.ok.0)
 
 pub index_mut-requires : goal.index_mut-requires
 index_mut-requires c =
-    let r : PlainRows = record { count = c.self.inside.count; bits = c.self.inside.bits; width = c.self.inside.width; words = c.self.inside.words.items } in
-    let view : r ≡ c.args.self.now = c.self.view_is in
-    let lt : c.args.into < r.count = omega (arith, c.requires.into, ap (λ (t : PlainRows). t.count) view) in
-    omega (arith, row_ends r c.args.into c.self.invariant lt, c.loop-i.invariant.len, ap (λ (t : PlainRows). length t.words) view, c.loop-i.self-inside.words.ok.0)
+    let ends = row_inside c.self.inside c.args.self.now c.self.view_is c.self.invariant c.args.into c.requires.into in
+    omega (arith, ends, c.loop-i.invariant.len, c.loop-i.self-inside.words.ok.0)
 
 pub loop-i-preserved : goal.loop-i-preserved
 loop-i-preserved c =
-    let r : PlainRows = record { count = c.self.inside.count; bits = c.self.inside.bits; width = c.self.inside.width; words = c.self.inside.words.items } in
-    let view : r ≡ c.args.self.now = c.self.view_is in
-    let lt : c.args.into < r.count = omega (arith, c.requires.into, ap (λ (t : PlainRows). t.count) view) in
     let inv = c.loop-i.invariant in
     let now : List ℕ = c.loop-i.self-inside.words.items in
     let to : ℕ = c.args.into * c.self.inside.width in
     let at : ℕ = c.args.from * c.self.inside.width in
-    let inside : to + c.loop-i.i < length now = omega (arith, row_ends r c.args.into c.self.invariant lt, inv.len, ap (λ (t : PlainRows). length t.words) view, c.loop-i-test.true) in
-    let from : c.args.from < r.count = omega (arith, c.requires.from, ap (λ (t : PlainRows). t.count) view) in
-    let inside_at : at + c.loop-i.i < length now = omega (arith, row_ends r c.args.from c.self.invariant from, inv.len, ap (λ (t : PlainRows). length t.words) view, c.loop-i-test.true) in
+    let inside : to + c.loop-i.i < length now = omega (arith, row_inside c.self.inside c.args.self.now c.self.view_is c.self.invariant c.args.into c.requires.into, inv.len, c.loop-i-test.true) in
+    let inside_at : at + c.loop-i.i < length now = omega (arith, row_inside c.self.inside c.args.self.now c.self.view_is c.self.invariant c.args.from c.requires.from, inv.len, c.loop-i-test.true) in
     let apart = rows_apart c.args.into c.args.from c.self.inside.width in
     let read_to : c.index_mut.result.now ≡ get_or now (to + c.loop-i.i) 0 = c.index_mut.ensures.value ∙ get_or_default now (to + c.loop-i.i) c.index_mut.result.now 0 inside in
     let read_at : c.index.result.now ≡ get_or now (at + c.loop-i.i) 0 = c.index.ensures ∙ get_or_default now (at + c.loop-i.i) c.index.result.now 0 inside_at in
@@ -48,7 +40,7 @@ loop-i-preserved c =
 
 module _ (c : After-loop-i) where
   r : PlainRows
-  r = record { count = c.self.inside.count; bits = c.self.inside.bits; width = c.self.inside.width; words = c.self.inside.words.items }
+  r = plain c.self.inside
 
   words : List ℕ
   words = c.loop-i.self-inside.words.items

@@ -1,56 +1,27 @@
-use Rattle.std.proofs.Common.{◌≡◌, ◌≢◌, ℕ, ◌+◌, ◌*◌, ◌-◌, ◌<◌, ◌≤◌, true, false, ◌&&◌, ◌||◌, eqb, List, length, arith, sym, ap, ◌∙◌, inl, inr}
-use Rattle.std.proofs.lemmas.Bool.{cases_eq, cond-true, cond-false, eq-eqb, ne_eqb}
-use Rattle.std.proofs.lemmas.List.{with_items_is}
+use Rattle.std.proofs.Common.{◌≡◌, ◌≢◌, Bool, true, false, ◌&&◌, ◌||◌, cond, eqb, refl, sym, ap, ◌∙◌, arith}
+use Rattle.std.proofs.lemmas.Bool.{ne_eqb}
 use Rattle.std.proofs.Math.Bool.{or-false}
-use borrow.Rule.Slice.PartMut.{put_mid}
 use Rattle.bit_rows.specs.Bits.{has}
-use Rattle.bit_rows.specs.Tables.{PlainRows, has_at, row_of}
-use Rattle.bit_rows.proofs.Tables.{length-put_mid, put_bits, put_table, row_ends, row_part, row_wide}
+use Rattle.bit_rows.specs.Tables.{has_at}
+use Rattle.bit_rows.proofs.Writing.{Lends, changed_bits, lent_clear, lent_row, lent_wide, written_table}
 use Rattle.bit_rows.proofs.rows.Rows.set.Goals as goal
 
 pub invariant_of-self : goal.invariant_of-self
 invariant_of-self c =
-    let r : PlainRows = record { count = c.self.inside.count; bits = c.self.inside.bits; width = c.self.inside.width; words = c.self.inside.words.items } in
-    let view : r ≡ c.args.self.now = c.self.view_is in
-    let lt : c.args.row < r.count = omega (arith, c.requires.row, ap (λ (t : PlainRows). t.count) view) in
-    let k : ℕ = (c.args.row * r.width + r.width) - c.args.row * r.width in
-    let wide : k ≡ r.width = omega arith in
-    let part : List ℕ = c.deref_mut.result.now in
-    let same : part ≡ r.words = c.deref_mut.ensures.value in
-    let ys : List ℕ = c.set_bit.new.row in
-    let len : length ys ≡ r.width = c.set_bit.ensures.len ∙ ap length (row_part r c.args.row part same) ∙ row_wide r c.args.row c.self.invariant lt in
-    let whole : length (put_mid (c.args.row * r.width) k part ys) ≡ c.self.inside.words.len = length-put_mid (c.args.row * r.width) k part ys
-    (omega (arith, row_ends r c.args.row c.self.invariant lt, ap length same, wide)) (len ∙ sym wide)
-    ∙ omega (arith, ap length same, c.self.inside.words.ok.0) in
-    put_table r c.args.row c.self.invariant lt _ part ys same k wide len (with_items_is c.self.inside.words (put_mid (c.args.row * r.width) k part ys) whole) (λ b le.
-    let has_not : has (row_of r c.args.row) b ≡ false = c.self.invariant.clear c.args.row b lt le in
-    let apart : b ≢ c.args.bit = (λ e. let le_bits : r.bits ≤ b = le in absurd (omega (arith, e, le_bits, c.requires.bit, ap (λ (t : PlainRows). t.bits) view))) in
-    c.set_bit.ensures.bits b ∙ ap (λ l. has l b || eqb b c.args.bit) (row_part r c.args.row part same) ∙ ap (λ z. z || eqb b c.args.bit) has_not ∙ ne_eqb _ _ apart)
+    let rows = c.args.self.now in
+    let lends : Lends c.self.inside rows c.args.row c.deref_mut.result.now = record { view = c.self.view_is; table = c.self.invariant; few = c.requires.row; same = c.deref_mut.ensures.value } in
+    written_table lends c.set_bit.new.row (c.set_bit.ensures.len ∙ lent_wide lends) (λ b le.
+    let apart : b ≢ c.args.bit = λ e. omega (arith, e, le, c.requires.bit) in
+    c.set_bit.ensures.bits b ∙ ap (λ l. has l b || eqb b c.args.bit) (lent_row lends) ∙ ap (λ z. z || eqb b c.args.bit) (lent_clear lends b le) ∙ ne_eqb _ _ apart)
 
 pub returns-clause-bits : goal.returns-clause-bits
 returns-clause-bits c = λ other b lo.
-    let r : PlainRows = record { count = c.self.inside.count; bits = c.self.inside.bits; width = c.self.inside.width; words = c.self.inside.words.items } in
-    let view : r ≡ c.args.self.now = c.self.view_is in
-    let lt : c.args.row < r.count = omega (arith, c.requires.row, ap (λ (t : PlainRows). t.count) view) in
-    let k : ℕ = (c.args.row * r.width + r.width) - c.args.row * r.width in
-    let wide : k ≡ r.width = omega arith in
-    let part : List ℕ = c.deref_mut.result.now in
-    let same : part ≡ r.words = c.deref_mut.ensures.value in
-    let ys : List ℕ = c.set_bit.new.row in
-    let len : length ys ≡ r.width = c.set_bit.ensures.len ∙ ap length (row_part r c.args.row part same) ∙ row_wide r c.args.row c.self.invariant lt in
-    let whole : length (put_mid (c.args.row * r.width) k part ys) ≡ c.self.inside.words.len = length-put_mid (c.args.row * r.width) k part ys
-    (omega (arith, row_ends r c.args.row c.self.invariant lt, ap length same, wide)) (len ∙ sym wide)
-    ∙ omega (arith, ap length same, c.self.inside.words.ok.0) in
-    put_bits r c.args.row c.self.invariant lt _ part ys same k wide len (with_items_is c.self.inside.words (put_mid (c.args.row * r.width) k part ys) whole) other b
-    ∙ elim (cases_eq other c.args.row) [
-      | inl e ↦
-          cond-true (eqb other c.args.row) (has ys b) (has_at r other b) (eq-eqb _ _ e) ∙ c.set_bit.ensures.bits b
-          ∙ ap (λ l. has l b || eqb b c.args.bit) (row_part r c.args.row part same)
-          ∙ ap (λ (t : PlainRows). has_at t c.args.row b || eqb b c.args.bit) view
-          ∙ ap (λ o. has_at c.args.self.now o b || eqb b c.args.bit) (sym e)
-          ∙ sym (ap (λ z. has_at c.args.self.now other b || (z && eqb b c.args.bit)) (eq-eqb _ _ e))
-      | inr n ↦
-          cond-false (eqb other c.args.row) (has ys b) (has_at r other b) (ne_eqb _ _ n) ∙ ap (λ (t : PlainRows). has_at t other b) view
-          ∙ sym (or-false (has_at c.args.self.now other b))
-          ∙ sym (ap (λ z. has_at c.args.self.now other b || (z && eqb b c.args.bit)) (ne_eqb _ _ n))
-    ]
+    let rows = c.args.self.now in
+    let lends : Lends c.self.inside rows c.args.row c.deref_mut.result.now = record { view = c.self.view_is; table = c.self.invariant; few = c.requires.row; same = c.deref_mut.ensures.value } in
+    changed_bits lends c.set_bit.new.row (c.set_bit.ensures.len ∙ lent_wide lends) (λ z. z || eqb b c.args.bit) other b
+    (c.set_bit.ensures.bits b ∙ ap (λ l. has l b || eqb b c.args.bit) (lent_row lends))
+    ∙ added (eqb other c.args.row) (has_at rows other b) (eqb b c.args.bit)
+  where
+    added : (here old more : Bool) → cond here (old || more) old ≡ (old || (here && more))
+    added true old more = refl
+    added false old more = sym (or-false old)

@@ -1,16 +1,8 @@
-use Rattle.std.proofs.Common.{◌≡◌, ◌<◌, ◌+◌, [], length, drop, arith, ap, ◌∙◌}
-use Rattle.std.specs.Prelude.{slice_set}
-use Rattle.event_state.specs.States.{state_of}
-use Rattle.event_state.proofs.Written.{at_way, queue_written}
+use Rattle.std.proofs.Common.{drop}
+use Rattle.event_state.proofs.Written.{queue_changed}
 use Rattle.event_state.proofs.world.World.pop.Goals as goal
 
 pub returns-clause-world : goal.returns-clause-world
 returns-clause-world c =
-    let w = c.args.self.now in
-    let long : length w.queues.items ≡ length w.net.now.links + length w.net.now.links = w.by_direction.2 in
-    let less : c.way-place.result < length w.queues.items = omega (arith, long, c.way-place.ensures.within) in
-    let held = at_way w.net.now w.queues.items [] c.index_mut.result.now c.args.from c.args.to c.way-place.result c.way-place.ensures.number less c.index_mut.ensures.value in
-    ap (λ ms. state_of w.net.now w.down.items w.routes.items w.cut.items w.silent.items (slice_set w.queues.items c.way-place.result ms) w.heard.items
-    w.queued.items) (c.pop.ensures ∙ ap (drop 1) held)
-    ∙ queue_written w.net.now c.way-place.ensures.rules w.down.items w.routes.items w.cut.items w.silent.items w.queues.items w.heard.items
-    w.queued.items c.args.from c.args.to c.way-place.result _ c.way-place.ensures.number less
+    queue_changed c.args.self.now c.args.from c.args.to c.way-place.result c.way-place.ensures.number c.way-place.ensures.within c.way-place.ensures.rules
+    (drop 1) c.index_mut.result.now _ c.index_mut.ensures.value c.pop.ensures

@@ -1,14 +1,7 @@
-use Rattle.std.proofs.Common.{◌≡◌, ◌<◌, ◌+◌, length, arith, ap, ◌∙◌}
-use Rattle.std.specs.Prelude.{slice_set}
-use Rattle.event_state.specs.States.{state_of}
 use Rattle.event_state.proofs.Written.{queue_written}
 use Rattle.event_state.proofs.world.World.swap_queue.Goals as goal
 
 pub returns-clause-world : goal.returns-clause-world
 returns-clause-world c =
-    let w = c.args.self.now in
-    let long : length w.queues.items ≡ length w.net.now.links + length w.net.now.links = w.by_direction.2 in
-    let less : c.way-place.result < length w.queues.items = omega (arith, long, c.way-place.ensures.within) in
-    ap (λ ms. state_of w.net.now w.down.items w.routes.items w.cut.items w.silent.items (slice_set w.queues.items c.way-place.result ms) w.heard.items w.queued.items) c.swap.ensures.x_after
-    ∙ queue_written w.net.now c.way-place.ensures.rules w.down.items w.routes.items w.cut.items w.silent.items w.queues.items w.heard.items
-    w.queued.items c.args.from c.args.to c.way-place.result c.args.queue.now c.way-place.ensures.number less
+    queue_written c.args.self.now c.args.from c.args.to c.way-place.result c.way-place.ensures.number c.way-place.ensures.within c.way-place.ensures.rules
+    c.args.queue.now _ c.swap.ensures.x_after
