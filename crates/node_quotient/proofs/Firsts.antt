@@ -2,7 +2,8 @@
 use Rattle.std.proofs.Common.{◌≡◌, ℕ, zero, suc, ◌+◌, ◌<◌, ◌≤◌, true, List, [], ◌∷◌, ◌++◌, Option, None, Some, option_map, length, map, refl, sym, ap, ◌∙◌, subst, inl, inr, arith}
 use Rattle.std.specs.Prelude.{All, slice_get, slice_index_or, unwrap_or}
 use Rattle.std.specs.List.{find}
-use Rattle.std.proofs.lemmas.List.{get_or_default, length-map}
+use Rattle.std.proofs.lemmas.List.{get_or_append_left, get_or_default, length-append, length-map}
+use Rattle.std.proofs.Math.Seq.{get_or-append_seam}
 use Rattle.std.proofs.lemmas.Bool.{cases_eq, cases_lt}
 use Rattle.list_laws.proofs.Options.{option_eq-is, is-option_eq}
 use Rattle.graph_base.specs.declared.graph.Node.{Node}
@@ -13,7 +14,7 @@ use Rattle.node_quotient.specs.Alike.{AreFirstSame, AreNodesAt, AreSame, class_i
 use Rattle.node_quotient.specs.Rounds.{AreClasses}
 use Rattle.node_quotient.specs.Splits.{AreGroups}
 use Rattle.node_quotient.proofs.Least.{joined_rank}
-use Rattle.node_quotient.proofs.Stages.{class_in-at, class_in-left, found_first, found_none, length-more}
+use Rattle.node_quotient.proofs.Stages.{found_first, found_none}
 use Rattle.node_quotient.proofs.Turns.{among_get}
 
 -- each of so many is below the bound
@@ -88,10 +89,10 @@ same_sym g a b h = record { place = sym h.place; rank = sym h.rank }
 pub one_more : (g : PlainGraph) (node f : ℕ) (least : List ℕ) → AreFirstSame g node least → f ≤ node → AreSame g f node
     → ((m : ℕ) → AreSame g m node → f ≤ m) → AreFirstSame g (node + 1) (least ++ f ∷ [])
 one_more g node f least s le same first =
-    let here : class_in (least ++ f ∷ []) node ≡ f = subst (λ n. class_in (least ++ f ∷ []) n ≡ f) s.size (class_in-at least f) in
-    let old : (n : ℕ) → n < node → class_in (least ++ f ∷ []) n ≡ class_in least n = λ n l. let e = s.size in class_in-left least f n (omega (arith, e, l)) in
+    let here : class_in (least ++ f ∷ []) node ≡ f = subst (λ n. class_in (least ++ f ∷ []) n ≡ f) s.size (get_or-append_seam least f [] 0) in
+    let old : (n : ℕ) → n < node → class_in (least ++ f ∷ []) n ≡ class_in least n = λ n l. let e = s.size in get_or_append_left least (f ∷ []) 0 n (omega (arith, e, l)) in
     record {
-      size = let e = length-more least f in let k = s.size in omega (arith, e, k);
+      size = let e = length-append least (f ∷ []) in let k = s.size in omega (arith, e, k);
       le = λ n l. elim (cases_eq n node) [
         | inl e ↦ let at : class_in (least ++ f ∷ []) n ≡ f = ap (class_in (least ++ f ∷ [])) e ∙ here in omega (arith, at, le, e)
         | inr a ↦ let at = old n (omega (arith, l, a)) in let k = s.le n (omega (arith, l, a)) in omega (arith, at, k)

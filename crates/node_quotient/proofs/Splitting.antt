@@ -9,6 +9,7 @@ use Rattle.node_quotient.specs.Splits.{AreGroups, AreNamed, AreSplit, has_mark}
 use Rattle.node_quotient.specs.Partitions.{IsPartition}
 use Rattle.node_quotient.specs.declared.partition.Partition.{Partition}
 use Rattle.node_quotient.proofs.Ascending.{among-filter, among-filter_parts, ascends-filter, first_least}
+use Rattle.node_quotient.proofs.Groups.{group_below}
 use Rattle.node_quotient.proofs.Turns.{among_get, read}
 
 -- the first of an ascending list is the least
@@ -217,9 +218,19 @@ part_inside p count marks c is inside s all part list all_is part_is list_is k d
     (chosen_parts count p.classes.items p.members.items marks c is.size is.rows is.named is.groups inside s (slice_index_or list k d)
     (ap (λ xs. is_among xs (slice_index_or list k d)) (sym here) ∙ among_get list k d lt)).0
 
+-- the first of a part, under whose name it comes
+pub name_inside : (p : Partition) (count : ℕ) (marks : List Bool) (c : ℕ) (is : IsPartition count p) (inside : c < count) (s : Bool) (all part front : List ℕ) → all ≡ list_of p.members.items c →
+    part ≡ filter (has_mark marks s) all → front ≡ part → 0 < length part → slice_index_or front 0 0 < count
+name_inside p count marks c is inside s all part front all_is part_is front_is filled =
+    let len = ap length front_is in
+    part_inside p count marks c is inside s all part front all_is part_is front_is 0 0 (omega (arith, len, filled))
+
 -- what is read is the list of the class
 pub members_read : (p : Partition) (count c : ℕ) (all got : List ℕ) → IsPartition count p → c < count → all ≡ got → got ≡ slice_index_or p.members.items c got → all ≡ list_of p.members.items c
 members_read p count c all got is lt a b = let r = is.rows in read p.members.items c all got (omega (arith, r, lt)) a b
+
+pub members_below : (p : Partition) (count c : ℕ) (all got : List ℕ) → IsPartition count p → c < count → all ≡ got → got ≡ slice_index_or p.members.items c got → All (λ n. n < count) all
+members_below p count c all got is lt a b = group_below count p.classes.items p.members.items c all is.groups (members_read p count c all got is lt a b)
 
 -- what is read of a node is its class, which is a node
 pub class_below : (p : Partition) (count n got : ℕ) → IsPartition count p → n < count → got ≡ slice_index_or p.classes.items n got → got < count

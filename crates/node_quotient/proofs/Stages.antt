@@ -1,7 +1,9 @@
 -- A round that has come some way.
-use Rattle.std.proofs.Common.{◌≡◌, ◌⊎◌, ℕ, zero, suc, ◌<◌, ◌≤◌, Bool, true, ◌==◌, List, [], ◌∷◌, ◌++◌, length, find, Some, None, refl, sym, ap, ◌∙◌, subst, inl, inr, arith}
+use Rattle.std.proofs.Common.{◌≡◌, ◌⊎◌, ℕ, suc, ◌<◌, ◌≤◌, Bool, true, ◌==◌, List, [], ◌∷◌, ◌++◌, length, find, Some, None, sym, ap, ◌∙◌, subst, inl, inr, arith}
 use Rattle.std.specs.List.{list_any}
 use Rattle.std.proofs.lemmas.Bool.{cases_Bool, cases_eq, cases_lt, or_cases, or_left, or_right, cond-true, cond-false, eq-eqb, eqb-true, both_ways, and_parts}
+use Rattle.std.proofs.lemmas.List.{get_or_append_left, length-append}
+use Rattle.std.proofs.Math.Seq.{get_or-append_seam}
 use Rattle.reach_prune.specs.Searches.{is_among}
 use Rattle.node_quotient.specs.Alike.{Ascends, class_in, list_of, are_alike, AreFirst}
 use Rattle.node_quotient.proofs.Ascending.{above_in, among_more, among_new, among_old, ascends_more}
@@ -71,25 +73,17 @@ ended lists least node founders next le ge s = record {
   first = λ m n lm ln h. s.first m n (omega (arith, le, ln)) h;
 }
 
-pub class_in-left : (xs : List ℕ) (x n : ℕ) → n < length xs → class_in (xs ++ x ∷ []) n ≡ class_in xs n
-class_in-left [] x n lt = absurd (omega (arith, lt))
-class_in-left (y ∷ ys) x zero lt = refl
-class_in-left (y ∷ ys) x (suc n) lt = class_in-left ys x n (omega (arith, lt))
-
-pub class_in-at : (xs : List ℕ) (x : ℕ) → class_in (xs ++ x ∷ []) (length xs) ≡ x
-class_in-at [] x = refl
-class_in-at (y ∷ ys) x = class_in-at ys x
-
-pub length-more : (xs : List ℕ) (x : ℕ) → length (xs ++ x ∷ []) ≡ suc (length xs)
-length-more [] x = refl
-length-more (y ∷ ys) x = ap suc (length-more ys x)
-
 module _ (lists : List (List ℕ)) (least : List ℕ) (node : ℕ) (founders : List (List ℕ)) (next : List ℕ) (s : Stage lists least node founders next) (lt : node < length least) where
   old : (x n : ℕ) → n < node → class_in (next ++ x ∷ []) n ≡ class_in next n
-  old x n l = let e = s.size in class_in-left next x n (omega (arith, e, l))
+  old x n l = let e = s.size in get_or_append_left next (x ∷ []) 0 n (omega (arith, e, l))
+
+  old_idle : (x n : ℕ) → n < node → class_in (next ++ x ∷ []) (class_in (next ++ x ∷ []) n) ≡ class_in (next ++ x ∷ []) n
+  old_idle x n l =
+      let le = s.le n l in
+      ap (class_in (next ++ x ∷ [])) (old x n l) ∙ old x (class_in next n) (omega (arith, le, l)) ∙ s.idle n l ∙ sym (old x n l)
 
   here : (x : ℕ) → class_in (next ++ x ∷ []) node ≡ x
-  here x = subst (λ n. class_in (next ++ x ∷ []) n ≡ x) s.size (class_in-at next x)
+  here x = subst (λ n. class_in (next ++ x ∷ []) n ≡ x) s.size (get_or-append_seam next x [] 0)
 
   -- a node before this one that is like it is in a part of its class, which is listed
   founder : (m : ℕ) → m < node → are_alike lists least m node ≡ true →
@@ -108,7 +102,7 @@ module _ (lists : List (List ℕ)) (least : List ℕ) (node : ℕ) (founders : L
         let before = there.0 in
         let now : class_in (next ++ f ∷ []) node ≡ f = here f in
         record {
-          size = length-more next f ∙ ap suc s.size;
+          size = let e = length-append next (f ∷ []) in let k = s.size in omega (arith, e, k);
           rows = s.rows;
           le = λ n l. elim (cases_eq n node) [
             | inl e ↦ let at : class_in (next ++ f ∷ []) n ≡ f = ap (class_in (next ++ f ∷ [])) e ∙ now in omega (arith, at, before, e)
@@ -118,11 +112,7 @@ module _ (lists : List (List ℕ)) (least : List ℕ) (node : ℕ) (founders : L
             | inl e ↦
                 let at : class_in (next ++ f ∷ []) n ≡ f = ap (class_in (next ++ f ∷ [])) e ∙ now in
                 ap (class_in (next ++ f ∷ [])) at ∙ old f f before ∙ there.1 ∙ sym at
-            | inr a ↦
-                let less : n < node = omega (arith, l, a) in
-                let at = old f n less in
-                let le = s.le n less in
-                ap (class_in (next ++ f ∷ [])) at ∙ old f (class_in next n) (omega (arith, le, less)) ∙ s.idle n less ∙ sym at
+            | inr a ↦ old_idle f n (omega (arith, l, a))
           ];
           alike = λ n l. elim (cases_eq n node) [
             | inl e ↦ subst (λ k. are_alike lists least (class_in (next ++ f ∷ []) k) k ≡ true) (sym e) (ap (λ k. are_alike lists least k node) now ∙ r.1)
@@ -175,7 +165,7 @@ module _ (lists : List (List ℕ)) (least : List ℕ) (node : ℕ) (founders : L
     more_founder =
         let now : class_in (next ++ node ∷ []) node ≡ node = here node in
         record {
-          size = length-more next node ∙ ap suc s.size;
+          size = let e = length-append next (node ∷ []) in let k = s.size in omega (arith, e, k);
           rows = rows ∙ s.rows;
           le = λ n l. elim (cases_eq n node) [
             | inl e ↦ let at : class_in (next ++ node ∷ []) n ≡ node = ap (class_in (next ++ node ∷ [])) e ∙ now in omega (arith, at, e)
@@ -185,11 +175,7 @@ module _ (lists : List (List ℕ)) (least : List ℕ) (node : ℕ) (founders : L
             | inl e ↦
                 let at : class_in (next ++ node ∷ []) n ≡ node = ap (class_in (next ++ node ∷ [])) e ∙ now in
                 ap (class_in (next ++ node ∷ [])) at ∙ now ∙ sym at
-            | inr a ↦
-                let less : n < node = omega (arith, l, a) in
-                let at = old node n less in
-                let le = s.le n less in
-                ap (class_in (next ++ node ∷ [])) at ∙ old node (class_in next n) (omega (arith, le, less)) ∙ s.idle n less ∙ sym at
+            | inr a ↦ old_idle node n (omega (arith, l, a))
           ];
           alike = λ n l. elim (cases_eq n node) [
             | inl e ↦ subst (λ k. are_alike lists least (class_in (next ++ node ∷ []) k) k ≡ true) (sym e) (ap (λ k. are_alike lists least k node) now ∙ alike_refl lists least node)

@@ -1,7 +1,7 @@
 //! The search for nodes that nothing tells apart.
-ghost use Rattle.std.specs.Prelude.{◌≡◌, ◌≤◌, ◌<◌, ℕ, IfOk, length};
+ghost use Rattle.std.specs.Prelude.{◌≡◌, ◌<◌, ℕ, IfOk, length};
 ghost use Rattle.graph_base.specs.Refuting.{HasSingleSteps};
-ghost use Rattle.graph_base.specs.Graphs.{IsGraph, PlainGraph};
+ghost use Rattle.graph_base.specs.Graphs.{IsGraph};
 ghost use Rattle.graph_base.specs.Runs.{has_step};
 ghost use Rattle.reach_prune.specs.Searches.{is_listed};
 ghost use Rattle.node_quotient.specs.Alike.{AreFirstSame, AreInside, class_in};

@@ -1,6 +1,6 @@
 //! Classes that split one another.
-ghost use Rattle.std.specs.Prelude.{◌≡◌, ◌==◌, ◌<◌, ◌≤◌, All, Bool, IfOk, OnOk, ℕ, filter, length, if◌then◌else◌};
-ghost use Rattle.std.specs.List.{AllByRecursion, list_any};
+ghost use Rattle.std.specs.Prelude.{◌≡◌, ◌==◌, ◌<◌, ◌≤◌, All, IfOk, OnOk, ℕ, filter, length, slice_index_or, if◌then◌else◌};
+ghost use Rattle.std.specs.List.{AllByRecursion};
 ghost use Rattle.graph_base.specs.Graphs.{IsGraph};
 ghost use Rattle.graph_base.specs.Refuting.{HasSingleSteps};
 ghost use Rattle.graph_base.specs.Runs.{has_step};
@@ -40,14 +40,14 @@ fn chosen(alloc: Global, list: &[u32], marks: &[bool], marked: bool) -> Result<N
     Ok(chosen)
 }
 
-/// Puts the nodes of the list into a class.
-fn put(classes: &mut Vec<u32>, list: &[u32], class: u32)
-    requires { All (λ n. n < length classes.old.items) list.now }
-    ensures size { length classes.new.items ≡ length classes.old.items }
-    ensures classes { (n : ℕ) → class_in classes.new.items n ≡ (if is_among list.now n then class else class_in classes.old.items n) }
+/// Gives each of these places the same item.
+fn set_each<T: Copy + Drop>(items: &mut Vec<T>, places: &[u32], item: T)
+    requires { All (λ n. n < length items.old.items) places.now }
+    ensures size { length items.new.items ≡ length items.old.items }
+    ensures items { (d : T) (n : ℕ) → slice_index_or items.new.items n d ≡ (if is_among places.now n then item else slice_index_or items.old.items n d) }
 {
-    for node in list {
-        classes[*node as usize] = class;
+    for place in places {
+        items[*place as usize] = item;
     }
 }
 
@@ -61,17 +61,6 @@ fn all_listed(alloc: Global, lists: &[NodeList], nodes: &[u32]) -> Result<Vec<u3
         all.extend_from_slice(lists[*node as usize].as_slice())?;
     }
     Ok(all)
-}
-
-/// Marks these nodes, or takes their marks away.
-fn mark(marks: &mut Vec<bool>, nodes: &[u32], marked: bool)
-    requires { All (λ n. n < length marks.old.items) nodes.now }
-    ensures size { length marks.new.items ≡ length marks.old.items }
-    ensures marks { (n : ℕ) → is_marked marks.new.items n ≡ (if is_among nodes.now n then marked else is_marked marks.old.items n) }
-{
-    for node in nodes {
-        marks[*node as usize] = marked;
-    }
 }
 
 /// The classes, each by its least node.
@@ -126,7 +115,7 @@ impl Partition {
         let rest = chosen(alloc, all, marks, with_class)?;
         let name = part.as_slice()[0];
         let is_smaller = part.as_slice().len() <= rest.as_slice().len();
-        put(&mut self.classes, part.as_slice(), name);
+        set_each(&mut self.classes, part.as_slice(), name);
         self.members[class as usize] = rest;
         self.members[name as usize] = part;
         let next = if self.waits[class as usize] || is_smaller {
@@ -148,6 +137,27 @@ impl Partition {
         self.waits[class as usize] = true;
         self.waiting.push(class)?;
         Ok(())
+    }
+
+    /// Splits the class of a node, where it wasn't looked at in this turn.
+    fn split_class_of(
+        &mut self,
+        alloc: Global,
+        node: u32,
+        marks: &[bool],
+        turn: u32,
+    ) -> Result<(), AllocError>
+        requires node { node < length marks.now }
+        requires partition { IsPartition (length marks.now) self.old }
+        ensures partition { OnOk result (IsPartition (length marks.now) self.new) }
+        ensures classes { OnOk result (AreSplit (is_marked marks.now) self.old.classes.items self.new.classes.items) }
+    {
+        let class = self.classes[node as usize];
+        if self.met[class as usize] == turn {
+            return Ok(());
+        }
+        self.met[class as usize] = turn;
+        self.split(alloc, class, marks)
     }
 
     /// Splits each class into the nodes with a step to this class and the others; `before` has the nodes that step to each.
@@ -172,15 +182,11 @@ impl Partition {
     {
         self.waits[class as usize] = false;
         let hits = all_listed(alloc, before, self.members[class as usize].as_slice())?;
-        mark(marks, &hits, true);
+        set_each(marks, &hits, true);
         for node in &hits {
-            let hit = self.classes[*node as usize];
-            if self.met[hit as usize] != turn {
-                self.met[hit as usize] = turn;
-                self.split(alloc, hit, marks)?;
-            }
+            self.split_class_of(alloc, *node, marks, turn)?;
         }
-        mark(marks, &hits, false);
+        set_each(marks, &hits, false);
         Ok(())
     }
 }

@@ -1,4 +1,4 @@
--- Derivatives of lists of members.
+-- Lists of terms, and derivatives of lists of members.
 use Rattle.std.proofs.Common.{◌≡◌, ℕ, zero, suc, ◌<◌, ◌+◌, Bool, true, cond, List, [], ◌∷◌, ◌++◌, inl, inr, ⊎_elim, map, length, get_or, take, refl, sym, ap, subst, ◌∙◌, arith}
 use Rattle.std.specs.List.{list_all, list_any, flat_map}
 use Rattle.std.proofs.lemmas.Bool.{and_parts, and_from}
@@ -6,11 +6,11 @@ use Rattle.std.proofs.lemmas.List.{map-append, take_more}
 use Rattle.path_exprs.specs.Expression.{Expression, never, either, both, expressions_of}
 use Rattle.path_exprs.specs.Normal.{sorted, all, is_all, is_never, either_parts, either_from, either_of, both_parts, both_from, both_of}
 use Rattle.path_exprs.specs.Derivative.{derivative, derivative_each}
-use Rattle.path_exprs.proofs.Numbers.{at-extends, map-extends}
+use Rattle.path_exprs.proofs.Numbers.{at-extends, known-append, known-more, known-one, map-extends, no-shorter}
 use Rattle.net_base.specs.declared.loc.LocSet.{LocSet}
 use Rattle.path_law.proofs.Sorting.{In}
 use Rattle.path_automata.specs.Sets.{agrees, sets_pass, each_pass}
-use Rattle.path_terms.specs.Terms.{at, are_known, Extends}
+use Rattle.path_terms.specs.Terms.{are_known, are_members, ascending, at, Extends}
 use Rattle.path_automata.specs.Classes.{AreSorted, IsClassed}
 use Rattle.path_terms.proofs.Numbers.{In-sorted, sorted-In}
 use Rattle.path_terms.proofs.Members.{sorted-same, In-append, append-In}
@@ -63,6 +63,14 @@ both-made x es e r q p =
     (map-sorted-to (derivative x) es) (map-sorted-from (derivative x) es))
     ∙ sym (ap (derivative x) q ∙ ap both_of (each-map x (sorted es)))
 
+-- the derivatives of members that were copied
+pub copied-made : (x : ℕ) (old one : List Expression) (ms ns rs ds : List ℕ) → ds ≡ rs → map (at one) rs ≡ map (derivative x) (map (at old) ns) → ns ≡ ms
+    → map (at one) ds ≡ map (derivative x) (map (at old) ms)
+copied-made x old one ms ns rs ds these made those = ap (map (at one)) these ∙ made ∙ ap (λ l. map (derivative x) (map (at old) l)) those
+
+pub copied-below : (k : ℕ) (ms ns : List ℕ) → ns ≡ ms → are_members k ms ≡ true → are_known k ns ≡ true
+copied-below k ms ns same h = subst (λ l. are_known k l ≡ true) (sym same) (and_parts (are_known k ms) (ascending ms) h).0
+
 -- locations of a class are in the same sets of each member
 
 each-pass : (p : LocSet → Bool) (g : Expression) (es : List Expression) → each_pass p (expressions_of es) ≡ true → In g es → sets_pass p g ≡ true
@@ -101,3 +109,9 @@ each-turn old cur new ms ns i d r x e1 e2 h lo lt q p =
     ∙ sym (ap (λ l. map (derivative x) (map (at old) l)) (take_more ns i d lt)
     ∙ ap (map (derivative x)) (map-append (at old) (take i ns) (get_or ns i d ∷ []))
     ∙ map-append (derivative x) (map (at old) (take i ns)) (at old (get_or ns i d) ∷ []))
+
+pub known-turn : (cur new : List Expression) (ns more : List ℕ) (n : ℕ) → more ≡ ns ++ n ∷ [] → Extends cur new → are_known (length cur) ns ≡ true → n < length new
+    → are_known (length new) more ≡ true
+known-turn cur new ns more n is x known lt =
+    subst (λ l. are_known (length new) l ≡ true) (sym is)
+    (known-append (length new) ns (n ∷ []) (known-more (length cur) (length new) ns (no-shorter cur new x) known) (known-one (length new) n lt))

@@ -5,8 +5,8 @@ use Rattle.std.proofs.lemmas.Bool.{and_parts, and_from, lt-ltb, ltb-true}
 use Rattle.std.proofs.lemmas.List.{length-map, map-append, take_more}
 use Rattle.net_base.specs.declared.loc.LocSet.{LocSet}
 use Rattle.path_exprs.specs.declared.expr.Expr.{Expr}
-use Rattle.path_exprs.specs.Expression.{Expression, empty, expressions_of}
-use Rattle.path_exprs.specs.Normal.{both_of, complement_of, either_of, normal, normal_each, reversed, reversed_each, seq_of}
+use Rattle.path_exprs.specs.Expression.{Expression, expressions_of}
+use Rattle.path_exprs.specs.Normal.{both_of, complement_of, either_of, normal, normal_each, reversed, reversed_each}
 use Rattle.path_exprs.specs.Runs.{start_of}
 use Rattle.path_exprs.specs.View.{view, views}
 use Rattle.path_exprs.specs.Parts.{expression_of, expressions_of_parts, is_earlier}
@@ -14,15 +14,10 @@ use Rattle.path_exprs.specs.declared.parts.Part.{Part}
 use Rattle.path_exprs.specs.declared.parts.Part.TheVariants.{Both, Either, Not}
 use Rattle.path_exprs.proofs.Numbers.{known-at, map-extends, parts-turn}
 use Rattle.path_terms.specs.Terms.{at, are_known, Extends}
-use Rattle.path_terms.proofs.Sequences.{seq-second_empty}
 
 pub start-each : (full : LocSet) (es : List Expression) → start_of full es ≡ normal_each full (reversed_each (expressions_of es))
 start-each full [] = refl
 start-each full (e ∷ es) = ap (λ l. normal full (reversed e) ∷ l) (start-each full es)
-
--- an expression and then nothing is the expression
-pub onto-nothing : (r e t : Expression) → r ≡ seq_of e t → t ≡ empty → r ≡ e
-onto-nothing r e t q p = q ∙ ap (seq_of e) p ∙ sym (seq-second_empty e empty refl)
 
 pub start-turn : (full : LocSet) (cur new : List Expression) (ms : List ℕ) (es : List Expr) (i r : ℕ) (e : Expr) → Extends cur new
     → are_known (length cur) ms ≡ true → i < length es → e ≡ get_or es i e
@@ -34,6 +29,11 @@ start-turn full cur new ms es i r e x known lt is q p =
     ∙ sym (ap (λ l. start_of full (views l)) (take_more es i e lt)
     ∙ ap (start_of full) (map-append view (take i es) (get_or es i e ∷ []))
     ∙ map-append (λ d. normal full (reversed d)) (views (take i es)) (view (get_or es i e) ∷ []))
+
+pub members-made : (full : LocSet) (vs : List Expression) (ms ns : List ℕ) (es ds : List Expr) → ms ≡ ns → map (at vs) ns ≡ start_of full (views ds) → ds ≡ es
+    → map (at vs) ms ≡ normal_each full (reversed_each (expressions_of (views es)))
+members-made full vs ms ns es ds these made those =
+    ap (map (at vs)) these ∙ made ∙ ap (λ l. start_of full (views l)) those ∙ start-each full (views es)
 
 -- terms at places
 
@@ -74,13 +74,21 @@ part-turn full cur new ms ps i r p x known lt is q made =
 
 -- parts that are made of others
 
+pub both-within : (k a b : ℕ) (p : Part) → is_earlier k p ≡ true → p ≡ Both a b → (a < k) × (b < k)
+both-within k a b p h is =
+    let u = and_parts (nat_lt a k) (nat_lt b k) (subst (λ p. is_earlier k p ≡ true) is h) in
+    (ltb-true a k u.0, ltb-true b k u.1)
+
+pub not-within : (k a : ℕ) (p : Part) → is_earlier k p ≡ true → p ≡ Not a → a < k
+not-within k a p h is = ltb-true a k (subst (λ p. is_earlier k p ≡ true) is h)
+
 pub part-Both : (full : LocSet) (vs : List Expression) (ns : List ℕ) (es : List Expression) (a b : ℕ) (p : Part) (v : Expression) → is_earlier (length ns) p ≡ true → p ≡ Both a b
     → v ≡ both_of (at vs (get_or ns a 0) ∷ at vs (get_or ns b 0) ∷ []) → map (at vs) ns ≡ start_of full es → v ≡ normal full (reversed (expression_of es p))
 part-Both full vs ns es a b p v h is made q =
-    let u = and_parts (nat_lt a (length ns)) (nat_lt b (length ns)) (subst (λ p. is_earlier (length ns) p ≡ true) is h) in
+    let u = both-within (length ns) a b p h is in
     made
-    ∙ ap (λ x. both_of (x ∷ at vs (get_or ns b 0) ∷ [])) (start-at full vs ns es a 0 q (ltb-true a (length ns) u.0))
-    ∙ ap (λ x. both_of (normal full (reversed (at es a)) ∷ x ∷ [])) (start-at full vs ns es b 0 q (ltb-true b (length ns) u.1))
+    ∙ ap (λ x. both_of (x ∷ at vs (get_or ns b 0) ∷ [])) (start-at full vs ns es a 0 q u.0)
+    ∙ ap (λ x. both_of (normal full (reversed (at es a)) ∷ x ∷ [])) (start-at full vs ns es b 0 q u.1)
     ∙ sym (ap (λ p. normal full (reversed (expression_of es p))) is)
 
 pub members-known : (k : ℕ) (ms : Vec ℕ Global) (p : Part) → is_earlier k p ≡ true → p ≡ Either ms → are_known k ms.items ≡ true
@@ -98,5 +106,5 @@ pub part-Not : (full : LocSet) (vs : List Expression) (ns : List ℕ) (es : List
     → v ≡ complement_of (at vs (get_or ns a 0)) → map (at vs) ns ≡ start_of full es → v ≡ normal full (reversed (expression_of es p))
 part-Not full vs ns es a p v h is made q =
     made
-    ∙ ap complement_of (start-at full vs ns es a 0 q (ltb-true a (length ns) (subst (λ p. is_earlier (length ns) p ≡ true) is h)))
+    ∙ ap complement_of (start-at full vs ns es a 0 q (not-within (length ns) a p h is))
     ∙ sym (ap (λ p. normal full (reversed (expression_of es p))) is)

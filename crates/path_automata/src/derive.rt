@@ -1,5 +1,5 @@
 //! The derivative.
-ghost use Rattle.std.specs.Prelude.{◌≡◌, ◌<◌, length, map, true, IfOk};
+ghost use Rattle.std.specs.Prelude.{◌≡◌, ◌≤◌, ◌<◌, length, map, true, vec_len, IfOk};
 ghost use Rattle.path_exprs.specs.Derivative.{derivative as derivative_of};
 ghost use Rattle.path_terms.specs.Terms.{are_known, Extends};
 ghost use Rattle.path_terms.specs.Values.{values, value};
@@ -19,14 +19,8 @@ fn is_kept(terms: &Terms, e: u32) -> bool
     requires known { e < length (values terms.now) }
 {
     match terms.term(e) {
-        Term::Either(_) => true,
-        Term::Both(_) => true,
-        Term::Not(_) => true,
-        Term::Never => false,
-        Term::Empty => false,
-        Term::Set(_) => false,
-        Term::Seq(_, _) => false,
-        Term::Star(_) => false,
+        Term::Either(_) | Term::Both(_) | Term::Not(_) => true,
+        _ => false,
     }
 }
 
@@ -113,12 +107,12 @@ fn made(
         Term::Empty => terms.intern(Term::Never),
         Term::Either(members) => {
             let members = copied(alloc, members)?;
-            let all = derivative_each(terms, classes, derived, alloc, e, &members, at)?;
+            let all = derivatives(terms, classes, derived, alloc, e as usize, &members, at)?;
             either_of(terms, alloc, &all)
         }
         Term::Both(members) => {
             let members = copied(alloc, members)?;
-            let all = derivative_each(terms, classes, derived, alloc, e, &members, at)?;
+            let all = derivatives(terms, classes, derived, alloc, e as usize, &members, at)?;
             both_of(terms, alloc, &all)
         }
     }
@@ -135,22 +129,23 @@ fn copied(alloc: Global, numbers: &[u32]) -> Result<Vec<u32>, NoMemory>
 
 /// The derivative of each of these terms, all below a number.
 #[cycle(derivative)]
-fn derivative_each(
+pub fn derivatives(
     terms: &mut Terms,
     classes: &[usize],
     derived: &mut IndexMap<(u32, usize), u32>,
     alloc: Global,
-    bound: u32,
+    bound: usize,
     numbers: &[u32],
     at: Loc,
 ) -> Result<Vec<u32>, NoMemory>
     requires derived { AreDerivatives classes.now (values terms.old) derived.old }
-    requires bound { bound < length (values terms.old) }
+    requires bound { bound ≤ length (values terms.old) }
     requires below { are_known bound numbers.now ≡ true }
     requires classed { AreSorted classes.now (map (value terms.old) numbers.now) }
     ensures derived { AreDerivatives classes.now (values terms.new) derived.new }
     ensures made { IfOk result (λ r. map (value terms.new) r.items ≡ map (derivative_of at) (map (value terms.old) numbers.now)) }
     ensures known { IfOk result (λ r. are_known (length (values terms.new)) r.items ≡ true) }
+    ensures len { IfOk result (λ r. vec_len r ≡ length numbers.now) }
     ensures extends { Extends (values terms.old) (values terms.new) }
 {
     let mut all = Vec::new(alloc);

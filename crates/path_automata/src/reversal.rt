@@ -12,10 +12,49 @@ use path_exprs::Expr;
 use path_terms::{Term, Terms, both_of, complement_of, either_of, set_of, star_of};
 use std::alloc::Global;
 
+/// The normal form of the reversed expression.
+#[cycle(reversal)]
+pub fn reversal_of(
+    terms: &mut Terms,
+    alloc: Global,
+    full: &LocSet,
+    e: &Expr,
+) -> Result<u32, NoMemory>
+    ensures made { IfOk result (λ n. value terms.new n ≡ normal full.now (reversed (view e.now))) }
+    ensures known { IfOk result (λ n. n < length (values terms.new)) }
+    ensures extends { Extends (values terms.old) (values terms.new) }
+{
+    match e {
+        Expr::Never => terms.intern(Term::Never),
+        Expr::Empty => terms.intern(Term::Empty),
+        Expr::Set(set) => set_of(terms, set),
+        Expr::Seq(a, b) => {
+            let rest = reversal_of(terms, alloc, full, a)?;
+            reversed_onto(terms, alloc, full, b, rest)
+        }
+        Expr::Either(es) => {
+            let members = reversals(terms, alloc, full, es)?;
+            either_of(terms, alloc, &members)
+        }
+        Expr::Both(es) => {
+            let members = reversals(terms, alloc, full, es)?;
+            both_of(terms, alloc, &members)
+        }
+        Expr::Not(a) => {
+            let inner = reversal_of(terms, alloc, full, a)?;
+            complement_of(terms, inner)
+        }
+        Expr::Star(a) => {
+            let inner = reversal_of(terms, alloc, full, a)?;
+            star_of(terms, full, inner)
+        }
+    }
+}
+
 /// The normal form of the reversed expression and then the tail. Reversing a chain so puts each place before the later
 /// ones once.
 #[cycle(reversal)]
-pub fn reversed_onto(
+fn reversed_onto(
     terms: &mut Terms,
     alloc: Global,
     full: &LocSet,
@@ -27,45 +66,17 @@ pub fn reversed_onto(
     ensures known { IfOk result (λ n. n < length (values terms.new)) }
     ensures extends { Extends (values terms.old) (values terms.new) }
 {
-    match e {
-        Expr::Never => terms.intern(Term::Never),
-        Expr::Empty => Ok(tail),
-        Expr::Set(set) => {
-            let first = set_of(terms, set)?;
-            terms.seq_of(first, tail)
-        }
-        Expr::Seq(a, b) => {
-            let rest = reversed_onto(terms, alloc, full, a, tail)?;
-            reversed_onto(terms, alloc, full, b, rest)
-        }
-        Expr::Either(es) => {
-            let members = starts(terms, alloc, full, es)?;
-            let first = either_of(terms, alloc, &members)?;
-            terms.seq_of(first, tail)
-        }
-        Expr::Both(es) => {
-            let members = starts(terms, alloc, full, es)?;
-            let first = both_of(terms, alloc, &members)?;
-            terms.seq_of(first, tail)
-        }
-        Expr::Not(a) => {
-            let empty = terms.intern(Term::Empty)?;
-            let inner = reversed_onto(terms, alloc, full, a, empty)?;
-            let first = complement_of(terms, inner)?;
-            terms.seq_of(first, tail)
-        }
-        Expr::Star(a) => {
-            let empty = terms.intern(Term::Empty)?;
-            let inner = reversed_onto(terms, alloc, full, a, empty)?;
-            let first = star_of(terms, full, inner)?;
-            terms.seq_of(first, tail)
-        }
+    if let Expr::Seq(a, b) = e {
+        let rest = reversed_onto(terms, alloc, full, a, tail)?;
+        return reversed_onto(terms, alloc, full, b, rest);
     }
+    let first = reversal_of(terms, alloc, full, e)?;
+    terms.seq_of(first, tail)
 }
 
 /// The normal form of each reversed expression.
 #[cycle(reversal)]
-fn starts(
+fn reversals(
     terms: &mut Terms,
     alloc: Global,
     full: &LocSet,
@@ -76,10 +87,9 @@ fn starts(
     ensures len { IfOk result (λ r. vec_len r ≡ length es.now) }
     ensures extends { Extends (values terms.old) (values terms.new) }
 {
-    let empty = terms.intern(Term::Empty)?;
     let mut all = Vec::new(alloc);
     for i in 0..es.len() {
-        all.push(reversed_onto(terms, alloc, full, &es[i], empty)?)?;
+        all.push(reversal_of(terms, alloc, full, &es[i])?)?;
     }
     Ok(all)
 }

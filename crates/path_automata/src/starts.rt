@@ -7,11 +7,11 @@ ghost use Rattle.path_exprs.specs.Parts.{are_earlier, are_known, expression_of, 
 ghost use Rattle.path_exprs.specs.Runs.{start_of};
 ghost use Rattle.path_terms.specs.Values.{values, value};
 
-use crate::reversal::reversed_onto;
+use crate::reversal::reversal_of;
 use net_base::LocSet;
 use outside::NoMemory;
 use path_exprs::{Part, RankedExpr};
-use path_terms::{Term, Terms, both_of, complement_of, either_of};
+use path_terms::{Terms, both_of, complement_of, either_of};
 use std::alloc::Global;
 
 /// The terms at these places.
@@ -42,10 +42,7 @@ fn start_of_part(
     ensures extends { Extends (values terms.old) (values terms.new) }
 {
     match part {
-        Part::Own(e) => {
-            let empty = terms.intern(Term::Empty)?;
-            reversed_onto(terms, alloc, full, e, empty)
-        }
+        Part::Own(e) => reversal_of(terms, alloc, full, e),
         Part::Both(a, b) => both_of(terms, alloc, &[before[*a], before[*b]]),
         Part::Either(members) => {
             let members = picked(alloc, before, members)?;

@@ -8,14 +8,13 @@ ghost use Rattle.path_exprs.specs.Derivative.{derivative as derivative_of};
 ghost use Rattle.path_exprs.specs.Expression.{Expression};
 ghost use Rattle.path_exprs.specs.Normal.{is_never as is_never_test};
 ghost use Rattle.path_exprs.specs.Runs.{first_with, start_of};
-ghost use Rattle.path_terms.specs.Terms.{are_known, Extends as Grows};
-ghost use Rattle.path_terms.specs.Values.{values, value};
-ghost use Rattle.path_automata.specs.Classes.{AreSorted};
+ghost use Rattle.path_terms.specs.Terms.{are_known};
+ghost use Rattle.path_terms.specs.Values.{values};
 ghost use Rattle.path_automata.specs.Derived.{AreDerivatives};
-ghost use Rattle.path_automata.specs.Found.{states_in, AreFacts};
+ghost use Rattle.path_automata.specs.Found.{facts_of as facts_spec, states_in, AreFacts};
 ghost use Rattle.path_automata.specs.Memo.{AreAlike, IsRight, NoTwice};
 
-use crate::derive::derivative;
+use crate::derive::derivatives;
 use crate::facts::{Facts, facts_of};
 use crate::memo::Memo;
 use crate::starts::starts_of;
@@ -128,11 +127,13 @@ impl Automata {
         let Some(alternatives) = self.found.get_index(state.0 as usize) else {
             unreachable!()
         };
+        let bound = self.terms.len();
         let next = derivatives(
             &mut self.terms,
             self.memo.classes(),
             &mut self.derived,
             alloc,
+            bound,
             alternatives,
             at,
         )?;
@@ -143,12 +144,20 @@ impl Automata {
         Ok(State(number as u64))
     }
 
+    /// What is asked of a state.
+    fn facts_at(&self, state: State) -> Facts
+        requires known { state < length (states_of self.now) }
+        ensures { (s : List Expression) → IsState self.now state s → result ≡ facts_spec s }
+    {
+        self.facts[state.0 as usize]
+    }
+
     /// The rank of a state: the place, from 1, of the first alternative that holds the empty list.
     pub fn rank(&self, state: State) -> Option<u32>
         requires known { state < length (states_of self.now) }
         ensures { (s : List Expression) → IsState self.now state s → result ≡ first_with [] s }
     {
-        self.facts[state.0 as usize].rank
+        self.facts_at(state).rank
     }
 
     /// Whether every alternative is Never.
@@ -156,33 +165,8 @@ impl Automata {
         requires known { state < length (states_of self.now) }
         ensures { (s : List Expression) → IsState self.now state s → result ≡ list_all is_never_test s }
     {
-        self.facts[state.0 as usize].dead
+        self.facts_at(state).dead
     }
-}
-
-/// The derivative of each of these terms.
-fn derivatives(
-    terms: &mut Terms,
-    classes: &[usize],
-    derived: &mut IndexMap<(u32, usize), u32>,
-    alloc: Global,
-    numbers: &[u32],
-    at: Loc,
-) -> Result<Vec<u32>, NoMemory>
-    requires derived { AreDerivatives classes.now (values terms.old) derived.old }
-    requires known { are_known (length (values terms.old)) numbers.now ≡ true }
-    requires classed { AreSorted classes.now (map (value terms.old) numbers.now) }
-    ensures derived { AreDerivatives classes.now (values terms.new) derived.new }
-    ensures made { IfOk result (λ r. map (value terms.new) r.items ≡ map (derivative_of at) (map (value terms.old) numbers.now)) }
-    ensures known { IfOk result (λ r. are_known (length (values terms.new)) r.items ≡ true) }
-    ensures len { IfOk result (λ r. vec_len r ≡ length numbers.now) }
-    ensures extends { Grows (values terms.old) (values terms.new) }
-{
-    let mut all = Vec::new(alloc);
-    for i in 0..numbers.len() {
-        all.push(derivative(terms, classes, derived, alloc, numbers[i], at)?)?;
-    }
-    Ok(all)
 }
 
 /// Puts what is asked of a state at its number, which is at most one past the last.

@@ -39,6 +39,54 @@ pub member-complement_of : (a : Expression) → Same (member (complement_of a)) 
 member-complement_of (complement a) xs = sym (not-not (member a xs))
 member-complement_of a xs = refl
 
+-- what members hold together, joined by "or" or by "and"
+
+module _ (op : Bool → Bool → Bool) (unit : Bool) where
+  abbrev held : List Expression → Language
+  held [] xs = unit
+  held (e ∷ es) xs = op (member e xs) (held es xs)
+
+  module _ (unit_left : (a : Bool) → op unit a ≡ a) (unit_right : (a : Bool) → op a unit ≡ a) (assoc : (a b c : Bool) → op (op a b) c ≡ op a (op b c))
+      (left_comm : (a b c : Bool) → op a (op b c) ≡ op b (op a c)) (self_left : (a b : Bool) → op a (op a b) ≡ op a b) where
+    held-insert-at : (e f : Expression) (fs : List Expression) (xs : List ℕ) → held (insert e fs) xs ≡ op (member e xs) (held fs xs) →
+        (o : Ordering) → compare e f ≡ o → held (match_ordering o (e ∷ f ∷ fs) (f ∷ fs) (f ∷ insert e fs)) xs ≡ op (member e xs) (op (member f xs) (held fs xs))
+    held-insert-at e f fs xs ih Less h = refl
+    held-insert-at e f fs xs ih Equal h =
+        ap (λ g. op (member g xs) (held fs xs)) (sym (compare-equal e f h))
+        ∙ sym (self_left (member e xs) (held fs xs))
+        ∙ ap (λ g. op (member e xs) (op (member g xs) (held fs xs))) (compare-equal e f h)
+    held-insert-at e f fs xs ih Greater h =
+        ap (op (member f xs)) ih ∙ left_comm (member f xs) (member e xs) (held fs xs)
+
+    held-insert : (e : Expression) (fs : List Expression) (xs : List ℕ) → held (insert e fs) xs ≡ op (member e xs) (held fs xs)
+    held-insert e [] xs = refl
+    held-insert e (f ∷ fs) xs = held-insert-at e f fs xs (held-insert e fs xs) (compare e f) refl
+
+    held-insert_each : (es fs : List Expression) (xs : List ℕ) → held (insert_each es fs) xs ≡ op (held es xs) (held fs xs)
+    held-insert_each [] fs xs = sym (unit_left (held fs xs))
+    held-insert_each (e ∷ es) fs xs =
+        held-insert_each es (insert e fs) xs
+        ∙ ap (op (held es xs)) (held-insert e fs xs)
+        ∙ left_comm (held es xs) (member e xs) (held fs xs)
+        ∙ sym (assoc (member e xs) (held es xs) (held fs xs))
+
+    held-append : (es fs : List Expression) (xs : List ℕ) → held (es ++ fs) xs ≡ op (held es xs) (held fs xs)
+    held-append [] fs xs = sym (unit_left (held fs xs))
+    held-append (e ∷ es) fs xs =
+        ap (op (member e xs)) (held-append es fs xs) ∙ sym (assoc (member e xs) (held es xs) (held fs xs))
+
+    -- each member is what its parts hold together
+    module _ (parts : Expression → List Expression) (whole : (e : Expression) (xs : List ℕ) → held (parts e) xs ≡ member e xs) where
+      held-flat : (es : List Expression) (xs : List ℕ) → held (flat_map parts es) xs ≡ held es xs
+      held-flat [] xs = refl
+      held-flat (e ∷ es) xs =
+          held-append (parts e) (flat_map parts es) xs
+          ∙ ap (λ b. op b (held (flat_map parts es) xs)) (whole e xs)
+          ∙ ap (op (member e xs)) (held-flat es xs)
+
+      held-sorted : (es : List Expression) (xs : List ℕ) → held (sorted (flat_map parts es)) xs ≡ held es xs
+      held-sorted es xs = held-insert_each (flat_map parts es) [] xs ∙ unit_right (held (flat_map parts es) xs) ∙ held-flat es xs
+
 -- alternations
 
 -- a member of the list holds it
@@ -56,47 +104,20 @@ pub in_each-list_of : (es : Expressions) (xs : List ℕ) → in_each (list_of es
 in_each-list_of none xs = refl
 in_each-list_of (more e es) xs = ap (λ b. member e xs && b) (in_each-list_of es xs)
 
-in_some-insert-at : (e f : Expression) (fs : List Expression) (xs : List ℕ) → in_some (insert e fs) xs ≡ (member e xs || in_some fs xs) →
-    (o : Ordering) → compare e f ≡ o → in_some (match_ordering o (e ∷ f ∷ fs) (f ∷ fs) (f ∷ insert e fs)) xs ≡ (member e xs || (member f xs || in_some fs xs))
-in_some-insert-at e f fs xs ih Less h = refl
-in_some-insert-at e f fs xs ih Equal h =
-    ap (λ g. member g xs || in_some fs xs) (sym (compare-equal e f h))
-    ∙ sym (or_self_left (member e xs) (in_some fs xs))
-    ∙ ap (λ g. member e xs || (member g xs || in_some fs xs)) (compare-equal e f h)
-in_some-insert-at e f fs xs ih Greater h =
-    ap (λ b. member f xs || b) ih ∙ or_left_comm (member f xs) (member e xs) (in_some fs xs)
-
-in_some-insert : (e : Expression) (fs : List Expression) (xs : List ℕ) → in_some (insert e fs) xs ≡ (member e xs || in_some fs xs)
-in_some-insert e [] xs = refl
-in_some-insert e (f ∷ fs) xs = in_some-insert-at e f fs xs (in_some-insert e fs xs) (compare e f) refl
-
-in_some-insert_each : (es fs : List Expression) (xs : List ℕ) → in_some (insert_each es fs) xs ≡ (in_some es xs || in_some fs xs)
-in_some-insert_each [] fs xs = refl
-in_some-insert_each (e ∷ es) fs xs =
-    in_some-insert_each es (insert e fs) xs
-    ∙ ap (λ b. in_some es xs || b) (in_some-insert e fs xs)
-    ∙ or_left_comm (in_some es xs) (member e xs) (in_some fs xs)
-    ∙ sym (or_assoc (member e xs) (in_some es xs) (in_some fs xs))
-
-in_some-append : (es fs : List Expression) (xs : List ℕ) → in_some (es ++ fs) xs ≡ (in_some es xs || in_some fs xs)
-in_some-append [] fs xs = refl
-in_some-append (e ∷ es) fs xs =
-    ap (λ b. member e xs || b) (in_some-append es fs xs) ∙ sym (or_assoc (member e xs) (in_some es xs) (in_some fs xs))
-
 in_some-parts : (e : Expression) (xs : List ℕ) → in_some (either_parts e) xs ≡ member e xs
 in_some-parts never xs = refl
 in_some-parts (either es) xs = in_some-list_of es xs
 in_some-parts e xs = or-false (member e xs)
 
-in_some-flat : (es : List Expression) (xs : List ℕ) → in_some (flat_map either_parts es) xs ≡ in_some es xs
-in_some-flat [] xs = refl
-in_some-flat (e ∷ es) xs =
-    in_some-append (either_parts e) (flat_map either_parts es) xs
-    ∙ ap (λ b. b || in_some (flat_map either_parts es) xs) (in_some-parts e xs)
-    ∙ ap (λ b. member e xs || b) (in_some-flat es xs)
+in_some-held : (es : List Expression) (xs : List ℕ) → in_some es xs ≡ held (λ a b. a || b) false es xs
+in_some-held [] xs = refl
+in_some-held (e ∷ es) xs = ap (λ b. member e xs || b) (in_some-held es xs)
 
 in_some-sorted : (es : List Expression) (xs : List ℕ) → in_some (sorted (flat_map either_parts es)) xs ≡ in_some es xs
-in_some-sorted es xs = in_some-insert_each (flat_map either_parts es) [] xs ∙ or-false (in_some (flat_map either_parts es) xs) ∙ in_some-flat es xs
+in_some-sorted es xs =
+    in_some-held (sorted (flat_map either_parts es)) xs
+    ∙ held-sorted (λ a b. a || b) false (λ a. refl) or-false or_assoc or_left_comm or_self_left either_parts (λ e xs. sym (in_some-held (either_parts e) xs) ∙ in_some-parts e xs) es xs
+    ∙ sym (in_some-held es xs)
 
 member-either_from : (es : List Expression) (xs : List ℕ) → member (either_from es) xs ≡ in_some es xs
 member-either_from [] xs = refl
@@ -123,47 +144,20 @@ member-either_of es xs =
 
 -- intersections
 
-in_each-insert-at : (e f : Expression) (fs : List Expression) (xs : List ℕ) → in_each (insert e fs) xs ≡ (member e xs && in_each fs xs) →
-    (o : Ordering) → compare e f ≡ o → in_each (match_ordering o (e ∷ f ∷ fs) (f ∷ fs) (f ∷ insert e fs)) xs ≡ (member e xs && (member f xs && in_each fs xs))
-in_each-insert-at e f fs xs ih Less h = refl
-in_each-insert-at e f fs xs ih Equal h =
-    ap (λ g. member g xs && in_each fs xs) (sym (compare-equal e f h))
-    ∙ sym (and_self_left (member e xs) (in_each fs xs))
-    ∙ ap (λ g. member e xs && (member g xs && in_each fs xs)) (compare-equal e f h)
-in_each-insert-at e f fs xs ih Greater h =
-    ap (λ b. member f xs && b) ih ∙ and_left_comm (member f xs) (member e xs) (in_each fs xs)
-
-in_each-insert : (e : Expression) (fs : List Expression) (xs : List ℕ) → in_each (insert e fs) xs ≡ (member e xs && in_each fs xs)
-in_each-insert e [] xs = refl
-in_each-insert e (f ∷ fs) xs = in_each-insert-at e f fs xs (in_each-insert e fs xs) (compare e f) refl
-
-in_each-insert_each : (es fs : List Expression) (xs : List ℕ) → in_each (insert_each es fs) xs ≡ (in_each es xs && in_each fs xs)
-in_each-insert_each [] fs xs = refl
-in_each-insert_each (e ∷ es) fs xs =
-    in_each-insert_each es (insert e fs) xs
-    ∙ ap (λ b. in_each es xs && b) (in_each-insert e fs xs)
-    ∙ and_left_comm (in_each es xs) (member e xs) (in_each fs xs)
-    ∙ sym (and_assoc (member e xs) (in_each es xs) (in_each fs xs))
-
-in_each-append : (es fs : List Expression) (xs : List ℕ) → in_each (es ++ fs) xs ≡ (in_each es xs && in_each fs xs)
-in_each-append [] fs xs = refl
-in_each-append (e ∷ es) fs xs =
-    ap (λ b. member e xs && b) (in_each-append es fs xs) ∙ sym (and_assoc (member e xs) (in_each es xs) (in_each fs xs))
-
 in_each-parts : (e : Expression) (xs : List ℕ) → in_each (both_parts e) xs ≡ member e xs
 in_each-parts (complement never) xs = refl
 in_each-parts (both es) xs = in_each-list_of es xs
 in_each-parts e xs = and-true (member e xs)
 
-in_each-flat : (es : List Expression) (xs : List ℕ) → in_each (flat_map both_parts es) xs ≡ in_each es xs
-in_each-flat [] xs = refl
-in_each-flat (e ∷ es) xs =
-    in_each-append (both_parts e) (flat_map both_parts es) xs
-    ∙ ap (λ b. b && in_each (flat_map both_parts es) xs) (in_each-parts e xs)
-    ∙ ap (λ b. member e xs && b) (in_each-flat es xs)
+in_each-held : (es : List Expression) (xs : List ℕ) → in_each es xs ≡ held (λ a b. a && b) true es xs
+in_each-held [] xs = refl
+in_each-held (e ∷ es) xs = ap (λ b. member e xs && b) (in_each-held es xs)
 
 in_each-sorted : (es : List Expression) (xs : List ℕ) → in_each (sorted (flat_map both_parts es)) xs ≡ in_each es xs
-in_each-sorted es xs = in_each-insert_each (flat_map both_parts es) [] xs ∙ and-true (in_each (flat_map both_parts es) xs) ∙ in_each-flat es xs
+in_each-sorted es xs =
+    in_each-held (sorted (flat_map both_parts es)) xs
+    ∙ held-sorted (λ a b. a && b) true (λ a. refl) and-true and_assoc and_left_comm and_self_left both_parts (λ e xs. sym (in_each-held (both_parts e) xs) ∙ in_each-parts e xs) es xs
+    ∙ sym (in_each-held es xs)
 
 member-both_from : (es : List Expression) (xs : List ℕ) → member (both_from es) xs ≡ in_each es xs
 member-both_from [] xs = refl

@@ -19,31 +19,21 @@ seq-first_never a b h = never-is a h ∙ sym (ap (λ e. seq_of e b) (never-is a 
 pub seq-first_empty : (a b : Expression) → is_empty a ≡ true → b ≡ seq_of a b
 seq-first_empty a b h = sym (ap (λ e. seq_of e b) (empty-is a h))
 
+before_end : (a : Expression) → (a ≡ seq_of a empty) × (never ≡ seq_of a never)
+before_end never = (refl, refl)
+before_end empty = (refl, refl)
+before_end (set s) = (refl, refl)
+before_end (seq a c) = (refl, refl)
+before_end (either es) = (refl, refl)
+before_end (both es) = (refl, refl)
+before_end (complement c) = (refl, refl)
+before_end (star c) = (refl, refl)
+
 pub seq-second_empty : (a b : Expression) → is_empty b ≡ true → a ≡ seq_of a b
-seq-second_empty a b h = at_empty a ∙ ap (seq_of a) (sym (empty-is b h))
-  where
-    at_empty : (a : Expression) → a ≡ seq_of a empty
-    at_empty never = refl
-    at_empty empty = refl
-    at_empty (set s) = refl
-    at_empty (seq a c) = refl
-    at_empty (either es) = refl
-    at_empty (both es) = refl
-    at_empty (complement c) = refl
-    at_empty (star c) = refl
+seq-second_empty a b h = (before_end a).0 ∙ ap (seq_of a) (sym (empty-is b h))
 
 pub seq-second_never : (a b : Expression) → is_never b ≡ true → b ≡ seq_of a b
-seq-second_never a b h = never-is b h ∙ at_never a ∙ ap (seq_of a) (sym (never-is b h))
-  where
-    at_never : (a : Expression) → never ≡ seq_of a never
-    at_never never = refl
-    at_never empty = refl
-    at_never (set s) = refl
-    at_never (seq a c) = refl
-    at_never (either es) = refl
-    at_never (both es) = refl
-    at_never (complement c) = refl
-    at_never (star c) = refl
+seq-second_never a b h = never-is b h ∙ (before_end a).1 ∙ ap (seq_of a) (sym (never-is b h))
 
 before-after : (a b : Expression) → is_never b ≡ false → is_empty b ≡ false → before a b ≡ after a b
 before-after a never h k = absurd (true≢false h)

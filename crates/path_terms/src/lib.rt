@@ -4,13 +4,14 @@
 mod alternation;
 mod emptiness;
 mod intersection;
+mod join;
 mod single;
 mod store;
 mod term;
 
-pub use alternation::{either_of, is_all};
+pub use alternation::is_all;
 pub use emptiness::holds_empty;
-pub use intersection::both_of;
+pub use join::{both_of, either_of};
 pub use single::{complement_of, set_of, star_of};
 pub use store::Terms;
 pub use term::Term;

@@ -1,6 +1,6 @@
 -- The standings that were reached and asked where walks go on from them.
 use Rattle.std.proofs.Common.{◌≡◌, ℕ, zero, suc, ◌+◌, ◌<◌, ◌≤◌, List, [], ◌∷◌, ◌++◌, map, take, length, get_or, Some, inl, inr, refl, sym, ap, subst, ◌∙◌, append_assoc, length-take-le, arith}
-use Rattle.std.specs.Prelude.{filter, slice_get, ◌&&◌, ◌||◌}
+use Rattle.std.specs.Prelude.{All, filter, slice_get, ◌&&◌, ◌||◌}
 use Rattle.std.specs.List.{flat_map, AllByRecursion, IsDistinct}
 use Rattle.std.proofs.lemmas.Bool.{cases_lt, cond_both, false≢true}
 use Rattle.std.proofs.lemmas.Grind.{flat_map-append}
@@ -20,7 +20,7 @@ use Rattle.net_base.proofs.NumbersBelow.{numbers-below}
 use Rattle.standings.proofs.Below.{made-at}
 use Rattle.standings.proofs.SameStandings.{Among}
 use Rattle.standings.proofs.Gathering.{among-append, among-left, among-right, gathered-among, gathered-append, gathered-distinct, gathered-extends, gathered-new}
-use Rattle.standings.proofs.Numbering.{slice_get-standings_in}
+use Rattle.standings.proofs.Numbering.{key-at, slice_get-standings_in}
 use Rattle.standings.proofs.Stepping.{gathered-nil, steps_to-kept}
 
 -- more targets of a standing that was reached
@@ -166,6 +166,13 @@ reached-key net case starts ss ks n at from m ls ys steps a key is grown =
 pub ways_here : {V : Type 0} (net : PlainNet) (case : Case) (items : V → List ℕ) (all : List V) (n at : ℕ) (v d : V) → n ≡ length net.routers + length net.peers → at < n
     → map items all ≡ map (ways net case) (numbers_below (length net.routers + length net.peers)) → v ≡ get_or all at d → items v ≡ ways net case at
 ways_here net case items all n at v d size low are is = made-at items all (ways net case) (length net.routers + length net.peers) at v d are (omega (arith, size, low)) is
+
+-- what is read of the ways at the location of a key
+pub ways_of_key : {V : Type 0} (net : PlainNet) (case : Case) (items : V → List ℕ) (all : List V) (n number i : ℕ) (keys : List Key) (key : Key) (v : V) (ls : List ℕ)
+    → n ≡ length net.routers + length net.peers → All (λ (k : Key). k.0 < n) keys → slice_get keys i ≡ Some key → number ≡ key.0
+    → map items all ≡ map (ways net case) (numbers_below (length net.routers + length net.peers)) → v ≡ get_or all number v → ls ≡ items v → ls ≡ ways net case key.0
+ways_of_key net case items all n number i keys key v ls size inside at is are read is_ls =
+    is_ls ∙ ways_here net case items all n key.0 v v size (key-at (λ (k : Key). k.0 < n) keys i key inside at) are (read ∙ ap (λ k. get_or all k v) is)
 
 pub ways_below : (net : PlainNet) (case : Case) (n at : ℕ) (ls : List ℕ) → n ≡ length net.routers + length net.peers → ls ≡ ways net case at → AllByRecursion (λ l. l < n) ls
 ways_below net case n at ls size is = subst (AllByRecursion (λ l. l < n)) (sym is) (subst (λ m. AllByRecursion (λ l. l < m) (ways net case at)) (sym size) (ways-below net case at))

@@ -8,9 +8,11 @@ loop-from-preserved c =
     let steps = c.steps-from-items.result.now in
     let s : ℕ × ℕ = get_or steps c.loop-from.from-index (0, 0) in
     let are = c.loop-from.invariant in
+    let firsts = c.loop-from.firsts.items in
+    let here = c.index_mut-first.result.now in
     record {
-      size = length-set c.loop-from.firsts.items s.1 c.min.result ∙ are.size;
-      least = least_next c.args.graph.now steps c.loop-from.firsts.items c.loop-from.from-index c.index_mut-first.result.now c.min.result c.steps-from-items.ensures.steps c.loop-from-test.true are.size
+      size = length-set firsts s.1 c.min.result ∙ are.size;
+      least = least_next c.args.graph.now steps firsts c.loop-from.from-index here c.min.result c.steps-from-items.ensures.steps c.loop-from-test.true are.size
           (c.index_mut-first.ensures.value, c.min.ensures) are.least;
     }
 

@@ -1,61 +1,39 @@
-use Rattle.std.proofs.Common.{◌≡◌, arith, ap, refl, sym, ◌∙◌, true, false, [], subst, get_or, length, map, ◌<◌, ◌≤◌}
-use Rattle.path_terms.specs.Terms.{node, are_known, ascending, is_sound, at}
+use Rattle.std.proofs.Common.{◌≡◌, arith, ap, refl, sym, ◌∙◌, true, false, [], subst, get_or, length, map, ◌<◌}
+use Rattle.path_terms.specs.Terms.{node, are_known, is_sound, at}
 use Rattle.path_terms.specs.Values.{values, value}
 use Rattle.std.proofs.lemmas.Result.{IfOk-weaker}
-use Rattle.std.proofs.lemmas.List.{append-nil, length-append, take_all}
+use Rattle.std.proofs.lemmas.List.{append-nil, take_all}
 use Rattle.path_exprs.specs.Expression.{empty, never, seq}
 use Rattle.path_exprs.specs.Membership.{member}
 use Rattle.path_exprs.specs.Normal.{either_of, both_of}
 use Rattle.path_exprs.specs.Derivative.{derivative}
-use Rattle.path_exprs.proofs.Numbers.{at-extends, extends-trans, known-append, known-at, known-more, known-one, longer}
+use Rattle.path_exprs.proofs.Numbers.{at-extends, extends-trans, known-at, longer}
 use Rattle.path_automata.proofs.Entries.{derived_extends, classed-same, never-made, set-made, not-made, star-made, seq-front, seq-both, not-below, star-below, seq-below, seq-known}
 use Rattle.path_automata.proofs.Entries.{classed-not, classed-star, classed-first, classed-second}
-use Rattle.path_automata.proofs.Lists.{either-made, both-made, classed-either, classed-both, classed-at, each-turn}
-use Rattle.std.proofs.lemmas.Bool.{and_parts}
+use Rattle.path_automata.proofs.Lists.{either-made, both-made, classed-either, classed-both, classed-at, copied-below, copied-made, each-turn, known-turn}
 use Rattle.path_automata.specs.Classes.{AreSorted}
 use Rattle.path_automata.proofs.derive.+derivative.Goals as goal
 
 pub made-derivative-requires : goal.made-derivative-requires
 made-derivative-requires t c =
-    let lt = not-below c.args.e c.term.result.now c.in-Not.a c.in-Not.is c.term.ensures.sound in (
-      omega (arith, lt),
-      (
-        c.requires.derived,
-        (
-          omega (arith, lt, c.requires.known),
-          classed-not c.args.classes.now (value c.args.terms.now c.args.e) (value c.args.terms.now c.in-Not.a)
-              (c.term.ensures.node ∙ ap (node (values c.args.terms.now)) c.in-Not.is) c.requires.classed,
-        ),
-      ),
-    )
+    let old = values c.args.terms.now in
+    let lt = not-below c.args.e c.term.result.now c.in-Not.a c.in-Not.is c.term.ensures.sound in
+    let classed = classed-not c.args.classes.now (at old c.args.e) (at old c.in-Not.a) (c.term.ensures.node ∙ ap (node old) c.in-Not.is) c.requires.classed in
+    (omega (arith, lt), (c.requires.derived, (omega (arith, lt, c.requires.known), classed)))
 
 pub made-derivative-requires-in-Star : goal.made-derivative-requires-in-Star
 made-derivative-requires-in-Star t c =
-    let lt = star-below c.args.e c.term.result.now c.in-Star.a c.in-Star.is c.term.ensures.sound in (
-      omega (arith, lt),
-      (
-        c.requires.derived,
-        (
-          omega (arith, lt, c.requires.known),
-          classed-star c.args.classes.now (value c.args.terms.now c.args.e) (value c.args.terms.now c.in-Star.a)
-              (c.term.ensures.node ∙ ap (node (values c.args.terms.now)) c.in-Star.is) c.requires.classed,
-        ),
-      ),
-    )
+    let old = values c.args.terms.now in
+    let lt = star-below c.args.e c.term.result.now c.in-Star.a c.in-Star.is c.term.ensures.sound in
+    let classed = classed-star c.args.classes.now (at old c.args.e) (at old c.in-Star.a) (c.term.ensures.node ∙ ap (node old) c.in-Star.is) c.requires.classed in
+    (omega (arith, lt), (c.requires.derived, (omega (arith, lt, c.requires.known), classed)))
 
 pub made-derivative-requires-in-Seq : goal.made-derivative-requires-in-Seq
 made-derivative-requires-in-Seq t c =
-    let lt = (seq-below c.args.e c.term.result.now c.in-Seq.a c.in-Seq.b c.in-Seq.is c.term.ensures.sound).0 in (
-      omega (arith, lt),
-      (
-        c.requires.derived,
-        (
-          omega (arith, lt, c.requires.known),
-          classed-first c.args.classes.now (value c.args.terms.now c.args.e) (value c.args.terms.now c.in-Seq.a) (value c.args.terms.now c.in-Seq.b)
-              (c.term.ensures.node ∙ ap (node (values c.args.terms.now)) c.in-Seq.is) c.requires.classed,
-        ),
-      ),
-    )
+    let old = values c.args.terms.now in
+    let lt = (seq-below c.args.e c.term.result.now c.in-Seq.a c.in-Seq.b c.in-Seq.is c.term.ensures.sound).0 in
+    let classed = classed-first c.args.classes.now (at old c.args.e) (at old c.in-Seq.a) (at old c.in-Seq.b) (c.term.ensures.node ∙ ap (node old) c.in-Seq.is) c.requires.classed in
+    (omega (arith, lt), (c.requires.derived, (omega (arith, lt, c.requires.known), classed)))
 
 pub made-returns-in_err-kept-in-Seq-clause-derived : goal.made-returns-in_err-kept-in-Seq-clause-derived
 made-returns-in_err-kept-in-Seq-clause-derived t c =
@@ -165,8 +143,8 @@ made-returns-else-holds_empty t c =
       extends = x2;
     }
 
-pub derivative_each-derivative-requires : goal.derivative_each-derivative-requires
-derivative_each-derivative-requires t c =
+pub derivatives-derivative-requires : goal.derivatives-derivative-requires
+derivatives-derivative-requires t c =
     let old = values c.args.terms.now in
     let lt = known-at c.args.bound c.args.numbers.now c.loop-i.i 0 c.loop-i-test.true c.requires.below in
     let lo : get_or c.args.numbers.now c.loop-i.i 0 < length old = omega (arith, lt, c.requires.bound) in (
@@ -181,100 +159,76 @@ derivative_each-derivative-requires t c =
       ),
     )
 
-pub derivative_each-loop-i-preserved : goal.derivative_each-loop-i-preserved
-derivative_each-loop-i-preserved t c =
+pub derivatives-loop-i-preserved : goal.derivatives-loop-i-preserved
+derivatives-loop-i-preserved t c =
     let old = values c.args.terms.now in
     let cur = values c.loop-i.terms in
     let new = values c.derivative.new.terms in
+    let ns = c.loop-i.all.items in
+    let known = c.loop-i.invariant.known in
+    let x = c.derivative.ensures.extends in
     let lt = known-at c.args.bound c.args.numbers.now c.loop-i.i 0 c.loop-i-test.true c.requires.below in
     let lo : get_or c.args.numbers.now c.loop-i.i 0 < length old = omega (arith, lt, c.requires.bound) in
-    let le : length cur ≤ length new = (let l = ap length c.derivative.ensures.extends.1 ∙ length-append cur c.derivative.ensures.extends.0 in omega (arith, l)) in
     record {
       derived = c.derivative.ensures.derived;
-      extends = extends-trans old cur new c.loop-i.invariant.extends c.derivative.ensures.extends;
+      extends = extends-trans old cur new c.loop-i.invariant.extends x;
       made = ap (map (at new)) c.in_ok-push.ensures.items
-          ∙ each-turn old cur new c.loop-i.all.items c.args.numbers.now c.loop-i.i 0 _ c.args.at c.loop-i.invariant.extends
-          c.derivative.ensures.extends c.loop-i.invariant.known lo c.loop-i-test.true c.loop-i.invariant.made c.in_ok-derivative.ensures.made;
-      known = subst (λ l. are_known (length new) l ≡ true) (sym c.in_ok-push.ensures.items)
-          (known-append (length new) c.loop-i.all.items _ (known-more (length cur) (length new) c.loop-i.all.items le c.loop-i.invariant.known)
-          (known-one (length new) _ c.in_ok-derivative.ensures.known));
+          ∙ each-turn old cur new ns c.args.numbers.now c.loop-i.i 0 _ c.args.at c.loop-i.invariant.extends x known lo c.loop-i-test.true c.loop-i.invariant.made c.in_ok-derivative.ensures.made;
+      known = known-turn cur new ns _ _ c.in_ok-push.ensures.items x known c.in_ok-derivative.ensures.known;
+      len = omega (arith, c.in_ok-push.ensures.len, c.loop-i.invariant.len);
     }
 
 pub made-returns-in_ok-all-in-Either : goal.made-returns-in_ok-all-in-Either
 made-returns-in_ok-all-in-Either t c =
     let old = values c.args.terms.now in
-    let one = values c.derivative_each.new.terms in
+    let one = values c.derivatives.new.terms in
     let ms = c.in-Either.members.items in
     let same = c.deref-in-Either.ensures.value ∙ c.in_ok-members-in-Either.ensures ∙ c.deref.ensures.value in record {
-      derived = derived_extends c.args.classes.now one (values c.either_of.new.terms) c.derivative_each.new.derived c.either_of.ensures.extends c.derivative_each.ensures.derived;
+      derived = derived_extends c.args.classes.now one (values c.either_of.new.terms) c.derivatives.new.derived c.either_of.ensures.extends c.derivatives.ensures.derived;
       made =
           IfOk-weaker c.either_of.result _ _
           (λ n r. either-made c.args.at (map (at old) ms) (at old c.args.e) _ (c.term.ensures.node ∙ ap (node old) c.in-Either.is)
-          (r ∙ ap either_of (ap (map (at one)) c.deref-in-Either-2.ensures.value ∙ c.in_ok-all-in-Either.ensures.made ∙ ap (λ l. map (derivative c.args.at) (map (at old) l)) same)))
+          (r ∙ ap either_of (copied-made c.args.at old one ms _ _ _ c.deref-in-Either-2.ensures.value c.in_ok-all-in-Either.ensures.made same)))
           c.either_of.ensures.made;
       known = c.either_of.ensures.known;
-      extends = extends-trans old one (values c.either_of.new.terms) c.derivative_each.ensures.extends c.either_of.ensures.extends;
+      extends = extends-trans old one (values c.either_of.new.terms) c.derivatives.ensures.extends c.either_of.ensures.extends;
     }
 
 pub made-returns-in_ok-all-in-Both : goal.made-returns-in_ok-all-in-Both
 made-returns-in_ok-all-in-Both t c =
     let old = values c.args.terms.now in
-    let one = values c.derivative_each-in-Both.new.terms in
+    let one = values c.derivatives-in-Both.new.terms in
     let ms = c.in-Both.members.items in
     let same = c.deref-in-Both-2.ensures.value ∙ c.in_ok-members-in-Both.ensures ∙ c.deref-in-Both.ensures.value in record {
       derived =
-          derived_extends c.args.classes.now one (values c.both_of.new.terms) c.derivative_each-in-Both.new.derived
-          c.both_of.ensures.extends c.derivative_each-in-Both.ensures.derived;
+          derived_extends c.args.classes.now one (values c.both_of.new.terms) c.derivatives-in-Both.new.derived
+          c.both_of.ensures.extends c.derivatives-in-Both.ensures.derived;
       made =
           IfOk-weaker c.both_of.result _ _
           (λ n r. both-made c.args.at (map (at old) ms) (at old c.args.e) _ (c.term.ensures.node ∙ ap (node old) c.in-Both.is)
-          (r ∙ ap both_of (ap (map (at one)) c.deref-in-Both-3.ensures.value ∙ c.in_ok-all-in-Both.ensures.made ∙ ap (λ l. map (derivative c.args.at) (map (at old) l)) same)))
+          (r ∙ ap both_of (copied-made c.args.at old one ms _ _ _ c.deref-in-Both-3.ensures.value c.in_ok-all-in-Both.ensures.made same)))
           c.both_of.ensures.made;
       known = c.both_of.ensures.known;
-      extends = extends-trans old one (values c.both_of.new.terms) c.derivative_each-in-Both.ensures.extends c.both_of.ensures.extends;
+      extends = extends-trans old one (values c.both_of.new.terms) c.derivatives-in-Both.ensures.extends c.both_of.ensures.extends;
     }
 
-pub made-derivative_each-requires : goal.made-derivative_each-requires
-made-derivative_each-requires t c =
+pub made-derivatives-requires : goal.made-derivatives-requires
+made-derivatives-requires t c =
     let old = values c.args.terms.now in
     let ms = c.in-Either.members.items in
     let same = c.deref-in-Either.ensures.value ∙ c.in_ok-members-in-Either.ensures ∙ c.deref.ensures.value in
-    let sound = subst (λ t. is_sound c.args.e t ≡ true) c.in-Either.is c.term.ensures.sound in
-    let below = (and_parts (are_known c.args.e ms) (ascending ms) sound).0 in (
-      omega arith,
-      (
-        c.requires.derived,
-        (
-          c.requires.known,
-          (
-            subst (λ l. are_known c.args.e l ≡ true) (sym same) below,
-            subst (λ l. AreSorted c.args.classes.now (map (at old) l)) (sym same)
-                (classed-either c.args.classes.now (map (at old) ms) (at old c.args.e) (c.term.ensures.node ∙ ap (node old) c.in-Either.is) c.requires.classed),
-          ),
-        ),
-      ),
-    )
+    let below = copied-below c.args.e ms _ same (subst (λ t. is_sound c.args.e t ≡ true) c.in-Either.is c.term.ensures.sound) in
+    let classed = classed-either c.args.classes.now (map (at old) ms) (at old c.args.e) (c.term.ensures.node ∙ ap (node old) c.in-Either.is) c.requires.classed in
+    (omega arith, (c.requires.derived, (omega (arith, c.requires.known), (below, subst (λ l. AreSorted c.args.classes.now (map (at old) l)) (sym same) classed))))
 
-pub made-derivative_each-requires-in-Both : goal.made-derivative_each-requires-in-Both
-made-derivative_each-requires-in-Both t c =
+pub made-derivatives-requires-in-Both : goal.made-derivatives-requires-in-Both
+made-derivatives-requires-in-Both t c =
     let old = values c.args.terms.now in
     let ms = c.in-Both.members.items in
     let same = c.deref-in-Both-2.ensures.value ∙ c.in_ok-members-in-Both.ensures ∙ c.deref-in-Both.ensures.value in
-    let sound = subst (λ t. is_sound c.args.e t ≡ true) c.in-Both.is c.term.ensures.sound in
-    let below = (and_parts (are_known c.args.e ms) (ascending ms) sound).0 in (
-      omega arith,
-      (
-        c.requires.derived,
-        (
-          c.requires.known,
-          (
-            subst (λ l. are_known c.args.e l ≡ true) (sym same) below,
-            subst (λ l. AreSorted c.args.classes.now (map (at old) l)) (sym same)
-                (classed-both c.args.classes.now (map (at old) ms) (at old c.args.e) (c.term.ensures.node ∙ ap (node old) c.in-Both.is) c.requires.classed),
-          ),
-        ),
-      ),
-    )
+    let below = copied-below c.args.e ms _ same (subst (λ t. is_sound c.args.e t ≡ true) c.in-Both.is c.term.ensures.sound) in
+    let classed = classed-both c.args.classes.now (map (at old) ms) (at old c.args.e) (c.term.ensures.node ∙ ap (node old) c.in-Both.is) c.requires.classed in
+    (omega arith, (c.requires.derived, (omega (arith, c.requires.known), (below, subst (λ l. AreSorted c.args.classes.now (map (at old) l)) (sym same) classed))))
 
 pub made-front-requires : goal.made-front-requires
 made-front-requires t c =
@@ -383,17 +337,21 @@ derivative-note-requires t c =
       made = c.in_ok-d-in-None.ensures.made ∙ ap (derivative c.args.at) (sym same);
     }
 
-pub derivative_each-loop-i-init : goal.derivative_each-loop-i-init
-derivative_each-loop-i-init t c =
+pub derivatives-loop-i-init : goal.derivatives-loop-i-init
+derivatives-loop-i-init t c =
     let old = values c.args.terms.now in
     record {
       derived = c.requires.derived;
       extends = ([], sym (append-nil old));
       made = ap (map (at old)) c.new-all.ensures.items;
       known = ap (are_known (length old)) c.new-all.ensures.items;
+      len = c.new-all.ensures.len;
     }
 
-pub derivative_each-returns-clause-made : goal.derivative_each-returns-clause-made
-derivative_each-returns-clause-made t c =
+pub derivatives-returns-clause-made : goal.derivatives-returns-clause-made
+derivatives-returns-clause-made t c =
     c.loop-i.invariant.made
     ∙ ap (λ l. map (derivative c.args.at) (map (at (values c.args.terms.now)) l)) (take_all c.loop-i.i c.args.numbers.now c.loop-i-test.false)
+
+pub derivatives-returns-clause-len : goal.derivatives-returns-clause-len
+derivatives-returns-clause-len t c = omega (arith, c.loop-i.invariant.len, c.loop-i-test.false, c.loop-i.auto.i-end)

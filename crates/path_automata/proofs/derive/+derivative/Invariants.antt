@@ -1,4 +1,4 @@
-use Rattle.std.proofs.Common.{◌≡◌, ◌+◌, ◌*◌, map, take, length, true}
+use Rattle.std.proofs.Common.{◌≡◌, ◌+◌, ◌*◌, map, take, length, true, vec_len}
 use Rattle.path_exprs.specs.Derivative.{derivative}
 use Rattle.path_automata.specs.Derived.{AreDerivatives}
 use Rattle.path_terms.specs.Terms.{are_known, Extends}
@@ -11,13 +11,14 @@ decreases-derivative l = 4 * l.e + 3
 abbrev pub decreases-made : goal.decreases-made
 decreases-made l = 4 * l.e + 2
 
-abbrev pub decreases-derivative_each : goal.decreases-derivative_each
-decreases-derivative_each l = 4 * l.bound + 1
+abbrev pub decreases-derivatives : goal.decreases-derivatives
+decreases-derivatives l = 4 * l.bound + 1
 
-abbrev pub invariant-derivative_each-loop-i : goal.invariant-derivative_each-loop-i
-invariant-derivative_each-loop-i l = record {
+abbrev pub invariant-derivatives-loop-i : goal.invariant-derivatives-loop-i
+invariant-derivatives-loop-i l = record {
   derived : AreDerivatives l.classes (values l.terms) l.derived;
   extends : Extends (values l.initial.terms) (values l.terms);
   made : map (value l.terms) l.all.items ≡ map (derivative l.at) (map (value l.initial.terms) (take l.i l.numbers));
   known : are_known (length (values l.terms)) l.all.items ≡ true;
+  len : vec_len l.all ≡ l.i;
 }

@@ -1,13 +1,13 @@
-use Rattle.std.proofs.Common.{◌≡◌, ◌<◌, ◌∷◌, [], length, lt-ltb, map, get_or, refl, subst, sym, true, ap, ◌∙◌}
+use Rattle.std.proofs.Common.{◌≡◌, ◌∷◌, [], length, lt-ltb, map, get_or, subst, sym, true, ap, ◌∙◌}
 use Rattle.std.specs.Prelude.{nat_lt}
-use Rattle.std.proofs.lemmas.Bool.{and_from, and_parts, ltb-true}
+use Rattle.std.proofs.lemmas.Bool.{and_from}
 use Rattle.std.proofs.lemmas.List.{append-nil}
 use Rattle.std.proofs.lemmas.Result.{IfOk-weaker}
 use Rattle.path_exprs.specs.Normal.{normal, reversed}
-use Rattle.path_exprs.specs.Parts.{are_known, expression_of, is_earlier}
-use Rattle.path_exprs.proofs.Numbers.{extends-trans, known-at}
+use Rattle.path_exprs.specs.Parts.{are_known, expression_of}
+use Rattle.path_exprs.proofs.Numbers.{known-at, known-one}
 use Rattle.path_terms.specs.Values.{values}
-use Rattle.path_automata.proofs.Reversals.{known-places, onto-nothing, members-known, part-Both, part-Either, part-Not}
+use Rattle.path_automata.proofs.Reversals.{both-within, known-places, members-known, not-within, part-Both, part-Either, part-Not}
 use Rattle.path_automata.proofs.starts.start_of_part.Goals as goal
 
 pub either_of-requires : goal.either_of-requires
@@ -41,54 +41,37 @@ returns-in-Not-clause-made c =
     c.complement_of.ensures.made
 
 pub bounds-before-a : goal.bounds-before-a
-bounds-before-a c =
-    let ns = c.args.before.now in
-    let within = and_parts (nat_lt c.in-Both.a (length ns)) (nat_lt c.in-Both.b (length ns)) (subst (λ p. is_earlier (length ns) p ≡ true) c.in-Both.is c.requires.earlier) in
-    ltb-true c.in-Both.a (length ns) within.0
+bounds-before-a c = (both-within (length c.args.before.now) c.in-Both.a c.in-Both.b c.args.part.now c.requires.earlier c.in-Both.is).0
 
 pub bounds-before-b : goal.bounds-before-b
-bounds-before-b c =
-    let ns = c.args.before.now in
-    let within = and_parts (nat_lt c.in-Both.a (length ns)) (nat_lt c.in-Both.b (length ns)) (subst (λ p. is_earlier (length ns) p ≡ true) c.in-Both.is c.requires.earlier) in
-    ltb-true c.in-Both.b (length ns) within.1
+bounds-before-b c = (both-within (length c.args.before.now) c.in-Both.a c.in-Both.b c.args.part.now c.requires.earlier c.in-Both.is).1
 
 pub both_of-requires : goal.both_of-requires
 both_of-requires c =
     let k = length (values c.args.terms.now) in
     let ns = c.args.before.now in
-    let within = and_parts (nat_lt c.in-Both.a (length ns)) (nat_lt c.in-Both.b (length ns)) (subst (λ p. is_earlier (length ns) p ≡ true) c.in-Both.is c.requires.earlier) in
-    let one = get_or ns c.in-Both.a 0 in
-    let other = get_or ns c.in-Both.b 0 in
-    let first = lt-ltb one k (known-at k ns c.in-Both.a 0 (ltb-true c.in-Both.a (length ns) within.0) c.requires.known) in
-    let second = lt-ltb other k (known-at k ns c.in-Both.b 0 (ltb-true c.in-Both.b (length ns) within.1) c.requires.known) in
-    record { known = and_from (nat_lt one k) (are_known k (other ∷ [])) first (and_from (nat_lt other k) true second refl) }
+    let within = both-within (length ns) c.in-Both.a c.in-Both.b c.args.part.now c.requires.earlier c.in-Both.is in
+    let first = known-at k ns c.in-Both.a 0 within.0 c.requires.known in
+    let second = known-at k ns c.in-Both.b 0 within.1 c.requires.known in
+    record { known = and_from (nat_lt (get_or ns c.in-Both.a 0) k) (are_known k (get_or ns c.in-Both.b 0 ∷ [])) (lt-ltb _ k first) (known-one k _ second) }
 
 pub bounds-before-a-in-Not : goal.bounds-before-a-in-Not
-bounds-before-a-in-Not c =
-    let ns = c.args.before.now in
-    ltb-true c.in-Not.a (length ns) (subst (λ p. is_earlier (length ns) p ≡ true) c.in-Not.is c.requires.earlier)
+bounds-before-a-in-Not c = not-within (length c.args.before.now) c.in-Not.a c.args.part.now c.requires.earlier c.in-Not.is
 
 pub complement_of-requires : goal.complement_of-requires
 complement_of-requires c =
     let ns = c.args.before.now in
-    let within : c.in-Not.a < length ns = ltb-true c.in-Not.a (length ns) (subst (λ p. is_earlier (length ns) p ≡ true) c.in-Not.is c.requires.earlier) in
+    let within = not-within (length ns) c.in-Not.a c.args.part.now c.requires.earlier c.in-Not.is in
     record { known = known-at (length (values c.args.terms.now)) ns c.in-Not.a 0 within c.requires.known }
 
-pub returns-in_ok-empty-in-Own-clause-made : goal.returns-in_ok-empty-in-Own-clause-made
-returns-in_ok-empty-in-Own-clause-made c =
-    IfOk-weaker c.reversed_onto.result _ _
-    (λ n made es q. onto-nothing _ _ _ made c.in_ok-empty-in-Own.ensures.made ∙ sym (ap (λ p. normal c.args.full.now (reversed (expression_of es p))) c.in-Own.is))
-    c.reversed_onto.ensures.made
-
-pub returns-in_ok-empty-in-Own-clause-extends : goal.returns-in_ok-empty-in-Own-clause-extends
-returns-in_ok-empty-in-Own-clause-extends c =
-    extends-trans (values c.args.terms.now) (values c.intern.new.self) (values c.reversed_onto.new.terms) c.intern.ensures.extends c.reversed_onto.ensures.extends
+pub returns-in-Own-clause-made : goal.returns-in-Own-clause-made
+returns-in-Own-clause-made c =
+    IfOk-weaker c.reversal_of.result _ _
+    (λ n made es q. made ∙ sym (ap (λ p. normal c.args.full.now (reversed (expression_of es p))) c.in-Own.is))
+    c.reversal_of.ensures.made
 
 pub returns-in_err-members-in-Either-clause-extends : goal.returns-in_err-members-in-Either-clause-extends
 returns-in_err-members-in-Either-clause-extends c = ([], sym (append-nil (values c.args.terms.now)))
-
-pub returns-in_ok-empty-in-Own-clause-known : goal.returns-in_ok-empty-in-Own-clause-known
-returns-in_ok-empty-in-Own-clause-known c = c.reversed_onto.ensures.known
 
 pub returns-in-Both-clause-known : goal.returns-in-Both-clause-known
 returns-in-Both-clause-known c = c.both_of.ensures.known

@@ -2,8 +2,9 @@ use Rattle.std.proofs.Common.{◌≡◌, arith, length, map, subst, sym, take, t
 use Rattle.std.proofs.lemmas.List.{take_all}
 use Rattle.path_exprs.specs.Parts.{are_known, at, expressions_of_parts, is_earlier}
 use Rattle.path_exprs.specs.Runs.{start_of}
-use Rattle.path_exprs.proofs.Numbers.{are_earlier-at, known-append, known-more, known-one, no-shorter}
+use Rattle.path_exprs.proofs.Numbers.{are_earlier-at}
 use Rattle.path_terms.specs.Values.{values}
+use Rattle.path_automata.proofs.Lists.{known-turn}
 use Rattle.path_automata.proofs.Reversals.{part-turn}
 use Rattle.path_automata.proofs.starts.starts_of_parts.Goals as goal
 
@@ -33,8 +34,7 @@ loop-i-preserved c =
     record {
       made = ap (map (at new)) c.in_ok-push.ensures.items
           ∙ part-turn c.args.full.now cur new ns c.args.parts.now c.loop-i.i c.in_ok-next.next c.index-parts-i.result x known c.loop-i-test.true c.index-parts-i.is c.loop-i.invariant.made next;
-      known = subst (λ l. are_known (length new) l ≡ true) (sym c.in_ok-push.ensures.items)
-          (known-append (length new) ns _ (known-more (length cur) (length new) ns (no-shorter cur new x) known) (known-one (length new) _ c.in_ok-next.ensures.known));
+      known = known-turn cur new ns _ _ c.in_ok-push.ensures.items x known c.in_ok-next.ensures.known;
       len = omega (arith, c.in_ok-push.ensures.len, c.loop-i.invariant.len);
     }
 

@@ -1,28 +1,23 @@
-use Rattle.std.proofs.Common.{arith, ap, sym, ◌∙◌, ◌≡◌, true, ◌++◌, ◌∷◌, [], map, subst, length, refl}
-use Rattle.std.proofs.lemmas.Bool.{and_parts}
-use Rattle.path_exprs.specs.Expression.{either}
-use Rattle.path_exprs.specs.Normal.{either_parts, sorted}
-use Rattle.path_exprs.proofs.Numbers.{known-append, known-more, known-one}
-use Rattle.path_terms.specs.Terms.{are_known, at, node, is_sound, ascending}
+use Rattle.std.proofs.Common.{ap, ◌∙◌, ◌≡◌, true, ◌++◌, map, subst, length}
+use Rattle.path_exprs.specs.Normal.{sorted}
+use Rattle.path_terms.specs.Terms.{at, node, is_sound}
 use Rattle.path_terms.specs.Values.{values}
+use Rattle.path_terms.specs.declared.join.Join.TheVariants.{AnyOf}
 use Rattle.path_terms.proofs.Members.{add-nothing, add-one}
-use Rattle.path_terms.proofs.Joins.{add-members}
+use Rattle.path_terms.proofs.Joins.{add-members, member-known, members-known}
 use Rattle.path_terms.proofs.alternation.add_parts.Goals as goal
 
-pub returns-in_ok-extend_from_slice-in-Either-clause-added : goal.returns-in_ok-extend_from_slice-in-Either-clause-added
-returns-in_ok-extend_from_slice-in-Either-clause-added c =
+pub returns-in_ok-extend_from_slice-in-Either : goal.returns-in_ok-extend_from_slice-in-Either
+returns-in_ok-extend_from_slice-in-Either c =
     let vs = values c.args.terms.now in
-    ap (λ l. sorted (map (at vs) l)) (c.in_ok-extend_from_slice-in-Either.ensures.items ∙ ap (λ l. c.args.all.now.items ++ l) c.deref.ensures.value)
-    ∙ add-members either_parts either (λ es. refl) vs c.args.all.now.items c.in-Either.members.items (at vs c.args.number) (c.term.ensures.node ∙ ap (node vs) c.in-Either.is)
-
-pub returns-in_ok-extend_from_slice-in-Either-clause-known : goal.returns-in_ok-extend_from_slice-in-Either-clause-known
-returns-in_ok-extend_from_slice-in-Either-clause-known c =
-    let k = length (values c.args.terms.now) in
+    let all = c.args.all.now.items in
     let ms = c.in-Either.members.items in
-    let sound = subst (λ t. is_sound c.args.number t ≡ true) c.in-Either.is c.term.ensures.sound in
-    let below = (and_parts (are_known c.args.number ms) (ascending ms) sound).0 in
-    subst (λ l. are_known k l ≡ true) (sym (c.in_ok-extend_from_slice-in-Either.ensures.items ∙ ap (λ l. c.args.all.now.items ++ l) c.deref.ensures.value))
-    (known-append k c.args.all.now.items ms c.requires.all_known (known-more c.args.number k ms (omega (arith, c.requires.known)) below))
+    let number = c.args.number in
+    let items = c.in_ok-extend_from_slice-in-Either.ensures.items ∙ ap (λ l. all ++ l) c.deref.ensures.value in
+    record {
+      added = add-members AnyOf vs all _ ms (at vs number) items (c.term.ensures.node ∙ ap (node vs) c.in-Either.is);
+      known = members-known (length vs) number all _ ms items c.requires.known c.requires.all_known (subst (λ t. is_sound number t ≡ true) c.in-Either.is c.term.ensures.sound);
+    }
 
 pub returns-in-Never-clause-added : goal.returns-in-Never-clause-added
 returns-in-Never-clause-added c =
@@ -34,9 +29,8 @@ returns-in_ok-push-in_default c =
     let vs = values c.args.terms.now in
     let all = c.args.all.now.items in
     let number = c.args.number in
-    let k = length vs in
     let items = c.in_ok-push-in_default.ensures.items in
     record {
       added = ap (λ l. sorted (map (at vs) l)) items ∙ add-one vs all number c.term.result.now c.term.ensures.node c.in_default.not-Never c.in_default.not-Either;
-      known = subst (λ l. are_known k l ≡ true) (sym items) (known-append k all (number ∷ []) c.requires.all_known (known-one k number c.requires.known));
+      known = member-known (length vs) number all _ items c.requires.known c.requires.all_known;
     }

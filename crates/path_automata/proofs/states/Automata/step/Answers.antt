@@ -1,4 +1,4 @@
-use Rattle.std.proofs.Common.{◌≡◌, ◌≤◌, ◌<◌, ℕ, List, length, All, Vec, Global, vec_len, arith, ap, map, sym, subst, true, ◌∙◌, Some, []}
+use Rattle.std.proofs.Common.{◌≡◌, ◌≤◌, ◌<◌, ℕ, List, length, All, Vec, Global, vec_len, arith, ap, map, refl, sym, subst, true, ◌∙◌, Some, []}
 use Rattle.std.specs.Prelude.{Err, Ok, OnErr, Result, slice_get}
 use Rattle.std.proofs.lemmas.List.{append-nil, length-append, length-map}
 use Rattle.std.proofs.lemmas.Option.{get_or_from_slice_get, same_Some, slice_get_within}
@@ -12,7 +12,8 @@ use Rattle.path_terms.specs.Values.{values}
 use Rattle.path_automata.specs.Classes.{InSameSets, SameClass}
 use Rattle.path_automata.specs.Derived.{AreDerivatives}
 use Rattle.path_automata.specs.Found.{states_in, facts_of, AreFacts}
-use Rattle.path_automata.specs.Memo.{AreAlike, IsRight, NoTwice}
+use Rattle.path_automata.specs.Memo.{AreAlike, IsRight, Notes, NoTwice}
+use Rattle.path_automata.specs.declared.memo.Memo.{Memo}
 use Rattle.path_automata.proofs.MemoLemmas.{alike-grown, alike-kept, known, right-grown, right-kept}
 use Rattle.path_automata.proofs.StateLemmas.{Key, IsKnown, all-at, all-inserted, all-weaker, apart-from_distinct, extends-grown, facts-cover, facts-grown, facts-kept}
 use Rattle.path_automata.proofs.StateLemmas.{grown-insert_key, state-get, state-stored, states-extend}
@@ -23,6 +24,18 @@ still-known : (old new : List Expression) (ks : List Key) → terms.Extends old 
 still-known old new ks x all =
     let le : length old ≤ length new = (let l = ap length x.1 ∙ length-append old x.0 in omega (arith, l)) in
     all-weaker (IsKnown old) (IsKnown new) ks (λ v h. known-more (length old) (length new) v.items le h) all
+
+-- the states of the same keys stay as they are, and what the memo says of them stays right
+still-states : (old new : List Expression) (ks more : List Key) (memo room : Memo) → more ≡ ks → terms.Extends old new → All (IsKnown old) ks
+    → room.classes ≡ memo.classes → ((s x t : ℕ) → Notes room s x t → Notes memo s x t)
+    → NoTwice (states_in old ks) → AreAlike memo (states_in old ks) → IsRight memo (states_in old ks)
+    → NoTwice (states_in new more) × AreAlike room (states_in new more) × IsRight room (states_in new more)
+still-states old new ks more memo room is x all classes kept apart alike right =
+    let same = sym (ap (states_in new) is ∙ states-extend old new ks x all) in (
+      subst NoTwice same apart,
+      subst (AreAlike room) same (alike-kept memo room (states_in old ks) classes alike),
+      subst (IsRight room) same (right-kept memo room (states_in old ks) kept right),
+    )
 
 on_any : {T E : Type 0} (P : Type 0) (r : Result T E) → P → OnErr r P
 on_any P (Ok x) p = tt
@@ -69,15 +82,16 @@ invariant_of-self-in-Break-branch-2 c =
     let new = values c.derivatives.new.terms in
     let room = c.make_room.new.self in
     let same = sym (states-extend old new ks c.derivatives.ensures.extends self.known) in
+    let still = still-states old new ks ks self.memo room refl c.derivatives.ensures.extends self.known c.make_room.ensures.classes c.make_room.ensures.kept self.apart self.alike self.right in
     record {
       few = self.few;
       begun = self.begun;
       known = still-known old new ks c.derivatives.ensures.extends self.known;
       kept = subst (λ (cs : List ℕ). AreDerivatives cs new c.derivatives.new.derived) c.classes.ensures c.derivatives.ensures.derived;
       told = subst (AreFacts self.facts.items) same self.told;
-      apart = subst NoTwice same self.apart;
-      alike = subst (AreAlike room) same (alike-kept self.memo room (states_in old ks) c.make_room.ensures.classes self.alike);
-      right = subst (IsRight room) same (right-kept self.memo room (states_in old ks) c.make_room.ensures.kept self.right);
+      apart = still.0;
+      alike = still.1;
+      right = still.2;
     }
 
 pub invariant_of-self-in-Break-branch-3 : goal.invariant_of-self-in-Break-branch-3
@@ -88,6 +102,7 @@ invariant_of-self-in-Break-branch-3 c =
     let new = values c.derivatives.new.terms in
     let room = c.make_room.new.self in
     let same = sym (states-extend old new ks c.derivatives.ensures.extends self.known) in
+    let still = still-states old new ks ks self.memo room refl c.derivatives.ensures.extends self.known c.make_room.ensures.classes c.make_room.ensures.kept self.apart self.alike self.right in
     let size = length-map ks (λ v. map (at old) v.items) in
     record {
       few = self.few;
@@ -96,9 +111,9 @@ invariant_of-self-in-Break-branch-3 c =
       kept = subst (λ (cs : List ℕ). AreDerivatives cs new c.derivatives.new.derived) c.classes.ensures c.derivatives.ensures.derived;
       told = subst (AreFacts c.put_facts.new.all.items) same
           (facts-kept self.facts.items c.put_facts.new.all.items (states_in old ks) c.len.result (omega (arith, size, c.len.ensures.len)) self.told c.put_facts.ensures.before);
-      apart = subst NoTwice same self.apart;
-      alike = subst (AreAlike room) same (alike-kept self.memo room (states_in old ks) c.make_room.ensures.classes self.alike);
-      right = subst (IsRight room) same (right-kept self.memo room (states_in old ks) c.make_room.ensures.kept self.right);
+      apart = still.0;
+      alike = still.1;
+      right = still.2;
     }
 
 pub invariant_of-self-in-Break-branch-4 : goal.invariant_of-self-in-Break-branch-4
@@ -109,6 +124,8 @@ invariant_of-self-in-Break-branch-4 c =
     let new = values c.derivatives.new.terms in
     let room = c.make_room.new.self in
     let same = sym (states-extend old new ks c.derivatives.ensures.extends self.known) in
+    let x = c.derivatives.ensures.extends in
+    let still = still-states old new ks _ self.memo room c.in_err-number.ensures.err x self.known c.make_room.ensures.classes c.make_room.ensures.kept self.apart self.alike self.right in
     let same_keys = sym c.in_err-number.ensures.err in
     let size = length-map ks (λ v. map (at old) v.items) in
     record {
@@ -118,9 +135,9 @@ invariant_of-self-in-Break-branch-4 c =
       kept = subst (λ (cs : List ℕ). AreDerivatives cs new c.derivatives.new.derived) c.classes.ensures c.derivatives.ensures.derived;
       told = subst (λ (ks : List Key). AreFacts c.put_facts.new.all.items (states_in new ks)) same_keys (subst (AreFacts c.put_facts.new.all.items) same
           (facts-kept self.facts.items c.put_facts.new.all.items (states_in old ks) c.len.result (omega (arith, size, c.len.ensures.len)) self.told c.put_facts.ensures.before));
-      apart = subst (λ (ks : List Key). NoTwice (states_in new ks)) same_keys (subst NoTwice same self.apart);
-      alike = subst (λ (ks : List Key). AreAlike room (states_in new ks)) same_keys (subst (AreAlike room) same (alike-kept self.memo room (states_in old ks) c.make_room.ensures.classes self.alike));
-      right = subst (λ (ks : List Key). IsRight room (states_in new ks)) same_keys (subst (IsRight room) same (right-kept self.memo room (states_in old ks) c.make_room.ensures.kept self.right));
+      apart = still.0;
+      alike = still.1;
+      right = still.2;
     }
 
 pub returns-in_err-next-clause-extends : goal.returns-in_err-next-clause-extends
@@ -160,12 +177,16 @@ returns-in_err-number-clause-err c =
 
 -- the next state was derived
 
-pub derivatives-requires-clause-known : goal.derivatives-requires-clause-known
-derivatives-requires-clause-known c =
+pub derivatives-requires-clause-bound : goal.derivatives-requires-clause-bound
+derivatives-requires-clause-bound c = omega (arith, c.len-bound.ensures.len)
+
+pub derivatives-requires-clause-below : goal.derivatives-requires-clause-below
+derivatives-requires-clause-below c =
     let self = c.args.self.now in
     let old = values self.terms in
-    subst (λ l. are_known (length old) l ≡ true) (sym c.deref.ensures.value)
-    (all-at (IsKnown old) self.found.keys c.state.inside.0 c.in-Some-get_index.alternatives.now self.known (sym c.in-Some-get_index.ensures.key))
+    let there = all-at (IsKnown old) self.found.keys c.state.inside.0 c.in-Some-get_index.alternatives.now self.known (sym c.in-Some-get_index.ensures.key) in
+    subst (λ k. are_known k c.deref.result.now ≡ true) (sym c.len-bound.ensures.len)
+    (subst (λ l. are_known (length old) l ≡ true) (sym c.deref.ensures.value) there)
 
 pub derivatives-requires-clause-classed : goal.derivatives-requires-clause-classed
 derivatives-requires-clause-classed c = λ x y sc.

@@ -13,29 +13,25 @@ number_of-requires-clause-few c =
     let f = length-standings_in (states_of c.step.new.self) c.args.self.now.found.keys.items in
     omega (arith, c.requires.few)
 
-pub returns-then-is_dead-clause-ok : goal.returns-then-is_dead-clause-ok
-returns-then-is_dead-clause-ok c =
+pub returns-then-is_dead : goal.returns-then-is_dead
+returns-then-is_dead c =
     let ss = states_of c.args.self.now.automata in
+    let new = states_of c.step.new.self in
+    let keys = c.args.self.now.found.keys.items in
     let left = left_in ss c.args.from in
     let state = c.in_ok-state.ensures.ok left (slice_get-left_in ss c.args.from c.requires.known) in
     let dead = sym (c.is_dead.ensures (map (derivative c.args.at) left) state) ∙ c.if-is_dead.true in
-    standings_in-extends ss (states_of c.step.new.self) c.args.self.now.found.keys.items c.in_ok-state.ensures.extends c.args.self.now.known
-    ∙ sym (gathered-dead (standings_in ss c.args.self.now.found.keys.items) left c.args.at dead)
-
-pub returns-then-is_dead-clause-steps : goal.returns-then-is_dead-clause-steps
-returns-then-is_dead-clause-steps c =
-    let ss = states_of c.args.self.now.automata in
-    let left = left_in ss c.args.from in
-    let state = c.in_ok-state.ensures.ok left (slice_get-left_in ss c.args.from c.requires.known) in
-    let dead = sym (c.is_dead.ensures (map (derivative c.args.at) left) state) ∙ c.if-is_dead.true in
-    sym (append-nil c.args.self.now.steps.items)
-    ∙ ap (λ l. c.args.self.now.steps.items ++ l) (sym (stepped-dead (standings_in (states_of c.step.new.self) c.args.self.now.found.keys.items) left c.args.at c.args.number dead))
-
-pub returns-then-is_dead-clause-few : goal.returns-then-is_dead-clause-few
-returns-then-is_dead-clause-few c =
-    let e = length-standings_in (states_of c.args.self.now.automata) c.args.self.now.found.keys.items in
-    let f = length-standings_in (states_of c.step.new.self) c.args.self.now.found.keys.items in
-    omega (arith, c.requires.few)
+    let same = standings_in-extends ss new keys c.in_ok-state.ensures.extends c.args.self.now.known in
+    record {
+      ok = same ∙ sym (gathered-dead (standings_in ss keys) left c.args.at dead);
+      steps =
+          sym (append-nil c.args.self.now.steps.items)
+          ∙ ap (λ l. c.args.self.now.steps.items ++ l) (sym (stepped-dead (standings_in new keys) left c.args.at c.args.number dead));
+      few = let e = ap length same in omega (arith, e, c.requires.few);
+      many = λ fault. absurd (cc);
+      kept = c.in_ok-state.ensures.extends;
+      locations = refl;
+    }
 
 pub returns-in_err-target-clause-many : goal.returns-in_err-target-clause-many
 returns-in_err-target-clause-many c = λ fault.

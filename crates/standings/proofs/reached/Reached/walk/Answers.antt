@@ -1,9 +1,9 @@
-use Rattle.std.proofs.Common.{◌≡◌, ℕ, ◌+◌, ◌<◌, refl, ap, sym, subst, ◌∙◌, length, take, get_or, length-append, arith, rules}
+use Rattle.std.proofs.Common.{◌≡◌, ℕ, ◌+◌, ◌<◌, refl, ap, sym, subst, ◌∙◌, length, take, length-append, arith, rules}
 use Rattle.path_automata.specs.States.{states_of}
 use Rattle.path_automata.proofs.StateLemmas.{extends-itself}
 use Rattle.standings.specs.Table.{Key}
 use Rattle.standings.specs.Growth.{AreAsked, each_live, gathered, left_in, next_in, standings_of, ways}
-use Rattle.standings.proofs.Asking.{asked-key, asked-start, reached-key, ways_below, ways_here}
+use Rattle.standings.proofs.Asking.{asked-key, asked-start, reached-key, ways_below, ways_of_key}
 use Rattle.standings.proofs.Gathering.{gathered-extends}
 use Rattle.standings.proofs.Numbering.{extends-further, key-at, length-standings_in, standings_in-distinct}
 use Rattle.standings.proofs.Lookups.{keys-distinct}
@@ -43,12 +43,11 @@ pub add_steps-requires-clause-within : goal.add_steps-requires-clause-within
 add_steps-requires-clause-within c =
     let net = c.args.net.now in
     let found = c.loop-number.self.found in
-    let at = c.standing-at.result.0 in
-    let low : at < found.locations = key-at (λ (k : Key). k.0 < found.locations) found.keys.items c.loop-number.number c.standing-at.result found.within c.standing-at.ensures in
-    let element = c.index.ensures ∙ ap (λ k. get_or c.in_ok-ways.ways.items k c.index.result.now) c.number.ensures in
-    let here = c.as_slice.ensures ∙ ways_here net c.args.case.now (λ v. v.items) c.in_ok-ways.ways.items found.locations at c.index.result.now c.index.result.now
-    c.loop-number.invariant.over low c.in_ok-ways.ensures element in
-    ways_below net c.args.case.now found.locations at c.as_slice.result.now c.loop-number.invariant.over here
+    let all = c.in_ok-ways.ways.items in
+    let size = c.loop-number.invariant.over in
+    let here = ways_of_key net c.args.case.now (λ v. v.items) all found.locations c.number.result c.loop-number.number found.keys.items c.standing-at.result c.index.result.now c.as_slice.result.now
+    size found.within c.standing-at.ensures c.number.ensures c.in_ok-ways.ensures c.index.ensures c.as_slice.ensures in
+    ways_below net c.args.case.now found.locations c.standing-at.result.0 c.as_slice.result.now size here
 
 pub loop-number-preserved : goal.loop-number-preserved
 loop-number-preserved c =
@@ -60,11 +59,9 @@ loop-number-preserved c =
     let steps = c.loop-number.self.steps.items in
     let n = c.loop-number.number in
     let at = c.standing-at.result.0 in
-    let element = c.index.ensures ∙ ap (λ k. get_or c.in_ok-ways.ways.items k c.index.result.now) c.number.ensures in
     let found = c.loop-number.self.found in
-    let low : at < found.locations = key-at (λ (k : Key). k.0 < found.locations) keys n c.standing-at.result found.within c.standing-at.ensures in
-    let here = c.as_slice.ensures ∙ ways_here net case (λ v. v.items) c.in_ok-ways.ways.items found.locations at c.index.result.now c.index.result.now
-    c.loop-number.invariant.over low c.in_ok-ways.ensures element in
+    let here = ways_of_key net case (λ v. v.items) c.in_ok-ways.ways.items found.locations c.number.result n keys c.standing-at.result c.index.result.now c.as_slice.result.now
+    c.loop-number.invariant.over found.within c.standing-at.ensures c.number.ensures c.in_ok-ways.ensures c.index.ensures c.as_slice.ensures in
     let size = length-standings_in states keys in
     let longer = gathered-extends (standings_of c.loop-number.self) (each_live (left_in states c.standing-at.result.1) c.as_slice.result.now) in
     let grown = ap length (c.in_ok-add_steps.ensures.ok ∙ longer.1) ∙ length-append (standings_of c.loop-number.self) longer.0 in
@@ -98,11 +95,9 @@ returns-in_err-add_steps-clause-many c = λ fault.
     let steps = c.loop-number.self.steps.items in
     let n = c.loop-number.number in
     let at = c.standing-at.result.0 in
-    let element = c.index.ensures ∙ ap (λ k. get_or c.in_ok-ways.ways.items k c.index.result.now) c.number.ensures in
     let found = c.loop-number.self.found in
-    let low : at < found.locations = key-at (λ (k : Key). k.0 < found.locations) keys n c.standing-at.result found.within c.standing-at.ensures in
-    let here = c.as_slice.ensures ∙ ways_here net case (λ v. v.items) c.in_ok-ways.ways.items found.locations at c.index.result.now c.index.result.now
-    c.loop-number.invariant.over low c.in_ok-ways.ensures element in
+    let here = ways_of_key net case (λ v. v.items) c.in_ok-ways.ways.items found.locations c.number.result n keys c.standing-at.result c.index.result.now c.as_slice.result.now
+    c.loop-number.invariant.over found.within c.standing-at.ensures c.number.ensures c.in_ok-ways.ensures c.index.ensures c.as_slice.ensures in
     let grown = λ (m : ℕ). gathered (standings_of c.loop-number.self) (each_live (left_in states c.standing-at.result.1) (take m c.as_slice.result.now)) in
     let part : (m : ℕ) × (4096 < length (grown m)) = search rules in (
       grown part.0,

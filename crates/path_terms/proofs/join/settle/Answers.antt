@@ -1,6 +1,6 @@
 use Rattle.std.proofs.lemmas.List.Filters.{dedup_is}
 use Rattle.path_terms.proofs.Members.{settled}
-use Rattle.path_terms.proofs.alternation.settle.Goals as goal
+use Rattle.path_terms.proofs.join.settle.Goals as goal
 
 pub returns : goal.returns
 returns c =

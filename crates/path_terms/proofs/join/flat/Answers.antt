@@ -1,17 +1,18 @@
 use Rattle.std.proofs.Common.{◌++◌, ℕ, List, ap, length, map, sym, ◌∙◌}
 use Rattle.std.specs.List.{flat_map}
 use Rattle.std.proofs.lemmas.List.{append-nil, at_drop_all}
+use Rattle.path_terms.specs.Joined.{parts}
 use Rattle.path_terms.specs.Terms.{are_known, at}
 use Rattle.path_terms.specs.Values.{values}
-use Rattle.path_exprs.specs.Normal.{both_parts, sorted}
+use Rattle.path_exprs.specs.Normal.{sorted}
 use Rattle.path_terms.proofs.Joins.{flat-turn}
-use Rattle.path_terms.proofs.intersection.flat.Goals as goal
+use Rattle.path_terms.proofs.join.flat.Goals as goal
 
 pub loop-i-preserved : goal.loop-i-preserved
 loop-i-preserved c =
     record {
       same =
-          flat-turn both_parts (values c.args.terms.now) c.loop-i.all.items c.args.members.now c.add_parts.new.all.items c.loop-i.i 0 _
+          flat-turn (parts c.args.join) (values c.args.terms.now) c.loop-i.all.items c.args.members.now c.add_parts.new.all.items c.loop-i.i 0 _
           c.loop-i-test.true c.loop-i.invariant.same c.in_ok-add_parts.ensures.added;
       known = c.in_ok-add_parts.ensures.known;
     }
@@ -20,7 +21,7 @@ pub loop-i-init : goal.loop-i-init
 loop-i-init c =
     let vs = values c.args.terms.now in
     record {
-      same = ap (λ (l : List ℕ). sorted (map (at vs) l ++ flat_map both_parts (map (at vs) c.args.members.now))) (sym c.new-all.ensures.items);
+      same = ap (λ (l : List ℕ). sorted (map (at vs) l ++ flat_map (parts c.args.join) (map (at vs) c.args.members.now))) (sym c.new-all.ensures.items);
       known = ap (are_known (length vs)) c.new-all.ensures.items;
     }
 
@@ -28,4 +29,5 @@ pub returns-clause-same : goal.returns-clause-same
 returns-clause-same c =
     let vs = values c.args.terms.now in
     let all = map (at vs) c.loop-i.all.items in
-    sym (c.loop-i.invariant.same ∙ at_drop_all (λ (l : List ℕ). sorted (all ++ flat_map both_parts (map (at vs) l))) c.args.members.now c.loop-i.i c.loop-i-test.false ∙ ap sorted (append-nil all))
+    let left = λ (l : List ℕ). sorted (all ++ flat_map (parts c.args.join) (map (at vs) l)) in
+    sym (c.loop-i.invariant.same ∙ at_drop_all left c.args.members.now c.loop-i.i c.loop-i-test.false ∙ ap sorted (append-nil all))

@@ -1,8 +1,0 @@
-use Rattle.std.proofs.Common.{◌≡◌, drop, map}
-use Rattle.std.specs.List.{list_any}
-use Rattle.path_exprs.specs.Normal.{is_all}
-use Rattle.path_terms.specs.Values.{value}
-use Rattle.path_terms.proofs.alternation.is_all_among.Given as goal
-
-abbrev pub invariant-loop-number : goal.invariant-loop-number
-invariant-loop-number l = list_any is_all (map (value l.terms) l.numbers) ≡ list_any is_all (map (value l.terms) (drop l.number-index l.numbers))
