@@ -99,6 +99,17 @@ module _ (net : PlainNet) (sense whole : Sense) (goes_on : GoesOn sense whole) w
   looser : (level : ℕ) (steps : List Step) (ts : List Lexeme) → Meant (suc level) steps ts → Meant level steps ts
   looser level steps ts m = record { value = m.value; means = IsRanked.tighter m.means; has = m.has }
 
+  -- two sides with their operator
+  joined : (op : Ranking → Ranking → Ranking) (s : Step)
+      → ((a b : Ranking) (stack : List Ranking) (rest : List Step) → standing net whole (b ∷ a ∷ stack) (s ∷ rest) ≡ standing net whole (op a b ∷ stack) rest)
+      → {level next : ℕ} {xs ys : List Step} {us vs ts : List Lexeme} (m : Meant level xs us) (n : Meant next ys vs)
+      → IsRanked net sense level (op m.value n.value) ts → Meant level (xs ++ ys ++ s ∷ []) ts
+  joined op s made {xs = xs} {ys = ys} m n means = record {
+    value = op m.value n.value;
+    means = means;
+    has = two_have net whole xs ys s m.value n.value (op m.value n.value) (made m.value n.value) m.has n.has;
+  }
+
   -- the sides of an operator are known where it is
   sides : (xs ys : List Step) (s : Step) → AreStepsKnown (xs ++ ys ++ s ∷ []) → AreStepsKnown xs × AreStepsKnown ys
   sides xs ys s known = AllByRecursion-append_parts IsStepKnown xs ys (AllByRecursion-append_parts IsStepKnown (xs ++ ys) (s ∷ []) known).0
@@ -110,11 +121,7 @@ module _ (net : PlainNet) (sense whole : Sense) (goes_on : GoesOn sense whole) w
         let k = sides xs ys (step.Above j.place) known in
         let m = ranked_meant a k.0 in
         let n = choice_meant b k.1 in
-        record {
-          value = prefer m.value n.value;
-          means = IsRanked.above m.means i n.means;
-          has = two_have net whole xs ys (step.Above j.place) m.value n.value (prefer m.value n.value) (λ stack rest. refl) m.has n.has;
-        }
+        joined prefer (step.Above j.place) (λ a b stack rest. refl) m n (IsRanked.above m.means i n.means)
 
     choice_meant : {xs : List Step} {ts : List Lexeme} → IsChoice xs ts → AreStepsKnown xs → Meant 1 xs ts
     choice_meant (IsChoice.joint {xs = xs} {ts = ts} c) known = looser 1 xs ts (joint_meant c known)
@@ -122,11 +129,7 @@ module _ (net : PlainNet) (sense whole : Sense) (goes_on : GoesOn sense whole) w
         let k = sides xs ys step.Or known in
         let m = choice_meant a k.0 in
         let n = joint_meant b k.1 in
-        record {
-          value = one_of m.value n.value;
-          means = IsRanked.or m.means i n.means;
-          has = two_have net whole xs ys step.Or m.value n.value (one_of m.value n.value) (λ stack rest. refl) m.has n.has;
-        }
+        joined one_of step.Or (λ a b stack rest. refl) m n (IsRanked.or m.means i n.means)
 
     joint_meant : {xs : List Step} {ts : List Lexeme} → IsJoint xs ts → AreStepsKnown xs → Meant 2 xs ts
     joint_meant (IsJoint.unit {xs = xs} {ts = ts} c) known = looser 2 xs ts (unit_meant c known)
@@ -134,11 +137,7 @@ module _ (net : PlainNet) (sense whole : Sense) (goes_on : GoesOn sense whole) w
         let k = sides xs ys step.And known in
         let m = joint_meant a k.0 in
         let n = unit_meant b k.1 in
-        record {
-          value = all_of m.value n.value;
-          means = IsRanked.and m.means i n.means;
-          has = two_have net whole xs ys step.And m.value n.value (all_of m.value n.value) (λ stack rest. refl) m.has n.has;
-        }
+        joined all_of step.And (λ a b stack rest. refl) m n (IsRanked.and m.means i n.means)
 
     unit_meant : {xs : List Step} {ts : List Lexeme} → IsUnit xs ts → AreStepsKnown xs → Meant 3 xs ts
     unit_meant (IsUnit.atom {xs = xs} {ts = ts} a) known = looser 3 xs ts (atom_meant a known)

@@ -9,7 +9,7 @@ use Rattle.text_words.proofs.PrefixTexts.{length_number-decimal, prefix_spelled-
 use Rattle.policy_base.specs.declared.policy.FromSet.{FromSet}
 use Rattle.policy_base.specs.declared.policy.FromSet.TheVariants as from_set
 use Rattle.policy_base.specs.declared.policy.Origin.{Origin}
-use Rattle.policy_base.specs.Policies.{Ranking, prefer, either, both, PlainStatement, PlainPolicy}
+use Rattle.policy_base.specs.Policies.{Ranking, PlainStatement, PlainPolicy}
 use Rattle.policy_tokens.specs.declared.token.Token.{Token}
 use Rattle.policy_grammar.specs.declared.lexeme.Lexeme.{Lexeme}
 use Rattle.policy_grammar.specs.declared.symbol.Symbol.TheVariants as symbol
@@ -52,31 +52,25 @@ module _ (net : PlainNet) (sense : Sense) where
     written : Rule level steps ts
     has : Have net sense steps r
 
+  -- two sides with their operator
+  joined : (s : Step) {level next : ℕ} {a b c : Ranking} {us vs ts : List Lexeme}
+      → ((stack : List Ranking) (rest : List Step) → standing net sense (b ∷ a ∷ stack) (s ∷ rest) ≡ standing net sense (c ∷ stack) rest)
+      → (m : Read level a us) (n : Read next b vs) → Rule level (m.steps ++ n.steps ++ s ∷ []) ts → Read level c ts
+  joined s {a = a} {b = b} {c = c} made m n written = record { steps = m.steps ++ n.steps ++ s ∷ []; written = written; has = two_have net sense m.steps n.steps s a b c made m.has n.has }
+
   ranked_read : {level : ℕ} {r : Ranking} {ts : List Lexeme} → IsRanked net sense level r ts → Read level r ts
-  ranked_read (IsRanked.above {a = a} {b = b} {j = j} p i q) =
+  ranked_read (IsRanked.above {j = j} p i q) =
       let m = ranked_read p in
       let n = ranked_read q in
-      record {
-        steps = m.steps ++ n.steps ++ step.Above j.place ∷ [];
-        written = IsRankedOf.above m.written i n.written;
-        has = two_have net sense m.steps n.steps (step.Above j.place) a b (prefer a b) (λ stack rest. refl) m.has n.has;
-      }
-  ranked_read (IsRanked.or {a = a} {b = b} p i q) =
+      joined (step.Above j.place) (λ stack rest. refl) m n (IsRankedOf.above m.written i n.written)
+  ranked_read (IsRanked.or p i q) =
       let m = ranked_read p in
       let n = ranked_read q in
-      record {
-        steps = m.steps ++ n.steps ++ step.Or ∷ [];
-        written = IsChoice.or m.written i n.written;
-        has = two_have net sense m.steps n.steps step.Or a b (either a b) (λ stack rest. refl) m.has n.has;
-      }
-  ranked_read (IsRanked.and {a = a} {b = b} p i q) =
+      joined step.Or (λ stack rest. refl) m n (IsChoice.or m.written i n.written)
+  ranked_read (IsRanked.and p i q) =
       let m = ranked_read p in
       let n = ranked_read q in
-      record {
-        steps = m.steps ++ n.steps ++ step.And ∷ [];
-        written = IsJoint.and m.written i n.written;
-        has = two_have net sense m.steps n.steps step.And a b (both a b) (λ stack rest. refl) m.has n.has;
-      }
+      joined step.And (λ stack rest. refl) m n (IsJoint.and m.written i n.written)
   ranked_read (IsRanked.not {a = a} i p) =
       let m = ranked_read p in
       record { steps = m.steps ++ step.Not ∷ []; written = IsUnit.not i m.written; has = not_has net sense m.steps a m.has }

@@ -1,7 +1,7 @@
 -- What a policy text means for a network: the grammar of policies, and in each rule the value of what is written. A name
 -- stands for what the network or a group above it says. A text that passes a limit means something, too: the program
 -- refuses it.
-use Rattle.std.specs.Prelude.{◌≡◌, ℕ, suc, ◌≤◌, IsUtf8, List, [], ◌∷◌, ◌++◌, map, fold, Some, None, Ok, if◌then◌else◌}
+use Rattle.std.specs.Prelude.{◌≡◌, ℕ, suc, ◌≤◌, IsUtf8, List, [], ◌∷◌, ◌++◌, map, fold, Some, None, if◌then◌else◌}
 use Rattle.std.specs.Fmt.{decimal}
 use Rattle.std.specs.Str.{bytes_eq}
 use Rattle.net_base.specs.declared.loc.LocSet.{LocSet}

@@ -13,7 +13,7 @@ use Rattle.net_base.specs.Steps.{◌>>=◌}
 use Rattle.policy_grammar.proofs.Symbols.{call_apart}
 use Rattle.grammar_law.specs.Grammar.{Is, Rule, IsRanked, IsAtom, IsCall}
 use Rattle.grammar_law.proofs.Lookups.{Differ, Isnt, is_or_isnt, is_other}
-use Rattle.grammar_law.proofs.Readers.{Before, head, head_is, Ended, ended_behind, Reads, WasRead, Sound, Stop, Stops, Known, Exact}
+use Rattle.grammar_law.proofs.Readers.{Before, head, head_is, Ended, ended_behind, Reads, WasRead, Sound, Stop, Stops, Known, Exact, was_read_as, was_read_behind, stop_as, stop_behind}
 use Rattle.grammar_law.proofs.Tokens.{Token, OneToken, Nothing, NoToken, nothing, no_token}
 use Rattle.grammar_law.proofs.Sequences.{Then, ThenPlain, then, in_turn, then-sound, then-stops}
 use Rattle.grammar_law.proofs.Choices.{choose-is, choose-isnt, behind}
@@ -176,26 +176,10 @@ atom-sound G enc n inner out (l ∷ ls) y after ended h = by (is_or_isnt symbol.
     by : Is symbol.RoundOpen l ⊎ Isnt symbol.RoundOpen l → WasRead (Atom out) (l ∷ ls) y after
     by (inl i) =
         let w = enclosed-sound G enc n inner out y ls after (ended_behind symbol.RoundOpen l ls refl i ended) (sym (atom_is n out l ls i) ∙ h) in
-        record {
-          front = l ∷ w.front;
-          next = w.next;
-          rest = w.rest;
-          all = ap (λ z. l ∷ z) w.all;
-          left = w.left;
-          by = enclosed_words out y l w.front i (closing_plain G enc out y w.front w.next w.by);
-          ended = w.ended;
-        }
+        was_read_behind l w (enclosed_words out y l w.front i (closing_plain G enc out y w.front w.next w.by))
     by (inr i) =
         let w = (call_step_exact out).known.sound n (l ∷ ls) y after ended (sym (atom_isnt n out [] l ls i) ∙ h) in
-        record {
-          front = w.front;
-          next = w.next;
-          rest = w.rest;
-          all = w.all;
-          left = w.left;
-          by = call_step_words out y w.front ((call_step_exact out).known.plain y w.front w.next w.by);
-          ended = w.ended;
-        }
+        was_read_as w (call_step_words out y w.front ((call_step_exact out).known.plain y w.front w.next w.by))
 
 -- ---- where it stops
 
@@ -220,17 +204,8 @@ bracket-stops G known (suc n) stops out o ls e i ended fits h =
     let same : room.0 ≡ n = omega (arith, room.1) in
     let s = then-stops brackets n (G out) (Onto out IsRanked) ClosingPlain (λ m. ranked_with (inner_at m) out) (λ y m. closing y) (known out) (stops out) closing-some
     (λ y ls e ended fits h. (closing_exact y).stops n ls e ended (free_fits n ls) h) ls e ended (subst (λ k. brackets.Fits k ls) same room.2) (sym (enclosed-suc n out ls) ∙ h) in
-    record {
-      front = o ∷ s.front;
-      here = s.here;
-      rest = s.rest;
-      all = ap (λ z. o ∷ z) s.all;
-      fault = s.fault;
-      always = λ m other le. enclosed-always n out o (s.front ++ s.here ∷ other) e i (λ k le. s.always k other le) m le;
-      back = s.back;
-      thing = s.thing;
-      whole = enclosed_words out s.thing o (s.front ++ s.back) i s.whole;
-    }
+    stop_behind o s (λ m other le. enclosed-always n out o (s.front ++ s.here ∷ other) e i (λ k le. s.always k other le) m le)
+    (enclosed_words out s.thing o (s.front ++ s.back) i s.whole)
 
 pub atom-stops : (G : List Step → Before (List Step)) → ((out : List Step) → Known brackets (G out) (Onto out IsRanked) (λ m. ranked_with (inner_at m) out)) → (n : ℕ) → InnerStops n
     → (out : List Step) → Stops brackets (Onto out IsAtom) n (λ m. atom_with (inner_at m) out)
@@ -242,17 +217,7 @@ atom-stops G known n stops out (l ∷ ls) e ended fits h = by (is_or_isnt symbol
     by (inr i) =
         let s = (call_step_exact out).stops n (l ∷ ls) e ended fits (sym (atom_isnt n out [] l ls i) ∙ h) in
         let first = subst (Isnt symbol.RoundOpen) (head_is s.front s.here l s.rest ls s.all) i in
-        record {
-          front = s.front;
-          here = s.here;
-          rest = s.rest;
-          all = s.all;
-          fault = s.fault;
-          always = λ m other le. atom_isnt m out s.front s.here other first ∙ s.always m other le;
-          back = s.back;
-          thing = s.thing;
-          whole = call_step_words out s.thing (s.front ++ s.back) s.whole;
-        }
+        stop_as s (λ m other le. atom_isnt m out s.front s.here other first ∙ s.always m other le) s.thing s.back (call_step_words out s.thing (s.front ++ s.back) s.whole)
 
 pub atom-some : (out : List Step) → (y : List Step) × (ls : List Lexeme) × Onto out IsAtom y ls
 atom-some out = let c = call_exact.known.some in (out ++ step.Call c.0 ∷ [], c.1, (step.Call c.0 ∷ [], refl, IsAtom.call c.2))

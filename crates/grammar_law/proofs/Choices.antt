@@ -9,6 +9,7 @@ use Rattle.net_base.specs.Steps.{◌>>=◌}
 use Rattle.grammar_law.specs.Grammar.{Is, Rule}
 use Rattle.grammar_law.proofs.Lookups.{Differ, Isnt, is_or_isnt, past-is, past-isnt}
 use Rattle.grammar_law.proofs.Readers.{Before, head, tail, head-tail, head_is, ended_behind, Room, Passes, Balanced, Reads, WasRead, Sound, Stop, Stops, Known, Exact}
+use Rattle.grammar_law.proofs.Readers.{was_read_as, was_read_behind, stop_as, stop_behind}
 use Rattle.grammar_law.proofs.Tokens.{Token, OneToken, token}
 use Rattle.grammar_law.proofs.Sequences.{Then, ThenPlain, then, in_turn}
 
@@ -60,26 +61,10 @@ choose-sound s F G f g d fs gs (l ∷ ls) x after ended h = by (is_or_isnt s l)
     by : Is s l ⊎ Isnt s l → WasRead (Choose s F G) (l ∷ ls) x after
     by (inl i) =
         let w = fs l ls x after (ended_behind s l ls d i ended) (sym (choose-is s f g l ls i) ∙ h) in
-        record {
-          front = l ∷ w.front;
-          next = w.next;
-          rest = w.rest;
-          all = ap (λ z. l ∷ z) w.all;
-          left = w.left;
-          by = inl (l, w.front, refl, i, w.by);
-          ended = w.ended;
-        }
+        was_read_behind l w (inl (l, w.front, refl, i, w.by))
     by (inr i) =
         let w = gs (l ∷ ls) x after ended (sym (choose-isnt s f g [] l ls i) ∙ h) in
-        record {
-          front = w.front;
-          next = w.next;
-          rest = w.rest;
-          all = w.all;
-          left = w.left;
-          by = inr (w.by, subst (Isnt s) (head_is w.front w.next l w.rest ls w.all) i);
-          ended = w.ended;
-        }
+        was_read_as w (inr (w.by, subst (Isnt s) (head_is w.front w.next l w.rest ls w.all) i))
 
 pub choose-stops : {A : Type 0} (r : Room) (n : ℕ) (s : Symbol) (C : Lexeme → Rule A) (D : Rule A) (f : Lexeme → ℕ → List Lexeme → Read A) (g : ℕ → List Lexeme → Read A)
     → Passes r s → Differ s EndOfText → ((t : Lexeme) → Stops r (C t) n (f t)) → Stops r D n g → Stops r (ChoosePlain s C D) n (λ m. choose s (λ t. f t m) (g m))
@@ -89,31 +74,11 @@ choose-stops r n s C D f g passes d fs gs (l ∷ ls) e ended fits h = by (is_or_
     by : Is s l ⊎ Isnt s l → Stop (ChoosePlain s C D) n (λ m. choose s (λ t. f t m) (g m)) (l ∷ ls) e
     by (inl i) =
         let w = fs l ls e (ended_behind s l ls d i ended) (passes n l ls i fits) (sym (choose-is s (λ t. f t n) (g n) l ls i) ∙ h) in
-        record {
-          front = l ∷ w.front;
-          here = w.here;
-          rest = w.rest;
-          all = ap (λ z. l ∷ z) w.all;
-          fault = w.fault;
-          always = λ m other le. choose-is s (λ t. f t m) (g m) l (w.front ++ w.here ∷ other) i ∙ w.always m other le;
-          back = w.back;
-          thing = w.thing;
-          whole = inl (l, w.front ++ w.back, refl, i, w.whole);
-        }
+        stop_behind l w (λ m other le. choose-is s (λ t. f t m) (g m) l (w.front ++ w.here ∷ other) i ∙ w.always m other le) (inl (l, w.front ++ w.back, refl, i, w.whole))
     by (inr i) =
         let w = gs (l ∷ ls) e ended fits (sym (choose-isnt s (λ t. f t n) (g n) [] l ls i) ∙ h) in
         let first = subst (Isnt s) (head_is w.front w.here l w.rest ls w.all) i in
-        record {
-          front = w.front;
-          here = w.here;
-          rest = w.rest;
-          all = w.all;
-          fault = w.fault;
-          always = λ m other le. choose-isnt s (λ t. f t m) (g m) w.front w.here other first ∙ w.always m other le;
-          back = w.back;
-          thing = w.thing;
-          whole = inr w.whole;
-        }
+        stop_as w (λ m other le. choose-isnt s (λ t. f t m) (g m) w.front w.here other first ∙ w.always m other le) w.thing w.back (inr w.whole)
 
 choose-plain : {A : Type 0} (s : Symbol) (F : Lexeme → Before A) (G : Before A) (C : Lexeme → Rule A) (D : Rule A)
     → ((t : Lexeme) (x : A) (ls : List Lexeme) (l : Lexeme) → F t x ls l → C t x ls) → ((x : A) (ls : List Lexeme) (l : Lexeme) → G x ls l → D x ls)

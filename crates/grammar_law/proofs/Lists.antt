@@ -6,7 +6,7 @@ use Rattle.policy_grammar.specs.declared.symbol.Symbol.TheVariants.{EndOfText}
 use Rattle.policy_grammar.specs.Reading.{Read}
 use Rattle.grammar_law.specs.Grammar.{Is, Rule, IsMore, IsList}
 use Rattle.grammar_law.proofs.Lookups.{Differ, Isnt}
-use Rattle.grammar_law.proofs.Readers.{Before, head, Room, Passes, Stops, Known, Exact}
+use Rattle.grammar_law.proofs.Readers.{Before, head, Room, Passes, Stops, Known, Exact, stop_as}
 use Rattle.grammar_law.proofs.Tokens.{Nothing, NoToken, nothing, no_token}
 use Rattle.grammar_law.proofs.Sequences.{Then, ThenPlain, then, in_turn}
 use Rattle.grammar_law.proofs.Repeats.{Links, Linked, Chained, repeat, repeated}
@@ -24,7 +24,7 @@ known_in_words r G C D f words k = record {
 pub stops_in_words : {A : Type 0} (r : Room) (n : ℕ) (C D : Rule A) (f : ℕ → List Lexeme → Read A) → ((x : A) (ls : List Lexeme) → C x ls → D x ls) → Stops r C n f → Stops r D n f
 stops_in_words r n C D f words stops ls e ended fits h =
     let s = stops ls e ended fits h in
-    record { front = s.front; here = s.here; rest = s.rest; all = s.all; fault = s.fault; always = s.always; back = s.back; thing = s.thing; whole = words s.thing (s.front ++ s.back) s.whole }
+    stop_as s s.always s.thing s.back (words s.thing (s.front ++ s.back) s.whole)
 
 pub exact_in_words : {A : Type 0} (r : Room) (G : Before A) (C D : Rule A) (f : ℕ → List Lexeme → Read A) → ((x : A) (ls : List Lexeme) → C x ls → D x ls) → Exact r G C f → Exact r G D f
 exact_in_words r G C D f words x = record { known = known_in_words r G C D f words x.known; stops = λ n. stops_in_words r n C D f words (x.stops n) }

@@ -11,7 +11,7 @@ use Rattle.net_base.specs.Steps.{◌>>=◌}
 use Rattle.net_base.proofs.StepLemmas.{bind_ok, ok_same, err_same}
 use Rattle.grammar_law.specs.Grammar.{Is, IsItem, IsPolicy}
 use Rattle.grammar_law.proofs.Lookups.{Isnt, is_or_isnt, past-is, past-isnt}
-use Rattle.grammar_law.proofs.Readers.{head, head_is, head-tail, tail, Ended, WasRead, Stop, reads_on}
+use Rattle.grammar_law.proofs.Readers.{head, head_is, head-tail, tail, Ended, WasRead, Stop, reads_on, all_on, by_on, ended_after, front_fits, left_fits}
 use Rattle.grammar_law.proofs.WholeItems.{ItemBefore, item, item_exact, item_of, item_begins, same_item}
 use Rattle.grammar_law.proofs.Nesting.{brackets}
 
@@ -105,13 +105,13 @@ policy_was_read m (suc c) so_far (l ∷ ls) ys ended h = by (λ more ms ended h.
     by on (inr i) =
         let p = bind_ok (item m (l ∷ ls)) (λ x. items_up m c (so_far ++ x.0 ∷ []) x.1) ys (sym (items-item m c so_far [] l ls i) ∙ h) in
         let w = item_exact.known.sound m (l ∷ ls) p.0.0 p.0.1 ended p.1 in
-        let r = on (so_far ++ p.0.0 ∷ []) p.0.1 (subst Ended (sym w.left) w.ended) p.2 in
+        let r = on (so_far ++ p.0.0 ∷ []) p.0.1 (ended_after w) p.2 in
         record {
           items = p.0.0 ∷ r.items;
           front = w.front ++ r.front;
           end = r.end;
           rest = r.rest;
-          all = w.all ∙ ap (λ z. w.front ++ z) (sym w.left ∙ r.all) ∙ sym (append_assoc w.front r.front (r.end ∷ r.rest));
+          all = all_on w r.front r.end r.rest r.all;
           ends = r.ends;
           given = r.given ∙ append_assoc so_far (p.0.0 ∷ []) r.items;
           policy = IsPolicy.more (item_exact.known.plain p.0.0 w.front w.next w.by) r.policy;
@@ -157,7 +157,7 @@ later_stops m so_far x ls mid e fits w s = record {
   front = w.front ++ s.front;
   here = s.here;
   rest = s.rest;
-  all = w.all ∙ ap (λ z. w.front ++ z) parts ∙ sym (append_assoc w.front s.front (s.here ∷ s.rest));
+  all = all_on w s.front s.here s.rest s.all;
   fault = s.fault;
   always = always;
   items = x ∷ s.items;
@@ -165,21 +165,18 @@ later_stops m so_far x ls mid e fits w s = record {
   policy = subst (IsPolicy (x ∷ s.items)) (sym (append_assoc w.front s.front s.back)) (IsPolicy.more item_is s.policy);
 }
   where
-    parts : w.next ∷ w.rest ≡ s.front ++ s.here ∷ s.rest
-    parts = sym w.left ∙ s.all
-
     item_is : IsItem x w.front
     item_is = item_exact.known.plain x w.front w.next w.by
 
     room : (n : ℕ) → m ≤ n → brackets.Fits n w.front
-    room n le = brackets.more m n w.front le (brackets.front m w.front (w.next ∷ w.rest) (subst (brackets.Fits m) w.all fits))
+    room n le = brackets.more m n w.front le (front_fits brackets m w fits)
 
     always : (n c : ℕ) (other : List Lexeme) → m ≤ n → length ((w.front ++ s.front) ++ s.here ∷ other) ≤ c → items_up n c so_far ((w.front ++ s.front) ++ s.here ∷ other) ≡ Err e
     always n zero other le short = absurd (omega (arith, short, length-append (w.front ++ s.front) (s.here ∷ other)))
     always n (suc c) other le short =
         let b = item_head item_is s.front s.here in
         let shorter : length (s.front ++ s.here ∷ other) ≤ c = omega (arith, short, b.1, length-append (w.front ++ s.front) (s.here ∷ other), length-append s.front (s.here ∷ other)) in
-        items-on n c so_far x w.front s.front s.here other (subst (ItemBefore x w.front) (head_is s.front s.here w.next s.rest w.rest parts) w.by) (room n le) b.0
+        items-on n c so_far x w.front s.front s.here other (by_on w s.front s.here s.rest s.all) (room n le) b.0
         ∙ s.always n c other le shorter
 
 pub policy_stops : (m c : ℕ) (so_far : List Item) (ls : List Lexeme) (e : PolicyFault) → length ls ≤ c → Ended ls → brackets.Fits m ls → items_up m c so_far ls ≡ Err e → PolicyStop m so_far ls e
@@ -196,8 +193,7 @@ policy_stops m (suc c) so_far (l ∷ ls) e le ended fits h =
         let w = item_exact.known.sound m (l ∷ ls) p.0 p.1 ended is in
         let b = item_begins (item_exact.known.plain p.0 w.front w.next w.by) in
         let short : length p.1 ≤ c = omega (arith, le, ap length w.all, ap length w.left, ap length b.2, length-append w.front (w.next ∷ w.rest)) in
-        let fits' : brackets.Fits m p.1 = item_exact.known.balanced m p.0 w.front p.1 w.next w.by (subst (brackets.Fits m) (w.all ∙ ap (λ z. w.front ++ z) (sym w.left)) fits) in
-        later_stops m so_far p.0 (l ∷ ls) p.1 e fits w (on p.0 p.1 short (subst Ended (sym w.left) w.ended) fits' stuck)
+        later_stops m so_far p.0 (l ∷ ls) p.1 e fits w (on p.0 p.1 short (ended_after w) (left_fits brackets m item_exact.known.balanced w fits) stuck)
 
     by : ((x : Item) (mid : List Lexeme) → length mid ≤ c → Ended mid → brackets.Fits m mid → items_up m c (so_far ++ x ∷ []) mid ≡ Err e → PolicyStop m (so_far ++ x ∷ []) mid e)
         → Is EndOfText l ⊎ Isnt EndOfText l → PolicyStop m so_far (l ∷ ls) e

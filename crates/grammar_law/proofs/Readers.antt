@@ -1,5 +1,5 @@
 -- What is said of a function that reads the front of some tokens.
-use Rattle.std.proofs.Common.{◌≡◌, ℕ, ◌≤◌, ◌⊎◌, inl, inr, List, [], ◌∷◌, ◌++◌, Ok, Err, refl, sym, ap, ◌∙◌, append_assoc}
+use Rattle.std.proofs.Common.{◌≡◌, ℕ, ◌≤◌, ◌⊎◌, inl, inr, List, [], ◌∷◌, ◌++◌, Ok, Err, refl, sym, ap, ◌∙◌, subst, append_assoc}
 use Rattle.policy_tokens.specs.declared.fault.PolicyFault.{PolicyFault}
 use Rattle.policy_tokens.specs.declared.fault.PolicyFault.TheVariants.{Syntax}
 use Rattle.policy_grammar.specs.declared.lexeme.Lexeme.{Lexeme}
@@ -120,6 +120,55 @@ read_same {A} x y ls ms h = (ap (λ (p : A × List Lexeme). p.0) (ok_same (x, ls
 pub ended_behind : (s : Symbol) (l : Lexeme) (ls : List Lexeme) → Differ s EndOfText → Is s l → Ended (l ∷ ls) → Ended ls
 ended_behind s l ls d i (inl end) = absurd (not_both EndOfText l end (is_other s EndOfText l i d))
 ended_behind s l ls d i (inr ended) = ended
+
+-- what was read, as another reader has it
+pub was_read_as : {A : Type 0} {F G : Before A} {ls : List Lexeme} {x : A} {after : List Lexeme} (w : WasRead F ls x after) → G x w.front w.next → WasRead G ls x after
+was_read_as w by = record { front = w.front; next = w.next; rest = w.rest; all = w.all; left = w.left; by = by; ended = w.ended }
+
+-- what was read behind a token, with this token
+pub was_read_behind : {A : Type 0} {F G : Before A} {ls : List Lexeme} {x : A} {after : List Lexeme} (l : Lexeme) (w : WasRead F ls x after)
+    → G x (l ∷ w.front) w.next → WasRead G (l ∷ ls) x after
+was_read_behind l w by = record { front = l ∷ w.front; next = w.next; rest = w.rest; all = ap (λ z. l ∷ z) w.all; left = w.left; by = by; ended = w.ended }
+
+-- a stop, as another reader has it
+pub stop_as : {A B : Type 0} {C : Rule A} {D : Rule B} {n m : ℕ} {f : ℕ → List Lexeme → Read A} {g : ℕ → List Lexeme → Read B} {ls : List Lexeme} {e : PolicyFault}
+    (s : Stop C n f ls e) → ((k : ℕ) (other : List Lexeme) → m ≤ k → g k (s.front ++ s.here ∷ other) ≡ Err e) → (thing : B) (back : List Lexeme) → D thing (s.front ++ back) → Stop D m g ls e
+stop_as s always thing back whole =
+    record { front = s.front; here = s.here; rest = s.rest; all = s.all; fault = s.fault; always = always; back = back; thing = thing; whole = whole }
+
+-- a stop behind a token
+pub stop_behind : {A : Type 0} {C D : Rule A} {n m : ℕ} {f g : ℕ → List Lexeme → Read A} {ls : List Lexeme} {e : PolicyFault} (l : Lexeme) (s : Stop C n f ls e)
+    → ((k : ℕ) (other : List Lexeme) → m ≤ k → g k (l ∷ s.front ++ s.here ∷ other) ≡ Err e) → D s.thing (l ∷ s.front ++ s.back) → Stop D m g (l ∷ ls) e
+stop_behind l s always whole =
+    record { front = l ∷ s.front; here = s.here; rest = s.rest; all = ap (λ z. l ∷ z) s.all; fault = s.fault; always = always; back = s.back; thing = s.thing; whole = whole }
+
+-- a stop at the first token
+pub stop_here : {A : Type 0} {C : Rule A} {n : ℕ} {f : ℕ → List Lexeme → Read A} {l : Lexeme} {ls : List Lexeme} {e : PolicyFault} → e ≡ Syntax l.place
+    → ((m : ℕ) (other : List Lexeme) → f m (l ∷ other) ≡ Err (Syntax l.place)) → (thing : A) (back : List Lexeme) → C thing back → Stop C n f (l ∷ ls) e
+stop_here {l = l} {ls = ls} named always thing back whole =
+    record { front = []; here = l; rest = ls; all = refl; fault = named; always = λ m other le. always m other ∙ ap Err (sym named); back = back; thing = thing; whole = whole }
+
+-- what was read, and what stands at the front of what is left
+pub all_on : {A : Type 0} {G : Before A} {ls mid : List Lexeme} {x : A} (w : WasRead G ls x mid) (front : List Lexeme) (next : Lexeme) (rest : List Lexeme)
+    → mid ≡ front ++ next ∷ rest → ls ≡ (w.front ++ front) ++ next ∷ rest
+all_on w front next rest e = w.all ∙ ap (λ z. w.front ++ z) (sym w.left ∙ e) ∙ sym (append_assoc w.front front (next ∷ rest))
+
+-- it was read before that front
+pub by_on : {A : Type 0} {G : Before A} {ls mid : List Lexeme} {x : A} (w : WasRead G ls x mid) (front : List Lexeme) (next : Lexeme) (rest : List Lexeme)
+    → mid ≡ front ++ next ∷ rest → G x w.front (head front next)
+by_on {G = G} {x = x} w front next rest e = subst (G x w.front) (head_is front next w.next rest w.rest (sym w.left ∙ e)) w.by
+
+-- the end comes still in what is left
+pub ended_after : {A : Type 0} {G : Before A} {ls mid : List Lexeme} {x : A} → WasRead G ls x mid → Ended mid
+ended_after w = subst Ended (sym w.left) w.ended
+
+-- there is room for what was read
+pub front_fits : {A : Type 0} {G : Before A} {ls mid : List Lexeme} {x : A} (r : Room) (n : ℕ) (w : WasRead G ls x mid) → r.Fits n ls → r.Fits n w.front
+front_fits r n w fits = r.front n w.front (w.next ∷ w.rest) (subst (r.Fits n) w.all fits)
+
+-- and for what is left
+pub left_fits : {A : Type 0} {G : Before A} {ls mid : List Lexeme} {x : A} (r : Room) (n : ℕ) → Balanced r G → WasRead G ls x mid → r.Fits n ls → r.Fits n mid
+left_fits {mid = mid} {x = x} r n balanced w fits = balanced n x w.front mid w.next w.by (subst (r.Fits n) (w.all ∙ ap (λ z. w.front ++ z) (sym w.left)) fits)
 
 -- what is read in front of more
 pub reads_on : {A : Type 0} (r : Room) (n : ℕ) (G : Before A) (f : List Lexeme → Read A) → Reads r n G f → (x : A) (ls ks : List Lexeme) (l : Lexeme) (rest : List Lexeme)

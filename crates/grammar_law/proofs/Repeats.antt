@@ -10,7 +10,8 @@ use Rattle.net_base.specs.Steps.{◌>>=◌}
 use Rattle.net_base.proofs.StepLemmas.{bind_ok}
 use Rattle.grammar_law.specs.Grammar.{Is, Rule}
 use Rattle.grammar_law.proofs.Lookups.{Differ, Isnt, is_or_isnt, past-is, past-isnt}
-use Rattle.grammar_law.proofs.Readers.{Before, head, head_is, head-append, Ended, ended_behind, read_same, Room, Passes, Balanced, Reads, WasRead, Sound, Stop, Stops, Known, Exact, reads_on}
+use Rattle.grammar_law.proofs.Readers.{Before, head, head-append, Ended, ended_behind, read_same, Room, Passes, Balanced, Reads, WasRead, Sound, Stop, Stops, Known, Exact, reads_on}
+use Rattle.grammar_law.proofs.Readers.{all_on, by_on, ended_after, front_fits, left_fits}
 
 -- links from one state to another, before a token
 pub data Links {A : Type 0} (joint : Symbol) (Link : Lexeme → A → Before A) (l : Lexeme) : A → A → List Lexeme → Type 0 where
@@ -81,15 +82,14 @@ links-sound {A} joint Link link d sound (suc c) x (l ∷ ls) y after le ended h 
         let p = bind_ok (link l x ls) (λ p. chain joint link step.0 p.0 p.1) (y, after) (sym step.2 ∙ h) in
         let w = sound l x ls p.0.0 p.0.1 (ended_behind joint l ls d i ended) p.1 in
         let short : length p.0.1 ≤ c = omega (arith, le, ap length w.all, ap length w.left, length-append w.front (w.next ∷ w.rest)) in
-        let v = on p.0.1 p.0.0 short (subst Ended (sym w.left) w.ended) (subst (λ k. chain joint link k p.0.0 p.0.1 ≡ Ok (y, after)) same p.2) in
-        let parts : w.next ∷ w.rest ≡ v.front ++ v.next ∷ v.rest = sym w.left ∙ v.all in
+        let v = on p.0.1 p.0.0 short (ended_after w) (subst (λ k. chain joint link k p.0.0 p.0.1 ≡ Ok (y, after)) same p.2) in
         record {
           front = l ∷ w.front ++ v.front;
           next = v.next;
           rest = v.rest;
-          all = ap (λ z. l ∷ z) (w.all ∙ ap (λ z. w.front ++ z) parts ∙ sym (append_assoc w.front v.front (v.next ∷ v.rest)));
+          all = ap (λ z. l ∷ z) (all_on w v.front v.next v.rest v.all);
           left = v.left;
-          by = (more i (subst (Link l x p.0.0 w.front) (head_is v.front v.next w.next v.rest w.rest parts) w.by) v.by.0, v.by.1);
+          by = (more i (by_on w v.front v.next v.rest v.all) v.by.0, v.by.1);
           ended = v.ended;
         }
 
@@ -127,14 +127,13 @@ later_halts : {A : Type 0} (r : Room) (joint : Symbol) (Link : Lexeme → A → 
     (link : Lexeme → A → ℕ → List Lexeme → Read A) (n : ℕ) (x y : A) (j : Lexeme) (ls mid : List Lexeme) (e : PolicyFault)
     → Is joint j → Known r (Link j x) (C j x) (link j x) → r.Fits n ls → WasRead (Link j x) ls y mid → Halt joint C n link y mid e → Halt joint C n link x (j ∷ ls) e
 later_halts r joint Link C link n x y j ls mid e i known room w t =
-    let parts : w.next ∷ w.rest ≡ t.front ++ t.here ∷ t.rest = sym w.left ∙ t.all in
-    let by = subst (Link j x y w.front) (head_is t.front t.here w.next t.rest w.rest parts) w.by in
-    let fits : r.Fits n w.front = r.front n w.front (w.next ∷ w.rest) (subst (r.Fits n) w.all room) in
+    let by = by_on w t.front t.here t.rest t.all in
+    let fits = front_fits r n w room in
     record {
       front = j ∷ w.front ++ t.front;
       here = t.here;
       rest = t.rest;
-      all = ap (λ z. j ∷ z) (w.all ∙ ap (λ z. w.front ++ z) parts ∙ sym (append_assoc w.front t.front (t.here ∷ t.rest)));
+      all = ap (λ z. j ∷ z) (all_on w t.front t.here t.rest t.all);
       fault = t.fault;
       always = λ m c other le short.
           let step = chain_here joint (λ j y. link j y m) c x j ((w.front ++ t.front) ++ t.here ∷ other) i short in
@@ -163,8 +162,7 @@ links-halt {A} r n joint Link C link passes d known stops (suc c) x (l ∷ ls) e
     rest_halts i on end room (Ok p) is stuck =
         let w = (known l x).sound n ls p.0 p.1 end is in
         let short : length p.1 ≤ c = omega (arith, le, ap length w.all, ap length w.left, length-append w.front (w.next ∷ w.rest)) in
-        let fits' : r.Fits n p.1 = (known l x).balanced n p.0 w.front p.1 w.next w.by (subst (r.Fits n) (w.all ∙ ap (λ z. w.front ++ z) (sym w.left)) room) in
-        later_halts r joint Link C link n x p.0 l ls p.1 e i (known l x) room w (on p.0 p.1 short (subst Ended (sym w.left) w.ended) fits' stuck)
+        later_halts r joint Link C link n x p.0 l ls p.1 e i (known l x) room w (on p.0 p.1 short (ended_after w) (left_fits r n (known l x).balanced w room) stuck)
 
     by : ((y : A) (mid : List Lexeme) → length mid ≤ c → Ended mid → r.Fits n mid → chain joint (λ j y. link j y n) c y mid ≡ Err e → Halt joint C n link y mid e)
         → Is joint l ⊎ Isnt joint l → Halt joint C n link x (l ∷ ls) e

@@ -6,7 +6,8 @@ use Rattle.policy_grammar.specs.Reading.{Read, after}
 use Rattle.net_base.specs.Steps.{◌>>=◌}
 use Rattle.net_base.proofs.StepLemmas.{bind_ok}
 use Rattle.grammar_law.specs.Grammar.{Rule}
-use Rattle.grammar_law.proofs.Readers.{Before, head, head_is, Ended, Room, Balanced, Reads, WasRead, Sound, Stop, Stops, HasOne, Known, Exact, reads_on}
+use Rattle.grammar_law.proofs.Readers.{Before, head, Room, Balanced, Reads, WasRead, Sound, Stop, Stops, HasOne, Known, Exact, reads_on}
+use Rattle.grammar_law.proofs.Readers.{stop_as, all_on, by_on, ended_after, front_fits, left_fits}
 
 abbrev pub Then : {A B : Type 0} → Before A → (A → Before B) → Before B
 Then {A} G H y ls l = (x : A) × (front back : List Lexeme) × (ls ≡ front ++ back) × G x front (head back l) × H x y back l
@@ -29,15 +30,14 @@ pub then-sound : {A B : Type 0} (G : Before A) (H : A → Before B) (f : List Le
 then-sound {A} {B} G H f g fs gs ls y after ended h =
     let p = bind_ok (f ls) (λ x. g x.0 x.1) (y, after) h in
     let w = fs ls p.0.0 p.0.1 ended p.1 in
-    let v = gs p.0.0 p.0.1 y after (subst Ended (sym w.left) w.ended) p.2 in
-    let next = head_is v.front v.next w.next v.rest w.rest (sym w.left ∙ v.all) in
+    let v = gs p.0.0 p.0.1 y after (ended_after w) p.2 in
     record {
       front = w.front ++ v.front;
       next = v.next;
       rest = v.rest;
-      all = w.all ∙ ap (λ z. w.front ++ z) (sym w.left ∙ v.all) ∙ sym (append_assoc w.front v.front (v.next ∷ v.rest));
+      all = all_on w v.front v.next v.rest v.all;
       left = v.left;
-      by = (p.0.0, w.front, v.front, refl, subst (G p.0.0 w.front) next w.by, v.by);
+      by = (p.0.0, w.front, v.front, refl, by_on w v.front v.next v.rest v.all, v.by);
       ended = v.ended;
     }
 
@@ -46,34 +46,22 @@ first_stops : {A B : Type 0} (C : Rule A) (D : A → Rule B) (n : ℕ) (f : ℕ 
     → ((x : A) → HasOne (D x)) → Stop C n f ls e → Stop (ThenPlain C D) n (λ m. then (f m) (λ x. g x m)) ls e
 first_stops C D n f g ls e some s =
     let d = some s.thing in
-    record {
-      front = s.front;
-      here = s.here;
-      rest = s.rest;
-      all = s.all;
-      fault = s.fault;
-      always = λ m other le. rw (s.always m other le) refl;
-      back = s.back ++ d.1;
-      thing = d.0;
-      whole = (s.thing, s.front ++ s.back, d.1, sym (append_assoc s.front s.back d.1), s.whole, d.2);
-    }
+    stop_as s (λ m other le. rw (s.always m other le) refl) d.0 (s.back ++ d.1) (s.thing, s.front ++ s.back, d.1, sym (append_assoc s.front s.back d.1), s.whole, d.2)
 
 -- the first thing is there, and the second one isn't
 second_stops : {A B : Type 0} (r : Room) (G : Before A) (C : Rule A) (D : A → Rule B) (n : ℕ) (f : ℕ → List Lexeme → Read A)
     (g : A → ℕ → List Lexeme → Read B) (ls : List Lexeme) (e : PolicyFault) (x : A) (mid : List Lexeme)
     → Known r G C f → r.Fits n ls → WasRead G ls x mid → Stop (D x) n (g x) mid e → Stop (ThenPlain C D) n (λ m. then (f m) (λ x. g x m)) ls e
 second_stops r G C D n f g ls e x mid k fits w s =
-    let parts : w.next ∷ w.rest ≡ s.front ++ s.here ∷ s.rest = sym w.left ∙ s.all in
-    let next = head_is s.front s.here w.next s.rest w.rest parts in
-    let fits' : r.Fits n w.front = r.front n w.front (w.next ∷ w.rest) (subst (r.Fits n) w.all fits) in
     record {
       front = w.front ++ s.front;
       here = s.here;
       rest = s.rest;
-      all = w.all ∙ ap (λ z. w.front ++ z) parts ∙ sym (append_assoc w.front s.front (s.here ∷ s.rest));
+      all = all_on w s.front s.here s.rest s.all;
       fault = s.fault;
       always = λ m other le.
-          ap (λ z. z >>= λ x. g x.0 m x.1) (reads_on r m G (f m) (k.reads m) x w.front s.front s.here other (subst (G x w.front) next w.by) (r.more n m w.front le fits'))
+          ap (λ z. z >>= λ x. g x.0 m x.1)
+          (reads_on r m G (f m) (k.reads m) x w.front s.front s.here other (by_on w s.front s.here s.rest s.all) (r.more n m w.front le (front_fits r n w fits)))
           ∙ s.always m other le;
       back = s.back;
       thing = s.thing;
@@ -88,10 +76,8 @@ then-stops {A} {B} r n G C D f g k fstops some gstops ls e ended fits h = by (f 
     by (Err d) is = first_stops C D n f g ls e some (fstops ls e ended fits (cc (h, is)))
     by (Ok p) is =
         let w = k.sound n ls p.0 p.1 ended is in
-        let mid : Ended p.1 = subst Ended (sym w.left) w.ended in
-        let room : r.Fits n p.1 = k.balanced n p.0 w.front p.1 w.next w.by (subst (r.Fits n) (w.all ∙ ap (λ z. w.front ++ z) (sym w.left)) fits) in
         let second : g p.0 n p.1 ≡ Err e = sym (ap (λ z. z >>= λ x. g x.0 n x.1) is) ∙ h in
-        second_stops r G C D n f g ls e p.0 p.1 k fits w (gstops p.0 p.1 e mid room second)
+        second_stops r G C D n f g ls e p.0 p.1 k fits w (gstops p.0 p.1 e (ended_after w) (left_fits r n k.balanced w fits) second)
 
 pub then-balanced : {A B : Type 0} (r : Room) (G : Before A) (H : A → Before B) → Balanced r G → ((x : A) → Balanced r (H x)) → Balanced r (Then G H)
 then-balanced r G H bg bh n y ls ms l t fits =

@@ -7,7 +7,7 @@ use Rattle.policy_grammar.specs.Reading.{Read, refused, first_of}
 use Rattle.net_base.specs.Steps.{or_fault}
 use Rattle.grammar_law.specs.Grammar.{Is, Rule}
 use Rattle.grammar_law.proofs.Lookups.{Differ, is_or_isnt, Isnt, past-is, past-isnt, a_token, a_token-is}
-use Rattle.grammar_law.proofs.Readers.{Before, Ended, Room, Passes, Reads, WasRead, Sound, Stop, Stops, Exact, ended_behind, read_same}
+use Rattle.grammar_law.proofs.Readers.{Before, Ended, Room, Passes, Reads, WasRead, Sound, Stop, Stops, Exact, ended_behind, read_same, stop_here}
 
 -- one token of this symbol
 abbrev pub Token : Symbol → Before Lexeme
@@ -48,17 +48,7 @@ token-stops r s n (l ∷ ls) e ended fits h = by (is_or_isnt s l)
     by (inr i) =
         let no = first_of-isnt s l ls i in
         let named : e ≡ refused (l ∷ ls) = cc in
-        record {
-          front = [];
-          here = l;
-          rest = ls;
-          all = refl;
-          fault = named;
-          always = λ m other le. first_of-isnt s l other i ∙ ap Err (sym named);
-          back = a_token s ∷ [];
-          thing = a_token s;
-          whole = (refl, a_token-is s);
-        }
+        stop_here named (λ m other. first_of-isnt s l other i) (a_token s) (a_token s ∷ []) (refl, a_token-is s)
 
 pub token : (r : Room) (s : Symbol) → Passes r s → Differ s EndOfText → Exact r (Token s) (OneToken s) (λ n. first_of s)
 token r s passes d = record {

@@ -10,7 +10,7 @@ use Rattle.policy_grammar.specs.Reading.{refused}
 use Rattle.policy_grammar.specs.Calls.{word_of, call_behind, call_at}
 use Rattle.grammar_law.specs.Grammar.{Is, Rule, IsCall, StandsAlone}
 use Rattle.grammar_law.proofs.Lookups.{a_token, a_token-is}
-use Rattle.grammar_law.proofs.Readers.{Before, Ended, Reads, WasRead, Sound, Stop, Stops, Exact}
+use Rattle.grammar_law.proofs.Readers.{Before, Ended, Reads, WasRead, Sound, Stop, Stops, Exact, was_read_behind, stop_here, stop_behind}
 use Rattle.grammar_law.proofs.Tokens.{NoToken}
 use Rattle.grammar_law.proofs.Lists.{exact_in_words}
 use Rattle.grammar_law.proofs.SetsReaders.{sets_words, sets_of}
@@ -55,15 +55,7 @@ call-sound (t ∷ ls) x after ended h = by (word_of t.symbol) refl
     by None e = let stuck = call_at-none t ls e in absurd cc
     by (Some word) e =
         let w = (behind_exact word).known.sound 0 ls x after (no_end t ls word e ended) (sym (call_at-some t ls word e) ∙ h) in
-        record {
-          front = t ∷ w.front;
-          next = w.next;
-          rest = w.rest;
-          all = ap (λ z. t ∷ z) w.all;
-          left = w.left;
-          by = (t, w.front, word, refl, e, w.by);
-          ended = w.ended;
-        }
+        was_read_behind t w (t, w.front, word, refl, e, w.by)
 
 abbrev CalledPlain : Rule RawCall
 CalledPlain x ls = (t : Lexeme) × (back : List Lexeme) × (word : CallWord) × (ls ≡ t ∷ back) × (word_of t.symbol ≡ Some word) × BehindPlain word x back
@@ -83,30 +75,10 @@ call-stops n (t ∷ ls) e ended fits h = by (word_of t.symbol) refl
     by None is =
         let no_call = call_at-none t ls is in
         let named : e ≡ refused (t ∷ ls) = cc in
-        record {
-          front = [];
-          here = t;
-          rest = ls;
-          all = refl;
-          fault = named;
-          always = λ m other le. call_at-none t other is ∙ ap Err (sym named);
-          back = any_token ∷ [];
-          thing = plain_of Any;
-          whole = any-called;
-        }
+        stop_here named (λ m other. call_at-none t other is) (plain_of Any) (any_token ∷ []) any-called
     by (Some word) is =
         let s = (behind_exact word).stops n ls e (no_end t ls word is ended) (free_fits n ls) (sym (call_at-some t ls word is) ∙ h) in
-        record {
-          front = t ∷ s.front;
-          here = s.here;
-          rest = s.rest;
-          all = ap (λ z. t ∷ z) s.all;
-          fault = s.fault;
-          always = λ m other le. call_at-some t (s.front ++ s.here ∷ other) word is ∙ s.always m other le;
-          back = s.back;
-          thing = s.thing;
-          whole = (t, s.front ++ s.back, word, refl, is, s.whole);
-        }
+        stop_behind t s (λ m other le. call_at-some t (s.front ++ s.here ∷ other) word is ∙ s.always m other le) (t, s.front ++ s.back, word, refl, is, s.whole)
 
 -- ---- in the words of the grammar
 

@@ -24,7 +24,8 @@ struct Brackets {
 // The brackets with those of one token more, which stands at this place.
 fn with_token(brackets: Brackets, kind: TokenKind, place: Place) -> Brackets
     requires { brackets.open ≤ BRACKETS }
-    ensures brackets { (bytes : List ℕ) (l : Lexeme) (ls : List Lexeme) → l.symbol ≡ symbol_of kind bytes → l.place ≡ place → deep_from result.deep result.open ls ≡ deep_from brackets.deep brackets.open (l ∷ ls) }
+    ensures brackets { (bytes : List ℕ) (l : Lexeme) (ls : List Lexeme) → l.symbol ≡ symbol_of kind bytes → l.place ≡ place
+        → deep_from result.deep result.open ls ≡ deep_from brackets.deep brackets.open (l ∷ ls) }
     ensures fits { result.open ≤ BRACKETS }
 {
     if brackets.deep.is_some() {

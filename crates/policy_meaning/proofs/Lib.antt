@@ -12,6 +12,7 @@ mod Building
 mod Whole
 mod HeldNames
 mod Sequence
+mod ByParts
 mod Places
 mod Shallow
 mod OneTree

@@ -11,14 +11,15 @@ use Rattle.net_base.specs.PrefixText.{prefix_spelled, length_number}
 use Rattle.policy_grammar.specs.declared.lexeme.Lexeme.{Lexeme}
 use Rattle.policy_grammar.specs.declared.symbol.Symbol.TheVariants as symbol
 use Rattle.policy_grammar.specs.Raw.{Item, RawCall, RawPattern, Step}
-use Rattle.grammar_law.specs.Grammar.{IsName, IsNames, IsGroup, IsSet, IsOne, front_place, IsCall, IsRanked, IsChoice, IsJoint, IsUnit, IsAtom, IsPattern, IsPredicate, IsFrom, IsItem, IsPolicy}
+use Rattle.grammar_law.specs.Grammar.{IsName, IsNames, IsGroup, IsSet, IsOne, front_place, IsCall, IsRanked, IsPattern, IsPredicate, IsFrom, IsItem, IsPolicy}
 use Rattle.policy_rules.specs.Checks.{text}
 use Rattle.policy_meaning.specs.InOrder.{StandIn, PlacesInOrder}
-use Rattle.policy_meaning.specs.Trees.{Written, ranked_tree, choice_tree, joint_tree, unit_tree, atom_tree, policy_tree}
+use Rattle.policy_meaning.specs.Trees.{Written, ranked_tree, policy_tree}
 use Rattle.policy_meaning.specs.Senses.{Sense, below, sense_of, unless_some, unknown, unknown_in_set, unknown_in, unknown_in_item, if_some, named_again}
 use Rattle.policy_meaning.specs.Figures.{if_err, no_prefix, unless_true, unless_within, no_length, prefix_of, wrong_in_pattern, wrong_figures}
 use Rattle.policy_meaning.specs.Ranks.{place_of, ranks, ranks_under, ranks_under_in}
 use Rattle.policy_meaning.specs.Origins.{if_true, has_peer_in, peer_named, peers_named, originates, originated_again}
+use Rattle.policy_meaning.proofs.ByParts.{ranked_so}
 use Rattle.policy_meaning.proofs.Sequence.{no_place, stand_append, then_none, none_then, Found, more_found, list_found, FoundInItems, items_found, all_found}
 
 -- ---- tokens
@@ -122,75 +123,23 @@ call_ranks x ts (IsCall.path i j a k b others e) = no_place ts
 -- ---- expressions
 
 -- behind the sign between two sides
-beside : (ps qs : List Place) (us vs : List Lexeme) (j : Lexeme) → StandIn ps us → StandIn qs vs → StandIn (ps ++ qs) (us ++ j ∷ vs)
-beside ps qs us vs j a b = stand_append a qs (j ∷ vs) (StandIn.other b)
+beside : {ps qs : List Place} {us vs : List Lexeme} (j : Lexeme) → StandIn ps us → StandIn qs vs → StandIn (ps ++ qs) (us ++ j ∷ vs)
+beside {qs = qs} {vs = vs} j a b = stand_append a qs (j ∷ vs) (StandIn.other b)
 
-within : (ps : List Place) (us : List Lexeme) (o c : Lexeme) → StandIn ps us → StandIn ps (o ∷ us ++ c ∷ [])
-within ps us o c a = StandIn.other (then_none a (c ∷ []))
+within : {ps : List Place} {us : List Lexeme} (o c : Lexeme) → StandIn ps us → StandIn ps (o ∷ us ++ c ∷ [])
+within o c a = StandIn.other (then_none a (c ∷ []))
 
-module _ (sense : Sense) where
-  mutual
-    ranked_unknown : {xs : List Step} {ts : List Lexeme} (p : IsRanked xs ts) → StandIn (unknown_in sense (ranked_tree p)) ts
-    ranked_unknown (IsRanked.choice c) = choice_unknown c
-    ranked_unknown (IsRanked.above {j = j} {ts = ts} {us = us} a i b) = beside (unknown_in sense (ranked_tree a)) (unknown_in sense (choice_tree b)) ts us j (ranked_unknown a) (choice_unknown b)
+ranked_unknown : (sense : Sense) {xs : List Step} {ts : List Lexeme} (p : IsRanked xs ts) → StandIn (unknown_in sense (ranked_tree p)) ts
+ranked_unknown sense =
+    ranked_so (λ e ts. StandIn (unknown_in sense e) ts) (call_found sense)
+    (λ a b j us vs p q. beside j p q) (λ a b j us vs p q. beside j p q) (λ a b j us vs p q. beside j p q) (λ a l us p. StandIn.other p) (λ a o c us p. within o c p)
 
-    choice_unknown : {xs : List Step} {ts : List Lexeme} (p : IsChoice xs ts) → StandIn (unknown_in sense (choice_tree p)) ts
-    choice_unknown (IsChoice.joint c) = joint_unknown c
-    choice_unknown (IsChoice.or {j = j} {ts = ts} {us = us} a i b) = beside (unknown_in sense (choice_tree a)) (unknown_in sense (joint_tree b)) ts us j (choice_unknown a) (joint_unknown b)
-
-    joint_unknown : {xs : List Step} {ts : List Lexeme} (p : IsJoint xs ts) → StandIn (unknown_in sense (joint_tree p)) ts
-    joint_unknown (IsJoint.unit c) = unit_unknown c
-    joint_unknown (IsJoint.and {j = j} {ts = ts} {us = us} a i b) = beside (unknown_in sense (joint_tree a)) (unknown_in sense (unit_tree b)) ts us j (joint_unknown a) (unit_unknown b)
-
-    unit_unknown : {xs : List Step} {ts : List Lexeme} (p : IsUnit xs ts) → StandIn (unknown_in sense (unit_tree p)) ts
-    unit_unknown (IsUnit.atom a) = atom_unknown a
-    unit_unknown (IsUnit.not i a) = StandIn.other (atom_unknown a)
-
-    atom_unknown : {xs : List Step} {ts : List Lexeme} (p : IsAtom xs ts) → StandIn (unknown_in sense (atom_tree p)) ts
-    atom_unknown (IsAtom.bracket {o = o} {c = c} {ts = ts} i r j) = within (unknown_in sense (ranked_tree r)) ts o c (ranked_unknown r)
-    atom_unknown (IsAtom.call {x = x} {ts = ts} c) = call_found sense x ts c
-
-mutual
-  ranked_ranks : {xs : List Step} {ts : List Lexeme} (p : IsRanked xs ts) → StandIn (ranks (ranked_tree p)) ts
-  ranked_ranks (IsRanked.choice c) = choice_ranks c
-  ranked_ranks (IsRanked.above {j = j} {ts = ts} {us = us} a i b) = stand_append (ranked_ranks a) (j.place ∷ ranks (choice_tree b)) (j ∷ us) (StandIn.here (choice_ranks b))
-
-  choice_ranks : {xs : List Step} {ts : List Lexeme} (p : IsChoice xs ts) → StandIn (ranks (choice_tree p)) ts
-  choice_ranks (IsChoice.joint c) = joint_ranks c
-  choice_ranks (IsChoice.or {j = j} {ts = ts} {us = us} a i b) = beside (ranks (choice_tree a)) (ranks (joint_tree b)) ts us j (choice_ranks a) (joint_ranks b)
-
-  joint_ranks : {xs : List Step} {ts : List Lexeme} (p : IsJoint xs ts) → StandIn (ranks (joint_tree p)) ts
-  joint_ranks (IsJoint.unit c) = unit_ranks c
-  joint_ranks (IsJoint.and {j = j} {ts = ts} {us = us} a i b) = beside (ranks (joint_tree a)) (ranks (unit_tree b)) ts us j (joint_ranks a) (unit_ranks b)
-
-  unit_ranks : {xs : List Step} {ts : List Lexeme} (p : IsUnit xs ts) → StandIn (ranks (unit_tree p)) ts
-  unit_ranks (IsUnit.atom a) = atom_ranks a
-  unit_ranks (IsUnit.not i a) = StandIn.other (atom_ranks a)
-
-  atom_ranks : {xs : List Step} {ts : List Lexeme} (p : IsAtom xs ts) → StandIn (ranks (atom_tree p)) ts
-  atom_ranks (IsAtom.bracket {o = o} {c = c} {ts = ts} i r j) = within (ranks (ranked_tree r)) ts o c (ranked_ranks r)
-  atom_ranks (IsAtom.call {x = x} {ts = ts} c) = call_ranks x ts c
-
-mutual
-  ranked_under : {xs : List Step} {ts : List Lexeme} (p : IsRanked xs ts) → StandIn (ranks_under (ranked_tree p)) ts
-  ranked_under (IsRanked.choice c) = choice_under c
-  ranked_under (IsRanked.above {j = j} {ts = ts} {us = us} a i b) = beside (ranks_under (ranked_tree a)) (ranks_under (choice_tree b)) ts us j (ranked_under a) (choice_under b)
-
-  choice_under : {xs : List Step} {ts : List Lexeme} (p : IsChoice xs ts) → StandIn (ranks_under (choice_tree p)) ts
-  choice_under (IsChoice.joint c) = joint_under c
-  choice_under (IsChoice.or {j = j} {ts = ts} {us = us} a i b) = beside (ranks (choice_tree a)) (ranks (joint_tree b)) ts us j (choice_ranks a) (joint_ranks b)
-
-  joint_under : {xs : List Step} {ts : List Lexeme} (p : IsJoint xs ts) → StandIn (ranks_under (joint_tree p)) ts
-  joint_under (IsJoint.unit c) = unit_under c
-  joint_under (IsJoint.and {j = j} {ts = ts} {us = us} a i b) = beside (ranks_under (joint_tree a)) (ranks_under (unit_tree b)) ts us j (joint_under a) (unit_under b)
-
-  unit_under : {xs : List Step} {ts : List Lexeme} (p : IsUnit xs ts) → StandIn (ranks_under (unit_tree p)) ts
-  unit_under (IsUnit.atom a) = atom_under a
-  unit_under (IsUnit.not i a) = StandIn.other (atom_ranks a)
-
-  atom_under : {xs : List Step} {ts : List Lexeme} (p : IsAtom xs ts) → StandIn (ranks_under (atom_tree p)) ts
-  atom_under (IsAtom.bracket {o = o} {c = c} {ts = ts} i r j) = within (ranks_under (ranked_tree r)) ts o c (ranked_under r)
-  atom_under (IsAtom.call {ts = ts} c) = no_place ts
+-- the `>>` of an expression, and those of them that it forbids
+ranks_both : {xs : List Step} {ts : List Lexeme} (p : IsRanked xs ts) → StandIn (ranks (ranked_tree p)) ts × StandIn (ranks_under (ranked_tree p)) ts
+ranks_both =
+    ranked_so (λ e ts. StandIn (ranks e) ts × StandIn (ranks_under e) ts) (λ x ts c. (call_ranks x ts c, no_place ts))
+    (λ a b j us vs p q. (stand_append p.0 (j.place ∷ ranks b) (j ∷ vs) (StandIn.here q.0), beside j p.1 q.1)) (λ a b j us vs p q. (beside j p.0 q.0, beside j p.0 q.0))
+    (λ a b j us vs p q. (beside j p.0 q.0, beside j p.1 q.1)) (λ a l us p. (StandIn.other p.0, StandIn.other p.0)) (λ a o c us p. (within o c p.0, within o c p.1))
 
 -- ---- patterns and sources
 
@@ -236,7 +185,7 @@ figures_item bytes above x ts (IsItem.state {ps = ps} {a = a} {s = s} {ts = us} 
 ranks_item : FoundInItems (λ _. ranks_under_in)
 ranks_item above x ts (IsItem.define i n j g k) = no_place ts
 ranks_item above x ts (IsItem.originate i j k p l) = no_place ts
-ranks_item above x ts (IsItem.state {a = a} {s = s} {ts = us} {vs = ws} p i r f k) = then_none (then_none (none_then us (StandIn.other {l = a} (ranked_under r))) ws) (s ∷ [])
+ranks_item above x ts (IsItem.state {a = a} {s = s} {ts = us} {vs = ws} p i r f k) = then_none (then_none (none_then us (StandIn.other {l = a} (ranks_both r).1)) ws) (s ∷ [])
 
 peers_item : (net : PlainNet) (sense : Sense) → FoundInItems (λ _. peers_named net sense)
 peers_item net sense above x ts (IsItem.define i n j g k) = no_place ts

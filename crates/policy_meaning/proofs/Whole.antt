@@ -42,7 +42,7 @@ use Rattle.policy_meaning.proofs.FigureChecks.{figures_told}
 use Rattle.policy_meaning.proofs.OriginChecks.{peers_told, origins_told}
 use Rattle.policy_meaning.proofs.LimitChecks.{self}
 use Rattle.policy_meaning.proofs.Building.{policy_is}
-use Rattle.policy_parser.proofs.Steps.{none_at_ok}
+use Rattle.policy_parser.proofs.BuiltParts.{items_parts}
 
 -- the rules on figures, ranks and origins, where each name stands for something
 kept : (net : PlainNet) (bytes : List ℕ) (known : Names) (sense : Sense) → HasSense bytes known sense → (xs : List Written)
@@ -128,17 +128,6 @@ text_spells read net bytes tokens items cut shallow p =
 abbrev pub IsReadAsPolicy : Type 0
 IsReadAsPolicy = (bytes : List ℕ) (tokens : List Token) (end : Place) (items : List Item) → items_of (lexemes_of bytes tokens end) ≡ Ok items → IsPolicy items (map (lexeme_of bytes) tokens)
 
--- what the items of a text are read of
-items_read : (bytes : List ℕ) (items : List Item) → items_spelled bytes ≡ Ok items
-    → (tokens : List Token) × (tokens_of bytes ≡ Ok tokens) × (first_deep 0 (lexemes_of bytes tokens (place_of bytes (length bytes))) ≡ None)
-    × (items_of (lexemes_of bytes tokens (place_of bytes (length bytes))) ≡ Ok items)
-unfolding items_spelled
-items_read bytes items e =
-    let end : Place = place_of bytes (length bytes) in
-    let a = bind_ok (tokens_of bytes) (λ tokens. none_at Deep (first_deep 0 (lexemes_of bytes tokens end)) >>= λ _. items_of (lexemes_of bytes tokens end)) items e in
-    let b = bind_ok (none_at Deep (first_deep 0 (lexemes_of bytes a.0 end))) (λ _. items_of (lexemes_of bytes a.0 end)) items a.2 in
-    (a.0, a.1, none_at_ok Deep (first_deep 0 (lexemes_of bytes a.0 end)) b.0 b.1, b.2)
-
 -- a policy that is read: its tokens and its items, no bracket too deep, and what they mean
 pub policy_read : EachIsRead → IsReadAsPolicy → (net : PlainNet) (bytes : List ℕ) (spelt : PlainPolicy) → spelled net bytes ≡ Ok spelt
     → (tokens : List Token) × (items : List Item) × (p : IsPolicy items (map (lexeme_of bytes) tokens)) × (tokens_of bytes ≡ Ok tokens)
@@ -146,7 +135,7 @@ pub policy_read : EachIsRead → IsReadAsPolicy → (net : PlainNet) (bytes : Li
 unfolding spelled
 policy_read read are net bytes spelt e =
     let a = bind_ok (items_spelled bytes) (λ items. names_spelled bytes net items >>= λ known. rules_kept bytes net known items >>= λ _. policy_built bytes net known items) spelt e in
-    let r = items_read bytes a.0 a.1 in
+    let r = items_parts bytes a.0 a.1 in
     let p = are bytes r.0 (place_of bytes (length bytes)) a.0 r.3 in
     (r.0, a.0, p, r.1, r.2, sym (text_spells read net bytes r.0 a.0 r.1 r.2 p) ∙ e)
 

@@ -12,20 +12,18 @@ use Rattle.policy_tokens.specs.declared.kind.Kind.TheVariants as kind
 use Rattle.net_base.specs.Prefixes.{PlainPrefix, PlainPattern, same_prefix}
 use Rattle.net_base.specs.Steps.{◌>>=◌, unless}
 use Rattle.policy_tokens.specs.declared.fault.PolicyFault.TheVariants.{OriginTwice, TooMany}
-use Rattle.policy_grammar.specs.declared.lexeme.Lexeme.{Lexeme}
 use Rattle.policy_grammar.specs.Raw.{RawPattern, RawStatement, Item}
 use Rattle.policy_grammar.specs.Raw.Item.{Define, Originate, State}
 use Rattle.policy_rules.specs.KnownNames.{Names}
-use Rattle.policy_rules.specs.Checks.{set_of_names, each}
-use Rattle.policy_rules.specs.Figures.{prefix_at, pattern_at, figures_fine}
-use Rattle.policy_rules.specs.Ranks.{ranks_fine}
-use Rattle.policy_rules.specs.Origins.{once_from, origins_fine}
-use Rattle.policy_rules.specs.Counts.{amount, counted, capped, within, items_within}
+use Rattle.policy_rules.specs.Figures.{prefix_at, pattern_at}
+use Rattle.policy_rules.specs.Origins.{once_from}
+use Rattle.policy_rules.specs.Counts.{amount, counted, capped, within}
 use Rattle.policy_base.specs.declared.policy.Origin.{Origin}
 use Rattle.policy_base.specs.Policies.{PlainStatement, IsPolicy}
-use Rattle.policy_values.specs.Built.{patterns_of, ranking_of_steps, from_of, statement_of, statements_of, origin_of, origins_of}
-use Rattle.policy_parser.specs.Spelled.{rules_kept, origins_spelled, pairs}
+use Rattle.policy_values.specs.Built.{patterns_of, statement_of, statements_of, origin_of, origins_of}
+use Rattle.policy_parser.specs.Spelled.{rules_kept, origins_spelled}
 use Rattle.net_base.proofs.StepLemmas.{bind_ok, unless_ok}
+use Rattle.policy_parser.proofs.BuiltParts.{origin_parts, statement_parts, rules_parts, origins_parts}
 use Rattle.policy_parser.proofs.Steps.{same_prefix_equiv}
 
 abbrev prefixes : List Origin → List PlainPrefix
@@ -41,16 +39,6 @@ origins_count bytes known so_far (Originate p ns ∷ items) os e =
     let b = bind_ok (origin_of bytes known p ns) (λ o. origins_of bytes known (so_far ++ o ∷ []) items) os e in
     rw (sum_by-cons (amount kind.Prefixes) (Originate p ns) items) (omega (arith, origins_count bytes known (so_far ++ b.0 ∷ []) items os b.2, length-append so_far (b.0 ∷ [])))
 
--- the prefix of an origin is that of its figure
-pub origin_prefix : (bytes : List ℕ) (known : Names) (p : Lexeme) (ns : List Lexeme) (o : Origin) → origin_of bytes known p ns ≡ Ok o → prefix_at bytes p ≡ Ok o.prefix
-unfolding origin_of
-origin_prefix bytes known p ns o e =
-    let a = bind_ok (prefix_at bytes p) (λ q. set_of_names bytes known ns >>= λ s. Ok (record { prefix = q; at = s })) o e in
-    let b = bind_ok (set_of_names bytes known ns) (λ s. Ok (record { prefix = a.0; at = s })) o a.2 in
-    let made : Origin = record { prefix = a.0; at = b.0 } in
-    let same : made ≡ o = cc in
-    a.1 ∙ ap (λ (x : Origin). Ok x.prefix) same
-
 -- no prefix is originated twice
 origins_distinct : (bytes : List ℕ) (known : Names) (so_far : List Origin) (items : List Item) (os : List Origin)
     → origins_of bytes known so_far items ≡ Ok os → once_from bytes (prefixes so_far) items ≡ Ok tt → IsDistinct same_prefix (prefixes so_far) → IsDistinct same_prefix (prefixes os)
@@ -59,7 +47,7 @@ origins_distinct bytes known so_far (Define n m ∷ items) os e once so_distinct
 origins_distinct bytes known so_far (State s ∷ items) os e once so_distinct = origins_distinct bytes known so_far items os e once so_distinct
 origins_distinct bytes known so_far (Originate p ns ∷ items) os e once so_distinct =
     let b = bind_ok (origin_of bytes known p ns) (λ o. origins_of bytes known (so_far ++ o ∷ []) items) os e in
-    let read = origin_prefix bytes known p ns b.0 b.1 in
+    let read = (origin_parts bytes known p ns b.0 b.1).0 in
     let before = prefixes so_far in
     let c = bind_ok (prefix_at bytes p) (λ q. unless (OriginTwice p.place) (not (list_any (same_prefix q) before)) >>= λ _. once_from bytes (before ++ q ∷ []) items) tt once in
     let q : c.0 ≡ b.0.prefix = cc in
@@ -75,17 +63,9 @@ patterns_count bytes so_far (r ∷ raw) ps e =
     let b = bind_ok (pattern_at bytes r) (λ q. patterns_of bytes (so_far ++ q ∷ []) raw) ps e in
     omega (arith, patterns_count bytes (so_far ++ b.0 ∷ []) raw ps b.2, length-append so_far (b.0 ∷ []))
 
-statement_patterns : (bytes : List ℕ) (net : PlainNet) (known : Names) (s : RawStatement) (t : PlainStatement) → statement_of bytes net known s ≡ Ok t → length t.patterns ≡ length s.patterns
-unfolding statement_of
-statement_patterns bytes net known s t e =
-    let a =
-    bind_ok (patterns_of bytes [] s.patterns)
-    (λ ps. ranking_of_steps bytes net known s.ranked >>= λ r. from_of bytes known s.from >>= λ f. Ok (record { patterns = ps; ranked = r; from = f })) t e in
-    let b = bind_ok (ranking_of_steps bytes net known s.ranked) (λ r. from_of bytes known s.from >>= λ f. Ok (record { patterns = a.0; ranked = r; from = f })) t a.2 in
-    let c = bind_ok (from_of bytes known s.from) (λ f. Ok (record { patterns = a.0; ranked = b.0; from = f })) t b.2 in
-    let made : PlainStatement = record { patterns = a.0; ranked = b.0; from = c.0 } in
-    let same : made ≡ t = cc in
-    ap (λ (x : PlainStatement). length x.patterns) (sym same) ∙ omega (arith, patterns_count bytes [] s.patterns a.0 a.1)
+-- as many patterns as it has
+pub statement_patterns : (bytes : List ℕ) (net : PlainNet) (known : Names) (s : RawStatement) (t : PlainStatement) → statement_of bytes net known s ≡ Ok t → length t.patterns ≡ length s.patterns
+statement_patterns bytes net known s t e = omega (arith, patterns_count bytes [] s.patterns t.patterns (statement_parts bytes net known s t e).0)
 
 abbrev pattern_sum : List PlainStatement → ℕ
 pattern_sum ts = sum_by (λ (t : PlainStatement). length t.patterns) ts
@@ -118,29 +98,22 @@ within_most k most n x e small = omega (arith, leb-true (capped n) most (unless_
 pub is_policy : (bytes : List ℕ) (net : PlainNet) (known : Names) (items : List Item) (os : List Origin) (ts : List PlainStatement)
     → rules_kept bytes net known items ≡ Ok tt → origins_spelled bytes known items ≡ Ok os → statements_of bytes net known [] items ≡ Ok ts
     → IsPolicy (record { origins = os; statements = ts })
-unfolding rules_kept origins_spelled IsDistinct
+unfolding IsDistinct
 is_policy bytes net known items os ts kept originated stated =
-    let a = bind_ok (each (figures_fine bytes) items) (λ _. each ranks_fine items >>= λ _. each (origins_fine bytes net known) items >>= λ _. once_from bytes [] items) tt kept in
-    let b = bind_ok (each ranks_fine items) (λ _. each (origins_fine bytes net known) items >>= λ _. once_from bytes [] items) tt a.2 in
-    let c = bind_ok (each (origins_fine bytes net known) items) (λ _. once_from bytes [] items) tt b.2 in
-    let o = bind_ok (items_within items) (λ _. origins_of bytes known [] items >>= λ x. within kind.Origins 16384 (pairs x) >>= λ _. Ok x) os originated in
-    let p = bind_ok (origins_of bytes known [] items) (λ x. within kind.Origins 16384 (pairs x) >>= λ _. Ok x) os o.2 in
-    let q = bind_ok (within kind.Origins 16384 (pairs p.0)) (λ _. Ok p.0) os p.2 in
-    let same : p.0 ≡ os = cc in
-    let made : origins_of bytes known [] items ≡ Ok os = p.1 ∙ ap Ok same in
+    let o = origins_parts bytes known items os originated in
     let l1 =
     bind_ok (within kind.Definitions 256 (counted kind.Definitions items))
     (λ _. within kind.Statements 256 (counted kind.Statements items) >>= λ _. within kind.Patterns 16384
-    (counted kind.Patterns items) >>= λ _. within kind.Prefixes 4096 (counted kind.Prefixes items)) o.0 o.1 in
+    (counted kind.Patterns items) >>= λ _. within kind.Prefixes 4096 (counted kind.Prefixes items)) tt o.0 in
     let l2 =
     bind_ok (within kind.Statements 256 (counted kind.Statements items))
-    (λ _. within kind.Patterns 16384 (counted kind.Patterns items) >>= λ _. within kind.Prefixes 4096 (counted kind.Prefixes items)) o.0 l1.2 in
-    let l3 = bind_ok (within kind.Patterns 16384 (counted kind.Patterns items)) (λ _. within kind.Prefixes 4096 (counted kind.Prefixes items)) o.0 l2.2 in
+    (λ _. within kind.Patterns 16384 (counted kind.Patterns items) >>= λ _. within kind.Prefixes 4096 (counted kind.Prefixes items)) tt l1.2 in
+    let l3 = bind_ok (within kind.Patterns 16384 (counted kind.Patterns items)) (λ _. within kind.Prefixes 4096 (counted kind.Prefixes items)) tt l2.2 in
     let h = statements_count bytes net known [] items ts stated in
     record {
       statements = omega (arith, h.0, within_most kind.Statements 256 _ l2.0 l2.1 (omega arith));
       patterns = omega (arith, h.1, within_most kind.Patterns 16384 _ l3.0 l3.1 (omega arith));
-      prefixes = omega (arith, origins_count bytes known [] items os made, within_most kind.Prefixes 4096 _ o.0 l3.2 (omega arith));
-      pairs = rw (← same) (within_most kind.Origins 16384 _ q.0 q.1 (omega arith));
-      once = origins_distinct bytes known [] items os made c.2 tt;
+      prefixes = omega (arith, origins_count bytes known [] items os o.1, within_most kind.Prefixes 4096 _ tt l3.2 (omega arith));
+      pairs = within_most kind.Origins 16384 _ tt o.2 (omega arith);
+      once = origins_distinct bytes known [] items os o.1 (rules_parts bytes net known items kept).2 tt;
     }

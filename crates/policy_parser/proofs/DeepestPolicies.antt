@@ -1,5 +1,5 @@
 -- How deep the expressions of a policy that is read can be.
-use Rattle.std.proofs.Common.{◌≡◌, ℕ, suc, ◌+◌, ◌≤◌, List, [], ◌∷◌, ◌++◌, Result, Ok, Err, refl, sym, ap, ◌∙◌, subst, arith}
+use Rattle.std.proofs.Common.{◌≡◌, ℕ, suc, ◌+◌, ◌≤◌, List, [], ◌∷◌, ◌++◌, length, Result, Ok, Err, refl, sym, ap, ◌∙◌, subst, arith}
 use Rattle.std.specs.Prelude.{IfOk, sum_by}
 use Rattle.std.specs.List.{AllByRecursion}
 use Rattle.std.proofs.lemmas.List.Sums.{sum_by-cons, sum_by-append}
@@ -10,24 +10,23 @@ use Rattle.net_base.specs.Network.{PlainNet}
 use Rattle.net_base.specs.Steps.{◌>>=◌}
 use Rattle.net_base.proofs.StepLemmas.{bind_ok, ok_same}
 use Rattle.policy_tokens.specs.declared.fault.PolicyFault.{PolicyFault}
-use Rattle.policy_tokens.specs.declared.fault.PolicyFault.TheVariants.{Deep, NoMemory}
+use Rattle.policy_tokens.specs.declared.fault.PolicyFault.TheVariants.{NoMemory}
 use Rattle.net_base.specs.Gives.{GivesUnless}
 use Rattle.policy_tokens.specs.Places.{place_of}
-use Rattle.policy_tokens.specs.Tokens.{tokens_of}
 use Rattle.policy_base.specs.declared.call.SetCall.{SetCall}
 use Rattle.policy_base.specs.declared.call.CallWord.{CallWord}
 use Rattle.policy_base.specs.declared.call.CallWord.TheVariants as word
 use Rattle.policy_grammar.specs.Raw.{RawStatement, Step, Step as step, Item}
 use Rattle.policy_grammar.specs.Raw.Item.{Define, Originate, State}
-use Rattle.policy_grammar.specs.Deep.{first_deep}
 use Rattle.policy_grammar.specs.Lexemes.{lexemes_of}
 use Rattle.policy_rules.specs.Checks.{each}
-use Rattle.policy_rules.specs.Counts.{call_amount, calls_within, paths_within}
+use Rattle.policy_rules.specs.Counts.{call_amount, calls_within}
 use Rattle.policy_rules.specs.KnownNames.{Names}
 use Rattle.policy_base.specs.Policies.{Ranking, prefer, either, both, negated, PlainStatement, PlainPolicy}
-use Rattle.policy_values.specs.Built.{sets_of, ranked_sets, call_of, top, behind, all_behind, ranking_of_steps, patterns_of, from_of, statement_of, statements_of}
-use Rattle.policy_parser.specs.Spelled.{none_at, items_spelled, origins_spelled, policy_built}
+use Rattle.policy_values.specs.Built.{sets_of, ranked_sets, call_of, top, behind, all_behind, ranking_of_steps, statement_of, statements_of}
+use Rattle.policy_parser.specs.Spelled.{items_spelled, policy_built}
 use Rattle.policy_parser.specs.Depth.{depth, IsAtMostDeep}
+use Rattle.policy_parser.proofs.BuiltParts.{items_parts, statement_parts, policy_parts}
 use Rattle.policy_parser.proofs.BuiltPolicies.{within_most}
 use Rattle.policy_parser.proofs.NestedSteps.{HasTwoSides, IsNested, HasNestedSteps, items-nested}
 
@@ -113,17 +112,12 @@ module _ (bytes : List ℕ) (net : PlainNet) (known : Names) where
   IsShallow s = depth s.ranked ≤ 321
 
   statement_shallow : (s : RawStatement) (t : PlainStatement) → statement_of bytes net known s ≡ Ok t → IsNested 65 s.ranked → calls_in s.ranked ≤ 256 → IsShallow t
-  unfolding statement_of ranking_of_steps
+  unfolding ranking_of_steps
   statement_shallow s t e nested few =
-      let a = bind_ok (patterns_of bytes [] s.patterns) _ t e in
-      let b = bind_ok (ranking_of_steps bytes net known s.ranked) _ t a.2 in
-      let c = bind_ok (from_of bytes known s.from) _ t b.2 in
-      let d = bind_ok (all_behind bytes net known [] s.ranked) (λ rs. Ok (top rs)) b.0 b.1 in
+      let d = bind_ok (all_behind bytes net known [] s.ranked) (λ rs. Ok (top rs)) t.ranked (statement_parts bytes net known s t e).1 in
       let h = put_on_top nested [] d.0 d.1 in
-      let ranked : h.ranked ≡ b.0 = sym (ap top h.there) ∙ ok_same (top d.0) b.0 d.2 in
-      let made : PlainStatement = record { patterns = a.0; ranked = b.0; from = c.0 } in
-      let same : made ≡ t = ok_same made t c.2 in
-      subst IsShallow same (subst (λ (r : Ranking). depth r ≤ 321) ranked (omega (arith, h.shallow, few)))
+      let ranked : h.ranked ≡ t.ranked = sym (ap top h.there) ∙ ok_same (top d.0) t.ranked d.2 in
+      subst (λ (r : Ranking). depth r ≤ 321) ranked (omega (arith, h.shallow, few))
 
   statements_shallow : (so_far : List PlainStatement) (items : List Item) (ts : List PlainStatement) → statements_of bytes net known so_far items ≡ Ok ts
       → each calls_within items ≡ Ok tt → AllByRecursion HasNestedSteps items → AllByRecursion IsShallow so_far → AllByRecursion IsShallow ts
@@ -137,22 +131,13 @@ module _ (bytes : List ℕ) (net : PlainNet) (known : Names) where
       statements_shallow (so_far ++ b.0 ∷ []) items ts b.2 a.2 nested.1 (AllByRecursion-push IsShallow so_far b.0 before (statement_shallow s b.0 b.1 nested.0 count))
 
 items_nested : (bytes : List ℕ) (items : List Item) → items_spelled bytes ≡ Ok items → AllByRecursion HasNestedSteps items
-unfolding items_spelled
-items_nested bytes items e =
-    let a = bind_ok (tokens_of bytes) _ items e in
-    let b = bind_ok (none_at Deep (first_deep 0 (lexemes_of bytes a.0 (place_of bytes _)))) _ items a.2 in
-    items-nested _ [] (lexemes_of bytes a.0 (place_of bytes _)) items b.2 tt
+items_nested bytes items e = let parts = items_parts bytes items e in items-nested _ [] (lexemes_of bytes parts.0 (place_of bytes (length bytes))) items parts.3 tt
 
 built_shallow : (bytes : List ℕ) (net : PlainNet) (known : Names) (items : List Item) (policy : PlainPolicy)
     → policy_built bytes net known items ≡ Ok policy → AllByRecursion HasNestedSteps items → IsAtMostDeep 321 policy
-unfolding policy_built
 built_shallow bytes net known items policy h nested =
-    let a = bind_ok (origins_spelled bytes known items) _ policy h in
-    let b = bind_ok (each calls_within items) _ policy a.2 in
-    let c = bind_ok (each paths_within items) _ policy b.2 in
-    let d = bind_ok (statements_of bytes net known [] items) _ policy c.2 in
-    let made : PlainPolicy = record { origins = a.0; statements = d.0 } in
-    subst (IsAtMostDeep 321) (ok_same made policy d.2) (statements_shallow bytes net known [] items d.0 d.1 b.1 nested tt)
+    let parts = policy_parts bytes net known items policy h in
+    statements_shallow bytes net known [] items policy.statements parts.3 parts.1 nested tt
 
 -- What is read is at most 321 deep: on one way down stand at most 255 operators with two sides, 65 `not` and a call.
 pub read-IsAtMostDeep : {X : Type 0} (view : X → PlainPolicy) (bytes : List ℕ) (net : PlainNet) (known : Names) (items : List Item) (result : Result X PolicyFault)

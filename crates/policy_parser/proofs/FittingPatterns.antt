@@ -20,8 +20,9 @@ use Rattle.policy_rules.specs.Checks.{text}
 use Rattle.policy_rules.specs.Figures.{prefix_at, upto_at, pattern_at}
 use Rattle.policy_rules.specs.KnownNames.{Names}
 use Rattle.policy_base.specs.Policies.{PlainStatement}
+use Rattle.policy_parser.proofs.BuiltParts.{statement_parts}
 use Rattle.policy_parser.proofs.SpelledPrefixes.{or_bad_ok}
-use Rattle.policy_values.specs.Built.{patterns_of, ranking_of_steps, from_of, statement_of, statements_of}
+use Rattle.policy_values.specs.Built.{patterns_of, statement_of, statements_of}
 
 prefix_is : (bytes : List ℕ) (l : Lexeme) (p : PlainPrefix) → prefix_at bytes l ≡ Ok p → IsPrefix p
 prefix_is bytes l p e = prefix_spelled-IsPrefix (text bytes l) p (or_bad_ok l (prefix_spelled (text bytes l)) p e)
@@ -64,16 +65,7 @@ patterns_are bytes so_far (r ∷ raw) ts e before =
     patterns_are bytes (so_far ++ b.0 ∷ []) raw ts b.2 (AllByRecursion-push IsPattern so_far b.0 before (pattern_is bytes r b.0 b.1))
 
 statement_patterns_are : (bytes : List ℕ) (net : PlainNet) (known : Names) (s : RawStatement) (t : PlainStatement) → statement_of bytes net known s ≡ Ok t → AllByRecursion IsPattern t.patterns
-unfolding statement_of
-statement_patterns_are bytes net known s t e =
-    let a =
-    bind_ok (patterns_of bytes [] s.patterns)
-    (λ ps. ranking_of_steps bytes net known s.ranked >>= λ r. from_of bytes known s.from >>= λ f. Ok (record { patterns = ps; ranked = r; from = f })) t e in
-    let b = bind_ok (ranking_of_steps bytes net known s.ranked) (λ r. from_of bytes known s.from >>= λ f. Ok (record { patterns = a.0; ranked = r; from = f })) t a.2 in
-    let c = bind_ok (from_of bytes known s.from) (λ f. Ok (record { patterns = a.0; ranked = b.0; from = f })) t b.2 in
-    let made : PlainStatement = record { patterns = a.0; ranked = b.0; from = c.0 } in
-    let same : made ≡ t = cc in
-    subst (λ (x : PlainStatement). AllByRecursion IsPattern x.patterns) same (patterns_are bytes [] s.patterns a.0 a.1 tt)
+statement_patterns_are bytes net known s t e = patterns_are bytes [] s.patterns t.patterns (statement_parts bytes net known s t e).0 tt
 
 -- each pattern of each of them is one
 abbrev pub HavePatterns : List PlainStatement → Type 0

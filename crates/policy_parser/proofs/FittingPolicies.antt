@@ -1,25 +1,23 @@
 -- Policies that are read fit their network.
-use Rattle.std.proofs.Common.{◌≡◌, ℕ, List, [], length, Ok, ap, ◌∙◌}
+use Rattle.std.proofs.Common.{◌≡◌, ℕ, List, [], length, Ok}
 use Rattle.std.specs.Prelude.{IsTrue}
 use Rattle.std.specs.List.{AllByRecursion}
 use Rattle.std.proofs.lemmas.Bool.{lt-ltb}
-use Rattle.policy_tokens.specs.declared.kind.Kind.TheVariants as kind
 use Rattle.net_base.specs.Network.{PlainNet, is_router}
 use Rattle.net_base.specs.Prefixes.{PlainPattern, IsPrefix, IsPattern}
 use Rattle.net_base.specs.Sets.{holds}
-use Rattle.net_base.specs.Steps.{◌>>=◌}
 use Rattle.net_base.proofs.StepLemmas.{bind_ok}
 use Rattle.policy_grammar.specs.Raw.{Item}
 use Rattle.policy_rules.specs.Checks.{each}
-use Rattle.policy_rules.specs.Counts.{within, items_within, calls_within, paths_within}
-use Rattle.policy_rules.specs.Figures.{figures_fine}
+use Rattle.policy_rules.specs.Counts.{calls_within, paths_within}
 use Rattle.policy_rules.specs.KnownNames.{Names}
-use Rattle.policy_rules.specs.Origins.{origins_fine, once_from}
+use Rattle.policy_rules.specs.Origins.{origins_fine}
 use Rattle.policy_rules.specs.Ranks.{ranks_fine}
 use Rattle.policy_base.specs.declared.policy.Origin.{Origin}
 use Rattle.policy_base.specs.Policies.{PlainPolicy, PlainStatement, IsPolicy, IsPolicyOf}
 use Rattle.policy_values.specs.Built.{origins_of, statements_of}
-use Rattle.policy_parser.specs.Spelled.{items_spelled, names_spelled, rules_kept, origins_spelled, policy_built, pairs, spelled}
+use Rattle.policy_parser.specs.Spelled.{items_spelled, names_spelled, rules_kept, origins_spelled, spelled}
+use Rattle.policy_parser.proofs.BuiltParts.{rules_parts, origins_parts, policy_parts}
 use Rattle.policy_parser.proofs.BuiltPolicies.{is_policy}
 use Rattle.policy_parser.proofs.SpelledPrefixes.{spelled-HavePrefixes}
 use Rattle.list_laws.specs.Members.{IsIn}
@@ -42,39 +40,25 @@ pub record IsBuilt (net : PlainNet) (bytes : List ℕ) (policy : PlainPolicy) : 
   pub statements : statements_of bytes net known [] items ≡ Ok policy.statements
 
 pub is_built : (net : PlainNet) (bytes : List ℕ) (policy : PlainPolicy) → spelled net bytes ≡ Ok policy → IsBuilt net bytes policy
-unfolding spelled policy_built
+unfolding spelled
 is_built net bytes policy h =
     let items = bind_ok (items_spelled bytes) _ policy h in
     let known = bind_ok (names_spelled bytes net items.0) _ policy items.2 in
     let kept = bind_ok (rules_kept bytes net known.0 items.0) _ policy known.2 in
-    let origins = bind_ok (origins_spelled bytes known.0 items.0) _ policy kept.2 in
-    let calls = bind_ok (each calls_within items.0) _ policy origins.2 in
-    let places = bind_ok (each paths_within items.0) _ policy calls.2 in
-    let statements = bind_ok (statements_of bytes net known.0 [] items.0) _ policy places.2 in
-    let made : PlainPolicy = record { origins = origins.0; statements = statements.0 } in
-    let same : made ≡ policy = cc in
+    let parts = policy_parts bytes net known.0 items.0 policy kept.2 in
     record {
       items = items.0;
       known = known.0;
       read = items.1;
       names = known.1;
       rules = kept.1;
-      origins = origins.1 ∙ ap (λ (x : PlainPolicy). Ok x.origins) same;
-      calls = calls.1;
-      places = places.1;
-      statements = statements.1 ∙ ap (λ (x : PlainPolicy). Ok x.statements) same;
+      origins = parts.0;
+      calls = parts.1;
+      places = parts.2;
+      statements = parts.3;
     }
 
 -- ---- the rules on ranks and on origins were kept
-
-rules_parts : (bytes : List ℕ) (net : PlainNet) (known : Names) (items : List Item) → rules_kept bytes net known items ≡ Ok tt
-    → (each ranks_fine items ≡ Ok tt) × (each (origins_fine bytes net known) items ≡ Ok tt)
-unfolding rules_kept
-rules_parts bytes net known items kept =
-    let a = bind_ok (each (figures_fine bytes) items) (λ _. each ranks_fine items >>= λ _. each (origins_fine bytes net known) items >>= λ _. once_from bytes [] items) tt kept in
-    let b = bind_ok (each ranks_fine items) (λ _. each (origins_fine bytes net known) items >>= λ _. once_from bytes [] items) tt a.2 in
-    let c = bind_ok (each (origins_fine bytes net known) items) (λ _. once_from bytes [] items) tt b.2 in
-    (b.1, c.1)
 
 pub ranks_kept : (bytes : List ℕ) (net : PlainNet) (known : Names) (items : List Item) → rules_kept bytes net known items ≡ Ok tt → each ranks_fine items ≡ Ok tt
 ranks_kept bytes net known items kept = (rules_parts bytes net known items kept).0
@@ -84,13 +68,7 @@ origins_kept bytes net known items kept = (rules_parts bytes net known items kep
 
 -- the origins are those of the items
 pub origins_made : (bytes : List ℕ) (known : Names) (items : List Item) (os : List Origin) → origins_spelled bytes known items ≡ Ok os → origins_of bytes known [] items ≡ Ok os
-unfolding origins_spelled
-origins_made bytes known items os h =
-    let a = bind_ok (items_within items) _ os h in
-    let b = bind_ok (origins_of bytes known [] items) _ os a.2 in
-    let c = bind_ok (within kind.Origins 16384 (pairs b.0)) _ os b.2 in
-    let same : b.0 ≡ os = cc in
-    b.1 ∙ ap Ok same
+origins_made bytes known items os h = (origins_parts bytes known items os h).1
 
 at_routers : (net : PlainNet) (bytes : List ℕ) (policy : PlainPolicy) → IsBuilt net bytes policy → AreAtRouters net policy.origins
 at_routers net bytes policy b =

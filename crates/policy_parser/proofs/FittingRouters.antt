@@ -7,20 +7,20 @@ use Rattle.list_laws.proofs.Each.{AllByRecursion-push}
 use Rattle.net_base.specs.declared.loc.LocSet.{LocSet}
 use Rattle.net_base.specs.Network.{PlainNet}
 use Rattle.net_base.specs.Sets.{holds}
-use Rattle.net_base.specs.Steps.{◌>>=◌, unless}
+use Rattle.net_base.specs.Steps.{unless}
 use Rattle.net_base.proofs.StepLemmas.{bind_ok, unless_ok}
 use Rattle.policy_tokens.specs.declared.fault.PolicyFault.TheVariants.{OriginPeer}
 use Rattle.policy_grammar.specs.declared.lexeme.Lexeme.{Lexeme}
 use Rattle.policy_grammar.specs.Raw.{Item}
 use Rattle.policy_grammar.specs.Raw.Item.{Define, Originate, State}
 use Rattle.policy_rules.specs.KnownNames.{Names}
-use Rattle.policy_rules.specs.Checks.{set_at, set_of_names, each}
-use Rattle.policy_rules.specs.Figures.{prefix_at}
+use Rattle.policy_rules.specs.Checks.{set_at, each}
 use Rattle.policy_rules.specs.Origins.{has_some, has_peer, routers_alone, origins_fine}
 use Rattle.policy_base.specs.declared.policy.Origin.{Origin}
 use Rattle.policy_values.specs.Built.{origin_of, origins_of}
 use Rattle.net_base.proofs.HeldSets.{AreBelow}
 use Rattle.policy_parser.proofs.FittingItems.{NamesBelow, StandsBelow, set_at_below, set_below}
+use Rattle.policy_parser.proofs.BuiltParts.{origin_parts}
 
 -- where none of some locations is in a set, no such one is
 absent : (s : LocSet) (l n m : ℕ) → has_some s l n ≡ false → l ≤ m → m < l + n → holds s m ≡ true → ⊥
@@ -54,16 +54,6 @@ router_names bytes net known (l ∷ ls) x below e =
     let b = bind_ok (routers_alone bytes net known l) (λ _. each (routers_alone bytes net known) ls) x e in
     (router_name bytes net known l b.0 below b.1, router_names bytes net known ls x below b.2)
 
--- the set of an origin is that of its names
-origin_set : (bytes : List ℕ) (known : Names) (p : Lexeme) (ns : List Lexeme) (o : Origin) → origin_of bytes known p ns ≡ Ok o → set_of_names bytes known ns ≡ Ok o.at
-unfolding origin_of
-origin_set bytes known p ns o e =
-    let a = bind_ok (prefix_at bytes p) (λ q. set_of_names bytes known ns >>= λ s. Ok (record { prefix = q; at = s })) o e in
-    let b = bind_ok (set_of_names bytes known ns) (λ s. Ok (record { prefix = a.0; at = s })) o a.2 in
-    let made : Origin = record { prefix = a.0; at = b.0 } in
-    let same : made ≡ o = cc in
-    b.1 ∙ ap (λ (x : Origin). Ok x.at) same
-
 -- each of them is at routers alone
 abbrev pub AreAtRouters : PlainNet → List Origin → Type 0
 AreAtRouters net os = AllByRecursion (λ (o : Origin). AreBelow (length net.routers) o.at) os
@@ -77,5 +67,5 @@ origins_at_routers bytes net known so_far (State s ∷ items) os x below fine e 
 origins_at_routers bytes net known so_far (Originate p ns ∷ items) os x below fine e before =
     let f = bind_ok (each (routers_alone bytes net known) ns) (λ _. each (origins_fine bytes net known) items) x fine in
     let b = bind_ok (origin_of bytes known p ns) (λ o. origins_of bytes known (so_far ++ o ∷ []) items) os e in
-    let here = set_below bytes (length net.routers) known b.0.at ns (router_names bytes net known ns f.0 below f.1) (origin_set bytes known p ns b.0 b.1) in
+    let here = set_below bytes (length net.routers) known b.0.at ns (router_names bytes net known ns f.0 below f.1) (origin_parts bytes known p ns b.0 b.1).1 in
     origins_at_routers bytes net known (so_far ++ b.0 ∷ []) items os x below f.2 b.2 (AllByRecursion-push (λ (o : Origin). AreBelow (length net.routers) o.at) so_far b.0 before here)

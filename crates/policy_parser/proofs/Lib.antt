@@ -1,4 +1,5 @@
 pub mod Steps
+pub mod BuiltParts
 pub mod BuiltPolicies
 pub mod SpelledPrefixes
 pub mod NestedSteps

@@ -6,21 +6,19 @@ use Rattle.net_base.specs.Network.{PlainNet}
 use Rattle.net_base.specs.Prefixes.{PlainPrefix, IsPrefix}
 use Rattle.net_base.specs.PrefixText.{prefix_spelled}
 use Rattle.net_base.specs.declared.prefix_text.PrefixFault.{PrefixFault}
-use Rattle.policy_tokens.specs.declared.kind.Kind.TheVariants as kind
 use Rattle.net_base.proofs.PrefixLemmas.{prefix_spelled-IsPrefix}
 use Rattle.policy_grammar.specs.declared.lexeme.Lexeme.{Lexeme}
 use Rattle.policy_grammar.specs.Raw.{Item}
 use Rattle.policy_grammar.specs.Raw.Item.{Define, Originate, State}
-use Rattle.policy_rules.specs.Checks.{text, each}
-use Rattle.policy_rules.specs.Counts.{within, items_within, calls_within, paths_within}
+use Rattle.policy_rules.specs.Checks.{text}
 use Rattle.policy_rules.specs.Figures.{or_bad}
 use Rattle.policy_rules.specs.KnownNames.{Names}
 use Rattle.policy_base.specs.declared.policy.Origin.{Origin}
 use Rattle.policy_base.specs.Policies.{PlainPolicy}
-use Rattle.policy_values.specs.Built.{origin_of, origins_of, statements_of}
-use Rattle.policy_parser.specs.Spelled.{items_spelled, names_spelled, rules_kept, origins_spelled, policy_built, pairs, spelled}
+use Rattle.policy_values.specs.Built.{origin_of, origins_of}
+use Rattle.policy_parser.specs.Spelled.{items_spelled, names_spelled, rules_kept, policy_built, spelled}
 use Rattle.net_base.proofs.StepLemmas.{bind_ok}
-use Rattle.policy_parser.proofs.BuiltPolicies.{origin_prefix}
+use Rattle.policy_parser.proofs.BuiltParts.{origin_parts, origins_parts, policy_parts}
 
 abbrev pub HavePrefixes : List Origin → Type 0
 HavePrefixes os = AllByRecursion (λ (o : Origin). IsPrefix o.prefix) os
@@ -37,28 +35,13 @@ origins_have bytes known so_far (Define n m ∷ items) os e before = origins_hav
 origins_have bytes known so_far (State s ∷ items) os e before = origins_have bytes known so_far items os e before
 origins_have bytes known so_far (Originate p ns ∷ items) os e before =
     let b = bind_ok (origin_of bytes known p ns) (λ o. origins_of bytes known (so_far ++ o ∷ []) items) os e in
-    let read = or_bad_ok p (prefix_spelled (text bytes p)) b.0.prefix (origin_prefix bytes known p ns b.0 b.1) in
+    let read = or_bad_ok p (prefix_spelled (text bytes p)) b.0.prefix (origin_parts bytes known p ns b.0 b.1).0 in
     origins_have bytes known (so_far ++ b.0 ∷ []) items os b.2 (AllByRecursion-push (λ (o : Origin). IsPrefix o.prefix) so_far b.0 before (prefix_spelled-IsPrefix (text bytes p) b.0.prefix read))
 
-spelled_have : (bytes : List ℕ) (known : Names) (items : List Item) (os : List Origin) → origins_spelled bytes known items ≡ Ok os → HavePrefixes os
-unfolding origins_spelled
-spelled_have bytes known items os h =
-    let a = bind_ok (items_within items) _ os h in
-    let b = bind_ok (origins_of bytes known [] items) _ os a.2 in
-    let c = bind_ok (within kind.Origins 16384 (pairs b.0)) _ os b.2 in
-    let same : b.0 ≡ os = cc in
-    rw (← same) (origins_have bytes known [] items b.0 b.1 tt)
-
 built_have : (bytes : List ℕ) (net : PlainNet) (known : Names) (items : List Item) (policy : PlainPolicy) → policy_built bytes net known items ≡ Ok policy → HavePrefixes policy.origins
-unfolding policy_built
 built_have bytes net known items policy h =
-    let a = bind_ok (origins_spelled bytes known items) _ policy h in
-    let b = bind_ok (each calls_within items) _ policy a.2 in
-    let c = bind_ok (each paths_within items) _ policy b.2 in
-    let d = bind_ok (statements_of bytes net known [] items) _ policy c.2 in
-    let made : PlainPolicy = record { origins = a.0; statements = d.0 } in
-    let same : made ≡ policy = cc in
-    rw (← same) (spelled_have bytes known items a.0 a.1)
+    let spelt = (policy_parts bytes net known items policy h).0 in
+    origins_have bytes known [] items policy.origins (origins_parts bytes known items policy.origins spelt).1 tt
 
 -- each of them is a prefix
 pub spelled-HavePrefixes : (net : PlainNet) (bytes : List ℕ) (policy : PlainPolicy) → spelled net bytes ≡ Ok policy → HavePrefixes policy.origins

@@ -29,6 +29,7 @@ use Rattle.policy_parser.specs.ItemValues.{IsOrigin, IsStatement, IsItem}
 use Rattle.policy_parser.specs.SoFar.{IsJudged, IsToldOf, IsTold}
 use Rattle.policy_parser.specs.Spelled.{pairs}
 use Rattle.policy_parser.specs.Told.{PlainTold, first_told, with_unknown, with_members, with_origins, with_state, with_known_item, unless_broken, with_item}
+use Rattle.policy_parser.proofs.BuiltParts.{origin_parts}
 use Rattle.policy_parser.proofs.KeptNames.{keeps_group}
 use Rattle.policy_parser.proofs.KeptItems.{all_routers_kept, all_origins_kept}
 use Rattle.policy_parser.proofs.LikeNames.{peer_told, peer_ok, peer_err, names_like, arg_like, steps_like, all_alone_like, joined_like, group_known}
@@ -54,14 +55,7 @@ pairs_push os o = rw (sum_by_push (λ (p : Origin). size_of p.at) os o) (omega a
 
 -- the locations of an origin are those of its names
 origin_at : (bytes : List ℕ) (k : Names) (p : Lexeme) (ns : List Lexeme) (o : Origin) (s : LocSet) → origin_of bytes k p ns ≡ Ok o → set_of_names bytes k ns ≡ Ok s → o.at ≡ s
-unfolding origin_of
-origin_at bytes k p ns o s e at =
-    let a = bind_ok (prefix_at bytes p) (λ q. set_of_names bytes k ns >>= λ z. Ok (record { prefix = q; at = z })) o e in
-    let b = bind_ok (set_of_names bytes k ns) (λ z. Ok (record { prefix = a.0; at = z })) o a.2 in
-    let made : Origin = record { prefix = a.0; at = b.0 } in
-    let same : made ≡ o = ok_same made o b.2 in
-    let set : b.0 ≡ s = ok_same {F = PolicyFault} b.0 s (sym b.1 ∙ at) in
-    ap (λ (x : Origin). x.at) (sym same) ∙ set
+origin_at bytes k p ns o s e at = ok_same {F = PolicyFault} o.at s (sym (origin_parts bytes k p ns o e).1 ∙ at)
 
 module _ (bytes : List ℕ) (net : PlainNet) (items : List Item) (k : Names) (t : PlainTold) where
   once_later : (x : Item) → IsJudged bytes net k items t → (rest : List Item) → once_from bytes [] (items ++ x ∷ [] ++ rest) ≡ (t.once.fault >>= λ _. once_from bytes t.once.before (x ∷ rest))

@@ -1,5 +1,5 @@
 //! Groups and origins, with what they come to.
-ghost use Rattle.std.specs.Prelude.{◌≡◌, ◌≤◌, ◌<◌, length, OnOk};
+ghost use Rattle.std.specs.Prelude.{◌≤◌, ◌<◌, length, OnOk};
 ghost use Rattle.net_base.specs.Network.{PlainNet};
 ghost use Rattle.policy_grammar.specs.Left.{left, StandsIn};
 ghost use Rattle.policy_rules.specs.KnownView.{plain_names};

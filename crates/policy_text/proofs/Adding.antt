@@ -1,15 +1,11 @@
 -- A text to whose end a loop adds what it has of one item after another, where each item keeps a rule.
-use Rattle.std.proofs.Common.{◌≡◌, ◌++◌, ◌∷◌, ℕ, ◌+◌, ◌<◌, List, [], ap, append_assoc, flat_map, get_or, length, map, subst, sym, take, ◌∙◌}
+use Rattle.std.proofs.Common.{◌≡◌, ◌++◌, ◌∷◌, ℕ, ◌+◌, ◌<◌, List, [], ap, append_assoc, flat_map, get_or, length, subst, sym, take, ◌∙◌}
 use Rattle.std.specs.List.{AllByRecursion}
-use Rattle.std.proofs.lemmas.List.{flat_map_more, map-append, take_more}
+use Rattle.std.proofs.lemmas.List.{flat_map_more, take_more}
 use Rattle.list_laws.proofs.Each.{AllByRecursion-push}
 
 pub one_more : {A : Type 0} (items : List A) (i : ℕ) (x : A) → i < length items → x ≡ get_or items i x → take (i + 1) items ≡ take i items ++ x ∷ []
 one_more items i x less item = take_more items i x less ∙ ap (λ y. take i items ++ y ∷ []) (sym item)
-
-pub one_more_of : {A B : Type 0} (f : A → B) (items : List A) (i : ℕ) (x : A) → i < length items → x ≡ get_or items i x
-    → map f (take (i + 1) items) ≡ map f (take i items) ++ f x ∷ []
-one_more_of f items i x less item = ap (map f) (one_more items i x less item) ∙ map-append f (take i items) (x ∷ [])
 
 pub added : {A : Type 0} (line : A → List ℕ) (P : A → Type 0) (before after : List A) (x : A) (first mid new : List ℕ)
     → after ≡ before ++ x ∷ [] → new ≡ mid ++ line x → P x

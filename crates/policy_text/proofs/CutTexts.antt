@@ -21,7 +21,7 @@ use Rattle.policy_base.specs.declared.policy.Origin.{Origin}
 use Rattle.policy_base.specs.Policies.{Ranking, call, calls, prefer, either, both, negated, PlainStatement, PlainPolicy}
 use Rattle.policy_text.specs.PolicyText as text
 use Rattle.policy_text.specs.PolicyText.{names_from, names_in, are_all, joined_names, set_text, braced_names, place_text, joined_places, has_sets, sets_text, call_text}
-use Rattle.policy_text.specs.PolicyText.{calls_text, opening, closing, ranking_text, is_everything, patterns_text, from_text, statement_line, origin_line, policy_text}
+use Rattle.policy_text.specs.PolicyText.{calls_text, ranking_text, is_everything, patterns_text, from_text, statement_line, origin_line, policy_text}
 use Rattle.policy_text.proofs.Words as words
 use Rattle.policy_text.proofs.Words.{Word, sign, name, figure, name_words, set_words, braced_words, place_words, places_words, call_symbol, sets_words, call_words}
 use Rattle.policy_text.proofs.Words.{calls_words, ranking_words, pattern_words, patterns_words, from_words, statement_words, origin_words, policy_words}

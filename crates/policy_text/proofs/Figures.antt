@@ -1,5 +1,5 @@
 -- Numbers and prefixes as figures.
-use Rattle.std.proofs.Common.{◌≡◌, ℕ, ◌/◌, ◌%◌, ◌^◌, ◌<◌, ◌≤◌, List, [], ◌∷◌, ◌++◌, length, Bool, true, false, Some, refl, sym, ap, ◌∙◌, arith, append_assoc, append-nil}
+use Rattle.std.proofs.Common.{◌≡◌, ℕ, ◌/◌, ◌%◌, ◌^◌, ◌<◌, ◌≤◌, List, [], ◌∷◌, ◌++◌, length, Bool, true, false, refl, sym, ap, ◌∙◌, arith, append_assoc, append-nil}
 use Rattle.policy_text.proofs.Words.{figure}
 use Rattle.policy_text.proofs.Cuts.{AreAscii}
 use Rattle.text_words.proofs.Numbers.{digits_below, figure_range}
@@ -9,7 +9,7 @@ use Rattle.text_words.specs.Texts.{prefix_text}
 use Rattle.net_base.specs.Prefixes.{PlainPrefix, IsPrefix}
 use Rattle.std.specs.Prelude.{◌&&◌, ◌==◌, not}
 use Rattle.std.specs.List.{list_all}
-use Rattle.std.specs.Fmt.{decimal, digits}
+use Rattle.std.specs.Fmt.{decimal}
 use Rattle.std.proofs.lemmas.Bool.{and_parts}
 use Rattle.net_base.specs.Addresses.{is_figure}
 use Rattle.policy_tokens.specs.Tokens.{is_figure_byte}

@@ -11,7 +11,6 @@ use Rattle.net_base.specs.declared.place.Place.{Place}
 use Rattle.policy_tokens.specs.declared.token.TokenKind.{TokenKind}
 use Rattle.policy_tokens.specs.declared.token.TokenKind.TheVariants.{Word, Figure, Arrow, Above}
 use Rattle.policy_tokens.specs.Tokens.{is_blank, is_figure_byte, one_sign, sign_at, piece_at, piece_taken, token_in}
-use Rattle.list_laws.proofs.Texts.{all_pass}
 use Rattle.text_words.proofs.Numbers.{figure_range}
 use Rattle.policy_text.proofs.Cuts.{BeginsWith, BeginsBlank}
 

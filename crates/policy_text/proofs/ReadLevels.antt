@@ -150,95 +150,94 @@ module _ (bytes : List ℕ) (net : PlainNet) where
   choice_closed : (b : Ranking) → AreRead b → ReadsFrom bytes net choices BehindChoice (open_brackets 2 b) (ranking_words net 2 b) b
   choice_closed b y = closed bytes net symbol.Or (λ l. step.Or) joints BehindJoint _ _ b y.choice
 
+  -- what is read where so many brackets may be open is read where more may
+  roomier : (X : ℕ → List Step → List Lexeme → List Word → Type 0) (most more : ℕ) → most ≤ more → ((d : ℕ) (out : List Step) (ls : List Lexeme) (ws : List Word) → most ≤ d → X d out ls ws)
+      → (d : ℕ) (out : List Step) (ls : List Lexeme) (ws : List Word) → more ≤ d → X d out ls ws
+  roomier X most more less f d out ls ws room = f d out ls ws (omega (arith, less, room))
+
+  -- what is read as a unit is read at each level above
+  record FromUnit (most : ℕ) (v : List Word) (r : Ranking) : Type 0 where
+    unit : ReadsFrom bytes net units Anywhere most v r
+    joint : JointOpens most v r
+    choice : ChoiceOpens most v r
+    ranked : RankedOpens most v r
+
+  from_unit : (most : ℕ) (v : List Word) (r : Ranking) → ReadsFrom bytes net units Anywhere most v r → FromUnit most v r
+  from_unit most v r unit =
+      let joint : JointOpens most v r = joint_from most v r unit in
+      let choice : ChoiceOpens most v r = choice_from most v r joint in
+      record { unit = unit; joint = joint; choice = choice; ranked = ranked_from most v r choice }
+
+  -- what is read without brackets is read in brackets too
+  in_brackets : (most : ℕ) (v : List Word) (r : Ranking) → RankedOpens most v r → FromUnit (1 + most) (sign symbol.RoundOpen ∷ (v ++ sign symbol.RoundClose ∷ [])) r
+  in_brackets most v r whole =
+      let w : List Word = sign symbol.RoundOpen ∷ (v ++ sign symbol.RoundClose ∷ []) in
+      from_unit (1 + most) w r (unit_from (1 + most) w r (λ ws. refl) (bracketed most v r whole))
+
   AreRead-call : (c : Call) → IsReadable bytes net c → AreRead (call c)
   AreRead-call c fine =
       let most : ℕ = open_brackets 1 (call c) in
       let v : List Word = call_words net c in
-      let atom : ReadsFrom bytes net atoms Anywhere most v (call c) = call_atom c fine most in
-      let unit : ReadsFrom bytes net units Anywhere most v (call c) = unit_from most v (call c) (λ ws. not_not c) atom in
-      let joint : JointOpens most v (call c) = joint_from most v (call c) unit in
-      let choice : ChoiceOpens most v (call c) = choice_from most v (call c) joint in
-      record { atom = atom; unit = unit; joint = joint; choice = choice; ranked = ranked_from most v (call c) choice }
+      let atom = call_atom c fine most in
+      let x = from_unit most v (call c) (unit_from most v (call c) (λ ws. not_not c) atom) in
+      record { atom = atom; unit = x.unit; joint = x.joint; choice = x.choice; ranked = x.ranked }
 
   AreRead-calls : (c : Call) (cs : List Call) → HasOne bytes net c → AllByRecursion (HasOne bytes net) cs → AreRead (calls (c ∷ cs))
   AreRead-calls c cs one all =
       let v : List Word = calls_words net (c ∷ cs) in
-      let atom : ReadsFrom bytes net atoms Anywhere 1 v (calls (c ∷ cs)) = calls_atom c cs one all 1 in
-      let unit : ReadsFrom bytes net units Anywhere 1 v (calls (c ∷ cs)) = unit_from 1 v (calls (c ∷ cs)) (λ ws. not_not c) atom in
-      let joint : JointOpens 1 v (calls (c ∷ cs)) = joint_from 1 v (calls (c ∷ cs)) unit in
-      let choice : ChoiceOpens 1 v (calls (c ∷ cs)) = choice_from 1 v (calls (c ∷ cs)) joint in
-      record { atom = atom; unit = unit; joint = joint; choice = choice; ranked = ranked_from 1 v (calls (c ∷ cs)) choice }
-
-  -- what is read without brackets is read in brackets too
-  in_brackets : (r : Ranking) (most most' : ℕ) (v : List Word) → most ≤ most' → RankedOpens most v r
-      → ReadsFrom bytes net atoms Anywhere (1 + most') (sign symbol.RoundOpen ∷ (v ++ sign symbol.RoundClose ∷ [])) r
-  in_brackets r most most' v less f d out ls ws room are fits = bracketed most v r f d out ls ws (omega (arith, room, less)) are fits
+      let atom = calls_atom c cs one all 1 in
+      let x = from_unit 1 v (calls (c ∷ cs)) (unit_from 1 v (calls (c ∷ cs)) (λ ws. not_not c) atom) in
+      record { atom = atom; unit = x.unit; joint = x.joint; choice = x.choice; ranked = x.ranked }
 
   AreRead-prefer : (a b : Ranking) → AreRead a → AreRead b → AreRead (prefer a b)
   AreRead-prefer a b x y =
       let most : ℕ = max (open_brackets 1 a) (open_brackets 2 b) in
       let v : List Word = ranking_words net 1 a ++ sign symbol.Above ∷ [] ++ ranking_words net 2 b in
-      let w : List Word = sign symbol.RoundOpen ∷ (v ++ sign symbol.RoundClose ∷ []) in
       let whole : RankedOpens most v (prefer a b) =
       open_more bytes net symbol.Above (λ l. step.Above l.place) choices BehindChoice (prefer a b) a b (λ l ss ts p q. (ss, ts, l.place, refl, p, q))
       (open_brackets 1 a) (open_brackets 2 b) (ranking_words net 1 a) (ranking_words net 2 b) (λ ws. ((tt, refl), refl)) x.ranked (choice_closed b y) in
-      let atom : ReadsFrom bytes net atoms Anywhere (1 + most) w (prefer a b) = in_brackets (prefer a b) most most v (omega arith) whole in
-      let unit : ReadsFrom bytes net units Anywhere (1 + most) w (prefer a b) = unit_from (1 + most) w (prefer a b) (λ ws. refl) atom in
-      let joint : JointOpens (1 + most) w (prefer a b) = joint_from (1 + most) w (prefer a b) unit in
-      record { atom = atom; unit = unit; joint = joint; choice = choice_from (1 + most) w (prefer a b) joint; ranked = λ d out ls ws room are fits. whole d out ls ws (omega (arith, room)) are fits }
+      let inside = in_brackets most v (prefer a b) whole in
+      record { atom = bracketed most v (prefer a b) whole; unit = inside.unit; joint = inside.joint; choice = inside.choice; ranked = roomier _ _ _ (omega arith) whole }
 
   AreRead-choice : (a b : Ranking) → AreRead a → AreRead b → AreRead (choice a b)
   AreRead-choice a b x y =
       let most : ℕ = max (open_brackets 2 a) (open_brackets 3 b) in
       let v : List Word = ranking_words net 2 a ++ sign symbol.Or ∷ [] ++ ranking_words net 3 b in
-      let w : List Word = sign symbol.RoundOpen ∷ (v ++ sign symbol.RoundClose ∷ []) in
       let whole : ChoiceOpens most v (choice a b) =
       open_more bytes net symbol.Or (λ l. step.Or) joints BehindJoint (choice a b) a b (λ l ss ts p q. (ss, ts, refl, p, q))
       (open_brackets 2 a) (open_brackets 3 b) (ranking_words net 2 a) (ranking_words net 3 b) (λ ws. (tt, refl)) x.choice (joint_closed b y) in
       let ranked : RankedOpens most v (choice a b) = ranked_from most v (choice a b) whole in
-      let atom : ReadsFrom bytes net atoms Anywhere (1 + most) w (choice a b) = in_brackets (choice a b) most most v (omega arith) ranked in
-      let unit : ReadsFrom bytes net units Anywhere (1 + most) w (choice a b) = unit_from (1 + most) w (choice a b) (λ ws. refl) atom in
-      record {
-        atom = atom;
-        unit = unit;
-        joint = joint_from (1 + most) w (choice a b) unit;
-        choice = λ d out ls ws room are fits. whole d out ls ws (omega (arith, room)) are fits;
-        ranked = λ d out ls ws room are fits. ranked d out ls ws (omega (arith, room)) are fits;
-      }
+      let inside = in_brackets most v (choice a b) ranked in
+      record { atom = bracketed most v (choice a b) ranked; unit = inside.unit; joint = inside.joint; choice = roomier _ _ _ (omega arith) whole; ranked = roomier _ _ _ (omega arith) ranked }
 
   AreRead-both : (a b : Ranking) → AreRead a → AreRead b → AreRead (both a b)
   AreRead-both a b x y =
       let most : ℕ = max (open_brackets 3 a) (open_brackets 4 b) in
       let v : List Word = ranking_words net 3 a ++ sign symbol.And ∷ [] ++ ranking_words net 4 b in
-      let w : List Word = sign symbol.RoundOpen ∷ (v ++ sign symbol.RoundClose ∷ []) in
       let whole : JointOpens most v (both a b) =
       open_more bytes net symbol.And (λ l. step.And) units Anywhere (both a b) a b (λ l ss ts p q. (ss, ts, refl, p, q))
       (open_brackets 3 a) (open_brackets 4 b) (ranking_words net 3 a) (ranking_words net 4 b) (λ ws. tt) x.joint y.unit in
       let choice' : ChoiceOpens most v (both a b) = choice_from most v (both a b) whole in
       let ranked : RankedOpens most v (both a b) = ranked_from most v (both a b) choice' in
-      let atom : ReadsFrom bytes net atoms Anywhere (1 + most) w (both a b) = in_brackets (both a b) most most v (omega arith) ranked in
       record {
-        atom = atom;
-        unit = unit_from (1 + most) w (both a b) (λ ws. refl) atom;
-        joint = λ d out ls ws room are fits. whole d out ls ws (omega (arith, room)) are fits;
-        choice = λ d out ls ws room are fits. choice' d out ls ws (omega (arith, room)) are fits;
-        ranked = λ d out ls ws room are fits. ranked d out ls ws (omega (arith, room)) are fits;
+        atom = bracketed most v (both a b) ranked;
+        unit = (in_brackets most v (both a b) ranked).unit;
+        joint = roomier _ _ _ (omega arith) whole;
+        choice = roomier _ _ _ (omega arith) choice';
+        ranked = roomier _ _ _ (omega arith) ranked;
       }
 
   AreRead-negated : (a : Ranking) → AreRead a → AreRead (negated a)
   AreRead-negated a x =
       let most : ℕ = open_brackets 5 a in
       let v : List Word = sign symbol.Not ∷ ranking_words net 5 a in
-      let unit : ReadsFrom bytes net units Anywhere most v (negated a) = unit_not most (ranking_words net 5 a) a x.atom in
-      let joint : JointOpens most v (negated a) = joint_from most v (negated a) unit in
-      let choice' : ChoiceOpens most v (negated a) = choice_from most v (negated a) joint in
-      let ranked : RankedOpens most v (negated a) = ranked_from most v (negated a) choice' in
+      let whole = from_unit most v (negated a) (unit_not most (ranking_words net 5 a) a x.atom) in
       record {
-        atom = in_brackets (negated a) most most v (omega arith) ranked;
-        unit = λ d out ls ws room are fits. unit d out ls ws (omega (arith, room)) are fits;
-        joint = λ d out ls ws room are fits. joint d out ls ws (omega (arith, room)) are fits;
-        choice = λ d out ls ws room are fits. choice' d out ls ws (omega (arith, room)) are fits;
-        ranked = λ d out ls ws room are fits. ranked d out ls ws (omega (arith, room)) are fits;
+        atom = bracketed most v (negated a) whole.ranked;
+        unit = roomier _ _ _ (omega arith) whole.unit;
+        joint = roomier _ _ _ (omega arith) whole.joint;
+        choice = roomier _ _ _ (omega arith) whole.choice;
+        ranked = roomier _ _ _ (omega arith) whole.ranked;
       }
 
   are_read : (r : Ranking) → IsReadableRanking r → AreRead r

@@ -1,16 +1,12 @@
 -- Reading a call straight to its value gives what the call comes to that the grammar reads.
-use Rattle.std.proofs.Common.{◌≡◌, ℕ, List, [], ◌∷◌, ◌++◌, ◌<◌, length, Option, Some, None, Result, Ok, Err, refl, sym, ap, ◌∙◌}
-use Rattle.std.specs.Prelude.{⊤, map}
-use Rattle.std.proofs.lemmas.List.{map-append}
+use Rattle.std.proofs.Common.{◌≡◌, ℕ, List, [], ◌∷◌, ◌<◌, length, Some, None, Result, Ok, Err, refl, sym, ap, ◌∙◌}
+use Rattle.std.specs.Prelude.{⊤}
 use Rattle.net_base.specs.declared.loc.LocSet.{LocSet}
-use Rattle.net_base.specs.declared.place.Place.{Place}
 use Rattle.net_base.specs.Network.{PlainNet}
 use Rattle.net_base.specs.Gives.{GivesUnless}
 use Rattle.net_base.specs.Steps.{◌>>=◌}
 use Rattle.net_base.proofs.StepLemmas.{ok_same, ok_not_err}
 use Rattle.policy_base.specs.declared.call.SetCall.{SetCall}
-use Rattle.policy_base.specs.declared.call.Call.{Call}
-use Rattle.policy_base.specs.declared.call.Call.TheVariants.{Of}
 use Rattle.policy_base.specs.Policies.{call}
 use Rattle.policy_tokens.specs.declared.fault.PolicyFault.{PolicyFault}
 use Rattle.policy_tokens.specs.declared.fault.PolicyFault.TheVariants.{NoMemory, Syntax}
@@ -25,7 +21,7 @@ use Rattle.policy_base.specs.declared.call.CallWord.TheVariants as word
 use Rattle.policy_grammar.specs.Reading.{Read, after, chain}
 use Rattle.policy_grammar.specs.Calls.{set_at, one_at, set_link, one_link, above_at, sets_call, link_call, path_call, word_of, call_behind, call_at}
 use Rattle.policy_rules.specs.KnownNames.{Names}
-use Rattle.policy_values.specs.Built.{set_of_arg, sets_of, ranked_sets, link_of, call_of}
+use Rattle.policy_values.specs.Built.{set_of_arg, sets_of, link_of}
 use Rattle.policy_values.specs.Reads.{over}
 use Rattle.policy_values.specs.CallValues.{CallValue, call_value}
 use Rattle.policy_values.specs.CallReaders.{PlacesValue, with_set, sets_value, placeless, linked, no_places, with_place, set_link as kept_link}

@@ -36,4 +36,4 @@ module _ (bytes : List ℕ) (net : PlainNet) (known : Names) where
       ap (with_step act (step_of level joint)) read
       ∙ ap (λ (v : PartsValue). let r : Read PartsValue = Ok (v, after) in r) (sym (step_done level joint place x here_is))
       ∙ ap (λ (z : Result PartsValue PolicyFault). z >>= λ y. let r : Read PartsValue = Ok (y, after) in r) done in
-      goes_on symbol (link_at level depth) so_far ls joint rest next after total here linked fewer lead
+      goes_on _ _ _ lead here linked fewer

@@ -4,7 +4,7 @@ ghost use Rattle.net_base.specs.Gives.{GivesUnless};
 ghost use Rattle.policy_tokens.specs.declared.fault.PolicyFault.TheVariants.{NoMemory};
 ghost use Rattle.policy_grammar.specs.Left.{left, StandsIn};
 ghost use Rattle.policy_grammar.specs.Reading.{chain};
-ghost use Rattle.policy_grammar.specs.Names.{name_link, names_at, braced_at};
+ghost use Rattle.policy_grammar.specs.Names.{names_at, braced_at};
 ghost use Rattle.policy_grammar.specs.Calls.{set_at, one_at};
 ghost use Rattle.policy_rules.specs.KnownView.{plain_names};
 ghost use Rattle.policy_rules.specs.Checks.{set_of_names};

@@ -1,29 +1,24 @@
 -- What is read of a text has its form: the grammar says so, and no bracket of the text is too deep.
-use Rattle.std.proofs.Common.{◌≡◌, ℕ, suc, ◌+◌, ◌≤◌, Bool, true, false, List, [], ◌∷◌, ◌++◌, length, Some, None, Option, Ok, refl, sym, ap, ◌∙◌, subst, arith, append_assoc}
+use Rattle.std.proofs.Common.{◌≡◌, ℕ, suc, ◌+◌, ◌≤◌, Bool, true, false, List, [], ◌∷◌, ◌++◌, length, Some, None, Ok, refl, sym, ap, ◌∙◌, subst, arith, append_assoc}
 use Rattle.std.proofs.Common.{inl, inr, ltb-true, leb-false}
 use Rattle.std.specs.Prelude.{◌-◌, ◌<◌, nat_lt, nat_le, if◌then◌else◌}
 use Rattle.std.specs.List.{AllByRecursion}
 use Rattle.std.proofs.lemmas.Bool.{cases_lt, lt-ltb}
 use Rattle.net_base.specs.declared.place.Place.{Place}
-use Rattle.net_base.specs.Steps.{◌>>=◌}
-use Rattle.net_base.proofs.StepLemmas.{bind_ok}
-use Rattle.policy_tokens.specs.declared.fault.PolicyFault.TheVariants.{Deep}
 use Rattle.policy_tokens.specs.Places.{place_of}
-use Rattle.policy_tokens.specs.Tokens.{tokens_of}
 use Rattle.policy_grammar.specs.declared.lexeme.Lexeme.{Lexeme}
 use Rattle.policy_grammar.specs.declared.symbol.Symbol.{Symbol}
 use Rattle.policy_grammar.specs.declared.symbol.Symbol.TheVariants as symbol
 use Rattle.policy_base.specs.declared.call.CallWord.TheVariants as word
 use Rattle.policy_grammar.specs.Raw.{Arg, RawCall, RawPattern, Step, Step as step, Item}
 use Rattle.policy_grammar.specs.Deep.{open_behind, is_too_deep, first_deep}
-use Rattle.policy_grammar.specs.Items.{items_of}
-use Rattle.policy_grammar.specs.Lexemes.{lexemes_of, end_of}
-use Rattle.policy_parser.specs.Spelled.{none_at, items_spelled}
+use Rattle.policy_grammar.specs.Lexemes.{end_of}
+use Rattle.policy_parser.specs.Spelled.{items_spelled}
 use Rattle.grammar_law.specs.Grammar.{Is, Rule, IsMore, IsList, IsName, IsNames, IsGroup, IsSet, IsOne, StandsAlone, IsCall, front_place, IsRanked, IsChoice, IsJoint}
 use Rattle.grammar_law.specs.Grammar.{IsUnit, IsAtom, IsPattern, IsPredicate, IsFrom, IsItem, IsPolicy}
 use Rattle.grammar_law.proofs.TextLaws.{read-policy}
-use Rattle.printing_law.proofs.Forms.{Tree, steps_of, has_brackets, one_if, brackets_of, AllCalls, IsNamed, IsArg, HasArgs, IsCallForm, HasForm}
-use Rattle.policy_parser.proofs.Steps.{none_at_ok}
+use Rattle.printing_law.proofs.Forms.{Tree, steps_of, has_brackets, one_if, brackets_of, AllCalls, IsNamed, IsArg, IsCallForm, HasForm}
+use Rattle.policy_parser.proofs.BuiltParts.{items_parts}
 
 -- ---- room for brackets
 
@@ -217,48 +212,39 @@ lower least more k xs ms le r = record { tree = r.tree; steps = r.steps; few = o
 two_sides : (xs ys vs ws : List Step) (s : Step) → xs ≡ vs → ys ≡ ws → xs ++ ys ++ s ∷ [] ≡ vs ++ ws ++ s ∷ []
 two_sides xs ys vs ws s a b = rw (a, b) refl
 
+-- two sides with their operator
+joined : (op : Tree → Tree → Tree) (s : Step) {least more k : ℕ} {xs ys : List Step} {ls ms : List Lexeme} (a : WasRead least k xs ls) (b : WasRead more k ys ms)
+    → steps_of a.tree ++ steps_of b.tree ++ s ∷ [] ≡ steps_of (op a.tree b.tree) → brackets_of least (op a.tree b.tree) ≤ 64 - k → AllCalls IsCallForm (op a.tree b.tree)
+    → WasRead least k (xs ++ ys ++ s ∷ []) ms
+joined op s {xs = xs} {ys = ys} a b steps few calls = record {
+  tree = op a.tree b.tree;
+  steps = two_sides xs ys (steps_of a.tree) (steps_of b.tree) s a.steps b.steps ∙ steps;
+  few = few;
+  calls = calls;
+  room = b.room;
+}
+
 mutual
   ranked_read : {xs : List Step} {ls : List Lexeme} → IsRanked xs ls → (k : ℕ) (ms : List Lexeme) → Fits k (ls ++ ms) → WasRead 1 k xs ms
   ranked_read (IsRanked.choice {xs = xs} c) k ms fits = lower 1 2 k xs ms (omega arith) (choice_read c k ms fits)
   ranked_read (IsRanked.above {xs = xs} {ys = ys} {j = j} {ts = ts} {us = us} r i c) k ms fits =
       let a : WasRead 1 k xs (j ∷ us ++ ms) = ranked_read r k (j ∷ us ++ ms) (subst (Fits k) (append_assoc ts (j ∷ us) ms) fits) in
       let b : WasRead 2 k ys ms = choice_read c k ms (passes symbol.Above (λ n. (refl, refl)) k j (us ++ ms) i a.room) in
-      record {
-        tree = Tree.above j.place a.tree b.tree;
-        steps = two_sides xs ys (steps_of a.tree) (steps_of b.tree)
-            (step.Above j.place) a.steps b.steps;
-        few = omega (arith, a.few, b.few);
-        calls = (a.calls, b.calls);
-        room = b.room;
-      }
+      joined (Tree.above j.place) (step.Above j.place) a b refl (omega (arith, a.few, b.few)) (a.calls, b.calls)
 
   choice_read : {xs : List Step} {ls : List Lexeme} → IsChoice xs ls → (k : ℕ) (ms : List Lexeme) → Fits k (ls ++ ms) → WasRead 2 k xs ms
   choice_read (IsChoice.joint {xs = xs} c) k ms fits = lower 2 3 k xs ms (omega arith) (joint_read c k ms fits)
   choice_read (IsChoice.or {xs = xs} {ys = ys} {j = j} {ts = ts} {us = us} r i c) k ms fits =
       let a : WasRead 2 k xs (j ∷ us ++ ms) = choice_read r k (j ∷ us ++ ms) (subst (Fits k) (append_assoc ts (j ∷ us) ms) fits) in
       let b : WasRead 3 k ys ms = joint_read c k ms (passes symbol.Or (λ n. (refl, refl)) k j (us ++ ms) i a.room) in
-      record {
-        tree = Tree.or a.tree b.tree;
-        steps = two_sides xs ys (steps_of a.tree) (steps_of b.tree) step.Or a.steps b.steps;
-        few = omega
-            (arith, a.few, b.few);
-        calls = (a.calls, b.calls);
-        room = b.room;
-      }
+      joined Tree.or step.Or a b refl (omega (arith, a.few, b.few)) (a.calls, b.calls)
 
   joint_read : {xs : List Step} {ls : List Lexeme} → IsJoint xs ls → (k : ℕ) (ms : List Lexeme) → Fits k (ls ++ ms) → WasRead 3 k xs ms
   joint_read (IsJoint.unit {xs = xs} c) k ms fits = lower 3 4 k xs ms (omega arith) (unit_read c k ms fits)
   joint_read (IsJoint.and {xs = xs} {ys = ys} {j = j} {ts = ts} {us = us} r i c) k ms fits =
       let a : WasRead 3 k xs (j ∷ us ++ ms) = joint_read r k (j ∷ us ++ ms) (subst (Fits k) (append_assoc ts (j ∷ us) ms) fits) in
       let b : WasRead 4 k ys ms = unit_read c k ms (passes symbol.And (λ n. (refl, refl)) k j (us ++ ms) i a.room) in
-      record {
-        tree = Tree.and a.tree b.tree;
-        steps = two_sides xs ys (steps_of a.tree) (steps_of b.tree) step.And a.steps b.steps;
-        few = omega
-            (arith, a.few, b.few);
-        calls = (a.calls, b.calls);
-        room = b.room;
-      }
+      joined Tree.and step.And a b refl (omega (arith, a.few, b.few)) (a.calls, b.calls)
 
   unit_read : {xs : List Step} {ls : List Lexeme} → IsUnit xs ls → (k : ℕ) (ms : List Lexeme) → Fits k (ls ++ ms) → WasRead 4 k xs ms
   unit_read (IsUnit.atom {xs = xs} a) k ms fits = lower 4 5 k xs ms (omega arith) (atom_read a k ms fits)
@@ -335,9 +321,7 @@ policy_forms (IsPolicy.more {ts = ts} {us = us} i p) ms fits =
 
 -- each item of a text has its form
 pub items_have_forms : (bytes : List ℕ) (items : List Item) → items_spelled bytes ≡ Ok items → AllByRecursion HasForm items
-unfolding items_spelled
 items_have_forms bytes items h =
     let end : Place = place_of bytes (length bytes) in
-    let a = bind_ok (tokens_of bytes) (λ ts. none_at Deep (first_deep 0 (lexemes_of bytes ts end)) >>= λ _. items_of (lexemes_of bytes ts end)) items h in
-    let b = bind_ok (none_at Deep (first_deep 0 (lexemes_of bytes a.0 end))) (λ _. items_of (lexemes_of bytes a.0 end)) items a.2 in
-    policy_forms (read-policy bytes a.0 end items b.2) (end_of end ∷ []) (none_at_ok Deep (first_deep 0 (lexemes_of bytes a.0 end)) b.0 b.1)
+    let parts = items_parts bytes items h in
+    policy_forms (read-policy bytes parts.0 end items parts.3) (end_of end ∷ []) parts.2

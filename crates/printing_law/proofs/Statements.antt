@@ -1,42 +1,35 @@
 -- Statements and origins that are read are printable.
-use Rattle.std.proofs.Common.{◌≡◌, ◌≢◌, ℕ, ◌+◌, ◌≤◌, List, [], ◌∷◌, ◌++◌, length, Option, Some, None, Result, Ok, Err, refl, ap, subst, arith, length-append, leb-true}
+use Rattle.std.proofs.Common.{◌≡◌, ◌≢◌, ℕ, ◌+◌, ◌≤◌, List, [], ◌∷◌, ◌++◌, length, Option, Some, None, Result, Ok, Err, refl, subst, arith, leb-true}
 use Rattle.std.specs.Prelude.{⊤, nat_le, sum_by}
 use Rattle.std.specs.List.{AllByRecursion}
 use Rattle.net_base.specs.declared.place.Place.{Place}
 use Rattle.policy_tokens.specs.declared.kind.Kind.TheVariants as kind
 use Rattle.net_base.specs.Network.{PlainNet, IsNet}
 use Rattle.net_base.specs.Prefixes.{PlainPattern, IsPattern}
-use Rattle.net_base.specs.Steps.{◌>>=◌}
 use Rattle.net_base.proofs.StepLemmas.{bind_ok, unless_ok}
 use Rattle.policy_tokens.specs.declared.fault.PolicyFault.{PolicyFault}
 use Rattle.policy_tokens.specs.declared.fault.PolicyFault.TheVariants.{RankUnder, TooMany}
 use Rattle.policy_grammar.specs.declared.lexeme.Lexeme.{Lexeme}
-use Rattle.policy_grammar.specs.Raw.{Arg, Arg as arg, RawPattern, RawStatement, Item}
+use Rattle.policy_grammar.specs.Raw.{Arg, Arg as arg, RawStatement, Item}
 use Rattle.policy_grammar.specs.Raw.Item.{Define, Originate, State}
 use Rattle.policy_rules.specs.Checks.{set_of_names, each}
 use Rattle.policy_rules.specs.Counts.{capped, call_amount, calls_within, paths_within}
-use Rattle.policy_rules.specs.Figures.{prefix_at, pattern_at}
 use Rattle.policy_rules.specs.KnownNames.{Names}
 use Rattle.policy_rules.specs.Ranks.{broken_rank, ranks_fine}
 use Rattle.policy_base.specs.declared.policy.FromSet.{FromSet}
 use Rattle.policy_base.specs.declared.policy.FromSet.TheVariants as from_set
 use Rattle.policy_base.specs.declared.policy.Origin.{Origin}
 use Rattle.policy_base.specs.Policies.{PlainStatement}
-use Rattle.policy_values.specs.Built.{patterns_of, ranking_of_steps, from_of, statement_of, statements_of, origin_of, origins_of}
+use Rattle.policy_values.specs.Built.{from_of, statement_of, statements_of, origin_of, origins_of}
+use Rattle.policy_parser.proofs.BuiltParts.{origin_parts, statement_parts}
+use Rattle.policy_parser.proofs.BuiltPolicies.{statement_patterns}
 use Rattle.policy_text.specs.Printable.{HoldsSome, IsWritableFrom, IsPrintableStatement}
 use Rattle.policy_text.specs.Values.{IsLocSet, HasSources, IsStatementValue}
 use Rattle.list_laws.proofs.Each.{AllByRecursion-push}
 use Rattle.printing_law.proofs.Forms.{IsNamed, IsArg, IsStatementForm, HasForm}
 use Rattle.printing_law.proofs.Sets.{IsSome, part_set, part_within}
 use Rattle.printing_law.proofs.Names.{NamesStand, names_some}
-use Rattle.printing_law.proofs.Expressions.{IsReadExpression, expression_read}
-
--- as many patterns as were read
-patterns_more : (bytes : List ℕ) (so_far : List PlainPattern) (raw : List RawPattern) (ps : List PlainPattern) → patterns_of bytes so_far raw ≡ Ok ps → length so_far + length raw ≤ length ps
-patterns_more bytes so_far [] ps e = let same : so_far ≡ ps = cc in omega (arith, ap length same)
-patterns_more bytes so_far (r ∷ raw) ps e =
-    let b = bind_ok (pattern_at bytes r) (λ q. patterns_of bytes (so_far ++ q ∷ []) raw) ps e in
-    omega (arith, patterns_more bytes (so_far ++ b.0 ∷ []) raw ps b.2, length-append so_far (b.0 ∷ []))
+use Rattle.printing_law.proofs.Expressions.{expression_read}
 
 some_patterns : (ps : List PlainPattern) → 1 ≤ length ps → ps ≢ []
 some_patterns [] some e = omega (arith, some)
@@ -78,21 +71,13 @@ module _ (net : PlainNet) (rules : IsNet net) (bytes : List ℕ) (known : Names)
 
   statement_read : (s : RawStatement) (t : PlainStatement) (x y z : ⊤) → IsStatementForm s → ranks_fine (State s) ≡ Ok x
       → calls_within (State s) ≡ Ok y → paths_within (State s) ≡ Ok z → statement_of bytes net known s ≡ Ok t → IsReadStatement net t
-  unfolding statement_of
   statement_read s t x y z form ranks calls places e =
-      let a =
-      bind_ok (patterns_of bytes [] s.patterns)
-      (λ ps. ranking_of_steps bytes net known s.ranked >>= λ r. from_of bytes known s.from >>= λ f. Ok (record { patterns = ps; ranked = r; from = f })) t e in
-      let b = bind_ok (ranking_of_steps bytes net known s.ranked) (λ r. from_of bytes known s.from >>= λ f. Ok (record { patterns = a.0; ranked = r; from = f })) t a.2 in
-      let c = bind_ok (from_of bytes known s.from) (λ f. Ok (record { patterns = a.0; ranked = b.0; from = f })) t b.2 in
-      let made : PlainStatement = record { patterns = a.0; ranked = b.0; from = c.0 } in
-      let same : made ≡ t = cc in
-      let r : IsReadExpression net b.0 = expression_read net rules bytes known stand s.ranked form.tree b.0 z form.steps form.few form.calls (rank_fine s x ranks) (few_calls s y calls) places b.1 in
-      let f : IsWritableFrom net c.0 × HasSources c.0 = from_read s.from c.0 form.from c.1 in
-      let patterns : 1 ≤ length a.0 = omega (arith, form.patterns, patterns_more bytes [] s.patterns a.0 a.1) in
-      let printable : IsPrintableStatement net made = record { patterns = some_patterns a.0 patterns; ranked = r.writable; brackets = r.brackets; calls = r.calls; from = f.0 } in
-      let values : AllByRecursion IsPattern a.0 → IsStatementValue made = λ are. record { patterns = are; ranked = r.values; from = f.1 } in
-      subst (IsReadStatement net) same (printable, values)
+      let parts = statement_parts bytes net known s t e in
+      let r = expression_read net rules bytes known stand s.ranked form.tree t.ranked z form.steps form.few form.calls (rank_fine s x ranks) (few_calls s y calls) places parts.1 in
+      let f = from_read s.from t.from form.from parts.2 in
+      let patterns : 1 ≤ length t.patterns = omega (arith, form.patterns, statement_patterns bytes net known s t e) in
+      let printable : IsPrintableStatement net t = record { patterns = some_patterns t.patterns patterns; ranked = r.writable; brackets = r.brackets; calls = r.calls; from = f.0 } in
+      (printable, λ are. record { patterns = are; ranked = r.values; from = f.1 })
 
   pub statements_read : (so_far : List PlainStatement) (items : List Item) (ts : List PlainStatement) (x y z : ⊤) → AllByRecursion HasForm items
       → each ranks_fine items ≡ Ok x → each calls_within items ≡ Ok y → each paths_within items ≡ Ok z → statements_of bytes net known so_far items ≡ Ok ts
@@ -109,15 +94,10 @@ module _ (net : PlainNet) (rules : IsNet net) (bytes : List ℕ) (known : Names)
       statements_read (so_far ++ b.0 ∷ []) items ts x y z forms.1 f.2 g.2 h.2 b.2 (AllByRecursion-push (IsReadStatement net) so_far b.0 before here)
 
   origin_read : (p : Lexeme) (ns : List Lexeme) (o : Origin) → IsNamed ns → origin_of bytes known p ns ≡ Ok o → IsReadOrigin o
-  unfolding origin_of
   origin_read p ns o named e =
       let n : ℕ = length net.routers + length net.peers in
-      let a = bind_ok (prefix_at bytes p) (λ q. set_of_names bytes known ns >>= λ s. Ok (record { prefix = q; at = s })) o e in
-      let b = bind_ok (set_of_names bytes known ns) (λ s. Ok (record { prefix = a.0; at = s })) o a.2 in
-      let made : Origin = record { prefix = a.0; at = b.0 } in
-      let same : made ≡ o = cc in
-      let x : IsSome n b.0 = names_some n bytes known b.0 ns stand named b.1 in
-      subst IsReadOrigin same (x.some, part_set n b.0 x.part)
+      let x : IsSome n o.at = names_some n bytes known o.at ns stand named (origin_parts bytes known p ns o e).1 in
+      (x.some, part_set n o.at x.part)
 
   pub origins_read : (so_far : List Origin) (items : List Item) (os : List Origin) → AllByRecursion HasForm items → origins_of bytes known so_far items ≡ Ok os
       → AllByRecursion IsReadOrigin so_far → AllByRecursion IsReadOrigin os

@@ -1,13 +1,12 @@
 use Rattle.std.proofs.Common.{refl, ◌∙◌}
-use Rattle.std.proofs.lemmas.Result.{err_from_is_err_and}
+use Rattle.list_laws.proofs.Exits.{passed_on}
 use Rattle.policy_rules.specs.KnownView.{plain_names}
 use Rattle.policy_parser.proofs.ItemKinds.{defined, group_item, origin_item, statement_item}
 use Rattle.policy_parser.proofs.item_values.item.Goals as goal
 
 pub returns-in_err-define-clause-read : goal.returns-in_err-define-clause-read
 returns-in_err-define-clause-read c =
-    let p = err_from_is_err_and c.from_residual.result c.from_residual.ensures.1 in
-    rw (p.1, p.2) (λ memory. defined _ _ _ (c.if-past.ensures.here refl) ∙ c.in_err-define.ensures.read c.args.reader.now.whole.now.net.now memory)
+    rw (passed_on c.from_residual.result c.from_residual.ensures.1) (λ memory. defined _ _ _ (c.if-past.ensures.here refl) ∙ c.in_err-define.ensures.read c.args.reader.now.whole.now.net.now memory)
 
 pub returns-then-past-clause-read : goal.returns-then-past-clause-read
 returns-then-past-clause-read c =

@@ -1,4 +1,4 @@
-use Rattle.std.proofs.lemmas.Result.{err_from_is_err_and}
+use Rattle.list_laws.proofs.Exits.{passed_on}
 use Rattle.policy_rules.specs.KnownView.{plain_names}
 use Rattle.policy_values.specs.Parts.{parts_value}
 use Rattle.policy_values.specs.PatternValues.{plain_patterns}
@@ -10,8 +10,7 @@ returns-in_err-parts-clause-read c =
     let bytes = c.args.reader.now.text.now in
     let net = c.args.reader.now.whole.now.net.now in
     let known = plain_names c.args.reader.now.known.now in
-    let p = err_from_is_err_and c.from_residual-in_err-parts.result c.from_residual-in_err-parts.ensures.1 in
-    rw (p.1, p.2)
+    rw (passed_on c.from_residual-in_err-parts.result c.from_residual-in_err-parts.ensures.1)
     (λ memory. statement_unread bytes net known _ _ _ (plain_patterns c.in_ok-patterns.patterns) _ c.in_ok-patterns.ensures.read c.in_ok-passed.ensures.read (c.in_err-parts.ensures.read memory))
 
 pub returns-in_err-from-clause-read : goal.returns-in_err-from-clause-read
@@ -19,8 +18,7 @@ returns-in_err-from-clause-read c =
     let bytes = c.args.reader.now.text.now in
     let net = c.args.reader.now.whole.now.net.now in
     let known = plain_names c.args.reader.now.known.now in
-    let p = err_from_is_err_and c.from_residual-in_err-from.result c.from_residual-in_err-from.ensures.1 in
-    rw (p.1, p.2)
+    rw (passed_on c.from_residual-in_err-from.result c.from_residual-in_err-from.ensures.1)
     (λ memory. statement_unclaimed bytes net known _ _ _ _ (plain_patterns c.in_ok-patterns.patterns)
     (parts_value c.in_ok-parts.parts) _ c.in_ok-patterns.ensures.read c.in_ok-passed.ensures.read c.in_ok-parts.ensures.read
     (c.in_err-from.ensures.read memory))

@@ -1,5 +1,5 @@
 use Rattle.std.proofs.Common.{◌∙◌, ap, sym}
-use Rattle.std.proofs.lemmas.Result.{err_from_is_err_and}
+use Rattle.list_laws.proofs.Exits.{passed_on}
 use Rattle.policy_rules.specs.KnownView.{plain_names}
 use Rattle.policy_parser.proofs.TakenTexts.{starts, takes_on, takes_no_more, takes_all}
 use Rattle.policy_parser.proofs.read.items_taken.Goals as goal
@@ -13,8 +13,8 @@ items-init c = record {
 
 pub returns-in_err-read : goal.returns-in_err-read
 returns-in_err-read c =
-    let p = err_from_is_err_and c.from_residual-in_err-read.result c.from_residual-in_err-read.ensures.1 in
-    rw (p.1, p.2) (takes_no_more c.args.bytes.now c.args.net.now c.items.verdicts c.items.at _ _ _ (sym c.begins.ensures ∙ c.items-test.true) c.in_err-read.ensures.read c.items.invariant.so_far)
+    rw (passed_on c.from_residual-in_err-read.result c.from_residual-in_err-read.ensures.1)
+    (takes_no_more c.args.bytes.now c.args.net.now c.items.verdicts c.items.at _ _ _ (sym c.begins.ensures ∙ c.items-test.true) c.in_err-read.ensures.read c.items.invariant.so_far)
 
 pub items-preserved : goal.items-preserved
 items-preserved c = record {

@@ -1,4 +1,4 @@
-use Rattle.std.proofs.lemmas.Result.{err_from_is_err_and}
+use Rattle.list_laws.proofs.Exits.{passed_on}
 use Rattle.policy_base.specs.Policies.{policy_of}
 use Rattle.policy_parser.proofs.TakenTexts.{unread}
 use Rattle.policy_parser.proofs.ToldFaults.{spelled-IsAtMostDeep}
@@ -6,8 +6,7 @@ use Rattle.policy_parser.proofs.read.read_policy.Goals as goal
 
 pub returns-in_err-verdicts-clause-read : goal.returns-in_err-verdicts-clause-read
 returns-in_err-verdicts-clause-read c =
-    let p = err_from_is_err_and c.from_residual.result c.from_residual.ensures.1 in
-    rw (p.1, p.2) (λ memory. unread c.args.bytes.now c.args.net.now _ (c.in_err-verdicts.ensures memory))
+    rw (passed_on c.from_residual.result c.from_residual.ensures.1) (λ memory. unread c.args.bytes.now c.args.net.now _ (c.in_err-verdicts.ensures memory))
 
 pub returns-clause-read : goal.returns-clause-read
 returns-clause-read c =

@@ -1,5 +1,5 @@
 use Rattle.std.proofs.Common.{◌∙◌, sym, ap, Ok}
-use Rattle.std.proofs.lemmas.Result.{err_from_is_err_and}
+use Rattle.list_laws.proofs.Exits.{passed_on}
 use Rattle.policy_parser.proofs.ReadItems.{no_text, fault_first, deep_next, items_last}
 use Rattle.policy_parser.proofs.TakenTexts.{reads_same}
 use Rattle.policy_parser.proofs.read.verdicts_of.Goals as goal
@@ -9,8 +9,7 @@ returns-then-not-is_text c = λ memory. no_text c.args.bytes.now (sym c.is_text.
 
 pub returns-in_err-place : goal.returns-in_err-place
 returns-in_err-place c =
-    let p = err_from_is_err_and c.from_residual.result c.from_residual.ensures.1 in
-    rw (p.1, p.2) (λ memory. fault_first c.args.bytes.now _ (sym c.is_text.ensures ∙ c.if-not-is_text.false) (c.in_err-place.ensures memory))
+    rw (passed_on c.from_residual.result c.from_residual.ensures.1) (λ memory. fault_first c.args.bytes.now _ (sym c.is_text.ensures ∙ c.if-not-is_text.false) (c.in_err-place.ensures memory))
 
 pub returns-in-Some : goal.returns-in-Some
 returns-in-Some c = λ memory. deep_next c.args.bytes.now _ (sym c.is_text.ensures ∙ c.if-not-is_text.false) (c.in_ok-place.ensures ∙ ap Ok c.in-Some.is)

@@ -1,4 +1,4 @@
-use Rattle.std.proofs.Common.{◌+◌, subst, sym, take, take_all}
+use Rattle.std.proofs.Common.{subst, sym, take, take_all}
 use Rattle.std.specs.Prelude.{IsTrue}
 use Rattle.std.specs.List.{AllByRecursion}
 use Rattle.net_base.specs.NameRule.{is_name}

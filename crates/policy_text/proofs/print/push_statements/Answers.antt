@@ -1,10 +1,11 @@
 use Rattle.std.proofs.Common.{List, ◌+◌, map, subst, take, take_all}
 use Rattle.std.specs.List.{AllByRecursion}
+use Rattle.list_laws.proofs.Changed.{map_so_far}
 use Rattle.policy_base.specs.declared.policy.Statement.{Statement}
 use Rattle.policy_base.specs.Policies.{plain_statement}
 use Rattle.policy_text.specs.Values.{IsStatementValue}
 use Rattle.policy_text.specs.PolicyText.{statement_line}
-use Rattle.policy_text.proofs.Adding.{added, one_more_of}
+use Rattle.policy_text.proofs.Adding.{added}
 use Rattle.policy_text.proofs.print.push_statements.Goals as goal
 
 pub loop-statement-preserved : goal.loop-statement-preserved
@@ -14,7 +15,7 @@ loop-statement-preserved c =
     let statement = c.statement-item.result in
     added (statement_line c.args.net.now) IsStatementValue (map plain_statement (take i statements)) (map plain_statement (take (i + 1) statements)) (plain_statement statement)
     c.args.text.now.items c.loop-statement.text.items c.push_statement.new.text.items
-    (one_more_of plain_statement statements i statement c.loop-statement-test.true c.statement-item.is)
+    (map_so_far plain_statement statements i statement c.loop-statement-test.true c.statement-item.is)
     c.in_ok-push_statement.ensures.text c.in_ok-push_statement.ensures.rules c.loop-statement.invariant
 
 pub returns-clause-rules : goal.returns-clause-rules

@@ -1,5 +1,5 @@
 use Rattle.std.proofs.Common.{refl, ap, arith}
-use Rattle.std.proofs.lemmas.Result.{err_from_is_err_and}
+use Rattle.list_laws.proofs.Exits.{passed_on}
 use Rattle.policy_values.specs.PatternValues.{PatternsValue, plain_patterns}
 use Rattle.policy_values.proofs.PatternsBehind.{count_more, predicate_with}
 use Rattle.policy_values.proofs.LexemeCounts.{left_few}
@@ -13,10 +13,9 @@ more_patterns-requires-clause-few c =
 
 pub returns-in_err-more_patterns-clause-read : goal.returns-in_err-more_patterns-clause-read
 returns-in_err-more_patterns-clause-read c =
-    let p = err_from_is_err_and c.from_residual-in_err-more_patterns.result c.from_residual-in_err-more_patterns.ensures.1 in
     let away = c.if-past.ensures.away refl in
     let read = rw away.1 at c.in_ok-first.ensures.read in
-    rw (p.1, p.2)
+    rw (passed_on c.from_residual-in_err-more_patterns.result c.from_residual-in_err-more_patterns.ensures.1)
     (λ memory. predicate_with c.args.text.now _ _ c.in_ok-first.first (plain_patterns c.none-found.result)
     (plain_patterns c.take-2.new.self) _ c.none-found.ensures away.0 read c.in_ok-take-2.ensures
     (c.in_err-more_patterns.ensures.read memory))

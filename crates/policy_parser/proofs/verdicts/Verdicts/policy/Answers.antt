@@ -1,11 +1,10 @@
-use Rattle.std.proofs.lemmas.Result.{err_from_is_err_and}
+use Rattle.list_laws.proofs.Exits.{passed_on}
 use Rattle.policy_parser.proofs.SoFarItems.{fault_gives, policy_gives, policy_kept}
 use Rattle.policy_parser.proofs.verdicts.Verdicts.policy.Goals as goal
 
 pub returns-in_err-first_fault : goal.returns-in_err-first_fault
 returns-in_err-first_fault c = λ bytes net items read so_far.
-    let p = err_from_is_err_and c.from_residual.result c.from_residual.ensures.1 in
-    rw (p.1, p.2) (λ memory. fault_gives bytes net items c.args.self _ c.in_err-first_fault.ensures read so_far)
+    rw (passed_on c.from_residual.result c.from_residual.ensures.1) (λ memory. fault_gives bytes net items c.args.self _ c.in_err-first_fault.ensures read so_far)
 
 pub new-requires : goal.new-requires
 new-requires c =

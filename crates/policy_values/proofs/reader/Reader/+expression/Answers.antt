@@ -1,5 +1,5 @@
 use Rattle.std.proofs.Common.{refl, arith}
-use Rattle.std.proofs.lemmas.Result.{err_from_is_err_and}
+use Rattle.list_laws.proofs.Exits.{passed_on}
 use Rattle.policy_grammar.specs.Left.{left}
 use Rattle.policy_rules.specs.KnownView.{plain_names}
 use Rattle.policy_values.specs.Operators.{level_of}
@@ -16,8 +16,7 @@ atom-returns-clause-read t c =
 
 pub joined-returns-in_err-side-clause-read : goal.joined-returns-in_err-side-clause-read
 joined-returns-in_err-side-clause-read t c =
-    let p = err_from_is_err_and c.from_residual.result c.from_residual.ensures.1 in
-    rw (p.1, p.2) (λ memory. rw (c.in_err-side.ensures.read memory) refl)
+    rw (passed_on c.from_residual.result c.from_residual.ensures.1) (λ memory. rw (c.in_err-side.ensures.read memory) refl)
 
 pub joined-returns-clause-read : goal.joined-returns-clause-read
 joined-returns-clause-read t c = rw c.in_ok-side.ensures.read c.more_sides.ensures.read
@@ -46,12 +45,8 @@ more_sides-loop-operator-init t c = record {
 
 pub more_sides-returns-in_err-side-clause-read : goal.more_sides-returns-in_err-side-clause-read
 more_sides-returns-in_err-side-clause-read t c =
-    let p = err_from_is_err_and c.from_residual.result c.from_residual.ensures.1 in
-    rw (p.1, p.2)
-    (λ memory. stops c.symbol-symbol.result
-    (link_at c.args.self.now.text.now c.args.self.now.whole.now.net.now (plain_names c.args.self.now.known.now) (level_of c.args.operator) c.args.depth)
-    (parts_value c.loop-operator.parts) _ _ _ _ _ (c.loop-operator-test.ensures.here refl) (rw (c.in_err-side.ensures.read memory) refl)
-    (omega arith) c.loop-operator.invariant.so_far)
+    rw (passed_on c.from_residual.result c.from_residual.ensures.1)
+    (λ memory. stops _ _ _ c.loop-operator.invariant.so_far (c.loop-operator-test.ensures.here refl) (rw (c.in_err-side.ensures.read memory) refl))
 
 pub more_sides-loop-operator-preserved : goal.more_sides-loop-operator-preserved
 more_sides-loop-operator-preserved t c =
@@ -70,6 +65,4 @@ more_sides-loop-operator-preserved t c =
 pub more_sides-returns-clause-read : goal.more_sides-returns-clause-read
 more_sides-returns-clause-read t c =
     let away = c.loop-operator-test.ensures.away refl in
-    rw away.1 (ends c.symbol-symbol.result
-    (link_at c.args.self.now.text.now c.args.self.now.whole.now.net.now (plain_names c.args.self.now.known.now) (level_of c.args.operator) c.args.depth)
-    (parts_value c.loop-operator.parts) _ _ away.0 c.loop-operator.invariant.so_far)
+    rw away.1 (ends _ _ c.loop-operator.invariant.so_far away.0)

@@ -1,5 +1,5 @@
 use Rattle.std.proofs.Common.{refl}
-use Rattle.std.proofs.lemmas.Result.{err_from_is_err_and}
+use Rattle.list_laws.proofs.Exits.{passed_on}
 use Rattle.policy_rules.specs.KnownView.{plain_names}
 use Rattle.policy_values.specs.Parts.{parts_value}
 use Rattle.policy_values.proofs.CallLaws.{link_begun, taken_err, taken_ok}
@@ -7,8 +7,7 @@ use Rattle.policy_values.proofs.reader.Reader.link_call.Goals as goal
 
 pub returns-in_err-passed-clause-read : goal.returns-in_err-passed-clause-read
 returns-in_err-passed-clause-read c =
-    let p = err_from_is_err_and c.from_residual-in_err-passed.result c.from_residual-in_err-passed.ensures.1 in
-    rw (p.1, p.2) (λ memory. taken_err (parts_value c.args.parts.now) _ _
+    rw (passed_on c.from_residual-in_err-passed.result c.from_residual-in_err-passed.ensures.1) (λ memory. taken_err (parts_value c.args.parts.now) _ _
     (link_begun c.args.self.now.text.now c.args.self.now.whole.now.net.now (plain_names c.args.self.now.known.now) _ _ _ c.in_ok-a.a c.in_ok-b.b _
     c.in_ok-a.ensures.read c.in_ok-b.ensures.read (rw (c.in_err-passed.ensures.read memory) refl)))
 

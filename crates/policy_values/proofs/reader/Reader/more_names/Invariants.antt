@@ -1,16 +1,14 @@
 use Rattle.std.proofs.Common.{◌≤◌, length}
 use Rattle.policy_grammar.specs.declared.symbol.Symbol.TheVariants.{Comma}
 use Rattle.policy_grammar.specs.Left.{left, StandsIn}
-use Rattle.policy_grammar.specs.Reading.{chain}
 use Rattle.policy_rules.specs.KnownView.{plain_names}
 use Rattle.policy_values.specs.NameSets.{link_by, with_named}
-use Rattle.policy_values.proofs.Chains.{LeadsTo}
+use Rattle.policy_values.proofs.Chains.{LeadsFrom}
 use Rattle.policy_values.proofs.reader.Reader.more_names.Given as goal
 
 abbrev pub invariant-loop-at : goal.invariant-loop-at
 invariant-loop-at l = record {
-  so_far : LeadsTo Comma (link_by (with_named l.self.text.now (plain_names l.self.known.now))) l.joined (left l.self.text.now l.at)
-      (chain Comma (link_by (with_named l.self.text.now (plain_names l.self.known.now))) (length (left l.self.text.now l.fn.at)) l.fn.joined (left l.self.text.now l.fn.at));
+  so_far : LeadsFrom Comma (link_by (with_named l.self.text.now (plain_names l.self.known.now))) l.fn.joined (left l.self.text.now l.fn.at) l.joined (left l.self.text.now l.at);
   stands : StandsIn l.self.text.now l.at;
   fewer : length (left l.self.text.now l.at) ≤ length (left l.self.text.now l.fn.at);
 }

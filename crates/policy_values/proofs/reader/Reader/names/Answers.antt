@@ -1,4 +1,4 @@
-use Rattle.std.proofs.lemmas.Result.{err_from_is_err_and}
+use Rattle.list_laws.proofs.Exits.{passed_on}
 use Rattle.policy_rules.specs.KnownView.{plain_names}
 use Rattle.policy_rules.specs.Checks.{set_of_names}
 use Rattle.policy_values.specs.NameSets.{with_named}
@@ -8,10 +8,9 @@ use Rattle.policy_values.proofs.reader.Reader.names.Goals as goal
 
 pub returns-in_err-more_names-clause-read : goal.returns-in_err-more_names-clause-read
 returns-in_err-more_names-clause-read c =
-    let p = err_from_is_err_and c.from_residual-in_err-more_names.result c.from_residual-in_err-more_names.ensures.1 in
     let bytes = c.args.self.now.text.now in
     let known = plain_names c.args.self.now.known.now in
-    rw (p.1, p.2)
+    rw (passed_on c.from_residual-in_err-more_names.result c.from_residual-in_err-more_names.ensures.1)
     (λ memory. over_names (set_of_names bytes known) (with_named bytes known)
     (set_of_names_push bytes known) _ c.in_ok-name.name _ c.alone-joined.result _ c.in_ok-name.ensures.read c.alone-joined.ensures
     (c.in_err-more_names.ensures.read memory))

@@ -1,6 +1,6 @@
 use Rattle.std.proofs.Common.{Ok, subst}
 use Rattle.std.specs.Prelude.{⊤}
-use Rattle.std.proofs.lemmas.Result.{err_from_is_err_and}
+use Rattle.list_laws.proofs.Exits.{passed_on}
 use Rattle.net_base.specs.Gives.{GivesUnless}
 use Rattle.policy_tokens.specs.declared.fault.PolicyFault.TheVariants.{NoMemory}
 use Rattle.policy_values.specs.CallValues.{CallValue}
@@ -10,8 +10,7 @@ use Rattle.policy_values.proofs.reader.Reader.path_call.Goals as goal
 
 pub returns-in_err-path_places-clause-read : goal.returns-in_err-path_places-clause-read
 returns-in_err-path_places-clause-read c =
-    let p = err_from_is_err_and c.from_residual.result c.from_residual.ensures.1 in
-    rw (p.1, p.2) (λ memory. taken_err (parts_value c.args.parts.now) _ _ (c.in_err-path_places.ensures.read memory))
+    rw (passed_on c.from_residual.result c.from_residual.ensures.1) (λ memory. taken_err (parts_value c.args.parts.now) _ _ (c.in_err-path_places.ensures.read memory))
 
 pub returns-clause-read : goal.returns-clause-read
 returns-clause-read c =

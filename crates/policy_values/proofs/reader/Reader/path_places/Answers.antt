@@ -1,5 +1,5 @@
 use Rattle.std.proofs.Common.{◌≡◌, ◌+◌, Ok, refl, ap, arith}
-use Rattle.std.proofs.lemmas.Result.{err_from_is_err_and}
+use Rattle.list_laws.proofs.Exits.{passed_on}
 use Rattle.net_base.specs.Steps.{◌>>=◌}
 use Rattle.net_base.proofs.StepLemmas.{ok_same}
 use Rattle.policy_grammar.specs.declared.symbol.Symbol.TheVariants.{RoundClose}
@@ -20,8 +20,8 @@ more_places-requires-clause-room c =
 
 pub returns-in_err-more_places-clause-read : goal.returns-in_err-more_places-clause-read
 returns-in_err-more_places-clause-read c =
-    let p = err_from_is_err_and c.from_residual-in_err-more_places.result c.from_residual-in_err-more_places.ensures.1 in
-    rw (p.1, p.2) (λ memory. path_begun c.args.self.now.text.now c.args.self.now.whole.now.net.now (plain_names c.args.self.now.known.now) _ _ _ c.in_ok-a.a c.in_ok-b.b
+    rw (passed_on c.from_residual-in_err-more_places.result c.from_residual-in_err-more_places.ensures.1)
+    (λ memory. path_begun c.args.self.now.text.now c.args.self.now.whole.now.net.now (plain_names c.args.self.now.known.now) _ _ _ c.in_ok-a.a c.in_ok-b.b
     (plain_places c.args.places.now)
     (plain_places c.take.new.self) (plain_places c.take-2.new.self) _ c.in_ok-a.ensures.read c.in_ok-b.ensures.read
     c.requires.none c.in_ok-take.ensures c.in_ok-take-2.ensures (rw (c.in_err-more_places.ensures.read memory) refl))

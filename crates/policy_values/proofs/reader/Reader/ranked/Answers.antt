@@ -1,4 +1,4 @@
-use Rattle.std.proofs.lemmas.Result.{err_from_is_err_and}
+use Rattle.list_laws.proofs.Exits.{passed_on}
 use Rattle.policy_tokens.specs.declared.limits.TheConstants.{BRACKETS}
 use Rattle.policy_grammar.specs.Left.{left}
 use Rattle.policy_rules.specs.KnownView.{plain_names}
@@ -8,8 +8,7 @@ use Rattle.policy_values.proofs.reader.Reader.ranked.Goals as goal
 
 pub returns-in_err-joined-clause-read : goal.returns-in_err-joined-clause-read
 returns-in_err-joined-clause-read c =
-    let p = err_from_is_err_and c.from_residual.result c.from_residual.ensures.1 in
-    rw (p.1, p.2)
+    rw (passed_on c.from_residual.result c.from_residual.ensures.1)
     (λ memory. parts_read c.args.self.now.text.now c.args.self.now.whole.now.net.now (plain_names c.args.self.now.known.now) BRACKETS
     (parts_value c.of-parts.result) (left c.args.self.now.text.now c.args.at.now) _ c.of-parts.ensures
     (c.in_err-joined.ensures.read memory))

@@ -1,12 +1,11 @@
-use Rattle.std.proofs.lemmas.Result.{err_from_is_err_and}
+use Rattle.list_laws.proofs.Exits.{passed_on}
 use Rattle.policy_values.specs.Parts.{parts_value}
 use Rattle.policy_values.proofs.CallLaws.{taken_err, taken_ok}
 use Rattle.policy_values.proofs.reader.Reader.sets_call.Goals as goal
 
 pub returns-in_err-above-clause-read : goal.returns-in_err-above-clause-read
 returns-in_err-above-clause-read c =
-    let p = err_from_is_err_and c.from_residual.result c.from_residual.ensures.1 in
-    rw (p.1, p.2) (λ memory. taken_err (parts_value c.args.parts.now) _ _ (c.in_err-above.ensures.read memory))
+    rw (passed_on c.from_residual.result c.from_residual.ensures.1) (λ memory. taken_err (parts_value c.args.parts.now) _ _ (c.in_err-above.ensures.read memory))
 
 pub returns-clause-read : goal.returns-clause-read
 returns-clause-read c =
