@@ -14,14 +14,14 @@ use Rattle.input_texts.specs.Texts.{OfTwoTexts}
 use Rattle.run_base.specs.Said.{Said}
 
 -- The text is that of the impact of single cuts, while nothing else fails, on the sources that the policy claims for the prefix.
-pub record IsImpactText (net : PlainNet) (policy : PlainPolicy) (p : PlainPrefix) (bytes : List ℕ) : Type 0 where
+pub record IsImpactText (net : PlainNet) (policy : PlainPolicy) (config : PlainConfig) (p : PlainPrefix) (bytes : List ℕ) : Type 0 where
   pub impact : Impact
   pub is : IsImpact net policy no_failures p impact
-  pub spelled : bytes ≡ impact_text net policy p impact
+  pub spelled : bytes ≡ impact_text net config p impact
 
--- that text, whatever was compiled
+-- that text for the configuration
 abbrev pub WritesImpact : PlainNet → PlainPolicy → PlainPrefix → PlainConfig → List PlainCaseEvidence → List ℕ → Type 0
-WritesImpact net policy p config evidence bytes = IsImpactText net policy p bytes
+WritesImpact net policy p config evidence bytes = IsImpactText net policy config p bytes
 
 -- the text of the impact, or the line of a refusal that applies to the policy
 abbrev pub SaysOfPolicy : PlainPrefix → PlainNet → PlainPolicy → Said → Type 0

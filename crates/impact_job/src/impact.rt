@@ -9,6 +9,7 @@ ghost use Rattle.input_texts.specs.Texts.{OfTexts};
 ghost use Rattle.run_base.specs.Said.{IsGiven, said};
 
 use compile_jobs::compiled_evidence_for;
+use config_made::class_of;
 use impact_report::impact;
 use impact_text::impact_text;
 use input_texts::{net_of, policy_for};
@@ -40,7 +41,8 @@ fn cuts_text(alloc: Global, net: &Net, policy: &Policy, prefix: Prefix) -> Resul
     let evidence = compiled_evidence_for(alloc, net, policy)?;
     let scenario = nothing_fails(alloc, prefix);
     let impact = impact(alloc, net, policy, &evidence, &scenario)?;
-    Ok(impact_text(alloc, net, policy, prefix, &impact)?)
+    let class = class_of(policy, &evidence, prefix);
+    Ok(impact_text(alloc, net, prefix, class, &impact)?)
 }
 
 /// What the texts of a topology and of a policy come to for a prefix: the impact of single cuts on the sources that the policy claims for

@@ -1,13 +1,10 @@
 -- The texts of an impact, and of what cuts change and move.
-use Rattle.std.specs.Prelude.{ℕ, Bool, not, ◌||◌, ◌==◌, List, [], ◌++◌, length, map, filter, codes, Option, Some, None}
+use Rattle.std.specs.Prelude.{ℕ, Bool, not, ◌||◌, ◌==◌, List, ◌++◌, length, filter, codes, Option, Some, None}
 use Rattle.std.specs.Fmt.{decimal}
 use Rattle.std.specs.List.{flat_map, zip}
 use Rattle.net_base.specs.Network.{PlainNet}
-use Rattle.net_base.specs.Prefixes.{PlainPrefix, PlainPattern}
-use Rattle.policy_base.specs.Cases.{case_list}
-use Rattle.policy_base.specs.Policies.{PlainPolicy}
+use Rattle.net_base.specs.Prefixes.{PlainPrefix}
 use Rattle.config_base.specs.Configs.{PlainConfig}
-use Rattle.evidence_base.specs.Made.{patterns_of}
 use Rattle.report_lines.specs.Lines.{head_lines, next_name, source_text}
 use Rattle.impact_law.specs.declared.impact.Cut.{Cut}
 use Rattle.impact_law.specs.declared.impact.Cut.TheVariants.{Link, Router}
@@ -15,14 +12,6 @@ use Rattle.impact_law.specs.declared.impact.CutRow.{CutRow}
 use Rattle.impact_law.specs.declared.impact.Impact.{Impact}
 use Rattle.impact_law.specs.declared.impact.SourceRank.{SourceRank}
 use Rattle.impact_law.specs.declared.impact.WhatIf.{WhatIf}
-
--- the classes of a configuration that is made for a policy: one for each case
-abbrev pub classes_for : PlainNet → PlainPolicy → List (List PlainPattern)
-classes_for net policy = map (patterns_of policy) (case_list net policy)
-
--- these alone
-abbrev pub classes_alone : PlainNet → PlainPolicy → PlainConfig
-classes_alone net policy = record { classes = classes_for net policy; routers = [] }
 
 -- ---- parts of a line
 
@@ -47,8 +36,8 @@ unfoldable pub count_line : ℕ → ℕ → List ℕ
 count_line cuts changed = codes "cuts " ++ decimal cuts ++ codes " changed " ++ decimal changed ++ codes "\n"
 
 -- the prefix and its class, and a line for each claimed source
-abbrev pub base_text : PlainNet → PlainPolicy → PlainPrefix → List SourceRank → List ℕ
-base_text net policy p base = head_lines (classes_alone net policy) p ++ flat_map (base_line net) base
+abbrev pub base_text : PlainNet → PlainConfig → PlainPrefix → List SourceRank → List ℕ
+base_text net config p base = head_lines config p ++ flat_map (base_line net) base
 
 -- ---- of an impact
 
@@ -61,10 +50,10 @@ changes row = not (length row.changed == 0)
 
 -- The prefix and its class, a line for each claimed source, each cut that changes something with the sources that it changes, and how many
 -- cuts there are and how many change something.
-abbrev pub impact_text : PlainNet → PlainPolicy → PlainPrefix → Impact → List ℕ
-impact_text net policy p impact =
+abbrev pub impact_text : PlainNet → PlainConfig → PlainPrefix → Impact → List ℕ
+impact_text net config p impact =
     let told = filter changes impact.rows in
-    base_text net policy p impact.base
+    base_text net config p impact.base
     ++ flat_map (row_text net) told
     ++ count_line (length impact.rows) (length told)
 
@@ -78,9 +67,9 @@ abbrev pub changes_or_moves : CutRow × ℕ → Bool
 changes_or_moves row = changes row.0 || not (row.1 == 0)
 
 -- the same, where each cut that changes or moves something tells how many it moves
-abbrev pub what_if_text : PlainNet → PlainPolicy → PlainPrefix → WhatIf → List ℕ
-what_if_text net policy p w =
+abbrev pub what_if_text : PlainNet → PlainConfig → PlainPrefix → WhatIf → List ℕ
+what_if_text net config p w =
     let told = filter changes_or_moves (zip w.impact.rows w.moves) in
-    base_text net policy p w.impact.base
+    base_text net config p w.impact.base
     ++ flat_map (moves_text net) told
     ++ count_line (length w.impact.rows) (length told)

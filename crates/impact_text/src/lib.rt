@@ -2,7 +2,6 @@
 //! routers they move.
 #![tactic(auto)]
 
-mod class;
 mod lines;
 mod text;
 

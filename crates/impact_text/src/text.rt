@@ -1,14 +1,13 @@
 //! The texts of an impact, and of what cuts change and move.
 ghost use Rattle.std.specs.Prelude.{◌≡◌, IfOk, length};
-ghost use Rattle.policy_base.specs.Policies.{policy_of};
+ghost use Rattle.config_base.specs.Configs.{PlainConfig};
+ghost use Rattle.config_base.specs.Lines.{class_of};
 ghost use Rattle.impact_text.specs.Texts.{base_text as text_of_base, impact_text as text_of_impact, what_if_text as text_of_what_if};
 
-use crate::class::class_for;
 use crate::lines::{push_base, push_counts, push_moving_rows, push_rows};
 use impact_law::{Impact, SourceRank, WhatIf};
 use net_base::{Net, Prefix};
 use outside::NoMemory;
-use policy_base::Policy;
 use report_lines::push_head;
 use std::alloc::Global;
 
@@ -16,13 +15,12 @@ use std::alloc::Global;
 fn base_text(
     alloc: Global,
     net: &Net,
-    policy: &Policy,
     prefix: Prefix,
+    class: Option<usize>,
     base: &[SourceRank],
 ) -> Result<Vec<u8>, NoMemory>
-    ensures { IfOk result (λ v. v.items ≡ text_of_base net.now (policy_of policy.now) prefix base.now) }
+    ensures { IfOk result (λ v. (config : PlainConfig) → class ≡ class_of config prefix → v.items ≡ text_of_base net.now config prefix base.now) }
 {
-    let class = class_for(alloc, net, policy, prefix)?;
     let mut text = Vec::new(alloc);
     push_head(&mut text, prefix, class)?;
     push_base(&mut text, net, base)?;
@@ -34,14 +32,14 @@ fn base_text(
 pub fn impact_text(
     alloc: Global,
     net: &Net,
-    policy: &Policy,
     prefix: Prefix,
+    class: Option<usize>,
     impact: &Impact,
 ) -> Result<Vec<u8>, NoMemory>
-    ensures { IfOk result (λ v. v.items ≡ text_of_impact net.now (policy_of policy.now) prefix impact.now) }
+    ensures { IfOk result (λ v. (config : PlainConfig) → class ≡ class_of config prefix → v.items ≡ text_of_impact net.now config prefix impact.now) }
 {
     let rows = impact.rows.as_slice();
-    let mut text = base_text(alloc, net, policy, prefix, impact.base.as_slice())?;
+    let mut text = base_text(alloc, net, prefix, class, impact.base.as_slice())?;
     let told = push_rows(&mut text, net, rows)?;
     push_counts(&mut text, rows.len(), told)?;
     Ok(text)
@@ -52,16 +50,16 @@ pub fn impact_text(
 pub fn what_if_text(
     alloc: Global,
     net: &Net,
-    policy: &Policy,
     prefix: Prefix,
+    class: Option<usize>,
     what_if: &WhatIf,
 ) -> Result<Vec<u8>, NoMemory>
     requires { length what_if.now.moves ≡ length what_if.now.impact.rows }
-    ensures { IfOk result (λ v. v.items ≡ text_of_what_if net.now (policy_of policy.now) prefix what_if.now) }
+    ensures { IfOk result (λ v. (config : PlainConfig) → class ≡ class_of config prefix → v.items ≡ text_of_what_if net.now config prefix what_if.now) }
 {
     let impact = &what_if.impact;
     let rows = impact.rows.as_slice();
-    let mut text = base_text(alloc, net, policy, prefix, impact.base.as_slice())?;
+    let mut text = base_text(alloc, net, prefix, class, impact.base.as_slice())?;
     let told = push_moving_rows(&mut text, net, rows, what_if.moves.as_slice())?;
     push_counts(&mut text, rows.len(), told)?;
     Ok(text)

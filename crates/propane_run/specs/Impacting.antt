@@ -25,4 +25,4 @@ pub record ImpactsRight {O : Type 0} (holds : Holds) (taken : O → Option (List
   pub right : IsRight net policy config
   pub bytes : List ℕ
   pub written : Whole taken bytes out out'
-  pub shown : IsImpactText net policy prefix bytes
+  pub shown : IsImpactText net policy config prefix bytes

@@ -1,15 +1,12 @@
 -- How many routers move is told for each row.
-use Rattle.std.proofs.Common.{◌≡◌, ℕ, length, map, sym, ap, ◌∙◌}
+use Rattle.std.proofs.Common.{◌≡◌, length, sym, ap, ◌∙◌}
 use Rattle.std.proofs.lemmas.List.{length-map}
 use Rattle.net_base.specs.Network.{PlainNet}
 use Rattle.net_base.specs.Prefixes.{PlainPrefix}
 use Rattle.policy_base.specs.Policies.{PlainPolicy}
 use Rattle.config_base.specs.Configs.{PlainConfig}
 use Rattle.outcome_base.specs.Outcomes.{Failures}
-use Rattle.impact_law.specs.Cuts.{live_cuts}
-use Rattle.impact_law.specs.Moves.{IsWhatIf, moved}
-use Rattle.impact_law.specs.declared.impact.Cut.{Cut}
-use Rattle.impact_law.specs.declared.impact.CutRow.{CutRow}
+use Rattle.impact_law.specs.Moves.{IsWhatIf}
 use Rattle.impact_law.specs.declared.impact.WhatIf.{WhatIf}
 use Rattle.impact_law.proofs.OneImpact.{rows_are_of_live_cuts}
 

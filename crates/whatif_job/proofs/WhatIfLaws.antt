@@ -22,7 +22,7 @@ one_text : (net : PlainNet) (policy : PlainPolicy) (config : PlainConfig) (evide
     → IsCompiled net policy config evidence → (one other : List ℕ) → IsWhatIfText net policy config scenario one → IsWhatIfText net policy config scenario other → one ≡ other
 one_text net policy config evidence scenario rules fits prefix compiled one other a b =
     let same = what_ifs_are_one net policy config evidence rules fits compiled.1 (failures_of scenario) scenario.prefix prefix a.what_if b.what_if a.is b.is in
-    a.spelled ∙ ap (what_if_text net policy scenario.prefix) same ∙ sym b.spelled
+    a.spelled ∙ ap (what_if_text net config scenario.prefix) same ∙ sym b.spelled
 
 pub whatif_job : (Refuses Checks : Type 0) → Refuses → IsJob Refuses Checks SaysOfTexts
 whatif_job Refuses Checks refuses =

@@ -18,7 +18,7 @@ use Rattle.input_texts.specs.FaultLines.{scenario_line}
 pub record IsWhatIfText (net : PlainNet) (policy : PlainPolicy) (config : PlainConfig) (scenario : Scenario) (bytes : List ℕ) : Type 0 where
   pub what_if : WhatIf
   pub is : IsWhatIf net policy config (failures_of scenario) scenario.prefix what_if
-  pub spelled : bytes ≡ what_if_text net policy scenario.prefix what_if
+  pub spelled : bytes ≡ what_if_text net config scenario.prefix what_if
 
 -- that text for the configuration
 abbrev pub WritesWhatIf : PlainNet → PlainPolicy → Scenario → PlainConfig → List PlainCaseEvidence → List ℕ → Type 0

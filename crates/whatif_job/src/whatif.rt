@@ -1,5 +1,6 @@
 //! The command `whatif`.
 use compile_jobs::Answer;
+use config_made::class_of;
 use evidence_base::Evidence;
 use impact_text::what_if_text;
 use net_base::Net;
@@ -28,6 +29,7 @@ impl Answer for WhatIfCommand {
         scenario: &Scenario,
     ) -> Result<Vec<u8>, NoMemory> {
         let what_if = what_if(alloc, net, policy, evidence, scenario)?;
-        what_if_text(alloc, net, policy, scenario.prefix, &what_if)
+        let class = class_of(policy, evidence, scenario.prefix);
+        what_if_text(alloc, net, scenario.prefix, class, &what_if)
     }
 }

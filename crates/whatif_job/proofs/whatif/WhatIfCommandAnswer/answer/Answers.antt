@@ -20,5 +20,5 @@ returns c =
     IfOk-weaker c.what_if_text.result _ _ (λ bytes told. (
       config,
       (c.requires.evidence.1, passes),
-      record { what_if = c.in_ok-what_if.what_if; is = c.in_ok-what_if.ensures config passes; spelled = told },
+      record { what_if = c.in_ok-what_if.what_if; is = c.in_ok-what_if.ensures config passes; spelled = told config (c.class_of-class.ensures c.args.net.now config passes.made.lines) },
     )) c.what_if_text.ensures
