@@ -4,7 +4,7 @@ ghost use Rattle.policy_base.specs.Policies.{IsPolicyOf, policy_of};
 ghost use Rattle.policy_base.specs.CaseNumbers.{OriginsAreRouters};
 ghost use Rattle.evidence_law.specs.Passes.{Passes};
 ghost use Rattle.run_base.specs.Said.{IsGiven, said};
-ghost use Rattle.input_texts.specs.Texts.{OfScenarioText, OfTablesText, OfTexts};
+ghost use Rattle.input_texts.specs.Texts.{OfTexts};
 ghost use Rattle.audit_job.specs.Audited.{SaysOfPassing, SaysOfPolicy, SaysOfRoutes, SaysUnder};
 
 use crate::verdict_lines::{stable_line, unstable_line};

@@ -1,6 +1,5 @@
 //! What is said of a verdict on tables.
-ghost use Rattle.std.specs.Prelude.{◌≡◌, ◌++◌, OnOk, IfOk, codes, option_map};
-ghost use Rattle.report_lines.specs.Lines.{next_name};
+ghost use Rattle.std.specs.Prelude.{◌≡◌, IfOk, codes, option_map};
 ghost use Rattle.audit_job.specs.VerdictLines.{stable_line as line_of_stability, unstable_line as line_of_failure, unstable_text, better_text, missing_text};
 
 use audit_law::AuditVerdict;

@@ -1,5 +1,5 @@
 //! The graph of a case as it is built.
-ghost use Rattle.std.specs.Prelude.{◌≡◌, ◌≤◌, List as Items, length, IfOk, IsErrOf};
+ghost use Rattle.std.specs.Prelude.{◌≤◌, List as Items, length, IfOk, IsErrOf};
 ghost use Rattle.net_base.specs.NetSets.{locations as all_locations};
 ghost use Rattle.path_exprs.specs.declared.limits.TheConstants.{NODES};
 ghost use Rattle.path_automata.specs.States.{Begins, Extends, states_of};

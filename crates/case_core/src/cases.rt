@@ -1,7 +1,6 @@
 //! The graph of a case.
 ghost use Rattle.std.specs.Prelude.{◌≡◌, ◌<◌, ◌≤◌, ℕ, IfErr, IfOk, IfSome, OnOk, length};
 ghost use Rattle.net_base.specs.Network.{PlainNet};
-ghost use Rattle.policy_base.specs.declared.case.Case.{Case as PlainCase};
 ghost use Rattle.policy_base.specs.Cases.{case_list};
 ghost use Rattle.policy_base.specs.Policies.{plain_statement, policy_of};
 ghost use Rattle.graph_base.specs.Graphs.{IsGraph, PlainGraph};

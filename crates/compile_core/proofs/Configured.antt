@@ -1,5 +1,5 @@
 -- The configuration that is made of the evidence of a policy.
-use Rattle.std.proofs.Common.{◌≡◌, ℕ, List, map, Some, sym, ap, subst, ◌∙◌}
+use Rattle.std.proofs.Common.{List, map, sym, ap, subst, ◌∙◌}
 use Rattle.std.specs.Prelude.{slice_get}
 use Rattle.net_base.specs.Network.{PlainNet, IsNet}
 use Rattle.policy_base.specs.CaseNumbers.{OriginsAreRouters}

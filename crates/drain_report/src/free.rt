@@ -1,5 +1,5 @@
 //! Which links and routers no step is of.
-ghost use Rattle.std.specs.Prelude.{◌≡◌, ◌&&◌, ◌||◌, ◌==◌, ◌<◌, ℕ, IfOk, IsTrue, filter, not};
+ghost use Rattle.std.specs.Prelude.{◌≡◌, ◌&&◌, ◌<◌, ℕ, IfOk, IsTrue, filter, not};
 ghost use Rattle.std.specs.List.{list_any};
 ghost use Rattle.net_base.specs.declared.limits.TheConstants.{LOCATIONS};
 ghost use Rattle.net_base.specs.Network.{is_router as router_at, joins, linked};

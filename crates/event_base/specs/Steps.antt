@@ -1,10 +1,10 @@
 -- What each event does, why an event is refused, and what every event keeps.
-use Rattle.std.specs.Prelude.{◌≡◌, ℕ, Bool, true, false, not, ◌&&◌, ◌||◌, ◌==◌, List, [], ◌∷◌, Option, Some, None, if◌then◌else◌}
+use Rattle.std.specs.Prelude.{◌≡◌, ℕ, Bool, true, false, not, ◌&&◌, List, [], ◌∷◌, Option, Some, None, if◌then◌else◌}
 use Rattle.event_base.specs.declared.event.Event.{Event}
 use Rattle.event_base.specs.declared.event.Event.TheVariants.{Deliver, LinkDown, LinkUp, RouterDown, RouterUp, PeerSpeak, PeerSilent}
 use Rattle.event_base.specs.declared.event.EventFault.{EventFault}
 use Rattle.event_base.specs.declared.event.EventFault.TheVariants.{NothingWaits, NotUp, NotDown, NoLink}
-use Rattle.event_base.specs.World.{Speakers, World, is, joins, touches, live, running, choice, exported, tell, choose_again, each_again, emptied, with_cut, with_down, with_silent, received}
+use Rattle.event_base.specs.World.{Speakers, World, is, joins, touches, choice, tell, choose_again, each_again, emptied, with_cut, with_down, with_silent, received}
 
 abbrev pub unless_waiting : {R : Type 0} → List (Option R) → Option EventFault
 unless_waiting [] = Some NothingWaits

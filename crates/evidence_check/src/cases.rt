@@ -1,5 +1,5 @@
 //! The rules of cases, over all of them.
-ghost use Rattle.std.specs.Prelude.{◌≡◌, ◌+◌, ℕ, List, IfNone, IfOk, IfSome, Some};
+ghost use Rattle.std.specs.Prelude.{◌≡◌, ℕ, List, IfNone, IfOk, IfSome, Some};
 ghost use Rattle.list_laws.specs.Members.{IsIn};
 ghost use Rattle.policy_base.specs.Cases.{case_list};
 ghost use Rattle.policy_base.specs.Policies.{policy_of};

@@ -1,5 +1,5 @@
 //! The block of a configuration in which a line stands.
-ghost use Rattle.std.specs.Prelude.{◌≡◌, ◌+◌, ◌-◌, ◌^◌, ◌<◌, length, nat_lt, Some, None, if◌then◌else◌};
+ghost use Rattle.std.specs.Prelude.{◌≡◌, ◌+◌, ◌-◌, ◌^◌, ◌<◌, length, Some, None, if◌then◌else◌};
 ghost use Rattle.evidence_rules.specs.Verdicts.{all_session_lines, block_after, block_of as block_with, router_lines, session_lines};
 ghost use Rattle.evidence_check.specs.Difference.{lines_behind};
 

@@ -2,10 +2,8 @@
 ghost use Rattle.std.specs.Prelude.{◌≡◌, ◌<◌, ◌≤◌, ℕ, IfNone, IfOk, IfSome, IsErrOf, length};
 ghost use Rattle.policy_base.specs.declared.limits.TheConstants.{ALTERNATIVES};
 ghost use Rattle.path_exprs.specs.declared.limits.TheConstants.{NODES};
-ghost use Rattle.list_laws.specs.Members.{IsIn};
-ghost use Rattle.policy_base.specs.Cases.{case_list};
 ghost use Rattle.policy_base.specs.Meaning.{alternative_count};
-ghost use Rattle.policy_base.specs.Policies.{plain_statement, policy_of, ranking_of};
+ghost use Rattle.policy_base.specs.Policies.{plain_statement, ranking_of};
 ghost use Rattle.path_exprs.specs.Forward.{expressions};
 ghost use Rattle.path_exprs.specs.Standings.{PassesStates, plan_of};
 ghost use Rattle.standings.specs.Built.{IsBuilt};

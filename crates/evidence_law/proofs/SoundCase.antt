@@ -1,14 +1,13 @@
 -- An outcome for a prefix of a case, of a configuration that is made of graphs: whatever the numbers are, paths are allowed.
 use Rattle.std.proofs.Common.{◌≡◌, ℕ, suc, Bool, true, List, ◌∷◌, ◌++◌, Some, None, refl, sym, ap, ◌∙◌, inl, inr, subst}
 use Rattle.std.specs.Prelude.{◌&&◌, not, is_some, option_map, slice_get}
-use Rattle.std.proofs.lemmas.Bool.{and_parts, and_from, cases_Bool, not_from_false}
+use Rattle.std.proofs.lemmas.Bool.{and_parts, cases_Bool}
 use Rattle.net_base.specs.Network.{PlainNet, IsNet, is_location, is_peer, is_router}
 use Rattle.net_base.specs.Sets.{holds}
 use Rattle.net_base.specs.Prefixes.{PlainPrefix}
 use Rattle.policy_base.specs.Policies.{PlainPolicy, PlainStatement}
-use Rattle.policy_base.specs.Meaning.{rank_of}
 use Rattle.policy_base.specs.Governing.{is_origin}
-use Rattle.policy_base.specs.Permitted.{from_holds, is_permitted, IsClaimedRouter}
+use Rattle.policy_base.specs.Permitted.{is_permitted, IsClaimedRouter}
 use Rattle.graph_base.specs.Runs.{run}
 use Rattle.config_base.specs.declared.route.Route.{Route}
 use Rattle.config_base.specs.Configs.{PlainConfig}
@@ -16,12 +15,12 @@ use Rattle.config_base.specs.Lines.{class_of}
 use Rattle.evidence_base.specs.Made.{PlainCaseEvidence, IsConfigOf, AreTags, number_at}
 use Rattle.list_laws.specs.Members.{IsIn}
 use Rattle.outcome_base.specs.Outcomes.{Failures, Outcome, is_dead, is_live, route_at, offered, IsStable}
-use Rattle.evidence_law.specs.Faithful.{is_walk_to, may_start, permits}
+use Rattle.evidence_law.specs.Faithful.{permits}
 use Rattle.evidence_law.specs.Laws.{IsSoundBy}
-use Rattle.evidence_law.specs.Passes.{IsClaimed, IsCaseGraph}
+use Rattle.evidence_law.specs.Passes.{IsCaseGraph}
 use Rattle.evidence_law.proofs.Setting.{network_of, alive_of, graph_of, lines_of, lines_at, line_of, setup_of, pairs_of}
 use Rattle.evidence_law.proofs.Stability.{stable_lines, offered_lines}
-use Rattle.evidence_law.proofs.CaseOrigins.{case_permits, good, no_case_origin, prefix_permits}
+use Rattle.evidence_law.proofs.CaseOrigins.{good, no_case_origin, prefix_permits}
 use Rattle.evidence_law.proofs.PeerWalks.{peer_permits}
 use Rattle.evidence_law.proofs.GraphForms.{same_run}
 use Rattle.evidence_law.proofs.ClaimedPaths.{claimed_permits}
@@ -32,7 +31,6 @@ use Rattle.routing_law.specs.Lines as line
 use Rattle.routing_law.specs.Spells as spelled
 use Rattle.routing_law.specs.Laws as laws
 use Rattle.routing_law.proofs.Used.{used_paths_are_sound}
-use Rattle.graph_base.proofs.RunSteps.{run_begins, run_inside}
 
 -- a prefix of a case, with a stable outcome for it
 pub record IsCaseAt (net : PlainNet) (policy : PlainPolicy) (config : PlainConfig) (f : Failures) (p : PlainPrefix) (outcome : Outcome)

@@ -1,7 +1,7 @@
 -- Which sources stand in the row of a cut.
-use Rattle.std.proofs.Common.{◌≡◌, ℕ, zero, suc, ◌<◌, Bool, true, false, List, [], ◌∷◌, Option, Some, None, refl, sym, ap, ◌∙◌, subst, arith, eqb-true, eq-eqb, true≢false}
+use Rattle.std.proofs.Common.{◌≡◌, ℕ, zero, suc, Bool, true, false, List, [], ◌∷◌, Option, Some, None, refl, sym, ap, ◌∙◌, subst, arith, eqb-true, eq-eqb, true≢false}
 use Rattle.std.proofs.lemmas.Option.{slice_get-map}
-use Rattle.std.specs.Prelude.{◌==◌, map, option_map, slice_get}
+use Rattle.std.specs.Prelude.{map, option_map, slice_get}
 use Rattle.net_base.specs.Network.{PlainNet}
 use Rattle.net_base.specs.Prefixes.{PlainPrefix}
 use Rattle.policy_base.specs.Policies.{PlainPolicy, PlainStatement}
@@ -10,10 +10,9 @@ use Rattle.outcome_base.specs.Outcomes.{Failures}
 use Rattle.impact_law.specs.declared.impact.SourceRank.{SourceRank}
 use Rattle.impact_law.specs.declared.impact.Cut.{Cut}
 use Rattle.impact_law.specs.declared.impact.CutRow.{CutRow}
-use Rattle.impact_law.specs.declared.impact.Impact.{Impact}
 use Rattle.impact_law.specs.BestRanks.{IsBestRank}
 use Rattle.impact_law.specs.Cuts.{live_cuts, with_cut}
-use Rattle.impact_law.specs.Impacts.{GetsAnotherRank, IsImpactBy, IsRanking, RowsTellOtherRanks, begin_at, changed, row_of, same_rank}
+use Rattle.impact_law.specs.Impacts.{GetsAnotherRank, IsRanking, RowsTellOtherRanks, begin_at, changed, row_of, same_rank}
 use Rattle.impact_law.proofs.BestRanks.{best_ranks_are_one}
 use Rattle.impact_law.proofs.OneImpact.{Ordered, before, not_itself, one_list, precedes_through}
 

@@ -1,9 +1,8 @@
 //! The nodes with the greatest numbers.
-ghost use Rattle.std.specs.Prelude.{◌≡◌, ◌<◌, ◌≤◌, ℕ, true, IfOk, length};
+ghost use Rattle.std.specs.Prelude.{◌≡◌, ◌<◌, true, IfOk, length};
 ghost use Rattle.evidence_base.specs.Made.{number_at};
-ghost use Rattle.graph_base.specs.Runs.{place_of};
 ghost use Rattle.reach_prune.specs.Searches.{is_marked};
-ghost use Rattle.impact_report.specs.Tops.{AreBest, entry_at, is_better};
+ghost use Rattle.impact_report.specs.Tops.{AreBest, is_better};
 
 use evidence_base::CaseEvidence;
 use std::alloc::{AllocError, Global};

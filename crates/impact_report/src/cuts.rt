@@ -1,5 +1,5 @@
 //! What a cut spares, and which cuts can come.
-ghost use Rattle.std.specs.Prelude.{◌≡◌, ◌++◌, ℕ, not, IfOk, OnOk};
+ghost use Rattle.std.specs.Prelude.{◌≡◌, ◌++◌, not, IfOk, OnOk};
 ghost use Rattle.net_base.specs.Network.{joins};
 ghost use Rattle.outcome_base.specs.Outcomes.{Failures, is_dead, no_failures};
 ghost use Rattle.stable_paths.specs.Surviving.{AreSurvivors};

@@ -1,5 +1,5 @@
 //! The tops that failures leave.
-ghost use Rattle.std.specs.Prelude.{◌≡◌, IfOk};
+ghost use Rattle.std.specs.Prelude.{IfOk};
 ghost use Rattle.policy_base.specs.Policies.{PlainStatement};
 ghost use Rattle.outcome_base.specs.Outcomes.{Failures, no_failures};
 ghost use Rattle.evidence_law.specs.Passes.{IsCaseGraph};

@@ -20,7 +20,6 @@ use Rattle.scenario_reader.specs.Spelled.{spelled as scenario_spelled}
 use Rattle.stable_paths.specs.declared.outcome.Outcome.{Outcome}
 use Rattle.event_reader.specs.declared.events.Events.{Events}
 use Rattle.event_reader.specs.declared.fault.EventsFault.{EventsFault}
-use Rattle.event_reader.specs.Spelled.{spelled as events_spelled}
 use Rattle.table_reader.specs.declared.fault.TablesFault.{TablesFault}
 use Rattle.table_reader.specs.Spelled.{spelled as tables_spelled}
 use Rattle.route_maps.specs.Maps.{PlainMaps}

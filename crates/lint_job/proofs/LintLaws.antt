@@ -1,6 +1,5 @@
 -- The job that lints.
-use Rattle.std.proofs.Common.{◌≡◌, ◌≢◌, ℕ, List, [], ◌∷◌, refl, sym, ap, subst, ◌∙◌, inl, inr}
-use Rattle.std.specs.Prelude.{◌⊎◌}
+use Rattle.std.proofs.Common.{◌≡◌, ◌≢◌, ℕ, List, [], ◌∷◌, refl, sym, ap, ◌∙◌, inl, inr}
 use Rattle.net_base.specs.Network.{PlainNet}
 use Rattle.policy_base.specs.Policies.{PlainPolicy}
 use Rattle.run_base.specs.declared.outcome.Status.TheVariants.{BadInput, Done, Refused}
@@ -17,7 +16,7 @@ use Rattle.case_ranks.specs.Limits.{AreAllWithin, compile_refusal}
 use Rattle.case_ranks.proofs.Within.{not_refused, one_refusal}
 use Rattle.policy_lint.proofs.Whole.{one_list}
 use Rattle.lint_job.specs.Lines.{lint_text}
-use Rattle.lint_job.specs.Linted.{IsLinted, IsRefusedFor, SaysOfPolicy, SaysOfTexts, SaysRefusal}
+use Rattle.lint_job.specs.Linted.{IsRefusedFor, SaysOfPolicy, SaysOfTexts}
 
 -- ---- the form of what is said
 

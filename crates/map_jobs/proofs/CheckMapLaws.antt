@@ -1,5 +1,5 @@
 -- The job that holds maps against a configuration.
-use Rattle.std.proofs.Common.{◌≡◌, ◌≢◌, ℕ, ◌≤◌, List, [], ◌∷◌, Ok, inl, inr, refl, sym, ◌∙◌, arith}
+use Rattle.std.proofs.Common.{◌≡◌, ◌≢◌, ℕ, List, [], ◌∷◌, Ok, inl, inr, refl, sym, ◌∙◌, arith}
 use Rattle.config_base.specs.Configs.{PlainConfig}
 use Rattle.config_reader.specs.Text.{spelled as config_spelled_by}
 use Rattle.run_base.specs.declared.outcome.Status.TheVariants.{BadInput}

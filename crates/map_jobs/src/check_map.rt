@@ -1,9 +1,5 @@
 //! The command `checkmap`.
-ghost use Rattle.std.specs.Prelude.{◌≡◌, ◌<◌, length};
-ghost use Rattle.route_maps.specs.OfConfig.{maps_of};
-ghost use Rattle.maps_made.specs.Counts.{line_count};
-ghost use Rattle.route_map_text.specs.MapsLines.{maps_text};
-ghost use Rattle.route_map_text.specs.MapsSpelled.{Spells};
+ghost use Rattle.std.specs.Prelude.{◌<◌, length};
 ghost use Rattle.run_base.specs.Said.{IsGiven, said};
 ghost use Rattle.map_jobs.specs.MapsJobs.{SaysOfBoth, SaysOfBytes, SaysOfPair};
 

@@ -1,5 +1,5 @@
 //! How many lines the text of maps has.
-ghost use Rattle.std.specs.Prelude.{◌≡◌, ◌+◌, length, min, sum_by};
+ghost use Rattle.std.specs.Prelude.{◌≡◌, min, sum_by};
 ghost use Rattle.maps_made.specs.Counts.{lines_of_session, lines_of_router};
 ghost use Rattle.maps_made.specs.Earlier.{top};
 

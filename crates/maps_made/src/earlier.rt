@@ -1,8 +1,8 @@
 //! Patterns of earlier classes, kept in blocks that are in order of their keys.
-ghost use Rattle.std.specs.Prelude.{◌≡◌, ◌≤◌, ◌+◌, ◌-◌, ◌++◌, take, drop, ◌||◌, ◌&&◌, ◌==◌, ℕ, IfOk, length, map, min, count_by, filter};
+ghost use Rattle.std.specs.Prelude.{◌≡◌, ◌≤◌, ◌+◌, ◌-◌, ◌++◌, take, drop, ◌||◌, ◌&&◌, ℕ, IfOk, length, min, count_by, filter};
 ghost use Rattle.std.specs.List.{list_any, AllByRecursion};
 ghost use Rattle.net_base.specs.Prefixes.{IsPattern};
-ghost use Rattle.maps_made.specs.Keys.{key as key_of, in_span, in_some, has, AreApart};
+ghost use Rattle.maps_made.specs.Keys.{in_span, in_some, has, AreApart};
 ghost use Rattle.maps_made.specs.Earlier.{IsInOrder, top, is_at, HaveEntries, entries_in, entries_from};
 
 use crate::spans::{Span, key};

@@ -1,5 +1,5 @@
 //! The lists of a configuration's classes.
-ghost use Rattle.std.specs.Prelude.{◌≡◌, ◌≤◌, ◌+◌, [], ◌∷◌, ◌++◌, true, false, IfOk, List, length, map, min, sum_by, filter};
+ghost use Rattle.std.specs.Prelude.{◌≡◌, ◌≤◌, ◌+◌, [], ◌∷◌, ◌++◌, true, IfOk, List, length, map, min, sum_by, filter};
 ghost use Rattle.std.specs.List.{AllByRecursion};
 ghost use Rattle.net_base.specs.Prefixes.{PlainPattern, IsPattern};
 ghost use Rattle.route_maps.specs.OfConfig.{line, list_for, lists_from, meets_some};

@@ -1,5 +1,5 @@
 //! The keys of patterns, and the spans of keys in which those that overlap a pattern stand.
-ghost use Rattle.std.specs.Prelude.{◌≡◌, ◌<◌, ◌≤◌, ◌||◌, ◌==◌, ◌-◌, ◌^◌, ℕ, IfOk, List, false, true};
+ghost use Rattle.std.specs.Prelude.{◌≡◌, ◌<◌, ◌≤◌, ◌||◌, ◌==◌, ◌-◌, ◌^◌, ℕ, IfOk, List, true};
 ghost use Rattle.std.specs.List.{list_any, AllByRecursion};
 ghost use Rattle.std.specs.List.Sorted.{IsNonDecreasingBy};
 ghost use Rattle.net_base.specs.Prefixes.{PlainPattern, IsPattern};

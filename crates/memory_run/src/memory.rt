@@ -1,5 +1,5 @@
 //! Two texts in memory, which are compiled.
-ghost use Rattle.std.specs.Prelude.{◌≡◌, ◌≤◌, ℕ, List, [], Some, IfOk, map, string_bytes};
+ghost use Rattle.std.specs.Prelude.{◌≡◌, ℕ, List, [], Some, IfOk, map, string_bytes};
 ghost use Rattle.net_base.specs.Network.{PlainNet};
 ghost use Rattle.policy_base.specs.Policies.{PlainPolicy};
 ghost use Rattle.case_core.specs.declared.refusal.CompileRefusal.{CompileRefusal};

@@ -1,5 +1,5 @@
 //! Networks.
-ghost use Rattle.std.specs.Prelude.{◌≡◌, ◌<◌, ◌+◌, IsTrue, length, slice_get, Some, None, option_map, if◌then◌else◌};
+ghost use Rattle.std.specs.Prelude.{◌≡◌, ◌<◌, ◌+◌, IsTrue, Some, None, option_map, if◌then◌else◌};
 ghost use Rattle.std.specs.List.{position};
 ghost use Rattle.net_base.specs.Network.{PlainNet, IsNet, Ascend, joins, linked, ordered as in_order, is_before, same_ends, is_peer, is_router, is_location, site_of};
 ghost use Rattle.net_base.specs.NetSets.{locations as all_locations, peers as all_peers};

@@ -1,7 +1,7 @@
 //! Addresses and prefixes as texts.
-ghost use Rattle.std.specs.Prelude.{◌≡◌, ◌<◌, ◌≤◌, ◌^◌, ◌∷◌, [], ◌==◌, length, IsTrue, option_map};
+ghost use Rattle.std.specs.Prelude.{◌≡◌, ◌<◌, ◌≤◌, ◌∷◌, [], ◌==◌, length, IsTrue, option_map};
 ghost use Rattle.std.specs.List.{position_or_len};
-ghost use Rattle.net_base.specs.Addresses.{cut_at, small_number, number_and_rest, Quad, quad_of, are_octets, bits_of, address_of};
+ghost use Rattle.net_base.specs.Addresses.{cut_at, small_number, number_and_rest, quad_of, are_octets, bits_of, address_of};
 ghost use Rattle.net_base.specs.Quads.{quad};
 ghost use Rattle.net_base.specs.PrefixText.{prefix_spelled, length_number};
 

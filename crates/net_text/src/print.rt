@@ -4,7 +4,7 @@ ghost use Rattle.serde_json.specs.Data.{Data};
 ghost use Rattle.serde_json.specs.Written.{comma_if, compact_text};
 ghost use Rattle.json_words.specs.Json.{array_of};
 ghost use Rattle.net_base.specs.NameRule.{is_name};
-ghost use Rattle.net_base.specs.Network.{IsLink, IsNet};
+ghost use Rattle.net_base.specs.Network.{IsLink};
 ghost use Rattle.net_text.specs.NetText.{HaveNames, link_data, net_text, site_data};
 ghost use Rattle.text_words.specs.Texts.{address_text};
 ghost use Rattle.topology.specs.Topology.{spelled};

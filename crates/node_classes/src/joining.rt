@@ -1,5 +1,5 @@
 //! The search for the classes of two nodes.
-ghost use Rattle.std.specs.Prelude.{◌≡◌, ◌≢◌, ◌+◌, ◌<◌, ◌≤◌, ◌++◌, [], ◌∷◌, ℕ, All, IfNone, IfOk, IfSome, MatchBool, OnOk, length};
+ghost use Rattle.std.specs.Prelude.{◌≡◌, ◌+◌, ◌<◌, ◌≤◌, ◌++◌, [], ◌∷◌, ℕ, All, IfNone, IfOk, IfSome, MatchBool, OnOk, length};
 ghost use Rattle.node_classes.specs.Classes.{AreApart, AreClasses, class_in};
 ghost use Rattle.node_classes.specs.Forest.{IsForest};
 ghost use Rattle.node_classes.specs.Stages.{AreWithin, Stage, targets, work};

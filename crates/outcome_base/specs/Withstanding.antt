@@ -1,5 +1,5 @@
 -- What peers can't do, whatever they announce.
-use Rattle.std.specs.Prelude.{◌≡◌, ℕ, ◌||◌, IsTrue, List, ◌∷◌, length, None, is_some, option_map}
+use Rattle.std.specs.Prelude.{◌≡◌, ℕ, ◌||◌, IsTrue, ◌∷◌, length, None, is_some, option_map}
 use Rattle.std.specs.Option.{is_none}
 use Rattle.net_base.specs.Network.{PlainNet, is_peer, is_router}
 use Rattle.net_base.specs.Prefixes.{PlainPrefix, IsPrefix}

@@ -1,5 +1,5 @@
 //! Inputs in memory that never fail.
-ghost use Rattle.std.specs.Prelude.{◌≡◌, ◌≢◌, Some, OnOk, OnErr, IfOk, IfSome, IsErrOf, ◌≤◌, ◌<◌, List, [], ℕ, length, ◌↔◌};
+ghost use Rattle.std.specs.Prelude.{◌≡◌, ◌≢◌, Some, OnOk, OnErr, IfOk, IsErrOf, ◌≤◌, ◌<◌, List, [], ℕ, length, ◌↔◌};
 
 use crate::inputs::{InputFail, Inputs, copied};
 use crate::no_memory::NoMemory;

@@ -1,6 +1,6 @@
 -- A table with one pattern more.
 use Rattle.std.proofs.Common.{◌≡◌, ℕ, suc, Bool, true, false, cond, List, [], ◌∷◌, ◌++◌, Option, Some, refl, ap, sym, ◌∙◌, arith}
-use Rattle.std.specs.Prelude.{◌&&◌, ◌==◌, max, unwrap_or, if◌then◌else◌}
+use Rattle.std.specs.Prelude.{◌==◌, max, unwrap_or, if◌then◌else◌}
 use Rattle.std.proofs.lemmas.Bool.{eqb-true, and_parts}
 use Rattle.net_base.specs.Prefixes.{PlainPrefix, PlainPattern, same_prefix}
 use Rattle.pattern_cover.specs.Covered.{exact_at}

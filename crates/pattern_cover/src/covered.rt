@@ -1,5 +1,5 @@
 //! Whether every prefix of a pattern is in one of several patterns.
-ghost use Rattle.std.specs.Prelude.{◌≡◌, ◌↔◌, IsTrue, ◌≤◌, ◌-◌, ◌+◌, ◌^◌, suc, max, if◌then◌else◌};
+ghost use Rattle.std.specs.Prelude.{◌≡◌, ◌↔◌, IsTrue, ◌≤◌, ◌-◌, ◌+◌, suc, max, if◌then◌else◌};
 ghost use Rattle.net_base.specs.Prefixes.{is_inside};
 ghost use Rattle.pattern_cover.specs.Covered.{IsCovered, covered, covered_below, depth_at, low_half, high_half};
 

@@ -1,10 +1,9 @@
 //! Patterns by their bases.
 ghost use Rattle.std.specs.Prelude.{◌≡◌, ◌≤◌, ◌+◌, ◌↔◌, unwrap_or, IsTrue, List as Items, [], ◌∷◌, ◌++◌, IfOk, OnOk};
-ghost use Rattle.std.specs.List.{AllByRecursion};
 ghost use Rattle.indexmap.specs.IndexMap.{get};
 ghost use Rattle.net_base.specs.Prefixes.{PlainPattern, IsPattern, same_prefix};
 ghost use Rattle.pattern_cover.specs.Covered.{AreCovered, IsCovered, covered, covered_below, depth_at};
-ghost use Rattle.pattern_cover.specs.Tables.{AreEnds, Holds, cut_at};
+ghost use Rattle.pattern_cover.specs.Tables.{Holds, cut_at};
 
 use crate::covered::{high, low};
 use indexmap::IndexMap;

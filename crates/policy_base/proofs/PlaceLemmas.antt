@@ -1,11 +1,11 @@
 -- The places of a list, as code reads them.
-use Rattle.std.proofs.Common.{◌≡◌, ◌≢◌, ℕ, zero, suc, ◌+◌, ◌-◌, ◌<◌, ◌≤◌, Bool, true, false, ◌&&◌, ◌||◌, List, [], ◌∷◌, length, take, drop, get_or, drop-cons, refl, sym, ap, ◌∙◌, arith}
-use Rattle.std.specs.Prelude.{Option, Some, None, slice_get}
+use Rattle.std.proofs.Common.{◌≡◌, ◌≢◌, ℕ, zero, suc, ◌-◌, ◌≤◌, Bool, true, false, ◌&&◌, ◌||◌, List, [], ◌∷◌, length, take, refl, sym, ap, ◌∙◌, arith}
+use Rattle.std.specs.Prelude.{Some, slice_get}
 use Rattle.std.proofs.Math.Bool.{and-false}
 use Rattle.net_base.specs.declared.loc.LocSet.{LocSet}
 use Rattle.net_base.specs.Network.{PlainNet, linked}
 use Rattle.net_base.specs.Sets.{holds}
-use Rattle.policy_base.specs.Meaning.{at_first, at_last, front, some_step, each_in}
+use Rattle.policy_base.specs.Meaning.{at_last, front, some_step, each_in}
 use Rattle.policy_base.specs.Walks.{steps_linked}
 
 take-front_by : (x : ℕ) (xs : List ℕ) → take (length xs) (x ∷ xs) ≡ front (x ∷ xs)

@@ -4,11 +4,10 @@ use Rattle.std.proofs.lemmas.List.{length-map, nil_from_length}
 use Rattle.std.proofs.Math.Nat.{suc-mul, zero-mul}
 use Rattle.std.specs.Prelude.{Option, Some, None, option_map, option_and_then, if◌then◌else◌}
 use Rattle.std.specs.Option.{ForSome, option_or}
-use Rattle.std.specs.List.{list_any, flat_map}
 use Rattle.std.proofs.lemmas.Bool.{cases_Bool}
 use Rattle.net_base.specs.Network.{PlainNet}
 use Rattle.policy_base.specs.Policies.{Ranking, call, calls, prefer, either, both, negated}
-use Rattle.policy_base.specs.Meaning.{PathTest, some_test, both_tests, place_of, alternatives, alternative_count, rank_of}
+use Rattle.policy_base.specs.Meaning.{PathTest, both_tests, place_of, alternatives, alternative_count, rank_of}
 use Rattle.policy_base.proofs.RankLemmas.{pairs}
 
 here : (p : PathTest) (ps : List PathTest) (path : List ℕ) (k : ℕ) → p path ≡ true → place_of (p ∷ ps) path k ≡ Some k

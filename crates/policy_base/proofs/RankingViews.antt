@@ -1,5 +1,5 @@
 -- The expression of each value.
-use Rattle.std.proofs.Common.{◌≡◌, ℕ, ◌+◌, ◌*◌, ◌<◌, ◌≤◌, ◌≢◌, ◌^◌, ◌-◌, min, arith, List, map, Box, Global, Bool, ◌&&◌, ◌⊎◌, inl, inr, ap, ◌∙◌, rules}
+use Rattle.std.proofs.Common.{◌≡◌, ℕ, ◌+◌, ◌*◌, ◌≤◌, ◌≢◌, ◌^◌, ◌-◌, min, arith, List, map, Box, Global, ◌&&◌, ◌⊎◌, inl, inr, ap, ◌∙◌, rules}
 use Rattle.std.specs.Prelude.{None, option_map, option_and_then}
 use Rattle.std.specs.Option.{option_or}
 use Rattle.net_base.specs.Network.{PlainNet}
@@ -8,7 +8,7 @@ use Rattle.policy_base.specs.declared.call.SetCall.{SetCall}
 use Rattle.policy_base.specs.declared.call.Call.{Call}
 use Rattle.policy_base.specs.declared.call.Call.TheVariants.{Of}
 use Rattle.policy_base.specs.declared.ranked.Ranked.{Ranked, Call as OneCall, Calls, Prefer, Or, And, Not, the_lemmas}
-use Rattle.policy_base.specs.Policies.{Ranking, call, calls, prefer, either, both, negated, ranking_of}
+use Rattle.policy_base.specs.Policies.{call, calls, prefer, either, both, negated, ranking_of}
 use Rattle.policy_base.specs.Meaning.{alternatives, alternative_count, some_test, place_of}
 use Rattle.policy_base.proofs.RankLemmas.{some_test-pairs}
 use Rattle.policy_base.proofs.RankPlaces.{place_of-append, place_of-pairs, length-alternatives, place_of_none}

@@ -1,6 +1,6 @@
 -- Policies without where they lie in memory.
-use Rattle.std.specs.Prelude.{◌≡◌, ℕ, ◌≤◌, IsTrue, List, length, map, sum_by, zero, suc, Option, None, slice_get}
-use Rattle.std.specs.List.{AllByRecursion, IsDistinct}
+use Rattle.std.specs.Prelude.{ℕ, ◌≤◌, IsTrue, List, length, map, sum_by, zero, suc, Option, None, slice_get}
+use Rattle.std.specs.List.{IsDistinct}
 use Rattle.list_laws.specs.Members.{IsIn}
 use Rattle.policy_base.specs.declared.limits.TheConstants.{STATEMENTS, PATTERNS, PREFIXES, ORIGINS}
 use Rattle.net_base.specs.Network.{PlainNet, is_router}

@@ -5,7 +5,7 @@ ghost use Rattle.indexmap.specs.IndexSet.{contains};
 ghost use Rattle.net_base.specs.Prefixes.{PlainPrefix, same_prefix};
 ghost use Rattle.policy_base.specs.Policies.{PlainPolicy, policy_of, plain_statement};
 ghost use Rattle.policy_base.specs.Governing.{originated_at};
-ghost use Rattle.policy_base.specs.Cases.{with_prefix, with_governed, originated_cases, is_originated as is_originated_by, external_case, external_cases, case_list};
+ghost use Rattle.policy_base.specs.Cases.{with_prefix, originated_cases, is_originated as is_originated_by, external_case, external_cases, case_list};
 ghost use Rattle.policy_base.specs.CaseIndex.{kind_of, AreOriginated};
 
 use crate::case::{Case, CaseList};

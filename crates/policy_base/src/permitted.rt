@@ -3,7 +3,7 @@ ghost use Rattle.std.specs.Prelude.{◌≡◌, ◌≤◌};
 ghost use Rattle.std.specs.List.{list_any};
 ghost use Rattle.policy_base.specs.declared.limits.TheConstants.{ALTERNATIVES};
 ghost use Rattle.policy_base.specs.Policies.{policy_of, plain_statement, ranking_of};
-ghost use Rattle.policy_base.specs.Meaning.{at_first, at_last, front as front_of, alternative_count};
+ghost use Rattle.policy_base.specs.Meaning.{at_first, at_last, alternative_count};
 ghost use Rattle.policy_base.specs.Governing.{is_origin as origin};
 ghost use Rattle.policy_base.specs.Permitted.{from_holds, is_case_walk as case_walk, is_permitted as permitted, is_allowed as allowed};
 

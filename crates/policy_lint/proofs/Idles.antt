@@ -1,8 +1,8 @@
 -- Which statements have a case.
-use Rattle.std.proofs.Common.{◌≡◌, ℕ, suc, ◌+◌, Bool, true, false, List, Some, refl, sym, ap, ◌∙◌, arith}
-use Rattle.std.specs.Prelude.{◌↔◌, ◌==◌, IsTrue, not, slice_get}
+use Rattle.std.proofs.Common.{◌≡◌, ℕ, suc, Bool, true, false, Some, sym, ap, ◌∙◌, arith}
+use Rattle.std.specs.Prelude.{◌↔◌, ◌==◌, IsTrue, not}
 use Rattle.std.specs.List.{list_any}
-use Rattle.std.proofs.lemmas.Bool.{eq-eqb, eqb-true, false≢true, not-true, not_from_false, true≢false, false_from_ne_true}
+use Rattle.std.proofs.lemmas.Bool.{eq-eqb, eqb-true, not-true, not_from_false, true≢false, false_from_ne_true}
 use Rattle.list_laws.proofs.Members.{list_any-from_IsIn, list_any_member}
 use Rattle.net_base.specs.Network.{PlainNet}
 use Rattle.policy_base.specs.declared.case.Case.{Case}

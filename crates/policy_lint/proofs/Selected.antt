@@ -1,6 +1,6 @@
 -- Those of a list of which something holds.
-use Rattle.std.proofs.Common.{◌≡◌, ℕ, Bool, true, false, List, [], ◌∷◌, ◌++◌, map, refl, sym, ap, subst, ◌∙◌, inl, inr, cond}
-use Rattle.std.specs.Prelude.{◌↔◌, ◌⊎◌, IsTrue, filter}
+use Rattle.std.proofs.Common.{◌≡◌, Bool, true, false, List, [], ◌∷◌, ◌++◌, map, refl, sym, ap, subst, ◌∙◌, inl, inr, cond}
+use Rattle.std.specs.Prelude.{◌↔◌, IsTrue, filter}
 use Rattle.std.proofs.lemmas.Bool.{false≢true}
 use Rattle.list_laws.specs.Members.{IsIn}
 use Rattle.list_laws.proofs.Members.{IsIn-later}

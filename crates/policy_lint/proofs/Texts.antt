@@ -1,7 +1,6 @@
 -- The text of a policy has tokens.
-use Rattle.std.proofs.Common.{◌≡◌, ℕ, List, Result, Ok, Err, refl, sym, ◌∙◌}
-use Rattle.std.specs.Prelude.{◌≢◌}
-use Rattle.net_base.proofs.StepLemmas.{bind_ok, ok_not_err}
+use Rattle.std.proofs.Common.{◌≡◌, ℕ, List, Ok}
+use Rattle.net_base.proofs.StepLemmas.{bind_ok}
 use Rattle.net_base.specs.Network.{PlainNet}
 use Rattle.policy_base.specs.Policies.{PlainPolicy}
 use Rattle.policy_parser.proofs.FittingPolicies.{is_built}

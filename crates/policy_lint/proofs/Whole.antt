@@ -19,7 +19,7 @@ use Rattle.case_ranks.proofs.Within.{few_alternatives}
 use Rattle.pattern_cover.specs.Statements.{AreMarked}
 use Rattle.policy_lint.specs.declared.finding.Finding.{Finding}
 use Rattle.policy_lint.specs.declared.finding.Finding.TheVariants.{UnusedGroup, Covered, Idle, Unreached}
-use Rattle.policy_lint.specs.Findings.{AreFindings, IsFinding, IsIdle, alternatives_from, all_parts, numbers}
+use Rattle.policy_lint.specs.Findings.{AreFindings, IsFinding, alternatives_from, all_parts, numbers}
 use Rattle.policy_lint.specs.Groups.{group_names, is_unused}
 use Rattle.policy_lint.specs.Selected.{AreThose}
 use Rattle.policy_lint.specs.Told.{marked, told_covered, told_from, told_idle, told_unreached}

@@ -1,5 +1,5 @@
 -- What is told of statements and alternatives, by marks.
-use Rattle.std.specs.Prelude.{ℕ, ◌+◌, ◌-◌, Bool, false, not, List, [], ◌∷◌, ◌++◌, length, map, filter, slice_index_or, if◌then◌else◌}
+use Rattle.std.specs.Prelude.{ℕ, ◌+◌, ◌-◌, Bool, false, not, List, [], ◌∷◌, ◌++◌, map, filter, slice_index_or, if◌then◌else◌}
 use Rattle.policy_base.specs.Meaning.{alternative_count}
 use Rattle.policy_base.specs.Policies.{PlainStatement}
 use Rattle.bit_rows.specs.Tables.{PlainRows, has_at}

@@ -1,6 +1,6 @@
 //! What figures spell.
 ghost use Rattle.std.specs.Prelude.{◌≡◌};
-ghost use Rattle.policy_grammar.specs.Raw.{RawPattern, RawPattern as raw};
+ghost use Rattle.policy_grammar.specs.Raw.{RawPattern as raw};
 ghost use Rattle.policy_rules.specs.Figures.{prefix_at as prefix_there, upto_at as upto_there, pattern_at as pattern_there};
 
 use net_base::{Pattern, Prefix, read_length, read_prefix};

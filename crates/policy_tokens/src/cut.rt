@@ -1,7 +1,6 @@
 //! Cutting a text into tokens.
 ghost use Rattle.std.specs.Prelude.{◌≡◌, ◌<◌, length};
 ghost use Rattle.std.specs.Str.{is_utf8};
-ghost use Rattle.policy_tokens.specs.Ahead.{behind_token, IsToken};
 ghost use Rattle.net_base.specs.Gives.{GivesUnless};
 ghost use Rattle.policy_tokens.specs.declared.fault.PolicyFault.TheVariants.{NoMemory};
 ghost use Rattle.policy_tokens.specs.Places.{first_place};

@@ -1,5 +1,5 @@
 //! Searches that mark what they come to with a number.
-ghost use Rattle.std.specs.Prelude.{◌≡◌, ◌==◌, ◌<◌, ◌≤◌, All, ℕ, [], None, IfOk, IsTrue, OnOk, length, replicate, vec_len};
+ghost use Rattle.std.specs.Prelude.{◌≡◌, ◌==◌, ◌<◌, All, ℕ, [], None, IfOk, IsTrue, OnOk, length, replicate, vec_len};
 ghost use Rattle.reach_prune.specs.Searches.{AreLists};
 ghost use Rattle.preference_check.specs.Rows.{has_upto};
 
@@ -15,7 +15,7 @@ pub struct Flood {
 
 impl Flood {
     ghost use Rattle.reach_prune.specs.Searches.{is_among};
-    ghost use Rattle.preference_check.specs.Floods.{IsSettled, Marks, has_mark};
+    ghost use Rattle.preference_check.specs.Floods.{IsSettled, Marks};
 
     /// Nothing among so many nodes has a mark.
     pub fn new(alloc: Global, size: usize) -> Result<Flood, AllocError>

@@ -1,5 +1,5 @@
 //! Rows of least numbers.
-ghost use Rattle.std.specs.Prelude.{◌≡◌, ◌↔◌, ◌||◌, ◌&&◌, ◌==◌, ◌<◌, ℕ, IsSome, None, Some, true, false, nat_le, IfOk, OnOk, IsTrue, slice_index_or, vec_len};
+ghost use Rattle.std.specs.Prelude.{◌≡◌, ◌↔◌, ◌||◌, ◌&&◌, ◌==◌, ◌<◌, ℕ, IsSome, None, Some, true, false, nat_le, OnOk, IsTrue, slice_index_or, vec_len};
 ghost use Rattle.std.specs.List.{list_any};
 ghost use Rattle.preference_check.specs.Rows.{has_upto, is_upto};
 

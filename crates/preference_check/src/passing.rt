@@ -1,6 +1,5 @@
 //! The nodes that offer at least as well as each node over which they stand.
-ghost use Rattle.std.specs.Prelude.{◌≡◌, ◌⊎◌, ◌<◌, ◌≤◌, All, ℕ, true, IfOk, OnOk, IsTrue, length};
-ghost use Rattle.graph_base.specs.Rules.{IsOver};
+ghost use Rattle.std.specs.Prelude.{◌≡◌, ◌⊎◌, ◌<◌, ◌≤◌, All, ℕ, true, IfOk, IsTrue, length};
 ghost use Rattle.reach_prune.specs.Searches.{is_marked};
 ghost use Rattle.graph_base.specs.Preferences.{number_in};
 ghost use Rattle.preference_check.specs.Offers.{KeepsOffers, is_offered};

@@ -1,5 +1,5 @@
 //! The nodes of each router in ascending order of number.
-ghost use Rattle.std.specs.Prelude.{◌≡◌, ◌&&◌, ◌<◌, ℕ, [], nat_lt, IfOk, length, replicate, slice_index_or};
+ghost use Rattle.std.specs.Prelude.{◌≡◌, ◌<◌, ℕ, [], IfOk, length, replicate, slice_index_or};
 ghost use Rattle.graph_base.specs.Preferences.{number_in};
 ghost use Rattle.preference_check.specs.Runs.{IsAscending, has_node, is_node_at};
 

@@ -5,7 +5,7 @@ ghost use Rattle.evidence_base.specs.Made.{patterns_of};
 ghost use Rattle.net_base.specs.Locations.{in_order, numbers_below};
 ghost use Rattle.net_base.specs.Prefixes.{only};
 ghost use Rattle.policy_base.specs.Policies.{policy_of};
-ghost use Rattle.promises_report.specs.Places.{places_of as places_in, sessions_of};
+ghost use Rattle.promises_report.specs.Places.{sessions_of};
 ghost use Rattle.promises_report.specs.Telling.{promises_in};
 ghost use Rattle.promises_text.specs.Texts.{
   case_lines,

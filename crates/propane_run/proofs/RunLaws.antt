@@ -4,7 +4,7 @@ use Rattle.propane_run.specs.declared.command.Command.{Command}
 use Rattle.propane_run.specs.declared.command.Command.TheVariants.{Compile}
 use Rattle.run_base.specs.declared.outcome.Status.{Status}
 use Rattle.run_base.specs.declared.outcome.Status.TheVariants.{Done, Refused, Usage, BadInput, ReadFault, WriteFault, NoMemory, CheckFails}
-use Rattle.run_base.specs.Said.{Said, text, line, failing, no_memory, Whole, Part, Delivered}
+use Rattle.run_base.specs.Said.{Said, text, no_memory, Whole, Part, Delivered}
 use Rattle.propane_run.specs.Words.{words_are, names_read, usage}
 use Rattle.run_base.specs.Reading.{Holds, IsAmong, unread, SaidOfTold}
 use Rattle.propane_run.specs.Clauses.{FaultFound, ReadsSmoothly}

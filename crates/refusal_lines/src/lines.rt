@@ -1,6 +1,5 @@
 //! What is said of a policy that is refused.
 ghost use Rattle.std.specs.Prelude.{◌≡◌, ◌++◌, ◌<◌, OnOk, IfOk, codes, length};
-ghost use Rattle.std.specs.List.{flat_map};
 ghost use Rattle.graph_base.specs.Walks.{IsEnteredFromBefore};
 ghost use Rattle.config_made.specs.Writing.{name_of};
 ghost use Rattle.refusal_lines.specs.RefusalLines.{case_text, router_text, next_name, walk_text, walks_text, shown_text, pair_text, refusal_values, refusal_text, refusal_line as line_of, IsShowable};

@@ -2,9 +2,7 @@
 use Rattle.std.proofs.Common.{◌≡◌, ℕ, ◌<◌, true, false, ◌∷◌, length, Option, Some, None, refl, sym, ap, ◌∙◌, inl, inr, arith}
 use Rattle.std.specs.Prelude.{suc, option_map}
 use Rattle.std.specs.Option.{option_and_then}
-use Rattle.std.specs.Str.{bytes_eq}
-use Rattle.std.proofs.lemmas.Slice.Eq.{bytes_eq-Decides}
-use Rattle.std.proofs.lemmas.Bool.{and_from, cases_Bool, eq-eqb, cond-true, cond-false}
+use Rattle.std.proofs.lemmas.Bool.{cases_Bool, cond-true, cond-false}
 use Rattle.net_base.specs.Network.{PlainNet, IsNet, linked}
 use Rattle.net_base.specs.Prefixes.{PlainPrefix}
 use Rattle.policy_base.specs.Policies.{PlainPolicy}
@@ -13,10 +11,9 @@ use Rattle.net_base.specs.Locations.{neighbours}
 use Rattle.net_base.proofs.Links.{linked_flips}
 use Rattle.config_base.specs.declared.route.Route.{Route}
 use Rattle.config_base.specs.Configs.{PlainConfig}
-use Rattle.config_base.specs.Lines.{class_of, export_of, import_of, own_route, same_tag}
-use Rattle.config_base.proofs.SameTags.{is-same_tag}
+use Rattle.config_base.specs.Lines.{class_of, export_of, import_of, own_route}
 use Rattle.list_laws.proofs.Options.{option_and_then_parts, option_map_parts, option_and_then-never}
-use Rattle.event_base.specs.Speaking.{chosen_by, exported_by, extended, first_of, message, same_message, speakers_of, taken_by}
+use Rattle.event_base.specs.Speaking.{chosen_by, exported_by, extended, first_of, message, speakers_of, taken_by}
 use Rattle.event_law.proofs.Messages.{same_as_itself}
 use Rattle.rounds_law.specs.Orders.{AreChoosers}
 use Rattle.world_law.proofs.First.{NoLater, first_covers}

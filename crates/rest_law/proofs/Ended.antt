@@ -43,7 +43,7 @@ use Rattle.world_law.proofs.Waiting.{peers_hear_offers, quiet_worlds_are_settled
 use Rattle.world_law.proofs.First.{NoLater}
 use Rattle.rest_law.proofs.Choosers.{are_choosers}
 use Rattle.rest_law.proofs.Ending.{HasOrder, messages_end_on_networks, run_on}
-use Rattle.rest_law.specs.Rest.{ComesToRest, IsAtRest, PassingEvidenceComesToRest, rounds_enough}
+use Rattle.rest_law.specs.Rest.{IsAtRest, PassingEvidenceComesToRest, rounds_enough}
 use Rattle.rest_law.specs.Ways.{each_way}
 use Rattle.rest_law.proofs.OfGraph.{are_of_graph, route_of, setup}
 

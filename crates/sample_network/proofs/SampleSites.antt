@@ -1,10 +1,10 @@
 -- Names, AS numbers and identifiers of the sample differ, and are in their ranges.
-use Rattle.std.proofs.Common.{◌≡◌, ℕ, ◌+◌, ◌*◌, ◌≤◌, ◌<◌, ◌^◌, Bool, true, false, ◌++◌, map, refl, sym, ap₂, ◌∙◌, arith, subst}
-use Rattle.std.specs.Prelude.{◌≢◌, ◌&&◌, IsTrue, codes, nat_eq, nat_le}
+use Rattle.std.proofs.Common.{◌≡◌, ℕ, ◌+◌, ◌*◌, ◌≤◌, ◌<◌, ◌^◌, Bool, false, ◌++◌, map, refl, sym, ap₂, ◌∙◌, arith, subst}
+use Rattle.std.specs.Prelude.{◌≢◌, IsTrue, codes, nat_eq}
 use Rattle.std.specs.Fmt.{decimal}
 use Rattle.std.specs.List.{AllByRecursion, IsDistinct}
 use Rattle.std.specs.Str.{bytes_eq}
-use Rattle.std.proofs.lemmas.Bool.{ne_eqb, le-leb}
+use Rattle.std.proofs.lemmas.Bool.{ne_eqb}
 use Rattle.std.proofs.lemmas.List.{map-append}
 use Rattle.list_laws.proofs.Changed.{map-map}
 use Rattle.list_laws.proofs.Each.{AllByRecursion-append}

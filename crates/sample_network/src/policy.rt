@@ -4,14 +4,12 @@ ghost use Rattle.net_base.specs.Locations.{numbers_below};
 ghost use Rattle.policy_base.specs.Policies.{plain_statement, policy_of, ranking_of};
 ghost use Rattle.sample_network.specs.Network.{IsSampleNumber};
 ghost use Rattle.sample_network.specs.SamplePolicy.{
-  all_prefixes,
   alone as set_of_one,
   inner_statement,
   leaf_origin,
   leaf_pattern,
   leaf_prefix as
       prefix_of_leaf,
-  leaves as leaf_set,
   no_transit as without_leaves,
   outer_statement,
   ranked_exits as exits,

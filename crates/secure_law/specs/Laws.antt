@@ -1,5 +1,5 @@
 -- The laws of partial settlements.
-use Rattle.std.specs.Prelude.{ℕ, ◌≡◌, ◌≤◌, ◌⊎◌, true, false, List, ◌∷◌, ◌++◌, length, Some}
+use Rattle.std.specs.Prelude.{ℕ, ◌≡◌, ◌⊎◌, true, false, List, ◌∷◌, ◌++◌, Some}
 use Rattle.routing_law.specs.Graph.{MeetsRules, WellFormed, run}
 use Rattle.routing_law.specs.Network.{NamesDiffer, stands_on, survives}
 use Rattle.routing_law.specs.Outcome.{FullyStable, NoLater, Route, Routes, Setup, heard}

@@ -7,12 +7,11 @@ use Rattle.std.proofs.lemmas.Bool.{and_parts, cases_Bool, eqb-true}
 use Rattle.list_laws.proofs.Options.{cases_Option, none_or_some}
 use Rattle.list_laws.proofs.Tests.{find_parts}
 use Rattle.net_base.specs.declared.loc.LocSet.{LocSet}
-use Rattle.net_base.specs.declared.numbers.Tag.{Tag}
 use Rattle.net_base.specs.Network.{PlainNet, IsNet, is_router}
 use Rattle.net_base.specs.Numbers.{no_tag}
 use Rattle.net_base.specs.Prefixes.{PlainPrefix, IsPrefix, same_prefix}
 use Rattle.net_base.specs.Sets.{holds}
-use Rattle.policy_base.specs.Governing.{is_origin, statement_of}
+use Rattle.policy_base.specs.Governing.{is_origin}
 use Rattle.policy_base.specs.Policies.{PlainPolicy, PlainStatement, IsPolicyOf}
 use Rattle.graph_base.specs.Runs.{is_start, place_of, start_at}
 use Rattle.graph_base.proofs.WellFormed.{start_at-of}

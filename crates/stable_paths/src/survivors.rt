@@ -1,5 +1,5 @@
 //! What failures leave of a network.
-ghost use Rattle.std.specs.Prelude.{◌≡◌, ℕ};
+ghost use Rattle.std.specs.Prelude.{◌≡◌};
 ghost use Rattle.net_base.specs.Network.{PlainNet};
 ghost use Rattle.net_base.specs.Sets.{holds};
 ghost use Rattle.outcome_base.specs.Outcomes.{Failures, is_dead as dead, is_live as live};

@@ -8,7 +8,6 @@ use Rattle.net_base.specs.Sets.{holds}
 use Rattle.policy_base.specs.Policies.{policy_of}
 use Rattle.policy_base.specs.Governing.{is_origin}
 use Rattle.config_base.specs.declared.route.Route.{Route}
-use Rattle.config_base.specs.Lines.{own_route}
 use Rattle.outcome_base.specs.Outcomes.{is_dead, Chooses}
 use Rattle.stable_paths.specs.Scenarios.{failures_of}
 use Rattle.stable_paths.specs.Situations.{AreChoices, IsSettledIn, given_in, held_in}

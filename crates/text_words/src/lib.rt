@@ -1,7 +1,7 @@
 //! How numbers, addresses and prefixes are written. Each `push_` function adds a text to the end of another.
 #![tactic(auto)]
 
-ghost use Rattle.std.specs.Prelude.{◌≡◌, ◌++◌, ◌^◌, ◌<◌, IsTrue, OnOk};
+ghost use Rattle.std.specs.Prelude.{◌≡◌, ◌++◌, ◌<◌, IsTrue, OnOk};
 ghost use Rattle.std.specs.Fmt.{decimal};
 ghost use Rattle.net_base.specs.NameRule.{is_name};
 ghost use Rattle.net_base.specs.Prefixes.{IsPrefix, IsPattern};

@@ -3,7 +3,7 @@ use Rattle.std.proofs.Common.{◌≡◌, ℕ, List, ◌≤◌, false, true, inl,
 use Rattle.std.proofs.lemmas.Bool.{cases_Bool, cases_lt, ltb-true}
 use Rattle.net_base.specs.Network.{PlainNet, IsNet, is_router}
 use Rattle.net_base.specs.Prefixes.{PlainPrefix}
-use Rattle.net_base.specs.Sets.{holds, set_of}
+use Rattle.net_base.specs.Sets.{set_of}
 use Rattle.net_base.proofs.SetOf.{holds-set_of, holds-set_of_past}
 use Rattle.policy_base.specs.Policies.{PlainPolicy}
 use Rattle.config_base.specs.Configs.{PlainConfig}

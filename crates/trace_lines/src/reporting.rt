@@ -2,7 +2,7 @@
 ghost use Rattle.std.specs.Prelude.{◌≡◌, ◌++◌, IfOk, OnOk};
 ghost use Rattle.config_base.specs.Configs.{PlainConfig};
 ghost use Rattle.policy_base.specs.Policies.{IsPolicyOf, policy_of};
-ghost use Rattle.event_state.specs.States.{setting, state};
+ghost use Rattle.event_state.specs.States.{state};
 ghost use Rattle.evidence_law.specs.Passes.{Passes};
 ghost use Rattle.trace_lines.specs.Lines.{quiet_line};
 ghost use Rattle.trace_lines.specs.Trace.{IsTrace};

@@ -3,7 +3,6 @@ ghost use Rattle.std.specs.Prelude.{◌≡◌, ℕ, ◌+◌, ◌<◌, ◌≤◌,
 ghost use Rattle.graph_base.specs.Graphs.{IsGraph};
 ghost use Rattle.node_classes.specs.Classes.{class_in};
 ghost use Rattle.walk_check.specs.Alike.{AreAlike, AreUnlike, IsSingleStepped};
-ghost use Rattle.walk_check.specs.WaysOf.{both_sizes};
 
 use crate::ways::both_ways;
 use graph_base::{Graph, MAX_NODES};

@@ -1,5 +1,5 @@
 //! Whether a graph is well formed, and whether each of its nodes can be reached.
-ghost use Rattle.std.specs.Prelude.{◌≡◌, ◌↔◌, ◌<◌, ℕ, Bool, IfOk, IsTrue, length};
+ghost use Rattle.std.specs.Prelude.{◌≡◌, ◌↔◌, ◌<◌, ℕ, IfOk, IsTrue, length};
 ghost use Rattle.net_base.specs.Network.{linked};
 ghost use Rattle.net_base.specs.Sets.{holds};
 ghost use Rattle.net_index.specs.Neighbours.{is_held};

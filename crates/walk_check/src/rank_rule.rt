@@ -9,7 +9,6 @@ ghost use Rattle.node_classes.specs.Classes.{class_in};
 ghost use Rattle.walk_check.specs.Alike.{AreAlike, IsSingleStepped};
 ghost use Rattle.walk_check.specs.Firsts.{IsFirstOrNone, IsMet};
 ghost use Rattle.walk_check.specs.PairRanks.{IsLeastUnlike, lesser_of};
-ghost use Rattle.walk_check.specs.WaysOf.{both_sizes};
 
 use crate::comparing::WalkClasses;
 use crate::ways::both_ways;

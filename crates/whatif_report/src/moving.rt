@@ -1,6 +1,5 @@
 //! Which routers a cut moves.
-ghost use Rattle.std.specs.Prelude.{◌≡◌, ◌↔◌, ℕ, false, not, ◌&&◌, IsTrue, option_map};
-ghost use Rattle.std.specs.List.{list_any};
+ghost use Rattle.std.specs.Prelude.{◌≡◌, false, ◌&&◌, IsTrue, option_map};
 ghost use Rattle.outcome_base.specs.Outcomes.{route_at};
 ghost use Rattle.stable_paths.specs.Tests.{same_route as is_same};
 ghost use Rattle.drain_law.specs.Uses.{IsOffRoutes};

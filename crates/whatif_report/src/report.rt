@@ -1,5 +1,5 @@
 //! What cuts besides a scenario's failures change and move.
-ghost use Rattle.std.specs.Prelude.{◌≡◌, IfOk};
+ghost use Rattle.std.specs.Prelude.{IfOk};
 ghost use Rattle.config_base.specs.Configs.{PlainConfig};
 ghost use Rattle.policy_base.specs.Policies.{IsPolicyOf, policy_of};
 ghost use Rattle.evidence_law.specs.Passes.{Passes};

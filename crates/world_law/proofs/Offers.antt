@@ -28,7 +28,7 @@ use Rattle.event_law.specs.Kinds.{AreKinds, IsKind}
 use Rattle.event_base.specs.World.{Speakers, World, live}
 use Rattle.event_law.specs.Kept as event
 use Rattle.event_base.specs.Steps.{IsQuiet, opening, run}
-use Rattle.event_law.specs.Kept.{AreSpeakers, IsKept}
+use Rattle.event_law.specs.Kept.{IsKept}
 use Rattle.event_law.proofs.Keeping.{opening-keeps, run-keeps}
 use Rattle.event_law.proofs.KindsKept.{opening-kinds, run-kinds}
 use Rattle.settled_law.proofs.SettledLaw.{CaseFound, case_or_bare}

@@ -1,5 +1,5 @@
 -- What a run of `lint` has written: the findings, or the limit that is passed.
-use Rattle.std.proofs.Common.{◌≡◌, ◌⊎◌, ℕ, List, Option, inl, inr, ◌∙◌}
+use Rattle.std.proofs.Common.{◌≡◌, ◌⊎◌, ℕ, List, Option, inl, inr}
 use Rattle.net_base.specs.Network.{PlainNet}
 use Rattle.outside.specs.Outside.{Rose}
 use Rattle.policy_base.specs.Policies.{PlainPolicy}

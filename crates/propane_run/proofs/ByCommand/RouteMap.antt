@@ -15,7 +15,6 @@ use Rattle.run_base.specs.Reading.{Holds, SaidOfTold}
 use Rattle.run_base.specs.Said.{Said, text, line, Whole, Delivered}
 use Rattle.run_base.proofs.Jobs.{err_is, out_is, status_is}
 use Rattle.run_base.proofs.Sent.{Gives, line_sent, text_sent}
-use Rattle.input_texts.specs.Asked.{SpellFor}
 use Rattle.input_texts.specs.Texts.{Alone}
 use Rattle.input_texts.proofs.Asking.{alone, net_of_spelled, policy_of_spelled, said_for, told_says}
 use Rattle.compile_jobs.specs.Compiled.{IsCompiled, IsRefusedFor}
@@ -31,7 +30,7 @@ use Rattle.map_jobs.proofs.RouteMapLaws.{said_of}
 use Rattle.propane_run.specs.declared.command.Command.{Command}
 use Rattle.propane_run.specs.declared.command.Command.TheVariants.{RouteMap}
 use Rattle.propane_run.specs.Asked.{AsksFor}
-use Rattle.propane_run.specs.Mapping.{AsksMapsOf, MapsRight, TellsTooMany}
+use Rattle.propane_run.specs.Mapping.{MapsRight, TellsTooMany}
 use Rattle.propane_run.specs.Refusing.{RefusesRight}
 use Rattle.propane_run.specs.Run.{Comes, Job}
 use Rattle.propane_run.specs.Words.{names_read}

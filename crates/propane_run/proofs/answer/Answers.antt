@@ -1,5 +1,5 @@
-use Rattle.std.proofs.Common.{◌≡◌, ℕ, List, map, string_bytes, subst, ◌∙◌}
-use Rattle.std.proofs.lemmas.Result.{err_from_is_err_and}
+use Rattle.std.proofs.Common.{◌≡◌, ℕ, List, map, string_bytes, subst}
+use Rattle.list_laws.proofs.Exits.{passed_on}
 use Rattle.run_base.specs.Reading.{AllHeld, RoseOf, names_at}
 use Rattle.run_base.specs.Said.{IsGiven, said}
 use Rattle.run_base.proofs.Readings.{all_read, nothing_follows}
@@ -12,8 +12,8 @@ returns-in_err-texts-clause-says g c =
     let rose = RoseOf (g.I.Inputs.faults c.args.inputs.now) (g.I.Inputs.faults c.read_all.new.inputs) in
     let names = names_read (map string_bytes c.args.words.now) c.args.command in
     let same : c.places.result.now ≡ places_of c.args.command = c.places.ensures in
-    let stop = err_from_is_err_and c.from_residual.result c.from_residual.ensures.1 in
-    rw (stop.1, stop.2) (nothing_follows (g.I.Inputs.holds c.args.inputs.now) rose _ names (λ bs. IsGiven (Job c.args.command bs)) (rw same at c.in_err-texts.ensures.read))
+    rw (passed_on c.from_residual.result c.from_residual.ensures.1)
+    (nothing_follows (g.I.Inputs.holds c.args.inputs.now) rose _ names (λ bs. IsGiven (Job c.args.command bs)) (rw same at c.in_err-texts.ensures.read))
 
 pub returns-clause-says : goal.returns-clause-says
 returns-clause-says g c =

@@ -1,7 +1,6 @@
-use Rattle.std.proofs.lemmas.Result.{err_from_is_err_and}
+use Rattle.list_laws.proofs.Exits.{passed_on}
 use Rattle.case_core.proofs.automata.new_automata.Goals as goal
 
 pub returns-in_err-ranked-clause-refused : goal.returns-in_err-ranked-clause-refused
 returns-in_err-ranked-clause-refused c = λ room case.
-    let p = err_from_is_err_and c.from_residual.result c.from_residual.ensures.1 in
-    rw (p.1, p.2) (c.in_err-ranked.ensures.refused room case)
+    rw (passed_on c.from_residual.result c.from_residual.ensures.1) (c.in_err-ranked.ensures.refused room case)

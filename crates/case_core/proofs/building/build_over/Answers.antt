@@ -1,5 +1,5 @@
 use Rattle.std.proofs.Common.{◌≡◌, ◌∙◌, Err, length, ap, arith, refl, sym}
-use Rattle.std.proofs.lemmas.Result.{err_from_is_err_and}
+use Rattle.list_laws.proofs.Exits.{passed_on}
 use Rattle.net_base.proofs.StepLemmas.{err_same}
 use Rattle.standings.specs.declared.fault.StandingsFault.{StandingsFault}
 use Rattle.standings.specs.declared.fault.StandingsFault.TheVariants.{TooMany, NoMemory}
@@ -19,13 +19,11 @@ not_steps NoMemory same = cc
 
 pub returns-in_err-given-clause-many_states : goal.returns-in_err-given-clause-many_states
 returns-in_err-given-clause-many_states c = λ es h is.
-    let p = err_from_is_err_and c.from_residual.result c.from_residual.ensures.1 in
-    c.in_err-given.ensures.many es h (ap (λ e. Err e) (too_many c.in_err-given.field-0.0 (sym p.2 ∙ err_same p.0 TooManyStates (sym p.1 ∙ is))))
+    c.in_err-given.ensures.many es h (ap (λ e. Err e) (too_many c.in_err-given.field-0.0 (err_same _ TooManyStates (sym (passed_on c.from_residual.result c.from_residual.ensures.1) ∙ is))))
 
 pub returns-in_err-given-clause-many_steps : goal.returns-in_err-given-clause-many_steps
 returns-in_err-given-clause-many_steps c = λ es h is.
-    let p = err_from_is_err_and c.from_residual.result c.from_residual.ensures.1 in
-    absurd (not_steps c.in_err-given.field-0.0 (sym p.2 ∙ err_same p.0 TooManySteps (sym p.1 ∙ is)))
+    absurd (not_steps c.in_err-given.field-0.0 (err_same _ TooManySteps (sym (passed_on c.from_residual.result c.from_residual.ensures.1) ∙ is)))
 
 pub returns-then-steps-room-clause-many_steps : goal.returns-then-steps-room-clause-many_steps
 returns-then-steps-room-clause-many_steps c = λ es h fault.

@@ -1,4 +1,4 @@
-use Rattle.std.proofs.lemmas.Result.{err_from_is_err_and}
+use Rattle.list_laws.proofs.Exits.{passed_on}
 use Rattle.case_core.specs.Refusals.{FitsCase, IsCause}
 use Rattle.case_core.specs.Sources.{HavePaths, NoneMixed}
 use Rattle.case_core.proofs.Places.{of_case, origins_fit}
@@ -18,8 +18,8 @@ returns-in_err-judged-clause-refused c =
     let net = c.args.net.now in
     let is = c.case_of.ensures.case net c.requires.cases in
     let made = c.in_ok-given.ensures.graph _ _ is in
-    let p = err_from_is_err_and c.from_residual-in_err-judged.result c.from_residual-in_err-judged.ensures.1 in
-    rw (p.1, p.2) (of_case is (λ t d. IsCause net c.args.number c.args.room t d c.in_err-judged.field-0.0) (c.in_err-judged.ensures.refused c.args.room made.0 made.1))
+    rw (passed_on c.from_residual-in_err-judged.result c.from_residual-in_err-judged.ensures.1)
+    (of_case is (λ t d. IsCause net c.args.number c.args.room t d c.in_err-judged.field-0.0) (c.in_err-judged.ensures.refused c.args.room made.0 made.1))
 
 pub returns-clause-fits : goal.returns-clause-fits
 returns-clause-fits c =

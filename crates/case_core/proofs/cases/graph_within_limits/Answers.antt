@@ -1,6 +1,6 @@
 use Rattle.std.proofs.Common.{◌-◌, length, length-set, Some, None, ap, arith, ◌∙◌}
 use Rattle.std.proofs.lemmas.List.{length-map}
-use Rattle.std.proofs.lemmas.Result.{err_from_is_err_and}
+use Rattle.list_laws.proofs.Exits.{passed_on}
 use Rattle.policy_base.specs.Policies.{plain_statement, policy_of}
 use Rattle.case_core.specs.Refusals.{IsCause, IsGraphOf}
 use Rattle.case_core.proofs.KeptPlaces.{set_fits, taken_fits}
@@ -34,8 +34,8 @@ returns-in_err-given-clause-kept c =
 pub returns-in_err-given-clause-refused : goal.returns-in_err-given-clause-refused
 returns-in_err-given-clause-refused c =
     let net = c.args.net.now in
-    let p = err_from_is_err_and c.from_residual.result c.from_residual.ensures.1 in
-    rw (p.1, p.2) (of_case (c.case_of.ensures.case net c.requires.cases) (λ t d. IsCause net c.args.number c.args.room t d c.in_err-given.field-0.0) c.in_err-given.ensures.refused)
+    rw (passed_on c.from_residual.result c.from_residual.ensures.1)
+    (of_case (c.case_of.ensures.case net c.requires.cases) (λ t d. IsCause net c.args.number c.args.room t d c.in_err-given.field-0.0) c.in_err-given.ensures.refused)
 
 pub returns-clause-graph : goal.returns-clause-graph
 returns-clause-graph c =

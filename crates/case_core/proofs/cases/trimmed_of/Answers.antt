@@ -1,5 +1,5 @@
 use Rattle.std.proofs.Common.{length, ap, arith, subst, sym}
-use Rattle.std.proofs.lemmas.Result.{err_from_is_err_and}
+use Rattle.list_laws.proofs.Exits.{passed_on}
 use Rattle.policy_base.specs.Policies.{plain_statement}
 use Rattle.case_core.specs.Automata.{IsAutomatonOf}
 use Rattle.case_core.proofs.cases.trimmed_of.Goals as goal
@@ -12,23 +12,19 @@ overflow_cast-used c = omega (arith, c.in_ok-given.ensures.built.steps, ap lengt
 
 pub returns-in_err-kept-clause-limits : goal.returns-in_err-kept-clause-limits
 returns-in_err-kept-clause-limits c =
-    let p = err_from_is_err_and c.from_residual.result c.from_residual.ensures.1 in
-    rw (p.1, p.2) c.in_err-kept.ensures.limits
+    rw (passed_on c.from_residual.result c.from_residual.ensures.1) c.in_err-kept.ensures.limits
 
 pub returns-in_err-kept-clause-refused : goal.returns-in_err-kept-clause-refused
 returns-in_err-kept-clause-refused c =
-    let p = err_from_is_err_and c.from_residual.result c.from_residual.ensures.1 in
-    rw (p.1, p.2) (c.in_err-kept.ensures.refused c.args.room c.args.case.now)
+    rw (passed_on c.from_residual.result c.from_residual.ensures.1) (c.in_err-kept.ensures.refused c.args.room c.args.case.now)
 
 pub returns-in_err-given-clause-limits : goal.returns-in_err-given-clause-limits
 returns-in_err-given-clause-limits c =
-    let p = err_from_is_err_and c.from_residual-in_err-given.result c.from_residual-in_err-given.ensures.1 in
-    rw (p.1, p.2) c.in_err-given.ensures.limits
+    rw (passed_on c.from_residual-in_err-given.result c.from_residual-in_err-given.ensures.1) c.in_err-given.ensures.limits
 
 pub returns-in_err-given-clause-refused : goal.returns-in_err-given-clause-refused
 returns-in_err-given-clause-refused c =
-    let p = err_from_is_err_and c.from_residual-in_err-given.result c.from_residual-in_err-given.ensures.1 in
-    rw (p.1, p.2) c.in_err-given.ensures.refused
+    rw (passed_on c.from_residual-in_err-given.result c.from_residual-in_err-given.ensures.1) c.in_err-given.ensures.refused
 
 pub returns-clause-graph : goal.returns-clause-graph
 returns-clause-graph c = (c.in_ok-given.given.0, record { within = c.in_ok-given.ensures.built; trimmed = c.in_ok-graph.ensures }, ap length c.steps.ensures.steps)

@@ -1,5 +1,5 @@
 use Rattle.std.proofs.Common.{[], length, ap, arith}
-use Rattle.std.proofs.lemmas.Result.{err_from_is_err_and}
+use Rattle.list_laws.proofs.Exits.{passed_on}
 use Rattle.net_base.specs.Sets.{holds}
 use Rattle.policy_base.specs.Policies.{policy_of}
 use Rattle.graph_base.proofs.WellFormed.{one_step}
@@ -24,8 +24,7 @@ numbered-requires c =
 pub returns-in_err-accepted-clause-refused : goal.returns-in_err-accepted-clause-refused
 returns-in_err-accepted-clause-refused c =
     let is = c.in_ok-given.ensures in
-    let p = err_from_is_err_and c.from_residual-in_err-accepted.result c.from_residual-in_err-accepted.ensures.1 in
-    rw (p.1, p.2) (λ s case at. c.in_err-accepted.ensures.refused c.args.room s case (record {
+    rw (passed_on c.from_residual-in_err-accepted.result c.from_residual-in_err-accepted.ensures.1) (λ s case at. c.in_err-accepted.ensures.refused c.args.room s case (record {
       trimmed = c.in_ok-given.given.graph;
       graph = is.graph s case at;
       fits = is.fits s case at;

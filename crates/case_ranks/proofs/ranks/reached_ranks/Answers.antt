@@ -2,7 +2,7 @@ use Rattle.std.proofs.Common.{rules, ◌≡◌, ◌+◌, ◌-◌, ◌<◌, lengt
 use Rattle.std.specs.Prelude.{◌&&◌, ◌||◌, ◌==◌, IfSome}
 use Rattle.std.specs.List.{AllByRecursion}
 use Rattle.std.proofs.lemmas.List.{length-map}
-use Rattle.std.proofs.lemmas.Result.{err_from_is_err_and}
+use Rattle.list_laws.proofs.Exits.{passed_on}
 use Rattle.policy_base.specs.declared.case.Case.{Case}
 use Rattle.policy_base.specs.Cases.{case_list}
 use Rattle.policy_base.specs.Policies.{plain_statement, policy_of}
@@ -21,8 +21,7 @@ returns-in_err-given-clause-refused c =
     let end : length c.as_slice-list.result.now ≡ length (case_list net policy) = ap length (c.as_slice-list.ensures ∙ c.requires.cases) in
     let why = refused_next net policy c.loop-place.place c.loop-place.room c.in_err-given.field-0.0 c.loop-place.invariant.gone
     (omega (arith, c.loop-place-test.true, end)) c.in_err-given.ensures.refused in
-    let p = err_from_is_err_and c.from_residual-in_err-given.result c.from_residual-in_err-given.ensures.1 in
-    rw (p.1, p.2) why
+    rw (passed_on c.from_residual-in_err-given.result c.from_residual-in_err-given.ensures.1) why
 
 pub loop-place-init : goal.loop-place-init
 loop-place-init c = record {

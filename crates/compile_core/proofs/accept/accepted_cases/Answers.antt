@@ -1,5 +1,5 @@
 use Rattle.std.proofs.Common.{rules, ◌≡◌, ◌+◌, ◌-◌, ◌∙◌, length, ap, arith, refl}
-use Rattle.std.proofs.lemmas.Result.{err_from_is_err_and}
+use Rattle.list_laws.proofs.Exits.{passed_on}
 use Rattle.policy_base.specs.Cases.{case_list}
 use Rattle.policy_base.specs.Policies.{policy_of}
 use Rattle.compile_core.proofs.OneByOne.{given_more, refused_next}
@@ -11,8 +11,7 @@ returns-in_err-given-clause-refused c =
     let why = refused_next c.args.net.now (policy_of c.args.policy.now) c.loop-place.place (c.loop-place.place + 1) c.loop-place.room
     c.loop-place.all.graphs.items c.loop-place.all.prefs.items c.in_err-given.field-0.0
     c.loop-place.invariant.given (omega (arith, c.loop-place-test.true, end)) refl c.in_err-given.ensures.refused in
-    let p = err_from_is_err_and c.from_residual-in_err-given.result c.from_residual-in_err-given.ensures.1 in
-    rw (p.1, p.2) why
+    rw (passed_on c.from_residual-in_err-given.result c.from_residual-in_err-given.ensures.1) why
 
 pub loop-place-init : goal.loop-place-init
 loop-place-init c = record {

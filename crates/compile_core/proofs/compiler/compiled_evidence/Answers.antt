@@ -2,7 +2,7 @@ use Rattle.std.proofs.Common.{ap, refl, subst, sym, ◌∙◌}
 use Rattle.policy_base.specs.Policies.{policy_of}
 use Rattle.tag_assign.specs.Tagging.{tags_of}
 use Rattle.compile_core.specs.Compiling.{IsEvidenceOfMade}
-use Rattle.compile_core.proofs.Whole.{each_kept, few_cases, few_tags, graph_each, is_evidence, prefs_each, tags_each}
+use Rattle.compile_core.proofs.Whole.{each_kept, few_cases, few_tags, is_evidence, tags_each}
 use Rattle.compile_core.proofs.compiler.compiled_evidence.Goals as goal
 
 pub accepted_cases-requires-clause-few : goal.accepted_cases-requires-clause-few

@@ -1,4 +1,4 @@
-use Rattle.std.proofs.Common.{◌≡◌, ℕ, List, inl, inr, sym, subst}
+use Rattle.std.proofs.Common.{ℕ, List, inl, inr, sym, subst}
 use Rattle.run_base.specs.Said.{said}
 use Rattle.route_map_text.specs.MapsSpelled.{Spells}
 use Rattle.map_jobs.proofs.MapJobLaws.{bytes_said}

@@ -1,4 +1,4 @@
-use Rattle.std.proofs.Common.{◌≡◌, ◌-◌, length, sym, ◌∙◌, rules, ap}
+use Rattle.std.proofs.Common.{◌≡◌, ◌-◌, length, sym, ◌∙◌, rules}
 use Rattle.std.specs.Prelude.{slice_get, Some}
 use Rattle.policy_base.proofs.PlaceLemmas.{at_last_some}
 use Rattle.policy_base.proofs.meaning.ends_at_peer.Goals as goal

@@ -1,4 +1,4 @@
-use Rattle.std.proofs.Common.{sym, ◌∙◌, rules, ap, take}
+use Rattle.std.proofs.Common.{◌∙◌, ap, take}
 use Rattle.policy_base.proofs.PlaceLemmas.{take-front}
 use Rattle.policy_base.proofs.meaning.front.Goals as goal
 

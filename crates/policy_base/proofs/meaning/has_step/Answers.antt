@@ -1,4 +1,4 @@
-use Rattle.std.proofs.Common.{◌≡◌, ℕ, ◌+◌, ◌-◌, ◌&&◌, drop, get_or, arith, ap, sym, ◌∙◌, false, length, length-drop}
+use Rattle.std.proofs.Common.{ℕ, ◌+◌, ◌-◌, ◌&&◌, drop, get_or, arith, ap, sym, ◌∙◌, false, length-drop}
 use Rattle.std.proofs.lemmas.List.{get_or_default}
 use Rattle.std.proofs.Math.Bool.{and-false}
 use Rattle.net_base.specs.Sets.{holds}

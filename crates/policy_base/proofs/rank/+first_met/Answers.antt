@@ -1,4 +1,4 @@
-use Rattle.std.proofs.Common.{◌≡◌, ◌≤◌, ◌⊎◌, inl, inr, sym, ap, ◌∙◌, refl, arith}
+use Rattle.std.proofs.Common.{◌≡◌, ◌≤◌, ◌⊎◌, inl, inr, sym, ◌∙◌, refl, arith}
 use Rattle.policy_base.specs.Policies.{ranking_of}
 use Rattle.policy_base.specs.Meaning.{alternative_count}
 use Rattle.policy_base.proofs.RankPlaces.{place_of-below}

@@ -1,4 +1,4 @@
-use Rattle.std.proofs.Common.{◌≡◌, sym, ap, ◌∙◌, arith}
+use Rattle.std.proofs.Common.{sym, ◌∙◌, arith}
 use Rattle.policy_base.specs.Policies.{ranking_of}
 use Rattle.policy_base.proofs.RankPlaces.{place_of-below, rank_some, rank_none}
 use Rattle.policy_base.proofs.rank.rank_of.Goals as goal

@@ -1,4 +1,4 @@
-use Rattle.std.proofs.Common.{◌≡◌, ◌-◌, drop, arith, sym, ◌∙◌, true, length-drop}
+use Rattle.std.proofs.Common.{◌-◌, drop, arith, sym, ◌∙◌, true, length-drop}
 use Rattle.net_base.specs.Network.{linked}
 use Rattle.policy_base.specs.Walks.{steps_linked}
 use Rattle.policy_base.proofs.PlaceLemmas.{steps_linked-next, steps_linked_short}

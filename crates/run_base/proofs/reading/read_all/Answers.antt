@@ -1,15 +1,14 @@
 use Rattle.std.proofs.Common.{map, string_bytes}
-use Rattle.std.proofs.lemmas.Result.{err_from_is_err_and}
+use Rattle.list_laws.proofs.Exits.{passed_on}
 use Rattle.run_base.proofs.OnlyRead.{held_before, read_twice, stop_before}
 use Rattle.run_base.proofs.Readings.{held_more, stopped_at}
 use Rattle.run_base.proofs.reading.read_all.Goals as goal
 
 pub returns-in_err-text-clause-read : goal.returns-in_err-text-clause-read
 returns-in_err-text-clause-read g c =
-    let stop = err_from_is_err_and c.from_residual.result c.from_residual.ensures.1 in
     let kept = c.loop-place.invariant.kept in
     let at_name = stop_before _ _ _ _ _ _ kept (g.I.Inputs.faults c.read_named.new.inputs) _ _ c.in_err-text.ensures.read in
-    rw (stop.1, stop.2) (
+    rw (passed_on c.from_residual.result c.from_residual.ensures.1) (
     stopped_at (g.I.Inputs.holds c.args.inputs.now)
     (map string_bytes c.args.words.now) _ _ c.args.places.now c.loop-place.place-index c.loop-place.texts c.loop-place-test.true c.loop-place.invariant.held
     (rw c.word.ensures at at_name)
