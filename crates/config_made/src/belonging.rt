@@ -30,7 +30,7 @@ fn is_named(prefixes: &[Prefix], prefix: Prefix) -> bool
 }
 
 /// Whether a prefix belongs to a case: whether the case names it or, where the case is external, a pattern of its statement contains it.
-pub fn is_of_case(policy: &Policy, case: &Case, prefix: Prefix) -> bool
+fn is_of_case(policy: &Policy, case: &Case, prefix: Prefix) -> bool
     ensures { result ≡ list_any (λ pattern. contains pattern prefix) (patterns_of (policy_of policy.now) case.now) }
 {
     if !case.external {

@@ -11,7 +11,7 @@ mod law;
 mod lay;
 mod make;
 
-pub use belonging::{case_of, class_of, is_of_case};
+pub use belonging::{case_of, class_of};
 pub use classes::statement_at;
 pub use law::{case_lists_are_classes, configurations_can_be_made, made_configurations_are_one};
 pub use make::config_of;

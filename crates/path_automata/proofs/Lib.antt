@@ -5,6 +5,5 @@ pub mod Kept
 pub mod Lists
 pub mod MemoLemmas
 pub mod Reversals
-pub mod Sizes
 pub mod StateLemmas
 pub mod Views

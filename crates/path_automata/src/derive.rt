@@ -26,7 +26,7 @@ fn is_kept(terms: &Terms, e: u32) -> bool
 
 /// The derivative of a term by a location.
 #[cycle(derivative)]
-pub fn derivative(
+fn derivative(
     terms: &mut Terms,
     classes: &[usize],
     derived: &mut IndexMap<(u32, usize), u32>,

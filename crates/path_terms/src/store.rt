@@ -1,5 +1,5 @@
 //! Terms by their numbers.
-ghost use Rattle.std.specs.Prelude.{◌≡◌, true, ◌<◌, ◌≤◌, ◌^◌, length, IfOk};
+ghost use Rattle.std.specs.Prelude.{◌≡◌, true, ◌<◌, ◌≤◌, ◌^◌, [], length, IfOk};
 ghost use Rattle.path_terms.specs.Terms.{each_sound, AreApart, expressions};
 
 use crate::term::Term;
@@ -24,7 +24,9 @@ impl Terms {
     ghost use Rattle.path_terms.specs.Values.{values, value};
 
     /// No term.
-    pub fn new(alloc: Global) -> Terms {
+    pub fn new(alloc: Global) -> Terms
+        ensures { values result ≡ [] }
+    {
         Terms {
             found: IndexSet::new(alloc),
         }
