@@ -1,0 +1,24 @@
+-- A configuration whose evidence passes keeps the policy: a line for each part of the claim.
+use Rattle.announce_law.proofs.Withstanding.{passing_evidence_withstands_peers}
+use Rattle.evidence_law.proofs.ExistenceLaw.{stable_outcomes_exist}
+use Rattle.evidence_law.proofs.RightLaw.{passing_evidence_is_right}
+use Rattle.packets_law.proofs.Longest.{packets_arrive}
+use Rattle.world_law.proofs.Moments.{every_moment_is_right}
+use Rattle.rest_law.proofs.Ended.{passing_evidence_comes_to_rest}
+use Rattle.claim_law.specs.Laws.{PassingEvidenceKeepsPolicy}
+use Rattle.claim_law.proofs.OfNet.{made_configurations_are_of_their_net}
+use Rattle.claim_law.proofs.Taken.{made_configurations_take_permitted}
+
+pub passing_evidence_keeps_policy : PassingEvidenceKeepsPolicy
+passing_evidence_keeps_policy net policy config cs rules fits passes = record {
+  of_net = made_configurations_are_of_their_net net policy config cs rules fits passes.made;
+  right = passing_evidence_is_right net policy config cs rules fits passes;
+  outcomes = stable_outcomes_exist net policy config cs rules fits passes;
+  packets = packets_arrive net policy config rules;
+  motion = record {
+    peers = passing_evidence_withstands_peers net policy config cs rules fits passes;
+    moments = every_moment_is_right net policy config cs rules fits passes;
+    rests = passing_evidence_comes_to_rest net policy config cs rules fits passes;
+  };
+  taken = made_configurations_take_permitted net policy config cs rules fits passes.made;
+}

@@ -1,0 +1,4 @@
+mod Cases
+pub mod Claim
+mod OfNet
+mod Taken

@@ -1,0 +1,43 @@
+-- The claim: what a configuration is that is compiled from a policy, or whose evidence passes.
+use Rattle.std.specs.Prelude.{◌≡◌, length}
+use Rattle.net_base.specs.Network.{PlainNet}
+use Rattle.net_base.specs.Prefixes.{PlainPrefix, IsPrefix}
+use Rattle.policy_base.specs.Policies.{PlainPolicy}
+use Rattle.config_base.specs.Configs.{PlainConfig}
+use Rattle.outcome_base.specs.Outcomes.{Failures, Outcome, IsStable}
+use Rattle.outcome_base.specs.Right.{IsRight}
+use Rattle.outcome_base.specs.Withstanding.{WithstandsPeers}
+use Rattle.packets_law.specs.Longest.{CarriesPackets}
+use Rattle.world_law.specs.Moments.{IsRightAlways}
+use Rattle.rest_law.specs.Rest.{AlwaysComesToRest}
+use Rattle.claim_law.specs.OfNet.{IsOfNet}
+use Rattle.claim_law.specs.Taken.{TakesPermitted}
+
+-- whatever fails, there is a stable outcome for every prefix
+abbrev pub HasOutcomes : PlainNet → PlainPolicy → PlainConfig → Type 0
+HasOutcomes net policy config =
+    (p : PlainPrefix) (f : Failures) → IsPrefix p → (outcome : Outcome) × (length outcome ≡ length net.routers) × IsStable net policy config f p outcome
+
+-- The configuration keeps its policy in motion, too.
+pub record IsKeptInMotion (net : PlainNet) (policy : PlainPolicy) (config : PlainConfig) : Type 0 where
+  -- It is right whatever the peers announce,
+  pub peers : WithstandsPeers net policy config
+  -- no claimed router holds, and no peer hears of, what isn't allowed, at any moment,
+  pub moments : IsRightAlways net policy config
+  -- and where messages are delivered the network comes to rest in its one settled outcome.
+  pub rests : AlwaysComesToRest net policy config
+
+-- The configuration keeps the policy in the network.
+pub record KeepsPolicy (net : PlainNet) (policy : PlainPolicy) (config : PlainConfig) : Type 0 where
+  -- It is this network's.
+  pub of_net : IsOfNet net policy config
+  -- It is right: under all failures, in every stable outcome,
+  pub right : IsRight net policy config
+  -- of which there is one whatever fails.
+  pub outcomes : HasOutcomes net policy config
+  -- Packets arrive, by the longest prefix that covers their address.
+  pub packets : CarriesPackets net policy config
+  -- It is kept in motion.
+  pub motion : IsKeptInMotion net policy config
+  -- Routers take from peers what permitted walks end with.
+  pub taken : TakesPermitted net policy config

@@ -1,0 +1,5 @@
+pub mod Claim
+pub mod Laws
+pub mod OfNet
+pub mod Taken
+pub mod Walked
