@@ -13,7 +13,7 @@ use Rattle.propane_run.specs.declared.command.Command.TheVariants.{Compile}
 use Rattle.propane_run.specs.Asked.{AsksFor}
 use Rattle.propane_run.specs.Clauses.{FaultFound}
 use Rattle.compile_jobs.specs.Compiled.{IsCompiled, IsRefusedFor}
-use Rattle.propane_run.specs.Headline.{CompilesRight, IsKeptInMotion}
+use Rattle.propane_run.specs.Headline.{CompilesRight}
 use Rattle.run_base.specs.declared.outcome.Status.TheVariants.{Refused}
 use Rattle.run_base.specs.Reading.{Holds}
 use Rattle.refusal_lines.specs.RefusalLines.{refusal_line}
@@ -60,19 +60,14 @@ refusal_of_compile holds words is taken err err' c asks claim = of_compile words
 module _ (words : List (List ℕ)) (is : words ≡ compile_words) (holds : Holds) (topology policy_text : List ℕ)
     (topology_is : holds topology_name ≡ Some topology) (policy_is : holds policy_name ≡ Some policy_text) where
   pub right_text : {O : Type 0} (taken : O → Option (List ℕ)) (out out' : O) (claim : CompilesRight holds taken words out out') (evidence : List PlainCaseEvidence)
-      → IsCompiled claim.net claim.policy claim.config evidence → IsKeptInMotion claim.net claim.policy claim.config → AsksFor holds words Compile claim.net claim.policy
+      → IsCompiled claim.net claim.policy claim.config evidence → AsksFor holds words Compile claim.net claim.policy
       → Spells claim.bytes claim.config → (text : List ℕ) → claim.bytes ≡ text → IsRightText topology policy_text text
-  right_text taken out out' claim evidence compiled moving asks spells text same = record {
+  right_text taken out out' claim evidence compiled asks spells text same = record {
     net = claim.net;
     policy = claim.policy;
     spell = spelled_by words is holds topology policy_text topology_is policy_is claim.net claim.policy asks;
-    config = claim.config;
+    made = record { config = claim.config; evidence = evidence; compiled = compiled; keeps = claim.keeps };
     spelled = rw same at spells;
-    right = claim.right;
-    outcomes = claim.outcomes;
-    moving = moving;
-    evidence = evidence;
-    compiled = compiled;
   }
 
   pub refusal_told : {E : Type 0} (taken : E → Option (List ℕ)) (err err' : E) (claim : RefusesRight holds taken words Compile err err') (line : List ℕ)

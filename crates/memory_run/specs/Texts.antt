@@ -2,18 +2,15 @@
 use Rattle.std.specs.Prelude.{◌≡◌, ◌⊎◌, ℕ, ◌<◌, ◌≤◌, List, [], ◌∷◌, length, Ok, Err, codes}
 use Rattle.net_base.specs.Network.{PlainNet}
 use Rattle.policy_base.specs.Policies.{PlainPolicy}
-use Rattle.config_base.specs.Configs.{PlainConfig}
-use Rattle.evidence_base.specs.Made.{PlainCaseEvidence}
 use Rattle.config_text.specs.Spelled.{Spells}
-use Rattle.outcome_base.specs.Right.{IsRight}
 use Rattle.topology.specs.declared.fault.TopoFault.{TopoFault}
 use Rattle.topology.specs.Topology.{spelled}
 use Rattle.policy_tokens.specs.declared.fault.PolicyFault.{PolicyFault}
 use Rattle.policy_parser.specs.Spelled.{spelled as policy_spelled}
 use Rattle.case_core.specs.declared.refusal.CompileRefusal.{CompileRefusal}
-use Rattle.compile_jobs.specs.Compiled.{IsCompiled, IsRefusedFor}
+use Rattle.compile_jobs.specs.Compiled.{IsRefusedFor}
 use Rattle.input_texts.specs.FaultLines.{topology_line, policy_line}
-use Rattle.propane_run.specs.Headline.{HasOutcomes, IsKeptInMotion}
+use Rattle.propane_run.specs.Compilation.{Compilation}
 use Rattle.run_base.specs.Reading.{most, too_long}
 use Rattle.refusal_lines.specs.RefusalLines.{refusal_line}
 
@@ -34,19 +31,14 @@ pub record Spell (topology policy_text : List ℕ) (net : PlainNet) (policy : Pl
   pub net_spelled : spelled topology ≡ Ok net
   pub policy_spelled : policy_spelled net policy_text ≡ Ok policy
 
--- The text spells a configuration that is right for the network and the policy which the two texts spell: under all failures,
--- in every stable outcome, of which there is one whatever fails; it is kept in motion. It is compiled from them, with evidence that passes.
+-- The text spells a configuration that is compiled from the network and the policy which the two texts spell, with evidence that
+-- passes. It keeps the policy in the network.
 pub record IsRightText (topology policy_text text : List ℕ) : Type 0 where
   pub net : PlainNet
   pub policy : PlainPolicy
   pub spell : Spell topology policy_text net policy
-  pub config : PlainConfig
-  pub spelled : Spells text config
-  pub right : IsRight net policy config
-  pub outcomes : HasOutcomes net policy config
-  pub moving : IsKeptInMotion net policy config
-  pub evidence : List PlainCaseEvidence
-  pub compiled : IsCompiled net policy config evidence
+  pub made : Compilation net policy
+  pub spelled : Spells text made.config
 
 -- The line tells a refusal that applies to the network and the policy which the two texts spell.
 pub record IsRefusalLine (topology policy_text line : List ℕ) : Type 0 where

@@ -1,8 +1,8 @@
 mod Naming
-pub mod Moving
 pub mod Asking
 pub mod ByCommand
 pub mod Causes
+pub mod Compilation
 pub mod Compilers
 pub mod Dispatch
 pub mod Ending

@@ -3,6 +3,7 @@ use Rattle.std.specs.Prelude.{◌≡◌, ℕ, List, [], ◌∷◌, Option, Ok, c
 use Rattle.net_base.specs.Network.{PlainNet}
 use Rattle.policy_base.specs.Policies.{PlainPolicy}
 use Rattle.config_base.specs.Configs.{PlainConfig}
+use Rattle.claim_law.specs.Claim.{KeepsPolicy}
 use Rattle.claim_texts.specs.ConfigText.{IsTextOf}
 use Rattle.config_text.specs.Spelled.{Spells}
 use Rattle.evidence_base.specs.Made.{PlainCaseEvidence}
@@ -11,10 +12,9 @@ use Rattle.evidence_rules.specs.declared.rule.CheckRule.{CheckRule}
 use Rattle.evidence_rules.specs.declared.verdict.Shown.{Shown}
 use Rattle.evidence_rules.specs.declared.verdict.Verdict.TheVariants.{Fails}
 use Rattle.evidence_rules.specs.Verdicts.{IsVerdict}
-use Rattle.outcome_base.specs.Right.{IsRight}
 use Rattle.propane_run.specs.declared.command.Command.TheVariants.{Check}
 use Rattle.propane_run.specs.Asked.{AsksFor}
-use Rattle.propane_run.specs.Headline.{HasOutcomes, NamesTexts}
+use Rattle.propane_run.specs.Headline.{NamesTexts}
 use Rattle.run_base.specs.Reading.{Holds}
 use Rattle.run_base.specs.Said.{Whole}
 use Rattle.check_job.specs.VerdictLines.{holds_line, fails_line}
@@ -30,8 +30,7 @@ pub record AsksOf (holds : Holds) (words : List (List ℕ)) (net : PlainNet) (po
   pub evidence_spelled : evidence_spelled_by evidence_text ≡ Ok evidence
 
 -- The words are `check` and the names of a topology, of a policy, of a configuration and of one more text. `out` grew by exactly the
--- line `holds`. The configuration is right for the network and the policy: under all failures, in every stable outcome, of which
--- there is one whatever fails.
+-- line `holds`. The configuration keeps the policy in the network.
 pub record ChecksRight {O : Type 0} (holds : Holds) (taken : O → Option (List ℕ)) (words : List (List ℕ)) (out out' : O) : Type 0 where
   pub net : PlainNet
   pub policy : PlainPolicy
@@ -41,8 +40,7 @@ pub record ChecksRight {O : Type 0} (holds : Holds) (taken : O → Option (List 
   pub written : Whole taken holds_line out out'
   pub config : PlainConfig
   pub text : IsTextOf config_text config
-  pub right : IsRight net policy config
-  pub outcomes : HasOutcomes net policy config
+  pub keeps : KeepsPolicy net policy config
 
 -- `out` grew by exactly the line of the first rule that fails of the evidence that was asked of, and of where it fails.
 pub record TellsFault {O : Type 0} (holds : Holds) (taken : O → Option (List ℕ)) (words : List (List ℕ)) (out out' : O) : Type 0 where

@@ -2,21 +2,18 @@
 use Rattle.std.specs.Prelude.{◌⊎◌, ℕ, List, Option}
 use Rattle.net_base.specs.Network.{PlainNet}
 use Rattle.policy_base.specs.Policies.{PlainPolicy}
-use Rattle.config_base.specs.Configs.{PlainConfig}
-use Rattle.evidence_base.specs.Made.{PlainCaseEvidence}
 use Rattle.case_core.specs.declared.refusal.CompileRefusal.{CompileRefusal}
-use Rattle.compile_jobs.specs.Compiled.{IsCompiled, IsRefusedFor}
+use Rattle.compile_jobs.specs.Compiled.{IsRefusedFor}
 use Rattle.refusal_lines.specs.Explanations.{accepted_line, explanation}
 use Rattle.run_base.specs.Reading.{Holds}
 use Rattle.run_base.specs.Said.{Whole}
 use Rattle.propane_run.specs.declared.command.Command.TheVariants.{Explain}
 use Rattle.propane_run.specs.Asked.{AsksFor}
+use Rattle.propane_run.specs.Compilation.{Compilation}
 
--- The policy is accepted: a configuration is compiled from it, with evidence that passes, and no refusal applies.
+-- The policy is accepted: a configuration is compiled from it, which keeps it, and no refusal applies.
 pub record IsAccepted (net : PlainNet) (policy : PlainPolicy) : Type 0 where
-  pub config : PlainConfig
-  pub evidence : List PlainCaseEvidence
-  pub compiled : IsCompiled net policy config evidence
+  pub made : Compilation net policy
   pub free : (e : CompileRefusal) → ¬ IsRefusedFor net policy e
 
 -- `out` grew by exactly the line `accepted`, and the policy that was asked for is accepted; or it grew by exactly a refusal

@@ -5,7 +5,6 @@ use Rattle.policy_base.specs.Policies.{PlainPolicy}
 use Rattle.config_base.specs.Configs.{PlainConfig}
 use Rattle.config_reader.specs.Text.{spelled as config_spelled_by}
 use Rattle.evidence_base.specs.Made.{PlainCaseEvidence}
-use Rattle.outcome_base.specs.Right.{IsRight}
 use Rattle.compile_jobs.specs.Compiled.{IsCompiled}
 use Rattle.route_maps.specs.Maps.{PlainMaps}
 use Rattle.route_maps.specs.OfConfig.{maps_of, MeansAs}
@@ -22,7 +21,7 @@ use Rattle.run_base.specs.Said.{Whole}
 use Rattle.propane_run.specs.declared.command.Command.{Command}
 use Rattle.propane_run.specs.declared.command.Command.TheVariants.{RouteMap, CheckMap}
 use Rattle.propane_run.specs.Asked.{AsksFor}
-use Rattle.propane_run.specs.Headline.{HasOutcomes}
+use Rattle.propane_run.specs.Compilation.{Compilation}
 use Rattle.propane_run.specs.Words.{names_read, words_are}
 
 -- The words are `checkmap`, and the bytes of the two names that it reads spell this configuration and these maps.
@@ -43,20 +42,16 @@ AsksMapsOf holds words CheckMap config = (maps : PlainMaps) × AsksOfMaps holds 
 AsksMapsOf holds words _ config = ⊥
 
 -- `out` grew by exactly the text of the maps of the configuration that is compiled from the policy that was asked for. They mean what
--- its lines mean, and it is right for the network and the policy.
+-- its lines mean, and it keeps the policy in the network.
 pub record MapsRight {O : Type 0} (holds : Holds) (taken : O → Option (List ℕ)) (words : List (List ℕ)) (out out' : O) : Type 0 where
   pub net : PlainNet
   pub policy : PlainPolicy
   pub asked : AsksFor holds words RouteMap net policy
-  pub config : PlainConfig
-  pub evidence : List PlainCaseEvidence
-  pub compiled : IsCompiled net policy config evidence
+  pub made : Compilation net policy
   pub bytes : List ℕ
   pub written : Whole taken bytes out out'
-  pub spelled : Spells bytes (maps_of config)
-  pub means : MeansAs config (maps_of config)
-  pub right : IsRight net policy config
-  pub outcomes : HasOutcomes net policy config
+  pub spelled : Spells bytes (maps_of made.config)
+  pub means : MeansAs made.config (maps_of made.config)
 
 -- `out` grew by exactly the line `same`, and the maps that were asked of are those of the configuration. So they mean what its lines mean.
 pub record MapsAgree {O : Type 0} (holds : Holds) (taken : O → Option (List ℕ)) (words : List (List ℕ)) (out out' : O) : Type 0 where

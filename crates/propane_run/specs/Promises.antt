@@ -22,7 +22,7 @@ use Rattle.propane_run.specs.Asked.{AsksFor}
 use Rattle.propane_run.specs.Auditing.{AuditsRight, TellsAuditFault}
 use Rattle.propane_run.specs.Checking.{AsksOf, ChecksRight, TellsFault}
 use Rattle.propane_run.specs.Explaining.{ExplainsRight}
-use Rattle.propane_run.specs.Headline.{CompilesRight, GivesEvidence, IsKeptInMotion}
+use Rattle.propane_run.specs.Headline.{CompilesRight, GivesEvidence}
 use Rattle.propane_run.specs.Impacting.{ImpactsRight}
 use Rattle.propane_run.specs.Linting.{LintsRight, TellsLimit}
 use Rattle.propane_run.specs.Mapping.{MapsAgree, MapsRight, TellsDifference, TellsTooMany}
@@ -38,13 +38,13 @@ use Rattle.propane_run.specs.Tracing.{TracesRight}
 abbrev pub Promised : {S : Type 0} → Holds → (S → Option (List ℕ)) → List (List ℕ) → Command → Status → S → S → Type 0
 Promised holds taken words Compile Done s s' =
     (claim : CompilesRight holds taken words s s') × (evidence : List PlainCaseEvidence) × IsCompiled claim.net claim.policy claim.config evidence
-    × IsKeptInMotion claim.net claim.policy claim.config × AsksFor holds words Compile claim.net claim.policy × Spells claim.bytes claim.config
+    × AsksFor holds words Compile claim.net claim.policy × Spells claim.bytes claim.config
 Promised holds taken words Compile Refused s s' = RefusesRight holds taken words Compile s s'
-Promised holds taken words Evidence Done s s' = (claim : GivesEvidence holds taken words s s') × IsKeptInMotion claim.net claim.policy claim.config
+Promised holds taken words Evidence Done s s' = GivesEvidence holds taken words s s'
 Promised holds taken words Evidence Refused s s' = RefusesRight holds taken words Evidence s s'
 Promised holds taken words Check Done s s' =
     (claim : ChecksRight holds taken words s s') × (evidence : List PlainCaseEvidence) × AsksOf holds words claim.net claim.policy claim.config evidence
-    × Passes claim.net claim.policy claim.config evidence × IsKeptInMotion claim.net claim.policy claim.config
+    × Passes claim.net claim.policy claim.config evidence
 Promised holds taken words Check CheckFails s s' = TellsFault holds taken words s s'
 Promised holds taken words Explain Done s s' = ExplainsRight holds taken words s s'
 Promised holds taken words Replay Done s s' = ReplaysRight holds taken words s s'

@@ -2,34 +2,28 @@
 use Rattle.std.specs.Prelude.{◌≡◌, ℕ, List, Option, length}
 use Rattle.net_base.specs.Network.{PlainNet}
 use Rattle.policy_base.specs.Policies.{PlainPolicy}
-use Rattle.config_base.specs.Configs.{PlainConfig}
-use Rattle.evidence_base.specs.Made.{PlainCaseEvidence}
 use Rattle.outcome_base.specs.Outcomes.{Outcome}
-use Rattle.outcome_base.specs.Right.{IsRight}
 use Rattle.settled_law.specs.Settled.{IsFullyStable}
 use Rattle.stable_paths.specs.declared.scenario.Scenario.{Scenario}
 use Rattle.stable_paths.specs.Scenarios.{failures_of}
 use Rattle.propane_run.specs.declared.command.Command.TheVariants.{Replay}
 use Rattle.propane_run.specs.Asked.{AsksUnder}
-use Rattle.compile_jobs.specs.Compiled.{IsCompiled}
+use Rattle.propane_run.specs.Compilation.{Compilation}
 use Rattle.run_base.specs.Reading.{Holds}
 use Rattle.run_base.specs.Said.{Whole}
 use Rattle.replay_job.specs.Replayed.{IsReplayed}
 
 -- `out` grew by exactly the report of an outcome, which is stable with ties broken for the configuration that is compiled from the
 -- policy, under the failures of the scenario that was asked for and for its prefix. There is no other such outcome, and the
--- configuration is right.
+-- configuration keeps the policy.
 pub record ReplaysRight {O : Type 0} (holds : Holds) (taken : O → Option (List ℕ)) (words : List (List ℕ)) (out out' : O) : Type 0 where
   pub net : PlainNet
   pub policy : PlainPolicy
   pub scenario : Scenario
   pub asked : AsksUnder holds words Replay net policy scenario
-  pub config : PlainConfig
-  pub evidence : List PlainCaseEvidence
-  pub compiled : IsCompiled net policy config evidence
-  pub right : IsRight net policy config
+  pub made : Compilation net policy
   pub bytes : List ℕ
   pub written : Whole taken bytes out out'
-  pub replayed : IsReplayed net policy config scenario bytes
+  pub replayed : IsReplayed net policy made.config scenario bytes
   pub only : (other : Outcome) → length other ≡ length net.routers
-      → IsFullyStable net policy config (failures_of scenario) scenario.prefix other → other ≡ replayed.outcome
+      → IsFullyStable net policy made.config (failures_of scenario) scenario.prefix other → other ≡ replayed.outcome

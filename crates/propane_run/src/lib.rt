@@ -74,8 +74,8 @@ pub fn run<I: Inputs, O: Sink, E: Sink>(
     out: &mut O,
     err: &mut E,
 ) -> Status
-    // Where `compile` ends with Done, `out` grew by a text that spells a configuration, and this is right for the network
-    // and the policy that the inputs spell.
+    // Where `compile` ends with Done, `out` grew by the text of a configuration, which keeps the policy in the network, as
+    // the inputs mean them.
     ensures right { words_are (map string_bytes words.now) ≡ Some Command.Compile → result ≡ Status.Done
         → CompilesRight (I.holds inputs.old) O.taken (map string_bytes words.now) out.old out.new }
 

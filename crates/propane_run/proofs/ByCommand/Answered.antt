@@ -4,7 +4,6 @@ use Rattle.net_base.specs.Network.{PlainNet}
 use Rattle.policy_base.specs.Policies.{PlainPolicy}
 use Rattle.config_base.specs.Configs.{PlainConfig}
 use Rattle.evidence_base.specs.Made.{PlainCaseEvidence}
-use Rattle.evidence_law.proofs.RightLaw.{passing_evidence_is_right}
 use Rattle.run_base.specs.Reading.{Holds, AllHeld}
 use Rattle.run_base.specs.Said.{text, Whole}
 use Rattle.run_base.proofs.Jobs.{status_is, out_is}
@@ -16,6 +15,7 @@ use Rattle.propane_run.specs.declared.command.Command.{Command}
 use Rattle.propane_run.specs.Answering.{AnswersRight}
 use Rattle.propane_run.specs.Words.{names_read, words_are}
 use Rattle.propane_run.proofs.Asking.{asks_also}
+use Rattle.propane_run.proofs.Compilation.{compilation}
 
 module _ {V F : Type 0} (told : F → List ℕ) (spelled_by : PlainNet → List ℕ → Result V F) (Writes : PlainNet → PlainPolicy → V → PlainConfig → List PlainCaseEvidence → List ℕ → Type 0) where
   module _ {S : Type 0} (holds : Holds) (words : List (List ℕ)) (c : Command) (taken : S → Option (List ℕ)) (before now : S) (b : List ℕ) (written : Whole taken b before now) where
@@ -27,10 +27,7 @@ module _ {V F : Type 0} (told : F → List ℕ) (spelled_by : PlainNet → List 
       policy = policy;
       value = value;
       asked = asks_also holds words spelled_by c net policy is value also;
-      config = h.0;
-      evidence = h.1;
-      compiled = h.3;
-      right = passing_evidence_is_right net policy h.0 h.1 (net_of_spelled also.spell) (policy_of_spelled also.spell) h.3.1;
+      made = compilation net policy h.0 h.1 (net_of_spelled also.spell) (policy_of_spelled also.spell) h.3;
       bytes = h.2;
       written = rw (out_is _ _ h.5) at written;
       answers = h.4;

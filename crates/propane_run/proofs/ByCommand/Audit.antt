@@ -2,6 +2,7 @@
 use Rattle.std.proofs.Common.{◌≡◌, ◌⊎◌, ℕ, List, [], Option, Some, None, inl, inr, ◌∙◌}
 use Rattle.net_base.specs.Network.{PlainNet}
 use Rattle.outside.specs.Outside.{Rose}
+use Rattle.claim_law.proofs.Claim.{passing_evidence_keeps_policy}
 use Rattle.outcome_base.specs.Outcomes.{IsStable}
 use Rattle.policy_base.specs.Policies.{PlainPolicy}
 use Rattle.evidence_law.specs.Passes.{Passes}
@@ -63,6 +64,7 @@ module _ (holds : Holds) (words : List (List ℕ)) where
         let fits = policy_of_spelled f.asked.spell in
         let prefix = spelled_prefix f.net f.asked.scenario_text f.audited.scenario f.asked.scenario_spelled in
         let size = spelled_size f.net f.asked.tables_text f.audited.routes f.asked.tables_spelled in
+        let shown = done_is f.net f.policy f.audited rules fits prefix size b f.says in
         record {
           net = f.net;
           policy = f.policy;
@@ -70,7 +72,8 @@ module _ (holds : Holds) (words : List (List ℕ)) where
           asked = asks_audit holds words f.net f.policy comes.is f.audited f.asked;
           bytes = b;
           written = written;
-          shown = done_is f.net f.policy f.audited rules fits prefix size b f.says;
+          shown = shown;
+          keeps = passing_evidence_keeps_policy f.net f.policy f.audited.config f.audited.evidence rules fits shown.passes;
         }
 
     -- and where it says why the audit fails, it does

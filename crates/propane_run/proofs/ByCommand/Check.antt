@@ -4,6 +4,7 @@ use Rattle.std.specs.Prelude.{codes}
 use Rattle.net_base.specs.Network.{PlainNet}
 use Rattle.outside.specs.Outside.{Rose}
 use Rattle.policy_base.specs.Policies.{PlainPolicy}
+use Rattle.claim_law.proofs.Claim.{passing_evidence_keeps_policy}
 use Rattle.claim_texts.proofs.Configurations.{spellings_are_texts}
 use Rattle.config_base.specs.Configs.{PlainConfig}
 use Rattle.config_lines.specs.declared.edition.Edition.TheVariants.{Second}
@@ -14,8 +15,6 @@ use Rattle.evidence_rules.specs.declared.verdict.Verdict.{Verdict}
 use Rattle.evidence_rules.specs.declared.verdict.Verdict.TheVariants as verdict
 use Rattle.evidence_rules.specs.Verdicts.{IsVerdict}
 use Rattle.evidence_rules.proofs.OneVerdict.{one_verdict}
-use Rattle.evidence_law.proofs.ExistenceLaw.{stable_outcomes_exist}
-use Rattle.evidence_law.proofs.RightLaw.{passing_evidence_is_right}
 use Rattle.evidence_law.specs.Passes.{Passes}
 use Rattle.run_base.specs.declared.outcome.Status.{Status}
 use Rattle.run_base.specs.declared.outcome.Status.TheVariants.{BadInput, Done, NoMemory, CheckFails}
@@ -31,11 +30,9 @@ use Rattle.check_job.proofs.CheckLaws.{of_more}
 use Rattle.propane_run.specs.declared.command.Command.{Command}
 use Rattle.propane_run.specs.declared.command.Command.TheVariants.{Check}
 use Rattle.propane_run.specs.Checking.{AsksOf, ChecksRight, TellsFault}
-use Rattle.propane_run.specs.Headline.{IsKeptInMotion}
 use Rattle.propane_run.specs.Run.{Job, Comes}
 use Rattle.propane_run.specs.Words.{names_read}
 use Rattle.propane_run.proofs.Asking.{asks_for, names_texts, spells}
-use Rattle.propane_run.proofs.Moving.{kept_in_motion}
 use Rattle.propane_run.proofs.Naming.{check_words}
 
 module _ (holds : Holds) (words : List (List ℕ)) where
@@ -75,11 +72,11 @@ module _ (holds : Holds) (words : List (List ℕ)) where
       }
 
   module _ {S : Type 0} (taken : S → Option (List ℕ)) (before now : S) (b : List ℕ) (written : Whole taken b before now) where
-    -- the claim, the evidence that passes, and that the configuration is kept in motion
+    -- the claim, and the evidence that passes
     abbrev pub Held : Type 0
     Held =
         (claim : ChecksRight holds taken words before now) × (evidence : List PlainCaseEvidence) × AsksOf holds words claim.net claim.policy claim.config evidence
-        × Passes claim.net claim.policy claim.config evidence × IsKeptInMotion claim.net claim.policy claim.config
+        × Passes claim.net claim.policy claim.config evidence
 
     module _ (net : PlainNet) (policy : PlainPolicy) (config : PlainConfig) (evidence : List PlainCaseEvidence) (asks : AsksOf holds words net policy config evidence) where
       holds_of : (v : Verdict) → IsVerdict net policy config evidence v → text b ≡ verdict_said v → Held
@@ -95,13 +92,11 @@ module _ (holds : Holds) (words : List (List ℕ)) where
               written = rw (out_is _ _ is) at written;
               config = config;
               text = spellings_are_texts asks.config_text config asks.config_spelled;
-              right = passing_evidence_is_right net policy config evidence (net_of_spelled spell) (policy_of_spelled spell) passes;
-              outcomes = stable_outcomes_exist net policy config evidence (net_of_spelled spell) (policy_of_spelled spell) passes;
+              keeps = passing_evidence_keeps_policy net policy config evidence (net_of_spelled spell) (policy_of_spelled spell) passes;
             },
             evidence,
             asks,
             passes,
-            kept_in_motion net policy config evidence (net_of_spelled spell) (policy_of_spelled spell) passes,
           )
 
       fails_of : (v : Verdict) → IsVerdict net policy config evidence v → failing b ≡ verdict_said v → TellsFault holds taken words before now

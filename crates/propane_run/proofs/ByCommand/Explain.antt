@@ -11,7 +11,7 @@ use Rattle.run_base.specs.Said.{Said, text, Whole, Delivered}
 use Rattle.run_base.proofs.Jobs.{out_is}
 use Rattle.run_base.proofs.Sent.{Gives, text_sent}
 use Rattle.input_texts.specs.Texts.{Alone}
-use Rattle.input_texts.proofs.Asking.{alone, said_for, told_says}
+use Rattle.input_texts.proofs.Asking.{alone, net_of_spelled, policy_of_spelled, said_for, told_says}
 use Rattle.compile_jobs.specs.Explained.{SaysOfPolicy}
 use Rattle.compile_jobs.proofs.Compiling.{never_refused}
 use Rattle.propane_run.specs.declared.command.Command.TheVariants.{Explain}
@@ -20,15 +20,18 @@ use Rattle.propane_run.specs.Explaining.{ExplainsRight}
 use Rattle.propane_run.specs.Run.{Comes, Job}
 use Rattle.propane_run.specs.Words.{names_read}
 use Rattle.propane_run.proofs.Asking.{asks_for, spells}
+use Rattle.propane_run.proofs.Compilation.{compilation}
 
 module _ {S : Type 0} (holds : Holds) (words : List (List ℕ)) (taken : S → Option (List ℕ)) (before now : S) (b : List ℕ) (written : Whole taken b before now) where
   explains_of : (net : PlainNet) (policy : PlainPolicy) → AsksFor holds words Explain net policy → SaysOfPolicy net policy (text b) → ExplainsRight holds taken words before now
-  explains_of net policy asks (inl h) = record {
-    net = net;
-    policy = policy;
-    asked = asks;
-    says = inl (record { config = h.0; evidence = h.1; compiled = h.2; free = never_refused net policy h.0 h.1 h.2 }, rw (out_is _ _ h.3) at written);
-  }
+  explains_of net policy asks (inl h) =
+      let spell = spells holds words Explain net policy asks in
+      record {
+        net = net;
+        policy = policy;
+        asked = asks;
+        says = inl (record { made = compilation net policy h.0 h.1 (net_of_spelled spell) (policy_of_spelled spell) h.2; free = never_refused net policy h.0 h.1 h.2 }, rw (out_is _ _ h.3) at written);
+      }
   explains_of net policy asks (inr h) = record { net = net; policy = policy; asked = asks; says = inr (h.0, h.1, rw (out_is _ _ h.2) at written) }
 
   pub right : Comes holds words Explain (text b) → ExplainsRight holds taken words before now

@@ -3,7 +3,6 @@ use Rattle.std.proofs.Common.{ℕ, List, Option, inl, inr}
 use Rattle.net_base.specs.Network.{PlainNet}
 use Rattle.net_base.specs.Prefixes.{PlainPrefix}
 use Rattle.policy_base.specs.Policies.{PlainPolicy}
-use Rattle.evidence_law.proofs.RightLaw.{passing_evidence_is_right}
 use Rattle.run_base.specs.Reading.{Holds}
 use Rattle.run_base.specs.Said.{text, Whole}
 use Rattle.run_base.proofs.Jobs.{status_is, out_is}
@@ -16,6 +15,7 @@ use Rattle.propane_run.specs.Impacting.{ImpactsRight}
 use Rattle.propane_run.specs.Run.{Comes}
 use Rattle.propane_run.specs.Words.{names_read}
 use Rattle.propane_run.proofs.Asking.{asks_for}
+use Rattle.propane_run.proofs.Compilation.{compilation}
 
 module _ {S : Type 0} (holds : Holds) (words : List (List ℕ)) (taken : S → Option (List ℕ)) (before now : S) (b : List ℕ) (written : Whole taken b before now) (x : PlainPrefix) where
   impacts_of : Comes holds words (Impact x) (text b) → (net : PlainNet) (policy : PlainPolicy) → SpellFor holds (names_read words (Impact x)) net policy → SaysOfPolicy x net policy (text b)
@@ -25,10 +25,7 @@ module _ {S : Type 0} (holds : Holds) (words : List (List ℕ)) (taken : S → O
     net = net;
     policy = policy;
     asked = asks_for holds words (Impact x) net policy comes.is spell;
-    config = h.0;
-    evidence = h.1;
-    compiled = h.3;
-    right = passing_evidence_is_right net policy h.0 h.1 (net_of_spelled spell) (policy_of_spelled spell) h.3.1;
+    made = compilation net policy h.0 h.1 (net_of_spelled spell) (policy_of_spelled spell) h.3;
     bytes = h.2;
     written = rw (out_is _ _ h.5) at written;
     shown = h.4;

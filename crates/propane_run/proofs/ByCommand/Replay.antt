@@ -2,7 +2,6 @@
 use Rattle.std.proofs.Common.{ℕ, List, Option, inl, inr}
 use Rattle.net_base.specs.Network.{PlainNet}
 use Rattle.policy_base.specs.Policies.{PlainPolicy}
-use Rattle.evidence_law.proofs.RightLaw.{passing_evidence_is_right}
 use Rattle.stable_paths.specs.declared.scenario.Scenario.{Scenario}
 use Rattle.run_base.specs.Reading.{Holds}
 use Rattle.run_base.specs.Said.{text, Whole}
@@ -21,6 +20,7 @@ use Rattle.propane_run.specs.Replaying.{ReplaysRight}
 use Rattle.propane_run.specs.Run.{Comes}
 use Rattle.propane_run.specs.Words.{names_read}
 use Rattle.propane_run.proofs.Asking.{asks_also}
+use Rattle.propane_run.proofs.Compilation.{compilation}
 
 module _ {S : Type 0} (holds : Holds) (words : List (List ℕ)) (taken : S → Option (List ℕ)) (before now : S) (b : List ℕ) (written : Whole taken b before now) where
   replays_of : Comes holds words Replay (text b) → (net : PlainNet) (policy : PlainPolicy) (scenario : Scenario) → SpellAlso scenario_spelled holds (names_read words Replay) net policy scenario
@@ -35,10 +35,7 @@ module _ {S : Type 0} (holds : Holds) (words : List (List ℕ)) (taken : S → O
         policy = policy;
         scenario = scenario;
         asked = asks_also holds words scenario_spelled Replay net policy comes.is scenario under;
-        config = h.0;
-        evidence = h.1;
-        compiled = h.3;
-        right = passing_evidence_is_right net policy h.0 h.1 rules fits h.3.1;
+        made = compilation net policy h.0 h.1 rules fits h.3;
         bytes = h.2;
         written = rw (out_is _ _ h.5) at written;
         replayed = h.4;

@@ -6,8 +6,6 @@ use Rattle.policy_base.specs.Policies.{PlainPolicy}
 use Rattle.config_base.specs.Configs.{PlainConfig}
 use Rattle.evidence_base.specs.Made.{PlainCaseEvidence}
 use Rattle.case_core.specs.declared.refusal.CompileRefusal.{CompileRefusal}
-use Rattle.evidence_law.proofs.ExistenceLaw.{stable_outcomes_exist}
-use Rattle.evidence_law.proofs.RightLaw.{passing_evidence_is_right}
 use Rattle.refusal_lines.specs.RefusalLines.{refusal_line}
 use Rattle.run_base.specs.declared.outcome.Status.{Status}
 use Rattle.run_base.specs.declared.outcome.Status.TheVariants.{Done, NoMemory, Refused}
@@ -35,6 +33,7 @@ use Rattle.propane_run.specs.Refusing.{RefusesRight}
 use Rattle.propane_run.specs.Run.{Comes, Job}
 use Rattle.propane_run.specs.Words.{names_read}
 use Rattle.propane_run.proofs.Asking.{asks_for, spells}
+use Rattle.propane_run.proofs.Compilation.{compilation}
 
 module _ (holds : Holds) (words : List (List ℕ)) where
   -- the command
@@ -51,15 +50,11 @@ module _ (holds : Holds) (words : List (List ℕ)) where
             net = net;
             policy = policy;
             asked = asks;
-            config = config;
-            evidence = evidence;
-            compiled = compiled;
+            made = compilation net policy config evidence (net_of_spelled spell) (policy_of_spelled spell) compiled;
             bytes = b;
             written = written;
             spelled = record { lawful = h.1; written = out_is _ _ h.2 };
             means = MeansAs-maps_of config;
-            right = passing_evidence_is_right net policy config evidence (net_of_spelled spell) (policy_of_spelled spell) compiled.1;
-            outcomes = stable_outcomes_exist net policy config evidence (net_of_spelled spell) (policy_of_spelled spell) compiled.1;
           }
 
       right_by : SaysOfPolicy net policy (text b) → MapsRight holds taken words before now

@@ -2,10 +2,8 @@
 use Rattle.std.proofs.Common.{ℕ, List, Option, inl, inr}
 use Rattle.net_base.specs.Network.{PlainNet}
 use Rattle.policy_base.specs.Policies.{PlainPolicy}
-use Rattle.evidence_law.proofs.RightLaw.{passing_evidence_is_right}
 use Rattle.event_reader.specs.declared.events.Events.{Events}
 use Rattle.trace_job.proofs.Failed.{is_failed}
-use Rattle.propane_run.proofs.Moving.{kept_in_motion}
 use Rattle.run_base.specs.Reading.{Holds}
 use Rattle.run_base.specs.Said.{text, Whole}
 use Rattle.run_base.proofs.Jobs.{status_is, out_is}
@@ -23,6 +21,7 @@ use Rattle.propane_run.specs.Run.{Comes}
 use Rattle.propane_run.specs.Tracing.{TracesRight}
 use Rattle.propane_run.specs.Words.{names_read}
 use Rattle.propane_run.proofs.Asking.{asks_also}
+use Rattle.propane_run.proofs.Compilation.{compilation}
 
 module _ {S : Type 0} (holds : Holds) (words : List (List ℕ)) (taken : S → Option (List ℕ)) (before now : S) (b : List ℕ) (written : Whole taken b before now) where
   traces_of : Comes holds words Trace (text b) → (net : PlainNet) (policy : PlainPolicy) (events : Events) → SpellAlso events_spelled holds (names_read words Trace) net policy events
@@ -32,21 +31,15 @@ module _ {S : Type 0} (holds : Holds) (words : List (List ℕ)) (taken : S → O
       let rules = net_of_spelled spell.spell in
       let fits = policy_of_spelled spell.spell in
       let prefix = spelled_prefix net spell.third events spell.spelled in
-      let moving = kept_in_motion net policy h.0 h.1 rules fits h.3.1 in
       record {
         net = net;
         policy = policy;
         events = events;
         asked = asks_also holds words events_spelled Trace net policy comes.is events spell;
-        config = h.0;
-        evidence = h.1;
-        compiled = h.3;
-        right = passing_evidence_is_right net policy h.0 h.1 rules fits h.3.1;
+        made = compilation net policy h.0 h.1 rules fits h.3;
         bytes = h.2;
         written = rw (out_is _ _ h.5) at written;
         traced = h.4;
-        moment = moving.moments events.prefix prefix events.events;
-        rests = moving.rests events.prefix prefix;
         failed = is_failed net policy h.0 events.prefix events.events rules;
         replayed = quiet_replays net policy h.0 h.1 rules fits h.3.1 events prefix h.2 h.4;
       }

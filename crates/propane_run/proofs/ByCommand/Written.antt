@@ -2,12 +2,11 @@
 use Rattle.std.proofs.Common.{◌≡◌, ℕ, List, Option, Ok, inl, inr, sym, subst, ◌∙◌}
 use Rattle.net_base.specs.Network.{PlainNet}
 use Rattle.policy_base.specs.Policies.{PlainPolicy}
+use Rattle.claim_law.proofs.Claim.{passing_evidence_keeps_policy}
 use Rattle.claim_texts.proofs.Configurations.{spellings_are_texts}
 use Rattle.config_text.specs.Spelled.{Spells}
 use Rattle.evidence_base.specs.Made.{PlainCaseEvidence}
 use Rattle.policy_parser.specs.Spelled.{spelled as policy_spelled}
-use Rattle.evidence_law.proofs.ExistenceLaw.{stable_outcomes_exist}
-use Rattle.evidence_law.proofs.RightLaw.{passing_evidence_is_right}
 use Rattle.evidence_law.specs.Passes.{Passes}
 use Rattle.topology.specs.Topology.{spelled}
 use Rattle.compile_core.proofs.OneRefusal.{one_pair}
@@ -23,23 +22,19 @@ use Rattle.compile_jobs.specs.Compiled.{IsCompiled}
 use Rattle.compile_jobs.specs.Written.{SaysOfPart}
 use Rattle.propane_run.specs.declared.command.Command.TheVariants.{Compile, Evidence}
 use Rattle.propane_run.specs.Asked.{AsksFor}
-use Rattle.propane_run.specs.Headline.{CompilesRight, GivesEvidence, IsKeptInMotion}
+use Rattle.propane_run.specs.Headline.{CompilesRight, GivesEvidence}
 use Rattle.propane_run.specs.Pairs.{ArePair}
 use Rattle.propane_run.specs.Run.{Comes}
 use Rattle.propane_run.specs.Words.{names_read}
 use Rattle.propane_run.proofs.Asking.{asks_for, names_two}
-use Rattle.propane_run.proofs.Moving.{kept_in_motion}
+use Rattle.propane_run.proofs.Compilation.{compilation}
 
 module _ {S : Type 0} (holds : Holds) (words : List (List ℕ)) (taken : S → Option (List ℕ)) (before now : S) (b : List ℕ) (written : Whole taken b before now) where
-  -- the claim, the evidence that passes, that it is kept in motion, and what the texts spell
+  -- the claim, the evidence that passes, and what the texts spell
   abbrev pub Claimed : Type 0
   Claimed =
       (claim : CompilesRight holds taken words before now) × (evidence : List PlainCaseEvidence) × IsCompiled claim.net claim.policy claim.config evidence
-      × IsKeptInMotion claim.net claim.policy claim.config × AsksFor holds words Compile claim.net claim.policy × Spells claim.bytes claim.config
-
-  -- the evidence, and the same
-  abbrev pub Given : Type 0
-  Given = (claim : GivesEvidence holds taken words before now) × IsKeptInMotion claim.net claim.policy claim.config
+      × AsksFor holds words Compile claim.net claim.policy × Spells claim.bytes claim.config
 
   claim_of : Comes holds words Compile (text b) → (net : PlainNet) (policy : PlainPolicy) → SpellFor holds (names_read words Compile) net policy → SaysOfPart part.Config net policy (text b) → Claimed
   claim_of comes net policy spell (inr h) = absurd (let s = status_is _ _ h.2 in cc)
@@ -52,12 +47,10 @@ module _ {S : Type 0} (holds : Holds) (words : List (List ℕ)) (taken : S → O
       written = rw (out_is _ _ h.5) at written;
       config = h.0;
       text = spellings_are_texts h.2 h.0 h.4;
-      right = passing_evidence_is_right net policy h.0 h.1 (net_of_spelled spell) (policy_of_spelled spell) h.3.1;
-      outcomes = stable_outcomes_exist net policy h.0 h.1 (net_of_spelled spell) (policy_of_spelled spell) h.3.1;
+      keeps = passing_evidence_keeps_policy net policy h.0 h.1 (net_of_spelled spell) (policy_of_spelled spell) h.3.1;
     },
     h.1,
     h.3,
-    kept_in_motion net policy h.0 h.1 (net_of_spelled spell) (policy_of_spelled spell) h.3.1,
     asks_for holds words Compile net policy comes.is spell,
     h.4,
   )
@@ -68,24 +61,17 @@ module _ {S : Type 0} (holds : Holds) (words : List (List ℕ)) (taken : S → O
       claim_of comes f.net f.policy f.spell (alone (SaysOfPart part.Config) f.spell.more f.net f.policy (text b) f.says)
 
   given_of : Comes holds words Evidence (text b) → (net : PlainNet) (policy : PlainPolicy) → SpellFor holds (names_read words Evidence) net policy
-      → SaysOfPart part.Evidence net policy (text b) → Given
+      → SaysOfPart part.Evidence net policy (text b) → GivesEvidence holds taken words before now
   given_of comes net policy spell (inr h) = absurd (let s = status_is _ _ h.2 in cc)
-  given_of comes net policy spell (inl h) = (
-    record {
-      net = net;
-      policy = policy;
-      asked = asks_for holds words Evidence net policy comes.is spell;
-      evidence = h.1;
-      written = rw (out_is _ _ h.5 ∙ h.4) at written;
-      config = h.0;
-      compiled = h.3;
-      right = passing_evidence_is_right net policy h.0 h.1 (net_of_spelled spell) (policy_of_spelled spell) h.3.1;
-      outcomes = stable_outcomes_exist net policy h.0 h.1 (net_of_spelled spell) (policy_of_spelled spell) h.3.1;
-    },
-    kept_in_motion net policy h.0 h.1 (net_of_spelled spell) (policy_of_spelled spell) h.3.1,
-  )
+  given_of comes net policy spell (inl h) = record {
+    net = net;
+    policy = policy;
+    asked = asks_for holds words Evidence net policy comes.is spell;
+    made = compilation net policy h.0 h.1 (net_of_spelled spell) (policy_of_spelled spell) h.3;
+    written = rw (out_is _ _ h.5 ∙ h.4) at written;
+  }
 
-  pub given : Comes holds words Evidence (text b) → Given
+  pub given : Comes holds words Evidence (text b) → GivesEvidence holds taken words before now
   given comes =
       let f = said_for (Alone (SaysOfPart part.Evidence)) holds (names_read words Evidence) (text b) (λ x. cc) comes.bytes comes.held comes.says in
       given_of comes f.net f.policy f.spell (alone (SaysOfPart part.Evidence) f.spell.more f.net f.policy (text b) f.says)
