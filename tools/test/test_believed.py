@@ -35,7 +35,8 @@ class Believed(unittest.TestCase):
     def test_claim_is_short(self):
         found = tool("believed").Sources(TOP)
         for name in tool("believed").HEADLINE:
-            self.assertLessEqual(sum(it.lines for it in found.reached(found.find(name))), 1000, name)
+            most = 1000 if name in ("outcome_base.IsRight", "claim_law.KeepsPolicy") else 1400
+            self.assertLessEqual(sum(it.lines for it in found.reached(found.find(name))), most, name)
 
     def test_names(self):
         self.assertEqual(ended([TOOL, "NoSuchDefinition"])[::2], (1, "tools/believed: no definition NoSuchDefinition\n"))

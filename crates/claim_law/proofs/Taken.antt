@@ -1,8 +1,8 @@
 -- A router takes from a peer what permitted walks end with: an import line for a peer is a step from the start at the peer.
-use Rattle.std.proofs.Common.{◌≡◌, ℕ, suc, Bool, true, [], ◌∷◌, ◌++◌, List, Option, Some, None, refl, sym, ap, ◌∙◌, inl, inr, subst}
-use Rattle.std.specs.Prelude.{◌||◌, ◌==◌, is_some, option_and_then, slice_get}
+use Rattle.std.proofs.Common.{◌≡◌, ℕ, suc, true, [], ◌∷◌, ◌++◌, List, Some, None, refl, sym, ap, ◌∙◌, inl, inr, subst}
+use Rattle.std.specs.Prelude.{◌||◌, ◌==◌, is_some, option_and_then}
 use Rattle.std.specs.List.{find}
-use Rattle.std.proofs.lemmas.Bool.{and_parts, cases_Bool, eqb-true, or_cases, true≢false}
+use Rattle.std.proofs.lemmas.Bool.{and_parts, eqb-true, or_cases, true≢false}
 use Rattle.std.proofs.lemmas.Option.{same_Some}
 use Rattle.list_laws.specs.Members.{IsIn}
 use Rattle.list_laws.proofs.Options.{cases_Option, none_or_some, option_and_then_parts, when_parts}
@@ -20,7 +20,7 @@ use Rattle.config_base.specs.declared.config.Import.{Import}
 use Rattle.config_base.specs.declared.config.Session.{Session}
 use Rattle.config_base.specs.Configs.{PlainConfig}
 use Rattle.config_base.specs.Lines.{class_of, block_at, line_by, same_tag}
-use Rattle.evidence_base.specs.Made.{PlainCaseEvidence, IsImportFrom, case_at}
+use Rattle.evidence_base.specs.Made.{PlainCaseEvidence, case_at}
 use Rattle.evidence_law.specs.Passes.{IsCaseGraph, IsMadeOf}
 use Rattle.evidence_law.proofs.Blocks.{block_only}
 use Rattle.evidence_law.proofs.CaseOrigins.{prefix_permits}

@@ -1,11 +1,10 @@
 -- Packets arrive: the next router holds the same prefix, so the longest one there is no shorter, and for the same one less of the path is left.
-use Rattle.std.proofs.Common.{◌≡◌, ◌∙◌, ℕ, zero, suc, ◌≤◌, ◌<◌, ◌+◌, ◌-◌, ◌*◌, ◌/◌, ◌%◌, ◌^◌, Bool, true, false, List, [], ◌∷◌, length, None, Some, Option, refl, ap, sym, inl, inr, arith, ◌⊎◌, le-leb, ltb-true, ltb-false, subst}
-use Rattle.std.specs.Prelude.{not, nat_lt, ◌&&◌, ◌||◌, ◌==◌}
+use Rattle.std.proofs.Common.{◌≡◌, ◌∙◌, ℕ, zero, suc, ◌≤◌, ◌<◌, ◌+◌, ◌-◌, ◌*◌, ◌/◌, ◌%◌, ◌^◌, true, false, List, [], ◌∷◌, length, None, Some, Option, refl, ap, sym, inl, inr, arith, ◌⊎◌, le-leb, ltb-true, ltb-false, subst}
+use Rattle.std.specs.Prelude.{not, nat_lt, ◌&&◌, ◌==◌}
 use Rattle.std.specs.List.{list_any}
-use Rattle.std.proofs.lemmas.Bool.{and_from, and_parts, cases_Bool, eqb-true, eq-eqb, false_from_ne_true, not_from_false, not-true, or_cases, true≢false}
+use Rattle.std.proofs.lemmas.Bool.{and_from, and_parts, cases_Bool, eqb-true, eq-eqb, false_from_ne_true, not_from_false, or_cases, true≢false}
 use Rattle.std.proofs.lemmas.Nat.{div-add-mod', pow_pos}
 use Rattle.std.proofs.Math.Nat.{div-mul-le_self, mul-mod_left, mul-div_cancel}
-use Rattle.list_laws.specs.Members.{IsIn}
 use Rattle.list_laws.proofs.Members.{IsIn-later}
 use Rattle.list_laws.proofs.Options.{cases_Option, none_or_some}
 use Rattle.net_base.specs.Network.{PlainNet, IsNet, is_peer, is_router}
@@ -18,7 +17,6 @@ use Rattle.policy_base.specs.Walks.{is_loop_free}
 use Rattle.config_base.specs.declared.route.Route.{Route}
 use Rattle.config_base.specs.Configs.{PlainConfig}
 use Rattle.outcome_base.specs.Outcomes.{Failures, is_live, is_silent, route_at}
-use Rattle.outcome_base.specs.Right.{IsPassedOn}
 use Rattle.evidence_law.proofs.Hops.{begins, own_path, passed_on}
 use Rattle.packets_law.specs.Longest.{Arrives, AreStable, GoesAlong, IsLongest, NoneIsLonger, Outcomes, PacketsArrive, covers}
 
