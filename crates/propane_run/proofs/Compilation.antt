@@ -8,7 +8,7 @@ use Rattle.claim_law.proofs.Claim.{passing_evidence_keeps_policy}
 use Rattle.compile_jobs.specs.Compiled.{IsCompiled}
 use Rattle.propane_run.specs.Compilation.{Compilation}
 
-pub compilation : (net : PlainNet) (policy : PlainPolicy) (config : PlainConfig) (evidence : List PlainCaseEvidence) → IsNet net
+abbrev pub compilation : (net : PlainNet) (policy : PlainPolicy) (config : PlainConfig) (evidence : List PlainCaseEvidence) → IsNet net
     → IsPolicyOf net policy → IsCompiled net policy config evidence → Compilation net policy
 compilation net policy config evidence rules fits compiled = record {
   config = config;
