@@ -116,9 +116,9 @@ module _ (topology policy_text : List ℕ) (net : PlainNet) (policy : PlainPolic
     -- no text is right
     pub no_text : (text : List ℕ) → IsRightText topology policy_text text → ⊥
     no_text text right =
-        let P : PlainNet → PlainPolicy → Type 0 = λ n p. IsCompiled n p right.config right.evidence in
-        let made = along P right.net right.policy right.spell right.compiled in
-        applies.1 (not_refused net policy right.config right.evidence e made.0 applies.0)
+        let P : PlainNet → PlainPolicy → Type 0 = λ n p. IsCompiled n p right.made.config right.made.evidence in
+        let made = along P right.net right.policy right.spell right.made.compiled in
+        applies.1 (not_refused net policy right.made.config right.made.evidence e made.0 applies.0)
 
     -- and this refusal is told
     only : (f : CompileRefusal) → IsRefusedFor net policy f → f ≡ e
