@@ -53,7 +53,7 @@ not_its_own net v behind router clean = false_from_ne_true (list_any (λ n. n ==
     true≢false (sym (list_any-from_IsIn (is_ours net) behind x.1 (x.0, x.2) ours) ∙ clean))
 
 -- numbers of no router change nothing
-refuses_same : (net : PlainNet) (v u : ℕ) (path behind : List ℕ) → is_router net v ≡ true → list_any (is_ours net) behind ≡ false
+pub refuses_same : (net : PlainNet) (v u : ℕ) (path behind : List ℕ) → is_router net v ≡ true → list_any (is_ours net) behind ≡ false
     → refuses net v u (as_path net path ++ behind) ≡ is_looped net v u path
 refuses_same net v u path behind router clean = by (is_peer net u)
   where
@@ -78,7 +78,7 @@ module _ (net : PlainNet) (class u : ℕ) (peer : is_peer net u ≡ true) (s t :
   same_found : find (imports_tag net u class s) b.imports ≡ find (imports_tag net u class t) b.imports
   same_found = ap (λ (f : Import → Bool). find f b.imports) (λ i rule. same_test rule i)
 
-  any_tag : line_by net class u s b ≡ line_by net class u t b
+  pub any_tag : line_by net class u s b ≡ line_by net class u t b
   any_tag = elim (cases_Option (find (imports_tag net u class t) b.imports)) [
     | inl e ↦
         let one : find (imports_tag net u class s) b.imports ≡ None = same_found ∙ e in

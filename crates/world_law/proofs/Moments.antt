@@ -40,7 +40,7 @@ module _ (net : PlainNet) (policy : PlainPolicy) (config : PlainConfig) (cs : Li
   abbrev Origin : ℕ → Bool
   Origin = holds c.d.case.origins
 
-  claimed_allowed : (r n : ℕ) (path : List ℕ) → IsClaimedRouter net policy p c.s r → HasRun c.d r path n → is_allowed net policy p c.s path ≡ true
+  pub claimed_allowed : (r n : ℕ) (path : List ℕ) → IsClaimedRouter net policy p c.s r → HasRun c.d r path n → is_allowed net policy p c.s path ≡ true
   claimed_allowed r n path claimed x =
       let permitted = claimed_permits net policy p c.s c.d c.same rules c.on r n x.rest claimed (ap (run c.d.graph) (sym x.begins) ∙ x.runs) in
       let there : is_permitted net policy p c.s path ≡ true =
@@ -49,7 +49,7 @@ module _ (net : PlainNet) (policy : PlainPolicy) (config : PlainConfig) (cs : Li
       and_from (is_permitted net policy p c.s path) (is_loop_free path) there x.free
 
   -- a path with a run ends a permitted walk
-  run_ends : (r n : ℕ) (path : List ℕ) → HasRun c.d r path n → (above : List ℕ) × (is_permitted net policy p c.s (above ++ path) ≡ true)
+  pub run_ends : (r n : ℕ) (path : List ℕ) → HasRun c.d r path n → (above : List ℕ) × (is_permitted net policy p c.s (above ++ path) ≡ true)
   run_ends r n path x =
       let walk = runs_are_walks net Origin c.d.case.external c.d.graph c.on.graph c.on.faithful.formed path n x.runs in
       let above = c.on.faithful.has_no_other path walk (ap is_some x.runs) in

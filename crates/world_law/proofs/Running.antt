@@ -102,7 +102,7 @@ module _ (net : PlainNet) (policy : PlainPolicy) (config : PlainConfig) (p : Pla
   is_exported : (a b : ℕ) (h : Route) (t : Tag) → export_of net config class a b h.tag ≡ Some t → lines.exported a b (pair_of h.tag) ≡ true
   is_exported a b h t e = ap is_some e
 
-  sent_on : (a b : ℕ) (h : Route) (t : Tag) (rest : List ℕ) (n : ℕ) → is_router net a ≡ true → export_of net config class a b h.tag ≡ Some t
+  pub sent_on : (a b : ℕ) (h : Route) (t : Tag) (rest : List ℕ) (n : ℕ) → is_router net a ≡ true → export_of net config class a b h.tag ≡ Some t
       → h.path ≡ a ∷ rest → law.loop_free h.path ≡ true → graph.run g h.path ≡ Some n
       → pair_of h.tag ≡ tag n → RunsTo net g tag a b (message h t)
   sent_on a b h t rest n router e begins free runs tagged =
@@ -119,7 +119,7 @@ module _ (net : PlainNet) (policy : PlainPolicy) (config : PlainConfig) (p : Pla
         to_router = λ to. ap pair_of (export_to_router net config class a b h.tag t (router_no_peer net b to) e) ∙ tagged;
       }
 
-  sent_own : (a b : ℕ) (h : Route) (t : Tag) → is_router net a ≡ true → is_origin net policy p a ≡ true → h ≡ own_route net config p a
+  pub sent_own : (a b : ℕ) (h : Route) (t : Tag) → is_router net a ≡ true → is_origin net policy p a ≡ true → h ≡ own_route net config p a
       → export_of net config class a b h.tag ≡ Some t → RunsTo net g tag a b (message h t)
   sent_own a b h t router origin own e =
       let mine : pair_of h.tag ≡ lines.own a = ap (λ (x : Route). pair_of x.tag) own in
@@ -164,7 +164,7 @@ module _ (net : PlainNet) (policy : PlainPolicy) (config : PlainConfig) (p : Pla
   unless true o q h = absurd (cc)
   unless false o q h = (refl, h)
 
-  from_router : (r u : ℕ) (m : Route) (q : Tag × ℕ) → is_router net r ≡ true → is_router net u ≡ true → RunsTo net g tag u r m
+  pub from_router : (r u : ℕ) (m : Route) (q : Tag × ℕ) → is_router net r ≡ true → is_router net u ≡ true → RunsTo net g tag u r m
       → import_of net config class r u m.path m.tag ≡ Some q → RunsAt g tag r (extended r m q)
   from_router r u m q to from way e =
       let parts = unless (law.stands_on r m.path) (import_of net config class r u [] m.tag) q
@@ -183,7 +183,7 @@ module _ (net : PlainNet) (policy : PlainPolicy) (config : PlainConfig) (p : Pla
         pref_is = ap (λ (z : line.Tag × ℕ). z.1) next.2;
       }
 
-  from_peer : (r u : ℕ) (m : Route) (q : Tag × ℕ) → is_router net r ≡ true → is_router net u ≡ false → is_origin net policy p u ≡ true
+  pub from_peer : (r u : ℕ) (m : Route) (q : Tag × ℕ) → is_router net r ≡ true → is_router net u ≡ false → is_origin net policy p u ≡ true
       → m.path ≡ u ∷ [] → m.tag ≡ no_tag → import_of net config class r u m.path m.tag ≡ Some q
       → RunsAt g tag r (extended r m q)
   from_peer r u m q to off origin path bare e =

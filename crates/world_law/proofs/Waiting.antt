@@ -9,7 +9,7 @@ use Rattle.net_base.specs.Network.{PlainNet, IsNet, is_peer, is_router}
 use Rattle.net_base.specs.Prefixes.{PlainPrefix}
 use Rattle.policy_base.specs.Policies.{PlainPolicy, PlainStatement, IsPolicyOf}
 use Rattle.policy_base.specs.Governing.{is_origin}
-use Rattle.policy_base.specs.Permitted.{is_permitted}
+use Rattle.policy_base.specs.Permitted.{is_permitted, is_allowed}
 use Rattle.policy_base.specs.Walks.{is_loop_free}
 use Rattle.net_base.specs.Locations.{neighbours, numbers_below}
 use Rattle.graph_base.specs.Runs as plain
@@ -24,7 +24,7 @@ use Rattle.evidence_law.proofs.Existence.{held, outcome_of, outcome-size}
 use Rattle.evidence_law.proofs.GraphForms.{same_run}
 use Rattle.net_base.proofs.RoutersAndPeers.{peer_no_router}
 use Rattle.evidence_law.proofs.PeerWalks.{peer_permits}
-use Rattle.evidence_law.proofs.Setting.{graph_of, network_of, tag_of}
+use Rattle.evidence_law.proofs.Setting.{graph_of, network_of, pairs_of, tag_of}
 use Rattle.net_base.proofs.NumbersBelow.{length-numbers_below, slice_get-numbers_below}
 use Rattle.routing_law.specs.Graph as laws
 use Rattle.routing_law.specs.Network as law
@@ -44,7 +44,7 @@ use Rattle.world_law.specs.Waiting.{HasRun, HeldAndWaitingRoutesRun, IsHeld, IsO
 use Rattle.world_law.proofs.Offers as way
 use Rattle.world_law.proofs.Offers.{Held_at, On_the_way, peer_off, quiet_worlds_offer}
 use Rattle.world_law.proofs.Quiet as rest
-use Rattle.world_law.proofs.Running.{first_is_given}
+use Rattle.world_law.proofs.Running.{RunsTo, first_is_given}
 
 -- ---- other words for what holds of every route
 
@@ -64,39 +64,39 @@ module _ {R : Type 0} (at at' : ℕ → R → Type 0) (on on' : ℕ → ℕ → 
 module _ (net : PlainNet) (policy : PlainPolicy) (config : PlainConfig) (cs : List PlainCaseEvidence) (rules : IsNet net)
     (kept : IsPolicyOf net policy) (passes : Passes net policy config cs) (p : PlainPrefix) (f : Failures)
     (c : CaseFound net policy config cs rules kept passes f p) where
-  has_run : (r : ℕ) (path rest : List ℕ) (n : ℕ) → path ≡ r ∷ rest → law.loop_free path ≡ true → plain.run c.d.graph path ≡ Some n → HasRun c.d r path n
-  has_run r path rest n begins free runs = record { rest = rest; begins = begins; free = sym (same_free path) ∙ free; runs = runs }
+  run_is : (path : List ℕ) (n : ℕ) → laws.run (graph_of c.d.graph (number_at c.d)) path ≡ Some n → plain.run c.d.graph path ≡ Some n
+  run_is path n h = sym (same_run c.d.graph (number_at c.d) path) ∙ h
+
+  -- what runs in the graph of the laws has a run in the case's
+  pub has_run : (r : ℕ) (path rest : List ℕ) (n : ℕ) → path ≡ r ∷ rest → law.loop_free path ≡ true → laws.run (graph_of c.d.graph (number_at c.d)) path ≡ Some n → HasRun c.d r path n
+  has_run r path rest n begins free runs = record { rest = rest; begins = begins; free = sym (same_free path) ∙ free; runs = run_is path n runs }
 
   held_said : (r : ℕ) (h : Route) → Held_at net policy config cs rules kept passes p f c r h → IsHeld net policy config p c.d r h
   held_said r h x = record {
     own = x.own;
-    other = λ o.
-        let a = x.other o in
-        (a.node, has_run r h.path a.rest a.node a.begins a.free (sym (same_run c.d.graph (number_at c.d) h.path) ∙ a.runs), ap tag_of a.tag_is, a.pref_is);
+    other = λ o. (let a = x.other o in (a.node, has_run r h.path a.rest a.node a.begins a.free a.runs, ap tag_of a.tag_is, a.pref_is));
   }
+
+  -- what a router sends a peer is allowed, with the peer in front
+  pub sent_allowed : (a b : ℕ) (m : Route) → is_router net a ≡ true → is_peer net b ≡ true → RunsTo net (graph_of c.d.graph (number_at c.d)) (pairs_of c.d) a b m
+      → is_allowed net policy p c.s (b ∷ m.path) ≡ true
+  sent_allowed a b m router peer y =
+      let off = peer_off (network_of net (is_origin net policy p)) (graph_of c.d.graph (number_at c.d))
+      (way.lines_here net policy config cs rules kept passes p f c).formed m.path y.rest a b y.node y.next y.begins y.runs y.step router
+      (peer_no_router net b peer) in
+      let runs : plain.run c.d.graph (b ∷ a ∷ y.rest) ≡ Some y.next = ap (option_and_then (λ n. plain.step_at c.d.graph n b))
+      (ap (plain.run c.d.graph) (sym y.begins) ∙ run_is m.path y.node y.runs) ∙ y.step in
+      let permitted = subst (λ (q : List ℕ). is_permitted net policy p c.s (b ∷ q) ≡ true) (sym y.begins)
+      (prefix_permits net policy p c.s c.same (b ∷ a ∷ y.rest) (peer_permits net c.s c.d c.on b a y.next y.rest peer runs)) in
+      and_from (is_permitted net policy p c.s (b ∷ m.path)) (is_loop_free (b ∷ m.path)) permitted
+      (and_from (not (law.stands_on b m.path)) (is_loop_free m.path) (not_from_false _ off) (sym (same_free m.path) ∙ y.free))
 
   way_said : (a b : ℕ) (m : Route) → On_the_way net policy config cs rules kept passes p f c a b m → IsOnItsWay net policy p c.s c.d a b m
   way_said a b m x = record {
-    router = λ t.
-        let y = x.router t in
-        (y.node, y.next, has_run a m.path y.rest y.node y.begins y.free (run_is y.node y.runs), y.step, λ to. ap tag_of (y.to_router to));
-    allowed = λ t.
-        let who = and_parts (is_router net a) (is_peer net b) t in
-        let y = x.router who.0 in
-        let off = peer_off (network_of net (is_origin net policy p)) (graph_of c.d.graph (number_at c.d))
-        (way.lines_here net policy config cs rules kept passes p f c).formed m.path y.rest a b y.node y.next y.begins y.runs y.step who.0
-        (peer_no_router net b who.1) in
-        let runs : plain.run c.d.graph (b ∷ a ∷ y.rest) ≡ Some y.next = ap (option_and_then (λ n. plain.step_at c.d.graph n b))
-        (ap (plain.run c.d.graph) (sym y.begins) ∙ run_is y.node y.runs) ∙ y.step in
-        let permitted = subst (λ (q : List ℕ). is_permitted net policy p c.s (b ∷ q) ≡ true) (sym y.begins)
-        (prefix_permits net policy p c.s c.same (b ∷ a ∷ y.rest) (peer_permits net c.s c.d c.on b a y.next y.rest who.1 runs)) in
-        and_from (is_permitted net policy p c.s (b ∷ m.path)) (is_loop_free (b ∷ m.path)) permitted
-        (and_from (not (law.stands_on b m.path)) (is_loop_free m.path) (not_from_false _ off) (sym (same_free m.path) ∙ y.free));
+    router = λ t. (let y = x.router t in (y.node, y.next, has_run a m.path y.rest y.node y.begins y.free y.runs, y.step, λ to. ap tag_of (y.to_router to)));
+    allowed = λ t. (let who = and_parts (is_router net a) (is_peer net b) t in sent_allowed a b m who.0 who.1 (x.router who.0));
     peer = λ o. (let y = x.peer o in (y.0, y.1));
   }
-    where
-      run_is : (n : ℕ) → laws.run (graph_of c.d.graph (number_at c.d)) m.path ≡ Some n → plain.run c.d.graph m.path ≡ Some n
-      run_is n h = sym (same_run c.d.graph (number_at c.d) m.path) ∙ h
 
   all_said : (es : List Event) → AreKinds (IsHeld net policy config p c.d) (IsOnItsWay net policy p c.s c.d) (run (speakers_of net policy config p) es (opening (speakers_of net policy config p)))
   all_said es =
