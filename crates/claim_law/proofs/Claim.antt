@@ -3,7 +3,8 @@ use Rattle.announce_law.proofs.Withstanding.{passing_evidence_withstands_peers}
 use Rattle.evidence_law.proofs.ExistenceLaw.{stable_outcomes_exist}
 use Rattle.evidence_law.proofs.RightLaw.{passing_evidence_is_right}
 use Rattle.packets_law.proofs.Longest.{packets_arrive}
-use Rattle.world_law.proofs.Moments.{every_moment_is_right}
+use Rattle.motion_law.proofs.Ever.{every_route_is_allowed}
+use Rattle.motion_rest.proofs.Resting.{passing_evidence_rests}
 use Rattle.rest_law.proofs.Ended.{passing_evidence_comes_to_rest}
 use Rattle.claim_law.specs.Laws.{PassingEvidenceKeepsPolicy}
 use Rattle.claim_law.proofs.OfNet.{made_configurations_are_of_their_net}
@@ -17,8 +18,9 @@ passing_evidence_keeps_policy net policy config cs rules fits passes = record {
   packets = packets_arrive net policy config rules;
   motion = record {
     peers = passing_evidence_withstands_peers net policy config cs rules fits passes;
-    moments = every_moment_is_right net policy config cs rules fits passes;
-    rests = passing_evidence_comes_to_rest net policy config cs rules fits passes;
+    moments = every_route_is_allowed net policy config cs rules fits passes;
+    rests = passing_evidence_rests net policy config cs rules fits passes;
+    settles = passing_evidence_comes_to_rest net policy config cs rules fits passes;
   };
   taken = made_configurations_take_permitted net policy config cs rules fits passes.made;
 }

@@ -8,7 +8,8 @@ use Rattle.outcome_base.specs.Outcomes.{Failures, Outcome, IsStable}
 use Rattle.outcome_base.specs.Right.{IsRight}
 use Rattle.outcome_base.specs.Withstanding.{WithstandsPeers}
 use Rattle.packets_law.specs.Longest.{CarriesPackets}
-use Rattle.world_law.specs.Moments.{IsRightAlways}
+use Rattle.motion_law.specs.Ever.{IsRightEver}
+use Rattle.motion_rest.specs.Rest.{RestsInMotion}
 use Rattle.rest_law.specs.Rest.{AlwaysComesToRest}
 use Rattle.claim_law.specs.OfNet.{IsOfNet}
 use Rattle.claim_law.specs.Taken.{TakesPermitted}
@@ -22,10 +23,14 @@ HasOutcomes net policy config =
 pub record IsKeptInMotion (net : PlainNet) (policy : PlainPolicy) (config : PlainConfig) : Type 0 where
   -- It is right whatever the peers announce,
   pub peers : WithstandsPeers net policy config
-  -- no claimed router holds, and no peer hears of, what isn't allowed, at any moment,
-  pub moments : IsRightAlways net policy config
-  -- and where messages are delivered the network comes to rest in its one settled outcome.
-  pub rests : AlwaysComesToRest net policy config
+  -- no claimed router can come to hold, and no peer to hear of, what isn't allowed, whatever fails, whatever the peers say, and whenever
+  -- and however routers hear, choose and send,
+  pub moments : (p : PlainPrefix) → IsPrefix p → IsRightEver net policy config p
+  -- and once nothing more fails and no peer changes what it says, the network comes to rest in a stable outcome, however ties are broken.
+  pub rests : (p : PlainPrefix) → IsPrefix p → RestsInMotion net policy config p
+  -- Where ties go to the lowest identifier, routers choose and send at once, and peers announce themselves alone, it is its one settled
+  -- outcome.
+  pub settles : AlwaysComesToRest net policy config
 
 -- The configuration keeps the policy in the network.
 pub record KeepsPolicy (net : PlainNet) (policy : PlainPolicy) (config : PlainConfig) : Type 0 where

@@ -6,6 +6,7 @@ use Rattle.stable_paths.specs.declared.scenario.Scenario.{Scenario}
 use Rattle.stable_paths.specs.Scenarios.{failures_of}
 use Rattle.event_reader.specs.declared.events.Events.{Events}
 use Rattle.world_law.specs.Laws.{world_after}
+use Rattle.world_law.specs.Moments.{IsRightNow}
 use Rattle.trace_job.specs.Traced.{scenario_in}
 use Rattle.world_law.specs.Scenarios.{IsScenarioOf}
 use Rattle.trace_lines.specs.Trace.{IsTraceOf}
@@ -29,6 +30,7 @@ pub record TracesRight {O : Type 0} (holds : Holds) (taken : O → Option (List 
   pub bytes : List ℕ
   pub written : Whole taken bytes out out'
   pub traced : IsTraceOf net policy made.config events.prefix events.events bytes
+  pub moment : IsRightNow net policy made.config events.prefix (world_after net policy made.config events.prefix events.events)
   pub failed : IsScenarioOf net (world_after net policy made.config events.prefix events.events) (failures_of (scenario_in net events.prefix (world_after net policy made.config events.prefix events.events)))
   pub replayed : IsTrue traced.quiet → (scenario : Scenario) → events.prefix ≡ scenario.prefix
       → IsScenarioOf net (world_after net policy made.config events.prefix events.events) (failures_of scenario) → IsReplayed net policy made.config scenario traced.report

@@ -16,6 +16,7 @@ use Rattle.input_texts.proofs.Asking.{net_of_spelled, policy_of_spelled}
 use Rattle.trace_job.specs.Traced.{WritesTrace}
 use Rattle.event_reader.proofs.ReadPrefixes.{spelled_prefix}
 use Rattle.trace_job.proofs.Replays.{quiet_replays}
+use Rattle.world_law.proofs.Moments.{every_moment_is_right}
 use Rattle.propane_run.specs.declared.command.Command.TheVariants.{Trace}
 use Rattle.propane_run.specs.Run.{Comes}
 use Rattle.propane_run.specs.Tracing.{TracesRight}
@@ -40,6 +41,7 @@ module _ {S : Type 0} (holds : Holds) (words : List (List ℕ)) (taken : S → O
         bytes = h.2;
         written = rw (out_is _ _ h.5) at written;
         traced = h.4;
+        moment = every_moment_is_right net policy h.0 h.1 rules fits h.3.1 events.prefix prefix events.events;
         failed = is_failed net policy h.0 events.prefix events.events rules;
         replayed = quiet_replays net policy h.0 h.1 rules fits h.3.1 events prefix h.2 h.4;
       }
