@@ -5,6 +5,7 @@ use Rattle.evidence_law.proofs.RightLaw.{passing_evidence_is_right}
 use Rattle.packets_law.proofs.Longest.{packets_arrive}
 use Rattle.motion_law.proofs.Ever.{every_route_is_allowed}
 use Rattle.motion_rest.proofs.Resting.{passing_evidence_rests}
+use Rattle.multipath_law.proofs.Spread.{passing_evidence_spreads_right}
 use Rattle.rest_law.proofs.Ended.{passing_evidence_comes_to_rest}
 use Rattle.claim_law.specs.Laws.{PassingEvidenceKeepsPolicy}
 use Rattle.claim_law.proofs.OfNet.{made_configurations_are_of_their_net}
@@ -16,6 +17,7 @@ passing_evidence_keeps_policy net policy config cs rules fits passes = record {
   right = passing_evidence_is_right net policy config cs rules fits passes;
   outcomes = stable_outcomes_exist net policy config cs rules fits passes;
   packets = packets_arrive net policy config rules;
+  spread = passing_evidence_spreads_right net policy config cs rules fits passes;
   motion = record {
     peers = passing_evidence_withstands_peers net policy config cs rules fits passes;
     moments = every_route_is_allowed net policy config cs rules fits passes;

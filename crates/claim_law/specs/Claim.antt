@@ -10,6 +10,7 @@ use Rattle.outcome_base.specs.Withstanding.{WithstandsPeers}
 use Rattle.packets_law.specs.Longest.{CarriesPackets}
 use Rattle.motion_law.specs.Ever.{IsRightEver}
 use Rattle.motion_rest.specs.Rest.{RestsInMotion}
+use Rattle.multipath_law.specs.Spread.{SpreadsPackets}
 use Rattle.rest_law.specs.Rest.{AlwaysComesToRest}
 use Rattle.claim_law.specs.OfNet.{IsOfNet}
 use Rattle.claim_law.specs.Taken.{TakesPermitted}
@@ -42,6 +43,8 @@ pub record KeepsPolicy (net : PlainNet) (policy : PlainPolicy) (config : PlainCo
   pub outcomes : HasOutcomes net policy config
   -- Packets arrive, by the longest prefix that covers their address.
   pub packets : CarriesPackets net policy config
+  -- Routers may spread them over routes that tie with their own.
+  pub spread : SpreadsPackets net policy config
   -- It is kept in motion.
   pub motion : IsKeptInMotion net policy config
   -- Routers take from peers what permitted walks end with.

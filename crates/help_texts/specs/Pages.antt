@@ -4,10 +4,10 @@ use Rattle.std.specs.Str.{bytes_eq}
 use Rattle.help_texts.specs.declared.pages.compiling.TheConstants.{COMPILE, EVIDENCE, MIGRATE, ROUTEMAP, SAMPLE}
 use Rattle.help_texts.specs.declared.pages.judging.TheConstants.{AUDIT, CHECK, CHECKMAP, EXPLAIN, LINT}
 use Rattle.help_texts.specs.declared.pages.program.TheConstants.{COMMANDS, HELP, VERSION, VERSION_PAGE}
-use Rattle.help_texts.specs.declared.pages.telling.TheConstants.{DRAIN, IMPACT, PROMISES, REPLAY, SETTLE, TRACE, WHATIF}
+use Rattle.help_texts.specs.declared.pages.telling.TheConstants.{DRAIN, IMPACT, MULTIPATH, PROMISES, REPLAY, SETTLE, TRACE, WHATIF}
 use Rattle.help_texts.specs.declared.topic.Topic.{Topic}
 use Rattle.help_texts.specs.declared.topic.Topic.TheVariants.{Compile, Evidence, Check, Explain, Replay, Trace, Sample, Migrate, Impact, RouteMap, CheckMap, Lint, Audit}
-use Rattle.help_texts.specs.declared.topic.Topic.TheVariants.{Help, Version, Drain, Settle, Promises, WhatIf}
+use Rattle.help_texts.specs.declared.topic.Topic.TheVariants.{Help, Version, Drain, Settle, Promises, WhatIf, Multipath}
 
 -- the command of this word
 abbrev pub topic_named : List ℕ → Option Topic
@@ -31,6 +31,7 @@ topic_named word =
     else if bytes_eq word (codes "settle") then Some Settle
     else if bytes_eq word (codes "promises") then Some Promises
     else if bytes_eq word (codes "whatif") then Some WhatIf
+    else if bytes_eq word (codes "multipath") then Some Multipath
     else None
 
 -- its page
@@ -54,6 +55,7 @@ page_of Drain = DRAIN.now
 page_of Settle = SETTLE.now
 page_of Promises = PROMISES.now
 page_of WhatIf = WHATIF.now
+page_of Multipath = MULTIPATH.now
 
 -- what is said of one command, or of all
 abbrev pub help_text : Option Topic → List ℕ

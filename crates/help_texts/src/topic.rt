@@ -45,6 +45,8 @@ pub enum Topic {
     Promises,
     /// `whatif`.
     WhatIf,
+    /// `multipath`.
+    Multipath,
 }
 
 impl Topic {
@@ -72,6 +74,7 @@ impl Topic {
             "settle" => Some(Topic::Settle),
             "promises" => Some(Topic::Promises),
             "whatif" => Some(Topic::WhatIf),
+            "multipath" => Some(Topic::Multipath),
             _ => None,
         }
     }
@@ -100,6 +103,7 @@ impl Topic {
             Topic::Settle => pages::SETTLE,
             Topic::Promises => pages::PROMISES,
             Topic::WhatIf => pages::WHATIF,
+            Topic::Multipath => pages::MULTIPATH,
         }
     }
 }

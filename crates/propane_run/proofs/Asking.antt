@@ -11,7 +11,7 @@ use Rattle.policy_meaning.proofs.Texts.{policies_are_meant, policy_is_spelled}
 use Rattle.input_texts.specs.Asked.{SpellAlso, SpellFor}
 use Rattle.audit_job.specs.Asked.{Audited, SpellAudit}
 use Rattle.propane_run.specs.declared.command.Command.{Command}
-use Rattle.propane_run.specs.declared.command.Command.TheVariants.{Compile, Audit, Replay, Trace, Sample, Drain, Settle, WhatIf}
+use Rattle.propane_run.specs.declared.command.Command.TheVariants.{Compile, Audit, Replay, Trace, Sample, Drain, Settle, WhatIf, Multipath}
 use Rattle.propane_run.specs.Asked.{AsksAlso, AsksFor, IsFor}
 use Rattle.propane_run.specs.Auditing.{AsksAudit}
 use Rattle.propane_run.specs.Headline.{NamesTexts}
@@ -43,6 +43,7 @@ module _ (holds : Holds) (words : List (List ℕ)) where
   asked_by Drain net policy is = is.1.asked.asked
   asked_by Settle net policy is = is.1.asked.asked
   asked_by WhatIf net policy is = is.1.asked.asked
+  asked_by Multipath net policy is = is.1.asked.asked
   asked_by c net policy is = is.asked
 
   abbrev pub asks_for : (c : Command) (net : PlainNet) (policy : PlainPolicy) → words_are words ≡ Some c → SpellFor holds (names_read words c) net policy → AsksFor holds words c net policy

@@ -40,9 +40,11 @@ use Rattle.promises_job.proofs.PromisesLaws.{promises_job}
 use Rattle.promises_job.specs.Promised.{WritesPromises}
 use Rattle.whatif_job.proofs.WhatIfLaws.{whatif_job}
 use Rattle.whatif_job.specs.WhatIfs.{WritesWhatIf}
+use Rattle.multipath_job.proofs.MultipathLaws.{multipath_job}
+use Rattle.multipath_job.specs.Spread.{WritesMultipath}
 use Rattle.propane_run.specs.declared.command.Command.{Command}
 use Rattle.propane_run.specs.declared.command.Command.TheVariants.{Compile, Evidence, Check, Explain, Replay, Trace, Impact, RouteMap, CheckMap, Lint, Audit, Migrate}
-use Rattle.propane_run.specs.declared.command.Command.TheVariants.{Sample, Help, Version, Drain, Settle, Promises, WhatIf}
+use Rattle.propane_run.specs.declared.command.Command.TheVariants.{Sample, Help, Version, Drain, Settle, Promises, WhatIf, Multipath}
 use Rattle.propane_run.specs.Asked.{AsksAlso, AsksFor, IsFor}
 use Rattle.propane_run.specs.Run.{Job}
 use Rattle.propane_run.specs.Words.{names_read, words_are}
@@ -74,6 +76,7 @@ job_is Drain = drain_job (Unit {0}) ⊥ tt
 job_is Settle = settle_job (Unit {0}) ⊥ tt
 job_is Promises = promises_job (Unit {0}) ⊥ tt
 job_is WhatIf = whatif_job (Unit {0}) ⊥ tt
+job_is Multipath = multipath_job (Unit {0}) ⊥ tt
 
 module _ (holds : Holds) (words : List (List ℕ)) where
   -- of two texts
@@ -98,6 +101,7 @@ module _ (holds : Holds) (words : List (List ℕ)) where
   compiler Drain compiles is = of_three scenario_line scenario_spelled WritesDrain Drain is
   compiler Settle compiles is = of_three events_line events_spelled WritesSettlement Settle is
   compiler WhatIf compiles is = of_three scenario_line scenario_spelled WritesWhatIf WhatIf is
+  compiler Multipath compiles is = of_three scenario_line scenario_spelled WritesMultipath Multipath is
   compiler Promises compiles is = of_two Promises is (compiler_of_two WritesPromises holds (names_read words Promises))
   compiler Trace compiles is = of_three events_line events_spelled WritesTrace Trace is
   compiler (Sample n) compiles is = in_words (sample_compiler holds n) (λ net policy are. record { asked = is; net_is = are.0; policy_is = are.1 }) (λ net policy asks. (asks.net_is, asks.policy_is))

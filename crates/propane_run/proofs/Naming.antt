@@ -6,7 +6,7 @@ use Rattle.std.proofs.lemmas.Slice.Eq.{bytes_eq-Decides}
 use Rattle.help_texts.specs.Pages.{topic_named}
 use Rattle.propane_run.specs.declared.command.Command.{Command}
 use Rattle.propane_run.specs.declared.command.Command.TheVariants.{Compile, Evidence, Check, Explain, Replay, Trace, Impact, RouteMap, CheckMap, Lint, Audit, Migrate}
-use Rattle.propane_run.specs.declared.command.Command.TheVariants.{Sample, Help, Version, Drain, Settle, Promises, WhatIf}
+use Rattle.propane_run.specs.declared.command.Command.TheVariants.{Sample, Help, Version, Drain, Settle, Promises, WhatIf, Multipath}
 use Rattle.propane_run.specs.Words.{asks_for_help, asks_for_version, names_read, prefix_word, sample_number, word_alone, with_one_word, with_two_names, with_three_words}
 use Rattle.propane_run.specs.Words.{with_four_names, with_six_names, words_are}
 
@@ -66,7 +66,8 @@ module _ (d : Command) (one : is_one d ≡ true) where
       let c = mapped (bytes_eq word (codes "impact")) (λ p. Impact p) (prefix_word last) _ (λ p. refl) b in
       let e = other (bytes_eq word (codes "drain")) Drain _ refl c in
       let f = other (bytes_eq word (codes "settle")) Settle _ refl e in
-      none (other (bytes_eq word (codes "whatif")) WhatIf None refl f)
+      let g = other (bytes_eq word (codes "whatif")) WhatIf _ refl f in
+      none (other (bytes_eq word (codes "multipath")) Multipath None refl g)
 
   with_four : (word : List ℕ) → with_four_names word ≡ Some d → (bytes_eq word (codes "check") ≡ true) × (Check ≡ d)
   with_four word h = this (bytes_eq word (codes "check")) Check None none h

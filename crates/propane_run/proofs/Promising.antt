@@ -10,9 +10,10 @@ use Rattle.input_texts.specs.FaultLines.{events_line, scenario_line}
 use Rattle.scenario_reader.specs.Spelled.{spelled as scenario_spelled}
 use Rattle.settle_job.specs.Settles.{WritesSettlement}
 use Rattle.whatif_job.specs.WhatIfs.{WritesWhatIf}
+use Rattle.multipath_job.specs.Spread.{WritesMultipath}
 use Rattle.propane_run.specs.declared.command.Command.{Command}
 use Rattle.propane_run.specs.declared.command.Command.TheVariants.{Compile, Evidence, Check, Explain, Replay, Trace, Sample, Migrate, Impact, RouteMap, CheckMap, Lint}
-use Rattle.propane_run.specs.declared.command.Command.TheVariants.{Audit, Help, Version, Drain, Settle, Promises, WhatIf}
+use Rattle.propane_run.specs.declared.command.Command.TheVariants.{Audit, Help, Version, Drain, Settle, Promises, WhatIf, Multipath}
 use Rattle.propane_run.specs.Promises.{Promised}
 use Rattle.propane_run.specs.Run.{Comes}
 use Rattle.propane_run.proofs.ByCommand.Answered as answered
@@ -53,6 +54,7 @@ module _ {S : Type 0} (holds : Holds) (words : List (List ℕ)) (taken : S → O
   done Settle comes = answered.right events_line events_spelled WritesSettlement holds words Settle taken before now b written comes.is comes.bytes comes.held comes.says
   done Promises comes = promises.right holds words taken before now b written comes
   done WhatIf comes = answered.right scenario_line scenario_spelled WritesWhatIf holds words WhatIf taken before now b written comes.is comes.bytes comes.held comes.says
+  done Multipath comes = answered.right scenario_line scenario_spelled WritesMultipath holds words Multipath taken before now b written comes.is comes.bytes comes.held comes.says
 
   pub refused : (c : Command) → Refuses c → Comes holds words c (line Refused b) → Promised holds taken words c Refused before now
   refused RouteMap refuses comes = route_map.refused holds words taken before now b written comes
@@ -68,6 +70,7 @@ module _ {S : Type 0} (holds : Holds) (words : List (List ℕ)) (taken : S → O
   refused Settle refuses comes = compilers.refused holds words taken before now b written Settle refuses comes
   refused Promises refuses comes = compilers.refused holds words taken before now b written Promises refuses comes
   refused WhatIf refuses comes = compilers.refused holds words taken before now b written WhatIf refuses comes
+  refused Multipath refuses comes = compilers.refused holds words taken before now b written Multipath refuses comes
   refused c refuses comes = absurd refuses
 
   pub failed : (c : Command) → Judges c → Comes holds words c (failing b) → Promised holds taken words c CheckFails before now

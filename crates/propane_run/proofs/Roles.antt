@@ -1,6 +1,6 @@
 -- Which commands compile, which may refuse, and which judge what they are given.
 use Rattle.propane_run.specs.declared.command.Command.{Command}
-use Rattle.propane_run.specs.declared.command.Command.TheVariants.{Compile, Evidence, Check, Replay, Trace, Impact, RouteMap, CheckMap, Lint, Audit, Sample, Drain, Settle, Promises, WhatIf}
+use Rattle.propane_run.specs.declared.command.Command.TheVariants.{Compile, Evidence, Check, Replay, Trace, Impact, RouteMap, CheckMap, Lint, Audit, Sample, Drain, Settle, Promises, WhatIf, Multipath}
 
 -- it writes a part of what is compiled from a policy, or what comes of it
 abbrev pub Compiles : Command → Type 0
@@ -14,6 +14,7 @@ Compiles Drain = Unit {0}
 Compiles Settle = Unit {0}
 Compiles Promises = Unit {0}
 Compiles WhatIf = Unit {0}
+Compiles Multipath = Unit {0}
 Compiles _ = ⊥
 
 -- it may refuse a policy, or a configuration

@@ -11,7 +11,7 @@ use Rattle.event_reader.specs.Spelled.{spelled as events_spelled}
 use Rattle.sample_network.specs.Network.{sample_net}
 use Rattle.sample_network.specs.SamplePolicy.{sample_policy}
 use Rattle.propane_run.specs.declared.command.Command.{Command}
-use Rattle.propane_run.specs.declared.command.Command.TheVariants.{Replay, Trace, Sample, Drain, Settle, WhatIf}
+use Rattle.propane_run.specs.declared.command.Command.TheVariants.{Replay, Trace, Sample, Drain, Settle, WhatIf, Multipath}
 use Rattle.propane_run.specs.Words.{words_are, names_read}
 use Rattle.run_base.specs.Reading.{Holds, AllHeld}
 
@@ -55,5 +55,6 @@ IsFor holds words Trace net policy = (events : Events) × AsksOfEvents holds wor
 IsFor holds words Drain net policy = (scenario : Scenario) × AsksUnder holds words Drain net policy scenario
 IsFor holds words Settle net policy = (events : Events) × AsksOfEvents holds words Settle net policy events
 IsFor holds words WhatIf net policy = (scenario : Scenario) × AsksUnder holds words WhatIf net policy scenario
+IsFor holds words Multipath net policy = (scenario : Scenario) × AsksUnder holds words Multipath net policy scenario
 IsFor holds words (Sample n) net policy = IsSampled words n net policy
 IsFor holds words c net policy = AsksFor holds words c net policy

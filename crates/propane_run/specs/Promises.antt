@@ -10,13 +10,14 @@ use Rattle.help_texts.specs.Pages.{help_text, version_text}
 use Rattle.scenario_reader.specs.Spelled.{spelled as scenario_spelled}
 use Rattle.settle_job.specs.Settles.{WritesSettlement}
 use Rattle.whatif_job.specs.WhatIfs.{WritesWhatIf}
+use Rattle.multipath_job.specs.Spread.{WritesMultipath}
 use Rattle.run_base.specs.declared.outcome.Status.{Status}
 use Rattle.run_base.specs.declared.outcome.Status.TheVariants.{Done, Refused, CheckFails}
 use Rattle.run_base.specs.Reading.{Holds}
 use Rattle.run_base.specs.Said.{Whole}
 use Rattle.propane_run.specs.declared.command.Command.{Command}
 use Rattle.propane_run.specs.declared.command.Command.TheVariants.{Compile, Evidence, Check, Explain, Replay, Trace, Sample, Migrate, Impact, RouteMap, CheckMap, Lint}
-use Rattle.propane_run.specs.declared.command.Command.TheVariants.{Audit, Help, Version, Drain, Settle, Promises, WhatIf}
+use Rattle.propane_run.specs.declared.command.Command.TheVariants.{Audit, Help, Version, Drain, Settle, Promises, WhatIf, Multipath}
 use Rattle.propane_run.specs.Answering.{AnswersRight}
 use Rattle.propane_run.specs.Asked.{AsksFor}
 use Rattle.propane_run.specs.Auditing.{AuditsRight, TellsAuditFault}
@@ -75,4 +76,6 @@ Promised holds taken words Promises Done s s' = PromisesRight holds taken words 
 Promised holds taken words Promises Refused s s' = RefusesRight holds taken words Promises s s'
 Promised holds taken words WhatIf Done s s' = AnswersRight scenario_spelled WritesWhatIf holds taken words WhatIf s s'
 Promised holds taken words WhatIf Refused s s' = RefusesRight holds taken words WhatIf s s'
+Promised holds taken words Multipath Done s s' = AnswersRight scenario_spelled WritesMultipath holds taken words Multipath s s'
+Promised holds taken words Multipath Refused s s' = RefusesRight holds taken words Multipath s s'
 Promised holds taken words _ _ s s' = ⊥

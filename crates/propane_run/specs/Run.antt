@@ -2,7 +2,7 @@
 use Rattle.std.specs.Prelude.{◌≡◌, ℕ, List, Option, Some, None}
 use Rattle.propane_run.specs.declared.command.Command.{Command}
 use Rattle.propane_run.specs.declared.command.Command.TheVariants.{Compile, Evidence, Check, Explain, Replay, Trace, Impact, RouteMap, CheckMap, Lint, Audit, Migrate}
-use Rattle.propane_run.specs.declared.command.Command.TheVariants.{Sample, Help, Version, Drain, Settle, Promises, WhatIf}
+use Rattle.propane_run.specs.declared.command.Command.TheVariants.{Sample, Help, Version, Drain, Settle, Promises, WhatIf, Multipath}
 use Rattle.propane_run.specs.Words.{names_read, usage, words_are}
 use Rattle.run_base.specs.Reading.{Holds, ReadsAll, AllHeld}
 use Rattle.input_texts.specs.Texts.{OfTwoTexts}
@@ -23,6 +23,7 @@ use Rattle.drain_job.specs.Drained as drain
 use Rattle.settle_job.specs.Settles as settle
 use Rattle.promises_job.specs.Promised as promises
 use Rattle.whatif_job.specs.WhatIfs as whatif
+use Rattle.multipath_job.specs.Spread as multipath
 use Rattle.run_base.specs.declared.outcome.Status.{Status}
 use Rattle.run_base.specs.Said.{Delivered, IsGiven, Said, text}
 
@@ -47,6 +48,7 @@ Job Drain = drain.SaysOfTexts
 Job Settle = settle.SaysOfTexts
 Job Promises = promises.SaysOfTexts
 Job WhatIf = whatif.SaysOfTexts
+Job Multipath = multipath.SaysOfTexts
 
 abbrev pub IsAnswerOf : Holds → (List ℕ → Type 0) → List (List ℕ) → Option Command → Said → Type 0
 IsAnswerOf holds rose words None what = what ≡ usage

@@ -12,7 +12,7 @@ use Rattle.run_base.specs.Reading.{names_at}
 use Rattle.run_base.specs.Said.{Said, line}
 use Rattle.propane_run.specs.declared.command.Command.{Command}
 use Rattle.propane_run.specs.declared.command.Command.TheVariants.{Compile, Evidence, Check, Explain, Replay, Trace, Impact, RouteMap, CheckMap, Lint, Audit, Migrate}
-use Rattle.propane_run.specs.declared.command.Command.TheVariants.{Sample, Help, Version, Drain, Settle, Promises, WhatIf}
+use Rattle.propane_run.specs.declared.command.Command.TheVariants.{Sample, Help, Version, Drain, Settle, Promises, WhatIf, Multipath}
 
 -- a number from 2 to 96, of at most two digits, without a leading zero
 abbrev pub sample_number : List ℕ → Option ℕ
@@ -65,6 +65,7 @@ with_three_words word last =
     else if bytes_eq word (codes "drain") then Some Drain
     else if bytes_eq word (codes "settle") then Some Settle
     else if bytes_eq word (codes "whatif") then Some WhatIf
+    else if bytes_eq word (codes "multipath") then Some Multipath
     else None
 
 -- with four names
@@ -105,6 +106,7 @@ name_count Drain = 3
 name_count Settle = 3
 name_count Promises = 2
 name_count WhatIf = 3
+name_count Multipath = 3
 
 -- their places in the words, in order: they follow the command's own word
 abbrev pub places_of : Command → List ℕ
@@ -126,4 +128,4 @@ names_read words c = names_at words (places_of c)
 -- what is said of words that are no command
 abbrev pub usage : Said
 usage =
-    line Usage (codes "propane: usage: compile TOPO POLICY, evidence TOPO POLICY, check TOPO POLICY CONFIG EVIDENCE, explain TOPO POLICY, replay TOPO POLICY SCENARIO, trace TOPO POLICY EVENTS, sample N, migrate CONFIG, impact TOPO POLICY PREFIX, routemap TOPO POLICY, checkmap CONFIG MAPS, lint TOPO POLICY, audit TOPO POLICY CONFIG EVIDENCE SCENARIO TABLES, help [COMMAND], version, drain TOPO POLICY SCENARIO, settle TOPO POLICY EVENTS, promises TOPO POLICY, whatif TOPO POLICY SCENARIO\n")
+    line Usage (codes "propane: usage: compile TOPO POLICY, evidence TOPO POLICY, check TOPO POLICY CONFIG EVIDENCE, explain TOPO POLICY, replay TOPO POLICY SCENARIO, trace TOPO POLICY EVENTS, sample N, migrate CONFIG, impact TOPO POLICY PREFIX, routemap TOPO POLICY, checkmap CONFIG MAPS, lint TOPO POLICY, audit TOPO POLICY CONFIG EVIDENCE SCENARIO TABLES, help [COMMAND], version, drain TOPO POLICY SCENARIO, settle TOPO POLICY EVENTS, promises TOPO POLICY, whatif TOPO POLICY SCENARIO, multipath TOPO POLICY SCENARIO\n")

@@ -21,7 +21,7 @@ use net_base::{Prefix, read_length, read_prefix};
 
 /// What is said of words that are no command.
 pub const USAGE: &[u8] =
-    b"propane: usage: compile TOPO POLICY, evidence TOPO POLICY, check TOPO POLICY CONFIG EVIDENCE, explain TOPO POLICY, replay TOPO POLICY SCENARIO, trace TOPO POLICY EVENTS, sample N, migrate CONFIG, impact TOPO POLICY PREFIX, routemap TOPO POLICY, checkmap CONFIG MAPS, lint TOPO POLICY, audit TOPO POLICY CONFIG EVIDENCE SCENARIO TABLES, help [COMMAND], version, drain TOPO POLICY SCENARIO, settle TOPO POLICY EVENTS, promises TOPO POLICY, whatif TOPO POLICY SCENARIO\n";
+    b"propane: usage: compile TOPO POLICY, evidence TOPO POLICY, check TOPO POLICY CONFIG EVIDENCE, explain TOPO POLICY, replay TOPO POLICY SCENARIO, trace TOPO POLICY EVENTS, sample N, migrate CONFIG, impact TOPO POLICY PREFIX, routemap TOPO POLICY, checkmap CONFIG MAPS, lint TOPO POLICY, audit TOPO POLICY CONFIG EVIDENCE SCENARIO TABLES, help [COMMAND], version, drain TOPO POLICY SCENARIO, settle TOPO POLICY EVENTS, promises TOPO POLICY, whatif TOPO POLICY SCENARIO, multipath TOPO POLICY SCENARIO\n";
 
 // The places in the words at which the names of a command stand: they follow its own word.
 const PLACES: [u32; 6] = [1, 2, 3, 4, 5, 6];
@@ -67,6 +67,8 @@ pub enum Command {
     Promises,
     /// `whatif TOPO POLICY SCENARIO`.
     WhatIf,
+    /// `multipath TOPO POLICY SCENARIO`.
+    Multipath,
 }
 
 impl Command {
@@ -85,8 +87,12 @@ impl Command {
             | Command::CheckMap
             | Command::Lint
             | Command::Promises => 2,
-            Command::Replay | Command::Trace | Command::Drain | Command::Settle | Command::WhatIf =>
-                3,
+            Command::Replay
+            | Command::Trace
+            | Command::Drain
+            | Command::Settle
+            | Command::WhatIf
+            | Command::Multipath => 3,
             Command::Check => 4,
             Command::Audit => 6,
         }
@@ -197,6 +203,8 @@ fn of_three_words(word: &str, last: &str) -> Option<Command>
         Some(Command::Settle)
     } else if word == "whatif" {
         Some(Command::WhatIf)
+    } else if word == "multipath" {
+        Some(Command::Multipath)
     } else {
         None
     }

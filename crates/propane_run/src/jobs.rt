@@ -17,6 +17,7 @@ use impact_job::impact_texts;
 use lint_job::lint_texts;
 use map_jobs::{check_map_texts, route_map_texts};
 use migrate_job::migrate_text;
+use multipath_job::MultipathCommand;
 use net_base::List;
 use promises_job::promises_texts;
 use replay_job::ReplayCommand;
@@ -95,5 +96,6 @@ pub fn job(alloc: Global, command: &Command, texts: &[List<u8>]) -> Result<Vec<u
         Command::Settle => answer_texts::<SettleCommand>(alloc, texts),
         Command::Promises => promises_texts(alloc, text(texts, 0), text(texts, 1)),
         Command::WhatIf => answer_texts::<WhatIfCommand>(alloc, texts),
+        Command::Multipath => answer_texts::<MultipathCommand>(alloc, texts),
     }
 }

@@ -19,7 +19,7 @@ pub(crate) const COMPILE: Row = (
 );
 
 /// Each command, as it ends in each way.
-pub(crate) const ROWS: [Row; 31] = [
+pub(crate) const ROWS: [Row; 32] = [
     COMPILE,
     (
         "evidence",
@@ -166,6 +166,12 @@ pub(crate) const ROWS: [Row; 31] = [
     ),
     (
         "whatif",
+        &[Text::Routers, Text::AnyPath, Text::NoFailures],
+        &[],
+        Status::Done,
+    ),
+    (
+        "multipath",
         &[Text::Routers, Text::AnyPath, Text::NoFailures],
         &[],
         Status::Done,

@@ -107,6 +107,26 @@ TWO_SPINES = """\
 "peers":[],
 "links":[["T1","A1"],["A1","S1"],["A1","S2"],["S1","A2"],["S2","A2"],["A2","T3"],["A2","T4"]]}"""
 
+# Routers D, A, B and C: two ways from D to C, with the peer P1 at C.
+DIAMOND = """\
+{"routers":[{"name":"D","asn":64512,"id":"10.255.0.1"},
+{"name":"A","asn":64513,"id":"10.255.0.2"},
+{"name":"B","asn":64514,"id":"10.255.0.3"},
+{"name":"C","asn":64515,"id":"10.255.0.4"}],
+"peers":[{"name":"P1","asn":1001,"id":"192.0.2.1"}],
+"links":[["D","A"],["D","B"],["A","C"],["B","C"],["C","P1"]]}"""
+
+# Leaves L1 to L4, each linked with the spines S1 and S2.
+FABRIC = """\
+{"routers":[{"name":"L1","asn":64512,"id":"10.255.0.1"},
+{"name":"L2","asn":64513,"id":"10.255.0.2"},
+{"name":"L3","asn":64514,"id":"10.255.0.3"},
+{"name":"L4","asn":64515,"id":"10.255.0.4"},
+{"name":"S1","asn":64516,"id":"10.255.1.1"},
+{"name":"S2","asn":64517,"id":"10.255.1.2"}],
+"peers":[],
+"links":[["L1","S1"],["L1","S2"],["L2","S1"],["L2","S2"],["L3","S1"],["L3","S2"],["L4","S1"],["L4","S2"]]}"""
+
 # Routers R1 to R8 without links.
 EIGHT = """\
 {"routers":[{"name":"R1","asn":64512,"id":"10.255.0.1"},

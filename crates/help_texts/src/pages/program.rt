@@ -7,25 +7,26 @@ Propane compiles one network-wide policy over paths into one BGP configuration
 for each router, which keeps the policy whatever links and routers fail.
 
 commands
-  compile   write the configuration that keeps a policy
-  evidence  write the evidence that this configuration keeps it
-  check     tell whether evidence shows that a configuration keeps a policy
-  explain   tell whether a policy is accepted, or why it is refused
-  replay    tell what the network settles to when something fails
-  trace     tell what the network holds after a list of events
-  sample    compile a data centre of a given size, and tell how large all is
-  migrate   write a configuration of the first edition in the second
-  impact    tell what each single dead link or router changes for a prefix
-  routemap  write the configuration as route maps over prefix lists
-  checkmap  tell whether route maps are those of a configuration
-  lint      name the parts of a policy that can never matter
-  audit     tell whether recorded routes are stable and right
-  help      write these lines, or how one command is used
-  version   write the version of the program
-  drain     tell which links and routers carry nothing now
-  settle    tell what the network comes to rest in after a list of events
-  promises  tell what a policy promises, to whom, and to whom not
-  whatif    tell what one more dead link or router changes, from here
+  compile    write the configuration that keeps a policy
+  evidence   write the evidence that this configuration keeps it
+  check      tell whether evidence shows that a configuration keeps a policy
+  explain    tell whether a policy is accepted, or why it is refused
+  replay     tell what the network settles to when something fails
+  trace      tell what the network holds after a list of events
+  sample     compile a data centre of a given size, and tell how large all is
+  migrate    write a configuration of the first edition in the second
+  impact     tell what each single dead link or router changes for a prefix
+  routemap   write the configuration as route maps over prefix lists
+  checkmap   tell whether route maps are those of a configuration
+  lint       name the parts of a policy that can never matter
+  audit      tell whether recorded routes are stable and right
+  help       write these lines, or how one command is used
+  version    write the version of the program
+  drain      tell which links and routers carry nothing now
+  settle     tell what the network comes to rest in after a list of events
+  promises   tell what a policy promises, to whom, and to whom not
+  whatif     tell what one more dead link or router changes, from here
+  multipath  tell where packets go if routers spread them over equal routes
 
 propane help COMMAND writes how a command is used. Words that are no command
 end with status 2 and one line on the error output.

@@ -99,7 +99,8 @@ pub const DRAIN: &str = "usage: propane drain TOPO POLICY SCENARIO
 Compiles the policy, lets the routers, links and peer sessions of the scenario
 fail, and tells which of the links and routers that live carry nothing for its
 prefix: where such a one fails next, every other router keeps its route, and
-every peer is offered what it is offered now. No message is sent.
+every peer is offered what it is offered now. No message is sent. This speaks of
+routes: where routers spread packets, multipath tells which links carry some.
 
 reads
   TOPO      a topology text: routers, peers and links
@@ -192,7 +193,8 @@ pub const WHATIF: &str = "usage: propane whatif TOPO POLICY SCENARIO
 Tells what one more failure changes, besides those of the scenario: for each
 source that the policy claims for its prefix the best rank now; and for each
 link and router that lives, and whose failure changes something, how many other
-routers then hold another route, and the sources with another best rank.
+routers then hold another route, and the sources with another best rank. This
+speaks of routes. Where routers spread packets the ranks are the same.
 
 reads
   TOPO      a topology text: routers, peers and links
@@ -214,4 +216,37 @@ status
 example
   cd examples/two-exits
   propane whatif topology.json policy.propane p1-silent.json
+";
+
+/// How `multipath` is used.
+pub const MULTIPATH: &str = "usage: propane multipath TOPO POLICY SCENARIO
+
+Compiles the policy, lets the routers, links and peer sessions of the scenario
+fail, and tells where packets go for its prefix if each router spreads them over
+all neighbours whose routes tie with its own: those of the same preference with
+as many AS numbers. Each way that packets take ends at an origin, has as many
+hops as the router's own path, and is as right as that path. Idle links are
+those that live and over which no packet goes.
+
+reads
+  TOPO      a topology text: routers, peers and links
+  POLICY    a policy text for that network
+  SCENARIO  a scenario text: what fails, and the prefix
+
+writes
+  output        the prefix, its class, a line for each router and session, a
+                line for each idle link, and their number of those that live
+  error output  on status 1, 3 and 4 one line that says why
+
+status
+  0  the lines are written
+  1  the policy is refused
+  3  an input is too long, or no text of its kind
+  4  an input cannot be read
+  5  the output, or the line, cannot be written whole
+  6  memory is refused; nothing is written
+
+example
+  cd examples/fabric
+  propane multipath topology.json policy.propane no-failure.json
 ";

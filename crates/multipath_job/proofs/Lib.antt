@@ -1,0 +1,2 @@
+pub mod MultipathLaws
+pub mod Situated

@@ -1,0 +1,9 @@
+pub mod Ways
+pub mod Lengths
+pub mod Tied
+pub mod Ranked
+pub mod Right
+pub mod Repaired
+pub mod Announced
+pub mod Idle
+pub mod Spread

@@ -1,0 +1,3 @@
+pub mod Listing
+pub mod Finding
+pub mod Telling

@@ -1,0 +1,4 @@
+pub mod Idle
+pub mod Members
+pub mod Texts
+pub mod Told

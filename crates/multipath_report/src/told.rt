@@ -1,0 +1,12 @@
+//! What is told.
+use net_base::LocSet;
+use report_lines::Claims;
+use stable_paths::Situation;
+
+/// An outcome with what it is of, its multipath sets, and the sources that are claimed for its prefix.
+#[derive(Drop)]
+pub(crate) struct Told<'t, 's> {
+    pub(crate) situation: &'t Situation<'s>,
+    pub(crate) sets: &'t [LocSet],
+    pub(crate) claims: Claims<'s>,
+}
