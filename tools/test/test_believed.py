@@ -6,6 +6,24 @@ import unittest
 from common import TOP, ended, tool
 
 TOOL = os.path.join(TOP, "tools", "believed")
+BELIEVED = tool("believed")
+KIT = BELIEVED.kit()
+SOURCES = BELIEVED.Sources(TOP, KIT)
+
+
+def kit_is_told():
+    """Whether the kit is the one that CONTRIBUTING names, with which PROOFS counts."""
+    with open(os.path.join(TOP, "docs", "CONTRIBUTING.md"), encoding="utf-8") as file:
+        told = re.search(r"the last proof was made with `([\w-]+)`", file.read())
+    return KIT is not None and ended(["rt", "version"])[1].split()[:1] == [told.group(1)]
+
+
+KIT_IS_TOLD = kit_is_told()
+
+
+def reached(name):
+    """The definitions that a definition reaches."""
+    return SOURCES.reached(SOURCES.find(name))
 
 
 class Believed(unittest.TestCase):
@@ -24,19 +42,27 @@ class Believed(unittest.TestCase):
         self.assertFalse([path for _, _, path in rows if "/graph_base/" in path or "/evidence" in path])
 
     def test_counts_of_the_documents(self):
-        sources = tool("believed").Sources(TOP)
         with open(os.path.join(TOP, "docs", "PROOFS.md"), encoding="utf-8") as file:
-            told = re.findall(r"`(\w+\.\w+)`: (\d+) definitions, (\d+) lines in (\d+) files", file.read())
+            told = re.findall(r"`(\w+\.\w+)`: (\d+ definitions, \d+ lines in \d+ files)(?:; (\d+ definitions, \d+ lines in \d+ files) in crates of the kit)?", file.read())
         self.assertTrue(told)
-        for name, *counts in told:
-            wanted = tool("believed").shown(name, sources.reached(sources.find(name)))
-            self.assertEqual(f"{name}: {counts[0]} definitions, {counts[1]} lines in {counts[2]} files", wanted)
+        for name, own, of_kit in told:
+            found = reached(name)
+            self.assertEqual(own, BELIEVED.counts([it for it in found if it.is_own]), name)
+            # another kit may define JSON in another way
+            if KIT_IS_TOLD:
+                there = [it for it in found if not it.is_own]
+                self.assertEqual(of_kit, BELIEVED.counts(there) if there else "", name)
 
     def test_claim_is_short(self):
-        found = tool("believed").Sources(TOP)
-        for name in tool("believed").HEADLINE:
+        for name in BELIEVED.HEADLINE:
             most = 1000 if name in ("outcome_base.IsRight", "claim_law.KeepsPolicy") else 1400
-            self.assertLessEqual(sum(it.lines for it in found.reached(found.find(name))), most, name)
+            self.assertLessEqual(BELIEVED.lines_in([it for it in reached(name) if it.is_own]), most, name)
+
+    @unittest.skipUnless(KIT, "no kit is found")
+    def test_json_is_reached(self):
+        names = {it.name for it in reached("propane_run.CompilesRight") if not it.is_own}
+        self.assertLessEqual({"read", "of_json", "value", "tokens", "content", "number_of", "Data", "Json"}, names)
+        self.assertFalse([it for it in reached("outcome_base.IsRight") if not it.is_own])
 
     def test_names(self):
         self.assertEqual(ended([TOOL, "NoSuchDefinition"])[::2], (1, "tools/believed: no definition NoSuchDefinition\n"))

@@ -1,5 +1,6 @@
 """tools/named: what the pages name is there, and a name that is gone has a line; every crate has its row in docs/ARCHITECTURE.md."""
 import os
+import re
 import unittest
 
 from common import TOP, ended, tool
@@ -51,6 +52,15 @@ def crates_of(page):
         before = line
     return rows
 
+# Where the kit of the last proof is named, and what stands in front of it.
+KITS = [
+    ("README.md", "Proved with `"),
+    ("CHANGELOG.md", "proved with the kit `"),
+    ("docs/CONTRIBUTING.md", "the last proof was made with `"),
+    ("crates/help_texts/src/pages/program.rt", "\nkit "),
+    ("tools/test/runs/helped.py", "\nkit "),
+]
+
 
 class Names(unittest.TestCase):
     def setUp(self):
@@ -87,6 +97,14 @@ class Names(unittest.TestCase):
 
     def test_blocks_name_nothing(self):
         self.assertEqual(self.faults("    `docs/NONE.md`\n\n```\n`IsWrongBy`\n```"), [])
+
+    def test_one_kit_is_named(self):
+        """What names the kit of the last proof names one."""
+        told = {}
+        for path, text in KITS:
+            with open(os.path.join(TOP, path), encoding="utf-8") as file:
+                told[path] = re.search(text + r"(rattle-kit-\w+)", file.read()).group(1)
+        self.assertEqual(len(set(told.values())), 1, told)
 
     def test_every_crate_has_a_row(self):
         rows = crates_of("docs/ARCHITECTURE.md")

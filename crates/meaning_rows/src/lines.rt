@@ -1,12 +1,11 @@
 //! What single lines say.
 use crate::setting::Setting;
-use crate::values::{path, tag};
 use crate::wrong::{UNREAD, Wrong};
 use config_base::{Config, Route, class_of, export_of, import_of, own_tag};
 use net_base::{List, Loc, read_prefix};
 use outside::NoMemory;
 use std::alloc::Global;
-use test_networks::config_of;
+use test_networks::{config_of, path, tag};
 
 const TWO_CLASSES: &str = "propane-config 2
 class 1 10.0.0.0/8 le 16

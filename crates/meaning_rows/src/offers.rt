@@ -2,12 +2,13 @@
 ghost use Rattle.stable_paths.specs.Situations.{IsSituation};
 
 use crate::setting::Setting;
-use crate::values::{Held, Range, path, route, scenario};
+use crate::values::{Held, Range, route, scenario};
 use crate::wrong::Wrong;
 use net_base::{Loc, Net};
 use outside::NoMemory;
 use stable_paths::{Outcome, Scenario, Situation, Survivors, survives};
 use std::alloc::Global;
+use test_networks::path;
 
 // Whether a path is another one with a location in front, where there is another one.
 fn is_behind(path: &[Loc], first: Loc, other: Option<&[Loc]>) -> bool {

@@ -1,5 +1,4 @@
 //! What statements of policies mean: ranks, walks, origins, cases.
-use crate::values::path;
 use crate::wrong::{UNREAD, Wrong};
 use net_base::{Loc, LocSet, Net, Prefix, read_prefix};
 use outside::NoMemory;
@@ -8,7 +7,7 @@ use policy_base::{
     is_origin, is_permitted, is_walk, rank_of, statement_of,
 };
 use std::alloc::Global;
-use test_networks::{Network, read};
+use test_networks::{Network, path, read};
 
 // A path, and whether it is a walk, and free of loops. The routers A to D are 0 to 3, the peers P and Q are 4 and 5.
 type Path = (&'static [u16], bool, bool);

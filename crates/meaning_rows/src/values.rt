@@ -1,36 +1,16 @@
 //! Scenarios and outcomes from tables.
-use config_base::{NO_TAG, Route};
-use net_base::{List, Loc, LocSet, Prefix, Tag};
+use config_base::Route;
+use net_base::{List, Loc, LocSet, Prefix};
 use outside::NoMemory;
 use stable_paths::{Outcome, Scenario};
 use std::alloc::Global;
+use test_networks::{path, tag};
 
 /// What a router holds: none, or a path, the value of its tag, and a preference.
 pub(crate) type Held = Option<(&'static [u16], u32, u32)>;
 
 /// The locations from the first number on, below the second.
 pub(crate) type Range = (u16, u16);
-
-/// The tag of a location with this value. Routers have the AS numbers from 64512 on.
-pub(crate) fn tag(at: u16, value: u32) -> Tag {
-    if value == 0 {
-        NO_TAG
-    } else {
-        Tag {
-            asn: 64512 + u32::from(at),
-            value,
-        }
-    }
-}
-
-/// The locations of these numbers.
-pub(crate) fn path(alloc: Global, numbers: &[u16]) -> Result<Vec<Loc>, NoMemory> {
-    let mut path = Vec::new(alloc);
-    for number in numbers {
-        path.push(Loc::new(*number))?;
-    }
-    Ok(path)
-}
 
 fn pairs(alloc: Global, numbers: &[(u16, u16)]) -> Result<List<(Loc, Loc)>, NoMemory> {
     let mut pairs = Vec::new(alloc);

@@ -1,7 +1,7 @@
 -- What the bytes are that a run of `compile` has written, for the two texts.
 use Rattle.std.proofs.Common.{◌≡◌, ℕ, List, [], ◌++◌, Option, Some, Ok, inl, inr, sym, ap, subst, ◌∙◌, arith}
 use Rattle.net_base.specs.Network.{PlainNet}
-use Rattle.outside.specs.Outside.{Grew, Rose}
+use Rattle.outside.specs.Outside.{Grew, Rose, next}
 use Rattle.policy_base.specs.Policies.{PlainPolicy}
 use Rattle.config_text.specs.Spelled.{Spells}
 use Rattle.evidence_base.specs.Made.{PlainCaseEvidence}
@@ -36,8 +36,10 @@ from_nothing old new bytes none grew =
 
 -- a count that is 0 has not risen
 pub still : (before now : ℕ) → before ≡ 0 → now ≡ before → Rose before now → ⊥
-still before now none same (inl more) = omega (arith, same, more)
-still before now none same (inr last) = omega (arith, none, same, last)
+still before now none same rose =
+    let next_is : now ≡ 1 = rose ∙ ap next none in
+    let clash : 1 ≡ 0 = sym next_is ∙ same ∙ none in
+    cc
 
 -- the names that `compile` reads are the two
 command_is : (c : Command) → words_are compile_words ≡ Some c → Compile ≡ c

@@ -13,6 +13,10 @@ told m name = option_map (λ h. h.bytes.items) (get_by_text m.held name)
 abbrev pub count : MemInputs → List ℕ → ℕ
 count m name = option_map_or (λ h. h.faults) (get_by_text m.held name) m.shared
 
+-- How often a reading has failed, whatever the name.
+abbrev pub all_count : MemInputs → ℕ
+all_count m = m.faults
+
 -- How many calls of `read` were made, and which are to fail.
 abbrev pub reads : MemInputs → Plan
 reads m = m.calls

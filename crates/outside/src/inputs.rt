@@ -37,19 +37,27 @@ pub trait Inputs {
     /// How often the reading of a name has failed. A count stays at `u64::MAX`.
     ghost faults: { Self → List ℕ → ℕ };
 
+    /// How often a reading has failed, whatever the name. This count stays at `u64::MAX`, too.
+    ghost all_faults: { Self → ℕ };
+
     /// Where it is known that the reading of a name doesn't fail, in this call or a later one. Of what isn't known to
     /// be sure, nothing is said.
     ghost sure: { Self → List ℕ → Type 0 } = { λ _ _. ⊥ };
 
     /// All the bytes of a name, where there are at most `most`.
     ///
-    /// `Failed` comes only where the count of this name rose in this call, and `TooLong` only where the name
-    /// holds more than `most` bytes, as far as that is told.
+    /// `Failed` comes exactly where the reading failed, which raises the count of this name and that of all readings by
+    /// one. `TooLong` comes only where the name holds more than `most` bytes, as far as that is told.
     fn read(&mut self, alloc: Global, name: &str, most: u64) -> Result<Vec<u8>, InputFail>
         ensures bytes { IfOk result (λ v. IfSome (holds self.old name.now) (λ told. v.items ≡ told)) }
         ensures within { IfOk result (λ v. length v.items ≤ most) }
         ensures too_long { IsErrOf result InputFail.TooLong → IfSome (holds self.old name.now) (λ told. most < length told) }
         ensures failed { IsErrOf result InputFail.Failed → Rose (faults self.old name.now) (faults self.new name.now) }
+        ensures once { IsErrOf result InputFail.Failed → Rose (all_faults self.old) (all_faults self.new) }
+
+        // A call that doesn't fail raises no count.
+        ensures calm { ¬ IsErrOf result InputFail.Failed → all_faults self.new ≡ all_faults self.old }
+        ensures kept { ¬ IsErrOf result InputFail.Failed → (n : List ℕ) → faults self.new n ≡ faults self.old n }
 
         // No read changes what a name holds, and no count falls.
         ensures holds { (n : List ℕ) → holds self.new n ≡ holds self.old n }

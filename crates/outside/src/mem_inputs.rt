@@ -17,32 +17,35 @@ pub struct Held {
 
 /// Inputs in memory, of which the calls that are listed fail, and those for a name that isn't held.
 ///
-/// Each held name has a counter of its own, the names that aren't held share one, and each failure raises the
-/// counter of its name.
+/// Each held name has a counter of its own, the names that aren't held share one, and there is one for all names. Each
+/// failure raises the counter of its name, and that for all.
 #[derive(Drop)]
 pub struct MemInputs {
     alloc: Global,
     held: BTreeMap<String, Held>,
     shared: u64,
+    faults: u64,
     calls: Calls,
 }
 
 impl MemInputs {
     ghost use Rattle.outside.specs.Outside.{next};
     ghost use Rattle.outside.specs.Calls.{fresh, with_failing};
-    ghost use Rattle.outside.specs.MemInputs.{told, count, reads, HaveOneCounter};
+    ghost use Rattle.outside.specs.MemInputs.{told, count, all_count, reads, HaveOneCounter};
 
     /// Inputs that hold no name, no call of which is listed to fail. Takes no memory, and keeps `alloc` for its
     /// later growth.
     pub fn new(alloc: Global) -> MemInputs
         ensures holds { (n : List ℕ) → told result n ≡ None }
         ensures counts { (n : List ℕ) → count result n ≡ 0 }
+        ensures all { all_count result ≡ 0 }
         ensures calls { reads result ≡ fresh }
     {
         MemInputs {
             alloc,
             held: BTreeMap::new(alloc),
             shared: 0,
+            faults: 0,
             calls: Calls::new(alloc),
         }
     }
@@ -54,6 +57,7 @@ impl MemInputs {
         ensures others { OnOk result ((n : List ℕ) → n ≢ name.now → told self.new n ≡ told self.old n) }
         ensures err { OnErr result ((n : List ℕ) → told self.new n ≡ told self.old n) }
         ensures counts { (n : List ℕ) → count self.new n ≡ count self.old n }
+        ensures all { all_count self.new ≡ all_count self.old }
         ensures calls { reads self.new ≡ reads self.old }
     {
         let bytes = bytes.to_vec(self.alloc)?;
@@ -70,6 +74,7 @@ impl MemInputs {
         ensures err { OnErr result (reads self.new ≡ reads self.old) }
         ensures holds { (n : List ℕ) → told self.new n ≡ told self.old n }
         ensures counts { (n : List ℕ) → count self.new n ≡ count self.old n }
+        ensures all { all_count self.new ≡ all_count self.old }
     {
         self.calls.fail(call)
     }
@@ -84,14 +89,16 @@ impl MemInputs {
         }
     }
 
-    // Raises the counter of a name.
+    // Raises the counter of a name, and that for all.
     fn count_fault(&mut self, name: &str)
         ensures holds { (n : List ℕ) → told self.new n ≡ told self.old n }
         ensures raised { (n : List ℕ) → HaveOneCounter self.old n name.now → count self.new n ≡ next (count self.old n) }
         ensures others { (n : List ℕ) → ¬ HaveOneCounter self.old n name.now → count self.new n ≡ count self.old n }
         ensures no_less { (n : List ℕ) → count self.old n ≤ count self.new n }
+        ensures all { all_count self.new ≡ next (all_count self.old) }
         ensures calls { reads self.new ≡ reads self.old }
     {
+        self.faults = raised(self.faults);
         match self.held.get_mut(name) {
             Some(held) => held.faults = raised(held.faults),
             None => self.shared = raised(self.shared),
@@ -102,11 +109,13 @@ impl MemInputs {
 impl Inputs for MemInputs {
     ghost use Rattle.outside.specs.Outside.{Rose, next};
     ghost use Rattle.outside.specs.Calls.{after_call, NextFails};
-    ghost use Rattle.outside.specs.MemInputs.{told, count, reads, HaveOneCounter, IsSure};
+    ghost use Rattle.outside.specs.MemInputs.{told, count, all_count, reads, HaveOneCounter, IsSure};
 
     ghost holds = { λ m name. told m name };
 
     ghost faults = { λ m name. count m name };
+
+    ghost all_faults = { λ m. all_count m };
 
     ghost sure = { λ m name. IsSure m name };
 
@@ -115,6 +124,9 @@ impl Inputs for MemInputs {
         ensures within { IfOk result (λ v. length v.items ≤ most) }
         ensures too_long { IsErrOf result InputFail.TooLong → IfSome (told self.old name.now) (λ told. most < length told) }
         ensures failed { IsErrOf result InputFail.Failed → Rose (count self.old name.now) (count self.new name.now) }
+        ensures once { IsErrOf result InputFail.Failed → Rose (all_count self.old) (all_count self.new) }
+        ensures calm { ¬ IsErrOf result InputFail.Failed → all_count self.new ≡ all_count self.old }
+        ensures kept { ¬ IsErrOf result InputFail.Failed → (n : List ℕ) → count self.new n ≡ count self.old n }
         ensures holds { (n : List ℕ) → told self.new n ≡ told self.old n }
         ensures counts { (n : List ℕ) → count self.old n ≤ count self.new n }
         ensures sure { (n : List ℕ) → IsSure self.old n → (count self.new n ≡ count self.old n) × IsSure self.new n }
@@ -125,7 +137,6 @@ impl Inputs for MemInputs {
         ensures room { IsErrOf result InputFail.NoMemory → IfSome (told self.old name.now) (λ told. length told ≤ most) }
         ensures raised { IsErrOf result InputFail.Failed → (n : List ℕ) → HaveOneCounter self.old n name.now → count self.new n ≡ next (count self.old n) }
         ensures others { (n : List ℕ) → ¬ HaveOneCounter self.old n name.now → count self.new n ≡ count self.old n }
-        ensures kept { ¬ IsErrOf result InputFail.Failed → (n : List ℕ) → count self.new n ≡ count self.old n }
     {
         if self.calls.next_fails() {
             self.count_fault(name);

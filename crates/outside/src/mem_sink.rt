@@ -77,6 +77,7 @@ impl Sink for MemSink {
         ensures taken { IfOk result (λ n. Grew (Some self.old.bytes) (Some self.new.bytes) (take n bytes.now)) }
         ensures nothing { OnErr result (Some self.new.bytes ≡ Some self.old.bytes) }
         ensures failed { OnErr result (Rose self.old.faults self.new.faults) }
+        ensures calm { OnOk result (self.new.faults ≡ self.old.faults) }
         ensures counts { self.old.faults ≤ self.new.faults }
 
         // Besides: which calls fail, how much the others take, and that all else stays.

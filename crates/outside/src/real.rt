@@ -1,7 +1,7 @@
 //! The real outside: files, standard output and standard error. It tells no content.
 ghost use Rattle.std.specs.Prelude.{None, ◌≡◌, ◌≤◌, ◌<◌, ◌+◌, ℕ, List, Option, length, take, vec_len, IfOk, IfSome, OnOk, OnErr, IsErrOf};
 ghost use Rattle.std.specs.Io.KnownBytes.{Appends, Keeps, Consumes, IsAtEnd};
-ghost use Rattle.outside.specs.Outside.{Rose, next};
+ghost use Rattle.outside.specs.Outside.{Rose};
 
 use crate::counter::raised;
 use crate::inputs::{InputFail, Inputs};
@@ -66,21 +66,20 @@ impl<R: Files + Drop> Inputs for FileInputs<R> {
 
     ghost faults = { λ s _. s.faults };
 
+    ghost all_faults = { λ s. s.faults };
+
     fn read(&mut self, alloc: Global, name: &str, most: u64) -> Result<Vec<u8>, InputFail>
         ensures within { IfOk result (λ v. length v.items ≤ most) }
         ensures failed { IsErrOf result InputFail.Failed → Rose self.old.faults self.new.faults }
+        ensures calm { ¬ IsErrOf result InputFail.Failed → self.new.faults ≡ self.old.faults }
         ensures counts { self.old.faults ≤ self.new.faults }
-
-        // Besides: the one counter is raised at each error.
-        ensures ok { OnOk result (self.new.faults ≡ self.old.faults) }
-        ensures err { OnErr result (self.new.faults ≡ next self.old.faults) }
         ensures files { self.new.rt ≡ self.old.rt }
     {
         let result = match fs::open(&self.rt, name) {
             Ok(mut file) => read_all(alloc, &mut file, most),
             Err(_) => Err(InputFail::Failed),
         };
-        if result.is_err() {
+        if matches!(result, Err(InputFail::Failed)) {
             self.faults = raised(self.faults);
         }
         result
@@ -113,13 +112,12 @@ impl<W: Write + Drop> Sink for OutSink<W> {
         ensures within { IfOk result (λ n. n ≤ length bytes.now) }
         ensures some { IfOk result (λ n. 0 < length bytes.now → 0 < n) }
         ensures failed { OnErr result (Rose self.old.faults self.new.faults) }
+        ensures calm { OnOk result (self.new.faults ≡ self.old.faults) }
         ensures counts { self.old.faults ≤ self.new.faults }
 
-        // Besides: what goes to the writer, and that the counter is raised at each error.
+        // Besides: what goes to the writer.
         ensures writer { IfOk result (λ n. Appends (W.contents self.old.to) (W.contents self.new.to) (take n bytes.now)) }
         ensures nothing { OnErr result (Keeps (W.contents self.old.to) (W.contents self.new.to)) }
-        ensures ok { OnOk result (self.new.faults ≡ self.old.faults) }
-        ensures err { OnErr result (self.new.faults ≡ next self.old.faults) }
     {
         match self.to.write(bytes) {
             Ok(n) if n > 0 || bytes.is_empty() => Ok(n),

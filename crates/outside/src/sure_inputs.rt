@@ -46,6 +46,8 @@ impl Inputs for SureInputs {
 
     ghost faults = { λ _ _. 0 };
 
+    ghost all_faults = { λ _. 0 };
+
     ghost sure = { λ _ _. Unit {0} };
 
     fn read(&mut self, alloc: Global, name: &str, most: u64) -> Result<Vec<u8>, InputFail>

@@ -6,6 +6,7 @@ pub mod Compilation
 pub mod Compilers
 pub mod Dispatch
 pub mod Ending
+pub mod Failing
 pub mod Promising
 pub mod Roles
 pub mod RunLaws

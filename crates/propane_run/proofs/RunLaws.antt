@@ -1,12 +1,13 @@
 -- What follows for a run, whatever its command.
 use Rattle.std.proofs.Common.{◌≡◌, ◌≢◌, ◌⊎◌, inl, inr, ℕ, List, Option, Some, None, refl, sym, ◌∙◌, subst}
+use Rattle.outside.specs.Outside.{Rose}
 use Rattle.propane_run.specs.declared.command.Command.{Command}
 use Rattle.propane_run.specs.declared.command.Command.TheVariants.{Compile}
 use Rattle.run_base.specs.declared.outcome.Status.{Status}
 use Rattle.run_base.specs.declared.outcome.Status.TheVariants.{Done, Refused, Usage, BadInput, ReadFault, WriteFault, NoMemory, CheckFails}
-use Rattle.run_base.specs.Said.{Said, text, no_memory, Whole, Part, Delivered}
+use Rattle.run_base.specs.Said.{Said, text, no_memory, Whole, Delivered, MetFault}
 use Rattle.propane_run.specs.Words.{words_are, names_read, usage}
-use Rattle.run_base.specs.Reading.{Holds, IsAmong, unread, SaidOfTold}
+use Rattle.run_base.specs.Reading.{FailedAs, Holds, IsAmong, unread, SaidOfTold}
 use Rattle.propane_run.specs.Clauses.{FaultFound, ReadsSmoothly}
 use Rattle.propane_run.specs.Ends.{EndsRight}
 use Rattle.propane_run.specs.Headline.{CompilesRight}
@@ -14,13 +15,14 @@ use Rattle.propane_run.specs.Promises.{Promised}
 use Rattle.propane_run.specs.Run.{IsAnswer, IsAnswerOf, Comes, Job, Ran}
 use Rattle.propane_run.proofs.Causes.{Why, why}
 use Rattle.propane_run.proofs.Ending.{Fails, Refuses, Succeeds, ends}
+use Rattle.propane_run.proofs.Failing.{failed_once}
 use Rattle.propane_run.proofs.Promising as promising
 use Rattle.run_base.proofs.Jobs.{status_is}
 use Rattle.run_base.proofs.Told.{reads_told}
 
 module _ {O E : Type 0} {ot : O → Option (List ℕ)} {of : O → ℕ} {et : E → Option (List ℕ)} {ef : E → ℕ}
-    {holds : Holds} {rose : List ℕ → Type 0} {words : List (List ℕ)} {out out' : O} {err err' : E} {ended : Status}
-    (ran : Ran ot of et ef holds rose words out out' err err' ended) where
+    {holds : Holds} {rose : List ℕ → Type 0} {failed failed' : ℕ} {words : List (List ℕ)} {out out' : O} {err err' : E} {ended : Status}
+    (ran : Ran ot of et ef holds rose failed failed' words out out' err err' ended) where
   -- what was said, why, and that it was delivered
   abbrev what : Said
   what = ran.what
@@ -65,14 +67,14 @@ module _ {O E : Type 0} {ot : O → Option (List ℕ)} {of : O → ℕ} {et : E 
 
   -- ---- reads that failed, and inputs that are too long or not lawful
 
-  read_fault_at : (o : Option Command) → words_are words ≡ o → Came o ReadFault
-      → (c : Command) × (name : List ℕ) × (words_are words ≡ Some c) × IsAmong (names_read words c) name × rose name × Whole et (unread name).to_err err err' × (out' ≡ out)
-  read_fault_at None asks c = absurd (let e = c.cause.0 in cc)
-  read_fault_at (Some d) asks c = let e = c.cause.3 in (d, c.cause.0, asks, c.cause.1, c.cause.2, rw e at c.to_err, (rw e at c.to_out).idle refl)
+  read_fault_at : (o : Option Command) → words_are words ≡ o → Rose failed failed' → Came o ReadFault
+      → (c : Command) × (name : List ℕ) × (words_are words ≡ Some c) × IsAmong (names_read words c) name × rose name × Whole et (unread name).to_err err err' × (out' ≡ out) × Rose failed failed'
+  read_fault_at None asks once c = absurd (let e = c.cause.0 in cc)
+  read_fault_at (Some d) asks once c = let e = c.cause.3 in (d, c.cause.0, asks, c.cause.1, c.cause.2, rw e at c.to_err, (rw e at c.to_out).idle refl, once)
 
   pub read_fault : ended ≡ ReadFault
-      → (c : Command) × (name : List ℕ) × (words_are words ≡ Some c) × IsAmong (names_read words c) name × rose name × Whole et (unread name).to_err err err' × (out' ≡ out)
-  read_fault is = read_fault_at (words_are words) refl (came (words_are words) refl ReadFault (λ x. cc) is)
+      → (c : Command) × (name : List ℕ) × (words_are words ≡ Some c) × IsAmong (names_read words c) name × rose name × Whole et (unread name).to_err err err' × (out' ≡ out) × Rose failed failed'
+  read_fault is = read_fault_at (words_are words) refl (failed_once ran is) (came (words_are words) refl ReadFault (λ x. cc) is)
 
   bad_input_at : (o : Option Command) → words_are words ≡ o → Came o BadInput
       → (c : Command) × (l : List ℕ) × (words_are words ≡ Some c) × FaultFound holds words c l × Whole et l err err' × (out' ≡ out)
@@ -129,13 +131,12 @@ module _ {O E : Type 0} {ot : O → Option (List ℕ)} {of : O → ℕ} {et : E 
   no_write_fault (Some c) cause = cause
 
   write_fault_by : Delivered ot of et ef what out out' err err' ended → ended ≡ WriteFault
-      → Part ot of what.to_out out out' × Whole et what.to_err err err' ⊎ Whole ot what.to_out out out' × Part et ef what.to_err err err'
+      → MetFault ot of et ef what out out' err err'
   write_fault_by (inl h) is = absurd (no_write_fault (words_are words) (why holds rose words (words_are words) what refl answer WriteFault (sym h.0 ∙ is)))
   write_fault_by (inr h) is = h.1
 
-  pub write_fault : ended ≡ WriteFault → (what : Said) × IsAnswer holds rose words what
-      × (Part ot of what.to_out out out' × Whole et what.to_err err err' ⊎ Whole ot what.to_out out out' × Part et ef what.to_err err err')
-  write_fault is = (what, answer, write_fault_by sent is)
+  pub write_fault : ended ≡ WriteFault → (what : Said) × IsAnswer holds rose words what × FailedAs what.status failed failed' × MetFault ot of et ef what out out' err err'
+  write_fault is = (what, answer, ran.reads, write_fault_by sent is)
 
   -- ---- want of memory
 

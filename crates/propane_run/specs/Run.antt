@@ -4,7 +4,7 @@ use Rattle.propane_run.specs.declared.command.Command.{Command}
 use Rattle.propane_run.specs.declared.command.Command.TheVariants.{Compile, Evidence, Check, Explain, Replay, Trace, Impact, RouteMap, CheckMap, Lint, Audit, Migrate}
 use Rattle.propane_run.specs.declared.command.Command.TheVariants.{Sample, Help, Version, Drain, Settle, Promises, WhatIf, Multipath}
 use Rattle.propane_run.specs.Words.{names_read, usage, words_are}
-use Rattle.run_base.specs.Reading.{Holds, ReadsAll, AllHeld}
+use Rattle.run_base.specs.Reading.{Holds, ReadsAll, AllHeld, FailedAs}
 use Rattle.input_texts.specs.Texts.{OfTwoTexts}
 use Rattle.audit_job.specs.Audited as audit
 use Rattle.check_job.specs.Checked as check
@@ -58,11 +58,12 @@ IsAnswerOf holds rose words (Some c) what = ReadsAll holds rose (names_read word
 abbrev pub IsAnswer : Holds → (List ℕ → Type 0) → List (List ℕ) → Said → Type 0
 IsAnswer holds rose words what = IsAnswerOf holds rose words (words_are words) what
 
--- A run: an answer of the words and the inputs, delivered.
+-- A run: an answer of the words and the inputs, delivered. How often a reading failed goes with the answer.
 pub record Ran {O E : Type 0} (out_taken : O → Option (List ℕ)) (out_faults : O → ℕ) (err_taken : E → Option (List ℕ)) (err_faults : E → ℕ)
-    (holds : Holds) (rose : List ℕ → Type 0) (words : List (List ℕ)) (out out' : O) (err err' : E) (ended : Status) : Type 0 where
+    (holds : Holds) (rose : List ℕ → Type 0) (failed failed' : ℕ) (words : List (List ℕ)) (out out' : O) (err err' : E) (ended : Status) : Type 0 where
   pub what : Said
   pub answer : IsAnswer holds rose words what
+  pub reads : FailedAs what.status failed failed'
   pub sent : Delivered out_taken out_faults err_taken err_faults what out out' err err' ended
 
 -- The words are this command, and the bytes that it read come to this.

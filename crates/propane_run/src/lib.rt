@@ -1,10 +1,10 @@
 //! The top call.
 #![tactic(auto)]
 
-ghost use Rattle.std.specs.Prelude.{◌≡◌, ◌⊎◌, ◌≤◌, ℕ, List, Some, None, length, map, string_bytes};
+ghost use Rattle.std.specs.Prelude.{◌≡◌, ◌≢◌, ◌⊎◌, ◌≤◌, ℕ, List, Some, None, length, map, string_bytes};
 ghost use Rattle.outside.specs.Outside.{Rose};
-ghost use Rattle.run_base.specs.Reading.{AreOnlyRead, IsAmong, RoseOf, SaidOfTold, unread};
-ghost use Rattle.run_base.specs.Said.{Said, said, text, Delivered, Whole, Part};
+ghost use Rattle.run_base.specs.Reading.{AreOnlyRead, FailedAs, IsAmong, RoseOf, SaidOfTold, unread};
+ghost use Rattle.run_base.specs.Said.{Calm, Said, said, text, Delivered, MetFault, Whole};
 ghost use Rattle.propane_run.specs.Clauses.{FaultFound, ReadsSmoothly};
 ghost use Rattle.propane_run.specs.Ends.{EndsRight};
 ghost use Rattle.propane_run.specs.Headline.{CompilesRight};
@@ -33,6 +33,7 @@ fn answer<I: Inputs>(
 ) -> Result<Vec<u8>, Stop>
     requires { IsWithin (length words.now) command }
     ensures says { IsAnswerOf (I.holds inputs.old) (RoseOf (I.faults inputs.old) (I.faults inputs.new)) (map string_bytes words.now) (Some command) (said result) }
+    ensures failed { FailedAs (said result).status (I.all_faults inputs.old) (I.all_faults inputs.new) }
     ensures read { AreOnlyRead (I.holds inputs.old) (I.holds inputs.new) (I.faults inputs.old) (I.faults inputs.new) (I.sure inputs.old) (I.sure inputs.new) }
 {
     let texts = read_all(alloc, inputs, words, command.places())?;
@@ -47,8 +48,8 @@ fn run_whole<I: Inputs, O: Sink, E: Sink>(
     out: &mut O,
     err: &mut E,
 ) -> Status
-    ensures ran { Ran O.taken O.faults E.taken E.faults (I.holds inputs.old) (RoseOf (I.faults inputs.old) (I.faults inputs.new)) (map string_bytes words.now)
-        out.old out.new err.old err.new result }
+    ensures ran { Ran O.taken O.faults E.taken E.faults (I.holds inputs.old) (RoseOf (I.faults inputs.old) (I.faults inputs.new))
+        (I.all_faults inputs.old) (I.all_faults inputs.new) (map string_bytes words.now) out.old out.new err.old err.new result }
     ensures read { AreOnlyRead (I.holds inputs.old) (I.holds inputs.new) (I.faults inputs.old) (I.faults inputs.new) (I.sure inputs.old) (I.sure inputs.new) }
     ensures out_counts { O.faults out.old ≤ O.faults out.new }
     ensures err_counts { E.faults err.old ≤ E.faults err.new }
@@ -65,7 +66,8 @@ fn run_whole<I: Inputs, O: Sink, E: Sink>(
 /// The run of a command: the words after the program's name, the named inputs, and the two sinks.
 ///
 /// The words are judged first; then the inputs are read in the order of the words; then each text is judged in
-/// that order; then the writes are made. The first thing that goes wrong decides the status. The whole output is
+/// that order; then the writes are made. The first thing that goes wrong ends the run and decides the status: a
+/// reading or a write that fails isn't tried again. The whole output is
 /// made in memory before its first byte is written, and a sink to which nothing is to go isn't called.
 pub fn run<I: Inputs, O: Sink, E: Sink>(
     alloc: Global,
@@ -101,9 +103,11 @@ pub fn run<I: Inputs, O: Sink, E: Sink>(
         (λ line. ¬ Rose (E.faults err.old) (E.faults err.new)
         → (result ≡ Status.NoMemory) ⊎ (result ≡ Status.Refused) × Whole E.taken line err.old err.new × (out.new ≡ out.old)) c }
 
-    // All that a run may do: an answer of the words and the inputs, delivered. The other clauses on what is written follow.
+    // All that a run may do: an answer of the words and the inputs, delivered. The other clauses on what is written, and on what
+    // failed, follow.
     ensures whole { (what : Said)
         × IsAnswer (I.holds inputs.old) (RoseOf (I.faults inputs.old) (I.faults inputs.new)) (map string_bytes words.now) what
+        × FailedAs what.status (I.all_faults inputs.old) (I.all_faults inputs.new)
         × Delivered O.taken O.faults E.taken E.faults what out.old out.new err.old err.new result }
 
     // On Done `out` grew by exactly the text that the bytes of the inputs come to, and `err` is untouched.
@@ -117,11 +121,12 @@ pub fn run<I: Inputs, O: Sink, E: Sink>(
     ensures usage { words_are (map string_bytes words.now) ≡ None
         → (result ≡ Status.Usage) ⊎ (result ≡ Status.WriteFault) }
 
-    // ReadFault only where the count of a name rose that the command reads; the line names it.
+    // ReadFault only where the reading of a name failed that the command reads, and no other reading; the line names it.
     ensures read_fault { result ≡ Status.ReadFault → (c : Command) × (name : List ℕ)
         × (words_are (map string_bytes words.now) ≡ Some c) × IsAmong (names_read (map string_bytes words.now) c) name
         × Rose (I.faults inputs.old name) (I.faults inputs.new name)
-        × Whole E.taken (unread name).to_err err.old err.new × (out.new ≡ out.old) }
+        × Whole E.taken (unread name).to_err err.old err.new × (out.new ≡ out.old)
+        × Rose (I.all_faults inputs.old) (I.all_faults inputs.new) }
 
     // BadInput only where a named input is too long or its bytes are not lawful; the line tells the fault.
     ensures bad_input { result ≡ Status.BadInput → (c : Command) × (line : List ℕ)
@@ -129,11 +134,15 @@ pub fn run<I: Inputs, O: Sink, E: Sink>(
         × FaultFound (I.holds inputs.old) (map string_bytes words.now) c line
         × Whole E.taken line err.old err.new × (out.new ≡ out.old) }
 
-    // WriteFault only where the count of a sink rose that was to take something, and took a front of it.
+    // WriteFault only where one write failed, to a sink that was to take something, and took a front of it.
     ensures write_fault { result ≡ Status.WriteFault → (what : Said)
         × IsAnswer (I.holds inputs.old) (RoseOf (I.faults inputs.old) (I.faults inputs.new)) (map string_bytes words.now) what
-        × (Part O.taken O.faults what.to_out out.old out.new × Whole E.taken what.to_err err.old err.new
-        ⊎ Whole O.taken what.to_out out.old out.new × Part E.taken E.faults what.to_err err.old err.new) }
+        × FailedAs what.status (I.all_faults inputs.old) (I.all_faults inputs.new)
+        × MetFault O.taken O.faults E.taken E.faults what out.old out.new err.old err.new }
+
+    // The first call that fails ends the run: where it ends with another status, no reading failed, and no write did.
+    ensures reads { result ≢ Status.ReadFault → result ≢ Status.WriteFault → I.all_faults inputs.new ≡ I.all_faults inputs.old }
+    ensures writes { result ≢ Status.WriteFault → Calm O.faults out.old out.new × Calm E.faults err.old err.new }
 
     // Want of memory writes nothing.
     ensures no_memory { result ≡ Status.NoMemory → (out.new ≡ out.old) × (err.new ≡ err.old) }

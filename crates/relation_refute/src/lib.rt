@@ -8,4 +8,4 @@ mod faults;
 mod parted;
 mod refuting;
 
-pub use refuting::refutation;
+pub use refuting::{refutation, refute};

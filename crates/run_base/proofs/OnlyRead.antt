@@ -1,7 +1,7 @@
 -- Inputs that are read one after another.
-use Rattle.std.proofs.Common.{◌≡◌, ℕ, ◌≤◌, ◌<◌, List, Option, IfSome, length, inl, inr, subst, ◌∙◌, arith}
+use Rattle.std.proofs.Common.{◌≡◌, ℕ, ◌<◌, List, Option, IfSome, length, inl, inr, subst, ◌∙◌, arith}
 use Rattle.outside.specs.Outside.{Rose}
-use Rattle.run_base.specs.Reading.{Holds, RoseOf, AreOnlyRead, IsHeld, IsStop, Reads, most}
+use Rattle.run_base.specs.Reading.{Holds, RoseOf, AreOnlyRead, IsHeld, IsStop, most}
 use Rattle.run_base.specs.Said.{Said}
 
 pub read_twice : (h i k : Holds) (f g l : List ℕ → ℕ) (s t u : List ℕ → Type 0) → AreOnlyRead h i f g s t → AreOnlyRead i k g l t u → AreOnlyRead h k f l s u
@@ -11,13 +11,9 @@ read_twice h i k f g l s t u first second = record {
   sure = λ n is. let a = first.sure n is in let b = second.sure n a.1 in (b.0 ∙ a.0, b.1);
 }
 
-rose_before : (a b c : ℕ) → a ≤ b → Rose b c → Rose a c
-rose_before a b c up (inl rose) = inl (omega (arith, up, rose))
-rose_before a b c up (inr last) = inr last
+-- ---- what is said of inputs that were only read since, and no reading failed, is said of what they were
 
--- ---- what is said of inputs that were only read since is said of what they were
-
-module _ (h i : Holds) (f g : List ℕ → ℕ) (s t : List ℕ → Type 0) (only : AreOnlyRead h i f g s t) where
+module _ (h i : Holds) (f g : List ℕ → ℕ) (s t : List ℕ → Type 0) (only : AreOnlyRead h i f g s t) (calm : (n : List ℕ) → g n ≡ f n) where
   pub held_before : (name bytes : List ℕ) → IsHeld i name bytes → IsHeld h name bytes
   held_before name bytes held =
       let P : Option (List ℕ) → Type 0 = λ o. IfSome o (λ told. bytes ≡ told) in
@@ -25,11 +21,7 @@ module _ (h i : Holds) (f g : List ℕ → ℕ) (s t : List ℕ → Type 0) (onl
 
   pub stop_before : (l : List ℕ → ℕ) (name : List ℕ) (what : Said) → IsStop i (RoseOf g l) name what → IsStop h (RoseOf f l) name what
   stop_before l name what (inl memory) = inl memory
-  stop_before l name what (inr (inl unread)) = inr (inl (unread.0, rose_before (f name) (g name) (l name) (only.counts name) unread.1))
+  stop_before l name what (inr (inl unread)) = inr (inl (unread.0, subst (λ (n : ℕ). Rose n (l name)) (calm name) unread.1))
   stop_before l name what (inr (inr long)) =
       let P : Option (List ℕ) → Type 0 = λ o. IfSome o (λ told. most < length told) in
       inr (inr (long.0, subst P (only.holds name) long.1))
-
-  pub reads_before : (l : List ℕ → ℕ) (name : List ℕ) (next : List ℕ → Said → Type 0) (what : Said) → Reads i (RoseOf g l) name next what → Reads h (RoseOf f l) name next what
-  reads_before l name next what (inl stop) = inl (stop_before l name what stop)
-  reads_before l name next what (inr read) = inr (read.0, held_before name read.0 read.1, read.2)

@@ -13,12 +13,12 @@ untouched taken s = record { grew = Grew-nothing (taken s); idle = λ _. refl }
 
 module _ {O E : Type 0} (ot : O → Option (List ℕ)) (of : O → ℕ) (et : E → Option (List ℕ)) (ef : E → ℕ) (bytes : List ℕ) (out out' : O) (err err' : E) (ended : Status) where
   pub to_out : Sent ot of bytes (text bytes).status out out' ended → Delivered ot of et ef (text bytes) out out' err err ended
-  to_out (inl h) = inl (h.0, h.1, untouched et err)
-  to_out (inr h) = inr (h.0, inl (h.1, untouched et err))
+  to_out (inl h) = inl (h.0, h.1, untouched et err, h.2, refl)
+  to_out (inr h) = inr (h.0, inl (h.1, untouched et err, refl))
 
   pub to_err : (status : Status) → Sent et ef bytes status err err' ended → Delivered ot of et ef (line status bytes) out out err err' ended
-  to_err status (inl h) = inl (h.0, untouched ot out, h.1)
-  to_err status (inr h) = inr (h.0, inr (untouched ot out, h.1))
+  to_err status (inl h) = inl (h.0, untouched ot out, h.1, refl, h.2)
+  to_err status (inr h) = inr (h.0, inr (untouched ot out, h.1, refl))
 
   -- where what is to be said is a line, by an equation
   pub to_err_is : (what : Said) (status : Status) → what ≡ line status bytes → Sent et ef bytes status err err' ended → Delivered ot of et ef what out out err err' ended

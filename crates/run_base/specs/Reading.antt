@@ -3,6 +3,7 @@ use Rattle.std.specs.Prelude.{◌≡◌, ◌⊎◌, ℕ, ◌≤◌, ◌<◌, Lis
 use Rattle.outside.specs.declared.limits.TheConstants.{INPUT_BYTES}
 use Rattle.outside.specs.Outside.{Rose}
 use Rattle.run_base.specs.Said.{Said, line, no_memory}
+use Rattle.run_base.specs.declared.outcome.Status.{Status}
 use Rattle.run_base.specs.declared.outcome.Status.TheVariants.{ReadFault, BadInput}
 
 -- the most bytes of a named input
@@ -28,6 +29,11 @@ IsAmong (n ∷ ns) name = (name ≡ n) ⊎ IsAmong ns name
 -- the count of a name rose
 abbrev pub RoseOf : (List ℕ → ℕ) → (List ℕ → ℕ) → List ℕ → Type 0
 RoseOf before now name = Rose (before name) (now name)
+
+-- How often a reading failed, by how the run is to end: once where a name couldn't be read, and never otherwise.
+abbrev pub FailedAs : Status → ℕ → ℕ → Type 0
+FailedAs ReadFault before now = Rose before now
+FailedAs _ before now = now ≡ before
 
 -- Inputs that were only read: a name holds what it held, no count fell, and a name that is sure stays so, with its count.
 pub record AreOnlyRead (held held' : Holds) (count count' : List ℕ → ℕ) (is_sure is_sure' : List ℕ → Type 0) : Type 0 where

@@ -43,22 +43,30 @@ pub record Whole {S : Type 0} (taken : S → Option (List ℕ)) (bytes : List �
   pub grew : Grew (taken before) (taken now) bytes
   pub idle : bytes ≡ [] → now ≡ before
 
--- The sink was to take some bytes, met a fault, and took a front of them.
+-- The sink was to take some bytes, one write failed, and it took a front of them.
 pub record Part {S : Type 0} (taken : S → Option (List ℕ)) (faults : S → ℕ) (bytes : List ℕ) (before now : S) : Type 0 where
   pub asked : bytes ≢ []
   pub grew : GrewByPart (taken before) (taken now) bytes
   pub rose : Rose (faults before) (faults now)
 
--- one sink: all of it and the status, or a fault
+-- no call failed
+abbrev pub Calm : {S : Type 0} → (S → ℕ) → S → S → Type 0
+Calm faults before now = faults now ≡ faults before
+
+-- one sink: all of it and the status, with no write that failed; or a fault
 abbrev pub Sent : {S : Type 0} → (S → Option (List ℕ)) → (S → ℕ) → List ℕ → Status → S → S → Status → Type 0
 Sent taken faults bytes status before now ended =
-    (ended ≡ status) × Whole taken bytes before now
+    (ended ≡ status) × Whole taken bytes before now × Calm faults before now
     ⊎ (ended ≡ WriteFault) × Part taken faults bytes before now
 
--- The run ended as what it is to say, all of which was written, or by a fault of the sink that was to get it.
+-- One of the sinks met a fault, and no write to the other failed, which took all that it was to get.
+abbrev pub MetFault : {O E : Type 0} → (O → Option (List ℕ)) → (O → ℕ) → (E → Option (List ℕ)) → (E → ℕ) → Said → O → O → E → E → Type 0
+MetFault out_taken out_faults err_taken err_faults what out out' err err' =
+    Part out_taken out_faults what.to_out out out' × Whole err_taken what.to_err err err' × Calm err_faults err err'
+    ⊎ Whole out_taken what.to_out out out' × Part err_taken err_faults what.to_err err err' × Calm out_faults out out'
+
+-- The run ended as what it is to say, all of which was written, and no write failed; or with WriteFault, by the one that failed.
 abbrev pub Delivered : {O E : Type 0} → (O → Option (List ℕ)) → (O → ℕ) → (E → Option (List ℕ)) → (E → ℕ) → Said → O → O → E → E → Status → Type 0
 Delivered out_taken out_faults err_taken err_faults what out out' err err' ended =
-    (ended ≡ what.status) × Whole out_taken what.to_out out out' × Whole err_taken what.to_err err err'
-    ⊎ (ended ≡ WriteFault)
-    × (Part out_taken out_faults what.to_out out out' × Whole err_taken what.to_err err err'
-    ⊎ Whole out_taken what.to_out out out' × Part err_taken err_faults what.to_err err err')
+    (ended ≡ what.status) × Whole out_taken what.to_out out out' × Whole err_taken what.to_err err err' × Calm out_faults out out' × Calm err_faults err err'
+    ⊎ (ended ≡ WriteFault) × MetFault out_taken out_faults err_taken err_faults what out out' err err'

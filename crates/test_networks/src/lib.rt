@@ -4,6 +4,7 @@
 mod configs;
 mod networks;
 mod reading;
+mod values;
 
 pub use configs::{
     ENTERED_CONFIG, LINE_CONFIG, RING_CONFIG, TRIANGLE_CONFIG, TWO_EXITS_CONFIG,
@@ -12,3 +13,4 @@ pub use configs::{
 };
 pub use networks::Network;
 pub use reading::{config_of, read};
+pub use values::{path, tag};

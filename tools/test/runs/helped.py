@@ -18,7 +18,8 @@ VERSION_PAGE = """\
 usage: propane version
 
 Writes the name of the program and its version, and in a second line the kit
-that it is proved with. The word --version means the same as version.
+with which its sources were last proved. The word --version means the same as
+version.
 
 reads
   nothing

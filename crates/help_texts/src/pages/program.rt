@@ -22,7 +22,7 @@ commands
   audit      tell whether recorded routes are stable and right
   help       write these lines, or how one command is used
   version    write the version of the program
-  drain      tell which links and routers carry nothing now
+  drain      tell which links and routers carry nothing for a prefix
   settle     tell what the network comes to rest in after a list of events
   promises   tell what a policy promises, to whom, and to whom not
   whatif     tell what one more dead link or router changes, from here
@@ -60,7 +60,8 @@ example
 pub const VERSION_PAGE: &str = "usage: propane version
 
 Writes the name of the program and its version, and in a second line the kit
-that it is proved with. The word --version means the same as version.
+with which its sources were last proved. The word --version means the same as
+version.
 
 reads
   nothing

@@ -131,8 +131,9 @@ pub const SETTLE: &str = "usage: propane settle TOPO POLICY EVENTS
 Compiles the policy, lets the events happen one after another as trace does, and
 then delivers messages round by round until none waits: in each round all that
 wait at its beginning. It tells how many rounds and deliveries that took, and
-what each router then holds. Networks that run what is compiled always come to
-rest, in one outcome: what replay tells of what has failed then.
+what each router then holds. Where nothing more happens, all messages are
+delivered and ties are broken as here, networks that run what is compiled come
+to rest in one outcome: what replay tells of what has failed then.
 
 reads
   TOPO    a topology text: routers, peers and links

@@ -1,3 +1,4 @@
+use Rattle.propane_run.proofs.Failing as failing
 use Rattle.propane_run.proofs.RunLaws as law
 use Rattle.propane_run.proofs.run.Goals as goal
 
@@ -17,7 +18,7 @@ pub returns-clause-ends : goal.returns-clause-ends
 returns-clause-ends g c = law.ends_right c.run_whole.ensures.ran
 
 pub returns-clause-whole : goal.returns-clause-whole
-returns-clause-whole g c = let r = c.run_whole.ensures.ran in (r.what, r.answer, r.sent)
+returns-clause-whole g c = let r = c.run_whole.ensures.ran in (r.what, r.answer, r.reads, r.sent)
 
 pub returns-clause-done : goal.returns-clause-done
 returns-clause-done g c = law.done c.run_whole.ensures.ran
@@ -36,6 +37,12 @@ returns-clause-bad_input g c = law.bad_input c.run_whole.ensures.ran
 
 pub returns-clause-write_fault : goal.returns-clause-write_fault
 returns-clause-write_fault g c = law.write_fault c.run_whole.ensures.ran
+
+pub returns-clause-reads : goal.returns-clause-reads
+returns-clause-reads g c = failing.none_failed c.run_whole.ensures.ran
+
+pub returns-clause-writes : goal.returns-clause-writes
+returns-clause-writes g c = failing.no_write_failed c.run_whole.ensures.ran
 
 pub returns-clause-no_memory : goal.returns-clause-no_memory
 returns-clause-no_memory g c = law.no_memory_said c.run_whole.ensures.ran

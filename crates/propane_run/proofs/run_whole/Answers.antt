@@ -14,7 +14,7 @@ returns-in-Some-clause-ran g c =
     let rose = RoseOf (g.I.Inputs.faults c.args.inputs.now) (g.I.Inputs.faults c.answer-came.new.inputs) in
     let some : words_are words ≡ Some c.in-Some.command = sym c.words_of.ensures.is ∙ c.in-Some.is in
     let Answer : Option Command → Type 0 = λ o. IsAnswerOf (g.I.Inputs.holds c.args.inputs.now) rose words o (said c.answer-came.result) in
-    record { what = said c.answer-came.result; answer = subst Answer (sym some) c.answer-came.ensures.says; sent = c.deliver.ensures.delivered }
+    record { what = said c.answer-came.result; answer = subst Answer (sym some) c.answer-came.ensures.says; reads = c.answer-came.ensures.failed; sent = c.deliver.ensures.delivered }
 
 pub returns-in-None-clause-ran : goal.returns-in-None-clause-ran
 returns-in-None-clause-ran g c =
@@ -25,5 +25,6 @@ returns-in-None-clause-ran g c =
     record {
       what = usage;
       answer = subst Answer (sym none) refl;
+      reads = refl;
       sent = to_err g.O.Sink.taken g.O.Sink.faults g.E.Sink.taken g.E.Sink.faults usage.to_err c.args.out.now c.args.out.now c.args.err.now _ _ Usage c.send.ensures.sent;
     }

@@ -1,4 +1,5 @@
-//! What definitions mean, on cases that were worked by hand.
+//! What definitions mean and what calls give, on cases that were worked by hand.
+use call_rows::{wrong_cover, wrong_entry, wrong_relation};
 use meaning_rows::{
     outside_is_told, sample_has_its_texts, wrong_bits, wrong_class, wrong_graph, wrong_meaning,
     wrong_outcome, wrong_rank, wrong_text, wrong_words,
@@ -18,5 +19,8 @@ fn no_row_is_wrong(rt: HostRuntime) -> Result<(), Fail> {
     assert!(rt; sample_has_its_texts(alloc), "the sample");
     assert_eq!(rt; wrong_class(alloc), None);
     assert_eq!(rt; wrong_outcome(alloc)?, None);
+    assert_eq!(rt; wrong_relation(alloc)?, None);
+    assert_eq!(rt; wrong_entry(alloc)?, None);
+    assert_eq!(rt; wrong_cover(alloc)?, None);
     Ok(())
 }
