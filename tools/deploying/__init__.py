@@ -1,7 +1,5 @@
 """Files that routers load, written of route maps and read back: the parts of tools/deploy.
 
-    texts        files and JSON texts, and the faults that are told of them
-    topology     the routers and peers of a network, and its links
     maps         route maps as values, and their text; map_reader reads it
     addresses    where the sessions run, read strictly
     plans        all that one router's file says

@@ -6,13 +6,17 @@
 
 One entry a link of the topology. docs/DEPLOY.md has all keys.
 """
+from __future__ import annotations
+
 import ipaddress
 import re
+from collections.abc import Mapping
 from dataclasses import dataclass
-from typing import Optional
+from typing import Any
 
-from .texts import Fault, json_value, shown
-from .topology import MOST_NUMBER, address, is_private
+from texts.faults import Fault
+from texts.json_text import Object, json_value, keyed, shown
+from texts.topology import MOST_NUMBER, Link, Topology, address, is_private
 
 RESERVED = (0, 23456, 65535, MOST_NUMBER)  # RFC 7607, 6793, 7300
 INTERFACE = re.compile(r"[A-Za-z][A-Za-z0-9_.:@-]{0,14}", re.ASCII)
@@ -23,28 +27,21 @@ PASSWORD = re.compile(r"[A-Za-z0-9._~+/=:,;@%^*-]{1,80}", re.ASCII)
 class Wire:
     """Where the session of a link runs: an address or an interface for each end by name, and what both ends do."""
 
-    addresses: dict
-    interfaces: dict
-    password: Optional[str]
+    addresses: Mapping[str, str]
+    interfaces: Mapping[str, str]
+    password: str | None
     hops: int
     ttl_security: bool
-    hold: Optional[int]
-
-
-class Object(dict):
-    """An object of JSON that remembers a key that stands in it twice."""
-
-    def __init__(self, pairs):
-        super().__init__(pairs)
-        keys = [key for key, _ in pairs]
-        self.twice = next((key for key in keys if keys.count(key) > 1), None) if len(self) < len(keys) else None
+    hold: int | None
 
 
 class Addresses:
     """The wires of a network by their ends, and the AS number by which its peers know it, or None."""
 
-    def __init__(self, text, topology):
-        self.topology, self.wires, self.owners = topology, {}, {}
+    def __init__(self, text: str, topology: Topology) -> None:
+        self.topology = topology
+        self.wires: dict[frozenset[str], Wire] = {}
+        self.owners: dict[str | tuple[str, str], str] = {}
         value = keyed(json_value(text, "addresses", Object), {"links"}, {"public_as"}, "addresses")
         if not isinstance(value["links"], list):
             raise Fault("addresses: `links` is no array")
@@ -59,14 +56,14 @@ class Addresses:
             if ends not in self.wires:
                 raise Fault(f"addresses: no entry for the link {' '.join(link)}")
 
-    def public_number(self, number):
+    def public_number(self, number: Any) -> int:
         if type(number) is not int or not 0 < number < MOST_NUMBER or number in RESERVED or is_private(number):
             raise Fault(f"addresses: public_as: no AS number that peers may know: {shown(number)}")
         if number in (site.asn for site in self.topology.sites.values()):
             raise Fault(f"addresses: public_as: {number} is a number of the topology")
         return number
 
-    def add(self, entry, wanted):
+    def add(self, entry: Any, wanted: Mapping[frozenset[str], Link]) -> None:
         entry = keyed(entry, {"ends"}, {"addresses", "interfaces", "password", "hops", "ttl_security", "hold"}, "entry")
         ends = two_texts(entry, "ends")
         link = frozenset(ends)
@@ -83,7 +80,7 @@ class Addresses:
         self.wires[link] = Wire(addresses, interfaces, password(entry), hops, flag(entry, "ttl_security"),
                                 whole(entry, "hold", 3, 65535, None))
 
-    def taken(self, entry, ends, key):
+    def taken(self, entry: Object, ends: list[str], key: str) -> dict[str, str]:
         """The addresses or the interfaces of an entry by the ends that have them from now on, or none."""
         if key not in entry:
             return {}
@@ -92,7 +89,7 @@ class Addresses:
             (self.take_address if key == "addresses" else self.take_interface)(end, text)
         return found
 
-    def take_address(self, end, text):
+    def take_address(self, end: str, text: str) -> None:
         """An address belongs to one end. The same end may use it on more links, as on a shared network or a loopback."""
         found = ipaddress.IPv4Address(address(text, "`addresses`"))
         if found.is_unspecified or found.is_loopback or found.is_multicast or found.is_reserved:
@@ -100,31 +97,18 @@ class Addresses:
         if self.owners.setdefault(text, end) != end:
             raise Fault(f"`addresses`: {text} is the address of {self.owners[text]} already")
 
-    def take_interface(self, end, text):
+    def take_interface(self, end: str, text: str) -> None:
         if not INTERFACE.fullmatch(text):
             raise Fault(f"`interfaces`: no name of an interface: {shown(text)}")
         if (end, text) in self.owners:
             raise Fault(f"`interfaces`: {end} has another link over {text}")
         self.owners[end, text] = end
 
-    def wire(self, one, two):
+    def wire(self, one: str, two: str) -> Wire:
         return self.wires[frozenset((one, two))]
 
 
-def keyed(value, needed, allowed, what):
-    """An object with these keys, each of them once."""
-    if not isinstance(value, Object):
-        raise Fault(f"{what}: no object")
-    if value.twice is not None:
-        raise Fault(f"{what}: the key {shown(value.twice)} stands twice")
-    for key in sorted(needed - set(value)):
-        raise Fault(f"{what}: the key `{key}` is missing")
-    for key in sorted(set(value) - needed - allowed):
-        raise Fault(f"{what}: no key that it may have: {shown(key)}")
-    return value
-
-
-def two_texts(entry, key):
+def two_texts(entry: Object, key: str) -> list[str]:
     value = entry[key]
     if not isinstance(value, list) or len(value) != 2 or not all(isinstance(part, str) for part in value):
         raise Fault(f"`{key}` is no array of two texts")
@@ -133,7 +117,7 @@ def two_texts(entry, key):
     return value
 
 
-def whole(entry, key, low, high, otherwise):
+def whole(entry: Object, key: str, low: int, high: int, otherwise: Any) -> Any:
     if key not in entry:
         return otherwise
     if type(entry[key]) is not int or not low <= entry[key] <= high:
@@ -141,7 +125,7 @@ def whole(entry, key, low, high, otherwise):
     return entry[key]
 
 
-def password(entry):
+def password(entry: Object) -> str | None:
     """A password in letters that mean themselves in the files of both daemons. It isn't shown."""
     if "password" not in entry:
         return None
@@ -150,7 +134,7 @@ def password(entry):
     return entry["password"]
 
 
-def flag(entry, key):
+def flag(entry: Object, key: str) -> bool:
     if not isinstance(entry.get(key, False), bool):
         raise Fault(f"`{key}` is neither true nor false")
     return entry.get(key, False)

@@ -2,7 +2,14 @@
 
 Names have a colon, which no name of a topology has, so none is that of another thing. docs/DEPLOY.md says what each line is for.
 """
-from .texts import Fault
+from __future__ import annotations
+
+from collections.abc import Iterator
+
+from texts.faults import Fault
+
+from .maps import Entry, Row, Tag
+from .plans import Plan, Session
 
 ENDING = ".bird.conf"
 
@@ -73,7 +80,7 @@ template bgp 'own:session' {
 """
 
 
-def bird_text(plan):
+def bird_text(plan: Plan) -> str:
     parts = [HEAD.format(name=plan.site.name, asn=plan.site.asn, id=plan.site.id, own_numbers=", ".join(map(str, plan.own_numbers)))]
     parts += [list_text(number, rows) for number, rows in sorted(plan.lists.items())]
     if plan.networks:
@@ -83,7 +90,7 @@ def bird_text(plan):
     return "\n".join(parts)
 
 
-def list_text(number, rows):
+def list_text(number: int, rows: list[Row]) -> str:
     """Two sets say a list whose `deny` rows come first, as those of a configuration's maps do."""
     words = [row.word for row in rows]
     if words != sorted(words):
@@ -93,30 +100,30 @@ def list_text(number, rows):
     return text + (f"define list{number}_less = {set_text(denied)};\n" if denied else "")
 
 
-def pattern(row):
+def pattern(row: Row) -> str:
     prefix, _, longest = row.pattern().partition(" le ")
     return f"{prefix}{{{prefix.partition('/')[2]},{longest}}}" if longest else prefix
 
 
-def set_text(patterns):
+def set_text(patterns: list[str]) -> str:
     short = f"[ {', '.join(patterns)} ]"
     return short if len(short) <= 80 else "[\n    " + ",\n    ".join(patterns) + "\n  ]"
 
 
-def tag_text(tag):
-    return f"({tag.asn}, 0, {tag.value})"
+def tag_text(tag: Tag | None) -> str:
+    return f"({tag.asn}, 0, {tag.value})" if tag else ""
 
 
-def listed(plan, number):
+def listed(plan: Plan, number: int) -> str:
     less = any(row.word == "deny" for row in plan.lists[number])
     return f"net ~ list{number}" + (f" && net !~ list{number}_less" if less else "")
 
 
-def matching(plan, entry):
+def matching(plan: Plan, entry: Entry) -> str:
     return listed(plan, entry.number) + (f" && {tag_text(entry.match)} ~ bgp_large_community" if entry.match else "")
 
 
-def networks_text(plan):
+def networks_text(plan: Plan) -> str:
     lines = ["filter 'own:networks'", "{"]
     lines += [f"  if net = {network.prefix} && {listed(plan, network.number)} then {{ mark({tag_text(network.tag)}); accept; }}"
               for network in plan.networks]
@@ -125,14 +132,14 @@ def networks_text(plan):
     return "\n".join(lines) + "\n}\n"
 
 
-def session_text(session, plan):
+def session_text(session: Session, plan: Plan) -> str:
     if session.interface:
         raise Fault(f"addresses: the link {plan.site.name} {session.neighbour.name} has no addresses: "
                     "a session over interfaces is for FRR at both ends")
     return "\n".join([*takes_lines(session, plan), *sends_lines(session, plan), *protocol_lines(session)]) + "\n"
 
 
-def takes_lines(session, plan):
+def takes_lines(session: Session, plan: Plan) -> Iterator[str]:
     yield from (f"filter 'in:{session.neighbour.name}'", "{")
     if session.neighbour.is_peer:
         yield from ("  if bgp_path ~ own_numbers then reject;", "  wash();")
@@ -141,7 +148,7 @@ def takes_lines(session, plan):
     yield from ("  reject;", "}", "")
 
 
-def sends_lines(session, plan):
+def sends_lines(session: Session, plan: Plan) -> Iterator[str]:
     word = "{ bare(); accept; }" if session.neighbour.is_peer else "accept;"
     yield from (f"filter 'out:{session.neighbour.name}'", "{")
     for entry in plan.block(session).sends:
@@ -149,7 +156,7 @@ def sends_lines(session, plan):
     yield from ("  reject;", "}", "")
 
 
-def protocol_lines(session):
+def protocol_lines(session: Session) -> Iterator[str]:
     name, wire = session.neighbour.name, session.wire
     yield f"protocol bgp 'bgp:{name}' from 'own:session' {{"
     yield f"  local {session.mine} as {session.asn};"

@@ -1,8 +1,11 @@
 """Reads a file of BIRD 2 back: the lists and the maps of a router, as far as the file is as written, and where it isn't."""
+from __future__ import annotations
+
 import itertools
 import re
+from collections.abc import Iterable, Iterator
 
-from .maps import Block, Entry, Network, Row, RouterMaps, Tag
+from .maps import Block, Entry, Lists, Network, Row, RouterMaps, Tag
 
 NUMBER = r"(\d{1,10})"
 PREFIX = r"(\d+\.\d+\.\d+\.\d+/\d\d?)"
@@ -16,20 +19,22 @@ TAKE = re.compile(rf"if {LISTED}(?: && {TAG} ~ bgp_large_community)? then \{{ ma
 SEND = re.compile(rf"if {LISTED} && {TAG} ~ bgp_large_community then (?:accept;|\{{ bare\(\); accept; \}})")
 
 
-def read_bird(text):
+def read_bird(text: str) -> tuple[Lists, RouterMaps, list[str]]:
     told = [line for _, line in lines(text)]
     return read_lists(told), read_maps(told), []  # a line that isn't read is the first that differs
 
 
-def lines(text):
+def lines(text: str) -> list[tuple[int, str]]:
     """The lines that say something, with their numbers: comments and blank ones don't."""
     found = ((number, line.strip()) for number, line in enumerate(text.splitlines(), 1))
     return [(number, line) for number, line in found if line and not line.startswith("#")]
 
 
-def read_lists(told):
+def read_lists(told: Iterable[str]) -> Lists:
     """Lists begin in a line, and may go on in further ones."""
-    denied, permitted, word, rows = {}, {}, None, None
+    denied: Lists = {}
+    permitted: Lists = {}
+    word, rows = "", None
     for line in told:
         head = LIST.fullmatch(line)
         if head:
@@ -42,9 +47,10 @@ def read_lists(told):
     return {number: denied.get(number, []) + rows for number, rows in permitted.items()}
 
 
-def read_maps(told):
+def read_maps(told: Iterable[str]) -> RouterMaps:
     """The networks of all lines, and the entries of those that follow the head of a filter."""
-    maps, kind, entries = RouterMaps(), None, None
+    maps, kind = RouterMaps(), ""
+    entries: list[Entry] | None = None
     for line in told:
         head, network = FILTER.fullmatch(line), NETWORK.fullmatch(line)
         if head:
@@ -59,21 +65,21 @@ def read_maps(told):
     return maps
 
 
-def read_entry(kind, line):
+def read_entry(kind: str, line: str) -> Iterator[Entry]:
     """The entry of a line, if it is one."""
     found = (TAKE if kind == "in" else SEND).fullmatch(line)
     if found and kind == "in":
         number, asn, value, put_asn, put_value, preference = found.groups()
-        yield Entry(int(number), tag(asn, value), tag(put_asn, put_value), int(preference))
+        yield Entry(int(number), tag(asn, value) if asn else None, tag(put_asn, put_value), int(preference))
     elif found:
         yield Entry(int(found[1]), tag(found[2], found[3]))
 
 
-def tag(asn, value):
-    return Tag(int(asn), int(value)) if asn else None
+def tag(asn: str, value: str) -> Tag:
+    return Tag(int(asn), int(value))
 
 
-def bird_differences(text, wanted):
+def bird_differences(text: str, wanted: str) -> Iterator[str]:
     """The first line that isn't as it would be written: BIRD's order counts, so what follows it says nothing of its own."""
     for (_, line), (number, other) in itertools.zip_longest(lines(wanted), lines(text), fillvalue=(None, None)):
         if line != other:

@@ -1,18 +1,22 @@
 """The words of tools/deploy, and how it ends."""
+from __future__ import annotations
+
 import sys
+
+from texts.faults import Fault
+from texts.files import read_text
+from texts.statuses import BAD_INPUT, CHECK_FAILS, DONE, READ_FAULT, USAGE
+from texts.topology import Topology
 
 from .addresses import Addresses
 from .folders import BIRD, FRR, Drift, read_back, write_files
 from .map_reader import read_maps
 from .maps import maps_text
-from .texts import Fault, read_text
-from .topology import Topology
 
 DAEMONS = {"--bird": BIRD, "--frr": FRR}
-DONE, USAGE, BAD_INPUT, NO_FILE, DRIFT = 0, 2, 3, 4, 7
 
 
-def run(words, usage):
+def run(words: list[str], usage: str) -> int:
     if len(words) == 4 and words[0] == "--read":
         topology = Topology(read_text(words[1]))
         sys.stdout.write(maps_text(topology, read_back(topology, Addresses(read_text(words[2]), topology), words[3])))
@@ -26,15 +30,15 @@ def run(words, usage):
     return DONE
 
 
-def main(words, usage):
+def main(words: list[str], usage: str) -> int:
     """Runs the words. Returns the status; what is wrong goes to the error output, a line each."""
     try:
         return run(words, usage)
     except Drift as drift:
-        status, said = DRIFT, str(drift)
+        status, said = CHECK_FAILS, str(drift)
     except Fault as fault:
         status, said = BAD_INPUT, str(fault)
     except OSError as error:
-        status, said = NO_FILE, f"{error.filename}: {error.strerror}"
+        status, said = READ_FAULT, f"{error.filename}: {error.strerror}"
     sys.stderr.write("".join(f"deploy: {line}\n" for line in said.splitlines()))
     return status

@@ -1,15 +1,22 @@
 """The files of routers in a folder: written, and read back as maps, or as what drifted."""
+from __future__ import annotations
+
 import os
 import re
+from collections.abc import Callable, Iterable, Iterator, Sequence
 from dataclasses import dataclass
-from typing import Callable
+
+from texts.faults import Fault
+from texts.files import read_text, write_private
+from texts.prefixes import is_prefix
+from texts.topology import Topology
 
 from . import bird, frr
+from .addresses import Addresses
 from .bird_reader import bird_differences, read_bird
 from .frr_reader import frr_differences, read_frr
-from .maps import Maps, in_order, is_prefix
-from .plans import plan_of
-from .texts import Fault, read_text, write_private
+from .maps import Lists, Maps, RouterMaps, in_order
+from .plans import Plan, plan_of
 
 
 class Drift(Exception):
@@ -21,16 +28,16 @@ class Daemon:
     """How the files of a daemon are called, written and read."""
 
     ending: str
-    text_of: Callable
-    read: Callable
-    differences: Callable
+    text_of: Callable[[Plan], str]
+    read: Callable[[str], tuple[Lists, RouterMaps, Sequence[str]]]
+    differences: Callable[[str, str], Iterable[str]]
 
 
 BIRD = Daemon(bird.ENDING, bird.bird_text, read_bird, bird_differences)
 FRR = Daemon(frr.ENDING, frr.frr_text, read_frr, frr_differences)
 
 
-def write_files(daemon, topology, maps, addresses, folder, names):
+def write_files(daemon: Daemon, topology: Topology, maps: Maps, addresses: Addresses, folder: str, names: Sequence[str]) -> None:
     """Writes the files of these routers, or of all. All texts are made before the first file is written."""
     for name in names:
         if name not in maps.routers:
@@ -42,7 +49,7 @@ def write_files(daemon, topology, maps, addresses, folder, names):
         write_private(os.path.join(folder, name), text)
 
 
-def read_back(topology, addresses, folder):
+def read_back(topology: Topology, addresses: Addresses, folder: str) -> Maps:
     """The maps of the files. They are written anew, and nothing else may stand in the files, but for what isn't of BGP in FRR's."""
     files = {router.name: file_of(folder, router.name) for router in topology.routers}
     read = {name: daemon.read(text) for name, (daemon, _, text) in files.items()}
@@ -60,7 +67,7 @@ def read_back(topology, addresses, folder):
     return maps
 
 
-def file_of(folder, router):
+def file_of(folder: str, router: str) -> tuple[Daemon, str, str]:
     found = [(daemon, router + daemon.ending) for daemon in (BIRD, FRR) if os.path.exists(os.path.join(folder, router + daemon.ending))]
     if len(found) != 1:
         raise Fault(f"{folder}: {'two files' if found else 'no file'} of the router {router}")
@@ -68,7 +75,7 @@ def file_of(folder, router):
     return daemon, name, read_text(os.path.join(folder, name))
 
 
-def lacking(topology, maps, router, lists):
+def lacking(topology: Topology, maps: Maps, router: str, lists: Lists) -> Iterator[str]:
     """What a router's maps lack, so that no file can be written of them."""
     for number in sorted(set(lists) | set(maps.lists)):
         if lists.get(number) != maps.lists.get(number):
@@ -86,6 +93,6 @@ def lacking(topology, maps, router, lists):
             yield f"the network {network.prefix} is over the list {network.number}, which isn't there"
 
 
-def hidden(line):
+def hidden(line: str) -> str:
     """A difference without the passwords that it may show."""
     return re.sub(r"(password )(?:\"[^\"]*\"|[^\s\"]\S*?(?=:? |$))", r"\1..", line)

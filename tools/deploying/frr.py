@@ -2,8 +2,15 @@
 
 docs/DEPLOY.md says what each line is for.
 """
+from __future__ import annotations
+
+from collections.abc import Iterator
+
+from texts.faults import Fault
+
 from .addresses import RESERVED
-from .texts import Fault
+from .maps import Block, Entry, Network, Row, Tag
+from .plans import Plan, Session
 
 ENDING = ".frr.conf"
 LAST = 65535  # the greatest number of an entry
@@ -18,7 +25,7 @@ ROUTER = (" bgp ebgp-requires-policy", " no bgp suppress-duplicates", " no bgp d
           " bgp bestpath compare-routerid", " no bgp network import-check")
 
 
-def frr_text(plan):
+def frr_text(plan: Plan) -> str:
     parts = [[f"! {plan.site.name}, AS {plan.site.asn}: the route maps of the network's policy, written by tools/deploy.",
               "frr defaults traditional"]]
     if plan.networks:
@@ -33,30 +40,30 @@ def frr_text(plan):
     return "\n!\n".join("\n".join(part) for part in parts if part) + "\n"
 
 
-def list_lines(number, rows):
+def list_lines(number: int, rows: list[Row]) -> list[str]:
     return [f"ip prefix-list list-{number} seq {5 * place} {row.word} {row.pattern()}" for place, row in enumerate(rows, 1)]
 
 
-def number_lines(numbers):
+def number_lines(numbers: list[int]) -> Iterator[str]:
     """Each line is one test of a path, so several numbers stand in a line, and not so many that it grows too long."""
     for place, start in enumerate(range(0, len(numbers), 40), 1):
         yield f"bgp as-path access-list own-numbers seq {5 * place} permit _({'|'.join(map(str, numbers[start:start + 40]))})_"
 
 
-def matched(plan):
+def matched(plan: Plan) -> list[Tag]:
     return sorted({entry.match for block in plan.blocks.values() for entry in block.takes + block.sends if entry.match})
 
 
-def tag_name(tag):
+def tag_name(tag: Tag) -> str:
     return f"tag-{tag.asn}-{tag.value}"
 
 
-def network_lines(network):
+def network_lines(network: Network) -> list[str]:
     return [f"route-map own-{network.prefix} permit 10", f" match ip address prefix-list list-{network.number}",
             f" set large-community {network.tag}", "exit"]
 
 
-def map_parts(session, block):
+def map_parts(session: Session, block: Block) -> Iterator[list[str]]:
     """The two route maps of a session, an entry a part. Each ends in a refusal."""
     name, is_peer = session.neighbour.name, session.neighbour.is_peer
     if is_peer:
@@ -69,7 +76,7 @@ def map_parts(session, block):
         yield [f"route-map {word}-{name} deny {LAST}", "exit"]
 
 
-def entry_lines(entry):
+def entry_lines(entry: Entry) -> Iterator[str]:
     yield f" match ip address prefix-list list-{entry.number}"
     if entry.match:
         yield f" match large-community {tag_name(entry.match)}"
@@ -78,7 +85,7 @@ def entry_lines(entry):
         yield f" set local-preference {entry.preference}"
 
 
-def router_lines(plan):
+def router_lines(plan: Plan) -> Iterator[str]:
     yield from (f"router bgp {plan.site.asn}", f" bgp router-id {plan.site.id}", *ROUTER)
     for session in plan.sessions:
         yield from neighbour_lines(session, plan)
@@ -89,7 +96,7 @@ def router_lines(plan):
     yield from ("  maximum-paths 1", " exit-address-family", "exit")
 
 
-def neighbour_lines(session, plan):
+def neighbour_lines(session: Session, plan: Plan) -> Iterator[str]:
     at, other, wire = place_of(session), session.neighbour, session.wire
     if other.asn in RESERVED:
         raise Fault(f"topology: FRR has no session with the AS number of {other.name}")
@@ -111,7 +118,7 @@ def neighbour_lines(session, plan):
     yield f" neighbor {at} timers connect 5"
 
 
-def family_lines(session):
+def family_lines(session: Session) -> Iterator[str]:
     """What is announced comes last, when all else of the session is said."""
     at, name = place_of(session), session.neighbour.name
     yield f"  neighbor {at} activate"
@@ -125,5 +132,5 @@ def family_lines(session):
     yield f"  neighbor {at} route-map out-{name} out"
 
 
-def place_of(session):
+def place_of(session: Session) -> str | None:
     return session.interface or session.theirs

@@ -1,7 +1,13 @@
 """Route maps as values, and the text that `propane routemap` writes of them."""
+from __future__ import annotations
+
 import ipaddress
+from collections.abc import Iterable
 from dataclasses import dataclass, field
-from typing import NamedTuple, Optional
+from typing import NamedTuple
+
+from texts.prefixes import covers, length_of
+from texts.topology import Topology
 
 
 class Tag(NamedTuple):
@@ -10,7 +16,7 @@ class Tag(NamedTuple):
     asn: int
     value: int
 
-    def __str__(self):
+    def __str__(self) -> str:
         return f"{self.asn}:0:{self.value}"
 
 
@@ -22,23 +28,27 @@ class Row(NamedTuple):
     longest: int
 
     @staticmethod
-    def of(word, prefix, longest=None):
+    def of(word: str, prefix: str, longest: str | None = None) -> Row:
         """A row as texts say it, where the prefix alone is told by no longest length."""
-        return Row(word, prefix, length(prefix) if longest is None else int(longest))
+        return Row(word, prefix, length_of(prefix) if longest is None else int(longest))
 
-    def pattern(self):
-        return self.prefix if self.longest == length(self.prefix) else f"{self.prefix} le {self.longest}"
+    def pattern(self) -> str:
+        """The prefixes that it is for, as texts say them."""
+        return self.prefix if self.longest == length_of(self.prefix) else f"{self.prefix} le {self.longest}"
+
+
+Lists = dict[int, list[Row]]  # by number
 
 
 class Entry(NamedTuple):
     """An entry over the list of a number: the tag that it asks for, and what it gives; None of what it doesn't state."""
 
     number: int
-    match: Optional[Tag] = None
-    put: Optional[Tag] = None
-    preference: Optional[int] = None
+    match: Tag | None = None
+    put: Tag | None = None
+    preference: int | None = None
 
-    def __str__(self):
+    def __str__(self) -> str:
         match = f" match {self.match}" if self.match else ""
         return f"list {self.number}{match}" + (f" set {self.put} pref {self.preference}" if self.put else "")
 
@@ -55,43 +65,37 @@ class Network(NamedTuple):
 class Block:
     """What a router takes from a neighbour and what it sends to it: entries, in their order."""
 
-    takes: list = field(default_factory=list)
-    sends: list = field(default_factory=list)
+    takes: list[Entry] = field(default_factory=list)
+    sends: list[Entry] = field(default_factory=list)
 
 
 @dataclass
 class RouterMaps:
     """The networks of a router, and its blocks by neighbour."""
 
-    networks: list = field(default_factory=list)
-    blocks: dict = field(default_factory=dict)
+    networks: list[Network] = field(default_factory=list)
+    blocks: dict[str, Block] = field(default_factory=dict)
 
 
 @dataclass
 class Maps:
     """Lists of rows by number, and the maps of each router by name."""
 
-    lists: dict = field(default_factory=dict)
-    routers: dict = field(default_factory=dict)
+    lists: Lists = field(default_factory=dict)
+    routers: dict[str, RouterMaps] = field(default_factory=dict)
 
 
-def length(prefix):
-    return int(prefix.partition("/")[2])
+def permits(rows: Iterable[Row], prefix: str) -> bool:
+    """Whether the first row that has the prefix is a `permit`."""
+    return next((row.word == "permit" for row in rows if covers(row.prefix, row.longest, prefix)), False)
 
 
-def is_prefix(text):
-    try:
-        return str(ipaddress.IPv4Network(text)) == text
-    except ValueError:
-        return False
-
-
-def in_order(networks):
+def in_order(networks: Iterable[Network]) -> list[Network]:
     """Networks in the order of a text: by list, then by the bits of the prefix, then by its length."""
     return sorted(networks, key=lambda network: (network.number, ipaddress.IPv4Network(network.prefix)))
 
 
-def maps_text(topology, maps):
+def maps_text(topology: Topology, maps: Maps) -> str:
     """The text of maps, as `propane routemap` would write it."""
     lines = ["propane-maps 1"]
     lines += [f"list {number} {row.word} {row.pattern()}" for number, rows in sorted(maps.lists.items()) for row in rows]

@@ -1,4 +1,6 @@
 """The words of tools/lab, and its report."""
+from __future__ import annotations
+
 import argparse
 import ipaddress
 import itertools
@@ -7,25 +9,27 @@ import os
 import shutil
 import sys
 import time
+from collections.abc import Iterable, Sequence
 
 from deploying import folders
 from deploying.addresses import Addresses
 from deploying.map_reader import read_maps
 from deploying.maps import maps_text
-from deploying.texts import Fault
-from deploying.topology import Topology
+from texts.faults import Fault
+from texts.scenario import Scenario
+from texts.topology import Topology
 
 from . import enclosure
 from .commands import Broken, propane, ran, read, write
 from .network import Inputs, Network
-from .questions import Texts, compare
-from .scenarios import Scenario, asked_prefixes, scenario_of, single_failures
+from .questions import Answer, Texts, compare
+from .scenarios import asked_prefixes, scenario_of, single_failures
 
 AGREES, DIFFERS, BROKEN = 0, 1, 2
-NOTHING = Scenario("nothing fails", "")
+NOTHING = Scenario("")
 
 
-def words_of(arguments, usage):
+def words_of(arguments: Sequence[str], usage: str) -> argparse.Namespace:
     parser = argparse.ArgumentParser(prog="tools/lab", description=usage, formatter_class=argparse.RawDescriptionHelpFormatter)
     parser.add_argument("--frr", default="", metavar="ROUTERS", help="routers that run FRR: names by commas, `half` or `all`")
     parser.add_argument("--addresses", metavar="FILE", help="addresses as tools/deploy takes them; else some are made")
@@ -43,14 +47,14 @@ def words_of(arguments, usage):
     return words
 
 
-def made_addresses(topology):
+def made_addresses(topology: Topology) -> str:
     """Addresses for a network that has none, and a public number that none of its sites has (RFC 5398)."""
     taken, start = {site.asn for site in topology.sites.values()}, ipaddress.IPv4Address("172.16.0.0")
     links = [{"ends": link, "addresses": [str(start + 2 * place), str(start + 2 * place + 1)]} for place, link in enumerate(topology.links)]
     return json.dumps({"public_as": next(number for number in itertools.count(65536) if number not in taken), "links": links})
 
 
-def frr_routers(topology, word, files):
+def frr_routers(topology: Topology, word: str, files: str | None) -> set[str]:
     """The routers that run FRR: those that are named, but where a file is given, as its ending says."""
     names = [router.name for router in topology.routers]
     named = {"all": names, "half": names[1::2]}.get(word) or [name for name in word.split(",") if name]
@@ -61,7 +65,7 @@ def frr_routers(topology, word, files):
     return {name for name in names if f"{name}.frr.conf" in given or name in named and f"{name}.bird.conf" not in given}
 
 
-def deployed(inputs, frr, given, folder):
+def deployed(inputs: Inputs, frr: set[str], given: str | None, folder: str) -> None:
     """Puts the file of each router into the folder: the given one, or the one that is written for it; `inputs.files` tells which.
 
     Each is tried by its daemon's own check."""
@@ -75,7 +79,7 @@ def deployed(inputs, frr, given, folder):
         inputs.files[router.name] = file
 
 
-def loaded(texts, network, folder):
+def loaded(texts: Texts, network: Network, folder: str) -> str:
     """What is to be said of the maps as they stand on the routers: the verdict of checkmap, or what drifted."""
     os.makedirs(folder, exist_ok=True)
     for name, file in network.inputs.files.items():
@@ -88,7 +92,7 @@ def loaded(texts, network, folder):
     return propane("checkmap", texts.config, os.path.join(folder, "maps"), status=(0, 7)).strip()
 
 
-def examined(network, texts, scenario, folder, patience):
+def examined(network: Network, texts: Texts, scenario: Scenario, folder: str, patience: float) -> Answer:
     """What differs in a scenario once nothing moves any more. Daemons may be slow: what differs is asked again for a while."""
     end = time.monotonic() + patience
     if not scenario.fails_as(network.now):
@@ -102,11 +106,11 @@ def examined(network, texts, scenario, folder, patience):
     return answer
 
 
-def say(line):
+def say(line: str) -> None:
     print(line, flush=True)
 
 
-def run_scenarios(texts, network, scenarios, folder, patience):
+def run_scenarios(texts: Texts, network: Network, scenarios: Iterable[Scenario], folder: str, patience: float) -> list[Answer]:
     """Makes the failures of each scenario, and tells what comes of it. Returns the answers."""
     answers = []
     for place, scenario in enumerate(scenarios, 1):
@@ -120,7 +124,7 @@ def run_scenarios(texts, network, scenarios, folder, patience):
     return answers
 
 
-def run(words, folder):
+def run(words: argparse.Namespace, folder: str) -> int:
     texts = Texts.made(os.path.abspath(words.topology), os.path.abspath(words.policy), folder)
     topology = Topology(read(texts.topology))
     maps = read_maps(topology, read(texts.maps))
@@ -144,7 +148,7 @@ def run(words, folder):
     return AGREES if verdict == "same" and not differing else DIFFERS
 
 
-def main(arguments, usage):
+def main(arguments: Sequence[str], usage: str) -> int:
     """Runs the lab in namespaces of its own. Returns the status."""
     words = words_of(arguments, usage)
     try:
@@ -157,6 +161,6 @@ def main(arguments, usage):
             if words.keep:
                 shutil.copytree(enclosure.HERE, words.keep, dirs_exist_ok=True,
                                 ignore=shutil.ignore_patterns("*.ctl", "*.vty", "*.api", "*.pid"))
-    except (Broken, Fault, enclosure.Ended, OSError) as error:
+    except (Broken, Fault, enclosure.Stopped, OSError) as error:
         sys.stderr.write(f"lab: {error}\n")
         return BROKEN

@@ -1,7 +1,10 @@
 """Runs other programs, and waits, never without a bound."""
+from __future__ import annotations
+
 import os
 import subprocess
 import time
+from collections.abc import Callable, Collection
 
 TOOLS = os.path.dirname(os.path.dirname(os.path.abspath(__file__)))
 SLOW = 300  # seconds after which a program that answers at once elsewhere counts as stuck
@@ -11,7 +14,7 @@ class Broken(Exception):
     """The lab itself fails: the message says what of it."""
 
 
-def ran(*words, status=(0,)):
+def ran(*words: str, status: Collection[int] = (0,)) -> str:
     """What a program writes to its output, where it ends with one of these statuses."""
     try:
         done = subprocess.run(words, stdin=subprocess.DEVNULL, capture_output=True, text=True, check=False, timeout=SLOW)
@@ -24,12 +27,12 @@ def ran(*words, status=(0,)):
     return done.stdout
 
 
-def propane(*words, status=(0,)):
+def propane(*words: str, status: Collection[int] = (0,)) -> str:
     """Runs the program that the variable PROGRAM names, or ./propane."""
     return ran(os.environ.get("PROGRAM") or os.path.join(TOOLS, "..", "propane"), *words, status=status)
 
 
-def until(happened, what, limit=SLOW):
+def until(happened: Callable[[], bool], what: str, limit: float = SLOW) -> None:
     """Waits until something has happened."""
     end = time.monotonic() + limit
     while not happened():
@@ -38,11 +41,11 @@ def until(happened, what, limit=SLOW):
         time.sleep(0.05)
 
 
-def read(path):
+def read(path: str) -> str:
     with open(path, encoding="utf-8") as file:
         return file.read()
 
 
-def write(path, text):
+def write(path: str, text: str) -> None:
     with open(path, "w", encoding="utf-8") as file:
         file.write(text)

@@ -1,4 +1,6 @@
 """BIRD and FRR in the namespace of a site: begun, asked, ended."""
+from __future__ import annotations
+
 import contextlib
 import json
 import os
@@ -6,6 +8,7 @@ import re
 import shutil
 import socket
 import subprocess
+from typing import Any
 
 from .commands import SLOW, Broken, ran, read, until, write
 
@@ -13,16 +16,23 @@ FRR = os.environ.get("FRR_DAEMONS", "/usr/lib/frr")
 
 
 class Daemon:
-    """The processes of a site, with a folder for their files."""
+    """The processes of a site, with a folder for their files.
 
-    def __init__(self, space, folder):
-        self.space, self.folder, self.running = space, folder, []
+    `ending` is that of recorded answers, and `forget` what the kernel is told once the processes are gone.
+    """
+
+    ending: str
+    forget: tuple[str, ...]
+
+    def __init__(self, space: str, folder: str) -> None:
+        self.space, self.folder = space, folder
+        self.running: list[subprocess.Popen[bytes]] = []
         os.makedirs(folder, exist_ok=True)
 
-    def path(self, name):
+    def path(self, name: str) -> str:
         return os.path.join(self.folder, name)
 
-    def spawn(self, name, there, *words):
+    def spawn(self, name: str, there: str, *words: str) -> None:
         """Begins a process, and waits until it has made the file `there`. What is to end the lab isn't meant for it."""
         log = self.path(f"{name}.log")
         with open(log, "a", encoding="utf-8") as file:
@@ -30,20 +40,36 @@ class Daemon:
                                        cwd=self.folder, start_new_session=True)
         self.running.append(process)
 
-        def has_begun():
+        def has_begun() -> bool:
             if process.poll() is not None:
                 raise Broken(f"{self.space}: {name} has ended: {read(log)}")
             return os.path.exists(self.path(there))
 
         until(has_begun, f"{self.space}: {name} makes no {there}")
 
-    def stop(self):
+    def stop(self) -> None:
         """Ends all at once, as a crash would; the kernel keeps nothing of what it was told."""
         for process in reversed(self.running):
             process.kill()
             process.wait()
         self.running = []
         ran("ip", "-n", self.space, *self.forget)
+
+    def start(self, file: str) -> None:
+        """Begins with a file as the configuration."""
+        raise NotImplementedError
+
+    def answer(self, prefix: str) -> str:
+        """What is recorded of the route to a prefix."""
+        raise NotImplementedError
+
+    def sessions(self) -> tuple[set[str], list[Any]]:
+        """The neighbours with which a session is established, and what changes whenever a message comes or goes."""
+        raise NotImplementedError
+
+    def loaded(self, file: str) -> str:
+        """The configuration that runs."""
+        raise NotImplementedError
 
 
 class Bird(Daemon):
@@ -52,26 +78,26 @@ class Bird(Daemon):
     ending = ".bird"
     forget = "route", "flush", "proto", "bird"
 
-    def start(self, file):
+    def start(self, file: str) -> None:
         with contextlib.suppress(FileNotFoundError):
             os.unlink(self.path("bird.ctl"))
         self.spawn("bird", "bird.ctl", "bird", "-f", "-c", file, "-s", self.path("bird.ctl"), "-P", self.path("bird.pid"))
 
-    def ask(self, *words):
+    def ask(self, *words: str) -> str:
         """What BIRD answers: `Network not found` is an answer too, though birdc's status is 1 then."""
         return ran("birdc", "-s", self.path("bird.ctl"), *words, status=(0, 1))
 
-    def configure(self, file):
+    def configure(self, file: str) -> None:
         said = self.ask("configure", f'"{file}"')
         if "Reconfigur" not in said:
             raise Broken(f"{self.space}: {said}")
 
-    def answer(self, prefix):
+    def answer(self, prefix: str) -> str:
         return self.ask("show", "route", prefix, "all", "primary")
 
-    def sessions(self):
-        """The neighbours with which a session is established, and what changes whenever a message comes or goes."""
-        up, moves = set(), []
+    def sessions(self) -> tuple[set[str], list[Any]]:
+        up: set[str] = set()
+        moves: list[Any] = []
         for line in self.ask("show", "protocols", "all").splitlines():
             words = line.split()
             if words and words[0].startswith("bgp:"):
@@ -82,9 +108,10 @@ class Bird(Daemon):
                 moves.append(tuple(words))
         return up, moves
 
-    def heard(self, prefix):
+    def heard(self, prefix: str) -> dict[str, tuple[list[int], list[str]]]:
         """What a peer has heard: by router, the AS path and the lines of communities that came with it."""
-        found, at = {}, None
+        found: dict[str, tuple[list[int], list[str]]] = {}
+        at: tuple[list[int], list[str]] | None = None
         for line in self.ask("show", "route", prefix, "all").splitlines():
             entry = re.search(r"\[(\S+) .*\]", line) if not line.startswith("\t") else None
             name, _, value = line.strip().partition(":")
@@ -96,11 +123,11 @@ class Bird(Daemon):
                 at[1].append(line.strip())
         return found
 
-    def noted(self, words):
+    def noted(self, words: str) -> list[str]:
         """What stands behind these words in the log, each once."""
         return list(dict.fromkeys(line.partition(words)[2] for line in read(self.path("bird.log")).splitlines() if words in line))
 
-    def loaded(self, file):
+    def loaded(self, file: str) -> str:
         return read(file)
 
 
@@ -110,11 +137,11 @@ class Frr(Daemon):
     ending = ".frr"
     forget = "nexthop", "flush"  # zebra's routes are over its next hops, and go with them
 
-    def __init__(self, space, folder, names):
+    def __init__(self, space: str, folder: str, names: dict[str, str]) -> None:
         super().__init__(space, folder)
         self.names = names
 
-    def start(self, file):
+    def start(self, file: str) -> None:
         for name in os.listdir(self.folder):
             if not name.endswith(".log"):
                 os.unlink(self.path(name))
@@ -128,10 +155,10 @@ class Frr(Daemon):
                            "-z", self.path("zserv.api"), "--vty_socket", self.folder, "-P", "0", "--log", "stdout")
         self.vtysh("-b")
 
-    def vtysh(self, *words):
+    def vtysh(self, *words: str) -> str:
         return ran("vtysh", "--vty_socket", self.folder, "--config_dir", self.folder, *words)
 
-    def ask(self, command):
+    def ask(self, command: str) -> str:
         """What bgpd answers, on the socket over which vtysh asks: vtysh itself takes a hundred times as long to begin.
 
         An answer ends in three zeros and a status."""
@@ -147,16 +174,15 @@ class Frr(Daemon):
                 answer += piece
         return answer[:-4].decode()
 
-    def answer(self, prefix):
+    def answer(self, prefix: str) -> str:
         return self.ask(f"show bgp ipv4 unicast {prefix} bestpath json")
 
-    def sessions(self):
+    def sessions(self) -> tuple[set[str], list[Any]]:
         value = json.loads(self.ask("show bgp ipv4 unicast summary json"))
         peers = value.get("ipv4Unicast", value).get("peers", {})
         keys = "state", "pfxRcd", "pfxSnt", "inq", "outq", "connectionsEstablished", "tableVersion"
         moves = [value.get("tableVersion"), *((at, *map(peer.get, keys)) for at, peer in peers.items())]
         return {self.names[at] for at, peer in peers.items() if peer["state"] == "Established"}, moves
 
-    def loaded(self, _):
-        """What bgpd runs, as it tells it."""
+    def loaded(self, _: str) -> str:
         return self.vtysh("-c", "show running-config")

@@ -4,11 +4,14 @@ The lab's process is the first one of its namespace of processes: once it ends, 
 and mounts go with the last of them. It ends with the command that waits for it outside, which hands on what ends it; and where
 that command is killed outright, the kernel kills the lab.
 """
+from __future__ import annotations
+
 import os
 import shutil
 import signal
 import subprocess
 import sys
+from typing import Any, NoReturn
 
 from .commands import Broken, ran, read, write
 
@@ -18,22 +21,22 @@ PATIENCE = 15  # seconds that the lab has for ending by itself
 ENDING = (signal.SIGINT, signal.SIGTERM, signal.SIGHUP, signal.SIGQUIT)
 
 
-class Ended(Exception):
+class Stopped(Exception):
     """Somebody wants the lab to end."""
 
 
-def is_inside():
+def is_inside() -> bool:
     """Whether this is the first process of namespaces that a lab has made; a variable alone may come from anywhere."""
     return ENTERED in os.environ and os.getpid() == 1
 
 
-def run_inside(words):
+def run_inside(words: list[str]) -> int:
     """Runs a command in namespaces of its own, where it is root. Returns its status, or 128 and the number of what ended it."""
     for program in ("setpriv", "unshare", "mount", "ip"):
         if not shutil.which(program):
             raise Broken(f"{program}: not found")
     user = ["--map-root-user"] if os.geteuid() else []
-    ended = []
+    ended: list[int] = []
     for number in ENDING:
         signal.signal(number, lambda number, _: ended.append(number))
     process = subprocess.Popen(
@@ -47,7 +50,7 @@ def run_inside(words):
                 return end(process, ended)
 
 
-def end(process, ended):
+def end(process: subprocess.Popen[bytes], ended: list[int]) -> int:
     """Hands on what is to end a process, and kills it where it doesn't end, or where somebody insists."""
     os.killpg(process.pid, signal.SIGTERM)
     for _ in range(5 * PATIENCE):
@@ -62,11 +65,11 @@ def end(process, ended):
     return 128 + ended[0]
 
 
-def furnish():
+def furnish() -> None:
     """The lab's own folder, and what ends the lab. Where there is no user but root, FRR's daemons take root for their own."""
 
-    def stop(number, _):
-        raise Ended(signal.Signals(number).name)
+    def stop(number: int, _: Any) -> NoReturn:
+        raise Stopped(signal.Signals(number).name)
 
     for number in ENDING:
         signal.signal(number, stop)
@@ -79,6 +82,6 @@ def furnish():
             ran("mount", "--bind", f"/run/{name}", f"/etc/{name}")
 
 
-def command():
+def command() -> list[str]:
     """The words by which this command is run again."""
     return [sys.executable, *sys.argv]

@@ -1,19 +1,23 @@
 """The sites of a network as namespaces, its links, and what fails now."""
+from __future__ import annotations
+
 import json
 import os
 import time
+from collections.abc import Collection, Iterable, Mapping
 from concurrent.futures import ThreadPoolExecutor
 from dataclasses import dataclass
+from typing import Any
 
 from deploying.addresses import Addresses
 from deploying.maps import Maps
 from deploying.plans import session_of
-from deploying.topology import Topology
+from texts.scenario import Scenario
+from texts.topology import Site, Topology
 
 from .commands import ran, write
-from .daemons import Bird, Frr
+from .daemons import Bird, Daemon, Frr
 from .peers import peer_text
-from .scenarios import Scenario
 
 CALM = 2  # seconds without a change that count as quiet
 POLL = 0.5
@@ -27,33 +31,35 @@ class Inputs:
     topology: Topology
     maps: Maps
     addresses: Addresses
-    files: dict
+    files: dict[str, str]
 
 
 class Network:
     """A namespace and a daemon for each site, called as the site is. `now` says what fails, `is_quiet` that quiet has come since."""
 
-    def __init__(self, inputs, frr, prefixes, folder):
+    def __init__(self, inputs: Inputs, frr: Collection[str], prefixes: Iterable[str], folder: str) -> None:
         self.inputs, self.topology, self.addresses, self.folder = inputs, inputs.topology, inputs.addresses, folder
         own = {network.prefix for router in inputs.maps.routers.values() for network in router.networks}
         self.announced = sorted(set(prefixes) - own)
-        self.daemons = {name: self.daemon(site, name in frr) for name, site in self.topology.sites.items()}
-        self.now, self.is_quiet = Scenario("", "", dead=frozenset(self.topology.sites)), False
+        self.routers = {site.name: self.daemon(site, site.name in frr) for site in self.topology.routers}
+        self.peers = {site.name: Bird(site.name, os.path.join(folder, site.name)) for site in self.topology.peers}
+        self.daemons: Mapping[str, Daemon] = {**self.routers, **self.peers}
+        self.now, self.is_quiet = Scenario("", dead=frozenset(self.topology.sites)), False
 
-    def daemon(self, site, is_frr):
+    def daemon(self, site: Site, is_frr: bool) -> Bird | Frr:
         folder = os.path.join(self.folder, site.name)
         if not is_frr:
             return Bird(site.name, folder)
         sessions = [session_of(self.addresses, site, other) for other in self.topology.neighbours(site.name)]
-        return Frr(site.name, folder, {session.interface or session.theirs: session.neighbour.name for session in sessions})
+        return Frr(site.name, folder, {session.interface or session.theirs or "": session.neighbour.name for session in sessions})
 
     # ---- links
 
-    def interface(self, site, other):
+    def interface(self, site: str, other: str) -> str:
         """The name of a site's interface on a link."""
         return self.addresses.wire(site, other).interfaces.get(site) or f"to{self.topology.place[other]}"
 
-    def lay(self):
+    def lay(self) -> None:
         for space in self.topology.sites:
             ran("ip", "netns", "add", space)
             ran("ip", "-n", space, "link", "set", "lo", "up")
@@ -66,14 +72,14 @@ class Network:
                     ran("ip", "-n", site, "addr", "add", at[site], "peer", at[other], "dev", self.interface(site, other))
                 ran("ip", "-n", site, "link", "set", self.interface(site, other), "up")
 
-    def set_link(self, link, word):
+    def set_link(self, link: frozenset[str], word: str) -> None:
         """One end goes `up` or `down`; the other one sees whether somebody is there."""
         one, two = sorted(link)
         ran("ip", "-n", one, "link", "set", self.interface(one, two), word)
 
     # ---- failures
 
-    def make(self, scenario):
+    def make(self, scenario: Scenario) -> None:
         """Goes from what fails now to what is to fail."""
         before, self.now, self.is_quiet = self.now, scenario, False
         for name in sorted(scenario.dead - before.dead):
@@ -84,12 +90,12 @@ class Network:
             list(pool.map(self.start, [site for site in self.topology.sites.values() if site.name in before.dead - scenario.dead]))
         for peer in self.topology.peers:
             if peer.name not in before.dead | scenario.dead and any(peer.name in link for link in before.silent ^ scenario.silent):
-                self.daemons[peer.name].configure(self.peer_file(peer))
+                self.peers[peer.name].configure(self.peer_file(peer))
 
-    def start(self, site):
+    def start(self, site: Site) -> None:
         self.daemons[site.name].start(self.peer_file(site) if site.is_peer else self.router_file(site.name))
 
-    def router_file(self, name):
+    def router_file(self, name: str) -> str:
         """What a router loads. Where a session has several hops, BIRD looks for the way to its end among its own routes."""
         file = self.inputs.files[name]
         is_far = any(name in link and wire.hops > 1 for link, wire in self.addresses.wires.items())
@@ -99,30 +105,31 @@ class Network:
         write(longer, f'include "{file}";\nprotocol direct {{ ipv4; }}\n')
         return longer
 
-    def peer_file(self, site):
+    def peer_file(self, site: Site) -> str:
         file = os.path.join(self.folder, site.name + ".peer.conf")
         write(file, peer_text(self.topology, self.inputs.maps, self.addresses, site, self.announced, self.now.silent))
         return file
 
-    def alive(self):
+    def alive(self) -> list[str]:
         return [name for name in self.topology.sites if name not in self.now.dead]
 
-    def live_routers(self):
+    def live_routers(self) -> list[str]:
         return [router.name for router in self.topology.routers if router.name not in self.now.dead]
 
-    def live_peers(self):
+    def live_peers(self) -> list[str]:
         return [peer.name for peer in self.topology.peers if peer.name not in self.now.dead]
 
-    def wanted(self):
+    def wanted(self) -> dict[str, set[str]]:
         """Between whom there are to be sessions."""
         live = [link for link in self.topology.links if frozenset(link) not in self.now.dead_links and not set(link) & self.now.dead]
         return {name: {other for link in live if name in link for other in link if other != name} for name in self.alive()}
 
-    def settle(self, end):
+    def settle(self, end: float) -> list[str]:
         """Waits until the sessions are those that can be, and no message has come or gone for some time; not beyond a moment.
 
         Returns faults."""
-        wanted, last, since, self.is_quiet = self.wanted(), None, time.monotonic(), False
+        wanted, since, self.is_quiet = self.wanted(), time.monotonic(), False
+        last: list[Any] | None = None
         while True:
             told = {name: self.daemons[name].sessions() for name in self.alive()}
             up, moves = {name: up for name, (up, _) in told.items()}, [moves for _, moves in told.values()]
@@ -139,7 +146,7 @@ class Network:
 
     # ---- what is seen
 
-    def record(self, folder, prefix):
+    def record(self, folder: str, prefix: str) -> None:
         """What the routers answer, as tools/tables takes it. Of a dead one, BIRD's answer that there is no route."""
         os.makedirs(folder, exist_ok=True)
         for router in self.topology.routers:
@@ -147,13 +154,13 @@ class Network:
             ending, answer = (".bird", "Network not found\n") if is_dead else (daemon.ending, daemon.answer(prefix))
             write(os.path.join(folder, router.name + ending), answer)
 
-    def next_hop(self, router, prefix):
+    def next_hop(self, router: str, prefix: str) -> str | None:
         """Where the kernel of a router sends: a neighbour, `own` where it keeps what comes, `several`, or None."""
-        routes = json.loads(ran("ip", "-n", router, "-json", "route", "show", "exact", prefix) or "[]")
+        routes: list[dict[str, Any]] = json.loads(ran("ip", "-n", router, "-json", "route", "show", "exact", prefix) or "[]")
         if not routes:
             return None
-        best = min(routes, key=lambda route: route.get("metric", 0))
+        best = min(routes, key=lambda route: int(route.get("metric", 0)))
         if "nexthops" in best:
             return "several"
         others = {self.interface(router, site.name): site.name for site in self.topology.neighbours(router)}
-        return others.get(best.get("dev"), "own")
+        return others.get(best.get("dev", ""), "own")

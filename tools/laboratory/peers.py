@@ -5,9 +5,16 @@ Their paths go on behind them. They announce with the network's own tags and wit
 announce nothing, or a path with another router's number on it, which is to be refused. And they note, whenever it comes, what no
 peer is ever to hear: another prefix than the network's own, a path of more than one number, a community.
 """
-import itertools
+from __future__ import annotations
 
-from deploying.plans import session_of
+import itertools
+from collections.abc import Sequence
+
+from deploying.addresses import Addresses
+from deploying.maps import Maps, Tag
+from deploying.plans import Session, session_of
+from texts.scenario import Pairs
+from texts.topology import Site, Topology
 
 from .commands import Broken
 
@@ -15,7 +22,7 @@ MOST_TAGS = 20
 WRONG = "wrongly heard"  # what a peer notes of a route that it should never have heard
 
 
-def peer_text(topology, maps, addresses, site, announced, silent):
+def peer_text(topology: Topology, maps: Maps, addresses: Addresses, site: Site, announced: Sequence[str], silent: Pairs) -> str:
     """The file of a peer that announces these prefixes, but over the links `silent`."""
     claimed = sorted({network.prefix for router in maps.routers.values() for network in router.networks})
     parts = ["log stderr all;", f"router id {site.id};", "protocol device {}", static_text("announced", announced, "ipv4;"),
@@ -30,35 +37,37 @@ def peer_text(topology, maps, addresses, site, announced, silent):
     return "\n".join(parts) + "\n"
 
 
-def heard_text(own):
+def heard_text(own: Sequence[str]) -> str:
     others = f"net !~ [ {', '.join(own)} ]" if own else "true"
     return "\n".join(["filter heard {",
-                      f"  if {others} || bgp_path.len != 1 || bgp_community.len > 0 || bgp_ext_community.len > 0 || bgp_large_community.len > 0",
+                      f"  if {others} || bgp_path.len != 1 || bgp_community.len > 0 || bgp_ext_community.len > 0"
+                      " || bgp_large_community.len > 0",
                       f"    then print \"{WRONG} \", net, \" by the path \", bgp_path;", "  accept;", "}"])
 
 
-def static_text(name, prefixes, channel):
+def static_text(name: str, prefixes: Sequence[str], channel: str) -> str:
     return f"protocol static {name} {{ {channel} {''.join(f'route {prefix} unreachable; ' for prefix in prefixes)}}}"
 
 
-def known_tags(maps):
+def known_tags(maps: Maps) -> list[Tag]:
     """Some of the tags that routers give."""
-    return sorted({entry.put for router in maps.routers.values() for block in router.blocks.values() for entry in block.takes})[:MOST_TAGS]
+    blocks = [block for router in maps.routers.values() for block in router.blocks.values()]
+    return sorted({entry.put for block in blocks for entry in block.takes if entry.put})[:MOST_TAGS]
 
 
-def silence_of(topology, router):
+def silence_of(topology: Topology, router: Site) -> str:
     """Towards every second router nothing, and towards the others a path with the number of the router that follows them."""
     place, numbers = topology.place[router.name], topology.router_numbers()
     return "reject;" if place % 2 else f"bgp_path.prepend({numbers[(place + 1) % len(numbers)]});"
 
 
-def number_behind(topology, addresses):
+def number_behind(topology: Topology, addresses: Addresses) -> int:
     """An AS number that none of the network has."""
     taken = {site.asn for site in topology.sites.values()} | {addresses.public_as}
     return next(number for number in itertools.count(3356) if number not in taken)
 
 
-def filter_text(name, tags, silence, behind):
+def filter_text(name: str, tags: Sequence[Tag], silence: str, behind: int) -> str:
     lines = [f"filter 'out:{name}' {{",
              f"  if proto = \"announced\" then bgp_path.prepend({behind});",
              f"  if proto = \"announced\" then {silence}" if silence else "",
@@ -68,7 +77,7 @@ def filter_text(name, tags, silence, behind):
     return "\n".join(filter(None, lines))
 
 
-def protocol_text(session, asn):
+def protocol_text(session: Session, asn: int) -> str:
     name, wire = session.neighbour.name, session.wire
     lines = [f"protocol bgp 'bgp:{name}' {{", f"  local {session.mine} as {session.asn}; neighbor {session.theirs} as {asn};",
              f"  multihop {wire.hops};" if wire.hops > 1 else "  check link on;", "  ttl security on;" if wire.ttl_security else "",

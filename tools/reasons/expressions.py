@@ -1,27 +1,42 @@
 """What expressions are made of: their parts, their choices, and how many calls and alternatives they have."""
+from __future__ import annotations
+
 import math
+from collections.abc import Callable, Iterable, Iterator
 
-from .policy import BOTH, EITHER, PATHS, RANKED, Call, Joined, Not, joined
+from texts.policy import BOTH, EITHER, PATHS, RANKED, Call, Expression, Joined, Not, joined
+
+Put = Callable[[Expression], Expression]  # puts another part in the place of one
 
 
-def sites(expression):
+def sites(expression: Expression) -> Iterator[tuple[Expression, Put]]:
     """Each part of an expression, with what puts another one in its place."""
     yield expression, lambda new: new
     if isinstance(expression, Not):
         for part, put in sites(expression.inner):
-            yield part, lambda new, put=put: Not(put(new))
+            yield part, denied(put)
     elif isinstance(expression, Joined):
         for k, each in enumerate(expression.parts):
             front, back = expression.parts[:k], expression.parts[k + 1:]
             for part, put in sites(each):
-                yield part, lambda new, put=put, front=front, back=back: joined(expression.binds, *front, put(new), *back)
+                yield part, between(expression.binds, front, put, back)
 
 
-def calls(expression, word):
+def denied(put: Put) -> Put:
+    """Puts a part in its place under a `not`."""
+    return lambda new: Not(put(new))
+
+
+def between(binds: int, front: Iterable[Expression], put: Put, back: Iterable[Expression]) -> Put:
+    """Puts a part in its place between others."""
+    return lambda new: joined(binds, *front, put(new), *back)
+
+
+def calls(expression: Expression, word: str) -> list[tuple[Call, Put]]:
     return [(part, put) for part, put in sites(expression) if isinstance(part, Call) and part.word == word]
 
 
-def ranks(expression):
+def ranks(expression: Expression) -> bool:
     """Whether a choice stands somewhere in an expression."""
     if isinstance(expression, Call):
         return expression.word not in PATHS and len(expression.arguments) > 1
@@ -30,7 +45,7 @@ def ranks(expression):
     return expression.binds == RANKED or any(map(ranks, expression.parts))
 
 
-def is_lawful(expression):
+def is_lawful(expression: Expression) -> bool:
     """Whether no choice stands under an `or` or a `not`, where it has no order."""
     if isinstance(expression, Call):
         return True
@@ -39,7 +54,7 @@ def is_lawful(expression):
     return all(map(is_lawful, expression.parts)) and not (expression.binds == EITHER and any(map(ranks, expression.parts)))
 
 
-def flat(expression):
+def flat(expression: Expression) -> Expression:
     """The same paths, all liked alike."""
     if isinstance(expression, Call):
         if expression.word in PATHS or len(expression.arguments) < 2:
@@ -51,7 +66,7 @@ def flat(expression):
     return joined(EITHER if expression.binds == RANKED else expression.binds, *map(flat, expression.parts))
 
 
-def count(expression):
+def count(expression: Expression) -> tuple[int, int]:
     """How many calls an expression has, and how many alternatives it stands for."""
     if isinstance(expression, Call):
         return 1, 1 if expression.word in PATHS else max(1, len(expression.arguments))

@@ -3,11 +3,21 @@
 A maker takes a setting and yields what a statement could read in place of the refused one, as pairs of what was done and the
 statement. What it is sent back gives the refusal of that statement, or is none where it compiles.
 """
+from __future__ import annotations
+
+from collections.abc import Callable, Collection, Generator, Iterable, Iterator
 from dataclasses import dataclass
+from typing import Optional
 
-from .expressions import calls, flat, ranks, sites
-from .policy import BOTH, EITHER, RANKED, Call, Joined, Not, joined
+from texts.policy import BOTH, EITHER, RANKED, Call, Expression, Joined, Names, Not, Policy, Statement, joined
 
+from .expressions import Put, calls, flat, ranks, sites
+from .network import Network
+from .refusals import BETWEEN, Refusal
+
+# What a maker is sent back: nothing where the statement compiles, else what gives its refusal.
+Refused = Optional[Callable[[], Refusal]]
+Maker = Generator[tuple[str, Statement], Refused, None]
 ANY = Call("any")
 MOST_BESIDE = 4  # places beside a waypoint or a link that are tried
 MOST_NAMES = 64  # names that a printed `from` may have
@@ -33,44 +43,43 @@ ALIKE = "like alike what is ranked (habit 1)"
 class Setting:
     """A refused statement where it stands: the policy, the network, the locations at which its paths end, and the refusal."""
 
-    policy: object
-    network: object
-    statement: object
-    targets: frozenset
+    policy: Policy
+    network: Network
+    statement: Statement
+    targets: frozenset[str]
     single: bool  # whether the statement has one case
-    refusal: object
+    refusal: Refusal
 
-    def having(self, expression, sources=()):
+    def having(self, expression: Expression, sources: Names | None = ()) -> Statement:
         changes = {} if sources == () else {"sources": sources}
         return self.statement.having(expression=expression, **changes)
 
-    def names(self, locations):
+    def names(self, locations: Iterable[str]) -> Names:
         """Names for these locations, in their order."""
         return self.policy.shortest(self.network.ordered(locations))
 
-    def beginnings(self):
+    def beginnings(self) -> list[list[str]]:
         """The routers from which the refusal shows ways: its own, and those that are promised something."""
         lines = self.refusal.lines
         found = [line.router for line in lines if line.reason in ("rank", "listener", "no-step")] + [self.refusal.router]
         routers = [name for name in dict.fromkeys(found) if name in self.network.routers and name not in self.targets]
         return [[name] for name in routers]
 
-    def claimed(self):
+    def claimed(self) -> Names:
         """The locations that the statement is for. An origin of its only case is no source."""
         named = self.statement.sources
-        every = named is None or "any" in named
-        found = set(self.network.locations) if every else self.policy.locations(named)
+        found = frozenset(self.network.locations) if named is None or "any" in named else self.policy.locations(named)
         return self.network.ordered(found - self.targets if self.single else found)
 
 
-def one(setting, word, location):
+def one(setting: Setting, word: str, location: str) -> Call:
     return Call(word, (setting.names([location]),))
 
 
 # ---- waypoints
 
 
-def waypoints(setting):
+def waypoints(setting: Setting) -> Iterator[tuple[Call, Put, frozenset[str], list[str]]]:
     """Each `through`, with the locations that it likes best, and the routers beside those that a path past them has to meet."""
     for call, put in calls(setting.statement.expression, "through"):
         passed = setting.policy.locations(call.arguments[0])
@@ -83,7 +92,7 @@ def waypoints(setting):
         yield call, put, passed, [name for name in dict.fromkeys(beside) if name not in setting.targets][:MOST_BESIDE]
 
 
-def kept_away(setting):
+def kept_away(setting: Setting) -> Maker:
     """What stands beside a waypoint is avoided; or it alone may use itself, where that isn't enough or leaves it without a path."""
     for call, put, _, beside in waypoints(setting):
         for name in beside:
@@ -94,7 +103,7 @@ def kept_away(setting):
                     break
 
 
-def closed_way_round(setting):
+def closed_way_round(setting: Setting) -> Maker:
     """The waypoint stays, and what stands beside it is kept away from; then only for those who have to pass it."""
     for call, put, passed, beside in waypoints(setting):
         for name in beside:
@@ -108,7 +117,7 @@ def closed_way_round(setting):
                     break
 
 
-def in_its_place(setting, call, new):
+def in_its_place(setting: Setting, call: Call, new: Expression) -> Expression:
     """The expression with `new` in place of the call and of what it keeps away from in the same `and`."""
     for part, put in sites(setting.statement.expression):
         if isinstance(part, Joined) and part.binds == BOTH and call in part.parts:
@@ -117,13 +126,13 @@ def in_its_place(setting, call, new):
     return next(put for part, put in sites(setting.statement.expression) if part is call)(new)
 
 
-def before_waypoint(setting, gone):
+def before_waypoint(setting: Setting, gone: Collection[str]) -> list[str]:
     """The sources that have no path past these locations."""
     reaching = setting.network.reached([name for name in setting.targets if name not in gone], gone)
     return [name for name in setting.network.routers if name not in reaching and name not in gone]
 
 
-def one_way(setting):
+def one_way(setting: Setting) -> Maker:
     """Near, waypoint, far: the steps round the waypoint and those that come back are forbidden."""
     for call, put, passed, _ in waypoints(setting):
         for begin in setting.beginnings():
@@ -137,13 +146,13 @@ def one_way(setting):
             yield ONE_WAY, setting.having(put(joined(BOTH, call, *rounds)), near + setting.names(middle))
 
 
-def no_way_back(setting):
+def no_way_back(setting: Setting) -> Maker:
     """Routers are kept from carrying: those like the one where the circle closes, or one more with each refusal."""
     router = setting.refusal.router
-    if setting.refusal.number not in (5, 6) or router not in setting.network.routers:
+    if setting.refusal.word not in BETWEEN or router not in setting.network.routers:
         return
 
-    def without(names):
+    def without(names: Iterable[str]) -> Statement:
         return setting.having(joined(BOTH, Call("notransit", (setting.names(names),)), setting.statement.expression))
 
     groups = [names for names in setting.policy.groups.values() if router in names and names.isdisjoint(setting.network.ends)]
@@ -151,19 +160,19 @@ def no_way_back(setting):
     for names in [twins] * (len(twins - setting.targets) > 1) + groups:
         if not (yield NO_WAY_BACK, without(names)):
             return
-    names = {router}
+    more = {router}
     for _ in range(MOST_MORE):
-        refused = yield NO_WAY_BACK, without(names)
+        refused = yield NO_WAY_BACK, without(more)
         router = refused().router if refused else ""
-        if router in names or router not in setting.network.routers:
+        if router in more or router not in setting.network.routers:
             return
-        names.add(router)
+        more.add(router)
 
 
 # ---- links, exits and sources
 
 
-def kept_off_links(setting):
+def kept_off_links(setting: Setting) -> Maker:
     for call, put in calls(setting.statement.expression, "link"):
         ends = [setting.policy.locations(names) for names in call.arguments]
         used = {(first, second) for first in ends[0] for second in ends[-1]}
@@ -174,13 +183,13 @@ def kept_off_links(setting):
             yield KEPT_AWAY, setting.having(put(Not(Call("link", (step, step)))))
 
 
-def far_end_first(setting):
+def far_end_first(setting: Setting) -> Maker:
     for part, put in sites(setting.statement.expression):
         if isinstance(part, Joined) and part.binds == BOTH and ranks(part):
             yield FAR_END, setting.having(put(Joined(part.parts[::-1], BOTH)))
 
 
-def unranked_rest(setting):
+def unranked_rest(setting: Setting) -> Maker:
     for part, put in sites(setting.statement.expression):
         if not isinstance(part, Joined) or part.binds != BOTH:
             continue
@@ -191,13 +200,13 @@ def unranked_rest(setting):
                 yield UNRANKED_REST, setting.having(put(joined(RANKED, joined(BOTH, best, *others), flat(joined(BOTH, *others)))))
 
 
-def paths_not_sources(setting):
+def paths_not_sources(setting: Setting) -> Maker:
     """`start` in each part of an `or` becomes `avoid` of where the other parts begin, or of all other routers."""
     starts = [setting.policy.locations(call.arguments[0]) for call, _ in calls(setting.statement.expression, "start")]
     if not starts:
         return
 
-    def changed(expression):
+    def changed(expression: Expression) -> Expression:
         if isinstance(expression, Joined) and expression.binds == BOTH:
             mine = [part for part in expression.parts if isinstance(part, Call) and part.word == "start" and len(part.arguments) == 1]
             if len(mine) == 1:
@@ -212,18 +221,18 @@ def paths_not_sources(setting):
     yield PATHS_NOT_SOURCES, setting.having(changed(setting.statement.expression))
 
 
-def carry_nothing(setting):
+def carry_nothing(setting: Setting) -> Maker:
     for call, put in calls(setting.statement.expression, "avoid"):
         expression = put(Call("notransit", call.arguments))
         refused = yield CARRY_NOTHING, setting.having(expression)
-        if refused and refused().number == 4:
+        if refused and refused().word == "source-without-path":
             yield f"{CARRY_NOTHING}, and {NO_NAMES}", setting.having(expression, None)
 
 
 # ---- sources
 
 
-def fewer_sources(setting):
+def fewer_sources(setting: Setting) -> Maker:
     """Sources are left out: first all that needn't pass a waypoint, then those that the refusals name, one after another."""
     for _, _, passed, _ in waypoints(setting):
         away = [call.arguments[0] for call, _ in calls(setting.statement.expression, "avoid")]
@@ -234,7 +243,7 @@ def fewer_sources(setting):
                 yield FEWER, setting.having(setting.statement.expression, setting.names(names))
     left, refusal = list(setting.claimed()), setting.refusal
     for _ in range(MOST_STEPS):
-        promised = [line.router for line in refusal.lines if line.reason == "rank"] if refusal.number == 6 else []
+        promised = [line.router for line in refusal.lines if line.reason == "rank"] if refusal.word == "no-evidence" else []
         out = next((name for name in promised + [refusal.router] if name in left), None)
         if out is None:
             return
@@ -247,12 +256,12 @@ def fewer_sources(setting):
         refusal = refused()
 
 
-def no_names(setting):
-    if setting.statement.sources is not None and setting.refusal.number == 4:
+def no_names(setting: Setting) -> Maker:
+    if setting.statement.sources is not None and setting.refusal.word == "source-without-path":
         yield NO_NAMES, setting.having(setting.statement.expression, None)
 
 
-def one_source(setting):
+def one_source(setting: Setting) -> Maker:
     """One side of an `or` is left out; or the two ways that a router ranks become fixed paths, for it alone."""
     for part, put in sites(setting.statement.expression):
         if isinstance(part, Joined) and part.binds == EITHER:
@@ -269,7 +278,7 @@ def one_source(setting):
             yield ONE_SOURCE, setting.having(joined(RANKED, *fixed, ANY), (line.router,))
 
 
-def followed(setting):
+def followed(setting: Setting) -> Maker:
     """A fixed path that another one passes at its beginning becomes the rest of that other one."""
     paths = [(call, put) for call, put in calls(setting.statement.expression, "path")]
     for call, put in paths:
@@ -281,13 +290,13 @@ def followed(setting):
 # ---- the rest
 
 
-def any_other(setting):
+def any_other(setting: Setting) -> Maker:
     expression = setting.statement.expression
     if not (isinstance(expression, Joined) and expression.binds == RANKED and expression.parts[-1] == ANY):
         yield ANY_OTHER, setting.having(joined(RANKED, expression, ANY))
 
 
-def alike(setting):
+def alike(setting: Setting) -> Maker:
     for part, put in sites(setting.statement.expression):
         if isinstance(part, Call) and ranks(part):
             yield ALIKE, setting.having(put(flat(part)))

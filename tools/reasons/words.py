@@ -1,26 +1,32 @@
 """Tells a refusal in words. Each sentence says one line that `explain` wrote; the rest is what the program was asked besides."""
-import textwrap
+from __future__ import annotations
 
+import textwrap
+from collections.abc import Callable, Iterable, Mapping
+from typing import Any
+
+from .network import Walk
+from .refusals import Line, Refusal
 from .sketch import sketch
 
 MOST_LINES = 12  # lines of a refutation that are told
 MEANINGS = {
-    1: "The statement stands for more than 64 alternatives: `and` multiplies those of its sides.",
-    2: "There are more than 4,096 nodes: a router, with what is left of each alternative.",
-    3: "The cases up to this one have more than 131,072 steps from a node to the next.",
-    4: "`from` names {router}, and no path that the statement permits begins there, even with nothing dead.",
-    5: "{router} may use {first}, and may not use {second}. But a walk that the statement permits ends with the second one, so others may "
-       "need {router} to carry it. {router} has one route, and can't do both.",
-    6: "A preference is a number for each node, and no numbers meet the rules:",
+    "too-many-ranks": "The statement stands for more than 64 alternatives: `and` multiplies those of its sides.",
+    "too-many-states": "There are more than 4,096 nodes: a router, with what is left of each alternative.",
+    "too-many-steps": "The cases up to this one have more than 131,072 steps from a node to the next.",
+    "source-without-path": "`from` names {router}, and no path that the statement permits begins there, even with nothing dead.",
+    "mixed-source": "{router} may use {first}, and may not use {second}. But a walk that the statement permits ends with the second one, so "
+                    "others may need {router} to carry it. {router} has one route, and can't do both.",
+    "no-evidence": "A preference is a number for each node, and no numbers meet the rules:",
 }
 
 
-def listed(words, last="and"):
-    words = list(map(str, words))
-    return f" {last} ".join([", ".join(words[:-1]), words[-1]] if len(words) > 1 else words)
+def listed(words: Iterable[object], last: str = "and") -> str:
+    found = list(map(str, words))
+    return f" {last} ".join([", ".join(found[:-1]), found[-1]] if len(found) > 1 else found)
 
 
-def shown(walk):
+def shown(walk: Walk) -> str:
     return " ".join(walk)
 
 
@@ -28,28 +34,28 @@ class Ways:
     """The nodes that a refusal names, each with a mark. `shows` has, for a line with a loop, a walk that comes over the neighbour
     and one that doesn't, with the ranks of the way; and for a mixed source the walk that needs it."""
 
-    def __init__(self, walks, shows=()):
-        self.walks, self.shows = walks, dict(shows)
-        self.marks = {walk: f"[{number}]" for number, walk in enumerate(walks, 1)}
+    def __init__(self, walks: Iterable[Walk], shows: Mapping[Any, Any] | None = None) -> None:
+        self.walks, self.shows = list(walks), dict(shows or {})
+        self.marks = {walk: f"[{number}]" for number, walk in enumerate(self.walks, 1)}
 
-    def __call__(self, walk):
+    def __call__(self, walk: Walk) -> str:
         return f"{shown(walk)} {self.marks[walk]}" if walk in self.marks else shown(walk)
 
 
-def better_one(line, way):
+def better_one(line: Line, way: Ways) -> str:
     if line.first == line.second:
         return f"{line.router} would have to like {way(line.second)} better than itself, and no number does"
     return f"{line.router} would have to like {way(line.second)} better than {way(line.first)}"
 
 
-def loop(line, way):
+def loop(line: Line, way: Ways) -> str:
     """What a line says whose first way may have come over the neighbour."""
     router, other = line.router, line.other
     over, past = way.shows.get(line, (None, None))
     came = f"may have come over {other} itself, along {way(line.along)}" + (f", as {alike(over, way)} has" if over else "")
     if past:
-        begins = (f"{router} can't tell apart the routes at the node {way(line.first)}. One, as {alike(past, way)}, hasn't come over {other}, and "
-                  f"{other} takes it. Another one {came}.")
+        begins = (f"{router} can't tell apart the routes at the node {way(line.first)}. One, as {alike(past, way)}, hasn't come over "
+                  f"{other}, and {other} takes it. Another one {came}.")
     else:
         begins = f"A route at the node {way(line.first)} {came}."
     left = (f"Then {other} takes nothing back and is left with that, which it may not like as well as what {router} gives it of "
@@ -57,15 +63,15 @@ def loop(line, way):
     return f"{begins} {left} So {better_one(line, way)}."
 
 
-def alike(walk, way):
+def alike(walk: Walk, way: Ways) -> str:
     return way(walk) if walk in way.marks else f"{shown(walk)} (same ranks)"
 
 
-def sentence(line, way):
+def sentence(line: Line, way: Ways) -> str:
     """What one line says, in words."""
     if line.reason == "loop":
         return loop(line, way)
-    because = {
+    because: dict[str, Callable[[], str]] = {
         "rank": lambda: f"it is promised the best rank that is left, and they have the ranks {line.ranks[1]} and {line.ranks[0]}",
         "no-step": lambda: f"with the one it gives {line.other} a route, and with the other none",
         "step": lambda: f"with either it gives {line.other} a route, and {line.other} may not be given the worse one, as said above",
@@ -74,7 +80,7 @@ def sentence(line, way):
     return f"{better_one(line, way)}: {because[line.reason]()}."
 
 
-def closing(refusal, way):
+def closing(refusal: Refusal, way: Ways) -> str:
     """What closes the circle."""
     first, second = way(refusal.first), way(refusal.second)
     if refusal.first != refusal.second:
@@ -82,10 +88,10 @@ def closing(refusal, way):
     return f"That closes the circle. Both walks of the refusal lead to one node, {first}: no number serves for all routes there."
 
 
-def told(refusal, way):
+def told(refusal: Refusal, way: Ways) -> list[str]:
     """The sentences of a refusal, by number where it has a refutation."""
     named = {"router": refusal.router, "first": way(refusal.first), "second": way(refusal.second)}
-    sentences = [MEANINGS[refusal.number].format(**named)] if refusal.number in MEANINGS else []
+    sentences = [MEANINGS[refusal.word].format(**named)] if refusal.word in MEANINGS else []
     if refusal in way.shows:
         sentences.append(f"Such a walk is {shown(way.shows[refusal])}.")
     for number, line in enumerate(refusal.lines[:MOST_LINES], 1):
@@ -97,13 +103,13 @@ def told(refusal, way):
     return [line for each in sentences for line in wrapped(each)]
 
 
-def wrapped(text):
+def wrapped(text: str) -> list[str]:
     """A sentence in lines of at most 100 columns, where no word is longer."""
     indent = "   " if text[:1].isdigit() else ""
     return textwrap.wrap(text, 100, subsequent_indent=indent, break_long_words=False, break_on_hyphens=False)
 
 
-def pictured(ways, now, later):
+def pictured(ways: Ways, now: Mapping[Walk, set[int]], later: Mapping[Walk, set[int]]) -> tuple[list[str], list[str]]:
     """The picture of the nodes, and what each is worth: `now` its rank, `later` those of the walks that end with it."""
     legend = []
     for walk in ways.walks:

@@ -16,9 +16,9 @@ sys.path.insert(0, os.path.join(TOP, "tools"))
 
 from deploying.command import main  # noqa: E402
 from deploying.maps import Row  # noqa: E402
-from deploying.topology import Topology  # noqa: E402
 from laboratory.questions import different, told_by  # noqa: E402
 from laboratory.scenarios import permitted, single_failures  # noqa: E402
+from texts.topology import Topology  # noqa: E402
 
 EXAMPLE = os.path.join(TOP, "examples", "two-exits")
 TOPOLOGY, MAPS, ADDRESSES, DEPLOYED = (os.path.join(EXAMPLE, name) for name in ("topology.json", "routemap.stdout", "addresses.json", "deployed"))

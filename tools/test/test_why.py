@@ -2,6 +2,7 @@
 
 The program is the proved one, or the one that the variable PROGRAM names. Repairs are compared with locations in the place of groups.
 """
+import json
 import os
 import shutil
 import signal
@@ -17,7 +18,8 @@ PROGRAM = os.path.abspath(os.environ.get("PROGRAM", os.path.join(TOP, "crates", 
 ENVIRONMENT = dict(os.environ, PROGRAM=PROGRAM, WHY_SECONDS="3000")
 sys.dont_write_bytecode = True
 sys.path.insert(0, os.path.join(TOP, "tools"))
-from reasons import picture, policy  # noqa: E402
+from reasons import picture  # noqa: E402
+from texts import policy  # noqa: E402
 
 HEAD, FAR, NEAR = "10.1.0.0/16 => ", "{ IPLS, CHIN, ATLA, NYCM, WASH }", "{ STTL, SNVA, LOSA, DNVR, HSTN }"
 # The folder, the topology and the policy, and the statements that are named in its place.
@@ -94,7 +96,7 @@ def plain(cut, expression):
 
 def meaning(text, groups):
     """A statement with locations in the place of names, so that it can be compared with another one."""
-    cut = policy.cut(groups + text)
+    cut = policy.cut((groups + text).encode())
     statement = cut.statements[-1]
     return statement.patterns, plain(cut, statement.expression), statement.sources and cut.locations(statement.sources)
 
@@ -141,11 +143,22 @@ class Why(unittest.TestCase):
         out = ended("why", example(folder, "topology.json"), example(folder, "policy.propane"))[1]
         self.assertEqual(out, text_of(example(folder, "why.txt")))
 
+    def test_records_say_what_lines_say(self):
+        folder = "waypoint-ring"
+        status, out, err = ended("why", "--records", example(folder, "topology.json"), example(folder, "policy.propane"))
+        refused, repairs = map(json.loads, out.splitlines())
+        self.assertEqual((status, err, refused["kind"], repairs["kind"]), (0, "", "refused", "repairs"))
+        lines = text_of(example(folder, "why.txt")).splitlines()
+        said = [*refused["says"], *repairs["notes"], repairs["head"], *[line for each in repairs["repairs"] for line in each["costs"]],
+                *[each["text"] for each in repairs["repairs"]], *refused["picture"], refused["refusal"]]
+        for line in said:
+            self.assertTrue(any(each.strip().endswith(line.strip()) for each in lines), line)
+
     def test_what_is_no_refusal(self):
         topology, text = example("two-exits", "topology.json"), example("two-exits", "policy.propane")
         absent, silent = os.path.join(self.folder, "absent"), dict(ENVIRONMENT, PROGRAM=os.path.join(self.folder, "absent"))
         self.assertEqual(ended("why", topology, text), (0, "The policy is accepted: each of its statements can be kept.\n", ""))
-        self.assertEqual(ended("why"), (2, "", "usage: why TOPO POLICY\n"))
+        self.assertEqual(ended("why"), (2, "", "usage: why [--records] TOPO POLICY\n"))
         self.assertEqual(ended("why", topology, absent), (4, "", f"propane: cannot read {absent}\n"))
         self.assertEqual(ended("why", topology, self.folder), (4, "", f"propane: cannot read {self.folder}\n"))
         self.assertEqual(ended("why", text, topology), (3, "", "propane: topology 1 not-json\n"))

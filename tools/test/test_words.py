@@ -6,8 +6,9 @@ import tempfile
 import unittest
 
 from common import PROGRAM, TOP, ended
-from words import json_places
+from texts import json_places
 from words.hints import hints_for
+from words.requests import ordinal
 
 NET = """{"links":[["A","B"],["B","ISP"]],
  "peers":[{"asn":1001,"id":"10.255.2.1","name":"ISP"}],
@@ -279,6 +280,10 @@ class Words(unittest.TestCase):
         for word, wanted in ("net.jsn", "There is no such file. Near it: net.json."), (".", ". is a folder."):
             status, _, lines = self.said("compile", word, "policy")
             self.assertEqual((status, lines), (4, [f"  {wanted}"]))
+
+    def test_places_are_counted(self):
+        wanted = ["first", "second", "third", "4th", "11th", "12th", "13th", "21st", "22nd", "23rd", "24th", "111th", "121st"]
+        self.assertEqual([ordinal(number) for number in (1, 2, 3, 4, 11, 12, 13, 21, 22, 23, 24, 111, 121)], wanted)
 
     def test_where_they_stand(self):
         """Only on a terminal, or where the variable says so; the line, the status and the output stay."""

@@ -1,15 +1,23 @@
 """What is wrong in the other texts, by the fault that the program tells: scenarios, events, tables, evidence, and texts of lines."""
-from . import json_places
-from .near import near_words
+from __future__ import annotations
+
+from collections.abc import Callable, Collection, Iterator, Sequence
+
+from texts import json_places, scenario
+from texts.json_places import Value
+
+from .near import near
+from .places import Text
 from .policies import prefix_words
+from .said import NOTHING, Hint, said, said_at
 from .topologies import at, not_json
 
-SCENARIO = {"prefix": "a text", "dead": "an array of names", "dead_links": "an array of pairs of names", "silent": "an array of pairs of names"}
 EVENTS = {"deliver": 2, "link_down": 2, "link_up": 2, "router_down": 1, "router_up": 1, "peer_speak": 2, "peer_silent": 2}
 NO_PREFIX = "That is no prefix. "
+NO_SITE = "That is no router and no peer of the topology."
 
 
-def texts_in(value):
+def texts_in(value: Value) -> Iterator[Value]:
     """All texts of a value, one after another."""
     waiting = [value]
     while waiting:
@@ -20,19 +28,20 @@ def texts_in(value):
             waiting += reversed(value.held)
 
 
-def unknown(text, value, known):
+def unknown(text: Text, value: Value, known: Collection[str]) -> Hint:
     """The first text of a value that is no name."""
     for held in texts_in(value):
         if held.held not in known:
-            return at(text, held, "That is no router and no peer of the topology." + near_words(held.held, known))
-    return []
+            return at(text, held, NO_SITE, near=near(held.held, known))
+    return NOTHING
 
 
-def no_prefix(text, value):
+def no_prefix(text: Text, value: Value) -> Hint:
+    """A text that is no prefix."""
     return at(text, value, NO_PREFIX + prefix_words(value.held))
 
 
-def keys_hint(text, value, keys):
+def keys_hint(text: Text, value: Value, keys: Sequence[str]) -> Hint:
     """An object that lacks a key, or has one too many."""
     if value.kind == "object":
         for key, place in value.keys.items():
@@ -41,81 +50,132 @@ def keys_hint(text, value, keys):
     return at(text, value, f"The text is an object with exactly the keys {', '.join(keys)}.")
 
 
-def scenario(text, number, values, known):
-    if number == 1:
-        return not_json(text)
-    value = json_places.read(text.bytes)
-    if number == 2 and values[0] == "top":
-        return keys_hint(text, value, list(SCENARIO))
-    if number == 2:
-        return at(text, value.held[values[0]], f"What stands under `{values[0]}` is {SCENARIO[values[0]]}.")
-    if number == 3:
-        return unknown(text, value.held[values[0]], known)
-    if number == 6:
-        return no_prefix(text, value.held["prefix"])
-    key, says = {4: ("dead_links", "The topology has no such link."), 5: ("silent", "The topology has no such link of a router and a peer.")}[number]
-    return at(text, value.held[key].held[int(values[1]) - 1], says)
+# ---- scenarios
 
 
-def events(text, number, values, known):
-    if number == 1:
-        return not_json(text)
-    value = json_places.read(text.bytes)
-    place = int(values[-1]) if number in (2, 4) else 0
-    if number == 2 and not place:
-        return keys_hint(text, value, ["prefix", "events"])
-    if number == 3:
-        return [f"  At most 65,536 events are read, and there are {values[0]}."]
-    if number == 5:
-        return no_prefix(text, value.held["prefix"])
-    event = value.held["events"].held[place - 1]
-    if number == 4:
-        named = [held for held in event.held[1:] if held.held not in known]
-        return at(text, named[0], "That is no router and no peer of the topology." + near_words(named[0].held, known))
-    words = event.texts()
-    if words and words[0] in EVENTS:
-        return at(text, event, f"Behind `{words[0]}` stand{'s one name' if EVENTS[words[0]] == 1 else ' two names'}.")
-    return at(text, event, "An event is an array of a word and names." + (near_words(words[0], EVENTS) if words else ""))
+def scenario_shape(text: Text, value: Value, values: Sequence[str], _: Collection[str]) -> Hint:
+    """What hasn't the shape of a scenario."""
+    if values[0] == "top":
+        return keys_hint(text, value, list(scenario.KEYS))
+    return at(text, value.held[values[0]], f"What stands under `{values[0]}` is {scenario.KEYS[values[0]]}.")
 
 
-def tables(text, number, values, known):
-    if number == 1:
-        return not_json(text)
-    value = json_places.read(text.bytes)
-    if number == 3:
-        return [f"  There is one entry a router, in the order of the topology; {values[0]} are there."]
-    place = int(values[1])
-    if not place:
-        return keys_hint(text, value, ["routes"])
-    entry = value.held["routes"].held[place - 1]
-    if number == 2:
-        return at(text, entry, "An entry is null, or an object with exactly the keys `path`, `pref` and `tag`.")
-    if number == 4:
-        return unknown(text, entry.held["path"], known)
-    return at(text, entry.held["path"], f"The path begins with the router itself, the {place}th of the topology." if place > 3 else
-              f"The path begins with the router itself, the {['first', 'second', 'third'][place - 1]} of the topology.")
+def no_link(text: Text, value: Value, key: str, place: str, says: str) -> Hint:
+    """A pair that is no link, or none of a peer."""
+    return at(text, value.held[key].held[int(place) - 1], says)
 
 
-def evidence(text, number, values, _):
-    return not_json(text) if number == 1 else []
-
-
-LINES = {
-    2: "The line has none of the forms of such a text.",
-    3: "Such a line may not stand here, or its number isn't the next, or it doesn't ascend.",
-    4: "A name, an AS number or an id stood in an earlier line of its kind.",
-    5: "A number has a leading zero, or is out of its range.",
+NO_PEER_LINK = "The topology has no such link of a router and a peer."
+Says = Callable[[Text, Value, Sequence[str], Collection[str]], Hint]
+SCENARIO: dict[str, Says] = {
+    "shape": scenario_shape,
+    "unknown": lambda text, value, values, known: unknown(text, value.held[values[0]], known),
+    "no-link": lambda text, value, values, _: no_link(text, value, "dead_links", values[1], "The topology has no such link."),
+    "not-peer-link": lambda text, value, values, _: no_link(text, value, "silent", values[1], NO_PEER_LINK),
+    "bad-prefix": lambda text, value, *_: no_prefix(text, value.held["prefix"]),
 }
 
 
-def of_lines(text, number, values, _):
+# ---- events
+
+
+def event_of(value: Value, values: Sequence[str]) -> Value:
+    """The event whose place the program tells."""
+    event: Value = value.held["events"].held[int(values[-1]) - 1]
+    return event
+
+
+def event_shape(text: Text, value: Value, values: Sequence[str], _: Collection[str]) -> Hint:
+    """What hasn't the shape of events."""
+    if not int(values[-1]):
+        return keys_hint(text, value, ["prefix", "events"])
+    event = event_of(value, values)
+    words = event.texts()
+    if words and words[0] in EVENTS:
+        return at(text, event, f"Behind `{words[0]}` stand{'s one name' if EVENTS[words[0]] == 1 else ' two names'}.")
+    return at(text, event, "An event is an array of a word and names.", near=near(words[0], EVENTS) if words else [])
+
+
+def unknown_in_event(text: Text, value: Value, values: Sequence[str], known: Collection[str]) -> Hint:
+    """An event with a name of nothing."""
+    named = next(held for held in event_of(value, values).held[1:] if held.held not in known)
+    return at(text, named, NO_SITE, near=near(named.held, known))
+
+
+EVENT_TEXT: dict[str, Says] = {
+    "shape": event_shape,
+    "too-many": lambda _, __, values, ___: said(f"At most 65,536 events are read, and there are {values[0]}."),
+    "unknown": unknown_in_event,
+    "bad-prefix": lambda text, value, *_: no_prefix(text, value.held["prefix"]),
+}
+
+
+# ---- tables
+
+
+def entry_of(value: Value, values: Sequence[str]) -> Value:
+    """The entry whose place the program tells."""
+    entry: Value = value.held["routes"].held[int(values[1]) - 1]
+    return entry
+
+
+def table_shape(text: Text, value: Value, values: Sequence[str], _: Collection[str]) -> Hint:
+    """What hasn't the shape of tables."""
+    if not int(values[1]):
+        return keys_hint(text, value, ["routes"])
+    return at(text, entry_of(value, values), "An entry is null, or an object with exactly the keys `path`, `pref` and `tag`.")
+
+
+def holder(text: Text, value: Value, values: Sequence[str], _: Collection[str]) -> Hint:
+    """A path that doesn't begin with its router."""
+    says = f"The path begins with the router itself, the {ordinal(int(values[1]))} of the topology."
+    return at(text, entry_of(value, values).held["path"], says)
+
+
+def ordinal(number: int) -> str:
+    """A number as what it counts to: first, second, third, 4th, .. 21st, .."""
+    if number <= 3:
+        return ("first", "second", "third")[number - 1]
+    ending = "th" if number // 10 % 10 == 1 else {1: "st", 2: "nd", 3: "rd"}.get(number % 10, "th")
+    return f"{number}{ending}"
+
+
+TABLES: dict[str, Says] = {
+    "shape": table_shape,
+    "count": lambda _, __, values, ___: said(f"There is one entry a router, in the order of the topology; {values[0]} are there."),
+    "unknown": lambda text, value, values, known: unknown(text, entry_of(value, values).held["path"], known),
+    "holder": holder,
+}
+
+
+# ---- all of them
+
+# What is said of each text of JSON, by the word of its fault; where nothing stands, nothing is said.
+JSON_TEXTS: dict[str, dict[str, Says]] = {"scenario": SCENARIO, "events": EVENT_TEXT, "tables": TABLES, "evidence": {}}
+LINES = {
+    "line": "The line has none of the forms of such a text.",
+    "order": "Such a line may not stand here, or its number isn't the next, or it doesn't ascend.",
+    "twice": "A name, an AS number or an id stood in an earlier line of its kind.",
+    "number": "A number has a leading zero, or is out of its range.",
+}
+
+
+def hint(kind: str, text: Text, word: str, values: Sequence[str], known: Collection[str]) -> Hint:
+    """What is said behind `propane: KIND NUMBER WORD ..`, for the texts that are neither topologies nor policies."""
+    if kind not in JSON_TEXTS:
+        return of_lines(text, word, values)
+    if word == "not-json":
+        return not_json(text)
+    says = JSON_TEXTS[kind].get(word)
+    return says(text, json_places.read(text.bytes), values, known) if says else NOTHING
+
+
+def of_lines(text: Text, word: str, values: Sequence[str]) -> Hint:
     """A configuration or route maps."""
-    if number == 1:
-        says = ["  The first line is that of another kind or edition of text."]
-        if text.bytes.startswith(b"propane-config 1\n"):
-            says.append("  `propane migrate CONFIG` writes it as it is read now.")
-        return text.shown(0, max(1, text.bytes.find(b"\n"))) + says
-    if number == 6:
-        return [f"  The text {text.name()} ends in the midst of a line or of a router's block."]
-    place = text.line_start(int(values[1]))
-    return text.shown(place, max(1, text.bytes.find(b"\n", place) - place)) + [f"  {LINES[number]}"]
+    if word == "version":
+        migrate = "`propane migrate CONFIG` writes it as it is read now." if text.bytes.startswith(b"propane-config 1\n") else ""
+        return said_at(text, 0, max(1, text.bytes.find(b"\n")), "The first line is that of another kind or edition of text.", migrate)
+    if word == "unfinished":
+        return said(f"The text {text.name()} ends in the midst of a line or of a router's block.")
+    place = text.line_start(int(values[1])) or 0
+    return said_at(text, place, max(1, text.bytes.find(b"\n", place) - place), LINES[word])

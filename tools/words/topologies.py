@@ -1,8 +1,15 @@
 """What is wrong in a topology, by the fault that the program tells: the place, and words."""
-import re
+from __future__ import annotations
 
-from . import json_places
-from .near import near_words
+import re
+from collections.abc import Callable, Sequence
+
+from texts import json_places
+from texts.json_places import Value
+
+from .near import near
+from .places import Text
+from .said import NOTHING, Hint, said_at
 
 MOST = {"routers": 512, "peers": 256, "links": 8192}
 RANGES = {
@@ -18,22 +25,23 @@ WANTED = {
 }
 
 
-def is_id(text):
+def is_id(text: str) -> bool:
+    """Whether a text is an id."""
     parts = text.split(".")
     fit = len(parts) == 4 and all(re.fullmatch("0|[1-9][0-9]{0,2}", part) and int(part) < 256 for part in parts)
     return fit and text != "0.0.0.0"
 
 
-def not_json(text):
+def not_json(text: Text) -> Hint:
     """The first byte at which a text isn't JSON."""
     try:
         json_places.read(text.bytes)
     except json_places.NotJson as wrong:
         return shown_not_json(text, wrong)
-    return []
+    return NOTHING
 
 
-def shown_not_json(text, wrong):
+def shown_not_json(text: Text, wrong: json_places.NotJson) -> Hint:
     """Shows that byte, with what is mostly meant by such a one."""
     rest = text.bytes[wrong.at:wrong.at + 2]
     if not text.bytes.strip():
@@ -50,18 +58,23 @@ def shown_not_json(text, wrong):
         says = "JSON has no comments."
     else:
         says = f"That isn't JSON: {wrong.why}."
-    return [*text.shown(wrong.at), f"  {says}"]
+    return said_at(text, wrong.at, 1, says)
 
 
-def entry_fault(entry):
+def fits(key: str, held: Value) -> bool:
+    """Whether a value is of the kind that stands under a key of an entry."""
+    if key == "asn":
+        return held.kind == "number" and held.held is not None
+    return held.kind == "string" and (key == "name" or is_id(held.held))
+
+
+def entry_fault(entry: Value) -> tuple[str, Value, str] | None:
     """The first part of an entry of routers or peers that isn't as it should be: its word, its place and words."""
     if entry.kind != "object":
         return "entry", entry, "An entry is an object with the keys `name`, `asn` and `id`."
     for key in "name", "asn", "id":
         held = entry.held.get(key)
-        fits = held is not None and (
-            held.kind == "string" and (key == "name" or is_id(held.held)) if key != "asn" else held.kind == "number" and held.held is not None)
-        if not fits:
+        if held is None or not fits(key, held):
             lacks = f"The entry has no `{key}`. " if held is None else ""
             return key, held or entry, lacks + WANTED[key]
     for key, place in entry.keys.items():
@@ -70,7 +83,7 @@ def entry_fault(entry):
     return None
 
 
-def shape_fault(value):
+def shape_fault(value: Value) -> tuple[str, Value, str] | None:
     """The first part of a topology that hasn't its shape: its word, its place and words."""
     if value.kind != "object":
         return "top", value, "A topology is an object with the keys `routers`, `peers` and `links`."
@@ -94,70 +107,95 @@ def shape_fault(value):
     return None
 
 
-def sites(value):
+def sites(value: Value) -> list[tuple[str, Value]]:
     """The entries of a topology that has its shape, each with its kind."""
     return [(kind, entry) for kind in ("routers", "peers") for entry in value.held[kind].held]
 
 
-def names(value):
+def names(value: Value) -> list[str]:
+    """The names of the routers and peers."""
     return [entry.held["name"].held for _, entry in sites(value)]
 
 
-def network(text):
+def network(text: Text) -> tuple[list[str], list[str]]:
     """The names of the routers and of the peers of a topology that was read."""
     value = json_places.read(text.bytes)
-    return tuple([entry.held["name"].held for entry in value.held[kind].held] for kind in ("routers", "peers"))
+    routers, peers = ([entry.held["name"].held for entry in value.held[kind].held] for kind in ("routers", "peers"))
+    return routers, peers
 
 
-def at(text, place, *says):
-    return text.shown(place.start, place.end - place.start) + [f"  {each}" for each in says]
+def at(text: Text, place: Value, *says: str, near: Sequence[str] = ()) -> Hint:
+    """Sentences on a value."""
+    return said_at(text, place.start, place.end - place.start, *says, near=near)
 
 
-def twice(text, value, key, is_told):
-    """The first two entries of which a key is the same, where the later one is told."""
-    first = {}
+def twice(text: Text, value: Value, key: str, values: Sequence[str]) -> Hint:
+    """The first two entries of which a key is the same, where their names, or the later one's alone, are these."""
+    first: dict[object, Value] = {}
     for _, entry in sites(value):
         held = entry.held[key]
-        if held.held in first and is_told(entry, first[held.held]):
+        if held.held in first and [each.held["name"].held for each in (first[held.held], entry)][-len(values):] == list(values):
             return at(text, held, f"It stands first in line {text.line(first[held.held].held[key].start)}.")
         first.setdefault(held.held, entry)
-    return []
+    return NOTHING
 
 
-def link_hint(text, value, number, place):
-    """What is wrong with a link."""
-    link = value.held["links"].held[place - 1]
-    ends = link.texts()
-    if number == 9:
-        known = names(value)
-        wrong = [end for end in link.held if end.held not in known]
-        return at(text, wrong[0], "That is no router and no peer of the topology." + near_words(wrong[0].held, known))
-    if number == 10:
-        links = value.held["links"].held[:place - 1]
-        earlier = [other for other in links if sorted(other.texts()) == sorted(ends)]
-        return at(text, link, f"The same link stands in line {text.line(earlier[0].start)}. A link stands once, for both directions.")
-    if number == 11:
-        return at(text, link, "A link joins two locations.")
-    return at(text, link, "A link joins two routers, or a router and a peer.")
+def shape(text: Text, value: Value, values: Sequence[str]) -> Hint:
+    """What hasn't the shape of a topology, where that is what the program tells."""
+    wrong = shape_fault(value)
+    return at(text, *wrong[1:]) if wrong and list(values) == [wrong[0]] else NOTHING
 
 
-def hint(text, number, values):
-    """The lines behind `propane: topology NUMBER ..`."""
-    if number == 1:
+def too_many(text: Text, value: Value, values: Sequence[str]) -> Hint:
+    kind = values[0]
+    return at(text, value.keys[kind], f"At most {MOST[kind]} {kind} are read, and there are {values[1]}.")
+
+
+def bad_name(text: Text, value: Value, values: Sequence[str]) -> Hint:
+    return at(text, value.held[values[0]].held[int(values[2]) - 1].held["name"], NAME)
+
+
+def as_range(text: Text, value: Value, values: Sequence[str]) -> Hint:
+    kind, entry = next((kind, entry) for kind, entry in sites(value) if entry.held["name"].held == values[0])
+    return at(text, entry.held["asn"], RANGES[kind])
+
+
+def link_of(value: Value, values: Sequence[str]) -> tuple[Value, list[Value]]:
+    """The link of a place, and those before it."""
+    links, place = value.held["links"].held, int(values[1])
+    return links[place - 1], links[:place - 1]
+
+
+def unknown_end(text: Text, value: Value, values: Sequence[str]) -> Hint:
+    known = names(value)
+    wrong = next(end for end in link_of(value, values)[0].held if end.held not in known)
+    return at(text, wrong, "That is no router and no peer of the topology.", near=near(wrong.held, known))
+
+
+def link_twice(text: Text, value: Value, values: Sequence[str]) -> Hint:
+    link, before = link_of(value, values)
+    earlier = next(other for other in before if sorted(other.texts()) == sorted(link.texts()))
+    return at(text, link, f"The same link stands in line {text.line(earlier.start)}. A link stands once, for both directions.")
+
+
+# What is said of each fault of a topology that is JSON, by its word.
+SAYS: dict[str, Callable[[Text, Value, Sequence[str]], Hint]] = {
+    "shape": shape,
+    "too-many": too_many,
+    "name": bad_name,
+    "twice": lambda text, value, values: twice(text, value, "name", values),
+    "as-range": as_range,
+    "as-twice": lambda text, value, values: twice(text, value, "asn", values),
+    "id-twice": lambda text, value, values: twice(text, value, "id", values),
+    "unknown-end": unknown_end,
+    "link-twice": link_twice,
+    "self-link": lambda text, value, values: at(text, link_of(value, values)[0], "A link joins two locations."),
+    "peer-link": lambda text, value, values: at(text, link_of(value, values)[0], "A link joins two routers, or a router and a peer."),
+}
+
+
+def hint(text: Text, word: str, values: Sequence[str]) -> Hint:
+    """What is said behind `propane: topology NUMBER WORD ..`."""
+    if word == "not-json":
         return not_json(text)
-    value = json_places.read(text.bytes)
-    if number == 2:
-        word, place, says = shape_fault(value)
-        return at(text, place, says) if values == [word] else []
-    if number == 3:
-        kind = values[0]
-        return at(text, value.keys[kind], f"At most {MOST[kind]} {kind} are read, and there are {values[1]}.")
-    if number == 4:
-        return at(text, value.held[values[0]].held[int(values[2]) - 1].held["name"], NAME)
-    if number == 6:
-        kind, entry = [(kind, entry) for kind, entry in sites(value) if entry.held["name"].held == values[0]][0]
-        return at(text, entry.held["asn"], RANGES[kind])
-    if number in (5, 7, 8):
-        key = {5: "name", 7: "asn", 8: "id"}[number]
-        return twice(text, value, key, lambda entry, first: [first.held["name"].held, entry.held["name"].held][-len(values):] == values)
-    return link_hint(text, value, number, int(values[1]))
+    return SAYS[word](text, json_places.read(text.bytes), values)

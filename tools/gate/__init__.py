@@ -1,0 +1,4 @@
+"""What the gate's scripts share: tools/check and tools/lab-check.
+
+    packages     programs of Debian's that the gate needs, installed where that may be done
+"""

@@ -1,0 +1,94 @@
+"""The way of tools/open: reads the two texts, serves the page, and ends with an interrupt."""
+from __future__ import annotations
+
+import contextlib
+import os
+import signal
+import sys
+import tempfile
+import threading
+import webbrowser
+from collections.abc import Iterator
+from types import FrameType
+from typing import NoReturn
+
+from reasons.program import found
+from texts.faults import Ended
+from texts.files import read_bytes
+from texts.statuses import BAD_INPUT, DONE, USAGE, WRITE_FAULT
+
+from .files import PolicyFile, page_files
+from .page import Page
+from .runner import Runner
+from .server import Server
+
+TOOLS = os.path.dirname(os.path.dirname(os.path.abspath(__file__)))
+WISHES = {"--save", "--browser"}
+GO = ('<!doctype html><meta charset="utf-8"><meta name="referrer" content="no-referrer">'
+      '<meta http-equiv="refresh" content="0;url={0}"><a href="{0}">the page</a>\n')
+
+
+def page_of(names: list[str], may_save: bool) -> Page:
+    """The page of two files."""
+    program, topology = found(), read_bytes(names[0])
+    try:
+        policy = read_bytes(names[1]).decode()
+    except UnicodeDecodeError:
+        raise Ended(BAD_INPUT, "propane: policy 1 not-text") from None
+    runner = Runner(program, os.path.join(TOOLS, "why"), topology)
+    return Page(runner, [os.path.basename(name) for name in names], PolicyFile(names[1], policy), page_files(), may_save)
+
+
+@contextlib.contextmanager
+def shown(address: str) -> Iterator[None]:
+    """Opens the address in a browser, by a file of one's own: words of a command line can be read by other users."""
+    with tempfile.TemporaryDirectory(prefix="propane-open.") as folder:
+        path = os.path.join(folder, "go.html")
+        with open(path, "x", encoding="utf-8") as file:
+            file.write(GO.format(address))
+        webbrowser.open(f"file://{path}")
+        yield
+
+
+def stopped(number: int, frame: FrameType | None) -> NoReturn:
+    """A signal ends the page as an interrupt does."""
+    raise KeyboardInterrupt
+
+
+def serve(page: Page, server: Server, wishes: set[str]) -> None:
+    """Says the address, and serves until an interrupt."""
+    address = f"http://{server.host}/{page.secret}/"
+    print(f"The page is at {address}\nWho knows this address can use it; an interrupt (Ctrl-C) ends it.", flush=True)
+    if not page.runner.is_proved:
+        print("The program is built without proof and slow on large networks; ./propane prove proves it and builds it fast.", flush=True)
+    with shown(address) if "--browser" in wishes else contextlib.nullcontext():
+        threading.Thread(target=server.serve_forever, args=(0.2,), daemon=True).start()
+        while True:
+            signal.pause()
+
+
+def main(arguments: list[str], usage: str) -> int:
+    """What tools/open does; gives the status."""
+    wishes, names = {word for word in arguments if word.startswith("--")}, [word for word in arguments if not word.startswith("--")]
+    if not wishes <= WISHES or len(names) != 2:
+        print(usage, file=sys.stderr)
+        return USAGE
+    try:
+        page = page_of(names, "--save" in wishes)
+    except Ended as ended:
+        print(ended.line, file=sys.stderr)
+        return ended.status
+    for number in signal.SIGTERM, signal.SIGHUP:
+        if signal.getsignal(number) != signal.SIG_IGN:
+            signal.signal(number, stopped)
+    server = Server(page)
+    try:
+        serve(page, server, wishes)
+    except KeyboardInterrupt:
+        return DONE
+    except OSError:
+        return WRITE_FAULT
+    finally:
+        page.runner.close()
+        server.server_close()
+    return DONE

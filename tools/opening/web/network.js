@@ -1,0 +1,149 @@
+// The network as the view shows it: the picture, its legend, and the list beside it.
+
+import { clickLink, clickNode, isSilent, pin } from "./actions.js";
+import { answers } from "./answers.js";
+import { by, el, put } from "./dom.js";
+import { svgText } from "./drawn.js";
+import { on, over } from "./hub.js";
+import { placed } from "./layout.js";
+import { formOf, legendForm } from "./parts.js";
+import { Picture } from "./picture.js";
+import { sameStanding } from "./read.js";
+import { spoken } from "./routes.js";
+import { chosen, given, keep, net } from "./state.js";
+import { linkKey } from "./topology.js";
+import { view, VIEWS } from "./views.js";
+
+const LEAVING = 60; // milliseconds until what the pointer has left is no more lit
+let picture = null, leaving = 0;
+
+// ---- arrows
+
+const arrow = (id, from, standing, kind) =>
+  ({ id, from, to: standing.path[1], kind, colour: kind === "old" ? "var(--faint)" : `var(--${formOf(standing)})` });
+const offerId = ({ peer, router }) => `${peer} at ${router}`;
+const leads = (standing) => standing?.path?.length > 1;
+
+/** Arrows to next hops, those of the old report where they differ, and what peers are offered. */
+function arrowsOf({ old }) {
+  const { report } = answers;
+  if (!report || view().hasNoArrows) return [];
+  const isOther = ([name, standing]) => leads(standing) && !sameStanding(standing, report.routers.get(name));
+  return [
+    ...[...(old?.routers ?? [])].filter(isOther).map(([name, standing]) => arrow(`old ${name}`, name, standing, "old")),
+    ...[...report.routers].filter(([, standing]) => leads(standing)).map(([name, standing]) => arrow(name, name, standing)),
+    ...report.sessions.filter(leads).map((each) => arrow(offerId(each), each.peer, each, "offer")),
+  ];
+}
+
+/** The arrows along which a router's packets go, or those of a peer to which routes are offered. */
+function pathOf(name) {
+  const along = (path, first) => path.slice(0, -1).map((each, k) => (k ? each : first));
+  if (!answers.report || view().hasNoArrows) return [];
+  const standing = answers.report.routers.get(name);
+  if (standing) return along(standing.path, name);
+  return answers.report.sessions.filter((each) => each.peer === name && leads(each)).flatMap((each) => along(each.path, offerId(each)));
+}
+
+// ---- shapes
+
+function showSites(changed, { heat, count, free }) {
+  const names = new Set(changed.map(({ name }) => name)), hasRoutes = !view().hasNoArrows;
+  for (const [name, site] of picture.sites) {
+    site.show({
+      standing: answers.report?.routers.get(name), isDead: chosen.dead.has(name), isMute: net.isPeer(name) && isSilent(name),
+      isChanged: names.has(name), isPinned: chosen.pinned === name,
+      heat: heat?.get(name), isFree: free?.has(name), count: count?.get(name), hasRoutes,
+    });
+  }
+}
+
+/** A sign for messages that wait in a direction of a link. */
+function waitingSign({ from, to, count, isMore }) {
+  const [x, y] = picture.at.get(from), [u, v] = picture.at.get(to);
+  const sign = Math.abs(u - x) > Math.abs(v - y) ? (u > x ? "▸" : "◂") : v > y ? "▾" : "▴";
+  return `${sign}${count > 1 ? count : ""}${isMore ? "+" : ""}`;
+}
+
+function showLinks({ heat, count, free, waiting = [] }) {
+  const signs = new Map();
+  for (const each of waiting) {
+    const key = linkKey(each.from, each.to);
+    signs.set(key, `${signs.get(key) ?? ""}${waitingSign(each)}`);
+  }
+  for (const [key, link] of picture.links) {
+    link.show({
+      isCut: chosen.cut.has(key), isOff: link.ends.some((name) => chosen.dead.has(name)), isMute: chosen.silent.has(key),
+      heat: heat?.get(key), isFree: free?.has(key), count: count?.get(key), waiting: signs.get(key),
+    });
+  }
+}
+
+// ---- legend and list
+
+function legend() {
+  const own = view().legend?.() ?? [];
+  if (view().hasNoArrows) return own;
+  const present = new Set([...(answers.report?.routers.values() ?? [])].map(formOf));
+  return [given.forms.filter(({ name }) => present.has(name)).map(({ name, said }) => legendForm(name, said)),
+    answers.report?.sessions.length ? el("b", { class: "sign" }, "- - ▸ offered to a peer") : null, own];
+}
+
+function showList(changed) {
+  const place = by("view"), top = place.scrollTop;
+  put(place, view().list(changed));
+  place.scrollTop = top;
+  if (changed.length && answers.cause) by("live").textContent = spoken(changed);
+}
+
+const classSaid = ({ class: found }) => (found === "none" ? "no class: nothing is compiled for it" : `class ${found}`);
+
+function showBar() {
+  by("class").textContent = answers.report ? classSaid(answers.report) : "";
+  for (const each of by("modes").children) each.setAttribute("aria-pressed", String(each.dataset.mode === chosen.view));
+  if (document.activeElement !== by("prefix")) by("prefix").value = chosen.prefix;
+  by("prefix").setAttribute("aria-invalid", String(!answers.isPrefix));
+}
+
+function showNetwork() {
+  showBar();
+  if (!picture) return;
+  const changed = view().changes(), painted = view().paint();
+  showSites(changed, painted);
+  showLinks(painted);
+  picture.arrows.point(arrowsOf(painted));
+  picture.say(answers.report ? "" : answers.note);
+  put(by("legend"), legend());
+  showList(changed);
+}
+
+function light(kind, id) {
+  clearTimeout(leaving);
+  if (kind) picture?.light(kind, id, kind === "node" ? pathOf(id) : []);
+  else if (chosen.pinned) leaving = setTimeout(() => light("node", chosen.pinned), LEAVING);
+  else leaving = setTimeout(() => picture?.light(), LEAVING);
+}
+
+/** Drops what views keep of another prefix. */
+export const forgetViews = () => VIEWS.forEach((each) => each.forget?.());
+export const fit = () => picture?.fit();
+export const saved = () => svgText(picture);
+
+function begin() {
+  const place = by("network");
+  if (!net) {
+    put(place, el("div", { class: "note" }, "The topology can't be drawn: it is no JSON of a network."));
+    return;
+  }
+  const moved = (name, at) => { chosen.moved[name] = at.map(Math.round); keep(chosen.policy); };
+  picture = new Picture(place, net, { node: clickNode, link: clickLink, pin, over, placed: moved });
+  const at = placed(net, place.clientWidth, place.clientHeight, (name) => picture.box(name));
+  for (const [name, to] of Object.entries(chosen.moved)) at.set(name, [...to]);
+  picture.put(at);
+  fit();
+  new ResizeObserver(fit).observe(place);
+}
+
+on("show", showNetwork);
+on("over", light);
+export { begin as drawNetwork };

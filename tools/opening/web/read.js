@@ -1,0 +1,107 @@
+// Reads what the program writes. Nothing here judges: it cuts lines into their words. tools/test/lines.py has each form of line with
+// what it says, and the tests hold this reader and those of tools/ to it.
+
+import { linkKey } from "./topology.js";
+
+const STANDS = /^(?:(dead|origin|none)|(?:rank ([0-9]+)|(transit)) path (.+))$/;
+
+/** How a router or an offer stands: its state, its rank (0 where it has none) and its path. */
+function standing(text) {
+  const found = STANDS.exec(text);
+  if (!found) return null;
+  if (found[1]) return { state: found[1], rank: 0, path: [] };
+  return { state: found[3] ?? "rank", rank: Number(found[2] ?? 0), path: found[4].split(" ") };
+}
+
+/** A report of `replay`, `trace` or `settle`. */
+export function reportOf(text) {
+  const report = {
+    prefix: "", class: "", quiet: null, rounds: null, deliveries: null, events: new Map(), routers: new Map(), sessions: [],
+  };
+  for (const line of text.split("\n")) {
+    const [word, first, second] = line.split(" ", 3);
+    if (word === "router") report.routers.set(first, standing(line.slice(8 + first.length)));
+    else if (word === "session") {
+      report.sessions.push({ router: first, peer: second, ...standing(line.slice(10 + first.length + second.length)) });
+    } else if (word === "event") report.events.set(Number(first), second);
+    else if (word === "quiet") report.quiet = first === "yes";
+    else if (word === "rounds" || word === "deliveries") report[word] = Number(first);
+    else if (word === "prefix" || word === "class") report[word] = first;
+  }
+  return report;
+}
+
+const emptyCase = (number, statement) =>
+  ({ number, statement, prefixes: [], origins: [], routers: [], sessions: [], unclaimed: [], transit: [] });
+
+/** What `promises` says: its cases, what no statement governs, and its last line. */
+export function promisesOf(text) {
+  const cases = [], uncarried = [];
+  let last = "";
+  for (const line of text.split("\n")) {
+    const words = line.split(" "), now = cases.at(-1);
+    if (words[0] === "case") cases.push(emptyCase(Number(words[1]), Number(words[3])));
+    else if (words[0] === "prefix") now.prefixes.push(line.slice(7));
+    else if (words[0] === "origin") now.origins.push(words[1]);
+    else if (words[0] === "source" && words[1] === "router") now.routers.push({ name: words[2], rank: Number(words[4]) || 0 });
+    else if (words[0] === "source") now.sessions.push({ router: words[2], peer: words[3], rank: Number(words[5]) || 0 });
+    else if (words[0] === "unclaimed") now.unclaimed.push(line.slice(10));
+    else if (words[0] === "transit") now.transit.push(words[2]);
+    else if (words[0] === "uncarried") uncarried.push(words[1]);
+    else if (words[0] === "cases") last = line;
+  }
+  return { cases, uncarried, last };
+}
+
+/** A link or a router that is cut: what it is called, how many others move, and whose best rank changes. */
+function cutOf(words) {
+  const isLink = words[1] === "link", ends = words.slice(2, isLink ? 4 : 3);
+  return {
+    kind: words[1], id: isLink ? linkKey(...ends) : ends[0], name: ends.join("–"), moves: Number(words[ends.length + 3] ?? 0),
+    lost: [], worse: [],
+  };
+}
+
+const sourceOf = (words) => (words[0] === "router" ? words[1] : `${words[1]}–${words[2]}`);
+
+/** What `whatif` says of one more failure. */
+export function cutsOf(text) {
+  const cuts = [];
+  let last = "";
+  for (const line of text.split("\n")) {
+    const words = line.split(" "), cut = cuts.at(-1);
+    if (words[0] === "cut") cuts.push(cutOf(words));
+    else if (words[0] === "cuts") last = line;
+    else if (words[0] === "router" || words[0] === "session") {
+      const who = sourceOf(words);
+      if (words.at(-1) !== "none") cut.worse.push({ who, rank: Number(words.at(-1)) });
+      else if (cut.kind === "link" || who !== cut.id) cut.lost.push(who);
+    }
+  }
+  return { cuts, last };
+}
+
+/** What `drain` says: the links and routers that carry nothing. */
+export function freeOf(text) {
+  const free = new Set();
+  let last = "";
+  for (const line of text.split("\n")) {
+    const words = line.split(" ");
+    if (words[0] !== "free") continue;
+    if (words[1] === "link") free.add(linkKey(words[2], words[3]));
+    else if (words[1] === "router") free.add(words[2]);
+    else last = line;
+  }
+  return { free, last };
+}
+
+/** How a router stands, in words. */
+export function told(standing) {
+  if (!standing) return "nothing known";
+  if (standing.state === "rank") return `rank ${standing.rank}, ${standing.path.join(" → ")}`;
+  if (standing.state === "transit") return `transit, ${standing.path.join(" → ")}`;
+  return { dead: "dead", origin: "origin", none: "no route" }[standing.state];
+}
+
+export const sameStanding = (one, other) => one === other
+  || (!!one && !!other && one.state === other.state && one.rank === other.rank && one.path.join(" ") === other.path.join(" "));

@@ -1,0 +1,21 @@
+// The views. Each has:
+//   name, said      its word in the address, and on its button
+//   asks(policy)    asks the program what it shows: what `answers` holds, and what it keeps itself
+//   held            what it keeps
+//   forget()        drops that, where another prefix is chosen
+//   changes()       who stands otherwise, each with how it stood
+//   paint()         what the picture shows of it: heat, count, free, waiting, or the old report
+//   hasNoArrows     whether routes aren't drawn
+//   list(changed)   what the list on the right shows
+//   told(id)        a sentence on a router or link, for the inspector
+//   legend()        keys besides those of standings; where routes aren't drawn, all
+
+import { compare } from "./compare.js";
+import { free } from "./free.js";
+import { routes } from "./routes.js";
+import { chosen } from "./state.js";
+import { steps } from "./steps.js";
+import { whatif } from "./whatif.js";
+
+export const VIEWS = [routes, whatif, free, steps, compare];
+export const view = () => VIEWS.find(({ name }) => name === chosen.view);

@@ -1,0 +1,82 @@
+"""The forms of the lines that commands write, each with what a reader is to find in it: one table, to which the reader of the page of
+tools/open (opening/web/read.js) and those of tools/reasons are held. docs/FORMATS.md has the forms.
+"""
+from __future__ import annotations
+
+from dataclasses import dataclass, field
+from typing import Any
+
+CASE, CUT_LINK, CUT_ROUTER = "case 2 statement 3\n", "cut link R1 P1 moves 2\n", "cut router R2 moves 0\n"
+NAMES = ("R1", "R2", "R3", "P1", "P2")  # routers and peers of the lines
+
+
+@dataclass(frozen=True)
+class Row:
+    """A line of a reader's text, the lines that stand before it, and what the reader finds: by name, as JSON."""
+
+    reader: str
+    line: str
+    says: dict[str, Any] = field(default_factory=dict)
+    before: str = ""
+
+    def text(self) -> str:
+        return f"{self.before}{self.line}\n"
+
+
+def router(name: str, state: str, rank: int = 0, path: str = "") -> dict[str, Any]:
+    return {"routers": [[name, state, rank, path.split()]]}
+
+
+def session(name: str, peer: str, state: str, rank: int = 0, path: str = "") -> dict[str, Any]:
+    return {"sessions": [[name, peer, state, rank, path.split()]]}
+
+
+ROWS = (
+    Row("report", "prefix 198.51.100.0/24", {"prefix": "198.51.100.0/24"}),
+    Row("report", "class 1", {"class": "1"}),
+    Row("report", "class none", {"class": "none"}),
+    Row("report", "event 3 not-up", {"events": [[3, "not-up"]]}),
+    Row("report", "quiet yes", {"quiet": True}),
+    Row("report", "quiet no", {"quiet": False}),
+    Row("report", "rounds 3", {"rounds": 3}),
+    Row("report", "deliveries 4", {"deliveries": 4}),
+    Row("report", "router R1 dead", router("R1", "dead")),
+    Row("report", "router R1 origin", router("R1", "origin")),
+    Row("report", "router R1 none", router("R1", "none")),
+    Row("report", "router R1 rank 12 path R1 R2 P2", router("R1", "rank", 12, "R1 R2 P2")),
+    Row("report", "router R1 transit path R1 R2", router("R1", "transit", 0, "R1 R2")),
+    Row("report", "session R1 P1 rank 1 path P1 R1 R2", session("R1", "P1", "rank", 1, "P1 R1 R2")),
+    Row("report", "session R1 P1 none", session("R1", "P1", "none")),
+    Row("promises", "case 2 statement 3", {"cases": [[2, 3]]}),
+    Row("promises", "prefix 10.0.0.0/8 le 24", {"prefixes": ["10.0.0.0/8 le 24"]}, CASE),
+    Row("promises", "prefix 10.0.1.0/24", {"prefixes": ["10.0.1.0/24"]}, CASE),
+    Row("promises", "origin R3", {"origins": ["R3"]}, CASE),
+    Row("promises", "origin peers", {"origins": ["peers"]}, CASE),
+    Row("promises", "source router R1 rank 2", {"sources": [["R1", "", 2]]}, CASE),
+    Row("promises", "source session R1 P1 rank 1", {"sources": [["R1", "P1", 1]]}, CASE),
+    Row("promises", "unclaimed router R2", {"unclaimed": ["router R2"]}, CASE),
+    Row("promises", "unclaimed session R1 P2", {"unclaimed": ["session R1 P2"]}, CASE),
+    Row("promises", "unclaimed peer P1", {"unclaimed": ["peer P1"]}, CASE),
+    Row("promises", "transit router R2", {"transit": ["R2"]}, CASE),
+    Row("promises", "uncarried 10.0.9.0/24", {"uncarried": ["10.0.9.0/24"]}, CASE),
+    Row("promises", "cases 1 unclaimed 0 uncarried 0", {"last": "cases 1 unclaimed 0 uncarried 0"}, CASE),
+    Row("cuts", "base router R1 rank 2"),
+    Row("cuts", "base session R1 P1 none"),
+    Row("cuts", "cut link R1 P1 moves 2", {"cut": ["link", "P1~R1", 2]}),
+    Row("cuts", "cut link R1 P1", {"cut": ["link", "P1~R1", 0]}),
+    Row("cuts", "cut router R2 moves 0", {"cut": ["router", "R2", 0]}),
+    Row("cuts", "router R1 rank 3", {"worse": [["R1", 3]]}, CUT_LINK),
+    Row("cuts", "session R1 P1 rank 2", {"worse": [["R1–P1", 2]]}, CUT_LINK),
+    Row("cuts", "router R1 none", {"lost": ["R1"]}, CUT_LINK),
+    Row("cuts", "session R1 P1 none", {"lost": ["R1–P1"]}, CUT_LINK),
+    Row("cuts", "router R2 none", {}, CUT_ROUTER),  # a router that is cut has lost nothing by it
+    Row("cuts", "router R1 none", {"lost": ["R1"]}, CUT_ROUTER),
+    Row("cuts", "cuts 5 changed 4", {"last": "cuts 5 changed 4"}),
+    Row("free", "free link R2 R1", {"free": ["R1~R2"]}),
+    Row("free", "free router R3", {"free": ["R3"]}),
+    Row("free", "free 2 of 6", {"last": "free 2 of 6"}),
+)
+
+
+def rows(reader: str) -> list[Row]:
+    return [row for row in ROWS if row.reader == reader]

@@ -1,0 +1,65 @@
+"""The readers of tools/reasons find in each form of line what the table of lines.py says. tools/page-check tries the page's reader."""
+from __future__ import annotations
+
+import os
+import re
+import unittest
+
+from common import TOP
+from lines import NAMES, Row, rows
+from reasons import costs
+from reasons.cases import TO
+from reasons.network import Network
+from reasons.picture import Report
+
+NETWORK = Network(NAMES[:3], NAMES[3:], ())
+PAGE = os.path.join(TOP, "docs", "FORMATS.md")
+
+
+def stands(state: str, rank: int) -> str:
+    return f"rank {rank}" if state == "rank" else state
+
+
+class Lines(unittest.TestCase):
+    def test_reports(self) -> None:
+        for row in rows("report"):
+            report, paths = Report(row.text(), NETWORK), costs.paths_in(row.text())
+            with self.subTest(row.line):
+                self.assertEqual(report.prefix, row.says.get("prefix", ""))
+                routers, sessions = row.says.get("routers", []), row.says.get("sessions", [])
+                self.assertEqual(report.routers, {name: (stands(state, rank), tuple(path)) for name, state, rank, path in routers})
+                self.assertEqual(report.sessions, {(name, peer): (stands(state, rank), tuple(path)) for name, peer, state, rank, path in sessions})
+                wanted = {name: tuple(path) for name, _, _, path in routers if path}
+                self.assertEqual(paths, wanted | {name + TO + peer: tuple(path) for name, peer, _, _, path in sessions if path})
+
+    def test_promises(self) -> None:
+        for row in rows("promises"):
+            wanted = {name + (TO + peer if peer else ""): rank for name, peer, rank in row.says.get("sources", [])}
+            self.assertEqual(costs.promised_in(row.text(), 2), wanted, row.line)
+
+    def test_cuts(self) -> None:
+        for row in rows("cuts"):
+            count, lost = costs.cuts_in(f"{row.text()}cuts 9 changed 1\n")
+            with self.subTest(row.line):
+                self.assertEqual(count, "5" if "last" in row.says else "9")
+                self.assertEqual([name.replace(TO, "–") for names in lost.values() for name in names], row.says.get("lost", []))
+
+    def test_each_form_of_the_page_has_a_row(self) -> None:
+        """FORMATS names each form of a report and of promises in a table; names and numbers there stand for any."""
+        with open(PAGE, encoding="utf-8") as file:
+            page = file.read()
+        for reader, head in ("report", "The report of an outcome"), ("promises", "Promises"), ("free", "What is free"):
+            table = page.partition(f"\n## {head}\n")[2].partition("\n## ")[0]
+            cells = re.findall(r"^\| ((?:`[^`]+`(?:, )?)+)[^|]*\|", table, re.M)
+            for form in re.findall(r"`([^`]+)`", " ".join(cells)):
+                self.assertTrue(any(is_of(row, form) for row in rows(reader)) or form in ("prefix P", "class N"), (reader, form))
+
+
+def is_of(row: Row, form: str) -> bool:
+    """Whether a row's line has a form of the page: a word in capitals there stands for one word, and the last for any."""
+    words = [r"\S+" if word.isupper() else re.escape(word) for word in form.split()]
+    return re.fullmatch(" ".join(words) + r"(?: \S+)*" if form.split()[-1].isupper() else " ".join(words), row.line) is not None
+
+
+if __name__ == "__main__":
+    unittest.main()
