@@ -6,4 +6,5 @@
     bird, frr    the file of a plan for BIRD 2 and for FRR; bird_reader, frr_reader read one
     folders      the files of routers in a folder, written, and read back as maps or as what drifted
     command      the words of tools/deploy
+    shutting     the words of tools/shut: what taking a session out of service does
 """

@@ -11,11 +11,12 @@ from __future__ import annotations
 import ipaddress
 import re
 from collections.abc import Mapping
-from dataclasses import dataclass
+from dataclasses import dataclass, field
 from typing import Any
 
 from texts.faults import Fault
 from texts.json_text import Object, json_value, keyed, shown
+from texts.prefixes import length_of
 from texts.topology import MOST_NUMBER, Link, Topology, address, is_private
 
 RESERVED = (0, 23456, 65535, MOST_NUMBER)  # RFC 7607, 6793, 7300
@@ -29,23 +30,44 @@ class Wire:
 
     addresses: Mapping[str, str]
     interfaces: Mapping[str, str]
-    password: str | None
-    hops: int
-    ttl_security: bool
-    hold: int | None
+    password: str | None = None
+    hops: int = 1
+    ttl_security: bool = False
+    hold: int | None = None
+    bfd: bool = False
+    shut: bool = False
+    longest: int | None = None  # length of a prefix that is taken from a peer
+    most_prefixes: int | None = None  # that are taken from a peer
+    link_locals: Mapping[str, str] = field(default_factory=dict)  # of the interfaces, where they are told
+
+    def takes(self, prefix: str) -> bool:
+        """Whether a prefix isn't too long to be taken from the peer."""
+        return self.longest is None or length_of(prefix) <= self.longest
+
+
+@dataclass(frozen=True)
+class Cache:
+    """Where a cache of RPKI's says which AS numbers may originate a prefix (RFC 8210)."""
+
+    address: str
+    port: int
+
+
+OF_ENTRY = {"addresses", "interfaces", "link_locals", "password", "hops", "ttl_security", "hold", "bfd", "shut", "longest", "most_prefixes"}
 
 
 class Addresses:
-    """The wires of a network by their ends, and the AS number by which its peers know it, or None."""
+    """The wires of a network by their ends, the AS number by which its peers know it, and its cache of RPKI's; None of what isn't told."""
 
     def __init__(self, text: str, topology: Topology) -> None:
         self.topology = topology
         self.wires: dict[frozenset[str], Wire] = {}
         self.owners: dict[str | tuple[str, str], str] = {}
-        value = keyed(json_value(text, "addresses", Object), {"links"}, {"public_as"}, "addresses")
+        value = keyed(json_value(text, "addresses", Object), {"links"}, {"public_as", "rpki"}, "addresses")
         if not isinstance(value["links"], list):
             raise Fault("addresses: `links` is no array")
         self.public_as = self.public_number(value["public_as"]) if "public_as" in value else None
+        self.rpki = cache(value["rpki"]) if "rpki" in value else None
         wanted = {frozenset(link): link for link in topology.links}
         for place, entry in enumerate(value["links"], 1):
             try:
@@ -64,7 +86,7 @@ class Addresses:
         return number
 
     def add(self, entry: Any, wanted: Mapping[frozenset[str], Link]) -> None:
-        entry = keyed(entry, {"ends"}, {"addresses", "interfaces", "password", "hops", "ttl_security", "hold"}, "entry")
+        entry = keyed(entry, {"ends"}, OF_ENTRY, "entry")
         ends = two_texts(entry, "ends")
         link = frozenset(ends)
         if link not in wanted:
@@ -73,12 +95,19 @@ class Addresses:
             raise Fault(f"the link {' '.join(ends)} has an entry already")
         if ("addresses" in entry) == ("interfaces" in entry):
             raise Fault("an entry has either `addresses` or `interfaces`")
+        if "link_locals" in entry and "interfaces" not in entry:
+            raise Fault("`link_locals` are for a session over `interfaces`")
         addresses, interfaces = self.taken(entry, ends, "addresses"), self.taken(entry, ends, "interfaces")
+        link_locals = dict(zip(ends, map(link_local, two_texts(entry, "link_locals")))) if "link_locals" in entry else {}
         hops = whole(entry, "hops", 1, 254, 1)
         if hops > 1 and interfaces:
             raise Fault("`hops`: a session over interfaces has one")
+        for key in ("longest", "most_prefixes"):
+            if key in entry and not self.topology.is_to_a_peer(link):
+                raise Fault(f"`{key}` is for a link with a peer")
         self.wires[link] = Wire(addresses, interfaces, password(entry), hops, flag(entry, "ttl_security"),
-                                whole(entry, "hold", 3, 65535, None))
+                                whole(entry, "hold", 3, 65535, None), flag(entry, "bfd"), flag(entry, "shut"),
+                                whole(entry, "longest", 1, 31, None), whole(entry, "most_prefixes", 1, MOST_NUMBER, None), link_locals)
 
     def taken(self, entry: Object, ends: list[str], key: str) -> dict[str, str]:
         """The addresses or the interfaces of an entry by the ends that have them from now on, or none."""
@@ -108,6 +137,15 @@ class Addresses:
         return self.wires[frozenset((one, two))]
 
 
+def cache(value: Any) -> Cache:
+    """The cache of RPKI's that all routers ask."""
+    try:
+        value = keyed(value, {"address"}, {"port"}, "rpki")
+        return Cache(address(value["address"], "rpki: address"), whole(value, "port", 1, 65535, 323))
+    except Fault as fault:
+        raise Fault(f"addresses: {fault}") from fault
+
+
 def two_texts(entry: Object, key: str) -> list[str]:
     value = entry[key]
     if not isinstance(value, list) or len(value) != 2 or not all(isinstance(part, str) for part in value):
@@ -117,7 +155,19 @@ def two_texts(entry: Object, key: str) -> list[str]:
     return value
 
 
+def link_local(text: str) -> str:
+    """A link-local address of IPv6, in the one form that it has (RFC 5952)."""
+    try:
+        found = ipaddress.IPv6Address(text)
+    except ValueError:
+        found = ipaddress.IPv6Address("::")
+    if not found.is_link_local or str(found) != text:
+        raise Fault(f"`link_locals`: no link-local address: {shown(text)}")
+    return text
+
+
 def whole(entry: Object, key: str, low: int, high: int, otherwise: Any) -> Any:
+    """The whole number under a key, or another value where none is."""
     if key not in entry:
         return otherwise
     if type(entry[key]) is not int or not low <= entry[key] <= high:

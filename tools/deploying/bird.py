@@ -23,7 +23,7 @@ protocol device 'own:device' {{
 # What BGP finds goes to the kernel. The router's own networks are there too, behind all other routes to them: what they don't
 # deliver is dropped, and isn't sent back outside.
 protocol kernel 'own:kernel' {{
-  metric 0;
+  metric 0;{merging}
   ipv4 {{
     import none;
     export filter {{
@@ -80,11 +80,39 @@ template bgp 'own:session' {
 """
 
 
+RPKI = """\
+# Which AS numbers may originate a prefix. While the cache doesn't answer, nothing is known to be wrong.
+roa4 table 'own:origins';
+protocol rpki 'own:rpki' {{
+  roa4 {{ table 'own:origins'; }};
+  remote {address} port {port};
+}}
+"""
+RADV = """\
+# FRR finds who is behind an interface by what is told there of routers. This one offers no way to anywhere.
+protocol radv 'own:radv' {"""
+TOLD_SOON = "{ min ra interval 3; max ra interval 4; default lifetime 0; }"
+BFD = """\
+# Tells soon that nobody is there.
+protocol bfd 'own:bfd' {
+}
+"""
+SHUT = ("  # The session is shut: nothing is taken and nothing is sent.", "  reject;")
+
+
 def bird_text(plan: Plan) -> str:
-    parts = [HEAD.format(name=plan.site.name, asn=plan.site.asn, id=plan.site.id, own_numbers=", ".join(map(str, plan.own_numbers)))]
+    parts = [HEAD.format(name=plan.site.name, asn=plan.site.asn, id=plan.site.id, own_numbers=", ".join(map(str, plan.own_numbers)),
+                         merging=f"\n  merge paths on limit {plan.paths};" if plan.paths > 1 else "")]
     parts += [list_text(number, rows) for number, rows in sorted(plan.lists.items())]
-    if plan.networks:
+    if plan.originated():
         parts.append(networks_text(plan))
+    if plan.rpki:
+        parts.append(RPKI.format(address=plan.rpki.address, port=plan.rpki.port))
+    if any(session.interface for session in plan.sessions):
+        over = [each.interface for each in plan.sessions if each.interface]
+        parts.append("\n".join([RADV, *(f"  interface \"{interface}\" {TOLD_SOON};" for interface in over), "}\n"]))
+    if any(session.wire.bfd for session in plan.sessions):
+        parts.append(BFD)
     parts.append(TEMPLATE)
     parts += [session_text(session, plan) for session in plan.sessions]
     return "\n".join(parts)
@@ -127,22 +155,30 @@ def networks_text(plan: Plan) -> str:
     lines = ["filter 'own:networks'", "{"]
     lines += [f"  if net = {network.prefix} && {listed(plan, network.number)} then {{ mark({tag_text(network.tag)}); accept; }}"
               for network in plan.networks]
+    lines += [f"  if net = {prefix} then accept;" for prefix in plan.unsent]
     lines += ["  reject;", "}", "", "protocol static 'own:static' {", "  ipv4 { import filter 'own:networks'; };"]
-    lines += [f"  route {network.prefix} unreachable;" for network in plan.networks]
+    lines += [f"  route {prefix} unreachable;" for prefix in plan.originated()]
     return "\n".join(lines) + "\n}\n"
 
 
 def session_text(session: Session, plan: Plan) -> str:
-    if session.interface:
+    if not session.mine:
         raise Fault(f"addresses: the link {plan.site.name} {session.neighbour.name} has no addresses: "
-                    "a session over interfaces is for FRR at both ends")
+                    "a session over interfaces needs `link_locals` for BIRD")
     return "\n".join([*takes_lines(session, plan), *sends_lines(session, plan), *protocol_lines(session)]) + "\n"
 
 
 def takes_lines(session: Session, plan: Plan) -> Iterator[str]:
     yield from (f"filter 'in:{session.neighbour.name}'", "{")
+    if session.wire.shut:
+        yield from SHUT
     if session.neighbour.is_peer:
-        yield from ("  if bgp_path ~ own_numbers then reject;", "  wash();")
+        yield "  if bgp_path ~ own_numbers then reject;"
+        if session.wire.longest:
+            yield f"  if net.len > {session.wire.longest} then reject;"
+        if plan.is_asked(session):
+            yield "  if roa_check('own:origins', net, bgp_path.last_nonaggregated) = ROA_INVALID then reject;"
+        yield "  wash();"
     for entry in plan.block(session).takes:
         yield f"  if {matching(plan, entry)} then {{ mark({tag_text(entry.put)}); bgp_local_pref = {entry.preference}; accept; }}"
     yield from ("  reject;", "}", "")
@@ -151,6 +187,8 @@ def takes_lines(session: Session, plan: Plan) -> Iterator[str]:
 def sends_lines(session: Session, plan: Plan) -> Iterator[str]:
     word = "{ bare(); accept; }" if session.neighbour.is_peer else "accept;"
     yield from (f"filter 'out:{session.neighbour.name}'", "{")
+    if session.wire.shut:
+        yield from SHUT
     for entry in plan.block(session).sends:
         yield f"  if {matching(plan, entry)} then {word}"
     yield from ("  reject;", "}", "")
@@ -160,10 +198,13 @@ def protocol_lines(session: Session) -> Iterator[str]:
     name, wire = session.neighbour.name, session.wire
     yield f"protocol bgp 'bgp:{name}' from 'own:session' {{"
     yield f"  local {session.mine} as {session.asn};"
-    yield f"  neighbor {session.theirs} as {session.neighbour.asn};"
+    at = f"%'{session.interface}'" if session.interface else ""
+    yield f"  neighbor {session.theirs}{at} as {session.neighbour.asn};"
     yield f"  multihop {wire.hops};" if wire.hops > 1 else "  check link on;"
     if wire.ttl_security:
         yield "  ttl security on;"
+    if wire.bfd:
+        yield "  bfd on;"
     if wire.password:
         yield f"  password \"{wire.password}\";"
     if wire.hold:
@@ -171,4 +212,8 @@ def protocol_lines(session: Session) -> Iterator[str]:
     yield "  ipv4 {"
     yield f"    import filter 'in:{name}';"
     yield f"    export filter 'out:{name}';"
+    if wire.most_prefixes:
+        yield f"    import limit {wire.most_prefixes} action disable;"
+    if session.interface:
+        yield "    extended next hop on;"
     yield from ("    next hop self;", "  };", "}")

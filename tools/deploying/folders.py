@@ -9,14 +9,14 @@ from dataclasses import dataclass
 from texts.faults import Fault
 from texts.files import read_text, write_private
 from texts.prefixes import is_prefix
-from texts.topology import Topology
+from texts.topology import Site, Topology
 
 from . import bird, frr
 from .addresses import Addresses
 from .bird_reader import bird_differences, read_bird
 from .frr_reader import frr_differences, read_frr
 from .maps import Lists, Maps, RouterMaps, in_order
-from .plans import Plan, plan_of
+from .plans import Choices, Plan, plan_of
 
 
 class Drift(Exception):
@@ -33,34 +33,48 @@ class Daemon:
     differences: Callable[[str, str], Iterable[str]]
 
 
+@dataclass(frozen=True)
+class Described:
+    """A network, where its sessions run, and what all its files say besides."""
+
+    topology: Topology
+    addresses: Addresses
+    choices: Choices = Choices()
+
+    def plan(self, maps: Maps, router: Site) -> Plan:
+        """All that a router's file says."""
+        return plan_of(self.topology, maps, self.addresses, self.choices, router)
+
+
 BIRD = Daemon(bird.ENDING, bird.bird_text, read_bird, bird_differences)
 FRR = Daemon(frr.ENDING, frr.frr_text, read_frr, frr_differences)
 
 
-def write_files(daemon: Daemon, topology: Topology, maps: Maps, addresses: Addresses, folder: str, names: Sequence[str]) -> None:
+def write_files(daemon: Daemon, network: Described, maps: Maps, folder: str, names: Sequence[str]) -> None:
     """Writes the files of these routers, or of all. All texts are made before the first file is written."""
     for name in names:
         if name not in maps.routers:
             raise Fault(f"no router of the topology: {name}")
-    wanted = [router for router in topology.routers if not names or router.name in names]
-    texts = {router.name + daemon.ending: daemon.text_of(plan_of(topology, maps, addresses, router)) for router in wanted}
+    wanted = [router for router in network.topology.routers if not names or router.name in names]
+    texts = {router.name + daemon.ending: daemon.text_of(network.plan(maps, router)) for router in wanted}
     os.makedirs(folder, exist_ok=True)
     for name, text in texts.items():
         write_private(os.path.join(folder, name), text)
 
 
-def read_back(topology: Topology, addresses: Addresses, folder: str) -> Maps:
+def read_back(network: Described, folder: str) -> Maps:
     """The maps of the files. They are written anew, and nothing else may stand in the files, but for what isn't of BGP in FRR's."""
+    topology = network.topology
     files = {router.name: file_of(folder, router.name) for router in topology.routers}
     read = {name: daemon.read(text) for name, (daemon, _, text) in files.items()}
     maps = Maps(next((lists for lists, *_ in read.values()), {}), {name: mine for name, (_, mine, _) in read.items()})
     for mine in maps.routers.values():
-        mine.networks = in_order(network for network in mine.networks if is_prefix(network.prefix))
+        mine.networks = in_order(own for own in mine.networks if is_prefix(own.prefix))
     drift = []
     for router in topology.routers:
         (daemon, name, text), (lists, _, unread) = files[router.name], read[router.name]
         found = unread or list(lacking(topology, maps, router.name, lists)) \
-            or list(daemon.differences(text, daemon.text_of(plan_of(topology, maps, addresses, router))))
+            or list(daemon.differences(text, daemon.text_of(network.plan(maps, router))))
         drift += [f"{router.name}: {name}: {hidden(line)}" for line in found]
     if drift:
         raise Drift("\n".join(drift))

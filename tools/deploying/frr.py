@@ -9,7 +9,7 @@ from collections.abc import Iterator
 from texts.faults import Fault
 
 from .addresses import RESERVED
-from .maps import Block, Entry, Network, Row, Tag
+from .maps import Entry, Network, Row, Tag
 from .plans import Plan, Session
 
 ENDING = ".frr.conf"
@@ -19,29 +19,42 @@ SELECTION = """\
 ! Of the routes of the highest preference the one with the shortest path is used, and of these the one of the neighbour with the
 ! lowest identifier. A session that is lost takes its routes with it at once.""".split("\n")
 OWN_NUMBERS = "! The AS numbers by which the network is known. A path of a peer that has one comes from here."
+ORIGINS = "! Which AS numbers may originate a prefix. While the cache doesn't answer, nothing is known to be wrong."
 DROPPED = "! What these networks don't deliver is dropped, and isn't sent back outside."
 WASH = (" set community none", " set extcommunity none", " set metric 0", " set origin igp")
 ROUTER = (" bgp ebgp-requires-policy", " no bgp suppress-duplicates", " no bgp default ipv4-unicast", " bgp graceful-restart-disable",
           " bgp bestpath compare-routerid", " no bgp network import-check")
+RELAXED = " bgp bestpath as-path multipath-relax"
+UNGROUPED = "no zebra nexthop kernel enable"
 
 
 def frr_text(plan: Plan) -> str:
     parts = [[f"! {plan.site.name}, AS {plan.site.asn}: the route maps of the network's policy, written by tools/deploy.",
-              "frr defaults traditional"]]
-    if plan.networks:
-        parts.append([DROPPED, *(f"ip route {network.prefix} blackhole 254" for network in plan.networks)])
+              "frr defaults traditional", *([UNGROUPED] if plan.paths > 1 else [])]]
+    if plan.originated():
+        parts.append([DROPPED, *(f"ip route {prefix} blackhole 254" for prefix in plan.originated())])
     parts += [list_lines(number, rows) for number, rows in sorted(plan.lists.items())]
     parts.append([OWN_NUMBERS, *number_lines(plan.own_numbers)])
     parts.append([f"bgp large-community-list standard {tag_name(tag)} seq 5 permit {tag}" for tag in matched(plan)])
     parts += [network_lines(network) for network in plan.networks]
+    parts.append([f"ip prefix-list longer-{longest} seq 5 permit 0.0.0.0/0 ge {longest + 1}" for longest in longest_taken(plan)])
+    if plan.rpki:
+        parts.append([ORIGINS, "rpki", f" rpki cache {plan.rpki.address} {plan.rpki.port} preference 1", "exit"])
     for session in plan.sessions:
-        parts += map_parts(session, plan.block(session))
+        parts += map_parts(session, plan)
     parts.append([*SELECTION, *router_lines(plan)])
     return "\n!\n".join("\n".join(part) for part in parts if part) + "\n"
 
 
 def list_lines(number: int, rows: list[Row]) -> list[str]:
-    return [f"ip prefix-list list-{number} seq {5 * place} {row.word} {row.pattern()}" for place, row in enumerate(rows, 1)]
+    """FRR keeps no row twice in a list: one that stands before already gets a list of its own, for who reads the file back."""
+    seen: set[Row] = set()
+    lines = []
+    for place, row in enumerate(rows, 1):
+        again = f"-again-{place}" if row in seen else ""
+        seen.add(row)
+        lines.append(f"ip prefix-list list-{number}{again} seq {5 * place} {row.word} {row.pattern()}")
+    return lines
 
 
 def number_lines(numbers: list[int]) -> Iterator[str]:
@@ -63,11 +76,28 @@ def network_lines(network: Network) -> list[str]:
             f" set large-community {network.tag}", "exit"]
 
 
-def map_parts(session: Session, block: Block) -> Iterator[list[str]]:
-    """The two route maps of a session, an entry a part. Each ends in a refusal."""
-    name, is_peer = session.neighbour.name, session.neighbour.is_peer
-    if is_peer:
+def longest_taken(plan: Plan) -> list[int]:
+    """The lengths of the longest prefixes that are taken from peers."""
+    return sorted({session.wire.longest for session in plan.sessions if session.wire.longest})
+
+
+def refusals(session: Session, plan: Plan) -> Iterator[list[str]]:
+    """The entries in front of those of the maps, which only refuse."""
+    name, wire = session.neighbour.name, session.wire
+    if wire.shut:
+        yield from ([f"route-map {word}-{name} deny 1", "exit"] for word in ("in", "out"))
+    if session.neighbour.is_peer:
         yield [f"route-map in-{name} deny 5", " match as-path own-numbers", "exit"]
+        if wire.longest:
+            yield [f"route-map in-{name} deny 6", f" match ip address prefix-list longer-{wire.longest}", "exit"]
+        if plan.is_asked(session):
+            yield [f"route-map in-{name} deny 7", " match rpki invalid", "exit"]
+
+
+def map_parts(session: Session, plan: Plan) -> Iterator[list[str]]:
+    """The two route maps of a session, an entry a part. Each ends in a refusal."""
+    name, is_peer, block = session.neighbour.name, session.neighbour.is_peer, plan.block(session)
+    yield from refusals(session, plan)
     for word, entries, more in (("in", block.takes, WASH if is_peer else ()), ("out", block.sends, ())):
         if 10 * len(entries) >= LAST:
             raise Fault(f"maps: the {word} entries of {name}: FRR numbers entries up to {LAST}, so there may be {LAST // 10}")
@@ -86,14 +116,15 @@ def entry_lines(entry: Entry) -> Iterator[str]:
 
 
 def router_lines(plan: Plan) -> Iterator[str]:
-    yield from (f"router bgp {plan.site.asn}", f" bgp router-id {plan.site.id}", *ROUTER)
+    yield from (f"router bgp {plan.site.asn}", f" bgp router-id {plan.site.id}", *ROUTER, *([RELAXED] if plan.paths > 1 else []))
     for session in plan.sessions:
         yield from neighbour_lines(session, plan)
     yield from (" !", " address-family ipv4 unicast")
     yield from (f"  network {network.prefix} route-map own-{network.prefix}" for network in plan.networks)
+    yield from (f"  network {prefix}" for prefix in plan.unsent)
     for session in plan.sessions:
         yield from family_lines(session)
-    yield from ("  maximum-paths 1", " exit-address-family", "exit")
+    yield from (f"  maximum-paths {plan.paths}", " exit-address-family", "exit")
 
 
 def neighbour_lines(session: Session, plan: Plan) -> Iterator[str]:
@@ -106,12 +137,14 @@ def neighbour_lines(session: Session, plan: Plan) -> Iterator[str]:
     yield f" neighbor {at} description {other.name}"
     if wire.password:
         yield f" neighbor {at} password {wire.password}"
+    if wire.bfd:
+        yield f" neighbor {at} bfd"
     if wire.ttl_security:
         yield f" neighbor {at} ttl-security hops {wire.hops}"
     elif wire.hops > 1:
         yield f" neighbor {at} ebgp-multihop {wire.hops}"
     yield f" neighbor {at} enforce-first-as"
-    if session.mine:
+    if session.mine and not session.interface:
         yield f" neighbor {at} update-source {session.mine}"
     if wire.hold:
         yield f" neighbor {at} timers {wire.hold // 3} {wire.hold}"
@@ -128,6 +161,8 @@ def family_lines(session: Session) -> Iterator[str]:
         yield f"  no neighbor {at} send-community all"
     else:
         yield f"  neighbor {at} send-community large"
+    if session.wire.most_prefixes:
+        yield f"  neighbor {at} maximum-prefix {session.wire.most_prefixes}"
     yield f"  neighbor {at} route-map in-{name} in"
     yield f"  neighbor {at} route-map out-{name} out"
 

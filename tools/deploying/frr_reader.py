@@ -12,11 +12,11 @@ from .maps import Block, Entry, Lists, Network, Row, RouterMaps, Tag
 NUMBER = r"(\d{1,10})"
 PREFIX = r"(\d+\.\d+\.\d+\.\d+/\d\d?)"
 TAG = rf"{NUMBER}:0:{NUMBER}"
-ROW = re.compile(rf"ip prefix-list list-{NUMBER} seq {NUMBER} (deny|permit) {PREFIX}(?: le (\d\d?))?")
+ROW = re.compile(rf"ip prefix-list list-{NUMBER}(?:-again-\d+)? seq {NUMBER} (deny|permit) {PREFIX}(?: le (\d\d?))?")
 TAG_LIST = re.compile(rf"bgp large-community-list standard (\S+) seq \d+ permit {TAG}")
 MAP = re.compile(rf"route-map (in|out|own)-(\S+) (permit|deny) {NUMBER}")
 # The names that are written here, and what undoes them: other lines of a file are the router's own,
-OURS = re.compile(r"(?:no )?(?:router bgp |ip prefix-list list-\d|bgp as-path access-list own-numbers |"
+OURS = re.compile(r"(?:no )?(?:router bgp |ip prefix-list (?:list-\d|longer-)|bgp as-path access-list own-numbers |"
                   r"bgp large-community-list standard tag-|route-map (?:in|out|own)-)")
 # but for those that mean something below one of ours alone: FRR may take them as standing there, whatever their indent.
 LOOSE = re.compile(r"(?:no )?(?:neighbor|network|address-family|maximum-paths|redistribute|aggregate-address|match|set|call|on-match|"

@@ -1,18 +1,24 @@
 """All that one router's file says, whichever daemon loads it."""
 from __future__ import annotations
 
-from collections.abc import Mapping
-from dataclasses import dataclass
+from collections.abc import Mapping, Sequence
+from dataclasses import dataclass, field
 
+from texts.faults import Fault
+from texts.policy import Policy
+from texts.prefixes import in_order
 from texts.topology import Site, Topology
 
-from .addresses import Addresses, Wire
+from .addresses import Addresses, Cache, Wire
 from .maps import Block, Lists, Maps, Network
 
 
 @dataclass(frozen=True)
 class Session:
-    """A session as one end sees it: its own AS number and address, or interface, on it, and the other end's address."""
+    """A session as one end sees it: its own AS number and address, or interface, on it, and the other end's address.
+
+    Of a session over interfaces the addresses are link-local ones, where these are told.
+    """
 
     neighbour: Site
     asn: int
@@ -22,19 +28,48 @@ class Session:
     wire: Wire
 
 
+@dataclass(frozen=True)
+class Choices:
+    """What all files of a network say besides maps and addresses.
+
+    `paths` is the most next hops that packets to a prefix are spread over. `originated` has the prefixes that each router originates, where
+    they are told: the maps say nothing of an origin at which no path of the policy ends.
+    """
+
+    paths: int = 1
+    originated: Mapping[str, Sequence[str]] = field(default_factory=dict)
+
+    @staticmethod
+    def of(paths: int, policy: Policy | None, topology: Topology) -> Choices:
+        """These, where a policy may be given."""
+        return Choices(paths, policy.originated(router.name for router in topology.routers) if policy else {})
+
+
 @dataclass
 class Plan:
     """A router with its lists, its networks, its sessions in order of location, and for each neighbour what is taken and sent.
 
-    `own_numbers` are the AS numbers by which the network is known, inside and outside.
+    `unsent` are prefixes that it originates and tells nobody. `own_numbers` are the AS numbers by which the network is known, inside and
+    outside. `paths` is the most next hops of a route.
     """
 
     site: Site
     lists: Lists
     networks: list[Network]
+    unsent: list[str]
     sessions: list[Session]
     blocks: Mapping[str, Block]
     own_numbers: list[int]
+    paths: int
+    rpki: Cache | None
+
+    def is_asked(self, session: Session) -> bool:
+        """Whether the cache of RPKI's is asked for what is taken over a session."""
+        return bool(self.rpki and session.neighbour.is_peer)
+
+    def originated(self) -> list[str]:
+        """All prefixes that it originates."""
+        return [network.prefix for network in self.networks] + self.unsent
 
     def block(self, session: Session) -> Block:
         return self.blocks[session.neighbour.name]
@@ -43,14 +78,28 @@ class Plan:
 def session_of(addresses: Addresses, site: Site, other: Site) -> Session:
     wire = addresses.wire(site.name, other.name)
     asn = addresses.public_as if other.is_peer and addresses.public_as else site.asn
-    return Session(other, asn, wire.addresses.get(site.name), wire.addresses.get(other.name), wire.interfaces.get(site.name), wire)
+    addresses_of = wire.link_locals if wire.interfaces else wire.addresses
+    return Session(other, asn, addresses_of.get(site.name), addresses_of.get(other.name), wire.interfaces.get(site.name), wire)
 
 
 def own_numbers(topology: Topology, addresses: Addresses) -> list[int]:
     return topology.router_numbers() + ([addresses.public_as] if addresses.public_as else [])
 
 
-def plan_of(topology: Topology, maps: Maps, addresses: Addresses, site: Site) -> Plan:
+def unsent_of(router: str, networks: Sequence[Network], choices: Choices) -> list[str]:
+    """The prefixes that a router originates and of which its maps say nothing."""
+    told = choices.originated.get(router)
+    if told is None:
+        return []
+    sent = {network.prefix for network in networks}
+    for prefix in sorted(sent - set(told)):
+        raise Fault(f"policy: {router} doesn't originate {prefix}, of which its maps say that it does")
+    return in_order(prefix for prefix in told if prefix not in sent)
+
+
+def plan_of(topology: Topology, maps: Maps, addresses: Addresses, choices: Choices, site: Site) -> Plan:
+    """The plan of a router."""
     mine = maps.routers[site.name]
     sessions = [session_of(addresses, site, other) for other in topology.neighbours(site.name)]
-    return Plan(site, maps.lists, mine.networks, sessions, mine.blocks, own_numbers(topology, addresses))
+    return Plan(site, maps.lists, mine.networks, unsent_of(site.name, mine.networks, choices), sessions, mine.blocks,
+                own_numbers(topology, addresses), choices.paths, addresses.rpki)

@@ -7,13 +7,14 @@ import subprocess
 from collections.abc import Mapping
 
 LIMIT = 900  # seconds after which an installation is ended
-Programs = Mapping[str, str]  # the package of each program, by the program's name or path
+Programs = Mapping[str, str]  # the package of each program, by the program's name or path; or of a file that a program loads, by its path
 
 
 def lacking(programs: Programs) -> list[str]:
     """The packages of the programs that aren't installed."""
     folders = [*os.get_exec_path(), "/usr/sbin", "/sbin"]
-    there = {name for name in programs if any(os.access(os.path.join(folder, name), os.X_OK) for folder in folders)}
+    there = {name for name in programs if os.path.isabs(name) and os.path.exists(name)
+             or any(os.access(os.path.join(folder, name), os.X_OK) for folder in folders)}
     return sorted({package for name, package in programs.items() if name not in there})
 
 

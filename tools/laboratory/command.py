@@ -9,23 +9,28 @@ import os
 import shutil
 import sys
 import time
-from collections.abc import Iterable, Sequence
+from collections.abc import Callable, Sequence
 
 from deploying import folders
 from deploying.addresses import Addresses
+from deploying.command import MOST_PATHS
 from deploying.map_reader import read_maps
 from deploying.maps import maps_text
+from deploying.plans import Choices
 from texts.faults import Fault
+from texts.policy import cut
 from texts.scenario import Scenario
 from texts.topology import Topology
 
 from . import enclosure
-from .commands import Broken, propane, ran, read, write
+from .commands import TOOLS, Broken, propane, ran, read, write
 from .network import Inputs, Network
-from .questions import Answer, Texts, compare
+from .questions import Texts
 from .scenarios import asked_prefixes, scenario_of, single_failures
+from .trials import Trials, differing, run_scenarios, say
 
 AGREES, DIFFERS, BROKEN = 0, 1, 2
+ENDED = (".ctl", ".vty", ".api", ".pid")  # what says nothing once the daemons are gone
 NOTHING = Scenario("")
 
 
@@ -37,14 +42,29 @@ def words_of(arguments: Sequence[str], usage: str) -> argparse.Namespace:
     parser.add_argument("--patience", type=float, default=180, metavar="SECONDS",
                         help="for which a network that isn't quiet, or differs, may still change (180)")
     parser.add_argument("--keep", metavar="FOLDER", help="a folder for all that is written, recorded and logged")
+    parser.add_argument("--paths", type=number_up_to(MOST_PATHS), default=1, metavar="N",
+                        help="next hops over which packets are spread, as tools/deploy takes it (1)")
+    parser.add_argument("--stop", type=number_up_to(1_000_000), metavar="N", help="end once N scenarios have differed")
     for word in ("topology", "policy"):
         parser.add_argument(word)
     parser.add_argument("scenarios", nargs="*", metavar="scenario")
     words = parser.parse_args(arguments)
-    for path in (words.topology, words.policy, *words.scenarios, words.addresses, words.files, words.keep):
-        if path and os.path.abspath(path).startswith("/run/"):
+    named = words.topology, words.policy, *words.scenarios, words.addresses, words.files, words.keep
+    for path in (*named, TOOLS, os.environ.get("PROGRAM")):
+        if path and os.path.realpath(path).startswith("/run/"):
             parser.error(f"{path}: the lab has a /run of its own")
     return words
+
+
+def number_up_to(most: int) -> Callable[[str], int]:
+    """Reads a whole number from 1 on."""
+
+    def number(text: str) -> int:
+        if not text.isascii() or not text.isdigit() or not 1 <= int(text) <= most:
+            raise argparse.ArgumentTypeError(f"no number from 1 to {most}: {text}")
+        return int(text)
+
+    return number
 
 
 def made_addresses(topology: Topology) -> str:
@@ -69,10 +89,10 @@ def deployed(inputs: Inputs, frr: set[str], given: str | None, folder: str) -> N
     """Puts the file of each router into the folder: the given one, or the one that is written for it; `inputs.files` tells which.
 
     Each is tried by its daemon's own check."""
-    for router in inputs.topology.routers:
+    for router in inputs.described.topology.routers:
         daemon = folders.FRR if router.name in frr else folders.BIRD
         file = os.path.join(folder, router.name + daemon.ending)
-        folders.write_files(daemon, inputs.topology, inputs.maps, inputs.addresses, folder, [router.name])
+        folders.write_files(daemon, inputs.described, inputs.maps, folder, [router.name])
         if given and os.path.exists(os.path.join(given, router.name + daemon.ending)):
             shutil.copyfile(os.path.join(given, router.name + daemon.ending), file)
         ran(*(["vtysh", "-C", "-f"] if router.name in frr else ["bird", "-p", "-c"]), file)
@@ -85,43 +105,11 @@ def loaded(texts: Texts, network: Network, folder: str) -> str:
     for name, file in network.inputs.files.items():
         write(os.path.join(folder, os.path.basename(file)), network.daemons[name].loaded(file))
     try:
-        text = maps_text(network.topology, folders.read_back(network.topology, network.addresses, folder))
+        text = maps_text(network.topology, folders.read_back(network.inputs.described, folder))
     except (folders.Drift, Fault) as drift:
         return "\n  ".join(["differ", *str(drift).splitlines()])
     write(os.path.join(folder, "maps"), text)
     return propane("checkmap", texts.config, os.path.join(folder, "maps"), status=(0, 7)).strip()
-
-
-def examined(network: Network, texts: Texts, scenario: Scenario, folder: str, patience: float) -> Answer:
-    """What differs in a scenario once nothing moves any more. Daemons may be slow: what differs is asked again for a while."""
-    end = time.monotonic() + patience
-    if not scenario.fails_as(network.now):
-        network.make(scenario)
-    unquiet = [] if network.is_quiet else network.settle(end)
-    answer = compare(network, texts, scenario, folder)
-    while (unquiet or answer.faults) and time.monotonic() < end:
-        unquiet = network.settle(end)
-        answer = compare(network, texts, scenario, folder)
-    answer.faults[:0] = unquiet
-    return answer
-
-
-def say(line: str) -> None:
-    print(line, flush=True)
-
-
-def run_scenarios(texts: Texts, network: Network, scenarios: Iterable[Scenario], folder: str, patience: float) -> list[Answer]:
-    """Makes the failures of each scenario, and tells what comes of it. Returns the answers."""
-    answers = []
-    for place, scenario in enumerate(scenarios, 1):
-        began = time.monotonic()
-        answer = examined(network, texts, scenario, os.path.join(folder, str(place)), patience)
-        answers.append(answer)
-        say(f"{scenario.name}, {scenario.prefix}: paths {answer.paths} offers {answer.offers} next hops {answer.next_hops}: "
-            f"{'DIFFERS' if answer.faults else 'agrees'} ({time.monotonic() - began:.1f} s)")
-        for fault in answer.faults:
-            say(f"  {fault}")
-    return answers
 
 
 def run(words: argparse.Namespace, folder: str) -> int:
@@ -132,7 +120,8 @@ def run(words: argparse.Namespace, folder: str) -> int:
     frr = frr_routers(topology, words.frr, words.files)
     scenarios = [scenario_of(texts.topology, texts.policy, path) for path in words.scenarios] \
         or single_failures(topology, asked_prefixes(maps))
-    inputs = Inputs(topology, maps, addresses, {})
+    choices = Choices.of(words.paths, cut(read(texts.policy).encode()), topology)
+    inputs = Inputs(folders.Described(topology, addresses, choices), maps, {})
     deployed(inputs, frr, words.files, os.path.join(folder, "deployed"))
     network = Network(inputs, frr, [scenario.prefix for scenario in scenarios], os.path.join(folder, "run"))
     say(f"routers {len(topology.routers)}, of them FRR {len(frr)}, peers {len(topology.peers)}, links {len(topology.links)}")
@@ -141,11 +130,23 @@ def run(words: argparse.Namespace, folder: str) -> int:
     network.settle(time.monotonic() + words.patience)
     verdict = loaded(texts, network, os.path.join(folder, "loaded"))
     say(f"maps as they stand on the routers: {verdict}")
-    answers = run_scenarios(texts, network, scenarios, folder, words.patience)
-    differing = sum(bool(answer.faults) for answer in answers)
-    sums = [sum(getattr(answer, part) for answer in answers) for part in ("paths", "offers", "next_hops")]
-    say(f"scenarios {len(answers)} paths {sums[0]} offers {sums[1]} next hops {sums[2]} differing {differing}")
-    return AGREES if verdict == "same" and not differing else DIFFERS
+    answers = run_scenarios(Trials(network, texts, folder, words.patience), scenarios, words.stop)
+    sums = {part: sum(getattr(answer, part.replace(" ", "_")) for answer in answers) for part in ("paths", "offers", "next hops", "flows")}
+    said = " ".join(f"{part} {number}" for part, number in sums.items() if part != "flows" or words.paths > 1)
+    say(f"scenarios {len(answers)} {said} differing {differing(answers)}")
+    return AGREES if verdict == "same" and not differing(answers) else DIFFERS
+
+
+def kept(folder: str, into: str) -> None:
+    """Copies all that a lab has written. There are passwords in it, so nobody but its owner is to read it; what else is there stays."""
+    os.umask(0o077)
+    for at, _, names in os.walk(folder):
+        there = os.path.join(into, os.path.relpath(at, folder))
+        os.makedirs(there, exist_ok=True)
+        for name in names:
+            if not name.endswith(ENDED):
+                shutil.copyfile(os.path.join(at, name), os.path.join(there, name))
+                os.chmod(os.path.join(there, name), 0o600)
 
 
 def main(arguments: Sequence[str], usage: str) -> int:
@@ -159,8 +160,7 @@ def main(arguments: Sequence[str], usage: str) -> int:
             return run(words, enclosure.HERE)
         finally:
             if words.keep:
-                shutil.copytree(enclosure.HERE, words.keep, dirs_exist_ok=True,
-                                ignore=shutil.ignore_patterns("*.ctl", "*.vty", "*.api", "*.pid"))
+                kept(enclosure.HERE, words.keep)
     except (Broken, Fault, enclosure.Stopped, OSError) as error:
         sys.stderr.write(f"lab: {error}\n")
         return BROKEN

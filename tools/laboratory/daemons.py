@@ -6,6 +6,7 @@ import json
 import os
 import re
 import shutil
+import signal
 import socket
 import subprocess
 from typing import Any
@@ -18,11 +19,11 @@ FRR = os.environ.get("FRR_DAEMONS", "/usr/lib/frr")
 class Daemon:
     """The processes of a site, with a folder for their files.
 
-    `ending` is that of recorded answers, and `forget` what the kernel is told once the processes are gone.
+    `ending` is that of recorded answers, and `forget` what the kernel is told to flush once the processes are gone.
     """
 
     ending: str
-    forget: tuple[str, ...]
+    forget: tuple[tuple[str, ...], ...]
 
     def __init__(self, space: str, folder: str) -> None:
         self.space, self.folder = space, folder
@@ -53,7 +54,18 @@ class Daemon:
             process.kill()
             process.wait()
         self.running = []
-        ran("ip", "-n", self.space, *self.forget)
+        for words in self.forget:
+            ran("ip", "-n", self.space, words[0], "flush", *words[1:])
+
+    def hold(self) -> None:
+        """Nothing that is told reaches the processes until they go on."""
+        for process in self.running:
+            process.send_signal(signal.SIGSTOP)
+
+    def go_on(self) -> None:
+        """Ends a hold."""
+        for process in self.running:
+            process.send_signal(signal.SIGCONT)
 
     def start(self, file: str) -> None:
         """Begins with a file as the configuration."""
@@ -76,7 +88,7 @@ class Bird(Daemon):
     """BIRD 2, with a file as its configuration."""
 
     ending = ".bird"
-    forget = "route", "flush", "proto", "bird"
+    forget = (("route", "proto", "bird"),)
 
     def start(self, file: str) -> None:
         with contextlib.suppress(FileNotFoundError):
@@ -135,7 +147,8 @@ class Frr(Daemon):
     """The daemons of FRR that BGP needs. `names` has the neighbour's name for each address or interface of a session."""
 
     ending = ".frr"
-    forget = "nexthop", "flush"  # zebra's routes are over its next hops, and go with them
+    # zebra's routes go with its next hops, where it has put these into the kernel, and else stay
+    forget = (("nexthop",), ("route", "proto", "bgp"), ("route", "proto", "static"))
 
     def __init__(self, space: str, folder: str, names: dict[str, str]) -> None:
         super().__init__(space, folder)
@@ -149,9 +162,11 @@ class Frr(Daemon):
         write(self.path("vtysh.conf"), "")
         for path in (self.folder, self.path("frr.conf")):
             shutil.chown(path, "frr", "frr")
-        for name in ("mgmtd", "zebra", "staticd", "bgpd"):  # mgmtd came with FRR 9
+        asked = ["-M", "rpki"] if "\nrpki\n" in read(file) else []
+        for name in ("mgmtd", "zebra", "staticd", "bfdd", "bgpd"):  # mgmtd came with FRR 9
             if os.path.exists(f"{FRR}/{name}"):
-                self.spawn(name, f"{name}.vty", f"{FRR}/{name}", "-u", "frr", "-g", "frr", "-i", self.path(f"{name}.pid"),
+                more = asked if name == "bgpd" else []
+                self.spawn(name, f"{name}.vty", f"{FRR}/{name}", *more, "-u", "frr", "-g", "frr", "-i", self.path(f"{name}.pid"),
                            "-z", self.path("zserv.api"), "--vty_socket", self.folder, "-P", "0", "--log", "stdout")
         self.vtysh("-b")
 

@@ -6,19 +6,25 @@ import os
 import time
 from collections.abc import Collection, Iterable, Mapping
 from concurrent.futures import ThreadPoolExecutor
-from dataclasses import dataclass
+from dataclasses import dataclass, replace
 from typing import Any
 
-from deploying.addresses import Addresses
+from deploying.folders import Described
 from deploying.maps import Maps
 from deploying.plans import session_of
 from texts.scenario import Scenario
-from texts.topology import Site, Topology
+from texts.topology import Site
 
+from . import spaces
 from .commands import ran, write
 from .daemons import Bird, Daemon, Frr
-from .peers import peer_text
+from .origins import Origins
+from .peers import numbers_behind, peer_text
 
+# What the system of a router does with packets: it hands them on, spreads flows by their ports, and leaves a next hop out at once that
+# nobody is behind.
+ROUTING = {"ip_forward": 1, "fib_multipath_hash_policy": 1, "conf/all/ignore_routes_with_linkdown": 1, "conf/all/rp_filter": 0,
+           "conf/default/rp_filter": 0}
 CALM = 2  # seconds without a change that count as quiet
 POLL = 0.5
 AT_ONCE = 8  # daemons that are begun at once
@@ -26,11 +32,10 @@ AT_ONCE = 8  # daemons that are begun at once
 
 @dataclass(frozen=True)
 class Inputs:
-    """A network with its maps and addresses, and the file that each router loads, by name."""
+    """A network with its maps, and the file that each router loads, by name."""
 
-    topology: Topology
+    described: Described
     maps: Maps
-    addresses: Addresses
     files: dict[str, str]
 
 
@@ -38,7 +43,8 @@ class Network:
     """A namespace and a daemon for each site, called as the site is. `now` says what fails, `is_quiet` that quiet has come since."""
 
     def __init__(self, inputs: Inputs, frr: Collection[str], prefixes: Iterable[str], folder: str) -> None:
-        self.inputs, self.topology, self.addresses, self.folder = inputs, inputs.topology, inputs.addresses, folder
+        self.inputs, self.folder = inputs, folder
+        self.topology, self.addresses = inputs.described.topology, inputs.described.addresses
         own = {network.prefix for router in inputs.maps.routers.values() for network in router.networks}
         self.announced = sorted(set(prefixes) - own)
         self.routers = {site.name: self.daemon(site, site.name in frr) for site in self.topology.routers}
@@ -60,22 +66,41 @@ class Network:
         return self.addresses.wire(site, other).interfaces.get(site) or f"to{self.topology.place[other]}"
 
     def lay(self) -> None:
-        for space in self.topology.sites:
+        for space, kind in self.topology.sites.items():
             ran("ip", "netns", "add", space)
             ran("ip", "-n", space, "link", "set", "lo", "up")
+            with spaces.inside(space):
+                spaces.set_up({} if kind.is_peer else ROUTING)
         for one, two in self.topology.links:
             ran("ip", "link", "add", "name", self.interface(one, two), "netns", one, "type", "veth",
                 "peer", "name", self.interface(two, one), "netns", two)
             for site, other in ((one, two), (two, one)):
-                at = self.addresses.wire(one, two).addresses
+                at, inner = self.addresses.wire(one, two).addresses, self.addresses.wire(one, two).link_locals
+                if inner:
+                    ran("ip", "-n", site, "link", "set", self.interface(site, other), "addrgenmode", "none")
+                    ran("ip", "-n", site, "addr", "add", f"{inner[site]}/64", "dev", self.interface(site, other), "nodad")
                 if at:
                     ran("ip", "-n", site, "addr", "add", at[site], "peer", at[other], "dev", self.interface(site, other))
                 ran("ip", "-n", site, "link", "set", self.interface(site, other), "up")
+        for router in self.topology.routers:
+            if any(router.name in wire.interfaces for wire in self.addresses.wires.values()) and router.id not in self.addresses.owners:
+                ran("ip", "-n", router.name, "addr", "add", f"{router.id}/32", "dev", "lo")  # from which its own packets come
+        if self.addresses.rpki:
+            right, _ = numbers_behind(self.topology, self.addresses)
+            Origins(self.addresses.rpki, [router.name for router in self.topology.routers], self.announced, right)
 
     def set_link(self, link: frozenset[str], word: str) -> None:
         """One end goes `up` or `down`; the other one sees whether somebody is there."""
         one, two = sorted(link)
         ran("ip", "-n", one, "link", "set", self.interface(one, two), word)
+
+    def asked(self, scenario: Scenario) -> Scenario:
+        """A scenario as the program is asked for it: a session that is shut is a dead link, and over a session that takes no prefix of this
+        length a peer is silent."""
+        wires = self.addresses.wires.items()
+        shut = frozenset(link for link, wire in wires if wire.shut)
+        long = frozenset(link for link, wire in wires if not wire.takes(scenario.prefix))
+        return replace(scenario, dead_links=scenario.dead_links | shut, silent=scenario.silent | long)
 
     # ---- failures
 
@@ -154,13 +179,16 @@ class Network:
             ending, answer = (".bird", "Network not found\n") if is_dead else (daemon.ending, daemon.answer(prefix))
             write(os.path.join(folder, router.name + ending), answer)
 
-    def next_hop(self, router: str, prefix: str) -> str | None:
-        """Where the kernel of a router sends: a neighbour, `own` where it keeps what comes, `several`, or None."""
+    def next_hops(self, router: str, prefix: str) -> frozenset[str] | None:
+        """To whom the kernel of a router sends: neighbours, nobody where it keeps what comes, None where it has no route."""
         routes: list[dict[str, Any]] = json.loads(ran("ip", "-n", router, "-json", "route", "show", "exact", prefix) or "[]")
         if not routes:
             return None
         best = min(routes, key=lambda route: int(route.get("metric", 0)))
-        if "nexthops" in best:
-            return "several"
+        hops = [hop for hop in best.get("nexthops", [best]) if not {"dead", "linkdown"} & set(hop.get("flags", []))]
+        return frozenset(self.behind(router, hop["dev"]) for hop in hops if hop.get("dev", "lo") != "lo")
+
+    def behind(self, router: str, interface: str) -> str:
+        """The neighbour behind an interface of a router; the interface, where none is."""
         others = {self.interface(router, site.name): site.name for site in self.topology.neighbours(router)}
-        return others.get(best.get("dev", ""), "own")
+        return others.get(interface, interface)

@@ -2,7 +2,8 @@
 
 Their paths go on behind them. They announce with the network's own tags and with communities that routers act upon by themselves
 (graceful shutdown, blackhole, no export), claim the network's own prefixes, and hand on what they hear. Over a silent session they
-announce nothing, or a path with another router's number on it, which is to be refused. And they note, whenever it comes, what no
+announce nothing, or a path with another router's number on it, which is to be refused; where a cache of RPKI's is asked, they announce
+an origin that it says is wrong. And they note, whenever it comes, what no
 peer is ever to hear: another prefix than the network's own, a path of more than one number, a community.
 """
 from __future__ import annotations
@@ -25,14 +26,15 @@ WRONG = "wrongly heard"  # what a peer notes of a route that it should never hav
 def peer_text(topology: Topology, maps: Maps, addresses: Addresses, site: Site, announced: Sequence[str], silent: Pairs) -> str:
     """The file of a peer that announces these prefixes, but over the links `silent`."""
     claimed = sorted({network.prefix for router in maps.routers.values() for network in router.networks})
-    parts = ["log stderr all;", f"router id {site.id};", "protocol device {}", static_text("announced", announced, "ipv4;"),
-             static_text("claimed", claimed, "ipv4 { preference 1; };"), heard_text(claimed)]
+    parts = ["log stderr all;", f"router id {site.id};", "protocol device {}", "protocol bfd {}",
+             static_text("announced", announced, "ipv4;"), static_text("claimed", claimed, "ipv4 { preference 1; };"), heard_text(claimed)]
     for router in topology.neighbours(site.name):
         session = session_of(addresses, site, router)
         if not session.mine:
             raise Broken(f"the peer {site.name} needs addresses: its daemon is BIRD")
-        silence = silence_of(topology, router) if frozenset((site.name, router.name)) in silent else ""
-        parts += [filter_text(router.name, known_tags(maps), silence, number_behind(topology, addresses)),
+        is_silent, (behind, unknown) = frozenset((site.name, router.name)) in silent, numbers_behind(topology, addresses)
+        silence = silence_of(topology, router) if is_silent and not addresses.rpki else ""
+        parts += [filter_text(router.name, known_tags(maps), silence, unknown if is_silent and addresses.rpki else behind),
                   protocol_text(session, addresses.public_as or router.asn)]
     return "\n".join(parts) + "\n"
 
@@ -61,10 +63,11 @@ def silence_of(topology: Topology, router: Site) -> str:
     return "reject;" if place % 2 else f"bgp_path.prepend({numbers[(place + 1) % len(numbers)]});"
 
 
-def number_behind(topology: Topology, addresses: Addresses) -> int:
-    """An AS number that none of the network has."""
+def numbers_behind(topology: Topology, addresses: Addresses) -> tuple[int, int]:
+    """Two AS numbers that none of the network has: what peers announce begins at the first, and at the second where that is wrong."""
     taken = {site.asn for site in topology.sites.values()} | {addresses.public_as}
-    return next(number for number in itertools.count(3356) if number not in taken)
+    first, second = itertools.islice((number for number in itertools.count(3356) if number not in taken), 2)
+    return first, second
 
 
 def filter_text(name: str, tags: Sequence[Tag], silence: str, behind: int) -> str:
@@ -81,7 +84,8 @@ def protocol_text(session: Session, asn: int) -> str:
     name, wire = session.neighbour.name, session.wire
     lines = [f"protocol bgp 'bgp:{name}' {{", f"  local {session.mine} as {session.asn}; neighbor {session.theirs} as {asn};",
              f"  multihop {wire.hops};" if wire.hops > 1 else "  check link on;", "  ttl security on;" if wire.ttl_security else "",
-             f"  password \"{wire.password}\";" if wire.password else "", f"  hold time {wire.hold};" if wire.hold else "",
+             "  bfd on;" if wire.bfd else "", f"  password \"{wire.password}\";" if wire.password else "",
+             f"  hold time {wire.hold};" if wire.hold else "",
              "  connect delay time 1; connect retry time 2; error wait time 2, 4;",
              f"  ipv4 {{ import filter heard; export filter 'out:{name}'; }};", "}"]
     return "\n".join(filter(None, lines))

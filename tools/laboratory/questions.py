@@ -2,18 +2,20 @@
 from __future__ import annotations
 
 import os
+import subprocess
 from collections.abc import Collection, Iterator, Mapping
-from dataclasses import dataclass
-from typing import Union
+from dataclasses import dataclass, field
+from typing import Optional, Union
 
 from texts.scenario import Scenario
 
-from .commands import TOOLS, propane, ran, write
+from .commands import SLOW, TOOLS, propane, write
 from .network import Network
 from .peers import WRONG
 
 Path = Union[list[str], str]  # or the word in its place
 Offers = dict[tuple[str, str], list[str]]  # by router and peer
+Hops = dict[str, Optional[frozenset[str]]]  # by router: nobody where it is an origin, None where it has no route
 
 
 @dataclass(frozen=True)
@@ -36,12 +38,14 @@ class Texts:
 
 @dataclass
 class Answer:
-    """What doesn't agree, as lines, and how much was asked."""
+    """What doesn't agree, as lines, and how much was asked. `hops` has the next hops that each router may use."""
 
     faults: list[str]
-    paths: int
-    offers: int
-    next_hops: int
+    paths: int = 0
+    offers: int = 0
+    next_hops: int = 0
+    hops: Hops = field(default_factory=dict)
+    flows: int = 0
 
 
 def compare(network: Network, texts: Texts, scenario: Scenario, folder: str) -> Answer:
@@ -49,16 +53,41 @@ def compare(network: Network, texts: Texts, scenario: Scenario, folder: str) -> 
     network.record(folder, scenario.prefix)
     path, tables = os.path.join(folder, "scenario.json"), os.path.join(folder, "tables.json")
     write(path, scenario.text())
-    write(tables, ran(os.path.join(TOOLS, "tables"), texts.topology, folder))
     replay = propane("replay", texts.topology, texts.policy, path)
-    audit = propane("audit", texts.topology, texts.policy, texts.config, texts.evidence, path, tables, status=(0, 7))
     write(os.path.join(folder, "replay.txt"), replay)
-    write(os.path.join(folder, "audit.txt"), audit)
     paths, offers = told_by(replay)
     peers = [(peer, router.name) for peer in network.live_peers() for router in network.topology.neighbours(peer)]
-    faults = [*different(replay, audit), *peer_faults(network, offers, peers, scenario.prefix),
-              *kernel_faults(network, paths, scenario.prefix)]
-    return Answer(faults, len(paths), len(peers), len(network.live_routers()))
+    hops = next_hops(network, texts, paths, path)
+    faults = [*table_faults(texts, replay, path, tables, folder), *peer_faults(network, offers, peers, scenario.prefix),
+              *kernel_faults(network, hops, scenario.prefix)]
+    return Answer(faults, len(paths), len(peers), len(network.live_routers()), hops)
+
+
+def table_faults(texts: Texts, replay: str, scenario: str, tables: str, folder: str) -> Iterator[str]:
+    """What an audit says of the routes that were recorded in the folder, where that isn't what a replay says."""
+    made = subprocess.run([os.path.join(TOOLS, "tables"), texts.topology, folder], stdin=subprocess.DEVNULL, capture_output=True, text=True,
+                          timeout=SLOW, check=False)
+    if made.returncode:
+        yield made.stderr.strip()
+        return
+    write(tables, made.stdout)
+    audit = propane("audit", texts.topology, texts.policy, texts.config, texts.evidence, scenario, tables, status=(0, 7))
+    write(os.path.join(folder, "audit.txt"), audit)
+    yield from different(replay, audit)
+
+
+def next_hops(network: Network, texts: Texts, paths: Mapping[str, Path], scenario: str) -> Hops:
+    """The next hops that each router may use: the second place of its path, or all of its multipath set."""
+    hops: Hops = {name: frozenset(path[1:2]) if isinstance(path, list) else frozenset() if path == "origin" else None
+                  for name, path in paths.items()}
+    if network.inputs.described.choices.paths == 1:
+        return hops
+    told = propane("multipath", texts.topology, texts.policy, scenario)
+    write(os.path.join(os.path.dirname(scenario), "multipath.txt"), told)
+    for words in map(str.split, told.splitlines()):
+        if words[0] == "router" and "next" in words[2:]:
+            hops[words[1]] = frozenset(words[words.index("next", 2) + 1:])
+    return hops
 
 
 def told_by(replay: str) -> tuple[dict[str, Path], Offers]:
@@ -99,11 +128,16 @@ def peer_faults(network: Network, offers: Offers, peers: Collection[tuple[str, s
                 yield f"peer {peer} hears of {router} the path {told[0]} {' '.join(told[1])}, and is to hear {shown} alone"
 
 
-def kernel_faults(network: Network, paths: Mapping[str, Path], prefix: str) -> Iterator[str]:
-    """The kernel of a router sends to the second of its path."""
+def kernel_faults(network: Network, hops: Hops, prefix: str) -> Iterator[str]:
+    """The kernel of a router sends to all next hops that it may use, or to as many as its file allows."""
+    most = network.inputs.described.choices.paths
     for name in network.live_routers():
-        path = paths[name]
-        wanted = path[1] if isinstance(path, list) else {"origin": "own", "none": None}[path]
-        found = network.next_hop(name, prefix)
-        if found != wanted:
-            yield f"kernel of {name} sends to {found}, and is to send to {wanted}"
+        found, wanted = network.next_hops(name, prefix), hops[name]
+        fits = found is not None and wanted is not None and found <= wanted and len(found) == min(most, len(wanted))
+        if not fits and (found is not None or wanted is not None):
+            yield f"kernel of {name} sends to {hops_text(found)}, and is to send to {hops_text(wanted)}"
+
+
+def hops_text(hops: frozenset[str] | None) -> str:
+    """Next hops in a message."""
+    return "None" if hops is None else " ".join(sorted(hops)) or "own"

@@ -2,6 +2,7 @@
 _propane() {
     local at=1
     [ "${COMP_WORDS[1]}" != --output ] || at=3
+    [ "${COMP_WORDS[1]}" != --json ] || at=2
     COMPREPLY=()
     if [ "$COMP_CWORD" -eq "$at" ]; then
         mapfile -t COMPREPLY < <(compgen -W "@COMMANDS@ @OPTIONS@" -- "${COMP_WORDS[COMP_CWORD]}")

@@ -7,8 +7,9 @@ _propane() {
 @DESCRIBED@
     )
     [[ $words[2] != --output ]] || at=4
+    [[ $words[2] != --json ]] || at=3
     if (( CURRENT == at )); then
-        (( at == 4 )) || commands+=('--output:write a file in one step, on status 0 alone')
+        (( at > 2 )) || commands+=('--output:write a file in one step, on status 0 alone' '--json:write a report as JSON')
         _describe command commands
     elif (( CURRENT == at + 1 )) && [[ $words[at] == help ]]; then
         _describe command commands

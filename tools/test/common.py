@@ -9,6 +9,12 @@ TOP = os.path.dirname(os.path.dirname(os.path.dirname(os.path.abspath(__file__))
 PROGRAM = os.path.abspath(os.environ.get("PROGRAM", os.path.join(TOP, "crates", "propane_cli", "out", "propane_cli")))
 
 
+def example_folders():
+    """The folders of examples/."""
+    folders = os.path.join(TOP, "examples")
+    return [name for name in sorted(os.listdir(folders)) if os.path.isdir(os.path.join(folders, name))]
+
+
 def tool(name):
     """A script of tools/ as a module."""
     loader = importlib.machinery.SourceFileLoader(name, os.path.join(TOP, "tools", name))

@@ -12,11 +12,14 @@ from contextlib import redirect_stderr, redirect_stdout
 sys.dont_write_bytecode = True
 HERE = os.path.dirname(os.path.abspath(__file__))
 TOP = os.path.dirname(os.path.dirname(HERE))
-sys.path.insert(0, os.path.join(TOP, "tools"))
+sys.path[:0] = [os.path.join(TOP, "tools"), HERE]
 
+from common import ended  # noqa: E402
 from deploying.command import main  # noqa: E402
 from deploying.maps import Row  # noqa: E402
-from laboratory.questions import different, told_by  # noqa: E402
+from laboratory import origins, packets, trials  # noqa: E402
+from laboratory.command import kept, words_of  # noqa: E402
+from laboratory.questions import Answer, different, told_by  # noqa: E402
 from laboratory.scenarios import permitted, single_failures  # noqa: E402
 from texts.topology import Topology  # noqa: E402
 
@@ -46,6 +49,9 @@ ADDRESS_FAULTS = [
     (SHORT, SHORT + ',"interfaces":["a","b"]', "links place 1: an entry has either `addresses` or `interfaces`"),
     (SHORT, '"interfaces":["a","b c"]', 'links place 1: `interfaces`: no name of an interface: "b c"'),
     (SHORT, '"interfaces":["a","b"],"hops":2', "links place 1: `hops`: a session over interfaces has one"),
+    (SHORT, SHORT + ',"link_locals":["fe80::1","fe80::2"]', "links place 1: `link_locals` are for a session over `interfaces`"),
+    (SHORT, '"interfaces":["a","b"],"link_locals":["fe80::1","10.0.0.1"]', 'links place 1: `link_locals`: no link-local address: "10.0.0.1"'),
+    (SHORT, '"interfaces":["a","b"],"link_locals":["fe80::1","fe80::0:2"]', 'links place 1: `link_locals`: no link-local address: "fe80::0:2"'),
     (SHORT, '"addresses":["10.0.0.0"]', "links place 1: `addresses` is no array of two texts"),
     (SHORT, '"addresses":["10.0.0.0","10.0.0.0"]', 'links place 1: `addresses` has one text twice: "10.0.0.0"'),
     (SHORT, '"addresses":["10.0.0.0","10.0.0.01"]', 'links place 1: `addresses`: no IPv4 address: "10.0.0.01"'),
@@ -56,6 +62,15 @@ ADDRESS_FAULTS = [
     (SHORT, SHORT + ',"hold":1.5', "links place 1: `hold` is no number from 3 to 65535: 1.5"),
     (SHORT, SHORT + ',"ttl_security":1', "links place 1: `ttl_security` is neither true nor false"),
     (ODD, '"addresses":["198.51.100.2","10.0.0.0"]', "links place 2: `addresses`: 10.0.0.0 is the address of R1 already"),
+    (SHORT, SHORT + ',"bfd":1', "links place 1: `bfd` is neither true nor false"),
+    (SHORT, SHORT + ',"shut":"yes"', "links place 1: `shut` is neither true nor false"),
+    (SHORT, SHORT + ',"longest":24', "links place 1: `longest` is for a link with a peer"),
+    (SHORT, SHORT + ',"most_prefixes":24', "links place 1: `most_prefixes` is for a link with a peer"),
+    (ODD, ODD + ',"longest":32', "links place 2: `longest` is no number from 1 to 31: 32"),
+    (ODD, ODD + ',"most_prefixes":0', "links place 2: `most_prefixes` is no number from 1 to 4294967295: 0"),
+    ('"public_as"', '"rpki":7,"public_as"', "rpki: no object"),
+    ('"public_as"', '"rpki":{"address":"192.0.2"},"public_as"', 'rpki: address: no IPv4 address: "192.0.2"'),
+    ('"public_as"', '"rpki":{"address":"192.0.2.9","port":0},"public_as"', "addresses: `port` is no number from 1 to 65535: 0"),
     ('["R1","P1"]', '["R1","P2"]', 'links place 2: no link of the topology: ["R1", "P2"]'),
     ('["R1","P1"]', '["R2","R1"]', "links place 2: the link R2 R1 has an entry already"),
     ('["R1","P1"]', '["R1","R1"]', 'links place 2: `ends` has one text twice: "R1"'),
@@ -106,6 +121,19 @@ DRIFT = [
     ("R2.frr.conf", " set local-preference 100\nexit\n!\nroute-map in-R1 deny", "exit\n!\nroute-map in-R1 deny",
      "R2: R2.frr.conf: line 21: route-map in-R1 permit 20: no entry as it would be written"),
     ("R2.frr.conf", "list-1 seq 5 permit 0.0.0.0/0", "list-1 seq 5 permit 10.0.0.0/8", "R2: R2.frr.conf: list 1 isn't that of R1"),
+]
+
+
+# Lines of R1's file for optional keys, by daemon.
+BIRD_ADDED = [
+    "roa4 table 'own:origins';", "  remote 192.0.2.9 port 3323;", "protocol bfd 'own:bfd' {", "  bfd on;", "  if net.len > 24 then reject;",
+    "  if roa_check('own:origins', net, bgp_path.last_nonaggregated) = ROA_INVALID then reject;", "    import limit 1000 action disable;",
+    "  # The session is shut: nothing is taken and nothing is sent.",
+]
+FRR_ADDED = [
+    " rpki cache 192.0.2.9 3323 preference 1", "ip prefix-list longer-24 seq 5 permit 0.0.0.0/0 ge 25", "route-map in-P1 deny 1",
+    "route-map out-P1 deny 1", "route-map in-P1 deny 6", " match ip address prefix-list longer-24", "route-map in-P1 deny 7", " match rpki invalid",
+    " neighbor 10.0.0.1 bfd", "  neighbor 198.51.100.1 maximum-prefix 1000",
 ]
 
 
@@ -165,7 +193,19 @@ class Deploying(unittest.TestCase):
                 self.assertEqual(deploy(kind, *words, folder), (0, "", ""))
                 self.assertEqual(deploy("--read", words[0], words[2], folder), (0, text_of(words[1]), ""))
 
-    def test_sessions_over_interfaces_are_for_frr(self):
+    def test_sessions_over_interfaces(self):
+        """FRR finds the neighbour by itself; BIRD is told its link-local address."""
+        words = [os.path.join(TOP, "examples", "ring", name) for name in ("topology.json", "routemap.stdout", "link-local.json")]
+        for kind, ending, wanted in (("--frr", "frr", [" neighbor swp1 interface remote-as 4200000002"]),
+                                     ("--bird", "bird", ["  local fe80::1 as 4200000001;", "  neighbor fe80::2%'swp1' as 4200000002;",
+                                                         "    extended next hop on;", "protocol radv 'own:radv' {"])):
+            folder = tempfile.mkdtemp(dir=self.folder)
+            self.assertEqual(deploy(kind, *words, folder), (0, "", ""))
+            found = text_of(os.path.join(folder, f"A.{ending}.conf")).splitlines()
+            self.assertEqual([line for line in wanted if line in found], wanted)
+            self.assertEqual(deploy("--read", words[0], words[2], folder), (0, text_of(words[1]), ""))
+
+    def test_sessions_over_interfaces_alone_are_for_frr(self):
         words = [os.path.join(TOP, "examples", "ring", name) for name in ("topology.json", "routemap.stdout", "unnumbered.json")]
         self.assertEqual(deploy("--frr", *words, self.folder), (0, "", ""))
         self.assertIn(" neighbor swp1 interface remote-as 4200000002\n", text_of(os.path.join(self.folder, "A.frr.conf")))
@@ -194,6 +234,76 @@ class Deploying(unittest.TestCase):
         put(self.folder, "R2.frr.conf", more + text_of(os.path.join(DEPLOYED, "R2.frr.conf")))
         shutil.copy(os.path.join(DEPLOYED, "R1.frr.conf"), self.folder)
         self.assertEqual(deploy("--read", TOPOLOGY, ADDRESSES, self.folder), (0, text_of(MAPS), ""))
+
+    def test_several_paths(self):
+        """What spreads packets stands in the files, is read back with the same words, and is drift with others."""
+        for kind, name, lines in (("--bird", "R1.bird.conf", ["  merge paths on limit 16;"]),
+                                  ("--frr", "R1.frr.conf", ["no zebra nexthop kernel enable", " bgp bestpath as-path multipath-relax", "  maximum-paths 16"])):
+            folder = tempfile.mkdtemp(dir=self.folder)
+            self.assertEqual(deploy(kind, "--paths", "16", TOPOLOGY, MAPS, ADDRESSES, folder), (0, "", ""))
+            text = text_of(os.path.join(folder, name)).splitlines()
+            self.assertEqual([line for line in lines if line in text], lines)
+            self.assertEqual(deploy("--read", "--paths", "16", TOPOLOGY, ADDRESSES, folder), (0, text_of(MAPS), ""))
+            self.assertEqual(deploy("--read", TOPOLOGY, ADDRESSES, folder)[:2], (7, ""))
+            self.assertEqual(deploy("--read", "--paths", "2", TOPOLOGY, ADDRESSES, folder)[:2], (7, ""))
+            one = tempfile.mkdtemp(dir=self.folder)
+            self.assertEqual(deploy(kind, "--paths", "1", TOPOLOGY, MAPS, ADDRESSES, one), (0, "", ""))
+            self.assertEqual(deploy("--read", TOPOLOGY, ADDRESSES, one), (0, text_of(MAPS), ""))
+        for words in (["--paths"], ["--paths", "0"], ["--paths", "256"], ["--paths", "x"], ["--policy"]):
+            self.assertEqual(deploy("--bird", *words, TOPOLOGY, MAPS, ADDRESSES, self.folder), (2, "", "usage\n"))
+
+    def test_an_origin_at_which_no_path_ends(self):
+        """It holds its prefix without a tag, where the policy is given, and the maps are the same."""
+        maps, policy = os.path.join(self.folder, "maps"), os.path.join(self.folder, "policy")
+        lines = text_of(MAPS).replace("list 1 permit 0.0.0.0/0 le 32\n", "list 1 permit 10.0.1.0/24\nlist 2 permit 0.0.0.0/0 le 32\n", 1)
+        lines = lines.replace("list 1 match", "list 2 match").replace("list 1 set", "list 2 set")
+        text = lines.replace("id 10.255.0.1\n", "id 10.255.0.1\nnetwork 10.0.1.0/24 list 1 set 64512:0:7\n", 1)
+        put(self.folder, "maps", text)
+        put(self.folder, "policy", "define BOTH = { R1, R2 };\noriginate 10.0.1.0/24 at BOTH;\n10.0.1.0/24 => end(R1);\n")
+        for kind, ending, wanted in (("--bird", "bird", ["  if net = 10.0.1.0/24 then accept;", "  route 10.0.1.0/24 unreachable;"]),
+                                     ("--frr", "frr", ["  network 10.0.1.0/24", "ip route 10.0.1.0/24 blackhole 254"])):
+            folder = tempfile.mkdtemp(dir=self.folder)
+            self.assertEqual(deploy(kind, "--policy", policy, TOPOLOGY, maps, ADDRESSES, folder), (0, "", ""))
+            found = text_of(os.path.join(folder, f"R2.{ending}.conf")).splitlines()
+            self.assertEqual([line for line in wanted if line in found], wanted)
+            self.assertEqual(deploy("--read", "--policy", policy, TOPOLOGY, ADDRESSES, folder), (0, text, ""))
+            self.assertEqual(deploy("--read", TOPOLOGY, ADDRESSES, folder)[0], 7)
+        put(self.folder, "policy", "originate 10.0.1.0/24 at R2;\n10.0.1.0/24 => any;\n")
+        self.assertEqual(deploy("--bird", "--policy", policy, TOPOLOGY, maps, ADDRESSES, self.folder),
+                         (3, "", "deploy: policy: R1 doesn't originate 10.0.1.0/24, of which its maps say that it does\n"))
+
+    def test_what_an_operator_adds(self):
+        """Each optional key has its lines in the files of both daemons, is read back, and leaves the maps as they are."""
+        text = text_of(ADDRESSES).replace('{"public_as"', '{"rpki":{"address":"192.0.2.9","port":3323},"public_as"', 1)
+        text = text.replace(SHORT, SHORT + ',"bfd":true', 1).replace(ODD, ODD + ',"longest":24,"most_prefixes":1000,"shut":true', 1)
+        put(self.folder, "addresses", text)
+        addresses = os.path.join(self.folder, "addresses")
+        for kind, ending, wanted in (("--bird", "bird", BIRD_ADDED), ("--frr", "frr", FRR_ADDED)):
+            folder = tempfile.mkdtemp(dir=self.folder)
+            self.assertEqual(deploy(kind, TOPOLOGY, MAPS, addresses, folder), (0, "", ""))
+            found = text_of(os.path.join(folder, f"R1.{ending}.conf")).splitlines()
+            self.assertEqual([line for line in wanted if line in found], wanted)
+            self.assertEqual(deploy("--read", TOPOLOGY, addresses, folder), (0, text_of(MAPS), ""))
+            status, _, said = deploy("--read", TOPOLOGY, ADDRESSES, folder)
+            self.assertEqual(status, 7)
+            if kind == "--frr":
+                self.assertIn("route-map in-P1 deny 1: isn't as written", said)
+
+    def test_a_row_that_stands_twice(self):
+        """FRR drops the second one of a list, so it gets a list of its own, and is read back at its place."""
+        text = text_of(MAPS).replace("list 1 permit", "list 1 deny 10.0.0.0/8\nlist 1 deny 10.0.0.0/8\nlist 1 permit 10.0.0.0/8 le 9\nlist 1 permit", 1)
+        text = text.replace("list 1 permit 0.0.0.0/0 le 32\n", "list 1 permit 0.0.0.0/0 le 32\nlist 1 permit 10.0.0.0/8 le 9\n", 1)
+        put(self.folder, "maps", text)
+        maps = os.path.join(self.folder, "maps")
+        for kind in ("--bird", "--frr"):
+            folder = tempfile.mkdtemp(dir=self.folder)
+            self.assertEqual(deploy(kind, TOPOLOGY, maps, ADDRESSES, folder), (0, "", ""))
+            self.assertEqual(deploy("--read", TOPOLOGY, ADDRESSES, folder), (0, text, ""))
+        rows = [line for line in text_of(os.path.join(folder, "R1.frr.conf")).splitlines() if line.startswith("ip prefix-list ")]
+        self.assertEqual(rows, [
+            "ip prefix-list list-1 seq 5 deny 10.0.0.0/8", "ip prefix-list list-1-again-2 seq 10 deny 10.0.0.0/8",
+            "ip prefix-list list-1 seq 15 permit 10.0.0.0/8 le 9", "ip prefix-list list-1 seq 20 permit 0.0.0.0/0 le 32",
+            "ip prefix-list list-1-again-5 seq 25 permit 10.0.0.0/8 le 9"])
 
     def test_a_router_has_one_file(self):
         shutil.copy(os.path.join(DEPLOYED, "R1.frr.conf"), self.folder)
@@ -234,6 +344,48 @@ class Deploying(unittest.TestCase):
         self.assertEqual(deploy("--bird", text, MAPS, ADDRESSES, self.folder), (3, "", f"deploy: {text}: not UTF-8 at byte 1\n"))
 
 
+# A program that tells of a link what a test wants.
+STAND_IN = """#!/bin/sh
+case $1 in
+drain) printf 'prefix P\\nfree link R2 P2\\nfree 1 of 5\\n' ;;
+multipath) printf 'prefix P\\nidle link R2 P2\\nidle 1 of 3\\n' ;;
+replay) grep -q '"dead_links": .."P1", "R1"' "$4" && echo 'router R1 rank 2 path R1 R2 P2' || echo 'router R1 rank 1 path R1 P1' ;;
+*) exit 2 ;;
+esac
+"""
+
+
+class Shutting(unittest.TestCase):
+    def setUp(self):
+        room = tempfile.TemporaryDirectory()
+        self.addCleanup(room.cleanup)
+        self.program = os.path.join(room.name, "program")
+        put(room.name, "program", STAND_IN)
+        os.chmod(self.program, 0o755)
+
+    def shut(self, *ends):
+        words = [os.path.join(TOP, "tools", "shut"), TOPOLOGY, os.path.join(EXAMPLE, "policy.propane"), os.path.join(EXAMPLE, "no-failure.json")]
+        return ended([*words, *ends], env=os.environ | {"PROGRAM": self.program})
+
+    def test_what_the_program_says_of_a_session(self):
+        status, said, wrong = self.shut("R1", "P1")
+        self.assertEqual((status, wrong), (0, ""))
+        self.assertEqual(said.splitlines()[:5], [
+            "session R1 P1, 198.51.100.0/24", "drain: not free: paths move", "multipath: packets go over it, where routers spread them",
+            "now: router R1 rank 1 path R1 P1", "then: router R1 rank 2 path R1 R2 P2"])
+        self.assertIn("   R1 on FRR: vtysh -c 'configure terminal' -c 'route-map in-P1 deny 1' -c 'route-map out-P1 deny 1'\n", said)
+        self.assertNotIn("P1 on", said)
+        status, said, wrong = self.shut("P2", "R2")
+        self.assertEqual(said.splitlines()[:4], [
+            "session P2 R2, 198.51.100.0/24", "drain: free: its failure moves no path", "multipath: idle: no packet goes over it", ""])
+
+    def test_what_is_no_session(self):
+        self.assertEqual(self.shut("R1", "P2"), (3, "", "shut: no link of the topology: R1 P2\n"))
+        self.assertEqual(self.shut("R1")[0], 2)
+        self.program = os.path.join(self.program, "absent")
+        self.assertEqual(self.shut("R1", "P1")[0], 127)
+
+
 class Asking(unittest.TestCase):
     def test_single_failures(self):
         found = single_failures(Topology(text_of(TOPOLOGY)), ["198.51.100.0/24"])
@@ -249,6 +401,66 @@ class Asking(unittest.TestCase):
         self.assertEqual(permitted([Row("deny", "198.51.100.0/24", 32), everything]), "203.0.113.0/24")
         self.assertEqual(permitted([Row("permit", "10.0.0.0/8", 24), everything]), "10.0.0.0/8")
         self.assertIsNone(permitted([Row("deny", "10.0.0.0/8", 32), Row("permit", "10.1.0.0/16", 16)]))
+
+    def test_ways_of_packets(self):
+        """A diamond: C shares what it sends to D over A and B."""
+        hops = {"C": frozenset("AB"), "A": frozenset("D"), "B": frozenset("D"), "D": frozenset(), "E": None}
+
+        def faults(*ways, gone=frozenset()):
+            return list(packets.way_faults([packets.Flow(way[0], tuple(way)) for way in ways], hops, ["P"], gone))
+
+        self.assertEqual(faults("CAD", "CBD", "AD"), [])
+        self.assertEqual(faults("CAB"), ["packets go C A B: A is to send to D"])
+        self.assertEqual(faults("CA"), ["packets go C A and no further: A is to send to D"])
+        self.assertEqual(faults("CE"), ["packets go C E: C is to send to A B"])
+        cut = frozenset("AD")
+        self.assertEqual(faults("CBD", "CA", "A", gone=cut), [])
+        self.assertEqual(faults("CAD", gone=cut), ["packets go C A D: A is to send to own"])
+        self.assertEqual(faults("C", gone=frozenset("AC")), ["packets go C and no further: C is to send to B"])
+        flows = [packets.Flow("C", ("C", "A", "D"))] * 3
+        self.assertEqual(list(packets.spread_faults(flows, hops, 16)), ["all packets of C go to A, and A B are to share them"])
+        self.assertEqual(list(packets.spread_faults(flows, hops, 1)), [])
+        self.assertEqual(list(packets.spread_faults([*flows, packets.Flow("C", ("C", "B", "D"))], hops, 16)), [])
+        self.assertEqual(packets.way_of("A", {"A": "B", "B": "A"}), ("A", "B", "A", "B"))
+        self.assertEqual(trials.shared_link(Answer([], hops=hops)), frozenset("AC"))
+
+    def test_what_is_sent_and_seen(self):
+        header = b"\x45" + bytes(8) + b"\x11" + bytes(2) + b"\x0a\x00\x00\x01" + b"\x0a\x00\x01\xff"
+        datagram = header + (20_001).to_bytes(2, "big") + (33_434).to_bytes(2, "big") + bytes(4)
+        address = b"\x0a\x00\x01\xff"
+        self.assertEqual(packets.port_of(datagram, address), 20_001)
+        for other in (datagram[:-1], b"\x60" + datagram[1:], datagram.replace(b"\x82\x9a", b"\x82\x9b"), datagram.replace(address, b"\x0a\x00\x01\xfe")):
+            self.assertIsNone(packets.port_of(other, address))
+
+    def test_what_a_cache_answers(self):
+        """RFC 8210: a response, a prefix, and the end of it."""
+        self.assertEqual(origins.answer(1, ["10.0.1.0/24"], 3356).hex(),
+                         "0103000100000008" "010400000000001401181800" "0a000100" "00000d1c" "0107000100000018" "00000001" "00000e10" "00000258" "00001c20")
+        self.assertEqual(origins.answer(0, [], 1).hex(), "0003000100000008" "000700010000000c" "00000001")
+
+    def test_what_is_kept_is_its_owners(self):
+        with tempfile.TemporaryDirectory() as folder:
+            before = os.path.join(folder, "lab", "deployed")
+            os.makedirs(before)
+            put(before, "R1.bird.conf", "password")
+            put(before, "bird.ctl", "")
+            into = os.path.join(folder, "kept")
+            mask = os.umask(0)
+            try:
+                kept(os.path.join(folder, "lab"), into)
+            finally:
+                os.umask(mask)
+            modes = {name: stat.S_IMODE(os.stat(os.path.join(into, name)).st_mode) for name in ("", "deployed", "deployed/R1.bird.conf")}
+            self.assertEqual(modes, {"": 0o700, "deployed": 0o700, "deployed/R1.bird.conf": 0o600})
+            self.assertEqual(os.listdir(os.path.join(into, "deployed")), ["R1.bird.conf"])
+
+    def test_words_of_the_lab(self):
+        with redirect_stderr(io.StringIO()) as said:
+            for words in (["--paths", "256", "a", "b"], ["--stop", "0", "a", "b"], ["/run/a", "b"]):
+                with self.assertRaises(SystemExit):
+                    words_of(words, "usage")
+        self.assertIn("no number from 1 to 255: 256", said.getvalue())
+        self.assertIn("the lab has a /run of its own", said.getvalue())
 
     def test_reports_are_compared(self):
         replay = "prefix P\nclass 1\nrouter R1 rank 1 path R1 R2\nrouter R2 origin\nrouter R3 none\nsession R1 P1 rank 1 path P1 R1 R2\nsession R3 P1 none\n"

@@ -57,6 +57,39 @@ class Install(unittest.TestCase):
         self.assertIn("looks like a configuration", " ".join(said.split()))
         self.assertFalse(os.path.exists(os.path.join(self.prefix, "lib", "propane", "words", "__pycache__")))
 
+    def test_scripts(self):
+        """The scripts run with the installed program, and the program says whether it is proved."""
+        environment = {"PATH": os.environ["PATH"]}
+        status, said, _ = ended([os.path.join(self.prefix, "bin", "propane"), "proved"], env=environment)
+        self.assertIn(said.partition(":")[0].split(" with ")[0], ("proved", "not proved", "not known"))
+        self.assertEqual(status == 0, said.startswith("proved"))
+        self.assertIn(said, self.said[1])
+        with open(os.path.join(EXAMPLE, "promises.stdout"), encoding="utf-8") as file:
+            wanted = len(file.read().splitlines())
+        status, said, _ = ended([os.path.join(self.prefix, "bin", "propane"), "--json", "promises", *TWO], env=environment)
+        self.assertEqual((status, said.count('"kind"')), (0, wanted))
+        recheck = [os.path.join(self.prefix, "bin", "propane-recheck"), *TWO]
+        texts = [os.path.join(EXAMPLE, name) for name in ("compile.stdout", "evidence.stdout")]
+        self.assertEqual(ended([*recheck, *texts], env=environment), (0, "holds\n", ""))
+        expected = os.path.join(self.room.name, "expected")
+        with open(expected, "w", encoding="utf-8") as file:
+            file.write("198.51.100.0/24: R1 rank 1\n")
+        status, said, _ = ended([os.path.join(self.prefix, "bin", "propane-expect"), *TWO, expected], env=environment)
+        self.assertEqual((status, said.splitlines()[-1]), (0, "expectations 1 failed 0: asked replay 1 whatif 0"))
+
+    def test_links(self):
+        """Each link of an installed page leads to what is installed."""
+        documents, dead, count = os.path.join(self.prefix, "share/doc/propane"), [], 0
+        for at, _, names in os.walk(documents):
+            for name in names:
+                if name.endswith(".md"):
+                    with open(os.path.join(at, name), encoding="utf-8") as file:
+                        links = re.findall(r"\]\(([^)#\s]+)(?:#[^)]*)?\)", re.sub(r"```.*?```|`[^`]*`", "", file.read(), flags=re.DOTALL))
+                    count += len(links)
+                    dead += [f"{name}: {link}" for link in links if ":" not in link and not os.path.exists(os.path.join(at, link))]
+        self.assertEqual(dead, [])
+        self.assertGreater(count, 200)
+
     def test_manual(self):
         page = self.read("share/man/man1/propane.1")
         self.assertNotIn("@", page)
@@ -91,7 +124,7 @@ class Install(unittest.TestCase):
         file = os.path.join(self.prefix, "share/bash-completion/completions/propane")
         every = sorted(form.split()[0] for form in self.commands)
         for line, wanted in [
-            ("propane ''", sorted([*every, "--output"])), ("propane com", ["compile"]), ("propane help au", ["audit"]),
+            ("propane ''", sorted([*every, "--output", "--json"])), ("propane com", ["compile"]), ("propane --json whati", ["whatif"]), ("propane help au", ["audit"]),
             ("propane compile ''", []), ("propane --output file che", ["check", "checkmap"]), ("propane --output ''", []),
         ]:
             with self.subTest(line):
@@ -105,7 +138,7 @@ class Install(unittest.TestCase):
         file = os.path.join(self.prefix, "share/zsh/site-functions/_propane")
         every = sorted(form.split()[0] for form in self.commands)
         for line, wanted in [
-            ("propane ''", sorted([*every, "--output"])), ("propane help ''", every), ("propane compile ''", ["files"]),
+            ("propane ''", sorted([*every, "--output", "--json"])), ("propane help ''", every), ("propane --json ''", every), ("propane compile ''", ["files"]),
             ("propane --output ''", ["files"]), ("propane --output file ''", every), ("propane help x ''", ["files"]),
         ]:
             with self.subTest(line):

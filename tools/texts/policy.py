@@ -202,6 +202,15 @@ class Policy:
         """The locations that the names of a list stand for; `any` stands for itself."""
         return frozenset(each for name in names for each in self.groups.get(name, (name,)))
 
+    def originated(self, routers: Iterable[str]) -> dict[str, list[str]]:
+        """The prefixes that each router originates, as the items of the text say it."""
+        found: dict[str, list[str]] = {name: [] for name in routers}
+        for origin in self.origins:
+            at = self.locations(origin.names)
+            for name in found if "any" in at else [name for name in found if name in at]:
+                found[name].append(origin.prefix)
+        return found
+
     def shortest(self, names: Names) -> Names:
         """Names for these locations, in their order: the group that has just these, where there is one."""
         for name, inside in self.groups.items():

@@ -3,6 +3,7 @@ from __future__ import annotations
 
 import ipaddress
 import re
+from collections.abc import Iterable
 from typing import NamedTuple
 
 FIGURE = "([0-9]{1,1000})"  # Python reads no number of any length
@@ -30,6 +31,11 @@ def prefix_of(text: str) -> Prefix | None:
         return None
     bits = sum(part << 8 * (3 - place) for place, part in enumerate(parts))
     return None if bits & (2**32 - 1 >> length) else Prefix(bits, length)
+
+
+def in_order(prefixes: Iterable[str]) -> list[str]:
+    """Prefixes by their bits, and then by their length."""
+    return sorted(prefixes, key=ipaddress.IPv4Network)
 
 
 def is_prefix(text: str) -> bool:

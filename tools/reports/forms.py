@@ -1,0 +1,116 @@
+"""Each line that a report may have, by command. docs/FORMATS.md says what the lines say."""
+from __future__ import annotations
+
+from .lines import Form
+
+OUTCOME = """
+prefix     prefix {prefix^}
+class      class {class?}
+router     router {router} {state=dead|origin|none}
+router     router {router} {state=rank} {rank#} path {path*}
+router     router {router} {state=transit} path {path*}
+session    session {router} {peer} {state=rank} {rank#} path {path*}
+session    session {router} {peer} {state=none}
+"""
+HAPPENED = """
+event      event {event#} {fault=nothing-waits|not-up|not-down|no-link}
+"""
+VERDICT = """
+holds      holds
+fails      fails {rule#} {word} case {case#} first {first#} second {second#} line {line#}
+"""
+CUTS = """
+prefix     prefix {prefix^}
+class      class {class?}
+base       base router {router} {rank!}
+base       base session {router} {peer} {rank!}
+cut        cut link {link&}
+cut        cut router {router}
+cut        cut link {link&} moves {moves#}
+cut        cut router {router} moves {moves#}
+router     router {router} {rank!}
+session    session {router} {peer} {rank!}
+cuts       cuts {cuts#} changed {changed#}
+"""
+REFUSALS = """
+refused    refused {refusal#} {word} case {case#} number {number}
+refused    refused {refusal#} {word} case {case#}
+refused    refused {refusal#} {word} case {case#} router {router}
+refused    refused {refusal#} {word} case {case#} router {router} with {with*} without {without*}
+refused    refused {refusal#} {word} case {case#} router {router} first {first*} second {second*}
+round      round {round#} router {router} first {first*} second {second*} {reason=rank} {worse#} {better#}
+round      round {round#} router {router} first {first*} second {second*} {reason=no-step|step} {to}
+round      round {round#} router {router} first {first*} second {second*} {reason=loop} {to} via {via*}
+round      round {round#} router {router} first {first*} second {second*} {reason=listener} {to}
+"""
+PROMISES = """
+case       case {case#} statement {statement#}
+prefix     prefix {prefix^}
+origin     origin {origin}
+source     source router {router} rank {rank#}
+source     source session {router} {peer} rank {rank#}
+unclaimed  unclaimed router {router}
+unclaimed  unclaimed session {router} {peer}
+unclaimed  unclaimed peer {peer}
+transit    transit router {router}
+uncarried  uncarried {prefix^}
+cases      cases {cases#} unclaimed {unclaimed#} uncarried {uncarried#}
+"""
+FINDINGS = """
+unused     unused group {group}
+covered    covered statement {statement#}
+idle       idle statement {statement#}
+unreached  unreached statement {statement#} alternative {alternative#}
+findings   findings {findings#}
+"""
+AUDITED = """
+stable     stable
+unstable   unstable router {router} {fault=dead|own|not-given}
+unstable   unstable router {router} {fault=better} {neighbour} pref {pref#}
+unstable   unstable router {router} {fault=missing} {neighbour}
+"""
+FREE = """
+prefix     prefix {prefix^}
+class      class {class?}
+free       free link {link&}
+free       free router {router}
+count      free {free#} of {of#}
+"""
+SUMMARY = """
+sample     sample {leaves#}
+routers    routers {routers#}
+peers      peers {peers#}
+links      links {links#}
+cases      cases {cases#}
+nodes      nodes {nodes#}
+steps      steps {steps#}
+preferences  preferences {preferences#}
+holds      holds
+"""
+LINES = {
+    "replay": OUTCOME,
+    "trace": HAPPENED + "quiet  quiet {quiet~}\n" + OUTCOME,
+    "settle": HAPPENED + "rounds  rounds {rounds#}\ndeliveries  deliveries {deliveries#}\n" + OUTCOME,
+    "promises": PROMISES,
+    "whatif": CUTS,
+    "impact": CUTS,
+    "drain": FREE,
+    "lint": FINDINGS,
+    "audit": VERDICT + AUDITED + OUTCOME,
+    "check": VERDICT,
+    "checkmap": "same  same\ndiffers  differs line {line#}\n",
+    "explain": "accepted  accepted\n" + REFUSALS,
+    "sample": SUMMARY,
+    "version": "propane  propane {version}\nkit  kit {kit}\n",
+}
+# The lines below which others stand, up to the next of their kind or the line that ends the report.
+ABOVE = {"promises": ("case", frozenset({"uncarried", "cases"})), "whatif": ("cut", frozenset({"cuts"})),
+         "impact": ("cut", frozenset({"cuts"}))}
+NONE_ABOVE: tuple[str, frozenset[str]] = ("", frozenset())
+# What the other commands write is no report: a configuration, evidence, maps or a page of help.
+NO_REPORTS = {"compile", "evidence", "migrate", "routemap", "help"}
+
+
+def forms_of(command: str) -> list[Form]:
+    """The forms of the lines of a command's report; none where it isn't known."""
+    return [Form(*line.split(None, 1)) for line in LINES.get(command, "").splitlines() if line]
