@@ -79,6 +79,10 @@ class Daemon:
         """The neighbours with which a session is established, and what changes whenever a message comes or goes."""
         raise NotImplementedError
 
+    def answering(self) -> set[str]:
+        """The addresses and interfaces at which BFD says that somebody answers."""
+        raise NotImplementedError
+
     def loaded(self, file: str) -> str:
         """The configuration that runs."""
         raise NotImplementedError
@@ -119,6 +123,10 @@ class Bird(Daemon):
             elif words[1:2] in (["updates:"], ["withdraws:"]):
                 moves.append(tuple(words))
         return up, moves
+
+    def answering(self) -> set[str]:
+        rows = map(str.split, self.ask("show", "bfd", "sessions").splitlines())
+        return {word for words in rows if words[2:3] == ["Up"] for word in words[:2]}
 
     def heard(self, prefix: str) -> dict[str, tuple[list[int], list[str]]]:
         """What a peer has heard: by router, the AS path and the lines of communities that came with it."""
@@ -165,7 +173,7 @@ class Frr(Daemon):
         asked = ["-M", "rpki"] if "\nrpki\n" in read(file) else []
         for name in ("mgmtd", "zebra", "staticd", "bfdd", "bgpd"):  # mgmtd came with FRR 9
             if os.path.exists(f"{FRR}/{name}"):
-                more = asked if name == "bgpd" else []
+                more = {"bgpd": asked, "bfdd": ["--bfdctl", self.path("bfdd.api")]}.get(name, [])
                 self.spawn(name, f"{name}.vty", f"{FRR}/{name}", *more, "-u", "frr", "-g", "frr", "-i", self.path(f"{name}.pid"),
                            "-z", self.path("zserv.api"), "--vty_socket", self.folder, "-P", "0", "--log", "stdout")
         self.vtysh("-b")
@@ -173,20 +181,23 @@ class Frr(Daemon):
     def vtysh(self, *words: str) -> str:
         return ran("vtysh", "--vty_socket", self.folder, "--config_dir", self.folder, *words)
 
-    def ask(self, command: str) -> str:
-        """What bgpd answers, on the socket over which vtysh asks: vtysh itself takes a hundred times as long to begin.
+    def ask(self, command: str, name: str = "bgpd") -> str:
+        """What a daemon answers, on the socket over which vtysh asks: vtysh itself takes a hundred times as long to begin."""
+        with socket.socket(socket.AF_UNIX) as daemon:
+            daemon.settimeout(SLOW)
+            daemon.connect(self.path(f"{name}.vty"))
+            self.said(daemon, "enable")
+            return self.said(daemon, command)
 
-        An answer ends in three zeros and a status."""
+    def said(self, daemon: socket.socket, command: str) -> str:
+        """The answer to a command. It ends in three zeros and a status."""
         answer = b""
-        with socket.socket(socket.AF_UNIX) as bgpd:
-            bgpd.settimeout(SLOW)
-            bgpd.connect(self.path("bgpd.vty"))
-            bgpd.sendall(command.encode() + b"\0")
-            while answer[-4:-1] != b"\0\0\0":
-                piece = bgpd.recv(65536)
-                if not piece:
-                    raise Broken(f"{self.space}: bgpd says no more to: {command}")
-                answer += piece
+        daemon.sendall(command.encode() + b"\0")
+        while answer[-4:-1] != b"\0\0\0":
+            piece = daemon.recv(65536)
+            if not piece:
+                raise Broken(f"{self.space}: a daemon says no more to: {command}")
+            answer += piece
         return answer[:-4].decode()
 
     def answer(self, prefix: str) -> str:
@@ -198,6 +209,10 @@ class Frr(Daemon):
         keys = "state", "pfxRcd", "pfxSnt", "inq", "outq", "connectionsEstablished", "tableVersion"
         moves = [value.get("tableVersion"), *((at, *map(peer.get, keys)) for at, peer in peers.items())]
         return {self.names[at] for at, peer in peers.items() if peer["state"] == "Established"}, moves
+
+    def answering(self) -> set[str]:
+        peers = json.loads(self.ask("show bfd peers json", "bfdd"))
+        return {peer[key] for peer in peers if peer.get("status") == "up" for key in ("peer", "interface") if key in peer}
 
     def loaded(self, _: str) -> str:
         return self.vtysh("-c", "show running-config")

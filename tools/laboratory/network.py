@@ -4,7 +4,7 @@ from __future__ import annotations
 import json
 import os
 import time
-from collections.abc import Collection, Iterable, Mapping
+from collections.abc import Collection, Iterable, Iterator, Mapping
 from concurrent.futures import ThreadPoolExecutor
 from dataclasses import dataclass, replace
 from typing import Any
@@ -170,6 +170,19 @@ class Network:
             time.sleep(POLL)
 
     # ---- what is seen
+
+    def unanswered(self) -> Iterator[str]:
+        """The live sessions with BFD over which a router is answered by nobody."""
+        for router in self.topology.routers:
+            others = [other for other in self.topology.neighbours(router.name) if self.addresses.wire(router.name, other.name).bfd]
+            if router.name in self.now.dead or not others:
+                continue
+            up = self.routers[router.name].answering()
+            for other in others:
+                session = session_of(self.addresses, router, other)
+                lives = other.name not in self.now.dead and frozenset((router.name, other.name)) not in self.now.dead_links
+                if lives and (session.interface or session.theirs) not in up:
+                    yield f"BFD of {router.name} has no answer of {other.name}"
 
     def record(self, folder: str, prefix: str) -> None:
         """What the routers answer, as tools/tables takes it. Of a dead one, BIRD's answer that there is no route."""

@@ -59,7 +59,7 @@ def compare(network: Network, texts: Texts, scenario: Scenario, folder: str) -> 
     peers = [(peer, router.name) for peer in network.live_peers() for router in network.topology.neighbours(peer)]
     hops = next_hops(network, texts, paths, path)
     faults = [*table_faults(texts, replay, path, tables, folder), *peer_faults(network, offers, peers, scenario.prefix),
-              *kernel_faults(network, hops, scenario.prefix)]
+              *kernel_faults(network, hops, scenario.prefix), *network.unanswered()]
     return Answer(faults, len(paths), len(peers), len(network.live_routers()), hops)
 
 
