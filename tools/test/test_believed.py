@@ -55,7 +55,7 @@ class Believed(unittest.TestCase):
 
     def test_claim_is_short(self):
         for name in BELIEVED.HEADLINE:
-            most = 1000 if name in ("outcome_base.IsRight", "claim_law.KeepsPolicy") else 1400
+            most = {"outcome_base.IsRight": 400, "claim_law.KeepsPolicy": 1150}.get(name, 1650)
             self.assertLessEqual(BELIEVED.lines_in([it for it in reached(name) if it.is_own]), most, name)
 
     @unittest.skipUnless(KIT, "no kit is found")

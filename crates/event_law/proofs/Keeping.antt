@@ -47,7 +47,7 @@ module _ {R : Type 0} (net : Speakers R) (n : AreSpeakers net) where
       → ((a b : ℕ) → due' a b ≡ false → due a b ≡ false) → Keeps net skip' due' w
   fewer skip skip' due due' w k f g = record { both = k.both; last = k.last; told = λ a b u nd. k.told a b u (g a b nd); chosen = λ r s. k.chosen r (f r s); idle = k.idle; empty = k.empty }
 
-  tell-keeps : (p : ℕ → ℕ → Bool) (skip : ℕ → Bool) (due : ℕ → ℕ → Bool) (w : World R) → Keeps net skip due w → Keeps net skip (λ a b. due a b && not (p a b)) (tell net p w)
+  pub tell-keeps : (p : ℕ → ℕ → Bool) (skip : ℕ → Bool) (due : ℕ → ℕ → Bool) (w : World R) → Keeps net skip due w → Keeps net skip (λ a b. due a b && not (p a b)) (tell net p w)
   tell-keeps p skip due w k = record {
     both = k.both;
     last = λ a b u. elim (cases_Bool (p a b && owes net w a b)) [
@@ -73,7 +73,7 @@ module _ {R : Type 0} (net : Speakers R) (n : AreSpeakers net) where
         rw no (k.empty a b u);
   }
 
-  with_choice-keeps : (r : ℕ) (skip : ℕ → Bool) (due : ℕ → ℕ → Bool) (w : World R) → Keeps net skip due w → running net w r ≡ true
+  pub with_choice-keeps : (r : ℕ) (skip : ℕ → Bool) (due : ℕ → ℕ → Bool) (w : World R) → Keeps net skip due w → running net w r ≡ true
       → Keeps net (λ x. skip x && not (at r x)) (λ a b. due a b || at r a) (with_choice net r w)
   with_choice-keeps r skip due w k runs = record {
     both = k.both;

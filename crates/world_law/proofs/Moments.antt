@@ -29,7 +29,7 @@ use Rattle.world_law.proofs.Waiting.{held_and_waiting_routes_run, origins_alone_
 use Rattle.world_law.specs.Moments.{IsAllowedNow, IsBareNow, IsRightNow, EveryMomentIsRight}
 
 -- a route among messages that are each of a kind is of that kind
-each_at : {R : Type 0} (P : R → Type 0) (ms : List (Option R)) (i : ℕ) (y : R) → Each P ms → slice_get ms i ≡ Some (Some y) → P y
+pub each_at : {R : Type 0} (P : R → Type 0) (ms : List (Option R)) (i : ℕ) (y : R) → Each P ms → slice_get ms i ≡ Some (Some y) → P y
 each_at P [] i y all at = absurd cc
 each_at P (m ∷ ms) zero y all at = (let same : m ≡ Some y = cc in all.0 y same)
 each_at P (m ∷ ms) (suc i) y all at = each_at P ms i y all.1 at

@@ -91,7 +91,7 @@ module _ (net : PlainNet) (policy : PlainPolicy) (config : PlainConfig) (cs : Li
       and_from (is_permitted net policy p c.s (b ∷ m.path)) (is_loop_free (b ∷ m.path)) permitted
       (and_from (not (law.stands_on b m.path)) (is_loop_free m.path) (not_from_false _ off) (sym (same_free m.path) ∙ y.free))
 
-  way_said : (a b : ℕ) (m : Route) → On_the_way net policy config cs rules kept passes p f c a b m → IsOnItsWay net policy p c.s c.d a b m
+  pub way_said : (a b : ℕ) (m : Route) → On_the_way net policy config cs rules kept passes p f c a b m → IsOnItsWay net policy p c.s c.d a b m
   way_said a b m x = record {
     router = λ t. (let y = x.router t in (y.node, y.next, has_run a m.path y.rest y.node y.begins y.free y.runs, y.step, λ to. ap tag_of (y.to_router to)));
     allowed = λ t. (let who = and_parts (is_router net a) (is_peer net b) t in sent_allowed a b m who.0 who.1 (x.router who.0));

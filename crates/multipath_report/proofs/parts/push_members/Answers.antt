@@ -19,5 +19,5 @@ loop-place-preserved c =
 pub returns : goal.returns
 returns c =
     let net = c.args.net.now in
-    let all : c.loop-place.place ≡ length net.routers + length net.peers = omega (arith, c.loop-place-test.false, c.loop-place.auto.place-end, ap length c.routers-place-end.ensures.routers, ap length c.peers-place-end.ensures.peers) in
+    let all : c.loop-place.place ≡ length net.routers + length net.peers = omega (arith, c.loop-place-test.false, c.loop-place.auto.place-end, ap length c.routers.ensures.routers, ap length c.peers.ensures.peers) in
     c.loop-place.invariant ∙ ap (λ n. c.args.text.now.items ++ flat_map (next_name net) (filter (is_held c.args.sets.now c.args.at) (numbers_below n))) all

@@ -1,0 +1,4 @@
+pub mod Lines
+pub mod Mixtures
+pub mod Moments
+pub mod Stages
