@@ -20,6 +20,7 @@ COMMANDS = {
 }
 SECONDS, WHY_SECONDS = 60, 60
 AT_ONCE = max(2, min(4, (os.cpu_count() or 2) - 1))
+ENDING = 10  # seconds, at the end, for a question that is being asked
 MEMORY = 4 << 30
 KEPT_BYTES = 64 << 20
 UNPROVED = ".unproved."  # in the name of a build without proof (tools/program)
@@ -180,8 +181,10 @@ class Runner:
             return self.lanes.get(lane) is turn and not self.is_closed
 
     def close(self) -> None:
-        """Ends all that is asked."""
+        """Ends all that is asked, and waits until each question has removed its folder: it gives its place back after that."""
         with self.lock:
             self.is_closed = True
             for turn in self.lanes.values():
                 turn.end()
+        for _ in range(AT_ONCE):
+            self.places.acquire(timeout=ENDING)

@@ -12,6 +12,17 @@ router     router {router} {state=transit} path {path*}
 session    session {router} {peer} {state=rank} {rank#} path {path*}
 session    session {router} {peer} {state=none}
 """
+SPREAD = """
+prefix     prefix {prefix^}
+class      class {class?}
+router     router {router} {state=dead|origin|none}
+router     router {router} {state=rank} {rank#} hops {hops#} next {next*}
+router     router {router} {state=transit} hops {hops#} next {next*}
+session    session {router} {peer} {state=rank} {rank#} hops {hops#}
+session    session {router} {peer} {state=none}
+idle       idle link {link&}
+count      idle {idle#} of {of#}
+"""
 HAPPENED = """
 event      event {event#} {fault=nothing-waits|not-up|not-down|no-link}
 """
@@ -95,6 +106,7 @@ LINES = {
     "whatif": CUTS,
     "impact": CUTS,
     "drain": FREE,
+    "multipath": SPREAD,
     "lint": FINDINGS,
     "audit": VERDICT + AUDITED + OUTCOME,
     "check": VERDICT,

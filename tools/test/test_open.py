@@ -12,6 +12,7 @@ import signal
 import socket
 import stat
 import subprocess
+import sys
 import tempfile
 import threading
 import time
@@ -19,7 +20,7 @@ import unittest
 from collections.abc import Callable
 from concurrent.futures import ThreadPoolExecutor
 
-from common import ended
+from common import PROGRAM, ended
 from serving import OPEN, Served, example, text_of
 
 TOPO, POLICY = example("two-exits", "topology.json"), example("two-exits", "policy.propane")
@@ -116,9 +117,10 @@ class Answers(unittest.TestCase):
             self.assertEqual(told["status"], 1)
             self.assertEqual(policy[told["place"]["from"]:told["place"]["to"]], "10.0.1.0/24 => through(W) >> any;")
             parts = served.post("why", policy=policy)[1]["parts"]
-            self.assertIn("10.0.1.0/24 => through(W) >> any from W;", [each["text"] for each in parts[0]["repairs"]])
+            repairs = next(each["repairs"] for each in parts if each["kind"] == "repairs")
+            self.assertIn("10.0.1.0/24 => through(W) >> any from W;", [each["text"] for each in repairs])
             place = told["outline"]["statements"][0]
-            for each in parts[0]["repairs"]:
+            for each in repairs:
                 repaired = policy[:place["from"]] + each["text"] + policy[place["to"]:]
                 self.assertEqual(served.ask("explain", repaired)["output"], "accepted\n")
 
@@ -289,9 +291,15 @@ class Ends(unittest.TestCase):
     """An interrupt ends all, and leaves nothing."""
 
     def test_ends_cleanly_while_at_work(self) -> None:
+        room = tempfile.TemporaryDirectory()
+        self.addCleanup(room.cleanup)
+        slow = os.path.join(room.name, "slow")  # the proved program answers before it can be seen at work
+        with open(slow, "w", encoding="utf-8") as file:
+            file.write(f"#!{sys.executable}\nimport os, sys, time\ntime.sleep(3)\nos.execv({PROGRAM!r}, [{PROGRAM!r}, *sys.argv[1:]])\n")
+        os.chmod(slow, 0o755)
         before, policy = folders(), text_of(FABRIC[1])
         for number in signal.SIGINT, signal.SIGTERM, signal.SIGHUP:
-            served = Served(*FABRIC)
+            served = Served(*FABRIC, program=slow)
             for place in range(12):
                 scenario = json.dumps({"prefix": f"10.0.{place}.0/24", "dead": [], "dead_links": [], "silent": []})
                 quietly(lambda third=scenario, lane=f"lane{place}", one=served: one.ask("whatif", policy, third, lane))

@@ -141,7 +141,7 @@ class Recheck(unittest.TestCase):
             with self.subTest(name):
                 if written[0][0] == 0:
                     self.agrees([topology, policy, *(told for _, told, _ in written)])
-        self.assertGreater(self.agreed["holds"], 30)
+        self.assertGreater(self.agreed["holds"], 15)
 
     def test_limits_of_policies(self):
         for name, policy, line in LIMITS:

@@ -7,7 +7,7 @@ use Rattle.std.specs.Int.Count.{ones-le, ones_step}
 use Rattle.std.specs.List.{count_by, range_with_len}
 use Rattle.std.specs.Prelude.{count_ones}
 use native.Mathlib.Nat.{pow-suc}
-use Rattle.list_laws.proofs.Counts.{count_alike, count_first, count_split}
+use Rattle.list_law.proofs.Counts.{count_alike, count_first, count_split}
 use Rattle.bit_rows.specs.Bits.{has}
 
 -- the bits of a word, lowest first

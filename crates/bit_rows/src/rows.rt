@@ -5,7 +5,7 @@ ghost use Rattle.bit_rows.specs.Bits.{has};
 ghost use Rattle.bit_rows.specs.declared.rows.TheConstants.{MAX_BITS};
 
 use crate::kernels::{count_bits, is_set, keep_row, set_bit};
-use outside::NoMemory;
+use input_output::NoMemory;
 use std::alloc::Global;
 use std::marker::Model;
 

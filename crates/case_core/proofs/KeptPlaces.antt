@@ -2,7 +2,7 @@
 use Rattle.std.proofs.Common.{◌≡◌, ℕ, List, length, set, replicate, Option, Some, None, inl, inr, ap, sym, subst, ◌∙◌}
 use Rattle.std.specs.Prelude.{IfSome, slice_get}
 use Rattle.std.proofs.lemmas.List.{length-replicate, length-set}
-use Rattle.list_laws.proofs.Items.{set_item, none_there}
+use Rattle.list_law.proofs.Items.{set_item, none_there}
 use Rattle.net_base.specs.Network.{PlainNet}
 use Rattle.policy_base.specs.Policies.{PlainPolicy}
 use Rattle.case_core.specs.declared.automata.StatementAutomata.{StatementAutomata}

@@ -2,7 +2,7 @@
 use Rattle.std.proofs.Common.{◌≡◌, ℕ, Option, Some, None, ap, sym, subst, ◌∙◌}
 use Rattle.std.specs.Prelude.{IfSome, slice_get}
 use Rattle.std.proofs.lemmas.Option.{same_Some}
-use Rattle.list_laws.proofs.Items.{slice_get_in_front}
+use Rattle.list_law.proofs.Items.{slice_get_in_front}
 use Rattle.net_base.specs.Network.{PlainNet}
 use Rattle.net_base.specs.NetSets.{locations}
 use Rattle.policy_base.specs.Policies.{PlainPolicy, PlainStatement, statement_at}

@@ -10,7 +10,7 @@ use Rattle.graph_base.specs.Walks.{IsShownWalk}
 use Rattle.graph_base.proofs.ShownWalks.{shown_walk_same}
 use Rattle.case_core.specs.BuildOutcomes.{PassesSteps}
 use Rattle.path_exprs.specs.Standings.{PassesStates, plan_for}
-use Rattle.standings.proofs.OneGraph.{no_more_states, one-graph}
+use Rattle.walk_states.proofs.OneGraph.{no_more_states, one-graph}
 use Rattle.reach_prune.specs.Trimmed.{IsTrimmed}
 use Rattle.graph_law.proofs.OneTrimmed.{same_trimmed_graphs}
 use Rattle.case_core.specs.declared.cases.CaseGraph.{CaseGraph}

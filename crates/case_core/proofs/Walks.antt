@@ -14,7 +14,7 @@ use Rattle.graph_base.specs.Ranked.{IsUnrankedAt}
 use Rattle.graph_base.specs.Runs.{place_of, rank_at, run}
 use Rattle.evidence_law.specs.Faithful.{IsFaithful, is_walk_to, may_start}
 use Rattle.evidence_law.specs.Passes.{IsClaimed}
-use Rattle.list_laws.proofs.Options.{cases_Option, is_some_parts}
+use Rattle.list_law.proofs.Options.{cases_Option, is_some_parts}
 use Rattle.graph_law.proofs.Claimed.{run_from}
 use Rattle.case_core.specs.Sources.{IsMixed, IsUnranked, names}
 use Rattle.graph_base.proofs.RunSteps.{run_begins, run_inside}

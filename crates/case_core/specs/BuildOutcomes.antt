@@ -3,7 +3,7 @@ use Rattle.std.specs.Prelude.{ℕ, ◌<◌, ◌≤◌, length}
 use Rattle.net_base.specs.Network.{PlainNet}
 use Rattle.path_exprs.specs.Standings.{Plan}
 use Rattle.graph_base.specs.Graphs.{PlainGraph}
-use Rattle.standings.specs.Built.{IsBuilt}
+use Rattle.walk_states.specs.Built.{IsBuilt}
 
 -- the graph that is built has no more nodes than this, but more steps
 abbrev pub PassesSteps : PlainNet → Plan → ℕ → ℕ → Type 0

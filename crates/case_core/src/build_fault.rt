@@ -3,9 +3,9 @@ ghost use Rattle.std.specs.Prelude.{◌≡◌};
 ghost use Rattle.case_core.specs.BuildFaults.{fault_of};
 ghost use Rattle.case_core.specs.declared.build_fault.BuildFault.TheVariants.{NoMemory as no_memory};
 
-use outside::NoMemory;
-use standings::StandingsFault;
+use input_output::NoMemory;
 use thiserror::Error;
+use walk_states::StandingsFault;
 
 /// Why the graph of a case is not built.
 #[derive(Clone, Copy, Debug, PartialEq, Eq, Error)]

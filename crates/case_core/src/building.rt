@@ -6,7 +6,7 @@ ghost use Rattle.path_automata.specs.States.{Begins, Extends, states_of};
 ghost use Rattle.path_exprs.specs.Expression.{Expression};
 ghost use Rattle.path_exprs.specs.Standings.{PassesStates, plan_of};
 ghost use Rattle.case_core.specs.BuildOutcomes.{PassesSteps};
-ghost use Rattle.standings.specs.Built.{IsBuilt};
+ghost use Rattle.walk_states.specs.Built.{IsBuilt};
 
 use crate::build_fault::BuildFault;
 use graph_base::Graph;
@@ -14,8 +14,8 @@ use net_base::Net;
 use path_automata::Automata;
 use path_exprs::RankedExpr;
 use policy_base::{Case, FromSet};
-use standings::standings;
 use std::alloc::Global;
+use walk_states::standings;
 
 /// The graph of a case of a network, for the sources that the case's statement claims and by the automaton of what its
 /// paths must meet, with at most `room` steps. The automaton is given back for the statement's next case: its states stay.

@@ -3,8 +3,8 @@ ghost use Rattle.std.specs.Prelude.{◌≡◌};
 ghost use Rattle.case_core.specs.declared.refusal.CompileRefusal.TheVariants.{NoMemory as no_memory};
 
 use graph_base::{Graph, Refutation};
+use input_output::NoMemory;
 use net_base::{List, Loc};
-use outside::NoMemory;
 use std::alloc::AllocError;
 use std::fmt;
 use thiserror::Error;

@@ -11,17 +11,17 @@ use Rattle.graph_base.specs.Rules.{MeetsRules}
 use Rattle.relation_law.specs.Rounds.{gone_after, is_pair, left_after}
 use Rattle.relation_law.specs.Views.{View, view_of}
 use Rattle.relation_law.proofs.Bridge.{rules_give_numbers}
-use Rattle.refutation_law.specs.Choosing.{IsRefutationOf}
-use Rattle.faithful_law.specs.Alike.{EndBoth}
-use Rattle.faithful_law.proofs.Carried.{total_there}
-use Rattle.faithful_law.proofs.Claims.{rules_claimed}
-use Rattle.faithful_law.proofs.Tied.{are_alike}
+use Rattle.relation_law.specs.Choosing.{IsRefutationOf}
+use Rattle.quotient_law.specs.Alike.{EndBoth}
+use Rattle.quotient_law.proofs.Carried.{total_there}
+use Rattle.quotient_law.proofs.Claims.{rules_claimed}
+use Rattle.quotient_law.proofs.Tied.{are_alike}
 use Rattle.graph_base.specs.declared.refutation.Refutation.{Refutation}
 use Rattle.graph_base.specs.Refuting.{Refutes}
 use Rattle.state_simulation.specs.Held.{HasEach, IsRelationOf, PlainRelation, has}
 use Rattle.state_simulation.proofs.Holding.{total_where_each}
 use Rattle.net_base.specs.declared.loc.LocSet.{LocSet}
-use Rattle.pref_inference.specs.Inferred as found
+use Rattle.preference_numbers.specs.Inferred as found
 use Rattle.evidence_law.specs.Faithful.{IsFaithful}
 use Rattle.evidence_law.specs.Passes.{IsClaimed}
 use Rattle.case_core.specs.declared.refusal.CompileRefusal.TheVariants.{NoEvidence}

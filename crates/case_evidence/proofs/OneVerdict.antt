@@ -13,8 +13,8 @@ use Rattle.graph_base.specs.Graphs.{IsGraph, PlainGraph}
 use Rattle.graph_base.specs.Refuting.{HasSingleSteps}
 use Rattle.graph_base.specs.Runs.{place_of}
 use Rattle.net_base.specs.declared.loc.LocSet.{LocSet}
-use Rattle.refutation_law.specs.Choosing.{IsRefutation}
-use Rattle.refutation_law.proofs.OneRefutation.{refutation_is_one}
+use Rattle.relation_law.specs.Choosing.{IsRefutation}
+use Rattle.relation_law.proofs.OneRefutation.{refutation_is_one}
 use Rattle.graph_base.proofs.WellFormed.{one_step}
 use Rattle.relation_law.specs.Rounds.{IsReach}
 use Rattle.relation_law.specs.Evidence.{at_routers}

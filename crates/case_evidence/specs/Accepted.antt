@@ -14,7 +14,7 @@ use Rattle.relation_law.specs.Evidence.{at_routers}
 use Rattle.relation_law.specs.Numbers.{number_of}
 use Rattle.relation_law.specs.Relations.{IsGreatest, IsTotal}
 use Rattle.relation_law.specs.Views.{view_of}
-use Rattle.refutation_law.specs.Choosing.{IsRefutationOf}
+use Rattle.relation_law.specs.Choosing.{IsRefutationOf}
 use Rattle.node_quotient.specs.Quotient.{IsQuotient}
 use Rattle.evidence_law.specs.Faithful.{IsFaithful}
 use Rattle.evidence_law.specs.Passes.{IsClaimed}

@@ -14,7 +14,7 @@ use graph_base::{Graph, Prefs, ranked_routers};
 use net_base::Net;
 use node_quotient::quotient;
 use policy_base::{CaseList, Policy};
-use pref_inference::infer;
+use preference_numbers::infer;
 use relation_refute::refutation;
 use state_simulation::{Search, total_relation};
 use std::alloc::Global;

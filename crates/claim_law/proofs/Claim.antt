@@ -1,8 +1,8 @@
 -- A configuration whose evidence passes keeps the policy: a line for each part of the claim.
-use Rattle.announce_law.proofs.Withstanding.{passing_evidence_withstands_peers}
+use Rattle.outcome_law.proofs.Withstanding.{passing_evidence_withstands_peers}
 use Rattle.evidence_law.proofs.ExistenceLaw.{stable_outcomes_exist}
 use Rattle.evidence_law.proofs.RightLaw.{passing_evidence_is_right}
-use Rattle.packets_law.proofs.Longest.{packets_arrive}
+use Rattle.outcome_law.proofs.Longest.{packets_arrive}
 use Rattle.motion_law.proofs.Ever.{every_route_is_allowed}
 use Rattle.motion_rest.proofs.Resting.{passing_evidence_rests}
 use Rattle.multipath_law.proofs.Spread.{passing_evidence_spreads_right}

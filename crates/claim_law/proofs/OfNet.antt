@@ -3,9 +3,9 @@ use Rattle.std.proofs.Common.{◌≡◌, ℕ, zero, suc, Bool, true, List, [], �
 use Rattle.std.specs.Prelude.{is_some, slice_get}
 use Rattle.std.proofs.lemmas.Bool.{and_parts, or_right, true≢false}
 use Rattle.std.proofs.lemmas.Option.{slice_get_within}
-use Rattle.list_laws.specs.Members.{IsIn}
-use Rattle.list_laws.proofs.Items.{same_item}
-use Rattle.list_laws.proofs.Options.{cases_Option, is_some_parts, none_or_some}
+use Rattle.list_law.specs.Members.{IsIn}
+use Rattle.list_law.proofs.Items.{same_item}
+use Rattle.list_law.proofs.Options.{cases_Option, is_some_parts, none_or_some}
 use Rattle.net_base.specs.declared.loc.LocSet.{LocSet}
 use Rattle.net_base.specs.Locations.{neighbours}
 use Rattle.net_base.specs.Network.{PlainNet, IsNet, is_router}

@@ -4,9 +4,9 @@ use Rattle.std.specs.Prelude.{◌||◌, ◌==◌, is_some, option_and_then}
 use Rattle.std.specs.List.{find}
 use Rattle.std.proofs.lemmas.Bool.{and_parts, eqb-true, or_cases, true≢false}
 use Rattle.std.proofs.lemmas.Option.{same_Some}
-use Rattle.list_laws.specs.Members.{IsIn}
-use Rattle.list_laws.proofs.Options.{cases_Option, none_or_some, option_and_then_parts, when_parts}
-use Rattle.list_laws.proofs.Tests.{find_parts}
+use Rattle.list_law.specs.Members.{IsIn}
+use Rattle.list_law.proofs.Options.{cases_Option, none_or_some, option_and_then_parts, when_parts}
+use Rattle.list_law.proofs.Tests.{find_parts}
 use Rattle.net_base.specs.declared.numbers.Tag.{Tag}
 use Rattle.net_base.specs.Network.{PlainNet, IsNet, is_peer, is_router}
 use Rattle.net_base.specs.Prefixes.{PlainPrefix, IsPrefix}
@@ -29,7 +29,7 @@ use Rattle.evidence_law.proofs.RunWalks.{runs_are_walks}
 use Rattle.evidence_law.proofs.Spelled.{imports_tag}
 use Rattle.outcome_base.specs.Outcomes.{Failures, is_live}
 use Rattle.outcome_base.specs.Announcements.{Announcements, FullOutcome, FullRoute, Sent, given_under, sent_under, taken_under}
-use Rattle.announce_law.proofs.Inside.{taken-none}
+use Rattle.outcome_law.proofs.Inside.{taken-none}
 use Rattle.claim_law.specs.Laws.{MadeConfigurationsTakePermitted}
 use Rattle.claim_law.specs.Walked.{SomeWalkEnds}
 

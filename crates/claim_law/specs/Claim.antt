@@ -7,7 +7,7 @@ use Rattle.config_base.specs.Configs.{PlainConfig}
 use Rattle.outcome_base.specs.Outcomes.{Failures, Outcome, IsStable}
 use Rattle.outcome_base.specs.Right.{IsRight}
 use Rattle.outcome_base.specs.Withstanding.{WithstandsPeers}
-use Rattle.packets_law.specs.Longest.{CarriesPackets}
+use Rattle.outcome_law.specs.Longest.{CarriesPackets}
 use Rattle.motion_law.specs.Ever.{IsRightEver}
 use Rattle.motion_rest.specs.Rest.{RestsInMotion}
 use Rattle.multipath_law.specs.Spread.{SpreadsPackets}

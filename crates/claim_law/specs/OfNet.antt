@@ -1,7 +1,7 @@
 -- When a configuration is of a network: its blocks bear the names, the numbers and the identifiers of the network's locations, and
 -- routers originate what permitted walks end with.
 use Rattle.std.specs.Prelude.{◌≡◌, ℕ, List, [], ◌∷◌, length, Some, option_map, slice_get}
-use Rattle.list_laws.specs.Members.{IsIn}
+use Rattle.list_law.specs.Members.{IsIn}
 use Rattle.net_base.specs.declared.net.Site.{Site}
 use Rattle.net_base.specs.Locations.{neighbours}
 use Rattle.net_base.specs.Network.{PlainNet, asn_of, is_peer, site_of}

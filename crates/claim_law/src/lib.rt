@@ -2,7 +2,7 @@
 //!
 //! `specs/Claim` says it: the configuration keeps the policy. That is one record, and every command that speaks of such a
 //! configuration promises all of it. It names no evidence and no graph, so a reader need not believe anything of them. Its parts are
-//! definitions of `outcome_base`, `packets_law`, `multipath_law`, `motion_law`, `motion_rest` and `rest_law`, and two of its own: `specs/OfNet` says
+//! definitions of `outcome_base`, `outcome_law`, `multipath_law`, `motion_law`, `motion_rest` and `rest_law`, and two of its own: `specs/OfNet` says
 //! that the blocks of the configuration are those of this network, and `specs/Taken` what routers take from peers.
 //!
 //! `proofs/Claim` gives the record from evidence that passes, with one line for each part. Whoever finds one more thing that is so of

@@ -6,8 +6,8 @@ use Rattle.policy_base.specs.CaseNumbers.{OriginsAreRouters}
 use Rattle.policy_base.specs.Policies.{IsPolicy, PlainPolicy}
 use Rattle.config_base.specs.Configs.{PlainConfig}
 use Rattle.evidence_base.specs.Made.{PlainCaseEvidence, AreTags, IsConfigOf}
-use Rattle.config_made.specs.Conditions.{AreClasses, AreSingle}
-use Rattle.config_made.proofs.CaseClasses.{case_lists}
+use Rattle.config_maker.specs.Conditions.{AreClasses, AreSingle}
+use Rattle.config_maker.proofs.CaseClasses.{case_lists}
 use Rattle.evidence_law.specs.Passes.{Passes}
 use Rattle.compile_core.specs.Compiling.{IsEvidenceOfMade, IsMade}
 use Rattle.compile_core.proofs.Known.{known_at, single}

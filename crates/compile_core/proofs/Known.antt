@@ -4,7 +4,7 @@ use Rattle.std.specs.Prelude.{slice_get}
 use Rattle.std.specs.Option.{option_map}
 use Rattle.std.proofs.lemmas.List.{length-map}
 use Rattle.std.proofs.lemmas.Option.{slice_get-map, slice_get_within, same_Some}
-use Rattle.list_laws.proofs.Items.{slice_get_inside}
+use Rattle.list_law.proofs.Items.{slice_get_inside}
 use Rattle.net_base.specs.Network.{PlainNet, IsNet}
 use Rattle.net_base.specs.Sets.{holds}
 use Rattle.policy_base.specs.Cases.{case_list}
@@ -16,7 +16,7 @@ use Rattle.policy_base.specs.CaseOrigins.{AreOrigins}
 use Rattle.evidence_base.specs.Evidence.{IsCaseEvidence}
 use Rattle.evidence_base.specs.Made.{PlainCaseEvidence, AreTags, IsConfigOf, number_at}
 use Rattle.config_base.specs.Configs.{PlainConfig}
-use Rattle.config_made.specs.Conditions.{IsSingle}
+use Rattle.config_maker.specs.Conditions.{IsSingle}
 use Rattle.tag_assign.specs.Law.{AreAtLocations}
 use Rattle.tag_assign.specs.Tagging.{tags_of, all_nodes}
 use Rattle.tag_assign.proofs.Order.{tagging}

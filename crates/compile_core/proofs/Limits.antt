@@ -10,7 +10,7 @@ use Rattle.graph_base.specs.declared.graph.Node.{Node}
 use Rattle.graph_base.specs.Graphs.{PlainGraph}
 use Rattle.reach_prune.specs.Trimmed.{nodes_kept}
 use Rattle.node_quotient.specs.Quotient.{is_least}
-use Rattle.config_made.proofs.CaseClasses.{case_count}
+use Rattle.config_maker.proofs.CaseClasses.{case_count}
 use Rattle.tag_assign.specs.Tagging.{all_nodes}
 use Rattle.evidence_law.specs.Passes.{AreWithin, all_steps}
 use Rattle.graph_law.proofs.Counted.{built_walked}

@@ -3,7 +3,7 @@ use Rattle.std.proofs.Common.{◌≡◌, ℕ, suc, ◌+◌, ◌-◌, ◌<◌, Li
 use Rattle.std.specs.Prelude.{sum_by}
 use Rattle.std.proofs.lemmas.List.{length_push, map-append}
 use Rattle.std.proofs.lemmas.List.Sums.{sum_by-append, sum_by-cons}
-use Rattle.list_laws.proofs.Items.{slice_get_inside}
+use Rattle.list_law.proofs.Items.{slice_get_inside}
 use Rattle.net_base.specs.Network.{PlainNet}
 use Rattle.policy_base.specs.declared.case.Case.{Case}
 use Rattle.policy_base.specs.Cases.{case_list}

@@ -7,7 +7,7 @@ use Rattle.policy_base.specs.Cases.{case_list}
 use Rattle.policy_base.specs.Policies.{IsPolicy, PlainPolicy}
 use Rattle.config_base.specs.Configs.{PlainConfig}
 use Rattle.evidence_base.specs.Made.{PlainCaseEvidence, IsConfigOf}
-use Rattle.config_made.proofs.OneConfiguration.{one_configuration}
+use Rattle.config_maker.proofs.OneConfiguration.{one_configuration}
 use Rattle.evidence_law.specs.Passes.{Passes}
 use Rattle.policy_base.specs.CaseNumbers.{OfCase, OriginsAreRouters}
 use Rattle.case_core.specs.declared.refusal.CompileRefusal.{CompileRefusal}

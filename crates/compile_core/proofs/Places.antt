@@ -4,7 +4,7 @@ use Rattle.std.specs.Prelude.{unwrap_or, option_map, option_and_then}
 use Rattle.std.specs.List.{AllByRecursion}
 use Rattle.std.proofs.lemmas.Bool.{cases_Bool, ltb-true, not_from_false}
 use Rattle.std.proofs.lemmas.Option.{slice_get_within}
-use Rattle.list_laws.proofs.Members.{AllByRecursion-from_IsIn}
+use Rattle.list_law.proofs.Members.{AllByRecursion-from_IsIn}
 use Rattle.net_base.specs.Network.{PlainNet, IsNet, is_location}
 use Rattle.policy_base.specs.Meaning.{PathTest, alternatives, place_of as first_place, rank_of}
 use Rattle.policy_base.specs.Policies.{PlainStatement, Ranking}

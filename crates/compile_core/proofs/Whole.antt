@@ -11,9 +11,9 @@ use Rattle.graph_base.specs.Graphs.{PlainGraph}
 use Rattle.config_base.specs.Configs.{PlainConfig}
 use Rattle.evidence_base.specs.Evidence.{IsCaseEvidence}
 use Rattle.evidence_base.specs.Made.{PlainCaseEvidence, AreTags, IsConfigOf}
-use Rattle.config_made.specs.Conditions.{AreGraphs, AreSingle}
-use Rattle.config_made.proofs.CaseClasses.{case_lists}
-use Rattle.config_made.proofs.Possible.{configuration}
+use Rattle.config_maker.specs.Conditions.{AreGraphs, AreSingle}
+use Rattle.config_maker.proofs.CaseClasses.{case_lists}
+use Rattle.config_maker.proofs.Possible.{configuration}
 use Rattle.tag_assign.specs.Tagging.{tags_of, all_nodes}
 use Rattle.evidence_law.specs.Passes.{Passes}
 use Rattle.policy_base.specs.CaseNumbers.{OriginsAreRouters}

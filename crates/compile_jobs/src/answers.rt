@@ -13,13 +13,13 @@ ghost use Rattle.run_base.specs.Said.{IsGiven, said};
 use crate::pairs::compiled_evidence_for;
 use event_reader::{Events, EventsFault};
 use evidence_base::Evidence;
+use input_output::NoMemory;
 use input_texts::{events_for, net_of, policy_for, scenario_for};
 use net_base::Net;
-use outside::NoMemory;
 use policy_base::Policy;
 use run_base::Stop;
 use scenario_reader::ScenarioFault;
-use stable_paths::Scenario;
+use scenarios::Scenario;
 use std::alloc::Global;
 
 /// What a third text asks.

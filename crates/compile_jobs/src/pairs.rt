@@ -9,8 +9,8 @@ ghost use Rattle.run_base.specs.declared.outcome.Status.TheVariants.{Refused};
 
 use compile_core::{CompileRefusal, Compiled, compile, compiled_evidence};
 use evidence_base::Evidence;
+use input_output::NoMemory;
 use net_base::Net;
-use outside::NoMemory;
 use policy_base::Policy;
 use refusal_lines::refusal_line;
 use run_base::{Status, Stop};

@@ -2,7 +2,7 @@
 use Rattle.std.proofs.Common.{◌≡◌, ℕ, Bool, true, false, List, [], ◌∷◌, Some, refl, sym, ap, subst, IsTrue}
 use Rattle.std.specs.Prelude.{◌||◌, ◌&&◌, ◌==◌, MatchBool, if◌then◌else◌}
 use Rattle.std.specs.List.{find, AllByRecursion}
-use Rattle.list_laws.proofs.Each.{AllByRecursion-weaker}
+use Rattle.list_law.proofs.Each.{AllByRecursion-weaker}
 use Rattle.net_base.specs.declared.numbers.Tag.{Tag}
 use Rattle.net_base.specs.Numbers.{no_tag, is_tag}
 use Rattle.net_base.specs.Network.{PlainNet}

@@ -6,7 +6,7 @@ use Rattle.std.specs.List.Sorted.{IsPartitionedBy, IsPartitionPoint}
 use Rattle.std.specs.Fn.{Mut, Called, ComputesKey}
 use Rattle.std.proofs.lemmas.List.Sorted.{IsPartitionPoint-from_clause}
 use Rattle.std.proofs.lemmas.Bool.Decides.{nat_tests}
-use Rattle.list_laws.proofs.Tests.{list_any-find}
+use Rattle.list_law.proofs.Tests.{list_any-find}
 use Rattle.config_base.specs.Configs.{Key, IsBelow, Ascend}
 
 -- the first key stands above the second

@@ -6,8 +6,8 @@ use Rattle.std.specs.Str.{bytes_eq}
 use Rattle.std.specs.Option.{option_map_or}
 use Rattle.std.proofs.lemmas.Bool.{false≢true}
 use Rattle.std.proofs.lemmas.Slice.Eq.{bytes_eq-Decides}
-use Rattle.list_laws.proofs.Keys.{one_by_key}
-use Rattle.list_laws.proofs.Tests.{find_from, find_parts}
+use Rattle.list_law.proofs.Keys.{one_by_key}
+use Rattle.list_law.proofs.Tests.{find_from, find_parts}
 use Rattle.net_base.specs.declared.net.Site.{Site}
 use Rattle.net_base.specs.Network.{PlainNet, is_named, site_of}
 use Rattle.config_base.specs.declared.config.RouterConfig.{RouterConfig}

@@ -7,8 +7,8 @@ use Rattle.std.specs.Option.{option_map, option_map_or, IfSome}
 use Rattle.std.proofs.lemmas.Bool.{ltb-false, le-leb}
 use Rattle.std.proofs.lemmas.List.{length-append}
 use Rattle.std.proofs.lemmas.Option.{slice_get_past}
-use Rattle.list_laws.proofs.Each.{AllByRecursion_at}
-use Rattle.list_laws.proofs.Tests.{find_parts, find-same, find-never}
+use Rattle.list_law.proofs.Each.{AllByRecursion_at}
+use Rattle.list_law.proofs.Tests.{find_parts, find-same, find-never}
 use Rattle.net_base.specs.declared.net.Site.{Site}
 use Rattle.net_base.specs.Network.{PlainNet, is_named, is_router, is_location, is_peer, site_of, sites}
 use Rattle.config_base.specs.declared.config.RouterConfig.{RouterConfig}

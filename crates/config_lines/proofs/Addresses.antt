@@ -7,7 +7,7 @@ use Rattle.std.specs.Fmt.{decimal}
 use Rattle.std.proofs.lemmas.Bool.{and_parts, eqb-true, eqb-false, leb-true, le-leb}
 use Rattle.std.proofs.lemmas.Option.{same_Some}
 use Rattle.std.proofs.lemmas.Fmt.{decimal_digit, decimal_step}
-use Rattle.list_laws.proofs.Positions.{position_or_len-first, position_or_len-next}
+use Rattle.list_law.proofs.Positions.{position_or_len-first, position_or_len-next}
 use Rattle.net_base.proofs.PrefixLemmas.{bits_below}
 use Rattle.net_base.specs.Addresses.{is_figure, is_leading, small_number, cut_at, Quad, number_and_rest, quad_of, are_octets, bits_of, address_of}
 use Rattle.net_base.specs.Prefixes.{PlainPrefix}
@@ -15,8 +15,8 @@ use Rattle.net_base.specs.PrefixText.{length_number, prefix_spelled}
 use Rattle.net_base.specs.Steps.{or_fault, unless}
 use Rattle.net_base.specs.declared.prefix_text.PrefixFault.TheVariants.{Shape, Octet, Length, HostBits}
 use Rattle.net_base.proofs.StepLemmas.{bind_ok, unless_ok, or_fault_ok, ok_same}
-use Rattle.text_words.specs.Texts.{address_text, prefix_text}
-use Rattle.text_words.proofs.Numbers.{figure_range}
+use Rattle.text_parts.specs.Texts.{address_text, prefix_text}
+use Rattle.text_parts.proofs.Numbers.{figure_range}
 use Rattle.config_lines.proofs.Chains.{bind_some}
 
 abbrev is_sign : ℕ → ℕ → Bool

@@ -9,8 +9,8 @@ use Rattle.std.proofs.lemmas.Str.Parse.{IsNumeralModel, IsDigitsTest, FoldsDigit
 use Rattle.net_base.specs.Addresses.{is_figure}
 use Rattle.net_base.specs.Steps.{unless}
 use Rattle.net_base.proofs.StepLemmas.{bind_ok, unless_ok, ok_same}
-use Rattle.text_words.proofs.Numbers.{figure_range}
-use Rattle.text_words.proofs.Words.{figures}
+use Rattle.text_parts.proofs.Numbers.{figure_range}
+use Rattle.text_parts.proofs.Words.{figures}
 use Rattle.config_lines.specs.declared.line.LineFault.TheVariants.{Form}
 use Rattle.config_lines.specs.declared.number.Figure.TheVariants.{LeadingZero, Large, Value}
 use Rattle.config_lines.specs.Numbers.{is_number, is_padded, value_of, with_digit, figure_of, number_of}

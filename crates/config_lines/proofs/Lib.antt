@@ -14,3 +14,9 @@ pub mod ReadForms
 pub mod Solid
 pub mod Tags
 pub mod WrittenForms
+pub mod CutLines
+pub mod FedLines
+pub mod FirstFaults
+pub mod LineByLine
+pub mod Runs
+pub mod WholeLines

@@ -3,7 +3,7 @@ use Rattle.std.proofs.Common.{Bor, ◌≡◌, ℕ, ◌<◌, List, [], ◌∷◌,
 use Rattle.std.specs.Prelude.{◌==◌, ◌⊎◌, codes}
 use Rattle.std.specs.Str.{bytes_eq}
 use Rattle.std.proofs.lemmas.Bool.{ne_eqb}
-use Rattle.list_laws.proofs.Truth.{either_way}
+use Rattle.list_law.proofs.Truth.{either_way}
 use Rattle.net_base.specs.Steps.{◌>>=◌, unless}
 use Rattle.config_lines.specs.declared.edition.Edition.{Edition}
 use Rattle.config_lines.specs.declared.line.LineFault.{LineFault}

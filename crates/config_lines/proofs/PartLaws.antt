@@ -13,7 +13,7 @@ use Rattle.net_base.specs.Steps.{unless}
 use Rattle.net_base.specs.declared.prefix_text.PrefixFault.{PrefixFault}
 use Rattle.net_base.proofs.PrefixLemmas.{prefix_spelled-IsPrefix}
 use Rattle.net_base.proofs.StepLemmas.{bind_ok, unless_ok, ok_same}
-use Rattle.text_words.specs.Texts.{address_text, prefix_text}
+use Rattle.text_parts.specs.Texts.{address_text, prefix_text}
 use Rattle.config_base.specs.Configs.{IsClass}
 use Rattle.config_lines.specs.declared.line.LineFault.TheVariants.{Form, Number}
 use Rattle.config_lines.specs.declared.number.Figure.{Figure}

@@ -10,8 +10,8 @@ use Rattle.net_base.specs.Prefixes.{PlainPrefix, PlainPattern, IsPattern, only}
 use Rattle.net_base.specs.PrefixText.{prefix_spelled, length_number}
 use Rattle.net_base.specs.Steps.{or_fault, unless}
 use Rattle.net_base.proofs.StepLemmas.{bind_ok, unless_ok, or_fault_ok, ok_same}
-use Rattle.text_words.specs.Texts.{prefix_text, pattern_text}
-use Rattle.text_words.proofs.PrefixTexts.{prefix_spelled-prefix_text, length_number-decimal, have_no}
+use Rattle.text_parts.specs.Texts.{prefix_text, pattern_text}
+use Rattle.text_parts.proofs.PrefixTexts.{prefix_spelled-prefix_text, length_number-decimal, have_no}
 use Rattle.config_lines.specs.declared.line.LineFault.{LineFault}
 use Rattle.config_lines.specs.declared.line.LineFault.TheVariants.{Form}
 use Rattle.config_lines.specs.LineText.{next_pattern}

@@ -15,7 +15,7 @@ use Rattle.net_base.specs.PrefixText.{prefix_spelled}
 use Rattle.net_base.specs.Steps.{unless}
 use Rattle.net_base.specs.declared.numbers.Tag.{Tag}
 use Rattle.net_base.proofs.StepLemmas.{bind_ok, unless_ok, ok_same}
-use Rattle.text_words.specs.Texts.{address_text, prefix_text, pattern_text}
+use Rattle.text_parts.specs.Texts.{address_text, prefix_text, pattern_text}
 use Rattle.config_base.specs.declared.config.Import.{Import}
 use Rattle.config_base.specs.declared.config.Origination.{Origination}
 use Rattle.config_base.specs.declared.config.Export.{Export}

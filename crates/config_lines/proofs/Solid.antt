@@ -9,11 +9,11 @@ use Rattle.std.proofs.lemmas.List.Splits.{slice_split-cons_yes, slice_split-cons
 use Rattle.net_base.specs.Addresses.{is_figure}
 use Rattle.net_base.specs.NameRule.{is_name, is_name_byte}
 use Rattle.net_base.specs.Prefixes.{PlainPrefix, IsPrefix}
-use Rattle.text_words.specs.Texts.{address_text, prefix_text}
-use Rattle.text_words.proofs.NameBytes.{name_bytes}
-use Rattle.text_words.proofs.Numbers.{figure_range}
-use Rattle.text_words.proofs.PrefixTexts.{have_no, digits_only}
-use Rattle.text_words.proofs.Words.{figures}
+use Rattle.text_parts.specs.Texts.{address_text, prefix_text}
+use Rattle.text_parts.proofs.NameBytes.{name_bytes}
+use Rattle.text_parts.proofs.Numbers.{figure_range}
+use Rattle.text_parts.proofs.PrefixTexts.{have_no, digits_only}
+use Rattle.text_parts.proofs.Words.{figures}
 
 -- each byte is above a space and a comma
 abbrev pub solid : List ℕ → Bool

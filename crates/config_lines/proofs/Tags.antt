@@ -9,9 +9,9 @@ use Rattle.net_base.specs.Addresses.{is_figure, cut_at}
 use Rattle.net_base.specs.Steps.{or_fault, unless}
 use Rattle.net_base.specs.declared.numbers.Tag.{Tag}
 use Rattle.net_base.proofs.StepLemmas.{bind_ok, unless_ok, or_fault_ok, ok_same}
-use Rattle.text_words.specs.Ends.{stops}
-use Rattle.text_words.proofs.PrefixTexts.{cut_at-there}
-use Rattle.text_words.proofs.Words.{number_cut}
+use Rattle.text_parts.specs.Ends.{stops}
+use Rattle.text_parts.proofs.PrefixTexts.{cut_at-there}
+use Rattle.text_parts.proofs.Words.{number_cut}
 use Rattle.config_lines.specs.declared.edition.Edition.{Edition}
 use Rattle.config_lines.specs.declared.edition.Edition.TheVariants.{First, Second}
 use Rattle.config_lines.specs.declared.line.LineFault.TheVariants.{Form, Number}

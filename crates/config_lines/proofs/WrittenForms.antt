@@ -7,8 +7,8 @@ use Rattle.std.proofs.lemmas.Bool.{ne_eqb}
 use Rattle.std.proofs.lemmas.List.Folds.{list_all-append}
 use Rattle.net_base.specs.NameRule.{is_name}
 use Rattle.net_base.specs.Prefixes.{PlainPattern, IsPattern}
-use Rattle.text_words.specs.Texts.{address_text, prefix_text, pattern_text}
-use Rattle.text_words.proofs.PrefixTexts.{address_of-address_text, prefix_spelled-prefix_text, have_no}
+use Rattle.text_parts.specs.Texts.{address_text, prefix_text, pattern_text}
+use Rattle.text_parts.proofs.PrefixTexts.{address_of-address_text, prefix_spelled-prefix_text, have_no}
 use Rattle.config_base.specs.declared.config.Import.{Import}
 use Rattle.config_base.specs.declared.config.Origination.{Origination}
 use Rattle.config_base.specs.declared.config.Export.{Export}

@@ -6,3 +6,4 @@ pub mod Numbers
 pub mod Parts
 pub mod Patterns
 pub mod Words
+pub mod LineLines

@@ -6,7 +6,7 @@ use Rattle.net_base.specs.NameRule.{is_name}
 use Rattle.net_base.specs.Numbers.{no_tag}
 use Rattle.net_base.specs.Prefixes.{PlainPattern, IsPrefix, IsPattern}
 use Rattle.net_base.specs.declared.numbers.Tag.{Tag}
-use Rattle.text_words.specs.Texts.{address_text, prefix_text, pattern_text}
+use Rattle.text_parts.specs.Texts.{address_text, prefix_text, pattern_text}
 use Rattle.config_base.specs.declared.config.Import.{Import}
 use Rattle.config_base.specs.Configs.{IsClass}
 use Rattle.config_lines.specs.declared.edition.Edition.{Edition}

@@ -1,4 +1,9 @@
-//! The lines of configuration texts: what a line says, how it is written, and what is wrong with one.
+//! The lines of configuration texts, in both editions: what a line says, how it is written, and what is wrong with one.
+//!
+//! A text is cut part by part, and a line into words, without taking memory: a hostile text of line feeds or spaces would cost a slice for
+//! each of them. The words of a line are in an array of ten; no form of line has more. `specs/Lines` and the lemmas beside it say of any text
+//! that is cut at its line feeds, and of lines that are taken one after another, what they join to and which fault is the first: the readers
+//! of configurations and of maps cite them. What comes before a line is unknown here.
 #![tactic(auto)]
 
 mod cut;

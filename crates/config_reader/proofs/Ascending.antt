@@ -5,7 +5,7 @@ use Rattle.std.specs.List.{AllByRecursion, IsDistinct}
 use Rattle.std.specs.Option.{option_map}
 use Rattle.std.proofs.lemmas.Bool.{ltb-true, eqb-true}
 use Rattle.std.proofs.lemmas.List.{map-append}
-use Rattle.list_laws.proofs.Each.{AllByRecursion-push}
+use Rattle.list_law.proofs.Each.{AllByRecursion-push}
 use Rattle.config_base.specs.Configs.{Key, IsBelow, Ascend}
 use Rattle.config_reader.specs.Order.{is_below, is_above, last_of, ascends}
 

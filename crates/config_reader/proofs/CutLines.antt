@@ -5,7 +5,7 @@ use Rattle.std.specs.Prelude.{◌&&◌, ◌==◌, is_none}
 use Rattle.std.specs.Bool.{then_some}
 use Rattle.std.specs.Option.{ok_or}
 use Rattle.std.proofs.lemmas.Bool.{ne_eqb, and_parts}
-use Rattle.list_laws.proofs.Options.{is_none_parts}
+use Rattle.list_law.proofs.Options.{is_none_parts}
 use Rattle.net_base.proofs.StepLemmas.{ok_same}
 use Rattle.net_base.specs.Addresses.{cut_at}
 use Rattle.config_lines.specs.declared.edition.Edition.{Edition}
@@ -15,9 +15,9 @@ use Rattle.config_reader.specs.declared.fault.ConfigFault.{ConfigFault}
 use Rattle.config_reader.specs.declared.fault.ConfigFault.TheVariants as fault
 use Rattle.config_reader.specs.declared.reading.Reading.{Reading}
 use Rattle.config_reader.specs.Reading.{opening}
-use Rattle.line_laws.specs.Lines.{lines_of}
-use Rattle.line_laws.proofs.CutLines.{lines_of-some}
-use Rattle.line_laws.proofs.LineByLine.{IsTaken, fault_stops, all_taken}
+use Rattle.config_lines.specs.LineLines.{lines_of}
+use Rattle.config_lines.proofs.CutLines.{lines_of-some}
+use Rattle.config_lines.proofs.LineByLine.{IsTaken, fault_stops, all_taken}
 use Rattle.config_reader.specs.Text.{with_line, finished, behind_heading, in_lines, spelled_in}
 
 -- the line has a fault

@@ -6,7 +6,7 @@ use Rattle.config_reader.specs.declared.reading.Reading.{Reading}
 use Rattle.config_reader.specs.FirstFault.{IsFirstFault}
 use Rattle.config_reader.specs.Reading.{opening}
 use Rattle.config_reader.specs.Text.{with_line, with_lines}
-use Rattle.line_laws.proofs.FirstFaults.{first_from, fault_from}
+use Rattle.config_lines.proofs.FirstFaults.{first_from, fault_from}
 
 pub first_fault : (edition : Edition) (texts : List (List ℕ)) (e : ConfigFault) → with_lines edition 2 opening texts ≡ Err e → IsFirstFault edition texts e
 first_fault edition texts e h =

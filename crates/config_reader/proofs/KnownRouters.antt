@@ -8,8 +8,8 @@ use Rattle.std.proofs.lemmas.List.Folds.{list_any-append}
 use Rattle.std.proofs.lemmas.Slice.Eq.{bytes_eq-Decides}
 use Rattle.std.proofs.Math.Bool.{or-false}
 use Rattle.indexmap.specs.IndexSet.{insert_key}
-use Rattle.list_laws.proofs.Numbers.{eqb_comm}
-use Rattle.list_laws.proofs.Texts.{bytes_eq_apart, bytes_eq_self}
+use Rattle.list_law.proofs.Numbers.{eqb_comm}
+use Rattle.list_law.proofs.Texts.{bytes_eq_apart, bytes_eq_self}
 use Rattle.config_base.specs.declared.config.RouterConfig.{RouterConfig}
 use Rattle.config_reader.specs.Known.{AreKnown}
 use Rattle.config_reader.specs.Reading.{stood_before}

@@ -5,9 +5,9 @@ use Rattle.std.specs.List.{list_any, AllByRecursion, IsDistinct}
 use Rattle.std.specs.Str.{bytes_eq}
 use Rattle.std.proofs.lemmas.Bool.{and_parts, not-true, eqb-true}
 use Rattle.std.proofs.lemmas.List.{map-append}
-use Rattle.list_laws.proofs.Each.{AllByRecursion-push, AllByRecursion-weaker, AllByRecursion-append_parts, AllByRecursion-from_list_any}
-use Rattle.list_laws.proofs.Options.{is_none_parts}
-use Rattle.list_laws.proofs.Texts.{bytes_eq_apart}
+use Rattle.list_law.proofs.Each.{AllByRecursion-push, AllByRecursion-weaker, AllByRecursion-append_parts, AllByRecursion-from_list_any}
+use Rattle.list_law.proofs.Options.{is_none_parts}
+use Rattle.list_law.proofs.Texts.{bytes_eq_apart}
 use Rattle.net_base.specs.NameRule.{is_name}
 use Rattle.net_base.specs.Numbers.{is_router_as, is_peer_as, is_tag, no_tag}
 use Rattle.net_base.specs.Prefixes.{PlainPattern}

@@ -7,7 +7,7 @@ use Rattle.std.proofs.lemmas.Bool.{and_parts, eqb-true, eqb-false, not-true}
 use Rattle.std.proofs.lemmas.List.Splits.{join_with_byte-slice_split}
 use Rattle.std.proofs.lemmas.List.{length-take, nil_from_length}
 use Rattle.std.proofs.lemmas.Slice.Eq.{bytes_eq-Decides}
-use Rattle.list_laws.proofs.Options.{is_none_parts}
+use Rattle.list_law.proofs.Options.{is_none_parts}
 use Rattle.net_base.specs.Gives.{GivesUnless}
 use Rattle.net_base.specs.Steps.{unless}
 use Rattle.net_base.proofs.StepLemmas.{bind_ok, unless_ok, ok_same}
@@ -28,10 +28,10 @@ use Rattle.config_reader.specs.declared.fault.ConfigFault.TheVariants as fault
 use Rattle.config_reader.specs.declared.reading.OpenRouter.{OpenRouter}
 use Rattle.config_reader.specs.declared.reading.Reading.{Reading}
 use Rattle.config_reader.specs.Reading.{opening, after}
-use Rattle.line_laws.specs.Lines.{lines_of, whole_lines, last_line}
-use Rattle.line_laws.proofs.CutLines.{few_lines}
-use Rattle.line_laws.proofs.FedLines.{fed_lines, fed_texts, join_front}
-use Rattle.line_laws.proofs.WholeLines.{last_split}
+use Rattle.config_lines.specs.LineLines.{lines_of, whole_lines, last_line}
+use Rattle.config_lines.proofs.CutLines.{few_lines}
+use Rattle.config_lines.proofs.FedLines.{fed_lines, fed_texts, join_front}
+use Rattle.config_lines.proofs.WholeLines.{last_split}
 use Rattle.config_reader.specs.Text.{with_line, with_lines, finished, behind_heading, in_lines, spelled_in}
 use Rattle.config_reader.proofs.Lawful.{IsReading, after_keeps, opening_keeps, reading_lawful}
 use Rattle.config_reader.proofs.SoFar.{so_far, open_lines, after_adds}

@@ -7,9 +7,9 @@ use Rattle.std.specs.Option.{option_map}
 use Rattle.std.specs.Str.{bytes_eq}
 use Rattle.std.proofs.lemmas.Bool.{cases_lt, eq-eqb, lt-ltb, le-ltb}
 use Rattle.std.proofs.lemmas.List.{map-append}
-use Rattle.list_laws.proofs.Keys.{others_before}
-use Rattle.list_laws.proofs.Numbers.{nat_eq_apart}
-use Rattle.list_laws.proofs.Texts.{bytes_eq_apart}
+use Rattle.list_law.proofs.Keys.{others_before}
+use Rattle.list_law.proofs.Numbers.{nat_eq_apart}
+use Rattle.list_law.proofs.Texts.{bytes_eq_apart}
 use Rattle.net_base.specs.Prefixes.{PlainPattern}
 use Rattle.config_base.specs.declared.config.RouterConfig.{RouterConfig}
 use Rattle.config_base.specs.declared.config.Session.{Session}
@@ -25,7 +25,7 @@ use Rattle.config_reader.specs.declared.reading.OpenRouter.{OpenRouter}
 use Rattle.config_reader.specs.declared.reading.Reading.{Reading}
 use Rattle.config_reader.specs.declared.reading.Misplaced.{Misplaced}
 use Rattle.config_reader.specs.Reading.{after, with_class, with_router, own_into, neighbour_into, import_into, export_into, in_neighbour, in_router, with_end, closed, stood_before}
-use Rattle.line_laws.proofs.Runs.{run as run_by, run_step, run_append}
+use Rattle.config_lines.proofs.Runs.{run as run_by, run_step, run_append}
 use Rattle.config_reader.proofs.Ascending.{last_later}
 use Rattle.config_reader.proofs.Steps.{with_block}
 

@@ -5,7 +5,7 @@ use Rattle.std.specs.List.{flat_map}
 use Rattle.std.proofs.lemmas.Bool.{and_parts, eqb-true}
 use Rattle.std.proofs.lemmas.List.{map-append, nil_from_length}
 use Rattle.std.proofs.lemmas.List.Concat.{flat_map-append}
-use Rattle.list_laws.proofs.Options.{is_none_parts}
+use Rattle.list_law.proofs.Options.{is_none_parts}
 use Rattle.net_base.specs.Prefixes.{PlainPattern}
 use Rattle.config_base.specs.declared.config.RouterConfig.{RouterConfig}
 use Rattle.config_base.specs.declared.config.Session.{Session}

@@ -6,7 +6,7 @@ use Rattle.std.specs.Str.{bytes_eq}
 use Rattle.std.proofs.lemmas.Bool.{ne_eqb}
 use Rattle.std.proofs.lemmas.Slice.Eq.{bytes_eq-Decides}
 use Rattle.std.proofs.lemmas.List.{map-append}
-use Rattle.list_laws.proofs.Each.{AllByRecursion-append, AllByRecursion-append_parts, AllByRecursion-weaker, AllByRecursion-both}
+use Rattle.list_law.proofs.Each.{AllByRecursion-append, AllByRecursion-append_parts, AllByRecursion-weaker, AllByRecursion-both}
 use Rattle.net_base.specs.Gives.{GivesUnless}
 use Rattle.net_base.specs.Prefixes.{PlainPattern}
 use Rattle.config_base.specs.declared.config.RouterConfig.{RouterConfig}
@@ -20,7 +20,7 @@ use Rattle.config_lines.specs.declared.line.Line.TheVariants as line
 use Rattle.config_lines.specs.Editions.{first_line}
 use Rattle.config_lines.specs.LineText.{line_text, IsLine}
 use Rattle.config_lines.specs.Lines.{line_of}
-use Rattle.text_words.proofs.PrefixTexts.{have_no}
+use Rattle.text_parts.proofs.PrefixTexts.{have_no}
 use Rattle.config_lines.proofs.WrittenForms.{IsReadAgain, class_there_by, lines_read}
 use Rattle.config_text.specs.ConfigLines.{fed, lines, lines_of_classes, head_of, import_of, lines_of_session, lines_before_end, lines_of_router}
 use Rattle.config_text.specs.Spelled.{IsLawful, HasLinesOf, SpellsIn}
@@ -29,11 +29,11 @@ use Rattle.config_reader.specs.declared.fault.ConfigFault.{ConfigFault}
 use Rattle.config_reader.specs.declared.fault.ConfigFault.TheVariants.{NoMemory}
 use Rattle.config_reader.specs.declared.reading.Reading.{Reading}
 use Rattle.config_reader.specs.Reading.{opening, after}
-use Rattle.line_laws.specs.Lines.{lines_of}
-use Rattle.line_laws.proofs.FedLines.{cut_lines}
-use Rattle.line_laws.proofs.LineByLine.{line_by_line-append}
-use Rattle.line_laws.proofs.Runs.{run_taken}
-use Rattle.line_laws.proofs.WholeLines.{whole_push}
+use Rattle.config_lines.specs.LineLines.{lines_of}
+use Rattle.config_lines.proofs.FedLines.{cut_lines}
+use Rattle.config_lines.proofs.LineByLine.{line_by_line-append}
+use Rattle.config_lines.proofs.Runs.{run_taken}
+use Rattle.config_lines.proofs.WholeLines.{whole_push}
 use Rattle.config_reader.specs.Text.{with_line, with_lines, finished, behind_heading, in_lines, spelled_in}
 use Rattle.config_reader.proofs.Runs.{at, run_classes, run_routers}
 use Rattle.config_reader.proofs.Steps.{router_ok, own_ok, neighbour_ok, import_ok, export_ok, end_ok}

@@ -1,7 +1,7 @@
 -- The numbers of the faults, their words and their values.
 use Rattle.std.specs.Prelude.{ℕ, List, [], ◌++◌, codes}
 use Rattle.std.specs.Fmt.{decimal}
-use Rattle.text_faults.specs.Telling.{Telling}
+use Rattle.text_parts.specs.Telling.{Telling}
 use Rattle.config_reader.specs.declared.fault.ConfigFault.{ConfigFault}
 use Rattle.config_reader.specs.declared.fault.ConfigFault.TheVariants.{Version, Line, Order, Twice, Number, Unfinished, NoMemory}
 

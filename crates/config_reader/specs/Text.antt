@@ -10,7 +10,7 @@ use Rattle.config_lines.specs.declared.line.LineFault.{LineFault}
 use Rattle.config_lines.specs.declared.line.LineFault.TheVariants as line
 use Rattle.config_lines.specs.Editions.{first_line}
 use Rattle.config_lines.specs.Lines.{line_of}
-use Rattle.line_laws.specs.Lines.{lines_of, whole_lines, last_line, line_by_line}
+use Rattle.config_lines.specs.LineLines.{lines_of, whole_lines, last_line, line_by_line}
 use Rattle.config_reader.specs.declared.fault.ConfigFault.{ConfigFault}
 use Rattle.config_reader.specs.declared.fault.ConfigFault.TheVariants as fault
 use Rattle.config_reader.specs.declared.reading.Reading.{Reading}

@@ -2,10 +2,9 @@
 ghost use Rattle.std.specs.Prelude.{◌≡◌, ◌++◌, OnOk};
 ghost use Rattle.config_reader.specs.Faults.{line_number_text};
 
-use outside::NoMemory;
+use input_output::NoMemory;
 use std::alloc::{AllocError, AllocFailed};
-use text_faults::TextFault;
-use text_words::{push_bytes, push_number};
+use text_parts::{TextFault, push_bytes, push_number};
 
 /// Why a text is no configuration. Version is judged first, then each line from the second on, and last whether
 /// the text is finished; of a line Line comes before Number, Number before Order, and Order before Twice. Lines

@@ -7,7 +7,7 @@ use Rattle.std.proofs.lemmas.List.{append_cancel_left}
 use Rattle.std.proofs.lemmas.Bool.{and_parts, not-true}
 use Rattle.net_base.specs.NameRule.{is_name}
 use Rattle.net_base.specs.Prefixes.{PlainPattern}
-use Rattle.text_words.specs.Texts.{address_text}
+use Rattle.text_parts.specs.Texts.{address_text}
 use Rattle.config_base.specs.declared.config.RouterConfig.{RouterConfig}
 use Rattle.config_base.specs.declared.config.Session.{Session}
 use Rattle.config_base.specs.declared.config.Import.{Import}
@@ -17,8 +17,8 @@ use Rattle.config_base.specs.Configs.{PlainConfig}
 use Rattle.config_lines.specs.declared.edition.Edition.{Edition}
 use Rattle.config_lines.specs.Editions.{first_line}
 use Rattle.config_text.specs.ConfigText.{own_line, import_line, export_line, session_line, session_text, router_text, class_lines, text_in}
-use Rattle.text_words.proofs.Words.{number_cut, address_cut, after}
-use Rattle.text_words.proofs.Pieces.{name_cut}
+use Rattle.text_parts.proofs.Words.{number_cut, address_cut, after}
+use Rattle.text_parts.proofs.Pieces.{name_cut}
 use Rattle.config_text.proofs.Repeats.{list_cut, begins, any_text}
 use Rattle.config_text.proofs.Classes.{IsFullClass, classes_cut}
 use Rattle.config_text.proofs.Lines.{IsShortOrigination, owns_cut, IsShortImport, imports_cut, IsShortExport, begins_export, exports_cut}

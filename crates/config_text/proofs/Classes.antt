@@ -5,13 +5,13 @@ use Rattle.std.specs.List.{flat_map, AllByRecursion}
 use Rattle.std.specs.Fmt.{decimal}
 use Rattle.std.proofs.lemmas.List.{append_cancel_left}
 use Rattle.net_base.specs.Prefixes.{PlainPattern, IsPattern}
-use Rattle.text_words.specs.Texts.{pattern_text}
+use Rattle.text_parts.specs.Texts.{pattern_text}
 use Rattle.config_lines.specs.declared.edition.Edition.{Edition}
 use Rattle.config_text.specs.ConfigText.{class_line, class_lines}
 use Rattle.config_lines.specs.LineText.{next_pattern, joined_patterns}
-use Rattle.text_words.proofs.Words.{after}
-use Rattle.text_words.specs.Ends.{ends_pattern}
-use Rattle.text_words.proofs.Pieces.{pattern_cut}
+use Rattle.text_parts.proofs.Words.{after}
+use Rattle.text_parts.specs.Ends.{ends_pattern}
+use Rattle.text_parts.proofs.Pieces.{pattern_cut}
 use Rattle.config_text.proofs.Repeats.{list_cut, begins}
 
 -- ---- patterns

@@ -1,7 +1,7 @@
 -- A lawful configuration's numbers are short, so its text is read in one way only.
 use Rattle.std.proofs.Common.{◌≡◌, ℕ, ◌^◌, ◌<◌, List, [], length, Bool, true, false, sym, ◌∙◌, arith}
 use Rattle.std.specs.Prelude.{◌≢◌, IsTrue, MatchBool}
-use Rattle.list_laws.proofs.Each.{AllByRecursion-both, AllByRecursion-weaker}
+use Rattle.list_law.proofs.Each.{AllByRecursion-both, AllByRecursion-weaker}
 use Rattle.net_base.specs.declared.numbers.Tag.{Tag}
 use Rattle.net_base.specs.Numbers.{is_router_as, is_peer_as, is_tag, no_tag}
 use Rattle.net_base.specs.Prefixes.{PlainPattern}

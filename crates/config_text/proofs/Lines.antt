@@ -8,18 +8,18 @@ use Rattle.net_base.specs.declared.numbers.Tag.{Tag}
 use Rattle.net_base.specs.Addresses.{is_figure}
 use Rattle.net_base.specs.Numbers.{no_tag}
 use Rattle.net_base.specs.Prefixes.{PlainPrefix, IsPrefix}
-use Rattle.text_words.specs.Texts.{prefix_text}
+use Rattle.text_parts.specs.Texts.{prefix_text}
 use Rattle.config_base.specs.declared.config.Import.{Import}
 use Rattle.config_base.specs.declared.config.Export.{Export}
 use Rattle.config_base.specs.declared.config.Origination.{Origination}
 use Rattle.config_text.specs.ConfigText.{own_line, import_line, export_line}
-use Rattle.text_words.specs.Ends.{stops}
+use Rattle.text_parts.specs.Ends.{stops}
 use Rattle.config_lines.specs.declared.edition.Edition.{Edition}
 use Rattle.config_lines.specs.Editions.{tag_text}
 use Rattle.config_lines.specs.LineText.{read_tag, set_text, import_text}
 use Rattle.config_lines.proofs.Tags.{IsShort, tag_cut}
-use Rattle.text_words.proofs.Words.{number_cut, after}
-use Rattle.text_words.proofs.Pieces.{prefix_cut}
+use Rattle.text_parts.proofs.Words.{number_cut, after}
+use Rattle.text_parts.proofs.Pieces.{prefix_cut}
 use Rattle.config_text.proofs.Repeats.{list_cut, begins, any_text}
 
 -- ---- originate lines

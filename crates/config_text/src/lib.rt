@@ -12,11 +12,11 @@ ghost use Rattle.config_text.specs.Spelled.{ArePatterns, HasPrefix, IsNamed, Has
 
 use config_base::{Config, Export, Import, Origination, RouterConfig, Session};
 use config_lines::Edition;
+use input_output::NoMemory;
 use net_base::{List, Pattern, Tag};
-use outside::NoMemory;
 use std::alloc::Global;
 use tail::{Front, Tail};
-use text_words::{push_address, push_bytes, push_name, push_number, push_pattern, push_prefix};
+use text_parts::{push_address, push_bytes, push_name, push_number, push_pattern, push_prefix};
 
 mod law;
 mod tail;

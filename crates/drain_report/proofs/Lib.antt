@@ -1,3 +1,9 @@
 pub mod Walking
 pub mod Sparing
 pub mod Telling
+pub mod Cutting
+pub mod Keeping
+pub mod Moving
+pub mod Freeing
+pub mod Failing
+pub mod Quiet

@@ -4,10 +4,10 @@ use Rattle.std.specs.Prelude.{◌&&◌, ◌==◌, is_some, not, slice_get}
 use Rattle.std.specs.List.{flat_map, list_any}
 use Rattle.std.specs.Option.{option_and_then}
 use Rattle.std.proofs.lemmas.Bool.{and_from, and_parts, cases_Bool, eqb-true, false_from_ne_true, lt-ltb, not-true, not_from_false, or_from, true≢false}
-use Rattle.list_laws.specs.Members.{IsIn}
-use Rattle.list_laws.proofs.Members.{AllByRecursion-IsIn, IsIn-append_cases, IsIn-append_left, IsIn-append_right, IsIn-filter, IsIn-filter_parts, IsIn-flat_map}
-use Rattle.list_laws.proofs.Members.{IsIn-flat_map_parts, IsIn-map, IsIn-map_parts, IsIn-nil, list_any-from_IsIn, list_any_member}
-use Rattle.list_laws.proofs.Options.{is_some_from, is_some_parts, none_or_some, option_and_then_parts}
+use Rattle.list_law.specs.Members.{IsIn}
+use Rattle.list_law.proofs.Members.{AllByRecursion-IsIn, IsIn-append_cases, IsIn-append_left, IsIn-append_right, IsIn-filter, IsIn-filter_parts, IsIn-flat_map}
+use Rattle.list_law.proofs.Members.{IsIn-flat_map_parts, IsIn-map, IsIn-map_parts, IsIn-nil, list_any-from_IsIn, list_any_member}
+use Rattle.list_law.proofs.Options.{is_some_from, is_some_parts, none_or_some, option_and_then_parts}
 use Rattle.net_base.specs.Network.{PlainNet, IsLink, IsNet, is_peer, is_router, joins, linked}
 use Rattle.net_base.specs.Prefixes.{PlainPrefix}
 use Rattle.net_base.proofs.Links.{joins_ends}
@@ -18,15 +18,15 @@ use Rattle.config_base.specs.declared.route.Route.{Route}
 use Rattle.config_base.specs.Configs.{PlainConfig}
 use Rattle.evidence_law.proofs.Hops.{begins, offer_parts}
 use Rattle.outcome_base.specs.Outcomes.{Failures, Outcome, is_dead, is_dead_link, offered, route_at}
-use Rattle.packets_law.proofs.Packets.{packets_follow_paths}
+use Rattle.outcome_law.proofs.Packets.{packets_follow_paths}
 use Rattle.settled_law.specs.Settled.{IsFullyStable}
 use Rattle.impact_law.specs.Cuts.{is_cut}
 use Rattle.impact_law.specs.declared.impact.Cut.{Cut}
 use Rattle.impact_law.specs.declared.impact.Cut.TheVariants.{Link, Router}
-use Rattle.drain_law.specs.Uses.{IsUnused, goes_over}
-use Rattle.drain_law.proofs.Cutting.{cuts_off, more_off, step_off}
-use Rattle.drain_law.proofs.Freeing.{offer_begins}
-use Rattle.drain_law.proofs.Keeping.{none_outside}
+use Rattle.drain_report.specs.Uses.{IsUnused, goes_over}
+use Rattle.drain_report.proofs.Cutting.{cuts_off, more_off, step_off}
+use Rattle.drain_report.proofs.Freeing.{offer_begins}
+use Rattle.drain_report.proofs.Keeping.{none_outside}
 use Rattle.drain_report.specs.Steps.{held_steps, offer_step, steps_of}
 use Rattle.drain_report.proofs.Walking.{begins_apart, between, over, path_over}
 

@@ -3,9 +3,9 @@ use Rattle.std.proofs.Common.{◌≡◌, ℕ, Bool, true, List, length, map, fil
 use Rattle.std.specs.Prelude.{◌&&◌, ◌↔◌, ◌++◌, is_some, not}
 use Rattle.std.specs.List.{flat_map, list_any}
 use Rattle.std.proofs.lemmas.Bool.{and_parts, lt-ltb, not-true, not_from_false}
-use Rattle.list_laws.specs.Members.{IsIn}
-use Rattle.list_laws.proofs.Members.{IsIn-append_cases, IsIn-filter_parts, IsIn-map_parts}
-use Rattle.list_laws.proofs.Tests.{list_any-same}
+use Rattle.list_law.specs.Members.{IsIn}
+use Rattle.list_law.proofs.Members.{IsIn-append_cases, IsIn-filter_parts, IsIn-map_parts}
+use Rattle.list_law.proofs.Tests.{list_any-same}
 use Rattle.net_base.specs.declared.loc.LocSet.{LocSet}
 use Rattle.net_base.specs.Locations.{numbers_below}
 use Rattle.net_base.specs.Network.{PlainNet, IsNet, is_router, joins, linked}
@@ -18,15 +18,15 @@ use Rattle.evidence_base.specs.Made.{PlainCaseEvidence}
 use Rattle.evidence_law.specs.Passes.{Passes}
 use Rattle.outcome_base.specs.Outcomes.{Failures, Outcome, is_dead, is_dead_link, is_live}
 use Rattle.settled_law.specs.Settled.{IsFullyStable}
-use Rattle.stable_paths.specs.Surviving.{live_by}
-use Rattle.stable_paths.specs.declared.survivors.Survivors.{Survivors}
-use Rattle.report_lines.specs.Offers.{offered_by}
+use Rattle.scenarios.specs.Surviving.{live_by}
+use Rattle.scenarios.specs.declared.survivors.Survivors.{Survivors}
+use Rattle.outcome_report.specs.Offers.{offered_by}
 use Rattle.impact_law.specs.Cuts.{live_cuts}
 use Rattle.impact_law.specs.declared.impact.Cut.{Cut}
 use Rattle.impact_law.specs.declared.impact.Cut.TheVariants.{Link, Router}
-use Rattle.drain_law.specs.Free.{IsFree}
-use Rattle.drain_law.proofs.Cutting.{joins_turns}
-use Rattle.drain_law.proofs.Freeing.{free_is_unused}
+use Rattle.drain_report.specs.DrainFree.{IsFree}
+use Rattle.drain_report.proofs.Cutting.{joins_turns}
+use Rattle.drain_report.proofs.Freeing.{free_is_unused}
 use Rattle.drain_report.specs.Free.{leads_to, spared_by}
 use Rattle.drain_report.specs.Steps.{held_steps, offer_step}
 use Rattle.drain_report.proofs.Sparing.{IsKnown, no_step, no_use, steps as steps_for}

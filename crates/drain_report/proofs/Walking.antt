@@ -3,18 +3,18 @@ use Rattle.std.proofs.Common.{◌≡◌, ℕ, zero, suc, ◌+◌, ◌-◌, ◌<�
 use Rattle.std.specs.Prelude.{◌||◌, ◌==◌, not}
 use Rattle.std.specs.List.{list_any}
 use Rattle.std.proofs.lemmas.Bool.{and_parts, eq-eqb, eqb-true, not-true, or_right, true≢false}
-use Rattle.list_laws.specs.Members.{IsIn}
-use Rattle.list_laws.proofs.Members.{list_any-from_IsIn}
-use Rattle.list_laws.proofs.Tests.{list_any-same}
-use Rattle.list_laws.proofs.Truth.{same_tests}
+use Rattle.list_law.specs.Members.{IsIn}
+use Rattle.list_law.proofs.Members.{list_any-from_IsIn}
+use Rattle.list_law.proofs.Tests.{list_any-same}
+use Rattle.list_law.proofs.Truth.{same_tests}
 use Rattle.net_base.specs.Network.{joins}
 use Rattle.policy_base.specs.Meaning.{some_step}
 use Rattle.policy_base.specs.Walks.{is_loop_free}
 use Rattle.impact_law.specs.Cuts.{is_cut}
 use Rattle.impact_law.specs.declared.impact.Cut.{Cut}
 use Rattle.impact_law.specs.declared.impact.Cut.TheVariants.{Link, Router}
-use Rattle.drain_law.specs.Uses.{goes_over}
-use Rattle.drain_law.proofs.Cutting.{cuts_off}
+use Rattle.drain_report.specs.Uses.{goes_over}
+use Rattle.drain_report.proofs.Cutting.{cuts_off}
 use Rattle.drain_report.specs.Steps.{steps_of}
 
 -- ---- steps, as a loop comes to them

@@ -3,8 +3,8 @@ use Rattle.std.specs.Prelude.{ℕ, Bool, not, ◌==◌}
 use Rattle.net_base.specs.declared.loc.LocSet.{LocSet}
 use Rattle.net_base.specs.Network.{PlainNet}
 use Rattle.net_base.specs.Sets.{holds}
-use Rattle.stable_paths.specs.Surviving.{live_by}
-use Rattle.stable_paths.specs.declared.survivors.Survivors.{Survivors}
+use Rattle.scenarios.specs.Surviving.{live_by}
+use Rattle.scenarios.specs.declared.survivors.Survivors.{Survivors}
 use Rattle.impact_law.specs.declared.impact.Cut.{Cut}
 use Rattle.impact_law.specs.declared.impact.Cut.TheVariants.{Link, Router}
 

@@ -5,10 +5,10 @@ use Rattle.std.specs.List.{flat_map}
 use Rattle.net_base.specs.Network.{PlainNet}
 use Rattle.net_base.specs.Prefixes.{PlainPrefix}
 use Rattle.config_base.specs.Configs.{PlainConfig}
-use Rattle.report_lines.specs.Lines.{head_lines, next_name}
+use Rattle.outcome_report.specs.Lines.{head_lines, next_name}
 use Rattle.impact_law.specs.declared.impact.Cut.{Cut}
 use Rattle.impact_law.specs.declared.impact.Cut.TheVariants.{Link, Router}
-use Rattle.drain_law.specs.declared.drain.Drain.{Drain}
+use Rattle.drain_report.specs.declared.drained.Drain.{Drain}
 
 abbrev pub free_text : PlainNet → Cut → List ℕ
 free_text net (Link a b) = codes "free link" ++ next_name net a ++ next_name net b

@@ -4,12 +4,12 @@ ghost use Rattle.std.specs.List.{list_any};
 ghost use Rattle.net_base.specs.declared.limits.TheConstants.{LOCATIONS};
 ghost use Rattle.net_base.specs.Network.{is_router as router_at, joins, linked};
 ghost use Rattle.net_base.specs.Sets.{holds};
-ghost use Rattle.stable_paths.specs.Surviving.{live_by};
+ghost use Rattle.scenarios.specs.Surviving.{live_by};
 ghost use Rattle.drain_report.specs.Free.{leads_to, spared_by};
 
 use impact_law::Cut;
 use net_base::{List, Loc, LocSet, Net, Prefix};
-use stable_paths::{Scenario, Survivors};
+use scenarios::{Scenario, Survivors};
 use std::alloc::{AllocError, Global};
 
 /// Whether a location is a router.

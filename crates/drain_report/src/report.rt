@@ -4,20 +4,19 @@ ghost use Rattle.config_base.specs.Configs.{PlainConfig};
 ghost use Rattle.policy_base.specs.Policies.{IsPolicyOf, policy_of};
 ghost use Rattle.evidence_law.specs.Passes.{Passes};
 ghost use Rattle.settled_law.specs.Settled.{IsFullyStable};
-ghost use Rattle.stable_paths.specs.Scenarios.{failures_of};
-ghost use Rattle.drain_law.specs.Free.{IsDrain};
+ghost use Rattle.scenarios.specs.Scenarios.{failures_of};
+ghost use Rattle.drain_report.specs.DrainFree.{IsDrain};
 
+use crate::Drain;
 use crate::free::Spared;
 use crate::steps::steps;
-use config_made::case_of;
-use drain_law::Drain;
-use evidence_base::Evidence;
+use evidence_base::{Evidence, case_of};
 use impact_report::live_cuts;
+use input_output::NoMemory;
 use net_base::{Net, known_net, known_prefix};
-use outside::NoMemory;
+use outcome_report::ReportedOutcome;
 use policy_base::Policy;
-use report_lines::Situation;
-use stable_paths::{Outcome, Scenario, Survivors};
+use scenarios::{Outcome, Scenario, Survivors};
 use std::alloc::Global;
 
 /// The links and routers that carry nothing under the failures of a scenario, in the settled outcome of the configuration that is made of the
@@ -41,7 +40,7 @@ pub fn drain(
     known_net(net);
     known_prefix(prefix);
     let case = case_of(policy, evidence, prefix);
-    let situation = Situation::new(alloc, net, case, scenario, outcome)?;
+    let situation = ReportedOutcome::new(alloc, net, case, scenario, outcome)?;
     let steps = steps(alloc, &situation)?;
     let spared = Spared::new(net, alloc, prefix, steps);
     let survivors = Survivors::new(net, scenario);

@@ -4,8 +4,8 @@ ghost use Rattle.std.specs.List.{flat_map};
 ghost use Rattle.drain_report.specs.Steps.{held_steps, is_offer, offer_step, steps_in, steps_of};
 
 use net_base::{List, Loc};
-use report_lines::Situation;
-use stable_paths::Outcome;
+use outcome_report::ReportedOutcome;
+use scenarios::Outcome;
 use std::alloc::{AllocError, Global};
 
 /// Adds the steps of a path.
@@ -32,14 +32,17 @@ fn route_steps(alloc: Global, outcome: &Outcome) -> Result<List<(Loc, Loc)>, All
 }
 
 /// Whether the first end of a link, a router, offers the second, a peer, something.
-fn offers(situation: &Situation<'_>, link: (Loc, Loc)) -> bool
+fn offers(situation: &ReportedOutcome<'_>, link: (Loc, Loc)) -> bool
     ensures { result ≡ is_offer situation.now link }
 {
     situation.offered(link.0, link.1).is_some()
 }
 
 /// Adds the first step of what each peer is offered, from the peer to the router.
-fn push_offers(steps: &mut List<(Loc, Loc)>, situation: &Situation<'_>) -> Result<(), AllocError>
+fn push_offers(
+    steps: &mut List<(Loc, Loc)>,
+    situation: &ReportedOutcome<'_>,
+) -> Result<(), AllocError>
     ensures { OnOk result (steps.new ≡ steps.old ++ map offer_step (filter (is_offer situation.now) situation.now.net.now.links)) }
 {
     for link in situation.net.links() {
@@ -53,7 +56,7 @@ fn push_offers(steps: &mut List<(Loc, Loc)>, situation: &Situation<'_>) -> Resul
 /// The steps of the paths of routes, and the first step of what each peer is offered: the rest of that is the path of the router's route.
 pub(crate) fn steps(
     alloc: Global,
-    situation: &Situation<'_>,
+    situation: &ReportedOutcome<'_>,
 ) -> Result<List<(Loc, Loc)>, AllocError>
     ensures { IfOk result (λ steps. steps ≡ steps_in situation.now) }
 {

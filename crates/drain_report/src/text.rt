@@ -5,13 +5,13 @@ ghost use Rattle.config_base.specs.Configs.{PlainConfig};
 ghost use Rattle.config_base.specs.Lines.{class_of};
 ghost use Rattle.drain_report.specs.Texts.{count_line, drain_text as text_of_drain, free_line, free_text};
 
-use drain_law::Drain;
+use crate::Drain;
 use impact_law::Cut;
+use input_output::NoMemory;
 use net_base::{Net, Prefix};
-use outside::NoMemory;
-use report_lines::{push_head, push_next};
+use outcome_report::{push_head, push_next};
 use std::alloc::Global;
-use text_words::{push_bytes, push_number};
+use text_parts::{push_bytes, push_number};
 
 /// Adds what is free.
 fn push_free(text: &mut Vec<u8>, net: &Net, cut: Cut) -> Result<(), NoMemory>

@@ -2,7 +2,7 @@
 use Rattle.std.proofs.Common.{◌≡◌, ◌≢◌, ℕ, ◌<◌, true, ◌&&◌, List, [], ◌∷◌, ◌++◌, Option, Some, None, drop, inl, inr, refl, sym, ap, ◌∙◌, arith}
 use Rattle.std.specs.Prelude.{if◌then◌else◌}
 use Rattle.std.proofs.lemmas.Bool.{cases_Bool, cond-true, cond-false, ne_eqb}
-use Rattle.list_laws.proofs.Members.{AllByRecursion-IsIn, list_any_member}
+use Rattle.list_law.proofs.Members.{AllByRecursion-IsIn, list_any_member}
 use Rattle.config_base.specs.declared.route.Route.{Route}
 use Rattle.net_base.specs.Network.{PlainNet, IsLink, IsNet, joins, linked}
 use Rattle.net_base.proofs.Links.{joins_ends}

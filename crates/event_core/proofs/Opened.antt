@@ -2,7 +2,7 @@
 use Rattle.std.proofs.Common.{◌≡◌, ℕ, ◌+◌, Bool, true, false, ◌||◌, Option, None, refl, sym, ap, ◌∙◌, add-one}
 use Rattle.std.specs.Prelude.{if◌then◌else◌, ◌==◌, nat_lt}
 use Rattle.std.proofs.lemmas.Bool.{and_parts, and_from, cond-true, cond-false, eqb-true}
-use Rattle.list_laws.proofs.Numbers.{nat_lt_more, nat_lt-zero}
+use Rattle.list_law.proofs.Numbers.{nat_lt_more, nat_lt-zero}
 use Rattle.config_base.specs.declared.route.Route.{Route}
 use Rattle.net_base.specs.Network.{IsNet, is_location, linked}
 use Rattle.net_base.proofs.Links.{linked_known}

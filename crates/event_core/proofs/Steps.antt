@@ -3,9 +3,9 @@ use Rattle.std.proofs.Common.{◌≡◌, ℕ, Bool, true, false, ◌||◌, List,
 use Rattle.std.specs.Prelude.{if◌then◌else◌, ◌==◌}
 use Rattle.std.specs.List.{list_any}
 use Rattle.std.proofs.lemmas.Bool.{and_parts, and_from, cases_Bool, eq-eqb, eqb-true, or_cases, or_left, or_right}
-use Rattle.list_laws.specs.Members.{IsIn}
-use Rattle.list_laws.proofs.Members.{list_any-from_IsIn, list_any_member}
-use Rattle.list_laws.proofs.Truth.{same_tests}
+use Rattle.list_law.specs.Members.{IsIn}
+use Rattle.list_law.proofs.Members.{list_any-from_IsIn, list_any_member}
+use Rattle.list_law.proofs.Truth.{same_tests}
 use Rattle.config_base.specs.declared.route.Route.{Route}
 use Rattle.net_base.specs.Locations.{neighbours}
 use Rattle.net_base.specs.Network.{PlainNet, IsNet, linked}

@@ -5,3 +5,10 @@ pub mod KindsKept
 pub mod Messages
 pub mod Still
 pub mod Together
+pub mod First
+pub mod Running
+pub mod Quiet
+pub mod Offers
+pub mod Waiting
+pub mod Scenario
+pub mod Moments

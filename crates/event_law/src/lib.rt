@@ -1,5 +1,13 @@
-//! What every event keeps on a network of speakers of BGP, each law the contract of a function without a body.
+//! What events keep: laws without code, first of any speakers of BGP, then of a configured network.
+//!
+//! Of any speakers: where no message waits the world is stable; on sessions that are dead before and after an event nothing happens; routers
+//! that choose again in one event may do so in any order (`specs/{Kept,Dead,Together}`). Of a configured network whose evidence passes: each
+//! route that is held, and each message on its way, has a run in the graph of its prefix's case (`specs/Waiting`), so that at every moment
+//! what is held and heard is allowed (`specs/Moments`), and where no message waits the routes are settled for what is down
+//! (`specs/Scenarios`). The compiler and texts are unknown here.
 #![tactic(auto)]
+
+mod worlds;
 
 ghost use Rattle.std.specs.Prelude.{◌≡◌, List, None, Option, true};
 ghost use Rattle.config_base.specs.declared.route.Route.{Route};
@@ -9,6 +17,11 @@ ghost use Rattle.event_law.specs.Dead.{DeadSessionsStay, MarksAreAllThatChanges}
 ghost use Rattle.event_law.specs.Kept.{AreSpeakers, IsKept, IsStable};
 ghost use Rattle.event_law.specs.Together.{OrderIsFree};
 ghost use Rattle.event_base.specs.World.{Speakers, World};
+
+pub use worlds::{
+    every_moment_is_right, held_and_waiting_routes_run, quiet_worlds_are_settled,
+    worlds_have_scenarios,
+};
 
 /// Each event keeps what is kept, and in a quiet world the routes are stable.
 pub fn events_keep()

@@ -3,16 +3,16 @@ use Rattle.std.proofs.Common.{◌≡◌, ◌∙◌, ℕ, List, length, Result, O
 use Rattle.std.specs.Prelude.{IsTrue, nat_le}
 use Rattle.std.specs.Result.{result_ok}
 use Rattle.std.proofs.lemmas.Bool.{and_from, and_parts, le-leb, leb-true, true≢false}
-use Rattle.item_laws.specs.TextRules.{is_known}
-use Rattle.item_laws.proofs.EachStep.{each_from-keeps}
-use Rattle.item_laws.proofs.FirstRule.{below_3, broken, next, Outcome}
-use Rattle.item_laws.proofs.StepFaults.{name_err, name_ok, read_err}
+use Rattle.json_values.specs.TextRules.{is_known}
+use Rattle.json_values.proofs.EachStep.{each_from-keeps}
+use Rattle.json_values.proofs.FirstRule.{below_3, broken, next, Outcome}
+use Rattle.json_values.proofs.StepFaults.{name_err, name_ok, read_err}
 use Rattle.net_base.specs.Network.{PlainNet}
 use Rattle.net_base.specs.PrefixText.{prefix_spelled}
 use Rattle.net_base.specs.Steps.{each_from, or_fault, unless}
 use Rattle.net_base.proofs.StepLemmas.{bind_ok, err_same, ok_not_err, or_fault_result_ok, unless_ok}
 use Rattle.net_base.proofs.StepOutcomes.{bind_case, each_from-breaks, unless_err}
-use Rattle.net_index.specs.Names.{names_of}
+use Rattle.location_names.specs.Names.{names_of}
 use Rattle.event_base.specs.declared.event.Event.{Event}
 use Rattle.event_reader.specs.declared.events.Events.{Events}
 use Rattle.event_reader.specs.declared.fault.EventsFault.{EventsFault}

@@ -4,8 +4,8 @@ use Rattle.std.specs.Prelude.{◌==◌, codes, length, slice_get, if◌then◌el
 use Rattle.serde_json.specs.Data.{Data}
 use Rattle.serde_json.specs.Find.{get, as_object, as_str}
 use Rattle.serde_json.specs.Events.{members_len}
-use Rattle.json_words.specs.Json.{list_at}
-use Rattle.item_laws.proofs.OnlyFaults.{IsOf, Only, only_bind, only_each_from, only_if, or_only, or_then, unless_then}
+use Rattle.json_values.specs.Json.{list_at}
+use Rattle.json_values.proofs.OnlyFaults.{IsOf, Only, only_bind, only_each_from, only_if, or_only, or_then, unless_then}
 use Rattle.net_base.specs.Steps.{each_from}
 use Rattle.event_reader.specs.declared.fault.EventsFault.TheVariants.{Shape}
 use Rattle.event_reader.specs.Shape.{between_two, event_of, of_router, shape_of, text_in}

@@ -1,11 +1,11 @@
 -- The rules of an event text, each for itself, by the number of its fault.
 use Rattle.std.specs.Prelude.{◌≡◌, ◌≤◌, ◌&&◌, Bool, IsTrue, List, [], ◌∷◌, Ok, length}
 use Rattle.std.specs.List.{AllByRecursion}
-use Rattle.item_laws.specs.TextRules.{is_known}
+use Rattle.json_values.specs.TextRules.{is_known}
 use Rattle.net_base.specs.Network.{PlainNet}
 use Rattle.net_base.specs.PrefixText.{prefix_spelled}
 use Rattle.net_base.specs.Prefixes.{PlainPrefix}
-use Rattle.net_index.specs.Names.{names_of}
+use Rattle.location_names.specs.Names.{names_of}
 use Rattle.event_reader.specs.declared.limits.TheConstants.{EVENTS}
 use Rattle.event_reader.specs.Shape.{SaidEvent, OnLink, AtRouter, Said}
 

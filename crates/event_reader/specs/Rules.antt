@@ -7,7 +7,7 @@ use Rattle.event_reader.specs.declared.limits.TheConstants.{EVENTS}
 use Rattle.net_base.specs.Network.{PlainNet}
 use Rattle.net_base.specs.PrefixText.{prefix_spelled}
 use Rattle.net_base.specs.Steps.{◌>>=◌, or_fault, unless, each_from}
-use Rattle.net_index.specs.Names.{names_of}
+use Rattle.location_names.specs.Names.{names_of}
 use Rattle.event_base.specs.declared.event.Event.{Event}
 use Rattle.event_reader.specs.declared.events.Events.{Events}
 use Rattle.event_reader.specs.declared.fault.EventsFault.{EventsFault}

@@ -3,7 +3,7 @@ use Rattle.std.specs.Prelude.{ℕ, ◌==◌, length, slice_get, List, Result, Ok
 use Rattle.serde_json.specs.Data.{Data}
 use Rattle.serde_json.specs.Events.{members_len}
 use Rattle.serde_json.specs.Find.{get, as_object, as_str}
-use Rattle.json_words.specs.Json.{list_at}
+use Rattle.json_values.specs.Json.{list_at}
 use Rattle.net_base.specs.Steps.{◌>>=◌, or_fault, unless, each_from}
 use Rattle.event_reader.specs.declared.fault.EventsFault.{EventsFault}
 use Rattle.event_reader.specs.declared.fault.EventsFault.TheVariants.{Shape}

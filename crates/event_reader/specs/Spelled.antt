@@ -1,6 +1,6 @@
 -- The events that bytes spell.
 use Rattle.std.specs.Prelude.{ℕ, List, Result}
-use Rattle.json_words.specs.Json.{json_of}
+use Rattle.json_values.specs.Json.{json_of}
 use Rattle.net_base.specs.Network.{PlainNet}
 use Rattle.net_base.specs.Steps.{◌>>=◌, or_fault}
 use Rattle.event_reader.specs.declared.events.Events.{Events}

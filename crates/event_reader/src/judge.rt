@@ -5,7 +5,7 @@ ghost use Rattle.event_reader.specs.declared.limits.TheConstants.{EVENTS as LIMI
 ghost use Rattle.net_base.specs.Gives.{GivesUnless};
 ghost use Rattle.net_base.specs.PrefixText.{prefix_spelled};
 ghost use Rattle.net_base.specs.Steps.{each_from, or_fault, unless};
-ghost use Rattle.net_index.specs.Names.{names_of};
+ghost use Rattle.location_names.specs.Names.{names_of};
 ghost use Rattle.event_reader.specs.Rules.{judged, located, placed};
 ghost use Rattle.event_reader.specs.Views.{raw_event, raw_events};
 
@@ -14,8 +14,8 @@ use crate::fault::EventsFault;
 use crate::limits::EVENTS;
 use crate::shape::{RawEvent, RawEvents};
 use event_base::Event;
+use location_names::LocationNames;
 use net_base::{List, Loc, Net, Prefix, read_prefix};
-use net_index::LocationNames;
 use std::alloc::Global;
 
 /// There are not more events than a list may have.

@@ -2,7 +2,7 @@
 #![tactic(auto)]
 
 ghost use Rattle.serde_json.specs.View.{view};
-ghost use Rattle.json_words.specs.Json.{json_of};
+ghost use Rattle.json_values.specs.Json.{json_of};
 ghost use Rattle.net_base.specs.Gives.{GivesUnless};
 ghost use Rattle.net_base.specs.Steps.{or_fault};
 ghost use Rattle.event_reader.specs.Spelled.{spelled};
@@ -17,7 +17,7 @@ mod words;
 
 pub use events::Events;
 pub use fault::EventsFault;
-use json_words::{JsonFault, json_value};
+use json_values::{JsonFault, json_value};
 use net_base::Net;
 use serde_json::Value;
 use std::alloc::Global;

@@ -8,7 +8,7 @@ ghost use Rattle.event_reader.specs.Views.{raw_event, raw_events};
 
 use crate::fault::EventsFault;
 use crate::words::{LinkWord, RouterWord};
-use json_words::{list, member_count};
+use json_values::{list, member_count};
 use serde_json::Value;
 use std::alloc::Global;
 

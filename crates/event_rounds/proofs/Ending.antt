@@ -16,12 +16,12 @@ use Rattle.rest_law.proofs.Ended.{ways_listed}
 use Rattle.rest_law.proofs.Ending.{run_on}
 use Rattle.rest_law.specs.Rest.{ComesToRest, rounds_enough}
 use Rattle.rest_law.specs.Ways.{each_way}
-use Rattle.rounds_law.proofs.Present.{rounds_go_on}
-use Rattle.rounds_law.specs.Rounds.{AreRounds, deliveries}
-use Rattle.world_law.proofs.Quiet.{are_speakers}
-use Rattle.world_law.proofs.Scenario.{worlds_have_scenarios}
-use Rattle.world_law.specs.Laws.{world_after}
-use Rattle.world_law.specs.Scenarios.{scenario_of}
+use Rattle.rest_law.proofs.Present.{rounds_go_on}
+use Rattle.rest_law.specs.Rounds.{AreRounds, deliveries}
+use Rattle.event_law.proofs.Quiet.{are_speakers}
+use Rattle.event_law.proofs.Scenario.{worlds_have_scenarios}
+use Rattle.event_law.specs.Laws.{world_after}
+use Rattle.event_law.specs.Scenarios.{scenario_of}
 
 module _ (net : PlainNet) (policy : PlainPolicy) (config : PlainConfig) (p : PlainPrefix) (rules : IsNet net) (es : List Event) where
   abbrev S : Speakers Route

@@ -3,9 +3,9 @@ use Rattle.std.proofs.Common.{◌≡◌, ℕ, zero, suc, List, ◌++◌, sym, ap
 use Rattle.std.proofs.lemmas.List.{append-nil, append_assoc}
 use Rattle.event_base.specs.Steps.{run}
 use Rattle.event_base.specs.World.{Speakers, World}
-use Rattle.rounds_law.proofs.Failures.{run_more}
-use Rattle.rounds_law.specs.Laws.{each_round, each_waiting}
-use Rattle.rounds_law.specs.Rounds.{deliveries}
+use Rattle.rest_law.proofs.Failures.{run_more}
+use Rattle.rest_law.specs.Laws.{each_round, each_waiting}
+use Rattle.rest_law.specs.Rounds.{deliveries}
 
 module _ {R : Type 0} (net : Speakers R) (ways : List (ℕ × ℕ)) where
   abbrev after : ℕ → World R → World R

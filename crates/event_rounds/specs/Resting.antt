@@ -5,8 +5,8 @@ use Rattle.event_base.specs.declared.event.Event.{Event}
 use Rattle.event_base.specs.Steps.{IsQuiet, opening, run}
 use Rattle.event_base.specs.World.{Speakers, World}
 use Rattle.rest_law.specs.Ways.{each_way}
-use Rattle.rounds_law.specs.Laws.{each_round, each_waiting}
-use Rattle.rounds_law.specs.Rounds.{deliveries}
+use Rattle.rest_law.specs.Laws.{each_round, each_waiting}
+use Rattle.rest_law.specs.Rounds.{deliveries}
 
 module _ (links : List (ℕ × ℕ)) where
   -- A round: link by link, first from its first end to its second and then back, as many messages as wait there when the round begins.

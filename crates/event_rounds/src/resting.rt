@@ -4,12 +4,12 @@ ghost use Rattle.policy_base.specs.Policies.{policy_of};
 ghost use Rattle.event_rounds.specs.Resting.{IsReached, RestsIn, rounds_in, world_in};
 ghost use Rattle.event_state.specs.States.{setting, speakers, state};
 ghost use Rattle.rest_law.specs.Rest.{ComesToRest, rounds_enough as enough_for};
-ghost use Rattle.rounds_law.specs.Rounds.{AreRounds};
+ghost use Rattle.rest_law.specs.Rounds.{AreRounds};
 
 use crate::enough::rounds_enough;
 use crate::round::play_round;
 use event_state::World;
-use outside::NoMemory;
+use input_output::NoMemory;
 use std::alloc::Global;
 
 /// How a network came to rest: in so many rounds, by so many deliveries.

@@ -4,13 +4,13 @@ ghost use Rattle.event_base.specs.Steps.{happens, run};
 ghost use Rattle.event_base.specs.declared.event.Event.TheVariants.{Deliver};
 ghost use Rattle.event_rounds.specs.Resting.{round_in};
 ghost use Rattle.event_state.specs.States.{setting, speakers, state};
-ghost use Rattle.rounds_law.specs.Rounds.{deliveries};
+ghost use Rattle.rest_law.specs.Rounds.{deliveries};
 
 use event_base::{Event, EventFault};
 use event_core::apply;
 use event_state::World;
+use input_output::NoMemory;
 use net_base::Loc;
-use outside::NoMemory;
 use std::alloc::{AllocError, Global};
 
 // Adds a direction as often as messages wait in it.

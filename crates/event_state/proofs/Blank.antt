@@ -3,7 +3,7 @@ use Rattle.std.proofs.Common.{◌≡◌, ℕ, Bool, false, List, [], length, Opt
 use Rattle.std.specs.Prelude.{slice_index_or}
 use Rattle.std.specs.Option.{option_map_or}
 use Rattle.std.proofs.lemmas.List.{length-replicate}
-use Rattle.list_laws.proofs.Items.{get_or-replicate_same}
+use Rattle.list_law.proofs.Items.{get_or-replicate_same}
 use Rattle.net_base.specs.Network.{PlainNet}
 use Rattle.config_base.specs.declared.route.Route.{Route}
 use Rattle.event_state.specs.Directions.{at_direction, direction}

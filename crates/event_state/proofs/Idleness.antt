@@ -4,10 +4,10 @@ use Rattle.std.specs.Prelude.{option_map, slice_index_or, nat_lt, if◌then◌el
 use Rattle.std.specs.List.{list_all, position}
 use Rattle.std.specs.Option.{option_map_or}
 use Rattle.std.proofs.lemmas.Bool.{and_parts, and_from, cases_Bool}
-use Rattle.list_laws.specs.Members.{IsIn}
-use Rattle.list_laws.proofs.Each.{AllByRecursion-from_list_all}
-use Rattle.list_laws.proofs.Members.{AllByRecursion-IsIn, list_any_member}
-use Rattle.list_laws.proofs.Options.{none_from_not_some}
+use Rattle.list_law.specs.Members.{IsIn}
+use Rattle.list_law.proofs.Each.{AllByRecursion-from_list_all}
+use Rattle.list_law.proofs.Members.{AllByRecursion-IsIn, list_any_member}
+use Rattle.list_law.proofs.Options.{none_from_not_some}
 use Rattle.net_base.specs.Network.{PlainNet, joins, linked}
 use Rattle.net_base.proofs.LinkSearch.{is_some-position}
 use Rattle.net_base.proofs.Links.{joins_ends}

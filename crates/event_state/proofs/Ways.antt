@@ -5,10 +5,10 @@ use Rattle.std.specs.List.{position}
 use Rattle.std.specs.Option.{option_map_or}
 use Rattle.std.proofs.lemmas.Bool.{and_parts, and_from, both_ways, cases_Bool, cond-true, cond-false, eq-eqb, eqb-true, false_from_ne_true, lt-ltb, le-ltb}
 use Rattle.std.proofs.lemmas.Option.{slice_get_within}
-use Rattle.list_laws.proofs.Each.{AllByRecursion_at}
-use Rattle.list_laws.proofs.Options.{option_map_parts, is_some-option_map}
-use Rattle.list_laws.proofs.Positions.{find-position, list_any-at_position}
-use Rattle.list_laws.proofs.Tests.{find-any, find_parts}
+use Rattle.list_law.proofs.Each.{AllByRecursion_at}
+use Rattle.list_law.proofs.Options.{option_map_parts, is_some-option_map}
+use Rattle.list_law.proofs.Positions.{find-position, list_any-at_position}
+use Rattle.list_law.proofs.Tests.{find-any, find_parts}
 use Rattle.net_base.specs.Network.{PlainNet, IsLink, IsNet, joins, linked}
 use Rattle.net_base.proofs.LinkSearch.{is_some-position}
 use Rattle.net_base.proofs.Links.{linked_flips, joins_ends}

@@ -1,6 +1,6 @@
 -- The configuration that is made of the cases of a policy, with a graph for each and a number and a tag for each node.
 use Rattle.std.specs.Prelude.{◌≡◌, ◌↔◌, ℕ, zero, suc, ◌<◌, IsTrue, false, List, [], ◌∷◌, length, map, Option, Some, None, option_map, unwrap_or, slice_get, if◌then◌else◌}
-use Rattle.list_laws.specs.Members.{IsIn}
+use Rattle.list_law.specs.Members.{IsIn}
 use Rattle.net_base.specs.declared.net.Site.{Site}
 use Rattle.net_base.specs.declared.numbers.Tag.{Tag}
 use Rattle.net_base.specs.Network.{PlainNet, is_peer, asn_of, site_of}

@@ -2,6 +2,8 @@
 //! of it.
 #![tactic(auto)]
 
+mod belonging;
 mod evidence;
 
+pub use belonging::{case_of, class_of};
 pub use evidence::{CaseEvidence, Evidence, case_copy};

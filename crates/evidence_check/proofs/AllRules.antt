@@ -9,14 +9,14 @@ use Rattle.policy_base.specs.Policies.{IsPolicy, PlainPolicy}
 use Rattle.policy_base.specs.declared.case.Case.{Case}
 use Rattle.graph_base.proofs.WellFormed.{heard_at_peers}
 use Rattle.evidence_base.specs.Made.{AreTags, PlainCaseEvidence}
-use Rattle.config_made.specs.Conditions.{AreClasses, IsSingle}
-use Rattle.config_made.proofs.CaseClasses.{case_lists}
+use Rattle.config_maker.specs.Conditions.{AreClasses, IsSingle}
+use Rattle.config_maker.proofs.CaseClasses.{case_lists}
 use Rattle.policy_base.proofs.KnownCases.{case_known}
-use Rattle.evidence_rules.specs.declared.rule.CheckRule.{CheckRule}
-use Rattle.evidence_rules.specs.declared.rule.CheckRule.TheVariants.{Cases, Walks, Ranks, Mixed, PrefRank, PrefStep, PrefLoop, PrefListener, Tags, ConfigDiffers}
-use Rattle.evidence_rules.specs.Rules.{Keeps}
-use Rattle.evidence_rules.specs.Verdicts.{KeepsBefore}
-use Rattle.evidence_rules.proofs.TenRules.{all_cases, tags}
+use Rattle.evidence_verdicts.specs.declared.rule.CheckRule.{CheckRule}
+use Rattle.evidence_verdicts.specs.declared.rule.CheckRule.TheVariants.{Cases, Walks, Ranks, Mixed, PrefRank, PrefStep, PrefLoop, PrefListener, Tags, ConfigDiffers}
+use Rattle.evidence_verdicts.specs.Rules.{Keeps}
+use Rattle.evidence_verdicts.specs.Verdicts.{KeepsBefore}
+use Rattle.evidence_verdicts.proofs.TenRules.{all_cases, tags}
 
 module _ (net : PlainNet) (policy : PlainPolicy) (cs : List PlainCaseEvidence) (before : KeepsBefore ConfigDiffers net policy cs) where
   pub all_rules : (r : CheckRule) → Keeps r net policy cs

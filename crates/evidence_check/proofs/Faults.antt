@@ -19,10 +19,10 @@ use Rattle.evidence_law.specs.Faithful.{HasRank, HasWalks}
 use Rattle.evidence_law.specs.Passes.{IsClaimed}
 use Rattle.walk_check.specs.Firsts.{IsFirstOrNone}
 use Rattle.preference_check.specs.FirstPair.{IsFirstPair, IsFirstPairOrNone}
-use Rattle.evidence_rules.specs.declared.rule.CheckRule.{CheckRule}
-use Rattle.evidence_rules.specs.declared.rule.CheckRule.TheVariants.{Mixed, PrefListener, PrefLoop, PrefRank, PrefStep, Ranks, Walks}
-use Rattle.evidence_rules.specs.Rules.{AtCase, KeepsAt, rule_number}
-use Rattle.evidence_rules.proofs.OneVerdict.{rule_of, rule_of-number}
+use Rattle.evidence_verdicts.specs.declared.rule.CheckRule.{CheckRule}
+use Rattle.evidence_verdicts.specs.declared.rule.CheckRule.TheVariants.{Mixed, PrefListener, PrefLoop, PrefRank, PrefStep, Ranks, Walks}
+use Rattle.evidence_verdicts.specs.Rules.{AtCase, KeepsAt, rule_number}
+use Rattle.evidence_verdicts.proofs.OneVerdict.{rule_of, rule_of-number}
 use Rattle.evidence_check.specs.declared.case_rules.Fault.{Fault}
 use Rattle.evidence_check.specs.CaseFaults.{IsFaultFrom, IsFirstFault, KeepsIn}
 use Rattle.evidence_check.specs.CaseRules.{AreClaimedWhereRanked, IsOfCase, LeadsToRouters}

@@ -12,13 +12,13 @@ use Rattle.config_base.specs.Configs.{IsBelow, PlainConfig}
 use Rattle.evidence_base.specs.Made.{IsConfigOf, PlainCaseEvidence, case_at}
 use Rattle.evidence_law.specs.Passes.{AreWithin, all_steps}
 use Rattle.preference_check.specs.FirstPair.{IsEarlier, IsFirstPair}
-use Rattle.evidence_rules.specs.declared.rule.CheckRule.{CheckRule}
-use Rattle.evidence_rules.specs.declared.rule.CheckRule.TheVariants.{Cases, ConfigDiffers, Mixed, PrefListener, PrefLoop, PrefRank, PrefStep, Ranks, Tags, Walks}
-use Rattle.evidence_rules.specs.declared.verdict.Shown.{Shown}
-use Rattle.evidence_rules.specs.declared.verdict.Verdict.TheVariants.{Fails, Holds}
-use Rattle.evidence_rules.specs.Rules.{IsListed, Keeps, KeepsAt, KeepsTag, listed_at, rule_number}
-use Rattle.evidence_rules.specs.Verdicts.{IsFault, IsFirstAt, IsVerdict, KeepsBefore, at_place}
-use Rattle.evidence_rules.proofs.TenRules.{passing}
+use Rattle.evidence_verdicts.specs.declared.rule.CheckRule.{CheckRule}
+use Rattle.evidence_verdicts.specs.declared.rule.CheckRule.TheVariants.{Cases, ConfigDiffers, Mixed, PrefListener, PrefLoop, PrefRank, PrefStep, Ranks, Tags, Walks}
+use Rattle.evidence_verdicts.specs.declared.verdict.Shown.{Shown}
+use Rattle.evidence_verdicts.specs.declared.verdict.Verdict.TheVariants.{Fails, Holds}
+use Rattle.evidence_verdicts.specs.Rules.{IsListed, Keeps, KeepsAt, KeepsTag, listed_at, rule_number}
+use Rattle.evidence_verdicts.specs.Verdicts.{IsFault, IsFirstAt, IsVerdict, KeepsBefore, at_place}
+use Rattle.evidence_verdicts.proofs.TenRules.{passing}
 use Rattle.evidence_check.specs.declared.case_rules.Fault.{Fault}
 use Rattle.evidence_check.specs.declared.cases.CaseFault.{CaseFault}
 use Rattle.evidence_check.specs.CaseFaults.{AreListed, IsFaultFrom, IsFirstFault, IsLeast, IsLeastFault, IsLeastOrNone, IsLeastUpTo, KeepsIn, KeepsUpTo, least_with}

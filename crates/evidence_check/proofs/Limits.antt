@@ -8,8 +8,8 @@ use Rattle.policy_base.specs.declared.case.Case.{Case}
 use Rattle.policy_base.specs.Policies.{PlainPolicy, PlainStatement}
 use Rattle.path_exprs.specs.Standings.{IsWalked, PassesStates, Plan, plan_for}
 use Rattle.graph_base.specs.Graphs.{PlainGraph}
-use Rattle.standings.specs.Built.{IsBuilt, graph_over, node_of}
-use Rattle.standings.proofs.OneGraph.{no_more_states, one-graph}
+use Rattle.walk_states.specs.Built.{IsBuilt, graph_over, node_of}
+use Rattle.walk_states.proofs.OneGraph.{no_more_states, one-graph}
 use Rattle.graph_law.specs.Limits.{IsBuiltWithin}
 use Rattle.graph_law.proofs.Counted.{built_walked, count_steps}
 use Rattle.evidence_law.specs.Passes.{AreWithin}

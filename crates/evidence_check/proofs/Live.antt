@@ -1,6 +1,6 @@
 -- What is left of the graph over a case's standings is faithful to the case.
 use Rattle.std.proofs.Common.{◌≡◌, refl, subst, sym}
-use Rattle.list_laws.specs.Members.{IsIn}
+use Rattle.list_law.specs.Members.{IsIn}
 use Rattle.net_base.specs.Network.{IsNet, PlainNet}
 use Rattle.net_base.specs.Sets.{holds}
 use Rattle.policy_base.specs.declared.case.Case.{Case}
@@ -8,7 +8,7 @@ use Rattle.policy_base.specs.Cases.{case_list}
 use Rattle.policy_base.specs.Policies.{PlainPolicy, PlainStatement}
 use Rattle.path_exprs.specs.Standings.{plan_for}
 use Rattle.graph_base.specs.Graphs.{PlainGraph}
-use Rattle.standings.specs.Built.{IsBuilt}
+use Rattle.walk_states.specs.Built.{IsBuilt}
 use Rattle.reach_prune.specs.Trimmed.{IsTrimmed}
 use Rattle.evidence_base.specs.Made.{PlainCaseEvidence}
 use Rattle.evidence_law.specs.Faithful.{IsFaithful}

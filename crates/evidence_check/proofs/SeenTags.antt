@@ -4,7 +4,7 @@ use Rattle.std.specs.Prelude.{◌&&◌, ◌||◌, ◌==◌, IsTrue, slice_get}
 use Rattle.std.specs.List.{list_any}
 use Rattle.std.proofs.lemmas.Bool.{and_from, and_parts, cases_Bool, cases_lt, both_ways, false≢true, not-true}
 use Rattle.std.proofs.lemmas.Option.{same_Some, slice_get_within}
-use Rattle.list_laws.proofs.Members.{IsIn-push_cases, list_any_member, list_any-from_IsIn, IsIn-append_left, IsIn-push}
+use Rattle.list_law.proofs.Members.{IsIn-push_cases, list_any_member, list_any-from_IsIn, IsIn-append_left, IsIn-push}
 use Rattle.net_base.specs.declared.numbers.Tag.{Tag}
 use Rattle.net_base.specs.Network.{PlainNet, IsNet, asn_of, is_location, is_peer}
 use Rattle.net_base.specs.Numbers.{is_tag, no_tag}
@@ -14,8 +14,8 @@ use Rattle.graph_base.specs.Runs.{place_of}
 use Rattle.config_base.specs.Lines.{same_tag}
 use Rattle.config_base.proofs.SameTags.{same_tag-is, is-same_tag}
 use Rattle.evidence_base.specs.Made.{PlainCaseEvidence, case_at, tag_at}
-use Rattle.evidence_rules.specs.Rules.{IsNodeOf, KeepsTag}
-use Rattle.evidence_rules.specs.Verdicts.{IsFirstAt, at_place}
+use Rattle.evidence_verdicts.specs.Rules.{IsNodeOf, KeepsTag}
+use Rattle.evidence_verdicts.specs.Verdicts.{IsFirstAt, at_place}
 use Rattle.config_base.specs.Configs.{IsBelow}
 use Rattle.evidence_check.specs.TagRule.{AreSeen, IsEarlierNode, is_right_tag}
 

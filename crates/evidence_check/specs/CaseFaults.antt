@@ -6,9 +6,9 @@ use Rattle.policy_base.specs.Policies.{PlainPolicy}
 use Rattle.evidence_base.specs.Made.{PlainCaseEvidence}
 use Rattle.evidence_law.specs.Passes.{all_steps}
 use Rattle.preference_check.specs.FirstPair.{IsFirstPair}
-use Rattle.evidence_rules.specs.declared.rule.CheckRule.{CheckRule}
-use Rattle.evidence_rules.specs.Rules.{IsListed, KeepsAt, Keeps, rule_number}
-use Rattle.evidence_rules.specs.Verdicts.{IsFirstAt, KeepsBefore}
+use Rattle.evidence_verdicts.specs.declared.rule.CheckRule.{CheckRule}
+use Rattle.evidence_verdicts.specs.Rules.{IsListed, KeepsAt, Keeps, rule_number}
+use Rattle.evidence_verdicts.specs.Verdicts.{IsFirstAt, KeepsBefore}
 use Rattle.evidence_check.specs.declared.case_rules.Fault.{Fault}
 use Rattle.evidence_check.specs.declared.cases.CaseFault.{CaseFault}
 use Rattle.evidence_check.specs.Listed.{AreWithinTo}

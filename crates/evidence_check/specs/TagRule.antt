@@ -7,7 +7,7 @@ use Rattle.net_base.specs.Numbers.{is_tag, no_tag}
 use Rattle.graph_base.specs.Runs.{place_of}
 use Rattle.config_base.specs.Lines.{same_tag}
 use Rattle.evidence_base.specs.Made.{PlainCaseEvidence, tag_at}
-use Rattle.evidence_rules.specs.Rules.{IsNodeOf, KeepsTag}
+use Rattle.evidence_verdicts.specs.Rules.{IsNodeOf, KeepsTag}
 
 -- what a tag at a location is by itself: none at a peer, else one with the location's AS number
 abbrev pub is_right_tag : PlainNet → ℕ → Tag → Bool

@@ -17,10 +17,10 @@ ghost use Rattle.evidence_check.specs.CaseRules.{AreClaimedWhereRanked, IsLive, 
 
 use crate::known::known_graph;
 use evidence_base::CaseEvidence;
-use evidence_rules::CheckRule;
+use evidence_verdicts::CheckRule;
 use graph_base::{Graph, ranked_routers};
+use input_output::NoMemory;
 use net_base::{LocSet, Net, known_net};
-use outside::NoMemory;
 use preference_check::{listener_fault, loop_fault, rank_fault, step_fault};
 use std::alloc::Global;
 use walk_check::{WalkClasses, mixed_fault, walks};

@@ -1,11 +1,11 @@
 //! The rules of cases, over all of them.
 ghost use Rattle.std.specs.Prelude.{◌≡◌, ℕ, List, IfNone, IfOk, IfSome, Some};
-ghost use Rattle.list_laws.specs.Members.{IsIn};
+ghost use Rattle.list_law.specs.Members.{IsIn};
 ghost use Rattle.policy_base.specs.Cases.{case_list};
 ghost use Rattle.policy_base.specs.Policies.{policy_of};
 ghost use Rattle.evidence_base.specs.Made.{PlainCaseEvidence, case_at};
 ghost use Rattle.policy_base.specs.CaseNumbers.{OriginsAreRouters};
-ghost use Rattle.evidence_rules.specs.declared.rule.CheckRule.TheVariants as rule;
+ghost use Rattle.evidence_verdicts.specs.declared.rule.CheckRule.TheVariants as rule;
 ghost use Rattle.evidence_check.specs.CaseFaults.{IsFaultFrom, IsLeastOrNone, least_with, lesser_of};
 ghost use Rattle.evidence_check.specs.Listed.{IsWithinRoom};
 
@@ -13,13 +13,12 @@ use crate::case_rules::{Fault, case_fault};
 use crate::listed::within_limits;
 use crate::same::is_same_case;
 use crate::tags::case_number;
-use config_made::statement_at;
 use evidence_base::CaseEvidence;
 use evidence_law::limits::STEPS;
-use evidence_rules::CheckRule;
+use evidence_verdicts::CheckRule;
+use input_output::NoMemory;
 use net_base::{Net, known_net};
-use outside::NoMemory;
-use policy_base::{Case, Policy};
+use policy_base::{Case, Policy, statement_at};
 use reach_prune::trim;
 use std::alloc::Global;
 

@@ -3,20 +3,20 @@ ghost use Rattle.std.specs.Prelude.{◌≡◌, ◌<◌, ◌↔◌, IfOk, IsTrue}
 ghost use Rattle.policy_base.specs.Policies.{policy_of};
 ghost use Rattle.config_base.specs.Configs.{PlainConfig};
 ghost use Rattle.config_text.specs.Spelled.{Spells};
-ghost use Rattle.evidence_rules.specs.declared.rule.CheckRule.TheVariants.{ConfigDiffers};
-ghost use Rattle.evidence_rules.specs.declared.verdict.Verdict.TheVariants.{Holds};
-ghost use Rattle.evidence_rules.specs.Verdicts.{IsVerdict, KeepsBefore};
+ghost use Rattle.evidence_verdicts.specs.declared.rule.CheckRule.TheVariants.{ConfigDiffers};
+ghost use Rattle.evidence_verdicts.specs.declared.verdict.Verdict.TheVariants.{Holds};
+ghost use Rattle.evidence_verdicts.specs.Verdicts.{IsVerdict, KeepsBefore};
 
 use crate::difference::block_of;
-use config_made::config_of;
+use config_maker::config_of;
 use config_text::print_config;
 use evidence_base::CaseEvidence;
-use evidence_rules::{CheckRule, Shown, Verdict};
+use evidence_verdicts::{CheckRule, Shown, Verdict};
+use input_output::NoMemory;
 use net_base::{Net, known_net};
-use outside::NoMemory;
 use policy_base::{Policy, known_policy};
 use std::alloc::Global;
-use text_difference::first_difference;
+use text_parts::first_difference;
 
 // Whether two texts are the same.
 fn is_same_text(one: &[u8], other: &[u8]) -> bool

@@ -1,6 +1,6 @@
 //! The block of a configuration in which a line stands.
 ghost use Rattle.std.specs.Prelude.{◌≡◌, ◌+◌, ◌-◌, ◌^◌, ◌<◌, length, Some, None, if◌then◌else◌};
-ghost use Rattle.evidence_rules.specs.Verdicts.{all_session_lines, block_after, block_of as block_with, router_lines, session_lines};
+ghost use Rattle.evidence_verdicts.specs.Verdicts.{all_session_lines, block_after, block_of as block_with, router_lines, session_lines};
 ghost use Rattle.evidence_check.specs.Difference.{lines_behind};
 
 use config_base::{Config, RouterConfig, Session};

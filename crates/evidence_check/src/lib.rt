@@ -1,6 +1,6 @@
 //! A configuration with its evidence is judged by the ten rules.
 //!
-//! What is asked stands in `evidence_rules`. `check` answers with the one verdict that there is: the evidence holds, or the first
+//! What is asked stands in `evidence_verdicts`. `check` answers with the one verdict that there is: the evidence holds, or the first
 //! rule that fails and where it does.
 #![tactic(auto)]
 

@@ -6,20 +6,20 @@ ghost use Rattle.policy_base.specs.Meaning.{alternative_count};
 ghost use Rattle.policy_base.specs.Policies.{plain_statement, ranking_of};
 ghost use Rattle.path_exprs.specs.Forward.{expressions};
 ghost use Rattle.path_exprs.specs.Standings.{PassesStates, plan_of};
-ghost use Rattle.standings.specs.Built.{IsBuilt};
+ghost use Rattle.walk_states.specs.Built.{IsBuilt};
 ghost use Rattle.graph_law.specs.Limits.{IsBuiltWithin};
 ghost use Rattle.evidence_check.specs.Listed.{IsWithin};
 
 use crate::same::is_same_case;
 use constraint_expand::{ExpandFault, expand};
 use graph_base::Graph;
+use input_output::NoMemory;
 use net_base::Net;
-use outside::NoMemory;
 use path_automata::Automata;
 use path_exprs::RankedExpr;
 use policy_base::{Case, FromSet, Statement};
-use standings::{StandingsFault, standings};
 use std::alloc::Global;
+use walk_states::{StandingsFault, standings};
 
 /// The expressions of a statement's alternatives, or None where there are too many.
 fn expanded(alloc: Global, net: &Net, statement: &Statement) -> Result<Option<RankedExpr>, NoMemory>

@@ -5,15 +5,15 @@ ghost use Rattle.net_base.specs.Network.{asn_of as asn_at, IsNet, is_peer};
 ghost use Rattle.graph_base.specs.Runs.{place_of};
 ghost use Rattle.config_base.specs.Lines.{same_tag};
 ghost use Rattle.evidence_base.specs.Made.{PlainCaseEvidence, case_at, tag_at};
-ghost use Rattle.evidence_rules.specs.Rules.{KeepsTag};
-ghost use Rattle.evidence_rules.specs.Verdicts.{IsFirstAt};
+ghost use Rattle.evidence_verdicts.specs.Rules.{KeepsTag};
+ghost use Rattle.evidence_verdicts.specs.Verdicts.{IsFirstAt};
 ghost use Rattle.evidence_check.specs.TagRule.{AreSeen, is_right_tag};
 
 use config_base::NO_TAG;
 use evidence_base::CaseEvidence;
 use indexmap::IndexSet;
+use input_output::NoMemory;
 use net_base::{Loc, Net, Tag, known_net, tag_fits};
-use outside::NoMemory;
 use std::alloc::Global;
 
 /// A node of a case.

@@ -4,9 +4,9 @@ ghost use Rattle.config_base.specs.Configs.{PlainConfig};
 ghost use Rattle.policy_base.specs.Policies.{policy_of};
 ghost use Rattle.policy_base.specs.CaseNumbers.{OriginsAreRouters};
 ghost use Rattle.config_text.specs.Spelled.{Spells};
-ghost use Rattle.evidence_rules.specs.declared.rule.CheckRule.TheVariants.{ConfigDiffers, Tags};
-ghost use Rattle.evidence_rules.specs.declared.verdict.Verdict.TheVariants.{Fails, Holds};
-ghost use Rattle.evidence_rules.specs.Verdicts.{IsVerdict, KeepsBefore};
+ghost use Rattle.evidence_verdicts.specs.declared.rule.CheckRule.TheVariants.{ConfigDiffers, Tags};
+ghost use Rattle.evidence_verdicts.specs.declared.verdict.Verdict.TheVariants.{Fails, Holds};
+ghost use Rattle.evidence_verdicts.specs.Verdicts.{IsVerdict, KeepsBefore};
 
 use crate::cases::{CaseFault, cases_fault};
 use crate::config::text_verdict;
@@ -14,9 +14,9 @@ use crate::tags::{CaseNode, tag_fault};
 use config_base::Config;
 use config_text::print_config;
 use evidence_base::{CaseEvidence, Evidence};
-use evidence_rules::{CheckRule, Shown, Verdict};
+use evidence_verdicts::{CheckRule, Shown, Verdict};
+use input_output::NoMemory;
 use net_base::Net;
-use outside::NoMemory;
 use policy_base::{Policy, cases};
 use std::alloc::Global;
 

@@ -7,8 +7,8 @@ use Rattle.std.specs.Str.{bytes_eq}
 use Rattle.std.proofs.lemmas.Bool.{and_parts, and_from, ltb-true, true≢false}
 use Rattle.std.proofs.lemmas.Option.{slice_get_cases}
 use Rattle.std.proofs.lemmas.Slice.Eq.{bytes_eq-Decides}
-use Rattle.list_laws.proofs.Keys.{place_by_key}
-use Rattle.list_laws.proofs.Tests.{find_from, find_parts}
+use Rattle.list_law.proofs.Keys.{place_by_key}
+use Rattle.list_law.proofs.Tests.{find_from, find_parts}
 use Rattle.net_base.specs.declared.net.Site.{Site}
 use Rattle.net_base.specs.Network.{PlainNet, IsNet, sites, site_of, is_named, is_peer, is_router, linked}
 use Rattle.policy_base.specs.Policies.{PlainPolicy}

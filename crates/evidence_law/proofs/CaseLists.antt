@@ -12,9 +12,9 @@ use Rattle.policy_base.specs.declared.case.Case.{Case}
 use Rattle.policy_base.specs.Policies.{PlainPolicy}
 use Rattle.policy_base.specs.Governing.{governing}
 use Rattle.policy_base.specs.Cases.{with_prefix, with_governed, originated_cases}
-use Rattle.list_laws.specs.Members.{IsIn}
-use Rattle.list_laws.proofs.Numbers.{same_multiple}
-use Rattle.list_laws.proofs.Members.{IsIn-push_cases}
+use Rattle.list_law.specs.Members.{IsIn}
+use Rattle.list_law.proofs.Numbers.{same_multiple}
+use Rattle.list_law.proofs.Members.{IsIn-push_cases}
 
 -- ---- one prefix
 

@@ -13,11 +13,11 @@ use Rattle.policy_base.specs.declared.case.Case.{Case}
 use Rattle.policy_base.specs.Policies.{PlainPolicy, PlainStatement, statement_at, IsPolicyOf}
 use Rattle.policy_base.specs.Governing.{governing, governing_from, statement_of, originated_at, is_origin, is_origin_by}
 use Rattle.policy_base.specs.Cases.{case_list, originated_cases, external_cases}
-use Rattle.list_laws.specs.Members.{IsIn}
-use Rattle.list_laws.proofs.Items.{same_item, slice_get_behind, slice_get_in_front}
-use Rattle.list_laws.proofs.Each.{AllByRecursion_at}
-use Rattle.list_laws.proofs.Keys.{place_by_key}
-use Rattle.list_laws.proofs.Options.{cases_Option}
+use Rattle.list_law.specs.Members.{IsIn}
+use Rattle.list_law.proofs.Items.{same_item, slice_get_behind, slice_get_in_front}
+use Rattle.list_law.proofs.Each.{AllByRecursion_at}
+use Rattle.list_law.proofs.Keys.{place_by_key}
+use Rattle.list_law.proofs.Options.{cases_Option}
 use Rattle.net_base.proofs.RoutersAndPeers.{router_no_peer, router_known}
 use Rattle.evidence_law.proofs.CaseLists.{IsOriginatedCase, originated_are}
 use Rattle.evidence_law.proofs.ClassFound.{Names, names_each, class_in, originated_by, originated_some, class_named, class_passed}

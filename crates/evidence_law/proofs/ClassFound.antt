@@ -15,10 +15,10 @@ use Rattle.policy_base.specs.Governing.{some_contains, governing, originated_at}
 use Rattle.policy_base.specs.Cases.{with_prefix, with_governed, originated_cases}
 use Rattle.config_base.specs.Lines.{class_from}
 use Rattle.evidence_base.specs.Made.{patterns_of}
-use Rattle.list_laws.specs.Members.{IsIn}
-use Rattle.list_laws.proofs.Tests.{list_any_parts}
-use Rattle.list_laws.proofs.Options.{option_map_parts}
-use Rattle.list_laws.proofs.Members.{IsIn-push, IsIn-append_left}
+use Rattle.list_law.specs.Members.{IsIn}
+use Rattle.list_law.proofs.Tests.{list_any_parts}
+use Rattle.list_law.proofs.Options.{option_map_parts}
+use Rattle.list_law.proofs.Members.{IsIn-push, IsIn-append_left}
 use Rattle.evidence_law.proofs.CaseLists.{IsOriginatedCase, AreOriginated, only_itself, contains-itself, prefix_is}
 
 -- ---- some case names the prefix

@@ -18,9 +18,9 @@ use Rattle.config_base.specs.declared.config.Origination.{Origination}
 use Rattle.config_base.specs.Configs.{PlainConfig}
 use Rattle.config_base.specs.Lines.{class_of, same_tag, block_at, export_of, import_of}
 use Rattle.evidence_base.specs.Made.{PlainCaseEvidence, IsStep, IsExportTo, IsImportFrom, IsOriginationAt, IsConfigOf, AreTags, case_at, tag_at, number_at}
-use Rattle.list_laws.specs.Members.{IsIn}
-use Rattle.list_laws.proofs.Tests.{find_from, find_parts, list_any_parts}
-use Rattle.list_laws.proofs.Options.{is_some_parts, option_and_then_parts, option_map_parts}
+use Rattle.list_law.specs.Members.{IsIn}
+use Rattle.list_law.proofs.Tests.{find_from, find_parts, list_any_parts}
+use Rattle.list_law.proofs.Options.{is_some_parts, option_and_then_parts, option_map_parts}
 use Rattle.evidence_law.proofs.Setting.{network_of, graph_of, lines_of, pair_of, tag_of, gift_of}
 use Rattle.net_base.proofs.Links.{linked_flips, linked_known}
 use Rattle.net_base.proofs.RoutersAndPeers.{router_no_peer}

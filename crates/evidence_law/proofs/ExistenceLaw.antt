@@ -13,7 +13,7 @@ use Rattle.evidence_base.specs.Made.{PlainCaseEvidence, number_at}
 use Rattle.outcome_base.specs.Outcomes.{Failures, Outcome, is_dead, route_at, given, IsStable}
 use Rattle.evidence_law.specs.Passes.{Passes, IsClaimed}
 use Rattle.evidence_law.proofs.MadeCases.{HasCase, case_or_bare}
-use Rattle.list_laws.proofs.Options.{none_or_some}
+use Rattle.list_law.proofs.Options.{none_or_some}
 use Rattle.net_base.specs.Sets.{holds}
 use Rattle.evidence_law.specs.Laws.{StableOutcomesExist}
 use Rattle.evidence_law.proofs.Setting.{network_of, alive_of, lines_of, setup_of, pairs_of}

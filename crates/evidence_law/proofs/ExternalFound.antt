@@ -11,8 +11,8 @@ use Rattle.policy_base.specs.declared.case.Case.{Case}
 use Rattle.policy_base.specs.Policies.{PlainPolicy, PlainStatement, statement_at}
 use Rattle.policy_base.specs.Governing.{some_contains, governing_from, statement_from, originated_at}
 use Rattle.policy_base.specs.Cases.{is_originated, external_case, external_cases}
-use Rattle.list_laws.specs.Members.{IsIn}
-use Rattle.list_laws.proofs.Tests.{list_any_parts}
+use Rattle.list_law.specs.Members.{IsIn}
+use Rattle.list_law.proofs.Tests.{list_any_parts}
 use Rattle.evidence_law.proofs.CaseLists.{inside_itself}
 use Rattle.evidence_law.proofs.ClassFound.{hits, class_in}
 

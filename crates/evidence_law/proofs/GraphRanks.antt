@@ -2,7 +2,7 @@
 use Rattle.std.proofs.Common.{◌≡◌, ℕ, ◌<◌, Bool, true, false, List, [], ◌∷◌, length, Option, Some, None, refl, sym, ap, ◌∙◌, subst}
 use Rattle.std.specs.Prelude.{◌&&◌, not, is_some, if◌then◌else◌}
 use Rattle.std.proofs.lemmas.Bool.{and_parts, and_from, or_left, true≢false, not-true, ltb-false, le-leb}
-use Rattle.list_laws.proofs.Options.{is_some_from, is_some_parts, when_parts}
+use Rattle.list_law.proofs.Options.{is_some_from, is_some_parts, when_parts}
 use Rattle.net_base.specs.Network.{PlainNet, IsNet, is_peer, is_router, is_location}
 use Rattle.net_base.specs.Sets.{holds}
 use Rattle.policy_base.specs.declared.case.Case.{Case}

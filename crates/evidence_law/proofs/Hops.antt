@@ -16,7 +16,7 @@ use Rattle.config_base.specs.Configs.{PlainConfig}
 use Rattle.config_base.specs.Lines.{as_path, class_of, export_of, import_of, is_looped, line_by, block_at, own_route}
 use Rattle.outcome_base.specs.Outcomes.{Failures, Outcome, is_dead, is_dead_link, is_live, is_silent, offered, route_at, sent, given, IsStable}
 use Rattle.outcome_base.specs.Right.{IsPassedOn}
-use Rattle.list_laws.proofs.Options.{cases_Option, none_or_some, unless_parts}
+use Rattle.list_law.proofs.Options.{cases_Option, none_or_some, unless_parts}
 use Rattle.evidence_law.proofs.Heard.{no_gift, given-refused, given-taken, given-unsent, sent-permitted, sent-refused, sent-unrouted}
 use Rattle.evidence_law.proofs.Loops.{loop_by_number}
 

@@ -4,7 +4,7 @@ use Rattle.std.specs.Prelude.{◌&&◌, ◌⊎◌, not, slice_get}
 use Rattle.std.specs.Option.{option_and_then}
 use Rattle.std.proofs.lemmas.Bool.{and_parts, and_from, cases_Bool, true≢false, not_from_false, lt-ltb}
 use Rattle.std.proofs.lemmas.Option.{slice_get_within}
-use Rattle.list_laws.proofs.Options.{cases_Option, none_or_some}
+use Rattle.list_law.proofs.Options.{cases_Option, none_or_some}
 use Rattle.net_base.specs.Network.{PlainNet, IsNet, is_peer, is_router}
 use Rattle.net_base.specs.Prefixes.{PlainPrefix, IsPrefix}
 use Rattle.policy_base.specs.Policies.{PlainPolicy, PlainStatement, statement_at, IsPolicyOf}

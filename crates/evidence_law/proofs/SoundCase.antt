@@ -13,7 +13,7 @@ use Rattle.config_base.specs.declared.route.Route.{Route}
 use Rattle.config_base.specs.Configs.{PlainConfig}
 use Rattle.config_base.specs.Lines.{class_of}
 use Rattle.evidence_base.specs.Made.{PlainCaseEvidence, IsConfigOf, AreTags, number_at}
-use Rattle.list_laws.specs.Members.{IsIn}
+use Rattle.list_law.specs.Members.{IsIn}
 use Rattle.outcome_base.specs.Outcomes.{Failures, Outcome, is_dead, is_live, route_at, offered, IsStable}
 use Rattle.evidence_law.specs.Faithful.{permits}
 use Rattle.evidence_law.specs.Laws.{IsSoundBy}

@@ -2,7 +2,7 @@
 use Rattle.std.proofs.Common.{◌≡◌, ℕ, ◌≤◌, Bool, true, false, List, ◌∷◌, Some, None, refl, sym, ap, ◌∙◌, subst, inl, inr}
 use Rattle.std.specs.Prelude.{◌&&◌, not, if◌then◌else◌, option_map}
 use Rattle.std.proofs.lemmas.Bool.{and_parts, and_from, cases_Bool, not-false}
-use Rattle.list_laws.proofs.Options.{cases_Option, option_map_parts}
+use Rattle.list_law.proofs.Options.{cases_Option, option_map_parts}
 use Rattle.net_base.specs.declared.numbers.Tag.{Tag}
 use Rattle.net_base.specs.Network.{PlainNet, IsNet, is_peer, is_router}
 use Rattle.net_base.specs.Prefixes.{PlainPrefix}

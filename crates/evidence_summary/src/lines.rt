@@ -4,10 +4,10 @@ ghost use Rattle.evidence_summary.specs.Summary.{count_line, node_count, step_co
 
 use crate::numbers::preferences;
 use evidence_base::CaseEvidence;
+use input_output::NoMemory;
 use net_base::Net;
-use outside::NoMemory;
 use std::alloc::Global;
-use text_words::push_bytes;
+use text_parts::push_bytes;
 
 // Adds a line with a word and a number.
 fn push_count(text: &mut Vec<u8>, word: &[u8], count: u128) -> Result<(), NoMemory>

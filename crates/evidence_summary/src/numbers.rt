@@ -4,8 +4,8 @@ ghost use Rattle.std.specs.List.{flat_map};
 ghost use Rattle.evidence_summary.specs.Summary.{number_at_router, preference_count, router_numbers};
 
 use evidence_base::CaseEvidence;
+use input_output::NoMemory;
 use net_base::Net;
-use outside::NoMemory;
 use std::alloc::Global;
 use std::collections::BTreeSet;
 

@@ -3,8 +3,8 @@ use Rattle.std.proofs.Common.{ℕ, List, Option, Result, Ok, Err, refl}
 use Rattle.std.specs.Prelude.{codes, length, slice_get, ◌==◌}
 use Rattle.serde_json.specs.Data.{Data}
 use Rattle.serde_json.specs.Find.{get, as_bool, as_number, as_str}
-use Rattle.json_words.specs.Json.{list_at}
-use Rattle.item_laws.proofs.OnlyFaults.{IsOf, Only, only_bind, only_each, or_only, or_then, unless_then}
+use Rattle.json_values.specs.Json.{list_at}
+use Rattle.json_values.proofs.OnlyFaults.{IsOf, Only, only_bind, only_each, or_only, or_then, unless_then}
 use Rattle.net_base.specs.Prefixes.{PlainPrefix}
 use Rattle.net_base.specs.PrefixText.{prefix_spelled}
 use Rattle.net_base.specs.declared.prefix_text.PrefixFault.{PrefixFault}

@@ -5,8 +5,8 @@ use Rattle.std.specs.List.{AllByRecursion, list_all}
 use Rattle.std.specs.Option.{ForSome}
 use Rattle.std.proofs.lemmas.Bool.{and_parts, eqb-false, leb-true, ltb-true}
 use Rattle.std.proofs.lemmas.List.{length-map}
-use Rattle.list_laws.proofs.Each.{AllByRecursion-map, AllByRecursion-weaker, AllByRecursion-from_list_all}
-use Rattle.list_laws.proofs.Options.{option_and_then_parts, when_parts, unless_parts}
+use Rattle.list_law.proofs.Each.{AllByRecursion-map, AllByRecursion-weaker, AllByRecursion-from_list_all}
+use Rattle.list_law.proofs.Options.{option_and_then_parts, when_parts, unless_parts}
 use Rattle.serde_json.specs.Data.{Data}
 use Rattle.serde_json.specs.Find.{as_number, as_bool, as_u64}
 use Rattle.net_base.specs.Steps.{◌>>=◌, each_from, or_fault, unless}

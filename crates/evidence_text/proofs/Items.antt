@@ -7,12 +7,12 @@ use Rattle.std.proofs.lemmas.List.{drop_all}
 use Rattle.std.specs.List.{AllByRecursion}
 use Rattle.std.specs.Fmt.{decimal, digits}
 use Rattle.json.specs.Print.{escape_byte}
-use Rattle.json_words.specs.Json.{array_of, numbers_data, texts_data}
-use Rattle.item_laws.proofs.ItemsRead.{drop_here}
+use Rattle.json_values.specs.Json.{array_of, numbers_data, texts_data}
+use Rattle.json_values.proofs.ItemsRead.{drop_here}
 use Rattle.net_base.specs.Prefixes.{PlainPrefix}
 use Rattle.net_base.specs.declared.numbers.Tag.{Tag}
 use Rattle.graph_base.specs.declared.graph.Node.{Node}
-use Rattle.text_words.specs.Texts.{prefix_text}
+use Rattle.text_parts.specs.Texts.{prefix_text}
 use Rattle.evidence_base.specs.Made.{PlainCaseEvidence}
 use Rattle.evidence_text.specs.Writable.{IsShort}
 use Rattle.evidence_text.specs.Text.{case_data, evidence_data, evidence_text, members, nodes_data, places_text, step_data, ways_text}

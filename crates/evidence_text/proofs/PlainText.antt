@@ -4,17 +4,17 @@ use Rattle.std.specs.Prelude.{unwrap_or, if◌then◌else◌}
 use Rattle.std.specs.List.{AllByRecursion}
 use Rattle.std.specs.Str.{IsUtf8}
 use Rattle.std.proofs.lemmas.Bool.{lt-ltb}
-use Rattle.list_laws.proofs.Each.{AllByRecursion-weaker}
+use Rattle.list_law.proofs.Each.{AllByRecursion-weaker}
 use Rattle.json.proofs.Printed.Utf8.{IsUtf8-are_ascii, are_ascii}
-use Rattle.json_words.specs.Plain.{IsPlain, ArePlain}
-use Rattle.json_words.proofs.PlainItems.{plain_map}
+use Rattle.json_values.specs.Plain.{IsPlain, ArePlain}
+use Rattle.json_values.proofs.PlainItems.{plain_map}
 use Rattle.serde_json.specs.Data.{number, string, unsigned, depth, items_depth}
 use Rattle.serde_json.specs.View.{items_of}
 use Rattle.serde_json.proofs.OnLiterals.{serde_json_on_literals}
 use Rattle.net_base.specs.declared.numbers.Tag.{Tag}
 use Rattle.net_base.specs.Prefixes.{PlainPrefix, IsPrefix}
 use Rattle.graph_base.specs.declared.graph.Node.{Node}
-use Rattle.text_words.specs.Texts.{prefix_text}
+use Rattle.text_parts.specs.Texts.{prefix_text}
 use Rattle.evidence_base.specs.Made.{PlainCaseEvidence}
 use Rattle.evidence_text.specs.Text.{members, case_data, evidence_data, nodes_data, step_data}
 use Rattle.evidence_text.specs.Writable.{IsWritable}

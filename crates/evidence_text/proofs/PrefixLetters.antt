@@ -3,13 +3,13 @@ use Rattle.std.proofs.Common.{◌≡◌, ℕ, ◌<◌, ◌≤◌, ◌/◌, ◌%�
 use Rattle.std.specs.Prelude.{codes}
 use Rattle.std.specs.Fmt.{decimal}
 use Rattle.std.specs.List.{AllByRecursion}
-use Rattle.list_laws.proofs.Each.{AllByRecursion-append, AllByRecursion-weaker, AllByRecursion-from_list_all}
+use Rattle.list_law.proofs.Each.{AllByRecursion-append, AllByRecursion-weaker, AllByRecursion-from_list_all}
 use Rattle.json.specs.Print.{escape}
 use Rattle.json.proofs.Printed.Strings.{escape_byte_plain}
 use Rattle.net_base.specs.Addresses.{is_figure}
 use Rattle.net_base.specs.Prefixes.{PlainPrefix, IsPrefix}
-use Rattle.text_words.specs.Texts.{prefix_text}
-use Rattle.text_words.proofs.Numbers.{figure_range, list_all-is_figure}
+use Rattle.text_parts.specs.Texts.{prefix_text}
+use Rattle.text_parts.proofs.Numbers.{figure_range, list_all-is_figure}
 
 -- a digit, a dot or a slash
 abbrev IsLetter : ℕ → Type 0

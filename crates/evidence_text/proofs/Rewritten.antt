@@ -4,20 +4,20 @@ use Rattle.std.specs.Prelude.{codes, nat_lt, ◌&&◌, ◌==◌, unwrap_or, if�
 use Rattle.std.specs.List.{AllByRecursion, list_all}
 use Rattle.std.proofs.lemmas.Bool.{le-leb, lt-ltb, ne_eqb}
 use Rattle.std.proofs.lemmas.List.{length-map}
-use Rattle.json_words.proofs.JsonLists.{list_of-items_of}
-use Rattle.json_words.proofs.ReadAgain.{json_of-line}
+use Rattle.json_values.proofs.JsonLists.{list_of-items_of}
+use Rattle.json_values.proofs.ReadAgain.{json_of-line}
 use Rattle.serde_json.specs.Data.{boolean, number, string, unsigned}
 use Rattle.serde_json.specs.Find.{get}
 use Rattle.serde_json.proofs.OnLiterals.{serde_json_on_literals}
-use Rattle.list_laws.proofs.Each.{AllByRecursion-weaker}
+use Rattle.list_law.proofs.Each.{AllByRecursion-weaker}
 use Rattle.net_base.specs.declared.loc.LocSet.{LocSet}
 use Rattle.evidence_text.specs.declared.parts.Field.{Field}
 use Rattle.evidence_text.specs.declared.parts.Field.TheVariants as field
 use Rattle.net_base.specs.declared.numbers.Tag.{Tag}
 use Rattle.net_base.specs.Prefixes.{PlainPrefix, IsPrefix}
 use Rattle.net_base.specs.Steps.{each_from, or_fault}
-use Rattle.text_words.specs.Texts.{prefix_text}
-use Rattle.text_words.proofs.PrefixTexts.{prefix_spelled-prefix_text}
+use Rattle.text_parts.specs.Texts.{prefix_text}
+use Rattle.text_parts.proofs.PrefixTexts.{prefix_spelled-prefix_text}
 use Rattle.graph_base.specs.declared.graph.Node.{Node}
 use Rattle.evidence_base.specs.Made.{PlainCaseEvidence}
 use Rattle.evidence_text.specs.declared.fault.EvidenceFault.{EvidenceFault}

@@ -5,14 +5,14 @@ use Rattle.std.specs.List.{AllByRecursion, list_all}
 use Rattle.std.proofs.Common.{eq-eqb}
 use Rattle.std.proofs.lemmas.Bool.{eqb-true, eqb-false}
 use Rattle.std.proofs.lemmas.Option.{same_Some}
-use Rattle.list_laws.proofs.Each.{AllByRecursion-map, AllByRecursion-weaker}
+use Rattle.list_law.proofs.Each.{AllByRecursion-map, AllByRecursion-weaker}
 use Rattle.serde_json.specs.Data.{Data}
-use Rattle.json_words.specs.Json.{json_of}
-use Rattle.json_words.proofs.JsonTexts.{json_of-read, json_of-value}
-use Rattle.item_laws.specs.TextRules.{Says, KeepsBelow}
-use Rattle.item_laws.proofs.FirstRule.{Outcome, below_3, next, broken}
-use Rattle.item_laws.proofs.OnlyFaults.{IsOf, only_err}
-use Rattle.item_laws.proofs.TextLaws as texts
+use Rattle.json_values.specs.Json.{json_of}
+use Rattle.json_values.proofs.JsonTexts.{json_of-read, json_of-value}
+use Rattle.json_values.specs.TextRules.{Says, KeepsBelow}
+use Rattle.json_values.proofs.FirstRule.{Outcome, below_3, next, broken}
+use Rattle.json_values.proofs.OnlyFaults.{IsOf, only_err}
+use Rattle.json_values.proofs.TextLaws as texts
 use Rattle.net_base.specs.Steps.{◌>>=◌, or_fault, unless}
 use Rattle.net_base.proofs.StepLemmas.{bind_ok, err_same, ok_not_err, ok_same, or_fault_ok, unless_ok}
 use Rattle.net_base.proofs.StepOutcomes.{bind_case, or_fault_err, unless_err}

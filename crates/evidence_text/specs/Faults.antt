@@ -1,7 +1,7 @@
 -- The numbers of the faults, their words and their values.
 use Rattle.std.specs.Prelude.{ℕ, List, [], codes}
-use Rattle.text_words.specs.Texts.{word_text}
-use Rattle.text_faults.specs.Telling.{Telling}
+use Rattle.text_parts.specs.Texts.{word_text}
+use Rattle.text_parts.specs.Telling.{Telling}
 use Rattle.evidence_text.specs.Parts.{field_word}
 use Rattle.evidence_text.specs.declared.fault.EvidenceFault.{EvidenceFault}
 use Rattle.evidence_text.specs.declared.fault.EvidenceFault.TheVariants.{NotJson, Shape, Number, Place, Version, NoMemory}

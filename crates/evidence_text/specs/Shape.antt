@@ -5,7 +5,7 @@ use Rattle.std.specs.Option.{option_map_or}
 use Rattle.serde_json.specs.Data.{Data}
 use Rattle.serde_json.specs.Find.{get, as_bool, as_number, as_object, as_str, as_u64}
 use Rattle.serde_json.specs.Events.{members_len}
-use Rattle.json_words.specs.Json.{has, list_at}
+use Rattle.json_values.specs.Json.{has, list_at}
 use Rattle.evidence_text.specs.declared.parts.Field.{Field}
 use Rattle.evidence_text.specs.declared.parts.Field.TheVariants as field
 use Rattle.net_base.specs.declared.prefix_text.PrefixFault.{PrefixFault}

@@ -1,7 +1,7 @@
 -- The evidence that bytes spell.
 use Rattle.std.specs.Prelude.{ℕ, ◌==◌, ◌&&◌, nat_eq, nat_lt, Bool, length, map, List, Result, Ok}
 use Rattle.std.specs.List.{list_all, list_any}
-use Rattle.json_words.specs.Json.{json_of}
+use Rattle.json_values.specs.Json.{json_of}
 use Rattle.evidence_text.specs.declared.parts.Field.TheVariants as field
 use Rattle.net_base.specs.Sets.{set_of}
 use Rattle.net_base.specs.Steps.{◌>>=◌, or_fault, unless}

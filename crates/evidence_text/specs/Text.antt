@@ -4,12 +4,12 @@ use Rattle.std.specs.Fmt.{decimal}
 use Rattle.std.specs.List.{range_with_len}
 use Rattle.serde_json.specs.Data.{Data, unsigned, boolean, number, object, no_members, member}
 use Rattle.serde_json.specs.Written.{compact_text}
-use Rattle.json_words.specs.Json.{array_of, numbers_data, texts_data}
+use Rattle.json_values.specs.Json.{array_of, numbers_data, texts_data}
 use Rattle.net_base.specs.declared.limits.TheConstants.{LOCATIONS}
 use Rattle.net_base.specs.declared.loc.LocSet.{LocSet}
 use Rattle.net_base.specs.declared.numbers.Tag.{Tag}
 use Rattle.net_base.specs.Sets.{holds}
-use Rattle.text_words.specs.Texts.{prefix_text}
+use Rattle.text_parts.specs.Texts.{prefix_text}
 use Rattle.graph_base.specs.declared.graph.Node.{Node}
 use Rattle.evidence_base.specs.Made.{PlainCaseEvidence}
 

@@ -1,9 +1,8 @@
 //! What is wrong with an evidence text.
 use crate::parts::Field;
-use outside::NoMemory;
+use input_output::NoMemory;
 use std::alloc::{AllocError, AllocFailed};
-use text_faults::TextFault;
-use text_words::push_word;
+use text_parts::{TextFault, push_word};
 
 /// The rule that an evidence text breaks: of several the one that stands first here.
 #[derive(Clone, Copy, Debug, Drop, PartialEq, Eq)]

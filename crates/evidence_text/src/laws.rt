@@ -3,7 +3,7 @@ ghost use Rattle.std.specs.Prelude.{◌≡◌, ℕ, List, Some, Ok, Err, IsUtf8}
 ghost use Rattle.std.specs.List.{AllByRecursion};
 ghost use Rattle.serde_json.specs.Data.{Data};
 ghost use Rattle.serde_json.specs.Read.{read};
-ghost use Rattle.item_laws.specs.TextRules.{Says, Keeps, KeepsBelow};
+ghost use Rattle.json_values.specs.TextRules.{Says, Keeps, KeepsBelow};
 ghost use Rattle.evidence_base.specs.Evidence.{IsCaseEvidence};
 ghost use Rattle.evidence_base.specs.Made.{PlainCaseEvidence};
 ghost use Rattle.evidence_text.specs.declared.raw.RawEvidence.{RawEvidence};

@@ -6,18 +6,18 @@ ghost use Rattle.serde_json.specs.Data.{Data};
 ghost use Rattle.net_base.specs.Prefixes.{IsPrefix};
 ghost use Rattle.net_base.specs.Sets.{IsWords};
 ghost use Rattle.serde_json.specs.Written.{comma_if, compact_text};
-ghost use Rattle.json_words.specs.Json.{array_of, numbers_data, texts_data};
-ghost use Rattle.text_words.specs.Texts.{prefix_text};
+ghost use Rattle.json_values.specs.Json.{array_of, numbers_data, texts_data};
+ghost use Rattle.text_parts.specs.Texts.{prefix_text};
 ghost use Rattle.evidence_text.specs.Spelled.{spelled};
 ghost use Rattle.evidence_text.specs.Text.{case_data, evidence_text, members, node_data, nodes_data, places_text, step_data, ways_text};
 ghost use Rattle.evidence_text.specs.Writable.{HasShortRank, IsShort, IsShortTag, IsWritable};
 
 use evidence_base::{CaseEvidence, Evidence};
 use graph_base::Node;
+use input_output::NoMemory;
 use net_base::{Loc, LocSet, Prefix, Tag};
-use outside::NoMemory;
 use std::alloc::Global;
-use text_words::{push_bytes, push_number, push_prefix};
+use text_parts::{push_bytes, push_number, push_prefix};
 
 /// As many bytes as most cases have beside their prefixes, nodes and steps.
 const CASE_BYTES: usize = 128;

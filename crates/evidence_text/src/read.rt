@@ -1,6 +1,6 @@
 //! Which evidence a text spells.
 ghost use Rattle.std.specs.List.{AllByRecursion};
-ghost use Rattle.json_words.specs.Json.{json_of};
+ghost use Rattle.json_values.specs.Json.{json_of};
 ghost use Rattle.serde_json.specs.View.{view};
 ghost use Rattle.net_base.specs.Gives.{GivesUnless};
 ghost use Rattle.net_base.specs.Steps.{or_fault};
@@ -12,7 +12,7 @@ use crate::judge::{are_placed, evidence, numbered};
 use crate::raw::RawEvidence;
 use crate::shape::shape;
 use evidence_base::Evidence;
-use json_words::{JsonFault, json_value};
+use json_values::{JsonFault, json_value};
 use serde_json::Value;
 use std::alloc::Global;
 

@@ -32,7 +32,7 @@ use crate::fault::EvidenceFault;
 use crate::numbers::{Numbers, number, pair};
 use crate::parts::Field;
 use crate::raw::{NodeEntry, RawCase, RawEvidence, RawPlaces, RawWays};
-use json_words::{has, list, member_count};
+use json_values::{has, list, member_count};
 use net_base::{List, Prefix, read_prefix};
 use serde_json::Value;
 use std::alloc::Global;

@@ -3,7 +3,7 @@ use Rattle.std.proofs.Common.{◌≡◌, ℕ, ◌<◌, Bool, true, false, List, 
 use Rattle.std.specs.Option.{option_and_then}
 use Rattle.std.proofs.lemmas.Bool.{cases_Bool, or_cases, true≢false}
 use Rattle.std.proofs.lemmas.Option.{none-some, option_and_then_some}
-use Rattle.list_laws.proofs.Options.{option_and_then_parts}
+use Rattle.list_law.proofs.Options.{option_and_then_parts}
 use Rattle.net_base.specs.Network.{PlainNet, is_peer, is_router}
 use Rattle.net_base.proofs.RoutersAndPeers.{router_no_peer}
 use Rattle.graph_base.specs.Graphs.{PlainGraph, IsGraph}

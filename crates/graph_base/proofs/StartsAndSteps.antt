@@ -3,10 +3,10 @@ use Rattle.std.proofs.Common.{◌≡◌, ℕ, ◌<◌, true, length, Some, refl,
 use Rattle.std.specs.Prelude.{◌&&◌, ◌==◌}
 use Rattle.std.specs.List.{find}
 use Rattle.std.proofs.lemmas.Bool.{and_parts, and_from, eqb-true, eq-eqb}
-use Rattle.list_laws.specs.Members.{IsIn}
-use Rattle.list_laws.proofs.Members.{AllByRecursion-IsIn, list_any-from_IsIn, list_any_member}
-use Rattle.list_laws.proofs.Options.{option_map_parts}
-use Rattle.list_laws.proofs.Tests.{find_parts}
+use Rattle.list_law.specs.Members.{IsIn}
+use Rattle.list_law.proofs.Members.{AllByRecursion-IsIn, list_any-from_IsIn, list_any_member}
+use Rattle.list_law.proofs.Options.{option_map_parts}
+use Rattle.list_law.proofs.Tests.{find_parts}
 use Rattle.graph_base.specs.Graphs.{PlainGraph, IsGraph}
 use Rattle.graph_base.specs.Runs.{place_of, is_start, has_step, start_at, step_at}
 

@@ -4,8 +4,8 @@ ghost use Rattle.graph_base.specs.Runs.{has_step, is_start as is_start_of, step_
 ghost use Rattle.graph_base.specs.Walks.{IsEnteredFromBefore, IsFirstBefore, IsShownWalk};
 
 use crate::graph::Graph;
+use input_output::NoMemory;
 use net_base::{List, Loc};
-use outside::NoMemory;
 use std::alloc::{AllocError, Global};
 
 /// The node to which a node steps at a location.

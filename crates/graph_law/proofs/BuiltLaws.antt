@@ -1,12 +1,12 @@
 -- What the graph that is built says of walks.
 use Rattle.std.proofs.Common.{◌≡◌, ℕ, ◌<◌, List, ◌∷◌, length, slice_get, Some, is_some, IsTrue, ap, arith}
 use Rattle.std.proofs.lemmas.List.{length-map}
-use Rattle.list_laws.proofs.Options.{is_some_parts}
-use Rattle.list_laws.proofs.Truth.{same_tests}
+use Rattle.list_law.proofs.Options.{is_some_parts}
+use Rattle.list_law.proofs.Truth.{same_tests}
 use Rattle.net_base.specs.Network.{PlainNet, IsNet}
 use Rattle.graph_base.specs.Runs.{run}
 use Rattle.evidence_law.specs.Faithful.{is_run_path}
-use Rattle.standings.specs.Built.{node_of, graph_over}
+use Rattle.walk_states.specs.Built.{node_of, graph_over}
 use Rattle.path_exprs.specs.Standings.{Plan, Standing, AreStandings}
 use Rattle.policy_base.specs.CaseOrigins.{AreOrigins}
 use Rattle.graph_law.specs.Ways.{standing_after, stays_alive}

@@ -7,7 +7,7 @@ use Rattle.path_exprs.specs.Derivative.{derivative}
 use Rattle.net_base.specs.NetSets.{locations}
 use Rattle.path_exprs.specs.Runs.{start_of}
 use Rattle.graph_base.specs.Runs.{place_of, is_start, has_step}
-use Rattle.standings.specs.Built.{graph_over}
+use Rattle.walk_states.specs.Built.{graph_over}
 use Rattle.path_exprs.specs.Standings.{Plan, Standing, AreStandings, starts, moved, may_go, is_dead}
 use Rattle.policy_base.specs.CaseOrigins.{AreOrigins}
 use Rattle.graph_law.specs.Ways.{left_after, standing_after, stays_alive}

@@ -13,7 +13,7 @@ use Rattle.graph_base.specs.Ranked.{IsRankedAt, IsRankedRouter}
 use Rattle.graph_base.specs.Runs.{place_of, rank_at, run}
 use Rattle.evidence_law.specs.Faithful.{IsFaithful, is_walk_to, may_start, permits}
 use Rattle.evidence_law.specs.Passes.{IsClaimed}
-use Rattle.list_laws.proofs.Options.{is_some_parts}
+use Rattle.list_law.proofs.Options.{is_some_parts}
 use Rattle.graph_base.proofs.RunSteps.{run_begins, run_inside}
 use Rattle.graph_base.proofs.StartsAndSteps.{start_at-is}
 use Rattle.evidence_law.proofs.RunWalks.{runs_are_walks}

@@ -8,7 +8,7 @@ use Rattle.policy_base.specs.declared.case.Case.{Case}
 use Rattle.policy_base.specs.Policies.{PlainStatement}
 use Rattle.path_exprs.specs.Standings.{IsWalked, Plan, Standing, plan_for, targets}
 use Rattle.graph_base.specs.Graphs.{PlainGraph}
-use Rattle.standings.specs.Built.{place_in, steps_from}
+use Rattle.walk_states.specs.Built.{place_in, steps_from}
 use Rattle.graph_law.specs.Limits.{IsBuiltWithin}
 
 -- as many steps are built as the standings have targets

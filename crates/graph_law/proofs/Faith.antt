@@ -1,7 +1,7 @@
 -- The trimmed graph is faithful.
 use Rattle.std.proofs.Common.{◌≡◌, ◌↔◌, ℕ, ◌<◌, Bool, true, false, not, ◌&&◌, IsTrue, IsSome, List, [], ◌∷◌, ◌++◌, length, Some, None, is_some, sym, ap, ◌∙◌, subst}
 use Rattle.std.proofs.lemmas.Bool.{and_parts, and_from, or_left, false≢true, not-true, not_from_true, not_from_false}
-use Rattle.list_laws.proofs.Options.{is_some_parts}
+use Rattle.list_law.proofs.Options.{is_some_parts}
 use Rattle.net_base.specs.Network.{PlainNet, IsNet}
 use Rattle.policy_base.specs.Policies.{PlainStatement}
 use Rattle.policy_base.specs.Meaning.{at_first, rank_of}
@@ -11,9 +11,9 @@ use Rattle.graph_base.specs.Graphs.{PlainGraph}
 use Rattle.graph_base.specs.Runs.{place_of, rank_at, has_step, run}
 use Rattle.graph_base.specs.Rules.{IsWellFormed}
 use Rattle.evidence_law.specs.Faithful.{is_walk_to, is_run_path, permits, may_start, IsFaithful}
-use Rattle.standings.specs.Built.{IsBuilt, graph_over}
+use Rattle.walk_states.specs.Built.{IsBuilt, graph_over}
 use Rattle.path_exprs.specs.Standings.{Plan, Standing, AreStandings}
-use Rattle.list_laws.specs.Counts.{kept_below}
+use Rattle.list_law.specs.Counts.{kept_below}
 use Rattle.reach_prune.specs.Trimmed.{CanBeRanked, IsTrimmed, graph_kept}
 use Rattle.policy_base.specs.CaseOrigins.{AreOrigins}
 use Rattle.graph_base.specs.Walks.{IsEnteredFromBefore}

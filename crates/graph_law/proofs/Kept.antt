@@ -2,13 +2,13 @@
 use Rattle.std.proofs.Common.{◌≡◌, ℕ, zero, suc, ◌+◌, ◌<◌, Bool, true, false, cond, List, [], ◌∷◌, length, filter, slice_get, option_map, option_and_then, unwrap_or, Some, refl, sym, ap, ◌∙◌, arith}
 use Rattle.std.proofs.lemmas.Bool.{and_parts, and_from, false≢true}
 use Rattle.std.proofs.lemmas.Option.{none-some, slice_get_within}
-use Rattle.list_laws.proofs.Items.{slice_get_inside}
-use Rattle.list_laws.proofs.Members.{IsIn-map, IsIn-map_parts, IsIn-filter, IsIn-filter_parts}
-use Rattle.list_laws.proofs.Kept.{kept_below-kept, kept_below-left, kept_below-less, kept_below-same}
+use Rattle.list_law.proofs.Items.{slice_get_inside}
+use Rattle.list_law.proofs.Members.{IsIn-map, IsIn-map_parts, IsIn-filter, IsIn-filter_parts}
+use Rattle.list_law.proofs.Kept.{kept_below-kept, kept_below-left, kept_below-less, kept_below-same}
 use Rattle.graph_base.specs.declared.graph.Node.{Node}
 use Rattle.graph_base.specs.Graphs.{PlainGraph}
 use Rattle.graph_base.specs.Runs.{place_of, is_listener, rank_at, is_start, has_step}
-use Rattle.list_laws.specs.Counts.{kept_below}
+use Rattle.list_law.specs.Counts.{kept_below}
 use Rattle.reach_prune.specs.Trimmed.{nodes_kept, both_kept, renumbered, graph_kept}
 use Rattle.graph_base.proofs.StartsAndSteps.{start_in, in_start, step_in, in_step}
 

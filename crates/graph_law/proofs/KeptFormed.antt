@@ -2,16 +2,16 @@
 use Rattle.std.proofs.Common.{◌≡◌, ℕ, ◌<◌, Bool, true, not, ◌&&◌, ◌||◌, ◌==◌, IsTrue, nat_eq, map, filter, sym, ap, ◌∙◌, subst, inl, inr, ⊎_elim, eqb-true, eq-eqb}
 use Rattle.std.specs.List.{IsDistinct}
 use Rattle.std.proofs.lemmas.Bool.{and_parts, and_from}
-use Rattle.list_laws.proofs.Apart.{Apart-filter, Apart-map, Apart-from_distinct, IsDistinct-from_apart}
-use Rattle.list_laws.proofs.Members.{IsIn-filter_parts}
-use Rattle.list_laws.specs.Members.{IsIn}
-use Rattle.list_laws.proofs.Truth.{same_tests}
-use Rattle.list_laws.proofs.Kept.{kept_below-less, kept_below-same}
+use Rattle.list_law.proofs.Apart.{Apart-filter, Apart-map, Apart-from_distinct, IsDistinct-from_apart}
+use Rattle.list_law.proofs.Members.{IsIn-filter_parts}
+use Rattle.list_law.specs.Members.{IsIn}
+use Rattle.list_law.proofs.Truth.{same_tests}
+use Rattle.list_law.proofs.Kept.{kept_below-less, kept_below-same}
 use Rattle.net_base.specs.Network.{PlainNet, is_peer, is_router, linked}
 use Rattle.graph_base.specs.Graphs.{PlainGraph}
 use Rattle.graph_base.specs.Runs.{place_of, is_listener, is_start, has_step}
 use Rattle.graph_base.specs.Rules.{IsWellFormed, same_pair}
-use Rattle.list_laws.specs.Counts.{kept_below}
+use Rattle.list_law.specs.Counts.{kept_below}
 use Rattle.reach_prune.specs.Trimmed.{both_kept, renumbered, graph_kept}
 use Rattle.graph_base.specs.Walks.{IsEnteredFromBefore}
 use Rattle.graph_law.proofs.Kept.{place_kept, listener_kept, node_from_kept, start_kept, start_from_kept, is_start-kept, step_kept, step_from_kept}

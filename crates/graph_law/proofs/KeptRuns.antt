@@ -1,9 +1,9 @@
 -- Runs to nodes that are kept are runs of the graph of the nodes that are kept, and ways on from the end of a run.
 use Rattle.std.proofs.Common.{◌≡◌, ℕ, Bool, true, List, [], ◌∷◌, ◌++◌, append_assoc, refl, sym, ap, ◌∙◌, subst}
-use Rattle.list_laws.proofs.Kept.{kept_below-same}
+use Rattle.list_law.proofs.Kept.{kept_below-same}
 use Rattle.graph_base.specs.Graphs.{PlainGraph}
 use Rattle.graph_base.specs.Runs.{place_of, has_step, IsTrail, Reaches}
-use Rattle.list_laws.specs.Counts.{kept_below}
+use Rattle.list_law.specs.Counts.{kept_below}
 use Rattle.reach_prune.specs.Trimmed.{graph_kept}
 use Rattle.graph_law.proofs.Kept.{place_kept, start_kept, start_from_kept, step_kept, step_from_kept}
 use Rattle.graph_base.proofs.RunSteps.{RunsTo}

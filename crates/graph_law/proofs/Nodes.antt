@@ -2,14 +2,14 @@
 use Rattle.std.proofs.Common.{◌≡◌, ◌⊎◌, ℕ, zero, suc, ◌+◌, ◌<◌, ◌≤◌, true, List, [], ◌∷◌, ◌++◌, map, length, slice_get, option_map, flat_map, Some, refl, sym, ap, ◌∙◌, subst, inl, inr, ⊎_elim, arith}
 use Rattle.std.proofs.lemmas.List.{length-map}
 use Rattle.std.proofs.lemmas.Option.{none-some, same_Some, slice_get-map, slice_get_within}
-use Rattle.list_laws.proofs.Apart.{Apart}
-use Rattle.list_laws.proofs.Items.{slice_get_inside, slice_get-append_left}
-use Rattle.list_laws.proofs.Members.{IsIn-append_left, IsIn-append_right, IsIn-append_cases, IsIn-map, IsIn-map_parts, IsIn-flat_map, IsIn-nil}
-use Rattle.list_laws.specs.Members.{IsIn}
+use Rattle.list_law.proofs.Apart.{Apart}
+use Rattle.list_law.proofs.Items.{slice_get_inside, slice_get-append_left}
+use Rattle.list_law.proofs.Members.{IsIn-append_left, IsIn-append_right, IsIn-append_cases, IsIn-map, IsIn-map_parts, IsIn-flat_map, IsIn-nil}
+use Rattle.list_law.specs.Members.{IsIn}
 use Rattle.net_base.specs.Network.{PlainNet}
 use Rattle.graph_base.specs.Runs.{place_of, is_start, has_step}
 use Rattle.graph_base.proofs.NodesRead.{place_of-node}
-use Rattle.standings.specs.Built.{place_in, steps_from, node_of, graph_over}
+use Rattle.walk_states.specs.Built.{place_in, steps_from, node_of, graph_over}
 use Rattle.path_exprs.specs.Standings.{Plan, Standing, AreStandings, starts, targets, without_repeats}
 use Rattle.net_base.proofs.NumbersBelow.{In-numbers_below, below_from_In}
 use Rattle.graph_law.proofs.Standings.{without_repeats_cases, without_repeats_parts, apart_without_repeats, without_repeats-append, without_repeats-apart, slice_get-place_in}

@@ -1,9 +1,9 @@
 -- A graph whose starts and steps lead to nodes has one trimmed graph.
 use Rattle.std.proofs.Common.{◌≡◌, sym, ◌∙◌, subst}
-use Rattle.list_laws.proofs.Truth.{same_tests}
+use Rattle.list_law.proofs.Truth.{same_tests}
 use Rattle.graph_base.specs.Graphs.{PlainGraph}
 use Rattle.net_base.specs.Network.{PlainNet}
-use Rattle.standings.specs.Built.{IsBuilt}
+use Rattle.walk_states.specs.Built.{IsBuilt}
 use Rattle.path_exprs.specs.Standings.{Plan}
 use Rattle.reach_prune.specs.Trimmed.{IsTrimmed}
 use Rattle.reach_prune.proofs.Agreeing.{graph_kept_same}

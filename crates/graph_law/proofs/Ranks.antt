@@ -15,7 +15,7 @@ use Rattle.path_exprs.specs.Forward.{expressions}
 use Rattle.path_law.proofs.RankedLaws.{held-alternatives, first_with-rank}
 use Rattle.graph_base.specs.Runs.{rank_at}
 use Rattle.graph_base.proofs.NodesRead.{rank_at-node}
-use Rattle.standings.specs.Built.{node_of, rank_of_standing, graph_over}
+use Rattle.walk_states.specs.Built.{node_of, rank_of_standing, graph_over}
 use Rattle.path_exprs.specs.Standings.{Plan, Standing, AreStandings, is_dead}
 use Rattle.graph_law.specs.Ways.{left_after, standing_after, stays_alive}
 use Rattle.graph_law.proofs.Left.{left_after-more, dead-derivative}

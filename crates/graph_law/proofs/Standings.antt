@@ -3,13 +3,13 @@ use Rattle.std.proofs.Common.{◌≡◌, ◌⊎◌, zero, suc, Bool, true, false
 use Rattle.std.specs.List.{list_any}
 use Rattle.std.proofs.lemmas.Bool.{false≢true}
 use Rattle.std.proofs.lemmas.Option.{same_Some}
-use Rattle.list_laws.proofs.Apart.{Apart}
-use Rattle.list_laws.proofs.Members.{IsIn-nil, IsIn-later, list_any-from_IsIn, list_any_member}
-use Rattle.list_laws.specs.Members.{IsIn}
+use Rattle.list_law.proofs.Apart.{Apart}
+use Rattle.list_law.proofs.Members.{IsIn-nil, IsIn-later, list_any-from_IsIn, list_any_member}
+use Rattle.list_law.specs.Members.{IsIn}
 use Rattle.path_exprs.specs.Expression.{more}
-use Rattle.standings.specs.Built.{place_in}
+use Rattle.walk_states.specs.Built.{place_in}
 use Rattle.path_exprs.specs.Standings.{Standing, same_standing, without_repeats}
-use Rattle.standings.proofs.SameStandings.{same-equal, same-itself, equal-same}
+use Rattle.walk_states.proofs.SameStandings.{same-equal, same-itself, equal-same}
 
 -- it is seen
 seen-In : (x : Standing) (seen : List Standing) → list_any (same_standing x) seen ≡ true → IsIn seen x

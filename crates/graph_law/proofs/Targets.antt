@@ -1,8 +1,8 @@
 -- Where walks start, and where they go on.
 use Rattle.std.proofs.Common.{◌≡◌, ℕ, ◌+◌, Bool, true, false, cond, ◌||◌, [], map, length, filter, refl, sym, ap, ◌∙◌, subst, ltb-true, lt-ltb}
-use Rattle.list_laws.proofs.Apart.{Apart, Apart-filter, Apart-map}
-use Rattle.list_laws.proofs.Members.{IsIn-map, IsIn-map_parts, IsIn-filter, IsIn-filter_parts, IsIn-nil}
-use Rattle.list_laws.specs.Members.{IsIn}
+use Rattle.list_law.proofs.Apart.{Apart, Apart-filter, Apart-map}
+use Rattle.list_law.proofs.Members.{IsIn-map, IsIn-map_parts, IsIn-filter, IsIn-filter_parts, IsIn-nil}
+use Rattle.list_law.specs.Members.{IsIn}
 use Rattle.net_base.specs.Network.{PlainNet, is_location, is_router}
 use Rattle.net_base.specs.NetSets.{locations}
 use Rattle.path_exprs.specs.Runs.{start_of}

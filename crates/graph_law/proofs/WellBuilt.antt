@@ -3,17 +3,17 @@ use Rattle.std.proofs.Common.{◌≡◌, ℕ, ◌+◌, ◌<◌, ◌≤◌, true,
 use Rattle.std.proofs.Common.{ap, ◌∙◌, subst, inl, inr, ⊎_elim, arith, eqb-true}
 use Rattle.std.proofs.lemmas.Bool.{and_parts, and_from, or_cases, not-true, false≢true}
 use Rattle.std.proofs.lemmas.Option.{same_Some}
-use Rattle.list_laws.proofs.Apart.{Apart, Apart-append, Apart-weaken, Apart-map, IsDistinct-from_apart, place_is_one}
-use Rattle.list_laws.proofs.Members.{IsIn-map_parts, IsIn-flat_map_parts, IsIn-later, list_any_member, AllByRecursion-from_IsIn}
-use Rattle.list_laws.specs.Members.{IsIn}
-use Rattle.list_laws.proofs.Truth.{same_tests}
+use Rattle.list_law.proofs.Apart.{Apart, Apart-append, Apart-weaken, Apart-map, IsDistinct-from_apart, place_is_one}
+use Rattle.list_law.proofs.Members.{IsIn-map_parts, IsIn-flat_map_parts, IsIn-later, list_any_member, AllByRecursion-from_IsIn}
+use Rattle.list_law.specs.Members.{IsIn}
+use Rattle.list_law.proofs.Truth.{same_tests}
 use Rattle.net_base.specs.Network.{PlainNet, is_peer, is_router, linked}
 use Rattle.net_base.specs.NetSets.{locations}
 use Rattle.path_exprs.specs.Runs.{start_of}
 use Rattle.graph_base.specs.Graphs.{IsGraph}
 use Rattle.graph_base.specs.Runs.{place_of, is_start, has_step}
 use Rattle.graph_base.specs.Rules.{IsWellFormed, same_pair}
-use Rattle.standings.specs.Built.{place_in, steps_from, node_of, graph_over}
+use Rattle.walk_states.specs.Built.{place_in, steps_from, node_of, graph_over}
 use Rattle.path_exprs.specs.Standings.{Plan, Standing, AreStandings, starts, moved, targets, is_dead, same_standing}
 use Rattle.net_base.specs.Locations.{numbers_below}
 use Rattle.graph_base.specs.Walks.{IsEnteredFromBefore}
@@ -25,7 +25,7 @@ use Rattle.net_base.proofs.RoutersAndPeers.{peer_no_router}
 use Rattle.graph_law.proofs.Nodes.{node_at, place_at, standing_at, standings_apart, start_at_front, start_or_target, In-next, start_below, start_from_below, step_parts}
 use Rattle.graph_law.proofs.Nodes.{step_made, steps_from_parts, node_within}
 use Rattle.graph_base.proofs.StartsAndSteps.{in_step}
-use Rattle.standings.proofs.SameStandings.{same-equal}
+use Rattle.walk_states.proofs.SameStandings.{same-equal}
 
 -- what `may_go` says
 pub record Goes (net : PlainNet) (plan : Plan) (x : Standing) (y : Standing) : Type 0 where

@@ -8,7 +8,7 @@ use Rattle.policy_base.specs.Meaning.{alternative_count}
 use Rattle.policy_base.specs.Policies.{PlainStatement}
 use Rattle.path_exprs.specs.Standings.{plan_for}
 use Rattle.graph_base.specs.Graphs.{PlainGraph}
-use Rattle.standings.specs.Built.{IsBuilt}
+use Rattle.walk_states.specs.Built.{IsBuilt}
 
 -- no more than 64 alternatives, and a graph with no more than 4,096 nodes, and with steps that there is room for
 pub record IsBuiltWithin (net : PlainNet) (room : ℕ) (s : PlainStatement) (c : Case) (g : PlainGraph) : Type 0 where

@@ -14,7 +14,7 @@ ghost use Rattle.graph_base.specs.Ranked.{IsRankedRouter};
 ghost use Rattle.graph_base.specs.Runs.{is_listener, place_of, rank_at, run};
 ghost use Rattle.evidence_law.specs.Faithful.{IsFaithful, is_run_path, is_walk_to, may_start, permits};
 ghost use Rattle.evidence_law.specs.Passes.{IsClaimed};
-ghost use Rattle.standings.specs.Built.{IsBuilt, graph_over};
+ghost use Rattle.walk_states.specs.Built.{IsBuilt, graph_over};
 ghost use Rattle.path_exprs.specs.Standings.{AreStandings, Plan, Standing};
 ghost use Rattle.reach_prune.specs.Trimmed.{IsTrimmed};
 ghost use Rattle.policy_base.specs.CaseOrigins.{AreOrigins};
@@ -55,7 +55,7 @@ pub fn trimmed_graphs_are_faithful()
     ensures entered { (net : PlainNet) (plan : Plan) (g t : PlainGraph) → IsBuilt net plan g → IsTrimmed g t → IsEnteredFromBefore t }
 {}
 
-/// The graph that is built of a plan is trimmed to one. That a plan has one graph is a law of `standings`.
+/// The graph that is built of a plan is trimmed to one. That a plan has one graph is a law of `walk_states`.
 pub fn trimmed_graphs_are_one()
     ensures { (net : PlainNet) (plan : Plan) (g t u : PlainGraph) → IsBuilt net plan g → IsTrimmed g t → IsTrimmed g u → t ≡ u }
 {}

@@ -26,7 +26,7 @@ use Rattle.evidence_law.proofs.GraphForms.{same_run}
 use Rattle.evidence_law.proofs.GraphRanks.{ranks_of, meets_ranks}
 use Rattle.net_base.proofs.RoutersAndPeers.{router_no_peer, peer_no_router}
 use Rattle.evidence_law.proofs.Setting.{network_of, alive_of, setup_of}
-use Rattle.list_laws.proofs.Options.{is_some_parts, when_parts, none_or_some}
+use Rattle.list_law.proofs.Options.{is_some_parts, when_parts, none_or_some}
 use Rattle.policy_base.proofs.WalkParts.{at_last-never}
 use Rattle.evidence_law.proofs.PermittedWalks.{permits_parts}
 use Rattle.evidence_law.proofs.Surviving.{run-survives, survives-alive}

@@ -5,7 +5,7 @@ use Rattle.std.specs.Prelude.{map, option_map, slice_get}
 use Rattle.net_base.specs.Network.{PlainNet}
 use Rattle.net_base.specs.Prefixes.{PlainPrefix}
 use Rattle.policy_base.specs.Policies.{PlainPolicy, PlainStatement}
-use Rattle.list_laws.specs.Members.{IsIn}
+use Rattle.list_law.specs.Members.{IsIn}
 use Rattle.outcome_base.specs.Outcomes.{Failures}
 use Rattle.impact_law.specs.declared.impact.SourceRank.{SourceRank}
 use Rattle.impact_law.specs.declared.impact.Cut.{Cut}

@@ -5,7 +5,7 @@ use Rattle.net_base.specs.Network.{PlainNet, IsNet}
 use Rattle.net_base.specs.Prefixes.{PlainPrefix, IsPrefix}
 use Rattle.policy_base.specs.Policies.{PlainPolicy, PlainStatement, IsPolicyOf}
 use Rattle.policy_base.specs.Governing.{statement_of}
-use Rattle.list_laws.specs.Members.{IsIn}
+use Rattle.list_law.specs.Members.{IsIn}
 use Rattle.config_base.specs.Configs.{PlainConfig}
 use Rattle.evidence_base.specs.Made.{PlainCaseEvidence}
 use Rattle.evidence_law.specs.Passes.{Passes}
@@ -18,7 +18,7 @@ use Rattle.impact_law.specs.declared.impact.Impact.{Impact}
 use Rattle.impact_law.specs.BestRanks.{IsBestRank}
 use Rattle.impact_law.specs.Cuts.{live_cuts, with_cut}
 use Rattle.impact_law.specs.Impacts.{ImpactsAreOne, IsBareImpact, IsImpact, IsImpactBy, IsRanking, Precedes, RankingsAreOne, RowsAreOfLiveCuts, begin_at, changed, row_of}
-use Rattle.impact_law.specs.Moves.{IsSettled, WhatIfsAreOne, moved}
+use Rattle.impact_law.specs.Moves.{IsSettledOutcome, WhatIfsAreOne, moved}
 use Rattle.impact_law.proofs.BestRanks.{best_ranks_are_one}
 
 -- ---- two ascending lists with the same members are one
@@ -129,7 +129,7 @@ rows_are_of_live_cuts net policy f p impact x = go (statement_of policy p) refl 
 module _ (net : PlainNet) (policy : PlainPolicy) (config : PlainConfig) (cs : List PlainCaseEvidence) (rules : IsNet net)
     (kept : IsPolicyOf net policy) (passes : Passes net policy config cs) (p : PlainPrefix) (prefix : IsPrefix p) where
   -- a network settles in one way
-  pub settled_one : (f : Failures) (a b : Outcome) → IsSettled net policy config f p a → IsSettled net policy config f p b → a ≡ b
+  pub settled_one : (f : Failures) (a b : Outcome) → IsSettledOutcome net policy config f p a → IsSettledOutcome net policy config f p b → a ≡ b
   settled_one f a b x y = settled_outcomes_are_one net policy config cs rules kept passes p f prefix a b x.size y.size x.stable y.stable
 
 pub what_ifs_are_one : WhatIfsAreOne

@@ -3,7 +3,7 @@ use Rattle.std.proofs.Common.{◌≡◌, ℕ, ◌≤◌, true, false, List, ◌�
 use Rattle.std.specs.Prelude.{not, ◌&&◌}
 use Rattle.std.specs.Option.{option_and_then}
 use Rattle.std.proofs.lemmas.Bool.{and_parts, and_from, not_from_false}
-use Rattle.list_laws.proofs.Options.{option_and_then_parts}
+use Rattle.list_law.proofs.Options.{option_and_then_parts}
 use Rattle.routing_law.specs.Graph.{AtLeast, MeetsRanks, MeetsRules, Ranks, WellFormed, run}
 use Rattle.routing_law.specs.Network.{loop_free, stands_on, survives}
 use Rattle.routing_law.specs.Outcome.{ReachedAt, Setup}

@@ -5,7 +5,7 @@ use Rattle.net_base.specs.Prefixes.{PlainPrefix}
 use Rattle.policy_base.specs.Policies.{PlainPolicy, PlainStatement}
 use Rattle.policy_base.specs.Governing.{statement_of}
 use Rattle.policy_base.specs.Permitted.{IsClaimedRouter, IsClaimedSession}
-use Rattle.list_laws.specs.Members.{IsIn}
+use Rattle.list_law.specs.Members.{IsIn}
 use Rattle.outcome_base.specs.Outcomes.{Failures}
 use Rattle.impact_law.specs.declared.impact.SourceRank.{SourceRank}
 use Rattle.impact_law.specs.declared.impact.Cut.{Cut}

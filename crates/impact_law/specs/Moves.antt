@@ -11,14 +11,14 @@ use Rattle.evidence_base.specs.Made.{PlainCaseEvidence}
 use Rattle.evidence_law.specs.Passes.{Passes}
 use Rattle.outcome_base.specs.Outcomes.{Failures, Outcome, route_at}
 use Rattle.settled_law.specs.Settled.{IsFullyStable}
-use Rattle.stable_paths.specs.Tests.{same_route}
+use Rattle.scenarios.specs.Tests.{same_route}
 use Rattle.impact_law.specs.declared.impact.Cut.{Cut}
 use Rattle.impact_law.specs.declared.impact.WhatIf.{WhatIf}
 use Rattle.impact_law.specs.Cuts.{is_cut, live_cuts, with_cut}
 use Rattle.impact_law.specs.Impacts.{IsImpact}
 
 -- the outcome to which a network settles under some failures: an entry for each router, stable, and ties are broken
-pub record IsSettled (net : PlainNet) (policy : PlainPolicy) (config : PlainConfig) (f : Failures) (p : PlainPrefix) (outcome : Outcome) : Type 0 where
+pub record IsSettledOutcome (net : PlainNet) (policy : PlainPolicy) (config : PlainConfig) (f : Failures) (p : PlainPrefix) (outcome : Outcome) : Type 0 where
   pub size : length outcome ≡ length net.routers
   pub stable : IsFullyStable net policy config f p outcome
 
@@ -41,9 +41,9 @@ moved net cut before after = count_by (is_moved cut before after) (numbers_below
 pub record IsWhatIf (net : PlainNet) (policy : PlainPolicy) (config : PlainConfig) (f : Failures) (p : PlainPrefix) (w : WhatIf) : Type 0 where
   pub impact : IsImpact net policy f p w.impact
   pub before : Outcome
-  pub settled : IsSettled net policy config f p before
+  pub settled : IsSettledOutcome net policy config f p before
   pub after : Cut → Outcome
-  pub resettled : (cut : Cut) → IsSettled net policy config (with_cut cut f) p (after cut)
+  pub resettled : (cut : Cut) → IsSettledOutcome net policy config (with_cut cut f) p (after cut)
   pub moves : w.moves ≡ map (λ (cut : Cut). moved net cut before (after cut)) (live_cuts net f)
 
 abbrev pub WhatIfsAreOne : Type 0

@@ -4,7 +4,7 @@ use Rattle.std.specs.Prelude.{◌==◌}
 use Rattle.std.proofs.Math.Bool.{and-false, and_comm, or-false}
 use Rattle.net_base.specs.Network.{PlainNet, is_peer, joins, linked}
 use Rattle.outcome_base.specs.Outcomes.{Failures, is_dead, is_dead_link, is_live, is_silent, no_failures}
-use Rattle.stable_paths.specs.Surviving.{carries}
+use Rattle.scenarios.specs.Surviving.{carries}
 use Rattle.impact_law.specs.Cuts.{with_cut}
 use Rattle.impact_law.specs.declared.impact.Cut.{Cut}
 use Rattle.impact_law.specs.declared.impact.Cut.TheVariants.{Link, Router}

@@ -3,8 +3,8 @@ use Rattle.std.proofs.Common.{◌≡◌, ℕ, suc, ◌+◌, Bool, true, false, L
 use Rattle.std.specs.Prelude.{if◌then◌else◌}
 use Rattle.std.proofs.lemmas.List.{map-append}
 use Rattle.std.proofs.lemmas.List.Elements.{filter-append}
-use Rattle.list_laws.specs.Members.{IsIn}
-use Rattle.list_laws.proofs.Members.{IsIn-append_cases, IsIn-append_left, IsIn-append_right, IsIn-filter, IsIn-filter_parts, IsIn-map, IsIn-map_parts}
+use Rattle.list_law.specs.Members.{IsIn}
+use Rattle.list_law.proofs.Members.{IsIn-append_cases, IsIn-append_left, IsIn-append_right, IsIn-filter, IsIn-filter_parts, IsIn-map, IsIn-map_parts}
 use Rattle.net_base.specs.Locations.{numbers_below}
 use Rattle.net_base.specs.Network.{PlainNet}
 use Rattle.net_base.specs.Prefixes.{PlainPrefix}
@@ -12,8 +12,8 @@ use Rattle.net_base.proofs.NumbersBelow.{In-numbers_below}
 use Rattle.policy_base.specs.Governing.{statement_of}
 use Rattle.policy_base.specs.Permitted.{IsClaimedRouter, IsClaimedSession}
 use Rattle.policy_base.specs.Policies.{PlainPolicy, PlainStatement}
-use Rattle.report_lines.specs.Claims.{AreClaimed}
-use Rattle.report_lines.specs.Lines.{Sources}
+use Rattle.outcome_report.specs.Claims.{AreClaimed}
+use Rattle.outcome_report.specs.Lines.{Sources}
 use Rattle.impact_law.specs.Impacts.{IsSource, Precedes}
 use Rattle.impact_report.specs.declared.sources.Source.{Source}
 use Rattle.impact_report.specs.Sources.{AreSources, router_source, router_sources, session_source, sources_in}

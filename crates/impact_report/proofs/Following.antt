@@ -4,8 +4,8 @@ use Rattle.std.specs.Prelude.{◌==◌, option_and_then}
 use Rattle.std.specs.List.{list_any}
 use Rattle.std.proofs.lemmas.Bool.{eq-eqb, eqb-true, true≢false}
 use Rattle.std.proofs.lemmas.List.Folds.{list_any_at}
-use Rattle.list_laws.proofs.Members.{list_any-from_IsIn, list_any_member}
-use Rattle.list_laws.proofs.Options.{cases_Option}
+use Rattle.list_law.proofs.Members.{list_any-from_IsIn, list_any_member}
+use Rattle.list_law.proofs.Options.{cases_Option}
 use Rattle.graph_base.specs.Graphs.{PlainGraph}
 use Rattle.graph_base.specs.Runs.{has_step, place_of, rank_at, step_at}
 use Rattle.graph_base.proofs.Determined.{step_at-step}

@@ -13,3 +13,4 @@ mod Visits
 mod Visiting
 mod Reaching
 mod Choosing
+mod ImpactTelling

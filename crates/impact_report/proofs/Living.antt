@@ -8,9 +8,9 @@ use Rattle.net_base.specs.Network.{PlainNet}
 use Rattle.net_base.specs.Sets.{holds}
 use Rattle.net_base.proofs.NumbersBelow.{filter_kept, filter_left}
 use Rattle.outcome_base.specs.Outcomes.{Failures}
-use Rattle.stable_paths.specs.Surviving.{AreSurvivors, live_by}
-use Rattle.stable_paths.specs.declared.survivors.Survivors.{Survivors}
-use Rattle.stable_paths.proofs.Survived.{live_is}
+use Rattle.scenarios.specs.Surviving.{AreSurvivors, live_by}
+use Rattle.scenarios.specs.declared.survivors.Survivors.{Survivors}
+use Rattle.scenarios.proofs.Survived.{live_is}
 use Rattle.impact_law.specs.Cuts.{live_cuts}
 use Rattle.impact_law.specs.declared.impact.Cut.{Cut}
 use Rattle.impact_law.specs.declared.impact.Cut.TheVariants.{Router}

@@ -2,16 +2,16 @@
 use Rattle.std.proofs.Common.{◌≡◌, ℕ, Bool, true, false, List, [], ◌∷◌, filter, find, None, option_map, refl, ap, ◌∙◌, inl, inr}
 use Rattle.std.specs.Prelude.{◌&&◌, ◌==◌, if◌then◌else◌}
 use Rattle.std.proofs.lemmas.Bool.{and_parts, cases_Bool, eqb-true}
-use Rattle.list_laws.proofs.Apart.{Apart-filter, Apart-from_distinct, IsDistinct-from_apart}
+use Rattle.list_law.proofs.Apart.{Apart-filter, Apart-from_distinct, IsDistinct-from_apart}
 use Rattle.net_base.specs.Network.{PlainNet}
 use Rattle.graph_base.specs.Graphs.{PlainGraph}
 use Rattle.graph_base.specs.Rules.{same_pair}
 use Rattle.graph_base.specs.Runs.{place_of, step_at}
 use Rattle.outcome_base.specs.Outcomes.{Failures}
-use Rattle.stable_paths.specs.Surviving.{AreSurvivors, carries, carries_by}
-use Rattle.stable_paths.specs.declared.survivors.Survivors.{Survivors}
-use Rattle.stable_paths.proofs.Survived.{carries_is}
-use Rattle.settling.specs.Surviving.{left_by, steps_by}
+use Rattle.scenarios.specs.Surviving.{AreSurvivors, carries, carries_by}
+use Rattle.scenarios.specs.declared.survivors.Survivors.{Survivors}
+use Rattle.scenarios.proofs.Survived.{carries_is}
+use Rattle.settled_outcome.specs.Surviving.{left_by, steps_by}
 use Rattle.impact_report.specs.Paths.{StepsDiffer}
 
 -- a filter by what a test cannot tell apart keeps or loses what the test finds

@@ -4,9 +4,9 @@ use Rattle.std.specs.Prelude.{slice_get}
 use Rattle.std.specs.List.{AllByRecursion}
 use Rattle.std.proofs.lemmas.Bool.{cases_Bool}
 use Rattle.std.proofs.lemmas.List.Elements.{filter-append}
-use Rattle.list_laws.specs.Members.{IsIn}
-use Rattle.list_laws.proofs.Each.{AllByRecursion-append, AllByRecursion-map, AllByRecursion_at}
-use Rattle.list_laws.proofs.Members.{AllByRecursion-from_IsIn, IsIn-filter_parts, IsIn-later, IsIn-nil, IsIn-push_cases}
+use Rattle.list_law.specs.Members.{IsIn}
+use Rattle.list_law.proofs.Each.{AllByRecursion-append, AllByRecursion-map, AllByRecursion_at}
+use Rattle.list_law.proofs.Members.{AllByRecursion-from_IsIn, IsIn-filter_parts, IsIn-later, IsIn-nil, IsIn-push_cases}
 use Rattle.net_base.specs.Locations.{numbers_below}
 use Rattle.net_base.specs.Network.{Ascend, IsBefore}
 use Rattle.net_base.proofs.NumbersBelow.{below_from_In}

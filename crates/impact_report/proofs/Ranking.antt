@@ -1,11 +1,11 @@
 -- Rankings of sources.
 use Rattle.std.proofs.Common.{◌≡◌, ℕ, List, map, Option, refl, sym, ap, ◌∙◌, subst}
 use Rattle.std.specs.Prelude.{slice_get}
-use Rattle.list_laws.proofs.Changed.{map-map}
+use Rattle.list_law.proofs.Changed.{map-map}
 use Rattle.std.proofs.lemmas.Option.{slice_get-map}
-use Rattle.list_laws.specs.Members.{IsIn}
-use Rattle.list_laws.proofs.Members.{IsIn-map, IsIn-map_parts}
-use Rattle.list_laws.proofs.Options.{option_map_parts}
+use Rattle.list_law.specs.Members.{IsIn}
+use Rattle.list_law.proofs.Members.{IsIn-map, IsIn-map_parts}
+use Rattle.list_law.proofs.Options.{option_map_parts}
 use Rattle.net_base.specs.Network.{PlainNet}
 use Rattle.net_base.specs.Prefixes.{PlainPrefix}
 use Rattle.policy_base.specs.Policies.{PlainPolicy, PlainStatement}
@@ -13,7 +13,7 @@ use Rattle.graph_base.specs.Graphs.{PlainGraph}
 use Rattle.evidence_base.specs.Made.{PlainCaseEvidence}
 use Rattle.outcome_base.specs.Outcomes.{Failures, no_failures}
 use Rattle.evidence_law.specs.Passes.{IsCaseGraph}
-use Rattle.settling.specs.Surviving.{left_by}
+use Rattle.settled_outcome.specs.Surviving.{left_by}
 use Rattle.impact_law.specs.BestRanks.{AreTops, IsBestRank}
 use Rattle.impact_law.specs.Cuts.{with_cut}
 use Rattle.impact_law.specs.Impacts.{IsRanking, IsSource, Precedes, begin_at, changed}

@@ -20,10 +20,10 @@ use Rattle.evidence_law.proofs.Setting.{alive_of}
 use Rattle.evidence_law.proofs.Surviving.{run-survives, survives-alive}
 use Rattle.routing_law.specs.Network as law
 use Rattle.settled_law.specs.Greatest.{IsReachedAt}
-use Rattle.stable_paths.specs.Surviving.{AreSurvivors, carries}
-use Rattle.stable_paths.specs.declared.survivors.Survivors.{Survivors}
-use Rattle.settling.specs.Surviving.{left_by}
-use Rattle.settling.proofs.Surviving.{starts_are, steps_are}
+use Rattle.scenarios.specs.Surviving.{AreSurvivors, carries}
+use Rattle.scenarios.specs.declared.survivors.Survivors.{Survivors}
+use Rattle.settled_outcome.specs.Surviving.{left_by}
+use Rattle.settled_outcome.proofs.Surviving.{starts_are, steps_are}
 use Rattle.reach_prune.specs.Ways.{LeadsFrom}
 use Rattle.reach_prune.specs.declared.steps.Way.TheVariants.{Forward}
 use Rattle.impact_law.specs.BestRanks.{AreTops, IsTopAt}

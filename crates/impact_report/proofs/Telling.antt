@@ -2,7 +2,7 @@
 use Rattle.std.proofs.Common.{◌≡◌, ℕ, Bool, true, false, [], ◌∷◌, Option, Some, None, refl, sym, ap, ◌∙◌, subst}
 use Rattle.std.specs.Prelude.{◌&&◌, not, option_and_then, if◌then◌else◌}
 use Rattle.std.proofs.Math.Bool.{and-true}
-use Rattle.list_laws.proofs.Truth.{if_same}
+use Rattle.list_law.proofs.Truth.{if_same}
 use Rattle.net_base.specs.Network.{PlainNet, is_router}
 use Rattle.net_base.specs.Prefixes.{PlainPrefix}
 use Rattle.net_base.proofs.RoutersAndPeers.{router_no_peer}
@@ -13,9 +13,9 @@ use Rattle.graph_base.specs.Runs.{place_of, rank_at, step_at}
 use Rattle.graph_base.proofs.RunSteps.{run_begins}
 use Rattle.evidence_base.specs.Made.{PlainCaseEvidence}
 use Rattle.outcome_base.specs.Outcomes.{Failures, is_live, is_silent}
-use Rattle.stable_paths.specs.Surviving.{AreSurvivors, carries}
-use Rattle.stable_paths.specs.declared.survivors.Survivors.{Survivors}
-use Rattle.settling.specs.Surviving.{left_by}
+use Rattle.scenarios.specs.Surviving.{AreSurvivors, carries}
+use Rattle.scenarios.specs.declared.survivors.Survivors.{Survivors}
+use Rattle.settled_outcome.specs.Surviving.{left_by}
 use Rattle.impact_law.specs.BestRanks.{AreToldByTops, AreTops, IsBestRank, rank_at_peer, rank_over}
 use Rattle.impact_law.specs.Impacts.{IsSource, begin_at}
 use Rattle.impact_report.specs.Left.{spares}

@@ -1,8 +1,8 @@
 -- What is found by the graph of a prefix's case is the impact.
 use Rattle.std.proofs.Common.{◌≡◌, ℕ, List, [], map, Option, Some, None, refl, sym, ap, ◌∙◌, subst, inl, inr}
 use Rattle.std.specs.Prelude.{option_and_then}
-use Rattle.list_laws.proofs.Members.{IsIn-nil}
-use Rattle.list_laws.proofs.Options.{cases_Option}
+use Rattle.list_law.proofs.Members.{IsIn-nil}
+use Rattle.list_law.proofs.Options.{cases_Option}
 use Rattle.net_base.specs.Network.{PlainNet, IsNet}
 use Rattle.net_base.specs.Prefixes.{PlainPrefix, IsPrefix}
 use Rattle.policy_base.specs.Governing.{statement_of}
@@ -13,12 +13,12 @@ use Rattle.config_base.specs.Lines.{class_of}
 use Rattle.evidence_base.specs.Made.{PlainCaseEvidence, case_at}
 use Rattle.outcome_base.specs.Outcomes.{Failures, no_failures}
 use Rattle.evidence_law.specs.Passes.{IsCaseGraph, Passes}
-use Rattle.report_lines.specs.Claims.{AreClaimed}
-use Rattle.report_lines.specs.Lines.{Sources}
+use Rattle.outcome_report.specs.Claims.{AreClaimed}
+use Rattle.outcome_report.specs.Lines.{Sources}
 use Rattle.settled_law.proofs.SettledLaw.{case_or_bare}
-use Rattle.stable_paths.specs.Surviving.{AreSurvivors}
-use Rattle.stable_paths.specs.declared.survivors.Survivors.{Survivors}
-use Rattle.settling.specs.Surviving.{left_by}
+use Rattle.scenarios.specs.Surviving.{AreSurvivors}
+use Rattle.scenarios.specs.declared.survivors.Survivors.{Survivors}
+use Rattle.settled_outcome.specs.Surviving.{left_by}
 use Rattle.impact_law.specs.BestRanks.{AreToldByTops, AreTops, rank_by}
 use Rattle.impact_law.specs.Cuts.{live_cuts, with_cut}
 use Rattle.impact_law.specs.Impacts.{IsBareImpact, IsImpact, IsImpactBy, IsRanking, IsSource, changed, row_of}

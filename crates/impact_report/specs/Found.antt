@@ -5,8 +5,8 @@ use Rattle.policy_base.specs.Policies.{PlainStatement}
 use Rattle.evidence_base.specs.Made.{PlainCaseEvidence}
 use Rattle.outcome_base.specs.Outcomes.{Failures}
 use Rattle.evidence_law.specs.Passes.{IsCaseGraph}
-use Rattle.stable_paths.specs.declared.survivors.Survivors.{Survivors}
-use Rattle.settling.specs.Surviving.{left_by}
+use Rattle.scenarios.specs.declared.survivors.Survivors.{Survivors}
+use Rattle.settled_outcome.specs.Surviving.{left_by}
 use Rattle.impact_law.specs.BestRanks.{AreTops, rank_by}
 use Rattle.impact_law.specs.declared.impact.Cut.{Cut}
 use Rattle.impact_law.specs.declared.impact.Impact.{Impact}

@@ -4,9 +4,9 @@ use Rattle.net_base.specs.Network.{PlainNet}
 use Rattle.graph_base.specs.Graphs.{PlainGraph}
 use Rattle.graph_base.specs.Runs.{place_of, is_start, has_step}
 use Rattle.outcome_base.specs.Outcomes.{Failures, is_dead, is_dead_link}
-use Rattle.stable_paths.specs.Surviving.{AreSurvivors}
-use Rattle.stable_paths.specs.declared.survivors.Survivors.{Survivors}
-use Rattle.settling.specs.Surviving.{left_by}
+use Rattle.scenarios.specs.Surviving.{AreSurvivors}
+use Rattle.scenarios.specs.declared.survivors.Survivors.{Survivors}
+use Rattle.settled_outcome.specs.Surviving.{left_by}
 
 -- the link of two locations and both ends aren't dead
 abbrev pub spares : Failures → ℕ → ℕ → Bool

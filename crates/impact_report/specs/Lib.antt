@@ -6,3 +6,4 @@ pub mod Rows
 pub mod Searching
 pub mod Sources
 pub mod Tops
+pub mod Texts

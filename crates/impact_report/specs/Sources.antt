@@ -1,11 +1,11 @@
 -- The claimed sources of a prefix, in order.
 use Rattle.std.specs.Prelude.{◌≡◌, ℕ, ◌<◌, Bool, List, ◌++◌, length, map, filter, Option, Some, None, slice_get}
-use Rattle.list_laws.specs.Members.{IsIn}
+use Rattle.list_law.specs.Members.{IsIn}
 use Rattle.net_base.specs.Locations.{numbers_below}
 use Rattle.net_base.specs.Network.{PlainNet}
 use Rattle.net_base.specs.Prefixes.{PlainPrefix}
 use Rattle.policy_base.specs.Policies.{PlainPolicy, PlainStatement}
-use Rattle.report_lines.specs.Lines.{Sources}
+use Rattle.outcome_report.specs.Lines.{Sources}
 use Rattle.impact_law.specs.Impacts.{IsSource, Precedes}
 use Rattle.impact_law.specs.declared.impact.SourceRank.{SourceRank}
 use Rattle.impact_report.specs.declared.sources.Source.{Source}

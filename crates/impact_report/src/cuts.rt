@@ -2,14 +2,14 @@
 ghost use Rattle.std.specs.Prelude.{◌≡◌, ◌++◌, not, IfOk, OnOk};
 ghost use Rattle.net_base.specs.Network.{joins};
 ghost use Rattle.outcome_base.specs.Outcomes.{Failures, is_dead, no_failures};
-ghost use Rattle.stable_paths.specs.Surviving.{AreSurvivors};
+ghost use Rattle.scenarios.specs.Surviving.{AreSurvivors};
 ghost use Rattle.impact_law.specs.Cuts.{live_cuts as cuts_besides, with_cut};
 ghost use Rattle.impact_report.specs.Left.{spares as is_spared};
 ghost use Rattle.impact_report.specs.Lives.{link_cuts, router_cuts};
 
 use impact_law::Cut;
 use net_base::{Loc, Net};
-use stable_paths::Survivors;
+use scenarios::Survivors;
 use std::alloc::{AllocError, Global};
 
 /// Whether two locations are the ends of a link, either first.

@@ -1,20 +1,20 @@
 //! What failures leave of the graph of a case.
 ghost use Rattle.std.specs.Prelude.{◌≡◌, IfOk};
-ghost use Rattle.settling.specs.Surviving.{left_by};
+ghost use Rattle.settled_outcome.specs.Surviving.{left_by};
 ghost use Rattle.impact_law.specs.Cuts.{with_cut};
 ghost use Rattle.outcome_base.specs.Outcomes.{no_failures};
 ghost use Rattle.impact_report.specs.Paths.{ArePaths, StepsDiffer, leaves as is_left};
 
 use crate::spares;
+use bit_rows::NodeList;
 use evidence_base::CaseEvidence;
 use graph_base::Graph;
 use impact_law::Cut;
+use input_output::NoMemory;
 use net_base::{Loc, Net};
-use node_list::NodeList;
-use outside::NoMemory;
 use reach_prune::{Way, neighbours};
-use settling::open_graph;
-use stable_paths::Survivors;
+use scenarios::Survivors;
+use settled_outcome::open_graph;
 use std::alloc::Global;
 
 /// What failures leave of the graph of a case, with the nodes to which a step leads from each.

@@ -4,9 +4,9 @@ ghost use Rattle.impact_law.specs.BestRanks.{rank_at_peer as at_peer, rank_by, r
 ghost use Rattle.impact_report.specs.Paths.{AreStepLists};
 ghost use Rattle.impact_report.specs.Tops.{AreNodes, entry_at};
 
+use bit_rows::NodeList;
 use graph_base::Graph;
 use net_base::Loc;
-use node_list::NodeList;
 
 /// The nodes to which a node steps.
 fn nodes_from(lists: &[NodeList], node: u32) -> &[u32]

@@ -3,7 +3,7 @@ ghost use Rattle.std.specs.Prelude.{◌≡◌, [], IfOk, map};
 ghost use Rattle.config_base.specs.Configs.{PlainConfig};
 ghost use Rattle.policy_base.specs.Policies.{IsPolicyOf, policy_of};
 ghost use Rattle.evidence_law.specs.Passes.{Passes};
-ghost use Rattle.stable_paths.specs.Scenarios.{failures_of};
+ghost use Rattle.scenarios.specs.Scenarios.{failures_of};
 ghost use Rattle.impact_report.specs.Tops.{AreNodes, entry_at};
 ghost use Rattle.impact_law.specs.BestRanks.{rank_by};
 ghost use Rattle.impact_law.specs.Impacts.{IsImpact, row_of};
@@ -17,14 +17,13 @@ use crate::ranks::rank_told;
 use crate::rows::Base;
 use crate::sources::{Source, claimed_sources};
 use crate::tops_left;
-use config_made::case_of;
-use evidence_base::{CaseEvidence, Evidence};
+use evidence_base::{CaseEvidence, Evidence, case_of};
 use impact_law::{Cut, CutRow, Impact, SourceRank};
+use input_output::NoMemory;
 use net_base::{List, Net, known_net, known_prefix};
-use outside::NoMemory;
+use outcome_report::claims_of;
 use policy_base::Policy;
-use report_lines::claims_of;
-use stable_paths::{Scenario, Survivors};
+use scenarios::{Scenario, Survivors};
 use std::alloc::{AllocError, Global};
 
 /// Sources with the ranks that tops tell.

@@ -7,10 +7,10 @@ ghost use Rattle.impact_law.specs.Cuts.{with_cut};
 ghost use Rattle.impact_report.specs.Left.{IsLeft, spares as is_spared};
 
 use crate::cuts::{spares, spares_at};
+use bit_rows::NodeList;
 use graph_base::Graph;
 use impact_law::Cut;
 use net_base::Loc;
-use node_list::NodeList;
 use std::alloc::{AllocError, Global};
 
 /// A search that has come some way: the nodes that are marked, and those of them whose steps it has not followed yet.

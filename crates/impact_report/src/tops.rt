@@ -14,8 +14,8 @@ use crate::paths::Paths;
 use crate::search::nodes_left;
 use evidence_base::CaseEvidence;
 use impact_law::Cut;
+use input_output::NoMemory;
 use net_base::Net;
-use outside::NoMemory;
 use reach_prune::{Way, marked};
 use std::alloc::{AllocError, Global};
 

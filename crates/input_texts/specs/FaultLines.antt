@@ -1,7 +1,7 @@
 -- What is said of a text that breaks a rule.
 use Rattle.std.specs.Prelude.{ℕ, List, ◌++◌, codes}
 use Rattle.std.specs.Fmt.{decimal}
-use Rattle.text_faults.specs.Telling.{Telling}
+use Rattle.text_parts.specs.Telling.{Telling}
 use Rattle.topology.specs.declared.fault.TopoFault.{TopoFault}
 use Rattle.topology.specs.Faults as topology
 use Rattle.policy_tokens.specs.declared.fault.PolicyFault.{PolicyFault}

@@ -14,16 +14,16 @@ use Rattle.evidence_base.specs.Made.{PlainCaseEvidence}
 use Rattle.evidence_base.specs.declared.evidence.Evidence.{Evidence}
 use Rattle.evidence_text.specs.declared.fault.EvidenceFault.{EvidenceFault}
 use Rattle.evidence_text.specs.Spelled.{spelled as evidence_spelled}
-use Rattle.stable_paths.specs.declared.scenario.Scenario.{Scenario}
+use Rattle.scenarios.specs.declared.scenario.Scenario.{Scenario}
 use Rattle.scenario_reader.specs.declared.fault.ScenarioFault.{ScenarioFault}
 use Rattle.scenario_reader.specs.Spelled.{spelled as scenario_spelled}
-use Rattle.stable_paths.specs.declared.outcome.Outcome.{Outcome}
+use Rattle.scenarios.specs.declared.outcome.Outcome.{Outcome}
 use Rattle.event_reader.specs.declared.events.Events.{Events}
 use Rattle.event_reader.specs.declared.fault.EventsFault.{EventsFault}
 use Rattle.table_reader.specs.declared.fault.TablesFault.{TablesFault}
 use Rattle.table_reader.specs.Spelled.{spelled as tables_spelled}
 use Rattle.route_maps.specs.Maps.{PlainMaps}
-use Rattle.text_faults.specs.Telling.{Telling}
+use Rattle.text_parts.specs.Telling.{Telling}
 use Rattle.run_base.specs.declared.outcome.Stop.{Stop}
 use Rattle.run_base.specs.declared.outcome.Status.TheVariants.{BadInput}
 use Rattle.run_base.specs.Said.{Said, stop_said, no_memory, line}

@@ -3,11 +3,10 @@ ghost use Rattle.std.specs.Prelude.{◌≡◌, IfErr, IfOk, Ok};
 ghost use Rattle.input_texts.specs.FaultLines.{fault_line as line_of};
 ghost use Rattle.input_texts.specs.Texts.{TellsFault};
 
-use outside::NoMemory;
+use input_output::NoMemory;
 use run_base::{Status, Stop};
 use std::alloc::Global;
-use text_faults::TextFault;
-use text_words::{push_bytes, push_number, push_word};
+use text_parts::{TextFault, push_bytes, push_number, push_word};
 
 // The line that tells a fault of a kind of text: the number of the rule, its word and its values.
 #[tactic(auto, unfolding(crate::specs::FaultLines::fault_line))]

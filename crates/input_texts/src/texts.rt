@@ -27,7 +27,7 @@ use policy_parser::read_policy;
 use route_maps::Maps;
 use run_base::Stop;
 use scenario_reader::read_scenario;
-use stable_paths::{Outcome, Scenario};
+use scenarios::{Outcome, Scenario};
 use std::alloc::Global;
 use table_reader::read_tables;
 use topology::read_topology;

@@ -9,8 +9,8 @@ use Rattle.config_lines.specs.declared.line.Line.TheVariants as line
 use Rattle.config_lines.specs.Editions.{tag_text}
 use Rattle.config_lines.specs.LineText.{set_text, IsLine}
 use Rattle.config_reader.proofs.TakenTexts.{IsOther}
-use Rattle.map_lines.specs.declared.line.MapLine.TheVariants as written
-use Rattle.map_lines.specs.MapLineText.{entry_text, IsEntry, IsMapLine}
+use Rattle.route_map_text.specs.declared.line.MapLine.TheVariants as written
+use Rattle.route_map_text.specs.MapLineText.{entry_text, IsEntry, IsMapLine}
 use Rattle.route_map_text.specs.MapsLines.{fed}
 use Rattle.map_reader.proofs.Numbering.{Counts, none, step, number_line, number_from}
 

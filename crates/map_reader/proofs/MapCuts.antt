@@ -5,13 +5,13 @@ use Rattle.std.proofs.lemmas.Bool.{ne_eqb}
 use Rattle.config_base.specs.declared.config.RouterConfig.{RouterConfig}
 use Rattle.net_base.specs.Addresses.{cut_at}
 use Rattle.config_lines.proofs.CutParts.{halves, no_halves, split_there, split_nowhere}
-use Rattle.line_laws.specs.Lines.{lines_of}
-use Rattle.line_laws.proofs.CutLines.{lines_of-some}
-use Rattle.line_laws.proofs.LineByLine.{IsTaken, fault_stops, all_taken}
+use Rattle.config_lines.specs.LineLines.{lines_of}
+use Rattle.config_lines.proofs.CutLines.{lines_of-some}
+use Rattle.config_lines.proofs.LineByLine.{IsTaken, fault_stops, all_taken}
 use Rattle.route_maps.specs.declared.maps.ListLine.{ListLine}
 use Rattle.route_maps.specs.Maps.{PlainMaps}
-use Rattle.map_lines.specs.declared.line.MapLine.{MapLine}
-use Rattle.map_lines.specs.MapLines.{map_line_of}
+use Rattle.route_map_text.specs.declared.line.MapLine.{MapLine}
+use Rattle.route_map_text.specs.MapLines.{map_line_of}
 use Rattle.route_map_text.specs.MapsLines.{first_line}
 use Rattle.config_reader.specs.declared.fault.ConfigFault.{ConfigFault}
 use Rattle.config_reader.specs.declared.fault.ConfigFault.TheVariants as fault

@@ -4,7 +4,7 @@ use Rattle.config_reader.specs.declared.fault.ConfigFault.{ConfigFault}
 use Rattle.map_reader.specs.declared.reading.MapsReading.{MapsReading}
 use Rattle.map_reader.specs.FirstFault.{IsFirstFault}
 use Rattle.map_reader.specs.MapsReading.{opening}
-use Rattle.line_laws.proofs.FirstFaults.{first_from, fault_from}
+use Rattle.config_lines.proofs.FirstFaults.{first_from, fault_from}
 use Rattle.map_reader.specs.MapsRead.{with_line, with_lines}
 
 pub first_fault : (texts : List (List ℕ)) (e : ConfigFault) → with_lines 2 opening texts ≡ Err e → IsFirstFault texts e

@@ -7,7 +7,7 @@ use Rattle.std.proofs.lemmas.Bool.{and_parts, eqb-true, eqb-false, not-true}
 use Rattle.std.proofs.lemmas.List.Splits.{join_with_byte-slice_split}
 use Rattle.std.proofs.lemmas.List.{length-take, nil_from_length}
 use Rattle.std.proofs.lemmas.Slice.Eq.{bytes_eq-Decides}
-use Rattle.list_laws.proofs.Options.{is_none_parts}
+use Rattle.list_law.proofs.Options.{is_none_parts}
 use Rattle.net_base.specs.Gives.{GivesUnless}
 use Rattle.net_base.specs.Steps.{unless}
 use Rattle.net_base.proofs.StepLemmas.{bind_ok, unless_ok, ok_same}
@@ -16,14 +16,14 @@ use Rattle.config_text.specs.ConfigLines.{lines_of_router}
 use Rattle.config_reader.specs.declared.reading.OpenRouter.{OpenRouter}
 use Rattle.config_reader.proofs.Lawful.{reading_lawful}
 use Rattle.config_reader.proofs.SoFar.{open_lines}
-use Rattle.line_laws.specs.Lines.{lines_of, whole_lines, last_line}
-use Rattle.line_laws.proofs.CutLines.{few_lines}
-use Rattle.line_laws.proofs.FedLines.{fed_lines, fed_texts, join_front}
-use Rattle.line_laws.proofs.WholeLines.{last_split}
+use Rattle.config_lines.specs.LineLines.{lines_of, whole_lines, last_line}
+use Rattle.config_lines.proofs.CutLines.{few_lines}
+use Rattle.config_lines.proofs.FedLines.{fed_lines, fed_texts, join_front}
+use Rattle.config_lines.proofs.WholeLines.{last_split}
 use Rattle.route_maps.specs.Maps.{PlainMaps}
-use Rattle.map_lines.specs.declared.line.MapLine.{MapLine}
-use Rattle.map_lines.specs.MapLineText.{map_line_text}
-use Rattle.map_lines.proofs.MapForms.{map_lines_written}
+use Rattle.route_map_text.specs.declared.line.MapLine.{MapLine}
+use Rattle.route_map_text.specs.MapLineText.{map_line_text}
+use Rattle.route_map_text.proofs.MapForms.{map_lines_written}
 use Rattle.route_map_text.specs.MapsLines.{lines_of_lists, map_lines, fed, first_line, maps_text}
 use Rattle.route_map_text.specs.MapsSpelled.{IsLawful, Spells}
 use Rattle.config_reader.specs.declared.fault.ConfigFault.{ConfigFault}

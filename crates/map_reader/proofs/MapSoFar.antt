@@ -5,8 +5,8 @@ use Rattle.std.specs.Prelude.{◌≢◌, ◌&&◌, ◌==◌, nat_lt, is_none}
 use Rattle.std.specs.List.{flat_map, AllByRecursion}
 use Rattle.std.proofs.lemmas.Bool.{and_parts, eqb-true, ltb-true}
 use Rattle.std.proofs.lemmas.List.{append_cancel_left, map-append, nil_from_length}
-use Rattle.list_laws.proofs.Each.{AllByRecursion-push}
-use Rattle.list_laws.proofs.Options.{is_none_parts}
+use Rattle.list_law.proofs.Each.{AllByRecursion-push}
+use Rattle.list_law.proofs.Options.{is_none_parts}
 use Rattle.net_base.specs.Prefixes.{PlainPattern}
 use Rattle.config_base.specs.declared.config.RouterConfig.{RouterConfig}
 use Rattle.config_lines.specs.declared.edition.Edition.TheVariants.{Second}
@@ -22,9 +22,9 @@ use Rattle.config_reader.proofs.SoFar.{open_lines, after_adds, next_is}
 use Rattle.config_reader.proofs.Steps.{class_ok}
 use Rattle.config_reader.proofs.TakenTexts.{IsOther, same_classes}
 use Rattle.route_maps.specs.declared.maps.ListLine.{ListLine}
-use Rattle.map_lines.specs.declared.line.MapLine.{MapLine}
-use Rattle.map_lines.specs.declared.line.MapLine.TheVariants as written
-use Rattle.map_lines.specs.MapLineText.{IsEntry, IsBlock, IsMapLine, IsNumbered}
+use Rattle.route_map_text.specs.declared.line.MapLine.{MapLine}
+use Rattle.route_map_text.specs.declared.line.MapLine.TheVariants as written
+use Rattle.route_map_text.specs.MapLineText.{IsEntry, IsBlock, IsMapLine, IsNumbered}
 use Rattle.route_map_text.specs.MapsLines.{lines_of_list, lines_of_lists}
 use Rattle.route_map_text.specs.MapsSpelled.{HasPattern, HavePatterns}
 use Rattle.map_reader.specs.declared.reading.MapsReading.{MapsReading}

@@ -12,9 +12,9 @@ use Rattle.config_reader.specs.declared.reading.Misplaced.{Misplaced}
 use Rattle.config_reader.specs.declared.reading.Misplaced.TheVariants as misplaced
 use Rattle.config_reader.specs.Reading.{after}
 use Rattle.route_maps.specs.declared.maps.ListLine.{ListLine}
-use Rattle.map_lines.specs.declared.line.MapLine.{MapLine}
-use Rattle.map_lines.specs.declared.line.MapLine.TheVariants as written
-use Rattle.map_lines.specs.MapLines.{map_line_of}
+use Rattle.route_map_text.specs.declared.line.MapLine.{MapLine}
+use Rattle.route_map_text.specs.declared.line.MapLine.TheVariants as written
+use Rattle.route_map_text.specs.MapLines.{map_line_of}
 use Rattle.map_reader.specs.declared.reading.MapsReading.{MapsReading}
 use Rattle.map_reader.specs.MapsReading.{continues, on_last, with_list, in_blocks, is_out, entries_of, is_number_of, with_entry, after_map}
 use Rattle.map_reader.specs.MapsRead.{read_at, placed_at, with_line}

@@ -6,12 +6,12 @@ use Rattle.std.specs.List.{flat_map, AllByRecursion}
 use Rattle.std.proofs.lemmas.Bool.{ne_eqb, eq-eqb, lt-ltb}
 use Rattle.std.proofs.lemmas.List.{map-append}
 use Rattle.std.proofs.lemmas.List.Concat.{flat_map-append}
-use Rattle.list_laws.proofs.Each.{AllByRecursion-append, AllByRecursion-append_parts, AllByRecursion-weaker, AllByRecursion-both}
+use Rattle.list_law.proofs.Each.{AllByRecursion-append, AllByRecursion-append_parts, AllByRecursion-weaker, AllByRecursion-both}
 use Rattle.net_base.specs.Gives.{GivesUnless}
 use Rattle.net_base.specs.Prefixes.{PlainPattern}
 use Rattle.net_base.specs.Steps.{◌>>=◌, unless}
 use Rattle.net_base.proofs.StepLemmas.{bind_ok, ok_same}
-use Rattle.text_words.proofs.PrefixTexts.{have_no}
+use Rattle.text_parts.proofs.PrefixTexts.{have_no}
 use Rattle.config_base.specs.Configs.{PlainConfig, IsRouter}
 use Rattle.config_lines.specs.declared.edition.Edition.TheVariants.{Second}
 use Rattle.config_lines.specs.declared.line.Line.{Line}
@@ -26,18 +26,18 @@ use Rattle.config_reader.specs.declared.reading.Misplaced.TheVariants.{Order}
 use Rattle.config_reader.specs.Reading.{after}
 use Rattle.config_reader.proofs.Runs.{run, at, class_step, run_routers}
 use Rattle.config_reader.proofs.TakenTexts.{IsOther, flat_other, router_other}
-use Rattle.line_laws.specs.Lines.{lines_of}
-use Rattle.line_laws.proofs.FedLines.{cut_lines}
-use Rattle.line_laws.proofs.LineByLine.{line_by_line-append}
-use Rattle.line_laws.proofs.Runs.{run as run_by, run_step, run_append, run_taken}
-use Rattle.line_laws.proofs.WholeLines.{whole_push}
+use Rattle.config_lines.specs.LineLines.{lines_of}
+use Rattle.config_lines.proofs.FedLines.{cut_lines}
+use Rattle.config_lines.proofs.LineByLine.{line_by_line-append}
+use Rattle.config_lines.proofs.Runs.{run as run_by, run_step, run_append, run_taken}
+use Rattle.config_lines.proofs.WholeLines.{whole_push}
 use Rattle.route_maps.specs.declared.maps.ListLine.{ListLine}
 use Rattle.route_maps.specs.Maps.{PlainMaps}
-use Rattle.map_lines.specs.declared.line.MapLine.{MapLine}
-use Rattle.map_lines.specs.declared.line.MapLine.TheVariants as written
-use Rattle.map_lines.specs.MapLines.{map_line_of}
-use Rattle.map_lines.specs.MapLineText.{map_line_text, IsMapLine}
-use Rattle.map_lines.proofs.MapWritten.{IsMapReadAgain, list_there, map_lines_read}
+use Rattle.route_map_text.specs.declared.line.MapLine.{MapLine}
+use Rattle.route_map_text.specs.declared.line.MapLine.TheVariants as written
+use Rattle.route_map_text.specs.MapLines.{map_line_of}
+use Rattle.route_map_text.specs.MapLineText.{map_line_text, IsMapLine}
+use Rattle.route_map_text.proofs.MapWritten.{IsMapReadAgain, list_there, map_lines_read}
 use Rattle.route_map_text.specs.MapsLines.{lines_of_list, lines_of_lists, map_lines, fed, first_line, maps_text, lines_of_router as map_lines_of_router}
 use Rattle.route_map_text.specs.MapsSpelled.{HavePatterns, IsLawful, Spells}
 use Rattle.config_reader.specs.declared.fault.ConfigFault.{ConfigFault}

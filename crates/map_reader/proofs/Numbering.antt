@@ -3,7 +3,7 @@ use Rattle.std.proofs.Common.{◌≡◌, ℕ, ◌+◌, ◌*◌, List, [], ◌∷
 use Rattle.std.specs.Prelude.{option_and_then, if◌then◌else◌, is_none}
 use Rattle.std.specs.List.{flat_map}
 use Rattle.std.proofs.lemmas.Bool.{and_parts}
-use Rattle.list_laws.proofs.Options.{is_none_parts}
+use Rattle.list_law.proofs.Options.{is_none_parts}
 use Rattle.config_base.specs.declared.config.RouterConfig.{RouterConfig}
 use Rattle.config_base.specs.declared.config.Session.{Session}
 use Rattle.config_base.specs.declared.config.Import.{Import}
@@ -17,8 +17,8 @@ use Rattle.config_reader.specs.declared.reading.Reading.{Reading}
 use Rattle.config_reader.specs.Reading.{after}
 use Rattle.config_reader.proofs.Steps.{router_ok, own_ok, neighbour_ok, import_ok, export_ok, end_ok}
 use Rattle.config_reader.proofs.TakenTexts.{IsOther}
-use Rattle.map_lines.specs.declared.line.MapLine.{MapLine}
-use Rattle.map_lines.specs.declared.line.MapLine.TheVariants as written
+use Rattle.route_map_text.specs.declared.line.MapLine.{MapLine}
+use Rattle.route_map_text.specs.declared.line.MapLine.TheVariants as written
 use Rattle.route_map_text.specs.MapsLines.{numbered, network_of, lines_of_session as map_lines_of_session, lines_before_end as map_lines_before_end, lines_of_router as map_lines_of_router}
 use Rattle.map_reader.specs.MapsReading.{entries_in, entries_of}
 

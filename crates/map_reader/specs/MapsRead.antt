@@ -6,10 +6,10 @@ use Rattle.config_lines.specs.declared.line.LineFault.{LineFault}
 use Rattle.config_lines.specs.declared.line.LineFault.TheVariants as line
 use Rattle.config_reader.specs.declared.reading.Misplaced.{Misplaced}
 use Rattle.config_reader.specs.declared.reading.Misplaced.TheVariants as misplaced
-use Rattle.line_laws.specs.Lines.{lines_of, whole_lines, last_line, line_by_line}
+use Rattle.config_lines.specs.LineLines.{lines_of, whole_lines, last_line, line_by_line}
 use Rattle.route_maps.specs.Maps.{PlainMaps}
-use Rattle.map_lines.specs.declared.line.MapLine.{MapLine}
-use Rattle.map_lines.specs.MapLines.{map_line_of}
+use Rattle.route_map_text.specs.declared.line.MapLine.{MapLine}
+use Rattle.route_map_text.specs.MapLines.{map_line_of}
 use Rattle.route_map_text.specs.MapsLines.{first_line}
 use Rattle.config_reader.specs.declared.fault.ConfigFault.{ConfigFault}
 use Rattle.config_reader.specs.declared.fault.ConfigFault.TheVariants as fault

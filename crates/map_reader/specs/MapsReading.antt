@@ -10,8 +10,8 @@ use Rattle.config_reader.specs.declared.reading.Misplaced.{Misplaced}
 use Rattle.config_reader.specs.declared.reading.Misplaced.TheVariants.{Order}
 use Rattle.config_reader.specs.Reading.{opening as no_block, after}
 use Rattle.route_maps.specs.declared.maps.ListLine.{ListLine}
-use Rattle.map_lines.specs.declared.line.MapLine.{MapLine}
-use Rattle.map_lines.specs.declared.line.MapLine.TheVariants as written
+use Rattle.route_map_text.specs.declared.line.MapLine.{MapLine}
+use Rattle.route_map_text.specs.declared.line.MapLine.TheVariants as written
 use Rattle.map_reader.specs.declared.reading.MapsReading.{MapsReading}
 
 -- nothing was read

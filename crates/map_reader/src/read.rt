@@ -4,7 +4,7 @@ ghost use Rattle.std.specs.List.{slice_split};
 ghost use Rattle.std.specs.Str.{bytes_eq};
 ghost use Rattle.net_base.specs.Gives.{GivesUnless};
 ghost use Rattle.route_maps.specs.Maps.{PlainMaps, IsMaps};
-ghost use Rattle.map_lines.specs.MapLines.{map_line_of};
+ghost use Rattle.route_map_text.specs.MapLines.{map_line_of};
 ghost use Rattle.route_map_text.specs.MapsLines.{first_line};
 ghost use Rattle.route_map_text.specs.MapsSpelled.{Spells};
 ghost use Rattle.map_reader.specs.MapsReading.{after_map};
@@ -15,8 +15,8 @@ use crate::reading::{MapsReading, after_line, beside, no_line};
 use config_base::RouterConfig;
 use config_lines::{LineFault, halves};
 use config_reader::{Misplaced, Reading};
-use map_lines::{MapLine, read_map_line};
 use net_base::List;
+use route_map_text::{MapLine, read_map_line};
 use route_maps::Maps;
 use std::alloc::Global;
 

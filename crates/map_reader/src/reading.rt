@@ -7,8 +7,8 @@ ghost use Rattle.map_reader.specs.MapsReading.{opening, continues as continues_l
 
 use config_lines::Line;
 use config_reader::{Misplaced, Reading, after, nothing_read};
-use map_lines::MapLine;
 use net_base::{List, Pattern};
+use route_map_text::MapLine;
 use route_maps::ListLine;
 use std::alloc::{AllocError, Global};
 

@@ -3,7 +3,7 @@ use Rattle.std.proofs.Common.{◌≡◌, ℕ, Bool, true, false, List, [], ◌�
 use Rattle.std.specs.Prelude.{not, option_map, if◌then◌else◌}
 use Rattle.std.specs.Option.{option_and_then}
 use Rattle.std.proofs.lemmas.Bool.{and_from, cases_Bool, cond-true, cond-false, not_from_false, true≢false}
-use Rattle.list_laws.proofs.Options.{cases_Option, option_and_then_parts, option_map_parts}
+use Rattle.list_law.proofs.Options.{cases_Option, option_and_then_parts, option_map_parts}
 use Rattle.net_base.specs.declared.loc.LocSet.{LocSet}
 use Rattle.net_base.specs.declared.numbers.Tag.{Tag}
 use Rattle.net_base.specs.Locations.{neighbours}
@@ -18,17 +18,17 @@ use Rattle.config_base.specs.Configs.{PlainConfig}
 use Rattle.config_base.specs.Lines.{class_of, export_of, import_of, is_looped, own_route}
 use Rattle.outcome_base.specs.Announcements.{taken_under}
 use Rattle.evidence_law.proofs.ClassFound.{originated_by}
-use Rattle.announce_law.proofs.Inside.{refuses_same, taken-some}
-use Rattle.announce_law.proofs.Peers.{peers_are_origins}
+use Rattle.outcome_law.proofs.Inside.{refuses_same, taken-some}
+use Rattle.outcome_law.proofs.Peers.{peers_are_origins}
 use Rattle.event_base.specs.declared.event.Event.{Event}
 use Rattle.event_base.specs.Speaking.{announced_by, chosen_by, exported_by, extended, first_of, message, speakers_of, taken_by}
 use Rattle.event_base.specs.Steps.{opening}
 use Rattle.event_base.specs.World.{Speakers}
 use Rattle.event_law.specs.Kinds.{AreKinds, Held, IsKind}
 use Rattle.event_law.proofs.KindsKept.{opening-kinds, run-kinds}
-use Rattle.world_law.proofs.Running.{first_is_given}
-use Rattle.world_law.proofs.Waiting.{said}
-use Rattle.world_law.specs.Laws.{world_after}
+use Rattle.event_law.proofs.Running.{first_is_given}
+use Rattle.event_law.proofs.Waiting.{said}
+use Rattle.event_law.specs.Laws.{world_after}
 use Rattle.motion_law.proofs.Taken.{line_at}
 use Rattle.motion_law.specs.Events.{EventsStayWithin, held_alone, sent_alone}
 use Rattle.motion_law.specs.Ever.{MayHold, MayHold as may, MaySend}

@@ -19,19 +19,19 @@ use Rattle.outcome_base.specs.Outcomes.{no_failures}
 use Rattle.evidence_law.specs.Passes.{Passes}
 use Rattle.evidence_law.proofs.MadeCases.{has_no_class}
 use Rattle.evidence_law.proofs.Setting.{graph_of, lines_of, network_of, pairs_of}
-use Rattle.list_laws.proofs.Options.{none_or_some}
+use Rattle.list_law.proofs.Options.{none_or_some}
 use Rattle.std.proofs.lemmas.Option.{same_Some}
 use Rattle.routing_law.specs.Graph as graph
 use Rattle.routing_law.specs.Lines as line
 use Rattle.routing_law.specs.Spells as spelled
 use Rattle.event_base.specs.Speaking.{extended, message}
-use Rattle.announce_law.proofs.Peers.{no_line}
+use Rattle.outcome_law.proofs.Peers.{no_line}
 use Rattle.settled_law.proofs.SettledLaw.{CaseFound, case_or_bare}
-use Rattle.world_law.specs.Waiting.{HasRun}
-use Rattle.world_law.proofs.Moments.{claimed_allowed, run_ends}
-use Rattle.world_law.proofs.Offers.{known, lines_here}
-use Rattle.world_law.proofs.Running.{RunsAt, RunsTo, from_peer, from_router, sent_on, sent_own}
-use Rattle.world_law.proofs.Waiting.{has_run, sent_allowed}
+use Rattle.event_law.specs.Waiting.{HasRun}
+use Rattle.event_law.proofs.Moments.{claimed_allowed, run_ends}
+use Rattle.event_law.proofs.Offers.{known, lines_here}
+use Rattle.event_law.proofs.Running.{RunsAt, RunsTo, from_peer, from_router, sent_on, sent_own}
+use Rattle.event_law.proofs.Waiting.{has_run, sent_allowed}
 use Rattle.motion_law.specs.Ever.{EveryRouteIsAllowed, IsAllowedEver, IsBareEver, IsRightEver, MayHold, MaySend}
 use Rattle.motion_law.specs.Ever.{MayHold as may}
 use Rattle.motion_law.proofs.Taken.{imported, line_at, tag_ignored, taken_line, unlooped, unlooped_behind}

@@ -5,7 +5,7 @@ use Rattle.std.specs.List.{list_any}
 use Rattle.std.specs.Option.{option_and_then}
 use Rattle.std.proofs.lemmas.Bool.{cases_Bool, or_parts}
 use Rattle.std.proofs.lemmas.List.Folds.{list_any-append}
-use Rattle.list_laws.proofs.Options.{cases_Option, none_or_some}
+use Rattle.list_law.proofs.Options.{cases_Option, none_or_some}
 use Rattle.net_base.specs.declared.net.Site.{Site}
 use Rattle.net_base.specs.declared.numbers.Tag.{Tag}
 use Rattle.net_base.specs.Network.{PlainNet, asn_of, is_peer}
@@ -13,7 +13,7 @@ use Rattle.config_base.specs.declared.config.Session.{Session}
 use Rattle.config_base.specs.Configs.{PlainConfig}
 use Rattle.config_base.specs.Lines.{as_path, block_at, import_of, is_looped, line_by}
 use Rattle.outcome_base.specs.Announcements.{FullRoute, Sent, is_ours, refuses, taken_under}
-use Rattle.announce_law.proofs.Inside.{any_tag, taken-none, taken-refused, taken-some}
+use Rattle.outcome_law.proofs.Inside.{any_tag, taken-none, taken-refused, taken-some}
 
 -- the import line that applies
 abbrev pub line_at : PlainNet → PlainConfig → ℕ → ℕ → ℕ → Tag → Option (Tag × ℕ)

@@ -4,7 +4,7 @@ use Rattle.std.specs.Prelude.{◌&&◌, not, option_map, slice_get, if◌then◌
 use Rattle.std.specs.Option.{option_and_then}
 use Rattle.std.proofs.lemmas.Bool.{and_from, and_parts, cases_Bool, cond-true, cond-false, eqb-true, le-leb, ltb-false, not_from_false, true≢false}
 use Rattle.std.proofs.lemmas.Option.{same_Some}
-use Rattle.list_laws.proofs.Options.{none_or_some, option_and_then_parts, option_map_parts}
+use Rattle.list_law.proofs.Options.{none_or_some, option_and_then_parts, option_map_parts}
 use Rattle.net_base.specs.Network.{PlainNet, IsNet, is_peer, is_router, linked}
 use Rattle.net_base.specs.Prefixes.{PlainPrefix}
 use Rattle.net_base.proofs.Links.{linked_known}

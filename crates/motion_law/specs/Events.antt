@@ -8,7 +8,7 @@ use Rattle.config_base.specs.Configs.{PlainConfig}
 use Rattle.outcome_base.specs.Announcements.{FullRoute, Sent}
 use Rattle.event_base.specs.declared.event.Event.{Event}
 use Rattle.event_law.specs.Kinds.{AreKinds}
-use Rattle.world_law.specs.Laws.{world_after}
+use Rattle.event_law.specs.Laws.{world_after}
 use Rattle.motion_law.specs.Ever.{MayHold, MaySend}
 
 -- nothing stands behind

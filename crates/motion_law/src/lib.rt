@@ -11,8 +11,8 @@
 //! that doesn't let go of a route without news from a neighbour whose route ties. `specs/Rounds` says what is remembered of the past
 //! once everything was sent and then heard.
 //!
-//! That a route which may be held runs in the graph of its prefix's case is shown with the lemmas of `world_law` (`proofs/Ever`); that
-//! what stands behind it is of no account, with those of `announce_law`. No law here knows how an outcome comes about.
+//! That a route which may be held runs in the graph of its prefix's case is shown with the lemmas of `event_law` (`proofs/Ever`); that
+//! what stands behind it is of no account, with those of `outcome_law`. No law here knows how an outcome comes about.
 #![tactic(auto)]
 
 ghost use Rattle.motion_law.specs.Events.{EventsStayWithin};

@@ -6,10 +6,10 @@ use Rattle.std.specs.Str.{bytes_eq}
 use Rattle.std.specs.Option.{option_and_then}
 use Rattle.std.proofs.lemmas.Bool.{and_cases, and_from, and_parts, cases_Bool, cases_lt, cond-true, cond-false, eq-eqb, eqb-true, false_from_ne_true, false≢true, ltb-false, ltb-true, not-true, not_from_false, or_cases, or_parts, true≢false}
 use Rattle.std.proofs.lemmas.Slice.Eq.{bytes_eq-Decides}
-use Rattle.list_laws.specs.Members.{IsIn}
-use Rattle.list_laws.proofs.Members.{IsIn-cons_cases, list_any-from_IsIn, list_any_member}
-use Rattle.list_laws.proofs.Options.{cases_Option, is_some_parts, none_or_some, option_and_then_parts}
-use Rattle.list_laws.proofs.Tests.{find_parts, list_any-not_found}
+use Rattle.list_law.specs.Members.{IsIn}
+use Rattle.list_law.proofs.Members.{IsIn-cons_cases, list_any-from_IsIn, list_any_member}
+use Rattle.list_law.proofs.Options.{cases_Option, is_some_parts, none_or_some, option_and_then_parts}
+use Rattle.list_law.proofs.Tests.{find_parts, list_any-not_found}
 use Rattle.net_base.specs.Locations.{neighbours}
 use Rattle.net_base.specs.Network.{PlainNet, IsNet, linked}
 use Rattle.net_base.specs.Prefixes.{PlainPrefix}

@@ -5,7 +5,7 @@ use Rattle.std.specs.Option.{option_and_then}
 use Rattle.std.proofs.lemmas.Bool.{and_parts, and_right, cases_Bool, cond-false, ltb-false, not-true}
 use Rattle.std.proofs.lemmas.List.{length-map}
 use Rattle.std.proofs.lemmas.Option.{same_Some}
-use Rattle.list_laws.proofs.Options.{cases_Option, none_or_some}
+use Rattle.list_law.proofs.Options.{cases_Option, none_or_some}
 use Rattle.net_base.specs.Locations.{numbers_below}
 use Rattle.net_base.specs.Network.{PlainNet, IsNet, is_router, linked}
 use Rattle.net_base.specs.Prefixes.{PlainPrefix}
@@ -17,7 +17,7 @@ use Rattle.config_base.specs.Configs.{PlainConfig}
 use Rattle.config_base.specs.Lines.{class_of, own_route}
 use Rattle.outcome_base.specs.Announcements.{ChoosesUnder, FullOutcome, FullRoute, IsStableUnder, full_at, given_under, taken_under}
 use Rattle.outcome_base.specs.Outcomes.{Failures, is_dead, is_live}
-use Rattle.announce_law.proofs.Inside.{given-parts}
+use Rattle.outcome_law.proofs.Inside.{given-parts}
 use Rattle.motion_law.specs.Motion.{Motion, gift, has_to_say, live_in, picked}
 use Rattle.motion_law.specs.Rounds.{IsCalm, IsRound, Schedule, world_at}
 use Rattle.motion_law.proofs.Kept.{IsKept}

@@ -5,7 +5,7 @@ use Rattle.std.specs.Option.{option_and_then}
 use Rattle.std.proofs.lemmas.Bool.{and_parts, cases_Bool, cond-true, cond-false, not-true, true≢false}
 use Rattle.std.proofs.lemmas.List.{length-append}
 use Rattle.std.proofs.lemmas.Option.{same_Some}
-use Rattle.list_laws.proofs.Options.{cases_Option, none_from, none_or_some, option_and_then_parts}
+use Rattle.list_law.proofs.Options.{cases_Option, none_from, none_or_some, option_and_then_parts}
 use Rattle.net_base.specs.declared.numbers.Tag.{Tag}
 use Rattle.net_base.specs.Network.{PlainNet, IsNet, is_peer, is_router, linked}
 use Rattle.net_base.specs.Prefixes.{PlainPrefix, IsPrefix}
@@ -25,8 +25,8 @@ use Rattle.routing_law.specs.Graph as graph
 use Rattle.routing_law.specs.Network as law
 use Rattle.routing_law.specs.Outcome as outcomes
 use Rattle.routing_law.proofs.Heard.{chooses_from, heard_parts}
-use Rattle.secure_law.proofs.Search.{loop_free_short}
-use Rattle.world_law.proofs.Offers.{lines_here}
+use Rattle.rest_law.proofs.Search.{loop_free_short}
+use Rattle.event_law.proofs.Offers.{lines_here}
 use Rattle.tie_law.specs.Ties.{IsSize}
 use Rattle.steady_law.specs.Histories.{AreStill, AreTied, History, HoldsRuns, IsRound as IsRoundOf, IsSteady, IsToldOf, IsTop, TiesAt}
 use Rattle.motion_law.specs.Motion.{Motion, announced, gift, has_to_say, is_top, live_in, picked, told}

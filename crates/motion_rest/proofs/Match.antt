@@ -6,7 +6,7 @@ use Rattle.std.specs.Option.{option_and_then}
 use Rattle.std.proofs.Math.Bool.{and_assoc}
 use Rattle.std.proofs.lemmas.Bool.{and_left, and_parts, cases_Bool, cond-true, cond-false, ltb-true, not-true}
 use Rattle.std.proofs.lemmas.Option.{same_Some, slice_get-map}
-use Rattle.list_laws.proofs.Options.{none_or_some, option_and_then_parts, option_map_parts}
+use Rattle.list_law.proofs.Options.{none_or_some, option_and_then_parts, option_map_parts}
 use Rattle.net_base.specs.declared.numbers.Tag.{Tag}
 use Rattle.net_base.specs.Locations.{numbers_below}
 use Rattle.net_base.specs.Network.{PlainNet, IsNet, is_peer, is_router, linked}
@@ -35,8 +35,8 @@ use Rattle.routing_law.specs.Spells.{StepOver}
 use Rattle.routing_law.proofs.Heard.{Heard, chooses_from, heard_parts, no_router, own_parts}
 use Rattle.routing_law.proofs.Runs.{node_below, run_place}
 use Rattle.routing_law.proofs.Tied.{Behind, Given, heard_down, own_down}
-use Rattle.announce_law.proofs.Inside.{given_same, route_at-inside, route_in, sent-router, sent-router-none, sent-router-refused}
-use Rattle.world_law.proofs.Offers.{lines_here}
+use Rattle.outcome_law.proofs.Inside.{given_same, route_at-inside, route_in, sent-router, sent-router-none, sent-router-refused}
+use Rattle.event_law.proofs.Offers.{lines_here}
 use Rattle.motion_law.specs.Motion.{Motion, announced, gift, has_to_say, live_in, told, with_tag}
 use Rattle.motion_law.proofs.Ever.{Fine, Graph, unlined}
 use Rattle.motion_law.proofs.Taken.{line_at}

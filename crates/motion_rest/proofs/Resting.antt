@@ -4,7 +4,7 @@ use Rattle.std.proofs.Common.{◌≡◌, ℕ, ◌<◌, ◌≤◌, ◌+◌, ◌*�
 use Rattle.std.specs.Prelude.{◌&&◌, option_map}
 use Rattle.std.specs.Option.{option_and_then}
 use Rattle.std.proofs.lemmas.Bool.{and_from, cases_Bool, cond-true, cond-false, not_from_false}
-use Rattle.list_laws.proofs.Options.{none_from, none_or_some}
+use Rattle.list_law.proofs.Options.{none_from, none_or_some}
 use Rattle.net_base.specs.Network.{PlainNet, IsNet, is_router}
 use Rattle.net_base.specs.Prefixes.{PlainPrefix, IsPrefix}
 use Rattle.policy_base.specs.Policies.{PlainPolicy, IsPolicyOf}
@@ -19,7 +19,7 @@ use Rattle.evidence_law.proofs.Setting.{network_of}
 use Rattle.settled_law.proofs.SettledLaw.{CaseFound, case_or_bare}
 use Rattle.routing_law.specs.Graph as graph
 use Rattle.routing_law.specs.Outcome as outcomes
-use Rattle.world_law.proofs.Offers.{lines_here}
+use Rattle.event_law.proofs.Offers.{lines_here}
 use Rattle.steady_law.proofs.Settle.{ties_settle}
 use Rattle.motion_law.specs.Motion.{Motion, Move, announced, at_the_start, gift, has_to_say, picked, told, with_tag}
 use Rattle.motion_law.specs.Rounds.{IsCalm, IsRound, Schedule, world_at}

@@ -4,7 +4,7 @@ use Rattle.std.proofs.Common.{◌≡◌, ℕ, ◌<◌, ◌≤◌, ◌+◌, zero,
 use Rattle.std.specs.Prelude.{◌&&◌, not, if◌then◌else◌}
 use Rattle.std.specs.Option.{option_and_then}
 use Rattle.std.proofs.lemmas.Bool.{and_parts, and_right, cases_Bool, cond-true, cond-false, not-true, true≢false}
-use Rattle.list_laws.proofs.Options.{none_or_some}
+use Rattle.list_law.proofs.Options.{none_or_some}
 use Rattle.net_base.specs.Network.{PlainNet, IsNet, is_peer, is_router, linked}
 use Rattle.net_base.specs.Prefixes.{PlainPrefix, IsPrefix}
 use Rattle.net_base.proofs.Links.{linked_flips, linked_known}
@@ -19,8 +19,8 @@ use Rattle.outcome_base.specs.Outcomes.{Failures, is_dead, is_live, is_silent, n
 use Rattle.evidence_law.specs.Passes.{Passes}
 use Rattle.settled_law.proofs.SettledLaw.{CaseFound}
 use Rattle.routing_law.specs.Graph as graph
-use Rattle.announce_law.proofs.Inside.{given-parts, router-sends, taken-parts}
-use Rattle.world_law.proofs.Offers.{lines_here}
+use Rattle.outcome_law.proofs.Inside.{given-parts, router-sends, taken-parts}
+use Rattle.event_law.proofs.Offers.{lines_here}
 use Rattle.motion_law.specs.Motion.{Motion, Move, choice_of, gift, has_to_say, live_in, picked}
 use Rattle.motion_law.specs.Rounds.{IsCalm, IsRound, Schedule, stepped, world_at}
 use Rattle.motion_law.proofs.Ever.{fine}

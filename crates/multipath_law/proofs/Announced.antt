@@ -4,7 +4,7 @@ use Rattle.std.specs.Prelude.{◌⊎◌, ◌&&◌, not, option_map}
 use Rattle.std.proofs.lemmas.Bool.{and_from, and_parts, cases_Bool, false_from_ne_true, not_from_false, true≢false}
 use Rattle.std.proofs.lemmas.List.{length-map}
 use Rattle.std.proofs.lemmas.Option.{same_Some}
-use Rattle.list_laws.proofs.Options.{cases_Option, none_or_some, option_map_parts}
+use Rattle.list_law.proofs.Options.{cases_Option, none_or_some, option_map_parts}
 use Rattle.net_base.specs.Network.{PlainNet, IsNet, is_peer, is_router}
 use Rattle.net_base.specs.Prefixes.{PlainPrefix, IsPrefix}
 use Rattle.net_base.proofs.RoutersAndPeers.{peer_no_router, router_no_peer}
@@ -20,10 +20,10 @@ use Rattle.outcome_base.specs.Outcomes.{Failures, is_dead, is_live, is_silent, g
 use Rattle.evidence_law.specs.Passes.{Passes}
 use Rattle.evidence_law.proofs.Hops.{Comes, begins, given_parts, offer_parts}
 use Rattle.evidence_law.proofs.Surviving.{survives-alive}
-use Rattle.announce_law.proofs.Announced.{announcements_are_silences}
-use Rattle.announce_law.proofs.Heard.{offers_are_taken}
-use Rattle.announce_law.proofs.Inside.{clean_behind, given-parts, given_same, route_at-inside, route_in, router-sends, taken-parts}
-use Rattle.announce_law.proofs.Peers.{no_line}
+use Rattle.outcome_law.proofs.Announced.{announcements_are_silences}
+use Rattle.outcome_law.proofs.Heard.{offers_are_taken}
+use Rattle.outcome_law.proofs.Inside.{clean_behind, given-parts, given_same, route_at-inside, route_in, router-sends, taken-parts}
+use Rattle.outcome_law.proofs.Peers.{no_line}
 use Rattle.multipath_law.specs.Announced.{ArriveUnder, IsMemberUnder, behind_end, whole}
 use Rattle.multipath_law.specs.Laws.{AreRightWays, SpreadPacketsArriveUnder, SpreadsAreRightUnder}
 use Rattle.multipath_law.specs.Spread.{AreRightSpreadsUnder}

@@ -1,9 +1,9 @@
 -- The multipath sets of an outcome as they are listed, and the links that carry nothing.
 use Rattle.std.specs.Prelude.{◌≡◌, ◌↔◌, ◌⊎◌, ℕ, Bool, false, not, IsTrue, List, ◌∷◌, ◌++◌, length, filter, Some}
-use Rattle.list_laws.specs.Members.{IsIn}
+use Rattle.list_law.specs.Members.{IsIn}
 use Rattle.net_base.specs.Network.{PlainNet, joins}
 use Rattle.net_base.specs.Prefixes.{PlainPrefix}
-use Rattle.net_index.specs.Neighbours.{is_held}
+use Rattle.location_names.specs.Neighbours.{is_held}
 use Rattle.policy_base.specs.Policies.{PlainPolicy}
 use Rattle.config_base.specs.Configs.{PlainConfig}
 use Rattle.outcome_base.specs.Outcomes.{Failures, Outcome, is_live, offered}

@@ -2,24 +2,24 @@
 use Rattle.std.proofs.Common.{◌≡◌, ◌⊎◌, ℕ, true, false, List, Option, Some, None, length, refl, sym, ◌∙◌, inl, inr}
 use Rattle.std.specs.Prelude.{◌↔◌, ◌&&◌, ◌||◌, ◌==◌, is_some, not}
 use Rattle.std.proofs.lemmas.Bool.{and_from, and_parts, eq-eqb, eqb-true, lt-ltb, or_cases, or_left, or_right, true≢false}
-use Rattle.list_laws.specs.Members.{IsIn}
-use Rattle.list_laws.proofs.Members.{AllByRecursion-IsIn, IsIn-filter_parts}
-use Rattle.list_laws.proofs.Options.{is_some_from, is_some_parts}
+use Rattle.list_law.specs.Members.{IsIn}
+use Rattle.list_law.proofs.Members.{AllByRecursion-IsIn, IsIn-filter_parts}
+use Rattle.list_law.proofs.Options.{is_some_from, is_some_parts}
 use Rattle.net_base.specs.declared.loc.LocSet.{LocSet}
 use Rattle.net_base.specs.Network.{IsLink, IsNet, PlainNet, is_router, linked}
 use Rattle.net_base.specs.Prefixes.{PlainPrefix}
 use Rattle.net_base.proofs.Links.{linked_flips}
 use Rattle.net_base.proofs.RoutersAndPeers.{peer_no_router}
-use Rattle.net_index.specs.Neighbours.{is_held}
+use Rattle.location_names.specs.Neighbours.{is_held}
 use Rattle.policy_base.specs.Governing.{is_origin}
 use Rattle.policy_base.specs.Policies.{PlainPolicy, policy_of}
 use Rattle.config_base.specs.declared.route.Route.{Route}
 use Rattle.config_base.specs.Configs.{PlainConfig}
 use Rattle.outcome_base.specs.Outcomes.{Failures, Outcome, is_dead, is_dead_link, is_live, offered}
 use Rattle.evidence_law.proofs.Hops.{given_parts, offer_parts}
-use Rattle.stable_paths.specs.Scenarios.{failures_of}
-use Rattle.stable_paths.specs.Situations.{given_in, held_in}
-use Rattle.stable_paths.specs.declared.situation.Situation.{Situation}
+use Rattle.scenarios.specs.Scenarios.{failures_of}
+use Rattle.scenarios.specs.Situations.{given_in, held_in}
+use Rattle.scenarios.specs.declared.situation.Situation.{Situation}
 use Rattle.multipath_law.specs.Carried.{IsOffered, IsUsed, live_links}
 use Rattle.multipath_law.specs.Multipath.{IsMember}
 use Rattle.multipath_report.specs.Idle.{is_used_in, offered_over}

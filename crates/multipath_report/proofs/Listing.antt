@@ -7,7 +7,7 @@ use Rattle.std.proofs.lemmas.List.{append-nil, append_assoc}
 use Rattle.std.proofs.lemmas.List.Concat.{flat_map-append}
 use Rattle.std.proofs.lemmas.List.Elements.{filter-append}
 use Rattle.net_base.specs.Network.{joins}
-use Rattle.net_index.proofs.Linked.{link_put}
+use Rattle.location_names.proofs.Linked.{link_put}
 
 -- what is asked of two places is asked of those that are the same
 asked_there : (M : ℕ → ℕ → Bool) (x n a b : ℕ) → (x == a && n == b && M a b) ≡ (x == a && n == b && M x n)

@@ -2,22 +2,22 @@
 use Rattle.std.proofs.Common.{◌≡◌, ℕ, Bool, false, List, ◌++◌, length, Option, Some, None, refl, sym, ap, ap₂, ◌∙◌, inl, inr}
 use Rattle.std.specs.Prelude.{not}
 use Rattle.std.specs.List.{flat_map}
-use Rattle.list_laws.specs.Members.{IsIn}
-use Rattle.list_laws.proofs.Truth.{same_tests}
-use Rattle.list_laws.proofs.Changed.{filter_same, flat_map_same}
+use Rattle.list_law.specs.Members.{IsIn}
+use Rattle.list_law.proofs.Truth.{same_tests}
+use Rattle.list_law.proofs.Changed.{filter_same, flat_map_same}
 use Rattle.net_base.specs.Locations.{numbers_below}
 use Rattle.net_base.specs.Network.{PlainNet}
 use Rattle.net_base.specs.Prefixes.{PlainPrefix}
-use Rattle.net_index.specs.Neighbours.{is_held}
+use Rattle.location_names.specs.Neighbours.{is_held}
 use Rattle.policy_base.specs.Governing.{statement_of}
 use Rattle.policy_base.specs.Policies.{PlainPolicy, PlainStatement}
 use Rattle.config_base.specs.Configs.{PlainConfig}
 use Rattle.outcome_base.specs.Outcomes.{Failures, Outcome}
-use Rattle.report_lines.specs.Claims.{AreClaimed, AreClaims, AreNone, sources_of, statement_in}
-use Rattle.report_lines.specs.declared.claims.Claims.{Claims}
-use Rattle.report_lines.specs.Lines.{Shown, Sources, head_lines}
-use Rattle.report_lines.specs.Report.{shown_of}
-use Rattle.report_lines.proofs.Ascending.{one_ascent}
+use Rattle.outcome_report.specs.Claims.{AreClaimed, AreClaims, AreNone, sources_of, statement_in}
+use Rattle.outcome_report.specs.declared.claims.Claims.{Claims}
+use Rattle.outcome_report.specs.Lines.{Shown, Sources, head_lines}
+use Rattle.outcome_report.specs.Report.{shown_of}
+use Rattle.outcome_report.proofs.Ascending.{one_ascent}
 use Rattle.multipath_law.specs.Carried.{IsMultipath, live_links}
 use Rattle.multipath_law.specs.declared.multipath.Multipath.{Multipath}
 use Rattle.multipath_report.specs.Texts.{IsMultipathText, count_line, idle_line, lines_by, router_line, sends_text, session_line}

@@ -1,11 +1,11 @@
 -- Over which links packets go, as a test.
 use Rattle.std.specs.Prelude.{ℕ, Bool, ◌||◌, List, is_some}
 use Rattle.net_base.specs.declared.loc.LocSet.{LocSet}
-use Rattle.net_index.specs.Neighbours.{is_held}
+use Rattle.location_names.specs.Neighbours.{is_held}
 use Rattle.policy_base.specs.Policies.{policy_of}
 use Rattle.outcome_base.specs.Outcomes.{offered}
-use Rattle.stable_paths.specs.Scenarios.{failures_of}
-use Rattle.stable_paths.specs.declared.situation.Situation.{Situation}
+use Rattle.scenarios.specs.Scenarios.{failures_of}
+use Rattle.scenarios.specs.declared.situation.Situation.{Situation}
 
 -- the first end of the link, a router, offers the second a path
 abbrev pub offered_over : Situation → ℕ × ℕ → Bool

@@ -4,8 +4,8 @@ use Rattle.net_base.specs.Network.{is_router}
 use Rattle.policy_base.specs.Governing.{is_origin}
 use Rattle.policy_base.specs.Policies.{policy_of}
 use Rattle.config_base.specs.declared.route.Route.{Route}
-use Rattle.stable_paths.specs.Situations.{given_in, held_in}
-use Rattle.stable_paths.specs.declared.situation.Situation.{Situation}
+use Rattle.scenarios.specs.Situations.{given_in, held_in}
+use Rattle.scenarios.specs.declared.situation.Situation.{Situation}
 
 -- a route has the preference of the one that is held, and as many AS numbers
 abbrev pub ties : Route → Route → Bool

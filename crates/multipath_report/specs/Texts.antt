@@ -5,14 +5,14 @@ use Rattle.std.specs.List.{flat_map}
 use Rattle.net_base.specs.Locations.{in_order, numbers_below}
 use Rattle.net_base.specs.Network.{PlainNet}
 use Rattle.net_base.specs.Prefixes.{PlainPrefix}
-use Rattle.net_index.specs.Neighbours.{is_held}
+use Rattle.location_names.specs.Neighbours.{is_held}
 use Rattle.policy_base.specs.Governing.{is_origin, statement_of}
 use Rattle.policy_base.specs.Policies.{PlainPolicy, PlainStatement}
 use Rattle.config_base.specs.Configs.{PlainConfig}
 use Rattle.outcome_base.specs.Outcomes.{Failures, Outcome}
-use Rattle.report_lines.specs.Claims.{AreClaimed}
-use Rattle.report_lines.specs.Lines.{Shown, Sources, head_lines, next_name, rank_by}
-use Rattle.report_lines.specs.Report.{shown_of}
+use Rattle.outcome_report.specs.Claims.{AreClaimed}
+use Rattle.outcome_report.specs.Lines.{Shown, Sources, head_lines, next_name, rank_by}
+use Rattle.outcome_report.specs.Report.{shown_of}
 use Rattle.multipath_law.specs.declared.multipath.Multipath.{Multipath}
 
 -- how many hops a path has, one fewer than places

@@ -2,16 +2,16 @@
 use Rattle.std.specs.Prelude.{ℕ, ◌≤◌, List, Option}
 use Rattle.std.specs.Option.{ForSome}
 use Rattle.net_base.specs.Network.{PlainNet}
-use Rattle.net_index.specs.Neighbours.{is_held}
+use Rattle.location_names.specs.Neighbours.{is_held}
 use Rattle.policy_base.specs.declared.limits.TheConstants.{ALTERNATIVES}
 use Rattle.policy_base.specs.Meaning.{alternative_count}
 use Rattle.policy_base.specs.Policies.{PlainStatement, policy_of}
-use Rattle.stable_paths.specs.Scenarios.{failures_of}
-use Rattle.stable_paths.specs.Situations.{IsSituation}
-use Rattle.stable_paths.specs.declared.situation.Situation.{Situation}
-use Rattle.report_lines.specs.Claims.{sources_of, statement_in}
-use Rattle.report_lines.specs.Lines.{Shown}
-use Rattle.report_lines.specs.Report.{shown_of}
+use Rattle.scenarios.specs.Scenarios.{failures_of}
+use Rattle.scenarios.specs.Situations.{IsSituation}
+use Rattle.scenarios.specs.declared.situation.Situation.{Situation}
+use Rattle.outcome_report.specs.Claims.{sources_of, statement_in}
+use Rattle.outcome_report.specs.Lines.{Shown}
+use Rattle.outcome_report.specs.Report.{shown_of}
 use Rattle.multipath_report.specs.Texts.{router_line, session_line}
 use Rattle.multipath_report.specs.declared.told.Told.{Told}
 

@@ -1,13 +1,13 @@
 //! The links over which no packet goes.
 ghost use Rattle.std.specs.Prelude.{◌≡◌, IfOk, filter, not};
 ghost use Rattle.multipath_law.specs.Carried.{live_links as links_that_live};
-ghost use Rattle.stable_paths.specs.Scenarios.{failures_of};
-ghost use Rattle.stable_paths.specs.Situations.{IsSituation};
+ghost use Rattle.scenarios.specs.Scenarios.{failures_of};
+ghost use Rattle.scenarios.specs.Situations.{IsSituation};
 ghost use Rattle.multipath_report.specs.Idle.{is_used_in, offered_over};
 
+use location_names::is_near;
 use net_base::{List, Loc, LocSet};
-use net_index::is_near;
-use stable_paths::Situation;
+use scenarios::Situation;
 use std::alloc::{AllocError, Global};
 
 /// The links that live.

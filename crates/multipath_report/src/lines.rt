@@ -4,23 +4,23 @@ ghost use Rattle.std.specs.List.{flat_map};
 ghost use Rattle.std.specs.Option.{ForSome};
 ghost use Rattle.net_base.specs.Locations.{numbers_below};
 ghost use Rattle.net_base.specs.Sets.{holds};
-ghost use Rattle.net_index.specs.Neighbours.{is_held};
+ghost use Rattle.location_names.specs.Neighbours.{is_held};
 ghost use Rattle.policy_base.specs.declared.limits.TheConstants.{ALTERNATIVES};
 ghost use Rattle.policy_base.specs.Meaning.{alternative_count};
 ghost use Rattle.policy_base.specs.Policies.{policy_of};
-ghost use Rattle.report_lines.specs.Claims.{sources_of, statement_in};
-ghost use Rattle.report_lines.specs.Lines.{rank_by};
+ghost use Rattle.outcome_report.specs.Claims.{sources_of, statement_in};
+ghost use Rattle.outcome_report.specs.Lines.{rank_by};
 ghost use Rattle.multipath_report.specs.Texts.{count_line, idle_line, offer_text, sends_text, state_text};
 ghost use Rattle.multipath_report.specs.Told.{IsTold, net_in, router_line_in, session_line_in, shown_in, statement_for};
 
 use crate::parts::{push_hops, push_rank, push_set};
 use crate::told::Told;
+use input_output::NoMemory;
 use net_base::{Loc, Net};
-use outside::NoMemory;
-use report_lines::{Claims, push_next, push_source, with_front};
-use stable_paths::Situation;
+use outcome_report::{Claims, push_next, push_source, with_front};
+use scenarios::Situation;
 use std::alloc::{AllocError, Global};
-use text_words::{push_bytes, push_number};
+use text_parts::{push_bytes, push_number};
 
 /// The rank of a router's path, where the router is claimed.
 fn claimed_rank(net: &Net, claims: &Claims<'_>, at: Loc, path: &[Loc]) -> Option<u32>

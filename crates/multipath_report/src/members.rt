@@ -2,14 +2,14 @@
 ghost use Rattle.std.specs.Prelude.{◌≡◌, ◌<◌, ◌||◌, ◌&&◌, ◌==◌, ℕ, IfOk, length, option_map};
 ghost use Rattle.net_base.specs.declared.limits.TheConstants.{LOCATIONS};
 ghost use Rattle.net_base.specs.Network.{linked};
-ghost use Rattle.net_index.specs.Neighbours.{is_held};
-ghost use Rattle.stable_paths.specs.Readings.{route_of};
-ghost use Rattle.stable_paths.specs.Situations.{IsSituation};
+ghost use Rattle.location_names.specs.Neighbours.{is_held};
+ghost use Rattle.scenarios.specs.Readings.{route_of};
+ghost use Rattle.scenarios.specs.Situations.{IsSituation};
 ghost use Rattle.multipath_report.specs.Members.{member_in, ties};
 
 use config_base::Route;
 use net_base::{Loc, LocSet};
-use stable_paths::{Imported, Situation};
+use scenarios::{Imported, Situation};
 use std::alloc::{AllocError, Global};
 
 /// Whether what a location is given ties with the route that it holds, in preference and in the number of AS numbers.

@@ -2,15 +2,15 @@
 ghost use Rattle.std.specs.Prelude.{◌≡◌, ◌++◌, ◌-◌, [], OnOk, filter, if◌then◌else◌, length};
 ghost use Rattle.std.specs.List.{flat_map};
 ghost use Rattle.net_base.specs.Locations.{in_order};
-ghost use Rattle.net_index.specs.Neighbours.{is_held};
-ghost use Rattle.report_lines.specs.Lines.{next_name};
+ghost use Rattle.location_names.specs.Neighbours.{is_held};
+ghost use Rattle.outcome_report.specs.Lines.{next_name};
 ghost use Rattle.multipath_report.specs.Texts.{hops_text, next_text, rank_text};
 
+use input_output::NoMemory;
+use location_names::is_near;
 use net_base::{Loc, LocSet, Net};
-use net_index::is_near;
-use outside::NoMemory;
-use report_lines::push_next;
-use text_words::{push_bytes, push_number};
+use outcome_report::push_next;
+use text_parts::{push_bytes, push_number};
 
 /// How many hops a path has, one fewer than places.
 fn hops(path: &[Loc]) -> usize

@@ -1,15 +1,15 @@
 //! Where packets go in an outcome.
 ghost use Rattle.std.specs.Prelude.{IfOk};
 ghost use Rattle.policy_base.specs.Policies.{policy_of};
-ghost use Rattle.stable_paths.specs.Scenarios.{failures_of};
-ghost use Rattle.stable_paths.specs.Situations.{IsSituation};
+ghost use Rattle.scenarios.specs.Scenarios.{failures_of};
+ghost use Rattle.scenarios.specs.Situations.{IsSituation};
 ghost use Rattle.multipath_law.specs.Carried.{IsMultipath};
 
 use crate::idle::{idle_among, live_links};
 use crate::members::member_sets;
 use multipath_law::Multipath;
 use net_base::{List, known_net};
-use stable_paths::Situation;
+use scenarios::Situation;
 use std::alloc::{AllocError, Global};
 
 /// Where packets go in an outcome if routers spread them over their multipath sets: the sets, the live links over which none goes, and how many

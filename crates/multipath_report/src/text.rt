@@ -2,18 +2,17 @@
 ghost use Rattle.std.specs.Prelude.{IfOk};
 ghost use Rattle.policy_base.specs.Policies.{IsPolicyOf, policy_of};
 ghost use Rattle.evidence_law.specs.Passes.{Passes};
-ghost use Rattle.stable_paths.specs.Scenarios.{failures_of};
-ghost use Rattle.stable_paths.specs.Situations.{IsSituation};
+ghost use Rattle.scenarios.specs.Scenarios.{failures_of};
+ghost use Rattle.scenarios.specs.Situations.{IsSituation};
 ghost use Rattle.multipath_report.specs.Texts.{IsMultipathText};
 
 use crate::lines::{push_count, push_idle, push_routers, push_sessions};
 use crate::told::Told;
-use config_made::class_of;
-use evidence_base::Evidence;
+use evidence_base::{Evidence, class_of};
+use input_output::NoMemory;
 use multipath_law::Multipath;
-use outside::NoMemory;
-use report_lines::{claims_of, push_head};
-use stable_paths::Situation;
+use outcome_report::{claims_of, push_head};
+use scenarios::Situation;
 use std::alloc::Global;
 
 /// The text of where packets go in an outcome, under a configuration for which the evidence passes: the prefix and its class, a line for each router in

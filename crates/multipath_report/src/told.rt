@@ -1,7 +1,7 @@
 //! What is told.
 use net_base::LocSet;
-use report_lines::Claims;
-use stable_paths::Situation;
+use outcome_report::Claims;
+use scenarios::Situation;
 
 /// An outcome with what it is of, its multipath sets, and the sources that are claimed for its prefix.
 #[derive(Drop)]

@@ -9,8 +9,8 @@ use Rattle.std.proofs.lemmas.Bool.Decides.{nat_tests}
 use Rattle.std.proofs.lemmas.List.Sorted.{IsPartitionPoint-from_clause}
 use Rattle.std.proofs.lemmas.List.Sums.{position_or_len_is}
 use Rattle.net_base.specs.Network.{PlainNet, IsLink, IsBefore, Ascend, joins, ordered, same_ends, is_before}
-use Rattle.list_laws.proofs.Numbers.{eqb_comm}
-use Rattle.list_laws.proofs.Truth.{or_failed}
+use Rattle.list_law.proofs.Numbers.{eqb_comm}
+use Rattle.list_law.proofs.Truth.{or_failed}
 
 -- a link that stands before another has a lesser first end, or the same one and a lesser second
 split : (a b : ℕ × ℕ) → IsBefore a b → (a.0 < b.0) ⊎ ((a.0 ≡ b.0) × (a.1 < b.1))

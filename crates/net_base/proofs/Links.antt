@@ -3,9 +3,9 @@ use Rattle.std.proofs.Common.{◌≡◌, ◌∙◌, ◌⊎◌, ℕ, ◌+◌, tru
 use Rattle.std.specs.Prelude.{◌==◌, ◌&&◌, ◌||◌}
 use Rattle.std.specs.List.{list_any, position}
 use Rattle.std.proofs.lemmas.Bool.{and_from, and_parts, eq-eqb, eqb-true, lt-ltb, or_cases, or_left, or_right}
-use Rattle.list_laws.proofs.Each.{AllByRecursion_at}
-use Rattle.list_laws.proofs.Numbers.{eqb_comm}
-use Rattle.list_laws.proofs.Tests.{list_any_parts}
+use Rattle.list_law.proofs.Each.{AllByRecursion_at}
+use Rattle.list_law.proofs.Numbers.{eqb_comm}
+use Rattle.list_law.proofs.Tests.{list_any_parts}
 use Rattle.net_base.specs.Network.{PlainNet, IsNet, IsLink, is_location, joins, linked, same_ends}
 use Rattle.std.proofs.Math.Bool.{or_comm}
 

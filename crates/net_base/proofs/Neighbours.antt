@@ -7,8 +7,8 @@ use Rattle.std.proofs.lemmas.Bool.{ltb-true}
 use Rattle.std.proofs.lemmas.List.Kept.{IsStrictlySortedBy-filter}
 use Rattle.net_base.specs.Network.{PlainNet, IsNet, linked}
 use Rattle.net_base.specs.Locations.{in_order, neighbours}
-use Rattle.list_laws.specs.Members.{IsIn}
-use Rattle.list_laws.proofs.Members.{IsIn-filter_parts, IsIn-filter}
+use Rattle.list_law.specs.Members.{IsIn}
+use Rattle.list_law.proofs.Members.{IsIn-filter_parts, IsIn-filter}
 use Rattle.net_base.proofs.NumbersBelow.{In-numbers_below, number_got, sorted_numbers}
 use Rattle.net_base.proofs.Links.{linked_known}
 

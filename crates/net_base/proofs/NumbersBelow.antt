@@ -9,10 +9,10 @@ use Rattle.std.proofs.lemmas.List.{append-nil, map-append}
 use Rattle.std.proofs.lemmas.List.Elements.{filter-append}
 use Rattle.std.proofs.lemmas.Map.Keys.{sorted_from_strictly_increasing}
 use Rattle.std.proofs.lemmas.Option.{get_or_from_slice_get, slice_get_within}
-use Rattle.list_laws.specs.Members.{IsIn}
-use Rattle.list_laws.proofs.Apart.{Apart, Apart-append}
-use Rattle.list_laws.proofs.Items.{slice_get-append_left, slice_get-there}
-use Rattle.list_laws.proofs.Members.{AllByRecursion-from_IsIn, IsIn-nil, IsIn-push_cases}
+use Rattle.list_law.specs.Members.{IsIn}
+use Rattle.list_law.proofs.Apart.{Apart, Apart-append}
+use Rattle.list_law.proofs.Items.{slice_get-append_left, slice_get-there}
+use Rattle.list_law.proofs.Members.{AllByRecursion-from_IsIn, IsIn-nil, IsIn-push_cases}
 use Rattle.net_base.specs.Locations.{numbers_below}
 
 pub length-numbers_below : (n : ℕ) → length (numbers_below n) ≡ n

@@ -7,7 +7,7 @@ use Rattle.std.proofs.lemmas.Bool.{eq-eqb, or_right}
 use Rattle.std.proofs.lemmas.Bool.Decides.{eqb_tells}
 use Rattle.std.proofs.lemmas.Nat.Bits.{bit_at_set_same, bit_at_set_other}
 use Rattle.std.proofs.lemmas.List.{get_or-set_same, get_or-set_other}
-use Rattle.list_laws.proofs.Truth.{or_failed}
+use Rattle.list_law.proofs.Truth.{or_failed}
 
 -- the words with the bit of p set
 set_words : List ℕ → ℕ → List ℕ

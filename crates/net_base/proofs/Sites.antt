@@ -6,10 +6,10 @@ use Rattle.std.specs.Option.{option_map_or}
 use Rattle.std.proofs.lemmas.Bool.{eqb-true, cases_lt, ltb-true, ltb-false, leb-true, and_parts, cases_Bool}
 use Rattle.std.proofs.lemmas.List.{length-append}
 use Rattle.std.proofs.lemmas.Option.{slice_get_within, slice_get_cases, slice_get_past}
-use Rattle.list_laws.proofs.Items.{from_behind, from_front, slice_get_in_front}
-use Rattle.list_laws.proofs.Keys.{one_place}
-use Rattle.list_laws.proofs.Each.{AllByRecursion_at}
-use Rattle.list_laws.proofs.Tests.{list_any_parts}
+use Rattle.list_law.proofs.Items.{from_behind, from_front, slice_get_in_front}
+use Rattle.list_law.proofs.Keys.{one_place}
+use Rattle.list_law.proofs.Each.{AllByRecursion_at}
+use Rattle.list_law.proofs.Tests.{list_any_parts}
 use Rattle.net_base.specs.declared.net.Site.{Site}
 use Rattle.net_base.specs.Numbers.{is_router_as, is_peer_as}
 use Rattle.net_base.proofs.NumberRanges.{router_as-range, peer_as-range}

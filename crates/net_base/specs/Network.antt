@@ -51,6 +51,10 @@ site_of net l = slice_get (sites net) l
 abbrev pub is_named : PlainNet → List ℕ → ℕ → Bool
 is_named net name l = option_map_or (λ (site : Site). bytes_eq site.name name) (site_of net l) false
 
+-- the name of a location, or nothing for a number that is none
+abbrev pub name_of : PlainNet → ℕ → List ℕ
+name_of net l = option_map_or (λ (s : Site). s.name) (site_of net l) []
+
 -- the AS number of a location, 0 where the net has no such location
 abbrev pub asn_of : PlainNet → ℕ → ℕ
 asn_of net l = option_map_or (λ (site : Site). site.asn) (site_of net l) 0

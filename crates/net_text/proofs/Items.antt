@@ -3,10 +3,10 @@ use Rattle.std.proofs.Common.{◌≡◌, ℕ, List, ◌++◌, map, refl, sym, ap
 use Rattle.std.specs.Prelude.{codes, nat_lt}
 use Rattle.std.specs.Fmt.{decimal}
 use Rattle.json.specs.Print.{escape_byte}
-use Rattle.json_words.specs.Json.{array_of}
+use Rattle.json_values.specs.Json.{array_of}
 use Rattle.net_base.specs.Network.{PlainNet}
 use Rattle.net_base.specs.declared.net.Site.{Site}
-use Rattle.text_words.specs.Texts.{address_text}
+use Rattle.text_parts.specs.Texts.{address_text}
 use Rattle.net_text.specs.NetText.{link_data, name_at, net_data, net_text, site_data}
 use Rattle.serde_json.specs.Data.{Data, string}
 use Rattle.serde_json.specs.View.{items_of}

@@ -7,12 +7,12 @@ use Rattle.std.specs.Str.{bytes_eq}
 use Rattle.std.proofs.lemmas.Bool.{le-leb, lt-ltb, ltb-true, lt-leb, eqb-true, and_parts}
 use Rattle.std.proofs.lemmas.List.{map-append, length-map, take-append-drop}
 use Rattle.std.proofs.lemmas.Option.{slice_get-map}
-use Rattle.list_laws.proofs.Changed.{map-map}
-use Rattle.list_laws.proofs.Each.{AllByRecursion-push, list_any_breaks}
-use Rattle.list_laws.proofs.Items.{slice_get_inside, drop_from}
-use Rattle.list_laws.proofs.Keys.{others_before}
-use Rattle.list_laws.proofs.Positions.{position-there, list_any-at_position}
-use Rattle.list_laws.proofs.Texts.{bytes_eq_self, bytes_eq_apart}
+use Rattle.list_law.proofs.Changed.{map-map}
+use Rattle.list_law.proofs.Each.{AllByRecursion-push, list_any_breaks}
+use Rattle.list_law.proofs.Items.{slice_get_inside, drop_from}
+use Rattle.list_law.proofs.Keys.{others_before}
+use Rattle.list_law.proofs.Positions.{position-there, list_any-at_position}
+use Rattle.list_law.proofs.Texts.{bytes_eq_self, bytes_eq_apart}
 use Rattle.net_base.specs.Network.{PlainNet, IsNet, IsLink, IsBefore, Ascend, is_before, same_ends, sites}
 use Rattle.net_base.specs.Steps.{each_from}
 use Rattle.net_base.specs.declared.net.Site.{Site}

@@ -8,12 +8,12 @@ use Rattle.std.proofs.lemmas.Bool.{and_parts, lt-ltb, leb-true, eqb-true}
 use Rattle.json.specs.Print.{escape}
 use Rattle.json.proofs.Printed.Strings.{escape_byte_plain}
 use Rattle.json.proofs.Printed.Utf8.{IsUtf8-are_ascii, are_ascii}
-use Rattle.list_laws.proofs.Each.{AllByRecursion-append, AllByRecursion-from_list_all}
+use Rattle.list_law.proofs.Each.{AllByRecursion-append, AllByRecursion-from_list_all}
 use Rattle.net_base.specs.Addresses.{is_figure}
 use Rattle.net_base.specs.NameRule.{is_name, is_name_byte}
-use Rattle.text_words.specs.Texts.{address_text}
-use Rattle.text_words.proofs.NameBytes.{name_bytes}
-use Rattle.text_words.proofs.Numbers.{figure_range, list_all-is_figure}
+use Rattle.text_parts.specs.Texts.{address_text}
+use Rattle.text_parts.proofs.NameBytes.{name_bytes}
+use Rattle.text_parts.proofs.Numbers.{figure_range, list_all-is_figure}
 
 -- a byte that JSON writes as it is
 abbrev pub IsSimple : ℕ → Type 0

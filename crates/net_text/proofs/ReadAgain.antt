@@ -2,10 +2,10 @@
 use Rattle.std.proofs.Common.{◌≡◌, ℕ, ◌+◌, ◌<◌, ◌^◌, List, [], ◌∷◌, length, Some, Ok, refl, arith, length-append}
 use Rattle.std.specs.Prelude.{◌≢◌, IsTrue}
 use Rattle.std.specs.List.{AllByRecursion}
-use Rattle.json_words.specs.Json.{json_of}
-use Rattle.json_words.proofs.ReadAgain.{json_of-line}
-use Rattle.list_laws.proofs.Each.{AllByRecursion-append, AllByRecursion-append_parts, AllByRecursion-weaker, AllByRecursion_at}
-use Rattle.list_laws.proofs.Items.{slice_get_inside}
+use Rattle.json_values.specs.Json.{json_of}
+use Rattle.json_values.proofs.ReadAgain.{json_of-line}
+use Rattle.list_law.proofs.Each.{AllByRecursion-append, AllByRecursion-append_parts, AllByRecursion-weaker, AllByRecursion_at}
+use Rattle.list_law.proofs.Items.{slice_get_inside}
 use Rattle.net_base.specs.NameRule.{is_name}
 use Rattle.net_base.specs.Network.{PlainNet, IsNet, IsLink, sites}
 use Rattle.net_base.specs.Numbers.{is_router_as, is_peer_as}

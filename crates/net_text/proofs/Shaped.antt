@@ -3,11 +3,11 @@ use Rattle.std.proofs.Common.{◌≡◌, ℕ, ◌+◌, ◌<◌, ◌≤◌, ◌^�
 use Rattle.std.specs.Prelude.{IsTrue, ◌≢◌}
 use Rattle.std.specs.List.{AllByRecursion}
 use Rattle.std.proofs.lemmas.Bool.{ne_eqb}
-use Rattle.text_words.proofs.PrefixTexts.{address_of-address_text}
+use Rattle.text_parts.proofs.PrefixTexts.{address_of-address_text}
 use Rattle.json.proofs.Printed.Utf8.{IsUtf8-are_ascii}
-use Rattle.json_words.specs.Plain.{IsPlain}
-use Rattle.json_words.proofs.JsonLists.{list_of-items_of}
-use Rattle.json_words.proofs.PlainItems.{plain_map}
+use Rattle.json_values.specs.Plain.{IsPlain}
+use Rattle.json_values.proofs.JsonLists.{list_of-items_of}
+use Rattle.json_values.proofs.PlainItems.{plain_map}
 use Rattle.serde_json.specs.Data.{items_depth, depth}
 use Rattle.serde_json.specs.View.{items_of}
 use Rattle.serde_json.proofs.OnLiterals.{serde_json_on_literals}

@@ -4,11 +4,11 @@ use Rattle.std.specs.List.{AllByRecursion}
 use Rattle.std.specs.Option.{option_map_or}
 use Rattle.serde_json.specs.Data.{Data, unsigned, number, string, object, no_members, member}
 use Rattle.serde_json.specs.Written.{compact_text}
-use Rattle.json_words.specs.Json.{array_of, texts_data}
+use Rattle.json_values.specs.Json.{array_of, texts_data}
 use Rattle.net_base.specs.NameRule.{is_name}
 use Rattle.net_base.specs.Network.{PlainNet, site_of}
 use Rattle.net_base.specs.declared.net.Site.{Site}
-use Rattle.text_words.specs.Texts.{address_text}
+use Rattle.text_parts.specs.Texts.{address_text}
 
 -- each of them has a name by the rule of names
 abbrev pub HaveNames : List Site → Type 0

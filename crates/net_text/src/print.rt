@@ -2,17 +2,17 @@
 ghost use Rattle.std.specs.Prelude.{◌≡◌, ◌++◌, map, nat_lt, IfOk, IsTrue, OnOk, Ok};
 ghost use Rattle.serde_json.specs.Data.{Data};
 ghost use Rattle.serde_json.specs.Written.{comma_if, compact_text};
-ghost use Rattle.json_words.specs.Json.{array_of};
+ghost use Rattle.json_values.specs.Json.{array_of};
 ghost use Rattle.net_base.specs.NameRule.{is_name};
 ghost use Rattle.net_base.specs.Network.{IsLink};
 ghost use Rattle.net_text.specs.NetText.{HaveNames, link_data, net_text, site_data};
-ghost use Rattle.text_words.specs.Texts.{address_text};
+ghost use Rattle.text_parts.specs.Texts.{address_text};
 ghost use Rattle.topology.specs.Topology.{spelled};
 
+use input_output::NoMemory;
 use net_base::{Loc, Name, Net, Site};
-use outside::NoMemory;
 use std::alloc::Global;
-use text_words::{push_address, push_bytes, push_name, push_number};
+use text_parts::{push_address, push_bytes, push_name, push_number};
 
 // Adds a comma before every item but the first one.
 fn push_comma(text: &mut Vec<u8>, place: usize) -> Result<(), NoMemory>

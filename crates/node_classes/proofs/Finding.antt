@@ -6,10 +6,10 @@ use Rattle.std.specs.List.{list_any}
 use Rattle.std.proofs.lemmas.Bool.{and_parts, cases_lt, true≢false}
 use Rattle.std.proofs.lemmas.List.{length-map}
 use Rattle.std.proofs.lemmas.Option.{slice_get_within, same_Some}
-use Rattle.list_laws.specs.Members.{IsIn}
-use Rattle.list_laws.proofs.Items.{slice_get_in_front, slice_get_inside}
-use Rattle.list_laws.proofs.Members.{IsIn-push, IsIn-push_cases, list_any_member}
-use Rattle.list_laws.proofs.Options.{cases_Option, option_and_then_parts}
+use Rattle.list_law.specs.Members.{IsIn}
+use Rattle.list_law.proofs.Items.{slice_get_in_front, slice_get_inside}
+use Rattle.list_law.proofs.Members.{IsIn-push, IsIn-push_cases, list_any_member}
+use Rattle.list_law.proofs.Options.{cases_Option, option_and_then_parts}
 use Rattle.node_classes.specs.declared.way.Way.{Way}
 use Rattle.node_classes.specs.Classes as tied
 use Rattle.node_classes.specs.Meets.{AreMet, with_pair, with_pairs}

@@ -5,7 +5,7 @@ use Rattle.std.specs.Prelude.{◌==◌, is_some, min, max, option_and_then}
 use Rattle.std.specs.List.{AllByRecursion}
 use Rattle.std.proofs.lemmas.Bool.{cases_Bool, cases_lt, ne_eqb}
 use Rattle.std.proofs.lemmas.List.{length-append}
-use Rattle.list_laws.proofs.Members.{AllByRecursion-from_IsIn}
+use Rattle.list_law.proofs.Members.{AllByRecursion-from_IsIn}
 use Rattle.node_classes.specs.declared.way.Way.{Way}
 use Rattle.node_classes.specs.Classes.{AreApart}
 use Rattle.node_classes.specs.Classes as tied

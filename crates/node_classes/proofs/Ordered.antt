@@ -11,13 +11,13 @@ use Rattle.std.proofs.lemmas.Cmp.{nat_cmp_total, on_total, then_total}
 use Rattle.std.proofs.lemmas.List.Sorted.{IsPermutation-map, ranks_by, sorted_far}
 use Rattle.std.proofs.lemmas.Map.Keys.{IsDistinct-IsPermutation}
 use Rattle.std.proofs.lemmas.Option.{get_or_from_slice_get, same_Some, slice_get_within}
-use Rattle.list_laws.specs.Members.{IsIn}
-use Rattle.list_laws.proofs.Keys.{place_by_key}
-use Rattle.list_laws.proofs.Members.{AllByRecursion-IsIn, AllByRecursion-from_IsIn}
-use Rattle.list_laws.proofs.Numbers.{eqb_comm}
-use Rattle.list_laws.proofs.Options.{option_map_parts}
-use Rattle.list_laws.proofs.Orders.{nat_cmp-lesser}
-use Rattle.list_laws.proofs.Tests.{find_from, find_parts}
+use Rattle.list_law.specs.Members.{IsIn}
+use Rattle.list_law.proofs.Keys.{place_by_key}
+use Rattle.list_law.proofs.Members.{AllByRecursion-IsIn, AllByRecursion-from_IsIn}
+use Rattle.list_law.proofs.Numbers.{eqb_comm}
+use Rattle.list_law.proofs.Options.{option_map_parts}
+use Rattle.list_law.proofs.Orders.{nat_cmp-lesser}
+use Rattle.list_law.proofs.Tests.{find_from, find_parts}
 use Rattle.node_classes.specs.declared.way.Way.{Way}
 use Rattle.node_classes.specs.Ways.{Ascend, IsAbove, next, same_pair, stand, way_order}
 

@@ -4,7 +4,7 @@ use Rattle.std.specs.Prelude.{nat_lt, nat_le, filter}
 use Rattle.std.specs.List.{AllByRecursion}
 use Rattle.std.specs.List.Sorted.{IsPartitionedBy, IsPartitionPoint}
 use Rattle.std.proofs.lemmas.Bool.{ltb-true, ltb-false, leb-true, leb-false, lt-ltb, le-leb, eqb-true, eq-eqb, false_from_ne_true}
-use Rattle.list_laws.proofs.SortedRuns.{points_ordered, run_between}
+use Rattle.list_law.proofs.SortedRuns.{points_ordered, run_between}
 use Rattle.node_classes.specs.declared.way.Way.{Way}
 use Rattle.node_classes.specs.Ways.{IsAbove, Ascend, BeginsAt, comes_from}
 

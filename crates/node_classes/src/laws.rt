@@ -1,6 +1,6 @@
 //! What classes and ways in order say.
 ghost use Rattle.std.specs.Prelude.{◌≡◌, ◌↔◌, ℕ, List, Some};
-ghost use Rattle.list_laws.specs.Members.{IsIn};
+ghost use Rattle.list_law.specs.Members.{IsIn};
 ghost use Rattle.node_classes.specs.declared.way.Way.{Way as PlainWay};
 ghost use Rattle.node_classes.specs.Classes.{AreClasses, AreOneClass, Tied};
 ghost use Rattle.node_classes.specs.Ways.{Ascend, follow, next};

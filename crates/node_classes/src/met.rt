@@ -1,6 +1,6 @@
 //! The pairs of nodes to which one list of places leads.
 ghost use Rattle.std.specs.Prelude.{◌≡◌, ◌↔◌, ℕ, List, IfOk, OnOk, is_some, length};
-ghost use Rattle.list_laws.specs.Members.{IsIn};
+ghost use Rattle.list_law.specs.Members.{IsIn};
 ghost use Rattle.node_classes.specs.Meets.{AreMet, with_pairs};
 ghost use Rattle.node_classes.specs.Stages.{targets};
 ghost use Rattle.node_classes.specs.Ways.{Ascend, follow};

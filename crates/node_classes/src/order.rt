@@ -1,7 +1,7 @@
 //! Ways in order.
 ghost use Rattle.std.specs.Prelude.{◌↔◌, map};
 ghost use Rattle.std.specs.List.{IsDistinct};
-ghost use Rattle.list_laws.specs.Members.{IsIn};
+ghost use Rattle.list_law.specs.Members.{IsIn};
 ghost use Rattle.node_classes.specs.declared.way.Way.{Way as PlainWay};
 ghost use Rattle.node_classes.specs.Ways.{Ascend, same_pair, stand};
 

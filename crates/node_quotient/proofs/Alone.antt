@@ -1,9 +1,9 @@
 -- A graph in which no two nodes have one location and one rank is its own quotient.
 use Rattle.std.proofs.Common.{◌≡◌, ℕ, zero, suc, ◌+◌, Bool, true, ◌&&◌, List, [], ◌∷◌, length, map, filter, refl, sym, ap, ap₂, ◌∙◌, arith, map-id}
 use Rattle.std.proofs.lemmas.Bool.{cond-true, eq-eqb}
-use Rattle.list_laws.proofs.Changed.{map_same}
-use Rattle.list_laws.proofs.Kept.{kept_below-kept}
-use Rattle.list_laws.specs.Counts.{kept_below}
+use Rattle.list_law.proofs.Changed.{map_same}
+use Rattle.list_law.proofs.Kept.{kept_below-kept}
+use Rattle.list_law.specs.Counts.{kept_below}
 use Rattle.graph_base.specs.declared.graph.Node.{Node}
 use Rattle.graph_base.specs.Graphs.{PlainGraph}
 use Rattle.reach_prune.specs.Trimmed.{both_kept, graph_kept, nodes_kept, renumbered}

@@ -2,7 +2,7 @@
 use Rattle.std.proofs.Common.{◌≡◌, ◌⊎◌, ℕ, ◌<◌, ◌≤◌, Bool, true, false, ◌==◌, List, [], ◌∷◌, ◌++◌, filter, refl, sym, ap, ◌∙◌, subst, inl, inr, arith}
 use Rattle.std.specs.List.{list_any, AllByRecursion}
 use Rattle.std.proofs.lemmas.Bool.{cases_Bool, or_cases, or_left, or_right, cond-true, cond-false, eq-eqb, eqb-true, both_ways}
-use Rattle.list_laws.proofs.Each.{AllByRecursion-filter}
+use Rattle.list_law.proofs.Each.{AllByRecursion-filter}
 use Rattle.reach_prune.specs.Searches.{is_among}
 use Rattle.node_quotient.specs.Alike.{Ascends}
 

@@ -5,7 +5,7 @@ use Rattle.std.specs.List.{find}
 use Rattle.std.proofs.lemmas.List.{get_or_append_left, get_or_default, length-append, length-map}
 use Rattle.std.proofs.Math.Seq.{get_or-append_seam}
 use Rattle.std.proofs.lemmas.Bool.{cases_eq, cases_lt}
-use Rattle.list_laws.proofs.Options.{option_eq-is, is-option_eq}
+use Rattle.list_law.proofs.Options.{option_eq-is, is-option_eq}
 use Rattle.graph_base.specs.declared.graph.Node.{Node}
 use Rattle.graph_base.specs.Graphs.{PlainGraph}
 use Rattle.graph_base.specs.Runs.{place_of, rank_at}

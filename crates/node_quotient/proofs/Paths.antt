@@ -5,7 +5,7 @@ use Rattle.std.specs.Prelude.{◌||◌, is_some, nat_eq}
 use Rattle.std.specs.Option.{option_eq}
 use Rattle.std.proofs.lemmas.Bool.{both_ways, false_from_ne_true, not-false, not-true, or_cases, or_parts}
 use Rattle.std.proofs.lemmas.List.{length-append}
-use Rattle.list_laws.proofs.Options.{is-option_eq, is_some_from, is_some_parts, none_or_some, option_eq-is}
+use Rattle.list_law.proofs.Options.{is-option_eq, is_some_from, is_some_parts, none_or_some, option_eq-is}
 use Rattle.graph_base.specs.Graphs.{PlainGraph, IsGraph}
 use Rattle.graph_base.specs.Least.{least_below}
 use Rattle.graph_base.specs.Runs.{place_of, rank_at, step_at}

@@ -3,9 +3,9 @@
 use Rattle.std.proofs.Common.{◌≡◌, ◌≢◌, ◌⊎◌, ℕ, zero, suc, ◌<◌, ◌≤◌, Bool, true, false, not, length, refl, sym, ◌∙◌, subst, inl, inr, arith}
 use Rattle.std.specs.Prelude.{◌&&◌, is_none, is_some}
 use Rattle.std.proofs.lemmas.Bool.{and_from, and_parts, both_ways, cases_Bool, cases_order, false_from_ne_true, not-true, not_from_false}
-use Rattle.list_laws.specs.Counts.{kept_below}
-use Rattle.list_laws.proofs.Kept.{kept_below-less, kept_below-one_more}
-use Rattle.list_laws.proofs.Options.{cases_Option, is_none_from, is_none_parts, is_some_from, is_some_parts, none_or_some}
+use Rattle.list_law.specs.Counts.{kept_below}
+use Rattle.list_law.proofs.Kept.{kept_below-less, kept_below-one_more}
+use Rattle.list_law.proofs.Options.{cases_Option, is_none_from, is_none_parts, is_some_from, is_some_parts, none_or_some}
 use Rattle.graph_base.specs.Graphs.{PlainGraph, IsGraph}
 use Rattle.graph_base.specs.Least.{least_below}
 use Rattle.graph_base.specs.Runs.{place_of}

@@ -1,7 +1,7 @@
 -- Where a node has at most one step to a location, the step there is the one that is found.
 use Rattle.std.proofs.Common.{◌≡◌, ℕ, true, ◌&&◌, ◌==◌, option_map, Some, refl, ap, ◌∙◌}
 use Rattle.std.proofs.lemmas.Bool.{and_from, eq-eqb}
-use Rattle.list_laws.proofs.Tests.{find_from}
+use Rattle.list_law.proofs.Tests.{find_from}
 use Rattle.graph_base.specs.Graphs.{PlainGraph}
 use Rattle.graph_base.specs.Refuting.{HasSingleSteps}
 use Rattle.graph_base.specs.Runs.{place_of, has_step, step_at}

@@ -3,7 +3,7 @@ ghost use Rattle.std.specs.Prelude.{◌≡◌, ◌<◌, ◌&&◌, All, length, n
 ghost use Rattle.std.specs.List.{find};
 ghost use Rattle.node_quotient.specs.Alike.{AreInside, are_alike, are_in_step, has_class as is_class_in, lacks_class as is_class_lacked};
 
-use node_list::NodeList;
+use bit_rows::NodeList;
 
 /// Whether a node of the list is of this class.
 fn has_class(list: &[u32], least: &[u32], class: u32) -> bool

@@ -3,7 +3,7 @@ ghost use Rattle.std.specs.Prelude.{◌≡◌, ◌<◌, ◌≤◌, All, IfOk, le
 ghost use Rattle.graph_base.specs.declared.graph.TheConstants.{MAX_NODES};
 ghost use Rattle.node_quotient.specs.Splits.{AreGroups};
 
-use node_list::{NodeList, empty_lists};
+use bit_rows::{NodeList, empty_lists};
 use std::alloc::{AllocError, Global};
 
 /// For each number below a bound the nodes that have it as their key, in ascending order.

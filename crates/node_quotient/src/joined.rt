@@ -10,9 +10,9 @@ ghost use Rattle.node_quotient.specs.Rounds.{AreClasses};
 
 use crate::partition::split_classes;
 use crate::round::next_round;
+use bit_rows::NodeList;
 use graph_base::Graph;
-use node_list::NodeList;
-use outside::NoMemory;
+use input_output::NoMemory;
 use reach_prune::{Way, neighbours};
 use std::alloc::{AllocError, Global};
 

@@ -11,8 +11,8 @@ ghost use Rattle.node_quotient.specs.Rounds.{AreClasses};
 ghost use Rattle.node_quotient.specs.Splits.{AreSplit, has_mark, is_hit};
 
 use crate::grouping::grouped;
+use bit_rows::NodeList;
 use graph_base::Graph;
-use node_list::NodeList;
 use std::alloc::{AllocError, Global};
 
 /// Nodes in classes that bear the numbers of their least nodes, and the classes by which others are still to be split.

@@ -9,8 +9,8 @@ ghost use Rattle.node_quotient.specs.Quotient.{AreLeast, IsQuotient, led_to};
 use crate::first::{first_classes, is_each_alone};
 use crate::joined::least_joined;
 use graph_base::{Graph, Node};
+use input_output::NoMemory;
 use net_base::List;
-use outside::NoMemory;
 use reach_prune::kept;
 use std::alloc::{AllocError, Global};
 

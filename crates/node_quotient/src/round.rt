@@ -4,7 +4,7 @@ ghost use Rattle.graph_base.specs.declared.graph.TheConstants.{MAX_NODES};
 ghost use Rattle.node_quotient.specs.Alike.{AreFirst, AreInside, class_in};
 
 use crate::alike::first_alike;
-use node_list::{NodeList, empty_lists};
+use bit_rows::{NodeList, empty_lists};
 use std::alloc::{AllocError, Global};
 
 /// For each node the first one that is alike.

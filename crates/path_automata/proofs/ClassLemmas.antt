@@ -7,7 +7,7 @@ use Rattle.std.proofs.lemmas.Bool.{and_parts, and_from, cases_order, ltb-true}
 use Rattle.std.proofs.lemmas.List.Folds.{list_all-append}
 use Rattle.std.proofs.lemmas.Option.{slice_get_within, slice_get_read, get_or_from_slice_get, same_Some}
 use Rattle.std.proofs.lemmas.List.{map-append, take_all, get_or-set_same, get_or-set_other}
-use Rattle.list_laws.proofs.Items.{slice_get_in_front}
+use Rattle.list_law.proofs.Items.{slice_get_in_front}
 use lib.Pointwise.{pointwise}
 use Rattle.std.proofs.Math.Bool.{beq}
 use Rattle.std.proofs.lemmas.Nat.{div-mul-add}

@@ -3,7 +3,7 @@ use Rattle.std.proofs.Common.{◌≡◌, ℕ, ◌<◌, Bool, true, false, cond, 
 use Rattle.std.specs.Prelude.{IfSome, slice_get, ◌==◌, nat_lt}
 use Rattle.std.proofs.lemmas.Bool.{and_parts, eqb-true, ltb-true}
 use Rattle.std.specs.Ordering.{is_eq}
-use Rattle.list_laws.proofs.Orders.{is_eq-Equal}
+use Rattle.list_law.proofs.Orders.{is_eq-Equal}
 use Rattle.path_exprs.specs.Order.{compare}
 use Rattle.path_exprs.specs.Ordered.{compare-equal}
 use Rattle.path_exprs.specs.Total.{compare_itself}

@@ -9,8 +9,8 @@ ghost use Rattle.path_automata.specs.Derived.{AreDerivatives};
 use crate::derived::{note, recall};
 use crate::shortcuts::{front, joined};
 use indexmap::IndexMap;
+use input_output::NoMemory;
 use net_base::Loc;
-use outside::NoMemory;
 use path_terms::{Term, Terms, both_of, complement_of, either_of, holds_empty};
 use std::alloc::Global;
 

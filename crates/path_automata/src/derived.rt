@@ -6,8 +6,8 @@ ghost use Rattle.path_automata.specs.Classes.{IsClassed};
 ghost use Rattle.path_automata.specs.Derived.{AreDerivatives};
 
 use indexmap::IndexMap;
+use input_output::NoMemory;
 use net_base::Loc;
-use outside::NoMemory;
 use path_terms::Terms;
 
 /// The class of a location, where it has one.

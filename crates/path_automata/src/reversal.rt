@@ -6,8 +6,8 @@ ghost use Rattle.path_exprs.specs.View.{view, views};
 ghost use Rattle.path_terms.specs.Terms.{are_known, Extends};
 ghost use Rattle.path_terms.specs.Values.{values, value};
 
+use input_output::NoMemory;
 use net_base::LocSet;
-use outside::NoMemory;
 use path_exprs::Expr;
 use path_terms::{Term, Terms, both_of, complement_of, either_of, set_of, star_of};
 use std::alloc::Global;

@@ -5,7 +5,7 @@ ghost use Rattle.path_exprs.specs.Normal.{after, either_of as either_spec, is_ne
 ghost use Rattle.path_terms.specs.Terms.{is_empty as is_empty_test, Extends};
 ghost use Rattle.path_terms.specs.Values.{values, value};
 
-use outside::NoMemory;
+use input_output::NoMemory;
 use path_terms::{Term, Terms, either_of};
 use std::alloc::Global;
 

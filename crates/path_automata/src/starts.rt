@@ -8,8 +8,8 @@ ghost use Rattle.path_exprs.specs.Runs.{start_of};
 ghost use Rattle.path_terms.specs.Values.{values, value};
 
 use crate::reversal::reversal_of;
+use input_output::NoMemory;
 use net_base::LocSet;
-use outside::NoMemory;
 use path_exprs::{Part, RankedExpr};
 use path_terms::{Terms, both_of, complement_of, either_of};
 use std::alloc::Global;

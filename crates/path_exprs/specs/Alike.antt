@@ -3,7 +3,7 @@ use Rattle.std.proofs.Common.{◌≡◌, true, IsTrue, ap}
 use Rattle.std.specs.Cmp.{IsTotalOrder, IsEquivalence}
 use Rattle.std.specs.Ordering.{is_eq, on, eq_by_cmp}
 use Rattle.std.proofs.lemmas.Cmp.{on_total, eq_by_cmp_equiv}
-use Rattle.list_laws.proofs.Orders.{is_eq-Equal}
+use Rattle.list_law.proofs.Orders.{is_eq-Equal}
 use Rattle.path_exprs.specs.declared.expr.Expr.{Expr}
 use Rattle.path_exprs.specs.Order.{compare}
 use Rattle.path_exprs.specs.View.{view}

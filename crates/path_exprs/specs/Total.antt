@@ -7,7 +7,7 @@ use base.Stored.{coded_via}
 use Rattle.std.specs.Ordering.{nat_cmp, ordering_then, on}
 use Rattle.std.specs.Cmp.Lexicographic.{slice_cmp}
 use Rattle.std.proofs.lemmas.Cmp.{nat_list_cmp_total, on_total, tied_itself}
-use Rattle.list_laws.proofs.Orders.{ordering_then-last, ordering_then_assoc}
+use Rattle.list_law.proofs.Orders.{ordering_then-last, ordering_then_assoc}
 use Rattle.path_exprs.specs.Expression.{Expression, never, empty, set, seq, either, both, complement, star, Expressions, none, more}
 use Rattle.path_exprs.specs.Order.{compare, compare_lists}
 use Rattle.path_exprs.specs.Ordered.{compare-equal}

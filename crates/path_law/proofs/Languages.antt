@@ -1,7 +1,7 @@
 -- Laws of languages.
 use Rattle.std.proofs.Common.{◌≡◌, ℕ, List, [], ◌∷◌, Bool, true, false, ◌&&◌, ◌||◌, refl, sym, ap, ◌∙◌}
 use Rattle.std.proofs.Math.Bool.{and-false, and-or_distrib_right, and-true, and_assoc, or-false, and-or_distrib_left}
-use Rattle.list_laws.proofs.Truth.{or_or_or_comm}
+use Rattle.list_law.proofs.Truth.{or_or_or_comm}
 use Rattle.path_exprs.specs.Language.{Language, nothing, divides, goes_on, repeats}
 
 -- the two hold the same lists

@@ -6,7 +6,7 @@ use Rattle.std.specs.Ordering.{match_ordering}
 use Rattle.std.specs.List.{list_any, flat_map}
 use Rattle.std.proofs.lemmas.Bool.{or_cases}
 use Rattle.std.proofs.Math.Bool.{and-false, and-true, and_assoc, or-false, or-true, or_assoc, or_self_left, and_self_left, not-not}
-use Rattle.list_laws.proofs.Truth.{and_left_comm, or_left_comm}
+use Rattle.list_law.proofs.Truth.{and_left_comm, or_left_comm}
 use Rattle.path_exprs.specs.Expression.{Expression, never, empty, set, seq, either, both, complement, Expressions, none, more, expressions_of, list_of}
 use Rattle.path_exprs.specs.Order.{compare}
 use Rattle.path_exprs.specs.Language.{Language, divides}

@@ -6,7 +6,7 @@ use Rattle.net_base.specs.declared.loc.LocSet.{LocSet}
 use Rattle.net_base.specs.Sets.{holds}
 use Rattle.std.specs.List.{list_all}
 use Rattle.std.proofs.Math.Bool.{and-or_distrib_right, and_assoc, or_self_left, and-or_distrib_left}
-use Rattle.list_laws.proofs.Truth.{or_or_or_comm}
+use Rattle.list_law.proofs.Truth.{or_or_or_comm}
 
 pub goes_on-none : (p : Language) (xs : List ℕ) → goes_on p (λ ys. false) xs ≡ false
 goes_on-none p [] = refl

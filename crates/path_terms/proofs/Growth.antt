@@ -19,7 +19,7 @@ use Rattle.path_terms.specs.declared.term.Term.{Term}
 use Rattle.path_terms.specs.declared.term.Term.TheVariants.{Never, Empty, Set, Seq, Either, Both, Not, Star}
 use Rattle.path_terms.specs.Terms.{at, node, grow, expressions, ascending, are_members, is_sound, each_sound, AreApart, Extends, Among}
 use Rattle.std.proofs.lemmas.Slice.Eq.{bytes_eq-Decides}
-use Rattle.list_laws.proofs.Texts.{bytes_eq_self}
+use Rattle.list_law.proofs.Texts.{bytes_eq_self}
 use Rattle.path_terms.proofs.Same.{same, itself}
 use Rattle.path_terms.proofs.Numbers.{among-all, same_numbers, In-map, map-In, In-sorted, sorted-In}
 

@@ -10,7 +10,7 @@ use Rattle.path_exprs.proofs.Lists.{list_of-expressions_of}
 use Rattle.path_exprs.proofs.Numbers.{known-append, known-more, known-one}
 use Rattle.path_law.proofs.Sorting.{In}
 use Rattle.path_terms.specs.Joined.{expression, from, is_whole, joined, nothing, parts, term, whole}
-use Rattle.path_terms.specs.Terms.{at, ascending, are_known, are_members, is_sound, node, AreApart, IsSettled}
+use Rattle.path_terms.specs.Terms.{at, ascending, are_known, are_members, is_sound, node, AreApart, IsAscendingOf}
 use Rattle.path_terms.specs.declared.join.Join.{Join}
 use Rattle.path_terms.specs.declared.join.Join.TheVariants.{AnyOf, AllOf}
 use Rattle.path_terms.proofs.Numbers.{In-sorted}
@@ -37,7 +37,7 @@ parts-expression AnyOf es = refl
 parts-expression AllOf es = refl
 
 -- Each member adds its parts. One part may absorb the others; elsewhere the expression is made from the sorted parts.
-module _ (j : Join) (vs : List Expression) (old new ms : List ℕ) (settled : IsSettled old new) (same : sorted (map (at vs) old) ≡ sorted (flat_map (parts j) (map (at vs) ms))) where
+module _ (j : Join) (vs : List Expression) (old new ms : List ℕ) (settled : IsAscendingOf old new) (same : sorted (map (at vs) old) ≡ sorted (flat_map (parts j) (map (at vs) ms))) where
   abbrev all : List Expression
   all = sorted (flat_map (parts j) (map (at vs) ms))
 

@@ -15,11 +15,11 @@ use Rattle.std.proofs.lemmas.List.Kept.{IsStrictlySortedBy-dedup, Contains-dedup
 use Rattle.std.proofs.lemmas.List.Sorted.{Contains-permutation, IsPermutation-sym}
 use Rattle.path_exprs.specs.Expression.{Expression, never, either, both, expressions_of}
 use Rattle.path_exprs.specs.Normal.{sorted, either_parts}
-use Rattle.list_laws.proofs.Truth.{same_tests}
+use Rattle.list_law.proofs.Truth.{same_tests}
 use Rattle.path_law.proofs.Sorting.{In, same_members, ascends-sorted}
 use Rattle.path_terms.specs.declared.term.Term.{Term}
 use Rattle.path_terms.specs.declared.term.Term.TheVariants.{Never, Empty, Set, Seq, Either, Both, Not, Star}
-use Rattle.path_terms.specs.Terms.{at, node, ascending, are_known, Among, IsSettled}
+use Rattle.path_terms.specs.Terms.{at, node, ascending, are_known, Among, IsAscendingOf}
 use Rattle.path_terms.proofs.Numbers.{among-all, In-map, map-In, In-sorted, sorted-In}
 use lib.Dec.{eqb}
 
@@ -98,9 +98,9 @@ ascends (x ∷ xs) s = and_from (list_all (λ m. nat_lt x m) xs) (ascending xs) 
     below [] b = refl
     below (y ∷ ys) b = and_from (nat_lt x y) (list_all (λ m. nat_lt x m) ys) (lt-ltb x y (ranked x y Less (sym b.0))) (below ys b.1)
 
-pub settled : (old mid new : List ℕ) → IsPermutation old mid → IsSorted nat_cmp mid → new ≡ dedup eqb mid → IsSettled old new
+pub settled : (old mid new : List ℕ) → IsPermutation old mid → IsSorted nat_cmp mid → new ≡ dedup eqb mid → IsAscendingOf old new
 settled old mid new p s e =
-    subst (IsSettled old) (sym e) (
+    subst (IsAscendingOf old) (sym e) (
       ascends (dedup eqb mid) (IsStrictlySortedBy-dedup nat_cmp_total ties mid s),
       (λ n i. from_Contains (dedup eqb mid) n (Contains-dedup_nat mid n (Contains-permutation old mid n p (to_Contains old n i)))),
       (λ n i. from_Contains old n (Contains-permutation mid old n (IsPermutation-sym old mid p) (Contains-from_dedup eqb mid n (to_Contains (dedup eqb mid) n i)))),
@@ -114,7 +114,7 @@ settled old mid new p s e =
         by_order Equal h m = eq-eqb x y (ranked x y Equal (sym h)) ∙ sym (ap is_eq h)
         by_order Greater h m = let gt = ranked x y Greater (sym h) in ne_eqb x y (λ q. omega (arith, gt, q)) ∙ sym (ap is_eq h)
 
-pub sorted-settled : (vs : List Expression) (old new : List ℕ) → IsSettled old new → sorted (map (at vs) new) ≡ sorted (map (at vs) old)
+pub sorted-settled : (vs : List Expression) (old new : List ℕ) → IsAscendingOf old new → sorted (map (at vs) new) ≡ sorted (map (at vs) old)
 sorted-settled vs old new s =
     sorted-same (map (at vs) new) (map (at vs) old)
     (λ g i. let r = map-In vs g new i in subst (λ e. In e (map (at vs) old)) (sym r.2) (In-map vs r.0 old (s.2 r.0 r.1)))
@@ -124,7 +124,7 @@ all-among : (p : ℕ → Bool) (ms : List ℕ) → ((n : ℕ) → Among n ms →
 all-among p [] h = refl
 all-among p (m ∷ ms) h = and_from (p m) (list_all p ms) (h m (inl refl)) (all-among p ms (λ n i. h n (inr i)))
 
-pub known-settled : (k : ℕ) (old new : List ℕ) → IsSettled old new → are_known k old ≡ true → are_known k new ≡ true
+pub known-settled : (k : ℕ) (old new : List ℕ) → IsAscendingOf old new → are_known k old ≡ true → are_known k new ≡ true
 known-settled k old new s h = all-among (λ n. nat_lt n k) new (λ n i. among-all (λ m. nat_lt m k) n old h (s.2 n i))
 
 -- a member that passes a test

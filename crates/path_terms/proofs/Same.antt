@@ -2,7 +2,7 @@
 use Rattle.std.proofs.Common.{◌≡◌, Bool, true, refl}
 use Rattle.std.specs.Prelude.{◌==◌}
 use Rattle.std.proofs.lemmas.Bool.{and_from, eq-eqb}
-use Rattle.list_laws.proofs.Texts.{bytes_eq_self}
+use Rattle.list_law.proofs.Texts.{bytes_eq_self}
 use Rattle.path_terms.specs.declared.term.Term.{Term}
 use Rattle.path_terms.specs.declared.term.Term.TheVariants.{Never, Empty, Set, Seq, Either, Both, Not, Star}
 use Rattle.path_terms.specs.contracts.term.TermPartialEq.TheImpl as block

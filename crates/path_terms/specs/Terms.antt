@@ -63,5 +63,5 @@ Among n [] = ⊥
 Among n (m ∷ ms) = (n ≡ m) ⊎ Among n ms
 
 -- the same members in ascending order, without repeats
-abbrev pub IsSettled : List ℕ → List ℕ → Type 0
-IsSettled old new = (ascending new ≡ true) × ((n : ℕ) → Among n old → Among n new) × ((n : ℕ) → Among n new → Among n old)
+abbrev pub IsAscendingOf : List ℕ → List ℕ → Type 0
+IsAscendingOf old new = (ascending new ≡ true) × ((n : ℕ) → Among n old → Among n new) × ((n : ℕ) → Among n new → Among n old)

@@ -6,7 +6,7 @@ ghost use Rattle.path_terms.specs.Values.{values, value};
 
 use crate::store::Terms;
 use crate::term::Term;
-use outside::NoMemory;
+use input_output::NoMemory;
 
 /// Whether the term of a number is Not(Never).
 pub fn is_all(terms: &Terms, number: u32) -> bool

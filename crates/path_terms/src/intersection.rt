@@ -7,7 +7,7 @@ ghost use Rattle.path_terms.specs.Values.{values, value};
 use crate::alternation::is_all;
 use crate::store::Terms;
 use crate::term::Term;
-use outside::NoMemory;
+use input_output::NoMemory;
 
 /// What a member adds to an intersection: here the expression of every list adds nothing.
 pub(crate) fn add_parts(terms: &Terms, number: u32, all: &mut Vec<u32>) -> Result<(), NoMemory>

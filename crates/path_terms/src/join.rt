@@ -3,13 +3,13 @@ ghost use Rattle.std.specs.Prelude.{◌≡◌, ◌<◌, ◌++◌, true, length, 
 ghost use Rattle.std.specs.List.{flat_map, list_any};
 ghost use Rattle.path_exprs.specs.Normal.{both_of as both_spec, either_of as either_spec, sorted};
 ghost use Rattle.path_terms.specs.Joined.{joined as joined_spec, is_whole as is_whole_test, nothing as nothing_spec, parts, term as term_spec, whole as whole_spec};
-ghost use Rattle.path_terms.specs.Terms.{are_known, Extends, IsSettled};
+ghost use Rattle.path_terms.specs.Terms.{are_known, Extends, IsAscendingOf};
 ghost use Rattle.path_terms.specs.Values.{values, value};
 
 use crate::alternation::{everything, is_all};
 use crate::store::Terms;
 use crate::term::Term;
-use outside::NoMemory;
+use input_output::NoMemory;
 use std::alloc::Global;
 
 /// What joins members.
@@ -109,7 +109,7 @@ fn flat(terms: &Terms, alloc: Global, join: Join, members: &[u32]) -> Result<Vec
 
 /// In ascending order and without repeats.
 fn settle(numbers: &mut Vec<u32>)
-    ensures { IsSettled numbers.old.items numbers.new.items }
+    ensures { IsAscendingOf numbers.old.items numbers.new.items }
 {
     numbers.sort_unstable();
     numbers.dedup();

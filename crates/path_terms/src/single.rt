@@ -8,8 +8,8 @@ ghost use Rattle.path_terms.specs.Values.{values, value};
 use crate::alternation::{everything, is_all};
 use crate::store::Terms;
 use crate::term::Term;
+use input_output::NoMemory;
 use net_base::LocSet;
-use outside::NoMemory;
 
 /// The normal form of a set.
 pub fn set_of(terms: &mut Terms, set: &LocSet) -> Result<u32, NoMemory>

@@ -4,7 +4,7 @@ ghost use Rattle.path_terms.specs.Terms.{each_sound, AreApart, expressions};
 
 use crate::term::Term;
 use indexmap::IndexSet;
-use outside::NoMemory;
+use input_output::NoMemory;
 use std::alloc::Global;
 
 /// Terms, each with a number of its own. What a term stands for is an expression, and no expression has two numbers.

@@ -5,7 +5,7 @@ use Rattle.std.proofs.Math.Numerals.{add-one}
 use Rattle.std.specs.Prelude.{Option, ◌&&◌, ◌==◌, if◌then◌else◌}
 use Rattle.std.specs.List.{position_or_len}
 use Rattle.std.proofs.lemmas.Bool.{cases_Bool}
-use Rattle.list_laws.proofs.Positions.{position_or_len-first, position_or_len-next}
+use Rattle.list_law.proofs.Positions.{position_or_len-first, position_or_len-next}
 use Rattle.net_base.specs.declared.loc.LocSet.{LocSet}
 use Rattle.net_base.specs.Sets.{same_set}
 use Rattle.net_base.specs.Prefixes.{PlainPrefix}

@@ -4,9 +4,9 @@ use Rattle.std.specs.Prelude.{◌&&◌, ◌||◌, ◌==◌, nat_le, nat_lt, if�
 use Rattle.std.specs.List.{list_any}
 use Rattle.std.proofs.lemmas.Bool.{cases_Bool, le-leb, le-ltb, leb-true, eqb-true, eq-eqb, lt-leb}
 use Rattle.std.proofs.Math.Bool.{and-true, and-false, and-or_distrib_left}
-use Rattle.list_laws.proofs.Truth.{or_or_or_comm, if_same}
-use Rattle.list_laws.proofs.Numbers.{nat_lt_more, eqb_comm}
-use Rattle.list_laws.proofs.Tests.{list_any-never, list_any-same}
+use Rattle.list_law.proofs.Truth.{or_or_or_comm, if_same}
+use Rattle.list_law.proofs.Numbers.{nat_lt_more, eqb_comm}
+use Rattle.list_law.proofs.Tests.{list_any-never, list_any-same}
 use Rattle.net_base.specs.Prefixes.{PlainPrefix, PlainPattern, contains}
 use Rattle.policy_base.specs.Policies.{PlainStatement}
 use Rattle.policy_base.specs.Governing.{some_contains, governing_from}

@@ -4,9 +4,9 @@ use Rattle.std.specs.Prelude.{◌&&◌, ◌||◌, ◌==◌, if◌then◌else◌}
 use Rattle.std.specs.List.{list_any, position_or_len}
 use Rattle.std.proofs.lemmas.Bool.{cases_Bool}
 use Rattle.std.proofs.lemmas.Slice.Eq.{bytes_eq-Decides}
-use Rattle.list_laws.proofs.Numbers.{eqb_comm}
-use Rattle.list_laws.proofs.Positions.{position_or_len-first, position_or_len-next}
-use Rattle.list_laws.proofs.Truth.{same_tests}
+use Rattle.list_law.proofs.Numbers.{eqb_comm}
+use Rattle.list_law.proofs.Positions.{position_or_len-first, position_or_len-next}
+use Rattle.list_law.proofs.Truth.{same_tests}
 use Rattle.net_base.specs.declared.loc.LocSet.{LocSet}
 use Rattle.net_base.specs.Sets.{same_set}
 use Rattle.policy_base.specs.declared.policy.Origin.{Origin}

@@ -12,8 +12,8 @@ use Rattle.policy_base.specs.declared.policy.Origin.{Origin}
 use Rattle.policy_base.specs.Policies.{PlainPolicy, PlainStatement, statement_at}
 use Rattle.policy_base.specs.Governing.{governing, governing_from, some_contains}
 use Rattle.policy_base.specs.Cases.{case_list, external_cases, is_originated, originated_cases, with_governed, with_prefix}
-use Rattle.list_laws.specs.Members.{IsIn}
-use Rattle.list_laws.proofs.Each.{AllByRecursion_at}
+use Rattle.list_law.specs.Members.{IsIn}
+use Rattle.list_law.proofs.Each.{AllByRecursion_at}
 use Rattle.policy_base.specs.CaseOrigins.{AreOrigins}
 use Rattle.policy_base.specs.CaseNumbers.{OriginsAreRouters}
 use Rattle.net_base.proofs.RoutersAndPeers.{router_known}

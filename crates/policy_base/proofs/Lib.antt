@@ -6,5 +6,6 @@ pub mod PlaceLemmas
 pub mod RankLemmas
 pub mod RankPlaces
 pub mod RankingViews
+pub mod StatementNumbers
 pub mod WalkParts
 pub mod KnownCases

@@ -13,7 +13,7 @@ use Rattle.policy_base.specs.Meaning.{alternatives, alternative_count, some_test
 use Rattle.policy_base.proofs.RankLemmas.{some_test-pairs}
 use Rattle.policy_base.proofs.RankPlaces.{place_of-append, place_of-pairs, length-alternatives, place_of_none}
 use Rattle.std.proofs.Math.Nat.{zero-mul, mul-zero}
-use Rattle.list_laws.proofs.Numbers.{le-mul_left, le-mul_right}
+use Rattle.list_law.proofs.Numbers.{le-mul_left, le-mul_right}
 
 pub ranking_of-Call : (c : Call) → ranking_of (OneCall c) ≡ call c
 ranking_of-Call c = search (rules, the_lemmas)

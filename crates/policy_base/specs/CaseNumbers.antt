@@ -6,7 +6,7 @@ use Rattle.policy_base.specs.declared.case.Case.{Case}
 use Rattle.policy_base.specs.declared.policy.Origin.{Origin}
 use Rattle.policy_base.specs.Cases.{case_list}
 use Rattle.policy_base.specs.Policies.{PlainPolicy, PlainStatement, statement_at}
-use Rattle.list_laws.specs.Members.{IsIn}
+use Rattle.list_law.specs.Members.{IsIn}
 use Rattle.policy_base.specs.CaseOrigins.{AreOrigins}
 
 -- each `originate` item names routers alone

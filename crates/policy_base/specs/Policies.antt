@@ -1,7 +1,7 @@
 -- Policies without where they lie in memory.
 use Rattle.std.specs.Prelude.{ℕ, ◌≤◌, IsTrue, List, length, map, sum_by, zero, suc, Option, None, slice_get}
 use Rattle.std.specs.List.{IsDistinct}
-use Rattle.list_laws.specs.Members.{IsIn}
+use Rattle.list_law.specs.Members.{IsIn}
 use Rattle.policy_base.specs.declared.limits.TheConstants.{STATEMENTS, PATTERNS, PREFIXES, ORIGINS}
 use Rattle.net_base.specs.Network.{PlainNet, is_router}
 use Rattle.net_base.specs.Prefixes.{PlainPattern, IsPattern, IsPrefix, same_prefix}

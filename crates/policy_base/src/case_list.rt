@@ -12,8 +12,8 @@ use crate::case::{Case, CaseList};
 use crate::fronts::Governors;
 use crate::policy::{Origin, Policy, Statement};
 use indexmap::IndexSet;
+use input_output::NoMemory;
 use net_base::{List, LocSet, Net, Pattern, Prefix};
-use outside::NoMemory;
 use std::alloc::Global;
 
 // A case of one prefix.

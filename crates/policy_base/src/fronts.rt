@@ -10,8 +10,8 @@ ghost use Rattle.policy_base.specs.Governing.{governing as governing_number};
 
 use crate::policy::Policy;
 use indexmap::IndexMap;
+use input_output::NoMemory;
 use net_base::{Pattern, Prefix};
-use outside::NoMemory;
 use std::alloc::Global;
 
 /// The first `len` bits of prefixes that are `of` bits long.

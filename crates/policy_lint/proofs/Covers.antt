@@ -7,8 +7,8 @@ use Rattle.std.proofs.lemmas.Option.{none-some, same_Some}
 use Rattle.net_base.specs.Prefixes.{PlainPrefix, PlainPattern}
 use Rattle.policy_base.specs.Governing.{governing_from, some_contains}
 use Rattle.policy_base.specs.Policies.{PlainPolicy, PlainStatement}
-use Rattle.pattern_cover.specs.Statements.{IsCoveredAt}
-use Rattle.pattern_cover.proofs.Covering.{in_either, in_front, in_rest}
+use Rattle.lint_cover.specs.Statements.{IsCoveredAt}
+use Rattle.lint_cover.proofs.Covering.{in_either, in_front, in_rest}
 use Rattle.policy_lint.specs.Findings.{IsCoveredStatement}
 
 abbrev patterns_of : PlainStatement → List PlainPattern

@@ -3,7 +3,7 @@ use Rattle.std.proofs.Common.{◌≡◌, ℕ, suc, Bool, true, false, Some, sym,
 use Rattle.std.specs.Prelude.{◌↔◌, ◌==◌, IsTrue, not}
 use Rattle.std.specs.List.{list_any}
 use Rattle.std.proofs.lemmas.Bool.{eq-eqb, eqb-true, not-true, not_from_false, true≢false, false_from_ne_true}
-use Rattle.list_laws.proofs.Members.{list_any-from_IsIn, list_any_member}
+use Rattle.list_law.proofs.Members.{list_any-from_IsIn, list_any_member}
 use Rattle.net_base.specs.Network.{PlainNet}
 use Rattle.policy_base.specs.declared.case.Case.{Case}
 use Rattle.policy_base.specs.Cases.{case_list}

@@ -6,7 +6,7 @@ use Rattle.std.specs.Str.{bytes_eq}
 use Rattle.std.proofs.lemmas.Bool.{cases_Bool}
 use Rattle.std.proofs.lemmas.List.Sums.{count_by-le-length, count_by_more_no, count_by_more_yes}
 use Rattle.std.proofs.lemmas.Slice.Eq.{bytes_eq-Decides}
-use Rattle.list_laws.proofs.Items.{drop_from, slice_get_inside}
+use Rattle.list_law.proofs.Items.{drop_from, slice_get_inside}
 use Rattle.policy_tokens.specs.declared.token.Token.{Token}
 use Rattle.policy_lint.specs.Groups.{group_in, group_names, named, times, token_text}
 

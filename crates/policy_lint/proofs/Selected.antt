@@ -2,8 +2,8 @@
 use Rattle.std.proofs.Common.{◌≡◌, Bool, true, false, List, [], ◌∷◌, ◌++◌, map, refl, sym, ap, subst, ◌∙◌, inl, inr, cond}
 use Rattle.std.specs.Prelude.{◌↔◌, IsTrue, filter}
 use Rattle.std.proofs.lemmas.Bool.{false≢true}
-use Rattle.list_laws.specs.Members.{IsIn}
-use Rattle.list_laws.proofs.Members.{IsIn-later}
+use Rattle.list_law.specs.Members.{IsIn}
+use Rattle.list_law.proofs.Members.{IsIn-later}
 use Rattle.policy_lint.specs.Selected.{AreThose}
 
 module _ {A : Type 0} (Holds : A → Type 0) where

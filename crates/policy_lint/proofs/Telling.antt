@@ -4,7 +4,7 @@ use Rattle.std.specs.Prelude.{filter, slice_get, if◌then◌else◌}
 use Rattle.std.specs.List.{range_with_len}
 use Rattle.std.proofs.lemmas.List.{map-append}
 use Rattle.std.proofs.lemmas.List.Elements.{filter-append, filter_more}
-use Rattle.list_laws.proofs.Items.{drop_from}
+use Rattle.list_law.proofs.Items.{drop_from}
 use Rattle.policy_base.specs.Meaning.{alternative_count}
 use Rattle.policy_base.specs.Policies.{PlainStatement}
 use Rattle.bit_rows.specs.Tables.{PlainRows}

@@ -4,8 +4,8 @@ use Rattle.std.specs.Prelude.{◌↔◌, IsTrue, filter, not, slice_get, if◌th
 use Rattle.std.specs.List.{range_with_len}
 use Rattle.std.proofs.lemmas.Bool.{cases_Bool, false_from_ne_true, not-true, not_from_false, true≢false}
 use Rattle.std.proofs.lemmas.Option.{slice_get_within}
-use Rattle.list_laws.specs.Members.{IsIn}
-use Rattle.list_laws.proofs.Members.{IsIn-map_parts, IsIn-cons_cases, IsIn-nil}
+use Rattle.list_law.specs.Members.{IsIn}
+use Rattle.list_law.proofs.Members.{IsIn-map_parts, IsIn-cons_cases, IsIn-nil}
 use Rattle.policy_base.specs.declared.limits.TheConstants.{ALTERNATIVES}
 use Rattle.net_base.specs.Network.{PlainNet}
 use Rattle.policy_base.specs.Meaning.{alternative_count}
@@ -13,10 +13,10 @@ use Rattle.policy_base.specs.Policies.{PlainPolicy, PlainStatement}
 use Rattle.policy_tokens.specs.declared.token.Token.{Token}
 use Rattle.policy_tokens.specs.Tokens.{tokens_of}
 use Rattle.bit_rows.specs.Tables.{PlainRows, has_at}
-use Rattle.case_ranks.specs.Limits.{AreAllWithin}
-use Rattle.case_ranks.specs.Marks.{AreReached}
-use Rattle.case_ranks.proofs.Within.{few_alternatives}
-use Rattle.pattern_cover.specs.Statements.{AreMarked}
+use Rattle.lint_ranks.specs.Limits.{AreAllWithin}
+use Rattle.lint_ranks.specs.Marks.{AreReached}
+use Rattle.lint_ranks.proofs.Within.{few_alternatives}
+use Rattle.lint_cover.specs.Statements.{AreMarked}
 use Rattle.policy_lint.specs.declared.finding.Finding.{Finding}
 use Rattle.policy_lint.specs.declared.finding.Finding.TheVariants.{UnusedGroup, Covered, Idle, Unreached}
 use Rattle.policy_lint.specs.Findings.{AreFindings, IsFinding, alternatives_from, all_parts, numbers}

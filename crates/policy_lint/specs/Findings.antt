@@ -1,7 +1,7 @@
 -- Parts of a policy that can never matter.
 use Rattle.std.specs.Prelude.{◌≡◌, ◌≢◌, ℕ, ◌+◌, ◌<◌, IsTrue, List, [], ◌∷◌, ◌++◌, length, map, Some, Ok}
 use Rattle.std.specs.List.{range_with_len}
-use Rattle.list_laws.specs.Members.{IsIn}
+use Rattle.list_law.specs.Members.{IsIn}
 use Rattle.net_base.specs.Network.{PlainNet}
 use Rattle.net_base.specs.Prefixes.{PlainPrefix, IsPrefix}
 use Rattle.policy_base.specs.declared.case.Case.{Case}
@@ -11,7 +11,7 @@ use Rattle.policy_base.specs.Meaning.{alternative_count}
 use Rattle.policy_base.specs.Policies.{PlainPolicy, PlainStatement, statement_at}
 use Rattle.policy_tokens.specs.declared.token.Token.{Token}
 use Rattle.policy_tokens.specs.Tokens.{tokens_of}
-use Rattle.case_ranks.specs.Reached.{IsReached}
+use Rattle.lint_ranks.specs.Reached.{IsReached}
 use Rattle.policy_lint.specs.declared.finding.Finding.{Finding}
 use Rattle.policy_lint.specs.declared.finding.Finding.TheVariants.{UnusedGroup, Covered, Idle, Unreached}
 use Rattle.policy_lint.specs.Groups.{group_names, is_unused}

@@ -5,8 +5,8 @@ ghost use Rattle.policy_lint.specs.declared.finding.Finding.TheVariants as findi
 ghost use Rattle.policy_lint.specs.Groups.{count_of, group_in as group_of, group_names as names_of, is_unused, named, times, token_text as text_of};
 
 use crate::finding::{Finding, push_if};
+use input_output::NoMemory;
 use net_base::Name;
-use outside::NoMemory;
 use policy_tokens::Token;
 use std::alloc::{AllocError, Global};
 use std::collections::HashMap;

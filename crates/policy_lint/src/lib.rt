@@ -7,8 +7,8 @@ mod groups;
 mod laws;
 mod statements;
 
-pub use case_ranks::{LintRefusal, compile_refusal};
 pub use finding::Finding;
 pub use findings::lint;
 pub use laws::one_list_of_findings_is_told;
-pub use pattern_cover::covered_by;
+pub use lint_cover::covered_by;
+pub use lint_ranks::{LintRefusal, compile_refusal};

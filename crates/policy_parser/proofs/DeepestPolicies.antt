@@ -3,7 +3,7 @@ use Rattle.std.proofs.Common.{◌≡◌, ℕ, suc, ◌+◌, ◌≤◌, List, [],
 use Rattle.std.specs.Prelude.{IfOk, sum_by}
 use Rattle.std.specs.List.{AllByRecursion}
 use Rattle.std.proofs.lemmas.List.Sums.{sum_by-cons, sum_by-append}
-use Rattle.list_laws.proofs.Each.{AllByRecursion-push}
+use Rattle.list_law.proofs.Each.{AllByRecursion-push}
 use Rattle.net_base.specs.declared.loc.LocSet.{LocSet}
 use Rattle.policy_tokens.specs.declared.kind.Kind.TheVariants as kind
 use Rattle.net_base.specs.Network.{PlainNet}

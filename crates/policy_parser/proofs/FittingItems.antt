@@ -4,7 +4,7 @@ use Rattle.std.specs.Prelude.{slice_get, if◌then◌else◌}
 use Rattle.std.specs.List.{AllByRecursion, position}
 use Rattle.std.specs.Str.{bytes_eq}
 use Rattle.std.proofs.lemmas.Option.{option_and_then_some}
-use Rattle.list_laws.proofs.Each.{AllByRecursion-push, AllByRecursion_at}
+use Rattle.list_law.proofs.Each.{AllByRecursion-push, AllByRecursion_at}
 use Rattle.net_base.specs.declared.loc.LocSet.{LocSet}
 use Rattle.net_base.specs.declared.net.Site.{Site}
 use Rattle.net_base.specs.declared.place.Place.{Place}

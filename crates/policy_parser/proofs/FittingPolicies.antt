@@ -20,8 +20,8 @@ use Rattle.policy_parser.specs.Spelled.{items_spelled, names_spelled, rules_kept
 use Rattle.policy_parser.proofs.BuiltParts.{rules_parts, origins_parts, policy_parts}
 use Rattle.policy_parser.proofs.BuiltPolicies.{is_policy}
 use Rattle.policy_parser.proofs.SpelledPrefixes.{spelled-HavePrefixes}
-use Rattle.list_laws.specs.Members.{IsIn}
-use Rattle.list_laws.proofs.Each.{AllByRecursion_at}
+use Rattle.list_law.specs.Members.{IsIn}
+use Rattle.list_law.proofs.Each.{AllByRecursion_at}
 use Rattle.net_base.proofs.HeldSets.{AreBelow}
 use Rattle.policy_parser.proofs.FittingItems.{names_below}
 use Rattle.policy_parser.proofs.FittingRouters.{AreAtRouters, origins_at_routers}

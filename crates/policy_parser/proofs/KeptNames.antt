@@ -4,8 +4,8 @@ use Rattle.std.specs.Prelude.{⊤, nat_lt, slice_get}
 use Rattle.std.specs.List.{position, position_or_len, prefix_len}
 use Rattle.std.specs.Str.{bytes_eq}
 use Rattle.std.proofs.lemmas.Option.{cond_some}
-use Rattle.list_laws.proofs.Items.{slice_get_in_front}
-use Rattle.list_laws.proofs.Options.{option_and_then_parts}
+use Rattle.list_law.proofs.Items.{slice_get_in_front}
+use Rattle.list_law.proofs.Options.{option_and_then_parts}
 use Rattle.net_base.specs.declared.loc.LocSet.{LocSet}
 use Rattle.net_base.specs.declared.place.Place.{Place}
 use Rattle.net_base.specs.Steps.{◌>>=◌, or_fault}

@@ -1,7 +1,7 @@
 -- How many `not` stand one in another in the steps of an expression that is read: one, and one more for each open bracket.
 use Rattle.std.proofs.Common.{◌≡◌, ℕ, zero, suc, List, [], ◌∷◌, ◌++◌, length, Option, Some, None, Ok, refl, sym, ap, ◌∙◌, subst, append_assoc}
 use Rattle.std.specs.List.{AllByRecursion}
-use Rattle.list_laws.proofs.Each.{AllByRecursion-push}
+use Rattle.list_law.proofs.Each.{AllByRecursion-push}
 use Rattle.net_base.specs.declared.place.Place.{Place}
 use Rattle.net_base.specs.Steps.{◌>>=◌}
 use Rattle.net_base.proofs.StepLemmas.{bind_ok, ok_same}

@@ -4,7 +4,7 @@ use Rattle.std.specs.Prelude.{◌==◌, ◌&&◌, sum_by}
 use Rattle.std.specs.List.{AllByRecursion, IsDistinct}
 use Rattle.std.specs.Str.{bytes_eq}
 use Rattle.std.proofs.lemmas.Bool.{and_parts, eqb-true, le-leb}
-use Rattle.text_words.specs.Texts.{prefix_text}
+use Rattle.text_parts.specs.Texts.{prefix_text}
 use Rattle.net_base.specs.Network.{PlainNet, sites, is_router}
 use Rattle.net_base.specs.Prefixes.{PlainPrefix, PlainPattern, IsPrefix, IsPattern, only}
 use Rattle.policy_grammar.specs.declared.lexeme.Lexeme.{Lexeme}
@@ -28,7 +28,7 @@ use Rattle.policy_text.proofs.Readings.{Pairs}
 use Rattle.policy_text.proofs.ReadSets.{AreNamesOf}
 use Rattle.policy_text.proofs.ReadItems.{IsRawPattern, IsRawFrom, IsRawStatement}
 use Rattle.policy_text.proofs.Lookups.{site_names}
-use Rattle.text_words.proofs.PrefixTexts.{prefix_spelled-prefix_text, length_number-decimal}
+use Rattle.text_parts.proofs.PrefixTexts.{prefix_spelled-prefix_text, length_number-decimal}
 use Rattle.policy_text.proofs.BuildSets.{known, IsSet, names_stand, names_known}
 use Rattle.policy_text.proofs.BuildRankings.{IsFine, ranking_there, steps_known, paths_fit, calls_counted}
 use Rattle.policy_text.proofs.BuildRanks.{ranks_kept}

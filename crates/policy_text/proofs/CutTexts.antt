@@ -9,7 +9,7 @@ use Rattle.net_base.specs.NameRule.{is_name}
 use Rattle.net_base.specs.Network.{PlainNet, sites}
 use Rattle.net_base.specs.Prefixes.{PlainPattern, IsPattern, IsPrefix}
 use Rattle.net_base.specs.Sets.{holds}
-use Rattle.text_words.specs.Texts.{prefix_text, pattern_text}
+use Rattle.text_parts.specs.Texts.{prefix_text, pattern_text}
 use Rattle.policy_grammar.specs.declared.symbol.Symbol.{Symbol}
 use Rattle.policy_grammar.specs.declared.symbol.Symbol.TheVariants as symbol
 use Rattle.policy_base.specs.declared.call.Call.{Call}

@@ -2,10 +2,10 @@
 use Rattle.std.proofs.Common.{◌≡◌, ℕ, ◌/◌, ◌%◌, ◌^◌, ◌<◌, ◌≤◌, List, [], ◌∷◌, ◌++◌, length, Bool, true, false, refl, sym, ap, ◌∙◌, arith, append_assoc, append-nil}
 use Rattle.policy_text.proofs.Words.{figure}
 use Rattle.policy_text.proofs.Cuts.{AreAscii}
-use Rattle.text_words.proofs.Numbers.{digits_below, figure_range}
+use Rattle.text_parts.proofs.Numbers.{digits_below, figure_range}
 use Rattle.policy_text.proofs.CutWords.{CutsBefore, CutsBefore-figure}
 use Rattle.std.proofs.lemmas.List.Folds.{list_all-append}
-use Rattle.text_words.specs.Texts.{prefix_text}
+use Rattle.text_parts.specs.Texts.{prefix_text}
 use Rattle.net_base.specs.Prefixes.{PlainPrefix, IsPrefix}
 use Rattle.std.specs.Prelude.{◌&&◌, ◌==◌, not}
 use Rattle.std.specs.List.{list_all}

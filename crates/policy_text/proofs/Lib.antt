@@ -27,3 +27,12 @@ pub mod LocSets
 pub mod SetTexts
 pub mod Premises
 pub mod PrintedPolicies
+pub mod Forms
+pub mod ReadForms
+pub mod Sets
+pub mod PrintedNames
+pub mod Calls
+pub mod Expressions
+pub mod Statements
+pub mod PrintingReadPolicies
+pub mod Counterexamples

@@ -2,10 +2,10 @@
 use Rattle.std.proofs.Common.{◌≡◌, ℕ, ◌+◌, List, [], ◌∷◌, ◌++◌, length, map, false, Some, None, refl, sym, ap, ap₂, ◌∙◌, subst, arith, append_assoc, append-nil}
 use Rattle.std.specs.List.{list_any, AllByRecursion, IsDistinct}
 use Rattle.std.specs.Str.{bytes_eq}
-use Rattle.list_laws.proofs.Texts.{bytes_eq_apart, bytes_eq_self}
-use Rattle.list_laws.proofs.Positions.{position-there}
-use Rattle.list_laws.proofs.Items.{slice_get-there}
-use Rattle.list_laws.proofs.Keys.{others_before}
+use Rattle.list_law.proofs.Texts.{bytes_eq_apart, bytes_eq_self}
+use Rattle.list_law.proofs.Positions.{position-there}
+use Rattle.list_law.proofs.Items.{slice_get-there}
+use Rattle.list_law.proofs.Keys.{others_before}
 use Rattle.net_base.specs.declared.loc.LocSet.{LocSet}
 use Rattle.net_base.specs.declared.net.Site.{Site}
 use Rattle.net_base.specs.Network.{PlainNet, sites}

@@ -3,15 +3,15 @@ use Rattle.std.proofs.Common.{◌≡◌, ℕ, ◌+◌, ◌<◌, ◌≤◌, List,
 use Rattle.std.specs.Prelude.{◌&&◌, ◌==◌, not, nat_le, slice_index}
 use Rattle.std.specs.List.{list_all, prefix_len}
 use Rattle.std.proofs.lemmas.Bool.{and_parts, or_cases, leb-true, lt-leb, ne_eqb, not-true}
-use Rattle.list_laws.proofs.Positions.{prefix_len-append_all}
-use Rattle.list_laws.proofs.Truth.{if_same}
+use Rattle.list_law.proofs.Positions.{prefix_len-append_all}
+use Rattle.list_law.proofs.Truth.{if_same}
 use Rattle.net_base.specs.NameRule.{is_letter, is_name_byte}
 use Rattle.net_base.specs.Addresses.{is_figure}
 use Rattle.net_base.specs.declared.place.Place.{Place}
 use Rattle.policy_tokens.specs.declared.token.TokenKind.{TokenKind}
 use Rattle.policy_tokens.specs.declared.token.TokenKind.TheVariants.{Word, Figure, Arrow, Above}
 use Rattle.policy_tokens.specs.Tokens.{is_blank, is_figure_byte, one_sign, sign_at, piece_at, piece_taken, token_in}
-use Rattle.text_words.proofs.Numbers.{figure_range}
+use Rattle.text_parts.proofs.Numbers.{figure_range}
 use Rattle.policy_text.proofs.Cuts.{BeginsWith, BeginsBlank}
 
 -- no word and no figure goes on with this text

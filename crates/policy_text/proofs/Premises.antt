@@ -15,7 +15,7 @@ use Rattle.policy_base.specs.CallWords.{word_of}
 use Rattle.policy_text.specs.Printable.{IsCallSet, HasCallSets, has_one_set, IsWritable, IsWritableFrom, IsPrintableStatement, IsPrintableOrigin}
 use Rattle.policy_text.specs.Values.{IsLocSet, sets_in, HasLocSets, HasSources, IsOriginValue, IsStatementValue}
 use Rattle.std.proofs.lemmas.Bool.{ltb-true, lt-ltb}
-use Rattle.list_laws.proofs.Each.{AllByRecursion-both}
+use Rattle.list_law.proofs.Each.{AllByRecursion-both}
 use Rattle.policy_text.proofs.ReadCalls.{IsFilled, set_in, IsReadable, HasOne}
 use Rattle.policy_text.proofs.ReadLevels.{IsReadableRanking}
 use Rattle.policy_text.proofs.ReadItems.{IsNamed, HasSources as HasNamed, IsReadableStatement}

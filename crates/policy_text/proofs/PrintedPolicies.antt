@@ -2,7 +2,7 @@
 use Rattle.std.proofs.Common.{◌≡◌, ℕ, ◌≤◌, List, length, Ok, None, refl}
 use Rattle.std.specs.List.{AllByRecursion, IsDistinct}
 use Rattle.std.specs.Str.{bytes_eq}
-use Rattle.list_laws.proofs.Each.{AllByRecursion-both, AllByRecursion-weaker}
+use Rattle.list_law.proofs.Each.{AllByRecursion-both, AllByRecursion-weaker}
 use Rattle.net_base.specs.Network.{PlainNet, IsNet, sites}
 use Rattle.net_base.specs.Prefixes.{IsPrefix, IsPattern}
 use Rattle.policy_tokens.specs.declared.token.Token.{Token}

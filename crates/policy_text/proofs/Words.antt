@@ -5,7 +5,7 @@ use Rattle.net_base.specs.declared.loc.LocSet.{LocSet}
 use Rattle.net_base.specs.Network.{PlainNet}
 use Rattle.net_base.specs.Prefixes.{PlainPattern}
 use Rattle.std.specs.Fmt.{decimal}
-use Rattle.text_words.specs.Texts.{prefix_text}
+use Rattle.text_parts.specs.Texts.{prefix_text}
 use Rattle.policy_grammar.specs.declared.lexeme.Lexeme.{Lexeme}
 use Rattle.policy_grammar.specs.declared.symbol.Symbol.{Symbol}
 use Rattle.policy_grammar.specs.declared.symbol.Symbol.TheVariants as symbol

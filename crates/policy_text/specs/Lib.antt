@@ -1,3 +1,4 @@
 pub mod PolicyText
 pub mod Printable
 pub mod Values
+pub mod Laws

@@ -6,7 +6,7 @@ use Rattle.net_base.specs.declared.net.Site.{Site}
 use Rattle.net_base.specs.Network.{PlainNet, sites}
 use Rattle.net_base.specs.Prefixes.{PlainPattern}
 use Rattle.net_base.specs.Sets.{holds}
-use Rattle.text_words.specs.Texts.{prefix_text, pattern_text}
+use Rattle.text_parts.specs.Texts.{prefix_text, pattern_text}
 use Rattle.policy_base.specs.declared.call.Call.{Call}
 use Rattle.policy_base.specs.declared.call.Call.TheVariants.{Any, Drop, Internal, Link, Path, Of}
 use Rattle.policy_base.specs.CallWords.{word_of, word_text}

@@ -6,11 +6,11 @@ ghost use Rattle.policy_text.specs.PolicyText.{has_sets as call_has_sets, sets_t
 ghost use Rattle.policy_text.specs.Values.{HaveLocSets, IsLocSet, sets_in};
 
 use crate::names::{push_places, push_set};
+use input_output::NoMemory;
 use net_base::{LocSet, Net};
-use outside::NoMemory;
 use policy_base::{Call, SetCall};
 use std::alloc::Global;
-use text_words::push_bytes;
+use text_parts::push_bytes;
 
 // Whether the call has sets.
 fn has_sets(call: &Call) -> bool

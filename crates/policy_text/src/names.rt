@@ -17,10 +17,10 @@ ghost use Rattle.policy_text.specs.PolicyText.{
 };
 ghost use Rattle.policy_text.specs.Values.{IsLocSet};
 
+use input_output::NoMemory;
 use net_base::{Loc, LocSet, Name, Net, Site};
-use outside::NoMemory;
 use std::alloc::Global;
-use text_words::{push_bytes, push_name};
+use text_parts::{push_bytes, push_name};
 
 /// Each name keeps the rule of names, as its type says. It changes nothing: only what it says is asked for.
 pub(crate) fn have_names(sites: &[Site])

@@ -10,11 +10,11 @@ ghost use Rattle.policy_text.specs.Values.{HasSources, IsOriginValue, IsStatemen
 
 use crate::names::{have_names, push_names};
 use crate::ranked::{PREFER, push_ranked};
+use input_output::NoMemory;
 use net_base::{Net, Pattern};
-use outside::NoMemory;
 use policy_base::{FromSet, Origin, Policy, Statement};
 use std::alloc::Global;
-use text_words::{push_bytes, push_pattern, push_prefix};
+use text_parts::{push_bytes, push_pattern, push_prefix};
 
 // Whether the pattern is that of all prefixes.
 fn is_everything(pattern: Pattern) -> bool

@@ -5,11 +5,11 @@ ghost use Rattle.policy_text.specs.PolicyText.{opening, closing, ranking_text};
 ghost use Rattle.policy_text.specs.Values.{HasLocSets};
 
 use crate::call::{push_call, push_calls};
+use input_output::NoMemory;
 use net_base::Net;
-use outside::NoMemory;
 use policy_base::Ranked;
 use std::alloc::Global;
-use text_words::push_bytes;
+use text_parts::push_bytes;
 
 // How strongly the operators bind, and a call.
 pub(crate) const PREFER: u8 = 1;

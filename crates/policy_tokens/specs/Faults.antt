@@ -1,8 +1,8 @@
 -- The numbers of the faults, their words and their values.
 use Rattle.std.specs.Prelude.{ℕ, List, [], ◌++◌, codes}
 use Rattle.std.specs.Fmt.{decimal}
-use Rattle.text_words.specs.Texts.{word_text, at_place}
-use Rattle.text_faults.specs.Telling.{Telling}
+use Rattle.text_parts.specs.Texts.{word_text, at_place}
+use Rattle.text_parts.specs.Telling.{Telling}
 use Rattle.policy_tokens.specs.Kinds.{kind_word}
 use Rattle.policy_tokens.specs.declared.fault.PolicyFault.{PolicyFault}
 use Rattle.policy_tokens.specs.declared.fault.PolicyFault.TheVariants.{NotText, Token, Deep, Syntax, Unknown, Twice, PrefixBad, RankUnder, OriginPeer, OriginTwice, TooMany, NoMemory}

@@ -1,10 +1,9 @@
 //! What is wrong with a policy text.
 use crate::kind::Kind;
+use input_output::NoMemory;
 use net_base::Place;
-use outside::NoMemory;
 use std::alloc::{AllocError, AllocFailed};
-use text_faults::TextFault;
-use text_words::{push_at, push_bytes, push_number, push_word};
+use text_parts::{TextFault, push_at, push_bytes, push_number, push_word};
 
 /// The rule that a policy text breaks: of several the one that stands first here, and of that one the first
 /// token that breaks it.

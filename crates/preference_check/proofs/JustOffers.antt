@@ -6,8 +6,8 @@ use Rattle.std.proofs.lemmas.Bool.{cases_lt, and_parts, and_from, eq-eqb, eqb-tr
 use Rattle.std.proofs.lemmas.List.{get_or_default}
 use Rattle.std.proofs.lemmas.List.Folds.{list_any_at}
 use Rattle.std.proofs.lemmas.Option.{get_or_from_slice_get, slice_get_within}
-use Rattle.list_laws.proofs.Tests.{list_any_parts}
-use Rattle.list_laws.proofs.Truth.{same_tests}
+use Rattle.list_law.proofs.Tests.{list_any_parts}
+use Rattle.list_law.proofs.Truth.{same_tests}
 use Rattle.preference_check.specs.Offers.{is_offer, is_offered}
 use Rattle.preference_check.specs.Rows.{IsLevel, has_upto, is_upto}
 use Rattle.preference_check.specs.declared.offers.Offer.{Offer}

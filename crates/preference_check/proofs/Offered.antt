@@ -6,7 +6,7 @@ use Rattle.std.specs.Option.{option_map, unwrap_or}
 use Rattle.std.proofs.lemmas.Option.{slice_get-get_or, slice_get_past}
 use Rattle.std.proofs.lemmas.List.{get_or_past}
 use Rattle.std.proofs.lemmas.Bool.{cases_lt, and_parts, and_from, eq-eqb, eqb-true, not-true, not_from_false}
-use Rattle.list_laws.proofs.Members.{list_any_member, list_any-from_IsIn}
+use Rattle.list_law.proofs.Members.{list_any_member, list_any-from_IsIn}
 use Rattle.net_base.specs.Network.{PlainNet}
 use Rattle.net_base.specs.Sets.{holds}
 use Rattle.net_base.specs.declared.loc.LocSet.{LocSet}

@@ -6,7 +6,7 @@ use Rattle.std.proofs.lemmas.List.{get_or-set_same, get_or-set_other}
 use Rattle.std.proofs.lemmas.List.Folds.{list_any-append}
 use Rattle.std.proofs.lemmas.Option.{slice_get-get_or}
 use Rattle.std.proofs.Math.Bool.{and-false, or-false}
-use Rattle.list_laws.proofs.Each.{AllByRecursion_at}
+use Rattle.list_law.proofs.Each.{AllByRecursion_at}
 use Rattle.net_base.specs.declared.loc.LocSet.{LocSet}
 use Rattle.graph_base.specs.Graphs.{IsGraph, PlainGraph}
 use Rattle.preference_check.specs.Offers.{is_good, is_offer, is_offered, offer_by_rank, offers_of}

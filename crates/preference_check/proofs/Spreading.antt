@@ -5,7 +5,7 @@ use Rattle.std.proofs.lemmas.Bool.{cases_Bool, or_cases, or_left, or_right, and_
 use Rattle.std.proofs.lemmas.List.{get_or_past}
 use Rattle.std.proofs.lemmas.List.Folds.{list_any-append}
 use Rattle.reach_prune.specs.Searches.{is_among, is_listed}
-use Rattle.preference_check.specs.Floods.{IsSettled, Marks, has_mark}
+use Rattle.preference_check.specs.Floods.{IsBetweenSearches, Marks, has_mark}
 use Rattle.preference_check.specs.Rows.{has_upto}
 use Rattle.preference_check.proofs.RowLemmas.{is_upto_more, is_upto_some}
 use Rattle.preference_check.specs.declared.flood.Flood.{Flood}
@@ -60,7 +60,7 @@ waits_last : (s rest : List ℕ) (a : ℕ) → s ≡ rest ++ a ∷ [] → is_amo
 waits_last s rest a pop = ap (λ x. is_among x a) pop ∙ list_any-append (λ x. eqb x a) rest (a ∷ []) ∙ or_right (is_among rest a) _ (or_left (eqb a a) false (eq-eqb a a refl))
 
 -- it begins
-pub spread_begin : (lists : List (List ℕ)) (number from : ℕ) (old new : Flood) → IsSettled lists number old → Marks number (λ n. eqb from n) old new → IsSpreading lists number from old new
+pub spread_begin : (lists : List (List ℕ)) (number from : ℕ) (old new : Flood) → IsBetweenSearches lists number old → Marks number (λ n. eqb from n) old new → IsSpreading lists number from old new
 spread_begin lists number from old new s m = record {
   size = m.size ∙ s.size;
   waits = λ n h. elim (waiting n h) [ inl none ↦ absurd none | inr t ↦ m.marked n ∙ or_right _ _ t.0 ];
@@ -131,7 +131,7 @@ spread_next lists number from a nodes first old mid new s len same pop listed m 
     ]
 
 -- it ends
-pub spread_end : (lists : List (List ℕ)) (number from : ℕ) (first f : Flood) → IsSpreading lists number from first f → f.waiting.items ≡ [] → IsSettled lists number f
+pub spread_end : (lists : List (List ℕ)) (number from : ℕ) (first f : Flood) → IsSpreading lists number from first f → f.waiting.items ≡ [] → IsBetweenSearches lists number f
 spread_end lists number from first f s done = record {
   size = s.size;
   idle = done;

@@ -25,7 +25,7 @@ pub record Marks (number : ℕ) (nodes : ℕ → Bool) (old new : Flood) : Type 
   pub left : flood_left new ≡ flood_left old
 
 -- between two searches nothing waits, a node that is listed behind one with a mark has no greater one, and no mark is greater than a number
-pub record IsSettled (lists : List (List ℕ)) (number : ℕ) (f : Flood) : Type 0 where
+pub record IsBetweenSearches (lists : List (List ℕ)) (number : ℕ) (f : Flood) : Type 0 where
   pub size : vec_len f.marks ≡ length lists
   pub idle : f.waiting.items ≡ []
   pub closed : (a b v : ℕ) → IsTrue (has_upto f.marks.items a v) → IsTrue (is_listed lists a b) → IsTrue (has_upto f.marks.items b v)

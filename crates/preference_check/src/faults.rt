@@ -13,8 +13,8 @@ use crate::offer_list::OfferList;
 use crate::offers::{Towards, offers_by_rank, offers_by_steps};
 use crate::passing::matching_nodes;
 use graph_base::Graph;
+use input_output::NoMemory;
 use net_base::{LocSet, Net};
-use outside::NoMemory;
 use std::alloc::Global;
 
 /// Whether two nodes stand at one router, the first with a number that is no less.

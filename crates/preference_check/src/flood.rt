@@ -3,7 +3,7 @@ ghost use Rattle.std.specs.Prelude.{◌≡◌, ◌==◌, ◌<◌, All, ℕ, [], 
 ghost use Rattle.reach_prune.specs.Searches.{AreLists};
 ghost use Rattle.preference_check.specs.Rows.{has_upto};
 
-use node_list::NodeList;
+use bit_rows::NodeList;
 use std::alloc::{AllocError, Global};
 
 /// The numbers of the nodes that were come to, and those of these nodes whose neighbours weren't come to yet.
@@ -15,7 +15,7 @@ pub struct Flood {
 
 impl Flood {
     ghost use Rattle.reach_prune.specs.Searches.{is_among};
-    ghost use Rattle.preference_check.specs.Floods.{IsSettled, Marks};
+    ghost use Rattle.preference_check.specs.Floods.{IsBetweenSearches, Marks};
 
     /// Nothing among so many nodes has a mark.
     pub fn new(alloc: Global, size: usize) -> Result<Flood, AllocError>
@@ -55,8 +55,8 @@ impl Flood {
     pub fn spread(&mut self, lists: &[NodeList], from: u32, number: u32) -> Result<(), AllocError>
         requires lists { AreLists lists.now }
         requires from { from < length lists.now }
-        requires settled { IsSettled lists.now number self.old }
-        ensures settled { OnOk result (IsSettled lists.now number self.new) }
+        requires settled { IsBetweenSearches lists.now number self.old }
+        ensures settled { OnOk result (IsBetweenSearches lists.now number self.new) }
         ensures kept { OnOk result ((n v : ℕ) → IsTrue (has_upto self.old.marks.items n v) → IsTrue (has_upto self.new.marks.items n v)) }
         ensures here { OnOk result (IsTrue (has_upto self.new.marks.items from number)) }
     {

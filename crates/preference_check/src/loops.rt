@@ -15,10 +15,10 @@ use crate::faults::is_over;
 use crate::flood::Flood;
 use crate::low_row::LowRow;
 use crate::runs::{Numbered, in_order, nodes_of_routers};
+use bit_rows::NodeList;
 use graph_base::Graph;
+use input_output::NoMemory;
 use net_base::{List, Net};
-use node_list::NodeList;
-use outside::NoMemory;
 use reach_prune::{Way, marked, neighbours};
 use std::alloc::{AllocError, Global};
 

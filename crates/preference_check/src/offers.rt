@@ -5,8 +5,8 @@ ghost use Rattle.preference_check.specs.Offers.{is_good, is_offered, offer_by_ra
 
 use crate::offer_list::{OfferList, no_offers};
 use graph_base::Graph;
+use input_output::NoMemory;
 use net_base::{Loc, LocSet};
-use outside::NoMemory;
 use std::alloc::{AllocError, Global};
 
 /// Something that a node offers at a location: the less it costs, the better.

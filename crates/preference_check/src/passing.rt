@@ -11,8 +11,8 @@ use crate::offer_list::OfferList;
 use crate::offers::Offer;
 use crate::runs::{Numbered, in_order, nodes_of_routers};
 use graph_base::Graph;
+use input_output::NoMemory;
 use net_base::Net;
-use outside::NoMemory;
 use std::alloc::{AllocError, Global};
 
 /// Takes in what the next nodes of a run offer, as far as their numbers are no greater than a number. How many nodes

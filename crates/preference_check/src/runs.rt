@@ -4,8 +4,8 @@ ghost use Rattle.graph_base.specs.Preferences.{number_in};
 ghost use Rattle.preference_check.specs.Runs.{IsAscending, has_node, is_node_at};
 
 use graph_base::Graph;
+use input_output::NoMemory;
 use net_base::{List, Net};
-use outside::NoMemory;
 use std::alloc::{AllocError, Global};
 
 /// A node with its preference number.

@@ -1,0 +1,4 @@
+pub mod PromisesTelling
+pub mod Keeping
+mod Counting
+pub mod Casing

@@ -7,8 +7,8 @@ use Rattle.evidence_law.specs.Passes.{IsCaseGraph}
 use Rattle.impact_law.specs.BestRanks.{AreTops}
 use Rattle.outcome_base.specs.Outcomes.{no_failures}
 use Rattle.impact_report.specs.Tops.{entry_at}
-use Rattle.promises_law.specs.Laws.{told_by}
-use Rattle.promises_law.specs.Promises.{Promises}
+use Rattle.promises_report.specs.Laws.{told_by}
+use Rattle.promises_report.specs.Promises.{Promises}
 use Rattle.promises_report.specs.declared.told.Told.{Told}
 
 -- the promises that tops tell, as the code holds them

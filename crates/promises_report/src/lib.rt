@@ -1,10 +1,20 @@
-//! What is promised for a case, read off its graph.
+//! What a policy promises for each of its cases while nothing has failed: found in the graph of the case, and its text. For `promises`.
+//!
+//! For a case: where its sources can be, the rank of each, who isn't claimed, and who only carries. What is promised is said without a graph
+//! (`specs/{Claims,Promises}`): tops of the graph show it, it is kept for every prefix of the case, and every claimed source has an allowed
+//! path while nothing has failed. The compiler is unknown here.
 #![tactic(auto)]
 
+mod case;
+mod lines;
 mod places;
+mod promises;
 mod telling;
+mod text;
 mod told;
 
 pub use places::{places_of, sessions_of};
+pub use promises::{claimed_sources_have_ranks, promises_are_kept, tops_tell_promises};
 pub use telling::told_of;
+pub use text::promises_text;
 pub use told::Told;

@@ -8,8 +8,8 @@ ghost use Rattle.promises_report.specs.Telling.{IsTold, promises_in};
 use crate::told::Told;
 use evidence_base::CaseEvidence;
 use impact_report::{base_tops, rank_told};
+use input_output::NoMemory;
 use net_base::{Loc, Net};
-use outside::NoMemory;
 use reach_prune::{Way, neighbours};
 use std::alloc::Global;
 

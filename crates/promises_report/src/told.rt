@@ -3,8 +3,8 @@ ghost use Rattle.std.proofs.Props.{props};
 ghost use Rattle.impact_report.specs.Paths.{AreStepLists};
 ghost use Rattle.impact_report.specs.Tops.{AreNodes};
 
+use bit_rows::NodeList;
 use evidence_base::CaseEvidence;
-use node_list::NodeList;
 
 /// The graph of a case, with the node of the greatest number at each router: its rank is that of the best path while nothing has failed.
 #[derive(Drop)]

@@ -1,7 +1,7 @@
 //! The program.
 #![tactic(auto)]
 
-use outside::{FileInputs, OutSink};
+use input_output::{FileInputs, OutSink};
 use propane_run::{Status, run};
 use std::io::ErrorKind;
 use std::process::ExitCode;

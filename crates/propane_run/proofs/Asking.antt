@@ -4,12 +4,12 @@ use Rattle.std.specs.Prelude.{codes}
 use Rattle.net_base.specs.Network.{PlainNet}
 use Rattle.policy_base.specs.Policies.{PlainPolicy}
 use Rattle.run_base.specs.Reading.{Holds, AllHeld}
-use Rattle.topology_meaning.proofs.Read.{networks_are_meant}
-use Rattle.topology_meaning.proofs.Written.{network_is_spelled}
-use Rattle.claim_texts.proofs.Policies.{read_policies_are_meant}
-use Rattle.policy_meaning.proofs.Texts.{policies_are_meant, policy_is_spelled}
+use Rattle.topology.proofs.Read.{networks_are_meant}
+use Rattle.topology.proofs.Written.{network_is_spelled}
+use Rattle.text_law.proofs.Policies.{read_policies_are_meant}
+use Rattle.policy_law.proofs.Texts.{policies_are_meant, policy_is_spelled}
 use Rattle.input_texts.specs.Asked.{SpellAlso, SpellFor}
-use Rattle.audit_job.specs.Asked.{Audited, SpellAudit}
+use Rattle.judging_jobs.specs.Asked.{Audited, SpellAudit}
 use Rattle.propane_run.specs.declared.command.Command.{Command}
 use Rattle.propane_run.specs.declared.command.Command.TheVariants.{Compile, Audit, Replay, Trace, Sample, Drain, Settle, WhatIf, Multipath}
 use Rattle.propane_run.specs.Asked.{AsksAlso, AsksFor, IsFor}

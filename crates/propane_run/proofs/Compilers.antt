@@ -1,7 +1,7 @@
 -- The commands that compile.
 use Rattle.std.proofs.Common.{◌≡◌, ◌⊎◌, ℕ, List, Option, inl, inr, ap, ◌∙◌}
 use Rattle.net_base.specs.Network.{PlainNet}
-use Rattle.outside.specs.Outside.{Rose}
+use Rattle.input_output.specs.Outside.{Rose}
 use Rattle.policy_base.specs.Policies.{PlainPolicy}
 use Rattle.case_core.specs.declared.refusal.CompileRefusal.{CompileRefusal}
 use Rattle.refusal_lines.specs.RefusalLines.{refusal_line}

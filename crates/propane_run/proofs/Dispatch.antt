@@ -14,34 +14,34 @@ use Rattle.input_texts.specs.Asked.{SpellFor}
 use Rattle.input_texts.specs.FaultLines.{events_line, scenario_line}
 use Rattle.compile_jobs.specs.Compiling.{SaysOfThree}
 use Rattle.compile_jobs.proofs.ThirdText.{compiler_of_three}
-use Rattle.replay_job.specs.Replayed.{WritesReport}
-use Rattle.trace_job.specs.Traced.{WritesTrace}
+use Rattle.report_jobs.specs.Replayed.{WritesReport}
+use Rattle.report_jobs.specs.Traced.{WritesTrace}
 use Rattle.compile_jobs.specs.declared.written.Part.TheVariants as part
 use Rattle.compile_jobs.specs.Written.{WritesPart}
 use Rattle.compile_jobs.proofs.Compiling.{IsCompiler, compiler_of_two, in_words}
 use Rattle.compile_jobs.proofs.ExplainLaws.{explain_job}
 use Rattle.compile_jobs.proofs.SampleLaws.{sample_compiler, sample_job}
 use Rattle.compile_jobs.proofs.WrittenLaws.{written_job}
-use Rattle.audit_job.proofs.AuditLaws.{audit_job}
-use Rattle.check_job.proofs.CheckLaws.{check_job}
-use Rattle.impact_job.proofs.ImpactLaws.{impact_job}
-use Rattle.impact_job.specs.Impacts.{WritesImpact}
-use Rattle.lint_job.proofs.LintLaws.{lint_job}
-use Rattle.map_jobs.proofs.CheckMapLaws.{check_map_job}
-use Rattle.map_jobs.proofs.RouteMapLaws.{route_map_job}
-use Rattle.migrate_job.proofs.MigrateLaws.{migrate_job}
-use Rattle.replay_job.proofs.ReplayLaws.{replay_job}
-use Rattle.trace_job.proofs.TraceLaws.{trace_job}
-use Rattle.drain_job.proofs.DrainLaws.{drain_job}
-use Rattle.drain_job.specs.Drained.{WritesDrain}
-use Rattle.settle_job.proofs.SettleLaws.{settle_job}
-use Rattle.settle_job.specs.Settles.{WritesSettlement}
-use Rattle.promises_job.proofs.PromisesLaws.{promises_job}
-use Rattle.promises_job.specs.Promised.{WritesPromises}
-use Rattle.whatif_job.proofs.WhatIfLaws.{whatif_job}
-use Rattle.whatif_job.specs.WhatIfs.{WritesWhatIf}
-use Rattle.multipath_job.proofs.MultipathLaws.{multipath_job}
-use Rattle.multipath_job.specs.Spread.{WritesMultipath}
+use Rattle.judging_jobs.proofs.AuditLaws.{audit_job}
+use Rattle.judging_jobs.proofs.CheckLaws.{check_job}
+use Rattle.report_jobs.proofs.ImpactLaws.{impact_job}
+use Rattle.report_jobs.specs.Impacts.{WritesImpact}
+use Rattle.judging_jobs.proofs.LintLaws.{lint_job}
+use Rattle.judging_jobs.proofs.CheckMapLaws.{check_map_job}
+use Rattle.judging_jobs.proofs.RouteMapLaws.{route_map_job}
+use Rattle.judging_jobs.proofs.MigrateLaws.{migrate_job}
+use Rattle.report_jobs.proofs.ReplayLaws.{replay_job}
+use Rattle.report_jobs.proofs.TraceLaws.{trace_job}
+use Rattle.report_jobs.proofs.DrainLaws.{drain_job}
+use Rattle.report_jobs.specs.Drained.{WritesDrain}
+use Rattle.report_jobs.proofs.SettleLaws.{settle_job}
+use Rattle.report_jobs.specs.Settles.{WritesSettlement}
+use Rattle.report_jobs.proofs.PromisesLaws.{promises_job}
+use Rattle.report_jobs.specs.Promised.{WritesPromises}
+use Rattle.report_jobs.proofs.WhatIfLaws.{whatif_job}
+use Rattle.report_jobs.specs.WhatIfs.{WritesWhatIf}
+use Rattle.report_jobs.proofs.MultipathLaws.{multipath_job}
+use Rattle.report_jobs.specs.Spread.{WritesMultipath}
 use Rattle.propane_run.specs.declared.command.Command.{Command}
 use Rattle.propane_run.specs.declared.command.Command.TheVariants.{Compile, Evidence, Check, Explain, Replay, Trace, Impact, RouteMap, CheckMap, Lint, Audit, Migrate}
 use Rattle.propane_run.specs.declared.command.Command.TheVariants.{Sample, Help, Version, Drain, Settle, Promises, WhatIf, Multipath}

@@ -1,6 +1,6 @@
 -- Each command ends as it is to end by what its inputs spell. A line for each command.
 use Rattle.std.proofs.Common.{◌≡◌, ◌⊎◌, ℕ, List, Option, inl, inr}
-use Rattle.outside.specs.Outside.{Rose}
+use Rattle.input_output.specs.Outside.{Rose}
 use Rattle.help_texts.specs.Pages.{help_text, version_text}
 use Rattle.run_base.specs.declared.outcome.Status.{Status}
 use Rattle.run_base.specs.declared.outcome.Status.TheVariants.{Done, NoMemory, Refused, CheckFails}

@@ -4,13 +4,13 @@ use Rattle.run_base.specs.declared.outcome.Status.TheVariants.{Done, Refused, Ch
 use Rattle.run_base.specs.Reading.{Holds}
 use Rattle.run_base.specs.Said.{text, line, failing, Whole}
 use Rattle.run_base.proofs.Jobs.{out_is}
-use Rattle.drain_job.specs.Drained.{WritesDrain}
+use Rattle.report_jobs.specs.Drained.{WritesDrain}
 use Rattle.event_reader.specs.Spelled.{spelled as events_spelled}
 use Rattle.input_texts.specs.FaultLines.{events_line, scenario_line}
 use Rattle.scenario_reader.specs.Spelled.{spelled as scenario_spelled}
-use Rattle.settle_job.specs.Settles.{WritesSettlement}
-use Rattle.whatif_job.specs.WhatIfs.{WritesWhatIf}
-use Rattle.multipath_job.specs.Spread.{WritesMultipath}
+use Rattle.report_jobs.specs.Settles.{WritesSettlement}
+use Rattle.report_jobs.specs.WhatIfs.{WritesWhatIf}
+use Rattle.report_jobs.specs.Spread.{WritesMultipath}
 use Rattle.propane_run.specs.declared.command.Command.{Command}
 use Rattle.propane_run.specs.declared.command.Command.TheVariants.{Compile, Evidence, Check, Explain, Replay, Trace, Sample, Migrate, Impact, RouteMap, CheckMap, Lint}
 use Rattle.propane_run.specs.declared.command.Command.TheVariants.{Audit, Help, Version, Drain, Settle, Promises, WhatIf, Multipath}

@@ -1,6 +1,6 @@
 -- What follows for a run, whatever its command.
 use Rattle.std.proofs.Common.{◌≡◌, ◌≢◌, ◌⊎◌, inl, inr, ℕ, List, Option, Some, None, refl, sym, ◌∙◌, subst}
-use Rattle.outside.specs.Outside.{Rose}
+use Rattle.input_output.specs.Outside.{Rose}
 use Rattle.propane_run.specs.declared.command.Command.{Command}
 use Rattle.propane_run.specs.declared.command.Command.TheVariants.{Compile}
 use Rattle.run_base.specs.declared.outcome.Status.{Status}

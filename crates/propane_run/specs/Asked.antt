@@ -2,9 +2,9 @@
 use Rattle.std.specs.Prelude.{◌≡◌, ℕ, List, [], ◌∷◌, Some, Result, Ok}
 use Rattle.net_base.specs.Network.{PlainNet}
 use Rattle.policy_base.specs.Policies.{PlainPolicy}
-use Rattle.topology_meaning.specs.Meaning.{IsTopologyOf}
-use Rattle.policy_meaning.specs.Texts.{IsPolicyTextOf}
-use Rattle.stable_paths.specs.declared.scenario.Scenario.{Scenario}
+use Rattle.topology.specs.Meaning.{IsTopologyOf}
+use Rattle.policy_law.specs.Texts.{IsPolicyTextOf}
+use Rattle.scenarios.specs.declared.scenario.Scenario.{Scenario}
 use Rattle.scenario_reader.specs.Spelled.{spelled as scenario_spelled}
 use Rattle.event_reader.specs.declared.events.Events.{Events}
 use Rattle.event_reader.specs.Spelled.{spelled as events_spelled}

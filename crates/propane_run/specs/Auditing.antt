@@ -9,8 +9,8 @@ use Rattle.scenario_reader.specs.Spelled.{spelled as scenario_spelled_by}
 use Rattle.table_reader.specs.Spelled.{spelled as tables_spelled_by}
 use Rattle.run_base.specs.Reading.{Holds}
 use Rattle.run_base.specs.Said.{Whole}
-use Rattle.audit_job.specs.Asked.{Audited}
-use Rattle.audit_job.specs.Audits.{IsAudited, IsAuditFault}
+use Rattle.judging_jobs.specs.Asked.{Audited}
+use Rattle.judging_jobs.specs.Audits.{IsAudited, IsAuditFault}
 use Rattle.propane_run.specs.declared.command.Command.TheVariants.{Audit}
 use Rattle.propane_run.specs.Asked.{AsksFor}
 

@@ -4,20 +4,20 @@ use Rattle.net_base.specs.Network.{PlainNet}
 use Rattle.policy_base.specs.Policies.{PlainPolicy}
 use Rattle.config_base.specs.Configs.{PlainConfig}
 use Rattle.claim_law.specs.Claim.{KeepsPolicy}
-use Rattle.claim_texts.specs.ConfigText.{IsTextOf}
+use Rattle.text_law.specs.ConfigText.{IsTextOf}
 use Rattle.config_text.specs.Spelled.{Spells}
 use Rattle.evidence_base.specs.Made.{PlainCaseEvidence}
 use Rattle.evidence_text.specs.Spelled.{spelled as evidence_spelled_by}
-use Rattle.evidence_rules.specs.declared.rule.CheckRule.{CheckRule}
-use Rattle.evidence_rules.specs.declared.verdict.Shown.{Shown}
-use Rattle.evidence_rules.specs.declared.verdict.Verdict.TheVariants.{Fails}
-use Rattle.evidence_rules.specs.Verdicts.{IsVerdict}
+use Rattle.evidence_verdicts.specs.declared.rule.CheckRule.{CheckRule}
+use Rattle.evidence_verdicts.specs.declared.verdict.Shown.{Shown}
+use Rattle.evidence_verdicts.specs.declared.verdict.Verdict.TheVariants.{Fails}
+use Rattle.evidence_verdicts.specs.Verdicts.{IsVerdict}
 use Rattle.propane_run.specs.declared.command.Command.TheVariants.{Check}
 use Rattle.propane_run.specs.Asked.{AsksFor}
 use Rattle.propane_run.specs.Headline.{NamesTexts}
 use Rattle.run_base.specs.Reading.{Holds}
 use Rattle.run_base.specs.Said.{Whole}
-use Rattle.check_job.specs.VerdictLines.{holds_line, fails_line}
+use Rattle.judging_jobs.specs.VerdictLines.{holds_line, fails_line}
 
 -- The words are `check`, and the bytes of the four names that it reads spell this network, this policy for it, this
 -- configuration and this evidence.

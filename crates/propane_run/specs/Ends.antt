@@ -2,25 +2,25 @@
 use Rattle.std.specs.Prelude.{◌≡◌, ◌≢◌, ℕ, ◌<◌, ◌≤◌, List, min}
 use Rattle.net_base.specs.Network.{PlainNet}
 use Rattle.policy_base.specs.Policies.{PlainPolicy}
-use Rattle.audit_job.specs.Asked.{Audited}
+use Rattle.judging_jobs.specs.Asked.{Audited}
 use Rattle.case_core.specs.declared.refusal.CompileRefusal.{CompileRefusal}
-use Rattle.case_ranks.specs.Limits.{AreAllWithin, compile_refusal}
-use Rattle.case_ranks.specs.declared.refusal.LintRefusal.{LintRefusal}
+use Rattle.lint_ranks.specs.Limits.{AreAllWithin, compile_refusal}
+use Rattle.lint_ranks.specs.declared.refusal.LintRefusal.{LintRefusal}
 use Rattle.compile_jobs.specs.Compiled.{IsCompiled, IsRefusedFor}
 use Rattle.config_base.specs.Configs.{PlainConfig}
 use Rattle.evidence_base.specs.Made.{PlainCaseEvidence}
-use Rattle.lint_job.specs.Linted.{IsRefusedFor as IsPastLimit}
-use Rattle.map_jobs.specs.MapsSaid.{too_many_lines}
-use Rattle.maps_made.specs.Counts.{line_count}
-use Rattle.maps_made.specs.Earlier.{top}
-use Rattle.maps_made.specs.declared.lists.TheConstants.{MAX_LINES}
+use Rattle.judging_jobs.specs.Linted.{IsRefusedFor as IsPastLimit}
+use Rattle.judging_jobs.specs.MapsSaid.{too_many_lines}
+use Rattle.map_maker.specs.Counts.{line_count}
+use Rattle.map_maker.specs.Earlier.{top}
+use Rattle.map_maker.specs.declared.lists.TheConstants.{MAX_LINES}
 use Rattle.outcome_base.specs.Outcomes.{IsStable}
 use Rattle.refusal_lines.specs.RefusalLines.{refusal_line}
 use Rattle.evidence_law.specs.Passes.{Passes}
 use Rattle.route_maps.specs.Maps.{PlainMaps}
 use Rattle.route_maps.specs.OfConfig.{maps_of}
 use Rattle.run_base.specs.Reading.{Holds}
-use Rattle.stable_paths.specs.Scenarios.{failures_of}
+use Rattle.scenarios.specs.Scenarios.{failures_of}
 use Rattle.propane_run.specs.declared.command.Command.{Command}
 use Rattle.propane_run.specs.declared.command.Command.TheVariants.{Compile, Evidence, Check, Explain, Replay, Trace, Sample, Migrate, Impact, RouteMap, CheckMap, Lint}
 use Rattle.propane_run.specs.declared.command.Command.TheVariants.{Audit, Help, Version, Drain, Settle, Promises, WhatIf, Multipath}

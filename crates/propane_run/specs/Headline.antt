@@ -4,10 +4,10 @@ use Rattle.net_base.specs.Network.{PlainNet}
 use Rattle.policy_base.specs.Policies.{PlainPolicy}
 use Rattle.config_base.specs.Configs.{PlainConfig}
 use Rattle.claim_law.specs.Claim.{KeepsPolicy}
-use Rattle.claim_texts.specs.ConfigText.{IsTextOf}
-use Rattle.claim_texts.specs.PolicyText.{MeansPolicy}
+use Rattle.text_law.specs.ConfigText.{IsTextOf}
+use Rattle.text_law.specs.PolicyText.{MeansPolicy}
 use Rattle.evidence_text.specs.Text.{evidence_text}
-use Rattle.topology_meaning.specs.Meaning.{IsTopologyOf}
+use Rattle.topology.specs.Meaning.{IsTopologyOf}
 use Rattle.propane_run.specs.declared.command.Command.TheVariants.{Evidence}
 use Rattle.propane_run.specs.Asked.{AsksFor}
 use Rattle.propane_run.specs.Compilation.{Compilation}

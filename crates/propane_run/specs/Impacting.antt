@@ -3,7 +3,7 @@ use Rattle.std.specs.Prelude.{ℕ, List, Option}
 use Rattle.net_base.specs.Network.{PlainNet}
 use Rattle.net_base.specs.Prefixes.{PlainPrefix}
 use Rattle.policy_base.specs.Policies.{PlainPolicy}
-use Rattle.impact_job.specs.Impacts.{IsImpactText}
+use Rattle.report_jobs.specs.Impacts.{IsImpactText}
 use Rattle.run_base.specs.Reading.{Holds}
 use Rattle.run_base.specs.Said.{Whole}
 use Rattle.propane_run.specs.declared.command.Command.TheVariants.{Impact}

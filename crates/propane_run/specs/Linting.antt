@@ -2,9 +2,9 @@
 use Rattle.std.specs.Prelude.{ℕ, List, Option}
 use Rattle.net_base.specs.Network.{PlainNet}
 use Rattle.policy_base.specs.Policies.{PlainPolicy}
-use Rattle.case_ranks.specs.Limits.{compile_refusal}
-use Rattle.case_ranks.specs.declared.refusal.LintRefusal.{LintRefusal}
-use Rattle.lint_job.specs.Linted.{IsLinted, IsRefusedFor}
+use Rattle.lint_ranks.specs.Limits.{compile_refusal}
+use Rattle.lint_ranks.specs.declared.refusal.LintRefusal.{LintRefusal}
+use Rattle.judging_jobs.specs.Linted.{IsLinted, IsRefusedFor}
 use Rattle.refusal_lines.specs.RefusalLines.{refusal_line}
 use Rattle.run_base.specs.Reading.{Holds}
 use Rattle.run_base.specs.Said.{Whole}

@@ -8,14 +8,14 @@ use Rattle.evidence_base.specs.Made.{PlainCaseEvidence}
 use Rattle.compile_jobs.specs.Compiled.{IsCompiled}
 use Rattle.route_maps.specs.Maps.{PlainMaps}
 use Rattle.route_maps.specs.OfConfig.{maps_of, MeansAs}
-use Rattle.maps_made.specs.Counts.{line_count}
-use Rattle.maps_made.specs.Earlier.{top}
-use Rattle.maps_made.specs.declared.lists.TheConstants.{MAX_LINES}
+use Rattle.map_maker.specs.Counts.{line_count}
+use Rattle.map_maker.specs.Earlier.{top}
+use Rattle.map_maker.specs.declared.lists.TheConstants.{MAX_LINES}
 use Rattle.route_map_text.specs.MapsLines.{maps_text}
 use Rattle.route_map_text.specs.MapsSpelled.{Spells}
 use Rattle.map_reader.specs.MapsRead.{spelled as maps_spelled_by}
-use Rattle.text_difference.specs.Difference.{first_difference}
-use Rattle.map_jobs.specs.MapsSaid.{differs_line, same_line, too_many_lines}
+use Rattle.text_parts.specs.Difference.{first_difference}
+use Rattle.judging_jobs.specs.MapsSaid.{differs_line, same_line, too_many_lines}
 use Rattle.run_base.specs.Reading.{Holds, AllHeld}
 use Rattle.run_base.specs.Said.{Whole}
 use Rattle.propane_run.specs.declared.command.Command.{Command}

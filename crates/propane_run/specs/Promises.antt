@@ -4,13 +4,13 @@ use Rattle.evidence_base.specs.Made.{PlainCaseEvidence}
 use Rattle.compile_jobs.specs.Compiled.{IsCompiled}
 use Rattle.config_text.specs.Spelled.{Spells}
 use Rattle.evidence_law.specs.Passes.{Passes}
-use Rattle.drain_job.specs.Drained.{WritesDrain}
+use Rattle.report_jobs.specs.Drained.{WritesDrain}
 use Rattle.event_reader.specs.Spelled.{spelled as events_spelled}
 use Rattle.help_texts.specs.Pages.{help_text, version_text}
 use Rattle.scenario_reader.specs.Spelled.{spelled as scenario_spelled}
-use Rattle.settle_job.specs.Settles.{WritesSettlement}
-use Rattle.whatif_job.specs.WhatIfs.{WritesWhatIf}
-use Rattle.multipath_job.specs.Spread.{WritesMultipath}
+use Rattle.report_jobs.specs.Settles.{WritesSettlement}
+use Rattle.report_jobs.specs.WhatIfs.{WritesWhatIf}
+use Rattle.report_jobs.specs.Spread.{WritesMultipath}
 use Rattle.run_base.specs.declared.outcome.Status.{Status}
 use Rattle.run_base.specs.declared.outcome.Status.TheVariants.{Done, Refused, CheckFails}
 use Rattle.run_base.specs.Reading.{Holds}

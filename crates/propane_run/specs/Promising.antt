@@ -2,7 +2,7 @@
 use Rattle.std.specs.Prelude.{ℕ, List, Option}
 use Rattle.net_base.specs.Network.{PlainNet}
 use Rattle.policy_base.specs.Policies.{PlainPolicy}
-use Rattle.promises_job.specs.Promised.{WritesPromises}
+use Rattle.report_jobs.specs.Promised.{WritesPromises}
 use Rattle.run_base.specs.Reading.{Holds}
 use Rattle.run_base.specs.Said.{Whole}
 use Rattle.propane_run.specs.declared.command.Command.TheVariants.{Promises}

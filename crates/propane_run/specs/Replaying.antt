@@ -4,14 +4,14 @@ use Rattle.net_base.specs.Network.{PlainNet}
 use Rattle.policy_base.specs.Policies.{PlainPolicy}
 use Rattle.outcome_base.specs.Outcomes.{Outcome}
 use Rattle.settled_law.specs.Settled.{IsFullyStable}
-use Rattle.stable_paths.specs.declared.scenario.Scenario.{Scenario}
-use Rattle.stable_paths.specs.Scenarios.{failures_of}
+use Rattle.scenarios.specs.declared.scenario.Scenario.{Scenario}
+use Rattle.scenarios.specs.Scenarios.{failures_of}
 use Rattle.propane_run.specs.declared.command.Command.TheVariants.{Replay}
 use Rattle.propane_run.specs.Asked.{AsksUnder}
 use Rattle.propane_run.specs.Compilation.{Compilation}
 use Rattle.run_base.specs.Reading.{Holds}
 use Rattle.run_base.specs.Said.{Whole}
-use Rattle.replay_job.specs.Replayed.{IsReplayed}
+use Rattle.report_jobs.specs.Replayed.{IsReplayed}
 
 -- `out` grew by exactly the report of an outcome, which is stable with ties broken for the configuration that is compiled from the
 -- policy, under the failures of the scenario that was asked for and for its prefix. There is no other such outcome, and the

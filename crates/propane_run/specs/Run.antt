@@ -6,24 +6,24 @@ use Rattle.propane_run.specs.declared.command.Command.TheVariants.{Sample, Help,
 use Rattle.propane_run.specs.Words.{names_read, usage, words_are}
 use Rattle.run_base.specs.Reading.{Holds, ReadsAll, AllHeld, FailedAs}
 use Rattle.input_texts.specs.Texts.{OfTwoTexts}
-use Rattle.audit_job.specs.Audited as audit
-use Rattle.check_job.specs.Checked as check
+use Rattle.judging_jobs.specs.Audited as audit
+use Rattle.judging_jobs.specs.Checked as check
 use Rattle.compile_jobs.specs.declared.written.Part.TheVariants as part
 use Rattle.compile_jobs.specs.Explained as explain
 use Rattle.help_texts.specs.Pages.{help_text, version_text}
-use Rattle.impact_job.specs.Impacts as impact
-use Rattle.lint_job.specs.Linted as lint
-use Rattle.map_jobs.specs.MapsJobs as maps
-use Rattle.migrate_job.specs.Migrated as migrate
-use Rattle.replay_job.specs.Replayed as replay
+use Rattle.report_jobs.specs.Impacts as impact
+use Rattle.judging_jobs.specs.Linted as lint
+use Rattle.judging_jobs.specs.MapsJobs as maps
+use Rattle.judging_jobs.specs.Migrated as migrate
+use Rattle.report_jobs.specs.Replayed as replay
 use Rattle.compile_jobs.specs.Sampled.{SaysOfNumber}
 use Rattle.compile_jobs.specs.Written.{SaysOfPart}
-use Rattle.trace_job.specs.Traced as trace
-use Rattle.drain_job.specs.Drained as drain
-use Rattle.settle_job.specs.Settles as settle
-use Rattle.promises_job.specs.Promised as promises
-use Rattle.whatif_job.specs.WhatIfs as whatif
-use Rattle.multipath_job.specs.Spread as multipath
+use Rattle.report_jobs.specs.Traced as trace
+use Rattle.report_jobs.specs.Drained as drain
+use Rattle.report_jobs.specs.Settles as settle
+use Rattle.report_jobs.specs.Promised as promises
+use Rattle.report_jobs.specs.WhatIfs as whatif
+use Rattle.report_jobs.specs.Spread as multipath
 use Rattle.run_base.specs.declared.outcome.Status.{Status}
 use Rattle.run_base.specs.Said.{Delivered, IsGiven, Said, text}
 

@@ -2,20 +2,20 @@
 use Rattle.std.specs.Prelude.{◌≡◌, ℕ, IsTrue, List, Option}
 use Rattle.net_base.specs.Network.{PlainNet}
 use Rattle.policy_base.specs.Policies.{PlainPolicy}
-use Rattle.stable_paths.specs.declared.scenario.Scenario.{Scenario}
-use Rattle.stable_paths.specs.Scenarios.{failures_of}
+use Rattle.scenarios.specs.declared.scenario.Scenario.{Scenario}
+use Rattle.scenarios.specs.Scenarios.{failures_of}
 use Rattle.event_reader.specs.declared.events.Events.{Events}
-use Rattle.world_law.specs.Laws.{world_after}
-use Rattle.world_law.specs.Moments.{IsRightNow}
-use Rattle.trace_job.specs.Traced.{scenario_in}
-use Rattle.world_law.specs.Scenarios.{IsScenarioOf}
-use Rattle.trace_lines.specs.Trace.{IsTraceOf}
+use Rattle.event_law.specs.Laws.{world_after}
+use Rattle.event_law.specs.Moments.{IsRightNow}
+use Rattle.report_jobs.specs.Traced.{scenario_in}
+use Rattle.event_law.specs.Scenarios.{IsScenarioOf}
+use Rattle.trace_report.specs.Trace.{IsTraceOf}
 use Rattle.propane_run.specs.declared.command.Command.TheVariants.{Trace}
 use Rattle.propane_run.specs.Asked.{AsksOfEvents}
 use Rattle.propane_run.specs.Compilation.{Compilation}
 use Rattle.run_base.specs.Reading.{Holds}
 use Rattle.run_base.specs.Said.{Whole}
-use Rattle.replay_job.specs.Replayed.{IsReplayed}
+use Rattle.report_jobs.specs.Replayed.{IsReplayed}
 
 -- `out` grew by exactly the trace of the events that were asked for, for the configuration that is compiled from the policy. It keeps
 -- the policy: what the trace tells is allowed, also while messages wait, and the network comes to rest. What has failed after the

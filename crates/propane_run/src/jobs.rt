@@ -8,24 +8,18 @@ ghost use Rattle.propane_run.specs.Run.{Job};
 ghost use Rattle.propane_run.specs.Words.{places_of, HasNumber};
 
 use crate::command::Command;
-use audit_job::audit_texts;
-use check_job::check_texts;
 use compile_jobs::{Answer, Part, answered_texts, explain_texts, sample_summary, written_texts};
-use drain_job::DrainCommand;
 use help_texts::{help, version};
-use impact_job::impact_texts;
-use lint_job::lint_texts;
-use map_jobs::{check_map_texts, route_map_texts};
-use migrate_job::migrate_text;
-use multipath_job::MultipathCommand;
+use judging_jobs::{
+    audit_texts, check_map_texts, check_texts, lint_texts, migrate_text, route_map_texts,
+};
 use net_base::List;
-use promises_job::promises_texts;
-use replay_job::ReplayCommand;
+use report_jobs::{
+    DrainCommand, MultipathCommand, ReplayCommand, SettleCommand, TraceCommand, WhatIfCommand,
+    impact_texts, promises_texts,
+};
 use run_base::Stop;
-use settle_job::SettleCommand;
 use std::alloc::Global;
-use trace_job::TraceCommand;
-use whatif_job::WhatIfCommand;
 
 // The text at a place.
 fn text(texts: &[List<u8>], place: usize) -> &[u8]

@@ -2,7 +2,7 @@
 #![tactic(auto)]
 
 ghost use Rattle.std.specs.Prelude.{◌≡◌, ◌≢◌, ◌⊎◌, ◌≤◌, ℕ, List, Some, None, length, map, string_bytes};
-ghost use Rattle.outside.specs.Outside.{Rose};
+ghost use Rattle.input_output.specs.Outside.{Rose};
 ghost use Rattle.run_base.specs.Reading.{AreOnlyRead, FailedAs, IsAmong, RoseOf, SaidOfTold, unread};
 ghost use Rattle.run_base.specs.Said.{Calm, Said, said, text, Delivered, MetFault, Whole};
 ghost use Rattle.propane_run.specs.Clauses.{FaultFound, ReadsSmoothly};
@@ -18,8 +18,8 @@ mod laws;
 
 use command::USAGE;
 pub use command::{Command, words_of};
+use input_output::{Inputs, Sink};
 pub use laws::{commands_say_one_thing, told_texts_come_to_one_thing, written_pairs_pass};
-use outside::{Inputs, Sink};
 pub use run_base::Status;
 use run_base::{Stop, deliver, read_all, send};
 use std::alloc::Global;

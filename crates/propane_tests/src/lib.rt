@@ -1,4 +1,4 @@
-//! The rows of `meaning_rows` and `run_rows`, none of which is wrong; and a file that is read.
+//! The rows of `test_meanings` and `test_runs`, none of which is wrong; and a file that is read.
 #![tactic(auto)]
 
 #[cfg(test)]

@@ -8,10 +8,10 @@ use Rattle.graph_base.specs.Runs.{place_of, rank_at, is_start, has_step, run}
 use Rattle.graph_base.specs.Rules.{IsWellFormed}
 use Rattle.graph_base.specs.Walks.{IsEnteredFromBefore}
 use Rattle.evidence_law.specs.Faithful.{IsFaithful, may_start}
-use Rattle.list_laws.specs.Counts.{kept_below}
+use Rattle.list_law.specs.Counts.{kept_below}
 use Rattle.reach_prune.specs.Trimmed.{graph_kept}
 use Rattle.graph_base.proofs.RunSteps.{RunsTo, runs_from_run, run_from_runs, run_inside}
-use Rattle.list_laws.proofs.Kept.{kept_below-less}
+use Rattle.list_law.proofs.Kept.{kept_below-less}
 use Rattle.graph_law.proofs.Kept.{place_kept, rank_kept, node_from_kept, start_kept, step_kept}
 use Rattle.graph_law.proofs.KeptFormed.{kept_well_formed}
 use Rattle.graph_law.proofs.KeptRuns.{run_from_kept}

@@ -7,9 +7,9 @@ use Rattle.graph_base.specs.Graphs.{PlainGraph}
 use Rattle.graph_base.specs.Runs.{place_of, is_start, has_step}
 use Rattle.graph_base.specs.Rules.{IsWellFormed, same_pair}
 use Rattle.graph_base.specs.Walks.{IsEnteredFromBefore}
-use Rattle.list_laws.specs.Members.{IsIn}
-use Rattle.list_laws.proofs.Members.{IsIn-map, IsIn-map_parts}
-use Rattle.list_laws.proofs.Apart.{Apart-from_distinct, Apart-map, IsDistinct-from_apart}
+use Rattle.list_law.specs.Members.{IsIn}
+use Rattle.list_law.proofs.Members.{IsIn-map, IsIn-map_parts}
+use Rattle.list_law.proofs.Apart.{Apart-from_distinct, Apart-map, IsDistinct-from_apart}
 use Rattle.graph_base.proofs.StartsAndSteps.{in_step, step_in}
 use Rattle.graph_base.proofs.RunSteps.{IsInside, RunsTo}
 use Rattle.graph_base.proofs.WellFormed.{one_start, one_step}

@@ -3,3 +3,8 @@ pub mod Led
 pub mod One
 pub mod Onto
 pub mod Reduced
+pub mod Carried
+pub mod Claims
+pub mod Each
+pub mod Settled
+pub mod Tied

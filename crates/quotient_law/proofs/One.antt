@@ -1,7 +1,7 @@
 -- A graph has one quotient, which is a graph.
 use Rattle.std.proofs.Common.{◌≡◌, ℕ, ◌<◌, ◌==◌, sym, ap, ◌∙◌, subst, arith}
-use Rattle.list_laws.proofs.Changed.{map_same}
-use Rattle.list_laws.proofs.Members.{AllByRecursion-from_IsIn}
+use Rattle.list_law.proofs.Changed.{map_same}
+use Rattle.list_law.proofs.Members.{AllByRecursion-from_IsIn}
 use Rattle.graph_base.specs.Graphs.{PlainGraph, IsGraph}
 use Rattle.graph_base.proofs.RunSteps.{IsInside}
 use Rattle.graph_base.proofs.StartsAndSteps.{in_step}

@@ -8,8 +8,8 @@ use Rattle.evidence_law.specs.Faithful.{IsFaithful}
 use Rattle.graph_base.proofs.StartsAndSteps.{step_at-is}
 use Rattle.graph_base.proofs.RunSteps.{run_inside}
 use Rattle.graph_base.proofs.WellFormed.{step_at-of}
-use Rattle.faithful_law.specs.Alike.{EndBoth}
-use Rattle.faithful_law.proofs.Tied.{back, forth, one_place, one_rank, run_there}
+use Rattle.quotient_law.specs.Alike.{EndBoth}
+use Rattle.quotient_law.proofs.Tied.{back, forth, one_place, one_rank, run_there}
 use Rattle.node_quotient.specs.Quotient.{follow, end_of, IsReduced}
 
 module _ (net : PlainNet) (s : PlainStatement) (origin : ℕ → Bool) (external : Bool) (g q : PlainGraph) (gg : IsGraph g) (qq : IsGraph q)

@@ -6,11 +6,11 @@ use Rattle.graph_base.specs.Runs.{place_of, rank_at, has_step, step_at}
 use Rattle.graph_base.specs.Rules.{IsWellFormed}
 use Rattle.graph_base.proofs.StartsAndSteps.{step_at-is}
 use Rattle.graph_base.proofs.WellFormed.{step_at-of, one_step}
-use Rattle.list_laws.specs.Counts.{kept_below}
+use Rattle.list_law.specs.Counts.{kept_below}
 use Rattle.reach_prune.specs.Trimmed.{graph_kept}
 use Rattle.graph_base.proofs.RunSteps.{IsInside}
 use Rattle.node_quotient.proofs.Inside.{inside_of}
-use Rattle.list_laws.proofs.Kept.{kept_below-same}
+use Rattle.list_law.proofs.Kept.{kept_below-same}
 use Rattle.graph_law.proofs.Kept.{step_kept, step_from_kept}
 use Rattle.node_quotient.specs.Quotient.{follow, end_of, AreAllToldApart, AreLeast, IsReduced, is_least, led_to}
 use Rattle.node_quotient.proofs.Least.{joined_steps, joined_sym, least_kept, least_same}

@@ -1,5 +1,12 @@
-//! What the quotient of a graph says of walks, each law the contract of a function without a body.
+//! Graphs that are faithful to one case, and the quotient of a graph: laws without code.
+//!
+//! Faithful graphs of one case follow each other step by step, so numbers exist on one exactly where they exist on every other: the refusal
+//! for want of numbers speaks of every such graph. The quotient joins nodes that nothing onward tells apart. It is faithful again, any two
+//! of its nodes at a location are told apart, a graph has one, and every faithful graph of the case maps onto it. How a quotient is found is
+//! unknown here.
 #![tactic(auto)]
+
+mod faithful;
 
 ghost use Rattle.std.specs.Prelude.{◌≡◌, ◌<◌, ℕ, Bool, length};
 ghost use Rattle.net_base.specs.Network.{PlainNet};
@@ -8,8 +15,10 @@ ghost use Rattle.graph_base.specs.Graphs.{IsGraph, PlainGraph};
 ghost use Rattle.graph_base.specs.Rules.{IsWellFormed};
 ghost use Rattle.graph_base.specs.Walks.{IsEnteredFromBefore};
 ghost use Rattle.evidence_law.specs.Faithful.{IsFaithful};
-ghost use Rattle.faithful_law.specs.Alike.{EndBoth};
+ghost use Rattle.quotient_law.specs.Alike.{EndBoth};
 ghost use Rattle.node_quotient.specs.Quotient.{AreAllToldApart, IsQuotient, IsReduced};
+
+pub use faithful::{evidence_carries_over, faithful_graphs_are_alike, numbers_carry_over};
 
 /// The quotient of a faithful graph is faithful; and where each node that isn't a start is entered from one with a
 /// lesser number, that is so in the quotient.

@@ -1,10 +1,10 @@
 -- Tests that agree on the nodes of a graph keep the same graph.
 use Rattle.std.proofs.Common.{◌≡◌, ℕ, ◌+◌, ◌<◌, Bool, cond, ◌&&◌, List, [], ◌∷◌, map, length, filter, refl, ap, ◌∙◌, arith}
-use Rattle.list_laws.proofs.Changed.{filter_same, map_same}
-use Rattle.list_laws.proofs.Members.{IsIn-filter_parts}
-use Rattle.list_laws.specs.Members.{IsIn}
-use Rattle.list_laws.proofs.Kept.{kept_below_alike}
-use Rattle.list_laws.specs.Counts.{kept_below}
+use Rattle.list_law.proofs.Changed.{filter_same, map_same}
+use Rattle.list_law.proofs.Members.{IsIn-filter_parts}
+use Rattle.list_law.specs.Members.{IsIn}
+use Rattle.list_law.proofs.Kept.{kept_below_alike}
+use Rattle.list_law.specs.Counts.{kept_below}
 use Rattle.graph_base.specs.declared.graph.Node.{Node}
 use Rattle.graph_base.specs.Graphs.{PlainGraph}
 use Rattle.graph_base.proofs.StartsAndSteps.{in_start, in_step}

@@ -12,7 +12,7 @@ use Rattle.graph_base.specs.Graphs.{PlainGraph}
 use Rattle.graph_base.specs.Runs.{rank_at}
 use Rattle.graph_base.specs.declared.graph.Node.{Node}
 use Rattle.reach_prune.specs.Searches.{is_among}
-use Rattle.list_laws.specs.Counts.{kept_below}
+use Rattle.list_law.specs.Counts.{kept_below}
 use Rattle.reach_prune.specs.Trimmed.{nodes_kept}
 
 pub kept_below_le : (keep : ℕ → Bool) (n : ℕ) → kept_below keep n ≤ n

@@ -7,8 +7,8 @@ use Rattle.std.specs.List.{AllByRecursion, filter, filter_map}
 use Rattle.graph_base.specs.declared.graph.Node.{Node}
 use Rattle.graph_base.specs.Graphs.{PlainGraph, IsGraph}
 use Rattle.reach_prune.specs.Numbers.{number_in, number_kept, step_in}
-use Rattle.list_laws.specs.Counts.{kept_below}
-use Rattle.list_laws.proofs.Kept.{kept_below-less}
+use Rattle.list_law.specs.Counts.{kept_below}
+use Rattle.list_law.proofs.Kept.{kept_below-less}
 use Rattle.reach_prune.specs.Trimmed.{both_kept, graph_kept, nodes_kept, renumbered}
 use Rattle.reach_prune.proofs.Keeping.{kept_below_le}
 

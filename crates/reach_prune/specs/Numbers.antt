@@ -1,6 +1,6 @@
 -- The new numbers of nodes that are kept.
 use Rattle.std.specs.Prelude.{ℕ, List, Option, Some, None, option_and_then, option_map, slice_index_or, if◌then◌else◌, Bool}
-use Rattle.list_laws.specs.Counts.{kept_below}
+use Rattle.list_law.specs.Counts.{kept_below}
 
 -- the new number of a node, where it is kept
 abbrev pub number_kept : (ℕ → Bool) → ℕ → Option ℕ

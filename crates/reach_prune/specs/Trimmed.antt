@@ -1,6 +1,6 @@
 -- A graph without the nodes from which no rank can be reached.
 use Rattle.std.specs.Prelude.{◌≡◌, ◌↔◌, ℕ, ◌+◌, ◌<◌, Bool, ◌&&◌, IsTrue, List, [], ◌∷◌, length, map, filter, IsSome, if◌then◌else◌}
-use Rattle.list_laws.specs.Counts.{kept_below}
+use Rattle.list_law.specs.Counts.{kept_below}
 use Rattle.graph_base.specs.declared.graph.Node.{Node}
 use Rattle.graph_base.specs.Graphs.{PlainGraph}
 use Rattle.graph_base.specs.Runs.{rank_at, Reaches}

@@ -6,7 +6,7 @@ ghost use Rattle.reach_prune.specs.Ways.{LeadsFrom};
 use crate::search::reached;
 use crate::steps::{Way, neighbours};
 use graph_base::Graph;
-use outside::NoMemory;
+use input_output::NoMemory;
 use std::alloc::Global;
 
 /// Marks the nodes to which steps lead from the first ones, forward or backward; the first ones are marked too.

@@ -9,7 +9,7 @@ use crate::sweep::Sweep;
 use crate::table::Reach;
 use bit_rows::Rows;
 use graph_base::Graph;
-use outside::NoMemory;
+use input_output::NoMemory;
 use std::alloc::Global;
 
 /// Which nodes of the graph can be reached from which.

@@ -2,7 +2,7 @@
 ghost use Rattle.std.specs.Prelude.{◌≡◌, ◌<◌, ◌==◌, ◌↔◌, All, ℕ, false, [], IfOk, OnOk, IsTrue, length, replicate, vec_len};
 ghost use Rattle.reach_prune.specs.Searches.{AreLists, IsReached, is_marked};
 
-use node_list::NodeList;
+use bit_rows::NodeList;
 use std::alloc::{AllocError, Global};
 
 /// A search that has come some way: the nodes that are marked, and those of them whose neighbours it

@@ -3,9 +3,9 @@ ghost use Rattle.std.specs.Prelude.{◌≡◌, ◌<◌, ℕ, IfOk, length};
 ghost use Rattle.reach_prune.specs.Searches.{AreLists, is_listed};
 ghost use Rattle.reach_prune.specs.Ways.{ends, nth, step_along};
 
+use bit_rows::{NodeList, lists_with_room};
 use graph_base::Graph;
-use node_list::{NodeList, lists_with_room};
-use outside::NoMemory;
+use input_output::NoMemory;
 use std::alloc::{AllocError, Global};
 
 /// Which way steps are followed.

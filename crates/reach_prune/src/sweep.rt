@@ -6,9 +6,8 @@ ghost use Rattle.reach_prune.specs.Searches.{AreLists};
 ghost use Rattle.reach_prune.specs.Sweeps.{Comes, Swept};
 
 use crate::steps::Way;
-use bit_rows::Rows;
-use node_list::NodeList;
-use outside::NoMemory;
+use bit_rows::{NodeList, Rows};
+use input_output::NoMemory;
 use std::alloc::{AllocError, Global};
 
 /// Rows of what is found from each node, and the nodes of the present search whose neighbours it has not come to yet.

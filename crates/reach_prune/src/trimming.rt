@@ -10,8 +10,8 @@ ghost use Rattle.reach_prune.specs.Trimmed.{CanBeRanked, IsTrimmed, graph_kept, 
 use crate::marking::marked;
 use crate::steps::Way;
 use graph_base::{Graph, Node};
+use input_output::NoMemory;
 use net_base::List;
-use outside::NoMemory;
 use std::alloc::{AllocError, Global};
 
 /// The graph without the nodes from which no rank can be reached, and without their steps. The numbers of

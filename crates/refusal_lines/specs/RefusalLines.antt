@@ -10,7 +10,7 @@ use Rattle.graph_base.specs.declared.refutation.Why.TheVariants.{LoopWorse}
 use Rattle.graph_base.specs.Graphs.{PlainGraph}
 use Rattle.graph_base.specs.Refuting.{IsLine}
 use Rattle.graph_base.specs.Walks.{IsEnteredFromBefore, shown_walk}
-use Rattle.config_made.specs.Writing.{name_of}
+use Rattle.net_base.specs.Network.{name_of}
 use Rattle.case_core.specs.declared.refusal.CompileRefusal.{CompileRefusal}
 use Rattle.case_core.specs.Numbered.{number_of, word_of}
 use Rattle.case_core.specs.declared.refusal.CompileRefusal.TheVariants.{TooManyRanks, TooManyStates, TooManySteps, SourceWithoutPath, MixedSource, NoEvidence, NoMemory}

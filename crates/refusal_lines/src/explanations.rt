@@ -10,10 +10,10 @@ ghost use Rattle.refusal_lines.specs.RefusalLines.{IsOn, IsShowable, ShowsRefuta
 use crate::lines::{push_next, push_pair, push_refusal, push_router, push_shown};
 use case_core::CompileRefusal;
 use graph_base::{Graph, Refutation, Removed, Why};
+use input_output::NoMemory;
 use net_base::Net;
-use outside::NoMemory;
 use std::alloc::Global;
-use text_words::{push_bytes, push_number};
+use text_parts::{push_bytes, push_number};
 
 // Adds a rank after a space, where there is one.
 fn push_rank(text: &mut Vec<u8>, rank: Option<u32>) -> Result<(), NoMemory>

@@ -1,15 +1,15 @@
 //! What is said of a policy that is refused.
 ghost use Rattle.std.specs.Prelude.{◌≡◌, ◌++◌, ◌<◌, OnOk, IfOk, codes, length};
 ghost use Rattle.graph_base.specs.Walks.{IsEnteredFromBefore};
-ghost use Rattle.config_made.specs.Writing.{name_of};
+ghost use Rattle.net_base.specs.Network.{name_of};
 ghost use Rattle.refusal_lines.specs.RefusalLines.{case_text, router_text, next_name, walk_text, walks_text, shown_text, pair_text, refusal_values, refusal_text, refusal_line as line_of, IsShowable};
 
 use case_core::CompileRefusal;
 use graph_base::{Graph, walk_of};
+use input_output::NoMemory;
 use net_base::{Loc, Net};
-use outside::NoMemory;
 use std::alloc::Global;
-use text_words::{push_bytes, push_name, push_number};
+use text_parts::{push_bytes, push_name, push_number};
 
 // Adds the name of a location, where the network has it.
 fn push_location(line: &mut Vec<u8>, net: &Net, at: Loc) -> Result<(), NoMemory>

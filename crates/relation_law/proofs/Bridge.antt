@@ -4,7 +4,7 @@ use Rattle.std.proofs.lemmas.Bool.{cases_Bool, and_parts, and_from, both_ways, l
 use Rattle.net_base.specs.declared.loc.LocSet.{LocSet}
 use Rattle.net_base.specs.Network.{PlainNet, is_peer, is_router}
 use Rattle.net_base.specs.Sets.{holds}
-use Rattle.list_laws.proofs.Options.{is_some_parts}
+use Rattle.list_law.proofs.Options.{is_some_parts}
 use Rattle.graph_base.specs.Graphs.{PlainGraph, IsGraph}
 use Rattle.graph_base.specs.Rules.{IsWellFormed, IsOver, MeetsRules, steps_on, is_heard}
 use Rattle.graph_base.specs.Runs.{place_of, is_listener, rank_at, is_start, has_step}

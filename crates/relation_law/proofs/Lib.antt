@@ -5,3 +5,8 @@ pub mod Ranks
 pub mod Rounds
 pub mod Targets
 pub mod Tests
+pub mod Refuted
+pub mod Chains
+pub mod Falling
+pub mod OneRefutation
+pub mod Resting

@@ -3,7 +3,7 @@ use Rattle.std.proofs.Common.{◌≡◌, ℕ, zero, suc, ◌<◌, Bool, true, fa
 use Rattle.std.proofs.lemmas.Bool.{or_cases, or_parts, or_from, cases_Bool, and_parts, and_from, and_cases, not-true, not-false, not_from_false, both_ways, eqb-true}
 use Rattle.std.proofs.lemmas.Bool.{eq-eqb, ltb-true, lt-ltb, false_from_ne_true, cond-true, cond-false}
 use Rattle.relation_law.specs.Relations.{Pair, Meets, IsClosed, IsGreatest, IsTotal, no_worse, steps_on, is_heard}
-use Rattle.relation_law.specs.Rounds.{IsReach, same_place, has_answer, is_heard_there, is_looped, fails_at, fails, gone_after, is_pair, left_after, IsSettled}
+use Rattle.relation_law.specs.Rounds.{IsReach, same_place, has_answer, is_heard_there, is_looped, fails_at, fails, gone_after, is_pair, left_after, TakesNothingMore}
 use Rattle.relation_law.specs.Views.{View}
 use Rattle.relation_law.proofs.Tests.{any_found, any_at, none_at, none_below}
 
@@ -125,7 +125,7 @@ module _ (v : View) (reach : ℕ → ℕ → Bool) (whole : IsWhole v reach) whe
 
 -- Where a round takes nothing more away, what is left is the greatest closed relation, as long as a test that passes too often
 -- leaves what one that passes too seldom does.
-pub greatest_between : (v : View) (low high : ℕ → ℕ → Bool) (rounds : ℕ) → IsSound v low → IsWhole v high → IsSettled v high rounds
+pub greatest_between : (v : View) (low high : ℕ → ℕ → Bool) (rounds : ℕ) → IsSound v low → IsWhole v high → TakesNothingMore v high rounds
     → ((m n : ℕ) → left_after v low rounds m n ≡ left_after v high rounds m n)
     → IsGreatest v (left_after v high rounds)
 greatest_between v low high rounds sound whole h same = record {
@@ -137,7 +137,7 @@ greatest_between v low high rounds sound whole h same = record {
   greatest = λ s c m n e. sym (same m n) ∙ and_from _ _ (pair_to v m n (c m n e).0) (not_from_false _ (closed_stays v low sound s c rounds m n e));
 }
 
-pub settled_is_greatest : (v : View) (reach : ℕ → ℕ → Bool) → IsReach v reach → (rounds : ℕ) → IsSettled v reach rounds → IsGreatest v (left_after v reach rounds)
+pub settled_is_greatest : (v : View) (reach : ℕ → ℕ → Bool) → IsReach v reach → (rounds : ℕ) → TakesNothingMore v reach rounds → IsGreatest v (left_after v reach rounds)
 settled_is_greatest v reach exact rounds h =
     greatest_between v reach reach rounds (λ a b la lb. (exact a b la lb).0) (λ a b la lb. (exact a b la lb).1) h (λ m n. refl)
 

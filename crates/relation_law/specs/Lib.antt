@@ -3,3 +3,5 @@ pub mod Numbers
 pub mod Relations
 pub mod Rounds
 pub mod Views
+pub mod Reasons
+pub mod Choosing

@@ -47,8 +47,8 @@ abbrev pub left_after : View → (ℕ → ℕ → Bool) → ℕ → ℕ → ℕ 
 left_after v reach rounds m n = is_pair v m n && not (gone_after v reach rounds m n)
 
 -- a round takes nothing more away
-abbrev pub IsSettled : View → (ℕ → ℕ → Bool) → ℕ → Type 0
-IsSettled v reach rounds = (m n : ℕ) → Pair v m n → IsTrue (gone_after v reach (suc rounds) m n) → IsTrue (gone_after v reach rounds m n)
+abbrev pub TakesNothingMore : View → (ℕ → ℕ → Bool) → ℕ → Type 0
+TakesNothingMore v reach rounds = (m n : ℕ) → Pair v m n → IsTrue (gone_after v reach (suc rounds) m n) → IsTrue (gone_after v reach rounds m n)
 
 -- ---- target by target
 

@@ -1,6 +1,13 @@
-//! The rules for the nodes of a graph, the greatest relation under them, and the numbers that meet them: laws
-//! over the definitions, each the contract of a function without a body.
+//! The rules for the nodes of a graph as a relation: laws without code.
+//!
+//! A node is at least another where it may take its place in everybody's route behind it. The greatest such relation is what is left when
+//! rounds take no more pairs away (`specs/Rounds`). Where it is total, the sizes of its rows give numbers that meet the rules, and these are
+//! the rules of evidence (`specs/{Numbers,Evidence}`). Where it isn't, lines of removed pairs show that no numbers can be: each line's reason
+//! rests on earlier lines (`specs/Reasons`), such lines exist exactly there, and one choice of pair and lines is made (`specs/Choosing`).
+//! Policies are unknown here: the claimed routers are a set.
 #![tactic(auto)]
+
+mod refutations;
 
 ghost use Rattle.std.specs.Prelude.{◌≡◌, ℕ, Bool, IsTrue};
 ghost use Rattle.graph_base.specs.Graphs.{PlainGraph, IsGraph};
@@ -11,12 +18,17 @@ ghost use Rattle.net_base.specs.Sets.{holds};
 ghost use Rattle.relation_law.specs.Evidence.{AreRanked, AreRouters, at_routers};
 ghost use Rattle.relation_law.specs.Numbers.{AreNumbers, number_of};
 ghost use Rattle.relation_law.specs.Relations.{IsClosed, IsGreatest, IsTotal, Pair};
-ghost use Rattle.relation_law.specs.Rounds.{IsReach, IsSettled, gone_after, left_after};
+ghost use Rattle.relation_law.specs.Rounds.{IsReach, TakesNothingMore, gone_after, left_after};
 ghost use Rattle.relation_law.specs.Views.{view_of};
+
+pub use refutations::{
+    needed_lines_refute, refutation_is_one, refutations_exist_where_not_total,
+    refuted_graphs_have_no_numbers, refuted_pairs_are_not_left,
+};
 
 /// Where a round takes nothing more away, what is left is the greatest relation.
 pub fn rounds_end_at_the_greatest()
-    ensures { (g : PlainGraph) (claimed : LocSet) (reach : ℕ → ℕ → Bool) (rounds : ℕ) → IsReach (view_of g claimed) reach → IsSettled (view_of g claimed) reach rounds
+    ensures { (g : PlainGraph) (claimed : LocSet) (reach : ℕ → ℕ → Bool) (rounds : ℕ) → IsReach (view_of g claimed) reach → TakesNothingMore (view_of g claimed) reach rounds
         → IsGreatest (view_of g claimed) (left_after (view_of g claimed) reach rounds) }
 {}
 

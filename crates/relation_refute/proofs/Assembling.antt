@@ -11,12 +11,12 @@ use Rattle.graph_base.specs.Least.{least_below}
 use Rattle.graph_base.specs.Refuting.{HasSingleSteps}
 use Rattle.graph_base.specs.Runs.{place_of}
 use Rattle.graph_base.proofs.Least.{least_is_least, least_passes}
-use Rattle.list_laws.specs.Members.{IsIn}
-use Rattle.list_laws.proofs.Items.{slice_get_inside}
+use Rattle.list_law.specs.Members.{IsIn}
+use Rattle.list_law.proofs.Items.{slice_get_inside}
 use Rattle.net_base.specs.declared.loc.LocSet.{LocSet}
 use Rattle.std.proofs.lemmas.Option.{same_Some, slice_get_within}
-use Rattle.refutation_law.specs.Choosing.{Goes, IsEarlier, IsNeeded, IsOpen, IsRefutation, IsRefutedPair, key_of}
-use Rattle.refutation_law.proofs.Chains.{gone-later}
+use Rattle.relation_law.specs.Choosing.{Goes, IsEarlier, IsNeeded, IsOpen, IsRefutation, IsRefutedPair, key_of}
+use Rattle.relation_law.proofs.Chains.{gone-later}
 use Rattle.relation_law.specs.Relations.{Pair}
 use Rattle.relation_law.specs.Rounds.{gone_after, same_place}
 use Rattle.relation_law.specs.Views.{View, view_of}

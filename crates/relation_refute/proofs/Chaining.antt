@@ -6,11 +6,11 @@ use Rattle.graph_base.specs.declared.refutation.Why.{Why}
 use Rattle.graph_base.specs.Graphs.{PlainGraph, IsGraph}
 use Rattle.graph_base.specs.Refuting.{HasSingleSteps}
 use Rattle.net_base.specs.declared.loc.LocSet.{LocSet}
-use Rattle.refutation_law.specs.Choosing.{Goes, Rests}
-use Rattle.refutation_law.specs.Reasons.{IsReason}
-use Rattle.refutation_law.proofs.Chains.{chain-more}
-use Rattle.refutation_law.proofs.OneRefutation.{fails_alike, one_why, reasons_alike}
-use Rattle.refutation_law.proofs.Resting.{rests_earlier}
+use Rattle.relation_law.specs.Choosing.{Goes, Rests}
+use Rattle.relation_law.specs.Reasons.{IsReason}
+use Rattle.relation_law.proofs.Chains.{chain-more}
+use Rattle.relation_law.proofs.OneRefutation.{fails_alike, one_why, reasons_alike}
+use Rattle.relation_law.proofs.Resting.{rests_earlier}
 use Rattle.relation_law.specs.Relations.{Pair}
 use Rattle.relation_law.specs.Rounds.{IsReach, fails, gone_after}
 use Rattle.relation_law.specs.Views.{View, view_of}

@@ -13,9 +13,9 @@ use Rattle.graph_base.specs.declared.refutation.Why.{Why}
 use Rattle.graph_base.specs.declared.refutation.Why.TheVariants.{NoStep, StepWorse, LoopWorse, ListenerWorse}
 use Rattle.graph_base.proofs.Least.{least_exists, least_is_least, least_passes}
 use Rattle.reach_prune.specs.Searches.{is_among}
-use Rattle.refutation_law.specs.Choosing.{Rests}
-use Rattle.refutation_law.specs.Reasons.{is_outranked, none as nobody, reason_at}
-use Rattle.refutation_law.proofs.Falling.{reason_where_failing}
+use Rattle.relation_law.specs.Choosing.{Rests}
+use Rattle.relation_law.specs.Reasons.{is_outranked, none as nobody, reason_at}
+use Rattle.relation_law.proofs.Falling.{reason_where_failing}
 use Rattle.relation_law.specs.Numbers.{any_below}
 use Rattle.relation_law.specs.Relations.{no_worse, steps_on, is_heard}
 use Rattle.relation_law.specs.Rounds.{fails, fails_at, has_answer, is_heard_there, same_place}

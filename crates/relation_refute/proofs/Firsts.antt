@@ -7,7 +7,7 @@ use Rattle.std.proofs.lemmas.Option.{none-some, same_Some}
 use Rattle.graph_base.specs.Graphs.{PlainGraph}
 use Rattle.graph_base.specs.Runs.{has_step, place_of}
 use Rattle.reach_prune.specs.Searches.{is_among}
-use Rattle.refutation_law.specs.Reasons.{IsFirstFailing, reason_at}
+use Rattle.relation_law.specs.Reasons.{IsFirstFailing, reason_at}
 use Rattle.relation_refute.specs.Faults.{stands_before}
 use Rattle.state_simulation.specs.Looked.{shown}
 use Rattle.state_simulation.proofs.Masking.{among_more}

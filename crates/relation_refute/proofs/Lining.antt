@@ -9,11 +9,11 @@ use Rattle.std.proofs.lemmas.Bool.{cases_lt}
 use Rattle.std.proofs.lemmas.List.{length_push}
 use Rattle.std.proofs.lemmas.Option.{slice_get_within}
 use Rattle.std.proofs.lemmas.Cmp.{nat_cmp_total, on_total, then_total}
-use Rattle.list_laws.proofs.Orders.{is_eq-nat_cmp, is_eq-ordering_then, nat_cmp-Equal, nat_cmp-Less, ordering_then-Less, is_eq-ordering_then_parts, is_eq-nat_cmp_same}
+use Rattle.list_law.proofs.Orders.{is_eq-nat_cmp, is_eq-ordering_then, nat_cmp-Equal, nat_cmp-Less, ordering_then-Less, is_eq-ordering_then_parts, is_eq-nat_cmp_same}
 use Rattle.graph_base.specs.declared.refutation.Removed.{Removed}
-use Rattle.list_laws.proofs.Items.{slice_get-append_left, slice_get-there}
-use Rattle.list_laws.proofs.Truth.{and_alike}
-use Rattle.refutation_law.specs.Choosing.{Goes, IsEarlier}
+use Rattle.list_law.proofs.Items.{slice_get-append_left, slice_get-there}
+use Rattle.list_law.proofs.Truth.{and_alike}
+use Rattle.relation_law.specs.Choosing.{Goes, IsEarlier}
 use Rattle.relation_law.specs.Views.{View}
 use Rattle.relation_refute.specs.declared.chains.Line.{Line}
 use Rattle.relation_refute.specs.contracts.chains.LinePartialEq.TheImpl.{ghosts as LineEq}

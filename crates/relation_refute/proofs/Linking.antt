@@ -5,11 +5,11 @@ use Rattle.std.proofs.lemmas.Option.{none-some}
 use Rattle.bit_rows.specs.Tables.{has_at}
 use Rattle.graph_base.specs.Graphs.{PlainGraph, IsGraph}
 use Rattle.graph_base.specs.Refuting.{HasSingleSteps}
-use Rattle.list_laws.specs.Members.{IsIn}
-use Rattle.list_laws.proofs.Members.{IsIn-append_left, IsIn-push, IsIn-push_cases}
+use Rattle.list_law.specs.Members.{IsIn}
+use Rattle.list_law.proofs.Members.{IsIn-append_left, IsIn-push, IsIn-push_cases}
 use Rattle.net_base.specs.declared.loc.LocSet.{LocSet}
-use Rattle.refutation_law.specs.Choosing.{Goes, Rests}
-use Rattle.refutation_law.proofs.Resting.{rests_one}
+use Rattle.relation_law.specs.Choosing.{Goes, Rests}
+use Rattle.relation_law.proofs.Resting.{rests_one}
 use Rattle.relation_law.specs.Relations.{Pair}
 use Rattle.relation_law.specs.Views.{View, view_of}
 use Rattle.relation_refute.specs.declared.chains.Line.{Line}

@@ -3,7 +3,7 @@ use Rattle.std.specs.Prelude.{ℕ, Bool, true, ◌&&◌, not, Option, None, Some
 use Rattle.bit_rows.specs.Tables.{has_at}
 use Rattle.graph_base.specs.Graphs.{PlainGraph}
 use Rattle.graph_base.specs.Runs.{is_listener, place_of, rank_at}
-use Rattle.refutation_law.specs.Choosing.{Rests}
+use Rattle.relation_law.specs.Choosing.{Rests}
 use Rattle.relation_law.specs.Relations.{no_worse}
 use Rattle.relation_law.specs.Rounds.{same_place}
 use Rattle.relation_law.specs.Views.{View}

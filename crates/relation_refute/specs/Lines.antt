@@ -6,7 +6,7 @@ use Rattle.graph_base.specs.declared.refutation.Removed.{Removed}
 use Rattle.graph_base.specs.Graphs.{PlainGraph}
 use Rattle.graph_base.specs.Runs.{place_of}
 use Rattle.net_base.specs.declared.loc.LocSet.{LocSet}
-use Rattle.refutation_law.specs.Choosing.{Goes, IsChain}
+use Rattle.relation_law.specs.Choosing.{Goes, IsChain}
 use Rattle.relation_law.specs.Relations.{Pair}
 use Rattle.relation_law.specs.Views.{View, view_of}
 use Rattle.relation_refute.specs.declared.chains.Line.{Line}

@@ -9,7 +9,7 @@ ghost use Rattle.state_simulation.specs.Targets.{AreNodeRows, is_touched};
 
 use bit_rows::{Rows, is_set};
 use graph_base::Graph;
-use outside::NoMemory;
+use input_output::NoMemory;
 use state_simulation::{Maps, location_count};
 use std::alloc::{AllocError, Global};
 

@@ -4,7 +4,7 @@ ghost use Rattle.std.specs.List.Sorted.{IsStrictlySortedBy};
 ghost use Rattle.bit_rows.specs.Tables.{has_at};
 ghost use Rattle.graph_base.specs.Graphs.{IsGraph};
 ghost use Rattle.graph_base.specs.Refuting.{HasSingleSteps};
-ghost use Rattle.list_laws.specs.Members.{IsIn};
+ghost use Rattle.list_law.specs.Members.{IsIn};
 ghost use Rattle.relation_law.specs.Relations.{Pair};
 ghost use Rattle.relation_law.specs.Views.{view_of};
 ghost use Rattle.relation_refute.specs.Cells.{IsFallen, round_in};

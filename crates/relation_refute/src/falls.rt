@@ -8,8 +8,8 @@ ghost use Rattle.state_simulation.specs.Stages.{AreFirst};
 
 use crate::cells::Cells;
 use bit_rows::Rows;
+use input_output::NoMemory;
 use net_base::LocSet;
-use outside::NoMemory;
 use state_simulation::{Maps, Rounds};
 use std::alloc::Global;
 

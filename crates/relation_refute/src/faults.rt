@@ -5,7 +5,7 @@ ghost use Rattle.graph_base.specs.Graphs.{IsGraph};
 ghost use Rattle.graph_base.specs.Least.{least_below};
 ghost use Rattle.graph_base.specs.Refuting.{HasSingleSteps};
 ghost use Rattle.graph_base.specs.Runs.{has_step, place_of};
-ghost use Rattle.refutation_law.specs.Reasons.{IsFirstFailing, IsReason, none, reason_at as reason_there};
+ghost use Rattle.relation_law.specs.Reasons.{IsFirstFailing, IsReason, none, reason_at as reason_there};
 ghost use Rattle.relation_law.specs.Relations.{steps_on};
 ghost use Rattle.relation_law.specs.Rounds.{fails, has_answer, is_heard_there};
 ghost use Rattle.relation_law.specs.Views.{view_of};

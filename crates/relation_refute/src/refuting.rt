@@ -3,7 +3,7 @@ ghost use Rattle.std.specs.Prelude.{◌≡◌, ◌↔◌, ℕ, Bool, IfOk, IfSom
 ghost use Rattle.graph_base.specs.Refuting.{HasSingleSteps, Refutes};
 ghost use Rattle.net_base.specs.Sets.{holds};
 ghost use Rattle.reach_prune.specs.Reachable.{IsReachOf};
-ghost use Rattle.refutation_law.specs.Choosing.{IsRefutationOf};
+ghost use Rattle.relation_law.specs.Choosing.{IsRefutationOf};
 ghost use Rattle.relation_law.specs.Relations.{IsClosed, IsTotal};
 ghost use Rattle.relation_law.specs.Views.{view_of};
 ghost use Rattle.relation_refute.specs.Cells.{IsFallen};
@@ -14,8 +14,8 @@ use crate::chains::{add_chain, reasoned, settle_lines};
 use crate::falls::Fallen;
 use crate::parted::{first_parted, least_parted};
 use graph_base::{Graph, Refutation};
+use input_output::NoMemory;
 use net_base::LocSet;
-use outside::NoMemory;
 use reach_prune::Reach;
 use state_simulation::{FirstRound, Maps, Relation};
 use std::alloc::Global;

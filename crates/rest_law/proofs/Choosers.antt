@@ -12,13 +12,13 @@ use Rattle.net_base.proofs.Links.{linked_flips}
 use Rattle.config_base.specs.declared.route.Route.{Route}
 use Rattle.config_base.specs.Configs.{PlainConfig}
 use Rattle.config_base.specs.Lines.{class_of, export_of, import_of, own_route}
-use Rattle.list_laws.proofs.Options.{option_and_then_parts, option_map_parts, option_and_then-never}
+use Rattle.list_law.proofs.Options.{option_and_then_parts, option_map_parts, option_and_then-never}
 use Rattle.event_base.specs.Speaking.{chosen_by, exported_by, extended, first_of, message, speakers_of, taken_by}
 use Rattle.event_law.proofs.Messages.{same_as_itself}
-use Rattle.rounds_law.specs.Orders.{AreChoosers}
-use Rattle.world_law.proofs.First.{NoLater, first_covers}
-use Rattle.world_law.proofs.Running.{first_is_given}
-use Rattle.world_law.proofs.Quiet.{are_speakers}
+use Rattle.rest_law.specs.Orders.{AreChoosers}
+use Rattle.event_law.proofs.First.{NoLater, first_covers}
+use Rattle.event_law.proofs.Running.{first_is_given}
+use Rattle.event_law.proofs.Quiet.{are_speakers}
 
 module _ (net : PlainNet) (policy : PlainPolicy) (config : PlainConfig) (p : PlainPrefix) where
   pub untaken : (r u : ℕ) → taken_by net config p r u None ≡ None

@@ -6,7 +6,7 @@ use Rattle.std.proofs.lemmas.Bool.{and_parts, both_ways, eq-eqb, eqb-true, false
 use Rattle.std.proofs.lemmas.Map.Keys.{IsDistinct-cons}
 use Rattle.std.proofs.lemmas.Map.Steps.{length-le_from_distinct_below}
 use Rattle.event_base.specs.World.{Speakers, World, at, running}
-use Rattle.rounds_law.specs.Orders.{IsOrder, Order, Takes, rests}
+use Rattle.rest_law.specs.Orders.{IsOrder, Order, Takes, rests}
 use Rattle.rest_law.proofs.Trails.{none_distinct}
 
 all_of : (P : ℕ → Type 0) (xs : List ℕ) → ((q : ℕ) → list_any (eqb q) xs ≡ true → P q) → AllByRecursion P xs

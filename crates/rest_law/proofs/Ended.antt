@@ -23,24 +23,24 @@ use Rattle.event_base.specs.declared.event.Event.{Event}
 use Rattle.event_base.specs.Speaking.{extended, speakers_of, taken_by}
 use Rattle.event_base.specs.Steps.{IsQuiet, opening, run}
 use Rattle.event_base.specs.World.{Speakers, World}
-use Rattle.rounds_law.specs.Orders.{at_rest, rests}
+use Rattle.rest_law.specs.Orders.{at_rest, rests}
 use Rattle.event_law.proofs.Keeping.{opening-keeps, run-keeps}
-use Rattle.rounds_law.specs.Laws.{Lists, each_round}
-use Rattle.rounds_law.proofs.Fair.{fair_rounds, rounds_before}
-use Rattle.rounds_law.proofs.Present.{rounds_go_on}
-use Rattle.world_law.proofs.Quiet.{are_speakers}
+use Rattle.rest_law.specs.Laws.{Lists, each_round}
+use Rattle.rest_law.proofs.Fair.{fair_rounds, rounds_before}
+use Rattle.rest_law.proofs.Present.{rounds_go_on}
+use Rattle.event_law.proofs.Quiet.{are_speakers}
 use Rattle.net_base.proofs.Links.{joins_ends}
 use Rattle.std.specs.List.{list_any}
 use Rattle.event_law.specs.Kept.{AreSpeakers, IsKept}
-use Rattle.rounds_law.specs.Rounds.{AreRounds, IsFair, deliveries, stretch}
+use Rattle.rest_law.specs.Rounds.{AreRounds, IsFair, deliveries, stretch}
 use Rattle.rest_law.proofs.Graphs.{held_in}
 use Rattle.rest_law.proofs.Ordered.{bare, bare_order, ordered}
-use Rattle.rounds_law.proofs.Failures.{SameFailures, same_run, same_self}
-use Rattle.world_law.specs.Laws.{world_after}
-use Rattle.world_law.specs.Scenarios.{IsScenarioOf, routes_of, scenario_of}
-use Rattle.world_law.proofs.Scenario.{worlds_have_scenarios}
-use Rattle.world_law.proofs.Waiting.{peers_hear_offers, quiet_worlds_are_settled, routes_size}
-use Rattle.world_law.proofs.First.{NoLater}
+use Rattle.rest_law.proofs.Failures.{SameFailures, same_run, same_self}
+use Rattle.event_law.specs.Laws.{world_after}
+use Rattle.event_law.specs.Scenarios.{IsScenarioOf, routes_of, scenario_of}
+use Rattle.event_law.proofs.Scenario.{worlds_have_scenarios}
+use Rattle.event_law.proofs.Waiting.{peers_hear_offers, quiet_worlds_are_settled, routes_size}
+use Rattle.event_law.proofs.First.{NoLater}
 use Rattle.rest_law.proofs.Choosers.{are_choosers}
 use Rattle.rest_law.proofs.Ending.{HasOrder, messages_end_on_networks, run_on}
 use Rattle.rest_law.specs.Rest.{IsAtRest, PassingEvidenceComesToRest, rounds_enough}

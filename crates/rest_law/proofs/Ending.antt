@@ -13,16 +13,16 @@ use Rattle.event_base.specs.World.{Speakers, World}
 use Rattle.event_law.specs.Kinds.{AreKinds}
 use Rattle.event_law.proofs.Keeping.{opening-keeps, run-keeps}
 use Rattle.event_law.proofs.KindsKept.{opening-kinds, run-kinds}
-use Rattle.rounds_law.specs.Orders.{IsOrder, at_rest, rests}
-use Rattle.rounds_law.specs.Rounds.{AreRounds, deliveries}
+use Rattle.rest_law.specs.Orders.{IsOrder, at_rest, rests}
+use Rattle.rest_law.specs.Rounds.{AreRounds, deliveries}
 use Rattle.rest_law.specs.Rest.{rounds_enough}
-use Rattle.rounds_law.proofs.Present.{fewer_rounds}
-use Rattle.rounds_law.proofs.Settle.{comes_to_rest}
-use Rattle.world_law.specs.Laws.{world_after}
-use Rattle.world_law.proofs.First.{NoLater}
+use Rattle.rest_law.proofs.Present.{fewer_rounds}
+use Rattle.rest_law.proofs.Settle.{comes_to_rest}
+use Rattle.event_law.specs.Laws.{world_after}
+use Rattle.event_law.proofs.First.{NoLater}
 use Rattle.rest_law.proofs.Choosers.{are_choosers}
 use Rattle.rest_law.proofs.Counts.{order_short}
-use Rattle.world_law.proofs.Quiet.{are_speakers}
+use Rattle.event_law.proofs.Quiet.{are_speakers}
 use Rattle.rest_law.proofs.Trails.{IsHolding, IsSaying, trail_short, trails}
 
 pub run_on : {R : Type 0} (net : Speakers R) (es fs : List Event) (w : World R) → run net fs (run net es w) ≡ run net (es ++ fs) w

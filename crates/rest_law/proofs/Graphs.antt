@@ -2,7 +2,7 @@
 use Rattle.std.specs.Prelude.{◌≡◌, ℕ, ◌<◌, true, false, List, [], ◌∷◌, Option, Some, if◌then◌else◌}
 use Rattle.std.specs.Option.{option_map}
 use Rattle.event_base.specs.World.{Speakers, World, live}
-use Rattle.rounds_law.specs.Orders.{Order, Takes, at_rest, rests, said}
+use Rattle.rest_law.specs.Orders.{Order, Takes, at_rest, rests, said}
 use Rattle.routing_law.specs.Graph.{run}
 use Rattle.routing_law.specs.Network.{chooses, stands_on}
 use Rattle.routing_law.specs.Outcome.{NoLater, Route, Routes, Setup, own_route}

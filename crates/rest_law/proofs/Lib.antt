@@ -6,3 +6,17 @@ pub mod Counts
 pub mod Ending
 pub mod OfGraph
 pub mod Ended
+pub mod Failures
+pub mod Fair
+pub mod Fresh
+pub mod Memory
+pub mod Present
+pub mod Settle
+pub mod Still
+pub mod Order
+pub mod Cycle
+pub mod Search
+pub mod Secure
+pub mod Firm
+pub mod Candidates
+pub mod Stages

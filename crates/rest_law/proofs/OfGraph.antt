@@ -15,7 +15,7 @@ use Rattle.policy_base.specs.Governing.{is_origin}
 use Rattle.config_base.specs.declared.route.Route.{Route}
 use Rattle.config_base.specs.Configs.{PlainConfig}
 use Rattle.config_base.specs.Lines.{class_of, export_of, import_of, own_route}
-use Rattle.list_laws.proofs.Options.{cases_Option, is_some_parts, option_map_parts}
+use Rattle.list_law.proofs.Options.{cases_Option, is_some_parts, option_map_parts}
 use Rattle.outcome_base.specs.Outcomes.{Failures, is_dead, is_dead_link, is_live, is_silent}
 use Rattle.evidence_law.proofs.Setting.{alive_of, gift_of, lines_of, network_of, pair_of, tag_of}
 use Rattle.evidence_law.proofs.Heard.{export_to_router}
@@ -30,9 +30,9 @@ use Rattle.routing_law.proofs.Runs.{node_below, run_place}
 use Rattle.routing_law.proofs.Steps.{announcements_are_steps, imports_are_steps, own_routes_are_starts}
 use Rattle.event_base.specs.Speaking.{announced_by, chosen_by, exported_by, extended, message, speakers_of, taken_by}
 use Rattle.event_base.specs.World.{Speakers, World, live, running}
-use Rattle.rounds_law.specs.Orders.{at_rest, rests, said}
-use Rattle.world_law.specs.Scenarios.{IsScenarioOf}
-use Rattle.world_law.proofs.First.{NoLater}
+use Rattle.rest_law.specs.Orders.{at_rest, rests, said}
+use Rattle.event_law.specs.Scenarios.{IsScenarioOf}
+use Rattle.event_law.proofs.First.{NoLater}
 use Rattle.rest_law.proofs.Choosers.{chosen_own, chosen_parts, no_origin, untaken}
 use Rattle.rest_law.proofs.Graphs.{AreOfGraph, Runs, Steps, stepped}
 

@@ -4,19 +4,19 @@ use Rattle.std.specs.Prelude.{if◌then◌else◌}
 use Rattle.std.specs.List.{list_any}
 use Rattle.std.specs.Option.{option_map}
 use Rattle.std.proofs.lemmas.Bool.{and_parts, both_ways, cases_Bool, cond-true, cond-false, eqb-true, eq-eqb, false_from_ne_true, true_from_ne_false, not-false, or_cases, or_left, or_parts, or_right}
-use Rattle.list_laws.proofs.Options.{cases_Option}
+use Rattle.list_law.proofs.Options.{cases_Option}
 use Rattle.event_base.specs.World.{Speakers, World, at, live, running}
-use Rattle.rounds_law.specs.Orders.{AreChoosers, Comes, Comes as comes, IsFirst, IsOrder, IsUnreached, Order, Takes, at_rest, rests, said}
+use Rattle.rest_law.specs.Orders.{AreChoosers, Comes, Comes as comes, IsFirst, IsOrder, IsUnreached, Order, Takes, at_rest, rests, said}
 use Rattle.routing_law.specs.Graph.{WellFormed, MeetsRules}
 use Rattle.routing_law.specs.Network.{NamesDiffer, chooses, stands_on}
 use Rattle.routing_law.specs.Outcome.{FullyStable, Route, Routes, Setup, heard, own_route}
 use Rattle.routing_law.proofs.Heard.{Heard, chooses_parts, heard_parts, own_parts}
 use Rattle.routing_law.proofs.Sound.{route_is, sound_of}
-use Rattle.secure_law.specs.Partial.{CanHold, IsCandidate, IsOpen, IsSecure, PartlySettled, SettlingOrder, at_first, settled_with}
-use Rattle.secure_law.proofs.Candidates.{firm_comes_first, given_are_candidates, nothing_is_left}
-use Rattle.secure_law.proofs.Search.{held_runs}
-use Rattle.secure_law.proofs.Secure.{backed_of}
-use Rattle.secure_law.proofs.Stages.{routers_settle_in_order}
+use Rattle.rest_law.specs.Partial.{CanHold, IsCandidate, IsOpen, IsSecure, PartlySettled, SettlingOrder, at_first, settled_with}
+use Rattle.rest_law.proofs.Candidates.{firm_comes_first, given_are_candidates, nothing_is_left}
+use Rattle.rest_law.proofs.Search.{held_runs}
+use Rattle.rest_law.proofs.Secure.{backed_of}
+use Rattle.rest_law.proofs.Stages.{routers_settle_in_order}
 use Rattle.rest_law.proofs.Graphs.{AreOfGraph, Runs, Steps, held_in, stepped}
 
 abbrev down_from : ℕ → List ℕ

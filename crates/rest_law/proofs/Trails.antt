@@ -11,7 +11,7 @@ use Rattle.net_base.specs.Prefixes.{PlainPrefix}
 use Rattle.net_base.proofs.RoutersAndPeers.{router_no_peer}
 use Rattle.policy_base.specs.Policies.{PlainPolicy}
 use Rattle.policy_base.specs.Governing.{is_origin}
-use Rattle.list_laws.proofs.Options.{unless_parts}
+use Rattle.list_law.proofs.Options.{unless_parts}
 use Rattle.config_base.specs.declared.route.Route.{Route}
 use Rattle.config_base.specs.Configs.{PlainConfig}
 use Rattle.config_base.specs.Lines.{is_looped, own_route}

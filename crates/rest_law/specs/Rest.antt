@@ -12,10 +12,10 @@ use Rattle.event_base.specs.declared.event.Event.{Event}
 use Rattle.event_base.specs.Speaking.{speakers_of}
 use Rattle.event_base.specs.Steps.{IsQuiet}
 use Rattle.event_base.specs.World.{World}
-use Rattle.rounds_law.specs.Rounds.{AreRounds, IsFair, deliveries, stretch}
+use Rattle.rest_law.specs.Rounds.{AreRounds, IsFair, deliveries, stretch}
 use Rattle.settled_law.specs.Settled.{IsFullyStable}
-use Rattle.world_law.specs.Laws.{world_after}
-use Rattle.world_law.specs.Scenarios.{IsScenarioOf, routes_of}
+use Rattle.event_law.specs.Laws.{world_after}
+use Rattle.event_law.specs.Scenarios.{IsScenarioOf, routes_of}
 
 -- The world is at rest, where f is what has failed in it:
 pub record IsAtRest (net : PlainNet) (policy : PlainPolicy) (config : PlainConfig) (p : PlainPrefix) (f : Failures) (w : World Route) : Type 0 where

@@ -1,11 +1,29 @@
-//! Networks whose evidence passes come to rest: a law without code.
+//! Networks whose evidence passes come to rest: laws without code, in three steps.
 //!
-//! `proofs/OfGraph` says that what the routers of a configured network say and take in a world is what the graph of the prefix's case
-//! does over what lives. So the order in which the routers of the graph settle (`secure_law`) is one in which these come to rest
-//! (`proofs/Ordered`), and rounds of deliveries settle them one after another (`rounds_law`).
+//! 1. *Some router can always settle.* A settlement gives routes to some locations; the other routers are open. As long as settled routers
+//!    give an open one a route, some open router is secure: what a settled neighbour gives it comes before all that its open neighbours can
+//!    come to give it, by number or, at the same number, by length (`specs/Partial`, `proofs/Secure`). So the routers of a graph settle one
+//!    after another, and what they settle to is the outcome. This asks for the rules of evidence, and knows abstract networks alone.
+//! 2. *Rounds forget.* A round delivers at least what waits when it begins. After it each speaker has heard only what was said since, so what
+//!    can be held after so many rounds is what can be chosen, so many times over, of what can be said (`specs/Holding`). A route grows with
+//!    each hop. So where the routers have an order in which each must then choose what an outcome has (`specs/Orders`), they come to hold it
+//!    one after another; in the end no route changes, and one more round leaves no message (`specs/Rounds`). This knows speakers alone.
+//! 3. *A configured network is such.* What its routers say and take in a world is what the graph of the prefix's case does over what lives
+//!    (`proofs/OfGraph`), so the order of the first step is one for the second (`proofs/Ordered`).
+//!
+//! The compiler and texts are unknown here.
 #![tactic(auto)]
 
+mod rounds;
+mod secure_routers;
+
 ghost use Rattle.rest_law.specs.Rest.{PassingEvidenceComesToRest};
+
+pub use rounds::{messages_end, rounds_remember};
+pub use secure_routers::{
+    firm_routes_are_chosen, secure_routers_settle, settled_routes_are_the_outcome,
+    some_router_is_secure,
+};
 
 /// Where the evidence passes, for every prefix and after every list of events, messages that are delivered come to an end. Then the
 /// routers hold the one settled outcome of what is down, cut and silent, and each peer has heard what it is offered in it.

@@ -1,7 +1,7 @@
 -- Two layers of routes whose tags are apart stay two layers, whatever mixture of their lines routers run.
 use Rattle.std.proofs.Common.{◌≡◌, ℕ, Bool, true, false, ◌⊎◌, List, [], ◌∷◌, Option, Some, sym, ap, ◌∙◌, subst, inl, inr}
 use Rattle.std.proofs.lemmas.Bool.{cases_Bool, cond-true, cond-false, eqb-true, true≢false}
-use Rattle.list_laws.proofs.Options.{when_parts}
+use Rattle.list_law.proofs.Options.{when_parts}
 use Rattle.net_base.specs.declared.numbers.Tag.{Tag}
 use Rattle.net_base.specs.Network.{PlainNet, is_peer, is_router}
 use Rattle.net_base.specs.Numbers.{no_tag}

@@ -3,7 +3,7 @@ use Rattle.std.proofs.Common.{◌≡◌, ℕ, Bool, true, false, ◌&&◌, ◌�
 use Rattle.std.specs.Prelude.{if◌then◌else◌}
 use Rattle.std.specs.Option.{option_map_or}
 use Rattle.std.proofs.lemmas.Bool.{and_from, both_ways, cases_Bool, cond-true, cond-false, not_from_false, or_cases, and_parts}
-use Rattle.list_laws.proofs.Options.{none_or_some, when_parts}
+use Rattle.list_law.proofs.Options.{none_or_some, when_parts}
 use Rattle.routing_law.specs.Lines.{LineRoute, LineRoutes, Lines, LinesStable, Tag, own_line}
 use Rattle.routing_law.specs.Network.{Alive, Network, chooses}
 use Rattle.rollout_layers.specs.Layers.{holds_new}

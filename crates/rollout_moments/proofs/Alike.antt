@@ -3,8 +3,8 @@ use Rattle.std.proofs.Common.{◌≡◌, ℕ, suc, Bool, true, false, List, [], 
 use Rattle.std.specs.Prelude.{◌&&◌, ◌==◌, IsTrue, slice_get, if◌then◌else◌}
 use Rattle.std.specs.List.{find}
 use Rattle.std.proofs.lemmas.Bool.{and_parts, both_ways, cases_Bool, eqb-true, true≢false}
-use Rattle.list_laws.proofs.Options.{cases_Option, none_or_some, when_parts}
-use Rattle.list_laws.proofs.Tests.{find_parts}
+use Rattle.list_law.proofs.Options.{cases_Option, none_or_some, when_parts}
+use Rattle.list_law.proofs.Tests.{find_parts}
 use Rattle.net_base.specs.declared.numbers.Tag.{Tag}
 use Rattle.net_base.specs.Network.{PlainNet, IsNet, is_named, is_router}
 use Rattle.net_base.specs.Numbers.{is_tag, no_tag}

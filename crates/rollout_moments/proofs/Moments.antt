@@ -16,7 +16,7 @@ use Rattle.rollout_law.proofs.Layers.{Held_at, OnTheWay, after-kinds, begins-kin
 use Rattle.rollout_law.proofs.Loads.{loaded_so}
 use Rattle.rollout_moments.proofs.Alike.{IsUntagged, apart_from_silence, says_as_silenced, silenced, untagged_elsewhere}
 use Rattle.rollout_moments.proofs.OfCase.{FoundLayer, bare, found_layer}
-use Rattle.world_law.proofs.Moments.{each_at}
+use Rattle.event_law.proofs.Moments.{each_at}
 
 module _ (net : PlainNet) (says : ℕ → Bool) (p : PlainPrefix) (x y : Part) (apart : AreApart net p x y)
     (peers : (a : ℕ) → says a ≡ true → is_peer net a ≡ true) (one : FoundLayer net p x) (two : FoundLayer net p y) where

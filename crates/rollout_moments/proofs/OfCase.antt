@@ -3,7 +3,7 @@ use Rattle.std.proofs.Common.{◌≡◌, ℕ, suc, Bool, true, false, ◌⊎◌,
 use Rattle.std.specs.Prelude.{◌&&◌, ◌||◌, option_map}
 use Rattle.std.specs.Option.{option_and_then}
 use Rattle.std.proofs.lemmas.Bool.{and_from, or_from, true≢false, cases_Bool}
-use Rattle.list_laws.proofs.Options.{none_or_some}
+use Rattle.list_law.proofs.Options.{none_or_some}
 use Rattle.net_base.specs.declared.numbers.Tag.{Tag}
 use Rattle.net_base.specs.Network.{PlainNet, IsNet, is_location, is_peer, is_router}
 use Rattle.net_base.specs.Numbers.{no_tag}
@@ -27,10 +27,10 @@ use Rattle.rollout_base.specs.Mixtures.{Part}
 use Rattle.rollout_base.specs.Moments.{Holds, MayHear, MayHold}
 use Rattle.rollout_law.proofs.Speaking.{sent_to_router}
 use Rattle.rollout_law.proofs.Layers.{IsLayer, with_pref}
-use Rattle.world_law.proofs.Moments.{claimed_allowed, run_ends}
-use Rattle.world_law.proofs.Offers.{known, lines_here}
-use Rattle.world_law.proofs.Running.{RunsAt, RunsTo, from_peer, from_router, sent_on, sent_own}
-use Rattle.world_law.proofs.Waiting.{has_run, way_said}
+use Rattle.event_law.proofs.Moments.{claimed_allowed, run_ends}
+use Rattle.event_law.proofs.Offers.{known, lines_here}
+use Rattle.event_law.proofs.Running.{RunsAt, RunsTo, from_peer, from_router, sent_on, sent_own}
+use Rattle.event_law.proofs.Waiting.{has_run, way_said}
 
 -- a layer whose routes the policy lets routers hold and peers hear
 pub record FoundLayer (net : PlainNet) (p : PlainPrefix) (x : Part) : Type 1 where

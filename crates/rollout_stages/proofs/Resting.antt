@@ -1,7 +1,7 @@
 -- Where all run stage 2 or the new configuration and no message waits, each route is the new one's.
 use Rattle.std.proofs.Common.{◌≡◌, ℕ, zero, suc, ◌<◌, Bool, true, false, cond, ◌&&◌, List, [], ◌∷◌, length, Option, Some, None, refl, sym, ap, ◌∙◌, subst, inl, inr, arith}
 use Rattle.std.proofs.lemmas.Bool.{and_parts, cases_Bool, cond-true, cond-false}
-use Rattle.list_laws.proofs.Options.{none_or_some, unless_parts, when_parts}
+use Rattle.list_law.proofs.Options.{none_or_some, unless_parts, when_parts}
 use Rattle.net_base.specs.declared.numbers.Tag.{Tag}
 use Rattle.net_base.specs.Network.{PlainNet, is_router}
 use Rattle.net_base.specs.Prefixes.{PlainPrefix}

@@ -4,7 +4,7 @@ use Rattle.std.specs.Prelude.{IsTrue}
 use Rattle.std.specs.Option.{option_and_then, option_or}
 use Rattle.std.specs.List.{find}
 use Rattle.std.proofs.lemmas.Bool.{cases_Bool}
-use Rattle.list_laws.proofs.Options.{cases_Option, option_and_then_parts, unless_parts, when_parts}
+use Rattle.list_law.proofs.Options.{cases_Option, option_and_then_parts, unless_parts, when_parts}
 use Rattle.net_base.specs.declared.numbers.Tag.{Tag}
 use Rattle.net_base.specs.Network.{PlainNet, is_named, is_router}
 use Rattle.net_base.specs.Prefixes.{PlainPrefix}

@@ -1,7 +1,7 @@
 -- Where all run stage 2 or the new configuration and no message waits, the routes are a settled outcome of the new one.
 use Rattle.std.proofs.Common.{◌≡◌, ℕ, Bool, true, false, List, [], ◌∷◌, Option, Some, None, refl, sym, ap, ◌∙◌, subst, inl, inr}
 use Rattle.std.proofs.lemmas.Bool.{cases_Bool, cond-true, cond-false}
-use Rattle.list_laws.proofs.Options.{none_or_some, unless_parts, when_parts}
+use Rattle.list_law.proofs.Options.{none_or_some, unless_parts, when_parts}
 use Rattle.net_base.specs.Network.{PlainNet, IsNet, is_router}
 use Rattle.net_base.specs.Numbers.{no_tag}
 use Rattle.net_base.specs.Prefixes.{PlainPrefix}
@@ -17,10 +17,10 @@ use Rattle.event_law.specs.Kept.{IsKept, last_of}
 use Rattle.event_law.specs.Kinds.{AreKinds, Each}
 use Rattle.event_law.proofs.Keeping.{opening-keeps}
 use Rattle.settled_law.specs.Settled.{IsFullyStable}
-use Rattle.world_law.specs.Scenarios.{IsScenarioOf, routes_of}
-use Rattle.world_law.proofs.Quiet as quiet_law
-use Rattle.world_law.proofs.Quiet.{BeginsWith}
-use Rattle.world_law.proofs.Waiting.{same_routes}
+use Rattle.event_law.specs.Scenarios.{IsScenarioOf, routes_of}
+use Rattle.event_law.proofs.Quiet as quiet_law
+use Rattle.event_law.proofs.Quiet.{BeginsWith}
+use Rattle.event_law.proofs.Waiting.{same_routes}
 use Rattle.rollout_base.specs.Lines.{ReadsAs}
 use Rattle.rollout_base.specs.Mixtures.{Mixture, Part, after, all_run, announced_if, begins, mixed}
 use Rattle.rollout_base.specs.Stages.{HasStartsOf, IsRollout}

@@ -13,7 +13,7 @@ use Rattle.event_base.specs.Steps.{IsQuiet, opening, run}
 use Rattle.event_base.specs.World.{World}
 use Rattle.event_law.specs.Kept.{IsKept}
 use Rattle.settled_law.specs.Settled.{IsFullyStable}
-use Rattle.world_law.specs.Scenarios.{IsScenarioOf, routes_of}
+use Rattle.event_law.specs.Scenarios.{IsScenarioOf, routes_of}
 use Rattle.rollout_base.specs.Lines.{ReadsAs, SaysNoMore}
 use Rattle.rollout_base.specs.Mixtures.{Change, Loaded, Mixture, Part, Running, after, all_run, begins, mixed, without_loads}
 use Rattle.rollout_base.specs.Moments.{IsRightByEither}

@@ -3,10 +3,10 @@ use Rattle.std.proofs.Common.{◌≡◌, ℕ, Bool, true, false, not, ◌⊎◌,
 use Rattle.std.specs.Prelude.{◌&&◌, ◌||◌, ◌==◌, MatchBool, option_and_then, if◌then◌else◌}
 use Rattle.std.specs.List.{find, list_any}
 use Rattle.std.proofs.lemmas.Bool.{and_parts, both_ways, or_cases, true≢false}
-use Rattle.list_laws.specs.Members.{IsIn}
-use Rattle.list_laws.proofs.Each.{AllByRecursion_at}
-use Rattle.list_laws.proofs.Options.{cases_Option, option_and_then_parts, unless_parts, when_parts}
-use Rattle.list_laws.proofs.Tests.{find_parts, list_any_parts}
+use Rattle.list_law.specs.Members.{IsIn}
+use Rattle.list_law.proofs.Each.{AllByRecursion_at}
+use Rattle.list_law.proofs.Options.{cases_Option, option_and_then_parts, unless_parts, when_parts}
+use Rattle.list_law.proofs.Tests.{find_parts, list_any_parts}
 use Rattle.net_base.specs.declared.numbers.Tag.{Tag}
 use Rattle.net_base.specs.Network.{PlainNet, is_named, is_peer, is_router}
 use Rattle.net_base.specs.Numbers.{is_tag, no_tag}

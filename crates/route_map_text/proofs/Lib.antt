@@ -1,1 +1,7 @@
 pub mod PrintLaws
+pub mod Entries
+pub mod LongMapLines
+pub mod MapForms
+pub mod MapJoined
+pub mod MapWritten
+pub mod OtherMapLengths

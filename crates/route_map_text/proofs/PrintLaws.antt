@@ -12,8 +12,8 @@ use Rattle.config_lines.specs.declared.line.Line.TheVariants as line
 use Rattle.config_text.specs.ConfigLines.{head_of, import_of}
 use Rattle.route_maps.specs.declared.maps.ListLine.{ListLine}
 use Rattle.route_maps.specs.Maps.{PlainMaps}
-use Rattle.map_lines.specs.declared.line.MapLine.{MapLine}
-use Rattle.map_lines.specs.declared.line.MapLine.TheVariants as written
+use Rattle.route_map_text.specs.declared.line.MapLine.{MapLine}
+use Rattle.route_map_text.specs.declared.line.MapLine.TheVariants as written
 use Rattle.route_map_text.specs.MapsLines.{fed, lines_of_list, lines_of_lists, numbered, network_of, lines_of_session, lines_of_router, maps_text}
 
 pub fed-map : {X : Type 0} (f : X → MapLine) (xs : List X) → flat_map fed (map f xs) ≡ flat_map (λ (x : X). fed (f x)) xs

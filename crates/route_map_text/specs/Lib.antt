@@ -1,2 +1,4 @@
 pub mod MapsLines
 pub mod MapsSpelled
+pub mod MapLineText
+pub mod MapLines

@@ -9,9 +9,9 @@ use Rattle.config_lines.specs.declared.line.Line.TheVariants as line
 use Rattle.config_text.specs.ConfigLines.{head_of, import_of}
 use Rattle.route_maps.specs.declared.maps.ListLine.{ListLine}
 use Rattle.route_maps.specs.Maps.{PlainMaps}
-use Rattle.map_lines.specs.declared.line.MapLine.{MapLine}
-use Rattle.map_lines.specs.declared.line.MapLine.TheVariants as written
-use Rattle.map_lines.specs.MapLineText.{map_line_text}
+use Rattle.route_map_text.specs.declared.line.MapLine.{MapLine}
+use Rattle.route_map_text.specs.declared.line.MapLine.TheVariants as written
+use Rattle.route_map_text.specs.MapLineText.{map_line_text}
 
 -- those of the lists, which are numbered from n
 abbrev pub lines_of_list : ℕ → List ListLine → List MapLine

@@ -4,7 +4,7 @@ ghost use Rattle.std.specs.List.{flat_map, AllByRecursion};
 ghost use Rattle.config_lines.specs.declared.line.Line.TheVariants.{Export as ExportLine};
 ghost use Rattle.config_text.specs.ConfigLines.{import_of};
 ghost use Rattle.config_text.specs.Spelled.{HasPrefix, IsNamed, HasLawfulParts};
-ghost use Rattle.map_lines.specs.declared.line.MapLine.TheVariants.{List as ListOf};
+ghost use Rattle.route_map_text.specs.declared.line.MapLine.TheVariants.{List as ListOf};
 ghost use Rattle.route_map_text.specs.MapsLines.{fed, lines_of_lists, network_of, numbered, lines_of_session, lines_of_router};
 ghost use Rattle.route_map_text.specs.MapsSpelled.{HavePatterns};
 
@@ -12,10 +12,10 @@ use crate::lines::{
     next_number, push_head, push_in, push_list_line, push_network_line, push_out, push_router_line,
 };
 use config_base::{Export, Import, Origination, RouterConfig, Session};
+use input_output::NoMemory;
 use net_base::List;
-use outside::NoMemory;
 use route_maps::ListLine;
-use text_words::push_bytes;
+use text_parts::push_bytes;
 
 // Adds the lines of the list with this number.
 fn push_list(text: &mut Vec<u8>, number: u64, lines: &[ListLine]) -> Result<(), NoMemory>

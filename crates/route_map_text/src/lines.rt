@@ -7,17 +7,17 @@ ghost use Rattle.config_lines.specs.Editions.{tag_text};
 ghost use Rattle.config_lines.specs.LineText.{set_text};
 ghost use Rattle.config_text.specs.ConfigLines.{head_of, import_of};
 ghost use Rattle.config_text.specs.Spelled.{HasPrefix, IsNamed};
-ghost use Rattle.map_lines.specs.declared.line.MapLine.TheVariants.{List as ListOf, Entry, Block};
-ghost use Rattle.map_lines.specs.MapLineText.{kind_text};
+ghost use Rattle.route_map_text.specs.declared.line.MapLine.TheVariants.{List as ListOf, Entry, Block};
+ghost use Rattle.route_map_text.specs.MapLineText.{kind_text};
 ghost use Rattle.route_map_text.specs.MapsLines.{fed, network_of};
 ghost use Rattle.route_map_text.specs.MapsSpelled.{HasPattern};
 ghost use Rattle.net_base.specs.NameRule.{is_name};
 
 use config_base::{Export, Import, Origination, Session};
+use input_output::NoMemory;
 use net_base::{Name, Tag};
-use outside::NoMemory;
 use route_maps::ListLine;
-use text_words::{push_address, push_bytes, push_name, push_number, push_pattern, push_prefix};
+use text_parts::{push_address, push_bytes, push_name, push_number, push_pattern, push_prefix};
 
 // Adds a tag as a large community is written (RFC 8092).
 fn push_tag(text: &mut Vec<u8>, tag: Tag) -> Result<(), NoMemory>

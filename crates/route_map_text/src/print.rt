@@ -5,11 +5,11 @@ ghost use Rattle.route_map_text.specs.MapsSpelled.{Spells};
 
 use crate::blocks::{push_lists, push_routers};
 use config_base::{RouterConfig, Session};
+use input_output::NoMemory;
 use net_base::List;
-use outside::NoMemory;
 use route_maps::{ListLine, Maps};
 use std::alloc::Global;
-use text_words::push_bytes;
+use text_parts::push_bytes;
 
 /// As many bytes as most lines of lists have.
 const LIST_BYTES: usize = 32;

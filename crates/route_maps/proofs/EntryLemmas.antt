@@ -11,7 +11,7 @@ use Rattle.config_base.specs.declared.config.Session.{Session}
 use Rattle.config_base.specs.declared.config.Import.{Import}
 use Rattle.config_base.specs.declared.config.Export.{Export}
 use Rattle.config_base.specs.Lines.{block_at, same_tag, is_looped, line_by, import_by, export_by}
-use Rattle.list_laws.proofs.Tests.{list_any-found, list_any-not_found}
+use Rattle.list_law.proofs.Tests.{list_any-found, list_any-not_found}
 use Rattle.route_maps.specs.Maps.{PlainMaps, list_permits, blocks, out_by, map_out, in_by, map_in}
 use Rattle.route_maps.proofs.ListLaws.{none_either_way}
 

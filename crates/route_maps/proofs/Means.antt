@@ -2,8 +2,8 @@
 use Rattle.std.proofs.Common.{◌≡◌, ℕ, ◌≤◌, List, Option, Some, None, refl, ap, ◌∙◌}
 use Rattle.std.specs.Prelude.{◌&&◌, ◌||◌, ◌==◌, option_and_then, unwrap_or, if◌then◌else◌}
 use Rattle.std.specs.List.{find}
-use Rattle.list_laws.proofs.Tests.{find-same, list_any-same, find-never, list_any-never}
-use Rattle.list_laws.proofs.Options.{option_and_then-never}
+use Rattle.list_law.proofs.Tests.{find-same, list_any-same, find-never, list_any-never}
+use Rattle.list_law.proofs.Options.{option_and_then-never}
 use Rattle.net_base.specs.declared.numbers.Tag.{Tag}
 use Rattle.net_base.specs.Network.{PlainNet, is_peer}
 use Rattle.net_base.specs.Numbers.{no_tag}

@@ -2,7 +2,7 @@
 use Rattle.std.proofs.Common.{◌≡◌, ℕ, ◌≤◌, Bool, true, false, cond, ◌∷◌, Option, Some, None, refl, sym, ap, ◌∙◌, subst}
 use Rattle.std.specs.Option.{option_map}
 use Rattle.std.proofs.lemmas.Option.{same_Some}
-use Rattle.list_laws.proofs.Options.{option_map_parts, when_parts}
+use Rattle.list_law.proofs.Options.{option_map_parts, when_parts}
 use Rattle.routing_law.specs.Graph.{Graph, MeetsRules, run}
 use Rattle.routing_law.specs.Laws.{GraphIsLines, OutcomeExists, OutcomeIsUnique}
 use Rattle.routing_law.specs.Lines.{LineRoute, LineRoutes, Lines, LinesFullyStable, LinesNoLater, LinesStable, Tag, own_line}

@@ -2,7 +2,7 @@
 use Rattle.std.proofs.Common.{◌≡◌, ℕ, Bool, true, false, not, ◌&&◌, [], ◌∷◌, Some, refl, sym, ap, ◌∙◌}
 use Rattle.std.specs.Option.{option_map, option_and_then}
 use Rattle.std.proofs.lemmas.Bool.{and_parts, not-true}
-use Rattle.list_laws.proofs.Options.{option_and_then_parts, option_map_parts, unless_parts, when_parts}
+use Rattle.list_law.proofs.Options.{option_and_then_parts, option_map_parts, unless_parts, when_parts}
 use Rattle.routing_law.specs.Network.{chooses, stands_on}
 use Rattle.routing_law.specs.Outcome.{Route, Routes, Setup, extended, heard, own_route}
 

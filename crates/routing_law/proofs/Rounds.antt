@@ -3,7 +3,7 @@ use Rattle.std.proofs.Common.{◌≡◌, ℕ, zero, suc, ◌<◌, ◌≤◌, tru
 use Rattle.std.specs.Option.{is_some, option_and_then}
 use Rattle.std.proofs.lemmas.Bool.{false≢true, cases_lt, eqb-true, eq-eqb, and_right}
 use Rattle.std.proofs.Math.Bool.{and-false}
-use Rattle.list_laws.proofs.Options.{when_parts}
+use Rattle.list_law.proofs.Options.{when_parts}
 use Rattle.routing_law.specs.Graph.{WellFormed, run}
 use Rattle.routing_law.specs.Laws.{GraphOutcomeExists}
 use Rattle.routing_law.specs.Network.{chooses}

@@ -1,7 +1,7 @@
 -- The step rule and the loop rule at every location: at an origin there is one node.
 use Rattle.std.proofs.Common.{◌≡◌, ℕ, ◌<◌, ◌≤◌, Bool, true, false, ◌||◌, List, [], ◌∷◌, ◌++◌, inl, inr, Some, refl, sym, ap, ◌∙◌, subst, arith}
 use Rattle.std.proofs.lemmas.Bool.{false≢true}
-use Rattle.list_laws.proofs.Options.{option_and_then_parts}
+use Rattle.list_law.proofs.Options.{option_and_then_parts}
 use Rattle.routing_law.specs.Graph.{AtLeast, Graph, MeetsRules, Reaches, WellFormed, follow}
 use Rattle.routing_law.specs.Network.{Network}
 use Rattle.routing_law.proofs.Runs.{follow_last, follow_origin}

@@ -1,7 +1,7 @@
 -- Runs of a graph along paths, and ways from node to node.
 use Rattle.std.proofs.Common.{◌≡◌, ℕ, ◌<◌, Bool, true, false, ◌&&◌, ◌||◌, ◌⊎◌, inl, inr, List, [], ◌∷◌, ◌++◌, Some, eqb, refl, sym, ap, ◌∙◌, subst}
 use Rattle.std.proofs.lemmas.Bool.{and_parts, eqb-true, false≢true}
-use Rattle.list_laws.proofs.Options.{option_and_then_parts}
+use Rattle.list_law.proofs.Options.{option_and_then_parts}
 use Rattle.routing_law.specs.Graph.{Graph, Reaches, WellFormed, follow, run}
 use Rattle.routing_law.specs.Network.{Alive, Network, stands_on, survives}
 

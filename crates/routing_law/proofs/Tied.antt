@@ -2,7 +2,7 @@
 use Rattle.std.proofs.Common.{◌≡◌, ℕ, Bool, true, false, cond, ◌&&◌, List, [], ◌∷◌, Some, None, eqb, refl, sym, ap, ◌∙◌}
 use Rattle.std.specs.Option.{option_map, option_and_then}
 use Rattle.std.proofs.lemmas.Bool.{and_parts, false≢true, eqb-true}
-use Rattle.list_laws.proofs.Options.{option_and_then_parts, option_map_parts, unless_parts, when_parts}
+use Rattle.list_law.proofs.Options.{option_and_then_parts, option_map_parts, unless_parts, when_parts}
 use Rattle.routing_law.specs.Graph.{run}
 use Rattle.routing_law.specs.Lines.{LineRoute, LineRoutes, Lines, Tag, line_announced, line_extended, line_heard, own_line, taken_by}
 use Rattle.routing_law.specs.Network.{stands_on}

@@ -3,7 +3,7 @@ use Rattle.std.proofs.Common.{◌≡◌, ℕ, ◌≤◌, true, false, cond, ◌&
 use Rattle.std.specs.Option.{option_and_then}
 use Rattle.std.proofs.lemmas.Bool.{and_parts}
 use Rattle.std.proofs.lemmas.Option.{same_Some}
-use Rattle.list_laws.proofs.Options.{option_and_then_parts, unless_parts, when_parts}
+use Rattle.list_law.proofs.Options.{option_and_then_parts, unless_parts, when_parts}
 use Rattle.routing_law.specs.Graph.{run}
 use Rattle.routing_law.specs.Laws.{GoodOffer, GoodRoute, LinesAreRight, NumberIsGreatest, PlainNumbersPass, Sound, UsedPathsAreSound}
 use Rattle.routing_law.specs.Lines.{LineRoute, LineRoutes, Lines, LinesStable, Tag, offered, offered_of}

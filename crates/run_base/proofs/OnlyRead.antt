@@ -1,6 +1,6 @@
 -- Inputs that are read one after another.
 use Rattle.std.proofs.Common.{◌≡◌, ℕ, ◌<◌, List, Option, IfSome, length, inl, inr, subst, ◌∙◌, arith}
-use Rattle.outside.specs.Outside.{Rose}
+use Rattle.input_output.specs.Outside.{Rose}
 use Rattle.run_base.specs.Reading.{Holds, RoseOf, AreOnlyRead, IsHeld, IsStop, most}
 use Rattle.run_base.specs.Said.{Said}
 

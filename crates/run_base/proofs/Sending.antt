@@ -1,6 +1,6 @@
 -- What was sent to one sink, where nothing was to go to the other.
 use Rattle.std.proofs.Common.{◌≡◌, ℕ, List, [], Option, Some, None, inl, inr, refl, sym, ap, append-nil}
-use Rattle.outside.specs.Outside.{Grew}
+use Rattle.input_output.specs.Outside.{Grew}
 use Rattle.run_base.specs.Said.{Said, Whole, Sent, Delivered, text, line}
 use Rattle.run_base.specs.declared.outcome.Status.{Status}
 

@@ -1,6 +1,6 @@
 -- What a run ends with, where what is to be said is known.
 use Rattle.std.proofs.Common.{◌≡◌, ◌⊎◌, ℕ, List, Option, inl, inr, refl}
-use Rattle.outside.specs.Outside.{Rose}
+use Rattle.input_output.specs.Outside.{Rose}
 use Rattle.run_base.specs.declared.outcome.Status.{Status}
 use Rattle.run_base.specs.declared.outcome.Status.TheVariants.{Done, NoMemory, CheckFails}
 use Rattle.run_base.specs.Said.{Said, text, line, failing, Whole, Delivered}

@@ -1,7 +1,7 @@
 -- What comes of reading names.
 use Rattle.std.specs.Prelude.{◌≡◌, ◌⊎◌, ℕ, ◌≤◌, ◌<◌, List, [], ◌∷◌, ◌++◌, length, Option, Some, IsSome, IfSome, codes, map, slice_get, unwrap_or}
-use Rattle.outside.specs.declared.limits.TheConstants.{INPUT_BYTES}
-use Rattle.outside.specs.Outside.{Rose}
+use Rattle.input_output.specs.declared.limits.TheConstants.{INPUT_BYTES}
+use Rattle.input_output.specs.Outside.{Rose}
 use Rattle.run_base.specs.Said.{Said, line, no_memory}
 use Rattle.run_base.specs.declared.outcome.Status.{Status}
 use Rattle.run_base.specs.declared.outcome.Status.TheVariants.{ReadFault, BadInput}

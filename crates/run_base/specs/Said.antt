@@ -1,7 +1,7 @@
 -- What a run is to say, and what it is to have said when it has ended.
 use Rattle.std.specs.Prelude.{◌≡◌, ◌≢◌, ◌⊎◌, ℕ, List, [], Option, Result, Ok, Err, Vec}
 use Rattle.std.specs.declared.alloc.Global.{Global}
-use Rattle.outside.specs.Outside.{Rose, Grew, GrewByPart}
+use Rattle.input_output.specs.Outside.{Rose, Grew, GrewByPart}
 use Rattle.run_base.specs.declared.outcome.Status.{Status}
 use Rattle.run_base.specs.declared.outcome.Status.TheVariants.{Done, WriteFault, NoMemory, CheckFails}
 use Rattle.run_base.specs.declared.outcome.Stop.{Stop}

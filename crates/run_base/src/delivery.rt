@@ -3,7 +3,7 @@ ghost use Rattle.std.specs.Prelude.{◌≤◌};
 ghost use Rattle.run_base.specs.Said.{said, stop_said, Sent, Delivered};
 
 use crate::outcome::{Status, Stop};
-use outside::{Sink, write_whole};
+use input_output::{Sink, write_whole};
 
 /// Writes the bytes, and gives the status, or `WriteFault`.
 pub fn send<S: Sink>(sink: &mut S, bytes: &[u8], status: Status) -> Status

@@ -1,5 +1,5 @@
 //! What a run comes to.
-use outside::NoMemory;
+use input_output::NoMemory;
 use std::alloc::AllocError;
 
 /// How a run ended. The program ends with its number.

@@ -5,11 +5,11 @@ ghost use Rattle.run_base.specs.Said.{said};
 ghost use Rattle.run_base.specs.Reading.{AllHeld, AreOnlyRead, FailedAs, IsHeld, IsStop, IsStopAmong, RoseOf, names_at, word_at};
 
 use crate::outcome::{Status, Stop};
+use input_output::limits::INPUT_BYTES;
+use input_output::{InputFail, Inputs, NoMemory};
 use net_base::List;
-use outside::limits::INPUT_BYTES;
-use outside::{InputFail, Inputs, NoMemory};
 use std::alloc::Global;
-use text_words::push_bytes;
+use text_parts::push_bytes;
 
 // A line about a name.
 fn line_about(alloc: Global, what: &[u8], name: &str) -> Result<Vec<u8>, NoMemory>

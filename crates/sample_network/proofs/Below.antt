@@ -1,8 +1,8 @@
 -- What is made of the numbers below another.
 use Rattle.std.proofs.Common.{◌≡◌, ℕ, ◌<◌, Bool, true, false, List, [], ◌∷◌, ◌++◌, map}
 use Rattle.std.specs.List.{AllByRecursion, IsDistinct, flat_map, list_all}
-use Rattle.list_laws.proofs.Each.{AllByRecursion-append, AllByRecursion-from_list_all, AllByRecursion-map, AllByRecursion-weaker, AllByRecursion_at}
-use Rattle.list_laws.proofs.Keys.{IsDistinct-sorted_keys}
+use Rattle.list_law.proofs.Each.{AllByRecursion-append, AllByRecursion-from_list_all, AllByRecursion-map, AllByRecursion-weaker, AllByRecursion_at}
+use Rattle.list_law.proofs.Keys.{IsDistinct-sorted_keys}
 use Rattle.net_base.specs.Locations.{numbers_below}
 use Rattle.net_base.proofs.NumbersBelow.{numbers-below, slice_get-numbers_below, sorted_numbers}
 

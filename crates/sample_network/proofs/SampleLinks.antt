@@ -3,7 +3,7 @@ use Rattle.std.proofs.Common.{◌≡◌, ℕ, zero, suc, ◌+◌, ◌*◌, ◌�
 use Rattle.std.specs.List.{AllByRecursion, flat_map}
 use Rattle.std.proofs.lemmas.List.{append-nil}
 use Rattle.std.proofs.lemmas.Grind.{flat_map-append}
-use Rattle.list_laws.proofs.Each.{AllByRecursion-append, AllByRecursion-weaker}
+use Rattle.list_law.proofs.Each.{AllByRecursion-append, AllByRecursion-weaker}
 use Rattle.net_base.specs.Locations.{numbers_below}
 use Rattle.net_base.specs.Network.{Ascend, IsBefore}
 use Rattle.net_base.proofs.NumbersBelow.{length-numbers_below, numbers-below}

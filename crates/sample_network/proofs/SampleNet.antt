@@ -1,7 +1,7 @@
 -- The sample is a network.
 use Rattle.std.proofs.Common.{◌≡◌, ℕ, ◌+◌, ◌≤◌, ◌<◌, List, ◌++◌, map, length, arith, length-append}
 use Rattle.std.proofs.lemmas.List.{length-map}
-use Rattle.list_laws.proofs.Each.{AllByRecursion-weaker}
+use Rattle.list_law.proofs.Each.{AllByRecursion-weaker}
 use Rattle.net_base.specs.Locations.{numbers_below}
 use Rattle.net_base.specs.Network.{IsLink, IsNet}
 use Rattle.net_base.specs.declared.net.Site.{Site}

@@ -6,8 +6,8 @@ use Rattle.std.specs.List.{AllByRecursion, IsDistinct}
 use Rattle.std.specs.Str.{bytes_eq}
 use Rattle.std.proofs.lemmas.Bool.{ne_eqb}
 use Rattle.std.proofs.lemmas.List.{map-append}
-use Rattle.list_laws.proofs.Changed.{map-map}
-use Rattle.list_laws.proofs.Each.{AllByRecursion-append}
+use Rattle.list_law.proofs.Changed.{map-map}
+use Rattle.list_law.proofs.Each.{AllByRecursion-append}
 use Rattle.net_base.specs.Locations.{numbers_below}
 use Rattle.net_base.specs.Network.{sites}
 use Rattle.net_base.specs.Numbers.{is_router_as, is_peer_as}

@@ -6,7 +6,7 @@ use Rattle.std.specs.List.{AllByRecursion, flat_map}
 use Rattle.std.proofs.lemmas.Fmt.{length-decimal-le}
 use Rattle.std.proofs.lemmas.Grind.{common_steps}
 use Rattle.std.proofs.lemmas.List.{length-map}
-use Rattle.list_laws.proofs.Each.{AllByRecursion-append, AllByRecursion-weaker}
+use Rattle.list_law.proofs.Each.{AllByRecursion-append, AllByRecursion-weaker}
 use Rattle.net_base.specs.declared.loc.LocSet.{LocSet}
 use Rattle.net_base.specs.declared.net.Site.{Site}
 use Rattle.net_base.specs.Locations.{numbers_below}
@@ -19,7 +19,7 @@ use Rattle.policy_base.specs.declared.call.Call.TheVariants.{Of}
 use Rattle.policy_base.specs.declared.policy.Origin.{Origin}
 use Rattle.policy_text.specs.PolicyText.{are_all, call_text, calls_text, joined_names, names_from, names_in, next_name, is_everything, next_pattern, origin_line}
 use Rattle.policy_text.specs.PolicyText.{patterns_text, policy_text, set_text, statement_line}
-use Rattle.text_words.specs.Texts.{pattern_text, prefix_text}
+use Rattle.text_parts.specs.Texts.{pattern_text, prefix_text}
 use Rattle.sample_network.specs.Network.{leaf, peer, peer_at, sample_net, spine}
 use Rattle.sample_network.specs.SamplePolicy.{alone, inner_statement, leaf_origin, leaf_pattern, leaf_prefix, leaves, outer_statement, sample_policy}
 use Rattle.sample_network.proofs.Below.{each_below}

@@ -1,5 +1,5 @@
 //! Why there is no sample.
-use outside::NoMemory;
+use input_output::NoMemory;
 use thiserror::Error;
 
 /// Why there is no sample of a number.

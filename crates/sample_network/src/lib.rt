@@ -4,7 +4,7 @@
 ghost use Rattle.std.specs.Prelude.{◌≡◌, ◌↔◌, ◌≤◌, IfOk, IsErrAnd, Ok, length};
 ghost use Rattle.sample_network.specs.Network.{IsSampleNumber, sample_net};
 ghost use Rattle.sample_network.specs.SamplePolicy.{sample_policy};
-ghost use Rattle.outside.specs.declared.limits.TheConstants.{INPUT_BYTES};
+ghost use Rattle.input_output.specs.declared.limits.TheConstants.{INPUT_BYTES};
 ghost use Rattle.net_text.specs.NetText.{net_text};
 ghost use Rattle.policy_parser.specs.Spelled.{spelled as policy_spelled};
 ghost use Rattle.policy_text.specs.PolicyText.{policy_text};

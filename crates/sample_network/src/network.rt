@@ -6,10 +6,10 @@ ghost use Rattle.net_base.specs.Locations.{numbers_below};
 ghost use Rattle.net_base.specs.NameRule.{is_name};
 ghost use Rattle.sample_network.specs.Network.{IsSampleNumber, dotted, leaf as leaf_site, leaf_links, peer as peer_site, peer_links, sample_net, spine as spine_site};
 
+use input_output::NoMemory;
 use net_base::{List, Loc, Name, Net, Site};
-use outside::NoMemory;
 use std::alloc::Global;
-use text_words::{push_bytes, push_number};
+use text_parts::{push_bytes, push_number};
 
 /// How many spines a sample has.
 pub const SPINES: u16 = 4;

@@ -17,8 +17,8 @@ ghost use Rattle.sample_network.specs.SamplePolicy.{
 };
 
 use crate::network::{SPINES, address};
+use input_output::NoMemory;
 use net_base::{List, Loc, LocSet, Pattern, Prefix};
-use outside::NoMemory;
 use policy_base::{Call, FromSet, Origin, Policy, Ranked, SetCall, Statement};
 use std::alloc::Global;
 

@@ -1,16 +1,16 @@
 -- The prefix of each scenario that a text spells.
 use Rattle.std.proofs.Common.{◌≡◌, ℕ, List, Ok, subst}
 use Rattle.std.specs.Result.{result_ok}
-use Rattle.item_laws.proofs.TextLaws.{says_read}
+use Rattle.json_values.proofs.TextLaws.{says_read}
 use Rattle.net_base.proofs.PrefixLemmas.{prefix_spelled-IsPrefix}
 use Rattle.net_base.proofs.StepLemmas.{bind_ok, or_fault_result_ok}
 use Rattle.net_base.specs.Network.{PlainNet}
 use Rattle.net_base.specs.Prefixes.{IsPrefix}
 use Rattle.net_base.specs.PrefixText.{prefix_spelled}
 use Rattle.net_base.specs.Steps.{or_fault}
-use Rattle.net_index.specs.Names.{names_of}
+use Rattle.location_names.specs.Names.{names_of}
 use Rattle.scenario_reader.specs.declared.parts.Field.TheVariants as field
-use Rattle.stable_paths.specs.declared.scenario.Scenario.{Scenario}
+use Rattle.scenarios.specs.declared.scenario.Scenario.{Scenario}
 use Rattle.scenario_reader.specs.declared.fault.ScenarioFault.TheVariants.{NotJson, BadPrefix}
 use Rattle.scenario_reader.specs.Rules.{judged, located, both_located, links_known, sessions_known}
 use Rattle.scenario_reader.specs.Shape.{Said, each, shape_of}

@@ -5,8 +5,8 @@ use Rattle.std.specs.List.{list_any, position, AllByRecursion}
 use Rattle.std.specs.Result.{result_ok}
 use Rattle.std.specs.Str.{bytes_eq}
 use Rattle.std.proofs.lemmas.Bool.{and_from, and_parts}
-use Rattle.list_laws.proofs.Each.{AllByRecursion-from_list_any, list_any_breaks, AllByRecursion-not, AllByRecursion-from_not}
-use Rattle.list_laws.proofs.Positions.{list_any-at_position, list_any-no_position}
+use Rattle.list_law.proofs.Each.{AllByRecursion-from_list_any, list_any_breaks, AllByRecursion-not, AllByRecursion-from_not}
+use Rattle.list_law.proofs.Positions.{list_any-at_position, list_any-no_position}
 use Rattle.net_base.specs.Network.{PlainNet, linked}
 use Rattle.net_base.specs.PrefixText.{prefix_spelled}
 use Rattle.net_base.specs.Steps.{◌>>=◌, each_from, or_fault}
@@ -14,17 +14,17 @@ use Rattle.scenario_reader.specs.declared.parts.Field.{Field}
 use Rattle.scenario_reader.specs.declared.parts.Field.TheVariants as field
 use Rattle.net_base.proofs.StepLemmas.{bind_ok, err_same, ok_not_err, ok_same, or_fault_ok, or_fault_result_ok}
 use Rattle.net_base.proofs.StepOutcomes.{bind_case, each_from-breaks}
-use Rattle.item_laws.specs.TextRules.{is_known, KeepsBelow}
-use Rattle.item_laws.proofs.EachStep.{each_from-keeps}
-use Rattle.item_laws.proofs.FirstRule.{below_3, broken, next, Outcome}
-use Rattle.item_laws.proofs.StepFaults.{name_err, name_ok, read_err}
-use Rattle.stable_paths.specs.declared.scenario.Scenario.{Scenario}
+use Rattle.json_values.specs.TextRules.{is_known, KeepsBelow}
+use Rattle.json_values.proofs.EachStep.{each_from-keeps}
+use Rattle.json_values.proofs.FirstRule.{below_3, broken, next, Outcome}
+use Rattle.json_values.proofs.StepFaults.{name_err, name_ok, read_err}
+use Rattle.scenarios.specs.declared.scenario.Scenario.{Scenario}
 use Rattle.scenario_reader.specs.declared.fault.ScenarioFault.{ScenarioFault}
 use Rattle.scenario_reader.specs.declared.fault.ScenarioFault.TheVariants.{Unknown, NoLink, NotPeerLink, BadPrefix}
 use Rattle.scenario_reader.specs.Faults.{number_of}
 use Rattle.scenario_reader.specs.Laws.{are_known, passes, rules, HasPrefix, NamesAreKnown}
 use Rattle.scenario_reader.specs.Rules.{both_located, is_session, judged, links_known, located, no_fault, sessions_known, set_of_all, turned}
-use Rattle.net_index.specs.Names.{names_of}
+use Rattle.location_names.specs.Names.{names_of}
 use Rattle.scenario_reader.specs.Shape.{each, Ends, Said}
 
 -- ---- which step decided

@@ -3,12 +3,12 @@ use Rattle.std.specs.Prelude.{◌==◌, codes, length, slice_get, option_and_the
 use Rattle.serde_json.specs.Data.{Data}
 use Rattle.serde_json.specs.Find.{get, as_object, as_str}
 use Rattle.serde_json.specs.Events.{members_len}
-use Rattle.json_words.specs.Json.{list_at}
+use Rattle.json_values.specs.Json.{list_at}
 use Rattle.scenario_reader.specs.declared.parts.Field.{Field}
 use Rattle.scenario_reader.specs.declared.parts.Field.TheVariants as field
 use Rattle.scenario_reader.specs.declared.fault.ScenarioFault.TheVariants.{Shape}
 use Rattle.scenario_reader.specs.Shape.{each, ends_of, shape_of, text_of}
-use Rattle.item_laws.proofs.OnlyFaults.{IsOf, Only, only_bind, only_each, or_only, or_then, unless_then}
+use Rattle.json_values.proofs.OnlyFaults.{IsOf, Only, only_bind, only_each, or_only, or_then, unless_then}
 
 text_only : (f : Field) (d : Data) → Only (IsOf Shape) (text_of f d)
 unfolding text_of

@@ -1,5 +1,5 @@
 -- What a text's answer says of it.
-use Rattle.item_laws.proofs.TextLaws as texts
+use Rattle.json_values.proofs.TextLaws as texts
 use Rattle.net_base.specs.Network.{PlainNet}
 use Rattle.scenario_reader.specs.declared.fault.ScenarioFault.TheVariants.{NotJson, Shape}
 use Rattle.scenario_reader.specs.Faults.{number_of}

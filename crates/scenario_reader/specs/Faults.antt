@@ -1,7 +1,7 @@
 -- The numbers of the faults, their words and their values.
 use Rattle.std.specs.Prelude.{ℕ, List, [], codes}
-use Rattle.text_words.specs.Texts.{word_text, place_text}
-use Rattle.text_faults.specs.Telling.{Telling}
+use Rattle.text_parts.specs.Texts.{word_text, place_text}
+use Rattle.text_parts.specs.Telling.{Telling}
 use Rattle.scenario_reader.specs.Parts.{field_word}
 use Rattle.scenario_reader.specs.declared.fault.ScenarioFault.{ScenarioFault}
 use Rattle.scenario_reader.specs.declared.fault.ScenarioFault.TheVariants.{NotJson, Shape, Unknown, NoLink, NotPeerLink, BadPrefix, NoMemory}

@@ -3,11 +3,11 @@ use Rattle.std.specs.Prelude.{◌≡◌, ℕ, ◌&&◌, Bool, false, IsTrue, Lis
 use Rattle.std.specs.List.{position, AllByRecursion}
 use Rattle.std.specs.Option.{option_map_or}
 use Rattle.std.specs.Str.{bytes_eq}
-use Rattle.item_laws.specs.TextRules.{is_known}
+use Rattle.json_values.specs.TextRules.{is_known}
 use Rattle.net_base.specs.Network.{PlainNet, linked}
 use Rattle.net_base.specs.PrefixText.{prefix_spelled}
 use Rattle.net_base.specs.Prefixes.{PlainPrefix}
-use Rattle.net_index.specs.Names.{names_of}
+use Rattle.location_names.specs.Names.{names_of}
 use Rattle.scenario_reader.specs.Rules.{is_session}
 use Rattle.scenario_reader.specs.Shape.{Ends, Said}
 

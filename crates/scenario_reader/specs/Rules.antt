@@ -10,8 +10,8 @@ use Rattle.net_base.specs.Network.{PlainNet, is_peer, linked}
 use Rattle.net_base.specs.PrefixText.{prefix_spelled}
 use Rattle.net_base.specs.SetOperations.{no_location, with_location}
 use Rattle.net_base.specs.Steps.{◌>>=◌, or_fault}
-use Rattle.net_index.specs.Names.{names_of}
-use Rattle.stable_paths.specs.declared.scenario.Scenario.{Scenario}
+use Rattle.location_names.specs.Names.{names_of}
+use Rattle.scenarios.specs.declared.scenario.Scenario.{Scenario}
 use Rattle.scenario_reader.specs.declared.fault.ScenarioFault.{ScenarioFault}
 use Rattle.scenario_reader.specs.declared.fault.ScenarioFault.TheVariants.{Unknown, NoLink, NotPeerLink, BadPrefix}
 use Rattle.scenario_reader.specs.Shape.{each, Ends, Said}

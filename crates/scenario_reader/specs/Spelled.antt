@@ -1,9 +1,9 @@
 -- The scenario that bytes spell.
 use Rattle.std.specs.Prelude.{ℕ, List, Result}
-use Rattle.json_words.specs.Json.{json_of}
+use Rattle.json_values.specs.Json.{json_of}
 use Rattle.net_base.specs.Network.{PlainNet}
 use Rattle.net_base.specs.Steps.{◌>>=◌, or_fault}
-use Rattle.stable_paths.specs.declared.scenario.Scenario.{Scenario}
+use Rattle.scenarios.specs.declared.scenario.Scenario.{Scenario}
 use Rattle.scenario_reader.specs.declared.fault.ScenarioFault.{ScenarioFault}
 use Rattle.scenario_reader.specs.declared.fault.ScenarioFault.TheVariants.{NotJson}
 use Rattle.scenario_reader.specs.Rules.{judged}

@@ -2,8 +2,8 @@
 use Rattle.std.specs.Prelude.{◌≡◌, ℕ, List, Ok, map}
 use Rattle.net_base.specs.Network.{PlainNet}
 use Rattle.net_base.specs.Prefixes.{PlainPrefix}
-use Rattle.net_index.specs.Names.{texts}
-use Rattle.stable_paths.specs.declared.scenario.Scenario.{Scenario}
+use Rattle.location_names.specs.Names.{texts}
+use Rattle.scenarios.specs.declared.scenario.Scenario.{Scenario}
 use Rattle.scenario_reader.specs.declared.judge.Located.{Located}
 use Rattle.scenario_reader.specs.declared.parts.Field.TheVariants as field
 use Rattle.scenario_reader.specs.declared.shape.RawEnds.{RawEnds}

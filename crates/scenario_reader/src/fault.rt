@@ -1,9 +1,8 @@
 //! What is wrong with a scenario text.
 use crate::parts::Field;
-use outside::NoMemory;
+use input_output::NoMemory;
 use std::alloc::{AllocError, AllocFailed};
-use text_faults::TextFault;
-use text_words::{push_bytes, push_number, push_word};
+use text_parts::{TextFault, push_bytes, push_number, push_word};
 
 /// The rule that a scenario text breaks: of several the one that stands first here. Places count from 1 in their array.
 #[derive(Clone, Copy, Drop, PartialEq, Eq)]

@@ -9,15 +9,15 @@ ghost use Rattle.net_base.specs.PrefixText.{prefix_spelled};
 ghost use Rattle.net_base.specs.Steps.{or_fault};
 ghost use Rattle.scenario_reader.specs.Rules.{both_located, is_session, judged, links_known, located, sessions_known, set_of_all, turned as with_router_first};
 ghost use Rattle.scenario_reader.specs.Shape.{each};
-ghost use Rattle.net_index.specs.Names.{names_of, texts};
+ghost use Rattle.location_names.specs.Names.{names_of, texts};
 ghost use Rattle.scenario_reader.specs.Views.{raw_ends, raw_scenario, scenario_of, Locates};
 
 use crate::fault::ScenarioFault;
 use crate::parts::Field;
 use crate::shape::{RawEnds, RawScenario};
+use location_names::LocationNames;
 use net_base::{List, Loc, LocSet, Net, Prefix, read_prefix};
-use net_index::LocationNames;
-use stable_paths::Scenario;
+use scenarios::Scenario;
 use std::alloc::{AllocError, Global};
 
 /// The location of a name that a field has.

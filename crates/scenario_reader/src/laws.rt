@@ -2,9 +2,9 @@
 ghost use Rattle.std.specs.Prelude.{◌≡◌, ℕ, List, Some, Ok, Err, IsUtf8};
 ghost use Rattle.serde_json.specs.Data.{Data};
 ghost use Rattle.serde_json.specs.Read.{read};
-ghost use Rattle.item_laws.specs.TextRules.{Says, Keeps, KeepsBelow};
+ghost use Rattle.json_values.specs.TextRules.{Says, Keeps, KeepsBelow};
 ghost use Rattle.net_base.specs.Network.{PlainNet};
-ghost use Rattle.stable_paths.specs.declared.scenario.Scenario.{Scenario};
+ghost use Rattle.scenarios.specs.declared.scenario.Scenario.{Scenario};
 ghost use Rattle.scenario_reader.specs.Faults.{number_of};
 ghost use Rattle.scenario_reader.specs.Laws.{rules};
 ghost use Rattle.scenario_reader.specs.Shape.{Said, shape_of};

@@ -2,7 +2,7 @@
 #![tactic(auto)]
 
 ghost use Rattle.serde_json.specs.View.{view};
-ghost use Rattle.json_words.specs.Json.{json_of};
+ghost use Rattle.json_values.specs.Json.{json_of};
 ghost use Rattle.net_base.specs.Gives.{GivesUnless};
 ghost use Rattle.net_base.specs.Steps.{or_fault};
 ghost use Rattle.scenario_reader.specs.Spelled.{spelled};
@@ -14,11 +14,11 @@ mod parts;
 mod shape;
 
 pub use fault::ScenarioFault;
-use json_words::{JsonFault, json_value};
+use json_values::{JsonFault, json_value};
 use net_base::Net;
 pub use parts::Field;
+use scenarios::Scenario;
 use serde_json::Value;
-use stable_paths::Scenario;
 use std::alloc::Global;
 
 /// The JSON value that the bytes spell.

@@ -3,12 +3,12 @@ ghost use Rattle.std.specs.Prelude.{map};
 ghost use Rattle.serde_json.specs.View.{view};
 ghost use Rattle.net_base.specs.Gives.{GivesUnless};
 ghost use Rattle.scenario_reader.specs.Shape.{each, ends_of, shape_of, text_of};
-ghost use Rattle.net_index.specs.Names.{texts as said};
+ghost use Rattle.location_names.specs.Names.{texts as said};
 ghost use Rattle.scenario_reader.specs.Views.{raw_ends, raw_scenario};
 
 use crate::fault::ScenarioFault;
 use crate::parts::Field;
-use json_words::{list, member_count};
+use json_values::{list, member_count};
 use serde_json::Value;
 use std::alloc::Global;
 

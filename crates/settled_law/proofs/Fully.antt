@@ -15,11 +15,11 @@ use Rattle.outcome_base.specs.Outcomes.{Failures, Outcome, route_at, given}
 use Rattle.evidence_law.proofs.Setting.{network_of, alive_of, lines_of, lines_at, line_of}
 use Rattle.evidence_law.proofs.Heard.{given-heard}
 use Rattle.evidence_law.proofs.Stability.{choosing, stable_lines}
-use Rattle.list_laws.proofs.Options.{option_map_parts}
+use Rattle.list_law.proofs.Options.{option_map_parts}
 use Rattle.evidence_law.proofs.Existence as exist
 use Rattle.evidence_law.proofs.Existence.{held, outcome_of, route_of}
-use Rattle.list_laws.proofs.Keys.{place_by_key}
-use Rattle.list_laws.proofs.Items.{slice_get_inside}
+use Rattle.list_law.proofs.Keys.{place_by_key}
+use Rattle.list_law.proofs.Items.{slice_get_inside}
 use Rattle.routing_law.specs.Lines as line
 use Rattle.routing_law.specs.Network as law
 use Rattle.settled_law.specs.Settled.{IsFullyStable, IsNoLater}

@@ -15,7 +15,7 @@ use Rattle.evidence_law.proofs.CaseOrigins.{no_case_origin}
 use Rattle.evidence_law.proofs.GraphForms.{same_run}
 use Rattle.evidence_law.proofs.Setting.{network_of, alive_of, lines_of, lines_at, line_of, pairs_of, setup_of, tag_of}
 use Rattle.evidence_law.proofs.Stability.{stable_lines}
-use Rattle.list_laws.proofs.Options.{option_map_parts}
+use Rattle.list_law.proofs.Options.{option_map_parts}
 use Rattle.evidence_law.proofs.Surviving.{run-survives, survives-alive}
 use Rattle.routing_law.specs.Laws as laws
 use Rattle.routing_law.specs.Lines as line

@@ -14,7 +14,7 @@ use Rattle.evidence_base.specs.Made.{PlainCaseEvidence, number_at}
 use Rattle.outcome_base.specs.Outcomes.{Failures, Outcome, is_dead, route_at, given, IsStable}
 use Rattle.evidence_law.specs.Passes.{IsCaseGraph, Passes, IsClaimed}
 use Rattle.evidence_law.proofs.Setting.{network_of, alive_of, lines_of, lines_at, line_of, setup_of, pairs_of}
-use Rattle.list_laws.proofs.Options.{cases_Option, none_or_some}
+use Rattle.list_law.proofs.Options.{cases_Option, none_or_some}
 use Rattle.evidence_law.proofs.MadeCases.{HasCase, case_or_bare as evidence_or_bare}
 use Rattle.evidence_law.proofs.GraphForms.{meets_rules}
 use Rattle.evidence_law.proofs.ClassLines.{written}
@@ -28,7 +28,7 @@ use Rattle.routing_law.specs.Spells as spelled
 use Rattle.routing_law.proofs.Back.{graph_is_lines, lines_exist, lines_unique}
 use Rattle.settled_law.specs.Settled.{IsFullyStable, SettledOutcomesAreOne, SettledOutcomesExist}
 use Rattle.settled_law.proofs.Fully.{fully, fully_lines, names_differ}
-use Rattle.list_laws.proofs.Items.{same_options}
+use Rattle.list_law.proofs.Items.{same_options}
 
 module _ (net : PlainNet) (policy : PlainPolicy) (config : PlainConfig) (f : Failures) (p : PlainPrefix) (free : class_of config p ≡ None) where
   -- without a class nothing is given, so no ties are there to be broken

@@ -8,7 +8,7 @@ use Rattle.graph_base.specs.Graphs.{PlainGraph}
 use Rattle.graph_base.specs.Runs.{place_of}
 use Rattle.net_base.specs.declared.loc.LocSet.{LocSet}
 use Rattle.relation_law.specs.Relations.{IsGreatest, IsTotal}
-use Rattle.relation_law.specs.Rounds.{IsSettled, is_pair, left_after}
+use Rattle.relation_law.specs.Rounds.{TakesNothingMore, is_pair, left_after}
 use Rattle.relation_law.specs.Views.{view_of}
 use Rattle.relation_law.proofs.Rounds.{pair_from, pair_to}
 use Rattle.state_simulation.specs.Stages.{AreBound, above_in}
@@ -61,14 +61,14 @@ made_relation old g claimed r left same is greatest =
 
 pub made_rounds : (old g : PlainGraph) (claimed : LocSet) (r : PlainRelation) (reach : ℕ → ℕ → Bool) (left : PlainRows) → old ≡ g
     → r ≡ record { places = map (λ (node : Node). node.loc) g.nodes; claimed = claimed; rows = left } →
-    (rounds : ℕ) × IsSettled (view_of old claimed) reach rounds × AreLeft (view_of old claimed) reach rounds left → IsLeftByRounds g reach r
+    (rounds : ℕ) × TakesNothingMore (view_of old claimed) reach rounds × AreLeft (view_of old claimed) reach rounds left → IsLeftByRounds g reach r
 made_rounds old g claimed r reach left same is made =
-    let now : IsSettled (view_of g claimed) reach made.0 × AreLeft (view_of g claimed) reach made.0 left =
-    subst (λ (z : PlainGraph). IsSettled (view_of z claimed) reach made.0 × AreLeft (view_of z claimed) reach made.0 left) same (made.1, made.2) in
+    let now : TakesNothingMore (view_of g claimed) reach made.0 × AreLeft (view_of g claimed) reach made.0 left =
+    subst (λ (z : PlainGraph). TakesNothingMore (view_of z claimed) reach made.0 × AreLeft (view_of z claimed) reach made.0 left) same (made.1, made.2) in
     let back : claimed ≡ r.claimed = sym (ap (λ (z : PlainRelation). z.claimed) is) in
     record {
       rounds = made.0;
-      settled = subst (λ (z : LocSet). IsSettled (view_of g z) reach made.0) back now.0;
+      settled = subst (λ (z : LocSet). TakesNothingMore (view_of g z) reach made.0) back now.0;
       left =
           subst (λ (z : LocSet). (m n : ℕ) → has r m n ≡ left_after (view_of g z) reach made.0 m n) back
           (λ m n. made_has g claimed r left is m n ∙ above_left g claimed reach made.0 left now.1 m n);

@@ -6,7 +6,7 @@ use Rattle.std.proofs.lemmas.List.Folds.{list_any-append, list_any_at}
 use Rattle.reach_prune.specs.Searches.{is_among, is_listed}
 use Rattle.relation_law.specs.Rounds.{is_in}
 use Rattle.std.proofs.Math.Bool.{and_comm, or-false, and-true, and-false}
-use Rattle.list_laws.proofs.Numbers.{eqb_comm, next_below}
+use Rattle.list_law.proofs.Numbers.{eqb_comm, next_below}
 use Rattle.std.proofs.lemmas.List.Sorted.{list_any-IsPermutation}
 use Rattle.std.specs.List.Sorted.{IsPermutation}
 use Rattle.graph_base.specs.Graphs.{PlainGraph}

@@ -6,7 +6,7 @@ use Rattle.bit_rows.specs.Tables.{PlainRows, has_at}
 use Rattle.std.proofs.lemmas.Bool.{cases_Bool, eqb-true, and_parts, and_from, both_ways, false_from_ne_true, or_cases, or_left, or_right}
 use Rattle.std.proofs.lemmas.List.Folds.{list_any_more}
 use Rattle.std.proofs.Math.Bool.{or-false, or_assoc}
-use Rattle.list_laws.proofs.Numbers.{eqb_comm}
+use Rattle.list_law.proofs.Numbers.{eqb_comm}
 use Rattle.graph_base.specs.Graphs.{PlainGraph}
 use Rattle.graph_base.specs.Runs.{IsTrail, Reaches}
 use Rattle.reach_prune.specs.Searches.{is_among}

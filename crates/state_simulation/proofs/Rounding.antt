@@ -10,7 +10,7 @@ use Rattle.std.specs.declared.vec.Vec.{Vec}
 use Rattle.std.proofs.Math.Bool.{and-true, not-not}
 use Rattle.bit_rows.specs.Tables.{PlainRows, has_at}
 use Rattle.relation_law.specs.Relations.{Pair}
-use Rattle.relation_law.specs.Rounds.{AreTouched, IsSettled, fails, fails_at, gone_after, goes_by, is_pair, left_after, same_place}
+use Rattle.relation_law.specs.Rounds.{AreTouched, TakesNothingMore, fails, fails_at, gone_after, goes_by, is_pair, left_after, same_place}
 use Rattle.relation_law.specs.Views.{View, view_of}
 use Rattle.relation_law.proofs.Rounds.{pair_from, pair_to}
 use Rattle.relation_law.proofs.Targets.{any_alike, by_targets, fails_alike, fails_by_either}
@@ -117,7 +117,7 @@ module _ (v : View) (reach : ℕ → ℕ → Bool) (k : ℕ) (left next new : Pl
       let was : has_at left n m ≡ true = at.exact m n pair.left pair.right ∙ and_from _ _ is (ap not g) in
       not-true _ (and_parts (is_pair v m n) (not (gone_after v reach (suc k) m n)) (sym (taken_left m n pair.left pair.right) ∙ kept (has_at left n m) (has_at new n m) was same)).1
 
-  pub settled_where_same : ((n b : ℕ) → n < v.size → differs left new n b ≡ false) → IsSettled v reach k
+  pub settled_where_same : ((n b : ℕ) → n < v.size → differs left new n b ≡ false) → TakesNothingMore v reach k
   settled_where_same same m n pair now = elim (cases_Bool (gone_after v reach k m n)) [
     | inl g ↦ g
     | inr g ↦ absurd (both_ways _ (stays m n pair (same n m pair.right) g) now)
@@ -200,7 +200,7 @@ module _ {g : PlainGraph} {old : Rounds} {new after : PlainRows} {marked : List 
     pub advanced : AtRound (view_of g claimed) reach (suc k) after new (is_touched marked)
     advanced = at_next (view_of g claimed) reach k old.left old.next new (is_touched old.touched.items) at taken_told after (is_touched marked) by.put.rows by.put.quiet
 
-    pub advanced_settled : changed ≡ false → IsSettled (view_of g claimed) reach k × AreLeft (view_of g claimed) reach k after
+    pub advanced_settled : changed ≡ false → TakesNothingMore (view_of g claimed) reach k × AreLeft (view_of g claimed) reach k after
     advanced_settled e =
         let same : (n b : ℕ) → n < length g.nodes → differs old.left new n b ≡ false = by.put.same e in
         let rows : AreLeft (view_of g claimed) reach k new = left_where_same (view_of g claimed) reach k old.left old.next new (is_touched old.touched.items) at taken_told same in

@@ -8,7 +8,7 @@ use Rattle.graph_base.specs.Graphs.{PlainGraph}
 use Rattle.graph_base.specs.Runs.{place_of}
 use Rattle.net_base.specs.declared.loc.LocSet.{LocSet}
 use Rattle.relation_law.specs.Relations.{IsClosed, IsGreatest, IsTotal, Pair}
-use Rattle.relation_law.specs.Rounds.{IsReach, IsSettled, gone_after, goes_by, is_pair, left_after}
+use Rattle.relation_law.specs.Rounds.{IsReach, TakesNothingMore, gone_after, goes_by, is_pair, left_after}
 use Rattle.relation_law.specs.Views.{View, view_of}
 use Rattle.relation_law.proofs.Rounds.{IsSound, greatest_between, open_pair, pair_from, pair_to, settled_is_greatest}
 use Rattle.state_simulation.specs.declared.rounds.Rounds.{Rounds}
@@ -113,7 +113,7 @@ above_left g claimed reach k left are m n = elim (cases_Bool (is_pair (view_of g
 ]
 
 pub greatest_left : (g : PlainGraph) (claimed : LocSet) (reach : ℕ → ℕ → Bool) (k : ℕ) (left : PlainRows) → IsReach (view_of g claimed) reach
-    → IsSettled (view_of g claimed) reach k → AreLeft (view_of g claimed) reach k left →
+    → TakesNothingMore (view_of g claimed) reach k → AreLeft (view_of g claimed) reach k left →
     IsGreatest (view_of g claimed) (above_in (view_of g claimed) left)
 greatest_left g claimed reach k left exact settled are =
     subst (IsGreatest (view_of g claimed)) (λ i m n. sym (above_left g claimed reach k left are m n) i)
@@ -121,7 +121,7 @@ greatest_left g claimed reach k left exact settled are =
 
 -- where the first round takes nothing away, nothing has to be known of what can be reached
 pub greatest_first : (g : PlainGraph) (claimed : LocSet) (left : PlainRows)
-    → ((reach : ℕ → ℕ → Bool) → IsSettled (view_of g claimed) reach 0 × AreLeft (view_of g claimed) reach 0 left)
+    → ((reach : ℕ → ℕ → Bool) → TakesNothingMore (view_of g claimed) reach 0 × AreLeft (view_of g claimed) reach 0 left)
     → IsGreatest (view_of g claimed) (above_in (view_of g claimed) left)
 greatest_first g claimed left settled =
     let high : ℕ → ℕ → Bool = λ a b. true in

@@ -6,7 +6,7 @@ use Rattle.graph_base.specs.declared.graph.TheConstants.{MAX_NODES}
 use Rattle.graph_base.specs.Graphs.{PlainGraph}
 use Rattle.net_base.specs.declared.loc.LocSet.{LocSet}
 use Rattle.relation_law.specs.Relations.{IsGreatest}
-use Rattle.relation_law.specs.Rounds.{IsSettled, left_after}
+use Rattle.relation_law.specs.Rounds.{TakesNothingMore, left_after}
 use Rattle.relation_law.specs.Views.{view_of}
 
 -- the location of each node, what is claimed, and a row for each node: which nodes may stand at least as high
@@ -45,5 +45,5 @@ pub record IsRelationOf (g : PlainGraph) (r : PlainRelation) : Type 0 where
 -- be reached and what is claimed tell.
 pub record IsLeftByRounds (g : PlainGraph) (reach : ℕ → ℕ → Bool) (r : PlainRelation) : Type 0 where
   pub rounds : ℕ
-  pub settled : IsSettled (view_of g r.claimed) reach rounds
+  pub settled : TakesNothingMore (view_of g r.claimed) reach rounds
   pub left : (m n : ℕ) → has r m n ≡ left_after (view_of g r.claimed) reach rounds m n

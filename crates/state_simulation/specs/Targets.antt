@@ -7,7 +7,7 @@ use Rattle.graph_base.specs.Runs.{Reaches}
 use Rattle.relation_law.specs.Rounds.{fails, fails_at, gone_after, goes_by, left_after}
 use Rattle.relation_law.specs.Views.{View}
 use Rattle.state_simulation.specs.Held.{IsSquare}
-pub use Rattle.refutation_law.specs.Reasons.{is_outranked}
+pub use Rattle.relation_law.specs.Reasons.{is_outranked}
 use Rattle.state_simulation.specs.Looked.{shown}
 
 -- a row and a bit for each node of the graph

@@ -8,7 +8,7 @@ ghost use Rattle.state_simulation.specs.Held.{IsSquare};
 use crate::maps::location_count;
 use bit_rows::Rows;
 use graph_base::Graph;
-use outside::NoMemory;
+use input_output::NoMemory;
 use std::alloc::{AllocError, Global};
 
 /// Whether no two nodes stand at one location.

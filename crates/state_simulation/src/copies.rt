@@ -5,7 +5,7 @@ ghost use Rattle.state_simulation.specs.Held.{IsSquare};
 ghost use Rattle.state_simulation.specs.Targets.{IsWide};
 
 use bit_rows::Rows;
-use outside::NoMemory;
+use input_output::NoMemory;
 use std::alloc::Global;
 
 /// A copy of these rows.

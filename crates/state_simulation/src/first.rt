@@ -11,8 +11,8 @@ use crate::maps::Maps;
 use crate::rounds::Rounds;
 use bit_rows::Rows;
 use graph_base::Graph;
+use input_output::NoMemory;
 use net_base::LocSet;
-use outside::NoMemory;
 use std::alloc::Global;
 
 /// The nodes of a graph as they are looked up, and its rounds behind the first one.

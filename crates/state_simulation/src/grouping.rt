@@ -3,7 +3,7 @@ ghost use Rattle.std.specs.Prelude.{◌≡◌, ◌<◌, All, ℕ, IfOk, length};
 ghost use Rattle.reach_prune.specs.Searches.{is_listed};
 ghost use Rattle.relation_law.specs.Rounds.{is_in};
 
-use node_list::{NodeList, empty_lists};
+use bit_rows::{NodeList, empty_lists};
 use std::alloc::{AllocError, Global};
 
 /// For each of so many groups its members. A pair names a group and a member of it.

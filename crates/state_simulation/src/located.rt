@@ -5,7 +5,7 @@ ghost use Rattle.state_simulation.specs.Looked.{AreLocated};
 use crate::maps::location_count;
 use bit_rows::Rows;
 use graph_base::Graph;
-use outside::NoMemory;
+use input_output::NoMemory;
 use std::alloc::Global;
 
 /// A row for each location, up to the greatest one of a node, with a bit for each node of the graph that stands there.

@@ -7,9 +7,9 @@ ghost use Rattle.state_simulation.specs.Looked.{AreMaps, IsOrder};
 
 use crate::grouping::grouped;
 use crate::ordering::by_location;
+use bit_rows::NodeList;
 use graph_base::Graph;
-use node_list::NodeList;
-use outside::NoMemory;
+use input_output::NoMemory;
 use reach_prune::{Way, neighbours};
 use std::alloc::{AllocError, Global};
 

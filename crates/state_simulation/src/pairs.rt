@@ -10,8 +10,8 @@ ghost use Rattle.state_simulation.specs.Targets.{AreNodeRows, IsWide, is_outrank
 use crate::maps::Maps;
 use bit_rows::Rows;
 use graph_base::Graph;
+use input_output::NoMemory;
 use net_base::LocSet;
-use outside::NoMemory;
 use std::alloc::Global;
 
 /// For each node the nodes at its location that don't have a worse rank, where that is claimed.

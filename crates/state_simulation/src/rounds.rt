@@ -4,7 +4,7 @@ ghost use Rattle.bit_rows.specs.Tables.{IsSameSize, PlainRows, has_at};
 ghost use Rattle.graph_base.specs.Graphs.{PlainGraph};
 ghost use Rattle.graph_base.specs.Runs.{place_of};
 ghost use Rattle.net_base.specs.declared.loc.LocSet.{LocSet as Claimed};
-ghost use Rattle.relation_law.specs.Rounds.{IsReach, IsSettled};
+ghost use Rattle.relation_law.specs.Rounds.{IsReach, TakesNothingMore};
 ghost use Rattle.relation_law.specs.Views.{view_of};
 ghost use Rattle.state_simulation.specs.Held.{IsSquare};
 ghost use Rattle.state_simulation.specs.Stages.{AreAt, AreFirst, AreSized, IsOpen, Knows, asks_later as asks_later_in, bits_set, has_either};
@@ -15,8 +15,8 @@ use crate::maps::Maps;
 use crate::pairs::ranked_pairs;
 use crate::taking::{put_each, take_each};
 use bit_rows::{Rows, is_set};
+use input_output::NoMemory;
 use net_base::LocSet;
-use outside::NoMemory;
 use reach_prune::{Way, rows_along};
 use std::alloc::{AllocError, Global};
 
@@ -78,7 +78,7 @@ impl Rounds {
         ensures next { (claimed : Claimed) (reach : ℕ → ℕ → Bool) (k : ℕ) → Knows maps.now.graph.now reach k self.old.onwards → AreAt maps.now.graph.now claimed reach k self.old
             → AreAt maps.now.graph.now claimed reach (suc k) self.new }
         ensures settled { result ≡ false → (claimed : Claimed) (reach : ℕ → ℕ → Bool) (k : ℕ) → Knows maps.now.graph.now reach k self.old.onwards → AreAt maps.now.graph.now claimed reach k self.old
-            → IsSettled (view_of maps.now.graph.now claimed) reach k × AreLeft (view_of maps.now.graph.now claimed) reach k self.new.left }
+            → TakesNothingMore (view_of maps.now.graph.now claimed) reach k × AreLeft (view_of maps.now.graph.now claimed) reach k self.new.left }
         ensures quiet { (n b : ℕ) → n < length maps.now.graph.now.nodes → b < length maps.now.graph.now.nodes → is_touched self.new.touched.items n ≡ false
             → has_at self.new.left n b ≡ has_at self.old.left n b }
         ensures even { (n b : ℕ) → n < length maps.now.graph.now.nodes → b < length maps.now.graph.now.nodes → has_at self.new.next n b ≡ has_at self.new.left n b }
@@ -164,7 +164,7 @@ fn asks_later(touched: &[bool], m: u32, n: u32) -> bool
 pub fn all_rounds(alloc: Global, maps: &Maps, claimed: &LocSet) -> Result<Rows, NoMemory>
     ensures rows { IfOk result (AreNodeRows maps.now.graph.now) }
     ensures rounds { IfOk result (λ left. (reach : ℕ → ℕ → Bool) → IsReach (view_of maps.now.graph.now claimed.now) reach
-        → (rounds : ℕ) × IsSettled (view_of maps.now.graph.now claimed.now) reach rounds × AreLeft (view_of maps.now.graph.now claimed.now) reach rounds left) }
+        → (rounds : ℕ) × TakesNothingMore (view_of maps.now.graph.now claimed.now) reach rounds × AreLeft (view_of maps.now.graph.now claimed.now) reach rounds left) }
 {
     let mut rounds = Rounds::new(alloc, maps, claimed)?;
     rounds.look_onwards(alloc, maps)?;

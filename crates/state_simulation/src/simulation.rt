@@ -2,7 +2,7 @@
 ghost use Rattle.std.specs.Prelude.{◌≡◌, ℕ, Bool, IfOk, map};
 ghost use Rattle.reach_prune.specs.Reachable.{IsReachOf, can_reach};
 ghost use Rattle.relation_law.specs.Relations.{IsClosed, IsTotal};
-ghost use Rattle.relation_law.specs.Rounds.{IsReach, IsSettled};
+ghost use Rattle.relation_law.specs.Rounds.{IsReach, TakesNothingMore};
 ghost use Rattle.relation_law.specs.Views.{view_of};
 ghost use Rattle.state_simulation.specs.Found.{IfPartial, IfTotal, IsFirstRound};
 ghost use Rattle.state_simulation.specs.Held.{HasEach, IsLeftByRounds, IsRelationOf};
@@ -15,8 +15,8 @@ use crate::rounds::all_rounds;
 use crate::table::Relation;
 use bit_rows::Rows;
 use graph_base::Graph;
+use input_output::NoMemory;
 use net_base::{List, Loc, LocSet};
-use outside::NoMemory;
 use reach_prune::Reach;
 use std::alloc::{AllocError, Global};
 
@@ -42,7 +42,7 @@ pub fn relation(
 fn rows_left(alloc: Global, graph: &Graph, claimed: &LocSet) -> Result<Rows, NoMemory>
     ensures rows { IfOk result (AreNodeRows graph.now) }
     ensures rounds { IfOk result (λ left. (reach : ℕ → ℕ → Bool) → IsReach (view_of graph.now claimed.now) reach
-        → (rounds : ℕ) × IsSettled (view_of graph.now claimed.now) reach rounds × AreLeft (view_of graph.now claimed.now) reach rounds left) }
+        → (rounds : ℕ) × TakesNothingMore (view_of graph.now claimed.now) reach rounds × AreLeft (view_of graph.now claimed.now) reach rounds left) }
 {
     let maps = Maps::new(alloc, graph)?;
     all_rounds(alloc, &maps, claimed)

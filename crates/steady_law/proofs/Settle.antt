@@ -11,11 +11,11 @@ use Rattle.routing_law.specs.Outcome.{extended}
 use Rattle.routing_law.proofs.Heard.{heard_parts}
 use Rattle.routing_law.proofs.Rules.{Everywhere, everywhere}
 use Rattle.routing_law.proofs.Saturate.{count_below, count_bound, count_more}
-use Rattle.secure_law.specs.Partial.{CanHold, IsOpen, PartlySettled, at_first, settled_with}
-use Rattle.secure_law.proofs.Candidates.{nothing_is_left}
-use Rattle.secure_law.proofs.Firm.{firm_at_first, with_at, with_cases, with_kept}
-use Rattle.secure_law.proofs.Search.{loop_free_short, search_below}
-use Rattle.secure_law.proofs.Secure.{backed_of}
+use Rattle.rest_law.specs.Partial.{CanHold, IsOpen, PartlySettled, at_first, settled_with}
+use Rattle.rest_law.proofs.Candidates.{nothing_is_left}
+use Rattle.rest_law.proofs.Firm.{firm_at_first, with_at, with_cases, with_kept}
+use Rattle.rest_law.proofs.Search.{loop_free_short, search_below}
+use Rattle.rest_law.proofs.Secure.{backed_of}
 use Rattle.tie_law.specs.Ties.{IsNext, IsSize, Size}
 use Rattle.tie_law.proofs.Cycle.{Offered, offer_known}
 use Rattle.tie_law.proofs.Next.{Quiet, next_secure}

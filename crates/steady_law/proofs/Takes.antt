@@ -5,8 +5,8 @@ use Rattle.std.proofs.lemmas.Bool.{and_from, and_parts, eq-eqb, eqb-true, falseâ
 use Rattle.routing_law.specs.Outcome.{Route, Routes, Setup, heard}
 use Rattle.routing_law.proofs.Heard.{Heard, heard_parts}
 use Rattle.routing_law.proofs.Sound.{heard_again, route_is, sound_of}
-use Rattle.secure_law.specs.Partial.{CanHold, Detour, IsOpen, PartlySettled}
-use Rattle.secure_law.proofs.Secure.{backed_of}
+use Rattle.rest_law.specs.Partial.{CanHold, Detour, IsOpen, PartlySettled}
+use Rattle.rest_law.proofs.Secure.{backed_of}
 use Rattle.tie_law.specs.Ties.{IsNext, NoneSooner, Size, Sooner}
 use Rattle.tie_law.proofs.Ties.{next_comes_first}
 use Rattle.steady_law.specs.Histories.{TiesAt}

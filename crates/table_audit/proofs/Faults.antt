@@ -9,13 +9,13 @@ use Rattle.policy_base.specs.Policies.{policy_of}
 use Rattle.policy_base.specs.Governing.{is_origin}
 use Rattle.config_base.specs.declared.route.Route.{Route}
 use Rattle.outcome_base.specs.Outcomes.{is_dead, Chooses}
-use Rattle.stable_paths.specs.Scenarios.{failures_of}
-use Rattle.stable_paths.specs.Situations.{AreChoices, IsSettledIn, given_in, held_in}
-use Rattle.stable_paths.specs.Tests.{far_end, is_route}
-use Rattle.stable_paths.specs.declared.choice.Choices.{Choices}
-use Rattle.stable_paths.specs.declared.situation.Situation.{Situation}
-use Rattle.stable_paths.proofs.Choosing.{giver, has_giver}
-use Rattle.audit_law.specs.declared.verdict.AuditVerdict.TheVariants.{Dead, Own, NotGiven, Better, Missing}
+use Rattle.scenarios.specs.Scenarios.{failures_of}
+use Rattle.scenarios.specs.Situations.{AreChoices, IsSettledIn, given_in, held_in}
+use Rattle.scenarios.specs.Tests.{far_end, is_route}
+use Rattle.scenarios.specs.declared.choice.Choices.{Choices}
+use Rattle.scenarios.specs.declared.situation.Situation.{Situation}
+use Rattle.scenarios.proofs.Choosing.{giver, has_giver}
+use Rattle.table_audit.specs.declared.verdict.AuditVerdict.TheVariants.{Dead, Own, NotGiven, Better, Missing}
 use Rattle.table_audit.specs.Situated.{IsFaultIn, IsTopGiverIn, is_choosing_in}
 
 module _ (s : Situation) (r : ℕ) where

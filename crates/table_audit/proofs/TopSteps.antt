@@ -6,13 +6,13 @@ use Rattle.std.proofs.lemmas.Option.{slice_get_within}
 use Rattle.net_base.specs.Network.{joins}
 use Rattle.policy_base.specs.Policies.{policy_of}
 use Rattle.config_base.specs.declared.route.Route.{Route}
-use Rattle.list_laws.proofs.Options.{cases_Option}
-use Rattle.list_laws.proofs.Tests.{list_any_parts}
-use Rattle.stable_paths.specs.Tests.{far_end}
-use Rattle.stable_paths.proofs.Choosing.{far, linked_if}
-use Rattle.stable_paths.specs.Scenarios.{failures_of}
-use Rattle.stable_paths.specs.Situations.{given_in}
-use Rattle.stable_paths.specs.declared.situation.Situation.{Situation}
+use Rattle.list_law.proofs.Options.{cases_Option}
+use Rattle.list_law.proofs.Tests.{list_any_parts}
+use Rattle.scenarios.specs.Tests.{far_end}
+use Rattle.scenarios.proofs.Choosing.{far, linked_if}
+use Rattle.scenarios.specs.Scenarios.{failures_of}
+use Rattle.scenarios.specs.Situations.{given_in}
+use Rattle.scenarios.specs.declared.situation.Situation.{Situation}
 use Rattle.table_audit.specs.Situated.{IsTopGiverIn}
 use Rattle.table_audit.specs.Tops.{IsTopUntil, Top, better, next_top, with_end, with_gift}
 

@@ -1,2 +1,3 @@
 pub mod Situated
 pub mod Tops
+pub mod Verdicts

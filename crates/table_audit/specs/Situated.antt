@@ -2,11 +2,11 @@
 use Rattle.std.specs.Prelude.{◌≡◌, ℕ, Bool, Option, Some, None}
 use Rattle.policy_base.specs.Policies.{policy_of}
 use Rattle.config_base.specs.declared.route.Route.{Route}
-use Rattle.stable_paths.specs.Scenarios.{failures_of}
-use Rattle.stable_paths.specs.Situations.{IsSettledIn}
-use Rattle.stable_paths.specs.declared.situation.Situation.{Situation}
-use Rattle.audit_law.specs.declared.verdict.AuditVerdict.{AuditVerdict}
-use Rattle.audit_law.specs.Verdicts.{Fails, IsTopGiver, IsVerdict, is_choosing, router_of}
+use Rattle.scenarios.specs.Scenarios.{failures_of}
+use Rattle.scenarios.specs.Situations.{IsSettledIn}
+use Rattle.scenarios.specs.declared.situation.Situation.{Situation}
+use Rattle.table_audit.specs.declared.verdict.AuditVerdict.{AuditVerdict}
+use Rattle.table_audit.specs.Verdicts.{Fails, IsTopGiver, IsVerdict, is_choosing, router_of}
 
 abbrev pub is_choosing_in : Situation → ℕ → Bool
 is_choosing_in s r = is_choosing s.net.now (policy_of s.policy.now) (failures_of s.scenario.now) s.scenario.now.prefix r

@@ -2,17 +2,17 @@
 ghost use Rattle.std.specs.Prelude.{◌≡◌, ◌↔◌, length, IsTrue};
 ghost use Rattle.policy_base.specs.Policies.{policy_of};
 ghost use Rattle.outcome_base.specs.Outcomes.{IsStable};
-ghost use Rattle.stable_paths.specs.Scenarios.{failures_of};
-ghost use Rattle.stable_paths.specs.Situations.{AreChoices, IsSituation};
-ghost use Rattle.audit_law.specs.Verdicts.{IsVerdict};
+ghost use Rattle.scenarios.specs.Scenarios.{failures_of};
+ghost use Rattle.scenarios.specs.Situations.{AreChoices, IsSituation};
+ghost use Rattle.table_audit.specs.Verdicts.{IsVerdict};
 ghost use Rattle.table_audit.specs.Situated.{IsFaultIn, IsVerdictIn, is_choosing_in};
 
+use crate::AuditVerdict;
 use crate::top::top_giver;
-use audit_law::AuditVerdict;
 use config_base::Config;
 use net_base::{Loc, Net};
 use policy_base::Policy;
-use stable_paths::{Choices, Outcome, Scenario, Situation};
+use scenarios::{Choices, Outcome, Scenario, Situation};
 
 // What is wrong with the choice of a live router that is no origin.
 fn choice_fault(situation: &Situation<'_>, choices: &Choices, at: Loc) -> Option<AuditVerdict>

@@ -1,13 +1,13 @@
 //! Who gives a router the highest preference.
 ghost use Rattle.std.specs.Prelude.{◌≡◌, None, IfSome, ℕ};
 ghost use Rattle.config_base.specs.declared.route.Route.{Route};
-ghost use Rattle.stable_paths.specs.Situations.{IsSituation, given_in};
-ghost use Rattle.stable_paths.specs.Tests.{far_end as other_end};
+ghost use Rattle.scenarios.specs.Situations.{IsSituation, given_in};
+ghost use Rattle.scenarios.specs.Tests.{far_end as other_end};
 ghost use Rattle.table_audit.specs.Situated.{IsTopGiverIn};
 ghost use Rattle.table_audit.specs.Tops.{better, next_top};
 
 use net_base::Loc;
-use stable_paths::Situation;
+use scenarios::Situation;
 
 // The other end of a link of a location.
 fn far_end(at: Loc, link: (Loc, Loc)) -> Option<Loc>

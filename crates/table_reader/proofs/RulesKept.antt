@@ -4,15 +4,15 @@ use Rattle.std.specs.Prelude.{◌==◌, slice_get}
 use Rattle.std.specs.List.{position}
 use Rattle.std.specs.Str.{bytes_eq}
 use Rattle.std.proofs.lemmas.Bool.{eq-eqb, eqb-true, true≢false}
-use Rattle.item_laws.specs.TextRules.{is_known}
-use Rattle.item_laws.proofs.EachStep.{each_from-keeps}
-use Rattle.item_laws.proofs.FirstRule.{below_3, broken, next, Outcome}
-use Rattle.item_laws.proofs.StepFaults.{name_err, name_ok}
+use Rattle.json_values.specs.TextRules.{is_known}
+use Rattle.json_values.proofs.EachStep.{each_from-keeps}
+use Rattle.json_values.proofs.FirstRule.{below_3, broken, next, Outcome}
+use Rattle.json_values.proofs.StepFaults.{name_err, name_ok}
 use Rattle.net_base.specs.Network.{PlainNet}
 use Rattle.net_base.specs.Steps.{each_from, unless}
 use Rattle.net_base.proofs.StepLemmas.{bind_ok, err_same, ok_not_err, ok_same, or_fault_ok, unless_ok}
 use Rattle.net_base.proofs.StepOutcomes.{bind_case, each_from-breaks, unless_err}
-use Rattle.net_index.specs.Names.{names_of}
+use Rattle.location_names.specs.Names.{names_of}
 use Rattle.config_base.specs.declared.route.Route.{Route}
 use Rattle.table_reader.specs.declared.fault.TablesFault.{TablesFault}
 use Rattle.table_reader.specs.declared.fault.TablesFault.TheVariants.{Count, Holder, Unknown}

@@ -4,8 +4,8 @@ use Rattle.std.specs.Prelude.{◌==◌, codes, is_some, length, not, option_and_
 use Rattle.serde_json.specs.Data.{Data}
 use Rattle.serde_json.specs.Find.{get, as_null, as_object, as_str}
 use Rattle.serde_json.specs.Events.{members_len}
-use Rattle.json_words.specs.Json.{list_at}
-use Rattle.item_laws.proofs.OnlyFaults.{IsOf, Only, only_bind, only_each, only_each_from, only_if, or_only, or_then, unless_then}
+use Rattle.json_values.specs.Json.{list_at}
+use Rattle.json_values.proofs.OnlyFaults.{IsOf, Only, only_bind, only_each, only_each_from, only_if, or_only, or_then, unless_then}
 use Rattle.net_base.specs.Steps.{◌>>=◌}
 use Rattle.table_reader.specs.declared.fault.TablesFault.TheVariants.{Shape}
 use Rattle.table_reader.specs.Shape.{entry_of, path_of, route_of, shape_of, short_of, tag_of, text_of}

@@ -2,12 +2,12 @@
 use Rattle.std.proofs.Common.{◌≡◌, ℕ, List, length, Option, Ok, sym, ap, ◌∙◌}
 use Rattle.std.specs.Prelude.{◌==◌}
 use Rattle.std.proofs.lemmas.Bool.{eqb-true}
-use Rattle.json_words.specs.Json.{json_of}
-use Rattle.item_laws.proofs.EachStep.{each_from-length}
+use Rattle.json_values.specs.Json.{json_of}
+use Rattle.json_values.proofs.EachStep.{each_from-length}
 use Rattle.net_base.proofs.StepLemmas.{bind_ok, ok_same, unless_ok}
 use Rattle.net_base.specs.Network.{PlainNet}
 use Rattle.net_base.specs.Steps.{each_from, or_fault, unless}
-use Rattle.net_index.specs.Names.{names_of}
+use Rattle.location_names.specs.Names.{names_of}
 use Rattle.config_base.specs.declared.route.Route.{Route}
 use Rattle.table_reader.specs.declared.fault.TablesFault.TheVariants.{Count, NotJson}
 use Rattle.table_reader.specs.Rules.{at_holders, held_by, judged}

@@ -1,8 +1,8 @@
 -- The numbers of the faults, their words and their values.
 use Rattle.std.specs.Prelude.{ℕ, List, [], codes}
 use Rattle.std.specs.Fmt.{decimal}
-use Rattle.text_words.specs.Texts.{word_text, place_text}
-use Rattle.text_faults.specs.Telling.{Telling}
+use Rattle.text_parts.specs.Texts.{word_text, place_text}
+use Rattle.text_parts.specs.Telling.{Telling}
 use Rattle.table_reader.specs.declared.fault.TablesFault.{TablesFault}
 use Rattle.table_reader.specs.declared.fault.TablesFault.TheVariants.{NotJson, Shape, Count, Unknown, Holder, NoMemory}
 

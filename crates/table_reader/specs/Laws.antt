@@ -2,9 +2,9 @@
 use Rattle.std.specs.Prelude.{◌≡◌, ℕ, ◌+◌, IsTrue, List, [], ◌∷◌, length, slice_get, Option, Some, None, ⊤}
 use Rattle.std.specs.List.{position, AllByRecursion}
 use Rattle.std.specs.Str.{bytes_eq}
-use Rattle.item_laws.specs.TextRules.{is_known}
+use Rattle.json_values.specs.TextRules.{is_known}
 use Rattle.net_base.specs.Network.{PlainNet}
-use Rattle.net_index.specs.Names.{names_of}
+use Rattle.location_names.specs.Names.{names_of}
 use Rattle.table_reader.specs.Shape.{Said}
 
 -- the network has locations of the names on the path of an entry

@@ -5,7 +5,7 @@ use Rattle.std.specs.Option.{option_map_or}
 use Rattle.std.specs.Str.{bytes_eq}
 use Rattle.net_base.specs.Network.{PlainNet}
 use Rattle.net_base.specs.Steps.{◌>>=◌, or_fault, unless, each_from}
-use Rattle.net_index.specs.Names.{names_of}
+use Rattle.location_names.specs.Names.{names_of}
 use Rattle.config_base.specs.declared.route.Route.{Route}
 use Rattle.table_reader.specs.declared.fault.TablesFault.{TablesFault}
 use Rattle.table_reader.specs.declared.fault.TablesFault.TheVariants.{Count, Unknown, Holder}

@@ -1,6 +1,6 @@
 -- What borrowed parts of a text say.
 use Rattle.std.specs.Prelude.{option_map, Option}
-use Rattle.net_index.specs.Names.{texts}
+use Rattle.location_names.specs.Names.{texts}
 use Rattle.table_reader.specs.declared.shape.RawRoute.{RawRoute}
 use Rattle.table_reader.specs.Shape.{Said}
 

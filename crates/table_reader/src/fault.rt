@@ -1,8 +1,7 @@
 //! What is wrong with a tables text.
-use outside::NoMemory;
+use input_output::NoMemory;
 use std::alloc::{AllocError, AllocFailed};
-use text_faults::TextFault;
-use text_words::{push_bytes, push_number};
+use text_parts::{TextFault, push_bytes, push_number};
 
 /// The rule that a tables text breaks: of several the one that stands first here. Entries are counted from 1.
 #[derive(Clone, Copy, Drop, PartialEq, Eq)]

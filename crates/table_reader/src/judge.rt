@@ -2,7 +2,7 @@
 ghost use Rattle.std.specs.Prelude.{◌≡◌, map};
 ghost use Rattle.net_base.specs.Gives.{GivesUnless};
 ghost use Rattle.net_base.specs.Steps.{each_from};
-ghost use Rattle.net_index.specs.Names.{names_of, texts};
+ghost use Rattle.location_names.specs.Names.{names_of, texts};
 ghost use Rattle.table_reader.specs.Rules.{at_holders, begins_at as does_begin_at, held_by, judged, located};
 ghost use Rattle.table_reader.specs.Shape.{each};
 ghost use Rattle.table_reader.specs.Views.{raw_entry};
@@ -10,8 +10,8 @@ ghost use Rattle.table_reader.specs.Views.{raw_entry};
 use crate::fault::TablesFault;
 use crate::shape::RawRoute;
 use config_base::Route;
+use location_names::LocationNames;
 use net_base::{List, Loc, Net};
-use net_index::LocationNames;
 use std::alloc::Global;
 
 /// The location of a name on the path of an entry.

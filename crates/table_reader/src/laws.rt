@@ -2,7 +2,7 @@
 ghost use Rattle.std.specs.Prelude.{◌≡◌, ℕ, List, Option, Some, Ok, Err, IsUtf8};
 ghost use Rattle.serde_json.specs.Data.{Data};
 ghost use Rattle.serde_json.specs.Read.{read};
-ghost use Rattle.item_laws.specs.TextRules.{Says, Keeps, KeepsBelow};
+ghost use Rattle.json_values.specs.TextRules.{Says, Keeps, KeepsBelow};
 ghost use Rattle.net_base.specs.Network.{PlainNet};
 ghost use Rattle.config_base.specs.declared.route.Route.{Route};
 ghost use Rattle.table_reader.specs.Faults.{number_of};

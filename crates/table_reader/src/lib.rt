@@ -3,7 +3,7 @@
 
 ghost use Rattle.std.specs.Prelude.{◌≡◌, IfOk, length};
 ghost use Rattle.serde_json.specs.View.{view};
-ghost use Rattle.json_words.specs.Json.{json_of};
+ghost use Rattle.json_values.specs.Json.{json_of};
 ghost use Rattle.net_base.specs.Gives.{GivesUnless};
 ghost use Rattle.net_base.specs.Steps.{or_fault};
 ghost use Rattle.table_reader.specs.Spelled.{spelled};
@@ -14,10 +14,10 @@ pub mod laws;
 mod shape;
 
 pub use fault::TablesFault;
-use json_words::{JsonFault, json_value};
+use json_values::{JsonFault, json_value};
 use net_base::Net;
+use scenarios::Outcome;
 use serde_json::Value;
-use stable_paths::Outcome;
 use std::alloc::Global;
 
 /// The JSON value that the bytes spell.

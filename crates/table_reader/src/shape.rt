@@ -3,12 +3,12 @@ ghost use Rattle.std.specs.Prelude.{◌≡◌, map};
 ghost use Rattle.serde_json.specs.View.{view};
 ghost use Rattle.net_base.specs.Gives.{GivesUnless};
 ghost use Rattle.net_base.specs.Steps.{each_from};
-ghost use Rattle.net_index.specs.Names.{texts};
+ghost use Rattle.location_names.specs.Names.{texts};
 ghost use Rattle.table_reader.specs.Shape.{each, entry_of, path_of, route_of, shape_of, short_of, tag_of, text_of};
 ghost use Rattle.table_reader.specs.Views.{raw_entry, raw_route};
 
 use crate::fault::TablesFault;
-use json_words::{list, member_count};
+use json_values::{list, member_count};
 use net_base::Tag;
 use serde_json::Value;
 use std::alloc::Global;

@@ -6,8 +6,8 @@ ghost use Rattle.tag_assign.specs.Counts.{HasCounts, HaveRoom};
 ghost use Rattle.tag_assign.specs.Tagging.{tag_for, tags_after, tags_of, all_nodes};
 
 use graph_base::{Graph, Node, Tags};
+use input_output::NoMemory;
 use net_base::{List, Loc, Net, Tag};
-use outside::NoMemory;
 use std::alloc::{AllocError, Global};
 
 // The tag of the next node at a location, which is counted.

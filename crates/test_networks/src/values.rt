@@ -1,7 +1,7 @@
 //! Tags and paths from tables.
 use config_base::NO_TAG;
+use input_output::NoMemory;
 use net_base::{Loc, Tag};
-use outside::NoMemory;
 use std::alloc::Global;
 
 /// The tag of a location with this value. Routers have the AS numbers from 64512 on.

@@ -8,7 +8,7 @@ use Rattle.std.proofs.Math.Seq.{take-suc}
 use Rattle.std.proofs.lemmas.List.Sums.{fold-append}
 use Rattle.std.proofs.Math.Bool.{or-false}
 use Rattle.std.proofs.lemmas.Bool.{or_parts}
-use Rattle.list_laws.proofs.Truth.{or_left_comm}
+use Rattle.list_law.proofs.Truth.{or_left_comm}
 use Rattle.net_base.specs.Network.{is_before}
 use Rattle.topology.specs.Rules.{put, ascending}
 

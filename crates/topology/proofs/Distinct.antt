@@ -5,7 +5,7 @@ use Rattle.std.specs.List.{list_any, find, AllByRecursion, IsDistinct}
 use Rattle.std.proofs.lemmas.List.{map-append}
 use Rattle.std.proofs.lemmas.List.Folds.{list_any-append}
 use Rattle.std.proofs.lemmas.Bool.{or_parts}
-use Rattle.list_laws.proofs.Tests.{list_any-map, list_any-not_found}
+use Rattle.list_law.proofs.Tests.{list_any-map, list_any-not_found}
 use Rattle.topology.specs.declared.fault.TopoFault.{TopoFault}
 use Rattle.topology.specs.Rules.{all_unlike, no_fault}
 use Rattle.net_base.proofs.StepLemmas.{bind_ok}

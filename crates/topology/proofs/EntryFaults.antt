@@ -4,10 +4,10 @@ use Rattle.std.specs.Prelude.{⊤, IsTrue, nat_eq, nat_le}
 use Rattle.std.specs.List.{AllByRecursion, IsDistinct}
 use Rattle.std.specs.Str.{bytes_eq}
 use Rattle.std.proofs.lemmas.Bool.{leb-false}
-use Rattle.list_laws.proofs.Texts.{bytes_eq_apart}
-use Rattle.list_laws.proofs.Numbers.{nat_eq_apart}
-use Rattle.item_laws.specs.TextRules.{Keeps}
-use Rattle.item_laws.proofs.EachStep.{each_from-keeps}
+use Rattle.list_law.proofs.Texts.{bytes_eq_apart}
+use Rattle.list_law.proofs.Numbers.{nat_eq_apart}
+use Rattle.json_values.specs.TextRules.{Keeps}
+use Rattle.json_values.proofs.EachStep.{each_from-keeps}
 use Rattle.net_base.specs.NameRule.{is_name}
 use Rattle.net_base.specs.Steps.{◌>>=◌, unless, each_from}
 use Rattle.net_base.specs.declared.net.Site.{Site}

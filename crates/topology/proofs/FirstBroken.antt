@@ -3,8 +3,8 @@ use Rattle.std.proofs.Common.{◌≡◌, ℕ, ◌+◌, List, [], ◌++◌, lengt
 use Rattle.std.specs.Prelude.{IsTrue, ◌==◌, nat_le, position}
 use Rattle.std.specs.List.{list_any, AllByRecursion, IsDistinct}
 use Rattle.std.specs.Str.{bytes_eq}
-use Rattle.list_laws.proofs.Positions.{list_any-at_position, list_any-no_position}
-use Rattle.list_laws.proofs.Each.{AllByRecursion-append, AllByRecursion-append_parts, AllByRecursion-from_list_any, list_any_breaks, AllByRecursion-not, AllByRecursion-from_not}
+use Rattle.list_law.proofs.Positions.{list_any-at_position, list_any-no_position}
+use Rattle.list_law.proofs.Each.{AllByRecursion-append, AllByRecursion-append_parts, AllByRecursion-from_list_any, list_any_breaks, AllByRecursion-not, AllByRecursion-from_not}
 use Rattle.net_base.specs.NameRule.{is_name}
 use Rattle.net_base.specs.Network.{PlainNet, IsNet, same_ends}
 use Rattle.net_base.specs.Steps.{◌>>=◌, each_from}
@@ -22,8 +22,8 @@ use Rattle.topology.proofs.EntryFaults.{counted_breaks, named_breaks, all_named,
 use Rattle.topology.proofs.LinkNames.{AllJoin, all_join, distinct_alike, any_join, to_itself, ends_known, joined-breaks, routers_first}
 use Rattle.topology.proofs.Networks.{each_named, counted_holds, judged_steps, kept_IsNet}
 use Rattle.topology.proofs.Outcomes.{no_fault-err, all_unlike-breaks, all_nothing}
-use Rattle.item_laws.specs.TextRules.{KeepsBelow}
-use Rattle.item_laws.proofs.FirstRule.{below_3, broken, next, Outcome}
+use Rattle.json_values.specs.TextRules.{KeepsBelow}
+use Rattle.json_values.proofs.FirstRule.{below_3, broken, next, Outcome}
 use Rattle.net_base.proofs.Links.{same_ends-swap}
 use Rattle.net_base.proofs.StepOutcomes.{bind_case, each_from-breaks}
 use Rattle.topology.proofs.Results.{no_fault-ok}

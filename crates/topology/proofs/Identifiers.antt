@@ -11,7 +11,7 @@ use Rattle.net_base.specs.Addresses.{Quad, quad_of, are_octets, bits_of, address
 use Rattle.net_base.specs.Steps.{or_fault, unless}
 use Rattle.topology.specs.declared.parts.Field.TheVariants as field
 use Rattle.topology.specs.declared.fault.TopoFault.TheVariants.{Shape}
-use Rattle.json_words.specs.Json.{list_at, text_at, number_at}
+use Rattle.json_values.specs.Json.{list_at, text_at, number_at}
 use Rattle.topology.specs.Shape.{Entry, Topology, each, entry_of, ends_of, shape_of, identifier_of, IsIdentifier}
 use Rattle.net_base.proofs.StepLemmas.{bind_ok, or_fault_ok, ok_same}
 use Rattle.topology.proofs.Results.{each_from-all}

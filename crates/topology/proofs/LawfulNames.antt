@@ -2,8 +2,8 @@
 use Rattle.std.proofs.Common.{◌≡◌, ℕ, List, [], ◌∷◌, map, Ok, sym, subst}
 use Rattle.std.specs.Prelude.{IsTrue}
 use Rattle.std.specs.List.{AllByRecursion}
-use Rattle.list_laws.proofs.Each.{AllByRecursion-append}
-use Rattle.item_laws.proofs.TextLaws.{says_read}
+use Rattle.list_law.proofs.Each.{AllByRecursion-append}
+use Rattle.json_values.proofs.TextLaws.{says_read}
 use Rattle.net_base.specs.NameRule.{is_name}
 use Rattle.net_base.specs.Network.{PlainNet, sites}
 use Rattle.net_base.specs.Steps.{each_from}

@@ -12,3 +12,7 @@ pub mod FirstBroken
 pub mod ShapeFaults
 pub mod TextLaws
 pub mod LawfulNames
+pub mod MeaningParts
+pub mod Read
+pub mod InOrder
+pub mod Written

@@ -10,8 +10,8 @@ use Rattle.std.proofs.lemmas.List.Folds.{list_any_at}
 use Rattle.std.proofs.lemmas.List.Quantifiers.{position-Some}
 use Rattle.std.proofs.lemmas.Slice.Eq.{bytes_eq-Decides}
 use Rattle.std.proofs.lemmas.Option.{cond_some, same_Some}
-use Rattle.list_laws.proofs.Positions.{list_any-no_position, list_any-position}
-use Rattle.list_laws.proofs.Truth.{same_tests}
+use Rattle.list_law.proofs.Positions.{list_any-no_position, list_any-position}
+use Rattle.list_law.proofs.Truth.{same_tests}
 use Rattle.net_base.specs.Steps.{◌>>=◌, or_fault, each_from}
 use Rattle.topology.specs.declared.fault.TopoFault.{TopoFault}
 use Rattle.topology.specs.declared.fault.TopoFault.TheVariants.{UnknownEnd}

@@ -7,9 +7,9 @@ use Rattle.std.proofs.lemmas.Bool.{eqb-false, eqb-true, leb-false, or_parts}
 use Rattle.std.proofs.lemmas.List.{append-nil, length-map}
 use Rattle.std.proofs.lemmas.List.Sums.{fold-append}
 use Rattle.std.proofs.lemmas.List.Quantifiers.{position-Some}
-use Rattle.list_laws.proofs.Each.{AllByRecursion-from_list_any}
-use Rattle.list_laws.proofs.Tests.{list_any-not_found}
-use Rattle.list_laws.proofs.Positions.{list_any-no_position}
+use Rattle.list_law.proofs.Each.{AllByRecursion-from_list_any}
+use Rattle.list_law.proofs.Tests.{list_any-not_found}
+use Rattle.list_law.proofs.Positions.{list_any-no_position}
 use Rattle.net_base.specs.Network.{Ascend, IsBefore, is_before, same_ends, ordered}
 use Rattle.net_base.specs.Steps.{◌>>=◌, or_fault, each_from}
 use Rattle.topology.specs.declared.fault.TopoFault.TheVariants.{UnknownEnd, LinkTwice}

@@ -4,7 +4,7 @@ use Rattle.std.specs.Prelude.{IsTrue, nat_le}
 use Rattle.std.specs.List.{AllByRecursion}
 use Rattle.std.proofs.lemmas.List.{map-append, length-map}
 use Rattle.std.proofs.lemmas.Bool.{leb-true}
-use Rattle.list_laws.proofs.Each.{AllByRecursion-append}
+use Rattle.list_law.proofs.Each.{AllByRecursion-append}
 use Rattle.net_base.specs.NameRule.{is_name}
 use Rattle.net_base.specs.Network.{PlainNet, IsNet}
 use Rattle.topology.specs.declared.parts.Kind.{Kind}

@@ -7,8 +7,8 @@ use Rattle.serde_json.specs.Events.{members_len}
 use Rattle.topology.specs.declared.parts.Field.TheVariants as field
 use Rattle.topology.specs.declared.fault.TopoFault.{TopoFault}
 use Rattle.topology.specs.declared.fault.TopoFault.TheVariants.{Shape}
-use Rattle.json_words.specs.Json.{list_at, text_at, number_at}
-use Rattle.item_laws.proofs.OnlyFaults.{IsOf, Only, only_bind, only_each, or_then, unless_then}
+use Rattle.json_values.specs.Json.{list_at, text_at, number_at}
+use Rattle.json_values.proofs.OnlyFaults.{IsOf, Only, only_bind, only_each, or_then, unless_then}
 use Rattle.topology.specs.Shape.{each, entry_of, ends_of, shape_of, identifier_of}
 
 only_all : {A B : Type 0} (f : A → Result B TopoFault) → ((x : A) → Only (IsOf Shape) (f x)) → (xs : List A) → Only (IsOf Shape) (each f xs)

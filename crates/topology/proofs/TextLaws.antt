@@ -1,6 +1,6 @@
 -- What a text's answer says of it.
 use Rattle.std.proofs.Common.{◌≡◌, ℕ, List, Ok}
-use Rattle.item_laws.proofs.TextLaws as texts
+use Rattle.json_values.proofs.TextLaws as texts
 use Rattle.net_base.specs.Network.{PlainNet, IsNet}
 use Rattle.topology.specs.declared.fault.TopoFault.TheVariants.{NotJson, Shape}
 use Rattle.topology.specs.Faults.{number_of}

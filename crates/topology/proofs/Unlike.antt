@@ -4,8 +4,8 @@ use Rattle.std.proofs.Common.{length-take-le, map-id, arith}
 use Rattle.std.specs.Prelude.{⊤}
 use Rattle.std.specs.List.{list_any, find}
 use Rattle.std.specs.Str.{bytes_eq}
-use Rattle.list_laws.proofs.Tests.{list_any-map}
-use Rattle.list_laws.proofs.Changed.{map_so_far}
+use Rattle.list_law.proofs.Tests.{list_any-map}
+use Rattle.list_law.proofs.Changed.{map_so_far}
 use Rattle.topology.specs.declared.fault.TopoFault.{TopoFault}
 use Rattle.topology.specs.Rules.{all_unlike, names_of, same_name}
 use Rattle.topology.specs.Shape.{Entry}

@@ -1,8 +1,8 @@
 -- The numbers of the faults, their words and their values.
 use Rattle.std.specs.Prelude.{ℕ, List, [], ◌++◌, codes}
 use Rattle.std.specs.Fmt.{decimal}
-use Rattle.text_words.specs.Texts.{word_text, place_text}
-use Rattle.text_faults.specs.Telling.{Telling}
+use Rattle.text_parts.specs.Texts.{word_text, place_text}
+use Rattle.text_parts.specs.Telling.{Telling}
 use Rattle.topology.specs.Parts.{kind_word, field_word}
 use Rattle.topology.specs.declared.fault.TopoFault.{TopoFault}
 use Rattle.topology.specs.declared.fault.TopoFault.TheVariants.{NotJson, Shape, TooMany, BadName, Twice, AsRange, AsTwice, IdTwice, UnknownEnd, LinkTwice, SelfLink, PeerLink, NoMemory}

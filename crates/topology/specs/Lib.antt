@@ -5,3 +5,5 @@ pub mod Shape
 pub mod Topology
 pub mod Views
 pub mod Laws
+pub mod Meaning
+pub mod TopologyMeaningLaws

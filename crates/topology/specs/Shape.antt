@@ -8,7 +8,7 @@ use Rattle.net_base.specs.Addresses.{address_of}
 use Rattle.net_base.specs.Steps.{◌>>=◌, or_fault, unless, each_from}
 use Rattle.topology.specs.declared.fault.TopoFault.{TopoFault}
 use Rattle.topology.specs.declared.fault.TopoFault.TheVariants.{Shape}
-use Rattle.json_words.specs.Json.{list_at, text_at, number_at}
+use Rattle.json_values.specs.Json.{list_at, text_at, number_at}
 
 -- each of them in order
 unfoldable pub each : {A B : Type 0} → (A → Result B TopoFault) → List A → Result (List B) TopoFault

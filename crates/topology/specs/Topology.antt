@@ -1,6 +1,6 @@
 -- The network that bytes spell.
 use Rattle.std.specs.Prelude.{ℕ, List, Result}
-use Rattle.json_words.specs.Json.{json_of}
+use Rattle.json_values.specs.Json.{json_of}
 use Rattle.net_base.specs.Network.{PlainNet}
 use Rattle.net_base.specs.Steps.{◌>>=◌, or_fault}
 use Rattle.topology.specs.declared.fault.TopoFault.{TopoFault}

@@ -1,10 +1,9 @@
 //! What is wrong with a topology text.
 use crate::parts::{Field, Kind};
+use input_output::NoMemory;
 use net_base::Name;
-use outside::NoMemory;
 use std::alloc::{AllocError, AllocFailed};
-use text_faults::TextFault;
-use text_words::{push_bytes, push_number, push_place, push_word};
+use text_parts::{TextFault, push_bytes, push_number, push_place, push_word};
 
 /// The rule that a topology text breaks: of several the one that stands first here. Places count from 1 in
 /// their array.

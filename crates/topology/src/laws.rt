@@ -2,7 +2,7 @@
 ghost use Rattle.std.specs.Prelude.{◌≡◌, ℕ, List, Some, Ok, Err, IsUtf8};
 ghost use Rattle.serde_json.specs.Data.{Data};
 ghost use Rattle.serde_json.specs.Read.{read};
-ghost use Rattle.item_laws.specs.TextRules.{Says, Keeps, KeepsBelow};
+ghost use Rattle.json_values.specs.TextRules.{Says, Keeps, KeepsBelow};
 ghost use Rattle.net_base.specs.Network.{PlainNet, IsNet};
 ghost use Rattle.topology.specs.Faults.{number_of};
 ghost use Rattle.topology.specs.Laws.{rules};

@@ -1,23 +1,29 @@
-//! Topology texts: the network that a JSON text spells.
+//! Topology texts: the network that a JSON text spells, or the least rule that it breaks, with its number, word and values.
+//!
+//! What a text means is said apart, without faults and without their order (`specs/Meaning`): the keys of its objects, what stands under
+//! them, and that what they say is a network. The law `topologies_mean_their_network` ties the two: reading gives a network exactly where
+//! the text means it. Policies are unknown here.
 #![tactic(auto)]
-
-ghost use Rattle.serde_json.specs.View.{view};
-ghost use Rattle.json_words.specs.Json.{json_of};
-ghost use Rattle.net_base.specs.Gives.{GivesUnless};
-ghost use Rattle.net_base.specs.Steps.{or_fault};
-ghost use Rattle.topology.specs.Topology.{spelled};
 
 mod fault;
 pub mod laws;
 mod links;
+mod meaning;
 pub mod names;
 mod parts;
 mod rules;
 mod shape;
 mod sites;
 
+ghost use Rattle.serde_json.specs.View.{view};
+ghost use Rattle.json_values.specs.Json.{json_of};
+ghost use Rattle.net_base.specs.Gives.{GivesUnless};
+ghost use Rattle.net_base.specs.Steps.{or_fault};
+ghost use Rattle.topology.specs.Topology.{spelled};
+
 pub use fault::TopoFault;
-use json_words::{JsonFault, json_value};
+use json_values::{JsonFault, json_value};
+pub use meaning::topologies_mean_their_network;
 use net_base::Net;
 pub use parts::{Field, Kind};
 use serde_json::Value;

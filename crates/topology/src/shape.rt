@@ -7,7 +7,7 @@ ghost use Rattle.topology.specs.Views.{raw_entry, raw_ends, raw_topology};
 
 use crate::fault::TopoFault;
 use crate::parts::Field;
-use json_words::{list, member_count};
+use json_values::{list, member_count};
 use net_base::read_address;
 use serde_json::Value;
 use std::alloc::Global;

@@ -2,8 +2,8 @@
 use Rattle.std.proofs.Common.{◌≡◌, ℕ, ◌<◌, Bool, true, List, length, Option, Some, None, sym, ap, ◌∙◌, inl, inr}
 use Rattle.std.specs.Prelude.{is_some, not, IfNone, IfSome}
 use Rattle.std.proofs.lemmas.Bool.{cases_Bool, true≢false}
-use Rattle.list_laws.proofs.Options.{is_some_parts}
-use Rattle.list_laws.proofs.Truth.{same_tests}
+use Rattle.list_law.proofs.Options.{is_some_parts}
+use Rattle.list_law.proofs.Truth.{same_tests}
 use Rattle.net_base.specs.Network.{PlainNet}
 use Rattle.policy_base.specs.Policies.{PlainStatement}
 use Rattle.graph_base.specs.Graphs.{PlainGraph, IsGraph}

@@ -6,9 +6,9 @@ use Rattle.std.specs.List.{IsDistinct}
 use Rattle.std.proofs.Math.Bool.{beq}
 use Rattle.std.proofs.lemmas.Bool.{and_from, and_parts, cases_Bool, not-true, not_from_false, or_cases, or_left, or_right, true≢false}
 use Rattle.std.proofs.lemmas.List.Elements.{All-from_recursion, recursion_from_All}
-use Rattle.list_laws.specs.Members.{IsIn}
-use Rattle.list_laws.proofs.Apart.{Apart-from_distinct, Apart-weaken, IsDistinct-from_apart}
-use Rattle.list_laws.proofs.Members.{AllByRecursion-IsIn, AllByRecursion-from_IsIn}
+use Rattle.list_law.specs.Members.{IsIn}
+use Rattle.list_law.proofs.Apart.{Apart-from_distinct, Apart-weaken, IsDistinct-from_apart}
+use Rattle.list_law.proofs.Members.{AllByRecursion-IsIn, AllByRecursion-from_IsIn}
 use Rattle.net_base.specs.Network.{PlainNet, is_peer, is_router, linked}
 use Rattle.graph_base.specs.Graphs.{PlainGraph}
 use Rattle.graph_base.specs.Rules.{IsWellFormed, same_pair}

@@ -7,8 +7,8 @@ use Rattle.std.proofs.lemmas.Bool.{and_from, true≢false}
 use Rattle.std.proofs.lemmas.List.{take-append-drop, take_more}
 use Rattle.std.proofs.lemmas.Map.Keys.{IsDistinct-push}
 use Rattle.std.proofs.lemmas.Option.{slice_get-get_or}
-use Rattle.list_laws.proofs.Items.{drop_from}
-use Rattle.list_laws.proofs.Keys.{others_before}
+use Rattle.list_law.proofs.Items.{drop_from}
+use Rattle.list_law.proofs.Keys.{others_before}
 use Rattle.graph_base.specs.Rules.{same_pair}
 use Rattle.node_classes.proofs.Finding.{pair_is}
 use Rattle.node_classes.proofs.Ordered.{stands_turned}

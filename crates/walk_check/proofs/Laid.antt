@@ -5,8 +5,8 @@ use Rattle.std.specs.List.Sorted.{IsPermutation}
 use Rattle.std.proofs.lemmas.List.Sorted.{Contains-permutation, IsPermutation-append, IsPermutation-append_comm, IsPermutation-append_left, IsPermutation-append_right}
 use Rattle.std.proofs.lemmas.List.Sorted.{IsPermutation-map, IsPermutation-sym, IsPermutation-trans}
 use Rattle.std.proofs.lemmas.Map.Keys.{IsDistinct-IsPermutation}
-use Rattle.list_laws.specs.Members.{IsIn}
-use Rattle.list_laws.proofs.Members.{Contains-from_IsIn, IsIn-from_Contains}
+use Rattle.list_law.specs.Members.{IsIn}
+use Rattle.list_law.proofs.Members.{Contains-from_IsIn, IsIn-from_Contains}
 use Rattle.graph_base.specs.Graphs.{PlainGraph, IsGraph}
 use Rattle.node_classes.specs.declared.way.Way.{Way}
 use Rattle.node_classes.specs.Ways.{same_pair, stand}

@@ -4,9 +4,9 @@ use Rattle.std.specs.Prelude.{is_some, option_map}
 use Rattle.std.proofs.lemmas.Bool.{cases_lt}
 use Rattle.std.proofs.lemmas.List.{take_more}
 use Rattle.std.proofs.lemmas.Option.{get_or_from_slice_get, same_Some, slice_get_within}
-use Rattle.list_laws.specs.Members.{IsIn}
-use Rattle.list_laws.proofs.Members.{IsIn-append_left, IsIn-push, IsIn-push_cases, IsIn-nil}
-use Rattle.list_laws.proofs.Options.{option_map_parts}
+use Rattle.list_law.specs.Members.{IsIn}
+use Rattle.list_law.proofs.Members.{IsIn-append_left, IsIn-push, IsIn-push_cases, IsIn-nil}
+use Rattle.list_law.proofs.Options.{option_map_parts}
 use Rattle.graph_base.specs.Graphs.{PlainGraph, IsGraph}
 use Rattle.graph_base.specs.Runs.{rank_at, run}
 use Rattle.graph_base.proofs.RunSteps.{run_inside}

@@ -4,9 +4,9 @@ use Rattle.std.specs.Prelude.{◌==◌, nat_eq, All}
 use Rattle.std.specs.List.{IsDistinct}
 use Rattle.std.proofs.lemmas.Bool.{and_from, and_parts}
 use Rattle.std.proofs.lemmas.List.Elements.{All-from_recursion}
-use Rattle.list_laws.specs.Members.{IsIn}
-use Rattle.list_laws.proofs.Apart.{Apart, Apart-append, Apart-from_distinct, Apart-map, IsDistinct-from_apart}
-use Rattle.list_laws.proofs.Members.{AllByRecursion-IsIn, AllByRecursion-from_IsIn, IsIn-append_cases, IsIn-map_parts}
+use Rattle.list_law.specs.Members.{IsIn}
+use Rattle.list_law.proofs.Apart.{Apart, Apart-append, Apart-from_distinct, Apart-map, IsDistinct-from_apart}
+use Rattle.list_law.proofs.Members.{AllByRecursion-IsIn, AllByRecursion-from_IsIn, IsIn-append_cases, IsIn-map_parts}
 use Rattle.graph_base.specs.Graphs.{PlainGraph, IsGraph}
 use Rattle.graph_base.specs.Rules.{same_pair}
 use Rattle.graph_base.specs.Runs.{place_of}

@@ -6,7 +6,7 @@ use Rattle.std.proofs.Math.Bool.{beq}
 use Rattle.std.proofs.lemmas.Bool.{and_from, cases_eq, eq-eqb, false≢true}
 use Rattle.std.proofs.lemmas.List.{get_or-set_other}
 use Rattle.std.proofs.lemmas.List.Folds.{list_any_at}
-use Rattle.list_laws.proofs.Options.{option_and_then_parts}
+use Rattle.list_law.proofs.Options.{option_and_then_parts}
 use Rattle.graph_base.specs.Graphs.{PlainGraph}
 use Rattle.graph_base.specs.Runs.{has_step, place_of, step_at, run, IsTrail}
 use Rattle.graph_base.proofs.Determined.{start_at-start, step_at-step}

@@ -1,7 +1,7 @@
 -- Ranks of nodes of two graphs, of which those of the second are counted behind those of the first.
 use Rattle.std.specs.Prelude.{◌≡◌, ℕ, ◌-◌, ◌<◌, List, Option, Some, None, length, min}
 use Rattle.std.specs.Option.{option_map_or}
-use Rattle.list_laws.specs.Members.{IsIn}
+use Rattle.list_law.specs.Members.{IsIn}
 use Rattle.graph_base.specs.Graphs.{PlainGraph}
 use Rattle.graph_base.specs.Runs.{rank_at}
 

@@ -6,9 +6,9 @@ ghost use Rattle.walk_check.specs.Alike.{AreAlike, AreUnlike, IsSingleStepped};
 
 use crate::ways::both_ways;
 use graph_base::{Graph, MAX_NODES};
+use input_output::NoMemory;
 use net_base::List;
 use node_classes::classes;
-use outside::NoMemory;
 use std::alloc::{AllocError, Global};
 
 /// The class of each node of two graphs. A class bears the number of the least of its nodes, those of the first graph

@@ -8,8 +8,8 @@ ghost use Rattle.walk_check.specs.Keys.{is_before};
 
 use graph_base::Graph;
 use indexmap::IndexSet;
+use input_output::NoMemory;
 use net_base::Loc;
-use outside::NoMemory;
 use std::alloc::{AllocError, Global};
 
 /// The location of each start, under one number.

@@ -5,7 +5,7 @@ ghost use Rattle.walk_check.specs.Formed.{CanBeReached};
 
 use crate::formed::start_marks;
 use graph_base::Graph;
-use outside::NoMemory;
+use input_output::NoMemory;
 use reach_prune::{Way, marked};
 use std::alloc::Global;
 

@@ -2,7 +2,7 @@
 ghost use Rattle.std.specs.Prelude.{◌≡◌, ◌↔◌, ◌<◌, ℕ, IfOk, IsTrue, length};
 ghost use Rattle.net_base.specs.Network.{linked};
 ghost use Rattle.net_base.specs.Sets.{holds};
-ghost use Rattle.net_index.specs.Neighbours.{is_held};
+ghost use Rattle.location_names.specs.Neighbours.{is_held};
 ghost use Rattle.graph_base.specs.Rules.{IsWellFormed};
 ghost use Rattle.graph_base.specs.Runs.{is_start};
 ghost use Rattle.reach_prune.specs.Searches.{is_marked};
@@ -10,9 +10,9 @@ ghost use Rattle.walk_check.specs.Formed.{NodesFit, StartsFit, StepsFit, node_fi
 
 use crate::distinct::is_single_stepped;
 use graph_base::Graph;
+use input_output::NoMemory;
+use location_names::{is_near, neighbour_sets};
 use net_base::{LocSet, Net};
-use net_index::{is_near, neighbour_sets};
-use outside::NoMemory;
 use policy_base::Case;
 use std::alloc::{AllocError, Global};
 

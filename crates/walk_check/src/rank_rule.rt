@@ -14,8 +14,8 @@ use crate::comparing::WalkClasses;
 use crate::ways::both_ways;
 use graph_base::{Graph, MAX_NODES};
 use indexmap::IndexSet;
+use input_output::NoMemory;
 use node_classes::pairs_met;
-use outside::NoMemory;
 use std::alloc::Global;
 
 /// The class of a node.

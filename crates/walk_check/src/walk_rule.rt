@@ -9,8 +9,8 @@ use crate::comparing::{WalkClasses, alike};
 use crate::ended::are_ended;
 use crate::formed::is_well_formed;
 use graph_base::Graph;
+use input_output::NoMemory;
 use net_base::Net;
-use outside::NoMemory;
 use policy_base::Case;
 use std::alloc::Global;
 

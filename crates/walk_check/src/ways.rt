@@ -1,6 +1,6 @@
 //! The steps of two graphs in one list.
 ghost use Rattle.std.specs.Prelude.{◌≡◌, ◌↔◌, ◌+◌, ◌≤◌, ◌<◌, ◌^◌, ◌++◌, All, IfOk, OnOk, length, map};
-ghost use Rattle.list_laws.specs.Members.{IsIn};
+ghost use Rattle.list_law.specs.Members.{IsIn};
 ghost use Rattle.graph_base.specs.declared.graph.TheConstants.{MAX_NODES};
 ghost use Rattle.node_classes.specs.declared.way.Way.{Way as PlainWay};
 ghost use Rattle.node_classes.specs.Ways.{Ascend};

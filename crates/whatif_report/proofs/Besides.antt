@@ -8,11 +8,11 @@ use Rattle.std.proofs.lemmas.List.Folds.{list_any-append}
 use Rattle.net_base.specs.Network.{PlainNet, joins}
 use Rattle.net_base.specs.Sets.{holds}
 use Rattle.outcome_base.specs.Outcomes.{Failures, is_dead_link, is_silent}
-use Rattle.stable_paths.specs.Scenarios.{failures_of}
-use Rattle.stable_paths.specs.Surviving.{AreSurvivors}
-use Rattle.stable_paths.specs.declared.scenario.Scenario.{Scenario}
-use Rattle.stable_paths.specs.declared.survivors.Survivors.{Survivors}
-use Rattle.stable_paths.proofs.Members.{any-members}
+use Rattle.scenarios.specs.Scenarios.{failures_of}
+use Rattle.scenarios.specs.Surviving.{AreSurvivors}
+use Rattle.scenarios.specs.declared.scenario.Scenario.{Scenario}
+use Rattle.scenarios.specs.declared.survivors.Survivors.{Survivors}
+use Rattle.scenarios.proofs.Members.{any-members}
 use Rattle.impact_law.specs.Cuts.{with_cut}
 use Rattle.impact_law.specs.declared.impact.Cut.TheVariants.{Link, Router}
 use Rattle.whatif_report.specs.Cutting.{AreSameFailures}

@@ -1,8 +1,8 @@
 -- Cuts that can come are cuts of the network.
 use Rattle.std.proofs.Common.{ℕ, List, length, map, filter, subst, inl, inr}
 use Rattle.std.specs.Prelude.{not}
-use Rattle.list_laws.specs.Members.{IsIn}
-use Rattle.list_laws.proofs.Members.{IsIn-append_cases, IsIn-filter_parts, IsIn-map, IsIn-map_parts}
+use Rattle.list_law.specs.Members.{IsIn}
+use Rattle.list_law.proofs.Members.{IsIn-append_cases, IsIn-filter_parts, IsIn-map, IsIn-map_parts}
 use Rattle.net_base.specs.Locations.{numbers_below}
 use Rattle.net_base.specs.Network.{PlainNet}
 use Rattle.net_base.specs.Prefixes.{PlainPrefix}

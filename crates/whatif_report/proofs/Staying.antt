@@ -11,12 +11,12 @@ use Rattle.config_base.specs.declared.route.Route.{Route}
 use Rattle.evidence_base.specs.Made.{PlainCaseEvidence}
 use Rattle.evidence_law.specs.Passes.{Passes}
 use Rattle.outcome_base.specs.Outcomes.{Failures, Outcome, route_at}
-use Rattle.stable_paths.proofs.RouteTests.{is_route-refl}
-use Rattle.drain_law.specs.Free.{KeepsRoutes}
-use Rattle.drain_law.specs.Uses.{IsOffRoutes}
-use Rattle.drain_law.proofs.Moving.{cuts_off_routes_move_nothing}
+use Rattle.scenarios.proofs.RouteTests.{is_route-refl}
+use Rattle.drain_report.specs.DrainFree.{KeepsRoutes}
+use Rattle.drain_report.specs.Uses.{IsOffRoutes}
+use Rattle.drain_report.proofs.Moving.{cuts_off_routes_move_nothing}
 use Rattle.impact_law.specs.Cuts.{is_cut, with_cut}
-use Rattle.impact_law.specs.Moves.{IsSettled, is_moved, moved, same_held}
+use Rattle.impact_law.specs.Moves.{IsSettledOutcome, is_moved, moved, same_held}
 use Rattle.impact_law.specs.declared.impact.Cut.{Cut}
 use Rattle.whatif_report.specs.Cutting.{passes_over, route_over}
 use Rattle.whatif_report.proofs.Counting.{count_none}
@@ -43,7 +43,7 @@ stays net cut before after keeps r low = elim (cases_Bool (is_cut cut r)) [
 ]
 
 pub moves_none : (net : PlainNet) (policy : PlainPolicy) (config : PlainConfig) (cs : List PlainCaseEvidence) → IsNet net → IsPolicyOf net policy → Passes net policy config cs
-    → (f : Failures) (p : PlainPrefix) → IsPrefix p → (cut : Cut) (before after : Outcome) → IsSettled net policy config f p before → IsSettled net policy config (with_cut cut f) p after
+    → (f : Failures) (p : PlainPrefix) → IsPrefix p → (cut : Cut) (before after : Outcome) → IsSettledOutcome net policy config f p before → IsSettledOutcome net policy config (with_cut cut f) p after
     → IsOffRoutes net before cut → moved net cut before after ≡ 0
 moves_none net policy config cs rules kept passes f p prefix cut before after x y off =
     let keeps = cuts_off_routes_move_nothing net policy config cs rules kept passes p f cut before after prefix x.size y.size x.stable y.stable off in

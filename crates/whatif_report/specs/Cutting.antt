@@ -1,15 +1,15 @@
 -- Cuts of a network, and what they move.
 use Rattle.std.specs.Prelude.{◌≡◌, ℕ, ◌<◌, Bool, false, List, length, map, Option, Some, None, if◌then◌else◌}
-use Rattle.list_laws.specs.Members.{IsIn}
+use Rattle.list_law.specs.Members.{IsIn}
 use Rattle.net_base.specs.Network.{PlainNet}
 use Rattle.net_base.specs.Prefixes.{PlainPrefix}
 use Rattle.policy_base.specs.Policies.{PlainPolicy}
 use Rattle.config_base.specs.Configs.{PlainConfig}
 use Rattle.config_base.specs.declared.route.Route.{Route}
 use Rattle.outcome_base.specs.Outcomes.{Failures, Outcome, is_dead, is_dead_link, is_silent, route_at}
-use Rattle.drain_law.specs.Uses.{goes_over}
+use Rattle.drain_report.specs.Uses.{goes_over}
 use Rattle.impact_law.specs.Cuts.{is_cut, with_cut}
-use Rattle.impact_law.specs.Moves.{IsSettled, moved}
+use Rattle.impact_law.specs.Moves.{IsSettledOutcome, moved}
 use Rattle.impact_law.specs.declared.impact.Cut.{Cut}
 use Rattle.impact_law.specs.declared.impact.Cut.TheVariants.{Link, Router}
 use Rattle.impact_law.specs.declared.impact.CutRow.{CutRow}
@@ -40,4 +40,4 @@ passes_over cut outcome r = if is_cut cut r then false else route_over cut (rout
 -- whatever settles under the cut of each row, it moves so many
 abbrev pub AreMoves : PlainNet → PlainPolicy → PlainConfig → Failures → PlainPrefix → Outcome → List CutRow → List ℕ → Type 0
 AreMoves net policy config f p before rows moves =
-    (after : Cut → Outcome) → ((cut : Cut) → IsSettled net policy config (with_cut cut f) p (after cut)) → moves ≡ map (λ (row : CutRow). moved net row.cut before (after row.cut)) rows
+    (after : Cut → Outcome) → ((cut : Cut) → IsSettledOutcome net policy config (with_cut cut f) p (after cut)) → moves ≡ map (λ (row : CutRow). moved net row.cut before (after row.cut)) rows

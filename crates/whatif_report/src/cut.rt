@@ -5,15 +5,15 @@ ghost use Rattle.net_base.specs.Network.{joins};
 ghost use Rattle.net_base.specs.Sets.{holds};
 ghost use Rattle.net_base.specs.declared.limits.TheConstants.{LOCATIONS};
 ghost use Rattle.policy_base.specs.Meaning.{some_step};
-ghost use Rattle.stable_paths.specs.Scenarios.{failures_of};
-ghost use Rattle.stable_paths.specs.Surviving.{AreSurvivors};
-ghost use Rattle.drain_law.specs.Uses.{goes_over as is_over};
+ghost use Rattle.scenarios.specs.Scenarios.{failures_of};
+ghost use Rattle.scenarios.specs.Surviving.{AreSurvivors};
+ghost use Rattle.drain_report.specs.Uses.{goes_over as is_over};
 ghost use Rattle.impact_law.specs.Cuts.{with_cut as cut_besides};
 ghost use Rattle.whatif_report.specs.Cutting.{AreSameFailures, IsCutOf};
 
 use impact_law::Cut;
 use net_base::{Loc, Net, known_net};
-use stable_paths::{Scenario, Survivors};
+use scenarios::{Scenario, Survivors};
 use std::alloc::{AllocError, Global};
 
 /// A scenario where a link is dead, too.

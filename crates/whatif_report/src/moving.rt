@@ -1,8 +1,8 @@
 //! Which routers a cut moves.
 ghost use Rattle.std.specs.Prelude.{◌≡◌, false, ◌&&◌, IsTrue, option_map};
 ghost use Rattle.outcome_base.specs.Outcomes.{route_at};
-ghost use Rattle.stable_paths.specs.Tests.{same_route as is_same};
-ghost use Rattle.drain_law.specs.Uses.{IsOffRoutes};
+ghost use Rattle.scenarios.specs.Tests.{same_route as is_same};
+ghost use Rattle.drain_report.specs.Uses.{IsOffRoutes};
 ghost use Rattle.impact_law.specs.Cuts.{is_cut as is_cut_by};
 ghost use Rattle.impact_law.specs.Moves.{is_moved as is_moved_by, moved, same_held as is_same_held};
 ghost use Rattle.whatif_report.specs.Cutting.{passes_over};
@@ -11,7 +11,7 @@ use crate::cut::goes_over;
 use config_base::Route;
 use impact_law::Cut;
 use net_base::{Loc, Net, known_net};
-use stable_paths::Outcome;
+use scenarios::Outcome;
 
 /// Whether a router is cut.
 fn is_cut(cut: &Cut, router: Loc) -> bool

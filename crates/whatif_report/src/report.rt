@@ -3,7 +3,7 @@ ghost use Rattle.std.specs.Prelude.{IfOk};
 ghost use Rattle.config_base.specs.Configs.{PlainConfig};
 ghost use Rattle.policy_base.specs.Policies.{IsPolicyOf, policy_of};
 ghost use Rattle.evidence_law.specs.Passes.{Passes};
-ghost use Rattle.stable_paths.specs.Scenarios.{failures_of};
+ghost use Rattle.scenarios.specs.Scenarios.{failures_of};
 ghost use Rattle.impact_law.specs.Moves.{IsWhatIf};
 ghost use Rattle.whatif_report.specs.Cutting.{AreCutsOf, AreMoves};
 ghost use Rattle.whatif_report.specs.Settling.{HasSettled};
@@ -12,11 +12,11 @@ use crate::settled::SettledNet;
 use evidence_base::Evidence;
 use impact_law::{CutRow, WhatIf};
 use impact_report::impact;
+use input_output::NoMemory;
 use net_base::{List, Net, known_net, known_prefix};
-use outside::NoMemory;
 use policy_base::Policy;
-use settling::settle;
-use stable_paths::Scenario;
+use scenarios::Scenario;
+use settled_outcome::settle;
 use std::alloc::Global;
 
 /// How many routers the cut of each row moves.

@@ -3,11 +3,11 @@ use crate::cut::survivors_of;
 use crate::moving::{count_moved, is_off_routes};
 use evidence_base::Evidence;
 use impact_law::Cut;
+use input_output::NoMemory;
 use net_base::{Net, known_net, known_prefix};
-use outside::NoMemory;
 use policy_base::Policy;
-use settling::settle_left;
-use stable_paths::{Outcome, Scenario};
+use scenarios::{Outcome, Scenario};
+use settled_outcome::settle_left;
 use std::alloc::Global;
 
 /// A network with evidence for its configuration, a scenario, and the outcome to which it settles.
@@ -26,9 +26,9 @@ impl SettledNet<'_> {
     ghost use Rattle.config_base.specs.Configs.{PlainConfig};
     ghost use Rattle.config_base.specs.declared.route.Route.{Route};
     ghost use Rattle.evidence_law.specs.Passes.{Passes};
-    ghost use Rattle.stable_paths.specs.Scenarios.{failures_of};
+    ghost use Rattle.scenarios.specs.Scenarios.{failures_of};
     ghost use Rattle.impact_law.specs.Cuts.{with_cut};
-    ghost use Rattle.impact_law.specs.Moves.{IsSettled, moved};
+    ghost use Rattle.impact_law.specs.Moves.{IsSettledOutcome, moved};
     ghost use Rattle.whatif_report.specs.Cutting.{IsCutOf};
     ghost use Rattle.whatif_report.specs.Settling.{HasSettled};
 
@@ -42,7 +42,7 @@ impl SettledNet<'_> {
         ensures { IfOk result
             (λ moves. (config : PlainConfig) → Passes self.now.net.now (policy_of self.now.policy.now) config self.now.evidence.now.cases
             → (after : List (Option Route))
-            → IsSettled self.now.net.now (policy_of self.now.policy.now) config (with_cut cut.now (failures_of self.now.scenario.now)) self.now.scenario.now.prefix after
+            → IsSettledOutcome self.now.net.now (policy_of self.now.policy.now) config (with_cut cut.now (failures_of self.now.scenario.now)) self.now.scenario.now.prefix after
             → moves ≡ moved self.now.net.now cut.now self.now.outcome.routes after) }
     {
         known_net(self.net);

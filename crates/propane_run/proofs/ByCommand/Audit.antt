@@ -1,15 +1,15 @@
 -- What a run of `audit` has written: that tables are stable, with their report, or why the audit fails.
 use Rattle.std.proofs.Common.{◌≡◌, ◌⊎◌, ℕ, List, [], Option, Some, None, inl, inr, ◌∙◌}
 use Rattle.net_base.specs.Network.{PlainNet}
-use Rattle.outside.specs.Outside.{Rose}
+use Rattle.input_output.specs.Outside.{Rose}
 use Rattle.claim_law.proofs.Claim.{passing_evidence_keeps_policy}
 use Rattle.outcome_base.specs.Outcomes.{IsStable}
 use Rattle.policy_base.specs.Policies.{PlainPolicy}
 use Rattle.evidence_law.specs.Passes.{Passes}
 use Rattle.scenario_reader.proofs.ReadPrefixes.{spelled_prefix}
-use Rattle.stable_paths.specs.Scenarios.{failures_of}
-use Rattle.evidence_rules.specs.declared.verdict.Verdict.{Verdict}
-use Rattle.evidence_rules.specs.declared.verdict.Verdict.TheVariants as verdict
+use Rattle.scenarios.specs.Scenarios.{failures_of}
+use Rattle.evidence_verdicts.specs.declared.verdict.Verdict.{Verdict}
+use Rattle.evidence_verdicts.specs.declared.verdict.Verdict.TheVariants as verdict
 use Rattle.table_reader.proofs.Sizes.{spelled_size}
 use Rattle.run_base.specs.declared.outcome.Status.{Status}
 use Rattle.run_base.specs.declared.outcome.Status.TheVariants.{Done, NoMemory, CheckFails}
@@ -18,11 +18,11 @@ use Rattle.run_base.specs.Said.{Said, text, failing, Whole, Delivered}
 use Rattle.run_base.proofs.Jobs.{err_is}
 use Rattle.run_base.proofs.Sent.{Gives}
 use Rattle.input_texts.proofs.Asking.{net_of_spelled, policy_of_spelled}
-use Rattle.audit_job.specs.Asked.{Audited, SpellAudit}
-use Rattle.audit_job.specs.Audited.{SaysOfChecked, SaysOfLine, SaysOfRoutes}
-use Rattle.audit_job.specs.VerdictLines.{unstable_line}
-use Rattle.audit_job.proofs.AuditLaws.{said_for, told_of}
-use Rattle.audit_job.proofs.Audits.{done_is, ends_ill, ends_well, failing_is}
+use Rattle.judging_jobs.specs.Asked.{Audited, SpellAudit}
+use Rattle.judging_jobs.specs.Audited.{SaysOfChecked, SaysOfLine, SaysOfRoutes}
+use Rattle.judging_jobs.specs.AuditLines.{unstable_line}
+use Rattle.judging_jobs.proofs.AuditLaws.{said_for, told_of}
+use Rattle.judging_jobs.proofs.Audits.{done_is, ends_ill, ends_well, failing_is}
 use Rattle.propane_run.specs.declared.command.Command.{Command}
 use Rattle.propane_run.specs.declared.command.Command.TheVariants.{Audit}
 use Rattle.propane_run.specs.Auditing.{AsksAudit, AuditsRight, TellsAuditFault}

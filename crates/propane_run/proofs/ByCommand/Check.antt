@@ -2,19 +2,19 @@
 use Rattle.std.proofs.Common.{◌≡◌, ◌≢◌, ◌⊎◌, ℕ, List, [], ◌∷◌, Option, inl, inr, ap, subst, ◌∙◌, arith}
 use Rattle.std.specs.Prelude.{codes}
 use Rattle.net_base.specs.Network.{PlainNet}
-use Rattle.outside.specs.Outside.{Rose}
+use Rattle.input_output.specs.Outside.{Rose}
 use Rattle.policy_base.specs.Policies.{PlainPolicy}
 use Rattle.claim_law.proofs.Claim.{passing_evidence_keeps_policy}
-use Rattle.claim_texts.proofs.Configurations.{spellings_are_texts}
+use Rattle.text_law.proofs.Configurations.{spellings_are_texts}
 use Rattle.config_base.specs.Configs.{PlainConfig}
 use Rattle.config_lines.specs.declared.edition.Edition.TheVariants.{Second}
 use Rattle.config_reader.proofs.ReadTexts.{read_is_spelled}
 use Rattle.config_reader.proofs.TakenTexts.{spelled_is_read}
 use Rattle.evidence_base.specs.Made.{PlainCaseEvidence}
-use Rattle.evidence_rules.specs.declared.verdict.Verdict.{Verdict}
-use Rattle.evidence_rules.specs.declared.verdict.Verdict.TheVariants as verdict
-use Rattle.evidence_rules.specs.Verdicts.{IsVerdict}
-use Rattle.evidence_rules.proofs.OneVerdict.{one_verdict}
+use Rattle.evidence_verdicts.specs.declared.verdict.Verdict.{Verdict}
+use Rattle.evidence_verdicts.specs.declared.verdict.Verdict.TheVariants as verdict
+use Rattle.evidence_verdicts.specs.Verdicts.{IsVerdict}
+use Rattle.evidence_verdicts.proofs.OneVerdict.{one_verdict}
 use Rattle.evidence_law.specs.Passes.{Passes}
 use Rattle.run_base.specs.declared.outcome.Status.{Status}
 use Rattle.run_base.specs.declared.outcome.Status.TheVariants.{BadInput, Done, NoMemory, CheckFails}
@@ -24,9 +24,9 @@ use Rattle.run_base.proofs.Jobs.{status_is, out_is}
 use Rattle.run_base.proofs.Sent.{Gives, text_sent, failing_sent}
 use Rattle.input_texts.proofs.Asking.{net_of_spelled, policy_of_spelled, said_for as texts_said_for, told_says as texts_told}
 use Rattle.input_texts.proofs.Spelling.{at_pair}
-use Rattle.check_job.specs.Checked.{SaysOfMore, SaysOfPair}
-use Rattle.check_job.specs.VerdictLines.{holds_line, fails_line, verdict_said}
-use Rattle.check_job.proofs.CheckLaws.{of_more}
+use Rattle.judging_jobs.specs.Checked.{SaysOfMore, SaysOfPair}
+use Rattle.judging_jobs.specs.VerdictLines.{holds_line, fails_line, verdict_said}
+use Rattle.judging_jobs.proofs.CheckLaws.{of_more}
 use Rattle.propane_run.specs.declared.command.Command.{Command}
 use Rattle.propane_run.specs.declared.command.Command.TheVariants.{Check}
 use Rattle.propane_run.specs.Checking.{AsksOf, ChecksRight, TellsFault}

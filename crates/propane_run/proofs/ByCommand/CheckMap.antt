@@ -1,6 +1,6 @@
 -- What a run of `checkmap` has written: that maps are those of the configuration, or where they differ.
 use Rattle.std.proofs.Common.{◌≡◌, ◌≢◌, ◌⊎◌, ℕ, ◌<◌, ◌≤◌, List, [], ◌∷◌, Option, inl, inr, sym, subst, arith, min}
-use Rattle.outside.specs.Outside.{Rose}
+use Rattle.input_output.specs.Outside.{Rose}
 use Rattle.config_base.specs.Configs.{PlainConfig}
 use Rattle.run_base.specs.declared.outcome.Status.{Status}
 use Rattle.run_base.specs.declared.outcome.Status.TheVariants.{BadInput, CheckFails, Done, NoMemory, Refused}
@@ -12,13 +12,13 @@ use Rattle.run_base.proofs.Told.{told_is}
 use Rattle.route_maps.specs.Maps.{PlainMaps}
 use Rattle.route_maps.specs.OfConfig.{maps_of, MeansAs}
 use Rattle.route_maps.proofs.Means.{MeansAs-maps_of}
-use Rattle.maps_made.specs.Counts.{line_count}
-use Rattle.maps_made.specs.Earlier.{top}
+use Rattle.map_maker.specs.Counts.{line_count}
+use Rattle.map_maker.specs.Earlier.{top}
 use Rattle.route_map_text.specs.MapsLines.{maps_text}
-use Rattle.text_difference.specs.Difference.{first_difference}
-use Rattle.map_jobs.specs.MapsJobs.{SaysOfMaps, SaysOfTexts}
-use Rattle.map_jobs.specs.MapsSaid.{differs_line, same_line, too_many_lines}
-use Rattle.map_jobs.proofs.CheckMapLaws.{at_maps, of_maps}
+use Rattle.text_parts.specs.Difference.{first_difference}
+use Rattle.judging_jobs.specs.MapsJobs.{SaysOfMaps, SaysOfTexts}
+use Rattle.judging_jobs.specs.MapsSaid.{differs_line, same_line, too_many_lines}
+use Rattle.judging_jobs.proofs.CheckMapLaws.{at_maps, of_maps}
 use Rattle.propane_run.specs.declared.command.Command.{Command}
 use Rattle.propane_run.specs.declared.command.Command.TheVariants.{CheckMap}
 use Rattle.propane_run.specs.Mapping.{AsksOfMaps, MapsAgree, TellsDifference, TellsTooMany}

@@ -1,7 +1,7 @@
 -- What a run of `explain` has written: that the policy is accepted, or a refusal with what shows it.
 use Rattle.std.proofs.Common.{◌≡◌, ◌⊎◌, ℕ, List, Option, inl, inr}
 use Rattle.net_base.specs.Network.{PlainNet}
-use Rattle.outside.specs.Outside.{Rose}
+use Rattle.input_output.specs.Outside.{Rose}
 use Rattle.policy_base.specs.Policies.{PlainPolicy}
 use Rattle.refusal_lines.specs.Explanations.{accepted_line, explanation}
 use Rattle.run_base.specs.declared.outcome.Status.{Status}

@@ -9,7 +9,7 @@ use Rattle.run_base.proofs.Jobs.{status_is, out_is}
 use Rattle.input_texts.specs.Asked.{SpellFor}
 use Rattle.input_texts.specs.Texts.{Alone}
 use Rattle.input_texts.proofs.Asking.{alone, net_of_spelled, policy_of_spelled, said_for}
-use Rattle.impact_job.specs.Impacts.{SaysOfPolicy}
+use Rattle.report_jobs.specs.Impacts.{SaysOfPolicy}
 use Rattle.propane_run.specs.declared.command.Command.TheVariants.{Impact}
 use Rattle.propane_run.specs.Impacting.{ImpactsRight}
 use Rattle.propane_run.specs.Run.{Comes}

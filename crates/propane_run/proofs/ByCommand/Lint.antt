@@ -1,12 +1,12 @@
 -- What a run of `lint` has written: the findings, or the limit that is passed.
 use Rattle.std.proofs.Common.{◌≡◌, ◌⊎◌, ℕ, List, Option, inl, inr}
 use Rattle.net_base.specs.Network.{PlainNet}
-use Rattle.outside.specs.Outside.{Rose}
+use Rattle.input_output.specs.Outside.{Rose}
 use Rattle.policy_base.specs.Policies.{PlainPolicy}
-use Rattle.case_ranks.specs.Limits.{AreAllWithin, compile_refusal}
-use Rattle.case_ranks.specs.declared.refusal.LintRefusal.{LintRefusal}
-use Rattle.lint_job.specs.Linted.{IsRefusedFor, SaysOfPolicy}
-use Rattle.lint_job.proofs.LintLaws.{ends_refused, ends_well, said_for, told_says}
+use Rattle.lint_ranks.specs.Limits.{AreAllWithin, compile_refusal}
+use Rattle.lint_ranks.specs.declared.refusal.LintRefusal.{LintRefusal}
+use Rattle.judging_jobs.specs.Linted.{IsRefusedFor, SaysOfPolicy}
+use Rattle.judging_jobs.proofs.LintLaws.{ends_refused, ends_well, said_for, told_says}
 use Rattle.refusal_lines.specs.RefusalLines.{refusal_line}
 use Rattle.run_base.specs.declared.outcome.Status.{Status}
 use Rattle.run_base.specs.declared.outcome.Status.TheVariants.{Done, NoMemory, Refused}

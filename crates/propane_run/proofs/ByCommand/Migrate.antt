@@ -1,6 +1,6 @@
 -- What a run of `migrate` has written: a text of the configuration that it read.
 use Rattle.std.proofs.Common.{◌≡◌, ◌⊎◌, ℕ, List, [], ◌∷◌, Option, Some, inl, inr, arith}
-use Rattle.outside.specs.Outside.{Rose}
+use Rattle.input_output.specs.Outside.{Rose}
 use Rattle.config_base.specs.Configs.{PlainConfig}
 use Rattle.config_text.specs.ConfigText.{config_text}
 use Rattle.run_base.specs.declared.outcome.Status.{Status}
@@ -9,8 +9,8 @@ use Rattle.run_base.specs.Reading.{Holds, AllHeld, SaidOfTold}
 use Rattle.run_base.specs.Said.{Said, text, Whole, Delivered}
 use Rattle.run_base.proofs.Sent.{Gives, text_sent}
 use Rattle.run_base.proofs.Told.{told_is}
-use Rattle.migrate_job.specs.Migrated.{SaysOfTexts}
-use Rattle.migrate_job.proofs.MigrateLaws.{is_migrated, migrate_job, migrates}
+use Rattle.judging_jobs.specs.Migrated.{SaysOfTexts}
+use Rattle.judging_jobs.proofs.MigrateLaws.{is_migrated, migrate_job, migrates}
 use Rattle.propane_run.specs.declared.command.Command.{Command}
 use Rattle.propane_run.specs.declared.command.Command.TheVariants.{Migrate}
 use Rattle.propane_run.specs.Migrating.{AsksOfOld, MigratesRight}

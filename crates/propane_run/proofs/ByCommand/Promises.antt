@@ -8,7 +8,7 @@ use Rattle.run_base.proofs.Jobs.{status_is, out_is}
 use Rattle.input_texts.specs.Asked.{SpellFor}
 use Rattle.input_texts.specs.Texts.{Alone}
 use Rattle.input_texts.proofs.Asking.{alone, net_of_spelled, policy_of_spelled, said_for}
-use Rattle.promises_job.specs.Promised.{SaysOfPolicy}
+use Rattle.report_jobs.specs.Promised.{SaysOfPolicy}
 use Rattle.propane_run.specs.declared.command.Command.TheVariants.{Promises}
 use Rattle.propane_run.specs.Promising.{PromisesRight}
 use Rattle.propane_run.specs.Run.{Comes}

@@ -2,7 +2,7 @@
 use Rattle.std.proofs.Common.{ℕ, List, Option, inl, inr}
 use Rattle.net_base.specs.Network.{PlainNet}
 use Rattle.policy_base.specs.Policies.{PlainPolicy}
-use Rattle.stable_paths.specs.declared.scenario.Scenario.{Scenario}
+use Rattle.scenarios.specs.declared.scenario.Scenario.{Scenario}
 use Rattle.run_base.specs.Reading.{Holds}
 use Rattle.run_base.specs.Said.{text, Whole}
 use Rattle.run_base.proofs.Jobs.{status_is, out_is}
@@ -12,8 +12,8 @@ use Rattle.input_texts.specs.Asked.{SpellAlso}
 use Rattle.input_texts.specs.FaultLines.{scenario_line}
 use Rattle.input_texts.proofs.Asking.{net_of_spelled, policy_of_spelled}
 use Rattle.scenario_reader.specs.Spelled.{spelled as scenario_spelled}
-use Rattle.replay_job.specs.Replayed.{WritesReport}
-use Rattle.replay_job.proofs.ReplayLaws.{one_outcome}
+use Rattle.report_jobs.specs.Replayed.{WritesReport}
+use Rattle.report_jobs.proofs.ReplayLaws.{one_outcome}
 use Rattle.scenario_reader.proofs.ReadPrefixes.{spelled_prefix}
 use Rattle.propane_run.specs.declared.command.Command.TheVariants.{Replay}
 use Rattle.propane_run.specs.Replaying.{ReplaysRight}

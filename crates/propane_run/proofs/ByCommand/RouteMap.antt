@@ -1,7 +1,7 @@
 -- What a run of `routemap` has written: the maps of what is compiled, or why there are none.
 use Rattle.std.proofs.Common.{◌≡◌, ◌⊎◌, ℕ, ◌<◌, ◌≤◌, List, Option, inl, inr, ◌∙◌, ap, arith, min}
 use Rattle.net_base.specs.Network.{PlainNet}
-use Rattle.outside.specs.Outside.{Rose}
+use Rattle.input_output.specs.Outside.{Rose}
 use Rattle.policy_base.specs.Policies.{PlainPolicy}
 use Rattle.config_base.specs.Configs.{PlainConfig}
 use Rattle.evidence_base.specs.Made.{PlainCaseEvidence}
@@ -19,12 +19,12 @@ use Rattle.compile_jobs.specs.Compiled.{IsCompiled, IsRefusedFor}
 use Rattle.compile_jobs.proofs.Compiling.{never_refused, only}
 use Rattle.route_maps.specs.OfConfig.{maps_of}
 use Rattle.route_maps.proofs.Means.{MeansAs-maps_of}
-use Rattle.maps_made.specs.Counts.{line_count}
-use Rattle.maps_made.specs.Earlier.{top}
+use Rattle.map_maker.specs.Counts.{line_count}
+use Rattle.map_maker.specs.Earlier.{top}
 use Rattle.route_map_text.specs.MapsLines.{maps_text}
-use Rattle.map_jobs.specs.MapsJobs.{SaysOfConfig, SaysOfPolicy}
-use Rattle.map_jobs.specs.MapsSaid.{too_many_lines}
-use Rattle.map_jobs.proofs.RouteMapLaws.{said_of}
+use Rattle.judging_jobs.specs.MapsJobs.{SaysOfConfig, SaysOfPolicy}
+use Rattle.judging_jobs.specs.MapsSaid.{too_many_lines}
+use Rattle.judging_jobs.proofs.RouteMapLaws.{said_of}
 use Rattle.propane_run.specs.declared.command.Command.{Command}
 use Rattle.propane_run.specs.declared.command.Command.TheVariants.{RouteMap}
 use Rattle.propane_run.specs.Asked.{AsksFor}

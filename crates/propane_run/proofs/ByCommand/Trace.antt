@@ -3,7 +3,7 @@ use Rattle.std.proofs.Common.{ℕ, List, Option, inl, inr}
 use Rattle.net_base.specs.Network.{PlainNet}
 use Rattle.policy_base.specs.Policies.{PlainPolicy}
 use Rattle.event_reader.specs.declared.events.Events.{Events}
-use Rattle.trace_job.proofs.Failed.{is_failed}
+use Rattle.report_jobs.proofs.Failed.{is_failed}
 use Rattle.run_base.specs.Reading.{Holds}
 use Rattle.run_base.specs.Said.{text, Whole}
 use Rattle.run_base.proofs.Jobs.{status_is, out_is}
@@ -13,10 +13,10 @@ use Rattle.event_reader.specs.Spelled.{spelled as events_spelled}
 use Rattle.input_texts.specs.Asked.{SpellAlso}
 use Rattle.input_texts.specs.FaultLines.{events_line}
 use Rattle.input_texts.proofs.Asking.{net_of_spelled, policy_of_spelled}
-use Rattle.trace_job.specs.Traced.{WritesTrace}
+use Rattle.report_jobs.specs.Traced.{WritesTrace}
 use Rattle.event_reader.proofs.ReadPrefixes.{spelled_prefix}
-use Rattle.trace_job.proofs.Replays.{quiet_replays}
-use Rattle.world_law.proofs.Moments.{every_moment_is_right}
+use Rattle.report_jobs.proofs.Replays.{quiet_replays}
+use Rattle.event_law.proofs.Moments.{every_moment_is_right}
 use Rattle.propane_run.specs.declared.command.Command.TheVariants.{Trace}
 use Rattle.propane_run.specs.Run.{Comes}
 use Rattle.propane_run.specs.Tracing.{TracesRight}

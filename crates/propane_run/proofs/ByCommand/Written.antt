@@ -3,7 +3,7 @@ use Rattle.std.proofs.Common.{◌≡◌, ℕ, List, Option, Ok, inl, inr, sym, s
 use Rattle.net_base.specs.Network.{PlainNet}
 use Rattle.policy_base.specs.Policies.{PlainPolicy}
 use Rattle.claim_law.proofs.Claim.{passing_evidence_keeps_policy}
-use Rattle.claim_texts.proofs.Configurations.{spellings_are_texts}
+use Rattle.text_law.proofs.Configurations.{spellings_are_texts}
 use Rattle.config_text.specs.Spelled.{Spells}
 use Rattle.evidence_base.specs.Made.{PlainCaseEvidence}
 use Rattle.policy_parser.specs.Spelled.{spelled as policy_spelled}

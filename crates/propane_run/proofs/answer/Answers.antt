@@ -1,5 +1,5 @@
 use Rattle.std.proofs.Common.{◌≡◌, ℕ, List, map, string_bytes, subst}
-use Rattle.list_laws.proofs.Exits.{passed_on}
+use Rattle.list_law.proofs.Exits.{passed_on}
 use Rattle.run_base.specs.Reading.{AllHeld, RoseOf, names_at}
 use Rattle.run_base.specs.Said.{IsGiven, said}
 use Rattle.run_base.proofs.Readings.{all_read, nothing_follows}

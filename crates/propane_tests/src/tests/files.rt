@@ -1,5 +1,5 @@
 //! The real outside: a file.
-use outside::{FileInputs, InputFail, Inputs};
+use input_output::{FileInputs, InputFail, Inputs};
 use std::fs;
 use std::test::Fail;
 

@@ -1,10 +1,10 @@
 //! What definitions mean and what calls give, on cases that were worked by hand.
-use call_rows::{wrong_cover, wrong_entry, wrong_relation};
-use meaning_rows::{
+use std::test::Fail;
+use test_calls::{wrong_cover, wrong_entry, wrong_relation};
+use test_meanings::{
     outside_is_told, sample_has_its_texts, wrong_bits, wrong_class, wrong_graph, wrong_meaning,
     wrong_outcome, wrong_rank, wrong_text, wrong_words,
 };
-use std::test::Fail;
 
 #[test]
 fn no_row_is_wrong(rt: HostRuntime) -> Result<(), Fail> {

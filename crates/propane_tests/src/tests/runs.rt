@@ -1,9 +1,9 @@
 //! Runs over texts in memory.
-use run_rows::{
+use std::test::Fail;
+use test_runs::{
     are_bytes_counted, is_compiled_twice, is_read_again, is_sent_whole, is_usage_told,
     is_written_in_pieces, wrong_compiled, wrong_run,
 };
-use std::test::Fail;
 
 #[test]
 fn each_call_fails_in_turn(rt: HostRuntime) -> Result<(), Fail> {

@@ -2,7 +2,7 @@ use Rattle.std.proofs.Common.{ℕ, ◌+◌, ◌*◌, ◌<◌, ◌^◌, get_or, a
 use Rattle.std.specs.Prelude.{count_ones}
 use Rattle.std.specs.Int.Count.{ones-le}
 use Rattle.bit_rows.specs.Bits.{has}
-use Rattle.list_laws.proofs.Counts.{count_within}
+use Rattle.list_law.proofs.Counts.{count_within}
 use Rattle.bit_rows.proofs.Counting.{count_word, word_bits}
 use Rattle.bit_rows.proofs.kernels.count_bits.Goals as goal
 

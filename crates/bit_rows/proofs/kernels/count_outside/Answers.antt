@@ -2,7 +2,7 @@ use Rattle.std.proofs.Common.{ℕ, ◌+◌, ◌*◌, not, ◌&&◌, get_or, arit
 use Rattle.std.specs.Int.Count.{ones-le}
 use Rattle.std.specs.Prelude.{count_ones}
 use Rattle.bit_rows.specs.Bits.{has, outside}
-use Rattle.list_laws.proofs.Counts.{count_within}
+use Rattle.list_law.proofs.Counts.{count_within}
 use Rattle.bit_rows.proofs.Counting.{count_word}
 use Rattle.bit_rows.proofs.Words.{outside_fits, outside_bits}
 use Rattle.bit_rows.proofs.kernels.count_outside.Goals as goal

@@ -1,4 +1,4 @@
-use Rattle.list_laws.proofs.Exits.{passed_on}
+use Rattle.list_law.proofs.Exits.{passed_on}
 use Rattle.case_core.proofs.automata.new_automata.Goals as goal
 
 pub returns-in_err-ranked-clause-refused : goal.returns-in_err-ranked-clause-refused

@@ -1,8 +1,8 @@
 use Rattle.std.proofs.Common.{◌≡◌, ◌∙◌, Err, length, ap, arith, refl, sym}
-use Rattle.list_laws.proofs.Exits.{passed_on}
+use Rattle.list_law.proofs.Exits.{passed_on}
 use Rattle.net_base.proofs.StepLemmas.{err_same}
-use Rattle.standings.specs.declared.fault.StandingsFault.{StandingsFault}
-use Rattle.standings.specs.declared.fault.StandingsFault.TheVariants.{TooMany, NoMemory}
+use Rattle.walk_states.specs.declared.fault.StandingsFault.{StandingsFault}
+use Rattle.walk_states.specs.declared.fault.StandingsFault.TheVariants.{TooMany, NoMemory}
 use Rattle.case_core.specs.BuildFaults.{fault_of}
 use Rattle.case_core.specs.declared.build_fault.BuildFault.TheVariants.{TooManyStates, TooManySteps}
 use Rattle.case_core.proofs.building.build_over.Goals as goal

@@ -1,4 +1,4 @@
-use Rattle.list_laws.proofs.Exits.{passed_on}
+use Rattle.list_law.proofs.Exits.{passed_on}
 use Rattle.case_core.specs.Refusals.{FitsCase, IsCause}
 use Rattle.case_core.specs.Sources.{HavePaths, NoneMixed}
 use Rattle.case_core.proofs.Places.{of_case, origins_fit}

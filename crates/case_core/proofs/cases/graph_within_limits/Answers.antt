@@ -1,6 +1,6 @@
 use Rattle.std.proofs.Common.{◌-◌, length, length-set, Some, None, ap, arith, ◌∙◌}
 use Rattle.std.proofs.lemmas.List.{length-map}
-use Rattle.list_laws.proofs.Exits.{passed_on}
+use Rattle.list_law.proofs.Exits.{passed_on}
 use Rattle.policy_base.specs.Policies.{plain_statement, policy_of}
 use Rattle.case_core.specs.Refusals.{IsCause, IsGraphOf}
 use Rattle.case_core.proofs.KeptPlaces.{set_fits, taken_fits}

@@ -1,5 +1,5 @@
 use Rattle.std.proofs.Common.{length, ap, arith, subst, sym}
-use Rattle.list_laws.proofs.Exits.{passed_on}
+use Rattle.list_law.proofs.Exits.{passed_on}
 use Rattle.policy_base.specs.Policies.{plain_statement}
 use Rattle.case_core.specs.Automata.{IsAutomatonOf}
 use Rattle.case_core.proofs.cases.trimmed_of.Goals as goal

@@ -4,7 +4,7 @@ use Rattle.graph_base.specs.Ranked.{IsRankedRouter}
 use Rattle.graph_base.specs.Refuting.{HasSingleSteps, Refutes}
 use Rattle.net_base.specs.declared.loc.LocSet.{LocSet}
 use Rattle.net_base.specs.Sets.{holds}
-use Rattle.refutation_law.specs.Choosing.{IsRefutationOf}
+use Rattle.relation_law.specs.Choosing.{IsRefutationOf}
 use Rattle.relation_law.specs.Relations.{IsClosed, IsTotal}
 use Rattle.relation_law.specs.Views.{view_of}
 use Rattle.state_simulation.specs.declared.first.FirstRound.{FirstRound}

@@ -1,5 +1,5 @@
 use Rattle.std.proofs.Common.{rules, ◌≡◌, ◌+◌, ◌-◌, ◌∙◌, length, ap, arith, refl}
-use Rattle.list_laws.proofs.Exits.{passed_on}
+use Rattle.list_law.proofs.Exits.{passed_on}
 use Rattle.policy_base.specs.Cases.{case_list}
 use Rattle.policy_base.specs.Policies.{policy_of}
 use Rattle.compile_core.proofs.OneByOne.{given_more, refused_next}

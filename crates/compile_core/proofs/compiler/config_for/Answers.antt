@@ -2,7 +2,7 @@ use Rattle.std.proofs.Common.{List, map, subst, sym}
 use Rattle.std.proofs.lemmas.Result.{IfOk-weaker}
 use Rattle.policy_base.specs.Policies.{policy_of}
 use Rattle.evidence_base.specs.Made.{PlainCaseEvidence, AreTags, IsConfigOf}
-use Rattle.config_made.specs.Conditions.{AreClasses, AreSingle}
+use Rattle.config_maker.specs.Conditions.{AreClasses, AreSingle}
 use Rattle.compile_core.proofs.Configured.{classes, differ, made, passes, singles}
 use Rattle.compile_core.proofs.compiler.config_for.Goals as goal
 

@@ -2,7 +2,7 @@ use Rattle.std.proofs.Common.{sym, ◌∙◌}
 use Rattle.std.specs.Prelude.{◌==◌}
 use Rattle.std.specs.List.{list_any}
 use Rattle.std.proofs.lemmas.Bool.{cond-false, cond-true}
-use Rattle.list_laws.proofs.Tests.{list_any-map}
+use Rattle.list_law.proofs.Tests.{list_any-map}
 use Rattle.net_base.specs.declared.net.Site.{Site}
 use Rattle.net_base.specs.Network.{asn_of}
 use Rattle.config_base.proofs.lines.is_looped.Goals as goal

@@ -1,9 +1,9 @@
 use Rattle.std.proofs.Common.{◌<◌, length, arith}
-use Rattle.list_laws.proofs.Exits.{passed_on}
+use Rattle.list_law.proofs.Exits.{passed_on}
 use Rattle.config_lines.proofs.CutParts.{cut_shorter}
-use Rattle.line_laws.specs.Lines.{lines_of}
-use Rattle.line_laws.proofs.CutLines.{lines_of-few}
-use Rattle.line_laws.proofs.LineByLine.{one_taken, all_taken}
+use Rattle.config_lines.specs.LineLines.{lines_of}
+use Rattle.config_lines.proofs.CutLines.{lines_of-few}
+use Rattle.config_lines.proofs.LineByLine.{one_taken, all_taken}
 use Rattle.config_reader.specs.Text.{with_line}
 use Rattle.config_reader.proofs.CutLines.{faulty, finished_behind}
 use Rattle.config_reader.proofs.ReadTexts.{behind_lawful}

@@ -1,6 +1,6 @@
 use Rattle.std.proofs.Common.{◌+◌, ◌≤◌, length}
 use Rattle.config_reader.specs.Reading.{opening}
-use Rattle.line_laws.proofs.LineByLine.{IsTaken}
+use Rattle.config_lines.proofs.LineByLine.{IsTaken}
 use Rattle.config_reader.specs.Text.{with_line}
 use Rattle.config_reader.proofs.read.read_behind_heading.Given as goal
 

@@ -1,5 +1,5 @@
 use Rattle.std.proofs.Common.{refl}
-use Rattle.list_laws.proofs.Exits.{passed_on}
+use Rattle.list_law.proofs.Exits.{passed_on}
 use Rattle.config_reader.specs.Text.{with_line}
 use Rattle.config_reader.proofs.read.take_line.Goals as goal
 

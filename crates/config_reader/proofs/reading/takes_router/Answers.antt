@@ -1,5 +1,5 @@
 use Rattle.std.proofs.Common.{◌≡◌, ◌∙◌, false, refl, sym}
-use Rattle.list_laws.proofs.Options.{none_from_not_some}
+use Rattle.list_law.proofs.Options.{none_from_not_some}
 use Rattle.config_reader.specs.Reading.{stood_before}
 use Rattle.config_reader.proofs.reading.takes_router.Goals as goal
 

@@ -3,8 +3,8 @@ use Rattle.std.specs.Prelude.{◌&&◌, not}
 use Rattle.std.proofs.Math.Bool.{and-true}
 use Rattle.net_base.specs.Network.{linked}
 use Rattle.net_base.specs.Sets.{holds}
-use Rattle.stable_paths.specs.Links.{has_link}
-use Rattle.stable_paths.proofs.Members.{any-members}
+use Rattle.scenarios.specs.Links.{has_link}
+use Rattle.scenarios.proofs.Members.{any-members}
 use Rattle.drain_report.proofs.free.left_by.Goals as goal
 
 bare : (l h x y : Bool) → l ≡ true → x ≡ false → y ≡ false → (l && not h && not x && not y) ≡ not h

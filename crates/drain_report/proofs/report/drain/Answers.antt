@@ -7,9 +7,9 @@ use Rattle.policy_base.specs.Policies.{policy_of}
 use Rattle.config_base.specs.Lines.{class_of}
 use Rattle.evidence_base.specs.Made.{case_at}
 use Rattle.outcome_base.specs.Outcomes.{offered}
-use Rattle.stable_paths.specs.Scenarios.{failures_of}
-use Rattle.report_lines.specs.Offers.{offered_by}
-use Rattle.report_lines.proofs.Offering.{offers_are}
+use Rattle.scenarios.specs.Scenarios.{failures_of}
+use Rattle.outcome_report.specs.Offers.{offered_by}
+use Rattle.outcome_report.proofs.Offering.{offers_are}
 use Rattle.impact_law.specs.Cuts.{live_cuts}
 use Rattle.drain_report.specs.Free.{spared_by}
 use Rattle.drain_report.specs.Steps.{held_steps, offer_step, steps_in}

@@ -1,7 +1,7 @@
 use Rattle.std.proofs.Common.{arith, ◌≡◌, ◌∙◌, refl, length-append}
 use Rattle.std.proofs.lemmas.List.{get_or_default}
-use Rattle.list_laws.proofs.Exits.{passed_on}
-use Rattle.item_laws.proofs.ItemsRead.{each_from-next, each_from-stop, each_from-end}
+use Rattle.list_law.proofs.Exits.{passed_on}
+use Rattle.json_values.proofs.ItemsRead.{each_from-next, each_from-stop, each_from-end}
 use Rattle.event_reader.specs.Rules.{placed}
 use Rattle.event_reader.specs.Views.{raw_event}
 use Rattle.event_reader.proofs.judge.events.Goals as goal

@@ -1,6 +1,6 @@
 use Rattle.std.proofs.Common.{◌≡◌, ◌+◌, length, map, drop}
 use Rattle.net_base.specs.Steps.{each_from}
-use Rattle.item_laws.proofs.ItemsRead.{with_front}
+use Rattle.json_values.proofs.ItemsRead.{with_front}
 use Rattle.event_reader.specs.Rules.{placed}
 use Rattle.event_reader.specs.Views.{raw_event}
 use Rattle.event_reader.proofs.judge.events.Given as goal

@@ -1,7 +1,7 @@
 use Rattle.std.proofs.Common.{arith, ◌≡◌, ◌∙◌, refl, map, length-append}
 use Rattle.serde_json.specs.View.{view}
-use Rattle.list_laws.proofs.Exits.{passed_on}
-use Rattle.item_laws.proofs.ItemsRead.{each_from-ok, each_from-stop, each_from-end}
+use Rattle.list_law.proofs.Exits.{passed_on}
+use Rattle.json_values.proofs.ItemsRead.{each_from-ok, each_from-stop, each_from-end}
 use Rattle.event_reader.specs.Shape.{event_of}
 use Rattle.event_reader.specs.Views.{raw_event}
 use Rattle.event_reader.proofs.shape.events.Goals as goal

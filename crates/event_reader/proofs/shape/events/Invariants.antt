@@ -1,7 +1,7 @@
 use Rattle.std.proofs.Common.{◌≡◌, ◌+◌, length, map, drop}
 use Rattle.net_base.specs.Steps.{each_from}
 use Rattle.serde_json.specs.View.{view}
-use Rattle.item_laws.proofs.ItemsRead.{with_front}
+use Rattle.json_values.proofs.ItemsRead.{with_front}
 use Rattle.event_reader.specs.Shape.{event_of}
 use Rattle.event_reader.specs.Views.{raw_event}
 use Rattle.event_reader.proofs.shape.events.Given as goal

@@ -14,8 +14,8 @@ use Rattle.event_state.specs.States.{speakers, state}
 use Rattle.net_base.specs.Network.{IsNet}
 use Rattle.rest_law.specs.Rest.{rounds_enough as enough_for}
 use Rattle.rest_law.specs.Ways.{each_way}
-use Rattle.rounds_law.specs.Laws.{each_round, each_waiting}
-use Rattle.rounds_law.specs.Rounds.{AreRounds, deliveries}
+use Rattle.rest_law.specs.Laws.{each_round, each_waiting}
+use Rattle.rest_law.specs.Rounds.{AreRounds, deliveries}
 use Rattle.event_rounds.proofs.resting.come_to_rest.Goals as goal
 
 pub returns-then-is_quiet-clause-rounds : goal.returns-then-is_quiet-clause-rounds

@@ -1,7 +1,7 @@
 use Rattle.std.proofs.Common.{◌≡◌, drop}
 use Rattle.event_base.specs.Steps.{run}
 use Rattle.event_state.specs.States.{setting, speakers, state}
-use Rattle.rounds_law.specs.Rounds.{deliveries}
+use Rattle.rest_law.specs.Rounds.{deliveries}
 use Rattle.event_rounds.proofs.round.deliver_each.Given as goal
 
 abbrev pub invariant-loop-way : goal.invariant-loop-way

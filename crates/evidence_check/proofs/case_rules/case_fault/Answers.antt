@@ -2,7 +2,7 @@ use Rattle.std.proofs.Common.{sym, subst, arith}
 use Rattle.std.proofs.lemmas.Result.{IfOk-weaker}
 use Rattle.net_base.specs.Sets.{holds}
 use Rattle.graph_base.specs.Graphs.{IsGraph}
-use Rattle.evidence_rules.specs.declared.rule.CheckRule.TheVariants.{Walks}
+use Rattle.evidence_verdicts.specs.declared.rule.CheckRule.TheVariants.{Walks}
 use Rattle.evidence_check.specs.CaseFaults.{IsFaultFrom, IsFirstFault}
 use Rattle.evidence_check.proofs.Faults.{leads_to_routers, passes, stops, walks_first, walks_kept}
 use Rattle.evidence_check.proofs.case_rules.case_fault.Goals as goal

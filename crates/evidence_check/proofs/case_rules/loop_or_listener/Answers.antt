@@ -1,5 +1,5 @@
 use Rattle.std.proofs.Common.{Some, None, sym, subst, arith}
-use Rattle.evidence_rules.specs.declared.rule.CheckRule.TheVariants.{PrefListener, PrefLoop}
+use Rattle.evidence_verdicts.specs.declared.rule.CheckRule.TheVariants.{PrefListener, PrefLoop}
 use Rattle.evidence_check.specs.CaseFaults.{IsFirstFault}
 use Rattle.evidence_check.proofs.Faults.{listener_first, loop_first, none_left, passes, stops}
 use Rattle.evidence_check.proofs.case_rules.loop_or_listener.Goals as goal

@@ -1,6 +1,6 @@
 use Rattle.std.proofs.Common.{Some, None, sym, subst, arith}
 use Rattle.std.proofs.lemmas.Result.{IfOk-weaker}
-use Rattle.evidence_rules.specs.declared.rule.CheckRule.TheVariants.{PrefRank, PrefStep}
+use Rattle.evidence_verdicts.specs.declared.rule.CheckRule.TheVariants.{PrefRank, PrefStep}
 use Rattle.evidence_check.specs.CaseFaults.{IsFaultFrom, IsFirstFault}
 use Rattle.evidence_check.proofs.Faults.{passes, rank_first, step_first, stops}
 use Rattle.evidence_check.proofs.case_rules.number_rules.Goals as goal

@@ -4,7 +4,7 @@ use Rattle.net_base.specs.Sets.{holds}
 use Rattle.graph_base.specs.Graphs.{IsGraph}
 use Rattle.graph_law.proofs.Claimed.{claimed_where_ranked}
 use Rattle.evidence_law.proofs.FaithfulParts.{faithful_parts}
-use Rattle.evidence_rules.specs.declared.rule.CheckRule.TheVariants.{Mixed, Ranks}
+use Rattle.evidence_verdicts.specs.declared.rule.CheckRule.TheVariants.{Mixed, Ranks}
 use Rattle.evidence_check.specs.CaseFaults.{IsFaultFrom, IsFirstFault}
 use Rattle.evidence_check.proofs.Faults.{mixed_first, passes, ranks_first, stops}
 use Rattle.evidence_check.proofs.case_rules.rank_rules.Goals as goal

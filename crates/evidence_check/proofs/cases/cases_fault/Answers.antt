@@ -1,10 +1,10 @@
 use Rattle.std.proofs.Common.{◌≡◌, ◌∙◌, ◌+◌, List, Some, length, sym, ap, subst, arith, refl}
 use Rattle.std.specs.Prelude.{slice_get}
-use Rattle.list_laws.proofs.Items.{slice_get_inside}
+use Rattle.list_law.proofs.Items.{slice_get_inside}
 use Rattle.policy_base.specs.declared.case.Case.{Case}
 use Rattle.policy_base.specs.Cases.{case_list}
 use Rattle.policy_base.specs.Policies.{policy_of}
-use Rattle.evidence_rules.specs.declared.rule.CheckRule.TheVariants.{Cases}
+use Rattle.evidence_verdicts.specs.declared.rule.CheckRule.TheVariants.{Cases}
 use Rattle.evidence_check.specs.CaseFaults.{IsLeastFault}
 use Rattle.evidence_check.proofs.Alike.{item_at}
 use Rattle.evidence_check.proofs.SeenTags.{case_of_place}

@@ -7,7 +7,7 @@ use Rattle.config_lines.specs.declared.edition.Edition.TheVariants.{Second}
 use Rattle.config_text.specs.ConfigText.{config_text}
 use Rattle.config_text.specs.Spelled.{Spells}
 use Rattle.config_text.proofs.Lawful.{one_configuration}
-use Rattle.text_difference.specs.Difference.{first_difference}
+use Rattle.text_parts.specs.Difference.{first_difference}
 use Rattle.evidence_law.specs.Passes.{Passes}
 use Rattle.evidence_check.proofs.AllRules.{are_classes, are_single, are_tags}
 use Rattle.evidence_check.proofs.Fold.{holds}

@@ -1,5 +1,5 @@
 use Rattle.std.proofs.Common.{◌≡◌, drop}
-use Rattle.evidence_rules.specs.Verdicts.{all_session_lines}
+use Rattle.evidence_verdicts.specs.Verdicts.{all_session_lines}
 use Rattle.evidence_check.specs.Difference.{lines_behind}
 use Rattle.evidence_check.proofs.difference.behind_sessions.Given as goal
 

@@ -1,5 +1,5 @@
 use Rattle.std.proofs.Common.{◌≡◌, drop}
-use Rattle.evidence_rules.specs.Verdicts.{block_after}
+use Rattle.evidence_verdicts.specs.Verdicts.{block_after}
 use Rattle.evidence_check.proofs.difference.block_behind.Given as goal
 
 abbrev pub invariant-loop-place : goal.invariant-loop-place

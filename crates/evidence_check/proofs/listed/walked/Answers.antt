@@ -2,7 +2,7 @@ use Rattle.std.proofs.Common.{◌∙◌, Err, length, ap, subst, arith}
 use Rattle.path_exprs.specs.Standings.{PassesStates, plan_for, plan_of}
 use Rattle.policy_base.specs.Policies.{plain_statement}
 use Rattle.path_exprs.specs.declared.limits.TheConstants.{NODES}
-use Rattle.standings.specs.Built.{IsBuilt}
+use Rattle.walk_states.specs.Built.{IsBuilt}
 use Rattle.evidence_check.proofs.Limits.{not_too_many, walked_steps}
 use Rattle.evidence_check.proofs.listed.walked.Goals as goal
 

@@ -1,7 +1,7 @@
 use Rattle.std.proofs.Common.{◌≡◌, ◌+◌, Some, sym, subst, arith}
 use Rattle.evidence_base.specs.Made.{case_at}
-use Rattle.evidence_rules.specs.Rules.{KeepsTag}
-use Rattle.evidence_rules.specs.Verdicts.{IsFirstAt}
+use Rattle.evidence_verdicts.specs.Rules.{KeepsTag}
+use Rattle.evidence_verdicts.specs.Verdicts.{IsFirstAt}
 use Rattle.evidence_check.proofs.Alike.{item_at}
 use Rattle.evidence_check.proofs.SeenTags.{all_kept, case_of_place}
 use Rattle.evidence_check.proofs.tags.tag_fault.Goals as goal

@@ -5,8 +5,8 @@ use Rattle.policy_base.specs.Policies.{PlainPolicy, policy_of}
 use Rattle.config_base.specs.Configs.{PlainConfig}
 use Rattle.config_text.specs.Spelled.{Spells}
 use Rattle.evidence_base.specs.Made.{PlainCaseEvidence}
-use Rattle.evidence_rules.specs.declared.verdict.Verdict.{Verdict}
-use Rattle.evidence_rules.specs.Verdicts.{IsVerdict}
+use Rattle.evidence_verdicts.specs.declared.verdict.Verdict.{Verdict}
+use Rattle.evidence_verdicts.specs.Verdicts.{IsVerdict}
 use Rattle.evidence_check.proofs.verdict.check.Goals as goal
 
 -- the verdict on a text is that on the configuration that it spells

@@ -1,7 +1,7 @@
 use Rattle.std.proofs.Common.{sym, refl, subst}
 use Rattle.policy_base.specs.Policies.{policy_of}
-use Rattle.evidence_rules.specs.declared.verdict.Shown.{Shown}
-use Rattle.evidence_rules.specs.Verdicts.{IsVerdict}
+use Rattle.evidence_verdicts.specs.declared.verdict.Shown.{Shown}
+use Rattle.evidence_verdicts.specs.Verdicts.{IsVerdict}
 use Rattle.evidence_check.proofs.Fold.{before_config, case_verdict}
 use Rattle.evidence_check.proofs.verdict.evidence_fault.Goals as goal
 

@@ -1,8 +1,8 @@
 use Rattle.std.proofs.Common.{◌∙◌, ap, refl, map-id}
 use Rattle.net_base.specs.Steps.{each_from, or_fault}
 use Rattle.evidence_text.specs.declared.fault.EvidenceFault.TheVariants.{Number}
-use Rattle.list_laws.proofs.Exits.{passed_on}
-use Rattle.item_laws.proofs.ItemsRead.{each_from-start, each_from-next, each_from-stop, each_from-end}
+use Rattle.list_law.proofs.Exits.{passed_on}
+use Rattle.json_values.proofs.ItemsRead.{each_from-start, each_from-next, each_from-stop, each_from-end}
 use Rattle.evidence_text.proofs.judge.all_of.Goals as goal
 
 pub loop-item-init : goal.loop-item-init

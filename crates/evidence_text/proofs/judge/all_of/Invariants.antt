@@ -1,7 +1,7 @@
 use Rattle.std.proofs.Common.{◌≡◌, ◌+◌, map, drop}
 use Rattle.net_base.specs.Steps.{each_from, or_fault}
 use Rattle.evidence_text.specs.declared.fault.EvidenceFault.TheVariants.{Number}
-use Rattle.item_laws.proofs.ItemsRead.{with_front}
+use Rattle.json_values.proofs.ItemsRead.{with_front}
 use Rattle.evidence_text.proofs.judge.all_of.Given as goal
 
 abbrev pub invariant-loop-item : goal.invariant-loop-item

@@ -1,6 +1,6 @@
 use Rattle.std.proofs.Common.{◌≡◌, ℕ, ◌+◌, ◌<◌, ◌≤◌, List, ◌++◌, ◌∷◌, [], ◌∙◌, ap, get_or, length, map, sym, take}
 use Rattle.std.proofs.lemmas.List.{take_all}
-use Rattle.list_laws.proofs.Changed.{map_so_far}
+use Rattle.list_law.proofs.Changed.{map_so_far}
 use Rattle.evidence_text.specs.declared.raw.NodeEntry.{NodeEntry}
 use Rattle.evidence_text.proofs.judge.columns_of.Goals as goal
 

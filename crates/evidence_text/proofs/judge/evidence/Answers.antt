@@ -3,7 +3,7 @@ use Rattle.std.proofs.lemmas.Iterator.Adapters.{YieldsList-from_vec}
 use Rattle.std.proofs.lemmas.Iterator.Consumers.{YieldsList-turn, YieldsList-end}
 use Rattle.std.proofs.lemmas.List.{map-append}
 use Rattle.std.proofs.lemmas.Option.{slice_get_read}
-use Rattle.list_laws.proofs.Each.{AllByRecursion_at, AllByRecursion-from_list_all}
+use Rattle.list_law.proofs.Each.{AllByRecursion_at, AllByRecursion-from_list_all}
 use Rattle.evidence_text.specs.Ranges.{IsReadCase}
 use Rattle.evidence_text.specs.Spelled.{evidence_of, is_placed}
 use Rattle.evidence_text.proofs.judge.evidence.Goals as goal

@@ -1,11 +1,11 @@
 use Rattle.std.proofs.Common.{length, refl, ◌∙◌, ap, map-id}
 use Rattle.std.proofs.lemmas.Option.{slice_get_read}
-use Rattle.list_laws.proofs.Each.{AllByRecursion_at}
+use Rattle.list_law.proofs.Each.{AllByRecursion_at}
 use Rattle.net_base.specs.Steps.{each_from}
 use Rattle.evidence_text.specs.Ranges.{HasRanges}
 use Rattle.evidence_text.specs.Spelled.{numbered_case}
-use Rattle.list_laws.proofs.Exits.{passed_on}
-use Rattle.item_laws.proofs.ItemsRead.{each_from-start, each_from-next, each_from-stop, each_from-end}
+use Rattle.list_law.proofs.Exits.{passed_on}
+use Rattle.json_values.proofs.ItemsRead.{each_from-start, each_from-next, each_from-stop, each_from-end}
 use Rattle.evidence_text.proofs.judge.read_cases.Goals as goal
 
 pub loop-case-init : goal.loop-case-init

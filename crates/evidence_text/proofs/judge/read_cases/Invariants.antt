@@ -1,7 +1,7 @@
 use Rattle.std.proofs.Common.{◌≡◌, ◌+◌, map, drop}
 use Rattle.net_base.specs.Steps.{each_from}
 use Rattle.evidence_text.specs.Spelled.{numbered_case}
-use Rattle.item_laws.proofs.ItemsRead.{with_front}
+use Rattle.json_values.proofs.ItemsRead.{with_front}
 use Rattle.evidence_text.proofs.judge.read_cases.Given as goal
 
 abbrev pub invariant-loop-case : goal.invariant-loop-case

@@ -3,7 +3,7 @@ use Rattle.std.specs.List.{AllByRecursion}
 use Rattle.std.specs.Prelude.{codes}
 use Rattle.evidence_base.specs.Made.{PlainCaseEvidence}
 use Rattle.serde_json.specs.Written.{compact_text}
-use Rattle.json_words.specs.Json.{array_of}
+use Rattle.json_values.specs.Json.{array_of}
 use Rattle.evidence_text.specs.Text.{case_data}
 use Rattle.evidence_text.specs.Spelled.{spelled}
 use Rattle.evidence_text.specs.Writable.{IsWritable}

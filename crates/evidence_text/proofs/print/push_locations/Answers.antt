@@ -1,7 +1,7 @@
 use Rattle.std.proofs.Common.{◌++◌, ◌∙◌, List, ℕ, ap}
 use Rattle.std.proofs.lemmas.Result.{on_ok_weaker}
 use Rattle.serde_json.specs.Written.{compact_text}
-use Rattle.json_words.specs.Json.{numbers_data}
+use Rattle.json_values.specs.Json.{numbers_data}
 use Rattle.evidence_text.proofs.print.push_locations.Goals as goal
 
 pub returns-clause-text : goal.returns-clause-text

@@ -3,7 +3,7 @@ use Rattle.std.specs.List.{AllByRecursion}
 use Rattle.std.proofs.lemmas.List.{get_or_default, take_all}
 use Rattle.net_base.specs.declared.numbers.Tag.{Tag}
 use Rattle.serde_json.specs.Written.{compact_text}
-use Rattle.item_laws.proofs.ItemsRead.{drop_here}
+use Rattle.json_values.proofs.ItemsRead.{drop_here}
 use Rattle.evidence_text.specs.Text.{node_data, nodes_data}
 use Rattle.evidence_text.specs.Writable.{HasShortRank, IsShort, IsShortTag}
 use Rattle.evidence_text.proofs.Items.{on_ok, one_kept, rest_text, rest_text-cons}

@@ -6,13 +6,13 @@ use Rattle.std.specs.Prelude.{codes}
 use Rattle.std.proofs.lemmas.Result.{on_ok_weaker}
 use Rattle.serde_json.specs.Data.{boolean}
 use Rattle.serde_json.specs.Written.{compact_text}
-use Rattle.json_words.specs.Json.{array_of, numbers_data, texts_data}
-use Rattle.text_words.specs.Texts.{prefix_text}
+use Rattle.json_values.specs.Json.{array_of, numbers_data, texts_data}
+use Rattle.text_parts.specs.Texts.{prefix_text}
 use Rattle.policy_base.specs.declared.case.Case.{Case}
 use Rattle.graph_base.specs.Graphs.{IsGraph, PlainGraph}
 use Rattle.evidence_text.specs.Text.{members, nodes_data}
 use Rattle.evidence_text.specs.Writable.{HasShortRank, IsShort, IsShortTag}
-use Rattle.list_laws.proofs.Pieces.{written}
+use Rattle.list_law.proofs.Pieces.{written}
 use Rattle.evidence_text.proofs.Items.{places_as}
 use Rattle.evidence_text.proofs.print.push_places.Goals as goal
 

@@ -1,8 +1,8 @@
 use Rattle.std.proofs.Common.{◌++◌, ◌∷◌, [], ◌∙◌, ap}
 use Rattle.std.specs.Prelude.{codes}
 use Rattle.std.proofs.lemmas.Result.{on_ok_weaker}
-use Rattle.text_words.specs.Texts.{prefix_text}
-use Rattle.list_laws.proofs.Pieces.{written}
+use Rattle.text_parts.specs.Texts.{prefix_text}
+use Rattle.list_law.proofs.Pieces.{written}
 use Rattle.evidence_text.proofs.PrefixLetters.{quoted_prefix}
 use Rattle.evidence_text.proofs.print.push_prefix_text.Goals as goal
 

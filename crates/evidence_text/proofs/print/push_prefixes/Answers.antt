@@ -4,7 +4,7 @@ use Rattle.std.proofs.lemmas.List.{take_all}
 use Rattle.std.proofs.lemmas.Result.{on_ok_weaker}
 use Rattle.serde_json.specs.Data.{Data}
 use Rattle.serde_json.specs.Written.{compact_text}
-use Rattle.json_words.specs.Json.{array_of}
+use Rattle.json_values.specs.Json.{array_of}
 use Rattle.net_base.specs.Prefixes.{IsPrefix}
 use Rattle.evidence_text.proofs.Items.{on_ok, array_written, one_kept, one_more, prefix_data, texts-prefixes}
 use Rattle.evidence_text.proofs.print.push_prefixes.Goals as goal

@@ -3,12 +3,12 @@ use Rattle.std.specs.Prelude.{codes}
 use Rattle.std.specs.Fmt.{decimal}
 use Rattle.std.proofs.lemmas.Result.{on_ok_weaker}
 use Rattle.serde_json.specs.Written.{compact_text}
-use Rattle.json_words.specs.Json.{array_of, numbers_data}
+use Rattle.json_values.specs.Json.{array_of, numbers_data}
 use Rattle.policy_base.specs.declared.case.Case.{Case}
 use Rattle.graph_base.specs.Graphs.{PlainGraph}
 use Rattle.evidence_text.specs.Text.{step_data}
 use Rattle.evidence_text.specs.Writable.{IsShort}
-use Rattle.list_laws.proofs.Pieces.{written}
+use Rattle.list_law.proofs.Pieces.{written}
 use Rattle.evidence_text.proofs.Items.{on_ok, ways_as}
 use Rattle.evidence_text.proofs.print.push_ways.Goals as goal
 

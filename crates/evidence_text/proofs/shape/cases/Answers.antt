@@ -1,8 +1,8 @@
 use Rattle.std.proofs.Common.{refl}
 use Rattle.serde_json.specs.View.{view}
 use Rattle.evidence_text.specs.Shape.{case_of}
-use Rattle.list_laws.proofs.Exits.{passed_on}
-use Rattle.item_laws.proofs.ItemsRead.{each_from-start, each_from-next, each_from-stop, each_from-end}
+use Rattle.list_law.proofs.Exits.{passed_on}
+use Rattle.json_values.proofs.ItemsRead.{each_from-start, each_from-next, each_from-stop, each_from-end}
 use Rattle.evidence_text.proofs.shape.cases.Goals as goal
 
 pub loop-value-init : goal.loop-value-init

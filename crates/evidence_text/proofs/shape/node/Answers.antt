@@ -1,6 +1,6 @@
 use Rattle.std.proofs.Common.{refl}
 use Rattle.evidence_text.specs.Shape.{node_of}
-use Rattle.list_laws.proofs.Exits.{passed_on}
+use Rattle.list_law.proofs.Exits.{passed_on}
 use Rattle.evidence_text.proofs.shape.node.Goals as goal
 
 pub returns-in_err-row : goal.returns-in_err-row

@@ -2,7 +2,7 @@ use Rattle.std.proofs.Common.{◌≡◌, ◌+◌, map, drop}
 use Rattle.serde_json.specs.View.{view}
 use Rattle.net_base.specs.Steps.{each_from}
 use Rattle.evidence_text.specs.Shape.{node_of}
-use Rattle.item_laws.proofs.ItemsRead.{with_front}
+use Rattle.json_values.proofs.ItemsRead.{with_front}
 use Rattle.evidence_text.proofs.shape.nodes.Given as goal
 
 abbrev pub invariant-loop-value : goal.invariant-loop-value

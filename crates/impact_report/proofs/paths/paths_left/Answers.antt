@@ -1,6 +1,6 @@
 use Rattle.std.proofs.Common.{◌≡◌, sym, ap, ◌∙◌, subst}
 use Rattle.graph_base.specs.Graphs.{PlainGraph}
-use Rattle.settling.specs.Surviving.{left_by}
+use Rattle.settled_outcome.specs.Surviving.{left_by}
 use Rattle.impact_report.specs.Paths.{StepsDiffer}
 use Rattle.impact_report.proofs.Opening.{left_differ}
 use Rattle.impact_report.proofs.paths.paths_left.Goals as goal

@@ -2,7 +2,7 @@ use Rattle.std.proofs.Common.{◌≡◌, ℕ, List, Option, map, sym, ap, ◌∙
 use Rattle.graph_base.specs.Graphs.{PlainGraph}
 use Rattle.evidence_base.specs.Made.{PlainCaseEvidence}
 use Rattle.evidence_law.specs.Passes.{IsCaseGraph}
-use Rattle.settling.specs.Surviving.{left_by}
+use Rattle.settled_outcome.specs.Surviving.{left_by}
 use Rattle.impact_law.specs.BestRanks.{AreTops, rank_by}
 use Rattle.impact_report.specs.Left.{IsOpened}
 use Rattle.impact_report.specs.Rows.{AreRows}

@@ -1,10 +1,10 @@
 use Rattle.std.proofs.Common.{◌≡◌, option_map, sym, ap, ◌∙◌}
 use Rattle.std.proofs.lemmas.Result.{IfOk-weaker}
 use Rattle.policy_base.specs.Policies.{policy_of}
-use Rattle.stable_paths.specs.Scenarios.{failures_of}
+use Rattle.scenarios.specs.Scenarios.{failures_of}
 use Rattle.impact_law.specs.Cuts.{live_cuts}
 use Rattle.impact_law.specs.Impacts.{IsImpact}
-use Rattle.report_lines.specs.Claims.{sources_of}
+use Rattle.outcome_report.specs.Claims.{sources_of}
 use Rattle.impact_report.specs.Found.{IsFound}
 use Rattle.impact_report.proofs.Whole.{bare, steps_differ, whole}
 use Rattle.impact_report.proofs.report.impact.Goals as goal

@@ -1,5 +1,5 @@
 use Rattle.std.proofs.Common.{◌≡◌, length}
-use Rattle.stable_paths.specs.declared.outcome.Outcome.{Outcome}
+use Rattle.scenarios.specs.declared.outcome.Outcome.{Outcome}
 use Rattle.input_texts.proofs.ReadTexts.{read_holds}
 use Rattle.input_texts.proofs.texts.tables_for.Goals as goal
 

@@ -1,9 +1,9 @@
 use Rattle.std.proofs.Common.{◌<◌, length, arith}
-use Rattle.list_laws.proofs.Exits.{passed_on}
+use Rattle.list_law.proofs.Exits.{passed_on}
 use Rattle.config_lines.proofs.CutParts.{cut_shorter}
-use Rattle.line_laws.specs.Lines.{lines_of}
-use Rattle.line_laws.proofs.CutLines.{lines_of-few}
-use Rattle.line_laws.proofs.LineByLine.{one_taken, all_taken}
+use Rattle.config_lines.specs.LineLines.{lines_of}
+use Rattle.config_lines.proofs.CutLines.{lines_of-few}
+use Rattle.config_lines.proofs.LineByLine.{one_taken, all_taken}
 use Rattle.map_reader.specs.MapsRead.{with_line}
 use Rattle.map_reader.proofs.MapCuts.{faulty, finished_behind}
 use Rattle.map_reader.proofs.MapReadTexts.{behind_lawful}

@@ -1,5 +1,5 @@
 use Rattle.std.proofs.Common.{◌+◌, ◌≤◌, length}
-use Rattle.line_laws.proofs.LineByLine.{IsTaken}
+use Rattle.config_lines.proofs.LineByLine.{IsTaken}
 use Rattle.map_reader.specs.MapsReading.{opening}
 use Rattle.map_reader.specs.MapsRead.{with_line}
 use Rattle.map_reader.proofs.read.read_behind_heading.Given as goal

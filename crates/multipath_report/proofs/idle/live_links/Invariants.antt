@@ -1,6 +1,6 @@
 use Rattle.std.proofs.Common.{◌≡◌, ℕ, filter, take}
 use Rattle.outcome_base.specs.Outcomes.{is_live}
-use Rattle.stable_paths.specs.Scenarios.{failures_of}
+use Rattle.scenarios.specs.Scenarios.{failures_of}
 use Rattle.multipath_report.proofs.idle.live_links.Given as goal
 
 abbrev pub invariant-loop-link : goal.invariant-loop-link

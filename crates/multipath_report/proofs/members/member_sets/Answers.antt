@@ -1,7 +1,7 @@
 use Rattle.std.proofs.Common.{◌≡◌, ◌∙◌, ap, length, arith, take, drop, ◌++◌}
 use Rattle.std.specs.Prelude.{◌==◌, ◌&&◌, ◌||◌}
-use Rattle.net_index.specs.Neighbours.{is_held}
-use Rattle.net_index.proofs.Linked.{written_back}
+use Rattle.location_names.specs.Neighbours.{is_held}
+use Rattle.location_names.proofs.Linked.{written_back}
 use Rattle.multipath_report.specs.Members.{member_in}
 use Rattle.multipath_report.proofs.Listing.{member_put}
 use Rattle.multipath_report.proofs.members.member_sets.Goals as goal

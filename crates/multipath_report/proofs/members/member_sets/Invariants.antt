@@ -2,7 +2,7 @@ use Rattle.std.proofs.Common.{◌≡◌, ℕ, ◌+◌, length, take, vec_len}
 use Rattle.std.specs.Prelude.{◌&&◌}
 use Rattle.std.specs.List.{list_any}
 use Rattle.net_base.specs.Network.{joins}
-use Rattle.net_index.specs.Neighbours.{is_held}
+use Rattle.location_names.specs.Neighbours.{is_held}
 use Rattle.multipath_report.specs.Members.{member_in}
 use Rattle.multipath_report.proofs.members.member_sets.Given as goal
 

@@ -1,6 +1,6 @@
 use Rattle.std.proofs.Common.{ap, sym, ◌∙◌}
 use Rattle.std.specs.Prelude.{◌==◌, ◌&&◌, ◌||◌}
-use Rattle.net_index.specs.Neighbours.{is_held}
+use Rattle.location_names.specs.Neighbours.{is_held}
 use Rattle.multipath_report.specs.Members.{member_in}
 use Rattle.multipath_report.proofs.Listing.{put_there}
 use Rattle.multipath_report.proofs.members.put_member.Goals as goal

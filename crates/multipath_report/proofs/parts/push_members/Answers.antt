@@ -1,8 +1,8 @@
 use Rattle.std.proofs.Common.{◌≡◌, ◌+◌, ◌++◌, ℕ, [], add-one, ap, arith, cond, filter, length, sym, ◌∙◌}
 use Rattle.std.specs.List.{flat_map}
 use Rattle.net_base.specs.Locations.{numbers_below}
-use Rattle.net_index.specs.Neighbours.{is_held}
-use Rattle.report_lines.specs.Lines.{next_name}
+use Rattle.location_names.specs.Neighbours.{is_held}
+use Rattle.outcome_report.specs.Lines.{next_name}
 use Rattle.multipath_report.proofs.Listing.{told_more}
 use Rattle.multipath_report.proofs.parts.push_members.Goals as goal
 

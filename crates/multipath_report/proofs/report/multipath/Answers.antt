@@ -1,7 +1,7 @@
 use Rattle.std.proofs.Common.{◌≡◌, ◌∙◌, ℕ, List, ap, filter, length, not}
 use Rattle.net_base.specs.declared.loc.LocSet.{LocSet}
-use Rattle.net_index.specs.Neighbours.{is_held}
-use Rattle.stable_paths.specs.Scenarios.{failures_of}
+use Rattle.location_names.specs.Neighbours.{is_held}
+use Rattle.scenarios.specs.Scenarios.{failures_of}
 use Rattle.multipath_law.specs.Carried.{live_links}
 use Rattle.multipath_report.specs.Idle.{is_used_in}
 use Rattle.multipath_report.proofs.Finding.{members, used}

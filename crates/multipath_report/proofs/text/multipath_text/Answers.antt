@@ -2,11 +2,11 @@ use Rattle.std.proofs.Common.{◌++◌, ◌∙◌, ℕ, List, ap, length}
 use Rattle.std.specs.List.{flat_map}
 use Rattle.net_base.specs.Locations.{numbers_below}
 use Rattle.net_base.specs.declared.loc.LocSet.{LocSet}
-use Rattle.net_index.specs.Neighbours.{is_held}
+use Rattle.location_names.specs.Neighbours.{is_held}
 use Rattle.policy_base.specs.Policies.{policy_of}
-use Rattle.stable_paths.specs.Scenarios.{failures_of}
-use Rattle.report_lines.specs.Claims.{sources_of, statement_in}
-use Rattle.report_lines.specs.Lines.{head_lines}
+use Rattle.scenarios.specs.Scenarios.{failures_of}
+use Rattle.outcome_report.specs.Claims.{sources_of, statement_in}
+use Rattle.outcome_report.specs.Lines.{head_lines}
 use Rattle.multipath_report.specs.Texts.{count_line, idle_line, lines_by, router_line, session_line}
 use Rattle.multipath_report.specs.Told.{shown_in}
 use Rattle.multipath_report.proofs.Telling.{five, whole}

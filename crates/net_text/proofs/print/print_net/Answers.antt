@@ -1,8 +1,8 @@
 use Rattle.std.proofs.Common.{◌++◌, ◌∷◌, [], ◌∙◌, List, ℕ, ap, map, subst}
 use Rattle.std.specs.Prelude.{codes}
-use Rattle.list_laws.proofs.Pieces.{written}
+use Rattle.list_law.proofs.Pieces.{written}
 use Rattle.serde_json.specs.Written.{compact_text}
-use Rattle.json_words.specs.Json.{array_of}
+use Rattle.json_values.specs.Json.{array_of}
 use Rattle.net_base.specs.declared.net.Site.{Site}
 use Rattle.topology.specs.Topology.{spelled}
 use Rattle.net_text.specs.NetText.{HaveNames, link_data, site_data}

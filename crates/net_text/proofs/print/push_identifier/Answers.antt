@@ -1,8 +1,8 @@
 use Rattle.std.proofs.Common.{◌++◌, ◌∷◌, [], ◌∙◌, ap, arith}
 use Rattle.std.specs.Prelude.{codes}
 use Rattle.std.proofs.lemmas.Result.{on_ok_weaker}
-use Rattle.list_laws.proofs.Pieces.{written}
-use Rattle.text_words.specs.Texts.{address_text}
+use Rattle.list_law.proofs.Pieces.{written}
+use Rattle.text_parts.specs.Texts.{address_text}
 use Rattle.net_text.proofs.Letters.{quoted_simple, simple_address}
 use Rattle.net_text.proofs.print.push_identifier.Goals as goal
 

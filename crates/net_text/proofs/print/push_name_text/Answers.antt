@@ -1,7 +1,7 @@
 use Rattle.std.proofs.Common.{◌++◌, ◌∷◌, [], ◌∙◌, ap}
 use Rattle.std.specs.Prelude.{codes}
 use Rattle.std.proofs.lemmas.Result.{on_ok_weaker}
-use Rattle.list_laws.proofs.Pieces.{written}
+use Rattle.list_law.proofs.Pieces.{written}
 use Rattle.net_text.proofs.Letters.{quoted_simple, simple_name}
 use Rattle.net_text.proofs.print.push_name_text.Goals as goal
 

@@ -2,10 +2,10 @@ use Rattle.std.proofs.Common.{◌++◌, ◌∷◌, [], ◌∙◌, ap}
 use Rattle.std.specs.Prelude.{codes}
 use Rattle.std.specs.Fmt.{decimal}
 use Rattle.std.proofs.lemmas.Result.{on_ok_weaker}
-use Rattle.list_laws.proofs.Pieces.{written}
+use Rattle.list_law.proofs.Pieces.{written}
 use Rattle.serde_json.specs.Data.{string}
 use Rattle.serde_json.specs.Written.{compact_text}
-use Rattle.text_words.specs.Texts.{address_text}
+use Rattle.text_parts.specs.Texts.{address_text}
 use Rattle.net_text.proofs.Items.{site_as}
 use Rattle.net_text.proofs.print.push_site.Goals as goal
 

@@ -2,7 +2,7 @@ use Rattle.std.proofs.Common.{◌≡◌, ◌<◌, ◌∙◌, ℕ, None, arith, s
 use Rattle.std.specs.Prelude.{◌==◌}
 use Rattle.std.proofs.lemmas.List.{length-map}
 use Rattle.std.proofs.lemmas.List.Elements.{recursion_from_All}
-use Rattle.list_laws.proofs.Options.{is_some_parts}
+use Rattle.list_law.proofs.Options.{is_some_parts}
 use Rattle.node_classes.specs.declared.way.Way.{Way}
 use Rattle.node_classes.specs.Forest.{parent, leader}
 use Rattle.node_classes.specs.Stages.{AreWithin, Stage, targets, work}

@@ -1,5 +1,5 @@
 use Rattle.std.proofs.lemmas.List.Sorted.{Contains-permutation, IsPermutation-sym}
-use Rattle.list_laws.proofs.Members.{Contains-from_IsIn, IsIn-from_Contains}
+use Rattle.list_law.proofs.Members.{Contains-from_IsIn, IsIn-from_Contains}
 use Rattle.node_classes.proofs.Ordered.{Ascend-sorted}
 use Rattle.node_classes.proofs.order.put_in_order.Goals as goal
 

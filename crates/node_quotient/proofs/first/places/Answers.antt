@@ -1,5 +1,5 @@
 use Rattle.std.proofs.Common.{◌++◌, ◌∷◌, [], map, take, sym, ap, ◌∙◌}
-use Rattle.list_laws.proofs.Changed.{map_so_far}
+use Rattle.list_law.proofs.Changed.{map_so_far}
 use Rattle.graph_base.specs.declared.graph.Node.{Node}
 use Rattle.node_quotient.proofs.first.places.Goals as goal
 

@@ -1,5 +1,5 @@
 use Rattle.std.proofs.Common.{◌<◌, length, arith}
-use Rattle.list_laws.proofs.Each.{AllByRecursion-push}
+use Rattle.list_law.proofs.Each.{AllByRecursion-push}
 use Rattle.node_quotient.proofs.partition.names.Goals as goal
 use Rattle.node_quotient.proofs.partition.names.Goals.{then-classes-node+in_ok-push, else-classes-node}
 

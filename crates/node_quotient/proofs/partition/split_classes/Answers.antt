@@ -1,7 +1,7 @@
 use Rattle.std.proofs.Common.{◌≡◌, ◌<◌, [], ◌∷◌, false, length, replicate, ap, sym, subst, ◌∙◌, arith}
 use Rattle.std.specs.List.{AllByRecursion}
-use Rattle.list_laws.proofs.Each.{AllByRecursion-append_parts}
-use Rattle.list_laws.proofs.Items.{get_or-replicate_same}
+use Rattle.list_law.proofs.Each.{AllByRecursion-append_parts}
+use Rattle.list_law.proofs.Items.{get_or-replicate_same}
 use Rattle.std.proofs.lemmas.List.{length-replicate}
 use Rattle.reach_prune.specs.Searches.{is_marked}
 use Rattle.node_quotient.specs.Alike.{class_in}

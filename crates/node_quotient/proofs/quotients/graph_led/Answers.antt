@@ -1,6 +1,6 @@
 use Rattle.std.proofs.Common.{◌≡◌, ◌<◌, ℕ, List, get_or, length, sym, ap, ◌∙◌, subst, map, arith}
 use Rattle.std.proofs.lemmas.Option.{slice_get-get_or}
-use Rattle.list_laws.proofs.Each.{AllByRecursion_at}
+use Rattle.list_law.proofs.Each.{AllByRecursion_at}
 use Rattle.graph_base.specs.declared.graph.Node.{Node}
 use Rattle.graph_base.specs.Graphs.{IsGraph, PlainGraph}
 use Rattle.node_quotient.specs.Alike.{class_in}

@@ -4,7 +4,7 @@ use Rattle.std.proofs.Math.Bool.{and-false}
 use Rattle.net_base.specs.Sets.{holds}
 use Rattle.policy_base.specs.Meaning.{some_step}
 use Rattle.policy_base.proofs.PlaceLemmas.{some_step-next, some_step_short}
-use Rattle.list_laws.proofs.Items.{pairs_next}
+use Rattle.list_law.proofs.Items.{pairs_next}
 use Rattle.policy_base.proofs.meaning.has_step.Goals as goal
 use Rattle.policy_base.proofs.meaning.has_step.Goals.{else-holds-via-then-holds+else-holds-2, else-holds-via-else-holds}
 

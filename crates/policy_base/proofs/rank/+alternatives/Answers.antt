@@ -1,5 +1,5 @@
 use Rattle.std.proofs.Common.{ap, sym, ◌∙◌, min}
-use Rattle.list_laws.proofs.Numbers.{min-mul}
+use Rattle.list_law.proofs.Numbers.{min-mul}
 use Rattle.policy_base.proofs.RankingViews.{alternative_count-And}
 use Rattle.policy_base.proofs.rank.+alternatives.Goals as goal
 

@@ -1,5 +1,5 @@
 use Rattle.std.proofs.Common.{sym, ◌∙◌}
-use Rattle.list_laws.proofs.Truth.{and_by_first, and_by_second}
+use Rattle.list_law.proofs.Truth.{and_by_first, and_by_second}
 use Rattle.policy_base.proofs.RankingViews.{some_test-And}
 use Rattle.policy_base.proofs.rank.+meets_some.Goals as goal
 

@@ -2,7 +2,7 @@ use Rattle.std.proofs.Common.{◌-◌, drop, arith, sym, ◌∙◌, true, length
 use Rattle.net_base.specs.Network.{linked}
 use Rattle.policy_base.specs.Walks.{steps_linked}
 use Rattle.policy_base.proofs.PlaceLemmas.{steps_linked-next, steps_linked_short}
-use Rattle.list_laws.proofs.Items.{pairs_next}
+use Rattle.list_law.proofs.Items.{pairs_next}
 use Rattle.policy_base.proofs.walk.is_linked.Goals as goal
 
 pub loop-i-preserved : goal.loop-i-preserved

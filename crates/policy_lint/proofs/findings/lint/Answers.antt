@@ -1,7 +1,7 @@
 use Rattle.std.proofs.Common.{◌≡◌, ℕ, ◌+◌, ◌++◌, ◌<◌, ◌≤◌, ◌^◌, Bool, true, List, [], length, map, Some, ap, ap₂, sym, subst, ◌∙◌, arith}
 use Rattle.std.specs.Prelude.{◌==◌, filter, slice_get}
 use Rattle.policy_tokens.specs.declared.token.Token.{Token}
-use Rattle.pattern_cover.specs.Statements.{AreMarked}
+use Rattle.lint_cover.specs.Statements.{AreMarked}
 use Rattle.policy_lint.specs.Groups.{group_names, is_unused}
 use Rattle.policy_lint.specs.declared.finding.Finding.TheVariants.{UnusedGroup}
 use Rattle.std.specs.List.{list_any}
@@ -9,11 +9,11 @@ use Rattle.policy_base.specs.declared.limits.TheConstants.{ALTERNATIVES}
 use Rattle.net_base.specs.Network.{PlainNet}
 use Rattle.policy_base.specs.Cases.{case_list}
 use Rattle.policy_base.specs.Meaning.{alternative_count}
-use Rattle.case_ranks.specs.Limits.{AreAllWithin}
+use Rattle.lint_ranks.specs.Limits.{AreAllWithin}
 use Rattle.policy_lint.specs.Told.{marked, told_covered, told_from, told_idle}
 use Rattle.policy_lint.proofs.Idles.{has_case}
 use Rattle.std.proofs.lemmas.List.{length-map}
-use Rattle.config_made.proofs.CaseClasses.{case_lists}
+use Rattle.config_maker.proofs.CaseClasses.{case_lists}
 use Rattle.policy_base.specs.declared.case.Case.{Case}
 use Rattle.policy_base.specs.Policies.{PlainPolicy, PlainStatement, plain_statement, policy_of}
 use Rattle.policy_parser.proofs.FittingPolicies.{read_policies_fit}

@@ -1,5 +1,5 @@
 use Rattle.std.proofs.Common.{refl, ◌∙◌}
-use Rattle.list_laws.proofs.Exits.{passed_on}
+use Rattle.list_law.proofs.Exits.{passed_on}
 use Rattle.policy_rules.specs.KnownView.{plain_names}
 use Rattle.policy_parser.proofs.ItemKinds.{defined, group_item, origin_item, statement_item}
 use Rattle.policy_parser.proofs.item_values.item.Goals as goal

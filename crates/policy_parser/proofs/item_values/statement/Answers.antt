@@ -1,4 +1,4 @@
-use Rattle.list_laws.proofs.Exits.{passed_on}
+use Rattle.list_law.proofs.Exits.{passed_on}
 use Rattle.policy_rules.specs.KnownView.{plain_names}
 use Rattle.policy_values.specs.Parts.{parts_value}
 use Rattle.policy_values.specs.PatternValues.{plain_patterns}

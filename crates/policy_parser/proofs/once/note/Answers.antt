@@ -1,7 +1,7 @@
 use Rattle.std.proofs.Common.{◌∙◌, ap, not, sym}
 use Rattle.net_base.specs.Prefixes.{same_prefix}
 use Rattle.policy_rules.specs.PrefixKeys.{prefix_of}
-use Rattle.list_laws.proofs.Tests.{list_any-map}
+use Rattle.list_law.proofs.Tests.{list_any-map}
 use Rattle.policy_parser.proofs.once.note.Goals as goal
 
 pub returns-clause-fresh : goal.returns-clause-fresh

@@ -1,5 +1,5 @@
 use Rattle.std.proofs.Common.{◌∙◌, ap, sym}
-use Rattle.list_laws.proofs.Exits.{passed_on}
+use Rattle.list_law.proofs.Exits.{passed_on}
 use Rattle.policy_rules.specs.KnownView.{plain_names}
 use Rattle.policy_parser.proofs.TakenTexts.{starts, takes_on, takes_no_more, takes_all}
 use Rattle.policy_parser.proofs.read.items_taken.Goals as goal

@@ -1,4 +1,4 @@
-use Rattle.list_laws.proofs.Exits.{passed_on}
+use Rattle.list_law.proofs.Exits.{passed_on}
 use Rattle.policy_base.specs.Policies.{policy_of}
 use Rattle.policy_parser.proofs.TakenTexts.{unread}
 use Rattle.policy_parser.proofs.ToldFaults.{spelled-IsAtMostDeep}

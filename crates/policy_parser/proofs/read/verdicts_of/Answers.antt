@@ -1,5 +1,5 @@
 use Rattle.std.proofs.Common.{◌∙◌, sym, ap, Ok}
-use Rattle.list_laws.proofs.Exits.{passed_on}
+use Rattle.list_law.proofs.Exits.{passed_on}
 use Rattle.policy_parser.proofs.ReadItems.{no_text, fault_first, deep_next, items_last}
 use Rattle.policy_parser.proofs.TakenTexts.{reads_same}
 use Rattle.policy_parser.proofs.read.verdicts_of.Goals as goal

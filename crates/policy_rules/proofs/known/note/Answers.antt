@@ -1,6 +1,6 @@
 use Rattle.std.proofs.Common.{◌∙◌, ap, not, sym}
 use Rattle.std.specs.Str.{bytes_eq}
-use Rattle.list_laws.proofs.Tests.{list_any-map}
+use Rattle.list_law.proofs.Tests.{list_any-map}
 use Rattle.policy_rules.proofs.known.note.Goals as goal
 
 pub returns-clause-fresh : goal.returns-clause-fresh

@@ -1,6 +1,6 @@
 use Rattle.std.proofs.Common.{◌∙◌, sym}
 use Rattle.std.specs.Str.{bytes_eq}
-use Rattle.list_laws.proofs.Positions.{position-map}
+use Rattle.list_law.proofs.Positions.{position-map}
 use Rattle.policy_rules.proofs.known.place_in.Goals as goal
 
 pub returns-in-Some : goal.returns-in-Some

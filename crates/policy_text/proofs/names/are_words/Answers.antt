@@ -1,5 +1,5 @@
 use Rattle.std.proofs.Common.{◌^◌, arith}
-use Rattle.list_laws.proofs.Items.{all_below}
+use Rattle.list_law.proofs.Items.{all_below}
 use Rattle.policy_text.proofs.names.are_words.Goals as goal
 
 pub returns : goal.returns

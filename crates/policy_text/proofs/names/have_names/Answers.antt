@@ -3,7 +3,7 @@ use Rattle.std.specs.Prelude.{IsTrue}
 use Rattle.std.specs.List.{AllByRecursion}
 use Rattle.net_base.specs.NameRule.{is_name}
 use Rattle.net_base.specs.declared.net.Site.{Site}
-use Rattle.list_laws.proofs.Each.{AllByRecursion-push}
+use Rattle.list_law.proofs.Each.{AllByRecursion-push}
 use Rattle.policy_text.proofs.Adding.{one_more}
 use Rattle.policy_text.proofs.names.have_names.Goals as goal
 

@@ -1,7 +1,7 @@
 use Rattle.std.proofs.Common.{◌≡◌, ◌∙◌, List, ap, map, rules, subst, append_assoc}
 use Rattle.std.specs.Prelude.{IsTrue}
 use Rattle.std.specs.List.{AllByRecursion}
-use Rattle.list_laws.proofs.Each.{AllByRecursion-append}
+use Rattle.list_law.proofs.Each.{AllByRecursion-append}
 use Rattle.net_base.specs.NameRule.{is_name}
 use Rattle.net_base.specs.declared.net.Site.{Site}
 use Rattle.policy_base.specs.declared.policy.Statement.{Statement}

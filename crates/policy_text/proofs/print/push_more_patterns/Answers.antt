@@ -2,7 +2,7 @@ use Rattle.std.proofs.Common.{◌++◌, ◌+◌, ap, append_assoc, subst, take, 
 use Rattle.std.specs.Prelude.{codes}
 use Rattle.std.specs.List.{AllByRecursion}
 use Rattle.net_base.specs.Prefixes.{IsPattern}
-use Rattle.text_words.specs.Texts.{pattern_text}
+use Rattle.text_parts.specs.Texts.{pattern_text}
 use Rattle.policy_text.specs.PolicyText.{next_pattern}
 use Rattle.policy_text.proofs.Adding.{added, one_more}
 use Rattle.policy_text.proofs.print.push_more_patterns.Goals as goal

@@ -1,6 +1,6 @@
 use Rattle.std.proofs.Common.{List, ◌+◌, map, subst, take, take_all}
 use Rattle.std.specs.List.{AllByRecursion}
-use Rattle.list_laws.proofs.Changed.{map_so_far}
+use Rattle.list_law.proofs.Changed.{map_so_far}
 use Rattle.policy_base.specs.declared.policy.Statement.{Statement}
 use Rattle.policy_base.specs.Policies.{plain_statement}
 use Rattle.policy_text.specs.Values.{IsStatementValue}

@@ -1,5 +1,5 @@
 use Rattle.std.proofs.Common.{refl, ap, arith}
-use Rattle.list_laws.proofs.Exits.{passed_on}
+use Rattle.list_law.proofs.Exits.{passed_on}
 use Rattle.policy_values.specs.PatternValues.{PatternsValue, plain_patterns}
 use Rattle.policy_values.proofs.PatternsBehind.{count_more, predicate_with}
 use Rattle.policy_values.proofs.LexemeCounts.{left_few}

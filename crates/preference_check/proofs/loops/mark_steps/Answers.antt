@@ -4,7 +4,7 @@ use Rattle.std.proofs.lemmas.Bool.{and_parts, eqb-true, not-true, or_cases}
 use Rattle.std.proofs.lemmas.List.{take_all}
 use Rattle.std.proofs.lemmas.List.Folds.{list_any_more}
 use Rattle.std.proofs.lemmas.Option.{slice_get-get_or}
-use Rattle.list_laws.proofs.Each.{AllByRecursion_at}
+use Rattle.list_law.proofs.Each.{AllByRecursion_at}
 use Rattle.graph_base.specs.Runs.{has_step, is_listener, place_of}
 use Rattle.reach_prune.specs.Searches.{is_marked}
 use Rattle.graph_base.specs.Preferences.{number_in}

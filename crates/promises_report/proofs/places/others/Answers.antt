@@ -4,7 +4,7 @@ use Rattle.net_base.specs.declared.loc.LocSet.{LocSet}
 use Rattle.net_base.specs.Network.{is_location}
 use Rattle.net_base.specs.Sets.{holds}
 use Rattle.net_base.proofs.NetSetLaws.{holds-locations, holds-peers}
-use Rattle.settling.proofs.Surviving.{routers_are}
+use Rattle.settled_outcome.proofs.Surviving.{routers_are}
 use Rattle.promises_report.proofs.places.others.Goals as goal
 
 pub returns : goal.returns

@@ -1,8 +1,8 @@
 use Rattle.std.proofs.Common.{◌+◌, ◌∷◌, [], ℕ, Bool, Some, None, length-append, add-one, arith, sym, ap, ◌∙◌}
 use Rattle.std.proofs.lemmas.Bool.{cond-false, cond-true}
 use Rattle.reach_prune.specs.Searches.{is_marked}
-use Rattle.list_laws.specs.Counts.{kept_below}
-use Rattle.list_laws.proofs.Kept.{kept_below-kept, kept_below-left}
+use Rattle.list_law.specs.Counts.{kept_below}
+use Rattle.list_law.proofs.Kept.{kept_below-kept, kept_below-left}
 use Rattle.reach_prune.proofs.Keeping.{kept_below_le}
 use Rattle.reach_prune.proofs.Renumbering.{numbers_more}
 use Rattle.reach_prune.proofs.trimming.new_numbers.Goals as goal

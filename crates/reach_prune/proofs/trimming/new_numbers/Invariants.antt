@@ -1,7 +1,7 @@
 use Rattle.std.proofs.Common.{◌≡◌, ℕ, ◌<◌, length}
 use Rattle.reach_prune.specs.Numbers.{number_in, number_kept}
 use Rattle.reach_prune.specs.Searches.{is_marked}
-use Rattle.list_laws.specs.Counts.{kept_below}
+use Rattle.list_law.specs.Counts.{kept_below}
 use Rattle.reach_prune.proofs.trimming.new_numbers.Given as goal
 
 abbrev pub invariant-loop-keep : goal.invariant-loop-keep

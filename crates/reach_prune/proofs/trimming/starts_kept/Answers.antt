@@ -1,6 +1,6 @@
 use Rattle.std.proofs.Common.{sym}
 use Rattle.reach_prune.specs.Numbers.{number_in}
-use Rattle.list_laws.proofs.Changed.{filter_map_no, filter_map_yes}
+use Rattle.list_law.proofs.Changed.{filter_map_no, filter_map_yes}
 use Rattle.reach_prune.proofs.trimming.starts_kept.Goals as goal
 use Rattle.reach_prune.proofs.trimming.starts_kept.Goals.{in-Some+in_ok-push, in_default}
 

@@ -1,5 +1,5 @@
 use Rattle.std.proofs.lemmas.List.Filters.{dedup_is}
-use Rattle.list_laws.proofs.Sorting.{IsIn-settled, IsStrictlySortedBy-settled}
+use Rattle.list_law.proofs.Sorting.{IsIn-settled, IsStrictlySortedBy-settled}
 use Rattle.relation_refute.proofs.Lining.{line_exact, line_ties, line_total}
 use Rattle.relation_refute.proofs.chains.settle_lines.Goals as goal
 

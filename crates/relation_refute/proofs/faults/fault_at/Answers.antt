@@ -5,7 +5,7 @@ use Rattle.bit_rows.specs.Tables.{has_at}
 use Rattle.graph_base.specs.Graphs.{PlainGraph}
 use Rattle.graph_base.specs.Runs.{is_listener, place_of}
 use Rattle.graph_base.specs.declared.refutation.Why.TheVariants.{NoStep, StepWorse, LoopWorse, ListenerWorse}
-use Rattle.refutation_law.specs.Reasons.{none as nobody}
+use Rattle.relation_law.specs.Reasons.{none as nobody}
 use Rattle.relation_law.specs.Rounds.{has_answer}
 use Rattle.relation_refute.specs.declared.faults.Fault.{Fault}
 use Rattle.relation_refute.specs.Cells.{went}

@@ -8,7 +8,7 @@ use Rattle.graph_base.specs.declared.refutation.Why.{Why}
 use Rattle.graph_base.specs.declared.refutation.Why.TheVariants.{RankWorse}
 use Rattle.graph_base.proofs.StartsAndSteps.{step_nodes}
 use Rattle.net_base.specs.declared.loc.LocSet.{LocSet}
-use Rattle.refutation_law.specs.Reasons.{IsFirstFailing, is_outranked, reason_at}
+use Rattle.relation_law.specs.Reasons.{IsFirstFailing, is_outranked, reason_at}
 use Rattle.relation_law.specs.Views.{view_of}
 use Rattle.relation_refute.specs.declared.faults.Fault.{Fault}
 use Rattle.relation_refute.specs.Cells.{went}

@@ -6,7 +6,7 @@ use Rattle.std.proofs.lemmas.List.{take_all}
 use Rattle.bit_rows.specs.Tables.{has_at}
 use Rattle.graph_base.specs.Graphs.{PlainGraph}
 use Rattle.graph_base.specs.Runs.{has_step}
-use Rattle.refutation_law.specs.Reasons.{reason_at}
+use Rattle.relation_law.specs.Reasons.{reason_at}
 use Rattle.relation_refute.specs.Cells.{went}
 use Rattle.relation_refute.specs.Faults.{stands_before}
 use Rattle.state_simulation.specs.Looked.{shown}

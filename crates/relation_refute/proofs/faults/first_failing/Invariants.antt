@@ -3,7 +3,7 @@ use Rattle.std.specs.Option.{IfSome}
 use Rattle.std.specs.Prelude.{is_some}
 use Rattle.bit_rows.specs.Tables.{has_at}
 use Rattle.graph_base.specs.Runs.{has_step}
-use Rattle.refutation_law.specs.Reasons.{reason_at}
+use Rattle.relation_law.specs.Reasons.{reason_at}
 use Rattle.relation_refute.specs.Cells.{went}
 use Rattle.state_simulation.specs.Looked.{shown}
 use Rattle.relation_refute.proofs.Firsts.{IsFirstOf}

@@ -9,7 +9,7 @@ use Rattle.graph_base.specs.declared.graph.Node.{Node}
 use Rattle.graph_base.proofs.Least.{least_exists}
 use Rattle.graph_base.proofs.NodesRead.{place_of-node}
 use Rattle.net_base.specs.declared.loc.LocSet.{LocSet}
-use Rattle.refutation_law.proofs.Chains.{refutes_by_chains}
+use Rattle.relation_law.proofs.Chains.{refutes_by_chains}
 use Rattle.relation_law.specs.Relations.{Pair}
 use Rattle.relation_law.specs.Rounds.{same_place}
 use Rattle.relation_law.specs.Views.{view_of}
@@ -18,7 +18,7 @@ use Rattle.relation_refute.specs.declared.falls.Fallen.{Fallen}
 use Rattle.relation_refute.specs.Cells.{are_parted}
 use Rattle.relation_refute.specs.Lines.{AreLinesOf}
 use Rattle.state_simulation.specs.Looked.{shown}
-use Rattle.list_laws.specs.Members.{IsIn}
+use Rattle.list_law.specs.Members.{IsIn}
 use Rattle.relation_refute.proofs.Assembling.{all_found, gathered_all, gathered_each, pair_found, someone_parted, went_found}
 use Rattle.relation_refute.proofs.Chaining.{exact}
 use Rattle.relation_refute.proofs.refuting.told.Goals as goal

@@ -1,7 +1,7 @@
 use Rattle.std.proofs.Common.{◌≡◌, ◌++◌, take, Some}
 use Rattle.std.specs.List.{flat_map}
 use Rattle.route_maps.specs.declared.maps.ListLine.{ListLine}
-use Rattle.map_lines.specs.declared.line.MapLine.TheVariants.{List as ListOf}
+use Rattle.route_map_text.specs.declared.line.MapLine.TheVariants.{List as ListOf}
 use Rattle.route_map_text.specs.MapsLines.{fed}
 use Rattle.route_map_text.specs.MapsSpelled.{HavePatterns}
 use Rattle.route_map_text.proofs.blocks.push_list.Given as goal

@@ -1,5 +1,5 @@
 use Rattle.std.proofs.Common.{map, string_bytes, ◌∙◌}
-use Rattle.list_laws.proofs.Exits.{passed_on}
+use Rattle.list_law.proofs.Exits.{passed_on}
 use Rattle.run_base.proofs.OnlyRead.{held_before, read_twice, stop_before}
 use Rattle.run_base.proofs.Readings.{held_more, stopped_at}
 use Rattle.run_base.proofs.reading.read_all.Goals as goal

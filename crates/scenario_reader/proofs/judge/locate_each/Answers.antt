@@ -2,8 +2,8 @@ use Rattle.std.proofs.Common.{◌<◌, refl}
 use Rattle.std.proofs.lemmas.List.{get_or_default}
 use Rattle.std.proofs.lemmas.List.Elements.{All-push}
 use Rattle.net_base.specs.declared.limits.TheConstants.{LOCATIONS}
-use Rattle.list_laws.proofs.Exits.{passed_on}
-use Rattle.item_laws.proofs.ItemsRead.{each_from-next, each_from-stop, each_from-end}
+use Rattle.list_law.proofs.Exits.{passed_on}
+use Rattle.json_values.proofs.ItemsRead.{each_from-next, each_from-stop, each_from-end}
 use Rattle.scenario_reader.specs.Rules.{located}
 use Rattle.scenario_reader.proofs.judge.locate_each.Goals as goal
 

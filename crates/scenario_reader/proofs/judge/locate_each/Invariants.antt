@@ -3,8 +3,8 @@ use Rattle.std.specs.Prelude.{All}
 use Rattle.net_base.specs.Steps.{each_from}
 use Rattle.net_base.specs.declared.limits.TheConstants.{LOCATIONS}
 use Rattle.scenario_reader.specs.Rules.{located}
-use Rattle.net_index.specs.Names.{texts}
-use Rattle.item_laws.proofs.ItemsRead.{with_front}
+use Rattle.location_names.specs.Names.{texts}
+use Rattle.json_values.proofs.ItemsRead.{with_front}
 use Rattle.scenario_reader.proofs.judge.locate_each.Given as goal
 
 abbrev pub invariant-loop-name : goal.invariant-loop-name

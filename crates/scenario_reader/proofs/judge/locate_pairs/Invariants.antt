@@ -2,7 +2,7 @@ use Rattle.std.proofs.Common.{◌≡◌, ◌+◌, map, drop}
 use Rattle.net_base.specs.Steps.{each_from}
 use Rattle.scenario_reader.specs.Rules.{both_located}
 use Rattle.scenario_reader.specs.Views.{raw_ends}
-use Rattle.item_laws.proofs.ItemsRead.{with_front}
+use Rattle.json_values.proofs.ItemsRead.{with_front}
 use Rattle.scenario_reader.proofs.judge.locate_pairs.Given as goal
 
 abbrev pub invariant-loop-ends : goal.invariant-loop-ends

@@ -1,6 +1,6 @@
 use Rattle.std.proofs.Common.{◌++◌, ◌∷◌, ◌∙◌, [], ap, map, sym}
 use Rattle.std.proofs.lemmas.List.{take_all}
-use Rattle.list_laws.proofs.Changed.{map_so_far}
+use Rattle.list_law.proofs.Changed.{map_so_far}
 use Rattle.scenario_reader.specs.Rules.{turned}
 use Rattle.scenario_reader.proofs.judge.turned_each.Goals as goal
 

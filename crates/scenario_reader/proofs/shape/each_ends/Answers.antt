@@ -1,7 +1,7 @@
 use Rattle.std.proofs.Common.{ap, map, refl}
 use Rattle.serde_json.specs.View.{view}
-use Rattle.list_laws.proofs.Exits.{passed_on}
-use Rattle.item_laws.proofs.ItemsRead.{each_from-ok, each_from-start, each_from-stop, each_from-end}
+use Rattle.list_law.proofs.Exits.{passed_on}
+use Rattle.json_values.proofs.ItemsRead.{each_from-ok, each_from-start, each_from-stop, each_from-end}
 use Rattle.scenario_reader.specs.Shape.{ends_of}
 use Rattle.scenario_reader.specs.Views.{raw_ends}
 use Rattle.scenario_reader.proofs.shape.each_ends.Goals as goal

@@ -1,7 +1,7 @@
 use Rattle.std.proofs.Common.{ap}
 use Rattle.serde_json.specs.View.{view}
-use Rattle.item_laws.proofs.ItemsRead.{each_from-ok, each_from-start, each_from-stop, each_from-end}
-use Rattle.net_index.specs.Names.{texts}
+use Rattle.json_values.proofs.ItemsRead.{each_from-ok, each_from-start, each_from-stop, each_from-end}
+use Rattle.location_names.specs.Names.{texts}
 use Rattle.scenario_reader.specs.Shape.{text_of}
 use Rattle.scenario_reader.proofs.shape.each_text.Goals as goal
 

@@ -1,5 +1,5 @@
 use Rattle.std.proofs.Common.{◌<◌, ◌||◌, ◌&&◌, eqb, arith, ap, ◌∙◌}
-use Rattle.list_laws.proofs.Numbers.{next_below}
+use Rattle.list_law.proofs.Numbers.{next_below}
 use Rattle.state_simulation.proofs.Sizes.{size_then}
 use Rattle.state_simulation.proofs.apart.own_rows.Goals as goal
 

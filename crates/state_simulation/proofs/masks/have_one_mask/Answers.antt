@@ -3,7 +3,7 @@ use Rattle.std.proofs.lemmas.Bool.{eqb-true, not-false}
 use Rattle.std.proofs.lemmas.Bool.Decides.{Decides-eqb}
 use Rattle.std.proofs.lemmas.Slice.Eq.{slice_eq-Decides}
 use Rattle.std.specs.Cmp.{booleans_Decides}
-use Rattle.list_laws.proofs.Options.{option_eq-is}
+use Rattle.list_law.proofs.Options.{option_eq-is}
 use Rattle.bit_rows.specs.Tables.{row_of}
 use Rattle.state_simulation.proofs.Targeting.{one_where_heard, one_where_stepped}
 use Rattle.state_simulation.proofs.masks.have_one_mask.Goals as goal

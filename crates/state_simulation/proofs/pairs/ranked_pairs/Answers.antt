@@ -4,7 +4,7 @@ use Rattle.graph_base.specs.Graphs.{PlainGraph}
 use Rattle.relation_law.specs.Rounds.{same_place}
 use Rattle.relation_law.specs.Views.{view_of}
 use Rattle.state_simulation.specs.Targets.{is_outranked}
-use Rattle.list_laws.proofs.Numbers.{next_below}
+use Rattle.list_law.proofs.Numbers.{next_below}
 use Rattle.state_simulation.proofs.pairs.ranked_pairs.Goals as goal
 
 pub add_above-requires-clause-before : goal.add_above-requires-clause-before

@@ -1,8 +1,8 @@
 use Rattle.std.proofs.Common.{rules}
 use Rattle.policy_base.specs.Policies.{policy_of}
-use Rattle.stable_paths.specs.Scenarios.{failures_of}
-use Rattle.audit_law.proofs.Telling.{stable_is_told}
-use Rattle.audit_law.specs.Verdicts.{IsVerdict}
+use Rattle.scenarios.specs.Scenarios.{failures_of}
+use Rattle.table_audit.proofs.Telling.{stable_is_told}
+use Rattle.table_audit.specs.Verdicts.{IsVerdict}
 use Rattle.table_audit.proofs.judge.audit.Goals as goal
 
 pub returns-clause-stable : goal.returns-clause-stable

@@ -1,5 +1,5 @@
 use Rattle.std.proofs.Common.{◌≡◌, ◌<◌, ◌≤◌, Some, refl, rules}
-use Rattle.stable_paths.specs.Situations.{held_in}
+use Rattle.scenarios.specs.Situations.{held_in}
 use Rattle.table_audit.proofs.Faults.{bettered, given_by_none, not_given, settled}
 use Rattle.table_audit.proofs.judge.choice_fault.Goals as goal
 

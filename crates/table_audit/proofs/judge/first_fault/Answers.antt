@@ -1,7 +1,7 @@
 use Rattle.std.proofs.Common.{◌≡◌, rules}
 use Rattle.policy_base.specs.Policies.{policy_of}
-use Rattle.stable_paths.specs.Scenarios.{failures_of}
-use Rattle.stable_paths.proofs.Settled.{settled_more}
+use Rattle.scenarios.specs.Scenarios.{failures_of}
+use Rattle.scenarios.proofs.Settled.{settled_more}
 use Rattle.table_audit.proofs.judge.first_fault.Goals as goal
 
 pub loop-at-preserved : goal.loop-at-preserved

@@ -1,5 +1,5 @@
 use Rattle.std.proofs.Common.{◌≤◌, ◌<◌, ℕ, length}
-use Rattle.stable_paths.specs.Situations.{IsSettledIn}
+use Rattle.scenarios.specs.Situations.{IsSettledIn}
 use Rattle.table_audit.proofs.judge.first_fault.Given as goal
 
 abbrev pub invariant-loop-at : goal.invariant-loop-at

@@ -1,7 +1,7 @@
 use Rattle.std.proofs.Common.{◌≡◌, ◌+◌, ℕ, Some, length, List, ap, ◌∙◌, refl, rules, subst, sym}
 use Rattle.std.specs.Prelude.{slice_get, ◌<◌}
 use Rattle.std.proofs.lemmas.Option.{slice_get_read}
-use Rattle.stable_paths.specs.Situations.{given_in}
+use Rattle.scenarios.specs.Situations.{given_in}
 use Rattle.table_audit.specs.Tops.{IsTopUntil, Top}
 use Rattle.table_audit.proofs.TopSteps.{none_gives, one_more, top_gives_if}
 use Rattle.table_audit.proofs.top.top_giver.Goals as goal

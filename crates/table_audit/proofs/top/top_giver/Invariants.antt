@@ -1,4 +1,4 @@
-use Rattle.stable_paths.specs.Situations.{given_in}
+use Rattle.scenarios.specs.Situations.{given_in}
 use Rattle.table_audit.specs.Tops.{IsTopUntil}
 use Rattle.table_audit.proofs.top.top_giver.Given as goal
 

@@ -1,6 +1,6 @@
 use Rattle.std.proofs.Common.{◌≡◌, ℕ, ◌+◌, ◌<◌, ◌∙◌, List, Option, Err, ap, arith, drop, get_or, length, refl, sym, true, false}
 use Rattle.std.proofs.lemmas.List.{drop_all}
-use Rattle.item_laws.proofs.ItemsRead.{drop_here}
+use Rattle.json_values.proofs.ItemsRead.{drop_here}
 use Rattle.config_base.specs.declared.route.Route.{Route}
 use Rattle.table_reader.specs.declared.fault.TablesFault.TheVariants.{Holder}
 use Rattle.table_reader.specs.Rules.{at_holders, begins_at}

@@ -1,6 +1,6 @@
 use Rattle.std.proofs.Common.{arith, refl}
-use Rattle.list_laws.proofs.Exits.{passed_on}
-use Rattle.item_laws.proofs.ItemsRead.{each_from-next, each_from-start, each_from-stop, each_from-end}
+use Rattle.list_law.proofs.Exits.{passed_on}
+use Rattle.json_values.proofs.ItemsRead.{each_from-next, each_from-start, each_from-stop, each_from-end}
 use Rattle.table_reader.specs.Rules.{held_by}
 use Rattle.table_reader.specs.Views.{raw_entry}
 use Rattle.table_reader.proofs.judge.each_held.Goals as goal

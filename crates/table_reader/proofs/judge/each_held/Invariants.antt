@@ -1,6 +1,6 @@
 use Rattle.std.proofs.Common.{◌≡◌, ◌+◌, map, drop}
 use Rattle.net_base.specs.Steps.{each_from}
-use Rattle.item_laws.proofs.ItemsRead.{with_front}
+use Rattle.json_values.proofs.ItemsRead.{with_front}
 use Rattle.table_reader.specs.Rules.{held_by}
 use Rattle.table_reader.specs.Views.{raw_entry}
 use Rattle.table_reader.proofs.judge.each_held.Given as goal

@@ -1,7 +1,7 @@
 use Rattle.std.proofs.Common.{◌≡◌, ◌+◌, drop}
 use Rattle.net_base.specs.Steps.{each_from}
-use Rattle.net_index.specs.Names.{texts}
-use Rattle.item_laws.proofs.ItemsRead.{with_front}
+use Rattle.location_names.specs.Names.{texts}
+use Rattle.json_values.proofs.ItemsRead.{with_front}
 use Rattle.table_reader.specs.Rules.{located}
 use Rattle.table_reader.proofs.judge.path.Given as goal
 

@@ -1,8 +1,8 @@
 use Rattle.std.proofs.Common.{◌≡◌, ◌+◌, map, drop}
 use Rattle.serde_json.specs.View.{view}
 use Rattle.net_base.specs.Steps.{each_from}
-use Rattle.net_index.specs.Names.{texts}
-use Rattle.item_laws.proofs.ItemsRead.{with_front}
+use Rattle.location_names.specs.Names.{texts}
+use Rattle.json_values.proofs.ItemsRead.{with_front}
 use Rattle.table_reader.specs.Shape.{text_of}
 use Rattle.table_reader.proofs.shape.each_text.Given as goal
 

@@ -1,7 +1,7 @@
 use Rattle.std.proofs.Common.{◌≡◌, ◌+◌, map, drop}
 use Rattle.serde_json.specs.View.{view}
 use Rattle.net_base.specs.Steps.{each_from}
-use Rattle.item_laws.proofs.ItemsRead.{with_front}
+use Rattle.json_values.proofs.ItemsRead.{with_front}
 use Rattle.table_reader.specs.Shape.{entry_of}
 use Rattle.table_reader.specs.Views.{raw_entry}
 use Rattle.table_reader.proofs.shape.entries.Given as goal

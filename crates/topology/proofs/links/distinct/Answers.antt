@@ -1,7 +1,7 @@
 use Rattle.std.proofs.Common.{◌≡◌, ◌∙◌, sym, take, true, false, arith}
 use Rattle.std.specs.List.{list_any}
 use Rattle.std.proofs.lemmas.Bool.{not-false, not-true}
-use Rattle.list_laws.proofs.Tests.{find-any, find-none}
+use Rattle.list_law.proofs.Tests.{find-any, find-none}
 use Rattle.topology.specs.declared.fault.TopoFault.TheVariants.{LinkTwice}
 use Rattle.net_base.specs.Network.{same_ends}
 use Rattle.topology.specs.Rules.{links_differ}

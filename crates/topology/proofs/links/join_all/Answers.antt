@@ -2,8 +2,8 @@ use Rattle.std.proofs.Common.{arith, length, length-append, refl, ap, ◌∙◌}
 use Rattle.std.proofs.lemmas.List.{get_or_default}
 use Rattle.topology.specs.Rules.{joined}
 use Rattle.topology.specs.Views.{raw_ends, texts}
-use Rattle.list_laws.proofs.Exits.{passed_on}
-use Rattle.item_laws.proofs.ItemsRead.{each_from-start, each_from-next, each_from-stop, each_from-end}
+use Rattle.list_law.proofs.Exits.{passed_on}
+use Rattle.json_values.proofs.ItemsRead.{each_from-start, each_from-next, each_from-stop, each_from-end}
 use Rattle.topology.proofs.links.join_all.Goals as goal
 
 pub loop-entry-init : goal.loop-entry-init

@@ -2,7 +2,7 @@ use Rattle.std.proofs.Common.{◌≡◌, ◌+◌, length, map, drop}
 use Rattle.net_base.specs.Steps.{each_from}
 use Rattle.topology.specs.Rules.{joined}
 use Rattle.topology.specs.Views.{raw_ends, texts}
-use Rattle.item_laws.proofs.ItemsRead.{with_front}
+use Rattle.json_values.proofs.ItemsRead.{with_front}
 use Rattle.topology.proofs.links.join_all.Given as goal
 
 abbrev pub invariant-loop-entry : goal.invariant-loop-entry

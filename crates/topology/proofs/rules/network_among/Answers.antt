@@ -4,7 +4,7 @@ use Rattle.topology.specs.declared.fault.TopoFault.TheVariants.{NoMemory}
 use Rattle.topology.specs.Rules.{network_of, links_of, names_of}
 use Rattle.topology.specs.Views.{named_entry, raw_ends}
 use Rattle.topology.proofs.Networks.{network_of-links}
-use Rattle.list_laws.proofs.Exits.{passed_on}
+use Rattle.list_law.proofs.Exits.{passed_on}
 use Rattle.topology.proofs.rules.network_among.Goals as goal
 
 pub returns-in_err-sites : goal.returns-in_err-sites

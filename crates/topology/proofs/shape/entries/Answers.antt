@@ -2,8 +2,8 @@ use Rattle.std.proofs.Common.{ap, map, refl}
 use Rattle.serde_json.specs.View.{view}
 use Rattle.topology.specs.Shape.{each, entry_of}
 use Rattle.topology.specs.Views.{raw_entry}
-use Rattle.list_laws.proofs.Exits.{passed_on}
-use Rattle.item_laws.proofs.ItemsRead.{each_from-start, each_from-ok, each_from-stop, each_from-end}
+use Rattle.list_law.proofs.Exits.{passed_on}
+use Rattle.json_values.proofs.ItemsRead.{each_from-start, each_from-ok, each_from-stop, each_from-end}
 use Rattle.topology.proofs.shape.entries.Goals as goal
 
 pub loop-value-init : goal.loop-value-init

@@ -3,7 +3,7 @@ use Rattle.serde_json.specs.View.{view}
 use Rattle.net_base.specs.Steps.{each_from}
 use Rattle.topology.specs.Shape.{entry_of}
 use Rattle.topology.specs.Views.{raw_entry}
-use Rattle.item_laws.proofs.ItemsRead.{with_front}
+use Rattle.json_values.proofs.ItemsRead.{with_front}
 use Rattle.topology.proofs.shape.entries.Given as goal
 
 abbrev pub invariant-loop-value : goal.invariant-loop-value

@@ -3,7 +3,7 @@ use Rattle.serde_json.specs.View.{view}
 use Rattle.net_base.specs.Steps.{each_from}
 use Rattle.topology.specs.Shape.{ends_of}
 use Rattle.topology.specs.Views.{raw_ends}
-use Rattle.item_laws.proofs.ItemsRead.{with_front}
+use Rattle.json_values.proofs.ItemsRead.{with_front}
 use Rattle.topology.proofs.shape.links.Given as goal
 
 abbrev pub invariant-loop-value : goal.invariant-loop-value

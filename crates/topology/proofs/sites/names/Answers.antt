@@ -3,8 +3,8 @@ use Rattle.std.specs.List.{list_any}
 use Rattle.std.specs.Str.{bytes_eq}
 use Rattle.std.proofs.lemmas.List.{map-append}
 use Rattle.std.proofs.lemmas.Bool.{not-false, not-true}
-use Rattle.list_laws.proofs.Changed.{map_so_far}
-use Rattle.list_laws.proofs.Tests.{find-any, find-none}
+use Rattle.list_law.proofs.Changed.{map_so_far}
+use Rattle.list_law.proofs.Tests.{find-any, find-none}
 use Rattle.topology.specs.declared.fault.TopoFault.TheVariants.{Twice}
 use Rattle.topology.specs.Rules.{names_differ, names_of, same_name}
 use Rattle.topology.specs.Shape.{Entry}

@@ -3,7 +3,7 @@ use Rattle.std.specs.List.{list_any}
 use Rattle.std.specs.Str.{bytes_eq}
 use Rattle.std.proofs.lemmas.Bool.{cond-false, not-true}
 use Rattle.std.proofs.lemmas.List.{map-append}
-use Rattle.list_laws.proofs.Tests.{list_any-map}
+use Rattle.list_law.proofs.Tests.{list_any-map}
 use Rattle.topology.specs.Views.{texts}
 use Rattle.topology.proofs.sites.note.Goals as goal
 

@@ -2,8 +2,8 @@ use Rattle.std.proofs.Common.{refl}
 use Rattle.topology.specs.Rules.{site_of}
 use Rattle.topology.specs.Shape.{each}
 use Rattle.topology.specs.Views.{named_entry}
-use Rattle.list_laws.proofs.Exits.{passed_on}
-use Rattle.item_laws.proofs.ItemsRead.{each_from-start, each_from-next, each_from-stop, each_from-end}
+use Rattle.list_law.proofs.Exits.{passed_on}
+use Rattle.json_values.proofs.ItemsRead.{each_from-start, each_from-next, each_from-stop, each_from-end}
 use Rattle.topology.proofs.sites.sites.Goals as goal
 
 pub loop-entry-init : goal.loop-entry-init

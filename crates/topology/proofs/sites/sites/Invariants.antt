@@ -2,7 +2,7 @@ use Rattle.std.proofs.Common.{◌≡◌, ◌+◌, map, drop}
 use Rattle.net_base.specs.Steps.{each_from}
 use Rattle.topology.specs.Rules.{site_of}
 use Rattle.topology.specs.Views.{named_entry}
-use Rattle.item_laws.proofs.ItemsRead.{with_front}
+use Rattle.json_values.proofs.ItemsRead.{with_front}
 use Rattle.topology.proofs.sites.sites.Given as goal
 
 abbrev pub invariant-loop-entry : goal.invariant-loop-entry

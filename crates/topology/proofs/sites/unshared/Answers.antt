@@ -2,8 +2,8 @@ use Rattle.std.proofs.lemmas.List.{drop_all, map-append}
 use Rattle.std.proofs.Common.{◌≡◌, ◌∙◌, [], ◌∷◌, ap, sym, map, take, Some, None, false}
 use Rattle.std.specs.Prelude.{nat_eq}
 use Rattle.std.specs.List.{list_any, position}
-use Rattle.list_laws.proofs.Positions.{find-earlier, find-no_position, list_any-no_position, position-map}
-use Rattle.list_laws.proofs.Changed.{map_so_far}
+use Rattle.list_law.proofs.Positions.{find-earlier, find-no_position, list_any-no_position, position-map}
+use Rattle.list_law.proofs.Changed.{map_so_far}
 use Rattle.topology.specs.Rules.{number, numbers_differ, same_number, shared}
 use Rattle.topology.specs.Views.{named_entry}
 use Rattle.topology.proofs.Unlike.{alike, unlike}

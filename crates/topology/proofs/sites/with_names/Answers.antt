@@ -2,8 +2,8 @@ use Rattle.std.proofs.Common.{arith, map, length, length-append, refl, ap, â—Œâˆ
 use Rattle.std.proofs.lemmas.List.{get_or_default}
 use Rattle.topology.specs.Rules.{named}
 use Rattle.topology.specs.Views.{raw_entry, named_entry}
-use Rattle.list_laws.proofs.Exits.{passed_on}
-use Rattle.item_laws.proofs.ItemsRead.{each_from-start, each_from-ok, each_from-stop, each_from-end}
+use Rattle.list_law.proofs.Exits.{passed_on}
+use Rattle.json_values.proofs.ItemsRead.{each_from-start, each_from-ok, each_from-stop, each_from-end}
 use Rattle.topology.proofs.sites.with_names.Goals as goal
 
 pub loop-entry-init : goal.loop-entry-init

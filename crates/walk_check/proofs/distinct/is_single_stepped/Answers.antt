@@ -2,7 +2,7 @@ use Rattle.std.proofs.Common.{◌≡◌, ◌∙◌, Bool, Ok, Err, Result, map, 
 use Rattle.std.specs.List.{IsDistinct}
 use Rattle.std.specs.Prelude.{◌↔◌, IfOk, IsTrue}
 use Rattle.std.proofs.lemmas.Bool.{false≢true}
-use Rattle.outside.specs.declared.no_memory.NoMemory.{NoMemory}
+use Rattle.input_output.specs.declared.no_memory.NoMemory.{NoMemory}
 use Rattle.graph_base.specs.Rules.{same_pair}
 use Rattle.walk_check.specs.Alike.{IsSingleStepped}
 use Rattle.walk_check.proofs.FormedParts.{start_key, starts_differ, step_key}

@@ -2,7 +2,7 @@ use Rattle.std.proofs.Common.{◌≡◌, ◌++◌, List, ap, sym, ◌∙◌, sub
 use Rattle.std.specs.List.{IsDistinct}
 use Rattle.node_classes.specs.declared.way.Way.{Way}
 use Rattle.node_classes.specs.Ways.{same_pair, stand}
-use Rattle.list_laws.specs.Members.{IsIn}
+use Rattle.list_law.specs.Members.{IsIn}
 use Rattle.walk_check.specs.WaysOf.{step_way}
 use Rattle.walk_check.proofs.Laid.{gathered, laid, laid_differ, laid_from, laid_has}
 use Rattle.walk_check.proofs.OneWay.{ends_within}

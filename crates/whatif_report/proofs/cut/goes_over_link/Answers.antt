@@ -2,7 +2,7 @@ use Rattle.std.proofs.Common.{◌-◌, drop, arith, sym, ◌∙◌, false, lengt
 use Rattle.net_base.specs.Network.{joins}
 use Rattle.policy_base.specs.Meaning.{some_step}
 use Rattle.policy_base.proofs.PlaceLemmas.{some_step-next, some_step_short}
-use Rattle.list_laws.proofs.Items.{pairs_next}
+use Rattle.list_law.proofs.Items.{pairs_next}
 use Rattle.whatif_report.proofs.cut.goes_over_link.Goals as goal
 
 pub loop-i-preserved : goal.loop-i-preserved

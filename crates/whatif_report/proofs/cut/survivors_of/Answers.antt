@@ -1,4 +1,4 @@
-use Rattle.stable_paths.specs.Scenarios.{failures_of}
+use Rattle.scenarios.specs.Scenarios.{failures_of}
 use Rattle.impact_law.specs.Cuts.{with_cut}
 use Rattle.whatif_report.proofs.Besides.{same_survivors}
 use Rattle.whatif_report.proofs.cut.survivors_of.Goals as goal

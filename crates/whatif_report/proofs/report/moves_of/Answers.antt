@@ -1,9 +1,9 @@
 use Rattle.std.proofs.Common.{◌+◌, ◌∷◌, [], ◌++◌, ℕ, List, length, refl, sym, ap₂, ◌∙◌, subst}
 use Rattle.std.proofs.lemmas.List.{take_all}
 use Rattle.std.proofs.lemmas.Option.{slice_get_read}
-use Rattle.list_laws.proofs.Changed.{map_so_far}
+use Rattle.list_law.proofs.Changed.{map_so_far}
 use Rattle.policy_base.specs.Policies.{policy_of}
-use Rattle.stable_paths.specs.Scenarios.{failures_of}
+use Rattle.scenarios.specs.Scenarios.{failures_of}
 use Rattle.impact_law.specs.Moves.{moved}
 use Rattle.impact_law.specs.declared.impact.CutRow.{CutRow}
 use Rattle.whatif_report.specs.Cutting.{AreMoves}

@@ -2,7 +2,7 @@ use Rattle.std.proofs.Common.{take}
 use Rattle.policy_base.specs.Policies.{policy_of}
 use Rattle.config_base.specs.Configs.{PlainConfig}
 use Rattle.evidence_law.specs.Passes.{Passes}
-use Rattle.stable_paths.specs.Scenarios.{failures_of}
+use Rattle.scenarios.specs.Scenarios.{failures_of}
 use Rattle.whatif_report.specs.Cutting.{AreMoves}
 use Rattle.whatif_report.proofs.report.moves_of.Given as goal
 

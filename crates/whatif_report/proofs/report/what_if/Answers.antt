@@ -1,13 +1,13 @@
 use Rattle.std.proofs.Common.{◌≡◌, ℕ, List, length, map, sym, ap, ◌∙◌, subst}
-use Rattle.list_laws.specs.Members.{IsIn}
-use Rattle.list_laws.proofs.Changed.{map-map}
+use Rattle.list_law.specs.Members.{IsIn}
+use Rattle.list_law.proofs.Changed.{map-map}
 use Rattle.policy_base.specs.Policies.{policy_of}
 use Rattle.outcome_base.specs.Outcomes.{Outcome}
 use Rattle.settled_law.specs.Settled.{IsFullyStable}
 use Rattle.settled_law.proofs.SettledLaw.{settled_outcomes_exist}
-use Rattle.stable_paths.specs.Scenarios.{failures_of}
+use Rattle.scenarios.specs.Scenarios.{failures_of}
 use Rattle.impact_law.specs.Cuts.{with_cut}
-use Rattle.impact_law.specs.Moves.{IsSettled, moved}
+use Rattle.impact_law.specs.Moves.{IsSettledOutcome, moved}
 use Rattle.impact_law.specs.declared.impact.Cut.{Cut}
 use Rattle.impact_law.specs.declared.impact.CutRow.{CutRow}
 use Rattle.impact_law.proofs.OneImpact.{rows_are_of_live_cuts}
@@ -30,7 +30,7 @@ returns c = λ config passes.
     let rest : (cut : Cut) → (o : Outcome) × (length o ≡ length net.routers) × IsFullyStable net policy config (with_cut cut f) p o =
     λ cut. settled_outcomes_exist net policy config c.args.evidence.now.cases c.known_net.ensures c.requires.fits passes p (with_cut cut f) c.known_prefix.ensures in
     let after : Cut → Outcome = λ cut. (rest cut).0 in
-    let resettled : (cut : Cut) → IsSettled net policy config (with_cut cut f) p (after cut) = λ cut. record { size = (rest cut).1; stable = (rest cut).2 } in
+    let resettled : (cut : Cut) → IsSettledOutcome net policy config (with_cut cut f) p (after cut) = λ cut. record { size = (rest cut).1; stable = (rest cut).2 } in
     let Of : Cut → ℕ = λ (cut : Cut). moved net cut before (after cut) in
     record {
       impact = c.in_ok-impact.ensures;

@@ -2,7 +2,7 @@ use Rattle.std.proofs.Common.{◌*◌, ℕ, List, length, arith, ap, sym, ◌∙
 use Rattle.std.specs.List.{count_by, range_with_len}
 use Rattle.bit_rows.specs.Bits.{has}
 use Rattle.bit_rows.specs.Tables.{has_at}
-use Rattle.list_laws.proofs.Counts.{count_to}
+use Rattle.list_law.proofs.Counts.{count_to}
 use Rattle.bit_rows.proofs.rows.Rows.count.Goals as goal
 
 pub count_bits-requires : goal.count_bits-requires

@@ -1,6 +1,6 @@
 use Rattle.std.proofs.Common.{◌∙◌, sym}
 use Rattle.std.specs.Str.{bytes_eq}
-use Rattle.list_laws.proofs.Tests.{list_any-map}
+use Rattle.list_law.proofs.Tests.{list_any-map}
 use Rattle.config_reader.proofs.names.Names.contains.Goals as goal
 
 pub returns : goal.returns

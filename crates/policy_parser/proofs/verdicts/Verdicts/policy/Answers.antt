@@ -1,4 +1,4 @@
-use Rattle.list_laws.proofs.Exits.{passed_on}
+use Rattle.list_law.proofs.Exits.{passed_on}
 use Rattle.policy_parser.proofs.SoFarItems.{fault_gives, policy_gives, policy_kept}
 use Rattle.policy_parser.proofs.verdicts.Verdicts.policy.Goals as goal
 

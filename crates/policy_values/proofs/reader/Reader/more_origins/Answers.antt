@@ -1,5 +1,5 @@
 use Rattle.std.proofs.Common.{refl, arith}
-use Rattle.list_laws.proofs.Exits.{passed_on}
+use Rattle.list_law.proofs.Exits.{passed_on}
 use Rattle.policy_values.proofs.Chains.{goes_on, stops, ends}
 use Rattle.policy_values.proofs.reader.Reader.more_origins.Goals as goal
 

@@ -1,5 +1,5 @@
 use Rattle.std.proofs.Common.{◌≡◌, ◌+◌, refl, ap, arith}
-use Rattle.list_laws.proofs.Exits.{passed_on}
+use Rattle.list_law.proofs.Exits.{passed_on}
 use Rattle.net_base.proofs.StepLemmas.{ok_same}
 use Rattle.policy_values.specs.CallReaders.{PlacesValue, plain_places, with_place}
 use Rattle.policy_values.proofs.Chains.{goes_on, stops, ends}

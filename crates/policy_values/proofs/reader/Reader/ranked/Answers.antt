@@ -1,4 +1,4 @@
-use Rattle.list_laws.proofs.Exits.{passed_on}
+use Rattle.list_law.proofs.Exits.{passed_on}
 use Rattle.policy_tokens.specs.declared.limits.TheConstants.{BRACKETS}
 use Rattle.policy_grammar.specs.Left.{left}
 use Rattle.policy_rules.specs.KnownView.{plain_names}

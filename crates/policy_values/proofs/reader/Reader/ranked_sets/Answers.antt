@@ -1,5 +1,5 @@
 use Rattle.std.proofs.Common.{Option, refl, ap, sym}
-use Rattle.list_laws.proofs.Exits.{passed_on}
+use Rattle.list_law.proofs.Exits.{passed_on}
 use Rattle.net_base.specs.declared.place.Place.{Place}
 use Rattle.policy_rules.specs.KnownView.{plain_names}
 use Rattle.policy_values.specs.CallReaders.{sets_value, placeless, plain_sets}

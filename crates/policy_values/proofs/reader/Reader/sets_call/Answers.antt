@@ -1,4 +1,4 @@
-use Rattle.list_laws.proofs.Exits.{passed_on}
+use Rattle.list_law.proofs.Exits.{passed_on}
 use Rattle.policy_values.specs.Parts.{parts_value}
 use Rattle.policy_values.proofs.CallLaws.{taken_err, taken_ok}
 use Rattle.policy_values.proofs.reader.Reader.sets_call.Goals as goal

@@ -1,8 +1,0 @@
-use Rattle.announce_law.proofs.Peers.{origins_alone_are_taken, origins_are_told_nothing}
-use Rattle.announce_law.proofs.origins_have_lines.Goals as goal
-
-pub returns-clause-taken : goal.returns-clause-taken
-returns-clause-taken c = origins_alone_are_taken
-
-pub returns-clause-sent : goal.returns-clause-sent
-returns-clause-sent c = origins_are_told_nothing

@@ -1,5 +1,0 @@
-use Rattle.announce_law.proofs.Withstanding.{passing_evidence_withstands_peers}
-use Rattle.announce_law.proofs.passing_evidence_withstands_peers.Goals as goal
-
-pub returns : goal.returns
-returns c = passing_evidence_withstands_peers

@@ -1,2 +1,0 @@
-pub mod AuditLaws
-pub mod Audits

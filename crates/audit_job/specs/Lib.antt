@@ -1,4 +1,0 @@
-pub mod Asked
-pub mod Audited
-pub mod Audits
-pub mod VerdictLines

@@ -1,9 +1,0 @@
-use Rattle.claim_texts.proofs.OneMeaning.{one_meaning}
-use Rattle.claim_texts.proofs.Policies.{read_policies_are_meant}
-use Rattle.claim_texts.proofs.policies_mean_what_is_read.Goals as goal
-
-pub returns-clause-only : goal.returns-clause-only
-returns-clause-only c = read_policies_are_meant
-
-pub returns-clause-one : goal.returns-clause-one
-returns-clause-one c = one_meaning

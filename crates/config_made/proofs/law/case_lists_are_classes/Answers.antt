@@ -1,5 +1,0 @@
-use Rattle.config_made.proofs.CaseClasses.{case_lists}
-use Rattle.config_made.proofs.law.case_lists_are_classes.Goals as goal
-
-pub returns : goal.returns
-returns c = case_lists

@@ -1,5 +1,0 @@
-use Rattle.config_made.proofs.Possible.{configuration}
-use Rattle.config_made.proofs.law.configurations_can_be_made.Goals as goal
-
-pub returns : goal.returns
-returns c = configuration

@@ -1,0 +1,13 @@
+pub mod Ascending
+pub mod InOrder
+pub mod Buckets
+pub mod CaseClasses
+pub mod Finish
+pub mod Gathering
+pub mod Made
+pub mod Reached
+pub mod Runs
+pub mod Settling
+pub mod Whole
+pub mod OneConfiguration
+pub mod Possible

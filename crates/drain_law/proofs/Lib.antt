@@ -1,4 +1,0 @@
-pub mod Cutting
-pub mod Keeping
-pub mod Moving
-pub mod Freeing

@@ -1,8 +1,0 @@
-use Rattle.std.proofs.Common.{sym, ap, ◌∙◌, arith}
-use Rattle.graph_settling.specs.Best.{entry_at}
-use Rattle.graph_settling.proofs.best.greatest_numbers.Goals as goal
-
-pub numbers_wanted-requires-clause-nodes : goal.numbers_wanted-requires-clause-nodes
-numbers_wanted-requires-clause-nodes c = λ l n e.
-    let old = c.in_ok-best.ensures.here l n (sym (ap (λ xs. entry_at xs l) c.deref-2.ensures.value) ∙ e) in
-    omega (arith, old.0, c.requires.numbers)

@@ -1,5 +1,0 @@
-use Rattle.graph_settling.proofs.Opening.{IsOpeningTo}
-use Rattle.graph_settling.proofs.fronts.opening.Given as goal
-
-abbrev pub invariant-loop-start : goal.invariant-loop-start
-invariant-loop-start l = IsOpeningTo l.graph l.start-index l.routes.items

@@ -1,2 +1,0 @@
-pub mod ImpactLaws
-mod Nothing

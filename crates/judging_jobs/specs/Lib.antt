@@ -1,0 +1,11 @@
+pub mod Checked
+pub mod VerdictLines
+pub mod Asked
+pub mod Audited
+pub mod Audits
+pub mod AuditLines
+pub mod Migrated
+pub mod Lines
+pub mod Linted
+pub mod MapsJobs
+pub mod MapsSaid

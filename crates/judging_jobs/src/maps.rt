@@ -1,0 +1,23 @@
+//! The maps of a configuration.
+ghost use Rattle.judging_jobs.specs.MapsJobs.{AreMapsOr};
+
+use crate::map_said::too_many_lines_line;
+use config_base::Config;
+use map_maker::{MapsRefusal, maps_of};
+use route_maps::Maps;
+use run_base::{Status, Stop};
+use std::alloc::Global;
+
+/// The maps of a configuration, or why the run stops: their text would have too many lines.
+pub fn maps_of_config(alloc: Global, config: &Config) -> Result<Maps, Stop>
+    ensures { AreMapsOr config.now result }
+{
+    match maps_of(alloc, config) {
+        Ok(maps) => Ok(maps),
+        Err(MapsRefusal::NoMemory) => Err(Stop::NoMemory),
+        Err(MapsRefusal::TooManyLines(number)) => {
+            let line = too_many_lines_line(alloc, number)?;
+            Err(Stop::Line(Status::Refused, line))
+        }
+    }
+}

@@ -1,6 +1,0 @@
-pub mod CutLines
-pub mod FedLines
-pub mod FirstFaults
-pub mod LineByLine
-pub mod Runs
-pub mod WholeLines

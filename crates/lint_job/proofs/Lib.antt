@@ -1,2 +1,0 @@
-pub mod LintLaws
-pub mod Showing

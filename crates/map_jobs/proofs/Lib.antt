@@ -1,3 +1,0 @@
-mod MapJobLaws
-pub mod CheckMapLaws
-pub mod RouteMapLaws

@@ -1,2 +1,0 @@
-pub mod MapsJobs
-pub mod MapsSaid

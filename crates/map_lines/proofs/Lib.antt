@@ -1,6 +1,0 @@
-pub mod Entries
-pub mod LongMapLines
-pub mod MapForms
-pub mod MapJoined
-pub mod MapWritten
-pub mod OtherMapLengths

@@ -1,6 +1,0 @@
-use Rattle.std.proofs.Common.{sym}
-use Rattle.map_lines.proofs.LongMapLines.{long_line}
-use Rattle.map_lines.proofs.read.read_map_line.Goals as goal
-
-pub returns-in-None : goal.returns-in-None
-returns-in-None c = sym (long_line c.args.lists _ c.in-None.ensures.none)

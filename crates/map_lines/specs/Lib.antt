@@ -1,2 +1,0 @@
-pub mod MapLineText
-pub mod MapLines

@@ -1,8 +1,0 @@
-use Rattle.std.proofs.Common.{◌≡◌, take, min}
-use Rattle.std.specs.Prelude.{sum_by}
-use Rattle.maps_made.specs.Counts.{lines_of_session}
-use Rattle.maps_made.specs.Earlier.{top}
-use Rattle.maps_made.proofs.counts.sessions_lines.Given as goal
-
-abbrev pub invariant-loop-session : goal.invariant-loop-session
-invariant-loop-session l = l.total ≡ min (sum_by lines_of_session (take l.session-index l.sessions)) top

@@ -1,9 +1,0 @@
-use Rattle.std.proofs.Common.{◌≡◌, ℕ, take}
-use Rattle.std.specs.Prelude.{◌||◌}
-use Rattle.std.specs.List.{list_any}
-use Rattle.maps_made.specs.Keys.{has}
-use Rattle.maps_made.specs.Earlier.{is_at}
-use Rattle.maps_made.proofs.earlier.push_places.Given as goal
-
-abbrev pub invariant-loop-entry : goal.invariant-loop-entry
-invariant-loop-entry l = (j : ℕ) → has l.places.items j ≡ (has l.initial.places.items j || list_any (is_at j) (take l.entry-index l.entries))

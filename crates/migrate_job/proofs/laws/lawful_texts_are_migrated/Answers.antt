@@ -1,8 +1,0 @@
-use Rattle.migrate_job.proofs.MigrateLaws.{is_migrated, migrates}
-use Rattle.migrate_job.proofs.laws.lawful_texts_are_migrated.Goals as goal
-
-pub returns-clause-only : goal.returns-clause-only
-returns-clause-only c = is_migrated
-
-pub returns-clause-all : goal.returns-clause-all
-returns-clause-all c = migrates

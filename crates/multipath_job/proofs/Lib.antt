@@ -1,2 +1,0 @@
-pub mod MultipathLaws
-pub mod Situated

@@ -1,8 +1,0 @@
-use Rattle.std.proofs.Common.{◌≡◌, map, take}
-use Rattle.net_base.specs.declared.net.Site.{Site}
-use Rattle.net_base.specs.Network.{sites}
-use Rattle.net_index.specs.Names.{texts}
-use Rattle.net_index.proofs.names.names.Given as goal
-
-abbrev pub invariant-loop-place : goal.invariant-loop-place
-invariant-loop-place l = texts l.names.keys ≡ map (λ (s : Site). s.name) (take l.place (sites l.net))

@@ -1,4 +1,0 @@
-use Rattle.pattern_cover.proofs.covered.+is_covered_below.Given as goal
-
-abbrev pub decreases-is_covered_below : goal.decreases-is_covered_below
-decreases-is_covered_below l = l.more

@@ -1,4 +1,0 @@
-use Rattle.pattern_cover.proofs.table.PatternTable.+covers_below.Given as goal
-
-abbrev pub decreases-covers_below : goal.decreases-covers_below
-decreases-covers_below l = l.more

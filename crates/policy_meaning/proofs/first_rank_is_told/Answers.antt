@@ -1,5 +1,0 @@
-use Rattle.policy_meaning.proofs.RankMarks.{first_rank_told}
-use Rattle.policy_meaning.proofs.first_rank_is_told.Goals as goal
-
-pub returns : goal.returns
-returns c = first_rank_told

@@ -1,5 +1,0 @@
-use Rattle.policy_meaning.proofs.HeldNames.{names_held}
-use Rattle.policy_meaning.proofs.lists_hold_their_names.Goals as goal
-
-pub returns : goal.returns
-returns c = names_held

@@ -1,5 +1,0 @@
-use Rattle.policy_meaning.proofs.Places.{policies_in_order}
-use Rattle.policy_meaning.proofs.places_are_in_order.Goals as goal
-
-pub returns : goal.returns
-returns c = policies_in_order

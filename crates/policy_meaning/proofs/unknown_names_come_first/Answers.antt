@@ -1,5 +1,0 @@
-use Rattle.std.proofs.Common.{refl}
-use Rattle.policy_meaning.proofs.unknown_names_come_first.Goals as goal
-
-pub returns : goal.returns
-returns c net bytes items p others e = rw e refl

@@ -1,9 +1,0 @@
-pub mod Forms
-pub mod ReadForms
-pub mod Sets
-pub mod Names
-pub mod Calls
-pub mod Expressions
-pub mod Statements
-pub mod ReadPolicies
-pub mod Counterexamples

@@ -1,5 +1,0 @@
-use Rattle.printing_law.proofs.ReadPolicies.{read_printable, nets_have_names}
-use Rattle.printing_law.proofs.policies_that_are_read_are_printable.Goals as goal
-
-pub returns : goal.returns
-returns c = record { policies = read_printable; names = nets_have_names }

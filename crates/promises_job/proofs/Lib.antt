@@ -1,3 +1,0 @@
-pub mod PromisesLaws
-mod Telling
-mod OneText

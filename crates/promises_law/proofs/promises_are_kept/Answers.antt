@@ -1,5 +1,0 @@
-use Rattle.promises_law.proofs.Keeping.{promises_are_kept}
-use Rattle.promises_law.proofs.promises_are_kept.Goals as goal
-
-pub returns : goal.returns
-returns c = promises_are_kept

@@ -1,0 +1,21 @@
+//! What a policy promises for each of its cases while nothing has failed: laws without code.
+ghost use Rattle.promises_report.specs.Laws.{ClaimedSourcesHaveRanks, PromisesAreKept, TopsTellPromises};
+
+/// Where the evidence passes, the node with the greatest number at a router tells what is promised for the router and for its
+/// sessions, and permitted walks pass exactly the routers at which a node stands.
+pub fn tops_tell_promises()
+    ensures { TopsTellPromises }
+{}
+
+/// What is promised for a case is kept for every prefix of it: the sources that are claimed for the prefix are those with a rank, and
+/// in the settled outcome without failures each of them has it. But for origins exactly the routers that permitted walks pass hold a
+/// route there.
+pub fn promises_are_kept()
+    ensures { PromisesAreKept }
+{}
+
+/// While nothing has failed every claimed source has an allowed path: a shortest permitted walk may pass a location twice, but then
+/// the rules of numbers give an allowed path of no worse a rank.
+pub fn claimed_sources_have_ranks()
+    ensures { ClaimedSourcesHaveRanks }
+{}

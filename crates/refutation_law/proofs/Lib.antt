@@ -1,5 +1,0 @@
-pub mod Refuted
-pub mod Chains
-pub mod Falling
-pub mod OneRefutation
-pub mod Resting

@@ -1,0 +1,23 @@
+use Rattle.std.proofs.Common.{List, inl, inr, refl, subst, sym}
+use Rattle.policy_base.specs.Policies.{policy_of}
+use Rattle.evidence_base.specs.Made.{PlainCaseEvidence}
+use Rattle.promises_report.specs.Written.{HaveOneStep, IsTextOf}
+use Rattle.report_jobs.proofs.Telling.{one_step, promised}
+use Rattle.report_jobs.proofs.promises.promised_text.Goals as goal
+
+pub promises_text-requires : goal.promises_text-requires
+promises_text-requires c =
+    let made = c.in_ok-evidence.ensures in
+    subst (λ (ds : List PlainCaseEvidence). HaveOneStep ds) (sym c.as_slice-cases.ensures)
+    (one_step c.args.net.now (policy_of c.args.policy.now) made.0 c.in_ok-evidence.evidence.cases c.known_net.ensures c.requires.fits made.2)
+
+pub returns : goal.returns
+returns c =
+    let net = c.args.net.now in
+    let policy = policy_of c.args.policy.now in
+    let made = c.in_ok-evidence.ensures in
+    let cases = c.in_ok-evidence.evidence.cases in
+    let bytes = c.in_ok-promises_text.field-0.items in
+    let text = subst (λ (ds : List PlainCaseEvidence). IsTextOf net policy ds bytes) c.as_slice-cases.ensures c.in_ok-promises_text.ensures in
+    let is = promised net policy made.0 cases c.known_net.ensures c.requires.fits made.2 bytes text in
+    inr (inl (made.0, cases, bytes, (made.1, made.2), is, refl))

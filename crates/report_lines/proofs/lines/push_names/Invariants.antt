@@ -1,7 +1,0 @@
-use Rattle.std.proofs.Common.{◌≡◌, ◌++◌, take}
-use Rattle.std.specs.List.{flat_map}
-use Rattle.report_lines.specs.Lines.{next_name}
-use Rattle.report_lines.proofs.lines.push_names.Given as goal
-
-abbrev pub invariant-loop-at : goal.invariant-loop-at
-invariant-loop-at l = l.text.items ≡ l.initial.text.items ++ flat_map (next_name l.net) (take l.at-index l.path)

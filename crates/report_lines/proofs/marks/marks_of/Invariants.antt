@@ -1,6 +1,0 @@
-use Rattle.std.proofs.Common.{take}
-use Rattle.report_lines.specs.Marks.{AreMarks}
-use Rattle.report_lines.proofs.marks.marks_of.Given as goal
-
-abbrev pub invariant-loop-pair : goal.invariant-loop-pair
-invariant-loop-pair l = AreMarks l.net (take l.pair-index l.pairs) l.marks.items

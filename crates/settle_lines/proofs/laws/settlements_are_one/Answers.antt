@@ -1,5 +1,0 @@
-use Rattle.settle_lines.proofs.OneSettlement.{one_settlement}
-use Rattle.settle_lines.proofs.laws.settlements_are_one.Goals as goal
-
-pub returns : goal.returns
-returns c = one_settlement

@@ -1,7 +1,0 @@
-//! What settlements are: a law without code.
-ghost use Rattle.settle_lines.specs.Laws.{SettlementsAreOne};
-
-/// One text tells how a network settles after some events.
-pub fn settlements_are_one()
-    ensures { SettlementsAreOne }
-{}

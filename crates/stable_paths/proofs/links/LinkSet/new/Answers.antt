@@ -1,5 +1,0 @@
-use Rattle.stable_paths.proofs.LinkMarks.{none_marked}
-use Rattle.stable_paths.proofs.links.LinkSet.new.Goals as goal
-
-pub returns : goal.returns
-returns c = λ net a b. none_marked net 8192 a b

@@ -1,9 +1,0 @@
-use Rattle.std.proofs.Common.{◌≤◌, ◌<◌, ℕ, length}
-use Rattle.stable_paths.specs.Situations.{IsSettledIn}
-use Rattle.stable_paths.proofs.situation.Situation.are_settled.Given as goal
-
-abbrev pub invariant-loop-at : goal.invariant-loop-at
-invariant-loop-at l = record {
-  few : length l.self.net.now.routers ≤ 512;
-  before : (r : ℕ) → r < l.at → IsSettledIn l.self r;
-}

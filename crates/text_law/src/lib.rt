@@ -1,0 +1,20 @@
+//! What the texts of the claim mean, in the fewest words.
+//!
+//! There is no code here. `specs/PolicyText` says what a policy text means: one grammar, in each rule of which the value
+//! stands beside what is written. `specs/ConfigText` says which bytes are the text of a configuration. Each function below
+//! is the proof of the law in its contract: that what is read means this, and that what is written is this text.
+#![tactic(auto)]
+
+ghost use Rattle.text_law.specs.Laws.{ReadPoliciesAreMeant, TextsMeanOne, SpellingsAreTexts, TextsAreOfOne};
+
+/// A text that is read as a policy means this policy, and no text means two.
+pub fn policies_mean_what_is_read()
+    ensures only { ReadPoliciesAreMeant }
+    ensures one { TextsMeanOne }
+{}
+
+/// A text that spells a configuration is its text, and that of no other.
+pub fn configurations_have_their_text()
+    ensures only { SpellingsAreTexts }
+    ensures one { TextsAreOfOne }
+{}

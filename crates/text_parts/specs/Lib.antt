@@ -1,0 +1,4 @@
+pub mod Ends
+pub mod Texts
+pub mod Telling
+pub mod Difference

@@ -1,4 +1,0 @@
-pub mod Parts
-pub mod Read
-pub mod InOrder
-pub mod Written

@@ -1,3 +1,0 @@
-pub mod Failed
-pub mod Replays
-pub mod TraceLaws

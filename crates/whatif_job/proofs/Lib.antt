@@ -1,2 +1,0 @@
-pub mod WhatIfLaws
-mod Numbering

@@ -1,4 +1,0 @@
-pub mod Laws
-pub mod Moments
-pub mod Scenarios
-pub mod Waiting
