@@ -5,6 +5,7 @@ The table of docs/PAGE.md names these tests: each row of what the page is guarde
 from __future__ import annotations
 
 import contextlib
+import http.client
 import json
 import os
 import shutil
@@ -73,7 +74,7 @@ def folders() -> set[str]:
 def quietly(call: Callable[[], object]) -> threading.Thread:
     """Begins what may end in any way, since the server does."""
     def tried() -> None:
-        with contextlib.suppress(OSError, AssertionError, ValueError):
+        with contextlib.suppress(OSError, AssertionError, ValueError, http.client.HTTPException):
             call()
 
     begun = threading.Thread(target=tried, daemon=True)
