@@ -144,8 +144,13 @@ class Runner:
                     del self.lanes[lane]
 
     def run(self, turn: Turn, lane: str, words: list[str], texts: dict[str, bytes], seconds: int, environment: dict[str, str]) -> Answer:
-        """Runs words in a folder with these texts."""
-        with self.places, tempfile.TemporaryDirectory(prefix="propane-open.") as folder:
+        """Runs words in a folder with these texts, once there is a place for it; nothing once all has been ended."""
+        with self.places:
+            return Answer(STOPPED) if self.is_closed else self.run_here(turn, lane, words, texts, seconds, environment)
+
+    def run_here(self, turn: Turn, lane: str, words: list[str], texts: dict[str, bytes], seconds: int, environment: dict[str, str]) -> Answer:
+        """Runs words in a folder with these texts, at once."""
+        with tempfile.TemporaryDirectory(prefix="propane-open.") as folder:
             for name, text in texts.items():
                 with open(os.path.join(folder, name), "xb") as file:
                     file.write(text)
@@ -186,5 +191,6 @@ class Runner:
             self.is_closed = True
             for turn in self.lanes.values():
                 turn.end()
-        for _ in range(AT_ONCE):
-            self.places.acquire(timeout=ENDING)
+        taken = [self.places.acquire(timeout=ENDING) for _ in range(AT_ONCE)]
+        for _ in filter(None, taken):  # those that wait for a place end, too
+            self.places.release()
