@@ -20,7 +20,6 @@ COMMANDS = {
 }
 SECONDS, WHY_SECONDS = 60, 60
 AT_ONCE = max(2, min(4, (os.cpu_count() or 2) - 1))
-ENDING = 10  # seconds, at the end, for a question that is being asked
 MEMORY = 4 << 30
 KEPT_BYTES = 64 << 20
 UNPROVED = ".unproved."  # in the name of a build without proof (tools/program)
@@ -144,13 +143,8 @@ class Runner:
                     del self.lanes[lane]
 
     def run(self, turn: Turn, lane: str, words: list[str], texts: dict[str, bytes], seconds: int, environment: dict[str, str]) -> Answer:
-        """Runs words in a folder with these texts, once there is a place for it; nothing once all has been ended."""
-        with self.places:
-            return Answer(STOPPED) if self.is_closed else self.run_here(turn, lane, words, texts, seconds, environment)
-
-    def run_here(self, turn: Turn, lane: str, words: list[str], texts: dict[str, bytes], seconds: int, environment: dict[str, str]) -> Answer:
-        """Runs words in a folder with these texts, at once."""
-        with tempfile.TemporaryDirectory(prefix="propane-open.") as folder:
+        """Runs words in a folder with these texts."""
+        with self.places, tempfile.TemporaryDirectory(prefix="propane-open.") as folder:
             for name, text in texts.items():
                 with open(os.path.join(folder, name), "xb") as file:
                     file.write(text)
@@ -186,11 +180,8 @@ class Runner:
             return self.lanes.get(lane) is turn and not self.is_closed
 
     def close(self) -> None:
-        """Ends all that is asked, and waits until each question has removed its folder: it gives its place back after that."""
+        """Ends all that is asked."""
         with self.lock:
             self.is_closed = True
             for turn in self.lanes.values():
                 turn.end()
-        taken = [self.places.acquire(timeout=ENDING) for _ in range(AT_ONCE)]
-        for _ in filter(None, taken):  # those that wait for a place end, too
-            self.places.release()
