@@ -1,38 +1,47 @@
 -- Which word is which command, and what is said of each.
-use Rattle.std.specs.Prelude.{ℕ, List, Option, Some, None, if◌then◌else◌, codes}
+use Rattle.std.specs.Prelude.{ℕ, List, [], ◌∷◌, Option, Some, None, codes}
+use Rattle.std.specs.List.{find}
 use Rattle.std.specs.Str.{bytes_eq}
 use Rattle.help_texts.specs.declared.pages.compiling.TheConstants.{COMPILE, EVIDENCE, MIGRATE, ROUTEMAP, SAMPLE}
 use Rattle.help_texts.specs.declared.pages.judging.TheConstants.{AUDIT, CHECK, CHECKMAP, EXPLAIN, LINT}
-use Rattle.help_texts.specs.declared.pages.program.TheConstants.{COMMANDS, HELP, VERSION, VERSION_PAGE}
+use Rattle.help_texts.specs.declared.pages.program.TheConstants.{COMMANDS, HELP, USAGE, VERSION, VERSION_PAGE}
 use Rattle.help_texts.specs.declared.pages.telling.TheConstants.{DRAIN, IMPACT, MULTIPATH, PROMISES, REPLAY, SETTLE, TRACE, WHATIF}
 use Rattle.help_texts.specs.declared.topic.Topic.{Topic}
 use Rattle.help_texts.specs.declared.topic.Topic.TheVariants.{Compile, Evidence, Check, Explain, Replay, Trace, Sample, Migrate, Impact, RouteMap, CheckMap, Lint, Audit}
 use Rattle.help_texts.specs.declared.topic.Topic.TheVariants.{Help, Version, Drain, Settle, Promises, WhatIf, Multipath}
 
+-- the word of a command
+abbrev pub word_of : Topic → List ℕ
+word_of Compile = codes "compile"
+word_of Evidence = codes "evidence"
+word_of Check = codes "check"
+word_of Explain = codes "explain"
+word_of Replay = codes "replay"
+word_of Trace = codes "trace"
+word_of Sample = codes "sample"
+word_of Migrate = codes "migrate"
+word_of Impact = codes "impact"
+word_of RouteMap = codes "routemap"
+word_of CheckMap = codes "checkmap"
+word_of Lint = codes "lint"
+word_of Audit = codes "audit"
+word_of Help = codes "help"
+word_of Version = codes "version"
+word_of Drain = codes "drain"
+word_of Settle = codes "settle"
+word_of Promises = codes "promises"
+word_of WhatIf = codes "whatif"
+word_of Multipath = codes "multipath"
+
+-- all commands
+abbrev pub topics : List Topic
+topics =
+    Compile ∷ Evidence ∷ Check ∷ Explain ∷ Replay ∷ Trace ∷ Sample ∷ Migrate ∷ Impact ∷ RouteMap ∷ CheckMap ∷ Lint ∷ Audit
+    ∷ Help ∷ Version ∷ Drain ∷ Settle ∷ Promises ∷ WhatIf ∷ Multipath ∷ []
+
 -- the command of this word
 abbrev pub topic_named : List ℕ → Option Topic
-topic_named word =
-    if bytes_eq word (codes "compile") then Some Compile
-    else if bytes_eq word (codes "evidence") then Some Evidence
-    else if bytes_eq word (codes "check") then Some Check
-    else if bytes_eq word (codes "explain") then Some Explain
-    else if bytes_eq word (codes "replay") then Some Replay
-    else if bytes_eq word (codes "trace") then Some Trace
-    else if bytes_eq word (codes "sample") then Some Sample
-    else if bytes_eq word (codes "migrate") then Some Migrate
-    else if bytes_eq word (codes "impact") then Some Impact
-    else if bytes_eq word (codes "routemap") then Some RouteMap
-    else if bytes_eq word (codes "checkmap") then Some CheckMap
-    else if bytes_eq word (codes "lint") then Some Lint
-    else if bytes_eq word (codes "audit") then Some Audit
-    else if bytes_eq word (codes "help") then Some Help
-    else if bytes_eq word (codes "version") then Some Version
-    else if bytes_eq word (codes "drain") then Some Drain
-    else if bytes_eq word (codes "settle") then Some Settle
-    else if bytes_eq word (codes "promises") then Some Promises
-    else if bytes_eq word (codes "whatif") then Some WhatIf
-    else if bytes_eq word (codes "multipath") then Some Multipath
-    else None
+topic_named word = find (λ topic. bytes_eq word (word_of topic)) topics
 
 -- its page
 abbrev pub page_of : Topic → List ℕ
@@ -65,3 +74,7 @@ help_text (Some topic) = page_of topic
 -- the name, the version and the kit
 abbrev pub version_text : List ℕ
 version_text = VERSION.now
+
+-- what is said of words that are no command
+abbrev pub usage_text : List ℕ
+usage_text = USAGE.now

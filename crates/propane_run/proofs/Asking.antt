@@ -1,17 +1,19 @@
 -- Words that ask for what the texts under their names spell.
 use Rattle.std.proofs.Common.{◌≡◌, ℕ, List, [], ◌∷◌, Some, Result, refl, subst}
 use Rattle.std.specs.Prelude.{codes}
-use Rattle.net_base.specs.Network.{PlainNet}
-use Rattle.policy_base.specs.Policies.{PlainPolicy}
+use Rattle.net_base.specs.Network.{PlainNet, IsNet}
+use Rattle.policy_base.specs.Policies.{PlainPolicy, IsPolicyOf}
 use Rattle.run_base.specs.Reading.{Holds, AllHeld}
 use Rattle.topology.proofs.Read.{networks_are_meant}
 use Rattle.topology.proofs.Written.{network_is_spelled}
 use Rattle.text_law.proofs.Policies.{read_policies_are_meant}
 use Rattle.policy_law.proofs.Texts.{policies_are_meant, policy_is_spelled}
 use Rattle.input_texts.specs.Asked.{SpellAlso, SpellFor}
+use Rattle.input_texts.proofs.Asking.{net_of_spelled, policy_of_spelled}
 use Rattle.judging_jobs.specs.Asked.{Audited, SpellAudit}
 use Rattle.propane_run.specs.declared.command.Command.{Command}
-use Rattle.propane_run.specs.declared.command.Command.TheVariants.{Compile, Audit, Replay, Trace, Sample, Drain, Settle, WhatIf, Multipath}
+use Rattle.propane_run.specs.declared.command.Command.TheVariants.{Compile, Evidence, Check, Explain, Impact, RouteMap, CheckMap, Lint, Audit, Migrate}
+use Rattle.propane_run.specs.declared.command.Command.TheVariants.{Sample, Help, Version, Promises, Under, After}
 use Rattle.propane_run.specs.Asked.{AsksAlso, AsksFor, IsFor}
 use Rattle.propane_run.specs.Auditing.{AsksAudit}
 use Rattle.propane_run.specs.Headline.{NamesTexts}
@@ -37,14 +39,26 @@ module _ (holds : Holds) (words : List (List ℕ)) where
       }
 
   pub asked_by : (c : Command) (net : PlainNet) (policy : PlainPolicy) → IsFor holds words c net policy → words_are words ≡ Some c
-  asked_by Replay net policy is = is.1.asked.asked
-  asked_by Trace net policy is = is.1.asked.asked
+  asked_by Compile net policy is = is.asked
+  asked_by Evidence net policy is = is.asked
+  asked_by Check net policy is = is.asked
+  asked_by Explain net policy is = is.asked
   asked_by (Sample n) net policy is = is.asked
-  asked_by Drain net policy is = is.1.asked.asked
-  asked_by Settle net policy is = is.1.asked.asked
-  asked_by WhatIf net policy is = is.1.asked.asked
-  asked_by Multipath net policy is = is.1.asked.asked
-  asked_by c net policy is = is.asked
+  asked_by Migrate net policy is = absurd is
+  asked_by (Impact prefix) net policy is = is.asked
+  asked_by RouteMap net policy is = is.asked
+  asked_by CheckMap net policy is = absurd is
+  asked_by Lint net policy is = is.asked
+  asked_by Audit net policy is = is.asked
+  asked_by (Help topic) net policy is = absurd is
+  asked_by Version net policy is = absurd is
+  asked_by Promises net policy is = is.asked
+  asked_by (Under outlook) net policy is = is.1.asked.asked
+  asked_by (After course) net policy is = is.1.asked.asked
+
+  -- what is asked for keeps the rules
+  pub asked_rules : {c : Command} {net : PlainNet} {policy : PlainPolicy} → AsksFor holds words c net policy → IsNet net × IsPolicyOf net policy
+  asked_rules {c} {net} {policy} asks = let spell = spells c net policy asks in (net_of_spelled spell, policy_of_spelled spell)
 
   abbrev pub asks_for : (c : Command) (net : PlainNet) (policy : PlainPolicy) → words_are words ≡ Some c → SpellFor holds (names_read words c) net policy → AsksFor holds words c net policy
   asks_for c net policy is spell =

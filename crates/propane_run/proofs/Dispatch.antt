@@ -14,8 +14,6 @@ use Rattle.input_texts.specs.Asked.{SpellFor}
 use Rattle.input_texts.specs.FaultLines.{events_line, scenario_line}
 use Rattle.compile_jobs.specs.Compiling.{SaysOfThree}
 use Rattle.compile_jobs.proofs.ThirdText.{compiler_of_three}
-use Rattle.report_jobs.specs.Replayed.{WritesReport}
-use Rattle.report_jobs.specs.Traced.{WritesTrace}
 use Rattle.compile_jobs.specs.declared.written.Part.TheVariants as part
 use Rattle.compile_jobs.specs.Written.{WritesPart}
 use Rattle.compile_jobs.proofs.Compiling.{IsCompiler, compiler_of_two, in_words}
@@ -33,18 +31,19 @@ use Rattle.judging_jobs.proofs.MigrateLaws.{migrate_job}
 use Rattle.report_jobs.proofs.ReplayLaws.{replay_job}
 use Rattle.report_jobs.proofs.TraceLaws.{trace_job}
 use Rattle.report_jobs.proofs.DrainLaws.{drain_job}
-use Rattle.report_jobs.specs.Drained.{WritesDrain}
 use Rattle.report_jobs.proofs.SettleLaws.{settle_job}
-use Rattle.report_jobs.specs.Settles.{WritesSettlement}
 use Rattle.report_jobs.proofs.PromisesLaws.{promises_job}
 use Rattle.report_jobs.specs.Promised.{WritesPromises}
 use Rattle.report_jobs.proofs.WhatIfLaws.{whatif_job}
-use Rattle.report_jobs.specs.WhatIfs.{WritesWhatIf}
 use Rattle.report_jobs.proofs.MultipathLaws.{multipath_job}
-use Rattle.report_jobs.specs.Spread.{WritesMultipath}
 use Rattle.propane_run.specs.declared.command.Command.{Command}
-use Rattle.propane_run.specs.declared.command.Command.TheVariants.{Compile, Evidence, Check, Explain, Replay, Trace, Impact, RouteMap, CheckMap, Lint, Audit, Migrate}
-use Rattle.propane_run.specs.declared.command.Command.TheVariants.{Sample, Help, Version, Drain, Settle, Promises, WhatIf, Multipath}
+use Rattle.propane_run.specs.declared.command.Command.TheVariants.{Compile, Evidence, Check, Explain, Impact, RouteMap, CheckMap, Lint, Audit, Migrate}
+use Rattle.propane_run.specs.declared.command.Command.TheVariants.{Sample, Help, Version, Promises, Under, After}
+use Rattle.propane_run.specs.declared.command.Course.{Course}
+use Rattle.propane_run.specs.declared.command.Course.TheVariants.{Trace, Settle}
+use Rattle.propane_run.specs.declared.command.Outlook.{Outlook}
+use Rattle.propane_run.specs.declared.command.Outlook.TheVariants.{Replay, Drain, WhatIf, Multipath}
+use Rattle.propane_run.specs.Outlooks.{WritesAfter, WritesUnder}
 use Rattle.propane_run.specs.Asked.{AsksAlso, AsksFor, IsFor}
 use Rattle.propane_run.specs.Run.{Job}
 use Rattle.propane_run.specs.Words.{names_read, words_are}
@@ -55,14 +54,23 @@ use Rattle.propane_run.proofs.Asking.{asks_also, asks_for, spells, spells_also}
 text_job : (bytes : List ℕ) (Refusing Judging : Type 0) → IsJob Refusing Judging (λ bs what. what ≡ text bytes)
 text_job bytes Refusing Judging = record { form = λ bs what is. in_text bytes is; one = λ bs one other a b. a ∙ sym b }
 
+-- what is said under a scenario, or after events
+under_is : (outlook : Outlook) → IsJob (Unit {0}) ⊥ (Job (Under outlook))
+under_is Replay = replay_job (Unit {0}) ⊥ tt
+under_is Drain = drain_job (Unit {0}) ⊥ tt
+under_is WhatIf = whatif_job (Unit {0}) ⊥ tt
+under_is Multipath = multipath_job (Unit {0}) ⊥ tt
+
+after_is : (course : Course) → IsJob (Unit {0}) ⊥ (Job (After course))
+after_is Trace = trace_job (Unit {0}) ⊥ tt
+after_is Settle = settle_job (Unit {0}) ⊥ tt
+
 -- what it says has a form, and is one thing
 pub job_is : (c : Command) → IsJob (Refuses c) (Judges c) (Job c)
 job_is Compile = written_job part.Config (Unit {0}) ⊥ tt
 job_is Evidence = written_job part.Evidence (Unit {0}) ⊥ tt
 job_is Check = check_job ⊥ (Unit {0}) tt
 job_is Explain = explain_job ⊥ ⊥
-job_is Replay = replay_job (Unit {0}) ⊥ tt
-job_is Trace = trace_job (Unit {0}) ⊥ tt
 job_is (Sample n) = sample_job n (Unit {0}) ⊥ tt
 job_is Migrate = migrate_job ⊥ ⊥
 job_is (Impact x) = impact_job x (Unit {0}) ⊥ tt
@@ -72,11 +80,9 @@ job_is Lint = lint_job (Unit {0}) ⊥ tt
 job_is Audit = audit_job ⊥ (Unit {0}) tt
 job_is (Help topic) = text_job (help_text topic) ⊥ ⊥
 job_is Version = text_job version_text ⊥ ⊥
-job_is Drain = drain_job (Unit {0}) ⊥ tt
-job_is Settle = settle_job (Unit {0}) ⊥ tt
 job_is Promises = promises_job (Unit {0}) ⊥ tt
-job_is WhatIf = whatif_job (Unit {0}) ⊥ tt
-job_is Multipath = multipath_job (Unit {0}) ⊥ tt
+job_is (Under outlook) = under_is outlook
+job_is (After course) = after_is course
 
 module _ (holds : Holds) (words : List (List ℕ)) where
   -- of two texts
@@ -97,12 +103,8 @@ module _ (holds : Holds) (words : List (List ℕ)) where
   compiler Compile compiles is = of_two Compile is (compiler_of_two (λ net policy. WritesPart part.Config) holds (names_read words Compile))
   compiler Evidence compiles is = of_two Evidence is (compiler_of_two (λ net policy. WritesPart part.Evidence) holds (names_read words Evidence))
   compiler (Impact x) compiles is = of_two (Impact x) is (compiler_of_two (λ net policy. WritesImpact net policy x) holds (names_read words (Impact x)))
-  compiler Replay compiles is = of_three scenario_line scenario_spelled WritesReport Replay is
-  compiler Drain compiles is = of_three scenario_line scenario_spelled WritesDrain Drain is
-  compiler Settle compiles is = of_three events_line events_spelled WritesSettlement Settle is
-  compiler WhatIf compiles is = of_three scenario_line scenario_spelled WritesWhatIf WhatIf is
-  compiler Multipath compiles is = of_three scenario_line scenario_spelled WritesMultipath Multipath is
   compiler Promises compiles is = of_two Promises is (compiler_of_two WritesPromises holds (names_read words Promises))
-  compiler Trace compiles is = of_three events_line events_spelled WritesTrace Trace is
   compiler (Sample n) compiles is = in_words (sample_compiler holds n) (λ net policy are. record { asked = is; net_is = are.0; policy_is = are.1 }) (λ net policy asks. (asks.net_is, asks.policy_is))
+  compiler (Under outlook) compiles is = of_three scenario_line scenario_spelled (WritesUnder outlook) (Under outlook) is
+  compiler (After course) compiles is = of_three events_line events_spelled (WritesAfter course) (After course) is
   compiler c compiles is = absurd compiles

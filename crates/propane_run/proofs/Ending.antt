@@ -8,8 +8,8 @@ use Rattle.run_base.specs.Reading.{Holds, SaidOfTold}
 use Rattle.run_base.specs.Said.{text, Whole}
 use Rattle.run_base.proofs.Sent.{Gives, text_sent}
 use Rattle.propane_run.specs.declared.command.Command.{Command}
-use Rattle.propane_run.specs.declared.command.Command.TheVariants.{Compile, Evidence, Check, Explain, Replay, Trace, Sample, Migrate, Impact, RouteMap, CheckMap, Lint}
-use Rattle.propane_run.specs.declared.command.Command.TheVariants.{Audit, Help, Version, Drain, Settle, Promises, WhatIf, Multipath}
+use Rattle.propane_run.specs.declared.command.Command.TheVariants.{Compile, Evidence, Check, Explain, Impact, RouteMap, CheckMap, Lint, Audit, Migrate}
+use Rattle.propane_run.specs.declared.command.Command.TheVariants.{Sample, Help, Version, Promises, Under, After}
 use Rattle.propane_run.specs.Ends.{EndsRight, Compiles as EndsCompiling}
 use Rattle.propane_run.specs.Run.{Job}
 use Rattle.propane_run.specs.Words.{names_read}
@@ -53,8 +53,6 @@ module _ {O E : Type 0} (ot : O → Option (List ℕ)) (of : O → ℕ) (et : E 
     pub ends : (c : Command) → GivesOf c → EndsRight holds words Succeeds Fails Refuses c
     ends Compile gives = compiling Compile tt gives
     ends Evidence gives = compiling Evidence tt gives
-    ends Replay gives = compiling Replay tt gives
-    ends Trace gives = compiling Trace tt gives
     ends (Impact x) gives = compiling (Impact x) tt gives
     ends (Sample n) gives = compiling (Sample n) tt gives
     ends Explain gives = λ net policy asks calm. explain.explained_where ot of et ef out out' err err' ended holds words net policy asks calm gives
@@ -83,8 +81,6 @@ module _ {O E : Type 0} (ot : O → Option (List ℕ)) (of : O → ℕ) (et : E 
     )
     ends (Help topic) gives = own (help_text topic) gives
     ends Version gives = own version_text gives
-    ends Drain gives = compiling Drain tt gives
-    ends Settle gives = compiling Settle tt gives
     ends Promises gives = compiling Promises tt gives
-    ends WhatIf gives = compiling WhatIf tt gives
-    ends Multipath gives = compiling Multipath tt gives
+    ends (Under outlook) gives = compiling (Under outlook) tt gives
+    ends (After course) gives = compiling (After course) tt gives

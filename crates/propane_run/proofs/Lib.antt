@@ -11,4 +11,3 @@ pub mod Promising
 pub mod Roles
 pub mod RunLaws
 pub mod ThreeTexts
-pub mod Wording

@@ -1,98 +1,122 @@
--- The words that are `compile` or `check` are this word and the names that it reads.
-use Rattle.std.proofs.Common.{◌≡◌, ℕ, List, [], ◌∷◌, Bool, true, false, Option, Some, None, refl, sym, ap, ◌∙◌}
-use Rattle.std.specs.Prelude.{option_map, codes, if◌then◌else◌}
+-- The words that are a command are its word and the names that it reads, where it takes no others.
+use Rattle.std.proofs.Common.{◌≡◌, ◌⊎◌, ℕ, ◌+◌, List, [], ◌∷◌, Bool, true, false, Option, Some, None, length, refl, sym, ap, inl, inr, ◌∙◌}
+use Rattle.std.specs.Prelude.{option_map, option_and_then, slice_get, codes, if◌then◌else◌, ◌||◌, nat_eq}
 use Rattle.std.specs.Str.{bytes_eq}
 use Rattle.std.proofs.lemmas.Slice.Eq.{bytes_eq-Decides}
-use Rattle.help_texts.specs.Pages.{topic_named}
+use Rattle.help_texts.specs.Pages.{topic_named, topics, word_of}
+use Rattle.help_texts.specs.declared.topic.Topic.{Topic}
+use Rattle.help_texts.specs.declared.topic.Topic.TheVariants as topic
+use Rattle.list_law.proofs.Options.{option_and_then_parts, option_map_parts}
+use Rattle.list_law.proofs.Tests.{find_parts}
 use Rattle.propane_run.specs.declared.command.Command.{Command}
-use Rattle.propane_run.specs.declared.command.Command.TheVariants.{Compile, Evidence, Check, Explain, Replay, Trace, Impact, RouteMap, CheckMap, Lint, Audit, Migrate}
-use Rattle.propane_run.specs.declared.command.Command.TheVariants.{Sample, Help, Version, Drain, Settle, Promises, WhatIf, Multipath}
-use Rattle.propane_run.specs.Words.{asks_for_help, asks_for_version, names_read, prefix_word, sample_number, word_alone, with_one_word, with_two_names, with_three_words}
-use Rattle.propane_run.specs.Words.{with_four_names, with_six_names, words_are}
+use Rattle.propane_run.specs.declared.command.Command.TheVariants.{Compile, Evidence, Check, Explain, Impact, RouteMap, CheckMap, Lint, Audit, Migrate}
+use Rattle.propane_run.specs.declared.command.Command.TheVariants.{Sample, Help, Version, Promises, Under, After}
+use Rattle.propane_run.specs.declared.command.Course.TheVariants.{Trace, Settle}
+use Rattle.propane_run.specs.declared.command.Outlook.TheVariants.{Replay, Drain, WhatIf, Multipath}
+use Rattle.propane_run.specs.Words.{command_of, help_of, name_count, names_read, other_words, prefix_word, sample_number, topic_asked, words_are}
 
--- one of the two
-abbrev is_one : Command → Bool
-is_one Compile = true
-is_one Check = true
-is_one _ = false
+-- the command whose word a command's is
+topic_of : Command → Topic
+topic_of Compile = topic.Compile
+topic_of Evidence = topic.Evidence
+topic_of Check = topic.Check
+topic_of Explain = topic.Explain
+topic_of (Sample n) = topic.Sample
+topic_of Migrate = topic.Migrate
+topic_of (Impact prefix) = topic.Impact
+topic_of RouteMap = topic.RouteMap
+topic_of CheckMap = topic.CheckMap
+topic_of Lint = topic.Lint
+topic_of Audit = topic.Audit
+topic_of (Help t) = topic.Help
+topic_of Version = topic.Version
+topic_of Promises = topic.Promises
+topic_of (Under Replay) = topic.Replay
+topic_of (Under Drain) = topic.Drain
+topic_of (Under WhatIf) = topic.WhatIf
+topic_of (Under Multipath) = topic.Multipath
+topic_of (After Trace) = topic.Trace
+topic_of (After Settle) = topic.Settle
 
-module _ (d : Command) (one : is_one d ≡ true) where
-  apart : (c : Command) → is_one c ≡ false → c ≡ d → ⊥
-  apart c unnamed same = let clash : false ≡ true = sym unnamed ∙ ap is_one same ∙ one in absurd (cc)
+is_of : (a c : Command) (t : Topic) → topic_of a ≡ t → Some a ≡ Some c → topic_of c ≡ t
+is_of a c t named h = let same : a ≡ c = cc in sym (ap topic_of same) ∙ named
 
-  -- the words are none of these, so they are what is asked next
-  other : (b : Bool) (c : Command) (rest : Option Command) → is_one c ≡ false → (if b then Some c else rest) ≡ Some d → rest ≡ Some d
-  other true c rest unnamed h = absurd (apart c unnamed (let same : c ≡ d = cc in same))
-  other false c rest unnamed h = h
+-- what a word names comes of it
+named : (t : Topic) (rest : List (List ℕ)) (c : Command) → command_of t rest ≡ Some c → topic_of c ≡ t
+named topic.Compile rest c h = is_of Compile c topic.Compile refl h
+named topic.Evidence rest c h = is_of Evidence c topic.Evidence refl h
+named topic.Check rest c h = is_of Check c topic.Check refl h
+named topic.Explain rest c h = is_of Explain c topic.Explain refl h
+named topic.Replay rest c h = is_of (Under Replay) c topic.Replay refl h
+named topic.Trace rest c h = is_of (After Trace) c topic.Trace refl h
+named topic.Sample rest c h =
+    let word = option_and_then_parts (λ w. option_map (λ n. Sample n) (sample_number w)) (slice_get rest 0) c h in
+    let number = option_map_parts (λ n. Sample n) (sample_number word.0) c word.2 in
+    sym (ap topic_of number.2)
+named topic.Migrate rest c h = is_of Migrate c topic.Migrate refl h
+named topic.Impact rest c h =
+    let word = option_and_then_parts (λ w. option_map (λ p. Impact p) (prefix_word w)) (slice_get rest 2) c h in
+    let prefix = option_map_parts (λ p. Impact p) (prefix_word word.0) c word.2 in
+    sym (ap topic_of prefix.2)
+named topic.RouteMap rest c h = is_of RouteMap c topic.RouteMap refl h
+named topic.CheckMap rest c h = is_of CheckMap c topic.CheckMap refl h
+named topic.Lint rest c h = is_of Lint c topic.Lint refl h
+named topic.Audit rest c h = is_of Audit c topic.Audit refl h
+named topic.Help rest c h = sym (ap topic_of (option_map_parts (λ t. Help t) (help_of rest) c h).2)
+named topic.Version rest c h = is_of Version c topic.Version refl h
+named topic.Drain rest c h = is_of (Under Drain) c topic.Drain refl h
+named topic.Settle rest c h = is_of (After Settle) c topic.Settle refl h
+named topic.Promises rest c h = is_of Promises c topic.Promises refl h
+named topic.WhatIf rest c h = is_of (Under WhatIf) c topic.WhatIf refl h
+named topic.Multipath rest c h = is_of (Under Multipath) c topic.Multipath refl h
 
-  mapped : {A : Type 0} (b : Bool) (f : A → Command) (o : Option A) (rest : Option Command) → ((x : A) → is_one (f x) ≡ false) → (if b then option_map f o else rest) ≡ Some d → rest ≡ Some d
-  mapped true f None rest unnamed h = absurd cc
-  mapped true f (Some x) rest unnamed h = absurd (apart (f x) (unnamed x) (let same : f x ≡ d = cc in same))
-  mapped false f o rest unnamed h = h
+-- a word by which every program is asked names help or the version alone
+own_word : (help version : Bool) (word : List ℕ) (t : Topic) → t ≢ topic.Help → t ≢ topic.Version
+    → (if help then Some topic.Help else if version then Some topic.Version else topic_named word) ≡ Some t → word ≡ word_of t
+own_word true version word t not_help not_version h = absurd (not_help (let same : topic.Help ≡ t = cc in sym same))
+own_word false true word t not_help not_version h = absurd (not_version (let same : topic.Version ≡ t = cc in sym same))
+own_word false false word t not_help not_version h = (bytes_eq-Decides word (word_of t)).0 (find_parts (λ t. bytes_eq word (word_of t)) topics t h).2
 
-  none : None ≡ Some d → ⊥
-  none h = absurd cc
+counted : (b : Bool) (c d : Command) → (if b then Some c else None) ≡ Some d → (b ≡ true) × (c ≡ d)
+counted true c d h = (refl, let same : c ≡ d = cc in same)
+counted false c d h = absurd cc
 
-  -- or they are this one
-  this : (b : Bool) (c : Command) (rest : Option Command) → (rest ≡ Some d → ⊥) → (if b then Some c else rest) ≡ Some d → (b ≡ true) × (c ≡ d)
-  this true c rest unnamed h = (refl, let same : c ≡ d = cc in same)
-  this false c rest unnamed h = absurd (unnamed h)
+-- the first word of a command, and how many follow
+first : (word : List ℕ) (rest : List (List ℕ)) (c : Command) → words_are (word ∷ rest) ≡ Some c → topic_of c ≢ topic.Help → topic_of c ≢ topic.Version
+    → (word ≡ word_of (topic_of c)) × (nat_eq (length rest) (name_count c + other_words c) ≡ true)
+first word rest c h not_help not_version =
+    let some = option_and_then_parts (λ d. if nat_eq (length rest) (name_count d + other_words d) then Some d else None) (option_and_then (λ t. command_of t rest) (topic_asked word)) c h in
+    let count = counted (nat_eq (length rest) (name_count some.0 + other_words some.0)) some.0 c some.2 in
+    let topic = option_and_then_parts (λ t. command_of t rest) (topic_asked word) some.0 some.1 in
+    let t = topic.0 in
+    let is : topic_of c ≡ t = sym (ap topic_of count.1) ∙ named t rest some.0 topic.2 in
+    let asked : topic_asked word ≡ Some (topic_of c) = topic.1 ∙ ap (λ x. Some x) (sym is) in (
+      own_word (bytes_eq word (codes "--help") || bytes_eq word (codes "-h")) (bytes_eq word (codes "--version")) word (topic_of c) not_help not_version asked,
+      sym (ap (λ d. nat_eq (length rest) (name_count d + other_words d)) count.1) ∙ count.0,
+    )
 
-  not_alone : (word : List ℕ) → word_alone word ≡ Some d → ⊥
-  not_alone word h = none (other (asks_for_version word) Version None refl (other (asks_for_help word) (Help None) _ refl h))
+two : (rest : List (List ℕ)) → nat_eq (length rest) 2 ≡ true → rest ≡ names_read ([] ∷ rest) Compile
+two [] h = absurd cc
+two (a ∷ []) h = absurd cc
+two (a ∷ b ∷ []) h = refl
+two (a ∷ b ∷ c ∷ more) h = absurd cc
 
-  not_with_one : (word next : List ℕ) → with_one_word word next ≡ Some d → ⊥
-  not_with_one word next h =
-      let a = mapped (bytes_eq word (codes "sample")) (λ n. Sample n) (sample_number next) _ (λ n. refl) h in
-      let b = other (bytes_eq word (codes "migrate")) Migrate _ refl a in
-      none (mapped (asks_for_help word) (λ t. Help (Some t)) (topic_named next) None (λ t. refl) b)
-
-  with_two : (word : List ℕ) → with_two_names word ≡ Some d → (bytes_eq word (codes "compile") ≡ true) × (Compile ≡ d)
-  with_two word h =
-      this (bytes_eq word (codes "compile")) Compile _
-      (λ rest.
-      let a = other (bytes_eq word (codes "evidence")) Evidence _ refl rest in
-      let b = other (bytes_eq word (codes "explain")) Explain _ refl a in
-      let c = other (bytes_eq word (codes "routemap")) RouteMap _ refl b in
-      let e = other (bytes_eq word (codes "checkmap")) CheckMap _ refl c in
-      let f = other (bytes_eq word (codes "lint")) Lint _ refl e in
-      none (other (bytes_eq word (codes "promises")) Promises None refl f))
-      h
-
-  not_with_three : (word last : List ℕ) → with_three_words word last ≡ Some d → ⊥
-  not_with_three word last h =
-      let a = other (bytes_eq word (codes "replay")) Replay _ refl h in
-      let b = other (bytes_eq word (codes "trace")) Trace _ refl a in
-      let c = mapped (bytes_eq word (codes "impact")) (λ p. Impact p) (prefix_word last) _ (λ p. refl) b in
-      let e = other (bytes_eq word (codes "drain")) Drain _ refl c in
-      let f = other (bytes_eq word (codes "settle")) Settle _ refl e in
-      let g = other (bytes_eq word (codes "whatif")) WhatIf _ refl f in
-      none (other (bytes_eq word (codes "multipath")) Multipath None refl g)
-
-  with_four : (word : List ℕ) → with_four_names word ≡ Some d → (bytes_eq word (codes "check") ≡ true) × (Check ≡ d)
-  with_four word h = this (bytes_eq word (codes "check")) Check None none h
-
-  not_with_six : (word : List ℕ) → with_six_names word ≡ Some d → ⊥
-  not_with_six word h = none (other (bytes_eq word (codes "audit")) Audit None refl h)
+four : (rest : List (List ℕ)) → nat_eq (length rest) 4 ≡ true → rest ≡ names_read ([] ∷ rest) Check
+four [] h = absurd cc
+four (a ∷ []) h = absurd cc
+four (a ∷ b ∷ []) h = absurd cc
+four (a ∷ b ∷ c ∷ []) h = absurd cc
+four (a ∷ b ∷ c ∷ d ∷ []) h = refl
+four (a ∷ b ∷ c ∷ d ∷ e ∷ more) h = absurd cc
 
 pub compile_words : (words : List (List ℕ)) → words_are words ≡ Some Compile → words ≡ codes "compile" ∷ names_read words Compile
-compile_words [] h = absurd (none Compile refl h)
-compile_words (w ∷ []) h = absurd (not_alone Compile refl w h)
-compile_words (w ∷ a ∷ []) h = absurd (not_with_one Compile refl w a h)
-compile_words (w ∷ a ∷ b ∷ []) h = ap (λ (x : List ℕ). x ∷ a ∷ b ∷ []) ((bytes_eq-Decides w (codes "compile")).0 (with_two Compile refl w h).0)
-compile_words (w ∷ a ∷ b ∷ c ∷ []) h = absurd (not_with_three Compile refl w c h)
-compile_words (w ∷ a ∷ b ∷ c ∷ d ∷ []) h = absurd (let same = (with_four Compile refl w h).1 in cc)
-compile_words (w ∷ a ∷ b ∷ c ∷ d ∷ e ∷ []) h = absurd (none Compile refl h)
-compile_words (w ∷ a ∷ b ∷ c ∷ d ∷ e ∷ f ∷ []) h = absurd (not_with_six Compile refl w h)
-compile_words (w ∷ a ∷ b ∷ c ∷ d ∷ e ∷ f ∷ g ∷ more) h = absurd (none Compile refl h)
+compile_words [] h = absurd (let none : None ≡ Some Compile = h in cc)
+compile_words (word ∷ rest) h =
+    let is = first word rest Compile h (λ x. cc) (λ x. cc) in
+    ap (λ (w : List ℕ). w ∷ rest) is.0 ∙ ap (λ (names : List (List ℕ)). codes "compile" ∷ names) (two rest is.1)
 
 pub check_words : (words : List (List ℕ)) → words_are words ≡ Some Check → words ≡ codes "check" ∷ names_read words Check
-check_words [] h = absurd (none Check refl h)
-check_words (w ∷ []) h = absurd (not_alone Check refl w h)
-check_words (w ∷ a ∷ []) h = absurd (not_with_one Check refl w a h)
-check_words (w ∷ a ∷ b ∷ []) h = absurd (let same = (with_two Check refl w h).1 in cc)
-check_words (w ∷ a ∷ b ∷ c ∷ []) h = absurd (not_with_three Check refl w c h)
-check_words (w ∷ a ∷ b ∷ c ∷ d ∷ []) h = ap (λ (x : List ℕ). x ∷ a ∷ b ∷ c ∷ d ∷ []) ((bytes_eq-Decides w (codes "check")).0 (with_four Check refl w h).0)
-check_words (w ∷ a ∷ b ∷ c ∷ d ∷ e ∷ []) h = absurd (none Check refl h)
-check_words (w ∷ a ∷ b ∷ c ∷ d ∷ e ∷ f ∷ []) h = absurd (not_with_six Check refl w h)
-check_words (w ∷ a ∷ b ∷ c ∷ d ∷ e ∷ f ∷ g ∷ more) h = absurd (none Check refl h)
+check_words [] h = absurd (let none : None ≡ Some Check = h in cc)
+check_words (word ∷ rest) h =
+    let is = first word rest Check h (λ x. cc) (λ x. cc) in
+    ap (λ (w : List ℕ). w ∷ rest) is.0 ∙ ap (λ (names : List (List ℕ)). codes "check" ∷ names) (four rest is.1)

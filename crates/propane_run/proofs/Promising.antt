@@ -12,9 +12,13 @@ use Rattle.report_jobs.specs.Settles.{WritesSettlement}
 use Rattle.report_jobs.specs.WhatIfs.{WritesWhatIf}
 use Rattle.report_jobs.specs.Spread.{WritesMultipath}
 use Rattle.propane_run.specs.declared.command.Command.{Command}
-use Rattle.propane_run.specs.declared.command.Command.TheVariants.{Compile, Evidence, Check, Explain, Replay, Trace, Sample, Migrate, Impact, RouteMap, CheckMap, Lint}
-use Rattle.propane_run.specs.declared.command.Command.TheVariants.{Audit, Help, Version, Drain, Settle, Promises, WhatIf, Multipath}
-use Rattle.propane_run.specs.Promises.{Promised}
+use Rattle.propane_run.specs.declared.command.Command.TheVariants.{Compile, Evidence, Check, Explain, Impact, RouteMap, CheckMap, Lint, Audit, Migrate}
+use Rattle.propane_run.specs.declared.command.Command.TheVariants.{Sample, Help, Version, Promises, Under, After}
+use Rattle.propane_run.specs.declared.command.Course.{Course}
+use Rattle.propane_run.specs.declared.command.Course.TheVariants.{Trace, Settle}
+use Rattle.propane_run.specs.declared.command.Outlook.{Outlook}
+use Rattle.propane_run.specs.declared.command.Outlook.TheVariants.{Replay, Drain, WhatIf, Multipath}
+use Rattle.propane_run.specs.Promises.{AnswersAfter, AnswersUnder, Promised}
 use Rattle.propane_run.specs.Run.{Comes}
 use Rattle.propane_run.proofs.ByCommand.Answered as answered
 use Rattle.propane_run.proofs.ByCommand.Audit as audit
@@ -34,13 +38,22 @@ use Rattle.propane_run.proofs.Compilers as compilers
 use Rattle.propane_run.proofs.Roles.{Judges, Refuses}
 
 module _ {S : Type 0} (holds : Holds) (words : List (List ℕ)) (taken : S → Option (List ℕ)) (before now : S) (b : List ℕ) (written : Whole taken b before now) where
+  -- under a scenario, or after events
+  under : (outlook : Outlook) → Comes holds words (Under outlook) (text b) → AnswersUnder holds taken words outlook before now
+  under Replay comes = replay.right holds words taken before now b written comes
+  under Drain comes = answered.right scenario_line scenario_spelled WritesDrain holds words (Under Drain) taken before now b written comes.is comes.bytes comes.held comes.says
+  under WhatIf comes = answered.right scenario_line scenario_spelled WritesWhatIf holds words (Under WhatIf) taken before now b written comes.is comes.bytes comes.held comes.says
+  under Multipath comes = answered.right scenario_line scenario_spelled WritesMultipath holds words (Under Multipath) taken before now b written comes.is comes.bytes comes.held comes.says
+
+  after : (course : Course) → Comes holds words (After course) (text b) → AnswersAfter holds taken words course before now
+  after Trace comes = trace.right holds words taken before now b written comes
+  after Settle comes = answered.right events_line events_spelled WritesSettlement holds words (After Settle) taken before now b written comes.is comes.bytes comes.held comes.says
+
   pub done : (c : Command) → Comes holds words c (text b) → Promised holds taken words c Done before now
   done Compile comes = written_by.compiled holds words taken before now b written comes
   done Evidence comes = written_by.given holds words taken before now b written comes
   done Check comes = check.right holds words taken before now b written comes
   done Explain comes = explain.right holds words taken before now b written comes
-  done Replay comes = replay.right holds words taken before now b written comes
-  done Trace comes = trace.right holds words taken before now b written comes
   done (Sample n) comes = sample.sampled holds words n taken before now b written comes
   done Migrate comes = migrate.right holds words taken before now b written comes
   done (Impact x) comes = impact.right holds words taken before now b written x comes
@@ -50,11 +63,9 @@ module _ {S : Type 0} (holds : Holds) (words : List (List ℕ)) (taken : S → O
   done Audit comes = audit.right holds words taken before now b written comes
   done (Help topic) comes = rw (out_is _ _ comes.says) at written
   done Version comes = rw (out_is _ _ comes.says) at written
-  done Drain comes = answered.right scenario_line scenario_spelled WritesDrain holds words Drain taken before now b written comes.is comes.bytes comes.held comes.says
-  done Settle comes = answered.right events_line events_spelled WritesSettlement holds words Settle taken before now b written comes.is comes.bytes comes.held comes.says
   done Promises comes = promises.right holds words taken before now b written comes
-  done WhatIf comes = answered.right scenario_line scenario_spelled WritesWhatIf holds words WhatIf taken before now b written comes.is comes.bytes comes.held comes.says
-  done Multipath comes = answered.right scenario_line scenario_spelled WritesMultipath holds words Multipath taken before now b written comes.is comes.bytes comes.held comes.says
+  done (Under outlook) comes = under outlook comes
+  done (After course) comes = after course comes
 
   pub refused : (c : Command) → Refuses c → Comes holds words c (line Refused b) → Promised holds taken words c Refused before now
   refused RouteMap refuses comes = route_map.refused holds words taken before now b written comes
@@ -62,15 +73,11 @@ module _ {S : Type 0} (holds : Holds) (words : List (List ℕ)) (taken : S → O
   refused Lint refuses comes = lint.refused holds words taken before now b written comes
   refused Compile refuses comes = compilers.refused holds words taken before now b written Compile refuses comes
   refused Evidence refuses comes = compilers.refused holds words taken before now b written Evidence refuses comes
-  refused Replay refuses comes = compilers.refused holds words taken before now b written Replay refuses comes
-  refused Trace refuses comes = compilers.refused holds words taken before now b written Trace refuses comes
   refused (Impact x) refuses comes = compilers.refused holds words taken before now b written (Impact x) refuses comes
   refused (Sample n) refuses comes = compilers.refused holds words taken before now b written (Sample n) refuses comes
-  refused Drain refuses comes = compilers.refused holds words taken before now b written Drain refuses comes
-  refused Settle refuses comes = compilers.refused holds words taken before now b written Settle refuses comes
   refused Promises refuses comes = compilers.refused holds words taken before now b written Promises refuses comes
-  refused WhatIf refuses comes = compilers.refused holds words taken before now b written WhatIf refuses comes
-  refused Multipath refuses comes = compilers.refused holds words taken before now b written Multipath refuses comes
+  refused (Under outlook) refuses comes = compilers.refused holds words taken before now b written (Under outlook) refuses comes
+  refused (After course) refuses comes = compilers.refused holds words taken before now b written (After course) refuses comes
   refused c refuses comes = absurd refuses
 
   pub failed : (c : Command) → Judges c → Comes holds words c (failing b) → Promised holds taken words c CheckFails before now

@@ -1,20 +1,16 @@
 -- Which commands compile, which may refuse, and which judge what they are given.
 use Rattle.propane_run.specs.declared.command.Command.{Command}
-use Rattle.propane_run.specs.declared.command.Command.TheVariants.{Compile, Evidence, Check, Replay, Trace, Impact, RouteMap, CheckMap, Lint, Audit, Sample, Drain, Settle, Promises, WhatIf, Multipath}
+use Rattle.propane_run.specs.declared.command.Command.TheVariants.{Compile, Evidence, Check, Impact, RouteMap, CheckMap, Lint, Audit, Sample, Promises, Under, After}
 
 -- it writes a part of what is compiled from a policy, or what comes of it
 abbrev pub Compiles : Command → Type 0
 Compiles Compile = Unit {0}
 Compiles Evidence = Unit {0}
-Compiles Replay = Unit {0}
-Compiles Trace = Unit {0}
 Compiles (Impact _) = Unit {0}
 Compiles (Sample _) = Unit {0}
-Compiles Drain = Unit {0}
-Compiles Settle = Unit {0}
 Compiles Promises = Unit {0}
-Compiles WhatIf = Unit {0}
-Compiles Multipath = Unit {0}
+Compiles (Under _) = Unit {0}
+Compiles (After _) = Unit {0}
 Compiles _ = ⊥
 
 -- it may refuse a policy, or a configuration

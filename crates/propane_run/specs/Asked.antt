@@ -11,7 +11,8 @@ use Rattle.event_reader.specs.Spelled.{spelled as events_spelled}
 use Rattle.sample_network.specs.Network.{sample_net}
 use Rattle.sample_network.specs.SamplePolicy.{sample_policy}
 use Rattle.propane_run.specs.declared.command.Command.{Command}
-use Rattle.propane_run.specs.declared.command.Command.TheVariants.{Replay, Trace, Sample, Drain, Settle, WhatIf, Multipath}
+use Rattle.propane_run.specs.declared.command.Command.TheVariants.{Compile, Evidence, Check, Explain, Impact, RouteMap, CheckMap, Lint, Audit, Migrate}
+use Rattle.propane_run.specs.declared.command.Command.TheVariants.{Sample, Help, Version, Promises, Under, After}
 use Rattle.propane_run.specs.Words.{words_are, names_read}
 use Rattle.run_base.specs.Reading.{Holds, AllHeld}
 
@@ -47,14 +48,22 @@ pub record IsSampled (words : List (List ℕ)) (n : ℕ) (net : PlainNet) (polic
   pub net_is : net ≡ sample_net n
   pub policy_is : policy ≡ sample_policy n
 
--- The network and the policy that a command is to compile: those that its inputs spell, or those of the sample of its number.
--- Where a scenario is read, too, or events, the inputs spell them.
+-- The network and the policy of a command that has both: those that its inputs spell, or those of the sample of its number. Where a
+-- scenario is read, too, or events, the inputs spell them.
 abbrev pub IsFor : Holds → List (List ℕ) → Command → PlainNet → PlainPolicy → Type 0
-IsFor holds words Replay net policy = (scenario : Scenario) × AsksUnder holds words Replay net policy scenario
-IsFor holds words Trace net policy = (events : Events) × AsksOfEvents holds words Trace net policy events
-IsFor holds words Drain net policy = (scenario : Scenario) × AsksUnder holds words Drain net policy scenario
-IsFor holds words Settle net policy = (events : Events) × AsksOfEvents holds words Settle net policy events
-IsFor holds words WhatIf net policy = (scenario : Scenario) × AsksUnder holds words WhatIf net policy scenario
-IsFor holds words Multipath net policy = (scenario : Scenario) × AsksUnder holds words Multipath net policy scenario
+IsFor holds words Compile net policy = AsksFor holds words Compile net policy
+IsFor holds words Evidence net policy = AsksFor holds words Evidence net policy
+IsFor holds words Check net policy = AsksFor holds words Check net policy
+IsFor holds words Explain net policy = AsksFor holds words Explain net policy
 IsFor holds words (Sample n) net policy = IsSampled words n net policy
-IsFor holds words c net policy = AsksFor holds words c net policy
+IsFor holds words Migrate net policy = ⊥
+IsFor holds words (Impact prefix) net policy = AsksFor holds words (Impact prefix) net policy
+IsFor holds words RouteMap net policy = AsksFor holds words RouteMap net policy
+IsFor holds words CheckMap net policy = ⊥
+IsFor holds words Lint net policy = AsksFor holds words Lint net policy
+IsFor holds words Audit net policy = AsksFor holds words Audit net policy
+IsFor holds words (Help topic) net policy = ⊥
+IsFor holds words Version net policy = ⊥
+IsFor holds words Promises net policy = AsksFor holds words Promises net policy
+IsFor holds words (Under outlook) net policy = (scenario : Scenario) × AsksUnder holds words (Under outlook) net policy scenario
+IsFor holds words (After course) net policy = (events : Events) × AsksOfEvents holds words (After course) net policy events

@@ -22,8 +22,8 @@ use Rattle.route_maps.specs.OfConfig.{maps_of}
 use Rattle.run_base.specs.Reading.{Holds}
 use Rattle.scenarios.specs.Scenarios.{failures_of}
 use Rattle.propane_run.specs.declared.command.Command.{Command}
-use Rattle.propane_run.specs.declared.command.Command.TheVariants.{Compile, Evidence, Check, Explain, Replay, Trace, Sample, Migrate, Impact, RouteMap, CheckMap, Lint}
-use Rattle.propane_run.specs.declared.command.Command.TheVariants.{Audit, Help, Version, Drain, Settle, Promises, WhatIf, Multipath}
+use Rattle.propane_run.specs.declared.command.Command.TheVariants.{Compile, Evidence, Check, Explain, Sample, Migrate, Impact, RouteMap, CheckMap, Lint}
+use Rattle.propane_run.specs.declared.command.Command.TheVariants.{Audit, Help, Version, Promises, Under, After}
 use Rattle.propane_run.specs.Asked.{AsksFor, IsFor}
 use Rattle.propane_run.specs.Auditing.{AsksAudit}
 use Rattle.propane_run.specs.Checking.{AsksOf}
@@ -55,8 +55,6 @@ module _ (holds : Holds) (words : List (List ℕ)) (Succeeds Fails : Type 0) (Re
   abbrev pub EndsRight : Command → Type 0
   EndsRight Compile = Compiles Compile
   EndsRight Evidence = Compiles Evidence
-  EndsRight Replay = Compiles Replay
-  EndsRight Trace = Compiles Trace
   EndsRight (Impact prefix) = Compiles (Impact prefix)
   EndsRight (Sample leaves) = Compiles (Sample leaves)
   EndsRight Explain = (net : PlainNet) (policy : PlainPolicy) → AsksFor holds words Explain net policy → Succeeds
@@ -77,8 +75,6 @@ module _ (holds : Holds) (words : List (List ℕ)) (Succeeds Fails : Type 0) (Re
       → (AreFew config → maps ≡ maps_of config → Succeeds) × (AreFew config → maps ≢ maps_of config → Fails) × (AreMany config → Refuses (many_line config))
   EndsRight (Help topic) = Succeeds
   EndsRight Version = Succeeds
-  EndsRight Drain = Compiles Drain
-  EndsRight Settle = Compiles Settle
   EndsRight Promises = Compiles Promises
-  EndsRight WhatIf = Compiles WhatIf
-  EndsRight Multipath = Compiles Multipath
+  EndsRight (Under outlook) = Compiles (Under outlook)
+  EndsRight (After course) = Compiles (After course)

@@ -11,6 +11,7 @@ pub mod Impacting
 pub mod Linting
 pub mod Mapping
 pub mod Migrating
+pub mod Outlooks
 pub mod Pairs
 pub mod Promises
 pub mod Promising

@@ -16,8 +16,12 @@ use Rattle.run_base.specs.declared.outcome.Status.TheVariants.{Done, Refused, Ch
 use Rattle.run_base.specs.Reading.{Holds}
 use Rattle.run_base.specs.Said.{Whole}
 use Rattle.propane_run.specs.declared.command.Command.{Command}
-use Rattle.propane_run.specs.declared.command.Command.TheVariants.{Compile, Evidence, Check, Explain, Replay, Trace, Sample, Migrate, Impact, RouteMap, CheckMap, Lint}
-use Rattle.propane_run.specs.declared.command.Command.TheVariants.{Audit, Help, Version, Drain, Settle, Promises, WhatIf, Multipath}
+use Rattle.propane_run.specs.declared.command.Command.TheVariants.{Compile, Evidence, Check, Explain, Sample, Migrate, Impact, RouteMap, CheckMap, Lint}
+use Rattle.propane_run.specs.declared.command.Command.TheVariants.{Audit, Help, Version, Promises, Under, After}
+use Rattle.propane_run.specs.declared.command.Course.{Course}
+use Rattle.propane_run.specs.declared.command.Course.TheVariants.{Trace, Settle}
+use Rattle.propane_run.specs.declared.command.Outlook.{Outlook}
+use Rattle.propane_run.specs.declared.command.Outlook.TheVariants.{Replay, Drain, WhatIf, Multipath}
 use Rattle.propane_run.specs.Answering.{AnswersRight}
 use Rattle.propane_run.specs.Asked.{AsksFor}
 use Rattle.propane_run.specs.Auditing.{AuditsRight, TellsAuditFault}
@@ -34,6 +38,18 @@ use Rattle.propane_run.specs.Replaying.{ReplaysRight}
 use Rattle.propane_run.specs.Sampling.{Samples}
 use Rattle.propane_run.specs.Tracing.{TracesRight}
 
+-- What is promised of a scenario: that the text answers what is asked, and of `replay` that there is one answer.
+abbrev pub AnswersUnder : {S : Type 0} → Holds → (S → Option (List ℕ)) → List (List ℕ) → Outlook → S → S → Type 0
+AnswersUnder holds taken words Replay s s' = ReplaysRight holds taken words s s'
+AnswersUnder holds taken words Drain s s' = AnswersRight scenario_spelled WritesDrain holds taken words (Under Drain) s s'
+AnswersUnder holds taken words WhatIf s s' = AnswersRight scenario_spelled WritesWhatIf holds taken words (Under WhatIf) s s'
+AnswersUnder holds taken words Multipath s s' = AnswersRight scenario_spelled WritesMultipath holds taken words (Under Multipath) s s'
+
+-- And of events, of `trace` that it tells of what is right at the moment, and at rest what `replay` tells.
+abbrev pub AnswersAfter : {S : Type 0} → Holds → (S → Option (List ℕ)) → List (List ℕ) → Course → S → S → Type 0
+AnswersAfter holds taken words Trace s s' = TracesRight holds taken words s s'
+AnswersAfter holds taken words Settle s s' = AnswersRight events_spelled WritesSettlement holds taken words (After Settle) s s'
+
 -- For a command and the status with which it ended: what the sink has taken that goes with the status, `out` with Done and CheckFails,
 -- and `err` with Refused. A command ends with none of the three that isn't listed for it.
 abbrev pub Promised : {S : Type 0} → Holds → (S → Option (List ℕ)) → List (List ℕ) → Command → Status → S → S → Type 0
@@ -48,10 +64,6 @@ Promised holds taken words Check Done s s' =
     × Passes claim.net claim.policy claim.config evidence
 Promised holds taken words Check CheckFails s s' = TellsFault holds taken words s s'
 Promised holds taken words Explain Done s s' = ExplainsRight holds taken words s s'
-Promised holds taken words Replay Done s s' = ReplaysRight holds taken words s s'
-Promised holds taken words Replay Refused s s' = RefusesRight holds taken words Replay s s'
-Promised holds taken words Trace Done s s' = TracesRight holds taken words s s'
-Promised holds taken words Trace Refused s s' = RefusesRight holds taken words Trace s s'
 Promised holds taken words (Sample leaves) Done s s' = Samples taken leaves s s'
 Promised holds taken words (Sample leaves) Refused s s' = RefusesRight holds taken words (Sample leaves) s s'
 Promised holds taken words Migrate Done s s' = MigratesRight holds taken words s s'
@@ -68,14 +80,10 @@ Promised holds taken words Audit Done s s' = AuditsRight holds taken words s s'
 Promised holds taken words Audit CheckFails s s' = TellsAuditFault holds taken words s s'
 Promised holds taken words (Help topic) Done s s' = Whole taken (help_text topic) s s'
 Promised holds taken words Version Done s s' = Whole taken version_text s s'
-Promised holds taken words Drain Done s s' = AnswersRight scenario_spelled WritesDrain holds taken words Drain s s'
-Promised holds taken words Drain Refused s s' = RefusesRight holds taken words Drain s s'
-Promised holds taken words Settle Done s s' = AnswersRight events_spelled WritesSettlement holds taken words Settle s s'
-Promised holds taken words Settle Refused s s' = RefusesRight holds taken words Settle s s'
 Promised holds taken words Promises Done s s' = PromisesRight holds taken words s s'
 Promised holds taken words Promises Refused s s' = RefusesRight holds taken words Promises s s'
-Promised holds taken words WhatIf Done s s' = AnswersRight scenario_spelled WritesWhatIf holds taken words WhatIf s s'
-Promised holds taken words WhatIf Refused s s' = RefusesRight holds taken words WhatIf s s'
-Promised holds taken words Multipath Done s s' = AnswersRight scenario_spelled WritesMultipath holds taken words Multipath s s'
-Promised holds taken words Multipath Refused s s' = RefusesRight holds taken words Multipath s s'
+Promised holds taken words (Under outlook) Done s s' = AnswersUnder holds taken words outlook s s'
+Promised holds taken words (Under outlook) Refused s s' = RefusesRight holds taken words (Under outlook) s s'
+Promised holds taken words (After course) Done s s' = AnswersAfter holds taken words course s s'
+Promised holds taken words (After course) Refused s s' = RefusesRight holds taken words (After course) s s'
 Promised holds taken words _ _ s s' = ⊥

@@ -1,11 +1,16 @@
 -- What the words and the inputs come to.
 use Rattle.std.specs.Prelude.{◌≡◌, ℕ, List, Option, Some, None}
 use Rattle.propane_run.specs.declared.command.Command.{Command}
-use Rattle.propane_run.specs.declared.command.Command.TheVariants.{Compile, Evidence, Check, Explain, Replay, Trace, Impact, RouteMap, CheckMap, Lint, Audit, Migrate}
-use Rattle.propane_run.specs.declared.command.Command.TheVariants.{Sample, Help, Version, Drain, Settle, Promises, WhatIf, Multipath}
+use Rattle.propane_run.specs.declared.command.Command.TheVariants.{Compile, Evidence, Check, Explain, Impact, RouteMap, CheckMap, Lint, Audit, Migrate}
+use Rattle.propane_run.specs.declared.command.Command.TheVariants.{Sample, Help, Version, Promises, Under, After}
+use Rattle.propane_run.specs.Outlooks.{WritesUnder, WritesAfter}
 use Rattle.propane_run.specs.Words.{names_read, usage, words_are}
 use Rattle.run_base.specs.Reading.{Holds, ReadsAll, AllHeld, FailedAs}
 use Rattle.input_texts.specs.Texts.{OfTwoTexts}
+use Rattle.input_texts.specs.FaultLines.{events_line, scenario_line}
+use Rattle.event_reader.specs.Spelled.{spelled as events_spelled}
+use Rattle.scenario_reader.specs.Spelled.{spelled as scenario_spelled}
+use Rattle.compile_jobs.specs.Compiling.{SaysOfThree}
 use Rattle.judging_jobs.specs.Audited as audit
 use Rattle.judging_jobs.specs.Checked as check
 use Rattle.compile_jobs.specs.declared.written.Part.TheVariants as part
@@ -15,15 +20,9 @@ use Rattle.report_jobs.specs.Impacts as impact
 use Rattle.judging_jobs.specs.Linted as lint
 use Rattle.judging_jobs.specs.MapsJobs as maps
 use Rattle.judging_jobs.specs.Migrated as migrate
-use Rattle.report_jobs.specs.Replayed as replay
 use Rattle.compile_jobs.specs.Sampled.{SaysOfNumber}
 use Rattle.compile_jobs.specs.Written.{SaysOfPart}
-use Rattle.report_jobs.specs.Traced as trace
-use Rattle.report_jobs.specs.Drained as drain
-use Rattle.report_jobs.specs.Settles as settle
 use Rattle.report_jobs.specs.Promised as promises
-use Rattle.report_jobs.specs.WhatIfs as whatif
-use Rattle.report_jobs.specs.Spread as multipath
 use Rattle.run_base.specs.declared.outcome.Status.{Status}
 use Rattle.run_base.specs.Said.{Delivered, IsGiven, Said, text}
 
@@ -33,8 +32,6 @@ Job Compile = OfTwoTexts (SaysOfPart part.Config)
 Job Evidence = OfTwoTexts (SaysOfPart part.Evidence)
 Job Check = check.SaysOfTexts
 Job Explain = OfTwoTexts explain.SaysOfPolicy
-Job Replay = replay.SaysOfTexts
-Job Trace = trace.SaysOfTexts
 Job (Sample n) = λ bs. SaysOfNumber n
 Job Migrate = migrate.SaysOfTexts
 Job (Impact p) = impact.SaysOfTexts p
@@ -44,11 +41,9 @@ Job Lint = lint.SaysOfTexts
 Job Audit = audit.SaysOfTexts
 Job (Help topic) = λ bs what. what ≡ text (help_text topic)
 Job Version = λ bs what. what ≡ text version_text
-Job Drain = drain.SaysOfTexts
-Job Settle = settle.SaysOfTexts
 Job Promises = promises.SaysOfTexts
-Job WhatIf = whatif.SaysOfTexts
-Job Multipath = multipath.SaysOfTexts
+Job (Under outlook) = SaysOfThree scenario_line scenario_spelled (WritesUnder outlook)
+Job (After course) = SaysOfThree events_line events_spelled (WritesAfter course)
 
 abbrev pub IsAnswerOf : Holds → (List ℕ → Type 0) → List (List ℕ) → Option Command → Said → Type 0
 IsAnswerOf holds rose words None what = what ≡ usage

@@ -1,30 +1,51 @@
-//! Which command the words are.
+//! Which command the words are: the first word names it, and it takes as many more as it has names and other words.
+//!
+//! The word of a command is `help_texts::Topic`'s alone. Here stands what a command makes of the words after its own
+//! (`Command::of`), how many names it reads (`Command::name_count`), and how many words it takes besides
+//! (`Command::other_words`). Commands that compile and then answer what a third text asks are one kind for each kind
+//! of text, since all is alike of them but what they write.
 ghost use Rattle.std.specs.Prelude.{◌≡◌, IfSome, length, map, string_bytes};
 ghost use Rattle.propane_run.specs.Words.{
   words_are,
-  asks_for_help,
+  topic_asked,
+  command_of,
   sample_number,
-  word_alone,
-  with_one_word,
-  with_two_names,
   prefix_word,
-  with_three_words,
-  with_four_names,
-  with_six_names,
+  help_of,
   name_count,
+  other_words,
   places_of,
+  HasNumber,
   IsWithin,
 };
 
 use help_texts::Topic;
 use net_base::{Prefix, read_length, read_prefix};
 
-/// What is said of words that are no command.
-pub const USAGE: &[u8] =
-    b"propane: usage: compile TOPO POLICY, evidence TOPO POLICY, check TOPO POLICY CONFIG EVIDENCE, explain TOPO POLICY, replay TOPO POLICY SCENARIO, trace TOPO POLICY EVENTS, sample N, migrate CONFIG, impact TOPO POLICY PREFIX, routemap TOPO POLICY, checkmap CONFIG MAPS, lint TOPO POLICY, audit TOPO POLICY CONFIG EVIDENCE SCENARIO TABLES, help [COMMAND], version, drain TOPO POLICY SCENARIO, settle TOPO POLICY EVENTS, promises TOPO POLICY, whatif TOPO POLICY SCENARIO, multipath TOPO POLICY SCENARIO\n";
-
 // The places in the words at which the names of a command stand: they follow its own word.
 const PLACES: [u32; 6] = [1, 2, 3, 4, 5, 6];
+
+/// What is asked of a compiled network in which something has failed: the third text is a scenario.
+#[derive(Clone, Copy, Debug, PartialEq, Eq)]
+pub enum Outlook {
+    /// `replay TOPO POLICY SCENARIO`.
+    Replay,
+    /// `drain TOPO POLICY SCENARIO`.
+    Drain,
+    /// `whatif TOPO POLICY SCENARIO`.
+    WhatIf,
+    /// `multipath TOPO POLICY SCENARIO`.
+    Multipath,
+}
+
+/// What is asked of a compiled network to which something happens: the third text is a list of events.
+#[derive(Clone, Copy, Debug, PartialEq, Eq)]
+pub enum Course {
+    /// `trace TOPO POLICY EVENTS`.
+    Trace,
+    /// `settle TOPO POLICY EVENTS`.
+    Settle,
+}
 
 /// A command, with what isn't a name in its words.
 #[derive(Clone, Copy, Debug, PartialEq, Eq)]
@@ -37,10 +58,6 @@ pub enum Command {
     Check,
     /// `explain TOPO POLICY`.
     Explain,
-    /// `replay TOPO POLICY SCENARIO`.
-    Replay,
-    /// `trace TOPO POLICY EVENTS`.
-    Trace,
     /// `sample N`: the number of leaves, from 2 to 96, without leading zeros.
     Sample(u16),
     /// `migrate CONFIG`.
@@ -59,19 +76,44 @@ pub enum Command {
     Help(Option<Topic>),
     /// `version`.
     Version,
-    /// `drain TOPO POLICY SCENARIO`.
-    Drain,
-    /// `settle TOPO POLICY EVENTS`.
-    Settle,
     /// `promises TOPO POLICY`.
     Promises,
-    /// `whatif TOPO POLICY SCENARIO`.
-    WhatIf,
-    /// `multipath TOPO POLICY SCENARIO`.
-    Multipath,
+    /// A command on a topology, a policy and a scenario.
+    Under(Outlook),
+    /// A command on a topology, a policy and events.
+    After(Course),
 }
 
 impl Command {
+    /// The command that a word names, with what the words after it say besides names; None where one of them says nothing of
+    /// the kind. How many there are isn't asked here.
+    fn of(topic: Topic, rest: &[String]) -> Option<Command>
+        ensures { result ≡ command_of topic (map string_bytes rest.now) }
+    {
+        match topic {
+            Topic::Compile => Some(Command::Compile),
+            Topic::Evidence => Some(Command::Evidence),
+            Topic::Check => Some(Command::Check),
+            Topic::Explain => Some(Command::Explain),
+            Topic::Replay => Some(Command::Under(Outlook::Replay)),
+            Topic::Trace => Some(Command::After(Course::Trace)),
+            Topic::Sample => Some(Command::Sample(number_of(rest.first()?.as_str())?)),
+            Topic::Migrate => Some(Command::Migrate),
+            Topic::Impact => Some(Command::Impact(prefix_of(rest.get(2)?.as_str())?)),
+            Topic::RouteMap => Some(Command::RouteMap),
+            Topic::CheckMap => Some(Command::CheckMap),
+            Topic::Lint => Some(Command::Lint),
+            Topic::Audit => Some(Command::Audit),
+            Topic::Help => Some(Command::Help(help_topic(rest)?)),
+            Topic::Version => Some(Command::Version),
+            Topic::Drain => Some(Command::Under(Outlook::Drain)),
+            Topic::Settle => Some(Command::After(Course::Settle)),
+            Topic::Promises => Some(Command::Promises),
+            Topic::WhatIf => Some(Command::Under(Outlook::WhatIf)),
+            Topic::Multipath => Some(Command::Under(Outlook::Multipath)),
+        }
+    }
+
     /// How many names the command reads.
     pub fn name_count(&self) -> usize
         ensures { result ≡ name_count self.now }
@@ -87,14 +129,19 @@ impl Command {
             | Command::CheckMap
             | Command::Lint
             | Command::Promises => 2,
-            Command::Replay
-            | Command::Trace
-            | Command::Drain
-            | Command::Settle
-            | Command::WhatIf
-            | Command::Multipath => 3,
+            Command::Under(_) | Command::After(_) => 3,
             Command::Check => 4,
             Command::Audit => 6,
+        }
+    }
+
+    /// How many words follow its names: the number of a sample, a prefix, or the word of a command.
+    fn other_words(&self) -> usize
+        ensures { result ≡ other_words self.now }
+    {
+        match *self {
+            Command::Sample(_) | Command::Impact(_) | Command::Help(Some(_)) => 1,
+            _ => 0,
         }
     }
 
@@ -118,67 +165,6 @@ fn number_of(digits: &str) -> Option<u16>
     }
 }
 
-// Whether a word asks for help.
-fn is_help(word: &str) -> bool
-    ensures { result ≡ asks_for_help word.now }
-{
-    matches!(word, "help" | "--help" | "-h")
-}
-
-// The command of this word alone.
-fn of_word_alone(word: &str) -> Option<Command>
-    ensures is { result ≡ word_alone word.now }
-    ensures within { IfSome result (λ c. IsWithin 1 c) }
-{
-    if is_help(word) {
-        Some(Command::Help(None))
-    } else if matches!(word, "version" | "--version") {
-        Some(Command::Version)
-    } else {
-        None
-    }
-}
-
-// The command of this word with one more after it: a number, a name, or the word of a command.
-fn of_one_word(word: &str, next: &str) -> Option<Command>
-    ensures is { result ≡ with_one_word word.now next.now }
-    ensures within { IfSome result (λ c. IsWithin 2 c) }
-{
-    if word == "sample" {
-        Some(Command::Sample(number_of(next)?))
-    } else if word == "migrate" {
-        Some(Command::Migrate)
-    } else if is_help(word) {
-        Some(Command::Help(Some(Topic::named(next)?)))
-    } else {
-        None
-    }
-}
-
-// The command of this word with two names after it.
-fn of_two_names(word: &str) -> Option<Command>
-    ensures is { result ≡ with_two_names word.now }
-    ensures within { IfSome result (λ c. IsWithin 3 c) }
-{
-    if word == "compile" {
-        Some(Command::Compile)
-    } else if word == "evidence" {
-        Some(Command::Evidence)
-    } else if word == "explain" {
-        Some(Command::Explain)
-    } else if word == "routemap" {
-        Some(Command::RouteMap)
-    } else if word == "checkmap" {
-        Some(Command::CheckMap)
-    } else if word == "lint" {
-        Some(Command::Lint)
-    } else if word == "promises" {
-        Some(Command::Promises)
-    } else {
-        None
-    }
-}
-
 // The prefix that a word is.
 fn prefix_of(word: &str) -> Option<Prefix>
     ensures { result ≡ prefix_word word.now }
@@ -186,51 +172,24 @@ fn prefix_of(word: &str) -> Option<Prefix>
     read_prefix(word.as_bytes()).ok()
 }
 
-// The command of this word with three more after it, of which the last may be a prefix.
-fn of_three_words(word: &str, last: &str) -> Option<Command>
-    ensures is { result ≡ with_three_words word.now last.now }
-    ensures within { IfSome result (λ c. IsWithin 4 c) }
+// Which command help is asked of.
+fn help_topic(rest: &[String]) -> Option<Option<Topic>>
+    ensures { result ≡ help_of (map string_bytes rest.now) }
 {
-    if word == "replay" {
-        Some(Command::Replay)
-    } else if word == "trace" {
-        Some(Command::Trace)
-    } else if word == "impact" {
-        Some(Command::Impact(prefix_of(last)?))
-    } else if word == "drain" {
-        Some(Command::Drain)
-    } else if word == "settle" {
-        Some(Command::Settle)
-    } else if word == "whatif" {
-        Some(Command::WhatIf)
-    } else if word == "multipath" {
-        Some(Command::Multipath)
-    } else {
-        None
+    match rest {
+        [] => Some(None),
+        [word, ..] => Some(Some(Topic::named(word.as_str())?)),
     }
 }
 
-// The command of this word with four names after it.
-fn of_four_names(word: &str) -> Option<Command>
-    ensures is { result ≡ with_four_names word.now }
-    ensures within { IfSome result (λ c. IsWithin 5 c) }
+// The command of a word: its own, or one by which every program is asked for help and for its version.
+fn topic_of(word: &str) -> Option<Topic>
+    ensures { result ≡ topic_asked word.now }
 {
-    if word == "check" {
-        Some(Command::Check)
-    } else {
-        None
-    }
-}
-
-// The command of this word with six names after it.
-fn of_six_names(word: &str) -> Option<Command>
-    ensures is { result ≡ with_six_names word.now }
-    ensures within { IfSome result (λ c. IsWithin 7 c) }
-{
-    if word == "audit" {
-        Some(Command::Audit)
-    } else {
-        None
+    match word {
+        "--help" | "-h" => Some(Topic::Help),
+        "--version" => Some(Topic::Version),
+        _ => Topic::named(word),
     }
 }
 
@@ -240,12 +199,14 @@ pub fn words_of(words: &[String]) -> Option<Command>
     ensures within { IfSome result (λ c. IsWithin (length words.now) c) }
 {
     match words {
-        [word] => of_word_alone(word.as_str()),
-        [word, next] => of_one_word(word.as_str(), next.as_str()),
-        [word, _, _] => of_two_names(word.as_str()),
-        [word, _, _, last] => of_three_words(word.as_str(), last.as_str()),
-        [word, _, _, _, _] => of_four_names(word.as_str()),
-        [word, _, _, _, _, _, _] => of_six_names(word.as_str()),
-        _ => None,
+        [word, rest @ ..] => {
+            let command = Command::of(topic_of(word.as_str())?, rest)?;
+            if rest.len() == command.name_count() + command.other_words() {
+                Some(command)
+            } else {
+                None
+            }
+        }
+        [] => None,
     }
 }

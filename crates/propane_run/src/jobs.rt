@@ -5,9 +5,10 @@ ghost use Rattle.compile_jobs.specs.Compiling.{SaysOfThree};
 ghost use Rattle.run_base.specs.Reading.{most, word_at};
 ghost use Rattle.run_base.specs.Said.{IsGiven, said, text as text_said};
 ghost use Rattle.propane_run.specs.Run.{Job};
+ghost use Rattle.propane_run.specs.declared.command.Command.TheVariants.{Under, After};
 ghost use Rattle.propane_run.specs.Words.{places_of, HasNumber};
 
-use crate::command::Command;
+use crate::command::{Command, Course, Outlook};
 use compile_jobs::{Answer, Part, answered_texts, explain_texts, sample_summary, written_texts};
 use help_texts::{help, version};
 use judging_jobs::{
@@ -38,13 +39,39 @@ fn written(alloc: Global, text: &str) -> Result<Vec<u8>, Stop>
     Ok(text.as_bytes().to_vec(alloc)?)
 }
 
-// What a command comes to that answers what a third text asks.
+// What a command comes to that compiles, and answers what a third text asks.
 fn answer_texts<A: Answer>(alloc: Global, texts: &[List<u8>]) -> Result<Vec<u8>, Stop>
     requires count { length texts.now ≡ 3 }
     requires short { AllByRecursion (λ bytes. length bytes ≤ most) texts.now }
     ensures { IsGiven (SaysOfThree A.Asked.line_of A.Asked.spelled A.writes texts.now) (said result) }
 {
     answered_texts::<A>(alloc, text(texts, 0), text(texts, 1), text(texts, 2))
+}
+
+// What is asked under a scenario.
+fn under(alloc: Global, outlook: Outlook, texts: &[List<u8>]) -> Result<Vec<u8>, Stop>
+    requires count { length texts.now ≡ 3 }
+    requires short { AllByRecursion (λ bytes. length bytes ≤ most) texts.now }
+    ensures { IsGiven (Job (Under outlook) texts.now) (said result) }
+{
+    match outlook {
+        Outlook::Replay => answer_texts::<ReplayCommand>(alloc, texts),
+        Outlook::Drain => answer_texts::<DrainCommand>(alloc, texts),
+        Outlook::WhatIf => answer_texts::<WhatIfCommand>(alloc, texts),
+        Outlook::Multipath => answer_texts::<MultipathCommand>(alloc, texts),
+    }
+}
+
+// What is asked after events.
+fn after(alloc: Global, course: Course, texts: &[List<u8>]) -> Result<Vec<u8>, Stop>
+    requires count { length texts.now ≡ 3 }
+    requires short { AllByRecursion (λ bytes. length bytes ≤ most) texts.now }
+    ensures { IsGiven (Job (After course) texts.now) (said result) }
+{
+    match course {
+        Course::Trace => answer_texts::<TraceCommand>(alloc, texts),
+        Course::Settle => answer_texts::<SettleCommand>(alloc, texts),
+    }
 }
 
 /// What a command comes to, from the bytes of its names.
@@ -67,8 +94,6 @@ pub fn job(alloc: Global, command: &Command, texts: &[List<u8>]) -> Result<Vec<u
             text(texts, 3),
         ),
         Command::Explain => explain_texts(alloc, text(texts, 0), text(texts, 1)),
-        Command::Replay => answer_texts::<ReplayCommand>(alloc, texts),
-        Command::Trace => answer_texts::<TraceCommand>(alloc, texts),
         Command::Sample(leaves) => sample_summary(alloc, leaves),
         Command::Migrate => migrate_text(alloc, text(texts, 0)),
         Command::Impact(prefix) => { impact_texts(alloc, text(texts, 0), text(texts, 1), prefix) }
@@ -86,10 +111,8 @@ pub fn job(alloc: Global, command: &Command, texts: &[List<u8>]) -> Result<Vec<u
         ),
         Command::Help(topic) => written(alloc, help(topic)),
         Command::Version => written(alloc, version()),
-        Command::Drain => answer_texts::<DrainCommand>(alloc, texts),
-        Command::Settle => answer_texts::<SettleCommand>(alloc, texts),
         Command::Promises => promises_texts(alloc, text(texts, 0), text(texts, 1)),
-        Command::WhatIf => answer_texts::<WhatIfCommand>(alloc, texts),
-        Command::Multipath => answer_texts::<MultipathCommand>(alloc, texts),
+        Command::Under(outlook) => under(alloc, outlook, texts),
+        Command::After(course) => after(alloc, course, texts),
     }
 }
