@@ -9,7 +9,7 @@ from collections.abc import Iterator
 from texts.faults import Fault
 
 from .maps import Entry, Row, Tag
-from .plans import Plan, Session
+from .plans import USED, Plan, Session, Ties
 
 ENDING = ".bird.conf"
 
@@ -64,19 +64,19 @@ function bare()
 """
 
 TEMPLATE = """\
-# Of the routes of the highest preference the one with the shortest path is used, and of these the one of the neighbour with the
-# lowest identifier. A session that is lost takes its routes with it at once.
-template bgp 'own:session' {
+# {used[0]}
+# {used[1]}
+template bgp 'own:session' {{
   med metric off;
   igp metric off;
-  prefer older off;
+  prefer older {older};
   enforce first as on;
   graceful restart off;
   long lived graceful restart off;
   connect delay time 1;
   connect retry time 5;
   error wait time 5, 60;
-}
+}}
 """
 
 
@@ -113,7 +113,7 @@ def bird_text(plan: Plan) -> str:
         parts.append("\n".join([RADV, *(f"  interface \"{interface}\" {TOLD_SOON};" for interface in over), "}\n"]))
     if any(session.wire.bfd for session in plan.sessions):
         parts.append(BFD)
-    parts.append(TEMPLATE)
+    parts.append(TEMPLATE.format(used=USED[plan.ties], older="on" if plan.ties is Ties.OLDEST else "off"))
     parts += [session_text(session, plan) for session in plan.sessions]
     return "\n".join(parts)
 

@@ -3,6 +3,7 @@ from __future__ import annotations
 
 import re
 import sys
+from dataclasses import dataclass, replace
 
 from texts.faults import Fault
 from texts.files import read_text
@@ -15,45 +16,58 @@ from .folders import BIRD, FRR, Described, Drift, read_back, write_files
 from .map_reader import read_maps
 from .maps import maps_text
 from .numbering import numbered
-from .plans import Choices
+from .plans import Choices, Ties
 
 DAEMONS = {"--bird": BIRD, "--frr": FRR}
 MOST_PATHS = 255  # BIRD takes no more, and FRR doesn't tell 256
+RULES = [rule.value for rule in Ties]
 
 
-def options_of(words: list[str]) -> tuple[list[str], int, str | None] | None:
-    """The words without the options behind the first, the most next hops, and the policy; None where an option isn't as it should be."""
-    words, paths, policy = list(words), 1, None
-    while words[1:2] in (["--paths"], ["--policy"]):
+@dataclass(frozen=True)
+class Options:
+    """The options: the most next hops, which of several routes is used, and the file of the policy."""
+
+    paths: int = 1
+    ties: Ties = Ties.LOWEST
+    policy: str | None = None
+
+
+def options_of(words: list[str]) -> tuple[list[str], Options] | None:
+    """The words without the options behind the first, and these; None where an option isn't as it should be."""
+    words, found = list(words), Options()
+    while words[1:2] in (["--paths"], ["--ties"], ["--policy"]):
         option, value = words.pop(1), words.pop(1) if words[1:] else ""
         if option == "--policy" and value:
-            policy = value
+            found = replace(found, policy=value)
+        elif option == "--ties" and value in RULES:
+            found = replace(found, ties=Ties(value))
         elif option == "--paths" and re.fullmatch("[1-9][0-9]{0,2}", value) and int(value) <= MOST_PATHS:
-            paths = int(value)
+            found = replace(found, paths=int(value))
         else:
             return None
-    return words, paths, policy
+    return words, found
 
 
-def described(topology_file: str, addresses_file: str, paths: int, policy: str | None) -> Described:
+def described(topology_file: str, addresses_file: str, options: Options) -> Described:
     """The network of these files."""
     topology = Topology(read_text(topology_file))
-    choices = Choices.of(paths, cut(read_text(policy).encode()) if policy else None, topology)
+    policy = cut(read_text(options.policy).encode()) if options.policy else None
+    choices = Choices.of(options.paths, options.ties, policy, topology)
     return Described(topology, Addresses(read_text(addresses_file), topology), choices)
 
 
 def run(given: list[str], usage: str) -> int:
     found = options_of(given)
-    words, paths, policy = found or ([], 1, None)
+    words, options = found or ([], Options())
     if len(words) == 4 and words[0] == "--read":
-        network = described(words[1], words[2], paths, policy)
+        network = described(words[1], words[2], options)
         sys.stdout.write(maps_text(network.topology, read_back(network, words[3])))
     elif len(words) == 3 and words[0] == "--number":
         sys.stdout.write(numbered(Topology(read_text(words[2])), words[1]))
     elif len(words) >= 5 and words[0] in DAEMONS:
         topology = Topology(read_text(words[1]))
         maps = read_maps(topology, read_text(words[2]))
-        write_files(DAEMONS[words[0]], described(words[1], words[3], paths, policy), maps, words[4], words[5:])
+        write_files(DAEMONS[words[0]], described(words[1], words[3], options), maps, words[4], words[5:])
     else:
         sys.stderr.write(usage)
         return USAGE

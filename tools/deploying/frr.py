@@ -10,20 +10,18 @@ from texts.faults import Fault
 
 from .addresses import RESERVED
 from .maps import Entry, Network, Row, Tag
-from .plans import Plan, Session
+from .plans import USED, Plan, Session, Ties
 
 ENDING = ".frr.conf"
 LAST = 65535  # the greatest number of an entry
 
-SELECTION = """\
-! Of the routes of the highest preference the one with the shortest path is used, and of these the one of the neighbour with the
-! lowest identifier. A session that is lost takes its routes with it at once.""".split("\n")
 OWN_NUMBERS = "! The AS numbers by which the network is known. A path of a peer that has one comes from here."
 ORIGINS = "! Which AS numbers may originate a prefix. While the cache doesn't answer, nothing is known to be wrong."
 DROPPED = "! What these networks don't deliver is dropped, and isn't sent back outside."
 WASH = (" set community none", " set extcommunity none", " set metric 0", " set origin igp")
-ROUTER = (" bgp ebgp-requires-policy", " no bgp suppress-duplicates", " no bgp default ipv4-unicast", " bgp graceful-restart-disable",
-          " bgp bestpath compare-routerid", " no bgp network import-check")
+ROUTER = (" bgp ebgp-requires-policy", " no bgp suppress-duplicates", " no bgp default ipv4-unicast", " bgp graceful-restart-disable")
+LOWEST_FIRST = " bgp bestpath compare-routerid"
+UNCHECKED = " no bgp network import-check"
 RELAXED = " bgp bestpath as-path multipath-relax"
 UNGROUPED = "no zebra nexthop kernel enable"
 
@@ -42,7 +40,7 @@ def frr_text(plan: Plan) -> str:
         parts.append([ORIGINS, "rpki", f" rpki cache {plan.rpki.address} {plan.rpki.port} preference 1", "exit"])
     for session in plan.sessions:
         parts += map_parts(session, plan)
-    parts.append([*SELECTION, *router_lines(plan)])
+    parts.append([*(f"! {line}" for line in USED[plan.ties]), *router_lines(plan)])
     return "\n!\n".join("\n".join(part) for part in parts if part) + "\n"
 
 
@@ -116,7 +114,8 @@ def entry_lines(entry: Entry) -> Iterator[str]:
 
 
 def router_lines(plan: Plan) -> Iterator[str]:
-    yield from (f"router bgp {plan.site.asn}", f" bgp router-id {plan.site.id}", *ROUTER, *([RELAXED] if plan.paths > 1 else []))
+    yield from (f"router bgp {plan.site.asn}", f" bgp router-id {plan.site.id}", *ROUTER,
+                *([LOWEST_FIRST] if plan.ties is Ties.LOWEST else []), UNCHECKED, *([RELAXED] if plan.paths > 1 else []))
     for session in plan.sessions:
         yield from neighbour_lines(session, plan)
     yield from (" !", " address-family ipv4 unicast")

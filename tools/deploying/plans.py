@@ -3,6 +3,7 @@ from __future__ import annotations
 
 from collections.abc import Mapping, Sequence
 from dataclasses import dataclass, field
+from enum import Enum
 
 from texts.faults import Fault
 from texts.policy import Policy
@@ -28,21 +29,39 @@ class Session:
     wire: Wire
 
 
+class Ties(Enum):
+    """Which of the routes that tie in preference and in length a router uses: the one of the neighbour with the lowest identifier, as the
+    program's reports have it, or the oldest one, as most routers do by themselves."""
+
+    LOWEST = "lowest"
+    OLDEST = "oldest"
+
+
+# What a file says of the route that is used, in two lines.
+USED = {
+    Ties.LOWEST: ("Of the routes of the highest preference the one with the shortest path is used, and of these the one of the neighbour with the",
+                  "lowest identifier. A session that is lost takes its routes with it at once."),
+    Ties.OLDEST: ("Of the routes of the highest preference the one with the shortest path is used, and of these the oldest one.",
+                  "A session that is lost takes its routes with it at once."),
+}
+
+
 @dataclass(frozen=True)
 class Choices:
     """What all files of a network say besides maps and addresses.
 
-    `paths` is the most next hops that packets to a prefix are spread over. `originated` has the prefixes that each router originates, where
+    `paths` is the most next hops that packets to a prefix are spread over, `ties` which of several routes is used. `originated` has the prefixes that each router originates, where
     they are told: the maps say nothing of an origin at which no path of the policy ends.
     """
 
     paths: int = 1
+    ties: Ties = Ties.LOWEST
     originated: Mapping[str, Sequence[str]] = field(default_factory=dict)
 
     @staticmethod
-    def of(paths: int, policy: Policy | None, topology: Topology) -> Choices:
+    def of(paths: int, ties: Ties, policy: Policy | None, topology: Topology) -> Choices:
         """These, where a policy may be given."""
-        return Choices(paths, policy.originated(router.name for router in topology.routers) if policy else {})
+        return Choices(paths, ties, policy.originated(router.name for router in topology.routers) if policy else {})
 
 
 @dataclass
@@ -50,7 +69,7 @@ class Plan:
     """A router with its lists, its networks, its sessions in order of location, and for each neighbour what is taken and sent.
 
     `unsent` are prefixes that it originates and tells nobody. `own_numbers` are the AS numbers by which the network is known, inside and
-    outside. `paths` is the most next hops of a route.
+    outside. `paths` is the most next hops of a route, and `ties` says which route is used of those that tie.
     """
 
     site: Site
@@ -61,6 +80,7 @@ class Plan:
     blocks: Mapping[str, Block]
     own_numbers: list[int]
     paths: int
+    ties: Ties
     rpki: Cache | None
 
     def is_asked(self, session: Session) -> bool:
@@ -102,4 +122,4 @@ def plan_of(topology: Topology, maps: Maps, addresses: Addresses, choices: Choic
     mine = maps.routers[site.name]
     sessions = [session_of(addresses, site, other) for other in topology.neighbours(site.name)]
     return Plan(site, maps.lists, mine.networks, unsent_of(site.name, mine.networks, choices), sessions, mine.blocks,
-                own_numbers(topology, addresses), choices.paths, addresses.rpki)
+                own_numbers(topology, addresses), choices.paths, choices.ties, addresses.rpki)

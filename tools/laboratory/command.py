@@ -13,10 +13,10 @@ from collections.abc import Callable, Sequence
 
 from deploying import folders
 from deploying.addresses import Addresses
-from deploying.command import MOST_PATHS
+from deploying.command import MOST_PATHS, RULES
 from deploying.map_reader import read_maps
 from deploying.maps import maps_text
-from deploying.plans import Choices
+from deploying.plans import Choices, Ties
 from texts.faults import Fault
 from texts.policy import cut
 from texts.scenario import Scenario
@@ -26,6 +26,7 @@ from . import enclosure
 from .commands import TOOLS, Broken, propane, ran, read, write
 from .network import Inputs, Network
 from .questions import Texts
+from .restless import slow_down
 from .scenarios import asked_prefixes, scenario_of, single_failures
 from .trials import Trials, differing, run_scenarios, say
 
@@ -44,11 +45,19 @@ def words_of(arguments: Sequence[str], usage: str) -> argparse.Namespace:
     parser.add_argument("--keep", metavar="FOLDER", help="a folder for all that is written, recorded and logged")
     parser.add_argument("--paths", type=number_up_to(MOST_PATHS), default=1, metavar="N",
                         help="next hops over which packets are spread, as tools/deploy takes it (1)")
+    parser.add_argument("--ties", choices=RULES, default=RULES[0],
+                        help="which of several routes a router uses, as tools/deploy takes it; with `oldest` any stable outcome is right")
     parser.add_argument("--stop", type=number_up_to(1_000_000), metavar="N", help="end once N scenarios have differed")
+    parser.add_argument("--restless", type=number_up_to(3600), default=0, metavar="SECONDS",
+                        help="for which all moves before each scenario: links, sessions, what peers say; takes `--ties oldest`")
     for word in ("topology", "policy"):
         parser.add_argument(word)
     parser.add_argument("scenarios", nargs="*", metavar="scenario")
     words = parser.parse_args(arguments)
+    if words.paths > 1 and words.ties != RULES[0]:
+        parser.error("--paths: propane tells the next hops of the outcome in which the lowest identifier decides")
+    if words.restless and words.ties == RULES[0]:
+        parser.error("--restless: peers make their paths longer, so which of several routes is used isn't as propane tells")
     named = words.topology, words.policy, *words.scenarios, words.addresses, words.files, words.keep
     for path in (*named, TOOLS, os.environ.get("PROGRAM")):
         if path and os.path.realpath(path).startswith("/run/"):
@@ -120,7 +129,7 @@ def run(words: argparse.Namespace, folder: str) -> int:
     frr = frr_routers(topology, words.frr, words.files)
     scenarios = [scenario_of(texts.topology, texts.policy, path) for path in words.scenarios] \
         or single_failures(topology, asked_prefixes(maps))
-    choices = Choices.of(words.paths, cut(read(texts.policy).encode()), topology)
+    choices = Choices.of(words.paths, Ties(words.ties), cut(read(texts.policy).encode()), topology)
     inputs = Inputs(folders.Described(topology, addresses, choices), maps, {})
     deployed(inputs, frr, words.files, os.path.join(folder, "deployed"))
     network = Network(inputs, frr, [scenario.prefix for scenario in scenarios], os.path.join(folder, "run"))
@@ -130,7 +139,9 @@ def run(words: argparse.Namespace, folder: str) -> int:
     network.settle(time.monotonic() + words.patience)
     verdict = loaded(texts, network, os.path.join(folder, "loaded"))
     say(f"maps as they stand on the routers: {verdict}")
-    answers = run_scenarios(Trials(network, texts, folder, words.patience), scenarios, words.stop)
+    if words.restless:
+        slow_down(network)
+    answers = run_scenarios(Trials(network, texts, folder, words.patience, words.restless), scenarios, words.stop)
     sums = {part: sum(getattr(answer, part.replace(" ", "_")) for answer in answers) for part in ("paths", "offers", "next hops", "flows")}
     said = " ".join(f"{part} {number}" for part, number in sums.items() if part != "flows" or words.paths > 1)
     say(f"scenarios {len(answers)} {said} differing {differing(answers)}")

@@ -51,6 +51,7 @@ class Network:
         self.peers = {site.name: Bird(site.name, os.path.join(folder, site.name)) for site in self.topology.peers}
         self.daemons: Mapping[str, Daemon] = {**self.routers, **self.peers}
         self.now, self.is_quiet = Scenario("", dead=frozenset(self.topology.sites)), False
+        self.prepends = dict.fromkeys(self.peers, 0)  # how often a peer puts its own number in front once more
 
     def daemon(self, site: Site, is_frr: bool) -> Bird | Frr:
         folder = os.path.join(self.folder, site.name)
@@ -132,7 +133,8 @@ class Network:
 
     def peer_file(self, site: Site) -> str:
         file = os.path.join(self.folder, site.name + ".peer.conf")
-        write(file, peer_text(self.topology, self.inputs.maps, self.addresses, site, self.announced, self.now.silent))
+        write(file, peer_text(self.topology, self.inputs.maps, self.addresses, site, self.announced, self.now.silent,
+                              self.prepends[site.name]))
         return file
 
     def alive(self) -> list[str]:

@@ -23,8 +23,9 @@ MOST_TAGS = 20
 WRONG = "wrongly heard"  # what a peer notes of a route that it should never have heard
 
 
-def peer_text(topology: Topology, maps: Maps, addresses: Addresses, site: Site, announced: Sequence[str], silent: Pairs) -> str:
-    """The file of a peer that announces these prefixes, but over the links `silent`."""
+def peer_text(topology: Topology, maps: Maps, addresses: Addresses, site: Site, announced: Sequence[str], silent: Pairs,
+              prepends: int = 0) -> str:
+    """The file of a peer that announces these prefixes, but over the links `silent`, with its own number in front so many times more."""
     claimed = sorted({network.prefix for router in maps.routers.values() for network in router.networks})
     parts = ["log stderr all;", f"router id {site.id};", "protocol device {}", "protocol bfd {}",
              static_text("announced", announced, "ipv4;"), static_text("claimed", claimed, "ipv4 { preference 1; };"), heard_text(claimed)]
@@ -34,7 +35,8 @@ def peer_text(topology: Topology, maps: Maps, addresses: Addresses, site: Site, 
             raise Broken(f"the peer {site.name} needs addresses: its daemon is BIRD")
         is_silent, (behind, unknown) = frozenset((site.name, router.name)) in silent, numbers_behind(topology, addresses)
         silence = silence_of(topology, router) if is_silent and not addresses.rpki else ""
-        parts += [filter_text(router.name, known_tags(maps), silence, unknown if is_silent and addresses.rpki else behind),
+        numbers = [unknown if is_silent and addresses.rpki else behind, *[site.asn] * prepends]
+        parts += [filter_text(router.name, known_tags(maps), silence, numbers),
                   protocol_text(session, addresses.public_as or router.asn)]
     return "\n".join(parts) + "\n"
 
@@ -70,9 +72,9 @@ def numbers_behind(topology: Topology, addresses: Addresses) -> tuple[int, int]:
     return first, second
 
 
-def filter_text(name: str, tags: Sequence[Tag], silence: str, behind: int) -> str:
+def filter_text(name: str, tags: Sequence[Tag], silence: str, behind: Sequence[int]) -> str:
     lines = [f"filter 'out:{name}' {{",
-             f"  if proto = \"announced\" then bgp_path.prepend({behind});",
+             *(f"  if proto = \"announced\" then bgp_path.prepend({number});" for number in behind),
              f"  if proto = \"announced\" then {silence}" if silence else "",
              "  bgp_community.add((65535, 0)); bgp_community.add((65535, 666)); bgp_community.add((65535, 65281));",
              "  bgp_ext_community.add((rt, 1, 2)); bgp_med = 7; bgp_origin = ORIGIN_INCOMPLETE;",

@@ -7,6 +7,7 @@ from collections.abc import Collection, Iterator, Mapping
 from dataclasses import dataclass, field
 from typing import Optional, Union
 
+from deploying.plans import Ties
 from texts.scenario import Scenario
 
 from .commands import SLOW, TOOLS, propane, write
@@ -53,27 +54,32 @@ def compare(network: Network, texts: Texts, scenario: Scenario, folder: str) -> 
     network.record(folder, scenario.prefix)
     path, tables = os.path.join(folder, "scenario.json"), os.path.join(folder, "tables.json")
     write(path, scenario.text())
-    replay = propane("replay", texts.topology, texts.policy, path)
-    write(os.path.join(folder, "replay.txt"), replay)
-    paths, offers = told_by(replay)
+    told, faults = held_by(texts, network.inputs.described.choices.ties, path, tables, folder)
+    paths, offers = told_by(told)
     peers = [(peer, router.name) for peer in network.live_peers() for router in network.topology.neighbours(peer)]
     hops = next_hops(network, texts, paths, path)
-    faults = [*table_faults(texts, replay, path, tables, folder), *peer_faults(network, offers, peers, scenario.prefix),
-              *kernel_faults(network, hops, scenario.prefix), *network.unanswered()]
+    faults += [*peer_faults(network, offers, peers, scenario.prefix), *kernel_faults(network, hops, scenario.prefix), *network.unanswered()]
     return Answer(faults, len(paths), len(peers), len(network.live_routers()), hops)
 
 
-def table_faults(texts: Texts, replay: str, scenario: str, tables: str, folder: str) -> Iterator[str]:
-    """What an audit says of the routes that were recorded in the folder, where that isn't what a replay says."""
+def held_by(texts: Texts, ties: Ties, scenario: str, tables: str, folder: str) -> tuple[str, list[str]]:
+    """What all is to be, and what an audit finds wrong with the routes that were recorded in the folder.
+
+    Where ties are broken as the program's reports have it, all is to be as a replay tells. Else any stable outcome is right: the one
+    that the audit tells, if it is one."""
+    replay = propane("replay", texts.topology, texts.policy, scenario)
+    write(os.path.join(folder, "replay.txt"), replay)
     made = subprocess.run([os.path.join(TOOLS, "tables"), texts.topology, folder], stdin=subprocess.DEVNULL, capture_output=True, text=True,
                           timeout=SLOW, check=False)
     if made.returncode:
-        yield made.stderr.strip()
-        return
+        return replay, [made.stderr.strip()]
     write(tables, made.stdout)
     audit = propane("audit", texts.topology, texts.policy, texts.config, texts.evidence, scenario, tables, status=(0, 7))
     write(os.path.join(folder, "audit.txt"), audit)
-    yield from different(replay, audit)
+    verdict, _, outcome = audit.partition("\n")
+    if verdict == "stable" and ties is Ties.OLDEST:
+        return outcome, []
+    return replay, list(different(replay, audit))
 
 
 def next_hops(network: Network, texts: Texts, paths: Mapping[str, Path], scenario: str) -> Hops:

@@ -2,27 +2,32 @@
 from __future__ import annotations
 
 import os
+import random
 import time
 from collections.abc import Iterable
-from dataclasses import dataclass, replace
+from dataclasses import dataclass, field, replace
 
 from texts.scenario import Scenario
 
 from . import packets
 from .network import Network
 from .questions import Answer, Texts, compare
+from .restless import stir
 
 UNSEEN = 0.5  # seconds in which the kernels of both ends see that a link is gone
 
 
 @dataclass(frozen=True)
 class Trials:
-    """A network that runs, the texts that it is compared with, a folder for what is recorded, and for how long what differs may change."""
+    """A network that runs, the texts that it is compared with, a folder for what is recorded, for how long what differs may change, and for
+    how many seconds there is no rest before each scenario."""
 
     network: Network
     texts: Texts
     folder: str
     patience: float
+    restless: float = 0
+    chance: random.Random = field(default_factory=lambda: random.Random(1))
 
     def spreads(self) -> bool:
         """Whether packets may be spread over several next hops."""
@@ -30,7 +35,10 @@ class Trials:
 
     def examined(self, scenario: Scenario, place: str) -> Answer:
         """What differs in a scenario once nothing moves any more. Daemons may be slow: what differs is asked again for a while."""
-        end, network = time.monotonic() + self.patience, self.network
+        network = self.network
+        if self.restless:
+            say(f"changes without rest: {stir(network, self.restless, self.chance)}")
+        end = time.monotonic() + self.patience
         if not scenario.fails_as(network.now):
             network.make(scenario)
         unquiet = [] if network.is_quiet else network.settle(end)

@@ -193,6 +193,17 @@ class Deploying(unittest.TestCase):
                 self.assertEqual(deploy(kind, *words, folder), (0, "", ""))
                 self.assertEqual(deploy("--read", words[0], words[2], folder), (0, text_of(words[1]), ""))
 
+    def test_ties_by_age(self):
+        for kind, gone, wanted in (("frr", " bgp bestpath compare-routerid", ()), ("bird", "  prefer older off;", ("  prefer older on;",))):
+            folder = tempfile.mkdtemp(dir=self.folder)
+            self.assertEqual(deploy(f"--{kind}", "--ties", "oldest", TOPOLOGY, MAPS, ADDRESSES, folder), (0, "", ""))
+            found = text_of(os.path.join(folder, f"R1.{kind}.conf")).splitlines()
+            self.assertNotIn(gone, found)
+            self.assertEqual([line for line in wanted if line in found], list(wanted))
+            self.assertEqual(deploy("--read", "--ties", "oldest", TOPOLOGY, ADDRESSES, folder), (0, text_of(MAPS), ""))
+            self.assertEqual(deploy("--read", TOPOLOGY, ADDRESSES, folder)[0], 7)
+        self.assertEqual(deploy("--frr", "--ties", "newest", TOPOLOGY, MAPS, ADDRESSES, self.folder), (2, "", "usage\n"))
+
     def test_sessions_over_interfaces(self):
         """FRR finds the neighbour by itself; BIRD is told its link-local address."""
         words = [os.path.join(TOP, "examples", "ring", name) for name in ("topology.json", "routemap.stdout", "link-local.json")]
