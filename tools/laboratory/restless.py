@@ -16,7 +16,7 @@ from .network import Network
 MOST_CUTS, MOST_PREPENDS = 2, 4
 PAUSES = 0.1, 1.5  # seconds between two changes
 SLOW_LINES = ("advertisement-interval 2",)  # of each neighbour, in seconds
-BATCHES = ("bgp coalesce-time 1500", "read-quanta 10", "write-quanta 64")
+BATCHES = ("coalesce-time 1500", "read-quanta 10", "write-quanta 64")
 
 
 def slow_down(network: Network) -> None:
