@@ -18,6 +18,7 @@ from deploying.map_reader import read_maps
 from deploying.maps import maps_text
 from deploying.plans import Choices, Ties
 from texts.faults import Fault
+from texts.helping import asked_as_option, folded, form
 from texts.policy import cut
 from texts.scenario import Scenario
 from texts.topology import Topology
@@ -36,7 +37,7 @@ NOTHING = Scenario("")
 
 
 def words_of(arguments: Sequence[str], usage: str) -> argparse.Namespace:
-    parser = argparse.ArgumentParser(prog="tools/lab", description=usage, formatter_class=argparse.RawDescriptionHelpFormatter)
+    parser = argparse.ArgumentParser(prog="tools/lab", description=folded(usage), formatter_class=form)
     parser.add_argument("--frr", default="", metavar="ROUTERS", help="routers that run FRR: names by commas, `half` or `all`")
     parser.add_argument("--addresses", metavar="FILE", help="addresses as tools/deploy takes them; else some are made")
     parser.add_argument("--files", metavar="FOLDER", help="files of routers to be run in place of those of tools/deploy")
@@ -53,7 +54,7 @@ def words_of(arguments: Sequence[str], usage: str) -> argparse.Namespace:
     for word in ("topology", "policy"):
         parser.add_argument(word)
     parser.add_argument("scenarios", nargs="*", metavar="scenario")
-    words = parser.parse_args(arguments)
+    words = parser.parse_args(asked_as_option(arguments))
     if words.paths > 1 and words.ties != RULES[0]:
         parser.error("--paths: propane tells the next hops of the outcome in which the lowest identifier decides")
     if words.restless and words.ties == RULES[0]:

@@ -111,5 +111,6 @@ class Output(unittest.TestCase):
             self.assertEqual((ran[0], ran[2]), (5, said if hints == "on" else ""))
             unread, pipe = os.pipe()
             os.close(unread)
-            self.assertEqual(ended([RUN, PROGRAM], stderr=pipe, env={**os.environ, "PROPANE_HINTS": hints})[0], 5)
+            for words in [], ["nothing"]:
+                self.assertEqual(ended([RUN, PROGRAM, *words], stderr=pipe, env={**os.environ, "PROPANE_HINTS": hints})[0], 5)
             os.close(pipe)

@@ -13,6 +13,7 @@ from laboratory.scenarios import asked_prefixes
 from reasons.program import found
 from texts.faults import Ended, Fault
 from texts.files import read_text
+from texts.helping import asked_as_option, folded, form
 from texts.prefixes import is_prefix
 from texts.statuses import BAD_INPUT, DONE, READ_FAULT
 from texts.topology import Topology
@@ -26,14 +27,14 @@ UNSTABLE = 1
 
 
 def words_of(arguments: Sequence[str], usage: str) -> argparse.Namespace:
-    parser = argparse.ArgumentParser(prog="tools/watch", description=usage, formatter_class=argparse.RawDescriptionHelpFormatter)
+    parser = argparse.ArgumentParser(prog="tools/watch", description=folded(usage), formatter_class=form)
     parser.add_argument("--every", type=float, default=60, metavar="SECONDS", help="from one round to the next (60)")
     parser.add_argument("--once", action="store_true", help="one round; the status is 0 where all is stable, and else 1")
     parser.add_argument("--metrics", metavar="FILE", help="for Prometheus' text-file collector")
     parser.add_argument("--prefix", action="append", default=[], metavar="PREFIX", help="may come again; else one of each class")
     for word in ("topology", "policy", "routers"):
         parser.add_argument(word)
-    words = parser.parse_args(arguments)
+    words = parser.parse_args(asked_as_option(arguments))
     for prefix in words.prefix:
         if not is_prefix(prefix):
             parser.error(f"no prefix: {prefix}")
