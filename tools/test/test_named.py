@@ -28,7 +28,7 @@ GONE = [
     ("`specs/Wrong`", "no specs/Wrong in any crate"),
     ("`propane_run::walk`", "no walk in propane_run"),
     ("`propane_gone::run`", "no crate or name propane_gone"),
-    ("`Topic::gone`", "no gone in help_texts"),
+    ("`EventFault::gone`", "no gone in event_base"),
     ("`outcome_base.IsWrong`", "no IsWrong in outcome_base"),
     ("`location_names`: `neighbour_sets` (`gone`), `is_near`", "no gone in location_names"),
     ("`location_names`: `neighbour_sets`, `is_far`", "no is_far in location_names"),
