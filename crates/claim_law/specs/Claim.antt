@@ -1,4 +1,5 @@
--- The claim: what a configuration is that is compiled from a policy, or whose evidence passes.
+-- The claim: what a configuration is that is compiled from a policy, or whose evidence passes. The headline is `KeepsPolicy`. What holds
+-- beside it, of the same configurations, is `IsKeptAtWork`.
 use Rattle.std.specs.Prelude.{◌≡◌, length}
 use Rattle.net_base.specs.Network.{PlainNet}
 use Rattle.net_base.specs.Prefixes.{PlainPrefix, IsPrefix}
@@ -33,7 +34,7 @@ pub record IsKeptInMotion (net : PlainNet) (policy : PlainPolicy) (config : Plai
   -- outcome.
   pub settles : AlwaysComesToRest net policy config
 
--- The configuration keeps the policy in the network.
+-- The headline: the configuration keeps the policy in the network.
 pub record KeepsPolicy (net : PlainNet) (policy : PlainPolicy) (config : PlainConfig) : Type 0 where
   -- It is this network's.
   pub of_net : IsOfNet net policy config
@@ -41,11 +42,14 @@ pub record KeepsPolicy (net : PlainNet) (policy : PlainPolicy) (config : PlainCo
   pub right : IsRight net policy config
   -- of which there is one whatever fails.
   pub outcomes : HasOutcomes net policy config
+
+-- And it keeps it at work. What holds of every configuration that is compiled, or whose evidence passes, is both.
+pub record IsKeptAtWork (net : PlainNet) (policy : PlainPolicy) (config : PlainConfig) : Type 0 where
   -- Packets arrive, by the longest prefix that covers their address.
   pub packets : CarriesPackets net policy config
   -- Routers may spread them over routes that tie with their own.
   pub spread : SpreadsPackets net policy config
-  -- It is kept in motion.
-  pub motion : IsKeptInMotion net policy config
   -- Routers take from peers what permitted walks end with.
   pub taken : TakesPermitted net policy config
+  -- It is kept in motion.
+  pub motion : IsKeptInMotion net policy config

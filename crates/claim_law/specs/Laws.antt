@@ -5,7 +5,7 @@ use Rattle.policy_base.specs.Policies.{PlainPolicy, IsPolicyOf}
 use Rattle.config_base.specs.Configs.{PlainConfig}
 use Rattle.evidence_base.specs.Made.{PlainCaseEvidence}
 use Rattle.evidence_law.specs.Passes.{IsMadeOf, Passes}
-use Rattle.claim_law.specs.Claim.{KeepsPolicy}
+use Rattle.claim_law.specs.Claim.{KeepsPolicy, IsKeptAtWork}
 use Rattle.claim_law.specs.OfNet.{IsOfNet}
 use Rattle.claim_law.specs.Taken.{TakesPermitted}
 
@@ -26,3 +26,9 @@ abbrev pub PassingEvidenceKeepsPolicy : Type 0
 PassingEvidenceKeepsPolicy =
     (net : PlainNet) (policy : PlainPolicy) (config : PlainConfig) (cs : List PlainCaseEvidence) → IsNet net → IsPolicyOf net policy
     → Passes net policy config cs → KeepsPolicy net policy config
+
+-- And it keeps it at work.
+abbrev pub PassingEvidenceKeepsItAtWork : Type 0
+PassingEvidenceKeepsItAtWork =
+    (net : PlainNet) (policy : PlainPolicy) (config : PlainConfig) (cs : List PlainCaseEvidence) → IsNet net → IsPolicyOf net policy
+    → Passes net policy config cs → IsKeptAtWork net policy config

@@ -4,6 +4,7 @@ use Rattle.net_base.specs.Network.{PlainNet}
 use Rattle.input_output.specs.Outside.{Grew, Rose, next}
 use Rattle.policy_base.specs.Policies.{PlainPolicy}
 use Rattle.config_text.specs.Spelled.{Spells}
+use Rattle.claim_law.specs.Claim.{IsKeptAtWork}
 use Rattle.evidence_base.specs.Made.{PlainCaseEvidence}
 use Rattle.policy_parser.specs.Spelled.{spelled as policy_spelled}
 use Rattle.case_core.specs.declared.refusal.CompileRefusal.{CompileRefusal}
@@ -63,12 +64,12 @@ module _ (words : List (List ℕ)) (is : words ≡ compile_words) (holds : Holds
     (topology_is : holds topology_name ≡ Some topology) (policy_is : holds policy_name ≡ Some policy_text) where
   pub right_text : {O : Type 0} (taken : O → Option (List ℕ)) (out out' : O) (claim : CompilesRight holds taken words out out') (evidence : List PlainCaseEvidence)
       → IsCompiled claim.net claim.policy claim.config evidence → AsksFor holds words Compile claim.net claim.policy
-      → Spells claim.bytes claim.config → (text : List ℕ) → claim.bytes ≡ text → IsRightText topology policy_text text
-  right_text taken out out' claim evidence compiled asks spells text same = record {
+      → Spells claim.bytes claim.config → IsKeptAtWork claim.net claim.policy claim.config → (text : List ℕ) → claim.bytes ≡ text → IsRightText topology policy_text text
+  right_text taken out out' claim evidence compiled asks spells at_work text same = record {
     net = claim.net;
     policy = claim.policy;
     spell = spelled_by words is holds topology policy_text topology_is policy_is claim.net claim.policy asks;
-    made = record { config = claim.config; evidence = evidence; compiled = compiled; keeps = claim.keeps };
+    made = record { config = claim.config; evidence = evidence; compiled = compiled; keeps = claim.keeps; at_work = at_work };
     spelled = rw same at spells;
   }
 

@@ -6,6 +6,7 @@ use Rattle.policy_base.specs.Policies.{PlainPolicy, IsPolicyOf}
 use Rattle.run_base.specs.Reading.{Holds, AllHeld}
 use Rattle.topology.proofs.Read.{networks_are_meant}
 use Rattle.topology.proofs.Written.{network_is_spelled}
+use Rattle.topology_law.proofs.Topologies.{topologies_are_meant}
 use Rattle.text_law.proofs.Policies.{read_policies_are_meant}
 use Rattle.policy_law.proofs.Texts.{policies_are_meant, policy_is_spelled}
 use Rattle.input_texts.specs.Asked.{SpellAlso, SpellFor}
@@ -83,7 +84,7 @@ module _ (holds : Holds) (words : List (List ℕ)) where
       topology = spell.topology;
       policy_text = spell.policy_text;
       held = subst (λ (m : List (List ℕ)). AllHeld holds (names_read words c) (spell.topology ∷ spell.policy_text ∷ m)) is spell.held;
-      net_meant = networks_are_meant spell.topology net spell.net_spelled;
+      net_meant = topologies_are_meant spell.topology net (networks_are_meant spell.topology net spell.net_spelled);
       policy_meant = read_policies_are_meant net spell.policy_text policy spell.policy_spelled;
     }
 

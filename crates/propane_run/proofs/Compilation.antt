@@ -4,7 +4,7 @@ use Rattle.net_base.specs.Network.{PlainNet, IsNet}
 use Rattle.policy_base.specs.Policies.{PlainPolicy, IsPolicyOf}
 use Rattle.config_base.specs.Configs.{PlainConfig}
 use Rattle.evidence_base.specs.Made.{PlainCaseEvidence}
-use Rattle.claim_law.proofs.Claim.{passing_evidence_keeps_policy}
+use Rattle.claim_law.proofs.Claim.{passing_evidence_keeps_policy, passing_evidence_keeps_it_at_work}
 use Rattle.compile_jobs.specs.Compiled.{IsCompiled}
 use Rattle.propane_run.specs.Compilation.{Compilation}
 
@@ -15,4 +15,5 @@ compilation net policy config evidence rules fits compiled = record {
   evidence = evidence;
   compiled = compiled;
   keeps = passing_evidence_keeps_policy net policy config evidence rules fits compiled.1;
+  at_work = passing_evidence_keeps_it_at_work net policy config evidence rules fits compiled.1;
 }

@@ -2,7 +2,7 @@
 use Rattle.std.specs.Prelude.{◌≡◌, ℕ, List, [], ◌∷◌, Ok, Option}
 use Rattle.net_base.specs.Network.{PlainNet}
 use Rattle.policy_base.specs.Policies.{PlainPolicy}
-use Rattle.claim_law.specs.Claim.{KeepsPolicy}
+use Rattle.claim_law.specs.Claim.{KeepsPolicy, IsKeptAtWork}
 use Rattle.config_reader.specs.Text.{spelled as config_spelled_by}
 use Rattle.evidence_text.specs.Spelled.{spelled as evidence_spelled_by}
 use Rattle.scenario_reader.specs.Spelled.{spelled as scenario_spelled_by}
@@ -29,7 +29,8 @@ pub record AsksAudit (holds : Holds) (words : List (List ℕ)) (net : PlainNet) 
   pub tables_spelled : tables_spelled_by net tables_text ≡ Ok audited.routes
 
 -- `out` grew by exactly a text that says that the tables are stable, with their report. The evidence passes, and the tables are stable
--- and right for the network, the policy and the configuration, under the failures of the scenario. The configuration keeps the policy.
+-- and right for the network, the policy and the configuration, under the failures of the scenario. The configuration keeps the policy, also
+-- at work.
 pub record AuditsRight {O : Type 0} (holds : Holds) (taken : O → Option (List ℕ)) (words : List (List ℕ)) (out out' : O) : Type 0 where
   pub net : PlainNet
   pub policy : PlainPolicy
@@ -39,6 +40,7 @@ pub record AuditsRight {O : Type 0} (holds : Holds) (taken : O → Option (List 
   pub written : Whole taken bytes out out'
   pub shown : IsAudited net policy audited bytes
   pub keeps : KeepsPolicy net policy audited.config
+  pub at_work : IsKeptAtWork net policy audited.config
 
 -- `out` grew by exactly the line of why the audit fails: the first rule that fails of the evidence, or where it passes the first router
 -- that isn't stable.

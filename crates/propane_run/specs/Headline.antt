@@ -7,7 +7,7 @@ use Rattle.claim_law.specs.Claim.{KeepsPolicy}
 use Rattle.text_law.specs.ConfigText.{IsTextOf}
 use Rattle.text_law.specs.PolicyText.{MeansPolicy}
 use Rattle.evidence_text.specs.Text.{evidence_text}
-use Rattle.topology.specs.Meaning.{IsTopologyOf}
+use Rattle.topology_law.specs.TopologyText.{MeansNet}
 use Rattle.propane_run.specs.declared.command.Command.TheVariants.{Evidence}
 use Rattle.propane_run.specs.Asked.{AsksFor}
 use Rattle.propane_run.specs.Compilation.{Compilation}
@@ -21,7 +21,7 @@ pub record NamesTexts (holds : Holds) (word : List ℕ) (words : List (List ℕ)
   pub topology : List ℕ
   pub policy_text : List ℕ
   pub held : AllHeld holds names (topology ∷ policy_text ∷ more)
-  pub net_meant : IsTopologyOf topology net
+  pub net_meant : MeansNet topology net
   pub policy_meant : MeansPolicy net policy_text policy
 
 -- The words are `compile` and the names of a topology and of a policy. `out` grew by exactly the text of a configuration, which keeps

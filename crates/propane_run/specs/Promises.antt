@@ -1,6 +1,7 @@
 -- What each command promises of the bytes that it has written.
 use Rattle.std.specs.Prelude.{◌⊎◌, ℕ, List, Option}
 use Rattle.evidence_base.specs.Made.{PlainCaseEvidence}
+use Rattle.claim_law.specs.Claim.{IsKeptAtWork}
 use Rattle.compile_jobs.specs.Compiled.{IsCompiled}
 use Rattle.config_text.specs.Spelled.{Spells}
 use Rattle.evidence_law.specs.Passes.{Passes}
@@ -55,13 +56,13 @@ AnswersAfter holds taken words Settle s s' = AnswersRight events_spelled WritesS
 abbrev pub Promised : {S : Type 0} → Holds → (S → Option (List ℕ)) → List (List ℕ) → Command → Status → S → S → Type 0
 Promised holds taken words Compile Done s s' =
     (claim : CompilesRight holds taken words s s') × (evidence : List PlainCaseEvidence) × IsCompiled claim.net claim.policy claim.config evidence
-    × AsksFor holds words Compile claim.net claim.policy × Spells claim.bytes claim.config
+    × AsksFor holds words Compile claim.net claim.policy × Spells claim.bytes claim.config × IsKeptAtWork claim.net claim.policy claim.config
 Promised holds taken words Compile Refused s s' = RefusesRight holds taken words Compile s s'
 Promised holds taken words Evidence Done s s' = GivesEvidence holds taken words s s'
 Promised holds taken words Evidence Refused s s' = RefusesRight holds taken words Evidence s s'
 Promised holds taken words Check Done s s' =
     (claim : ChecksRight holds taken words s s') × (evidence : List PlainCaseEvidence) × AsksOf holds words claim.net claim.policy claim.config evidence
-    × Passes claim.net claim.policy claim.config evidence
+    × Passes claim.net claim.policy claim.config evidence × IsKeptAtWork claim.net claim.policy claim.config
 Promised holds taken words Check CheckFails s s' = TellsFault holds taken words s s'
 Promised holds taken words Explain Done s s' = ExplainsRight holds taken words s s'
 Promised holds taken words (Sample leaves) Done s s' = Samples taken leaves s s'

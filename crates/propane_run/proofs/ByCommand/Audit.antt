@@ -2,7 +2,7 @@
 use Rattle.std.proofs.Common.{◌≡◌, ◌⊎◌, ℕ, List, [], Option, Some, None, inl, inr, ◌∙◌}
 use Rattle.net_base.specs.Network.{PlainNet}
 use Rattle.input_output.specs.Outside.{Rose}
-use Rattle.claim_law.proofs.Claim.{passing_evidence_keeps_policy}
+use Rattle.claim_law.proofs.Claim.{passing_evidence_keeps_policy, passing_evidence_keeps_it_at_work}
 use Rattle.outcome_base.specs.Outcomes.{IsStable}
 use Rattle.policy_base.specs.Policies.{PlainPolicy}
 use Rattle.evidence_law.specs.Passes.{Passes}
@@ -74,6 +74,7 @@ module _ (holds : Holds) (words : List (List ℕ)) where
           written = written;
           shown = shown;
           keeps = passing_evidence_keeps_policy f.net f.policy f.audited.config f.audited.evidence rules fits shown.passes;
+          at_work = passing_evidence_keeps_it_at_work f.net f.policy f.audited.config f.audited.evidence rules fits shown.passes;
         }
 
     -- and where it says why the audit fails, it does

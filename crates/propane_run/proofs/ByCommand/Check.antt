@@ -4,7 +4,8 @@ use Rattle.std.specs.Prelude.{codes}
 use Rattle.net_base.specs.Network.{PlainNet}
 use Rattle.input_output.specs.Outside.{Rose}
 use Rattle.policy_base.specs.Policies.{PlainPolicy}
-use Rattle.claim_law.proofs.Claim.{passing_evidence_keeps_policy}
+use Rattle.claim_law.specs.Claim.{IsKeptAtWork}
+use Rattle.claim_law.proofs.Claim.{passing_evidence_keeps_policy, passing_evidence_keeps_it_at_work}
 use Rattle.text_law.proofs.Configurations.{spellings_are_texts}
 use Rattle.config_base.specs.Configs.{PlainConfig}
 use Rattle.config_lines.specs.declared.edition.Edition.TheVariants.{Second}
@@ -76,7 +77,7 @@ module _ (holds : Holds) (words : List (List ℕ)) where
     abbrev pub Held : Type 0
     Held =
         (claim : ChecksRight holds taken words before now) × (evidence : List PlainCaseEvidence) × AsksOf holds words claim.net claim.policy claim.config evidence
-        × Passes claim.net claim.policy claim.config evidence
+        × Passes claim.net claim.policy claim.config evidence × IsKeptAtWork claim.net claim.policy claim.config
 
     module _ (net : PlainNet) (policy : PlainPolicy) (config : PlainConfig) (evidence : List PlainCaseEvidence) (asks : AsksOf holds words net policy config evidence) where
       holds_of : (v : Verdict) → IsVerdict net policy config evidence v → text b ≡ verdict_said v → Held
@@ -97,6 +98,7 @@ module _ (holds : Holds) (words : List (List ℕ)) where
             evidence,
             asks,
             passes,
+            passing_evidence_keeps_it_at_work net policy config evidence (net_of_spelled spell) (policy_of_spelled spell) passes,
           )
 
       fails_of : (v : Verdict) → IsVerdict net policy config evidence v → failing b ≡ verdict_said v → TellsFault holds taken words before now

@@ -2,7 +2,8 @@
 use Rattle.std.proofs.Common.{◌≡◌, ℕ, List, Option, Ok, inl, inr, sym, subst, ◌∙◌}
 use Rattle.net_base.specs.Network.{PlainNet}
 use Rattle.policy_base.specs.Policies.{PlainPolicy}
-use Rattle.claim_law.proofs.Claim.{passing_evidence_keeps_policy}
+use Rattle.claim_law.specs.Claim.{IsKeptAtWork}
+use Rattle.claim_law.proofs.Claim.{passing_evidence_keeps_policy, passing_evidence_keeps_it_at_work}
 use Rattle.text_law.proofs.Configurations.{spellings_are_texts}
 use Rattle.config_text.specs.Spelled.{Spells}
 use Rattle.evidence_base.specs.Made.{PlainCaseEvidence}
@@ -34,7 +35,7 @@ module _ {S : Type 0} (holds : Holds) (words : List (List ℕ)) (taken : S → O
   abbrev pub Claimed : Type 0
   Claimed =
       (claim : CompilesRight holds taken words before now) × (evidence : List PlainCaseEvidence) × IsCompiled claim.net claim.policy claim.config evidence
-      × AsksFor holds words Compile claim.net claim.policy × Spells claim.bytes claim.config
+      × AsksFor holds words Compile claim.net claim.policy × Spells claim.bytes claim.config × IsKeptAtWork claim.net claim.policy claim.config
 
   claim_of : Comes holds words Compile (text b) → (net : PlainNet) (policy : PlainPolicy) → SpellFor holds (names_read words Compile) net policy → SaysOfPart part.Config net policy (text b) → Claimed
   claim_of comes net policy spell (inr h) = absurd (let s = status_is _ _ h.2 in cc)
@@ -53,6 +54,7 @@ module _ {S : Type 0} (holds : Holds) (words : List (List ℕ)) (taken : S → O
     h.3,
     asks_for holds words Compile net policy comes.is spell,
     h.4,
+    passing_evidence_keeps_it_at_work net policy h.0 h.1 (net_of_spelled spell) (policy_of_spelled spell) h.3.1,
   )
 
   pub compiled : Comes holds words Compile (text b) → Claimed

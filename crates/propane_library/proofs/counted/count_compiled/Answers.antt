@@ -13,7 +13,7 @@ returns-in-Done-clause-right c =
     let t = ap Some c.in_ok-inputs.ensures.topology in
     let p = ap Some c.in_ok-inputs.ensures.policy in
     let claim = c.run.ensures.promised Compile (asked _ is) c.in-Done.is in
-    (claim.0.bytes, right_text _ is (λ name. Some (bytes_of c.in_ok-inputs.inputs name)) _ _ t p _ _ _ claim.0 claim.1 claim.2 claim.3 claim.4 _ refl)
+    (claim.0.bytes, right_text _ is (λ name. Some (bytes_of c.in_ok-inputs.inputs name)) _ _ t p _ _ _ claim.0 claim.1 claim.2 claim.3 claim.4 claim.5 _ refl)
 
 pub returns-in-Done-clause-refused_where : goal.returns-in-Done-clause-refused_where
 returns-in-Done-clause-refused_where c = λ net asked e spell applies.

@@ -14,7 +14,7 @@ use Rattle.propane_library.proofs.memory.compile_held.Goals as goal
 pub returns-in-Done-clause-right : goal.returns-in-Done-clause-right
 returns-in-Done-clause-right c = λ topology policy t p.
     let claim = c.run.ensures.promised Compile (asked _ c.requires.words) c.in-Done.is in
-    right_text _ c.requires.words (told c.args.inputs.now) _ _ t p _ _ _ claim.0 claim.1 claim.2 claim.3 claim.4 _
+    right_text _ c.requires.words (told c.args.inputs.now) _ _ t p _ _ _ claim.0 claim.1 claim.2 claim.3 claim.4 claim.5 _
     (from_nothing _ _ _ (ap (λ (s : Taking). s.bytes) c.in_ok-out.ensures) claim.0.written.grew ∙ sym c.in_ok-copy_of-in-Done.ensures)
 
 pub returns-in-Done-clause-refused_where : goal.returns-in-Done-clause-refused_where
